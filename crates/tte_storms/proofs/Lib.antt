@@ -2,8 +2,10 @@ pub mod Ends
 pub mod OneAnswer
 pub mod Lasting
 pub mod Locals
-pub mod Given
-pub mod Settled
-pub mod Seeing
-pub mod Stormed
+pub mod Seen
+pub mod Drawn
 pub mod Summed
+pub mod Safely
+pub mod Most
+pub mod Widest
+pub mod Existing

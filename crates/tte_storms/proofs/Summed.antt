@@ -1,9 +1,9 @@
 -- The summary of a storm's run, and its lines.
-use Rattle.std.proofs.Common.{◌≡◌, ℕ, ◌+◌, ◌^◌, ◌≤◌, ℤ, pos, ◌+ℤ◌, ◌≤ℤ◌, FitsSigned, to_z, of_z, rules, List, [], ◌∷◌, ◌++◌, length, length-append, append_assoc, Option, Some, Result, Ok, Err, inl, inr, refl, sym, ap, subst, ◌∙◌, arith}
+use Rattle.std.proofs.Common.{◌≡◌, ℕ, ◌+◌, ◌^◌, ◌≤◌, ℤ, pos, ◌≤ℤ◌, FitsSigned, rules, List, [], ◌∷◌, ◌++◌, length, length-append, append_assoc, Option, Some, inl, inr, refl, sym, ap, subst, ◌∙◌, arith}
 use Rattle.std.specs.Int.{w64, w128}
 use Rattle.std.specs.Io.KnownBytes.{Appends}
-use Rattle.std.specs.Prelude.{OnOk, slice_get}
-use Rattle.std.proofs.lemmas.Int.{ints, to_z-of_z}
+use Rattle.std.specs.Prelude.{slice_get}
+use Rattle.std.proofs.lemmas.Int.{ints}
 use Rattle.std.proofs.lemmas.List.{append-nil}
 use Rattle.drift_clock.specs.Segment.{fresh_segment, stepped_segment, segment_reading}
 use Rattle.net_plan.specs.Ranges.{IsInRange}
@@ -15,7 +15,6 @@ use Rattle.run_law.specs.scenario.Scenarios.{Scenario}
 use Rattle.safe_runs.proofs.Clocked.{ended}
 use Rattle.safe_runs.specs.Headline.{IsWholeRun}
 use Rattle.safe_runs.specs.Under.{IsUnder}
-use Rattle.schedule_checker.specs.Refusals.{RefusalIsOne}
 use Rattle.schedule_tables.specs.Rules.{KeepsRules}
 use Rattle.storm.proofs.Storms.{storms_within}
 use Rattle.storm_summary.proofs.Spreads.{within_precision}
@@ -26,23 +25,17 @@ use Rattle.storm_summary.specs.declared.counts.Counts.{Counts}
 use Rattle.storm_summary.specs.declared.summary.Summary.{Summary}
 use Rattle.tte_io.specs.Faults.{next_count}
 use Rattle.tte_io.specs.Told.{AppendsFront}
-use Rattle.tte_forms.proofs.Octets.{for_more}
-use Rattle.tte_forms.proofs.OneAnswers.{none_put, one_given}
-use Rattle.tte_forms.proofs.Puts.{Ends-gives, PutsLines-fails, PutsLines-more, PutsLines-none}
-use Rattle.tte_forms.proofs.networks.Answers.{accepted_network, no_network}
-use Rattle.tte_storms.proofs.OneAnswer.{storm_answer_one}
+use Rattle.tte_forms.proofs.Puts.{Ends-gives, PutsLines-fails, PutsLines-more, PutsLines-none, PutsLines-still}
+use Rattle.tte_forms.proofs.networks.Answers.{answered_accepted}
 use Rattle.exact_runs.proofs.Clocks.{exact_begins, exact_laws}
-use Rattle.tte_forms.specs.Answering.{Answer, AnswersOne, Ends, ForOctets, Gives, GivesOne}
+use Rattle.tte_forms.specs.Answering.{AnswersOne, Ends, ForOctets, Gives, GivesAnswer}
 use Rattle.tte_forms.specs.Putting.{PutsLines, Shown, WriteFails}
-use Rattle.tte_forms.specs.declared.accepting.NoNetwork.{NoNetwork}
 use Rattle.tte_forms.specs.declared.status.Status.{Status}
-use Rattle.tte_forms.specs.declared.status.Status.TheVariants.{Done, Usage, FrameRefused, NetworkRefused, TraceRefused, OutsideHypothesis, ReadFault, WriteFault, OutOfMemory, TooLong, AuditRefused}
+use Rattle.tte_forms.specs.declared.status.Status.TheVariants.{Done, WriteFault}
 use Rattle.tte_storms.specs.declared.counting.Seen.{Seen}
 use Rattle.tte_forms.specs.networks.Accepting.{IsNetworkAnswer, MeansAccepted}
-use Rattle.tte_forms.specs.networks.NoNetworks.{IsNoNetwork, no_network_answer}
 use Rattle.tte_storms.specs.Answer.{IsStormAnswer, exact_scenario}
-use Rattle.tte_storms.specs.Safely.{PutsSafeSummary, PutsSummarySafely, SummarisesSafely}
-use Rattle.tte_storms.specs.Steps.{EndsStorm, HasStormed, Summarises}
+use Rattle.tte_storms.specs.Storms.{EndsStorm, HasStormed, Summarises}
 use Rattle.tte_units.specs.Amount.{amount}
 use Rattle.tte_units.specs.declared.units.Units.{Units}
 
@@ -191,89 +184,27 @@ sums_up network seed cycles seen h fine summary of_seed of_cycles of_counts of_s
 pub spread_fits : (z : ℤ) → pos 0 ≤ℤ z → z ≤ℤ pos (2 ^ 40) → FitsSigned w128 z × FitsSigned w64 z
 spread_fits z least most = (search rules, search rules)
 
-pub plus_fits : (z : ℤ) → pos 0 ≤ℤ z → z ≤ℤ pos (2 ^ 60) → FitsSigned w64 z × FitsSigned w64 (z +ℤ pos 1)
-plus_fits z least most = (search rules, search rules)
-
-pub plus_is : (z : ℤ) → pos 0 ≤ℤ z → z ≤ℤ pos (2 ^ 60) → to_z w64 (of_z w64 (to_z w64 (of_z w64 z) +ℤ pos 1)) ≡ (z +ℤ pos 1)
-plus_is z least most =
-    let fits = plus_fits z least most in
-    ap (λ x. to_z w64 (of_z w64 (x +ℤ pos 1))) (to_z-of_z w64 z fits.0) ∙ to_z-of_z w64 (z +ℤ pos 1) fits.1
-
-pub on_ok_more : {T E : Type 0} (r : Result T E) (P Q : Type 0) → (P → Q) → OnOk r P → OnOk r Q
-on_ok_more (Ok t) P Q f p = f p
-on_ok_more (Err e) P Q f p = tt {0}
-
 -- ---- the answer
 
-pub storm_given : (seed cycles : ℕ) (network : Network) (status : Status) (old new : Shown) → cycles ≤ 100000 → KeepsRules network
-    → EndsStorm network seed cycles status old new → GivesOne (IsStormAnswer seed cycles network) status old new
-storm_given seed cycles network status old new few rules (inl (summary, sums, gives)) =
-    let answer : Summary → Answer = λ s. record { status = Done; lines = lines_of s } in
-    let is : IsStormAnswer seed cycles network (answer summary) = record {
-      events = sums.events;
-      storm = sums.storm;
-      notes = sums.notes;
-      records = sums.records;
-      spread = sums.spread;
-      widest = sums.widest;
-      answer = ap answer sums.is;
-    } in
-    one_given (IsStormAnswer seed cycles network) (answer summary) status old new is
-    (λ b h. storm_answer_one seed cycles network few rules b (answer summary) h is) gives
-storm_given seed cycles network status old new few rules (inr (memory, same)) =
-    inr (inr (inr memory, λ a h. none_put a.lines old new (subst (PutsLines [] old) (sym same) (PutsLines-none old))))
+pub storm_given : (seed cycles : ℕ) (network : Network) (status : Status) (old new : Shown) → EndsStorm network seed cycles status old new
+    → GivesAnswer (IsStormAnswer seed cycles network) status old new
+storm_given seed cycles network status old new (inl (summary, sums, gives)) = inl (
+  record { status = Done; lines = lines_of summary },
+  record {
+    events = sums.events;
+    storm = sums.storm;
+    notes = sums.notes;
+    records = sums.records;
+    spread = sums.spread;
+    widest = sums.widest;
+    answer = ap (λ (s : Summary). record { status = Done; lines = lines_of s }) sums.is;
+  },
+  gives,
+)
+storm_given seed cycles network status old new (inr (memory, same)) = inr (inr memory, same)
 
-whole_summary : (seed cycles : ℕ) (octets : List ℕ) (network : Network) (old new : Shown) → MeansAccepted octets network
-    → EndsStorm network seed cycles Done old new → PutsSafeSummary seed cycles octets old new
-whole_summary seed cycles octets network old new m (inl (summary, sums, inl gives)) = record {
-  network = network;
-  accepted = m;
-  events = sums.events;
-  storm = sums.storm;
-  notes = sums.notes;
-  run = sums.run;
-  spread = sums.spread;
-  widest = sums.widest;
-  within = sums.within;
-  puts = subst (λ (s : Summary). PutsLines (lines_of s) old new) sums.is gives.1;
-}
-whole_summary seed cycles octets network old new m (inl (summary, sums, inr (inl failed))) = absurd (let e = failed.0 in cc)
-whole_summary seed cycles octets network old new m (inl (summary, sums, inr (inr (inl read, some)))) = absurd cc
-whole_summary seed cycles octets network old new m (inl (summary, sums, inr (inr (inr memory, some)))) = absurd cc
-whole_summary seed cycles octets network old new m (inr (memory, same)) = absurd cc
-
-safely : (seed cycles : ℕ) (octets : List ℕ) (network : Network) (status : Status) (old new : Shown) → MeansAccepted octets network
-    → EndsStorm network seed cycles status old new → PutsSummarySafely seed cycles status octets old new
-safely seed cycles octets network Done old new m ends = whole_summary seed cycles octets network old new m ends
-safely seed cycles octets network Usage old new m ends = tt
-safely seed cycles octets network FrameRefused old new m ends = tt
-safely seed cycles octets network NetworkRefused old new m ends = tt
-safely seed cycles octets network TraceRefused old new m ends = tt
-safely seed cycles octets network OutsideHypothesis old new m ends = tt
-safely seed cycles octets network ReadFault old new m ends = tt
-safely seed cycles octets network WriteFault old new m ends = tt
-safely seed cycles octets network OutOfMemory old new m ends = tt
-safely seed cycles octets network TooLong old new m ends = tt
-safely seed cycles octets network AuditRefused old new m ends = tt
-
-pub storm_accepted : (seed cycles : ℕ) (left : Option (List ℕ)) (network : Network) (status : Status) (old new : Shown) → cycles ≤ 100000
+pub storm_accepted : (seed cycles : ℕ) (left : Option (List ℕ)) (network : Network) (status : Status) (old new : Shown)
     → ForOctets left (λ octets. MeansAccepted octets network) → EndsStorm network seed cycles status old new
     → AnswersOne (IsNetworkAnswer (IsStormAnswer seed cycles)) left status old new
-storm_accepted seed cycles left network status old new few means ends =
-    for_more left (λ octets. MeansAccepted octets network) (λ octets. GivesOne (IsNetworkAnswer (IsStormAnswer seed cycles) octets) status old new)
-    (λ octets m. accepted_network (IsStormAnswer seed cycles) octets network status old new m
-    (storm_given seed cycles network status old new few m.rules ends)) means
-
-pub storm_refused : (seed cycles : ℕ) → RefusalIsOne → (left : Option (List ℕ)) (cause : NoNetwork) (status : Status) (old new : Shown)
-    → ForOctets left (λ octets. IsNoNetwork octets cause) → Gives (no_network_answer cause) status old new
-    → AnswersOne (IsNetworkAnswer (IsStormAnswer seed cycles)) left status old new
-storm_refused seed cycles one left cause status old new none gives =
-    for_more left (λ octets. IsNoNetwork octets cause) (λ octets. GivesOne (IsNetworkAnswer (IsStormAnswer seed cycles) octets) status old new)
-    (λ octets h. no_network one (IsStormAnswer seed cycles) octets cause status old new h gives) none
-
-pub storm_safely : (seed cycles : ℕ) (left : Option (List ℕ)) (network : Network) (status : Status) (old new : Shown)
-    → ForOctets left (λ octets. MeansAccepted octets network) → EndsStorm network seed cycles status old new
-    → SummarisesSafely seed cycles left status old new
-storm_safely seed cycles left network status old new means ends =
-    for_more left (λ octets. MeansAccepted octets network) (λ octets. PutsSummarySafely seed cycles status octets old new)
-    (λ octets m. safely seed cycles octets network status old new m ends) means
+storm_accepted seed cycles left network status old new means ends =
+    answered_accepted (IsStormAnswer seed cycles) left network status old new means (storm_given seed cycles network status old new ends)

@@ -2,4 +2,5 @@ pub mod Answer
 pub mod Safely
 pub mod Spreads
 pub mod Counts
-pub mod Steps
+pub mod Storms
+pub mod Laws

@@ -1,5 +1,5 @@
 -- What `storm` writes is the summary of a run that is safe.
-use Rattle.std.specs.Prelude.{ℕ, ◌≤ℤ◌, List, Option}
+use Rattle.std.specs.Prelude.{◌≡◌, ◌⊎◌, ℕ, ◌≤ℤ◌, List, Option}
 use Rattle.drift_clock.specs.Segment.{fresh_segment, stepped_segment, segment_reading}
 use Rattle.net_plan.specs.declared.event.Event.{Event}
 use Rattle.net_plan.specs.declared.network.Network.{Network}
@@ -9,16 +9,17 @@ use Rattle.storm.specs.Events.{IsStorm}
 use Rattle.storm_summary.specs.Counting.{counts_of}
 use Rattle.storm_summary.specs.Lines.{summary_lines}
 use Rattle.tte_forms.specs.Answering.{ForOctets}
-use Rattle.tte_forms.specs.Putting.{PutsLines, Shown}
+use Rattle.tte_forms.specs.Putting.{PutsLines, PutsSo, PutsSome, Shown, WriteFails}
 use Rattle.tte_forms.specs.declared.status.Status.{Status}
-use Rattle.tte_forms.specs.declared.status.Status.TheVariants.{Done}
+use Rattle.tte_forms.specs.declared.status.Status.TheVariants.{Done, ReadFault, WriteFault, OutOfMemory}
 use Rattle.tte_forms.specs.networks.Accepting.{MeansAccepted}
+use Rattle.tte_forms.specs.networks.NetworkLine.{IsRefusalText}
 use Rattle.tte_storms.specs.Answer.{IsWidest}
 use Rattle.tte_units.specs.declared.units.Units.{Units}
 
--- the lines put are the summary of the run of the accepted network under the storm's events, up to their end; it goes
--- well up to there, and local clocks are seen at most the precision apart
-pub record PutsSafeSummary (seed cycles : ℕ) (octets : List ℕ) (old new : Shown) : Type 0 where
+-- the lines are the summary of the run of the accepted network under the storm's events, up to their end; it goes well up
+-- to there, and local clocks are seen at most the precision apart
+pub record IsSafeSummary (seed cycles : ℕ) (octets : List ℕ) (lines : List (List ℕ)) : Type 0 where
   pub network : Network
   pub accepted : MeansAccepted octets network
   pub events : List Event
@@ -28,11 +29,20 @@ pub record PutsSafeSummary (seed cycles : ℕ) (octets : List ℕ) (old new : Sh
   pub spread : Units
   pub widest : IsWidest network events notes spread
   pub within : spread.0 ≤ℤ network.precision.0
-  pub puts : PutsLines (summary_lines seed cycles (counts_of notes) spread network.precision) old new
+  pub is : lines ≡ summary_lines seed cycles (counts_of notes) spread network.precision
 
--- what was put under the status is the summary of a run that goes well
+-- the lines are such a summary, or the line of a network that is refused
+abbrev pub IsSafeText : ℕ → ℕ → List ℕ → List (List ℕ) → Type 0
+IsSafeText seed cycles octets lines =
+    IsSafeSummary seed cycles octets lines ⊎ IsRefusalText lines
+
+-- what was put under the status is the summary of a run that goes well; or, where the call was cut short, the first
+-- lines of one; under NetworkRefused and TooLong it is none
 abbrev pub PutsSummarySafely : ℕ → ℕ → Status → List ℕ → Shown → Shown → Type 0
-PutsSummarySafely seed cycles Done octets old new = PutsSafeSummary seed cycles octets old new
+PutsSummarySafely seed cycles Done octets old new = PutsSo (IsSafeSummary seed cycles octets) PutsLines old new
+PutsSummarySafely seed cycles WriteFault octets old new = PutsSo (IsSafeText seed cycles octets) WriteFails old new
+PutsSummarySafely seed cycles ReadFault octets old new = PutsSo (IsSafeText seed cycles octets) PutsSome old new
+PutsSummarySafely seed cycles OutOfMemory octets old new = PutsSo (IsSafeText seed cycles octets) PutsSome old new
 PutsSummarySafely seed cycles other octets old new = Unit {0}
 
 -- for the octets of a network file, where this tells them, what was put is so

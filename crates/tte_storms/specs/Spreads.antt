@@ -2,11 +2,8 @@
 use Rattle.std.specs.Prelude.{◌≡◌, ◌⊎◌, ℕ, ◌<◌, ℤ, pos, ◌≤ℤ◌, List, length, Option, Some, None, IfSome, IsSomeAnd}
 use Rattle.device_machines.specs.Standing.{StandsAsDevice}
 use Rattle.drift_clock.specs.Segment.{fresh_segment, stepped_segment, segment_reading}
-use Rattle.drift_world.specs.Locals.{IsComplete, MayShow}
-use Rattle.net_plan.specs.declared.event.Event.{Event}
+use Rattle.drift_world.specs.Locals.{MayShow}
 use Rattle.net_plan.specs.declared.ids.DeviceId.{DeviceId}
-use Rattle.net_plan.specs.declared.network.Network.{Network}
-use Rattle.run_law.specs.declared.note.Note.{Note}
 use Rattle.run_law.specs.device.LocalClocks.{local}
 use Rattle.run_law.specs.law.Safety.{IsInStep}
 use Rattle.run_law.specs.records.Happenings.{Happening}
@@ -15,12 +12,7 @@ use Rattle.storm_summary.specs.Spread.{AreApart}
 use Rattle.tte_storms.specs.declared.spreads.Ends.{Ends}
 use Rattle.exact_runs.specs.Worlds.{ExactWorld}
 
--- the world of the program stands for these events and records, which are all up to the time
-abbrev pub IsCompleteExact : Network → ExactWorld → ℕ → List Event → List Note → Type 0
-IsCompleteExact network world t events notes =
-    IsComplete fresh_segment stepped_segment segment_reading StandsAsDevice network world t events notes
-
--- it does for some
+-- the world of the program stands for some events and records, which are all up to the time
 abbrev pub MayShowExact : ExactWorld → ℕ → Type 0
 MayShowExact world t = MayShow fresh_segment stepped_segment segment_reading StandsAsDevice world t
 

@@ -2,9 +2,11 @@
 #![tactic(auto)]
 
 mod counting;
+mod events;
+mod laws;
 mod spreads;
-mod steps;
 mod storming;
 mod summing;
 
+pub use laws::storm_answers_exist;
 pub use storming::storm_run;

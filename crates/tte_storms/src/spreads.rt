@@ -5,7 +5,8 @@ ghost use Rattle.net_plan.specs.declared.event.Event.{Event as EventValue};
 ghost use Rattle.run_law.specs.declared.note.Note.{Note as NoteValue};
 ghost use Rattle.run_law.specs.records.Happenings.{happenings};
 ghost use Rattle.tte_storms.specs.Answer.{exact_scenario};
-ghost use Rattle.tte_storms.specs.Spreads.{IsCompleteExact, IsSpreadAt, MayShowExact};
+ghost use Rattle.tte_storms.specs.Spreads.{IsSpreadAt, MayShowExact};
+ghost use Rattle.world_drive.specs.Observing.{IsCompleteExact};
 ghost use Rattle.tte_units.specs.Amount.{amount};
 
 use exact_runs::ExactWorld;

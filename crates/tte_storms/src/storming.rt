@@ -6,10 +6,9 @@ ghost use Rattle.tte_forms.specs.networks.Accepting.{IsNetworkAnswer};
 ghost use Rattle.tte_forms.specs.networks.Checking.{IsCheckStatus};
 ghost use Rattle.tte_storms.specs.Answer.{IsStormAnswer};
 ghost use Rattle.tte_storms.specs.Safely.{SummarisesSafely};
-ghost use Rattle.tte_storms.specs.Steps.{EndsStorm};
+ghost use Rattle.tte_storms.specs.Storms.{EndsStorm};
 
 use crate::summing::{put_summary, summary_of};
-use schedule_checker::refusal_is_one;
 use schedule_tables::Accepted;
 use std::alloc::Global;
 use tte_forms::{Status, accept, put_no_network};
@@ -34,7 +33,6 @@ pub fn storm_run<A: Source, K: Sink>(
     ensures faults { HasCause result (ReadFailed A.Source source.old source.new × (out.new ≡ out.old))
         (PutFailed K.Sink out.old out.new) }
 {
-    refusal_is_one();
     match accept(alloc, source) {
         Ok(accepted) => run_storm(alloc, &accepted, seed, cycles, out),
         Err(cause) => put_no_network(cause, out),
@@ -54,7 +52,7 @@ fn run_storm<K: Sink>(
     ensures status { (result ≡ Status.OutOfMemory)
         ⊎ IsWanted Status.Done result (PutFailed K.Sink out.old out.new) }
 {
-    match summary_of(alloc, accepted, seed, cycles) {
+    match summary_of(alloc, accepted, seed, cycles, out) {
         Ok(summary) => put_summary(&summary, out),
         Err(_) => Status::OutOfMemory,
     }

@@ -1,40 +1,54 @@
-ghost use Rattle.std.specs.Prelude.{◌≡◌, ◌≤◌, IfOk};
+ghost use Rattle.std.specs.Prelude.{◌≡◌, ◌≤◌, IfOk, OnOk};
 ghost use Rattle.net_plan.specs.Ranges.{IsInRange};
 ghost use Rattle.storm_summary.specs.Lines.{lines_of};
 ghost use Rattle.tte_forms.specs.Answering.{Gives};
 ghost use Rattle.tte_forms.specs.Faults.{IsWanted, PutFailed};
-ghost use Rattle.tte_forms.specs.Putting.{Over};
-ghost use Rattle.tte_storms.specs.Steps.{HasStormed, Summarises};
+ghost use Rattle.tte_forms.specs.Putting.{Over, PutsNone};
+ghost use Rattle.tte_storms.specs.Storms.{HasStormed, Summarises};
 
 use crate::counting::Seen;
-use crate::steps::Storming;
+use crate::events::StormEvents;
 use drift_world::OutOfMemory;
 use schedule_tables::Accepted;
 use std::alloc::Global;
-use storm_summary::{LINES, Summary};
+use storm_summary::{LINES, Summary, Tally};
 use tte_forms::{Status, end_with};
 use tte_io::{LineText, Sink};
 use tte_units::Units;
+use world_drive::{Drove, begin_world, drive};
 
-/// The summary of the run of a network under the storm of the seed over 1 to 100,000 cycles.
+/// The summary of the run of a network under the storm of the seed over 1 to 100,000 cycles. It puts nothing.
 ///
 /// The error is that memory ran out.
-pub(crate) fn summary_of(
+pub(crate) fn summary_of<K: Sink>(
     alloc: Global,
     accepted: &Accepted,
     seed: u64,
     cycles: u32,
+    out: &mut K,
 ) -> Result<Summary, OutOfMemory>
     requires least { 1 ≤ cycles }
     requires most { cycles ≤ 100000 }
-    ensures { IfOk result (Summarises accepted.now seed cycles) }
+    ensures sums { IfOk result (Summarises accepted.now seed cycles) }
+    ensures nothing_put { Over K.Sink out.old out.new PutsNone }
+    ensures quiet { OnOk result (K.faults out.new ≡ K.faults out.old) }
 {
-    match Storming::begin(alloc, accepted, seed, cycles) {
-        Ok(mut storming) => match storming.finish() {
-            Ok(()) => Ok(told(accepted, seed, cycles, storming.seen())),
-            Err(error) => Err(error),
-        },
-        Err(error) => Err(error),
+    let mut world = match begin_world(alloc, accepted) {
+        Ok(world) => world,
+        Err(error) => return Err(error),
+    };
+    let mut storm = StormEvents::new(accepted, seed, cycles);
+    let mut seen = Seen {
+        tally: Tally::new(),
+        spread: 0,
+    };
+    let mut none = ();
+    let network = accepted.network();
+    match drive(&mut storm, &mut none, &mut world, network, &mut seen, out) {
+        Drove::All => Ok(told(accepted, seed, cycles, &seen)),
+        // A storm does not stop.
+        Drove::Stopped(()) => Err(OutOfMemory),
+        Drove::Cut(_) => Err(OutOfMemory),
     }
 }
 

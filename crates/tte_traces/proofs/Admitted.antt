@@ -1,6 +1,5 @@
 -- The events admitted from the octets of a trace.
-use Rattle.std.proofs.Common.{◌≡◌, ℕ, ◌≤◌, List, [], ◌∷◌, ◌++◌, length, ℤ, pos, negsuc, ◌≤ℤ◌, ◌<ℤ◌, unsigned_abs, refl, sym, ap, subst, ◌∙◌, arith, append_assoc, length-append}
-use Rattle.std.proofs.lemmas.Int.{ints}
+use Rattle.std.proofs.Common.{◌≡◌, ℕ, List, [], ◌∷◌, ◌++◌, length, pos, ◌≤ℤ◌, refl, sym, ap, subst, ◌∙◌, arith, append_assoc, length-append}
 use Rattle.std.proofs.lemmas.List.{append-nil}
 use Rattle.std.proofs.lemmas.List.Quantifiers.{Any-push}
 use Rattle.drift_world.specs.Running.{last_time}
@@ -8,18 +7,16 @@ use Rattle.net_plan.specs.declared.event.Event.{Event}
 use Rattle.net_plan.specs.declared.event.What.TheVariants.{End}
 use Rattle.net_plan.specs.declared.network.Network.{Network}
 use Rattle.run_law.specs.scenario.Hypothesis.{IsWithinHypothesis}
-use Rattle.run_law.specs.runs.DueRecords.{EndsAt}
 use Rattle.run_law.specs.declared.outside.Outside.TheVariants.{Order}
 use Rattle.trace_text.specs.EventReading.{event_read}
 use Rattle.tte_io.specs.Line.{first_line}
-use Rattle.exact_runs.specs.Records.{HaveEnded}
 use Rattle.tte_traces.specs.Lines.{AreAdmitted, IsAdmitted, behind_lines}
 use Rattle.tte_units.specs.Amount.{amount}
-use Rattle.tte_units.specs.declared.units.Units.{Units}
 use Rattle.trace_text.proofs.ReadTimes.{event_time}
 use Rattle.tte_traces.proofs.EventOrder.{AreInOrder, IsInOrder}
 use Rattle.tte_traces.proofs.Faults.{one_event}
 use Rattle.exact_runs.proofs.Events.{parted, last_is}
+use Rattle.world_drive.proofs.Order.{not_less, sizes}
 
 -- ---- no events
 
@@ -37,15 +34,11 @@ front_admitted network octets events event others all before behind e is =
     all before (behind ++ others) e
     (sym (append_assoc events (event ∷ []) others) ∙ ap (λ (l : List Event). l ++ others) is ∙ append_assoc before (e ∷ behind) others)
 
+pub events_admitted : (network : Network) (octets : List ℕ) (events others : List Event) → AreAdmitted network octets (events ++ others) → AreAdmitted network octets events
+events_admitted network octets events others all before behind e is =
+    all before (behind ++ others) e (ap (λ (l : List Event). l ++ others) is ∙ append_assoc before (e ∷ behind) others)
+
 -- ---- their order
-
-pub not_less : (a b : ℤ) → (b <ℤ a → ⊥) → a ≤ℤ b
-not_less a b not = grind (arith, ints)
-
-pub sizes : (a b : ℤ) → pos 0 ≤ℤ a → a ≤ℤ b → unsigned_abs a ≤ unsigned_abs b
-sizes (pos m) (pos n) begun le = omega (arith, ints)
-sizes (negsuc m) b begun le = absurd (omega (arith, ints))
-sizes (pos m) (negsuc n) begun le = absurd (omega (arith, ints))
 
 -- an event within the hypothesis is no earlier than the last before it
 no_earlier : (network : Network) (front : List Event) (last event : Event) → IsWithinHypothesis network (front ++ last ∷ []) event → last.time.0 ≤ℤ event.time.0
@@ -93,10 +86,6 @@ admitted_in_order network octets events all = record {
       let p = parted events end ends in
       end_is_last network octets p.0 p.1 end refl (subst (AreAdmitted network octets) p.2 all) ∙ ap last_time (sym p.2);
 }
-
--- events that end have an end
-pub have_ended : (events : List Event) (time : Units) → EndsAt events time → HaveEnded events
-have_ended events time (k, lt, at) = (k, record { time = time; what = End }, lt, at, refl)
 
 -- ---- events admitted from the same octets
 

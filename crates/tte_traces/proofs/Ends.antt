@@ -1,62 +1,51 @@
--- How a run under a trace ends.
-use Rattle.std.proofs.Common.{◌≡◌, ◌⊎◌, ◌+◌, pos, ◌+ℤ◌, ◌≤ℤ◌, ℕ, List, [], ◌∷◌, ◌++◌, length, Option, Some, None, Err, inl, inr, refl, sym, ap, ◌∙◌, subst}
-use Rattle.std.specs.Prelude.{IfSome}
+-- How a run under a trace ends, by how its drive did.
+use Rattle.std.proofs.Common.{◌≡◌, ◌⊎◌, ◌+◌, ℕ, List, [], ◌∷◌, ◌++◌, length, Option, Some, None, Err, inl, inr, refl, sym, ap, ◌∙◌, subst}
+use Rattle.exact_runs.proofs.Given.{if_some}
+use Rattle.exact_runs.specs.Records.{AreRecordsSoFar}
+use Rattle.exact_runs.specs.Worlds.{ExactWorld}
 use Rattle.net_plan.specs.declared.event.Event.{Event}
 use Rattle.net_plan.specs.declared.network.Network.{Network}
-use Rattle.report_text.specs.NoteLine.{report_of}
 use Rattle.run_law.specs.declared.note.Note.{Note}
-use Rattle.tte_forms.specs.Answering.{Gives, GivesOne}
+use Rattle.std.proofs.KnownBytes.{Appends-trans}
+use Rattle.tte_forms.proofs.Octets.{for_more}
+use Rattle.tte_forms.proofs.Puts.{PutsLines-still}
+use Rattle.tte_forms.specs.Answering.{Answer, Ends, ForOctets, Gives, GivesOne}
 use Rattle.tte_forms.specs.Faults.{HasCause}
-use Rattle.exact_runs.specs.Worlds.{ExactWorld}
-use Rattle.tte_traces.specs.Records.{AreEarlier, HasBefallen, PutsEvent, PutsOr, PutsOrRest, PutsRest}
-use Rattle.tte_forms.specs.Putting.{Shown, IsPassedOn, PutsLines}
-use Rattle.tte_traces.specs.Refusing.{fault_answer}
-use Rattle.exact_runs.specs.Records.{AreRecordsBefore, AreRecordsSoFar, HaveEnded}
-use Rattle.tte_traces.specs.Answer.{IsRunAnswer}
-use Rattle.tte_traces.specs.Steps.{IsRunning, ReadsFrom, RunEnds}
-use Rattle.tte_traces.specs.Streaming.{ForTrace, StopsBehindLines, TakesLittle}
+use Rattle.tte_forms.specs.Putting.{PutsLines, Shown, StopsWriting, shown_by}
+use Rattle.tte_forms.specs.declared.status.Status.{Status}
+use Rattle.tte_forms.specs.declared.status.Status.TheVariants.{Done, OutOfMemory, ReadFault, WriteFault}
+use Rattle.tte_io.specs.Faults.{Rose}
+use Rattle.tte_io.specs.ReaderState.{pending}
+use Rattle.tte_io.specs.declared.ends.Sink as sinks
+use Rattle.tte_io.specs.declared.ends.Source as sources
+use Rattle.tte_traces.proofs.Admitted.{events_admitted}
+use Rattle.tte_traces.proofs.Answers.{IsAllAdmitted}
+use Rattle.tte_traces.specs.Along.{IsFrontOf, IsShortAt, PutsAlong}
+use Rattle.tte_traces.proofs.Given.{faulty_given, front_failed, front_given, whole_failed, whole_given}
+use Rattle.tte_traces.proofs.Taken.{gave_some}
+use Rattle.tte_traces.proofs.Streams.{for_trace, writes_answer, writes_none, writes_nothing}
+use Rattle.tte_traces.specs.Answer.{IsTraceAnswer, LinesOf}
+use Rattle.tte_traces.specs.Ending.{RunEnds}
 use Rattle.tte_traces.specs.FaultLine.{fault_status}
+use Rattle.tte_traces.specs.Following.{ReadsOn, TakesFew}
 use Rattle.tte_traces.specs.Lines.{AreAdmitted, IsFault, behind_lines}
+use Rattle.tte_traces.specs.Refusing.{fault_answer}
+use Rattle.tte_traces.specs.Report.{StopsLines, shown_as}
+use Rattle.tte_traces.specs.Streaming.{ForTrace, StopsBehindLines, TakesLittle, WritesSome}
+use Rattle.tte_traces.specs.Taking.{EndedBehind, GaveEvents, IsStopAt, StoppedBehind, TakesFewFrom}
 use Rattle.tte_traces.specs.declared.fault.TraceFault.{TraceFault}
 use Rattle.tte_traces.specs.declared.fault.TraceFault.TheVariants.{Missing, TooMany, After, Long, Line, Event as Outlaw}
+use Rattle.tte_traces.specs.declared.fault.TraceStop.{TraceStop}
+use Rattle.tte_traces.specs.declared.fault.TraceStop.TheVariants as ends
 use Rattle.tte_traces.specs.declared.lines.Trace.{Trace}
-use Rattle.tte_traces.specs.declared.steps.Running.{Running}
-use Rattle.tte_forms.specs.declared.status.Status.{Status}
-use Rattle.tte_forms.specs.declared.status.Status.TheVariants.{ReadFault, WriteFault, OutOfMemory}
-use Rattle.tte_traces.proofs.Answers.{IsAllAdmitted, all_records}
-use Rattle.tte_traces.proofs.Given.{IsUpToEnd, cut_ended, cut_on_way, cut_so_far, failed_ended, failed_on_way, failed_so_far, faulty_given, puts_report, stops_report, whole_given}
-use Rattle.std.proofs.lemmas.List.{append-nil}
-use Rattle.run_law.proofs.runs.Places.{before_next_time}
-use Rattle.run_law.specs.records.Order.{IsBefore}
-use Rattle.exact_runs.proofs.Given.{next_amount}
-use Rattle.drift_world.specs.Running.{behind_events, last_time}
-use Rattle.tte_units.specs.Amount.{amount}
-use Rattle.tte_units.specs.declared.units.Units.{Units}
+use Rattle.world_drive.specs.Driving.{DrivesAll, DrivesCut, DrivesSoFar, HasSeenSoFar, IsCutAt}
+use Rattle.world_drive.specs.Observing.{Sees, Stops, Told, told_by}
+use Rattle.world_drive.specs.declared.observing.Cut.{Cut}
+use Rattle.world_drive.specs.declared.observing.Cut.TheVariants as cuts
 
 -- little was taken of the trace
-abbrev pub Little : Network → Option (List ℕ) → Option (List ℕ) → Shown → Shown → Type 0
-Little network first after old new = ForTrace first after (λ octets rest. TakesLittle network octets rest old new)
-
--- what holds for all octets that are told
-pub for_told : (left : Option (List ℕ)) (P : List ℕ → Type 0) → ((octets : List ℕ) → left ≡ Some octets → P octets) → IfSome left P
-for_told None P h = tt {0}
-for_told (Some octets) P h = h octets refl
-
--- that was cut short at an event: before its record or behind it
-cut_given : (network : Network) (octets : List ℕ) (events befallen : List Event) (event : Event) (notes more : List Note) (status : Status) (old now new : Shown)
-    → AreAdmitted network octets (events ++ event ∷ []) → HasBefallen network events event befallen (notes ++ more)
-    → PutsLines (report_of network notes) old now → PutsOr {T = Unit {0}} (Err status) (report_of network more) now new
-    → GivesOne (IsRunAnswer octets network) status old new
-cut_given network octets events befallen event notes more status old now new all (inl way) puts (inl f) =
-    failed_on_way network octets events event (notes ++ more) status old new all way.1 f.0 (stops_report network notes more old now new puts f.1)
-cut_given network octets events befallen event notes more status old now new all (inl way) puts (inr m) =
-    cut_on_way network octets events event (notes ++ more) status old new all way.1 (inr m.0) (puts_report network notes more old now new puts m.1)
-cut_given network octets events befallen event notes more status old now new all (inr own) puts (inl f) =
-    failed_so_far network octets befallen (notes ++ more) status old new (subst (AreAdmitted network octets) (sym own.0) all) own.1 f.0
-    (stops_report network notes more old now new puts f.1)
-cut_given network octets events befallen event notes more status old now new all (inr own) puts (inr m) =
-    cut_so_far network octets befallen (notes ++ more) status old new (subst (AreAdmitted network octets) (sym own.0) all) own.1 (inr m.0)
-    (puts_report network notes more old now new puts m.1)
+abbrev pub Little : LinesOf → Network → Option (List ℕ) → Option (List ℕ) → Shown → Shown → Type 0
+Little lines network first after old new = ForTrace first after (λ octets rest. TakesLittle lines network octets rest old new)
 
 -- no read failed where a put failed, memory ran out, or the trace was refused
 no_read : {X Y : Type 0} (status : Status) → ((status ≡ WriteFault) × X) ⊎ ((status ≡ OutOfMemory) × Y) → status ≡ ReadFault → ⊥
@@ -92,111 +81,292 @@ fault_cause fault status which into = record {
   write = λ is. into (fault_write fault status which is);
 }
 
-rest_no_read : (network : Network) (events : List Event) (notes more : List Note) (end : Units) (status : Status) (old new : Shown)
-    → PutsOrRest network events notes more end status old new → status ≡ ReadFault → ⊥
-rest_no_read network events notes more end status old new (inl d) is = let e = d.0 in cc
-rest_no_read network events notes more end status old new (inr c) is = no_read status c is
+-- ---- what is told of a sink is what it shows
 
--- ---- at an event
+puts_shown : {K : Type 0} (sink : sinks.Ghosts K) (lines : List (List ℕ)) (old new : K)
+    → PutsLines lines (shown_as (told_by sink old)) (shown_as (told_by sink new)) → PutsLines lines (shown_by sink old) (shown_by sink new)
+puts_shown sink lines old new p = record { written = p.written; counted = p.counted }
 
-pub ends_at_event : {network : Network} {first left after : Option (List ℕ)} {old now new : Shown} {run : Running} {event : Event} (trace : Trace)
-    {world : ExactWorld} {status : Status}
-    → (r : IsRunning network first left old now run) → ReadsFrom first after network (r.events ++ event ∷ []) trace
-    → PutsEvent {T = Unit {0}} network r.events r.notes event world (Err status) now new → Little network first after old new
-    → RunEnds (λ trace. IsRunAnswer trace network) network first after status old new
-ends_at_event {network} {first} {old} {now} {new} {event} trace {status} r reads p little = record {
-  general = for_told first (λ octets. GivesOne (IsRunAnswer octets network) status old new)
-      (λ octets told. cut_given network octets r.events p.befallen event r.notes p.more status old now new (reads octets told).2.admitted p.whether r.puts p.puts);
-  cut = λ is. absurd (no_read status p.puts is);
-  little = little;
+puts_from : {K : Type 0} (sink : sinks.Ghosts K) (lines : List (List ℕ)) (old : K) (new : Shown) → PutsLines lines (shown_as (told_by sink old)) new
+    → PutsLines lines (shown_by sink old) new
+puts_from sink lines old new p = record { written = p.written; counted = p.counted }
+
+stops_shown : {K : Type 0} (sink : sinks.Ghosts K) (lines : List (List ℕ)) (old new : K)
+    → StopsWriting lines (shown_as (told_by sink old)) (shown_as (told_by sink new)) → StopsWriting lines (shown_by sink old) (shown_by sink new)
+stops_shown sink lines old new (inl f) = inl (record {
+  done = f.done;
+  line = f.line;
+  left = f.left;
+  order = f.order;
+  before = f.before;
+  puts = puts_from sink f.done old f.before f.puts;
+  front = f.front;
+  counted = f.counted;
+})
+stops_shown sink lines old new (inr p) = inr (puts_shown sink lines old new p)
+
+-- ---- what was taken of a trace
+
+-- the octets that a source has are those of the events, and some more
+abbrev pub Admits : {B : Type 0} → sources.Ghosts B → Network → B → List Event → B → Type 0
+Admits source network first events now =
+    (octets : List ℕ) → source.left first ≡ Some octets → (rest : List ℕ) × (source.left now ≡ Some rest) × AreAdmitted network octets events
+
+takes_little : {B K : Type 0} (source : sources.Ghosts B) (sink : sinks.Ghosts K) (lines : LinesOf) (network : Network) (first now : B) (events : List Event)
+    (notes : List Note) (old : K) (between : Shown) (new : Shown) → Admits source network first events now
+    → TakesFewFrom (source.left first) (source.left now) (length events)
+    → AreRecordsSoFar network events notes → PutsLines (lines network events notes) (shown_by sink old) between → WritesSome between new
+    → Little lines network (source.left first) (source.left now) (shown_by sink old) new
+takes_little source sink lines network first now events notes old between new admitted few records puts more =
+    for_trace (source.left first) (source.left now) (λ octets rest. TakesLittle lines network octets rest (shown_by sink old) new) (λ octets told.
+    let a = admitted octets told in (
+      a.0,
+      a.1,
+      record {
+        events = events;
+        admitted = a.2;
+        notes = notes;
+        records = records;
+        between = between;
+        puts = puts;
+        more = more;
+        few = if_some (source.left now) a.0 (TakesFew octets (length events)) a.1 (few octets told);
+      },
+    ))
+
+-- the source of events
+abbrev pub trace_gave : {B : Type 0} → sources.Ghosts B → Network → B → Trace → List Event → B → Trace → Type 0
+trace_gave source at f o events n it = GaveEvents source at f events n it
+
+abbrev pub trace_ended : {B : Type 0} → sources.Ghosts B → Network → B → Trace → List Event → B → Trace → Type 0
+trace_ended source at f o events n it = EndedBehind source at f events n
+
+abbrev pub trace_stopped : {B K : Type 0} → sources.Ghosts B → sinks.Ghosts K → Network → B → Trace → List Event → TraceStop → B → Trace → K → K → Type 0
+trace_stopped source sink at f o events stop n it before after = StoppedBehind source sink at f events stop n it before after
+
+-- the cause of a status where memory ran out
+pub memory_cause : {X : Type 0} (status : Status) (old now new : ℕ) → (status ≡ OutOfMemory) ⊎ ((status ≡ WriteFault) × Rose now new) → now ≡ old
+    → HasCause status X (Rose old new)
+memory_cause status old now new (inl e) same = record { read = λ is. absurd cc; write = λ is. absurd cc }
+memory_cause status old now new (inr w) same = record {
+  read = λ is. absurd (let e = w.0 in cc);
+  write = λ is. subst (λ (n : ℕ). Rose n new) same w.1;
 }
 
--- ---- where a read fails
+-- ---- the lines that an observer puts of a run
 
-pub ends_at_read : {network : Network} {first left after : Option (List ℕ)} {old now : Shown} {run : Running} → IsRunning network first left old now run
-    → IsPassedOn now → ForTrace first after (λ octets rest. StopsBehindLines network octets rest old now) → Little network first after old now
-    → RunEnds (λ trace. IsRunAnswer trace network) network first after ReadFault old now
-ends_at_read {network} {first} {old} {now} r passed behind little = record {
-  general = for_told first (λ octets. GivesOne (IsRunAnswer octets network) ReadFault old now) (λ octets told.
-      let all = (r.reads octets told).2.admitted in
-      cut_so_far network octets r.events r.notes ReadFault old now all r.stands.so_far (inl refl) r.puts);
-  cut = λ is. (passed, behind);
-  little = little;
-}
+module _ {B K O : Type 0} (source : sources.Ghosts B) (sink : sinks.Ghosts K) (begun : O) (see : Sees O) (stops : Stops O)
+    (lines : LinesOf) (Is : List ℕ → Network → Answer → Type 0) (along : PutsAlong begun see stops lines Is) (network : Network) (first : B) (origin : Trace) (now : B)
+    (trace : Trace) (old put : K) where
+  -- one of the answers was given, and little was taken
+  abbrev pub EndsSo : Status → Shown → Type 0
+  EndsSo status new =
+      RunEnds (λ octets. Is octets network) lines network (source.left first) (source.left now) status (shown_by sink old) new
 
--- ---- where passing on fails before a read
+  -- up to the last whole event
+  pub little_so_far : (events : List Event) (new : Shown) → Admits source network first events now
+      → TakesFewFrom (source.left first) (source.left now) (length events)
+      → HasSeenSoFar sink see network events begun old put → WritesSome (shown_by sink put) new
+      → Little lines network (source.left first) (source.left now) (shown_by sink old) new
+  little_so_far events new admitted few s more =
+      let told : Told = told_by sink old in
+      takes_little source sink lines network first now events s.notes old (shown_as s.between) new admitted few s.records
+      (puts_from sink (lines network events s.notes) old (shown_as s.between)
+      (along.so_far network events s.notes told s.between s.observer s.records s.sees))
+      (s.grew.0 ++ more.0, Appends-trans s.between.written (sink.written put) new.written s.grew.0 more.0 s.grew.1 more.1)
 
-pub ends_unpassed : {network : Network} {first left after : Option (List ℕ)} {old now : Shown} {run : Running} → IsRunning network first left old now run
-    → Little network first after old now → RunEnds (λ trace. IsRunAnswer trace network) network first after WriteFault old now
-ends_unpassed {network} {first} {old} {now} r little = record {
-  general = for_told first (λ octets. GivesOne (IsRunAnswer octets network) WriteFault old now) (λ octets told.
-      let all = (r.reads octets told).2.admitted in
-      failed_so_far network octets r.events r.notes WriteFault old now all r.stands.so_far refl (inr r.puts));
-  cut = λ is. absurd (no_read {X = Unit {0}} {Y = Unit {0}} WriteFault (inl (refl, tt)) is);
-  little = little;
-}
+  -- ---- the trace stopped
 
--- ---- at a fault of the trace
+  module _ (observer : O) (stop : TraceStop) (d : DrivesSoFar sink (trace_stopped source sink) see network first origin stop now trace begun observer old put) where
+    admits_so_far : Admits source network first d.events now
+    admits_so_far octets told = let a = d.stopped.reads octets told in (a.0, a.1, a.2)
 
-pub ends_at_fault : {network : Network} {first left after : Option (List ℕ)} {old now new : Shown} {run : Running} {status : Status} {PutFailed : Type 0}
-    (fault : TraceFault) (line : ℕ)
-    → (r : IsRunning network first left old now run) → ((octets : List ℕ) → first ≡ Some octets
-    → IsFault network r.events (behind_lines (length r.events) octets) fault) → line ≡ length r.events + 1
-    → Gives (fault_answer line fault) status now new → (status ≡ fault_status fault) ⊎ ((status ≡ WriteFault) × PutFailed) → Little network first after old new
-    → RunEnds (λ trace. IsRunAnswer trace network) network first after status old new
-ends_at_fault {network} {first} {old} {now} {new} {status} fault line r is count g which little = record {
-  general = for_told first (λ octets. GivesOne (IsRunAnswer octets network) status old new) (λ octets told.
-      let all = (r.reads octets told).2.admitted in
-      faulty_given network octets r.events r.notes fault status old now new (record { admitted = all; is = is octets told })
-      r.stands.so_far r.puts
-      (subst (λ (n : ℕ). Gives (fault_answer n fault) status now new) count g));
-  cut = λ read. absurd (fault_no_read fault status which read);
-  little = little;
-}
+    -- what holds for all octets that have the events, and the fault behind them
+    pub for_stopped : (P : List ℕ → Type 0)
+        → ((octets : List ℕ) → AreAdmitted network octets d.events → IsStopAt network d.events (behind_lines (length d.events) octets) stop → P octets)
+        → ForOctets (source.left first) P
+    for_stopped P f =
+        for_more (source.left first) (λ octets. AreAdmitted network octets d.events × IsStopAt network d.events (behind_lines (length d.events) octets) stop) P
+        (λ octets a. f octets a.0 a.1) d.stopped.some
 
--- ---- at the end
+    pub seen_so_far : PutsLines (lines network d.events d.notes) (shown_by sink old) (shown_by sink put)
+    seen_so_far =
+        puts_shown sink (lines network d.events d.notes) old put
+        (along.so_far network d.events d.notes (told_by sink old) (told_by sink put) observer d.so_far d.sees)
 
--- records that are earlier than the time behind the end are those up to a mark that is not behind it
-earlier_run : (network : Network) (events : List Event) (notes more : List Note) (end : Units) → end ≡ last_time events → pos 0 ≤ℤ end.0
-    → AreRecordsSoFar network events notes → AreEarlier network events notes more (record { 0 = end.0 +ℤ pos 1 })
-    → (mark : List ℕ) × IsUpToEnd events mark × AreRecordsBefore network events mark (notes ++ more)
-earlier_run network events notes more end last begun so_far (inl none) = (
-  behind_events (amount (last_time events)),
-  λ p b. before_next_time p (amount (last_time events)) (2 ∷ []) b,
-  subst (AreRecordsSoFar network events) (sym (append-nil notes) ∙ ap (λ (l : List Note). notes ++ l) (sym none)) so_far,
-)
-earlier_run network events notes more end last begun so_far (inr run) = (
-  run.0,
-  λ p b. subst (λ (n : ℕ). IsBefore p (n ∷ [])) (next_amount end.0 begun ∙ ap (λ (t : Units). amount t + 1) last) (run.1 p b),
-  run.2,
-)
+    pub little_at : (new : Shown) → WritesSome (shown_by sink put) new → Little lines network (source.left first) (source.left now) (shown_by sink old) new
+    little_at new more =
+        takes_little source sink lines network first now d.events d.notes old (shown_by sink put) new admits_so_far d.stopped.few d.so_far seen_so_far more
 
--- the records up to the end were put, or some of them
-rest_given : (network : Network) (octets : List ℕ) (events : List Event) (notes : List Note) (time : Units) (world : ExactWorld) (status : Status)
-    (old now new : Shown) → IsAllAdmitted network octets events → time ≡ last_time events → pos 0 ≤ℤ time.0 → AreRecordsSoFar network events notes
-    → PutsLines (report_of network notes) old now → (p : PutsRest network events notes time world status now new)
-    → PutsOrRest network events notes p.more time status now new → GivesOne (IsRunAnswer octets network) status old new
-rest_given network octets events notes time world status old now new all last begun so_far puts p (inl d) =
-    let run = subst (λ (t : Units). AreRecordsBefore network events ((amount t + 1) ∷ []) (notes ++ p.more)) last d.3 in
-    whole_given network octets events (notes ++ p.more) status old new all (all_records events network octets (notes ++ p.more) all run) d.0
-    (puts_report network notes p.more old now new puts d.1) d.2
-rest_given network octets events notes time world status old now new all last begun so_far puts p (inr (inl f)) =
-    let r = earlier_run network events notes p.more time last begun so_far p.earlier in
-    failed_ended network octets events r.0 (notes ++ p.more) status old new all r.1 r.2 f.0 (stops_report network notes p.more old now new puts f.1)
-rest_given network octets events notes time world status old now new all last begun so_far puts p (inr (inr m)) =
-    let r = earlier_run network events notes p.more time last begun so_far p.earlier in
-    cut_ended network octets events r.0 (notes ++ p.more) status old new all r.1 r.2 (inr m.0) (puts_report network notes p.more old now new puts m.1)
+    -- where a read failed
+    pub ends_read : stop ≡ ends.ReadFault → EndsSo ReadFault (shown_by sink put)
+    ends_read is = record {
+      general = for_stopped (λ octets. GivesOne (Is octets network) ReadFault (shown_by sink old) (shown_by sink put))
+          (λ octets admitted at.
+          front_given (Is octets network) (lines network d.events d.notes) ReadFault (shown_by sink old) (shown_by sink put)
+          (along.front network octets d.events d.notes admitted d.so_far) (inl refl) seen_so_far);
+      cut = λ read. (
+        (d.stopped.read is).1,
+        for_trace (source.left first) (source.left now) (λ octets rest. StopsBehindLines lines network octets rest (shown_by sink old) (shown_by sink put))
+            (λ octets told.
+            let a = d.stopped.reads octets told in
+            let o = subst (λ (s : TraceStop). ReadsOn network octets d.events (Err s) trace a.0) is a.3 in (
+              a.0,
+              a.1,
+              record {
+                events = d.events;
+                admitted = a.2;
+                part = pending trace.reader;
+                unbroken = o.1;
+                taken = o.0.coming;
+                whole = o.2;
+                notes = d.notes;
+                records = d.so_far;
+                puts = seen_so_far;
+              },
+            )),
+      );
+      little = little_at (shown_by sink put) (writes_nothing (shown_by sink put));
+    }
 
-pub ends_at_end : {network : Network} {first left after : Option (List ℕ)} {old now new : Shown} {run : Running} {world : ExactWorld} {status : Status}
-    → (r : IsRunning network first left old now run) → ((octets : List ℕ) → first ≡ Some octets
-    → (behind_lines (length r.events) octets ≡ []) × HaveEnded r.events)
-    → PutsRest network r.events r.notes run.time world status now new → Little network first after old new
-    → RunEnds (λ trace. IsRunAnswer trace network) network first after status old new
-ends_at_end {network} {first} {old} {now} {new} {run} {world} {status} r ended p little = record {
-  general = for_told first (λ octets. GivesOne (IsRunAnswer octets network) status old new) (λ octets told.
-      rest_given network octets r.events r.notes run.time world status old now new
-      (record { admitted = (r.reads octets told).2.admitted; ended = (ended octets told).1; none_left = (ended octets told).0 }) r.stands.last
-      r.stands.range.least r.stands.so_far r.puts p p.puts);
-  cut = λ is. absurd (rest_no_read network r.events r.notes p.more run.time status now new p.puts is);
-  little = little;
-}
+    -- where nothing could be passed on before one
+    pub ends_unpassed : EndsSo WriteFault (shown_by sink put)
+    ends_unpassed = record {
+      general = for_stopped (λ octets. GivesOne (Is octets network) WriteFault (shown_by sink old) (shown_by sink put))
+          (λ octets admitted at.
+          front_failed (Is octets network) (lines network d.events d.notes) WriteFault (shown_by sink old) (shown_by sink put)
+          (along.front network octets d.events d.notes admitted d.so_far) refl (inr seen_so_far));
+      cut = λ read. absurd cc;
+      little = little_at (shown_by sink put) (writes_nothing (shown_by sink put));
+    }
+
+  -- ---- it was cut short
+
+  module _ (cut : Cut) (d : DrivesCut sink (trace_gave source) (trace_ended source) see stops network first origin cut now trace begun old put) where
+    abbrev IsCutShort : Option Event → Type 0
+    IsCutShort next = IsCutAt (trace_gave source) (trace_ended source) network first origin d.events next d.befallen d.notes now trace
+
+    admits_at : (next : Option Event) → IsCutShort next → Admits source network first d.events now
+    admits_at (Some event) at octets told =
+        let r = at.0.reads octets told in
+        (r.0, r.1, events_admitted network octets d.events (event ∷ []) r.2.admitted)
+    admits_at None at octets told = let a = at.0.all octets told in (a.0, a.1, a.2)
+
+    few_at : (next : Option Event) → IsCutShort next → TakesFewFrom (source.left first) (source.left now) (length d.events)
+    few_at (Some event) at octets told = at.0.few d.events event refl octets told
+    few_at None at octets told = at.0.few octets told
+
+    -- where it was cut short, for the octets
+    abbrev IsShort : List ℕ → Option Event → Type 0
+    IsShort octets next = IsShortAt network octets d.events next d.befallen d.notes
+
+    short_at : (next : Option Event) → IsCutShort next → ForOctets (source.left first) (λ octets. IsShort octets next)
+    short_at (Some event) at =
+        for_more (source.left first) (λ octets. AreAdmitted network octets (d.events ++ event ∷ [])) (λ octets. IsShort octets (Some event))
+        (λ octets admitted. (admitted, at.1)) (gave_some source network first (d.events ++ event ∷ []) now trace at.0)
+    short_at None at =
+        for_more (source.left first) (λ octets. AreAdmitted network octets d.events × (behind_lines (length d.events) octets ≡ []))
+        (λ octets. IsShort octets None)
+        (λ octets a. (record { admitted = a.0; ended = at.1; none_left = a.1 }, at.2, at.3)) at.0.some
+
+    -- what was put
+    abbrev FrontPut : List ℕ → Type 0
+    FrontPut octets = (ls : List (List ℕ)) × StopsLines ls cut (told_by sink old) (told_by sink put) × IsFrontOf (Is octets network) ls
+
+    -- what holds for the octets of which a front was put
+    for_front : (P : List ℕ → Type 0) → ((octets : List ℕ) → FrontPut octets → P octets) → ForOctets (source.left first) P
+    for_front P f =
+        for_more (source.left first) (λ octets. IsShort octets d.next) P
+        (λ octets at.
+        f octets (along.short network octets d.events d.next d.befallen d.notes cut (told_by sink old) (told_by sink put) at d.stops))
+        (short_at d.next d.at)
+
+    little_cut : (new : Shown) → WritesSome (shown_by sink put) new → Little lines network (source.left first) (source.left now) (shown_by sink old) new
+    little_cut new more = little_so_far d.events new (admits_at d.next d.at) (few_at d.next d.at) d.so_far more
+
+    -- writing failed
+    pub ends_write : cut ≡ cuts.WriteFault → EndsSo WriteFault (shown_by sink put)
+    ends_write is = record {
+      general = for_front (λ octets. GivesOne (Is octets network) WriteFault (shown_by sink old) (shown_by sink put))
+          (λ octets f.
+          let halts = subst (λ (c : Cut). StopsLines f.0 c (told_by sink old) (told_by sink put)) is f.1 in
+          front_failed (Is octets network) f.0 WriteFault (shown_by sink old) (shown_by sink put) f.2 refl (stops_shown sink f.0 old put halts));
+      cut = λ read. absurd cc;
+      little = little_cut (shown_by sink put) (writes_nothing (shown_by sink put));
+    }
+
+    -- memory ran out
+    pub ends_memory : (status : Status) (new : K) → cut ≡ cuts.OutOfMemory → Ends OutOfMemory status (shown_by sink put) (shown_by sink new)
+        → EndsSo status (shown_by sink new)
+    ends_memory status new is e = record {
+      general = for_front (λ octets. GivesOne (Is octets network) status (shown_by sink old) (shown_by sink new))
+          (λ octets f.
+          let seen = subst (λ (c : Cut). StopsLines f.0 c (told_by sink old) (told_by sink put)) is f.1 in
+          let puts = PutsLines-still f.0 (shown_by sink old) (shown_by sink put) (shown_by sink new) (puts_shown sink f.0 old put seen) e.0 in
+          elim e.1 [
+            | inl m ↦ front_given (Is octets network) f.0 status (shown_by sink old) (shown_by sink new) f.2 (inr m.0) puts
+            | inr w ↦ front_failed (Is octets network) f.0 status (shown_by sink old) (shown_by sink new) f.2 w (inr puts)
+          ]);
+      cut = λ read. absurd (elim e.1 [ inl m ↦ (let s = m.0 in cc) | inr w ↦ cc ]);
+      little = little_cut (shown_by sink new) (writes_none (shown_by sink put) (shown_by sink new) e.0);
+    }
+
+-- ---- where its command's answers have just these lines, and that of a fault
+
+module _ {B K O : Type 0} (source : sources.Ghosts B) (sink : sinks.Ghosts K) (begun : O) (see : Sees O) (stops : Stops O)
+    (lines : LinesOf) (along : PutsAlong begun see stops lines (IsTraceAnswer lines)) (network : Network) (first : B) (origin : Trace) (now : B) (trace : Trace)
+    (old put : K) where
+  -- all events befell
+  module _ (world : ExactWorld) (observer : O) (d : DrivesAll sink (trace_ended source) see network first origin now trace world begun observer old put) where
+    admits_all : Admits source network first d.events now
+    admits_all octets told = let a = d.ended.all octets told in (a.0, a.1, a.2)
+
+    all_given : (octets : List ℕ) (status : Status) (new : K)
+        → AreAdmitted network octets d.events × (behind_lines (length d.events) octets ≡ []) → Ends Done status (shown_by sink put) (shown_by sink new)
+        → GivesOne (IsTraceAnswer lines octets network) status (shown_by sink old) (shown_by sink new)
+    all_given octets status new a e =
+        let all : IsAllAdmitted network octets d.events = record { admitted = a.0; ended = d.have_ended; none_left = a.1 } in
+        let seen = puts_shown sink (lines network d.events d.notes) old put
+        (along.all network octets d.events d.notes (told_by sink old) (told_by sink put) observer a.0 d.records d.sees) in
+        let puts = PutsLines-still (lines network d.events d.notes) (shown_by sink old) (shown_by sink put) (shown_by sink new) seen e.0 in
+        elim e.1 [
+          | inl done ↦ whole_given lines network octets d.events d.notes status (shown_by sink old) (shown_by sink new) all d.records done.0 puts done.1
+          | inr failed ↦ whole_failed lines network octets d.events d.notes status (shown_by sink old) (shown_by sink new) all d.records failed puts
+        ]
+
+    pub ends_all : (status : Status) (new : K) → Ends Done status (shown_by sink put) (shown_by sink new)
+        → RunEnds (λ octets. IsTraceAnswer lines octets network) lines network (source.left first) (source.left now) status (shown_by sink old)
+        (shown_by sink new)
+    ends_all status new e = record {
+      general =
+          for_more (source.left first) (λ octets. AreAdmitted network octets d.events × (behind_lines (length d.events) octets ≡ []))
+          (λ octets. GivesOne (IsTraceAnswer lines octets network) status (shown_by sink old) (shown_by sink new))
+          (λ octets a. all_given octets status new a e) d.ended.some;
+      cut = λ is. absurd (elim e.1 [ inl done ↦ (let s = done.0 in cc) | inr failed ↦ cc ]);
+      little = little_so_far source sink begun see stops lines (IsTraceAnswer lines) along network first origin now trace old put d.events (shown_by sink new)
+          admits_all d.ended.few d.so_far (writes_none (shown_by sink put) (shown_by sink new) e.0);
+    }
+
+  -- the trace has a fault
+  pub ends_fault : (observer : O) (stop : TraceStop)
+      (d : DrivesSoFar sink (trace_stopped source sink) see network first origin stop now trace begun observer old put)
+      (fault : TraceFault) (line : ℕ) (status : Status) (new : K) {PutFails : Type 0} → stop ≡ ends.Fault fault → line ≡ trace.lines + 1
+      → Gives (fault_answer line fault) status (shown_by sink put) (shown_by sink new) → IsStatusOf fault status PutFails
+      → RunEnds (λ octets. IsTraceAnswer lines octets network) lines network (source.left first) (source.left now) status (shown_by sink old)
+      (shown_by sink new)
+  ends_fault observer stop d fault line status new is number gives which =
+      let count : line ≡ length d.events + 1 = number ∙ ap (λ (n : ℕ). n + 1) d.stopped.lines in
+      record {
+        general = for_stopped source sink begun see stops lines (IsTraceAnswer lines) along network first origin now trace old put observer stop d
+            (λ octets. GivesOne (IsTraceAnswer lines octets network) status (shown_by sink old) (shown_by sink new))
+            (λ octets admitted at.
+            let behind : IsFault network d.events (behind_lines (length d.events) octets) fault =
+            subst (IsStopAt network d.events (behind_lines (length d.events) octets)) is at in
+            faulty_given lines network octets d.events d.notes fault status (shown_by sink old) (shown_by sink put) (shown_by sink new)
+            (record { admitted = admitted; is = behind }) d.so_far
+            (seen_so_far source sink begun see stops lines (IsTraceAnswer lines) along network first origin now trace old put observer stop d)
+            (subst (λ (n : ℕ). Gives (fault_answer n fault) status (shown_by sink put) (shown_by sink new)) count gives));
+        cut = λ read. absurd (fault_no_read fault status which read);
+        little = little_at source sink begun see stops lines (IsTraceAnswer lines) along network first origin now trace old put observer stop d (shown_by sink new)
+            (writes_answer (fault_answer line fault) status (shown_by sink put) (shown_by sink new) gives);
+      }

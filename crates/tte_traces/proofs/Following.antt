@@ -1,5 +1,5 @@
 -- One more event of a trace that is taken line by line.
-use Rattle.std.proofs.Common.{◌≡◌, ◌≢◌, ◌⊎◌, ◌↔◌, ℕ, ◌+◌, ◌^◌, ◌<◌, ◌≤◌, suc, Bool, true, false, List, [], ◌∷◌, ◌++◌, length, Option, Some, None, Result, Ok, Err, inl, inr, refl, sym, ap, subst, ◌∙◌, arith, length-append, append-nil}
+use Rattle.std.proofs.Common.{◌≡◌, ◌≢◌, ◌⊎◌, ◌↔◌, ℕ, ◌+◌, ◌^◌, ◌<◌, ◌≤◌, zero, suc, Bool, true, false, List, [], ◌∷◌, ◌++◌, length, Option, Some, None, Result, Ok, Err, inl, inr, refl, sym, ap, subst, ◌∙◌, arith, length-append, append-nil, append_assoc}
 use Rattle.std.specs.Prelude.{IfErr, IfOk, IfSome, ◌==◌, if◌then◌else◌}
 use denote.Bor.{Bor}
 use Rattle.fault_hypothesis.proofs.Befalling.{any_last, any_none, any_parts, stands_where}
@@ -13,20 +13,22 @@ use Rattle.trace_text.specs.EventReading.{event_read}
 use Rattle.net_plan.specs.Belonging.{IsOfNetwork}
 use Rattle.trace_text.specs.Ranges.{IsEventInRange}
 use Rattle.trace_text.specs.Steps.{Read}
+use Rattle.tte_io.proofs.Coming.{outcome_told}
 use Rattle.tte_io.proofs.FirstLine.{first_line-append, behind_line-append, first_line-too_long}
 use Rattle.tte_io.specs.Line.{lf, line_limit, ahead_limit, IsUnbroken, first_line, behind_line}
 use Rattle.tte_io.specs.NextLine.{NextLine}
 use Rattle.tte_io.specs.Outcome.{Outcome, TellsOutcome}
-use Rattle.tte_io.specs.ReaderState.{LineReaderState, pending}
+use Rattle.tte_io.specs.ReaderState.{LineReaderState, pending, to_come}
 use Rattle.tte_io.specs.declared.lines.LineTaken.{LineTaken}
 use Rattle.tte_io.specs.declared.lines.LineTaken.TheVariants as found
-use Rattle.tte_traces.specs.Following.{Follows, GoesOn, IsFound, IsRefused, Judges, JudgesSo, Reads, ReadsOn, TakesFew}
+use Rattle.tte_traces.specs.Following.{Follows, GoesOn, IsFound, IsRefused, Judges, JudgesSo, Reads, ReadsAny, ReadsMore, ReadsOn, TakesFew}
 use Rattle.exact_runs.specs.Records.{HaveEnded}
-use Rattle.tte_traces.specs.Lines.{AreAdmitted, IsAdmitted, IsFault, behind_lines}
+use Rattle.tte_traces.specs.Lines.{AreAdmitted, IsAdmitted, IsFault, StandWhole, behind_lines}
 use Rattle.tte_traces.specs.declared.fault.TraceFault.{TraceFault}
 use Rattle.tte_traces.specs.declared.fault.TraceStop.{TraceStop}
 use Rattle.tte_traces.specs.declared.fault.TraceStop.TheVariants as stops
 use Rattle.tte_traces.specs.declared.lines.Trace.{Trace}
+use Rattle.tte_traces.proofs.TakenLines.{as_told, ends_so, none_left_after}
 
 -- a trace without events has not ended
 pub none_ended : HaveEnded [] → ⊥
@@ -39,6 +41,33 @@ behind_one n m octets e = let s : m ≡ suc n = omega (arith, e) in ap (λ (k : 
 pub behind_more : (events : List Event) (event : Event) (octets : List ℕ)
     → behind_lines (length (events ++ event ∷ [])) octets ≡ behind_line (behind_lines (length events) octets)
 behind_more events event octets = behind_one (length events) (length (events ++ event ∷ [])) octets (length-append events (event ∷ []))
+
+-- lines are taken from the front
+front_of_line : (octets : List ℕ) → (front : List ℕ) × (octets ≡ front ++ behind_line octets)
+front_of_line [] = ([], refl)
+front_of_line (x ∷ xs) = line_front (x == lf) (front_of_line xs)
+  where
+    line_front : (ends : Bool) → (front : List ℕ) × (xs ≡ front ++ behind_line xs)
+        → (front : List ℕ) × (x ∷ xs ≡ front ++ (if ends then xs else behind_line xs))
+    line_front true f = (x ∷ [], refl)
+    line_front false f = (x ∷ f.0, ap (λ (t : List ℕ). x ∷ t) f.1)
+
+front_of_lines : (n : ℕ) (octets : List ℕ) → (front : List ℕ) × (octets ≡ front ++ behind_lines n octets)
+front_of_lines zero octets = ([], refl)
+front_of_lines (suc n) octets =
+    let f = front_of_lines n octets in
+    let g = front_of_line (behind_lines n octets) in
+    (f.0 ++ g.0, f.1 ∙ ap (λ (t : List ℕ). f.0 ++ t) g.1 ∙ sym (append_assoc f.0 g.0 (behind_line (behind_lines n octets))))
+
+-- one more line with its LF stands whole
+more_whole : (events : List Event) (event : Event) (octets rest : List ℕ) → behind_lines (length (events ++ event ∷ [])) octets ≡ rest
+    → (text : List ℕ) → behind_lines (length events) octets ≡ text ++ lf ∷ rest → StandWhole (length (events ++ event ∷ [])) octets
+more_whole events event octets rest behind text here =
+    let f = front_of_lines (length events) octets in
+    let whole : octets ≡ (f.0 ++ text) ++ lf ∷ rest = f.1 ∙ ap (λ (t : List ℕ). f.0 ++ t) here ∙ sym (append_assoc f.0 text (lf ∷ rest)) in
+    let long : length (events ++ event ∷ []) ≡ suc (length events) = length-append events (event ∷ []) ∙ omega arith in
+    let next : behind_lines (suc (length events)) octets ≡ rest = ap (λ (k : ℕ). behind_lines k octets) (sym long) ∙ behind in
+    subst (λ (k : ℕ). StandWhole k octets) (sym long) (f.0 ++ text, whole ∙ ap (λ (t : List ℕ). (f.0 ++ text) ++ lf ∷ t) (sym next))
 
 -- one more event is admitted
 pub more_admitted : (network : Network) (octets : List ℕ) (events : List Event) (event : Event) → AreAdmitted network octets events
@@ -95,15 +124,30 @@ pub followed_with : (network : Network) (events : List Event) (trace : Trace) (r
     → Follows network events (record trace { reader = reader })
 followed_with network events trace reader f = record { over = f.over; watch = f.watch; lines = f.lines; number = f.number; ended = f.ended }
 
+-- all that is left is to come where none is left at the end
+to_come_all : (pending : List ℕ) (ended : Bool) (left : List ℕ) → (ended ≡ true → left ≡ []) → to_come pending ended left ≡ pending ++ left
+to_come_all pending true left none = ap (λ (t : List ℕ). pending ++ t) (sym (none refl))
+to_come_all pending false left none = refl
+
+not_true : (b : Bool) → (b ≡ true → ⊥) → b ≡ false
+not_true true refuses = absurd (refuses refl)
+not_true false refuses = refl
+
 -- what comes of told octets
-told_outcome : (before left : List ℕ) (after : LineReaderState) (left_before left_after : Option (List ℕ)) (result : Result LineTaken TraceStop)
-    → left_before ≡ Some left → TellsOutcome before left_before after left_after result
-    → (rest : List ℕ) × (left_after ≡ Some rest) × Outcome (before ++ left) result after (pending after ++ rest)
-told_outcome before left after None left_after result told o = absurd cc
-told_outcome before left after (Some l) None result told o = absurd o
-told_outcome before left after (Some l) (Some rest) result told o =
+told_outcome : (before : List ℕ) (had : Bool) (left : List ℕ) (after : LineReaderState) (left_before left_after : Option (List ℕ))
+    (result : Result LineTaken TraceStop) → left_before ≡ Some left → (had ≡ true → left ≡ [])
+    → NextLine before had left_before after left_after result → TellsOutcome before had left_before after left_after result
+    → (rest : List ℕ) × (left_after ≡ Some rest) × Outcome (before ++ left) result after (pending after ++ rest) × (after.ended ≡ true → rest ≡ [])
+told_outcome before had left after None left_after result told none n o = absurd cc
+told_outcome before had left after (Some l) None result told none n o = absurd o
+told_outcome before had left after (Some l) (Some rest) result told none n o =
     let same : l ≡ left = cc in
-    (rest, refl, subst (λ (t : List ℕ). Outcome (before ++ t) result after (pending after ++ rest)) same o)
+    let next = subst (λ (t : List ℕ). NextLine before had (Some t) after (Some rest) result) same n in
+    let none_after = none_left_after before had left after rest result none next in
+    let before_is : to_come before had l ≡ before ++ left = to_come_all before had l (λ is. same ∙ none is) ∙ ap (λ (t : List ℕ). before ++ t) same in
+    let after_is = to_come_all (pending after) after.ended rest none_after in
+    let out = subst (λ (t : List ℕ). Outcome t result after (to_come (pending after) after.ended rest)) before_is o in
+    (rest, refl, subst (λ (t : List ℕ). Outcome (before ++ left) result after t) after_is out, none_after)
 
 -- what is found in told octets
 found_of : (octets : List ℕ) (t : LineTaken) (after : LineReaderState) (rest : List ℕ) → Outcome {E = TraceStop} octets (Ok t) after rest
@@ -113,9 +157,9 @@ found_of octets found.Long after rest o = o.0
 found_of octets found.End after rest o = o.0
 
 -- something is found in some octets, also where they are not told
-pub some_found : (before : List ℕ) (left : Option (List ℕ)) (after : LineReaderState) (left_after : Option (List ℕ)) (t : LineTaken)
-    → NextLine {E = TraceStop} before left after left_after (Ok t) → (rest : List ℕ) × IsFound rest t after
-some_found before left after left_after found.Whole n =
+pub some_found : (before : List ℕ) (had : Bool) (left : Option (List ℕ)) (after : LineReaderState) (left_after : Option (List ℕ)) (t : LineTaken)
+    → NextLine {E = TraceStop} before had left after left_after (Ok t) → (rest : List ℕ) × IsFound rest t after
+some_found before had left after left_after found.Whole n =
     let text = n.answer.text in
     let first : first_line (text ++ lf ∷ []) ≡ text = first_line-append text (lf ∷ []) n.answer.line.unbroken ∙ append-nil text in (
       text ++ lf ∷ [],
@@ -126,8 +170,8 @@ some_found before left after left_after found.Whole n =
             (λ (r : LineReaderState). r.text) n.answer.reader ∙ ap (λ (l : List ℕ). Some l) (sym first),
       ),
     )
-some_found before left after left_after found.Long n = (pending after ++ [], first_line-too_long (pending after) [] n.answer.line)
-some_found before left after left_after found.End n = ([], refl)
+some_found before had left after left_after found.Long n = (pending after ++ [], first_line-too_long (pending after) [] n.answer.line)
+some_found before had left after left_after found.End n = ([], refl)
 
 -- how a trace goes on, by how the events go on with what was found
 pub goes_on : (network : Network) (events : List Event) (rest : List ℕ) (event : Option Event) (trace : Trace) → Judges network events rest (Ok event) trace
@@ -144,37 +188,43 @@ goes_on network events rest (Some event) trace j of_network range = record {
 -- the same where the octets are told
 on_told : (network : Network) (octets : List ℕ) (events : List Event) (left : List ℕ) (old new : Trace) (reader : LineReaderState) (rest : List ℕ)
     (t : LineTaken) (event : Option Event) → Reads network octets events old left
-    → Outcome {E = TraceStop} (pending old.reader ++ left) (Ok t) reader (pending reader ++ rest)
+    → Outcome {E = TraceStop} (pending old.reader ++ left) (Ok t) reader (pending reader ++ rest) → (reader.ended ≡ true → rest ≡ [])
     → Judges network events (pending old.reader ++ left) (Ok event) new → new.reader ≡ reader → ReadsOn network octets events (Ok event) new rest
-on_told network octets events left old new reader rest t None r o j same = (r.coming ∙ j.0, j.1)
-on_told network octets events left old new reader rest found.Whole (Some event) r o j same = record {
+on_told network octets events left old new reader rest t None r o none j same = (r.coming ∙ j.0, j.1)
+on_told network octets events left old new reader rest found.Whole (Some event) r o none j same = record {
   follows = j.1;
   admitted = more_admitted network octets events event r.admitted (subst (λ (coming : List ℕ). IsAdmitted network events coming event) (sym r.coming) j.0);
   coming = behind_more events event octets ∙ ap behind_line r.coming ∙ sym o.3 ∙ ap (λ (s : LineReaderState). pending s ++ rest) (sym same);
+  none_left = λ is. none (sym (ap (λ (s : LineReaderState). s.ended) same) ∙ is);
+  whole = λ is.
+      more_whole events event octets (pending reader ++ rest) (behind_more events event octets ∙ ap behind_line r.coming ∙ sym o.3)
+      (first_line (pending old.reader ++ left)) (r.coming ∙ o.4 (sym (ap (λ (s : LineReaderState). s.ended) same) ∙ is));
 }
-on_told network octets events left old new reader rest found.Long (Some event) r o j same = absurd (omega (arith, o.0, j.0.has.short))
-on_told network octets events left old new reader rest found.End (Some event) r o j same = absurd (j.0.has.is_open.some o.0)
+on_told network octets events left old new reader rest found.Long (Some event) r o none j same = absurd (omega (arith, o.0, j.0.has.short))
+on_told network octets events left old new reader rest found.End (Some event) r o none j same = absurd (j.0.has.is_open.some o.0)
 
 pub reads_on : (network : Network) (octets : List ℕ) (events : List Event) (left : List ℕ) (old new : Trace) (reader : LineReaderState)
     (left_before left_after : Option (List ℕ)) (t : LineTaken) (event : Option Event) → left_before ≡ Some left → Reads network octets events old left
-    → TellsOutcome {E = TraceStop} (pending old.reader) left_before reader left_after (Ok t)
+    → NextLine {E = TraceStop} (pending old.reader) old.reader.ended left_before reader left_after (Ok t)
+    → TellsOutcome {E = TraceStop} (pending old.reader) old.reader.ended left_before reader left_after (Ok t)
     → ((rest : List ℕ) → IsFound rest t reader → Judges network events rest (Ok event) new) → new.reader ≡ reader
     → (rest : List ℕ) × (left_after ≡ Some rest) × ReadsOn network octets events (Ok event) new rest
-reads_on network octets events left old new reader left_before left_after t event told r outcome judged same =
-    let o = told_outcome (pending old.reader) left reader left_before left_after (Ok t) told outcome in (
+reads_on network octets events left old new reader left_before left_after t event told r n outcome judged same =
+    let o = told_outcome (pending old.reader) old.reader.ended left reader left_before left_after (Ok t) told r.none_left n outcome in (
       o.0,
       o.1,
-      on_told network octets events left old new reader o.0 t event r o.2
+      on_told network octets events left old new reader o.0 t event r o.2 o.3
           (judged (pending old.reader ++ left) (found_of (pending old.reader ++ left) t reader (pending reader ++ o.0) o.2)) same,
     )
 
 pub reads_fault : (network : Network) (octets : List ℕ) (events : List Event) (left : List ℕ) (old new : Trace) (reader : LineReaderState)
     (left_before left_after : Option (List ℕ)) (t : LineTaken) (fault : TraceFault) → left_before ≡ Some left → Reads network octets events old left
-    → TellsOutcome {E = TraceStop} (pending old.reader) left_before reader left_after (Ok t)
+    → NextLine {E = TraceStop} (pending old.reader) old.reader.ended left_before reader left_after (Ok t)
+    → TellsOutcome {E = TraceStop} (pending old.reader) old.reader.ended left_before reader left_after (Ok t)
     → ((rest : List ℕ) → IsFound rest t reader → Judges network events rest (Err fault) new)
     → (rest : List ℕ) × (left_after ≡ Some rest) × IsFault network events (behind_lines (length events) octets) fault
-reads_fault network octets events left old new reader left_before left_after t fault told r outcome judged =
-    let o = told_outcome (pending old.reader) left reader left_before left_after (Ok t) told outcome in
+reads_fault network octets events left old new reader left_before left_after t fault told r n outcome judged =
+    let o = told_outcome (pending old.reader) old.reader.ended left reader left_before left_after (Ok t) told r.none_left n outcome in
     let j = judged (pending old.reader ++ left) (found_of (pending old.reader ++ left) t reader (pending reader ++ o.0) o.2) in
     (o.0, o.1, subst (λ (coming : List ℕ). IsFault network events coming fault) (sym r.coming) j.0)
 
@@ -190,35 +240,108 @@ goes_so network events rest (Err stops.WriteFault) trace j of_network range = ab
 -- the same where the octets are told
 pub reads_so : (network : Network) (octets : List ℕ) (events : List Event) (left : List ℕ) (old new : Trace) (reader : LineReaderState)
     (left_before left_after : Option (List ℕ)) (t : LineTaken) (result : Result (Option Event) TraceStop) → left_before ≡ Some left
-    → Reads network octets events old left → TellsOutcome {E = TraceStop} (pending old.reader) left_before reader left_after (Ok t)
+    → Reads network octets events old left → NextLine {E = TraceStop} (pending old.reader) old.reader.ended left_before reader left_after (Ok t)
+    → TellsOutcome {E = TraceStop} (pending old.reader) old.reader.ended left_before reader left_after (Ok t)
     → ((rest : List ℕ) → IsFound rest t reader → JudgesSo network events rest result new) → new.reader ≡ reader → IfErr result IsRefused
     → (rest : List ℕ) × (left_after ≡ Some rest) × ReadsOn network octets events result new rest
-reads_so network octets events left old new reader left_before left_after t (Ok event) told r outcome judged same refused =
-    reads_on network octets events left old new reader left_before left_after t event told r outcome judged same
-reads_so network octets events left old new reader left_before left_after t (Err (stops.Fault fault)) told r outcome judged same refused =
-    reads_fault network octets events left old new reader left_before left_after t fault told r outcome judged
-reads_so network octets events left old new reader left_before left_after t (Err stops.ReadFault) told r outcome judged same refused =
+reads_so network octets events left old new reader left_before left_after t (Ok event) told r n outcome judged same refused =
+    reads_on network octets events left old new reader left_before left_after t event told r n outcome judged same
+reads_so network octets events left old new reader left_before left_after t (Err (stops.Fault fault)) told r n outcome judged same refused =
+    reads_fault network octets events left old new reader left_before left_after t fault told r n outcome judged
+reads_so network octets events left old new reader left_before left_after t (Err stops.ReadFault) told r n outcome judged same refused =
     let is : stops.ReadFault ≡ stops.Fault refused.0 = refused.1 in absurd cc
-reads_so network octets events left old new reader left_before left_after t (Err stops.WriteFault) told r outcome judged same refused =
+reads_so network octets events left old new reader left_before left_after t (Err stops.WriteFault) told r n outcome judged same refused =
     let is : stops.WriteFault ≡ stops.Fault refused.0 = refused.1 in absurd cc
 
 -- a failed read leaves the trace where it stands, and so does failing to pass on before one
 pub reads_same : (network : Network) (octets : List ℕ) (events : List Event) (left : List ℕ) (old : Trace) (reader : LineReaderState)
     (left_before left_after : Option (List ℕ)) (stop : TraceStop) → left_before ≡ Some left → Reads network octets events old left
     → (stop ≡ stops.ReadFault) ⊎ (stop ≡ stops.WriteFault)
-    → NextLine {E = TraceStop} (pending old.reader) left_before reader left_after (Err stop)
-    → TellsOutcome {E = TraceStop} (pending old.reader) left_before reader left_after (Err stop)
+    → NextLine {E = TraceStop} (pending old.reader) old.reader.ended left_before reader left_after (Err stop)
+    → TellsOutcome {E = TraceStop} (pending old.reader) old.reader.ended left_before reader left_after (Err stop)
     → (rest : List ℕ) × (left_after ≡ Some rest) × ReadsOn network octets events (Err stop) (record old { reader = reader }) rest
 reads_same network octets events left old reader left_before left_after stop told r which n outcome =
-    let o = told_outcome (pending old.reader) left reader left_before left_after (Err stop) told outcome in
+    let o = told_outcome (pending old.reader) old.reader.ended left reader left_before left_after (Err stop) told r.none_left n outcome in
     let unread : reader.ahead ≡ [] = ap (λ (s : LineReaderState). s.ahead) n.answer.reader in
     let line : pending reader ≡ reader.kept = ap (λ (a : List ℕ). reader.kept ++ a) unread ∙ append-nil reader.kept in
+    let unended : old.reader.ended ≡ false = not_true old.reader.ended (λ is. n.ends is) in
     let next = record old { reader = reader } in
     let reads : Reads network octets events next o.0 =
-    record { follows = followed_with network events old reader r.follows; admitted = r.admitted; coming = r.coming ∙ sym o.2 } in
+    record {
+      follows = followed_with network events old reader r.follows;
+      admitted = r.admitted;
+      coming = r.coming ∙ sym o.2;
+      none_left = o.3;
+      whole = λ _. r.whole unended;
+    } in
     let P : TraceStop → Type 0 = λ s. ReadsOn network octets events (Err s) next o.0 in
-    let same : P stops.ReadFault = (reads, subst IsUnbroken (sym line) n.answer.line.unbroken) in
+    let same : P stops.ReadFault = (reads, subst IsUnbroken (sym line) n.answer.line.unbroken, r.whole unended) in
     (o.0, o.1, elim which [ inl e ↦ subst P (sym e) same | inr e ↦ subst P (sym e) same ])
+
+-- ---- where the octets are not told
+
+-- what was read with any octets behind it is read so with those that are left
+reads_told : (network : Network) (octets : List ℕ) (events : List Event) (result : Result (Option Event) TraceStop) (next : Trace) (left : List ℕ)
+    → (rest : List ℕ) × (Some left ≡ Some rest) × ReadsOn network octets events result next rest → ReadsOn network octets events result next left
+reads_told network octets events result next left r =
+    let same : r.0 ≡ left = let e = r.1 in cc in
+    subst (ReadsOn network octets events result next) same r.2
+
+-- the octets before and behind
+behind_more_octets : (network : Network) (came more left : List ℕ) (events : List Event) (result : Result (Option Event) TraceStop) (next : Trace)
+    → AreAdmitted network (came ++ (more ++ left)) events → ReadsOn network (came ++ (more ++ left)) events result next left
+    → AreAdmitted network ((came ++ more) ++ left) events × ReadsOn network ((came ++ more) ++ left) events result next left
+behind_more_octets network came more left events result next admitted reads =
+    let same = sym (append_assoc came more left) in (
+      subst (λ (t : List ℕ). AreAdmitted network t events) same admitted,
+      subst (λ (t : List ℕ). ReadsOn network t events result next left) same reads,
+    )
+
+-- what was left before a line was taken is what it took, and any that may follow
+module _ (network : Network) (came : List ℕ) (events : List Event) (old : Trace) (reader : LineReaderState) (left_before left_after : Option (List ℕ))
+    (any : ReadsAny network came events old) where
+  before_any : (result : Result LineTaken TraceStop) (n : NextLine {E = TraceStop} (pending old.reader) old.reader.ended left_before reader left_after result)
+      (left : List ℕ) → (reader.ended ≡ true → left ≡ [])
+      → Reads network (came ++ ((n.earlier ++ n.last) ++ left)) events old ((n.earlier ++ n.last) ++ left)
+  before_any result n left none =
+      any ((n.earlier ++ n.last) ++ left) (λ is.
+      let e = ends_so (pending old.reader) old.reader.ended left_before reader left_after result n is in
+      ap (λ (t : List ℕ). t ++ left) e.0 ∙ none e.1)
+
+  -- a line was found
+  pub reads_any : (new : Trace) (t : LineTaken) (result : Result (Option Event) TraceStop)
+      → NextLine {E = TraceStop} (pending old.reader) old.reader.ended left_before reader left_after (Ok t)
+      → ((rest : List ℕ) → IsFound rest t reader → JudgesSo network events rest result new) → new.reader ≡ reader → IfErr result IsRefused
+      → ReadsMore network came events result new
+  reads_any new t result n judged same refused = record {
+    more = n.earlier ++ n.last;
+    reads = λ left none.
+        let read = n.earlier ++ n.last in
+        let none_read : reader.ended ≡ true → left ≡ [] = λ is. none (ap (λ (r : LineReaderState). r.ended) same ∙ is) in
+        let told = as_told (pending old.reader) old.reader.ended left_before reader left_after (Ok t) n left none_read in
+        let r = before_any (Ok t) n left none_read in
+        let outcome = outcome_told (pending old.reader) old.reader.ended (Some (read ++ left)) reader (Some left) (Ok t) told in
+        behind_more_octets network came read left events result new r.admitted
+        (reads_told network (came ++ (read ++ left)) events result new left
+        (reads_so network (came ++ (read ++ left)) events (read ++ left) old new reader (Some (read ++ left)) (Some left) t result refl r told outcome judged same
+        refused));
+  }
+
+  -- a read failed, or nothing could be passed on before one
+  pub stays_any : (stop : TraceStop) → (stop ≡ stops.ReadFault) ⊎ (stop ≡ stops.WriteFault)
+      → NextLine {E = TraceStop} (pending old.reader) old.reader.ended left_before reader left_after (Err stop)
+      → ReadsMore network came events (Err stop) (record old { reader = reader })
+  stays_any stop which n = record {
+    more = n.earlier ++ n.last;
+    reads = λ left none.
+        let read = n.earlier ++ n.last in
+        let told = as_told (pending old.reader) old.reader.ended left_before reader left_after (Err stop) n left none in
+        let r = before_any (Err stop) n left none in
+        let outcome = outcome_told (pending old.reader) old.reader.ended (Some (read ++ left)) reader (Some left) (Err stop) told in
+        behind_more_octets network came read left events (Err stop) (record old { reader = reader }) r.admitted
+        (reads_told network (came ++ (read ++ left)) events (Err stop) (record old { reader = reader }) left
+        (reads_same network (came ++ (read ++ left)) events (read ++ left) old reader (Some (read ++ left)) (Some left) stop refl r which told outcome));
+  }
 
 -- the octets of the first line and those behind it
 line_length : (octets : List ℕ) → length (first_line octets) + length (behind_line octets) ≤ length octets
@@ -230,34 +353,34 @@ line_length (x ∷ xs) =
     ]
 
 -- little more than the next line was taken
-few_told : (coming : List ℕ) (after : LineReaderState) (left : Option (List ℕ)) (rest before : List ℕ) (result : Result LineTaken TraceStop)
-    → NextLine before left after (Some rest) result → Outcome coming result after (pending after ++ rest) → length after.kept ≤ line_limit
+few_told : (coming : List ℕ) (after : LineReaderState) (had : Bool) (left : Option (List ℕ)) (rest before : List ℕ) (result : Result LineTaken TraceStop)
+    → NextLine before had left after (Some rest) result → Outcome coming result after (pending after ++ rest) → length after.kept ≤ line_limit
     → length after.ahead ≤ ahead_limit → length (behind_line coming) ≤ length rest + ahead_limit
-few_told coming after left rest before (Ok found.Whole) n o kept ahead =
+few_told coming after had left rest before (Ok found.Whole) n o kept ahead =
     let unkept : after.kept ≡ [] = ap (λ (r : LineReaderState). r.kept) n.answer.reader in
     omega (arith, ap length o.3, ap length unkept, length-append (pending after) rest, length-append after.kept after.ahead, ahead)
-few_told coming after left rest before (Ok found.End) n o kept ahead = omega (arith, ap (λ (t : List ℕ). length (behind_line t)) o.0)
-few_told coming after left rest before (Ok found.Long) n o kept ahead =
+few_told coming after had left rest before (Ok found.End) n o kept ahead = omega (arith, ap (λ (t : List ℕ). length (behind_line t)) o.0)
+few_told coming after had left rest before (Ok found.Long) n o kept ahead =
     omega (arith, o.0, ap length o.1, line_length coming, length-append (pending after) rest, length-append after.kept after.ahead, kept, ahead)
-few_told coming after left rest before (Err e) n o kept ahead =
+few_told coming after had left rest before (Err e) n o kept ahead =
     let unread : after.ahead ≡ [] = ap (λ (r : LineReaderState). r.ahead) n.answer.reader in
     let line : pending after ≡ after.kept = ap (λ (a : List ℕ). after.kept ++ a) unread ∙ append-nil after.kept in
     let behind : behind_line coming ≡ behind_line rest =
     ap behind_line (sym o ∙ ap (λ (p : List ℕ). p ++ rest) line) ∙ behind_line-append after.kept rest n.answer.line.unbroken in
     omega (arith, ap length behind, line_length rest)
 
-pub takes_few : (octets : List ℕ) (lines : ℕ) (before left : List ℕ) (after : LineReaderState) (left_before left_after : Option (List ℕ))
-    (result : Result LineTaken TraceStop) → left_before ≡ Some left → behind_lines lines octets ≡ before ++ left
-    → NextLine before left_before after left_after result → TellsOutcome before left_before after left_after result → length after.kept ≤ line_limit
-    → length after.ahead ≤ ahead_limit → IfSome left_after (TakesFew octets lines)
-takes_few octets lines before left after left_before None result told coming n o kept ahead = tt
-takes_few octets lines before left after left_before (Some rest) result told coming n outcome kept ahead =
-    let o = told_outcome before left after left_before (Some rest) result told outcome in
+pub takes_few : (octets : List ℕ) (lines : ℕ) (before : List ℕ) (had : Bool) (left : List ℕ) (after : LineReaderState) (left_before left_after : Option (List ℕ))
+    (result : Result LineTaken TraceStop) → left_before ≡ Some left → (had ≡ true → left ≡ []) → behind_lines lines octets ≡ before ++ left
+    → NextLine before had left_before after left_after result → TellsOutcome before had left_before after left_after result
+    → length after.kept ≤ line_limit → length after.ahead ≤ ahead_limit → IfSome left_after (TakesFew octets lines)
+takes_few octets lines before had left after left_before None result told none coming n o kept ahead = tt
+takes_few octets lines before had left after left_before (Some rest) result told none coming n outcome kept ahead =
+    let o = told_outcome before had left after left_before (Some rest) result told none n outcome in
     let same : o.0 ≡ rest = let e = o.1 in cc in
     let behind : behind_lines (lines + 1) octets ≡ behind_line (before ++ left) = behind_one lines (lines + 1) octets refl ∙ ap behind_line coming in
     omega (
       arith,
       ap length behind,
-      few_told (before ++ left) after left_before rest before result n
+      few_told (before ++ left) after had left_before rest before result n
           (subst (λ (t : List ℕ). Outcome (before ++ left) result after (pending after ++ t)) same o.2) kept ahead,
     )

@@ -1,5 +1,5 @@
 -- A line taken from the octets ahead, or by reads.
-use Rattle.std.proofs.Common.{◌≡◌, ℕ, List, [], Option, Ok, Err, refl, sym, ◌∙◌, append-nil, arith}
+use Rattle.std.proofs.Common.{◌≡◌, ◌≢◌, ℕ, Bool, true, false, List, [], ◌∷◌, ◌++◌, Option, Some, Result, Ok, Err, inl, inr, refl, sym, ap, subst, ◌∙◌, append-nil, arith}
 use Rattle.std.proofs.KnownBytes.{Consumes-nil}
 use Rattle.tte_io.specs.NextLine.{KeepsLine, NextLine}
 use Rattle.tte_io.specs.ReaderState.{LineReaderState, pending}
@@ -7,63 +7,168 @@ use Rattle.tte_io.specs.declared.lines.LineTaken.{LineTaken}
 use Rattle.tte_io.specs.declared.lines.LineTaken.TheVariants as taken
 
 -- what was found is found whatever errors there are
-pub found_over : {E F : Type 0} (before : List ℕ) (left : Option (List ℕ)) (after : LineReaderState) (left_after : Option (List ℕ)) (found : LineTaken)
-    → NextLine {E = E} before left after left_after (Ok found) → NextLine {E = F} before left after left_after (Ok found)
-found_over before left after left_after taken.Whole n = record {
+pub found_over : {E F : Type 0} (before : List ℕ) (had : Bool) (left : Option (List ℕ)) (after : LineReaderState) (left_after : Option (List ℕ)) (found : LineTaken)
+    → NextLine {E = E} before had left after left_after (Ok found) → NextLine {E = F} before had left after left_after (Ok found)
+found_over before had left after left_after taken.Whole n = record {
   earlier = n.earlier;
   last = n.last;
   consumed = n.consumed;
   last_size = n.last_size;
   needed = n.needed;
+  ends = n.ends;
   given = n.given;
   nothing_lost = n.nothing_lost;
   answer = n.answer;
 }
-found_over before left after left_after taken.Long n = record {
+found_over before had left after left_after taken.Long n = record {
   earlier = n.earlier;
   last = n.last;
   consumed = n.consumed;
   last_size = n.last_size;
   needed = n.needed;
+  ends = n.ends;
   given = n.given;
   nothing_lost = n.nothing_lost;
   answer = n.answer;
 }
-found_over before left after left_after taken.End n = record {
+found_over before had left after left_after taken.End n = record {
   earlier = n.earlier;
   last = n.last;
   consumed = n.consumed;
   last_size = n.last_size;
   needed = n.needed;
+  ends = n.ends;
   given = n.given;
   nothing_lost = n.nothing_lost;
   answer = n.answer;
 }
 
 -- so is what stays where a read failed
-pub failed_over : {E F : Type 0} (before : List ℕ) (left : Option (List ℕ)) (after : LineReaderState) (left_after : Option (List ℕ)) (e : E) (f : F)
-    → NextLine before left after left_after (Err e) → NextLine before left after left_after (Err f)
-failed_over before left after left_after e f n = record {
+pub failed_over : {E F : Type 0} (before : List ℕ) (had : Bool) (left : Option (List ℕ)) (after : LineReaderState) (left_after : Option (List ℕ)) (e : E) (f : F)
+    → NextLine before had left after left_after (Err e) → NextLine before had left after left_after (Err f)
+failed_over before had left after left_after e f n = record {
   earlier = n.earlier;
   last = n.last;
   consumed = n.consumed;
   last_size = n.last_size;
   needed = n.needed;
+  ends = n.ends;
   given = n.given;
   nothing_lost = n.nothing_lost;
   answer = n.answer;
 }
 
 -- where no line was found ahead and nothing is read, the unfinished line stays
-pub unread : {F : Type 0} (before : List ℕ) (left : Option (List ℕ)) (after : LineReaderState) (f : F) → pending after ≡ before → KeepsLine [] after
-    → NextLine before left after left (Err f)
-unread before left after f same keeps = record {
+pub unread : {F : Type 0} (before : List ℕ) (had : Bool) (left : Option (List ℕ)) (after : LineReaderState) (f : F) → had ≡ false → pending after ≡ before → KeepsLine [] after
+    → NextLine before had left after left (Err f)
+unread before had left after f unended same keeps = record {
   earlier = [];
   last = [];
   consumed = Consumes-nil left;
   last_size = omega arith;
   needed = λ some. absurd (some refl);
+  ends = λ is. absurd cc;
   given = [];
   nothing_lost = append-nil before ∙ sym same;
   answer = keeps;
+}
+
+-- where no line was found ahead, a line that is taken then is taken from what was pending before
+pub unmoved : {E : Type 0} (before : List ℕ) (had : Bool) (between : LineReaderState) (left : Option (List ℕ)) (after : LineReaderState)
+    (left_after : Option (List ℕ)) (result : Result LineTaken E) → (had ≡ false) × (pending between ≡ before) × KeepsLine [] between
+    → NextLine (pending between) between.ended left after left_after result → NextLine before had left after left_after result
+unmoved {E} before had between left after left_after result none n =
+    let same : between.ended ≡ had = ap (λ (r : LineReaderState). r.ended) none.2.reader ∙ sym none.0 in
+    let next = subst (λ (b : Bool). NextLine {E = E} (pending between) b left after left_after result) same n in
+    subst (λ (b : List ℕ). NextLine {E = E} b had left after left_after result) none.1 next
+
+-- where a source that tells its octets was found at its end, none is left in it
+pub none_left_after : {E : Type 0} (before : List ℕ) (had : Bool) (left : List ℕ) (after : LineReaderState) (rest : List ℕ) (result : Result LineTaken E)
+    → (had ≡ true → left ≡ []) → NextLine before had (Some left) after (Some rest) result → after.ended ≡ true → rest ≡ []
+none_left_after before had left after rest (Ok taken.Whole) none n is =
+    elim n.answer.ended [ inl e ↦ let on = e.1 in absurd cc | inr e ↦ e.4 ]
+none_left_after before had left after rest (Ok taken.Long) none n is =
+    let on : after.ended ≡ false = ap (λ (r : LineReaderState). r.ended) n.answer.reader in absurd cc
+none_left_after before had left after rest (Err e) none n is =
+    let on : after.ended ≡ false = ap (λ (r : LineReaderState). r.ended) n.answer.reader in absurd cc
+none_left_after before had left after rest (Ok taken.End) none n is =
+    elim n.answer.end [
+      | inl e ↦ behind_none (n.earlier ++ n.last) rest (sym n.consumed ∙ none e)
+      | inr e ↦ e
+    ]
+  where
+    behind_none : (xs ys : List ℕ) → xs ++ ys ≡ [] → ys ≡ []
+    behind_none [] ys e = e
+    behind_none (x ∷ xs) ys e = absurd cc
+
+-- where nothing came behind the end, and where it is found none is left
+pub ends_so : {E : Type 0} (before : List ℕ) (had : Bool) (left : Option (List ℕ)) (after : LineReaderState) (left_after : Option (List ℕ))
+    (result : Result LineTaken E) → (n : NextLine before had left after left_after result) → had ≡ true
+    → (n.earlier ++ n.last ≡ []) × (after.ended ≡ true)
+ends_so before had left after left_after (Ok taken.Whole) n is = absurd (n.ends is)
+ends_so before had left after left_after (Ok taken.Long) n is = absurd (n.ends is)
+ends_so before had left after left_after (Err e) n is = absurd (n.ends is)
+ends_so {E} before had left after left_after (Ok taken.End) n is =
+    (none_of (n.earlier ++ n.last) (λ some. let on = (n.needed some).0 in cc), ap (λ (r : LineReaderState). r.ended) n.answer.reader)
+  where
+    none_of : (xs : List ℕ) → (xs ≢ [] → ⊥) → xs ≡ []
+    none_of [] h = refl
+    none_of (x ∷ xs) h = absurd (h (λ e. cc))
+
+-- a source that had told what came, and then these
+pub as_told : {E : Type 0} (before : List ℕ) (had : Bool) (left : Option (List ℕ)) (after : LineReaderState) (left_after : Option (List ℕ))
+    (result : Result LineTaken E) (n : NextLine before had left after left_after result) (rest : List ℕ) → (after.ended ≡ true → rest ≡ [])
+    → NextLine before had (Some ((n.earlier ++ n.last) ++ rest)) after (Some rest) result
+as_told before had left after left_after (Ok taken.Whole) n rest none = record {
+  earlier = n.earlier;
+  last = n.last;
+  consumed = refl;
+  last_size = n.last_size;
+  needed = n.needed;
+  ends = n.ends;
+  given = n.given;
+  nothing_lost = n.nothing_lost;
+  answer = record {
+    text = n.answer.text;
+    line = n.answer.line;
+    ended = elim n.answer.ended [ inl e ↦ inl e | inr e ↦ inr (e.0, e.1, e.2, e.3, none e.3) ];
+    reader = n.answer.reader;
+  };
+}
+as_told before had left after left_after (Ok taken.Long) n rest none = record {
+  earlier = n.earlier;
+  last = n.last;
+  consumed = refl;
+  last_size = n.last_size;
+  needed = n.needed;
+  ends = n.ends;
+  given = n.given;
+  nothing_lost = n.nothing_lost;
+  answer = n.answer;
+}
+as_told before had left after left_after (Ok taken.End) n rest none = record {
+  earlier = n.earlier;
+  last = n.last;
+  consumed = refl;
+  last_size = n.last_size;
+  needed = n.needed;
+  ends = n.ends;
+  given = n.given;
+  nothing_lost = n.nothing_lost;
+  answer = record {
+    none = n.answer.none;
+    reader = n.answer.reader;
+    end = inr (none (ap (λ (r : LineReaderState). r.ended) n.answer.reader));
+  };
+}
+as_told before had left after left_after (Err e) n rest none = record {
+  earlier = n.earlier;
+  last = n.last;
+  consumed = refl;
+  last_size = n.last_size;
+  needed = n.needed;
+  ends = n.ends;
+  given = n.given;
+  nothing_lost = n.nothing_lost;
+  answer = n.answer;
 }

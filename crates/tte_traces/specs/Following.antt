@@ -1,5 +1,5 @@
 -- How a trace that is taken line by line stands to the events that it gave.
-use Rattle.std.specs.Prelude.{◌≡◌, ◌≢◌, ◌↔◌, ℕ, ◌+◌, ◌^◌, ◌<◌, ◌≤◌, true, List, [], ◌∷◌, ◌++◌, length, Option, Some, None, IfSome, Result, Ok, Err}
+use Rattle.std.specs.Prelude.{◌≡◌, ◌≢◌, ◌↔◌, ℕ, ◌+◌, ◌^◌, ◌<◌, ◌≤◌, true, false, List, [], ◌∷◌, ◌++◌, length, Option, Some, None, IfSome, Result, Ok, Err}
 use Rattle.fault_hypothesis.specs.Watching.{Watches}
 use Rattle.net_plan.specs.declared.event.Event.{Event}
 use Rattle.net_plan.specs.declared.network.Network.{Network}
@@ -11,7 +11,7 @@ use Rattle.tte_io.specs.ReaderState.{LineReaderState, pending}
 use Rattle.tte_io.specs.declared.lines.LineTaken.{LineTaken}
 use Rattle.tte_io.specs.declared.lines.LineTaken.TheVariants as found
 use Rattle.exact_runs.specs.Records.{HaveEnded}
-use Rattle.tte_traces.specs.Lines.{AreAdmitted, IsAdmitted, IsFault, behind_lines}
+use Rattle.tte_traces.specs.Lines.{AreAdmitted, IsAdmitted, IsFault, StandWhole, behind_lines}
 use Rattle.tte_traces.specs.declared.fault.TraceFault.{TraceFault}
 use Rattle.tte_traces.specs.declared.fault.TraceStop.{TraceStop}
 use Rattle.tte_traces.specs.declared.fault.TraceStop.TheVariants as stops
@@ -26,12 +26,19 @@ pub record Follows (network : Network) (events : List Event) (trace : Trace) : T
   pub ended : (trace.ended ≡ true) ↔ HaveEnded events
 
 -- beside that, the events are those of the first lines of the octets, and the trace stands behind these lines,
--- where so many octets are left in its source
+-- where so many octets are left in its source; all of these lines have their LF, unless the source has ended
 pub record Reads (network : Network) (octets : List ℕ) (events : List Event) (trace : Trace)
     (left : List ℕ) : Type 0 where
   pub follows : Follows network events trace
   pub admitted : AreAdmitted network octets events
   pub coming : behind_lines (length events) octets ≡ pending trace.reader ++ left
+  pub none_left : trace.reader.ended ≡ true → left ≡ []
+  pub whole : trace.reader.ended ≡ false → StandWhole (length events) octets
+
+-- these octets came so far; and with any that may follow them, the events are those of the first lines of them all
+abbrev pub ReadsAny : Network → List ℕ → List Event → Trace → Type 0
+ReadsAny network came events trace =
+    (left : List ℕ) → (trace.reader.ended ≡ true → left ≡ []) → Reads network (came ++ left) events trace left
 
 -- the trace gives one more event
 pub record GivesEvent (network : Network) (before : List Event) (event : Event) (trace : Trace) : Type 0 where
@@ -48,14 +55,14 @@ GoesOn network events (Ok None) trace = HaveEnded events × Follows network even
 GoesOn network events (Err _) trace = Follows network events trace
 
 -- the same where the octets of the trace are told; after a failed read, or where nothing could be passed on before one,
--- no line stands whole in those taken behind the events' lines
+-- the events' lines stand whole, and no line does in the octets taken behind them
 abbrev pub ReadsOn : Network → List ℕ → List Event → Result (Option Event) TraceStop → Trace → List ℕ → Type 0
 ReadsOn network octets events (Ok (Some event)) trace left = Reads network octets (events ++ event ∷ []) trace left
 ReadsOn network octets events (Ok None) trace left = (behind_lines (length events) octets ≡ []) × HaveEnded events
 ReadsOn network octets events (Err stops.ReadFault) trace left =
-    Reads network octets events trace left × IsUnbroken (pending trace.reader)
+    Reads network octets events trace left × IsUnbroken (pending trace.reader) × StandWhole (length events) octets
 ReadsOn network octets events (Err stops.WriteFault) trace left =
-    Reads network octets events trace left × IsUnbroken (pending trace.reader)
+    Reads network octets events trace left × IsUnbroken (pending trace.reader) × StandWhole (length events) octets
 ReadsOn network octets events (Err (stops.Fault fault)) trace left =
     IsFault network events (behind_lines (length events) octets) fault
 
@@ -88,7 +95,16 @@ JudgesSo network events rest (Err stops.WriteFault) trace = ⊥
 abbrev pub IsRefused : TraceStop → Type 0
 IsRefused stop = (fault : TraceFault) × (stop ≡ stops.Fault fault)
 
--- a call for the next event takes it from the octets that are told, and takes few more
+-- more octets came; and with any that may follow them, the trace goes on so
+pub record ReadsMore (network : Network) (came : List ℕ) (events : List Event) (result : Result (Option Event) TraceStop)
+    (next : Trace) : Type 0 where
+  pub more : List ℕ
+  pub reads : (left : List ℕ) → (next.reader.ended ≡ true → left ≡ [])
+      → AreAdmitted network ((came ++ more) ++ left) events
+      × ReadsOn network ((came ++ more) ++ left) events result next left
+
+-- a call for the next event takes it from the octets that are told, and takes few more; where they are not told, it takes
+-- it from those that came
 pub record TakesNext (trace : Trace) (left : Option (List ℕ)) (result : Result (Option Event) TraceStop) (next : Trace)
     (after : Option (List ℕ)) : Type 0 where
   pub reads : (network : Network) (octets : List ℕ) (events : List Event) (ahead : List ℕ) → left ≡ Some ahead
@@ -97,3 +113,5 @@ pub record TakesNext (trace : Trace) (left : Option (List ℕ)) (result : Result
   pub few : (network : Network) (octets : List ℕ) (events : List Event) (ahead : List ℕ) → left ≡ Some ahead
       → Reads network octets events trace ahead
       → IfSome after (TakesFew octets (length events))
+  pub any : (network : Network) (came : List ℕ) (events : List Event) → ReadsAny network came events trace
+      → ReadsMore network came events result next

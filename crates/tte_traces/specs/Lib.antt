@@ -2,8 +2,11 @@ pub mod Lines
 pub mod Following
 pub mod FaultLine
 pub mod Refusing
-pub mod Records
-pub mod Streaming
-pub mod Steps
+pub mod Report
 pub mod Answer
+pub mod Streaming
+pub mod Taking
+pub mod Ending
+pub mod Along
 pub mod Safely
+pub mod Laws

@@ -4,7 +4,7 @@ use Rattle.net_plan.specs.declared.event.Event.{Event}
 use Rattle.net_plan.specs.declared.network.Network.{Network}
 use Rattle.run_law.specs.scenario.Hypothesis.{IsWithinHypothesis, IsOutsideBy}
 use Rattle.trace_text.specs.EventReading.{event_read}
-use Rattle.tte_io.specs.Line.{line_limit, first_line, behind_line}
+use Rattle.tte_io.specs.Line.{lf, line_limit, first_line, behind_line}
 use Rattle.tte_traces.specs.declared.fault.TraceFault.{TraceFault}
 use Rattle.tte_traces.specs.declared.fault.TraceFault.TheVariants as faults
 use Rattle.exact_runs.specs.Records.{HaveEnded}
@@ -13,6 +13,11 @@ use Rattle.exact_runs.specs.Records.{HaveEnded}
 abbrev pub behind_lines : ℕ → List ℕ → List ℕ
 behind_lines zero octets = octets
 behind_lines (suc n) octets = behind_line (behind_lines n octets)
+
+-- so many first lines of the octets stand whole, each with its LF
+abbrev pub StandWhole : ℕ → List ℕ → Type 0
+StandWhole zero octets = Unit {0}
+StandWhole (suc n) octets = (front : List ℕ) × (octets ≡ front ++ lf ∷ behind_lines (suc n) octets)
 
 -- there is a further line, of a number below 2^32, and the events before it have no end
 pub record IsOpen (before : List Event) (rest : List ℕ) : Type 0 where

@@ -3,15 +3,15 @@ use Rattle.std.specs.Prelude.{◌≡◌, ℕ, List, ◌++◌, length, Option, So
 use Rattle.std.specs.Io.KnownBytes.{Appends}
 use Rattle.net_plan.specs.declared.event.Event.{Event}
 use Rattle.net_plan.specs.declared.network.Network.{Network}
-use Rattle.report_text.specs.NoteLine.{report_of}
 use Rattle.run_law.specs.declared.note.Note.{Note}
 use Rattle.tte_io.specs.Line.{IsUnbroken}
 use Rattle.tte_forms.specs.networks.Accepting.{MeansAccepted}
 use Rattle.tte_forms.specs.Answering.{ForOctets}
+use Rattle.tte_traces.specs.Answer.{LinesOf, report_lines}
 use Rattle.tte_traces.specs.Following.{TakesFew}
 use Rattle.tte_forms.specs.Putting.{Shown, IsPassedOn, PutsLines}
 use Rattle.exact_runs.specs.Records.{AreRecordsSoFar}
-use Rattle.tte_traces.specs.Lines.{AreAdmitted, behind_lines}
+use Rattle.tte_traces.specs.Lines.{AreAdmitted, StandWhole, behind_lines}
 
 -- the fact holds for the octets of a trace and for those that were left of it, where the source tells them
 abbrev pub ForTrace : Option (List ℕ) → Option (List ℕ) → (List ℕ → List ℕ → Type 0) → Type 0
@@ -23,29 +23,30 @@ ForTrace (Some octets) (Some left) P = P octets left
 abbrev pub WritesSome : Shown → Shown → Type 0
 WritesSome old new = (octets : List ℕ) × Appends old.written new.written octets
 
--- the records of the first events were put, and perhaps more; and behind the lines of these events and the next line no
--- more octets were taken than are read ahead
-pub record TakesLittle (network : Network) (octets left : List ℕ) (old new : Shown) : Type 0 where
+-- the lines of the run so far under the first events were put, and perhaps more; and behind the trace's lines of these
+-- events and the next one no more octets were taken than are read ahead
+pub record TakesLittle (lines : LinesOf) (network : Network) (octets left : List ℕ) (old new : Shown) : Type 0 where
   pub events : List Event
   pub admitted : AreAdmitted network octets events
   pub notes : List Note
   pub records : AreRecordsSoFar network events notes
   pub between : Shown
-  pub puts : PutsLines (report_of network notes) old between
+  pub puts : PutsLines (lines network events notes) old between
   pub more : WritesSome between new
   pub few : TakesFew octets (length events) left
 
--- the octets taken are the lines of the first events and then a part of a line; and what was put are the records up to
--- that of the last of these events
-pub record StopsBehindLines (network : Network) (octets left : List ℕ) (old new : Shown) : Type 0 where
+-- the octets taken are the trace's lines of the first events, each with its LF, and then a part of a line; and what was
+-- put are the lines of the run up to the record of the last of these events
+pub record StopsBehindLines (lines : LinesOf) (network : Network) (octets left : List ℕ) (old new : Shown) : Type 0 where
   pub events : List Event
   pub admitted : AreAdmitted network octets events
   pub part : List ℕ
   pub unbroken : IsUnbroken part
   pub taken : behind_lines (length events) octets ≡ part ++ left
+  pub whole : StandWhole (length events) octets
   pub notes : List Note
   pub records : AreRecordsSoFar network events notes
-  pub puts : PutsLines (report_of network notes) old new
+  pub puts : PutsLines (lines network events notes) old new
 
 -- the fact holds for an accepted network that the octets of its file mean
 abbrev pub ForAccepted : Option (List ℕ) → (Network → Type 0) → Type 0
@@ -53,12 +54,19 @@ ForAccepted left P = (network : Network) × ForOctets left (λ octets. MeansAcce
 
 -- a read of the trace of an accepted network failed: all that was put was passed on, and it stops behind the lines that
 -- were taken
-abbrev pub RunStops : Option (List ℕ) → Option (List ℕ) → Option (List ℕ) → Shown → Shown → Type 0
-RunStops first second left old new =
-    IsPassedOn new
-    × ForAccepted first (λ network. ForTrace second left (λ octets rest. StopsBehindLines network octets rest old new))
+abbrev pub StopsReading : LinesOf → Option (List ℕ) → Option (List ℕ) → Option (List ℕ) → Shown → Shown → Type 0
+StopsReading lines first second left old new =
+    IsPassedOn new × ForAccepted first (λ network. ForTrace second left (λ octets rest.
+    StopsBehindLines lines network octets rest old new))
 
 -- little was taken of the trace of an accepted network
+abbrev pub ReadsLittle : LinesOf → Option (List ℕ) → Option (List ℕ) → Option (List ℕ) → Shown → Shown → Type 0
+ReadsLittle lines first second left old new =
+    ForAccepted first (λ network. ForTrace second left (λ octets rest. TakesLittle lines network octets rest old new))
+
+-- the same of `run`
+abbrev pub RunStops : Option (List ℕ) → Option (List ℕ) → Option (List ℕ) → Shown → Shown → Type 0
+RunStops first second left old new = StopsReading report_lines first second left old new
+
 abbrev pub RunTakesLittle : Option (List ℕ) → Option (List ℕ) → Option (List ℕ) → Shown → Shown → Type 0
-RunTakesLittle first second left old new =
-    ForAccepted first (λ network. ForTrace second left (λ octets rest. TakesLittle network octets rest old new))
+RunTakesLittle first second left old new = ReadsLittle report_lines first second left old new

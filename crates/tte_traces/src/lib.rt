@@ -1,15 +1,18 @@
 //! The run of a network under a trace: its lines, the records that are put, and why it stops.
 #![tactic(auto)]
 
+mod driving;
 mod fault;
 mod fault_line;
+mod laws;
 mod lines;
 mod reading;
-mod records;
 mod refusing;
+mod report;
 mod running;
-mod steps;
 
+pub use driving::follow_trace;
 pub use fault::{TraceFault, TraceStop};
+pub use laws::run_answers_exist;
 pub use lines::Trace;
 pub use running::run_trace;

@@ -1,4 +1,4 @@
-ghost use Rattle.std.specs.Prelude.{◌≡◌, ◌≢◌, ◌↔◌, ◌<◌, ◌≤◌, ℕ, List, [], ◌∷◌, ◌++◌, length, Some, Ok, Err, IfErr, IfOk, IfSome, IsNone, IsSome, IsTrue, MatchOption, MatchResult, OnOk};
+ghost use Rattle.std.specs.Prelude.{◌≡◌, ◌≢◌, ◌↔◌, ◌<◌, ◌≤◌, ◌-◌, ◌^◌, ℕ, List, [], ◌∷◌, ◌++◌, length, Some, Ok, Err, IfErr, IfOk, IfSome, IsNone, IsSome, IsTrue, MatchOption, MatchResult, OnOk};
 ghost use Rattle.net_plan.specs.Ranges.{IsInRange};
 ghost use Rattle.net_plan.specs.declared.event.Event.{Event as EventValue};
 ghost use Rattle.net_plan.specs.declared.network.Network.{Network as NetworkValue};
@@ -8,6 +8,7 @@ ghost use Rattle.tte_forms.specs.Faults.{PutFailed, ReadFailed};
 ghost use Rattle.tte_forms.specs.Putting.{IsPassedOn, Over, PutsNone, shown_by};
 ghost use Rattle.tte_traces.specs.Following.{Follows, GoesOn, IsFound, IsRefused, JudgesSo, Reads, TakesNext};
 ghost use Rattle.tte_traces.specs.Lines.{HasEvent, IsAdmitted, IsFault, IsOpen};
+ghost use Rattle.tte_traces.specs.Taking.{EndedBehind, GaveEvents, StoppedBehind};
 
 use crate::fault::{TraceFault, TraceStop};
 use crate::reading::next_line;
@@ -16,6 +17,7 @@ use net_plan::{Event, Network, What};
 use schedule_tables::Accepted;
 use trace_text::line;
 use tte_io::{LineReader, LineTaken, Sink, Source};
+use world_drive::Events;
 
 /// A trace that is taken line by line: each line's event is admitted by the fault hypothesis, given
 /// those before it, or the trace is refused.
@@ -155,5 +157,19 @@ impl<'a> Trace<'a> {
         self.lines += 1;
         self.ended = matches!(event.what, What::End);
         Ok(Some(event))
+    }
+}
+
+impl<'a, B: Source, K: Sink> Events<B, K, TraceStop> for Trace<'a> {
+    ghost gave = { λ network first origin events now it. GaveEvents B.Source network first events now it };
+
+    ghost ended = { λ network first origin events now it. EndedBehind B.Source network first events now };
+
+    ghost stopped = { λ network first origin events stop now it before after. StoppedBehind B.Source K.Sink network first events stop now it before after };
+
+    ghost left = { λ it. 2 ^ 32 - it.lines };
+
+    fn next_event(&mut self, from: &mut B, out: &mut K) -> Result<Option<Event>, TraceStop> {
+        self.next_event(from, out)
     }
 }

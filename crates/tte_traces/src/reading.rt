@@ -18,8 +18,10 @@ pub(crate) fn next_line<B: Source, K: Sink>(
     source: &mut B,
     out: &mut K,
 ) -> Result<LineTaken, TraceStop>
-    ensures next { NextLine (pending reader.old) (B.left source.old) reader.new (B.left source.new) result }
-    ensures told { TellsOutcome (pending reader.old) (B.left source.old) reader.new (B.left source.new) result }
+    ensures next { NextLine (pending reader.old) reader.old.ended (B.left source.old)
+        reader.new (B.left source.new) result }
+    ensures told { TellsOutcome (pending reader.old) reader.old.ended (B.left source.old)
+        reader.new (B.left source.new) result }
     ensures stop { IfErr result (λ stop. (stop ≡ TraceStop.ReadFault) ⊎ (stop ≡ TraceStop.WriteFault)) }
     ensures kept_bound { length reader.new.kept ≤ line_limit }
     ensures ahead_bound { length reader.new.ahead ≤ ahead_limit }

@@ -1,19 +1,19 @@
-ghost use Rattle.std.specs.Prelude.{◌≡◌, ◌⊎◌, IfSome};
+ghost use Rattle.std.specs.Prelude.{◌≡◌, ◌⊎◌};
 ghost use Rattle.tte_forms.specs.networks.Accepting.{IsNetworkAnswer};
-ghost use Rattle.tte_forms.specs.Answering.{ForOctets, GivesOne};
+ghost use Rattle.tte_forms.specs.Answering.{ForOctets, GivesAnswer};
 ghost use Rattle.tte_forms.specs.Faults.{HasCause, PutFailed, ReadFailed};
 ghost use Rattle.tte_forms.specs.Putting.{Over};
-ghost use Rattle.tte_traces.specs.Answer.{IsRunAnswer, IsRunStatus};
+ghost use Rattle.tte_traces.specs.Answer.{IsRunAnswer, IsRunStatus, report_lines};
 ghost use Rattle.tte_traces.specs.Safely.{WritesSafely};
-ghost use Rattle.tte_traces.specs.Steps.{RunEnds};
+ghost use Rattle.tte_traces.specs.Ending.{RunEnds};
 ghost use Rattle.tte_traces.specs.Streaming.{RunStops, RunTakesLittle};
 
-use crate::steps::Running;
-use schedule_checker::refusal_is_one;
+use crate::driving::follow_trace;
+use crate::report::Report;
 use schedule_tables::Accepted;
 use std::alloc::Global;
 use tte_forms::{Status, accept, put_no_network};
-use tte_io::{Sink, Source};
+use tte_io::{LineText, Sink, Source};
 
 /// Runs the network of the first file under the trace of the second. It takes the trace line by
 /// line, and writes each record as soon as it is known.
@@ -24,8 +24,8 @@ pub fn run_trace<A: Source, B: Source, K: Sink>(
     out: &mut K,
 ) -> Status
     ensures general { Over K.Sink out.old out.new (λ old new.
-        ForOctets (A.left first.old) (λ octets. IfSome (B.left second.old) (λ trace.
-        GivesOne (IsNetworkAnswer (IsRunAnswer trace) octets) result old new))) }
+        ForOctets (A.left first.old) (λ octets. ForOctets (B.left second.old) (λ trace.
+        GivesAnswer (IsNetworkAnswer (IsRunAnswer trace) octets) result old new))) }
     ensures safe { Over K.Sink out.old out.new (WritesSafely (A.left first.old) (B.left second.old) result) }
     ensures statuses { IsRunStatus result }
     // Where the first source failed, nothing was written.
@@ -37,7 +37,6 @@ pub fn run_trace<A: Source, B: Source, K: Sink>(
     ensures little { (second.new ≡ second.old)
         ⊎ Over K.Sink out.old out.new (RunTakesLittle (A.left first.old) (B.left second.old) (B.left second.new)) }
 {
-    refusal_is_one();
     match accept(alloc, first) {
         Ok(accepted) => run_network(alloc, &accepted, second, out),
         Err(cause) => put_no_network(cause, out),
@@ -50,13 +49,13 @@ fn run_network<B: Source, K: Sink>(
     second: &mut B,
     out: &mut K,
 ) -> Status
-    ensures ends { Over K.Sink out.old out.new (RunEnds (λ trace. IsRunAnswer trace accepted.now)
+    ensures ends { Over K.Sink out.old out.new (RunEnds (λ trace. IsRunAnswer trace accepted.now) report_lines
         accepted.now (B.left second.old) (B.left second.new) result) }
     ensures statuses { IsRunStatus result }
     ensures cause { HasCause result (ReadFailed B.Source second.old second.new) (PutFailed K.Sink out.old out.new) }
 {
-    match Running::begin(alloc, accepted) {
-        Ok(mut running) => running.finish(second, out),
-        Err(_) => Status::OutOfMemory,
-    }
+    let mut report = Report {
+        text: LineText::new(),
+    };
+    follow_trace(alloc, accepted, second, &mut report, out)
 }

@@ -5,7 +5,8 @@ use Rattle.net_plan.specs.declared.event.Event.{Event as EventValue}
 use Rattle.run_law.specs.declared.note.Note.{Note as NoteValue}
 use Rattle.run_law.specs.records.Happenings.{happenings}
 use Rattle.tte_storms.specs.Answer.{exact_scenario}
-use Rattle.tte_storms.specs.Spreads.{AreEnds, IsCompleteExact}
+use Rattle.tte_storms.specs.Spreads.{AreEnds}
+use Rattle.world_drive.specs.Observing.{IsCompleteExact}
 use Rattle.tte_units.specs.Amount.{amount}
 use Rattle.tte_storms.proofs.spreads.spread_at.Given as goal
 

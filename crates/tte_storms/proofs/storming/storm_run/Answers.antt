@@ -1,12 +1,15 @@
-use Rattle.tte_storms.proofs.Summed.{storm_accepted, storm_refused, storm_safely}
+use Rattle.tte_forms.proofs.networks.Answers.{answered_none}
 use Rattle.tte_forms.specs.Putting.{shown_by}
+use Rattle.tte_storms.proofs.Safely.{none_safely, storm_safely}
+use Rattle.tte_storms.proofs.Summed.{storm_accepted}
+use Rattle.tte_storms.specs.Answer.{IsStormAnswer}
 use Rattle.tte_storms.proofs.storming.storm_run.Goals as goal
 
 pub returns-in-Ok-clause-general : goal.returns-in-Ok-clause-general
 returns-in-Ok-clause-general g c =
     let shown = shown_by g.K.Sink in
     storm_accepted c.args.seed c.args.cycles (g.A.Source.left c.args.source.now) c.in-Ok.accepted c.run_storm.result (shown c.args.out.now)
-    (shown c.run_storm.new.out) c.requires.most c.in-Ok.ensures.accepted c.run_storm.ensures.ends
+    (shown c.run_storm.new.out) c.in-Ok.ensures.accepted c.run_storm.ensures.ends
 
 pub returns-in-Ok-clause-safe : goal.returns-in-Ok-clause-safe
 returns-in-Ok-clause-safe g c =
@@ -17,5 +20,11 @@ returns-in-Ok-clause-safe g c =
 pub returns-in-Err-clause-general : goal.returns-in-Err-clause-general
 returns-in-Err-clause-general g c =
     let shown = shown_by g.K.Sink in
-    storm_refused c.args.seed c.args.cycles c.refusal_is_one.ensures (g.A.Source.left c.args.source.now) c.in-Err.cause c.put_no_network.result
-    (shown c.args.out.now) (shown c.put_no_network.new.out) c.in-Err.ensures.none c.put_no_network.ensures.gives
+    answered_none (IsStormAnswer c.args.seed c.args.cycles) (g.A.Source.left c.args.source.now) c.in-Err.cause c.put_no_network.result
+    (shown c.args.out.now) (shown c.put_no_network.new.out) c.in-Err.ensures.none c.put_no_network.ensures.gives c.put_no_network.ensures.unput
+
+pub returns-in-Err-clause-safe : goal.returns-in-Err-clause-safe
+returns-in-Err-clause-safe g c =
+    let shown = shown_by g.K.Sink in
+    none_safely c.args.seed c.args.cycles (g.A.Source.left c.args.source.now) c.in-Err.cause c.put_no_network.result (shown c.args.out.now)
+    (shown c.put_no_network.new.out) c.in-Err.ensures.none c.put_no_network.ensures.gives

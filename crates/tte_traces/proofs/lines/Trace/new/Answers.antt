@@ -1,4 +1,4 @@
-use Rattle.std.proofs.Common.{◌++◌, sym, ap}
+use Rattle.std.proofs.Common.{◌≡◌, ◌++◌, false, sym, ap}
 use Rattle.tte_io.specs.ReaderState.{LineReaderState, pending}
 use Rattle.tte_traces.proofs.Admitted.{admitted_none}
 use Rattle.tte_traces.proofs.Following.{none_followed}
@@ -12,4 +12,6 @@ returns-clause-reads c octets = record {
   follows = none_followed c.args.accepted c.new.result c.new-2.result c.new.ensures;
   admitted = admitted_none c.args.accepted.now octets;
   coming = ap (λ (r : LineReaderState). pending r ++ octets) (sym c.new-2.ensures);
+  none_left = λ is. let on : c.new-2.result.ended ≡ false = ap (λ (r : LineReaderState). r.ended) c.new-2.ensures in absurd cc;
+  whole = λ _. tt {0};
 }

@@ -1,0 +1,72 @@
+-- The events of a storm that were given, and what is told of their run at the end.
+use Rattle.std.specs.Prelude.{◌≡◌, ℕ, ◌≤◌, ◌≤ℤ◌, ◌⊎◌, List, All, length}
+use Rattle.drift_clock.specs.Segment.{fresh_segment, stepped_segment, segment_reading}
+use Rattle.exact_runs.specs.Records.{AreAllRecords}
+use Rattle.fault_hypothesis.specs.Watching.{Watches}
+use Rattle.net_plan.specs.Belonging.{IsOfNetwork}
+use Rattle.net_plan.specs.declared.event.Event.{Event}
+use Rattle.net_plan.specs.declared.network.Network.{Network}
+use Rattle.run_law.specs.declared.note.Note.{Note}
+use Rattle.run_law.specs.law.FirstLaws.{IsEventInRange}
+use Rattle.safe_runs.specs.Headline.{IsWholeRun}
+use Rattle.storm.specs.Events.{AreStormEvents, IsStorm}
+use Rattle.storm_summary.specs.Counting.{counts_of}
+use Rattle.storm_summary.specs.Lines.{lines_of}
+use Rattle.storm_summary.specs.declared.summary.Summary.{Summary}
+use Rattle.tte_forms.specs.Answering.{Gives}
+use Rattle.tte_forms.specs.Putting.{PutsNone, Shown}
+use Rattle.tte_forms.specs.declared.status.Status.{Status}
+use Rattle.tte_forms.specs.declared.status.Status.TheVariants.{Done, OutOfMemory}
+use Rattle.tte_storms.specs.Answer.{IsWidest}
+use Rattle.tte_storms.specs.declared.counting.Seen.{Seen}
+use Rattle.tte_storms.specs.declared.events.StormEvents.{StormEvents}
+use Rattle.tte_units.specs.declared.units.Units.{Units}
+
+-- these events, the first of the storm, were given and admitted
+pub record IsStormTo (network : Network) (seed cycles : ℕ) (events : List Event) (storm : StormEvents) : Type 0 where
+  pub over : storm.accepted.now ≡ network
+  pub least : 1 ≤ cycles
+  pub most : cycles ≤ 100000
+  pub watches : Watches network storm.watch events
+  pub each : AreStormEvents network seed cycles events
+  pub seed_is : storm.storm.seed ≡ seed
+  pub cycles_is : storm.storm.cycles ≡ cycles
+  pub given_is : storm.storm.given ≡ length events
+
+-- all events of the storm have befallen the network, and all records of the run are seen
+pub record HasStormed (network : Network) (seed cycles : ℕ) (seen : Seen) : Type 0 where
+  pub events : List Event
+  pub storm : IsStorm network seed cycles events
+  pub range : All IsEventInRange events
+  pub of_network : All (λ e. IsOfNetwork network e.what) events
+  pub notes : List Note
+  pub records : AreAllRecords network events notes
+  pub tallied : seen.tally ≡ counts_of notes
+  pub widest : IsWidest network events notes (record { 0 = seen.spread })
+
+-- the summary is that of the run of the network under the storm, up to its end; it goes well up to there, and local
+-- clocks are seen at most the precision apart
+pub record Summarises (network : Network) (seed cycles : ℕ) (summary : Summary) : Type 0 where
+  pub events : List Event
+  pub storm : IsStorm network seed cycles events
+  pub notes : List Note
+  pub records : AreAllRecords network events notes
+  pub run : IsWholeRun fresh_segment stepped_segment segment_reading network events notes
+  pub spread : Units
+  pub widest : IsWidest network events notes spread
+  pub within : spread.0 ≤ℤ network.precision.0
+  pub is : summary ≡ record {
+    seed = seed;
+    cycles = cycles;
+    counts = counts_of notes;
+    spread = spread;
+    precision = network.precision;
+  }
+
+-- the summary was given and passed on, or the first lines of it were put until writing failed; or memory ran out before
+-- any was put
+abbrev pub EndsStorm : Network → ℕ → ℕ → Status → Shown → Shown → Type 0
+EndsStorm network seed cycles status old new =
+    ((summary : Summary) × Summarises network seed cycles summary
+    × Gives (record { status = Done; lines = lines_of summary }) status old new)
+    ⊎ ((status ≡ OutOfMemory) × PutsNone old new)

@@ -1,0 +1,53 @@
+ghost use Rattle.std.specs.Prelude.{◌≡◌, ◌≤◌, ◌+◌, ◌-◌, ◌*◌, [], length};
+ghost use Rattle.tte_storms.specs.Storms.{IsStormTo};
+
+use fault_hypothesis::Watch;
+use net_plan::Event;
+use schedule_tables::Accepted;
+use storm::Storm;
+use tte_io::Sink;
+use world_drive::Events;
+
+/// The events of a storm, each admitted by the fault hypothesis.
+#[derive(Drop)]
+pub(crate) struct StormEvents<'a> {
+    accepted: &'a Accepted,
+    storm: Storm,
+    /// The watch that admitted the events so far.
+    watch: Watch<'a>,
+}
+
+impl<'a> StormEvents<'a> {
+    /// The storm of the seed over 1 to 100,000 cycles, of which no event was given.
+    pub(crate) fn new(accepted: &'a Accepted, seed: u64, cycles: u32) -> StormEvents<'a>
+        requires least { 1 ≤ cycles }
+        requires most { cycles ≤ 100000 }
+        ensures { IsStormTo accepted.now seed cycles [] result }
+    {
+        StormEvents {
+            accepted,
+            storm: Storm::new(seed, cycles),
+            watch: Watch::new(accepted),
+        }
+    }
+}
+
+impl<'a, K: Sink> Events<(), K, ()> for StormEvents<'a> {
+    ghost gave = { λ network first origin events from it. IsStormTo network origin.storm.seed origin.storm.cycles events it };
+
+    ghost ended = { λ network first origin events from it. IsStormTo network origin.storm.seed origin.storm.cycles events it
+        × (length events ≡ 8 * origin.storm.cycles + 1) };
+
+    ghost stopped = { λ network first origin events stop from it before after. ⊥ };
+
+    ghost left = { λ it. 8 * it.storm.cycles + 1 - it.storm.given };
+
+    fn next_event(&mut self, _from: &mut (), _out: &mut K) -> Result<Option<Event>, ()> {
+        let Some(event) = self.storm.next_event(self.accepted, &self.watch) else {
+            return Ok(None);
+        };
+        // It is within the hypothesis, as each event of a storm is.
+        let _admitted = self.watch.admit(&event);
+        Ok(Some(event))
+    }
+}

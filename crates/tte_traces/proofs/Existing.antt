@@ -1,0 +1,68 @@
+-- There is an answer for each trace.
+use Rattle.std.proofs.Common.{◌≡◌, ℕ, ◌+◌, List, [], ◌∷◌, ◌++◌, length, refl, inl, inr}
+use Rattle.net_plan.specs.Ranges.{IsInRange}
+use Rattle.net_plan.specs.declared.event.Event.{Event}
+use Rattle.net_plan.specs.declared.network.Network.{Network}
+use Rattle.run_law.specs.declared.note.Note.{Note}
+use Rattle.run_existence.proofs.Existence.{runs_exist_to_each_mark}
+use Rattle.drift_world.specs.Running.{behind_events, last_time}
+use Rattle.exact_runs.proofs.Events.{ended_at}
+use Rattle.exact_runs.specs.Records.{AreAllRecords, AreRecordsBefore, HaveEnded, clock_reading}
+use Rattle.tte_forms.specs.Answering.{Answer}
+use Rattle.tte_forms.specs.declared.status.Status.TheVariants.{Done}
+use Rattle.tte_traces.specs.Answer.{AnswersAll, AnswersFault, IsTraceAnswer, LinesOf, report_lines}
+use Rattle.tte_traces.specs.FaultLine.{fault_lines, fault_status}
+use Rattle.tte_traces.specs.Lines.{IsFault, behind_lines}
+use Rattle.tte_traces.specs.declared.fault.TraceFault.{TraceFault}
+use Rattle.tte_units.specs.Amount.{amount}
+use Rattle.tte_traces.proofs.Splits.{split}
+use Rattle.tte_traces.specs.Laws.{RunAnswersExist}
+
+-- ---- records
+
+pub records_before : (network : Network) (events : List Event) (mark : List ℕ) → IsInRange network
+    → (notes : List Note) × AreRecordsBefore network events mark notes
+records_before network events mark range =
+    runs_exist_to_each_mark (record { network = network; reading = clock_reading network events; events = events }) mark range
+
+pub all_records : (network : Network) (events : List Event) → IsInRange network → HaveEnded events
+    → (notes : List Note) × AreAllRecords network events notes
+all_records network events range ended =
+    let end = ended_at events ended in
+    let run = records_before network events ((amount end.0 + 1) ∷ []) range in
+    (run.0, (end.0, end.1, run.1))
+
+-- ---- answers
+
+module _ (lines : LinesOf) where
+  whole : (network : Network) (octets : List ℕ) (events : List Event) → IsInRange network → HaveEnded events
+      → behind_lines (length events) octets ≡ [] → (a : Answer) × AnswersAll lines network octets events a
+  whole network octets events range ended none =
+      let run = all_records network events range ended in (
+        record { status = Done; lines = lines network events run.0 },
+        record { ended = ended; none_left = none; notes = run.0; records = run.1; answer = refl },
+      )
+
+  faulty : (network : Network) (octets : List ℕ) (events : List Event) (fault : TraceFault) → IsInRange network
+      → IsFault network events (behind_lines (length events) octets) fault → (a : Answer) × AnswersFault lines network octets events a
+  faulty network octets events fault range is =
+      let run = records_before network events (behind_events (amount (last_time events))) range in (
+        record { status = fault_status fault; lines = lines network events run.0 ++ fault_lines (length events + 1) fault },
+        record { fault = fault; is = is; notes = run.0; records = run.1; answer = refl },
+      )
+
+  -- of whatever lines of a run a command puts
+  pub trace_answers_exist : (network : Network) (octets : List ℕ) → IsInRange network → (a : Answer) × IsTraceAnswer lines octets network a
+  trace_answers_exist network octets range =
+      let at = split network octets in
+      elim at.stops [
+        | inl end ↦
+            (let a = whole network octets at.events range end.0 end.1 in
+            (a.0, record { events = at.events; admitted = at.admitted; is = inl a.1 }))
+        | inr fault ↦
+            (let a = faulty network octets at.events fault.0 range fault.1 in
+            (a.0, record { events = at.events; admitted = at.admitted; is = inr a.1 }))
+      ]
+
+pub run_answers_exist : RunAnswersExist
+run_answers_exist = trace_answers_exist report_lines

@@ -1,0 +1,83 @@
+-- The lines of a report put one after another.
+use Rattle.std.proofs.Common.{◌≡◌, ℕ, List, [], ◌∷◌, ◌++◌, Result, Ok, Err, inl, sym, subst}
+use Rattle.std.specs.Prelude.{IfErr, MatchResult, OnErr, OnOk}
+use Rattle.std.specs.Io.KnownBytes.{Appends}
+use Rattle.std.proofs.lemmas.List.{map-append}
+use Rattle.exact_runs.specs.Records.{clock_reading}
+use Rattle.exact_runs.specs.Worlds.{ExactWorld, StandsExact}
+use Rattle.net_plan.specs.declared.event.Event.{Event}
+use Rattle.net_plan.specs.declared.network.Network.{Network}
+use Rattle.report_text.specs.NoteLine.{note_line, report_of}
+use Rattle.report_text.specs.Ranges.{IsNoteOf}
+use Rattle.run_law.specs.declared.note.Note.{Note}
+use Rattle.tte_forms.proofs.Puts.{PutsLines-fails, PutsLines-more, PutsLines-none}
+use Rattle.tte_forms.specs.Putting.{PutFails, PutsLines}
+use Rattle.tte_io.specs.Faults.{Rose, next_count}
+use Rattle.tte_io.specs.Told.{AppendsFront}
+use Rattle.tte_io.specs.declared.ends.Sink.{Ghosts}
+use Rattle.tte_traces.proofs.OwnNotes.{note_of}
+use Rattle.tte_traces.specs.Report.{PutsReport, StopsReport, shown_as}
+use Rattle.world_drive.specs.Observing.{PutsFurther, Told, told_by}
+use Rattle.world_drive.specs.declared.observing.Cut.{Cut}
+use Rattle.world_drive.specs.declared.observing.Cut.TheVariants.{OutOfMemory, WriteFault}
+use Rattle.world_law.specs.source.Agreeing.{scenario}
+
+-- the record that a world gave last is the network's
+pub own_note : (network : Network) (events : List Event) (notes : List Note) (note : Note) (world : ExactWorld)
+    → StandsExact network world events (notes ++ note ∷ []) → IsNoteOf network note
+own_note network events notes note world stands =
+    note_of (scenario network (clock_reading network events) events) stands.is.mark notes note stands.is.coming stands.is.range stands.of_network stands.is.run
+    stands.is.known
+
+pub report_first : (network : Network) (told : Told) → PutsReport network [] told told
+report_first network told = PutsLines-none (shown_as told)
+
+report_one : (network : Network) (notes : List Note) (note : Note)
+    → report_of network notes ++ note_line network note ∷ [] ≡ report_of network (notes ++ note ∷ [])
+report_one network notes note = sym (map-append (note_line network) notes (note ∷ []))
+
+-- what comes of the put of a line
+pub record PutsNote {T K : Type 0} (sink : Ghosts K) (network : Network) (note : Note) (r : Result T Cut) (now new : K) : Type 0 where
+  pub all : OnOk r (Appends (sink.written now) (sink.written new) (note_line network note) × (sink.faults new ≡ sink.faults now))
+  pub front : OnErr r (AppendsFront (sink.written now) (sink.written new) (note_line network note) × Rose (sink.faults now) (sink.faults new))
+  pub counted : sink.puts new ≡ next_count (sink.puts now)
+  pub cut : IfErr r (λ cut. cut ≡ WriteFault)
+
+-- it was put
+pub report_more : {T K : Type 0} (sink : Ghosts K) (network : Network) (notes : List Note) (note : Note) (x : T) (old : Told) (now new : K)
+    → PutsReport network notes old (told_by sink now) → PutsNote {T = T} sink network note (Ok x) now new
+    → PutsReport network (notes ++ note ∷ []) old (told_by sink new)
+report_more sink network notes note x old now new p n =
+    subst (λ (ls : List (List ℕ)). PutsLines ls (shown_as old) (shown_as (told_by sink new))) (report_one network notes note)
+    (PutsLines-more (report_of network notes) (note_line network note) (shown_as old) (shown_as (told_by sink now)) (shown_as (told_by sink new)) p n.all.0 n.counted)
+
+-- its put failed
+pub report_fails : {T K : Type 0} (sink : Ghosts K) (network : Network) (notes : List Note) (note : Note) (e : Cut) (old : Told) (now new : K)
+    → PutsReport network notes old (told_by sink now) → PutsNote {T = T} sink network note (Err e) now new
+    → StopsReport network (notes ++ note ∷ []) e old (told_by sink new)
+report_fails sink network notes note OutOfMemory old now new p n = absurd (let is = n.cut in cc)
+report_fails sink network notes note WriteFault old now new p n =
+    inl (subst (λ (ls : List (List ℕ)). PutFails ls (shown_as old) (shown_as (told_by sink new))) (report_one network notes note)
+    (PutsLines-fails (report_of network notes) (note_line network note) [] (shown_as old) (shown_as (told_by sink now)) (shown_as (told_by sink new)) p
+    n.front.0 n.counted))
+
+pub report_goes : {T K : Type 0} (sink : Ghosts K) (network : Network) (notes : List Note) (note : Note) (r : Result T Cut) (old : Told) (now new : K)
+    → PutsReport network notes old (told_by sink now) → PutsNote sink network note r now new
+    → MatchResult r (λ _. PutsReport network (notes ++ note ∷ []) old (told_by sink new)) (λ cut. StopsReport network (notes ++ note ∷ []) cut old (told_by sink new))
+report_goes sink network notes note (Ok x) old now new p n = report_more sink network notes note x old now new p n
+report_goes sink network notes note (Err e) old now new p n = report_fails sink network notes note e old now new p n
+
+pub further_ok : {T U K : Type 0} (sink : Ghosts K) (network : Network) (note : Note) (x : T) (y : U) (now new : K)
+    → PutsNote {T = T} sink network note (Ok x) now new → PutsFurther {T = U} sink (Ok y) now new
+further_ok sink network note x y now new n = record { grew = (note_line network note, n.all.0); quiet = n.all.1; cause = tt {0} }
+
+pub further_err : {T U K : Type 0} (sink : Ghosts K) (network : Network) (note : Note) (e : Cut) (now new : K)
+    → PutsNote {T = T} sink network note (Err e) now new → PutsFurther {T = U} sink (Err e) now new
+further_err sink network note OutOfMemory now new n = absurd (let is = n.cut in cc)
+further_err sink network note WriteFault now new n =
+    let f = n.front.0 in record { grew = (f.0, f.3); quiet = tt {0}; cause = n.front.1 }
+
+pub further : {T K : Type 0} (sink : Ghosts K) (network : Network) (note : Note) (r : Result T Cut) (now new : K)
+    → PutsNote sink network note r now new → PutsFurther sink r now new
+further sink network note (Ok x) now new n = further_ok sink network note x x now new n
+further sink network note (Err e) now new n = further_err sink network note e now new n

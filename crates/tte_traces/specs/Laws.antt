@@ -1,0 +1,11 @@
+-- That there is an answer.
+use Rattle.std.specs.Prelude.{ℕ, List}
+use Rattle.net_plan.specs.Ranges.{IsInRange}
+use Rattle.net_plan.specs.declared.network.Network.{Network}
+use Rattle.tte_forms.specs.Answering.{Answer}
+use Rattle.tte_traces.specs.Answer.{IsRunAnswer}
+
+-- for each network in range and all octets of a trace there is an answer of `run`
+abbrev pub RunAnswersExist : Type 0
+RunAnswersExist =
+    (network : Network) (octets : List ℕ) → IsInRange network → (a : Answer) × IsRunAnswer octets network a

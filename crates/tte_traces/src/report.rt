@@ -1,0 +1,89 @@
+ghost use Rattle.std.specs.Prelude.{◌≡◌, IfErr, OnErr, OnOk};
+ghost use Rattle.std.specs.Io.KnownBytes.{Appends};
+ghost use Rattle.net_plan.specs.Ranges.{IsInRange};
+ghost use Rattle.report_text.specs.NoteLine.{note_line};
+ghost use Rattle.report_text.specs.Ranges.{IsNoteOf};
+ghost use Rattle.tte_io.specs.Faults.{Rose, next_count};
+ghost use Rattle.tte_io.specs.Told.{AppendsFront};
+ghost use Rattle.tte_traces.specs.Report.{PutsReport, StopsReport};
+
+use drift_world::{EventNote, Given};
+use exact_runs::ExactWorld;
+use net_plan::{Event, Network};
+use report_text::write;
+use run_law::Note;
+use tte_io::{LineText, Sink};
+use tte_units::Units;
+use world_drive::{Cut, Observer};
+
+/// Puts a line for each record of a run.
+#[derive(Drop)]
+pub(crate) struct Report {
+    /// Where the lines are made, one after the other.
+    pub(crate) text: LineText,
+}
+
+/// Puts the line of a record.
+fn put_note<K: Sink>(
+    text: &mut LineText,
+    network: &Network,
+    note: &Note,
+    out: &mut K,
+) -> Result<(), Cut>
+    requires in_range { IsInRange network.now }
+    requires of_network { IsNoteOf network.now note.now }
+    ensures all { OnOk result (Appends (K.written out.old) (K.written out.new) (note_line network.now note.now)
+        × (K.faults out.new ≡ K.faults out.old)) }
+    ensures front { OnErr result (AppendsFront (K.written out.old) (K.written out.new) (note_line network.now note.now)
+        × Rose (K.faults out.old) (K.faults out.new)) }
+    ensures counted { K.puts out.new ≡ next_count (K.puts out.old) }
+    ensures cut { IfErr result (λ cut. cut ≡ Cut.WriteFault) }
+{
+    match write(text, network, note, out) {
+        Ok(()) => Ok(()),
+        Err(_) => Err(Cut::WriteFault),
+    }
+}
+
+impl<K: Sink> Observer<K> for Report {
+    ghost sees = { λ network events notes instant old put it. PutsReport network notes old.told put };
+
+    ghost stops = { λ network events notes cut old put. StopsReport network notes cut old.told put };
+
+    ghost cut = { λ network events notes instant old put it seen. seen };
+
+    fn record(
+        &mut self,
+        _world: &ExactWorld<'_>,
+        network: &Network,
+        note: &Given,
+        out: &mut K,
+    ) -> Result<bool, Cut> {
+        match put_note(&mut self.text, network, &note.note(), out) {
+            Ok(()) => Ok(false),
+            Err(cut) => Err(cut),
+        }
+    }
+
+    fn event(
+        &mut self,
+        _world: &ExactWorld<'_>,
+        network: &Network,
+        _event: &Event,
+        note: &EventNote<'_>,
+        out: &mut K,
+    ) -> Result<(), Cut> {
+        put_note(&mut self.text, network, &note.note(), out)
+    }
+
+    /// The end of an instant was not asked for.
+    fn instant(
+        &mut self,
+        _world: &ExactWorld<'_>,
+        _network: &Network,
+        _time: Units,
+        _out: &mut K,
+    ) -> Result<(), Cut> {
+        Ok(())
+    }
+}
