@@ -7,7 +7,7 @@ use Rattle.std.proofs.lemmas.Bool.{and_parts}
 use Rattle.std.proofs.lemmas.Bool.Decides.{nat_tests}
 use Rattle.trace_text.specs.Numbers.{number_up_to}
 use Rattle.tte_forms.specs.Forms.{IsFormInRange, cycles_spelled, form_of, if_some, most_cycles, one_file_form, seed_spelled, storm_form, two_files_form}
-use Rattle.tte_forms.specs.declared.form.Form.TheVariants.{Show, Check, Run, Storm, Audit}
+use Rattle.tte_forms.specs.declared.form.Form.TheVariants.{Show, Check, Run, Storm, Audit, Capture}
 
 pub no_words : (words : List (List ℕ)) → length words ≤ 0 → None ≡ form_of words
 unfolding form_of
@@ -86,10 +86,11 @@ storm_by true None cycles range = tt
 storm_by true (Some s) None range = tt
 storm_by true (Some s) (Some c) range = range
 
-one_file_by : (b d : Bool) → IfSome (if b then Some Show else if d then Some Check else None) IsFormInRange
-one_file_by true d = tt
-one_file_by false true = tt
-one_file_by false false = tt
+one_file_by : (b d e : Bool) → IfSome (if b then Some Show else if d then Some Check else if e then Some Capture else None) IsFormInRange
+one_file_by true d e = tt
+one_file_by false true e = tt
+one_file_by false false true = tt
+one_file_by false false false = tt
 
 two_files_by : (b d : Bool) → IfSome (if b then Some Run else if d then Some Audit else None) IsFormInRange
 two_files_by true d = tt
@@ -101,7 +102,8 @@ pub form_in_range : (words : List (List ℕ)) → IfSome (form_of words) IsFormI
 unfolding form_of
 form_in_range [] = tt
 form_in_range (command ∷ []) = tt
-form_in_range (command ∷ file ∷ []) = one_file_by (bytes_eq command (codes "show")) (bytes_eq command (codes "check"))
+form_in_range (command ∷ file ∷ []) =
+    one_file_by (bytes_eq command (codes "show")) (bytes_eq command (codes "check")) (bytes_eq command (codes "capture"))
 form_in_range (command ∷ file ∷ other ∷ []) = two_files_by (bytes_eq command (codes "run")) (bytes_eq command (codes "audit"))
 form_in_range (command ∷ file ∷ seed ∷ cycles ∷ []) =
     storm_by (bytes_eq command (codes "storm")) (seed_spelled seed) (cycles_spelled cycles) (cycles_by (number_up_to most_cycles cycles) (up_to most_cycles cycles))

@@ -1,3 +1,4 @@
 -- The answer for a network file.
 pub mod KeyLengths
 pub mod Answers
+pub mod Refused

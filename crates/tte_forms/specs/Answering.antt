@@ -46,9 +46,15 @@ GivesOne IsAnswer status old new =
     ⊎ ((status ≡ WriteFault) × ((a : Answer) → IsAnswer a → WriteFails a.lines old new))
     ⊎ (((status ≡ ReadFault) ⊎ (status ≡ OutOfMemory)) × ((a : Answer) → IsAnswer a → PutsSome a.lines old new))
 
--- one of the answers for the octets of a source was given so
+-- an answer with the property was given, whole or cut short; or a read failed or memory ran out, and nothing was put
+abbrev pub GivesAnswer : (Answer → Type 0) → Status → Shown → Shown → Type 0
+GivesAnswer IsAnswer status old new =
+    ((a : Answer) × IsAnswer a × Gives a status old new)
+    ⊎ (((status ≡ ReadFault) ⊎ (status ≡ OutOfMemory)) × PutsNone old new)
+
+-- an answer for the octets of a source was given so
 abbrev pub AnswersOne : (List ℕ → Answer → Type 0) → Option (List ℕ) → Status → Shown → Shown → Type 0
-AnswersOne IsAnswer left status old new = ForOctets left (λ octets. GivesOne (IsAnswer octets) status old new)
+AnswersOne IsAnswer left status old new = ForOctets left (λ octets. GivesAnswer (IsAnswer octets) status old new)
 
 -- done, or out of memory
 abbrev pub IsDone : Status → Type 0

@@ -4,13 +4,14 @@ use Rattle.std.specs.Option.{option_and_then, option_map}
 use Rattle.std.specs.Str.{bytes_eq}
 use Rattle.trace_text.specs.Numbers.{number_up_to}
 use Rattle.tte_forms.specs.declared.form.Form.{Form}
-use Rattle.tte_forms.specs.declared.form.Form.TheVariants.{Show, Check, Run, Storm, Audit}
+use Rattle.tte_forms.specs.declared.form.Form.TheVariants.{Show, Check, Run, Storm, Audit, Capture}
 
--- a command with one file: `show FILE` or `check NETWORK`
+-- a command with one file: `show FILE`, `check NETWORK` or `capture FILE`
 abbrev pub one_file_form : List ℕ → Option Form
 one_file_form command =
     if bytes_eq command (codes "show") then Some Show
     else if bytes_eq command (codes "check") then Some Check
+    else if bytes_eq command (codes "capture") then Some Capture
     else None
 
 -- a command with two files: `run NETWORK TRACE` or `audit NETWORK REPORT`

@@ -63,3 +63,7 @@ StopsWriting lines old new = PutFails lines old new ⊎ PutsLines lines old new
 -- the same, where the first ones were to be passed on before the others were put
 abbrev pub WriteFails : List (List ℕ) → Shown → Shown → Type 0
 WriteFails lines old new = PutFails lines old new ⊎ PutsSome lines old new
+
+-- lines with the property were put so
+abbrev pub PutsSo : (List (List ℕ) → Type 0) → (List (List ℕ) → Shown → Shown → Type 0) → Shown → Shown → Type 0
+PutsSo IsSo Puts old new = (lines : List (List ℕ)) × IsSo lines × Puts lines old new

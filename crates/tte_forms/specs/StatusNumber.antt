@@ -1,6 +1,6 @@
 use Rattle.std.specs.Prelude.{ℕ}
 use Rattle.tte_forms.specs.declared.status.Status.{Status}
-use Rattle.tte_forms.specs.declared.status.Status.TheVariants.{Done, Usage, FrameRefused, NetworkRefused, TraceRefused, OutsideHypothesis, ReadFault, WriteFault, OutOfMemory, TooLong, AuditRefused}
+use Rattle.tte_forms.specs.declared.status.Status.TheVariants.{Done, Usage, FrameRefused, NetworkRefused, TraceRefused, OutsideHypothesis, ReadFault, WriteFault, OutOfMemory, TooLong, AuditRefused, GranuleRefused, CaptureRefused, NameRefused, VoteRefused}
 
 -- the exit status
 abbrev pub status_number : Status → ℕ
@@ -14,4 +14,8 @@ status_number ReadFault = 6
 status_number WriteFault = 7
 status_number OutOfMemory = 8
 status_number TooLong = 9
+status_number GranuleRefused = 10
 status_number AuditRefused = 11
+status_number CaptureRefused = 12
+status_number NameRefused = 13
+status_number VoteRefused = 14

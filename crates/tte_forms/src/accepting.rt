@@ -1,10 +1,10 @@
-ghost use Rattle.std.specs.Prelude.{◌≡◌, ◌≢◌, ◌≤◌, length, Err, IfErr, IfOk};
+ghost use Rattle.std.specs.Prelude.{◌≡◌, ◌≢◌, ◌⊎◌, ◌≤◌, length, Err, IfErr, IfOk};
 ghost use Rattle.net_plan.specs.Ranges.{IsInRange};
 ghost use Rattle.tte_forms.specs.networks.Accepting.{MeansAccepted};
 ghost use Rattle.tte_forms.specs.Answering.{ForOctets, Gives};
 ghost use Rattle.tte_forms.specs.networks.NoNetworks.{IsNoNetwork, no_network_answer};
 ghost use Rattle.tte_forms.specs.Faults.{PutFailed, ReadFailed};
-ghost use Rattle.tte_forms.specs.Putting.{Over};
+ghost use Rattle.tte_forms.specs.Putting.{Over, PutsNone};
 ghost use Rattle.tte_forms.specs.frames.Answer.{file_limit};
 
 pub(crate) mod network_line;
@@ -77,6 +77,8 @@ pub fn put_no_network<K: Sink>(cause: NoNetwork, out: &mut K) -> Status
     ensures gives { Over K.Sink out.old out.new (Gives (no_network_answer cause) result) }
     ensures read { result ≡ Status.ReadFault → cause ≡ NoNetwork.ReadFault }
     ensures unread { result ≡ Status.ReadFault → out.new ≡ out.old }
+    ensures unput { (cause ≡ NoNetwork.ReadFault) ⊎ (cause ≡ NoNetwork.OutOfMemory)
+        → (result ≢ Status.WriteFault) × Over K.Sink out.old out.new PutsNone }
     ensures write { result ≡ Status.WriteFault → PutFailed K.Sink out.old out.new }
 {
     let mut line = LineText::new();

@@ -1,5 +1,5 @@
 ghost use Rattle.std.specs.Prelude.{◌≡◌};
-ghost use Rattle.tte_forms.specs.Answering.{AnswersOne, GivesOne};
+ghost use Rattle.tte_forms.specs.Answering.{AnswersOne, GivesAnswer};
 ghost use Rattle.tte_forms.specs.networks.Checking.{IsAcceptance, IsCheckAnswer, IsCheckStatus};
 ghost use Rattle.tte_forms.specs.Faults.{IsWanted, PutFailed, ReadFailed};
 ghost use Rattle.tte_forms.specs.Putting.{Over};
@@ -8,8 +8,6 @@ use crate::Status;
 use crate::accepting::network_line::make_acceptance_line;
 use crate::accepting::{accept, put_no_network};
 use crate::put_line::put_last;
-use net_plan::beta_is_unique;
-use schedule_checker::refusal_is_one;
 use schedule_tables::Accepted;
 use std::alloc::Global;
 use tte_io::{LineText, Sink, Source};
@@ -23,7 +21,6 @@ pub fn check_network<A: Source, K: Sink>(alloc: Global, source: &mut A, out: &mu
     ensures unread { result ≡ Status.ReadFault → out.new ≡ out.old }
     ensures write { result ≡ Status.WriteFault → PutFailed K.Sink out.old out.new }
 {
-    refusal_is_one();
     match accept(alloc, source) {
         Ok(accepted) => put_acceptance(&accepted, out),
         Err(cause) => put_no_network(cause, out),
@@ -31,10 +28,9 @@ pub fn check_network<A: Source, K: Sink>(alloc: Global, source: &mut A, out: &mu
 }
 
 fn put_acceptance<K: Sink>(accepted: &Accepted, out: &mut K) -> Status
-    ensures gives { Over K.Sink out.old out.new (GivesOne (IsAcceptance accepted.now) result) }
+    ensures gives { Over K.Sink out.old out.new (GivesAnswer (IsAcceptance accepted.now) result) }
     ensures status { IsWanted Status.Done result (PutFailed K.Sink out.old out.new) }
 {
-    beta_is_unique();
     let network = accepted.network();
     let mut line = LineText::new();
     make_acceptance_line(&mut line, network.beta().amount(), network.gamma().amount());

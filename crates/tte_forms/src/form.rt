@@ -25,6 +25,8 @@ pub enum Form {
     },
     /// `audit NETWORK REPORT`.
     Audit,
+    /// `capture FILE`.
+    Capture,
 }
 
 /// The form of a command with one file.
@@ -35,6 +37,7 @@ fn one_file_form(command: &str) -> Option<Form>
     match command {
         "show" => Some(Form::Show),
         "check" => Some(Form::Check),
+        "capture" => Some(Form::Capture),
         _ => None,
     }
 }

@@ -14,6 +14,6 @@ pub use accepting::{NoNetwork, accept, put_no_network};
 pub use checking::check_network;
 pub use form::{Form, read_form};
 pub use put_line::{end_with, put_last};
-pub use showing::{show, show_law};
+pub use showing::{push_frame, push_refusal, show, show_law};
 pub use status::Status;
 pub use words::Words;

@@ -11,6 +11,7 @@ mod frame_line;
 use crate::Status;
 use crate::accepting::LIMIT;
 use crate::put_line::{end_with, put_last};
+pub use frame_line::{push_frame, push_refusal};
 use frame_line::{make_frame_line, make_refusal_line};
 use pcf_codec::{PCF_LENGTH, decode};
 use std::alloc::Global;

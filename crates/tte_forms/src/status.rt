@@ -24,12 +24,20 @@ pub enum Status {
     OutOfMemory,
     /// A limit on the size of the input is passed.
     TooLong,
+    /// The granule is less than the network allows.
+    GranuleRefused,
     /// The report is no report of a run of the network.
     AuditRefused,
+    /// The file is no capture, or a packet of it is refused.
+    CaptureRefused,
+    /// The network has no link or virtual link of a name.
+    NameRefused,
+    /// The three virtual links can't be voted on.
+    VoteRefused,
 }
 
 impl Status {
-    /// The exit status of the program, from 0 to 9, or 11.
+    /// The exit status of the program, from 0 to 14.
     pub fn number(self) -> u8
         ensures { result ≡ status_number self }
     {
@@ -44,7 +52,11 @@ impl Status {
             Status::WriteFault => 7,
             Status::OutOfMemory => 8,
             Status::TooLong => 9,
+            Status::GranuleRefused => 10,
             Status::AuditRefused => 11,
+            Status::CaptureRefused => 12,
+            Status::NameRefused => 13,
+            Status::VoteRefused => 14,
         }
     }
 }

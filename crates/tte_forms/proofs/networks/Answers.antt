@@ -1,5 +1,5 @@
 -- The answer for the octets of a network file.
-use Rattle.std.proofs.Common.{◌≡◌, ℕ, pos, List, [], ◌∷◌, Option, Ok, Err, refl, sym, ap, ◌∙◌, subst, inl, inr, arith}
+use Rattle.std.proofs.Common.{◌≡◌, ◌⊎◌, ℕ, pos, List, [], ◌∷◌, Option, Ok, Err, refl, sym, ap, ◌∙◌, subst, inl, inr, arith}
 use Rattle.std.proofs.lemmas.Int.{ints}
 use Rattle.net_file.specs.Schema.{network_read}
 use Rattle.net_file.specs.declared.refusal.FileRefusal.{FileRefusal}
@@ -9,17 +9,17 @@ use Rattle.schedule_checker.specs.Refusals.{TellsFirstBroken, RefusalIsOne}
 use Rattle.schedule_checker.specs.declared.refusal.RuleBroken.{RuleBroken}
 use Rattle.schedule_tables.specs.Rules.{KeepsRules}
 use Rattle.tte_forms.specs.networks.Accepting.{IsTooLong, MeansNoNetwork, MeansUnfit, MeansAccepted, IsNetworkAnswer, too_long_answer, refused_answer}
-use Rattle.tte_forms.specs.Answering.{Answer, ForOctets, Gives, GivesOne, AnswersOne}
-use Rattle.tte_forms.specs.networks.Checking.{IsAcceptance, IsCheckAnswer}
+use Rattle.tte_forms.specs.Answering.{Answer, AnswersOne, ForOctets, Gives, GivesAnswer, GivesOne}
+use Rattle.tte_forms.specs.networks.Checking.{IsAcceptance}
 use Rattle.tte_forms.specs.networks.NetworkLine.{file_reason, rule_reason, acceptance_line}
 use Rattle.tte_forms.specs.networks.NoNetworks.{IsNoNetwork, no_network_answer}
-use Rattle.tte_forms.specs.Putting.{Shown}
+use Rattle.tte_forms.specs.Putting.{PutsNone, Shown}
 use Rattle.tte_forms.specs.declared.accepting.NoNetwork.{NoNetwork}
 use Rattle.tte_forms.specs.declared.accepting.NoNetwork.TheVariants as causes
 use Rattle.tte_forms.specs.declared.status.Status.{Status}
-use Rattle.tte_forms.specs.declared.status.Status.TheVariants.{Done}
+use Rattle.tte_forms.specs.declared.status.Status.TheVariants.{Done, WriteFault}
 use Rattle.tte_forms.proofs.Octets.{for_more}
-use Rattle.tte_forms.proofs.OneAnswers.{one_given, widened, cut_given}
+use Rattle.tte_forms.proofs.OneAnswers.{answer_widened, cut_given, one_given, unput_answer, widened}
 
 -- a rule that is broken is not kept
 unfit_kept : (n : Network) (told : RuleBroken) → TellsFirstBroken n told → KeepsRules n → ⊥
@@ -93,14 +93,33 @@ pub accepted_network : (Then : Network → Answer → Type 0) (octets : List ℕ
 accepted_network Then octets n status old new m g =
     widened (Then n) (IsNetworkAnswer Then octets) status old new (λ a h. inr (inr (inr (n, m, h)))) (accepted_alone Then octets n m) g
 
--- the answer for an accepted network is one
-pub acceptance : BetaIsUnique → (n : Network) (beta : ℕ) (status : Status) (old new : Shown) → IsBeta n (pos beta)
-    → Gives (record { status = Done; lines = acceptance_line beta (gamma_of n) ∷ [] }) status old new → GivesOne (IsAcceptance n) status old new
-acceptance unique n beta status old new is g =
-    one_given (IsAcceptance n) (record { status = Done; lines = acceptance_line beta (gamma_of n) ∷ [] }) status old new
-    (record { beta = beta; is = is; answer = refl })
-    (λ b h. let same : h.beta ≡ beta = omega (arith, ints, unique n (pos h.beta) (pos beta) h.is is) in h.answer ∙ ap
-    (λ (x : ℕ). record { status = Done; lines = acceptance_line x (gamma_of n) ∷ [] }) same) g
+-- ---- an answer that is there
+
+-- where there is no accepted network
+pub no_network_given : (Then : Network → Answer → Type 0) (octets : List ℕ) (cause : NoNetwork) (status : Status) (old new : Shown)
+    → IsNoNetwork octets cause → Gives (no_network_answer cause) status old new
+    → ((cause ≡ causes.ReadFault) ⊎ (cause ≡ causes.OutOfMemory) → (status ≡ WriteFault → ⊥) × PutsNone old new)
+    → GivesAnswer (IsNetworkAnswer Then octets) status old new
+no_network_given Then octets causes.ReadFault status old new h g unput =
+    unput_answer (IsNetworkAnswer Then octets) (no_network_answer causes.ReadFault) status old new (inl refl) (unput (inl refl)) g
+no_network_given Then octets causes.OutOfMemory status old new h g unput =
+    unput_answer (IsNetworkAnswer Then octets) (no_network_answer causes.OutOfMemory) status old new (inr refl) (unput (inr refl)) g
+no_network_given Then octets causes.TooLong status old new h g unput = inl (too_long_answer, inl (h, refl), g)
+no_network_given Then octets (causes.File e) status old new h g unput = inl (refused_answer (file_reason e), inr (inl (e, h, refl)), g)
+no_network_given Then octets (causes.Rule told) status old new h g unput =
+    inl (refused_answer (rule_reason told), inr (inr (inl (told, h, refl))), g)
+
+-- for an accepted one
+pub accepted_given : (Then : Network → Answer → Type 0) (octets : List ℕ) (n : Network) (status : Status) (old new : Shown)
+    → MeansAccepted octets n → GivesAnswer (Then n) status old new → GivesAnswer (IsNetworkAnswer Then octets) status old new
+accepted_given Then octets n status old new m g =
+    answer_widened (Then n) (IsNetworkAnswer Then octets) status old new (λ a h. inr (inr (inr (n, m, h)))) g
+
+-- an accepted network's beta is told
+pub acceptance : (n : Network) (beta : ℕ) (status : Status) (old new : Shown) → IsBeta n (pos beta)
+    → Gives (record { status = Done; lines = acceptance_line beta (gamma_of n) ∷ [] }) status old new → GivesAnswer (IsAcceptance n) status old new
+acceptance n beta status old new is g =
+    inl (record { status = Done; lines = acceptance_line beta (gamma_of n) ∷ [] }, record { beta = beta; is = is; answer = refl }, g)
 
 -- an accepted network has one answer of `check`
 pub acceptance_one : BetaIsUnique → (n : Network) (a b : Answer) → IsAcceptance n a → IsAcceptance n b → a ≡ b
@@ -117,15 +136,17 @@ network_answer_one one Then octets then_one a b (inr (inl p)) q = p.2 ∙ sym (f
 network_answer_one one Then octets then_one a b (inr (inr (inl p))) q = p.2 ∙ sym (rule_one one Then octets p.0 p.1 b q)
 network_answer_one one Then octets then_one a b (inr (inr (inr p))) q = then_one p.0 p.1 a b p.2 (accepted_alone Then octets p.0 p.1 b q)
 
--- the answer of `check` for a source
-pub checked_none : RefusalIsOne → (left : Option (List ℕ)) (cause : NoNetwork) (status : Status) (old new : Shown)
-    → ForOctets left (λ octets. IsNoNetwork octets cause) → Gives (no_network_answer cause) status old new → AnswersOne IsCheckAnswer left status old new
-checked_none one left cause status old new h g =
-    for_more left (λ octets. IsNoNetwork octets cause) (λ octets. GivesOne (IsCheckAnswer octets) status old new)
-    (λ octets none. no_network one IsAcceptance octets cause status old new none g) h
+-- the answer for a source
+pub answered_none : (Then : Network → Answer → Type 0) (left : Option (List ℕ)) (cause : NoNetwork) (status : Status) (old new : Shown)
+    → ForOctets left (λ octets. IsNoNetwork octets cause) → Gives (no_network_answer cause) status old new
+    → ((cause ≡ causes.ReadFault) ⊎ (cause ≡ causes.OutOfMemory) → (status ≡ WriteFault → ⊥) × PutsNone old new)
+    → AnswersOne (IsNetworkAnswer Then) left status old new
+answered_none Then left cause status old new h g unput =
+    for_more left (λ octets. IsNoNetwork octets cause) (λ octets. GivesAnswer (IsNetworkAnswer Then octets) status old new)
+    (λ octets none. no_network_given Then octets cause status old new none g unput) h
 
-pub checked_accepted : (left : Option (List ℕ)) (n : Network) (status : Status) (old new : Shown)
-    → ForOctets left (λ octets. MeansAccepted octets n) → GivesOne (IsAcceptance n) status old new → AnswersOne IsCheckAnswer left status old new
-checked_accepted left n status old new h g =
-    for_more left (λ octets. MeansAccepted octets n) (λ octets. GivesOne (IsCheckAnswer octets) status old new)
-    (λ octets m. accepted_network IsAcceptance octets n status old new m g) h
+pub answered_accepted : (Then : Network → Answer → Type 0) (left : Option (List ℕ)) (n : Network) (status : Status) (old new : Shown)
+    → ForOctets left (λ octets. MeansAccepted octets n) → GivesAnswer (Then n) status old new → AnswersOne (IsNetworkAnswer Then) left status old new
+answered_accepted Then left n status old new h g =
+    for_more left (λ octets. MeansAccepted octets n) (λ octets. GivesAnswer (IsNetworkAnswer Then octets) status old new)
+    (λ octets m. accepted_given Then octets n status old new m g) h

@@ -9,7 +9,7 @@ use Rattle.pcf_codec.specs.Decoding.{decoded}
 use Rattle.tte_forms.specs.frames.FrameLine.{frame_line, refusal_line}
 use Rattle.tte_forms.specs.Answering.{Answer, with_line}
 use Rattle.tte_forms.specs.declared.status.Status.{Status}
-use Rattle.tte_forms.specs.declared.status.Status.TheVariants.{Done, Usage, FrameRefused, NetworkRefused, TraceRefused, OutsideHypothesis, ReadFault, WriteFault, OutOfMemory, TooLong, AuditRefused}
+use Rattle.tte_forms.specs.declared.status.Status.TheVariants.{Done, Usage, FrameRefused, NetworkRefused, TraceRefused, OutsideHypothesis, ReadFault, WriteFault, OutOfMemory, TooLong, AuditRefused, GranuleRefused, CaptureRefused, NameRefused, VoteRefused}
 
 -- how many octets a file has at most
 abbrev pub file_limit : ℕ
@@ -53,3 +53,7 @@ IsShowStatus WriteFault = Unit {0}
 IsShowStatus OutOfMemory = Unit {0}
 IsShowStatus TooLong = Unit {0}
 IsShowStatus AuditRefused = ⊥
+IsShowStatus GranuleRefused = ⊥
+IsShowStatus CaptureRefused = ⊥
+IsShowStatus NameRefused = ⊥
+IsShowStatus VoteRefused = ⊥

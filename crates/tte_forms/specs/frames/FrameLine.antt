@@ -19,14 +19,18 @@ kind_text ColdStartAck = codes "CA"
 abbrev pub hex_text : ℕ → ℕ → List ℕ
 hex_text n x = encode_lower (big_bytes n x)
 
--- the line of a frame
-unfoldable pub frame_line : ℕ → Pcf → List ℕ
-frame_line number p =
-    codes "frame " ++ decimal number ++ codes " " ++ kind_text p.kind
+-- the words of a frame, from its type on
+unfoldable pub frame_words : Pcf → List ℕ
+frame_words p =
+    kind_text p.kind
     ++ codes " cycle " ++ decimal p.cycle ++ codes " members " ++ hex_text 4 p.members.0
     ++ codes " priority " ++ decimal p.priority ++ codes " domain " ++ decimal p.domain
     ++ codes " clock " ++ decimal p.clock
-    ++ codes " to " ++ hex_text 6 p.destination ++ codes " from " ++ hex_text 6 p.source ++ codes "\n"
+    ++ codes " to " ++ hex_text 6 p.destination ++ codes " from " ++ hex_text 6 p.source
+
+-- the line of a frame
+unfoldable pub frame_line : ℕ → Pcf → List ℕ
+frame_line number p = codes "frame " ++ decimal number ++ codes " " ++ frame_words p ++ codes "\n"
 
 -- why a frame is refused
 abbrev pub refusal_text : PcfRefusal → List ℕ

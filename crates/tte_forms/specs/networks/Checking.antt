@@ -6,7 +6,7 @@ use Rattle.tte_forms.specs.networks.Accepting.{IsNetworkAnswer}
 use Rattle.tte_forms.specs.Answering.{Answer}
 use Rattle.tte_forms.specs.networks.NetworkLine.{acceptance_line}
 use Rattle.tte_forms.specs.declared.status.Status.{Status}
-use Rattle.tte_forms.specs.declared.status.Status.TheVariants.{Done, Usage, FrameRefused, NetworkRefused, TraceRefused, OutsideHypothesis, ReadFault, WriteFault, OutOfMemory, TooLong, AuditRefused}
+use Rattle.tte_forms.specs.declared.status.Status.TheVariants.{Done, Usage, FrameRefused, NetworkRefused, TraceRefused, OutsideHypothesis, ReadFault, WriteFault, OutOfMemory, TooLong, AuditRefused, GranuleRefused, CaptureRefused, NameRefused, VoteRefused}
 
 -- an accepted network is answered with its beta and its gamma
 pub record IsAcceptance (network : Network) (a : Answer) : Type 0 where
@@ -31,3 +31,7 @@ IsCheckStatus WriteFault = Unit {0}
 IsCheckStatus OutOfMemory = Unit {0}
 IsCheckStatus TooLong = Unit {0}
 IsCheckStatus AuditRefused = ⊥
+IsCheckStatus GranuleRefused = ⊥
+IsCheckStatus CaptureRefused = ⊥
+IsCheckStatus NameRefused = ⊥
+IsCheckStatus VoteRefused = ⊥

@@ -1,5 +1,5 @@
 -- The lines about a network.
-use Rattle.std.specs.Prelude.{ℕ, List, ◌++◌, codes}
+use Rattle.std.specs.Prelude.{◌≡◌, ℕ, List, [], ◌∷◌, ◌++◌, codes}
 use Rattle.std.specs.Fmt.{decimal}
 use Rattle.net_file.specs.KeyTexts.{key_text}
 use Rattle.net_file.specs.declared.refusal.FileRefusal.{FileRefusal}
@@ -42,6 +42,10 @@ rule_reason told = codes "rule " ++ decimal told.number ++ codes " index " ++ de
 -- the line of a network that is refused for this reason
 abbrev pub network_refusal_line : List ℕ → List ℕ
 network_refusal_line reason = codes "refused network " ++ reason ++ codes "\n"
+
+-- the lines are that of a network that is refused
+abbrev pub IsRefusalText : List (List ℕ) → Type 0
+IsRefusalText lines = (reason : List ℕ) × (lines ≡ network_refusal_line reason ∷ [])
 
 -- the line of a network that is accepted
 abbrev pub acceptance_line : ℕ → ℕ → List ℕ

@@ -1,5 +1,5 @@
 ghost use Rattle.std.specs.Prelude.{◌≡◌, ◌≤◌, ◌+◌, ◌++◌, length};
-ghost use Rattle.tte_forms.specs.frames.FrameLine.{frame_line, refusal_line, refusal_text, kind_text, hex_text};
+ghost use Rattle.tte_forms.specs.frames.FrameLine.{frame_line, frame_words, refusal_line, refusal_text, kind_text, hex_text};
 
 use byteorder::{BigEndian, ByteOrder};
 use pcf_codec::PcfRefusal;
@@ -37,15 +37,13 @@ fn push_members(line: &mut LineText, members: Members)
     line.push_hex(&octets);
 }
 
-/// Makes the line of a frame.
-#[tactic(auto, unfolding(crate::specs::frames::FrameLine::frame_line))]
-pub fn make_frame_line(line: &mut LineText, number: u64, frame: &Pcf)
-    ensures { line.new ≡ frame_line number frame.now }
+/// Adds the words of a frame, from its type on, which take at most 165 octets.
+#[tactic(auto, unfolding(crate::specs::frames::FrameLine::frame_words))]
+pub fn push_frame(line: &mut LineText, frame: &Pcf)
+    requires { length line.old + 165 ≤ 4096 }
+    ensures text { line.new ≡ line.old ++ frame_words frame.now }
+    ensures grows { length line.new ≤ length line.old + 165 }
 {
-    line.clear();
-    line.push("frame ");
-    line.push_decimal(number);
-    line.push(" ");
     line.push(kind_word(frame.kind));
     line.push(" cycle ");
     line.push_decimal(frame.cycle.into());
@@ -61,10 +59,23 @@ pub fn make_frame_line(line: &mut LineText, number: u64, frame: &Pcf)
     push_mac(line, frame.destination);
     line.push(" from ");
     push_mac(line, frame.source);
+}
+
+/// Makes the line of a frame.
+#[tactic(auto, unfolding(crate::specs::frames::FrameLine::frame_line))]
+pub fn make_frame_line(line: &mut LineText, number: u64, frame: &Pcf)
+    ensures { line.new ≡ frame_line number frame.now }
+{
+    line.clear();
+    line.push("frame ");
+    line.push_decimal(number);
+    line.push(" ");
+    push_frame(line, frame);
     line.push("\n");
 }
 
-fn push_refusal(line: &mut LineText, refusal: PcfRefusal)
+/// Adds why a frame is refused, which takes at most 30 octets.
+pub fn push_refusal(line: &mut LineText, refusal: PcfRefusal)
     requires { length line.old + 30 ≤ 4096 }
     ensures text { line.new ≡ line.old ++ refusal_text refusal }
     ensures grows { length line.new ≤ length line.old + 30 }

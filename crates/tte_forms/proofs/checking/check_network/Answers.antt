@@ -1,15 +1,16 @@
 use Rattle.tte_forms.specs.Putting.{shown_by}
-use Rattle.tte_forms.proofs.networks.Answers.{checked_none, checked_accepted}
+use Rattle.tte_forms.specs.networks.Checking.{IsAcceptance}
+use Rattle.tte_forms.proofs.networks.Answers.{answered_accepted, answered_none}
 use Rattle.tte_forms.proofs.checking.check_network.Goals as goal
 
 pub returns-in-Ok-clause-general : goal.returns-in-Ok-clause-general
 returns-in-Ok-clause-general g c =
     let shown = shown_by g.K.Sink in
-    checked_accepted (g.A.Source.left c.args.source.now) c.in-Ok.accepted c.put_acceptance.result (shown c.args.out.now)
+    answered_accepted IsAcceptance (g.A.Source.left c.args.source.now) c.in-Ok.accepted c.put_acceptance.result (shown c.args.out.now)
     (shown c.put_acceptance.new.out) c.in-Ok.ensures.accepted c.put_acceptance.ensures.gives
 
 pub returns-in-Err-clause-general : goal.returns-in-Err-clause-general
 returns-in-Err-clause-general g c =
     let shown = shown_by g.K.Sink in
-    checked_none c.refusal_is_one.ensures (g.A.Source.left c.args.source.now) c.in-Err.cause c.put_no_network.result (shown c.args.out.now)
-    (shown c.put_no_network.new.out) c.in-Err.ensures.none c.put_no_network.ensures.gives
+    answered_none IsAcceptance (g.A.Source.left c.args.source.now) c.in-Err.cause c.put_no_network.result (shown c.args.out.now)
+    (shown c.put_no_network.new.out) c.in-Err.ensures.none c.put_no_network.ensures.gives c.put_no_network.ensures.unput

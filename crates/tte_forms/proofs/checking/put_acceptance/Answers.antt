@@ -19,6 +19,6 @@ returns-clause-gives g c =
     let gamma : c.amount-2.result ≡ gamma_of n = omega (arith, ints, c.amount-2.ensures.whole, c.gamma.ensures) ∙ ap gamma_of c.network-network.ensures.value in
     let line : c.as_slice.result.now ≡ acceptance_line beta (gamma_of n) =
     c.as_slice.ensures ∙ c.make_acceptance_line.ensures ∙ ap (acceptance_line beta) gamma in
-    acceptance c.beta_is_unique.ensures n beta c.put_last.result (shown c.args.out.now) (shown c.put_last.new.out) is
+    acceptance n beta c.put_last.result (shown c.args.out.now) (shown c.put_last.new.out) is
     (subst (λ (bytes : List ℕ). let a : Answer = record { status = Done; lines = bytes ∷ [] } in Gives a c.put_last.result (shown c.args.out.now)
     (shown c.put_last.new.out)) line c.put_last.ensures.gives)

@@ -1,0 +1,3 @@
+pub mod CaptureLine
+pub mod Answer
+pub mod Law

@@ -1,0 +1,7 @@
+//! What the command over a capture does: it shows the packets of a file, and the control frames among them.
+#![tactic(auto)]
+
+mod capture_line;
+mod capturing;
+
+pub use capturing::{capture_file, capture_law};
