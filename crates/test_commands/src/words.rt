@@ -4,7 +4,8 @@ use tte_forms::{Form, read_form};
 use tte_run::Status;
 
 const USAGE: &str =
-    "usage: tte show FILE | check NETWORK | run NETWORK TRACE | storm NETWORK SEED CYCLES | audit NETWORK REPORT\n";
+    "usage: tte show FILE | check NETWORK | run NETWORK TRACE | storm NETWORK SEED CYCLES | \
+                     audit NETWORK REPORT | capture FILE\n";
 
 const NO_FORMS: &[&[&str]] = &[
     &[],
@@ -20,6 +21,9 @@ const NO_FORMS: &[&[&str]] = &[
     &["audit", "a"],
     &["audit", "a", "b", "c"],
     &["Audit", "a", "b"],
+    &["capture"],
+    &["capture", "a", "b"],
+    &["Capture", "a"],
     &["storm"],
     &["storm", "a"],
     &["storm", "a", "1"],
@@ -102,9 +106,13 @@ fn statuses_have_their_numbers(rt: HostRuntime) {
         Status::WriteFault,
         Status::OutOfMemory,
         Status::TooLong,
+        Status::GranuleRefused,
+        Status::AuditRefused,
+        Status::CaptureRefused,
+        Status::NameRefused,
+        Status::VoteRefused,
     ];
     for (number, status) in statuses.iter().enumerate() {
         assert!(rt; usize::from(status.number()) == number);
     }
-    assert!(rt; Status::AuditRefused.number() == 11);
 }

@@ -139,17 +139,21 @@ fn a_run_stops_at_a_failed_read(rt: HostRuntime) -> Result<(), Fail> {
     try_failing_reads(&rt, alloc, &outside, 4)
 }
 
-// The fifth read gives nothing, so the end came whole, and the sixth fails.
+// The fifth read gives nothing, so the end came whole, and no more is read. Where it fails instead,
+// the end has not come whole.
 #[test]
 fn a_last_line_without_its_lf_is_run(rt: HostRuntime) -> Result<(), Fail> {
     let alloc = rt.alloc();
     let trace = RATES.trim_end();
-    let events = first_lines(alloc, RATES_REPORT, 4)?;
+    let rates = first_lines(alloc, RATES_REPORT, 3)?;
     let cut = Run {
-        failing_reads: &[6],
-        ..whole(trace, events.as_str(), Status::ReadFault)
+        failing_reads: &[5],
+        ..whole(trace, rates.as_str(), Status::ReadFault)
     };
-    let run = whole(trace, RATES_REPORT, Status::Done);
+    let run = Run {
+        failing_reads: &[6],
+        ..whole(trace, RATES_REPORT, Status::Done)
+    };
     try_runs(&rt, alloc, UNCHANGED, &[cut, run])
 }
 

@@ -28,18 +28,52 @@ fn words(rt: &HostRuntime, alloc: Global) -> Result<Words, OutOfMemory> {
     Ok(words)
 }
 
-/// Answers the words over real files and standard output.
+/// Answers the words over real files and standard output. A file that can't be read is named on standard error.
 fn run(rt: &HostRuntime, alloc: Global) -> Result<Status, OutOfMemory> {
     let words = words(rt, alloc)?;
-    let first = PathText::new(alloc, words.get(1).unwrap_or(""))?;
-    let second = PathText::new(alloc, words.get(2).unwrap_or(""))?;
-    let mut first = LazyFile::new(rt, first);
-    let mut second = LazyFile::new(rt, second);
+    let network = words.get(1).unwrap_or("");
+    let other = words.get(2).unwrap_or("");
+    let mut first = LazyFile::new(rt, PathText::new(alloc, network)?);
+    let mut second = LazyFile::new(rt, PathText::new(alloc, other)?);
     let mut out = StdSink::new(rt);
-    Ok(tte(alloc, &words, &mut first, &mut second, &mut out))
+    let status = tte(alloc, &words, &mut first, &mut second, &mut out);
+    if status == Status::ReadFault {
+        let unread = if first.fault_count() > 0 {
+            network
+        } else {
+            other
+        };
+        let _told = eprintln!(rt; "tte: cannot read {unread}");
+    }
+    Ok(status)
+}
+
+/// Says on standard error what a status means that puts no line; a file that can't be read is named before.
+fn explain(rt: &HostRuntime, status: Status) {
+    let meaning = match status {
+        Status::WriteFault => "cannot write to standard output",
+        Status::OutOfMemory => "out of memory",
+        Status::TooLong => {
+            "more than is read: 262144 octets, 16777216 of a report or a capture, or 2^32 lines of a trace"
+        }
+        Status::ReadFault
+        | Status::Done
+        | Status::Usage
+        | Status::FrameRefused
+        | Status::NetworkRefused
+        | Status::TraceRefused
+        | Status::OutsideHypothesis
+        | Status::GranuleRefused
+        | Status::AuditRefused
+        | Status::CaptureRefused
+        | Status::NameRefused
+        | Status::VoteRefused => return,
+    };
+    let _told = eprintln!(rt; "tte: {meaning}");
 }
 
 fn main(rt: HostRuntime) -> ExitCode {
     let status = run(&rt, rt.alloc()).unwrap_or(Status::OutOfMemory);
+    explain(&rt, status);
     ExitCode::from(status.number())
 }

@@ -2,22 +2,28 @@
 use Rattle.std.proofs.Common.{◌≡◌, ℕ, List, Some, None, refl, sym, ap, subst, ◌∙◌, inl, inr, []}
 use Rattle.std.specs.Prelude.{◌≢◌, IfSome, Option}
 use Rattle.net_plan.specs.Bounds.{BetaIsUnique}
+use Rattle.net_plan.specs.declared.event.Event.{Event}
 use Rattle.net_plan.specs.declared.network.Network.{Network}
 use Rattle.schedule_checker.specs.Refusals.{RefusalIsOne}
 use Rattle.tte_forms.specs.networks.Accepting.{IsNetworkAnswer, MeansAccepted}
 use Rattle.tte_forms.specs.Putting.{Shown}
-use Rattle.tte_forms.specs.Answering.{Answer, ForOctets, Gives, GivesOne, Answers, AnswersOne, IsDone}
+use Rattle.tte_forms.specs.Answering.{Answer, ForOctets, Gives, GivesAnswer, Answers, AnswersOne, IsDone}
 use Rattle.tte_forms.specs.networks.Checking.{IsAcceptance, IsCheckAnswer}
 use Rattle.tte_forms.specs.Forms.{IsFormInRange, form_of}
 use Rattle.tte_forms.specs.frames.Answer.{show_answer}
-use Rattle.tte_run.specs.Top.{AnswerIsOne, AnswersWords, ForSecond, IsFormAnswer, Completes}
+use Rattle.tte_captures.proofs.Laws.{shows_packets}
+use Rattle.tte_captures.specs.Answer.{capture_answer}
+use Rattle.tte_run.specs.SecondFiles.{ForSecond, report_file, trace_file}
+use Rattle.tte_run.specs.Top.{AnswerIsOne, IsFormAnswer}
+use Rattle.tte_run.specs.Whole.{Completes, MeansRun}
 use Rattle.tte_forms.specs.declared.form.Form.{Form}
-use Rattle.tte_forms.specs.declared.form.Form.TheVariants.{Show, Check, Run, Storm, Audit}
+use Rattle.tte_forms.specs.declared.form.Form.TheVariants.{Show, Check, Run, Storm, Audit, Capture}
 use Rattle.tte_forms.specs.declared.status.Status.{Status}
 use Rattle.tte_forms.specs.declared.status.Status.TheVariants.{Done, ReadFault, Usage, WriteFault}
 use Rattle.tte_forms.proofs.networks.Answers.{accepted_alone, network_answer_one, acceptance_one}
 use Rattle.tte_forms.proofs.Octets.{for_more}
-use Rattle.tte_forms.proofs.OneAnswers.{one_given}
+use Rattle.tte_forms.proofs.OneAnswers.{answered_done}
+use Rattle.tte_traces.proofs.Answers.{IsAllAdmitted}
 use Rattle.tte_traces.proofs.Completes.{run_one, run_whole}
 use Rattle.tte_forms.proofs.frames.Answers.{shown_whole}
 use Rattle.tte_forms.proofs.FormLemmas.{form_in_range}
@@ -29,14 +35,12 @@ use Rattle.tte_storms.specs.Answer.{IsStormAnswer}
 pub no_usage : (Is : Status → Type 0) (status : Status) → (Is Usage → ⊥) → Is status → status ≢ Usage
 no_usage Is status none is e = none (subst Is e is)
 
--- the answer of `show` is one for its form
-pub shown-form : (first second : Option (List ℕ)) (status : Status) (old new : Shown) → status ≢ Usage → Answers show_answer first status old new
-    → AnswersWords (Some Show) first second status old new
-shown-form first second status old new none g = (
-  none,
-  for_more first (λ octets. Gives (show_answer octets) status old new) (λ octets. GivesOne (IsFormAnswer (Some Show) octets []) status old new)
-      (λ octets h. one_given (λ a. a ≡ show_answer octets) (show_answer octets) status old new refl (λ b e. e) h) g,
-)
+-- the one answer for the octets of a file is one of those
+pub as_one : (answer : List ℕ → Answer) (first : Option (List ℕ)) (status : Status) (old new : Shown) → Answers answer first status old new
+    → ForOctets first (λ octets. GivesAnswer (λ a. a ≡ answer octets) status old new)
+as_one answer first status old new g =
+    for_more first (λ octets. Gives (answer octets) status old new) (λ octets. GivesAnswer (λ a. a ≡ answer octets) status old new)
+    (λ octets h. inl (answer octets, refl, h)) g
 
 pub completes-show : (first second : Option (List ℕ)) (status : Status) (old new : Shown) (SourceRose SinkRose : Type 0)
     → Answers show_answer first status old new
@@ -47,13 +51,10 @@ completes-show (Some octets) second status old new SourceRose SinkRose a read wr
 
 -- an accepted network whose answers are of those that are done is answered to its end
 answered_whole : (Then : Network → Answer → Type 0) → ((n : Network) (a : Answer) → Then n a → a.status ≡ Done) → (octets : List ℕ) (n : Network)
-    (status : Status) (old new : Shown) (SourceRose SinkRose : Type 0) → MeansAccepted octets n → GivesOne (IsNetworkAnswer Then octets) status old new
+    (status : Status) (old new : Shown) (SourceRose SinkRose : Type 0) → MeansAccepted octets n → GivesAnswer (IsNetworkAnswer Then octets) status old new
     → (status ≡ ReadFault → SourceRose) → (status ≡ WriteFault → SinkRose) → (SourceRose → ⊥) → (SinkRose → ⊥) → IsDone status
-answered_whole Then done octets n status old new SourceRose SinkRose m (inl g) read write quiet calm =
-    inl (g.2 ∙ done n g.0 (accepted_alone Then octets n m g.0 g.1))
-answered_whole Then done octets n status old new SourceRose SinkRose m (inr (inl g)) read write quiet calm = absurd (calm (write g.0))
-answered_whole Then done octets n status old new SourceRose SinkRose m (inr (inr (inl r, p))) read write quiet calm = absurd (quiet (read r))
-answered_whole Then done octets n status old new SourceRose SinkRose m (inr (inr (inr o, p))) read write quiet calm = inr o
+answered_whole Then done octets n status old new SourceRose SinkRose m g =
+    answered_done (IsNetworkAnswer Then octets) status old new SourceRose SinkRose g (λ a is. inl (done n a (accepted_alone Then octets n m a is)))
 
 pub completes-check : (first second : Option (List ℕ)) (status : Status) (old new : Shown) (SourceRose SinkRose : Type 0)
     → AnswersOne IsCheckAnswer first status old new
@@ -71,22 +72,40 @@ completes-storm seed cycles (Some octets) second status old new SourceRose SinkR
     λ quiet calm n m. answered_whole (IsStormAnswer seed cycles) (λ k b is. ap (λ (x : Answer). x.status) is.answer) octets n status old new SourceRose
     SinkRose m a read write quiet calm
 
+all_admitted : {octets trace : List ℕ} {n : Network} {events : List Event} → MeansRun octets trace n events → IsAllAdmitted n trace events
+all_admitted m = record { admitted = m.admitted; ended = m.ended; none_left = m.none_left }
+
 pub completes-run : (first second : Option (List ℕ)) (status : Status) (old new : Shown) (SourceRose SinkRose : Type 0)
-    → ForOctets first (λ octets. ForSecond Run second (λ trace. GivesOne (IsFormAnswer (Some Run) octets trace) status old new))
+    → ForOctets first (λ octets. ForSecond trace_file second (λ trace. GivesAnswer (IsFormAnswer (Some Run) octets trace) status old new))
     → (status ≡ ReadFault → SourceRose) → (status ≡ WriteFault → SinkRose) → Completes (Some Run) first second SourceRose SinkRose status
 completes-run None second status old new SourceRose SinkRose a read write = tt
-completes-run (Some octets) None status old new SourceRose SinkRose a read write = tt
+completes-run (Some octets) None status old new SourceRose SinkRose a read write = λ quiet calm. tt
 completes-run (Some octets) (Some trace) status old new SourceRose SinkRose a read write =
-    λ quiet calm n events m admitted ended left. run_whole octets trace n events status old new SourceRose SinkRose m
-    (record { admitted = admitted; ended = ended; none_left = left }) a read write quiet calm
+    λ quiet calm n events m. run_whole octets trace n events status old new SourceRose SinkRose m.accepted (all_admitted m) a read write quiet calm
 
 pub completes-audit : (first second : Option (List ℕ)) (status : Status) (old new : Shown) (SourceRose SinkRose : Type 0)
-    → ForOctets first (λ octets. ForSecond Audit second (λ report. GivesOne (IsFormAnswer (Some Audit) octets report) status old new))
+    → ForOctets first (λ octets. ForSecond report_file second (λ report. GivesAnswer (IsFormAnswer (Some Audit) octets report) status old new))
     → (status ≡ ReadFault → SourceRose) → (status ≡ WriteFault → SinkRose) → Completes (Some Audit) first second SourceRose SinkRose status
 completes-audit None second status old new SourceRose SinkRose a read write = tt
-completes-audit (Some octets) None status old new SourceRose SinkRose a read write = tt
+completes-audit (Some octets) None status old new SourceRose SinkRose a read write = λ quiet calm. tt
 completes-audit (Some octets) (Some report) status old new SourceRose SinkRose a read write =
     λ quiet calm n count m fits audited. audit_whole octets report n count status old new SourceRose SinkRose m fits audited a read write quiet calm
+
+-- an answer that is done was given to its end
+given_whole : (a : Answer) (status : Status) (old new : Shown) (SourceRose SinkRose : Type 0) → a.status ≡ Done → Gives a status old new
+    → (status ≡ ReadFault → SourceRose) → (status ≡ WriteFault → SinkRose) → (SourceRose → ⊥) → (SinkRose → ⊥) → IsDone status
+given_whole a status old new SourceRose SinkRose done (inl g) read write quiet calm = inl (g.0 ∙ done)
+given_whole a status old new SourceRose SinkRose done (inr (inl g)) read write quiet calm = absurd (calm (write g.0))
+given_whole a status old new SourceRose SinkRose done (inr (inr (inl r, p))) read write quiet calm = absurd (quiet (read r))
+given_whole a status old new SourceRose SinkRose done (inr (inr (inr o, p))) read write quiet calm = inr o
+
+pub completes-capture : (first second : Option (List ℕ)) (status : Status) (old new : Shown) (SourceRose SinkRose : Type 0)
+    → Answers capture_answer first status old new
+    → (status ≡ ReadFault → SourceRose) → (status ≡ WriteFault → SinkRose) → Completes (Some Capture) first second SourceRose SinkRose status
+completes-capture None second status old new SourceRose SinkRose a read write = tt
+completes-capture (Some octets) second status old new SourceRose SinkRose a read write =
+    λ quiet calm head ps m. given_whole (capture_answer octets) status old new SourceRose SinkRose
+    (ap (λ (x : Answer). x.status) (shows_packets.whole octets head ps m.file m.opened m.packets)) a read write quiet calm
 
 form_one : BetaIsUnique → RefusalIsOne → (form : Option Form) → IfSome form IsFormInRange → (octets trace : List ℕ) (a b : Answer)
     → IsFormAnswer form octets trace a → IsFormAnswer form octets trace b → a ≡ b
@@ -96,6 +115,7 @@ form_one unique one (Some Check) range octets trace a b p q = network_answer_one
 form_one unique one (Some Run) range octets trace a b p q = run_one one octets trace a b p q
 form_one unique one (Some (Storm seed cycles)) range octets trace a b p q = storm_one one seed cycles range.1 octets a b p q
 form_one unique one (Some Audit) range octets trace a b p q = audit_one one octets trace a b p q
+form_one unique one (Some Capture) range octets trace a b p q = p ∙ sym q
 
 pub one_answer : BetaIsUnique → RefusalIsOne → AnswerIsOne
 one_answer unique one words octets trace a b p q = form_one unique one (form_of words) (form_in_range words) octets trace a b p q

@@ -1,2 +1,4 @@
 pub mod Top
+pub mod SecondFiles
+pub mod Whole
 pub mod reports

@@ -1,7 +1,7 @@
-ghost use Rattle.std.specs.Prelude.{◌≡◌, ◌⊎◌, ◌≤◌, length};
-ghost use Rattle.tte_forms.specs.Answering.{ForOctets, Gives, GivesOne, line_answer};
+ghost use Rattle.std.specs.Prelude.{◌≡◌, ◌≢◌, ◌⊎◌, ◌≤◌, length};
+ghost use Rattle.tte_forms.specs.Answering.{ForOctets, Gives, GivesAnswer, line_answer};
 ghost use Rattle.tte_forms.specs.Faults.{HasCause, IsWanted, PutFailed, ReadFailed};
-ghost use Rattle.tte_forms.specs.Putting.{Over};
+ghost use Rattle.tte_forms.specs.Putting.{Over, PutsNone};
 ghost use Rattle.tte_forms.specs.networks.Accepting.{IsNetworkAnswer};
 ghost use Rattle.tte_run.specs.reports.Answer.{IsAuditAnswer, IsAuditStatus, report_limit, report_refused_answer};
 ghost use Rattle.tte_run.specs.reports.AuditLine.{record_refusal_line};
@@ -11,7 +11,6 @@ ghost use Rattle.tte_run.specs.reports.Safely.{AuditsSafely};
 mod audit_line;
 
 use audit_line::{make_audited_line, make_lack_line, make_record_refusal_line};
-use schedule_checker::refusal_is_one;
 use schedule_tables::Accepted;
 use std::alloc::Global;
 use tte_audit::{AuditRefusal, audit};
@@ -33,7 +32,7 @@ pub fn audit_report<A: Source, B: Source, K: Sink>(
 ) -> Status
     ensures general { Over K.Sink out.old out.new (λ old new.
         ForOctets (A.left first.old) (λ octets. ForOctets (B.left second.old) (λ report.
-        GivesOne (IsNetworkAnswer (IsAuditAnswer report) octets) result old new))) }
+        GivesAnswer (IsNetworkAnswer (IsAuditAnswer report) octets) result old new))) }
     ensures safe { AuditsSafely (A.left first.old) (B.left second.old) result }
     ensures statuses { IsAuditStatus result }
     // Where a source failed, nothing was written.
@@ -44,7 +43,6 @@ pub fn audit_report<A: Source, B: Source, K: Sink>(
     ensures taken { (second.new ≡ second.old)
         ⊎ ReadsReport (A.left first.old) (B.left second.old) (B.left second.new) result }
 {
-    refusal_is_one();
     match accept(alloc, first) {
         Ok(accepted) => audit_file(alloc, &accepted, second, out),
         Err(cause) => put_no_network(cause, out),
@@ -58,7 +56,7 @@ fn audit_file<B: Source, K: Sink>(
     out: &mut K,
 ) -> Status
     ensures gives { Over K.Sink out.old out.new (λ old new.
-        ForOctets (B.left second.old) (λ report. GivesOne (IsAuditAnswer report accepted.now) result old new)) }
+        ForOctets (B.left second.old) (λ report. GivesAnswer (IsAuditAnswer report accepted.now) result old new)) }
     ensures statuses { IsAuditStatus result }
     ensures cause { HasCause result (ReadFailed B.Source second.old second.new × (out.new ≡ out.old))
         (PutFailed K.Sink out.old out.new) }
@@ -74,7 +72,7 @@ fn audit_file<B: Source, K: Sink>(
 
 fn audit_octets<K: Sink>(alloc: Global, accepted: &Accepted, report: &[u8], out: &mut K) -> Status
     requires { length report.now ≤ report_limit }
-    ensures gives { Over K.Sink out.old out.new (GivesOne (IsAuditAnswer report.now accepted.now) result) }
+    ensures gives { Over K.Sink out.old out.new (GivesAnswer (IsAuditAnswer report.now accepted.now) result) }
     ensures statuses { IsAuditStatus result }
     ensures cause { HasCause result ⊥ (PutFailed K.Sink out.old out.new) }
 {
@@ -93,6 +91,8 @@ fn audit_octets<K: Sink>(alloc: Global, accepted: &Accepted, report: &[u8], out:
 /// Answers why the report is refused.
 fn put_report_refusal<K: Sink>(refusal: AuditRefusal, out: &mut K) -> Status
     ensures gives { Over K.Sink out.old out.new (Gives (report_refused_answer refusal) result) }
+    ensures unput { refusal ≡ AuditRefusal.OutOfMemory
+        → (result ≢ Status.WriteFault) × Over K.Sink out.old out.new PutsNone }
     ensures statuses { IsAuditStatus result }
     ensures cause { HasCause result ⊥ (PutFailed K.Sink out.old out.new) }
 {

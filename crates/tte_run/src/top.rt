@@ -4,20 +4,23 @@ ghost use Rattle.tte_forms.specs.Faults.{HasCause, IsWanted, PutFailed, ReadFail
 ghost use Rattle.tte_forms.specs.Forms.{form_of};
 ghost use Rattle.tte_forms.specs.Putting.{Over};
 ghost use Rattle.tte_run.specs.reports.Reading.{ReadsReport};
-ghost use Rattle.tte_traces.specs.Streaming.{RunStops, RunTakesLittle};
-ghost use Rattle.tte_run.specs.Top.{AnswerIsOne, AnswersSafely, AnswersWords, Completes, FailsToRead, TakesSecond, usage_answer};
+ghost use Rattle.tte_run.specs.SecondFiles.{FailsToRead, FormTakesLittle, FormStops, TakesSecond, second_of};
+ghost use Rattle.tte_run.specs.Top.{AnswerIsOne, AnswersSafely, AnswersWords, usage_answer};
+ghost use Rattle.tte_run.specs.Whole.{Completes};
 
 use crate::audit_report;
 use net_plan::beta_is_unique;
 use schedule_checker::refusal_is_one;
 use std::alloc::Global;
+use tte_captures::capture_file;
 use tte_forms::{Form, Status, Words, check_network, put_last, read_form, show};
 use tte_io::{Sink, Source};
 use tte_storms::storm_run;
 use tte_traces::run_trace;
 
 const USAGE: &str =
-    "usage: tte show FILE | check NETWORK | run NETWORK TRACE | storm NETWORK SEED CYCLES | audit NETWORK REPORT\n";
+    "usage: tte show FILE | check NETWORK | run NETWORK TRACE | storm NETWORK SEED CYCLES | \
+                     audit NETWORK REPORT | capture FILE\n";
 
 /// All that the program does: it answers the words, with `first` as the file that word 2 names and
 /// `second` as the one that word 3 names, and writes to `out`.
@@ -33,13 +36,15 @@ pub fn tte<A: Source, B: Source, K: Sink>(
     ensures safe { Over K.Sink out.old out.new
         (AnswersSafely (form_of words.now) (A.left first.old) (B.left second.old) result) }
     ensures faults { HasCause result
-        (FailsToRead (form_of words.now)
+        (FailsToRead (second_of (form_of words.now))
         (ReadFailed A.Source first.old first.new) (ReadFailed B.Source second.old second.new)
         (out.new ≡ out.old) (second.new ≡ second.old)
-        (Over K.Sink out.old out.new (RunStops (A.left first.old) (B.left second.old) (B.left second.new))))
+        (Over K.Sink out.old out.new
+        (FormStops (form_of words.now) (A.left first.old) (B.left second.old) (B.left second.new))))
         (PutFailed K.Sink out.old out.new) }
-    ensures second { TakesSecond (form_of words.now) (second.new ≡ second.old)
-        (Over K.Sink out.old out.new (RunTakesLittle (A.left first.old) (B.left second.old) (B.left second.new)))
+    ensures second { TakesSecond (second_of (form_of words.now)) (second.new ≡ second.old)
+        (Over K.Sink out.old out.new
+        (FormTakesLittle (form_of words.now) (A.left first.old) (B.left second.old) (B.left second.new)))
         (ReadsReport (A.left first.old) (B.left second.old) (B.left second.new) result) }
     ensures complete { Completes (form_of words.now) (A.left first.old) (B.left second.old)
         (ReadFailed A.Source first.old first.new ⊎ ReadFailed B.Source second.old second.new)
@@ -51,6 +56,7 @@ pub fn tte<A: Source, B: Source, K: Sink>(
         Some(Form::Run) => run_trace(alloc, first, second, out),
         Some(Form::Storm { seed, cycles }) => storm_run(alloc, first, seed, cycles, out),
         Some(Form::Audit) => audit_report(alloc, first, second, out),
+        Some(Form::Capture) => capture_file(alloc, first, out),
         None => put_usage(out),
     }
 }

@@ -11,13 +11,13 @@ use Rattle.tte_audit.specs.Laws.{HasOneAnswer}
 use Rattle.tte_audit.specs.Named.{IsNamed}
 use Rattle.tte_audit.specs.declared.refusal.AuditRefusal.{AuditRefusal}
 use Rattle.tte_audit.specs.declared.refusal.AuditRefusal.TheVariants as refusals
-use Rattle.tte_forms.specs.Answering.{Answer, Ends, Gives, GivesOne, IsDone}
-use Rattle.tte_forms.specs.Putting.{Shown}
+use Rattle.tte_forms.specs.Answering.{Answer, Ends, Gives, GivesAnswer, IsDone}
+use Rattle.tte_forms.specs.Putting.{PutsNone, Shown}
 use Rattle.tte_forms.specs.declared.status.Status.{Status}
 use Rattle.tte_forms.specs.declared.status.Status.TheVariants.{ReadFault, WriteFault, OutOfMemory, TooLong}
 use Rattle.tte_forms.specs.networks.Accepting.{IsNetworkAnswer, MeansAccepted, too_long_answer}
 use Rattle.tte_run.specs.reports.Answer.{FailsAudit, IsAuditAnswer, PassesAudit, audited_answer, report_limit, report_refused_answer}
-use Rattle.tte_forms.proofs.OneAnswers.{cut_given, none_put, one_given}
+use Rattle.tte_forms.proofs.OneAnswers.{answered_done, unput_answer}
 use Rattle.tte_forms.proofs.Puts.{Ends-gives, PutsLines-none}
 use Rattle.tte_forms.proofs.networks.Answers.{accepted_alone, network_answer_one}
 
@@ -71,42 +71,38 @@ audit_one one octets report a b p q =
 -- ---- how it is given
 
 pub long_given : (network : Network) (octets : List ℕ) (status : Status) (old new : Shown) → report_limit < length octets → Ends TooLong status old new
-    → GivesOne (IsAuditAnswer octets network) status old new
+    → GivesAnswer (IsAuditAnswer octets network) status old new
 long_given network octets status old new long ends =
-    one_given (IsAuditAnswer octets network) too_long_answer status old new (inl (long, refl)) (too_long_alone network octets long)
-    (Ends-gives [] TooLong status old old new (PutsLines-none old) ends)
+    inl (too_long_answer, inl (long, refl), Ends-gives [] TooLong status old old new (PutsLines-none old) ends)
 
-pub audited_given : (network : Network) (octets : List ℕ) (count : ℕ) (status : Status) (old new : Shown) → KeepsRules network
-    → PassesAudit network octets count → Gives (audited_answer count) status old new → GivesOne (IsAuditAnswer octets network) status old new
-audited_given network octets count status old new rules p g =
-    one_given (IsAuditAnswer octets network) (audited_answer count) status old new (inr (inl (count, p, refl))) (audited_alone network octets count rules p) g
+pub audited_given : (network : Network) (octets : List ℕ) (count : ℕ) (status : Status) (old new : Shown) → PassesAudit network octets count
+    → Gives (audited_answer count) status old new → GivesAnswer (IsAuditAnswer octets network) status old new
+audited_given network octets count status old new p g = inl (audited_answer count, inr (inl (count, p, refl)), g)
 
 -- a refusal that the octets give was told
-told_given : (network : Network) (octets : List ℕ) (refusal : AuditRefusal) (status : Status) (old new : Shown) → KeepsRules network
-    → FailsAudit network octets refusal → Gives (report_refused_answer refusal) status old new → GivesOne (IsAuditAnswer octets network) status old new
-told_given network octets refusal status old new rules f g =
-    one_given (IsAuditAnswer octets network) (report_refused_answer refusal) status old new (inr (inr (refusal, f, refl)))
-    (refused_alone network octets refusal rules f) g
+told_given : (network : Network) (octets : List ℕ) (refusal : AuditRefusal) (status : Status) (old new : Shown) → FailsAudit network octets refusal
+    → Gives (report_refused_answer refusal) status old new → GivesAnswer (IsAuditAnswer octets network) status old new
+told_given network octets refusal status old new f g = inl (report_refused_answer refusal, inr (inr (refusal, f, refl)), g)
 
 -- ..., or memory ran out
-pub refused_given : (network : Network) (octets : List ℕ) (refusal : AuditRefusal) (status : Status) (old new : Shown) → KeepsRules network
-    → IsInRange network → length octets ≤ report_limit → IsRefusedBy network octets refusal → Gives (report_refused_answer refusal) status old new
-    → GivesOne (IsAuditAnswer octets network) status old new
-refused_given network octets (refusals.Form n) status old new rules range fits r g =
-    told_given network octets (refusals.Form n) status old new rules (record { range = range; fits = fits; of_report = tt; refused = r }) g
-refused_given network octets (refusals.Events n) status old new rules range fits r g =
-    told_given network octets (refusals.Events n) status old new rules (record { range = range; fits = fits; of_report = tt; refused = r }) g
-refused_given network octets (refusals.Unfounded n) status old new rules range fits r g =
-    told_given network octets (refusals.Unfounded n) status old new rules (record { range = range; fits = fits; of_report = tt; refused = r }) g
-refused_given network octets (refusals.Lacking t) status old new rules range fits r g =
-    told_given network octets (refusals.Lacking t) status old new rules (record { range = range; fits = fits; of_report = tt; refused = r }) g
-refused_given network octets refusals.OutOfMemory status old new rules range fits r g =
-    cut_given (IsAuditAnswer octets network) (report_refused_answer refusals.OutOfMemory) status old new refl (inr refl) g
+pub refused_given : (network : Network) (octets : List ℕ) (refusal : AuditRefusal) (status : Status) (old new : Shown) → IsInRange network
+    → length octets ≤ report_limit → IsRefusedBy network octets refusal → Gives (report_refused_answer refusal) status old new
+    → (refusal ≡ refusals.OutOfMemory → (status ≡ WriteFault → ⊥) × PutsNone old new) → GivesAnswer (IsAuditAnswer octets network) status old new
+refused_given network octets (refusals.Form n) status old new range fits r g unput =
+    told_given network octets (refusals.Form n) status old new (record { range = range; fits = fits; of_report = tt; refused = r }) g
+refused_given network octets (refusals.Events n) status old new range fits r g unput =
+    told_given network octets (refusals.Events n) status old new (record { range = range; fits = fits; of_report = tt; refused = r }) g
+refused_given network octets (refusals.Unfounded n) status old new range fits r g unput =
+    told_given network octets (refusals.Unfounded n) status old new (record { range = range; fits = fits; of_report = tt; refused = r }) g
+refused_given network octets (refusals.Lacking t) status old new range fits r g unput =
+    told_given network octets (refusals.Lacking t) status old new (record { range = range; fits = fits; of_report = tt; refused = r }) g
+refused_given network octets refusals.OutOfMemory status old new range fits r g unput =
+    unput_answer (IsAuditAnswer octets network) (report_refused_answer refusals.OutOfMemory) status old new (inr refl) (unput refl) g
 
--- where nothing was put and a read failed or memory ran out, a front of any answer was given
+-- a read failed or memory ran out, and nothing was put
 pub unput_given : (network : Network) (octets : List ℕ) (status : Status) (s : Shown) → (status ≡ ReadFault) ⊎ (status ≡ OutOfMemory)
-    → GivesOne (IsAuditAnswer octets network) status s s
-unput_given network octets status s cause = inr (inr (cause, λ a is. none_put a.lines s s (PutsLines-none s)))
+    → GivesAnswer (IsAuditAnswer octets network) status s s
+unput_given network octets status s cause = inr (cause, (refl, refl))
 
 -- ---- valid input
 
@@ -117,18 +113,11 @@ done_of network report count a rules fits audited (inr (inl h)) = inl (ap (λ (x
 done_of network report count a rules fits audited (inr (inr h)) =
     absurd ((judged_once network report rules h.1.range).not_both count h.0 h.1.of_report audited h.1.refused)
 
-same_done : (status other : Status) → status ≡ other → IsDone other → IsDone status
-same_done status other e (inl d) = inl (e ∙ d)
-same_done status other e (inr m) = inr (e ∙ m)
-
 -- a report of a run of an accepted network is audited
 pub audit_whole : (octets report : List ℕ) (network : Network) (count : ℕ) (status : Status) (old new : Shown) (SourceRose SinkRose : Type 0)
     → MeansAccepted octets network → length report ≤ report_limit → IsAudited network report count
-    → GivesOne (IsNetworkAnswer (IsAuditAnswer report) octets) status old new → (status ≡ ReadFault → SourceRose) → (status ≡ WriteFault → SinkRose)
+    → GivesAnswer (IsNetworkAnswer (IsAuditAnswer report) octets) status old new → (status ≡ ReadFault → SourceRose) → (status ≡ WriteFault → SinkRose)
     → (SourceRose → ⊥) → (SinkRose → ⊥) → IsDone status
-audit_whole octets report network count status old new SourceRose SinkRose m fits audited (inl g) read write quiet calm =
-    same_done status g.0.status g.2 (done_of network report count g.0 m.rules fits audited (accepted_alone (IsAuditAnswer report) octets network m g.0 g.1))
-audit_whole octets report network count status old new SourceRose SinkRose m fits audited (inr (inl g)) read write quiet calm = absurd (calm (write g.0))
-audit_whole octets report network count status old new SourceRose SinkRose m fits audited (inr (inr (inl r, p))) read write quiet calm =
-    absurd (quiet (read r))
-audit_whole octets report network count status old new SourceRose SinkRose m fits audited (inr (inr (inr o, p))) read write quiet calm = inr o
+audit_whole octets report network count status old new SourceRose SinkRose m fits audited g =
+    answered_done (IsNetworkAnswer (IsAuditAnswer report) octets) status old new SourceRose SinkRose g
+    (λ a is. done_of network report count a m.rules fits audited (accepted_alone (IsAuditAnswer report) octets network m a is))

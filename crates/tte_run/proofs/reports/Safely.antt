@@ -10,7 +10,7 @@ use Rattle.tte_audit.specs.Named.{IsNamed}
 use Rattle.tte_audit.specs.Report.{events_of}
 use Rattle.tte_audit.specs.declared.refusal.AuditRefusal.{AuditRefusal}
 use Rattle.tte_audit.specs.declared.refusal.AuditRefusal.TheVariants as refusals
-use Rattle.tte_forms.specs.Answering.{Answer, ForOctets, GivesOne}
+use Rattle.tte_forms.specs.Answering.{Answer, ForOctets, GivesAnswer}
 use Rattle.tte_forms.specs.Putting.{Shown}
 use Rattle.tte_forms.specs.declared.status.Status.{Status}
 use Rattle.tte_forms.specs.declared.status.Status.TheVariants.{Done}
@@ -36,6 +36,8 @@ safe_run octets report network count accepted p =
       text = a.events.text.text ∙ append-nil (concat (report_of network a.notes));
       run = ended fresh_segment stepped_segment segment_reading exact_laws exact_begins network events a.time a.notes
           (report_under network report a.notes a.time named accepted.rules a.events) (report_ends events a.time a.events.ends) a.run;
+      time = a.time;
+      events = a.events;
     }
 
 -- no refusal is told as done
@@ -63,16 +65,18 @@ answered_safely octets report a (inr (inr (inl h))) done = let e = told a _ done
 answered_safely octets report a (inr (inr (inr h))) done = done_safely octets report h.0 a h.1 h.2 done
 
 given_safely : (octets report : List ℕ) (status : Status) (old new : Shown) → status ≡ Done
-    → GivesOne (IsNetworkAnswer (IsAuditAnswer report) octets) status old new → ReportsSafeRun octets report
-given_safely octets report status old new done (inl g) = answered_safely octets report g.0 g.1 (sym done ∙ g.2)
-given_safely octets report status old new done (inr (inl g)) = let e = g.0 in absurd cc
-given_safely octets report status old new done (inr (inr (inl r, p))) = absurd cc
-given_safely octets report status old new done (inr (inr (inr o, p))) = absurd cc
+    → GivesAnswer (IsNetworkAnswer (IsAuditAnswer report) octets) status old new → ReportsSafeRun octets report
+given_safely octets report status old new done (inl (a, is, inl g)) = answered_safely octets report a is (sym done ∙ g.0)
+given_safely octets report status old new done (inl (a, is, inr (inl g))) = let e = g.0 in absurd cc
+given_safely octets report status old new done (inl (a, is, inr (inr (inl r, p)))) = absurd cc
+given_safely octets report status old new done (inl (a, is, inr (inr (inr m, p)))) = absurd cc
+given_safely octets report status old new done (inr (inl r, p)) = absurd cc
+given_safely octets report status old new done (inr (inr m, p)) = absurd cc
 
 pub audited_safely : (first second : Option (List ℕ)) (status : Status) (old new : Shown) → GivesNetworkAudit first second status old new
     → AuditsSafely first second status
 audited_safely first second status old new g done =
-    for_more first (λ octets. ForOctets second (λ report. GivesOne (IsNetworkAnswer (IsAuditAnswer report) octets) status old new))
+    for_more first (λ octets. ForOctets second (λ report. GivesAnswer (IsNetworkAnswer (IsAuditAnswer report) octets) status old new))
     (λ octets. ForOctets second (λ report. ReportsSafeRun octets report))
-    (λ octets h. for_more second (λ report. GivesOne (IsNetworkAnswer (IsAuditAnswer report) octets) status old new)
+    (λ octets h. for_more second (λ report. GivesAnswer (IsNetworkAnswer (IsAuditAnswer report) octets) status old new)
     (λ report. ReportsSafeRun octets report) (λ report. given_safely octets report status old new done) h) g

@@ -8,7 +8,7 @@ use Rattle.tte_audit.specs.declared.refusal.AuditRefusal.{AuditRefusal}
 use Rattle.tte_audit.specs.declared.refusal.AuditRefusal.TheVariants as refusals
 use Rattle.tte_forms.specs.Answering.{Answer, line_answer}
 use Rattle.tte_forms.specs.declared.status.Status.{Status}
-use Rattle.tte_forms.specs.declared.status.Status.TheVariants.{Done, Usage, FrameRefused, NetworkRefused, TraceRefused, OutsideHypothesis, ReadFault, WriteFault, OutOfMemory, TooLong, AuditRefused}
+use Rattle.tte_forms.specs.declared.status.Status.TheVariants.{Done, Usage, FrameRefused, NetworkRefused, TraceRefused, OutsideHypothesis, ReadFault, WriteFault, OutOfMemory, TooLong, AuditRefused, GranuleRefused, CaptureRefused, NameRefused, VoteRefused}
 use Rattle.tte_forms.specs.networks.Accepting.{too_long_answer}
 use Rattle.tte_run.specs.reports.AuditLine.{audited_line, lack_line, record_refusal_line}
 
@@ -62,3 +62,7 @@ IsAuditStatus WriteFault = Unit {0}
 IsAuditStatus OutOfMemory = Unit {0}
 IsAuditStatus TooLong = Unit {0}
 IsAuditStatus AuditRefused = Unit {0}
+IsAuditStatus GranuleRefused = ⊥
+IsAuditStatus CaptureRefused = ⊥
+IsAuditStatus NameRefused = ⊥
+IsAuditStatus VoteRefused = ⊥

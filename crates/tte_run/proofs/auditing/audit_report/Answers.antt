@@ -13,8 +13,8 @@ returns-in-Ok-clause-general g c =
 pub returns-in-Err-clause-general : goal.returns-in-Err-clause-general
 returns-in-Err-clause-general g c =
     let shown = shown_by g.K.Sink in
-    audit_refused c.refusal_is_one.ensures (g.A.Source.left c.args.first.now) (g.B.Source.left c.args.second.now) c.in-Err.cause c.put_no_network.result
-    (shown c.args.out.now) (shown c.put_no_network.new.out) c.in-Err.ensures.none c.put_no_network.ensures.gives
+    audit_refused (g.A.Source.left c.args.first.now) (g.B.Source.left c.args.second.now) c.in-Err.cause c.put_no_network.result
+    (shown c.args.out.now) (shown c.put_no_network.new.out) c.in-Err.ensures.none c.put_no_network.ensures.gives c.put_no_network.ensures.unput
 
 pub returns-in-Ok-clause-safe : goal.returns-in-Ok-clause-safe
 returns-in-Ok-clause-safe g c =
@@ -29,8 +29,8 @@ returns-in-Err-clause-safe g c =
     let shown = shown_by g.K.Sink in
     audited_safely (g.A.Source.left c.args.first.now) (g.B.Source.left c.args.second.now) c.put_no_network.result (shown c.args.out.now)
     (shown c.put_no_network.new.out)
-    (audit_refused c.refusal_is_one.ensures (g.A.Source.left c.args.first.now) (g.B.Source.left c.args.second.now) c.in-Err.cause c.put_no_network.result
-    (shown c.args.out.now) (shown c.put_no_network.new.out) c.in-Err.ensures.none c.put_no_network.ensures.gives)
+    (audit_refused (g.A.Source.left c.args.first.now) (g.B.Source.left c.args.second.now) c.in-Err.cause c.put_no_network.result
+    (shown c.args.out.now) (shown c.put_no_network.new.out) c.in-Err.ensures.none c.put_no_network.ensures.gives c.put_no_network.ensures.unput)
 
 -- the network was accepted, so the second file may have been read
 pub returns-in-Ok-clause-taken : goal.returns-in-Ok-clause-taken

@@ -1,15 +1,17 @@
 use Rattle.std.proofs.Common.{◌≡◌, ◌⊎◌, ℕ, List, Option, Some, None, inl, inr, subst, rules}
 use Rattle.tte_forms.specs.Forms.{form_of}
-use Rattle.tte_forms.specs.frames.Answer.{IsShowStatus}
+use Rattle.tte_forms.specs.frames.Answer.{IsShowStatus, show_answer}
 use Rattle.tte_forms.specs.networks.Checking.{IsCheckStatus}
 use Rattle.tte_traces.specs.Answer.{IsRunStatus}
 use Rattle.tte_run.specs.reports.Answer.{IsAuditStatus}
 use Rattle.tte_forms.specs.Putting.{Shown, shown_by}
-use Rattle.tte_run.specs.Top.{AnswersWords, Completes}
+use Rattle.tte_captures.specs.Answer.{IsCaptureStatus, capture_answer}
+use Rattle.tte_run.specs.Top.{AnswersWords}
+use Rattle.tte_run.specs.Whole.{Completes}
 use Rattle.tte_forms.specs.declared.form.Form.{Form}
-use Rattle.tte_forms.specs.declared.form.Form.TheVariants.{Show, Check, Run, Storm, Audit}
+use Rattle.tte_forms.specs.declared.form.Form.TheVariants.{Show, Check, Run, Storm, Audit, Capture}
 use Rattle.tte_forms.specs.declared.status.Status.{Status}
-use Rattle.tte_run.proofs.TopAnswers.{no_usage, shown-form, completes-show, completes-check, completes-run, completes-storm, completes-audit}
+use Rattle.tte_run.proofs.TopAnswers.{as_one, no_usage, completes-capture, completes-show, completes-check, completes-run, completes-storm, completes-audit}
 use Rattle.tte_run.proofs.top.tte.Goals as goal
 
 -- what is answered for the form is answered for the words
@@ -33,8 +35,8 @@ returns-in-Some-Show-clause-general g c =
     let second = g.B.Source.left c.args.second.now in
     let old = shown_by g.K.Sink c.args.out.now in
     let new = shown_by g.K.Sink c.show.new.out in
-    words_as form first second c.show.result old new (shown-form first second c.show.result old new
-    (no_usage IsShowStatus c.show.result (λ none. none) c.show.ensures.statuses) c.show.ensures.general)
+    words_as form first second c.show.result old new
+    (no_usage IsShowStatus c.show.result (λ none. none) c.show.ensures.statuses, as_one show_answer first c.show.result old new c.show.ensures.general)
 
 pub returns-in-Some-Show-clause-complete : goal.returns-in-Some-Show-clause-complete
 returns-in-Some-Show-clause-complete g c =
@@ -138,3 +140,26 @@ returns-in-Some-Audit-clause-complete g c =
     whole_as form first second c.audit_report.result _ _
     (completes-audit first second c.audit_report.result old new _ _ c.audit_report.ensures.general
     (λ e. read_rose (c.audit_report.ensures.faults.read e)) c.audit_report.ensures.faults.write)
+
+pub returns-in-Some-Capture-clause-general : goal.returns-in-Some-Capture-clause-general
+returns-in-Some-Capture-clause-general g c =
+    let form : Some Capture ≡ form_of c.args.words.now = search rules in
+    let first = g.A.Source.left c.args.first.now in
+    let second = g.B.Source.left c.args.second.now in
+    let old = shown_by g.K.Sink c.args.out.now in
+    let new = shown_by g.K.Sink c.capture_file.new.out in
+    words_as form first second c.capture_file.result old new (
+      no_usage IsCaptureStatus c.capture_file.result (λ none. none) c.capture_file.ensures.statuses,
+      as_one capture_answer first c.capture_file.result old new c.capture_file.ensures.general,
+    )
+
+pub returns-in-Some-Capture-clause-complete : goal.returns-in-Some-Capture-clause-complete
+returns-in-Some-Capture-clause-complete g c =
+    let form : Some Capture ≡ form_of c.args.words.now = search rules in
+    let first = g.A.Source.left c.args.first.now in
+    let second = g.B.Source.left c.args.second.now in
+    let old = shown_by g.K.Sink c.args.out.now in
+    let new = shown_by g.K.Sink c.capture_file.new.out in
+    whole_as form first second c.capture_file.result _ _
+    (completes-capture first second c.capture_file.result old new _ _ c.capture_file.ensures.general
+    (λ e. inl (c.capture_file.ensures.faults.read e).0) c.capture_file.ensures.faults.write)

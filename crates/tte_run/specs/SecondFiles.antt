@@ -1,0 +1,49 @@
+-- What the forms do with their second file.
+use Rattle.std.specs.Prelude.{◌⊎◌, ℕ, List, [], Option, Some}
+use Rattle.tte_forms.specs.Answering.{ForOctets}
+use Rattle.tte_forms.specs.Putting.{Shown}
+use Rattle.tte_forms.specs.declared.form.Form.{Form}
+use Rattle.tte_forms.specs.declared.form.Form.TheVariants.{Run, Audit}
+use Rattle.tte_traces.specs.Streaming.{RunStops, RunTakesLittle}
+
+-- what the second file is, if there is one
+pub data Second : Type 0 where
+  no_second : Second
+  trace_file : Second
+  report_file : Second
+
+-- what it is for the words of a form, or of none
+abbrev pub second_of : Option Form → Second
+second_of (Some Run) = trace_file
+second_of (Some Audit) = report_file
+second_of other = no_second
+
+-- the fact holds for the octets of the second file, if there is one
+abbrev pub ForSecond : Second → Option (List ℕ) → (List ℕ → Type 0) → Type 0
+ForSecond no_second left P = P []
+ForSecond trace_file left P = ForOctets left P
+ForSecond report_file left P = ForOctets left P
+
+-- a read failed: of the first file, and then nothing was put and the second was not read; or of the second, and then,
+-- for a trace, what was put stops behind the lines that were taken, and for a report nothing was put
+abbrev pub FailsToRead : Second → Type 0 → Type 0 → Type 0 → Type 0 → Type 0 → Type 0
+FailsToRead no_second InFirst InSecond Unput Unread Stops = InFirst × Unput × Unread
+FailsToRead trace_file InFirst InSecond Unput Unread Stops = (InFirst × Unput × Unread) ⊎ (InSecond × Stops)
+FailsToRead report_file InFirst InSecond Unput Unread Stops = (InFirst × Unput × Unread) ⊎ (InSecond × Unput)
+
+-- what was put from a trace stops behind the lines that were taken, for the form
+abbrev pub FormStops : Option Form → Option (List ℕ) → Option (List ℕ) → Option (List ℕ) → Shown → Shown → Type 0
+FormStops (Some Run) first second left old new = RunStops first second left old new
+FormStops other first second left old new = Unit {0}
+
+-- a trace is read, and by that little more of it than what was put is of; a report is read for an accepted network; and
+-- where there is neither, no second file is read
+abbrev pub TakesSecond : Second → Type 0 → Type 0 → Type 0 → Type 0
+TakesSecond no_second Unread Little Whole = Unread
+TakesSecond trace_file Unread Little Whole = Unread ⊎ Little
+TakesSecond report_file Unread Little Whole = Unread ⊎ Whole
+
+-- little more of a trace was taken than what was put is of, for the form
+abbrev pub FormTakesLittle : Option Form → Option (List ℕ) → Option (List ℕ) → Option (List ℕ) → Shown → Shown → Type 0
+FormTakesLittle (Some Run) first second left old new = RunTakesLittle first second left old new
+FormTakesLittle other first second left old new = Unit {0}
