@@ -8,6 +8,7 @@ _tte_forms=(
     'run NETWORK TRACE'
     'storm NETWORK SEED CYCLES'
     'audit NETWORK REPORT'
+    'capture FILE'
     'prove'
 )
 
