@@ -276,7 +276,7 @@ first_of [] = 0
 first_of (t ∷ rest) = t
 
 -- records at one place are of one time
-same_time : (x y : Happening) → place_of x ≡ place_of y → time_of x ≡ time_of y
+pub same_time : (x y : Happening) → place_of x ≡ place_of y → time_of x ≡ time_of y
 same_time x y same = ap first_of same
 
 pub debt_law : DebtLaw

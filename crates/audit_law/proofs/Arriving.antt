@@ -37,12 +37,14 @@ use Rattle.run_law.proofs.law.FirstPlaces.{IsSplit, none_kept, numbered_in, same
 use Rattle.std.proofs.lemmas.List.{append-nil}
 use Rattle.std.proofs.lemmas.List.Elements.{filter-append}
 use Rattle.run_law.proofs.runs.Places.{in_right}
-use Rattle.run_law.proofs.runs.SameSteps.{same_arrival, same_some}
+use Rattle.run_law.proofs.runs.SameSteps.{same_arrival}
 use Rattle.tte_units.specs.Amount.{amount, units_of}
 use Rattle.tte_units.specs.declared.units.Units.{Units}
 use Rattle.audit_law.specs.Arrivals.{IsDueByArrival, OwesArrival, TellsArrival, arrival_record}
 use Rattle.audit_law.specs.Debts.{IsDueIn}
 use Rattle.audit_law.specs.DebtLaws.{ArrivalLaw}
+use Rattle.net_plan.proofs.SameIds.{same_device}
+use Rattle.tte_lemmas.proofs.Options.{one as same_some}
 use Rattle.audit_law.proofs.Owing.{PaidAt, due_there, found_before, in_whole, next_is_due, next_of, split_at, timely, within}
 
 -- ---- one judgement, by a front or by the whole list
@@ -73,9 +75,6 @@ by_octets network device link at octets last other None same =
     by_entry network device at (length octets) last other _ same
 
 -- ---- what was taken before
-
-same_device : (a b : DeviceId) → a.0 ≡ b.0 → a ≡ b
-same_device a b same = ap (λ (n : ℕ). let d : DeviceId = record { 0 = n } in d) same
 
 -- an arrival of one time that comes before another is before it by its route
 route_before : (link by : LinkId) (cause from : ℕ) → comes_before by from link cause ≡ true → IsBefore (by.0 ∷ from ∷ []) (link.0 ∷ cause ∷ [])

@@ -1,47 +1,28 @@
 -- Records behind the last change of a device's adjustment: they bring it to no state with a correction point.
 use Rattle.std.proofs.lemmas.Bool.{both_ways, eq-eqb, eqb-true}
-use Rattle.std.proofs.Common.{◌≡◌, ◌⊎◌, ℕ, ◌+◌, Bool, true, false, List, [], ◌∷◌, Some, inl, inr, refl, ap, ◌∙◌, if◌then◌else◌}
+use Rattle.std.proofs.Common.{◌≡◌, ◌⊎◌, ℕ, Bool, true, false, List, [], ◌∷◌, Some, inl, inr, refl, ap, ◌∙◌, if◌then◌else◌}
 use Rattle.std.specs.List.{fold}
 use Rattle.std.specs.Prelude.{◌==◌}
 use Rattle.audit_law.specs.DueRecords.{ChangesState}
 use Rattle.net_plan.specs.declared.ids.DeviceId.{DeviceId}
-use Rattle.run_law.specs.control.Corrections.{cycle_after}
-use Rattle.run_law.specs.declared.judgement.Judgement.TheVariants.{Integrates}
+use Rattle.run_law.proofs.device.States.{joined_changes}
 use Rattle.run_law.specs.declared.judgement.Why.TheVariants as whys
 use Rattle.run_law.specs.declared.judgement.Why.{Why}
 use Rattle.run_law.specs.declared.note.NoteBody.TheVariants as notes
 use Rattle.run_law.specs.declared.note.NoteBody.{NoteBody}
 use Rattle.run_law.specs.device.LocalClocks.{changes_adjustment}
-use Rattle.run_law.specs.device.States.{adjustment_with, cycle_in, is_joined_by, joined_adjustment, state_with}
+use Rattle.run_law.specs.device.States.{is_joined_by, state_with}
 use Rattle.run_law.specs.records.Happenings.{Happening, numbered, time_of}
 use Rattle.run_law.specs.records.Order.{IsIn}
 use Rattle.run_law.specs.scenario.Scenarios.{Scenario}
 use Rattle.sync_state.specs.declared.state.State.TheVariants.{Integrating, Joining, Off, Synchronised}
 use Rattle.sync_state.specs.declared.state.State.{State}
-use Rattle.tte_units.specs.declared.units.Units.{Units}
 
 -- ---- a record that does not change the adjustment
-
-joined_changes : (device : DeviceId) (body : NoteBody) → is_joined_by device body ≡ true → changes_adjustment device body ≡ true
-joined_changes device (notes.Corrected other cycle by adjustment) e = absurd cc
-joined_changes device body e = e
 
 pub not_joined : (device : DeviceId) (body : NoteBody) → changes_adjustment device body ≡ false → is_joined_by device body ≡ false
 not_joined device (notes.Corrected other cycle by adjustment) e = refl
 not_joined device body e = e
-
-pub adjustment_stays : (s : Scenario) (device : DeviceId) (cycle : ℕ) (old : Units) (body : NoteBody) → changes_adjustment device body ≡ false
-    → adjustment_with s device cycle old body ≡ old
-adjustment_stays s device cycle old (notes.Corrected other number by adjustment) e = ap (λ (b : Bool). if b then adjustment else old) e
-adjustment_stays s device cycle old (notes.Permanent other link cause point Integrates) e =
-    ap (λ (b : Bool). if b then joined_adjustment s device cycle point else old) e
-adjustment_stays s device cycle old (notes.Compressed other opened at own members Integrates) e =
-    ap (λ (b : Bool). if b then joined_adjustment s device own at else old) e
-adjustment_stays s device cycle old other e = refl
-
-pub cycle_stays : (device : DeviceId) (next : ℕ) (h : Happening) (body : NoteBody) → changes_adjustment device body ≡ false → cycle_after device next h body ≡ next
-cycle_stays device next h (notes.Corrected other cycle by adjustment) e = ap (λ (b : Bool). if b then cycle + 1 else next) e
-cycle_stays device next h body e = ap (λ (b : Bool). if b then cycle_in h else next) (not_joined device body e)
 
 -- ---- states
 

@@ -20,11 +20,12 @@ use Rattle.run_law.specs.scenario.Scenarios.{Scenario, is_turned_on_at}
 use Rattle.sync_state.specs.declared.state.State.TheVariants.{Integrating, Joining}
 use Rattle.sync_state.specs.declared.state.State.{State}
 use Rattle.run_law.proofs.law.FirstPlaces.{same_earlier, split}
-use Rattle.run_law.proofs.runs.SameSteps.{same_some}
 use Rattle.audit_law.specs.Changes.{IsBrought, IsDueByChange, OwesChange, TellsChange}
 use Rattle.audit_law.specs.Debts.{IsDueIn}
 use Rattle.audit_law.specs.DebtLaws.{ChangeLaw}
-use Rattle.audit_law.proofs.Owing.{PaidAt, ahead, due_there, earlier_in, found_before, from_one, in_whole, next_is_due, next_of, timely, within}
+use Rattle.run_law.proofs.records.Order.{ahead}
+use Rattle.tte_lemmas.proofs.Options.{one as same_some}
+use Rattle.audit_law.proofs.Owing.{PaidAt, due_there, earlier_in, found_before, from_one, in_whole, next_is_due, next_of, timely, within}
 
 -- ---- what brings a change
 

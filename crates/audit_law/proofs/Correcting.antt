@@ -39,8 +39,8 @@ use Rattle.tte_units.specs.declared.units.Units.{Units}
 use Rattle.audit_law.specs.CorrectionPoints.{IsDueByPoint, IsPointOf, OwesPoint, ShowsVerdict, TellsPoint}
 use Rattle.audit_law.specs.Debts.{IsDueIn}
 use Rattle.audit_law.specs.DebtLaws.{PointLaw}
-use Rattle.audit_law.proofs.Dispatching.{reaches_by}
-use Rattle.audit_law.proofs.LastParts.{after_more, all_kept, has_passed, makes_none}
+use Rattle.run_law.proofs.device.States.{reaches_by}
+use Rattle.run_law.proofs.records.Order.{after_more, all_kept, has_passed, makes_none}
 use Rattle.audit_law.proofs.Owing.{PaidAt, due_there, next_is_due, next_of, split_at, timely, within}
 
 -- ---- what the records of earlier times tell
@@ -83,7 +83,7 @@ comes_by s gs hs device t cycle v same heard h =
 -- ---- what is heard up to a time
 
 -- records from corrections on tell nothing heard
-high_quiet : (network : Network) (device : DeviceId) (h : Happening) (body : NoteBody) → (rank body < 6 → ⊥) → hearing_by network device h body ≡ None
+pub high_quiet : (network : Network) (device : DeviceId) (h : Happening) (body : NoteBody) → (rank body < 6 → ⊥) → hearing_by network device h body ≡ None
 high_quiet network device h (notes.Permanent other link cause point verdict) high = absurd (high (omega arith))
 high_quiet network device h (notes.Compressed other opened sent cycle members verdict) high = absurd (high (omega arith))
 high_quiet network device h body high = refl
@@ -95,7 +95,7 @@ pub record HasLate (hs : List Happening) (t : ℕ) (front : List Happening) : Ty
   pub not_earlier : (h : Happening) → IsIn h late → t ≤ time_of h
   pub not_lower : (h : Happening) → IsIn h late → rank h.note.body < 6 → ⊥
 
-time_before : (u r t q : ℕ) (ks ls : List ℕ) → IsBefore (u ∷ r ∷ ks) (t ∷ q ∷ ls) → u ≤ t
+pub time_before : (u r t q : ℕ) (ks ls : List ℕ) → IsBefore (u ∷ r ∷ ks) (t ∷ q ∷ ls) → u ≤ t
 time_before u r t q ks ls (inl lt) = omega (arith, lt)
 time_before u r t q ks ls (inr b) = omega (arith, b.0)
 

@@ -2,12 +2,12 @@
 use Rattle.std.proofs.lemmas.Bool.{cases_lt, le-ltb, lt-ltb}
 use Rattle.std.proofs.lemmas.List.{append-nil}
 use Rattle.std.proofs.lemmas.List.Elements.{filter-append}
-use Rattle.std.proofs.Common.{◌≡◌, ℕ, zero, suc, ◌<◌, ◌≤◌, Bool, true, false, List, [], ◌∷◌, ◌++◌, drop, length, Option, Some, None, filter, not, inl, inr, refl, sym, ap, subst, ◌∙◌, append_assoc, arith, if◌then◌else◌, ◌-◌}
+use Rattle.std.proofs.Common.{◌≡◌, ℕ, ◌<◌, ◌≤◌, Bool, true, false, List, [], ◌∷◌, ◌++◌, length, Option, Some, None, filter, not, inl, inr, refl, sym, ap, subst, ◌∙◌, append_assoc, arith, if◌then◌else◌, ◌-◌}
 use Rattle.std.specs.List.{after_last, fold, last_or, suffix_len}
 use Rattle.std.specs.Option.{option_map_or}
 use Rattle.std.specs.Prelude.{nat_lt}
-use Rattle.audit_law.proofs.LastParts.{all_kept}
 use Rattle.run_law.proofs.law.FirstPlaces.{front_founded, none_kept, split}
+use Rattle.run_law.proofs.records.Order.{all_kept, in_drop, time_before}
 use Rattle.run_law.proofs.runs.Lacking.{behind_first}
 use Rattle.run_law.proofs.runs.Places.{before_later_time, chain, earlier_time, in_parts, in_right, never_self}
 use Rattle.run_law.specs.records.Happenings.{Happening, earlier, time_of}
@@ -23,10 +23,6 @@ Due = List Happening → Happening → Type 0
 abbrev pub AreSorted : List Happening → Type 0
 AreSorted [] = Unit {0}
 AreSorted (x ∷ xs) = ((y : Happening) → IsIn y xs → time_of x ≤ time_of y) × AreSorted xs
-
-time_before : (u t : ℕ) (ks ls : List ℕ) → IsBefore (u ∷ ks) (t ∷ ls) → u ≤ t
-time_before u t ks ls (inl lt) = omega (arith, lt)
-time_before u t ks ls (inr b) = omega (arith, b.0)
 
 abbrev rest_of : Happening → List ℕ
 rest_of h = rank h.note.body ∷ key (members_in h) h.note.body
@@ -167,23 +163,7 @@ pub stays : {A : Type 0} (f : A → Happening → A) (a : A) (xs ys : List Happe
 stays f a [] ys quiet = stays_all f a ys quiet
 stays f a (x ∷ xs) ys quiet = stays f (f a x) xs ys quiet
 
-pub fold_parts : {A : Type 0} (f : A → Happening → A) (a : A) (xs ys : List Happening) → fold f a (xs ++ ys) ≡ fold f (fold f a xs) ys
-fold_parts f a [] ys = refl
-fold_parts f a (x ∷ xs) ys = fold_parts f (f a x) xs ys
-
 -- ---- what stands behind the last of a kind is in the list
-
-in_drop : {X : Type 0} (n : ℕ) (xs : List X) (x : X) → IsIn x (drop n xs) → IsIn x xs
-in_drop zero xs x i = i
-in_drop (suc n) [] x i = i
-in_drop (suc n) (y ∷ xs) x i = inr (in_drop n xs x i)
 
 pub in_behind : {X : Type 0} (p : X → Bool) (xs : List X) (x : X) → IsIn x (after_last p xs) → IsIn x xs
 in_behind {X} p xs x i = in_drop (length xs - suffix_len (λ (y : X). not (p y)) xs) xs x i
-
--- two tests that agree on a list keep the same of it
-pub same_kept : {X : Type 0} (p q : X → Bool) (xs : List X) → ((x : X) → IsIn x xs → p x ≡ q x) → filter p xs ≡ filter q xs
-same_kept p q [] same = refl
-same_kept {X} p q (x ∷ xs) same =
-    ap (λ (b : Bool). if b then x ∷ filter p xs else filter p xs) (same x (inl refl))
-    ∙ ap (λ (t : List X). if q x then x ∷ t else t) (same_kept p q xs (λ y i. same y (inr i)))

@@ -18,13 +18,15 @@ use Rattle.run_law.specs.runs.Runs.{IsFounded}
 use Rattle.run_law.specs.scenario.Scenarios.{Scenario, is_broken}
 use Rattle.run_law.specs.timed.Dispatching.{HasAccepted}
 use Rattle.run_law.proofs.law.FirstPlaces.{split}
-use Rattle.run_law.proofs.runs.SameSteps.{same_departure, same_some}
+use Rattle.run_law.proofs.runs.SameSteps.{same_departure}
 use Rattle.tte_units.specs.Amount.{units_of}
 use Rattle.audit_law.specs.Debts.{IsDueIn}
 use Rattle.audit_law.specs.Departures.{IsDueByLeaving, OwesDeparture, TellsDeparture, leaves_at, leaving_record}
 use Rattle.audit_law.specs.DebtLaws.{DepartureLaw}
+use Rattle.run_law.proofs.records.Order.{ahead}
+use Rattle.tte_lemmas.proofs.Options.{one as same_some}
 use Rattle.audit_law.proofs.PermanentDrops.{not_old}
-use Rattle.audit_law.proofs.Owing.{PaidAt, ahead, due_there, found_before, from_one, front_of, in_whole, next_is_due, next_of, split_at, taken_there, timely, within}
+use Rattle.audit_law.proofs.Owing.{PaidAt, due_there, found_before, from_one, front_of, in_whole, next_is_due, next_of, split_at, taken_there, timely, within}
 
 -- a frame is given by a record of a lower rank than that of its leaving
 given_before : (network : Network) (body : NoteBody) (device : DeviceId) (link : LinkId) (cause : ℕ) (d : Departure) → Gives network body device link
@@ -103,7 +105,7 @@ some_departure s hs until cause link founded o =
 -- ---- what leaves was owed
 
 -- a frame that departs, given a front of the list, departs by the list
-departs_in_whole : (s : Scenario) (hs before rest : List Happening) (t : ℕ) (device : DeviceId) (link : LinkId) (cause : ℕ) (d : Departure)
+pub departs_in_whole : (s : Scenario) (hs before rest : List Happening) (t : ℕ) (device : DeviceId) (link : LinkId) (cause : ℕ) (d : Departure)
     → hs ≡ before ++ rest → Departs s before device t link cause d → Departs s hs device t link cause d
 departs_in_whole s hs before rest t device link cause d e h = record {
   giving = h.giving;
@@ -199,7 +201,7 @@ by_leaving s before x cause link due founded some gives (notes.Dropped device by
 by_leaving s before x cause link due founded some gives other is c e = absurd e
 
 -- a record gives its frame for one device
-one_giver : (network : Network) (body : NoteBody) (device other : DeviceId) (link : LinkId) → Gives network body device link → Gives network body other link
+pub one_giver : (network : Network) (body : NoteBody) (device other : DeviceId) (link : LinkId) → Gives network body device link → Gives network body other link
     → device ≡ other
 one_giver network (notes.Sent master cycle) device other link a b = a.0 ∙ sym b.0
 one_giver network (notes.Compressed cm opened at cycle members verdict) device other link a b = a.0 ∙ sym b.0

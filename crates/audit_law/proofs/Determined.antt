@@ -1,21 +1,19 @@
 -- A record that is due in an audit is determined by its place.
-use Rattle.std.proofs.lemmas.Int.{ints}
-use Rattle.std.proofs.Common.{◌≡◌, ◌⊎◌, ℕ, zero, suc, ℤ, pos, negsuc, ◌≤ℤ◌, unsigned_abs, List, inl, inr, sym, ap, subst, ◌∙◌, arith}
+use Rattle.std.proofs.Common.{◌≡◌, ◌⊎◌, ℕ, List, inl, inr, sym, ap, subst, ◌∙◌, arith}
 use Rattle.std.specs.Prelude.{◌+ℤ◌}
 use Rattle.audit_law.specs.CorrectionNumbers.{ComesToPoint, heard_since_point, standing_at}
 use Rattle.audit_law.specs.DueRecords.{ChangesState, IsCaused, IsCorrectedRecord, IsDue}
 use Rattle.membership.proofs.OneSummary.{one_summary}
 use Rattle.membership.specs.Summary.{Summary}
+use Rattle.net_plan.proofs.SameIds.{same_device}
 use Rattle.net_plan.specs.declared.ids.DeviceId.{DeviceId}
 use Rattle.run_law.proofs.runs.Determined as runs_determined
-use Rattle.run_law.proofs.runs.SameSteps.{same_some}
+use Rattle.run_law.proofs.runs.Determined.{no_cause, same_note, same_time, same_units}
 use Rattle.run_law.specs.declared.judgement.Why.TheVariants as whys
 use Rattle.run_law.specs.declared.judgement.Why.{Why}
-use Rattle.run_law.specs.declared.note.Note.{Note}
 use Rattle.run_law.specs.declared.note.NoteBody.TheVariants as notes
 use Rattle.run_law.specs.declared.note.NoteBody.{NoteBody}
 use Rattle.run_law.specs.device.States.{adjustment_before}
-use Rattle.run_law.specs.records.Causes.{IsOfThisTime}
 use Rattle.run_law.specs.records.Happenings.{Happening, happening}
 use Rattle.run_law.specs.records.Ranks.{key, members_in, place_of, rank}
 use Rattle.run_law.specs.runs.DueRecords as runs
@@ -27,6 +25,7 @@ use Rattle.sync_state.specs.Verdicts.{HasVerdict}
 use Rattle.sync_state.specs.declared.answers.Verdict.TheVariants.{AsyncClique, Corrected, SyncClique}
 use Rattle.sync_state.specs.declared.answers.Verdict.{Verdict}
 use Rattle.sync_state.specs.declared.state.State.{State}
+use Rattle.tte_lemmas.proofs.Options.{one}
 use Rattle.tte_units.specs.Amount.{amount}
 use Rattle.tte_units.specs.declared.units.Units.{Units}
 
@@ -77,27 +76,11 @@ caused_in_audit s hs time (notes.State device state cause whys.Frame) off c = c
 caused_in_audit s hs time (notes.State device state cause whys.Correction) off c = c
 caused_in_audit s hs time other off c = c
 
--- ---- numbers
-
-same_number : (a b : ℤ) → pos 0 ≤ℤ a → pos 0 ≤ℤ b → unsigned_abs a ≡ unsigned_abs b → a ≡ b
-same_number (pos m) (pos n) begun after same = ap pos same
-same_number (negsuc m) b begun after same = absurd (omega (arith, ints))
-same_number (pos m) (negsuc n) begun after same = absurd (omega (arith, ints))
-
-same_units : (a b : Units) → a.0 ≡ b.0 → a ≡ b
-same_units a b same = ap (λ (n : ℤ). let t : Units = record { 0 = n } in t) same
-
-same_time : (a b : Units) → pos 0 ≤ℤ a.0 → pos 0 ≤ℤ b.0 → amount a ≡ amount b → a ≡ b
-same_time a b begun after same = same_units a b (same_number a.0 b.0 begun after same)
-
-same_device : (a b : DeviceId) → a.0 ≡ b.0 → a ≡ b
-same_device a b same = ap (λ (n : ℕ). let d : DeviceId = record { 0 = n } in d) same
-
 -- ---- correction points
 
 same_cycle : (s : Scenario) (hs : List Happening) (t : ℕ) (device : DeviceId) (cycle other : ℕ) (v w : Verdict) → ComesToPoint s hs device t cycle v
     → ComesToPoint s hs device t other w → cycle ≡ other
-same_cycle s hs t device cycle other v w a b = same_some (next_point (standing_at s hs device t)) cycle other a.next b.next
+same_cycle s hs t device cycle other v w a b = one (next_point (standing_at s hs device t)) cycle other a.next b.next
 
 pub same_verdict : (s : Scenario) (hs : List Happening) (t : ℕ) (device : DeviceId) (cycle other : ℕ) (v w : Verdict) → ComesToPoint s hs device t cycle v
     → ComesToPoint s hs device t other w → v ≡ w
@@ -116,10 +99,6 @@ same_corrected s hs t device cycle other by gain adjustment later a b =
     ap (λ (c : ℕ). notes.Corrected device c by adjustment) cycles
     ∙ ap (λ (u : Units). notes.Corrected device other u adjustment) gains
     ∙ ap (λ (u : Units). notes.Corrected device other gain u) sums
-
-no_cause : (hs : List Happening) (t cause : ℕ) (h : Happening) → cause ≡ 0 → IsOfThisTime hs t cause h → ⊥
-no_cause hs t zero h is there = let none = there.there in cc
-no_cause hs t (suc n) h is there = cc
 
 -- a change that no correction point brings has a cause
 has_cause : (s : Scenario) (hs : List Happening) (t : ℕ) (device other : DeviceId) (cause : ℕ) (state : State) (why : Why)
@@ -179,12 +158,6 @@ same_body s hs time m n (notes.State device state cause whys.Correction) body p 
 same_body s hs time m n (notes.State device state cause why) (notes.State other later from for) p q a b kinds keys = absurd q
 same_body s hs time m n (notes.State device state cause why) body p q a b kinds keys = absurd (omega (arith, kinds))
 same_body s hs time m n body other p q a b kinds keys = absurd p
-
-same_note : (a b : Note) → a.number ≡ b.number → a.time ≡ b.time → a.body ≡ b.body → a ≡ b
-same_note a b numbers times bodies =
-    ap (λ (n : ℕ). let m : Note = record { number = n; time = a.time; body = a.body } in m) numbers
-    ∙ ap (λ (t : Units). let m : Note = record { number = b.number; time = t; body = a.body } in m) times
-    ∙ ap (λ (c : NoteBody). let m : Note = record { number = b.number; time = b.time; body = c } in m) bodies
 
 pub due_in_run : (s : Scenario) (ps : List Happening) (x : Happening) → IsOfNoPoint x.note.body → IsDue s ps x → runs.IsDue s ps x
 due_in_run s ps x off d =

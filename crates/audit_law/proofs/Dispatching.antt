@@ -1,44 +1,30 @@
 -- What is owed of schedules is due.
-use Rattle.std.proofs.Common.{◌≡◌, ℕ, ◌+◌, ◌*◌, ◌≤◌, ℤ, pos, Bool, true, false, List, [], ◌∷◌, Some, None, filter, inl, inr, refl, sym, ap, subst, ◌∙◌}
-use Rattle.std.specs.List.{last_or}
-use Rattle.std.specs.Option.{option_map_or}
-use Rattle.std.specs.Prelude.{◌+ℤ◌, ◌-ℤ◌, ◌<ℤ◌, if◌then◌else◌}
-use Rattle.drift_clock.specs.Reach.{IsReach}
+use Rattle.std.proofs.Common.{◌≡◌, ℕ, ◌+◌, ◌*◌, ◌≤◌, pos, Bool, true, false, List, [], ◌∷◌, inl, inr, refl, sym, ap, subst, ◌∙◌}
+use Rattle.std.specs.Prelude.{if◌then◌else◌}
 use Rattle.net_plan.specs.declared.ids.DeviceId.{DeviceId}
 use Rattle.net_plan.specs.declared.ids.LinkId.{LinkId}
 use Rattle.net_plan.specs.declared.ids.VlId.{VlId}
-use Rattle.net_plan.specs.declared.network.Network.{Network}
 use Rattle.run_law.specs.declared.note.NoteBody.TheVariants as notes
 use Rattle.run_law.specs.declared.note.NoteBody.{NoteBody}
-use Rattle.run_law.specs.device.LocalClocks.{Reaches, changes_adjustment}
-use Rattle.run_law.specs.device.States.{adjustment_after, state_after}
+use Rattle.run_law.specs.device.States.{state_after}
 use Rattle.run_law.specs.records.Happenings.{Happening, earlier, time_of}
 use Rattle.run_law.specs.records.Order.{IsBefore}
 use Rattle.run_law.specs.records.Ranks.{key, members_in, place_at, place_of, rank}
 use Rattle.audit_law.specs.DueRecords.{IsCaused, IsDue}
 use Rattle.run_law.specs.runs.Runs.{IsFounded}
 use Rattle.run_law.specs.scenario.Scenarios.{Scenario, is_turned_on_at}
-use Rattle.run_law.specs.timed.Dispatching.{Dispatches, HasAccepted, HasAtHand, IsUp, Sends, is_accepted}
-use Rattle.schedule_tables.specs.declared.entry.Entry.{Entry}
+use Rattle.run_law.specs.timed.Dispatching.{Dispatches, IsUp, Sends}
 use Rattle.sync_state.specs.declared.state.State.TheVariants.{Integrating, Synchronised}
 use Rattle.run_law.proofs.law.FirstPlaces.{same_earlier, split}
 use Rattle.tte_units.specs.Amount.{amount, units_of}
 use Rattle.audit_law.specs.Debts.{IsDueIn}
 use Rattle.audit_law.specs.Dispatched.{Dispatch, IsDueByDispatch, IsDueBySending, OwesDispatch, OwesSending, Sending, TellsDispatch, TellsSending, dispatch_record, is_cut_then}
 use Rattle.audit_law.specs.DebtLaws.{DispatchLaw, SendingLaw}
+use Rattle.run_law.proofs.device.States.{reaches_by}
+use Rattle.run_law.proofs.timed.Rows.{at_hand_by}
 use Rattle.audit_law.proofs.Owing.{PaidAt, due_there, earlier_in, next_is_due, next_of, timely, within}
 
 -- ---- what the records of earlier times tell
-
--- a clock reaches a value by the records of earlier times
-pub reaches_by : (s : Scenario) (gs hs : List Happening) (device : DeviceId) (v : ℤ) (t : ℕ) → earlier t gs ≡ earlier t hs → Reaches s gs device v t
-    → Reaches s hs device v t
-reaches_by s gs hs device v t same h =
-    let changed : List Happening → ℕ = λ es. option_map_or time_of (last_or None (filter (λ x. changes_adjustment device x.note.body) es)) 0 in
-    record {
-      below = subst (λ (es : List Happening). (pos (s.reading device (changed es)) +ℤ (adjustment_after s es device).0) <ℤ v) same h.below;
-      reach = subst (λ (es : List Happening). IsReach (s.reading device) (pos (changed es)) (v -ℤ (adjustment_after s es device).0) (pos t)) same h.reach;
-    }
 
 up_by : (s : Scenario) (gs hs : List Happening) (device : DeviceId) (t : ℕ) → earlier t gs ≡ earlier t hs → IsUp s gs device t → IsUp s hs device t
 up_by s gs hs device t same h = record {
@@ -55,22 +41,6 @@ sends_by s gs hs device t cycle same h = record {
   begun = h.begun;
   reached = reaches_by s gs hs device (pos (cycle * amount s.network.cycle)) t same h.reached;
 }
-
-accepted_by : (gs hs : List Happening) (device : DeviceId) (vl : VlId) (t cause cycle : ℕ) → earlier t gs ≡ earlier t hs
-    → HasAccepted gs device vl t cause cycle → HasAccepted hs device vl t cause cycle
-accepted_by gs hs device vl t cause cycle same h = record {
-  taken = h.taken;
-  last = subst (λ (es : List Happening). last_or None (filter (λ x. is_accepted device vl x.note.body) es) ≡ Some h.taken) same h.last;
-  number = h.number;
-  link = h.link;
-  from = h.from;
-  is = h.is;
-}
-
-at_hand_by : (network : Network) (gs hs : List Happening) (device : DeviceId) (entry : Entry) (t cause cycle : ℕ) → earlier t gs ≡ earlier t hs
-    → HasAtHand network gs device entry t cause cycle → HasAtHand network hs device entry t cause cycle
-at_hand_by network gs hs device entry t cause cycle same (inl own) = inl own
-at_hand_by network gs hs device entry t cause cycle same (inr taken) = inr (taken.0, accepted_by gs hs device entry.row.vl t cause cycle same taken.1)
 
 pub dispatches_by : (s : Scenario) (gs hs : List Happening) (device : DeviceId) (t : ℕ) (link : LinkId) (cause : ℕ) (vl : VlId) (cycle : ℕ)
     → earlier t gs ≡ earlier t hs → Dispatches s gs device t link cause vl cycle → Dispatches s hs device t link cause vl cycle

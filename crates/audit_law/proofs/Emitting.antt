@@ -1,9 +1,9 @@
 -- What is owed of clusters is due.
-use Rattle.std.proofs.lemmas.Bool.{and_from, eq-eqb, false_from_ne_true, lt-ltb, or_left, or_right}
+use Rattle.std.proofs.lemmas.Bool.{false_from_ne_true}
 use Rattle.std.proofs.lemmas.List.{append-nil}
 use Rattle.std.proofs.lemmas.List.Elements.{filter-append}
-use Rattle.std.proofs.Common.{◌≡◌, ℕ, ◌+◌, pos, Bool, true, List, [], ◌∷◌, ◌++◌, filter, inl, inr, refl, sym, ap, subst, ◌∙◌}
-use Rattle.std.specs.Prelude.{◌==◌, ◌&&◌, nat_lt, if◌then◌else◌}
+use Rattle.std.proofs.Common.{◌≡◌, ℕ, ◌+◌, pos, Bool, List, [], ◌∷◌, ◌++◌, filter, inl, inr, refl, sym, ap, subst, ◌∙◌}
+use Rattle.std.specs.Prelude.{if◌then◌else◌}
 use Rattle.compression.specs.declared.compressed.Compressed.{Compressed}
 use Rattle.drift_clock.specs.Reach.{IsReach}
 use Rattle.net_plan.specs.declared.ids.DeviceId.{DeviceId}
@@ -22,22 +22,16 @@ use Rattle.tte_units.specs.declared.units.Units.{Units}
 use Rattle.audit_law.specs.Debts.{IsDueIn}
 use Rattle.audit_law.specs.Emitted.{IsDueByEmission, OwesEmission, TellsEmission, before_place, emission_place, emission_record}
 use Rattle.audit_law.specs.DebtLaws.{EmissionLaw}
+use Rattle.drift_clock.proofs.Reaches.{one_reach}
+use Rattle.run_law.proofs.records.Order.{before_is, is_there}
 use Rattle.audit_law.proofs.Owing.{PaidAt, due_there, next_is_due, next_of, split_at, timely, within}
-use Rattle.audit_law.proofs.Ripening.{is_before_true, one_reach}
 
 -- ---- the records before a place
-
-is_before_from : (p q : List ℕ) → IsBefore p q → is_before p q ≡ true
-is_before_from p [] b = absurd b
-is_before_from [] (y ∷ ys) b = refl
-is_before_from (x ∷ xs) (y ∷ ys) (inl lt) = or_left (nat_lt x y) (x == y && is_before xs ys) (lt-ltb x y lt)
-is_before_from (x ∷ xs) (y ∷ ys) (inr b) =
-    or_right (nat_lt x y) (x == y && is_before xs ys) (and_from (x == y) (is_before xs ys) (eq-eqb x y b.0) (is_before_from xs ys b.1))
 
 all_kept : (hs : List Happening) (p : List ℕ) → AllBefore place_of hs p → before_place hs p ≡ hs
 all_kept [] p all = refl
 all_kept (h ∷ hs) p all =
-    ap (λ (b : Bool). if b then h ∷ before_place hs p else before_place hs p) (is_before_from (place_of h) p (all h (inl refl)))
+    ap (λ (b : Bool). if b then h ∷ before_place hs p else before_place hs p) (before_is (place_of h) p (all h (inl refl)))
     ∙ ap (λ (gs : List Happening). h ∷ gs) (all_kept hs p (λ g i. all g (inr i)))
 
 -- where a list parts at a place, its front is the records before that
@@ -45,7 +39,7 @@ pub before_is_front : (hs : List Happening) (p : List ℕ) → (at : IsSplit pla
 before_is_front hs p at =
     let test : Happening → Bool = λ h. is_before (place_of h) p in
     let none : filter test at.rest ≡ [] = none_kept test at.rest
-    (λ h i. false_from_ne_true (test h) (λ e. at.none h i (is_before_true (place_of h) p e))) in
+    (λ h i. false_from_ne_true (test h) (λ e. at.none h i (is_there (place_of h) p e))) in
     ap (filter test) at.whole
     ∙ filter-append test at.front at.rest
     ∙ ap (λ (gs : List Happening). filter test at.front ++ gs) none

@@ -54,7 +54,7 @@ clock_owed s hs until x h here =
     } in
     ((d.device, time_of x), owed, (refl, subst (IsClockOf d.device) (sym d.says) refl), refl)
 
-place_of_clock : (t m : ℕ) (device : DeviceId) (body : NoteBody) → IsClockOf device body → place_at t m body ≡ t ∷ 14 ∷ device.0 ∷ []
+pub place_of_clock : (t m : ℕ) (device : DeviceId) (body : NoteBody) → IsClockOf device body → place_at t m body ≡ t ∷ 14 ∷ device.0 ∷ []
 place_of_clock t m device (notes.Clock other shown adjustment state) e = ap (λ (d : DeviceId). t ∷ 14 ∷ d.0 ∷ []) e
 place_of_clock t m device other e = absurd e
 

@@ -13,14 +13,12 @@ pub mod EndingClocks
 pub mod Ripening
 pub mod Emitting
 pub mod Dispatching
-pub mod LastParts
 pub mod Correcting
 pub mod TracingEvents
 pub mod AllOwed
 pub mod FirstUnpaid
 pub mod Earliest
 pub mod Settling
-pub mod Verdicts
 pub mod Cuts
 pub mod Calm
 pub mod Steps

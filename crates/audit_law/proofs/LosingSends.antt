@@ -17,11 +17,12 @@ use Rattle.audit_law.specs.DueRecords.{IsCaused, IsDue}
 use Rattle.run_law.specs.runs.Runs.{IsFounded}
 use Rattle.run_law.specs.scenario.Scenarios.{Scenario}
 use Rattle.run_law.proofs.law.FirstPlaces.{split}
-use Rattle.run_law.proofs.runs.SameSteps.{same_some}
 use Rattle.audit_law.specs.Debts.{IsDueIn}
 use Rattle.audit_law.specs.DebtLaws.{LossLaw}
 use Rattle.audit_law.specs.LostSends.{IsDueBySend, OwesLoss, TellsLoss}
-use Rattle.audit_law.proofs.Owing.{PaidAt, ahead, due_there, found_before, from_one, front_of, in_whole, next_is_due, next_of, split_at, taken_there, timely, within}
+use Rattle.run_law.proofs.records.Order.{ahead}
+use Rattle.tte_lemmas.proofs.Options.{one as same_some}
+use Rattle.audit_law.proofs.Owing.{PaidAt, due_there, found_before, from_one, front_of, in_whole, next_is_due, next_of, split_at, taken_there, timely, within}
 
 -- a loss is one by other records that have its event
 pub moved : (s : Scenario) (gs hs : List Happening) (device : DeviceId) (t : ℕ) (link : LinkId) (cause : ℕ) → (h : IsSendLost s gs device t link cause)

@@ -1,7 +1,6 @@
 -- What is due in a founded list, by its places.
-use Rattle.std.proofs.lemmas.Bool.{cases_order}
 use Rattle.std.proofs.lemmas.Int.{ints}
-use Rattle.std.proofs.Common.{◌≡◌, ℕ, zero, suc, ℤ, pos, negsuc, ◌≤ℤ◌, unsigned_abs, ◌+◌, ◌<◌, ◌≤◌, List, [], ◌∷◌, ◌++◌, Some, length, inl, inr, refl, sym, ap, subst, arith}
+use Rattle.std.proofs.Common.{◌≡◌, ℕ, zero, suc, ℤ, pos, ◌≤ℤ◌, ◌+◌, ◌≤◌, List, [], ◌∷◌, ◌++◌, Some, length, inl, inr, refl, sym, ap, subst, arith}
 use Rattle.net_plan.specs.declared.ids.DeviceId.{DeviceId}
 use Rattle.net_plan.specs.declared.ids.VlId.{VlId}
 use Rattle.run_law.specs.timed.Dispatching.{HasAccepted}
@@ -19,15 +18,7 @@ use Rattle.run_law.proofs.law.FirstPlaces.{IsSplit, front_founded, in_front_of, 
 use Rattle.tte_units.specs.Amount.{amount, units_of}
 use Rattle.tte_units.specs.declared.units.Units.{Units}
 use Rattle.audit_law.specs.Debts.{IsDueIn}
-
--- a place of a lower rank, at a time that is not later, is before
-pub ahead : (a b r q : ℕ) (ks ls : List ℕ) → a ≤ b → r < q → IsBefore (a ∷ r ∷ ks) (b ∷ q ∷ ls)
-ahead a b r q ks ls le lt =
-    elim (cases_order a b) [
-      | inl e ↦ inr (e, inl lt)
-      | inr (inl less) ↦ inl less
-      | inr (inr more) ↦ absurd (omega arith)
-    ]
+use Rattle.tte_lemmas.proofs.Integers.{whole}
 
 -- where a list parts at what is due in it
 abbrev pub split_at : (IsDueSo : List Happening → Happening → Type 0) (hs : List Happening) (x : Happening) → IsDueIn place_of IsDueSo hs x
@@ -96,10 +87,6 @@ pub taken_there : (s : Scenario) (before : List Happening) (device : DeviceId) (
 taken_there s before device vl t cause cycle founded has =
     let found = by_number s before has.taken founded (accepted_in before device vl t cause cycle has) in
     subst (λ (n : ℕ). numbered before n ≡ Some has.taken) (sym has.number) found
-
-whole : (a : ℤ) → pos 0 ≤ℤ a → a ≡ pos (unsigned_abs a)
-whole (pos n) begun = refl
-whole (negsuc n) begun = absurd (omega (arith, ints))
 
 -- a time from 0 on is of its amount
 pub of_amount : (t : Units) → pos 0 ≤ℤ t.0 → t ≡ units_of (amount t)

@@ -1,21 +1,20 @@
 -- In a run no device passes a correction point without a record, but a joiner that of the cycle by whose frame it
 -- joined.
-use Rattle.std.proofs.lemmas.Bool.{and_from, and_parts, and_right, both_ways, cases_Bool, cases_lt, eq-eqb, eqb-true, false_from_ne_true, le-leb, leb-true, ltb-true, or_left, or_right}
+use Rattle.std.proofs.lemmas.Bool.{and_from, and_parts, and_right, both_ways, cases_Bool, cases_lt, eq-eqb, eqb-true, false_from_ne_true, le-leb, ltb-true}
 use Rattle.std.proofs.lemmas.Int.{by_lt_z, ints}
 use Rattle.std.proofs.lemmas.List.{append-nil}
 use Rattle.std.proofs.lemmas.List.Elements.{filter-append}
-use Rattle.std.proofs.Common.{◌≡◌, ℕ, zero, suc, ℤ, pos, negsuc, ◌≤ℤ◌, unsigned_abs, ◌+◌, ◌-◌, ◌*◌, ◌^◌, ◌<◌, ◌≤◌, Bool, true, false, List, [], ◌∷◌, ◌++◌, Option, Some, None, slice_get, filter, inl, inr, refl, sym, ap, subst, ◌∙◌, arith, if◌then◌else◌}
+use Rattle.std.proofs.Common.{◌≡◌, ℕ, suc, ℤ, pos, negsuc, ◌≤ℤ◌, unsigned_abs, ◌+◌, ◌-◌, ◌*◌, ◌^◌, ◌<◌, ◌≤◌, Bool, true, false, List, [], ◌∷◌, ◌++◌, Option, Some, None, slice_get, filter, inl, inr, refl, sym, ap, subst, ◌∙◌, arith, if◌then◌else◌}
 use Rattle.std.specs.Int.{int_div_euclid}
 use Rattle.std.specs.List.{fold, last_or, list_any}
 use Rattle.std.specs.Option.{option_map_or}
 use Rattle.std.specs.Prelude.{◌+ℤ◌, ◌-ℤ◌, ◌<ℤ◌, ◌==◌, ◌&&◌, ◌||◌, nat_le, nat_lt, int_le, int_lt}
 use Rattle.audit_law.proofs.AllOwed.{debt_law}
-use Rattle.audit_law.proofs.Calm.{IsCalm, IsTimed, SaysIntegrating, adjustment_stays, calm, cycle_stays, leaves, not_joined, stays_integrating, stays_or_leaves}
-use Rattle.audit_law.proofs.Cuts.{cut_at, fold_parts, in_time, no_later, sorted, stays}
+use Rattle.audit_law.proofs.Calm.{IsCalm, IsTimed, SaysIntegrating, calm, leaves, not_joined, stays_integrating, stays_or_leaves}
+use Rattle.audit_law.proofs.Cuts.{cut_at, in_time, no_later, sorted, stays}
 use Rattle.audit_law.proofs.Numbered.{by_number, founded_at}
 use Rattle.audit_law.proofs.Sound.{sound_of_run}
-use Rattle.audit_law.proofs.Steps.{int_le-from, int_le-is, int_lt-from, int_lt-is, none_more, reached_by, short_step}
-use Rattle.audit_law.proofs.Verdicts.{summary_of, verdict_of}
+use Rattle.audit_law.proofs.Steps.{none_more, reached_by, short_step}
 use Rattle.audit_law.specs.CorrectionNumbers.{ComesToPoint, heard_since_point, standing_at}
 use Rattle.audit_law.specs.CorrectionPoints.{IsPointOf, OwesPoint}
 use Rattle.audit_law.specs.Debts.{IsPaid}
@@ -31,11 +30,16 @@ use Rattle.net_plan.specs.declared.event.Event.{Event}
 use Rattle.net_plan.specs.declared.event.What.TheVariants.{On}
 use Rattle.net_plan.specs.declared.event.What.{What}
 use Rattle.net_plan.specs.declared.ids.DeviceId.{DeviceId}
+use Rattle.run_law.proofs.control.Summaries.{summary_of, verdict_of}
+use Rattle.run_law.proofs.control.Verdicts.{cycle_stays}
+use Rattle.run_law.proofs.device.States.{adjustment_kept}
 use Rattle.run_law.proofs.law.FirstPlaces.{none_kept, numbered_front, numbered_in}
+use Rattle.run_law.proofs.records.Happenings.{fold_parts}
+use Rattle.run_law.proofs.records.Order.{got_in}
 use Rattle.run_law.proofs.runs.Lacking.{behind_first}
 use Rattle.run_law.proofs.runs.Places.{in_left, in_right, parted}
-use Rattle.run_law.proofs.runs.SameSteps.{same_some}
-use Rattle.run_law.proofs.scenario.Decisions.{IsDecided, decided_same}
+use Rattle.run_law.proofs.scenario.Choices.{at_integration}
+use Rattle.run_law.proofs.scenario.Devices.{correct_before, on_by as turned}
 use Rattle.run_law.specs.control.Corrections.{correction_value, integration_cycle, is_integration_cycle, recorded_cycle}
 use Rattle.run_law.specs.declared.judgement.Why.TheVariants as whys
 use Rattle.run_law.specs.declared.judgement.Why.{Why}
@@ -50,7 +54,6 @@ use Rattle.run_law.specs.records.Ranks.{place_of}
 use Rattle.run_law.specs.runs.DueRecords.{IsEventRecord}
 use Rattle.run_law.specs.runs.Runs.{IsFounded, IsRun}
 use Rattle.run_law.specs.scenario.Devices.{plan_of}
-use Rattle.run_law.specs.scenario.Hypothesis.{breaks_at}
 use Rattle.run_law.specs.scenario.Scenarios.{Scenario, is_broken, is_turned_on_at, turns_on}
 use Rattle.sync_state.specs.Standing.{IsAtIntegration, Standing, next_point, point_in}
 use Rattle.sync_state.specs.Verdicts.{HasVerdict}
@@ -58,6 +61,8 @@ use Rattle.sync_state.specs.declared.answers.Verdict.TheVariants.{AsyncClique, C
 use Rattle.sync_state.specs.declared.answers.Verdict.{Verdict}
 use Rattle.sync_state.specs.declared.state.State.TheVariants.{Integrating, Joining, Off, Synchronised}
 use Rattle.sync_state.specs.declared.state.State.{State}
+use Rattle.tte_lemmas.proofs.Integers.{int_le-from, int_le-is, int_lt-from, int_lt-is}
+use Rattle.tte_lemmas.proofs.Options.{one as same_some}
 use Rattle.tte_units.specs.Amount.{amount}
 use Rattle.tte_units.specs.declared.units.Units.{Units}
 
@@ -69,48 +74,6 @@ any_in {X} p (x ∷ xs) e = elim (p x) as (λ b. p x ≡ b → (b || list_any p 
   | true ↦ λ here all. (x, 0, refl, here)
   | false ↦ λ here all. let more = any_in p xs all in (more.0, suc more.1, more.2, more.3)
 ] refl e
-
-in_list : {X : Type 0} (xs : List X) (i : ℕ) (x : X) → slice_get xs i ≡ Some x → IsIn x xs
-in_list [] i x e = absurd cc
-in_list (y ∷ xs) zero x e = let same : x ≡ y = cc in inl same
-in_list (y ∷ xs) (suc i) x e = inr (in_list xs i x e)
-
-any_more : {X : Type 0} (p q r : X → Bool) (xs : List X) → ((x : X) → q x ≡ true → r x ≡ true) → list_any p (filter q xs) ≡ true
-    → list_any p (filter r xs) ≡ true
-any_more p q r [] weaker e = e
-any_more {X} p q r (x ∷ xs) weaker e = elim (cases_Bool (q x)) [
-  | inl here ↦
-      let there = weaker x here in
-      let old : (p x || list_any p (filter q xs)) ≡ true =
-      ap (λ (b : Bool). list_any p (if b then x ∷ filter q xs else filter q xs)) (sym here) ∙ e in
-      let new : (p x || list_any p (filter r xs)) ≡ true = elim (cases_Bool (p x)) [
-        | inl hit ↦ or_left (p x) (list_any p (filter r xs)) hit
-        | inr not ↦
-            let more : list_any p (filter q xs) ≡ true = ap (λ (b : Bool). b || list_any p (filter q xs)) (sym not) ∙ old in
-            or_right (p x) (list_any p (filter r xs)) (any_more p q r xs weaker more)
-      ] in
-      ap (λ (b : Bool). list_any p (if b then x ∷ filter r xs else filter r xs)) there ∙ new
-  | inr none ↦
-      let old : list_any p (filter q xs) ≡ true = ap (λ (b : Bool). list_any p (if b then x ∷ filter q xs else filter q xs)) (sym none) ∙ e in
-      let more = any_more p q r xs weaker old in
-      elim (r x) as (λ b. list_any p (if b then x ∷ filter r xs else filter r xs) ≡ true) [
-        | true ↦ or_right (p x) (list_any p (filter r xs)) more
-        | false ↦ more
-      ]
-]
-
--- a device that is correct was so before
-correct_before : (s : Scenario) (device : DeviceId) (u t : ℕ) → u ≤ t → is_broken s device t ≡ false → is_broken s device u ≡ false
-correct_before s device u t le correct = false_from_ne_true (is_broken s device u) (λ e.
-    both_ways (is_broken s device t) correct
-    (any_more (λ (x : Event). breaks_at device.0 x.what) (λ x. nat_le (amount x.time) u) (λ x. nat_le (amount x.time) t) s.events
-    (λ x here. let low = leb-true (amount x.time) u here in le-leb (amount x.time) t (omega (arith, low, le))) e))
-
-turned : (device : DeviceId) (what : What) → turns_on device what ≡ true → what ≡ On device
-turned device (On other) e =
-    let ids = eqb-true device.0 other.0 e in
-    ap (λ (n : ℕ). let d : DeviceId = record { 0 = n } in On d) (sym ids)
-turned device other e = absurd cc
 
 -- ---- lists
 
@@ -205,19 +168,6 @@ reaches_same s device u v hs gs same below reach =
 
 -- ---- verdicts
 
-at_integration : (st : Standing) → IsDecided (IsAtIntegration st)
-at_integration st = by st.state refl st.integrated refl
-  where
-    by : (u : State) → st.state ≡ u → (o : Option ℕ) → st.integrated ≡ o → IsDecided (IsAtIntegration st)
-    by Joining e (Some n) f = elim (decided_same n st.number) [
-      | inl same ↦ inl (record { joining = e; cycle = f ∙ ap (λ (k : ℕ). Some k) same })
-      | inr other ↦ inr (λ is. other (same_some (Some n) n st.number refl (sym f ∙ is.cycle)))
-    ]
-    by Joining e None f = inr (λ is. let none = sym f ∙ is.cycle in cc)
-    by Off e o f = inr (λ is. let none = sym e ∙ is.joining in cc)
-    by Integrating e o f = inr (λ is. let none = sym e ∙ is.joining in cc)
-    by Synchronised e o f = inr (λ is. let none = sym e ∙ is.joining in cc)
-
 timed_point : (state : State) (n : ℕ) → IsTimed state → point_in state n ≡ Some n
 timed_point Off n is = absurd is
 timed_point Integrating n is = absurd is
@@ -309,7 +259,7 @@ module _ (s : Scenario) (clocked : IsClocked s) (gs : List Happening) (device : 
         state = ap (λ (es : List Happening). state_after s es device) cut.same ∙ state;
         adjustment = ap (λ (es : List Happening). adjustment_after s es device) cut.same
             ∙ sym (ap (λ (es : List Happening). adjustment_after s es device) cut.whole
-            ∙ stays _ (adjustment_after s [] device) cut.front cut.rest (λ b h i. adjustment_stays s device (cycle_in h) b h.note.body (still h i)));
+            ∙ stays _ (adjustment_after s [] device) cut.front cut.rest (λ b h i. adjustment_kept s device (cycle_in h) b h.note.body (still h i)));
         number = ap (λ (es : List Happening). recorded_cycle es device) cut.same
             ∙ sym (ap (λ (es : List Happening). recorded_cycle es device) cut.whole
             ∙ stays _ 1 cut.front cut.rest (λ b h i. cycle_stays device b h h.note.body (still h i)));
@@ -343,7 +293,7 @@ module _ (s : Scenario) (clocked : IsClocked s) (gs : List Happening) (device : 
         line_is = refl;
         event = event;
         is = found.2;
-        begun = clocked.begun event (in_list s.events found.1 event found.2);
+        begun = clocked.begun event (got_in s.events found.1 event found.2);
         timely = omega (arith, at, le);
       } in
       let told = paid (debts.event (found.1 + 1)) owed in

@@ -9,7 +9,6 @@ use Rattle.net_plan.specs.declared.network.Network.{Network}
 use Rattle.pcf_values.specs.declared.pcf.Pcf.{Pcf}
 use Rattle.run_law.specs.control.Collections.{dispatch_value, is_number, point_fault, ripe_by_role}
 use Rattle.run_law.specs.control.Permanence.{BecomesPermanent, IsCollectedOrDropped, IsPermanenceOutcome, ripe_as}
-use Rattle.run_law.specs.declared.judgement.Judgement.TheVariants as judgements
 use Rattle.run_law.specs.declared.judgement.Judgement.{Judgement}
 use Rattle.run_law.specs.declared.judgement.Reason.TheVariants.{Cycle, Gate, Old}
 use Rattle.run_law.specs.declared.judgement.Reason.{Reason}
@@ -19,10 +18,11 @@ use Rattle.run_law.specs.device.States.{is_synchronised}
 use Rattle.run_law.specs.records.Happenings.{Happening}
 use Rattle.run_law.specs.scenario.Devices.{is_cm}
 use Rattle.run_law.specs.scenario.Scenarios.{Scenario}
-use Rattle.run_law.proofs.runs.SameSteps.{same_some}
 use Rattle.std.specs.Int.{int_div_euclid}
 use Rattle.std.specs.Prelude.{[], ◌∷◌, pos, ◌*◌, ◌&&◌, int_lt, not}
+use Rattle.run_law.proofs.control.Verdicts.{never_dropped}
 use Rattle.sync_state.specs.declared.state.State.{State}
+use Rattle.tte_lemmas.proofs.Options.{one}
 use Rattle.tte_units.specs.Amount.{amount}
 use Rattle.tte_units.specs.declared.units.Units.{Units}
 
@@ -30,8 +30,8 @@ abbrev IsGateOrCycle : Reason → Type 0
 IsGateOrCycle reason = (reason ≡ Gate) ⊎ (reason ≡ Cycle)
 
 first_of_two : (a b : Bool) (reason : Reason) → first_reason ((a, Gate) ∷ (b, Cycle) ∷ []) ≡ Some reason → IsGateOrCycle reason
-first_of_two true b reason e = inl (same_some (Some Gate) reason Gate e refl)
-first_of_two false true reason e = inr (same_some (Some Cycle) reason Cycle e refl)
+first_of_two true b reason e = inl (one (Some Gate) reason Gate e refl)
+first_of_two false true reason e = inr (one (Some Cycle) reason Cycle e refl)
 first_of_two false false reason e = absurd cc
 
 fault_reason : (network : Network) (state : State) (adjustment point : ℤ) (cycle : ℕ) (reason : Reason)
@@ -50,15 +50,6 @@ by_role taken.Joined reason e = absurd cc
 by_role taken.Repeat reason e = absurd cc
 by_role taken.OtherCycle reason e = same_reason reason Cycle e
 
-never_judged : (v : Judgement) (reason : Reason) → ripe.Dropped reason ≡ ripe_as v → ⊥
-never_judged judgements.Opened reason e = cc
-never_judged judgements.Joined reason e = cc
-never_judged judgements.Repeat reason e = cc
-never_judged judgements.Within reason e = cc
-never_judged judgements.Outside reason e = cc
-never_judged judgements.Integrates reason e = cc
-never_judged judgements.Ignored reason e = cc
-
 collected : (network : Network) (points : List Point) (point : Point) (fault : Option Reason) (reason : Reason)
     → ((r : Reason) → fault ≡ Some r → IsGateOrCycle r) → IsCollectedOrDropped network points point fault (ripe.Dropped reason) → IsGateOrCycle reason
 collected network points point (Some r) reason of h =
@@ -68,7 +59,7 @@ collected network points point None reason of h = inr (by_role h.taken reason h.
 by_kind : (b : Bool) {P : Type 0} (v : Judgement) (reason : Reason) → (P → IsGateOrCycle reason) → MatchBool b P (ripe.Dropped reason ≡ ripe_as v)
     → IsGateOrCycle reason
 by_kind true v reason of h = of h
-by_kind false v reason of h = absurd (never_judged v reason h)
+by_kind false v reason of h = absurd (never_dropped v reason h)
 
 outcome_reason : (network : Network) (device : DeviceId) (state : State) (adjustment : ℤ) (points : List Point) (frame : Pcf) (point : ℤ) (reason : Reason)
     → IsPermanenceOutcome network device state adjustment points frame point (ripe.Dropped reason) → IsGateOrCycle reason

@@ -1,24 +1,20 @@
 -- What is owed of permanences is due.
-use Rattle.std.proofs.lemmas.Bool.{and_parts, cases_order, eqb-true, false_from_ne_true, ltb-true, or_cases}
+use Rattle.std.proofs.lemmas.Bool.{false_from_ne_true}
 use Rattle.std.proofs.lemmas.Int.{ints}
 use Rattle.std.proofs.lemmas.List.{append-nil}
 use Rattle.std.proofs.lemmas.List.Elements.{filter-append}
-use Rattle.std.proofs.Common.{◌≡◌, ℕ, ◌+◌, ◌<◌, ℤ, pos, Bool, true, false, List, [], ◌∷◌, ◌++◌, Option, Some, None, MatchBool, filter, inl, inr, refl, sym, ap, subst, ◌∙◌, arith}
+use Rattle.std.proofs.Common.{◌≡◌, ℕ, ◌+◌, ◌<◌, ℤ, pos, Bool, List, [], ◌∷◌, ◌++◌, Option, Some, filter, inl, inr, refl, sym, ap, subst, ◌∙◌, arith}
 use Rattle.std.specs.Option.{option_map_or}
-use Rattle.std.specs.Prelude.{◌==◌, ◌&&◌, nat_lt, option_and_then}
-use Rattle.compression.proofs.Times.{one_list_of_clusters}
-use Rattle.compression.specs.Clusters.{Point, point_at}
-use Rattle.compression.specs.Role.{role}
+use Rattle.std.specs.Prelude.{option_and_then}
 use Rattle.drift_clock.specs.Reach.{IsReach}
 use Rattle.net_plan.specs.declared.ids.DeviceId.{DeviceId}
 use Rattle.net_plan.specs.declared.ids.LinkId.{LinkId}
 use Rattle.net_plan.specs.declared.network.Network.{Network}
 use Rattle.pcf_values.specs.declared.pcf.Pcf.{Pcf}
-use Rattle.run_law.specs.control.Collections.{master_of, observation_window, point_fault, points_of, ripe_by_role}
-use Rattle.run_law.specs.control.Permanence.{BecomesPermanent, IsCollectedOrDropped, IsJudgedBy, IsPermanent, IsPermanenceOutcome, before_permanence, ripe_as}
+use Rattle.run_law.specs.control.Collections.{points_of}
+use Rattle.run_law.specs.control.Permanence.{BecomesPermanent, IsJudgedBy, IsPermanent, before_permanence, ripe_as}
 use Rattle.run_law.specs.declared.judgement.Judgement.TheVariants as judgements
 use Rattle.run_law.specs.declared.judgement.Judgement.{Judgement}
-use Rattle.run_law.specs.declared.judgement.Reason.{Reason}
 use Rattle.run_law.specs.declared.note.NoteBody.TheVariants as notes
 use Rattle.run_law.specs.declared.note.NoteBody.{NoteBody}
 use Rattle.run_law.specs.declared.steps.Ripe.TheVariants as ripe
@@ -29,31 +25,24 @@ use Rattle.run_law.specs.records.Order.{IsBefore, is_before}
 use Rattle.run_law.specs.records.Ranks.{key, members_in, place_at, place_of, rank}
 use Rattle.audit_law.specs.DueRecords.{IsCaused, IsDue}
 use Rattle.run_law.specs.runs.Runs.{IsFounded}
-use Rattle.run_law.specs.scenario.Devices.{is_cm}
 use Rattle.run_law.specs.scenario.Scenarios.{Scenario}
-use Rattle.sync_state.specs.declared.state.State.{State}
 use Rattle.run_law.proofs.law.FirstPlaces.{IsSplit, none_kept, split}
 use Rattle.run_law.proofs.runs.Places.{chain}
-use Rattle.run_law.proofs.runs.SameSteps.{same_ripening, same_some}
+use Rattle.run_law.proofs.runs.SameSteps.{same_ripening}
 use Rattle.tte_units.specs.Amount.{units_of}
 use Rattle.tte_units.specs.declared.units.Units.{Units}
 use Rattle.audit_law.specs.Debts.{IsDueIn}
 use Rattle.audit_law.specs.DebtLaws.{PermanenceLaw}
 use Rattle.audit_law.specs.Permanences.{IsDueByPermanence, OwesPermanence, TellsPermanence, permanence_record}
+use Rattle.drift_clock.proofs.Reaches.{one_reach}
+use Rattle.run_law.proofs.control.Verdicts.{some_outcome}
+use Rattle.run_law.proofs.records.Order.{ahead, is_there}
+use Rattle.tte_lemmas.proofs.Options.{one as same_some}
 use Rattle.audit_law.proofs.Arriving.{IsPutting, puts}
-use Rattle.audit_law.proofs.Owing.{PaidAt, ahead, due_there, found_before, in_whole, next_is_due, next_of, split_at, timely, within}
+use Rattle.audit_law.proofs.Owing.{PaidAt, due_there, found_before, in_whole, next_is_due, next_of, split_at, timely, within}
 use Rattle.audit_law.proofs.PermanentDrops.{not_old}
 
 -- ---- places
-
-pub is_before_true : (p q : List ℕ) → is_before p q ≡ true → IsBefore p q
-is_before_true p [] e = absurd cc
-is_before_true [] (y ∷ ys) e = tt
-is_before_true (x ∷ xs) (y ∷ ys) e =
-    elim (or_cases (nat_lt x y) (x == y && is_before xs ys) e) [
-      | inl lt ↦ inl (ltb-true x y lt)
-      | inr more ↦ let parts = and_parts (x == y) (is_before xs ys) more in inr (eqb-true x y parts.0, is_before_true xs ys parts.1)
-    ]
 
 -- the place of a permanence, which all judgements share
 abbrev permanent_place : ℕ → DeviceId → LinkId → ℕ → Pcf → Units → List ℕ
@@ -126,7 +115,7 @@ same_judged hs t device link cause frame point is at =
     let test : Happening → Bool = λ h. is_before (place_of h) (permanent_place t device link cause frame point) in
     let none : filter test at.rest ≡ [] = none_kept test at.rest (λ h i. false_from_ne_true (test h) (λ e.
     at.none h i (behind_permanence (place_of h) t device link cause frame point is
-    (is_before_true (place_of h) (permanent_place t device link cause frame point) e)))) in
+    (is_there (place_of h) (permanent_place t device link cause frame point) e)))) in
     sym (append-nil (filter test at.front))
     ∙ ap (λ (gs : List Happening). filter test at.front ++ gs) (sym none)
     ∙ sym (filter-append test at.front at.rest)
@@ -147,27 +136,6 @@ permanent_by s gs hs device t link cause frame point h there = record {
   reached = h.reached;
   correct = h.correct;
 }
-
--- ---- something becomes of each frame
-
-some_collection : (network : Network) (points : List Point) (point : Point) (fault : Option Reason)
-    → (is : Ripe) × IsCollectedOrDropped network points point fault is
-some_collection network points point (Some reason) = (ripe.Dropped reason, refl)
-some_collection network points point None =
-    let found = one_list_of_clusters (observation_window network) points in
-    let taken = role found.0 point in
-    (ripe_by_role taken, record { taken = taken; collected = record { clusters = found.0; are = found.1; is = refl }; becomes = refl })
-
-some_by_kind : (b : Bool) (P : Ripe → Type 0) (heard : Ripe) → (is : Ripe) × P is → (is : Ripe) × MatchBool b (P is) (is ≡ heard)
-some_by_kind true P heard found = found
-some_by_kind false P heard found = (heard, refl)
-
-some_outcome : (network : Network) (device : DeviceId) (state : State) (adjustment : ℤ) (points : List Point) (frame : Pcf) (point : ℤ)
-    → (is : Ripe) × IsPermanenceOutcome network device state adjustment points frame point is
-some_outcome network device state adjustment points frame point =
-    let at = point_at point (master_of frame.members.0) frame.cycle in
-    let fault = point_fault network state adjustment point frame.cycle in
-    some_by_kind (is_cm network device) (λ (is : Ripe). IsCollectedOrDropped network points at fault is) _ (some_collection network points at fault)
 
 -- ---- what is owed is due
 
@@ -299,21 +267,6 @@ arrived_link body other = other
 abbrev arrived_clock : NoteBody → ℕ
 arrived_clock (notes.Arrived device link from clock) = clock
 arrived_clock body = 0
-
--- a reading reaches a value at one time
-pub one_reach : (reading : ℕ → ℕ) (from v : ℤ) (t u : ℕ) → IsReach reading from v (pos t) → IsReach reading from v (pos u) → t ≡ u
-one_reach reading from v t u a b =
-    elim (cases_order t u) [
-      | inl same ↦ same
-      | inr (inl less) ↦
-          let early = b.not_before t a.from_on (omega (arith, ints, less)) in
-          let reached = a.reached in
-          absurd (omega (arith, ints, early, reached))
-      | inr (inr more) ↦
-          let early = a.not_before u b.from_on (omega (arith, ints, more)) in
-          let reached = b.reached in
-          absurd (omega (arith, ints, early, reached))
-    ]
 
 -- two permanences from one arrival are of one frame, at one point and one time
 record IsOnePermanence (t u : ℕ) (device other : DeviceId) (link by : LinkId) (f g : Pcf) (p q : Units) : Type 0 where

@@ -7,15 +7,15 @@ use Rattle.std.proofs.lemmas.Int.{ints}
 use Rattle.run_law.specs.device.Standpoints.{natural}
 use Rattle.std.specs.Prelude.{◌+ℤ◌, ◌-ℤ◌, ◌==◌, ◌&&◌, ◌||◌, int_le, int_lt, nat_lt, not}
 use Rattle.audit_law.proofs.Calm.{IsTimed}
-use Rattle.audit_law.proofs.Cuts.{in_behind, same_kept}
+use Rattle.audit_law.proofs.Cuts.{in_behind}
 use Rattle.audit_law.proofs.Determined.{caused_in_audit, caused_in_run}
 use Rattle.audit_law.proofs.Passing.{come_of, counts, last_changed, none_at_start}
-use Rattle.audit_law.proofs.Steps.{int_le-from, int_le-is}
 use Rattle.audit_law.specs.CorrectionNumbers.{ComesToPoint, heard_since_point, points_come, standing_at}
 use Rattle.audit_law.specs.DueRecords.{IsCaused, IsDue}
 use Rattle.audit_law.specs.SameRuns.{IsClocked}
 use Rattle.membership.specs.Summary.{Summarizes}
 use Rattle.net_plan.specs.declared.ids.DeviceId.{DeviceId}
+use Rattle.run_law.proofs.records.Order.{same_kept}
 use Rattle.run_law.specs.control.Corrections.{ComesToCorrection, correction_value, has_cleared, heard_since, hearing_by, integration_cycle, is_integration_cycle, recorded_cycle, standing_before}
 use Rattle.run_law.specs.declared.judgement.Why.TheVariants as whys
 use Rattle.run_law.specs.declared.note.NoteBody.TheVariants as notes
@@ -34,6 +34,7 @@ use Rattle.sync_state.specs.Verdicts.{HasVerdict}
 use Rattle.sync_state.specs.declared.answers.Verdict.{Verdict}
 use Rattle.sync_state.specs.declared.state.State.TheVariants.{Integrating, Joining, Off, Synchronised}
 use Rattle.sync_state.specs.declared.state.State.{State}
+use Rattle.tte_lemmas.proofs.Integers.{int_le-from, int_le-is}
 use Rattle.tte_units.specs.Amount.{amount}
 use Rattle.tte_units.specs.declared.units.Units.{Units}
 

@@ -2,17 +2,17 @@
 use Rattle.std.proofs.lemmas.List.{append-nil}
 use Rattle.std.proofs.lemmas.List.Elements.{filter-append}
 use Rattle.std.proofs.lemmas.Bool.{cases_lt, le-ltb}
-use Rattle.std.proofs.Common.{◌≡◌, ℕ, zero, suc, ◌+◌, ◌<◌, ◌≤◌, List, [], ◌∷◌, ◌++◌, inl, inr, sym, ap, subst, ◌∙◌, arith}
+use Rattle.std.proofs.Common.{◌≡◌, ℕ, zero, suc, ◌+◌, ◌≤◌, List, [], ◌∷◌, ◌++◌, inl, inr, sym, ap, subst, ◌∙◌, arith}
 use Rattle.std.specs.Prelude.{nat_lt}
 use Rattle.audit_law.proofs.Cuts.{cut_at, in_time, run_before, run_by}
 use Rattle.audit_law.proofs.SameDue.{same_due}
 use Rattle.audit_law.specs.DueRecords.{IsDue}
 use Rattle.audit_law.specs.SameRuns.{IsClocked, SameRuns}
 use Rattle.run_law.proofs.law.FirstPlaces.{none_kept}
-use Rattle.run_law.proofs.runs.Places.{earlier_time}
+use Rattle.run_law.proofs.records.Happenings.{soon}
 use Rattle.run_law.specs.records.Happenings.{Happening, earlier, time_of}
-use Rattle.run_law.specs.records.Order.{AllBefore, IsBefore, IsIn, NoneBefore}
-use Rattle.run_law.specs.records.Ranks.{key, members_in, place_of, rank}
+use Rattle.run_law.specs.records.Order.{AllBefore, IsIn, NoneBefore}
+use Rattle.run_law.specs.records.Ranks.{place_of}
 use Rattle.run_law.specs.runs.DueRecords as runs
 use Rattle.run_law.specs.runs.Runs.{IsRun}
 use Rattle.run_law.specs.scenario.Scenarios.{Scenario}
@@ -38,9 +38,6 @@ earlier_run IsDueSo hs ps qs u y run le whole none =
 
 up_to_now : (ps : List Happening) (y : Happening) → AllBefore place_of ps (place_of y) → (h : Happening) → IsIn h ps → time_of h ≤ time_of y
 up_to_now ps y before h i = in_time h y (before h i)
-
-soon : (y : Happening) (u : ℕ) → IsBefore (place_of y) (u ∷ []) → time_of y < u
-soon y u b = earlier_time (time_of y) u (rank y.note.body ∷ key (members_in y) y.note.body) b
 
 -- a run of an audit is a run
 in_run : (s : Scenario) (clocked : IsClocked s) (hs : List Happening) (u : ℕ) → IsRun place_of (IsDue s) (u ∷ []) hs → IsRun place_of (runs.IsDue s) (u ∷ []) hs

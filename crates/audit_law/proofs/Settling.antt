@@ -32,12 +32,13 @@ use Rattle.audit_law.specs.DebtLaws.{SettledLaw}
 use Rattle.audit_law.specs.Emitted.{before_place, emission_record}
 use Rattle.audit_law.specs.Owed as debts
 use Rattle.audit_law.specs.Owed.{Debt, IsOwed}
+use Rattle.run_law.proofs.records.Order.{is_there}
 use Rattle.audit_law.proofs.Arriving.{by_octets, same_standpoint}
 use Rattle.audit_law.proofs.Changing as changing
 use Rattle.audit_law.proofs.Correcting.{comes_by}
 use Rattle.audit_law.proofs.Dispatching.{dispatches_by, sends_by}
 use Rattle.audit_law.proofs.LosingSends as losing
-use Rattle.audit_law.proofs.Ripening.{is_before_true, permanent_by}
+use Rattle.audit_law.proofs.Ripening.{permanent_by}
 
 -- ---- two lists that tell the same up to a time
 
@@ -71,7 +72,7 @@ not_taken t u device vl link cause other late = refl
 
 not_before : (h : Happening) (t : ℕ) (ks : List ℕ) → t < time_of h → is_before (place_of h) (t ∷ ks) ≡ false
 not_before h t ks late =
-    false_from_ne_true (is_before (place_of h) (t ∷ ks)) (λ e. elim (is_before_true (place_of h) (t ∷ ks) e) [
+    false_from_ne_true (is_before (place_of h) (t ∷ ks)) (λ e. elim (is_there (place_of h) (t ∷ ks) e) [
       | inl lt ↦ omega (arith, lt, late)
       | inr more ↦ omega (arith, more.0, late)
     ])

@@ -1,24 +1,12 @@
 -- When a clock reaches a value, and how far it goes at one step.
 use Rattle.std.proofs.lemmas.Bool.{cases_lt}
 use Rattle.std.proofs.lemmas.Int.{by_lt_z, ints}
-use Rattle.std.proofs.Common.{◌≡◌, ℕ, zero, suc, ℤ, pos, negsuc, ◌≤ℤ◌, ◌+◌, ◌-◌, ◌*◌, ◌^◌, ◌<◌, ◌≤◌, true, inl, inr, subst, arith}
+use Rattle.std.proofs.Common.{◌≡◌, ℕ, zero, suc, ℤ, pos, negsuc, ◌≤ℤ◌, ◌+◌, ◌-◌, ◌*◌, ◌^◌, ◌<◌, ◌≤◌, inl, inr, subst, arith}
 use Rattle.std.specs.Int.{abs_diff, int_div_euclid}
-use Rattle.std.specs.Prelude.{◌<ℤ◌, int_le, int_lt, ◌/◌}
+use Rattle.std.specs.Prelude.{◌<ℤ◌, ◌/◌}
 use Rattle.drift_clock.specs.ClockLaws.{KeepsClockLaws}
 use Rattle.drift_clock.specs.Reach.{IsReach}
 use Rattle.run_law.specs.device.Standpoints.{natural}
-
-pub int_lt-is : (a b : ℤ) → int_lt a b ≡ true → a <ℤ b
-int_lt-is a b e = grind (arith, ints)
-
-pub int_lt-from : (a b : ℤ) → a <ℤ b → int_lt a b ≡ true
-int_lt-from a b h = grind (arith, ints)
-
-pub int_le-is : (a b : ℤ) → int_le a b ≡ true → a ≤ℤ b
-int_le-is a b e = grind (arith, ints)
-
-pub int_le-from : (a b : ℤ) → a ≤ℤ b → int_le a b ≡ true
-int_le-from a b h = grind (arith, ints)
 
 -- ---- the least time at which a value is reached
 

@@ -11,12 +11,12 @@ use Rattle.run_law.specs.runs.DueRecords.{IsEventRecord}
 use Rattle.run_law.specs.runs.Runs.{IsFounded}
 use Rattle.run_law.specs.scenario.Scenarios.{Scenario}
 use Rattle.run_law.proofs.law.FirstPlaces.{split}
-use Rattle.run_law.proofs.runs.SameSteps.{same_some}
 use Rattle.tte_units.specs.Amount.{amount, units_of}
 use Rattle.tte_units.specs.declared.units.Units.{Units}
 use Rattle.audit_law.specs.Debts.{IsDueIn}
 use Rattle.audit_law.specs.DebtLaws.{EventLaw}
 use Rattle.audit_law.specs.TracedEvents.{IsDueByEvent, OwesEvent, TellsEvent}
+use Rattle.tte_lemmas.proofs.Options.{one as same_some}
 use Rattle.audit_law.proofs.Owing.{PaidAt, due_there, next_is_due, next_of, of_amount, timely, within}
 
 some_event : (s : Scenario) (hs : List Happening) (until line : ℕ) → IsFounded place_of (IsDue s) hs → (o : OwesEvent s until line)

@@ -1,7 +1,8 @@
 -- The first of all correction points that are not told of.
-use Rattle.std.proofs.Common.{◌≡◌, ℕ, zero, suc, ℤ, ◌<◌, Bool, true, false, List, [], ◌∷◌, length, inl, inr, refl, sym, ap, Option, Some, None, ◌∙◌, arith, fold, if◌then◌else◌}
-use Rattle.std.proofs.lemmas.Bool.{cases_lt, eqb-true, false_from_ne_true}
+use Rattle.std.proofs.Common.{◌≡◌, ℕ, zero, suc, ℤ, ◌<◌, Bool, true, false, List, [], ◌∷◌, length, inl, inr, refl, ap, Option, Some, None, ◌∙◌, arith, fold, if◌then◌else◌}
+use Rattle.std.proofs.lemmas.Bool.{cases_lt}
 use Rattle.std.proofs.lemmas.Int.{ints}
+use Rattle.std.proofs.lemmas.Option.{slice_get_past}
 use Rattle.std.specs.Prelude.{◌==◌, option_and_then}
 use Rattle.audit_law.specs.CorrectionNumbers.{ComesToPoint}
 use Rattle.audit_law.specs.CorrectionPoints.{OwesPoint}
@@ -9,8 +10,8 @@ use Rattle.audit_law.specs.FirstDebts.{TellsFirst}
 use Rattle.audit_law.specs.Owed as debts
 use Rattle.clock_debts.specs.FirstUnpaid.{TellsFirstAmong}
 use Rattle.clock_debts.specs.Told.{AreOfDevices, IsTold, OwesAt}
-use Rattle.clock_debts.proofs.FirstSendings.{none_past}
 use Rattle.clock_judge.proofs.Reached.{changed_early}
+use Rattle.net_plan.proofs.SameIds.{other_device}
 use Rattle.net_plan.specs.declared.ids.DeviceId.{DeviceId}
 use Rattle.net_plan.specs.declared.tables.Device.{Device}
 use Rattle.run_law.proofs.law.FirstPlaces.{in_filter}
@@ -34,13 +35,6 @@ use Rattle.sync_state.specs.declared.state.State.{State}
 -- the record is of another device, or of none
 abbrev IsOfOther : DeviceId → NoteBody → Type 0
 IsOfOther device body = device_of body ≡ Some device → ⊥
-
-other_device : (device other : DeviceId) → (Some other ≡ Some device → ⊥) → (device.0 == other.0) ≡ false
-other_device device other differs =
-    false_from_ne_true (device.0 == other.0) (λ same. differs (ap (λ (n : ℕ). Some (as_device n)) (sym (eqb-true device.0 other.0 same))))
-  where
-    as_device : ℕ → DeviceId
-    as_device n = record { 0 = n }
 
 unjoined : (device : DeviceId) (body : NoteBody) → IsOfOther device body → is_joined_by device body ≡ false
 unjoined device (notes.Permanent other link cause point Integrates) differs = other_device device other differs
@@ -79,7 +73,7 @@ point_there s hs device t cycle verdict of comes =
           let none : (h : Happening) → IsIn h gs → IsOfOther device h.note.body =
           λ h there named. let has = of h device (here h there) named in omega (arith, le, has) in
           let start : state_at_start (start_of s.network device) ≡ Off =
-          ap (λ (d : Option Device). state_at_start (option_and_then (λ (x : Device). x.start) d)) (none_past s.network.device device.0 le) in
+          ap (λ (d : Option Device). state_at_start (option_and_then (λ (x : Device). x.start) d)) (slice_get_past s.network.device device.0 le) in
           let off : state_after s gs device ≡ Off = all_kept device (state_at_start (start_of s.network device)) gs none ∙ start in
           absurd (no_point (is_turned_on_at s device t) (state_after s gs device) _ cycle off comes.next)
     ]

@@ -1,6 +1,7 @@
 -- The first of all sendings that are not paid.
-use Rattle.std.proofs.Common.{◌≡◌, ℕ, zero, suc, ◌+◌, ◌<◌, ◌≤◌, true, false, List, [], ◌∷◌, length, inl, inr, refl, sym, ap, subst, Option, Some, None, ◌∙◌, slice_get, arith}
+use Rattle.std.proofs.Common.{◌≡◌, ℕ, ◌+◌, ◌<◌, true, false, List, length, inl, inr, refl, sym, ap, subst, Option, Some, None, ◌∙◌, arith}
 use Rattle.std.proofs.lemmas.Bool.{cases_lt}
+use Rattle.std.proofs.lemmas.Option.{slice_get_past}
 use Rattle.std.specs.Option.{option_map_or}
 use Rattle.audit_law.specs.Debts.{IsPaid}
 use Rattle.audit_law.specs.Dispatched.{OwesSending, Sending, TellsSending}
@@ -19,11 +20,6 @@ use Rattle.clock_debts.specs.FirstUnpaid.{ArePaid, IsFirstAmong, TellsFirstAmong
 use Rattle.clock_debts.specs.Sent.{IsSent, sending_of}
 use Rattle.clock_debts.proofs.Sendings.{none_at_first}
 
-pub none_past : {X : Type 0} (xs : List X) (i : ℕ) → length xs ≤ i → slice_get xs i ≡ None
-none_past [] i le = refl
-none_past (x ∷ xs) zero le = absurd (omega (arith, le))
-none_past (x ∷ xs) (suc i) le = none_past xs i (omega (arith, le))
-
 -- a master is a device of the network
 master_there : (network : Network) (device : DeviceId) → has_role network is_master device ≡ true → device.0 < length network.device
 master_there network device master =
@@ -31,7 +27,7 @@ master_there network device master =
       | inl lt ↦ lt
       | inr le ↦
           let none : has_role network is_master device ≡ false =
-          ap (λ (o : Option Device). option_map_or (λ d. is_master d.role) o false) (none_past network.device device.0 le) in
+          ap (λ (o : Option Device). option_map_or (λ d. is_master d.role) o false) (slice_get_past network.device device.0 le) in
           absurd cc
     ]
 

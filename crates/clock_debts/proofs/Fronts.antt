@@ -1,35 +1,32 @@
 -- A correction point, judged by the records up to its time and by those of a lower rank than corrections.
-use Rattle.std.proofs.Common.{◌≡◌, ℕ, ◌+◌, ◌-◌, ◌<◌, ◌≤◌, ℤ, pos, Bool, true, false, List, [], ◌∷◌, ◌++◌, filter, Option, Some, None, inl, inr, refl, sym, ap, subst, ◌∙◌, arith, if◌then◌else◌}
+use Rattle.std.proofs.Common.{◌≡◌, ℕ, ◌+◌, ◌-◌, ◌<◌, ℤ, pos, Bool, true, false, List, [], ◌∷◌, ◌++◌, filter, Some, inl, inr, refl, sym, ap, subst, ◌∙◌, arith, if◌then◌else◌}
 use Rattle.std.proofs.lemmas.Bool.{cases_lt, eqb-true, false≢true, lt-ltb, ltb-true}
 use Rattle.std.proofs.lemmas.List.{append-nil}
 use Rattle.std.proofs.lemmas.List.Elements.{filter-append}
 use Rattle.std.specs.Prelude.{◌↔◌, ◌==◌, nat_le, nat_lt, MatchBool}
-use Rattle.audit_law.proofs.Correcting.{comes_by, late_earlier, late_heard, late_part}
-use Rattle.audit_law.proofs.LastParts.{all_kept}
+use Rattle.audit_law.proofs.Correcting.{comes_by, late_earlier, late_heard, late_part, time_before}
 use Rattle.audit_law.proofs.Numbered.{founded_at}
 use Rattle.audit_law.specs.CorrectionNumbers.{ComesToPoint, heard_since_point, standing_at}
 use Rattle.audit_law.specs.DueRecords.{IsCaused, IsDue}
 use Rattle.compression.specs.Clusters.{Point}
-use Rattle.compression.specs.declared.taken.Taken.TheVariants as takings
-use Rattle.compression.specs.declared.taken.Taken.{Taken}
 use Rattle.net_plan.specs.declared.ids.DeviceId.{DeviceId}
 use Rattle.net_plan.specs.declared.network.Network.{Network}
 use Rattle.pcf_values.specs.declared.members.Members.{Members}
 use Rattle.pcf_values.specs.declared.pcf.Pcf.{Pcf}
-use Rattle.record_history.proofs.Kept.{before_is, is_there}
 use Rattle.record_history.specs.Keeping.{records_before}
 use Rattle.record_history.specs.Showing.{IsAfter, Shown, Shows}
 use Rattle.clock_judge.specs.Points.{IsHeard}
 use Rattle.membership.specs.Summary.{Summarizes, Summary}
+use Rattle.run_law.proofs.control.Verdicts.{collected_not, looking_ripe}
 use Rattle.run_law.proofs.law.FirstPlaces.{IsSplit, none_kept, same_earlier}
+use Rattle.run_law.proofs.records.Order.{all_kept, before_is, is_there}
 use Rattle.run_law.proofs.runs.Lacking.{behind_first}
 use Rattle.run_law.proofs.runs.Places.{chain, in_left, never_self}
-use Rattle.run_law.specs.control.Collections.{observation_window, ripe_by_role}
-use Rattle.run_law.specs.control.Hearing.{heard_as, heard_by_schedule}
-use Rattle.run_law.specs.control.Permanence.{IsCollectedOrDropped, IsPermanenceOutcome, before_permanence, ripe_as}
+use Rattle.run_law.specs.control.Collections.{observation_window}
+use Rattle.run_law.specs.control.Hearing.{heard_as}
+use Rattle.run_law.specs.control.Permanence.{IsPermanenceOutcome, before_permanence, ripe_as}
 use Rattle.run_law.specs.declared.judgement.Judgement.TheVariants.{Ignored, Integrates}
 use Rattle.run_law.specs.declared.judgement.Judgement.{Judgement}
-use Rattle.run_law.specs.declared.judgement.Reason.{Reason}
 use Rattle.run_law.specs.declared.note.NoteBody.TheVariants as notes
 use Rattle.run_law.specs.declared.note.NoteBody.{NoteBody}
 use Rattle.run_law.specs.declared.steps.Ripe.TheVariants as ripe
@@ -42,51 +39,27 @@ use Rattle.run_law.specs.records.Ranks.{key, members_in, place_at, place_of, ran
 use Rattle.run_law.specs.runs.Runs.{IsFounded}
 use Rattle.run_law.specs.scenario.Devices.{is_cm, plan_of}
 use Rattle.run_law.specs.scenario.Scenarios.{Scenario, is_turned_on_at}
-use Rattle.sync_state.specs.Standing.{next_point, point_in}
+use Rattle.sync_state.proofs.StateFacts.{before_hearing, no_point}
+use Rattle.sync_state.specs.Standing.{next_point}
 use Rattle.sync_state.specs.declared.answers.Verdict.{Verdict}
 use Rattle.sync_state.specs.declared.plan.SyncPlan.{SyncPlan}
-use Rattle.sync_state.specs.declared.state.State.TheVariants.{Integrating, Joining, Off, Synchronised}
+use Rattle.sync_state.specs.declared.state.State.TheVariants.{Integrating}
 use Rattle.sync_state.specs.declared.state.State.{State}
 use Rattle.tte_units.specs.Amount.{amount}
 use Rattle.tte_units.specs.declared.units.Units.{Units}
 
 -- ---- a frame tells the time to a device that looks for it
 
-enough_not : (b : Bool) → ripe.Integrates ≡ ripe_as (heard_by_schedule b) → ⊥
-enough_not true e = cc
-enough_not false e = cc
-
-looking_ripe : (plan : SyncPlan) (precision : ℤ) (state : State) (adjustment point : ℤ) (cycle : ℕ) (members : Members)
-    → ripe.Integrates ≡ ripe_as (heard_as plan precision state adjustment point cycle members) → state ≡ Integrating
-looking_ripe plan precision Off adjustment point cycle members e = absurd cc
-looking_ripe plan precision Integrating adjustment point cycle members e = refl
-looking_ripe plan precision Joining adjustment point cycle members e = absurd (enough_not _ e)
-looking_ripe plan precision Synchronised adjustment point cycle members e = absurd (enough_not _ e)
-
-role_not : (taken : Taken) → ripe.Integrates ≡ ripe_by_role taken → ⊥
-role_not takings.Opened e = cc
-role_not takings.Joined e = cc
-role_not takings.Repeat e = cc
-role_not takings.OtherCycle e = cc
-
-collected_not : (network : Network) (points : List Point) (p : Point) (fault : Option Reason) → IsCollectedOrDropped network points p fault ripe.Integrates → ⊥
-collected_not network points p None so = role_not so.taken so.becomes
-collected_not network points p (Some reason) so = cc
-
 looking_by : (b : Bool) (P : Type 0) (plan : SyncPlan) (precision : ℤ) (state : State) (adjustment point : ℤ) (cycle : ℕ) (members : Members) → (P → ⊥)
     → MatchBool b P (ripe.Integrates ≡ ripe_as (heard_as plan precision state adjustment point cycle members)) → state ≡ Integrating
 looking_by true P plan precision state adjustment point cycle members not so = absurd (not so)
 looking_by false P plan precision state adjustment point cycle members not so = looking_ripe plan precision state adjustment point cycle members so
 
-looking : (n : Network) (device : DeviceId) (state : State) (adjustment : ℤ) (points : List Point) (frame : Pcf) (point : ℤ)
+pub looking : (n : Network) (device : DeviceId) (state : State) (adjustment : ℤ) (points : List Point) (frame : Pcf) (point : ℤ)
     → IsPermanenceOutcome n device state adjustment points frame point ripe.Integrates → state ≡ Integrating
 looking n device state adjustment points frame point so =
     looking_by (is_cm n device) _ (plan_of n device) (observation_window n) state adjustment point frame.cycle frame.members
     (λ c. collected_not n points _ _ c) so
-
-before_hearing : (b : Bool) (state : State) → (if b then Joining else state) ≡ Integrating → state ≡ Integrating
-before_hearing true state e = absurd cc
-before_hearing false state e = e
 
 -- a place of the time is behind what is earlier
 earlier_more : (t : ℕ) (more : List ℕ) (h : Happening) (hs : List Happening) → earlier t (filter (λ x. is_before (place_of x) (t ∷ more)) hs) ≡ earlier t hs
@@ -168,16 +141,6 @@ pub earlier_up_to : (hs : List Happening) (t : ℕ) (at : IsSplit place_of hs (t
 earlier_up_to hs t at =
     let late = late_part hs t 6 [] (omega arith) at in late_earlier hs t at.front late ∙ same_earlier t (6 ∷ []) hs at
 
-no_point : (state : State) (n cycle : ℕ) → state ≡ Integrating → point_in state n ≡ Some cycle → ⊥
-no_point Off n cycle e p = cc
-no_point Integrating n cycle e p = cc
-no_point Joining n cycle e p = cc
-no_point Synchronised n cycle e p = cc
-
-not_later : (u r t q : ℕ) (ks ls : List ℕ) → IsBefore (u ∷ r ∷ ks) (t ∷ q ∷ ls) → u ≤ t
-not_later u r t q ks ls (inl lt) = omega (arith, lt)
-not_later u r t q ks ls (inr b) = omega (arith, b.0)
-
 low_rank : (u r t : ℕ) (ks : List ℕ) → IsBefore (u ∷ r ∷ ks) (t ∷ 6 ∷ []) → u ≡ t → r < 6
 low_rank u r t ks (inl lt) same = absurd (omega (arith, lt, same))
 low_rank u r t ks (inr (e, inl lt)) same = lt
@@ -208,7 +171,7 @@ front_earlier s hs h founded front rest whole =
 pub front_after : (s : Scenario) (hs : List Happening) (device : DeviceId) (t cycle : ℕ) (at : IsSplit place_of hs (t ∷ 6 ∷ []))
     → IsFounded place_of (IsDue s) hs → next_point (standing_at s at.front device t) ≡ Some cycle → IsAfter at.front device t
 front_after s hs device t cycle at founded next = record {
-  none_later = λ h i. not_later (time_of h) (rank h.note.body) t 6 (key (members_in h) h.note.body) [] (at.before h i);
+  none_later = λ h i. time_before (time_of h) (rank h.note.body) t 6 (key (members_in h) h.note.body) [] (at.before h i);
   unchanged = λ h i same. by_test h i same (changes_adjustment device h.note.body) refl;
 }
   where

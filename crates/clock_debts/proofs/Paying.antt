@@ -1,5 +1,5 @@
 -- Which records say that a device sends.
-use Rattle.std.proofs.Common.{◌≡◌, ℕ, Bool, true, false, not, List, [], ◌∷◌, refl, sym, ap, subst, ◌∙◌}
+use Rattle.std.proofs.Common.{◌≡◌, ℕ, List, [], ◌∷◌, sym, ap, subst, ◌∙◌}
 use Rattle.std.specs.Prelude.{◌↔◌}
 use Rattle.net_plan.specs.declared.ids.DeviceId.{DeviceId}
 use Rattle.record_places.specs.Placing.{HasRecordAt}
@@ -10,9 +10,7 @@ use Rattle.run_law.specs.records.Order.{IsIn}
 use Rattle.run_law.specs.records.Ranks.{members_in, place_at, place_of}
 use Rattle.run_law.specs.scenario.Scenarios.{Scenario}
 use Rattle.clock_debts.specs.Sent.{IsSent}
-
-same_device : (a b : DeviceId) → a.0 ≡ b.0 → a ≡ b
-same_device a b same = ap (λ (n : ℕ). let d : DeviceId = record { 0 = n } in d) same
+use Rattle.net_plan.proofs.SameIds.{same_device}
 
 -- what stands at the place of a sending is it
 sent_at : (u m n t c : ℕ) (d : DeviceId) (body : NoteBody) → place_at u m body ≡ place_at t n (notes.Sent d c) → (u ≡ t) × (body ≡ notes.Sent d c)
@@ -49,11 +47,3 @@ there_sent s hs d t c place is sent = (
   ap (λ (u : ℕ). place_at u (members_in sent.0) sent.0.note.body) sent.2.at
       ∙ ap (place_at t (members_in sent.0)) sent.2.says ∙ sym is,
 )
-
-pub not_true : (b : Bool) → not b ≡ true → b ≡ false
-not_true true e = cc
-not_true false e = refl
-
-pub not_false : (b : Bool) → not b ≡ false → b ≡ true
-not_false true e = refl
-not_false false e = cc

@@ -1,5 +1,5 @@
 -- What a master sends while the same is shown of it.
-use Rattle.std.proofs.Common.{◌≡◌, ℕ, zero, suc, ◌+◌, ◌-◌, ◌*◌, ◌^◌, ◌<◌, ◌≤◌, ℤ, pos, Bool, true, false, List, inl, inr, refl, sym, ap, subst, ◌∙◌, arith, if◌then◌else◌}
+use Rattle.std.proofs.Common.{◌≡◌, ℕ, zero, suc, ◌+◌, ◌-◌, ◌*◌, ◌^◌, ◌<◌, ◌≤◌, ℤ, pos, true, List, inl, inr, refl, sym, ap, subst, ◌∙◌, arith}
 use Rattle.std.proofs.Common.{mul-le-mul_left, mul-le-mul_right}
 use Rattle.std.proofs.lemmas.Bool.{cases_lt}
 use Rattle.std.proofs.lemmas.Int.{ints}
@@ -18,20 +18,16 @@ use Rattle.run_law.specs.records.Happenings.{Happening, earlier}
 use Rattle.run_law.specs.scenario.Devices.{has_role}
 use Rattle.run_law.specs.scenario.Scenarios.{Scenario, is_turned_on_at}
 use Rattle.run_law.specs.timed.Dispatching.{IsUp, Sends}
-use Rattle.sync_state.specs.declared.state.State.TheVariants.{Integrating, Synchronised}
-use Rattle.sync_state.specs.declared.state.State.{State}
+use Rattle.sync_state.specs.declared.state.State.TheVariants.{Synchronised}
 use Rattle.tte_units.specs.Amount.{amount}
 use Rattle.clock_debts.specs.FirstUnpaid.{ArePaid, IsFirstUnpaid}
 use Rattle.clock_debts.specs.Kept.{ShowsWithin}
+use Rattle.sync_state.proofs.StateFacts.{up_state}
 use Rattle.clock_debts.proofs.Joining.{paid_both}
 
 -- the series is that of the beginnings of cycles
 abbrev pub AreBeginnings : Scenario → Series → Type 0
 AreBeginnings s series = (n : ℕ) → value_in series n ≡ pos ((n + 1) * amount s.network.cycle)
-
-up_state : (on : Bool) (state : State) → (if on then Integrating else state) ≡ Synchronised → state ≡ Synchronised
-up_state true state e = absurd cc
-up_state false state e = e
 
 -- a device that is up is shown to be synchronised
 pub shown_up : (s : Scenario) (hs : List Happening) (device : DeviceId) (t : ℕ) (shown : Shown) → Shows s (earlier t hs) device shown

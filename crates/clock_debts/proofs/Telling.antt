@@ -23,9 +23,7 @@ use Rattle.run_law.specs.scenario.Scenarios.{Scenario}
 use Rattle.sync_state.specs.declared.state.State.{State}
 use Rattle.tte_units.specs.declared.units.Units.{Units}
 use Rattle.clock_debts.specs.Told.{IsTold}
-
-same_device : (a b : DeviceId) → a.0 ≡ b.0 → a ≡ b
-same_device a b same = ap (λ (n : ℕ). let d : DeviceId = record { 0 = n } in d) same
+use Rattle.net_plan.proofs.SameIds.{same_device}
 
 -- a change of state without a cause is by a clique
 without_cause : (s : Scenario) (ps : List Happening) (device : DeviceId) (t cause : ℕ) (state : State) (why : Why) → cause ≡ 0

@@ -1,9 +1,10 @@
 -- What the record of a change of state says.
 use Rattle.std.proofs.Common.{◌≡◌, ℕ, Bool, true, false, List, Option, Some, None, refl, sym, ap, ◌∙◌, arith, if◌then◌else◌}
-use Rattle.std.specs.Prelude.{◌==◌, not}
+use Rattle.std.specs.Prelude.{◌==◌}
 use Rattle.clock_judge.specs.Brought.{bringer_as, bringer_at, bringer_of}
 use Rattle.clock_judge.specs.declared.changing.Bringer.TheVariants as bringers
 use Rattle.clock_judge.specs.declared.changing.Bringer.{Bringer}
+use Rattle.net_plan.proofs.SameIds.{same_device}
 use Rattle.net_plan.specs.declared.event.What.TheVariants.{On}
 use Rattle.net_plan.specs.declared.ids.DeviceId.{DeviceId}
 use Rattle.run_law.specs.declared.note.NoteBody.TheVariants as notes
@@ -12,25 +13,16 @@ use Rattle.run_law.specs.records.Causes.{IsOfThisTime}
 use Rattle.run_law.specs.records.Happenings.{Happening, numbered, time_of}
 use Rattle.tte_units.specs.declared.units.Units.{Units}
 use Rattle.run_law.specs.device.States.{is_joined_by}
+use Rattle.tte_lemmas.proofs.Naturals.{eqb_same}
 
 pub same_nat : (m n : ℕ) → (m == n) ≡ true → m ≡ n
 same_nat m n e = grind (arith)
-
-pub true_same : (n : ℕ) → (n == n) ≡ true
-true_same n = grind (arith)
-
-same_device : (a b : DeviceId) → a.0 ≡ b.0 → a ≡ b
-same_device a b same = ap (λ (n : ℕ). let d : DeviceId = record { 0 = n } in d) same
 
 -- ---- what a body is
 
 no_join : (b : Bool) (x : Bringer) → (x ≡ bringers.Joins → ⊥) → (x ≡ bringers.Other → ⊥) → (if b then bringers.Joins else bringers.Other) ≡ x → ⊥
 no_join true x a o e = a (sym e)
 no_join false x a o e = o (sym e)
-
-is_join : (b : Bool) → (if b then bringers.Joins else bringers.Other) ≡ bringers.Joins → b ≡ true
-is_join true e = refl
-is_join false e = absurd cc
 
 one_or_none : (b : Bool) (x y : Bringer) → (x ≡ y → ⊥) → (y ≡ bringers.Other → ⊥) → (if b then x else bringers.Other) ≡ y → ⊥
 one_or_none true x y a o e = a e
@@ -50,7 +42,7 @@ turns_on_by device body e = absurd (no_join (is_joined_by device body) bringers.
 
 by_turning_on : (device : DeviceId) (line : ℕ) (body : NoteBody) → body ≡ notes.Event line (On device) → bringer_as device body ≡ bringers.TurnsOn
 by_turning_on device line body e =
-    ap (bringer_as device) e ∙ ap (λ (b : Bool). if b then bringers.TurnsOn else bringers.Other) (true_same device.0)
+    ap (bringer_as device) e ∙ ap (λ (b : Bool). if b then bringers.TurnsOn else bringers.Other) (eqb_same device.0)
 
 corrects_by : (device : DeviceId) (body : NoteBody) → bringer_as device body ≡ bringers.Corrects
     → (cycle : ℕ) × (by : Units) × (adjustment : Units) × (body ≡ notes.Corrected device cycle by adjustment)
@@ -60,17 +52,6 @@ corrects_by device (notes.Corrected other cycle by adjustment) e =
     let same = is_one (device.0 == other.0) bringers.Corrects (λ x. cc) e in
     (cycle, by, adjustment, ap (λ (d : DeviceId). notes.Corrected d cycle by adjustment) (sym (same_device device other (same_nat device.0 other.0 same))))
 corrects_by device body e = absurd (no_join (is_joined_by device body) bringers.Corrects (λ x. cc) (λ x. cc) e)
-
-by_correcting : (device : DeviceId) (cycle : ℕ) (by adjustment : Units) (body : NoteBody) → body ≡ notes.Corrected device cycle by adjustment
-    → bringer_as device body ≡ bringers.Corrects
-by_correcting device cycle by adjustment body e =
-    ap (bringer_as device) e ∙ ap (λ (b : Bool). if b then bringers.Corrects else bringers.Other) (true_same device.0)
-
-joins_by : (device : DeviceId) (body : NoteBody) → bringer_as device body ≡ bringers.Joins → is_joined_by device body ≡ true
-joins_by device (notes.Event line (On other)) e = absurd (one_or_none (device.0 == other.0) bringers.TurnsOn bringers.Joins (λ x. cc) (λ x. cc) e)
-joins_by device (notes.Corrected other cycle by adjustment) e =
-    absurd (one_or_none (device.0 == other.0) bringers.Corrects bringers.Joins (λ x. cc) (λ x. cc) e)
-joins_by device body e = is_join (is_joined_by device body) e
 
 by_joining : (device : DeviceId) (body : NoteBody) → is_joined_by device body ≡ true → bringer_as device body ≡ bringers.Joins
 by_joining device (notes.Event line (On other)) e = absurd cc
@@ -106,7 +87,7 @@ of_record : (hs : List Happening) (device : DeviceId) (t cause : ℕ) (h : Happe
 of_record hs device t cause h b there is =
     ap (bringer_at device t) there.there
     ∙ ap (λ (n : ℕ). if n == t then bringer_as device h.note.body else bringers.Other) there.same_time
-    ∙ ap (λ (x : Bool). if x then bringer_as device h.note.body else bringers.Other) (true_same t)
+    ∙ ap (λ (x : Bool). if x then bringer_as device h.note.body else bringers.Other) (eqb_same t)
     ∙ is
 
 pub turned_on : (hs : List Happening) (device : DeviceId) (t cause : ℕ) → bringer_of hs device t cause ≡ bringers.TurnsOn
@@ -128,23 +109,6 @@ corrected hs device t cause e =
     let by = corrects_by device found.h.note.body found.is in
     (by.0, by.1, by.2, found.h, found.there, by.3)
 
-pub correcting : (hs : List Happening) (device : DeviceId) (t cause cycle : ℕ) (by adjustment : Units) (h : Happening) → IsOfThisTime hs t cause h
-    → h.note.body ≡ notes.Corrected device cycle by adjustment → bringer_of hs device t cause ≡ bringers.Corrects
-correcting hs device t cause cycle by adjustment h there is =
-    of_record hs device t cause h bringers.Corrects there (by_correcting device cycle by adjustment h.note.body is)
-
-pub joined : (hs : List Happening) (device : DeviceId) (t cause : ℕ) → bringer_of hs device t cause ≡ bringers.Joins
-    → (h : Happening) × IsOfThisTime hs t cause h × (is_joined_by device h.note.body ≡ true)
-joined hs device t cause e =
-    let found = record_of hs device t cause bringers.Joins e (λ x. cc) in (found.h, found.there, joins_by device found.h.note.body found.is)
-
 pub joining : (hs : List Happening) (device : DeviceId) (t cause : ℕ) (h : Happening) → IsOfThisTime hs t cause h
     → is_joined_by device h.note.body ≡ true → bringer_of hs device t cause ≡ bringers.Joins
 joining hs device t cause h there is = of_record hs device t cause h bringers.Joins there (by_joining device h.note.body is)
-
-pub not_true : (b : Bool) → not b ≡ true → b ≡ false
-not_true true e = cc
-not_true false e = refl
-
-pub not_false : (b : Bool) → b ≡ false → not b ≡ true
-not_false b e = ap not e

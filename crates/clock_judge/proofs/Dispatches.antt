@@ -76,8 +76,3 @@ next_sent s hs device after until shown series crossed master state steady are i
 pub silent_master : (s : Scenario) (hs : List Happening) (device : DeviceId) (after before : ℕ) → has_role s.network is_master device ≡ false
     → NoneSent s hs device after before
 silent_master s hs device after before other t cycle lt early sends = let is = sends.master in absurd cc
-
-pub silent_state : (s : Scenario) (hs : List Happening) (device : DeviceId) (after until : ℕ) (shown : Shown) → IsStretch s hs device after until shown
-    → (shown.state ≡ Synchronised → ⊥) → NoneSent s hs device after (until + 1)
-silent_state s hs device after until shown in_stretch other t cycle lt early sends =
-    other (sym (state_in s hs device after until shown t in_stretch lt (omega (arith, early))) ∙ sends.up.synchronised)

@@ -1,5 +1,5 @@
 -- The correction point that comes to a device.
-use Rattle.std.proofs.Common.{◌≡◌, ℕ, ℤ, List, Option, Some, refl, sym, ap, subst, ◌∙◌}
+use Rattle.std.proofs.Common.{◌≡◌, ℕ, List, Option, Some, refl, sym, ap, subst, ◌∙◌}
 use Rattle.std.specs.Prelude.{◌↔◌, false}
 use Rattle.audit_law.proofs.Determined.{same_verdict}
 use Rattle.audit_law.specs.CorrectionNumbers.{ComesToPoint, next_number, standing_at}
@@ -12,11 +12,11 @@ use Rattle.run_law.specs.control.Corrections.{correction_value}
 use Rattle.run_law.specs.device.LocalClocks.{Reaches}
 use Rattle.run_law.specs.records.Happenings.{Happening}
 use Rattle.run_law.specs.scenario.Scenarios.{Scenario, is_broken}
-use Rattle.sync_state.specs.Standing.{Standing, next_point, point_in}
+use Rattle.sync_state.proofs.StateFacts.{number_in}
+use Rattle.sync_state.specs.Standing.{Standing, next_point}
 use Rattle.sync_state.specs.Verdicts.{HasVerdict}
 use Rattle.sync_state.specs.declared.answers.Verdict.{Verdict}
 use Rattle.sync_state.specs.declared.plan.SyncPlan.{SyncPlan}
-use Rattle.sync_state.specs.declared.state.State.TheVariants.{Off, Integrating, Joining, Synchronised}
 use Rattle.sync_state.specs.declared.state.State.{State}
 use Rattle.tte_units.specs.declared.units.Units.{Units}
 
@@ -44,12 +44,6 @@ none_reached s hs device t c cycle next short p =
     let one : cycle ≡ c = some_same cycle c (next_point (standing_at s hs device t)) p.next (sym next) in
     short (subst (λ (n : ℕ). Reaches s hs device (correction_value s.network n) t) one p.reached)
 
-number_in : (state : State) (n c : ℕ) → point_in state n ≡ Some c → c ≡ n
-number_in Off n c is = cc
-number_in Integrating n c is = cc
-number_in Joining n c is = cc
-number_in Synchronised n c is = cc
-
 pub number_is : (s : Scenario) (hs : List Happening) (device : DeviceId) (t c : ℕ) → HasPoint s hs device t c → c ≡ next_number s hs device t
 number_is s hs device t c p = number_in (standing_at s hs device t).state (next_number s hs device t) c p.next
 
@@ -62,9 +56,6 @@ same_standing a b plans states adjustments numbers joined =
     ∙ ap (λ (x : Units). let u : Standing = record { plan = b.plan; state = b.state; adjustment = x; number = a.number; integrated = a.integrated } in u) adjustments
     ∙ ap (λ (n : ℕ). let u : Standing = record { plan = b.plan; state = b.state; adjustment = b.adjustment; number = n; integrated = a.integrated } in u) numbers
     ∙ ap (λ (o : Option ℕ). let u : Standing = record { plan = b.plan; state = b.state; adjustment = b.adjustment; number = b.number; integrated = o } in u) joined
-
-pub same_units : (a b : Units) → a.0 ≡ b.0 → a ≡ b
-same_units a b same = ap (λ (n : ℤ). let t : Units = record { 0 = n } in t) same
 
 -- the point comes to this, and to nothing else
 pub point_comes : (s : Scenario) (hs : List Happening) (device : DeviceId) (t c cycle : ℕ) (heard : Summary) (found verdict : Verdict)

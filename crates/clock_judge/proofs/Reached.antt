@@ -1,5 +1,6 @@
 -- When a clock reaches a value, by its readings now and a unit of time before.
-use Rattle.std.proofs.Common.{◌≡◌, ℕ, zero, suc, ◌-◌, ◌<◌, ◌≤◌, ℤ, pos, Bool, true, false, List, [], ◌∷◌, filter, Option, Some, None, refl, subst, arith, if◌then◌else◌}
+use Rattle.std.proofs.Common.{◌≡◌, ℕ, zero, suc, ◌-◌, ◌≤◌, ℤ, pos, Bool, true, false, List, [], ◌∷◌, filter, Option, Some, None, refl, subst, arith, if◌then◌else◌}
+use Rattle.std.proofs.lemmas.Bool.{ltb-true}
 use Rattle.std.proofs.lemmas.Int.{ints}
 use Rattle.std.specs.List.{last_or}
 use Rattle.std.specs.Option.{option_map_or}
@@ -12,9 +13,6 @@ use Rattle.run_law.specs.device.LocalClocks.{Reaches, changed_at, changes_adjust
 use Rattle.run_law.specs.records.Happenings.{Happening, earlier, time_of}
 use Rattle.run_law.specs.scenario.Scenarios.{Scenario}
 
-less : (a b : ℕ) → nat_lt a b ≡ true → a < b
-less a b e = grind (arith)
-
 -- the last of what is earlier lies before the time
 last_early : (p : Happening → Bool) (t : ℕ) (o : Option Happening) (hs : List Happening) → option_map_or time_of o 0 ≤ t - 1
     → option_map_or time_of (last_or o (filter p (filter (λ h. nat_lt (time_of h) t) hs))) 0 ≤ t - 1
@@ -24,7 +22,7 @@ last_early p t o (h ∷ hs) le =
     → option_map_or time_of (last_or o (filter p (if b then h ∷ filter (λ x. nat_lt (time_of x) t) hs else filter (λ x. nat_lt (time_of x) t) hs))) 0 ≤ t - 1) [
       | true ↦ λ e. elim (p h) as (λ b. option_map_or time_of (last_or o (if b then h ∷ filter p (filter (λ x. nat_lt (time_of x) t) hs)
           else filter p (filter (λ x. nat_lt (time_of x) t) hs))) 0 ≤ t - 1) [
-            | true ↦ last_early p t (Some h) hs (let lt = less (time_of h) t e in omega (arith, lt))
+            | true ↦ last_early p t (Some h) hs (let lt = ltb-true (time_of h) t e in omega (arith, lt))
             | false ↦ last_early p t o hs le
           ]
       | false ↦ λ e. last_early p t o hs le

@@ -1,9 +1,9 @@
 -- What a history had it keeps as it grows.
 use Rattle.std.proofs.Common.{◌≡◌, ◌∙◌, ◌+◌, ◌≤◌, ℕ, suc, zero, ℤ, List, [], ◌∷◌, ◌++◌, length, map, take, drop, refl, sym, ap, subst, arith, Option, Some, None}
-use Rattle.std.specs.Prelude.{All, IfSome, slice_get}
+use Rattle.std.specs.Prelude.{All, IfSome}
 use Rattle.std.specs.List.{AllByRecursion}
 use Rattle.std.proofs.lemmas.List.{take-append-le, drop-append-le, length-drop, length-append}
-use Rattle.std.proofs.lemmas.List.Elements.{recursion_from_All, All-from_recursion}
+use Rattle.std.proofs.lemmas.List.Elements.{recursion_from_All}
 use Rattle.compression.specs.Clusters.{Point, Cluster, AreClusters}
 use Rattle.compression.proofs.Standing.{AreClusters-unique}
 use Rattle.collection_history.specs.Gathered.{EndsWith, Gathers, HasRow, IsHeld}
@@ -12,6 +12,7 @@ use Rattle.collection_history.specs.Steps.{Grows}
 use Rattle.collection_history.specs.declared.gathering.Gathering.{Gathering}
 use Rattle.collection_history.specs.declared.gathering.Row.{Row}
 use Rattle.collection_history.specs.declared.kept.KeptCluster.{KeptCluster}
+use Rattle.tte_lemmas.proofs.Lists.{all-push}
 
 -- all parts of a list stay where more is appended
 part-same : {X : Type 0} (xs more : List X) (from count : ℕ) → (from + count) ≤ length xs → take count (drop from (xs ++ more)) ≡ take count (drop from xs)
@@ -21,13 +22,6 @@ part-same xs more from count within =
 
 pub counted-grown : (xs more : List ℤ) (k : KeptCluster) → IsCounted xs k → IsCounted (xs ++ more) k
 counted-grown xs more k is = record { some = is.some; within = rw (length-append xs more) (omega (arith, is.within)) }
-
-pub all-counted : (xs more : List ℤ) (ks : List KeptCluster) → All (IsCounted xs) ks → All (IsCounted (xs ++ more)) ks
-all-counted xs more ks all = All-from_recursion (IsCounted (xs ++ more)) ks (each ks (recursion_from_All (IsCounted xs) ks all))
-  where
-    each : (ks : List KeptCluster) → AllByRecursion (IsCounted xs) ks → AllByRecursion (IsCounted (xs ++ more)) ks
-    each [] all = tt
-    each (k ∷ ks) all = (counted-grown xs more k all.0, each ks all.1)
 
 pub cluster-same : (xs more : List ℤ) (k : KeptCluster) → IsCounted xs k → cluster_kept (xs ++ more) k ≡ cluster_kept xs k
 cluster-same xs more k is =
@@ -53,10 +47,6 @@ all-drop P zero (x ∷ xs) all = all
 all-drop P (suc n) [] all = tt
 all-drop P (suc n) (x ∷ xs) all = all-drop P n xs all.1
 
-all-push : {X : Type 0} (P : X → Type 0) (xs : List X) (x : X) → AllByRecursion P xs → P x → AllByRecursion P (xs ++ x ∷ [])
-all-push P [] x all one = (one, tt)
-all-push P (y ∷ ys) x all one = (all.0, all-push P ys x all.1 one)
-
 -- each cluster of a gathering has its points in the history
 pub kept-counted : (h : History) (row : Row) → All (IsCounted h.counted) h.closed → HasRow h row → AllByRecursion (IsCounted h.counted) (kept_in h (Some row))
 kept-counted h row all has =
@@ -67,14 +57,6 @@ kept-counted h row all has =
 pub all-kept : (h : History) (r : Option Row) → All (IsCounted h.counted) h.closed → IfSome r (HasRow h) → AllByRecursion (IsCounted h.counted) (kept_in h r)
 all-kept h None all held = tt
 all-kept h (Some row) all held = kept-counted h row all held
-
-pub at-place : {X : Type 0} (P : X → Type 0) (xs : List X) (i : ℕ) (x : X) → AllByRecursion P xs → slice_get xs i ≡ Some x → P x
-at-place P [] i x all at = absurd (none at)
-  where
-    none : slice_get [] i ≡ Some x → ⊥
-    none e = cc
-at-place P (y ∷ ys) zero x all at = let same : y ≡ x = cc in subst P same all.0
-at-place P (y ∷ ys) (suc i) x all at = at-place P ys i x all.1 at
 
 pub kept-same : (old new : History) (row : Row) → Grows old new → HasRow old row → kept_in new (Some row) ≡ kept_in old (Some row)
 kept-same old new row grows has =

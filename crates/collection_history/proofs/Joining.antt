@@ -8,6 +8,7 @@ use Rattle.compression.specs.Collection.{opening, joined, joined_end}
 use Rattle.collection_history.specs.Kept.{History, cluster_kept}
 use Rattle.collection_history.specs.Steps.{Grows}
 use Rattle.collection_history.specs.declared.kept.KeptCluster.{KeptCluster}
+use Rattle.tte_lemmas.proofs.Lists.{drop-front}
 
 pub grows-none : (h : History) → Grows h h
 grows-none h = record {
@@ -31,10 +32,6 @@ take-all zero [] le = refl
 take-all zero (x ∷ xs) le = absurd (omega (arith, le))
 take-all (suc n) [] le = refl
 take-all (suc n) (x ∷ xs) le = ap (λ (ys : List _). x ∷ ys) (take-all n xs (omega (arith, le)))
-
-drop-front : {X : Type 0} (xs ys : List X) → drop (length xs) (xs ++ ys) ≡ ys
-drop-front [] ys = refl
-drop-front (x ∷ xs) ys = drop-front xs ys
 
 -- the points up to the last, with one more
 points-joined : (counted : List ℤ) (from count : ℕ) (reading : ℤ) → from + count ≡ length counted

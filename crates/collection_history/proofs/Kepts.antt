@@ -19,10 +19,6 @@ use Rattle.collection_history.specs.declared.kept.KeptCluster.{KeptCluster}
 abbrev pub emitted_by : ℤ → ℤ → ℕ → ℕ → Emitted
 emitted_by opened at cycle members = record { opened = opened; at = at; cycle = cycle; members = members }
 
-pub last_or-push : {X : Type 0} (o : Option X) (xs : List X) (x : X) → last_or o (xs ++ x ∷ []) ≡ Some x
-last_or-push o [] x = refl
-last_or-push o (y ∷ ys) x = last_or-push (Some y) ys x
-
 last_or-map : {X Y : Type 0} (f : X → Y) (o : Option Y) (xs : List X) (x : X) → last_or o (map f (xs ++ x ∷ [])) ≡ Some (f x)
 last_or-map f o [] x = refl
 last_or-map f o (y ∷ ys) x = last_or-map f (Some (f y)) ys x

@@ -1,5 +1,5 @@
 -- What the search for an opening finds.
-use Rattle.std.proofs.Common.{◌≡◌, ◌∙◌, ℕ, zero, suc, ◌+◌, ◌<◌, ◌≤◌, ℤ, pos, ◌≤ℤ◌, ◌<ℤ◌, List, [], ◌∷◌, length, take, drop, map, sym, ap, subst, arith, Option, Some, inl, inr}
+use Rattle.std.proofs.Common.{◌≡◌, ◌∙◌, ℕ, ◌+◌, ◌<◌, ◌≤◌, ℤ, pos, ◌≤ℤ◌, ◌<ℤ◌, List, [], ◌∷◌, length, take, drop, map, sym, ap, subst, arith, Option, Some, inl, inr}
 use Rattle.std.specs.Prelude.{slice_get, All}
 use Rattle.std.proofs.lemmas.Int.{ints}
 use Rattle.std.proofs.lemmas.List.{length-append, length-take-le, length-drop}
@@ -14,14 +14,7 @@ use Rattle.collection_history.specs.declared.emitted.Emitted.{Emitted}
 use Rattle.collection_history.specs.declared.gathering.Gathering.{Gathering}
 use Rattle.collection_history.specs.declared.gathering.Row.{Row}
 use Rattle.collection_history.specs.declared.kept.KeptCluster.{KeptCluster}
-
-slice_get-inside : {X : Type 0} (xs : List X) (i : ℕ) (x : X) → slice_get xs i ≡ Some x → i < length xs
-slice_get-inside [] i x at = absurd (none at)
-  where
-    none : slice_get [] i ≡ Some x → ⊥
-    none e = cc
-slice_get-inside (y ∷ ys) zero x at = omega arith
-slice_get-inside (y ∷ ys) (suc i) x at = omega (arith, slice_get-inside ys i x at)
+use Rattle.tte_lemmas.proofs.Lists.{got_within}
 
 same_at : (ks : List KeptCluster) (i j : ℕ) (k d : KeptCluster) → i ≡ j → slice_get ks i ≡ Some k → slice_get ks j ≡ Some d → k ≡ d
 same_at ks i j k d e at there =
@@ -51,7 +44,7 @@ none-opened h ks opened result none =
 pub none-behind : (ks : List KeptCluster) (opened : ℤ) (place : ℕ) → IsPlaceFor ks opened place → length ks ≤ place → (i : ℕ) (k : KeptCluster)
     → slice_get ks i ≡ Some k → k.opened ≡ opened → ⊥
 none-behind ks opened place is past i k at same =
-    let before = is.before i k (omega (arith, past, slice_get-inside ks i k at)) at in
+    let before = is.before i k (omega (arith, past, got_within ks i k at)) at in
     omega (arith, ints, before, same)
 
 -- where another opens at the place

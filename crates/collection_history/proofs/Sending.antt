@@ -9,7 +9,7 @@ use Rattle.collection_history.specs.Kept.{History, as_emitted, clusters_in, emis
 use Rattle.collection_history.specs.declared.emitted.Emitted.{Emitted}
 use Rattle.collection_history.specs.declared.gathering.Gathering.{Gathering}
 
-in_map : {X Y : Type 0} (f : X → Y) (xs : List X) (y : Y) → Contains (map f xs) y → (x : X) × Contains xs x × (f x ≡ y)
+pub in_map : {X Y : Type 0} (f : X → Y) (xs : List X) (y : Y) → Contains (map f xs) y → (x : X) × Contains xs x × (f x ≡ y)
 in_map f [] y at = absurd (in_none y at)
 in_map f (x ∷ xs) y at =
     elim (in_cases (f x) y (map f xs) at) [

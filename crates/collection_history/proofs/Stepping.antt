@@ -15,7 +15,6 @@ use Rattle.compression.specs.Collection.{opening, joined, joined_end}
 use Rattle.compression.specs.Role.{has_point_of, open_at, role}
 use Rattle.compression.specs.declared.taken.Taken.TheVariants.{Opened, Joined, Repeat, OtherCycle}
 use Rattle.collection_history.proofs.Growing.{clusters-same, has-ends, all-kept}
-use Rattle.collection_history.proofs.Kepts.{last_or-push}
 use Rattle.collection_history.proofs.Spaced.{spaced, opened-most, before-last, at-last, ends-most}
 use Rattle.collection_history.specs.Gathered.{EndsWith, Gathers, HasRow, IsHeld}
 use Rattle.collection_history.specs.Kept.{History, IsCounted, cluster_kept, clusters_in, kept_in}
@@ -23,14 +22,12 @@ use Rattle.collection_history.specs.Steps.{Grows, Joins, Opens}
 use Rattle.collection_history.specs.declared.gathering.Gathering.{Gathering}
 use Rattle.collection_history.specs.declared.gathering.Row.{Row}
 use Rattle.collection_history.specs.declared.kept.KeptCluster.{KeptCluster}
+use Rattle.compression.proofs.Standing.{ended_later}
+use Rattle.tte_lemmas.proofs.Lists.{last_pushed}
 
 -- none of these points is later than the reading
 abbrev pub AreBefore : List Point → ℤ → Type 0
 AreBefore ps reading = AllByRecursion (λ q. q.reading ≤ℤ reading) ps
-
-all-later : (o r : ℤ) (ks : List Cluster) → o ≤ℤ r → AllByRecursion (λ k. k.end <ℤ o) ks → AllByRecursion (λ k. k.end <ℤ r) ks
-all-later o r [] le all = tt
-all-later o r (k ∷ ks) le all = (omega (arith, ints, le, all.0), all-later o r ks le all.1)
 
 all-add : (r : ℤ) (ks : List Cluster) (c : Cluster) → AllByRecursion (λ k. k.end <ℤ r) ks → c.end <ℤ r → AllByRecursion (λ k. k.end <ℤ r) (ks ++ c ∷ [])
 all-add r [] c all past = (past, tt)
@@ -41,7 +38,7 @@ before : (ow : ℤ) (ps : List Point) (front : List Cluster) (c : Cluster) (r : 
     → AllByRecursion (λ k. k.end <ℤ r) front × (c.opened ≤ℤ r)
 before ow ps front c r some are past =
     let opened : c.opened ≤ℤ r = at-last (λ (k : Cluster). k.opened ≤ℤ r) front c (opened-most ow r ps (front ++ c ∷ []) some are past) in
-    (all-later c.opened r front opened (before-last front c (spaced ow ps (front ++ c ∷ []) some are)), opened)
+    (ended_later c.opened r front opened (before-last front c (spaced ow ps (front ++ c ∷ []) some are)), opened)
 
 -- where none is open at a reading, all have ended
 ended : (ow : ℤ) (ps : List Point) (cs : List Cluster) (r : ℤ) → pos 0 ≤ℤ ow → AreClusters ow ps cs → AreBefore ps r → open_at cs r ≡ None
@@ -91,7 +88,7 @@ are-joined ow ps front c p some are past is =
     let cs = front ++ c ∷ [] in
     let j = role_in-joined (open_at cs p.reading) p (sym is) in
     let at = open_at-some cs p.reading j.c j.is in
-    let last : Some j.c ≡ Some c = sym at.0 ∙ last_or-push None front c in
+    let last : Some j.c ≡ Some c = sym at.0 ∙ last_pushed None front c in
     let same : j.c ≡ c = cc in
     let most = at-last (λ (k : Cluster). k.end ≤ℤ (k.opened +ℤ (pos 2 *ℤ ow))) front c (ends-most ow ps cs some are) in
     let cycle : p.cycle ≡ c.cycle = subst (λ (k : Cluster). p.cycle ≡ k.cycle) same j.same in

@@ -7,7 +7,7 @@ use Rattle.std.proofs.lemmas.Bool.{cases_Bool}
 use Rattle.std.proofs.lemmas.List.Elements.{All-from_recursion, All-contains}
 use Rattle.compression.specs.Clusters.{Point, beyond}
 use Rattle.compression.specs.OneCluster.{AreInOrder}
-use Rattle.compression.proofs.Held.{int_lt-true}
+use Rattle.tte_lemmas.proofs.Integers.{int_lt-from}
 
 pub in_head : {X : Type 0} (x : X) (xs : List X) → Contains (x ∷ xs) x
 in_head x xs = (0, omega arith, refl)
@@ -97,7 +97,7 @@ beyond-all end (p ∷ ps) =
     ]
 
 pub in_beyond : (end : ℤ) (ps : List Point) (p : Point) → Contains ps p → end <ℤ p.reading → Contains (beyond end ps) p
-in_beyond end ps p at past = in_filter_from (λ q. int_lt end q.reading) ps p at (int_lt-true end p.reading past)
+in_beyond end ps p at past = in_filter_from (λ q. int_lt end q.reading) ps p at (int_lt-from end p.reading past)
 
 pub from_beyond : (end : ℤ) (ps : List Point) (p : Point) → Contains (beyond end ps) p → Contains ps p × (end <ℤ p.reading)
 from_beyond end ps p at =

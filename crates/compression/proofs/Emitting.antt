@@ -1,5 +1,5 @@
 -- What is emitted next, and a collector after it.
-use Rattle.std.proofs.Common.{◌≡◌, ◌∙◌, ℤ, pos, ◌+ℤ◌, ◌*ℤ◌, ◌≤ℤ◌, ◌<ℤ◌, List, [], ◌∷◌, ◌++◌, length, take, drop, map, ap, refl, sym, subst, arith, neg_ℤ, ◌^◌, FitsSigned, w64}
+use Rattle.std.proofs.Common.{◌≡◌, ◌∙◌, ℤ, pos, ◌+ℤ◌, ◌*ℤ◌, ◌≤ℤ◌, ◌<ℤ◌, List, [], ◌∷◌, ◌++◌, length, take, map, ap, refl, sym, subst, arith, neg_ℤ, ◌^◌, FitsSigned, w64}
 use Rattle.std.specs.Prelude.{All}
 use Rattle.std.proofs.lemmas.Int.{ints}
 use Rattle.std.proofs.lemmas.List.{append_assoc, map-append, length-map}
@@ -12,6 +12,7 @@ use Rattle.compression.specs.Row.{IsCollection, IsRow, IsSound}
 use Rattle.compression.specs.Least.{IsLeast}
 use Rattle.compression.specs.Stands.{StandsForPoints, EmittedInOrder}
 use Rattle.compression.specs.declared.compressed.Compressed.{Compressed}
+use Rattle.tte_lemmas.proofs.Lists.{drop-front}
 use Rattle.compression.proofs.Standing.{AreClusters-unique}
 use Rattle.compression.proofs.Rows.{row-head, row-rest, row-emissions, emission-within}
 
@@ -81,13 +82,9 @@ take-all : {X : Type 0} (xs ys : List X) → take (length xs) (xs ++ ys) ≡ xs
 take-all [] ys = refl
 take-all (x ∷ xs) ys = ap (λ t. x ∷ t) (take-all xs ys)
 
-drop-all : {X : Type 0} (xs ys : List X) → drop (length xs) (xs ++ ys) ≡ ys
-drop-all [] ys = refl
-drop-all (x ∷ xs) ys = drop-all xs ys
-
 -- what is emitted is the front of the clusters
 pub emitted_in_order : EmittedInOrder
 emitted_in_order v points emitted clusters s are =
     let whole : s.done ++ v.waiting ≡ clusters = AreClusters-unique v.ow points (s.done ++ v.waiting) clusters s.clusters are in
     let len : length emitted ≡ length s.done = ap length s.given ∙ length-map s.done (compressed v.ow v.calc) in
-    rw (len, ← whole) (rw take-all s.given, sym (drop-all s.done v.waiting))
+    rw (len, ← whole) (rw take-all s.given, sym (drop-front s.done v.waiting))

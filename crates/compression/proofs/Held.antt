@@ -6,15 +6,10 @@ use Rattle.std.proofs.lemmas.Bool.{cases_Bool, eq-eqb, ne_eqb, and_from, and_lef
 use Rattle.std.proofs.lemmas.List.{append-nil}
 use Rattle.std.proofs.lemmas.List.Elements.{filter-append}
 use Rattle.compression.specs.Clusters.{Point, of_cycle_within, beyond}
-
-pub int_le-true : (a b : ℤ) → a ≤ℤ b → int_le a b ≡ true
-int_le-true a b h = grind (arith, ints)
+use Rattle.tte_lemmas.proofs.Integers.{int_le-from, int_lt-from, not_less}
 
 pub int_le-false : (a b : ℤ) → b <ℤ a → int_le a b ≡ false
 int_le-false a b h = grind (arith, ints)
-
-pub int_lt-true : (a b : ℤ) → a <ℤ b → int_lt a b ≡ true
-int_lt-true a b h = grind (arith, ints)
 
 pub int_lt-false : (a b : ℤ) → b ≤ℤ a → int_lt a b ≡ false
 int_lt-false a b h = grind (arith, ints)
@@ -35,7 +30,7 @@ pub held-push_in : (cycle : ℕ) (from to : ℤ) (ps : List Point) (p : Point) �
 held-push_in cycle from to ps p same low high =
     let e : (p.cycle == cycle && (int_le from p.reading && int_le p.reading to)) ≡ true =
     and_from (p.cycle == cycle) (int_le from p.reading && int_le p.reading to) (eq-eqb p.cycle cycle same)
-    (and_from (int_le from p.reading) (int_le p.reading to) (int_le-true from p.reading low) (int_le-true p.reading to high)) in
+    (and_from (int_le from p.reading) (int_le p.reading to) (int_le-from from p.reading low) (int_le-from p.reading to high)) in
     filter-push_in (λ q. q.cycle == cycle && (int_le from q.reading && int_le q.reading to)) ps p e
 
 -- one beyond it
@@ -61,24 +56,21 @@ pub held-start : (o : Point) (to : ℤ) (ps : List Point) → o.reading ≤ℤ t
 held-start o to ps within =
     let e : (o.cycle == o.cycle && (int_le o.reading o.reading && int_le o.reading to)) ≡ true =
     and_from (o.cycle == o.cycle) (int_le o.reading o.reading && int_le o.reading to) (eq-eqb o.cycle o.cycle refl)
-    (and_from (int_le o.reading o.reading) (int_le o.reading to) (int_le-true o.reading o.reading (omega (arith, ints))) (int_le-true o.reading to within)) in
+    (and_from (int_le o.reading o.reading) (int_le o.reading to) (int_le-from o.reading o.reading (omega (arith, ints))) (int_le-from o.reading to within)) in
     ap (λ (b : Bool). cond b (o ∷ of_cycle_within o.cycle o.reading to ps) (of_cycle_within o.cycle o.reading to ps)) e
 
 pub beyond-push_in : (end : ℤ) (ps : List Point) (p : Point) → p.reading ≤ℤ end → beyond end (ps ++ p ∷ []) ≡ beyond end ps
 beyond-push_in end ps p within = filter-push_out (λ q. int_lt end q.reading) ps p (int_lt-false end p.reading within)
 
 pub beyond-push_out : (end : ℤ) (ps : List Point) (p : Point) → end <ℤ p.reading → beyond end (ps ++ p ∷ []) ≡ beyond end ps ++ p ∷ []
-beyond-push_out end ps p past = filter-push_in (λ q. int_lt end q.reading) ps p (int_lt-true end p.reading past)
-
-le_from_not_lt : (a b : ℤ) → int_lt a b ≡ false → b ≤ℤ a
-le_from_not_lt a b h = grind (arith, ints)
+beyond-push_out end ps p past = filter-push_in (λ q. int_lt end q.reading) ps p (int_lt-from end p.reading past)
 
 -- where none lies beyond an end, the first does not, nor one of the others
 pub beyond-none : (end : ℤ) (q : Point) (qs : List Point) → beyond end (q ∷ qs) ≡ [] → (q.reading ≤ℤ end) × (beyond end qs ≡ [])
 beyond-none end q qs none =
     elim (cases_Bool (int_lt end q.reading)) [
       | inl past ↦ absurd (some_is_not_none (rw past at none))
-      | inr here ↦ (le_from_not_lt end q.reading here, rw here at none)
+      | inr here ↦ (not_less end q.reading here, rw here at none)
     ]
   where
     some_is_not_none : q ∷ beyond end qs ≡ [] → ⊥
@@ -97,4 +89,4 @@ pub held-same : (cycle : ℕ) (from end later : ℤ) (ps : List Point) → end �
 held-same cycle from end later [] le none = refl
 held-same cycle from end later (q ∷ qs) le none =
     let parts = beyond-none end q qs none in
-    rw (int_le-true q.reading end parts.0, int_le-true q.reading later (omega (arith, ints, parts.0, le)), held-same cycle from end later qs le parts.1) refl
+    rw (int_le-from q.reading end parts.0, int_le-from q.reading later (omega (arith, ints, parts.0, le)), held-same cycle from end later qs le parts.1) refl

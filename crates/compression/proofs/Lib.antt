@@ -15,3 +15,4 @@ pub mod Elements
 pub mod Times
 pub mod Together
 pub mod Rooms
+pub mod ClusterFacts

@@ -6,8 +6,9 @@ use Rattle.std.proofs.lemmas.Int.{ints}
 use Rattle.std.proofs.lemmas.Bool.{cases_Bool, cases_eq, cases_lt, eq-eqb, eqb-true, eqb-false, and_from, and_parts, or_parts, or_cases}
 use Rattle.compression.specs.Clusters.{Point, Cluster, of_cycle_within, beyond, has_master, firsts, end_of, cluster_of, AreClusters}
 use Rattle.compression.specs.OneCluster.{LiesIn, Holds, IsDropped, IsKept, OneCluster}
+use Rattle.tte_lemmas.proofs.Integers.{int_le-from}
 use Rattle.compression.proofs.Firsts.{Counts, counts, firsts-has}
-use Rattle.compression.proofs.Held.{int_le-true, held-start}
+use Rattle.compression.proofs.Held.{held-start}
 use Rattle.compression.proofs.Elements.{in_head, in_tail, in_none, in_cases, in_filter, in_filter_from, Ordered, Ordered-from, Ordered-beyond, from_beyond}
 use Rattle.compression.proofs.Growth.{counted, window_end, end_of-one, end_of-two, end_of-least}
 use Rattle.compression.proofs.Times.{only_first, first_end, not_before, in_rest}
@@ -54,8 +55,8 @@ only_master : (ow : ℤ) (o : Point) (ps : List Point) → pos 0 ≤ℤ ow → l
 only_master ow o ps some few q at same low high =
     let passes : (q.cycle == o.cycle && (int_le o.reading q.reading && int_le q.reading (window_end ow o))) ≡ true =
     and_from (q.cycle == o.cycle) (int_le o.reading q.reading && int_le q.reading (window_end ow o)) (eq-eqb q.cycle o.cycle same)
-    (and_from (int_le o.reading q.reading) (int_le q.reading (window_end ow o)) (int_le-true o.reading q.reading low)
-    (int_le-true q.reading (window_end ow o) high)) in
+    (and_from (int_le o.reading q.reading) (int_le q.reading (window_end ow o)) (int_le-from o.reading q.reading low)
+    (int_le-from q.reading (window_end ow o) high)) in
     let here = in_filter_from (λ r. r.cycle == o.cycle && (int_le o.reading r.reading && int_le r.reading (window_end ow o))) (o ∷ ps) q at passes in
     let has = firsts-has (of_cycle_within o.cycle o.reading (window_end ow o) (o ∷ ps)) q here in
     let k = window_counts ow o ps some in

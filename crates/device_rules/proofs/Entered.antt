@@ -1,10 +1,9 @@
 -- The row by which a frame enters a device.
-use Rattle.std.proofs.Common.{Ok, ◌≡◌, ◌∙◌, ℕ, List, length, slice_get, Option, Some, None, refl, sym, subst, ap}
+use Rattle.std.proofs.Common.{◌≡◌, ◌∙◌, ℕ, List, length, slice_get, Option, Some, None, refl, sym, subst, ap}
 use Rattle.std.specs.Prelude.{option_map, option_and_then}
 use Rattle.std.specs.BTreeMap.{get}
-use Rattle.std.specs.List.{All}
-use Rattle.std.proofs.lemmas.Option.{get_or_from_slice_get, same_Some, slice_get_within}
-use Rattle.device_rules.specs.Entering.{AreEntrances, HasPeriod, IsEnteredSo, entering_by, entrance_cmp, first_entering}
+use Rattle.std.proofs.lemmas.Option.{same_Some}
+use Rattle.device_rules.specs.Entering.{AreEntrances, HasPeriod, entering_by, entrance_cmp, first_entering}
 use Rattle.device_rules.specs.Headings.{heading_fault, heading_of}
 use Rattle.device_rules.specs.declared.entrances.EnteringRow.{EnteringRow}
 use Rattle.device_rules.specs.declared.entrances.Entrance.{Entrance}
@@ -22,11 +21,11 @@ use Rattle.net_plan.specs.declared.tables.Way.TheVariants.{Up, Down}
 use Rattle.net_plan.specs.declared.tables.Way.{Way}
 use Rattle.run_law.specs.declared.judgement.Reason.TheVariants as reasons
 use Rattle.run_law.specs.declared.steps.Arrival.TheVariants as arrivals
-use Rattle.run_law.specs.declared.steps.Arrival.{Arrival}
 use Rattle.run_law.specs.device.Standpoints.{Standpoint}
 use Rattle.run_law.specs.scenario.Ways.{way_to}
 use Rattle.run_law.specs.timed.Arrivals.{entry_arrival, entry_entering, entry_of, octets_fault, octets_or_fault, row_fault, taken_or_fault, timed_arrival}
 use Rattle.schedule_tables.specs.declared.entry.Entry.{Entry}
+use Rattle.tte_lemmas.proofs.Lists.{in_all}
 
 -- ---- the row that is kept
 
@@ -67,9 +66,6 @@ has_vl : (network : Network) (o : Option Row) (entry : Entry) → option_and_the
     → (i : ℕ) × (slice_get network.vl i ≡ Some entry.vl)
 has_vl network None entry e = absurd cc
 has_vl network (Some row) entry e = (row.vl.0, vl_by row (slice_get network.vl row.vl.0) (slice_get network.link row.link.0) entry e)
-
-in_all : {X : Type 0} (P : X → Type 0) (xs : List X) (i : ℕ) (x : X) → All P xs → slice_get xs i ≡ Some x → P x
-in_all P xs i x all e = subst P (get_or_from_slice_get xs i x x e) (all i x (slice_get_within xs i x e))
 
 -- the row that is kept has a period
 pub has_period : (network : Network) (device : DeviceId) (link : LinkId) (id : ℕ) (row : EnteringRow) → IsInRange network
@@ -114,13 +110,3 @@ pub unknown : (network : Network) (device : DeviceId) (link : LinkId) (at : Stan
 unknown network device link at octets heading is none e last =
     by_entry network device link at octets heading None last is none
     (none_mapped network (entry_entering network device link heading.id) e)
-
--- ---- for those who judge a frame by its row
-
--- what becomes of the frame by the row by which it enters is what becomes of it
-pub arrival_by_row : (network : Network) (device : DeviceId) (link : LinkId) (at : Standpoint) (octets : List ℕ) (row : EnteringRow) (is : Arrival)
-    (last : VlId → Option ℕ) → IsEnteredSo network device link at octets (Ok row)
-    → ((entry : Entry) → row ≡ entering_by network entry
-    → is ≡ taken_or_fault network device at entry (row_fault network at entry (length octets) (last row.vl)))
-    → is ≡ timed_arrival network device link at octets last
-arrival_by_row network device link at octets row is last entered judged = judged entered.0 entered.1 ∙ sym (entered.2 last)

@@ -9,6 +9,7 @@ use Rattle.net_plan.specs.declared.tables.Link.{Link}
 use Rattle.pcf_values.specs.declared.members.Members.{Members}
 use Rattle.run_law.specs.control.Arrivals.{are_others, is_of_other_member}
 use Rattle.run_law.specs.scenario.Devices.{is_end, member_of}
+use Rattle.tte_lemmas.proofs.Naturals.{unequal}
 
 -- what was read at a place of a list
 pub read_at : {X : Type 0} (xs ys : List X) (i : ℕ) (x : X) → xs ≡ ys → i < length xs → x ≡ get_or xs i x → slice_get ys i ≡ Some x
@@ -16,9 +17,6 @@ read_at xs ys i x e lt at = subst (λ (zs : List _). slice_get zs i ≡ Some x) 
 
 equal : (a b : ℕ) → a ≡ b → (a == b) ≡ true
 equal a b e = grind (arith, e)
-
-unequal : (a b : ℕ) → (a ≡ b → ⊥) → (a == b) ≡ false
-unequal a b n = grind (arith, n)
 
 regrouped : (a b c : Bool) → ((a && b) && c) ≡ (a && (b && c))
 regrouped true b c = refl

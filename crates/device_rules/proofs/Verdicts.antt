@@ -1,5 +1,6 @@
 -- What a correction point comes to.
 use Rattle.std.proofs.Common.{ℤ, ◌≡◌, ◌∙◌, ◌⊎◌, inl, inr, ⊎_elim, ℕ, ◌≤◌, nat_le, Bool, true, false, Option, Some, None, if◌then◌else◌, option_and_then, refl, ap, arith}
+use Rattle.std.proofs.lemmas.Bool.{leb-true}
 use Rattle.clock_correction.specs.Correction.{correction_of}
 use Rattle.device_rules.specs.Answers.{in_units}
 use Rattle.membership.specs.BestFrame.{Qualifies}
@@ -27,9 +28,6 @@ if_some false x y e = absurd cc
 not_least : (t n : ℕ) → nat_le t n ≡ false → t ≤ n → ⊥
 not_least t n e h = grind (arith, e, h)
 
-is_least : (t n : ℕ) → nat_le t n ≡ true → t ≤ n
-is_least t n e = grind (arith, e)
-
 none_shown : (s : Standing) (best : Option HeardFrame) → shown_by s best ≡ None → Qualifies s.plan.threshold best → ⊥
 none_shown s None e q = q
 none_shown s (Some frame) e q =
@@ -39,7 +37,7 @@ none_shown s (Some frame) e q =
 some_shown : (s : Standing) (best : Option HeardFrame) (by : Units) → shown_by s best ≡ Some by → Qualifies s.plan.threshold best
 some_shown s None by e = absurd cc
 some_shown s (Some frame) by e =
-    is_least s.plan.threshold (count_of frame.members)
+    leb-true s.plan.threshold (count_of frame.members)
     (if_some (nat_le s.plan.threshold (count_of frame.members)) (deviation_by s frame) by e)
 
 both_none : (a b : Option Units) → correction_of a b ≡ None → (a ≡ None) × (b ≡ None)

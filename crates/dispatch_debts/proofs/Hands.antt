@@ -1,6 +1,6 @@
 -- Which frames a row's device can have at hand.
 use Rattle.std.proofs.Common.{◌≡◌, ◌⊎◌, ℕ, Bool, true, false, not, List, Option, Some, None, inl, inr, refl, sym, ap, subst, ◌∙◌}
-use Rattle.std.proofs.lemmas.Bool.{eqb-true, false≢true}
+use Rattle.std.proofs.lemmas.Bool.{and_parts, eqb-true, false≢true}
 use Rattle.std.specs.Prelude.{◌==◌, ◌↔◌, IsTrue, MatchBool}
 use Rattle.dispatch_debts.specs.Frames.{AreTold, IsTold, LacksOne}
 use Rattle.net_plan.specs.declared.ids.DeviceId.{DeviceId}
@@ -11,7 +11,7 @@ use Rattle.record_history.specs.declared.taking.Taking.{Taking}
 use Rattle.run_law.specs.records.Happenings.{Happening}
 use Rattle.run_law.specs.scenario.Devices.{is_end}
 use Rattle.run_law.specs.scenario.Scenarios.{Scenario}
-use Rattle.schedule_judge.proofs.AtHand.{both_true, held, so_held}
+use Rattle.schedule_judge.proofs.AtHand.{held, so_held}
 use Rattle.schedule_judge.specs.Dispatched.{IsAcceptedLast, IsAtHand, is_last}
 use Rattle.schedule_judge.specs.declared.leaving.LeavingRow.{LeavingRow}
 
@@ -69,7 +69,7 @@ one_taken s hs link row t cycle accepted taking false some so own told = λ caus
       | inl zero ↦ subst (λ (k : ℕ). IsAtHand s.network hs row.device row.sender row.vl t k cycle → IsTold s hs link row t (record { cause = k; cycle = cycle })) (sym zero) own hand
       | inr last ↦
           let same : taking.number ≡ cause =
-          eqb-true taking.number cause (both_true (taking.number == cause) (taking.cycle == cycle)
+          eqb-true taking.number cause (and_parts (taking.number == cause) (taking.cycle == cycle)
           (ap (λ (o : Option Taking). is_last o cause cycle) (sym some) ∙ last)).0 in
           subst (λ (k : ℕ). IsAtHand s.network hs row.device row.sender row.vl t k cycle → IsTold s hs link row t (record { cause = k; cycle = cycle })) same told hand
     ]

@@ -17,10 +17,11 @@ use Rattle.net_plan.specs.declared.ids.VlId.{VlId}
 use Rattle.run_law.specs.records.Happenings.{Happening}
 use Rattle.run_law.specs.scenario.Scenarios.{Scenario}
 use Rattle.run_law.specs.timed.Dispatching.{Dispatches}
-use Rattle.schedule_judge.proofs.Rows.{next_or_before, no_row, placed}
+use Rattle.schedule_judge.proofs.Rows.{no_row, placed}
 use Rattle.schedule_judge.specs.Leaving.{AreRowsOn, IsRowOn, leaving_by}
 use Rattle.schedule_judge.specs.declared.leaving.LeavingRow.{LeavingRow}
 use Rattle.schedule_tables.specs.Entries.{source_of}
+use Rattle.tte_lemmas.proofs.Naturals.{below_next}
 use Rattle.unpaid_debts.proofs.Among.{first_of_both, first_of_more}
 use Rattle.unpaid_debts.specs.Unpaid.{TellsFirstAmong}
 
@@ -104,7 +105,7 @@ no_rows s hs until link rows = λ o by owed. let lt = by.1 in absurd (omega (ari
 by_part : (s : Scenario) (hs : List Happening) (link : LinkId) (rows : List LeavingRow) (n : ℕ) (o : Dispatch) → IsByFirst s hs link rows (n + 1) o
     → IsByFirst s hs link rows n o ⊎ IsBy s hs link (slice_index_or rows n no_row) o
 by_part s hs link rows n o (i, lt, within, by) =
-    elim (next_or_before i n lt) [
+    elim (below_next i n lt) [
       | inl before ↦ inl (i, before, within, by)
       | inr same ↦ inr (subst (λ (k : ℕ). IsBy s hs link (slice_index_or rows k no_row) o) same by)
     ]
@@ -146,7 +147,7 @@ link_at n = record { 0 = n }
 
 link_part : (o : Dispatch) (n : ℕ) → o.link.0 < n + 1 → (o.link.0 < n) ⊎ (o.link ≡ link_at n)
 link_part o n lt =
-    elim (next_or_before o.link.0 n lt) [
+    elim (below_next o.link.0 n lt) [
       | inl before ↦ inl before
       | inr same ↦ inr (ap link_at same)
     ]

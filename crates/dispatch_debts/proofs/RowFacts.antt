@@ -8,7 +8,7 @@ use Rattle.clock_judge.proofs.Reached.{changed_early}
 use Rattle.clock_judge.specs.Finding.{IsNextCrossing, value_in}
 use Rattle.clock_judge.specs.declared.finding.Crossed.{Crossed}
 use Rattle.clock_judge.specs.declared.finding.Series.{Series}
-use Rattle.device_rules.proofs.Numbers.{amount_most}
+use Rattle.net_plan.proofs.InRange.{amount_most}
 use Rattle.net_plan.specs.Belonging.{HasDevice, HasLink}
 use Rattle.net_plan.specs.Ranges.{IsInRange, IsLinkInRange, IsRowInRange, IsVlInRange}
 use Rattle.net_plan.specs.declared.ids.DeviceId.{DeviceId}
@@ -21,11 +21,11 @@ use Rattle.record_history.specs.Showing.{Shown}
 use Rattle.run_law.specs.device.LocalClocks.{Reaches, changed_at}
 use Rattle.run_law.specs.records.Happenings.{Happening}
 use Rattle.run_law.specs.scenario.Scenarios.{Scenario}
-use Rattle.schedule_judge.proofs.Rows.{in_all}
 use Rattle.schedule_judge.specs.Leaving.{IsRowOn}
 use Rattle.schedule_judge.specs.Leavings.{AreLeavings, IsRowFit, first_cycle}
 use Rattle.schedule_judge.specs.declared.leaving.LeavingRow.{LeavingRow}
 use Rattle.schedule_tables.specs.Entries.{source_by}
+use Rattle.tte_lemmas.proofs.Lists.{in_all}
 use Rattle.tte_units.specs.Amount.{amount}
 
 -- ---- the row

@@ -4,3 +4,4 @@ pub mod Histories
 pub mod Readings
 pub mod Sums
 pub mod SlipLaw
+pub mod ExactSegments

@@ -208,12 +208,3 @@ one_more nodes slots node due t some is =
                 (t.sooner i from (omega (arith, on, apart)) inside)
           ];
     }
-
-pub tree_made : (nodes : List Due) (slots node : ℕ) → IsTreeFrom nodes slots node → node ≤ 1 → IsTree nodes slots
-tree_made nodes slots node t top =
-    record {
-      whole = t.whole;
-      leaf = λ k few. ap (λ (d : Due). d.slot) (t.leaf k few);
-      sooner = λ i from within. t.sooner i from (omega (arith, from, top))
-          within;
-    }

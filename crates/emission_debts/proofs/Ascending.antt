@@ -1,9 +1,10 @@
 -- Emissions come in the order in which their clusters open.
-use Rattle.std.proofs.Common.{◌≡◌, ℕ, zero, suc, ◌+◌, ◌-◌, ◌<◌, ◌≤◌, ℤ, pos, ◌+ℤ◌, ◌-ℤ◌, ◌*ℤ◌, ◌≤ℤ◌, ◌<ℤ◌, Bool, true, false, List, [], ◌∷◌, map, length, get_or, slice_get, Some, None, inl, inr, sym, ap, subst, ◌∙◌, arith}
+use Rattle.std.proofs.Common.{◌≡◌, ℕ, zero, suc, ◌+◌, ◌-◌, ◌<◌, ◌≤◌, ℤ, pos, ◌+ℤ◌, ◌-ℤ◌, ◌*ℤ◌, ◌≤ℤ◌, ◌<ℤ◌, Bool, true, false, List, [], ◌∷◌, map, length, get_or, slice_get, Some, inl, inr, sym, ap, subst, ◌∙◌, arith}
 use Rattle.std.proofs.lemmas.Bool.{and_parts, cases_lt}
 use Rattle.std.proofs.lemmas.Int.{ints}
 use Rattle.std.specs.List.{AllByRecursion}
 use Rattle.std.specs.Prelude.{◌&&◌, ◌==◌, Contains, int_le}
+use Rattle.collection_history.proofs.Sending.{none_is, some_is}
 use Rattle.collection_history.proofs.Spaced.{AreSpaced, spaced}
 use Rattle.collection_history.specs.Gathered.{Gathers}
 use Rattle.collection_history.specs.Kept.{History, clusters_in, emissions_in, emitted}
@@ -114,12 +115,6 @@ all_inside ow calc (o ∷ ps) (c ∷ cs) some are =
     (subst (IsInside ow calc) (sym are.0) (inside ow calc o ps some), all_inside ow calc (beyond c.end ps) cs some are.1)
 
 -- ---- the order of emissions
-
-some_is : (x y : Emitted) → Some x ≡ Some y → x ≡ y
-some_is x y e = cc
-
-none_is : (y : Emitted) → None ≡ Some y → ⊥
-none_is y e = cc
 
 behind_first : (ow calc : ℤ) (c : Cluster) (cs : List Cluster) (j : ℕ) (b : Emitted) → IsInside ow calc c → AllByRecursion (λ d. c.end <ℤ d.opened) cs
     → AllByRecursion (IsInside ow calc) cs → slice_get (map (emitted ow calc) cs) j ≡ Some b → emission ow calc c ≤ℤ b.at

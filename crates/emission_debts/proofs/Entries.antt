@@ -1,8 +1,9 @@
 -- The first of what is unpaid, from one change of a stretch to the next and from one device to the next.
-use Rattle.std.proofs.Common.{◌≡◌, ◌⊎◌, ℕ, zero, suc, ◌+◌, ◌<◌, ◌≤◌, ◌^◌, ℤ, pos, neg_ℤ, ◌≤ℤ◌, true, false, List, [], ◌∷◌, length, Option, Some, None, slice_get, inl, inr, refl, sym, ap, subst, ◌∙◌, arith, FitsSigned, w64}
+use Rattle.std.proofs.Common.{◌≡◌, ℕ, ◌+◌, ◌<◌, ◌≤◌, ◌^◌, ℤ, pos, neg_ℤ, ◌≤ℤ◌, true, false, List, length, Option, Some, None, slice_get, inl, inr, refl, sym, ap, subst, ◌∙◌, arith, FitsSigned, w64}
 use Rattle.std.proofs.lemmas.Bool.{cases_lt}
 use Rattle.std.proofs.lemmas.Int.{ints}
 use Rattle.std.proofs.lemmas.List.{length-map}
+use Rattle.std.proofs.lemmas.Option.{same_Some, slice_get_past}
 use Rattle.std.specs.Option.{option_map_or}
 use Rattle.audit_law.specs.FirstDebts.{TellsFirst, earlier_of}
 use Rattle.audit_law.specs.Owed as debts
@@ -19,12 +20,13 @@ use Rattle.emission_debts.proofs.Owing.{are_in, owed_within}
 use Rattle.emission_debts.specs.Emissions.{IsShort, IsTold, OwesAmong, OwesAt, OwesBehind, OwesWithin}
 use Rattle.emission_debts.specs.Firsts.{TellsFirstOf}
 use Rattle.event_history.specs.Readings.{ReadsOn}
+use Rattle.net_plan.proofs.SameIds.{same_device}
 use Rattle.net_plan.specs.declared.ids.DeviceId.{DeviceId}
 use Rattle.net_plan.specs.declared.network.Network.{Network}
 use Rattle.net_plan.specs.declared.tables.Device.{Device}
+use Rattle.run_law.proofs.records.Order.{got_in}
 use Rattle.run_law.specs.control.Collections.{observation_window}
 use Rattle.run_law.specs.records.Happenings.{Happening}
-use Rattle.run_law.specs.records.Order.{IsIn}
 use Rattle.run_law.specs.scenario.Devices.{is_cm, is_cm_role}
 use Rattle.run_law.specs.scenario.Scenarios.{Scenario}
 use Rattle.stretch_history.proofs.Clustering.{emissions_same}
@@ -33,18 +35,10 @@ use Rattle.stretch_history.specs.Points.{HasPoints, emissions_for}
 use Rattle.stretch_history.specs.Standing.{IsBehind, Stands, device_count, kept_of}
 use Rattle.stretch_history.specs.declared.history.StretchHistory.{StretchHistory}
 use Rattle.stretch_history.specs.declared.kept.Entry.{Entry}
+use Rattle.tte_lemmas.proofs.Lists.{some_at}
+use Rattle.tte_lemmas.proofs.Naturals.{below_next}
 
 -- ---- the stretch behind an entry
-
-got_in : {X : Type 0} (xs : List X) (k : ℕ) (x : X) → slice_get xs k ≡ Some x → IsIn x xs
-got_in [] k x e = absurd cc
-got_in (y ∷ ys) zero x e = inl cc
-got_in (y ∷ ys) (suc k) x e = inr (got_in ys k x e)
-
-pub some_at : {X : Type 0} (xs : List X) (i : ℕ) → i < length xs → (x : X) × (slice_get xs i ≡ Some x)
-some_at [] i lt = absurd (omega (arith, lt))
-some_at (x ∷ xs) zero lt = (x, refl)
-some_at (x ∷ xs) (suc i) lt = some_at xs i (omega (arith, lt))
 
 pub entry_points : (network : Network) (hs : List Happening) (d : DeviceId) (kept : Stretches) (e : Entry) (place : ℕ) → Keeps network hs d kept
     → slice_get kept.entries place ≡ Some e → (points : List Point) × HasPoints network points kept.collections e.gathering
@@ -89,12 +83,6 @@ length_behind network points kept e time collections g n behind has is =
 abbrev Until : Scenario → List Happening → ℕ → DeviceId → Stretches → ℕ → Compressed → ℕ → Type 0
 Until s hs until d kept n = OwesWithin s hs until d kept.collections kept.entries n
 
-below_next : (o n : ℕ) → o < n + 1 → (o < n) ⊎ (o ≡ n)
-below_next o n lt = elim (cases_lt o n) [ inl less ↦ inl less | inr more ↦ inr (omega (arith, lt, more)) ]
-
-some_is : {X : Type 0} (x y : X) → Some x ≡ Some y → x ≡ y
-some_is x y e = cc
-
 entry_parts : (s : Scenario) (hs : List Happening) (until : ℕ) (d : DeviceId) (kept : Stretches) (e : Entry) (n : ℕ) → slice_get kept.entries n ≡ Some e
     → HasParts (Until s hs until d kept (n + 1)) (Until s hs until d kept n) (OwesBehind s hs until d kept.collections e 0)
 entry_parts s hs until d kept e n is = record {
@@ -103,7 +91,7 @@ entry_parts s hs until d kept e n is = record {
         | inl less ↦ inl (record { index = o.index; e = o.e; below = less; there = o.there; owed = o.owed })
         | inr same ↦
             let at = subst (λ (i : ℕ). slice_get kept.entries i ≡ Some o.e) same o.there in
-            inr (subst (λ (x : Entry). OwesBehind s hs until d kept.collections x 0 sent t) (some_is o.e e (sym at ∙ is)) o.owed)
+            inr (subst (λ (x : Entry). OwesBehind s hs until d kept.collections x 0 sent t) (same_Some o.e e (sym at ∙ is)) o.owed)
       ];
   one = λ sent t o. let below = o.below in record { index = o.index; e = o.e; below = omega (arith, below); there = o.there; owed = o.owed };
   other = λ sent t o. record { index = n; e = e; below = omega arith; there = is; owed = o };
@@ -137,9 +125,6 @@ IsToldOf s hs o = IsTold s hs o.0 o.1
 -- what the device of a number owes, among all
 abbrev OwesOf : Scenario → List Happening → ℕ → DeviceId → DeviceId × Compressed → ℕ → Type 0
 OwesOf s hs until d o t = (o.0 ≡ d) × OwesAt s hs until d o.1 t
-
-same_device : (a b : DeviceId) → a.0 ≡ b.0 → a ≡ b
-same_device a b same = ap (λ (n : ℕ). let d : DeviceId = record { 0 = n } in d) same
 
 of_device : (s : Scenario) (hs : List Happening) (until : ℕ) (d : DeviceId) (r : Option ℕ) → TellsFirstOf (OwesAt s hs until d) (IsTold s hs d) r
     → TellsFirstOf (OwesOf s hs until d) (IsToldOf s hs) r
@@ -179,11 +164,6 @@ pub devices_none : (s : Scenario) (hs : List Happening) (until : ℕ) → TellsF
 devices_none s hs until =
     first_of_none (OwesAmong s hs until 0) (IsToldOf s hs) (λ o t owed. let one = owed.one in omega (arith, one))
 
-none_past : {X : Type 0} (xs : List X) (i : ℕ) → length xs ≤ i → slice_get xs i ≡ None
-none_past [] i le = refl
-none_past (x ∷ xs) zero le = absurd (omega (arith, le))
-none_past (x ∷ xs) (suc i) le = none_past xs i (omega (arith, le))
-
 -- a compression master is a device of the network
 master_there : (network : Network) (d : DeviceId) → is_cm network d ≡ true → d.0 < length network.device
 master_there network d master =
@@ -191,7 +171,7 @@ master_there network d master =
       | inl lt ↦ lt
       | inr le ↦
           let none : is_cm network d ≡ false =
-          ap (λ (o : Option Device). option_map_or (λ x. is_cm_role x.role) o false) (none_past network.device d.0 le) in
+          ap (λ (o : Option Device). option_map_or (λ x. is_cm_role x.role) o false) (slice_get_past network.device d.0 le) in
           absurd cc
     ]
 

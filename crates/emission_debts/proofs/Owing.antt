@@ -1,13 +1,13 @@
 -- What a compression master owes is of a cluster that is kept.
-use Rattle.std.proofs.Common.{◌≡◌, ℕ, zero, suc, ◌<◌, ◌≤◌, ℤ, pos, Bool, true, false, List, [], ◌∷◌, map, filter, length, Option, Some, None, slice_get, if◌then◌else◌, inl, inr, refl, sym, ap, subst, ◌∙◌, arith}
+use Rattle.std.proofs.Common.{◌≡◌, ℕ, zero, suc, ◌≤◌, ℤ, pos, Bool, true, false, List, [], ◌∷◌, map, filter, length, Option, Some, None, slice_get, inl, inr, refl, sym, ap, subst, ◌∙◌, arith}
 use Rattle.std.specs.List.{last_or}
 use Rattle.std.specs.Prelude.{Contains}
-use Rattle.audit_law.proofs.LastParts.{has_passed}
-use Rattle.audit_law.proofs.Ripening.{is_before_true}
 use Rattle.audit_law.specs.Emitted.{before_place, emission_place, emission_record}
+use Rattle.collection_history.proofs.Sending.{in_map}
 use Rattle.collection_history.specs.Kept.{History, as_emitted, clusters_in, emitted}
 use Rattle.collection_history.specs.declared.emitted.Emitted.{Emitted}
 use Rattle.collection_history.specs.declared.gathering.Gathering.{Gathering}
+use Rattle.compression.proofs.ClusterFacts.{no_cluster}
 use Rattle.compression.proofs.Elements.{in_cases, in_head, in_none, in_tail}
 use Rattle.compression.proofs.Standing.{AreClusters-unique}
 use Rattle.compression.specs.Clusters.{AreClusters, Cluster, Point}
@@ -19,6 +19,7 @@ use Rattle.net_plan.specs.declared.network.Network.{Network}
 use Rattle.record_history.proofs.MarkOrder.{mark_of_record}
 use Rattle.record_history.specs.Marks.{is_mark_before, mark_at, numbers_of}
 use Rattle.record_history.specs.declared.mark.Mark.{Mark}
+use Rattle.run_law.proofs.records.Order.{has_passed, in_whole, index_of, is_there}
 use Rattle.run_law.specs.control.Collections.{observation_window, points_of}
 use Rattle.run_law.specs.control.Emissions.{Emits}
 use Rattle.run_law.specs.control.Hearing.{heard_as}
@@ -31,6 +32,7 @@ use Rattle.run_law.specs.scenario.Scenarios.{Scenario, is_broken}
 use Rattle.stretch_history.specs.Keeping.{Keeps, StandsFor, Stretches, entry_before}
 use Rattle.stretch_history.specs.Points.{HasPoints, emissions_for}
 use Rattle.stretch_history.specs.declared.kept.Entry.{Entry}
+use Rattle.tte_lemmas.proofs.Lists.{got_within}
 use Rattle.tte_units.specs.Amount.{amount}
 
 -- ---- lists
@@ -43,11 +45,6 @@ contained f (z ∷ zs) x at =
       | inr here ↦ let rest = contained f zs x here in (suc rest.0, rest.1)
     ]
 
-index_of : {X : Type 0} (x : X) (xs : List X) → IsIn x xs → (i : ℕ) × (slice_get xs i ≡ Some x)
-index_of x [] i = absurd i
-index_of x (y ∷ ys) (inl e) = (zero, ap Some (sym e))
-index_of x (y ∷ ys) (inr i) = let rest = index_of x ys i in (suc rest.0, rest.1)
-
 last_there : {X : Type 0} (x : X) (xs : List X) (last : X) → last_or (Some x) xs ≡ Some last → IsIn last (x ∷ xs)
 last_there x [] last e = inl cc
 last_there x (y ∷ ys) last e = inr (last_there y ys last e)
@@ -56,28 +53,7 @@ last_in : {X : Type 0} (xs : List X) (last : X) → last_or None xs ≡ Some las
 last_in [] last e = absurd cc
 last_in (x ∷ xs) last e = last_there x xs last e
 
-in_whole : {X : Type 0} (p : X → Bool) (xs : List X) (x : X) → IsIn x (filter p xs) → IsIn x xs
-in_whole p [] x i = i
-in_whole {X} p (y ∷ ys) x i = by (p y) (in_whole p ys x) i
-  where
-    by : (b : Bool) → (IsIn x (filter p ys) → IsIn x ys) → IsIn x (if b then y ∷ filter p ys else filter p ys) → IsIn x (y ∷ ys)
-    by true rest (inl e) = inl e
-    by true rest (inr j) = inr (rest j)
-    by false rest j = inr (rest j)
-
-within : {X : Type 0} (xs : List X) (i : ℕ) (x : X) → slice_get xs i ≡ Some x → i < length xs
-within [] i x e = absurd cc
-within (y ∷ xs) zero x e = omega arith
-within (y ∷ xs) (suc i) x e = omega (arith, within xs i x e)
-
 -- ---- what is owed
-
-no_cluster : (ow : ℤ) (points : List Point) (clusters : List Cluster) (c : Cluster) → points ≡ [] → AreClusters ow points clusters → Contains clusters c → ⊥
-no_cluster ow points clusters c none are there = by clusters (subst (λ (ps : List Point). AreClusters ow ps clusters) none are) there
-  where
-    by : (cs : List Cluster) → AreClusters ow [] cs → Contains cs c → ⊥
-    by [] are at = in_none c at
-    by (d ∷ ds) are at = are
 
 no_later : (m n : Mark) → IsBefore (numbers_of m) (numbers_of n) → m.time ≤ n.time
 no_later m n (inl lt) = omega (arith, lt)
@@ -108,7 +84,7 @@ owed_within s hs until d kept sent t keeps owed =
     by (Some e) is gathers =
         let passes = last_in (filter test kept.entries) e is in
         let at = index_of e kept.entries (in_whole test kept.entries e passes) in
-        let before = is_before_true (numbers_of e.mark) (numbers_of mark) (has_passed test kept.entries e passes) in
+        let before = is_there (numbers_of e.mark) (numbers_of mark) (has_passed test kept.entries e passes) in
         let clusters : emits.clusters ≡ clusters_in kept.collections e.gathering =
         AreClusters-unique (observation_window s.network) (points_of (before_place hs place) d) emits.clusters (clusters_in kept.collections e.gathering) emits.are
         (subst (λ (w : ℤ). AreClusters w (points_of (before_place hs place) d) (clusters_in kept.collections e.gathering)) keeps.ow gathers.are) in
@@ -124,21 +100,13 @@ owed_within s hs until d kept sent t keeps owed =
           there = found.1 ∙ ap Some (sym same);
           begun = no_later e.mark mark before;
         } in
-        record { index = at.0; e = e; below = within kept.entries at.0 e at.1; there = at.1; owed = behind }
+        record { index = at.0; e = e; below = got_within kept.entries at.0 e at.1; there = at.1; owed = behind }
 
 -- ---- what is owed of the clusters before its place
 
 pub are_in : (network : Network) (points : List Point) (h : History) (g : Gathering) → HasPoints network points h g
     → AreClusters (observation_window network) points (clusters_in h g)
 are_in network points h g has = subst (λ (w : ℤ). AreClusters w points (clusters_in h g)) has.ow has.gathers.are
-
-from_map : {X Y : Type 0} (f : X → Y) (xs : List X) (y : Y) → Contains (map f xs) y → (x : X) × Contains xs x × (f x ≡ y)
-from_map f [] y at = absurd (in_none y at)
-from_map f (x ∷ xs) y at =
-    elim (in_cases (f x) y (map f xs) at) [
-      | inl e ↦ (x, in_head x xs, e)
-      | inr here ↦ let rest = from_map f xs y here in (rest.0, in_tail x rest.0 xs rest.1, rest.2)
-    ]
 
 to_map : {X Y : Type 0} (f : X → Y) (xs : List X) (x : X) → Contains xs x → Contains (map f xs) (f x)
 to_map f [] x at = absurd (in_none x at)
@@ -152,7 +120,7 @@ pub owed_by : (s : Scenario) (hs : List Happening) (d : DeviceId) (a : Emitted) 
     → is_broken s d t ≡ false → AreClusters (observation_window s.network) (points_of (before_place hs (emission_place t d (sent_of a))) d) clusters
     → IsReach (s.reading d) (pos 0) a.at (pos t) → Contains (emissions_for s.network clusters) a → Owes s hs d (sent_of a) t
 owed_by s hs d a t clusters cm correct are reach there =
-    let found = from_map (emitted (observation_window s.network) (pos (amount s.network.calc))) clusters a there in
+    let found = in_map (emitted (observation_window s.network) (pos (amount s.network.calc))) clusters a there in
     let before = before_place hs (emission_place t d (sent_of a)) in
     record {
       verdict = heard_as (plan_of s.network d) (observation_window s.network) (state_at_hearing s before d t) (adjustment_at_hearing s before d t).0 a.at a.cycle

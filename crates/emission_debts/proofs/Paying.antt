@@ -1,15 +1,17 @@
 -- The records that say that a compression master sent the frame of a cluster stand at one place.
 use Rattle.std.proofs.Common.{◌≡◌, ℕ, ℤ, pos, negsuc, List, refl, ap, subst, ◌∙◌, unsigned_abs}
 use Rattle.audit_law.proofs.Debts.{due_in}
-use Rattle.audit_law.proofs.Ripening.{one_reach}
 use Rattle.audit_law.specs.DueRecords.{IsCaused, IsDue}
 use Rattle.audit_law.specs.Emitted.{TellsEmission, emission_place}
 use Rattle.compression.specs.declared.compressed.Compressed.{Compressed}
+use Rattle.drift_clock.proofs.Reaches.{one_reach}
 use Rattle.drift_clock.specs.Reach.{IsReach}
 use Rattle.emission_debts.specs.Emissions.{IsTold}
+use Rattle.net_plan.proofs.SameIds.{same_device}
 use Rattle.net_plan.specs.declared.ids.DeviceId.{DeviceId}
 use Rattle.pcf_values.specs.declared.members.Members.{Members}
 use Rattle.record_places.specs.Placing.{HasRecordAt}
+use Rattle.run_law.proofs.runs.Determined.{same_members}
 use Rattle.run_law.specs.declared.note.NoteBody.TheVariants as notes
 use Rattle.run_law.specs.declared.note.NoteBody.{NoteBody}
 use Rattle.run_law.specs.records.Happenings.{Happening, time_of}
@@ -20,12 +22,6 @@ use Rattle.tte_units.specs.Amount.{amount}
 use Rattle.tte_units.specs.declared.units.Units.{Units}
 
 -- ---- the record at the place
-
-same_device : (a b : DeviceId) → a.0 ≡ b.0 → a ≡ b
-same_device a b same = ap (λ (n : ℕ). let d : DeviceId = record { 0 = n } in d) same
-
-same_members : (a b : Members) → a.0 ≡ b.0 → a ≡ b
-same_members a b same = ap (λ (n : ℕ). let m : Members = record { 0 = n } in m) same
 
 same_units : (a b : Units) → amount a ≡ amount b → sign a.0 ≡ sign b.0 → a ≡ b
 same_units a b amounts signs = ap (λ (z : ℤ). let u : Units = record { 0 = z } in u) (by a.0 b.0 amounts signs)

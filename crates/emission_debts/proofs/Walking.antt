@@ -2,13 +2,13 @@
 use Rattle.std.proofs.Common.{◌≡◌, ℕ, zero, suc, ◌+◌, ◌<◌, ◌≤◌, pos, ◌≤ℤ◌, ◌<ℤ◌, List, [], ◌∷◌, length, Option, Some, None, slice_get, inl, inr, refl, sym, ap, subst, ◌∙◌, arith}
 use Rattle.std.proofs.lemmas.Bool.{cases_lt}
 use Rattle.std.proofs.lemmas.Int.{ints}
-use Rattle.audit_law.proofs.Ripening.{one_reach}
 use Rattle.audit_law.specs.FirstDebts.{earlier_of}
 use Rattle.collection_history.specs.Gathered.{Gathers}
 use Rattle.collection_history.specs.Kept.{History, as_emitted, emissions_in}
 use Rattle.collection_history.specs.declared.emitted.Emitted.{Emitted}
 use Rattle.compression.specs.Clusters.{Point}
 use Rattle.compression.specs.declared.compressed.Compressed.{Compressed}
+use Rattle.drift_clock.proofs.Reaches.{one_reach}
 use Rattle.drift_clock.specs.Reach.{IsReach}
 use Rattle.emission_debts.proofs.Ascending.{ascending}
 use Rattle.emission_debts.proofs.Joining.{HasParts, first_as, first_of_both, first_of_none}

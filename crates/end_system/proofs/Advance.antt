@@ -1,5 +1,5 @@
 -- The agenda after each deed.
-use Rattle.std.proofs.Common.{◌≡◌, ◌⊎◌, ℕ, zero, suc, ◌+◌, ◌*◌, ◌^◌, ◌<◌, ◌≤◌, ℤ, pos, negsuc, ◌+ℤ◌, ◌-ℤ◌, ◌<ℤ◌, ◌≤ℤ◌, List, [], ◌∷◌, ◌++◌, Option, Some, None, IfSome, unsigned_abs, inl, inr, refl, sym, ap, subst, ◌∙◌, arith}
+use Rattle.std.proofs.Common.{◌≡◌, ◌⊎◌, ℕ, zero, suc, ◌+◌, ◌*◌, ◌^◌, ◌<◌, ◌≤◌, ℤ, pos, ◌+ℤ◌, ◌-ℤ◌, ◌<ℤ◌, ◌≤ℤ◌, List, [], ◌∷◌, ◌++◌, Option, Some, None, IfSome, inl, inr, refl, sym, ap, subst, ◌∙◌, arith}
 use Rattle.std.proofs.lemmas.Int.{ints}
 use Rattle.std.proofs.lemmas.List.Elements.{Contains-append_cases, Contains-append_left, Contains-append_right}
 use Rattle.std.proofs.Math.Nat.{mul-le-mul_left, mul-le-mul_right}
@@ -21,11 +21,10 @@ use Rattle.net_plan.specs.declared.network.Network.{Network}
 use Rattle.run_law.specs.machines.Nodes.{ClockTask, sending, correcting, dispatching}
 use Rattle.sync_state.specs.Standing.{Standing}
 use Rattle.sync_state.specs.declared.plan.SyncPlan.{SyncPlan}
+use Rattle.tte_lemmas.proofs.Integers.{amount_least, from_zero}
+use Rattle.tte_lemmas.proofs.Naturals.{below_next, less_than_next}
 use Rattle.tte_units.specs.Amount.{amount}
 use Rattle.tte_units.specs.declared.units.Units.{Units}
-
-pub none_there : {X : Type 0} (x : X) → Contains [] x → ⊥
-none_there x (k, lt, at) = absurd (omega arith)
 
 only_there : {X : Type 0} (x y : X) → Contains (y ∷ []) x → x ≡ y
 only_there x y (zero, lt, at) = sym at
@@ -116,18 +115,11 @@ dispatch_stays network device s changed done deed (Some next) other is = (
 
 -- ---- a sending
 
-whole : (low : ℕ) (z : ℤ) → pos low ≤ℤ z → z ≡ pos (unsigned_abs z)
-whole low (pos n) h = refl
-whole low (negsuc n) h = absurd (omega (arith, ints))
-
 pub cycle_whole : (network : Network) (device : DeviceId) (own : Own) → IsOwnOf network device own → own.plan.cycle_length.0 ≡ pos (amount network.cycle)
-cycle_whole network device own is = ap (λ (p : _). p.cycle_length.0) is.plan ∙ whole _ network.cycle.0 is.in_range.cycle.least
+cycle_whole network device own is = ap (λ (p : _). p.cycle_length.0) is.plan ∙ from_zero _ network.cycle.0 is.in_range.cycle.least
 
 before_or_now : (c n m : ℕ) (x : ℤ) → x <ℤ pos (n * c) → x <ℤ pos ((n + 1) * c)
 before_or_now c n m x h = let more : n * c ≤ (n + 1) * c = mul-le-mul_right c (omega arith) in omega (arith, ints, more)
-
-less_or_same : (n m : ℕ) → n < m + 1 → (n < m) ⊎ (n ≡ m)
-less_or_same n m h = grind arith
 
 next_at : (c n : ℕ) (at new r a : ℤ) → at ≡ (pos (n * c) -ℤ a) → new ≡ (at +ℤ r) → r ≡ pos c → new ≡ (pos ((n + 1) * c) -ℤ a)
 next_at c n at new r a e f g = omega (arith, ints)
@@ -137,9 +129,6 @@ next_at_same c n m at new r a s e f g = next_at c n at new r a e f g ∙ ap (λ 
 
 some_more : (n : ℕ) → 1 ≤ n → 1 ≤ n + 1
 some_more n h = omega arith
-
-less_than_next : (n m : ℕ) → n < m → n < m + 1
-less_than_next n m h = omega arith
 
 -- the sending that comes after one that was done
 pub sending_next : (network : Network) (device : DeviceId) (own : Own) (s : Standing) (changed : ℤ) (done : List ClockTask) (old new : Appointment)
@@ -154,7 +143,7 @@ sending_next network device own s changed done old new own_is is next at =
         | inl before ↦ less_than_next n old.cycle (is.2.done_before n before)
         | inr now ↦ omega (arith, same_sending n old.cycle now)
       ];
-      rest = λ n some ahead lt. elim (less_or_same n old.cycle lt) [
+      rest = λ n some ahead lt. elim (below_next n old.cycle lt) [
         | inl before ↦ done_still done (sending old.cycle) (sending n) (is.2.rest n some ahead before)
         | inr now ↦ subst (λ (k : ℕ). Contains (done ++ sending old.cycle ∷ []) (sending k)) (sym now) (done_now done (sending old.cycle))
       ];
@@ -168,10 +157,6 @@ sending_next network device own s changed done old new own_is is next at =
 
 small_cycle : (c n : ℕ) (at r a : ℤ) → 2 ^ 32 ≤ c → at ≡ (pos (n * c) -ℤ a) → at ≤ℤ r → r ≤ℤ pos (2 ^ 60 + 2 ^ 51) → a <ℤ pos (2 ^ 61) → n < 2 ^ 31
 small_cycle c n at r a long e here low small = let more : n * 2 ^ 32 ≤ n * c = mul-le-mul_left n long in omega (arith, ints, more)
-
-amount_least : (low : ℕ) (z : ℤ) → pos low ≤ℤ z → low ≤ unsigned_abs z
-amount_least low (pos n) h = omega (arith, ints)
-amount_least low (negsuc n) h = absurd (omega (arith, ints))
 
 pub long_cycle : (network : Network) (device : DeviceId) (own : Own) → IsOwnOf network device own → 2 ^ 32 ≤ amount network.cycle
 long_cycle network device own is = amount_least (2 ^ 32) network.cycle.0 is.in_range.cycle.least

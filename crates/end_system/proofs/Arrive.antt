@@ -1,6 +1,6 @@
 -- Control frames that arrive at an end system.
-use Rattle.std.proofs.Common.{◌≡◌, ℕ, ◌+◌, ◌≤◌, ℤ, pos, negsuc, ◌≤ℤ◌, Bool, true, false, not, ◌&&◌, ◌==◌, nat_lt, if◌then◌else◌, List, [], ◌∷◌, Option, Some, None, Result, Ok, Err, unsigned_abs, refl, sym, ap, subst, ◌∙◌, eq-eqb, eqb→eq, T, length, IsTrue, ◌↔◌, arith}
-use Rattle.std.proofs.lemmas.Int.{ints}
+use Rattle.std.proofs.Common.{◌≡◌, ℕ, ◌+◌, ◌≤◌, ℤ, pos, ◌≤ℤ◌, Bool, true, false, not, ◌&&◌, ◌==◌, nat_lt, if◌then◌else◌, List, [], ◌∷◌, Option, Some, None, Result, Ok, Err, refl, sym, ap, subst, ◌∙◌, eq-eqb, length, IsTrue, ◌↔◌, arith}
+use Rattle.std.proofs.lemmas.Bool.{both_ways}
 use Rattle.std.specs.Option.{option_map_or}
 use Rattle.end_system.specs.Controls.{arrival_of, frame_arrival_of, waits_with}
 use Rattle.end_system.specs.Owns.{IsOwnOf, IsLinkOf, wire_by}
@@ -33,6 +33,9 @@ use Rattle.run_law.specs.scenario.Devices.{is_end, is_parent_of, is_relay, membe
 use Rattle.run_law.specs.timed.Arrivals.{timed_arrival}
 use Rattle.sync_state.specs.Standing.{Standing}
 use Rattle.transparent_clock.specs.Points.{point_of}
+use Rattle.tte_lemmas.proofs.Bools.{takes_by}
+use Rattle.tte_lemmas.proofs.Integers.{whole}
+use Rattle.tte_lemmas.proofs.Naturals.{unequal}
 use Rattle.tte_units.specs.Amount.{amount}
 use Rattle.tte_units.specs.declared.units.Units.{Units}
 
@@ -71,9 +74,6 @@ off_arrival network device node e moment link signal stands off =
     off_signal network device node moment link signal (subst (λ (s : Standing). is_off s.state ≡ true) (sym stands.standing) off)
 
 -- ---- a device that takes part
-
-takes_by : (off broken : Bool) → off ≡ false → broken ≡ false → (not off && not broken) ≡ true
-takes_by off broken a b = ap (λ (x : Bool). not x && not broken) a ∙ ap (λ (x : Bool). not x) b
 
 member_in : (network : Network) (device : DeviceId) (frame : Pcf) (o : Option Link) → option_map_or (λ (l : Link). l.parent.0 == device.0) o false ≡ false
     → option_map_or (λ (l : Link). l.parent.0 == device.0 && is_end network l.child && are_others (member_of network l.child) frame.members) o false ≡ false
@@ -161,10 +161,6 @@ pub control_judged : (network : Network) (device : DeviceId) (own : Own) (link :
 control_judged network device own link at reading (Ok frame) is of takes read = judged network device own link at reading frame is of takes read
 control_judged network device own link at reading (Err refusal) is of takes read = refused_at at refusal takes
 
-whole : (z : ℤ) → pos 0 ≤ℤ z → z ≡ pos (unsigned_abs z)
-whole (pos n) h = refl
-whole (negsuc n) h = absurd (omega (arith, ints))
-
 pub control_at : (network : Network) (device : DeviceId) (node : Node) (e : EndSystem) (moment : Moment) (link : LinkId) (octets : List ℕ)
     → StandsAsEnd e network device node → IsLinkOf network device e.own link → is_off node.standing.state ≡ false → pos 0 ≤ℤ moment.reading.0
     → arrival_of e.own moment.reading link (decoded octets) ≡ arrival_at network device node moment link (control (decoded octets))
@@ -204,19 +200,10 @@ signal_out false x y e = refl
 pub is_control : (octets : List ℕ) → HasPcfType octets → signal_of octets ≡ control (decoded octets)
 is_control octets h = signal_in (field 12 2 octets == pcf_type) _ _ (eq-eqb (field 12 2 octets) pcf_type h.1)
 
-test_false : (m n : ℕ) → (m ≡ n → ⊥) → (m == n) ≡ false
-test_false m n out = elim (m == n) as (λ (b : Bool). (m == n) ≡ b → b ≡ false) [
-  | true ↦ λ e. absurd (out (eqb→eq m n (subst T (sym e) tt)))
-  | false ↦ λ e. refl
-] refl
-
 long_enough : (n : ℕ) → 60 ≤ n → 14 ≤ n
 long_enough n h = omega arith
-
-false_not : (b : Bool) → b ≡ false → b ≡ true → ⊥
-false_not b f t = cc
 
 pub is_timed : (octets : List ℕ) (b : Bool) → 60 ≤ length octets → b ≡ false → IsTrue b ↔ HasPcfType octets → signal_of octets ≡ timed octets
 is_timed octets b long other iff =
     signal_out (field 12 2 octets == pcf_type) _ _
-    (test_false (field 12 2 octets) pcf_type (λ e. false_not b other (iff.1 (long_enough (length octets) long, e))))
+    (unequal (field 12 2 octets) pcf_type (λ e. both_ways b other (iff.1 (long_enough (length octets) long, e))))

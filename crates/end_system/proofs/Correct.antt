@@ -1,10 +1,10 @@
 -- A correction point of an end system.
-use Rattle.std.proofs.Common.{◌≡◌, ℕ, ◌+◌, ◌*◌, ◌^◌, ◌<◌, ◌≤◌, ℤ, pos, negsuc, ◌+ℤ◌, ◌-ℤ◌, ◌<ℤ◌, ◌≤ℤ◌, List, [], ◌∷◌, ◌++◌, Option, Some, None, IsSomeAnd, IfSome, unsigned_abs, inl, inr, refl, sym, ap, subst, ◌∙◌, arith}
+use Rattle.std.proofs.Common.{◌≡◌, ℕ, ◌+◌, ◌*◌, ◌^◌, ◌<◌, ◌≤◌, ℤ, pos, ◌+ℤ◌, ◌-ℤ◌, ◌<ℤ◌, ◌≤ℤ◌, List, [], ◌∷◌, ◌++◌, Option, Some, None, IsSomeAnd, IfSome, inl, inr, refl, sym, ap, subst, ◌∙◌, arith}
 use Rattle.std.proofs.lemmas.Int.{ints}
 use Rattle.std.proofs.Math.Nat.{mul-le-mul_right}
 use Rattle.clock_correction.specs.Deviation.{IsSmall}
 use Rattle.end_system.proofs.Advance.{cycle_whole, not_fallen, was_done}
-use Rattle.end_system.proofs.Heard.{best_near, corrected_back, none_qualifies, point_number}
+use Rattle.end_system.proofs.Heard.{best_near, corrected_back, none_qualifies}
 use Rattle.end_system.specs.Agendas.{IsAgenda, IsAgendaAfter, IsCorrection, IsDispatch, IsEmpty, IsInNextCycle, IsSending}
 use Rattle.end_system.specs.Deeds.{IsNextCorrection}
 use Rattle.end_system.specs.Owns.{IsOwnOf, end_plan}
@@ -17,12 +17,14 @@ use Rattle.end_system.specs.declared.own.Own.{Own}
 use Rattle.membership.specs.Summary.{Summary, Summarizes, silence}
 use Rattle.net_plan.specs.declared.ids.DeviceId.{DeviceId}
 use Rattle.net_plan.specs.declared.network.Network.{Network}
+use Rattle.run_law.proofs.silent.Due.{point_is}
 use Rattle.run_law.specs.control.Corrections.{correction_value}
 use Rattle.run_law.specs.declared.steps.Moment.{Moment}
 use Rattle.run_law.specs.machines.Answers.{after_correction, called}
 use Rattle.run_law.specs.machines.Calls.{MayCall}
 use Rattle.run_law.specs.machines.Nodes.{ClockTask, Node, correcting, acting}
 use Rattle.run_law.specs.machines.Tasks.{value_of}
+use Rattle.sync_state.proofs.StateFacts.{no_longer, point_up_to}
 use Rattle.sync_state.specs.Calls.{adjustment_by, after, reached_point}
 use Rattle.sync_state.specs.Standing.{IsAtIntegration, Standing, next_point, point_in}
 use Rattle.sync_state.specs.Verdicts.{HasVerdict, IfCorrected, IsNear}
@@ -30,6 +32,8 @@ use Rattle.sync_state.specs.declared.answers.Verdict.TheVariants.{Corrected, Syn
 use Rattle.sync_state.specs.declared.answers.Verdict.{Verdict}
 use Rattle.sync_state.specs.declared.state.State.TheVariants.{Off, Integrating, Joining, Synchronised}
 use Rattle.sync_state.specs.declared.state.State.{State}
+use Rattle.tte_lemmas.proofs.Integers.{from_zero}
+use Rattle.tte_lemmas.proofs.Naturals.{less_than_next}
 use Rattle.tte_units.specs.Amount.{amount}
 use Rattle.tte_units.specs.declared.units.Units.{Units}
 
@@ -72,7 +76,7 @@ same_bound m n e h = omega arith
 
 pub number_bound : (network : Network) (s : Standing) (heard : Summary) (reading : ℤ) (cycle : ℕ) → IsAtPoint network s heard reading cycle
     → s.number ≤ 2 ^ 20 + 2 ^ 17 + 2
-number_bound network s heard reading cycle h = same_bound s.number cycle (point_number s.state s.number cycle h.point) h.number.bound
+number_bound network s heard reading cycle h = same_bound s.number cycle (point_is s.state s.number cycle h.point) h.number.bound
 
 pub near_a : (network : Network) (device : DeviceId) (own : Own) (s : Standing) (heard : Summary) (reading : ℤ) (cycle : ℕ) → IsOwnOf network device own
     → IsAtPoint network s heard reading cycle → IfSome heard.best_a (IsNear s)
@@ -96,12 +100,6 @@ pub still_small : (s new : Standing) (heard : Summary) (v : Verdict) → new ≡
     → IsSmall s.adjustment.0 → IsSmall new.adjustment.0
 still_small s new heard v e small was = small_by v s.adjustment new.adjustment (ap (λ (x : Standing). x.adjustment) e) small was
 
-point_up_to : (state : State) (n b : ℕ) → n ≤ b → IfSome (point_in state n) (λ k. k ≤ b)
-point_up_to Off n b h = tt
-point_up_to Integrating n b h = tt
-point_up_to Joining n b h = h
-point_up_to Synchronised n b h = h
-
 one_more : (n : ℕ) → n ≤ 2 ^ 20 + 2 ^ 17 + 2 → n + 1 ≤ 2 ^ 21 + 2 ^ 18
 one_more n h = omega arith
 
@@ -115,10 +113,6 @@ below_range n h = omega arith
 
 -- ---- how it stands then
 
-whole : (low : ℕ) (z : ℤ) → pos low ≤ℤ z → z ≡ pos (unsigned_abs z)
-whole low (pos n) h = refl
-whole low (negsuc n) h = absurd (omega (arith, ints))
-
 passed_by : (v at r a b p : ℤ) → at ≡ (v -ℤ a) → at ≤ℤ r → pos 0 ≤ℤ (b +ℤ p) → v ≤ℤ ((r +ℤ (a +ℤ b)) +ℤ p)
 passed_by v at r a b p e here back = omega (arith, ints)
 
@@ -131,11 +125,8 @@ last_of_all n m e h = omega arith
 late_enough : (n : ℕ) → n + 1 ≡ 2 ^ 20 + 2 ^ 17 + 2 → 2 ^ 20 + 2 ^ 17 ≤ n
 late_enough n h = omega arith
 
-heard_nothing : (network : Network) (s : Standing) (heard : Summary) → heard ≡ silence → AreHeardSo network s heard
+pub heard_nothing : (network : Network) (s : Standing) (heard : Summary) → heard ≡ silence → AreHeardSo network s heard
 heard_nothing network s heard e = subst (AreHeardSo network s) (sym e) (record { a = tt; b = tt })
-
-no_longer : Integrating ≡ Synchronised → ⊥
-no_longer e = cc
 
 joining_yet : (state : State) → state ≡ Joining → state ≡ Synchronised → ⊥
 joining_yet state j e = cc
@@ -160,7 +151,7 @@ corrected_number : (network : Network) (device : DeviceId) (own : Own) (s new : 
     → new ≡ after s (reached_point heard (Corrected by))
     → HasNumber network new silent reading (s.number + 1)
 corrected_number network device own s new heard silent by before reading next is at verdict on due none value =
-    let number = point_number s.state s.number next.cycle at.point in
+    let number = point_is s.state s.number next.cycle at.point in
     subst (λ (x : Standing). HasNumber network x silent reading (s.number + 1)) (sym value)
     (record {
       bound =
@@ -172,7 +163,7 @@ corrected_number network device own s new heard silent by before reading next is
             subst (λ (n : ℕ). correction_value network n ≤ℤ ((reading +ℤ (s.adjustment.0 +ℤ by.0)) +ℤ network.precision.0))
             (last_of_all s.number next.cycle number e)
             (passed_by (correction_value network next.cycle) next.at.0 reading s.adjustment.0 by.0 network.precision.0 on due
-            (subst (λ (p : ℤ). pos 0 ≤ℤ (by.0 +ℤ p)) (sym (whole _ network.precision.0 is.in_range.precision.least))
+            (subst (λ (p : ℤ). pos 0 ≤ℤ (by.0 +ℤ p)) (sym (from_zero _ network.precision.0 is.in_range.precision.least))
             (corrected_back network device own s heard by is at.plan (late_enough s.number e) at.near verdict)));
       };
     })
@@ -194,9 +185,6 @@ ahead_still c d n x h = let more : n * c ≤ (n + 1) * c = mul-le-mul_right c (o
 at_later : (c d n m : ℕ) (at new r a : ℤ) → m ≡ n + 1 → at ≡ (pos (n * c + d) -ℤ a) → new ≡ (at +ℤ r) → r ≡ pos c → new ≡ (pos ((n + 1) * c + d) -ℤ a)
 at_later c d n m at new r a s e f g = omega (arith, ints)
 
-less_than_next : (n m : ℕ) → n < m → n < m + 1
-less_than_next n m h = omega arith
-
 same_correcting : (m n : ℕ) → correcting m ≡ correcting n → m < n + 1
 same_correcting m n e = let same : m ≡ n = cc in omega arith
 
@@ -214,7 +202,7 @@ cleared_correction network device own s heard changed done old None is joining h
 cleared_correction network device own s heard changed done old (Some new) is joining here next =
     subst (λ (n : ℕ). IsNextAt network (after s (reached_point heard Cleared)) changed (done ++ correcting old.cycle ∷ []) n new.at) (sym next.cycle) (
       record {
-        point = point_next s.state s.number old.cycle joining (point_number s.state s.number old.cycle here.0.point);
+        point = point_next s.state s.number old.cycle joining (point_is s.state s.number old.cycle here.0.point);
         ahead = ahead_still (amount network.cycle) (amount network.correction) old.cycle changed here.0.ahead;
         done_before =
             λ n there. elim (was_done done (correcting old.cycle) (correcting n) there)

@@ -1,17 +1,17 @@
 -- The rows by which frames enter an end system.
-use Rattle.std.proofs.Common.{◌≡◌, ◌⊎◌, inl, inr, ⊎_elim, ℕ, zero, suc, ◌+◌, ◌<◌, ◌≤◌, ◌&&◌, ◌==◌, Bool, true, false, List, [], ◌∷◌, ◌++◌, length, Option, Some, None, IsSomeAnd, refl, ap, sym, ◌∙◌, subst, arith, length-append}
-use Rattle.std.proofs.lemmas.Bool.{cases_Bool, eqb-true, false≢true}
-use Rattle.std.proofs.lemmas.List.Elements.{All-nil, All-push, Contains-append_left, Contains-push}
+use Rattle.std.proofs.Common.{◌≡◌, inl, inr, ⊎_elim, ℕ, zero, suc, ◌+◌, ◌<◌, ◌≤◌, ◌&&◌, ◌==◌, Bool, true, false, List, [], ◌∷◌, ◌++◌, length, Option, Some, None, IsSomeAnd, refl, ap, sym, ◌∙◌, subst, arith}
+use Rattle.std.proofs.lemmas.Bool.{and_parts, cases_Bool, eqb-true, false≢true}
+use Rattle.std.proofs.lemmas.List.Elements.{All-push, Contains-append_left, Contains-push}
 use Rattle.std.proofs.lemmas.List.Sorted.{All-permutation, Contains-permutation}
-use Rattle.std.proofs.lemmas.Option.{slice_get-get_or, slice_get_within}
+use Rattle.std.proofs.lemmas.Option.{slice_get_within}
 use Rattle.std.specs.List.{All, AllPairs, Contains}
 use Rattle.std.specs.List.Sorted.{IsPermutation}
 use Rattle.std.specs.Option.{option_map_or}
 use Rattle.std.specs.Prelude.{find, option_and_then, slice_get}
 use Rattle.end_system.proofs.KeyOrder.{key_cmp, key_compares}
-use Rattle.end_system.proofs.OwnLemmas.{one_some, some_of}
+use Rattle.end_system.proofs.OwnLemmas.{some_of}
 use Rattle.end_system.proofs.Search.{Ends, IsOrder, no_earlier, not_before, not_below}
-use Rattle.end_system.specs.EnteringRows.{AreKeysBelow, AreKeysOf, AreNoneTaken, AreRowsOfKeys, IsKeyOf, IsKnown, enters, enters_by, numbers_of, row_by}
+use Rattle.end_system.specs.EnteringRows.{AreKeysBelow, AreKeysOf, AreRowsOfKeys, IsKeyOf, IsKnown, enters, enters_by, numbers_of, row_by}
 use Rattle.end_system.specs.declared.entering.Entering.{Entering}
 use Rattle.end_system.specs.declared.entering.EnteringRow.{EnteringRow}
 use Rattle.end_system.specs.declared.entering.Key.{Key}
@@ -26,13 +26,17 @@ use Rattle.net_plan.specs.declared.tables.Row.{Row}
 use Rattle.net_plan.specs.declared.tables.VirtualLink.{VirtualLink}
 use Rattle.net_plan.specs.declared.tables.Way.TheVariants.{Up, Down}
 use Rattle.net_plan.specs.declared.tables.Way.{Way}
+use Rattle.run_law.proofs.timed.Rows.{entry_at}
 use Rattle.run_law.specs.scenario.Devices.{is_parent_of}
 use Rattle.run_law.specs.scenario.Ways.{is_way, is_way_of, way_to}
 use Rattle.run_law.specs.timed.Arrivals.{entry_entering, entry_of, is_row_with, row_entering}
-use Rattle.schedule_tables.proofs.EntryLemmas.{all_at, one_entry}
+use Rattle.schedule_tables.proofs.EntryLemmas.{one_entry}
 use Rattle.schedule_tables.specs.Dispatches.{IsBelow}
 use Rattle.schedule_tables.specs.Entries.{IsEntry}
 use Rattle.schedule_tables.specs.declared.entry.Entry.{Entry}
+use Rattle.tte_lemmas.proofs.Lists.{in_all}
+use Rattle.tte_lemmas.proofs.Naturals.{below_or_at, eqb_same}
+use Rattle.tte_lemmas.proofs.Options.{one}
 
 -- ---- how the keys are gathered
 
@@ -57,9 +61,6 @@ one_key n d a b p q row =
     let id : a.id ≡ b.id = p.id ∙ ap (λ (e : Entry). e.vl.id) entry ∙ sym q.id in
     ap (λ (l : LinkId). key_by l a.id a.row) link ∙ ap (λ (i : ℕ). key_by b.link i a.row) id ∙ ap (key_by b.link b.id) ids
 
-below_or_at : (i n next : ℕ) → next ≡ n + 1 → i < next → (i < n) ⊎ (i ≡ n)
-below_or_at i n next e h = grind arith
-
 -- what the test of an entry says
 it_enters : (e : Entry) (d : DeviceId) → enters e d ≡ true → (e.row.way ≡ Down) × (e.link.child ≡ d)
 it_enters e d h = by e.row.way e.link.child d h
@@ -68,15 +69,12 @@ it_enters e d h = by e.row.way e.link.child d h
     by Up child device e = absurd (false≢true e)
     by Down child device e = (refl, ap device_id (eqb-true child.0 device.0 e))
 
-same_number : (n : ℕ) → (n == n) ≡ true
-same_number n = grind arith
-
 it_enters_not : (e : Entry) (d : DeviceId) → enters e d ≡ false → e.row.way ≡ Down → e.link.child ≡ d → ⊥
 it_enters_not e d h way child = by e.row.way e.link.child d way child h
   where
     by : (way : Way) (child device : DeviceId) → way ≡ Down → child ≡ device → enters_by way child device ≡ false → ⊥
     by Up child device e f g = absurd cc
-    by Down child device e f g = false≢true (sym g ∙ subst (λ (x : DeviceId). (child.0 == x.0) ≡ true) f (same_number child.0))
+    by Down child device e f g = false≢true (sym g ∙ subst (λ (x : DeviceId). (child.0 == x.0) ≡ true) f (eqb_same child.0))
 
 pub keys_pushed : (n : Network) (d : DeviceId) (row : RowId) (next : ℕ) (e : Entry) (keys : List Key) → next ≡ row.0 + 1 → AreKeysBelow n d row.0 keys
     → IsEntry n row.0 e → enters e d ≡ true → AreKeysBelow n d next (keys ++ key_by e.row.link e.vl.id row ∷ [])
@@ -104,12 +102,6 @@ keys_skip n d row next e keys eq are at out = record {
       (below_or_at t.row.0 row next eq below);
 }
 
-pub no_keys : (n : Network) (d : DeviceId) → AreKeysBelow n d 0 []
-no_keys n d = record {
-  sound = All-nil (IsKeyOf n d);
-  complete = λ t is below. absurd (omega arith);
-}
-
 pub keys_all : (n : Network) (d : DeviceId) (bound : ℕ) (keys sorted : List Key) → length n.row ≤ bound → AreKeysBelow n d bound keys
     → IsPermutation keys sorted → AllPairs (λ key later. IsBelow (numbers_of later) (numbers_of key) → ⊥) sorted → AreKeysOf n d sorted
 keys_all n d bound keys sorted enough are moved order = record {
@@ -125,47 +117,8 @@ keys_all n d bound keys sorted enough are moved order = record {
 pub rows_known : (n : Network) (d : DeviceId) (keys : List Key) → AreKeysOf n d keys → All (λ key. key.row.0 < length n.row) keys
 rows_known n d keys are i x within = let is = are.sound i x within in slice_get_within n.row _ is.entry.row is.is.row
 
-pub rows_pushed : (n : Network) (keys : List Key) (count next : ℕ) (rows : List EnteringRow) (key : Key) (row : EnteringRow) → next ≡ count + 1
-    → AreRowsOfKeys n keys count rows → slice_get keys count ≡ Some key → ((entry : Entry) → IsEntry n key.row.0 entry → row ≡ row_by n entry)
-    → AreRowsOfKeys n keys next (rows ++ row ∷ [])
-rows_pushed n keys count next rows key row eq are at is = record {
-  count_is = length-append rows (row ∷ []) ∙ (ap (λ (k : ℕ). k + 1) are.count_is ∙ sym eq);
-  each = λ place k entry within there has. ⊎_elim
-      (λ (h : place < count). before rows row place (row_by n entry) (are.each place k entry h there has))
-      (λ (h : place ≡ count).
-      let same : key ≡ k = one_some (slice_get keys count) key k at (subst (λ (i : ℕ). slice_get keys i ≡ Some k) h there) in
-      subst (λ (i : ℕ). slice_get (rows ++ row ∷ []) i ≡ Some (row_by n entry)) (are.count_is ∙ sym h)
-      (last rows row (row_by n entry) (is entry (subst (λ (x : Key). IsEntry n x.row.0 entry) (sym same) has))))
-      (below_or_at place count next eq within);
-}
-  where
-    before : (xs : List EnteringRow) (y : EnteringRow) (i : ℕ) (x : EnteringRow) → slice_get xs i ≡ Some x → slice_get (xs ++ y ∷ []) i ≡ Some x
-    before [] y i x h = absurd (no_none i x h)
-      where
-        no_none : (i : ℕ) (x : EnteringRow) → slice_get [] i ≡ Some x → ⊥
-        no_none i x h = let w = slice_get_within [] i x h in omega (arith, w)
-    before (z ∷ xs) y zero x h = h
-    before (z ∷ xs) y (suc i) x h = before xs y i x h
-
-    last : (xs : List EnteringRow) (y x : EnteringRow) → y ≡ x → slice_get (xs ++ y ∷ []) (length xs) ≡ Some x
-    last [] y x e = ap (λ z. Some z) e
-    last (z ∷ xs) y x e = last xs y x e
-
 pub no_rows_of : (n : Network) (keys : List Key) → AreRowsOfKeys n keys 0 []
 no_rows_of n keys = record { count_is = refl; each = λ place key entry within there has. absurd (omega (arith, within)) }
-
--- ---- none taken
-
-pub none_pushed : (count next : ℕ) (taken : List (Option ℕ)) → next ≡ count + 1 → AreNoneTaken count taken → AreNoneTaken next (taken ++ None ∷ [])
-none_pushed count next taken eq are = record {
-  count_is = length-append taken (None ∷ []) ∙ (ap (λ (k : ℕ). k + 1) are.count_is ∙ sym eq);
-  none = All-push (λ last. last ≡ None) taken None are.none refl;
-}
-
-pub none_at : (count : ℕ) (taken : List (Option ℕ)) (i : ℕ) → AreNoneTaken count taken → i < count → slice_get taken i ≡ Some None
-none_at count taken i are within =
-    let at : slice_get taken i ≡ Some _ = slice_get-get_or taken i None (omega (arith, within, are.count_is)) in
-    at ∙ ap (λ o. Some o) (are.none i None (omega (arith, within, are.count_is)))
 
 -- ---- the search
 
@@ -180,7 +133,7 @@ find_there : {X : Type 0} (p : X → Bool) (xs : List X) (i : ℕ) (x : X) → s
     → ((j : ℕ) (y : X) → j < i → slice_get xs j ≡ Some y → p y ≡ true → ⊥) → find p xs ≡ Some x
 find_there p [] i x at passed no_other = let w = slice_get_within [] i x at in absurd (omega (arith, w))
 find_there p (z ∷ xs) zero x at passed no_other =
-    let same : z ≡ x = one_some (Some z) z x refl at in
+    let same : z ≡ x = one (Some z) z x refl at in
     rw (subst (λ y. p y ≡ true) (sym same) passed) at
 find_there p (z ∷ xs) (suc i) x at passed no_other =
     ⊎_elim
@@ -195,10 +148,6 @@ find_nowhere p (z ∷ xs) no_other =
     (λ (h : p z ≡ true). absurd (no_other 0 z refl h))
     (λ (h : p z ≡ false). rw h (find_nowhere p xs (λ j y there. no_other (suc j) y there)))
     (cases_Bool (p z))
-
-both_true : (a b : Bool) → (a && b) ≡ true → (a ≡ true) × (b ≡ true)
-both_true true b e = (refl, e)
-both_true false b e = absurd (false≢true e)
 
 down_is : (way : Way) → is_way Down way ≡ true → way ≡ Down
 down_is Up e = absurd cc
@@ -216,8 +165,8 @@ row_with (Some vl) id e = eqb-true vl.id id e
 key_of_row : (n : Network) (d : DeviceId) (link : LinkId) (id place : ℕ) (row : Row) → IsChildOf n d link → slice_get n.row place ≡ Some row
     → passes n link id row ≡ true → IsKeyOf n d (key_by link id (row_id place))
 key_of_row n d link id place row child at passed =
-    let both = both_true _ _ passed in
-    let ways = both_true _ _ both.0 in
+    let both = and_parts _ _ passed in
+    let ways = and_parts _ _ both.0 in
     let same : link ≡ row.link = ap link_id (eqb-true link.0 row.link.0 ways.0) in
     let way = down_is row.way ways.1 in
     let vl = some_of (slice_get n.vl row.vl.0) (λ vl. vl.id ≡ id) (row_with (slice_get n.vl row.vl.0) id both.1) in
@@ -236,11 +185,11 @@ row_passes : (n : Network) (d : DeviceId) (link : LinkId) (id : ℕ) (key : Key)
     → passes n link id is.entry.row ≡ true
 row_passes n d link id key is same_link same_id =
     let a : (link.0 == is.entry.row.link.0) ≡ true = subst (λ (k : ℕ). (link.0 == k) ≡ true) (sym same_link ∙ ap (λ (l : LinkId). l.0) is.link)
-    (same_number link.0) in
+    (eqb_same link.0) in
     let b : is_way Down is.entry.row.way ≡ true = ap (is_way Down) is.way in
     let c : is_row_with n id is.entry.row ≡ true =
     ap (λ (o : Option VirtualLink). option_map_or (λ vl. vl.id == id) o false) is.is.vl ∙ subst (λ (k : ℕ). (k == id) ≡ true) (sym same_id ∙ is.id)
-    (same_number id) in
+    (eqb_same id) in
     rw (a, b) c
 
 same_way : (n : Network) (d : DeviceId) (link : LinkId) → is_parent_of n d link ≡ false → way_to n d link ≡ Down
@@ -248,9 +197,6 @@ same_way n d link up = rw up refl
 
 entering_by : (n : Network) (d : DeviceId) (link : LinkId) (id : ℕ) → is_parent_of n d link ≡ false → row_entering n d link id ≡ find (passes n link id) n.row
 entering_by n d link id up = ap (λ (w : Way). find (λ row. is_way_of link w row.link row.way && is_row_with n id row) n.row) (same_way n d link up)
-
-entry_is : (n : Network) (place : ℕ) (e : Entry) → IsEntry n place e → entry_of n e.row ≡ Some e
-entry_is n place e is = rw (is.vl, is.link) refl
 
 not_low : (a b j : ℕ) → IsBelow (a ∷ b ∷ j ∷ []) (a ∷ b ∷ 0 ∷ []) → ⊥
 not_low a b j h = grind (arith, h)
@@ -260,7 +206,7 @@ pub found_entry : (n : Network) (d : DeviceId) (keys : List Key) (link : LinkId)
     → is_parent_of n d link ≡ false → KeyEnds keys link id place → slice_get keys place ≡ Some key
     → key.link.0 ≡ link.0 → key.id ≡ id → (e : Entry) → IsEntry n key.row.0 e → entry_entering n d link id ≡ Some e
 found_entry n d keys link id place key are child up ends at same_link same_id e has =
-    let is = all_at (IsKeyOf n d) keys place key are.sound at in
+    let is = in_all (IsKeyOf n d) keys place key are.sound at in
     let same : is.entry ≡ e = one_entry n key.row.0 is.entry e is.is has in
     let found : find (passes n link id) n.row ≡ Some is.entry.row = find_there (passes n link id) n.row key.row.0 is.entry.row is.is.row
     (row_passes n d link id key is same_link same_id)
@@ -269,7 +215,7 @@ found_entry n d keys link id place key are child up ends at same_link same_id e 
     let has_key = are.complete other (key_of_row n d link id j row child there passed) in
     let late = not_before numbers_of key_cmp key_order keys (key_by link id (row_id 0)) place ends other has_key (not_low link.0 id j) in
     no_earlier numbers_of keys are.order place key at other has_key late (inr (sym same_link, inr (sym same_id, inl lt)))) in
-    ap (option_and_then (entry_of n)) (entering_by n d link id up ∙ found) ∙ (entry_is n key.row.0 is.entry is.is ∙ ap (λ (x : Entry). Some x) same)
+    ap (option_and_then (entry_of n)) (entering_by n d link id up ∙ found) ∙ (entry_at n key.row.0 is.entry is.is ∙ ap (λ (x : Entry). Some x) same)
 
 -- where the search finds no such key, there is no such row
 pub found_none : (n : Network) (d : DeviceId) (keys : List Key) (link : LinkId) (id : ℕ) → AreKeysOf n d keys → IsChildOf n d link
@@ -305,10 +251,10 @@ pub known_row : (n : Network) (d : DeviceId) (e : Entering) (place : ℕ) (key :
     → AreRowsOfKeys n e.keys.items (length e.keys.items) e.rows.items → ((vl : ℕ) → vl < length n.vl → vl < length e.taken.items)
     → slice_get e.keys.items place ≡ Some key → slice_get e.rows.items place ≡ Some row → IsKnown e row
 known_row n d e place key row range are rows taken at there =
-    let is = all_at (IsKeyOf n d) e.keys.items place key are.sound at in
-    let same : row ≡ row_by n is.entry = one_some (slice_get e.rows.items place) row (row_by n is.entry) there
+    let is = in_all (IsKeyOf n d) e.keys.items place key are.sound at in
+    let same : row ≡ row_by n is.entry = one (slice_get e.rows.items place) row (row_by n is.entry) there
     (rows.each place key is.entry (slice_get_within e.keys.items place key at) at is.is) in
-    let vl = all_at (IsVlInRange n) n.vl is.entry.row.vl.0 is.entry.vl range.vls is.is.vl in
+    let vl = in_all (IsVlInRange n) n.vl is.entry.row.vl.0 is.entry.vl range.vls is.is.vl in
     record {
       period = subst (λ (r : EnteringRow). 1 ≤ r.period) (sym same) vl.period_least;
       vl =

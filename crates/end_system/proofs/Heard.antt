@@ -1,5 +1,5 @@
 -- Frames that were heard in time, and what they correct a clock by.
-use Rattle.std.proofs.Common.{◌≡◌, ℕ, ◌+◌, ◌*◌, ◌^◌, ◌<◌, ◌≤◌, ℤ, pos, negsuc, neg_ℤ, ◌+ℤ◌, ◌-ℤ◌, ◌*ℤ◌, ◌<ℤ◌, ◌≤ℤ◌, Bool, true, false, nat_le, if◌then◌else◌, Option, Some, None, IsSomeAnd, IfSome, option_and_then, unsigned_abs, inl, inr, refl, ap, subst, ◌∙◌, arith}
+use Rattle.std.proofs.Common.{◌≡◌, ℕ, ◌+◌, ◌*◌, ◌^◌, ◌<◌, ◌≤◌, ℤ, pos, neg_ℤ, ◌+ℤ◌, ◌-ℤ◌, ◌*ℤ◌, ◌<ℤ◌, ◌≤ℤ◌, Bool, true, false, nat_le, if◌then◌else◌, Option, Some, None, IsSomeAnd, IfSome, option_and_then, inl, inr, ap, subst, ◌∙◌, arith}
 use Rattle.std.proofs.lemmas.Int.{ints}
 use Rattle.std.proofs.lemmas.Option.{same_Some}
 use Rattle.std.proofs.Math.Nat.{mul-le-mul_left, mul-le-mul_right}
@@ -16,20 +16,15 @@ use Rattle.net_plan.specs.declared.network.Network.{Network}
 use Rattle.pcf_values.specs.declared.channel.Channel.TheVariants.{A, B}
 use Rattle.schedule_tables.specs.Margins.{expected_offset}
 use Rattle.sync_state.specs.Plan.{expected_at}
-use Rattle.sync_state.specs.Standing.{Standing, point_in}
+use Rattle.sync_state.specs.Standing.{Standing}
 use Rattle.sync_state.specs.Verdicts.{HasVerdict, IsNear, deviation_by, deviation_on}
 use Rattle.sync_state.specs.declared.answers.Verdict.TheVariants.{Corrected}
 use Rattle.sync_state.specs.declared.plan.SyncPlan.{SyncPlan}
-use Rattle.sync_state.specs.declared.state.State.TheVariants.{Off, Integrating, Joining, Synchronised}
-use Rattle.sync_state.specs.declared.state.State.{State}
+use Rattle.tte_lemmas.proofs.Integers.{from_zero}
 use Rattle.tte_units.proofs.Means.{mean_of-floor}
 use Rattle.tte_units.specs.Amount.{amount}
 use Rattle.tte_units.specs.Mean.{IsMean}
 use Rattle.tte_units.specs.declared.units.Units.{Units}
-
-whole : (low : ℕ) (z : ℤ) → pos low ≤ℤ z → z ≡ pos (unsigned_abs z)
-whole low (pos n) h = refl
-whole low (negsuc n) h = absurd (omega (arith, ints))
 
 at_most : (high n : ℕ) (z : ℤ) → z ≡ pos n → z ≤ℤ pos high → n ≤ high
 at_most high n z e h = omega (arith, ints)
@@ -38,7 +33,7 @@ at_most high n z e h = omega (arith, ints)
 pub expected_is : (network : Network) (device : DeviceId) (own : Own) (plan : SyncPlan) (n : ℕ) → IsOwnOf network device own → plan ≡ end_plan network
     → expected_at plan n ≡ pos (n * amount network.cycle + expected_offset network)
 expected_is network device own plan n is e =
-    ap (λ (p : SyncPlan). expected_at p n) e ∙ ap (λ (z : ℤ). (pos n *ℤ z) +ℤ pos (expected_offset network)) (whole _ network.cycle.0 is.in_range.cycle.least)
+    ap (λ (p : SyncPlan). expected_at p n) e ∙ ap (λ (z : ℤ). (pos n *ℤ z) +ℤ pos (expected_offset network)) (from_zero _ network.cycle.0 is.in_range.cycle.least)
 
 -- the numbers of the network that frames are judged by
 pub record HasNumbers (cycle offset precision correction : ℕ) : Type 0 where
@@ -54,9 +49,9 @@ margin_of c e p d z w x y ez ew ex ey h = omega (arith, ints)
 pub has_numbers : (network : Network) (device : DeviceId) (own : Own) → IsOwnOf network device own → HasNumbers (amount network.cycle) (expected_offset network)
     (amount network.precision) (amount network.correction)
 has_numbers network device own is =
-    let cycle = whole _ network.cycle.0 is.in_range.cycle.least in
-    let precision = whole _ network.precision.0 is.in_range.precision.least in
-    let correction = whole _ network.correction.0 is.in_range.correction.least in
+    let cycle = from_zero _ network.cycle.0 is.in_range.cycle.least in
+    let precision = from_zero _ network.precision.0 is.in_range.precision.least in
+    let correction = from_zero _ network.correction.0 is.in_range.correction.least in
     let offset : own.plan.expected.0 ≡ pos (expected_offset network) = ap (λ (p : SyncPlan). p.expected.0) is.plan in
     let length : own.plan.cycle_length.0 ≡ network.cycle.0 = ap (λ (p : SyncPlan). p.cycle_length.0) is.plan in
     record {
@@ -148,10 +143,3 @@ none_qualifies s heard by a b verdict = elim verdict.1 [
   | inl on_a ↦ subst (λ (o : Option HeardFrame). IsSomeAnd o (λ frame. s.plan.threshold ≤ count_of frame.members)) a on_a
   | inr on_b ↦ subst (λ (o : Option HeardFrame). IsSomeAnd o (λ frame. s.plan.threshold ≤ count_of frame.members)) b on_b
 ]
-
--- where there is a next point, it is that of the number
-pub point_number : (state : State) (number cycle : ℕ) → point_in state number ≡ Some cycle → number ≡ cycle
-point_number Off number cycle e = absurd cc
-point_number Integrating number cycle e = absurd cc
-point_number Joining number cycle e = cc
-point_number Synchronised number cycle e = cc

@@ -4,13 +4,15 @@ use Rattle.std.proofs.lemmas.Bool.{eqb-true, cases_Bool, false≢true}
 use Rattle.std.proofs.lemmas.Int.{ints}
 use Rattle.std.specs.Option.{option_map_or}
 use Rattle.std.specs.Prelude.{option_and_then}
-use Rattle.end_system.proofs.Values.{amount_whole, at_least, at_most}
+use Rattle.end_system.proofs.Values.{at_least}
 use Rattle.end_system.specs.Owns.{IsLinkOf, IsOwnOf, IsUplinkOf, channel_by, end_plan, wire_by}
 use Rattle.end_system.specs.declared.own.Own.{Own}
+use Rattle.net_plan.proofs.SameIds.{same_device, same_link}
+use Rattle.net_plan.proofs.InRange.{amount_most, its_amount}
+use Rattle.net_plan.proofs.Shape.{child_of}
 use Rattle.net_plan.specs.Paths.{IsUplink}
 use Rattle.net_plan.specs.Places.{IsEndSystem, IsSwitchOf, device_at, is_end_system, is_master, link_at}
 use Rattle.net_plan.specs.Ranges.{IsDeviceInRange, IsInRange, IsWithin}
-use Rattle.net_plan.specs.Rules.{IsChildOf}
 use Rattle.net_plan.specs.declared.ids.DeviceId.{DeviceId}
 use Rattle.net_plan.specs.declared.ids.LinkId.{LinkId}
 use Rattle.net_plan.specs.declared.ids.RowId.{RowId}
@@ -22,15 +24,18 @@ use Rattle.net_plan.specs.declared.tables.Role.{Role}
 use Rattle.net_plan.specs.declared.tables.Row.{Row}
 use Rattle.pcf_values.specs.declared.channel.Channel.TheVariants.{A, B}
 use Rattle.pcf_values.specs.declared.channel.Channel.{Channel}
+use Rattle.run_law.proofs.scenario.Devices.{end_test}
 use Rattle.run_law.specs.machines.Calls.{IsLinkAt}
 use Rattle.run_law.specs.records.Frames.{dispatched_frame}
-use Rattle.run_law.specs.scenario.Devices.{IsParentOf, channel_of, has_role, is_cm, is_cm_role, is_end, is_relay, is_relay_role, plan_of}
+use Rattle.run_law.specs.scenario.Devices.{IsParentOf, channel_of, has_role, is_cm, is_cm_role, is_relay, is_relay_role, plan_of}
 use Rattle.run_law.specs.scenario.Ways.{wire_of}
-use Rattle.schedule_tables.proofs.EntryLemmas.{all_at}
 use Rattle.schedule_tables.specs.Margins.{expected_offset}
 use Rattle.schedule_tables.specs.Rules.{KeepsRules}
 use Rattle.schedule_tables.specs.declared.rule.Rule.TheVariants as rules
 use Rattle.sync_state.specs.declared.plan.SyncPlan.{SyncPlan}
+use Rattle.tte_lemmas.proofs.Lists.{in_all}
+use Rattle.tte_lemmas.proofs.Naturals.{eqb_same}
+use Rattle.tte_lemmas.proofs.Options.{one as one_some}
 use Rattle.tte_units.specs.Amount.{amount, units_of}
 use Rattle.tte_units.specs.declared.units.Units.{Units}
 
@@ -40,9 +45,6 @@ some_of (Some x) P h = (x, refl, h)
 
 of_some : {X : Type 0} (o : Option X) (P : X → Type 0) (x : X) → o ≡ Some x → P x → IsSomeAnd o P
 of_some o P x e h = subst (λ (p : Option _). IsSomeAnd p P) (sym e) h
-
-pub one_some : {X : Type 0} (o : Option X) (x y : X) → o ≡ Some x → o ≡ Some y → x ≡ y
-one_some o x y p q = cc
 
 -- ---- roles
 
@@ -66,9 +68,6 @@ some_such : (o : Option Device) (P Q : Device → Type 0) → ((d : Device) → 
 some_such None P Q f h = h
 some_such (Some d) P Q f h = f d h
 
-end_is : (network : Network) (device : DeviceId) → IsEndSystem network device → is_end network device ≡ true
-end_is network device end = role_is is_end_system (device_at network device) true end
-
 pub cm_not : (network : Network) (device : DeviceId) → IsEndSystem network device → is_cm network device ≡ false
 cm_not network device end =
     role_is is_cm_role (device_at network device) false
@@ -90,7 +89,7 @@ never_switch (Some d) channel range h k =
 
 no_switch : (network : Network) (device : DeviceId) (channel : Channel) → IsInRange network → IsEndSystem network device → IsSwitchOf network channel device → ⊥
 no_switch network device channel range end switch =
-    never_switch (device_at network device) channel (λ d at. (all_at IsDeviceInRange network.device device.0 d range.devices at).switches) end switch
+    never_switch (device_at network device) channel (λ d at. (in_all IsDeviceInRange network.device device.0 d range.devices at).switches) end switch
 
 -- ---- plans
 
@@ -132,27 +131,18 @@ device_id n = record { 0 = n }
 abbrev link_id : ℕ → LinkId
 link_id n = record { 0 = n }
 
-device_id_of : (d e : DeviceId) → d.0 ≡ e.0 → d ≡ e
-device_id_of d e h = ap device_id h
-
 parent_by : (o : Option Link) (l : Link) (device : DeviceId) → o ≡ Some l → (l.parent ≡ device → ⊥)
     → option_map_or (λ l. l.parent.0 == device.0) o false ≡ false
 parent_by o l device e out =
     ap (λ (p : Option Link). option_map_or (λ (l : Link). l.parent.0 == device.0) p false) e
     ∙ ⊎_elim
-    (λ (h : (l.parent.0 == device.0) ≡ true). absurd (out (device_id_of l.parent device (eqb-true l.parent.0 device.0 h))))
+    (λ (h : (l.parent.0 == device.0) ≡ true). absurd (out (same_device l.parent device (eqb-true l.parent.0 device.0 h))))
     (λ (h : (l.parent.0 == device.0) ≡ false). h)
     (cases_Bool (l.parent.0 == device.0))
 
-link_id_of : (a b : LinkId) → a.0 ≡ b.0 → a ≡ b
-link_id_of a b h = ap link_id h
-
-same_number : (n : ℕ) → (n == n) ≡ true
-same_number n = grind arith
-
 -- the choice between the two links
 is_first : {X : Type 0} (link a : LinkId) (x y : X) → link ≡ a → (if link.0 == a.0 then x else y) ≡ x
-is_first link a x y e = chosen (link.0 == a.0) x y (subst (λ (l : LinkId). (link.0 == l.0) ≡ true) e (same_number link.0))
+is_first link a x y e = chosen (link.0 == a.0) x y (subst (λ (l : LinkId). (link.0 == l.0) ≡ true) e (eqb_same link.0))
   where
     chosen : {X : Type 0} (b : Bool) (x y : X) → b ≡ true → (if b then x else y) ≡ x
     chosen true x y e = refl
@@ -160,7 +150,7 @@ is_first link a x y e = chosen (link.0 == a.0) x y (subst (λ (l : LinkId). (lin
 
 is_second : {X : Type 0} (link a : LinkId) (x y : X) → (link ≡ a → ⊥) → (if link.0 == a.0 then x else y) ≡ y
 is_second link a x y out = ⊎_elim
-    (λ (h : (link.0 == a.0) ≡ true). absurd (out (link_id_of link a (eqb-true link.0 a.0 h))))
+    (λ (h : (link.0 == a.0) ≡ true). absurd (out (same_link link a (eqb-true link.0 a.0 h))))
     (λ (h : (link.0 == a.0) ≡ false). chosen (link.0 == a.0) x y h)
     (cases_Bool (link.0 == a.0))
   where
@@ -234,11 +224,6 @@ link_is network device own link range keeps end a b (inl child) =
       wire = of.1;
     }
 
-child_of : (network : Network) (channel : Channel) (device : DeviceId) (link : LinkId) → IsUplink network channel device link → IsChildOf network device link
-child_of network channel device link up =
-    let l = some_of (link_at network link) (λ l. (l.child ≡ device) × IsSwitchOf network channel l.parent) up in
-    of_some (link_at network link) (λ l. l.child ≡ device) l.0 l.1 l.2.0
-
 early_by : (offset time wire jitter t p c : ℕ) → offset + time + wire + jitter + t + 4 * p ≤ c → offset + 4 * p ≤ c
 early_by offset time wire jitter t p c h = omega (arith, h)
 
@@ -257,7 +242,7 @@ is_own network device own range keeps end plan_is precision correction dmax mark
     → IsWithin low high v = λ low high u v e h. subst (λ (x : Units). IsWithin low high x) (sym e) h in
     record {
       in_range = range;
-      end = end_is network device end;
+      end = end_test network device end;
       no_cm = cm_not network device end;
       no_relay = relay_not network device end;
       plan_is = plan_same network device end;
@@ -276,7 +261,7 @@ is_own network device own range keeps end plan_is precision correction dmax mark
             (record {
               least = from_zero (expected_offset network);
               most = expected_most (expected_offset network) (amount network.dmax)
-                  (amount network.precision) (amount network.calc) refl (at_most _ _ _ range.dmax) (at_most _ _ _ range.precision) (at_most _ _ _ range.calc);
+                  (amount network.precision) (amount network.calc) refl (amount_most _ _ _ range.dmax) (amount_most _ _ _ range.precision) (amount_most _ _ _ range.calc);
             });
         precision = within _ _ network.precision own.precision precision range.precision;
         correction = within _ _ network.correction own.correction correction range.correction;
@@ -286,7 +271,7 @@ is_own network device own range keeps end plan_is precision correction dmax mark
         margin = rw (plan_is, precision, correction)
             (margin_by (expected_offset network) (amount network.dmax) (amount network.precision) (amount network.calc) (amount network.correction)
             (amount network.cycle) network.precision.0 network.cycle.0 network.correction.0 refl
-            (amount_whole _ _ _ range.precision) (amount_whole _ _ _ range.cycle) (amount_whole _ _ _ range.correction) (keeps rules.Correction 0)
+            (its_amount _ _ _ range.precision) (its_amount _ _ _ range.cycle) (its_amount _ _ _ range.correction) (keeps rules.Correction 0)
             (at_least _ _ _ range.cycle));
       };
       periods = λ vl. keeps rules.Periods vl;

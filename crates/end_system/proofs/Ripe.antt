@@ -1,10 +1,9 @@
 -- Frames that are permanent at an end system.
-use Rattle.std.proofs.Common.{◌≡◌, ◌⊎◌, ℕ, ◌+◌, ◌*◌, ◌^◌, ◌<◌, ◌≤◌, ℤ, pos, negsuc, neg_ℤ, ◌+ℤ◌, ◌-ℤ◌, ◌<ℤ◌, ◌≤ℤ◌, Bool, true, false, ◌&&◌, nat_le, int_le, List, [], ◌∷◌, ◌++◌, Option, Some, None, IfSome, SomeIff, MatchBool, unsigned_abs, inl, inr, refl, sym, ap, subst, ◌∙◌, arith}
+use Rattle.std.proofs.Common.{◌≡◌, ℕ, ◌+◌, ◌*◌, ◌^◌, ◌<◌, ◌≤◌, ℤ, pos, neg_ℤ, ◌+ℤ◌, ◌-ℤ◌, ◌<ℤ◌, ◌≤ℤ◌, Bool, true, false, ◌&&◌, nat_le, int_le, List, [], ◌∷◌, ◌++◌, Option, Some, None, IfSome, SomeIff, inl, inr, refl, sym, ap, subst, ◌∙◌, arith}
 use Rattle.std.proofs.lemmas.Bool.{and_parts, both_ways, leb-true}
 use Rattle.std.proofs.lemmas.Int.{ints}
 use Rattle.std.proofs.Math.Nat.{mul-le-mul_left, mul-le-mul_right}
 use Rattle.clock_correction.specs.Deviation.{IsSmall}
-use Rattle.compression.proofs.Held.{int_le-false}
 use Rattle.end_system.proofs.Advance.{not_fallen, number_stays}
 use Rattle.end_system.proofs.Heard.{expected_is, has_numbers}
 use Rattle.end_system.specs.Agendas.{IsAgenda, IsCorrection, IsDispatch, IsSending}
@@ -30,6 +29,7 @@ use Rattle.pcf_values.specs.declared.channel.Channel.TheVariants.{A, B}
 use Rattle.pcf_values.specs.declared.channel.Channel.{Channel}
 use Rattle.pcf_values.specs.declared.members.Members.{Members}
 use Rattle.pcf_values.specs.declared.pcf.Pcf.{Pcf}
+use Rattle.run_law.proofs.control.Verdicts.{enough_not, in_time_by, in_time_not, tells_by}
 use Rattle.run_law.specs.control.Collections.{observation_window}
 use Rattle.run_law.specs.control.Corrections.{correction_value}
 use Rattle.run_law.specs.control.Hearing.{heard_as, heard_enough, heard_by_schedule, is_in_schedule, last_cycle}
@@ -43,6 +43,7 @@ use Rattle.run_law.specs.machines.Calls.{IsLaterMoment, MayCall, MayRipen}
 use Rattle.run_law.specs.machines.Nodes.{ClockTask, Node, Phase, ripening}
 use Rattle.run_law.specs.scenario.Devices.{channel_of_link, is_cm, plan_of}
 use Rattle.schedule_tables.specs.Margins.{expected_offset}
+use Rattle.sync_state.proofs.StateFacts.{integrating_point, no_longer}
 use Rattle.sync_state.specs.Calls.{after, heard_frame, turned_on}
 use Rattle.sync_state.specs.Integration.{Integrates as DoesIntegrate, joined_by}
 use Rattle.sync_state.specs.Plan.{expected_at}
@@ -51,18 +52,11 @@ use Rattle.sync_state.specs.declared.answers.Joined.{Joined}
 use Rattle.sync_state.specs.declared.plan.SyncPlan.{SyncPlan}
 use Rattle.sync_state.specs.declared.state.State.TheVariants.{Off, Integrating, Joining, Synchronised}
 use Rattle.sync_state.specs.declared.state.State.{State}
+use Rattle.tte_lemmas.proofs.Bools.{match_false}
+use Rattle.tte_lemmas.proofs.Integers.{from_zero, int_le-is}
 use Rattle.tte_units.specs.Amount.{amount}
 use Rattle.tte_units.specs.declared.units.Units.{Units}
-
-whole : (low : ℕ) (z : ℤ) → pos low ≤ℤ z → z ≡ pos (unsigned_abs z)
-whole low (pos n) h = refl
-whole low (negsuc n) h = absurd (omega (arith, ints))
-
-cases_int : (a b : ℤ) → (a <ℤ b) ⊎ (b ≤ℤ a)
-cases_int a b = grind (arith, ints)
-
-at_most_is : (a b : ℤ) → int_le a b ≡ true → a ≤ℤ b
-at_most_is a b e = elim (cases_int b a) [ inl lt ↦ absurd (both_ways _ (int_le-false a b lt) e) | inr ge ↦ ge ]
+use Rattle.end_system.proofs.Correct.{heard_nothing}
 
 -- ---- the range of points
 
@@ -76,7 +70,7 @@ pub point_low : (network : Network) (device : DeviceId) (node : Node) (own : Own
     → IsOwnOf network device own → pos 0 ≤ℤ node.last.reading.0 → MayCall network device node moment ripening
     → MayRipen network device node moment link frame point → neg_ℤ (pos (2 ^ 40)) ≤ℤ point.0
 point_low network device node own moment link frame point is begun may ripens =
-    low_point moment.reading.0 point.0 network.precision.0 (amount network.precision) (whole _ network.precision.0 is.in_range.precision.least)
+    low_point moment.reading.0 point.0 network.precision.0 (amount network.precision) (from_zero _ network.precision.0 is.in_range.precision.least)
     (has_numbers network device own is).precision_most (not_fallen node.last.reading.0 moment.reading.0 begun may.later.reading) ripens.in_time
 
 pub point_high : (network : Network) (device : DeviceId) (node : Node) (moment : Moment) (link : LinkId) (frame : Pcf) (point : Units)
@@ -88,16 +82,8 @@ point_high network device node moment link frame point may ripens = high_point m
 not_within : (r : Ripe) → r ≡ Within → r ≡ Outside → ⊥
 not_within r a b = cc
 
-in_time_by : (b : Bool) → ripe_as (heard_by_schedule b) ≡ Within → b ≡ true
-in_time_by true e = refl
-in_time_by false e = absurd cc
-
 ignored_not : Ignored ≡ Within → ⊥
 ignored_not e = cc
-
-enough_not : (b : Bool) → ripe_as (heard_enough b) ≡ Within → ⊥
-enough_not true e = cc
-enough_not false e = cc
 
 within_in : (own : Own) (state : State) (adjustment point : ℤ) (cycle : ℕ) (members : Members) (p : ℤ)
     → ripe_as (heard_as own.plan p state adjustment point cycle members) ≡ Within
@@ -124,10 +110,10 @@ is_heard_so network device own s frame point is plan low high e =
       cycle = leb-true frame.cycle last_cycle test.0;
       from =
           subst (λ (u : Units). (expected_at s.plan frame.cycle -ℤ pos (amount u)) ≤ℤ (point.0 +ℤ s.adjustment.0)) same
-          (subst (λ (p : _). (expected_at p frame.cycle -ℤ pos (amount own.precision)) ≤ℤ (point.0 +ℤ s.adjustment.0)) plan_same (at_most_is _ _ times.0));
+          (subst (λ (p : _). (expected_at p frame.cycle -ℤ pos (amount own.precision)) ≤ℤ (point.0 +ℤ s.adjustment.0)) plan_same (int_le-is _ _ times.0));
       to =
           subst (λ (u : Units). (point.0 +ℤ s.adjustment.0) ≤ℤ (expected_at s.plan frame.cycle +ℤ pos (amount u))) same
-          (subst (λ (p : _). (point.0 +ℤ s.adjustment.0) ≤ℤ (expected_at p frame.cycle +ℤ pos (amount own.precision))) plan_same (at_most_is _ _ times.1));
+          (subst (λ (p : _). (point.0 +ℤ s.adjustment.0) ≤ℤ (expected_at p frame.cycle +ℤ pos (amount own.precision))) plan_same (int_le-is _ _ times.1));
       low = low;
       high = high;
     }
@@ -145,7 +131,7 @@ not_the_end network device own s heard frame before reading is plan h end later 
     let r = has_numbers network device own is in
     too_late frame.cycle (amount network.cycle) (amount network.correction) (expected_offset network) (amount network.precision)
     (correction_value network (2 ^ 20 + 2 ^ 17 + 1)) (expected_at s.plan frame.cycle) reading before frame.point.0 s.adjustment.0 network.precision.0
-    h.cycle refl (expected_is network device own s.plan frame.cycle is plan) end.passed (whole _ network.precision.0 is.in_range.precision.least) later soon
+    h.cycle refl (expected_is network device own s.plan frame.cycle is plan) end.passed (from_zero _ network.precision.0 is.in_range.precision.least) later soon
     h.to r.margin
 
 better_so : (network : Network) (s : Standing) (o : Option HeardFrame) (later best : HeardFrame) → IsBetterOf o later best → IfSome o (IsHeardSo network s)
@@ -246,14 +232,6 @@ keeps network device node e heard moment link frame point false stands may ripen
 
 -- ---- it takes the time from a frame
 
-tells_by : (b : Bool) → ripe_as (heard_enough b) ≡ Integrates → b ≡ true
-tells_by true e = refl
-tells_by false e = absurd cc
-
-in_time_not : (b : Bool) → ripe_as (heard_by_schedule b) ≡ Integrates → ⊥
-in_time_not true e = cc
-in_time_not false e = cc
-
 ignored_tells_not : Ignored ≡ Integrates → ⊥
 ignored_tells_not e = cc
 
@@ -302,9 +280,6 @@ not_last n h e = omega arith
 
 pub early_enough : (n : ℕ) → n ≤ 2 ^ 20 + 2 ^ 17 → n ≤ 2 ^ 21 + 2 ^ 18
 early_enough n h = omega arith
-
-heard_nothing : (network : Network) (s : Standing) (heard : Summary) → heard ≡ silence → AreHeardSo network s heard
-heard_nothing network s heard e = subst (AreHeardSo network s) (sym e) (record { a = tt; b = tt })
 
 pub joins : (network : Network) (device : DeviceId) (node : Node) (e : EndSystem) (sync : Standing) (heard : Summary) (agenda : Agenda) (moment : Moment)
     (link : LinkId) (frame : Pcf) (point : Units) → StandsAsEnd e network device node → IsTold e network device node moment link frame point
@@ -382,10 +357,6 @@ wide_range z low high = (omega (arith, ints), omega (arith, ints))
 
 -- ---- what becomes of a frame
 
-match_false : (b : Bool) (X Y : Type 0) → b ≡ false → Y → MatchBool b X Y
-match_false true X Y e y = absurd cc
-match_false false X Y e y = y
-
 pub ripe_at : (network : Network) (device : DeviceId) (node : Node) (e : EndSystem) (frame : Pcf) (point : Units) (is : Ripe)
     → StandsAsEnd e network device node → is ≡ heard_by e.own e.sync frame point → IsPermanenceOutcomeAt network device node frame point is
 ripe_at network device node e frame point is stands r =
@@ -460,15 +431,9 @@ off_not state a b = cc
 off_point : (state : State) (n k : ℕ) → state ≡ Off → point_in state n ≡ Some k → ⊥
 off_point state n k e p = let h : point_in Off n ≡ Some k = subst (λ (x : State). point_in x n ≡ Some k) e p in cc
 
-integrating_not : Integrating ≡ Synchronised → ⊥
-integrating_not e = cc
-
-integrating_point : (n k : ℕ) → point_in Integrating n ≡ Some k → ⊥
-integrating_point n k e = cc
-
 on_sending : (network : Network) (device : DeviceId) (s : Standing) (changed : ℤ) (done : List ClockTask) (o : Option Appointment) → s.state ≡ Off
     → IsSending network device s changed done o → IsSending network device (after s turned_on) changed done o
-on_sending network device s changed done None off is = λ master st. integrating_not st
+on_sending network device s changed done None off is = λ master st. no_longer st
 on_sending network device s changed done (Some next) off is = absurd (off_not s.state off is.1)
 
 on_correction : (network : Network) (s : Standing) (changed : ℤ) (done : List ClockTask) (o : Option Appointment) → s.state ≡ Off
@@ -478,7 +443,7 @@ on_correction network s changed done (Some next) off is = absurd (off_point s.st
 
 on_dispatch : (network : Network) (device : DeviceId) (s : Standing) (changed : ℤ) (done : List ClockTask) (o : Option Dispatch) → s.state ≡ Off
     → IsDispatch network device s changed done o → IsDispatch network device (after s turned_on) changed done o
-on_dispatch network device s changed done None off is = λ st. absurd (integrating_not st)
+on_dispatch network device s changed done None off is = λ st. absurd (no_longer st)
 on_dispatch network device s changed done (Some next) off is = absurd (off_not s.state off is.0)
 
 frame_still : (network : Network) (s t : Standing) (frame : HeardFrame) → s.plan ≡ t.plan → s.adjustment ≡ t.adjustment → IsHeardSo network s frame

@@ -1,12 +1,11 @@
 -- The dispatch that comes next, among the slots of a device.
-use Rattle.std.proofs.Common.{◌≡◌, ◌⊎◌, inl, inr, ℕ, zero, suc, ◌+◌, ◌-◌, ◌*◌, ◌/◌, ◌%◌, ◌<◌, ◌≤◌, ◌^◌, ℤ, pos, ◌-ℤ◌, ◌<ℤ◌, ◌≤ℤ◌, List, [], ◌∷◌, ◌++◌, get_or, Option, Some, None, refl, ap, sym, ◌∙◌, subst, arith}
+use Rattle.std.proofs.Common.{◌≡◌, inl, inr, ℕ, zero, suc, ◌+◌, ◌-◌, ◌*◌, ◌/◌, ◌%◌, ◌<◌, ◌≤◌, ◌^◌, ℤ, pos, ◌-ℤ◌, ◌<ℤ◌, ◌≤ℤ◌, List, [], ◌∷◌, ◌++◌, Option, Some, None, refl, ap, sym, ◌∙◌, subst, arith}
 use Rattle.std.proofs.lemmas.Int.{ints}
 use Rattle.std.proofs.lemmas.List.Elements.{All-contains}
-use Rattle.std.proofs.lemmas.Option.{slice_get_within}
 use Rattle.std.proofs.Math.Nat.{div-add-mod, mod-lt, mul-le-mul_right}
 use Rattle.std.specs.List.{Contains}
 use Rattle.std.specs.Option.{option_map_or}
-use Rattle.end_system.proofs.Advance.{done_now, done_still, none_there, was_done}
+use Rattle.end_system.proofs.Advance.{done_now, done_still, was_done}
 use Rattle.end_system.proofs.Tasks.{later_value}
 use Rattle.end_system.proofs.Values.{at_least}
 use Rattle.end_system.specs.Agendas.{IsDispatch}
@@ -17,7 +16,6 @@ use Rattle.end_system.specs.declared.own.Own.{Own}
 use Rattle.end_system.specs.declared.rows.Dispatch.{Dispatch}
 use Rattle.end_system.specs.declared.rows.Rows.{Rows}
 use Rattle.end_system.specs.declared.rows.Slot.{Slot}
-use Rattle.net_plan.specs.Ranges.{IsInRange}
 use Rattle.net_plan.specs.declared.ids.DeviceId.{DeviceId}
 use Rattle.net_plan.specs.declared.ids.LinkId.{LinkId}
 use Rattle.net_plan.specs.declared.ids.RowId.{RowId}
@@ -30,22 +28,10 @@ use Rattle.schedule_tables.specs.Dispatches.{IsBelow, dispatch_order}
 use Rattle.sync_state.specs.Standing.{Standing}
 use Rattle.sync_state.specs.declared.plan.SyncPlan.{SyncPlan}
 use Rattle.sync_state.specs.declared.state.State.TheVariants.{Synchronised}
+use Rattle.tte_lemmas.proofs.Lists.{none_in, period_divides}
+use Rattle.tte_lemmas.proofs.Naturals.{cases_of}
 use Rattle.tte_units.specs.Amount.{amount}
 use Rattle.tte_units.specs.declared.units.Units.{Units}
-
--- each period divides 64
-period_divides : (n p : ℕ) → Contains (1 ∷ 2 ∷ 4 ∷ 8 ∷ 16 ∷ 32 ∷ 64 ∷ []) p → n % 64 % p ≡ n % p
-period_divides n p has = at_place n p has.0 has.1 has.2
-  where
-    at_place : (n p k : ℕ) → k < 7 → get_or (1 ∷ 2 ∷ 4 ∷ 8 ∷ 16 ∷ 32 ∷ 64 ∷ []) k p ≡ p → n % 64 % p ≡ n % p
-    at_place n p zero within at = rw (← at) (omega arith)
-    at_place n p (suc zero) within at = rw (← at) (omega arith)
-    at_place n p (suc (suc zero)) within at = rw (← at) (omega arith)
-    at_place n p (suc (suc (suc zero))) within at = rw (← at) (omega arith)
-    at_place n p (suc (suc (suc (suc zero)))) within at = rw (← at) (omega arith)
-    at_place n p (suc (suc (suc (suc (suc zero))))) within at = rw (← at) (omega arith)
-    at_place n p (suc (suc (suc (suc (suc (suc zero)))))) within at = rw (← at) (omega arith)
-    at_place n p (suc (suc (suc (suc (suc (suc (suc k))))))) within at = absurd (omega arith)
 
 -- ---- slots, and rows that leave in a cycle
 
@@ -128,9 +114,6 @@ is_at network device own rows s adjustment first bound next is of same found =
     ∙ ap (λ (u : Units). value_of network (dispatching next.slot.row next.cycle) -ℤ u.0) (sym same)))
 
 -- ---- the first behind a local value
-
-cases_of : (a b : ℕ) → (a < b) ⊎ ((a ≡ b) ⊎ (b < a))
-cases_of a b = grind arith
 
 same_block : (first cycle n : ℕ) → first ≡ cycle - cycle % 64 → first ≤ n → n < cycle → (n < first + 64) × (n % 64 < cycle % 64)
 same_block first cycle n e a b = (omega arith, omega arith)
@@ -220,7 +203,7 @@ first_is_next network device own rows s adjustment local value first bound next 
         leaves = leaves network device own next.slot next.cycle is of found.slot.residue start;
         ahead = subst (λ (n : ℕ). local <ℤ pos (next.cycle * n + offset_of network next.slot.row)) (length_is network device own is)
             (subst (λ (n : ℕ). local <ℤ pos (next.cycle * c + n)) (sym (offset_is network device next.slot of)) (up_to_value local value _ behind.least ahead));
-        done_before = λ other n there. absurd (none_there (dispatching other n) there);
+        done_before = λ other n there. absurd (none_in (dispatching other n) there);
         rest = λ other n h later sooner.
             let slot = slot_of network device other n h in
             let one = is_slot network device own other n is h in
@@ -377,7 +360,7 @@ no_rows : (network : Network) (device : DeviceId) (own : Own) (rows : Rows) → 
     → (row : RowId) (cycle : ℕ) → Leaves network device row cycle → ⊥
 no_rows network device own rows is are none row cycle h =
     let there = (slot_in network device own rows row cycle is are h).there in
-    none_there (slot_of network device row cycle h) (subst (λ (xs : List Slot). Contains xs (slot_of network device row cycle h)) none there)
+    none_in (slot_of network device row cycle h) (subst (λ (xs : List Slot). Contains xs (slot_of network device row cycle h)) none there)
 
 pub first_next : (network : Network) (device : DeviceId) (own : Own) (rows : Rows) (s : Standing) (adjustment : Units) (local : ℤ) (value first : ℕ)
     (bound : Slot) (o : Option Dispatch) → IsOwnOf network device own → AreRowsOf network device rows → s.adjustment ≡ adjustment → s.state ≡ Synchronised
@@ -397,12 +380,3 @@ next_next network device own rows s changed done adjustment last first bound Non
     λ sync row cycle h. no_rows network device own rows is are found row cycle h
 next_next network device own rows s changed done adjustment last first bound (Some next) is are same at was after found =
     next_is_next network device own rows s changed done adjustment last first bound next is are same at was after found
-
--- a row's number is not the last of numbers
-pub row_before : (network : Network) (device : DeviceId) (rows : Rows) (slot : Slot) → IsInRange network → AreRowsOf network device rows
-    → Contains rows.slots.items slot → slot.row.0 + 1 < 2 ^ 32
-row_before network device rows slot range are there =
-    let of : IsSlotOf network device slot = All-contains (IsSlotOf network device) rows.slots.items slot are.sound there in
-    let within = slice_get_within network.row slot.row.0 of.entry.row of.is.row in
-    let few = range.few_rows in
-    omega (arith, within, few)

@@ -1,22 +1,24 @@
 -- The first dispatch of a device that comes no earlier than a bound.
-use Rattle.std.proofs.Common.{◌≡◌, ◌⊎◌, inl, inr, ⊎_elim, ℕ, ◌+◌, ◌*◌, ◌%◌, ◌<◌, ◌≤◌, ◌^◌, ℤ, pos, ◌-ℤ◌, List, ◌∷◌, length, Some, refl, sym, subst, arith}
+use Rattle.std.proofs.Common.{◌≡◌, inl, inr, ⊎_elim, ℕ, ◌+◌, ◌*◌, ◌%◌, ◌<◌, ◌≤◌, ◌^◌, ℤ, pos, ◌-ℤ◌, List, ◌∷◌, length, Some, refl, sym, subst, arith}
 use Rattle.std.specs.Prelude.{slice_get}
 use Rattle.std.specs.List.{Contains}
 use Rattle.std.proofs.Math.Nat.{mul-le-mul_left}
+use Rattle.std.proofs.lemmas.Bool.{cases_lt}
 use Rattle.std.proofs.lemmas.Option.{get_or_from_slice_get, slice_get_within}
 use Rattle.end_system.proofs.KeyOrder.{slot_cmp, slot_compares}
 use Rattle.end_system.proofs.Search.{Ends, IsOrder, no_earlier, not_before, not_below}
-use Rattle.end_system.proofs.Values.{at_most}
 use Rattle.end_system.specs.RowSlots.{AreInOrder, AreRowsOf, IsNextFrom, IsSlotOf, key_of, numbers_of}
 use Rattle.end_system.specs.declared.own.Own.{Own}
 use Rattle.end_system.specs.declared.rows.Dispatch.{Dispatch}
 use Rattle.end_system.specs.declared.rows.Rows.{Rows}
 use Rattle.end_system.specs.declared.rows.Slot.{Slot}
+use Rattle.net_plan.proofs.InRange.{amount_most}
 use Rattle.net_plan.specs.Ranges.{IsInRange}
 use Rattle.net_plan.specs.declared.ids.DeviceId.{DeviceId}
 use Rattle.net_plan.specs.declared.network.Network.{Network}
-use Rattle.schedule_tables.proofs.EntryLemmas.{all_at, in_range}
+use Rattle.schedule_tables.proofs.EntryLemmas.{in_range}
 use Rattle.schedule_tables.specs.Dispatches.{IsBelow}
+use Rattle.tte_lemmas.proofs.Lists.{in_all}
 use Rattle.tte_units.specs.Amount.{amount}
 
 -- where the search for the bound ends
@@ -25,9 +27,6 @@ SlotEnds slots bound place = Ends slot_cmp slots bound place
 
 pub slot_order : IsOrder key_of slot_cmp
 slot_order = record { compares = slot_compares; as_many = λ s t. refl }
-
-before_or_not : (i j : ℕ) → (i < j) ⊎ (j ≤ i)
-before_or_not i j = grind arith
 
 -- the numbers of a cycle and of a slot in it, in 64 cycles
 in_block : (first n c r q : ℕ) → first % 64 ≡ 0 → c ≡ first + q → q < 64 → r ≡ n % 64 → first ≤ n → n ≤ c → (n < c → r < q) × (n ≡ c → r ≡ q)
@@ -85,7 +84,7 @@ first_later own rows adjustment first place bound next order ends whole past at 
       (λ (lt : n < first + 64). let e = not_before key_of slot_cmp slot_order rows.slots.items bound place ends slot is.there (from.behind lt) in let w =
       is.there.1 in absurd (omega (arith, e, w, past)))
       (λ (le : first + 64 ≤ n). le)
-      (before_or_not n (first + 64)))
+      (cases_lt n (first + 64)))
       (λ lt. omega arith)
       (subst (λ (k : ℕ). IsBelow (n ∷ numbers_of slot) (k ∷ numbers_of next.slot)) cycle below);
   at = time;
@@ -107,9 +106,9 @@ few_cycles first c h long = let k : first * 2 ^ 32 ≤ first * c = mul-le-mul_le
 pub slot_offset : (network : Network) (device : DeviceId) (slot : Slot) → IsInRange network → IsSlotOf network device slot → slot.offset ≤ 2 ^ 40
 slot_offset network device slot range is =
     let in_range = in_range network slot.row.0 is.entry range is.is in
-    subst (λ (n : ℕ). n ≤ 2 ^ 40) (sym is.offset) (at_most 0 (2 ^ 40) is.entry.row.offset in_range.row.offset)
+    subst (λ (n : ℕ). n ≤ 2 ^ 40) (sym is.offset) (amount_most 0 (2 ^ 40) is.entry.row.offset in_range.row.offset)
 
 -- what is known of a slot at a place
 pub slot_at : (network : Network) (device : DeviceId) (rows : Rows) (place : ℕ) (slot : Slot) → AreRowsOf network device rows
     → slice_get rows.slots.items place ≡ Some slot → IsSlotOf network device slot
-slot_at network device rows place slot are at = all_at (IsSlotOf network device) rows.slots.items place slot are.sound at
+slot_at network device rows place slot are at = in_all (IsSlotOf network device) rows.slots.items place slot are.sound at

@@ -1,14 +1,15 @@
 -- A search among things in order, each with its numbers.
-use Rattle.std.proofs.Common.{◌≡◌, ◌⊎◌, ⊎_elim, true, false, ℕ, ◌<◌, ◌≤◌, List, length, get_or, Some, ap, sym, ◌∙◌, subst, arith, is_lt}
+use Rattle.std.proofs.Common.{◌≡◌, ⊎_elim, true, false, ℕ, ◌<◌, ◌≤◌, List, length, get_or, Some, ap, sym, ◌∙◌, subst, arith, is_lt}
 use Rattle.std.specs.Prelude.{slice_get}
 use Rattle.std.specs.List.{AllPairs, Contains}
 use Rattle.std.specs.List.Sorted.{IsPartitionPoint, IsPartitionedBy}
 use Rattle.std.specs.declared.cmp.Ordering.{Ordering}
-use Rattle.std.proofs.lemmas.Bool.{cases_Bool}
+use Rattle.std.proofs.lemmas.Bool.{cases_Bool, cases_lt}
 use Rattle.std.proofs.lemmas.Option.{get_or_from_slice_get, slice_get_within}
 use Rattle.end_system.proofs.KeyOrder.{Compares, lt_false, lt_true}
 use Rattle.schedule_tables.proofs.OrderLemmas.{below_itself, below_mono}
 use Rattle.schedule_tables.specs.Dispatches.{IsBelow}
+use Rattle.tte_lemmas.proofs.Naturals.{above_or_same}
 
 -- the comparison is that of the numbers, of which each thing has as many
 pub record IsOrder {X : Type 0} (numbers : X → List ℕ) (cmp : X → X → Ordering) : Type 0 where
@@ -22,12 +23,6 @@ Ascends numbers xs = AllPairs (λ x later. IsBelow (numbers later) (numbers x) �
 -- where the search for a bound ends
 abbrev pub Ends : {X : Type 0} → (X → X → Ordering) → List X → X → ℕ → Type 0
 Ends cmp xs bound place = IsPartitionPoint (λ x. is_lt (cmp x bound) ≡ true) (λ x. is_lt (cmp x bound) ≡ false) xs place
-
-above_or_same : (i j : ℕ) → i ≤ j → (i < j) ⊎ (i ≡ j)
-above_or_same i j h = grind arith
-
-before_or_not : (i j : ℕ) → (i < j) ⊎ (j ≤ i)
-before_or_not i j = grind arith
 
 -- what is below a bound stands first
 pub parted : {X : Type 0} (numbers : X → List ℕ) (cmp : X → X → Ordering) → IsOrder numbers cmp → (bound : X) (xs : List X) → Ascends numbers xs
@@ -55,7 +50,7 @@ not_before numbers cmp laws xs bound place ends x has out =
     absurd (out
     (lt_true _ (numbers x) (numbers bound) (laws.compares x bound) (ap (λ y. is_lt (cmp y bound)) (sym has.2) ∙ ends.0 has.0 x (omega arith) l))))
     (λ (l : place ≤ has.0). l)
-    (before_or_not has.0 place)
+    (cases_lt has.0 place)
 
 -- what stands there is not below it
 pub not_below : {X : Type 0} (numbers : X → List ℕ) (cmp : X → X → Ordering) → IsOrder numbers cmp → (xs : List X) (bound : X) (place : ℕ)

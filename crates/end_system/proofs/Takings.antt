@@ -1,12 +1,11 @@
 -- Frames that an end system takes.
-use Rattle.std.proofs.Common.{◌≡◌, ⊎_elim, ℕ, zero, suc, ◌<◌, ◌==◌, ◌||◌, not, int_lt, Bool, true, false, ℤ, List, [], ◌∷◌, ◌++◌, length, Option, Some, None, refl, ap, sym, ◌∙◌, subst, arith, if◌then◌else◌}
+use Rattle.std.proofs.Common.{◌≡◌, ⊎_elim, ℕ, ◌<◌, ◌==◌, ◌||◌, not, int_lt, Bool, true, false, ℤ, List, [], ◌∷◌, ◌++◌, length, Option, Some, None, refl, ap, sym, ◌∙◌, subst, if◌then◌else◌}
 use Rattle.std.proofs.lemmas.Bool.{cases_Bool, eqb-true, eqb-false}
 use Rattle.std.proofs.lemmas.List.Elements.{filter-append}
 use Rattle.std.proofs.lemmas.Option.{slice_get_within}
 use Rattle.std.specs.Int.{int_div_euclid, int_rem_euclid}
 use Rattle.std.specs.List.{filter, last_or}
 use Rattle.std.specs.Prelude.{option_and_then, option_map, slice_get, slice_set}
-use Rattle.end_system.proofs.OwnLemmas.{one_some}
 use Rattle.end_system.specs.EnteringRows.{AreEntering, fault_of, last_by, row_by}
 use Rattle.end_system.specs.Owns.{IsOwnOf}
 use Rattle.end_system.specs.declared.entering.Entering.{Entering}
@@ -30,13 +29,15 @@ use Rattle.run_law.specs.timed.Arrivals.{entry_arrival, entry_entering, entry_of
 use Rattle.schedule_tables.specs.Windows.{window_of}
 use Rattle.schedule_tables.specs.declared.entry.Entry.{Entry}
 use Rattle.sync_state.specs.declared.plan.SyncPlan.{SyncPlan}
+use Rattle.tte_lemmas.proofs.Lists.{append_none, last_pushed, set_other, set_same}
+use Rattle.tte_lemmas.proofs.Options.{one}
 
 -- ---- the row that the search gives
 
 -- the row is that of an entry
 pub row_is : (n : Network) (row : EnteringRow) (o : Option Entry) → Some row ≡ option_map (row_by n) o → (e : Entry) × (o ≡ Some e) × (row ≡ row_by n e)
 row_is n row None h = absurd cc
-row_is n row (Some e) h = (e, refl, one_some (Some row) row (row_by n e) refl h)
+row_is n row (Some e) h = (e, refl, one (Some row) row (row_by n e) refl h)
 
 pub none_is : (n : Network) (o : Option Entry) → None ≡ option_map (row_by n) o → o ≡ None
 none_is n None h = refl
@@ -48,7 +49,7 @@ vl_by row None m e h = absurd cc
 vl_by row (Some vl) None e h = absurd cc
 vl_by row (Some vl) (Some l) e h =
     let it : Entry = record { row = row; vl = vl; link = l } in
-    let same : it ≡ e = one_some (Some it) it e refl h in
+    let same : it ≡ e = one (Some it) it e refl h in
     (ap (λ (x : Entry). x.row) same, ap (λ (x : Entry). Some x.vl) same)
 
 entry_there : (n : Network) (o : Option Row) (e : Entry) → option_and_then (entry_of n) o ≡ Some e → slice_get n.vl e.row.vl.0 ≡ Some e.vl
@@ -153,27 +154,7 @@ pub last_is : (n : Network) (d : DeviceId) (link : LinkId) (id : ℕ) (taken : L
 last_is n d link id taken e row last are found at =
     let it = row_is n row (entry_entering n d link id) found in
     let within : row.vl.0 < length n.vl = subst (λ (r : EnteringRow). r.vl.0 < length n.vl) (sym it.2) (vl_there n d link id it.0 it.1) in
-    one_some (slice_get e.taken.items row.vl.0) last (last_by taken row.vl) at (are.last row.vl within)
-
-set_same : {X : Type 0} (xs : List X) (i : ℕ) (x : X) → i < length xs → slice_get (slice_set xs i x) i ≡ Some x
-set_same [] i x h = absurd (omega (arith, h))
-set_same (y ∷ xs) zero x h = refl
-set_same (y ∷ xs) (suc i) x h = set_same xs i x (omega (arith, h))
-
-set_other : {X : Type 0} (xs : List X) (i j : ℕ) (x : X) → (i ≡ j → ⊥) → slice_get (slice_set xs i x) j ≡ slice_get xs j
-set_other [] i j x h = refl
-set_other (y ∷ xs) zero zero x h = absurd (h refl)
-set_other (y ∷ xs) zero (suc j) x h = refl
-set_other (y ∷ xs) (suc i) zero x h = refl
-set_other (y ∷ xs) (suc i) (suc j) x h = set_other xs i j x (λ e. h (ap suc e))
-
-last_pushed : {X : Type 0} (o : Option X) (xs : List X) (x : X) → last_or o (xs ++ x ∷ []) ≡ Some x
-last_pushed o [] x = refl
-last_pushed o (y ∷ xs) x = last_pushed (Some y) xs x
-
-append_none : {X : Type 0} (xs : List X) → xs ++ [] ≡ xs
-append_none [] = refl
-append_none (x ∷ xs) = ap (λ ys. x ∷ ys) (append_none xs)
+    one (slice_get e.taken.items row.vl.0) last (last_by taken row.vl) at (are.last row.vl within)
 
 last_more : (taken : List TakenFrame) (taking : TakenFrame) (vl : VlId) → (taking.vl.0 == vl.0) ≡ true → last_by (taken ++ taking ∷ []) vl ≡ Some taking.cycle
 last_more taken taking vl h =

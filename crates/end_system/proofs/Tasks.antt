@@ -1,5 +1,5 @@
 -- What an end system has to do, and what of it comes first.
-use Rattle.std.proofs.Common.{◌≡◌, ◌⊎◌, ℕ, ◌+◌, ◌*◌, ◌<◌, ◌≤◌, ℤ, pos, negsuc, ◌+ℤ◌, ◌-ℤ◌, ◌<ℤ◌, ◌≤ℤ◌, Bool, true, false, List, [], ◌∷◌, Option, Some, None, IsSomeAnd, IfSome, slice_get, unsigned_abs, inl, inr, refl, sym, ap, subst, ◌∙◌, arith}
+use Rattle.std.proofs.Common.{◌≡◌, ℕ, ◌+◌, ◌*◌, ◌<◌, ◌≤◌, ℤ, pos, negsuc, ◌+ℤ◌, ◌-ℤ◌, ◌<ℤ◌, ◌≤ℤ◌, true, false, List, [], ◌∷◌, Option, Some, None, IsSomeAnd, IfSome, slice_get, unsigned_abs, inl, inr, refl, sym, ap, subst, ◌∙◌, arith}
 use Rattle.std.proofs.lemmas.Int.{ints}
 use Rattle.std.proofs.Math.Nat.{mul-le-mul_right}
 use Rattle.std.specs.Option.{option_map_or}
@@ -21,15 +21,16 @@ use Rattle.run_law.specs.machines.Nodes.{ClockTask, Node, sending, correcting, d
 use Rattle.run_law.specs.machines.Tasks.{HasFrame, IsDueReading, IsFirstTask, IsPending, Task, emitting, doing, offset_of, order_of, reading_for, value_of}
 use Rattle.run_law.specs.records.Order.{IsBefore}
 use Rattle.run_law.specs.scenario.Devices.{is_end}
+use Rattle.schedule_tables.proofs.OrderLemmas.{below_itself}
 use Rattle.schedule_tables.specs.Dispatches.{IsBelow, dispatch_order}
 use Rattle.sync_state.specs.Standing.{Standing}
+use Rattle.tte_lemmas.proofs.Bools.{not_both}
+use Rattle.tte_lemmas.proofs.Integers.{never_both, through}
+use Rattle.tte_lemmas.proofs.Naturals.{cases_of, none_less}
 use Rattle.tte_units.specs.Amount.{amount}
 use Rattle.tte_units.specs.declared.units.Units.{Units}
 
 -- ---- what is pending is ahead
-
-not_both : (b : Bool) → b ≡ true → b ≡ false → ⊥
-not_both b t f = cc
 
 abbrev pub IsAheadTask : Network → DeviceId → Node → Task → Type 0
 IsAheadTask network device node (emitting sent) = ⊥
@@ -69,9 +70,6 @@ pending_task network device node (dispatching row cycle) sound h =
 not_less : (a b : ℕ) → (a < b → ⊥) → b ≤ a
 not_less a b out = grind arith
 
-none_less : (n : ℕ) → n < n → ⊥
-none_less n h = omega arith
-
 same_point : (m n : ℕ) → Some m ≡ Some n → n ≡ m
 same_point m n e = cc
 
@@ -89,13 +87,10 @@ sending_some network device s changed done (Some next) cycle is h =
     later_reading (amount network.cycle) cycle next.cycle next.at.0 s.adjustment.0 is.3
     (not_less cycle next.cycle (λ lt. h.not_yet (is.2.rest cycle h.own.2 h.ahead lt)))
 
-not_ahead : (x y : ℤ) → x <ℤ y → y ≤ℤ x → ⊥
-not_ahead x y a b = omega (arith, ints)
-
 pub correction_some : (network : Network) (device : DeviceId) (s : Standing) (changed : ℤ) (done : List ClockTask) (o : Option Appointment) (cycle : ℕ)
     → IsCorrection network s changed done o → IsAhead network device s changed done (correcting cycle)
     → IsSomeAnd o (λ next. next.at.0 ≤ℤ (value_of network (correcting cycle) -ℤ s.adjustment.0))
-correction_some network device s changed done None cycle is h = not_ahead _ _ h.ahead (is cycle h.own)
+correction_some network device s changed done None cycle is h = never_both _ _ h.ahead (is cycle h.own)
 correction_some network device s changed done (Some next) cycle is h =
     let same : cycle ≡ next.cycle = same_point next.cycle cycle (sym is.0.point ∙ h.own) in
     subst (λ (n : ℕ). next.at.0 ≤ℤ (value_of network (correcting n) -ℤ s.adjustment.0)) (sym same) (up_to_same _ _ is.1)
@@ -116,9 +111,6 @@ less_in_later c m n a b lt le = let more : (n + 1) * c ≤ m * c = mul-le-mul_ri
 
 less_in_same : (c m n a b : ℕ) → m ≡ n → b ≤ a → n * c + b ≤ m * c + a
 less_in_same c m n a b e le = let same : n * c ≡ m * c = ap (λ (k : ℕ). k * c) (sym e) in omega (arith, same)
-
-cases_of : (a b : ℕ) → (a < b) ⊎ ((a ≡ b) ⊎ (b < a))
-cases_of a b = grind arith
 
 offsets_in_order : (a b : ℕ) (p q : List ℕ) (xs ys : List ℕ) → xs ≡ a ∷ p → ys ≡ b ∷ q → (IsBelow xs ys → ⊥) → b ≤ a
 offsets_in_order a b p q xs ys ex ey out =
@@ -161,9 +153,6 @@ some_and (Some x) P Q p q = (x, (p, q))
 none_some : {X : Type 0} (o : Option X) (P : X → Type 0) → o ≡ None → IsSomeAnd o P → ⊥
 none_some o P e p = subst (λ (x : Option _). IsSomeAnd x P) e p
 
-le_trans : (x y z : ℤ) → x ≤ℤ y → y ≤ℤ z → x ≤ℤ z
-le_trans x y z a b = omega (arith, ints)
-
 -- each task that is ahead comes at a reading from x on, if each kind of the agenda does
 from_least : (network : Network) (device : DeviceId) (own : Own) (node : Node) (agenda : Agenda) (x : ℤ) (task : Task) → IsOwnOf network device own
     → IsAgenda network device node.standing node.changed node.done agenda
@@ -172,13 +161,13 @@ from_least : (network : Network) (device : DeviceId) (own : Own) (node : Node) (
 from_least network device own node agenda x (emitting sent) is a f g d h = absurd h
 from_least network device own node agenda x (doing (sending cycle)) is a f g d h =
     let t = some_and agenda.sending _ _ (sending_some network device node.standing node.changed node.done agenda.sending cycle a.sending h) f in
-    le_trans _ _ _ t.1.1 t.1.0
+    through _ _ _ t.1.1 t.1.0
 from_least network device own node agenda x (doing (correcting cycle)) is a f g d h =
     let t = some_and agenda.correction _ _ (correction_some network device node.standing node.changed node.done agenda.correction cycle a.correction h) g in
-    le_trans _ _ _ t.1.1 t.1.0
+    through _ _ _ t.1.1 t.1.0
 from_least network device own node agenda x (doing (dispatching row cycle)) is a f g d h =
     let t = some_and agenda.dispatch _ _ (dispatch_some network device own node.standing node.changed node.done agenda.dispatch row cycle is a.dispatch h) d in
-    le_trans _ _ _ t.1.1 t.1.0
+    through _ _ _ t.1.1 t.1.0
 
 -- nothing is ahead where the agenda is empty
 none_ahead : (network : Network) (device : DeviceId) (own : Own) (node : Node) (agenda : Agenda) (task : Task) → IsOwnOf network device own
@@ -191,11 +180,6 @@ none_ahead network device own node agenda (doing (correcting cycle)) is a f g d 
     none_some agenda.correction _ g (correction_some network device node.standing node.changed node.done agenda.correction cycle a.correction h)
 none_ahead network device own node agenda (doing (dispatching row cycle)) is a f g d h =
     none_some agenda.dispatch _ d (dispatch_some network device own node.standing node.changed node.done agenda.dispatch row cycle is a.dispatch h)
-
-below_itself : (xs : List ℕ) → IsBelow xs xs → ⊥
-below_itself [] h = h
-below_itself (x ∷ xs) (inl lt) = omega arith
-below_itself (x ∷ xs) (inr p) = below_itself xs p.1
 
 not_sooner_itself : (network : Network) (row : RowId) (cycle : ℕ) → IsSooner network row cycle row cycle → ⊥
 not_sooner_itself network row cycle (inl lt) = omega arith

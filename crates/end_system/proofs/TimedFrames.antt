@@ -1,5 +1,5 @@
 -- Time-triggered frames that arrive at an end system.
-use Rattle.std.proofs.Common.{◌≡◌, ℕ, ℤ, pos, negsuc, unsigned_abs, ◌+ℤ◌, ◌^◌, ◌+◌, ◌≤ℤ◌, ◌<ℤ◌, neg_ℤ, Bool, true, false, not, ◌&&◌, ◌==◌, nat_lt, if◌then◌else◌, List, [], ◌∷◌, Option, Some, None, refl, sym, ap, ◌∙◌, arith}
+use Rattle.std.proofs.Common.{◌≡◌, ℕ, ℤ, pos, ◌+ℤ◌, ◌^◌, ◌+◌, ◌≤ℤ◌, ◌<ℤ◌, neg_ℤ, Bool, true, false, not, ◌==◌, nat_lt, if◌then◌else◌, List, [], ◌∷◌, Option, Some, None, refl, sym, ap, ◌∙◌, arith}
 use Rattle.std.proofs.lemmas.Int.{ints}
 use Rattle.end_system.proofs.Advance.{not_fallen, number_stays}
 use Rattle.end_system.specs.EnteringRows.{AreEntering}
@@ -24,6 +24,8 @@ use Rattle.run_law.specs.machines.Calls.{IsLaterMoment}
 use Rattle.run_law.specs.machines.Nodes.{Node, TakenFrame, arriving, last_taken_by, standpoint_at}
 use Rattle.run_law.specs.timed.Arrivals.{octets_fault, octets_or_fault, timed_arrival}
 use Rattle.sync_state.specs.Standing.{Standing, next_point}
+use Rattle.tte_lemmas.proofs.Bools.{takes_by}
+use Rattle.tte_lemmas.proofs.Integers.{whole}
 
 by_head : (t e s m : Bool) → t ≡ true
     → (if e then Some reasons.RefusedEtherType else (if s then (if m then None else Some reasons.Unknown) else Some reasons.Unsynchronised))
@@ -49,15 +51,12 @@ local_range reading adjustment local e begun low small great = (omega (arith, in
 pub above : (x : ℤ) → pos 0 ≤ℤ x → neg_ℤ (pos (2 ^ 40)) ≤ℤ x
 above x h = omega (arith, ints)
 
-pub takes_at : (off broken : Bool) → off ≡ false → broken ≡ false → (not off && not broken) ≡ true
-takes_at off broken a b = ap (λ (x : Bool). not x && not broken) a ∙ ap (λ (x : Bool). not x) b
-
 -- the head of what arrives is judged as the node says
 pub head_at : (network : Network) (device : DeviceId) (node : Node) (e : EndSystem) (moment : Moment) (octets : List ℕ) → StandsAsEnd e network device node
     → is_off node.standing.state ≡ false → head_fault e.own e.sync.state octets ≡ octets_fault network (standpoint_at node moment) octets
 head_at network device node e moment octets stands on =
     ap (λ (s : Standing). head_fault e.own s.state octets) (sym stands.standing) ∙ head_judged network device e.own (standpoint_at node moment) octets
-    stands.own (takes_at (is_off node.standing.state) node.broken on stands.sound)
+    stands.own (takes_by (is_off node.standing.state) node.broken on stands.sound)
 
 pub fault_arrival : (network : Network) (device : DeviceId) (node : Node) (e : EndSystem) (moment : Moment) (link : LinkId) (octets : List ℕ)
     (o : Option Reason) → StandsAsEnd e network device node → is_off node.standing.state ≡ false → o ≡ head_fault e.own e.sync.state octets
@@ -89,10 +88,6 @@ stands_with network device node e moment entering taken stands later are =
       slot = stands.slot;
       agenda = stands.agenda;
     }
-
-whole : (z : ℤ) → pos 0 ≤ℤ z → z ≡ pos (unsigned_abs z)
-whole (pos n) h = refl
-whole (negsuc n) h = absurd (omega (arith, ints))
 
 pub clock_is : (network : Network) (device : DeviceId) (node : Node) (e : EndSystem) (moment : Moment) (local : ℤ) → StandsAsEnd e network device node
     → pos 0 ≤ℤ moment.reading.0 → local ≡ (moment.reading.0 +ℤ e.sync.adjustment.0) → local ≡ clock_of (standpoint_at node moment)

@@ -1,8 +1,7 @@
 -- The values of an agenda.
-use Rattle.std.proofs.Common.{◌≡◌, true, false, [], Some, None, ℕ, ◌+◌, ◌*◌, ◌/◌, ◌^◌, ◌<◌, ◌≤◌, ℤ, pos, negsuc, ◌-ℤ◌, ◌<ℤ◌, ◌≤ℤ◌, unsigned_abs, refl, sym, ap, subst, ◌∙◌, arith}
+use Rattle.std.proofs.Common.{◌≡◌, true, false, [], Some, None, ℕ, ◌+◌, ◌*◌, ◌/◌, ◌^◌, ◌<◌, ◌≤◌, ℤ, pos, ◌-ℤ◌, ◌<ℤ◌, ◌≤ℤ◌, sym, ap, subst, ◌∙◌, arith}
 use Rattle.std.proofs.lemmas.Int.{ints}
 use Rattle.std.proofs.Math.Nat.{div-lt_iff_lt-mul, div-mul-le_self, lt-div-mul-add, mul-le-mul_left}
-use Rattle.end_system.proofs.Advance.{none_there}
 use Rattle.end_system.specs.Agendas.{IsCorrection, IsDispatch, IsSending}
 use Rattle.end_system.specs.Owns.{IsOwnOf}
 use Rattle.end_system.specs.declared.agenda.Appointment.{Appointment}
@@ -10,33 +9,23 @@ use Rattle.end_system.specs.declared.own.Own.{Own}
 use Rattle.net_plan.specs.Ranges.{IsWithin}
 use Rattle.net_plan.specs.declared.ids.DeviceId.{DeviceId}
 use Rattle.net_plan.specs.declared.network.Network.{Network}
+use Rattle.run_law.proofs.device.States.{is_in}
 use Rattle.run_law.specs.device.States.{is_synchronised}
-use Rattle.run_law.specs.machines.Nodes.{sending, correcting}
+use Rattle.run_law.specs.machines.Nodes.{correcting}
 use Rattle.sync_state.specs.Standing.{Standing, next_point}
 use Rattle.sync_state.specs.declared.plan.SyncPlan.{SyncPlan}
-use Rattle.sync_state.specs.declared.state.State.TheVariants.{Off, Integrating, Joining, Synchronised}
+use Rattle.sync_state.specs.declared.state.State.TheVariants.{Synchronised}
 use Rattle.sync_state.specs.declared.state.State.{State}
+use Rattle.tte_lemmas.proofs.Integers.{from_zero}
+use Rattle.tte_lemmas.proofs.Lists.{none_in}
 use Rattle.tte_units.specs.Amount.{amount}
 use Rattle.tte_units.specs.declared.units.Units.{Units}
-
-whole : (low : ℕ) (z : ℤ) → pos low ≤ℤ z → z ≡ pos (unsigned_abs z)
-whole low (pos n) h = refl
-whole low (negsuc n) h = absurd (omega (arith, ints))
-
-pub amount_whole : (low high : ℕ) (u : Units) → IsWithin low high u → u.0 ≡ pos (amount u)
-amount_whole low high u h = whole low u.0 h.least
 
 amount_least : (low n : ℕ) (z : ℤ) → z ≡ pos n → pos low ≤ℤ z → low ≤ n
 amount_least low n z e h = omega (arith, ints)
 
-amount_most : (high n : ℕ) (z : ℤ) → z ≡ pos n → z ≤ℤ pos high → n ≤ high
-amount_most high n z e h = omega (arith, ints)
-
 pub at_least : (low high : ℕ) (u : Units) → IsWithin low high u → low ≤ amount u
-at_least low high u h = amount_least low (amount u) u.0 (whole low u.0 h.least) h.least
-
-pub at_most : (low high : ℕ) (u : Units) → IsWithin low high u → amount u ≤ high
-at_most low high u h = amount_most high (amount u) u.0 (whole low u.0 h.least) h.most
+at_least low high u h = amount_least low (amount u) u.0 (from_zero low u.0 h.least) h.least
 
 -- ---- the cycle behind a value
 
@@ -81,7 +70,7 @@ next_correction network device own s local next value is point value_is ahead at
       record {
         point = point;
         ahead = subst (λ (n : ℕ). local <ℤ pos n) e ahead;
-        done_before = λ n there. absurd (none_there (correcting n) there);
+        done_before = λ n there. absurd (none_in (correcting n) there);
       },
       subst (λ (n : ℕ). next.at.0 ≡ (pos n -ℤ s.adjustment.0)) e at,
     )
@@ -93,36 +82,8 @@ passed_correction network device own s local cycle value is point value_is passe
     subst (λ (k : ℕ). pos (k * amount network.cycle + amount network.correction) ≤ℤ local) (same_cycle cycle n (sym point ∙ other))
     (subst (λ (k : ℕ). pos k ≤ℤ local) (value_is ∙ correction_is network device own cycle is) passed)
 
-not_before : (n m : ℕ) → m ≤ n → n < m → ⊥
-not_before n m a b = omega arith
-
-is_in : (state : State) → is_synchronised state ≡ true → state ≡ Synchronised
-is_in Off e = absurd cc
-is_in Integrating e = absurd cc
-is_in Joining e = absurd cc
-is_in Synchronised e = refl
-
 is_not_in : (state : State) → is_synchronised state ≡ false → state ≡ Synchronised → ⊥
 is_not_in state e is = let h : is_synchronised Synchronised ≡ false = subst (λ (x : State). is_synchronised x ≡ false) is e in cc
-
-pub next_sending : (network : Network) (device : DeviceId) (own : Own) (s : Standing) (local : ℤ) (next : Appointment) → IsOwnOf network device own
-    → own.is_master ≡ true → is_synchronised s.state ≡ true → 1 ≤ next.cycle → local <ℤ pos (next.cycle * amount own.plan.cycle_length)
-    → ((n : ℕ) → 1 ≤ n → local <ℤ pos (n * amount own.plan.cycle_length) → next.cycle ≤ n)
-    → next.at.0 ≡ (pos (next.cycle * amount own.plan.cycle_length) -ℤ s.adjustment.0) → IsSending network device s local [] (Some next)
-next_sending network device own s local next is master synchronised begun ahead least at =
-    let e = length_is network device own next.cycle is in (
-      sym is.master ∙ master,
-      is_in s.state synchronised,
-      record {
-        begun = begun;
-        ahead = subst (λ (n : ℕ). local <ℤ pos n) e ahead;
-        done_before = λ n there. absurd (none_there (sending n) there);
-        rest =
-            λ n some before lt.
-            absurd (not_before n next.cycle (least n some (subst (λ (k : ℕ). local <ℤ pos k) (sym (length_is network device own n is)) before)) lt);
-      },
-      subst (λ (n : ℕ). next.at.0 ≡ (pos n -ℤ s.adjustment.0)) e at,
-    )
 
 pub no_master : (network : Network) (device : DeviceId) (own : Own) (s : Standing) (local : ℤ) → IsOwnOf network device own → own.is_master ≡ false
     → IsSending network device s local [] None

@@ -2,7 +2,7 @@
 use Rattle.std.proofs.Common.{◌≡◌, ℕ, ◌≤◌, ◌==◌, nat_le, Bool, true, false, List, [], ◌∷◌, ◌++◌, Option, Some, None, if◌then◌else◌, pos, ◌≤ℤ◌, refl, sym, ap, subst, ◌∙◌}
 use Rattle.std.specs.Prelude.{slice_get, slice_set}
 use Rattle.std.specs.List.{All}
-use Rattle.std.proofs.lemmas.Bool.{eq-eqb, eqb-true, false≢true}
+use Rattle.std.proofs.lemmas.Bool.{eq-eqb, false≢true}
 use Rattle.drift_clock.specs.RateSteps.{RateStep}
 use Rattle.drift_clock.specs.Readings.{value_after}
 use Rattle.drift_clock.specs.Segment.{Segment, fresh_segment, stepped_segment}
@@ -28,6 +28,7 @@ use Rattle.event_history.specs.declared.history.EventHistory.{EventHistory}
 use Rattle.event_history.specs.declared.history.WayHistory.{WayHistory}
 use Rattle.event_history.specs.declared.settings.Change.{Change}
 use Rattle.event_history.specs.declared.settings.Settings.{Settings}
+use Rattle.tte_lemmas.proofs.Naturals.{unequal}
 use Rattle.event_history.proofs.Clocking.{clocks_more, value_last}
 use Rattle.event_history.proofs.Keeping.{AreDevicesTold, AreWaysTold, broken_first, broken_stays, clock_stays, device_stays, devices_set, own_way, remembers_more, steps_more, turned_first, turned_stays, way_stays, ways_set}
 use Rattle.event_history.proofs.Valuing.{set_more, set_stays}
@@ -172,10 +173,6 @@ same_way network all link way place ways told new are here at a b c d e f =
 
 -- ---- a rate
 
-not_equal : (a b : ℕ) → (a ≡ b → ⊥) → (a == b) ≡ false
-not_equal a b other = elim (a == b) as (λ x. ((x ≡ true) → ⊥) → x ≡ false) [ true ↦ λ miss. absurd (miss refl) | false ↦ λ miss. refl ]
-    (λ e. other (eqb-true a b e))
-
 pub rate_set : (network : Network) (all : List Event) (event : Event) (device : DeviceId) (rate : Ppb)
     (devices : List DeviceHistory) (told : DeviceHistory) (new : Settings Segment) → AreDevicesTold network all devices
     → slice_get devices device.0 ≡ Some told → event.what ≡ events.Rate device rate
@@ -207,7 +204,7 @@ rate_set network all event device rate devices told new are at what past first m
       turned_on = λ t. turned_stays network all event device t (ap (turns_on device) what) ∙ h.turned_on t;
     })
     (λ d x other h. device_stays network all event d x
-    (ap (step_by d time) what ∙ set_or_none (d.0 == device.0) (let s : RateStep = record { at = time; rate = rate.0 } in s) (not_equal d.0 device.0 other))
+    (ap (step_by d time) what ∙ set_or_none (d.0 == device.0) (let s : RateStep = record { at = time; rate = rate.0 } in s) (unequal d.0 device.0 other))
     (ap (breaks_at d.0) what) (ap (turns_on d) what) h)
 
 -- the devices with one that says what it said
@@ -239,7 +236,7 @@ break_set network all event device time devices told are at what when within =
       turned_on = λ t. turned_stays network all event device t (ap (turns_on device) what) ∙ h.turned_on t;
     })
     (λ d x other h. device_stays network all event d x (ap (step_by d (amount event.time)) what)
-    (ap (breaks_at d.0) what ∙ not_equal device.0 d.0 (λ e. other (sym e))) (ap (turns_on d) what) h)
+    (ap (breaks_at d.0) what ∙ unequal device.0 d.0 (λ e. other (sym e))) (ap (turns_on d) what) h)
 
 pub turn_set : (network : Network) (all : List Event) (event : Event) (device : DeviceId) (time : ℕ) (devices : List DeviceHistory)
     (told : DeviceHistory) → AreDevicesTold network all devices → slice_get devices device.0 ≡ Some told
@@ -257,7 +254,7 @@ turn_set network all event device time devices told are at what when within =
       turned_on = λ t. turned_first network all event device t within what ∙ ap (λ n. n == t) when;
     })
     (λ d x other h. device_stays network all event d x (ap (step_by d (amount event.time)) what) (ap (breaks_at d.0) what)
-    (ap (turns_on d) what ∙ not_equal d.0 device.0 other) h)
+    (ap (turns_on d) what ∙ unequal d.0 device.0 other) h)
 
 -- ---- what concerns no way and no device
 

@@ -15,6 +15,7 @@ use Rattle.run_law.specs.scenario.Hypothesis.{AreWithinHypothesis, IsWithinHypot
 use Rattle.run_law.specs.scenario.Rates.{rate_steps, step_by}
 use Rattle.tte_units.specs.Amount.{amount}
 use Rattle.event_history.specs.Readings.{HaveBegun}
+use Rattle.run_law.proofs.scenario.Devices.{in_turn}
 use Rattle.event_history.proofs.Clocking.{StepsFrom, StepsUpTo, steps_sooner}
 
 -- ---- one event
@@ -70,13 +71,6 @@ begun_in (x ∷ front) e rest begun = begun_in front e rest (λ k d lt. begun (s
 
 begun_at : (all front : List Event) (e : Event) (rest : List Event) → all ≡ front ++ e ∷ rest → HaveBegun all → pos 0 ≤ℤ e.time.0
 begun_at all front e rest same begun = begun_in front e rest (subst HaveBegun same begun)
-
-in_turn : (network : Network) (front : List Event) (last event : Event) → IsWithinHypothesis network (front ++ last ∷ []) event → pos 0 ≤ℤ last.time.0
-    → pos 0 ≤ℤ event.time.0 → amount last.time ≤ amount event.time
-in_turn network front last event within first second = elim (cases_lt (amount event.time) (amount last.time)) [
-  | inl sooner ↦ absurd (within outside.Order (record { front = front; last = last; order = refl; later = omega (arith, ints, sooner, first, second) }))
-  | inr later ↦ later
-]
 
 in_order_behind : (network : Network) (all front rest : List Event) (last : Event) → IsInRange network → all ≡ (front ++ last ∷ []) ++ rest
     → AreWithinHypothesis network all → HaveBegun all → AreEventsFrom network.rho (amount last.time) rest

@@ -1,6 +1,6 @@
 -- A history of no event.
-use Rattle.std.proofs.Common.{◌≡◌, ℕ, zero, suc, ◌+◌, ◌*◌, ◌≤◌, false, List, [], ◌∷◌, ◌++◌, length, Option, Some, refl, sym, ap, subst, arith}
-use Rattle.std.specs.Prelude.{slice_get, take}
+use Rattle.std.proofs.Common.{◌≡◌, ℕ, zero, suc, ◌+◌, ◌*◌, false, List, [], ◌∷◌, ◌++◌, length, Option, Some, refl, sym, ap, subst, arith}
+use Rattle.std.specs.Prelude.{slice_get}
 use Rattle.std.specs.List.{All}
 use Rattle.std.specs.Option.{option_map_or}
 use Rattle.std.proofs.lemmas.Option.{get_or_from_slice_get, slice_get_within}
@@ -21,6 +21,7 @@ use Rattle.event_history.specs.declared.history.DeviceHistory.{DeviceHistory}
 use Rattle.event_history.specs.declared.history.EventHistory.{EventHistory}
 use Rattle.event_history.specs.declared.history.WayHistory.{WayHistory}
 use Rattle.event_history.specs.declared.settings.Settings.{Settings}
+use Rattle.tte_lemmas.proofs.Lists.{none_before}
 
 -- ---- ways
 
@@ -78,13 +79,6 @@ untouched_tells network ways are link way told at =
       cut = untouched_set (cut_set link way) false told.cut h.cut;
     }
 
--- links up to a place, and up to behind it
-pub take_whole : {X : Type 0} (xs : List X) (n : ℕ) → length xs ≤ n → take n xs ≡ xs
-take_whole [] zero le = refl
-take_whole [] (suc n) le = refl
-take_whole (x ∷ xs) zero le = absurd (omega (arith, le))
-take_whole {X} (x ∷ xs) (suc n) le = ap (λ (l : List X). x ∷ l) (take_whole xs n (omega (arith, le)))
-
 -- ---- devices
 
 pub untouched_device : (network : Network) (device : DeviceId) (told : DeviceHistory) → IsUntouchedDevice (amount network.grain) told
@@ -102,10 +96,6 @@ all_untouched network devices all device told at =
     untouched_device network device told
     (subst (IsUntouchedDevice (amount network.grain)) (get_or_from_slice_get devices device.0 told told at)
     (all device.0 told (slice_get_within devices device.0 told at)))
-
-none_before : {X : Type 0} (xs behind : List X) (x : X) → [] ≡ xs ++ x ∷ behind → ⊥
-none_before [] behind x e = absurd cc
-none_before (y ∷ xs) behind x e = absurd cc
 
 pub remembers_none : (network : Network) (history : EventHistory) → IsInRange network → AreWaysOf network.link history.ways.items
     → length history.devices.items ≡ length network.device → All (IsUntouchedDevice (amount network.grain)) history.devices.items

@@ -1,17 +1,16 @@
 -- What a history tells once one more event is added.
-use Rattle.std.proofs.Common.{◌≡◌, ◌⊎◌, inl, inr, ℕ, zero, suc, ◌==◌, ◌&&◌, ◌||◌, nat_le, Bool, true, false, List, [], ◌∷◌, ◌++◌, length, Option, Some, None, if◌then◌else◌, pos, ◌≤ℤ◌, refl, sym, ap, subst, ◌∙◌, arith}
+use Rattle.std.proofs.Common.{◌≡◌, inl, inr, ℕ, zero, suc, ◌==◌, ◌&&◌, ◌||◌, nat_le, Bool, true, false, List, [], ◌∷◌, ◌++◌, length, Option, Some, None, if◌then◌else◌, pos, ◌≤ℤ◌, refl, sym, ap, subst, ◌∙◌, arith}
 use Rattle.std.specs.Prelude.{filter, slice_get, slice_set}
 use Rattle.std.specs.List.{Any, cons_option, list_any}
 use Rattle.std.specs.Result.{MatchResult}
 use Rattle.std.specs.declared.result.Result.{Result}
 use Rattle.std.specs.declared.result.Result.TheVariants.{Ok, Err}
-use Rattle.std.proofs.lemmas.Bool.{and_parts, cases_Bool, eqb-true, eq-eqb, false≢true}
+use Rattle.std.proofs.lemmas.Bool.{and_parts, cases_Bool, eqb-true, eq-eqb, false≢true, and_right, false_from_ne_true}
 use Rattle.std.proofs.lemmas.List.Elements.{filter-append, filter_map-append, All-push}
 use Rattle.std.proofs.lemmas.List.Folds.{list_any-append}
 use Rattle.drift_clock.specs.RateSteps.{RateStep}
 use Rattle.drift_clock.specs.Segment.{Segment, fresh_segment}
 use Rattle.net_plan.specs.declared.event.Event.{Event}
-use Rattle.net_plan.specs.declared.event.What.{What}
 use Rattle.net_plan.specs.declared.event.What.TheVariants as events
 use Rattle.net_plan.specs.declared.ids.DeviceId.{DeviceId}
 use Rattle.net_plan.specs.declared.ids.LinkId.{LinkId}
@@ -20,7 +19,7 @@ use Rattle.net_plan.specs.declared.tables.Way.TheVariants.{Up, Down}
 use Rattle.net_plan.specs.declared.tables.Way.{Way}
 use Rattle.run_law.specs.declared.outside.Outside.TheVariants as outside
 use Rattle.run_law.specs.scenario.Faults.{Breaks, TurnsOn}
-use Rattle.run_law.specs.scenario.Hypothesis.{AreWithinHypothesis, IsWithinHypothesis, breaks_at}
+use Rattle.run_law.specs.scenario.Hypothesis.{IsWithinHypothesis, breaks_at}
 use Rattle.run_law.specs.scenario.Rates.{rate_steps, step_by}
 use Rattle.run_law.specs.scenario.Scenarios.{is_broken, is_turned_on_at, turns_on}
 use Rattle.run_law.specs.scenario.Ways.{cut_set, hold_set, is_way, is_way_of, wire_of, wire_set}
@@ -31,6 +30,11 @@ use Rattle.event_history.specs.Remembering.{MayBefall, Remembers, TellsDevice, T
 use Rattle.event_history.specs.declared.history.DeviceHistory.{DeviceHistory}
 use Rattle.event_history.specs.declared.history.EventHistory.{EventHistory}
 use Rattle.event_history.specs.declared.history.WayHistory.{WayHistory}
+use Rattle.net_plan.proofs.SameIds.{same_device, same_link}
+use Rattle.run_law.proofs.scenario.Devices.{all_within, broken_by, on_by}
+use Rattle.run_law.proofs.scenario.Ways.{way_itself}
+use Rattle.tte_lemmas.proofs.Bools.{or_none}
+use Rattle.tte_lemmas.proofs.Lists.{any_behind, any_first, set_other}
 use Rattle.event_history.proofs.Valuing.{set_stays}
 
 -- ---- results
@@ -47,18 +51,6 @@ set_same [] i x y at = absurd cc
 set_same (z ∷ zs) zero x y at = cc
 set_same (z ∷ zs) (suc i) x y at = set_same zs i x y at
 
-pub set_other : {X : Type 0} (xs : List X) (i j : ℕ) (x : X) → (i ≡ j → ⊥) → slice_get (slice_set xs i x) j ≡ slice_get xs j
-set_other [] i j x other = refl
-set_other (y ∷ ys) zero zero x other = absurd (other refl)
-set_other (y ∷ ys) zero (suc j) x other = refl
-set_other (y ∷ ys) (suc i) zero x other = refl
-set_other (y ∷ ys) (suc i) (suc j) x other = set_other ys i j x (λ e. other (ap (λ n. suc n) e))
-
-pub set_length : {X : Type 0} (xs : List X) (i : ℕ) (x : X) → length (slice_set xs i x) ≡ length xs
-set_length [] i x = refl
-set_length (y ∷ ys) zero x = omega arith
-set_length (y ∷ ys) (suc i) x = let e = set_length ys i x in omega (arith, e)
-
 -- ---- the ways
 
 -- each way in the list is told
@@ -66,18 +58,11 @@ abbrev pub AreWaysTold : Network → List Event → List WayHistory → Type 0
 AreWaysTold network all ways =
     (link : LinkId) (way : Way) (told : WayHistory) → slice_get ways (way_place link way) ≡ Some told → TellsWay network all link way told
 
-link_same : (a b : LinkId) → a.0 ≡ b.0 → a ≡ b
-link_same a b e = ap (λ n. let l : LinkId = record { 0 = n } in l) e
-
 way_same : (y way : Way) → is_way y way ≡ true → y ≡ way
 way_same Up Up e = refl
 way_same Up Down e = absurd (false≢true e)
 way_same Down Up e = absurd (false≢true e)
 way_same Down Down e = refl
-
-way_itself : (way : Way) → is_way way way ≡ true
-way_itself Up = refl
-way_itself Down = refl
 
 places_same : (link other : LinkId) (way turned : Way) → way_place link way ≡ way_place other turned → (link.0 ≡ other.0) × (is_way way turned ≡ true)
 places_same link other Up Up e = (omega (arith, e), refl)
@@ -96,7 +81,7 @@ ways_set network before behind link way ways new told here stays l w x at =
     elim (cases_Bool (is_way_of l w link way)) [
       | inl hit ↦
           let parts = and_parts (l.0 == link.0) (is_way w way) hit in
-          let one : l ≡ link = link_same l link (eqb-true l.0 link.0 parts.0) in
+          let one : l ≡ link = same_link l link (eqb-true l.0 link.0 parts.0) in
           let turned : w ≡ way = way_same w way parts.1 in
           let at_own : slice_get (slice_set ways (way_place link way) new) (way_place link way) ≡ Some x =
           subst (λ (v : Way). slice_get (slice_set ways (way_place link way) new) (way_place link v) ≡ Some x) turned
@@ -127,9 +112,6 @@ abbrev pub AreDevicesTold : Network → List Event → List DeviceHistory → Ty
 AreDevicesTold network all devices =
     (device : DeviceId) (told : DeviceHistory) → slice_get devices device.0 ≡ Some told → TellsDevice network all device told
 
-device_same : (a b : DeviceId) → a.0 ≡ b.0 → a ≡ b
-device_same a b e = ap (λ n. let d : DeviceId = record { 0 = n } in d) e
-
 pub devices_set : (network : Network) (before behind : List Event) (device : DeviceId) (devices : List DeviceHistory) (new : DeviceHistory)
     → AreDevicesTold network before devices → TellsDevice network behind device new
     → ((d : DeviceId) (told : DeviceHistory) → (d.0 ≡ device.0 → ⊥) → TellsDevice network before d told → TellsDevice network behind d told)
@@ -137,7 +119,7 @@ pub devices_set : (network : Network) (before behind : List Event) (device : Dev
 devices_set network before behind device devices new told here stays d x at =
     elim (cases_Bool (d.0 == device.0)) [
       | inl hit ↦
-          let one : d ≡ device = device_same d device (eqb-true d.0 device.0 hit) in
+          let one : d ≡ device = same_device d device (eqb-true d.0 device.0 hit) in
           let at_own = subst (λ (k : DeviceId). slice_get (slice_set devices device.0 new) k.0 ≡ Some x) one at in
           subst (λ (k : DeviceId). TellsDevice network behind k x) (sym one)
           (subst (TellsDevice network behind device) (set_same devices device.0 new x at_own) here)
@@ -157,16 +139,8 @@ append_none : {X : Type 0} (xs : List X) → xs ≡ xs ++ []
 append_none [] = refl
 append_none {X} (x ∷ xs) = ap (λ (l : List X). x ∷ l) (append_none xs)
 
-or_none : (a : Bool) → (a || false) ≡ a
-or_none true = refl
-or_none false = refl
-
 none_of : (a b : Bool) → b ≡ false → (a || b) ≡ a
 none_of a b miss = ap (λ x. a || x) miss ∙ or_none a
-
-and_none : (a b : Bool) → b ≡ false → (a && b) ≡ false
-and_none true b miss = miss
-and_none false b miss = refl
 
 -- whether one more event breaks the device by then
 broken_more : (network : Network) (all : List Event) (event : Event) (device : DeviceId) (t : ℕ)
@@ -199,7 +173,7 @@ clock_stays all event device clock none =
 pub broken_stays : (network : Network) (all : List Event) (event : Event) (device : DeviceId) (t : ℕ) → breaks_at device.0 event.what ≡ false
     → is_broken (scenario_under network (all ++ event ∷ [])) device t ≡ is_broken (scenario_under network all) device t
 broken_stays network all event device t none =
-    broken_more network all event device t ∙ none_of _ _ (and_none (nat_le (amount event.time) t) (breaks_at device.0 event.what) none)
+    broken_more network all event device t ∙ none_of _ _ (and_right (nat_le (amount event.time) t) (breaks_at device.0 event.what) none)
 
 pub turned_stays : (network : Network) (all : List Event) (event : Event) (device : DeviceId) (t : ℕ) → turns_on device event.what ≡ false
     → is_turned_on_at (scenario_under network (all ++ event ∷ [])) device t ≡ is_turned_on_at (scenario_under network all) device t
@@ -219,21 +193,11 @@ device_stays network all event device told no_step no_break no_turn h = record {
 
 -- ---- a break, and a turning on, is the first
 
-any_first : {X : Type 0} (P : X → Type 0) (x : X) (xs : List X) → P x → Any P (x ∷ xs)
-any_first P x xs holds = (zero, x, omega arith, refl, holds)
-
-any_behind : {X : Type 0} (P : X → Type 0) (x : X) (xs : List X) → Any P xs → Any P (x ∷ xs)
-any_behind P x xs (k, y, within, at, holds) = (suc k, y, omega (arith, within), at, holds)
-
-not_true : (b : Bool) → (b ≡ true → ⊥) → b ≡ false
-not_true true miss = absurd (miss refl)
-not_true false miss = refl
-
 none_any : (P : Event → Type 0) (b : Event → Bool) → ((e : Event) → b e ≡ true → P e) → (all : List Event) → (Any P all → ⊥)
     → list_any b all ≡ false
 none_any P b tells [] none = refl
 none_any P b tells (e ∷ es) none =
-    let first = not_true (b e) (λ hit. none (any_first P e es (tells e hit))) in
+    let first = false_from_ne_true (b e) (λ hit. none (any_first P e es (tells e hit))) in
     ap (λ x. x || list_any b es) first ∙ none_any P b tells es (λ h. none (any_behind P e es h))
 
 none_filtered : (b p : Event → Bool) (all : List Event) → list_any b all ≡ false → list_any b (filter p all) ≡ false
@@ -249,35 +213,13 @@ none_filtered b p (e ∷ es) none =
     or_parts true y miss = absurd (false≢true (sym miss))
     or_parts false y miss = (refl, miss)
 
-breaks_it : (device : DeviceId) (what : What) → breaks_at device.0 what ≡ true → what ≡ events.Break device
-breaks_it device (events.Rate other rate) e = absurd (false≢true e)
-breaks_it device (events.Wire link way delay) e = absurd (false≢true e)
-breaks_it device (events.Hold link way delay) e = absurd (false≢true e)
-breaks_it device (events.Cut link way) e = absurd (false≢true e)
-breaks_it device (events.Heal link way) e = absurd (false≢true e)
-breaks_it device (events.On other) e = absurd (false≢true e)
-breaks_it device (events.Break other) e = ap (λ (d : DeviceId). events.Break d) (device_same other device (eqb-true other.0 device.0 e))
-breaks_it device (events.Send link octets) e = absurd (false≢true e)
-breaks_it device events.End e = absurd (false≢true e)
-
-turns_it : (device : DeviceId) (what : What) → turns_on device what ≡ true → what ≡ events.On device
-turns_it device (events.Rate other rate) e = absurd (false≢true e)
-turns_it device (events.Wire link way delay) e = absurd (false≢true e)
-turns_it device (events.Hold link way delay) e = absurd (false≢true e)
-turns_it device (events.Cut link way) e = absurd (false≢true e)
-turns_it device (events.Heal link way) e = absurd (false≢true e)
-turns_it device (events.On other) e = ap (λ (d : DeviceId). events.On d) (device_same other device (sym (eqb-true device.0 other.0 e)))
-turns_it device (events.Break other) e = absurd (false≢true e)
-turns_it device (events.Send link octets) e = absurd (false≢true e)
-turns_it device events.End e = absurd (false≢true e)
-
 -- a break within the hypothesis is the first of the device
 pub broken_first : (network : Network) (all : List Event) (event : Event) (device : DeviceId) (t : ℕ) → IsWithinHypothesis network all event
     → event.what ≡ events.Break device
     → is_broken (scenario_under network (all ++ event ∷ [])) device t ≡ nat_le (amount event.time) t
 broken_first network all event device t within what =
     let none = none_filtered (λ e. breaks_at device.0 e.what) (λ e. nat_le (amount e.time) t) all
-    (none_any (Breaks device) (λ e. breaks_at device.0 e.what) (λ e hit. breaks_it device e.what hit) all
+    (none_any (Breaks device) (λ e. breaks_at device.0 e.what) (λ e hit. broken_by device e.what hit) all
     (λ known. within outside.SecondBreak (record { device = device; broken = device; breaks = what; is_broken = known }))) in
     let here : breaks_at device.0 event.what ≡ true = ap (breaks_at device.0) what ∙ eq-eqb device.0 device.0 refl in
     broken_more network all event device t
@@ -294,7 +236,7 @@ pub turned_first : (network : Network) (all : List Event) (event : Event) (devic
     → is_turned_on_at (scenario_under network (all ++ event ∷ [])) device t ≡ (amount event.time == t)
 turned_first network all event device t within what =
     let none = none_any (TurnsOn device) (λ e. turns_on device e.what && amount e.time == t)
-    (λ e hit. turns_it device e.what (let parts = and_parts (turns_on device e.what) (amount e.time == t) hit in parts.0)) all
+    (λ e hit. on_by device e.what (let parts = and_parts (turns_on device e.what) (amount e.time == t) hit in parts.0)) all
     (λ known. within outside.NotOff (record { device = device; what = what; known = inr (inl known) })) in
     let here : turns_on device event.what ≡ true = ap (turns_on device) what ∙ eq-eqb device.0 device.0 refl in
     turned_more network all event device t
@@ -312,28 +254,6 @@ record StandsLast {X : Type 0} (xs : List X) (y : X) (before : List X) (x : X) :
   pub before_is : before ≡ xs
   pub same : x ≡ y
 
-stands_where : {X : Type 0} (xs : List X) (y : X) (before : List X) (x : X) (behind : List X) → xs ++ y ∷ [] ≡ before ++ x ∷ behind
-    → StandsInFront xs y before x behind ⊎ StandsLast xs y before x
-stands_where [] y [] x behind e = inr (record { before_is = refl; same = cc })
-stands_where [] y (b ∷ []) x behind e = absurd cc
-stands_where [] y (b ∷ c ∷ before) x behind e = absurd cc
-stands_where (z ∷ xs) y [] x behind e = inl (record { rest = xs; whole = cc })
-stands_where {X} (z ∷ xs) y (b ∷ before) x behind e =
-    let tails : xs ++ y ∷ [] ≡ before ++ x ∷ behind = cc in
-    let heads : z ≡ b = cc in
-    elim (stands_where xs y before x behind tails) [
-      | inl s ↦ inl (record { rest = s.rest; whole = ap (λ (t : X). t ∷ xs) heads ∙ ap (λ (t : List X). b ∷ t) s.whole })
-      | inr s ↦ inr (record { before_is = ap (λ (t : X). t ∷ before) (sym heads) ∙ ap (λ (t : List X). z ∷ t) s.before_is; same = s.same })
-    ]
-
-pub within_more : (network : Network) (all : List Event) (event : Event) → AreWithinHypothesis network all → IsWithinHypothesis network all event
-    → AreWithinHypothesis network (all ++ event ∷ [])
-within_more network all event within here before behind e order =
-    elim (stands_where all event before e behind order) [
-      | inl s ↦ within before s.rest e s.whole
-      | inr s ↦ rw (s.before_is, s.same) here
-    ]
-
 pub begun_more : (all : List Event) (event : Event) → HaveBegun all → pos 0 ≤ℤ event.time.0 → HaveBegun (all ++ event ∷ [])
 begun_more all event begun here = All-push (λ e. pos 0 ≤ℤ e.time.0) all event begun here
 
@@ -345,7 +265,7 @@ pub remembers_more : (network : Network) (all : List Event) (event : Event) (old
     → Remembers network (all ++ event ∷ []) new
 remembers_more network all event old new h may begun many_ways ways many_devices devices = record {
   range = h.range;
-  within = within_more network all event h.within may.within;
+  within = all_within network all event h.within may.within;
   begun = begun_more all event h.begun begun;
   ways_count = many_ways ∙ h.ways_count;
   ways = ways;

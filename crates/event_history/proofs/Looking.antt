@@ -25,10 +25,11 @@ use Rattle.event_history.specs.declared.history.DeviceHistory.{DeviceHistory}
 use Rattle.event_history.specs.declared.history.EventHistory.{EventHistory}
 use Rattle.event_history.specs.declared.settings.Change.{Change}
 use Rattle.event_history.specs.declared.settings.Settings.{Settings}
+use Rattle.run_law.proofs.scenario.Devices.{all_within}
 use Rattle.event_history.proofs.Adding.{cut_event}
 use Rattle.event_history.proofs.Befalling.{AreEventsFrom, events_from, steps_from, steps_up_to}
 use Rattle.event_history.proofs.Clocking.{StepsFrom, are_clocks, clock_reads, clocks_up_to}
-use Rattle.event_history.proofs.Keeping.{begun_more, within_more}
+use Rattle.event_history.proofs.Keeping.{begun_more}
 use Rattle.event_history.proofs.Valuing.{last_is}
 
 -- ---- the changes are in the order of time
@@ -122,7 +123,7 @@ devices_ready network all history event h may begun k d lt =
     let told = slice_index_or items k d in
     let tells = h.devices device told (slice_get-get_or items k d lt) in
     let fresh = fresh_segment (amount network.grain) in
-    let from = events_from network (all ++ event ∷ []) h.range (within_more network all event h.within may.within) (begun_more all event h.begun begun) in
+    let from = events_from network (all ++ event ∷ []) h.range (all_within network all event h.within may.within) (begun_more all event h.begun begun) in
     record {
       clocks = told_clocks network all history device told h tells;
       later = subst (λ (l : List (Change Segment)). All (λ c. c.from ≤ amount event.time) l) (sym tells.clock)

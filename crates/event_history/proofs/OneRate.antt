@@ -1,5 +1,5 @@
 -- A slow rate at time 0 is within the hypothesis.
-use Rattle.std.proofs.Common.{◌≡◌, ◌≤◌, ◌<◌, ◌∙◌, List, [], ◌∷◌, ◌++◌, pos, unsigned_abs, sym, subst, arith}
+use Rattle.std.proofs.Common.{◌≡◌, ◌≤◌, ◌<◌, ◌∙◌, [], pos, unsigned_abs, sym, subst, arith}
 use Rattle.std.proofs.lemmas.Int.{ints}
 use Rattle.net_plan.specs.declared.event.Event.{Event}
 use Rattle.net_plan.specs.declared.event.What.TheVariants as events
@@ -7,11 +7,8 @@ use Rattle.net_plan.specs.declared.ids.DeviceId.{DeviceId}
 use Rattle.net_plan.specs.declared.network.Network.{Network}
 use Rattle.run_law.specs.declared.outside.Outside.TheVariants as outside
 use Rattle.run_law.specs.scenario.Hypothesis.{IsWithinHypothesis}
+use Rattle.tte_lemmas.proofs.Lists.{none_before}
 use Rattle.tte_units.specs.declared.rates.Ppb.{Ppb}
-
-none_before : {X : Type 0} (xs behind : List X) (x : X) → [] ≡ xs ++ x ∷ behind → ⊥
-none_before [] behind x e = absurd cc
-none_before (y ∷ xs) behind x e = absurd cc
 
 rate_of : (d e : DeviceId) (r s : Ppb) → events.Rate d r ≡ events.Rate e s → r ≡ s
 rate_of d e r s same = cc

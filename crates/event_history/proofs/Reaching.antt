@@ -1,5 +1,5 @@
 -- When a clock first reaches a value, over the steps of its rate.
-use Rattle.std.proofs.Common.{◌≡◌, inl, inr, ℕ, zero, suc, ◌<◌, ◌≤◌, List, [], ◌∷◌, length, Option, Some, None, if◌then◌else◌, ℤ, pos, ◌<ℤ◌, ◌≤ℤ◌, refl, sym, ap, subst, ◌∙◌, arith}
+use Rattle.std.proofs.Common.{◌≡◌, inl, inr, ℕ, suc, ◌<◌, ◌≤◌, List, [], ◌∷◌, length, Option, Some, None, if◌then◌else◌, ℤ, pos, ◌<ℤ◌, ◌≤ℤ◌, refl, sym, ap, subst, ◌∙◌, arith}
 use Rattle.std.specs.List.{All, AllWithin}
 use Rattle.std.specs.List.Sorted.{IsNonDecreasingBy}
 use Rattle.std.proofs.lemmas.Bool.{cases_lt, le-leb, lt-leb}
@@ -41,13 +41,6 @@ value_split v (c ∷ cs) from t le order = elim (cases_lt from c.from) [
       ∙ sym (ap (λ b. value_at (value_at (if b then c.value else v) cs from) (later_than from cs) t) now)
       ∙ sym (ap (λ b. value_at (value_at v (c ∷ cs) from) (if b then c ∷ later_than from cs else later_than from cs) t) gone)
 ]
-
-more_order : (c : Change Segment) (cs : List (Change Segment)) → All (λ x. c.from ≤ x.from) cs → IsNonDecreasingBy (λ x. x.from) cs
-    → IsNonDecreasingBy (λ x. x.from) (c ∷ cs)
-more_order c cs least order zero zero d le lt = omega arith
-more_order c cs least order zero (suc j) d le lt = least j d (omega (arith, lt))
-more_order c cs least order (suc i) zero d le lt = absurd (omega (arith, le))
-more_order c cs least order (suc i) (suc j) d le lt = order i j d (omega (arith, le)) (omega (arith, lt))
 
 -- what is later is in order, can be read, and is later
 pub record IsLeft (start : ℕ) (later : List (Change Segment)) : Type 0 where

@@ -1,9 +1,9 @@
 -- The value of a setting at a time.
-use Rattle.std.proofs.Common.{◌≡◌, inl, inr, ℕ, zero, suc, ◌+◌, ◌-◌, ◌<◌, ◌≤◌, nat_le, nat_lt, Bool, true, false, List, [], ◌∷◌, ◌++◌, length, Option, Some, None, if◌then◌else◌, refl, sym, ap, ◌∙◌, arith}
+use Rattle.std.proofs.Common.{◌≡◌, ℕ, zero, suc, ◌+◌, ◌-◌, ◌<◌, ◌≤◌, nat_le, nat_lt, Bool, true, false, List, [], ◌∷◌, ◌++◌, length, Option, Some, None, if◌then◌else◌, refl, sym, ap, ◌∙◌, arith}
 use Rattle.std.specs.Prelude.{filter, filter_map, option_map, slice_index_or, unwrap_or, drop}
 use Rattle.std.specs.List.{AllWithin, cons_option, last_or}
 use Rattle.std.specs.List.Sorted.{IsNonDecreasingBy, IsPartitionPoint, IsPartitionedBy}
-use Rattle.std.proofs.lemmas.Bool.{cases_lt, le-leb, lt-leb}
+use Rattle.std.proofs.lemmas.Bool.{le-leb, leb-false, leb-true, lt-leb}
 use Rattle.std.proofs.lemmas.List.Elements.{filter_map-append}
 use Rattle.net_plan.specs.declared.event.Event.{Event}
 use Rattle.net_plan.specs.declared.event.What.{What}
@@ -11,29 +11,24 @@ use Rattle.tte_units.specs.Amount.{amount}
 use Rattle.event_history.specs.Settings.{IsSetBy, change_to, changes_by, later_than, value_at}
 use Rattle.event_history.specs.declared.settings.Change.{Change}
 use Rattle.event_history.specs.declared.settings.Settings.{Settings}
+use Rattle.tte_lemmas.proofs.Lists.{append_none}
 
 -- ---- where the changes up to a time end
-
-up_to_true : (a b : ℕ) → nat_le a b ≡ true → a ≤ b
-up_to_true a b e = elim (cases_lt b a) [ inl lt ↦ absurd (let miss = lt-leb a b lt in cc) | inr le ↦ le ]
-
-up_to_false : (a b : ℕ) → nat_le a b ≡ false → b < a
-up_to_false a b e = elim (cases_lt b a) [ inl lt ↦ lt | inr le ↦ absurd (let hit = le-leb a b le in cc) ]
 
 -- changes in order are parted by a time
 pub parted : {V : Type 0} (changes : List (Change V)) (time : ℕ) → IsNonDecreasingBy (λ c. c.from) changes
     → IsPartitionedBy (λ c. nat_le c.from time) changes
 parted changes time order i j d le within last =
     let low = order i j d le within in
-    let high = up_to_true (slice_index_or changes j d).from time last in
+    let high = leb-true (slice_index_or changes j d).from time last in
     le-leb (slice_index_or changes i d).from time (omega (arith, low, high))
 
 pub part_at : {V : Type 0} (changes : List (Change V)) (time place : ℕ)
     → IsPartitionPoint (λ c. nat_le c.from time ≡ true) (λ c. nat_le c.from time ≡ false) changes place
     → IsPartitionPoint (λ c. c.from ≤ time) (λ c. time < c.from) changes place
 part_at changes time place h = (
-  λ k d low high. up_to_true (slice_index_or changes k d).from time (h.0 k d low high),
-  λ k d low high. up_to_false (slice_index_or changes k d).from time (h.1 k d low high),
+  λ k d low high. leb-true (slice_index_or changes k d).from time (h.0 k d low high),
+  λ k d low high. leb-false (slice_index_or changes k d).from time (h.1 k d low high),
 )
 
 -- the place before one that is not the first
@@ -148,10 +143,6 @@ set_more {V} setting initial events event v old new is first more h = record {
   first = first ∙ h.first;
   changes = more ∙ ap (λ (l : List (Change V)). l ++ change_to (amount event.time) v ∷ []) h.changes ∙ sym (set_by setting events event (Some v) is);
 }
-
-append_none : {X : Type 0} (xs : List X) → xs ++ [] ≡ xs
-append_none [] = refl
-append_none {X} (x ∷ xs) = ap (λ (l : List X). x ∷ l) (append_none xs)
 
 -- an event that does not
 pub set_stays : {V : Type 0} (setting : What → Option V) (initial : V) (events : List Event) (event : Event) (settings : Settings V)

@@ -1,5 +1,5 @@
 -- One more event behind those of a list.
-use Rattle.std.proofs.Common.{◌≡◌, ◌⊎◌, List, [], ◌∷◌, ◌++◌, inl, inr, refl, sym, ap, subst, ◌∙◌, arith, length-append, zero, suc}
+use Rattle.std.proofs.Common.{◌≡◌, ◌⊎◌, List, [], ◌∷◌, ◌++◌, inl, inr, refl, sym, ap, ◌∙◌, arith, length-append}
 use Rattle.std.proofs.Math.ListN.{get_or-append}
 use Rattle.std.specs.List.{Any}
 use Rattle.std.proofs.lemmas.List.Quantifiers.{Any-push}
@@ -12,32 +12,6 @@ any_left P xs y (k, x, within, at, holds) =
 -- what holds of the last element holds of some
 pub any_last : {X : Type 0} (P : X → Type 0) (xs : List X) (y : X) → P y → Any P (xs ++ y ∷ [])
 any_last P xs y holds = Any-push P xs y holds
-
--- what holds of some element of the longer list holds of some before the last, or of the last
-pub any_parts : {X : Type 0} (P : X → Type 0) (xs : List X) (y : X) → Any P (xs ++ y ∷ []) → Any P xs ⊎ P y
-any_parts {X} P [] y (zero, x, within, at, holds) = inr (subst P (sym at) holds)
-any_parts {X} P [] y (suc k, x, within, at, holds) = absurd (omega (arith, within))
-any_parts {X} P (z ∷ xs) y (zero, x, within, at, holds) = inl (zero, x, omega arith, at, holds)
-any_parts {X} P (z ∷ xs) y (suc k, x, within, at, holds) =
-    elim (any_parts P xs y (k, x, omega (arith, within), at, holds)) [
-      | inl a ↦ inl (suc a.0, a.1, omega (arith, a.2), a.3, a.4)
-      | inr h ↦ inr h
-    ]
-
--- nothing holds of an element of no list
-pub any_none : {X : Type 0} (P : X → Type 0) → Any P [] → ⊥
-any_none P (k, x, within, at, holds) = omega (arith, within)
-
--- the first element, or one behind it
-pub any_first : {X : Type 0} (P : X → Type 0) (x : X) (xs : List X) → P x → Any P (x ∷ xs)
-any_first P x xs holds = (zero, x, omega arith, refl, holds)
-
-pub any_behind : {X : Type 0} (P : X → Type 0) (x : X) (xs : List X) → Any P xs → Any P (x ∷ xs)
-any_behind P x xs (k, y, within, at, holds) = (suc k, y, omega (arith, within), at, holds)
-
-pub any_of : {X : Type 0} (P : X → Type 0) (x : X) (xs : List X) → Any P (x ∷ xs) → P x ⊎ Any P xs
-any_of P x xs (zero, y, within, at, holds) = inl (subst P (sym at) holds)
-any_of P x xs (suc k, y, within, at, holds) = inr (k, y, omega (arith, within), at, holds)
 
 -- an element of the longer list stands last, or is one of the shorter
 pub record StandsInFront {X : Type 0} (xs : List X) (y : X) (before : List X) (x : X) (behind : List X) : Type 0 where
@@ -62,8 +36,3 @@ stands_where {X} (z ∷ xs) y (b ∷ before) x behind e =
       | inl s ↦ inl (record { rest = s.rest; behind_is = s.behind_is; whole = ap (λ (t : X). t ∷ xs) heads ∙ ap (λ (t : List X). b ∷ t) s.whole })
       | inr s ↦ inr (record { before_is = ap (λ (t : X). t ∷ before) (sym heads) ∙ ap (λ (t : List X). z ∷ t) s.before_is; same = s.same })
     ]
-
--- no list is without elements where one stands in it
-pub none_stands : {X : Type 0} (before : List X) (x : X) (behind : List X) → [] ≡ before ++ x ∷ behind → ⊥
-none_stands [] x behind e = absurd cc
-none_stands (b ∷ before) x behind e = absurd cc

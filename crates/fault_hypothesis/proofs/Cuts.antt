@@ -5,7 +5,6 @@ use Rattle.std.specs.List.{Any}
 use Rattle.net_plan.specs.Places.{device_at, link_at, IsSwitchOf}
 use Rattle.net_plan.specs.Rules.{HasOffSwitch}
 use Rattle.net_plan.specs.declared.event.Event.{Event}
-use Rattle.net_plan.specs.declared.event.What.{What}
 use Rattle.net_plan.specs.declared.event.What.TheVariants as events
 use Rattle.net_plan.specs.declared.ids.LinkId.{LinkId}
 use Rattle.net_plan.specs.declared.network.Network.{Network}
@@ -18,25 +17,15 @@ use Rattle.schedule_tables.specs.Rules.{KeepsRules}
 use Rattle.schedule_tables.specs.declared.rule.Rule.TheVariants.{Joints, Masters}
 use Rattle.net_plan.specs.Belonging.{HasLink, IsOfNetwork}
 use Rattle.fault_hypothesis.specs.Watching.{AreOfNetwork}
-use Rattle.fault_hypothesis.proofs.Befalling.{any_behind, any_first, any_none, any_of, none_stands, stands_where}
-use Rattle.fault_hypothesis.proofs.Standing.{some_both, stands_at}
-
--- what befalls cuts a link, or it cuts none
-cuts_or_not : (what : What) → ((link : LinkId) × (way : Way) × (what ≡ events.Cut link way)) ⊎ ((link : LinkId) (way : Way) → what ≡ events.Cut link way → ⊥)
-cuts_or_not (events.Rate device rate) = inr (λ link way e. absurd cc)
-cuts_or_not (events.Wire l w delay) = inr (λ link way e. absurd cc)
-cuts_or_not (events.Hold l w delay) = inr (λ link way e. absurd cc)
-cuts_or_not (events.Cut l w) = inl (l, w, refl)
-cuts_or_not (events.Heal l w) = inr (λ link way e. absurd cc)
-cuts_or_not (events.On device) = inr (λ link way e. absurd cc)
-cuts_or_not (events.Break device) = inr (λ link way e. absurd cc)
-cuts_or_not (events.Send l octets) = inr (λ link way e. absurd cc)
-cuts_or_not events.End = inr (λ link way e. absurd cc)
+use Rattle.net_plan.proofs.TableFacts.{cuts_or_not}
+use Rattle.tte_lemmas.proofs.Lists.{any_behind, any_first, any_none, any_of, none_stands, some_at}
+use Rattle.fault_hypothesis.proofs.Befalling.{stands_where}
+use Rattle.fault_hypothesis.proofs.Standing.{some_both}
 
 -- each link of a network that keeps the rules is of a channel
 channel_there : (network : Network) (link : LinkId) → KeepsRules network → HasLink network link → (channel : Channel) × IsLinkOf network channel link
 channel_there network link rules has =
-    let at = stands_at network.link link.0 has in
+    let at = some_at network.link link.0 has in
     let joint = rules Joints link.0 at.0 at.1 in
     (joint.0, rw at.1 joint.1)
 

@@ -10,11 +10,13 @@ use Rattle.net_plan.specs.declared.event.What.TheVariants as events
 use Rattle.net_plan.specs.declared.ids.DeviceId.{DeviceId}
 use Rattle.net_plan.specs.declared.network.Network.{Network}
 use Rattle.run_law.specs.scenario.Faults.{Breaks, IsBroken, IsTurnedOn, TurnsOn}
-use Rattle.run_law.specs.scenario.Hypothesis.{AreWithinHypothesis, IsWithinHypothesis}
+use Rattle.run_law.specs.scenario.Hypothesis.{IsWithinHypothesis}
 use Rattle.run_law.specs.declared.outside.Outside.TheVariants.{SecondBreak}
 use Rattle.net_plan.specs.Belonging.{HasDevice, IsOfNetwork}
 use Rattle.fault_hypothesis.specs.Watching.{AreOfNetwork}
-use Rattle.fault_hypothesis.proofs.Befalling.{any_last, any_left, any_none, any_parts, stands_where}
+use Rattle.net_plan.proofs.SameIds.{same_device}
+use Rattle.tte_lemmas.proofs.Lists.{any_none, any_parts}
+use Rattle.fault_hypothesis.proofs.Befalling.{any_last, any_left}
 
 -- one more event of the network
 pub all_of_network : (network : Network) (admitted : List Event) (event : Event) → AreOfNetwork network admitted → IsOfNetwork network event.what
@@ -24,15 +26,6 @@ all_of_network network [] event all here (suc k) d within = absurd (omega (arith
 all_of_network network (x ∷ xs) event all here zero d within = all zero d (omega arith)
 all_of_network network (x ∷ xs) event all here (suc k) d within =
     all_of_network network xs event (λ i e lt. all (suc i) e (omega (arith, lt))) here k d (omega (arith, within))
-
--- one more event within the hypothesis
-pub all_within : (network : Network) (admitted : List Event) (event : Event) → AreWithinHypothesis network admitted → IsWithinHypothesis network admitted event
-    → AreWithinHypothesis network (admitted ++ event ∷ [])
-all_within network admitted event all here before behind e order =
-    elim (stands_where admitted event before e behind order) [
-      | inl s ↦ all before s.rest e s.whole
-      | inr s ↦ rw (s.before_is, s.same) here
-    ]
 
 -- what a watch knows of the broken device
 abbrev pub KnowsBroken : List Event → Option DeviceId → Type 0
@@ -83,16 +76,13 @@ get_set_other (y ∷ ys) zero (suc j) x other = refl
 get_set_other (y ∷ ys) (suc i) zero x other = refl
 get_set_other (y ∷ ys) (suc i) (suc j) x other = get_set_other ys i j x (λ e. other (ap (λ n. suc n) e))
 
-same_id : (a b : DeviceId) → a.0 ≡ b.0 → a ≡ b
-same_id a b e = ap (λ n. let d : DeviceId = record { 0 = n } in d) e
-
 -- the event turns one more device on
 pub on_turns : (network : Network) (admitted : List Event) (event : Event) (device : DeviceId) (on : List Bool) → length network.device ≤ length on
     → HasDevice network device → event.what ≡ events.On device → KnowsTurnedOn network admitted on
     → KnowsTurnedOn network (admitted ++ event ∷ []) (slice_set on device.0 true)
 on_turns network admitted event device on room there what known = λ d has.
     let here : device.0 ≡ d.0 → IsTurnedOn (admitted ++ event ∷ []) d =
-    λ same. any_last (TurnsOn d) admitted event (what ∙ ap (λ (o : DeviceId). events.On o) (same_id device d same)) in
+    λ same. any_last (TurnsOn d) admitted event (what ∙ ap (λ (o : DeviceId). events.On o) (same_device device d same)) in
     elim (cases_order device.0 d.0) [
       | inl same ↦ (
         λ e. here same,

@@ -14,11 +14,7 @@ use Rattle.net_plan.specs.declared.network.Network.{Network}
 use Rattle.run_law.specs.scenario.Faults.{IsBroken}
 use Rattle.run_law.specs.scenario.Hypothesis.{breaks_at, is_sound_master, sound_masters}
 use Rattle.fault_hypothesis.specs.SoundMasters.{is_sound_beside}
-
-same_bool : (a b : Bool) → (a ≡ true → b ≡ true) → (b ≡ true → a ≡ true) → a ≡ b
-same_bool true b up down = sym (up refl)
-same_bool false true up down = down refl
-same_bool false false up down = refl
+use Rattle.tte_lemmas.proofs.Bools.{same_tests}
 
 -- what breaks the device at a place is a break of it
 breaks_it : (place : ℕ) (what : What) → breaks_at place what ≡ true → (device : DeviceId) × (what ≡ events.Break device) × ((device.0 == place) ≡ true)
@@ -36,7 +32,7 @@ breaks_it place events.End h = absurd cc
 broken_at : (admitted : List Event) (broken : Option DeviceId) → ((d : DeviceId) → (broken ≡ Some d) ↔ IsBroken admitted d) → (place : ℕ)
     → list_any (λ e. breaks_at place e.what) admitted ≡ option_map_or (λ b. b.0 == place) broken false
 broken_at admitted broken known place =
-    same_bool (list_any (λ e. breaks_at place e.what) admitted) (option_map_or (λ b. b.0 == place) broken false)
+    same_tests (list_any (λ e. breaks_at place e.what) admitted) (option_map_or (λ b. b.0 == place) broken false)
     (λ t.
     let a = Any-from_list_any (λ (e : Event). breaks_at place e.what) admitted t in
     let h = breaks_it place a.1.what a.4 in

@@ -1,10 +1,9 @@
 -- The frame of a virtual link as it is written: a head, and zeros behind it.
-use Rattle.std.proofs.Common.{◌≡◌, ℕ, ◌+◌, ◌-◌, ◌<◌, List, [], ◌++◌, length, Option, Some, None, ap, replicate, subst, sym, ◌∙◌, slice_get, drop, get_or, take, length-append, inl, inr, arith}
-use Rattle.std.specs.List.{All}
+use Rattle.std.proofs.Common.{◌≡◌, ℕ, ◌+◌, ◌-◌, ◌<◌, List, [], ◌++◌, length, Option, Some, None, ap, replicate, sym, ◌∙◌, slice_get, drop, get_or, take, length-append, inl, inr, arith}
 use Rattle.std.specs.Option.{option_map_or}
 use Rattle.std.proofs.Math.Seq.{drop-append_seam, take-append-add}
 use Rattle.std.proofs.lemmas.List.{take-replicate}
-use Rattle.std.proofs.lemmas.Option.{get_or_from_slice_get, slice_get-get_or, slice_get_cases, slice_get_within}
+use Rattle.std.proofs.lemmas.Option.{slice_get-get_or, slice_get_cases}
 use Rattle.byteorder.specs.Endian.{big_bytes}
 use Rattle.byteorder.specs.Numbers.{length-bytes_high_first}
 use Rattle.net_plan.specs.Padding.{padded}
@@ -14,6 +13,7 @@ use Rattle.net_plan.specs.declared.network.Network.{Network}
 use Rattle.net_plan.specs.declared.tables.VirtualLink.{VirtualLink}
 use Rattle.run_law.specs.records.Frames.{mac_of, tt_frame, tt_frame_by}
 use Rattle.made_frames.specs.Made.{head_of, made_frame}
+use Rattle.tte_lemmas.proofs.Lists.{in_all}
 
 -- of a virtual link of the network it is the frame of the law
 pub made_is : (network : Network) (vl : VlId) (cycle : ℕ) → vl.0 < length network.vl
@@ -59,9 +59,6 @@ front_made network vl cycle range =
     ap (λ (n : ℕ). take n (head ++ replicate (1514 - length head) 0)) size
     ∙ take-append-add head (replicate (1514 - length head) 0) (vl.length - length head)
     ∙ ap (λ (l : List ℕ). head ++ l) (take-replicate (vl.length - length head) (1514 - length head) 0 (omega (arith, most)))
-
-pub in_all : {X : Type 0} (P : X → Type 0) (xs : List X) (i : ℕ) (x : X) → All P xs → slice_get xs i ≡ Some x → P x
-in_all P xs i x all e = subst P (get_or_from_slice_get xs i x x e) (all i x (slice_get_within xs i x e))
 
 pub made_found : (network : Network) (vl : VlId) (cycle : ℕ) (found : VirtualLink) (octets head : List ℕ)
     → slice_get network.vl vl.0 ≡ Some found → IsInRange network → head ≡ head_of network found cycle

@@ -1,15 +1,16 @@
 -- The ones of a number are its bits that are set.
-use Rattle.std.proofs.Common.{◌≡◌, ℕ, zero, suc, ◌+◌, ◌*◌, ◌/◌, ◌%◌, ◌^◌, ◌<◌, Bool, cond, ◌==◌, List, [], ◌∷◌, count_by, count_ones, bit_or, max, refl, sym, ap, ◌∙◌, arith, add-one}
+use Rattle.std.proofs.Common.{◌≡◌, ℕ, zero, suc, ◌+◌, ◌*◌, ◌/◌, ◌%◌, ◌^◌, ◌<◌, Bool, cond, ◌==◌, List, [], ◌∷◌, count_by, count_ones, bit_or, refl, sym, ap, ◌∙◌, arith, add-one}
 use Rattle.std.specs.Int.{bit_at}
 use Rattle.std.specs.Int.Count.{ones_step}
 use Rattle.std.specs.List.{range_with_len}
 use Rattle.std.proofs.Math.Nat.{pow-suc}
 use Rattle.std.proofs.lemmas.List.Sums.{sum_by-cons}
-use Rattle.std.proofs.lemmas.Nat.{ones_le_self, or_shr, or_disjoint, and_le_l}
-use Rattle.std.proofs.lemmas.Nat.Bits.{bit_at-suc, bit_at-lt, bit_at_lowest, bit_at_or}
+use Rattle.std.proofs.lemmas.Nat.{ones_le_self, or_disjoint, and_le_l}
+use Rattle.std.proofs.lemmas.Nat.Bits.{bit_at-suc, bit_at-lt, bit_at_lowest}
 use Rattle.std.proofs.lemmas.Bool.Decides.{nat_tests}
 use Rattle.pcf_values.specs.declared.members.Members.{Members}
 use Rattle.membership.specs.Members.{IsMember, single, union, count_of}
+use Rattle.tte_lemmas.proofs.Naturals.{or_half, or_parity}
 
 count_agrees : (p q : ℕ → Bool) (xs : List ℕ) → ((i : ℕ) → p i ≡ q i) → count_by p xs ≡ count_by q xs
 count_agrees p q [] same = refl
@@ -43,14 +44,8 @@ ones_by_bits (suc k) n small =
     let half : n / 2 < 2 ^ k = omega (arith, small, pow-suc 2 k) in
     omega (arith, ones_step n, lowest n, rest, ones_by_bits k (n / 2) half, sum_by-cons (λ i. cond (bit i) 1 0) 0 (range_with_len 1 k))
 
-or_half : (a b : ℕ) → bit_or a b / 2 ≡ bit_or (a / 2) (b / 2)
-or_half a b = or_shr a b 1
-
 or_zero : (n : ℕ) → bit_or 0 n ≡ n
 or_zero n = omega (arith, or_disjoint 0 n (omega (arith, and_le_l 0 n)))
-
-or_parity : (a b : ℕ) → bit_or a b % 2 ≡ max (a % 2) (b % 2)
-or_parity a b = omega (arith, bit_at_or a b 0, bit_at_lowest (bit_or a b), bit_at_lowest a, bit_at_lowest b)
 
 -- a bit that is set anew is one more
 ones-set : (k n : ℕ) → bit_at n k ≡ 0 → count_ones (bit_or (2 ^ k) n) ≡ count_ones n + 1

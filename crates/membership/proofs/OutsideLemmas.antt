@@ -1,12 +1,13 @@
 -- The members of the frames outside after one more frame.
-use Rattle.std.proofs.Common.{◌≡◌, ◌⊎◌, ℕ, List, [], ◌∷◌, ◌++◌, length, true, false, Any, inl, inr, sym, ◌∙◌, subst, arith}
-use Rattle.std.proofs.lemmas.Bool.{cases_lt, both_ways}
-use Rattle.std.proofs.lemmas.List.{length-append, get_or_append_left, get_or_at}
+use Rattle.std.proofs.Common.{◌≡◌, ℕ, List, [], ◌∷◌, ◌++◌, true, false, Any, inl, inr, ◌∙◌, arith}
+use Rattle.std.proofs.lemmas.Bool.{both_ways}
+use Rattle.std.proofs.lemmas.List.{length-append, get_or_append_left}
 use Rattle.std.proofs.lemmas.List.Quantifiers.{Any-push}
 use Rattle.pcf_values.specs.declared.members.Members.{Members}
 use Rattle.membership.specs.Members.{IsMember, union}
 use Rattle.membership.specs.Hearing.{Hearing, IsOutside}
 use Rattle.membership.specs.Summary.{AreOutside}
+use Rattle.tte_lemmas.proofs.Lists.{any_parts}
 use Rattle.membership.proofs.SetLemmas.{union-members}
 
 pub Any-append_left : {X : Type 0} (P : X → Type 0) (xs ys : List X) → Any P xs → Any P (xs ++ ys)
@@ -14,17 +15,6 @@ Any-append_left P xs ys any =
     let k = any.0 in
     let x = any.1 in
     (k, x, omega (arith, any.2, length-append xs ys), get_or_append_left xs ys x k any.2 ∙ any.3, any.4)
-
-pub Any-push_cases : {X : Type 0} (P : X → Type 0) (xs : List X) (y : X) → Any P (xs ++ y ∷ []) → Any P xs ⊎ P y
-Any-push_cases P xs y any =
-    let k = any.0 in
-    let x = any.1 in
-    elim (cases_lt k (length xs)) [
-      | inl lt ↦ inl (k, x, lt, sym (get_or_append_left xs (y ∷ []) x k lt) ∙ any.3, any.4)
-      | inr ge ↦
-          let at : length xs ≡ k = omega (arith, any.2, ge, length-append xs (y ∷ [])) in
-          inr (subst P (sym any.3 ∙ get_or_at xs y [] x k at) any.4)
-    ]
 
 -- it came outside its time, and the master is a member of it
 abbrev pub HasOutside : ℕ → Hearing → Type 0
@@ -37,7 +27,7 @@ outside_stays heard members h within is i = (forth, back) where
   forth m = Any-append_left (HasOutside i) heard (h ∷ []) ((is i).0 m)
 
   back : Any (HasOutside i) (heard ++ h ∷ []) → IsMember i members
-  back any = elim (Any-push_cases (HasOutside i) heard h any) [
+  back any = elim (any_parts (HasOutside i) heard h any) [
     | inl earlier ↦ (is i).1 earlier
     | inr here ↦ absurd (both_ways h.within here.0 within)
   ]
@@ -53,7 +43,7 @@ outside_after heard members h outside is i = (forth, back) where
   ]
 
   back : Any (HasOutside i) (heard ++ h ∷ []) → IsMember i (union members h.frame.members)
-  back any = elim (Any-push_cases (HasOutside i) heard h any) [
+  back any = elim (any_parts (HasOutside i) heard h any) [
     | inl earlier ↦ (union-members members h.frame.members i).1 (inl ((is i).1 earlier))
     | inr here ↦ (union-members members h.frame.members i).1 (inr here.1)
   ]

@@ -2,18 +2,15 @@
 use Rattle.std.proofs.Common.{◌≡◌, ◌≢◌, ℕ, zero, suc, ◌+◌, ◌<◌, Bool, true, false, cond, List, [], ◌∷◌, Option, Some, None, refl, sym, ap, ◌∙◌, arith, subst}
 use Rattle.std.specs.Prelude.{bytes_eq, is_some, slice_get, MatchOption}
 use Rattle.std.specs.List.{position_from}
-use Rattle.std.specs.Option.{unwrap_or}
 use Rattle.std.specs.Cmp.Lexicographic.{bytes_decides}
 use Rattle.std.proofs.lemmas.Bool.{false≢true}
 use Rattle.net_plan.specs.Bearers.{IsFirstBearer, HasNoBearer}
 use Rattle.net_file.specs.Numbering.{MeansFirstBearer, first_of}
+use Rattle.tte_lemmas.proofs.Lists.{same_name}
 
 -- the answer of a search that begins its count at s
 abbrev Finds : ℕ → List (List ℕ) → List ℕ → Option ℕ → Type 0
 Finds s names text found = MatchOption found (HasNoBearer names text) (λ i. (k : ℕ) × (i ≡ s + k) × IsFirstBearer names text k)
-
-same_name : (name text : List ℕ) → Some name ≡ Some text → name ≡ text
-same_name name text e = ap (λ (o : Option (List ℕ)). unwrap_or o text) e
 
 none_in : (name : List ℕ) (names : List (List ℕ)) (text : List ℕ) → name ≢ text → HasNoBearer names text → HasNoBearer (name ∷ names) text
 none_in name names text other none zero e = other (same_name name text e)

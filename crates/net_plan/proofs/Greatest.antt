@@ -8,9 +8,10 @@ use Rattle.net_plan.specs.Places.{IsDeviceOf, device_at, is_end_system}
 use Rattle.net_plan.specs.declared.ids.DeviceId.{DeviceId}
 use Rattle.net_plan.specs.declared.ids.LinkId.{LinkId}
 use Rattle.net_plan.specs.declared.network.Network.{Network}
-use Rattle.net_plan.proofs.Trees.{opened, paths_are_unique}
+use Rattle.net_plan.proofs.Trees.{paths_are_unique}
 use Rattle.pcf_values.specs.declared.channel.Channel.{Channel}
 use Rattle.pcf_values.specs.declared.channel.Channel.TheVariants.{A, B}
+use Rattle.tte_lemmas.proofs.Options.{opened}
 
 -- no two numbers are the greatest
 pub greatest_is_unique : (Has : ℕ → Type 0) (m n : ℕ) → IsGreatest Has m → IsGreatest Has n → m ≡ n

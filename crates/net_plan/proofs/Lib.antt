@@ -7,3 +7,6 @@ pub mod Shape
 pub mod Beta
 pub mod Chain
 pub mod Found
+pub mod SameIds
+pub mod TableFacts
+pub mod InRange

@@ -11,8 +11,8 @@ use Rattle.net_plan.specs.declared.tables.Device.{Device}
 use Rattle.net_plan.specs.declared.tables.Link.{Link}
 use Rattle.net_plan.specs.declared.tables.Role.{Role}
 use Rattle.net_plan.specs.declared.tables.Role.TheVariants.{Cm, Relay}
-use Rattle.net_plan.proofs.Trees.{opened, closed, at_known}
 use Rattle.pcf_values.specs.declared.channel.Channel.{Channel}
+use Rattle.tte_lemmas.proofs.Options.{at_known, closed, opened}
 
 -- a compression master is no end system and no relay
 cm_is_no_end : (r : Role) → r ≡ Cm → is_end_system r ≡ true → ⊥
@@ -34,7 +34,7 @@ root n keeps c cm link h u =
     (subst (λ (i : DeviceId). IsRoleOf n Relay j.0 i) l.2.0 r)).0)
     j.2
 
-child_of : (n : Network) (c : Channel) (d : DeviceId) (link : LinkId) → IsUplink n c d link → IsChildOf n d link
+pub child_of : (n : Network) (c : Channel) (d : DeviceId) (link : LinkId) → IsUplink n c d link → IsChildOf n d link
 child_of n c d link u =
     let l = opened (λ (x : Link). (x.child ≡ d) × IsSwitchOf n c x.parent) (link_at n link) u in
     closed (λ (x : Link). x.child ≡ d) (link_at n link) l.0 l.1 l.2.0

@@ -1,6 +1,5 @@
 -- Paths in the trees of a network.
-use Rattle.std.proofs.Common.{◌≡◌, List, [], ◌∷◌, Option, Some, None, refl, sym, ap, ◌∙◌, subst}
-use Rattle.std.specs.Prelude.{IsSomeAnd}
+use Rattle.std.proofs.Common.{◌≡◌, List, [], ◌∷◌, Some, refl, sym, ap, ◌∙◌, subst}
 use Rattle.net_plan.specs.Paths.{IsUplink, IsPath, IsTree, PathsAreUnique}
 use Rattle.net_plan.specs.Places.{link_at, IsSwitchOf}
 use Rattle.net_plan.specs.declared.ids.DeviceId.{DeviceId}
@@ -8,17 +7,7 @@ use Rattle.net_plan.specs.declared.ids.LinkId.{LinkId}
 use Rattle.net_plan.specs.declared.network.Network.{Network}
 use Rattle.net_plan.specs.declared.tables.Link.{Link}
 use Rattle.pcf_values.specs.declared.channel.Channel.{Channel}
-
--- the value behind `IsSomeAnd`, and back
-pub opened : {X : Type 0} (P : X → Type 0) (o : Option X) → IsSomeAnd o P → (x : X) × (o ≡ Some x) × P x
-opened P None h = absurd h
-opened P (Some x) h = (x, refl, h)
-
-pub closed : {X : Type 0} (P : X → Type 0) (o : Option X) (x : X) → o ≡ Some x → P x → IsSomeAnd o P
-closed P o x e h = subst (λ (s : Option _). IsSomeAnd s P) (sym e) h
-
-pub at_known : {X : Type 0} (P : X → Type 0) (o : Option X) (x : X) → o ≡ Some x → IsSomeAnd o P → P x
-at_known P o x e h = subst (λ (s : Option _). IsSomeAnd s P) e h
+use Rattle.tte_lemmas.proofs.Options.{at_known, closed, opened}
 
 -- the first link of a path is an uplink
 pub uplink_of_path : (n : Network) (c : Channel) (d : DeviceId) (link : LinkId) (links : List LinkId) → IsPath n c d (link ∷ links) → IsUplink n c d link

@@ -1,8 +1,6 @@
 -- At a place of a file stands a packet, its end or a first fault, and `packet_at` answers so.
 use Rattle.std.proofs.Common.{◌≡◌, ℕ, ◌+◌, ◌<◌, ◌≤◌, List, length, Option, Some, None, Result, Ok, Err, refl, sym, ap, subst, ◌∙◌, inl, inr, arith, eq-eqb}
-use Rattle.std.specs.Prelude.{false, ◌==◌}
 use Rattle.std.proofs.lemmas.Bool.{cases_lt, le-ltb, lt-ltb}
-use Rattle.std.proofs.lemmas.Bool.Decides.{eqb_tells}
 use Rattle.pcap_form.specs.declared.capture.CaptureHead.{CaptureHead}
 use Rattle.pcap_form.specs.declared.capture.Packet.{Packet}
 use Rattle.pcap_form.specs.declared.refusal.CaptureRefusal.{CaptureRefusal}
@@ -10,13 +8,11 @@ use Rattle.pcap_form.specs.declared.refusal.CaptureRefusal.TheVariants.{Header, 
 use Rattle.pcap_form.specs.Layout.{stamp_length, most_captured, number, IsPacket}
 use Rattle.pcap_form.specs.Reading.{packet_of, packet_at}
 use Rattle.pcap_form.specs.ReadingLaw.{HasPacketFault, FindsPackets}
+use Rattle.tte_lemmas.proofs.Naturals.{goes_on}
 
 -- how many octets of the packet at a place were captured
 abbrev captured : CaptureHead → List ℕ → ℕ → ℕ
 captured head file at = number head.big 4 (at + 8) file
-
-goes_on : (a b : ℕ) → b < a → (a == b) ≡ false
-goes_on a b more = elim (eqb_tells a b) [ inl e ↦ absurd (omega (arith, e.1)) | inr e ↦ e.0 ]
 
 -- the answers, step by step
 

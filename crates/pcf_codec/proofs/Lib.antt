@@ -3,3 +3,4 @@ pub mod Encoding
 pub mod Spellings
 pub mod Outcomes
 pub mod Sequences
+pub mod Numbers

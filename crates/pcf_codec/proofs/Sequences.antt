@@ -1,6 +1,5 @@
 -- The frames of a stream, in pieces.
 use Rattle.std.proofs.Common.{◌≡◌, ℕ, ◌+◌, ◌-◌, ◌*◌, ◌≤◌, List, [], ◌∷◌, ◌++◌, length, take, drop, length-drop, Result, Ok, Err, refl, sym, ap, subst, ◌∙◌, inl, inr, arith, append_assoc, length-append, length-take}
-use Rattle.std.specs.Prelude.{option_to_list}
 use Rattle.std.proofs.lemmas.Bool.{cases_lt, lt-ltb, le-ltb}
 use Rattle.std.proofs.lemmas.List.{nil_from_length, append-nil, drop-append-le}
 use Rattle.std.proofs.Math.Seq.{drop-append_seam}
@@ -9,7 +8,7 @@ use Rattle.pcf_codec.specs.declared.refusal.PcfRefusal.{PcfRefusal}
 use Rattle.pcf_codec.specs.Spelling.{Spells, pcf_length}
 use Rattle.pcf_codec.specs.Decoding.{decoded}
 use Rattle.pcf_codec.specs.Sequence.{SpellsAll, IsLongestFront, IsUnfinished, IsRefusedFrame}
-use Rattle.pcf_codec.specs.Reading.{Reading, holding, waiting, refused, taken_of, fed, reading_of, judgement_of, emptied, frame_of, Reads}
+use Rattle.pcf_codec.specs.Reading.{Reading, holding, waiting, refused, taken_of, fed, reading_of, judgement_of, Reads}
 use Rattle.pcf_codec.proofs.Outcomes.{is_spelling}
 
 -- a sequence has sixty octets a frame
@@ -107,12 +106,6 @@ feeds (holding held) piece stream given (l, short) =
     (omega (arith, length-append held (take (pcf_length - length held) piece), length-take (pcf_length - length held) piece))
 feeds (waiting p) piece stream given l = rw append-nil l
 feeds (refused e) piece stream given l = rw append-nil l
-
--- taking the frame that waits carries the reading on
-pub takes : (r : Reading) (stream : List ℕ) (given : List Pcf) → Reads r stream given → Reads (emptied r) stream (given ++ option_to_list (frame_of r))
-takes (holding held) stream given l = rw append-nil l
-takes (waiting p) stream given l = (l, omega arith)
-takes (refused e) stream given l = rw append-nil l
 
 pub starts : Reads (holding []) [] []
 starts = (longest_before [] [] [] [] refl refl (omega arith), omega arith)

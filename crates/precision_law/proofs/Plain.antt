@@ -1,22 +1,11 @@
 -- Plain facts of choices, lists, roles and states that several files use.
-use Rattle.precision_law.proofs.words.Std.{◌<◌, ◌∙◌, ◌∷◌, ◌≡◌, ◌≤◌, Any, Bool, List, None, Option, Some, [], ap, arith, cases_lt, cons_option, false, filter_map, if◌then◌else◌, inl, inr, is_some, option_and_then, option_map, option_map_or, refl, subst, sym, true, ℕ}
+use Rattle.tte_lemmas.proofs.Options.{passed}
+use Rattle.precision_law.proofs.words.Std.{◌<◌, ◌∷◌, ◌≡◌, ◌≤◌, Any, Bool, List, None, Option, Some, [], arith, cases_lt, false, if◌then◌else◌, inl, inr, option_and_then, option_map_or, refl, subst, true, ℕ}
 use Rattle.precision_law.proofs.words.Plans.{Device, Master, Role, State, Synchronised, is_end_system}
 use Rattle.precision_law.proofs.words.Runs.{Happening, IsBefore, IsIn, any_first, any_later, any_of_none, any_parts, is_cm_role, is_synchronised, place_of, rank, time_of}
 use Rattle.precision_law.proofs.words.Laws.{has_time}
 
 -- ---- choices
-
-pub never_some : {X : Type 0} (x : X) → None ≡ Some x → ⊥
-never_some x e = cc
-
-pub some_of : {X : Type 0} (o : Option X) → is_some o ≡ true → (x : X) × (o ≡ Some x)
-some_of None e = absurd cc
-some_of (Some x) e = (x, refl)
-
--- what is made of something there
-pub mapped : {X Y : Type 0} (f : X → Y) (o : Option X) (y : Y) → option_map f o ≡ Some y → (x : X) × (o ≡ Some x) × (f x ≡ y)
-mapped f None y e = absurd cc
-mapped f (Some x) y e = (x, refl, cc)
 
 pub reached : {X Y : Type 0} (f : X → Option Y) (o : Option X) (y : Y) → option_and_then f o ≡ Some y → (x : X) × (o ≡ Some x) × (f x ≡ Some y)
 reached f None y e = absurd cc
@@ -35,30 +24,11 @@ le_by {a} {b} never = elim (cases_lt b a) [ inl lt ↦ absurd (never lt) | inr g
 
 -- ---- lists
 
--- a place that is before another is of no later time
-pub no_later : (t u : ℕ) (xs ys : List ℕ) → IsBefore (t ∷ xs) (u ∷ ys) → t ≤ u
-no_later t u xs ys (inl lt) = omega arith
-no_later t u xs ys (inr both) = omega (arith, both.0)
-
 -- a record that is before one of a lower rank is of an earlier time
 pub higher_before : (h g : Happening) → IsBefore (place_of h) (place_of g) → rank g.note.body < rank h.note.body → time_of h < time_of g
 higher_before h g (inl lt) low = lt
 higher_before h g (inr (same, inl less)) low = absurd (omega (arith, less, low))
 higher_before h g (inr (same, inr more)) low = absurd (omega (arith, more.0, low))
-
--- one of a lower rank, and of no later time, is before it
-pub ranked : (t u a b : ℕ) (xs ys : List ℕ) → t ≤ u → a < b → IsBefore (t ∷ a ∷ xs) (u ∷ b ∷ ys)
-ranked t u a b xs ys le low = elim (cases_lt t u) [ inl lt ↦ inl lt | inr ge ↦ inr (omega (arith, le, ge), inl low) ]
-
--- what is made of an element is there
-pub made_in : {X Y : Type 0} (f : X → Option Y) (xs : List X) (x : X) (y : Y) → IsIn x xs → f x ≡ Some y → IsIn y (filter_map f xs)
-made_in f [] x y i e = absurd i
-made_in {X} {Y} f (z ∷ xs) x y (inl same) e = subst (λ (o : Option Y). IsIn y (cons_option o (filter_map f xs))) (sym (ap f (sym same) ∙ e)) (inl refl)
-made_in f (z ∷ xs) x y (inr more) e = by (f z) (made_in f xs x y more e)
-  where
-    by : (o : Option _) → IsIn y (filter_map f xs) → IsIn y (cons_option o (filter_map f xs))
-    by None i = i
-    by (Some w) i = inr i
 
 -- the element of which something holds
 pub any_is : {X : Type 0} (P : X → Type 0) (xs : List X) → Any P xs → (x : X) × IsIn x xs × P x
@@ -74,11 +44,6 @@ any_of_in P x (y ∷ xs) (inl same) p = any_first P y xs (subst P same p)
 any_of_in P x (y ∷ xs) (inr i) p = any_later P y xs (any_of_in P x xs i p)
 
 -- ---- roles and states
-
--- what passes the test is there
-pub passed : {X : Type 0} (test : X → Bool) (o : Option X) → option_map_or test o false ≡ true → (x : X) × (o ≡ Some x) × (test x ≡ true)
-passed test None e = absurd cc
-passed test (Some x) e = (x, refl, e)
 
 -- a device of which this holds is there
 pub device_of : (f : Role → Bool) (o : Option Device) → option_map_or (λ d. f d.role) o false ≡ true → (d : Device) × (o ≡ Some d) × (f d.role ≡ true)

@@ -1,4 +1,3 @@
 -- So each firm device is corrected at its correction point, by a frame that all share.
-pub mod Verdicts
 pub mod HeardOutside
 pub mod FirmDevices

@@ -1,6 +1,6 @@
 -- What is shown with one more record by which the device hears a frame.
 use Rattle.std.proofs.Common.{◌≡◌, ℕ, ◌-◌, ◌<◌, ◌≤◌, Bool, true, false, List, [], ◌∷◌, ◌++◌, Option, inl, inr, refl, sym, ap, subst, ◌∙◌, arith, if◌then◌else◌}
-use Rattle.std.proofs.lemmas.Bool.{cases_lt, eq-eqb, ne_eqb}
+use Rattle.std.proofs.lemmas.Bool.{cases_lt}
 use Rattle.std.proofs.lemmas.List.{append-nil}
 use Rattle.std.specs.List.{cons_option, filter_map}
 use Rattle.std.specs.Prelude.{◌==◌}
@@ -20,12 +20,7 @@ use Rattle.tte_units.specs.declared.units.Units.{Units}
 use Rattle.record_history.proofs.Points.{points_mono}
 use Rattle.record_history.proofs.Steps.{TellsAs, adjustment_on, cycle_on, front_later, heard_on, integrated_on, joined_on, kept_where, not_joined, one_later, state_on, told, unchanged}
 use Rattle.std.specs.Prelude.{pos, ◌+ℤ◌}
-
-same_is : (n : ℕ) → (n == n) ≡ true
-same_is n = eq-eqb n n refl
-
-other_is : (m n : ℕ) → n < m → (m == n) ≡ false
-other_is m n lt = ne_eqb m n (λ e. absurd (omega (arith, lt, e)))
+use Rattle.tte_lemmas.proofs.Naturals.{eqb_same, goes_on}
 
 -- it is heard where so many points have come
 heard_there : (s : Scenario) (hs : List Happening) (device : DeviceId) (h : Happening) (shown : Shown) (hearing : Hearing) (points : ℕ)
@@ -34,7 +29,7 @@ heard_there : (s : Scenario) (hs : List Happening) (device : DeviceId) (h : Happ
     → heard_at s (hs ++ h ∷ []) device shown points ≡ heard_at s hs device shown points ++ hearing ∷ []
 heard_there s hs device h shown hearing points t is =
     let f : Happening → Option Hearing = λ x. hearing_by s.network device x x.note.body in
-    let kept : kept_where s device shown points h ≡ true = ap (λ (n : ℕ). points == n) (sym is) ∙ same_is points in
+    let kept : kept_where s device shown points h ≡ true = ap (λ (n : ℕ). points == n) (sym is) ∙ eqb_same points in
     heard_on s hs device h shown points t.changes_is
     ∙ ap (λ (b : Bool). heard_at s hs device shown points ++ filter_map f (if b then h ∷ [] else [])) kept
     ∙ ap (λ (o : Option Hearing). heard_at s hs device shown points ++ cons_option o []) t.hears_is
@@ -46,7 +41,7 @@ heard_else : (s : Scenario) (hs : List Happening) (device : DeviceId) (h : Happe
     → heard_at s (hs ++ h ∷ []) device shown more ≡ heard_at s hs device shown more
 heard_else s hs device h shown hearing points more t is lt =
     let f : Happening → Option Hearing = λ x. hearing_by s.network device x x.note.body in
-    let kept : kept_where s device shown more h ≡ false = ap (λ (n : ℕ). more == n) (sym is) ∙ other_is more points lt in
+    let kept : kept_where s device shown more h ≡ false = ap (λ (n : ℕ). more == n) (sym is) ∙ goes_on more points lt in
     heard_on s hs device h shown more t.changes_is
     ∙ ap (λ (b : Bool). heard_at s hs device shown more ++ filter_map f (if b then h ∷ [] else [])) kept
     ∙ append-nil (heard_at s hs device shown more)
@@ -57,12 +52,12 @@ pub kept_then : (s : Scenario) (hs : List Happening) (device : DeviceId) (shown 
 kept_then s hs device shown points sh from none =
     elim (cases_lt shown.come points) [
       | inl lt ↦
-          subst (λ (b : Bool). Summarizes (if b then shown.heard else silence) (heard_at s hs device shown points)) (sym (other_is points shown.come lt))
+          subst (λ (b : Bool). Summarizes (if b then shown.heard else silence) (heard_at s hs device shown points)) (sym (goes_on points shown.come lt))
           (subst (Summarizes silence) (sym (sh.no_more points lt)) none)
       | inr ge ↦
           let e : shown.come ≡ points = omega (arith, from, ge) in
           subst (λ (n : ℕ). Summarizes (if n == shown.come then shown.heard else silence) (heard_at s hs device shown n)) e
-          (subst (λ (b : Bool). Summarizes (if b then shown.heard else silence) (heard_at s hs device shown shown.come)) (sym (same_is shown.come)) sh.heard)
+          (subst (λ (b : Bool). Summarizes (if b then shown.heard else silence) (heard_at s hs device shown shown.come)) (sym (eqb_same shown.come)) sh.heard)
     ]
 
 -- what is shown of a device that has heard one more frame

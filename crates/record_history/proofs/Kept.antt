@@ -1,11 +1,10 @@
 -- What is kept goes on by one more record.
 use Rattle.std.proofs.Common.{◌≡◌, ◌⊎◌, ℕ, ◌≤◌, List, [], ◌∷◌, ◌++◌, filter, Bool, true, false, Option, Some, None, inl, inr, refl, sym, ap, subst, ◌∙◌, arith, if◌then◌else◌}
-use Rattle.std.proofs.lemmas.Bool.{eq-eqb, eqb-true, le-ltb, lt-ltb, ltb-true, ne_eqb}
+use Rattle.std.proofs.lemmas.Bool.{ne_eqb}
 use Rattle.std.specs.List.{last_or}
 use Rattle.std.specs.List.Sorted.{IsPartitionedBy}
 use Rattle.std.specs.Option.{option_map_or}
-use Rattle.std.specs.Prelude.{◌==◌, ◌&&◌, ◌||◌, nat_lt}
-use Rattle.audit_law.proofs.LastParts.{all_kept}
+use Rattle.std.specs.Prelude.{◌==◌}
 use Rattle.net_plan.specs.declared.ids.DeviceId.{DeviceId}
 use Rattle.net_plan.specs.declared.network.Network.{Network}
 use Rattle.record_history.specs.Effects.{carried_by, effect_by, effect_of, subject_of}
@@ -18,6 +17,7 @@ use Rattle.record_history.specs.declared.effect.Effect.{Effect}
 use Rattle.record_history.specs.declared.history.Entry.{Entry}
 use Rattle.record_history.specs.declared.history.History.{History}
 use Rattle.record_history.specs.declared.mark.Mark.{Mark}
+use Rattle.run_law.proofs.records.Order.{all_kept, before_is, is_there}
 use Rattle.run_law.proofs.runs.Places.{chain, in_left, in_parts, in_right}
 use Rattle.run_law.specs.declared.note.NoteBody.TheVariants as notes
 use Rattle.run_law.specs.declared.note.NoteBody.{NoteBody}
@@ -26,39 +26,12 @@ use Rattle.run_law.specs.records.Happenings.{Happening, time_of}
 use Rattle.run_law.specs.records.Order.{AllBefore, IsBefore, IsIn, is_before}
 use Rattle.run_law.specs.records.Ranks.{key, members_in, place_of, rank}
 use Rattle.run_law.specs.scenario.Scenarios.{Scenario}
-use Rattle.record_history.proofs.Grown.{filter_off, filter_on, last_more}
+use Rattle.tte_lemmas.proofs.Lists.{filter_off, filter_on, last_pushed}
 use Rattle.record_history.proofs.MarkOrder.{marks_compare}
 use Rattle.record_history.proofs.Partitions.{parted_on}
 use Rattle.record_history.proofs.Steps.{quiet}
 
 -- ---- the test of places
-
-or_told : (a b c : Bool) → (a || (b && c)) ≡ true → (a ≡ true) ⊎ ((b ≡ true) × (c ≡ true))
-or_told true b c e = inl refl
-or_told false true true e = inr (refl, refl)
-or_told false true false e = absurd cc
-or_told false false c e = absurd cc
-
-or_left : (a b : Bool) → a ≡ true → (a || b) ≡ true
-or_left a b e = ap (λ (c : Bool). c || b) e
-
-pub is_there : (p q : List ℕ) → is_before p q ≡ true → IsBefore p q
-is_there p [] e = absurd cc
-is_there [] (y ∷ ys) e = tt
-is_there (x ∷ xs) (y ∷ ys) e =
-    elim (or_told (nat_lt x y) (x == y) (is_before xs ys) e) [
-      | inl lt ↦ inl (ltb-true x y lt)
-      | inr both ↦ inr (eqb-true x y both.0, is_there xs ys both.1)
-    ]
-
-pub before_is : (p q : List ℕ) → IsBefore p q → is_before p q ≡ true
-before_is p [] b = absurd b
-before_is [] (y ∷ ys) b = refl
-before_is (x ∷ xs) (y ∷ ys) (inl lt) = or_left (nat_lt x y) _ (lt-ltb x y lt)
-before_is (x ∷ xs) (y ∷ ys) (inr b) =
-    ap (λ (c : Bool). c || (x == y && is_before xs ys)) (le-ltb x y (omega (arith, b.0)))
-    ∙ ap (λ (c : Bool). c && is_before xs ys) (eq-eqb x y b.0)
-    ∙ before_is xs ys b.1
 
 pub test_chain : (p q r : List ℕ) → is_before p q ≡ true → is_before q r ≡ true → is_before p r ≡ true
 test_chain p q r a b = before_is p r (chain p q r (is_there p q a) (is_there q r b))
@@ -140,7 +113,7 @@ kept_on s hs d h old new shown all of first items shows keeps = record {
 }
   where
     newest : (es : List Entry) → shown_of new.first (es ++ entry_of h shown ∷ []) ≡ shown
-    newest es = ap (λ (o : Option Entry). option_map_or (λ (e : Entry). e.shown) o new.first) (last_more None es (entry_of h shown))
+    newest es = ap (λ (o : Option Entry). option_map_or (λ (e : Entry). e.shown) o new.first) (last_pushed None es (entry_of h shown))
 
     by_place : (place : List ℕ) (mark : Mark) → IsMarkOf d mark place → (b : Bool) → is_before (place_of h) place ≡ b
         → Shows s (records_before place (hs ++ h ∷ [])) d (shown_before mark new)

@@ -1,9 +1,9 @@
 -- What is kept of all devices goes on by one more record.
-use Rattle.std.proofs.Common.{◌≡◌, ◌⊎◌, ℕ, zero, suc, ◌<◌, List, [], ◌∷◌, ◌++◌, filter, get_or, length, Bool, true, false, Some, None, Result, Ok, Err, slice_get, inl, inr, refl, sym, ap, subst, ◌∙◌, arith}
+use Rattle.std.proofs.Common.{◌≡◌, ◌⊎◌, ℕ, zero, suc, ◌<◌, List, [], ◌∷◌, ◌++◌, filter, length, true, Some, None, Result, Ok, Err, slice_get, inl, inr, refl, sym, ap, subst, ◌∙◌, arith}
 use Rattle.std.proofs.lemmas.Bool.{cases_order}
 use Rattle.std.specs.List.{last_or}
 use Rattle.std.specs.Option.{option_map_or}
-use Rattle.std.specs.Prelude.{OnOk, is_ok, slice_set, ◌==◌, ◌&&◌, ◌||◌, nat_lt}
+use Rattle.std.specs.Prelude.{OnOk, is_ok, slice_set, ◌==◌, nat_lt}
 use Rattle.net_plan.specs.declared.ids.DeviceId.{DeviceId}
 use Rattle.net_plan.specs.declared.network.Network.{Network}
 use Rattle.record_history.specs.Effects.{carried_by, subject_of}
@@ -16,40 +16,15 @@ use Rattle.record_history.specs.declared.history.Entry.{Entry}
 use Rattle.record_history.specs.declared.history.History.{History}
 use Rattle.record_history.specs.declared.mark.Mark.{Mark}
 use Rattle.record_history.specs.declared.shown.Readings.{Readings}
+use Rattle.run_law.proofs.records.Order.{same_kept}
 use Rattle.run_law.specs.declared.note.NoteBody.{NoteBody}
 use Rattle.run_law.specs.records.Happenings.{Happening, earlier, time_of}
 use Rattle.run_law.specs.records.Order.{IsIn, is_before}
 use Rattle.run_law.specs.records.Ranks.{members_in, place_of}
 use Rattle.run_law.specs.scenario.Scenarios.{Scenario}
-use Rattle.record_history.proofs.Grown.{same_kept}
+use Rattle.tte_lemmas.proofs.Bools.{no_more}
+use Rattle.tte_lemmas.proofs.Lists.{got_within, set_other, set_same}
 use Rattle.record_history.proofs.Kept.{kept_still, nothing_of}
-
--- ---- places of a list
-
-pub get_same : {X : Type 0} (xs : List X) (i : ℕ) (x : X) → i < length xs → slice_get (slice_set xs i x) i ≡ Some x
-get_same [] i x lt = absurd (omega (arith, lt))
-get_same (y ∷ xs) zero x lt = refl
-get_same (y ∷ xs) (suc i) x lt = get_same xs i x (omega (arith, lt))
-
-pub get_other : {X : Type 0} (xs : List X) (i j : ℕ) (x : X) → (i ≡ j → ⊥) → slice_get (slice_set xs i x) j ≡ slice_get xs j
-get_other [] i j x not = refl
-get_other (y ∷ xs) zero zero x not = absurd (not refl)
-get_other (y ∷ xs) zero (suc j) x not = refl
-get_other (y ∷ xs) (suc i) zero x not = refl
-get_other (y ∷ xs) (suc i) (suc j) x not = get_other xs i j x (λ e. not (ap (λ (n : ℕ). suc n) e))
-
-there_at : {X : Type 0} (xs : List X) (i : ℕ) (d : X) → i < length xs → slice_get xs i ≡ Some (get_or xs i d)
-there_at [] i d lt = absurd (omega (arith, lt))
-there_at (x ∷ xs) zero d lt = refl
-there_at (x ∷ xs) (suc i) d lt = there_at xs i d (omega (arith, lt))
-
-pub got_at : {X : Type 0} (xs : List X) (i : ℕ) (x : X) → i < length xs → x ≡ get_or xs i x → slice_get xs i ≡ Some x
-got_at xs i x lt e = there_at xs i x lt ∙ ap (λ y. Some y) (sym e)
-
-got_within : {X : Type 0} (xs : List X) (i : ℕ) (x : X) → slice_get xs i ≡ Some x → i < length xs
-got_within [] i x e = absurd cc
-got_within (y ∷ xs) zero x e = omega arith
-got_within (y ∷ xs) (suc i) x e = omega (arith, got_within xs i x e)
 
 -- ---- what holds where a call was not cut short
 
@@ -80,7 +55,7 @@ all_on s hs h d new histories subject within kept keeps device history there =
           let mk : ℕ → DeviceId = λ n. record { 0 = n } in
           let one : d ≡ device = ap mk same in
           let found : Some new ≡ Some history =
-          sym (get_same histories d.0 new within) ∙ ap (slice_get (slice_set histories d.0 new)) same ∙ there in
+          sym (set_same histories d.0 new within) ∙ ap (slice_get (slice_set histories d.0 new)) same ∙ there in
           let is : new ≡ history = cc in
           subst (λ (x : DeviceId). Keeps s (hs ++ h ∷ []) x history) one (subst (Keeps s (hs ++ h ∷ []) d) is kept)
       | inr (inl lt) ↦ other (λ e. absurd (omega (arith, e, lt)))
@@ -92,7 +67,7 @@ all_on s hs h d new histories subject within kept keeps device history there =
         kept_still s hs device h history
         (nothing_of s.network device (carried_by h) h.note.body
         (λ e. let one : Some d ≡ Some device = sym subject ∙ e in let is : d ≡ device = cc in not (ap (λ (x : DeviceId). x.0) is)))
-        (keeps device history (sym (get_other histories d.0 device.0 new not) ∙ there))
+        (keeps device history (sym (set_other histories d.0 device.0 new not) ∙ there))
 
 -- ---- the mark of what is met
 
@@ -104,14 +79,6 @@ mark_met s d h t body carried readings met =
     ∙ ap (mark_at (time_of h) (members_in h)) (sym met.body_is)
 
 -- ---- before a time
-
-pub none_shorter : (b : Bool) → (b && false) ≡ false
-none_shorter true = refl
-none_shorter false = refl
-
-pub no_more : (a b : Bool) → (a || (b && false)) ≡ a
-no_more true b = refl
-no_more false b = none_shorter b
 
 pub earlier_are : (t : ℕ) (hs : List Happening) → records_before (t ∷ []) hs ≡ earlier t hs
 earlier_are t hs =

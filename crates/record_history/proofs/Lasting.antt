@@ -1,6 +1,7 @@
 -- How long the same is shown.
-use Rattle.std.proofs.Common.{◌≡◌, ℕ, zero, suc, ◌+◌, ◌<◌, ◌≤◌, List, [], ◌∷◌, filter, get_or, length, take, Bool, true, false, Option, Some, None, slice_get, refl, sym, ap, subst, ◌∙◌, arith}
-use Rattle.std.proofs.lemmas.Bool.{false≢true, le-ltb, lt-ltb, ltb-true}
+use Rattle.std.proofs.Common.{◌≡◌, ℕ, ◌+◌, ◌<◌, ◌≤◌, List, filter, get_or, length, take, Bool, true, false, Option, Some, None, slice_get, refl, sym, ap, subst, ◌∙◌, arith}
+use Rattle.std.proofs.lemmas.Bool.{false≢true, le-leb, le-ltb, leb-false, leb-true, lt-ltb, ltb-true}
+use Rattle.std.proofs.lemmas.Option.{slice_get-get_or}
 use Rattle.std.specs.List.{last_or}
 use Rattle.std.specs.List.Sorted.{IsPartitionPoint, IsPartitionedBy}
 use Rattle.std.specs.Option.{option_map_or}
@@ -12,6 +13,7 @@ use Rattle.record_history.specs.Showing.{Shown}
 use Rattle.record_history.specs.declared.history.Entry.{Entry}
 use Rattle.record_history.specs.declared.history.History.{History}
 use Rattle.record_history.specs.declared.mark.Mark.{Mark}
+use Rattle.tte_lemmas.proofs.Lists.{got_within}
 use Rattle.record_history.proofs.Partitions.{kept_front}
 
 -- no number is below 0
@@ -30,17 +32,6 @@ by_time m t =
     (none_below true m.rank _ (none_below true m.first _ (none_below true m.second _ (none_below true m.third _ (none_below true m.fourth _
     (none_below true m.fifth _ (none_below true m.sixth _ refl)))))))
 
-le_is : (a b : ℕ) → nat_le a b ≡ true → a ≤ b
-le_is a b e = grind (arith)
-
-le_not : (a b : ℕ) → nat_le a b ≡ false → b < a
-le_not a b e = grind (arith)
-
-got : {X : Type 0} (xs : List X) (i : ℕ) (d : X) → i < length xs → slice_get xs i ≡ Some (get_or xs i d)
-got [] i d lt = absurd (omega (arith, lt))
-got (x ∷ xs) zero d lt = refl
-got (x ∷ xs) (suc i) d lt = got xs i d (omega (arith, lt))
-
 -- the entries before a time that is none later than that of the entry behind the point are those up to the point
 pub front_at : (items : List Entry) (time point t : ℕ) → ((mark : Mark) → IsPartitionedBy (λ e. is_mark_before e.mark mark) items)
     → point ≤ length items → IsPartitionPoint (λ e. nat_le e.mark.time time ≡ true) (λ e. nat_le e.mark.time time ≡ false) items point
@@ -50,7 +41,7 @@ front_at items time point t order bound parts lt next =
     kept_front (λ e. is_mark_before e.mark (mark_of_time t)) items point bound (
       λ k d some here.
           let e = get_or items k d in
-          let early = le_is e.mark.time time (parts.0 k d some here) in
+          let early = leb-true e.mark.time time (parts.0 k d some here) in
           by_time e.mark t ∙ lt-ltb e.mark.time t (omega (arith, early, lt)),
       λ k d from there. behind k d from there (is_mark_before (get_or items k d).mark (mark_of_time t)) refl,
     )
@@ -62,7 +53,7 @@ front_at items time point t order bound parts lt next =
         let passes = order (mark_of_time t) point k d from there e in
         let first = get_or items point d in
         let early = ltb-true first.mark.time t (sym (by_time first.mark t) ∙ passes) in
-        let late = next first (got items point d (omega (arith, from, there))) in
+        let late = next first (slice_get-get_or items point d (omega (arith, from, there))) in
         absurd (omega (arith, early, late))
 
 abbrev last_of : Shown → List Entry → Shown
@@ -78,32 +69,24 @@ lasting history time point next order bound parts up later t lt le =
     let here = front_at items time point (time + 1) order bound parts (omega arith) (λ e is. let after = later e is in omega (arith, after)) in
     ap (last_of history.first) (there ∙ sym here)
 
-is_le : (a b : ℕ) → a ≤ b → nat_le a b ≡ true
-is_le a b e = grind (arith)
-
-pub got_within : {X : Type 0} (xs : List X) (i : ℕ) (x : X) → slice_get xs i ≡ Some x → i < length xs
-got_within [] i x e = absurd cc
-got_within (y ∷ xs) zero x e = omega arith
-got_within (y ∷ xs) (suc i) x e = omega (arith, got_within xs i x e)
-
 -- what stands behind the point is later
 pub later_at : (items : List Entry) (time point : ℕ) (e : Entry)
     → IsPartitionPoint (λ e. nat_le e.mark.time time ≡ true) (λ e. nat_le e.mark.time time ≡ false) items point
     → slice_get items point ≡ Some e → time < e.mark.time
 later_at items time point e parts is =
     let lt = got_within items point e is in
-    let same : Some (get_or items point e) ≡ Some e = sym (got items point e lt) ∙ is in
+    let same : Some (get_or items point e) ≡ Some e = sym (slice_get-get_or items point e lt) ∙ is in
     let one : get_or items point e ≡ e = cc in
     let late = parts.1 point e (omega arith) lt in
-    subst (λ (x : Entry). time < x.mark.time) one (le_not (get_or items point e).mark.time time late)
+    subst (λ (x : Entry). time < x.mark.time) one (leb-false (get_or items point e).mark.time time late)
 
 -- the entries up to a time are the first
 pub ordered_by : (items : List Entry) (time : ℕ) → ((mark : Mark) → IsPartitionedBy (λ e. is_mark_before e.mark mark) items)
     → IsPartitionedBy (λ e. nat_le e.mark.time time) items
 ordered_by items time order i j d le lt passes =
     let up : nat_le (get_or items j d).mark.time time ≡ true = passes in
-    let early = le_is (get_or items j d).mark.time time up in
+    let early = leb-true (get_or items j d).mark.time time up in
     let before = by_time (get_or items j d).mark (time + 1) ∙ lt-ltb (get_or items j d).mark.time (time + 1) (omega (arith, early)) in
     let first = order (mark_of_time (time + 1)) i j d le lt before in
     let is = ltb-true (get_or items i d).mark.time (time + 1) (sym (by_time (get_or items i d).mark (time + 1)) ∙ first) in
-    is_le (get_or items i d).mark.time time (omega (arith, is))
+    le-leb (get_or items i d).mark.time time (omega (arith, is))

@@ -1,5 +1,4 @@
 pub mod Tells
-pub mod Grown
 pub mod Steps
 pub mod Points
 pub mod Hearings

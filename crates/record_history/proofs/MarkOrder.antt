@@ -1,6 +1,6 @@
 -- The marks of a device's records are in the order of their places.
 use Rattle.std.proofs.Common.{◌≡◌, ℕ, List, [], ◌∷◌, ◌++◌, length, Bool, true, false, Some, refl, sym, ap, ◌∙◌, arith, if◌then◌else◌}
-use Rattle.std.proofs.lemmas.Bool.{eq-eqb, eqb-true, le-ltb}
+use Rattle.std.proofs.lemmas.Bool.{eqb-true, le-ltb}
 use Rattle.std.specs.Prelude.{◌==◌, ◌&&◌, ◌||◌, nat_lt}
 use Rattle.net_plan.specs.declared.ids.DeviceId.{DeviceId}
 use Rattle.net_plan.specs.declared.ids.LinkId.{LinkId}
@@ -13,6 +13,7 @@ use Rattle.run_law.specs.records.Causes.{device_of}
 use Rattle.run_law.specs.records.Happenings.{time_of}
 use Rattle.run_law.specs.records.Order.{is_before}
 use Rattle.run_law.specs.records.Ranks.{members_in, place_at, rank, sign}
+use Rattle.tte_lemmas.proofs.Naturals.{eqb_same}
 use Rattle.tte_units.specs.Amount.{amount}
 use Rattle.tte_units.specs.declared.units.Units.{Units}
 
@@ -117,9 +118,6 @@ and_same : (b p q : Bool) → (b ≡ true → p ≡ q) → (b && p) ≡ (b && q)
 and_same true p q same = same refl
 and_same false p q same = refl
 
-same_is : (n : ℕ) → (n == n) ≡ true
-same_is n = eq-eqb n n refl
-
 never_below : (n : ℕ) → nat_lt n n ≡ false
 never_below n = le-ltb n n (omega arith)
 
@@ -142,7 +140,7 @@ padded (x ∷ xs) (y ∷ ys) zs e = ap (λ (b : Bool). nat_lt x y || (x == y && 
 -- of one device
 of_one : (d : ℕ) (xs ys : List ℕ) → is_before (d ∷ xs) (d ∷ ys) ≡ is_before xs ys
 of_one d xs ys =
-    ap (λ (b : Bool). b || (d == d && is_before xs ys)) (never_below d) ∙ ap (λ (b : Bool). b && is_before xs ys) (same_is d)
+    ap (λ (b : Bool). b || (d == d && is_before xs ys)) (never_below d) ∙ ap (λ (b : Bool). b && is_before xs ys) (eqb_same d)
 
 compared : (t u r q d : ℕ) (xs ys : List ℕ) → length xs ≡ count_by r → length ys ≡ count_by q
     → is_before (t ∷ r ∷ (xs ++ zeros_by r)) (u ∷ q ∷ (ys ++ zeros_by q)) ≡ is_before (t ∷ r ∷ d ∷ xs) (u ∷ q ∷ d ∷ ys)

@@ -10,6 +10,8 @@ use Rattle.record_history.specs.Showing.{points_by, points_from}
 use Rattle.record_history.specs.Showing.{Shown}
 use Rattle.run_law.specs.control.Corrections.{correction_value}
 use Rattle.run_law.specs.device.Standpoints.{natural}
+use Rattle.tte_lemmas.proofs.Bools.{none_shorter}
+use Rattle.tte_lemmas.proofs.Integers.{int_le-false, int_le-from, int_le-is, int_lt-from, not_below}
 
 -- a number that is not negative
 whole : (z : ℤ) → pos 0 ≤ℤ z → (n : ℕ) × (z ≡ pos n)
@@ -39,19 +41,13 @@ come_on true false r m n more le = omega arith
 come_on true true true m n more le = omega (arith, le refl)
 come_on true true false m n more le = absurd (cc (more refl))
 
-at_most : (a b : ℤ) → int_le a b ≡ true → a ≤ℤ b
-at_most a b e = grind (arith, ints)
-
-at_least : (a b : ℤ) → a ≤ℤ b → int_le a b ≡ true
-at_least a b e = grind (arith, ints)
-
 points_on : (network : Network) (cycle : ℕ) (at_change a b : ℤ) → IsInRange network → a ≤ℤ b
     → points_from network cycle at_change a ≤ points_from network cycle at_change b
 points_on network cycle at_change a b range le =
     let first : ℤ = correction_value network cycle in
     come_on (int_lt at_change first) (int_le first a) (int_le first b) (natural (int_div_euclid (a -ℤ first) network.cycle.0))
-    (natural (int_div_euclid (b -ℤ first) network.cycle.0)) (λ e. at_least first b (omega (arith, ints, at_most first a e, le)))
-    (λ e. quotient_on (a -ℤ first) (b -ℤ first) network.cycle.0 (omega (arith, ints, range.cycle.least)) (omega (arith, ints, at_most first a e))
+    (natural (int_div_euclid (b -ℤ first) network.cycle.0)) (λ e. int_le-from first b (omega (arith, ints, int_le-is first a e, le)))
+    (λ e. quotient_on (a -ℤ first) (b -ℤ first) network.cycle.0 (omega (arith, ints, range.cycle.least)) (omega (arith, ints, int_le-is first a e))
     (omega (arith, ints, le)))
 
 pub points_mono : (network : Network) (shown : Shown) (a b : ℕ) → IsInRange network → a ≤ b → points_by network shown a ≤ points_by network shown b
@@ -59,15 +55,6 @@ points_mono network shown a b range le =
     points_on network shown.cycle shown.at_change (pos a +ℤ shown.adjustment) (pos b +ℤ shown.adjustment) range (omega (arith, ints, le))
 
 -- ---- how the count is found
-
-is_below : (a b : ℤ) → a <ℤ b → int_lt a b ≡ true
-is_below a b e = grind (arith, ints)
-
-not_below : (a b : ℤ) → b ≤ℤ a → int_lt a b ≡ false
-not_below a b e = grind (arith, ints)
-
-not_within : (a b : ℤ) → b <ℤ a → int_le a b ≡ false
-not_within a b e = grind (arith, ints)
 
 counted : (p q : Bool) (n m : ℕ) → p ≡ true → q ≡ true → n ≡ m → n + 1 ≡ (if p && q then m + 1 else 0)
 counted true true n m a b e = ap (λ (k : ℕ). k + 1) e
@@ -85,8 +72,8 @@ then_comes network shown before first n r is below reached apart value =
     let v : ℤ = correction_value network shown.cycle in
     let local : ℤ = pos before +ℤ shown.adjustment in
     counted (int_lt shown.at_change v) (int_le v local) r (natural (int_div_euclid (local -ℤ v) network.cycle.0))
-    (subst (λ (z : ℤ). int_lt shown.at_change z ≡ true) is (is_below shown.at_change (pos first) below))
-    (subst (λ (z : ℤ). int_le z local ≡ true) is (at_least (pos first) local reached))
+    (subst (λ (z : ℤ). int_lt shown.at_change z ≡ true) is (int_lt-from shown.at_change (pos first) below))
+    (subst (λ (z : ℤ). int_le z local ≡ true) is (int_le-from (pos first) local reached))
     (value
     ∙ ap (λ (z : ℤ). natural (int_div_euclid z network.cycle.0)) apart
     ∙ ap (λ (z : ℤ). natural (int_div_euclid (local -ℤ z) network.cycle.0)) is)
@@ -101,30 +88,17 @@ has_passed network shown before first is passed =
     not_counted (int_lt shown.at_change v) (int_le v local) (natural (int_div_euclid (local -ℤ v) network.cycle.0))
     (ap (λ (b : Bool). b && int_le v local) no)
 
-and_not : (p : Bool) → (p && false) ≡ false
-and_not true = refl
-and_not false = refl
-
 -- where it has not come to it
 pub not_come : (network : Network) (shown : Shown) (before first : ℕ) → pos first ≡ correction_value network shown.cycle
     → (pos before +ℤ shown.adjustment) <ℤ pos first → 0 ≡ points_by network shown before
 not_come network shown before first is below =
     let v : ℤ = correction_value network shown.cycle in
     let local : ℤ = pos before +ℤ shown.adjustment in
-    let no = subst (λ (z : ℤ). int_le z local ≡ false) is (not_within (pos first) local below) in
+    let no = subst (λ (z : ℤ). int_le z local ≡ false) is (int_le-false (pos first) local below) in
     not_counted (int_lt shown.at_change v) (int_le v local) (natural (int_div_euclid (local -ℤ v) network.cycle.0))
-    (ap (λ (b : Bool). int_lt shown.at_change v && b) no ∙ and_not (int_lt shown.at_change v))
+    (ap (λ (b : Bool). int_lt shown.at_change v && b) no ∙ none_shorter (int_lt shown.at_change v))
 
 -- ---- what tests tell
-
-pub lt_told : (a b : ℤ) → int_lt a b ≡ true → a <ℤ b
-lt_told a b e = grind (arith, ints)
-
-pub lt_denied : (a b : ℤ) → int_lt a b ≡ false → b ≤ℤ a
-lt_denied a b e = grind (arith, ints)
-
-pub le_told : (a b : ℤ) → int_le a b ≡ true → a ≤ℤ b
-le_told a b e = grind (arith, ints)
 
 pub le_denied : (a b : ℤ) → int_le a b ≡ false → b <ℤ a
 le_denied a b e = grind (arith, ints)

@@ -1,8 +1,7 @@
 -- What is read of what is shown: the correction points that have come, and what was heard since the last.
-use Rattle.std.proofs.Common.{◌≡◌, ℕ, ◌+◌, ◌-◌, ℤ, pos, List, [], ◌∷◌, All, drop, filter, length, not, reverse, Bool, true, false, Option, None, inl, inr, refl, sym, ap, subst, ◌∙◌, arith, if◌then◌else◌}
+use Rattle.std.proofs.Common.{◌≡◌, ℕ, ◌+◌, ◌-◌, ℤ, pos, List, [], ◌∷◌, filter, Bool, true, false, Option, None, inl, inr, refl, sym, ap, subst, ◌∙◌, arith, if◌then◌else◌}
 use Rattle.std.proofs.lemmas.Bool.{ltb-false}
-use Rattle.std.proofs.lemmas.List.Elements.{All-head, All-tail}
-use Rattle.std.specs.List.{after_last, filter_map, last_or, prefix_len}
+use Rattle.std.specs.List.{after_last, filter_map, last_or}
 use Rattle.std.specs.Option.{option_map_or}
 use Rattle.std.specs.Prelude.{◌&&◌, ◌||◌, ◌+ℤ◌, ◌==◌, fold, nat_lt}
 use Rattle.membership.proofs.SummaryLemmas.{silence_summarizes}
@@ -14,6 +13,7 @@ use Rattle.record_history.specs.Effects.{effect_of}
 use Rattle.record_history.specs.Showing.{IsAfter, NoneLater, Shown, Shows, heard_at, heard_by_then, last_change, points_by, points_from}
 use Rattle.record_history.specs.declared.effect.Effect.TheVariants.{Nothing, Joins, Hears, Corrects, Turns}
 use Rattle.record_history.specs.declared.effect.Effect.{Effect}
+use Rattle.run_law.proofs.records.Order.{after_same, same_kept}
 use Rattle.run_law.specs.control.Corrections.{hearing_by, recorded_cycle}
 use Rattle.run_law.specs.device.LocalClocks.{changes_adjustment}
 use Rattle.run_law.specs.device.States.{adjustment_after, adjustment_at_hearing, is_joined_by}
@@ -21,7 +21,6 @@ use Rattle.run_law.specs.records.Happenings.{Happening, earlier, time_of}
 use Rattle.run_law.specs.records.Order.{IsIn}
 use Rattle.run_law.specs.scenario.Scenarios.{Scenario}
 use Rattle.tte_units.specs.declared.units.Units.{Units}
-use Rattle.record_history.proofs.Grown.{all_of, all_turned, same_kept}
 use Rattle.record_history.proofs.Hearings.{kept_then}
 use Rattle.record_history.proofs.Tells.{adjustment_by, changes_by, cycle_by, tells}
 
@@ -70,17 +69,6 @@ filter_through : {X : Type 0} (q p : X → Bool) (xs : List X) → ((x : X) → 
 filter_through q p [] still = refl
 filter_through q p (x ∷ xs) still =
     filter_by q p x xs (p x) (filter_through q p xs (λ y i. still y (inr i))) (still x (inl refl))
-
-prefix_same : {X : Type 0} (p q : X → Bool) (xs : List X) → All (λ x. p x ≡ q x) xs → prefix_len p xs ≡ prefix_len q xs
-prefix_same p q [] same = refl
-prefix_same p q (x ∷ xs) same =
-    ap (λ (b : Bool). if b then 1 + prefix_len p xs else 0) (All-head (λ y. p y ≡ q y) x xs same)
-    ∙ ap (λ (n : ℕ). if q x then 1 + n else 0) (prefix_same p q xs (All-tail (λ y. p y ≡ q y) x xs same))
-
-after_same : {X : Type 0} (p q : X → Bool) (xs : List X) → ((x : X) → IsIn x xs → p x ≡ q x) → after_last p xs ≡ after_last q xs
-after_same {X} p q xs same =
-    let each = all_turned (λ (x : X). not (p x) ≡ not (q x)) xs (all_of (λ (x : X). not (p x) ≡ not (q x)) xs (λ x i. ap not (same x i))) in
-    ap (λ (n : ℕ). drop (length xs - n) xs) (prefix_same (λ (x : X). not (p x)) (λ (x : X). not (q x)) (reverse xs) each)
 
 cycle_still : (e : Effect) (next : ℕ) → changes_by e ≡ false → cycle_by next e ≡ next
 cycle_still Nothing next same = refl

@@ -8,7 +8,6 @@ use Rattle.std.proofs.lemmas.List.Sums.{fold-append}
 use Rattle.std.specs.List.{after_last, cons_option, filter_map, last_or}
 use Rattle.std.specs.Option.{option_map_or}
 use Rattle.std.specs.Prelude.{◌&&◌, ◌+ℤ◌, ◌==◌, ◌||◌}
-use Rattle.audit_law.proofs.LastParts.{after_more}
 use Rattle.membership.specs.Hearing.{Hearing}
 use Rattle.membership.specs.Summary.{Summarizes, silence}
 use Rattle.net_plan.specs.declared.ids.DeviceId.{DeviceId}
@@ -18,6 +17,7 @@ use Rattle.record_history.specs.Showing.{NoneLater, Shows, heard_at, last_change
 use Rattle.record_history.specs.declared.effect.Effect.TheVariants.{Nothing, Joins, Corrects, Turns}
 use Rattle.record_history.specs.declared.effect.Effect.{Effect}
 use Rattle.record_history.specs.Showing.{Shown}
+use Rattle.run_law.proofs.records.Order.{after_more}
 use Rattle.run_law.proofs.runs.Places.{in_left, in_right}
 use Rattle.run_law.specs.control.Corrections.{cycle_after, hearing_by, integration_cycle, recorded_cycle}
 use Rattle.run_law.specs.device.LocalClocks.{changes_adjustment}
@@ -26,8 +26,9 @@ use Rattle.run_law.specs.records.Happenings.{Happening, time_of}
 use Rattle.run_law.specs.records.Order.{IsIn}
 use Rattle.run_law.specs.scenario.Scenarios.{Scenario}
 use Rattle.sync_state.specs.declared.state.State.{State}
+use Rattle.tte_lemmas.proofs.Bools.{no_more as none_more}
+use Rattle.tte_lemmas.proofs.Lists.{after_one, filter_off, filter_on, last_pushed}
 use Rattle.tte_units.specs.declared.units.Units.{Units}
-use Rattle.record_history.proofs.Grown.{after_one, filter_off, filter_on, last_more}
 use Rattle.record_history.proofs.Tells.{Tells, adjustment_by, cycle_by, joins_by, state_by, tells}
 
 -- the records, and one more
@@ -73,7 +74,7 @@ changed_at_once : (hs : List Happening) (device : DeviceId) (h : Happening) → 
 changed_at_once hs device h is =
     let test : Happening → Bool = λ x. changes_adjustment device x.note.body in
     let last : Option Happening → ℕ = λ o. option_map_or time_of o 0 in
-    sym (ap (λ (xs : List Happening). last (last_or None xs)) (filter_on test hs h is) ∙ ap last (last_more None (filter test hs) h))
+    sym (ap (λ (xs : List Happening). last (last_or None xs)) (filter_on test hs h is) ∙ ap last (last_pushed None (filter test hs) h))
 
 pub unchanged : (hs : List Happening) (device : DeviceId) (h : Happening) → changes_adjustment device h.note.body ≡ false
     → last_change hs device ≡ last_change (with_one hs h) device
@@ -130,11 +131,6 @@ has_joined_on s hs device h e t told =
     last : (b : Bool) → (b || false) ≡ b
     last true = refl
     last false = refl
-
-none_more : (a b : Bool) → (a || (b && false)) ≡ a
-none_more true b = refl
-none_more false true = refl
-none_more false false = refl
 
 -- no frame tells it the time at this time by a record that tells it of none
 pub not_joined : (s : Scenario) (hs : List Happening) (device : DeviceId) (h : Happening) (e : Effect) (t : ℕ) → TellsAs s device h e

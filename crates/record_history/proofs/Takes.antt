@@ -1,10 +1,11 @@
 -- What is kept of the frames that were taken.
 use Rattle.std.proofs.Common.{◌≡◌, ◌⊎◌, ℕ, zero, suc, ◌<◌, Bool, true, false, List, [], ◌∷◌, ◌++◌, Option, Some, None, Result, Ok, Err, filter, length, slice_get, inl, inr, refl, sym, ap, subst, ◌∙◌, arith, if◌then◌else◌, Global, Vec}
-use Rattle.std.proofs.lemmas.Bool.{cases_order, eq-eqb, eqb-true, le-ltb, ne_eqb}
+use Rattle.std.proofs.lemmas.Bool.{cases_order, eq-eqb, le-ltb, ne_eqb}
 use Rattle.std.proofs.lemmas.List.Elements.{filter_map-append}
 use Rattle.std.specs.List.{cons_option, filter_map, last_or}
 use Rattle.std.specs.Option.{option_map_or}
 use Rattle.std.specs.Prelude.{◌==◌, ◌&&◌, ◌||◌, OnOk, is_ok, nat_lt, option_and_then, option_map, slice_set}
+use Rattle.net_plan.proofs.SameIds.{alike}
 use Rattle.net_plan.specs.declared.ids.DeviceId.{DeviceId}
 use Rattle.net_plan.specs.declared.ids.LinkId.{LinkId}
 use Rattle.net_plan.specs.declared.ids.VlId.{VlId}
@@ -15,6 +16,7 @@ use Rattle.record_history.specs.declared.taking.Taken.{Taken}
 use Rattle.record_history.specs.declared.taking.Taking.{Taking}
 use Rattle.record_history.specs.declared.takings.DeviceTakings.{DeviceTakings}
 use Rattle.record_history.specs.declared.takings.Takings.{Takings}
+use Rattle.run_law.proofs.records.Order.{before_is}
 use Rattle.run_law.proofs.runs.Places.{in_parts}
 use Rattle.run_law.specs.declared.note.NoteBody.TheVariants as notes
 use Rattle.run_law.specs.declared.note.NoteBody.{NoteBody}
@@ -24,8 +26,9 @@ use Rattle.run_law.specs.records.Ranks.{members_in, place_at, place_of}
 use Rattle.run_law.specs.scenario.Devices.{is_end}
 use Rattle.run_law.specs.timed.Dispatching.{is_accepted, last_accepted}
 use Rattle.run_law.specs.timed.Receptions.{is_taken_before, last_taken, taken_cycle}
-use Rattle.record_history.proofs.Kept.{before_is, test_chain}
-use Rattle.record_history.proofs.KeptAll.{get_other, get_same, no_more, none_shorter}
+use Rattle.tte_lemmas.proofs.Bools.{no_more, none_shorter}
+use Rattle.tte_lemmas.proofs.Lists.{set_other, set_same}
+use Rattle.record_history.proofs.Kept.{test_chain}
 use Rattle.record_history.proofs.Partitions.{parted_on}
 
 -- ---- the last one
@@ -135,9 +138,6 @@ switch_fit false true true e passes same = inr (refl, same, refl)
 switch_fit z true false e passes same = inl (refl, none_shorter z)
 switch_fit z false y e passes same = inl (refl, none_shorter z)
 
-same_device : (device other : DeviceId) → (device.0 == other.0) ≡ true → device ≡ other
-same_device device other e = let mk : ℕ → DeviceId = λ n. record { 0 = n } in ap mk (eqb-true device.0 other.0 e)
-
 accepted_fits : (network : Network) (device : DeviceId) (vl : VlId) (t at number : ℕ) (body : NoteBody) → is_end network device ≡ false → TakesRightly network body
     → AcceptedFits device vl t at number body
 accepted_fits network device vl t at number (notes.Accepted other by from of_vl cycle) switch right =
@@ -150,7 +150,7 @@ accepted_fits network device vl t at number (notes.Delivered other by from of_vl
   where
     by_device : (b : Bool) → (device.0 == other.0) ≡ b → AcceptedFits device vl t at number (notes.Delivered other by from of_vl cycle)
     by_device true e =
-        let clash : false ≡ true = sym switch ∙ ap (is_end network) (same_device device other e) ∙ right in
+        let clash : false ≡ true = sym switch ∙ ap (is_end network) (alike device other e) ∙ right in
         absurd cc
     by_device false e =
         let taking : Taking = record { time = at; link = by; cause = from; number = number; cycle = cycle } in
@@ -201,14 +201,14 @@ placed : (network : Network) (device : DeviceId) (vl : VlId) (at number members 
 placed network device vl at number members (notes.Accepted other by from of_vl cycle) e right made =
     let taking : Taking = record { time = at; link = by; cause = from; number = number; cycle = cycle } in
     let so = taken_so (device.0 == other.0) (vl.0 == of_vl.0) taking e made in
-    let one = same_device device other so.0 in
+    let one = alike device other so.0 in
     ap (λ (x : DeviceId). taking_place 11 x taking) (sym one)
     ∙ ap (taking_place 11 device) so.1
     ∙ ap (λ (b : Bool). taking_place (if b then 12 else 11) device e) (sym (ap (is_end network) one ∙ right))
 placed network device vl at number members (notes.Delivered other by from of_vl cycle) e right made =
     let taking : Taking = record { time = at; link = by; cause = from; number = number; cycle = cycle } in
     let so = taken_so (device.0 == other.0) (vl.0 == of_vl.0) taking e made in
-    let one = same_device device other so.0 in
+    let one = alike device other so.0 in
     ap (λ (x : DeviceId). taking_place 12 x taking) (sym one)
     ∙ ap (taking_place 12 device) so.1
     ∙ ap (λ (b : Bool). taking_place (if b then 12 else 11) device e) (sym (ap (is_end network) one ∙ right))
@@ -322,7 +322,7 @@ kept_on h devices t old new is within there more device vl =
       | inl same ↦
           let here : slice_get devices device.0 ≡ Some old = ap (slice_get devices) same ∙ there in
           let set : slice_get (slice_set devices t.device.0 new) device.0 ≡ Some new =
-          ap (slice_get (slice_set devices t.device.0 new)) same ∙ get_same devices t.device.0 new within in
+          ap (slice_get (slice_set devices t.device.0 new)) same ∙ set_same devices t.device.0 new within in
           ap (λ o. option_map_or (λ (d : DeviceTakings). taken_of d vl) o []) set
           ∙ more vl
           ∙ this_taken h device vl t (taken_of old vl) is same
@@ -333,7 +333,7 @@ kept_on h devices t old new is within there more device vl =
   where
     other : (device.0 ≡ t.device.0 → ⊥) → items_at (slice_set devices t.device.0 new) device vl ≡ more_by (taking_of device vl h) (items_at devices device vl)
     other not =
-        ap (λ o. option_map_or (λ (d : DeviceTakings). taken_of d vl) o []) (get_other devices t.device.0 device.0 new (λ e. not (sym e)))
+        ap (λ o. option_map_or (λ (d : DeviceTakings). taken_of d vl) o []) (set_other devices t.device.0 device.0 new (λ e. not (sym e)))
         ∙ other_taken h device vl t (items_at devices device vl) is not
 
 pub of_ok : {A E : Type 0} (r : Result A E) (P : Type 0) → is_ok r ≡ true → OnOk r P → P

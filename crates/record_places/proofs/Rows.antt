@@ -1,43 +1,15 @@
 -- Rows of places in ascending order.
-use Rattle.std.proofs.Common.{◌≡◌, ◌⊎◌, ℕ, zero, suc, ◌<◌, ◌≤◌, List, [], ◌∷◌, ◌++◌, length, get_or, map, Bool, true, false, Some, None, inl, inr, refl, sym, ap, subst, ◌∙◌, arith}
-use Rattle.std.proofs.lemmas.Bool.{cases_lt, eq-eqb, eqb-true, le-ltb, lt-ltb, ltb-true}
+use Rattle.std.proofs.Common.{◌≡◌, ◌⊎◌, ℕ, zero, suc, ◌<◌, ◌≤◌, List, [], ◌∷◌, ◌++◌, length, get_or, map, true, false, Some, None, inl, inr, refl, sym, ap, subst, ◌∙◌, arith}
+use Rattle.std.proofs.lemmas.Bool.{cases_lt}
 use Rattle.std.specs.List.{last_or}
 use Rattle.std.specs.List.Sorted.{IsPartitionPoint, IsPartitionedBy}
-use Rattle.std.specs.Prelude.{◌==◌, ◌&&◌, ◌||◌, nat_lt, slice_get}
+use Rattle.std.specs.Prelude.{slice_get}
 use Rattle.record_places.specs.Placing.{AreAscending, HasRecordAt}
+use Rattle.run_law.proofs.records.Order.{before_is, is_there}
 use Rattle.run_law.proofs.runs.Places.{chain, never_self}
 use Rattle.run_law.specs.records.Happenings.{Happening}
 use Rattle.run_law.specs.records.Order.{IsBefore, IsIn, is_before}
 use Rattle.run_law.specs.records.Ranks.{place_of}
-
--- ---- the test of places
-
-or_told : (a b c : Bool) → (a || (b && c)) ≡ true → (a ≡ true) ⊎ ((b ≡ true) × (c ≡ true))
-or_told true b c e = inl refl
-or_told false true true e = inr (refl, refl)
-or_told false true false e = absurd cc
-or_told false false c e = absurd cc
-
-or_left : (a b : Bool) → a ≡ true → (a || b) ≡ true
-or_left a b e = ap (λ (c : Bool). c || b) e
-
-pub is_there : (p q : List ℕ) → is_before p q ≡ true → IsBefore p q
-is_there p [] e = absurd cc
-is_there [] (y ∷ ys) e = tt
-is_there (x ∷ xs) (y ∷ ys) e =
-    elim (or_told (nat_lt x y) (x == y) (is_before xs ys) e) [
-      | inl lt ↦ inl (ltb-true x y lt)
-      | inr both ↦ inr (eqb-true x y both.0, is_there xs ys both.1)
-    ]
-
-pub before_is : (p q : List ℕ) → IsBefore p q → is_before p q ≡ true
-before_is p [] b = absurd b
-before_is [] (y ∷ ys) b = refl
-before_is (x ∷ xs) (y ∷ ys) (inl lt) = or_left (nat_lt x y) _ (lt-ltb x y lt)
-before_is (x ∷ xs) (y ∷ ys) (inr b) =
-    ap (λ (c : Bool). c || (x == y && is_before xs ys)) (le-ltb x y (omega (arith, b.0)))
-    ∙ ap (λ (c : Bool). c && is_before xs ys) (eq-eqb x y b.0)
-    ∙ before_is xs ys b.1
 
 -- ---- what is in a row
 
@@ -164,18 +136,3 @@ found_from (x ∷ xs) (suc k) p le asc here there (inr i) =
 pub found_at : (xs : List (List ℕ)) (k : ℕ) (p : List ℕ) → k ≤ length xs → AreAscending xs
     → IsPartitionPoint (λ q. is_before q p ≡ true) (λ q. is_before q p ≡ false) xs k → IsIn p xs → slice_get xs k ≡ Some p
 found_at xs k p le asc parts i = found_from xs k p le asc parts.0 parts.1 i
-
-pub got_in : {X : Type 0} (xs : List X) (k : ℕ) (x : X) → slice_get xs k ≡ Some x → IsIn x xs
-got_in [] k x e = absurd cc
-got_in (y ∷ ys) zero x e = inl cc
-got_in (y ∷ ys) (suc k) x e = inr (got_in ys k x e)
-
-pub got_within : {X : Type 0} (xs : List X) (k : ℕ) (x : X) → slice_get xs k ≡ Some x → k < length xs
-got_within [] k x e = absurd cc
-got_within (y ∷ ys) zero x e = omega arith
-got_within (y ∷ ys) (suc k) x e = omega (arith, got_within ys k x e)
-
-pub got_at : {X : Type 0} (xs : List X) (i : ℕ) (x : X) → i < length xs → x ≡ get_or xs i x → slice_get xs i ≡ Some x
-got_at [] i x lt e = absurd (omega (arith, lt))
-got_at (y ∷ ys) zero x lt e = ap Some (sym e)
-got_at (y ∷ ys) (suc i) x lt e = got_at ys i x (omega (arith, lt)) e

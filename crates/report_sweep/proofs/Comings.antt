@@ -5,7 +5,7 @@ use Rattle.net_plan.specs.declared.ids.LinkId.{LinkId}
 use Rattle.net_plan.specs.declared.tables.Way.TheVariants.{Up}
 use Rattle.report_sweep.specs.Passing.{IsComing, TakesWith}
 use Rattle.report_sweep.specs.declared.passage.Passage.{Passage}
-use Rattle.run_law.proofs.runs.SameSteps.{same_arrival, same_some}
+use Rattle.run_law.proofs.runs.SameSteps.{same_arrival}
 use Rattle.run_law.specs.control.Wires.{Arrives}
 use Rattle.run_law.specs.declared.steps.Arrival.TheVariants as arrivals
 use Rattle.run_law.specs.declared.steps.Arrival.{Arrival}
@@ -13,6 +13,7 @@ use Rattle.run_law.specs.records.Happenings.{Happening, numbered}
 use Rattle.run_law.specs.runs.DueRecords.{IsArrivedRecord}
 use Rattle.run_law.specs.scenario.Scenarios.{Scenario}
 use Rattle.run_law.specs.timed.Receptions.{ArrivesAs}
+use Rattle.tte_lemmas.proofs.Options.{one}
 use Rattle.wire_judge.specs.Receptions.{IsArriving}
 use Rattle.wire_judge.specs.declared.putting.OnWire.{OnWire}
 
@@ -21,7 +22,7 @@ pub coming : (s : Scenario) (hs : List Happening) (passage : Passage) (h : Happe
 coming s hs passage h None there none =
     λ is x. none x.signal
     (subst (λ (g : Happening). Arrives s g passage.device passage.link passage.time x.signal)
-    (same_some (numbered hs passage.cause) x.putting h x.there there) x.arrives)
+    (one (numbered hs passage.cause) x.putting h x.there there) x.arrives)
 coming s hs passage h (Some what) there some = record { putting = h; there = there; signal = some.0; arrives = some.1; is = some.2 }
 
 -- what is taken with a clock has a record of its arrival

@@ -1,13 +1,14 @@
 -- Records that stand before a hearing.
-use Rattle.std.proofs.Common.{◌≡◌, ◌⊎◌, ◌∙◌, ℕ, ◌<◌, ◌≤◌, Bool, true, false, List, [], ◌∷◌, inl, inr, filter, refl, sym, ap, arith, if◌then◌else◌}
-use Rattle.std.proofs.lemmas.Bool.{false_from_ne_true}
-use Rattle.std.specs.Prelude.{◌&&◌, ◌||◌, ◌==◌, nat_lt}
-use Rattle.audit_law.proofs.LastParts.{has_passed}
-use Rattle.audit_law.proofs.Ripening.{is_before_true}
+use Rattle.std.proofs.Common.{◌≡◌, ◌∙◌, ℕ, ◌<◌, ◌≤◌, Bool, true, List, [], ◌∷◌, inl, inr, filter, refl, sym, ap, arith, if◌then◌else◌}
+use Rattle.std.proofs.lemmas.Bool.{cases_Bool, false_from_ne_true, or_left}
+use Rattle.std.specs.Prelude.{◌&&◌, ◌==◌, nat_lt}
+use Rattle.audit_law.proofs.Correcting.{time_before}
 use Rattle.net_plan.specs.declared.ids.DeviceId.{DeviceId}
 use Rattle.record_history.specs.Reading.{OnlyJoined}
 use Rattle.record_history.specs.Showing.{NoneLater}
 use Rattle.report_sweep.specs.Hearings.{IsHeardBefore}
+use Rattle.run_law.proofs.records.Order.{has_passed, is_there, time_before as rank_first}
+use Rattle.run_law.proofs.runs.Places.{earlier_time}
 use Rattle.run_law.specs.declared.note.NoteBody.TheVariants as notes
 use Rattle.run_law.specs.declared.note.NoteBody.{NoteBody}
 use Rattle.run_law.specs.device.LocalClocks.{changes_adjustment}
@@ -16,25 +17,13 @@ use Rattle.run_law.specs.records.Happenings.{Happening, earlier, time_of}
 use Rattle.run_law.specs.records.Order.{IsBefore, is_before}
 use Rattle.run_law.specs.records.Ranks.{key, members_in, place_of, rank}
 
-pub time_before : (u r t q : ℕ) (ks ls : List ℕ) → IsBefore (u ∷ r ∷ ks) (t ∷ q ∷ ls) → u ≤ t
-time_before u r t q ks ls (inl lt) = omega (arith, lt)
-time_before u r t q ks ls (inr b) = omega (arith, b.0)
-
-rank_first : (r q : ℕ) (ks ls : List ℕ) → IsBefore (r ∷ ks) (q ∷ ls) → r ≤ q
-rank_first r q ks ls (inl lt) = omega (arith, lt)
-rank_first r q ks ls (inr b) = omega (arith, b.0)
-
 rank_before : (u r t q : ℕ) (ks ls : List ℕ) → u ≡ t → IsBefore (u ∷ r ∷ ks) (t ∷ q ∷ ls) → r ≤ q
 rank_before u r t q ks ls e (inl lt) = absurd (omega (arith, lt, e))
 rank_before u r t q ks ls e (inr b) = rank_first r q ks ls b.1
 
-no_rank_behind : (r q : ℕ) (ks : List ℕ) → IsBefore (r ∷ ks) (q ∷ []) → r < q
-no_rank_behind r q ks (inl lt) = lt
-no_rank_behind r q ks (inr b) = absurd b.1
-
 pub rank_below : (u r t q : ℕ) (ks : List ℕ) → u ≡ t → IsBefore (u ∷ r ∷ ks) (t ∷ q ∷ []) → r < q
 rank_below u r t q ks e (inl lt) = absurd (omega (arith, lt, e))
-rank_below u r t q ks e (inr b) = no_rank_behind r q ks b.1
+rank_below u r t q ks e (inr b) = earlier_time r q ks b.1
 
 pub none_later : (t : ℕ) (judged : List Happening) → IsHeardBefore t judged → NoneLater t judged
 none_later t judged b h i = time_before (time_of h) (rank h.note.body) t b.rank (key (members_in h) h.note.body) b.rest (b.before h i)
@@ -49,14 +38,10 @@ only_joined t judged device b h i at =
     let low = b.low in
     joins_only device h.note.body (omega (arith, le, low))
 
-true_or_false : (b : Bool) → (b ≡ true) ⊎ (b ≡ false)
-true_or_false true = inl refl
-true_or_false false = inr refl
-
 twice : {X : Type 0} (p q : X → Bool) (xs : List X) → ((x : X) → q x ≡ true → p x ≡ true) → filter q (filter p xs) ≡ filter q xs
 twice p q [] more = refl
 twice {X} p q (x ∷ xs) more =
-    elim (true_or_false (p x)) [
+    elim (cases_Bool (p x)) [
       | inl held ↦
           ap (λ (b : Bool). filter q (if b then x ∷ filter p xs else filter p xs)) held
           ∙ ap (λ (t : List X). if q x then x ∷ t else t) (twice p q xs more)
@@ -67,15 +52,12 @@ twice {X} p q (x ∷ xs) more =
           (false_from_ne_true (q x) (λ e. let held = more x e in let not_held = lacks in cc)))
     ]
 
-or_first : (a b : Bool) → a ≡ true → (a || b) ≡ true
-or_first a b e = ap (λ (c : Bool). c || b) e
-
 -- what is earlier than a place's time is before the place
 pub earlier_before : (t r : ℕ) (rest : List ℕ) (hs : List Happening)
     → earlier t (filter (λ h. is_before (place_of h) (t ∷ r ∷ rest)) hs) ≡ earlier t hs
 earlier_before t r rest hs =
     twice (λ (h : Happening). is_before (place_of h) (t ∷ r ∷ rest)) (λ (h : Happening). nat_lt (time_of h) t) hs
-    (λ h e. or_first (nat_lt (time_of h) t)
+    (λ h e. or_left (nat_lt (time_of h) t)
     (time_of h == t && is_before (rank h.note.body ∷ key (members_in h) h.note.body) (r ∷ rest)) e)
 
 pub heard_before : (t r : ℕ) (rest : List ℕ) (hs : List Happening) → r < 6
@@ -84,5 +66,5 @@ heard_before t r rest hs low = record {
   rank = r;
   rest = rest;
   low = low;
-  before = λ h i. is_before_true (place_of h) (t ∷ r ∷ rest) (has_passed (λ (g : Happening). is_before (place_of g) (t ∷ r ∷ rest)) hs h i);
+  before = λ h i. is_there (place_of h) (t ∷ r ∷ rest) (has_passed (λ (g : Happening). is_before (place_of g) (t ∷ r ∷ rest)) hs h i);
 }

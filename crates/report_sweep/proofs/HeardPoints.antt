@@ -1,5 +1,5 @@
 -- What a device has heard since its last correction point, by the records before corrections.
-use Rattle.std.proofs.Common.{◌≡◌, ◌∙◌, ℕ, ◌+◌, ◌-◌, ◌<◌, ◌≤◌, pos, Bool, true, false, List, [], ◌∷◌, ◌++◌, Option, Some, None, filter, inl, inr, refl, sym, ap, subst, arith, if◌then◌else◌}
+use Rattle.std.proofs.Common.{◌≡◌, ◌∙◌, ℕ, ◌+◌, ◌-◌, ◌<◌, ◌≤◌, pos, Bool, true, false, List, [], ◌∷◌, ◌++◌, Option, Some, None, filter, inl, inr, sym, ap, subst, arith, if◌then◌else◌}
 use Rattle.std.proofs.lemmas.Bool.{cases_lt, false_from_ne_true, le-ltb}
 use Rattle.std.proofs.lemmas.List.{append-nil}
 use Rattle.std.proofs.lemmas.List.Elements.{filter-append, filter_map-append}
@@ -7,21 +7,18 @@ use Rattle.std.specs.Int.{int_div_euclid}
 use Rattle.std.specs.List.{after_last, last_or}
 use Rattle.std.specs.Option.{option_map_or}
 use Rattle.std.specs.Prelude.{◌+ℤ◌, ◌-ℤ◌, ◌&&◌, ◌==◌, filter_map, int_le, int_lt, nat_lt}
+use Rattle.audit_law.proofs.Correcting.{high_quiet}
 use Rattle.audit_law.proofs.Emitting.{before_is_front}
-use Rattle.audit_law.proofs.LastParts.{after_more, makes_none}
 use Rattle.audit_law.specs.CorrectionNumbers.{heard_since_point, standing_at}
 use Rattle.audit_law.specs.DueRecords.{IsDue}
 use Rattle.membership.specs.Hearing.{Hearing}
 use Rattle.net_plan.specs.declared.ids.DeviceId.{DeviceId}
-use Rattle.net_plan.specs.declared.network.Network.{Network}
 use Rattle.record_history.specs.Keeping.{records_before}
 use Rattle.record_history.specs.Showing.{IsAfter, NoneLater}
-use Rattle.report_sweep.proofs.HeardBefore.{joins_only, rank_below, time_before}
+use Rattle.report_sweep.proofs.HeardBefore.{joins_only, rank_below}
 use Rattle.report_sweep.proofs.Joinings.{joins_integrating}
 use Rattle.run_law.proofs.law.FirstPlaces.{IsSplit, in_filter, none_kept, same_earlier, split}
 use Rattle.run_law.specs.control.Corrections.{correction_value, hearing_by, recorded_cycle}
-use Rattle.run_law.specs.declared.note.NoteBody.TheVariants as notes
-use Rattle.run_law.specs.declared.note.NoteBody.{NoteBody}
 use Rattle.run_law.specs.device.LocalClocks.{changes_adjustment}
 use Rattle.run_law.specs.device.Standpoints.{natural}
 use Rattle.run_law.specs.device.States.{adjustment_after, is_joined_by, state_before}
@@ -30,11 +27,10 @@ use Rattle.run_law.specs.records.Order.{IsBefore, IsIn, is_before}
 use Rattle.run_law.specs.records.Ranks.{key, members_in, place_of, rank}
 use Rattle.run_law.specs.runs.Runs.{IsFounded}
 use Rattle.run_law.specs.scenario.Scenarios.{Scenario}
-use Rattle.sync_state.specs.Standing.{next_point, point_in}
+use Rattle.sync_state.specs.Standing.{next_point}
 use Rattle.sync_state.specs.declared.state.State.TheVariants.{Integrating}
-use Rattle.sync_state.specs.declared.state.State.{State}
-use Rattle.audit_law.proofs.Ripening.{is_before_true}
-use Rattle.audit_law.proofs.LastParts.{has_passed}
+use Rattle.run_law.proofs.records.Order.{after_more, has_passed, is_there, makes_none}
+use Rattle.sync_state.proofs.StateFacts.{no_point}
 
 -- how many correction points the clock has come to, by the records of earlier times
 abbrev come_by : Scenario → DeviceId → ℕ → List Happening → ℕ
@@ -45,11 +41,6 @@ come_by s device by es =
     if int_lt (pos (s.reading device changed) +ℤ (adjustment_after s es device).0) first && int_le first shown
     then natural (int_div_euclid (shown -ℤ first) s.network.cycle.0) + 1
     else 0
-
-high_quiet : (network : Network) (device : DeviceId) (h : Happening) (body : NoteBody) → (rank body < 6 → ⊥) → hearing_by network device h body ≡ None
-high_quiet network device h (notes.Permanent other link cause point verdict) high = absurd (high (omega arith))
-high_quiet network device h (notes.Compressed other opened sent cycle members verdict) high = absurd (high (omega arith))
-high_quiet network device h body high = refl
 
 -- the records before corrections tell all that is heard, where none is later
 pub heard_before_corrections : (s : Scenario) (hs : List Happening) (device : DeviceId) (t : ℕ) → IsFounded place_of (IsDue s) hs → NoneLater t hs
@@ -86,10 +77,6 @@ heard_before_corrections s hs device t founded none =
     in_rest h [] qs i = i
     in_rest h (p ∷ ps) qs i = inr (in_rest h ps qs i)
 
-no_point : (state : State) (n cycle : ℕ) → state ≡ Integrating → point_in state n ≡ Some cycle → ⊥
-no_point state n cycle e p =
-    let clash : None ≡ Some cycle = sym (ap (λ (x : State). point_in x n) e) ∙ p in cc
-
 -- where the device has a next correction point, no record before corrections changes its adjustment at the time
 pub unchanged_before : (s : Scenario) (hs : List Happening) (device : DeviceId) (t cycle : ℕ) → IsFounded place_of (IsDue s) hs → NoneLater t hs
     → next_point (standing_at s hs device t) ≡ Some cycle → IsAfter (records_before (t ∷ 6 ∷ []) hs) device t
@@ -99,7 +86,7 @@ unchanged_before s hs device t cycle founded none next =
       none_later = λ h i. none h (in_filter test hs h i);
       unchanged = λ h i at. false_from_ne_true (changes_adjustment device h.note.body) (λ e.
           let low = rank_below (time_of h) (rank h.note.body) t 6 (key (members_in h) h.note.body) at
-          (is_before_true (place_of h) (t ∷ 6 ∷ []) (has_passed test hs h i)) in
+          (is_there (place_of h) (t ∷ 6 ∷ []) (has_passed test hs h i)) in
           let joined = joins_only device h.note.body low ∙ e in
           let state = joins_integrating s hs device h founded (in_filter test hs h i) joined in
           no_point (state_before s hs device t) (standing_at s hs device t).number cycle

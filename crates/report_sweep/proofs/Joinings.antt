@@ -1,80 +1,33 @@
 -- A frame tells the time only to a device that is integrating.
-use Rattle.std.proofs.Common.{◌≡◌, ◌∙◌, ℕ, ℤ, Bool, true, false, List, Option, Some, None, refl, sym, ap, subst, if◌then◌else◌}
+use Rattle.std.proofs.Common.{◌≡◌, ◌∙◌, ℕ, true, List, refl, sym, ap, subst, if◌then◌else◌}
 use Rattle.std.proofs.lemmas.Bool.{eqb-true}
-use Rattle.std.specs.Prelude.{MatchBool, ◌==◌}
+use Rattle.std.specs.Prelude.{◌==◌}
 use Rattle.audit_law.proofs.Debts.{due_in}
 use Rattle.audit_law.proofs.Owing.{earlier_in}
 use Rattle.audit_law.specs.DueRecords.{IsCaused, IsDue}
 use Rattle.audit_law.specs.Debts.{IsDueIn}
-use Rattle.compression.specs.Clusters.{Point}
-use Rattle.compression.specs.declared.taken.Taken.TheVariants as taken
-use Rattle.compression.specs.declared.taken.Taken.{Taken}
+use Rattle.clock_debts.proofs.Fronts.{looking}
+use Rattle.net_plan.proofs.SameIds.{same_device}
 use Rattle.net_plan.specs.declared.ids.DeviceId.{DeviceId}
-use Rattle.net_plan.specs.declared.network.Network.{Network}
-use Rattle.pcf_values.specs.declared.members.Members.{Members}
-use Rattle.pcf_values.specs.declared.pcf.Pcf.{Pcf}
+use Rattle.run_law.proofs.control.Verdicts.{heard_integrates}
 use Rattle.report_sweep.proofs.HeardBefore.{earlier_before}
-use Rattle.report_sweep.proofs.PermanentFrames.{same_device}
-use Rattle.run_law.proofs.runs.SameSteps.{same_judgement}
-use Rattle.run_law.specs.control.Collections.{observation_window, points_of, ripe_by_role}
-use Rattle.run_law.specs.control.Hearing.{heard_as, heard_by_schedule}
-use Rattle.run_law.specs.control.Permanence.{IsCollectedOrDropped, IsPermanenceOutcome, before_permanence}
+use Rattle.run_law.specs.control.Collections.{observation_window, points_of}
+use Rattle.run_law.specs.control.Permanence.{before_permanence}
 use Rattle.run_law.specs.declared.judgement.Judgement.TheVariants as judgements
 use Rattle.run_law.specs.declared.judgement.Judgement.{Judgement}
-use Rattle.run_law.specs.declared.judgement.Reason.{Reason}
 use Rattle.run_law.specs.declared.note.NoteBody.TheVariants as notes
 use Rattle.run_law.specs.declared.note.NoteBody.{NoteBody}
-use Rattle.run_law.specs.declared.steps.Ripe.TheVariants as ripe
 use Rattle.run_law.specs.device.States.{adjustment_at_hearing, is_joined_by, state_after, state_at_hearing, state_before}
 use Rattle.run_law.specs.records.Happenings.{Happening, earlier, time_of}
 use Rattle.run_law.specs.records.Order.{IsIn}
 use Rattle.run_law.specs.records.Ranks.{key, place_of}
 use Rattle.run_law.specs.runs.Runs.{IsFounded}
-use Rattle.run_law.specs.scenario.Devices.{is_cm, plan_of}
+use Rattle.run_law.specs.scenario.Devices.{plan_of}
 use Rattle.run_law.specs.scenario.Scenarios.{Scenario, is_turned_on_at}
-use Rattle.sync_state.specs.declared.plan.SyncPlan.{SyncPlan}
+use Rattle.sync_state.proofs.StateFacts.{before_hearing as not_joined_yet}
 use Rattle.sync_state.specs.declared.state.State.TheVariants as states
-use Rattle.sync_state.specs.declared.state.State.{State}
 use Rattle.tte_units.specs.Amount.{amount}
 use Rattle.tte_units.specs.declared.units.Units.{Units}
-
-by_schedule : (b : Bool) → heard_by_schedule b ≡ judgements.Integrates → ⊥
-by_schedule true e = cc
-by_schedule false e = cc
-
-heard_integrates : (plan : SyncPlan) (precision : ℤ) (state : State) (adjustment point : ℤ) (cycle : ℕ) (members : Members)
-    → heard_as plan precision state adjustment point cycle members ≡ judgements.Integrates → state ≡ states.Integrating
-heard_integrates plan precision states.Off adjustment point cycle members e = absurd cc
-heard_integrates plan precision states.Integrating adjustment point cycle members e = refl
-heard_integrates plan precision states.Joining adjustment point cycle members e = absurd (by_schedule _ e)
-heard_integrates plan precision states.Synchronised adjustment point cycle members e = absurd (by_schedule _ e)
-
-never_collected : (t : Taken) → ripe.Integrates ≡ ripe_by_role t → ⊥
-never_collected taken.Opened e = cc
-never_collected taken.Joined e = cc
-never_collected taken.Repeat e = cc
-never_collected taken.OtherCycle e = cc
-
-never_at_master : (network : Network) (points : List Point) (point : Point) (fault : Option Reason)
-    → IsCollectedOrDropped network points point fault ripe.Integrates → ⊥
-never_at_master network points point (Some reason) x = let e = x in cc
-never_at_master network points point None x = never_collected x.taken x.becomes
-
-either : (b : Bool) (A B C : Type 0) → MatchBool b A B → (A → C) → (B → C) → C
-either true A B C x f g = f x
-either false A B C x f g = g x
-
-permanence_integrates : (network : Network) (device : DeviceId) (state : State) (adjustment : ℤ) (points : List Point) (frame : Pcf) (point : ℤ)
-    → IsPermanenceOutcome network device state adjustment points frame point ripe.Integrates → state ≡ states.Integrating
-permanence_integrates network device state adjustment points frame point x =
-    either (is_cm network device) _ _ (state ≡ states.Integrating) x
-    (λ collected. absurd (never_at_master network points _ _ collected))
-    (λ heard. heard_integrates (plan_of network device) (observation_window network) state adjustment point frame.cycle frame.members (sym (same_judgement judgements.Integrates
-    (heard_as (plan_of network device) (observation_window network) state adjustment point frame.cycle frame.members) heard)))
-
-not_joined_yet : (b : Bool) (state : State) → (if b then states.Joining else state) ≡ states.Integrating → state ≡ states.Integrating
-not_joined_yet true state e = absurd cc
-not_joined_yet false state e = e
 
 before_hearing : (s : Scenario) (judged hs : List Happening) (device : DeviceId) (t : ℕ) → earlier t judged ≡ earlier t hs
     → state_at_hearing s judged device t ≡ states.Integrating → state_before s hs device t ≡ states.Integrating
@@ -92,7 +45,7 @@ joins s before device time (notes.Permanent other link cause point judgements.In
     subst (λ (o : DeviceId). state_before s before o t ≡ states.Integrating) (sym d)
     (before_hearing s judged before other t
     (earlier_before t 3 (key x.frame.members.0 (notes.Permanent other link cause point judgements.Ignored)) before)
-    (permanence_integrates s.network other (state_at_hearing s judged other t) (adjustment_at_hearing s judged other t).0 (points_of judged other)
+    (looking s.network other (state_at_hearing s judged other t) (adjustment_at_hearing s judged other t).0 (points_of judged other)
     x.frame point.0 x.becomes))
 joins s before device time (notes.Compressed other opened at cycle members judgements.Integrates) x e =
     let d = same_device device other (eqb-true device.0 other.0 e) in

@@ -9,7 +9,6 @@ pub mod PermanentFrames
 pub mod HeardBefore
 pub mod Joinings
 pub mod HeardPoints
-pub mod BroughtStates
 pub mod Takers
 pub mod NextRecords
 pub mod Lacks

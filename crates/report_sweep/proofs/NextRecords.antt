@@ -12,13 +12,14 @@ use Rattle.record_history.specs.Effects.{subject_of}
 use Rattle.record_history.specs.Showing.{IsSteady}
 use Rattle.report_sweep.specs.Knowing.{AllShowByCause, AllYoung}
 use Rattle.report_text.specs.Ranges.{IsBodyOf}
+use Rattle.run_law.proofs.records.Happenings.{none_numbered}
 use Rattle.run_law.specs.declared.note.Note.{Note}
 use Rattle.run_law.specs.declared.note.NoteBody.TheVariants as notes
 use Rattle.run_law.specs.declared.note.NoteBody.{NoteBody}
 use Rattle.run_law.specs.records.Happenings.{Happening, happening, numbered}
 use Rattle.run_law.specs.scenario.Scenarios.{Scenario}
-use Rattle.schedule_tables.proofs.EntryLemmas.{pushed}
 use Rattle.stretch_history.proofs.Arriving.{arrived_young}
+use Rattle.tte_lemmas.proofs.Lists.{pushed}
 use Rattle.tte_units.specs.Amount.{amount}
 use Rattle.wire_judge.specs.Signals.{ShowsByCause}
 
@@ -31,10 +32,6 @@ numbered_next hs h g (suc before) e =
       | inl old ↦ inl old
       | inr new ↦ inr new.1
     ]
-
-none_numbered : (number : ℕ) (g : Happening) → numbered [] number ≡ Some g → ⊥
-none_numbered zero g e = cc
-none_numbered (suc before) g e = cc
 
 -- ---- of no records
 

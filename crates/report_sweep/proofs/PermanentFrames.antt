@@ -1,26 +1,17 @@
 -- What is kept of frames that wait to be permanent.
-use Rattle.std.proofs.Common.{◌≡◌, ◌∙◌, ℕ, Bool, true, false, Some, None, refl, sym, ap}
+use Rattle.std.proofs.Common.{◌≡◌, ◌∙◌, ℕ, Bool, true, Some, None, refl, sym, ap}
 use Rattle.std.proofs.lemmas.Bool.{and_from, and_parts, eq-eqb, eqb-true}
 use Rattle.std.specs.Prelude.{◌&&◌, ◌==◌, if◌then◌else◌, Option}
 use Rattle.kept_records.specs.Keeping.{kept_of, kept_of_event}
+use Rattle.net_plan.proofs.SameIds.{same_device, same_link}
 use Rattle.net_plan.specs.declared.event.What.TheVariants as events
 use Rattle.net_plan.specs.declared.event.What.{What}
 use Rattle.net_plan.specs.declared.ids.DeviceId.{DeviceId}
 use Rattle.net_plan.specs.declared.ids.LinkId.{LinkId}
 use Rattle.report_sweep.specs.Ripenings.{waiting_clock}
-use Rattle.run_law.proofs.runs.SameSteps.{same_some}
 use Rattle.run_law.specs.declared.note.NoteBody.TheVariants as notes
 use Rattle.run_law.specs.declared.note.NoteBody.{NoteBody}
-
-pub same_device : (a b : DeviceId) → a.0 ≡ b.0 → a ≡ b
-same_device a b e = ap (λ (n : ℕ). let d : DeviceId = record { 0 = n } in d) e
-
-pub same_link : (a b : LinkId) → a.0 ≡ b.0 → a ≡ b
-same_link a b e = ap (λ (n : ℕ). let d : LinkId = record { 0 = n } in d) e
-
-picked : (b : Bool) (x clock : ℕ) → (if b then Some x else None) ≡ Some clock → (b ≡ true) × (x ≡ clock)
-picked true x clock e = (refl, same_some (Some x) x clock refl e)
-picked false x clock e = absurd cc
+use Rattle.tte_lemmas.proofs.Bools.{picked}
 
 no_event : (device : DeviceId) (link : LinkId) (clock : ℕ) (what : What) → waiting_clock device link (kept_of_event what) ≡ Some clock → ⊥
 no_event device link clock (events.On other) e = cc

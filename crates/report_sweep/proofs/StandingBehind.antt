@@ -1,9 +1,9 @@
 -- A record that stands behind others.
 use Rattle.std.proofs.Common.{ℕ, List, arith}
+use Rattle.audit_law.proofs.Correcting.{time_before}
 use Rattle.net_plan.specs.declared.ids.DeviceId.{DeviceId}
 use Rattle.pcf_values.specs.declared.members.Members.{Members}
 use Rattle.record_history.specs.Showing.{NoneLater}
-use Rattle.report_sweep.proofs.HeardBefore.{time_before}
 use Rattle.report_sweep.specs.Hearings.{IsHeardBefore}
 use Rattle.report_sweep.specs.Judging.{StandsBehind}
 use Rattle.run_law.specs.declared.judgement.Judgement.{Judgement}

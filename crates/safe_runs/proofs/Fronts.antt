@@ -1,7 +1,6 @@
 -- The run up to behind the events of a time is one that goes just up to before the time, and then records of events.
-use Rattle.std.proofs.Common.{◌≡◌, ℕ, ◌+◌, ◌-◌, ◌*◌, ◌^◌, ◌<◌, ◌≤◌, pos, ◌≤ℤ◌, List, [], ◌∷◌, ◌++◌, inl, inr, refl, sym, ap, subst, ◌∙◌, arith}
+use Rattle.std.proofs.Common.{◌≡◌, ℕ, ◌+◌, ◌-◌, ◌*◌, ◌^◌, ◌<◌, ◌≤◌, List, [], ◌∷◌, ◌++◌, inl, inr, refl, sym, ap, subst, ◌∙◌, arith}
 use Rattle.std.proofs.lemmas.List.{map-append}
-use Rattle.precision_law.proofs.clocks.Anchored.{natural}
 use Rattle.precision_law.proofs.records.Cutting.{cut_run}
 use Rattle.net_plan.specs.declared.event.What.{What}
 use Rattle.run_law.proofs.law.FirstPlaces.{IsSplit, split}
@@ -20,8 +19,8 @@ use Rattle.run_law.specs.scenario.Scenarios.{Scenario}
 use Rattle.safe_runs.proofs.Going.{goes_well, well_earlier}
 use Rattle.safe_runs.proofs.Told.{note_in, notes_of, told}
 use Rattle.safe_runs.specs.Headline.{GoesWell, IsEventOf}
-use Rattle.tte_units.specs.Amount.{amount, units_of}
-use Rattle.tte_units.specs.declared.units.Units.{Units}
+use Rattle.tte_units.proofs.Amounts.{units_are}
+use Rattle.tte_units.specs.Amount.{amount}
 
 -- ---- what is behind the front
 
@@ -49,9 +48,6 @@ between at kind time rest not (inl lt) = absurd (not (inl lt))
 between at kind time rest not (inr (same, inl lt)) = (same, lt)
 between at kind time rest not (inr (same, inr none)) = absurd none.1
 
-these_units : (units : Units) (n : ℕ) → pos 0 ≤ℤ units.0 → amount units ≡ n → units ≡ units_of n
-these_units units n begun same = ap (λ (z : _). let u : Units = record { 0 = z } in u) (natural units.0 begun ∙ ap pos same)
-
 event_of : (s : Scenario) (hs : List Happening) (time : ℕ) (at : IsSplit place_of hs (time ∷ [])) → IsRun place_of (IsDue s) (time ∷ 2 ∷ []) hs
     → (h : Happening) → IsIn h at.rest → IsEventOf time h.note
 event_of s hs time at run h i =
@@ -60,7 +56,7 @@ event_of s hs time at run h i =
     let due = (run.founded parts.0 parts.1 h parts.2).1 in
     let place = between (time_of h) (rank h.note.body) time (key (members_in h) h.note.body) (at.none h i) (run.within h there) in
     let event = lowest h.note.body place.1 in
-    record { line = event.0; what = event.1; is = event.2; at = these_units h.note.time time due.begun place.0 }
+    record { line = event.0; what = event.1; is = event.2; at = units_are h.note.time time due.begun place.0 }
 
 -- ---- the front
 

@@ -3,8 +3,8 @@ use Rattle.std.proofs.Common.{ℕ, ◌+◌, ◌*◌, ◌^◌, ◌≤◌, List, [
 use Rattle.net_plan.specs.declared.ids.DeviceId.{DeviceId}
 use Rattle.net_plan.specs.declared.ids.VlId.{VlId}
 use Rattle.net_plan.specs.declared.tables.VirtualLink.{VirtualLink}
-use Rattle.precision_law.proofs.records.Cutting.{of_earlier}
 use Rattle.precision_law.proofs.law.Whole.{time_kept}
+use Rattle.run_law.proofs.records.Happenings.{soon}
 use Rattle.run_law.specs.declared.note.Note.{Note}
 use Rattle.run_law.specs.law.FirstLaws.{IsLawful}
 use Rattle.run_law.specs.law.Safety.{ClocksAgree, IsOwed, IsSafe}
@@ -20,7 +20,7 @@ run_to : (s : Scenario) (ns : List Note) (until : ℕ) → IsLawful s → until 
     → IsRunTo s ((until + 1) ∷ []) ns until
 run_to s ns until lawful short run = record {
   up = record { lawful = lawful; run = run; covers = λ more. inl (omega arith); short = short };
-  within = λ h i. let lt = of_earlier h (until + 1) (run.within h i) in omega (arith, lt);
+  within = λ h i. let lt = soon h (until + 1) (run.within h i) in omega (arith, lt);
 }
 
 -- a lawful run goes well

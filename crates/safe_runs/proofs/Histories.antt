@@ -3,7 +3,6 @@ use Rattle.std.proofs.Common.{◌≡◌, ℕ, zero, suc, ◌≤◌, ◌==◌, Li
 use Rattle.std.specs.List.{All, cons_option}
 use Rattle.std.specs.List.Sorted.{IsNonDecreasingBy}
 use Rattle.std.proofs.lemmas.Bool.{cases_lt}
-use Rattle.std.proofs.lemmas.Int.{ints}
 use Rattle.std.proofs.lemmas.List.Elements.{All-cons, All-nil}
 use Rattle.drift_clock.specs.RateSteps.{IsHistory, RateStep}
 use Rattle.net_plan.specs.declared.event.Event.{Event}
@@ -12,6 +11,7 @@ use Rattle.net_plan.specs.declared.event.What.TheVariants as events
 use Rattle.net_plan.specs.declared.ids.DeviceId.{DeviceId}
 use Rattle.net_plan.specs.declared.network.Network.{Network}
 use Rattle.run_law.proofs.runs.Places.{in_left, in_right}
+use Rattle.run_law.proofs.scenario.Devices.{in_turn}
 use Rattle.run_law.specs.declared.outside.Outside.TheVariants as outside
 use Rattle.run_law.specs.records.Order.{IsIn}
 use Rattle.run_law.specs.scenario.Hypothesis.{AreWithinHypothesis, IsWithinHypothesis}
@@ -53,13 +53,6 @@ slow_rate network before event device rate within same = subst (IsSlow network.r
 abbrev AreSlowInOrder : ℕ → ℕ → List Event → Type 0
 AreSlowInOrder rho least [] = Unit {0}
 AreSlowInOrder rho least (e ∷ es) = (least ≤ amount e.time) × IsSlow rho e.what × AreSlowInOrder rho (amount e.time) es
-
-in_turn : (network : Network) (front : List Event) (last event : Event) → IsWithinHypothesis network (front ++ last ∷ []) event → pos 0 ≤ℤ last.time.0
-    → pos 0 ≤ℤ event.time.0 → amount last.time ≤ amount event.time
-in_turn network front last event within first second = elim (cases_lt (amount event.time) (amount last.time)) [
-  | inl sooner ↦ absurd (within outside.Order (record { front = front; last = last; order = refl; later = omega (arith, ints, sooner, first, second) }))
-  | inr later ↦ later
-]
 
 in_order_behind : (network : Network) (all front rest : List Event) (last : Event) → all ≡ (front ++ last ∷ []) ++ rest → AreWithinHypothesis network all
     → ((e : Event) → IsIn e all → pos 0 ≤ℤ e.time.0) → AreSlowInOrder network.rho (amount last.time) rest

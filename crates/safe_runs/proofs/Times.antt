@@ -1,10 +1,10 @@
 -- Events within the hypothesis come in the first 2^20 cycles.
-use Rattle.std.proofs.Common.{ℕ, zero, suc, ◌*◌, ◌^◌, ◌≤◌, ℤ, pos, negsuc, ◌≤ℤ◌, ◌<ℤ◌, unsigned_abs, List, [], ◌∷◌, fold, inl, inr, refl, sym, arith}
-use Rattle.std.specs.List.{Contains}
+use Rattle.std.proofs.Common.{ℕ, ◌*◌, ◌^◌, ◌≤◌, ℤ, pos, negsuc, ◌≤ℤ◌, ◌<ℤ◌, unsigned_abs, List, [], ◌∷◌, fold, inl, inr, refl, arith}
 use Rattle.std.proofs.lemmas.Int.{ints}
 use Rattle.net_plan.specs.declared.event.Event.{Event}
 use Rattle.net_plan.specs.declared.event.What.TheVariants.{End}
 use Rattle.net_plan.specs.declared.network.Network.{Network}
+use Rattle.run_law.proofs.records.Order.{contained}
 use Rattle.run_law.proofs.runs.Places.{parted}
 use Rattle.run_law.specs.declared.outside.Outside.TheVariants.{Late}
 use Rattle.run_law.specs.records.Order.{IsIn}
@@ -24,11 +24,6 @@ in_time network events under event i =
     let parts = parted event events i in
     not_late event.time.0 (2 ^ 20 * amount network.cycle) (begun network events under event i)
     (λ late. under.within parts.0 parts.1 event parts.2 Late late)
-
-contained : {X : Type 0} (xs : List X) (x : X) → Contains xs x → IsIn x xs
-contained [] x c = absurd (omega (arith, c.1))
-contained (y ∷ ys) x (zero, lt, e) = inl (sym e)
-contained (y ∷ ys) x (suc k, lt, e) = inr (contained ys x (k, omega arith, e))
 
 -- the end does
 pub end_in_time : (network : Network) (events : List Event) → IsUnder network events → (end : Units) → EndsAt events end

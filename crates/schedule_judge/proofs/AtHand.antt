@@ -1,6 +1,6 @@
 -- When a device has a frame at hand.
 use Rattle.std.proofs.Common.{◌≡◌, ◌⊎◌, ℕ, Bool, true, false, List, [], ◌∷◌, Option, Some, None, filter, inl, inr, refl, sym, ap, ◌∙◌, if◌then◌else◌}
-use Rattle.std.proofs.lemmas.Bool.{eq-eqb, eqb-true}
+use Rattle.std.proofs.lemmas.Bool.{and_parts, eq-eqb, eqb-true, or_right}
 use Rattle.std.specs.List.{last_or}
 use Rattle.std.specs.Prelude.{◌==◌, ◌&&◌, ◌||◌, not, option_and_then}
 use Rattle.net_plan.specs.declared.ids.DeviceId.{DeviceId}
@@ -29,11 +29,6 @@ last_from {X} p o (x ∷ xs) y start e = by (p x) refl (λ u. last_from p u xs y
 
 -- ---- the frame that was accepted last
 
-pub both_true : (x y : Bool) → (x && y) ≡ true → (x ≡ true) × (y ≡ true)
-both_true true true e = (refl, refl)
-both_true true false e = absurd cc
-both_true false y e = absurd cc
-
 -- the record is that of this frame
 record IsOfTaking (device : DeviceId) (vl : VlId) (number : ℕ) (body : NoteBody) (taking : Taking) : Type 0 where
   pub link : LinkId
@@ -44,7 +39,7 @@ record IsOfTaking (device : DeviceId) (vl : VlId) (number : ℕ) (body : NoteBod
 of_taking : (device : DeviceId) (vl : VlId) (time number : ℕ) (body : NoteBody) (taking : Taking) → is_accepted device vl body ≡ true
     → option_and_then (taken_at device vl) (taken_by time number body) ≡ Some taking → IsOfTaking device vl number body taking
 of_taking device vl time number (notes.Accepted other link from of_vl cycle) taking is made =
-    let both = both_true (device.0 == other.0) (vl.0 == of_vl.0) is in
+    let both = and_parts (device.0 == other.0) (vl.0 == of_vl.0) is in
     let made_by : Taking = record { time = time; link = link; cause = from; number = number; cycle = cycle } in
     let some : Some made_by ≡ Some taking = sym (ap (λ (b : Bool). if b then Some made_by else None) is) ∙ made in
     let one : made_by ≡ taking = cc in
@@ -96,7 +91,7 @@ held_so network hs device sender vl t cause cycle accepted so is =
         → HasAccepted hs device vl t cause cycle
     by_last None made last = absurd cc
     by_last (Some taking) made last =
-        let both = both_true (taking.number == cause) (taking.cycle == cycle) last in
+        let both = and_parts (taking.number == cause) (taking.cycle == cycle) last in
         accepted_as hs device vl t cause cycle taking (last_accepted hs device vl t) refl made (eqb-true taking.number cause both.0) (eqb-true taking.cycle cycle both.1)
 
     by : (((sender.0 == device.0) ≡ true) × ((cause == 0) ≡ true)) ⊎ ((is_end network device ≡ false) × (is_last accepted cause cycle ≡ true))
@@ -105,10 +100,6 @@ held_so network hs device sender vl t cause cycle accepted so is =
         let device_of : ℕ → DeviceId = λ n. record { 0 = n } in
         inl (ap device_of (eqb-true sender.0 device.0 same), eqb-true cause 0 none)
     by (inr (switch, last)) = inr (switch, by_last accepted (so switch) last)
-
-or_right : (a b : Bool) → b ≡ true → (a || b) ≡ true
-or_right true b e = refl
-or_right false b e = e
 
 -- and the other way
 pub so_held : (network : Network) (hs : List Happening) (device sender : DeviceId) (vl : VlId) (t cause cycle : ℕ) (accepted : Option Taking)

@@ -1,8 +1,6 @@
 -- What is dispatched by the rows of a link.
-use Rattle.std.proofs.Common.{◌≡◌, ◌⊎◌, ◌↔◌, IsTrue, ℕ, zero, suc, ◌+◌, ◌<◌, ◌≤◌, Bool, false, List, [], ◌∷◌, length, slice_get, slice_index_or, Some, inl, inr, refl, sym, subst, ◌∙◌, arith}
-use Rattle.std.proofs.lemmas.Bool.{cases_lt, false≢true}
-use Rattle.std.proofs.lemmas.Option.{get_or_from_slice_get, slice_get_within}
-use Rattle.std.specs.List.{All}
+use Rattle.std.proofs.Common.{◌≡◌, ◌↔◌, IsTrue, ℕ, zero, suc, ◌+◌, ◌<◌, ◌≤◌, Bool, false, List, [], ◌∷◌, length, slice_index_or, inl, inr, sym, subst, ◌∙◌, arith}
+use Rattle.std.proofs.lemmas.Bool.{false≢true}
 use Rattle.net_plan.specs.Ranges.{IsInRange, IsVlInRange}
 use Rattle.net_plan.specs.declared.ids.DeviceId.{DeviceId}
 use Rattle.net_plan.specs.declared.ids.LinkId.{LinkId}
@@ -16,13 +14,10 @@ use Rattle.schedule_judge.specs.Dispatched.{IsAtHand, IsRowDispatched, SomeDispa
 use Rattle.schedule_judge.specs.Leaving.{AreRowsOn, HavePeriods, leaving_by}
 use Rattle.schedule_judge.specs.declared.leaving.Dispatch.{Dispatch}
 use Rattle.schedule_judge.specs.declared.leaving.LeavingRow.{LeavingRow}
+use Rattle.tte_lemmas.proofs.Lists.{in_all}
+use Rattle.tte_lemmas.proofs.Naturals.{below_next}
 
 -- ---- lists
-
-pub in_at : {X : Type 0} (xs : List X) (i : ℕ) (d : X) → i < length xs → IsIn (slice_index_or xs i d) xs
-in_at [] i d lt = absurd (omega (arith, lt))
-in_at (x ∷ xs) zero d lt = inl refl
-in_at (x ∷ xs) (suc i) d lt = inr (in_at xs i d (omega (arith, lt)))
 
 -- what is in a list has a place in it
 pub record IsAtPlace {X : Type 0} (xs : List X) (d x : X) : Type 0 where
@@ -37,9 +32,6 @@ placed (y ∷ ys) d x (inr there) =
     let rest = placed ys d x there in
     let within = rest.within in
     record { place = suc rest.place; within = omega (arith, within); is = rest.is }
-
-pub in_all : {X : Type 0} (P : X → Type 0) (xs : List X) (i : ℕ) (x : X) → All P xs → slice_get xs i ≡ Some x → P x
-in_all P xs i x all e = subst P (get_or_from_slice_get xs i x x e) (all i x (slice_get_within xs i x e))
 
 -- ---- the rows of a link
 
@@ -105,16 +97,10 @@ no_row = record { device = record { 0 = 0 }; vl = record { 0 = 0 }; offset = 0; 
 abbrev pub NoneOf : {X : Type 0} → (X → Type 0) → List X → X → ℕ → Type 0
 NoneOf P xs d count = (i : ℕ) → i < count → i < length xs → P (slice_index_or xs i d) → ⊥
 
-pub next_or_before : (i n : ℕ) → i < n + 1 → (i < n) ⊎ (i ≡ n)
-next_or_before i n lt = elim (cases_lt i n) [
-  | inl before ↦ inl before
-  | inr past ↦ inr (omega (arith, lt, past))
-]
-
 pub none_more : {X : Type 0} (P : X → Type 0) (xs : List X) (d : X) (n : ℕ) (answer : Bool) → NoneOf P xs d n
     → IsTrue answer ↔ P (slice_index_or xs n d) → answer ≡ false → NoneOf P xs d (n + 1)
 none_more P xs d n answer none is no_answer i lt within holds =
-    elim (next_or_before i n lt) [
+    elim (below_next i n lt) [
       | inl before ↦ none i before within holds
       | inr same ↦ false≢true (sym no_answer ∙ is.1 (subst (λ (k : ℕ). P (slice_index_or xs k d)) same holds))
     ]

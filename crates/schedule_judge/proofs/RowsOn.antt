@@ -8,7 +8,6 @@ use Rattle.net_plan.specs.declared.ids.LinkId.{LinkId}
 use Rattle.net_plan.specs.declared.network.Network.{Network}
 use Rattle.run_law.proofs.runs.Places.{in_left, in_parts, in_right}
 use Rattle.run_law.specs.records.Order.{IsIn}
-use Rattle.schedule_judge.proofs.Rows.{next_or_before}
 use Rattle.schedule_judge.specs.Exits.{AreExits, AreNoRows, rows_on}
 use Rattle.schedule_judge.specs.Leaving.{AreRowsOn, IsRowOn, leaving_by}
 use Rattle.schedule_judge.specs.declared.exits.Exits.{Exits}
@@ -16,6 +15,7 @@ use Rattle.schedule_judge.specs.declared.leaving.LeavingRow.{LeavingRow}
 use Rattle.schedule_tables.proofs.EntryLemmas.{one_entry}
 use Rattle.schedule_tables.specs.Entries.{IsEntry}
 use Rattle.schedule_tables.specs.declared.entry.Entry.{Entry}
+use Rattle.tte_lemmas.proofs.Naturals.{below_next}
 
 -- ---- no rows
 
@@ -64,7 +64,7 @@ one_more : (network : Network) (n : ℕ) (entry : Entry) (link : LinkId) (rows :
     → AreFirstOn network n link rows → AreFirstOn network (n + 1) link (rows ++ leaving_by entry ∷ [])
 one_more network n entry link rows at on are = record {
   sound = λ row there. by_part row (in_parts row rows (leaving_by entry ∷ []) there);
-  complete = λ place other lt is with_link. by_place place other is with_link (next_or_before place n lt);
+  complete = λ place other lt is with_link. by_place place other is with_link (below_next place n lt);
 }
   where
     by_part : (row : LeavingRow) → IsIn row rows ⊎ IsIn row (leaving_by entry ∷ []) → IsRowOn network link row
@@ -82,7 +82,7 @@ other_more : (network : Network) (n : ℕ) (entry : Entry) (link : LinkId) (rows
     → AreFirstOn network n link rows → AreFirstOn network (n + 1) link rows
 other_more network n entry link rows at off are = record {
   sound = are.sound;
-  complete = λ place other lt is with_link. by_place place other is with_link (next_or_before place n lt);
+  complete = λ place other lt is with_link. by_place place other is with_link (below_next place n lt);
 }
   where
     by_place : (place : ℕ) (other : Entry) → IsEntry network place other → other.row.link ≡ link → (place < n) ⊎ (place ≡ n)

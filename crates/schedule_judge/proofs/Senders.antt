@@ -6,7 +6,7 @@ use Rattle.clock_judge.proofs.Reached.{come_reaches, reaches_come}
 use Rattle.clock_judge.specs.Finding.{CrossesAt, IsNextOrNone, NoneCrossed, value_in}
 use Rattle.clock_judge.specs.declared.finding.Crossed.{Crossed}
 use Rattle.clock_judge.specs.declared.finding.Series.{Series}
-use Rattle.device_rules.proofs.Numbers.{amount_most}
+use Rattle.net_plan.proofs.InRange.{amount_most}
 use Rattle.net_plan.specs.Ranges.{IsInRange, IsRowInRange, IsVlInRange}
 use Rattle.net_plan.specs.declared.ids.DeviceId.{DeviceId}
 use Rattle.net_plan.specs.declared.ids.LinkId.{LinkId}
@@ -16,12 +16,12 @@ use Rattle.run_law.proofs.law.FirstDeliveries.{accepted_in}
 use Rattle.run_law.specs.records.Happenings.{Happening, earlier, numbered}
 use Rattle.run_law.specs.scenario.Scenarios.{Scenario}
 use Rattle.run_law.specs.timed.Dispatching.{HasAtHand, IsUp}
-use Rattle.schedule_judge.proofs.Rows.{in_all}
 use Rattle.schedule_judge.specs.Leaving.{AreRowsOn, leaving_by}
 use Rattle.schedule_judge.specs.Leavings.{AreLeavings, IsRowFit, cycle_of, leaving_value}
 use Rattle.schedule_judge.specs.Sent.{AreFoundByNumber, AreRowsFit, CrossesSome, ReachesSome, SendsBy, SendsBySome, SendsSome}
 use Rattle.schedule_judge.specs.declared.leaving.LeavingRow.{LeavingRow}
 use Rattle.schedule_tables.specs.declared.entry.Entry.{Entry}
+use Rattle.tte_lemmas.proofs.Lists.{in_all}
 
 -- ---- a crossing at a time
 

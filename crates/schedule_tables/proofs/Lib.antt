@@ -5,3 +5,4 @@ pub mod SlotLemmas
 pub mod OrderLemmas
 pub mod SearchLemmas
 pub mod NextLemmas
+pub mod Entries

@@ -1,12 +1,12 @@
 -- The rules of a network's times leave the margins.
-use Rattle.std.proofs.Common.{◌≡◌, ℕ, pos, get_or, ◌+◌, ◌*◌, ◌/◌, ◌^◌, ◌≤◌, suc, List, [], ◌∷◌, Option, Some, None, refl, sym, ap, ◌∙◌, subst, ◌⊎◌, inl, inr, ⊎_elim, arith}
+use Rattle.std.proofs.Common.{◌≡◌, ℕ, pos, get_or, ◌+◌, ◌*◌, ◌/◌, ◌^◌, ◌≤◌, suc, List, [], ◌∷◌, Option, Some, refl, ap, ◌∙◌, ◌⊎◌, inl, inr, ⊎_elim, arith}
 use Rattle.std.proofs.lemmas.Bool.{false≢true}
 use Rattle.std.proofs.lemmas.Int.{ints}
 use Rattle.std.proofs.lemmas.List.Sums.{sum_by-cons}
 use Rattle.std.specs.Option.{option_map_or}
 use Rattle.std.proofs.lemmas.List.Elements.{All-weaker}
 use Rattle.std.proofs.lemmas.Option.{slice_get-get_or}
-use Rattle.std.specs.Prelude.{if◌then◌else◌, Bool, true, false, length, slice_get, IsSomeAnd}
+use Rattle.std.specs.Prelude.{if◌then◌else◌, Bool, true, false, length, slice_get}
 use Rattle.std.specs.List.{All, filter}
 use Rattle.net_plan.specs.Bounds.{IsBeta}
 use Rattle.net_plan.specs.Paths.{IsPath, IsTree, IsUplink}
@@ -22,11 +22,12 @@ use Rattle.net_plan.specs.declared.tables.Role.{Role}
 use Rattle.net_plan.specs.declared.tables.Role.TheVariants.{Master, Client, Cm, Relay}
 use Rattle.pcf_values.specs.declared.channel.Channel.{Channel}
 use Rattle.pcf_values.specs.declared.channel.Channel.TheVariants.{A}
-use Rattle.schedule_tables.proofs.EntryLemmas.{all_at}
 use Rattle.schedule_tables.specs.Delays.{delay_by, delay_of, pcf_port_time, ErrorsSettle, PrecisionFits, CorrectionFits, ScheduleFits}
 use Rattle.schedule_tables.specs.Margins.{DriftHasRoom, PrecisionHasRoom, CycleHasRoom, SettledHasRoom, ErrorsAreSmall, RulesGiveMargins}
 use Rattle.schedule_tables.specs.Rules.{KeepsRules}
 use Rattle.schedule_tables.specs.declared.rule.Rule.TheVariants.{Limits, DevicesDiffer, LinksDiffer, CompressionMasters, Joints, Connections, Masters, Delays, Settling, Precision, Correction, ScheduleStart}
+use Rattle.tte_lemmas.proofs.Lists.{in_all}
+use Rattle.tte_lemmas.proofs.Options.{closed, opened}
 use Rattle.tte_units.specs.Amount.{amount}
 use Rattle.tte_units.specs.declared.units.Units.{Units}
 
@@ -122,22 +123,14 @@ kept p (x ∷ xs) h =
       | false ↦ λ e g. let r = kept p xs g in (suc r.0, r.1, r.2, r.3)
     ] refl h
 
-master_ends : (r : Role) → is_master r ≡ true → is_end_system r ≡ true
+pub master_ends : (r : Role) → is_master r ≡ true → is_end_system r ≡ true
 master_ends Master e = refl
 master_ends Client e = refl
 master_ends Cm e = absurd (false≢true e)
 master_ends Relay e = absurd (false≢true e)
 
--- the value behind `IsSomeAnd`, and back
-opened : {X : Type 0} (P : X → Type 0) (o : Option X) → IsSomeAnd o P → (x : X) × (o ≡ Some x) × P x
-opened P None h = absurd h
-opened P (Some x) h = (x, refl, h)
-
-closed : {X : Type 0} (P : X → Type 0) (o : Option X) (x : X) → o ≡ Some x → P x → IsSomeAnd o P
-closed P o x e h = subst (λ (s : Option _). IsSomeAnd s P) (sym e) h
-
 -- some device is a master, so there is a link
-some_link : (n : Network) → KeepsRules n → (place : ℕ) × (link : Link) × (slice_get n.link place ≡ Some link)
+pub some_link : (n : Network) → KeepsRules n → (place : ℕ) × (link : Link) × (slice_get n.link place ≡ Some link)
 some_link n keeps =
     let four = (keeps Masters 0).least refl in
     let m = kept (λ (d : Device). is_master d.role) n.device (omega (arith, four)) in
@@ -185,7 +178,7 @@ margins trees n beta range keeps is =
     let drift = drift_room n range in
     let precision = precision_room n beta range drift (keeps Precision 0) is in
     let one = some_link n keeps in
-    let begins = all_at (λ link. amount n.correction + amount n.dmax + 4 * amount n.precision + pcf_port_time link ≤ amount n.tt_start) n.link one.0 one.1
+    let begins = in_all (λ link. amount n.correction + amount n.dmax + 4 * amount n.precision + pcf_port_time link ≤ amount n.tt_start) n.link one.0 one.1
     (keeps ScheduleStart 0).begins one.2 in
     record {
       drift = drift;

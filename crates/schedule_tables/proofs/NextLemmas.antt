@@ -1,6 +1,5 @@
 -- The first slot behind a row's place is that of the next row.
-use Rattle.std.proofs.Common.{◌≡◌, inl, inr, ⊎_elim, ℕ, zero, suc, ◌%◌, ◌<◌, ◌≤◌, List, [], ◌∷◌, length, get_or, Option, Some, None, refl, ap, sym, ◌∙◌, arith}
-use Rattle.std.specs.List.{Contains}
+use Rattle.std.proofs.Common.{◌≡◌, inl, inr, ⊎_elim, ℕ, ◌%◌, ◌<◌, ◌≤◌, List, [], ◌∷◌, length, get_or, Option, Some, None, refl, ap, sym, ◌∙◌, arith}
 use Rattle.std.specs.Option.{option_map_or}
 use Rattle.std.proofs.lemmas.Option.{slice_get_read}
 use Rattle.std.proofs.lemmas.List.Elements.{All-contains}
@@ -18,21 +17,8 @@ use Rattle.schedule_tables.specs.declared.entry.Entry.{Entry}
 use Rattle.schedule_tables.specs.declared.slot.Place.{Place}
 use Rattle.schedule_tables.specs.declared.slot.Slot.{Slot}
 use Rattle.schedule_tables.specs.declared.tables.TimedRow.{TimedRow}
+use Rattle.tte_lemmas.proofs.Lists.{period_divides}
 use Rattle.tte_units.specs.Amount.{amount}
-
--- each period divides 64
-period_divides : (n p : ℕ) → Contains (1 ∷ 2 ∷ 4 ∷ 8 ∷ 16 ∷ 32 ∷ 64 ∷ []) p → n % 64 % p ≡ n % p
-period_divides n p has = at_place n p has.0 has.1 has.2
-  where
-    at_place : (n p k : ℕ) → k < 7 → get_or (1 ∷ 2 ∷ 4 ∷ 8 ∷ 16 ∷ 32 ∷ 64 ∷ []) k p ≡ p → n % 64 % p ≡ n % p
-    at_place n p zero within at = rw (← at) (omega arith)
-    at_place n p (suc zero) within at = rw (← at) (omega arith)
-    at_place n p (suc (suc zero)) within at = rw (← at) (omega arith)
-    at_place n p (suc (suc (suc zero))) within at = rw (← at) (omega arith)
-    at_place n p (suc (suc (suc (suc zero)))) within at = rw (← at) (omega arith)
-    at_place n p (suc (suc (suc (suc (suc zero))))) within at = rw (← at) (omega arith)
-    at_place n p (suc (suc (suc (suc (suc (suc zero)))))) within at = rw (← at) (omega arith)
-    at_place n p (suc (suc (suc (suc (suc (suc (suc k))))))) within at = absurd (omega arith)
 
 -- a row's place by its entry
 place_is : (n : Network) (row : RowId) (e : Entry) → IsEntry n row.0 e → dispatch_order n row ≡ numbers_of (place_by e row)

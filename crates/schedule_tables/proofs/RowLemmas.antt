@@ -3,12 +3,13 @@ use Rattle.std.proofs.Common.{◌≡◌, ⊎_elim, ℕ, ◌+◌, ◌<◌, List, 
 use Rattle.std.specs.Prelude.{slice_get}
 use Rattle.std.proofs.lemmas.Option.{slice_get_read}
 use Rattle.net_plan.specs.declared.network.Network.{Network}
-use Rattle.schedule_tables.proofs.EntryLemmas.{one_entry, pushed}
+use Rattle.schedule_tables.proofs.EntryLemmas.{one_entry}
 use Rattle.schedule_tables.specs.Entries.{IsEntry}
 use Rattle.schedule_tables.specs.TablesOf.{AreTimedRows, IsTimedRow}
 use Rattle.schedule_tables.specs.Windows.{window_of}
 use Rattle.schedule_tables.specs.declared.entry.Entry.{Entry}
 use Rattle.schedule_tables.specs.declared.tables.TimedRow.{TimedRow}
+use Rattle.tte_lemmas.proofs.Lists.{pushed}
 
 -- one more row
 pub rows_more : (n : Network) (count : ℕ) (rows : List TimedRow) (row : TimedRow) → AreTimedRows n count rows → IsTimedRow n count row

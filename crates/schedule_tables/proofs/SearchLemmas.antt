@@ -1,5 +1,6 @@
 -- The search for a slot among slots in their order.
-use Rattle.std.proofs.Common.{◌≡◌, true, false, ◌⊎◌, inl, inr, ⊎_elim, ℕ, ◌<◌, ◌≤◌, List, [], ◌∷◌, length, get_or, Option, Some, None, refl, ap, sym, ◌∙◌, subst, arith}
+use Rattle.std.proofs.Common.{◌≡◌, true, false, inl, inr, ⊎_elim, ℕ, ◌<◌, ◌≤◌, List, [], ◌∷◌, length, get_or, Option, Some, None, refl, ap, sym, ◌∙◌, subst, arith}
+use Rattle.std.proofs.lemmas.Bool.{cases_lt}
 use Rattle.std.specs.Prelude.{slice_get}
 use Rattle.std.specs.List.{Contains}
 use Rattle.std.specs.List.Sorted.{IsPartitionPoint, IsPartitionedBy}
@@ -10,6 +11,7 @@ use Rattle.schedule_tables.specs.Dispatches.{IsBelow}
 use Rattle.schedule_tables.specs.Slots.{AreInOrder, Follows, HasNoNextSlot, IsBehind, IsNextSlot, key_of, numbers_of}
 use Rattle.schedule_tables.specs.declared.slot.Place.{Place}
 use Rattle.schedule_tables.specs.declared.slot.Slot.{Slot}
+use Rattle.tte_lemmas.proofs.Naturals.{above_or_same}
 
 -- a slot that follows stands behind
 stands_behind : (device : DeviceId) (residue : ℕ) (place : Option Place) (s : Slot) → Follows device residue place s → StandsBehind device residue place s
@@ -57,12 +59,6 @@ same_residue device residue (Some place) s t behind d r out =
     p.1)
     behind
 
-before_or_not : (k n : ℕ) → (k < n) ⊎ (n ≤ k)
-before_or_not k n = grind arith
-
-before_or_same : (k n : ℕ) → k ≤ n → (k < n) ⊎ (k ≡ n)
-before_or_same k n le = grind arith
-
 abbrev device_id : ℕ → DeviceId
 device_id n = record { 0 = n }
 
@@ -85,7 +81,7 @@ not_before slots device residue place start ends t has f =
     (λ (l : has.0 < start). absurd (passed_true device residue place t (ap (passed device residue place) (sym has.2) ∙ ends.parts.0 has.0 t (omega arith) l)
     (stands_behind device residue place t f)))
     (λ (l : start ≤ has.0). l)
-    (before_or_not has.0 start)
+    (cases_lt has.0 start)
 
 -- the slot at the end is the least of those that follow
 least : (slots : List Slot) (device : DeviceId) (residue : ℕ) (place : Option Place) (start : ℕ) → Ends slots device residue place start
@@ -97,7 +93,7 @@ least slots device residue place start ends s at t has f below =
     (λ (e : start ≡ has.0).
     let same : t ≡ s = sym has.2 ∙ ap (λ k. get_or slots k t) (sym e) ∙ first in
     below_itself (key_of s) (subst (λ (x : Slot). IsBelow (key_of x) (key_of s)) same below))
-    (before_or_same start has.0 (not_before slots device residue place start ends t has f))
+    (above_or_same start has.0 (not_before slots device residue place start ends t has f))
 
 -- the slot at the end, where it is one of the device's in the residue, is the next
 pub is_next_slot : (slots : List Slot) (device : DeviceId) (residue : ℕ) (place : Option Place) (start : ℕ) → Ends slots device residue place start

@@ -1,17 +1,16 @@
 -- A network that keeps the rules has devices and links.
-use Rattle.std.proofs.Common.{◌≡◌, ℕ, ◌+◌, ◌<◌, Bool, true, List, [], ◌∷◌, Option, Some, None, inl, inr, refl, ap, arith, length, cond, zero, suc}
-use Rattle.std.specs.Prelude.{IsSomeAnd, slice_get}
+use Rattle.std.proofs.Common.{◌≡◌, ℕ, ◌+◌, ◌<◌, Bool, true, List, [], ◌∷◌, Some, inl, inr, refl, ap, arith, length, cond, zero, suc}
+use Rattle.std.specs.Prelude.{slice_get}
 use Rattle.std.specs.List.{count_by}
 use Rattle.std.proofs.lemmas.Bool.{cases_Bool}
 use Rattle.std.proofs.lemmas.List.Sums.{length-filter, sum_by-cons}
-use Rattle.std.proofs.lemmas.Option.{slice_get_within}
+use Rattle.net_plan.proofs.TableFacts.{link_within}
 use Rattle.net_plan.specs.Paths.{IsUplink}
-use Rattle.net_plan.specs.Places.{is_master, link_at}
+use Rattle.net_plan.specs.Places.{is_master}
 use Rattle.net_plan.specs.declared.ids.DeviceId.{DeviceId}
 use Rattle.net_plan.specs.declared.ids.LinkId.{LinkId}
 use Rattle.net_plan.specs.declared.network.Network.{Network}
 use Rattle.net_plan.specs.declared.tables.Device.{Device}
-use Rattle.net_plan.specs.declared.tables.Link.{Link}
 use Rattle.pcf_values.specs.declared.channel.Channel.{Channel}
 use Rattle.pcf_values.specs.declared.channel.Channel.TheVariants.{A}
 use Rattle.schedule_tables.specs.Rules.{KeepsRules}
@@ -45,15 +44,6 @@ pub some_device : (network : Network) → KeepsRules network → 0 < length netw
 some_device network rules =
     let one = some_master network rules in
     omega (arith, master_within network one.0 one.1)
-
-some_link_found : (o : Option Link) (P : Link → Type 0) → IsSomeAnd o P → (l : Link) × (o ≡ Some l)
-some_link_found None P is = absurd is
-some_link_found (Some l) P is = (l, refl)
-
-link_within : (network : Network) (link : LinkId) (P : Link → Type 0) → IsSomeAnd (link_at network link) P → link.0 < length network.link
-link_within network link P there =
-    let found = some_link_found (link_at network link) P there in
-    slice_get_within network.link link.0 found.0 found.1
 
 -- an uplink is a link of the network
 pub uplink_within : (network : Network) (device : DeviceId) (link : LinkId) (channel : Channel) → IsUplink network channel device link

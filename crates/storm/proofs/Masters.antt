@@ -4,14 +4,13 @@ use Rattle.std.specs.Prelude.{IsSomeAnd, MatchOption, slice_get}
 use Rattle.std.proofs.lemmas.Option.{slice_get_within}
 use Rattle.std.proofs.lemmas.Bool.{cases_order}
 use Rattle.net_plan.specs.Paths.{IsUplink}
-use Rattle.net_plan.specs.Places.{device_at, is_end_system, is_master, IsEndSystem}
+use Rattle.net_plan.specs.Places.{device_at, is_master, IsEndSystem}
 use Rattle.net_plan.specs.declared.ids.DeviceId.{DeviceId}
 use Rattle.net_plan.specs.declared.ids.LinkId.{LinkId}
 use Rattle.net_plan.specs.declared.network.Network.{Network}
 use Rattle.net_plan.specs.declared.tables.Device.{Device}
-use Rattle.net_plan.specs.declared.tables.Role.{Role}
-use Rattle.net_plan.specs.declared.tables.Role.TheVariants.{Master, Client, Cm, Relay}
 use Rattle.pcf_values.specs.declared.channel.Channel.{Channel}
+use Rattle.schedule_tables.proofs.Margins.{master_ends}
 use Rattle.schedule_tables.specs.Rules.{KeepsRules}
 use Rattle.schedule_tables.specs.declared.rule.Rule.TheVariants.{Connections}
 use Rattle.storm.specs.Striking.{IsMaster, IsLastMaster}
@@ -77,17 +76,10 @@ last_of_all network None below = λ device is. below device (master_within netwo
 last_of_all network (Some master) below =
     record { master = below.1; last = λ later above is. below.2 later above (master_within network later is) is }
 
--- a master is an end system
-pub end_role : (role : Role) → is_master role ≡ true → is_end_system role ≡ true
-end_role Master is = refl
-end_role Client is = refl
-end_role Cm is = absurd cc
-end_role Relay is = absurd cc
-
 pub master_is_end : (network : Network) (device : DeviceId) → IsMaster network device → IsEndSystem network device
 master_is_end network device is =
     let found = master_found network device is in
-    rw found.1 (end_role found.0.role found.2)
+    rw found.1 (master_ends found.0.role found.2)
 
 -- a master of a network that keeps the rules has an uplink on each channel
 pub master_uplink : (network : Network) (device : DeviceId) (channel : Channel) → KeepsRules network → IsMaster network device
@@ -95,10 +87,3 @@ pub master_uplink : (network : Network) (device : DeviceId) (channel : Channel) 
 master_uplink network device channel rules is =
     let one = (rules Connections device.0).ends (master_is_end network device is) channel in
     (one.0, one.1)
-
--- the role of masters is the master's
-pub role_of_master : (role : Role) → is_master role ≡ true → role ≡ Master
-role_of_master Master is = refl
-role_of_master Client is = absurd cc
-role_of_master Cm is = absurd cc
-role_of_master Relay is = absurd cc

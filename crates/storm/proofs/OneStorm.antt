@@ -3,7 +3,6 @@ use Rattle.std.proofs.Common.{◌≡◌, ◌⊎◌, ℕ, List, [], ◌∷◌, �
 use Rattle.std.specs.Prelude.{IsSomeAnd}
 use Rattle.std.specs.List.{Any}
 use Rattle.std.proofs.lemmas.Bool.{cases_order}
-use Rattle.fault_hypothesis.proofs.Befalling.{any_behind, any_first, any_of}
 use Rattle.net_plan.specs.Places.{link_at}
 use Rattle.net_plan.specs.declared.event.Event.{Event}
 use Rattle.net_plan.specs.declared.event.What.TheVariants as kinds
@@ -14,6 +13,7 @@ use Rattle.net_plan.specs.declared.tables.Device.{Device}
 use Rattle.net_plan.specs.declared.tables.Link.{Link}
 use Rattle.pcf_codec.specs.Spelling.{Spells}
 use Rattle.pcf_values.specs.declared.pcf.Pcf.{Pcf}
+use Rattle.run_law.proofs.scenario.Devices.{within_front}
 use Rattle.run_law.specs.declared.outside.Outside.TheVariants.{SecondBreak}
 use Rattle.run_law.specs.scenario.Faults.{Breaks, IsBroken}
 use Rattle.run_law.specs.scenario.Hypothesis.{AreWithinHypothesis, IsWithinHypothesis}
@@ -27,6 +27,7 @@ use Rattle.storm.specs.Words.{draw_at}
 use Rattle.storm.specs.declared.draw.Choice.TheVariants.{Rate, Wire, Hold, Cut, Heal, On, Strike}
 use Rattle.storm.specs.declared.draw.Choice.{Choice}
 use Rattle.storm.specs.declared.draw.Draw.{Draw}
+use Rattle.tte_lemmas.proofs.Lists.{any_behind, any_first, any_of}
 use Rattle.storm.proofs.Masters.{master_is_end}
 use Rattle.storm.proofs.SameOctets.{same_octets}
 use Rattle.storm.proofs.Storms.{storms_within}
@@ -156,10 +157,6 @@ one_storm_event network seed cycles before n a b rules within (inl x) (inl y) =
 one_storm_event network seed cycles before n a b rules within (inl x) (inr y) = absurd (omega (arith, x.0, y.0))
 one_storm_event network seed cycles before n a b rules within (inr x) (inl y) = absurd (omega (arith, x.0, y.0))
 one_storm_event network seed cycles before n a b rules within (inr x) (inr y) = x.1 ∙ sym y.1
-
-within_front : (network : Network) (front rest : List Event) → AreWithinHypothesis network (front ++ rest) → AreWithinHypothesis network front
-within_front network front rest within before behind event order =
-    within before (behind ++ rest) event (ap (λ (l : List Event). l ++ rest) order ∙ append_assoc before (event ∷ behind) rest)
 
 -- behind the same events, as many events of a storm are the same
 same_rest : (network : Network) (seed cycles : ℕ) (front rest other : List Event) → KeepsRules network → AreWithinHypothesis network (front ++ rest)

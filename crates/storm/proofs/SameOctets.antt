@@ -1,7 +1,6 @@
 -- Two spellings of one frame, of bytes and with zeros in the padding, are the same octets.
-use Rattle.std.proofs.Common.{◌≡◌, ◌⊎◌, ℕ, zero, suc, ◌+◌, ◌-◌, ◌*◌, ◌^◌, ◌<◌, ◌≤◌, List, drop, inl, inr, sym, ap, subst, ◌∙◌, arith}
-use Rattle.std.proofs.Math.Nat.{mul-le-mul_right}
-use Rattle.std.proofs.lemmas.Bool.{cases_order}
+use Rattle.std.proofs.Common.{◌≡◌, ℕ, zero, suc, ◌+◌, ◌-◌, ◌*◌, ◌^◌, ◌<◌, ◌≤◌, List, drop, inl, inr, sym, ap, subst, ◌∙◌, arith}
+use Rattle.std.proofs.lemmas.Bool.{cases_lt, cases_order}
 use Rattle.std.proofs.lemmas.List.{ext_get_or, get_or-drop}
 use Rattle.std.specs.Prelude.{slice_index}
 use Rattle.byteorder.specs.Endian.{big_from}
@@ -10,19 +9,7 @@ use Rattle.hex.specs.Hex.{IsBytes}
 use Rattle.pcf_codec.specs.Fields.{field}
 use Rattle.pcf_codec.specs.Spelling.{IsPadding, Spells}
 use Rattle.pcf_values.specs.declared.pcf.Pcf.{Pcf}
-
--- the first digits of equal numbers are equal
-same_heads : (x y p r s : ℕ) → r < p → s < p → x * p + r ≡ y * p + s → x ≡ y
-same_heads x y p r s small other same =
-    elim (cases_order x y) [
-      | inl equal ↦ equal
-      | inr (inl less) ↦
-          let top : (x + 1) * p ≤ y * p = mul-le-mul_right p (omega (arith, less)) in
-          absurd (omega (arith, small, other, same, top))
-      | inr (inr more) ↦
-          let top : (y + 1) * p ≤ x * p = mul-le-mul_right p (omega (arith, more)) in
-          absurd (omega (arith, small, other, same, top))
-    ]
+use Rattle.tte_lemmas.proofs.Naturals.{same_heads}
 
 same_tails : (x y p r s : ℕ) → x ≡ y → x * p + r ≡ y * p + s → r ≡ s
 same_tails x y p r s heads same = let tops = ap (λ (b : ℕ). b * p) heads in omega (arith, same, tops)
@@ -55,47 +42,39 @@ same_field place n xs ys small other same k low high =
     let back : k ≡ place + (k - place) = omega (arith, low) in
     rw back (sym (get_or-drop place xs (k - place) 0) ∙ moved ∙ get_or-drop place ys (k - place) 0)
 
-below_or : (a b : ℕ) → (a < b) ⊎ (b ≤ a)
-below_or a b =
-    elim (cases_order a b) [
-      | inl equal ↦ inr (omega (arith, equal))
-      | inr (inl less) ↦ inl less
-      | inr (inr more) ↦ inr (omega (arith, more))
-    ]
-
 -- two spellings with zeros in the padding are one
 pub same_octets : (xs ys : List ℕ) (p : Pcf) → Spells xs p → Spells ys p → IsBytes xs → IsBytes ys → ((i : ℕ) → IsPadding i → slice_index xs i ≡ 0)
     → ((i : ℕ) → IsPadding i → slice_index ys i ≡ 0) → xs ≡ ys
 same_octets xs ys p x y small other zeros none =
     ext_get_or 0 xs ys (x.size ∙ sym y.size)
     (λ i within.
-    elim (below_or i 14) [
-      | inl a ↦ elim (below_or i 6) [
+    elim (cases_lt i 14) [
+      | inl a ↦ elim (cases_lt i 6) [
         | inl b ↦ same_field 0 6 xs ys small other (x.destination ∙ sym y.destination) i (omega arith) (omega (arith, b))
-        | inr b ↦ elim (below_or i 12) [
+        | inr b ↦ elim (cases_lt i 12) [
           | inl d ↦ same_field 6 6 xs ys small other (x.source ∙ sym y.source) i b (omega (arith, d))
           | inr d ↦ same_field 12 2 xs ys small other (x.ethertype ∙ sym y.ethertype) i d (omega (arith, a))
         ]
       ]
-      | inr a ↦ elim (below_or i 26) [
-        | inl b ↦ elim (below_or i 18) [
+      | inr a ↦ elim (cases_lt i 26) [
+        | inl b ↦ elim (cases_lt i 18) [
           | inl d ↦ same_field 14 4 xs ys small other (x.cycle ∙ sym y.cycle) i a (omega (arith, d))
-          | inr d ↦ elim (below_or i 22) [
+          | inr d ↦ elim (cases_lt i 22) [
             | inl e ↦ same_field 18 4 xs ys small other (x.members ∙ sym y.members) i d (omega (arith, e))
             | inr e ↦ x.reserved i (inl (e, omega (arith, b))) ∙ sym (y.reserved i (inl (e, omega (arith, b))))
           ]
         ]
-        | inr b ↦ elim (below_or i 29) [
-          | inl d ↦ elim (below_or i 27) [
+        | inr b ↦ elim (cases_lt i 29) [
+          | inl d ↦ elim (cases_lt i 27) [
             | inl e ↦ let here : i ≡ 26 = omega (arith, b, e) in rw here (x.priority ∙ sym y.priority)
-            | inr e ↦ elim (below_or i 28) [
+            | inr e ↦ elim (cases_lt i 28) [
               | inl f ↦ let here : i ≡ 27 = omega (arith, e, f) in rw here (x.domain ∙ sym y.domain)
               | inr f ↦ let here : i ≡ 28 = omega (arith, d, f) in rw here (x.kind ∙ sym y.kind)
             ]
           ]
-          | inr d ↦ elim (below_or i 34) [
+          | inr d ↦ elim (cases_lt i 34) [
             | inl e ↦ x.reserved i (inr (d, omega (arith, e))) ∙ sym (y.reserved i (inr (d, omega (arith, e))))
-            | inr e ↦ elim (below_or i 42) [
+            | inr e ↦ elim (cases_lt i 42) [
               | inl f ↦ same_field 34 8 xs ys small other (x.clock ∙ sym y.clock) i e (omega (arith, f))
               | inr f ↦
                   let low : i < 60 = omega (arith, within, x.size) in

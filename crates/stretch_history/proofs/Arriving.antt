@@ -1,5 +1,5 @@
 -- A control frame that is not dropped at its arrival is no older than the greatest delay.
-use Rattle.std.proofs.Common.{◌≡◌, ◌⊎◌, ℕ, ◌≤◌, Bool, true, false, not, List, length, Option, Some, None, nat_lt, inl, inr, refl, sym, ap, ◌∙◌, arith, cond, option_map}
+use Rattle.std.proofs.Common.{◌≡◌, ◌⊎◌, ℕ, ◌≤◌, Bool, true, false, not, List, length, Option, Some, None, nat_lt, inl, inr, refl, sym, ap, ◌∙◌, arith}
 use Rattle.std.proofs.lemmas.Bool.{ltb-false}
 use Rattle.std.specs.Prelude.{Result, Ok, Err, if◌then◌else◌}
 use Rattle.net_plan.specs.declared.ids.DeviceId.{DeviceId}
@@ -11,6 +11,7 @@ use Rattle.net_plan.specs.declared.tables.Way.{Way}
 use Rattle.pcf_codec.specs.Fields.{field}
 use Rattle.pcf_codec.specs.declared.refusal.PcfRefusal.{PcfRefusal}
 use Rattle.pcf_values.specs.declared.pcf.Pcf.{Pcf}
+use Rattle.run_law.proofs.control.Verdicts.{none_first}
 use Rattle.run_law.specs.control.Arrivals.{clock_on_arrival, control_arrival, frame_fault, frame_or_fault, is_cold_start, is_of_other_domain, is_of_other_member, point_on_arrival}
 use Rattle.run_law.specs.control.Wires.{Signal, control, timed}
 use Rattle.run_law.specs.declared.judgement.Reason.{Reason}
@@ -26,11 +27,6 @@ use Rattle.run_law.specs.timed.Receptions.{arrival_of, last_taken}
 use Rattle.schedule_tables.specs.declared.entry.Entry.{Entry}
 use Rattle.tte_units.specs.Amount.{amount}
 use Rattle.tte_units.specs.declared.units.Units.{Units}
-
-none_first : (b : Bool) (x : Bool × Reason) (o : Option (Bool × Reason)) → option_map (λ test. test.1) (cond b (Some x) o) ≡ None
-    → (b ≡ false) × (option_map (λ test. test.1) o ≡ None)
-none_first true x o e = absurd cc
-none_first false x o e = (refl, e)
 
 -- the frame, with this clock, waits or is passed on
 abbrev Goes : Arrival → ℕ → Type 0

@@ -10,16 +10,15 @@ use Rattle.collection_history.specs.declared.gathering.Gathering.{Gathering}
 use Rattle.compression.specs.Clusters.{Point}
 use Rattle.net_plan.specs.declared.ids.DeviceId.{DeviceId}
 use Rattle.net_plan.specs.declared.network.Network.{Network}
-use Rattle.audit_law.proofs.LastParts.{all_kept}
-use Rattle.record_history.proofs.Grown.{filter_off, filter_on, last_more}
-use Rattle.record_history.proofs.Kept.{before_is, is_there}
+use Rattle.record_history.proofs.Kept.{test_chain}
 use Rattle.record_history.proofs.MarkOrder.{marks_compare}
 use Rattle.record_history.proofs.Partitions.{parted_on}
 use Rattle.record_history.specs.Effects.{carried_by}
 use Rattle.record_history.specs.Keeping.{records_before}
 use Rattle.record_history.specs.Marks.{IsMarkOf, is_mark_before, mark_of, numbers_of}
 use Rattle.record_history.specs.declared.mark.Mark.{Mark}
-use Rattle.run_law.proofs.runs.Places.{chain, in_left, in_parts, in_right}
+use Rattle.run_law.proofs.records.Order.{all_kept, before_is}
+use Rattle.run_law.proofs.runs.Places.{in_left, in_parts, in_right}
 use Rattle.run_law.specs.control.Collections.{points_of}
 use Rattle.run_law.specs.records.Causes.{device_of}
 use Rattle.run_law.specs.records.Happenings.{Happening, time_of}
@@ -33,15 +32,13 @@ use Rattle.stretch_history.specs.Points.{MayBring, points_with}
 use Rattle.stretch_history.specs.declared.change.Change.TheVariants.{Ends, Gives}
 use Rattle.stretch_history.specs.declared.change.Change.{Change}
 use Rattle.stretch_history.specs.declared.kept.Entry.{Entry}
+use Rattle.tte_lemmas.proofs.Lists.{filter_off, filter_on, got_within, last_pushed, set_other, set_same}
 
 -- the points behind a record of the device that changes its collections
 pub points_then : (hs : List Happening) (h : Happening) (d : DeviceId) (change : Change) → change_by h.note.body ≡ Some change
     → collector_in h.note.body ≡ Some d → points_of (hs ++ h ∷ []) d ≡ points_with (points_of hs d) change (carried_by h)
 points_then hs h d Ends is of = points_ended hs h d is of
 points_then hs h d (Gives p) is of = points_given hs h d p is of
-
-test_chain : (p q r : List ℕ) → is_before p q ≡ true → is_before q r ≡ true → is_before p r ≡ true
-test_chain p q r a b = before_is p r (chain p q r (is_there p q a) (is_there q r b))
 
 -- ---- a device whose collections the record does not change
 
@@ -112,7 +109,7 @@ kept_on network hs d h old new g all of goes keeps = record {
         ∙ ap (λ (xs : List Happening). xs ++ h ∷ []) (all_kept records hs (λ x i. test_chain (place_of x) (place_of h) place (before_is (place_of x) (place_of h) (all x i)) e)) in
         let last : entry_before mark new.entries ≡ Some (entry_of h g) = ap (entry_before mark) goes.entries
         ∙ ap (λ (xs : List Entry). last_or None xs) (filter_on test old.entries (entry_of h g) (is h of ∙ e))
-        ∙ last_more None (filter test old.entries) (entry_of h g) in
+        ∙ last_pushed None (filter test old.entries) (entry_of h g) in
         subst (λ (o : Option Entry). StandsFor new.collections o (points_of (records_before place (hs ++ h ∷ [])) d)) (sym last)
         (subst (λ (xs : List Happening). Gathers new.collections g (points_of xs d)) (sym whole) goes.gathers)
     by_place place mark is false e =
@@ -151,23 +148,6 @@ kept_on network hs d h old new g all of goes keeps = record {
 
 -- ---- all devices
 
-get_same : {X : Type 0} (xs : List X) (i : ℕ) (x : X) → i < length xs → slice_get (slice_set xs i x) i ≡ Some x
-get_same [] i x lt = absurd (omega (arith, lt))
-get_same (y ∷ xs) zero x lt = refl
-get_same (y ∷ xs) (suc i) x lt = get_same xs i x (omega (arith, lt))
-
-get_other : {X : Type 0} (xs : List X) (i j : ℕ) (x : X) → (i ≡ j → ⊥) → slice_get (slice_set xs i x) j ≡ slice_get xs j
-get_other [] i j x not = refl
-get_other (y ∷ xs) zero zero x not = absurd (not refl)
-get_other (y ∷ xs) zero (suc j) x not = refl
-get_other (y ∷ xs) (suc i) zero x not = refl
-get_other (y ∷ xs) (suc i) (suc j) x not = get_other xs i j x (λ e. not (ap (λ (n : ℕ). suc n) e))
-
-pub got_within : {X : Type 0} (xs : List X) (i : ℕ) (x : X) → slice_get xs i ≡ Some x → i < length xs
-got_within [] i x e = absurd cc
-got_within (y ∷ xs) zero x e = omega arith
-got_within (y ∷ xs) (suc i) x e = omega (arith, got_within xs i x e)
-
 pub all_still : (network : Network) (hs : List Happening) (h : Happening) (all : List Stretches)
     → ((d : DeviceId) → d.0 < length all → is_cm network d ≡ true → IsQuiet d h.note.body) → KeepsAll network hs all
     → KeepsAll network (hs ++ h ∷ []) all
@@ -183,7 +163,7 @@ all_on network hs h d new all of within kept keeps device stretches there cm =
           let mk : ℕ → DeviceId = λ n. record { 0 = n } in
           let one : d ≡ device = ap mk same in
           let found : Some new ≡ Some stretches =
-          sym (get_same all d.0 new within) ∙ ap (slice_get (slice_set all d.0 new)) same ∙ there in
+          sym (set_same all d.0 new within) ∙ ap (slice_get (slice_set all d.0 new)) same ∙ there in
           let is : new ≡ stretches = cc in
           subst (λ (x : DeviceId). Keeps network (hs ++ h ∷ []) x stretches) one (subst (Keeps network (hs ++ h ∷ []) d) is kept)
       | inr (inl lt) ↦ other (λ e. absurd (omega (arith, e, lt)))
@@ -194,7 +174,7 @@ all_on network hs h d new all of within kept keeps device stretches there cm =
     other not =
         kept_still network hs device h stretches
         (λ c is e. let one : Some d ≡ Some device = sym of ∙ e in let is : d ≡ device = cc in not (ap (λ (x : DeviceId). x.0) is))
-        (keeps device stretches (sym (get_other all d.0 device.0 new not) ∙ there) cm)
+        (keeps device stretches (sym (set_other all d.0 device.0 new not) ∙ there) cm)
 
 -- what a record may bring to its compression master
 pub may_bring : (hs : List Happening) (h : Happening) (d : DeviceId) (change : Change) → change_by h.note.body ≡ Some change

@@ -1,5 +1,5 @@
 -- The points of a compression master come in order.
-use Rattle.std.proofs.Common.{◌≡◌, ◌⊎◌, ℕ, zero, suc, ◌<◌, ◌≤◌, ℤ, pos, ◌≤ℤ◌, ◌<ℤ◌, ◌-ℤ◌, ◌+ℤ◌, negsuc, All, Bool, true, false, List, [], ◌∷◌, ◌++◌, drop, slice_get, Option, Some, None, inl, inr, refl, sym, ap, subst, ◌∙◌, arith, if◌then◌else◌, unsigned_abs}
+use Rattle.std.proofs.Common.{◌≡◌, ◌⊎◌, ℕ, ◌<◌, ◌≤◌, ℤ, pos, ◌≤ℤ◌, ◌<ℤ◌, ◌-ℤ◌, ◌+ℤ◌, negsuc, All, Bool, true, false, List, [], ◌∷◌, ◌++◌, Option, Some, None, inl, inr, refl, sym, ap, subst, ◌∙◌, arith, if◌then◌else◌, unsigned_abs}
 use Rattle.std.proofs.lemmas.Bool.{cases_lt, eqb-true}
 use Rattle.std.proofs.lemmas.Int.{ints}
 use Rattle.std.proofs.lemmas.List.Elements.{All-cons, All-nil}
@@ -10,6 +10,8 @@ use Rattle.compression.specs.Clusters.{Point, point_at}
 use Rattle.net_plan.specs.Ranges.{IsInRange}
 use Rattle.net_plan.specs.declared.ids.DeviceId.{DeviceId}
 use Rattle.net_plan.specs.declared.ids.LinkId.{LinkId}
+use Rattle.run_law.proofs.records.Happenings.{numbered_in}
+use Rattle.run_law.proofs.records.Order.{in_drop, place_order}
 use Rattle.run_law.proofs.runs.Places.{parted}
 use Rattle.run_law.specs.control.Collections.{ends_stretch, master_of, point_by, points_of}
 use Rattle.run_law.specs.control.Permanence.{BecomesPermanent, IsPermanent, ripe_as}
@@ -19,7 +21,7 @@ use Rattle.run_law.specs.declared.judgement.Why.TheVariants.{On}
 use Rattle.run_law.specs.declared.note.NoteBody.TheVariants as notes
 use Rattle.run_law.specs.declared.note.NoteBody.{NoteBody}
 use Rattle.run_law.specs.device.States.{cycle_in}
-use Rattle.run_law.specs.records.Happenings.{Happening, numbered, time_of}
+use Rattle.run_law.specs.records.Happenings.{Happening, time_of}
 use Rattle.run_law.specs.records.Order.{AllBefore, IsBefore, IsIn}
 use Rattle.run_law.specs.records.Ranks.{members_in, place_at, place_of}
 use Rattle.run_law.specs.runs.Runs.{IsFounded}
@@ -32,20 +34,6 @@ use Rattle.tte_units.specs.Amount.{amount}
 use Rattle.tte_units.specs.declared.units.Units.{Units}
 
 -- ---- lists
-
-got_in : {X : Type 0} (xs : List X) (k : ℕ) (x : X) → slice_get xs k ≡ Some x → IsIn x xs
-got_in [] k x e = absurd cc
-got_in (y ∷ ys) zero x e = inl cc
-got_in (y ∷ ys) (suc k) x e = inr (got_in ys k x e)
-
-numbered_in : (hs : List Happening) (n : ℕ) (x : Happening) → numbered hs n ≡ Some x → IsIn x hs
-numbered_in hs zero x e = absurd cc
-numbered_in hs (suc k) x e = got_in hs k x e
-
-drop_in : {X : Type 0} (n : ℕ) (xs : List X) (x : X) → IsIn x (drop n xs) → IsIn x xs
-drop_in zero xs x i = i
-drop_in (suc n) [] x i = absurd i
-drop_in (suc n) (y ∷ xs) x i = inr (drop_in n xs x i)
 
 all_given : (P : Point → Type 0) (f : Happening → Option Point) (xs : List Happening) → ((x : Happening) → IsIn x xs → IfSome (f x) P)
     → All P (filter_map f xs)
@@ -81,14 +69,6 @@ amounts p q a b le = by p.0 q.0 a b le
     by (pos m) (pos n) a b le = omega (arith, ints, le)
     by (negsuc m) y a b le = absurd (omega (arith, ints, a))
     by (pos m) (negsuc n) a b le = absurd (omega (arith, ints, b))
-
--- of two permanences of one device, the first in the order has no greater amount, or an earlier time
-earlier_or_less : (t u d p q : ℕ) (ks ls : List ℕ) → IsBefore (t ∷ 3 ∷ d ∷ p ∷ ks) (u ∷ 3 ∷ d ∷ q ∷ ls) → (t < u) ⊎ (p ≤ q)
-earlier_or_less t u d p q ks ls (inl lt) = inl lt
-earlier_or_less t u d p q ks ls (inr (e, inl lt)) = absurd (omega (arith, lt))
-earlier_or_less t u d p q ks ls (inr (e, inr (f, inl lt))) = absurd (omega (arith, lt))
-earlier_or_less t u d p q ks ls (inr (e, inr (f, inr (g, inl lt)))) = inr (omega (arith, lt))
-earlier_or_less t u d p q ks ls (inr (e, inr (f, inr (g, inr (i, b))))) = inr (omega (arith, i))
 
 -- a permanence that is due, and its point
 record IsRipe (s : Scenario) (hs : List Happening) (device : DeviceId) (t : ℕ) (point : Units) : Type 0 where
@@ -151,7 +131,7 @@ given_before s hs h x device link other_link cause other_cause point other verdi
     in_order s split.0 hs device (time_of x) (time_of h) other point rises
     (due_ripe s split.0 x device other_link other_cause other other_verdict range front x_due was)
     (due_ripe s hs h device link cause point verdict range founded due is)
-    (earlier_or_less (time_of x) (time_of h) device.0 (amount other) (amount point) (members_in x ∷ other_link.0 ∷ other_cause ∷ []) (members_in h ∷ link.0 ∷ cause ∷ []) both)
+    (place_order (time_of x) (time_of h) device.0 (amount other) (amount point) (members_in x ∷ other_link.0 ∷ other_cause ∷ []) (members_in h ∷ link.0 ∷ cause ∷ []) both)
 
 -- what any record gives to the device
 gives : (device : DeviceId) (point : Units) (x : Happening) (body : NoteBody)
@@ -175,7 +155,7 @@ points_before s hs h device link cause point verdict range rises founded all due
     all_given (λ p. p.reading ≤ℤ point.0) (λ x. point_by device x x.note.body) (after_last (λ x. ends_stretch device x.note.body) hs)
     (λ x i.
     gives device point x x.note.body
-    (λ l c other v was. given_before s hs h x device link l cause c point other verdict v range rises founded all due is (drop_in _ hs x i) was))
+    (λ l c other v was. given_before s hs h x device link l cause c point other verdict v range rises founded all due is (in_drop _ hs x i) was))
 
 stands : (s : Scenario) (hs : List Happening) (h : Happening) (body : NoteBody) → IsInRange s.network → NeverFall s → IsFounded place_of (IsDue s) hs
     → AllBefore place_of hs (place_of h) → IsDue s hs h → h.note.body ≡ body → (device : DeviceId) → collector_in body ≡ Some device

@@ -1,13 +1,13 @@
 -- What one more record makes of the points of a stretch.
-use Rattle.std.proofs.Common.{◌≡◌, ℕ, Bool, true, false, List, [], ◌∷◌, ◌++◌, Option, Some, None, inl, inr, refl, sym, ap, ◌∙◌, if◌then◌else◌}
-use Rattle.std.proofs.lemmas.Bool.{eq-eqb, ne_eqb}
+use Rattle.std.proofs.Common.{◌≡◌, Bool, true, false, List, [], ◌∷◌, ◌++◌, Option, Some, None, inl, inr, refl, sym, ap, ◌∙◌, if◌then◌else◌}
+use Rattle.std.proofs.lemmas.Bool.{eq-eqb}
 use Rattle.std.proofs.lemmas.List.Elements.{filter_map-append}
 use Rattle.std.specs.List.{after_last, cons_option}
 use Rattle.std.specs.Prelude.{◌==◌, filter_map}
 use Rattle.compression.specs.Clusters.{Point, point_at}
 use Rattle.net_plan.specs.declared.ids.DeviceId.{DeviceId}
-use Rattle.audit_law.proofs.LastParts.{after_more}
-use Rattle.record_history.proofs.Grown.{after_one}
+use Rattle.net_plan.proofs.SameIds.{other_device}
+use Rattle.run_law.proofs.records.Order.{after_more}
 use Rattle.run_law.specs.control.Collections.{ends_stretch, master_of, point_by, points_of}
 use Rattle.run_law.specs.declared.judgement.Judgement.TheVariants as judgements
 use Rattle.run_law.specs.declared.judgement.Judgement.{Judgement}
@@ -22,17 +22,13 @@ use Rattle.run_law.specs.records.Ranks.{members_in}
 use Rattle.stretch_history.specs.Changes.{change_by, collector_in, permanence_change}
 use Rattle.stretch_history.specs.declared.change.Change.TheVariants.{Ends, Gives}
 use Rattle.stretch_history.specs.declared.change.Change.{Change}
+use Rattle.tte_lemmas.proofs.Lists.{after_one}
 use Rattle.tte_units.specs.declared.units.Units.{Units}
 
 -- ---- what a record does
 
 same_id : (d other : DeviceId) → Some other ≡ Some d → (d.0 == other.0) ≡ true
 same_id d other e = let one : other ≡ d = cc in eq-eqb d.0 other.0 (sym (ap (λ (x : DeviceId). x.0) one))
-
-apart_id : (d other : DeviceId) → (Some other ≡ Some d → ⊥) → (d.0 == other.0) ≡ false
-apart_id d other not =
-    let mk : ℕ → Option DeviceId = λ n. Some (record { 0 = n }) in
-    ne_eqb d.0 other.0 (λ e. not (sym (ap mk e)))
 
 pub ended : (d : DeviceId) (body : NoteBody) → change_by body ≡ Some Ends → collector_in body ≡ Some d → ends_stretch d body ≡ true
 ended d (notes.Permanent other link cause point judgements.Integrates) c e = same_id d other e
@@ -75,17 +71,17 @@ abbrev pub IsQuiet : DeviceId → NoteBody → Type 0
 IsQuiet d body = (c : Change) → change_by body ≡ Some c → collector_in body ≡ Some d → ⊥
 
 quiet_goes_on : (d : DeviceId) (body : NoteBody) → IsQuiet d body → ends_stretch d body ≡ false
-quiet_goes_on d (notes.Permanent other link cause point judgements.Integrates) not = apart_id d other (not Ends refl)
+quiet_goes_on d (notes.Permanent other link cause point judgements.Integrates) not = other_device d other (not Ends refl)
 quiet_goes_on d (notes.Permanent other link cause point verdict) not = refl
-quiet_goes_on d (notes.Compressed other opened at cycle members judgements.Integrates) not = apart_id d other (not Ends refl)
+quiet_goes_on d (notes.Compressed other opened at cycle members judgements.Integrates) not = other_device d other (not Ends refl)
 quiet_goes_on d (notes.Compressed other opened at cycle members verdict) not = refl
 quiet_goes_on d (notes.State other state cause On) not = refl
-quiet_goes_on d (notes.State other state cause why) not = apart_id d other (not Ends refl)
+quiet_goes_on d (notes.State other state cause why) not = other_device d other (not Ends refl)
 quiet_goes_on d body not = refl
 
 quiet_point : (d : DeviceId) (h : Happening) (body : NoteBody) → IsQuiet d body → point_by d h body ≡ None
 quiet_point d h (notes.Permanent other link cause point verdict) not =
-    ap (λ (b : Bool). if b then Some (point_in h point) else None) (apart_id d other (not (permanence_change point verdict) refl))
+    ap (λ (b : Bool). if b then Some (point_in h point) else None) (other_device d other (not (permanence_change point verdict) refl))
 quiet_point d h body not = refl
 
 pub of_collector : (body : NoteBody) (d : DeviceId) → collector_in body ≡ Some d → device_of body ≡ Some d

@@ -1,14 +1,14 @@
 -- What a switch has still to dispatch, from call to call.
-use Rattle.std.proofs.Common.{Global, ◌≡◌, ◌∙◌, inl, inr, ℕ, ◌<◌, ◌≤◌, ◌+◌, ◌^◌, ◌*◌, ℤ, pos, ◌≤ℤ◌, ◌+ℤ◌, ◌<ℤ◌, Bool, true, false, ◌&&◌, ◌==◌, List, [], ◌∷◌, ◌++◌, length, get_or, slice_get, Option, Some, None, refl, sym, subst, ap, arith}
+use Rattle.std.proofs.Common.{Global, ◌≡◌, ◌∙◌, inl, inr, ℕ, ◌<◌, ◌≤◌, ◌+◌, ◌^◌, ◌*◌, ℤ, pos, ◌≤ℤ◌, ◌+ℤ◌, ◌<ℤ◌, Bool, true, false, ◌&&◌, ◌==◌, List, [], ◌∷◌, ◌++◌, length, get_or, Option, Some, None, refl, sym, subst, ap, arith}
 use Rattle.std.proofs.lemmas.Int.{ints}
-use Rattle.std.proofs.lemmas.Option.{slice_get_within}
-use Rattle.std.proofs.lemmas.Bool.{cases_Bool, eqb-true}
+use Rattle.std.proofs.lemmas.Bool.{and_from, cases_Bool}
 use Rattle.std.proofs.lemmas.List.Elements.{Contains-get_or, filter-append}
 use Rattle.std.specs.Prelude.{if◌then◌else◌, ⊤, option_map, IfSome, int_lt, filter, option_and_then}
 use Rattle.std.specs.List.{All, Contains, last_or}
 use Rattle.std.specs.declared.vec.Vec.{Vec}
 use Rattle.std.specs.Option.{option_map_or}
 use Rattle.compression.proofs.Elements.{in_none}
+use Rattle.net_plan.proofs.InRange.{amount_most}
 use Rattle.net_plan.specs.Ranges.{IsInRange}
 use Rattle.net_plan.specs.declared.ids.DeviceId.{DeviceId}
 use Rattle.net_plan.specs.declared.ids.RowId.{RowId}
@@ -19,7 +19,6 @@ use Rattle.run_law.specs.declared.steps.Moment.{Moment}
 use Rattle.run_law.specs.machines.Nodes.{ClockTask, Node, TakenFrame, dispatching}
 use Rattle.run_law.specs.machines.Tasks.{offset_of, value_of}
 use Rattle.schedule_tables.proofs.EntryLemmas.{in_range}
-use Rattle.switch_ports.proofs.Amounts.{amount_most}
 use Rattle.switch_ports.proofs.EachRow.{all_each}
 use Rattle.switch_ports.proofs.RowOrder.{chained_each}
 use Rattle.switch_ports.proofs.Trees.{knows_next}
@@ -34,12 +33,12 @@ use Rattle.switch_ports.specs.declared.departures.LeavingRow.{LeavingRow}
 use Rattle.switch_ports.specs.declared.switch.Switch.{Switch}
 use Rattle.sync_state.specs.declared.state.State.TheVariants.{Off, Integrating, Joining, Synchronised}
 use Rattle.sync_state.specs.declared.state.State.{State}
+use Rattle.tte_lemmas.proofs.Bools.{both_left, both_right, turned}
+use Rattle.tte_lemmas.proofs.Integers.{int_lt-from, int_lt-is, through}
+use Rattle.tte_lemmas.proofs.Lists.{got_within, last_kept, last_pushed}
 use Rattle.tte_units.specs.Amount.{amount}
 
 -- ---- the clock goes on
-
-on_from : (x y z : ℤ) → x ≤ℤ y → y ≤ℤ z → x ≤ℤ z
-on_from x y z a b = omega (arith, ints, a, b)
 
 pub later_by : (x y a : ℤ) → x ≤ℤ y → (x +ℤ a) ≤ℤ (y +ℤ a)
 later_by x y a h = omega (arith, ints, h)
@@ -47,7 +46,7 @@ later_by x y a h = omega (arith, ints, h)
 pub awaits_later : (state : State) (network : Network) (ds : Departures) (adjustment changed : ℤ) (done : List ClockTask) (x y : ℤ)
     → AwaitsIn state network ds adjustment changed done x → x ≤ℤ y → AwaitsIn state network ds adjustment changed done y
 awaits_later Synchronised network ds adjustment changed done x y h le =
-    record { each = h.each; next = h.next; passed = λ row cycle there. on_from _ _ _ (h.passed row cycle there) le }
+    record { each = h.each; next = h.next; passed = λ row cycle there. through _ _ _ (h.passed row cycle there) le }
 awaits_later Off network ds adjustment changed done x y h le = h
 awaits_later Integrating network ds adjustment changed done x y h le = h
 awaits_later Joining network ds adjustment changed done x y h le = h
@@ -63,34 +62,6 @@ awaits_called s network device node moment st later =
 
 all_weaker : (P Q : Departure → Type 0) (rows : List Departure) → ((d : Departure) → P d → Q d) → All P rows → All Q rows
 all_weaker P Q rows step all k d lt = step (get_or rows k d) (all k d lt)
-
-some_inside : {X : Type 0} (xs : List X) (k : ℕ) (x : X) → slice_get xs k ≡ Some x → k < length xs
-some_inside xs k x e = slice_get_within xs k x e
-
-both_left : (a b : Bool) → (a && b) ≡ true → a ≡ true
-both_left true b e = refl
-both_left false b e = absurd cc
-
-both_right : (a b : Bool) → (a && b) ≡ true → b ≡ true
-both_right true b e = e
-both_right false b e = absurd cc
-
-both_true : (a b : Bool) → a ≡ true → b ≡ true → (a && b) ≡ true
-both_true a b e f = rw e f
-
-reached_less : (a b : ℤ) → int_lt a b ≡ true → a <ℤ b
-reached_less a b e = grind (arith, ints, e)
-
-less_reached : (a b : ℤ) → a <ℤ b → int_lt a b ≡ true
-less_reached a b h = grind (arith, ints, h)
-
-last_pushed : {X : Type 0} (o : Option X) (xs : List X) (x : X) → last_or o (xs ++ x ∷ []) ≡ Some x
-last_pushed o [] x = refl
-last_pushed o (y ∷ xs) x = last_pushed (Some y) xs x
-
-last_kept : {X : Type 0} (o : Option X) (xs : List X) → last_or o (xs ++ []) ≡ last_or o xs
-last_kept o [] = refl
-last_kept o (y ∷ xs) = last_kept (Some y) xs
 
 -- ---- frames
 
@@ -205,7 +176,7 @@ pub departs_fresh : (network : Network) (device : DeviceId) (ds : Departures) �
 departs_fresh network device ds range begun = record {
   each = all_weaker (IsFresh network device) (IsDeparture network device []) ds.rows.items
       (λ d is. record { of = is.of; held = is.held; fit = fresh_fit network device d range is }) begun.rows.each;
-  complete = λ place entry is leaves. begun.rows.complete place entry is leaves (some_inside network.row place entry.row is.row);
+  complete = λ place entry is leaves. begun.rows.complete place entry is leaves (got_within network.row place entry.row is.row);
   ready = record {
     fit = all_weaker (IsFresh network device) IsFit ds.rows.items (λ d is. fresh_fit network device d range is) begun.rows.each;
     chained = begun.rows.chained;
@@ -253,14 +224,14 @@ held_so length of cycle at h e = elim (cases_Bool (is_dispatch_in of cycle && in
   | inl y ↦
       let f : Some (held_in length of cycle) ≡ Some h = rw y at e in
       let g : held_in length of cycle ≡ h = cc in
-      (sym g, both_left _ _ y, reached_less _ _ (both_right _ _ y))
+      (sym g, both_left _ _ y, int_lt-is _ _ (both_right _ _ y))
   | inr n ↦ absurd (let f : None ≡ Some h = rw n at e in cc)
 ]
 
 pub held_of : (length : ℕ) (of : LeavingRow) (cycle : ℕ) (at : ℤ) → is_dispatch_in of cycle ≡ true → at <ℤ value_in length of cycle
     → held_by length of cycle at ≡ Some (held_in length of cycle)
 held_of length of cycle at occurs lt =
-    let y : (is_dispatch_in of cycle && int_lt at (value_in length of cycle)) ≡ true = both_true _ _ occurs (less_reached _ _ lt) in rw y refl
+    let y : (is_dispatch_in of cycle && int_lt at (value_in length of cycle)) ≡ true = and_from _ _ occurs (int_lt-from _ _ lt) in rw y refl
 
 held_fit : (length : ℕ) (of : LeavingRow) (cycle : ℕ) (at : ℤ) → cycle * length ≤ 2 ^ 62 → of.offset ≤ 2 ^ 40 → IfSome (held_by length of cycle at) IsHeldFit
 held_fit length of cycle at a b = elim (cases_Bool (is_dispatch_in of cycle && int_lt at (value_in length of cycle))) [
@@ -279,10 +250,6 @@ last_old : (taken : List TakenFrame) (t : TakenFrame) (vl : VlId) → (t.vl.0 ==
 last_old taken t vl e =
     ap (λ (ts : List TakenFrame). last_or None ts) (filter-append (λ x. x.vl.0 == vl.0) taken (t ∷ []))
     ∙ rw e (last_kept None (filter (λ x. x.vl.0 == vl.0) taken))
-
-turned : (a b : ℕ) (r : Bool) → (a == b) ≡ r → (b == a) ≡ r
-turned a b true e = let same : a ≡ b = eqb-true a b e in grind (arith, same)
-turned a b false e = grind (arith, e)
 
 abbrev pub taken_as : ℕ → ℤ → TakenFrame → Departure → Departure
 taken_as length changed t d = with_taking length changed (record { vl = t.vl; cycle = t.cycle; at = record { 0 = t.at } }) d
@@ -357,5 +324,5 @@ awaits_taken Synchronised network device old new taken t adjustment changed x do
       (λ d both. awaits_kept network device t changed x done d (d.of.vl.0 == t.vl.0) h.passed le both.0.of both.1)
       (λ k d lt. (has.each k d lt, h.each k d lt));
   next = next h.next.leaves;
-  passed = λ row cycle there. on_from _ _ _ (h.passed row cycle there) le;
+  passed = λ row cycle there. through _ _ _ (h.passed row cycle there) le;
 }

@@ -5,6 +5,7 @@ use Rattle.std.specs.Prelude.{IfSome, option_and_then}
 use Rattle.clock_correction.specs.Deviation.{IsSmall}
 use Rattle.compression.specs.Collecting.{fresh}
 use Rattle.membership.specs.Summary.{silence}
+use Rattle.net_plan.proofs.InRange.{its_amount}
 use Rattle.net_plan.specs.Ranges.{IsWithin}
 use Rattle.net_plan.specs.declared.ids.DeviceId.{DeviceId}
 use Rattle.net_plan.specs.declared.network.Network.{Network}
@@ -12,7 +13,6 @@ use Rattle.run_law.specs.control.Corrections.{correction_value}
 use Rattle.run_law.specs.control.Hearing.{last_cycle}
 use Rattle.run_law.specs.machines.Nodes.{begun_node}
 use Rattle.run_law.specs.scenario.Devices.{expected_by, plan_of, start_of}
-use Rattle.switch_ports.proofs.Amounts.{its_amount}
 use Rattle.switch_ports.proofs.Awaiting.{awaits_fresh, departs_fresh}
 use Rattle.switch_ports.proofs.CorrectedStands.{and_then_same, silent_now}
 use Rattle.switch_ports.proofs.Fair.{HasRoom}
@@ -27,6 +27,7 @@ use Rattle.switch_ports.specs.declared.switch.Switch.{Switch}
 use Rattle.sync_state.specs.Standing.{Standing, adjustment_at_start, begun, next_point, state_at_start}
 use Rattle.sync_state.specs.declared.plan.SyncPlan.{SyncPlan}
 use Rattle.sync_state.specs.declared.state.State.TheVariants.{Joining}
+use Rattle.tte_lemmas.proofs.Integers.{never_less}
 use Rattle.tte_units.specs.Amount.{amount}
 use Rattle.tte_units.specs.declared.units.Units.{Units}
 
@@ -44,9 +45,6 @@ start_least (Some u) h = h.least
 no_joiner : (o : Option Units) → state_at_start o ≡ Joining → ⊥
 no_joiner None e = cc
 no_joiner (Some u) e = cc
-
-never_less : (x : ℤ) → x ≤ℤ x
-never_less x = omega (arith, ints)
 
 from_nothing : (x : ℤ) → x ≤ℤ (pos 0 +ℤ x)
 from_nothing x = omega (arith, ints)

@@ -12,14 +12,16 @@ use Rattle.net_plan.specs.declared.ids.LinkId.{LinkId}
 use Rattle.net_plan.specs.declared.network.Network.{Network}
 use Rattle.net_plan.specs.declared.tables.Device.{Device}
 use Rattle.net_plan.specs.declared.tables.Link.{Link}
-use Rattle.net_plan.specs.declared.tables.Role.TheVariants.{Master, Client, Cm, Relay}
+use Rattle.net_plan.specs.declared.tables.Role.TheVariants.{Cm, Relay}
 use Rattle.net_plan.specs.declared.tables.Role.{Role}
 use Rattle.pcf_values.specs.declared.channel.Channel.TheVariants.{A, B}
 use Rattle.pcf_values.specs.declared.channel.Channel.{Channel}
+use Rattle.run_law.proofs.scenario.Devices.{cm_role}
 use Rattle.run_law.specs.machines.Calls.{HasLink}
 use Rattle.run_law.specs.scenario.Devices.{channel_of, is_cm, is_cm_role}
+use Rattle.schedule_tables.proofs.Margins.{master_ends}
 use Rattle.schedule_tables.specs.declared.rule.Rule.TheVariants as rules
-use Rattle.switch_ports.proofs.Rooms.{head_there, master_end, one_of_four}
+use Rattle.switch_ports.proofs.Rooms.{head_there, one_of_four}
 use Rattle.switch_ports.specs.Standing.{IsAccepted}
 
 -- a link whose parent is the channel's compression master
@@ -39,12 +41,6 @@ leads network channel device (link ∷ links) p =
       | inl here ↦ inr (link, here)
       | inr more ↦ inr more
     ]
-
-cm_role : (r : Role) → is_cm_role r ≡ true → r ≡ Cm
-cm_role Cm e = refl
-cm_role Master e = absurd cc
-cm_role Client e = absurd cc
-cm_role Relay e = absurd cc
 
 is_cm_of_by : (o : Option Device) (channel : Channel) → option_map_or (λ d. is_cm_role d.role) o false ≡ true
     → option_and_then (λ d. d.channel) o ≡ Some channel → IsSomeAnd o (λ d. (d.role ≡ Cm) × (d.channel ≡ Some channel))
@@ -82,10 +78,10 @@ cm_linked network device channel accepted cm on =
     let d = head_there (masters network) (one_of_four _ ((accepted.rules rules.Masters 0).least refl)) in
     let at = in_filter (λ (x : Device). is_master x.role) network.device d.0 d.1 in
     let there : slice_get network.device at.0.0 ≡ Some d.0 = slice_get-get_or network.device at.0.0 d.0 at.0.1 ∙ ap Some at.0.2 in
-    let end = there_as (slice_get network.device at.0.0) d.0 (λ x. is_end_system x.role ≡ true) there (master_end d.0.role at.1) in
+    let end = there_as (slice_get network.device at.0.0) d.0 (λ x. is_end_system x.role ≡ true) there (master_ends d.0.role at.1) in
     let path = (accepted.rules rules.Connections at.0.0).paths channel
     (there_as (slice_get network.device at.0.0) d.0 (λ x. (is_end_system x.role ≡ true) ⊎ (x.channel ≡ Some channel)) there
-    (inl (master_end d.0.role at.1))) in
+    (inl (master_ends d.0.role at.1))) in
     elim (leads network channel (record { 0 = at.0.0 }) path.0 path.2) [
       | inl same ↦ absurd (no_master (slice_get network.device at.0.0) channel same end)
       | inr up ↦ (up.0, inr (parent_is network channel device (link_at network up.0) (λ x k. only_cm network channel device x accepted is k) up.1))

@@ -1,6 +1,5 @@
 -- How a compression master stands when it has collected a frame.
-use Rattle.std.proofs.Common.{◌≡◌, ◌∙◌, ◌⊎◌, inl, inr, ℕ, zero, suc, get_or, Bool, false, ◌<◌, ℤ, pos, ◌+ℤ◌, ◌≤ℤ◌, List, [], ◌∷◌, ◌++◌, Option, All, true, refl, sym, subst, ap, arith}
-use Rattle.std.proofs.lemmas.Int.{ints}
+use Rattle.std.proofs.Common.{◌≡◌, ◌∙◌, ◌⊎◌, inl, inr, ℕ, zero, suc, get_or, ◌<◌, ℤ, pos, ◌≤ℤ◌, List, [], ◌∷◌, ◌++◌, Option, All, true, refl, sym, subst, ap, arith}
 use Rattle.std.proofs.lemmas.List.Elements.{All-append, All-contains, All-contains_itself, Contains-append_left, Contains-append_right}
 use Rattle.std.specs.List.{Contains}
 use Rattle.compression.proofs.Elements.{in_head}
@@ -26,14 +25,13 @@ use Rattle.switch_ports.specs.Members.{member_numbers}
 use Rattle.switch_ports.specs.Standing.{HasCollected, StandsAs}
 use Rattle.switch_ports.specs.Steps.{CollectsSo}
 use Rattle.switch_ports.specs.declared.switch.Switch.{Switch}
+use Rattle.tte_lemmas.proofs.Bools.{not_both}
+use Rattle.tte_lemmas.proofs.Integers.{further, through}
 use Rattle.tte_units.specs.declared.units.Units.{Units}
 
 one_at : (P : Point → Type 0) (x : Point) → P x → (k : ℕ) (d : Point) → k < 1 → P (get_or (x ∷ []) k d)
 one_at P x h zero d lt = h
 one_at P x h (suc k) d lt = absurd (omega (arith, lt))
-
-not_true : (b : Bool) → b ≡ true → b ≡ false → ⊥
-not_true b e f = let g : true ≡ false = sym e ∙ f in cc
 
 one_all : (P : Point → Type 0) (x : Point) → P x → All P (x ∷ [])
 one_all P x h = λ k d lt. one_at P x h k d lt
@@ -71,7 +69,7 @@ with_one s new network device node frame point is st cm bit zero_on h ow calc ea
       collected = h.stands node.points node.emitted st.collects.collected;
       window = ow ∙ st.collects.window;
       calc = calc ∙ st.collects.calc;
-      idle = λ n. absurd (not_true _ cm n);
+      idle = λ n. absurd (not_both _ cm n);
       earliest = λ limit low points emitted. elim early [
         | inl e ↦ subst (λ (z : ℤ). z ≤ℤ limit) (sym e) (point_last (λ q. q.reading ≤ℤ limit) node.points p points)
         | inr e ↦ subst (λ (z : ℤ). z ≤ℤ limit) (sym e) (st.collects.earliest limit low (points_front (λ q. q.reading ≤ℤ limit) node.points (p ∷ []) points)
@@ -83,12 +81,6 @@ with_one s new network device node frame point is st cm bit zero_on h ow calc ea
           bit.there));
       from_zero = All-append (λ q. pos 0 ≤ℤ q.reading) node.points (p ∷ []) st.collects.from_zero (one_all (λ q. pos 0 ≤ℤ q.reading) p zero_on);
     }
-
-through : (x y z : ℤ) → x ≤ℤ y → y ≤ℤ z → x ≤ℤ z
-through x y z a b = omega (arith, ints, a, b)
-
-further : (x y z a : ℤ) → x ≤ℤ (y +ℤ a) → y ≤ℤ z → x ≤ℤ (z +ℤ a)
-further x y z a h k = omega (arith, ints, h, k)
 
 -- the switch with this collector, as the device with these points
 with_collector : (s : Switch) (collector : Collecting) (network : Network) (device : DeviceId) (node : Node) (moment : Moment) (phase : Phase)

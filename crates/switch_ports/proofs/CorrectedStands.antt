@@ -13,6 +13,7 @@ use Rattle.membership.specs.BestFrame.{Qualifies}
 use Rattle.membership.specs.Members.{count_of}
 use Rattle.membership.specs.Summary.{Summary, Summarizes, best_on, silence}
 use Rattle.membership.specs.declared.frame.HeardFrame.{HeardFrame}
+use Rattle.net_plan.proofs.InRange.{its_amount}
 use Rattle.net_plan.specs.declared.ids.DeviceId.{DeviceId}
 use Rattle.net_plan.specs.declared.network.Network.{Network}
 use Rattle.pcf_values.specs.declared.channel.Channel.TheVariants.{A, B}
@@ -22,12 +23,11 @@ use Rattle.run_law.specs.control.Hearing.{last_cycle}
 use Rattle.run_law.specs.declared.steps.Moment.{Moment}
 use Rattle.run_law.specs.device.States.{is_synchronised}
 use Rattle.run_law.specs.machines.Answers.{after_correction, called}
-use Rattle.run_law.specs.machines.Nodes.{ClockTask, Node, acting, correcting}
+use Rattle.run_law.specs.machines.Nodes.{Node, acting, correcting}
 use Rattle.run_law.specs.scenario.Devices.{expected_by, is_cm}
 use Rattle.schedule_tables.specs.declared.rule.Rule.TheVariants as rules
 use Rattle.switch_ports.proofs.Awaiting.{awaits_cleared, awaits_reopened, departs_reopened, departs_stopped}
-use Rattle.switch_ports.proofs.Amounts.{its_amount}
-use Rattle.switch_ports.proofs.Hearings.{fresh_collects, site_due, silent, times_three, times_two}
+use Rattle.switch_ports.proofs.Hearings.{fresh_collects, site_due, silent, times_three, times_two, nothing_done}
 use Rattle.switch_ports.proofs.Rooms.{expected_is, small_expected}
 use Rattle.switch_ports.proofs.Verdicts.{next_small}
 use Rattle.switch_ports.specs.Corrections.{correction_at, reading_of}
@@ -47,18 +47,11 @@ use Rattle.sync_state.specs.declared.answers.Verdict.TheVariants.{Corrected, Syn
 use Rattle.sync_state.specs.declared.answers.Verdict.{Verdict}
 use Rattle.sync_state.specs.declared.plan.SyncPlan.{SyncPlan}
 use Rattle.sync_state.specs.declared.state.State.TheVariants.{Integrating, Joining, Synchronised}
+use Rattle.tte_lemmas.proofs.Integers.{further, never_less, through}
+use Rattle.tte_lemmas.proofs.Naturals.{less_than_next}
 use Rattle.tte_units.specs.Amount.{amount}
 use Rattle.tte_units.specs.Mean.{mean_of}
 use Rattle.tte_units.specs.declared.units.Units.{Units}
-
-through : (x y z : ℤ) → x ≤ℤ y → y ≤ℤ z → x ≤ℤ z
-through x y z a b = omega (arith, ints, a, b)
-
-further : (x y z a : ℤ) → x ≤ℤ (y +ℤ a) → y ≤ℤ z → x ≤ℤ (z +ℤ a)
-further x y z a h k = omega (arith, ints, h, k)
-
-never_less : (x : ℤ) → x ≤ℤ x
-never_less x = omega (arith, ints)
 
 -- ---- the correction is not less than a precision below
 
@@ -80,7 +73,7 @@ low_on s prec (Some f) h =
 mean_low : (a b low : ℤ) → low ≤ℤ a → low ≤ℤ b → low ≤ℤ mean_of a b
 mean_low a b low h k = grind (arith, ints, h, k)
 
-number_of : (a b : Units) → Some a ≡ Some b → a.0 ≡ b.0
+pub number_of : (a b : Units) → Some a ≡ Some b → a.0 ≡ b.0
 number_of a b e = cc
 
 correction_low : (a b : Option Units) (by : Units) (low : ℤ) → IfSome a (λ d. low ≤ℤ d.0) → IfSome b (λ d. low ≤ℤ d.0) → correction_of a b ≡ Some by
@@ -106,9 +99,6 @@ corrects_same s new network device node standing changed st e f h =
     (λ cycle. site_due s network device node cycle new.sync.adjustment.0 new.changed.0 st)
     ∙ ap (λ (x : Standing). option_and_then (λ (cycle : ℕ). reading_of (correction_value network cycle) x.adjustment.0 new.changed.0) (next_point x)) e
     ∙ ap (λ (z : ℤ). option_and_then (λ (cycle : ℕ). reading_of (correction_value network cycle) standing.adjustment.0 z) (next_point standing)) f
-
-one_more : (c n : ℕ) → c < n → c < n + 1
-one_more c n h = omega (arith, h)
 
 sync_same : (s new : Switch) (network : Network) (device : DeviceId) (node : Node) (moment : Moment) (v : Verdict) → StandsAs s network device node
     → Corrects s moment v new → new.sync ≡ after node.standing (reached_point s.heard v)
@@ -143,7 +133,7 @@ sync_clique s new network device node moment cycle st later h = record {
   corrects =
       corrects_same s new network device node (after node.standing (reached_point s.heard SyncClique)) node.changed st
       (sync_same s new network device node moment SyncClique st h) (ap (λ (u : Units). u.0) h.changed ∙ sym st.changed) h.corrects;
-  done = λ c there. one_more c node.standing.number (st.done c there);
+  done = λ c there. less_than_next c node.standing.number (st.done c there);
   begun = through _ _ _ st.begun later;
   small = small_same s new network device node moment SyncClique st h;
   steady = λ timed. absurd (not_timed timed);
@@ -167,7 +157,7 @@ async_clique s new network device node moment cycle st later h = record {
   corrects =
       corrects_same s new network device node (after node.standing (reached_point s.heard AsyncClique)) node.changed st
       (sync_same s new network device node moment AsyncClique st h) (ap (λ (u : Units). u.0) h.changed ∙ sym st.changed) h.corrects;
-  done = λ c there. one_more c node.standing.number (st.done c there);
+  done = λ c there. less_than_next c node.standing.number (st.done c there);
   begun = through _ _ _ st.begun later;
   small = small_same s new network device node moment AsyncClique st h;
   steady = λ timed. absurd (not_timed timed);
@@ -195,9 +185,6 @@ next_within n l h = omega (arith, h)
 
 up_one : (n l : ℕ) → n ≤ l → n ≤ l + 1
 up_one n l h = omega (arith, h)
-
-nothing_done : (cycle number : ℕ) → Contains {X = ClockTask} [] (correcting cycle) → cycle < number
-nothing_done cycle number there = absurd (in_none (correcting cycle) there)
 
 some_of_all : (s : Switch) (network : Network) (node : Node) (n : ℕ) → SomeQualifies s.sync s.heard
     → ((ch : Channel) → IfSome (best_on ch s.heard) (IsFair network node.standing)) → node.standing.number ≤ last_cycle + 1
@@ -296,7 +283,7 @@ cleared_lower n r e k p s x y changed three two a b c d f g =
 cleared_done : (node : Node) (cycle c : ℕ) → ((c : ℕ) → Contains node.done (correcting c) → c < node.standing.number) → cycle ≡ node.standing.number
     → Contains (node.done ++ correcting cycle ∷ []) (correcting c) → c < node.standing.number + 1
 cleared_done node cycle c done is there = elim (Contains-append_cases node.done (correcting cycle ∷ []) (correcting c) there) [
-  | inl old ↦ one_more c node.standing.number (done c old)
+  | inl old ↦ less_than_next c node.standing.number (done c old)
   | inr new ↦ elim (in_cases (correcting cycle) (correcting c) [] new) [
     | inl e ↦ let f : cycle ≡ c = cc in omega (arith, f, is)
     | inr none ↦ absurd (in_none (correcting c) none)

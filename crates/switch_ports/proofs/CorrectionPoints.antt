@@ -6,6 +6,7 @@ use Rattle.std.specs.Prelude.{IfSome}
 use Rattle.clock_correction.specs.Deviation.{IsSmall}
 use Rattle.membership.specs.Summary.{best_on}
 use Rattle.membership.specs.declared.frame.HeardFrame.{HeardFrame}
+use Rattle.net_plan.proofs.InRange.{amount_most, its_amount}
 use Rattle.net_plan.specs.declared.ids.DeviceId.{DeviceId}
 use Rattle.net_plan.specs.declared.network.Network.{Network}
 use Rattle.pcf_values.specs.declared.channel.Channel.{Channel}
@@ -13,7 +14,6 @@ use Rattle.run_law.specs.control.Corrections.{correction_value}
 use Rattle.run_law.specs.control.Hearing.{last_cycle}
 use Rattle.run_law.specs.machines.Nodes.{Node}
 use Rattle.run_law.specs.scenario.Devices.{expected_by}
-use Rattle.switch_ports.proofs.Amounts.{amount_most, its_amount}
 use Rattle.switch_ports.proofs.Pending.{correction_pending}
 use Rattle.switch_ports.proofs.Ranges.{expected_most}
 use Rattle.switch_ports.proofs.Rooms.{expected_is}
@@ -89,6 +89,3 @@ is_near s network device node at ch st e =
 pub some_due : (o : Option Units) (reading : ℤ) → IsSomeAnd o (λ at. at.0 ≤ℤ reading) → (at : Units) × (o ≡ Some at) × (at.0 ≤ℤ reading)
 some_due None reading some = absurd some
 some_due (Some at) reading some = (at, refl, some)
-
-pub never_some : {X : Type 0} (x : X) → None ≡ Some x → ⊥
-never_some x e = cc

@@ -19,7 +19,6 @@ use Rattle.switch_ports.proofs.EachRow.{all_each}
 use Rattle.switch_ports.proofs.RowOrder.{distinct}
 use Rattle.switch_ports.proofs.Dispatching.{IsNextOf, its_awaits, next_of}
 use Rattle.switch_ports.proofs.FirstActs.{EmitsNone, first_dispatch, nothing_due, value_reached}
-use Rattle.switch_ports.proofs.Standings.{further, through}
 use Rattle.switch_ports.specs.Departing.{Awaits, AwaitsIn, AwaitsSo, Changes, HasDepartures, IsDeparture, KnowsNext}
 use Rattle.switch_ports.specs.Leaving.{AreChained, closed, held_in}
 use Rattle.switch_ports.specs.Tournaments.{AreLeaves}
@@ -33,6 +32,7 @@ use Rattle.switch_ports.specs.declared.switch.Switch.{Switch}
 use Rattle.sync_state.specs.Standing.{Standing}
 use Rattle.sync_state.specs.declared.state.State.TheVariants.{Synchronised}
 use Rattle.sync_state.specs.declared.state.State.{State}
+use Rattle.tte_lemmas.proofs.Integers.{further, through}
 use Rattle.tte_units.specs.Amount.{amount}
 use Rattle.tte_units.specs.declared.units.Units.{Units}
 

@@ -1,5 +1,6 @@
 -- The rows' frames that a switch has still to dispatch.
-use Rattle.std.proofs.Common.{◌≡◌, ◌∙◌, ◌⊎◌, inl, inr, ℕ, ◌%◌, ℤ, ◌≤ℤ◌, ◌+ℤ◌, ◌-ℤ◌, ◌<ℤ◌, Bool, true, false, ◌&&◌, ◌==◌, Option, Some, None, refl, sym, subst, ap, arith}
+use Rattle.std.proofs.Common.{◌≡◌, ◌∙◌, ◌⊎◌, inl, inr, ℕ, ◌%◌, ℤ, ◌≤ℤ◌, ◌+ℤ◌, ◌-ℤ◌, ◌<ℤ◌, true, false, ◌&&◌, ◌==◌, Option, Some, None, refl, sym, subst, ap, arith}
+use Rattle.std.proofs.lemmas.Bool.{both_ways}
 use Rattle.std.proofs.lemmas.Int.{ints}
 use Rattle.std.proofs.lemmas.List.Elements.{All-contains}
 use Rattle.std.specs.Prelude.{IfSome, IsSomeAnd, nat_le, option_map, option_and_then}
@@ -32,6 +33,7 @@ use Rattle.switch_ports.specs.declared.departures.LeavingRow.{LeavingRow}
 use Rattle.switch_ports.specs.declared.switch.Switch.{Switch}
 use Rattle.sync_state.specs.declared.state.State.TheVariants.{Off, Integrating, Joining, Synchronised}
 use Rattle.sync_state.specs.declared.state.State.{State}
+use Rattle.tte_lemmas.proofs.Options.{mapped}
 use Rattle.tte_units.specs.Amount.{amount}
 
 -- ---- no switch is a sender
@@ -40,14 +42,11 @@ its_role : (o : Option Device) → IsSomeAnd o (λ d. is_end_system d.role ≡ t
 its_role None some = absurd some
 its_role (Some d) some = some
 
-not_both : (b : Bool) → b ≡ false → b ≡ true → ⊥
-not_both b x y = cc
-
 no_sender : (network : Network) (device : DeviceId) (place : ℕ) (entry : Entry) → IsAccepted network → is_end network device ≡ false
     → IsEntry network place entry → entry.vl.sender ≡ device → ⊥
 no_sender network device place entry accepted not_end is sends =
     let role = its_role _ (accepted.rules rules.Senders entry.row.vl.0 entry.vl is.vl) in
-    not_both (is_end network device) not_end (subst (λ (d : DeviceId). is_end network d ≡ true) sends role)
+    both_ways (is_end network device) not_end (subst (λ (d : DeviceId). is_end network d ≡ true) sends role)
 
 -- ---- what a row holds is what the device has at hand
 
@@ -209,10 +208,6 @@ dispatch_is s network device node (doing (dispatching row cycle)) st (d, there, 
 
 -- ---- the first of them by its reading
 
-by_mapped : {X Y : Type 0} (f : X → Y) (o : Option X) (y : Y) → option_map f o ≡ Some y → (x : X) × (o ≡ Some x) × (f x ≡ y)
-by_mapped f None y e = absurd cc
-by_mapped f (Some x) y e = (x, refl, cc)
-
 -- a switch that is not synchronised awaits nothing
 awaits_or_none : (state : State) (network : Network) (ds : Departures) (node : Node) (x : ℤ)
     → AwaitsIn state network ds node.standing.adjustment.0 node.changed node.done x → (state ≡ Synchronised) ⊎ (ds.next ≡ None)
@@ -247,7 +242,7 @@ next_of s network device node next st e =
     let sync = its_state s network device node next st e in
     let first = (its_first s network device node (Some next) st sync e).0 in
     let d = first.0 in
-    let m = by_mapped (dispatch_at node.standing.adjustment.0 d.of) d.awaited next first.2 in
+    let m = mapped (dispatch_at node.standing.adjustment.0 d.of) d.awaited next first.2 in
     let h = m.0 in
     let cycle : h.cycle ≡ next.cycle = ap (λ (x : Dispatch). x.cycle) m.2 in
     let is : h ≡ held_in (amount network.cycle) d.of next.cycle =

@@ -10,7 +10,8 @@ use Rattle.pcf_values.specs.declared.channel.Channel.TheVariants.{A, B}
 use Rattle.pcf_values.specs.declared.channel.Channel.{Channel}
 use Rattle.pcf_values.specs.declared.members.Members.{Members}
 use Rattle.pcf_values.specs.declared.pcf.Pcf.{Pcf}
-use Rattle.run_law.specs.control.Hearing.{heard_as, heard_enough, heard_by_schedule, last_cycle}
+use Rattle.run_law.proofs.control.Verdicts.{enough_not, in_time_by}
+use Rattle.run_law.specs.control.Hearing.{heard_as, last_cycle}
 use Rattle.run_law.specs.control.Permanence.{ripe_as}
 use Rattle.run_law.specs.declared.steps.Ripe.TheVariants as ripe
 use Rattle.switch_ports.specs.Steady.{is_timed}
@@ -48,14 +49,6 @@ kept P old new (Some B) frame point true (best, is, e) new_is all B = best_same 
 
 -- ---- what is heard within its time
 
-enough_never : (b : Bool) → ripe_as (heard_enough b) ≡ ripe.Within → ⊥
-enough_never true e = cc
-enough_never false e = cc
-
-timely : (b : Bool) → ripe_as (heard_by_schedule b) ≡ ripe.Within → b ≡ true
-timely true e = refl
-timely false e = absurd cc
-
 all_three : (n l : ℕ) (x y z : ℤ) → (nat_le n l && (int_le x y && int_le y z)) ≡ true → (n ≤ l) × (x ≤ℤ y) × (y ≤ℤ z)
 all_three n l x y z e = (grind (arith, ints, e), grind (arith, ints, e), grind (arith, ints, e))
 
@@ -64,9 +57,9 @@ pub within_in : (plan : SyncPlan) (precision : ℤ) (state : State) (adjustment 
     → (is_timed state ≡ true) × ((cycle ≤ last_cycle) × ((expected_at plan cycle -ℤ precision) ≤ℤ (point +ℤ adjustment))
     × ((point +ℤ adjustment) ≤ℤ (expected_at plan cycle +ℤ precision)))
 within_in plan precision Off adjustment point cycle members e = absurd cc
-within_in plan precision Integrating adjustment point cycle members e = absurd (enough_never _ e)
-within_in plan precision Joining adjustment point cycle members e = (refl, all_three _ _ _ _ _ (timely _ e))
-within_in plan precision Synchronised adjustment point cycle members e = (refl, all_three _ _ _ _ _ (timely _ e))
+within_in plan precision Integrating adjustment point cycle members e = absurd (enough_not _ e)
+within_in plan precision Joining adjustment point cycle members e = (refl, all_three _ _ _ _ _ (in_time_by _ e))
+within_in plan precision Synchronised adjustment point cycle members e = (refl, all_three _ _ _ _ _ (in_time_by _ e))
 
 -- ---- of which cycle it is
 

@@ -13,6 +13,7 @@ use Rattle.compression.specs.Collecting.{emissions}
 use Rattle.compression.specs.Emission.{emission}
 use Rattle.compression.specs.Least.{IsLeast}
 use Rattle.compression.specs.declared.compressed.Compressed.{Compressed}
+use Rattle.net_plan.proofs.InRange.{its_amount}
 use Rattle.net_plan.specs.declared.ids.DeviceId.{DeviceId}
 use Rattle.net_plan.specs.declared.network.Network.{Network}
 use Rattle.run_law.specs.machines.Calls.{HasDue, MayCall}
@@ -21,7 +22,6 @@ use Rattle.run_law.specs.machines.Tasks.{IsFirstTask, IsPending, Task, emitting,
 use Rattle.run_law.specs.records.Order.{IsBefore}
 use Rattle.schedule_tables.specs.Dispatches.{dispatch_order}
 use Rattle.schedule_tables.specs.declared.rule.Rule.TheVariants as rules
-use Rattle.switch_ports.proofs.Amounts.{its_amount}
 use Rattle.switch_ports.proofs.Awaiting.{value_is}
 use Rattle.switch_ports.proofs.Dispatching.{IsDispatch, dispatch_bound, dispatch_is, leaves_so, next_is, next_of, no_dispatch, not_sooner}
 use Rattle.switch_ports.proofs.Pending.{IsCorrection, IsEmission, correction_bound, correction_pending, emission_at, kind_of, no_correction, pending_correction}
@@ -36,6 +36,8 @@ use Rattle.run_law.specs.declared.steps.Moment.{Moment}
 use Rattle.switch_ports.specs.Standing.{StandsAs}
 use Rattle.switch_ports.specs.declared.switch.Switch.{Switch}
 use Rattle.sync_state.specs.Standing.{next_point}
+use Rattle.tte_lemmas.proofs.Integers.{through}
+use Rattle.tte_lemmas.proofs.Options.{same_next}
 use Rattle.tte_units.specs.declared.units.Units.{Units}
 
 -- no collection is due
@@ -55,9 +57,6 @@ emits_none s network node reading (Some at) (emitting sent) h (c, there, is) due
     let bound = All-contains (λ x. at.0 ≤ℤ x) (emissions s.collector) (emission s.collector.ow s.collector.calc c) h.least.bound (emission_at s c there) in
     let at_is : sent.at.0 ≡ emission s.collector.ow s.collector.calc c = ap (λ (e : Compressed). e.at.0) is in
     too_late reading at.0 sent.at.0 h.later (subst (λ (z : ℤ). at.0 ≤ℤ z) (sym at_is) bound) due
-
-same_next : (o : Option ℕ) (a b : ℕ) → o ≡ Some a → o ≡ Some b → a ≡ b
-same_next o a b e f = let g : Some a ≡ Some b = sym e ∙ f in cc
 
 not_before_itself : (a b : ℕ) → a ≡ b → IsBefore (2 ∷ a ∷ []) (2 ∷ b ∷ []) → ⊥
 not_before_itself a b e (inl lt) = omega arith
@@ -112,9 +111,6 @@ pub corrects_none : (s : Switch) (network : Network) (device : DeviceId) (node :
 corrects_none s network device node reading None task st e later is due = no_correction s network device node task st e is
 corrects_none s network device node reading (Some at) task st e later is due =
     too_late reading at.0 (reading_for network node task) later (correction_bound s network device node task at st e is) due
-
-on_from : (x y z : ℤ) → x ≤ℤ y → y ≤ℤ z → x ≤ℤ z
-on_from x y z a b = omega (arith, ints, a, b)
 
 from_not_less : (m n : ℕ) (adjustment : ℤ) → ((pos m -ℤ adjustment) <ℤ (pos n -ℤ adjustment) → ⊥) → n ≤ m
 from_not_less m n adjustment never = elim (cases_Bool (nat_le n m)) [
@@ -211,7 +207,7 @@ first_dispatch s network device node next moment o st may none later e due =
       due = subst (λ (z : ℤ). z ≤ℤ moment.reading.0) (sym n.1) (elim (kind_of s network device node due.0 st due.1) [
         | inl x ↦ absurd (emits_none s network node moment.reading.0 o due.0 none x due.2)
         | inr (inl y) ↦ absurd (corrects_none s network device node moment.reading.0 s.corrects_at due.0 st refl later y due.2)
-        | inr (inr z) ↦ on_from _ _ _ (dispatch_bound s network device node next due.0 st e z) due.2
+        | inr (inr z) ↦ through _ _ _ (dispatch_bound s network device node next due.0 st e z) due.2
       ]);
       first = λ other q here before. elim (kind_of s network device node other st q) [
         | inl x ↦ emits_none s network node moment.reading.0 o other none x here

@@ -1,5 +1,6 @@
 -- What becomes of a frame that a device hears.
 use Rattle.std.proofs.Common.{◌≡◌, ◌∙◌, ◌⊎◌, inl, inr, ℕ, ℤ, Bool, true, false, Option, refl, sym, subst, ap}
+use Rattle.net_plan.proofs.InRange.{its_amount}
 use Rattle.net_plan.specs.declared.ids.DeviceId.{DeviceId}
 use Rattle.net_plan.specs.declared.network.Network.{Network}
 use Rattle.pcf_values.specs.declared.channel.Channel.{Channel}
@@ -15,7 +16,6 @@ use Rattle.run_law.specs.machines.Answers.{after_permanence, called}
 use Rattle.run_law.specs.machines.Calls.{MayCall}
 use Rattle.run_law.specs.machines.Nodes.{Node, Phase}
 use Rattle.run_law.specs.scenario.Devices.{plan_of}
-use Rattle.switch_ports.proofs.Amounts.{its_amount}
 use Rattle.switch_ports.proofs.Hearings.{IsComing, fair_frame, hears_stands, joins_stands}
 use Rattle.switch_ports.proofs.Joinings.{integrates_in}
 use Rattle.switch_ports.proofs.Standings.{called_stands}

@@ -12,6 +12,7 @@ use Rattle.compression.specs.declared.compressed.Compressed.{Compressed}
 use Rattle.membership.proofs.SummaryLemmas.{silence_summarizes}
 use Rattle.membership.specs.Summary.{Summary, Summarizes, best_on, silence}
 use Rattle.membership.specs.declared.frame.HeardFrame.{HeardFrame}
+use Rattle.net_plan.proofs.InRange.{amount_most, its_amount}
 use Rattle.net_plan.specs.declared.ids.DeviceId.{DeviceId}
 use Rattle.net_plan.specs.declared.network.Network.{Network}
 use Rattle.pcf_values.specs.declared.channel.Channel.TheVariants.{A, B}
@@ -28,7 +29,6 @@ use Rattle.run_law.specs.machines.Nodes.{ClockTask, Node, Phase, correcting}
 use Rattle.run_law.specs.machines.Tasks.{doing}
 use Rattle.run_law.specs.scenario.Devices.{expected_by, plan_of}
 use Rattle.switch_ports.proofs.Awaiting.{awaits_called, departs_stopped}
-use Rattle.switch_ports.proofs.Amounts.{amount_most, its_amount}
 use Rattle.switch_ports.proofs.Fair.{HasRoom, IsHeardBefore, ahead, behind, kept, not_earlier, within_in}
 use Rattle.switch_ports.proofs.Ranges.{expected_most}
 use Rattle.switch_ports.proofs.Rooms.{expected_is, room}
@@ -48,14 +48,10 @@ use Rattle.sync_state.specs.Standing.{Standing, point_in}
 use Rattle.sync_state.specs.declared.plan.SyncPlan.{SyncPlan}
 use Rattle.sync_state.specs.declared.state.State.TheVariants.{Off, Integrating, Joining, Synchronised}
 use Rattle.sync_state.specs.declared.state.State.{State}
+use Rattle.tte_lemmas.proofs.Integers.{further, never_less, through}
+use Rattle.tte_lemmas.proofs.Naturals.{none_less}
 use Rattle.tte_units.specs.Amount.{amount}
 use Rattle.tte_units.specs.declared.units.Units.{Units}
-
-through : (x y z : ℤ) → x ≤ℤ y → y ≤ℤ z → x ≤ℤ z
-through x y z a b = omega (arith, ints, a, b)
-
-further : (x y z a : ℤ) → x ≤ℤ (y +ℤ a) → y ≤ℤ z → x ≤ℤ (z +ℤ a)
-further x y z a h k = omega (arith, ints, h, k)
 
 -- a frame comes to its point
 pub record IsComing (network : Network) (moment : Moment) (point : Units) : Type 0 where
@@ -81,9 +77,6 @@ timed_point Integrating number e = absurd cc
 timed_point Joining number e = refl
 timed_point Synchronised number e = refl
 
-not_less : (n : ℕ) → n < n → ⊥
-not_less n h = omega (arith, h)
-
 pub times_three : (p : ℕ) (prec : ℤ) → prec ≡ pos p → (pos 3 *ℤ prec) ≡ pos (3 * p)
 times_three p prec e = omega (arith, ints, e)
 
@@ -108,7 +101,7 @@ heard_before s network device node moment phase point cycle st may is timed lt e
     let upper = further _ _ _ _ steady.upper may.later.reading in
     let next = timed_point node.standing.state node.standing.number timed in
     let pending = may.in_time (doing (correcting node.standing.number))
-    (st.sound, record { own = next; ahead = lt; not_yet = λ there. not_less _ (st.done _ there) }) in
+    (st.sound, record { own = next; ahead = lt; not_yet = λ there. none_less _ (st.done _ there) }) in
     let t3 = times_three _ _ p in
     let t2 = times_two _ _ r in
     let recent = is.in_time in
@@ -239,9 +232,6 @@ eight e k r p h = let a = h.expected in let b = h.correction in omega (arith, a,
 
 two_more : (n l : ℕ) → n ≤ l → n ≤ l + 2
 two_more n l h = omega (arith, h)
-
-never_less : (x : ℤ) → x ≤ℤ x
-never_less x = omega (arith, ints)
 
 pub joins_stands : (s new : Switch) (network : Network) (device : DeviceId) (node : Node) (moment : Moment) (phase : Phase) (frame : Pcf) (point : Units)
     → StandsAs s network device node → MayCall network device node moment phase → IsComing network moment point

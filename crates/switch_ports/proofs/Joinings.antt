@@ -1,10 +1,11 @@
 -- When a frame tells a device the time.
-use Rattle.std.proofs.Common.{◌≡◌, ℕ, ◌≤◌, ℤ, Bool, true, false, ◌&&◌, refl, arith}
+use Rattle.std.proofs.Common.{◌≡◌, ℕ, ◌≤◌, ℤ, true, ◌&&◌, refl, arith}
 use Rattle.std.specs.Prelude.{nat_le}
 use Rattle.membership.specs.Members.{count_of}
 use Rattle.pcf_values.specs.declared.members.Members.{Members}
 use Rattle.pcf_values.specs.declared.pcf.Pcf.{Pcf}
-use Rattle.run_law.specs.control.Hearing.{heard_as, heard_enough, heard_by_schedule, last_cycle}
+use Rattle.run_law.proofs.control.Verdicts.{in_time_not, tells_by as enough}
+use Rattle.run_law.specs.control.Hearing.{heard_as, last_cycle}
 use Rattle.run_law.specs.control.Permanence.{ripe_as}
 use Rattle.run_law.specs.declared.steps.Ripe.TheVariants as ripe
 use Rattle.sync_state.specs.Integration.{Integrates}
@@ -12,14 +13,6 @@ use Rattle.sync_state.specs.Standing.{Standing}
 use Rattle.sync_state.specs.declared.plan.SyncPlan.{SyncPlan}
 use Rattle.sync_state.specs.declared.state.State.TheVariants.{Off, Integrating, Joining, Synchronised}
 use Rattle.sync_state.specs.declared.state.State.{State}
-
-timed_never : (b : Bool) → ripe_as (heard_by_schedule b) ≡ ripe.Integrates → ⊥
-timed_never true e = cc
-timed_never false e = cc
-
-enough : (b : Bool) → ripe_as (heard_enough b) ≡ ripe.Integrates → b ≡ true
-enough true e = refl
-enough false e = absurd cc
 
 both : (t c n l : ℕ) → (nat_le t c && nat_le n l) ≡ true → (t ≤ c) × (n ≤ l)
 both t c n l e = grind (arith, e)
@@ -30,8 +23,8 @@ pub integrates_in : (plan : SyncPlan) (precision : ℤ) (state : State) (adjustm
     × ((plan.threshold ≤ count_of members) × (cycle ≤ last_cycle))
 integrates_in plan precision Off adjustment point cycle members e = absurd cc
 integrates_in plan precision Integrating adjustment point cycle members e = (refl, both _ _ _ _ (enough _ e))
-integrates_in plan precision Joining adjustment point cycle members e = absurd (timed_never _ e)
-integrates_in plan precision Synchronised adjustment point cycle members e = absurd (timed_never _ e)
+integrates_in plan precision Joining adjustment point cycle members e = absurd (in_time_not _ e)
+integrates_in plan precision Synchronised adjustment point cycle members e = absurd (in_time_not _ e)
 
 pub integrates_so : (s : Standing) (plan : SyncPlan) (precision point : ℤ) (frame : Pcf) → s.plan ≡ plan
     → ripe_as (heard_as plan precision s.state s.adjustment.0 point frame.cycle frame.members) ≡ ripe.Integrates → Integrates s frame

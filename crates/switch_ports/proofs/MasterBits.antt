@@ -3,7 +3,7 @@ use Rattle.std.proofs.Common.{◌≡◌, ◌∙◌, ◌⊎◌, inl, inr, ℕ, ze
 use Rattle.std.proofs.lemmas.Int.{ints}
 use Rattle.std.proofs.lemmas.Bool.{cases_Bool}
 use Rattle.std.proofs.lemmas.List.{length-map}
-use Rattle.std.proofs.lemmas.Option.{slice_get_cases}
+use Rattle.std.proofs.lemmas.Option.{same_Some, slice_get_cases}
 use Rattle.std.proofs.lemmas.Nat.Bits.{bit_at-trailing_zeros}
 use Rattle.std.proofs.lemmas.List.Elements.{All-contains_itself, Contains-append_right}
 use Rattle.std.proofs.Math.Pow.{pow-lt}
@@ -33,11 +33,11 @@ use Rattle.run_law.specs.machines.Nodes.{Node, Phase}
 use Rattle.run_law.specs.machines.Tasks.{emitting}
 use Rattle.schedule_tables.specs.declared.rule.Rule.TheVariants as rules
 use Rattle.switch_ports.proofs.Pending.{emission_pending}
-use Rattle.switch_ports.proofs.Rooms.{all_got}
 use Rattle.switch_ports.proofs.Waiting.{in_map, to_map}
 use Rattle.switch_ports.specs.Members.{member_numbers}
 use Rattle.switch_ports.specs.Standing.{IsAccepted, StandsAs}
 use Rattle.switch_ports.specs.declared.switch.Switch.{Switch}
+use Rattle.tte_lemmas.proofs.Lists.{in_all}
 use Rattle.tte_units.specs.declared.units.Units.{Units}
 
 -- a device with this member number, if it is there
@@ -51,12 +51,9 @@ member_by : (network : Network) (d : Device) (o : Option ℕ) → d.member ≡ o
 member_by network d None e members h = absurd h
 member_by network d (Some k) e members h = (k, record { d = d; there = refl; member = e }, h)
 
-same_some : {X : Type 0} (x y : X) → Some x ≡ Some y → x ≡ y
-same_some x y e = cc
-
 slice_there : {X : Type 0} (xs : List X) (i : ℕ) (x : X) → slice_get xs i ≡ Some x → Contains xs x
 slice_there xs i x e = elim (slice_get_cases xs i).1 [
-  | inl (y, lt, there, got) ↦ subst (Contains xs) (same_some y x (sym there ∙ e)) (i, lt, got)
+  | inl (y, lt, there, got) ↦ subst (Contains xs) (same_Some y x (sym there ∙ e)) (i, lt, got)
   | inr (le, none) ↦ absurd (let f : None ≡ Some x = sym none ∙ e in cc)
 ]
 
@@ -81,7 +78,7 @@ pub record IsBit (network : Network) (members : Members) : Type 0 where
 pub is_bit : (network : Network) (members : Members) → IsAccepted network → IsOneMaster network members → IsBit network members
 is_bit network members accepted (master, h) =
     let m = has_member network (device_at network master) members h in
-    let range = all_got IsDeviceInRange network.device master.0 m.1.d accepted.range.devices m.1.there in
+    let range = in_all IsDeviceInRange network.device master.0 m.1.d accepted.range.devices m.1.there in
     let at = slice_there network.device master.0 m.1.d m.1.there in
     let among : Contains (masters network) m.1.d = in_filter_from (λ (x : Device). is_master x.role) network.device m.1.d at
     (is_master_by (is_master m.1.d.role) m.1.d.member m.0 range.masters m.1.member) in

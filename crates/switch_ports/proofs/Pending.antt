@@ -1,16 +1,18 @@
 -- What a switch has still to do.
-use Rattle.std.proofs.Common.{◌≡◌, ◌∙◌, ◌⊎◌, inl, inr, ℕ, ◌<◌, ℤ, pos, ◌-ℤ◌, ◌≤ℤ◌, ◌<ℤ◌, Bool, true, false, List, [], ◌∷◌, ◌++◌, Option, Some, None, refl, sym, subst, ap, arith}
+use Rattle.std.proofs.Common.{◌≡◌, ◌∙◌, ◌⊎◌, inl, inr, ℕ, ◌<◌, ℤ, pos, ◌-ℤ◌, ◌≤ℤ◌, ◌<ℤ◌, true, List, [], ◌++◌, Option, Some, None, refl, sym, subst, ap, arith}
 use Rattle.std.specs.Prelude.{int_le, int_lt, IfSome, IsNone, ◌↔◌, option_and_then, option_map}
 use Rattle.std.specs.List.{Contains}
 use Rattle.std.proofs.lemmas.Int.{ints}
-use Rattle.std.proofs.lemmas.Bool.{cases_Bool}
+use Rattle.std.proofs.lemmas.Bool.{both_ways, cases_Bool}
 use Rattle.std.proofs.lemmas.List.Elements.{All-contains, Contains-append_right}
+use Rattle.compression.proofs.ClusterFacts.{no_cluster}
 use Rattle.compression.proofs.Elements.{in_none}
-use Rattle.compression.specs.Clusters.{AreClusters, Cluster, Point}
+use Rattle.compression.specs.Clusters.{AreClusters, Cluster}
 use Rattle.compression.specs.Collecting.{emissions}
 use Rattle.compression.specs.Emission.{compressed, emission}
 use Rattle.compression.specs.Least.{IsLeast}
 use Rattle.compression.specs.declared.compressed.Compressed.{Compressed}
+use Rattle.net_plan.proofs.InRange.{its_amount}
 use Rattle.net_plan.specs.declared.ids.DeviceId.{DeviceId}
 use Rattle.net_plan.specs.declared.network.Network.{Network}
 use Rattle.run_law.specs.control.Collections.{observation_window}
@@ -18,7 +20,6 @@ use Rattle.run_law.specs.control.Corrections.{correction_value}
 use Rattle.run_law.specs.machines.Nodes.{Node, sending, correcting, dispatching}
 use Rattle.run_law.specs.machines.Tasks.{IsDueReading, IsPending, Task, emitting, doing, reading_for}
 use Rattle.run_law.specs.scenario.Devices.{is_cm}
-use Rattle.switch_ports.proofs.Amounts.{its_amount}
 use Rattle.switch_ports.proofs.Dispatching.{IsDispatch, dispatch_bound, dispatch_is, next_is, no_dispatch, pending_dispatch}
 use Rattle.switch_ports.proofs.Waiting.{in_map, to_map, unsent, waits}
 use Rattle.switch_ports.specs.Corrections.{reading_of}
@@ -31,11 +32,7 @@ use Rattle.sync_state.specs.declared.state.State.TheVariants.{Off, Integrating, 
 use Rattle.sync_state.specs.declared.state.State.{State}
 use Rattle.tte_units.specs.Amount.{amount}
 use Rattle.tte_units.specs.declared.units.Units.{Units}
-
--- ---- no sendings
-
-not_both : (b : Bool) → b ≡ false → b ≡ true → ⊥
-not_both b x y = cc
+use Rattle.switch_ports.proofs.CorrectedStands.{number_of}
 
 -- ---- collections
 
@@ -52,16 +49,11 @@ from_one x h = omega (arith, ints, h)
 pub some_window : (s : Switch) (network : Network) (device : DeviceId) (node : Node) → StandsAs s network device node → pos 0 ≤ℤ s.collector.ow
 some_window s network device node st = subst (λ (z : ℤ). pos 0 ≤ℤ z) (sym st.collects.window) (from_one _ st.accepted.range.precision.least)
 
-none_of_none : (ow : ℤ) (ps : List Point) (cs : List Cluster) (c : Cluster) → ps ≡ [] → AreClusters ow ps cs → Contains cs c → ⊥
-none_of_none ow ps [] c none are at = in_none c at
-none_of_none ow [] (d ∷ cs) c none are at = are
-none_of_none ow (p ∷ ps) (d ∷ cs) c none are at = cc
-
 pub is_master_of : (s : Switch) (network : Network) (device : DeviceId) (node : Node) (c : Cluster) → StandsAs s network device node
     → Contains s.collector.waiting c → is_cm network device ≡ true
 is_master_of s network device node c st at = elim (cases_Bool (is_cm network device)) [
   | inl y ↦ y
-  | inr n ↦ absurd (none_of_none s.collector.ow node.points (st.collects.collected.done ++ s.collector.waiting) c (st.collects.idle n)
+  | inr n ↦ absurd (no_cluster s.collector.ow node.points (st.collects.collected.done ++ s.collector.waiting) c (st.collects.idle n)
       st.collects.collected.clusters (Contains-append_right st.collects.collected.done s.collector.waiting c at))
 ]
 
@@ -167,7 +159,7 @@ pub kind_of : (s : Switch) (network : Network) (device : DeviceId) (node : Node)
     → IsPending network device node task → IsEmission s task ⊎ IsClocked s network device node task
 kind_of s network device node (emitting sent) st p = inl (pending_emission s network device node sent st p)
 kind_of s network device node (doing (correcting cycle)) st p = inr (inl p)
-kind_of s network device node (doing (sending cycle)) st p = absurd (not_both _ st.site.not_master p.1.own.0)
+kind_of s network device node (doing (sending cycle)) st p = absurd (both_ways _ st.site.not_master p.1.own.0)
 kind_of s network device node (doing (dispatching row cycle)) st p = inr (inr (pending_dispatch s network device node row cycle st p))
 
 pub emission_is : (s : Switch) (network : Network) (device : DeviceId) (node : Node) (task : Task) → StandsAs s network device node → IsEmission s task
@@ -205,13 +197,10 @@ no_correction s network device node (emitting sent) st e p = p
 no_correction s network device node (doing (sending cycle)) st e p = p
 no_correction s network device node (doing (dispatching row cycle)) st e p = p
 
-its_number : (a b : Units) → Some a ≡ Some b → a.0 ≡ b.0
-its_number a b e = cc
-
 pub correction_bound : (s : Switch) (network : Network) (device : DeviceId) (node : Node) (task : Task) (at : Units) → StandsAs s network device node
     → s.corrects_at ≡ Some at → IsCorrection network device node task → at.0 ≤ℤ reading_for network node task
 correction_bound s network device node (doing (correcting cycle)) at st e p =
-    let same = its_number at _ (sym e ∙ (pending_correction s network device node cycle st p).1) in omega (arith, ints, same)
+    let same = number_of at _ (sym e ∙ (pending_correction s network device node cycle st p).1) in omega (arith, ints, same)
 correction_bound s network device node (emitting sent) at st e p = absurd p
 correction_bound s network device node (doing (sending cycle)) at st e p = absurd p
 correction_bound s network device node (doing (dispatching row cycle)) at st e p = absurd p

@@ -2,6 +2,7 @@
 use Rattle.std.proofs.Common.{◌≡◌, ℕ, ◌+◌, ◌*◌, ◌^◌, ◌≤◌, ℤ, pos, ◌≤ℤ◌, Bool, true, false, List, map, All, sym, subst, arith, if◌then◌else◌}
 use Rattle.std.proofs.lemmas.Int.{ints}
 use Rattle.std.proofs.lemmas.List.Elements.{All-map}
+use Rattle.net_plan.proofs.InRange.{amount_most, its_amount}
 use Rattle.net_plan.specs.Ranges.{IsInRange, IsLinkInRange, IsWithin}
 use Rattle.net_plan.specs.declared.ids.DeviceId.{DeviceId}
 use Rattle.net_plan.specs.declared.network.Network.{Network}
@@ -9,7 +10,7 @@ use Rattle.net_plan.specs.declared.tables.Link.{Link}
 use Rattle.run_law.specs.scenario.Devices.{expected_by, is_cm}
 use Rattle.schedule_tables.specs.Rules.{KeepsRules}
 use Rattle.schedule_tables.specs.declared.rule.Rule.TheVariants as rules
-use Rattle.switch_ports.proofs.Amounts.{amount_most, its_amount, zero_least}
+use Rattle.switch_ports.proofs.Amounts.{zero_least}
 use Rattle.switch_ports.specs.Sites.{IsSiteOf, port_of}
 use Rattle.switch_ports.specs.Standpoints.{IsSiteInRange}
 use Rattle.switch_ports.specs.declared.site.Port.{Port}

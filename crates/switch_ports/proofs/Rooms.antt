@@ -1,10 +1,11 @@
 -- What the numbers of an accepted network leave room for.
-use Rattle.std.proofs.Common.{◌≡◌, ◌∙◌, inl, inr, ℕ, ◌+◌, ◌*◌, ◌≤◌, ℤ, pos, ◌+ℤ◌, ◌*ℤ◌, ◌≤ℤ◌, Bool, true, false, List, [], ◌∷◌, length, Option, Some, None, All, IsSomeAnd, refl, sym, subst, ap, arith, if◌then◌else◌}
+use Rattle.std.proofs.Common.{◌≡◌, ◌∙◌, ℕ, ◌+◌, ◌*◌, ◌≤◌, ℤ, pos, ◌+ℤ◌, ◌*ℤ◌, ◌≤ℤ◌, Bool, true, false, List, [], ◌∷◌, length, Option, Some, None, IsSomeAnd, refl, sym, subst, ap, arith, if◌then◌else◌}
 use Rattle.std.proofs.lemmas.Int.{ints}
-use Rattle.std.proofs.lemmas.Option.{slice_get-get_or, slice_get_cases}
+use Rattle.std.proofs.lemmas.Option.{slice_get-get_or}
 use Rattle.std.specs.List.{Contains}
 use Rattle.std.specs.Prelude.{slice_get}
 use Rattle.compression.proofs.Elements.{in_filter, in_head}
+use Rattle.net_plan.proofs.InRange.{its_amount}
 use Rattle.net_plan.specs.Places.{is_end_system, is_master, link_at}
 use Rattle.net_plan.specs.Rules.{masters}
 use Rattle.net_plan.specs.declared.ids.DeviceId.{DeviceId}
@@ -12,26 +13,16 @@ use Rattle.net_plan.specs.declared.ids.LinkId.{LinkId}
 use Rattle.net_plan.specs.declared.network.Network.{Network}
 use Rattle.net_plan.specs.declared.tables.Device.{Device}
 use Rattle.net_plan.specs.declared.tables.Link.{Link}
-use Rattle.net_plan.specs.declared.tables.Role.TheVariants.{Master, Client, Cm, Relay}
-use Rattle.net_plan.specs.declared.tables.Role.{Role}
 use Rattle.pcf_values.specs.declared.channel.Channel.TheVariants.{A}
 use Rattle.run_law.specs.scenario.Devices.{expected_by, is_cm, plan_of}
+use Rattle.schedule_tables.proofs.Margins.{master_ends}
 use Rattle.schedule_tables.specs.Delays.{pcf_port_time}
 use Rattle.schedule_tables.specs.declared.rule.Rule.TheVariants as rules
-use Rattle.switch_ports.proofs.Amounts.{its_amount}
 use Rattle.switch_ports.proofs.Fair.{HasRoom}
 use Rattle.switch_ports.specs.Standing.{IsAccepted}
 use Rattle.sync_state.specs.Plan.{expected_at}
+use Rattle.tte_lemmas.proofs.Lists.{in_all}
 use Rattle.tte_units.specs.Amount.{amount}
-
-some_same : {X : Type 0} (x y : X) → Some x ≡ Some y → x ≡ y
-some_same x y e = cc
-
-pub all_got : {X : Type 0} (P : X → Type 0) (xs : List X) (i : ℕ) (x : X) → All P xs → slice_get xs i ≡ Some x → P x
-all_got P xs i x all e = elim (slice_get_cases xs i).1 [
-  | inl (y, lt, there, got) ↦ subst P (some_same y x (sym there ∙ e)) (subst P got (all i y lt))
-  | inr (le, none) ↦ absurd (let f : None ≡ Some x = sym none ∙ e in cc)
-]
 
 some_there : {X : Type 0} (o : Option X) (P : X → Type 0) → IsSomeAnd o P → (x : X) × (o ≡ Some x)
 some_there None P h = absurd h
@@ -41,17 +32,11 @@ pub head_there : {X : Type 0} (xs : List X) → 1 ≤ length xs → (x : X) × C
 head_there [] h = absurd (omega (arith, h))
 head_there (x ∷ xs) h = (x, in_head x xs)
 
-pub master_end : (role : Role) → is_master role ≡ true → is_end_system role ≡ true
-master_end Master e = refl
-master_end Client e = absurd cc
-master_end Cm e = absurd cc
-master_end Relay e = absurd cc
-
 pub one_of_four : (n : ℕ) → 4 ≤ n → 1 ≤ n
 one_of_four n h = omega (arith, h)
 
 end_there : (o : Option Device) (d : Device) → o ≡ Some d → is_master d.role ≡ true → IsSomeAnd o (λ x. is_end_system x.role ≡ true)
-end_there o d e m = subst (λ (p : Option Device). IsSomeAnd p (λ x. is_end_system x.role ≡ true)) (sym e) (master_end d.role m)
+end_there o d e m = subst (λ (p : Option Device). IsSomeAnd p (λ x. is_end_system x.role ≡ true)) (sym e) (master_ends d.role m)
 
 -- an accepted network has a link
 pub some_link : (network : Network) → IsAccepted network → (link : LinkId) × (l : Link) × (link_at network link ≡ Some l)
@@ -82,7 +67,7 @@ pub room : (network : Network) (device : DeviceId) → IsAccepted network → Ha
 room network device accepted =
     let found = some_link network accepted in
     let schedule = accepted.rules rules.ScheduleStart 0 in
-    let begins = all_got (λ (k : Link). amount network.correction + amount network.dmax + 4 * amount network.precision + pcf_port_time k ≤ amount
+    let begins = in_all (λ (k : Link). amount network.correction + amount network.dmax + 4 * amount network.precision + pcf_port_time k ≤ amount
     network.tt_start) network.link found.0.0 found.1 schedule.begins found.2 in
     record {
       expected =

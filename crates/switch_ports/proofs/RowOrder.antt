@@ -1,5 +1,5 @@
 -- The order of the rows that leave a switch.
-use Rattle.std.proofs.Common.{◌≡◌, ◌≢◌, ◌∙◌, ◌⊎◌, inl, inr, ℕ, zero, suc, ◌<◌, ◌≤◌, ◌+◌, ◌==◌, List, [], ◌∷◌, ◌++◌, length, map, get_or, slice_set, Option, Some, None, refl, sym, subst, ap, arith}
+use Rattle.std.proofs.Common.{◌≡◌, ◌≢◌, ◌∙◌, inl, inr, ℕ, zero, suc, ◌<◌, ◌≤◌, ◌+◌, ◌==◌, List, [], ◌∷◌, ◌++◌, length, map, get_or, slice_set, Option, Some, None, refl, sym, subst, ap, arith}
 use Rattle.std.proofs.lemmas.Bool.{cases_Bool, eqb-true}
 use Rattle.std.proofs.lemmas.List.{length-map, length-set}
 use Rattle.std.proofs.lemmas.List.Elements.{All-push, Contains-append_left, Contains-push}
@@ -7,12 +7,12 @@ use Rattle.std.specs.Prelude.{nat_lt}
 use Rattle.net_plan.specs.declared.ids.DeviceId.{DeviceId}
 use Rattle.net_plan.specs.declared.ids.RowId.{RowId}
 use Rattle.net_plan.specs.declared.network.Network.{Network}
-use Rattle.schedule_tables.proofs.EntryLemmas.{one_entry}
 use Rattle.schedule_tables.specs.Entries.{IsEntry, source_of}
 use Rattle.schedule_tables.specs.declared.entry.Entry.{Entry}
 use Rattle.switch_ports.specs.Leaving.{AreChained, AreEach, AreLeaving, HasRow, IsFresh, IsLast, fresh_row, place_in}
 use Rattle.switch_ports.specs.declared.departures.Departure.{Departure}
 use Rattle.switch_ports.specs.declared.departures.LeavingRow.{LeavingRow}
+use Rattle.tte_lemmas.proofs.Naturals.{below_next}
 
 -- ---- one row more
 
@@ -29,10 +29,6 @@ more_long : (rows : List Departure) (d : Departure) → length (rows ++ d ∷ []
 more_long [] d = refl
 more_long (x ∷ rows) d = let h = more_long rows d in omega (arith, h)
 
--- the index is an old one or the new one
-either : (k n : ℕ) → k < n + 1 → (k < n) ⊎ (k ≡ n)
-either k n lt = elim (cases_Bool (k == n)) [ inl y ↦ inr (eqb-true k n y) | inr n' ↦ inl (grind (arith, n', lt)) ]
-
 last_kept : (rows : List Departure) (d : Departure) (vl bound : ℕ) (o : Option ℕ) → bound ≤ length rows → IsLast rows vl bound o
     → IsLast (rows ++ d ∷ []) vl bound o
 last_kept rows d vl bound None le h = λ k e lt is.
@@ -45,7 +41,7 @@ last_kept rows d vl bound (Some place) le h = (
 
 not_new : (rows : List Departure) (d : Departure) (vl k : ℕ) (e : Departure) → (d.of.vl.0 ≡ vl → ⊥) → (k < length rows → (get_or rows k e).of.vl.0 ≡ vl → ⊥)
     → k < length rows + 1 → (get_or (rows ++ d ∷ []) k e).of.vl.0 ≡ vl → ⊥
-not_new rows d vl k e other none lt is = elim (either k (length rows) lt) [
+not_new rows d vl k e other none lt is = elim (below_next k (length rows) lt) [
   | inl old ↦ none old (subst (λ (x : Departure). x.of.vl.0 ≡ vl) (old_at rows d k e old) is)
   | inr new ↦
       let here : get_or (rows ++ d ∷ []) k e ≡ d = ap (λ n. get_or (rows ++ d ∷ []) n e) new ∙ new_at rows d e in
@@ -85,11 +81,11 @@ pub chained_pushed : (rows : List Departure) (lasts : List (Option ℕ)) (d : De
     → ((k : ℕ) (e : Departure) → k < length rows → (get_or rows k e).of.row.0 < d.of.row.0)
     → AreChained (rows ++ d ∷ []) (slice_set lasts d.of.vl.0 (Some (length rows)))
 chained_pushed rows lasts d h place before vl below = record {
-  places = λ k e lt. elim (either k (length rows) (subst (λ n. k < n) (more_long rows d) lt)) [
+  places = λ k e lt. elim (below_next k (length rows) (subst (λ n. k < n) (more_long rows d) lt)) [
     | inl old ↦ ap (λ (x : Departure). x.of.place) (old_at rows d k e old) ∙ h.places k e old
     | inr new ↦ subst (λ n. (get_or (rows ++ d ∷ []) n e).of.place ≡ n) (sym new) (ap (λ (x : Departure). x.of.place) (new_at rows d e) ∙ place)
   ];
-  rise = λ j k e less lt. elim (either k (length rows) (subst (λ n. k < n) (more_long rows d) lt)) [
+  rise = λ j k e less lt. elim (below_next k (length rows) (subst (λ n. k < n) (more_long rows d) lt)) [
     | inl old ↦
         let first : j < length rows = omega (arith, less, old) in
         subst (λ (x : Departure). x.of.row.0 < (get_or (rows ++ d ∷ []) k e).of.row.0) (sym (old_at rows d j e first))
@@ -100,7 +96,7 @@ chained_pushed rows lasts d h place before vl below = record {
         subst (λ (x : Departure). x.of.row.0 < (get_or (rows ++ d ∷ []) k e).of.row.0) (sym (old_at rows d j e first))
         (subst (λ (x : Departure). (get_or rows j e).of.row.0 < x.of.row.0) (sym here) (below j e first))
   ];
-  before = λ k e lt. elim (either k (length rows) (subst (λ n. k < n) (more_long rows d) lt)) [
+  before = λ k e lt. elim (below_next k (length rows) (subst (λ n. k < n) (more_long rows d) lt)) [
     | inl old ↦
         subst (λ (x : Departure). IsLast (rows ++ d ∷ []) x.of.vl.0 k x.of.before) (sym (old_at rows d k e old))
         (last_kept rows d _ k _ (omega (arith, old)) (h.before k e old))
@@ -162,7 +158,7 @@ row_up_to network device row d rows place other before own is leaves lt = elim (
 below_more : (rows : List Departure) (d : Departure) (bound k : ℕ) (e : Departure)
     → ((k : ℕ) (e : Departure) → k < length rows → (get_or rows k e).of.row.0 < bound)
     → d.of.row.0 ≡ bound → k < length rows + 1 → (get_or (rows ++ d ∷ []) k e).of.row.0 < bound + 1
-below_more rows d bound k e below own lt = elim (either k (length rows) lt) [
+below_more rows d bound k e below own lt = elim (below_next k (length rows) lt) [
   | inl old ↦ let h = below k e old in subst (λ (x : Departure). x.of.row.0 < bound + 1) (sym (old_at rows d k e old)) (omega (arith, h))
   | inr new ↦
       let here : get_or (rows ++ d ∷ []) k e ≡ d = ap (λ n. get_or (rows ++ d ∷ []) n e) new ∙ new_at rows d e in
@@ -184,29 +180,6 @@ row_kept network device row entry place before rows lasts is leaves at last vl a
       below = λ k e lt. below_more rows d row.0 k e are.below refl (subst (λ n. k < n) (more_long rows d) lt);
       vls = length-set lasts entry.row.vl.0 (Some place) ∙ are.vls;
     }
-
-one_less : (m n : ℕ) → m < n → m < n + 1
-one_less m n h = omega (arith, h)
-
--- one row more does not
-pub row_skipped : (network : Network) (device : DeviceId) (row : RowId) (entry : Entry) (rows : List Departure) (lasts : List (Option ℕ))
-    → IsEntry network row.0 entry → (source_of entry ≡ device → ⊥) → AreLeaving network device row.0 rows lasts
-    → AreLeaving network device (row.0 + 1) rows lasts
-row_skipped network device row entry rows lasts is never are = record {
-  each = are.each;
-  complete = λ place other at from lt. elim (cases_Bool (place == row.0)) [
-    | inl same ↦
-        let at' : IsEntry network row.0 other = subst (λ n. IsEntry network n other) (eqb-true place row.0 same) at in
-        absurd (never (ap source_of (one_entry network row.0 entry other is at') ∙ from))
-    | inr apart ↦ are.complete place other at from (grind (arith, apart, lt))
-  ];
-  chained = are.chained;
-  below = λ k d lt. one_less _ _ (are.below k d lt);
-  vls = are.vls;
-}
-
-pub same_device : (a b : DeviceId) → a.0 ≡ b.0 → a ≡ b
-same_device a b e = ap (λ (n : ℕ). record { 0 = n }) e
 
 -- ---- each row by itself
 

@@ -7,6 +7,7 @@ use Rattle.std.specs.BTreeMap.{get}
 use Rattle.std.proofs.lemmas.Bool.{cases_Bool, eqb-true}
 use Rattle.std.proofs.lemmas.List.Elements.{All-head, All-map, All-tail, filter-append}
 use Rattle.std.proofs.lemmas.List.{length-map}
+use Rattle.net_plan.proofs.SameIds.{same_vl}
 use Rattle.net_plan.specs.Ranges.{IsInRange, IsRowInRange, IsVlInRange}
 use Rattle.net_plan.specs.declared.ids.DeviceId.{DeviceId}
 use Rattle.net_plan.specs.declared.ids.VlId.{VlId}
@@ -22,11 +23,10 @@ use Rattle.run_law.specs.machines.Answers.{after_arrival, called, with_taken}
 use Rattle.run_law.specs.machines.Nodes.{Node, TakenFrame, arriving}
 use Rattle.run_law.specs.scenario.Devices.{is_end}
 use Rattle.run_law.specs.timed.Arrivals.{entry_arrival, entry_of, row_fault, taken_or_fault}
-use Rattle.schedule_tables.proofs.EntryLemmas.{all_at}
 use Rattle.schedule_tables.specs.declared.entry.Entry.{Entry}
 use Rattle.switch_ports.proofs.Awaiting.{awaits_taken, departs_taken, later_by, taken_as}
-use Rattle.switch_ports.proofs.Entrances.{enters, find_of, some_at}
-use Rattle.switch_ports.proofs.Standings.{called_stands, further, through}
+use Rattle.switch_ports.proofs.Entrances.{enters}
+use Rattle.switch_ports.proofs.Standings.{called_stands}
 use Rattle.switch_ports.specs.Intakes.{AreEntrances, IsTakenSo, IsWhole, Takes, cycle_of, entering_by, entrance_cmp, fault_arrival, fault_of, first_entering, last_in, row_arrival}
 use Rattle.switch_ports.specs.Departing.{AwaitsIn, Changes, HasDepartures, IsKeptSo, Keeps, KnowsNext}
 use Rattle.switch_ports.specs.Tournaments.{AreLeaves}
@@ -39,6 +39,8 @@ use Rattle.switch_ports.specs.declared.switch.Switch.{Switch}
 use Rattle.sync_state.specs.Standing.{Standing}
 use Rattle.sync_state.specs.declared.plan.SyncPlan.{SyncPlan}
 use Rattle.sync_state.specs.declared.state.State.TheVariants.{Synchronised}
+use Rattle.tte_lemmas.proofs.Integers.{further, through}
+use Rattle.tte_lemmas.proofs.Lists.{find_of, in_all, last_kept, last_pushed, some_at}
 use Rattle.tte_units.specs.Amount.{amount}
 use Rattle.tte_units.specs.declared.units.Units.{Units}
 
@@ -53,7 +55,7 @@ entry_fine : (network : Network) (row : Row) → IsInRange network → IsRowInRa
 entry_fine network row range r =
     let vl = some_at network.vl row.vl.0 r.vl in
     let link = some_at network.link row.link.0 r.link in
-    let fine = all_at (IsVlInRange network) network.vl row.vl.0 vl.0 range.vls vl.1 in
+    let fine = in_all (IsVlInRange network) network.vl row.vl.0 vl.0 range.vls vl.1 in
     rw vl.1 (rw link.1 (fine.period_least, r.vl))
 
 found_fine : (network : Network) (o : Option Row) → IsInRange network → ((row : Row) → o ≡ Some row → IsRowInRange network row)
@@ -101,14 +103,6 @@ judged network device at size own last row o clock length not_end kept c l same 
 
 -- ---- what was taken
 
-last_pushed : {X : Type 0} (o : Option X) (xs : List X) (x : X) → last_or o (xs ++ x ∷ []) ≡ Some x
-last_pushed o [] x = refl
-last_pushed o (y ∷ xs) x = last_pushed (Some y) xs x
-
-last_kept : {X : Type 0} (o : Option X) (xs : List X) → last_or o (xs ++ []) ≡ last_or o xs
-last_kept o [] = refl
-last_kept o (y ∷ xs) = last_kept (Some y) xs
-
 -- the virtual link of the taking is the other
 by_pushed : (taken : List TakenFrame) (t : TakenFrame) (vl : VlId) (b : Bool) → (t.vl.0 == vl.0) ≡ b → last_by (taken ++ t ∷ []) vl ≡ cond b (Some t.cycle)
     (last_by taken vl)
@@ -118,9 +112,6 @@ by_pushed taken t vl true e =
 by_pushed taken t vl false e =
     ap (λ (ts : List TakenFrame). option_map (λ (x : TakenFrame). x.cycle) (last_or None ts)) (filter-append (λ x. x.vl.0 == vl.0) taken (t ∷ []))
     ∙ rw e (ap (option_map (λ (x : TakenFrame). x.cycle)) (last_kept None (filter (λ x. x.vl.0 == vl.0) taken)))
-
-same_vl : (a b : VlId) → a.0 ≡ b.0 → a ≡ b
-same_vl a b e = ap (λ (n : ℕ). record { 0 = n }) e
 
 not_same : (a b : ℕ) → (a == b) ≡ false → b ≡ a → ⊥
 not_same a b e h = grind (arith, e, h)

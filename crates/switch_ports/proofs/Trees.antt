@@ -7,7 +7,7 @@ use Rattle.std.proofs.lemmas.List.Elements.{Contains-get_or}
 use Rattle.std.proofs.Math.ListN.{get_or-eq_default}
 use Rattle.std.specs.Prelude.{IfSome, nat_lt, nat_le, int_lt, nat_eq}
 use Rattle.switch_ports.proofs.EachRow.{before_itself, precedes_on}
-use Rattle.switch_ports.specs.Departing.{Changes, IsTakingAt, KnowsNext, Sets, bound_of}
+use Rattle.switch_ports.specs.Departing.{IsTakingAt, KnowsNext, Sets, bound_of}
 use Rattle.switch_ports.specs.Leaving.{AreChained, IsLast, with_taking, IsEarlier, IsFirstOf, Precedes, dispatch_by, held_by, with_held}
 use Rattle.switch_ports.specs.Tournaments.{AreLeaves, IsClimbing, IsTree, Puts, node_at}
 use Rattle.switch_ports.specs.declared.departures.Departure.{Departure}
@@ -331,14 +331,6 @@ taking_on f vl place adjustment old mid new e count chained other h sets =
     subst (λ (x : Departure). IsLast old.rows.items vl place x.of.before) (sym was)
     (subst (λ n. IsLast old.rows.items n place (get_or old.rows.items place e).of.before) (h.next.1 e) (chained.before place e inside)) in
     taking_by f vl place adjustment old mid new e (get_or mid.rows.items place e).of.before count other h sets was mid_inside link
-
-pub taking_ended : (f : Departure → Departure) (vl : ℕ) (adjustment : ℤ) (old new : Departures) → IsTakingAt f vl None adjustment old new → Changes f old new
-taking_ended f vl adjustment old new h = record {
-  rows = record { count = h.rows.count; each = λ k d lt. h.rows.done k d (omega arith) lt };
-  lasts = h.lasts;
-  tree = h.tree;
-  count = h.count;
-}
 
 -- a frame of another virtual link changes nothing
 pub other_same : (length : ℕ) (changed : ℤ) (taking : Taking) (d : Departure) → (d.of.vl.0 ≡ taking.vl.0 → ⊥) → with_taking length changed taking d ≡ d

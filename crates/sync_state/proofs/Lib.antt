@@ -1,3 +1,4 @@
 pub mod CallLemmas
 pub mod VerdictLemmas
 pub mod LawLemmas
+pub mod StateFacts

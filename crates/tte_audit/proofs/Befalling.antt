@@ -1,21 +1,12 @@
 -- One more event of a report.
-use Rattle.std.proofs.Common.{◌≡◌, ◌⊎◌, List, [], ◌∷◌, ◌++◌, inl, inr, refl, sym, ap, subst}
-use Rattle.std.specs.Prelude.{Any, Option, Some, None, is_some, Bool, true, false, MatchBool}
+use Rattle.std.proofs.Common.{◌≡◌, List, [], ◌∷◌, ◌++◌, refl, sym, ap, subst}
+use Rattle.std.specs.Prelude.{Any, Option, Some, None, Bool, true, false, MatchBool}
 use Rattle.net_plan.specs.declared.event.Event.{Event}
 use Rattle.net_plan.specs.declared.event.What.{What}
 use Rattle.net_plan.specs.declared.event.What.TheVariants.{End}
-use Rattle.run_law.proofs.scenario.Decisions.{any_first, any_later, any_of_none, any_parts}
 use Rattle.tte_audit.specs.Report.{EndWith}
+use Rattle.tte_lemmas.proofs.Lists.{any_behind, any_first}
 use Rattle.tte_units.specs.declared.units.Units.{Units}
-
--- what is so of one of some events and one more is so of one of those or of this
-pub any_or_last : {X : Type 0} (P : X → Type 0) (xs : List X) (y : X) → Any P (xs ++ y ∷ []) → Any P xs ⊎ P y
-any_or_last P [] y h = elim (any_parts P y [] h) [ inl p ↦ inr p | inr none ↦ absurd (any_of_none P none) ]
-any_or_last P (x ∷ xs) y h =
-    elim (any_parts P x (xs ++ y ∷ []) h) [
-      | inl p ↦ inl (any_first P x xs p)
-      | inr later ↦ elim (any_or_last P xs y later) [ inl q ↦ inl (any_later P x xs q) | inr p ↦ inr p ]
-    ]
 
 event_at : Units → What → Event
 event_at time what = record { time = time; what = what }
@@ -33,15 +24,7 @@ any_end befallen time ends =
   where
     behind : (front : List Event) (event : Event) → event.what ≡ End → Any (λ (e : Event). e.what ≡ End) (front ++ event ∷ [])
     behind [] event is = any_first (λ (e : Event). e.what ≡ End) event [] is
-    behind (e ∷ front) event is = any_later (λ (d : Event). d.what ≡ End) e (front ++ event ∷ []) (behind front event is)
-
-pub some_is : {X : Type 0} (o : Option X) → is_some o ≡ true → (x : X) × (o ≡ Some x)
-some_is None e = absurd cc
-some_is (Some x) e = (x, refl)
-
-pub none_is : {X : Type 0} (o : Option X) → is_some o ≡ false → o ≡ None
-none_is None e = refl
-none_is (Some x) e = absurd cc
+    behind (e ∷ front) event is = any_behind (λ (d : Event). d.what ≡ End) e (front ++ event ∷ []) (behind front event is)
 
 pub none_ends : {X : Type 0} {Y : Type 0} (o : Option X) (x : X) → o ≡ None → o ≡ Some x → Y
 none_ends o x none some = absurd cc

@@ -4,13 +4,11 @@ use Rattle.std.proofs.Common.{◌≡◌, pos, ◌≤ℤ◌, ◌≤◌, List, [],
 use Rattle.std.specs.List.{cons_option}
 use Rattle.std.proofs.lemmas.List.Elements.{All-cons, All-nil}
 use Rattle.audit_law.specs.SameRuns.{IsClocked}
-use Rattle.drift_clock.proofs.Readings.{IsLawful, keeps_clock_laws}
-use Rattle.drift_clock.specs.ClockLaws.{AlwaysKeepsClockLaws}
-use Rattle.drift_clock.specs.Segment.{fresh_segment, segment_count, segment_reading, stepped_segment}
-use Rattle.drift_clock.specs.SegmentLaws.{advances, counts_time, keeps_count}
+use Rattle.drift_clock.proofs.ExactSegments.{exact_laws}
 use Rattle.event_history.proofs.Befalling.{events_from, steps_from}
 use Rattle.event_history.proofs.Clocking.{steps_history}
 use Rattle.event_history.specs.Readings.{HaveBegun}
+use Rattle.net_plan.proofs.TableFacts.{none_told}
 use Rattle.net_plan.specs.declared.event.Event.{Event}
 use Rattle.net_plan.specs.declared.network.Network.{Network}
 use Rattle.run_law.proofs.runs.Places.{parted}
@@ -25,21 +23,6 @@ use Rattle.tte_units.specs.declared.units.Units.{Units}
 use Rattle.tte_audit.specs.Named.{IsNamed}
 use Rattle.tte_audit.specs.Report.{AreEventsRight, MayCome, event_by, events_of, scenario_of}
 
--- ---- the clocks of a report
-
-exact_steps : IsLawful fresh_segment stepped_segment segment_reading (λ c. c.grain) segment_count
-exact_steps = record {
-  has_grain = λ g. refl;
-  keeps_grain = λ c t r. refl;
-  reads_count = λ c t. refl;
-  counts_time = counts_time;
-  keeps_count = keeps_count;
-  drifts = advances;
-}
-
-exact_laws : AlwaysKeepsClockLaws fresh_segment stepped_segment segment_reading
-exact_laws = keeps_clock_laws fresh_segment stepped_segment segment_reading (λ c. c.grain) segment_count exact_steps
-
 -- ---- its events
 
 abbrev event_in : Note → Option Event
@@ -53,10 +36,6 @@ pub record IsTold (ns : List Note) (before : List Event) (event : Event) : Type 
   pub whole : ns ≡ front ++ note ∷ rest
   pub same : events_of front ≡ before
   pub tells : event_in note ≡ Some event
-
-none_told : (before behind : List Event) (event : Event) → [] ≡ before ++ event ∷ behind → ⊥
-none_told [] behind event e = cc
-none_told (b ∷ before) behind event e = cc
 
 -- where events part, the records do
 pub told : (ns : List Note) (before behind : List Event) (event : Event) → events_of ns ≡ before ++ event ∷ behind → IsTold ns before event

@@ -8,7 +8,6 @@ use Rattle.run_law.specs.records.Happenings.{happenings}
 use Rattle.run_law.specs.records.Ranks.{place_of}
 use Rattle.audit_law.specs.DueRecords.{IsDue}
 use Rattle.run_law.specs.declared.note.Note.{Note}
-use Rattle.run_law.proofs.scenario.Decisions.{any_first, any_later}
 use Rattle.tte_units.specs.Amount.{units_of}
 use Rattle.tte_units.specs.declared.units.Units.{Units}
 use Rattle.tte_audit.specs.Answers.{IsAudited, IsOfFormOrEvents, IsRefusedBy, IsFirstLackOf, IsEventsFault}
@@ -21,6 +20,7 @@ use Rattle.tte_audit.specs.declared.refusal.AuditRefusal.TheVariants as refusals
 use Rattle.tte_audit.proofs.ReportRuns.{audit_run}
 use Rattle.tte_audit.proofs.Meet.{form_or_report, one_form, one_list}
 use Rattle.audit_law.proofs.Sound.{fronts, full_of_run, none_unsound, one_unsound, sound_of_run}
+use Rattle.tte_lemmas.proofs.Lists.{any_behind, any_first}
 
 -- ---- events
 
@@ -43,7 +43,7 @@ one_events network ns n m (inr a) (inr b) = a.number ∙ sym b.number
 
 any_last : (front : List Event) (time : Units) → Any (λ e. e.what ≡ End) (front ++ record { time = time; what = End } ∷ [])
 any_last [] time = any_first (λ (e : Event). e.what ≡ End) (record { time = time; what = End }) [] refl
-any_last (e ∷ es) time = any_later (λ (e : Event). e.what ≡ End) e (es ++ record { time = time; what = End } ∷ []) (any_last es time)
+any_last (e ∷ es) time = any_behind (λ (e : Event). e.what ≡ End) e (es ++ record { time = time; what = End } ∷ []) (any_last es time)
 
 ends_or_faults : (network : Network) (octets : List ℕ) (ns : List Note) (time : Units) (n : ℕ) → IsOfEvents network octets ns time → IsEventsFault network ns n
     → ⊥

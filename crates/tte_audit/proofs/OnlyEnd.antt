@@ -8,7 +8,6 @@ use Rattle.net_plan.specs.Ranges.{IsInRange}
 use Rattle.net_plan.specs.declared.event.Event.{Event}
 use Rattle.net_plan.specs.declared.event.What.TheVariants.{End}
 use Rattle.net_plan.specs.declared.network.Network.{Network}
-use Rattle.run_law.proofs.scenario.Decisions.{any_first, any_later}
 use Rattle.run_law.specs.declared.note.Note.{Note}
 use Rattle.run_law.specs.declared.note.NoteBody.TheVariants as notes
 use Rattle.run_law.specs.declared.note.NoteBody.{NoteBody}
@@ -16,6 +15,7 @@ use Rattle.run_law.specs.runs.DueRecords.{EndsAt}
 use Rattle.tte_units.specs.Amount.{amount}
 use Rattle.tte_units.specs.declared.units.Units.{Units}
 use Rattle.tte_audit.specs.Report.{AreEventsRight, EndWith, MayBefall, MayCome, event_by, events_of}
+use Rattle.tte_lemmas.proofs.Lists.{any_behind, any_first}
 use Rattle.tte_audit.proofs.Clocked.{told}
 
 abbrev end_at : Units → Event
@@ -68,7 +68,7 @@ any_end_in [] time has = absurd (in_none (end_at time) has)
 any_end_in (e ∷ front) time has =
     elim (in_cases e (end_at time) front has) [
       | inl same ↦ any_first (λ (x : Event). x.what ≡ End) e front (ap (λ (x : Event). x.what) same)
-      | inr more ↦ any_later (λ (x : Event). x.what ≡ End) e front (any_end_in front time more)
+      | inr more ↦ any_behind (λ (x : Event). x.what ≡ End) e front (any_end_in front time more)
     ]
 
 -- the events of a report end with its end, and at no other time

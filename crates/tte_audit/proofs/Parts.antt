@@ -15,7 +15,7 @@ use Rattle.report_text.proofs.SameReports.{note_unbroken}
 use Rattle.run_law.specs.declared.note.Note.{Note}
 use Rattle.tte_io.specs.Line.{lf}
 use Rattle.tte_audit.specs.Named.{IsNamed}
-use Rattle.tte_audit.specs.Report.{AreNumbered, BeginsWith, IsFormFault, BeginsWithLine, BeginsWithRecord, IsTextOf, LineThen, is_line_end}
+use Rattle.tte_audit.specs.Report.{AreNumbered, BeginsWith, BeginsWithLine, BeginsWithRecord, IsTextOf, LineThen, is_line_end}
 
 -- what stands at the first place that passes, if there is one, parts a list
 abbrev PartedAt : (ℕ → Bool) → List ℕ → Option ℕ → Type 0
@@ -175,18 +175,6 @@ begins_none network octets = record {
     no_note : (before behind : List Note) (note : Note) → [] ≡ before ++ note ∷ behind → ⊥
     no_note [] behind note e = cc
     no_note (b ∷ before) behind note e = cc
-
--- where octets are left that begin with no line, that is the fault
-pub fault_of : (network : Network) (octets rest : List ℕ) (notes : List Note) (n : ℕ) → BeginsWith network octets notes rest → n ≡ length notes → rest ≢ []
-    → (BeginsWithLine network (n + 1) rest → ⊥) → IsFormFault network octets (n + 1)
-fault_of network octets rest notes n begins count some none = record {
-  before = notes;
-  rest = rest;
-  begins = begins;
-  some = some;
-  number = ap (λ (k : ℕ). k + 1) count;
-  no_line = none;
-}
 
 pub no_octets_left : (octets : List ℕ) → length octets ≡ 0 → octets ≡ []
 no_octets_left [] e = refl

@@ -8,7 +8,7 @@ use Rattle.tte_audit.specs.Following.{Follows}
 use Rattle.tte_audit.specs.Report.{IsEventFault, MayCome, events_of, with_event}
 use Rattle.tte_audit.specs.Telling.{AreFollowed, AreTold}
 use Rattle.tte_audit.specs.declared.passes.Told.{Told}
-use Rattle.tte_audit.proofs.Befalling.{none_is, some_is}
+use Rattle.tte_lemmas.proofs.Options.{none_at, some_of}
 use Rattle.tte_audit.proofs.EventsRead.{events_on, fault_here, fault_on, few_events, right_none, right_on}
 
 abbrev Judged : Network → List Note → Told → Option ℕ → Type 0
@@ -16,7 +16,7 @@ Judged network notes told fault = MatchOption fault (AreFollowed network notes t
 
 pub followed : (network : Network) (notes : List Note) (told : Told) → AreTold network notes told → is_some told.fault ≡ false
     → AreFollowed network notes told
-followed network notes told h none = subst (Judged network notes told) (none_is told.fault none) h.judged
+followed network notes told h none = subst (Judged network notes told) (none_at told.fault none) h.judged
 
 pub faulty : (network : Network) (notes : List Note) (told : Told) (n : ℕ) → AreTold network notes told → told.fault ≡ Some n
     → IsEventFault network notes n
@@ -40,7 +40,7 @@ one_more notes note k n counted next = omega (arith, counted, next, length-appen
 pub fault_stays : (network : Network) (notes : List Note) (note : Note) (old new : Told) → AreTold network notes old → is_some old.fault ≡ true
     → new.fault ≡ old.fault → new.records ≡ old.records + 1 → AreTold network (notes ++ note ∷ []) new
 fault_stays network notes note old new h some same next =
-    let at = some_is old.fault some in
+    let at = some_of old.fault some in
     record {
       counted = one_more notes note old.records new.records h.counted next;
       judged = subst (Judged network (notes ++ note ∷ []) new) (sym (same ∙ at.1)) (fault_on network notes note at.0 (faulty network notes old at.0 h at.1));
@@ -55,7 +55,7 @@ goes_on network notes note old new h none same next may follows =
     let own = followed network notes old h none in
     record {
       counted = one_more notes note old.records new.records h.counted next;
-      judged = subst (Judged network (notes ++ note ∷ []) new) (sym (same ∙ none_is old.fault none)) (record {
+      judged = subst (Judged network (notes ++ note ∷ []) new) (sym (same ∙ none_at old.fault none)) (record {
         right = right_on network notes note own.right may;
         follows = subst (λ (es : List Event). Follows network new.befallen.watch new.befallen.history new.befallen.count new.befallen.end es)
             (sym (events_on notes note)) follows;

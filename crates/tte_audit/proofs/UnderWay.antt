@@ -1,6 +1,6 @@
 -- The records of a report, swept one by one.
 use Rattle.std.proofs.Common.{◌≡◌, ℕ, zero, suc, ◌+◌, ◌≤◌, List, [], ◌∷◌, ◌++◌, length, inl, inr, refl, sym, ap, subst, ◌∙◌, append_assoc, arith}
-use Rattle.std.proofs.lemmas.List.{append-nil, length-map}
+use Rattle.std.proofs.lemmas.List.{append-nil}
 use Rattle.std.proofs.lemmas.List.Elements.{filter_map-append}
 use Rattle.std.specs.Prelude.{Option, Some, slice_get}
 use Rattle.std.specs.List.{concat, cons_option}
@@ -20,7 +20,8 @@ use Rattle.report_sweep.specs.Sweeping.{IsSwept}
 use Rattle.report_sweep.specs.declared.sweep.Sweep.{Sweep}
 use Rattle.report_text.specs.NoteLine.{report_of}
 use Rattle.run_law.proofs.law.FirstPlaces.{at_length}
-use Rattle.run_law.proofs.runs.NetworkRuns.{one_more, same_notes}
+use Rattle.run_law.proofs.records.Happenings.{as_many, happenings_on}
+use Rattle.run_law.proofs.runs.NetworkRuns.{one_more}
 use Rattle.run_law.proofs.runs.Places.{in_right}
 use Rattle.run_law.specs.declared.note.Note.{Note}
 use Rattle.run_law.specs.declared.note.NoteBody.TheVariants as notes
@@ -126,18 +127,6 @@ befalls_there network ns taken behind note right parts =
 
 -- ---- the records with their frames
 
-happenings_on : (network : Network) (front behind : List Note) → (gs : List Happening) × (happenings network (front ++ behind) ≡ happenings network front ++ gs)
-happenings_on network front [] = ([], ap (happenings network) (append-nil front) ∙ sym (append-nil (happenings network front)))
-happenings_on network front (n ∷ behind) =
-    let on = happenings_on network (front ++ n ∷ []) behind in
-    let h = happening network (happenings network front) n in (
-      h ∷ on.0,
-      ap (happenings network) (sym (append_assoc front (n ∷ []) behind))
-          ∙ on.1
-          ∙ ap (λ (hs : List Happening). hs ++ on.0) (one_more network front n)
-          ∙ append_assoc (happenings network front) (h ∷ []) on.0,
-    )
-
 -- a record of a report, with those before it and those behind it
 pub happening_there : (network : Network) (ns front behind : List Note) (note : Note) → ns ≡ front ++ note ∷ behind
     → (gs : List Happening) × (happenings network ns ≡ happenings network front ++ happening network (happenings network front) note ∷ gs)
@@ -150,9 +139,6 @@ happening_there network ns front behind note parts =
           ∙ ap (λ (hs : List Happening). hs ++ on.0) (one_more network front note)
           ∙ append_assoc (happenings network front) (h ∷ []) on.0,
     )
-
-so_many : (network : Network) (ns : List Note) → length (happenings network ns) ≡ length ns
-so_many network ns = sym (length-map (happenings network ns) (λ (h : Happening). h.note)) ∙ ap length (same_notes network ns)
 
 -- ---- one record more
 
@@ -185,7 +171,7 @@ unfounded_at network octets ns taken behind note end n of parts number sound uns
         record_there = happening network (happenings network taken) note;
         behind = whole.0;
         parts = whole.1;
-        number = number ∙ ap (λ (k : ℕ). k + 1) (sym (so_many network taken));
+        number = number ∙ ap (λ (k : ℕ). k + 1) (sym (as_many network taken));
         sound_before = sound;
         unsound = unsound;
       },

@@ -1,18 +1,21 @@
 -- The clocks that are owed at the end.
 use Rattle.std.proofs.lemmas.Bool.{cases_lt}
 use Rattle.std.proofs.lemmas.Option.{slice_get_within}
-use Rattle.std.proofs.Common.{◌≡◌, ℕ, zero, suc, ◌+◌, inl, inr, ◌<◌, ◌≤◌, List, ◌∷◌, [], length, slice_get, Some, None, refl, sym, ap, subst, ◌∙◌, arith}
+use Rattle.std.proofs.Common.{◌≡◌, ℕ, ◌+◌, inl, inr, ◌<◌, ◌≤◌, List, ◌∷◌, [], Some, None, refl, sym, ap, subst, ◌∙◌, arith}
+use Rattle.audit_law.proofs.EndingClocks.{place_of_clock}
 use Rattle.audit_law.specs.Debts.{IsPaid}
 use Rattle.audit_law.specs.EndClocks.{IsClockOf}
 use Rattle.audit_law.specs.FirstDebts.{TellsFirst}
 use Rattle.audit_law.specs.Owed as debts
 use Rattle.audit_law.specs.Owed.{IsOwed, Pays}
+use Rattle.net_plan.proofs.SameIds.{same_device}
 use Rattle.net_plan.specs.declared.ids.DeviceId.{DeviceId}
 use Rattle.run_law.specs.declared.note.NoteBody.TheVariants as notes
 use Rattle.run_law.specs.declared.note.NoteBody.{NoteBody}
 use Rattle.run_law.specs.records.Happenings.{Happening, time_of}
 use Rattle.run_law.specs.records.Ranks.{members_in, place_at}
 use Rattle.run_law.specs.scenario.Scenarios.{Scenario}
+use Rattle.tte_lemmas.proofs.Lists.{some_at}
 use Rattle.unpaid_debts.specs.Clocks.{HasClockAt, IsOnlyEnd, IsUntold, IsUntoldDevice}
 
 abbrev second_of : List ℕ → ℕ
@@ -26,9 +29,6 @@ third_of other = 0
 abbrev first_of : List ℕ → ℕ
 first_of (a ∷ rest) = a
 first_of other = 0
-
-same_device : (d e : DeviceId) → d.0 ≡ e.0 → d ≡ e
-same_device d e n = ap (λ (k : ℕ). let x : DeviceId = record { 0 = k } in x) n
 
 clock_there : (t m time : ℕ) (device : DeviceId) (body : NoteBody) → place_at t m body ≡ time ∷ 14 ∷ device.0 ∷ [] → IsClockOf device body
 clock_there t m time device (notes.Clock other shown adjustment state) e = same_device other device (ap third_of e)
@@ -46,10 +46,6 @@ clock_there t m time device (notes.Accepted d l c v y) e = let r : 11 ≡ 14 = a
 clock_there t m time device (notes.Delivered d l c v y) e = let r : 12 ≡ 14 = ap second_of e in absurd (omega (arith, r))
 clock_there t m time device (notes.Dropped d l c r) e = let q : 13 ≡ 14 = ap second_of e in absurd (omega (arith, q))
 
-clock_place : (t m : ℕ) (device : DeviceId) (body : NoteBody) → IsClockOf device body → place_at t m body ≡ t ∷ 14 ∷ device.0 ∷ []
-clock_place t m device (notes.Clock other shown adjustment state) e = ap (λ (d : DeviceId). t ∷ 14 ∷ d.0 ∷ []) e
-clock_place t m device other e = absurd e
-
 -- a record at the place of a clock tells it
 paid_there : (s : Scenario) (hs : List Happening) (device : DeviceId) (time : ℕ) → HasClockAt hs device time → IsPaid hs (Pays s) (debts.clock device time)
 paid_there s hs device time has =
@@ -59,7 +55,7 @@ paid_there s hs device time has =
 there_paid : (s : Scenario) (hs : List Happening) (device : DeviceId) (time : ℕ) → IsPaid hs (Pays s) (debts.clock device time) → HasClockAt hs device time
 there_paid s hs device time paid =
     let h = paid.0 in
-    (h, paid.1, clock_place (time_of h) (members_in h) device h.note.body paid.2.1 ∙ ap (λ (t : ℕ). t ∷ 14 ∷ device.0 ∷ []) paid.2.0)
+    (h, paid.1, place_of_clock (time_of h) (members_in h) device h.note.body paid.2.1 ∙ ap (λ (t : ℕ). t ∷ 14 ∷ device.0 ∷ []) paid.2.0)
 
 -- where the end is later, none is owed
 pub none_owed : (s : Scenario) (hs : List Happening) (until end : ℕ) → IsOnlyEnd s.events end → until < end
@@ -68,11 +64,6 @@ none_owed s hs until end one late = λ o owed.
     let timely = owed.timely in
     let at = one.only o.1 owed.ends in
     absurd (omega (arith, timely, at, late))
-
-at_place : {X : Type 0} (xs : List X) (i : ℕ) → i < length xs → (x : X) × (slice_get xs i ≡ Some x)
-at_place [] i lt = absurd (omega (arith, lt))
-at_place (x ∷ xs) zero lt = (x, refl)
-at_place (x ∷ xs) (suc i) lt = at_place xs i (omega (arith, lt))
 
 -- where each clock is told, each is paid
 pub all_told : (s : Scenario) (hs : List Happening) (until end : ℕ) → IsOnlyEnd s.events end → IsUntold s.network hs end None
@@ -86,7 +77,7 @@ all_told s hs until end one all = λ o owed.
 pub one_untold : (s : Scenario) (hs : List Happening) (until end : ℕ) (device : DeviceId) → IsOnlyEnd s.events end → end ≤ until
     → IsUntoldDevice s.network hs end device → TellsFirst s hs until (λ (o : DeviceId × ℕ). debts.clock o.0 o.1) (Some end)
 one_untold s hs until end device one timely none =
-    let found = at_place s.network.device device.0 none.there in
+    let found = some_at s.network.device device.0 none.there in
     record {
       debt = (device, end);
       owed = record { is = found.0; there = found.1; ends = one.ends; timely = timely };

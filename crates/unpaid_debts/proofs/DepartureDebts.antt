@@ -1,10 +1,6 @@
 -- The leavings that are owed, and what pays them.
-use Rattle.std.proofs.lemmas.Bool.{cases_lt}
-use Rattle.std.specs.Prelude.{IsSomeAnd}
-use Rattle.std.proofs.Common.{true, ◌≡◌, ◌↔◌, ◌⊎◌, ℕ, ◌+◌, ◌<◌, List, ◌++◌, Option, Some, None, inl, inr, refl, sym, ap, subst, ◌∙◌, arith}
-use Rattle.std.proofs.lemmas.Option.{slice_get_within}
-use Rattle.audit_law.proofs.Departing.{departure_law}
-use Rattle.audit_law.proofs.Owing.{in_whole}
+use Rattle.std.proofs.Common.{true, ◌≡◌, ◌↔◌, ℕ, List, Some, refl, sym, ap, subst, ◌∙◌}
+use Rattle.audit_law.proofs.Departing.{departs_in_whole, departure_law, one_giver}
 use Rattle.audit_law.specs.Debts.{IsPaid}
 use Rattle.audit_law.specs.Departures.{IsDueByLeaving, OwesDeparture, TellsDeparture, leaves_at, leaving_record}
 use Rattle.audit_law.specs.DueRecords.{IsDue}
@@ -12,18 +8,16 @@ use Rattle.audit_law.specs.Owed as debts
 use Rattle.audit_law.specs.Owed.{IsOwed, Pays, falls_due}
 use Rattle.kept_records.specs.Keeping.{kept_of, record_of}
 use Rattle.kept_records.specs.declared.kept.KeptRecord.{KeptRecord}
-use Rattle.net_plan.specs.Belonging.{HasDevice, HasLink}
+use Rattle.net_plan.specs.Belonging.{HasDevice}
 use Rattle.run_law.proofs.law.FirstPlaces.{numbered_in}
 use Rattle.run_law.specs.records.Order.{IsIn}
 use Rattle.wire_judge.proofs.LeavingTimes.{giver_is}
 use Rattle.wire_judge.specs.Departings.{giver}
-use Rattle.net_plan.specs.Places.{link_at}
 use Rattle.net_plan.specs.declared.ids.DeviceId.{DeviceId}
 use Rattle.net_plan.specs.declared.ids.LinkId.{LinkId}
 use Rattle.net_plan.specs.declared.network.Network.{Network}
-use Rattle.net_plan.specs.declared.tables.Link.{Link}
 use Rattle.record_places.specs.Placing.{HasRecordAt}
-use Rattle.run_law.proofs.runs.SameSteps.{same_departure, same_some}
+use Rattle.run_law.proofs.runs.SameSteps.{same_departure}
 use Rattle.run_law.specs.control.Leaving.{Departs, Departure, Gives, departure, leaves, on_cut_way, too_old}
 use Rattle.run_law.specs.declared.note.NoteBody.TheVariants as notes
 use Rattle.run_law.specs.declared.note.NoteBody.{NoteBody}
@@ -35,7 +29,7 @@ use Rattle.unpaid_debts.proofs.Payers.{one_time, paid_at_place}
 use Rattle.unpaid_debts.specs.Debtors.{device_named}
 use Rattle.unpaid_debts.specs.Leavings.{leaving_place, may_give}
 use Rattle.run_law.specs.scenario.Devices.{is_relay}
-use Rattle.unpaid_debts.specs.Unpaid.{TellsFirstAmong}
+use Rattle.tte_lemmas.proofs.Options.{one as same_some}
 
 record_place : (t m : ℕ) (device : DeviceId) (link : LinkId) (cause : ℕ) (d : Departure)
     → place_at t m (leaving_record device link cause d) ≡ leaving_place t device link cause d
@@ -48,13 +42,6 @@ tells_so : (device : DeviceId) (link by : LinkId) (cause from : ℕ) (d : Depart
 tells_so device link by cause from (leaves clock) e = e
 tells_so device link by cause from on_cut_way e = e
 tells_so device link by cause from too_old e = (e.0, e.1)
-
-one_giver : (network : Network) (body : NoteBody) (device other : DeviceId) (link : LinkId) → Gives network body device link → Gives network body other link
-    → device ≡ other
-one_giver network (notes.Sent master cycle) device other link a b = a.0 ∙ sym b.0
-one_giver network (notes.Compressed cm opened at cycle members verdict) device other link a b = a.0 ∙ sym b.0
-one_giver network (notes.Arrived relay by from clock) device other link a b = a.0 ∙ sym b.0
-one_giver network body device other link a b = absurd a
 
 -- the record names the device that gives its frame to a link
 pub gives_named : (network : Network) (body : NoteBody) (device : DeviceId) (link : LinkId) → Gives network body device link → device_named body ≡ Some device
@@ -83,19 +70,6 @@ owed_departs s hs until cause link o = record {
   held = refl;
   correct = o.correct;
   becomes = refl;
-}
-
-in_all : (s : Scenario) (hs before rest : List Happening) (t : ℕ) (device : DeviceId) (link : LinkId) (cause : ℕ) (d : Departure)
-    → hs ≡ before ++ rest → Departs s before device t link cause d → Departs s hs device t link cause d
-in_all s hs before rest t device link cause d e h = record {
-  giving = h.giving;
-  there = in_whole hs before rest cause h.giving e h.there;
-  gives = h.gives;
-  frame = h.frame;
-  of_frame = h.of_frame;
-  held = h.held;
-  correct = h.correct;
-  becomes = h.becomes;
 }
 
 -- where two leavings of one frame by one link stand
@@ -135,7 +109,7 @@ departure_paid s hs until cause link device t d founded owed departs =
     ap (λ (b : NoteBody). place_at (time_of x) (members_in x) b) by.says
     ∙ record_place (time_of x) (members_in x) by.device by.link by.cause by.is
     ∙ same_place s hs (time_of x) t by.device device by.link link by.cause cause by.is d so.1 so.0
-    (in_all s hs here.before here.behind (time_of x) by.device by.link by.cause by.is here.parts by.departs) departs)
+    (departs_in_whole s hs here.before here.behind (time_of x) by.device by.link by.cause by.is here.parts by.departs) departs)
 
 -- a leaving falls due at one time
 pub departure_time : (s : Scenario) (hs : List Happening) (until cause : ℕ) (link : LinkId) → IsFounded place_of (IsDue s) hs
@@ -146,21 +120,6 @@ departure_time s hs until cause link founded a b =
     (departure_law s hs until founded) (cause, link) a b
 
 -- ---- over links and records
-
-link_there : (o : Option Link) (P : Link → Type 0) → IsSomeAnd o P → (l : Link) × (o ≡ Some l)
-link_there None P h = absurd h
-link_there (Some l) P h = (l, refl)
-
-has_link : (network : Network) (link : LinkId) (P : Link → Type 0) → IsSomeAnd (link_at network link) P → HasLink network link
-has_link network link P h = let l = link_there (link_at network link) P h in slice_get_within network.link link.0 l.0 l.1
-
--- a link that a frame is given to is one of the network's
-pub gives_link : (network : Network) (body : NoteBody) (device : DeviceId) (link : LinkId) → Gives network body device link → HasLink network link
-gives_link network (notes.Sent master cycle) device link a = has_link network link (λ l. l.child ≡ device) a.1
-gives_link network (notes.Compressed cm opened at cycle members verdict) device link a = has_link network link (λ l. l.parent ≡ device) a.1
-gives_link network (notes.Arrived relay by from clock) device link a =
-    elim a.1.on [ inl down ↦ has_link network link (λ l. l.child ≡ device) down.1 | inr up ↦ has_link network link (λ l. l.parent ≡ device) up.1 ]
-gives_link network body device link a = absurd a
 
 -- a record that gives a frame to a link may do so
 pub gives_may : (network : Network) (body : NoteBody) (device : DeviceId) (link : LinkId) → Gives network body device link
@@ -175,16 +134,3 @@ pub same_pair : (o : ℕ × LinkId) (n : ℕ) (l : LinkId) → o.0 ≡ n → o.1
 same_pair o n l first second =
     let link : o.1 ≡ l = ap (λ (k : ℕ). let x : LinkId = record { 0 = k } in x) second in
     ap (λ (m : ℕ). let p : ℕ × LinkId = (m, o.1) in p) first ∙ ap (λ (k : LinkId). let p : ℕ × LinkId = (n, k) in p) link
-
--- a number below the next is below this one, or is this one
-pub below_or_at : (o n : ℕ) → o < n + 1 → (o < n) ⊎ (o ≡ n)
-below_or_at o n lt = elim (cases_lt o n) [ inl less ↦ inl less | inr more ↦ inr (omega (arith, lt, more)) ]
-
--- no record has the number 0
-pub none_yet : (s : Scenario) (hs : List Happening) (until : ℕ) → TellsFirstAmong s hs until (λ (o : ℕ × LinkId). debts.departure o.0 o.1) (λ o. o.0 < 1) None
-none_yet s hs until = λ o few owed.
-    let zero : o.0 ≡ 0 = omega (arith, few) in
-    absurd (no_zero hs owed.giving (subst (λ (n : ℕ). numbered hs n ≡ Some owed.giving) zero owed.there))
-  where
-    no_zero : (gs : List Happening) (g : Happening) → numbered gs 0 ≡ Some g → ⊥
-    no_zero gs g e = cc

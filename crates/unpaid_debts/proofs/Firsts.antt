@@ -1,32 +1,18 @@
 -- The first of some unpaid debts, as one more is looked at.
 use Rattle.std.proofs.lemmas.Bool.{cases_lt}
-use Rattle.std.proofs.Common.{◌≡◌, ◌⊎◌, ℕ, ◌+◌, ◌<◌, ◌≤◌, List, length, Option, Some, None, inl, inr, sym, subst, arith}
+use Rattle.std.proofs.Common.{◌≡◌, ℕ, ◌+◌, ◌<◌, ◌≤◌, List, length, Option, Some, None, inl, inr, sym, subst, arith}
 use Rattle.audit_law.specs.Debts.{IsPaid}
 use Rattle.audit_law.specs.FirstDebts.{TellsFirst, earlier_of}
 use Rattle.audit_law.specs.Owed.{Debt, IsOwed, Pays, falls_due}
 use Rattle.run_law.proofs.law.FirstPlaces.{numbered_within}
 use Rattle.run_law.specs.records.Happenings.{Happening, numbered}
 use Rattle.run_law.specs.scenario.Scenarios.{Scenario}
+use Rattle.tte_lemmas.proofs.Naturals.{below_next}
 use Rattle.unpaid_debts.specs.Unpaid.{IsUnpaid, TellsFirstBelow, TellsUnpaid}
 
 -- what is owed of a number is brought by the record of that number
 abbrev pub AreOfRecords : Scenario → List Happening → ℕ → (ℕ → Debt) → Type 0
 AreOfRecords s hs until debt_of = (o : ℕ) → IsOwed s hs until (debt_of o) → (h : Happening) × (numbered hs o ≡ Some h)
-
--- no record has the number 0
-pub none_below : (s : Scenario) (hs : List Happening) (until : ℕ) (debt_of : ℕ → Debt) → AreOfRecords s hs until debt_of
-    → TellsFirstBelow s hs until debt_of 1 None
-none_below s hs until debt_of brought = λ o few owed.
-    let h = brought o owed in
-    let zero : o ≡ 0 = omega (arith, few) in
-    absurd (no_zero hs h.0 (subst (λ (n : ℕ). numbered hs n ≡ Some h.0) zero h.1))
-  where
-    no_zero : (gs : List Happening) (g : Happening) → numbered gs 0 ≡ Some g → ⊥
-    no_zero gs g e = cc
-
--- a number below the next is below this one, or is this one
-below_next : (o n : ℕ) → o < n + 1 → (o < n) ⊎ (o ≡ n)
-below_next o n lt = elim (cases_lt o n) [ inl less ↦ inl less | inr more ↦ inr (omega (arith, lt, more)) ]
 
 due_at : (s : Scenario) (hs : List Happening) (until : ℕ) (debt_of : ℕ → Debt) (n u : ℕ) → IsUnpaid s hs until (debt_of n) u → (other : ℕ) → other ≡ n
     → (is : IsOwed s hs until (debt_of other)) → u ≤ falls_due s hs until (debt_of other) is

@@ -6,6 +6,7 @@ use Rattle.run_law.proofs.runs.Places.{in_left, in_parts, in_right}
 use Rattle.run_law.specs.records.Causes.{cause_of}
 use Rattle.run_law.specs.records.Happenings.{Happening}
 use Rattle.run_law.specs.records.Order.{IsIn}
+use Rattle.tte_lemmas.proofs.Lists.{set_length}
 use Rattle.unpaid_debts.specs.Payments.{ArePayments, IsMarked, IsPaidSo, both, nothing, paid_by}
 use Rattle.unpaid_debts.specs.declared.paid.Paid.{Paid}
 
@@ -122,11 +123,6 @@ got_more (z ∷ xs) x (suc n) y e =
       | inr last ↦ let eq = last.0 in inr (omega (arith, eq), last.1)
     ]
 
-length_set : {X : Type 0} (xs : List X) (i : ℕ) (x : X) → length (slice_set xs i x) ≡ length xs
-length_set [] i x = refl
-length_set (z ∷ xs) zero x = refl
-length_set (z ∷ xs) (suc i) x = ap suc (length_set xs i x)
-
 -- the numbers of records are at most how many there are
 numbers_more : (hs : List Happening) (h : Happening) → ((g : Happening) → IsIn g hs → g.note.number ≤ length hs) → h.note.number ≡ length hs + 1
     → (g : Happening) → IsIn g (hs ++ h ∷ []) → g.note.number ≤ length (hs ++ h ∷ [])
@@ -178,7 +174,7 @@ pub more_marked : (hs : List Happening) (h : Happening) (payments : List Paid) (
 more_marked hs h payments i old are number cause low was = record {
   count =
       let count = are.count in
-      omega (arith, count, length_set (payments ++ nothing ∷ []) i (both old (paid_by h.note.body)), length-append payments (nothing ∷ []), length-append hs (h ∷ []));
+      omega (arith, count, set_length (payments ++ nothing ∷ []) i (both old (paid_by h.note.body)), length-append payments (nothing ∷ []), length-append hs (h ∷ []));
   numbers = λ g j. numbers_more hs h are.numbers number g j;
   each = λ n paid got.
       let count = are.count in

@@ -1,6 +1,5 @@
 -- What pays the debts of changes of state.
 use Rattle.std.proofs.Common.{◌≡◌, ℕ, ◌≤◌, true, false, List, Some, refl, sym, ap, subst, ◌∙◌, arith}
-use Rattle.std.specs.Prelude.{◌==◌}
 use Rattle.audit_law.proofs.Changing.{change_law}
 use Rattle.audit_law.specs.Debts.{IsPaid}
 use Rattle.audit_law.specs.DueRecords.{IsDue}
@@ -22,7 +21,6 @@ use Rattle.unpaid_debts.specs.declared.paid.Paid.{Paid}
 use Rattle.audit_law.specs.DueRecords.{ChangesState}
 use Rattle.net_plan.specs.declared.event.What.TheVariants.{On}
 use Rattle.net_plan.specs.declared.ids.DeviceId.{DeviceId}
-use Rattle.run_law.proofs.runs.SameSteps.{same_some}
 use Rattle.run_law.specs.declared.judgement.Judgement.TheVariants.{Integrates}
 use Rattle.run_law.specs.declared.judgement.Why.TheVariants as whys
 use Rattle.run_law.specs.declared.judgement.Why.{Why}
@@ -32,6 +30,8 @@ use Rattle.run_law.specs.records.Happenings.{time_of}
 use Rattle.run_law.specs.scenario.Scenarios.{is_broken}
 use Rattle.sync_state.specs.declared.state.State.TheVariants.{Integrating, Joining, Synchronised}
 use Rattle.sync_state.specs.declared.state.State.{State}
+use Rattle.tte_lemmas.proofs.Naturals.{eqb_same}
+use Rattle.tte_lemmas.proofs.Options.{one as same_some}
 use Rattle.unpaid_debts.specs.Changing.{HasChange}
 
 told : (body : NoteBody) (cause : ℕ) → cause_of body ≡ cause → (paid_by body).change ≡ true → TellsChange cause body
@@ -123,9 +123,6 @@ change_brought s hs cause t h there has = by_why has.why has.brought has.changes
     by_why whys.SyncClique b c = absurd b
     by_why whys.AsyncClique b c = absurd b
 
-eqb-self : (n : ℕ) → (n == n) ≡ true
-eqb-self n = grind arith
-
 pub brought_change : (s : Scenario) (hs : List Happening) (cause : ℕ) (h : Happening) → numbered hs cause ≡ Some h → (body : NoteBody) → h.note.body ≡ body
     → Brings s hs (time_of h) body → HasChange s hs cause (time_of h)
 brought_change s hs cause h there (notes.Event line (On device)) is b = record {
@@ -140,14 +137,14 @@ brought_change s hs cause h there (notes.Permanent device link from point Integr
   state = Joining;
   why = whys.Frame;
   brought = tt;
-  changes = (refl, (h, record { there = there; same_time = refl }, ap (is_joined_by device) is ∙ eqb-self device.0));
+  changes = (refl, (h, record { there = there; same_time = refl }, ap (is_joined_by device) is ∙ eqb_same device.0));
 }
 brought_change s hs cause h there (notes.Compressed device opened at cycle members Integrates) is b = record {
   device = device;
   state = Joining;
   why = whys.Frame;
   brought = tt;
-  changes = (refl, (h, record { there = there; same_time = refl }, ap (is_joined_by device) is ∙ eqb-self device.0));
+  changes = (refl, (h, record { there = there; same_time = refl }, ap (is_joined_by device) is ∙ eqb_same device.0));
 }
 brought_change s hs cause h there (notes.Corrected device cycle by adjustment) is b = record {
   device = device;

@@ -15,7 +15,7 @@ use Rattle.run_law.specs.records.Ranks.{place_of}
 use Rattle.run_law.specs.runs.Runs.{IsFounded}
 use Rattle.run_law.specs.scenario.Scenarios.{Scenario}
 use Rattle.unpaid_debts.proofs.Firsts.{AreOfRecords}
-use Rattle.unpaid_debts.proofs.Payers.{not_both, one_time, payer_due}
+use Rattle.unpaid_debts.proofs.Payers.{one_time, payer_due}
 use Rattle.unpaid_debts.specs.Payments.{IsMarked, IsPaidSo, paid_by}
 use Rattle.unpaid_debts.specs.Unpaid.{TellsUnpaid}
 use Rattle.unpaid_debts.specs.declared.paid.Paid.{Paid}
@@ -27,11 +27,12 @@ use Rattle.run_law.specs.declared.judgement.Reason.{Reason}
 use Rattle.run_law.specs.declared.steps.Ripe.TheVariants as ripe
 use Rattle.run_law.specs.declared.steps.Ripe.{Ripe}
 use Rattle.run_law.specs.records.Happenings.{time_of}
-use Rattle.run_law.proofs.runs.SameSteps.{same_some}
 use Rattle.std.proofs.Common.{pos}
+use Rattle.std.proofs.lemmas.Bool.{both_ways}
 use Rattle.drift_clock.specs.Reach.{IsReach}
 use Rattle.net_plan.specs.declared.network.Network.{Network}
 use Rattle.transparent_clock.specs.Points.{point_of}
+use Rattle.tte_lemmas.proofs.Options.{one as same_some}
 use Rattle.tte_units.specs.declared.units.Units.{Units}
 use Rattle.unpaid_debts.specs.Payments.{is_old}
 use Rattle.unpaid_debts.specs.Waiting.{IsPermanentBy, IsReached, IsReachedBy, IsWaiting}
@@ -161,6 +162,6 @@ pub permanence_unpaid : (s : Scenario) (hs : List Happening) (until cause : ℕ)
 permanence_unpaid s hs until cause paid None founded so none by = λ owed. absurd (by owed)
 permanence_unpaid s hs until cause paid (Some t) founded so none by = record {
   owed = by.0;
-  unpaid = λ p. not_both paid.permanence none (so.permanence.1 (permanence_marked s hs until cause founded by.0 p));
+  unpaid = λ p. both_ways paid.permanence none (so.permanence.1 (permanence_marked s hs until cause founded by.0 p));
   due = λ is. by.1 ∙ permanence_time s hs until cause founded by.0 is;
 }

@@ -1,6 +1,6 @@
 -- When debts fall due, and what pays them.
-use Rattle.std.proofs.Common.{◌≡◌, ◌↔◌, ℕ, Bool, true, false, List, [], ◌∷◌, Some, refl, sym, ap, subst, ◌∙◌}
-use Rattle.std.specs.Prelude.{not}
+use Rattle.std.proofs.Common.{◌≡◌, ◌↔◌, ℕ, List, [], ◌∷◌, Some, sym, subst, ◌∙◌}
+use Rattle.audit_law.proofs.AllOwed.{same_time}
 use Rattle.audit_law.proofs.Debts.{due_by_part, due_in, one_due}
 use Rattle.audit_law.proofs.Determined.{due_is_determined}
 use Rattle.audit_law.specs.DebtLaws.{AreOwed}
@@ -19,10 +19,6 @@ use Rattle.wire_judge.specs.Signals.{ShowsByCause}
 abbrev first_of : List ℕ → ℕ
 first_of [] = 0
 first_of (t ∷ rest) = t
-
--- records at one place are of one time
-pub same_time : (x y : Happening) → place_of x ≡ place_of y → time_of x ≡ time_of y
-same_time x y same = ap first_of same
 
 -- a debt falls due at one time, however it is owed
 pub one_time : {O : Type 0} (s : Scenario) (hs : List Happening) (until : ℕ) (IsDueSo : List Happening → Happening → Type 0) (IsOwed : O → Type 0)
@@ -55,18 +51,6 @@ pub shows_by_cause : (s : Scenario) (hs : List Happening) (n : ℕ) (h : Happeni
 shows_by_cause s hs n h founded there =
     let at = founded_at s hs h founded (numbered_in hs n h there) in
     (at.front, at.due.same)
-
-pub not_both : (b : Bool) → b ≡ false → b ≡ true → ⊥
-not_both true e f = cc
-not_both false e f = cc
-
-pub false_of_not : (b : Bool) → not b ≡ true → b ≡ false
-false_of_not true e = absurd cc
-false_of_not false e = refl
-
-pub not_of_false : (b : Bool) → b ≡ false → not b ≡ true
-not_of_false true e = absurd cc
-not_of_false false e = refl
 
 -- a debt that is owed is paid exactly where a record stands at the place of what is due by it
 pub paid_at_place : {O : Type 0} (s : Scenario) (hs : List Happening) (until : ℕ) (IsDueSo : List Happening → Happening → Type 0) (IsOwed : O → Type 0)

@@ -1,10 +1,8 @@
 -- What arrives is owed: wires take time, so it is behind the record that put it there.
-use Rattle.std.proofs.Common.{◌≡◌, ◌∙◌, ◌⊎◌, inl, ℕ, ◌<◌, ◌≤◌, pos, ◌≤ℤ◌, ◌<ℤ◌, ◌+ℤ◌, List, Option, Some, None, refl, sym, subst, ap, arith}
+use Rattle.std.proofs.Common.{◌≡◌, ◌⊎◌, inl, ℕ, ◌<◌, ◌≤◌, pos, ◌≤ℤ◌, ◌<ℤ◌, ◌+ℤ◌, List, Option, Some, None, refl, subst, ap, arith}
 use Rattle.std.specs.Prelude.{option_map}
 use Rattle.std.specs.Option.{option_map_or}
 use Rattle.std.proofs.lemmas.Int.{by_lt_z, ints}
-use Rattle.std.proofs.lemmas.Option.{same_Some}
-use Rattle.net_plan.proofs.Trees.{closed}
 use Rattle.net_plan.specs.Places.{link_at}
 use Rattle.net_plan.specs.Ranges.{IsInRange, IsLinkInRange}
 use Rattle.net_plan.specs.declared.event.Event.{Event}
@@ -21,14 +19,12 @@ use Rattle.run_law.specs.scenario.Hypothesis.{AreWithinHypothesis}
 use Rattle.run_law.specs.scenario.Scenarios.{Scenario}
 use Rattle.run_law.specs.scenario.Ways.{delay_at, wire_of, wire_set}
 use Rattle.run_law.specs.timed.Receptions.{arrival_of}
-use Rattle.schedule_tables.proofs.EntryLemmas.{all_at}
 use Rattle.schedule_tables.specs.Entries.{target_by}
+use Rattle.tte_lemmas.proofs.Lists.{in_all}
+use Rattle.tte_lemmas.proofs.Options.{closed, one}
 use Rattle.tte_units.specs.Amount.{amount}
 use Rattle.wire_judge.specs.Receptions.{IsOwedArrival, IsReceivedBy}
 use Rattle.wire_judge.specs.declared.receiving.Reception.{Reception}
-
-one : {X : Type 0} (o : Option X) (x y : X) → o ≡ Some x → o ≡ Some y → x ≡ y
-one o x y a b = same_Some _ _ (sym a ∙ b)
 
 there_is : {X Y : Type 0} (f : X → Y) (o : Option X) (y : Y) → option_map f o ≡ Some y → (x : X) × (o ≡ Some x)
 there_is f None y e = absurd cc
@@ -64,7 +60,7 @@ comes_behind : (s : Scenario) (h : Happening) (r : Reception) (signal : Signal) 
 comes_behind s h r signal range within x =
     let l = there_is (target_by x.way) (link_at s.network r.link) r.device x.receiver in
     let least = delay_least s r.link l.0 x.way (time_of h) within l.1
-    (all_at (IsLinkInRange s.network) s.network.link r.link.0 l.0 range.links l.1).wire.least in
+    (in_all (IsLinkInRange s.network) s.network.link r.link.0 l.0 range.links l.1).wire.least in
     let at = x.at in
     omega (arith, least, at)
 

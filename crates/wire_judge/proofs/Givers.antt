@@ -1,9 +1,11 @@
 -- The devices that give frames to links.
-use Rattle.std.proofs.Common.{◌≡◌, ◌⊎◌, inl, inr, ℕ, ◌==◌, Bool, true, false, ◌&&◌, ◌||◌, Option, Some, None, refl, sym, subst, ap, arith}
+use Rattle.std.proofs.Common.{◌≡◌, ◌⊎◌, inl, inr, ◌==◌, Bool, true, false, ◌&&◌, ◌||◌, Option, Some, None, refl, sym, subst, ap, arith}
+use Rattle.std.proofs.lemmas.Bool.{and_from, and_parts, or_cases, or_left, or_right}
 use Rattle.std.specs.Prelude.{if◌then◌else◌, IsSomeAnd}
 use Rattle.std.specs.Option.{option_map_or}
 use Rattle.std.proofs.lemmas.Option.{same_Some, slice_get_within}
 use Rattle.kept_records.specs.Keeping.{kept_of}
+use Rattle.net_plan.proofs.TableFacts.{link_there}
 use Rattle.net_plan.specs.Belonging.{HasLink}
 use Rattle.net_plan.specs.Places.{link_at}
 use Rattle.net_plan.specs.Rules.{IsChildOf}
@@ -12,6 +14,7 @@ use Rattle.net_plan.specs.declared.ids.DeviceId.{DeviceId}
 use Rattle.net_plan.specs.declared.ids.LinkId.{LinkId}
 use Rattle.net_plan.specs.declared.network.Network.{Network}
 use Rattle.net_plan.specs.declared.tables.Link.{Link}
+use Rattle.run_law.proofs.scenario.Devices.{end_is, parent_shown, shown_parent}
 use Rattle.run_law.specs.control.Leaving.{Gives, Passes}
 use Rattle.run_law.specs.declared.note.NoteBody.TheVariants as notes
 use Rattle.run_law.specs.declared.note.NoteBody.{NoteBody}
@@ -20,16 +23,8 @@ use Rattle.wire_judge.specs.Departings.{giver, is_child_of, passes}
 
 -- ---- tests
 
-alike : (d e : DeviceId) → (d.0 == e.0) ≡ true → d ≡ e
-alike d e b = let n : d.0 ≡ e.0 = grind (arith, b) in ap (λ (k : ℕ). let x : DeviceId = record { 0 = k } in x) n
-
 alike_test : (d e : DeviceId) → d ≡ e → (d.0 == e.0) ≡ true
 alike_test d e s = let n : d.0 ≡ e.0 = ap (λ (x : DeviceId). x.0) s in grind (arith, n)
-
-end_is : (end_of : Link → DeviceId) (o : Option Link) (device : DeviceId) → option_map_or (λ l. (end_of l).0 == device.0) o false ≡ true
-    → IsSomeAnd o (λ l. end_of l ≡ device)
-end_is end_of None device e = absurd cc
-end_is end_of (Some l) device e = alike (end_of l) device e
 
 end_test : (end_of : Link → DeviceId) (o : Option Link) (device : DeviceId) → IsSomeAnd o (λ l. end_of l ≡ device)
     → option_map_or (λ l. (end_of l).0 == device.0) o false ≡ true
@@ -42,46 +37,16 @@ child_is network device link e = end_is (λ (l : Link). l.child) (link_at networ
 child_test : (network : Network) (device : DeviceId) (link : LinkId) → IsChildOf network device link → is_child_of network device link ≡ true
 child_test network device link e = end_test (λ (l : Link). l.child) (link_at network link) device e
 
-parent_is : (network : Network) (device : DeviceId) (link : LinkId) → is_parent_of network device link ≡ true → IsParentOf network device link
-parent_is network device link e = end_is (λ (l : Link). l.parent) (link_at network link) device e
-
-parent_test : (network : Network) (device : DeviceId) (link : LinkId) → IsParentOf network device link → is_parent_of network device link ≡ true
-parent_test network device link e = end_test (λ (l : Link). l.parent) (link_at network link) device e
-
-and_is : (a b : Bool) → (a && b) ≡ true → (a ≡ true) × (b ≡ true)
-and_is true true e = (refl, refl)
-and_is true false e = absurd cc
-and_is false b e = absurd cc
-
-and_test : (a b : Bool) → a ≡ true → b ≡ true → (a && b) ≡ true
-and_test true true e f = refl
-and_test true false e f = absurd cc
-and_test false b e f = absurd cc
-
-or_is : (a b : Bool) → (a || b) ≡ true → (a ≡ true) ⊎ (b ≡ true)
-or_is true b e = inl refl
-or_is false true e = inr refl
-or_is false false e = absurd cc
-
-or_test_left : (a b : Bool) → a ≡ true → (a || b) ≡ true
-or_test_left true b e = refl
-or_test_left false b e = absurd cc
-
-or_test_right : (a b : Bool) → b ≡ true → (a || b) ≡ true
-or_test_right true b e = refl
-or_test_right false true e = refl
-or_test_right false false e = absurd cc
-
 passes_is : (network : Network) (device : DeviceId) (by link : LinkId) → passes network device by link ≡ true → Passes network device by link
 passes_is network device by link e =
-    let both = and_is (is_relay network device) _ e in
+    let both = and_parts (is_relay network device) _ e in
     record {
       relay = both.0;
-      on = elim (or_is (is_parent_of network device by && is_child_of network device link) (is_child_of network device by && is_parent_of network device link) both.1) [
-        | inl a ↦ let x = and_is (is_parent_of network device by) (is_child_of network device link) a in
-            inl (parent_is network device by x.0, child_is network device link x.1)
-        | inr a ↦ let x = and_is (is_child_of network device by) (is_parent_of network device link) a in
-            inr (child_is network device by x.0, parent_is network device link x.1)
+      on = elim (or_cases (is_parent_of network device by && is_child_of network device link) (is_child_of network device by && is_parent_of network device link) both.1) [
+        | inl a ↦ let x = and_parts (is_parent_of network device by) (is_child_of network device link) a in
+            inl (parent_shown network device by x.0, child_is network device link x.1)
+        | inr a ↦ let x = and_parts (is_child_of network device by) (is_parent_of network device link) a in
+            inr (child_is network device by x.0, parent_shown network device link x.1)
       ];
     }
 
@@ -89,14 +54,14 @@ on_test : (network : Network) (device : DeviceId) (by link : LinkId)
     → (IsParentOf network device by × IsChildOf network device link) ⊎ (IsChildOf network device by × IsParentOf network device link)
     → ((is_parent_of network device by && is_child_of network device link) || (is_child_of network device by && is_parent_of network device link)) ≡ true
 on_test network device by link (inl p) =
-    or_test_left (is_parent_of network device by && is_child_of network device link) (is_child_of network device by && is_parent_of network device link)
-    (and_test (is_parent_of network device by) (is_child_of network device link) (parent_test network device by p.0) (child_test network device link p.1))
+    or_left (is_parent_of network device by && is_child_of network device link) (is_child_of network device by && is_parent_of network device link)
+    (and_from (is_parent_of network device by) (is_child_of network device link) (shown_parent network device by p.0) (child_test network device link p.1))
 on_test network device by link (inr p) =
-    or_test_right (is_parent_of network device by && is_child_of network device link) (is_child_of network device by && is_parent_of network device link)
-    (and_test (is_child_of network device by) (is_parent_of network device link) (child_test network device by p.0) (parent_test network device link p.1))
+    or_right (is_parent_of network device by && is_child_of network device link) (is_child_of network device by && is_parent_of network device link)
+    (and_from (is_child_of network device by) (is_parent_of network device link) (child_test network device by p.0) (shown_parent network device link p.1))
 
 passes_test : (network : Network) (device : DeviceId) (by link : LinkId) → Passes network device by link → passes network device by link ≡ true
-passes_test network device by link p = and_test (is_relay network device) _ p.relay (on_test network device by link p.on)
+passes_test network device by link p = and_from (is_relay network device) _ p.relay (on_test network device by link p.on)
 
 -- ---- who gives
 
@@ -116,7 +81,7 @@ gives network (notes.Sent master cycle) device link e =
     (x.1, subst (λ (d : DeviceId). IsChildOf network d link) (sym x.1) (child_is network master link x.0))
 gives network (notes.Compressed cm opened at cycle members verdict) device link e =
     let x = chosen (is_parent_of network cm link) cm device e in
-    (x.1, subst (λ (d : DeviceId). IsParentOf network d link) (sym x.1) (parent_is network cm link x.0))
+    (x.1, subst (λ (d : DeviceId). IsParentOf network d link) (sym x.1) (parent_shown network cm link x.0))
 gives network (notes.Arrived relay by cause clock) device link e =
     let x = chosen (passes network relay by link) relay device e in
     (x.1, subst (λ (d : DeviceId). Passes network d by link) (sym x.1) (passes_is network relay by link x.0))
@@ -132,7 +97,7 @@ given network (notes.Sent master cycle) device link g =
     (subst (λ (d : DeviceId). is_child_of network d link ≡ true) g.0 (child_test network device link g.1)) g.0
 given network (notes.Compressed cm opened at cycle members verdict) device link g =
     choose (is_parent_of network cm link) cm device
-    (subst (λ (d : DeviceId). is_parent_of network d link ≡ true) g.0 (parent_test network device link g.1)) g.0
+    (subst (λ (d : DeviceId). is_parent_of network d link ≡ true) g.0 (shown_parent network device link g.1)) g.0
 given network (notes.Arrived relay by cause clock) device link g =
     choose (passes network relay by link) relay device
     (subst (λ (d : DeviceId). passes network d by link ≡ true) g.0 (passes_test network device by link g.1)) g.0
@@ -140,11 +105,7 @@ given network other device link g = absurd g
 
 -- ---- the link is there
 
-link_there : (o : Option Link) (P : Link → Type 0) → IsSomeAnd o P → (l : Link) × (o ≡ Some l)
-link_there None P p = absurd p
-link_there (Some l) P p = (l, refl)
-
-within : (network : Network) (link : LinkId) (P : Link → Type 0) → IsSomeAnd (link_at network link) P → HasLink network link
+pub within : (network : Network) (link : LinkId) (P : Link → Type 0) → IsSomeAnd (link_at network link) P → HasLink network link
 within network link P p = let l = link_there (link_at network link) P p in slice_get_within network.link link.0 l.0 l.1
 
 passes_within : (network : Network) (device : DeviceId) (by link : LinkId)

@@ -1,6 +1,5 @@
 -- When control frames leave, and what becomes of them.
-use Rattle.std.proofs.Common.{◌≡◌, ◌∙◌, ℕ, ◌+◌, ◌<◌, ◌≤◌, true, false, List, Option, Some, None, refl, sym, subst, ap, arith}
-use Rattle.std.proofs.lemmas.Option.{same_Some}
+use Rattle.std.proofs.Common.{◌≡◌, ◌∙◌, ℕ, ◌+◌, ◌<◌, ◌≤◌, true, false, List, Some, refl, sym, subst, ap, arith}
 use Rattle.audit_law.specs.Departures.{OwesDeparture, leaves_at}
 use Rattle.kept_records.specs.Keeping.{record_of}
 use Rattle.kept_records.specs.declared.kept.KeptRecord.{KeptRecord}
@@ -11,11 +10,9 @@ use Rattle.run_law.specs.control.Leaving.{Departs, Departure, Gives, departure}
 use Rattle.run_law.specs.records.Happenings.{Happening, numbered}
 use Rattle.run_law.specs.scenario.Scenarios.{Scenario, is_broken}
 use Rattle.run_law.specs.scenario.Ways.{hold_at, way_from}
+use Rattle.tte_lemmas.proofs.Options.{one}
 use Rattle.wire_judge.proofs.Givers.{given, gives}
 use Rattle.wire_judge.specs.Departings.{IsLeaving, giver}
-
-one : {X : Type 0} (o : Option X) (x y : X) → o ≡ Some x → o ≡ Some y → x ≡ y
-one o x y a b = same_Some _ _ (sym a ∙ b)
 
 -- ---- what is kept tells it
 
@@ -44,19 +41,6 @@ owed_giver : (s : Scenario) (hs : List Happening) (h : Happening) (r : KeptRecor
 owed_giver s hs h r until cause link there k o =
     giver_by s h r o.device link k
     (subst (λ (g : Happening). Gives s.network g.note.body o.device link) (one (numbered hs cause) o.giving h o.there there) o.gives)
-
--- a record with no frame gives none
-pub frameless : (s : Scenario) (hs : List Happening) (h : Happening) (r : KeptRecord) (until cause : ℕ) (link : LinkId) → numbered hs cause ≡ Some h
-    → r ≡ record_of h → r.frame ≡ None → OwesDeparture s hs until cause link → ⊥
-frameless s hs h r until cause link there k none o =
-    let same = one (numbered hs cause) o.giving h o.there there in
-    let clash = sym o.of_frame ∙ ap (λ (g : Happening). g.frame) same ∙ sym (ap (λ (q : KeptRecord). q.frame) k) ∙ none in cc
-
--- no device gives it
-pub ungiven : (s : Scenario) (hs : List Happening) (h : Happening) (r : KeptRecord) (until cause : ℕ) (link : LinkId) → numbered hs cause ≡ Some h
-    → r ≡ record_of h → giver s.network link r.kept ≡ None → OwesDeparture s hs until cause link → ⊥
-ungiven s hs h r until cause link there k none o =
-    let clash = sym none ∙ owed_giver s hs h r until cause link there k o in cc
 
 owed_leaves : (s : Scenario) (hs : List Happening) (h : Happening) (r : KeptRecord) (until cause : ℕ) (link : LinkId) (device : DeviceId)
     → numbered hs cause ≡ Some h → r ≡ record_of h → giver s.network link r.kept ≡ Some device → (o : OwesDeparture s hs until cause link)
@@ -117,12 +101,6 @@ departs_giver : (s : Scenario) (hs : List Happening) (h : Happening) (r : KeptRe
 departs_giver s hs h r device t link cause is there k x =
     giver_by s h r device link k
     (subst (λ (g : Happening). Gives s.network g.note.body device link) (one (numbered hs cause) x.giving h x.there there) x.gives)
-
-pub no_frame_departs : (s : Scenario) (hs : List Happening) (h : Happening) (r : KeptRecord) (device : DeviceId) (t : ℕ) (link : LinkId) (cause : ℕ)
-    → numbered hs cause ≡ Some h → r ≡ record_of h → r.frame ≡ None → (is : Departure) → Departs s hs device t link cause is → ⊥
-no_frame_departs s hs h r device t link cause there k none is x =
-    let same = one (numbered hs cause) x.giving h x.there there in
-    let clash = sym x.of_frame ∙ ap (λ (g : Happening). g.frame) same ∙ sym (ap (λ (q : KeptRecord). q.frame) k) ∙ none in cc
 
 pub not_given_departs : (s : Scenario) (hs : List Happening) (h : Happening) (r : KeptRecord) (device : DeviceId) (t : ℕ) (link : LinkId) (cause : ℕ)
     → numbered hs cause ≡ Some h → r ≡ record_of h → (giver s.network link r.kept ≡ Some device → ⊥) → (is : Departure)

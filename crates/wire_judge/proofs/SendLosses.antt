@@ -1,5 +1,5 @@
 -- What is lost of `send` events.
-use Rattle.std.proofs.Common.{◌≡◌, ◌∙◌, ℕ, ◌<◌, true, false, List, slice_get, Option, Some, None, refl, sym, subst, ap, arith}
+use Rattle.std.proofs.Common.{◌≡◌, ◌∙◌, ℕ, true, false, List, slice_get, Option, Some, None, refl, sym, subst, ap, arith}
 use Rattle.std.proofs.lemmas.Option.{same_Some}
 use Rattle.audit_law.specs.LostSends.{OwesLoss}
 use Rattle.kept_records.specs.Keeping.{kept_of, record_of}
@@ -17,11 +17,9 @@ use Rattle.run_law.specs.declared.note.NoteBody.{NoteBody}
 use Rattle.run_law.specs.records.Happenings.{Happening, numbered, time_of}
 use Rattle.run_law.specs.scenario.Scenarios.{Scenario}
 use Rattle.run_law.specs.scenario.Ways.{is_cut}
+use Rattle.tte_lemmas.proofs.Options.{one}
 use Rattle.wire_judge.specs.Departings.{IsLostAt}
 use Rattle.wire_judge.specs.declared.leaving.Leaving.{Leaving}
-
-one : {X : Type 0} (o : Option X) (x y : X) → o ≡ Some x → o ≡ Some y → x ≡ y
-one o x y a b = same_Some _ _ (sym a ∙ b)
 
 -- the link on which a `send` event sends
 abbrev pub sent_on : Kept → Option LinkId
@@ -44,29 +42,6 @@ lost_on s hs h r device t link cause there k x =
           ∙ ap (λ (b : NoteBody). sent_on (kept_of b)) x.sends,
       sym x.is.same_time ∙ ap time_of same ∙ sym (ap (λ (q : KeptRecord). q.time) k),
     )
-
--- the record is no `send` event
-pub no_send : (s : Scenario) (hs : List Happening) (h : Happening) (r : KeptRecord) (until cause : ℕ) → numbered hs cause ≡ Some h → r ≡ record_of h
-    → sent_on r.kept ≡ None → OwesLoss s hs until cause → ⊥
-no_send s hs h r until cause there k none o =
-    let clash = sym none ∙ (lost_on s hs h r o.device o.time o.link cause there k o.lost).0 in cc
-
--- there is no such link
-pub no_link : (s : Scenario) (hs : List Happening) (h : Happening) (r : KeptRecord) (until cause : ℕ) (link : LinkId) → numbered hs cause ≡ Some h
-    → r ≡ record_of h → sent_on r.kept ≡ Some link → slice_get s.network.link link.0 ≡ None → OwesLoss s hs until cause → ⊥
-no_link s hs h r until cause link there k by none o =
-    let same = one _ _ _ by (lost_on s hs h r o.device o.time o.link cause there k o.lost).0 in
-    let gone = subst (λ (l : LinkId). slice_get s.network.link l.0 ≡ None) same none in
-    let clash = sym gone ∙ o.lost.there in cc
-
--- it comes later
-pub comes_later : (s : Scenario) (hs : List Happening) (h : Happening) (r : KeptRecord) (until cause : ℕ) → numbered hs cause ≡ Some h
-    → r ≡ record_of h → until < r.time → OwesLoss s hs until cause → ⊥
-comes_later s hs h r until cause there k late o =
-    let e = (lost_on s hs h r o.device o.time o.link cause there k o.lost).1 in
-    let le = o.timely in
-    let lt = late in
-    grind (arith, e, le, lt)
 
 -- the way is whole
 pub whole_way : (s : Scenario) (hs : List Happening) (h : Happening) (r : KeptRecord) (until cause : ℕ) (link : LinkId) → numbered hs cause ≡ Some h

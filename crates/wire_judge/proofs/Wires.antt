@@ -1,7 +1,6 @@
 -- Where and when what a record puts on a wire arrives.
-use Rattle.std.proofs.Common.{◌≡◌, ◌∙◌, ℕ, ◌+◌, ◌<◌, ◌≤◌, true, false, Option, Some, None, refl, sym, subst, ap, arith}
+use Rattle.std.proofs.Common.{◌≡◌, ◌∙◌, ℕ, ◌+◌, ◌<◌, ◌≤◌, true, false, Some, None, refl, sym, subst, ap, arith}
 use Rattle.std.specs.Prelude.{option_map}
-use Rattle.std.proofs.lemmas.Option.{same_Some}
 use Rattle.kept_records.specs.Keeping.{kept_of, record_of}
 use Rattle.kept_records.specs.declared.kept.KeptRecord.{KeptRecord}
 use Rattle.net_plan.specs.Places.{link_at}
@@ -14,14 +13,12 @@ use Rattle.run_law.specs.records.Happenings.{Happening, time_of}
 use Rattle.run_law.specs.scenario.Scenarios.{Scenario}
 use Rattle.run_law.specs.scenario.Ways.{delay_at, receiver_of}
 use Rattle.schedule_tables.specs.Entries.{target_by}
+use Rattle.tte_lemmas.proofs.Options.{one}
 use Rattle.wire_judge.proofs.Launching.{by_cause, launched_put, put_launched}
 use Rattle.wire_judge.specs.Receptions.{IsArriving, IsAt, IsReception}
 use Rattle.wire_judge.specs.Signals.{ShowsByCause, on_wire_of, port_time, put_by, put_of, stops}
 use Rattle.wire_judge.specs.declared.putting.Put.{Put}
 use Rattle.wire_judge.specs.declared.receiving.Reception.{Reception}
-
-one : {X : Type 0} (o : Option X) (x y : X) → o ≡ Some x → o ≡ Some y → x ≡ y
-one o x y a b = same_Some _ _ (sym a ∙ b)
 
 -- ---- what arrives is told
 
@@ -37,12 +34,6 @@ goes_on : (s : Scenario) (h : Happening) (r : KeptRecord) (device : DeviceId) (l
 goes_on s h r device link t signal shown k x =
     ap (λ (q : KeptRecord). stops s q.time link q.kept) k
     ∙ (launched_put s h (time_of h) h.note.body (record { link = link; way = x.way; signal = signal }) (by_cause s.network h shown) x.put).1
-
--- nothing is put on a wire
-pub none_put : (s : Scenario) (h : Happening) (r : KeptRecord) → ShowsByCause s.network h → r ≡ record_of h → put_by s.network r r.kept ≡ None
-    → (device : DeviceId) (link : LinkId) (t : ℕ) (signal : Signal) → Arrives s h device link t signal → ⊥
-none_put s h r shown k none device link t signal x =
-    let there = sym none ∙ put_is s h r device link t signal shown k x in cc
 
 -- the wire is of no link
 pub no_wire : (s : Scenario) (h : Happening) (r : KeptRecord) (put : Put) → ShowsByCause s.network h → r ≡ record_of h

@@ -7,22 +7,23 @@ use Rattle.net_plan.specs.declared.tables.Device.{Device}
 use Rattle.net_plan.specs.declared.tables.Way.TheVariants.{Up, Down}
 use Rattle.net_plan.specs.declared.tables.Way.{Way}
 use Rattle.std.proofs.Math.Dec.{leb-zero}
+use Rattle.std.proofs.lemmas.Bool.{leb-true}
 use Rattle.std.proofs.lemmas.Int.{ints}
 use Rattle.std.specs.List.{list_all}
 use Rattle.std.specs.Prelude.{codes, is_some, nat_le}
 use Rattle.tte_units.specs.Amount.{units_of}
 use Rattle.tte_units.specs.declared.units.Units.{Units}
-use Rattle.worked_network.proofs.Lists.{all_each, le_by}
+use Rattle.worked_network.proofs.Lists.{all_each}
 use Rattle.worked_network.specs.Worked.{link_of, row_of, worked}
 
 within : (low high n : ℕ) → nat_le low n ≡ true → nat_le n high ≡ true → IsWithin low high (units_of n)
 within low high n least most =
-    let lower = le_by low n least in
-    let upper = le_by n high most in
+    let lower = leb-true low n least in
+    let upper = leb-true n high most in
     record { least = omega (arith, ints, lower); most = omega (arith, ints, upper) }
 
 name_of : (text : List ℕ) → nat_le 1 (length text) ≡ true → nat_le (length text) 16 ≡ true → list_all is_name_character text ≡ true → IsNameText text
-name_of text some short plain = record { some = le_by 1 (length text) some; short = le_by (length text) 16 short; plain = plain }
+name_of text some short plain = record { some = leb-true 1 (length text) some; short = leb-true (length text) 16 short; plain = plain }
 
 device_in : (d : Device) → IsNameText d.name → is_some d.member ≡ is_master d.role → IfSome d.member (λ m. m ≤ 31)
     → is_some d.channel ≡ not (is_end_system d.role) → d.start ≡ Some (units_of 0) → IsDeviceInRange d
@@ -37,8 +38,8 @@ device_in d name masters member switches start = record {
 link_in : (text : List ℕ) (child parent : ℕ) → IsNameText text → nat_le (child + 1) 9 ≡ true → nat_le (parent + 1) 9 ≡ true
     → IsLinkInRange worked (link_of text child parent)
 link_in text child parent name few_child few_parent =
-    let c = le_by (child + 1) 9 few_child in
-    let p = le_by (parent + 1) 9 few_parent in
+    let c = leb-true (child + 1) 9 few_child in
+    let p = leb-true (parent + 1) 9 few_parent in
     record {
       name = name;
       child = omega (arith, c);
@@ -50,14 +51,14 @@ link_in text child parent name few_child few_parent =
 
 row_in : (link : ℕ) (way : Way) (offset : ℕ) → nat_le (link + 1) 12 ≡ true → nat_le offset (2 ^ 40) ≡ true → IsRowInRange worked (row_of link way offset)
 row_in link way offset few low =
-    let l = le_by (link + 1) 12 few in
-    record { vl = le_by 1 1 refl; link = omega (arith, l); offset = within 0 (2 ^ 40) offset (leb-zero offset) low }
+    let l = leb-true (link + 1) 12 few in
+    record { vl = leb-true 1 1 refl; link = omega (arith, l); offset = within 0 (2 ^ 40) offset (leb-zero offset) low }
 
 pub worked_in_range : IsInRange worked
 worked_in_range = record {
   version = inl refl;
   cycle = within (2 ^ 32) (2 ^ 40) 131072000000 refl refl;
-  rho = le_by 50000 1000000 refl;
+  rho = leb-true 50000 1000000 refl;
   grain = within 1 1048576 1 refl refl;
   dmax = within 1 (2 ^ 40) 3276800000 refl refl;
   calc = within 1 (2 ^ 40) 65536000 refl refl;
@@ -65,21 +66,21 @@ worked_in_range = record {
   precision = within 1 (2 ^ 40) 1048576000 refl refl;
   correction = within 0 (2 ^ 40) 18350080000 refl refl;
   tt_start = within 0 (2 ^ 40) 26542080000 refl refl;
-  marker = le_by (0x03040506 + 1) (2 ^ 32) refl;
-  threshold_least = le_by 1 3 refl;
-  threshold_most = le_by 3 31 refl;
-  few_devices = le_by 10 (2 ^ 32) refl;
-  few_links = le_by 13 (2 ^ 32) refl;
-  few_vls = le_by 2 (2 ^ 32) refl;
-  few_rows = le_by 5 (2 ^ 32) refl;
+  marker = leb-true (0x03040506 + 1) (2 ^ 32) refl;
+  threshold_least = leb-true 1 3 refl;
+  threshold_most = leb-true 3 31 refl;
+  few_devices = leb-true 10 (2 ^ 32) refl;
+  few_links = leb-true 13 (2 ^ 32) refl;
+  few_vls = leb-true 2 (2 ^ 32) refl;
+  few_rows = leb-true 5 (2 ^ 32) refl;
   devices = all_each IsDeviceInRange worked.device (
-    device_in _ (name_of (codes "m1") refl refl refl) refl (le_by 0 31 refl) refl refl,
+    device_in _ (name_of (codes "m1") refl refl refl) refl (leb-true 0 31 refl) refl refl,
     (
-      device_in _ (name_of (codes "m2") refl refl refl) refl (le_by 1 31 refl) refl refl,
+      device_in _ (name_of (codes "m2") refl refl refl) refl (leb-true 1 31 refl) refl refl,
       (
-        device_in _ (name_of (codes "m3") refl refl refl) refl (le_by 2 31 refl) refl refl,
+        device_in _ (name_of (codes "m3") refl refl refl) refl (leb-true 2 31 refl) refl refl,
         (
-          device_in _ (name_of (codes "m4") refl refl refl) refl (le_by 3 31 refl) refl refl,
+          device_in _ (name_of (codes "m4") refl refl refl) refl (leb-true 3 31 refl) refl refl,
           (
             device_in _ (name_of (codes "c1") refl refl refl) refl (tt) refl refl,
             (
@@ -140,16 +141,16 @@ worked_in_range = record {
   vls = all_each (IsVlInRange worked) worked.vl (
     record {
       name = name_of (codes "v1") refl refl refl;
-      id = le_by 2 (2 ^ 16) refl;
-      length_least = le_by 60 60 refl;
-      length_most = le_by 60 1514 refl;
-      ethertype_least = le_by 1536 2048 refl;
-      ethertype_most = le_by 2049 (2 ^ 16) refl;
+      id = leb-true 2 (2 ^ 16) refl;
+      length_least = leb-true 60 60 refl;
+      length_most = leb-true 60 1514 refl;
+      ethertype_least = leb-true 1536 2048 refl;
+      ethertype_most = leb-true 2049 (2 ^ 16) refl;
       ethertype_other = λ e. absurd (omega (arith, e));
-      sender = le_by 1 9 refl;
-      period_least = le_by 1 1 refl;
-      period_most = le_by 1 64 refl;
-      phase = le_by 0 63 refl;
+      sender = leb-true 1 9 refl;
+      period_least = leb-true 1 1 refl;
+      period_most = leb-true 1 64 refl;
+      phase = leb-true 0 63 refl;
     },
     tt,
   );

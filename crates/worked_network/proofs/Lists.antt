@@ -1,10 +1,8 @@
 -- What holds of each entry of a list that is written out.
-use Rattle.std.proofs.Common.{◌≡◌, ℕ, zero, suc, ◌≤◌, ◌<◌, true, List, [], ◌∷◌, Some, None, subst, slice_get, if◌then◌else◌, IsSomeAnd, arith}
+use Rattle.std.proofs.Common.{◌≡◌, ℕ, zero, suc, ◌<◌, List, [], ◌∷◌, Some, None, subst, slice_get, if◌then◌else◌, IsSomeAnd, arith}
 use Rattle.std.proofs.lemmas.Option.{same_Some}
-use Rattle.std.proofs.lemmas.Bool.{leb-true}
 use Rattle.std.proofs.lemmas.List.Elements.{All-cons, All-nil}
 use Rattle.std.specs.List.{All}
-use Rattle.std.specs.Prelude.{nat_le}
 use Rattle.std.specs.Str.{bytes_eq}
 
 -- this holds of each entry and its place
@@ -38,9 +36,6 @@ numbered_apart {X} f xs all j k x y lt at_j at_k same =
 abbrev pub place_in : List (List ℕ) → List ℕ → ℕ
 place_in [] text = 0
 place_in (t ∷ ts) text = if bytes_eq t text then 0 else suc (place_in ts text)
-
-pub le_by : (a b : ℕ) → nat_le a b ≡ true → a ≤ b
-le_by a b e = leb-true a b e
 
 -- this holds of each entry
 abbrev pub AllEach : {X : Type 0} → (X → Type 0) → List X → Type 0

@@ -1,8 +1,8 @@
 -- The rough day of the worked network is one of which the laws on runs speak.
 use Rattle.std.proofs.Common.{◌≡◌, ℕ, ◌+◌, ◌*◌, ◌-◌, ◌^◌, pos, ◌≤◌, ◌<◌, true, refl, sym, ap, subst, ◌∙◌, inl, inr, arith, List, [], ◌∷◌, ◌++◌}
-use Rattle.drift_clock.proofs.Readings.{IsLawful as KeepsCounts, begins_at_zero, keeps_clock_laws}
+use Rattle.std.proofs.lemmas.Bool.{leb-true}
+use Rattle.drift_clock.proofs.Readings.{begins_at_zero, keeps_clock_laws}
 use Rattle.drift_clock.specs.Segment.{fresh_segment, segment_count, segment_reading, stepped_segment}
-use Rattle.drift_clock.specs.SegmentLaws.{advances, counts_time, keeps_count}
 use Rattle.net_plan.specs.Belonging.{IsOfNetwork}
 use Rattle.net_plan.specs.declared.event.Event.{Event}
 use Rattle.net_plan.specs.Places.{device_at, is_master}
@@ -22,11 +22,13 @@ use Rattle.run_law.specs.declared.outside.Outside.TheVariants.{Order, Late, Rate
 use Rattle.std.specs.Prelude.{◌<ℤ◌, IsSomeAnd}
 use Rattle.std.specs.List.{All}
 use Rattle.std.proofs.lemmas.Int.{ints}
+use Rattle.drift_clock.proofs.ExactSegments.{exact_steps}
+use Rattle.net_plan.proofs.TableFacts.{none_told}
 use Rattle.safe_runs.proofs.Lawful.{lawful}
 use Rattle.safe_runs.specs.Under.{IsUnder}
 use Rattle.worked_network.proofs.Accepted.{worked_keeps_rules}
 use Rattle.worked_network.proofs.InRange.{worked_in_range}
-use Rattle.worked_network.proofs.Lists.{all_each, le_by}
+use Rattle.worked_network.proofs.Lists.{all_each}
 use Rattle.worked_network.proofs.Shape.{no_off_switch}
 use Rattle.worked_network.specs.Worked.{rough_day, rough_events, worked}
 
@@ -41,16 +43,12 @@ the_end = record { time = units_of (20 * 131072000000 - 1); what = events.End }
 
 -- ---- lists of one and two events
 
-no_part : (front behind : List Event) (e : Event) → [] ≡ front ++ e ∷ behind → ⊥
-no_part [] behind e same = cc
-no_part (f ∷ front) behind e same = cc
-
 last_of_one : (x : Event) (front behind : List Event) (last : Event) → x ∷ [] ≡ front ++ last ∷ behind → x ≡ last
 last_of_one x [] behind last same = let it : x ∷ [] ≡ last ∷ behind = same in cc
 last_of_one x (f ∷ front) behind last same =
     let it : x ∷ [] ≡ f ∷ (front ++ last ∷ behind) = same in
     let rest : [] ≡ front ++ last ∷ behind = cc in
-    absurd (no_part front behind last rest)
+    absurd (none_told front behind last rest)
 
 last_of_two : (x y : Event) (front : List Event) (last : Event) → x ∷ y ∷ [] ≡ front ++ last ∷ [] → y ≡ last
 last_of_two x y [] last same = let it : x ∷ y ∷ [] ≡ last ∷ [] = same in absurd cc
@@ -65,7 +63,7 @@ none_broken : (device : DeviceId) → IsBroken [] device → ⊥
 none_broken device broken = let lt = broken.2 in omega (arith, lt)
 
 break_within : IsWithinHypothesis worked [] the_break
-break_within Order v = no_part v.front [] v.last v.order
+break_within Order v = none_told v.front [] v.last v.order
 break_within Late v = let late : pos (2 ^ 20 * 131072000000) <ℤ pos 131072000000 = v in omega (arith, ints, late)
 break_within Rate v = absurd (let bad : events.Break (record { 0 = 3 }) ≡ events.Rate v.device v.rate = v.what in cc)
 break_within Wire v = absurd (let bad : events.Break (record { 0 = 3 }) ≡ events.Wire v.link v.way v.delay = v.what in cc)
@@ -142,7 +140,7 @@ all_within (b ∷ c ∷ []) behind e same =
 all_within (b ∷ c ∷ d ∷ before) behind e same =
     let it : the_break ∷ the_cut ∷ the_end ∷ [] ≡ b ∷ c ∷ d ∷ (before ++ e ∷ behind) = same in
     let rest : [] ≡ before ++ e ∷ behind = cc in
-    absurd (no_part before behind e rest)
+    absurd (none_told before behind e rest)
 
 -- ---- the rest
 
@@ -152,7 +150,7 @@ in_range t what no_hold = record { time = omega (arith, ints); hold = λ link wa
 
 -- the events are of the network's devices and links
 of_network : All (λ e. IsOfNetwork worked e.what) rough_events
-of_network = all_each (λ e. IsOfNetwork worked e.what) rough_events (le_by 4 9 refl, (le_by 12 12 refl, (tt, tt)))
+of_network = all_each (λ e. IsOfNetwork worked e.what) rough_events (leb-true 4 9 refl, (leb-true 12 12 refl, (tt, tt)))
 
 pub rough_day_under : IsUnder worked rough_events
 rough_day_under = record {
@@ -165,17 +163,6 @@ rough_day_under = record {
 }
 
 -- ---- its clocks
-
--- the program's clocks count exactly
-exact_steps : KeepsCounts fresh_segment stepped_segment segment_reading (λ c. c.grain) segment_count
-exact_steps = record {
-  has_grain = λ g. refl;
-  keeps_grain = λ c t r. refl;
-  reads_count = λ c t. refl;
-  counts_time = counts_time;
-  keeps_count = keeps_count;
-  drifts = advances;
-}
 
 pub rough_day_lawful : IsLawful rough_day
 rough_day_lawful =

@@ -1,5 +1,6 @@
 -- The worked network keeps the rules of its schedule.
 use Rattle.std.proofs.Common.{◌≡◌, ◌≢◌, ◌⊎◌, ℕ, zero, suc, ◌+◌, ◌≤◌, ◌<◌, true, false, refl, sym, ap, subst, ◌∙◌, inl, inr, ◌==◌, if◌then◌else◌, ◌*◌, arith, List, [], ◌∷◌, Some, slice_get}
+use Rattle.std.proofs.lemmas.Bool.{leb-true}
 use Rattle.net_plan.specs.Places.{IsEndSystem}
 use Rattle.net_plan.specs.declared.ids.DeviceId.{DeviceId}
 use Rattle.net_plan.specs.declared.ids.LinkId.{LinkId}
@@ -19,7 +20,7 @@ use Rattle.std.proofs.lemmas.Option.{same_Some}
 use Rattle.std.specs.List.{Contains, count_by}
 use Rattle.std.specs.Prelude.{codes}
 use Rattle.tte_units.specs.Amount.{amount}
-use Rattle.worked_network.proofs.Lists.{AllAt, at_place, le_by, numbered_apart}
+use Rattle.worked_network.proofs.Lists.{AllAt, at_place, numbered_apart}
 use Rattle.worked_network.specs.Worked.{link_of, row_of, worked}
 
 -- ---- the virtual link
@@ -49,7 +50,7 @@ vl_ids_differ place k earlier vl lt at_k at = absurd (one_vl k place earlier vl 
 
 pub has_period : (place : ℕ) → HasPeriod worked place
 has_period place vl at =
-    only_vl (λ n v. Contains (1 ∷ 2 ∷ 4 ∷ 8 ∷ 16 ∷ 32 ∷ 64 ∷ []) v.period × (v.phase < v.period)) ((0, le_by 1 7 refl, refl), le_by 1 1 refl) place vl at
+    only_vl (λ n v. Contains (1 ∷ 2 ∷ 4 ∷ 8 ∷ 16 ∷ 32 ∷ 64 ∷ []) v.period × (v.phase < v.period)) ((0, leb-true 1 7 refl, refl), leb-true 1 1 refl) place vl at
 
 pub ends_send : (place : ℕ) → HasEndSystemAsSender worked place
 ends_send place vl at = only_vl (λ n v. IsEndSystem worked v.sender) refl place vl at
@@ -117,8 +118,8 @@ is_fourth = record { row = refl; vl = refl; link = refl }
 
 pub windows_end : (place : ℕ) → EndsInCycle worked place
 windows_end place entry is = entry_case (λ k e. window_end worked e + 4 * amount worked.precision ≤ amount worked.cycle) (
-  le_by 32285655044 131072000000 refl,
-  (le_by 32285655044 131072000000 refl, (le_by 33924055044 131072000000 refl, (le_by 33924055044 131072000000 refl, tt))),
+  leb-true 32285655044 131072000000 refl,
+  (leb-true 32285655044 131072000000 refl, (leb-true 33924055044 131072000000 refl, (leb-true 33924055044 131072000000 refl, tt))),
 ) place entry is
 
 -- ---- no two rows by one link
@@ -300,9 +301,9 @@ both_channels place = record {
 -- the window of a row into a switch ends before the rows that leave it
 early_window : (k : ℕ) (entering : Entry) → IsEntry worked k entering → (n : ℕ) → (target_of entering).0 ≡ n → 5 ≤ n → window_end worked entering < 28180480000
 early_window k entering is n same high = entry_case (λ j e. (target_of e).0 ≡ n → window_end worked e < 28180480000) (
-  λ same. le_by 28091351045 28180480000 refl,
+  λ same. leb-true 28091351045 28180480000 refl,
   (
-    λ same. le_by 28091351045 28180480000 refl,
+    λ same. leb-true 28091351045 28180480000 refl,
     (
       λ same. absurd (let it : 4 ≡ n = same in omega (arith, it, high)),
       (
@@ -321,9 +322,9 @@ window_before k place entering entry is_entering is other same = entry_case
       (
         λ other same. absurd (other refl),
         (
-          λ other same. early_window k entering is_entering 5 (ap (λ (d : DeviceId). d.0) same) (le_by 5 5 refl),
+          λ other same. early_window k entering is_entering 5 (ap (λ (d : DeviceId). d.0) same) (leb-true 5 5 refl),
           (
-            λ other same. early_window k entering is_entering 7 (ap (λ (d : DeviceId). d.0) same) (le_by 5 7 refl),
+            λ other same. early_window k entering is_entering 7 (ap (λ (d : DeviceId). d.0) same) (leb-true 5 7 refl),
             tt,
           ),
         ),
@@ -333,13 +334,13 @@ window_before k place entering entry is_entering is other same = entry_case
 pub comes_in_time : (place : ℕ) → ComesInTime worked place
 comes_in_time place = record {
   from_sender = λ entry is. entry_case (λ k e. source_of e ≡ e.vl.sender → amount worked.tt_start ≤ amount e.row.offset) (
-    λ own. le_by 26542080000 26542080000 refl,
+    λ own. leb-true 26542080000 26542080000 refl,
     (
-      λ own. le_by 26542080000 26542080000 refl,
+      λ own. leb-true 26542080000 26542080000 refl,
       (
-        λ own. le_by 26542080000 28180480000 refl,
+        λ own. leb-true 26542080000 28180480000 refl,
         (
-          λ own. le_by 26542080000 28180480000 refl,
+          λ own. leb-true 26542080000 28180480000 refl,
           tt,
         ),
       ),

@@ -1,7 +1,8 @@
 -- The worked network keeps the rules of its shape.
-use Rattle.std.proofs.Common.{◌≡◌, ◌⊎◌, ℕ, ◌+◌, pos, true, false, refl, sym, ap, subst, ◌∙◌, inl, inr, ◌==◌, arith, List, [], ◌∷◌, Option, Some, None, IfSome, IsSomeAnd}
+use Rattle.std.proofs.Common.{◌≡◌, ◌⊎◌, ℕ, ◌+◌, pos, true, false, refl, sym, ap, subst, inl, inr, ◌==◌, arith, List, [], ◌∷◌, Option, Some, IfSome}
+use Rattle.std.proofs.lemmas.Bool.{leb-true}
 use Rattle.net_plan.specs.Paths.{IsFirstPath, IsFirstUplink, IsUplink, LeadsToCm}
-use Rattle.net_plan.specs.Places.{IsCmOf, IsDeviceOf, IsEndSystem, IsRoleOf, IsSwitchOf, device_at, is_end_system}
+use Rattle.net_plan.specs.Places.{IsCmOf, IsDeviceOf, IsEndSystem, IsRoleOf, IsSwitchOf, is_end_system}
 use Rattle.net_plan.specs.Rules.{DeviceIsNew, ExactlyOne, HasOffSwitch, HasOneCm, IsChildOf, IsConnected, IsWithinLimits, JoinsChildToSwitch, LinkIsNew, MastersSuffice, masters}
 use Rattle.net_plan.specs.declared.ids.DeviceId.{DeviceId}
 use Rattle.net_plan.specs.declared.ids.LinkId.{LinkId}
@@ -9,21 +10,21 @@ use Rattle.net_plan.specs.declared.tables.Role.TheVariants.{Cm, Relay}
 use Rattle.pcf_values.specs.declared.channel.Channel.TheVariants.{A, B}
 use Rattle.pcf_values.specs.declared.channel.Channel.{Channel}
 use Rattle.std.proofs.lemmas.Int.{ints}
-use Rattle.std.proofs.lemmas.Option.{same_Some}
 use Rattle.std.specs.Option.{unwrap_or}
 use Rattle.std.specs.Prelude.{◌-◌, ◌≤ℤ◌, codes, if◌then◌else◌, IsNone}
+use Rattle.net_plan.proofs.SameIds.{link_is}
 use Rattle.tte_units.specs.Amount.{units_of}
-use Rattle.worked_network.proofs.Lists.{all_each, at_place, le_by, numbered_apart, place_in, some_place}
+use Rattle.worked_network.proofs.Lists.{all_each, at_place, numbered_apart, place_in, some_place}
 use Rattle.worked_network.specs.Worked.{worked}
 
 -- ---- limits and names
 
 pub limits_kept : (part : ℕ) → IsWithinLimits worked part
 limits_kept part = record {
-  devices = λ is. le_by 9 64 refl;
-  links = λ is. le_by 12 128 refl;
-  vls = λ is. le_by 1 64 refl;
-  rows = λ is. le_by 4 1024 refl;
+  devices = λ is. leb-true 9 64 refl;
+  links = λ is. leb-true 12 128 refl;
+  vls = λ is. leb-true 1 64 refl;
+  rows = λ is. leb-true 4 1024 refl;
 }
 
 abbrev device_names : List (List ℕ)
@@ -57,14 +58,6 @@ links_differ i k earlier link lt at_k at_i same =
     at_k at_i (ap (place_in link_names) same)
 
 -- ---- channels
-
--- a switch of both channels there is none
-pub one_channel : (c d : Channel) (device : DeviceId) → IsSwitchOf worked c device → IsSwitchOf worked d device → c ≡ d
-one_channel c d device on also =
-    elim (device_at worked device) as (λ o. IsSomeAnd o (λ x. x.channel ≡ Some c) → IsSomeAnd o (λ x. x.channel ≡ Some d) → c ≡ d) [
-      | None ↦ λ a b. absurd a
-      | Some x ↦ λ a b. same_Some c d (sym a ∙ b)
-    ] on also
 
 -- the compression master of the channel
 abbrev pub cm_of : Channel → ℕ
@@ -273,9 +266,6 @@ uplink_is B device n it = some_place (λ k. k ≡ up B device.0) (λ l. (l.child
 
 -- ---- connections
 
-link_is : (link : LinkId) (n : ℕ) → link.0 ≡ n → link ≡ record { 0 = n }
-link_is link n e = ap (λ (k : ℕ). record { 0 = k }) e
-
 first_uplink : (c : Channel) (n : ℕ) → IsUplink worked c (record { 0 = n }) (record { 0 = up c n })
     → IsFirstUplink worked c (record { 0 = n }) (record { 0 = up c n })
 first_uplink c n leads = record {
@@ -464,7 +454,7 @@ one_child c n e = subst (λ (k : ℕ). ExactlyOne (IsChildOf worked (record { 0 
     (record { 0 = up c (relay_of c) }, relay_child c, λ y has. link_is y (up c (relay_of c)) (child_is c y.0 has))
 
 cm_leads : (c : Channel) → LeadsToCm worked c (record { 0 = cm_of c })
-cm_leads c = ([], le_by 0 8 refl, cm_there c)
+cm_leads c = ([], leb-true 0 8 refl, cm_there c)
 
 relay_up : (c : Channel) → IsUplink worked c (record { 0 = relay_of c }) (record { 0 = up c (relay_of c) })
 relay_up A = (refl, refl)
@@ -475,14 +465,14 @@ relay_path A = (first_uplink A 5 (refl, refl), (refl, refl))
 relay_path B = (first_uplink B 7 (refl, refl), (refl, refl))
 
 relay_leads : (c : Channel) → LeadsToCm worked c (record { 0 = relay_of c })
-relay_leads c = (record { 0 = up c (relay_of c) } ∷ [], le_by 1 8 refl, relay_path c)
+relay_leads c = (record { 0 = up c (relay_of c) } ∷ [], leb-true 1 8 refl, relay_path c)
 
 -- the path of an end system leads by the channel's relay
 abbrev path_of : Channel → ℕ → List LinkId
 path_of c n = record { 0 = up c n } ∷ record { 0 = up c (relay_of c) } ∷ []
 
 leads_by : (c : Channel) (n : ℕ) → IsFirstPath worked c (record { 0 = n }) (path_of c n) → LeadsToCm worked c (record { 0 = n })
-leads_by c n path = (path_of c n, le_by 2 8 refl, path)
+leads_by c n path = (path_of c n, leb-true 2 8 refl, path)
 
 leads : (c : Channel) (n : ℕ) → IsDeviceOf worked c (record { 0 = n }) → LeadsToCm worked c (record { 0 = n })
 leads A n it = some_place (λ k. LeadsToCm worked A (record { 0 = k })) (λ d. (is_end_system d.role ≡ true) ⊎ (d.channel ≡ Some A)) worked.device (
@@ -589,14 +579,14 @@ low = omega (arith, ints)
 
 pub masters_kept : (part : ℕ) → MastersSuffice worked part
 masters_kept part = record {
-  least = λ is. le_by 4 4 refl;
-  most = λ is. le_by 4 5 refl;
+  least = λ is. leb-true 4 4 refl;
+  most = λ is. leb-true 4 5 refl;
   members = λ is j k d e lt at_j at_k same.
       numbered_apart (λ x. unwrap_or x.member 4) (masters worked) (refl, (refl, (refl, (refl, tt)))) j k d e lt at_j at_k
       (sym (ap (λ (o : Option ℕ). unwrap_or o 4) same));
-  threshold_least = λ is. le_by 3 3 refl;
-  threshold_most = λ is. le_by 4 4 refl;
-  begin_on = λ is. le_by 3 4 refl;
+  threshold_least = λ is. leb-true 3 3 refl;
+  threshold_most = λ is. leb-true 4 4 refl;
+  begin_on = λ is. leb-true 3 4 refl;
   starts =
       λ is. all_each (λ d. IfSome d.start (λ start. start.0 ≤ℤ worked.settled.0)) worked.device
       (low, (low, (low, (low, (low, (low, (low, (low, (low, tt)))))))));

@@ -1,8 +1,9 @@
 -- The worked network keeps the rules of its times.
 use Rattle.std.proofs.Common.{ℕ, ◌+◌, ◌*◌, ◌≤◌, refl, arith}
+use Rattle.std.proofs.lemmas.Bool.{leb-true}
 use Rattle.schedule_tables.specs.Delays.{CorrectionFits, DelaysFit, ErrorsSettle, PrecisionFits, ScheduleFits, pcf_port_time}
 use Rattle.tte_units.specs.Amount.{amount}
-use Rattle.worked_network.proofs.Lists.{all_each, le_by}
+use Rattle.worked_network.proofs.Lists.{all_each}
 use Rattle.worked_network.proofs.Trips.{delays_at_most, low_beta}
 use Rattle.worked_network.specs.Worked.{worked}
 
@@ -22,17 +23,17 @@ precise : (beta : ℕ) → beta ≤ 3276832 → 345000000 + 16 * beta + 24 * 262
 precise beta low = omega (arith, low)
 
 pub precision_fits : PrecisionFits worked
-precision_fits = record { errors = λ beta is. precise beta (low_beta beta is); calc = le_by 65536000 1048576000 refl }
+precision_fits = record { errors = λ beta is. precise beta (low_beta beta is); calc = leb-true 65536000 1048576000 refl }
 
 pub correction_fits : CorrectionFits worked
-correction_fits = le_by 17104896000 18350080000 refl
+correction_fits = leb-true 17104896000 18350080000 refl
 
 begins : 26261585920 ≤ 26542080000
-begins = le_by 26261585920 26542080000 refl
+begins = leb-true 26261585920 26542080000 refl
 
 pub schedule_fits : ScheduleFits worked
 schedule_fits = record {
   begins = all_each (λ link. amount worked.correction + amount worked.dmax + 4 * amount worked.precision + pcf_port_time link ≤ amount worked.tt_start)
       worked.link (begins, (begins, (begins, (begins, (begins, (begins, (begins, (begins, (begins, (begins, (begins, (begins, tt))))))))))));
-  ends = le_by 30736384000 131072000000 refl;
+  ends = leb-true 30736384000 131072000000 refl;
 }

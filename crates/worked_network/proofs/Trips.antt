@@ -1,5 +1,6 @@
 -- How long the paths of the worked network are, and what they add up to.
 use Rattle.std.proofs.Common.{◌≡◌, ℕ, zero, suc, ◌+◌, ◌*◌, pos, ◌≤◌, true, false, refl, ap, inl, inr, ◌==◌, ◌||◌, arith, List, [], ◌∷◌, length, slice_get, IsSomeAnd, if◌then◌else◌, unsigned_abs}
+use Rattle.std.proofs.lemmas.Bool.{leb-true}
 use Rattle.net_plan.specs.Bounds.{IsBeta, IsGreatest, IsOfPath, jitter_of, jitter_on}
 use Rattle.net_plan.specs.Paths.{IsPath}
 use Rattle.net_plan.specs.Places.{IsSwitchOf, link_at}
@@ -11,7 +12,7 @@ use Rattle.schedule_tables.specs.Delays.{delay_by, delay_of, delay_on}
 use Rattle.std.specs.Option.{option_map_or}
 use Rattle.std.specs.Prelude.{sum_by}
 use Rattle.tte_units.specs.Amount.{amount}
-use Rattle.worked_network.proofs.Lists.{AllEach, le_by, some_place}
+use Rattle.worked_network.proofs.Lists.{AllEach, some_place}
 use Rattle.worked_network.specs.Worked.{worked}
 
 leb_zero : (n : ℕ) → 0 ≤ n
@@ -29,8 +30,8 @@ height n = if n == 6 || n == 8 then 0 else (if n == 5 || n == 7 then 1 else 2)
 
 low_height : (n : ℕ) → height n ≤ 2
 low_height n = elim (n == 6 || n == 8) as (λ b. (if b then 0 else (if n == 5 || n == 7 then 1 else 2)) ≤ 2) [
-  | true ↦ le_by 0 2 refl
-  | false ↦ elim (n == 5 || n == 7) as (λ b. (if b then 1 else 2) ≤ 2) [ true ↦ le_by 1 2 refl | false ↦ le_by 2 2 refl ]
+  | true ↦ leb-true 0 2 refl
+  | false ↦ elim (n == 5 || n == 7) as (λ b. (if b then 1 else 2) ≤ 2) [ true ↦ leb-true 1 2 refl | false ↦ leb-true 2 2 refl ]
 ]
 
 -- a path goes on from the parent of its first link, which is nearer to the compression master

@@ -5,5 +5,4 @@ pub mod Reached
 pub mod AtHand
 pub mod Dispatching
 pub mod Apart
-pub mod Periods
 pub mod OneRow

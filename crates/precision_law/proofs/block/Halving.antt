@@ -1,13 +1,14 @@
 -- The dispatches of a cycle come half as far apart as those of the cycle before, but for the starts.
+use Rattle.run_law.proofs.device.States.{is_in}
+use Rattle.sync_state.proofs.StateFacts.{up_state}
 use Rattle.precision_law.proofs.words.Std.{◌*◌, ◌+ℤ◌, ◌+◌, ◌-ℤ◌, ◌<ℤ◌, ◌<◌, ◌∙◌, ◌∷◌, ◌≡◌, ◌≤ℤ◌, ◌≤◌, ◌⊎◌, List, None, Option, Some, [], ap, arith, by_lt_z, clamps, false, filter, inl, inr, ints, negsuc, option_and_then, option_map_or, pos, refl, subst, suc, true, zero, ℕ, ℤ}
-use Rattle.precision_law.proofs.words.Plans.{Device, DeviceId, State, Synchronised, Units, adjustment_at_start, amount, device_at, is_end_system, is_master}
+use Rattle.precision_law.proofs.words.Plans.{Device, DeviceId, Synchronised, Units, adjustment_at_start, amount, device_at, is_end_system, is_master}
 use Rattle.precision_law.proofs.words.Runs.{Happening, IsCaused, IsIn, earlier, founded_at, has_role, in_filter, is_end, is_synchronised, is_turned_on_at, same_some, start_of, state_after, time_of}
 use Rattle.precision_law.proofs.words.Laws.{AreShared, BlocksGoSo, Hull, HullsAreNarrow, IsAnchored, IsDispatch, IsGood, IsInBlock, IsNearHull, IsOldAt, IsOverBefore, IsReachedNear, IsView, Sizes, Stands, View, adjustment_left, epoch_time, first_dispatch, has_time, hull_of, hull_over, is_dispatch, last_correction, last_dispatch, last_setting, set_adjustment, start_hull, state_left, widened}
 use Rattle.precision_law.proofs.words.Clocks.{adjustment_is_last, adjustment_stays, anchored_clocks_reach, anchored_clocks_show, before_of, clocks_reach_sharply, device_of, earlier_before, frames_come_first, master_ends, never_some, over, passes, reaches_whole, room, shared_clocks_halve, sizes_are, starts_stay_together, state_stays, steady, synchronised_has_time, tested, time_stays, within_run}
 use Rattle.precision_law.proofs.block.Goings.{next_first}
 use Rattle.precision_law.proofs.block.Starts.{has_start, none_at_start, start_is}
 use Rattle.precision_law.proofs.law.Cover.{behind_of, later_end}
-use Rattle.precision_law.proofs.law.Precision.{not_integrating}
 use Rattle.precision_law.proofs.law.Together.{before_narrow}
 
 -- ---- the ends of a hull
@@ -82,10 +83,6 @@ master_is_end v device e =
     let d = device_of is_master (device_at v.scenario.network device) e in
     ap (λ (o : Option Device). option_map_or (λ x. is_end_system x.role) o false) d.1 ∙ master_ends d.0.role d.2
 
-pub synchronised_is : (state : State) → is_synchronised state ≡ true → state ≡ Synchronised
-synchronised_is Synchronised e = refl
-synchronised_is state e = absurd cc
-
 -- what a dispatch says of the master's clock
 pub record HasDispatched (v : View) (device : DeviceId) (cycle w : ℕ) : Type 0 where
   pub begun : 1 ≤ cycle
@@ -100,7 +97,7 @@ has_dispatched v h device cycle is dispatch =
     let found = founded_at v.scenario v.records h is.run.founded dispatch.there in
     let sends = subst (IsCaused v.scenario found.front h.note.time) dispatch.is found.due.cause in
     let split = before_of v h is found in
-    let state = not_integrating (is_turned_on_at v.scenario device (time_of h)) (state_after v.scenario (earlier (time_of h) found.front) device)
+    let state = up_state (is_turned_on_at v.scenario device (time_of h)) (state_after v.scenario (earlier (time_of h) found.front) device)
     sends.up.synchronised in
     let left = subst (λ (hs : List Happening). state_after v.scenario hs device ≡ Synchronised) (earlier_before v (time_of h) found.front split) state in
     let reaches = reaches_whole v device (pos (cycle * amount v.scenario.network.cycle)) (time_of h) found.front split sends.reached in
@@ -161,7 +158,7 @@ pub shared_near : (v : View) (n w : ℕ) (before : Stands v n) (device : DeviceI
 shared_near v n w before device share is good has from old late =
     let reading = v.scenario.reading device in
     let still = state_stays is_synchronised refl v device before.next w is from old has.synchronised in
-    let by = share.each device (record { end = has.end; good = good }) (synchronised_is (state_left v device before.next) still) in
+    let by = share.each device (record { end = has.end; good = good }) (is_in (state_left v device before.next) still) in
     let same = ap (λ (a : Units). a.0) (adjustment_stays v device before.next w is from old) in
     let low = low_by v.sizes share.shared by.other in
     let high = high_by v.sizes share.shared by.other in

@@ -1,11 +1,13 @@
 -- The hull of a cycle.
+use Rattle.std.proofs.lemmas.Option.{none-some}
+use Rattle.run_law.proofs.records.Order.{has_passed}
 use Rattle.precision_law.proofs.words.Std.{◌&&◌, ◌==◌, ◌∷◌, ◌≡◌, ◌≤ℤ◌, ◌≤◌, List, None, Option, Some, [], and_parts, ap, arith, clamps, eq-eqb, eqb-true, false, filter, fold, inl, inr, int_le, ints, not, not-true, not_from_false, option_and_then, pos, refl, subst, suc, sym, true, ℕ, ℤ}
 use Rattle.precision_law.proofs.words.Plans.{DeviceId, int_le-true}
 use Rattle.precision_law.proofs.words.Runs.{Happening, IsIn, NoteBody, in_filter, is_broken, time_of}
 use Rattle.precision_law.proofs.words.Laws.{Follows, Hull, IsDispatch, IsInHull, View, first_dispatch, hull_of, hull_over, is_dispatch, last_dispatch, widened}
 use Rattle.run_law.specs.declared.note.NoteBody.TheVariants as notes
-use Rattle.precision_law.proofs.Plain.{never_some}
-use Rattle.precision_law.proofs.records.Times.{in_kept, passes}
+use Rattle.tte_lemmas.proofs.Integers.{int_le-is}
+use Rattle.precision_law.proofs.records.Times.{in_kept}
 
 -- ---- widening
 
@@ -54,10 +56,6 @@ over_between a b o (h ∷ hs) each at =
     over_between a b (widened o (pos (time_of h))) hs (λ g i. each g (inr i)) (widened_between a b (pos (time_of h)) o here.0 here.1 at)
 
 -- ---- dispatches
-
--- a whole number that is tested to be at most another is so
-pub int_le-is : (a b : ℤ) → int_le a b ≡ true → a ≤ℤ b
-int_le-is a b e = grind (arith, ints)
 
 -- what is tested to be a dispatch
 pub record IsTested (v : View) (before : Hull) (cycle : ℕ) (h : Happening) (body : NoteBody) : Type 0 where
@@ -123,10 +121,10 @@ has_before v cycle hull in_run is = by (hull_of v cycle) refl is
   where
     by : (o : Option Hull) → hull_of v cycle ≡ o
         → option_and_then (λ before. hull_over (filter (λ h. is_dispatch v before (suc cycle) h h.note.body) v.records)) o ≡ Some hull → HasBefore v cycle hull
-    by None e s = absurd (never_some hull s)
+    by None e s = absurd (none-some hull s)
     by (Some before) e s =
         let test = λ (g : Happening). is_dispatch v before (suc cycle) g g.note.body in
-        let tests = λ (h : Happening) (i : IsIn h (filter test v.records)). tested v before (suc cycle) h h.note.body (passes test v.records h i) in
+        let tests = λ (h : Happening) (i : IsIn h (filter test v.records)). tested v before (suc cycle) h h.note.body (has_passed test v.records h i) in
         let bounds = subst (LiesBetween (first_dispatch v.sizes before) (last_dispatch v.sizes before)) s
         (over_between _ _ None (filter test v.records) (λ h i. ((tests h i).low, (tests h i).high)) tt) in
         let run = subst (LiesBetween (first_dispatch v.sizes before) (pos v.until)) s

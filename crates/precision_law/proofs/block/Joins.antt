@@ -1,7 +1,8 @@
 -- How a frame tells a device the time.
+use Rattle.run_law.proofs.control.Verdicts.{by_schedule}
 use Rattle.precision_law.proofs.words.Std.{◌*ℤ◌, ◌*◌, ◌+◌, ◌-ℤ◌, ◌∙◌, ◌≡◌, ◌≤ℤ◌, ◌≤◌, Bool, List, MatchBool-at_false, None, Option, Some, and_parts, ap, arith, false, if◌then◌else◌, inl, inr, ints, leb-true, nat_le, negsuc, not, option_and_then, option_map, option_map_or, pos, refl, subst, sym, true, unsigned_abs, ℕ, ℤ}
 use Rattle.precision_law.proofs.words.Plans.{Channel, Cm, Device, DeviceId, Integrating, IsDeviceInRange, Joints, Link, LinkId, Members, Network, Off, Pcf, Point, Role, State, SyncPlan, Units, all_at, amount, compression_time, count_of, device_at, expected_at, is_end_system, link_at, opened, target_by}
-use Rattle.precision_law.proofs.words.Runs.{Happening, Integrates, IsArrivedRecord, IsCaused, IsFoundedAt, IsIn, IsPermanenceOutcome, NoteBody, adjustment_with, channel_of, channel_of_link, cycle_in, expected_by, founded_at, frame_by, heard_as, heard_by_schedule, heard_enough, is_cm, is_cm_role, is_joined_by, last_cycle, members_in, numbered_in, observation_window, plan_of, same_judgement}
+use Rattle.precision_law.proofs.words.Runs.{Happening, Integrates, IsArrivedRecord, IsCaused, IsFoundedAt, IsIn, IsPermanenceOutcome, NoteBody, adjustment_with, channel_of, channel_of_link, cycle_in, expected_by, founded_at, frame_by, heard_as, heard_enough, is_cm, is_cm_role, is_joined_by, last_cycle, members_in, numbered_in, observation_window, plan_of, same_judgement}
 use Rattle.precision_law.proofs.words.Laws.{HearsBy, IsView, View, setting}
 use Rattle.precision_law.proofs.words.Clocks.{device_of, hearer_not_cm, passes, same_device, sizes_are, some_of}
 use Rattle.run_law.specs.declared.note.NoteBody.TheVariants as notes
@@ -50,17 +51,13 @@ enough_by : (b : Bool) → heard_enough b ≡ Integrates → b ≡ true
 enough_by true e = refl
 enough_by false e = absurd cc
 
-never_in_time : (b : Bool) → heard_by_schedule b ≡ Integrates → ⊥
-never_in_time true e = absurd cc
-never_in_time false e = absurd cc
-
 pub integrates_by : (plan : SyncPlan) (precision : ℤ) (state : State) (adjustment point : ℤ) (cycle : ℕ) (members : Members)
     → heard_as plan precision state adjustment point cycle members ≡ Integrates → IsEnough plan state members
 integrates_by plan precision Off adjustment point cycle members e = absurd cc
 integrates_by plan precision Integrating adjustment point cycle members e =
     let both = and_parts (nat_le plan.threshold (count_of members)) (nat_le cycle last_cycle) (enough_by _ e) in
     record { looks = refl; enough = leb-true plan.threshold (count_of members) both.0 }
-integrates_by plan precision state adjustment point cycle members e = absurd (never_in_time _ e)
+integrates_by plan precision state adjustment point cycle members e = absurd (by_schedule _ e)
 
 -- what becomes permanent so is heard by another device than a compression master
 pub ripe_integrates : (n : Network) (device : DeviceId) (state : State) (adjustment : ℤ) (points : List Point) (frame : Pcf) (point : ℤ)

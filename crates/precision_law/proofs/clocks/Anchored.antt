@@ -1,7 +1,8 @@
 -- Anchored clocks: how they are set, what they show, and when they reach a value.
-use Rattle.precision_law.proofs.words.Std.{◌*ℤ◌, ◌*◌, ◌+ℤ◌, ◌+◌, ◌-ℤ◌, ◌≡◌, ◌≤ℤ◌, arith, ints, negsuc, pos, refl, suc, unsigned_abs, ℕ, ℤ}
+use Rattle.std.proofs.Common.{suc-mul}
+use Rattle.precision_law.proofs.words.Std.{◌*ℤ◌, ◌*◌, ◌+ℤ◌, ◌+◌, ◌-ℤ◌, ◌≡◌, ◌≤ℤ◌, arith, ints, negsuc, pos, refl, ℕ, ℤ}
 use Rattle.precision_law.proofs.words.Plans.{mean_of, mean_of-floor}
-use Rattle.precision_law.proofs.words.Laws.{AnchoredClocksReach, AnchoredClocksShow, AnchorsWiden, ClocksOfOneCycle, ClocksOfTwoCycles, OneFrameAnchors, OneFrameSets, SetClocksHaveReached, SetClocksReach, SetClocksShow, SharedClocksHalve, StartsAreSet, StartsStayTogether, TwoFramesAnchor, TwoFramesSet, high_of, low_of, setting}
+use Rattle.precision_law.proofs.words.Laws.{AnchoredClocksReach, AnchoredClocksShow, AnchorsWiden, ClocksOfOneCycle, ClocksOfTwoCycles, OneFrameAnchors, OneFrameSets, SetClocksHaveReached, SetClocksShow, SharedClocksHalve, StartsAreSet, StartsStayTogether, TwoFramesAnchor, TwoFramesSet, high_of, low_of, setting}
 
 -- ---- setting a clock
 
@@ -47,11 +48,6 @@ anchored_clocks_show n reading adjustment cycle low high r t steady le within an
 pub anchored_clocks_reach : AnchoredClocksReach
 anchored_clocks_reach n shown cycle low high v t shows least most = record { not_early = omega (arith, ints); not_late = omega (arith, ints) }
 
-pub set_clocks_reach : SetClocksReach
-set_clocks_reach n reading adjustment cycle hull r v t room steady le within anchored least most =
-    let shows = anchored_clocks_show n reading adjustment cycle (low_of n hull) (high_of n hull) r t steady le within anchored in
-    record { not_early = omega (arith, ints, shows, least, most, room.errors); not_late = omega (arith, ints, shows, least, most, room.errors) }
-
 pub set_clocks_have_reached : SetClocksHaveReached
 set_clocks_have_reached n reading adjustment cycle hull r v t room steady le within anchored late =
     omega (arith, ints, (anchored_clocks_show n reading adjustment cycle (low_of n hull) (high_of n hull) r t steady le within anchored).least)
@@ -71,18 +67,9 @@ pub natural_of : (z : ℤ) (least : ℕ) → pos least ≤ℤ z → (m : ℕ) ×
 natural_of (pos m) least le = (m, refl)
 natural_of (negsuc m) least le = absurd (omega (arith, ints, le))
 
--- one that is not below 0 is its own amount
-pub natural : (z : ℤ) → pos 0 ≤ℤ z → z ≡ pos (unsigned_abs z)
-natural (pos m) begun = refl
-natural (negsuc m) begun = absurd (omega (arith, ints, begun))
-
--- one more cycle is as long as a cycle
-pub one_more : (cycle length : ℕ) → suc cycle * length ≡ cycle * length + length
-one_more cycle length = omega arith
-
 pub clocks_of_two_cycles : ClocksOfTwoCycles
 clocks_of_two_cycles n x y cycle before hull t room narrow follows one other =
-    let more = one_more cycle n.cycle in
+    let more = suc-mul cycle n.cycle in
     record { one = omega (arith, ints, more, narrow, follows, one, other, room); other = omega (arith, ints, more, narrow, follows, one, other, room) }
 
 -- ---- halving

@@ -1,12 +1,16 @@
 -- What a device's clock was last set to fixes since then.
-use Rattle.precision_law.proofs.words.Std.{◌++◌, ◌+◌, ◌-ℤ◌, ◌<ℤ◌, ◌<◌, ◌==◌, ◌∙◌, ◌∷◌, ◌≡◌, ◌≤◌, Bool, List, None, Option, Some, [], ap, append-nil, arith, both_ways, eq-eqb, eqb-true, false, false_from_ne_true, filter, filter-append, fold, fold-append, if◌then◌else◌, inl, inr, ints, last_or, negsuc, option_map_or, pos, refl, subst, sym, true, ℕ, ℤ}
+use Rattle.net_plan.proofs.SameIds.{one_device}
+use Rattle.run_law.proofs.control.Verdicts.{cycle_stays}
+use Rattle.run_law.proofs.device.States.{adjustment_kept, joined_changes}
+use Rattle.precision_law.proofs.words.Std.{◌++◌, ◌+◌, ◌-ℤ◌, ◌<ℤ◌, ◌<◌, ◌==◌, ◌∙◌, ◌∷◌, ◌≡◌, ◌≤◌, Bool, List, None, Option, Some, [], ap, append-nil, arith, both_ways, eq-eqb, false, false_from_ne_true, filter, filter-append, fold, fold-append, if◌then◌else◌, inl, inr, ints, last_or, negsuc, option_map_or, pos, refl, subst, sym, true, ℕ, ℤ}
 use Rattle.precision_law.proofs.words.Plans.{DeviceId, Integrating, State, Units, adjustment_at_start, amount, state_at_start}
-use Rattle.precision_law.proofs.words.Runs.{ChangesState, Happening, Integrates, IsCaused, IsIn, NoteBody, Scenario, Why, adjustment_before, adjustment_with, changed_at, changes_adjustment, cycle_after, cycle_in, earlier, founded_at, in_filter, in_left, is_joined_by, numbered_in, start_of, state_after, state_with, time_of}
+use Rattle.precision_law.proofs.words.Runs.{ChangesState, Happening, Integrates, IsCaused, IsIn, NoteBody, Scenario, Why, adjustment_before, adjustment_with, changed_at, changes_adjustment, cycle_after, cycle_in, earlier, founded_at, in_filter, in_left, numbered_in, start_of, state_after, state_with, time_of}
 use Rattle.precision_law.proofs.words.Laws.{AdjustmentIsLast, ClocksHaveReached, ClocksReachSharply, IsView, NextCycleIsOfLast, SettingsStay, TimeStays, View, adjustment_left, cycle_set, epoch_time, has_time, is_correction, last_setting, next_of, state_left}
 use Rattle.run_law.specs.declared.judgement.Why.TheVariants as whys
 use Rattle.run_law.specs.declared.note.NoteBody.TheVariants as notes
+use Rattle.tte_lemmas.proofs.Lists.{last_more}
 use Rattle.precision_law.proofs.clocks.Readings.{reach_is_sharp, reach_is_there}
-use Rattle.precision_law.proofs.records.Times.{between, earlier_parts, in_between, in_kept, is_between, last_append, last_some}
+use Rattle.precision_law.proofs.records.Times.{between, earlier_parts, in_between, in_kept, is_between, last_some}
 use Rattle.precision_law.proofs.records.Views.{in_order, steady}
 
 -- where each element that passes the test sets a value and no other does, the last such element sets it
@@ -31,14 +35,6 @@ adjustment_set s device cycle old other (notes.Permanent d link cause point Inte
 adjustment_set s device cycle old other (notes.Compressed d opened own of_cycle members Integrates) e = rw e refl
 adjustment_set s device cycle old other body e = absurd cc
 
--- other records leave it
-adjustment_kept : (s : Scenario) (device : DeviceId) (cycle : ℕ) (old : Units) (body : NoteBody) → changes_adjustment device body ≡ false
-    → adjustment_with s device cycle old body ≡ old
-adjustment_kept s device cycle old (notes.Corrected d number by adjustment) e = rw e refl
-adjustment_kept s device cycle old (notes.Permanent d link cause point Integrates) e = rw e refl
-adjustment_kept s device cycle old (notes.Compressed d opened own of_cycle members Integrates) e = rw e refl
-adjustment_kept s device cycle old body e = refl
-
 pub adjustment_is_last : AdjustmentIsLast
 adjustment_is_last s hs device =
     fold_last (λ (a : Units) (h : Happening). adjustment_with s device (cycle_in h) a h.note.body)
@@ -60,16 +56,10 @@ number_set device old h (notes.Permanent d link cause point Integrates) e = rw e
 number_set device old h (notes.Compressed d opened own of_cycle members Integrates) e = rw e refl
 number_set device old h body e = absurd cc
 
-number_kept : (device : DeviceId) (old : ℕ) (h : Happening) (body : NoteBody) → changes_adjustment device body ≡ false → cycle_after device old h body ≡ old
-number_kept device old h (notes.Corrected d number by adjustment) e = rw e refl
-number_kept device old h (notes.Permanent d link cause point Integrates) e = rw e refl
-number_kept device old h (notes.Compressed d opened own of_cycle members Integrates) e = rw e refl
-number_kept device old h body e = refl
-
 pub next_cycle_is_of_last : NextCycleIsOfLast
 next_cycle_is_of_last hs device =
     fold_last (λ (n : ℕ) (h : Happening). cycle_after device n h h.note.body) number_by (λ (h : Happening). changes_adjustment device h.note.body) None 1 hs
-    (λ n h e. number_set device n h h.note.body e) (λ n h e. number_kept device n h h.note.body e)
+    (λ n h e. number_set device n h h.note.body e) (λ n h e. cycle_stays device n h h.note.body e)
     ∙ elim (last_setting hs device) as (λ o. option_map_or number_by o 1 ≡ next_of o) [ None ↦ refl | Some h ↦ refl ]
 
 -- ---- settings stay
@@ -84,7 +74,7 @@ no_setting : (u : ℕ) (device : DeviceId) (xs ys : List Happening) → ((h : Ha
 no_setting u device xs [] late early = refl
 no_setting u device xs (y ∷ ys) late early =
     let last = last_some (last_or None xs) y ys in
-    absurd (omega (arith, ints, ap time_of_last (last_append None xs (y ∷ ys) ∙ last.1), late last.0 last.2, early))
+    absurd (omega (arith, ints, ap time_of_last (last_more None xs (y ∷ ys) ∙ last.1), late last.0 last.2, early))
 
 -- the records between the last setting and t set nothing
 pub none_between : (v : View) (device : DeviceId) (u t : ℕ) → IsView v → u ≤ t → epoch_time (earlier t v.records) device <ℤ pos u
@@ -139,15 +129,6 @@ pub kept_if : (p : State → Bool) (b : Bool) (state old : State) → (b ≡ tru
 kept_if p true state old never e = absurd (never refl e)
 kept_if p false state old never e = e
 
--- the id of a device
-pub same_device : (d e : DeviceId) → (d.0 == e.0) ≡ true → e ≡ d
-same_device d e same = ap (λ (n : ℕ). let x : DeviceId = record { 0 = n } in x) (sym (eqb-true d.0 e.0 same))
-
--- a frame that tells the device the time changes its adjustment
-pub joined_changes : (device : DeviceId) (body : NoteBody) → is_joined_by device body ≡ true → changes_adjustment device body ≡ true
-joined_changes device (notes.Corrected d number by adjustment) e = absurd cc
-joined_changes device body e = e
-
 -- where nothing sets the device's clock at a time, its state changes to integrating alone
 no_change : (p : State → Bool) → p Integrating ≡ false → (s : Scenario) (ps : List Happening) (t : ℕ) (device : DeviceId) (state : State) (cause : ℕ)
     (why : Why) → ((h : Happening) → IsIn h ps → time_of h ≡ t → changes_adjustment device h.note.body ≡ false) → ChangesState s ps device t state cause why
@@ -167,7 +148,7 @@ pub keeps : (p : State → Bool) → p Integrating ≡ false → (s : Scenario) 
     → IsCaused s ps time body → Keeps p device body
 keeps p out s ps time device (notes.State other state cause why) e none c old timed =
     kept_if p (device.0 == other.0) state old (λ same is.
-    let here = subst (λ (d : DeviceId). ChangesState s ps d (amount time) state cause why) (same_device device other same) c in
+    let here = subst (λ (d : DeviceId). ChangesState s ps d (amount time) state cause why) (one_device device other same) c in
     no_change p out s ps (amount time) device state cause why none here is) timed
 keeps p out s ps time device (notes.Permanent other link cause point Integrates) e none c old timed = (let at = rw e at timed in at)
 keeps p out s ps time device (notes.Compressed other opened own cycle members Integrates) e none c old timed = (let at = rw e at timed in at)

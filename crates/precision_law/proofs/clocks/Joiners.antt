@@ -1,13 +1,16 @@
 -- A device whose clock was last set by a frame that told it the time is still joining.
+use Rattle.net_plan.proofs.SameIds.{one_device}
+use Rattle.run_law.proofs.records.Happenings.{from_earlier, is_earlier}
 use Rattle.precision_law.proofs.words.Std.{◌++◌, ◌+◌, ◌<◌, ◌==◌, ◌∙◌, ◌∷◌, ◌≡◌, Bool, List, None, Option, Some, [], ap, append_assoc, arith, both_ways, eq-eqb, false, false_from_ne_true, filter, filter-append, fold-append, if◌then◌else◌, inl, inr, ints, last_or, lt-ltb, nat_lt, negsuc, option_map_or, pos, refl, subst, sym, true, ℕ}
 use Rattle.precision_law.proofs.words.Plans.{DeviceId, Joining, State, Units, amount, state_at_start}
 use Rattle.precision_law.proofs.words.Runs.{ChangesState, Happening, Integrates, IsCaused, IsDue, IsFounded, IsIn, NoteBody, Scenario, Why, behind_first, changes_adjustment, earlier, founded_at, in_filter, in_left, in_parts, in_right, is_joined_by, is_synchronised, never_self, numbered_in, place_of, rank, same_some, start_of, state_after, state_with, time_of}
 use Rattle.precision_law.proofs.words.Laws.{IsView, View, epoch_time, last_setting, state_left}
 use Rattle.run_law.specs.declared.judgement.Why.TheVariants as whys
 use Rattle.run_law.specs.declared.note.NoteBody.TheVariants as notes
-use Rattle.precision_law.proofs.clocks.Epochs.{Keeps, kept_by_all, kept_if, same_device, state_stays}
+use Rattle.tte_lemmas.proofs.Lists.{last_more}
+use Rattle.precision_law.proofs.clocks.Epochs.{Keeps, kept_by_all, kept_if, state_stays}
 use Rattle.precision_law.proofs.records.Points.{setting_is, sorted_parts}
-use Rattle.precision_law.proofs.records.Times.{AreSorted, in_earlier, in_kept, is_earlier, last_append, last_some}
+use Rattle.precision_law.proofs.records.Times.{AreSorted, in_kept, last_some}
 use Rattle.precision_law.proofs.records.Views.{in_order}
 use Rattle.precision_law.proofs.Plain.{higher_before}
 
@@ -24,7 +27,7 @@ keeps_unsynchronised : (s : Scenario) (ps : List Happening) (time : Units) (devi
     → IsCaused s ps time body → Keeps is_synchronised device body
 keeps_unsynchronised s ps time device (notes.State other state cause why) none c old e =
     kept_if is_synchronised (device.0 == other.0) state old (λ same at.
-    let here = subst (λ (d : DeviceId). ChangesState s ps d (amount time) state cause why) (same_device device other same) c in
+    let here = subst (λ (d : DeviceId). ChangesState s ps d (amount time) state cause why) (one_device device other same) c in
     no_correction s ps (amount time) device state cause why none here at) e
 keeps_unsynchronised s ps time device (notes.Permanent other link cause point Integrates) none c old e =
     kept_if is_synchronised (device.0 == other.0) Joining old (λ same at. both_ways (is_synchronised Joining) refl at) e
@@ -54,13 +57,13 @@ none_behind v device t front rest h x is e whole i early changes =
     let parts = ap (λ (hs : List Happening). filter sets (earlier t hs)) (whole ∙ sym (append_assoc front (h ∷ []) rest)) ∙ ap (filter sets)
     (filter-append (λ g. nat_lt (time_of g) t) (front ++ h ∷ []) rest) ∙ filter-append sets before (earlier t rest) in
     by (filter sets before) (filter sets (earlier t rest)) (in_kept sets (earlier t rest) x (is_earlier t rest x i early) changes)
-    (sym (ap (last_or None) parts) ∙ e) (λ y j. in_earlier t rest y (in_filter sets (earlier t rest) y j))
+    (sym (ap (last_or None) parts) ∙ e) (λ y j. from_earlier t rest y (in_filter sets (earlier t rest) y j))
   where
     by : (us bs : List Happening) → IsIn x bs → last_or None (us ++ bs) ≡ Some h → ((y : Happening) → IsIn y bs → IsIn y rest × (time_of y < t)) → ⊥
     by us [] j last back = absurd j
     by us (b ∷ bs) j last back =
         let found = last_some (last_or None us) b bs in
-        let same : found.0 ≡ h = same_some (last_or None (us ++ b ∷ bs)) found.0 h (last_append None us (b ∷ bs) ∙ found.1) last in
+        let same : found.0 ≡ h = same_some (last_or None (us ++ b ∷ bs)) found.0 h (last_more None us (b ∷ bs) ∙ found.1) last in
         let there : IsIn h rest = subst (λ (y : Happening). IsIn y rest) same (back found.0 found.2).0 in
         never_self (place_of h) (behind_first place_of (IsDue v.scenario) front rest h h (subst (IsFounded place_of (IsDue v.scenario)) whole is.run.founded)
         there)
@@ -99,7 +102,7 @@ joiner_waits v device t h is e joined =
     let apart = fold-append step (state_at_start (start_of v.scenario.network device)) (earlier (w + 1) found.front) (h ∷ earlier (w + 1) found.rest) in
     let old = state_after v.scenario (earlier (w + 1) found.front) device in
     let each : (g : Happening) → IsIn g (earlier (w + 1) found.rest) → Keeps is_synchronised device g.note.body = λ g i.
-    let back = in_earlier (w + 1) found.rest g i in
+    let back = from_earlier (w + 1) found.rest g i in
     let in_all : IsIn g v.records = subst (IsIn g) (sym found.whole) (in_right g found.front (h ∷ found.rest) (inr back.0)) in
     let at_g = founded_at v.scenario v.records g is.run.founded in_all in
     let order = sorted_parts found.front found.rest h (subst AreSorted found.whole (in_order v is)) in

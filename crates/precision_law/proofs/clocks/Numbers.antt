@@ -1,10 +1,11 @@
 -- The next correction point of a device whose clock was set before a block.
-use Rattle.precision_law.proofs.words.Std.{◌+ℤ◌, ◌+◌, ◌-◌, ◌<ℤ◌, ◌<◌, ◌==◌, ◌∙◌, ◌∷◌, ◌≡◌, ◌≤◌, ◌⊎◌, Bool, List, None, Option, Some, [], and_from, and_parts, ap, arith, both_ways, cases_Bool, eq-eqb, eqb-true, false, filter, if◌then◌else◌, inl, inr, int_le, int_lt, ints, last_or, negsuc, option_map_or, pos, refl, subst, suc, sym, true, zero, ℕ, ℤ}
+use Rattle.precision_law.proofs.words.Std.{◌+ℤ◌, ◌+◌, ◌-◌, ◌<ℤ◌, ◌<◌, ◌==◌, ◌∙◌, ◌∷◌, ◌≡◌, ◌≤◌, ◌⊎◌, Bool, List, None, Option, Some, [], and_from, and_parts, ap, arith, both_ways, cases_Bool, eq-eqb, eqb-true, false, filter, if◌then◌else◌, inl, inr, int_le, int_lt, ints, last_or, negsuc, option_map_or, pos, refl, subst, suc, sym, true, zero, ℕ}
 use Rattle.precision_law.proofs.words.Plans.{DeviceId, Units, int_le-true}
 use Rattle.precision_law.proofs.words.Runs.{Happening, IsIn, NoteBody, adjustment_before, changed_at, changes_adjustment, correction_value, cycle_in, earlier, had_come, has_cleared, in_filter, integration_cycle, is_integration_cycle, is_joined_by, local_at_change, next_cycle, recorded_cycle, time_of}
 use Rattle.precision_law.proofs.words.Laws.{HasTimeAt, IsGood, IsOldAt, IsView, Stands, View, cycle_set, epoch_time, is_corrected, is_correction, last_setting, next_of}
 use Rattle.precision_law.proofs.words.Clocks.{adjustment_stays, fold_last, in_earlier, int_le-is, joined_changes, last_some, lt_by, next_cycle_is_of_last, passes, sets_none, setting_is, settings_stay, steady, time_stays}
 use Rattle.run_law.specs.declared.note.NoteBody.TheVariants as notes
+use Rattle.tte_lemmas.proofs.Integers.{int_lt-from, int_lt-is}
 
 -- ---- the last joining
 
@@ -84,12 +85,6 @@ joiner_integrates hs device h e changes other =
     )
 
 -- ---- an old device
-
-pub int_lt-is : (a b : ℤ) → int_lt a b ≡ true → a <ℤ b
-int_lt-is a b e = grind (arith, ints)
-
-pub int_lt-from : (a b : ℤ) → a <ℤ b → int_lt a b ≡ true
-int_lt-from a b h = grind (arith, ints)
 
 -- one that had cleared before u, and is to integrate before t, had cleared before each instant from u on
 pub cleared_from : (v : View) (device : DeviceId) (u q t : ℕ) → IsView v → u ≤ q → u ≤ t → epoch_time (earlier t v.records) device <ℤ pos u

@@ -1,9 +1,11 @@
 -- The points that count in a cluster, and their middle.
-use Rattle.precision_law.proofs.words.Std.{◌%◌, ◌&&◌, ◌*ℤ◌, ◌*◌, ◌++◌, ◌+ℤ◌, ◌+◌, ◌-ℤ◌, ◌/◌, ◌<◌, ◌==◌, ◌^◌, ◌∙◌, ◌∷◌, ◌≡◌, ◌≤ℤ◌, ◌≤◌, ◌⊎◌, All, All-cons, All-nil, AllByRecursion, Bool, Contains, List, [], and_le_r, and_parts, and_pow, ap, arith, bit_at, bit_at_lowest, bit_at_or, bit_or, cases_Bool, count_ones, eqb-false, eqb-true, false, filter, fold, inl, inr, int_le, ints, length, map, max, ones_le_self, ones_step, or_cases, or_disjoint, or_parts, or_shr, pos, pow-suc, pow_pos, refl, subst, suc, sym, true, zero, ℕ, ℤ}
+use Rattle.precision_law.proofs.words.Std.{◌&&◌, ◌*ℤ◌, ◌*◌, ◌++◌, ◌+ℤ◌, ◌+◌, ◌-ℤ◌, ◌/◌, ◌<◌, ◌==◌, ◌^◌, ◌∙◌, ◌∷◌, ◌≡◌, ◌≤ℤ◌, ◌≤◌, ◌⊎◌, All, All-cons, All-nil, AllByRecursion, Bool, Contains, List, [], and_le_r, and_parts, and_pow, ap, arith, bit_at, bit_or, cases_Bool, count_ones, eqb-false, eqb-true, false, filter, fold, inl, inr, int_le, ints, length, map, ones_le_self, ones_step, or_cases, or_disjoint, or_parts, pos, pow-suc, pow_pos, refl, subst, suc, sym, true, zero, ℕ, ℤ}
 use Rattle.precision_law.proofs.words.Plans.{AllButOne, AreClusters, Cluster, IsAscending, LiesWithin, Ordered, Ordered-beyond, Point, all-filter, beyond, cluster_of, counts, end_of, end_of-least, firsts, firsts-start, from_beyond, has_master, held-start, in_cases, in_head, in_none, in_tail, mean_of-floor, members_of, members_of-clear, members_of-set, middle_among_others, middle_of, of_cycle_within, relative, with_first, with_first-new, with_first-old}
 use Rattle.precision_law.proofs.words.Runs.{IsIn, in_parts}
-use Rattle.precision_law.proofs.block.Hulls.{int_le-is}
 use Rattle.compression.proofs.Elements.{in_filter}
+use Rattle.tte_lemmas.proofs.Integers.{int_le-is}
+use Rattle.tte_lemmas.proofs.Lists.{all-push}
+use Rattle.tte_lemmas.proofs.Naturals.{or_half, or_parity}
 
 -- ---- lists
 
@@ -16,15 +18,6 @@ in_all P [] x all i = absurd i
 in_all P (y ∷ xs) x all (inl same) = subst P (sym same) all.0
 in_all P (y ∷ xs) x all (inr more) = in_all P xs x all.1 more
 
-all_push : {X : Type 0} (P : X → Type 0) (xs : List X) (x : X) → AllByRecursion P xs → P x → AllByRecursion P (xs ++ x ∷ [])
-all_push P [] x all one = (one, tt)
-all_push P (y ∷ xs) x all one = (all.0, all_push P xs x all.1 one)
-
-pub contains : {X : Type 0} (xs : List X) (x : X) → IsIn x xs → Contains xs x
-contains [] x i = absurd i
-contains {X} (y ∷ xs) x (inl same) = subst (Contains (y ∷ xs)) (sym same) (in_head y xs)
-contains (y ∷ xs) x (inr more) = in_tail y x xs (contains xs x more)
-
 -- ---- the first points of each master
 
 -- points of which no two are of one master
@@ -36,7 +29,7 @@ apart_push : (xs : List Point) (x : Point) → Apart xs → has_master xs x.mast
 apart_push [] x apart none = (tt, tt)
 apart_push (p ∷ ps) x apart none =
     let parts = or_parts (p.master == x.master) (has_master ps x.master) none in
-    (all_push (λ (q : Point). q.master ≡ p.master → ⊥) ps x apart.0 (λ e. eqb-false p.master x.master parts.0 (sym e)), apart_push ps x apart.1 parts.1)
+    (all-push (λ (q : Point). q.master ≡ p.master → ⊥) ps x apart.0 (λ e. eqb-false p.master x.master parts.0 (sym e)), apart_push ps x apart.1 parts.1)
 
 fold_apart : (acc xs : List Point) → Apart acc → Apart (fold with_first acc xs)
 fold_apart acc [] apart = apart
@@ -53,7 +46,7 @@ firsts_apart xs = fold_apart [] xs tt
 ordered_push : (xs : List Point) (x : Point) → Ordered xs → ((a : Point) → IsIn a xs → a.reading ≤ℤ x.reading) → Ordered (xs ++ x ∷ [])
 ordered_push [] x up below = (tt, tt)
 ordered_push (p ∷ ps) x up below =
-    (all_push (λ (q : Point). p.reading ≤ℤ q.reading) ps x up.0 (below p (inl refl)), ordered_push ps x up.1 (λ a i. below a (inr i)))
+    (all-push (λ (q : Point). p.reading ≤ℤ q.reading) ps x up.0 (below p (inl refl)), ordered_push ps x up.1 (λ a i. below a (inr i)))
 
 fold_ordered : (acc xs : List Point) → Ordered acc → Ordered xs → ((a x : Point) → IsIn a acc → IsIn x xs → a.reading ≤ℤ x.reading)
     → Ordered (fold with_first acc xs)
@@ -226,14 +219,8 @@ has_firsts ow o rest some =
 
 -- ---- how many
 
-or_half : (a b : ℕ) → bit_or a b / 2 ≡ bit_or (a / 2) (b / 2)
-or_half a b = or_shr a b 1
-
 or_zero : (n : ℕ) → bit_or n 0 ≡ n
 or_zero n = omega (arith, or_disjoint n 0 (omega (arith, and_le_r n 0)))
-
-or_parity : (a b : ℕ) → bit_or a b % 2 ≡ max (a % 2) (b % 2)
-or_parity a b = omega (arith, bit_at_or a b 0, bit_at_lowest (bit_or a b), bit_at_lowest a, bit_at_lowest b)
 
 -- one more bit makes at most one more
 ones_or : (k n : ℕ) → count_ones (bit_or n (2 ^ k)) ≤ count_ones n + 1

@@ -1,6 +1,7 @@
 -- When compression masters send.
+use Rattle.run_law.proofs.records.Order.{contained}
 use Rattle.precision_law.proofs.words.Std.{◌-ℤ◌, ◌==◌, ◌∙◌, ◌∷◌, ◌≡◌, ◌≤ℤ◌, ◌≤◌, AllByRecursion, Contains, Err, List, Ok, Some, [], after_last, ap, arith, inl, inr, ints, map, pos, refl, subst, sym, ℕ, ℤ}
-use Rattle.precision_law.proofs.words.Plans.{Cluster, Compressed, DeviceId, LinkId, Pcf, Point, Units, amount, cluster_of, emission, in_cases, in_none, last_but_one, mean_of, mean_of-floor, middle_of, point_at, relative}
+use Rattle.precision_law.proofs.words.Plans.{Cluster, Compressed, DeviceId, LinkId, Pcf, Point, Units, amount, cluster_of, emission, in_cases, last_but_one, mean_of, mean_of-floor, middle_of, point_at, relative}
 use Rattle.precision_law.proofs.words.Runs.{Arrival, Happening, IsArrivedRecord, IsCaused, IsDue, IsFounded, IsIn, Judgement, NoteBody, Signal, arrival_of, control, cycle_in, ends_stretch, founded_at, in_right, master_of, members_in, numbered_in, observation_window, place_of, point_by, points_of, standpoint, time_of, timed}
 use Rattle.precision_law.proofs.words.Laws.{EmissionsAreSharp, IsView, View}
 use Rattle.precision_law.proofs.words.Clocks.{IsClusterOf, TakesWith, behind_last, cluster_from, has_firsts, in_filter_map, never_timed, reach_is_sharp, room, same_device, sizes_are, some_if, steady, taken_as, taken_sound}
@@ -45,11 +46,6 @@ middle_late ow o rest some =
     (middle_not_negative (map (λ q. q -ℤ o.reading) (map (λ q. q.reading) (o ∷ f.more))) (all_late o (o ∷ f.more) (λ q i. (f.each q i).from)))
 
 -- ---- points
-
--- what is in a list by its place is in it
-pub contained : {X : Type 0} (xs : List X) (x : X) → Contains xs x → IsIn x xs
-contained [] x at = absurd (in_none x at)
-contained (y ∷ xs) x at = elim (in_cases y x xs at) [ inl same ↦ inl (sym same) | inr more ↦ inr (contained xs x more) ]
 
 -- so is what is in a cluster of the points
 pub in_cluster : {ow : ℤ} {ps : List Point} {c : Cluster} (k : IsClusterOf ow ps c) (q : Point) → Contains (k.first ∷ k.rest) q → IsIn q ps

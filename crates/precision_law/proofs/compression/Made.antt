@@ -1,6 +1,7 @@
 -- What compressed frames are made of.
-use Rattle.precision_law.proofs.words.Std.{◌*ℤ◌, ◌*◌, ◌++◌, ◌+ℤ◌, ◌<◌, ◌==◌, ◌^◌, ◌∙◌, ◌∷◌, ◌≡◌, ◌≤ℤ◌, ◌≤◌, ◌⊎◌, Bool, List, Option, Some, [], ap, arith, bit_at, bit_at-zero, both_ways, eq-eqb, eqb-true, false, if◌then◌else◌, inl, inr, ints, length, map, nat_le, option_map_or, pos, refl, subst, sym, true, zero_from_ones, ℕ, ℤ}
-use Rattle.precision_law.proofs.words.Plans.{Cluster, Compressed, DeviceId, IsMember, Members, Ordered, Pcf, Point, amount, count_of, emission, end_of, firsts, members_of, middle_of, of_cycle_within, relative}
+use Rattle.compression.proofs.ClusterFacts.{ends_soon}
+use Rattle.precision_law.proofs.words.Std.{◌*◌, ◌++◌, ◌+ℤ◌, ◌<◌, ◌==◌, ◌^◌, ◌∙◌, ◌∷◌, ◌≡◌, ◌≤ℤ◌, ◌≤◌, ◌⊎◌, List, Option, Some, [], ap, arith, bit_at, bit_at-zero, both_ways, eq-eqb, eqb-true, inl, inr, ints, map, option_map_or, pos, refl, subst, sym, true, zero_from_ones, ℕ, ℤ}
+use Rattle.precision_law.proofs.words.Plans.{Cluster, Compressed, DeviceId, IsMember, Members, Ordered, Pcf, Point, amount, count_of, emission, members_of, middle_of, relative}
 use Rattle.precision_law.proofs.words.Runs.{Happening, IsCaused, IsFoundedAt, IsIn, cycle_in, founded_at, frame_by, in_left, is_broken, is_cm, master_of, member_of, observation_window, points_of, same_some, time_of}
 use Rattle.precision_law.proofs.words.Laws.{EmissionsAreOfDispatches, HasGood, IsBad, IsDispatch, IsEmission, IsGood, IsGoodMember, IsInTime, IsView, MembersAreMasters, ThreeHaveGood, View, clock_in, links_of}
 use Rattle.precision_law.proofs.words.Clocks.{Apart, any_in, before_of, cluster_from, few_members, frames_up_are_of_masters, has_firsts, has_is_member, has_member, in_all, in_any, le_by, member_has, one_bad, one_member, sizes_are}
@@ -117,13 +118,6 @@ pub record IsMade (v : View) (h : Happening) (cm : DeviceId) (cycle : ℕ) (memb
   pub differ : Apart (first ∷ more)
   pub ordered : Ordered (first ∷ more)
   pub at : sent ≡ ((first.reading +ℤ pos v.sizes.compression) +ℤ middle_of (relative (map (λ q. q.reading) (first ∷ more))))
-
-pub ends_soon : (ow : ℤ) (o : Point) (ps : List Point) → pos 0 ≤ℤ ow → end_of ow o ps ≤ℤ (o.reading +ℤ (pos 2 *ℤ ow))
-ends_soon ow o ps some = by (nat_le 2 (length (firsts (of_cycle_within o.cycle o.reading (o.reading +ℤ ow) ps))))
-  where
-    by : (b : Bool) → (if b then o.reading +ℤ (pos 2 *ℤ ow) else o.reading +ℤ ow) ≤ℤ (o.reading +ℤ (pos 2 *ℤ ow))
-    by true = omega (arith, ints, some)
-    by false = omega (arith, ints, some)
 
 pub made_of : (v : View) (h : Happening) (cm : DeviceId) (cycle : ℕ) (members : Members) (is : IsView v) → (e : IsEmission v h cm cycle members)
     → IsMade v h cm cycle members e.at.0 (founded_at v.scenario v.records h is.run.founded e.there).front

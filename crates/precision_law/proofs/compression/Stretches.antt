@@ -1,5 +1,6 @@
 -- The points of a compression master as records come.
-use Rattle.precision_law.proofs.words.Std.{◌++◌, ◌-◌, ◌<◌, ◌∙◌, ◌∷◌, ◌≡◌, ◌≤ℤ◌, ◌≤◌, ◌⊎◌, Bool, List, None, Option, Some, [], after_last, ap, append_assoc, arith, cons_option, filter_map, filter_map-append, inl, inr, ints, pos, refl, subst, sym, ℕ, ℤ}
+use Rattle.run_law.proofs.records.Order.{place_order}
+use Rattle.precision_law.proofs.words.Std.{◌++◌, ◌-◌, ◌<◌, ◌∙◌, ◌∷◌, ◌≡◌, ◌≤ℤ◌, ◌⊎◌, Bool, List, None, Option, Some, [], after_last, ap, append_assoc, arith, cons_option, filter_map, filter_map-append, inl, inr, ints, pos, refl, subst, sym, ℕ, ℤ}
 use Rattle.precision_law.proofs.words.Plans.{DeviceId, Ordered, Point, amount}
 use Rattle.precision_law.proofs.words.Runs.{Happening, IsBefore, IsDue, IsFounded, IsIn, behind_first, ends_stretch, in_left, in_right, members_in, place_of, point_by, points_of, time_of}
 use Rattle.precision_law.proofs.words.Laws.{IsRipe, IsView, View}
@@ -35,13 +36,6 @@ later_point v cm point t q is r lt =
     ]
 
 -- ---- order
-
-pub place_order : (t u d a b : ℕ) (xs ys : List ℕ) → IsBefore (t ∷ 3 ∷ d ∷ a ∷ xs) (u ∷ 3 ∷ d ∷ b ∷ ys) → (t < u) ⊎ (a ≤ b)
-place_order t u d a b xs ys (inl lt) = inl lt
-place_order t u d a b xs ys (inr (same, inl lt)) = absurd (omega (arith, lt))
-place_order t u d a b xs ys (inr (same, inr (e, inl lt))) = absurd (omega (arith, lt))
-place_order t u d a b xs ys (inr (same, inr (e, inr (f, inl lt)))) = inr (omega (arith, lt))
-place_order t u d a b xs ys (inr (same, inr (e, inr (f, inr more)))) = inr (omega (arith, more.0))
 
 points_in_order : (v : View) (cm : DeviceId) (k l : Happening) (p q : Point) → IsView v → IsIn k v.records → IsIn l v.records → GivesPoint cm k p
     → GivesPoint cm l q → IsBefore (place_of k) (place_of l) → p.reading ≤ℤ q.reading

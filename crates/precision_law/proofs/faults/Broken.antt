@@ -4,7 +4,8 @@ use Rattle.precision_law.proofs.words.Plans.{Device, DeviceId, Event, IsDeviceIn
 use Rattle.precision_law.proofs.words.Runs.{Breaks, IsIn, SecondBreak, breaks_at, events_up_to, in_filter, in_parts, in_right, member_of, parted}
 use Rattle.precision_law.proofs.words.Laws.{IsBad, IsView, OneMasterBreaks, View}
 use Rattle.net_plan.specs.declared.event.What.TheVariants as events
-use Rattle.precision_law.proofs.faults.Masters.{any_in, breaks_it, device_of_place}
+use Rattle.run_law.proofs.records.Order.{any_in}
+use Rattle.precision_law.proofs.faults.Masters.{breaks_it, device_of_place}
 use Rattle.precision_law.proofs.trips.Ascents.{bad_role}
 use Rattle.precision_law.proofs.Plain.{any_of_in, reached}
 

@@ -5,8 +5,8 @@ use Rattle.precision_law.proofs.words.Runs.{Breaks, TooFewMasters, breaks_at, in
 use Rattle.precision_law.proofs.words.Laws.{EnoughMasters, IsBad, IsFirstMaster, IsGood, IsView, View}
 use Rattle.membership.proofs.CountLemmas.{count_of-union_single}
 use Rattle.precision_law.proofs.faults.Broken.{broke_by, one_bad, one_member}
-use Rattle.precision_law.proofs.faults.Masters.{in_any}
 use Rattle.std.proofs.lemmas.Option.{slice_get_within}
+use Rattle.run_law.proofs.records.Order.{in_any}
 use Rattle.precision_law.proofs.trips.Ascents.{master_member}
 use Rattle.precision_law.proofs.Plain.{le_by}
 

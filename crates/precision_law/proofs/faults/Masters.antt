@@ -1,26 +1,12 @@
 -- What the fault hypothesis leaves.
-use Rattle.precision_law.proofs.words.Std.{◌++◌, ◌||◌, ◌∙◌, ◌∷◌, ◌≡◌, Any, Bool, IsSomeAnd, List, Option, Some, [], ap, arith, both_ways, eqb-true, false, false_from_ne_true, inl, inr, is_some, le-leb, leb-true, list_any, nat_le, not_from_true, or_left, or_right, refl, subst, sym, true, ℕ}
-use Rattle.precision_law.proofs.words.Plans.{A, B, Channel, Cm, Device, DeviceId, Event, HasOffSwitch, IsDeviceInRange, IsSwitchOf, Link, LinkId, Masters, Network, Relay, Role, What, all_at, amount, device_at, is_end_system, is_master, link_at, opened}
-use Rattle.precision_law.proofs.words.Runs.{Cuts, IsFaulty, IsIn, IsLinkOf, NotMaster, any_first, any_later, breaks_at, events_up_to, in_filter, is_broken, is_faulty, parted, same_some}
+use Rattle.precision_law.proofs.words.Std.{◌++◌, ◌∙◌, ◌∷◌, ◌≡◌, Any, IsSomeAnd, List, Option, Some, [], ap, arith, both_ways, eqb-true, false_from_ne_true, inl, inr, is_some, le-leb, leb-true, nat_le, not_from_true, refl, subst, sym, true, ℕ}
+use Rattle.precision_law.proofs.words.Plans.{A, B, Channel, Device, DeviceId, Event, HasOffSwitch, IsDeviceInRange, IsSwitchOf, Link, LinkId, Masters, Network, What, all_at, amount, device_at, is_end_system, is_master, link_at, opened}
+use Rattle.precision_law.proofs.words.Runs.{Cuts, IsFaulty, IsLinkOf, NotMaster, any_first, any_later, breaks_at, events_up_to, in_filter, is_broken, is_faulty, parted, same_some}
 use Rattle.precision_law.proofs.words.Laws.{GoodIsCorrect, IsBad, IsView, OneChannelIsSound, SwitchesAreGood, View}
 use Rattle.net_plan.specs.declared.event.What.TheVariants as events
-use Rattle.precision_law.proofs.records.Times.{in_kept, passes}
-
--- ---- lists
-
--- where some element passes, one is there that does
-pub any_in : {X : Type 0} (p : X → Bool) (xs : List X) → list_any p xs ≡ true → (x : X) × IsIn x xs × (p x ≡ true)
-any_in p [] e = absurd cc
-any_in {X} p (x ∷ xs) e = elim (p x) as (λ b. p x ≡ b → (b || list_any p xs) ≡ true → (y : X) × IsIn y (x ∷ xs) × (p y ≡ true)) [
-  | true ↦ λ at some. (x, inl refl, at)
-  | false ↦ λ at some. (let r = any_in p xs some in (r.0, inr r.1, r.2))
-] refl e
-
--- and where one does, some does
-pub in_any : {X : Type 0} (p : X → Bool) (xs : List X) (x : X) → IsIn x xs → p x ≡ true → list_any p xs ≡ true
-in_any p [] x i e = absurd i
-in_any p (y ∷ xs) x (inl same) e = or_left (p y) (list_any p xs) (ap p (sym same) ∙ e)
-in_any p (y ∷ xs) x (inr more) e = or_right (p y) (list_any p xs) (in_any p xs x more e)
+use Rattle.run_law.proofs.records.Order.{any_in, has_passed, in_any}
+use Rattle.schedule_tables.proofs.Margins.{master_ends}
+use Rattle.precision_law.proofs.records.Times.{in_kept}
 
 -- ---- broken devices
 
@@ -43,11 +29,6 @@ bad_is_master v device is bad no_master =
     let at = parted found.0 v.scenario.events (in_filter (λ e. nat_le (amount e.time) v.until) v.scenario.events found.0 found.1) in
     is.lawful.within at.0 at.1 found.0 at.2 NotMaster (record { device = device; breaks = breaks.1 ∙ ap events.Break same; no_master = no_master })
 
-pub master_ends : (role : Role) → is_master role ≡ true → is_end_system role ≡ true
-master_ends Cm e = absurd cc
-master_ends Relay e = absurd cc
-master_ends role e = refl
-
 pub switches_are_good : SwitchesAreGood
 switches_are_good v channel device is switch =
     false_from_ne_true (is_broken v.scenario device v.until) (λ bad. bad_is_master v device is bad (λ master.
@@ -62,7 +43,7 @@ good_is_correct v device t good le =
     false_from_ne_true (is_broken v.scenario device t) (λ broken.
     let found = any_in (λ (e : Event). breaks_at device.0 e.what) (events_up_to v.scenario t) broken in
     let test = λ (u : ℕ) (x : Event). nat_le (amount x.time) u in
-    let early = leb-true (amount found.0.time) t (passes (test t) v.scenario.events found.0 found.1) in
+    let early = leb-true (amount found.0.time) t (has_passed (test t) v.scenario.events found.0 found.1) in
     let later = in_kept (test v.until) v.scenario.events found.0 (in_filter (test t) v.scenario.events found.0 found.1)
     (le-leb (amount found.0.time) v.until (omega (arith, early, le))) in
     both_ways (is_broken v.scenario device v.until) good

@@ -1,13 +1,15 @@
 -- A device that has the common time is not just turned on.
 use Rattle.precision_law.proofs.words.Std.{◌&&◌, ◌++◌, ◌<◌, ◌==◌, ◌∙◌, ◌∷◌, ◌≡◌, ◌≤◌, Bool, IsNone, IsSomeAnd, List, None, Option, Some, and_parts, ap, append_assoc, arith, eqb-true, false, false_from_ne_true, if◌then◌else◌, inl, inr, not, option_and_then, refl, subst, suc, sym, true, zero, ℕ}
-use Rattle.precision_law.proofs.words.Plans.{Device, DeviceId, Event, Integrating, Joining, Off, State, Units, What, amount, device_at, state_at_start}
+use Rattle.precision_law.proofs.words.Plans.{Device, DeviceId, Event, Integrating, Joining, Off, State, Units, amount, device_at, state_at_start}
 use Rattle.precision_law.proofs.words.Runs.{BecomesPermanent, ChangesState, Emits, Happening, Integrates, IsCaused, IsEventRecord, IsIn, NotOff, NoteBody, Scenario, TurnsOn, Why, adjustment_at_hearing, before_permanence, earlier, founded_at, has_joined_at, in_at, in_left, in_parts, in_right, is_joined_by, is_off, is_turned_on_at, numbered_in, observation_window, parted, plan_of, points_of, start_of, state_after, state_at_hearing, state_before, time_of, turns_on}
 use Rattle.precision_law.proofs.words.Laws.{AreBeforeCorrections, IsView, NoneTurnsOn, View, has_time, state_left}
 use Rattle.precision_law.proofs.words.Clocks.{Keeps, any_in, any_of_in, before_of, earlier_before, earlier_judge, in_earlier, kept_by_all, kept_if, point_has_time, same_device}
 use Rattle.net_plan.specs.declared.event.What.TheVariants as events
+use Rattle.run_law.proofs.scenario.Devices.{on_by}
 use Rattle.run_law.specs.declared.judgement.Why.TheVariants as whys
 use Rattle.run_law.specs.declared.note.NoteBody.TheVariants as notes
 use Rattle.run_law.specs.declared.steps.Ripe.TheVariants as ripe
+use Rattle.sync_state.proofs.StateFacts.{before_hearing}
 use Rattle.precision_law.proofs.block.Joins.{integrates_by, ripe_integrates}
 
 -- ---- states
@@ -20,11 +22,6 @@ timed_on : (state : State) → has_time state ≡ true → is_on state ≡ true
 timed_on Off e = absurd cc
 timed_on Integrating e = absurd cc
 timed_on state e = refl
-
--- a device that hears so looks for the time when something comes
-before_hearing : (b : Bool) (state : State) → (if b then Joining else state) ≡ Integrating → state ≡ Integrating
-before_hearing true state e = absurd cc
-before_hearing false state e = e
 
 -- so does one that a frame tells the time
 pub looking_by : (s : Scenario) (ps : List Happening) (time : Units) (device : DeviceId) (body : NoteBody) → is_joined_by device body ≡ true
@@ -47,10 +44,6 @@ looking_by s ps time device other joined caused = absurd cc
 
 -- ---- events
 
-turns_it : (device : DeviceId) (what : What) → turns_on device what ≡ true → what ≡ events.On device
-turns_it device (events.On other) e = ap events.On (same_device device other e)
-turns_it device other e = absurd cc
-
 -- the event that turns the device on at a time
 pub record IsTurnedAt (s : Scenario) (device : DeviceId) (t : ℕ) : Type 0 where
   pub event : Event
@@ -62,7 +55,7 @@ pub turned_at : (s : Scenario) (device : DeviceId) (t : ℕ) → is_turned_on_at
 turned_at s device t e =
     let found = any_in (λ (x : Event). turns_on device x.what && amount x.time == t) s.events e in
     let both = and_parts (turns_on device found.0.what) (amount found.0.time == t) found.2 in
-    record { event = found.0; there = found.1; turns = turns_it device found.0.what both.0; at = eqb-true (amount found.0.time) t both.1 }
+    record { event = found.0; there = found.1; turns = on_by device found.0.what both.0; at = eqb-true (amount found.0.time) t both.1 }
 
 -- ---- a device that begins off stays so
 

@@ -6,12 +6,11 @@ use Rattle.precision_law.proofs.words.Laws.{IsView, SoundSwitchesBeginOn, SoundW
 use Rattle.net_plan.specs.declared.event.What.TheVariants as events
 use Rattle.run_law.specs.declared.outside.Outside.TheVariants as outside
 use Rattle.std.proofs.Common.{filter_map}
-use Rattle.precision_law.proofs.records.Behind.{in_filter_map}
 use Rattle.precision_law.proofs.records.Points.{last_in}
-use Rattle.precision_law.proofs.records.Times.{passes}
 use Rattle.precision_law.proofs.trips.Ascents.{no_earlier}
 use Rattle.precision_law.proofs.Plain.{any_is, any_of_in, some_if}
 use Rattle.run_law.proofs.law.FirstDelays.{given, same_way_link}
+use Rattle.run_law.proofs.records.Order.{given_of, has_passed}
 
 -- ---- switches
 
@@ -51,7 +50,7 @@ cut_by s link way t cut =
     elim (last_in None (filter_map sets (events_up_to s t)) true (some_true (last_or None (filter_map sets (events_up_to s t))) cut)) [
       | inl none ↦ absurd cc
       | inr i ↦
-          let made = in_filter_map sets (events_up_to s t) true i in
+          let made = given_of sets (events_up_to s t) true i in
           (made.0, made.1, set_by made.0 made.0.what refl made.2)
     ]
   where
@@ -140,6 +139,6 @@ sound_ways_are_whole v link way t is of_channel le =
     false_from_ne_true (is_cut v.scenario link way t) (λ cut.
     let by_event = cut_by v.scenario link way t cut in
     let e = by_event.0 in
-    let test = leb-true (amount e.time) t (passes (λ x. nat_le (amount x.time) t) v.scenario.events e by_event.1) in
+    let test = leb-true (amount e.time) t (has_passed (λ x. nat_le (amount x.time) t) v.scenario.events e by_event.1) in
     let at = parted e v.scenario.events (in_filter (λ x. nat_le (amount x.time) t) v.scenario.events e by_event.1) in
     never_cut v link e at.0 at.1 is of_channel at.2 by_event.2 (omega (arith, test, le)) (first_cut at.0))

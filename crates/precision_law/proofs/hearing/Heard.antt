@@ -1,14 +1,15 @@
 -- What a device has heard since its last correction point.
+use Rattle.net_plan.proofs.SameIds.{one_device}
+use Rattle.run_law.proofs.records.Order.{given_of, has_passed}
 use Rattle.precision_law.proofs.words.Std.{◌&&◌, ◌++◌, ◌+ℤ◌, ◌+◌, ◌-◌, ◌<◌, ◌==◌, ◌||◌, ◌∙◌, ◌∷◌, ◌≡◌, ◌≤◌, Bool, List, None, Option, Some, [], after_last, and_from, ap, append_assoc, both_ways, false, filter, if◌then◌else◌, inl, inr, int_le, int_lt, lt-ltb, nat_lt, not, option_map, option_map_or, pos, refl, subst, sym, true, ℕ}
 use Rattle.precision_law.proofs.words.Plans.{Channel, DeviceId, HeardFrame, Hearing, IsBest, LinkId, Members, Units, within_on}
 use Rattle.precision_law.proofs.words.Runs.{Happening, IsIn, Judgement, NoteBody, Outside, Scenario, Within, adjustment_after, changes_adjustment, channel_of, channel_of_link, correction_value, has_cleared, heard_by, heard_since, hearing_by, in_filter, in_left, in_parts, in_right, is_integration_cycle, members_in, next_cycle, recorded_cycle, time_of}
 use Rattle.precision_law.proofs.words.Laws.{AreBeforeCorrections, HearsBy, IsOfHearer, IsView, View, last_setting}
 use Rattle.run_law.specs.declared.note.NoteBody.TheVariants as notes
-use Rattle.precision_law.proofs.Plain.{mapped}
-use Rattle.precision_law.proofs.clocks.Epochs.{same_device}
-use Rattle.precision_law.proofs.records.Behind.{behind_last, in_filter_map}
+use Rattle.tte_lemmas.proofs.Options.{mapped}
+use Rattle.precision_law.proofs.records.Behind.{behind_last}
 use Rattle.precision_law.proofs.records.Points.{earlier_before}
-use Rattle.precision_law.proofs.records.Times.{AreSorted, passes}
+use Rattle.precision_law.proofs.records.Times.{AreSorted}
 use Rattle.precision_law.proofs.records.Views.{in_order}
 
 -- ---- what depends on earlier records alone
@@ -52,7 +53,7 @@ hearing_of v device t front hearing is split i =
     let set = λ (h : Happening). nat_lt (time_of h) t && changes_adjustment device h.note.body in
     let late = λ (h : Happening). not (has_cleared v.scenario front device t t) || has_cleared v.scenario front device t (time_of h) in
     let since = after_last set front in
-    let made = in_filter_map (λ (h : Happening). hearing_by v.scenario.network device h h.note.body) (filter late since) hearing i in
+    let made = given_of (λ (h : Happening). hearing_by v.scenario.network device h h.note.body) (filter late since) hearing i in
     let h = made.0 in
     let in_since = in_filter late since h made.1 in
     let cut = behind_last set front in
@@ -66,7 +67,7 @@ hearing_of v device t front hearing is split i =
             (and_from (nat_lt (time_of x) t) (changes_adjustment device x.note.body) (lt-ltb (time_of x) t lt) changes))
         | inl ahead ↦ front_first cut.front (since ++ split.rest) x h (subst AreSorted all (in_order v is)) ahead (in_left h since split.rest in_since)
       ];
-      cleared = λ c. subst (λ (b : Bool). (not b || has_cleared v.scenario front device t (time_of h)) ≡ true) c (passes late since h made.1);
+      cleared = λ c. subst (λ (b : Bool). (not b || has_cleared v.scenario front device t (time_of h)) ≡ true) c (has_passed late since h made.1);
     }
 
 -- ---- what is heard
@@ -111,7 +112,7 @@ module _ (v : View) (device : DeviceId) (h : Happening) (hearing : Hearing) wher
       → HearsThis v device h hearing
   from_afar other link cause point judgement within judges i same e =
       let both = if_some (device.0 == other.0) _ hearing e in
-      let mine = same ∙ ap (λ (d : DeviceId). notes.Permanent d link cause point judgement) (same_device device other both.0) in
+      let mine = same ∙ ap (λ (d : DeviceId). notes.Permanent d link cause point judgement) (one_device device other both.0) in
       hears_on v device h hearing judgement within point (channel_of_link v.scenario.network link) judges
       (λ channel of. record { there = i; how = inl (link, cause, point, mine, of, refl) }) both.1
 
@@ -122,7 +123,7 @@ module _ (v : View) (device : DeviceId) (h : Happening) (hearing : Hearing) wher
       → HearsThis v device h hearing
   from_itself other opened point cycle members judgement within judges i same e =
       let both = if_some (device.0 == other.0) _ hearing e in
-      let mine = same ∙ ap (λ (d : DeviceId). notes.Compressed d opened point cycle members judgement) (same_device device other both.0) in
+      let mine = same ∙ ap (λ (d : DeviceId). notes.Compressed d opened point cycle members judgement) (one_device device other both.0) in
       hears_on v device h hearing judgement within point (channel_of v.scenario.network device) judges
       (λ channel of. record { there = i; how = inr (opened, point, cycle, members, mine, of, refl) }) both.1
 

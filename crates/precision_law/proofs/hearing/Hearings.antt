@@ -6,6 +6,7 @@ use Rattle.precision_law.proofs.words.Laws.{HearingsAreOfFrames, IsEmission, IsO
 use Rattle.compression.specs.declared.taken.Taken.TheVariants as taken
 use Rattle.run_law.specs.declared.note.NoteBody.TheVariants as notes
 use Rattle.run_law.specs.declared.steps.Ripe.TheVariants as ripe
+use Rattle.tte_lemmas.proofs.Options.{passed}
 use Rattle.precision_law.proofs.records.Points.{before_of}
 use Rattle.precision_law.proofs.trips.Descents.{emission_shows, frames_down_are_of_cms}
 
@@ -43,17 +44,13 @@ switch_is_relay : (role : Role) → is_cm_role role ≡ false → is_end_system 
 switch_is_relay Relay a b = refl
 switch_is_relay role a b = absurd cc
 
-there_where : {X : Type 0} (f : X → Bool) (o : Option X) → option_map_or f o false ≡ true → (x : X) × (o ≡ Some x) × (f x ≡ true)
-there_where f None e = absurd cc
-there_where f (Some x) e = (x, refl, e)
-
 -- so it receives on a way down
 hearer_down : (v : View) (device : DeviceId) (link : LinkId) → IsView v → is_cm v.scenario.network device ≡ false
     → waits_for v.scenario.network device link ≡ true → way_to v.scenario.network device link ≡ Down
 hearer_down v device link is cm waits =
     ap (λ (b : Bool). if b then Up else Down) (false_from_ne_true (is_parent_of v.scenario.network device link) (λ parent.
     let n = v.scenario.network in
-    let l = there_where (λ (k : Link). k.parent.0 == device.0) (link_at n link) parent in
+    let l = passed (λ (k : Link). k.parent.0 == device.0) (link_at n link) parent in
     let same : l.0.parent ≡ device = ap (λ (i : ℕ). let d : DeviceId = record { 0 = i } in d) (eqb-true l.0.parent.0 device.0 l.2) in
     let joint = is.lawful.rules Joints link.0 l.0 l.1 in
     let p = opened (λ (d : Device). d.channel ≡ Some joint.0) (device_at n l.0.parent) joint.1 in

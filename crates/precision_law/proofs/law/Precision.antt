@@ -1,11 +1,12 @@
 -- The precision, from what blocks bring.
-use Rattle.precision_law.proofs.words.Std.{◌+ℤ◌, ◌+◌, ◌∙◌, ◌≡◌, ◌≤◌, Bool, List, arith, cases_lt, false, if◌then◌else◌, inl, inr, le-leb, le-ltb, lt-leb, lt-ltb, nat_le, nat_lt, pos, refl, subst, sym, true, ℕ}
-use Rattle.precision_law.proofs.words.Plans.{AsyncClique, Channel, Cleared, Corrected, DeviceId, Integrating, IsBeta, IsSwitchOf, State, SyncClique, Synchronised, Units, Verdict, beta_at, beta_exists, rules_give_trees, shape_rules}
+use Rattle.precision_law.proofs.words.Std.{◌+ℤ◌, ◌+◌, ◌∙◌, ◌≡◌, ◌≤◌, List, arith, cases_lt, false, inl, inr, le-leb, le-ltb, lt-leb, lt-ltb, nat_le, nat_lt, pos, refl, subst, sym, true, ℕ}
+use Rattle.precision_law.proofs.words.Plans.{AsyncClique, Channel, Cleared, Corrected, DeviceId, IsBeta, IsSwitchOf, State, SyncClique, Synchronised, Units, Verdict, beta_at, beta_exists, rules_give_trees, shape_rules}
 use Rattle.precision_law.proofs.words.Runs.{AreClose, ChangesState, ComesToCorrection, Happening, IsCaused, IsIn, IsInStep, IsInStepBefore, Note, Scenario, Why, adjustment_after, earlier, founded_at, happenings, is_broken, is_end, is_turned_on_at, state_after, time_of, up_to}
 use Rattle.precision_law.proofs.words.Laws.{BlocksCover, BlocksGoSo, ClocksAgreeInBlocks, ClocksStayTogether, ComesTo, FirmDevicesCorrect, HasTimeAt, IsClique, IsFirm, IsRunUpTo, IsSound, IsView, OneChannelIsSound, TimeIsKept, View, has_time, sizes_of, state_left}
 use Rattle.precision_law.proofs.words.Clocks.{IsCutAt, before_of, cut_at, point_timed, same_kept}
 use Rattle.run_law.specs.declared.judgement.Why.TheVariants as whys
 use Rattle.run_law.specs.declared.note.NoteBody.TheVariants as notes
+use Rattle.sync_state.proofs.StateFacts.{up_state}
 
 -- ---- the view up to a time
 
@@ -45,11 +46,6 @@ up_to_is t hs = same_kept (λ h. nat_le (time_of h) t) (λ h. nat_lt (time_of h)
 pub timed_of : (state : State) → state ≡ Synchronised → has_time state ≡ true
 timed_of state e = rw e refl
 
--- a state that a device has once it is not just turned on
-pub not_integrating : (b : Bool) (state : State) → (if b then Integrating else state) ≡ Synchronised → state ≡ Synchronised
-not_integrating true state e = absurd cc
-not_integrating false state e = e
-
 pub clocks_stay_together : OneChannelIsSound → BlocksCover → ClocksAgreeInBlocks → ClocksStayTogether
 clocks_stay_together sound cover agree s mark ns until up =
     let hs = happenings s.network ns in
@@ -63,7 +59,7 @@ clocks_stay_together sound cover agree s mark ns until up =
           (close t (t + 1) d e le (omega arith) (omega arith) one.correct other.correct (left d one) (left e other));
       before = λ t d e le one other.
           let left : (x : DeviceId) → IsInStepBefore s hs x t → state_after s (earlier t hs) x ≡ Synchronised = λ x step.
-          not_integrating (is_turned_on_at s x t) (state_after s (earlier t hs) x) step.synchronised in
+          up_state (is_turned_on_at s x t) (state_after s (earlier t hs) x) step.synchronised in
           close t t d e le (omega arith) (omega arith) one.correct other.correct (left d one) (left e other);
     }
   where

@@ -1,10 +1,11 @@
 -- What stands behind the last element of a kind.
-use Rattle.precision_law.proofs.words.Std.{◌++◌, ◌+◌, ◌-◌, ◌∙◌, ◌∷◌, ◌≡◌, All, All-cons, All-nil, Bool, List, None, Option, Some, [], after_last, ap, append_assoc, arith, cons_option, drop, drop_at, false, filter_map, inl, inr, length, length-append, not, not_from_true, refl, subst, suffix_len, sym, true, ℕ}
+use Rattle.precision_law.proofs.words.Std.{◌++◌, ◌+◌, ◌-◌, ◌∙◌, ◌∷◌, ◌≡◌, All, Bool, List, [], after_last, ap, append_assoc, arith, drop, drop_at, false, inl, inr, length, length-append, not, not_from_true, refl, subst, suffix_len, sym, true, ℕ}
 use Rattle.precision_law.proofs.words.Runs.{IsIn, in_parts}
 use Rattle.std.proofs.lemmas.List.{get_or-append_right, length_push}
 use Rattle.std.proofs.lemmas.List.Sums.{suffix_len_is}
 use Rattle.std.proofs.lemmas.List.Elements.{All-get_or}
 use Rattle.std.proofs.Common.{get_or}
+use Rattle.run_law.proofs.records.Order.{all_of}
 
 -- ---- the last of a kind
 
@@ -32,11 +33,6 @@ module _ {X : Type 0} (p : X → Bool) where
       (λ some. absurd (omega (arith, some))) in
       let none : length (x ∷ xs) - suffix_len (λ x. not (p x)) (x ∷ xs) ≡ 0 = omega (arith, suffix) in
       ap (λ n. drop n (x ∷ xs)) none
-
--- what holds of each element holds of all
-pub all_of : {X : Type 0} (P : X → Type 0) (xs : List X) → ((x : X) → IsIn x xs → P x) → All P xs
-all_of P [] each = All-nil P
-all_of P (x ∷ xs) each = All-cons P x xs (each x (inl refl)) (all_of P xs (λ y i. each y (inr i)))
 
 pub not_each : {X : Type 0} (p : X → Bool) (xs : List X) → ((x : X) → IsIn x xs → p x ≡ false) → All (λ x. not (p x) ≡ true) xs
 not_each {X} p xs each = all_of (λ (x : X). not (p x) ≡ true) xs (λ x i. ap not (each x i))
@@ -87,16 +83,3 @@ behind_by {X} p xs (some front rest last whole is all) =
 
 pub behind_last : {X : Type 0} (p : X → Bool) (xs : List X) → IsBehindLast p xs
 behind_last p xs = behind_by p xs (parts_at_last p xs)
-
--- ---- what is made of elements
-
--- an element that is made of one of the list
-pub in_filter_map : {X Y : Type 0} (f : X → Option Y) (xs : List X) (y : Y) → IsIn y (filter_map f xs) → (x : X) × IsIn x xs × (f x ≡ Some y)
-in_filter_map f [] y i = absurd i
-in_filter_map {X} {Y} f (x ∷ xs) y i =
-    let later : IsIn y (filter_map f xs) → (z : X) × IsIn z (x ∷ xs) × (f z ≡ Some y) = λ j.
-    (let r = in_filter_map f xs y j in (r.0, inr r.1, r.2)) in
-    elim (f x) as (λ o. f x ≡ o → IsIn y (cons_option o (filter_map f xs)) → (z : X) × IsIn z (x ∷ xs) × (f z ≡ Some y)) [
-      | None ↦ λ e j. later j
-      | Some w ↦ λ e j. elim j [ inl same ↦ (x, inl refl, e ∙ ap (λ (u : Y). Some u) (sym same)) | inr more ↦ later more ]
-    ] refl i

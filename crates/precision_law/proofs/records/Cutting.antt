@@ -1,8 +1,10 @@
 -- A run up to an earlier time.
+use Rattle.run_law.proofs.records.Happenings.{soon}
+use Rattle.run_law.proofs.records.Order.{all_kept}
 use Rattle.precision_law.proofs.words.Std.{◌++◌, ◌+◌, ◌<◌, ◌∙◌, ◌∷◌, ◌≡◌, ◌≤◌, List, [], ap, append_assoc, arith, cases_lt, inl, inr, lt-ltb, nat_lt, subst, sym, ℕ}
-use Rattle.precision_law.proofs.words.Runs.{Happening, IsBefore, IsDue, IsFounded, IsIn, IsRun, IsSplit, Scenario, chain, earlier, earlier_time, front_founded, in_front_of, in_left, in_parts, key, members_in, place_of, rank, split, time_of}
+use Rattle.precision_law.proofs.words.Runs.{Happening, IsBefore, IsDue, IsFounded, IsIn, IsRun, IsSplit, Scenario, chain, earlier, earlier_time, front_founded, in_front_of, in_left, in_parts, place_of, split, time_of}
 use Rattle.precision_law.proofs.words.Laws.{Covers}
-use Rattle.precision_law.proofs.records.Times.{all_kept, earlier_front}
+use Rattle.precision_law.proofs.records.Times.{earlier_front}
 use Rattle.precision_law.proofs.Plain.{le_by}
 
 -- the records of a run before an earlier place are the run up to this place
@@ -47,17 +49,13 @@ pub record IsCutAt (s : Scenario) (hs : List Happening) (t : ℕ) : Type 0 where
 sooner : (h : Happening) (u : ℕ) → time_of h < u → IsBefore (place_of h) (u ∷ [])
 sooner h u lt = inl lt
 
--- and what is before the time is of an earlier one
-pub of_earlier : (h : Happening) (u : ℕ) → IsBefore (place_of h) (u ∷ []) → time_of h < u
-of_earlier h u b = earlier_time (time_of h) u (rank h.note.body ∷ key (members_in h) h.note.body) b
-
 pub cut_at : (s : Scenario) (mark : List ℕ) (hs : List Happening) (until t : ℕ) → IsRun place_of (IsDue s) mark hs → Covers mark until → t ≤ until
     → IsCutAt s hs t
 cut_at s mark hs until t run covers le =
     let at = split place_of (IsDue s) hs ((t + 1) ∷ []) run.founded in
     let keeps : (u : ℕ) → u ≤ t + 1 → earlier u at.front ≡ earlier u hs = λ u within.
     earlier_front u at.front at.rest (λ h i. le_by (λ lt. at.none h i (sooner h (t + 1) (omega (arith, lt, within))))) ∙ ap (earlier u) (sym at.whole) in
-    let all = all_kept (λ h. nat_lt (time_of h) (t + 1)) at.front (λ h i. lt-ltb (time_of h) (t + 1) (of_earlier h (t + 1) (at.before h i))) in
+    let all = all_kept (λ h. nat_lt (time_of h) (t + 1)) at.front (λ h i. lt-ltb (time_of h) (t + 1) (soon h (t + 1) (at.before h i))) in
     record {
       front = at.front;
       run = cut_run place_of (IsDue s) mark ((t + 1) ∷ []) hs at (λ q b. before_cover mark until t q covers le b) run;

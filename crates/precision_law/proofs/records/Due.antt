@@ -4,11 +4,12 @@ use Rattle.precision_law.proofs.words.Plans.{AreClusters, Cluster, DeviceId, IsR
 use Rattle.precision_law.proofs.words.Runs.{AllBefore, BecomesPermanent, Emits, Happening, IsBefore, IsCaused, IsCollectedOrDropped, IsCollectionOutcome, IsDue, IsFounded, IsIn, IsJudgedBy, IsPermanenceOutcome, IsPermanent, IsSplit, Judgement, NoneBefore, Note, NoteBody, Reason, Scenario, adjustment_at_hearing, by_number, due_is_there, front_founded, happening, heard_as, in_front_of, is_cm, key, master_of, members_in, numbered, observation_window, place_of, plan_of, point_fault, points_of, rank, ripe_as, sign, state_at_hearing, time_of, waits_for}
 use Rattle.precision_law.proofs.words.Laws.{IsEmission, IsGood, IsPermanentAt, IsView, Sizes, View}
 use Rattle.compression.specs.declared.taken.Taken.TheVariants as taken
+use Rattle.run_law.proofs.records.Order.{ahead}
 use Rattle.run_law.specs.declared.judgement.Judgement.TheVariants as judgements
 use Rattle.run_law.specs.declared.note.NoteBody.TheVariants as notes
+use Rattle.tte_lemmas.proofs.Bools.{match_false}
 use Rattle.precision_law.proofs.faults.Masters.{good_is_correct}
 use Rattle.precision_law.proofs.records.Judged.{all_judge}
-use Rattle.precision_law.proofs.Plain.{ranked}
 
 -- ---- what is sent
 
@@ -125,7 +126,7 @@ is_recorded v device arrival link frame point q verdict is r at becomes =
     let body : NoteBody = notes.Permanent device link number (record { 0 = point }) verdict in
     let p = r.permanent in
     let arrives : arrival.note.body ≡ notes.Arrived device link p.from p.clock = p.is ∙ ap (λ (l : LinkId). notes.Arrived device l p.from p.clock) r.by_link in
-    let sooner : IsBefore (place_of arrival) (place_of_ripe device arrival link frame point q) = ranked (time_of arrival) q (rank arrival.note.body) 3
+    let sooner : IsBefore (place_of arrival) (place_of_ripe device arrival link frame point q) = ahead (time_of arrival) q (rank arrival.note.body) 3
     (key (members_in arrival) arrival.note.body) (device.0 ∷ unsigned_abs point ∷ frame.members.0 ∷ link.0 ∷ number ∷ []) r.later
     (let two : rank arrival.note.body ≡ 2 = ap rank arrives in omega (arith, two)) in
     let front = front_founded place_of (IsDue s) at.front at.rest (subst (IsFounded place_of (IsDue s)) at.whole is.run.founded) in
@@ -165,10 +166,6 @@ is_recorded v device arrival link frame point q verdict is r at becomes =
 if_true : (b : Bool) (P Q : Type 0) → b ≡ true → P → MatchBool b P Q
 if_true true P Q e p = p
 if_true false P Q e p = absurd cc
-
-if_false : (b : Bool) (P Q : Type 0) → b ≡ false → Q → MatchBool b P Q
-if_false false P Q e p = p
-if_false true P Q e p = absurd cc
 
 -- a frame that is permanent at a compression master, and has no fault, has a record that gives its point, but where it
 -- is dropped since it lies in the time of a cluster of another cycle
@@ -215,4 +212,4 @@ pub is_heard_of : (v : View) (device : DeviceId) (arrival : Happening) (link : L
     → IsRipeRecord v device arrival link point q (heard_as (plan_of v.scenario.network device) (observation_window v.scenario.network)
     (state_at_hearing v.scenario at.front device q) (adjustment_at_hearing v.scenario at.front device q).0 point frame.cycle frame.members) frame
 is_heard_of v device arrival link frame point q is other r at =
-    is_recorded v device arrival link frame point q _ is r at (if_false (is_cm v.scenario.network device) _ _ other refl)
+    is_recorded v device arrival link frame point q _ is r at (match_false (is_cm v.scenario.network device) _ _ other refl)

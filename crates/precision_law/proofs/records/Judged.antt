@@ -1,17 +1,8 @@
 -- The records by which a frame that is permanent is judged.
-use Rattle.precision_law.proofs.words.Std.{◌&&◌, ◌==◌, ◌||◌, ◌∙◌, ◌∷◌, ◌≡◌, Bool, List, [], ap, arith, both_ways, cases_Bool, eq-eqb, false_from_ne_true, filter, if◌then◌else◌, inl, inr, le-ltb, lt-ltb, nat_lt, or_left, refl, sym, true, ℕ}
+use Rattle.run_law.proofs.records.Order.{all_kept, before_is}
+use Rattle.precision_law.proofs.words.Std.{◌∙◌, ◌∷◌, ◌≡◌, Bool, List, [], ap, both_ways, cases_Bool, false_from_ne_true, filter, if◌then◌else◌, inl, inr, nat_lt, or_left, refl, sym, true, ℕ}
 use Rattle.precision_law.proofs.words.Plans.{DeviceId, LinkId, Pcf, Units, amount}
-use Rattle.precision_law.proofs.words.Runs.{AllBefore, Happening, IsBefore, before_permanence, earlier, is_before, place_of, time_of}
-use Rattle.precision_law.proofs.records.Times.{all_kept}
-
--- the test of what comes before
-before_is : (p q : List ℕ) → IsBefore p q → is_before p q ≡ true
-before_is p [] b = absurd b
-before_is [] (y ∷ ys) b = refl
-before_is (x ∷ xs) (y ∷ ys) (inl lt) = or_left (nat_lt x y) _ (lt-ltb x y lt)
-before_is (x ∷ xs) (y ∷ ys) (inr b) =
-    ap (λ (c : Bool). c || (x == y && is_before xs ys)) (le-ltb x y (omega arith)) ∙ ap (λ (c : Bool). c && is_before xs ys) (eq-eqb x y b.0)
-    ∙ before_is xs ys b.1
+use Rattle.precision_law.proofs.words.Runs.{AllBefore, Happening, before_permanence, earlier, is_before, place_of, time_of}
 
 -- where all records are before the place of the frame's permanence, all count
 pub all_judge : (hs : List Happening) (t : ℕ) (device : DeviceId) (link : LinkId) (cause : ℕ) (frame : Pcf) (point : Units)

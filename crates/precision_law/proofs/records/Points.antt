@@ -1,18 +1,19 @@
 -- The records of a view with those before them, and the correction points that they come of.
-use Rattle.precision_law.proofs.words.Std.{◌++◌, ◌+ℤ◌, ◌+◌, ◌-ℤ◌, ◌<ℤ◌, ◌<◌, ◌∙◌, ◌∷◌, ◌≡◌, ◌≤◌, ◌⊎◌, Bool, List, None, Option, Some, [], ap, arith, cases_lt, false, filter, if◌then◌else◌, inl, inr, last_or, option_map_or, pos, refl, subst, sym, true, ℕ, ℤ}
-use Rattle.precision_law.proofs.words.Plans.{DeviceId, Integrating, IsReach, Off, State, Verdict, point_in}
-use Rattle.precision_law.proofs.words.Runs.{ComesToCorrection, Happening, IsDue, IsFounded, IsFoundedAt, IsIn, IsSplit, Reaches, Scenario, adjustment_after, adjustment_before, changes_adjustment, earlier, front_founded, in_filter, in_right, is_turned_on_at, key, members_in, place_of, rank, state_after, state_before, time_of}
+use Rattle.run_law.proofs.device.States.{reaches_by}
+use Rattle.run_law.proofs.records.Happenings.{from_earlier, soon}
+use Rattle.run_law.proofs.records.Order.{has_passed, time_before}
+use Rattle.precision_law.proofs.words.Std.{◌++◌, ◌+◌, ◌<◌, ◌∙◌, ◌∷◌, ◌≡◌, ◌≤◌, ◌⊎◌, Bool, List, None, Option, Some, [], ap, arith, cases_lt, false, filter, if◌then◌else◌, inl, inr, last_or, refl, subst, sym, true, ℕ, ℤ}
+use Rattle.precision_law.proofs.words.Plans.{DeviceId, Integrating, Off, State, Verdict, point_in}
+use Rattle.precision_law.proofs.words.Runs.{ComesToCorrection, Happening, IsDue, IsFounded, IsFoundedAt, IsIn, IsSplit, Reaches, adjustment_after, adjustment_before, changes_adjustment, earlier, front_founded, in_filter, in_right, is_turned_on_at, key, members_in, place_of, rank, state_after, state_before, time_of}
 use Rattle.precision_law.proofs.words.Laws.{AreBeforeCorrections, IsView, View, has_time, last_setting, state_left}
-use Rattle.precision_law.proofs.records.Cutting.{of_earlier}
-use Rattle.precision_law.proofs.records.Times.{AreSorted, earlier_front, in_earlier, passes}
+use Rattle.precision_law.proofs.records.Times.{AreSorted, earlier_front}
 use Rattle.precision_law.proofs.records.Views.{in_order}
-use Rattle.precision_law.proofs.Plain.{no_later}
 
 -- ---- records with those before them
 
 -- each record of a view is of a time up to its end
 pub within_run : (v : View) → IsView v → (h : Happening) → IsIn h v.records → time_of h ≤ v.until
-within_run v is h i = let lt = of_earlier h (v.until + 1) (is.run.within h i) in omega (arith, lt)
+within_run v is h i = let lt = soon h (v.until + 1) (is.run.within h i) in omega (arith, lt)
 
 -- of sorted records those before one are not later, and those behind it not earlier
 pub sorted_parts : (ps qs : List Happening) (x : Happening) → AreSorted (ps ++ x ∷ qs) → ((y : Happening) → IsIn y ps → time_of y ≤ time_of x)
@@ -55,12 +56,6 @@ point_has_time Off n cycle e = absurd cc
 point_has_time Integrating n cycle e = absurd cc
 point_has_time state n cycle e = refl
 
--- and the point is that of the number
-pub point_is : (state : State) (n cycle : ℕ) → point_in state n ≡ Some cycle → cycle ≡ n
-point_is Off n cycle e = absurd cc
-point_is Integrating n cycle e = absurd cc
-point_is state n cycle e = cc
-
 -- a device that is not just turned on has the state that the records leave
 not_turned_on : (b : Bool) (state : State) → has_time (if b then Integrating else state) ≡ true → has_time state ≡ true
 not_turned_on true state e = absurd cc
@@ -102,23 +97,11 @@ setting_is v device t h e =
     elim (last_in None (filter sets (earlier t v.records)) h e) [
       | inl none ↦ absurd cc
       | inr i ↦
-          let back = in_earlier t v.records h (in_filter sets (earlier t v.records) h i) in
-          record { there = back.0; early = back.1; sets = passes sets (earlier t v.records) h i }
+          let back = from_earlier t v.records h (in_filter sets (earlier t v.records) h i) in
+          record { there = back.0; early = back.1; sets = has_passed sets (earlier t v.records) h i }
     ]
 
 -- ---- what a clock reaches
-
--- it depends on the earlier records
-pub reaches_by : (s : Scenario) (hs gs : List Happening) (device : DeviceId) (value : ℤ) (t : ℕ) → earlier t hs ≡ earlier t gs
-    → Reaches s hs device value t → Reaches s gs device value t
-reaches_by s hs gs device value t same reaches = record {
-  below =
-      subst (λ (es : List Happening). (pos (s.reading device (option_map_or time_of (last_setting es device) 0)) +ℤ (adjustment_after s es device).0) <ℤ value)
-      same reaches.below;
-  reach =
-      subst (λ (es : List Happening). IsReach (s.reading device) (pos (option_map_or time_of (last_setting es device) 0))
-      (value -ℤ (adjustment_after s es device).0) (pos t)) same reaches.reach;
-}
 
 -- where a clock reaches a value given the records before, it does given all
 pub reaches_whole : (v : View) (device : DeviceId) (value : ℤ) (t : ℕ) (front : List Happening) → AreBeforeCorrections v t front
@@ -133,7 +116,7 @@ before_place v t more at = record {
   rest = at.rest;
   whole = at.whole;
   later = λ h i. elim (cases_lt (time_of h) t) [ inl lt ↦ absurd (at.none h i (inl lt)) | inr ge ↦ ge ];
-  only = λ h i. no_later (time_of h) t (rank h.note.body ∷ key (members_in h) h.note.body) more (at.before h i);
+  only = λ h i. time_before (time_of h) t (rank h.note.body ∷ key (members_in h) h.note.body) more (at.before h i);
 }
 
 -- what a clock reaches given all records it reaches given those before

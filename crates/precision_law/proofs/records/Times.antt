@@ -1,7 +1,9 @@
 -- The records of a run in the order of their times.
-use Rattle.precision_law.proofs.words.Std.{◌++◌, ◌<◌, ◌∙◌, ◌∷◌, ◌≡◌, ◌≤◌, Bool, List, Option, Some, [], ap, append-nil, append_assoc, arith, cases_lt, false, filter, filter-append, if◌then◌else◌, inl, inr, last_or, le-ltb, lt-ltb, ltb-true, nat_lt, not, refl, subst, sym, true, ℕ}
+use Rattle.run_law.proofs.records.Happenings.{from_earlier, is_earlier}
+use Rattle.run_law.proofs.records.Order.{all_kept, has_passed, time_before}
+use Rattle.precision_law.proofs.words.Std.{◌++◌, ◌<◌, ◌∙◌, ◌∷◌, ◌≡◌, ◌≤◌, Bool, List, Option, Some, [], ap, append-nil, append_assoc, arith, cases_lt, false, filter, filter-append, if◌then◌else◌, inl, inr, last_or, le-ltb, lt-ltb, nat_lt, not, refl, subst, sym, true, ℕ}
 use Rattle.precision_law.proofs.words.Runs.{Happening, IsDue, IsFounded, IsIn, Scenario, behind_first, earlier, in_filter, key, members_in, none_kept, place_of, rank, time_of}
-use Rattle.precision_law.proofs.Plain.{le_by, no_later}
+use Rattle.precision_law.proofs.Plain.{le_by}
 
 -- ---- order
 
@@ -14,7 +16,7 @@ AreSorted (h ∷ hs) = ((g : Happening) → IsIn g hs → time_of h ≤ time_of 
 sorted_behind : (s : Scenario) (ps qs : List Happening) → IsFounded place_of (IsDue s) (ps ++ qs) → AreSorted qs
 sorted_behind s ps [] founded = tt
 sorted_behind s ps (q ∷ qs) founded = (
-  λ g i. no_later (time_of q) (time_of g) (rank q.note.body ∷ key (members_in q) q.note.body) (rank g.note.body ∷ key (members_in g) g.note.body)
+  λ g i. time_before (time_of q) (time_of g) (rank q.note.body ∷ key (members_in q) q.note.body) (rank g.note.body ∷ key (members_in g) g.note.body)
       (behind_first place_of (IsDue s) ps qs q g founded i),
   sorted_behind s (ps ++ q ∷ []) qs (subst (IsFounded place_of (IsDue s)) (sym (append_assoc ps (q ∷ []) qs)) founded),
 )
@@ -25,15 +27,6 @@ sorted s hs founded = sorted_behind s [] hs founded
 
 -- ---- filters
 
--- what a filter keeps passes its test
-pub passes : {X : Type 0} (p : X → Bool) (xs : List X) (x : X) → IsIn x (filter p xs) → p x ≡ true
-passes p [] x i = absurd i
-passes p (y ∷ xs) x i =
-    elim (p y) as (λ b. p y ≡ b → IsIn x (if b then y ∷ filter p xs else filter p xs) → p x ≡ true) [
-      | true ↦ λ e j. elim j [ inl same ↦ ap p same ∙ e | inr more ↦ passes p xs x more ]
-      | false ↦ λ e j. passes p xs x j
-    ] refl i
-
 -- what passes the test is kept
 pub in_kept : {X : Type 0} (p : X → Bool) (xs : List X) (x : X) → IsIn x xs → p x ≡ true → IsIn x (filter p xs)
 in_kept p [] x i e = absurd i
@@ -43,27 +36,7 @@ in_kept {X} p (y ∷ xs) x i e =
       | false ↦ λ at. elim i [ inl same ↦ (let wrong : p x ≡ false = ap p same ∙ at in absurd cc) | inr more ↦ in_kept p xs x more e ]
     ] refl
 
--- a filter that all pass keeps all
-pub all_kept : {X : Type 0} (p : X → Bool) (xs : List X) → ((x : X) → IsIn x xs → p x ≡ true) → filter p xs ≡ xs
-all_kept p [] all = refl
-all_kept {X} p (x ∷ xs) all =
-    ap (λ (b : Bool). if b then x ∷ filter p xs else filter p xs) (all x (inl refl)) ∙ ap (λ (t : List X). x ∷ t) (all_kept p xs (λ y i. all y (inr i)))
-
--- two filters that keep the same records agree
-pub same_kept : {X : Type 0} (p q : X → Bool) (xs : List X) → ((x : X) → IsIn x xs → p x ≡ q x) → filter p xs ≡ filter q xs
-same_kept p q [] same = refl
-same_kept {X} p q (x ∷ xs) same =
-    ap (λ (b : Bool). if b then x ∷ filter p xs else filter p xs) (same x (inl refl))
-    ∙ ap (λ (t : List X). if q x then x ∷ t else t) (same_kept p q xs (λ y i. same y (inr i)))
-
 -- ---- earlier records
-
--- a record is earlier exactly where its time is
-pub in_earlier : (t : ℕ) (hs : List Happening) (h : Happening) → IsIn h (earlier t hs) → IsIn h hs × (time_of h < t)
-in_earlier t hs h i = (in_filter (λ x. nat_lt (time_of x) t) hs h i, ltb-true (time_of h) t (passes (λ x. nat_lt (time_of x) t) hs h i))
-
-pub is_earlier : (t : ℕ) (hs : List Happening) (h : Happening) → IsIn h hs → time_of h < t → IsIn h (earlier t hs)
-is_earlier t hs h i lt = in_kept (λ x. nat_lt (time_of x) t) hs h i (lt-ltb (time_of h) t lt)
 
 -- records that are not before t add no earlier ones
 pub earlier_front : (t : ℕ) (front rest : List Happening) → ((h : Happening) → IsIn h rest → t ≤ time_of h) → earlier t front ≡ earlier t (front ++ rest)
@@ -78,8 +51,8 @@ between u t hs = filter (λ h. not (nat_lt (time_of h) u)) (earlier t hs)
 
 pub in_between : (u t : ℕ) (hs : List Happening) (h : Happening) → IsIn h (between u t hs) → IsIn h hs × (u ≤ time_of h) × (time_of h < t)
 in_between u t hs h i =
-    let back = in_earlier t hs h (in_filter (λ x. not (nat_lt (time_of x) u)) (earlier t hs) h i) in
-    let late = passes (λ x. not (nat_lt (time_of x) u)) (earlier t hs) h i in (
+    let back = from_earlier t hs h (in_filter (λ x. not (nat_lt (time_of x) u)) (earlier t hs) h i) in
+    let late = has_passed (λ x. not (nat_lt (time_of x) u)) (earlier t hs) h i in (
       back.0,
       le_by (λ lt. (let e = lt-ltb (time_of h) u lt in let wrong : not true ≡ true = rw e at late in absurd cc)),
       back.1,
@@ -104,7 +77,7 @@ earlier_parts u t (h ∷ hs) order le =
       | inr ge ↦
           let none = none_earlier u h hs order ge in
           let all : between u t (h ∷ hs) ≡ earlier t (h ∷ hs) = all_kept (λ x. not (nat_lt (time_of x) u)) (earlier t (h ∷ hs)) (λ x i.
-          let late : nat_lt (time_of x) u ≡ false = elim (in_earlier t (h ∷ hs) x i).0 [
+          let late : nat_lt (time_of x) u ≡ false = elim (from_earlier t (h ∷ hs) x i).0 [
             | inl same ↦ rw same (le-ltb (time_of h) u ge)
             | inr more ↦ (let up = order.0 x more in le-ltb (time_of x) u (omega arith))
           ] in rw late refl) in
@@ -117,7 +90,3 @@ earlier_parts u t (h ∷ hs) order le =
 pub last_some : {X : Type 0} (o : Option X) (x : X) (xs : List X) → (y : X) × (last_or o (x ∷ xs) ≡ Some y) × IsIn y (x ∷ xs)
 last_some o x [] = (x, refl, inl refl)
 last_some o x (y ∷ ys) = let r = last_some (Some x) y ys in (r.0, r.1, inr r.2)
-
-pub last_append : {X : Type 0} (o : Option X) (xs ys : List X) → last_or o (xs ++ ys) ≡ last_or (last_or o xs) ys
-last_append o [] ys = refl
-last_append o (x ∷ xs) ys = last_append (Some x) xs ys

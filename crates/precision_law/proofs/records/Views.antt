@@ -1,32 +1,13 @@
 -- What a view gives: room, steady clocks, and records that are due.
-use Rattle.precision_law.proofs.words.Std.{◌*◌, ◌+◌, ◌∷◌, ◌≡◌, ◌≤◌, Bool, List, Some, [], ap, arith, false, filter, if◌then◌else◌, length, refl, slice_get, subst, suc, sym, true, ℕ}
-use Rattle.precision_law.proofs.words.Plans.{A, Connections, Device, DeviceId, HasMargins, IsSwitchOf, Link, Masters, Network, all_at, amount, closed, compression_time, is_end_system, is_master, link_at, margins, opened, pcf_port_time, rules_give_trees}
+use Rattle.schedule_tables.proofs.Margins.{some_link}
+use Rattle.precision_law.proofs.words.Std.{◌*◌, ◌+◌, ◌≡◌, ◌≤◌, ap, arith, refl, subst, sym, ℕ}
+use Rattle.precision_law.proofs.words.Plans.{DeviceId, HasMargins, Network, all_at, amount, compression_time, margins, pcf_port_time, rules_give_trees}
 use Rattle.precision_law.proofs.words.Laws.{HaveRoom, IsSteady, IsView, Sizes, View, sizes_of}
 use Rattle.precision_law.proofs.clocks.Readings.{clocks_are_steady}
 use Rattle.precision_law.proofs.records.Times.{AreSorted, sorted}
 use Rattle.schedule_tables.specs.Rules.{KeepsRules}
-use Rattle.precision_law.proofs.faults.Masters.{master_ends}
 
 -- ---- the sizes of an accepted network leave room
-
--- an element that a filter keeps
-kept : {X : Type 0} (p : X → Bool) (xs : List X) → 1 ≤ length (filter p xs) → (i : ℕ) × (x : X) × (slice_get xs i ≡ Some x) × (p x ≡ true)
-kept p [] h = absurd (omega arith)
-kept p (x ∷ xs) h =
-    elim (p x) as (λ b. p x ≡ b → 1 ≤ length (if b then x ∷ filter p xs else filter p xs) → (i : ℕ) × (y : _) × (slice_get (x ∷ xs) i ≡ Some y) × (p y
-    ≡ true)) [
-      | true ↦ λ e g. (0, x, refl, e)
-      | false ↦ λ e g. let r = kept p xs g in (suc r.0, r.1, r.2, r.3)
-    ] refl h
-
--- some device is a master, so there is a link
-some_link : (n : Network) → KeepsRules n → (place : ℕ) × (link : Link) × (slice_get n.link place ≡ Some link)
-some_link n keeps =
-    let m = kept (λ (d : Device). is_master d.role) n.device (omega (arith, (keeps Masters 0).least refl)) in
-    let end = closed (λ (d : Device). is_end_system d.role ≡ true) (slice_get n.device m.0) m.1 m.2 (master_ends m.1.role m.3) in
-    let up = (keeps Connections m.0).ends end A in
-    let l = opened (λ (l : Link). (l.child ≡ record { 0 = m.0 }) × IsSwitchOf n A l.parent) (link_at n up.0) up.1 in
-    (up.0.0, l.0, l.1)
 
 -- the sizes of a network that keeps the rules leave room
 pub room_of : (n : Network) (path : ℕ) → KeepsRules n → HasMargins n path → HaveRoom (sizes_of n path)

@@ -1,6 +1,6 @@
 -- The order of the instants of a cycle.
 use Rattle.precision_law.proofs.words.Std.{◌*◌, ◌+◌, ◌^◌, ◌≤◌, arith, ints, mul-le-mul_left, mul-le-mul_right}
-use Rattle.precision_law.proofs.words.Laws.{CorrectionsComeFirst, CyclesAreFew, DispatchesComeLater, FramesComeFirst, HullsGoOn, InstantsAreInOrder, SetClocksShowCorrection, SetClocksStayAtCorrection}
+use Rattle.precision_law.proofs.words.Laws.{CorrectionsComeFirst, CyclesAreFew, DispatchesComeLater, FramesComeFirst, HullsGoOn, InstantsAreInOrder, SetClocksStayAtCorrection}
 use Rattle.precision_law.proofs.Plain.{le_by}
 
 pub corrections_come_first : CorrectionsComeFirst
@@ -23,11 +23,6 @@ instants_are_in_order n before hull room narrow follows = record {
   next_later = omega (arith, ints, follows.least, room.many_errors);
   hulls = omega (arith, ints, narrow, follows.least, room);
 }
-
-pub set_clocks_show_correction : SetClocksShowCorrection
-set_clocks_show_correction n shown cycle t before hull room narrow follows at shows =
-    let order = instants_are_in_order n before hull room narrow follows in
-    record { least = omega (arith, ints); most = omega (arith, ints) }
 
 pub set_clocks_stay_at_correction : SetClocksStayAtCorrection
 set_clocks_stay_at_correction n shown cycle t before hull room narrow follows from to shows =

@@ -8,11 +8,11 @@ use Rattle.pcf_codec.specs.Decoding.{decoded}
 use Rattle.pcf_codec.specs.EtherType.{pcf_type}
 use Rattle.run_law.specs.declared.note.NoteBody.TheVariants as notes
 use Rattle.run_law.specs.declared.steps.Arrival.TheVariants as arrivals
-use Rattle.precision_law.proofs.faults.Masters.{bad_is_master, in_any, master_ends}
+use Rattle.precision_law.proofs.faults.Masters.{bad_is_master}
 use Rattle.precision_law.proofs.records.Points.{within_run}
 use Rattle.precision_law.proofs.records.Times.{in_kept}
-use Rattle.precision_law.proofs.Plain.{any_is, device_of, mapped, some_of}
-use Rattle.precision_law.proofs.trips.Legs.{HasLeg, IsPutAs, child_channel, child_not_parent, child_ways, gives_down, has_leg, parent_channel, parent_ways, receiver_way, same_cycle, shown_parent, trip_more}
+use Rattle.precision_law.proofs.Plain.{any_is, device_of}
+use Rattle.precision_law.proofs.trips.Legs.{HasLeg, IsPutAs, child_channel, child_not_parent, child_ways, gives_down, has_leg, parent_channel, parent_ways, receiver_way, same_cycle, trip_more}
 use Rattle.precision_law.proofs.trips.Paths.{TakesWith, clocked, frame_is, taken_as, taken_sound}
 use Rattle.net_plan.specs.declared.ids.VlId.{VlId}
 use Rattle.schedule_tables.specs.declared.entry.Entry.{Entry}
@@ -20,6 +20,10 @@ use Rattle.run_law.specs.timed.Arrivals.{entry_arrival, entry_entering, octets_f
 use Rattle.run_law.specs.control.Leaving.{Passes}
 use Rattle.run_law.specs.records.Causes.{GoesBackTo}
 use Rattle.run_law.proofs.law.FirstDelays.{given}
+use Rattle.run_law.proofs.records.Order.{in_any}
+use Rattle.run_law.proofs.scenario.Devices.{shown_parent}
+use Rattle.schedule_tables.proofs.Margins.{master_ends}
+use Rattle.tte_lemmas.proofs.Options.{mapped, some_of}
 
 -- ---- masters
 

@@ -1,11 +1,12 @@
 -- A frame that arrives came over a link: who gives and who receives on its ways, and the leg before a record.
-use Rattle.precision_law.proofs.words.Std.{◌++◌, ◌<◌, ◌==◌, ◌∙◌, ◌∷◌, ◌≡◌, ◌⊎◌, Bool, List, Option, Some, [], ap, arith, eq-eqb, eqb-true, false, false_from_ne_true, if◌then◌else◌, inl, inr, option_and_then, option_map_or, refl, subst, sym, true, ℕ}
+use Rattle.run_law.proofs.scenario.Devices.{parent_shown, shown_parent}
+use Rattle.precision_law.proofs.words.Std.{◌++◌, ◌<◌, ◌∙◌, ◌∷◌, ◌≡◌, ◌⊎◌, Bool, List, Option, Some, [], ap, arith, false, false_from_ne_true, if◌then◌else◌, inl, inr, option_and_then, option_map_or, refl, subst, sym, true, ℕ}
 use Rattle.precision_law.proofs.words.Plans.{Channel, Device, DeviceId, Down, IsChildOf, IsPath, IsSwitchOf, IsTree, IsUplink, Joints, Link, LinkId, Master, Network, Pcf, Relay, Role, Up, Way, closed, device_at, is_end_system, link_at, opened, rules_give_trees, shape_rules}
 use Rattle.precision_law.proofs.words.Runs.{Happening, IsCaused, IsIn, IsParentOf, NoteBody, cause_of, channel_of, channel_of_link, cycle_in, founded_at, in_left, is_end, is_parent_of, is_relay, is_relay_role, members_in, number_is, numbered, numbered_in, numbered_within, rank, receiver_of, same_some, time_of, way_from, way_to, with_clock}
 use Rattle.precision_law.proofs.words.Laws.{IsLeg, IsTrip, IsView, Leg, View}
 use Rattle.run_law.specs.declared.note.NoteBody.TheVariants as notes
-use Rattle.precision_law.proofs.Plain.{device_of, higher_before, mapped, passed}
-use Rattle.precision_law.proofs.faults.Masters.{device_of_place}
+use Rattle.tte_lemmas.proofs.Options.{mapped}
+use Rattle.precision_law.proofs.Plain.{device_of, higher_before}
 use Rattle.precision_law.proofs.trips.Paths.{clocked, frame_is, numbered_all}
 
 -- ---- no link leads from a device to itself
@@ -35,18 +36,6 @@ no_loop v link l is at same =
     no_loop_on n joint.0 l.parent link l tree at up refl path.0 path.2
 
 -- ---- parents and children
-
--- a link's parent shows as one
-pub shown_parent : (n : Network) (device : DeviceId) (link : LinkId) → IsParentOf n device link → is_parent_of n device link ≡ true
-shown_parent n device link parent =
-    let l = opened (λ (k : Link). k.parent ≡ device) (link_at n link) parent in
-    ap (λ (o : Option Link). option_map_or (λ k. k.parent.0 == device.0) o false) l.1 ∙ eq-eqb l.0.parent.0 device.0 (ap (λ (d : DeviceId). d.0) l.2)
-
--- and what shows as one is
-parent_shown : (n : Network) (device : DeviceId) (link : LinkId) → is_parent_of n device link ≡ true → IsParentOf n device link
-parent_shown n device link shown =
-    let l = passed (λ (k : Link). k.parent.0 == device.0) (link_at n link) shown in
-    closed (λ (k : Link). k.parent ≡ device) (link_at n link) l.0 l.1 (device_of_place l.0.parent device (eqb-true l.0.parent.0 device.0 l.2))
 
 -- a child of a link is not its parent
 pub child_not_parent : (v : View) (device : DeviceId) (link : LinkId) → IsView v → IsChildOf v.scenario.network device link

@@ -1,4 +1,5 @@
 -- A frame goes over a link: it leaves, and it arrives.
+use Rattle.run_law.proofs.records.Order.{ahead}
 use Rattle.precision_law.proofs.words.Std.{◌&&◌, ◌*◌, ◌+◌, ◌-◌, ◌<◌, ◌^◌, ◌∙◌, ◌∷◌, ◌≡◌, ◌≤◌, Bool, List, None, Ok, Option, Some, [], ap, arith, false, if◌then◌else◌, inl, inr, le-ltb, mul-le-mul_left, nat_lt, not, option_map, option_map_or, refl, subst, sym, true, ℕ}
 use Rattle.precision_law.proofs.words.Plans.{DeviceId, Down, Integrating, IsLinkInRange, Link, LinkId, Measures, Network, Pcf, Units, Up, Way, all_at, amount, delay_by, link_at}
 use Rattle.precision_law.proofs.words.Runs.{Arrives, ArrivesAs, Departs, Gives, Happening, IsArrivedRecord, IsBefore, IsDue, IsFounded, IsIn, Launch, NoteBody, Scenario, Standpoint, adjustment_after, by_number, clock_at_leaving, control, delay_at, delay_least, frame_fault, frame_or_fault, front_founded, happening, hold_at, hold_most, in_front_of, is_broken, is_cut, is_off, is_parent_of, is_relay, is_turned_on_at, key, leaves, members_in, numbered, on_cut_way, place_of, point_on_arrival, rank, receiver_of, same_earlier, split, standpoint, state_after, time_of, too_old, way_from, way_to, wire_of, with_clock}
@@ -7,7 +8,6 @@ use Rattle.run_law.specs.declared.note.NoteBody.TheVariants as notes
 use Rattle.run_law.specs.declared.steps.Arrival.TheVariants as arrivals
 use Rattle.precision_law.proofs.trips.Paths.{clocked, delay_is}
 use Rattle.precision_law.proofs.records.Due.{due_there, next_note}
-use Rattle.precision_law.proofs.Plain.{ranked}
 
 -- what gives a frame has a low rank
 gives_low : (n : Network) (body : NoteBody) (device : DeviceId) (link : LinkId) → Gives n body device link → rank body < 8
@@ -104,7 +104,7 @@ goes_over v way r frame sender receiver link l is g correct uncut young fair in_
     omega (arith, measures, drift, held, nominal) in
     let small : then_clock ≤ amount n.dmax = young then_clock grows_so in
     let at = split place_of (IsDue s) hs (t ∷ 8 ∷ sender.0 ∷ link.0 ∷ r.note.number ∷ []) is.run.founded in
-    let sooner : IsBefore (place_of r) (t ∷ 8 ∷ sender.0 ∷ link.0 ∷ r.note.number ∷ []) = ranked (time_of r) t (rank r.note.body) 8
+    let sooner : IsBefore (place_of r) (t ∷ 8 ∷ sender.0 ∷ link.0 ∷ r.note.number ∷ []) = ahead (time_of r) t (rank r.note.body) 8
     (key (members_in r) r.note.body) (sender.0 ∷ link.0 ∷ r.note.number ∷ []) (omega arith) (gives_low n r.note.body sender link g.gives) in
     let front = front_founded place_of (IsDue s) at.front at.rest (subst (IsFounded place_of (IsDue s)) at.whole is.run.founded) in
     let found = by_number s at.front r front (in_front_of place_of hs (t ∷ 8 ∷ sender.0 ∷ link.0 ∷ r.note.number ∷ []) at r g.given sooner) in

@@ -6,7 +6,7 @@ use Rattle.precision_law.proofs.words.Laws.{IsLeg, IsTrip, IsView, Leg, View, cl
 use Rattle.run_law.specs.declared.judgement.Reason.TheVariants.{Off}
 use Rattle.run_law.specs.declared.steps.Arrival.TheVariants as arrivals
 use Rattle.run_law.proofs.law.FirstDelays.{given, sets_wire}
-use Rattle.precision_law.proofs.Plain.{mapped}
+use Rattle.tte_lemmas.proofs.Options.{mapped}
 
 -- ---- records and their frames
 

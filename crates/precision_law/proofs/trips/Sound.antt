@@ -1,9 +1,10 @@
 -- The sound channel delivers: up to its compression master, and down from it.
 use Rattle.precision_law.proofs.words.Std.{◌&&◌, ◌+◌, ◌==◌, ◌∙◌, ◌∷◌, ◌≡◌, ◌≤◌, Bool, IsNone, IsSomeAnd, List, None, Option, Some, [], ap, arith, by_lt_z, eq-eqb, false, fold, if◌then◌else◌, inl, inr, ints, le-ltb, nat_lt, not, option_and_then, pos, refl, subst, true, ℕ, ℤ}
-use Rattle.precision_law.proofs.words.Plans.{Device, DeviceId, Integrating, IsReach, Joining, LinkId, Network, Pcf, State, amount, device_at, point_of, state_at_start}
+use Rattle.precision_law.proofs.words.Plans.{Device, DeviceId, Integrating, IsReach, LinkId, Network, Pcf, State, amount, device_at, point_of, state_at_start}
 use Rattle.precision_law.proofs.words.Runs.{BeginsOn, ChangesState, ColdStart, Domain, Gate, Happening, IsCaused, IsIn, Member, NoteBody, Old, Reason, Standpoint, Why, earlier, first_reason, founded_at, frame_fault, in_filter, is_cold_start, is_joined_by, is_of_other_member, is_off, is_turned_on_at, standpoint, start_of, state_after, state_before, state_with, time_of, wire_of, with_clock}
 use Rattle.precision_law.proofs.words.Laws.{IsGood, IsOpen, IsPermanentAt, IsSoundSwitch, IsView, View}
 use Rattle.pcf_values.specs.declared.pcf.PcfKind.TheVariants.{Integration}
+use Rattle.run_law.proofs.device.States.{joined_or}
 use Rattle.run_law.specs.declared.judgement.Reason.TheVariants.{Off as IsOffReason}
 use Rattle.run_law.specs.declared.judgement.Why.TheVariants as whys
 use Rattle.run_law.specs.declared.note.NoteBody.TheVariants as notes
@@ -18,10 +19,6 @@ state_is_on : (s : _) (ps : List Happening) (t : ℕ) (device : DeviceId) (state
     → is_off state ≡ false
 state_is_on s ps t device state cause whys.On c = ap is_off c.0
 state_is_on s ps t device state cause why c = ap is_off c.0
-
-joined_or : (b : Bool) (old : State) → is_off old ≡ false → is_off (if b then Joining else old) ≡ false
-joined_or true old e = refl
-joined_or false old e = e
 
 stays_on : (v : View) (device : DeviceId) (h : Happening) (old : State) (body : NoteBody) → IsView v → IsIn h v.records → h.note.body ≡ body
     → is_off old ≡ false → is_off (state_with device old body) ≡ false

@@ -3,7 +3,7 @@ pub use Rattle.clock_correction.specs.Correction.{correction_of}
 pub use Rattle.compression.proofs.Elements.{Ordered, Ordered-beyond, all-filter, from_beyond, in_cases, in_filter_from, in_head, in_none, in_tail}
 pub use Rattle.compression.proofs.Firsts.{counts, firsts-has, firsts-start, members_of-clear, members_of-set, with_first-new, with_first-old}
 pub use Rattle.compression.proofs.Growth.{cluster_of-beyond, end_of-least, end_of-same}
-pub use Rattle.compression.proofs.Held.{beyond-push_out, held-push_beyond, held-start, int_le-true}
+pub use Rattle.compression.proofs.Held.{beyond-push_out, held-push_beyond, held-start}
 pub use Rattle.compression.proofs.MiddleLaws.{middle_among_others, middle_from_first_to_last}
 pub use Rattle.compression.proofs.Times.{in_rest, one_list_of_clusters, one_time_law}
 pub use Rattle.compression.proofs.Together.{one_cluster}
@@ -25,7 +25,7 @@ pub use Rattle.membership.specs.Summary.{AreOutside, Summarizes, Summary, best_o
 pub use Rattle.membership.specs.declared.frame.HeardFrame.{HeardFrame}
 pub use Rattle.net_plan.proofs.Beta.{beta_exists}
 pub use Rattle.net_plan.proofs.Shape.{rules_give_trees}
-pub use Rattle.net_plan.proofs.Trees.{closed, opened, paths_are_unique}
+pub use Rattle.net_plan.proofs.Trees.{paths_are_unique}
 pub use Rattle.net_plan.specs.Bounds.{IsBeta, beta_at, jitter_of, jitter_on}
 pub use Rattle.net_plan.specs.Paths.{IsPath, IsTree, IsUplink}
 pub use Rattle.net_plan.specs.Places.{IsCmOf, IsDeviceOf, IsSwitchOf, device_at, is_end_system, is_master, link_at}
@@ -48,7 +48,6 @@ pub use Rattle.pcf_values.specs.declared.channel.Channel.{Channel}
 pub use Rattle.pcf_values.specs.declared.channel.Channel.TheVariants.{A, B}
 pub use Rattle.pcf_values.specs.declared.members.Members.{Members}
 pub use Rattle.pcf_values.specs.declared.pcf.Pcf.{Pcf}
-pub use Rattle.schedule_tables.proofs.EntryLemmas.{all_at}
 pub use Rattle.schedule_tables.proofs.Margins.{margins, shape_rules}
 pub use Rattle.schedule_tables.specs.Delays.{delay_by, delay_of, delay_on, pcf_port_time}
 pub use Rattle.schedule_tables.specs.Entries.{target_by}
@@ -65,6 +64,9 @@ pub use Rattle.sync_state.specs.declared.state.State.TheVariants.{Integrating, J
 pub use Rattle.transparent_clock.proofs.WaitLaw.{waits_for_point}
 pub use Rattle.transparent_clock.specs.Hops.{Hop, IsHop, growth, travel}
 pub use Rattle.transparent_clock.specs.Points.{Waits, point_of}
+pub use Rattle.tte_lemmas.proofs.Integers.{int_le-from as int_le-true}
+pub use Rattle.tte_lemmas.proofs.Lists.{in_all as all_at}
+pub use Rattle.tte_lemmas.proofs.Options.{closed, opened}
 pub use Rattle.tte_units.proofs.Means.{mean_of-floor}
 pub use Rattle.tte_units.specs.Amount.{amount, units_of}
 pub use Rattle.tte_units.specs.Mean.{IsMean, mean_of}

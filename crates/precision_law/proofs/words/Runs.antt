@@ -3,9 +3,9 @@ pub use Rattle.run_law.proofs.law.FirstDelays.{delay_least, hold_most, last_is}
 pub use Rattle.run_law.proofs.law.FirstPlaces.{IsFoundedAt, IsSplit, by_number, due_is_there, founded_at, front_founded, in_at, in_filter, in_front_of, none_kept, number_is, numbered_front, numbered_in, numbered_within, same_earlier, split}
 pub use Rattle.run_law.proofs.runs.Lacking.{behind_first}
 pub use Rattle.run_law.proofs.runs.Places.{before_later_time, before_next_time, chain, earlier_time, in_left, in_parts, in_right, never_self, parted}
-pub use Rattle.run_law.proofs.runs.SameSteps.{same_judgement, same_some}
+pub use Rattle.run_law.proofs.runs.SameSteps.{same_judgement}
 pub use Rattle.run_law.proofs.scenario.Conditions.{is_faulty}
-pub use Rattle.run_law.proofs.scenario.Decisions.{IsDecided, any_first, any_later, any_of_none, any_parts, decided_and, decided_less, decided_less_int, decided_or, decided_same, decided_some}
+pub use Rattle.run_law.proofs.scenario.Decisions.{IsDecided, decided_and, decided_less, decided_less_int, decided_or, decided_same, decided_some}
 pub use Rattle.run_law.specs.control.Arrivals.{are_others, clock_on_arrival, control_arrival, frame_fault, frame_or_fault, is_cold_start, is_gate_shut, is_of_other_domain, is_of_other_member, point_on_arrival}
 pub use Rattle.run_law.specs.control.Collections.{dispatch_value, ends_stretch, is_number, master_of, observation_window, point_by, point_fault, points_of, ripe_by_role}
 pub use Rattle.run_law.specs.control.Corrections.{ComesToCorrection, correction_value, cycle_after, has_cleared, heard_by, heard_since, hearing_by, integration_cycle, is_integration_cycle, next_cycle, recorded_cycle, standing_before}
@@ -41,3 +41,5 @@ pub use Rattle.run_law.specs.scenario.Hypothesis.{AreWithinHypothesis, breaks_at
 pub use Rattle.run_law.specs.scenario.Scenarios.{Scenario, events_up_to, is_broken, is_turned_on_at, turns_on}
 pub use Rattle.run_law.specs.scenario.Ways.{cut_set, delay_at, hold_at, is_cut, is_way, is_way_of, receiver_of, way_from, way_to, wire_of, wire_set}
 pub use Rattle.run_law.specs.timed.Receptions.{ArrivesAs, arrival_of, last_taken}
+pub use Rattle.tte_lemmas.proofs.Lists.{any_behind as any_later, any_first, any_none as any_of_none, any_of as any_parts}
+pub use Rattle.tte_lemmas.proofs.Options.{one as same_some}

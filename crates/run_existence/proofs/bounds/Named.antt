@@ -1,9 +1,8 @@
 -- What the tables have, and of what a record speaks.
-use Rattle.std.proofs.Common.{◌≡◌, ◌⊎◌, ℕ, ◌<◌, ◌≤◌, ◌==◌, ℤ, pos, negsuc, Bool, true, false, if◌then◌else◌, List, [], ◌∷◌, length, Option, Some, None, IsSomeAnd, slice_get, option_map, inl, inr, refl, sym, ap, ◌∙◌, arith, eqb-true, fold, Contains, option_and_then}
+use Rattle.std.proofs.Common.{◌≡◌, ◌⊎◌, ℕ, ◌<◌, ◌≤◌, ◌==◌, ℤ, pos, negsuc, Bool, true, false, if◌then◌else◌, List, [], ◌∷◌, length, Option, Some, None, slice_get, option_map, inl, inr, refl, sym, ap, ◌∙◌, arith, eqb-true, fold, option_and_then}
 use Rattle.std.proofs.lemmas.Option.{slice_get_within}
-use Rattle.std.specs.List.{cons_option, filter_map}
 use Rattle.std.specs.Option.{option_map_or}
-use Rattle.compression.specs.Clusters.{AreClusters, Cluster}
+use Rattle.net_plan.proofs.TableFacts.{link_within}
 use Rattle.net_plan.specs.Places.{device_at, link_at}
 use Rattle.net_plan.specs.declared.event.What.TheVariants as events
 use Rattle.net_plan.specs.declared.ids.DeviceId.{DeviceId}
@@ -43,13 +42,6 @@ device_there network kind device e = by (device_at network device) refl e
     by None there e = absurd cc
     by (Some d) there e = slice_get_within network.device device.0 d there
 
-link_there : (network : Network) (link : LinkId) (P : Link → Type 0) → IsSomeAnd (link_at network link) P → link.0 < length network.link
-link_there network link P h = by (link_at network link) refl h
-  where
-    by : (o : Option Link) → slice_get network.link link.0 ≡ o → IsSomeAnd o P → link.0 < length network.link
-    by None there h = absurd h
-    by (Some l) there h = slice_get_within network.link link.0 l there
-
 pub record IsOnLink (network : Network) (device : DeviceId) (link : LinkId) : Type 0 where
   pub link_in : link.0 < length network.link
   pub device_in : device.0 ≤ total ends network.link
@@ -80,13 +72,13 @@ pub record IsGiver (network : Network) (body : NoteBody) (device : DeviceId) (li
 
 pub giver : (network : Network) (body : NoteBody) (device : DeviceId) (link : LinkId) → Gives network body device link → IsGiver network body device link
 giver network (notes.Sent master cycle) device link g =
-    record { device_is = ap (λ (d : DeviceId). d.0) g.0; link_in = link_there network link _ g.1; early = omega arith }
+    record { device_is = ap (λ (d : DeviceId). d.0) g.0; link_in = link_within network link _ g.1; early = omega arith }
 giver network (notes.Compressed cm opened at cycle members verdict) device link g =
-    record { device_is = ap (λ (d : DeviceId). d.0) g.0; link_in = link_there network link _ g.1; early = omega arith }
+    record { device_is = ap (λ (d : DeviceId). d.0) g.0; link_in = link_within network link _ g.1; early = omega arith }
 giver network (notes.Arrived relay by cause clock) device link g =
     record {
       device_is = ap (λ (d : DeviceId). d.0) g.0;
-      link_in = elim g.1.on [ inl up ↦ link_there network link _ up.1 | inr down ↦ link_there network link _ down.1 ];
+      link_in = elim g.1.on [ inl up ↦ link_within network link _ up.1 | inr down ↦ link_within network link _ down.1 ];
       early = omega arith;
     }
 giver network other device link g = absurd g
@@ -171,16 +163,6 @@ source_end Down link device e = omega (arith, ap (λ (d : DeviceId). d.0) e)
 pub no_point : (device : DeviceId) (h : Happening) (body : NoteBody) → rank body ≡ 4 → point_by device h body ≡ None
 no_point device h (notes.Permanent other link cause point verdict) e = absurd (omega (arith, e))
 no_point device h other e = refl
-
-pub makes_none : {X Y : Type 0} (f : X → Option Y) (xs : List X) → ((x : X) → IsIn x xs → f x ≡ None) → filter_map f xs ≡ []
-makes_none f [] none = refl
-makes_none {X} {Y} f (x ∷ xs) none =
-    ap (λ (o : Option Y). cons_option o (filter_map f xs)) (none x (inl refl)) ∙ makes_none f xs (λ y i. none y (inr i))
-
--- where there are no points, there are no clusters
-pub no_clusters : (ow : ℤ) (cs : List Cluster) (c : Cluster) → AreClusters ow [] cs → Contains cs c → ⊥
-no_clusters ow [] c are there = omega (arith, there.1)
-no_clusters ow (x ∷ cs) c are there = are
 
 pub signs : (z : ℤ) → sign z < 2
 signs (pos n) = omega arith

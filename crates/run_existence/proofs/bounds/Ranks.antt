@@ -15,12 +15,13 @@ use Rattle.net_plan.specs.declared.ids.LinkId.{LinkId}
 use Rattle.net_plan.specs.declared.ids.VlId.{VlId}
 use Rattle.net_plan.specs.declared.tables.Way.TheVariants.{Up}
 use Rattle.pcf_values.specs.declared.members.Members.{Members}
-use Rattle.precision_law.proofs.compression.Emitted.{contained}
 use Rattle.precision_law.proofs.records.Behind as parts
 use Rattle.precision_law.proofs.records.Behind.{PartsAtLast, after_last_at, after_more, not_each, parts_at_last}
 use Rattle.precision_law.proofs.records.Points.{last_in}
 use Rattle.run_law.proofs.law.FirstPlaces.{in_at, in_filter, none_kept}
+use Rattle.run_law.proofs.records.Order.{contained, makes_none}
 use Rattle.run_law.proofs.runs.Places.{in_right}
+use Rattle.run_law.proofs.silent.Due.{no_cluster}
 use Rattle.run_law.specs.control.Collections.{ends_stretch, observation_window, point_by, points_of}
 use Rattle.run_law.specs.control.Corrections.{ComesToCorrection, standing_before}
 use Rattle.run_law.specs.control.Emissions.{Emits}
@@ -54,7 +55,7 @@ use Rattle.tte_units.specs.Amount.{amount}
 use Rattle.tte_units.specs.declared.units.Units.{Units}
 use Rattle.run_existence.proofs.Sweep.{IsSized}
 use Rattle.run_existence.proofs.bounds.Weights.{at_clock, bound, clock_at, clusters_at, device_in, devices_below, ends, in_sum, in_total, link_in, numbered_part, point_in, reach_most, sent_in, size_of, weight}
-use Rattle.run_existence.proofs.bounds.Named.{IsTouched, begins, device_there, giver, joined_device, joined_rank, launch_rank, makes_none, never_off, no_clusters, no_point, received, signs, source_end, touched}
+use Rattle.run_existence.proofs.bounds.Named.{IsTouched, begins, device_there, giver, joined_device, joined_rank, launch_rank, never_off, no_point, received, signs, source_end, touched}
 
 -- ---- the ranks
 
@@ -270,7 +271,7 @@ module _ (s : Scenario) (t r : ℕ) (ms more : List Happening) (recent : (x : Ha
       let w = λ (x : Cluster). sent_in (compressed (observation_window s.network) (pos (amount s.network.calc)) x) in (
         omega (arith, there),
         elim (same_points at device) [
-          | inr none ↦ absurd (no_clusters (observation_window s.network) c.clusters c.cluster
+          | inr none ↦ absurd (no_cluster (observation_window s.network) c.clusters c.cluster
               (subst (λ (ps : List Point). AreClusters (observation_window s.network) ps c.clusters) none c.are) c.there)
           | inl same ↦
               (let one = all.2 c.clusters (subst (λ (ps : List Point). AreClusters (observation_window s.network) ps c.clusters) same c.are) in

@@ -1,5 +1,5 @@
 -- What the numbers in the places of records are bounded by.
-use Rattle.std.proofs.Common.{◌≡◌, ◌⊎◌, ℕ, zero, suc, ◌+◌, ◌<◌, ◌≤◌, ◌==◌, ℤ, pos, negsuc, ◌+ℤ◌, ◌-ℤ◌, ◌≤ℤ◌, unsigned_abs, if◌then◌else◌, List, [], ◌∷◌, ◌++◌, length, Some, slice_get, inl, inr, refl, ap, arith}
+use Rattle.std.proofs.Common.{◌≡◌, ◌⊎◌, ℕ, zero, suc, ◌+◌, ◌<◌, ◌≤◌, ◌==◌, ℤ, pos, ◌+ℤ◌, ◌-ℤ◌, ◌≤ℤ◌, unsigned_abs, if◌then◌else◌, List, [], ◌∷◌, ◌++◌, length, Some, slice_get, inl, inr, refl, ap, arith}
 use Rattle.std.proofs.lemmas.Int.{ints}
 use Rattle.compression.proofs.Times.{one_list_of_clusters}
 use Rattle.compression.specs.Emission.{compressed}
@@ -17,6 +17,7 @@ use Rattle.run_law.specs.records.Order.{IsIn}
 use Rattle.run_law.specs.records.Ranks.{members_in}
 use Rattle.run_law.specs.scenario.Scenarios.{Scenario}
 use Rattle.transparent_clock.specs.Points.{point_of}
+use Rattle.tte_lemmas.proofs.Integers.{amount_least}
 use Rattle.tte_units.specs.Amount.{amount}
 
 -- ---- sums
@@ -47,12 +48,8 @@ in_sum f (suc n) i lt =
     cases : (a b : ℕ) → (a ≡ b) ⊎ (a < b ⊎ (b < a))
     cases a b = grind arith
 
-below_abs : (n : ℕ) (z : ℤ) → pos n ≤ℤ z → n ≤ unsigned_abs z
-below_abs n (pos k) le = omega (arith, ints, le)
-below_abs n (negsuc k) le = absurd (omega (arith, ints, le))
-
 pub reach_most : (n m : ℕ) (a : ℤ) → (pos n -ℤ a) ≤ℤ pos m → n ≤ unsigned_abs (pos m +ℤ a)
-reach_most n m a le = below_abs n (pos m +ℤ a) (omega (arith, ints, le))
+reach_most n m a le = amount_least n (pos m +ℤ a) (omega (arith, ints, le))
 
 -- ---- causes
 

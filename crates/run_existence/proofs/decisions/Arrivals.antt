@@ -4,7 +4,8 @@ use Rattle.net_plan.specs.declared.ids.DeviceId.{DeviceId}
 use Rattle.net_plan.specs.declared.ids.LinkId.{LinkId}
 use Rattle.net_plan.specs.declared.ids.VlId.{VlId}
 use Rattle.net_plan.specs.declared.tables.Way.TheVariants.{Up}
-use Rattle.run_law.proofs.runs.SameSteps.{same_arrival, same_some}
+use Rattle.run_law.proofs.runs.SameSteps.{same_arrival}
+use Rattle.run_law.proofs.scenario.Conditions.{same_device}
 use Rattle.run_law.proofs.scenario.Decisions.{IsDecided, decided_and, decided_by, decided_same}
 use Rattle.run_law.specs.control.Wires.{Arrives, Launch, launched, time_on_port}
 use Rattle.run_law.specs.declared.note.NoteBody.TheVariants as notes
@@ -17,9 +18,10 @@ use Rattle.run_law.specs.runs.DueRecords.{IsArrivedRecord, IsCaused}
 use Rattle.run_law.specs.scenario.Scenarios.{Scenario}
 use Rattle.run_law.specs.scenario.Ways.{delay_at, receiver_of}
 use Rattle.run_law.specs.timed.Receptions.{ArrivesAs, arrival_of}
+use Rattle.tte_lemmas.proofs.Options.{one as same_some}
 use Rattle.tte_units.specs.Amount.{units_of}
 use Rattle.run_existence.proofs.decisions.Places.{HasCaused, OfThree, by_three, caused, members_by}
-use Rattle.run_existence.proofs.decisions.Values.{decided_in, decided_within, same_device, same_link, same_some_by}
+use Rattle.run_existence.proofs.decisions.Values.{decided_in, decided_within, same_link, same_some_by}
 
 -- ---- what becomes of what arrives
 

@@ -3,9 +3,9 @@ use Rattle.std.proofs.Common.{◌≡◌, ℕ, ◌+ℤ◌, false, List, Some, inl
 use Rattle.membership.proofs.OneSummary.{one_summary}
 use Rattle.membership.specs.Summary.{Summary}
 use Rattle.net_plan.specs.declared.ids.DeviceId.{DeviceId}
-use Rattle.precision_law.proofs.verdict.Verdicts.{summary_of, verdict_of}
-use Rattle.run_law.proofs.runs.SameSteps.{same_some}
-use Rattle.run_law.proofs.scenario.Decisions.{IsDecided, decided_and, decided_by, decided_false, decided_same}
+use Rattle.run_law.proofs.control.Summaries.{summary_of, verdict_of}
+use Rattle.run_law.proofs.scenario.Choices.{at_integration}
+use Rattle.run_law.proofs.scenario.Decisions.{IsDecided, decided_and, decided_by, decided_false}
 use Rattle.run_law.specs.control.Corrections.{ComesToCorrection, correction_value, heard_since, standing_before}
 use Rattle.run_law.specs.declared.note.NoteBody.TheVariants as notes
 use Rattle.run_law.specs.declared.note.NoteBody.{NoteBody}
@@ -16,22 +16,18 @@ use Rattle.run_law.specs.records.Ranks.{key, rank}
 use Rattle.run_law.specs.runs.DueRecords.{IsCaused, IsCorrectedRecord}
 use Rattle.run_law.specs.scenario.Scenarios.{Scenario, is_broken}
 use Rattle.sync_state.proofs.LawLemmas.{one_verdict}
-use Rattle.sync_state.specs.Standing.{IsAtIntegration, Standing, next_point}
+use Rattle.sync_state.specs.Standing.{Standing, next_point}
 use Rattle.sync_state.specs.Verdicts.{HasVerdict}
 use Rattle.sync_state.specs.declared.answers.Verdict.TheVariants.{AsyncClique, Cleared, Corrected, SyncClique}
 use Rattle.sync_state.specs.declared.answers.Verdict.{Verdict}
+use Rattle.tte_lemmas.proofs.Options.{one as same_some}
 use Rattle.tte_units.specs.Amount.{units_of}
 use Rattle.tte_units.specs.declared.units.Units.{Units}
 use Rattle.run_existence.proofs.decisions.Clocks.{reaches_decided}
 use Rattle.run_existence.proofs.decisions.Places.{HasCaused, OfOne, by_one, caused, members_by}
-use Rattle.run_existence.proofs.decisions.Values.{decided_in, decided_within, is_joining, same_some_by}
+use Rattle.run_existence.proofs.decisions.Values.{decided_in, decided_within}
 
 -- ---- each point comes to a verdict
-
-at_integration : (s : Standing) → IsDecided (IsAtIntegration s)
-at_integration s =
-    decided_by (λ h. record { joining = h.0; cycle = h.1 }) (λ r. (r.joining, r.cycle))
-    (decided_and (is_joining s.state) (same_some_by s.integrated s.number (λ n. decided_same n s.number)))
 
 verdict_there : (s : Standing) (heard : Summary) → (verdict : Verdict) × HasVerdict s heard verdict
 verdict_there s heard =

@@ -6,7 +6,8 @@ use Rattle.net_plan.specs.declared.ids.DeviceId.{DeviceId}
 use Rattle.net_plan.specs.declared.ids.LinkId.{LinkId}
 use Rattle.net_plan.specs.declared.network.Network.{Network}
 use Rattle.pcf_values.specs.declared.pcf.Pcf.{Pcf}
-use Rattle.run_law.proofs.runs.SameSteps.{same_departure, same_some}
+use Rattle.run_law.proofs.runs.SameSteps.{same_departure}
+use Rattle.run_law.proofs.scenario.Conditions.{same_device}
 use Rattle.run_law.proofs.scenario.Decisions.{IsDecided, decided_and, decided_by, decided_false, decided_or, decided_same, decided_some, decided_true}
 use Rattle.run_law.specs.control.Leaving.{Departs, Departure, Gives, Passes, departure, leaves, on_cut_way, too_old}
 use Rattle.run_law.specs.declared.note.NoteBody.TheVariants as notes
@@ -17,9 +18,10 @@ use Rattle.run_law.specs.runs.DueRecords.{IsCaused}
 use Rattle.run_law.specs.scenario.Devices.{IsParentOf, is_relay}
 use Rattle.run_law.specs.scenario.Scenarios.{Scenario, is_broken}
 use Rattle.run_law.specs.scenario.Ways.{hold_at, way_from}
+use Rattle.tte_lemmas.proofs.Options.{one as same_some}
 use Rattle.tte_units.specs.Amount.{units_of}
 use Rattle.run_existence.proofs.decisions.Places.{HasCaused, OfThree, by_three, caused, members_by}
-use Rattle.run_existence.proofs.decisions.Values.{decided_in, decided_within, same_device}
+use Rattle.run_existence.proofs.decisions.Values.{decided_in, decided_within}
 
 -- ---- what gives a frame to a link
 

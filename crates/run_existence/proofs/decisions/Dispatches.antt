@@ -8,7 +8,8 @@ use Rattle.net_plan.specs.declared.ids.VlId.{VlId}
 use Rattle.net_plan.specs.declared.tables.Link.{Link}
 use Rattle.net_plan.specs.declared.tables.Row.{Row}
 use Rattle.net_plan.specs.declared.tables.VirtualLink.{VirtualLink}
-use Rattle.run_law.proofs.runs.SameSteps.{same_some}
+use Rattle.run_law.proofs.scenario.Choices.{decided_le}
+use Rattle.run_law.proofs.scenario.Conditions.{same_device}
 use Rattle.run_law.proofs.scenario.Decisions.{IsDecided, decided_and, decided_by, decided_false, decided_or, decided_same, decided_true}
 use Rattle.run_law.specs.control.Losses.{IsDispatchedOn}
 use Rattle.run_law.specs.declared.note.NoteBody.TheVariants as notes
@@ -26,10 +27,11 @@ use Rattle.schedule_tables.proofs.EntryLemmas.{one_entry}
 use Rattle.schedule_tables.specs.Entries.{IsEntry, source_of}
 use Rattle.schedule_tables.specs.Windows.{OccursIn}
 use Rattle.schedule_tables.specs.declared.entry.Entry.{Entry}
+use Rattle.tte_lemmas.proofs.Options.{one as same_some}
 use Rattle.tte_units.specs.Amount.{amount, units_of}
 use Rattle.run_existence.proofs.decisions.Clocks.{reaches_decided}
 use Rattle.run_existence.proofs.decisions.Places.{HasCaused, OfFive, OfTwo, by_five, by_two, caused, members_by}
-use Rattle.run_existence.proofs.decisions.Values.{at_most, decided_below, decided_in, is_synchronised, same_device, same_link, same_vl}
+use Rattle.run_existence.proofs.decisions.Values.{decided_below, decided_in, is_synchronised, same_link, same_vl}
 
 -- ---- a master's frame
 
@@ -42,7 +44,7 @@ sends : (s : Scenario) (hs : List Happening) (device : DeviceId) (t cycle : ℕ)
 sends s hs device t cycle =
     decided_by (λ h. record { master = h.0; up = h.1.0; begun = h.1.1.0; reached = h.1.1.1 }) (λ r. (r.master, (r.up, (r.begun, r.reached))))
     (decided_and (decided_true (has_role s.network is_master device)) (decided_and (is_up s hs device t)
-    (decided_and (at_most 1 cycle) (reaches_decided s hs device (pos (cycle * amount s.network.cycle)) t))))
+    (decided_and (decided_le 1 cycle) (reaches_decided s hs device (pos (cycle * amount s.network.cycle)) t))))
 
 abbrev HasSent : Scenario → List Happening → ℕ → ℕ → ℕ → Type 0
 HasSent s hs t d cycle = Sends s hs (record { 0 = d }) t cycle
@@ -91,7 +93,7 @@ at_hand s hs device entry t cause cycle =
 occurs : (vl : VirtualLink) (cycle : ℕ) → IsDecided (OccursIn vl cycle)
 occurs vl cycle =
     decided_by (λ h. record { begun = h.0; in_phase = h.1 }) (λ r. (r.begun, r.in_phase))
-    (decided_and (at_most 1 cycle) (decided_same (cycle % vl.period) vl.phase))
+    (decided_and (decided_le 1 cycle) (decided_same (cycle % vl.period) vl.phase))
 
 module _ (s : Scenario) (hs : List Happening) (device : DeviceId) (t : ℕ) (link : LinkId) (cause : ℕ) (vl : VlId) (cycle : ℕ) where
   -- the entry's frame of the cycle is dispatched by the device on the link

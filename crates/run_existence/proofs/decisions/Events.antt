@@ -4,7 +4,6 @@ use Rattle.net_plan.specs.declared.event.Event.{Event}
 use Rattle.net_plan.specs.declared.event.What.TheVariants.{End}
 use Rattle.net_plan.specs.declared.event.What.{What}
 use Rattle.net_plan.specs.declared.tables.Device.{Device}
-use Rattle.run_law.proofs.runs.SameSteps.{same_some}
 use Rattle.run_law.proofs.scenario.Decisions.{IsDecided, decided_and, decided_any, decided_by}
 use Rattle.run_law.specs.declared.note.NoteBody.TheVariants as notes
 use Rattle.run_law.specs.declared.note.NoteBody.{NoteBody}
@@ -14,6 +13,7 @@ use Rattle.run_law.specs.records.Ranks.{key, rank}
 use Rattle.run_law.specs.runs.DueRecords.{EndsAt, IsCaused, IsClockRecord, IsEventRecord}
 use Rattle.run_law.specs.scenario.Scenarios.{Scenario}
 use Rattle.sync_state.specs.declared.state.State.{State}
+use Rattle.tte_lemmas.proofs.Options.{one}
 use Rattle.tte_units.specs.Amount.{units_of}
 use Rattle.tte_units.specs.declared.units.Units.{Units}
 use Rattle.run_existence.proofs.decisions.Places.{HasCaused, OfOne, by_one, caused, members_by}
@@ -53,7 +53,7 @@ at_line s t (suc n) =
 
     back : (event : Event) → slice_get s.events n ≡ Some event → HasEvent s t (suc n) → pos t ≡ event.time.0
     back event e h =
-        ap (λ (u : Units). u.0) h.1.at ∙ ap (λ (x : Event). x.time.0) (same_some (slice_get s.events n) h.1.event event (here h) e)
+        ap (λ (u : Units). u.0) h.1.at ∙ ap (λ (x : Event). x.time.0) (one (slice_get s.events n) h.1.event event (here h) e)
 
 pub event_decided : (s : Scenario) (hs : List Happening) (t : ℕ) (ks : List ℕ) → IsDecided (HasCaused s hs t 1 ks)
 event_decided s hs t ks = by_one s hs t 1 (HasEvent s t) (λ line h. caused s hs t (notes.Event line h.0) h.1) says (at_line s t) ks
@@ -64,7 +64,7 @@ event_decided s hs t ks = by_one s hs t 1 (HasEvent s t) (λ line h. caused s hs
 
 -- ---- a clock at the end
 
-is_end : (what : What) → IsDecided (what ≡ End)
+pub is_end : (what : What) → IsDecided (what ≡ End)
 is_end End = inl refl
 is_end other = inr (λ e. cc)
 

@@ -7,7 +7,8 @@ use Rattle.net_plan.specs.declared.ids.LinkId.{LinkId}
 use Rattle.net_plan.specs.declared.ids.VlId.{VlId}
 use Rattle.net_plan.specs.declared.tables.Link.{Link}
 use Rattle.net_plan.specs.declared.tables.Way.TheVariants.{Up}
-use Rattle.run_law.proofs.runs.SameSteps.{same_arrival, same_some}
+use Rattle.run_law.proofs.runs.SameSteps.{same_arrival}
+use Rattle.run_law.proofs.scenario.Conditions.{same_device}
 use Rattle.run_law.proofs.scenario.Decisions.{IsDecided, decided_and, decided_by, decided_or, decided_true}
 use Rattle.run_law.specs.control.Leaving.{Departs, too_old}
 use Rattle.run_law.specs.control.Losses.{IsDropped, IsLost, IsSendLost}
@@ -24,6 +25,7 @@ use Rattle.run_law.specs.scenario.Scenarios.{Scenario}
 use Rattle.run_law.specs.scenario.Ways.{is_cut, way_from}
 use Rattle.run_law.specs.timed.Dispatching.{Dispatches}
 use Rattle.run_law.specs.timed.Receptions.{ArrivesAs}
+use Rattle.tte_lemmas.proofs.Options.{one as same_some}
 use Rattle.tte_units.specs.Amount.{amount, units_of}
 use Rattle.run_existence.proofs.bounds.Ranks.{cycle_of_dispatch}
 use Rattle.run_existence.proofs.bounds.Weights.{bound}
@@ -32,7 +34,7 @@ use Rattle.run_existence.proofs.decisions.Departures.{cut_decided, old_decided}
 use Rattle.run_existence.proofs.decisions.Dispatches.{dispatches_decided}
 use Rattle.run_existence.proofs.decisions.Permanence.{HasDropped, dropped_decided}
 use Rattle.run_existence.proofs.decisions.Places.{HasCaused, OfThree, by_three, cause_decided, caused, members_by}
-use Rattle.run_existence.proofs.decisions.Values.{decided_below, decided_in, decided_within, same_device, same_link}
+use Rattle.run_existence.proofs.decisions.Values.{decided_below, decided_in, decided_within, same_link}
 
 -- ---- a frame meets a cut way
 

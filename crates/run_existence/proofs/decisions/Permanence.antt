@@ -1,18 +1,16 @@
 -- Decisions: whether the record of a frame that is permanent is due, and what becomes of the frame.
-use Rattle.std.proofs.Common.{◌≡◌, ℕ, ℤ, pos, Bool, true, false, List, [], ◌∷◌, Option, Some, None, MatchBool, inl, inr, refl, sym, ap, subst, ◌∙◌, arith}
+use Rattle.std.proofs.Common.{◌≡◌, ℕ, ℤ, pos, true, false, List, [], ◌∷◌, Some, inl, inr, refl, sym, ap, subst, ◌∙◌, arith}
 use Rattle.std.specs.Option.{option_map_or}
-use Rattle.compression.proofs.Times.{one_list_of_clusters}
-use Rattle.compression.specs.Clusters.{Point}
-use Rattle.compression.specs.Role.{role}
 use Rattle.drift_clock.specs.Reach.{IsReach}
 use Rattle.net_plan.specs.declared.ids.DeviceId.{DeviceId}
 use Rattle.net_plan.specs.declared.ids.LinkId.{LinkId}
-use Rattle.net_plan.specs.declared.network.Network.{Network}
 use Rattle.pcf_values.specs.declared.pcf.Pcf.{Pcf}
-use Rattle.run_law.proofs.runs.SameSteps.{same_point, same_ripening, same_some}
+use Rattle.run_law.proofs.control.Verdicts.{never_dropped, some_outcome}
+use Rattle.run_law.proofs.runs.SameSteps.{same_point, same_ripening}
+use Rattle.run_law.proofs.scenario.Conditions.{same_device}
 use Rattle.run_law.proofs.scenario.Decisions.{IsDecided, decided_and, decided_by, decided_false, decided_same, decided_true}
-use Rattle.run_law.specs.control.Collections.{observation_window, points_of, ripe_by_role}
-use Rattle.run_law.specs.control.Permanence.{BecomesPermanent, IsCollectedOrDropped, IsPermanenceOutcome, before_permanence, ripe_as, waits_for}
+use Rattle.run_law.specs.control.Collections.{points_of}
+use Rattle.run_law.specs.control.Permanence.{BecomesPermanent, before_permanence, ripe_as, waits_for}
 use Rattle.run_law.specs.declared.judgement.Judgement.TheVariants as judgements
 use Rattle.run_law.specs.declared.judgement.Judgement.{Judgement}
 use Rattle.run_law.specs.declared.judgement.Reason.{Reason}
@@ -24,35 +22,14 @@ use Rattle.run_law.specs.device.States.{adjustment_at_hearing, state_at_hearing}
 use Rattle.run_law.specs.records.Happenings.{Happening, frame_from, numbered, time_of}
 use Rattle.run_law.specs.records.Ranks.{key, rank}
 use Rattle.run_law.specs.runs.DueRecords.{IsCaused}
-use Rattle.run_law.specs.scenario.Devices.{is_cm}
 use Rattle.run_law.specs.scenario.Scenarios.{Scenario, is_broken}
-use Rattle.sync_state.specs.declared.state.State.{State}
 use Rattle.transparent_clock.specs.Points.{point_of}
+use Rattle.tte_lemmas.proofs.Options.{one as same_some}
 use Rattle.tte_units.specs.Amount.{amount, units_of}
 use Rattle.tte_units.specs.declared.units.Units.{Units}
 use Rattle.run_existence.proofs.decisions.Clocks.{reach_decided}
 use Rattle.run_existence.proofs.decisions.Places.{HasCaused, OfFive, by_five, members_by}
-use Rattle.run_existence.proofs.decisions.Values.{decided_in, decided_within, same_device, same_link}
-
--- ---- each permanent frame has an outcome
-
-collected : (network : Network) (points : List Point) (point : Point) (fault : Option Reason)
-    → (is : Ripe) × IsCollectedOrDropped network points point fault is
-collected network points point (Some reason) = (ripe.Dropped reason, refl)
-collected network points point None =
-    let all = one_list_of_clusters (observation_window network) points in (
-      ripe_by_role (role all.0 point),
-      record { taken = role all.0 point; collected = record { clusters = all.0; are = all.1; is = refl }; becomes = refl },
-    )
-
-by_kind : (b : Bool) (P : Ripe → Type 0) (heard : Ripe) → (is : Ripe) × P is → (is : Ripe) × MatchBool b (P is) (is ≡ heard)
-by_kind true P heard there = there
-by_kind false P heard there = (heard, refl)
-
-outcome : (network : Network) (device : DeviceId) (state : State) (adjustment : ℤ) (points : List Point) (frame : Pcf) (point : ℤ)
-    → (is : Ripe) × IsPermanenceOutcome network device state adjustment points frame point is
-outcome network device state adjustment points frame point =
-    by_kind (is_cm network device) (λ is. IsCollectedOrDropped network points _ _ is) _ (collected network points _ _)
+use Rattle.run_existence.proofs.decisions.Values.{decided_in, decided_within, same_link}
 
 -- ---- a frame is permanent
 
@@ -93,7 +70,7 @@ module _ (s : Scenario) (hs : List Happening) (device : DeviceId) (t : ℕ) (lin
   there g e a frame of h =
       let point = point_from s g device a.clock in
       let judged = before_permanence hs device t link cause frame point in
-      let is = outcome s.network device (state_at_hearing s judged device t) (adjustment_at_hearing s judged device t).0 (points_of judged device)
+      let is = some_outcome s.network device (state_at_hearing s judged device t) (adjustment_at_hearing s judged device t).0 (points_of judged device)
       frame point.0 in (
         point,
         is.0,
@@ -154,15 +131,6 @@ module _ (s : Scenario) (hs : List Happening) (device : DeviceId) (t : ℕ) (lin
       (λ h. (h.2.permanent.arrival, h.2.permanent.there))
 
 -- ---- a frame is judged
-
-never_dropped : (verdict : Judgement) (reason : Reason) → ripe.Dropped reason ≡ ripe_as verdict → ⊥
-never_dropped judgements.Opened reason e = cc
-never_dropped judgements.Joined reason e = cc
-never_dropped judgements.Repeat reason e = cc
-never_dropped judgements.Within reason e = cc
-never_dropped judgements.Outside reason e = cc
-never_dropped judgements.Integrates reason e = cc
-never_dropped judgements.Ignored reason e = cc
 
 judgement_in : (is : Ripe) → IsDecided ((verdict : Judgement) × (is ≡ ripe_as verdict))
 judgement_in ripe.Opened = inl (judgements.Opened, refl)

@@ -1,8 +1,7 @@
 -- A decision at a place is one on the bodies that are caused there.
-use Rattle.std.proofs.Common.{◌≡◌, ℕ, ◌+◌, ℤ, pos, negsuc, ◌≤ℤ◌, List, [], ◌∷◌, length, Some, inr, refl, sym, ap, subst, ◌∙◌, arith}
+use Rattle.std.proofs.Common.{◌≡◌, ℕ, ◌+◌, List, [], ◌∷◌, length, Some, inr, refl, sym, ap, subst, ◌∙◌, arith}
 use Rattle.std.proofs.lemmas.Int.{ints}
 use Rattle.std.specs.Option.{option_map_or}
-use Rattle.run_law.proofs.runs.SameSteps.{same_some}
 use Rattle.run_law.proofs.scenario.Decisions.{IsDecided, decided_and, decided_by, decided_same}
 use Rattle.run_law.specs.declared.note.Note.{Note}
 use Rattle.run_law.specs.declared.note.NoteBody.{NoteBody}
@@ -11,7 +10,9 @@ use Rattle.run_law.specs.records.Happenings.{Happening, frame_by, happening, num
 use Rattle.run_law.specs.records.Ranks.{key, members_in, place_of, rank}
 use Rattle.run_law.specs.runs.DueRecords.{IsCaused, IsDue}
 use Rattle.run_law.specs.scenario.Scenarios.{Scenario}
-use Rattle.tte_units.specs.Amount.{amount, units_of}
+use Rattle.tte_lemmas.proofs.Options.{one}
+use Rattle.tte_units.proofs.Amounts.{units_are}
+use Rattle.tte_units.specs.Amount.{units_of}
 use Rattle.tte_units.specs.declared.units.Units.{Units}
 use Rattle.run_existence.proofs.Sweep.{HasDue}
 use Rattle.run_existence.proofs.decisions.Values.{decided_in}
@@ -36,13 +37,6 @@ pub caused : (s : Scenario) (hs : List Happening) (t : ℕ) (body : NoteBody) �
 caused s hs t body is = (body, record { caused = is; ranked = refl; keyed = refl })
 
 -- ---- from bodies to records, and back
-
-units_are : (u : Units) (t : ℕ) → pos 0 ≤ℤ u.0 → amount u ≡ t → u ≡ units_of t
-units_are u t begun at = by u.0 begun at
-  where
-    by : (z : ℤ) → pos 0 ≤ℤ z → amount (record { 0 = z }) ≡ t → (let w : Units = record { 0 = z } in w) ≡ units_of t
-    by (pos n) begun at = ap (λ (m : ℕ). units_of m) at
-    by (negsuc n) begun at = absurd (omega (arith, ints, begun))
 
 due_there : (s : Scenario) (hs : List Happening) (t r : ℕ) (ks : List ℕ) → HasCaused s hs t r ks → HasDue place_of (IsDue s) hs (t ∷ r ∷ ks)
 due_there s hs t r ks has =
@@ -162,4 +156,4 @@ cause_decided hs t cause Q each =
 
     back : (g : Happening) → numbered hs cause ≡ Some g → (h : Happening) × IsOfThisTime hs t cause h × Q h → (time_of g ≡ t) × Q g
     back g e h =
-        subst (λ (x : Happening). (time_of x ≡ t) × Q x) (same_some (numbered hs cause) h.0 g h.1.there e) (h.1.same_time, h.2)
+        subst (λ (x : Happening). (time_of x ≡ t) × Q x) (one (numbered hs cause) h.0 g h.1.there e) (h.1.same_time, h.2)

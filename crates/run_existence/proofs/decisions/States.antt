@@ -2,6 +2,7 @@
 use Rattle.std.proofs.Common.{◌≡◌, ◌⊎◌, ℕ, true, false, List, inl, inr, refl, ap, arith}
 use Rattle.net_plan.specs.declared.event.What.TheVariants.{On}
 use Rattle.net_plan.specs.declared.ids.DeviceId.{DeviceId}
+use Rattle.run_law.proofs.scenario.Conditions.{same_device}
 use Rattle.run_law.proofs.scenario.Decisions.{IsDecided, decided_and, decided_by, decided_false, decided_or, decided_same, decided_true}
 use Rattle.run_law.specs.control.Corrections.{ComesToCorrection}
 use Rattle.run_law.specs.declared.judgement.Why.TheVariants as whys
@@ -23,7 +24,7 @@ use Rattle.tte_units.specs.Amount.{units_of}
 use Rattle.tte_units.specs.declared.units.Units.{Units}
 use Rattle.run_existence.proofs.decisions.Corrections.{one_outcome, point_decided}
 use Rattle.run_existence.proofs.decisions.Places.{HasCaused, OfTwo, by_two, cause_decided, caused, members_by}
-use Rattle.run_existence.proofs.decisions.Values.{decided_within, is_joining, same_device}
+use Rattle.run_existence.proofs.decisions.Values.{decided_within, is_joining}
 
 -- ---- the records that change a state
 

@@ -1,7 +1,6 @@
 -- Decisions on values: equalities, and searches below a bound.
-use Rattle.std.proofs.Common.{◌≡◌, ℕ, zero, suc, ◌<◌, ◌≤◌, ℤ, pos, negsuc, List, [], ◌∷◌, Option, Some, None, inl, inr, refl, sym, ap, subst, ◌∙◌, arith}
-use Rattle.std.proofs.lemmas.Bool.{cases_eq, cases_lt}
-use Rattle.net_plan.specs.declared.ids.DeviceId.{DeviceId}
+use Rattle.std.proofs.Common.{◌≡◌, ℕ, zero, suc, ◌<◌, ℤ, pos, negsuc, List, [], ◌∷◌, Option, Some, None, inl, inr, refl, sym, ap, subst, ◌∙◌, arith}
+use Rattle.std.proofs.lemmas.Bool.{cases_eq}
 use Rattle.net_plan.specs.declared.ids.LinkId.{LinkId}
 use Rattle.net_plan.specs.declared.ids.VlId.{VlId}
 use Rattle.run_law.proofs.scenario.Decisions.{IsDecided, decided_and, decided_by, decided_same}
@@ -9,9 +8,6 @@ use Rattle.sync_state.specs.declared.state.State.TheVariants.{Integrating, Joini
 use Rattle.sync_state.specs.declared.state.State.{State}
 
 -- ---- equalities
-
-pub at_most : (a b : ℕ) → IsDecided (a ≤ b)
-at_most a b = elim (cases_lt b a) [ inl lt ↦ inr (λ le. absurd (omega (arith, lt, le))) | inr le ↦ inl le ]
 
 pub same_int : (a b : ℤ) → IsDecided (a ≡ b)
 same_int (pos m) (pos n) = elim (cases_eq m n) [ inl e ↦ inl (ap pos e) | inr ne ↦ inr (λ e. absurd (ne cc)) ]
@@ -29,10 +25,6 @@ same_list (x ∷ xs) [] = inr (λ e. cc)
 same_list (x ∷ xs) (y ∷ ys) =
     decided_by (λ (h : (x ≡ y) × (xs ≡ ys)). ap (λ (n : ℕ). n ∷ xs) h.0 ∙ ap (λ (l : List ℕ). y ∷ l) h.1) (parts x y xs ys)
     (decided_and (decided_same x y) (same_list xs ys))
-
-pub same_device : (a b : DeviceId) → IsDecided (a ≡ b)
-same_device a b =
-    decided_by (λ (e : a.0 ≡ b.0). ap (λ (n : ℕ). let x : DeviceId = record { 0 = n } in x) e) (λ e. ap (λ (d : DeviceId). d.0) e) (decided_same a.0 b.0)
 
 pub same_link : (a b : LinkId) → IsDecided (a ≡ b)
 same_link a b =

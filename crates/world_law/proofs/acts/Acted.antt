@@ -12,6 +12,7 @@ use Rattle.membership.specs.Summary.{Summary}
 use Rattle.net_plan.specs.declared.ids.DeviceId.{DeviceId}
 use Rattle.net_plan.specs.declared.network.Network.{Network}
 use Rattle.pcf_values.specs.declared.members.Members.{Members}
+use Rattle.run_law.proofs.silent.Due.{no_cluster}
 use Rattle.run_law.specs.control.Collections.{observation_window}
 use Rattle.run_law.specs.control.Corrections.{correction_value}
 use Rattle.run_law.specs.control.Hearing.{heard_as, heard_enough, heard_by_schedule, is_in_schedule, last_cycle}
@@ -27,6 +28,7 @@ use Rattle.run_law.specs.machines.Calls.{MayCall}
 use Rattle.run_law.specs.machines.Nodes.{ClockTask, Node, acting, correcting, dispatching, sending}
 use Rattle.run_law.specs.machines.Tasks.{IsDeedOf, IsPending, IsUndone, IsWaiting, Task, doing, emitting, value_of}
 use Rattle.run_law.specs.scenario.Devices.{is_cm, plan_of}
+use Rattle.sync_state.proofs.StateFacts.{no_longer, no_point}
 use Rattle.sync_state.specs.Calls.{state_by}
 use Rattle.sync_state.specs.Standing.{Standing, next_point, point_in}
 use Rattle.sync_state.specs.declared.answers.Verdict.TheVariants.{Corrected, SyncClique, AsyncClique, Cleared}
@@ -101,10 +103,6 @@ pending_alike network device node new moment (doing deed) a points emitted p =
     inl ((sym a.broken ∙ p.0, undone_alike network device node new deed a p.1), ap (λ (x : Standing). value_of network deed -ℤ x.adjustment.0) a.standing)
 
 -- ---- the device begins anew
-
-pub no_cluster : (ow : ℤ) (clusters : List Cluster) (cluster : Cluster) → AreClusters ow [] clusters → Contains clusters cluster → ⊥
-no_cluster ow [] cluster are there = absurd (omega (arith, there.1))
-no_cluster ow (c ∷ cs) cluster are there = absurd are
 
 pub beyond_it : (changed reading adjustment value : ℤ) → changed ≡ (reading +ℤ adjustment) → changed <ℤ value → reading <ℤ (value -ℤ adjustment)
 beyond_it changed reading adjustment value is lt = omega (arith, ints, is, lt)
@@ -186,15 +184,6 @@ kept_waiting network device node true sent cm clusters are cluster there is not_
 kept_waiting network device node false sent cm clusters are cluster there is not_yet =
     absurd (no_cluster (observation_window network) clusters cluster are there)
 
-never_both : Integrating ≡ Synchronised → ⊥
-never_both e = cc
-
-none_in : (number cycle : ℕ) → point_in Integrating number ≡ Some cycle → ⊥
-none_in number cycle e = cc
-
-none_next : (state : State) (number cycle : ℕ) → state ≡ Integrating → point_in state number ≡ Some cycle → ⊥
-none_next state number cycle is next = none_in number cycle (subst (λ (x : State). point_in x number ≡ Some cycle) is next)
-
 one_more : (state : State) (number cycle n : ℕ) → point_in state number ≡ Some cycle → point_in state (number + 1) ≡ Some n → n ≡ cycle + 1
 one_more Off number cycle n e f = absurd cc
 one_more Integrating number cycle n e f = absurd cc
@@ -225,9 +214,9 @@ clique_by : (network : Network) (device : DeviceId) (node : Node) (moment : Mome
     → IsCarried network device node (called moment acting (with_clique node heard verdict)) moment task
 clique_by network device node moment heard verdict (emitting sent) lost p =
     absurd (no_cluster (observation_window network) p.1.clusters p.1.cluster p.1.are p.1.there)
-clique_by network device node moment heard verdict (doing (sending cycle)) lost p = absurd (never_both (sym lost ∙ p.1.own.1))
-clique_by network device node moment heard verdict (doing (dispatching row cycle)) lost p = absurd (never_both (sym lost ∙ p.1.own.0))
-clique_by network device node moment heard verdict (doing (correcting cycle)) lost p = absurd (none_next _ _ _ lost p.1.own)
+clique_by network device node moment heard verdict (doing (sending cycle)) lost p = absurd (no_longer (sym lost ∙ p.1.own.1))
+clique_by network device node moment heard verdict (doing (dispatching row cycle)) lost p = absurd (no_longer (sym lost ∙ p.1.own.0))
+clique_by network device node moment heard verdict (doing (correcting cycle)) lost p = absurd (no_point _ _ _ lost p.1.own)
 
 cleared_by : (network : Network) (device : DeviceId) (node : Node) (moment : Moment) (heard : Summary) (cycle : ℕ) (task : Task)
     → next_point node.standing ≡ Some cycle

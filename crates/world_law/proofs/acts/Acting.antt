@@ -1,8 +1,7 @@
 -- When a device acts by itself, it has a task that is due.
-use Rattle.std.proofs.Common.{◌≡◌, Contains, ℕ, ◌+◌, ◌-◌, ◌≤◌, ◌<◌, ℤ, pos, ◌+ℤ◌, ◌-ℤ◌, ◌<ℤ◌, ◌≤ℤ◌, Bool, true, false, if◌then◌else◌, int_lt, int_le, List, Some, inl, inr, refl, sym, ap, subst, ◌∙◌, arith}
+use Rattle.std.proofs.Common.{◌≡◌, Contains, ℕ, ◌+◌, ◌-◌, ◌≤◌, ◌<◌, ℤ, pos, ◌+ℤ◌, ◌-ℤ◌, ◌<ℤ◌, ◌≤ℤ◌, Bool, true, false, if◌then◌else◌, int_lt, List, Some, inl, inr, refl, sym, ap, subst, ◌∙◌, arith}
 use Rattle.std.proofs.lemmas.Bool.{and_from, and_parts, both_ways, cases_Bool}
 use Rattle.std.proofs.lemmas.Int.{ints}
-use Rattle.compression.proofs.Held.{int_le-false, int_le-true, int_lt-false}
 use Rattle.compression.specs.Clusters.{AreClusters}
 use Rattle.compression.specs.declared.compressed.Compressed.{Compressed}
 use Rattle.net_plan.specs.declared.ids.DeviceId.{DeviceId}
@@ -20,10 +19,10 @@ use Rattle.run_law.specs.timed.Dispatching.{Sends}
 use Rattle.sync_state.specs.Standing.{point_in}
 use Rattle.sync_state.specs.declared.state.State.TheVariants.{Off, Integrating, Joining, Synchronised}
 use Rattle.sync_state.specs.declared.state.State.{State}
+use Rattle.tte_lemmas.proofs.Integers.{int_le-from, int_le-is, int_lt-is, never_both}
 use Rattle.tte_units.specs.declared.units.Units.{Units}
 use Rattle.world_law.proofs.devices.OwnRecords.{adjustment_still, change_still, state_still}
 use Rattle.world_law.proofs.devices.Passes.{cleared_still, local_still, next_still, not_turned_on}
-use Rattle.world_law.proofs.lists.Orders.{cases_int}
 use Rattle.world_law.specs.device.Left.{HasDone, HasSent, HasTaskBy, IsLeft, is_timed}
 use Rattle.world_law.specs.device.Own.{IsStill}
 use Rattle.world_law.specs.source.Sources.{IsAtCorrection}
@@ -57,9 +56,6 @@ comes_so s hs device t later node v u left r =
           subst (λ (a : Units). pos (s.reading device x) <ℤ (v -ℤ a.0)) adjusted
           (r.reach.not_before x (omega (arith, ints, from, change)) (omega (arith, ints, lt)));
     }
-
-never_both : (a b : ℤ) → a <ℤ b → b ≤ℤ a → ⊥
-never_both a b lt le = omega (arith, ints, lt, le)
 
 -- a deed of the device to whose value its clock comes is to be done
 pub undone_so : (s : Scenario) (hs : List Happening) (device : DeviceId) (t later : ℕ) (node : Node) (deed : ClockTask) → t ≤ later → HasDone s hs device t node
@@ -115,12 +111,6 @@ emitting_task s hs device t later node sent verdict u left has e = (
 
 -- ---- a correction point
 
-less_is : (a b : ℤ) → int_lt a b ≡ true → a <ℤ b
-less_is a b e = elim (cases_int a b) [ inl lt ↦ lt | inr ge ↦ absurd (both_ways _ (int_lt-false a b ge) e) ]
-
-at_most_is : (a b : ℤ) → int_le a b ≡ true → a ≤ℤ b
-at_most_is a b e = elim (cases_int b a) [ inl lt ↦ absurd (both_ways _ (int_le-false a b lt) e) | inr ge ↦ ge ]
-
 pub point_number : (state : State) (number cycle : ℕ) → point_in state number ≡ Some cycle → (is_timed state ≡ true) × (number ≡ cycle)
 point_number Off number cycle e = absurd cc
 point_number Integrating number cycle e = absurd cc
@@ -159,7 +149,7 @@ cleared_by_then s hs device t node x left timed number joining ahead never_falls
     let moved : correction_value s.network (recorded_cycle (earlier t hs) device) ≤ℤ (pos (s.reading device (t - 1)) +ℤ (adjustment_before s hs device t).0) =
     subst (λ (a : Units). correction_value s.network (recorded_cycle (earlier t hs) device) ≤ℤ (pos (s.reading device (t - 1)) +ℤ a.0)) left.counted.adjustment
     (subst (λ (n : ℕ). correction_value s.network n ≤ℤ (pos (s.reading device (t - 1)) +ℤ node.standing.adjustment.0)) number there) in
-    and_from _ _ joining (and_from _ _ ahead (int_le-true _ _ moved))
+    and_from _ _ joining (and_from _ _ ahead (int_le-from _ _ moved))
 
 -- what a device has cleared stays so
 pub cleared_on : (s : Scenario) (hs : List Happening) (device : DeviceId) (t later : ℕ) → IsUnmoved s hs device t later → has_cleared s hs device t t ≡ true
@@ -168,10 +158,10 @@ cleared_on s hs device t later u did =
     let joining = and_parts (is_integration_cycle (earlier t hs) device) _ did in
     let came = and_parts (int_lt (local_at_change s hs device t) (correction_value s.network (recorded_cycle (earlier t hs) device))) _ joining.1 in
     let there : correction_value s.network (recorded_cycle (earlier t hs) device) ≤ℤ (pos (s.reading device (t - 1)) +ℤ (adjustment_before s hs device t).0) =
-    at_most_is _ _ came.1 in
+    int_le-is _ _ came.1 in
     let fell = u.never_falls (t - 1) (later - 1) (before_one t later u.le) in
     cleared_still s hs device t later later u.le u.still
-    ∙ and_from _ _ joining.0 (and_from _ _ came.0 (int_le-true _ _ (onward _ (adjustment_before s hs device t).0 _ _ there fell)))
+    ∙ and_from _ _ joining.0 (and_from _ _ came.0 (int_le-from _ _ (onward _ (adjustment_before s hs device t).0 _ _ there fell)))
 
 -- a device with a next correction point, whose clock had come to it before a time, has a task that was due before it
 pub had_come_by : (s : Scenario) (hs : List Happening) (device : DeviceId) (t later : ℕ) (node : Node) → IsUnmoved s hs device t later
@@ -187,9 +177,9 @@ had_come_by s hs device t later node u left has timed not_yet cleared sound =
     let came = and_parts (int_lt (local_at_change s hs device t) (correction_value s.network (recorded_cycle (earlier t hs) device))) _ joining.1 in
     let number : node.standing.number ≡ recorded_cycle (earlier t hs) device = left.counted.number timed
     ∙ ap (λ (b : Bool). if b then recorded_cycle (earlier t hs) device + 1 else recorded_cycle (earlier t hs) device) not_yet in
-    let ahead : local_at_change s hs device t <ℤ correction_value s.network (recorded_cycle (earlier t hs) device) = less_is _ _ came.0 in
+    let ahead : local_at_change s hs device t <ℤ correction_value s.network (recorded_cycle (earlier t hs) device) = int_lt-is _ _ came.0 in
     let there : correction_value s.network (recorded_cycle (earlier t hs) device) ≤ℤ (pos (s.reading device (later - 1)) +ℤ (adjustment_before s hs device t).0)
-    = at_most_is _ _ came.1 in
+    = int_le-is _ _ came.1 in
     let v = correction_value s.network node.standing.number in
     let same : correction_value s.network (recorded_cycle (earlier t hs) device) ≡ v = ap (correction_value s.network) (sym number) in
     let before : node.changed <ℤ v = subst (λ (z : ℤ). z <ℤ v) (sym left.counted.changed) (subst (λ (z : ℤ). local_at_change s hs device t <ℤ z) same ahead) in

@@ -4,6 +4,7 @@ use Rattle.std.proofs.lemmas.Bool.{cases_Bool}
 use Rattle.net_plan.specs.declared.ids.DeviceId.{DeviceId}
 use Rattle.net_plan.specs.declared.ids.LinkId.{LinkId}
 use Rattle.net_plan.specs.declared.ids.VlId.{VlId}
+use Rattle.run_law.proofs.law.FirstDeliveries.{last_in}
 use Rattle.run_law.proofs.law.FirstPlaces.{by_number, in_filter, numbered_front}
 use Rattle.run_law.proofs.runs.Places.{chain, parted}
 use Rattle.run_law.specs.control.Losses.{IsSendLost}
@@ -17,14 +18,13 @@ use Rattle.run_law.specs.runs.Runs.{IsFounded}
 use Rattle.run_law.specs.scenario.Scenarios.{Scenario}
 use Rattle.run_law.specs.scenario.Ways.{is_cut, way_from}
 use Rattle.run_law.specs.timed.Dispatching.{Dispatches, is_accepted}
-use Rattle.world_law.proofs.putting.PutIn.{last_in}
 use Rattle.world_law.proofs.runs.Agreement.{in_earlier}
 use Rattle.world_law.specs.device.Plain.{plain_body}
 use Rattle.world_law.specs.device.Recorded.{dispatch_body}
 use Rattle.world_law.specs.source.Sources.{IsOwnSource}
 use Rattle.world_law.specs.world.World.{AreSettled, act_place}
 
-same_some : (x y : Happening) → Some x ≡ Some y → x ≡ y
+pub same_some : (x y : Happening) → Some x ≡ Some y → x ≡ y
 same_some x y e = cc
 
 none_some : (x : Happening) → None ≡ Some x → ⊥

@@ -1,6 +1,6 @@
 -- Where nothing that a world has under way is before a place, and nothing to come, no act of a device that is not worked off
 -- is before it.
-use Rattle.std.proofs.Common.{◌≡◌, ℕ, ◌≤◌, ◌<◌, pos, ◌<ℤ◌, ◌≤ℤ◌, ℤ, Bool, true, false, if◌then◌else◌, List, [], ◌∷◌, ◌++◌, append_assoc, filter_map, length, map, Some, None, inl, inr, refl, sym, ap, subst, ◌∙◌, arith}
+use Rattle.std.proofs.Common.{◌≡◌, ℕ, ◌≤◌, ◌<◌, pos, Bool, true, false, if◌then◌else◌, List, [], ◌∷◌, ◌++◌, append_assoc, filter_map, length, map, Some, None, inl, inr, refl, sym, ap, subst, ◌∙◌, arith}
 use Rattle.std.specs.List.{after_last}
 use Rattle.std.specs.Option.{option_map_or}
 use Rattle.std.proofs.lemmas.Bool.{cases_Bool, cases_lt}
@@ -37,6 +37,7 @@ use Rattle.run_law.specs.scenario.Scenarios.{Scenario, is_broken, is_turned_on_a
 use Rattle.sync_state.specs.Standing.{next_point, point_in, state_at_start}
 use Rattle.sync_state.specs.declared.state.State.TheVariants.{Integrating, Off, Synchronised}
 use Rattle.sync_state.specs.declared.state.State.{State}
+use Rattle.tte_lemmas.proofs.Integers.{never_both}
 use Rattle.world_law.proofs.acts.Acting.{IsUnmoved, correcting_task, sending_task}
 use Rattle.world_law.proofs.devices.Deeds.{rests}
 use Rattle.world_law.proofs.devices.OwnRecords.{keeps_state}
@@ -48,14 +49,15 @@ use Rattle.world_law.proofs.lists.Orders.{cases_int}
 use Rattle.world_law.proofs.putting.StandsOn.{in_mapped}
 use Rattle.world_law.proofs.rows.Dispatching.{IsLawful, dispatching_task, lawful}
 use Rattle.world_law.proofs.runs.Foremost.{NoActBefore, acting_task, none_but_acts, not_on_after}
-use Rattle.world_law.proofs.runs.SourcesBack.{dispatches_back, earlier_still, reaches_back, standing_in, up_back}
+use Rattle.world_law.proofs.runs.SourcesBack.{dispatches_back, earlier_still, of_high_rank, reaches_back, standing_in, up_back}
 use Rattle.world_law.specs.device.Deeds.{HasDoneFrom}
 use Rattle.world_law.specs.device.Left.{HasDone, HasSent, HasTaskBy, IsLeft}
 use Rattle.world_law.specs.device.Own.{moves}
 use Rattle.world_law.specs.device.Takings.{frames_taken}
 use Rattle.world_law.specs.source.Sources.{IsActing}
 use Rattle.world_law.specs.world.Moves.{NothingBefore, NothingComesBefore}
-use Rattle.world_law.specs.world.World.{AreOfNetwork, HaveBefallen, IsHeld, IsKept, Stands, World, act_place, hidden, hidden_body, is_turning}
+use Rattle.world_law.specs.world.World.{AreOfNetwork, HaveBefallen, IsHeld, IsKept, Stands, World, act_place, hidden, is_turning}
+use Rattle.world_law.proofs.putting.PutShown.{hidden_rank}
 
 -- ---- records behind the acts of their instant, which leave the device at rest, do not change its points
 
@@ -65,17 +67,13 @@ unmoved_stretch device (notes.State other state cause why) e = e
 unmoved_stretch device (notes.Corrected other cycle by adjustment) e = refl
 unmoved_stretch device other e = e
 
-turning_stretch : (device : DeviceId) (body : NoteBody) → is_turning device body ≡ true → ends_stretch device body ≡ false
+pub turning_stretch : (device : DeviceId) (body : NoteBody) → is_turning device body ≡ true → ends_stretch device body ≡ false
 turning_stretch device (notes.State other Integrating cause On) e = refl
 turning_stretch device other e = absurd cc
 
 quiet_stretch : (device : DeviceId) (body : NoteBody) → IsQuiet device body → ends_stretch device body ≡ false
 quiet_stretch device body (inl e) = unmoved_stretch device body e
 quiet_stretch device body (inr e) = turning_stretch device body e
-
-no_point : (device : DeviceId) (z : Happening) (body : NoteBody) → 4 ≤ rank body → point_by device z body ≡ None
-no_point device z (notes.Permanent other link cause point verdict) high = absurd (omega (arith, high))
-no_point device z other high = refl
 
 pub points_same : (zs hs : List Happening) (device : DeviceId) → ((z : Happening) → IsIn z zs → IsQuiet device z.note.body × (4 ≤ rank z.note.body))
     → points_of (hs ++ zs) device ≡ points_of hs device
@@ -87,7 +85,7 @@ points_same (z ∷ zs) hs device quiet =
     ap (λ (l : List Happening). points_of l device) (sym (append_assoc hs (z ∷ []) zs))
     ∙ points_same zs (hs ++ z ∷ []) device (λ y i. quiet y (inr i))
     ∙ ap (filter_map f) (behind_no p hs z (quiet_stretch device z.note.body at.0))
-    ∙ map_none f (after_last p hs) z (no_point device z z.note.body at.1)
+    ∙ map_none f (after_last p hs) z (of_high_rank device z z.note.body at.1)
 
 -- ---- a device that the network does not have does nothing
 
@@ -153,9 +151,6 @@ looking_acts s hs device t looking (IsActing.dispatching link cause vl cycle d) 
 
 -- ---- at the present instant, what acts by the records given is a task, where what is to come leaves the device at rest
 
-never_both : (a b : ℤ) → a <ℤ b → b ≤ℤ a → ⊥
-never_both a b lt le = omega (arith, ints, lt, le)
-
 emission_now : (s : Scenario) (hs zs : List Happening) (device : DeviceId) (t : ℕ) (node : Node) (sent : Compressed) (verdict : Judgement)
     → points_of (hs ++ zs) device ≡ points_of hs device → IsLeft s (hs ++ zs) device t node → HasSent s device t node → Emits s hs device t sent verdict
     → HasTaskBy s device node t
@@ -219,10 +214,6 @@ deeds_now s hs zs device t node law past taken same points falls off left done s
         (dispatches_back s hs (hs ++ zs) t device link cause vl cycle back d)
 
 -- ---- a device that is kept
-
-hidden_rank : (given : ℕ) (body : NoteBody) → rank (hidden_body given body) ≡ rank body
-hidden_rank given (notes.State device state cause why) = refl
-hidden_rank given other = refl
 
 earlier_act : (now t : ℕ) (device : DeviceId) (p : List ℕ) → now ≤ t → IsBefore (act_place t device) p → IsBefore (act_place now device) p
 earlier_act now t device p le b = elim (cases_lt now t) [

@@ -1,10 +1,11 @@
 -- What the records of an instant tell of the acts of a device, while other records are put in and given.
-use Rattle.std.proofs.Common.{◌≡◌, ◌⊎◌, ℕ, ◌+◌, ◌*◌, ◌≤◌, ℤ, pos, append_assoc, if◌then◌else◌, ◌-ℤ◌, ◌<ℤ◌, ◌≤ℤ◌, Bool, true, false, ◌==◌, List, [], ◌∷◌, ◌++◌, Option, Contains, inl, inr, refl, sym, ap, subst, ◌∙◌, arith}
+use Rattle.std.proofs.Common.{◌≡◌, ◌⊎◌, ℕ, ◌+◌, ◌*◌, ◌≤◌, ℤ, pos, append_assoc, if◌then◌else◌, ◌-ℤ◌, ◌≤ℤ◌, Bool, true, false, ◌==◌, List, [], ◌∷◌, ◌++◌, Option, Contains, inl, inr, refl, sym, ap, subst, ◌∙◌, arith}
 use Rattle.std.specs.Option.{option_map_or}
-use Rattle.std.proofs.lemmas.Bool.{both_ways, eq-eqb}
+use Rattle.std.proofs.lemmas.Bool.{both_ways}
 use Rattle.std.proofs.lemmas.Int.{ints}
 use Rattle.compression.specs.Clusters.{AreClusters, Point}
 use Rattle.compression.specs.declared.compressed.Compressed.{Compressed}
+use Rattle.net_plan.proofs.SameIds.{self}
 use Rattle.net_plan.specs.declared.ids.DeviceId.{DeviceId}
 use Rattle.net_plan.specs.declared.ids.LinkId.{LinkId}
 use Rattle.net_plan.specs.declared.ids.RowId.{RowId}
@@ -25,6 +26,7 @@ use Rattle.run_law.specs.records.Ranks.{rank}
 use Rattle.run_law.specs.scenario.Scenarios.{Scenario}
 use Rattle.run_law.specs.scenario.Ways.{is_cut, way_from}
 use Rattle.run_law.specs.timed.Dispatching.{Dispatches}
+use Rattle.tte_lemmas.proofs.Integers.{never_both}
 use Rattle.tte_units.specs.Amount.{amount}
 use Rattle.tte_units.specs.declared.units.Units.{Units}
 use Rattle.world_law.proofs.acts.Acted.{waiting_alike}
@@ -34,9 +36,6 @@ use Rattle.world_law.specs.device.Left.{IsLeft}
 use Rattle.world_law.specs.device.Own.{bears_on}
 use Rattle.world_law.specs.device.Plain.{plain, plain_body, plains}
 use Rattle.world_law.specs.device.Recorded.{AreRecorded, IsShown, dispatch_body}
-
-never_both : (a b : ℤ) → a <ℤ b → b ≤ℤ a → ⊥
-never_both a b lt le = omega (arith, ints, lt, le)
 
 -- nothing is done at the instant yet
 pub first_recorded : (s : Scenario) (js coming : List Happening) (now : ℕ) (device : DeviceId) (node : Node) → IsLeft s js device now node
@@ -129,9 +128,6 @@ plain_sending device other = refl
 plain_bears : (device : DeviceId) (body : NoteBody) → bears_on device (plain_body body) ≡ bears_on device body
 plain_bears device (kinds.State other state cause why) = refl
 plain_bears device other = refl
-
-self : (device : DeviceId) → (device.0 == device.0) ≡ true
-self device = eq-eqb device.0 device.0 refl
 
 -- a dispatch is shown as one of the device
 pub dispatch_sends : (s : Scenario) (device : DeviceId) (now : ℕ) (link : LinkId) (cause : ℕ) (vl : VlId) (cycle : ℕ)

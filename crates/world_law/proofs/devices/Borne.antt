@@ -10,6 +10,7 @@ use Rattle.compression.specs.Clusters.{point_at}
 use Rattle.membership.specs.Hearing.{Hearing}
 use Rattle.net_plan.specs.declared.ids.DeviceId.{DeviceId}
 use Rattle.net_plan.specs.declared.network.Network.{Network}
+use Rattle.run_law.proofs.records.Order.{same_kept}
 use Rattle.run_law.specs.device.LocalClocks.{changed_at, changes_adjustment}
 use Rattle.run_law.specs.control.Collections.{ends_stretch, master_of, point_by, points_of}
 use Rattle.run_law.specs.control.Corrections.{correction_value, cycle_after, has_cleared, heard_by, hearing_by, heard_since, integration_cycle, recorded_cycle}
@@ -26,7 +27,7 @@ use Rattle.run_law.specs.declared.note.NoteBody.{NoteBody}
 use Rattle.sync_state.specs.declared.state.State.TheVariants.{Integrating}
 use Rattle.tte_units.specs.declared.units.Units.{Units}
 use Rattle.world_law.proofs.devices.OwnRecords.{changes_no_other, joins_no_other, filter_own, fold_own, keeps_adjustment, keeps_cycle, keeps_integration, keeps_state, own_no}
-use Rattle.world_law.proofs.lists.Lists.{behind_no, behind_yes, filter_no, filter_same, filter_yes}
+use Rattle.world_law.proofs.lists.Lists.{behind_no, behind_yes, filter_no, filter_yes}
 use Rattle.world_law.specs.device.Left.{IsLeft}
 use Rattle.world_law.specs.device.Own.{bears_on, borne, moves, own}
 use Rattle.world_law.specs.device.Told.{since_at}
@@ -225,7 +226,7 @@ heard_alike s hs gs device t same =
     ∙ ap (λ (l : List Happening). heard_of s device t (has_cleared s hs device t) (since_at device t l)) same
     ∙ sym (heard_borne s device t (has_cleared s hs device t) gs)
     ∙ ap (filter_map (λ h. hearing_by s.network device h h.note.body))
-    (filter_same (λ h. not (has_cleared s hs device t t) || has_cleared s hs device t (time_of h)) (λ h. not (has_cleared s gs device t t)
+    (same_kept (λ h. not (has_cleared s hs device t t) || has_cleared s hs device t (time_of h)) (λ h. not (has_cleared s gs device t t)
     || has_cleared s gs device t (time_of h)) (since_at device t gs)
     (λ h i. ap (λ (b : Bool). not b || has_cleared s hs device t (time_of h)) (cleared_alike s hs gs device t t a)
     ∙ ap (λ (b : Bool). not (has_cleared s gs device t t) || b) (cleared_alike s hs gs device t (time_of h) a)))

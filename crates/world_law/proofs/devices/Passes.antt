@@ -6,6 +6,7 @@ use Rattle.std.specs.Option.{option_map_or}
 use Rattle.std.proofs.lemmas.Bool.{cases_lt, le-ltb, lt-ltb}
 use Rattle.membership.specs.Hearing.{Hearing}
 use Rattle.net_plan.specs.declared.ids.DeviceId.{DeviceId}
+use Rattle.run_law.proofs.records.Order.{after_same, same_kept}
 use Rattle.run_law.specs.device.LocalClocks.{changed_at, changes_adjustment, local_at_change}
 use Rattle.run_law.specs.control.Corrections.{correction_value, has_cleared, hearing_by, heard_since, integration_cycle, is_integration_cycle, next_cycle, recorded_cycle}
 use Rattle.run_law.specs.records.Happenings.{Happening, earlier, time_of}
@@ -15,7 +16,6 @@ use Rattle.run_law.specs.device.States.{adjustment_before, state_after, state_be
 use Rattle.sync_state.specs.declared.state.State.TheVariants.{Integrating}
 use Rattle.tte_units.specs.declared.units.Units.{Units}
 use Rattle.world_law.proofs.devices.OwnRecords.{adjustment_still, change_still, changes_no_other, cycle_still, integration_still, state_still}
-use Rattle.world_law.proofs.lists.Lists.{behind_same, filter_same}
 use Rattle.world_law.specs.device.Left.{IsLeft, is_timed}
 use Rattle.world_law.specs.device.Own.{IsStill}
 
@@ -49,7 +49,7 @@ pub since_still : (hs : List Happening) (device : DeviceId) (t later : ℕ) → 
     → after_last (λ h. nat_lt (time_of h) later && changes_adjustment device h.note.body) hs ≡ after_last
     (λ h. nat_lt (time_of h) t && changes_adjustment device h.note.body) hs
 since_still hs device t later le still =
-    behind_same (λ h. nat_lt (time_of h) later && changes_adjustment device h.note.body) (λ h. nat_lt (time_of h) t && changes_adjustment device h.note.body) hs
+    after_same (λ h. nat_lt (time_of h) later && changes_adjustment device h.note.body) (λ h. nat_lt (time_of h) t && changes_adjustment device h.note.body) hs
     (λ h i.
     elim (cases_lt (time_of h) t) [
       | inl lt ↦ ap (λ (b : Bool). b && changes_adjustment device h.note.body) (lt-ltb (time_of h) later (omega (arith, lt, le))
@@ -76,7 +76,7 @@ heard_still s hs device t later le still flag =
     (since_still hs device t later le still)
     ∙ ap (λ (b : Bool). heard_of s device (filter (λ h. not b || has_cleared s hs device later (time_of h)) since)) flag
     ∙ ap (heard_of s device)
-    (filter_same (λ h. not (has_cleared s hs device t t) || has_cleared s hs device later (time_of h)) (λ h. not (has_cleared s hs device t t)
+    (same_kept (λ h. not (has_cleared s hs device t t) || has_cleared s hs device later (time_of h)) (λ h. not (has_cleared s hs device t t)
     || has_cleared s hs device t (time_of h)) since
     (λ h i. ap (λ (b : Bool). not (has_cleared s hs device t t) || b) (cleared_still s hs device t later (time_of h) le still)))
 

@@ -6,6 +6,7 @@ use Rattle.std.proofs.lemmas.Int.{ints}
 use Rattle.std.proofs.lemmas.List.{append-nil}
 use Rattle.net_plan.specs.declared.ids.DeviceId.{DeviceId}
 use Rattle.net_plan.specs.declared.network.Network.{Network}
+use Rattle.run_law.proofs.records.Order.{time_before}
 use Rattle.run_law.proofs.runs.Places.{in_left, in_right}
 use Rattle.run_law.specs.device.LocalClocks.{changed_at}
 use Rattle.run_law.specs.records.Happenings.{Happening, happenings, time_of}
@@ -47,16 +48,12 @@ pub record IsPast (hs : List Happening) (now : ℕ) : Type 0 where
 abbrev pub IsWorked : List Happening → List ℕ → ℕ → Type 0
 IsWorked hs cursor now = (number : ℕ) (h : Happening) → IsOfThisTime hs now number h → IsBefore (now ∷ 2 ∷ []) cursor
 
-no_later_time : (t now : ℕ) (ws more : List ℕ) → IsBefore (t ∷ ws) (now ∷ more) → t ≤ now
-no_later_time t now ws more (inl lt) = omega (arith, lt)
-no_later_time t now ws more (inr (e, b)) = omega (arith, e)
-
 pub in_time_of : (s : Scenario) (hs : List Happening) → IsFounded place_of (IsDue s) hs → IsInTime hs
 in_time_of s hs founded front rest x e h i =
     let at = Rattle.run_law.proofs.runs.Places.parted h rest i in
     let split : hs ≡ (front ++ x ∷ at.0) ++ h ∷ at.1 = e ∙ ap (λ (l : List Happening). front ++ x ∷ l) at.2
     ∙ sym (Rattle.std.proofs.Common.append_assoc front (x ∷ at.0) (h ∷ at.1)) in
-    no_later_time (time_of x) (time_of h) (rank x.note.body ∷ key (members_in x) x.note.body) (rank h.note.body ∷ key (members_in h) h.note.body)
+    time_before (time_of x) (time_of h) (rank x.note.body ∷ key (members_in x) x.note.body) (rank h.note.body ∷ key (members_in h) h.note.body)
     ((founded (front ++ x ∷ at.0) at.1 h split).0 x (in_right x front (x ∷ at.0) (inl refl)))
 
 pub are_past : {C M : Type 0} (reading : C → ℕ → ℕ) (stands : M → Network → DeviceId → Node → Type 0) (s : Scenario) (world : World C M) (notes : List Note)

@@ -6,6 +6,7 @@ use Rattle.std.specs.List.{last_or}
 use Rattle.std.specs.Option.{option_map_or}
 use Rattle.std.proofs.lemmas.Bool.{cases_lt}
 use Rattle.net_plan.specs.declared.ids.DeviceId.{DeviceId}
+use Rattle.run_law.proofs.records.Happenings.{fold_parts}
 use Rattle.run_law.proofs.runs.Places.{in_right, parted}
 use Rattle.run_law.specs.device.LocalClocks.{changed_at, changes_adjustment, local_at_change}
 use Rattle.run_law.specs.control.Corrections.{cycle_after, integration_cycle, recorded_cycle}
@@ -129,10 +130,6 @@ all_up_to now [] past = refl
 all_up_to now (h ∷ hs) past =
     ap (λ (b : Bool). if b then h ∷ up_to now hs else up_to now hs) (Rattle.std.proofs.lemmas.Bool.le-leb (time_of h) now (past h (inl refl)))
     ∙ ap (λ (l : List Happening). h ∷ l) (all_up_to now hs (λ g i. past g (inr i)))
-
-fold_parts : {B : Type 0} (f : B → Happening → B) (z : B) (ps xs : List Happening) → fold f z (ps ++ xs) ≡ fold f (fold f z ps) xs
-fold_parts f z [] xs = refl
-fold_parts f z (p ∷ ps) xs = fold_parts f (f z p) ps xs
 
 -- ---- the state
 

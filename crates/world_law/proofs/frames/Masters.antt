@@ -5,8 +5,8 @@ use Rattle.std.specs.Option.{option_map_or}
 use Rattle.std.proofs.lemmas.Bool.{both_ways, cases_Bool, eq-eqb, eqb-true}
 use Rattle.std.proofs.lemmas.List.{length-append}
 use Rattle.net_plan.proofs.Shape.{rules_give_trees}
-use Rattle.net_plan.proofs.Trees.{at_known, closed, opened}
-use Rattle.net_plan.specs.Paths.{IsPath, IsTree, IsUplink}
+use Rattle.net_plan.proofs.TableFacts.{no_path}
+use Rattle.net_plan.specs.Paths.{IsUplink}
 use Rattle.net_plan.specs.Places.{device_at, link_at, is_end_system, is_master, IsDeviceOf, IsSwitchOf}
 use Rattle.net_plan.specs.Ranges.{IsDeviceInRange, IsInRange}
 use Rattle.net_plan.specs.declared.event.Event.{Event}
@@ -18,13 +18,12 @@ use Rattle.net_plan.specs.declared.tables.Device.{Device}
 use Rattle.net_plan.specs.declared.tables.Link.{Link}
 use Rattle.net_plan.specs.declared.tables.Way.{Way}
 use Rattle.net_plan.specs.declared.tables.Way.TheVariants.{Up, Down}
-use Rattle.pcf_values.specs.declared.channel.Channel.{Channel}
 use Rattle.pcf_values.specs.declared.members.Members.{Members}
 use Rattle.pcf_values.specs.declared.pcf.Pcf.{Pcf}
 use Rattle.run_law.proofs.law.FirstPlaces.{founded_at, front_founded, numbered_in}
 use Rattle.run_law.specs.control.Arrivals.{are_others, is_of_other_member}
 use Rattle.run_law.specs.control.Leaving.{Gives}
-use Rattle.run_law.specs.control.Wires.{Launch, control, launched, signal_of, timed}
+use Rattle.run_law.specs.control.Wires.{Launch, control, launched, signal_of}
 use Rattle.run_law.specs.declared.note.NoteBody.{NoteBody}
 use Rattle.run_law.specs.declared.note.NoteBody.TheVariants as kinds
 use Rattle.run_law.specs.device.Standpoints.{standpoint}
@@ -37,32 +36,21 @@ use Rattle.run_law.specs.runs.Runs.{IsFounded}
 use Rattle.run_law.specs.scenario.Devices.{IsParentOf, has_role, is_end, is_parent_of, member_of}
 use Rattle.run_law.specs.scenario.Scenarios.{Scenario}
 use Rattle.run_law.specs.scenario.Ways.{is_cut, way_from}
-use Rattle.schedule_tables.proofs.EntryLemmas.{all_at}
 use Rattle.schedule_tables.proofs.Margins.{shape_rules}
 use Rattle.schedule_tables.specs.Entries.{target_by}
 use Rattle.schedule_tables.specs.Rules.{KeepsRules}
 use Rattle.schedule_tables.specs.declared.rule.Rule.TheVariants.{Joints}
+use Rattle.tte_lemmas.proofs.Lists.{in_all}
+use Rattle.tte_lemmas.proofs.Options.{at_known, closed, opened}
 use Rattle.world_law.proofs.giving.Given.{some_same}
 use Rattle.world_law.specs.world.World.{IsFromEnd}
-use Rattle.world_law.proofs.frames.Proper.{has_come, is_sound, received}
+use Rattle.world_law.proofs.frames.Proper.{has_come, is_sound, launch_signal, not_control, received}
 
 -- octets are sent by end systems alone
 abbrev pub AreSentByEnds : Scenario → Type 0
 AreSentByEnds s = (i : ℕ) (e : Event) (link : LinkId) (octets : List ℕ) → slice_get s.events i ≡ Some e → e.what ≡ Send link octets → IsFromEnd s.network link
 
 -- ---- the two ends of a link
-
-no_path : (network : Network) (channel : Channel) (device : DeviceId) (link : LinkId) (l : Link) → IsTree network → link_at network link ≡ Some l
-    → l.parent ≡ device → IsUplink network channel device link → (links : List LinkId) → IsPath network channel device links → ⊥
-no_path network channel device link l tree at turns up [] path = tree.root channel device link path up
-no_path network channel device link l tree at turns up (k ∷ ks) path =
-    let first = opened (λ (x : Link). (x.child ≡ device) × IsSwitchOf network channel x.parent × IsPath network channel x.parent ks) (link_at network k) path in
-    let here : IsUplink network channel device k = closed (λ (x : Link). (x.child ≡ device) × IsSwitchOf network channel x.parent) (link_at network k) first.0
-    first.1 (first.2.0, first.2.1) in
-    let one = tree.one_uplink channel device k link here up in
-    let same : first.0 ≡ l = some_same first.0 l (link_at network k) first.1 (subst (λ (m : LinkId). link_at network m ≡ Some l) (sym one) at) in
-    let parent : first.0.parent ≡ device = ap (λ (x : Link). x.parent) same ∙ turns in
-    no_path network channel device link l tree at turns up ks (subst (λ (d : DeviceId). IsPath network channel d ks) parent first.2.2)
 
 -- the ends of a link are two devices
 pub ends_differ : (network : Network) (link : LinkId) (l : Link) → KeepsRules network → link_at network link ≡ Some l → l.child ≡ l.parent → ⊥
@@ -91,7 +79,7 @@ master_member network device range role = by (device_at network device) refl rol
         × (member_of network device ≡ Some m)
     by None at e = absurd cc
     by (Some d) at e =
-        let known : IsDeviceInRange d = all_at IsDeviceInRange network.device device.0 d range.devices at in
+        let known : IsDeviceInRange d = in_all IsDeviceInRange network.device device.0 d range.devices at in
         let m = some_of d.member (known.masters ∙ e) in
         (m.0, ap (λ (o : Option Device). option_and_then (λ x. x.member) o) at ∙ m.1)
 
@@ -126,12 +114,6 @@ end_member network device link members joint at parent end_is sound =
 launch_link : (a b : Launch) → Some a ≡ Some b → (a.link ≡ b.link) × (a.way ≡ b.way)
 launch_link a b e = let same : a ≡ b = cc in (ap (λ (l : Launch). l.link) same, ap (λ (l : Launch). l.way) same)
 
-not_timed : (octets : List ℕ) (came : Pcf) → timed octets ≡ control (Ok came) → ⊥
-not_timed octets came e = cc
-
-signals : (a b : Launch) → Some a ≡ Some b → a.signal ≡ b.signal
-signals a b e = let same : a ≡ b = cc in ap (λ (l : Launch). l.signal) same
-
 -- what put a frame on a link, as it came: a device gave it, or octets were sent
 data IsPutBy (s : Scenario) (h : Happening) (link : LinkId) (way : Way) : NoteBody → Type 0 where
   leaving : (device : DeviceId) (cause clock : ℕ) → way ≡ way_from s.network device link → IsPutBy s h link way (kinds.Left device link cause clock)
@@ -149,7 +131,7 @@ put_by s h t link way came (kinds.Left device by cause clock) e = by_frame h.fra
         let same = launch_link _ _ e in
         subst (λ (l : LinkId). IsPutBy s h link way (kinds.Left device l cause clock)) (sym same.0)
         (IsPutBy.leaving device cause clock (sym same.1 ∙ ap (way_from s.network device) same.0))
-put_by s h t link way came (kinds.TtSent device by cause vl cycle) e = absurd (not_timed h.octets came (signals _ _ e))
+put_by s h t link way came (kinds.TtSent device by cause vl cycle) e = absurd (not_control h.octets came (launch_signal _ _ e))
 put_by s h t link way came (kinds.Event line (Send by octets)) e = by_cut (is_cut s by Up t) e
   where
     by_cut : (b : Bool) → (if b then None else Some (let l : Launch = record { link = by; way = Up; signal = signal_of octets } in l))
@@ -164,7 +146,7 @@ up_only : (b : Bool) → Up ≡ (if b then Down else Up) → b ≡ false
 up_only true e = absurd cc
 up_only false e = refl
 
-parent_true : (device : DeviceId) (o : Option Link) → IsSomeAnd o (λ l. l.parent ≡ device) → option_map_or (λ l. l.parent.0 == device.0) o false ≡ true
+pub parent_true : (device : DeviceId) (o : Option Link) → IsSomeAnd o (λ l. l.parent ≡ device) → option_map_or (λ l. l.parent.0 == device.0) o false ≡ true
 parent_true device None h = absurd h
 parent_true device (Some l) h = eq-eqb l.parent.0 device.0 (ap (λ (d : DeviceId). d.0) h)
 

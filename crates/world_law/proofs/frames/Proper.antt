@@ -1,6 +1,6 @@
 -- A frame that waits is one that the network has: its `arrived` record was due.
 use Rattle.std.proofs.Common.{◌≡◌, IsSomeAnd, ℕ, ◌≤◌, Bool, true, false, not, ◌&&◌, ◌==◌, nat_lt, if◌then◌else◌, List, [], ◌∷◌, ◌++◌, length, Option, Some, None, Ok, Err, option_map, option_and_then, inl, inr, refl, sym, ap, subst, ◌∙◌}
-use Rattle.std.proofs.lemmas.Bool.{cases_lt, eqb-true, lt-ltb}
+use Rattle.std.proofs.lemmas.Bool.{cases_lt, eqb-true, lt-ltb, not-false}
 use Rattle.net_plan.specs.Places.{link_at}
 use Rattle.net_plan.specs.declared.event.What.TheVariants.{Send}
 use Rattle.net_plan.specs.declared.ids.DeviceId.{DeviceId}
@@ -129,14 +129,14 @@ arrived_so s hs device t link cause clock a =
 
 -- ---- its frame is that of the record that put it on the wire
 
-launch_signal : (a b : Launch) → Some a ≡ Some b → a.signal ≡ b.signal
+pub launch_signal : (a b : Launch) → Some a ≡ Some b → a.signal ≡ b.signal
 launch_signal a b e = let same : a ≡ b = cc in ap (λ (l : Launch). l.signal) same
 
 by_octets : (b : Bool) (octets : List ℕ) (came : Pcf) → (if b then control (decoded octets) else timed octets) ≡ control (Ok came) → decoded octets ≡ Ok came
 by_octets true octets came e = let same : decoded octets ≡ Ok came = cc in same
 by_octets false octets came e = absurd cc
 
-not_control : (octets : List ℕ) (came : Pcf) → timed octets ≡ control (Ok came) → ⊥
+pub not_control : (octets : List ℕ) (came : Pcf) → timed octets ≡ control (Ok came) → ⊥
 not_control octets came e = cc
 
 pub launched_frame : (s : Scenario) (front : List Happening) (h : Happening) (t : ℕ) (link : LinkId) (way : Way) (came : Pcf) (body : NoteBody)
@@ -213,7 +213,7 @@ has_come s hs arrival device link cause clock frame founded i body of =
 
 -- ---- without a fault
 
-no_reason : (b : Bool) (reason : Reason) (rest : List (Bool × Reason)) → first_reason ((b, reason) ∷ rest) ≡ None → (b ≡ false) × (first_reason rest ≡ None)
+pub no_reason : (b : Bool) (reason : Reason) (rest : List (Bool × Reason)) → first_reason ((b, reason) ∷ rest) ≡ None → (b ≡ false) × (first_reason rest ≡ None)
 no_reason true reason rest e = absurd cc
 no_reason false reason rest e = (refl, e)
 
@@ -225,10 +225,6 @@ both_true : (b c : Bool) → not (b && c) ≡ false → (b ≡ true) × (c ≡ t
 both_true true true e = (refl, refl)
 both_true true false e = absurd cc
 both_true false c e = absurd cc
-
-not_false : (b : Bool) → not b ≡ false → b ≡ true
-not_false true e = refl
-not_false false e = absurd cc
 
 -- a frame that was taken
 pub record IsSound (network : Network) (device : DeviceId) (link : LinkId) (at : Standpoint) (came frame : Pcf) : Type 0 where
@@ -260,7 +256,7 @@ is_sound network device link at came frame taken =
       | inr ge ↦ ge
     ] in
     record {
-      takes_part = not_false at.takes_part off.0;
+      takes_part = not-false at.takes_part off.0;
       kind = ap (λ (f : Pcf). f.kind) taken.is ∙ kind_of came.kind cold.0;
       priority = ap (λ (f : Pcf). f.priority) taken.is ∙ eqb-true came.priority network.priority same.0;
       domain = ap (λ (f : Pcf). f.domain) taken.is ∙ eqb-true came.domain network.domain same.1;

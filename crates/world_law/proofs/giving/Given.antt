@@ -14,6 +14,7 @@ use Rattle.net_plan.specs.declared.network.Network.{Network}
 use Rattle.net_plan.specs.declared.tables.Device.{Device}
 use Rattle.pcf_values.specs.declared.pcf.Pcf.{Pcf}
 use Rattle.run_law.proofs.law.FirstPlaces.{numbered_next}
+use Rattle.run_law.proofs.records.Order.{same_kept}
 use Rattle.run_law.proofs.runs.NetworkRuns.{one_more}
 use Rattle.run_law.proofs.runs.Places.{before_behind, before_later, before_next_time, chain, in_left, never_self, nothing_between}
 use Rattle.run_law.specs.control.Permanence.{IsPermanent}
@@ -36,7 +37,6 @@ use Rattle.world_law.proofs.acts.Recorded.{recorded_given}
 use Rattle.world_law.proofs.giving.GivenParts.{IsGiving, settled_then, up_to_place, worked_by_then}
 use Rattle.world_law.proofs.giving.Naming.{IsFollowing, named_right, shown_as}
 use Rattle.world_law.proofs.giving.Storing.{stored_then}
-use Rattle.world_law.proofs.lists.Lists.{filter_same}
 use Rattle.world_law.proofs.runs.Firsts.{arriving_more, departing_more, numbered_more, numbered_still}
 use Rattle.world_law.proofs.runs.SourcesBack.{acting_back, arrives_later, gives_rank, no_higher}
 use Rattle.world_law.proofs.runs.Worlds.{first_settled_is_next, length_is}
@@ -57,7 +57,7 @@ in_get (y ∷ xs) x (inr i) = let more = in_get xs x i in (suc more.0, more.1)
 
 -- at a later time no other events have befallen
 pub no_later_events : (s : Scenario) (mark : List ℕ) (now t : ℕ) → HaveBefallen s mark now → now ≤ t → events_up_to s t ≡ events_up_to s now
-no_later_events s mark now t b le = filter_same (λ e. nat_le (amount e.time) t) (λ e. nat_le (amount e.time) now) s.events (λ e i.
+no_later_events s mark now t b le = same_kept (λ e. nat_le (amount e.time) t) (λ e. nat_le (amount e.time) now) s.events (λ e i.
     let at = in_get s.events e i in
     let early = b.past at.0 e at.1 in
     le-leb (amount e.time) t (omega (arith, early, le)) ∙ sym (le-leb (amount e.time) now early))

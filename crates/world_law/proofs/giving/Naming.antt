@@ -1,30 +1,30 @@
 -- What follows a record has its number once it is given.
-use Rattle.std.proofs.Common.{◌≡◌, ◌⊎◌, ℕ, ℤ, zero, suc, ◌+◌, ◌-◌, ◌^◌, ◌≤◌, ◌<◌, pos, Bool, true, false, ◌&&◌, ◌||◌, ◌==◌, if◌then◌else◌, List, [], ◌∷◌, ◌++◌, length, map, filter, slice_get, Option, Some, None, option_and_then, inl, inr, refl, sym, ap, subst, ◌∙◌, arith}
+use Rattle.std.proofs.Common.{◌≡◌, ◌⊎◌, ℕ, ℤ, zero, suc, ◌+◌, ◌-◌, ◌^◌, ◌≤◌, ◌<◌, pos, Bool, true, false, ◌&&◌, ◌||◌, ◌==◌, if◌then◌else◌, List, [], ◌∷◌, ◌++◌, length, map, filter, slice_get, Option, Some, option_and_then, inl, inr, refl, sym, ap, subst, ◌∙◌, arith}
 use Rattle.std.specs.Prelude.{nat_lt}
 use Rattle.std.specs.List.{list_any}
 use Rattle.std.specs.Option.{option_map_or}
-use Rattle.std.proofs.lemmas.Bool.{MatchBool-at_false, MatchBool-at_true, cases_Bool, eq-eqb, eqb-true, false_from_ne_true, le-ltb, lt-ltb}
-use Rattle.compression.specs.Clusters.{Point, point_at}
-use Rattle.compression.specs.declared.taken.Taken.TheVariants as taken
-use Rattle.compression.specs.declared.taken.Taken.{Taken}
+use Rattle.std.proofs.lemmas.Bool.{MatchBool-at_false, MatchBool-at_true, and_right, cases_Bool, eq-eqb, eqb-true, false_from_ne_true, le-ltb, lt-ltb}
+use Rattle.compression.specs.Clusters.{point_at}
+use Rattle.net_plan.proofs.SameIds.{alike}
 use Rattle.net_plan.specs.declared.ids.DeviceId.{DeviceId}
 use Rattle.net_plan.specs.declared.network.Network.{Network}
 use Rattle.pcf_values.specs.declared.pcf.Pcf.{Pcf}
+use Rattle.run_law.proofs.control.Verdicts.{collected_not}
 use Rattle.run_law.proofs.law.FirstPlaces.{numbered_within}
+use Rattle.run_law.proofs.records.Order.{before_is}
 use Rattle.run_law.proofs.runs.Places.{in_right, never_self, parted}
-use Rattle.run_law.specs.control.Collections.{master_of, points_of, ripe_by_role, observation_window}
+use Rattle.run_law.specs.control.Collections.{master_of, points_of, observation_window}
 use Rattle.run_law.specs.scenario.Devices.{is_cm, plan_of}
 use Rattle.run_law.specs.records.Happenings.{Happening, frame_by, frame_from, numbered, time_of}
 use Rattle.run_law.specs.control.Hearing.{heard_as, heard_by_schedule}
 use Rattle.run_law.specs.records.Order.{IsBefore, IsIn, is_before}
-use Rattle.run_law.specs.control.Permanence.{IsCollectedOrDropped, before_permanence, ripe_as}
+use Rattle.run_law.specs.control.Permanence.{before_permanence, ripe_as}
 use Rattle.run_law.specs.records.Ranks.{key, members_in, place_of, rank}
 use Rattle.run_law.specs.device.StateChanges.{ChangesState}
 use Rattle.run_law.specs.runs.DueRecords.{IsCaused, IsDue}
 use Rattle.run_law.specs.scenario.Scenarios.{Scenario}
 use Rattle.run_law.specs.device.States.{adjustment_at_hearing, has_joined_at, is_joined_by, state_at_hearing, state_before}
 use Rattle.run_law.specs.declared.judgement.Judgement.TheVariants as judgements
-use Rattle.run_law.specs.declared.judgement.Reason.{Reason}
 use Rattle.run_law.specs.declared.judgement.Why.TheVariants as whys
 use Rattle.run_law.specs.declared.judgement.Why.{Why}
 use Rattle.run_law.specs.declared.note.NoteBody.TheVariants as notes
@@ -34,14 +34,10 @@ use Rattle.sync_state.specs.declared.state.State.TheVariants.{Joining}
 use Rattle.sync_state.specs.declared.state.State.{State}
 use Rattle.tte_units.specs.Amount.{amount}
 use Rattle.tte_units.specs.declared.units.Units.{Units}
-use Rattle.world_law.proofs.lists.Orders.{before_is}
 use Rattle.world_law.specs.world.Moves.{follows, is_corrected, named, named_body}
 use Rattle.world_law.specs.world.World.{hidden, hidden_body, none_yet}
 
 -- ---- a device is told the time but once at an instant
-
-same_device : (a b : DeviceId) → (a.0 == b.0) ≡ true → a ≡ b
-same_device a b e = ap (λ (n : ℕ). let d : DeviceId = record { 0 = n } in d) (eqb-true a.0 b.0 e)
 
 any_in : (p : Happening → Bool) (z : Happening) (hs : List Happening) → IsIn z hs → p z ≡ true → list_any p hs ≡ true
 any_in p z [] i e = absurd i
@@ -69,17 +65,6 @@ not_ripe_in_time : (b : Bool) → ripe.Integrates ≡ ripe_as (heard_by_schedule
 not_ripe_in_time true e = cc
 not_ripe_in_time false e = cc
 
-not_by_role : (role : Taken) → ripe.Integrates ≡ ripe_by_role role → ⊥
-not_by_role taken.Opened e = cc
-not_by_role taken.Joined e = cc
-not_by_role taken.Repeat e = cc
-not_by_role taken.OtherCycle e = cc
-
-not_collected : (network : Network) (points : List Point) (point : Point) (fault : Option Reason)
-    → IsCollectedOrDropped network points point fault ripe.Integrates → ⊥
-not_collected network points point (Some reason) e = cc
-not_collected network points point None e = not_by_role e.taken e.becomes
-
 kept_in : {X : Type 0} (q : X → Bool) (x : X) (xs : List X) → IsIn x xs → q x ≡ true → IsIn x (filter q xs)
 kept_in q x [] i e = absurd i
 kept_in {X} q x (y ∷ xs) (inl same) e = subst (λ (b : Bool). IsIn x (if b then y ∷ filter q xs else filter q xs)) (sym e ∙ ap q same) (inl same)
@@ -95,7 +80,7 @@ no_join : (s : Scenario) (js : List Happening) (time : Units) (members : ℕ) (b
     → IsIn z js → time_of z ≡ amount time → is_joined_by device z.note.body ≡ true → IsBefore (place_of z) (amount time ∷ rank body ∷ key members body) → ⊥
 no_join s js time members (notes.Permanent other link cause point judgements.Integrates) device z m c by i at joined before =
     let t = amount time in
-    let same = same_device device other by in
+    let same = alike device other by in
     let p = c.permanent in
     let frame : frame_from js cause ≡ Some c.frame = ap (λ (o : Option Happening). option_and_then (λ h. h.frame) o) p.there ∙ p.of_frame in
     let bits : members ≡ c.frame.members.0 = m ∙ ap (λ (o : Option Pcf). option_map_or (λ f. f.members.0) o 0) frame in
@@ -105,7 +90,7 @@ no_join s js time members (notes.Permanent other link cause point judgements.Int
     (subst (λ (k : ℕ). IsBefore (place_of z) (t ∷ 3 ∷ other.0 ∷ amount point ∷ k ∷ link.0 ∷ cause ∷ [])) bits before)) in
     let state = joins_then s judged other t (joined_in judged other t z here at (subst (λ (d : DeviceId). is_joined_by d z.note.body ≡ true) same joined)) in
     elim (cases_Bool (is_cm s.network other)) [
-      | inl cm ↦ not_collected s.network (points_of judged other) (point_at point.0 (master_of c.frame.members.0) c.frame.cycle) _
+      | inl cm ↦ collected_not s.network (points_of judged other) (point_at point.0 (master_of c.frame.members.0) c.frame.cycle) _
           (MatchBool-at_true _ _ cm c.becomes)
       | inr none ↦
           let so : ripe.Integrates ≡ ripe_as (heard_as (plan_of s.network other) (observation_window s.network) (state_at_hearing s judged other t)
@@ -118,7 +103,7 @@ no_join s js time members (notes.Permanent other link cause point judgements.Int
     ]
 no_join s js time members (notes.Compressed other opened at_reading cycle of_masters judgements.Integrates) device z m c by i at joined before =
     let t = amount time in
-    let same = same_device device other by in
+    let same = alike device other by in
     let state = joins_then s js other t (joined_in js other t z i at (subst (λ (d : DeviceId). is_joined_by d z.note.body ≡ true) same joined)) in
     not_in_time _ (subst (λ (x : State). judgements.Integrates ≡ heard_as (plan_of s.network other) (observation_window s.network) x
     (adjustment_at_hearing s js other t).0
@@ -146,10 +131,6 @@ abbrev IsNamedSo : NoteBody → DeviceId → ℕ → Why → ℕ → Type 0
 IsNamedSo first device cause why given =
     (cause ≤ given) ⊎ (((cause ≡ given + 1) × (follows first device why ≡ true)) ⊎ ((given + 1 < cause) × (follows first device why ≡ false)))
 
-never_and : (b c : Bool) → c ≡ false → (b && c) ≡ false
-never_and true c e = e
-never_and false c e = refl
-
 named_so : (first : NoteBody) (device : DeviceId) (state : State) (cause : ℕ) (why : Why) (given : ℕ) → given + 1 < none_yet
     → IsNamedSo first device cause why given
     → named_body (given + 1) first (hidden_body given (notes.State device state cause why)) ≡ hidden_body (given + 1) (notes.State device state cause why)
@@ -160,7 +141,7 @@ named_so first device state cause why given room (inl low) =
     let other : (cause == none_yet) ≡ false = false_from_ne_true (cause == none_yet)
     (λ e. let same = eqb-true cause none_yet e in absurd (omega (arith, same, low, room))) in
     ap (λ (b : Bool). f (if b then none_yet else cause)) old
-    ∙ ap (λ (b : Bool). notes.State device state (if b then given + 1 else cause) why) (never_and (follows first device why) (cause == none_yet) other)
+    ∙ ap (λ (b : Bool). notes.State device state (if b then given + 1 else cause) why) (and_right (follows first device why) (cause == none_yet) other)
     ∙ sym (ap (λ (b : Bool). notes.State device state (if b then none_yet else cause) why) new)
 named_so first device state cause why given room (inr (inl (at, by))) =
     let f = λ (c : ℕ). notes.State device state (if follows first device why && c == none_yet then given + 1 else c) why in

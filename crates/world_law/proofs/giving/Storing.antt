@@ -8,12 +8,9 @@ use Rattle.net_plan.specs.declared.ids.VlId.{VlId}
 use Rattle.run_law.specs.records.Happenings.{Happening}
 use Rattle.run_law.specs.records.Order.{IsIn}
 use Rattle.run_law.specs.timed.Dispatching.{is_accepted}
+use Rattle.tte_lemmas.proofs.Lists.{last_more}
 use Rattle.world_law.specs.world.Moves.{AreTaken}
 use Rattle.world_law.specs.world.World.{AreStored, IsStored, Stored, last_taking}
-
-last_more : {X : Type 0} (o : Option X) (xs ys : List X) → last_or o (xs ++ ys) ≡ last_or (last_or o xs) ys
-last_more o [] ys = refl
-last_more o (x ∷ xs) ys = last_more (Some x) xs ys
 
 last_one : {X : Type 0} (b : Bool) (o : Option X) (x : X) → last_or o (if b then x ∷ [] else []) ≡ (if b then Some x else o)
 last_one true o x = refl
@@ -26,9 +23,6 @@ last_then hs h device vl b is =
     let q = λ (g : Happening). is_accepted device vl g.note.body in
     ap (last_or None) (filter-append q hs (h ∷ [])) ∙ last_more None (filter q hs) (filter q (h ∷ []))
     ∙ ap (λ (c : Bool). last_or (last_taking hs device vl) (if c then h ∷ [] else [])) is ∙ last_one b (last_taking hs device vl) h
-
-one_of : (x y : Happening) → Some x ≡ Some y → x ≡ y
-one_of x y e = cc
 
 -- a record by which no frame is taken
 pub stored_still : (hs : List Happening) (h : Happening) (stored : List Stored)

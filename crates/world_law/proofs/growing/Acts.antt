@@ -11,6 +11,7 @@ use Rattle.net_plan.specs.declared.ids.DeviceId.{DeviceId}
 use Rattle.net_plan.specs.declared.network.Network.{Network}
 use Rattle.membership.specs.Summary.{Summary}
 use Rattle.run_law.proofs.runs.Places.{chain, never_self}
+use Rattle.run_law.proofs.silent.Due.{no_cluster}
 use Rattle.run_law.specs.control.Collections.{observation_window}
 use Rattle.run_law.specs.machines.Answers.{IsActOf, after_correction, after_emission, called, own_hearing}
 use Rattle.run_law.specs.machines.Calls.{MayCall}
@@ -28,7 +29,7 @@ use Rattle.schedule_tables.specs.Rules.{KeepsRules}
 use Rattle.sync_state.specs.declared.answers.Verdict.TheVariants.{AsyncClique, Cleared, Corrected, SyncClique}
 use Rattle.sync_state.specs.declared.answers.Verdict.{Verdict}
 use Rattle.tte_units.specs.Amount.{amount}
-use Rattle.world_law.proofs.acts.Acted.{acted, heard_so, no_cluster}
+use Rattle.world_law.proofs.acts.Acted.{acted, heard_so}
 use Rattle.world_law.proofs.acts.Ready.{acting_last, last_is}
 use Rattle.world_law.proofs.growing.Few.{few_are_emitted}
 use Rattle.world_law.proofs.growing.FewRows.{IsRowOf, few_rows, row_of}

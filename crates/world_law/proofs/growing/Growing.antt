@@ -14,6 +14,7 @@ use Rattle.net_plan.specs.declared.network.Network.{Network}
 use Rattle.net_plan.specs.declared.tables.Row.{Row}
 use Rattle.pcf_values.specs.declared.pcf.Pcf.{Pcf}
 use Rattle.run_law.proofs.runs.Places.{either_way}
+use Rattle.run_law.proofs.silent.Due.{no_cluster}
 use Rattle.run_law.specs.control.Collections.{observation_window}
 use Rattle.run_law.specs.control.Corrections.{correction_value}
 use Rattle.run_law.specs.machines.Answers.{IsActOf, after_correction, after_emission, called, own_hearing, with_done}
@@ -31,13 +32,14 @@ use Rattle.schedule_tables.specs.Entries.{IsEntry}
 use Rattle.schedule_tables.specs.Rules.{KeepsRules}
 use Rattle.schedule_tables.specs.declared.entry.Entry.{Entry}
 use Rattle.schedule_tables.specs.declared.rule.Rule.TheVariants.{ScheduleStart}
-use Rattle.sync_state.specs.Standing.{next_point, point_in}
+use Rattle.sync_state.proofs.StateFacts.{integrating_point}
+use Rattle.sync_state.specs.Standing.{next_point}
 use Rattle.sync_state.specs.declared.answers.Verdict.TheVariants.{AsyncClique, Cleared, Corrected, SyncClique}
 use Rattle.sync_state.specs.declared.answers.Verdict.{Verdict}
-use Rattle.sync_state.specs.declared.state.State.TheVariants.{Integrating}
+use Rattle.tte_lemmas.proofs.Integers.{whole as natural}
+use Rattle.tte_lemmas.proofs.Options.{same_next}
 use Rattle.tte_units.specs.Amount.{amount}
-use Rattle.world_law.proofs.acts.Acted.{acted, heard_so, no_cluster}
-use Rattle.world_law.proofs.acts.Ready.{natural}
+use Rattle.world_law.proofs.acts.Acted.{acted, heard_so}
 use Rattle.world_law.proofs.growing.Openings.{from_zero, one_waiting}
 use Rattle.world_law.proofs.rows.Apart.{apart_so, precise, row_apart}
 use Rattle.world_law.proofs.rows.AtHand.{value_is}
@@ -193,21 +195,15 @@ behind_dispatch network device node new moment row cycle (doing (dispatching oth
 not_ahead : (reading adjustment value : ℤ) → (reading +ℤ adjustment) <ℤ value → (value -ℤ adjustment) ≤ℤ reading → ⊥
 not_ahead reading adjustment value ahead due = omega (arith, ints, ahead, due)
 
-none_looking : (number n : ℕ) → point_in Integrating number ≡ Some n → ⊥
-none_looking number n e = cc
-
-one_some : (o : Option ℕ) (m n : ℕ) → o ≡ Some m → o ≡ Some n → m ≡ n
-one_some o m n e f = cc
-
 no_more_points : (network : Network) (device : DeviceId) (node : Node) (moment : Moment) (heard : Summary) (cycle n : ℕ) (verdict : Verdict)
     → next_point node.standing ≡ Some cycle → next_point node.standing ≡ Some n
     → IsPending network device (called moment acting (after_correction node moment heard cycle verdict)) (doing (correcting n))
     → reading_for network (called moment acting (after_correction node moment heard cycle verdict)) (doing (correcting n)) ≤ℤ moment.reading.0 → ⊥
 no_more_points network device node moment heard cycle n (Corrected by) next own p due = not_ahead moment.reading.0 _ (correction_value network n) p.1.ahead due
-no_more_points network device node moment heard cycle n SyncClique next own p due = none_looking (node.standing.number + 1) n p.1.own
-no_more_points network device node moment heard cycle n AsyncClique next own p due = none_looking (node.standing.number + 1) n p.1.own
+no_more_points network device node moment heard cycle n SyncClique next own p due = integrating_point (node.standing.number + 1) n p.1.own
+no_more_points network device node moment heard cycle n AsyncClique next own p due = integrating_point (node.standing.number + 1) n p.1.own
 no_more_points network device node moment heard cycle n Cleared next own p due =
-    p.1.not_yet (subst (λ (k : ℕ). Contains (node.done ++ correcting cycle ∷ []) (correcting k)) (one_some (next_point node.standing) cycle n next own)
+    p.1.not_yet (subst (λ (k : ℕ). Contains (node.done ++ correcting cycle ∷ []) (correcting k)) (same_next (next_point node.standing) cycle n next own)
     (Contains-append_right node.done (correcting cycle ∷ []) (correcting cycle) (in_head (correcting cycle) [])))
 
 -- a row is not due where a correction is

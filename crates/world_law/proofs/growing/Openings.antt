@@ -14,8 +14,8 @@ use Rattle.net_plan.specs.declared.network.Network.{Network}
 use Rattle.run_law.specs.control.Collections.{observation_window}
 use Rattle.run_law.specs.machines.Nodes.{Node}
 use Rattle.run_law.specs.machines.Tasks.{IsWaiting}
+use Rattle.tte_lemmas.proofs.Integers.{whole}
 use Rattle.tte_units.specs.Amount.{amount}
-use Rattle.world_law.proofs.acts.Ready.{natural}
 use Rattle.world_law.specs.device.Growing.{IsFromZero}
 
 -- two clusters that open at the same reading are one
@@ -69,4 +69,4 @@ from_zero network device node a zero_on w =
     let past : negsuc 0 <ℤ w.cluster.opened = all_at (λ (c : Cluster). negsuc 0 <ℤ c.opened) w.clusters w.cluster
     (open_beyond (observation_window network) (negsuc 0) node.points w.clusters w.are all) w.there in
     let of_a : a.opened.0 ≡ w.cluster.opened = ap (λ (c : Compressed). c.opened.0) w.is in
-    natural a.opened.0 (omega (arith, ints, past, of_a))
+    whole a.opened.0 (omega (arith, ints, past, of_a))

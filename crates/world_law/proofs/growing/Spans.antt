@@ -1,14 +1,15 @@
 -- How far a cluster reaches, and how far its frame's emission lies behind its opening.
-use Rattle.std.proofs.Common.{◌≡◌, ℕ, ℤ, pos, ◌+ℤ◌, ◌-ℤ◌, ◌*ℤ◌, ◌≤ℤ◌, ◌<ℤ◌, true, false, ◌&&◌, List, [], ◌∷◌, Contains, map, length, inl, inr, sym, ap, subst, ◌∙◌, arith}
-use Rattle.std.specs.Prelude.{◌==◌, int_le, nat_le}
+use Rattle.std.proofs.Common.{◌≡◌, ℕ, ℤ, pos, ◌+ℤ◌, ◌-ℤ◌, ◌*ℤ◌, ◌≤ℤ◌, ◌<ℤ◌, true, false, ◌&&◌, List, [], ◌∷◌, Contains, map, inl, inr, sym, ap, subst, ◌∙◌, arith}
+use Rattle.std.specs.Prelude.{◌==◌, int_le}
 use Rattle.std.specs.List.{AllByRecursion}
 use Rattle.std.proofs.lemmas.Bool.{and_parts, cases_Bool}
 use Rattle.std.proofs.lemmas.Int.{ints}
+use Rattle.compression.proofs.ClusterFacts.{ends_soon}
 use Rattle.compression.specs.Clusters.{AreClusters, Cluster, Point, beyond, cluster_of, end_of, firsts, has_master, of_cycle_within}
 use Rattle.compression.specs.Middle.{last_but_one, middle_of, relative}
 use Rattle.compression.proofs.Elements.{all_at, beyond-all, in_cases, in_none}
 use Rattle.compression.proofs.Firsts.{counts, firsts-start}
-use Rattle.compression.proofs.Growth.{counted, end_of-least}
+use Rattle.compression.proofs.Growth.{end_of-least}
 use Rattle.compression.proofs.Held.{held-start}
 use Rattle.compression.proofs.Times.{first_end, open_beyond}
 use Rattle.tte_units.proofs.Means.{mean_of-floor}
@@ -88,19 +89,12 @@ pub record IsSpan (ow : ℤ) (c : Cluster) : Type 0 where
   pub low : pos 0 ≤ℤ middle_of (relative c.points)
   pub high : (c.opened +ℤ middle_of (relative c.points)) ≤ℤ c.end
 
-end_of-most : (ow : ℤ) (o : Point) (ps : List Point) → pos 0 ≤ℤ ow → end_of ow o ps ≤ℤ (o.reading +ℤ (pos 2 *ℤ ow))
-end_of-most ow o ps some =
-    elim (cases_Bool (nat_le 2 (length (counted (o.reading +ℤ ow) o ps)))) [
-      | inl two ↦ rw two (omega (arith, ints))
-      | inr one ↦ rw one (omega (arith, ints))
-    ]
-
 first_span : (ow : ℤ) (o : Point) (ps : List Point) → pos 0 ≤ℤ ow → IsSpan ow (cluster_of ow o (o ∷ ps))
 first_span ow o ps some =
     let l : List Point = o ∷ ps in
     let end = end_of ow o l in
     let least = end_of-least ow o l some in
-    let most = end_of-most ow o l some in
+    let most = ends_soon ow o l some in
     let k = end -ℤ o.reading in
     let whole : end ≡ (o.reading +ℤ k) = omega (arith, ints) in
     let held = of_cycle_within o.cycle o.reading end l in

@@ -1,11 +1,9 @@
 -- Lists with one more at the end.
-use Rattle.std.proofs.Common.{◌≡◌, ℕ, ◌+◌, ◌-◌, Bool, inl, inr, true, false, cond, not, if◌then◌else◌, List, [], ◌∷◌, ◌++◌, length, drop, reverse, filter, filter_map, Option, None, refl, ap, subst, ◌∙◌, arith}
+use Rattle.std.proofs.Common.{◌≡◌, ℕ, ◌+◌, ◌-◌, Bool, true, false, cond, not, if◌then◌else◌, List, [], ◌∷◌, ◌++◌, length, drop, filter, filter_map, Option, None, ap, ◌∙◌, arith}
 use Rattle.std.specs.List.{after_last, cons_option, prefix_len, suffix_len}
 use Rattle.std.proofs.lemmas.List.{append-nil, drop_all, drop-append-le, length_push, reverse-append}
 use Rattle.std.proofs.lemmas.List.Elements.{filter-append, filter_map-append}
 use Rattle.std.proofs.lemmas.List.Sums.{suffix_len-le-length}
-use Rattle.run_law.proofs.runs.Places.{in_parts}
-use Rattle.run_law.specs.records.Order.{IsIn}
 
 pub filter_yes : {X : Type 0} (p : X → Bool) (xs : List X) (x : X) → p x ≡ true → filter p (xs ++ x ∷ []) ≡ filter p xs ++ x ∷ []
 filter_yes p xs x e = filter-append p xs (x ∷ []) ∙ ap (λ (b : Bool). filter p xs ++ (if b then x ∷ [] else [])) e
@@ -39,32 +37,3 @@ behind_no p xs x e =
     let same : length (xs ++ x ∷ []) - suffix_len (λ y. not (p y)) (xs ++ x ∷ []) ≡ length xs - suffix_len (λ y. not (p y)) xs = omega
     (arith, more, few, length_push xs x) in
     ap (λ (n : ℕ). drop n (xs ++ x ∷ [])) same ∙ drop-append-le (length xs - suffix_len (λ y. not (p y)) xs) xs (x ∷ []) (omega arith)
-
--- ---- tests that agree
-
-in_reverse : {X : Type 0} (xs : List X) (x : X) → IsIn x (reverse xs) → IsIn x xs
-in_reverse [] x i = i
-in_reverse {X} (y ∷ ys) x i =
-    elim (in_parts x (reverse ys) (y ∷ []) (subst (λ (l : List X). IsIn x l) (reverse-append (y ∷ []) ys) i)) [
-      | inl front ↦ inr (in_reverse ys x front)
-      | inr (inl e) ↦ inl e
-      | inr (inr none) ↦ absurd none
-    ]
-
-prefix_same : {X : Type 0} (p q : X → Bool) (xs : List X) → ((x : X) → IsIn x xs → p x ≡ q x) → prefix_len p xs ≡ prefix_len q xs
-prefix_same p q [] same = refl
-prefix_same p q (x ∷ xs) same =
-    ap (λ (b : Bool). cond b (1 + prefix_len p xs) 0) (same x (inl refl))
-    ∙ ap (λ (n : ℕ). cond (q x) (1 + n) 0) (prefix_same p q xs (λ y i. same y (inr i)))
-
--- what stands behind the last that passes is the same by a test that agrees on the list
-pub behind_same : {X : Type 0} (p q : X → Bool) (xs : List X) → ((x : X) → IsIn x xs → p x ≡ q x) → after_last p xs ≡ after_last q xs
-behind_same p q xs same =
-    ap (λ (n : ℕ). drop (length xs - n) xs)
-    (prefix_same (λ x. not (p x)) (λ x. not (q x)) (reverse xs) (λ x i. ap not (same x (in_reverse xs x i))))
-
-pub filter_same : {X : Type 0} (p q : X → Bool) (xs : List X) → ((x : X) → IsIn x xs → p x ≡ q x) → filter p xs ≡ filter q xs
-filter_same p q [] same = refl
-filter_same {X} p q (x ∷ xs) same =
-    ap (λ (b : Bool). if b then x ∷ filter p xs else filter p xs) (same x (inl refl))
-    ∙ ap (λ (l : List X). if q x then x ∷ l else l) (filter_same p q xs (λ y i. same y (inr i)))

@@ -69,13 +69,6 @@ up_mono n a b lt = elim (cases_lt n a) [
   ]
 ]
 
-up_back : (n a b : ℕ) → up_number n a < up_number n b → a < b
-up_back n a b lt = elim (cases_order a b) [
-  | inr (inl less) ↦ less
-  | inl e ↦ let same = ap (up_number n) e in absurd (omega (arith, same, lt))
-  | inr (inr more) ↦ let other = up_mono n b a more in absurd (omega (arith, other, lt))
-]
-
 -- ---- records
 
 -- what a record says, as one more stands behind the first n

@@ -1,26 +1,21 @@
 -- The cursor comes to the source that comes first, and stays there: a device acts at it, and has more to do.
-use Rattle.std.proofs.Common.{◌≡◌, ℕ, ℤ, pos, ◌+◌, ◌<◌, Bool, true, false, List, [], ◌∷◌, ◌++◌, length, map, slice_get, Some, inl, inr, refl, sym, ap, subst, ◌∙◌, arith}
+use Rattle.std.proofs.Common.{◌≡◌, ℕ, ◌+◌, ◌<◌, Bool, true, false, List, [], ◌∷◌, ◌++◌, length, map, slice_get, Some, inl, inr, refl, sym, ap, subst, ◌∙◌, arith}
 use Rattle.net_plan.specs.declared.ids.DeviceId.{DeviceId}
-use Rattle.net_plan.specs.declared.ids.LinkId.{LinkId}
 use Rattle.net_plan.specs.declared.network.Network.{Network}
 use Rattle.pcf_values.specs.declared.pcf.Pcf.{Pcf}
-use Rattle.run_law.proofs.runs.Places.{before_behind, before_later, before_next_time, before_or_not}
+use Rattle.run_law.proofs.runs.Places.{before_later, before_next_time, before_or_not}
 use Rattle.run_law.specs.declared.note.Note.{Note}
-use Rattle.run_law.specs.declared.note.NoteBody.TheVariants as kinds
 use Rattle.run_law.specs.machines.Nodes.{Node}
-use Rattle.run_law.specs.records.Happenings.{Happening, happenings, numbered, time_of}
-use Rattle.run_law.specs.records.Order.{IsBefore, IsIn, behind}
+use Rattle.run_law.specs.records.Happenings.{Happening, happenings}
+use Rattle.run_law.specs.records.Order.{IsBefore}
 use Rattle.run_law.specs.scenario.Scenarios.{Scenario}
-use Rattle.transparent_clock.specs.Points.{point_of}
 use Rattle.tte_units.specs.Amount.{amount}
-use Rattle.tte_units.specs.declared.units.Units.{Units}
 use Rattle.world_law.proofs.giving.Given.{some_same}
-use Rattle.world_law.proofs.giving.GivenParts.{up_to_place}
-use Rattle.world_law.proofs.putting.Moving.{IsMoving, out_moves, stays}
+use Rattle.world_law.proofs.putting.Moving.{IsMoving, out_moves}
 use Rattle.world_law.proofs.putting.StandsOn.{source_told}
 use Rattle.world_law.proofs.runs.SourcesBack.{no_higher}
-use Rattle.world_law.specs.source.Sources.{IsRipening, IsSource}
-use Rattle.world_law.specs.world.Moves.{IsWithout, StandsBehind}
+use Rattle.world_law.specs.source.Sources.{IsSource}
+use Rattle.world_law.specs.world.Moves.{StandsBehind}
 use Rattle.world_law.specs.world.World.{AreAtPorts, AreOfNetwork, AreOnWires, AreSettled, AreWaiting, AtPort, HasTurnedOn, IsHeld, IsKept, OnWire, Stands, Waiting, World, act_place, clock_place, hidden, none_yet, port_place, ripe_place, wire_place}
 
 -- what is before the cursor stays so
@@ -205,68 +200,3 @@ record IsOneWaiting (f e : Waiting) : Type 0 where
   devices : f.device ≡ e.device
   links : f.link ≡ e.link
   causes : f.cause ≡ e.cause
-
-one_waiting : (t : ℕ) (f e : Waiting) → ripe_place t f ≡ ripe_place t e → IsOneWaiting f e
-one_waiting t f e same =
-    let d : f.device.0 ≡ e.device.0 = cc in
-    let l : f.link.0 ≡ e.link.0 = cc in
-    let c : f.cause ≡ e.cause = cc in
-    record {
-      devices = ap (λ (n : ℕ). let x : DeviceId = record { 0 = n } in x) d;
-      links = ap (λ (n : ℕ). let x : LinkId = record { 0 = n } in x) l;
-      causes = c;
-    }
-
--- the frames that wait but this one, as the cursor goes behind its place
-pub waiting_ripens : (s : Scenario) (hs coming : List Happening) (mark cursor : List ℕ) (now : ℕ) (e : Waiting) (waiting new : List Waiting)
-    → IsMoving s hs coming mark cursor now 3 (e.device.0 ∷ amount e.point ∷ e.frame.members.0 ∷ e.link.0 ∷ e.cause ∷ [])
-    → IsIn e waiting → IsRipening s hs now e.device e.link e.cause e.point → IsWithout (ripe_place now) (ripe_place now e) waiting new
-    → AreWaiting s hs cursor now waiting → AreWaiting s hs (behind (ripe_place now e)) now new
-waiting_ripens s hs coming mark cursor now e waiting new m here ripens without are =
-    let more = e.device.0 ∷ amount e.point ∷ e.frame.members.0 ∷ e.link.0 ∷ e.cause ∷ [] in
-    let at = now ∷ 3 ∷ more in
-    let mine = are.real e here in
-    record {
-      real = λ f i. are.real f ((without f).0 i).0;
-      later = λ f i t x b.
-          let was = (without f).0 i in
-          let it = are.real f was.0 in
-          let p = x.permanent in
-          let arrival : it.arrival ≡ p.arrival = some_same it.arrival p.arrival _ it.there p.there in
-          let frame : x.frame ≡ f.frame = some_same x.frame f.frame _ p.of_frame (ap (λ (h : Happening). h.frame) (sym arrival) ∙ it.awaited.of_frame) in
-          let place : t ∷ 3 ∷ f.device.0 ∷ amount f.point ∷ x.frame.members.0 ∷ f.link.0 ∷ f.cause
-          ∷ [] ≡ ripe_place t f = ap (λ (g : Pcf). t ∷ 3 ∷ f.device.0 ∷ amount f.point ∷ g.members.0 ∷ f.link.0 ∷ f.cause ∷ []) frame in
-          elim (up_to_place (ripe_place t f) at b) [
-            | inr lt ↦ are.later f was.0 t x (subst (λ (q : List ℕ). IsBefore q cursor) place
-                (was_before s hs coming mark cursor now 3 more m _ (IsSource.ripening t f.device f.link f.cause f.point x)
-                (subst (λ (q : List ℕ). IsBefore q at) (sym place) lt)))
-            | inl same ↦ was.1 (let times : t ≡ now = cc in subst (λ (u : ℕ). ripe_place u f ≡ at) times same)
-          ];
-      sound = λ f i. are.sound f ((without f).0 i).0;
-      all = λ f it sound not.
-          let old = are.all f it sound (λ t x b. not t x (stays s hs coming mark cursor now 3 more m (ripe_place t f) b)) in
-          (without f).1 (
-            old,
-            λ same.
-                let one = one_waiting now f e same in
-                let both : numbered hs e.cause ≡ Some it.arrival = ap (numbered hs) (sym one.causes) ∙ it.there in
-                let arrivals : it.arrival ≡ mine.arrival = some_same it.arrival mine.arrival _ both mine.there in
-                let bodies : kinds.Arrived f.device f.link it.awaited.from it.awaited.clock ≡ kinds.Arrived e.device e.link mine.awaited.from mine.awaited.clock
-                =
-                sym it.awaited.arrived ∙ ap (λ (h : Happening). h.note.body) arrivals ∙ mine.awaited.arrived in
-                let clocks : it.awaited.clock ≡ mine.awaited.clock = cc in
-                let at_point : f.point.0 ≡ e.point.0 =
-                it.awaited.at_point
-                ∙ ap (λ (d : DeviceId). point_of (pos (s.reading d (time_of it.arrival))) it.awaited.clock s.network.dmax.0) one.devices
-                ∙ ap (λ (h : Happening). point_of (pos (s.reading e.device (time_of h))) it.awaited.clock s.network.dmax.0) arrivals
-                ∙ ap (λ (c : ℕ). point_of (pos (s.reading e.device (time_of mine.arrival))) c s.network.dmax.0) clocks
-                ∙ sym mine.awaited.at_point in
-                let points : f.point ≡ e.point = ap (λ (z : ℤ). let u : Units = record { 0 = z } in u) at_point in
-                let same_ripens : IsRipening s hs now f.device f.link f.cause f.point =
-                subst (λ (d : DeviceId). IsRipening s hs now d f.link f.cause f.point) (sym one.devices)
-                (subst (λ (l : LinkId). IsRipening s hs now e.device l f.cause f.point) (sym one.links)
-                (subst (λ (c : ℕ). IsRipening s hs now e.device e.link c f.point) (sym one.causes)
-                (subst (λ (p : Units). IsRipening s hs now e.device e.link e.cause p) (sym points) ripens))) in
-                not now same_ripens (subst (λ (q : List ℕ). IsBefore q (behind at)) (sym same) (before_behind at)),
-          );
-    }

@@ -2,7 +2,7 @@
 use Rattle.std.proofs.Common.{◌≡◌, ℕ, zero, suc, ◌+◌, ◌≤◌, ◌<◌, Bool, true, false, ◌&&◌, ◌||◌, ◌==◌, if◌then◌else◌, List, [], ◌∷◌, ◌++◌, length, map, filter, fold, slice_get, None, option_and_then, inl, inr, refl, sym, ap, ◌∙◌, arith}
 use Rattle.std.specs.Prelude.{nat_lt, nat_le}
 use Rattle.std.specs.List.{last_or}
-use Rattle.std.proofs.lemmas.Bool.{false_from_ne_true, eqb-true, le-ltb}
+use Rattle.std.proofs.lemmas.Bool.{false_from_ne_true, eqb-true, le-ltb, and_right}
 use Rattle.std.proofs.lemmas.List.Elements.{filter-append}
 use Rattle.net_plan.specs.declared.ids.DeviceId.{DeviceId}
 use Rattle.net_plan.specs.declared.ids.LinkId.{LinkId}
@@ -23,7 +23,7 @@ use Rattle.sync_state.specs.declared.state.State.{State}
 use Rattle.tte_units.specs.Amount.{amount}
 use Rattle.tte_units.specs.declared.units.Units.{Units}
 use Rattle.world_law.proofs.devices.Borne.{left_alike, tell_alike}
-use Rattle.world_law.proofs.devices.Plains.{adjustments_plain, changes_at_plain, filter_plain, plains_parts, states_plain, told_by_others}
+use Rattle.world_law.proofs.devices.Plains.{adjustments_plain, changes_at_plain, earlier_plain, filter_plain, plains_parts, states_plain, told_by_others}
 use Rattle.world_law.proofs.putting.Alike.{AreAlike}
 use Rattle.world_law.proofs.putting.Renumbers.{last_taken_plain}
 use Rattle.world_law.proofs.runs.SourcesBack.{earlier_still}
@@ -136,14 +136,10 @@ bumped_in (y ∷ b) x (inr i) = inr (bumped_in b x i)
 
 -- ---- the judgement of what is permanent
 
-pub never_and : (b c : Bool) → c ≡ false → (b && c) ≡ false
-never_and true c e = e
-never_and false c e = refl
-
 late_not : (a r t : ℕ) (xs ys : List ℕ) → a ≡ t → 4 ≤ r → is_before (a ∷ r ∷ xs) (t ∷ 3 ∷ ys) ≡ false
 late_not a r t xs ys e high =
     ap (λ (b : Bool). b || (a == t && (nat_lt r 3 || (r == 3 && is_before xs ys)))) (le-ltb a t (omega (arith, e)))
-    ∙ never_and (a == t) (nat_lt r 3 || (r == 3 && is_before xs ys))
+    ∙ and_right (a == t) (nat_lt r 3 || (r == 3 && is_before xs ys))
     (ap (λ (b : Bool). b || (r == 3 && is_before xs ys)) (le-ltb r 3 (omega (arith, high)))
     ∙ ap (λ (b : Bool). b && is_before xs ys) (false_from_ne_true (r == 3) (λ f. let same = eqb-true r 3 f in absurd (omega (arith, same, high)))))
 
@@ -185,9 +181,6 @@ stated_put s ps b w idle device t =
     ∙ ap (λ (l : List Happening). state_after s l device) (sym (up_to_plain t (ps ++ w ∷ b)) ∙ ap (up_to t) (sym (plains_put ps b w))
     ∙ up_to_plain t (ps ++ w ∷ map bump b))
     ∙ states_plain s (up_to t (ps ++ w ∷ map bump b)) device
-
-earlier_plain : (t : ℕ) (hs : List Happening) → earlier t (plains hs) ≡ plains (earlier t hs)
-earlier_plain t hs = filter_plain (λ h. nat_lt (time_of h) t) (λ h. nat_lt (time_of h) t) (λ h. refl) hs
 
 pub earlier_state_put : (s : Scenario) (ps b : List Happening) (w : Happening) → IsIdle w.note.body → (device : DeviceId) (t : ℕ)
     → state_after s (earlier t (ps ++ b)) device ≡ state_after s (earlier t (ps ++ w ∷ map bump b)) device

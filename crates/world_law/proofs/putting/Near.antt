@@ -10,6 +10,7 @@ use Rattle.net_plan.specs.declared.ids.LinkId.{LinkId}
 use Rattle.net_plan.specs.declared.ids.VlId.{VlId}
 use Rattle.net_plan.specs.declared.network.Network.{Network}
 use Rattle.pcf_values.specs.declared.pcf.Pcf.{Pcf}
+use Rattle.run_law.proofs.law.FirstDeliveries.{last_in}
 use Rattle.run_law.proofs.law.FirstPlaces.{by_number, in_filter, numbered_within}
 use Rattle.run_law.proofs.runs.Places.{chain}
 use Rattle.run_law.specs.control.Arrivals.{control_arrival}
@@ -53,7 +54,7 @@ use Rattle.tte_units.specs.declared.units.Units.{Units}
 use Rattle.world_law.proofs.giving.Given.{same_permanent}
 use Rattle.world_law.proofs.putting.Alike.{frame_alike, octets_alike, standpoint_in}
 use Rattle.world_law.proofs.putting.Bumped.{bump_behind, down_high, down_low, down_number, lower_behind, lowered, raised, raised_joins, raised_low, raised_rank, raised_same, up_high, up_low, up_number}
-use Rattle.world_law.proofs.putting.PutIn.{at_place, last_in, late_source}
+use Rattle.world_law.proofs.putting.PutIn.{at_place, late_source}
 use Rattle.world_law.proofs.putting.Renumbers.{timed_by}
 use Rattle.world_law.proofs.runs.SourcesBack.{arrives_later, dispatches_back, earlier_still, gives_rank, numbered_parts, reaches_back, standing_in, up_back}
 use Rattle.world_law.specs.device.Own.{bears_on}

@@ -2,7 +2,7 @@
 use Rattle.std.proofs.Common.{◌≡◌, ◌⊎◌, ℕ, suc, ◌≤◌, Bool, false, ◌&&◌, ◌||◌, ◌==◌, if◌then◌else◌, List, [], ◌∷◌, ◌++◌, length, map, filter, None, option_and_then, inl, inr, refl, sym, ap, subst, ◌∙◌, arith}
 use Rattle.std.specs.Prelude.{nat_lt}
 use Rattle.std.specs.List.{last_or, list_any}
-use Rattle.std.proofs.lemmas.Bool.{cases_order, eqb-true, false_from_ne_true, le-ltb}
+use Rattle.std.proofs.lemmas.Bool.{and_right, cases_order, eqb-true, false_from_ne_true, le-ltb}
 use Rattle.std.proofs.lemmas.List.{length-append, length-map}
 use Rattle.std.proofs.lemmas.List.Elements.{filter-append}
 use Rattle.net_plan.specs.declared.ids.DeviceId.{DeviceId}
@@ -23,7 +23,7 @@ use Rattle.world_law.proofs.devices.Borne.{heard_alike, moves_no_other, points_a
 use Rattle.world_law.proofs.devices.OwnRecords.{joins_no_other, keeps_adjustment}
 use Rattle.world_law.proofs.devices.Plains.{heard_plain, plains_parts, points_plain}
 use Rattle.world_law.proofs.putting.Bumped.{bump_behind, bump_mono, in_placed, numbered_beyond, raised_plain}
-use Rattle.world_law.proofs.putting.Idle.{drop_one, fold_skip, never_and, numbered_prefix}
+use Rattle.world_law.proofs.putting.Idle.{drop_one, fold_skip, numbered_prefix}
 use Rattle.world_law.proofs.putting.Near.{AreTwo, HearsAlike}
 use Rattle.world_law.proofs.putting.Renumbers.{hearing_adjustment_plain, hearing_state_plain, last_taken_plain}
 use Rattle.world_law.proofs.runs.SourcesBack.{earlier_still}
@@ -42,7 +42,7 @@ not_is (x ∷ xs) (y ∷ ys) not =
           ∙ ap (λ (b : Bool). b && is_before xs ys) (false_from_ne_true (x == y) (λ f. let same = eqb-true x y f in absurd (omega (arith, same, gt))))
       | inl e ↦
           ap (λ (b : Bool). b || (x == y && is_before xs ys)) (le-ltb x y (omega (arith, e)))
-          ∙ never_and (x == y) (is_before xs ys) (not_is xs ys (λ b. not (inr (e, b))))
+          ∙ and_right (x == y) (is_before xs ys) (not_is xs ys (λ b. not (inr (e, b))))
     ]
 
 pub filter_none : (q : Happening → Bool) (xs : List Happening) → ((h : Happening) → IsIn h xs → q h ≡ false) → filter q xs ≡ []
@@ -54,7 +54,7 @@ any_skip : (p : Happening → Bool) (xs bs : List Happening) (w : Happening) →
 any_skip p [] bs w e = sym (ap (λ (b : Bool). b || list_any p bs) e)
 any_skip p (x ∷ xs) bs w e = ap (λ (b : Bool). p x || b) (any_skip p xs bs w e)
 
-plains_bumped : (n : ℕ) (b : List Happening) → plains (map (bump_behind n) b) ≡ plains b
+pub plains_bumped : (n : ℕ) (b : List Happening) → plains (map (bump_behind n) b) ≡ plains b
 plains_bumped n [] = refl
 plains_bumped n (y ∷ b) =
     ap (λ (h : Happening). h ∷ plains (map (bump_behind n) b)) (raised_plain n y) ∙ ap (λ (l : List Happening). plain y ∷ l) (plains_bumped n b)
@@ -111,7 +111,7 @@ hearing_placed s t n ps c w device before misses =
     let bear : borne device js ≡ borne device ms = sym (drop_one (λ h. bears_on device h.note.body) ps c w misses) in
     let still = moves_no_other device w.note.body misses in
     let joined : has_joined_at js device t ≡ has_joined_at ms device t = any_skip (λ h. time_of h == t && is_joined_by device h.note.body) ps c w
-    (never_and (time_of w == t) (is_joined_by device w.note.body) (joins_no_other device w.note.body still)) in
+    (and_right (time_of w == t) (is_joined_by device w.note.body) (joins_no_other device w.note.body still)) in
     record {
       heard =
           heard_alike s js ms device t bear ∙ sym (heard_plain s ms device t) ∙ ap (λ (l : List Happening). heard_since s l device t) same

@@ -50,7 +50,7 @@ hears_source s js t m device (notes.State other state cause whys.SyncClique) p e
 hears_source s js t m device (notes.State other state cause whys.AsyncClique) p e o = o ∙ ap (λ (i : ℕ). t ∷ 4 ∷ i ∷ []) (sym (eqb-true device.0 other.0 e))
 hears_source s js t m device other p e o = absurd cc
 
-at_or_behind : (at q : List ℕ) → (IsBefore q at → ⊥) → (at ≡ q) ⊎ IsBefore at q
+pub at_or_behind : (at q : List ℕ) → (IsBefore q at → ⊥) → (at ≡ q) ⊎ IsBefore at q
 at_or_behind at q not = elim (either_way at q) [ inl lt ↦ inr lt | inr (inl e) ↦ inl e | inr (inr gt) ↦ absurd (not gt) ]
 
 -- what is before something not behind the source is not behind it either

@@ -1,9 +1,10 @@
 -- A record that bears on nothing else is put in: what is settled then.
-use Rattle.std.proofs.Common.{◌≡◌, ◌⊎◌, ℕ, ◌≤◌, List, [], ◌∷◌, ◌++◌, length, map, filter, Option, Some, None, inl, inr, refl, sym, ap, subst, ◌∙◌, arith}
+use Rattle.std.proofs.Common.{◌≡◌, ◌⊎◌, ℕ, ◌≤◌, List, [], ◌∷◌, ◌++◌, length, map, filter, Some, None, inl, inr, refl, sym, ap, subst, ◌∙◌, arith}
 use Rattle.std.specs.List.{last_or}
 use Rattle.net_plan.specs.declared.ids.DeviceId.{DeviceId}
 use Rattle.net_plan.specs.declared.ids.LinkId.{LinkId}
 use Rattle.net_plan.specs.declared.ids.VlId.{VlId}
+use Rattle.run_law.proofs.law.FirstDeliveries.{last_in}
 use Rattle.run_law.proofs.law.FirstPlaces.{by_number, in_filter, numbered_within}
 use Rattle.run_law.specs.records.Causes.{cause_of}
 use Rattle.run_law.specs.timed.Dispatching.{Dispatches, is_accepted}
@@ -71,10 +72,6 @@ first_bumped [] rest y e = absurd cc
 first_bumped (x ∷ d2) rest y e = let a : y ≡ bump x = cc in (x, d2, refl, a)
 
 -- ---- causes are given
-
-pub last_in : (o : Option Happening) (xs : List Happening) (x : Happening) → last_or o xs ≡ Some x → (o ≡ Some x) ⊎ IsIn x xs
-last_in o [] x e = inl e
-last_in o (y ∷ xs) x e = elim (last_in (Some y) xs x e) [ inl same ↦ (let a : x ≡ y = cc in inr (inl a)) | inr i ↦ inr (inr i) ]
 
 -- records to come are of the time, and late at it
 abbrev AreLate : ℕ → List Happening → Type 0

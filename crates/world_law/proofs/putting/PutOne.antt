@@ -1,7 +1,7 @@
 -- A source of the instant is worked off: its record is put in, or its record and the change of state that follows it.
 use Rattle.std.proofs.Common.{◌≡◌, ◌⊎◌, ℕ, suc, ◌+◌, ◌≤◌, Bool, true, false, ◌&&◌, ◌||◌, ◌==◌, if◌then◌else◌, List, [], ◌∷◌, ◌++◌, map, Some, append_assoc, inl, inr, refl, sym, ap, subst, ◌∙◌, arith}
 use Rattle.std.specs.Prelude.{nat_lt}
-use Rattle.std.proofs.lemmas.Bool.{and_left, cases_Bool, cases_lt, cases_order, eqb-true, false_from_ne_true, le-ltb}
+use Rattle.std.proofs.lemmas.Bool.{and_left, and_right, cases_Bool, cases_lt, cases_order, eqb-true, false_from_ne_true, le-ltb}
 use Rattle.net_plan.specs.declared.ids.DeviceId.{DeviceId}
 use Rattle.net_plan.specs.declared.ids.LinkId.{LinkId}
 use Rattle.net_plan.specs.declared.ids.VlId.{VlId}
@@ -24,10 +24,10 @@ use Rattle.run_law.specs.scenario.Scenarios.{Scenario, is_turned_on_at}
 use Rattle.run_law.specs.timed.Receptions.{comes_before, is_taken_before}
 use Rattle.sync_state.specs.declared.state.State.{State}
 use Rattle.sync_state.specs.declared.state.State.TheVariants.{Integrating, Joining}
+use Rattle.tte_lemmas.proofs.Naturals.{unequal}
 use Rattle.tte_units.specs.declared.units.Units.{Units}
 use Rattle.world_law.proofs.giving.Given.{some_same}
 use Rattle.world_law.proofs.putting.Bumped.{AsState, bump_behind, numbered_here, placed, seven}
-use Rattle.world_law.proofs.putting.Idle.{never_and}
 use Rattle.world_law.proofs.putting.Moving.{IsAllOfIt, IsMoving, stays}
 use Rattle.world_law.proofs.putting.Near.{hears}
 use Rattle.world_law.proofs.putting.Placing.{IsCarried, IsPlacing, IsWell, before_it, hears_source, placed_well, put_at, settled_at, settled_by, well_of}
@@ -38,18 +38,15 @@ use Rattle.world_law.specs.world.World.{AreSettled, act_place, is_at_source}
 
 -- ---- what a record of this source tells
 
-differ : (a b : ℕ) → (a ≡ b → ⊥) → (a == b) ≡ false
-differ a b not = false_from_ne_true (a == b) (λ e. absurd (not (eqb-true a b e)))
-
 order_not : (link by cause from : ℕ) → (IsBefore (by ∷ from ∷ []) (link ∷ cause ∷ []) → ⊥) → (nat_lt by link || (by == link && nat_lt from cause)) ≡ false
 order_not link by cause from not = elim (cases_order by link) [
   | inr (inl lt) ↦ absurd (not (inl lt))
   | inr (inr gt) ↦
       ap (λ (b : Bool). b || (by == link && nat_lt from cause)) (le-ltb by link (omega (arith, gt)))
-      ∙ ap (λ (b : Bool). b && nat_lt from cause) (differ by link (λ e. omega (arith, e, gt)))
+      ∙ ap (λ (b : Bool). b && nat_lt from cause) (unequal by link (λ e. omega (arith, e, gt)))
   | inl e ↦
       ap (λ (b : Bool). b || (by == link && nat_lt from cause)) (le-ltb by link (omega (arith, e)))
-      ∙ never_and (by == link) (nat_lt from cause) (elim (cases_lt from cause)
+      ∙ and_right (by == link) (nat_lt from cause) (elim (cases_lt from cause)
       [ inl lt ↦ absurd (not (inr (e, inl lt))) | inr le ↦ le-ltb from cause le ])
 ]
 
@@ -62,9 +59,9 @@ none_before now device other vl of_vl link by cause from not =
       | inr none ↦ and_left (device.0 == other.0 && vl.0 == of_vl.0) x (and_left (device.0 == other.0) (vl.0 == of_vl.0) none)
       | inl same ↦
           let e = eqb-true device.0 other.0 same in
-          never_and (device.0 == other.0 && vl.0 == of_vl.0) x
+          and_right (device.0 == other.0 && vl.0 == of_vl.0) x
           (ap (λ (b : Bool). b || (now == now && comes_before by from link cause)) (le-ltb now now (omega arith))
-          ∙ never_and (now == now) (comes_before by from link cause)
+          ∙ and_right (now == now) (comes_before by from link cause)
           (order_not link.0 by.0 cause from (λ b. not (inr (refl, inr (refl, inr (sym e, b)))))))
     ]
 
@@ -349,20 +346,3 @@ one_at s hs front back mark cursor now device w p last no_source =
     (worked_then s hs front back mark cursor (act_place now device) now 4 (device.0 ∷ []) w p
     (λ q b. Rattle.run_law.proofs.runs.Places.before_later q (act_place now device) cursor b p.moving.waits)
     (λ is. absurd (let bad : false ≡ true = sym no_source ∙ is in cc)))
-
--- WHERE AN ACT BRINGS NO RECORD, THE CURSOR COMES TO ITS SOURCE
-pub none_at : (s : Scenario) (hs coming : List Happening) (mark cursor : List ℕ) (now : ℕ) (device : DeviceId)
-    → IsMoving s hs coming mark cursor now 4 (device.0 ∷ []) → ((p : List ℕ) → IsBefore p (now ∷ []) → IsBefore p mark)
-    → AreSettled s hs coming mark (act_place now device) now
-none_at s hs coming mark cursor now device m marked =
-    settled_at s hs coming mark now 4 (device.0 ∷ []) device refl (well_of s hs coming mark cursor now 4 (device.0 ∷ []) m) marked
-    (unmarked s hs coming mark cursor now 4 (device.0 ∷ []) m) (inr (refl, inl (omega arith)))
-    (λ z i is. Rattle.run_law.proofs.runs.Places.before_later (place_of z) (act_place now device) cursor (m.are.worked z i is) m.waits)
-
--- all that is due from the source is there, where all that is due from it is at the record's place
-pub all_at_one : (s : Scenario) (hs front back : List Happening) (now r : ℕ) (more : List ℕ) (w : Happening)
-    → ((zs : List Happening) (y : Happening) → IsDue s (hs ++ zs) y
-    → IsOwnSource s (hs ++ zs) (time_of y) (members_in y) y.note.body (now ∷ r ∷ more) → place_of w ≡ place_of y)
-    → IsAllOfIt s hs (put_at hs front w back) (now ∷ r ∷ more)
-all_at_one s hs front back now r more w own f rest y e before none due mine =
-    (w, Rattle.run_law.proofs.runs.Places.in_right w front (w ∷ map (bump_behind (before_it hs front)) back) (inl refl), own f y due mine)

@@ -1,9 +1,10 @@
 -- A record and the change of state that follows it are put in.
 use Rattle.std.proofs.Common.{◌≡◌, ◌⊎◌, ℕ, suc, ◌+◌, ◌≤◌, ◌<◌, true, false, ◌==◌, List, [], ◌∷◌, ◌++◌, map, Some, append_assoc, inl, inr, refl, sym, ap, subst, ◌∙◌, arith}
 use Rattle.std.proofs.lemmas.Bool.{cases_lt, eqb-true, false_from_ne_true}
+use Rattle.net_plan.proofs.SameIds.{one_device}
 use Rattle.net_plan.specs.declared.ids.DeviceId.{DeviceId}
 use Rattle.run_law.proofs.law.FirstPlaces.{numbered_front}
-use Rattle.run_law.proofs.runs.Places.{before_behind, before_later, in_left, in_parts, in_right, never_self, parted}
+use Rattle.run_law.proofs.runs.Places.{before_behind, in_left, in_parts, in_right, never_self, parted}
 use Rattle.run_law.specs.declared.judgement.Judgement.TheVariants as judgements
 use Rattle.run_law.specs.declared.judgement.Why.{Why}
 use Rattle.run_law.specs.declared.judgement.Why.TheVariants as whys
@@ -25,7 +26,7 @@ use Rattle.world_law.proofs.putting.Bumped.{AsState, bump_behind, down_high, dow
 use Rattle.world_law.proofs.putting.Idle.{numbered_prefix}
 use Rattle.world_law.proofs.putting.Moving.{IsAllOfIt, stays}
 use Rattle.world_law.proofs.putting.Near.{hears}
-use Rattle.world_law.proofs.putting.Placing.{IsCarried, IsPlacing, IsWell, before_it, hears_source, placed_well, put_at, settled_at, settled_by, well_of}
+use Rattle.world_law.proofs.putting.Placing.{IsCarried, IsPlacing, IsWell, before_it, hears_source, placed_well, put_at, settled_by, well_of}
 use Rattle.world_law.proofs.putting.PutOne.{Follows, IsOne, at_number, due_follows, placing_one, source_raised, unmarked, worked_then}
 use Rattle.world_law.specs.device.Own.{bears_on}
 use Rattle.world_law.specs.source.Sources.{IsOwnSource, IsSource}
@@ -33,12 +34,9 @@ use Rattle.world_law.specs.world.World.{AreSettled, act_place, is_at_source}
 
 -- ---- whom the follower is of
 
-same_device : (device other : DeviceId) → (device.0 == other.0) ≡ true → other ≡ device
-same_device device other e = sym (ap (λ (n : ℕ). let d : DeviceId = record { 0 = n } in d) (eqb-true device.0 other.0 e))
-
 joins_device : (device : DeviceId) (body : NoteBody) → is_joined_by device body ≡ true → device_of body ≡ Some device
-joins_device device (notes.Permanent other link cause point judgements.Integrates) e = ap (λ (d : DeviceId). Some d) (same_device device other e)
-joins_device device (notes.Compressed other opened at cycle members judgements.Integrates) e = ap (λ (d : DeviceId). Some d) (same_device device other e)
+joins_device device (notes.Permanent other link cause point judgements.Integrates) e = ap (λ (d : DeviceId). Some d) (one_device device other e)
+joins_device device (notes.Compressed other opened at cycle members judgements.Integrates) e = ap (λ (d : DeviceId). Some d) (one_device device other e)
 joins_device device other e = absurd cc
 
 pub follows_device : (s : Scenario) (js : List Happening) (now : ℕ) (w : Happening) (device : DeviceId) → Follows s js now w device
@@ -260,7 +258,7 @@ placing_two s hs front back front2 back2 mark cursor now r more w v device state
           ap (bears_on other) p.body ∙ elim (four_or_less r p.low) [
             | inl four ↦ false_from_ne_true (other.0 == device.0) (λ e.
                 absurd (p.aside x i (p.acts four) (subst (λ (d : DeviceId). hears d x.note.body ≡ true)
-                (sym (same_device other device e)) yes_it)))
+                (sym (one_device other device e)) yes_it)))
             | inr less ↦ absurd (elim by.3 [
               | inl lt ↦ elim (subst (λ (q : List ℕ). IsBefore q at) act lt) [
                 | inl x1 ↦ omega (arith, x1)
@@ -320,15 +318,3 @@ two_by s hs front back front2 back2 mark cursor now r more w v device state why 
     (worked_two s hs front back front2 back2 mark cursor (behind at) now r more w v device state why p
     (stays s hs (front ++ back) mark cursor now r more p.one.moving)
     (λ is. subst (λ (q : List ℕ). IsBefore q (behind at)) (sym (stands is)) (before_behind at))) all
-
--- THE TWO OF AN ACT ARE PUT IN, AND THE CURSOR IS AT THEIR SOURCE
-pub two_at : (s : Scenario) (hs front back front2 back2 : List Happening) (mark cursor : List ℕ) (now : ℕ) (w v : Happening)
-    (device : DeviceId) (state : State) (why : Why) → IsPair s hs front back front2 back2 mark cursor now 4 (device.0 ∷ []) w v device state why
-    → is_at_source w.note.body ≡ false → AreSettled s hs (put_at hs front2 v back2) mark (act_place now device) now
-two_at s hs front back front2 back2 mark cursor now w v device state why p no_source =
-    settled_at s hs (put_at hs front2 v back2) mark now 4 (device.0 ∷ []) device refl
-    (two_well s hs front back front2 back2 mark cursor now 4 (device.0 ∷ []) w v device state why p) p.one.marked
-    (unmarked s hs (front ++ back) mark cursor now 4 (device.0 ∷ []) p.one.moving) p.one.later
-    (worked_two s hs front back front2 back2 mark cursor (act_place now device) now 4 (device.0 ∷ []) w v device state why p
-    (λ q b. before_later q (act_place now device) cursor b p.one.moving.waits)
-    (λ is. absurd (let bad : false ≡ true = sym no_source ∙ is in cc)))

@@ -33,6 +33,7 @@ use Rattle.world_law.specs.device.Plain.{renumbered}
 use Rattle.world_law.specs.device.Takings.{frames_taken}
 use Rattle.world_law.specs.source.Sources.{IsActing, IsOwnSource, IsSource}
 use Rattle.world_law.specs.world.World.{AreOfNetwork, AreSettled, HasTurnedOn, IsAtRest, IsHeld, IsKept, IsTakenUp, IsWorkedOff, act_place, is_at_source, is_turning}
+use Rattle.world_law.proofs.putting.Placing.{at_or_behind}
 
 -- what a step that puts in a record starts from: the record is due at its place among those to come, and whatever comes
 -- from the source is at that place
@@ -56,9 +57,6 @@ pub record IsPutting (s : Scenario) (hs front back : List Happening) (mark curso
 
 abbrev pub put_list : List Happening → Happening → List Happening → List Happening
 put_list front w back = front ++ w ∷ map bump back
-
-at_or_behind : (at q : List ℕ) → (IsBefore q at → ⊥) → (at ≡ q) ⊎ IsBefore at q
-at_or_behind at q not = elim (either_way at q) [ inl lt ↦ inr lt | inr (inl e) ↦ inl e | inr (inr gt) ↦ absurd (not gt) ]
 
 -- all that is to come is late
 all_late : (s : Scenario) (hs front back : List Happening) (mark cursor : List ℕ) (now r : ℕ) (more : List ℕ) (w : Happening)

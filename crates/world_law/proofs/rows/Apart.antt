@@ -1,52 +1,31 @@
 -- A device comes to no row's value where it comes to a correction point, or to the beginning of a cycle.
-use Rattle.std.proofs.Common.{◌≡◌, ℕ, zero, suc, ◌+◌, ◌*◌, ◌≤◌, ◌<◌, ℤ, pos, ◌+ℤ◌, ◌-ℤ◌, ◌≤ℤ◌, ◌<ℤ◌, List, inl, inr, sym, subst, arith}
+use Rattle.std.proofs.Common.{◌≡◌, ℕ, ◌+◌, ◌*◌, ◌≤◌, ℤ, pos, ◌≤ℤ◌, List, inl, inr, sym, subst, arith}
 use Rattle.std.proofs.lemmas.Bool.{cases_lt}
 use Rattle.std.proofs.lemmas.Int.{ints}
 use Rattle.net_plan.specs.Ranges.{IsInRange}
 use Rattle.net_plan.specs.declared.ids.DeviceId.{DeviceId}
 use Rattle.net_plan.specs.declared.ids.LinkId.{LinkId}
-use Rattle.net_plan.specs.declared.ids.RowId.{RowId}
 use Rattle.net_plan.specs.declared.ids.VlId.{VlId}
 use Rattle.net_plan.specs.declared.network.Network.{Network}
 use Rattle.net_plan.specs.declared.tables.Link.{Link}
-use Rattle.run_law.specs.control.Corrections.{correction_value}
 use Rattle.run_law.specs.device.LocalClocks.{Reaches, local_before}
-use Rattle.run_law.specs.machines.Nodes.{Node, correcting, dispatching}
-use Rattle.run_law.specs.machines.Tasks.{IsPending, doing, reading_for, value_of}
 use Rattle.run_law.specs.records.Happenings.{Happening}
 use Rattle.run_law.specs.scenario.Scenarios.{Scenario}
 use Rattle.run_law.specs.timed.Dispatching.{Dispatches, Sends}
-use Rattle.schedule_tables.proofs.EntryLemmas.{all_at}
+use Rattle.schedule_tables.proofs.Entries.{begun_below}
 use Rattle.schedule_tables.specs.Delays.{pcf_port_time}
-use Rattle.schedule_tables.specs.Entries.{IsEntry, source_of}
+use Rattle.schedule_tables.specs.Entries.{IsEntry}
 use Rattle.schedule_tables.specs.Rules.{KeepsRules}
 use Rattle.schedule_tables.specs.declared.entry.Entry.{Entry}
-use Rattle.schedule_tables.specs.declared.rule.Rule.TheVariants.{Forwarding, ScheduleStart, Sources}
+use Rattle.schedule_tables.specs.declared.rule.Rule.TheVariants.{ScheduleStart}
+use Rattle.tte_lemmas.proofs.Integers.{whole as not_negative}
+use Rattle.tte_lemmas.proofs.Lists.{in_all}
 use Rattle.tte_units.specs.Amount.{amount}
-use Rattle.world_law.proofs.acts.Ready.{natural as not_negative}
-use Rattle.world_law.proofs.rows.AtHand.{sender_or, value_is}
 use Rattle.world_law.proofs.rows.Reached.{ShowsAt, cycles_apart, row_ends, shows_at}
-use Rattle.world_law.specs.device.Ready.{IsReadyAt, IsSteady}
+use Rattle.world_law.specs.device.Ready.{IsSteady}
 use Rattle.world_law.specs.source.Sources.{IsAtCorrection}
 
 -- ---- where a row's offset lies in the cycle
-
--- by the offset: a row that leaves its sender is in the schedule, and any other comes behind one that enters its source
-begun_below : (network : Network) (bound place : ℕ) (entry : Entry) → KeepsRules network → IsEntry network place entry → amount entry.row.offset < bound
-    → amount network.tt_start ≤ amount entry.row.offset
-begun_below network zero place entry rules is below = absurd (omega (arith, below))
-begun_below network (suc bound) place entry rules is below =
-    elim (sender_or (source_of entry) entry.vl.sender) [
-      | inl sender ↦ (rules Forwarding place).from_sender entry is sender
-      | inr not ↦ elim (rules Sources place entry is) [
-        | inl sender ↦ absurd (not sender)
-        | inr other ↦
-            let enters = other.1.2 in
-            let behind = (rules Forwarding place).from_switch other.1.0 enters.entry entry enters.is is (sym enters.same_vl) not enters.target in
-            let first = begun_below network bound other.1.0 enters.entry rules enters.is (omega (arith, behind, below)) in
-            omega (arith, behind, first)
-      ]
-    ]
 
 -- it is a precision behind the correction, and one before the end of the cycle
 pub record IsApart (network : Network) (offset : ℕ) : Type 0 where
@@ -58,7 +37,7 @@ pub row_apart : (network : Network) (place : ℕ) (entry : Entry) → KeepsRules
     → IsApart network (amount entry.row.offset)
 row_apart network place entry rules is =
     let begun = begun_below network (amount entry.row.offset + 1) place entry rules is (omega arith) in
-    let start = all_at
+    let start = in_all
     (λ (l : Link). amount network.correction + amount network.dmax + 4 * amount network.precision + pcf_port_time l ≤ amount network.tt_start)
     network.link entry.row.link.0 entry.link (rules ScheduleStart 0).begins is.link in
     record { begins = omega (arith, begun, start); ends = row_ends network place entry rules is }
@@ -121,32 +100,3 @@ pub no_row_at_sending : (s : Scenario) (hs : List Happening) (device : DeviceId)
 no_row_at_sending s hs device t number link cause vl cycle range rules steady c d =
     no_row_with s hs device t 0 number d.place cycle d.entry range rules steady d.row (omega arith)
     (subst (λ (n : ℕ). Reaches s hs device (pos n) t) (omega arith) c.reached) d.reached
-
--- ---- by the node
-
-due_shows : (v a : ℤ) (r precision : ℕ) (p : ℤ) → p ≡ pos precision → (v -ℤ a) ≤ℤ pos r → pos r <ℤ ((v -ℤ a) +ℤ p) → ShowsAt (pos r +ℤ a) v precision
-due_shows v a r precision p whole reached late = record {
-  least = omega (arith, ints, reached);
-  most = omega (arith, ints, late, whole);
-}
-
--- of a node that is ready, a correction and a dispatch are not due at once
-pub no_row_due : (network : Network) (reading : ℕ → ℕ) (device : DeviceId) (node : Node) (now number cycle : ℕ) (row : RowId) → IsInRange network
-    → KeepsRules network → IsReadyAt reading network device node now → IsPending network device node (doing (correcting number))
-    → reading_for network node (doing (correcting number)) ≤ℤ pos (reading now) → IsPending network device node (doing (dispatching row cycle))
-    → reading_for network node (doing (dispatching row cycle)) ≤ℤ pos (reading now) → ⊥
-no_row_due network reading device node now number cycle row range rules ready corrects one dispatches two =
-    let frame = dispatches.1.own.1 in
-    let value = value_is network row frame.entry cycle frame.is in
-    let a = node.standing.adjustment.0 in
-    let least = range.precision.least in
-    let whole = not_negative network.precision.0 (omega (arith, ints, least)) in
-    let first : ShowsAt (pos (reading now) +ℤ a) (correction_value network number) (amount network.precision) =
-    due_shows (correction_value network number) a (reading now) (amount network.precision) network.precision.0 whole one
-    (ready.in_time (doing (correcting number)) corrects) in
-    let second : ShowsAt (pos (reading now) +ℤ a) (value_of network (dispatching row cycle)) (amount network.precision) =
-    due_shows (value_of network (dispatching row cycle)) a (reading now) (amount network.precision) network.precision.0 whole two
-    (ready.in_time (doing (dispatching row cycle)) dispatches) in
-    apart_so network (amount frame.entry.row.offset) (amount network.correction) number cycle (pos (reading now) +ℤ a)
-    (row_apart network row.0 frame.entry rules frame.is) (omega arith) (precise network range) first
-    (subst (λ (v : ℤ). ShowsAt (pos (reading now) +ℤ a) v (amount network.precision)) value second)

@@ -3,7 +3,7 @@ use Rattle.std.proofs.Common.{◌≡◌, ◌⊎◌, ℕ, ◌+◌, ◌*◌, ◌�
 use Rattle.std.specs.List.{last_or}
 use Rattle.std.specs.Option.{IsSomeAnd, option_map_or}
 use Rattle.std.specs.Prelude.{nat_lt}
-use Rattle.std.proofs.lemmas.Bool.{and_parts, cases_Bool, cases_eq, cases_lt, eq-eqb, eqb-true, lt-ltb}
+use Rattle.std.proofs.lemmas.Bool.{and_parts, cases_Bool, cases_eq, cases_lt, eqb-true, lt-ltb}
 use Rattle.std.proofs.lemmas.List.Elements.{filter-append}
 use Rattle.net_plan.specs.Ranges.{IsInRange}
 use Rattle.net_plan.specs.declared.ids.DeviceId.{DeviceId}
@@ -11,6 +11,7 @@ use Rattle.net_plan.specs.declared.ids.RowId.{RowId}
 use Rattle.net_plan.specs.declared.ids.VlId.{VlId}
 use Rattle.net_plan.specs.declared.network.Network.{Network}
 use Rattle.net_plan.specs.declared.tables.Row.{Row}
+use Rattle.run_law.proofs.law.FirstDeliveries.{last_in}
 use Rattle.run_law.proofs.law.FirstPlaces.{in_filter}
 use Rattle.run_law.specs.device.LocalClocks.{Reaches, local_before}
 use Rattle.run_law.specs.machines.Nodes.{Node, TakenFrame, dispatching, last_taken_frame}
@@ -29,8 +30,9 @@ use Rattle.schedule_tables.specs.Entries.{IsEntry, source_of}
 use Rattle.schedule_tables.specs.Rules.{KeepsRules}
 use Rattle.schedule_tables.specs.Windows.{OccursIn}
 use Rattle.schedule_tables.specs.declared.entry.Entry.{Entry}
+use Rattle.tte_lemmas.proofs.Bools.{turned}
+use Rattle.tte_lemmas.proofs.Lists.{last_if, last_more}
 use Rattle.tte_units.specs.Amount.{amount}
-use Rattle.world_law.proofs.putting.PutIn.{last_in}
 use Rattle.world_law.proofs.rows.Reached.{IsForwarded, accepted_at, below_value, delivered_at, none_at_value}
 use Rattle.world_law.specs.device.Ready.{IsSteady}
 use Rattle.world_law.specs.device.Takings.{frames_taken, taken_by, taken_in}
@@ -44,24 +46,8 @@ IsLastBy device vl at (Some f) (Some h) =
     (link : _) × (from : ℕ) × (h.note.body ≡ notes.Accepted device link from vl f.cycle) × (f.at ≡ at (time_of h))
 IsLastBy device vl at f h = ⊥
 
-last_more : {X : Type 0} (o : Option X) (xs ys : List X) → last_or o (xs ++ ys) ≡ last_or (last_or o xs) ys
-last_more o [] ys = refl
-last_more o (x ∷ xs) ys = last_more (Some x) xs ys
-
-last_if : {X : Type 0} (b : Bool) (o : Option X) (x : X) (xs : List X) → last_or o (if b then x ∷ xs else xs) ≡ last_or (if b then Some x else o) xs
-last_if true o x xs = refl
-last_if false o x xs = refl
-
 abbrev is_of : VlId → TakenFrame → Bool
 is_of vl f = f.vl.0 == vl.0
-
-turned : (a b : ℕ) (c : Bool) → (a == b) ≡ c → (b == a) ≡ c
-turned a b true e = eq-eqb b a (sym (eqb-true a b e))
-turned a b false e =
-    elim (cases_Bool (b == a)) [
-      | inr no_it ↦ no_it
-      | inl same ↦ absurd (let bad : true ≡ false = sym (eq-eqb a b (sym (eqb-true b a same))) ∙ e in cc)
-    ]
 
 -- one record
 last_step : (device : DeviceId) (vl : VlId) (at : ℕ → ℤ) (o : Option TakenFrame) (p : Option Happening) (h : Happening) (body : NoteBody) → h.note.body ≡ body

@@ -1,5 +1,5 @@
 -- A dispatch is a task of the device's node whose reading is reached.
-use Rattle.std.proofs.Common.{◌≡◌, ℕ, ◌+◌, ◌*◌, ◌≤◌, ℤ, pos, List, ◌∷◌, ◌++◌, Some, inl, inr, refl, sym, ap, subst, ◌∙◌}
+use Rattle.std.proofs.Common.{◌≡◌, ℕ, ◌+◌, ◌*◌, ◌≤◌, ℤ, pos, List, ◌∷◌, ◌++◌, inl, inr, refl, sym, subst, ◌∙◌}
 use Rattle.net_plan.specs.Ranges.{IsInRange}
 use Rattle.net_plan.specs.declared.ids.DeviceId.{DeviceId}
 use Rattle.net_plan.specs.declared.ids.LinkId.{LinkId}
@@ -19,7 +19,6 @@ use Rattle.run_law.specs.scenario.Scenarios.{Scenario}
 use Rattle.run_law.specs.timed.Dispatching.{Dispatches, HasAtHand, IsUp}
 use Rattle.run_law.specs.declared.note.Note.{Note}
 use Rattle.schedule_tables.specs.Rules.{KeepsRules}
-use Rattle.schedule_tables.specs.declared.entry.Entry.{Entry}
 use Rattle.sync_state.specs.declared.state.State.TheVariants.{Synchronised}
 use Rattle.tte_units.specs.Amount.{amount}
 use Rattle.world_law.proofs.acts.Acting.{IsUnmoved, comes_so, undone_so}
@@ -145,15 +144,3 @@ dispatches_so s hs device t node row cycle law past taken up has r =
         at_hand = it.1;
       },
     )
-
--- what is at hand has one cause, at a device that is not the sender
-pub one_cause : (network : Network) (hs : List Happening) (device : DeviceId) (entry : Entry) (t cause other cycle : ℕ) → (entry.vl.sender ≡ device → ⊥)
-    → HasAtHand network hs device entry t cause cycle → HasAtHand network hs device entry t other cycle → cause ≡ other
-one_cause network hs device entry t cause other cycle not (inl sender) b = absurd (not sender.0)
-one_cause network hs device entry t cause other cycle not (inr a) (inl sender) = absurd (not sender.0)
-one_cause network hs device entry t cause other cycle not (inr a) (inr b) =
-    let one : a.1.taken ≡ b.1.taken = same_some a.1.taken b.1.taken (sym a.1.last ∙ b.1.last) in
-    a.1.number ∙ ap (λ (h : Happening). h.note.number) one ∙ sym b.1.number
-  where
-    same_some : (x y : Happening) → Some x ≡ Some y → x ≡ y
-    same_some x y e = cc

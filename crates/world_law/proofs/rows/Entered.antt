@@ -1,13 +1,13 @@
 -- What a device found of a time-triggered frame that it took: a row of its virtual link enters the device, the cycle of its
 -- clock was one from 1 on, and the place in the cycle was not behind the row's window.
-use Rattle.std.proofs.Common.{◌≡◌, ℕ, suc, ◌+◌, ◌*◌, ◌/◌, ◌%◌, ◌≤◌, ◌<◌, ℤ, pos, negsuc, ◌≤ℤ◌, int_lt, Bool, true, false, not, ◌&&◌, ◌||◌, cond, List, [], ◌∷◌, length, find, Option, Some, None, nat_le, slice_get, inl, inr, refl, sym, ap, subst, ◌∙◌, arith}
+use Rattle.std.proofs.Common.{◌≡◌, ℕ, ◌+◌, ◌*◌, ◌/◌, ◌%◌, ◌≤◌, ◌<◌, ℤ, pos, negsuc, ◌≤ℤ◌, int_lt, Bool, true, false, not, ◌&&◌, ◌||◌, List, length, Option, Some, None, nat_le, slice_get, inl, inr, refl, sym, ap, subst, ◌∙◌, arith}
 use Rattle.std.specs.Int.{int_div_euclid, int_rem_euclid}
 use Rattle.std.specs.Option.{option_map_or}
 use Rattle.std.specs.Prelude.{◌==◌, Result, Ok, Err, option_map, option_and_then, if◌then◌else◌}
 use Rattle.std.proofs.Math.Nat.{div-add-mod, mod-lt}
-use Rattle.std.proofs.lemmas.Bool.{and_parts, cases_Bool, eq-eqb, eqb-true, leb-true, or_parts}
-use Rattle.std.proofs.lemmas.Int.{ints}
+use Rattle.std.proofs.lemmas.Bool.{and_parts, cases_Bool, eq-eqb, eqb-true, leb-true, not-false, or_parts}
 use Rattle.std.proofs.lemmas.Option.{slice_get_within}
+use Rattle.net_plan.proofs.SameIds.{one_link}
 use Rattle.net_plan.specs.Places.{link_at}
 use Rattle.net_plan.specs.declared.ids.DeviceId.{DeviceId}
 use Rattle.net_plan.specs.declared.ids.LinkId.{LinkId}
@@ -15,12 +15,13 @@ use Rattle.net_plan.specs.declared.ids.VlId.{VlId}
 use Rattle.net_plan.specs.declared.network.Network.{Network}
 use Rattle.net_plan.specs.declared.tables.Link.{Link}
 use Rattle.net_plan.specs.declared.tables.Row.{Row}
-use Rattle.net_plan.specs.declared.tables.VirtualLink.{VirtualLink}
 use Rattle.net_plan.specs.declared.tables.Way.TheVariants.{Up, Down}
 use Rattle.net_plan.specs.declared.tables.Way.{Way}
 use Rattle.pcf_codec.specs.Fields.{field}
 use Rattle.pcf_codec.specs.declared.refusal.PcfRefusal.{PcfRefusal}
 use Rattle.pcf_values.specs.declared.pcf.Pcf.{Pcf}
+use Rattle.run_law.proofs.control.Verdicts.{none_first}
+use Rattle.run_law.proofs.scenario.Ways.{one_way}
 use Rattle.run_law.specs.control.Arrivals.{control_arrival, frame_fault, frame_or_fault}
 use Rattle.run_law.specs.control.Wires.{Signal, control, timed}
 use Rattle.run_law.specs.declared.judgement.Reason.{Reason}
@@ -34,9 +35,12 @@ use Rattle.run_law.specs.scenario.Scenarios.{Scenario}
 use Rattle.run_law.specs.scenario.Ways.{is_way, is_way_of, receiver_of, way_to}
 use Rattle.run_law.specs.timed.Arrivals.{entry_arrival, entry_entering, entry_of, is_row_with, occurs_in, octets_fault, octets_or_fault, row_entering, row_fault, taken_or_fault, timed_arrival}
 use Rattle.run_law.specs.timed.Receptions.{ArrivesAs, arrival_of, last_taken}
+use Rattle.schedule_tables.proofs.Entries.{entry_by}
 use Rattle.schedule_tables.specs.Entries.{IsEntry, target_by, target_of}
 use Rattle.schedule_tables.specs.Windows.{window_end, window_of}
 use Rattle.schedule_tables.specs.declared.entry.Entry.{Entry}
+use Rattle.tte_lemmas.proofs.Integers.{not_less}
+use Rattle.tte_lemmas.proofs.Lists.{find_at}
 use Rattle.tte_units.specs.declared.units.Units.{Units}
 
 -- a row of the virtual link enters the device, whose clock stood in the cycle, and not behind the row's window
@@ -52,60 +56,19 @@ pub record IsTakenAt (network : Network) (device : DeviceId) (vl : VlId) (cycle 
 
 -- ---- the window
 
-first_fails : (b : Bool) (x : Bool × Reason) (o : Option (Bool × Reason)) → option_map (λ test. test.1) (cond b (Some x) o) ≡ None → (b ≡ false)
-    × (option_map (λ test. test.1) o ≡ None)
-first_fails true x o e = absurd cc
-first_fails false x o e = (refl, e)
-
-not_false : (x : Bool) → not x ≡ false → x ≡ true
-not_false true e = refl
-not_false false e = absurd cc
-
-not_less : (a b : ℤ) → int_lt a b ≡ false → b ≤ℤ a
-not_less a b h = grind (arith, ints)
-
 in_window : (network : Network) (at : Standpoint) (entry : Entry) (size : ℕ) (last : Option ℕ) → row_fault network at entry size last ≡ None
     → (1 ≤ cycle_at network (clock_of at)) × (offset_in_cycle network (clock_of at) ≤ℤ pos (window_end network entry))
 in_window network at entry size last e =
     let cycle = cycle_at network (clock_of at) in
     let place = offset_in_cycle network (clock_of at) in
-    let one = first_fails (not (size == entry.vl.length)) _ _ e in
-    let two = first_fails (not (occurs_in entry.vl cycle) || int_lt place (window_of network entry).from.0) _ _ one.1 in
-    let three = first_fails (int_lt (window_of network entry).to.0 place) _ _ two.1 in
-    let occurs = not_false (occurs_in entry.vl cycle) (or_parts (not (occurs_in entry.vl cycle)) (int_lt place (window_of network entry).from.0) two.0).0 in
+    let one = none_first (not (size == entry.vl.length)) _ _ e in
+    let two = none_first (not (occurs_in entry.vl cycle) || int_lt place (window_of network entry).from.0) _ _ one.1 in
+    let three = none_first (int_lt (window_of network entry).to.0 place) _ _ two.1 in
+    let occurs = not-false (occurs_in entry.vl cycle) (or_parts (not (occurs_in entry.vl cycle)) (int_lt place (window_of network entry).from.0) two.0).0 in
     let begun = and_parts (nat_le 1 cycle) (cycle % entry.vl.period == entry.vl.phase) occurs in
     (leb-true 1 cycle begun.0, not_less (window_of network entry).to.0 place three.0)
 
 -- ---- the row by which it came
-
-find_at : {X : Type 0} (p : X → Bool) (xs : List X) (x : X) → find p xs ≡ Some x → (i : ℕ) × (slice_get xs i ≡ Some x) × (p x ≡ true)
-find_at p [] x e = absurd cc
-find_at {X} p (y ∷ xs) x e =
-    elim (p y) as (λ b. p y ≡ b → cond b (Some y) (find p xs) ≡ Some x → (i : ℕ) × (slice_get (y ∷ xs) i ≡ Some x) × (p x ≡ true)) [
-      | true ↦ λ at is. (let same : y ≡ x = cc in (0, is, ap p (sym same) ∙ at))
-      | false ↦ λ at is. (let more = find_at p xs x is in (suc more.0, more.1, more.2))
-    ] refl e
-
-one_link : (a b : LinkId) → (a.0 == b.0) ≡ true → b ≡ a
-one_link a b e = ap (λ (n : ℕ). let x : LinkId = record { 0 = n } in x) (sym (eqb-true a.0 b.0 e))
-
-one_way : (a b : Way) → is_way a b ≡ true → b ≡ a
-one_way Up Up e = refl
-one_way Up Down e = absurd cc
-one_way Down Up e = absurd cc
-one_way Down Down e = refl
-
-entry_by : (o : Option VirtualLink) (p : Option Link) (row : Row) (entry : Entry)
-    → option_and_then (λ vl. option_map (λ link. record { row = row; vl = vl; link = link }) p) o ≡ Some entry → (o ≡ Some entry.vl) × (p ≡ Some entry.link)
-    × (row ≡ entry.row)
-entry_by None p row entry e = absurd cc
-entry_by (Some vl) None row entry e = absurd cc
-entry_by (Some vl) (Some link) row entry e =
-    let same : _ ≡ entry = some_same e in
-    (ap (λ (x : Entry). Some x.vl) same, ap (λ (x : Entry). Some x.link) same, ap (λ (x : Entry). x.row) same)
-  where
-    some_same : {x : Entry} → Some x ≡ Some entry → x ≡ entry
-    some_same e = cc
 
 -- the way on which a device receives by a link leads to it
 leads_to : (o : Option Link) (l : Link) (way : Way) (device : DeviceId) → o ≡ Some l → option_map (target_by way) o ≡ Some device

@@ -20,6 +20,7 @@ use Rattle.run_law.specs.scenario.Devices.{is_end}
 use Rattle.run_law.specs.scenario.Scenarios.{Scenario}
 use Rattle.run_law.specs.scenario.Ways.{is_cut, way_from}
 use Rattle.run_law.specs.timed.Dispatching.{Dispatches, HasAtHand}
+use Rattle.schedule_tables.proofs.Entries.{occur_together}
 use Rattle.schedule_tables.proofs.EntryLemmas.{one_entry}
 use Rattle.schedule_tables.specs.Entries.{IsEntry, source_by}
 use Rattle.schedule_tables.specs.Rules.{KeepsRules}
@@ -34,7 +35,6 @@ use Rattle.tte_units.specs.declared.speed.Speed.{Speed}
 use Rattle.world_law.proofs.frames.Masters.{ends_differ}
 use Rattle.world_law.proofs.rows.Apart.{precise, row_apart}
 use Rattle.world_law.proofs.rows.Dispatching.{IsLawful}
-use Rattle.world_law.proofs.rows.Periods.{occur_together}
 use Rattle.world_law.proofs.rows.Reached.{ShowsAt, cycles_apart, shows_at}
 use Rattle.world_law.specs.device.Ready.{IsSteady}
 use Rattle.world_law.specs.device.Recorded.{dispatch_body}

@@ -25,8 +25,9 @@ use Rattle.schedule_tables.specs.Rules.{KeepsRules}
 use Rattle.schedule_tables.specs.Windows.{window_end}
 use Rattle.schedule_tables.specs.declared.entry.Entry.{Entry}
 use Rattle.schedule_tables.specs.declared.rule.Rule.TheVariants.{Forwarding, WindowEnds}
+use Rattle.tte_lemmas.proofs.Integers.{whole as not_negative}
+use Rattle.tte_lemmas.proofs.Naturals.{same_heads}
 use Rattle.tte_units.specs.Amount.{amount}
-use Rattle.world_law.proofs.acts.Ready.{natural as not_negative}
 use Rattle.world_law.proofs.devices.Resting.{in_time_of}
 use Rattle.world_law.proofs.rows.Entered.{IsTakenAt, delivered_end, taken_at, value_in}
 use Rattle.world_law.proofs.runs.SourcesBack.{earlier_still}
@@ -137,17 +138,6 @@ cycles_apart a b size lt =
     let next : suc a * size ≡ a * size + size = omega arith in
     omega (arith, grown, next)
 
--- so a value between the ends of one is of that one
-pub same_cycle : (a b size place off : ℕ) → place < size → off < size → a * size + place ≡ b * size + off → a ≡ b
-same_cycle a b size place off p o e =
-    elim (cases_lt a b) [
-      | inl lt ↦ let apart = cycles_apart a b size lt in absurd (omega (arith, apart, e, p))
-      | inr ge ↦ elim (cases_lt b a) [
-        | inl gt ↦ let apart = cycles_apart b a size gt in absurd (omega (arith, apart, e, o))
-        | inr le ↦ omega (arith, ge, le)
-      ]
-    ]
-
 -- ---- a row that leaves a switch
 
 -- a row leaves the device, which is not the sender of its virtual link
@@ -190,7 +180,7 @@ none_at_value s hs device place cycle t entry range rules steady founded f r h l
     (arith, ints, shows.least, shown.shows) in
     let most : of_cycle * amount n.cycle + shown.place < cycle * amount n.cycle + amount entry.row.offset + amount n.precision = omega
     (arith, ints, shows.most, shown.shows) in
-    let same : of_cycle ≡ cycle = same_cycle of_cycle cycle (amount n.cycle) shown.place off shown.less (omega (arith, least, most, ends, sized.1)) (omega
+    let same : of_cycle ≡ cycle = same_heads of_cycle cycle (amount n.cycle) shown.place off shown.less (omega (arith, least, most, ends, sized.1)) (omega
     (arith, least)) in
     let low = below_value n device place of_cycle entry z range rules f it in
     let moved : z <ℤ pos (cycle * amount n.cycle + amount entry.row.offset) = subst (λ (c : ℕ). z <ℤ pos (c * amount n.cycle + amount entry.row.offset)) same

@@ -185,10 +185,3 @@ frames_bumped s ps b w device = frames_by_others s (ps ++ w ∷ map bump b) (ps 
 pub frames_unmoved : (s : Scenario) (ps b : List Happening) (w : Happening) (device : DeviceId) → IsNoTaking device w.note.body
     → ((h : Happening) → IsIn h (ps ++ b) → time_of h ≤ time_of w) → frames_taken s (ps ++ w ∷ map bump b) device ≡ frames_taken s (ps ++ b) device
 frames_unmoved s ps b w device none sooner = frames_bumped s ps b w device ∙ frames_put s ps b w device none sooner
-
--- one by which it takes one, put in behind all others of its takings
-pub frames_more : (s : Scenario) (ps b : List Happening) (w : Happening) (device : DeviceId) → ((h : Happening) → IsIn h b → IsNoTaking device h.note.body)
-    → ((h : Happening) → IsIn h (ps ++ b) → time_of h ≤ time_of w)
-    → frames_taken s (ps ++ w ∷ map bump b) device ≡ frames_taken s (ps ++ b) device
-    ++ taken_in device (local_before s (ps ++ b) device (time_of w)) w.note.body
-frames_more s ps b w device none sooner = frames_bumped s ps b w device ∙ frames_with s ps b w device none sooner

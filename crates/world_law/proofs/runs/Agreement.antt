@@ -1,5 +1,5 @@
 -- What is due at a time is so in each scenario that agrees up to then.
-use Rattle.std.proofs.Common.{◌≡◌, ℕ, zero, suc, ◌+◌, ◌-◌, ◌≤◌, ◌<◌, ℤ, pos, ◌+ℤ◌, ◌<ℤ◌, ◌≤ℤ◌, Bool, true, false, not, ◌&&◌, ◌||◌, ◌==◌, if◌then◌else◌, int_lt, int_le, List, [], ◌∷◌, Option, Some, None, filter, filter_map, drop, IfSome, inl, inr, refl, sym, ap, subst, ◌∙◌, arith}
+use Rattle.std.proofs.Common.{◌≡◌, ℕ, ◌+◌, ◌-◌, ◌≤◌, ◌<◌, ℤ, pos, ◌+ℤ◌, ◌<ℤ◌, ◌≤ℤ◌, Bool, true, false, not, ◌&&◌, ◌||◌, ◌==◌, if◌then◌else◌, int_lt, int_le, List, [], ◌∷◌, Option, Some, None, filter, filter_map, IfSome, inl, inr, refl, sym, ap, subst, ◌∙◌, arith}
 use Rattle.std.specs.Prelude.{nat_lt, nat_le}
 use Rattle.std.specs.List.{list_any, after_last, last_or}
 use Rattle.std.specs.Option.{option_map_or, unwrap_or}
@@ -12,6 +12,7 @@ use Rattle.net_plan.specs.declared.event.What.{What}
 use Rattle.net_plan.specs.declared.ids.DeviceId.{DeviceId}
 use Rattle.net_plan.specs.declared.network.Network.{Network}
 use Rattle.run_law.proofs.law.FirstPlaces.{in_filter}
+use Rattle.run_law.proofs.records.Order.{in_drop, same_kept}
 use Rattle.run_law.specs.control.Corrections.{ComesToCorrection, correction_value, has_cleared, hearing_by, heard_since, is_integration_cycle, next_cycle, recorded_cycle, standing_before}
 use Rattle.run_law.specs.device.LocalClocks.{Reaches, changed_at, changes_adjustment, local_at_change}
 use Rattle.run_law.specs.device.States.{adjustment_before, state_after, state_before}
@@ -26,7 +27,6 @@ use Rattle.sync_state.specs.declared.answers.Verdict.{Verdict}
 use Rattle.sync_state.specs.declared.state.State.TheVariants.{Integrating}
 use Rattle.sync_state.specs.declared.state.State.{State}
 use Rattle.tte_units.specs.Amount.{amount}
-use Rattle.world_law.proofs.lists.Lists.{filter_same}
 use Rattle.world_law.specs.source.Agreeing.{Agree, scenario}
 
 -- ---- the events
@@ -117,11 +117,6 @@ next_same n f g events more hs t u device a le =
     ap (λ (b : Bool). if b then recorded_cycle (earlier u hs) device + 1 else recorded_cycle (earlier u hs) device)
     (cleared_same n f g events more hs t u u device a le le)
 
-in_drop : {X : Type 0} (k : ℕ) (xs : List X) (x : X) → IsIn x (drop k xs) → IsIn x xs
-in_drop zero xs x i = i
-in_drop (suc k) [] x i = i
-in_drop (suc k) (y ∷ xs) x i = inr (in_drop k xs x i)
-
 pub heard_same : (n : Network) (f g : DeviceId → ℕ → ℕ) (events more : List Event) (hs : List Happening) (t u : ℕ) (device : DeviceId)
     → Agree n f g events more t → u ≤ t → ((h : Happening) → IsIn h hs → time_of h ≤ t)
     → heard_since (scenario n f events) hs device u ≡ heard_since (scenario n g more) hs device u
@@ -129,7 +124,7 @@ heard_same n f g events more hs t u device a le all =
     let since = after_last (λ h. nat_lt (time_of h) u && changes_adjustment device h.note.body) hs in
     let flag = cleared_same n f g events more hs t u u device a le le in
     ap (filter_map (λ h. hearing_by n device h h.note.body))
-    (filter_same (λ h. not (has_cleared (scenario n f events) hs device u u) || has_cleared (scenario n f events) hs device u (time_of h))
+    (same_kept (λ h. not (has_cleared (scenario n f events) hs device u u) || has_cleared (scenario n f events) hs device u (time_of h))
     (λ h. not (has_cleared (scenario n g more) hs device u u) || has_cleared (scenario n g more) hs device u (time_of h)) since
     (λ h i.
     ap (λ (b : Bool). not b || has_cleared (scenario n f events) hs device u (time_of h)) flag

@@ -9,6 +9,7 @@ use Rattle.net_plan.specs.declared.event.What.{What}
 use Rattle.net_plan.specs.declared.ids.DeviceId.{DeviceId}
 use Rattle.net_plan.specs.declared.network.Network.{Network}
 use Rattle.run_law.proofs.law.FirstPlaces.{at_length, in_front}
+use Rattle.run_law.proofs.records.Order.{time_before}
 use Rattle.run_law.proofs.runs.Grow.{grow}
 use Rattle.run_law.proofs.runs.NetworkRuns.{one_more, same_notes}
 use Rattle.run_law.proofs.runs.Places.{in_right, never_self, parted}
@@ -21,9 +22,9 @@ use Rattle.run_law.specs.scenario.Scenarios.{Scenario}
 use Rattle.run_law.specs.declared.note.Note.{Note}
 use Rattle.run_law.specs.declared.note.NoteBody.TheVariants as notes
 use Rattle.run_law.specs.declared.note.NoteBody.{NoteBody}
+use Rattle.tte_lemmas.proofs.Lists.{pushed}
 use Rattle.tte_units.specs.Amount.{amount}
 use Rattle.tte_units.specs.declared.units.Units.{Units}
-use Rattle.world_law.proofs.runs.Firsts.{get_more}
 use Rattle.world_law.proofs.runs.SameCauses.{AreUpTo, IsOwn, caused_same}
 use Rattle.world_law.specs.source.Agreeing.{Agree, scenario}
 use Rattle.world_law.specs.source.Applying.{IsEventBody, MayBefall, RunGoesOnByEvent, note_of_event, place_of_event}
@@ -31,14 +32,9 @@ use Rattle.world_law.specs.source.Applying.{IsEventBody, MayBefall, RunGoesOnByE
 pub agree_back : (n : Network) (f g : DeviceId → ℕ → ℕ) (events more : List Event) (t : ℕ) → Agree n f g events more t → Agree n g f more events t
 agree_back n f g events more t a = record { reads = λ device x le. sym (a.reads device x le); befell = λ u le. sym (a.befell u le) }
 
--- what is before a place is of no later time
-no_later : (a b : ℕ) (ps qs : List ℕ) → IsBefore (a ∷ ps) (b ∷ qs) → a ≤ b
-no_later a b ps qs (inl lt) = omega arith
-no_later a b ps qs (inr h) = omega (arith, h.0)
-
 pub up_to_it : (ps : List Happening) (y : Happening) → AllBefore place_of ps (place_of y) → AreUpTo (time_of y) ps
 up_to_it ps y before h i =
-    no_later (time_of h) (time_of y) (rank h.note.body ∷ key (members_in h) h.note.body) (rank y.note.body ∷ key (members_in y) y.note.body) (before h i)
+    time_before (time_of h) (time_of y) (rank h.note.body ∷ key (members_in h) h.note.body) (rank y.note.body ∷ key (members_in y) y.note.body) (before h i)
 
 -- the kinds of record: of an event, of a clock, or any other
 pub kinds : (body : NoteBody) → IsEventBody body ⊎ ((rank body ≡ 14) ⊎ (IsOwn body × (2 ≤ rank body)))
@@ -163,7 +159,7 @@ due_back n f g events event mark ns may ps y before due here =
           let found = event_cause (scenario n g (events ++ event ∷ [])) ps y.note.time y.note.body it due.cause in
           let r = found.3 in
           let at = event_place y found.0 found.1 found.2 in
-          elim (get_more events event r.event r.before r.is) [
+          elim (pushed events event r.event r.before r.is) [
             | inl old ↦
                 let was : IsEventRecord events y.note.time found.0 found.1 = record {
                   event = r.event;

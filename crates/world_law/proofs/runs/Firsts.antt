@@ -1,5 +1,5 @@
 -- Where no source and nothing settled is before a place, nothing that is due is.
-use Rattle.std.proofs.Common.{◌≡◌, ◌⊎◌, ℕ, zero, suc, ◌+◌, List, [], ◌∷◌, ◌++◌, length, Some, slice_get, inl, inr, refl, sym, ap, subst, arith}
+use Rattle.std.proofs.Common.{◌≡◌, ◌⊎◌, ℕ, zero, suc, ◌+◌, List, [], ◌∷◌, ◌++◌, length, Some, inl, inr, sym, subst, arith}
 use Rattle.net_plan.specs.declared.ids.DeviceId.{DeviceId}
 use Rattle.net_plan.specs.declared.ids.LinkId.{LinkId}
 use Rattle.run_law.proofs.law.FirstPlaces.{in_front}
@@ -10,6 +10,7 @@ use Rattle.run_law.specs.records.Order.{IsBefore}
 use Rattle.run_law.specs.scenario.Scenarios.{Scenario}
 use Rattle.run_law.specs.control.Wires.{Arrives, Signal}
 use Rattle.run_law.specs.scenario.Ways.{hold_at, way_from}
+use Rattle.tte_lemmas.proofs.Lists.{pushed}
 use Rattle.world_law.specs.source.Sources.{IsArriving, IsDeparting}
 
 pub source_before : (w q p : List ℕ) → (w ≡ q) ⊎ IsBefore w q → IsBefore q p → IsBefore w p
@@ -18,17 +19,11 @@ source_before w q p (inr lt) b = chain w q p lt b
 
 -- ---- one more record
 
-pub get_more : {X : Type 0} (xs : List X) (x y : X) (i : ℕ) → slice_get (xs ++ x ∷ []) i ≡ Some y → (slice_get xs i ≡ Some y) ⊎ ((i ≡ length xs) × (x ≡ y))
-get_more [] x y zero e = inr (refl, cc)
-get_more [] x y (suc i) e = absurd cc
-get_more (z ∷ xs) x y zero e = inl e
-get_more (z ∷ xs) x y (suc i) e = elim (get_more xs x y i e) [ inl old ↦ inl old | inr new ↦ inr (ap suc new.0, new.1) ]
-
 -- the record of a number is an old one, or the new one has the next number
 pub numbered_more : (hs : List Happening) (x g : Happening) (cause : ℕ) → numbered (hs ++ x ∷ []) cause ≡ Some g → (numbered hs cause ≡ Some g)
     ⊎ ((cause ≡ length hs + 1) × (x ≡ g))
 numbered_more hs x g zero e = absurd cc
-numbered_more hs x g (suc before) e = elim (get_more hs x g before e) [ inl old ↦ inl old | inr new ↦ inr (omega (arith, new.0), new.1) ]
+numbered_more hs x g (suc before) e = elim (pushed hs x g before e) [ inl old ↦ inl old | inr new ↦ inr (omega (arith, new.0), new.1) ]
 
 pub numbered_still : (hs : List Happening) (x g : Happening) (cause : ℕ) → numbered hs cause ≡ Some g → numbered (hs ++ x ∷ []) cause ≡ Some g
 numbered_still hs x g zero e = absurd cc

@@ -1,10 +1,10 @@
 -- Where nothing that a world has under way is before a place, no source that is not worked off is, but for acts.
-use Rattle.std.proofs.Common.{◌≡◌, ℕ, ◌+◌, ◌≤◌, ◌<◌, ℤ, pos, Bool, true, false, ◌&&◌, ◌||◌, ◌==◌, List, [], ◌∷◌, inl, inr, refl, sym, ap, subst, ◌∙◌, arith}
+use Rattle.std.proofs.Common.{◌≡◌, ℕ, ◌+◌, ◌≤◌, ◌<◌, pos, Bool, true, false, ◌&&◌, ◌||◌, ◌==◌, List, [], ◌∷◌, inl, inr, refl, sym, ap, subst, ◌∙◌, arith}
 use Rattle.std.specs.Prelude.{unsigned_abs}
-use Rattle.std.proofs.lemmas.Int.{ints}
 use Rattle.std.proofs.lemmas.Bool.{cases_Bool, cases_lt, eqb-true, false_from_ne_true}
 use Rattle.std.proofs.lemmas.Option.{slice_get_within}
 use Rattle.std.specs.List.{list_any}
+use Rattle.drift_clock.proofs.Reaches.{one_reach}
 use Rattle.drift_clock.specs.Reach.{IsReach}
 use Rattle.net_plan.specs.declared.ids.DeviceId.{DeviceId}
 use Rattle.net_plan.specs.declared.ids.LinkId.{LinkId}
@@ -30,19 +30,6 @@ use Rattle.world_law.specs.device.Own.{moves}
 use Rattle.world_law.specs.source.Sources.{IsRipening, IsActing, IsSource}
 use Rattle.world_law.specs.world.Moves.{NothingBefore}
 use Rattle.world_law.specs.world.World.{IsWaitingFor, Stands, Waiting, World, ripe_place, act_place, clock_place, HaveBefallen, IsAtRest}
-
--- a reading comes to a value but once
-one_reach : (reading : ℕ → ℕ) (from v : ℤ) (u t : ℕ) → IsReach reading from v (pos u) → IsReach reading from v (pos t) → u ≡ t
-one_reach reading from v u t a b =
-    let from_u = a.from_on in
-    let from_t = b.from_on in
-    elim (cases_lt u t) [
-      | inl lt ↦ let less = b.not_before u from_u (omega (arith, ints, lt)) in let reached = a.reached in absurd (omega (arith, ints, less, reached))
-      | inr ge ↦ elim (cases_lt t u) [
-        | inl lt ↦ let less = a.not_before t from_t (omega (arith, ints, lt)) in let reached = b.reached in absurd (omega (arith, ints, less, reached))
-        | inr le ↦ omega (arith, ge, le)
-      ]
-    ]
 
 -- no act that is not worked off is before the place
 abbrev pub NoActBefore : Scenario → List Happening → List ℕ → List ℕ → Type 0

@@ -1,5 +1,5 @@
 -- What causes a record at a time causes it in each scenario that agrees up to then.
-use Rattle.std.proofs.Common.{◌≡◌, ℕ, zero, suc, ◌+◌, ◌-◌, ◌≤◌, pos, Bool, false, not, ◌&&◌, if◌then◌else◌, List, Option, Some, None, inl, inr, refl, sym, ap, subst, ◌∙◌}
+use Rattle.std.proofs.Common.{◌≡◌, ℕ, ◌+◌, ◌-◌, ◌≤◌, pos, Bool, false, not, ◌&&◌, if◌then◌else◌, List, Option, Some, None, inl, inr, refl, sym, ap, subst, ◌∙◌}
 use Rattle.std.specs.Prelude.{nat_lt}
 use Rattle.compression.specs.declared.compressed.Compressed.{Compressed}
 use Rattle.net_plan.specs.declared.event.Event.{Event}
@@ -11,7 +11,7 @@ use Rattle.net_plan.specs.declared.network.Network.{Network}
 use Rattle.net_plan.specs.declared.tables.Way.TheVariants.{Up}
 use Rattle.net_plan.specs.declared.tables.Way.{Way}
 use Rattle.pcf_values.specs.declared.pcf.Pcf.{Pcf}
-use Rattle.run_law.proofs.law.FirstPlaces.{in_at}
+use Rattle.run_law.proofs.records.Happenings.{numbered_in}
 use Rattle.run_law.specs.control.Collections.{points_of, observation_window}
 use Rattle.run_law.specs.control.Arrivals.{control_arrival}
 use Rattle.run_law.specs.scenario.Devices.{plan_of}
@@ -52,12 +52,8 @@ use Rattle.world_law.specs.source.Agreeing.{Agree, scenario}
 abbrev pub AreUpTo : ℕ → List Happening → Type 0
 AreUpTo t hs = (h : Happening) → IsIn h hs → time_of h ≤ t
 
-in_numbered : (hs : List Happening) (number : ℕ) (h : Happening) → numbered hs number ≡ Some h → IsIn h hs
-in_numbered hs zero h e = absurd cc
-in_numbered hs (suc before) h e = in_at hs before h e
-
 sooner : (t : ℕ) (hs : List Happening) (number : ℕ) (h : Happening) → AreUpTo t hs → numbered hs number ≡ Some h → time_of h ≤ t
-sooner t hs number h all there = all h (in_numbered hs number h there)
+sooner t hs number h all there = all h (numbered_in hs number h there)
 
 -- ---- ways
 

@@ -11,6 +11,7 @@ use Rattle.drift_clock.specs.Reach.{IsReach}
 use Rattle.net_plan.specs.declared.ids.DeviceId.{DeviceId}
 use Rattle.net_plan.specs.declared.ids.LinkId.{LinkId}
 use Rattle.net_plan.specs.declared.network.Network.{Network}
+use Rattle.run_law.proofs.silent.Due.{no_cluster}
 use Rattle.run_law.specs.control.Collections.{ends_stretch, point_by, points_of, observation_window}
 use Rattle.run_law.specs.control.Corrections.{integration_cycle}
 use Rattle.run_law.specs.control.Emissions.{Emits}
@@ -29,7 +30,6 @@ use Rattle.run_law.specs.scenario.Scenarios.{Scenario, is_turned_on_at}
 use Rattle.run_law.specs.timed.Dispatching.{Dispatches, IsUp, is_accepted}
 use Rattle.sync_state.specs.Standing.{Standing, next_point}
 use Rattle.sync_state.specs.declared.state.State.TheVariants.{Integrating, Synchronised}
-use Rattle.world_law.proofs.acts.Acted.{no_cluster}
 use Rattle.world_law.proofs.devices.OwnRecords.{earlier_no}
 use Rattle.world_law.proofs.lists.Lists.{behind_no, behind_yes, map_none}
 use Rattle.world_law.specs.device.Told.{change_in, local_in, next_in}
@@ -82,7 +82,7 @@ gives_rank network other device link g = absurd g
 
 -- ---- what acts
 
-of_high_rank : (device : DeviceId) (z : Happening) (body : NoteBody) → 4 ≤ rank body → point_by device z body ≡ None
+pub of_high_rank : (device : DeviceId) (z : Happening) (body : NoteBody) → 4 ≤ rank body → point_by device z body ≡ None
 of_high_rank device z (notes.Permanent other link cause point verdict) high = absurd (omega (arith, high))
 of_high_rank device z other high = refl
 

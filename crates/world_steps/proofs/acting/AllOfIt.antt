@@ -1,7 +1,6 @@
 -- All that is due from the acts of a device is among the records to come, once it has nothing more to do at the instant.
-use Rattle.std.proofs.Common.{◌≡◌, ◌⊎◌, ℕ, ◌≤◌, ℤ, pos, ◌<ℤ◌, ◌≤ℤ◌, Bool, if◌then◌else◌, List, [], ◌∷◌, ◌++◌, option_to_list, Option, None, inl, inr, refl, sym, ap, subst, ◌∙◌, arith}
+use Rattle.std.proofs.Common.{◌≡◌, ◌⊎◌, ℕ, ◌≤◌, pos, ◌<ℤ◌, ◌≤ℤ◌, Bool, if◌then◌else◌, List, [], ◌∷◌, ◌++◌, option_to_list, Option, None, inl, inr, refl, sym, ap, subst, ◌∙◌, arith}
 use Rattle.std.proofs.lemmas.Bool.{cases_lt}
-use Rattle.std.proofs.lemmas.Int.{ints}
 use Rattle.std.proofs.lemmas.List.Elements.{filter_map-append}
 use Rattle.compression.specs.declared.compressed.Compressed.{Compressed}
 use Rattle.membership.proofs.OneSummary.{one_summary}
@@ -29,22 +28,21 @@ use Rattle.sync_state.proofs.LawLemmas.{one_verdict}
 use Rattle.sync_state.specs.Verdicts.{HasVerdict}
 use Rattle.sync_state.specs.declared.answers.Verdict.TheVariants.{AsyncClique, Cleared, Corrected, SyncClique}
 use Rattle.sync_state.specs.declared.answers.Verdict.{Verdict}
+use Rattle.tte_lemmas.proofs.Integers.{never_both}
 use Rattle.world_steps.proofs.acting.Complete.{IsActCause, act_cause, corrects_or, emitted_or, found_dispatched, found_emitted, found_sent, sent_or}
 use Rattle.world_steps.proofs.acting.Emitting.{none_heard}
-use Rattle.world_steps.proofs.acting.GoesOn.{IsPutAs, body_plain, one_of, put_now, rank_plain, shown_still, time_plain}
+use Rattle.world_steps.proofs.acting.GoesOn.{IsPutAs, body_plain, one_of, put_now, shown_still, time_plain}
 use Rattle.world_steps.proofs.acting.Over.{IsIdleNow}
 use Rattle.world_steps.proofs.acting.Stays.{heard_by_these, heard_more, heard_put}
 use Rattle.world_steps.proofs.acting.Work.{IsAtWork, comes}
 use Rattle.world_law.proofs.acts.NoActs.{points_same}
+use Rattle.world_law.proofs.acts.Recorded.{rank_plain}
 use Rattle.world_law.proofs.devices.Plains.{heard_plain, plains_parts}
 use Rattle.world_law.proofs.devices.TurnedOn.{quiet_rest}
 use Rattle.world_law.proofs.putting.Moving.{IsAllOfIt}
 use Rattle.world_law.specs.device.Plain.{plain, plains}
 use Rattle.world_law.specs.device.Recorded.{AreRecorded, HasCleared, IsShown, dispatch_body}
 use Rattle.world_law.specs.world.World.{act_place}
-
-never_both : (a b : ℤ) → a <ℤ b → b ≤ℤ a → ⊥
-never_both a b lt le = omega (arith, ints, lt, le)
 
 -- no row of it is dispatched at the instant
 abbrev pub NoneDispatched : Scenario → List Happening → ℕ → DeviceId → Type 0

@@ -6,10 +6,11 @@ use Rattle.std.specs.Option.{option_map_or}
 use Rattle.std.proofs.lemmas.Bool.{and_from, and_right, cases_Bool, cases_lt, eq-eqb}
 use Rattle.std.proofs.lemmas.Int.{ints}
 use Rattle.std.proofs.lemmas.List.Elements.{Contains-push_cases}
-use Rattle.compression.proofs.Held.{int_le-false, int_le-true, int_lt-true}
+use Rattle.compression.proofs.Held.{int_le-false}
 use Rattle.compression.specs.declared.compressed.Compressed.{Compressed}
 use Rattle.membership.specs.Summary.{Summary}
 use Rattle.net_plan.specs.declared.ids.DeviceId.{DeviceId}
+use Rattle.run_law.proofs.law.FirstPlaces.{none_kept}
 use Rattle.run_law.proofs.runs.Places.{in_left}
 use Rattle.run_law.specs.control.Corrections.{correction_value, has_cleared, hearing_by, integration_cycle, is_integration_cycle, next_cycle, recorded_cycle}
 use Rattle.run_law.specs.declared.steps.Moment.{Moment}
@@ -24,9 +25,10 @@ use Rattle.run_law.specs.scenario.Scenarios.{Scenario, is_broken, is_turned_on_a
 use Rattle.sync_state.specs.Standing.{IsAtIntegration}
 use Rattle.sync_state.specs.declared.answers.Verdict.TheVariants.{Cleared}
 use Rattle.sync_state.specs.declared.state.State.TheVariants.{Joining, Synchronised}
+use Rattle.tte_lemmas.proofs.Integers.{int_le-from, int_lt-from}
 use Rattle.tte_units.specs.Amount.{amount}
 use Rattle.tte_units.specs.declared.units.Units.{Units}
-use Rattle.world_steps.proofs.acting.Correcting.{base_then, filter_none, still_now}
+use Rattle.world_steps.proofs.acting.Correcting.{base_then, still_now}
 use Rattle.world_steps.proofs.acting.Over.{IsOver}
 use Rattle.world_steps.proofs.acting.Work.{IsAtWork}
 use Rattle.world_law.proofs.acts.Acted.{next_turn, waiting_alike}
@@ -108,8 +110,8 @@ cleared_over s hs zs now device node cycle moment heard w off later same falls h
     (back_there (correction_value s.network cycle) adjustment (s.reading device now)
     (subst (λ (a : Units). (correction_value s.network cycle -ℤ a.0) ≤ℤ pos (s.reading device now)) w.left.counted.adjustment due)) in
     let here : now + 1 - 1 ≡ now = omega arith in
-    let came : has_cleared s js device now (now + 1) ≡ true = and_from _ _ c.joining (and_from _ _ (int_lt-true _ _ ahead)
-    (ap (λ (n : ℕ). int_le v (pos (s.reading device n) +ℤ adjustment)) here ∙ int_le-true _ _ reached)) in
+    let came : has_cleared s js device now (now + 1) ≡ true = and_from _ _ c.joining (and_from _ _ (int_lt-from _ _ ahead)
+    (ap (λ (n : ℕ). int_le v (pos (s.reading device n) +ℤ adjustment)) here ∙ int_le-from _ _ reached)) in
     let cleared : has_cleared s js device (now + 1) (now + 1) ≡ true = cleared_still s js device now (now + 1) (now + 1) le still ∙ came in
     let below : (x : ℕ) → (x < now) ⊎ (x ≤ changed_at js device now) → (pos (s.reading device x) +ℤ adjustment) <ℤ v = λ x early.
     elim (cases_lt x (changed_at js device now)) [
@@ -133,7 +135,7 @@ cleared_over s hs zs now device node cycle moment heard w off later same falls h
     let f = λ (h : Happening). hearing_by s.network device h h.note.body in
     let p = λ (h : Happening). nat_lt (time_of h) (now + 1) && changes_adjustment device h.note.body in
     let k = λ (h : Happening). not (has_cleared s js device (now + 1) (now + 1)) || has_cleared s js device (now + 1) (time_of h) in
-    let gone : filter k (after_last p js) ≡ [] = filter_none k (after_last p js) (λ h i.
+    let gone : filter k (after_last p js) ≡ [] = none_kept k (after_last p js) (λ h i.
     ap (λ (b : Bool). not b || has_cleared s js device (now + 1) (time_of h)) cleared
     ∙ cleared_still s js device now (now + 1) (time_of h) le still ∙ not_then (time_of h) (w.past h (in_behind p js h i))) in
     let next : next_cycle s js device (now + 1) ≡ node.standing.number + 1 =

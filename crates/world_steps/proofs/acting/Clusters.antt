@@ -1,44 +1,23 @@
 -- The clusters of a list of points are one list, and each opens behind those before it.
-use Rattle.std.proofs.Common.{zero, suc, negsuc, unsigned_abs, All, get_or, nat_le, ◌≡◌, ℕ, ◌<◌, ℤ, pos, ◌+ℤ◌, ◌*ℤ◌, ◌<ℤ◌, ◌≤ℤ◌, int_lt, Bool, true, false, if◌then◌else◌, List, [], ◌∷◌, length, Contains, inl, inr, refl, sym, ap, subst, ◌∙◌, arith}
+use Rattle.std.proofs.Common.{nat_le, ◌≡◌, ℤ, pos, ◌+ℤ◌, ◌*ℤ◌, ◌<ℤ◌, ◌≤ℤ◌, int_lt, Bool, true, false, if◌then◌else◌, List, [], ◌∷◌, length, inl, inr, refl, sym, ap, subst, ◌∙◌, arith}
 use Rattle.std.proofs.lemmas.Bool.{both_ways, cases_Bool}
 use Rattle.std.proofs.lemmas.Int.{ints}
-use Rattle.std.proofs.lemmas.List.Elements.{All-contains}
 use Rattle.compression.proofs.Held.{int_lt-false}
+use Rattle.compression.proofs.Standing.{AreClusters-unique}
 use Rattle.compression.specs.Clusters.{AreClusters, Cluster, Point, beyond, end_of, firsts, of_cycle_within}
 use Rattle.compression.specs.Emission.{compressed}
 use Rattle.compression.specs.declared.compressed.Compressed.{Compressed}
 use Rattle.net_plan.specs.declared.network.Network.{Network}
+use Rattle.run_law.proofs.records.Order.{contained}
 use Rattle.run_law.specs.control.Collections.{observation_window}
 use Rattle.run_law.specs.machines.Nodes.{Node}
 use Rattle.run_law.specs.records.Order.{IsIn}
+use Rattle.tte_lemmas.proofs.Integers.{same_number}
 use Rattle.tte_units.specs.Amount.{amount}
 use Rattle.world_law.proofs.lists.Orders.{cases_int}
 use Rattle.world_law.specs.device.Recorded.{IsFrameOf}
 
-pub one_clusters : (ow : ℤ) (ps : List Point) (cs ds : List Cluster) → AreClusters ow ps cs → AreClusters ow ps ds → cs ≡ ds
-one_clusters ow [] [] [] a b = refl
-one_clusters ow [] (c ∷ cs) ds a b = absurd a
-one_clusters ow [] [] (d ∷ ds) a b = absurd b
-one_clusters ow (o ∷ ps) [] ds a b = absurd a
-one_clusters ow (o ∷ ps) (c ∷ cs) [] a b = absurd b
-one_clusters ow (o ∷ ps) (c ∷ cs) (d ∷ ds) a b =
-    let same : c ≡ d = a.0 ∙ sym b.0 in
-    ap (λ (x : Cluster). x ∷ cs) same
-    ∙ ap (λ (l : List Cluster). d ∷ l)
-    (one_clusters ow (beyond c.end ps) cs ds a.1 (subst (λ (x : Cluster). AreClusters ow (beyond x.end ps) ds) (sym same) b.1))
-
 -- ---- each opens behind those before it
-
-contains_in : {X : Type 0} (xs : List X) (x : X) → Contains xs x → IsIn x xs
-contains_in {X} xs x there = All-contains (λ y. IsIn y xs) xs x (all_in xs (λ y i. i)) there
-  where
-    got : (ys : List X) (k : ℕ) (d : X) → k < length ys → IsIn (get_or ys k d) ys
-    got [] k d lt = absurd (omega (arith, lt))
-    got (y ∷ ys) zero d lt = inl refl
-    got (y ∷ ys) (suc k) d lt = inr (got ys k d (omega (arith, lt)))
-
-    all_in : (ys : List X) → ((y : X) → IsIn y ys → IsIn y xs) → All (λ y. IsIn y xs) ys
-    all_in ys into = λ k d lt. into (get_or ys k d) (got ys k d lt)
 
 end_behind : (ow : ℤ) (o : Point) (ps : List Point) → pos 0 ≤ℤ ow → o.reading ≤ℤ end_of ow o ps
 end_behind ow o ps some = from (nat_le 2 (length (firsts (of_cycle_within o.cycle o.reading (o.reading +ℤ ow) ps))))
@@ -98,25 +77,20 @@ one_opens ow (o ∷ ps) (x ∷ cs) some are c d (inr i) (inl b) e =
     let le = end_behind ow o (o ∷ ps) some in
     absurd (omega (arith, ints, late, opens, ends, le, e))
 
-same_amount : (a b : ℤ) → pos 0 ≤ℤ a → pos 0 ≤ℤ b → unsigned_abs a ≡ unsigned_abs b → a ≡ b
-same_amount (pos m) (pos n) x y e = ap pos e
-same_amount (negsuc m) b x y e = absurd (omega (arith, ints, x))
-same_amount (pos m) (negsuc n) x y e = absurd (omega (arith, ints, y))
-
 -- two frames of collections of a device that open at once are one, where no point is before 0
 pub one_frame : (network : Network) (node : Node) (c d : Compressed) → ((p : Point) → IsIn p node.points → pos 0 ≤ℤ p.reading) → IsFrameOf network node c
     → IsFrameOf network node d → amount c.opened ≡ amount d.opened → c ≡ d
 one_frame network node c d from_zero f g same =
     let ow = observation_window network in
-    let lists = one_clusters ow node.points g.clusters f.clusters g.are f.are in
-    let i = contains_in f.clusters f.cluster f.there in
-    let j = subst (λ (l : List Cluster). IsIn g.cluster l) lists (contains_in g.clusters g.cluster g.there) in
+    let lists = AreClusters-unique ow node.points g.clusters f.clusters g.are f.are in
+    let i = contained f.clusters f.cluster f.there in
+    let j = subst (λ (l : List Cluster). IsIn g.cluster l) lists (contained g.clusters g.cluster g.there) in
     let p = opened_of ow node.points f.clusters f.are f.cluster i in
     let q = opened_of ow node.points f.clusters f.are g.cluster j in
     let a : c.opened.0 ≡ f.cluster.opened = ap (λ (x : Compressed). x.opened.0) f.is in
     let b : d.opened.0 ≡ g.cluster.opened = ap (λ (x : Compressed). x.opened.0) g.is in
     let zero_a : pos 0 ≤ℤ c.opened.0 = subst (λ (z : ℤ). pos 0 ≤ℤ z) (p.2 ∙ sym a) (from_zero p.0 p.1) in
     let zero_b : pos 0 ≤ℤ d.opened.0 = subst (λ (z : ℤ). pos 0 ≤ℤ z) (q.2 ∙ sym b) (from_zero q.0 q.1) in
-    let opens : f.cluster.opened ≡ g.cluster.opened = sym a ∙ same_amount c.opened.0 d.opened.0 zero_a zero_b same ∙ b in
+    let opens : f.cluster.opened ≡ g.cluster.opened = sym a ∙ same_number c.opened.0 d.opened.0 zero_a zero_b same ∙ b in
     let one = one_opens ow node.points f.clusters (omega (arith, ints)) f.are f.cluster g.cluster i j opens in
     f.is ∙ ap (λ (x : Cluster). compressed ow (pos (amount network.calc)) x) one ∙ sym g.is

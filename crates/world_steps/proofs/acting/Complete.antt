@@ -5,6 +5,7 @@ use Rattle.std.proofs.lemmas.Int.{ints}
 use Rattle.std.proofs.lemmas.List.Elements.{Contains-append_left, Contains-push, Contains-push_cases}
 use Rattle.compression.specs.Clusters.{AreClusters, Point}
 use Rattle.compression.specs.declared.compressed.Compressed.{Compressed}
+use Rattle.net_plan.proofs.SameIds.{same_device}
 use Rattle.net_plan.specs.declared.ids.DeviceId.{DeviceId}
 use Rattle.net_plan.specs.declared.ids.LinkId.{LinkId}
 use Rattle.net_plan.specs.declared.ids.VlId.{VlId}
@@ -28,9 +29,9 @@ use Rattle.run_law.specs.timed.Dispatching.{Dispatches, Sends}
 use Rattle.sync_state.specs.Standing.{next_point}
 use Rattle.sync_state.specs.declared.answers.Verdict.TheVariants.{AsyncClique, SyncClique}
 use Rattle.sync_state.specs.declared.state.State.TheVariants.{Integrating}
+use Rattle.tte_lemmas.proofs.Lists.{none_in}
 use Rattle.tte_units.specs.Amount.{amount}
 use Rattle.tte_units.specs.declared.units.Units.{Units}
-use Rattle.world_steps.proofs.acting.Correcting.{none_in_it}
 use Rattle.world_steps.proofs.acting.Starts.{plain_compressed, plain_sent}
 use Rattle.world_steps.proofs.acting.Work.{IsAtWork, all_earlier, same_standing}
 use Rattle.world_law.proofs.acts.Acting.{point_number}
@@ -46,7 +47,7 @@ use Rattle.world_law.specs.world.World.{act_place}
 
 pub contains_or : {X : Type 0} (x : X) → ((y : X) → (y ≡ x) ⊎ (y ≡ x → ⊥)) → (xs : List X) → Contains xs x ⊎ (Contains xs x → ⊥)
 contains_or {X} x same xs =
-    by_last (λ (l : List X). Contains l x ⊎ (Contains l x → ⊥)) (inr (λ c. none_in_it x c)) (λ l y known. elim (same y) [
+    by_last (λ (l : List X). Contains l x ⊎ (Contains l x → ⊥)) (inr (λ c. none_in x c)) (λ l y known. elim (same y) [
       | inl e ↦ inl (subst (λ (z : X). Contains (l ++ y ∷ []) z) e (Contains-push l y))
       | inr other ↦ elim known [
         | inl c ↦ inl (Contains-append_left l (y ∷ []) x c)
@@ -103,9 +104,6 @@ IsActCause s js now device (kinds.Lost other link cause) =
 IsActCause s js now device (kinds.TtSent other link cause vl cycle) =
     (other ≡ device) × Dispatches s js device now link cause vl cycle × (is_cut s link (way_from s.network device link) now ≡ false)
 IsActCause s js now device other = ⊥
-
-same_device : (d e : DeviceId) → d.0 ≡ e.0 → d ≡ e
-same_device d e same = ap (λ (n : ℕ). let x : DeviceId = record { 0 = n } in x) same
 
 here_at : (t now d e : ℕ) → t ∷ 4 ∷ d ∷ [] ≡ now ∷ 4 ∷ e ∷ [] → (t ≡ now) × (d ≡ e)
 here_at t now d e same = (cc, cc)

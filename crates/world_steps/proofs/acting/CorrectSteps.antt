@@ -25,10 +25,11 @@ use Rattle.sync_state.specs.declared.answers.Verdict.TheVariants.{AsyncClique, C
 use Rattle.sync_state.specs.declared.answers.Verdict.{Verdict}
 use Rattle.sync_state.specs.declared.state.State.TheVariants.{Integrating, Joining, Synchronised}
 use Rattle.sync_state.specs.declared.state.State.{State}
+use Rattle.tte_lemmas.proofs.Lists.{none_in}
 use Rattle.tte_units.specs.declared.units.Units.{Units}
 use Rattle.world_steps.proofs.acting.AllOfIt.{HasOutcome, IsAtPoint, all_point, grown_none, grown_one}
 use Rattle.world_steps.proofs.acting.Clearing.{cleared_more, cleared_over}
-use Rattle.world_steps.proofs.acting.Correcting.{clique_over, corrected_over, none_in_it}
+use Rattle.world_steps.proofs.acting.Correcting.{clique_over, corrected_over}
 use Rattle.world_steps.proofs.acting.Kept.{IsBare, bare_act, kept_over, may_act_now, ready_after}
 use Rattle.world_steps.proofs.acting.Moves.{IsCorrectedSo}
 use Rattle.world_steps.proofs.acting.Over.{IsOver}
@@ -316,7 +317,7 @@ corrected_goes_by reading stands s world notes old device machine after cycle by
     let over : IsOver s (hs ++ new) now device act.0 = subst (λ (n : Node). IsOver s (hs ++ new) now device n) (sym is)
     (corrected_over s hs p.front p.back new now device node w cycle by adjustment (moment_of s device now) heard st2.work off st2.calm.off st2.calm.broken
     (as_put hs p.front p.back now w refl (omega arith)) p.none so synchronised quiet) in
-    let cleared : HasCleared act.0 = subst HasCleared (sym is) (λ n there. absurd (none_in_it (correcting n) there)) in
+    let cleared : HasCleared act.0 = subst HasCleared (sym is) (λ n there. absurd (none_in (correcting n) there)) in
     let lone : IsUnfollowed s hs now body = corrected_unfollowed s hs now device cycle by adjustment (λ joining.
     let same = earlier_still now hs old.coming (λ z i. let at = (st.work.of_now z i).0 in omega (arith, at)) in
     not_joining (sym synchronised ∙ st.work.left.state

@@ -1,7 +1,6 @@
 -- A device that has come to its correction point: the instant is over for it.
-use Rattle.std.proofs.Common.{◌≡◌, ℕ, ◌+◌, ◌≤◌, ◌<◌, ℤ, pos, ◌+ℤ◌, ◌-ℤ◌, ◌<ℤ◌, ◌≤ℤ◌, Bool, true, false, if◌then◌else◌, List, [], ◌∷◌, ◌++◌, append_assoc, filter, Some, None, Contains, inl, inr, refl, sym, ap, subst, ◌∙◌, arith}
+use Rattle.std.proofs.Common.{◌≡◌, ℕ, ◌+◌, ◌≤◌, ◌<◌, ℤ, pos, ◌+ℤ◌, ◌-ℤ◌, ◌<ℤ◌, ◌≤ℤ◌, Bool, true, false, if◌then◌else◌, List, [], ◌∷◌, ◌++◌, append_assoc, filter, None, Contains, inl, inr, refl, sym, ap, subst, ◌∙◌, arith}
 use Rattle.std.proofs.lemmas.Bool.{both_ways, cases_Bool, cases_lt}
-use Rattle.std.proofs.lemmas.Int.{ints}
 use Rattle.std.proofs.lemmas.List.{append-nil}
 use Rattle.std.proofs.lemmas.List.Elements.{filter-append}
 use Rattle.compression.specs.Clusters.{AreClusters}
@@ -9,7 +8,9 @@ use Rattle.compression.specs.declared.compressed.Compressed.{Compressed}
 use Rattle.membership.specs.Summary.{Summary}
 use Rattle.net_plan.specs.declared.ids.DeviceId.{DeviceId}
 use Rattle.net_plan.specs.declared.network.Network.{Network}
+use Rattle.run_law.proofs.law.FirstPlaces.{none_kept}
 use Rattle.run_law.proofs.runs.Places.{in_left, in_right}
+use Rattle.run_law.proofs.silent.Due.{no_cluster}
 use Rattle.run_law.specs.control.Collections.{ends_stretch, observation_window}
 use Rattle.run_law.specs.control.Corrections.{recorded_cycle, integration_cycle}
 use Rattle.run_law.specs.declared.judgement.Why.TheVariants as whys
@@ -27,17 +28,17 @@ use Rattle.run_law.specs.records.Order.{IsIn, NoneBefore}
 use Rattle.run_law.specs.records.Ranks.{place_of, rank}
 use Rattle.run_law.specs.scenario.Devices.{is_cm}
 use Rattle.run_law.specs.scenario.Scenarios.{Scenario, is_broken, is_turned_on_at}
+use Rattle.sync_state.proofs.StateFacts.{no_longer, no_point}
 use Rattle.sync_state.specs.Calls.{adjustment_by, state_by}
-use Rattle.sync_state.specs.Standing.{point_in}
 use Rattle.sync_state.specs.declared.answers.Verdict.{Verdict}
 use Rattle.sync_state.specs.declared.state.State.TheVariants.{Integrating, Joining, Synchronised}
-use Rattle.sync_state.specs.declared.state.State.{State}
+use Rattle.tte_lemmas.proofs.Integers.{ahead_yet}
+use Rattle.tte_lemmas.proofs.Lists.{none_in}
 use Rattle.tte_units.specs.declared.units.Units.{Units}
 use Rattle.world_steps.proofs.acting.GoesOn.{IsPutAs}
 use Rattle.world_steps.proofs.acting.Moves.{IsBase, IsCorrectedSo, changed_by, cliques, corrects, joiner_corrects, one_earlier}
 use Rattle.world_steps.proofs.acting.Over.{IsOver}
 use Rattle.world_steps.proofs.acting.Work.{IsAtWork}
-use Rattle.world_law.proofs.acts.Acted.{no_cluster}
 use Rattle.world_law.proofs.devices.Borne.{tell_alike, left_alike}
 use Rattle.world_law.proofs.devices.OwnRecords.{adjustment_still, change_still, cycle_still, integration_still, state_still}
 use Rattle.world_law.proofs.devices.Passes.{local_still, not_turned_on, started_still}
@@ -101,10 +102,6 @@ none_bear s hs front back now device node w work off at late none z i =
       | inl lt ↦ absurd (none z i (inr (z_now.0 ∙ sym at, inl (omega (arith, lt, late)))))
     ]) (unmoved_by s device now z.note.body off (work.still z (in_right z hs (front ++ back) there) z_now.0))
 
-pub filter_none : {X : Type 0} (q : X → Bool) (zs : List X) → ((z : X) → IsIn z zs → q z ≡ false) → filter q zs ≡ []
-filter_none q [] all = refl
-filter_none q (z ∷ zs) all = ap (λ (b : Bool). if b then z ∷ filter q zs else filter q zs) (all z (inl refl)) ∙ filter_none q zs (λ y i. all y (inr i))
-
 pub one_in : (q : Happening → Bool) (w : Happening) (back : List Happening) → filter q back ≡ [] → filter q (w ∷ back) ≡ filter q (w ∷ [])
 one_in q w back none = filter-append q (w ∷ []) back ∙ ap (λ (l : List Happening). filter q (w ∷ []) ++ l) none ∙ append-nil (filter q (w ∷ []))
 
@@ -119,7 +116,7 @@ pub borne_in : (hs front back : List Happening) (device : DeviceId) (w : Happeni
     → borne device ((hs ++ (front ++ back)) ++ w ∷ []) ≡ borne device (hs ++ (front ++ w ∷ back))
 borne_in hs front back device w none =
     let q = λ (h : Happening). bears_on device h.note.body in
-    let gone = filter_none q back none in
+    let gone = none_kept q back none in
     filter-append q (hs ++ (front ++ back)) (w ∷ [])
     ∙ ap (λ (l : List Happening). l ++ filter q (w ∷ [])) (two_in q hs front back gone)
     ∙ append_assoc (filter q hs) (filter q front) (filter q (w ∷ []))
@@ -133,8 +130,8 @@ pub borne_two : (hs front mid rest : List Happening) (device : DeviceId) (w f : 
     → borne device (((hs ++ (front ++ (mid ++ rest))) ++ w ∷ []) ++ f ∷ []) ≡ borne device (hs ++ (front ++ w ∷ (mid ++ f ∷ rest)))
 borne_two hs front mid rest device w f none =
     let q = λ (h : Happening). bears_on device h.note.body in
-    let gone = filter_none q mid (λ z i. none z (in_left z mid rest i)) in
-    let left : filter q rest ≡ [] = filter_none q rest (λ z i. none z (in_right z mid rest i)) in
+    let gone = none_kept q mid (λ z i. none z (in_left z mid rest i)) in
+    let left : filter q rest ≡ [] = none_kept q rest (λ z i. none z (in_right z mid rest i)) in
     filter-append q ((hs ++ (front ++ (mid ++ rest))) ++ w ∷ []) (f ∷ [])
     ∙ ap (λ (l : List Happening). l ++ filter q (f ∷ [])) (borne_in hs front (mid ++ rest) device w none
     ∙ filter-append q hs (front ++ w ∷ (mid ++ rest))
@@ -182,12 +179,6 @@ left_called s js device u node moment left = record {
   points = left.points;
 }
 
-pub none_in_it : {X : Type 0} (x : X) → Contains [] x → ⊥
-none_in_it x (k, lt, at) = absurd (omega (arith, lt))
-
-ahead_yet : (reading a changed v : ℤ) → changed ≡ (reading +ℤ a) → changed <ℤ v → reading <ℤ (v -ℤ a)
-ahead_yet reading a changed v is lt = omega (arith, ints, is, lt)
-
 -- it corrects its clock at the time: all counts from then on
 pub corrects_it : (network : Network) (reading : ℕ → ℕ) (device : DeviceId) (node : Node) (t : ℕ) (moment : Moment) (heard : Summary) (by : Units)
     → moment.reading.0 ≡ pos (reading t)
@@ -198,7 +189,7 @@ corrects_it network reading device node t moment heard by reads = record {
       let here = subst (λ (z : ℤ). z <ℤ (value_of network deed -ℤ (node.standing.adjustment.0 +ℤ by.0))) reads
       (ahead_yet moment.reading.0 (node.standing.adjustment.0 +ℤ by.0) _ (value_of network deed) refl u.ahead) in
       subst (λ (n : ℕ). pos (reading n) <ℤ (value_of network deed -ℤ (node.standing.adjustment.0 +ℤ by.0))) same here;
-  done = λ deed there. absurd (none_in_it deed there);
+  done = λ deed there. absurd (none_in deed there);
 }
 
 kept_so : (s : Scenario) (device : DeviceId) (node : Node) (b : Bool) (now : ℕ) (sent : Compressed) (clusters : List _) (cluster : _)
@@ -228,7 +219,7 @@ kept_so s device node false now sent clusters cluster cm are there is not_yet no
 kept_sent : (s : Scenario) (device : DeviceId) (node : Node) (b : Bool) (now : ℕ) (sent : Compressed) → HasSentFrom s device node now (now + 1)
     → Contains (if b then node.emitted else []) sent → (x : ℕ) × (x < now + 1) × (sent.at.0 ≤ℤ pos (s.reading device x))
 kept_sent s device node true now sent has there = has.sent sent there
-kept_sent s device node false now sent has there = absurd (none_in_it sent there)
+kept_sent s device node false now sent has there = absurd (none_in sent there)
 
 -- none of its frames is due, as those come before a correction
 pub corrected_sent : (s : Scenario) (device : DeviceId) (node : Node) (now : ℕ) (moment : Moment) (heard : Summary) (by : Units)
@@ -316,17 +307,11 @@ joiner_over s hs front mid rest new now device node w f cycle cause by adjustmen
 
 -- ---- it has found itself outside the others
 
-never_there : Integrating ≡ Synchronised → ⊥
-never_there e = cc
-
-none_next : (state : State) (number cycle : ℕ) → state ≡ Integrating → point_in state number ≡ Some cycle → ⊥
-none_next state number cycle is next = let bad : None ≡ Some cycle = sym (ap (λ (x : State). point_in x number) is) ∙ next in cc
-
 pub no_deed : (network : Network) (device : DeviceId) (node : Node) (deed : ClockTask) → node.standing.state ≡ Integrating → IsDeedOf network device node deed
     → ⊥
-no_deed network device node (sending cycle) is own = never_there (sym is ∙ own.1)
-no_deed network device node (correcting cycle) is own = none_next node.standing.state node.standing.number cycle is own
-no_deed network device node (dispatching row cycle) is own = never_there (sym is ∙ own.0)
+no_deed network device node (sending cycle) is own = no_longer (sym is ∙ own.1)
+no_deed network device node (correcting cycle) is own = no_point node.standing.state node.standing.number cycle is own
+no_deed network device node (dispatching row cycle) is own = no_longer (sym is ∙ own.0)
 
 pub clique_over : (s : Scenario) (hs front back new : List Happening) (now : ℕ) (device : DeviceId) (node : Node) (w : Happening) (cause : ℕ) (why : Why)
     (moment : Moment) (heard : Summary) (verdict : Verdict)
@@ -367,6 +352,6 @@ clique_over s hs front back new now device node w cause why moment heard verdict
       };
       sent = record {
         unsent = λ c u x lt. absurd (no_cluster (observation_window s.network) u.clusters u.cluster u.are u.there);
-        sent = λ c there. absurd (none_in_it c there);
+        sent = λ c there. absurd (none_in c there);
       };
     }

@@ -1,17 +1,19 @@
 -- A device dispatches a row's frame: its record, and how the device stands then.
-use Rattle.std.proofs.Common.{◌≡◌, ℕ, ◌+◌, ◌*◌, ◌≤◌, ℤ, pos, ◌≤ℤ◌, Bool, true, false, if◌then◌else◌, List, [], ◌∷◌, ◌++◌, length, filter, nat_lt, Option, Some, None, option_to_list, Contains, inl, inr, refl, sym, ap, subst, ◌∙◌, arith}
-use Rattle.std.specs.List.{last_or}
+use Rattle.std.proofs.Common.{◌≡◌, ℕ, ◌+◌, ◌*◌, ◌≤◌, ℤ, pos, ◌≤ℤ◌, Bool, true, false, if◌then◌else◌, List, [], ◌∷◌, ◌++◌, length, filter, nat_lt, Option, None, option_to_list, Contains, inl, inr, refl, sym, ap, subst, ◌∙◌, arith}
 use Rattle.std.proofs.lemmas.Bool.{cases_lt, ne_eqb}
 use Rattle.std.proofs.lemmas.List.{append-nil}
 use Rattle.std.proofs.lemmas.List.Elements.{Contains-append_left, Contains-push, Contains-push_cases}
 use Rattle.membership.specs.Hearing.{Hearing}
+use Rattle.net_plan.proofs.SameIds.{same_device, same_link, same_vl}
 use Rattle.net_plan.specs.declared.ids.DeviceId.{DeviceId}
 use Rattle.net_plan.specs.declared.ids.LinkId.{LinkId}
 use Rattle.net_plan.specs.declared.ids.RowId.{RowId}
 use Rattle.net_plan.specs.declared.ids.VlId.{VlId}
 use Rattle.net_plan.specs.declared.network.Network.{Network}
+use Rattle.run_law.proofs.law.FirstDeliveries.{last_in}
 use Rattle.run_law.proofs.law.FirstPlaces.{by_number, in_filter, numbered_within}
 use Rattle.run_law.proofs.runs.Places.{in_left, in_right}
+use Rattle.run_law.proofs.timed.Rows.{at_hand_by}
 use Rattle.run_law.specs.control.Corrections.{hearing_by}
 use Rattle.run_law.specs.declared.note.NoteBody.TheVariants as kinds
 use Rattle.run_law.specs.declared.note.NoteBody.{NoteBody}
@@ -43,7 +45,6 @@ use Rattle.world_steps.proofs.acting.Work.{IsAtWork, all_earlier, reaches}
 use Rattle.world_law.proofs.acts.Acted.{waiting_alike}
 use Rattle.world_law.proofs.acts.Recorded.{dispatch_late}
 use Rattle.world_law.proofs.putting.Placing.{put_at}
-use Rattle.world_law.proofs.putting.PutIn.{last_in}
 use Rattle.world_law.proofs.putting.PutOne.{last_unfollowed}
 use Rattle.world_law.proofs.putting.PutShown.{record_of}
 use Rattle.world_law.proofs.rows.AtHand.{value_is}
@@ -59,23 +60,6 @@ use Rattle.world_law.specs.source.Sources.{IsActing}
 use Rattle.world_law.specs.world.Calls.{moment_of}
 
 -- ---- it is a dispatch
-
-hand_back : (network : Network) (js hs : List Happening) (device : DeviceId) (entry : Entry) (t cause cycle : ℕ) → earlier t js ≡ earlier t hs
-    → HasAtHand network js device entry t cause cycle → HasAtHand network hs device entry t cause cycle
-hand_back network js hs device entry t cause cycle same (inl sender) = inl sender
-hand_back network js hs device entry t cause cycle same (inr took) =
-    inr (
-      took.0,
-      record {
-        taken = took.1.taken;
-        last =
-            subst (λ (w : List Happening). last_or None (filter (λ h. is_accepted device entry.row.vl h.note.body) w) ≡ Some took.1.taken) same took.1.last;
-        number = took.1.number;
-        link = took.1.link;
-        from = took.1.from;
-        is = took.1.is;
-      },
-    )
 
 -- its cause is one of the records
 pub hand_within : (s : Scenario) (hs : List Happening) (device : DeviceId) (entry : Entry) (t cause cycle : ℕ) → IsFounded place_of (IsDue s) hs
@@ -126,7 +110,7 @@ dispatches_it s hs coming other now device node row entry cause cycle w also p d
         occurs = subst (λ (x : Entry). OccursIn x.vl cycle) one frame.occurs;
         up = up_back s (hs ++ coming) (hs ++ other) now device same (record { synchronised = sym w.left.state ∙ p.1.own.0; correct = w.sound });
         reached = reaches_back s (hs ++ coming) (hs ++ other) now device _ same reached;
-        at_hand = hand_back s.network hs (hs ++ other) device entry now cause cycle given hand;
+        at_hand = at_hand_by s.network hs (hs ++ other) device entry now cause cycle given hand;
       },
       refl,
     )
@@ -164,15 +148,6 @@ tt_at t u m d l c v n other e = absurd (let bad = ap second e in omega (arith, b
 -- the body of a dispatch on a way that is cut, or not
 abbrev body_by : Bool → DeviceId → LinkId → ℕ → VlId → ℕ → NoteBody
 body_by cut device link cause vl cycle = if cut then kinds.Lost device link cause else kinds.TtSent device link cause vl cycle
-
-same_link : (a b : LinkId) → a.0 ≡ b.0 → a ≡ b
-same_link a b e = ap (λ (n : ℕ). let l : LinkId = record { 0 = n } in l) e
-
-same_vl : (a b : VlId) → a.0 ≡ b.0 → a ≡ b
-same_vl a b e = ap (λ (n : ℕ). let l : VlId = record { 0 = n } in l) e
-
-same_device : (a b : DeviceId) → a.0 ≡ b.0 → a ≡ b
-same_device a b e = ap (λ (n : ℕ). let l : DeviceId = record { 0 = n } in l) e
 
 -- what stands at its place is it
 body_at : (cut : Bool) (device : DeviceId) (link : LinkId) (cause : ℕ) (vl : VlId) (cycle t u m : ℕ) (body : NoteBody)

@@ -1,13 +1,14 @@
 -- A compression master that has emitted, and has not joined by its own frame, is at work still.
-use Rattle.std.proofs.Common.{◌≡◌, ◌⊎◌, ℕ, ◌+◌, ◌≤◌, ℤ, pos, ◌<ℤ◌, ◌≤ℤ◌, Bool, true, false, ◌==◌, if◌then◌else◌, List, [], ◌∷◌, ◌++◌, filter_map, Option, Some, None, option_to_list, option_map, Contains, inl, inr, refl, sym, ap, subst, ◌∙◌, arith}
+use Rattle.std.proofs.Common.{◌≡◌, ◌⊎◌, ℕ, ◌+◌, ◌≤◌, ℤ, pos, ◌<ℤ◌, ◌≤ℤ◌, Bool, true, false, if◌then◌else◌, List, [], ◌∷◌, ◌++◌, filter_map, Option, Some, None, option_to_list, option_map, Contains, inl, inr, refl, sym, ap, subst, ◌∙◌, arith}
 use Rattle.std.specs.Option.{option_map_or}
 use Rattle.std.specs.List.{cons_option}
-use Rattle.std.proofs.lemmas.Bool.{cases_lt, eq-eqb}
+use Rattle.std.proofs.lemmas.Bool.{cases_lt}
 use Rattle.std.proofs.lemmas.List.{append-nil}
 use Rattle.std.proofs.lemmas.List.Elements.{Contains-append_left, Contains-push, Contains-push_cases}
 use Rattle.compression.specs.Clusters.{AreClusters}
 use Rattle.compression.specs.declared.compressed.Compressed.{Compressed}
 use Rattle.membership.specs.Hearing.{Hearing}
+use Rattle.net_plan.proofs.SameIds.{self}
 use Rattle.net_plan.specs.declared.ids.DeviceId.{DeviceId}
 use Rattle.net_plan.specs.declared.ids.RowId.{RowId}
 use Rattle.net_plan.specs.declared.network.Network.{Network}
@@ -60,9 +61,6 @@ heard_of channel point within frame =
       };
       within = within;
     } in h) channel
-
-self : (device : DeviceId) → (device.0 == device.0) ≡ true
-self device = eq-eqb device.0 device.0 refl
 
 heard_within : (network : Network) (device : DeviceId) (w : Happening) (sent : Compressed)
     → w.frame ≡ Some (integration_frame network device sent.cycle sent.members)

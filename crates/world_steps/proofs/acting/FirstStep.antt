@@ -22,11 +22,12 @@ use Rattle.run_law.specs.scenario.Scenarios.{Scenario, is_turned_on_at}
 use Rattle.sync_state.specs.declared.answers.Verdict.TheVariants.{Corrected}
 use Rattle.sync_state.specs.declared.state.State.TheVariants.{Integrating, Joining, Synchronised}
 use Rattle.sync_state.specs.declared.state.State.{State}
+use Rattle.tte_lemmas.proofs.Lists.{none_in}
 use Rattle.tte_units.specs.Amount.{units_of}
 use Rattle.tte_units.specs.declared.units.Units.{Units}
 use Rattle.world_steps.proofs.acting.AllOfIt.{IsGrown, all_point, grown_more, grown_one}
 use Rattle.world_steps.proofs.acting.CorrectSteps.{IsCorrecting}
-use Rattle.world_steps.proofs.acting.Correcting.{joiner_over, none_in_it}
+use Rattle.world_steps.proofs.acting.Correcting.{joiner_over}
 use Rattle.world_steps.proofs.acting.Kept.{bare_act, frames_put, kept_over, may_act_now, ready_after}
 use Rattle.world_steps.proofs.acting.Moves.{IsCorrectedSo}
 use Rattle.world_steps.proofs.acting.Over.{IsOver}
@@ -38,10 +39,10 @@ use Rattle.world_law.proofs.acts.Acting.{point_number}
 use Rattle.world_law.proofs.acts.Recorded.{is_sending}
 use Rattle.world_law.proofs.devices.Borne.{moves_no_other}
 use Rattle.world_law.proofs.putting.Bearing.{frames_aside, held_aside, known_aside}
-use Rattle.world_law.proofs.putting.Bumped.{bump_behind, in_placed, placed_length, raised, raised_plain, split_placed}
+use Rattle.world_law.proofs.putting.Bumped.{bump_behind, in_placed, placed_length, raised, split_placed}
 use Rattle.world_law.proofs.putting.Moving.{all_without, held_moves, ports_move, waiting_moves, wires_move, IsAllOfIt}
 use Rattle.world_law.proofs.putting.Near.{hears}
-use Rattle.world_law.proofs.putting.NearPut.{plains_placed}
+use Rattle.world_law.proofs.putting.NearPut.{plains_bumped, plains_placed}
 use Rattle.world_law.proofs.putting.Placing.{before_it, put_at}
 use Rattle.world_law.proofs.putting.PutAct.{IsActSo, act_pair, causes_of_device}
 use Rattle.world_law.proofs.putting.PutIn.{split_two}
@@ -60,11 +61,6 @@ use Rattle.world_law.specs.world.Moves.{StandsBehind}
 use Rattle.world_law.specs.world.World.{IsKept, AreOfNetwork, IsHeld, Stands, World, act_place, hidden, is_at_source, none_yet, port_place, wire_place}
 
 -- ---- lists
-
-plains_up : (n : ℕ) (xs : List Happening) → plains (map (bump_behind n) xs) ≡ plains xs
-plains_up n [] = refl
-plains_up n (x ∷ xs) =
-    ap (λ (h : Happening). h ∷ plains (map (bump_behind n) xs)) (raised_plain n x) ∙ ap (λ (l : List Happening). plain x ∷ l) (plains_up n xs)
 
 -- where the second record stands among those behind the first
 pub record ArePairParts (hs front back front2 back2 : List Happening) (w : Happening) : Type 0 where
@@ -107,8 +103,8 @@ pair_plains hs front back front2 back2 w v x =
     ∙ ap plains (append_assoc front (w ∷ map (bump_behind n) x.mid) (v ∷ map (bump_behind n) x.rest))
     ∙ parts front (w ∷ (map (bump_behind n) x.mid ++ v ∷ map (bump_behind n) x.rest))
     ∙ ap (λ (l : List Happening). plains front ++ plain w ∷ l) (parts (map (bump_behind n) x.mid) (v ∷ map (bump_behind n) x.rest)
-    ∙ ap (λ (l : List Happening). l ++ plain v ∷ plains (map (bump_behind n) x.rest)) (plains_up n x.mid)
-    ∙ ap (λ (l : List Happening). plains x.mid ++ plain v ∷ l) (plains_up n x.rest) ∙ sym (parts x.mid (v ∷ x.rest)))
+    ∙ ap (λ (l : List Happening). l ++ plain v ∷ plains (map (bump_behind n) x.rest)) (plains_bumped n x.mid)
+    ∙ ap (λ (l : List Happening). plains x.mid ++ plain v ∷ l) (plains_bumped n x.rest) ∙ sym (parts x.mid (v ∷ x.rest)))
     ∙ sym (parts front (w ∷ (x.mid ++ v ∷ x.rest)))
 
 raised_hears : (n : ℕ) (device : DeviceId) (body : NoteBody) → hears device (raised n body) ≡ hears device body
@@ -288,7 +284,7 @@ first_goes_by reading stands s world notes old device machine after cycle by adj
     (joiner_over s hs q.front parts.mid parts.rest new now device node w v cycle (n + 1) by adjustment (moment_of s device now) heard st3.work off st.calm.off
     st.calm.broken (pair_plains hs q.front q.back q.front2 q.back2 w v parts) refl
     (subst (λ (l : List Happening). NoneBefore place_of l (place_of w)) parts.parts q.none) so joining refl (omega arith) quiet) in
-    let cleared : HasCleared act.0 = subst HasCleared (sym is) (λ m there. absurd (none_in_it (correcting m) there)) in
+    let cleared : HasCleared act.0 = subst HasCleared (sym is) (λ m there. absurd (none_in (correcting m) there)) in
     let six : 5 ≤ rank w.note.body = omega arith in
     let g1 : IsGrown s hs (q.front ++ q.back) new1 now device =
     grown_one s hs q.front q.back new1 now device node w st2.work (as_put hs q.front q.back now w refl (omega arith)) six in

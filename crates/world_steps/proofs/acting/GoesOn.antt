@@ -22,7 +22,7 @@ use Rattle.run_law.specs.scenario.Scenarios.{Scenario}
 use Rattle.world_steps.proofs.acting.Stays.{IsSameBut, heard_by_these, heard_put, in_plains, left_now, points_put}
 use Rattle.world_steps.proofs.acting.Work.{IsAtWork, all_earlier}
 use Rattle.world_law.proofs.acts.Acted.{done_more, undone_alike, waiting_alike}
-use Rattle.world_law.proofs.acts.Recorded.{dispatch_late}
+use Rattle.world_law.proofs.acts.Recorded.{dispatch_late, rank_plain}
 use Rattle.world_law.proofs.devices.Plains.{plains_parts, told_by_others}
 use Rattle.world_law.proofs.runs.Agreement.{changed_before}
 use Rattle.world_law.proofs.runs.SourcesBack.{dispatches_same, reaches_back, up_back}
@@ -49,10 +49,6 @@ turning_plain device (kinds.State other state cause why) = turning device other 
         refl
     turning device other state cause why = refl
 turning_plain device other = refl
-
-pub rank_plain : (body : NoteBody) → rank (plain_body body) ≡ rank body
-rank_plain (kinds.State other state cause why) = refl
-rank_plain other = refl
 
 pub rest_alike : (s : Scenario) (device : DeviceId) (now : ℕ) (body other : NoteBody) → plain_body body ≡ plain_body other → IsAtRest s device now other
     → IsAtRest s device now body

@@ -6,6 +6,7 @@ use Rattle.net_plan.specs.declared.ids.DeviceId.{DeviceId}
 use Rattle.net_plan.specs.declared.ids.RowId.{RowId}
 use Rattle.net_plan.specs.declared.ids.VlId.{VlId}
 use Rattle.net_plan.specs.declared.network.Network.{Network}
+use Rattle.run_law.proofs.law.FirstDeliveries.{last_in}
 use Rattle.run_law.proofs.law.FirstPlaces.{by_number, in_filter}
 use Rattle.run_law.proofs.runs.Places.{in_left}
 use Rattle.run_law.specs.device.LocalClocks.{Reaches}
@@ -19,7 +20,6 @@ use Rattle.schedule_tables.specs.declared.entry.Entry.{Entry}
 use Rattle.tte_units.specs.Amount.{amount}
 use Rattle.world_steps.proofs.acting.Stage.{Stage}
 use Rattle.world_steps.proofs.acting.Work.{reaches}
-use Rattle.world_law.proofs.putting.PutIn.{last_in}
 use Rattle.world_law.proofs.rows.AtHand.{IsReaching, at_hand, filter_earlier, taken_sooner, value_is}
 use Rattle.world_law.proofs.rows.Reached.{IsForwarded}
 use Rattle.world_law.proofs.runs.SourcesBack.{earlier_still}

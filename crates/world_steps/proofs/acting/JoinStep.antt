@@ -1,14 +1,13 @@
 -- A compression master that emits a frame by which it joins: what bears on it, and that all that is due of it is there.
-use Rattle.std.proofs.Common.{◌≡◌, ◌⊎◌, ℕ, ◌+◌, ◌≤◌, ◌<◌, ℤ, pos, ◌+ℤ◌, ◌<ℤ◌, ◌≤ℤ◌, if◌then◌else◌, Bool, true, false, ◌==◌, List, [], ◌∷◌, ◌++◌, append_assoc, length, map, slice_get, Option, Some, None, Contains, inl, inr, refl, sym, ap, subst, ◌∙◌, arith}
+use Rattle.std.proofs.Common.{◌≡◌, ◌⊎◌, ℕ, ◌+◌, ◌≤◌, ◌<◌, pos, ◌+ℤ◌, ◌<ℤ◌, ◌≤ℤ◌, if◌then◌else◌, true, false, ◌==◌, List, [], ◌∷◌, ◌++◌, append_assoc, length, map, slice_get, Option, Contains, inl, inr, refl, sym, ap, subst, ◌∙◌, arith}
 use Rattle.std.proofs.lemmas.Bool.{both_ways, cases_lt, eqb-true}
 use Rattle.compression.specs.Clusters.{AreClusters, Point}
 use Rattle.compression.specs.declared.compressed.Compressed.{Compressed}
 use Rattle.net_plan.specs.declared.ids.DeviceId.{DeviceId}
-use Rattle.pcf_values.specs.declared.members.Members.{Members}
 use Rattle.run_law.proofs.runs.Places.{chain, either_way, in_left, in_parts, in_right, never_self, parted}
+use Rattle.run_law.proofs.silent.Due.{no_cluster}
 use Rattle.run_law.specs.control.Collections.{ends_stretch, observation_window, point_by, points_of}
 use Rattle.run_law.specs.control.Emissions.{Emits}
-use Rattle.run_law.specs.control.Hearing.{heard_as, heard_by_schedule}
 use Rattle.run_law.specs.control.Permanence.{ripe_as}
 use Rattle.run_law.specs.declared.judgement.Judgement.TheVariants as judgements
 use Rattle.run_law.specs.declared.judgement.Judgement.{Judgement}
@@ -23,10 +22,8 @@ use Rattle.run_law.specs.records.Happenings.{Happening, time_of}
 use Rattle.run_law.specs.records.Order.{AllBefore, IsBefore, IsIn, NoneBefore}
 use Rattle.run_law.specs.records.Ranks.{sign, key, members_in, place_of, rank}
 use Rattle.run_law.specs.scenario.Scenarios.{Scenario, is_turned_on_at}
-use Rattle.sync_state.specs.Standing.{point_in}
-use Rattle.sync_state.specs.declared.plan.SyncPlan.{SyncPlan}
-use Rattle.sync_state.specs.declared.state.State.TheVariants.{Integrating, Joining, Off, Synchronised}
-use Rattle.sync_state.specs.declared.state.State.{State}
+use Rattle.sync_state.proofs.StateFacts.{no_longer, no_point as no_next}
+use Rattle.sync_state.specs.declared.state.State.TheVariants.{Integrating}
 use Rattle.tte_units.specs.Amount.{amount}
 use Rattle.world_steps.proofs.acting.AllOfIt.{not_less}
 use Rattle.world_steps.proofs.acting.Complete.{IsActCause, act_cause, emitted_or, found_emitted}
@@ -35,7 +32,6 @@ use Rattle.world_steps.proofs.acting.GoesOn.{body_plain, rest_alike, time_plain}
 use Rattle.world_steps.proofs.acting.JoinsBy.{ChangesIt}
 use Rattle.world_steps.proofs.acting.Starts.{plain_compressed}
 use Rattle.world_steps.proofs.acting.Work.{IsAtWork, all_earlier}
-use Rattle.world_law.proofs.acts.Acted.{no_cluster}
 use Rattle.world_law.proofs.acts.NoActs.{points_same}
 use Rattle.world_law.proofs.devices.TurnedOn.{IsQuiet, quiet_rest}
 use Rattle.world_law.proofs.putting.Bumped.{AsState}
@@ -46,17 +42,6 @@ use Rattle.world_law.specs.device.Recorded.{AreRecorded, IsShown}
 use Rattle.world_law.specs.world.World.{act_place, IsAtRest}
 
 -- ---- who joins, was looking for the common time
-
-by_schedule : (b : Bool) → heard_by_schedule b ≡ judgements.Integrates → ⊥
-by_schedule true e = cc
-by_schedule false e = cc
-
-pub joins_looking : (plan : SyncPlan) (precision : ℤ) (state : State) (adjustment point : ℤ) (cycle : ℕ) (members : Members)
-    → heard_as plan precision state adjustment point cycle members ≡ judgements.Integrates → state ≡ Integrating
-joins_looking plan precision Integrating adjustment point cycle members e = refl
-joins_looking plan precision Off adjustment point cycle members e = absurd cc
-joins_looking plan precision Joining adjustment point cycle members e = absurd (by_schedule _ e)
-joins_looking plan precision Synchronised adjustment point cycle members e = absurd (by_schedule _ e)
 
 pub joins_so : (v : Judgement) → ripe_as v ≡ ripe.Integrates → v ≡ judgements.Integrates
 joins_so judgements.Integrates e = refl
@@ -106,10 +91,6 @@ bears_so s device now y late at rest not bears = by_body y.note.body refl (subst
     by_body (kinds.Clock other reading adjustment state) e r b = absurd (let bad : false ≡ true = b in cc)
 
 -- ---- a record that ends the stretch leaves no points
-
-no_point : (device : DeviceId) (z : Happening) (body : NoteBody) → 4 ≤ rank body → point_by device z body ≡ None
-no_point device z (kinds.Permanent other link cause point verdict) high = absurd (omega (arith, high))
-no_point device z other high = refl
 
 -- behind it no points come at the instant
 pub points_gone : (device : DeviceId) (xs zs : List Happening) (w : Happening) → ends_stretch device w.note.body ≡ true
@@ -230,12 +211,6 @@ still_looking s hs coming front now device node w looking also =
     ap (λ (l : List Happening). if is_turned_on_at s device now then Integrating else state_after s l device)
     (all_earlier s hs front coming now also (λ z i. (w.of_now z i).0)) ∙ sym w.left.state ∙ looking
 
-not_synchronised : Integrating ≡ Synchronised → ⊥
-not_synchronised e = cc
-
-no_next : (state : State) (number cycle : ℕ) → state ≡ Integrating → point_in state number ≡ Some cycle → ⊥
-no_next state number cycle is next = let bad : None ≡ Some cycle = sym (ap (λ (x : State). point_in x number) is) ∙ next in cc
-
 joined_cause : (s : Scenario) (hs coming new front back : List Happening) (now : ℕ) (device : DeviceId) (node : Node) (sent : Compressed) (w y : Happening)
     → IsAtWork s hs coming now device node → AreRecorded s (hs ++ coming) coming now device node
     → IsJoinedBy s hs coming new now device node sent w → AllBefore place_of hs (act_place now device) → new ≡ front ++ back
@@ -248,7 +223,7 @@ joined_cause s hs coming new front back now device node sent w y work r j before
     parts
     all none (e ∙ ap (λ (d : DeviceId). kinds.Compressed d opened out cycle members v) c.0) at c.1
 joined_cause s hs coming new front back now device node sent w y work r j before parts all none at looking (kinds.Sent other cycle) e c =
-    absurd (not_synchronised (sym looking ∙ c.1.up.synchronised))
+    absurd (no_longer (sym looking ∙ c.1.up.synchronised))
 joined_cause s hs coming new front back now device node sent w y work r j before parts all none at looking (kinds.Corrected other cycle by adjustment) e c =
     absurd (no_next (state_before s (hs ++ front) device now) _ cycle looking c.1.corrected.next)
 joined_cause s hs coming new front back now device node sent w y work r j before parts all none at looking (kinds.State other state cause whys.SyncClique) e c =
@@ -257,9 +232,9 @@ joined_cause s hs coming new front back now device node sent w y work r j before
     =
     absurd (no_next (state_before s (hs ++ front) device now) _ c.3.0 looking c.3.1.next)
 joined_cause s hs coming new front back now device node sent w y work r j before parts all none at looking (kinds.Lost other link cause) e c =
-    absurd (not_synchronised (sym looking ∙ c.1.2.up.synchronised))
+    absurd (no_longer (sym looking ∙ c.1.2.up.synchronised))
 joined_cause s hs coming new front back now device node sent w y work r j before parts all none at looking (kinds.TtSent other link cause vl cycle) e c =
-    absurd (not_synchronised (sym looking ∙ c.1.up.synchronised))
+    absurd (no_longer (sym looking ∙ c.1.up.synchronised))
 joined_cause s hs coming new front back now device node sent w y work r j before parts all none at looking (kinds.State other state cause whys.On) e c =
     absurd c
 joined_cause s hs coming new front back now device node sent w y work r j before parts all none at looking (kinds.State other state cause whys.Frame) e c =

@@ -6,6 +6,7 @@ use Rattle.std.proofs.lemmas.List.{length-append}
 use Rattle.compression.specs.declared.compressed.Compressed.{Compressed}
 use Rattle.net_plan.specs.declared.ids.DeviceId.{DeviceId}
 use Rattle.net_plan.specs.declared.network.Network.{Network}
+use Rattle.run_law.proofs.control.Verdicts.{heard_integrates}
 use Rattle.run_law.proofs.runs.Places.{in_left, in_parts, in_right}
 use Rattle.run_law.specs.control.Collections.{observation_window}
 use Rattle.run_law.specs.control.Emissions.{Emits}
@@ -26,13 +27,14 @@ use Rattle.run_law.specs.records.Ranks.{key, members_in, place_of, rank}
 use Rattle.run_law.specs.scenario.Devices.{plan_of}
 use Rattle.run_law.specs.scenario.Scenarios.{Scenario, is_turned_on_at}
 use Rattle.sync_state.specs.declared.state.State.TheVariants.{Integrating, Joining}
-use Rattle.world_steps.proofs.acting.Correcting.{none_in_it}
+use Rattle.tte_lemmas.proofs.Lists.{none_in}
+use Rattle.world_law.proofs.acts.Recorded.{rank_plain}
 use Rattle.world_steps.proofs.acting.EmitSteps.{emission_body, is_last_frame, is_only_frame, own_frame}
 use Rattle.world_steps.proofs.acting.Emitting.{node_emitted}
 use Rattle.world_steps.proofs.acting.FirstStep.{pair_parts, pair_plains, two_go_by}
 use Rattle.world_steps.proofs.acting.FromZero.{permanent_from_zero, points_from_zero}
-use Rattle.world_steps.proofs.acting.GoesOn.{body_plain, earlier_put, put_now, rank_plain, time_plain}
-use Rattle.world_steps.proofs.acting.JoinStep.{IsJoinedBy, all_joined, bears_so, joins_looking, joins_so}
+use Rattle.world_steps.proofs.acting.GoesOn.{body_plain, earlier_put, put_now, time_plain}
+use Rattle.world_steps.proofs.acting.JoinStep.{IsJoinedBy, all_joined, bears_so, joins_so}
 use Rattle.world_steps.proofs.acting.JoinsBy.{ChangesIt, joined_over}
 use Rattle.world_steps.proofs.acting.Kept.{bare_act, frames_put, kept_over, may_act_now, ready_after}
 use Rattle.world_steps.proofs.acting.Over.{IsOver}
@@ -127,7 +129,7 @@ join_goes_by reading stands s world notes old device machine after sent machines
     let first = act.1.0 in
     let v_is : own_judgement s.network device node sent ≡ judgements.Integrates = joins_so (own_judgement s.network device node sent) (sym act.1.1) in
     let looking : node.standing.state ≡ Integrating =
-    joins_looking (plan_of s.network device) (observation_window s.network) node.standing.state node.standing.adjustment.0 sent.at.0 sent.cycle sent.members
+    heard_integrates (plan_of s.network device) (observation_window s.network) node.standing.state node.standing.adjustment.0 sent.at.0 sent.cycle sent.members
     v_is in
     let is : act.0 ≡ node_emitted s.network device node moment sent judgements.Integrates = act.1.2 in
     let same_length = length_is s notes in
@@ -183,7 +185,7 @@ join_goes_by reading stands s world notes old device machine after sent machines
     ])) in
     let ready = ready_after s device node act.0 now (acts.Emit sent ripe.Integrates) st.work.ready st.steady st.precise st.wide may act.1
     (ap (λ (m : Node). m.last) is) in
-    let cleared : HasCleared act.0 = subst HasCleared (sym is) (λ m there. absurd (none_in_it (correcting m) there)) in
+    let cleared : HasCleared act.0 = subst HasCleared (sym is) (λ m there. absurd (none_in (correcting m) there)) in
     let old_of : (y : Happening) → IsIn y (q.front ++ (parts.mid ++ parts.rest)) → IsIn y (q.front ++ q.back) = λ y i.
     subst (λ (l : List Happening). IsIn y (q.front ++ l)) (sym parts.parts) i in
     let from = parts_of_pair q.front parts.mid parts.rest new now w v alike (omega arith) in

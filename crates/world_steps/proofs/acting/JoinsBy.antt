@@ -1,12 +1,14 @@
 -- A compression master that its own frame has told the time: the instant is over for it.
-use Rattle.std.proofs.Common.{◌≡◌, ℕ, ◌+◌, ◌≤◌, ◌<◌, ℤ, pos, ◌-ℤ◌, ◌<ℤ◌, Bool, true, false, ◌==◌, if◌then◌else◌, List, [], ◌∷◌, ◌++◌, append_assoc, filter, Some, inl, inr, refl, sym, ap, subst, ◌∙◌, arith}
-use Rattle.std.proofs.lemmas.Bool.{cases_Bool, eq-eqb}
+use Rattle.std.proofs.Common.{◌≡◌, ℕ, ◌+◌, ◌≤◌, ◌<◌, ℤ, pos, ◌-ℤ◌, ◌<ℤ◌, Bool, true, false, if◌then◌else◌, List, [], ◌∷◌, ◌++◌, append_assoc, filter, Some, inl, inr, refl, sym, ap, subst, ◌∙◌, arith}
+use Rattle.std.proofs.lemmas.Bool.{cases_Bool}
 use Rattle.std.proofs.lemmas.Int.{ints}
 use Rattle.std.proofs.lemmas.List.{append-nil}
 use Rattle.std.proofs.lemmas.List.Elements.{filter-append}
 use Rattle.compression.specs.declared.compressed.Compressed.{Compressed}
+use Rattle.net_plan.proofs.SameIds.{self}
 use Rattle.net_plan.specs.declared.ids.DeviceId.{DeviceId}
-use Rattle.run_law.proofs.law.FirstPlaces.{in_filter}
+use Rattle.run_law.proofs.law.FirstPlaces.{in_filter, none_kept}
+use Rattle.run_law.proofs.silent.Due.{no_cluster}
 use Rattle.run_law.specs.control.Collections.{observation_window}
 use Rattle.run_law.specs.declared.judgement.Judgement.TheVariants as judgements
 use Rattle.run_law.specs.declared.judgement.Why.TheVariants as whys
@@ -23,18 +25,16 @@ use Rattle.run_law.specs.scenario.Devices.{plan_of}
 use Rattle.run_law.specs.scenario.Scenarios.{Scenario, is_broken, is_turned_on_at}
 use Rattle.sync_state.specs.declared.state.State.TheVariants.{Joining}
 use Rattle.sync_state.specs.declared.state.State.{State}
-use Rattle.world_steps.proofs.acting.Correcting.{behind_given, filter_none, left_called, moved_in, none_in_it, one_in}
+use Rattle.tte_lemmas.proofs.Lists.{none_in}
+use Rattle.world_steps.proofs.acting.Correcting.{behind_given, left_called, moved_in, one_in}
 use Rattle.world_steps.proofs.acting.Emitting.{node_emitted}
 use Rattle.world_steps.proofs.acting.Moves.{change_counts, change_leaves, joins}
 use Rattle.world_steps.proofs.acting.Over.{IsOver}
-use Rattle.world_law.proofs.acts.Acted.{beyond_it, no_cluster}
+use Rattle.world_law.proofs.acts.Acted.{beyond_it}
 use Rattle.world_law.proofs.devices.Borne.{by_last}
 use Rattle.world_law.specs.device.Left.{IsCounted, IsLeft}
 use Rattle.world_law.specs.device.Own.{bears_on, borne}
 use Rattle.world_law.specs.device.Plain.{plains}
-
-self : (device : DeviceId) → (device.0 == device.0) ≡ true
-self device = eq-eqb device.0 device.0 refl
 
 -- the record changes the device's state
 pub record ChangesIt (device : DeviceId) (u : ℕ) (h : Happening) : Type 0 where
@@ -75,7 +75,7 @@ borne_joined : (hs front mid rest : List Happening) (device : DeviceId) (w f : H
     → borne device ((((hs ++ front) ++ w ∷ []) ++ borne device mid) ++ f ∷ []) ≡ borne device (hs ++ (front ++ w ∷ (mid ++ f ∷ rest)))
 borne_joined hs front mid rest device w f none =
     let q = λ (h : Happening). bears_on device h.note.body in
-    let left = filter_none q rest none in
+    let left = none_kept q rest none in
     let m = filter q mid in
     let a = filter q hs in
     let b = filter q front in
@@ -137,11 +137,11 @@ joined_over s hs front mid rest new now device node w f sent cause moment plan s
             reads here in
             let fell = falls x now (omega (arith, lt_x)) in
             later_below _ (s.reading device now) (s.reading device x) now_too fell;
-        done = λ deed there. absurd (none_in_it deed there);
+        done = λ deed there. absurd (none_in deed there);
       };
       sent = record {
         unsent = λ c wa x lt_x. absurd (no_cluster (observation_window s.network) wa.clusters wa.cluster wa.are wa.there);
-        sent = λ c there. absurd (none_in_it c there);
+        sent = λ c there. absurd (none_in c there);
       };
     }
   where

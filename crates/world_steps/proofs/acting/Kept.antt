@@ -20,11 +20,12 @@ use Rattle.run_law.specs.records.Order.{IsBefore, IsIn, behind}
 use Rattle.run_law.specs.scenario.Devices.{is_cm}
 use Rattle.run_law.specs.scenario.Scenarios.{Scenario, is_broken, is_turned_on_at}
 use Rattle.sync_state.specs.declared.answers.Verdict.TheVariants.{AsyncClique, Cleared, Corrected, SyncClique}
+use Rattle.tte_lemmas.proofs.Integers.{whole}
 use Rattle.tte_units.specs.Amount.{amount}
 use Rattle.world_steps.proofs.acting.Over.{IsOver}
 use Rattle.world_steps.proofs.acting.Work.{IsAtWork}
 use Rattle.world_law.proofs.acts.Acted.{acted}
-use Rattle.world_law.proofs.acts.Ready.{acting_last, natural}
+use Rattle.world_law.proofs.acts.Ready.{acting_last}
 use Rattle.world_law.proofs.putting.Bumped.{bump_behind, placed}
 use Rattle.world_law.proofs.putting.Idle.{drop_one}
 use Rattle.world_law.proofs.rows.Takings.{IsNoTaking, frames_plain, taken_parts, taken_same}
@@ -41,7 +42,7 @@ use Rattle.world_law.specs.world.World.{HasTurnedOn, IsKept, act_place}
 pub may_act_now : (s : Scenario) (device : DeviceId) (node : Node) (now : ℕ) → IsReadyAt (s.reading device) s.network device node now
     → IsSteady (s.reading device) (amount s.network.precision) → now ≤ 2 ^ 60 → MayCall s.network device node (moment_of s device now) acting
 may_act_now s device node now ready steady limit =
-    let last = natural node.last.time.0 ready.begun in
+    let last = whole node.last.time.0 ready.begun in
     let time = ready.time in
     let read = ready.last in
     let sooner : amount node.last.time ≤ now = omega (arith, ints, last, time) in

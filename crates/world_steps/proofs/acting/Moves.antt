@@ -1,18 +1,20 @@
 -- How a device stands at the next unit of time behind a record of the instant that moves it.
-use Rattle.std.proofs.Common.{◌≡◌, IfSome, ℕ, ◌+◌, ◌-◌, ◌≤◌, ◌<◌, ℤ, pos, ◌+ℤ◌, int_lt, int_le, Bool, true, false, not, ◌&&◌, ◌||◌, ◌==◌, if◌then◌else◌, List, [], ◌∷◌, ◌++◌, Option, Some, None, filter, filter_map, fold, inl, inr, refl, sym, ap, subst, ◌∙◌, arith}
+use Rattle.std.proofs.Common.{◌≡◌, IfSome, ℕ, ◌+◌, ◌-◌, ◌≤◌, ◌<◌, ℤ, pos, ◌+ℤ◌, int_lt, int_le, Bool, true, false, not, ◌&&◌, ◌||◌, ◌==◌, if◌then◌else◌, List, [], ◌∷◌, ◌++◌, Option, Some, None, filter, filter_map, fold, refl, sym, ap, subst, ◌∙◌, arith}
 use Rattle.std.specs.Prelude.{nat_lt}
 use Rattle.std.specs.List.{after_last, last_or}
 use Rattle.std.specs.Option.{option_map_or}
-use Rattle.std.proofs.lemmas.Bool.{and_left, and_right, both_ways, eq-eqb, lt-ltb, ne_eqb}
+use Rattle.std.proofs.lemmas.Bool.{and_right, both_ways, lt-ltb, ne_eqb}
 use Rattle.std.proofs.lemmas.List.{append-nil}
 use Rattle.std.proofs.lemmas.List.Elements.{filter-append}
 use Rattle.std.proofs.lemmas.List.Sums.{fold-append}
-use Rattle.compression.proofs.Held.{int_lt-false, int_le-false}
 use Rattle.membership.specs.Hearing.{Hearing}
 use Rattle.membership.specs.Summary.{Summary}
+use Rattle.net_plan.proofs.SameIds.{self}
 use Rattle.net_plan.specs.declared.ids.DeviceId.{DeviceId}
 use Rattle.pcf_values.specs.declared.members.Members.{Members}
 use Rattle.pcf_values.specs.declared.pcf.Pcf.{Pcf}
+use Rattle.run_law.proofs.records.Order.{same_kept}
+use Rattle.run_law.proofs.runs.Determined.{same_units}
 use Rattle.run_law.specs.control.Collections.{ends_stretch, point_by, points_of}
 use Rattle.run_law.specs.control.Corrections.{correction_value, cycle_after, hearing_by, heard_since, integration_cycle, is_integration_cycle, recorded_cycle}
 use Rattle.run_law.specs.declared.judgement.Judgement.TheVariants.{Integrates}
@@ -34,19 +36,16 @@ use Rattle.sync_state.specs.declared.answers.Verdict.{Verdict}
 use Rattle.sync_state.specs.declared.plan.SyncPlan.{SyncPlan}
 use Rattle.sync_state.specs.declared.state.State.TheVariants.{Integrating, Joining, Synchronised}
 use Rattle.sync_state.specs.declared.state.State.{State}
+use Rattle.tte_lemmas.proofs.Lists.{last_pushed}
 use Rattle.tte_units.specs.declared.units.Units.{Units}
 use Rattle.world_law.proofs.devices.Passes.{not_turned_on}
-use Rattle.world_law.proofs.lists.Lists.{behind_no, behind_yes, filter_no, filter_same, filter_yes, map_none}
-use Rattle.world_law.proofs.lists.Orders.{cases_int}
+use Rattle.world_law.proofs.lists.Lists.{behind_no, behind_yes, filter_no, filter_yes, map_none}
 use Rattle.world_law.specs.device.Left.{IsCounted, IsLeft, is_timed}
 use Rattle.world_law.specs.device.Told.{change_in, cleared_in, local_in, next_in, since_at}
+use Rattle.world_steps.proofs.ripening.Judged.{not_yet}
 
 fold_more : {A B : Type 0} (f : B → A → B) (a : B) (xs : List A) (x : A) → fold f a (xs ++ x ∷ []) ≡ f (fold f a xs) x
 fold_more f a xs x = fold-append f a xs (x ∷ [])
-
-last_more : {X : Type 0} (o : Option X) (xs : List X) (x : X) → last_or o (xs ++ x ∷ []) ≡ Some x
-last_more o [] x = refl
-last_more o (y ∷ xs) x = last_more (Some y) xs x
 
 -- what it heard of these, which stand behind the last change
 abbrev heard_in : Scenario → DeviceId → List Happening → ℕ → List Happening → List Hearing
@@ -70,15 +69,12 @@ pub record IsBase (s : Scenario) (js : List Happening) (device : DeviceId) (u : 
 pub one_earlier : (u : ℕ) (hs : List Happening) (h : Happening) → time_of h < u → earlier u (hs ++ h ∷ []) ≡ earlier u hs ++ h ∷ []
 one_earlier u hs h lt = filter_yes (λ g. nat_lt (time_of g) u) hs h (lt-ltb (time_of h) u lt)
 
-self : (device : DeviceId) → (device.0 == device.0) ≡ true
-self device = eq-eqb device.0 device.0 refl
-
 -- the adjustment changed last with this record
 pub changed_by : (device : DeviceId) (w : List Happening) (h : Happening) → changes_adjustment device h.note.body ≡ true
     → change_in device (w ++ h ∷ []) ≡ time_of h
 changed_by device w h it =
     ap (λ (l : List Happening). option_map_or time_of (last_or None l) 0) (filter_yes (λ g. changes_adjustment device g.note.body) w h it)
-    ∙ ap (λ (o : Option Happening). option_map_or time_of o 0) (last_more None (filter (λ g. changes_adjustment device g.note.body) w) h)
+    ∙ ap (λ (o : Option Happening). option_map_or time_of o 0) (last_pushed None (filter (λ g. changes_adjustment device g.note.body) w) h)
 
 -- and nothing has been heard since
 pub heard_anew : (s : Scenario) (hs : List Happening) (device : DeviceId) (u : ℕ) (h : Happening) → time_of h < u → changes_adjustment device h.note.body ≡ true
@@ -126,9 +122,6 @@ cycle_corrected device w h cycle by adjustment e =
 change_corrected : (device : DeviceId) (h : Happening) (cycle : ℕ) (by adjustment : Units) → h.note.body ≡ notes.Corrected device cycle by adjustment
     → changes_adjustment device h.note.body ≡ true
 change_corrected device h cycle by adjustment e = ap (changes_adjustment device) e ∙ self device
-
-same_units : (a b : Units) → a.0 ≡ b.0 → a ≡ b
-same_units a b same = ap (λ (n : ℤ). let t : Units = record { 0 = n } in t) same
 
 -- the record of a correction of the device, at a moment of a time before u: of the point that was next, and with the sum
 pub record IsCorrectedSo (s : Scenario) (device : DeviceId) (u : ℕ) (node : Node) (h : Happening) (cycle : ℕ) (by adjustment : Units)
@@ -246,7 +239,7 @@ told_by s device w h integration recorded changed adjusted =
           ∙ ap (λ (a : Units). pos (s.reading device (change_in device w)) +ℤ a.0) adjusted;
       heard = λ u since.
           ap (filter_map (λ g. hearing_by s.network device g g.note.body))
-          (filter_same (λ g. not (cleared_in s device more u) || cleared_in s device more (time_of g)) (λ g. not (cleared_in s device w u)
+          (same_kept (λ g. not (cleared_in s device more u) || cleared_in s device more (time_of g)) (λ g. not (cleared_in s device w u)
           || cleared_in s device w (time_of g)) since
           (λ g i. ap (λ (b : Bool). not b || cleared_in s device more (time_of g)) (cleared u) ∙ ap (λ (b : Bool). not (cleared_in s device w u) || b)
           (cleared (time_of g))));
@@ -365,10 +358,6 @@ cliques s hs device u node h cause why heard verdict lost same e ends lt off lef
     (change_counts s hs device u (with_clique node heard verdict) h Integrating cause why e lt (clique_counts s hs device u node heard verdict lost same left))
 
 -- ---- a frame tells the time
-
--- right after a change nothing has come to what its clock showed then, or to what lies before
-not_yet : (a v : ℤ) → (int_lt a v && int_le v a) ≡ false
-not_yet a v = elim (cases_int a v) [ inl lt ↦ and_right _ _ (int_le-false v a lt) | inr ge ↦ and_left _ _ (int_lt-false a v ge) ]
 
 -- the record tells the device the time, at the moment before u: no time is between the two
 pub record IsJoinedSo (s : Scenario) (device : DeviceId) (u : ℕ) (h : Happening) (opened : Units) (cycle : ℕ) (members : Members) (point : Units) (frame : Pcf)

@@ -1,7 +1,6 @@
 -- A device at work that has nothing more to do at the instant: the instant is over for it.
-use Rattle.std.proofs.Common.{◌≡◌, ◌⊎◌, ℕ, ◌+◌, ◌-◌, ◌≤◌, ℤ, pos, ◌<ℤ◌, ◌≤ℤ◌, true, false, List, [], ◌∷◌, ◌++◌, inl, inr, refl, sym, ap, subst, ◌∙◌, arith}
+use Rattle.std.proofs.Common.{◌≡◌, ◌⊎◌, ℕ, ◌+◌, ◌-◌, ◌≤◌, pos, ◌<ℤ◌, ◌≤ℤ◌, true, false, List, [], ◌∷◌, ◌++◌, inl, inr, refl, sym, ap, subst, ◌∙◌, arith}
 use Rattle.std.proofs.lemmas.Bool.{cases_Bool, cases_lt}
-use Rattle.std.proofs.lemmas.Int.{ints}
 use Rattle.net_plan.specs.declared.ids.DeviceId.{DeviceId}
 use Rattle.run_law.proofs.runs.Places.{in_parts, in_right}
 use Rattle.run_law.specs.control.Corrections.{has_cleared}
@@ -11,6 +10,7 @@ use Rattle.run_law.specs.machines.Tasks.{IsPending, Task, doing, emitting, readi
 use Rattle.run_law.specs.records.Happenings.{Happening, time_of}
 use Rattle.run_law.specs.records.Order.{IsIn}
 use Rattle.run_law.specs.scenario.Scenarios.{Scenario, is_broken, is_turned_on_at}
+use Rattle.tte_lemmas.proofs.Integers.{never_both}
 use Rattle.world_steps.proofs.acting.Work.{IsAtWork}
 use Rattle.world_law.proofs.acts.Acting.{IsUnmoved, cleared_on, had_come_by, point_number}
 use Rattle.world_law.proofs.devices.Passes.{passes_if}
@@ -28,9 +28,6 @@ pub record IsCalm (s : Scenario) (hs zs : List Happening) (now : ℕ) (device : 
   pub broken : is_broken s device (now + 1) ≡ is_broken s device now
   pub in_time : IsInTime hs
   pub turned : is_turned_on_at s device now ≡ true → IsTurnedOnBy (hs ++ zs) device now
-
-never_both : (a b : ℤ) → a <ℤ b → b ≤ℤ a → ⊥
-never_both a b lt le = omega (arith, ints, lt, le)
 
 -- records of the instant behind records that are no later are in the order of their times
 pub in_time_with : (hs zs : List Happening) (now : ℕ) → IsInTime hs → ((h : Happening) → IsIn h (hs ++ zs) → time_of h ≤ now)

@@ -2,6 +2,7 @@
 use Rattle.std.proofs.Common.{◌≡◌, ℕ, ◌+◌, ◌^◌, ◌≤◌, ◌<◌, pos, ◌≤ℤ◌, true, false, List, [], ◌∷◌, ◌++◌, length, map, slice_get, Some, inl, inr, refl, sym, ap, subst, ◌∙◌, arith}
 use Rattle.std.proofs.lemmas.Bool.{cases_eq, cases_lt}
 use Rattle.std.proofs.lemmas.Int.{ints}
+use Rattle.std.proofs.lemmas.Option.{same_Some}
 use Rattle.net_plan.specs.declared.ids.DeviceId.{DeviceId}
 use Rattle.net_plan.specs.declared.network.Network.{Network}
 use Rattle.run_law.proofs.runs.Places.{before_later, in_parts}
@@ -15,12 +16,12 @@ use Rattle.run_law.specs.runs.DueRecords.{IsCaused, IsDue}
 use Rattle.run_law.specs.runs.Runs.{IsFounded}
 use Rattle.run_law.specs.scenario.Scenarios.{Scenario, is_turned_on_at}
 use Rattle.schedule_tables.specs.declared.rule.Rule.TheVariants.{ScheduleStart}
+use Rattle.tte_lemmas.proofs.Integers.{whole as natural}
 use Rattle.tte_units.specs.Amount.{amount, units_of}
 use Rattle.world_steps.proofs.acting.Kept.{IsBare, may_act_now}
 use Rattle.world_steps.proofs.acting.Over.{IsCalm}
 use Rattle.world_steps.proofs.acting.Starts.{acts_wait, at_work, up_now}
 use Rattle.world_steps.proofs.acting.Work.{IsAtWork}
-use Rattle.world_law.proofs.acts.Ready.{natural}
 use Rattle.world_law.proofs.acts.Recorded.{is_sending}
 use Rattle.world_law.proofs.devices.Borne.{moves_no_other}
 use Rattle.world_law.proofs.devices.Resting.{are_past}
@@ -71,9 +72,6 @@ pub record Stage {M : Type 0} (stands : M → Network → DeviceId → Node → 
   pub wide : s.network.precision.0 ≤ℤ pos (amount s.network.cycle)
   pub limit : now ≤ 2 ^ 60
 
-some_same : {X : Type 0} (x y : X) → Some x ≡ Some y → x ≡ y
-some_same x y e = cc
-
 -- so it is where a world stands
 pub stage_of : {C M : Type 0} (reading : C → ℕ → ℕ) (stands : M → Network → DeviceId → Node → Type 0) (s : Scenario) (world : World C M) (notes : List Note)
     (old : Stands reading stands s world notes) (device : DeviceId) (machine : M) → device.0 < length s.network.device
@@ -83,7 +81,7 @@ pub stage_of : {C M : Type 0} (reading : C → ℕ → ℕ) (stands : M → Netw
 stage_of {C} {M} reading stands s world notes old device machine lt first there due =
     let hs = happenings s.network notes in
     let m = old.devices device lt in
-    let same : m.0 ≡ machine = some_same m.0 machine (sym m.1 ∙ there) in
+    let same : m.0 ≡ machine = same_Some m.0 machine (sym m.1 ∙ there) in
     held (subst (λ (x : M). IsHeld stands s hs old.coming old.cursor world.now device x) same m.2)
   where
     held : IsHeld stands s (happenings s.network notes) old.coming old.cursor world.now device machine

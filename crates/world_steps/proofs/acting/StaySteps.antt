@@ -1,9 +1,9 @@
 -- A device acts, and more is due of it at the instant: the cursor stays.
-use Rattle.std.proofs.Common.{◌≡◌, ◌⊎◌, ℕ, ◌+◌, ◌≤◌, ◌<◌, ℤ, pos, ◌<ℤ◌, ◌≤ℤ◌, Bool, true, false, List, [], ◌∷◌, ◌++◌, Option, Some, None, inl, inr, refl, sym, ap, subst, ◌∙◌, arith}
-use Rattle.std.proofs.lemmas.Int.{ints}
+use Rattle.std.proofs.Common.{◌≡◌, ◌⊎◌, ℕ, ◌+◌, ◌≤◌, ◌<◌, pos, Bool, true, false, List, [], ◌∷◌, ◌++◌, Option, Some, None, inl, inr, refl, sym, ap, subst, ◌∙◌, arith}
 use Rattle.compression.specs.declared.compressed.Compressed.{Compressed}
 use Rattle.net_plan.specs.declared.ids.DeviceId.{DeviceId}
 use Rattle.net_plan.specs.declared.network.Network.{Network}
+use Rattle.run_law.proofs.silent.Due.{no_cluster}
 use Rattle.run_law.specs.control.Collections.{observation_window}
 use Rattle.run_law.specs.declared.note.Note.{Note}
 use Rattle.run_law.specs.declared.note.NoteBody.{NoteBody}
@@ -17,6 +17,7 @@ use Rattle.run_law.specs.records.Happenings.{Happening, happenings}
 use Rattle.run_law.specs.scenario.Scenarios.{Scenario}
 use Rattle.sync_state.specs.declared.answers.Verdict.TheVariants.{AsyncClique, Cleared, Corrected, SyncClique}
 use Rattle.sync_state.specs.declared.answers.Verdict.{Verdict}
+use Rattle.tte_lemmas.proofs.Integers.{never_both}
 use Rattle.world_steps.proofs.acting.Clearing.{cleared_over}
 use Rattle.world_steps.proofs.acting.Correcting.{corrected_sent, corrects_it, no_deed}
 use Rattle.world_steps.proofs.acting.DispatchSteps.{dispatch_stays}
@@ -28,7 +29,7 @@ use Rattle.world_steps.proofs.acting.SendSteps.{send_stays}
 use Rattle.world_steps.proofs.acting.Stage.{stage_of}
 use Rattle.world_steps.proofs.acting.Starts.{changed_soon}
 use Rattle.world_steps.proofs.acting.Work.{not_over}
-use Rattle.world_law.proofs.acts.Acted.{beyond_it, no_cluster}
+use Rattle.world_law.proofs.acts.Acted.{beyond_it}
 use Rattle.world_law.proofs.acts.Acting.{point_number}
 use Rattle.world_law.specs.device.Deeds.{HasDoneFrom, HasSentFrom}
 use Rattle.world_law.specs.device.Left.{HasTaskBy}
@@ -38,9 +39,6 @@ use Rattle.world_law.specs.world.Moves.{ArePutIn, StandsBehind}
 use Rattle.world_law.specs.world.World.{Stands, World, act_place}
 
 -- ---- behind a correction point, and behind a frame by which it joins, nothing more is due
-
-never_both : (a b : ℤ) → a <ℤ b → b ≤ℤ a → ⊥
-never_both a b lt le = omega (arith, ints, lt, le)
 
 none_due : (s : Scenario) (device : DeviceId) (now changed high : ℕ) (node : Node) → HasDoneFrom s.network (s.reading device) device node changed (now + 1) high
     → HasSentFrom s device node (now + 1) high → changed ≤ now → HasTaskBy s device node now → ⊥

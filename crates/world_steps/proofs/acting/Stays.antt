@@ -18,6 +18,7 @@ use Rattle.run_law.specs.records.Order.{IsIn}
 use Rattle.run_law.specs.records.Ranks.{rank}
 use Rattle.run_law.specs.scenario.Scenarios.{Scenario, is_turned_on_at}
 use Rattle.sync_state.specs.declared.state.State.TheVariants.{Integrating}
+use Rattle.tte_lemmas.proofs.Bools.{kept_flag}
 use Rattle.world_law.proofs.acts.NoActs.{points_same}
 use Rattle.world_law.proofs.devices.Borne.{by_last}
 use Rattle.world_law.proofs.devices.OwnRecords.{same_before}
@@ -31,7 +32,7 @@ use Rattle.world_law.specs.world.World.{IsAtRest}
 
 -- ---- lists that differ in their numbers
 
-out_mapped : (f : Happening → Happening) (hs : List Happening) (h : Happening) → IsIn h (map f hs) → (g : Happening) × IsIn g hs × (h ≡ f g)
+pub out_mapped : (f : Happening → Happening) (hs : List Happening) (h : Happening) → IsIn h (map f hs) → (g : Happening) × IsIn g hs × (h ≡ f g)
 out_mapped f [] h i = absurd i
 out_mapped f (g ∷ hs) h (inl e) = (g, inl refl, e)
 out_mapped f (g ∷ hs) h (inr i) = let x = out_mapped f hs h i in (x.0, inr x.1, x.2)
@@ -52,10 +53,6 @@ heard_in s device w t since =
 
 maps_on : {X Y : Type 0} (f : X → Option Y) (xs : List X) (x : X) → filter_map f (xs ++ x ∷ []) ≡ filter_map f xs ++ filter_map f (x ∷ [])
 maps_on f xs x = filter_map-append f xs (x ∷ [])
-
-kept_flag : (b : Bool) → (not b || b) ≡ true
-kept_flag true = refl
-kept_flag false = refl
 
 one_heard : (s : Scenario) (hs : List Happening) (device : DeviceId) (t : ℕ) (h : Happening) → time_of h ≡ t
     → heard_since s (hs ++ h ∷ []) device t ≡ heard_since s hs device t ++ heard_by_these s device (h ∷ [])

@@ -9,6 +9,7 @@ use Rattle.compression.specs.declared.compressed.Compressed.{Compressed}
 use Rattle.membership.specs.Summary.{Summary, Summarizes}
 use Rattle.net_plan.specs.declared.ids.DeviceId.{DeviceId}
 use Rattle.net_plan.specs.declared.network.Network.{Network}
+use Rattle.run_law.proofs.records.Order.{same_kept}
 use Rattle.run_law.proofs.runs.Places.{in_left, in_right}
 use Rattle.run_law.specs.control.Collections.{observation_window, points_of}
 use Rattle.run_law.specs.control.Corrections.{ComesToCorrection, heard_since, next_cycle, standing_before}
@@ -32,11 +33,12 @@ use Rattle.sync_state.specs.declared.answers.Verdict.{Verdict}
 use Rattle.sync_state.specs.declared.plan.SyncPlan.{SyncPlan}
 use Rattle.sync_state.specs.declared.state.State.TheVariants.{Integrating, Joining}
 use Rattle.sync_state.specs.declared.state.State.{State}
+use Rattle.tte_lemmas.proofs.Bools.{or_none}
+use Rattle.tte_lemmas.proofs.Integers.{never_both}
 use Rattle.tte_units.specs.declared.units.Units.{Units}
 use Rattle.world_law.proofs.acts.Acting.{point_number}
 use Rattle.world_law.proofs.acts.NoActs.{points_same}
 use Rattle.world_law.proofs.devices.TurnedOn.{quiet_joins, quiet_rest}
-use Rattle.world_law.proofs.lists.Lists.{filter_same}
 use Rattle.world_law.proofs.runs.Agreement.{changed_before}
 use Rattle.world_law.proofs.runs.SourcesBack.{earlier_still, reaches_back, standing_in, up_back}
 use Rattle.world_law.specs.device.Ready.{IsReadyAt}
@@ -55,9 +57,6 @@ pub record IsAtWork (s : Scenario) (hs coming : List Happening) (now : ℕ) (dev
   pub past : (h : Happening) → IsIn h (hs ++ coming) → time_of h ≤ now
   pub of_now : (z : Happening) → IsIn z coming → (time_of z ≡ now) × (4 ≤ rank z.note.body)
   pub sound : is_broken s device now ≡ false
-
-never_both : (a b : ℤ) → a <ℤ b → b ≤ℤ a → ⊥
-never_both a b lt le = omega (arith, ints, lt, le)
 
 -- ---- from what is kept of it
 
@@ -178,10 +177,6 @@ none_joined js device now all =
       ]
     ])
 
-or_none : (b : Bool) → (b || false) ≡ b
-or_none true = refl
-or_none false = refl
-
 -- then the device hears as it stands before the instant
 pub hears_state : (s : Scenario) (js : List Happening) (device : DeviceId) (now : ℕ)
     → ((h : Happening) → IsIn h js → time_of h ≡ now → is_joined_by device h.note.body ≡ false)
@@ -193,7 +188,7 @@ pub hears_adjustment : (s : Scenario) (js : List Happening) (device : DeviceId) 
     → adjustment_at_hearing s js device now ≡ adjustment_before s js device now
 hears_adjustment s js device now past all =
     ap (λ (l : List Happening). adjustment_after s l device)
-    (filter_same (λ h. nat_lt (time_of h) now || is_joined_by device h.note.body) (λ h. nat_lt (time_of h) now) js (λ h i.
+    (same_kept (λ h. nat_lt (time_of h) now || is_joined_by device h.note.body) (λ h. nat_lt (time_of h) now) js (λ h i.
     elim (cases_lt (time_of h) now) [
       | inl lt ↦ or_left (nat_lt (time_of h) now) _ (lt-ltb (time_of h) now lt) ∙ sym (lt-ltb (time_of h) now lt)
       | inr ge ↦

@@ -2,9 +2,10 @@
 use Rattle.std.proofs.Common.{◌≡◌, ℕ, ◌≤◌, true, false, ◌==◌, List, [], ◌∷◌, ◌++◌, None, filter, inl, inr, refl, sym, ap, subst, ◌∙◌, arith}
 use Rattle.std.specs.List.{last_or}
 use Rattle.std.specs.Option.{option_map_or}
-use Rattle.std.proofs.lemmas.Bool.{cases_Bool, eqb-true}
+use Rattle.std.proofs.lemmas.Bool.{cases_Bool}
 use Rattle.std.proofs.lemmas.List.{append-nil}
 use Rattle.compression.specs.declared.compressed.Compressed.{Compressed}
+use Rattle.net_plan.proofs.SameIds.{alike}
 use Rattle.net_plan.specs.declared.event.What.TheVariants as events
 use Rattle.net_plan.specs.declared.ids.DeviceId.{DeviceId}
 use Rattle.net_plan.specs.declared.ids.LinkId.{LinkId}
@@ -53,9 +54,6 @@ pub record AreToldOf (s : Scenario) (hs coming : List Happening) (cursor : List 
 
 -- ---- what such a record says of a device
 
-same_device : (d e : DeviceId) → (d.0 == e.0) ≡ true → d ≡ e
-same_device d e is = ap (λ (n : ℕ). let x : DeviceId = record { 0 = n } in x) (eqb-true d.0 e.0 is)
-
 -- the device of which it speaks is turned on by an event
 on_so : (s : Scenario) (hs : List Happening) (now n line : ℕ) (d : DeviceId) (h : Happening) → IsFounded place_of (IsDue s) hs
     → (it : IsOfThisTime hs now n h)
@@ -71,7 +69,7 @@ rest_outcome s hs now device body founded (IsOutcome.turning d n line h sound it
       | inr other ↦ inl other
       | inl same ↦ inr (
         same,
-        ap (λ (x : DeviceId). is_turned_on_at s x now) (same_device device d same) ∙ on_so s hs now n line d h founded it is,
+        ap (λ (x : DeviceId). is_turned_on_at s x now) (alike device d same) ∙ on_so s hs now n line d h founded it is,
       )
     ]
 
@@ -82,7 +80,7 @@ out_unmoved s hs now device body broken (IsOutcome.losing d link n it) = refl
 out_unmoved s hs now device body broken (IsOutcome.turning d n line h sound it is) =
     elim (cases_Bool (device.0 == d.0)) [
       | inr other ↦ other
-      | inl same ↦ absurd (let bad : true ≡ false = sym broken ∙ ap (λ (x : DeviceId). is_broken s x now) (same_device device d same) ∙ sound in cc)
+      | inl same ↦ absurd (let bad : true ≡ false = sym broken ∙ ap (λ (x : DeviceId). is_broken s x now) (alike device d same) ∙ sound in cc)
     ]
 
 -- nor one that no event turns on
@@ -93,7 +91,7 @@ off_unmoved s hs now device body founded off (IsOutcome.turning d n line h sound
     elim (cases_Bool (device.0 == d.0)) [
       | inr other ↦ other
       | inl same ↦
-          absurd (let bad : false ≡ true = sym off ∙ ap (λ (x : DeviceId). is_turned_on_at s x now) (same_device device d same)
+          absurd (let bad : false ≡ true = sym off ∙ ap (λ (x : DeviceId). is_turned_on_at s x now) (alike device d same)
           ∙ on_so s hs now n line d h founded it is in cc)
     ]
 

@@ -1,12 +1,14 @@
 -- The events of a run and their records.
-use Rattle.std.proofs.Common.{◌≡◌, ℕ, suc, ◌+◌, pos, ◌≤ℤ◌, Bool, true, false, ◌&&◌, ◌||◌, ◌==◌, List, [], ◌∷◌, length, Some, slice_get, inl, inr, refl, sym, ap, subst, ◌∙◌}
+use Rattle.std.proofs.Common.{◌≡◌, ℕ, suc, ◌+◌, pos, ◌≤ℤ◌, Bool, true, ◌&&◌, ◌||◌, ◌==◌, List, [], ◌∷◌, length, Some, slice_get, inl, inr, refl, sym, ap, subst, ◌∙◌}
 use Rattle.std.specs.List.{list_any}
-use Rattle.std.proofs.lemmas.Bool.{cases_Bool, eq-eqb, eqb-true}
+use Rattle.std.proofs.lemmas.Bool.{and_parts, cases_Bool, eq-eqb, eqb-true}
 use Rattle.net_plan.specs.declared.event.Event.{Event}
 use Rattle.net_plan.specs.declared.event.What.TheVariants as events
 use Rattle.net_plan.specs.declared.event.What.{What}
 use Rattle.net_plan.specs.declared.ids.DeviceId.{DeviceId}
 use Rattle.run_law.proofs.law.FirstPlaces.{by_number, due_is_there, founded_at, in_at, split}
+use Rattle.run_law.proofs.records.Order.{in_any}
+use Rattle.run_law.proofs.scenario.Devices.{on_by}
 use Rattle.run_law.specs.declared.note.Note.{Note}
 use Rattle.run_law.specs.declared.note.NoteBody.TheVariants as notes
 use Rattle.run_law.specs.declared.note.NoteBody.{NoteBody}
@@ -21,15 +23,6 @@ use Rattle.tte_units.specs.declared.units.Units.{Units}
 
 -- ---- a test of a list
 
-any_at : {X : Type 0} (p : X → Bool) (xs : List X) (x : X) → IsIn x xs → p x ≡ true → list_any p xs ≡ true
-any_at p [] x i e = absurd i
-any_at p (y ∷ xs) x (inl same) e = ap (λ (b : Bool). b || list_any p xs) (ap p (sym same) ∙ e)
-any_at p (y ∷ xs) x (inr i) e =
-    elim (cases_Bool (p y)) [
-      | inl here ↦ ap (λ (b : Bool). b || list_any p xs) here
-      | inr not ↦ ap (λ (b : Bool). b || list_any p xs) not ∙ any_at p xs x i e
-    ]
-
 any_from : {X : Type 0} (p : X → Bool) (xs : List X) → list_any p xs ≡ true → (i : ℕ) × (x : X) × (slice_get xs i ≡ Some x) × (p x ≡ true)
 any_from p [] e = absurd cc
 any_from p (x ∷ xs) e =
@@ -37,10 +30,6 @@ any_from p (x ∷ xs) e =
       | inl here ↦ (0, x, refl, here)
       | inr not ↦ let more = any_from p xs (sym (ap (λ (b : Bool). b || list_any p xs) not) ∙ e) in (suc more.0, more.1, more.2, more.3)
     ]
-
-both_true : (a b : Bool) → (a && b) ≡ true → (a ≡ true) × (b ≡ true)
-both_true true b e = (refl, e)
-both_true false b e = absurd cc
 
 -- ---- the event of a record
 
@@ -57,22 +46,18 @@ pub on_by_record : (s : Scenario) (time : Units) (line now : ℕ) (device : Devi
 on_by_record s time line now device r at =
     let on : turns_on device r.event.what ≡ true = ap (turns_on device) (sym r.same) ∙ eq-eqb device.0 device.0 refl in
     let then_ : (amount r.event.time == now) ≡ true = eq-eqb (amount r.event.time) now (ap amount (sym r.at) ∙ at) in
-    any_at (λ (e : Event). turns_on device e.what && amount e.time == now) s.events r.event (in_at s.events r.before r.event r.is)
+    in_any (λ (e : Event). turns_on device e.what && amount e.time == now) s.events r.event (in_at s.events r.before r.event r.is)
     (ap (λ (b : Bool). b && amount r.event.time == now) on ∙ then_)
 
 -- ---- the record of an event
-
-turns_what : (device : DeviceId) (what : What) → turns_on device what ≡ true → what ≡ events.On device
-turns_what device (events.On other) e = ap (λ (n : ℕ). events.On (let x : DeviceId = record { 0 = n } in x)) (sym (eqb-true device.0 other.0 e))
-turns_what device other e = absurd cc
 
 -- where a device is turned on at the time, an event does so
 pub on_by_event : (s : Scenario) (device : DeviceId) (now : ℕ) → is_turned_on_at s device now ≡ true → (i : ℕ) × (e : Event) × (slice_get s.events i ≡ Some e)
     × (e.what ≡ events.On device) × (amount e.time ≡ now)
 on_by_event s device now on =
     let it = any_from (λ (e : Event). turns_on device e.what && amount e.time == now) s.events on in
-    let both = both_true (turns_on device it.1.what) (amount it.1.time == now) it.3 in
-    (it.0, it.1, it.2, turns_what device it.1.what both.0, eqb-true (amount it.1.time) now both.1)
+    let both = and_parts (turns_on device it.1.what) (amount it.1.time == now) it.3 in
+    (it.0, it.1, it.2, on_by device it.1.what both.0, eqb-true (amount it.1.time) now both.1)
 
 -- an event before the mark has its record
 pub recorded : (s : Scenario) (mark : List ℕ) (hs : List Happening) (i : ℕ) (e : Event) → IsRun place_of (IsDue s) mark hs → slice_get s.events i ≡ Some e

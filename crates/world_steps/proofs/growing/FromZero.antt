@@ -1,8 +1,8 @@
 -- No point that a compression master has collected lies before reading 0.
-use Rattle.std.proofs.Common.{◌≡◌, ℕ, zero, suc, ◌≤◌, pos, ◌≤ℤ◌, Bool, true, false, not, ◌==◌, if◌then◌else◌, List, [], ◌∷◌, ◌++◌, drop, length, Option, Some, None, Result, Ok, Err, inl, inr, refl, sym, subst, ◌∙◌, arith}
+use Rattle.std.proofs.Common.{◌≡◌, ℕ, ◌≤◌, pos, ◌≤ℤ◌, Bool, true, false, not, ◌==◌, if◌then◌else◌, List, [], ◌∷◌, ◌++◌, length, Option, Some, None, Result, Ok, Err, inl, inr, refl, sym, subst, arith}
 use Rattle.std.specs.Prelude.{All, IfSome, filter_map, nat_lt}
 use Rattle.std.specs.List.{AllByRecursion, after_last, cons_option}
-use Rattle.std.proofs.lemmas.Bool.{cases_lt, lt-ltb}
+use Rattle.std.proofs.lemmas.Bool.{ltb-false}
 use Rattle.std.proofs.lemmas.Int.{ints}
 use Rattle.std.proofs.lemmas.List.Elements.{All-from_recursion}
 use Rattle.compression.specs.Clusters.{Point, point_at}
@@ -16,6 +16,7 @@ use Rattle.pcf_codec.specs.Fields.{field}
 use Rattle.pcf_codec.specs.declared.refusal.PcfRefusal.{PcfRefusal}
 use Rattle.pcf_values.specs.declared.pcf.Pcf.{Pcf}
 use Rattle.run_law.proofs.law.FirstPlaces.{founded_at, numbered_in}
+use Rattle.run_law.proofs.records.Order.{in_drop}
 use Rattle.run_law.specs.control.Arrivals.{clock_on_arrival, control_arrival, frame_fault, frame_or_fault, is_cold_start, is_gate_shut, is_of_other_domain, is_of_other_member, point_on_arrival}
 use Rattle.run_law.specs.control.Collections.{ends_stretch, master_of, point_by, points_of}
 use Rattle.run_law.specs.control.Permanence.{IsPermanent}
@@ -40,10 +41,10 @@ use Rattle.run_law.specs.timed.Arrivals.{entry_arrival, entry_entering, octets_f
 use Rattle.run_law.specs.timed.Receptions.{arrival_of, last_taken}
 use Rattle.schedule_tables.specs.declared.entry.Entry.{Entry}
 use Rattle.transparent_clock.specs.Points.{point_of}
+use Rattle.tte_lemmas.proofs.Integers.{whole as natural}
 use Rattle.tte_units.specs.Amount.{amount}
 use Rattle.tte_units.specs.declared.units.Units.{Units}
-use Rattle.world_law.proofs.acts.Ready.{natural}
-use Rattle.world_steps.proofs.hearing.OneMaster.{first_none}
+use Rattle.world_law.proofs.frames.Proper.{no_reason}
 use Rattle.world_law.proofs.rows.Dispatching.{IsLawful}
 use Rattle.world_law.specs.device.Growing.{IsFromZero}
 use Rattle.world_law.specs.world.World.{IsKept}
@@ -72,9 +73,6 @@ frame_within network device link at frame None within =
       | false ↦ within refl
     ]
 
-not_old : (most clock : ℕ) → nat_lt most clock ≡ false → clock ≤ most
-not_old most clock e = elim (cases_lt most clock) [ inl lt ↦ absurd (let bad : true ≡ false = sym (lt-ltb most clock lt) ∙ e in cc) | inr ge ↦ ge ]
-
 control_within : (network : Network) (device : DeviceId) (link : LinkId) (p : Standpoint) (came : Result Pcf PcfRefusal)
     → ClockWithin (amount network.dmax) (control_arrival network device link p came)
 control_within network device link p (Err refusal) = tt
@@ -84,13 +82,13 @@ control_within network device link p (Ok frame) =
     let own = is_of_other_member network device link frame.members in
     let domain = is_of_other_domain network frame in
     frame_within network device link p frame (frame_fault network device link p frame) (λ none.
-    let a = (first_none (not p.takes_part) reasons.Off ((is_cold_start frame.kind, reasons.ColdStart) ∷ (domain, reasons.Domain) ∷ (own, reasons.Member)
+    let a = (no_reason (not p.takes_part) reasons.Off ((is_cold_start frame.kind, reasons.ColdStart) ∷ (domain, reasons.Domain) ∷ (own, reasons.Member)
     ∷ (old, reasons.Old) ∷ (shut, reasons.Gate) ∷ []) none).1 in
-    let b = (first_none (is_cold_start frame.kind) reasons.ColdStart ((domain, reasons.Domain) ∷ (own, reasons.Member) ∷ (old, reasons.Old)
+    let b = (no_reason (is_cold_start frame.kind) reasons.ColdStart ((domain, reasons.Domain) ∷ (own, reasons.Member) ∷ (old, reasons.Old)
     ∷ (shut, reasons.Gate) ∷ []) a).1 in
-    let c = (first_none domain reasons.Domain ((own, reasons.Member) ∷ (old, reasons.Old) ∷ (shut, reasons.Gate) ∷ []) b).1 in
-    let d = (first_none own reasons.Member ((old, reasons.Old) ∷ (shut, reasons.Gate) ∷ []) c).1 in
-    not_old (amount network.dmax) (clock_on_arrival network link frame) (first_none old reasons.Old ((shut, reasons.Gate) ∷ []) d).0)
+    let c = (no_reason domain reasons.Domain ((own, reasons.Member) ∷ (old, reasons.Old) ∷ (shut, reasons.Gate) ∷ []) b).1 in
+    let d = (no_reason own reasons.Member ((old, reasons.Old) ∷ (shut, reasons.Gate) ∷ []) c).1 in
+    ltb-false (amount network.dmax) (clock_on_arrival network link frame) (no_reason old reasons.Old ((shut, reasons.Gate) ∷ []) d).0)
 
 row_within : (most : ℕ) (network : Network) (device : DeviceId) (at : Standpoint) (entry : Entry) (fault : Option Reason)
     → ClockWithin most (taken_or_fault network device at entry fault)
@@ -167,11 +165,6 @@ consed P (Some y) ys x all = (x, all)
 mapped : {X Y : Type 0} (f : X → Option Y) (P : Y → Type 0) (xs : List X) → ((x : X) → IsIn x xs → IfSome (f x) P) → AllByRecursion P (filter_map f xs)
 mapped f P [] each = tt
 mapped f P (x ∷ xs) each = consed P (f x) (filter_map f xs) (each x (inl refl)) (mapped f P xs (λ y i. each y (inr i)))
-
-in_drop : {X : Type 0} (n : ℕ) (xs : List X) (x : X) → IsIn x (drop n xs) → IsIn x xs
-in_drop zero xs x i = i
-in_drop (suc n) [] x i = i
-in_drop (suc n) (y ∷ ys) x i = inr (in_drop n ys x i)
 
 -- the points of a device, by records that are founded
 pub points_from_zero : (s : Scenario) (hs : List Happening) (device : DeviceId) → IsInRange s.network → IsFounded place_of (IsDue s) hs

@@ -1,5 +1,5 @@
 -- A machine acts several times at one moment, and comes to an end.
-use Rattle.std.proofs.Common.{◌≡◌, ℕ, ◌+◌, ◌≤◌, ◌^◌, true, false, List, [], ◌∷◌, ◌++◌, length, inl, inr, refl, sym, subst, ◌∙◌, arith}
+use Rattle.std.proofs.Common.{◌≡◌, ℕ, ◌+◌, ◌≤◌, ◌^◌, List, [], ◌∷◌, ◌++◌, length, inl, inr, refl, sym, subst, ◌∙◌, arith}
 use Rattle.std.proofs.lemmas.Bool.{cases_lt}
 use Rattle.std.proofs.lemmas.List.{length-append}
 use Rattle.net_plan.specs.declared.ids.DeviceId.{DeviceId}
@@ -7,7 +7,6 @@ use Rattle.net_plan.specs.declared.network.Network.{Network}
 use Rattle.run_law.proofs.runs.Places.{chain}
 use Rattle.run_law.specs.machines.Calls.{MayCall}
 use Rattle.run_law.specs.machines.Nodes.{Node, Phase, acting, arriving, ripening, turning_on}
-use Rattle.run_law.specs.machines.Tasks.{IsPending, Task, doing, emitting}
 use Rattle.run_law.specs.records.Happenings.{happenings}
 use Rattle.run_law.specs.records.Order.{IsBefore}
 use Rattle.run_law.specs.scenario.Scenarios.{Scenario}
@@ -30,6 +29,7 @@ use Rattle.world_steps.specs.Acting.{correction_bodies, first_bodies, joining_bo
 use Rattle.world_law.specs.world.Calls.{moment_of}
 use Rattle.world_steps.specs.Repeating.{ActsAddUp, ActsAreBounded, ActsBringFew, NoActYet}
 use Rattle.world_law.specs.world.World.{IsHeld, rank_of_call}
+use Rattle.world_steps.proofs.steps.Passed.{no_task}
 
 pub no_act_yet : {M : Type 0} (stands : M → Network → DeviceId → Node → Type 0) → NoActYet stands
 no_act_yet stands network device moment machine node is may = ([], node, refl, refl, is)
@@ -74,10 +74,6 @@ may_act_now s now device node ready steady limit =
           subst (λ (r : ℕ). IsBefore p (now ∷ r ∷ [])) same b
     ]) steady limit (not_behind now [])
 
-none_of_broken : (network : Network) (device : DeviceId) (node : Node) (task : Task) → node.broken ≡ true → IsPending network device node task → ⊥
-none_of_broken network device node (emitting sent) broken p = let bad : true ≡ false = sym broken ∙ p.0 in cc
-none_of_broken network device node (doing deed) broken p = let bad : true ≡ false = sym broken ∙ p.0 in cc
-
 pub acts_are_bounded : {C M : Type 0} (reading : C → ℕ → ℕ) (stands : M → Network → DeviceId → Node → Type 0) → ActsAreBounded reading stands
 acts_are_bounded {C} {M} reading stands s world notes device machine new times old of_it there due so =
     let held = old.devices device of_it in
@@ -87,7 +83,7 @@ acts_are_bounded {C} {M} reading stands s world notes device machine new times o
     by : IsHeld stands s (happenings s.network notes) old.coming old.cursor world.now device machine → times ≤ 259
     by (inr k) =
         let has = due k.node k.is in
-        absurd (none_of_broken s.network device k.node has.0 k.shows has.1)
+        absurd (no_task s.network device k.node has.0 k.shows has.1)
     by (inl k) =
         let may = may_act_now s world.now device k.node k.ready (old.steady device) old.limit in
         let law = lawful reading stands s world notes old device in

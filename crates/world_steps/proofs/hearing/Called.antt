@@ -13,9 +13,10 @@ use Rattle.run_law.specs.scenario.Scenarios.{Scenario}
 use Rattle.world_law.proofs.acts.Acted.{IsAlike, undone_alike, waiting_alike}
 use Rattle.world_law.proofs.acts.Recorded.{recorded_alike}
 use Rattle.world_law.specs.device.Ready.{IsReadyAt}
-use Rattle.world_law.specs.device.Left.{HasTaskBy, IsLeft}
+use Rattle.world_law.specs.device.Left.{HasTaskBy}
 use Rattle.world_law.specs.world.Calls.{moment_of}
 use Rattle.world_law.specs.world.World.{IsKept, IsOut, rank_of_call}
+use Rattle.world_steps.proofs.ripening.Called.{left_called}
 
 -- the called device, and the device before the call, are alike
 to_called : (node : Node) (moment : Moment) (phase : Phase) → IsAlike node (called moment phase node)
@@ -23,23 +24,6 @@ to_called node moment phase = record { standing = refl; broken = refl; changed =
 
 from_called : (node : Node) (moment : Moment) (phase : Phase) → IsAlike (called moment phase node) node
 from_called node moment phase = record { standing = refl; broken = refl; changed = refl; taken = refl; done = λ d there. there }
-
-left_called : (s : Scenario) (hs : List Happening) (device : DeviceId) (t : ℕ) (node : Node) (moment : Moment) (phase : Phase) → IsLeft s hs device t node
-    → IsLeft s hs device t (called moment phase node)
-left_called s hs device t node moment phase left = record {
-  counted = record {
-    plan = left.counted.plan;
-    adjustment = left.counted.adjustment;
-    integrated = left.counted.integrated;
-    number = left.counted.number;
-    changed = left.counted.changed;
-    heard = left.counted.heard;
-    started = left.counted.started;
-    broken = left.counted.broken;
-  };
-  state = left.state;
-  points = left.points;
-}
 
 -- what the called device has still to do, it had before
 was_pending : (network : Network) (device : DeviceId) (node : Node) (moment : Moment) (phase : Phase) (task : Task)

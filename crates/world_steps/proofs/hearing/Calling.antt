@@ -8,13 +8,13 @@ use Rattle.run_law.specs.machines.Nodes.{Node, Phase, acting, arriving, ripening
 use Rattle.run_law.specs.machines.Tasks.{reading_for}
 use Rattle.run_law.specs.records.Order.{IsBefore}
 use Rattle.run_law.specs.scenario.Scenarios.{Scenario}
+use Rattle.tte_lemmas.proofs.Integers.{whole}
 use Rattle.tte_units.specs.Amount.{amount}
-use Rattle.world_law.proofs.acts.Ready.{natural}
 use Rattle.world_law.specs.device.Ready.{IsReadyAt, IsSteady}
 use Rattle.world_law.specs.world.Calls.{moment_of}
 use Rattle.world_law.specs.world.World.{IsCalledBy, rank_of_call}
 
-ranked_so : (phase : Phase) → rank_of_call phase ≡ order_of_phase phase + 1
+pub ranked_so : (phase : Phase) → rank_of_call phase ≡ order_of_phase phase + 1
 ranked_so turning_on = refl
 ranked_so arriving = refl
 ranked_so ripening = refl
@@ -25,7 +25,7 @@ pub may_call : (s : Scenario) (cursor : List ℕ) (now : ℕ) (device : DeviceId
     → IsReadyAt (s.reading device) s.network device node now → IsCalledBy node cursor now → IsSteady (s.reading device) (amount s.network.precision)
     → now ≤ 2 ^ 60 → (IsBefore (now ∷ rank_of_call phase ∷ more) cursor → ⊥) → MayCall s.network device node (moment_of s device now) phase
 may_call s cursor now device node phase more ready by steady limit waits =
-    let last = natural node.last.time.0 ready.begun in
+    let last = whole node.last.time.0 ready.begun in
     let time = ready.time in
     let read = ready.last in
     let sooner : amount node.last.time ≤ now = omega (arith, ints, last, time) in

@@ -1,6 +1,7 @@
 -- A frame on a wire arrives, and its device's machine hears it.
 use Rattle.std.proofs.Common.{◌≡◌, ℕ, true, false, ◌==◌, List, [], ◌∷◌, ◌++◌, Some, length, map, slice_get, inl, inr, refl, sym, ap, subst, ◌∙◌}
 use Rattle.std.proofs.lemmas.Bool.{cases_Bool, eq-eqb, eqb-true}
+use Rattle.net_plan.proofs.SameIds.{same_device}
 use Rattle.net_plan.specs.declared.ids.DeviceId.{DeviceId}
 use Rattle.net_plan.specs.declared.ids.LinkId.{LinkId}
 use Rattle.net_plan.specs.declared.network.Network.{Network}
@@ -79,9 +80,6 @@ arrival_put s hs front back mark cursor now e is w p =
 
 -- ---- the step
 
-same_id : (device other : DeviceId) → device.0 ≡ other.0 → device ≡ other
-same_id device other e = ap (λ (n : ℕ). let d : DeviceId = record { 0 = n } in d) e
-
 -- where a world stands and the first frame on a wire arrives, it stands again once its device has heard it
 pub heard_step : {C M : Type 0} (reading : C → ℕ → ℕ) (stands : M → Network → DeviceId → Node → Type 0) → HeardStep reading stands
 heard_step {C} {M} reading stands s world notes e machine heard octets result machines wires settled old i at first got octets_of may hears set without put =
@@ -123,7 +121,7 @@ heard_step {C} {M} reading stands s world notes e machine heard octets result ma
     (subst (λ (l : List Happening). AreOfNetwork s (hs ++ l)) r.whole old.known))
     (λ device lt. elim (cases_Bool (device.0 == e.device.0)) [
       | inl mine ↦
-          let it : e.device ≡ device = sym (same_id device e.device (eqb-true device.0 e.device.0 mine)) in
+          let it : e.device ≡ device = sym (same_device device e.device (eqb-true device.0 e.device.0 mine)) in
           subst (λ (d : DeviceId). (x : M) × (slice_get machines d.0 ≡ Some x) × IsHeld stands s hs then_ (behind here) now d x) it (
             heard,
             set.there,

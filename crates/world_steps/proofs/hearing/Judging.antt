@@ -8,7 +8,8 @@ use Rattle.pcf_codec.specs.EtherType.{least_type}
 use Rattle.pcf_codec.specs.Fields.{field}
 use Rattle.pcf_codec.specs.declared.refusal.PcfRefusal.{PcfRefusal}
 use Rattle.pcf_values.specs.declared.pcf.Pcf.{Pcf}
-use Rattle.run_law.specs.control.Arrivals.{clock_on_arrival, control_arrival, frame_fault, frame_or_fault, is_cold_start, is_gate_shut, is_of_other_domain, is_of_other_member, refused}
+use Rattle.run_law.proofs.law.FirstBroken.{off_control}
+use Rattle.run_law.specs.control.Arrivals.{control_arrival, frame_fault, frame_or_fault}
 use Rattle.run_law.specs.control.Wires.{Signal, control, timed}
 use Rattle.run_law.specs.declared.judgement.Reason.TheVariants as reasons
 use Rattle.run_law.specs.declared.judgement.Reason.{Reason}
@@ -64,16 +65,6 @@ first_off : (b : Bool) (more : List (Bool × Reason)) → b ≡ false → first_
 first_off true more e = absurd cc
 first_off false more e = refl
 
-control_off : (network : Network) (device : DeviceId) (link : LinkId) (p : Standpoint) (frame : Result Pcf PcfRefusal) → p.takes_part ≡ false
-    → control_arrival network device link p frame ≡ arrivals.Dropped reasons.Off
-control_off network device link p (Err refusal) e = ap (λ (b : Bool). arrivals.Dropped (if b then refused refusal else reasons.Off)) e
-control_off network device link p (Ok frame) e =
-    ap (frame_or_fault network device link p frame) {x = frame_fault network device link p frame} {y = Some reasons.Off}
-    (first_off p.takes_part
-    ((is_cold_start frame.kind, reasons.ColdStart) ∷ (is_of_other_domain network frame, reasons.Domain)
-    ∷ (is_of_other_member network device link frame.members, reasons.Member)
-    ∷ (nat_lt (amount network.dmax) (clock_on_arrival network link frame), reasons.Old) ∷ (is_gate_shut network device p, reasons.Gate) ∷ []) e)
-
 timed_off : (network : Network) (device : DeviceId) (link : LinkId) (p : Standpoint) (octets : List ℕ) (last : VlId → Option ℕ) → p.takes_part ≡ false
     → timed_arrival network device link p octets last ≡ arrivals.Dropped reasons.Off
 timed_off network device link p octets last e =
@@ -90,7 +81,7 @@ no_part false b e = refl
 pub broken_drops : (s : Scenario) (hs : List Happening) (device : DeviceId) (t : ℕ) (link : LinkId) (cause : ℕ) (signal : Signal) → is_broken s device t ≡ true
     → arrival_of s hs device t link cause signal ≡ arrivals.Dropped reasons.Off
 broken_drops s hs device t link cause (control frame) e =
-    control_off s.network device link (standpoint s hs device t) frame (no_part (not (is_off (state_before s hs device t))) (is_broken s device t) e)
+    off_control s.network device link (standpoint s hs device t) frame (no_part (not (is_off (state_before s hs device t))) (is_broken s device t) e)
 broken_drops s hs device t link cause (timed octets) e =
     timed_off s.network device link (standpoint s hs device t) octets (last_taken hs device t link cause)
     (no_part (not (is_off (state_before s hs device t))) (is_broken s device t) e)
@@ -99,7 +90,7 @@ broken_drops s hs device t link cause (timed octets) e =
 pub out_drops : (network : Network) (device : DeviceId) (node : Node) (moment : Moment) (link : LinkId) (signal : Signal) → node.broken ≡ true
     → arrival_at network device node moment link signal ≡ arrivals.Dropped reasons.Off
 out_drops network device node moment link (control frame) e =
-    control_off network device link (standpoint_at node moment) frame (no_part (not (is_off node.standing.state)) node.broken e)
+    off_control network device link (standpoint_at node moment) frame (no_part (not (is_off node.standing.state)) node.broken e)
 out_drops network device node moment link (timed octets) e =
     timed_off network device link (standpoint_at node moment) octets (last_taken_by node) (no_part (not (is_off node.standing.state)) node.broken e)
 

@@ -6,8 +6,8 @@ use Rattle.tte_units.specs.Amount.{amount}
 use Rattle.std.proofs.lemmas.Bool.{cases_Bool, eq-eqb, eqb-true}
 use Rattle.net_plan.proofs.Shape.{rules_give_trees}
 use Rattle.net_plan.specs.Paths.{IsPath, IsTree, IsUplink}
-use Rattle.net_plan.specs.Places.{IsCmOf, IsRoleOf, device_at, is_end_system, is_master, link_at}
-use Rattle.net_plan.specs.Rules.{IsChildOf, KeepsShapeRules}
+use Rattle.net_plan.specs.Places.{IsCmOf, IsRoleOf, device_at, is_end_system, link_at}
+use Rattle.net_plan.specs.Rules.{IsChildOf}
 use Rattle.net_plan.specs.declared.event.Event.{Event}
 use Rattle.net_plan.specs.declared.event.What.TheVariants as events
 use Rattle.net_plan.specs.declared.ids.DeviceId.{DeviceId}
@@ -15,8 +15,7 @@ use Rattle.net_plan.specs.declared.ids.LinkId.{LinkId}
 use Rattle.net_plan.specs.declared.network.Network.{Network}
 use Rattle.net_plan.specs.declared.tables.Device.{Device}
 use Rattle.net_plan.specs.declared.tables.Link.{Link}
-use Rattle.net_plan.specs.declared.tables.Role.TheVariants.{Client, Cm, Master, Relay}
-use Rattle.net_plan.specs.declared.tables.Role.{Role}
+use Rattle.net_plan.specs.declared.tables.Role.TheVariants.{Cm, Relay}
 use Rattle.net_plan.specs.declared.tables.Way.TheVariants.{Down, Up}
 use Rattle.net_plan.specs.declared.tables.Way.{Way}
 use Rattle.pcf_codec.specs.declared.refusal.PcfRefusal.{PcfRefusal}
@@ -25,6 +24,7 @@ use Rattle.pcf_values.specs.declared.members.Members.{Members}
 use Rattle.pcf_values.specs.declared.pcf.Pcf.{Pcf}
 use Rattle.run_law.proofs.law.FirstPlaces.{founded_at, number_is, numbered_front, numbered_in, numbered_within}
 use Rattle.run_law.proofs.runs.Places.{in_left}
+use Rattle.run_law.proofs.scenario.Devices.{master_end}
 use Rattle.run_law.specs.control.Arrivals.{are_others, clock_on_arrival, frame_fault, frame_or_fault, is_cold_start, is_gate_shut, is_of_other_domain, is_of_other_member}
 use Rattle.run_law.specs.control.Leaving.{Gives}
 use Rattle.run_law.specs.control.Wires.{Arrives, Launch, Signal, control, launched, signal_of, timed}
@@ -33,49 +33,34 @@ use Rattle.run_law.specs.declared.judgement.Reason.{Reason}
 use Rattle.run_law.specs.declared.note.NoteBody.TheVariants as kinds
 use Rattle.run_law.specs.declared.note.NoteBody.{NoteBody}
 use Rattle.run_law.specs.declared.steps.Arrival.{Arrival}
-use Rattle.run_law.specs.device.Standpoints.{Standpoint, first_reason, standpoint}
+use Rattle.run_law.specs.device.Standpoints.{Standpoint, standpoint}
 use Rattle.run_law.specs.machines.Calls.{IsFromSwitch, IsLinkAt, IsOfMaster, IsOneMaster, MayArrive}
 use Rattle.run_law.specs.records.Happenings.{Happening, frame_by, frame_in, numbered, time_of, with_clock}
 use Rattle.run_law.specs.records.Order.{IsIn}
 use Rattle.run_law.specs.records.Ranks.{place_of, rank}
 use Rattle.run_law.specs.runs.DueRecords.{IsArrivedRecord, IsCaused, IsDue}
 use Rattle.run_law.specs.runs.Runs.{IsFounded}
-use Rattle.run_law.specs.scenario.Devices.{IsParentOf, has_role, is_end, is_parent_of, member_of}
+use Rattle.run_law.specs.scenario.Devices.{IsParentOf, is_end, is_parent_of, member_of}
 use Rattle.run_law.specs.scenario.Scenarios.{Scenario}
 use Rattle.run_law.specs.scenario.Ways.{is_cut, receiver_of, way_from}
 use Rattle.run_law.specs.timed.Receptions.{ArrivesAs, arrival_of}
+use Rattle.schedule_tables.proofs.Margins.{shape_rules}
 use Rattle.schedule_tables.specs.Entries.{target_by}
 use Rattle.schedule_tables.specs.Rules.{KeepsRules}
-use Rattle.schedule_tables.specs.declared.rule.Rule.TheVariants.{CompressionMasters, Connections, DevicesDiffer, Joints, Limits, LinksDiffer, Masters}
+use Rattle.schedule_tables.specs.declared.rule.Rule.TheVariants.{Joints}
+use Rattle.tte_lemmas.proofs.Options.{closed, opened as at_some}
+use Rattle.world_law.proofs.frames.Proper.{no_reason}
 use Rattle.world_steps.proofs.hearing.Ranked.{rank_is}
 use Rattle.world_law.specs.world.Outcomes.{arrival_body}
 use Rattle.world_law.specs.world.World.{IsOnWire, OnWire}
 
 -- ---- options
 
-at_some : {X : Type 0} (P : X → Type 0) (o : Option X) → IsSomeAnd o P → (x : X) × (o ≡ Some x) × P x
-at_some P None h = absurd h
-at_some P (Some x) h = (x, refl, h)
-
-is_some_and : {X : Type 0} (P : X → Type 0) (o : Option X) (x : X) → o ≡ Some x → P x → IsSomeAnd o P
-is_some_and P o x e p = subst (λ (q : Option _). IsSomeAnd q P) (sym e) p
-
 -- what holds of the link holds of this one
 of_link : (network : Network) (link : LinkId) (l : Link) (P : Link → Type 0) → link_at network link ≡ Some l → IsSomeAnd (link_at network link) P → P l
 of_link network link l P e h = subst (λ (o : Option Link). IsSomeAnd o P) e h
 
 -- ---- no link leads from a switch to itself
-
-shape : (n : Network) → KeepsRules n → KeepsShapeRules n
-shape n rules = record {
-  limits = λ part. rules Limits part;
-  devices = λ i. rules DevicesDiffer i;
-  links = λ i. rules LinksDiffer i;
-  cms = λ part. rules CompressionMasters part;
-  joins = λ i. rules Joints i;
-  connected = λ i. rules Connections i;
-  masters_suffice = λ part. rules Masters part;
-}
 
 relay_no_cm : (network : Network) (channel : Channel) (device : DeviceId) → IsRoleOf network Relay channel device → IsCmOf network channel device → ⊥
 relay_no_cm network channel device relay cm =
@@ -89,7 +74,7 @@ no_way_up : (network : Network) → IsTree network → (channel : Channel) (devi
 no_way_up network tree channel device link l e child parent up relay [] path = relay_no_cm network channel device relay path
 no_way_up network tree channel device link l e child parent up relay (first ∷ links) path =
     let p = at_some _ _ path in
-    let leads : IsUplink network channel device first = is_some_and _ _ p.0 p.1 (p.2.0, p.2.1) in
+    let leads : IsUplink network channel device first = closed _ _ p.0 p.1 (p.2.0, p.2.1) in
     let one : first ≡ link = tree.one_uplink channel device first link leads up in
     let same : p.0 ≡ l = (let both : Some p.0 ≡ Some l = sym p.1 ∙ ap (link_at network) one ∙ e in cc) in
     let back : p.0.parent ≡ device = ap (λ (x : Link). x.parent) same ∙ parent in
@@ -104,15 +89,15 @@ no_loop : (network : Network) → KeepsRules network → (link : LinkId) (l : Li
 no_loop network rules link l e switch loop =
     let joint = rules Joints link.0 l e in
     let channel = joint.0 in
-    let tree = rules_give_trees network (shape network rules) in
+    let tree = rules_give_trees network (shape_rules network rules) in
     elim joint.2 [
       | inl end ↦
           let d = at_some (λ (x : Device). is_end_system x.role ≡ true) (device_at network l.child) end in
           let bad : true ≡ false = sym (end_of network l.child d.0 d.1 ∙ d.2) ∙ switch in cc
       | inr relay ↦
           let d = at_some (λ (x : Device). (x.role ≡ Relay) × (x.channel ≡ Some channel)) (device_at network l.child) relay in
-          let up : IsUplink network channel l.child link = is_some_and _ _ l e (refl, joint.1) in
-          let reach = tree.reach channel l.child (is_some_and _ _ d.0 d.1 (inr d.2.1)) in
+          let up : IsUplink network channel l.child link = closed _ _ l e (refl, joint.1) in
+          let reach = tree.reach channel l.child (closed _ _ d.0 d.1 (inr d.2.1)) in
           no_way_up network tree channel l.child link l e refl (sym loop) up relay reach.0 reach.2
     ]
 
@@ -163,7 +148,7 @@ puts_by s h t (kinds.Event line (events.Send own octets)) link way frame is e =
 puts_by s h t other link way frame is e = absurd cc
 
 -- the record's frame is the one that it puts on the link
-decoded_of : (b : Bool) (r : Result Pcf PcfRefusal) (octets : List ℕ) (frame : Pcf) → (if b then control r else timed octets) ≡ control (Ok frame)
+pub decoded_of : (b : Bool) (r : Result Pcf PcfRefusal) (octets : List ℕ) (frame : Pcf) → (if b then control r else timed octets) ≡ control (Ok frame)
     → frame_in r ≡ Some frame
 decoded_of true r octets frame e = let a : r ≡ Ok frame = cc in ap frame_in a
 decoded_of false r octets frame e = absurd cc
@@ -175,10 +160,6 @@ frame_put s front h link way frame due (Puts.sending line octets is signal by) =
     ap (λ (x : Happening). x.frame) due.same ∙ ap (frame_by s.network front) is ∙ decoded_of _ _ octets frame signal
 
 -- ---- what a switch takes
-
-pub first_none : (b : Bool) (r : Reason) (more : List (Bool × Reason)) → first_reason ((b, r) ∷ more) ≡ None → (b ≡ false) × (first_reason more ≡ None)
-first_none true r more e = absurd cc
-first_none false r more e = (refl, e)
 
 -- a control frame that is taken, by its rank, is of its link's end system, where it comes from one
 fault_of : (network : Network) (device : DeviceId) (link : LinkId) (cause : ℕ) (p : Standpoint) (frame : Pcf) (fault : Option Reason)
@@ -201,11 +182,11 @@ taken_so s js device t link cause (control (Ok frame)) e =
     let own = is_of_other_member s.network device link frame.members in
     let domain = is_of_other_domain s.network frame in
     let none = fault_of s.network device link cause p frame (frame_fault s.network device link p frame) e in
-    let a = (first_none (not p.takes_part) reasons.Off ((is_cold_start frame.kind, reasons.ColdStart) ∷ (domain, reasons.Domain) ∷ (own, reasons.Member)
+    let a = (no_reason (not p.takes_part) reasons.Off ((is_cold_start frame.kind, reasons.ColdStart) ∷ (domain, reasons.Domain) ∷ (own, reasons.Member)
     ∷ late) none).1 in
-    let b = (first_none (is_cold_start frame.kind) reasons.ColdStart ((domain, reasons.Domain) ∷ (own, reasons.Member) ∷ late) a).1 in
-    let c = (first_none domain reasons.Domain ((own, reasons.Member) ∷ late) b).1 in
-    record { frame = frame; is = refl; own = (first_none own reasons.Member late c).0 }
+    let b = (no_reason (is_cold_start frame.kind) reasons.ColdStart ((domain, reasons.Domain) ∷ (own, reasons.Member) ∷ late) a).1 in
+    let c = (no_reason domain reasons.Domain ((own, reasons.Member) ∷ late) b).1 in
+    record { frame = frame; is = refl; own = (no_reason own reasons.Member late c).0 }
 taken_so s js device t link cause (timed octets) e =
     absurd (low (is_end s.network device)
     (subst (λ (n : ℕ). (if is_end s.network device then 12 else 11) ≤ n) e (rank_is s device t link cause (timed octets) js)))
@@ -303,23 +284,10 @@ from_below s hs n up device t link cause le a parent =
       one = elim (cases_Bool (is_end s.network l.0.child)) [
         | inl end ↦ (l.0.child, own_master s.network device link l.0 a.frame.members l.1 l.2 end a.own)
         | inr switch ↦ up cause a.putting device link t a.frame le a.there a.arrives
-            (record { parent = parent; from_switch = is_some_and (λ (x : Link). is_end s.network x.child ≡ false) (link_at s.network link) l.0 l.1 switch })
+            (record { parent = parent; from_switch = closed (λ (x : Link). is_end s.network x.child ≡ false) (link_at s.network link) l.0 l.1 switch })
       ];
       own = own;
     }
-
-master_end : (network : Network) (device : DeviceId) → has_role network is_master device ≡ true → is_end network device ≡ true
-master_end network device e = by (device_at network device) e
-  where
-    of_role : (role : Role) → is_master role ≡ true → is_end_system role ≡ true
-    of_role Master m = refl
-    of_role Client m = absurd cc
-    of_role Cm m = absurd cc
-    of_role Relay m = absurd cc
-
-    by : (o : Option Device) → option_map_or (λ d. is_master d.role) o false ≡ true → option_map_or (λ d. is_end_system d.role) o false ≡ true
-    by None m = absurd cc
-    by (Some d) m = of_role d.role m
 
 parent_is : (network : Network) (device : DeviceId) (link : LinkId) (l : Link) → link_at network link ≡ Some l → l.parent ≡ device
     → is_parent_of network device link ≡ true
@@ -448,8 +416,8 @@ master_below s hs rules sends founded device t link cause a parent =
 
 at_link : (network : Network) (way : Way) (link : LinkId) (device : DeviceId) (l : Link) → link_at network link ≡ Some l → target_by way l ≡ device
     → IsLinkAt network device link
-at_link network Up link device l e same = inr (is_some_and (λ (x : Link). x.parent ≡ device) (link_at network link) l e same)
-at_link network Down link device l e same = inl (is_some_and (λ (x : Link). x.child ≡ device) (link_at network link) l e same)
+at_link network Up link device l e same = inr (closed (λ (x : Link). x.parent ≡ device) (link_at network link) l e same)
+at_link network Down link device l e same = inl (closed (λ (x : Link). x.child ≡ device) (link_at network link) l e same)
 
 received_at : (network : Network) (way : Way) (link : LinkId) (device : DeviceId) (o : Option Link) → link_at network link ≡ o
     → option_map (target_by way) o ≡ Some device → IsLinkAt network device link

@@ -1,7 +1,5 @@
 -- What becomes of a frame that arrives: the one record of it.
-use Rattle.std.proofs.Common.{◌≡◌, ◌⊎◌, ℕ, ◌≤◌, ◌<◌, true, false, List, [], ◌∷◌, ◌++◌, length, Option, Some, None, slice_get, pos, inl, inr, refl, sym, ap, subst, ◌∙◌, arith}
-use Rattle.std.specs.List.{All}
-use Rattle.std.proofs.lemmas.Option.{get_or_from_slice_get, slice_get_within}
+use Rattle.std.proofs.Common.{◌≡◌, ◌⊎◌, ℕ, ◌≤◌, ◌<◌, true, false, List, [], ◌∷◌, ◌++◌, length, Option, Some, None, pos, inl, inr, refl, sym, ap, subst, ◌∙◌, arith}
 use Rattle.net_plan.specs.Places.{link_at}
 use Rattle.net_plan.specs.Ranges.{IsInRange, IsLinkInRange}
 use Rattle.net_plan.specs.declared.ids.DeviceId.{DeviceId}
@@ -26,6 +24,7 @@ use Rattle.run_law.specs.runs.DueRecords.{IsArrivedRecord, IsCaused}
 use Rattle.run_law.specs.scenario.Scenarios.{Scenario}
 use Rattle.run_law.specs.timed.Receptions.{ArrivesAs, arrival_of}
 use Rattle.schedule_tables.specs.Entries.{target_by}
+use Rattle.tte_lemmas.proofs.Lists.{in_all}
 use Rattle.tte_units.specs.Amount.{amount}
 use Rattle.tte_units.specs.declared.units.Units.{Units}
 use Rattle.world_law.proofs.giving.GivenParts.{second}
@@ -117,10 +116,6 @@ arrives_now s hs zs now e is it at so = record {
   arrives = subst (λ (t : ℕ). Rattle.run_law.specs.control.Wires.Arrives s it.putting e.device e.link t e.signal) at it.arrives;
   becomes = so;
 }
-
--- its device is one of the network
-pub in_all : {X : Type 0} (P : X → Type 0) (xs : List X) (i : ℕ) (x : X) → All P xs → slice_get xs i ≡ Some x → P x
-in_all P xs i x all e = subst P (get_or_from_slice_get xs i x x e) (all i x (slice_get_within xs i x e))
 
 target_in : (network : Network) (way : Way) (l : Link) (device : DeviceId) → IsLinkInRange network l → target_by way l ≡ device
     → device.0 < length network.device

@@ -1,8 +1,8 @@
 -- The record of an arrival is put in, and the cursor goes by it: what is to come is settled.
-use Rattle.std.proofs.Common.{◌≡◌, ℕ, ◌+◌, ◌≤◌, Bool, true, false, ◌&&◌, ◌||◌, ◌==◌, List, [], ◌∷◌, ◌++◌, length, map, None, option_and_then, append_assoc, inl, inr, refl, sym, ap, subst, ◌∙◌, arith}
+use Rattle.std.proofs.Common.{◌≡◌, ℕ, ◌+◌, ◌≤◌, false, ◌&&◌, ◌||◌, ◌==◌, List, [], ◌∷◌, ◌++◌, length, map, None, option_and_then, append_assoc, inl, inr, refl, sym, ap, subst, ◌∙◌, arith}
 use Rattle.std.specs.Prelude.{nat_lt}
 use Rattle.std.specs.List.{last_or}
-use Rattle.std.proofs.lemmas.Bool.{le-ltb}
+use Rattle.std.proofs.lemmas.Bool.{and_right, le-ltb, or_from}
 use Rattle.std.proofs.lemmas.List.{length-append}
 use Rattle.net_plan.specs.declared.ids.DeviceId.{DeviceId}
 use Rattle.net_plan.specs.declared.ids.LinkId.{LinkId}
@@ -38,27 +38,19 @@ use Rattle.world_law.specs.world.World.{OnWire}
 
 -- ---- the record itself does not count for its own arrival
 
-and_no : (a b : Bool) → b ≡ false → (a && b) ≡ false
-and_no true b e = e
-and_no false b e = refl
-
-or_no : (a b : Bool) → a ≡ false → b ≡ false → (a || b) ≡ false
-or_no true b e f = absurd cc
-or_no false b e f = f
-
 itself : (link : LinkId) (cause now : ℕ) → (nat_lt now now || (now == now && comes_before link cause link cause)) ≡ false
 itself link cause now =
-    or_no (nat_lt now now) (now == now && comes_before link cause link cause) (le-ltb now now (omega arith))
-    (and_no (now == now) (comes_before link cause link cause)
-    (or_no (nat_lt link.0 link.0) (link.0 == link.0 && nat_lt cause cause) (le-ltb link.0 link.0 (omega arith))
-    (and_no (link.0 == link.0) (nat_lt cause cause) (le-ltb cause cause (omega arith)))))
+    or_from (nat_lt now now) (now == now && comes_before link cause link cause) (le-ltb now now (omega arith))
+    (and_right (now == now) (comes_before link cause link cause)
+    (or_from (nat_lt link.0 link.0) (link.0 == link.0 && nat_lt cause cause) (le-ltb link.0 link.0 (omega arith))
+    (and_right (link.0 == link.0) (nat_lt cause cause) (le-ltb cause cause (omega arith)))))
 
 not_itself : (device : DeviceId) (vl : VlId) (now : ℕ) (link : LinkId) (cause : ℕ) (is : Arrival)
     → is_taken_before device vl now link cause now (arrival_body device link cause is) ≡ false
 not_itself device vl now link cause (arrivals.Accepted own cycle) =
-    and_no (device.0 == device.0 && vl.0 == own.0) (nat_lt now now || (now == now && comes_before link cause link cause)) (itself link cause now)
+    and_right (device.0 == device.0 && vl.0 == own.0) (nat_lt now now || (now == now && comes_before link cause link cause)) (itself link cause now)
 not_itself device vl now link cause (arrivals.Delivered own cycle) =
-    and_no (device.0 == device.0 && vl.0 == own.0) (nat_lt now now || (now == now && comes_before link cause link cause)) (itself link cause now)
+    and_right (device.0 == device.0 && vl.0 == own.0) (nat_lt now now || (now == now && comes_before link cause link cause)) (itself link cause now)
 not_itself device vl now link cause (arrivals.Dropped reason) = refl
 not_itself device vl now link cause (arrivals.Waits frame point) = refl
 not_itself device vl now link cause (arrivals.Passes frame way) = refl

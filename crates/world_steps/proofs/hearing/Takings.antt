@@ -1,8 +1,8 @@
 -- What a device took last, by its node and by the records.
-use Rattle.std.proofs.Common.{◌≡◌, ◌⊎◌, ℕ, ℤ, ◌<◌, Bool, true, false, ◌&&◌, ◌||◌, ◌==◌, if◌then◌else◌, List, [], ◌∷◌, ◌++◌, filter, Option, Some, None, option_map, option_and_then, inl, inr, refl, sym, ap, ◌∙◌}
+use Rattle.std.proofs.Common.{◌≡◌, ◌⊎◌, ℕ, ℤ, ◌<◌, Bool, true, false, ◌&&◌, ◌||◌, ◌==◌, if◌then◌else◌, List, [], ◌∷◌, filter, Option, Some, None, option_map, option_and_then, inl, inr, refl, sym, ap, ◌∙◌}
 use Rattle.std.specs.Prelude.{nat_lt}
 use Rattle.std.specs.List.{last_or}
-use Rattle.std.proofs.lemmas.Bool.{cases_Bool, eq-eqb, eqb-true, lt-ltb}
+use Rattle.std.proofs.lemmas.Bool.{eq-eqb, eqb-true, lt-ltb, or_left, or_right}
 use Rattle.std.proofs.lemmas.List.Elements.{filter-append}
 use Rattle.net_plan.specs.declared.ids.DeviceId.{DeviceId}
 use Rattle.net_plan.specs.declared.ids.LinkId.{LinkId}
@@ -14,6 +14,8 @@ use Rattle.run_law.specs.records.Happenings.{Happening, time_of}
 use Rattle.run_law.specs.records.Order.{IsIn}
 use Rattle.run_law.specs.scenario.Scenarios.{Scenario}
 use Rattle.run_law.specs.timed.Receptions.{comes_before, is_taken_before, last_taken, taken_cycle}
+use Rattle.tte_lemmas.proofs.Lists.{last_if, last_more}
+use Rattle.tte_lemmas.proofs.Naturals.{flips}
 use Rattle.world_law.specs.device.Takings.{frames_taken, taken_by, taken_in}
 
 -- did the device take a frame of the virtual link by the record?
@@ -24,29 +26,11 @@ is_taking device vl other = false
 
 -- ---- by its node
 
-last_more : {X : Type 0} (o : Option X) (xs ys : List X) → last_or o (xs ++ ys) ≡ last_or (last_or o xs) ys
-last_more o [] ys = refl
-last_more o (x ∷ xs) ys = last_more (Some x) xs ys
-
-last_if : {X : Type 0} (b : Bool) (o : Option X) (x : X) (xs : List X) → last_or o (if b then x ∷ xs else xs) ≡ last_or (if b then Some x else o) xs
-last_if true o x xs = refl
-last_if false o x xs = refl
-
 abbrev cycle_of : Option TakenFrame → Option ℕ
 cycle_of o = option_map (λ taking. taking.cycle) o
 
 abbrev cycle_by : Option Happening → Option ℕ
 cycle_by o = option_and_then (λ h. taken_cycle h.note.body) o
-
-turned_test : (a b : ℕ) → (a == b) ≡ (b == a)
-turned_test a b =
-    elim (cases_Bool (a == b)) [
-      | inl e ↦ e ∙ sym (eq-eqb b a (sym (eqb-true a b e)))
-      | inr e ↦ elim (cases_Bool (b == a)) [
-        | inr f ↦ e ∙ sym f
-        | inl f ↦ absurd (let bad : true ≡ false = sym (eq-eqb a b (sym (eqb-true b a f))) ∙ e in cc)
-      ]
-    ]
 
 -- one record by which it takes one, or another device does
 taking_step : (device other : DeviceId) (vl of_vl : VlId) (cycle : ℕ) (at : ℤ) (o : Option TakenFrame) (p : Option Happening) (h : Happening)
@@ -63,9 +47,9 @@ last_step : (device : DeviceId) (vl : VlId) (at : ℤ) (o : Option TakenFrame) (
     → cycle_of o ≡ cycle_by p
     → cycle_of (last_or o (filter (λ taking. taking.vl.0 == vl.0) (taken_in device at body))) ≡ cycle_by (if is_taking device vl body then Some h else p)
 last_step device vl at o p h (notes.Accepted other by from of_vl cycle) is same =
-    taking_step device other vl of_vl cycle at o p h (ap taken_cycle is) same (device.0 == other.0) (vl.0 == of_vl.0) (turned_test of_vl.0 vl.0)
+    taking_step device other vl of_vl cycle at o p h (ap taken_cycle is) same (device.0 == other.0) (vl.0 == of_vl.0) (flips of_vl.0 vl.0)
 last_step device vl at o p h (notes.Delivered other by from of_vl cycle) is same =
-    taking_step device other vl of_vl cycle at o p h (ap taken_cycle is) same (device.0 == other.0) (vl.0 == of_vl.0) (turned_test of_vl.0 vl.0)
+    taking_step device other vl of_vl cycle at o p h (ap taken_cycle is) same (device.0 == other.0) (vl.0 == of_vl.0) (flips of_vl.0 vl.0)
 last_step device vl at o p h other is same = same
 
 last_by : (device : DeviceId) (vl : VlId) (at : ℕ → ℤ) (hs : List Happening) (o : Option TakenFrame) (p : Option Happening) → cycle_of o ≡ cycle_by p
@@ -118,14 +102,6 @@ three true true c so = sym (so refl)
 three true false c so = refl
 three false b c so = refl
 
-or_first : (a b : Bool) → a ≡ true → (a || b) ≡ true
-or_first true b e = refl
-or_first false b e = absurd cc
-
-or_second : (a b : Bool) → b ≡ true → (a || b) ≡ true
-or_second true b e = refl
-or_second false b e = e
-
 -- it is earlier, or of the time and by an arrival before this one
 abbrev pub IsSooner : DeviceId → ℕ → LinkId → ℕ → Happening → NoteBody → Type 0
 IsSooner device t link cause h (notes.Accepted other by from of_vl cycle) =
@@ -139,8 +115,8 @@ sooner_test : (device other : DeviceId) (t : ℕ) (link : LinkId) (cause : ℕ) 
     → (nat_lt at t || (at == t && comes_before by from link cause)) ≡ true
 sooner_test device other t link cause at by from so e =
     elim (so (ap (λ (n : ℕ). let d : DeviceId = record { 0 = n } in d) (eqb-true device.0 other.0 e))) [
-      | inl lt ↦ or_first (nat_lt at t) (at == t && comes_before by from link cause) (lt-ltb at t lt)
-      | inr same ↦ or_second (nat_lt at t) (at == t && comes_before by from link cause)
+      | inl lt ↦ or_left (nat_lt at t) (at == t && comes_before by from link cause) (lt-ltb at t lt)
+      | inr same ↦ or_right (nat_lt at t) (at == t && comes_before by from link cause)
           (ap (λ (b : Bool). b && comes_before by from link cause) (eq-eqb at t same.0) ∙ before_so by from link cause same.1)
     ]
 

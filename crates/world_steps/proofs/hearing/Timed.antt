@@ -31,6 +31,7 @@ use Rattle.world_steps.proofs.hearing.Putting.{IsHeardAs, least_rank}
 use Rattle.world_steps.proofs.hearing.Ranked.{control_still, standpoint_still}
 use Rattle.world_steps.proofs.hearing.Takings.{IsBefore2, IsSooner, taken_last, taking_is}
 use Rattle.world_law.proofs.putting.Moving.{IsMoving}
+use Rattle.world_law.proofs.putting.NearPut.{filter_none}
 use Rattle.world_law.proofs.putting.Renumbers.{timed_by}
 use Rattle.world_law.proofs.rows.Entered.{delivered_end}
 use Rattle.world_law.proofs.rows.Takings.{IsNoTaking}
@@ -152,10 +153,6 @@ kept_judges stands s hs coming mark cursor now e machine signal a k =
 
 -- ---- and as those say that leave none before its place
 
-none_in : (q : Happening → Bool) (rest : List Happening) → ((z : Happening) → IsIn z rest → q z ≡ false) → filter q rest ≡ []
-none_in q [] never = refl
-none_in q (z ∷ rest) never = ap (λ (b : Bool). if b then z ∷ filter q rest else filter q rest) (never z (inl refl)) ∙ none_in q rest (λ y i. never y (inr i))
-
 place_sooner : (now t r k : ℕ) (device other link by cause from : ℕ) → t ≡ now → device ≡ other → k ≤ r → (by < link) ⊎ ((by ≡ link) × (from < cause))
     → IsBefore (t ∷ k ∷ other ∷ by ∷ from ∷ []) (now ∷ r ∷ device ∷ link ∷ cause ∷ [])
 place_sooner now t r k device other link by cause from at same le before =
@@ -237,7 +234,7 @@ last_still : (s : Scenario) (hs coming : List Happening) (mark cursor : List ℕ
     → last_taken (hs ++ coming) e.device now e.link e.cause vl ≡ last_taken (hs ++ f) e.device now e.link e.cause vl
 last_still s hs coming mark cursor now e a f rest r whole none high vl =
     let q = λ (h : Happening). is_taken_before e.device vl now e.link e.cause (time_of h) h.note.body in
-    let gone : filter q rest ≡ [] = none_in q rest (λ z i. not_by e.device vl now e.link e.cause (time_of z) z.note.body
+    let gone : filter q rest ≡ [] = filter_none q rest (λ z i. not_by e.device vl now e.link e.cause (time_of z) z.note.body
     (apart s hs coming mark cursor now e a z (subst (λ (l : List Happening). IsIn z l) (sym whole) (in_right z f rest i)) r (none z i) high z.note.body refl))
     in
     ap (λ (l : List Happening). option_and_then (λ h. taken_cycle h.note.body) (last_or None l))

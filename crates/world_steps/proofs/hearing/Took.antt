@@ -1,5 +1,5 @@
 -- A device that took a frame has the tasks that it had, and such as are for later readings.
-use Rattle.std.proofs.Common.{◌≡◌, ◌⊎◌, ℕ, ℤ, pos, ◌+ℤ◌, ◌-ℤ◌, ◌<ℤ◌, ◌≤ℤ◌, Bool, true, false, ◌==◌, if◌then◌else◌, List, [], ◌∷◌, ◌++◌, filter, Option, Some, None, IsSomeAnd, inl, inr, refl, sym, ap, subst, ◌∙◌, arith}
+use Rattle.std.proofs.Common.{◌≡◌, ◌⊎◌, ℕ, ℤ, pos, ◌+ℤ◌, ◌<ℤ◌, ◌≤ℤ◌, Bool, true, false, ◌==◌, if◌then◌else◌, List, [], ◌∷◌, ◌++◌, filter, Option, Some, None, IsSomeAnd, inl, inr, refl, sym, ap, subst, ◌∙◌, arith}
 use Rattle.std.specs.List.{last_or}
 use Rattle.std.proofs.lemmas.Bool.{cases_Bool}
 use Rattle.std.proofs.lemmas.Int.{ints}
@@ -13,6 +13,8 @@ use Rattle.run_law.specs.machines.Nodes.{ClockTask, Node, TakenFrame, arriving, 
 use Rattle.run_law.specs.machines.Tasks.{IsDeedOf, IsPending, IsUndone, IsWaiting, Task, doing, emitting, reading_for, value_of}
 use Rattle.run_law.specs.records.Happenings.{Happening}
 use Rattle.run_law.specs.scenario.Scenarios.{Scenario}
+use Rattle.tte_lemmas.proofs.Integers.{ahead_yet}
+use Rattle.tte_lemmas.proofs.Lists.{last_kept, last_pushed}
 use Rattle.tte_units.specs.Amount.{amount}
 use Rattle.world_law.specs.device.Ready.{IsReadyAt, IsSteady}
 use Rattle.world_law.specs.device.Deeds.{HasDoneFrom, HasSentFrom}
@@ -22,14 +24,6 @@ use Rattle.world_law.specs.world.Calls.{moment_of}
 -- the device that took a frame by the call
 abbrev pub took : Moment → VlId → ℕ → Node → Node
 took moment vl cycle node = called moment arriving (with_taken node moment vl cycle)
-
-last_end : {X : Type 0} (o : Option X) (xs : List X) (x : X) → last_or o (xs ++ x ∷ []) ≡ Some x
-last_end o [] x = refl
-last_end o (y ∷ xs) x = last_end (Some y) xs x
-
-last_no : {X : Type 0} (o : Option X) (xs : List X) → last_or o (xs ++ []) ≡ last_or o xs
-last_no o [] = refl
-last_no o (y ∷ xs) = last_no (Some y) xs
 
 -- the frame that it took last of a virtual link is that one, or the one before
 last_took : (node : Node) (moment : Moment) (vl own : VlId) (cycle : ℕ) (b : Bool) → (vl.0 == own.0) ≡ b
@@ -44,11 +38,8 @@ last_took node moment vl own cycle b e =
     by : (b : Bool) → last_or None (filter (λ (taking : TakenFrame). taking.vl.0 == own.0) node.taken
         ++ (if b then record { vl = vl; cycle = cycle; at = local_at node moment } ∷ [] else []))
         ≡ (if b then Some (record { vl = vl; cycle = cycle; at = local_at node moment }) else last_taken_frame node own)
-    by true = last_end None (filter (λ (taking : TakenFrame). taking.vl.0 == own.0) node.taken) (record { vl = vl; cycle = cycle; at = local_at node moment })
-    by false = last_no None (filter (λ (taking : TakenFrame). taking.vl.0 == own.0) node.taken)
-
-beyond_now : (now adjustment at value : ℤ) → at ≡ (now +ℤ adjustment) → at <ℤ value → now <ℤ (value -ℤ adjustment)
-beyond_now now adjustment at value is lt = omega (arith, ints, is, lt)
+    by true = last_pushed None (filter (λ (taking : TakenFrame). taking.vl.0 == own.0) node.taken) (record { vl = vl; cycle = cycle; at = local_at node moment })
+    by false = last_kept None (filter (λ (taking : TakenFrame). taking.vl.0 == own.0) node.taken)
 
 -- a deed of it was one before, or is for a later reading
 was_deed : (network : Network) (device : DeviceId) (node : Node) (moment : Moment) (vl : VlId) (cycle : ℕ) (deed : ClockTask)
@@ -63,7 +54,7 @@ was_deed network device node moment vl cycle (dispatching row number) own =
         | inl of_it ↦
             let last = subst (λ (o : Option TakenFrame). IsSomeAnd o (λ taking. (taking.cycle ≡ number)
             × (taking.at <ℤ value_of network (dispatching row number)))) (last_took node moment vl own.1.entry.row.vl cycle true of_it) taken.1.last in
-            inr (beyond_now moment.reading.0 node.standing.adjustment.0 (local_at node moment) (value_of network (dispatching row number)) refl last.1)
+            inr (ahead_yet moment.reading.0 node.standing.adjustment.0 (local_at node moment) (value_of network (dispatching row number)) refl last.1)
         | inr other ↦
             let last = subst (λ (o : Option TakenFrame). IsSomeAnd o (λ taking. (taking.cycle ≡ number)
             × (taking.at <ℤ value_of network (dispatching row number)))) (last_took node moment vl own.1.entry.row.vl cycle false other) taken.1.last in

@@ -5,6 +5,7 @@ use Rattle.compression.specs.Clusters.{Point}
 use Rattle.compression.specs.declared.compressed.Compressed.{Compressed}
 use Rattle.net_plan.specs.declared.ids.DeviceId.{DeviceId}
 use Rattle.net_plan.specs.declared.network.Network.{Network}
+use Rattle.run_law.proofs.device.States.{joined_or}
 use Rattle.run_law.proofs.runs.Places.{in_left, in_parts, in_right, parted}
 use Rattle.run_law.specs.control.Permanence.{ripe_as}
 use Rattle.run_law.specs.declared.judgement.Judgement.TheVariants as judgements
@@ -63,10 +64,6 @@ pub record IsAnswered {M : Type 0} (stands : M → Network → DeviceId → Node
   pub is : stands after s.network e.device (called (moment_of s e.device now) ripening
       (after_permanence node (moment_of s e.device now) (channel_of_link s.network e.link) e.frame e.point result))
 
-on_of : (b : Bool) (state : State) → is_off state ≡ false → is_off (if b then Joining else state) ≡ false
-on_of true state e = refl
-on_of false state e = e
-
 both_flags : (a b : Bool) → Rattle.std.specs.Prelude.◌&&◌ (Rattle.std.specs.Prelude.not a) (Rattle.std.specs.Prelude.not b) ≡ true → (a ≡ false) × (b ≡ false)
 both_flags false false e = (refl, refl)
 both_flags false true e = absurd cc
@@ -115,7 +112,7 @@ may_be_asked stands s hs coming mark cursor now e machine r k master =
     ] in
     let hearing : IsHearing s.network device k.node = record {
       linked = (e.link, at);
-      on = ap is_off hears.state ∙ on_of (has_joined_at hs device now) (state_before s hs device now) on;
+      on = ap is_off hears.state ∙ joined_or (has_joined_at hs device now) (state_before s hs device now) on;
       sound = broken;
     } in
     let call = may_call stands s hs coming cursor now device machine ripening (ripe_more e) k r.steady r.limit r.moving.waits in

@@ -1,12 +1,12 @@
 -- A device that took part once is on from then on.
-use Rattle.std.proofs.Common.{◌≡◌, ◌⊎◌, ℕ, ◌+◌, ◌≤◌, ◌<◌, Bool, true, false, not, ◌&&◌, ◌||◌, ◌==◌, nat_lt, nat_le, if◌then◌else◌, List, [], ◌∷◌, length, filter, fold, inl, inr, refl, sym, ap, subst, ◌∙◌, arith}
-use Rattle.std.specs.List.{list_any}
-use Rattle.std.proofs.lemmas.Bool.{both_ways, cases_Bool, cases_lt, eq-eqb, eqb-true, le-leb, lt-ltb, le-ltb}
-use Rattle.net_plan.specs.declared.event.Event.{Event}
+use Rattle.std.proofs.Common.{◌≡◌, ◌⊎◌, ℕ, ◌+◌, ◌≤◌, ◌<◌, Bool, true, false, ◌&&◌, ◌==◌, if◌then◌else◌, List, [], ◌∷◌, length, fold, inl, inr, refl, sym, ap, subst, ◌∙◌, arith}
+use Rattle.std.proofs.lemmas.Bool.{both_ways, cases_Bool, cases_lt, eq-eqb, eqb-true, and_parts}
 use Rattle.net_plan.specs.declared.event.What.{What}
-use Rattle.net_plan.specs.declared.event.What.TheVariants.{On}
 use Rattle.net_plan.specs.declared.ids.DeviceId.{DeviceId}
 use Rattle.run_law.proofs.law.FirstPlaces.{by_number, due_is_there, front_founded, in_front_of, split}
+use Rattle.run_law.proofs.records.Happenings.{from_earlier, is_earlier}
+use Rattle.run_law.proofs.records.Order.{any_in}
+use Rattle.run_law.proofs.scenario.Devices.{on_by}
 use Rattle.run_law.specs.declared.judgement.Why.{Why}
 use Rattle.run_law.specs.declared.judgement.Why.TheVariants as whys
 use Rattle.run_law.specs.declared.note.Note.{Note}
@@ -19,7 +19,6 @@ use Rattle.run_law.specs.records.Order.{IsBefore, IsIn}
 use Rattle.run_law.specs.records.Ranks.{place_of}
 use Rattle.run_law.specs.runs.DueRecords.{IsCaused, IsDue}
 use Rattle.run_law.specs.runs.Runs.{IsFounded, IsRun}
-use Rattle.run_law.specs.scenario.Hypothesis.{breaks_at}
 use Rattle.run_law.specs.scenario.Scenarios.{Scenario, is_broken, is_turned_on_at, turns_on}
 use Rattle.sync_state.specs.declared.state.State.{State}
 use Rattle.sync_state.specs.declared.state.State.TheVariants.{Integrating, Joining}
@@ -102,75 +101,7 @@ woken device z (x ∷ l) e =
       ]
     ]
 
--- ---- lists
-
-pub in_earlier : (t : ℕ) (hs : List Happening) (h : Happening) → IsIn h hs → time_of h < t → IsIn h (earlier t hs)
-in_earlier t [] h i lt = i
-in_earlier t (x ∷ hs) h (inl same) lt =
-    let early : nat_lt (time_of x) t ≡ true = ap (λ (y : Happening). nat_lt (time_of y) t) (sym same) ∙ lt-ltb (time_of h) t lt in
-    subst (λ (b : Bool). IsIn h (if b then x ∷ earlier t hs else earlier t hs)) (sym early) (inl same)
-in_earlier t (x ∷ hs) h (inr i) lt =
-    elim (nat_lt (time_of x) t) as (λ b. IsIn h (if b then x ∷ earlier t hs else earlier t hs))
-    [ true ↦ inr (in_earlier t hs h i lt) | false ↦ in_earlier t hs h i lt ]
-
-pub from_earlier : (t : ℕ) (hs : List Happening) (h : Happening) → IsIn h (earlier t hs) → IsIn h hs × (time_of h < t)
-from_earlier t [] h i = absurd i
-from_earlier t (x ∷ hs) h i =
-    elim (cases_lt (time_of x) t) [
-      | inl lt ↦ elim (subst (λ (b : Bool). IsIn h (if b then x ∷ earlier t hs else earlier t hs)) (lt-ltb (time_of x) t lt) i) [
-        | inl same ↦ (inl same, subst (λ (y : Happening). time_of y < t) (sym same) lt)
-        | inr more ↦ let it = from_earlier t hs h more in (inr it.0, it.1)
-      ]
-      | inr ge ↦ let it =
-          from_earlier t hs h (subst (λ (b : Bool). IsIn h (if b then x ∷ earlier t hs else earlier t hs)) (le-ltb (time_of x) t ge) i) in (inr it.0, it.1)
-    ]
-
-pub any_in : {X : Type 0} (q : X → Bool) (xs : List X) → list_any q xs ≡ true → (x : X) × IsIn x xs × (q x ≡ true)
-any_in q [] e = absurd cc
-any_in q (x ∷ xs) e =
-    elim (cases_Bool (q x)) [
-      | inl it ↦ (x, inl refl, it)
-      | inr not ↦ let more = any_in q xs (sym (ap (λ (b : Bool). b || list_any q xs) not) ∙ e) in (more.0, inr more.1, more.2)
-    ]
-
-any_less : (q : Event → Bool) (t later : ℕ) (xs : List Event) → t ≤ later → list_any q (filter (λ e. nat_le (amount e.time) later) xs) ≡ false
-    → list_any q (filter (λ e. nat_le (amount e.time) t) xs) ≡ false
-any_less q t later [] le none = refl
-any_less q t later (x ∷ xs) le none =
-    elim (cases_lt t (amount x.time)) [
-      | inl far ↦
-          ap (λ (b : Bool). list_any q (if b then x ∷ filter (λ e. nat_le (amount e.time) t) xs else filter (λ e. nat_le (amount e.time) t) xs))
-          (Rattle.std.proofs.lemmas.Bool.lt-leb (amount x.time) t far)
-          ∙ any_less q t later xs le (rest (nat_le (amount x.time) later) none)
-      | inr near ↦
-          let both = ap (λ (b : Bool). list_any q (if b then x ∷ filter (λ e. nat_le (amount e.time) later) xs
-          else filter (λ e. nat_le (amount e.time) later) xs))
-          (sym (le-leb (amount x.time) later (omega (arith, near, le)))) ∙ none in
-          let parts = Rattle.std.proofs.lemmas.Bool.or_parts (q x) (list_any q (filter (λ e. nat_le (amount e.time) later) xs)) both in
-          ap (λ (b : Bool). list_any q (if b then x ∷ filter (λ e. nat_le (amount e.time) t) xs else filter (λ e. nat_le (amount e.time) t) xs))
-          (le-leb (amount x.time) t near)
-          ∙ ap (λ (b : Bool). b || list_any q (filter (λ e. nat_le (amount e.time) t) xs)) parts.0
-          ∙ any_less q t later xs le parts.1
-    ]
-  where
-    rest : (b : Bool) → list_any q (if b then x ∷ filter (λ e. nat_le (amount e.time) later) xs else filter (λ e. nat_le (amount e.time) later) xs) ≡ false
-        → list_any q (filter (λ e. nat_le (amount e.time) later) xs) ≡ false
-    rest true e = (Rattle.std.proofs.lemmas.Bool.or_parts (q x) (list_any q (filter (λ e. nat_le (amount e.time) later) xs)) e).1
-    rest false e = e
-
--- a device that is sound was so before
-pub sound_before : (s : Scenario) (device : DeviceId) (t later : ℕ) → t ≤ later → is_broken s device later ≡ false → is_broken s device t ≡ false
-sound_before s device t later le sound = any_less (λ e. breaks_at device.0 e.what) t later s.events le sound
-
 -- ---- an event that turned the device on has its record, and so has what came of it
-
-on_by : (device : DeviceId) (what : What) → turns_on device what ≡ true → what ≡ On device
-on_by device (On other) e = let same = eqb-true device.0 other.0 e in ap (λ (n : ℕ). On (let d : DeviceId = record { 0 = n } in d)) (sym same)
-on_by device other e = absurd cc
-
-pub both_are : (b c : Bool) → (b && c) ≡ true → (b ≡ true) × (c ≡ true)
-both_are true c e = (refl, e)
-both_are false c e = absurd cc
 
 pub on_recorded : (s : Scenario) (mark : List ℕ) (hs : List Happening) (now t : ℕ) (device : DeviceId) → IsRun place_of (IsDue s) mark hs
     → ((p : List ℕ) → IsBefore p (now ∷ []) → IsBefore p mark)
@@ -179,7 +110,7 @@ pub on_recorded : (s : Scenario) (mark : List ℕ) (hs : List Happening) (now t 
 on_recorded s mark hs now t device run past befallen lt on sound =
     let it = any_in (λ e. turns_on device e.what && amount e.time == t) s.events on in
     let e = it.0 in
-    let parts = both_are (turns_on device e.what) (amount e.time == t) it.2 in
+    let parts = and_parts (turns_on device e.what) (amount e.time == t) it.2 in
     let at : amount e.time ≡ t = eqb-true (amount e.time) t parts.1 in
     let what = on_by device e.what parts.0 in
     let get = in_get s.events e it.1 in
@@ -249,14 +180,14 @@ still_on s mark hs front now t device run past befallen le inside on sound =
                 ] in
                 let it = on_recorded s mark hs now t device run past befallen sooner turned sound in
                 let early : time_of it.0 < now = let at = it.2 in omega (arith, at, sooner) in
-                inr (it.0, in_earlier now hs it.0 it.1 early, it.3)
+                inr (it.0, is_earlier now hs it.0 it.1 early, it.3)
             | inr off_then ↦
                 elim (woken device start (earlier t front) (ap is_off (sym (not_turned_on s front device t off_then)) ∙ on)) [
                   | inl z ↦ inl z
                   | inr (h, i, st) ↦
                       let it = from_earlier t front h i in
                       let sooner = it.1 in
-                      inr (h, in_earlier now hs h (inside h it.0) (omega (arith, sooner, le)), st)
+                      inr (h, is_earlier now hs h (inside h it.0) (omega (arith, sooner, le)), st)
                 ]
           ])
     ]

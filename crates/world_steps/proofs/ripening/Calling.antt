@@ -1,26 +1,21 @@
 -- A device that a world keeps may be called, as its source comes.
-use Rattle.std.proofs.Common.{◌≡◌, ℕ, ◌+◌, ◌^◌, ◌≤◌, ◌<◌, ℤ, pos, ◌<ℤ◌, List, ◌∷◌, inl, inr, refl, sym, ap, subst, arith}
+use Rattle.std.proofs.Common.{◌≡◌, ℕ, ◌^◌, ◌≤◌, ◌<◌, ℤ, pos, ◌<ℤ◌, List, ◌∷◌, inl, inr, refl, sym, ap, subst, arith}
 use Rattle.std.proofs.lemmas.Bool.{cases_lt}
 use Rattle.std.proofs.lemmas.Int.{ints}
 use Rattle.net_plan.specs.declared.ids.DeviceId.{DeviceId}
 use Rattle.net_plan.specs.declared.network.Network.{Network}
 use Rattle.run_law.specs.machines.Calls.{MayCall, order_of_phase}
 use Rattle.run_law.specs.records.Happenings.{Happening}
-use Rattle.run_law.specs.machines.Nodes.{Node, Phase, acting, arriving, ripening, turning_on}
+use Rattle.run_law.specs.machines.Nodes.{Node, Phase}
 use Rattle.run_law.specs.records.Order.{IsBefore}
 use Rattle.run_law.specs.scenario.Scenarios.{Scenario}
 use Rattle.run_law.specs.machines.Tasks.{reading_for}
+use Rattle.tte_lemmas.proofs.Integers.{whole}
 use Rattle.tte_units.specs.Amount.{amount}
 use Rattle.world_law.specs.device.Ready.{IsSteady}
 use Rattle.world_law.specs.world.Calls.{moment_of}
 use Rattle.world_law.specs.world.World.{IsKept, rank_of_call}
-use Rattle.world_law.proofs.acts.Ready.{natural}
-
-ranked_so : (phase : Phase) → rank_of_call phase ≡ order_of_phase phase + 1
-ranked_so turning_on = refl
-ranked_so arriving = refl
-ranked_so ripening = refl
-ranked_so acting = refl
+use Rattle.world_steps.proofs.hearing.Calling.{ranked_so}
 
 pub may_call : {M : Type 0} (stands : M → Network → DeviceId → Node → Type 0) (s : Scenario) (hs coming : List Happening) (cursor : List ℕ) (now : ℕ)
     (device : DeviceId) (machine : M) (phase : Phase) (more : List ℕ)
@@ -28,7 +23,7 @@ pub may_call : {M : Type 0} (stands : M → Network → DeviceId → Node → Ty
     → (IsBefore (now ∷ rank_of_call phase ∷ more) cursor → ⊥)
     → MayCall s.network device k.node (moment_of s device now) phase
 may_call stands s hs coming cursor now device machine phase more k steady limit waits =
-    let last = natural k.node.last.time.0 k.ready.begun in
+    let last = whole k.node.last.time.0 k.ready.begun in
     let time = k.ready.time in
     let read = k.ready.last in
     let sooner : amount k.node.last.time ≤ now = omega (arith, ints, last, time) in

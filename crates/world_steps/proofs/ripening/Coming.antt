@@ -16,13 +16,13 @@ use Rattle.run_law.specs.records.Ranks.{key, members_in, place_of, rank}
 use Rattle.run_law.specs.runs.DueRecords.{IsCaused}
 use Rattle.run_law.specs.scenario.Scenarios.{Scenario}
 use Rattle.sync_state.specs.declared.state.State.{State}
-use Rattle.sync_state.specs.declared.state.State.TheVariants.{Integrating}
 use Rattle.tte_units.specs.Amount.{amount}
+use Rattle.world_law.proofs.acts.NoActs.{turning_stretch}
 use Rattle.world_law.proofs.putting.Moving.{IsMoving}
 use Rattle.world_steps.proofs.ripening.Merely.{IsMere, mere_joins}
 use Rattle.world_law.proofs.runs.SourcesBack.{no_higher, numbered_parts}
 use Rattle.world_law.specs.source.Sources.{IsOwnSource}
-use Rattle.world_law.specs.world.World.{IsAtRest, is_turning}
+use Rattle.world_law.specs.world.World.{IsAtRest}
 
 -- no frame is permanent by it, nothing compressed and nothing corrected; a state is that of an event or of a frame
 abbrev pub IsLateKind : NoteBody → Type 0
@@ -142,11 +142,6 @@ late_mere device (kinds.Corrected other cycle by adjustment) late = absurd late
 late_mere device (kinds.State other state cause why) late = tt
 late_mere device other late = refl
 
--- what leaves a device at rest ends no stretch of it
-turning_ends : (device : DeviceId) (body : NoteBody) → is_turning device body ≡ true → ends_stretch device body ≡ false
-turning_ends device (kinds.State other Integrating cause whys.On) e = refl
-turning_ends device other e = absurd cc
-
 still_ends : (device : DeviceId) (body : NoteBody) → IsLateKind body → Rattle.world_law.specs.device.Own.moves device body ≡ false
     → ends_stretch device body ≡ false
 still_ends device (kinds.State other state cause whys.On) late e = refl
@@ -161,7 +156,7 @@ still_ends device other late e = refl
 
 pub rest_ends : (s : Scenario) (device : DeviceId) (now : ℕ) (body : NoteBody) → IsLateKind body → IsAtRest s device now body → ends_stretch device body ≡ false
 rest_ends s device now body late (inl still) = still_ends device body late still
-rest_ends s device now body late (inr on) = turning_ends device body on.0
+rest_ends s device now body late (inr on) = turning_stretch device body on.0
 
 -- the causes of states to come are given
 pub state_cause : (s : Scenario) (hs front : List Happening) (device : DeviceId) (t : ℕ) (state : State) (cause : ℕ) (why : Why)

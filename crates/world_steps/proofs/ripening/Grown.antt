@@ -3,16 +3,18 @@ use Rattle.std.proofs.Common.{◌≡◌, IfSome, ℕ, ◌+◌, ◌≤◌, pos, �
 use Rattle.std.specs.Prelude.{nat_lt}
 use Rattle.std.specs.List.{after_last}
 use Rattle.std.specs.Option.{option_map_or}
-use Rattle.std.proofs.lemmas.Bool.{eq-eqb, le-ltb}
+use Rattle.std.proofs.lemmas.Bool.{le-ltb}
 use Rattle.std.proofs.lemmas.List.{append-nil}
 use Rattle.std.proofs.lemmas.List.Elements.{filter-append}
 use Rattle.compression.specs.Clusters.{Point, point_at}
 use Rattle.membership.specs.Hearing.{Hearing}
+use Rattle.net_plan.proofs.SameIds.{self}
 use Rattle.net_plan.specs.declared.ids.DeviceId.{DeviceId}
 use Rattle.net_plan.specs.declared.ids.LinkId.{LinkId}
 use Rattle.net_plan.specs.declared.network.Network.{Network}
 use Rattle.pcf_values.specs.declared.channel.Channel.{Channel}
 use Rattle.pcf_values.specs.declared.pcf.Pcf.{Pcf}
+use Rattle.run_law.proofs.records.Order.{after_more, same_kept}
 use Rattle.run_law.specs.device.LocalClocks.{changed_at, changes_adjustment}
 use Rattle.run_law.specs.control.Collections.{ends_stretch, master_of, point_by, points_of}
 use Rattle.run_law.specs.control.Corrections.{has_cleared, heard_by, hearing_by, heard_since, recorded_cycle}
@@ -33,8 +35,7 @@ use Rattle.run_law.specs.control.Permanence.{ripe_as}
 use Rattle.sync_state.specs.declared.state.State.TheVariants.{Integrating}
 use Rattle.tte_units.specs.declared.units.Units.{Units}
 use Rattle.world_law.proofs.devices.Borne.{cleared_alike, tell_owned}
-use Rattle.world_law.proofs.lists.Lists.{filter_same}
-use Rattle.world_steps.proofs.ripening.Merely.{IsMere, behind_rest, maps_one, maps_rest, mere_changes, mere_hears, mere_point, own_skip}
+use Rattle.world_steps.proofs.ripening.Merely.{IsMere, maps_one, maps_rest, mere_changes, mere_hears, mere_point, own_skip}
 use Rattle.world_law.specs.device.Left.{IsLeft, is_timed}
 use Rattle.world_law.specs.device.Own.{moves}
 use Rattle.world_law.specs.device.Told.{since_at}
@@ -89,10 +90,10 @@ heard_grown s hs zs device t w first kept =
     let base = after_last p hs in
     let since : since_at device t (hs ++ w ∷ zs) ≡ (base ++ w ∷ []) ++ zs =
     ap (after_last p) (sym (append_assoc hs (w ∷ []) zs))
-    ∙ behind_rest p (hs ++ w ∷ []) zs none
+    ∙ after_more p (hs ++ w ∷ []) zs none
     ∙ ap (λ (l : List Happening). l ++ zs) (Rattle.world_law.proofs.lists.Lists.behind_no p hs w (changes_at device t w first.unchanged)) in
-    let was : since_at device t (hs ++ zs) ≡ base ++ zs = behind_rest p hs zs none in
-    ap (filter_map f) (filter_same with_it without (since_at device t (hs ++ w ∷ zs)) (λ h i. same h))
+    let was : since_at device t (hs ++ zs) ≡ base ++ zs = after_more p hs zs none in
+    ap (filter_map f) (same_kept with_it without (since_at device t (hs ++ w ∷ zs)) (λ h i. same h))
     ∙ ap (λ (l : List Happening). filter_map f (filter without l)) since
     ∙ ap (filter_map f) (filter_one without base zs w kept)
     ∙ maps_rest f (filter without base ++ w ∷ []) (filter without zs) silent
@@ -107,11 +108,11 @@ points_grown s hs zs device t w first cm =
     let p = λ (h : Happening). ends_stretch device h.note.body in
     let none : (h : Happening) → IsIn h zs → f h ≡ None = λ h i. mere_point device h h.note.body (first.mere h i) in
     let base = after_last p hs in
-    ap (filter_map f) (ap (after_last p) (sym (append_assoc hs (w ∷ []) zs)) ∙ behind_rest p (hs ++ w ∷ []) zs (first.open_ cm)
+    ap (filter_map f) (ap (after_last p) (sym (append_assoc hs (w ∷ []) zs)) ∙ after_more p (hs ++ w ∷ []) zs (first.open_ cm)
     ∙ ap (λ (l : List Happening). l ++ zs) (Rattle.world_law.proofs.lists.Lists.behind_no p hs w first.goes_on))
     ∙ maps_rest f (base ++ w ∷ []) zs none
     ∙ maps_one f base w
-    ∙ ap (λ (l : List Point). l ++ option_to_list (f w)) (sym (maps_rest f base zs none) ∙ ap (filter_map f) (sym (behind_rest p hs zs (first.open_ cm))))
+    ∙ ap (λ (l : List Point). l ++ option_to_list (f w)) (sym (maps_rest f base zs none) ∙ ap (filter_map f) (sym (after_more p hs zs (first.open_ cm))))
 
 pub left_grown : (s : Scenario) (hs zs : List Happening) (device : DeviceId) (t : ℕ) (w : Happening) (node new : Node) → IsFirst s zs device t w
     → (is_timed node.standing.state ≡ true → keep s (hs ++ zs) device t w ≡ true)
@@ -150,11 +151,6 @@ left_grown s hs zs device t w node new first kept grown left =
           ∙ sym (points_grown s hs zs device t w first cm);
     }
 
--- at the time itself all is kept
-pub kept_at : (b : Bool) → (not b || b) ≡ true
-kept_at true = refl
-kept_at false = refl
-
 -- ---- what the machine makes of the frame
 
 -- how the verdict is, where the device collects, and where it does not
@@ -166,9 +162,6 @@ IsByRole false judgements.Within = Unit {0}
 IsByRole false judgements.Outside = Unit {0}
 IsByRole false judgements.Ignored = Unit {0}
 IsByRole cm other = ⊥
-
-self : (device : DeviceId) → (device.0 == device.0) ≡ true
-self device = eq-eqb device.0 device.0 refl
 
 heard_so : (network : Network) (device : DeviceId) (link : LinkId) (cause : ℕ) (point : Units) (w : Happening) (frame : Pcf) (within : Bool)
     → w.frame ≡ Some frame

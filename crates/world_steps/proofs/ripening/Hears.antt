@@ -1,5 +1,5 @@
 -- What is heard at a time counts as before it, where no frame has told the device the time at it.
-use Rattle.std.proofs.Common.{◌≡◌, ℕ, ◌≤◌, Bool, true, false, ◌&&◌, ◌||◌, ◌==◌, if◌then◌else◌, List, [], ◌∷◌, filter, MatchBool, inl, inr, refl, sym, ap, subst, ◌∙◌, arith}
+use Rattle.std.proofs.Common.{◌≡◌, ℕ, ◌≤◌, Bool, true, false, ◌&&◌, ◌||◌, ◌==◌, if◌then◌else◌, List, [], ◌∷◌, MatchBool, inl, inr, sym, ap, subst, ◌∙◌, arith}
 use Rattle.std.specs.Prelude.{nat_lt}
 use Rattle.std.specs.List.{list_any}
 use Rattle.std.proofs.lemmas.Bool.{MatchBool-at_false, cases_Bool, cases_lt, eq-eqb, lt-ltb, or_left, or_parts}
@@ -7,6 +7,7 @@ use Rattle.compression.specs.Clusters.{Point}
 use Rattle.net_plan.specs.declared.ids.DeviceId.{DeviceId}
 use Rattle.net_plan.specs.declared.network.Network.{Network}
 use Rattle.pcf_values.specs.declared.pcf.Pcf.{Pcf}
+use Rattle.run_law.proofs.records.Order.{same_kept}
 use Rattle.run_law.specs.scenario.Devices.{is_cm}
 use Rattle.run_law.specs.records.Happenings.{Happening, time_of}
 use Rattle.run_law.specs.records.Order.{IsIn}
@@ -16,7 +17,7 @@ use Rattle.run_law.specs.device.States.{adjustment_after, adjustment_at_hearing,
 use Rattle.run_law.specs.declared.steps.Ripe.{Ripe}
 use Rattle.sync_state.specs.declared.state.State.{State}
 use Rattle.sync_state.specs.declared.state.State.TheVariants.{Joining}
-use Rattle.world_law.proofs.lists.Lists.{filter_same}
+use Rattle.tte_lemmas.proofs.Bools.{or_none}
 
 -- ---- lists and places
 
@@ -25,26 +26,17 @@ none_of p [] x e i = absurd i
 none_of {X} p (y ∷ xs) x e (inl same) = subst (λ (z : X). p z ≡ false) (sym same) (or_parts (p y) (list_any p xs) e).0
 none_of p (y ∷ xs) x e (inr i) = none_of p xs x (or_parts (p y) (list_any p xs) e).1 i
 
-pub all_kept : {X : Type 0} (p : X → Bool) (xs : List X) → ((x : X) → IsIn x xs → p x ≡ true) → filter p xs ≡ xs
-all_kept p [] all = refl
-all_kept {X} p (x ∷ xs) all =
-    ap (λ (b : Bool). if b then x ∷ filter p xs else filter p xs) (all x (inl refl)) ∙ ap (λ (l : List X). x ∷ l) (all_kept p xs (λ y i. all y (inr i)))
-
 -- ---- no frame has told it the time at this time
 
 pub not_joined : (s : Scenario) (hs : List Happening) (device : DeviceId) (t : ℕ) → has_joined_at hs device t ≡ false
     → state_at_hearing s hs device t ≡ state_before s hs device t
 not_joined s hs device t e = ap (λ (b : Bool). if b then Joining else state_before s hs device t) e
 
-or_none : (b : Bool) → (b || false) ≡ b
-or_none true = refl
-or_none false = refl
-
 pub not_joined_yet : (s : Scenario) (hs : List Happening) (device : DeviceId) (t : ℕ) → has_joined_at hs device t ≡ false
     → ((h : Happening) → IsIn h hs → time_of h ≤ t) → adjustment_at_hearing s hs device t ≡ adjustment_before s hs device t
 not_joined_yet s hs device t e all =
     ap (λ (l : List Happening). adjustment_after s l device)
-    (filter_same (λ h. nat_lt (time_of h) t || is_joined_by device h.note.body) (λ h. nat_lt (time_of h) t) hs (λ h i.
+    (same_kept (λ h. nat_lt (time_of h) t || is_joined_by device h.note.body) (λ h. nat_lt (time_of h) t) hs (λ h i.
     elim (cases_lt (time_of h) t) [
       | inl lt ↦ or_left (nat_lt (time_of h) t) _ (lt-ltb (time_of h) t lt) ∙ sym (lt-ltb (time_of h) t lt)
       | inr ge ↦

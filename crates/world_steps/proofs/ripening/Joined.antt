@@ -1,20 +1,19 @@
 -- The device that a frame tells the time is kept.
-use Rattle.std.proofs.Common.{◌≡◌, ◌⊎◌, IfSome, ℕ, ◌+◌, ◌-◌, ◌≤◌, ◌<◌, ℤ, pos, ◌+ℤ◌, ◌-ℤ◌, ◌<ℤ◌, ◌≤ℤ◌, int_lt, int_le, Bool, true, false, not, ◌&&◌, ◌||◌, ◌==◌, nat_lt, if◌then◌else◌, List, [], ◌∷◌, ◌++◌, length, map, filter, filter_map, fold, Contains, Option, Some, None, inl, inr, refl, sym, ap, subst, ◌∙◌, append_assoc, arith}
+use Rattle.std.proofs.Common.{◌≡◌, ◌⊎◌, IfSome, ℕ, ◌+◌, ◌-◌, ◌≤◌, ◌<◌, ℤ, pos, ◌+ℤ◌, ◌-ℤ◌, ◌<ℤ◌, ◌≤ℤ◌, int_lt, int_le, Bool, true, false, not, ◌&&◌, ◌||◌, nat_lt, if◌then◌else◌, List, [], ◌∷◌, ◌++◌, length, map, filter, filter_map, fold, Option, Some, None, inl, inr, refl, sym, ap, subst, ◌∙◌, append_assoc, arith}
 use Rattle.std.specs.List.{after_last, last_or}
 use Rattle.std.specs.Option.{option_map_or}
-use Rattle.std.proofs.lemmas.Bool.{and_right, both_ways, eq-eqb, lt-ltb}
+use Rattle.std.proofs.lemmas.Bool.{and_right, both_ways, lt-ltb}
 use Rattle.std.proofs.lemmas.Int.{ints}
 use Rattle.std.proofs.lemmas.List.Sums.{fold-append}
+use Rattle.net_plan.proofs.SameIds.{self}
 use Rattle.net_plan.specs.declared.ids.DeviceId.{DeviceId}
 use Rattle.net_plan.specs.declared.ids.LinkId.{LinkId}
 use Rattle.net_plan.specs.declared.network.Network.{Network}
-use Rattle.pcf_values.specs.declared.members.Members.{Members}
 use Rattle.pcf_values.specs.declared.pcf.Pcf.{Pcf}
+use Rattle.run_law.proofs.control.Verdicts.{looking_ripe}
 use Rattle.run_law.proofs.runs.Places.{before_behind, chain}
 use Rattle.run_law.specs.control.Collections.{observation_window}
 use Rattle.run_law.specs.control.Corrections.{correction_value, cycle_after, has_cleared, hearing_by, heard_since, integration_cycle, is_integration_cycle, recorded_cycle}
-use Rattle.run_law.specs.control.Hearing.{heard_as, heard_by_schedule}
-use Rattle.run_law.specs.control.Permanence.{ripe_as}
 use Rattle.run_law.specs.declared.judgement.Judgement.TheVariants.{Integrates}
 use Rattle.run_law.specs.declared.note.NoteBody.TheVariants as kinds
 use Rattle.run_law.specs.declared.steps.Moment.{Moment}
@@ -30,8 +29,9 @@ use Rattle.run_law.specs.scenario.Devices.{is_cm, plan_of}
 use Rattle.run_law.specs.scenario.Scenarios.{Scenario, is_broken, is_turned_on_at}
 use Rattle.sync_state.specs.Integration.{joined_by}
 use Rattle.sync_state.specs.declared.plan.SyncPlan.{SyncPlan}
-use Rattle.sync_state.specs.declared.state.State.TheVariants.{Integrating, Joining, Off, Synchronised}
+use Rattle.sync_state.specs.declared.state.State.TheVariants.{Integrating, Joining}
 use Rattle.sync_state.specs.declared.state.State.{State}
+use Rattle.tte_lemmas.proofs.Lists.{none_in}
 use Rattle.tte_units.specs.declared.units.Units.{Units}
 use Rattle.world_law.proofs.devices.Passes.{not_turned_on}
 use Rattle.world_law.proofs.giving.Given.{no_later_breaks}
@@ -57,9 +57,6 @@ pub record IsJoin (s : Scenario) (hs zs : List Happening) (device : DeviceId) (n
   pub whole : earlier (now + 1) (hs ++ w ∷ zs) ≡ hs ++ w ∷ zs
   pub mere : (z : Happening) → IsIn z zs → IsMere device z.note.body
   pub joining : state_after s (hs ++ w ∷ zs) device ≡ Joining
-
-self : (device : DeviceId) → (device.0 == device.0) ≡ true
-self device = eq-eqb device.0 device.0 refl
 
 -- what a fold makes of the lists
 at_join : {B : Type 0} (f : B → Happening → B) (z : B) (hs zs : List Happening) (w : Happening) → ((h : Happening) → IsIn h zs → (b : B) → f b h ≡ b)
@@ -155,21 +152,6 @@ left_joined s hs zs device now w link cause point frame node moment phase j read
 
 -- ---- a device that a frame tells the time was looking for it
 
-integrates_if : (plan : SyncPlan) (precision : ℤ) (state : State) (adjustment point : ℤ) (cycle : ℕ) (members : Members)
-    → ripe.Integrates ≡ ripe_as (heard_as plan precision state adjustment point cycle members) → state ≡ Integrating
-integrates_if plan precision Off adjustment point cycle members e = absurd cc
-integrates_if plan precision Integrating adjustment point cycle members e = refl
-integrates_if plan precision Joining adjustment point cycle members e = absurd (not_scheduled _ e)
-  where
-    not_scheduled : (b : Bool) → ripe.Integrates ≡ ripe_as (heard_by_schedule b) → ⊥
-    not_scheduled true e = cc
-    not_scheduled false e = cc
-integrates_if plan precision Synchronised adjustment point cycle members e = absurd (not_scheduled _ e)
-  where
-    not_scheduled : (b : Bool) → ripe.Integrates ≡ ripe_as (heard_by_schedule b) → ⊥
-    not_scheduled true e = cc
-    not_scheduled false e = cc
-
 looking_of : (b : Bool) (state : State) → Integrating ≡ (if b then Joining else state) → state ≡ Integrating
 looking_of true state e = absurd cc
 looking_of false state e = sym e
@@ -178,7 +160,7 @@ pub was_looking : (s : Scenario) (hs : List Happening) (now : ℕ) (e : Waiting)
     → Rattle.run_law.specs.machines.Answers.IsPermanenceOutcomeAt s.network e.device node e.frame e.point ripe.Integrates
     → state_before s hs e.device now ≡ Integrating
 was_looking s hs now e node hears other so =
-    let is = integrates_if (plan_of s.network e.device) (observation_window s.network) node.standing.state node.standing.adjustment.0 e.point.0 e.frame.cycle
+    let is = looking_ripe (plan_of s.network e.device) (observation_window s.network) node.standing.state node.standing.adjustment.0 e.point.0 e.frame.cycle
     e.frame.members
     (at_false (is_cm s.network e.device) _ _ other so) in
     looking_of (has_joined_at hs e.device now) (state_before s hs e.device now) (sym is ∙ hears.state)
@@ -188,9 +170,6 @@ was_looking s hs now e node hears other so =
     at_false false P Q e m = m
 
 -- ---- it is kept
-
-none_in : {X : Type 0} (x : X) → Contains [] x → ⊥
-none_in x c = Rattle.compression.proofs.Elements.in_none x c
 
 pub kept_joined : {M : Type 0} (stands : M → Network → DeviceId → Node → Type 0) (s : Scenario) (hs coming zs : List Happening) (mark cursor : List ℕ) (now : ℕ)
     (e : Waiting)

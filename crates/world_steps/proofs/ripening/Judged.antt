@@ -1,8 +1,8 @@
 -- What a device's machine makes of a frame that is permanent is what the records given say.
-use Rattle.std.proofs.Common.{◌≡◌, ℕ, ◌+◌, ◌-◌, ℤ, pos, ◌+ℤ◌, int_lt, int_le, Bool, true, false, ◌&&◌, ◌||◌, ◌==◌, if◌then◌else◌, List, [], ◌∷◌, ◌++◌, Option, Some, None, MatchBool, filter, filter_map, inl, inr, refl, sym, ap, subst, ◌∙◌, arith}
-use Rattle.std.specs.List.{after_last, last_or, list_any}
+use Rattle.std.proofs.Common.{◌≡◌, ℕ, ◌+◌, ◌-◌, ℤ, pos, ◌+ℤ◌, int_lt, int_le, Bool, true, false, ◌&&◌, ◌==◌, if◌then◌else◌, List, [], ◌∷◌, ◌++◌, Option, Some, None, MatchBool, filter, filter_map, inl, inr, refl, sym, ap, subst, ◌∙◌, arith}
+use Rattle.std.specs.List.{after_last, last_or}
 use Rattle.std.specs.Option.{option_map_or}
-use Rattle.std.proofs.lemmas.Bool.{MatchBool-at_false, MatchBool-at_true, and_right, both_ways, cases_Bool, cases_lt, eq-eqb, eqb-true}
+use Rattle.std.proofs.lemmas.Bool.{MatchBool-at_false, MatchBool-at_true, and_parts, and_right, both_ways, cases_Bool, eq-eqb, eqb-true}
 use Rattle.std.proofs.lemmas.List.{append-nil}
 use Rattle.std.proofs.lemmas.List.Elements.{filter-append}
 use Rattle.compression.specs.Clusters.{Point, point_at}
@@ -13,6 +13,7 @@ use Rattle.net_plan.specs.declared.network.Network.{Network}
 use Rattle.pcf_values.specs.declared.members.Members.{Members}
 use Rattle.pcf_values.specs.declared.pcf.Pcf.{Pcf}
 use Rattle.run_law.proofs.law.FirstPlaces.{in_filter, none_kept, numbered_front}
+use Rattle.run_law.proofs.records.Order.{after_more, all_kept, any_in, before_is, none_any}
 use Rattle.run_law.proofs.runs.Places.{before_later, in_left, in_parts, in_right, parted}
 use Rattle.run_law.specs.control.Collections.{ends_stretch, master_of, observation_window, point_by, point_fault, points_of, ripe_by_role}
 use Rattle.run_law.specs.control.Corrections.{correction_value, has_cleared, is_integration_cycle, recorded_cycle}
@@ -38,12 +39,11 @@ use Rattle.tte_units.specs.declared.units.Units.{Units}
 use Rattle.world_law.proofs.devices.Passes.{not_turned_on}
 use Rattle.world_law.proofs.devices.Resting.{in_time_of}
 use Rattle.world_law.proofs.devices.TurnedOn.{all_up_to, next_is_up_to, quiet_changes, quiet_rest}
-use Rattle.world_law.proofs.lists.Orders.{before_is}
-use Rattle.world_steps.proofs.ripening.Awake.{any_in, both_are}
+use Rattle.world_law.proofs.putting.NearPut.{not_is}
 use Rattle.world_steps.proofs.ripening.Coming.{IsLateKind, all_late, late_mere, rest_ends}
-use Rattle.world_steps.proofs.ripening.Hears.{all_kept, by_role, not_joined, not_joined_yet}
+use Rattle.world_steps.proofs.ripening.Hears.{by_role, not_joined, not_joined_yet}
 use Rattle.world_steps.proofs.ripening.JustTold.{IsTold, adjustment_now, state_now}
-use Rattle.world_steps.proofs.ripening.Merely.{behind_rest, filter_rest, maps_rest, mere_changes, mere_point}
+use Rattle.world_steps.proofs.ripening.Merely.{filter_rest, maps_rest, mere_changes, mere_point}
 use Rattle.world_steps.proofs.ripening.Ripens.{IsRipe, reach_now, ripe_more}
 use Rattle.world_law.proofs.runs.Foremost.{not_on_after}
 use Rattle.world_law.proofs.runs.SourcesBack.{earlier_still}
@@ -51,21 +51,6 @@ use Rattle.world_law.specs.device.Left.{IsLeft, is_timed}
 use Rattle.world_law.specs.world.World.{IsAtRest, Waiting}
 
 -- ---- places as tests
-
-before_of : (p q : List ℕ) → is_before p q ≡ true → IsBefore p q
-before_of p [] e = absurd cc
-before_of [] (y ∷ ys) e = tt
-before_of (x ∷ xs) (y ∷ ys) e =
-    elim (cases_lt x y) [
-      | inl lt ↦ inl lt
-      | inr ge ↦
-          let not = Rattle.std.proofs.lemmas.Bool.le-ltb x y ge in
-          let parts = both_are (x == y) (is_before xs ys) (sym (ap (λ (b : Bool). b || (x == y && is_before xs ys)) not) ∙ e) in
-          inr (eqb-true x y parts.0, before_of xs ys parts.1)
-    ]
-
-not_before : (p q : List ℕ) → (IsBefore p q → ⊥) → is_before p q ≡ false
-not_before p q never = elim (cases_Bool (is_before p q)) [ inl yes_it ↦ absurd (never (before_of p q yes_it)) | inr no_it ↦ no_it ]
 
 -- the records given are all those before the place
 pub judged_all : (s : Scenario) (hs coming front : List Happening) (mark cursor : List ℕ) (now : ℕ) (e : Waiting) → IsRipe s hs coming mark cursor now e
@@ -76,7 +61,7 @@ judged_all s hs coming front mark cursor now e r after =
     let q = λ (h : Happening). is_before (place_of h) (now ∷ 3 ∷ e.device.0 ∷ amount e.point ∷ e.frame.members.0 ∷ e.link.0 ∷ e.cause ∷ []) in
     let given : filter q hs ≡ hs = all_kept q hs (λ h i. before_is (place_of h) here
     (before_later (place_of h) here cursor (r.moving.ahead (place_of h) (r.run.within h i)) r.moving.waits)) in
-    let none : filter q front ≡ [] = none_kept q front (λ h i. not_before (place_of h) here (after h i)) in
+    let none : filter q front ≡ [] = none_kept q front (λ h i. not_is (place_of h) here (after h i)) in
     filter-append q hs front ∙ ap (λ (l : List Happening). filter q hs ++ l) none ∙ append-nil (filter q hs) ∙ given
 
 -- ---- where the device stands as it hears
@@ -94,15 +79,11 @@ judges_so s hs device now node frame point is hears so =
     (subst (λ (a : Units). IsPermanenceOutcome s.network device (state_at_hearing s hs device now) a.0 node.points frame point.0 is) hears.adjustment
     (subst (λ (x : State). IsPermanenceOutcome s.network device x node.standing.adjustment.0 node.points frame point.0 is) hears.state so))
 
-any_none : {X : Type 0} (q : X → Bool) (xs : List X) → ((x : X) → IsIn x xs → q x ≡ false) → list_any q xs ≡ false
-any_none q [] none = refl
-any_none q (x ∷ xs) none = ap (λ (c : Bool). c || list_any q xs) (none x (inl refl)) ∙ any_none q xs (λ y i. none y (inr i))
-
 -- the points are those of the records given
 pub points_given : (s : Scenario) (hs coming : List Happening) (device : DeviceId) → ((z : Happening) → IsIn z coming → IsLateKind z.note.body)
     → ((z : Happening) → IsIn z coming → ends_stretch device z.note.body ≡ false) → points_of (hs ++ coming) device ≡ points_of hs device
 points_given s hs coming device late open_ =
-    ap (filter_map (λ h. point_by device h h.note.body)) (behind_rest (λ h. ends_stretch device h.note.body) hs coming open_)
+    ap (filter_map (λ h. point_by device h h.note.body)) (after_more (λ h. ends_stretch device h.note.body) hs coming open_)
     ∙ maps_rest (λ h. point_by device h h.note.body) (after_last (λ h. ends_stretch device h.note.body) hs) coming
     (λ z i. mere_point device z z.note.body (late_mere device z.note.body (late z i)))
 
@@ -115,7 +96,7 @@ hears_before s hs coming mark cursor now e node r left still =
     let device = e.device in
     let same : earlier now (hs ++ coming) ≡ earlier now hs = earlier_still now hs coming (λ z i. let at = r.moving.are.of_now z i in omega (arith, at)) in
     let late = all_late s hs coming mark cursor now (ripe_more e) r.moving r.run.within in
-    let none : has_joined_at hs device now ≡ false = any_none (λ h. time_of h == now && is_joined_by device h.note.body) hs (λ h i.
+    let none : has_joined_at hs device now ≡ false = none_any (λ h. time_of h == now && is_joined_by device h.note.body) hs (λ h i.
     elim (cases_Bool (time_of h == now)) [
       | inr other ↦ ap (λ (b : Bool). b && is_joined_by device h.note.body) other
       | inl at ↦
@@ -260,7 +241,7 @@ changed_now s hs coming mark cursor now e r joined =
     let p = λ (h : Happening). changes_adjustment device h.note.body in
     let found = any_in (λ h. time_of h == now && is_joined_by device h.note.body) hs joined in
     let j = found.0 in
-    let flags = both_are (time_of j == now) (is_joined_by device j.note.body) found.2 in
+    let flags = and_parts (time_of j == now) (is_joined_by device j.note.body) found.2 in
     let j_now : time_of j ≡ now = eqb-true (time_of j) now flags.0 in
     let at = parted j hs found.1 in
     let late = all_late s hs coming mark cursor now (ripe_more e) r.moving r.run.within in

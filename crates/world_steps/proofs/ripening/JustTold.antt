@@ -1,10 +1,12 @@
 -- A device that a frame has told the time at this very time stands as it hears further frames of the time.
 use Rattle.std.proofs.Common.{◌≡◌, ◌⊎◌, ℕ, ◌+◌, ◌≤◌, ◌<◌, Bool, true, false, ◌&&◌, ◌||◌, ◌==◌, nat_lt, if◌then◌else◌, List, [], ◌∷◌, ◌++◌, length, Some, filter, fold, inl, inr, refl, sym, ap, subst, ◌∙◌, append_assoc, arith}
-use Rattle.std.proofs.lemmas.Bool.{both_ways, cases_Bool, cases_lt, eq-eqb, eqb-true, le-ltb, lt-ltb, ne_eqb}
+use Rattle.std.proofs.lemmas.Bool.{and_parts, both_ways, cases_Bool, cases_lt, eq-eqb, eqb-true, le-ltb, lt-ltb, ne_eqb, or_parts}
 use Rattle.std.proofs.lemmas.Int.{ints}
 use Rattle.std.proofs.lemmas.List.Sums.{fold-append}
+use Rattle.net_plan.proofs.SameIds.{same_device}
 use Rattle.net_plan.specs.declared.ids.DeviceId.{DeviceId}
 use Rattle.run_law.proofs.law.FirstPlaces.{by_number, founded_at, none_kept, number_is, numbered_front, numbered_in, numbered_within}
+use Rattle.run_law.proofs.records.Order.{any_in}
 use Rattle.run_law.proofs.runs.Places.{before_later, before_or_not, chain, in_left, in_right, parted}
 use Rattle.run_law.specs.declared.judgement.Why.{Why}
 use Rattle.run_law.specs.declared.judgement.Why.TheVariants as whys
@@ -29,11 +31,11 @@ use Rattle.world_law.proofs.devices.Resting.{in_time_of}
 use Rattle.world_law.proofs.devices.TurnedOn.{IsInTime, looking_on, turning_state}
 use Rattle.world_law.proofs.giving.Given.{some_same}
 use Rattle.world_law.proofs.putting.Moving.{IsMoving}
-use Rattle.world_steps.proofs.ripening.Awake.{any_in, both_are, stirs, was_on}
+use Rattle.world_steps.proofs.ripening.Awake.{stirs, was_on}
 use Rattle.world_steps.proofs.ripening.Coming.{IsLateKind, all_late, given_low, late_mere}
 use Rattle.world_steps.proofs.ripening.Hears.{none_of}
 use Rattle.world_steps.proofs.ripening.Merely.{fold_rest, mere_adjustment, mere_joins}
-use Rattle.world_steps.proofs.ripening.Ripens.{IsRipe, device_is, ripe_more}
+use Rattle.world_steps.proofs.ripening.Ripens.{IsRipe, ripe_more}
 use Rattle.world_law.proofs.runs.SourcesBack.{earlier_still, no_higher, numbered_parts}
 use Rattle.world_law.specs.device.Own.{moves}
 use Rattle.world_law.specs.source.Sources.{IsSource}
@@ -131,10 +133,6 @@ fold_filter {B} f q z (h ∷ hs) same =
           ∙ sym (ap (λ (b : Bool). fold f z (if b then h ∷ filter q hs else filter q hs)) left)
     ]
 
-or_false : (b c : Bool) → (b || c) ≡ false → (b ≡ false) × (c ≡ false)
-or_false true c e = absurd cc
-or_false false c e = (refl, e)
-
 pub adjustment_now : (s : Scenario) (hs coming : List Happening) (mark cursor : List ℕ) (now : ℕ) (e : Waiting) → IsRipe s hs coming mark cursor now e
     → adjustment_after s (hs ++ coming) e.device ≡ adjustment_at_hearing s hs e.device now
 adjustment_now s hs coming mark cursor now e r =
@@ -143,7 +141,7 @@ adjustment_now s hs coming mark cursor now e r =
     let low = given_low s hs coming mark cursor now (ripe_more e) r.moving r.run.within in
     fold_rest f _ hs coming (λ h i old. mere_adjustment s e.device (cycle_in h) old h.note.body (late_mere e.device h.note.body (late h i)))
     ∙ fold_filter f (λ h. nat_lt (time_of h) now || is_joined_by e.device h.note.body) _ hs (λ h i out old.
-    let parts = or_false (nat_lt (time_of h) now) (is_joined_by e.device h.note.body) out in
+    let parts = or_parts (nat_lt (time_of h) now) (is_joined_by e.device h.note.body) out in
     let at : time_of h ≡ now = elim (cases_lt (time_of h) now) [
       | inl lt ↦ absurd (both_ways (nat_lt (time_of h) now) parts.0 (lt-ltb (time_of h) now lt))
       | inr ge ↦ (let le = r.past h i in omega (arith, ge, le))
@@ -188,7 +186,7 @@ said_by s hs front device now time (kinds.State other state cause whys.Frame) la
       | inl own ↦
           let it = c.1.1 in
           let h = c.1.0 in
-          let same : other ≡ device = device_is other device (sym (eqb-true device.0 other.0 own)) in
+          let same : other ≡ device = same_device other device (sym (eqb-true device.0 other.0 own)) in
           elim (numbered_parts hs front h cause it.there) [
             | inl given ↦
                 inr (inr (
@@ -343,7 +341,7 @@ told_joining s hs coming mark cursor now e z told joined =
     let device = e.device in
     let found = any_in (λ h. time_of h == now && is_joined_by device h.note.body) hs joined in
     let j = found.0 in
-    let flags = both_are (time_of j == now) (is_joined_by device j.note.body) found.2 in
+    let flags = and_parts (time_of j == now) (is_joined_by device j.note.body) found.2 in
     let j_now : time_of j ≡ now = eqb-true (time_of j) now flags.0 in
     let n = j.note.number in
     let at_n : numbered hs n ≡ Some j = by_number s hs j r.run.founded found.1 in

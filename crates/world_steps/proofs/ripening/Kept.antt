@@ -27,11 +27,11 @@ use Rattle.run_law.specs.records.Ranks.{rank}
 use Rattle.run_law.specs.scenario.Devices.{channel_of_link, is_cm}
 use Rattle.run_law.specs.scenario.Scenarios.{Scenario, is_turned_on_at}
 use Rattle.sync_state.specs.Standing.{Standing}
+use Rattle.tte_lemmas.proofs.Integers.{whole as natural}
 use Rattle.tte_units.specs.Amount.{amount}
 use Rattle.tte_units.specs.declared.units.Units.{Units}
 use Rattle.world_steps.proofs.acting.Starts.{none_of_it, plain_compressed, plain_sent}
 use Rattle.world_law.proofs.acts.Acted.{IsAlike, undone_alike, waiting_alike}
-use Rattle.world_law.proofs.acts.Ready.{natural}
 use Rattle.world_law.proofs.acts.Dispatched.{dispatch_told, no_dispatch_told}
 use Rattle.world_law.proofs.acts.Recorded.{first_recorded}
 use Rattle.world_law.proofs.devices.Borne.{tell_owned}

@@ -3,10 +3,10 @@ use Rattle.std.proofs.Common.{◌≡◌, ℕ, Bool, true, false, if◌then◌els
 use Rattle.std.specs.Prelude.{nat_lt}
 use Rattle.std.specs.List.{after_last, cons_option}
 use Rattle.std.proofs.lemmas.Bool.{cases_lt}
-use Rattle.std.proofs.lemmas.List.{append-nil}
 use Rattle.std.proofs.lemmas.List.Elements.{filter_map-append}
 use Rattle.net_plan.specs.declared.ids.DeviceId.{DeviceId}
 use Rattle.net_plan.specs.declared.network.Network.{Network}
+use Rattle.run_law.proofs.records.Order.{after_more}
 use Rattle.run_law.specs.device.LocalClocks.{changes_adjustment}
 use Rattle.run_law.specs.control.Collections.{point_by}
 use Rattle.run_law.specs.control.Corrections.{cycle_after, hearing_by}
@@ -19,7 +19,7 @@ use Rattle.run_law.specs.declared.note.NoteBody.{NoteBody}
 use Rattle.tte_units.specs.declared.units.Units.{Units}
 use Rattle.world_law.proofs.devices.Borne.{gives_no_point, hears_nothing, moves_no_other}
 use Rattle.world_law.proofs.devices.OwnRecords.{changes_no_other, joins_no_other, keeps_adjustment, keeps_cycle, own_no, earlier_yes, earlier_no}
-use Rattle.world_law.proofs.lists.Lists.{behind_no, behind_yes}
+use Rattle.world_law.proofs.lists.Lists.{behind_yes}
 use Rattle.world_law.specs.device.Own.{bears_on, moves, own}
 
 -- the record does not bear on the device, or it is of a state
@@ -72,19 +72,11 @@ maps_rest f [] [] none = refl
 maps_rest {X} {Y} f [] (z ∷ zs) none = ap (λ (o : Option Y). cons_option o (filter_map f zs)) (none z (inl refl)) ∙ maps_rest f [] zs (λ x i. none x (inr i))
 maps_rest {X} {Y} f (x ∷ xs) zs none = ap (cons_option (f x)) (maps_rest f xs zs none)
 
-pub behind_rest : {X : Type 0} (p : X → Bool) (xs zs : List X) → ((x : X) → IsIn x zs → p x ≡ false) → after_last p (xs ++ zs) ≡ after_last p xs ++ zs
-behind_rest {X} p xs [] none = ap (after_last p) (append-nil xs) ∙ sym (append-nil (after_last p xs))
-behind_rest {X} p xs (z ∷ zs) none =
-    ap (after_last p) (sym (append_assoc xs (z ∷ []) zs))
-    ∙ behind_rest p (xs ++ z ∷ []) zs (λ x i. none x (inr i))
-    ∙ ap (λ (l : List X). l ++ zs) (behind_no p xs z (none z (inl refl)))
-    ∙ append_assoc (after_last p xs) (z ∷ []) zs
-
 -- behind the one that passes
 pub behind_it : {X : Type 0} (p : X → Bool) (xs zs : List X) (w : X) → p w ≡ true → ((x : X) → IsIn x zs → p x ≡ false) → after_last p (xs ++ w ∷ zs) ≡ zs
 behind_it {X} p xs zs w yes_it none =
     ap (after_last p) (sym (append_assoc xs (w ∷ []) zs))
-    ∙ behind_rest p (xs ++ w ∷ []) zs none
+    ∙ after_more p (xs ++ w ∷ []) zs none
     ∙ ap (λ (l : List X). l ++ zs) (behind_yes p xs w yes_it)
 
 -- what is mapped of one more

@@ -1,15 +1,14 @@
 -- What comes of the source of a frame that is permanent: one record, at its place.
-use Rattle.std.proofs.Common.{◌≡◌, ◌⊎◌, ℕ, ◌<◌, List, [], ◌∷◌, ◌++◌, Some, None, inl, inr, refl, sym, ap, subst, ◌∙◌, arith}
+use Rattle.std.proofs.Common.{◌≡◌, ◌⊎◌, ℕ, ◌<◌, List, [], ◌∷◌, ◌++◌, inl, inr, refl, sym, ap, subst, ◌∙◌, arith}
 use Rattle.net_plan.specs.declared.ids.DeviceId.{DeviceId}
 use Rattle.net_plan.specs.declared.ids.LinkId.{LinkId}
 use Rattle.pcf_values.specs.declared.pcf.Pcf.{Pcf}
+use Rattle.run_law.proofs.control.Verdicts.{never_dropped}
 use Rattle.run_law.proofs.law.FirstPlaces.{numbered_front}
 use Rattle.run_law.proofs.runs.Places.{before_later, in_left, parted}
-use Rattle.run_law.proofs.runs.SameSteps.{same_ripening}
+use Rattle.run_law.proofs.runs.SameSteps.{no_launch, same_ripening}
 use Rattle.run_law.specs.control.Permanence.{BecomesPermanent, IsPermanent, ripe_as}
-use Rattle.run_law.specs.control.Wires.{Launch, launched}
 use Rattle.run_law.specs.declared.judgement.Judgement.{Judgement}
-use Rattle.run_law.specs.declared.judgement.Judgement.TheVariants as judgements
 use Rattle.run_law.specs.declared.judgement.Reason.{Reason}
 use Rattle.run_law.specs.declared.judgement.Why.TheVariants as whys
 use Rattle.run_law.specs.declared.note.NoteBody.{NoteBody}
@@ -126,15 +125,6 @@ one_outcome s hs coming f mark cursor now t e node device link cause point is ot
     same_ripening s (hs ++ f) now e.device e.link e.cause point e.point other is (moved_here s (hs ++ f) now t e device link cause point other h b)
     (becomes_now s hs coming f mark cursor now e node is r after hears so)
 
-never_dropped : (verdict : Judgement) (reason : Reason) → ripe.Dropped reason ≡ ripe_as verdict → ⊥
-never_dropped judgements.Opened reason e = cc
-never_dropped judgements.Joined reason e = cc
-never_dropped judgements.Repeat reason e = cc
-never_dropped judgements.Within reason e = cc
-never_dropped judgements.Outside reason e = cc
-never_dropped judgements.Integrates reason e = cc
-never_dropped judgements.Ignored reason e = cc
-
 -- ---- so its record is at the place
 
 -- where it is permanent
@@ -206,11 +196,6 @@ place_drop t m now d l c (kinds.TtSent device link cause vl cycle) e = absurd (l
 place_drop t m now d l c (kinds.Accepted device link cause vl cycle) e = absurd (let r : ◌≡◌ {A = ℕ} 13 11 = cc in omega (arith, r))
 place_drop t m now d l c (kinds.Delivered device link cause vl cycle) e = absurd (let r : ◌≡◌ {A = ℕ} 13 12 = cc in omega (arith, r))
 place_drop t m now d l c (kinds.Clock device reading adjustment state) e = absurd (let r : ◌≡◌ {A = ℕ} 13 14 = cc in omega (arith, r))
-
-no_launch : (s : Scenario) (h : Happening) (t : ℕ) (body : NoteBody) (device : DeviceId) (link : LinkId) (cause clock : ℕ) (x : Launch)
-    → body ≡ kinds.Arrived device link cause clock
-    → launched s h t body ≡ Some x → ⊥
-no_launch s h t body device link cause clock x is e = let bad : None ≡ Some x = sym (ap (launched s h t) is) ∙ e in cc
 
 same_place : (s : Scenario) (js : List Happening) (t : ℕ) (device : DeviceId) (link : LinkId) (cause : ℕ) (a b : Pcf) (p q : Units)
     → IsPermanent s js device t link cause a p

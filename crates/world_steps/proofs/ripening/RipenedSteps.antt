@@ -1,7 +1,8 @@
 -- A frame that waits is permanent.
-use Rattle.std.proofs.Common.{◌≡◌, ◌⊎◌, ◌↔◌, ℕ, zero, suc, ◌+◌, ◌≤◌, ◌<◌, ℤ, pos, ◌≤ℤ◌, Bool, true, false, List, [], ◌∷◌, ◌++◌, length, map, get_or, All, Option, Some, None, slice_get, inl, inr, refl, sym, ap, subst, ◌∙◌, append_assoc, arith}
+use Rattle.std.proofs.Common.{◌≡◌, ◌⊎◌, ◌↔◌, ℕ, ◌+◌, ◌≤◌, ◌<◌, pos, ◌≤ℤ◌, Bool, true, false, List, [], ◌∷◌, ◌++◌, length, map, get_or, Option, Some, None, slice_get, inl, inr, refl, sym, ap, subst, ◌∙◌, append_assoc, arith}
 use Rattle.std.proofs.lemmas.Bool.{both_ways, cases_Bool, eq-eqb, eqb-true, ne_eqb}
 use Rattle.std.proofs.lemmas.List.{append-nil, length-append, length-map}
+use Rattle.net_plan.proofs.SameIds.{same_device}
 use Rattle.net_plan.specs.Ranges.{IsInRange, IsLinkInRange}
 use Rattle.net_plan.specs.declared.ids.DeviceId.{DeviceId}
 use Rattle.net_plan.specs.declared.ids.LinkId.{LinkId}
@@ -10,6 +11,7 @@ use Rattle.net_plan.specs.declared.tables.Way.TheVariants.{Up, Down}
 use Rattle.net_plan.specs.declared.tables.Way.{Way}
 use Rattle.pcf_values.specs.declared.pcf.Pcf.{Pcf}
 use Rattle.run_law.proofs.law.FirstPlaces.{numbered_front, numbered_in, numbered_next, numbered_within}
+use Rattle.run_law.proofs.runs.Determined.{same_units}
 use Rattle.run_law.proofs.runs.Places.{before_behind, in_left, in_right}
 use Rattle.run_law.specs.control.Permanence.{IsPermanent, ripe_as}
 use Rattle.run_law.specs.declared.judgement.Judgement.TheVariants as judgements
@@ -32,6 +34,7 @@ use Rattle.run_law.specs.runs.Runs.{IsFounded}
 use Rattle.run_law.specs.scenario.Devices.{IsParentOf, is_cm}
 use Rattle.run_law.specs.scenario.Scenarios.{Scenario, is_broken}
 use Rattle.sync_state.specs.declared.state.State.TheVariants.{Joining}
+use Rattle.tte_lemmas.proofs.Lists.{in_all}
 use Rattle.tte_units.specs.Amount.{amount}
 use Rattle.tte_units.specs.declared.units.Units.{Units}
 use Rattle.world_law.proofs.devices.Borne.{moves_no_other}
@@ -52,7 +55,7 @@ use Rattle.world_steps.proofs.ripening.Judged.{IsKindOf, becomes_now, outcome_ki
 use Rattle.world_law.proofs.frames.Masters.{of_master}
 use Rattle.world_steps.proofs.ripening.Outcomes.{drop_fresh, dropped_all, permanent_all}
 use Rattle.world_law.proofs.frames.Proper.{IsReceiver, received}
-use Rattle.world_steps.proofs.ripening.Ripens.{sooner_of, IsRipe, come_of, device_is, permanent_at, reach_by, reach_now, ripe_more, ripening_at}
+use Rattle.world_steps.proofs.ripening.Ripens.{sooner_of, IsRipe, come_of, permanent_at, reach_by, reach_now, ripe_more, ripening_at}
 use Rattle.world_law.proofs.runs.Worlds.{length_is}
 use Rattle.world_law.specs.device.Own.{bears_on}
 use Rattle.world_law.specs.source.Sources.{IsRipening, IsSource}
@@ -95,9 +98,6 @@ ripening_first reading stands s world notes e old i reached first =
     }
 
 -- ---- what waits then
-
-same_units : (a b : Units) → a.0 ≡ b.0 → a ≡ b
-same_units a b e = ap (λ (z : ℤ). let u : Units = record { 0 = z } in u) e
 
 -- a frame that waits at this very place is this one, by its number
 ripens_too : (s : Scenario) (hs : List Happening) (now : ℕ) (e f : Waiting) → IsPermanent s hs e.device now e.link e.cause e.frame e.point → IsWaitingFor s hs f
@@ -185,7 +185,7 @@ ripened_behind reading stands s world notes e after machines waiting settled com
     (λ device lt.
     elim (cases_Bool (Rattle.std.specs.Prelude.◌==◌ device.0 e.device.0)) [
       | inl same ↦
-          let is = device_is e.device device (sym (eqb-true device.0 e.device.0 same)) in
+          let is = same_device e.device device (sym (eqb-true device.0 e.device.0 same)) in
           subst (λ (d : DeviceId). (machine : _) × (slice_get machines d.0 ≡ Some machine) × IsHeld stands s hs coming2 (behind here) now d machine) is
           (after, set.there, inl kept)
       | inr other ↦
@@ -207,11 +207,6 @@ ripened_behind reading stands s world notes e after machines waiting settled com
 
 -- ---- its device is one of the network
 
-link_all : {X : Type 0} (P : X → Type 0) (xs : List X) (i : ℕ) (x : X) → All P xs → slice_get xs i ≡ Some x → P x
-link_all P [] i x all e = absurd cc
-link_all {X} P (y ∷ xs) zero x all e = let same : y ≡ x = cc in subst P same (all 0 y (omega arith))
-link_all P (y ∷ xs) (suc i) x all e = link_all P xs i x (λ k d lt. all (suc k) d (omega (arith, lt))) e
-
 -- a frame waits at a device of the network
 pub waits_within : (s : Scenario) (hs : List Happening) (e : Waiting) → IsWaitingFor s hs e → IsFounded place_of (IsDue s) hs → IsInRange s.network
     → e.device.0 < length s.network.device
@@ -222,10 +217,10 @@ waits_within s hs e it founded range =
     by_way : (way : Way) → IsReceiver s.network e.device e.link way → e.device.0 < length s.network.device
     by_way Up v =
         subst (λ (d : DeviceId). d.0 < length s.network.device) v.is
-        (link_all (IsLinkInRange s.network) s.network.link e.link.0 v.joint range.links v.there).parent
+        (in_all (IsLinkInRange s.network) s.network.link e.link.0 v.joint range.links v.there).parent
     by_way Down v =
         subst (λ (d : DeviceId). d.0 < length s.network.device) v.is
-        (link_all (IsLinkInRange s.network) s.network.link e.link.0 v.joint range.links v.there).child
+        (in_all (IsLinkInRange s.network) s.network.link e.link.0 v.joint range.links v.there).child
 
 pub in_network : (s : Scenario) (hs coming : List Happening) (mark cursor : List ℕ) (now : ℕ) (e : Waiting) → IsRipe s hs coming mark cursor now e
     → e.device.0 < length s.network.device

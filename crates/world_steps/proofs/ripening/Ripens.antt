@@ -1,15 +1,18 @@
 -- The first frame that waits, whose point its device's reading has come to, is permanent at this very time, and may be so.
-use Rattle.std.proofs.Common.{◌≡◌, ℕ, zero, suc, ◌+◌, ◌-◌, ◌^◌, ◌≤◌, ◌<◌, ℤ, pos, negsuc, ◌+ℤ◌, ◌<ℤ◌, ◌≤ℤ◌, Bool, false, List, [], ◌∷◌, ◌++◌, length, get_or, All, Contains, Option, Some, None, filter_map, unsigned_abs, inl, inr, refl, sym, ap, subst, ◌∙◌, arith}
-use Rattle.std.specs.List.{after_last, cons_option}
+use Rattle.std.proofs.Common.{◌≡◌, ℕ, zero, suc, ◌+◌, ◌-◌, ◌^◌, ◌≤◌, ◌<◌, ℤ, pos, negsuc, ◌+ℤ◌, ◌<ℤ◌, ◌≤ℤ◌, Bool, false, List, [], ◌∷◌, ◌++◌, get_or, Contains, Some, None, unsigned_abs, inl, inr, refl, sym, ap, subst, ◌∙◌, arith}
+use Rattle.std.specs.List.{after_last}
 use Rattle.std.proofs.lemmas.Bool.{cases_Bool, cases_lt, eqb-true}
 use Rattle.std.proofs.lemmas.Int.{ints}
 use Rattle.compression.specs.Clusters.{Point, point_at}
 use Rattle.compression.specs.declared.compressed.Compressed.{Compressed}
 use Rattle.drift_clock.specs.Reach.{IsReach}
+use Rattle.net_plan.proofs.SameIds.{same_device}
 use Rattle.net_plan.specs.Ranges.{IsInRange}
 use Rattle.net_plan.specs.declared.ids.DeviceId.{DeviceId}
 use Rattle.run_law.proofs.law.FirstPlaces.{founded_at, numbered_in}
+use Rattle.run_law.proofs.records.Order.{all_of, given_of}
 use Rattle.run_law.proofs.runs.Places.{before_later, in_parts}
+use Rattle.run_law.proofs.scenario.Devices.{correct_before}
 use Rattle.run_law.specs.control.Collections.{ends_stretch, master_of, point_by, points_of}
 use Rattle.run_law.specs.control.Permanence.{IsPermanent}
 use Rattle.run_law.specs.declared.note.NoteBody.{NoteBody}
@@ -26,12 +29,11 @@ use Rattle.run_law.specs.runs.Runs.{IsRun}
 use Rattle.run_law.specs.scenario.Devices.{IsParentOf}
 use Rattle.run_law.specs.scenario.Scenarios.{Scenario, is_broken}
 use Rattle.transparent_clock.specs.Points.{point_of}
+use Rattle.tte_lemmas.proofs.Integers.{whole as natural}
 use Rattle.tte_units.specs.Amount.{amount}
 use Rattle.tte_units.specs.declared.units.Units.{Units}
-use Rattle.world_law.proofs.acts.Ready.{natural}
 use Rattle.world_law.proofs.lists.Orders.{cases_int}
 use Rattle.world_law.proofs.putting.Moving.{IsMoving}
-use Rattle.world_steps.proofs.ripening.Awake.{sound_before}
 use Rattle.world_steps.proofs.ripening.Coming.{IsLateKind}
 use Rattle.world_law.proofs.frames.Proper.{HasCome, IsSound, has_come, is_sound, link_of, received}
 use Rattle.world_law.specs.device.Ready.{IsReadyAt, IsSteady}
@@ -171,7 +173,7 @@ below_by s hs cursor now e it first later sound x from lt =
           let reach = first_reach (s.reading e.device) e.point.0 t0 n (subst (λ (y : ℕ). e.point.0 ≤ℤ pos (s.reading e.device y)) whole over) in
           let bound = reach.2 in
           let sooner : reach.0 < now = omega (arith, bound, whole, lt) in
-          let correct = sound_before s e.device reach.0 now (omega (arith, sooner)) sound in
+          let correct = correct_before s e.device reach.0 now (omega (arith, sooner)) sound in
           absurd (first (ripe_place reach.0 e) (IsSource.ripening reach.0 e.device e.link e.cause e.point (ripening_at s hs e reach.0 it reach.1 correct))
           (later reach.0 (ripening_at s hs e reach.0 it reach.1 correct)) (inl sooner))
     ]
@@ -237,25 +239,6 @@ in_time s hs coming mark cursor now e r =
 
 -- ---- all that it has collected and sent is no later
 
-pub all_in : {X : Type 0} (P : X → Type 0) (xs : List X) → ((x : X) → IsIn x xs → P x) → All P xs
-all_in P xs holds = λ k d lt. holds (get_or xs k d) (there xs k d lt)
-  where
-    there : {X : Type 0} (xs : List X) (k : ℕ) (d : X) → k < length xs → IsIn (get_or xs k d) xs
-    there [] k d lt = absurd (omega (arith, lt))
-    there (x ∷ xs) zero d lt = inl refl
-    there (x ∷ xs) (suc k) d lt = inr (there xs k d (omega (arith, lt)))
-
-by_head : {X Y : Type 0} (f : X → Option Y) (x : X) (xs : List X) (y : Y) → (IsIn y (filter_map f xs) → (z : X) × IsIn z xs × (f z ≡ Some y)) → (o : Option Y)
-    → f x ≡ o
-    → IsIn y (cons_option o (filter_map f xs)) → (z : X) × IsIn z (x ∷ xs) × (f z ≡ Some y)
-by_head f x xs y rest None e i = let more = rest i in (more.0, inr more.1, more.2)
-by_head f x xs y rest (Some u) e (inl same) = (x, inl refl, e ∙ ap Some (sym same))
-by_head f x xs y rest (Some u) e (inr i) = let more = rest i in (more.0, inr more.1, more.2)
-
-in_mapped : {X Y : Type 0} (f : X → Option Y) (xs : List X) (y : Y) → IsIn y (filter_map f xs) → (x : X) × IsIn x xs × (f x ≡ Some y)
-in_mapped f [] y i = absurd i
-in_mapped f (x ∷ xs) y i = by_head f x xs y (λ j. in_mapped f xs y j) (f x) refl i
-
 in_dropped : {X : Type 0} (n : ℕ) (xs : List X) (x : X) → IsIn x (Rattle.std.specs.Prelude.drop n xs) → IsIn x xs
 in_dropped zero xs x i = i
 in_dropped (suc n) [] x i = absurd i
@@ -297,14 +280,10 @@ points_before now a b xs ys d c e (inr (t, inr (r, inl lt))) = absurd (omega (ar
 points_before now a b xs ys d c e (inr (t, inr (r, inr (same, inl lt)))) = omega (arith, lt)
 points_before now a b xs ys d c e (inr (t, inr (r, inr (same, inr (eq, more))))) = omega (arith, eq)
 
--- devices of one number are one
-pub device_is : (a b : DeviceId) → a.0 ≡ b.0 → a ≡ b
-device_is a b e = ap (λ (n : ℕ). let d : DeviceId = record { 0 = n } in d) e
-
 pub points_no_later : (s : Scenario) (hs coming : List Happening) (mark cursor : List ℕ) (now : ℕ) (e : Waiting) (r : IsRipe s hs coming mark cursor now e)
     → ((z : Happening) → IsIn z coming → IsLateKind z.note.body) → (p : Point) → IsIn p (points_of (hs ++ coming) e.device) → p.reading ≤ℤ e.point.0
 points_no_later s hs coming mark cursor now e r late p i =
-    let from = in_mapped (λ h. point_by e.device h h.note.body) (after_last (λ h. ends_stretch e.device h.note.body) (hs ++ coming)) p i in
+    let from = given_of (λ h. point_by e.device h h.note.body) (after_last (λ h. ends_stretch e.device h.note.body) (hs ++ coming)) p i in
     let h = from.0 in
     let of = by_permanence e.device h p h.note.body from.2 in
     elim (in_parts h hs coming (in_dropped _ (hs ++ coming) h from.1)) [
@@ -312,7 +291,7 @@ points_no_later s hs coming mark cursor now e r late p i =
       | inl given ↦
           let due = (founded_at s hs h r.run.founded given).due in
           let c = subst (λ (b : NoteBody). IsCaused s (founded_at s hs h r.run.founded given).front h.note.time b) of.5 due.cause in
-          let same : of.0 ≡ e.device = device_is of.0 e.device (sym of.6) in
+          let same : of.0 ≡ e.device = same_device of.0 e.device (sym of.6) in
           let reached = subst (λ (d : DeviceId). of.3.0 ≤ℤ pos (s.reading d (time_of h))) same c.permanent.reached.reached in
           let le = r.past h given in
           let is = of.7 in
@@ -372,6 +351,6 @@ may_ripen s hs coming mark cursor now e node r ready master points emitted =
           let read = ready.last in
           omega (arith, ints, read, under);
       from_zero = omega (arith, ints, late);
-      after_points = all_in (λ p. p.reading ≤ℤ e.point.0) node.points points;
+      after_points = all_of (λ p. p.reading ≤ℤ e.point.0) node.points points;
       after_emitted = λ k d lt. emitted (get_or node.emitted k d) (Rattle.std.proofs.lemmas.List.Elements.All-contains_itself node.emitted k d lt);
     }

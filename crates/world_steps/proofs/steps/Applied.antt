@@ -23,12 +23,13 @@ use Rattle.run_law.specs.records.Ranks.{place_of}
 use Rattle.run_law.specs.runs.DueRecords.{EndsAt, IsScenarioRun}
 use Rattle.run_law.specs.scenario.Scenarios.{Scenario, turns_on}
 use Rattle.run_law.specs.declared.note.NoteBody.TheVariants as kinds
+use Rattle.tte_lemmas.proofs.Lists.{pushed as get_more}
 use Rattle.tte_units.specs.Amount.{amount}
 use Rattle.tte_units.specs.declared.units.Units.{Units}
 use Rattle.world_law.proofs.giving.Given.{some_same}
 use Rattle.world_law.proofs.giving.GivenParts.{up_to_place}
 use Rattle.world_law.proofs.runs.Applies.{line_before, run_goes_on_by_event, same_length}
-use Rattle.world_law.proofs.runs.Firsts.{get_more, numbered_more, numbered_still}
+use Rattle.world_law.proofs.runs.Firsts.{numbered_more, numbered_still}
 use Rattle.world_steps.proofs.steps.AppliedDevices.{IsApplying, event_moves, held_apply, off_before}
 use Rattle.world_law.proofs.giving.Storing.{stored_still}
 use Rattle.world_steps.proofs.steps.AppliedParts.{IsBefalling, agree_before, before_others, nothing_due, ports_apply, turned_more, waiting_apply, wires_apply}

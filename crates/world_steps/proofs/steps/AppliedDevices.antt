@@ -2,7 +2,7 @@
 use Rattle.std.proofs.Common.{◌≡◌, ◌⊎◌, ℕ, ℤ, ◌+◌, ◌-ℤ◌, ◌≤◌, ◌<◌, pos, ◌<ℤ◌, ◌≤ℤ◌, Bool, true, false, ◌&&◌, ◌||◌, ◌==◌, if◌then◌else◌, not, List, [], ◌∷◌, ◌++◌, ◌+ℤ◌, filter, fold, length, slice_get, None, Some, inl, inr, refl, sym, ap, subst, ◌∙◌, arith}
 use Rattle.std.specs.List.{Contains, last_or}
 use Rattle.std.specs.Option.{option_map_or}
-use Rattle.std.proofs.lemmas.Bool.{cases_Bool, eq-eqb, eqb-true}
+use Rattle.std.proofs.lemmas.Bool.{and_from, and_right, cases_Bool, eq-eqb, eqb-true}
 use Rattle.std.proofs.lemmas.Int.{ints}
 use Rattle.std.proofs.lemmas.List.{append-nil}
 use Rattle.compression.specs.declared.compressed.Compressed.{Compressed}
@@ -25,10 +25,10 @@ use Rattle.run_law.specs.scenario.Hypothesis.{breaks_at}
 use Rattle.run_law.specs.scenario.Scenarios.{Scenario, is_broken, is_turned_on_at, turns_on}
 use Rattle.sync_state.specs.declared.state.State.TheVariants.{Integrating, Off, Synchronised}
 use Rattle.sync_state.specs.declared.state.State.{State}
+use Rattle.tte_lemmas.proofs.Integers.{whole}
 use Rattle.tte_units.specs.Amount.{amount}
 use Rattle.tte_units.specs.declared.units.Units.{Units}
 use Rattle.world_law.proofs.acts.Acted.{waiting_alike}
-use Rattle.world_law.proofs.acts.Ready.{natural}
 use Rattle.world_law.proofs.acts.Recorded.{none_recorded}
 use Rattle.world_law.proofs.devices.Befalls.{is_turned_on, stands_still}
 use Rattle.world_law.proofs.devices.Borne.{other_comes}
@@ -54,24 +54,16 @@ use Rattle.world_law.specs.world.World.{IsCalledBy, IsHeld, IsKept, IsOut, World
 abbrev broken_so : Bool → Node → Node
 broken_so on node = record node { broken = true; standing = record node.standing { state = if on then Off else node.standing.state } }
 
-and_both : (a b : Bool) → a ≡ true → b ≡ true → (a && b) ≡ true
-and_both true b e x = x
-and_both false b e x = e
-
-and_none : (a b : Bool) → b ≡ false → (a && b) ≡ false
-and_none true b e = e
-and_none false b e = refl
-
 pub node_breaks : (on : Bool) (what : What) (device : DeviceId) (node : Node) → breaks_at device.0 what ≡ true → node.broken ≡ false
     → befallen_node on what device node ≡ broken_so on node
 node_breaks on (events.Break other) device node it sound =
-    ap (λ (b : Bool). if b then broken_so on node else node) (and_both (other.0 == device.0) (not node.broken) it (ap not sound))
+    ap (λ (b : Bool). if b then broken_so on node else node) (and_from (other.0 == device.0) (not node.broken) it (ap not sound))
 node_breaks on other device node it sound = absurd cc
 
 pub node_on : (on : Bool) (what : What) (device : DeviceId) (node : Node) → turns_on device what ≡ true → node.broken ≡ false
     → befallen_node on what device node ≡ node_turned_on node
 node_on on (events.On other) device node it sound =
-    ap (λ (b : Bool). if b then node_turned_on node else node) (and_both (device.0 == other.0) (not node.broken) it (ap not sound))
+    ap (λ (b : Bool). if b then node_turned_on node else node) (and_from (device.0 == other.0) (not node.broken) it (ap not sound))
 node_on on other device node it sound = absurd cc
 
 pub node_stays : (on : Bool) (what : What) (device : DeviceId) (node : Node) → breaks_at device.0 what ≡ false → turns_on device what ≡ false
@@ -82,9 +74,9 @@ node_stays on other device node sound off = refl
 
 pub node_out : (on : Bool) (what : What) (device : DeviceId) (node : Node) → node.broken ≡ true → befallen_node on what device node ≡ node
 node_out on (events.Break other) device node out =
-    ap (λ (b : Bool). if b then broken_so on node else node) (and_none (other.0 == device.0) (not node.broken) (ap not out))
+    ap (λ (b : Bool). if b then broken_so on node else node) (and_right (other.0 == device.0) (not node.broken) (ap not out))
 node_out on (events.On other) device node out =
-    ap (λ (b : Bool). if b then node_turned_on node else node) (and_none (device.0 == other.0) (not node.broken) (ap not out))
+    ap (λ (b : Bool). if b then node_turned_on node else node) (and_right (device.0 == other.0) (not node.broken) (ap not out))
 node_out on other device node out = refl
 
 -- it is off where it may be turned on
@@ -257,7 +249,7 @@ ready_less : (network : Network) (f g : DeviceId → ℕ → ℕ) (device : Devi
     → ((task : Task) → IsPending network device new task → IsPending network device node task × (reading_for network node task ≡ reading_for network new task))
     → IsReadyAt (g device) network device new now
 ready_less network f g device now node new reads ready last pending =
-    let begun = natural node.last.time.0 ready.begun in
+    let begun = whole node.last.time.0 ready.begun in
     let time = ready.time in
     record {
       time = subst (λ (m : _). m.time.0 ≤ℤ pos now) (sym last) ready.time;

@@ -23,13 +23,15 @@ use Rattle.run_law.specs.declared.judgement.Why.TheVariants as whys
 use Rattle.run_law.specs.declared.note.NoteBody.TheVariants as notes
 use Rattle.run_law.specs.declared.note.NoteBody.{NoteBody}
 use Rattle.transparent_clock.specs.Points.{point_of}
+use Rattle.tte_lemmas.proofs.Bools.{or_none}
+use Rattle.tte_lemmas.proofs.Lists.{pushed}
 use Rattle.tte_units.specs.Amount.{amount}
 use Rattle.tte_units.specs.declared.units.Units.{Units}
 use Rattle.world_law.proofs.lists.Lists.{filter_no, filter_yes}
 use Rattle.world_law.proofs.putting.PutIn.{own_time}
 use Rattle.world_law.proofs.runs.Agreement.{broken_same, reach_same}
 use Rattle.world_law.proofs.runs.Applies.{agree_back, event_cause, event_place}
-use Rattle.world_law.proofs.runs.Firsts.{get_more, numbered_more, numbered_still}
+use Rattle.world_law.proofs.runs.Firsts.{numbered_more, numbered_still}
 use Rattle.world_law.proofs.runs.SameCauses.{arrives_same, hold_same}
 use Rattle.world_law.specs.source.Agreeing.{Agree, scenario}
 use Rattle.world_law.specs.source.Applying.{IsEventBody}
@@ -209,16 +211,12 @@ ripe_early now t e (inl lt) = lt
 ripe_early now t e (inr (same, inl few)) = absurd (omega (arith, few))
 ripe_early now t e (inr (same, inr (r, none))) = absurd none
 
-or_false : (b : Bool) → (b || false) ≡ b
-or_false true = refl
-or_false false = refl
-
 or_assoc : (a b c : Bool) → (a || (b || c)) ≡ ((a || b) || c)
 or_assoc true b c = refl
 or_assoc false b c = refl
 
 any_more : {X : Type 0} (q : X → Bool) (xs : List X) (x : X) → list_any q (xs ++ x ∷ []) ≡ (list_any q xs || q x)
-any_more q [] x = or_false (q x)
+any_more q [] x = or_none (q x)
 any_more q (y ∷ xs) x = ap (λ (b : Bool). q y || b) (any_more q xs x) ∙ or_assoc (q y) (list_any q xs) (q x)
 
 pub turned_more : (network : Network) (f g : DeviceId → ℕ → ℕ) (past : List Event) (event : Event) (now : ℕ) (device : DeviceId)
@@ -361,7 +359,7 @@ event_there : (network : Network) (g : DeviceId → ℕ → ℕ) (past : List Ev
 event_there network g past event js y now at y_at is caused =
     let found = event_cause (scenario network g (past ++ event ∷ [])) js y.note.time y.note.body is caused in
     let r = found.3 in
-    let few : r.before ≤ length past = elim (get_more past event r.event r.before r.is)
+    let few : r.before ≤ length past = elim (pushed past event r.event r.before r.is)
     [ inl old ↦ (let lt = slice_get_within past r.before r.event old in omega (arith, lt)) | inr new ↦ omega (arith, new.0) ] in
     let line = r.line_is in
     subst (λ (p : List ℕ). IsBefore p (behind (now ∷ 1 ∷ (length past + 1) ∷ [])))

@@ -1,36 +1,30 @@
 -- A fresh world stands for the run of no records under no events.
-use Rattle.std.proofs.Common.{◌≡◌, ℕ, ℤ, zero, suc, ◌+◌, ◌^◌, ◌≤◌, pos, ◌+ℤ◌, ◌-ℤ◌, ◌≤ℤ◌, ◌<ℤ◌, true, false, List, [], ◌∷◌, ◌++◌, Some, inl, inr, refl, sym, ap, subst, ◌∙◌, arith}
-use Rattle.std.specs.List.{Contains}
+use Rattle.std.proofs.Common.{◌≡◌, ℕ, ℤ, ◌+◌, ◌^◌, ◌≤◌, pos, ◌+ℤ◌, ◌-ℤ◌, ◌≤ℤ◌, ◌<ℤ◌, true, false, List, [], ◌∷◌, ◌++◌, inl, inr, refl, sym, ap, subst, ◌∙◌, arith}
 use Rattle.std.proofs.lemmas.Int.{ints}
 use Rattle.net_plan.specs.declared.ids.DeviceId.{DeviceId}
 use Rattle.net_plan.specs.declared.network.Network.{Network}
+use Rattle.run_law.proofs.records.Happenings.{none_numbered}
 use Rattle.run_law.proofs.runs.Grow.{empty_run}
 use Rattle.run_law.proofs.runs.Places.{before_later_time, chain}
+use Rattle.run_law.proofs.silent.Due.{no_cluster}
 use Rattle.run_law.specs.control.Collections.{observation_window}
 use Rattle.run_law.specs.machines.Nodes.{Node, begun_node, dispatching, correcting, sending}
 use Rattle.run_law.specs.machines.Tasks.{IsPending, Task, doing, emitting, reading_for, value_of}
-use Rattle.run_law.specs.records.Happenings.{Happening, numbered}
+use Rattle.run_law.specs.records.Happenings.{Happening}
 use Rattle.run_law.specs.records.Order.{IsBefore, IsIn}
 use Rattle.run_law.specs.records.Ranks.{place_of}
 use Rattle.run_law.specs.runs.DueRecords.{IsDue}
 use Rattle.run_law.specs.scenario.Devices.{start_of}
 use Rattle.run_law.specs.scenario.Scenarios.{Scenario}
 use Rattle.sync_state.specs.Standing.{adjustment_at_start}
+use Rattle.tte_lemmas.proofs.Lists.{none_in}
 use Rattle.tte_units.specs.Amount.{amount}
 use Rattle.tte_units.specs.declared.units.Units.{Units}
-use Rattle.world_law.proofs.acts.Acted.{no_cluster}
 use Rattle.world_law.specs.device.Left.{IsLeft}
 use Rattle.world_law.specs.source.Agreeing.{scenario}
 use Rattle.world_law.specs.source.Sources.{IsSource}
 use Rattle.world_steps.specs.Steps.{Begun}
 use Rattle.world_law.specs.world.World.{IsKept}
-
-none_there : (n : ℕ) (h : Happening) → numbered [] n ≡ Some h → ⊥
-none_there zero h e = cc
-none_there (suc n) h e = cc
-
-none_in : {X : Type 0} (x : X) → Contains [] x → ⊥
-none_in x (k, lt, at) = absurd (omega (arith, lt))
 
 -- nothing of the run is before the first source
 low_rank : (t k : ℕ) (ws : List ℕ) → 1 ≤ k → IsBefore (t ∷ k ∷ ws) (0 ∷ 1 ∷ []) → ⊥
@@ -159,27 +153,27 @@ begun {C} {M} reading stands network f world fresh forward steady zero_first le 
           );
       early = λ first p b. subst (λ (n : ℕ). IsBefore p (n ∷ 2 ∷ [])) now (chain p (0 ∷ 1 ∷ []) (0 ∷ 2 ∷ []) b (inr (refl, inl (omega arith))));
       untold = record {
-        done = λ told number h it. absurd (none_there number h it.there);
+        done = λ told number h it. absurd (none_numbered number h it.there);
         none = λ told. fresh.befell;
         waits = λ open_. absurd (let bad : false ≡ true = sym fresh.pending ∙ open_ in cc);
         early = λ open_. absurd (let bad : false ≡ true = sym fresh.pending ∙ open_ in cc);
         real = λ e i. absurd (subst (λ (l : List _). IsIn e l) fresh.befell i);
-        all = λ open_ number line what h it. absurd (none_there number h it.there);
+        all = λ open_ number line what h it. absurd (none_numbered number h it.there);
         in_order = subst (λ (l : List _). Rattle.world_law.specs.world.World.AreInOrder l) (sym fresh.befell) tt;
       };
       wires =
           subst (λ (l : List _). Rattle.world_law.specs.world.World.AreOnWires s [] (0 ∷ 1 ∷ []) world.now world.pending l) (sym fresh.wires)
-          (record { real = λ e i. absurd i; all = λ t device link cause a told not. absurd (none_there cause a.putting a.there) });
+          (record { real = λ e i. absurd i; all = λ t device link cause a told not. absurd (none_numbered cause a.putting a.there) });
       ports =
           subst (λ (l : List _). Rattle.world_law.specs.world.World.AreAtPorts s [] (0 ∷ 1 ∷ []) l) (sym fresh.ports)
-          (record { real = λ e i. absurd i; all = λ t device link cause d not. absurd (none_there cause d.giving d.there) });
+          (record { real = λ e i. absurd i; all = λ t device link cause d not. absurd (none_numbered cause d.giving d.there) });
       waiting =
           subst (λ (l : List _). Rattle.world_law.specs.world.World.AreWaiting s [] (0 ∷ 1 ∷ []) world.now l) (sym fresh.waiting)
           (record {
             real = λ e i. absurd i;
             later = λ e i. absurd i;
             sound = λ e i. absurd i;
-            all = λ e it sound not. absurd (none_there e.cause it.arrival it.there);
+            all = λ e it sound not. absurd (none_numbered e.cause it.arrival it.there);
           });
       stored =
           subst (λ (l : List _). Rattle.world_law.specs.world.World.AreStored [] l) (sym fresh.stored)

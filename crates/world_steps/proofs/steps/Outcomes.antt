@@ -1,13 +1,11 @@
 -- What becomes of a frame that leaves: the one record of it.
-use Rattle.std.proofs.Common.{◌≡◌, ◌⊎◌, ℕ, ◌+◌, ◌-◌, ◌≤◌, ◌<◌, Bool, true, false, not, ◌||◌, ◌==◌, if◌then◌else◌, nat_lt, List, [], ◌∷◌, ◌++◌, length, filter, Option, Some, None, IsSomeAnd, inl, inr, refl, sym, ap, subst, ◌∙◌, arith}
+use Rattle.std.proofs.Common.{◌≡◌, ◌⊎◌, ℕ, ◌+◌, ◌-◌, ◌≤◌, ◌<◌, Bool, true, false, not, ◌||◌, if◌then◌else◌, nat_lt, List, [], ◌∷◌, ◌++◌, length, filter, Some, None, inl, inr, refl, sym, ap, subst, ◌∙◌, arith}
 use Rattle.std.specs.List.{last_or}
-use Rattle.std.specs.Option.{option_map_or}
-use Rattle.std.proofs.lemmas.Bool.{eq-eqb}
 use Rattle.net_plan.specs.Places.{link_at}
 use Rattle.net_plan.specs.declared.ids.DeviceId.{DeviceId}
 use Rattle.net_plan.specs.declared.ids.LinkId.{LinkId}
-use Rattle.net_plan.specs.declared.tables.Link.{Link}
 use Rattle.pcf_values.specs.declared.pcf.Pcf.{Pcf}
+use Rattle.run_law.proofs.law.FirstDeliveries.{last_in}
 use Rattle.run_law.proofs.law.FirstPlaces.{by_number, in_filter, numbered_within}
 use Rattle.run_law.specs.records.Causes.{cause_of}
 use Rattle.run_law.specs.scenario.Devices.{is_parent_of, is_relay}
@@ -26,10 +24,10 @@ use Rattle.run_law.specs.declared.note.NoteBody.TheVariants as kinds
 use Rattle.run_law.specs.declared.note.NoteBody.{NoteBody}
 use Rattle.tte_units.specs.Amount.{amount}
 use Rattle.tte_units.specs.declared.units.Units.{Units}
+use Rattle.world_law.proofs.frames.Masters.{parent_true}
 use Rattle.world_law.proofs.giving.Given.{some_same}
 use Rattle.world_law.proofs.giving.GivenParts.{second}
 use Rattle.world_law.proofs.putting.Idle.{IsIdle, numbered_prefix}
-use Rattle.world_law.proofs.putting.PutIn.{last_in}
 use Rattle.world_law.proofs.runs.SourcesBack.{earlier_still}
 use Rattle.world_law.specs.source.Sources.{IsOwnSource}
 use Rattle.world_law.specs.world.Outcomes.{departure_body}
@@ -267,10 +265,6 @@ no_launch s h t (kinds.Sent master cycle) device link x g e = cc
 no_launch s h t (kinds.Compressed cm opened at cycle members verdict) device link x g e = cc
 no_launch s h t (kinds.Arrived relay by cause clock) device link x g e = cc
 no_launch s h t other device link x g e = g
-
-parent_true : (device : DeviceId) (o : Option Link) → IsSomeAnd o (λ l. l.parent ≡ device) → option_map_or (λ l. l.parent.0 == device.0) o false ≡ true
-parent_true device None p = absurd p
-parent_true device (Some l) p = eq-eqb l.parent.0 device.0 (ap (λ (d : DeviceId). d.0) p)
 
 not_awaited : (a b : Bool) → a ≡ true → b ≡ true → (not a || not b) ≡ true → ⊥
 not_awaited a b x y e = let bad : false ≡ true = sym (ap (λ (c : Bool). not c || not b) x ∙ ap not y) ∙ e in cc

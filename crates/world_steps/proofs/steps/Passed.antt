@@ -24,9 +24,9 @@ use Rattle.run_law.specs.records.Order.{IsBefore, IsIn}
 use Rattle.run_law.specs.records.Ranks.{members_in}
 use Rattle.run_law.specs.scenario.Scenarios.{Scenario}
 use Rattle.run_law.specs.scenario.Ways.{cut_set, hold_set, wire_of, wire_set}
+use Rattle.tte_lemmas.proofs.Integers.{whole as natural}
 use Rattle.tte_units.specs.Amount.{amount}
 use Rattle.world_law.proofs.acts.Acting.{IsUnmoved, cleared_on, had_come_before}
-use Rattle.world_law.proofs.acts.Ready.{natural}
 use Rattle.world_law.proofs.acts.NoActs.{nothing_comes_before}
 use Rattle.world_law.proofs.acts.Recorded.{none_recorded}
 use Rattle.world_law.proofs.devices.OwnRecords.{change_still}
@@ -58,7 +58,7 @@ ways_stay s mark now t link way b le =
       cut = unwrap_or (last_or None (filter_map (λ e. cut_set link way e.what) l)) false;
     } in w) (sym (no_later_events s mark now t b le))
 
-none_hidden : (given : ℕ) (coming : List Happening) → [] ≡ map (hidden given) coming → coming ≡ []
+pub none_hidden : (given : ℕ) (coming : List Happening) → [] ≡ map (hidden given) coming → coming ≡ []
 none_hidden given [] e = refl
 none_hidden given (z ∷ coming) e = absurd cc
 

@@ -1,5 +1,5 @@
 use Rattle.std.proofs.Common.{◌≡◌, ◌∷◌, [], List, true, false, refl, sym, subst, ◌∙◌}
-use Rattle.std.proofs.lemmas.Bool.{false≢true}
+use Rattle.std.proofs.lemmas.Bool.{false≢true, not-false, not-true}
 use Rattle.audit_law.specs.DueRecords.{IsDue}
 use Rattle.clock_judge.specs.Moments.{IsMoment, StandsAt}
 use Rattle.clock_judge.specs.Points.{IsHeard}
@@ -10,7 +10,6 @@ use Rattle.run_law.specs.records.Happenings.{Happening}
 use Rattle.run_law.specs.records.Ranks.{place_of}
 use Rattle.clock_debts.specs.Told.{OwesAt}
 use Rattle.clock_debts.proofs.Fronts.{by_front, heard_front}
-use Rattle.clock_debts.proofs.Paying.{not_false, not_true}
 use Rattle.clock_debts.proofs.correcting.is_untold.Goals as goal
 
 pub returns-then-is_owed-clause-untold : goal.returns-then-is_owed-clause-untold
@@ -37,12 +36,12 @@ returns-then-is_owed-clause-untold c befallen hs kept founded shows untold =
     } in (
       owed.0,
       owes,
-      λ told. false≢true (sym (not_true c.is_told.result untold) ∙ (c.is_told.ensures s hs owed.0 kept.places_are founded).1 told),
+      λ told. false≢true (sym (not-true c.is_told.result untold) ∙ (c.is_told.ensures s hs owed.0 kept.places_are founded).1 told),
     )
 
 pub returns-then-is_owed-clause-told : goal.returns-then-is_owed-clause-told
 returns-then-is_owed-clause-told c befallen hs kept founded shows told cycle owes =
-    (c.is_told.ensures (scenario_under c.args.network.now befallen) hs cycle kept.places_are founded).0 (not_false c.is_told.result told)
+    (c.is_told.ensures (scenario_under c.args.network.now befallen) hs cycle kept.places_are founded).0 (not-false c.is_told.result told)
 
 pub returns-else-is_owed-clause-told : goal.returns-else-is_owed-clause-told
 returns-else-is_owed-clause-told c befallen hs kept founded shows told cycle owes =

@@ -1,8 +1,9 @@
 use Rattle.std.proofs.Common.{sym, subst, ◌∙◌}
+use Rattle.std.proofs.lemmas.Bool.{not-true, not_from_false}
 use Rattle.audit_law.specs.DueRecords.{ChangesState}
 use Rattle.run_law.specs.declared.judgement.Why.{Why}
 use Rattle.sync_state.specs.declared.answers.Verdict.TheVariants.{AsyncClique, SyncClique}
-use Rattle.clock_judge.proofs.Bringing.{corrected, not_false, not_true, turned_on}
+use Rattle.clock_judge.proofs.Bringing.{corrected, turned_on}
 use Rattle.clock_judge.proofs.changing.changes_state.Goals as goal
 
 pub returns-then-is_brought : goal.returns-then-is_brought
@@ -11,10 +12,10 @@ returns-then-is_brought c s hs t stands hears is =
     let device = c.args.device in
     let brought = c.is_brought.ensures.0 c.if-is_brought.true in (
       λ sound. subst (λ (w : Why). ChangesState s hs device t said.state said.cause w) (sym c.in-On.is)
-          (brought.1, sym stands.befalls.broken ∙ not_true c.args.moment.broken sound, turned_on hs device t said.cause (sym is ∙ brought.0)),
+          (brought.1, sym stands.befalls.broken ∙ not-true c.args.moment.broken sound, turned_on hs device t said.cause (sym is ∙ brought.0)),
       λ change.
           let on = subst (λ (w : Why). ChangesState s hs device t said.state said.cause w) c.in-On.is change in
-          not_false c.args.moment.broken (stands.befalls.broken ∙ on.1),
+          not_from_false c.args.moment.broken (stands.befalls.broken ∙ on.1),
     )
 
 pub returns-then-is_brought-2 : goal.returns-then-is_brought-2

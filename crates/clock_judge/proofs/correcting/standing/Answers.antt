@@ -2,8 +2,9 @@ use Rattle.std.proofs.Common.{◌∙◌, sym, ap, rules}
 use Rattle.std.specs.Int.{w128}
 use Rattle.std.proofs.lemmas.Int.{to_z-of_z}
 use Rattle.net_plan.specs.declared.network.Network.{Network}
+use Rattle.run_law.proofs.runs.Determined.{same_units}
 use Rattle.run_law.specs.scenario.Devices.{plan_of}
-use Rattle.clock_judge.proofs.Pointing.{same_standing, same_units}
+use Rattle.clock_judge.proofs.Pointing.{same_standing}
 use Rattle.clock_judge.proofs.correcting.standing.Goals as goal
 
 pub returns-clause-is : goal.returns-clause-is

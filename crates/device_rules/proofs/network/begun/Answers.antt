@@ -1,6 +1,6 @@
 use Rattle.std.proofs.Common.{◌∙◌, ◌≤◌, ◌^◌}
 use Rattle.std.proofs.Math.Nat.{mul-le-mul_left}
-use Rattle.device_rules.proofs.Numbers.{amount_most}
+use Rattle.net_plan.proofs.InRange.{amount_most}
 use Rattle.device_rules.proofs.network.begun.Goals as goal
 
 pub returns-clause-high : goal.returns-clause-high

@@ -3,12 +3,13 @@ use Rattle.std.proofs.lemmas.Int.{to_z-of_z}
 use Rattle.std.specs.Int.{w128}
 use Rattle.collection_history.specs.Kept.{emissions_in}
 use Rattle.collection_history.specs.declared.emitted.Emitted.{Emitted}
-use Rattle.emission_debts.proofs.Entries.{emission_there, entry_points, least_short, length_there, not_negative, short_there, some_at, some_points}
+use Rattle.emission_debts.proofs.Entries.{emission_there, entry_points, least_short, length_there, not_negative, short_there, some_points}
 use Rattle.emission_debts.proofs.Walking.{walk_begun, walk_none, walk_paid, walk_unpaid, walk_unreached}
 use Rattle.emission_debts.specs.Emissions.{IsTold, OwesBehind}
 use Rattle.emission_debts.specs.Firsts.{TellsFirstOf}
 use Rattle.event_history.specs.Reaches.{IsFirstReach}
 use Rattle.event_history.specs.Readings.{clock_reading, scenario_under}
+use Rattle.tte_lemmas.proofs.Lists.{some_at}
 use Rattle.emission_debts.proofs.first.first_unemitted_behind.Goals as goal
 
 pub len-left-requires : goal.len-left-requires

@@ -1,9 +1,10 @@
 use Rattle.std.proofs.Common.{◌+◌, ℕ, Option, sym, subst, ◌∙◌, arith}
-use Rattle.emission_debts.proofs.Entries.{entries_all, entries_more, entries_none, none_of_others, some_at}
+use Rattle.emission_debts.proofs.Entries.{entries_all, entries_more, entries_none, none_of_others}
 use Rattle.emission_debts.specs.Emissions.{IsTold, OwesWithin}
 use Rattle.emission_debts.specs.Firsts.{TellsFirstOf}
 use Rattle.event_history.specs.Readings.{scenario_under}
 use Rattle.stretch_history.specs.Keeping.{Stretches}
+use Rattle.tte_lemmas.proofs.Lists.{some_at}
 use Rattle.emission_debts.proofs.first.first_unemitted_by.Goals as goal
 
 pub returns-then-not-is_cm : goal.returns-then-not-is_cm

@@ -4,7 +4,8 @@ use Rattle.std.proofs.lemmas.List.{take_more}
 use Rattle.net_plan.specs.declared.tables.Link.{Link}
 use Rattle.event_history.specs.Beginnings.{AreWaysOf}
 use Rattle.event_history.specs.declared.history.WayHistory.{WayHistory}
-use Rattle.event_history.proofs.Beginning.{take_whole, two_more}
+use Rattle.tte_lemmas.proofs.Lists.{take_all}
+use Rattle.event_history.proofs.Beginning.{two_more}
 use Rattle.event_history.proofs.history.untouched_ways.Goals as goal
 
 pub loop-link-init : goal.loop-link-init
@@ -26,4 +27,4 @@ loop-link-preserved c =
 pub returns : goal.returns
 returns c =
     subst (λ (l : List Link). AreWaysOf l c.loop-link.ways.items)
-    (take_whole c.as_slice-link-items.result.now c.loop-link.link-index c.loop-link-test.false ∙ c.as_slice-link-items.ensures) c.loop-link.invariant
+    (take_all c.as_slice-link-items.result.now c.loop-link.link-index c.loop-link-test.false ∙ c.as_slice-link-items.ensures) c.loop-link.invariant

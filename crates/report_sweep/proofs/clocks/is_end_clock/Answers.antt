@@ -1,9 +1,9 @@
 use Rattle.std.proofs.Common.{◌≡◌, ◌∙◌, ℕ, List, refl, sym, ap, subst}
 use Rattle.std.proofs.lemmas.Bool.{le-leb}
 use Rattle.std.specs.Prelude.{nat_le}
-use Rattle.audit_law.proofs.LastParts.{all_kept}
 use Rattle.event_history.specs.Readings.{clock_reading, scenario_under}
 use Rattle.record_history.specs.Showing.{Shows}
+use Rattle.run_law.proofs.records.Order.{all_kept}
 use Rattle.report_sweep.proofs.clocks.is_end_clock.Goals as goal
 use Rattle.run_law.specs.records.Happenings.{Happening, time_of, up_to}
 use Rattle.tte_units.specs.Amount.{amount}

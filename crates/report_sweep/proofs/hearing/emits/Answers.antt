@@ -3,13 +3,13 @@ use Rattle.event_history.specs.Readings.{scenario_under}
 use Rattle.net_plan.specs.declared.ids.DeviceId.{DeviceId}
 use Rattle.net_plan.specs.declared.network.Network.{Network}
 use Rattle.report_sweep.proofs.hearing.emits.Goals as goal
-use Rattle.run_law.proofs.runs.SameSteps.{same_some}
 use Rattle.run_law.specs.control.Collections.{points_of}
 use Rattle.run_law.specs.control.Emissions.{Emits}
 use Rattle.run_law.specs.declared.judgement.Judgement.{Judgement}
 use Rattle.run_law.specs.scenario.Devices.{is_cm}
 use Rattle.run_law.specs.scenario.Scenarios.{is_broken}
 use Rattle.stretch_history.specs.Points.{HasPoints}
+use Rattle.tte_lemmas.proofs.Options.{one}
 
 pub emission-requires-clause-gathered : goal.emission-requires-clause-gathered
 emission-requires-clause-gathered c =
@@ -46,7 +46,7 @@ returns-in-Some c befallen hs k b =
     }) c.args.verdict in (
       λ yes. subst (λ (d : DeviceId). Emits s hs d t c.args.sent.now c.args.verdict) dev
           (e.0 (c.in-Some.is ∙ ap (λ (v : Judgement). Some v) (c.is_same_judgement.ensures.0 yes))),
-      λ y. c.is_same_judgement.ensures.1 (same_some c.emission.result c.in-Some.heard c.args.verdict c.in-Some.is
+      λ y. c.is_same_judgement.ensures.1 (one c.emission.result c.in-Some.heard c.args.verdict c.in-Some.is
           (e.1 (subst (λ (d : DeviceId). Emits s hs d t c.args.sent.now c.args.verdict) (sym dev) y))),
     )
 

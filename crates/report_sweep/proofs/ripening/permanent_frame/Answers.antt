@@ -7,10 +7,10 @@ use Rattle.net_plan.specs.declared.ids.DeviceId.{DeviceId}
 use Rattle.report_sweep.proofs.PermanentFrames.{arrived_clock, from_arrival}
 use Rattle.report_sweep.proofs.ripening.permanent_frame.Goals as goal
 use Rattle.report_sweep.specs.Ripenings.{waiting_clock}
-use Rattle.run_law.proofs.runs.SameSteps.{same_some}
 use Rattle.run_law.specs.declared.note.NoteBody.{NoteBody}
 use Rattle.run_law.specs.records.Happenings.{Happening, numbered, time_of}
 use Rattle.transparent_clock.specs.Points.{point_of}
+use Rattle.tte_lemmas.proofs.Options.{one}
 
 pub point_reached-requires-clause-young : goal.point_reached-requires-clause-young
 point_reached-requires-clause-young c =
@@ -52,12 +52,12 @@ returns-in-None-point_reached c befallen hs k frame point x =
     let p = c.args.passage in
     let dmax = c.args.network.now.dmax.0 in
     let kept = ap (λ (r : KeptRecord). waiting_clock p.device p.link r.kept) found.2 in
-    let same = same_some (numbered hs p.cause) x.arrival found.0 x.there found.1 in
+    let same = one (numbered hs p.cause) x.arrival found.0 x.there found.1 in
     let own = sym (arrived_clock p.device p.link x.from x.clock)
     ∙ ap (λ (b : NoteBody). waiting_clock p.device p.link (kept_of b)) (sym x.arrived)
     ∙ ap (λ (h : Happening). waiting_clock p.device p.link (kept_of h.note.body)) same
     ∙ sym kept ∙ sym c.waiting_clock.ensures ∙ c.in-Some-waiting_clock.is in
-    let clocks : x.clock ≡ c.in-Some-waiting_clock.clock = same_some (Some x.clock) x.clock c.in-Some-waiting_clock.clock refl own in
+    let clocks : x.clock ≡ c.in-Some-waiting_clock.clock = one (Some x.clock) x.clock c.in-Some-waiting_clock.clock refl own in
     let at : time_of x.arrival ≡ c.in-Some.kept.now.time = ap time_of same ∙ sym (ap (λ (r : KeptRecord). r.time) found.2) in
     let here = x.at_point
     ∙ ap (λ (n : ℕ). point_of (pos (reading n)) x.clock dmax) at

@@ -1,5 +1,6 @@
 use Rattle.std.proofs.Common.{refl, arith}
-use Rattle.schedule_judge.proofs.Rows.{in_at, no_row, none_in_all, none_more}
+use Rattle.record_history.proofs.Partitions.{in_index}
+use Rattle.schedule_judge.proofs.Rows.{no_row, none_in_all, none_more}
 use Rattle.schedule_judge.specs.Dispatched.{IsRowDispatched}
 use Rattle.schedule_judge.proofs.dispatching.is_some_dispatched.Goals as goal
 
@@ -8,13 +9,13 @@ loop-row-init c s hs t stands last i lt = absurd (omega (arith, lt))
 
 pub is_dispatched-requires-clause-period : goal.is_dispatched-requires-clause-period
 is_dispatched-requires-clause-period c =
-    c.requires.periods _ (in_at c.args.rows.now c.loop-row.row-index no_row c.loop-row-test.true)
+    c.requires.periods _ (in_index c.args.rows.now c.loop-row.row-index no_row c.loop-row-test.true)
 
 pub returns-then-is_dispatched : goal.returns-then-is_dispatched
 returns-then-is_dispatched c s hs t stands last = (
   λ told. record {
     row = _;
-    there = in_at c.args.rows.now c.loop-row.row-index no_row c.loop-row-test.true;
+    there = in_index c.args.rows.now c.loop-row.row-index no_row c.loop-row-test.true;
     dispatched = (c.is_dispatched.ensures s hs t stands last).0 c.if-is_dispatched.true;
   },
   λ some. refl,

@@ -1,6 +1,7 @@
 use Rattle.std.proofs.Common.{refl, arith}
 use Rattle.event_history.specs.Readings.{scenario_under}
-use Rattle.schedule_judge.proofs.Rows.{in_at, no_row, none_in_all, none_more}
+use Rattle.record_history.proofs.Partitions.{in_index}
+use Rattle.schedule_judge.proofs.Rows.{no_row, none_in_all, none_more}
 use Rattle.schedule_judge.specs.Sent.{SendsBy}
 use Rattle.schedule_judge.proofs.sending.sends_by_some.Goals as goal
 
@@ -8,13 +9,13 @@ pub loop-row-init : goal.loop-row-init
 loop-row-init c befallen hs remembers has shows i lt = absurd (omega (arith, lt))
 
 pub sends_by-requires-clause-row : goal.sends_by-requires-clause-row
-sends_by-requires-clause-row c = c.requires.rows _ (in_at c.args.rows.now c.loop-row.row-index no_row c.loop-row-test.true)
+sends_by-requires-clause-row c = c.requires.rows _ (in_index c.args.rows.now c.loop-row.row-index no_row c.loop-row-test.true)
 
 pub returns-then-sends_by : goal.returns-then-sends_by
 returns-then-sends_by c befallen hs remembers has shows = (
   λ told. record {
     row = _;
-    there = in_at c.args.rows.now c.loop-row.row-index no_row c.loop-row-test.true;
+    there = in_index c.args.rows.now c.loop-row.row-index no_row c.loop-row-test.true;
     by = (c.sends_by.ensures befallen hs remembers has shows).0 c.if-sends_by.true;
   },
   λ some. refl,

@@ -1,6 +1,7 @@
 use Rattle.std.proofs.Common.{◌≡◌, ◌∙◌, ℕ, ◌+◌, ◌∷◌, ◌++◌, List, [], Option, Some, None, ap, length, subst, sym, slice_set, unwrap_or}
 use Rattle.std.proofs.lemmas.Option.{slice_get-get_or}
-use Rattle.switch_ports.proofs.RowOrder.{row_kept, same_device}
+use Rattle.net_plan.proofs.SameIds.{same_device}
+use Rattle.switch_ports.proofs.RowOrder.{row_kept}
 use Rattle.switch_ports.proofs.departures.add_row.Goals as goal
 use Rattle.switch_ports.specs.Leaving.{AreLeaving}
 use Rattle.switch_ports.specs.declared.departures.Departure.{Departure}

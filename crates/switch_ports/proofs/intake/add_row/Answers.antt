@@ -1,10 +1,11 @@
 use Rattle.std.proofs.Common.{◌≡◌, ◌∙◌, true, false, Some, sym, subst}
 use Rattle.std.specs.BTreeMap.{Updates}
-use Rattle.switch_ports.proofs.Entrances.{none_at, row_kept, row_skipped, some_by}
+use Rattle.switch_ports.proofs.Entrances.{row_kept, row_skipped}
 use Rattle.switch_ports.proofs.intake.add_row.Goals as goal
 use Rattle.switch_ports.specs.Intakes.{entrance_cmp, entrance_of}
 use Rattle.switch_ports.specs.declared.intake.EnteringRow.{EnteringRow}
 use Rattle.switch_ports.specs.declared.intake.Entrance.{Entrance}
+use Rattle.tte_lemmas.proofs.Options.{none_at, some_by}
 
 pub returns-then-not-is_way_to : goal.returns-then-not-is_way_to
 returns-then-not-is_way_to c device earlier place site is have are =

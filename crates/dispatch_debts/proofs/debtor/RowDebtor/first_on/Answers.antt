@@ -3,7 +3,8 @@ use Rattle.audit_law.specs.Dispatched.{Dispatch}
 use Rattle.audit_law.specs.Owed as debts
 use Rattle.dispatch_debts.proofs.RowDebts.{IsByFirst, all_rows, next_row, no_rows}
 use Rattle.dispatch_debts.specs.Debtors.{scenario_of}
-use Rattle.schedule_judge.proofs.Rows.{in_at, no_row}
+use Rattle.record_history.proofs.Partitions.{in_index}
+use Rattle.schedule_judge.proofs.Rows.{no_row}
 use Rattle.unpaid_debts.specs.Unpaid.{TellsFirstAmong}
 use Rattle.dispatch_debts.proofs.debtor.RowDebtor.first_on.Goals as goal
 
@@ -14,7 +15,7 @@ rows-init c befallen hs known =
 pub first_by-requires-clause-row : goal.first_by-requires-clause-row
 first_by-requires-clause-row c =
     let are = c.on-rows.ensures c.args.self.now.network.now c.requires.fit.exits in
-    are.sound _ (in_at c.on-rows.result.now c.rows.row-index no_row c.rows-test.true)
+    are.sound _ (in_index c.on-rows.result.now c.rows.row-index no_row c.rows-test.true)
 
 pub rows-preserved : goal.rows-preserved
 rows-preserved c befallen hs known =

@@ -6,14 +6,14 @@ use Rattle.std.specs.List.Sorted.{IsPartitionedBy}
 use Rattle.std.specs.Prelude.{option_map, slice_get}
 use Rattle.end_system.proofs.EnteringLemmas.{KeyEnds, found_entry, found_none, key_order, known_row, none_else, none_past}
 use Rattle.end_system.proofs.KeyOrder.{key_cmp}
-use Rattle.end_system.proofs.OwnLemmas.{one_some}
 use Rattle.end_system.proofs.Search.{parted}
 use Rattle.end_system.proofs.entering.Entering.find.Goals as goal
 use Rattle.end_system.proofs.entering.Entering.find.Goals.{else-eq-via-then-eq+else-key-id, else-eq-via-else-eq}
 use Rattle.end_system.specs.EnteringRows.{IsKeyOf, numbers_of, row_by}
 use Rattle.end_system.specs.declared.entering.EnteringRow.{EnteringRow}
 use Rattle.end_system.specs.declared.entering.Key.{Key}
-use Rattle.schedule_tables.proofs.EntryLemmas.{all_at}
+use Rattle.tte_lemmas.proofs.Lists.{in_all}
+use Rattle.tte_lemmas.proofs.Options.{one}
 
 pub returns-then-key-id-clause-known : goal.returns-then-key-id-clause-known
 returns-then-key-id-clause-known c =
@@ -63,9 +63,9 @@ returns-then-key-id-clause-row c = λ n d taken are child up.
     (subst (λ (xs : List Key). IsPartitionedBy (λ k. is_lt (key_cmp k (record { link = c.args.link; id = c.args.id; row = record { 0 = 0 } }))) xs)
     (sym c.deref.ensures.value) (parted numbers_of key_cmp key_order (record { link = c.args.link; id = c.args.id; row = record { 0 = 0 } }) e.keys.items
     are.keys.order))) in
-    let is = all_at (IsKeyOf n d) e.keys.items place key are.keys.sound at in
+    let is = in_all (IsKeyOf n d) e.keys.items place key are.keys.sound at in
     let row = are.rows.each place key is.entry (slice_get_within e.keys.items place key at) at is.is in
-    let same = one_some (slice_get e.rows.items place) c.index.result.now (row_by n is.entry)
+    let same = one (slice_get e.rows.items place) c.index.result.now (row_by n is.entry)
     (slice_get_read e.rows.items (length e.rows.items) place c.index.result.now refl
     (subst (λ (k : ℕ). place < k) (sym are.rows.count_is) (slice_get_within e.keys.items place key at)) c.index.ensures) row in
     ap (λ (r : EnteringRow). Some r) same

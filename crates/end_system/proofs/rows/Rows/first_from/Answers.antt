@@ -6,16 +6,17 @@ use Rattle.std.proofs.lemmas.Option.{slice_get_read}
 use Rattle.end_system.proofs.KeyOrder.{slot_cmp}
 use Rattle.end_system.proofs.RowSearch.{SlotEnds, few_cycles, first_here, first_later, next_block, slot_at, slot_offset, slot_order}
 use Rattle.end_system.proofs.Search.{parted}
-use Rattle.end_system.proofs.Values.{at_least, at_most}
+use Rattle.end_system.proofs.Values.{at_least}
 use Rattle.end_system.proofs.rows.Rows.first_from.Goals as goal
 use Rattle.end_system.specs.RowSlots.{key_of}
 use Rattle.end_system.specs.declared.rows.Slot.{Slot}
+use Rattle.net_plan.proofs.InRange.{amount_most}
 
 pub overflow_add-first : goal.overflow_add-first
 overflow_add-first c = let h = few_cycles c.args.first _ c.requires.first (at_least _ _ _ c.requires.range.cycle) in omega (arith, h)
 
 pub dispatch_of-requires-in-None-clause-first : goal.dispatch_of-requires-in-None-clause-first
-dispatch_of-requires-in-None-clause-first c = next_block c.args.first _ c.requires.first (at_most _ _ _ c.requires.range.cycle)
+dispatch_of-requires-in-None-clause-first c = next_block c.args.first _ c.requires.first (amount_most _ _ _ c.requires.range.cycle)
 
 pub dispatch_of-requires-clause-offset : goal.dispatch_of-requires-clause-offset
 dispatch_of-requires-clause-offset c =

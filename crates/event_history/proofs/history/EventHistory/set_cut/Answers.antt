@@ -5,8 +5,9 @@ use Rattle.event_history.proofs.Looking.{cut_has, has_place}
 use Rattle.std.proofs.lemmas.Option.{slice_get_read}
 use Rattle.tte_units.specs.Amount.{amount}
 use Rattle.event_history.specs.Settings.{change_to}
+use Rattle.tte_lemmas.proofs.Lists.{set_length}
 use Rattle.event_history.proofs.Adding.{cut_set_to, cut_event, cut_no_break, cut_no_step, cut_no_turn, no_devices, same_way}
-use Rattle.event_history.proofs.Keeping.{match_map, remembers_more, remembers_same, set_length}
+use Rattle.event_history.proofs.Keeping.{match_map, remembers_more, remembers_same}
 use Rattle.event_history.proofs.history.EventHistory.set_cut.Goals as goal
 
 pub returns-in-Some : goal.returns-in-Some

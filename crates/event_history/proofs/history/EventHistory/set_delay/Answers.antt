@@ -4,8 +4,9 @@ use Rattle.std.proofs.lemmas.Option.{slice_get_read}
 use Rattle.net_plan.specs.declared.event.What.TheVariants as events
 use Rattle.tte_units.specs.Amount.{amount}
 use Rattle.event_history.specs.Settings.{change_to}
+use Rattle.tte_lemmas.proofs.Lists.{set_length}
 use Rattle.event_history.proofs.Adding.{delay_set, no_devices, same_way}
-use Rattle.event_history.proofs.Keeping.{match_map, remembers_more, remembers_same, set_length}
+use Rattle.event_history.proofs.Keeping.{match_map, remembers_more, remembers_same}
 use Rattle.event_history.proofs.history.EventHistory.set_delay.Goals as goal
 
 pub returns-in-Some : goal.returns-in-Some

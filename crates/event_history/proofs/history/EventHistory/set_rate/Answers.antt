@@ -6,9 +6,10 @@ use Rattle.std.proofs.lemmas.Option.{slice_get_read}
 use Rattle.drift_clock.specs.Segment.{Segment, stepped_segment}
 use Rattle.net_plan.specs.declared.event.What.TheVariants as events
 use Rattle.event_history.specs.Settings.{change_to, value_at}
+use Rattle.tte_lemmas.proofs.Lists.{set_length}
 use Rattle.event_history.proofs.Adding.{no_ways, rate_set, same_device}
 use Rattle.event_history.proofs.Clocking.{value_ready}
-use Rattle.event_history.proofs.Keeping.{match_map, remembers_more, remembers_same, set_length}
+use Rattle.event_history.proofs.Keeping.{match_map, remembers_more, remembers_same}
 use Rattle.event_history.proofs.Looking.{ready_at}
 use Rattle.event_history.proofs.history.EventHistory.set_rate.Goals as goal
 

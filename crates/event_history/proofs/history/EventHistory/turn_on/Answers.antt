@@ -2,8 +2,9 @@ use Rattle.std.proofs.Common.{◌≡◌, length, Some, refl}
 use Rattle.std.specs.Prelude.{slice_get}
 use Rattle.std.proofs.lemmas.Option.{slice_get_read}
 use Rattle.net_plan.specs.declared.event.What.TheVariants as events
+use Rattle.tte_lemmas.proofs.Lists.{set_length}
 use Rattle.event_history.proofs.Adding.{turn_set, no_ways}
-use Rattle.event_history.proofs.Keeping.{remembers_more, set_length}
+use Rattle.event_history.proofs.Keeping.{remembers_more}
 use Rattle.event_history.proofs.history.EventHistory.turn_on.Goals as goal
 
 pub returns-in-Some : goal.returns-in-Some

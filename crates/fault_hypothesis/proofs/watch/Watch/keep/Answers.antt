@@ -5,8 +5,9 @@ use Rattle.run_law.specs.scenario.Faults.{IsLinkOf}
 use Rattle.schedule_tables.specs.Rules.{KeepsRules}
 use Rattle.schedule_tables.specs.declared.rule.Rule.TheVariants.{Limits}
 use Rattle.net_plan.specs.Belonging.{IsOfNetwork}
+use Rattle.run_law.proofs.scenario.Devices.{all_within}
 use Rattle.fault_hypothesis.proofs.Cuts.{faulty_cut, faulty_stays, faulty_uncut}
-use Rattle.fault_hypothesis.proofs.Keeping.{all_of_network, all_within, broken_breaks, broken_stays, on_stays, on_turns}
+use Rattle.fault_hypothesis.proofs.Keeping.{all_of_network, broken_breaks, broken_stays, on_stays, on_turns}
 use Rattle.fault_hypothesis.proofs.watch.Watch.keep.Goals as goal
 
 -- a cut, where no channel was faulty

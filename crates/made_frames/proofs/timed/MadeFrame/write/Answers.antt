@@ -2,7 +2,8 @@ use Rattle.std.proofs.Common.{◌≡◌, ◌≤◌, List, length, Some, slice_ge
 use Rattle.std.proofs.lemmas.Option.{slice_get_past}
 use Rattle.net_plan.specs.Ranges.{IsVlInRange}
 use Rattle.net_plan.specs.declared.tables.VirtualLink.{VirtualLink}
-use Rattle.made_frames.proofs.Made.{found_at, in_all, made_found, made_none, zeros_behind}
+use Rattle.tte_lemmas.proofs.Lists.{in_all}
+use Rattle.made_frames.proofs.Made.{found_at, made_found, made_none, zeros_behind}
 use Rattle.made_frames.proofs.timed.MadeFrame.write.Goals as goal
 
 pub invariant_of-self : goal.invariant_of-self

@@ -4,7 +4,8 @@ use Rattle.net_plan.specs.Paths.{IsUplink, IsPath}
 use Rattle.net_plan.specs.Places.{IsSwitchOf, link_at}
 use Rattle.net_plan.specs.declared.tables.Link.{Link}
 use Rattle.net_plan.specs.declared.ids.LinkId.{LinkId as LinkIdValue}
-use Rattle.net_plan.proofs.Trees.{opened, followed, ended}
+use Rattle.tte_lemmas.proofs.Options.{opened}
+use Rattle.net_plan.proofs.Trees.{followed, ended}
 use Rattle.net_plan.proofs.network.Network.path.Goals as goal
 
 pub loop-link-preserved : goal.loop-link-preserved

@@ -4,8 +4,8 @@ use Rattle.std.proofs.lemmas.Bool.{ltb-true}
 use Rattle.std.specs.List.Sorted.{IsPartitionPoint, IsPartitionedBy}
 use Rattle.std.specs.Prelude.{nat_le, nat_lt}
 use Rattle.record_history.specs.declared.history.Entry.{Entry}
-use Rattle.record_history.proofs.KeptAll.{got_at}
-use Rattle.record_history.proofs.Lasting.{got_within, lasting, later_at, ordered_by}
+use Rattle.tte_lemmas.proofs.Lists.{got_at, got_within}
+use Rattle.record_history.proofs.Lasting.{lasting, later_at, ordered_by}
 use Rattle.record_history.proofs.history.History.next_after.Goals as goal
 
 pub returns-in-Some-clause-later : goal.returns-in-Some-clause-later

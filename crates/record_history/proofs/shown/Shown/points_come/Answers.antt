@@ -3,7 +3,8 @@ use Rattle.std.proofs.lemmas.Int.{ints}
 use Rattle.std.specs.Int.{w128}
 use Rattle.std.specs.Prelude.{◌+ℤ◌, ◌<ℤ◌, ◌≤ℤ◌}
 use Rattle.record_history.specs.Showing.{Shown, points_by}
-use Rattle.record_history.proofs.Points.{has_passed, le_denied, le_told, lt_denied, lt_told, not_come, then_comes}
+use Rattle.tte_lemmas.proofs.Integers.{int_le-is, int_lt-is, not_less}
+use Rattle.record_history.proofs.Points.{has_passed, le_denied, not_come, then_comes}
 use Rattle.record_history.proofs.shown.Shown.points_come.Goals as goal
 use Rattle.record_history.proofs.shown.Shown.points_come.Goals.{else-self-first-via-then-self-first+else-first-local, else-self-first-via-else-self-first}
 
@@ -30,8 +31,8 @@ returns-then-first-local-clause-value c =
     let changed : ℤ = to_z w128 (of_z w128 inside.at_change) in
     let begin : ℤ = to_z w128 first in
     let local : ℤ = to_z w128 (of_z w128 (to_z w128 (of_z w128 c.from.result) +ℤ to_z w128 (of_z w128 inside.adjustment))) in
-    let lt = lt_told changed begin c.if-self-first.true in
-    let le = le_told begin local c.if-first-local.true in
+    let lt = int_lt-is changed begin c.if-self-first.true in
+    let le = int_le-is begin local c.if-first-local.true in
     let below : c.self.inside.at_change <ℤ pos first = omega (arith, ints, lt, most, fits.sfits) in
     let reached : pos first ≤ℤ (pos before +ℤ c.self.inside.adjustment) =
     omega (arith, ints, le, most, c.ranges.before.fits, c.from.ensures, bounds.least, bounds.most) in
@@ -70,7 +71,7 @@ returns-else-self-first-clause-value c =
           omega (arith, ints, lt, most, c.ranges.before.fits, c.from.ensures, bounds.least, bounds.most) in
           not_come network old before first c.first_value-first.ensures.value below
       | else-self-first-via-else-self-first w ↦
-          let le = lt_denied changed begin w.if-self-first.false in
+          let le = not_less changed begin w.if-self-first.false in
           let passed : pos first ≤ℤ c.self.inside.at_change = omega (arith, ints, le, most, fits.sfits) in
           has_passed network old before first c.first_value-first.ensures.value passed
     ])

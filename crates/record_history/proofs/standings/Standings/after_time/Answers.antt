@@ -1,11 +1,12 @@
 use Rattle.std.proofs.Common.{◌≡◌, ◌∷◌, [], List, sym, subst, ◌∙◌, ap}
-use Rattle.record_history.proofs.KeptAll.{earlier_are, got_at}
+use Rattle.record_history.proofs.KeptAll.{earlier_are}
 use Rattle.record_history.specs.Keeping.{records_before, shown_before}
 use Rattle.record_history.specs.Lasting.{mark_of_time}
 use Rattle.record_history.specs.Showing.{Shows}
 use Rattle.record_history.specs.declared.mark.Mark.{Mark}
 use Rattle.record_history.proofs.MarkOrder.{time_mark}
 use Rattle.run_law.specs.records.Happenings.{Happening}
+use Rattle.tte_lemmas.proofs.Lists.{got_at}
 use Rattle.record_history.proofs.standings.Standings.after_time.Goals as goal
 
 pub returns-clause-later : goal.returns-clause-later

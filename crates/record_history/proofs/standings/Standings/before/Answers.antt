@@ -1,8 +1,8 @@
-use Rattle.record_history.proofs.KeptAll.{got_at}
 use Rattle.record_history.proofs.standings.Standings.before.Goals as goal
 use Rattle.std.proofs.Common.{sym, subst}
 use Rattle.record_history.specs.Keeping.{records_before}
 use Rattle.record_history.specs.Showing.{Shows}
+use Rattle.tte_lemmas.proofs.Lists.{got_at}
 
 pub returns : goal.returns
 returns c s hs place stands of =

@@ -1,7 +1,7 @@
-use Rattle.record_history.proofs.KeptAll.{got_at}
 use Rattle.record_history.proofs.standings.Standings.latest.Goals as goal
 use Rattle.std.proofs.Common.{sym, subst}
 use Rattle.record_history.specs.Showing.{Shows}
+use Rattle.tte_lemmas.proofs.Lists.{got_at}
 
 pub returns : goal.returns
 returns c s hs stands =

@@ -3,8 +3,9 @@ use Rattle.std.specs.Prelude.{slice_set}
 use Rattle.net_plan.specs.declared.ids.DeviceId.{DeviceId}
 use Rattle.record_history.specs.Effects.{subject_of}
 use Rattle.record_history.specs.Keeping.{Keeps, KeepsAll}
+use Rattle.tte_lemmas.proofs.Lists.{got_at}
 use Rattle.record_history.proofs.Kept.{of_subject}
-use Rattle.record_history.proofs.KeptAll.{all_on, all_still, also_on_ok, got_at}
+use Rattle.record_history.proofs.KeptAll.{all_on, all_still, also_on_ok}
 use Rattle.record_history.proofs.standings.Standings.push.Goals as goal
 
 pub returns-in_default-clause-stands : goal.returns-in_default-clause-stands

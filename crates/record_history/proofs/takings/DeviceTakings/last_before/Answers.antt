@@ -7,7 +7,7 @@ use Rattle.compression.proofs.Ascents.{slice_get-last}
 use Rattle.record_history.specs.Taking.{is_taking_before}
 use Rattle.record_history.specs.Takings.{taken_of}
 use Rattle.record_history.specs.declared.taking.Taking.{Taking}
-use Rattle.record_history.proofs.KeptAll.{got_at}
+use Rattle.tte_lemmas.proofs.Lists.{got_at}
 use Rattle.record_history.proofs.Partitions.{kept_front}
 use Rattle.record_history.proofs.takings.DeviceTakings.last_before.Goals as goal
 

@@ -6,7 +6,7 @@ use Rattle.record_history.specs.Taking.{AscendAll, is_taking_before, takings_of}
 use Rattle.record_history.specs.Takings.{taken_of}
 use Rattle.record_history.specs.declared.taking.Taking.{Taking}
 use Rattle.record_history.specs.declared.takings.DeviceTakings.{DeviceTakings}
-use Rattle.record_history.proofs.KeptAll.{got_at}
+use Rattle.tte_lemmas.proofs.Lists.{got_at}
 use Rattle.record_history.proofs.Takes.{last_taken_is}
 use Rattle.record_history.proofs.takings.Takings.last_taken.Goals as goal
 

@@ -3,9 +3,10 @@ use Rattle.record_history.specs.Taking.{taken_by}
 use Rattle.record_history.specs.Takings.{HasTaken, TakesRightly, kept_of, taker_count}
 use Rattle.std.specs.Vec.{with_item}
 use Rattle.record_history.specs.declared.takings.Takings.{Takings}
-use Rattle.record_history.proofs.KeptAll.{got_at, on_ok}
+use Rattle.record_history.proofs.KeptAll.{on_ok}
 use Rattle.record_history.proofs.Takes.{kept_on, nothing_taken, of_ok, other_taken, taken_on, told_by}
 use Rattle.run_law.specs.records.Happenings.{time_of}
+use Rattle.tte_lemmas.proofs.Lists.{got_at}
 use Rattle.record_history.proofs.takings.Takings.push.Goals as goal
 
 pub returns-in_default-clause-taken : goal.returns-in_default-clause-taken

@@ -1,9 +1,10 @@
 use Rattle.std.proofs.Common.{refl, ◌≡◌, Some, None, List, ℕ, sym, ap, subst, ◌∙◌}
 use Rattle.std.specs.List.{last_or}
 use Rattle.compression.proofs.Ascents.{slice_get-last}
+use Rattle.run_law.proofs.records.Order.{before_is, is_there}
 use Rattle.run_law.specs.records.Order.{IsBefore, IsIn}
 use Rattle.run_law.specs.records.Ranks.{place_of}
-use Rattle.record_places.proofs.Rows.{all_by_last, before_is, in_map, is_there, last_in, none_last, of_map}
+use Rattle.record_places.proofs.Rows.{all_by_last, in_map, last_in, none_last, of_map}
 use Rattle.record_places.proofs.places.Places.are_before.Goals as goal
 
 pub returns-in-Some : goal.returns-in-Some

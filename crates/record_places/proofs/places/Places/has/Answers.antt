@@ -1,9 +1,11 @@
 use Rattle.std.proofs.Common.{◌≡◌, ◌≤◌, Some, List, ℕ, length, sym, ap, subst, ◌∙◌, arith}
 use Rattle.std.proofs.lemmas.Bool.{ltb-false, ltb-true}
 use Rattle.std.specs.Prelude.{slice_get}
+use Rattle.run_law.proofs.records.Order.{got_in}
 use Rattle.run_law.specs.records.Order.{IsIn}
 use Rattle.run_law.specs.records.Ranks.{place_of}
-use Rattle.record_places.proofs.Rows.{found_at, got_at, got_in, got_within, in_map, of_map}
+use Rattle.tte_lemmas.proofs.Lists.{got_at, got_within}
+use Rattle.record_places.proofs.Rows.{found_at, in_map, of_map}
 use Rattle.record_places.proofs.places.Places.has.Goals as goal
 
 pub returns-in-Some : goal.returns-in-Some

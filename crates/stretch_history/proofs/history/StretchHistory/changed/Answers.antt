@@ -1,7 +1,7 @@
 use Rattle.std.proofs.Common.{◌≡◌, ◌<◌, Some, length, slice_get, sym, ap, ◌∙◌, arith}
-use Rattle.record_history.proofs.KeptAll.{got_at}
 use Rattle.stretch_history.specs.Keeping.{Stretches}
 use Rattle.stretch_history.specs.declared.kept.Entry.{Entry}
+use Rattle.tte_lemmas.proofs.Lists.{got_at}
 use Rattle.stretch_history.proofs.history.StretchHistory.changed.Goals as goal
 
 pub index-entry-requires : goal.index-entry-requires

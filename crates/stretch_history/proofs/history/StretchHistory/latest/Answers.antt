@@ -1,8 +1,8 @@
 use Rattle.std.proofs.Common.{sym, subst}
-use Rattle.record_history.proofs.KeptAll.{got_at}
 use Rattle.run_law.specs.control.Collections.{points_of}
 use Rattle.stretch_history.specs.Keeping.{Stretches}
 use Rattle.stretch_history.specs.Points.{HasPoints}
+use Rattle.tte_lemmas.proofs.Lists.{got_at}
 use Rattle.stretch_history.proofs.history.StretchHistory.latest.Goals as goal
 
 pub returns : goal.returns

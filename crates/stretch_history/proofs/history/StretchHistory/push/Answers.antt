@@ -1,7 +1,7 @@
 use Rattle.std.proofs.Common.{◌≡◌, ◌<◌, ◌∷◌, ◌++◌, [], false, true, Some, length, sym, ap, ◌∙◌, arith, rules}
 use Rattle.std.specs.Prelude.{slice_set}
 use Rattle.net_plan.specs.declared.ids.DeviceId.{DeviceId}
-use Rattle.record_history.proofs.KeptAll.{also_on_ok, got_at}
+use Rattle.record_history.proofs.KeptAll.{also_on_ok}
 use Rattle.record_history.specs.Effects.{carried_by}
 use Rattle.record_history.specs.Marks.{mark_at}
 use Rattle.record_history.specs.declared.effect.Carried.{Carried}
@@ -10,6 +10,7 @@ use Rattle.run_law.specs.scenario.Devices.{is_cm}
 use Rattle.stretch_history.proofs.Keeping.{all_on, all_still, may_bring}
 use Rattle.stretch_history.specs.Changes.{change_by, collector_in}
 use Rattle.stretch_history.specs.Keeping.{Keeps, KeepsAll}
+use Rattle.tte_lemmas.proofs.Lists.{got_at}
 use Rattle.stretch_history.proofs.history.StretchHistory.push.Goals as goal
 use Rattle.stretch_history.proofs.history.StretchHistory.push.Goals.{then-index-len-via-then-index-len, then-index-len-via-else-index-len+then-not-is_cm}
 

@@ -1,4 +1,5 @@
 use Rattle.std.proofs.Common.{◌≡◌, ◌∙◌, ℕ, ◌+ℤ◌, ◌≤ℤ◌, ◌<ℤ◌, Option, Some, ap, sym, refl, subst}
+use Rattle.std.proofs.lemmas.Option.{none-some}
 use Rattle.compression.specs.Collecting.{emissions}
 use Rattle.pcf_values.specs.declared.channel.Channel.TheVariants.{A, B}
 use Rattle.pcf_values.specs.declared.channel.Channel.{Channel}
@@ -13,7 +14,7 @@ use Rattle.run_law.specs.machines.Tasks.{emitting}
 use Rattle.run_law.specs.records.Frames.{integration_frame}
 use Rattle.run_law.specs.scenario.Devices.{plan_of}
 use Rattle.switch_ports.proofs.CorrectedStands.{corrects_stands}
-use Rattle.switch_ports.proofs.CorrectionPoints.{is_near, never_some, number_within, some_due, timed_next}
+use Rattle.switch_ports.proofs.CorrectionPoints.{is_near, number_within, some_due, timed_next}
 use Rattle.switch_ports.proofs.DispatchStands.{dispatch_acts, next_inside}
 use Rattle.switch_ports.proofs.Emissions.{first_emission, may_before, reached_by, sent_stands, with_sent}
 use Rattle.switch_ports.proofs.FirstActs.{EmitsNone, first_correction, its_next, value_reached}
@@ -98,7 +99,7 @@ returns-in-None c network device node st may due =
     let old = c.args.self.now in
     let o = some_due old.corrects_at c.args.moment.reading.0 (c.is_reached-2.ensures.reached c.if-not-is_reached.false) in
     let next = its_next old network device node o.0 st o.1 in
-    absurd (never_some next.0 (sym (sym c.next_correction.ensures ∙ c.in-None.is) ∙ next.1))
+    absurd (none-some next.0 (sym (sym c.next_correction.ensures ∙ c.in-None.is) ∙ next.1))
 
 pub hear_frame-heard-requires-clause-point : goal.hear_frame-heard-requires-clause-point
 hear_frame-heard-requires-clause-point c =

@@ -1,7 +1,7 @@
 use Rattle.std.proofs.Common.{◌≡◌, ◌∙◌, ℕ, ◌+ℤ◌, ℤ, None, length, refl, sym, ap}
+use Rattle.net_plan.proofs.InRange.{its_amount}
 use Rattle.run_law.specs.device.Standpoints.{clock_of}
 use Rattle.run_law.specs.timed.Arrivals.{entry_arrival, entry_entering, octets_fault, octets_or_fault}
-use Rattle.switch_ports.proofs.Amounts.{its_amount}
 use Rattle.switch_ports.proofs.Takings.{judged, not_accepted}
 use Rattle.switch_ports.proofs.switch.Switch.hear_timed.Goals as goal
 use Rattle.switch_ports.specs.Standpoints.{standpoint_of}

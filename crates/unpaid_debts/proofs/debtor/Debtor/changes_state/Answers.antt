@@ -1,4 +1,5 @@
 use Rattle.std.proofs.Common.{◌≡◌, sym, ap, subst, ◌∙◌}
+use Rattle.std.proofs.lemmas.Bool.{not-true, not_from_false}
 use Rattle.kept_records.proofs.Bodies.{corrected_body, on_body}
 use Rattle.kept_records.specs.Keeping.{kept_of}
 use Rattle.kept_records.specs.declared.kept.Kept.TheVariants as kepts
@@ -8,7 +9,6 @@ use Rattle.run_law.specs.device.States.{state_before}
 use Rattle.run_law.specs.records.Happenings.{time_of}
 use Rattle.run_law.specs.scenario.Scenarios.{is_broken}
 use Rattle.unpaid_debts.proofs.PaidChanges.{Brings, brought_change, change_brought}
-use Rattle.unpaid_debts.proofs.Payers.{false_of_not, not_of_false}
 use Rattle.unpaid_debts.specs.Debtors.{device_named, scenario_of}
 use Rattle.unpaid_debts.proofs.debtor.Debtor.changes_state.Goals as goal
 
@@ -21,9 +21,9 @@ returns-in-On c befallen hs number h known there kept =
     let has = known.devices h device (numbered_in hs number h there) (ap device_named body.1) in
     let broken : c.is_broken.result ≡ is_broken s device (time_of h) = c.is_broken.ensures c.args.self.now.network.now befallen known.remembers has
     ∙ ap (λ (r : KeptRecord). is_broken s device r.time) kept in (
-      λ yes. brought_change s hs number h there _ body.1 (sym broken ∙ false_of_not c.is_broken.result yes),
+      λ yes. brought_change s hs number h there _ body.1 (sym broken ∙ not-true c.is_broken.result yes),
       λ change.
-          not_of_false c.is_broken.result
+          not_from_false c.is_broken.result
           (broken ∙ subst (Brings s hs (time_of h)) body.1 (change_brought s hs number (time_of h) h there change)),
     )
 

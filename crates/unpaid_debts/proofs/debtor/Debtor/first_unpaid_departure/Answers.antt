@@ -2,8 +2,8 @@ use Rattle.std.proofs.Common.{◌≡◌, ◌+◌, ◌<◌, ℕ, Option, sym, sub
 use Rattle.audit_law.specs.Owed as debts
 use Rattle.net_plan.specs.declared.ids.LinkId.{LinkId}
 use Rattle.run_law.proofs.law.FirstPlaces.{numbered_within}
+use Rattle.tte_lemmas.proofs.Naturals.{below_next}
 use Rattle.unpaid_debts.proofs.Among.{first_among_all, first_of_both}
-use Rattle.unpaid_debts.proofs.DepartureDebts.{below_or_at}
 use Rattle.unpaid_debts.specs.Debtors.{scenario_of}
 use Rattle.unpaid_debts.specs.Unpaid.{TellsFirstAmong}
 use Rattle.unpaid_debts.proofs.debtor.Debtor.first_unpaid_departure.Goals as goal
@@ -16,7 +16,7 @@ records-preserved c befallen hs known =
     let debt_of = λ (o : ℕ × LinkId). debts.departure o.0 o.1 in
     let C = λ (o : ℕ × LinkId). o.0 < n + 1 in
     let next = first_of_both s hs until debt_of (λ o. o.0 < n) (λ o. o.0 ≡ n) C c.records.first c.unpaid_departure.result
-    (λ o is. below_or_at o.0 n is)
+    (λ o is. below_next o.0 n is)
     (λ o is. omega (arith, is))
     (λ o is. omega (arith, is))
     (c.records.invariant befallen hs known)

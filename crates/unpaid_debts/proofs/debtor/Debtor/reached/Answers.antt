@@ -1,11 +1,11 @@
 use Rattle.std.proofs.Common.{◌≡◌, ℕ, ℤ, pos, ◌≤ℤ◌, sym, ap, subst, ◌∙◌, arith, rules}
+use Rattle.std.proofs.lemmas.Bool.{both_ways}
 use Rattle.std.proofs.lemmas.Int.{ints, to_z-of_z}
 use Rattle.std.specs.Int.{w128}
-use Rattle.audit_law.proofs.Ripening.{one_reach}
+use Rattle.drift_clock.proofs.Reaches.{one_reach}
 use Rattle.drift_clock.specs.Reach.{IsReach}
 use Rattle.run_law.specs.scenario.Scenarios.{is_broken}
 use Rattle.transparent_clock.specs.Points.{point_of}
-use Rattle.unpaid_debts.proofs.Payers.{not_both}
 use Rattle.unpaid_debts.specs.Debtors.{scenario_of}
 use Rattle.unpaid_debts.proofs.debtor.Debtor.reached.Goals as goal
 
@@ -31,7 +31,7 @@ returns-then-is_broken c befallen rem has t is timely =
     let value = point_of (pos (s.reading w.device w.since)) w.clock network.dmax.0 in
     let reached = subst (λ (v : ℤ). IsReach (s.reading w.device) (pos w.since) v (pos c.in-Some.time)) point first.0 in
     let same : t ≡ c.in-Some.time = one_reach (s.reading w.device) (pos w.since) value t c.in-Some.time is.reached reached in
-    not_both (is_broken s w.device t) is.correct
+    both_ways (is_broken s w.device t) is.correct
     (ap (is_broken s w.device) same ∙ sym (c.is_broken.ensures network befallen rem has) ∙ c.if-is_broken.true)
 
 pub returns-in-None : goal.returns-in-None

@@ -1,6 +1,7 @@
 use Rattle.std.proofs.Common.{◌∙◌}
+use Rattle.std.proofs.lemmas.Bool.{both_ways}
 use Rattle.unpaid_debts.proofs.PaidArrivals.{arrival_marked, arrival_paid, arrival_time}
-use Rattle.unpaid_debts.proofs.Payers.{not_both, shows_by_cause}
+use Rattle.unpaid_debts.proofs.Payers.{shows_by_cause}
 use Rattle.unpaid_debts.specs.Debtors.{scenario_of}
 use Rattle.unpaid_debts.proofs.debtor.Debtor.unpaid_arrival.Goals as goal
 
@@ -21,7 +22,7 @@ returns-in-Some-arrival_due c befallen hs known =
     let owes = c.in-Some-arrival_due.ensures.owed befallen hs got.0 n known.remembers got.1 (shows_by_cause s hs n got.0 known.founded got.1) got.2 in
     record {
       owed = owes.0;
-      unpaid = λ paid. not_both c.of.result.arrival c.if-of.false (so.arrival.1 (arrival_marked s hs until n known.founded owes.0 paid));
+      unpaid = λ paid. both_ways c.of.result.arrival c.if-of.false (so.arrival.1 (arrival_marked s hs until n known.founded owes.0 paid));
       due = λ is. owes.3 ∙ arrival_time s hs until n known.founded owes.0 is;
     }
 

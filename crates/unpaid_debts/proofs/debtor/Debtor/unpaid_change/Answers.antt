@@ -1,9 +1,9 @@
 use Rattle.std.proofs.Common.{◌≡◌, ◌≤◌, ℕ, ap, subst, ◌∙◌}
+use Rattle.std.proofs.lemmas.Bool.{both_ways}
 use Rattle.audit_law.specs.Changes.{OwesChange}
 use Rattle.kept_records.specs.declared.kept.KeptRecord.{KeptRecord}
 use Rattle.run_law.specs.records.Happenings.{time_of}
 use Rattle.unpaid_debts.proofs.PaidChanges.{change_marked, change_time, owed_change}
-use Rattle.unpaid_debts.proofs.Payers.{not_both}
 use Rattle.unpaid_debts.specs.Debtors.{scenario_of}
 use Rattle.unpaid_debts.proofs.debtor.Debtor.unpaid_change.Goals as goal
 
@@ -13,7 +13,7 @@ returns-then-not-changes_state c befallen hs known owed =
     let n = c.args.number in
     let got = c.in-Some.ensures hs known.kept in
     let has = (owed_change s hs c.args.self.now.until n got.0 got.1 owed).0 in
-    absurd (not_both c.changes_state.result c.if-not-changes_state.true
+    absurd (both_ways c.changes_state.result c.if-not-changes_state.true
     ((c.changes_state.ensures befallen hs n got.0 known got.1 got.2).1 has))
 
 pub returns : goal.returns
@@ -36,6 +36,6 @@ returns c befallen hs known =
     } in
     record {
       owed = owed;
-      unpaid = λ paid. not_both c.of.result.change c.if-of.false (so.change.1 (change_marked s hs until n known.founded owed paid));
+      unpaid = λ paid. both_ways c.of.result.change c.if-of.false (so.change.1 (change_marked s hs until n known.founded owed paid));
       due = λ is. time ∙ change_time s hs until n known.founded owed is;
     }

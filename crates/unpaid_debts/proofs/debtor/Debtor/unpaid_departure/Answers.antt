@@ -1,16 +1,18 @@
 use Rattle.std.proofs.Common.{◌≡◌, ◌+◌, ◌<◌, ℕ, Option, length, inl, inr, sym, ap, subst, arith, Some, ◌∙◌}
+use Rattle.std.proofs.lemmas.Bool.{both_ways}
 use Rattle.audit_law.specs.Owed as debts
 use Rattle.net_plan.specs.declared.ids.LinkId.{LinkId}
 use Rattle.unpaid_debts.proofs.Among.{first_of_both, first_of_more, first_of_one}
-use Rattle.unpaid_debts.proofs.DepartureDebts.{below_or_at, gives_link, gives_may, same_pair}
+use Rattle.unpaid_debts.proofs.DepartureDebts.{gives_may, same_pair}
 use Rattle.kept_records.specs.declared.kept.KeptRecord.{KeptRecord}
-use Rattle.run_law.proofs.runs.SameSteps.{same_some}
 use Rattle.run_law.specs.control.Leaving.{Gives}
 use Rattle.run_law.specs.records.Happenings.{Happening, numbered}
-use Rattle.unpaid_debts.proofs.Payers.{not_both}
+use Rattle.tte_lemmas.proofs.Naturals.{below_next}
+use Rattle.tte_lemmas.proofs.Options.{one as same_some}
 use Rattle.unpaid_debts.specs.Leavings.{may_give}
 use Rattle.unpaid_debts.specs.Debtors.{scenario_of}
 use Rattle.unpaid_debts.specs.Unpaid.{TellsFirstAmong}
+use Rattle.wire_judge.proofs.Givers.{given_within}
 use Rattle.unpaid_debts.proofs.debtor.Debtor.unpaid_departure.Goals as goal
 
 pub links-preserved : goal.links-preserved
@@ -23,7 +25,7 @@ links-preserved c befallen hs h known there kept =
     let debt_of = λ (o : ℕ × LinkId). debts.departure o.0 o.1 in
     let C = λ (o : ℕ × LinkId). (o.0 ≡ n) × (o.1.0 < place + 1) in
     let next = first_of_both s hs until debt_of (λ o. (o.0 ≡ n) × (o.1.0 < place)) (λ o. o ≡ (n, link)) C c.links.first c.unpaid_leaving.result
-    (λ o is. elim (below_or_at o.1.0 place is.1) [ inl less ↦ inl (is.0, less) | inr at ↦ inr (same_pair o n link is.0 at) ])
+    (λ o is. elim (below_next o.1.0 place is.1) [ inl less ↦ inl (is.0, less) | inr at ↦ inr (same_pair o n link is.0 at) ])
     (λ o is. let lt = is.1 in (is.0, omega (arith, lt)))
     (λ o is. (ap (λ (p : ℕ × LinkId). p.0) is, let at : o.1.0 ≡ place = ap (λ (p : ℕ × LinkId). p.1.0) is in omega (arith, at)))
     (c.links.invariant befallen hs h known there kept)
@@ -41,7 +43,7 @@ returns c befallen hs known =
     (λ o is. is.0)
     (λ o is owed. (
       is,
-      let has = gives_link network owed.giving.note.body owed.device o.1 owed.gives in
+      let has = given_within network owed.giving.note.body owed.device o.1 owed.gives in
           omega (arith, has, c.links-test.false, c.links.auto.place-end, ap length c.as_slice-place-end.ensures),
     ))
     (c.links.invariant befallen hs got.0 known got.1 got.2)
@@ -54,4 +56,4 @@ returns-then-not-may_give c befallen hs known = λ o is owed.
     let one = same_some (numbered hs n) owed.giving got.0 (subst (λ (m : ℕ). numbered hs m ≡ Some owed.giving) is owed.there) got.1 in
     let gives = subst (λ (g : Happening). Gives network g.note.body owed.device o.1) one owed.gives in
     let may = ap (λ (r : KeptRecord). may_give network r.kept) got.2 ∙ gives_may network got.0.note.body owed.device o.1 gives in
-    absurd (not_both c.may_give.result c.if-not-may_give.true (c.may_give.ensures ∙ may))
+    absurd (both_ways c.may_give.result c.if-not-may_give.true (c.may_give.ensures ∙ may))

@@ -1,4 +1,5 @@
 use Rattle.std.proofs.Common.{ℕ, sym, subst, ◌∙◌, arith}
+use Rattle.std.proofs.lemmas.Bool.{both_ways}
 use Rattle.audit_law.specs.Departures.{leaves_at}
 use Rattle.device_rules.specs.Answers.{departure_as}
 use Rattle.net_plan.specs.Belonging.{HasDevice}
@@ -7,7 +8,6 @@ use Rattle.run_law.proofs.law.FirstPlaces.{numbered_in}
 use Rattle.run_law.specs.control.Leaving.{Departs, departure}
 use Rattle.run_law.specs.records.Happenings.{time_of}
 use Rattle.unpaid_debts.proofs.DepartureDebts.{departure_paid, departure_time, gives_named, giver_there, owed_departs}
-use Rattle.unpaid_debts.proofs.Payers.{not_both}
 use Rattle.unpaid_debts.specs.Debtors.{scenario_of}
 use Rattle.unpaid_debts.proofs.debtor.Debtor.unpaid_leaving.Goals as goal
 
@@ -91,6 +91,6 @@ returns c befallen hs h known there kept =
     let stands = c.has_departure.ensures hs known.places in
     record {
       owed = o;
-      unpaid = λ p. not_both c.has_departure.result c.if-has_departure.false (stands.1 (paid.0 p));
+      unpaid = λ p. both_ways c.has_departure.result c.if-has_departure.false (stands.1 (paid.0 p));
       due = λ is. l.time ∙ departure_time s hs until n link known.founded o is;
     }

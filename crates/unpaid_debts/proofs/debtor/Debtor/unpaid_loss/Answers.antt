@@ -1,6 +1,6 @@
 use Rattle.std.proofs.Common.{◌∙◌}
+use Rattle.std.proofs.lemmas.Bool.{both_ways}
 use Rattle.unpaid_debts.proofs.PaidLosses.{loss_marked, loss_paid, loss_time}
-use Rattle.unpaid_debts.proofs.Payers.{not_both}
 use Rattle.unpaid_debts.specs.Debtors.{scenario_of}
 use Rattle.unpaid_debts.proofs.debtor.Debtor.unpaid_loss.Goals as goal
 
@@ -21,7 +21,7 @@ returns-in-Some-loss_due c befallen hs known =
     let owes = c.in-Some-loss_due.ensures befallen hs got.0 n known.remembers got.1 got.2 in
     record {
       owed = owes.0;
-      unpaid = λ paid. not_both c.of.result.loss c.if-of.false (so.loss.1 (loss_marked s hs until n known.founded owes.0 paid));
+      unpaid = λ paid. both_ways c.of.result.loss c.if-of.false (so.loss.1 (loss_marked s hs until n known.founded owes.0 paid));
       due = λ is. owes.3 ∙ loss_time s hs until n known.founded owes.0 is;
     }
 

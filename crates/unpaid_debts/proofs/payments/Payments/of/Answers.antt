@@ -1,5 +1,5 @@
 use Rattle.std.proofs.Common.{◌≡◌, ◌+◌, ◌-◌, List, ℕ, slice_get, Some, sym, ap, subst, ◌∙◌, arith}
-use Rattle.record_history.proofs.KeptAll.{got_at}
+use Rattle.tte_lemmas.proofs.Lists.{got_at}
 use Rattle.unpaid_debts.specs.Payments.{IsPaidSo}
 use Rattle.unpaid_debts.specs.declared.paid.Paid.{Paid}
 use Rattle.unpaid_debts.proofs.payments.Payments.of.Goals as goal

@@ -1,7 +1,7 @@
 use Rattle.std.proofs.Common.{◌≡◌, ◌⊎◌, ◌+◌, ◌-◌, ◌<◌, ◌∷◌, ◌++◌, [], List, length, length-append, slice_get, slice_set, Some, inl, inr, sym, ap, subst, ◌∙◌, arith}
-use Rattle.record_history.proofs.KeptAll.{got_at}
 use Rattle.run_law.specs.declared.note.NoteBody.{NoteBody}
 use Rattle.run_law.specs.records.Causes.{cause_of}
+use Rattle.tte_lemmas.proofs.Lists.{got_at}
 use Rattle.unpaid_debts.specs.Payments.{ArePayments, both, nothing, paid_by}
 use Rattle.unpaid_debts.specs.declared.paid.Paid.{Paid}
 use Rattle.unpaid_debts.proofs.Marks.{more_marked, more_unmarked}

@@ -1,0 +1,98 @@
+-- Entries of the schedule.
+use Rattle.std.proofs.Common.{None, Option, Some, [], ap, arith, div-add-mod', inl, inr, min, pow-add, pow_mono, pow_pos, subst, suc, sym, zero, ℕ, ◌%◌, ◌*◌, ◌+◌, ◌-◌, ◌/◌, ◌<◌, ◌^◌, ◌∙◌, ◌∷◌, ◌≡◌, ◌≢◌, ◌≤◌, ◌⊎◌}
+use Rattle.std.proofs.Math.Nat.{min-eq_left, min_comm, mod-mod}
+use Rattle.std.proofs.lemmas.Bool.{cases_eq, cases_lt}
+use Rattle.std.proofs.lemmas.Nat.{mod-mul-add, mod_below}
+use Rattle.std.specs.List.{Contains}
+use Rattle.std.specs.Prelude.{option_and_then, option_map}
+use Rattle.net_plan.specs.declared.ids.DeviceId.{DeviceId}
+use Rattle.net_plan.specs.declared.network.Network.{Network}
+use Rattle.net_plan.specs.declared.tables.Link.{Link}
+use Rattle.net_plan.specs.declared.tables.Row.{Row}
+use Rattle.net_plan.specs.declared.tables.VirtualLink.{VirtualLink}
+use Rattle.schedule_tables.specs.Entries.{IsEntry, source_of}
+use Rattle.schedule_tables.specs.Rules.{KeepsRules}
+use Rattle.schedule_tables.specs.Schedule.{Coincide}
+use Rattle.schedule_tables.specs.Windows.{OccursIn}
+use Rattle.schedule_tables.specs.declared.entry.Entry.{Entry}
+use Rattle.schedule_tables.specs.declared.rule.Rule.TheVariants.{Forwarding, Sources}
+use Rattle.tte_lemmas.proofs.Lists.{period_power}
+use Rattle.tte_units.specs.Amount.{amount}
+
+-- an entry is made of its row, its virtual link and its link
+pub entry_by : (o : Option VirtualLink) (p : Option Link) (row : Row) (entry : Entry)
+    → option_and_then (λ vl. option_map (λ link. record { row = row; vl = vl; link = link }) p) o ≡ Some entry → (o ≡ Some entry.vl) × (p ≡ Some entry.link)
+    × (row ≡ entry.row)
+entry_by None p row entry e = absurd cc
+entry_by (Some vl) None row entry e = absurd cc
+entry_by (Some vl) (Some link) row entry e =
+    let same : _ ≡ entry = some_same e in
+    (ap (λ (x : Entry). Some x.vl) same, ap (λ (x : Entry). Some x.link) same, ap (λ (x : Entry). x.row) same)
+  where
+    some_same : {x : Entry} → Some x ≡ Some entry → x ≡ entry
+    some_same e = cc
+
+-- two ids are one device's or not
+pub same_or_other : (d e : DeviceId) → (d ≡ e) ⊎ (d ≢ e)
+same_or_other d e = elim (cases_eq d.0 e.0) [
+  | inl same ↦ inl (ap (λ (n : ℕ). let x : DeviceId = record { 0 = n } in x) same)
+  | inr other ↦ inr (λ same. other (ap (λ (x : DeviceId). x.0) same))
+]
+
+-- by the offset: a row that leaves its sender is in the schedule, and any other comes behind one that enters its source
+pub begun_below : (network : Network) (bound place : ℕ) (entry : Entry) → KeepsRules network → IsEntry network place entry → amount entry.row.offset < bound
+    → amount network.tt_start ≤ amount entry.row.offset
+begun_below network zero place entry keeps is below = absurd (omega arith)
+begun_below network (suc bound) place entry keeps is below =
+    elim (same_or_other (source_of entry) entry.vl.sender) [
+      | inl sender ↦ (keeps Forwarding place).from_sender entry is sender
+      | inr not ↦ elim (keeps Sources place entry is) [
+        | inl sender ↦ absurd (not sender)
+        | inr other ↦
+            let k = other.1.0 in
+            let enters = other.1.2 in
+            let behind = (keeps Forwarding place).from_switch k enters.entry entry enters.is is (sym enters.same_vl) not enters.target in
+            let first = begun_below network bound k enters.entry keeps enters.is (omega (arith, behind, below)) in
+            omega (arith, behind, first)
+      ]
+    ]
+
+-- a remainder by a multiple leaves the remainder
+pub mod_of_multiple : (n m c : ℕ) → 0 < c → n % (m * c) % c ≡ n % c
+mod_of_multiple n m c pos =
+    let r = n % (m * c) in
+    let one = div-add-mod' n (m * c) in
+    let two = div-add-mod' (n % (m * c)) c in
+    let whole : (n / (m * c) * m + r / c) * c + r % c ≡ n = omega (arith, one, two) in
+    sym (mod-mul-add (n / (m * c) * m + r / c) c (r % c) (mod_below r c pos)) ∙ ap (λ (x : ℕ). x % c) whole
+
+-- a remainder by a power of two leaves that by a lesser one
+pub mod_of_powers : (n a b : ℕ) → b ≤ a → n % 2 ^ a % 2 ^ b ≡ n % 2 ^ b
+mod_of_powers n a b le =
+    let split : 2 ^ (a - b) * 2 ^ b ≡ 2 ^ a = sym (pow-add 2 (a - b) b) ∙ ap (λ (k : ℕ). 2 ^ k) (omega (arith, le)) in
+    subst (λ (x : ℕ). n % x % 2 ^ b ≡ n % 2 ^ b) split (mod_of_multiple n (2 ^ (a - b)) (2 ^ b) (pow_pos b))
+
+-- the remainders of a number by two periods agree by the lesser one
+pub periods_agree : (n p q : ℕ) → Contains (1 ∷ 2 ∷ 4 ∷ 8 ∷ 16 ∷ 32 ∷ 64 ∷ []) p → Contains (1 ∷ 2 ∷ 4 ∷ 8 ∷ 16 ∷ 32 ∷ 64 ∷ []) q
+    → n % p % min p q ≡ n % q % min p q
+periods_agree n p q one two =
+    let a = period_power p one in
+    let b = period_power q two in
+    elim (cases_lt a.0 b.0) [
+      | inl lt ↦
+          let least : min (2 ^ a.0) (2 ^ b.0) ≡ 2 ^ a.0 = min-eq_left (pow_mono (omega (arith, lt))) in
+          let same : n % 2 ^ a.0 % 2 ^ a.0 ≡ n % 2 ^ b.0 % 2 ^ a.0 = mod-mod n (2 ^ a.0) ∙ sym (mod_of_powers n b.0 a.0 (omega (arith, lt))) in
+          rw (a.1, b.1, least) same
+      | inr ge ↦
+          let least : min (2 ^ a.0) (2 ^ b.0) ≡ 2 ^ b.0 = min_comm (2 ^ a.0) (2 ^ b.0) ∙ min-eq_left (pow_mono ge) in
+          let same : n % 2 ^ a.0 % 2 ^ b.0 ≡ n % 2 ^ b.0 % 2 ^ b.0 = mod_of_powers n a.0 b.0 ge ∙ sym (mod-mod n (2 ^ b.0)) in
+          rw (a.1, b.1, least) same
+    ]
+
+-- virtual links that occur in one cycle coincide
+pub occur_together : (one two : VirtualLink) (cycle : ℕ) → Contains (1 ∷ 2 ∷ 4 ∷ 8 ∷ 16 ∷ 32 ∷ 64 ∷ []) one.period
+    → Contains (1 ∷ 2 ∷ 4 ∷ 8 ∷ 16 ∷ 32 ∷ 64 ∷ []) two.period → OccursIn one cycle → OccursIn two cycle → Coincide one two
+occur_together one two cycle first second here there =
+    ap (λ (x : ℕ). x % min one.period two.period) (sym here.in_phase)
+    ∙ periods_agree cycle one.period two.period first second
+    ∙ ap (λ (x : ℕ). x % min one.period two.period) there.in_phase

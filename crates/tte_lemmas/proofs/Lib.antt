@@ -1,0 +1,5 @@
+pub mod Lists
+pub mod Naturals
+pub mod Integers
+pub mod Options
+pub mod Bools
