@@ -2,3 +2,7 @@ pub mod scenario
 pub mod runs
 pub mod silent
 pub mod law
+pub mod records
+pub mod control
+pub mod timed
+pub mod device

@@ -10,4 +10,5 @@ pub mod Receiving
 pub mod Takers
 pub mod Sent
 pub mod Once
+pub mod Since
 pub mod Delivering

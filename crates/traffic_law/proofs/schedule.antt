@@ -1,4 +1,3 @@
 -- Rows, their periods and what their numbers leave.
 pub mod Rows
-pub mod Periods
 pub mod Values

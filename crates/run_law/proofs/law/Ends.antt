@@ -1,9 +1,9 @@
 -- The ends of local clocks, as they are found one after another.
-use Rattle.std.proofs.Common.{◌≡◌, ◌⊎◌, ℕ, zero, suc, ◌+◌, ◌<◌, ℤ, ◌-ℤ◌, ◌≤ℤ◌, List, [], ◌∷◌, length, slice_index_or, All, inl, inr, refl, sym, subst, arith}
+use Rattle.std.proofs.Common.{◌≡◌, ◌⊎◌, ℕ, zero, suc, ◌+◌, ◌<◌, ◌≤ℤ◌, List, [], ◌∷◌, length, slice_index_or, All, inl, inr, refl, sym, subst, arith}
 use Rattle.std.proofs.lemmas.Bool.{cases_lt}
-use Rattle.std.proofs.lemmas.Int.{ints}
 use Rattle.std.specs.List.{Contains}
-use Rattle.run_law.specs.law.Spread.{IsLocal, IsSpread}
+use Rattle.run_law.specs.law.Spread.{IsLocal}
+use Rattle.tte_lemmas.proofs.Integers.{through}
 use Rattle.tte_units.specs.declared.units.Units.{Units}
 
 -- the least and the greatest of the first so many
@@ -17,9 +17,6 @@ pub same_there : (locals : List Units) (k : ℕ) (d e : Units) → k < length lo
 same_there [] k d e lt = absurd (omega arith)
 same_there (x ∷ xs) zero d e lt = refl
 same_there (x ∷ xs) (suc k) d e lt = same_there xs k d e (omega arith)
-
-chain : (x y z : ℤ) → x ≤ℤ y → y ≤ℤ z → x ≤ℤ z
-chain x y z a b = omega (arith, ints)
 
 one_of : (locals : List Units) (r a b : Units) → Contains locals a → Contains locals b → (r ≡ a) ⊎ (r ≡ b) → Contains locals r
 one_of locals r a b x y (inl e) = subst (Contains locals) (sym e) x
@@ -40,7 +37,7 @@ with_next locals count least greatest local low high ends there at one below und
           elim (cases_lt k count) [
             | inl lt ↦
                 let old = ends.bounds k d lt inside in
-                (chain low.0 least.0 _ below old.0, chain _ greatest.0 high.0 old.1 above)
+                (through low.0 least.0 _ below old.0, through _ greatest.0 high.0 old.1 above)
             | inr ge ↦
                 let same : k ≡ count = omega arith in
                 let is : slice_index_or locals k d ≡ local = subst (λ (i : ℕ). slice_index_or locals i d ≡ local) (sym same) (at d) in
@@ -51,17 +48,3 @@ with_next locals count least greatest local low high ends there at one below und
 -- what is there is a local value
 pub is_local : (locals : List Units) (u : Units) → All IsLocal locals → Contains locals u → IsLocal u
 is_local locals u all (k, lt, at) = subst IsLocal at (all k u lt)
-
--- the ends of all make the spread
-pub apart_by : (locals : List Units) (count : ℕ) (least greatest spread : Units) → AreEndsOf locals count least greatest → (count < length locals → ⊥)
-    → spread.0 ≡ (greatest.0 -ℤ least.0) → IsSpread locals spread
-apart_by locals count least greatest spread ends all is = inr (record {
-  least = least;
-  greatest = greatest;
-  ends = record {
-    least_there = ends.least_there;
-    greatest_there = ends.greatest_there;
-    bounds = λ k d inside. ends.bounds k d (omega (arith, all)) inside;
-  };
-  apart = is;
-})

@@ -39,7 +39,7 @@ use Rattle.tte_units.specs.declared.units.Units.{Units}
 -- ---- what comes to a broken device
 
 -- a device that takes no part drops what comes to it
-off_control : (network : Network) (device : DeviceId) (link : LinkId) (at : Standpoint) (frame : Result Pcf PcfRefusal) → at.takes_part ≡ false
+pub off_control : (network : Network) (device : DeviceId) (link : LinkId) (at : Standpoint) (frame : Result Pcf PcfRefusal) → at.takes_part ≡ false
     → control_arrival network device link at frame ≡ arrivals.Dropped Off
 off_control network device link at (Err refusal) off = ap (λ (b : Bool). arrivals.Dropped (if b then refused refusal else Off)) off
 off_control network device link at (Ok frame) off =

@@ -1,13 +1,12 @@
 -- The delays and holds that events within the fault hypothesis set, and how far a clock grows over a hold.
-use Rattle.std.proofs.Common.{◌≡◌, ℕ, ◌+◌, ◌*◌, ◌/◌, ◌^◌, ◌≤◌, ◌<◌, ◌+ℤ◌, ◌<ℤ◌, ◌≤ℤ◌, ◌⊎◌, pos, Bool, true, false, List, [], ◌∷◌, length, Option, Some, None, slice_get, inl, inr, refl, sym, ap, subst, arith}
+use Rattle.std.proofs.Common.{◌≡◌, ℕ, ◌+◌, ◌*◌, ◌/◌, ◌^◌, ◌≤◌, ◌<◌, ◌+ℤ◌, ◌<ℤ◌, ◌≤ℤ◌, ◌⊎◌, pos, true, List, [], ◌∷◌, length, Option, Some, None, slice_get, inl, inr, refl, sym, ap, subst, arith}
 use Rattle.std.proofs.Math.Nat.{mul-le-mul_left}
 use Rattle.std.proofs.lemmas.Bool.{and_parts, eqb-true}
 use Rattle.std.proofs.lemmas.Int.{by_lt_z, ints}
 use Rattle.std.specs.List.{cons_option, filter_map, last_or}
 use Rattle.std.specs.Option.{option_map_or, unwrap_or}
-use Rattle.std.specs.Prelude.{◌==◌, nat_le, if◌then◌else◌}
+use Rattle.std.specs.Prelude.{◌==◌, nat_le}
 use Rattle.drift_clock.specs.ClockLaws.{Measures}
-use Rattle.net_plan.proofs.Trees.{closed}
 use Rattle.net_plan.specs.Bounds.{beta_at}
 use Rattle.net_plan.specs.Places.{link_at}
 use Rattle.net_plan.specs.declared.event.Event.{Event}
@@ -25,7 +24,9 @@ use Rattle.run_law.specs.records.Order.{IsIn}
 use Rattle.run_law.specs.scenario.Hypothesis.{IsWithinHypothesis}
 use Rattle.run_law.specs.scenario.Scenarios.{Scenario, events_up_to, last_set}
 use Rattle.run_law.specs.scenario.Ways.{delay_at, hold_at, hold_set, is_way, is_way_of, wire_of, wire_set}
-use Rattle.schedule_tables.proofs.EntryLemmas.{all_at}
+use Rattle.tte_lemmas.proofs.Bools.{picked}
+use Rattle.tte_lemmas.proofs.Lists.{in_all}
+use Rattle.tte_lemmas.proofs.Options.{closed}
 use Rattle.tte_units.specs.Amount.{amount}
 use Rattle.tte_units.specs.declared.units.Units.{Units}
 
@@ -54,11 +55,6 @@ last_is P s setting initial t first each =
 
 -- ---- events
 
--- what a test lets through is what was given to it
-set_if : (b : Bool) (n v : ℕ) → (if b then Some n else None) ≡ Some v → (b ≡ true) × (n ≡ v)
-set_if true n v e = (refl, cc)
-set_if false n v e = absurd cc
-
 -- a way of the same link and direction is one of the same link
 pub same_way_link : (link other : LinkId) (way turned : Way) → is_way_of link way other turned ≡ true → other ≡ link
 same_way_link link other way turned same =
@@ -75,7 +71,7 @@ record SetsHold (link : LinkId) (what : What) (v : ℕ) : Type 0 where
 -- what sets a hold is such an event
 sets_hold : (link : LinkId) (way : Way) (what : What) (v : ℕ) → hold_set link way what ≡ Some v → SetsHold link what v
 sets_hold link way (events.Hold other turned delay) v e =
-    let both = set_if (is_way_of link way other turned) (amount delay) v e in
+    let both = picked (is_way_of link way other turned) (amount delay) v e in
     record { way = turned; delay = delay; is = ap (λ (l : LinkId). events.Hold l turned delay) (same_way_link link other way turned both.0); sets = both.1 }
 sets_hold link way other v e = absurd cc
 
@@ -89,7 +85,7 @@ pub record SetsWire (link : LinkId) (what : What) (v : ℕ) : Type 0 where
 -- what sets a wire delay is such an event
 pub sets_wire : (link : LinkId) (way : Way) (what : What) (v : ℕ) → wire_set link way what ≡ Some v → SetsWire link what v
 sets_wire link way (events.Wire other turned delay) v e =
-    let both = set_if (is_way_of link way other turned) (amount delay) v e in
+    let both = picked (is_way_of link way other turned) (amount delay) v e in
     record { way = turned; delay = delay; is = ap (λ (l : LinkId). events.Wire l turned delay) (same_way_link link other way turned both.0); sets = both.1 }
 sets_wire link way other v e = absurd cc
 
@@ -106,7 +102,7 @@ given s e lawful i =
     let there : slice_get s.events (length at.0) ≡ Some e = subst (λ (es : List Event). slice_get es (length at.0) ≡ Some e) (sym at.2) (at_length at.0 at.1 e)
     in
     record {
-      range = all_at IsEventInRange s.events (length at.0) e lawful.events there;
+      range = in_all IsEventInRange s.events (length at.0) e lawful.events there;
       before = at.0;
       within = lawful.within at.0 at.1 e at.2;
     }

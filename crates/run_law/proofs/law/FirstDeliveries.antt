@@ -11,7 +11,6 @@ use Rattle.net_plan.specs.declared.tables.Way.{Way}
 use Rattle.pcf_codec.specs.declared.refusal.PcfRefusal.{PcfRefusal}
 use Rattle.pcf_values.specs.declared.pcf.Pcf.{Pcf}
 use Rattle.run_law.proofs.law.FirstPlaces.{by_number, founded_at, in_filter, number_is, numbered_front, numbered_in, numbered_within}
-use Rattle.run_law.proofs.runs.SameSteps.{same_some}
 use Rattle.run_law.specs.control.Arrivals.{control_arrival, frame_fault, frame_or_fault}
 use Rattle.run_law.specs.control.Wires.{Launch, control, launched}
 use Rattle.run_law.specs.declared.judgement.Reason.{Reason}
@@ -31,6 +30,7 @@ use Rattle.run_law.specs.scenario.Devices.{is_parent_of, is_relay}
 use Rattle.run_law.specs.scenario.Scenarios.{Scenario}
 use Rattle.run_law.specs.timed.Dispatching.{HasAccepted, is_accepted}
 use Rattle.run_law.specs.timed.Receptions.{ArrivesAs, arrival_of}
+use Rattle.tte_lemmas.proofs.Options.{one as same_some}
 use Rattle.tte_units.specs.Amount.{amount}
 use Rattle.tte_units.specs.declared.units.Units.{Units}
 
@@ -140,7 +140,7 @@ further hs h g there back =
     (back.0, record { causes = g ∷ back.1.causes; chain = (there, back.1.chain); begins = back.1.begins }, back.2)
 
 -- the last of a list is in it, or is what was given for an empty one
-last_in : (o : Option Happening) (hs : List Happening) (h : Happening) → last_or o hs ≡ Some h → (o ≡ Some h) ⊎ IsIn h hs
+pub last_in : (o : Option Happening) (hs : List Happening) (h : Happening) → last_or o hs ≡ Some h → (o ≡ Some h) ⊎ IsIn h hs
 last_in o [] h e = inl e
 last_in o (g ∷ hs) h e =
     elim (last_in (Some g) hs h e) [

@@ -7,7 +7,6 @@ use Rattle.std.specs.Prelude.{◌==◌, Ok, nat_lt, is_some, not, ◌&&◌, opti
 use Rattle.net_plan.proofs.Amounts.{amount_within}
 use Rattle.net_plan.proofs.Beta.{beta_exists}
 use Rattle.net_plan.proofs.Shape.{rules_give_trees}
-use Rattle.net_plan.proofs.Trees.{closed, opened}
 use Rattle.net_plan.specs.Bounds.{IsBeta, beta_at}
 use Rattle.net_plan.specs.Places.{device_at, is_end_system, is_master, link_at}
 use Rattle.net_plan.specs.Ranges.{IsDeviceInRange, IsInRange, IsLinkInRange}
@@ -17,8 +16,6 @@ use Rattle.net_plan.specs.declared.ids.LinkId.{LinkId}
 use Rattle.net_plan.specs.declared.network.Network.{Network}
 use Rattle.net_plan.specs.declared.tables.Device.{Device}
 use Rattle.net_plan.specs.declared.tables.Link.{Link}
-use Rattle.net_plan.specs.declared.tables.Role.TheVariants.{Master, Client, Cm, Relay}
-use Rattle.net_plan.specs.declared.tables.Role.{Role}
 use Rattle.net_plan.specs.declared.tables.Way.TheVariants.{Up, Down}
 use Rattle.net_plan.specs.declared.tables.Way.{Way}
 use Rattle.pcf_values.specs.declared.channel.Channel.{Channel}
@@ -48,24 +45,18 @@ use Rattle.run_law.specs.scenario.Devices.{has_role, is_parent_of, is_relay}
 use Rattle.run_law.specs.scenario.Scenarios.{Scenario, is_broken, is_turned_on_at}
 use Rattle.run_law.specs.scenario.Ways.{delay_at, hold_at, is_cut, way_from}
 use Rattle.run_law.specs.timed.Receptions.{ArrivesAs}
-use Rattle.schedule_tables.proofs.EntryLemmas.{all_at}
-use Rattle.schedule_tables.proofs.Margins.{margins, shape_rules}
+use Rattle.schedule_tables.proofs.Margins.{margins, master_ends, shape_rules}
 use Rattle.schedule_tables.specs.Delays.{delay_by}
 use Rattle.schedule_tables.specs.Entries.{target_by}
 use Rattle.schedule_tables.specs.Rules.{KeepsRules}
 use Rattle.schedule_tables.specs.declared.rule.Rule.TheVariants.{Joints}
 use Rattle.sync_state.specs.declared.state.State.TheVariants.{Integrating}
+use Rattle.tte_lemmas.proofs.Lists.{in_all}
+use Rattle.tte_lemmas.proofs.Options.{closed, opened}
 use Rattle.tte_units.specs.Amount.{amount, units_of}
 use Rattle.tte_units.specs.declared.units.Units.{Units}
 
 -- ---- the way up from a master
-
--- a master is an end system
-master_ends : (role : Role) → is_master role ≡ true → is_end_system role ≡ true
-master_ends Master e = refl
-master_ends Client e = refl
-master_ends Cm e = absurd cc
-master_ends Relay e = absurd cc
 
 -- a master is the parent of no link
 no_parent : (n : Network) (master : DeviceId) (link : LinkId) (l : Link) → IsInRange n → KeepsRules n → link_at n link ≡ Some l
@@ -73,7 +64,7 @@ no_parent : (n : Network) (master : DeviceId) (link : LinkId) (l : Link) → IsI
 no_parent n master link l range keeps there role same =
     let joint = keeps Joints link.0 l there in
     let switch = opened (λ (d : Device). d.channel ≡ Some joint.0) (device_at n l.parent) joint.1 in
-    let known : IsDeviceInRange switch.0 = all_at IsDeviceInRange n.device l.parent.0 switch.0 range.devices switch.1 in
+    let known : IsDeviceInRange switch.0 = in_all IsDeviceInRange n.device l.parent.0 switch.0 range.devices switch.1 in
     let at : device_at n master ≡ Some switch.0 = subst (λ (i : ℕ). slice_get n.device i ≡ Some switch.0) same switch.1 in
     let is : is_master switch.0.role ≡ true = subst (λ (o : Option Device). option_map_or (λ d. is_master d.role) o false ≡ true) at role in
     let ends = master_ends switch.0.role is in
@@ -105,12 +96,12 @@ hold_is_young : (s : Scenario) (master : DeviceId) (link : LinkId) (l : Link) (t
     → s.reading master (leaving_time s link t) - s.reading master t ≤ amount s.network.dmax
 hold_is_young s master link l t lawful there =
     let n = s.network in
-    let known : IsLinkInRange n l = all_at (IsLinkInRange n) n.link link.0 l lawful.range.links there in
+    let known : IsLinkInRange n l = in_all (IsLinkInRange n) n.link link.0 l lawful.range.links there in
     let tree = rules_give_trees n (shape_rules n lawful.rules) in
     let beta = (beta_exists n tree).1 in
     let is : IsBeta n (pos (beta_at n beta.jitter beta.links)) = subst (IsBeta n) beta.value beta in
     let room = margins rules_give_trees n (beta_at n beta.jitter beta.links) lawful.range lawful.rules is in
-    let here = all_at (λ k. beta_at n beta.jitter beta.links + delay_by k ≤ amount n.dmax) n.link link.0 l room.dmax.links there in
+    let here = in_all (λ k. beta_at n beta.jitter beta.links + delay_by k ≤ amount n.dmax) n.link link.0 l room.dmax.links there in
     let most = hold_most s link l Up t lawful there known.hold.least in
     grows_little n beta.jitter beta.links (amount l.hold) (amount l.wire) (amount l.jitter) (leaving_time s link t - t)
     (s.reading master (leaving_time s link t) - s.reading master t)
@@ -289,7 +280,7 @@ record HasArrived (s : Scenario) (hs : List Happening) (t number : ℕ) (device 
   pub comes : ComesTo device link number coming.note.body
 
 -- a record of an earlier time is among those before a place
-found_before : (s : Scenario) (hs : List Happening) (t : ℕ) (more : List ℕ) (at : IsSplit place_of hs (t ∷ more)) (h : Happening)
+pub found_before : (s : Scenario) (hs : List Happening) (t : ℕ) (more : List ℕ) (at : IsSplit place_of hs (t ∷ more)) (h : Happening)
     → IsFounded place_of (IsDue s) hs → IsIn h hs → time_of h < t → numbered at.front h.note.number ≡ Some h
 found_before s hs t more at h founded i sooner =
     let front = front_founded place_of (IsDue s) at.front at.rest (subst (IsFounded place_of (IsDue s)) at.whole founded) in
@@ -364,7 +355,7 @@ sent_frames_come s mark ns h master cycle link switch lawful run i is leads corr
     let l = opened (λ (k : Link). (k.child ≡ master) × (k.parent ≡ switch)) (link_at n link) leads in
     let before = founded_at s _ h run.founded i in
     let up = way_is_up n master link l.0 lawful.range lawful.rules l.1 (sent_by_master s before.front h master cycle before.due is) in
-    let known : IsLinkInRange n l.0 = all_at (IsLinkInRange n) n.link link.0 l.0 lawful.range.links l.1 in
+    let known : IsLinkInRange n l.0 = in_all (IsLinkInRange n) n.link link.0 l.0 lawful.range.links l.1 in
     let least = delay_least s link l.0 Up t lawful l.1 known.wire.least in
     let left = has_left s mark _ h master cycle link l.0 lawful run i is l.1 l.2.0 up correct whole
     (λ more. chain (t ∷ more) (arrival_time s link (time_of h) ∷ 14 ∷ []) mark (inl (omega (arith, least))) in_time) in

@@ -4,6 +4,7 @@ use Rattle.std.proofs.lemmas.Int.{ints}
 use Rattle.compression.specs.declared.compressed.Compressed.{Compressed}
 use Rattle.membership.proofs.OneSummary.{one_summary}
 use Rattle.membership.specs.Summary.{Summary}
+use Rattle.net_plan.proofs.SameIds.{same_device, same_link, same_vl}
 use Rattle.net_plan.specs.declared.event.Event.{Event}
 use Rattle.net_plan.specs.declared.event.What.TheVariants.{On}
 use Rattle.net_plan.specs.declared.event.What.{What}
@@ -11,7 +12,7 @@ use Rattle.net_plan.specs.declared.ids.DeviceId.{DeviceId}
 use Rattle.net_plan.specs.declared.ids.LinkId.{LinkId}
 use Rattle.net_plan.specs.declared.ids.VlId.{VlId}
 use Rattle.pcf_values.specs.declared.members.Members.{Members}
-use Rattle.run_law.proofs.runs.SameSteps.{same_some, same_arrival, same_point, same_ripening, same_judgement, same_departure, arrives_or_departs, arrives_or_ripens, dropped_or_departs}
+use Rattle.run_law.proofs.runs.SameSteps.{same_arrival, same_point, same_ripening, same_judgement, same_departure, arrives_or_departs, arrives_or_ripens, dropped_or_departs}
 use Rattle.run_law.specs.control.Corrections.{ComesToCorrection, standing_before}
 use Rattle.run_law.specs.control.Emissions.{Emits}
 use Rattle.run_law.specs.control.Leaving.{Departs, leaves, too_old}
@@ -41,21 +42,18 @@ use Rattle.sync_state.specs.Verdicts.{HasVerdict}
 use Rattle.sync_state.specs.declared.answers.Verdict.TheVariants.{Corrected, SyncClique, AsyncClique}
 use Rattle.sync_state.specs.declared.answers.Verdict.{Verdict}
 use Rattle.sync_state.specs.declared.state.State.{State}
+use Rattle.tte_lemmas.proofs.Integers.{same_number}
+use Rattle.tte_lemmas.proofs.Options.{one as same_some}
 use Rattle.tte_units.specs.Amount.{amount}
 use Rattle.tte_units.specs.declared.units.Units.{Units}
 
 -- ---- numbers and ids
 
-same_number : (a b : ℤ) → pos 0 ≤ℤ a → pos 0 ≤ℤ b → unsigned_abs a ≡ unsigned_abs b → a ≡ b
-same_number (pos m) (pos n) begun after same = ap pos same
-same_number (negsuc m) b begun after same = absurd (omega (arith, ints))
-same_number (pos m) (negsuc n) begun after same = absurd (omega (arith, ints))
-
-same_units : (a b : Units) → a.0 ≡ b.0 → a ≡ b
+pub same_units : (a b : Units) → a.0 ≡ b.0 → a ≡ b
 same_units a b same = ap (λ (n : ℤ). let t : Units = record { 0 = n } in t) same
 
 -- times from 0 on of one amount are one
-same_time : (a b : Units) → pos 0 ≤ℤ a.0 → pos 0 ≤ℤ b.0 → amount a ≡ amount b → a ≡ b
+pub same_time : (a b : Units) → pos 0 ≤ℤ a.0 → pos 0 ≤ℤ b.0 → amount a ≡ amount b → a ≡ b
 same_time a b begun after same = same_units a b (same_number a.0 b.0 begun after same)
 
 -- numbers of one amount and one sign are one
@@ -64,15 +62,6 @@ same_signed (pos m) (pos n) same signs = ap pos same
 same_signed (negsuc m) (negsuc n) same signs = let one : m ≡ n = omega (arith, ints, same) in ap negsuc one
 same_signed (pos m) (negsuc n) same signs = absurd (omega (arith, signs))
 same_signed (negsuc m) (pos n) same signs = absurd (omega (arith, signs))
-
-same_device : (a b : DeviceId) → a.0 ≡ b.0 → a ≡ b
-same_device a b same = ap (λ (n : ℕ). let d : DeviceId = record { 0 = n } in d) same
-
-same_link : (a b : LinkId) → a.0 ≡ b.0 → a ≡ b
-same_link a b same = ap (λ (n : ℕ). let l : LinkId = record { 0 = n } in l) same
-
-same_vl : (a b : VlId) → a.0 ≡ b.0 → a ≡ b
-same_vl a b same = ap (λ (n : ℕ). let v : VlId = record { 0 = n } in v) same
 
 -- three numbers of a place
 same_three : (a b c x y z : ℕ) (us vs : List ℕ) → a ∷ b ∷ c ∷ us ≡ x ∷ y ∷ z ∷ vs → (a ≡ x) × (b ≡ y) × (c ≡ z) × (us ≡ vs)
@@ -143,7 +132,7 @@ same_corrected s hs t device cycle other by gain adjustment later a b =
 -- ---- states
 
 -- a record of this time with number 0 is none
-no_cause : (hs : List Happening) (t cause : ℕ) (h : Happening) → cause ≡ 0 → IsOfThisTime hs t cause h → ⊥
+pub no_cause : (hs : List Happening) (t cause : ℕ) (h : Happening) → cause ≡ 0 → IsOfThisTime hs t cause h → ⊥
 no_cause hs t zero h is there = let none = there.there in cc
 no_cause hs t (suc n) h is there = cc
 
@@ -267,7 +256,7 @@ same_clock s hs time device shown adjustment state other_shown other_adjustment 
     ∙ ap (λ (d : Units). notes.Clock device other_shown d state) (a.adjusted ∙ sym b.adjusted)
     ∙ ap (λ (u : State). notes.Clock device other_shown other_adjustment u) (a.in_state ∙ sym b.in_state)
 
-same_members : (a b : Members) → a.0 ≡ b.0 → a ≡ b
+pub same_members : (a b : Members) → a.0 ≡ b.0 → a ≡ b
 same_members a b same = ap (λ (n : ℕ). let m : Members = record { 0 = n } in m) same
 
 -- the key of a permanence
@@ -415,7 +404,7 @@ same_body s hs time m n (notes.Clock device seen adjustment state) other a b kin
 -- ---- records
 
 -- two notes are one where their parts are
-same_note : (a b : Note) → a.number ≡ b.number → a.time ≡ b.time → a.body ≡ b.body → a ≡ b
+pub same_note : (a b : Note) → a.number ≡ b.number → a.time ≡ b.time → a.body ≡ b.body → a ≡ b
 same_note a b numbers times bodies =
     ap (λ (n : ℕ). let m : Note = record { number = n; time = a.time; body = a.body } in m) numbers
     ∙ ap (λ (t : Units). let m : Note = record { number = b.number; time = t; body = a.body } in m) times

@@ -4,37 +4,20 @@ use Rattle.std.proofs.lemmas.List.{append-nil}
 use Rattle.run_law.proofs.runs.Places.{never_self, chain, either_way, behind, before_behind, nothing_between, in_left, in_right, in_parts}
 use Rattle.run_law.specs.records.Order.{IsBefore, IsIn, AllBefore, NoneBefore}
 use Rattle.run_law.specs.runs.Runs.{IsFounded, IsRun, NothingDueUpTo}
+use Rattle.tte_lemmas.proofs.Lists.{no_front, none_before}
 
 -- ---- a run begins
-
-no_part : {N : Type 0} (ps qs : List N) (x : N) → [] ≡ ps ++ x ∷ qs → ⊥
-no_part [] qs x e = cc
-no_part (p ∷ ps) qs x e = cc
-
-no_front : {N : Type 0} (ps qs : List N) → [] ≡ ps ++ qs → ps ≡ []
-no_front [] qs e = refl
-no_front (p ∷ ps) qs e = absurd cc
 
 -- no record is the run up to a mark before which none is due
 pub empty_run : {N : Type 0} (place : N → List ℕ) (IsDue : List N → N → Type 0) (mark : List ℕ) → ((y : N) → IsDue [] y → IsBefore (place y) mark → ⊥)
     → IsRun place IsDue mark []
 empty_run {N} place IsDue mark none = record {
-  founded = λ ps qs x e. absurd (no_part ps qs x e);
+  founded = λ ps qs x e. absurd (none_before ps qs x e);
   full = λ ps qs y e before rest due here. absurd (none y (subst (λ (t : List N). IsDue t y) (no_front ps qs e) due) here);
   within = λ m i. absurd i;
 }
 
 -- ---- a run under other causes, and up to another mark
-
--- a run is one under other causes that are the same up to its mark
-pub run_of_same : {N : Type 0} (place : N → List ℕ) (IsDue IsCaused : List N → N → Type 0) (mark : List ℕ) (ns : List N)
-    → ((ps : List N) (y : N) → IsDue ps y → IsCaused ps y) → ((ps qs : List N) (y : N) → ns ≡ ps ++ qs → IsCaused ps y → IsBefore (place y) mark → IsDue ps y)
-    → IsRun place IsDue mark ns → IsRun place IsCaused mark ns
-run_of_same place IsDue IsCaused mark ns more less run = record {
-  founded = λ ps qs x e. let due = run.founded ps qs x e in (due.0, more ps x due.1);
-  full = λ ps qs y e before rest due here. run.full ps qs y e before rest (less ps qs y e due here) here;
-  within = run.within;
-}
 
 -- a run up to a mark is that up to another one, where its records are before this and no others are due
 pub move_mark : {N : Type 0} (place : N → List ℕ) (IsDue : List N → N → Type 0) (mark later : List ℕ) (ns : List N) → IsRun place IsDue mark ns

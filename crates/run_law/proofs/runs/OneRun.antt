@@ -1,16 +1,11 @@
 -- There is one run, and what is due is its next record.
-use Rattle.std.proofs.Common.{◌≡◌, ℕ, List, [], ◌∷◌, ◌++◌, length, inl, inr, refl, sym, ap, subst, ◌∙◌, arith}
-use Rattle.std.proofs.lemmas.List.{append-nil, length-append}
+use Rattle.std.proofs.Common.{◌≡◌, ℕ, List, [], ◌∷◌, ◌++◌, inl, inr, refl, sym, ap, subst, ◌∙◌}
 use Rattle.run_law.proofs.runs.FrontOfRun.{front_of_run}
 use Rattle.run_law.proofs.runs.Lacking.{behind_first}
 use Rattle.run_law.proofs.runs.Places.{never_self, in_parts}
 use Rattle.run_law.specs.records.Order.{IsBefore, IsIn, AllBefore, NoneBefore}
 use Rattle.run_law.specs.runs.Runs.{IsRun, IsDetermined}
-
--- two lists are one where each is a front of the other
-fronts : {N : Type 0} (xs ys more rest : List N) → ys ≡ xs ++ more → xs ≡ ys ++ rest → xs ≡ ys
-fronts xs ys [] rest a b = sym (a ∙ append-nil xs)
-fronts xs ys (m ∷ more) rest a b = absurd (omega (arith, ap length a, length-append xs (m ∷ more), ap length b, length-append ys rest))
+use Rattle.tte_lemmas.proofs.Lists.{fronts}
 
 pub one_run : {N : Type 0} (place : N → List ℕ) (IsDue : List N → N → Type 0) (mark : List ℕ) → IsDetermined place IsDue → (xs ys : List N)
     → IsRun place IsDue mark xs → IsRun place IsDue mark ys → xs ≡ ys

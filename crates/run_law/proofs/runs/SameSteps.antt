@@ -32,11 +32,8 @@ use Rattle.run_law.specs.scenario.Scenarios.{Scenario}
 use Rattle.run_law.specs.timed.Receptions.{ArrivesAs, arrival_of}
 use Rattle.sync_state.specs.declared.state.State.{State}
 use Rattle.transparent_clock.specs.Points.{point_of}
+use Rattle.tte_lemmas.proofs.Options.{one as same_some}
 use Rattle.tte_units.specs.declared.units.Units.{Units}
-
--- what an option holds is one
-pub same_some : {X : Type 0} (o : Option X) (x y : X) → o ≡ Some x → o ≡ Some y → x ≡ y
-same_some o x y a b = let one : Some x ≡ Some y = sym a ∙ b in cc
 
 -- ---- arrivals
 
@@ -59,7 +56,7 @@ same_arrival s hs t device link cause a b x y =
 -- ---- permanence
 
 -- a point has one role
-same_taken : (network : Network) (points : List Point) (point : Point) (a b : Taken) → IsCollectedAs network points point a
+pub same_taken : (network : Network) (points : List Point) (point : Point) (a b : Taken) → IsCollectedAs network points point a
     → IsCollectedAs network points point b → a ≡ b
 same_taken network points point a b x y =
     let only = (one_list_of_clusters (observation_window network) points).2 in
@@ -143,7 +140,7 @@ same_judgement judgements.Integrates other e = absurd cc
 same_judgement judgements.Ignored other e = absurd cc
 
 -- no judgement is a drop
-never_dropped : (v : Judgement) (reason : Reason) → ripe_as v ≡ ripe.Dropped reason → ⊥
+pub never_dropped : (v : Judgement) (reason : Reason) → ripe_as v ≡ ripe.Dropped reason → ⊥
 never_dropped judgements.Opened reason e = cc
 never_dropped judgements.Joined reason e = cc
 never_dropped judgements.Repeat reason e = cc
@@ -183,7 +180,7 @@ puts_or_gives s h t (notes.Compressed cm opened at cycle members verdict) device
 puts_or_gives s h t (notes.Arrived relay by cause clock) device link l put gives = cc
 puts_or_gives s h t other device link l put gives = gives
 
-no_launch : (s : Scenario) (h : Happening) (t : ℕ) (body : NoteBody) (device : DeviceId) (link : LinkId) (from clock : ℕ) (l : Launch)
+pub no_launch : (s : Scenario) (h : Happening) (t : ℕ) (body : NoteBody) (device : DeviceId) (link : LinkId) (from clock : ℕ) (l : Launch)
     → body ≡ notes.Arrived device link from clock → launched s h t body ≡ Some l → ⊥
 no_launch s h t body device link from clock l is put =
     let none : launched s h t (notes.Arrived device link from clock) ≡ Some l = subst (λ (b : NoteBody). launched s h t b ≡ Some l) is put in

@@ -10,9 +10,10 @@ use Rattle.net_plan.specs.declared.ids.LinkId.{LinkId}
 use Rattle.net_plan.specs.declared.network.Network.{Network}
 use Rattle.pcf_values.specs.declared.channel.Channel.TheVariants.{A, B}
 use Rattle.pcf_values.specs.declared.channel.Channel.{Channel}
-use Rattle.run_law.proofs.scenario.Decisions.{IsDecided, decided_by, decided_not, decided_and, decided_or, decided_less, decided_same, decided_less_int, decided_true, decided_false, decided_some, decided_at, decided_any, any_first, any_later, any_of_none, any_parts}
+use Rattle.run_law.proofs.scenario.Decisions.{IsDecided, decided_by, decided_not, decided_and, decided_or, decided_less, decided_same, decided_less_int, decided_true, decided_false, decided_some, decided_at, decided_any}
 use Rattle.run_law.specs.scenario.Faults.{Breaks, TurnsOn, Cuts, CutsOn, IsBroken, IsTurnedOn, BeginsOn, IsLinkOf, IsFirstCutOn, IsFaulty}
 use Rattle.run_law.specs.scenario.Hypothesis.{ComesTooEarly, SetsFastRate, SetsOtherWire, SetsLongHold, CutsOtherChannel, BreaksNoMaster, BreaksSecond, LeavesTooFew, SendsUnbroken, TurnsOnAgain, sound_masters}
+use Rattle.tte_lemmas.proofs.Lists.{any_behind, any_first, any_none, any_of}
 use Rattle.tte_units.specs.declared.rates.Ppb.{Ppb}
 use Rattle.tte_units.specs.declared.units.Units.{Units}
 
@@ -154,7 +155,7 @@ cut_is_later network channel e rest (b ∷ before) cut behind order none on fail
   cut = cut;
   behind = behind;
   order = cc;
-  none_before = λ link h. none link (any_later (Cuts link) b before h);
+  none_before = λ link h. none link (any_behind (Cuts link) b before h);
   cuts = on;
 }
 
@@ -167,7 +168,7 @@ first_cut network channel [] = inr (λ h. no_cut h.before h.cut h.behind h.order
 first_cut network channel (e ∷ rest) =
     elim (cuts_by e e.what refl) [
       | inl cut ↦ decided_by
-          (λ on. record { before = []; cut = e; behind = rest; order = refl; none_before = λ link h. any_of_none (Cuts link) h; cuts = on })
+          (λ on. record { before = []; cut = e; behind = rest; order = refl; none_before = λ link h. any_none (Cuts link) h; cuts = on })
           (λ h. cut_is_first network channel e rest h.before h.cut h.behind h.order h.none_before h.cuts cut)
           (cuts_on_by network channel e e.what refl)
       | inr fails ↦ decided_by
@@ -176,7 +177,7 @@ first_cut network channel (e ∷ rest) =
             cut = h.cut;
             behind = h.behind;
             order = ap (λ (t : List Event). e ∷ t) h.order;
-            none_before = λ link later. elim (any_parts (Cuts link) e h.before later) [ inl cut ↦ fails (link, cut) | inr more ↦ h.none_before link more ];
+            none_before = λ link later. elim (any_of (Cuts link) e h.before later) [ inl cut ↦ fails (link, cut) | inr more ↦ h.none_before link more ];
             cuts = h.cuts;
           })
           (λ h. cut_is_later network channel e rest h.before h.cut h.behind h.order h.none_before h.cuts fails)
@@ -213,7 +214,7 @@ other_channel network before event = other_channel_by network before event event
 
 -- ---- devices
 
-same_device : (a b : DeviceId) → IsDecided (a ≡ b)
+pub same_device : (a b : DeviceId) → IsDecided (a ≡ b)
 same_device a b = decided_by (λ e. ap (λ (n : ℕ). let d : DeviceId = record { 0 = n } in d) e) (λ e. ap (λ (d : DeviceId). d.0) e) (decided_same a.0 b.0)
 
 breaks_by : (device : DeviceId) (event : Event) (what : What) → event.what ≡ what → IsDecided (Breaks device event)
@@ -235,10 +236,10 @@ pub is_turned_on : (events : List Event) (device : DeviceId) → IsDecided (IsTu
 is_turned_on events device = decided_any (TurnsOn device) (λ e. turns_on_by device e e.what refl) events
 
 pub some_broken : (events : List Event) → IsDecided ((device : DeviceId) × IsBroken events device)
-some_broken [] = inr (λ h. any_of_none (Breaks h.0) h.1)
+some_broken [] = inr (λ h. any_none (Breaks h.0) h.1)
 some_broken (e ∷ events) = decided_by
-    (λ h. elim h [ inl first ↦ (first.0, any_first (Breaks first.0) e events first.1) | inr later ↦ (later.0, any_later (Breaks later.0) e events later.1) ])
-    (λ h. elim (any_parts (Breaks h.0) e events h.1) [ inl first ↦ inl (h.0, first) | inr later ↦ inr (h.0, later) ])
+    (λ h. elim h [ inl first ↦ (first.0, any_first (Breaks first.0) e events first.1) | inr later ↦ (later.0, any_behind (Breaks later.0) e events later.1) ])
+    (λ h. elim (any_of (Breaks h.0) e events h.1) [ inl first ↦ inl (h.0, first) | inr later ↦ inr (h.0, later) ])
     (decided_or (breaks_some_by e e.what refl) (some_broken events))
 
 begins_on : (network : Network) (device : DeviceId) → IsDecided (BeginsOn network device)

@@ -1,8 +1,9 @@
 -- Facts that are decided: they hold or they do not.
-use Rattle.std.proofs.Common.{◌≡◌, ◌⊎◌, ℕ, zero, suc, ◌<◌, ℤ, ◌<ℤ◌, Bool, true, false, List, [], ◌∷◌, Option, Some, None, IsSomeAnd, Any, slice_get, inl, inr, refl, sym, subst, arith}
+use Rattle.std.proofs.Common.{◌≡◌, ◌⊎◌, ℕ, zero, suc, ◌<◌, ℤ, ◌<ℤ◌, Bool, true, false, List, [], ◌∷◌, Option, Some, None, IsSomeAnd, Any, slice_get, inl, inr, refl, arith}
 use Rattle.std.proofs.lemmas.Bool.{cases_lt, cases_eq}
 use Rattle.std.proofs.lemmas.Int.{by_lt_z}
 use Rattle.std.specs.Int.Signed.{clash_ℤ}
+use Rattle.tte_lemmas.proofs.Lists.{any_behind, any_first, any_none, any_of}
 
 abbrev pub IsDecided : Type 0 → Type 0
 IsDecided P = P ⊎ (P → ⊥)
@@ -68,21 +69,8 @@ decided_at (x ∷ xs) P each =
           ]
     ]
 
-pub any_first : {X : Type 0} (P : X → Type 0) (x : X) (xs : List X) → P x → Any P (x ∷ xs)
-any_first P x xs p = (0, x, omega arith, refl, p)
-
-pub any_later : {X : Type 0} (P : X → Type 0) (x : X) (xs : List X) → Any P xs → Any P (x ∷ xs)
-any_later P x xs (k, y, lt, at, p) = (suc k, y, omega arith, at, p)
-
-pub any_of_none : {X : Type 0} (P : X → Type 0) → Any P [] → ⊥
-any_of_none P (k, y, lt, at, p) = absurd (omega arith)
-
-pub any_parts : {X : Type 0} (P : X → Type 0) (x : X) (xs : List X) → Any P (x ∷ xs) → P x ⊎ Any P xs
-any_parts P x xs (zero, y, lt, at, p) = inl (subst P (sym at) p)
-any_parts P x xs (suc k, y, lt, at, p) = inr (k, y, omega arith, at, p)
-
 pub decided_any : {X : Type 0} (P : X → Type 0) → ((x : X) → IsDecided (P x)) → (xs : List X) → IsDecided (Any P xs)
-decided_any P each [] = inr (any_of_none P)
+decided_any P each [] = inr (any_none P)
 decided_any P each (x ∷ xs) =
-    decided_by (λ h. elim h [ inl p ↦ any_first P x xs p | inr later ↦ any_later P x xs later ]) (any_parts P x xs)
+    decided_by (λ h. elim h [ inl p ↦ any_first P x xs p | inr later ↦ any_behind P x xs later ]) (any_of P x xs)
     (decided_or (each x) (decided_any P each xs))

@@ -43,11 +43,11 @@ use Rattle.run_law.specs.scenario.Devices.{start_of}
 use Rattle.run_law.specs.scenario.Scenarios.{Scenario}
 use Rattle.run_law.specs.timed.Dispatching.{Dispatches, Sends}
 use Rattle.run_law.specs.timed.Receptions.{ArrivesAs}
-use Rattle.schedule_tables.proofs.EntryLemmas.{all_at}
 use Rattle.sync_state.specs.Standing.{adjustment_at_start, point_in, state_at_start}
 use Rattle.sync_state.specs.declared.answers.Verdict.{Verdict}
 use Rattle.sync_state.specs.declared.state.State.TheVariants.{Off, Integrating, Joining, Synchronised}
 use Rattle.sync_state.specs.declared.state.State.{State}
+use Rattle.tte_lemmas.proofs.Lists.{in_all}
 use Rattle.tte_units.specs.Amount.{amount, units_of}
 use Rattle.tte_units.specs.declared.units.Units.{Units}
 
@@ -81,7 +81,7 @@ no_sending s hs t device cycle e sends =
     let far : amount s.network.cycle ≤ cycle * amount s.network.cycle + 0 = in_later cycle (amount s.network.cycle) 0 sends.begun in
     none_reached s hs t device (pos (cycle * amount s.network.cycle)) e (omega (arith, ints, far)) sends.reached
 
-point_is : (state : State) (number cycle : ℕ) → point_in state number ≡ Some cycle → number ≡ cycle
+pub point_is : (state : State) (number cycle : ℕ) → point_in state number ≡ Some cycle → number ≡ cycle
 point_is Off number cycle next = absurd cc
 point_is Integrating number cycle next = absurd cc
 point_is Joining number cycle next = cc
@@ -136,7 +136,7 @@ no_departure : (s : Scenario) (hs : List Happening) (t : ℕ) (device : DeviceId
     → Departs s hs device t link cause is → ⊥
 no_departure s hs t device link cause is q d = gives_nothing s.network d.giving.note.body device link (quiet_numbered hs cause d.giving q d.there) d.gives
 
-no_cluster : (ow : ℤ) (clusters : List Cluster) (cluster : Cluster) → AreClusters ow [] clusters → Contains clusters cluster → ⊥
+pub no_cluster : (ow : ℤ) (clusters : List Cluster) (cluster : Cluster) → AreClusters ow [] clusters → Contains clusters cluster → ⊥
 no_cluster ow [] cluster are there = absurd (omega (arith, there.1))
 no_cluster ow (c ∷ cs) cluster are there = absurd are
 
@@ -242,7 +242,7 @@ clock_of_silent s hs time device shown adjustment state silent q c =
 pub quiet_cause : (network : Network) (reading : DeviceId → ℕ → ℕ) (events : List Event) (time : Units) (body : NoteBody) → All (λ e. IsQuiet e.what) events
     → IsSilentlyCaused network reading events time body → IsQuietBody body
 quiet_cause network reading events time (notes.Event line what) all r =
-    subst IsQuiet (sym r.same) (all_at (λ e. IsQuiet e.what) events r.before r.event all r.is)
+    subst IsQuiet (sym r.same) (in_all (λ e. IsQuiet e.what) events r.before r.event all r.is)
 quiet_cause network reading events time (notes.Clock device shown adjustment state) all r = tt
 quiet_cause network reading events time other all r = absurd r
 

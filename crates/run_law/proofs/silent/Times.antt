@@ -14,10 +14,11 @@ use Rattle.net_plan.specs.declared.network.Network.{Network}
 use Rattle.net_plan.specs.declared.tables.Device.{Device}
 use Rattle.run_law.specs.law.Silent.{IsSilentNetwork}
 use Rattle.run_law.specs.scenario.Devices.{start_of}
-use Rattle.schedule_tables.proofs.EntryLemmas.{all_at}
 use Rattle.schedule_tables.proofs.Margins.{margins, shape_rules}
 use Rattle.schedule_tables.specs.declared.rule.Rule.TheVariants.{Masters}
 use Rattle.sync_state.specs.Standing.{adjustment_at_start}
+use Rattle.tte_lemmas.proofs.Integers.{whole}
+use Rattle.tte_lemmas.proofs.Lists.{in_all}
 use Rattle.tte_units.specs.Amount.{amount}
 use Rattle.tte_units.specs.declared.units.Units.{Units}
 
@@ -30,10 +31,6 @@ few_starts network silent =
     let is : IsBeta network (pos (beta_at network beta.1.jitter beta.1.links)) = subst (IsBeta network) beta.1.value beta.1 in
     (margins rules_give_trees network (beta_at network beta.1.jitter beta.1.links) silent.range silent.rules is).cycle.eighteen_starts
 
-whole : (a : ℤ) → pos 0 ≤ℤ a → a ≡ pos (unsigned_abs a)
-whole (pos n) begun = refl
-whole (negsuc n) begun = absurd (omega (arith, ints))
-
 -- the adjustment at the beginning is at most the spread of the starts
 start_is_settled : (start : Option Units) (settled : Units) → pos 0 ≤ℤ settled.0 → IfSome start (λ s. s.0 ≤ℤ settled.0)
     → (adjustment_at_start start).0 ≤ℤ settled.0
@@ -44,7 +41,7 @@ device_start : (network : Network) (device : DeviceId) (o : Option Device) → I
     → IfSome (option_and_then (λ d. d.start) o) (λ s. s.0 ≤ℤ network.settled.0)
 device_start network device None silent there = tt
 device_start network device (Some d) silent there =
-    all_at (λ e. IfSome e.start (λ s. s.0 ≤ℤ network.settled.0)) network.device device.0 d ((silent.rules Masters 4).starts refl) there
+    in_all (λ e. IfSome e.start (λ s. s.0 ≤ℤ network.settled.0)) network.device device.0 d ((silent.rules Masters 4).starts refl) there
 
 begins_settled : (network : Network) (device : DeviceId) → IsSilentNetwork network → (adjustment_at_start (start_of network device)).0 ≤ℤ network.settled.0
 begins_settled network device silent =

@@ -120,7 +120,7 @@ pub record IsOwed (s : Scenario) (hs : List Happening) (until : ℕ) (vl : VlId)
   pub rows : (place : ℕ) (entry : Entry) → IsEntry s.network place entry → entry.row.vl ≡ vl
       → source_of entry ≡ of_vl.sender
       → (t : ℕ) × (t < to) × ReachesPlace s hs of_vl.sender cycle (amount entry.row.offset) t
-      × (state_before s hs of_vl.sender t ≡ Synchronised)
+      × (state_after s (up_to t hs) of_vl.sender ≡ Synchronised)
   pub sender : is_broken s of_vl.sender to ≡ false
 
 -- the record's frame came by a row of the virtual link into the device, within the row's window

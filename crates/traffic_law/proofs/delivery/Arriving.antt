@@ -19,13 +19,13 @@ use Rattle.run_law.specs.scenario.Ways.{delay_at, wire_of, wire_set}
 use Rattle.schedule_tables.proofs.EntryLemmas.{in_range}
 use Rattle.schedule_tables.specs.Windows.{arrival_of}
 use Rattle.traffic_law.proofs.ports.Dispatched.{dispatches_are_in_spans}
-use Rattle.traffic_law.proofs.ports.Ends.{closed}
 use Rattle.traffic_law.proofs.schedule.Rows.{rows_are_in_time}
 use Rattle.traffic_law.proofs.schedule.Values.{cycle_whole, so_far, so_far_in}
 use Rattle.traffic_law.proofs.spans.Spans.{synchronised_keep_time}
 use Rattle.traffic_law.specs.Bringing.{BringsBlocks}
 use Rattle.traffic_law.specs.Passed.{ArrivalsAreInWindows, FramesArriveInSpans, arrives_at}
 use Rattle.traffic_law.specs.Spans.{IsInSpan, shown_at}
+use Rattle.tte_lemmas.proofs.Options.{closed}
 use Rattle.tte_units.specs.Amount.{amount}
 
 -- ---- wire delays

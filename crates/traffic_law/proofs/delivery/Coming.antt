@@ -15,9 +15,9 @@ use Rattle.net_plan.specs.declared.tables.VirtualLink.{VirtualLink}
 use Rattle.net_plan.specs.declared.tables.Way.TheVariants.{Up}
 use Rattle.net_plan.specs.declared.tables.Way.{Way}
 use Rattle.pcf_codec.specs.Fields.{field}
+use Rattle.precision_law.proofs.law.OnTime.{begins_late}
 use Rattle.precision_law.proofs.records.Points.{within_run}
 use Rattle.precision_law.specs.Views.{IsGood, IsView, View}
-use Rattle.run_law.proofs.runs.SameSteps.{same_some}
 use Rattle.run_law.specs.control.Wires.{Launch, Signal, launched, signal_of, time_on_port, timed}
 use Rattle.run_law.specs.declared.note.NoteBody.TheVariants as notes
 use Rattle.run_law.specs.declared.note.NoteBody.{NoteBody}
@@ -40,7 +40,6 @@ use Rattle.traffic_law.proofs.ports.Cycles.{hulls_grow}
 use Rattle.traffic_law.proofs.ports.Dispatched.{dispatches_are_of_rows}
 use Rattle.traffic_law.proofs.ports.Leavings.{hull_proper}
 use Rattle.traffic_law.proofs.schedule.Rows.{rows_go_once}
-use Rattle.traffic_law.proofs.spans.Spans.{begins_late}
 use Rattle.traffic_law.specs.Bringing.{BringsBlocks}
 use Rattle.traffic_law.specs.Coming.{BeginsAtSender, DispatchesBegin, HasGoodSources, SpansAreApart, TakingsBegin, TakingsComeByRows}
 use Rattle.traffic_law.specs.Dispatched.{IsRowDispatch}
@@ -49,6 +48,7 @@ use Rattle.traffic_law.specs.Passed.{ArrivesInSpan, arrives_at}
 use Rattle.traffic_law.specs.Senders.{SendersAreBroken}
 use Rattle.traffic_law.specs.Spans.{IsTimedAt}
 use Rattle.traffic_law.specs.Taken.{IsTaking}
+use Rattle.tte_lemmas.proofs.Options.{one as same_some}
 use Rattle.tte_units.specs.OctetTime.{octet_time}
 
 -- ---- spans

@@ -2,7 +2,6 @@
 use Rattle.std.proofs.Common.{◌≡◌, ℕ, zero, suc, ◌+◌, ◌-◌, ◌*◌, ◌<◌, ◌≤◌, ℤ, pos, ◌+ℤ◌, ◌≤ℤ◌, ◌<ℤ◌, false, List, [], ◌∷◌, max, Some, slice_get, inl, inr, refl, sym, ap, subst, ◌∙◌, arith}
 use Rattle.std.proofs.lemmas.Bool.{cases_lt}
 use Rattle.std.proofs.lemmas.Int.{ints}
-use Rattle.std.specs.Prelude.{if◌then◌else◌}
 use Rattle.net_plan.specs.Bounds.{IsGreatest}
 use Rattle.net_plan.specs.Places.{IsEndSystem}
 use Rattle.net_plan.specs.Ranges.{IsInRange, IsVlInRange}
@@ -12,14 +11,16 @@ use Rattle.net_plan.specs.declared.ids.VlId.{VlId}
 use Rattle.net_plan.specs.declared.network.Network.{Network}
 use Rattle.net_plan.specs.declared.tables.VirtualLink.{VirtualLink}
 use Rattle.precision_law.proofs.clocks.Epochs.{adjustment_stays, clocks_reach_sharply}
+use Rattle.precision_law.proofs.law.OnTime.{begins_late}
 use Rattle.precision_law.proofs.law.Precision.{up_to_is, view_at, view_of}
 use Rattle.precision_law.proofs.records.Points.{within_run}
 use Rattle.precision_law.proofs.records.Views.{room, steady}
-use Rattle.precision_law.specs.Blocks.{adjustment_left}
+use Rattle.precision_law.specs.Blocks.{adjustment_left, state_left}
 use Rattle.precision_law.specs.Epochs.{epoch_time}
 use Rattle.precision_law.specs.Views.{IsGood, IsView, View}
+use Rattle.run_law.proofs.device.States.{reaches_by}
 use Rattle.run_law.proofs.law.FirstPlaces.{by_number, number_is, numbered_in}
-use Rattle.run_law.proofs.runs.SameSteps.{same_some}
+use Rattle.run_law.proofs.scenario.Devices.{end_test}
 use Rattle.run_law.specs.declared.note.Note.{Note}
 use Rattle.run_law.specs.declared.note.NoteBody.TheVariants as notes
 use Rattle.run_law.specs.device.LocalClocks.{Reaches, local_before}
@@ -34,25 +35,25 @@ use Rattle.run_law.specs.records.Ranks.{place_of}
 use Rattle.run_law.specs.runs.DueRecords.{IsDue}
 use Rattle.run_law.specs.runs.Runs.{IsFounded}
 use Rattle.run_law.specs.scenario.Scenarios.{Scenario, is_broken, is_turned_on_at}
-use Rattle.schedule_tables.proofs.EntryLemmas.{all_at}
 use Rattle.schedule_tables.specs.Entries.{IsEntry, IsOnChannel, source_of, target_of}
 use Rattle.schedule_tables.specs.Schedule.{EntersOn}
 use Rattle.schedule_tables.specs.Windows.{window_end, window_of}
 use Rattle.schedule_tables.specs.declared.entry.Entry.{Entry}
 use Rattle.schedule_tables.specs.declared.rule.Rule.TheVariants.{BothChannels, Joints}
-use Rattle.sync_state.specs.declared.state.State.TheVariants.{Integrating, Synchronised}
+use Rattle.sync_state.specs.declared.state.State.TheVariants.{Synchronised}
 use Rattle.traffic_law.proofs.delivery.Arriving.{frames_arrive_in_spans}
 use Rattle.traffic_law.proofs.delivery.Coming.{dispatches_begin, takings_begin}
 use Rattle.traffic_law.proofs.delivery.Once.{delivered_once}
-use Rattle.traffic_law.proofs.delivery.Receiving.{arrivals_are_taken}
+use Rattle.traffic_law.proofs.delivery.Receiving.{arrivals_are_taken, state_is}
 use Rattle.traffic_law.proofs.delivery.Sent.{Brings, arrives_in_time, rows_are_sent}
+use Rattle.traffic_law.proofs.delivery.Since.{synchronised_before}
 use Rattle.traffic_law.proofs.delivery.Taken.{takings_are_so}
 use Rattle.traffic_law.proofs.delivery.Takers.{end_delivers}
-use Rattle.traffic_law.proofs.faults.Channels.{end_test, good_sources}
+use Rattle.traffic_law.proofs.faults.Channels.{good_sources}
 use Rattle.traffic_law.proofs.ports.Cycles.{same_next}
-use Rattle.traffic_law.proofs.ports.Dispatched.{cycle_is, same_reach}
+use Rattle.traffic_law.proofs.ports.Dispatched.{cycle_is, offset_in_schedule}
 use Rattle.traffic_law.proofs.schedule.Rows.{rows_are_in_time}
-use Rattle.traffic_law.proofs.spans.Spans.{begins_late, has_time_at, synchronised_keep_time, values_are_reached_in_spans}
+use Rattle.traffic_law.proofs.spans.Spans.{has_time_at, synchronised_keep_time, values_are_reached_in_spans}
 use Rattle.traffic_law.specs.Coming.{HasGoodSources}
 use Rattle.traffic_law.specs.Delivered.{IsSentIn}
 use Rattle.traffic_law.specs.Fits.{FieldsFit}
@@ -60,6 +61,8 @@ use Rattle.traffic_law.specs.Passed.{arrives_at}
 use Rattle.traffic_law.specs.Ports.{IsRunTo, OwedFramesCome}
 use Rattle.traffic_law.specs.Rows.{IsInSchedule}
 use Rattle.traffic_law.specs.Spans.{IsInSpan, IsReachedInSpan, IsTimedAt, shown_at}
+use Rattle.tte_lemmas.proofs.Lists.{in_all}
+use Rattle.tte_lemmas.proofs.Options.{one as same_some}
 use Rattle.tte_units.specs.Amount.{amount}
 use Rattle.tte_units.specs.declared.units.Units.{Units}
 
@@ -235,13 +238,13 @@ reaches_in : (v : View) (hs : List Happening) (device : DeviceId) (cycle place t
     → ReachesPlace v.scenario hs device cycle place t → Reaches v.scenario v.records device (pos (cycle * v.sizes.cycle + place)) t
 reaches_in v hs device cycle place t is front le reaches =
     subst (λ (n : ℕ). Reaches v.scenario v.records device (pos (cycle * n + place)) t) (sym (cycle_is v is))
-    (same_reach v.scenario hs v.records device (pos (cycle * amount v.scenario.network.cycle + place)) t (front.early t (omega (arith, le))) reaches)
+    (reaches_by v.scenario hs v.records device (pos (cycle * amount v.scenario.network.cycle + place)) t (front.early t (omega (arith, le))) reaches)
 
 -- the frame is sent in the view
-sent_in : (v : View) (hs : List Happening) (until : ℕ) (vl : VlId) (of_vl : VirtualLink) (cycle : ℕ) (device : DeviceId) → IsView v → IsFrontOf v hs
+sent_in : Brings → (v : View) (hs : List Happening) (until : ℕ) (vl : VlId) (of_vl : VirtualLink) (cycle : ℕ) (device : DeviceId) → IsView v → IsFrontOf v hs
     → (owed : IsOwed v.scenario hs until vl of_vl cycle device) → owed.to ≡ v.until
     → IsReachedInSpan v cycle owed.last v.until → IsSentIn v vl of_vl cycle owed.last
-sent_in v hs until vl of_vl cycle device is front owed end reached = record {
+sent_in brings v hs until vl of_vl cycle device is front owed end reached = record {
   there = owed.there;
   occurs = owed.occurs;
   sender = subst (λ (t : ℕ). is_broken v.scenario of_vl.sender t ≡ false) end owed.sender;
@@ -249,12 +252,20 @@ sent_in v hs until vl of_vl cycle device is front owed end reached = record {
   in_run = reached.not_early;
   rows = λ place entry row own source.
       let r = owed.rows place entry row own source in
-      let le : r.0 ≤ v.until = omega (arith, r.1, end) in (
+      let sender = of_vl.sender in
+      let le : r.0 ≤ v.until = omega (arith, r.1, end) in
+      let reaches = reaches_in v hs sender cycle (amount entry.row.offset) r.0 is front le r.2 in
+      let left : state_after v.scenario (earlier (r.0 + 1) hs) sender ≡ Synchronised = subst
+      (λ (xs : List Happening). state_after v.scenario xs sender ≡ Synchronised) (up_to_is r.0 hs) r.3 in
+      let behind : state_left v sender (r.0 + 1) ≡ Synchronised = subst (λ (xs : List Happening). state_after v.scenario xs sender ≡ Synchronised)
+      (front.early (r.0 + 1) (omega (arith, le))) left in
+      let timed = synchronised_before v sender cycle (amount entry.row.offset) r.0 is (offset_in_schedule v place entry is row) reaches behind in
+      let good : IsGood v sender = subst (λ (t : ℕ). is_broken v.scenario sender t ≡ false) end owed.sender in
+      let has = has_time_at v sender r.0 (record { good = good; synchronised = timed }) in (
         r.0,
         le,
-        reaches_in v hs of_vl.sender cycle (amount entry.row.offset) r.0 is front le r.2,
-        ap (λ (xs : List Happening). if is_turned_on_at v.scenario of_vl.sender r.0 then Integrating else state_after v.scenario xs of_vl.sender)
-            (sym (front.early r.0 (omega (arith, le)))) ∙ r.3,
+        reaches,
+        state_is (is_turned_on_at v.scenario sender r.0) (state_left v sender r.0) (brings.not_on v sender r.0 is has.timed) timed,
       );
 }
 
@@ -302,7 +313,7 @@ owed_in brings v hs until vl of_vl cycle device is front owed end =
     record {
       end_system = owed.end_system;
       good = good;
-      sent = sent_in v hs until vl of_vl cycle device is front owed end reached;
+      sent = sent_in brings v hs until vl of_vl cycle device is front owed end reached;
       span = reached.span;
       place = row.place;
       entry = row.entry;
@@ -386,8 +397,8 @@ delivered_once_in brings s mark ns until run fit h g device link other cause sec
 fields_fit : (network : Network) → IsInRange network → FieldsFit network
 fields_fit network range = record {
   marker = range.marker;
-  ids = λ place vl there. (all_at (IsVlInRange network) network.vl place vl range.vls there).id;
-  types = λ place vl there. (all_at (IsVlInRange network) network.vl place vl range.vls there).ethertype_most;
+  ids = λ place vl there. (in_all (IsVlInRange network) network.vl place vl range.vls there).id;
+  types = λ place vl there. (in_all (IsVlInRange network) network.vl place vl range.vls there).ethertype_most;
 }
 
 pub owed_frames_come : Brings → OwedFramesCome

@@ -1,7 +1,6 @@
 -- The row by which a frame of the schedule enters a device.
-use Rattle.std.proofs.Common.{◌≡◌, ℕ, zero, suc, ◌%◌, ◌≤◌, ℤ, ◌≤ℤ◌, int_lt, Bool, true, false, not, ◌&&◌, ◌||◌, cond, List, [], ◌∷◌, find, Option, Some, None, nat_le, nat_lt, slice_get, refl, sym, ap, subst, ◌∙◌, arith}
-use Rattle.std.proofs.lemmas.Bool.{eq-eqb, eqb-true, le-leb, le-ltb}
-use Rattle.std.proofs.lemmas.Int.{ints}
+use Rattle.std.proofs.Common.{◌≡◌, ℕ, zero, suc, ◌%◌, ◌≤◌, ◌≤ℤ◌, int_lt, Bool, true, false, not, ◌&&◌, ◌||◌, cond, List, [], ◌∷◌, find, Option, Some, None, nat_le, nat_lt, slice_get, refl, sym, ap, subst, ◌∙◌}
+use Rattle.std.proofs.lemmas.Bool.{eq-eqb, eqb-true, le-leb, le-ltb, not_from_true}
 use Rattle.std.specs.Option.{option_map_or}
 use Rattle.std.specs.Prelude.{◌==◌, option_map, option_and_then}
 use Rattle.net_plan.specs.Places.{link_at}
@@ -11,10 +10,10 @@ use Rattle.net_plan.specs.declared.network.Network.{Network}
 use Rattle.net_plan.specs.declared.tables.Link.{Link}
 use Rattle.net_plan.specs.declared.tables.Row.{Row}
 use Rattle.net_plan.specs.declared.tables.VirtualLink.{VirtualLink}
-use Rattle.net_plan.specs.declared.tables.Way.TheVariants.{Up, Down}
 use Rattle.net_plan.specs.declared.tables.Way.{Way}
 use Rattle.pcf_codec.specs.EtherType.{least_type}
 use Rattle.pcf_codec.specs.Fields.{field}
+use Rattle.run_law.proofs.scenario.Ways.{way_itself}
 use Rattle.run_law.specs.declared.judgement.Reason.{Reason}
 use Rattle.run_law.specs.device.Standpoints.{Standpoint, clock_of, cycle_at, offset_in_cycle}
 use Rattle.run_law.specs.device.States.{is_synchronised}
@@ -24,6 +23,8 @@ use Rattle.schedule_tables.specs.Entries.{IsEntry}
 use Rattle.schedule_tables.specs.Rules.{KeepsRules}
 use Rattle.schedule_tables.specs.Windows.{OccursIn, window_of}
 use Rattle.schedule_tables.specs.declared.entry.Entry.{Entry}
+use Rattle.tte_lemmas.proofs.Integers.{not_below}
+use Rattle.tte_lemmas.proofs.Lists.{found_passes}
 use Rattle.traffic_law.proofs.delivery.Coming.{same_id}
 use Rattle.traffic_law.proofs.delivery.Faultless.{entering}
 use Rattle.traffic_law.proofs.schedule.Rows.{rows_go_once}
@@ -39,11 +40,6 @@ found_some {X} p (y ∷ xs) (suc k) x e hit =
       | true ↦ (y, refl)
       | false ↦ found_some p xs k x e hit
     ]
-
--- a way is itself
-own_way : (w : Way) → is_way w w ≡ true
-own_way Up = refl
-own_way Down = refl
 
 -- a row with its virtual link and its link has an entry
 entry_some : (network : Network) (device : DeviceId) (link : LinkId) (id : ℕ) (row : Row) → row_entering network device link id ≡ Some row
@@ -62,15 +58,6 @@ entry_some network device link id row found named l at =
           ∙ ap (λ (o : Option Link). option_map (λ y. let e : Entry = record { row = row; vl = vl; link = y } in e) o) at,
     )
 
--- what is found passes the test
-found_passes : {X : Type 0} (p : X → Bool) (xs : List X) (x : X) → find p xs ≡ Some x → p x ≡ true
-found_passes p [] x e = absurd cc
-found_passes {X} p (y ∷ xs) x e =
-    elim (p y) as (λ b. p y ≡ b → cond b (Some y) (find p xs) ≡ Some x → p x ≡ true) [
-      | true ↦ λ at is. (let same : y ≡ x = cc in ap p (sym same) ∙ at)
-      | false ↦ λ at is. found_passes p xs x is
-    ] refl e
-
 -- the entry by which a frame of a row's virtual link enters by the row's link is the row's
 pub enters_by : (network : Network) (device : DeviceId) (link : LinkId) (place : ℕ) (entry : Entry) → KeepsRules network → IsEntry network place entry
     → entry.row.link ≡ link → way_to network device link ≡ entry.row.way
@@ -80,7 +67,7 @@ enters_by network device link place entry keeps row by way =
     let named : is_row_with network id entry.row ≡ true = ap (λ (o : Option VirtualLink). option_map_or (λ vl. vl.id == id) o false) row.vl
     ∙ eq-eqb id id refl in
     let links : (link.0 == entry.row.link.0) ≡ true = eq-eqb link.0 entry.row.link.0 (ap (λ (l : LinkId). l.0) (sym by)) in
-    let ways : is_way (way_to network device link) entry.row.way ≡ true = ap (λ (w : Way). is_way w entry.row.way) way ∙ own_way entry.row.way in
+    let ways : is_way (way_to network device link) entry.row.way ≡ true = ap (λ (w : Way). is_way w entry.row.way) way ∙ way_itself entry.row.way in
     let test : (is_way_of link (way_to network device link) entry.row.link entry.row.way && is_row_with network id entry.row) ≡ true = rw (links, ways, named)
     refl in
     let found = found_some (λ (r : Row). is_way_of link (way_to network device link) r.link r.way && is_row_with network id r) network.row place entry.row
@@ -107,23 +94,14 @@ skip : (b : Bool) (x : Bool × Reason) (o : Option (Bool × Reason)) → b ≡ f
 skip true x o e = absurd cc
 skip false x o e = refl
 
--- what is true is not false
-turned : (b : Bool) → b ≡ true → not b ≡ false
-turned true e = refl
-turned false e = absurd cc
-
--- a number that is no less than another fails the test
-not_below : (a b : ℤ) → b ≤ℤ a → int_lt a b ≡ false
-not_below a b h = grind (arith, ints)
-
 -- octets of the network, for a synchronised device, have no fault
 pub octets_sound : (network : Network) (at : Standpoint) (octets : List ℕ) → at.takes_part ≡ true → least_type ≤ field 12 2 octets
     → is_synchronised at.state ≡ true → field 0 4 octets ≡ network.marker → octets_fault network at octets ≡ None
 octets_sound network at octets part type timed marker =
-    skip (not at.takes_part) _ _ (turned at.takes_part part)
+    skip (not at.takes_part) _ _ (not_from_true at.takes_part part)
     ∙ skip (nat_lt (field 12 2 octets) least_type) _ _ (le-ltb (field 12 2 octets) least_type type)
-    ∙ skip (not (is_synchronised at.state)) _ _ (turned (is_synchronised at.state) timed)
-    ∙ skip (not (field 0 4 octets == network.marker)) _ _ (turned (field 0 4 octets == network.marker) (eq-eqb (field 0 4 octets) network.marker marker))
+    ∙ skip (not (is_synchronised at.state)) _ _ (not_from_true (is_synchronised at.state) timed)
+    ∙ skip (not (field 0 4 octets == network.marker)) _ _ (not_from_true (field 0 4 octets == network.marker) (eq-eqb (field 0 4 octets) network.marker marker))
 
 -- a frame of the row, in the row's window, has none
 pub row_sound : (network : Network) (at : Standpoint) (entry : Entry) (size : ℕ) (last : Option ℕ) → size ≡ entry.vl.length
@@ -139,9 +117,9 @@ row_sound network at entry size last whole occurs from to anew =
     let early : (not (occurs_in entry.vl (cycle_at network (clock_of at))) || int_lt (offset_in_cycle network (clock_of at)) (window_of network entry).from.0) ≡
     false =
     neither (not (occurs_in entry.vl (cycle_at network (clock_of at)))) (int_lt (offset_in_cycle network (clock_of at)) (window_of network entry).from.0)
-    (turned (occurs_in entry.vl (cycle_at network (clock_of at))) happens)
+    (not_from_true (occurs_in entry.vl (cycle_at network (clock_of at))) happens)
     (not_below (offset_in_cycle network (clock_of at)) (window_of network entry).from.0 from) in
-    skip (not (size == entry.vl.length)) _ _ (turned (size == entry.vl.length) (eq-eqb size entry.vl.length whole))
+    skip (not (size == entry.vl.length)) _ _ (not_from_true (size == entry.vl.length) (eq-eqb size entry.vl.length whole))
     ∙ skip (not (occurs_in entry.vl (cycle_at network (clock_of at))) || int_lt (offset_in_cycle network (clock_of at)) (window_of network entry).from.0) _ _
     early
     ∙ skip (int_lt (window_of network entry).to.0 (offset_in_cycle network (clock_of at))) _ _

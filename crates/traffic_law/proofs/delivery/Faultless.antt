@@ -1,20 +1,20 @@
 -- What a device has found of a frame of the schedule that it takes.
-use Rattle.std.proofs.Common.{◌≡◌, ◌⊎◌, ℕ, suc, ◌%◌, ℤ, ◌≤ℤ◌, int_lt, Bool, true, false, not, ◌&&◌, ◌||◌, cond, List, [], ◌∷◌, length, find, Option, Some, None, nat_le, slice_get, inl, inr, refl, sym, ap, ◌∙◌, arith}
-use Rattle.std.proofs.lemmas.Bool.{eqb-true, leb-true}
-use Rattle.std.proofs.lemmas.Int.{ints}
+use Rattle.std.proofs.Common.{◌≡◌, ◌⊎◌, ℕ, ◌%◌, ◌≤ℤ◌, int_lt, Bool, true, false, not, ◌&&◌, ◌||◌, List, length, Option, Some, None, nat_le, slice_get, inl, inr, refl, sym, ap, ◌∙◌}
+use Rattle.std.proofs.lemmas.Bool.{and_parts, eqb-true, leb-true, not-false, or_parts}
 use Rattle.std.specs.Option.{option_map_or}
-use Rattle.std.specs.Prelude.{◌==◌, option_map, option_and_then, if◌then◌else◌}
+use Rattle.std.specs.Prelude.{◌==◌, option_and_then, if◌then◌else◌}
+use Rattle.net_plan.proofs.SameIds.{one_link}
 use Rattle.net_plan.specs.Places.{link_at}
 use Rattle.net_plan.specs.declared.ids.DeviceId.{DeviceId}
 use Rattle.net_plan.specs.declared.ids.LinkId.{LinkId}
 use Rattle.net_plan.specs.declared.ids.VlId.{VlId}
 use Rattle.net_plan.specs.declared.network.Network.{Network}
-use Rattle.net_plan.specs.declared.tables.Link.{Link}
 use Rattle.net_plan.specs.declared.tables.Row.{Row}
 use Rattle.net_plan.specs.declared.tables.VirtualLink.{VirtualLink}
-use Rattle.net_plan.specs.declared.tables.Way.TheVariants.{Up, Down}
-use Rattle.net_plan.specs.declared.tables.Way.{Way}
 use Rattle.pcf_codec.specs.Fields.{field}
+use Rattle.run_law.proofs.control.Verdicts.{none_first}
+use Rattle.run_law.proofs.device.States.{is_in}
+use Rattle.run_law.proofs.scenario.Ways.{one_way}
 use Rattle.run_law.specs.declared.judgement.Reason.{Reason}
 use Rattle.run_law.specs.declared.steps.Arrival.TheVariants as arrivals
 use Rattle.run_law.specs.declared.steps.Arrival.{Arrival}
@@ -23,34 +23,13 @@ use Rattle.run_law.specs.device.States.{is_synchronised}
 use Rattle.run_law.specs.scenario.Devices.{is_end}
 use Rattle.run_law.specs.scenario.Ways.{is_way, is_way_of, way_to}
 use Rattle.run_law.specs.timed.Arrivals.{entry_arrival, entry_entering, entry_of, is_row_with, is_taken_in, occurs_in, octets_fault, octets_or_fault, row_entering, row_fault, taken_or_fault, timed_arrival}
+use Rattle.schedule_tables.proofs.Entries.{entry_by}
 use Rattle.schedule_tables.specs.Entries.{IsEntry}
 use Rattle.schedule_tables.specs.Windows.{OccursIn, window_of}
 use Rattle.schedule_tables.specs.declared.entry.Entry.{Entry}
-use Rattle.sync_state.specs.declared.state.State.TheVariants.{Off, Integrating, Joining, Synchronised}
-use Rattle.sync_state.specs.declared.state.State.{State}
-
--- ---- tests
-
--- both parts of a test
-both_true : (x y : Bool) → (x && y) ≡ true → (x ≡ true) × (y ≡ true)
-both_true true y e = (refl, e)
-both_true false y e = absurd cc
-
--- both parts of a test that fails
-either_false : (x y : Bool) → (x || y) ≡ false → (x ≡ false) × (y ≡ false)
-either_false true y e = absurd cc
-either_false false y e = (refl, e)
-
--- what is not false
-pub not_false : (x : Bool) → not x ≡ false → x ≡ true
-not_false true e = refl
-not_false false e = absurd cc
-
--- where no reason is the first, its test fails and no later one is
-pub none_first : (b : Bool) (x : Bool × Reason) (o : Option (Bool × Reason)) → option_map (λ test. test.1) (cond b (Some x) o) ≡ None → (b ≡ false)
-    × (option_map (λ test. test.1) o ≡ None)
-none_first true x o e = absurd cc
-none_first false x o e = (refl, e)
+use Rattle.sync_state.specs.declared.state.State.TheVariants.{Synchronised}
+use Rattle.tte_lemmas.proofs.Integers.{not_less}
+use Rattle.tte_lemmas.proofs.Lists.{find_at}
 
 -- ---- the row
 
@@ -62,14 +41,10 @@ pub record IsFaultless (network : Network) (at : Standpoint) (entry : Entry) (si
   pub not_behind : offset_in_cycle network (clock_of at) ≤ℤ (window_of network entry).to.0
   pub anew : is_taken_in (cycle_at network (clock_of at)) last ≡ false
 
--- a number that fails the test is no less
-pub not_less : (a b : ℤ) → int_lt a b ≡ false → b ≤ℤ a
-not_less a b h = grind (arith, ints)
-
 -- the test that a virtual link occurs
 occurs_so : (vl : VirtualLink) (cycle : ℕ) → occurs_in vl cycle ≡ true → OccursIn vl cycle
 occurs_so vl cycle e =
-    let parts = both_true (nat_le 1 cycle) (cycle % vl.period == vl.phase) e in
+    let parts = and_parts (nat_le 1 cycle) (cycle % vl.period == vl.phase) e in
     record { begun = leb-true 1 cycle parts.0; in_phase = eqb-true (cycle % vl.period) vl.phase parts.1 }
 
 -- where no fault is found there is none
@@ -81,11 +56,11 @@ faultless network at entry size last e =
     || int_lt (offset_in_cycle network (clock_of at)) (window_of network entry).from.0) _ _ one.1 in
     let three = none_first (int_lt (window_of network entry).to.0 (offset_in_cycle network (clock_of at))) _ _ two.1 in
     let four = none_first (is_taken_in (cycle_at network (clock_of at)) last) _ _ three.1 in
-    let early = either_false (not (occurs_in entry.vl (cycle_at network (clock_of at))))
+    let early = or_parts (not (occurs_in entry.vl (cycle_at network (clock_of at))))
     (int_lt (offset_in_cycle network (clock_of at)) (window_of network entry).from.0) two.0 in
     record {
-      whole = eqb-true size entry.vl.length (not_false (size == entry.vl.length) one.0);
-      occurs = occurs_so entry.vl (cycle_at network (clock_of at)) (not_false (occurs_in entry.vl (cycle_at network (clock_of at))) early.0);
+      whole = eqb-true size entry.vl.length (not-false (size == entry.vl.length) one.0);
+      occurs = occurs_so entry.vl (cycle_at network (clock_of at)) (not-false (occurs_in entry.vl (cycle_at network (clock_of at))) early.0);
       not_before = not_less (offset_in_cycle network (clock_of at)) (window_of network entry).from.0 early.1;
       not_behind = not_less (window_of network entry).to.0 (offset_in_cycle network (clock_of at)) three.0;
       anew = four.0;
@@ -99,13 +74,6 @@ pub record AreFaultless (network : Network) (at : Standpoint) (octets : List ℕ
   pub synchronised : at.state ≡ Synchronised
   pub marker : field 0 4 octets ≡ network.marker
 
--- the test of the state
-pub synchronised_so : (state : State) → is_synchronised state ≡ true → state ≡ Synchronised
-synchronised_so Off e = absurd cc
-synchronised_so Integrating e = absurd cc
-synchronised_so Joining e = absurd cc
-synchronised_so Synchronised e = refl
-
 -- where no fault is found in the octets there is none
 pub octets_faultless : (network : Network) (at : Standpoint) (octets : List ℕ) → octets_fault network at octets ≡ None → AreFaultless network at octets
 octets_faultless network at octets e =
@@ -114,21 +82,12 @@ octets_faultless network at octets e =
     let three = none_first (not (is_synchronised at.state)) _ _ two.1 in
     let four = none_first (not (field 0 4 octets == network.marker)) _ _ three.1 in
     record {
-      takes_part = not_false at.takes_part one.0;
-      synchronised = synchronised_so at.state (not_false (is_synchronised at.state) three.0);
-      marker = eqb-true (field 0 4 octets) network.marker (not_false (field 0 4 octets == network.marker) four.0);
+      takes_part = not-false at.takes_part one.0;
+      synchronised = is_in at.state (not-false (is_synchronised at.state) three.0);
+      marker = eqb-true (field 0 4 octets) network.marker (not-false (field 0 4 octets == network.marker) four.0);
     }
 
 -- ---- the row by which a frame enters
-
--- what is found is at a place and passes the test
-find_at : {X : Type 0} (p : X → Bool) (xs : List X) (x : X) → find p xs ≡ Some x → (i : ℕ) × (slice_get xs i ≡ Some x) × (p x ≡ true)
-find_at p [] x e = absurd cc
-find_at {X} p (y ∷ xs) x e =
-    elim (p y) as (λ b. p y ≡ b → cond b (Some y) (find p xs) ≡ Some x → (i : ℕ) × (slice_get (y ∷ xs) i ≡ Some x) × (p x ≡ true)) [
-      | true ↦ λ at is. (let same : y ≡ x = cc in (0, is, ap p (sym same) ∙ at))
-      | false ↦ λ at is. (let more = find_at p xs x is in (suc more.0, more.1, more.2))
-    ] refl e
 
 -- the row with its virtual link and its link
 pub record IsEntering (network : Network) (device : DeviceId) (link : LinkId) (id : ℕ) (entry : Entry) : Type 0 where
@@ -137,30 +96,6 @@ pub record IsEntering (network : Network) (device : DeviceId) (link : LinkId) (i
   pub by : entry.row.link ≡ link
   pub on_way : entry.row.way ≡ way_to network device link
   pub id_is : entry.vl.id ≡ id
-
--- the id of a link
-one_link : (a b : LinkId) → (a.0 == b.0) ≡ true → b ≡ a
-one_link a b e = ap (λ (n : ℕ). let x : LinkId = record { 0 = n } in x) (sym (eqb-true a.0 b.0 e))
-
--- the test of ways
-one_way : (a b : Way) → is_way a b ≡ true → b ≡ a
-one_way Up Up e = refl
-one_way Up Down e = absurd cc
-one_way Down Up e = absurd cc
-one_way Down Down e = refl
-
--- an entry is made of its row, its virtual link and its link
-entry_by : (o : Option VirtualLink) (p : Option Link) (row : Row) (entry : Entry)
-    → option_and_then (λ vl. option_map (λ link. record { row = row; vl = vl; link = link }) p) o ≡ Some entry → (o ≡ Some entry.vl) × (p ≡ Some entry.link)
-    × (row ≡ entry.row)
-entry_by None p row entry e = absurd cc
-entry_by (Some vl) None row entry e = absurd cc
-entry_by (Some vl) (Some link) row entry e =
-    let same : _ ≡ entry = some_same e in
-    (ap (λ (x : Entry). Some x.vl) same, ap (λ (x : Entry). Some x.link) same, ap (λ (x : Entry). x.row) same)
-  where
-    some_same : {x : Entry} → Some x ≡ Some entry → x ≡ entry
-    some_same e = cc
 
 -- the entry by which a frame enters is found so
 pub entering : (network : Network) (device : DeviceId) (link : LinkId) (id : ℕ) (entry : Entry) → entry_entering network device link id ≡ Some entry
@@ -177,8 +112,8 @@ entering network device link id entry e = by (row_entering network device link i
     by (Some row) found e =
         let at = find_at (λ (r : Row). is_way_of link (way_to network device link) r.link r.way && is_row_with network id r) network.row row found in
         let parts = entry_by (slice_get network.vl row.vl.0) (link_at network row.link) row entry e in
-        let tests = both_true (is_way_of link (way_to network device link) row.link row.way) (is_row_with network id row) at.2 in
-        let ways = both_true (link.0 == row.link.0) (is_way (way_to network device link) row.way) tests.0 in
+        let tests = and_parts (is_way_of link (way_to network device link) row.link row.way) (is_row_with network id row) at.2 in
+        let ways = and_parts (link.0 == row.link.0) (is_way (way_to network device link) row.way) tests.0 in
         let same = parts.2 in
         record {
           place = at.0;

@@ -1,13 +1,13 @@
 -- What a frame of the schedule shows.
-use Rattle.std.proofs.Common.{◌≡◌, ℕ, ◌^◌, ◌<◌, List, [], ◌++◌, length, drop, replicate, inl, inr, refl, sym, ap, ◌∙◌, ◌-◌, append_assoc, length-append, arith}
-use Rattle.std.proofs.Math.Seq.{drop-append_seam}
-use Rattle.byteorder.specs.Endian.{big_bytes, big_number}
-use Rattle.byteorder.specs.Numbers.{big_number-reads_back, length-bytes_high_first}
+use Rattle.std.proofs.Common.{◌≡◌, ℕ, ◌^◌, ◌<◌, List, [], ◌++◌, length, replicate, inl, inr, refl, sym, ap, ◌∙◌, ◌-◌, append_assoc, length-append, arith}
+use Rattle.byteorder.specs.Endian.{big_bytes}
+use Rattle.byteorder.specs.Numbers.{length-bytes_high_first}
 use Rattle.net_plan.specs.declared.ids.DeviceId.{DeviceId}
 use Rattle.net_plan.specs.declared.ids.LinkId.{LinkId}
 use Rattle.net_plan.specs.declared.ids.VlId.{VlId}
 use Rattle.net_plan.specs.declared.network.Network.{Network}
 use Rattle.net_plan.specs.declared.tables.VirtualLink.{VirtualLink}
+use Rattle.pcf_codec.proofs.Numbers.{read_behind}
 use Rattle.pcf_codec.specs.Fields.{field}
 use Rattle.precision_law.specs.Views.{IsView, View}
 use Rattle.run_law.specs.records.Frames.{mac_of, tt_frame_by}
@@ -16,13 +16,6 @@ use Rattle.traffic_law.proofs.delivery.Taken.{takings_are_so}
 use Rattle.traffic_law.proofs.delivery.Whole.{octets_come_so, same_vl}
 use Rattle.traffic_law.specs.Dispatched.{IsRowDispatch}
 use Rattle.traffic_law.specs.Fits.{FieldsFit}
-
--- a number that was written behind some octets is read there
-read_behind : (front rest : List ℕ) (at size x : ℕ) → length front ≡ at → x < 256 ^ size → field at size (front ++ (big_bytes size x ++ rest)) ≡ x
-read_behind front rest at size x is less =
-    ap (λ (n : ℕ). big_number size (drop n (front ++ (big_bytes size x ++ rest)))) (sym is)
-    ∙ ap (big_number size) (drop-append_seam front (big_bytes size x ++ rest))
-    ∙ big_number-reads_back size x rest less
 
 -- the parts of the frame
 abbrev marker_part : Network → List ℕ

@@ -1,10 +1,11 @@
 -- A dispatched frame that comes to a synchronised device is taken, or one was taken before.
-use Rattle.std.proofs.Common.{◌≡◌, ◌≢◌, ◌⊎◌, ℕ, ◌+◌, ◌<◌, ◌≤◌, pos, ◌+ℤ◌, Bool, true, false, not, ◌&&◌, ◌||◌, List, [], ◌∷◌, ◌++◌, length, filter, Option, Some, None, nat_lt, inl, inr, refl, sym, ap, subst, ◌∙◌, arith}
-use Rattle.std.proofs.lemmas.Bool.{eq-eqb, eqb-true, ltb-true, ne_eqb}
+use Rattle.std.proofs.Common.{◌≡◌, ◌≢◌, ℕ, ◌+◌, ◌<◌, ◌≤◌, pos, ◌+ℤ◌, Bool, true, false, not, ◌&&◌, ◌||◌, List, [], ◌∷◌, ◌++◌, length, filter, Option, Some, None, nat_lt, inl, inr, refl, sym, ap, subst, ◌∙◌, arith}
+use Rattle.std.proofs.lemmas.Bool.{and_parts, eq-eqb, eqb-true, ltb-true, ne_eqb, or_cases}
 use Rattle.std.proofs.lemmas.Int.{ints}
 use Rattle.std.specs.List.{last_or}
 use Rattle.std.specs.Option.{option_map_or}
 use Rattle.std.specs.Prelude.{◌==◌, option_map, option_and_then, if◌then◌else◌}
+use Rattle.net_plan.proofs.SameIds.{one_device}
 use Rattle.net_plan.specs.Bounds.{gamma_of}
 use Rattle.net_plan.specs.Places.{link_at}
 use Rattle.net_plan.specs.declared.ids.DeviceId.{DeviceId}
@@ -15,11 +16,13 @@ use Rattle.net_plan.specs.declared.tables.Link.{Link}
 use Rattle.net_plan.specs.declared.tables.Way.TheVariants.{Up, Down}
 use Rattle.net_plan.specs.declared.tables.Way.{Way}
 use Rattle.pcf_codec.specs.Fields.{field}
-use Rattle.precision_law.proofs.records.Times.{passes}
+use Rattle.precision_law.proofs.records.Points.{last_in}
 use Rattle.precision_law.proofs.records.Views.{room}
 use Rattle.precision_law.specs.Sizes.{Sizes}
 use Rattle.precision_law.specs.Views.{IsGood, IsView, View}
-use Rattle.run_law.proofs.law.FirstPlaces.{IsSplit, by_number, due_is_there, front_founded, in_filter, in_front_of, same_earlier, split}
+use Rattle.run_law.proofs.law.FirstPlaces.{due_is_there, in_filter, same_earlier, split}
+use Rattle.run_law.proofs.law.FirstSent.{found_before}
+use Rattle.run_law.proofs.records.Order.{has_passed}
 use Rattle.run_law.proofs.runs.Places.{in_left}
 use Rattle.run_law.specs.control.Wires.{Arrives, launched, timed}
 use Rattle.run_law.specs.declared.note.Note.{Note}
@@ -34,7 +37,6 @@ use Rattle.run_law.specs.records.Happenings.{Happening, earlier, happening, numb
 use Rattle.run_law.specs.records.Order.{IsIn}
 use Rattle.run_law.specs.records.Ranks.{place_of}
 use Rattle.run_law.specs.runs.DueRecords.{IsCaused, IsDue}
-use Rattle.run_law.specs.runs.Runs.{IsFounded}
 use Rattle.run_law.specs.scenario.Devices.{is_end}
 use Rattle.run_law.specs.scenario.Scenarios.{Scenario, is_broken, is_turned_on_at}
 use Rattle.run_law.specs.scenario.Ways.{receiver_of, way_from}
@@ -55,7 +57,6 @@ use Rattle.traffic_law.proofs.delivery.Taken.{put_on, way_is}
 use Rattle.traffic_law.proofs.delivery.Whole.{dispatches_are_whole}
 use Rattle.traffic_law.proofs.ports.Ends.{ends_differ}
 use Rattle.traffic_law.proofs.schedule.Rows.{rows_are_in_time}
-use Rattle.traffic_law.proofs.spans.Corrected.{last_in}
 use Rattle.traffic_law.specs.Bringing.{BringsBlocks, BringsChannels}
 use Rattle.traffic_law.specs.Delivered.{ArrivalsAreTaken, HasTaken}
 use Rattle.traffic_law.specs.Dispatched.{IsRowDispatch}
@@ -94,26 +95,12 @@ pub record SaysSo (device : DeviceId) (vl : VlId) (cycle t : ℕ) (g : Happening
   pub says : SaysTaken g.note.body device link cause vl cycle
   pub by_then : time_of g ≤ t
 
--- both parts of a test
-pub both_true : (x y : Bool) → (x && y) ≡ true → (x ≡ true) × (y ≡ true)
-both_true true y e = (refl, e)
-both_true false y e = absurd cc
-
--- one part of a test
-either_true : (x y : Bool) → (x || y) ≡ true → (x ≡ true) ⊎ (y ≡ true)
-either_true true y e = inl refl
-either_true false y e = inr e
-
 -- what was taken before is no later
 sooner : (at t : ℕ) (more : Bool) → (nat_lt at t || (at == t && more)) ≡ true → at ≤ t
-sooner at t more e = elim (either_true (nat_lt at t) (at == t && more) e) [
+sooner at t more e = elim (or_cases (nat_lt at t) (at == t && more) e) [
   | inl lt ↦ (let less = ltb-true at t lt in omega (arith, less))
-  | inr same ↦ (let equal = eqb-true at t (both_true (at == t) more same).0 in omega (arith, equal))
+  | inr same ↦ (let equal = eqb-true at t (and_parts (at == t) more same).0 in omega (arith, equal))
 ]
-
--- the id of a device
-pub one_device : (d e : DeviceId) → (d.0 == e.0) ≡ true → e ≡ d
-one_device d e same = ap (λ (n : ℕ). let x : DeviceId = record { 0 = n } in x) (sym (eqb-true d.0 e.0 same))
 
 -- the id of a virtual link
 pub one_vl : (d e : VlId) → (d.0 == e.0) ≡ true → e ≡ d
@@ -123,8 +110,8 @@ one_vl d e same = ap (λ (n : ℕ). let x : VlId = record { 0 = n } in x) (sym (
 pub says_so : (device : DeviceId) (vl : VlId) (cycle t : ℕ) (link : LinkId) (cause : ℕ) (g : Happening) (body : NoteBody) → g.note.body ≡ body
     → is_taken_before device vl t link cause (time_of g) body ≡ true → taken_cycle body ≡ Some cycle → SaysSo device vl cycle t g
 says_so device vl cycle t link cause g (notes.Accepted other by from of_vl number) same test cycles =
-    let outer = both_true (device.0 == other.0 && vl.0 == of_vl.0) (nat_lt (time_of g) t || (time_of g == t && comes_before by from link cause)) test in
-    let inner = both_true (device.0 == other.0) (vl.0 == of_vl.0) outer.0 in
+    let outer = and_parts (device.0 == other.0 && vl.0 == of_vl.0) (nat_lt (time_of g) t || (time_of g == t && comes_before by from link cause)) test in
+    let inner = and_parts (device.0 == other.0) (vl.0 == of_vl.0) outer.0 in
     let number_is : number ≡ cycle = cc in
     record {
       link = by;
@@ -135,8 +122,8 @@ says_so device vl cycle t link cause g (notes.Accepted other by from of_vl numbe
       by_then = sooner (time_of g) t (comes_before by from link cause) outer.1;
     }
 says_so device vl cycle t link cause g (notes.Delivered other by from of_vl number) same test cycles =
-    let outer = both_true (device.0 == other.0 && vl.0 == of_vl.0) (nat_lt (time_of g) t || (time_of g == t && comes_before by from link cause)) test in
-    let inner = both_true (device.0 == other.0) (vl.0 == of_vl.0) outer.0 in
+    let outer = and_parts (device.0 == other.0 && vl.0 == of_vl.0) (nat_lt (time_of g) t || (time_of g == t && comes_before by from link cause)) test in
+    let inner = and_parts (device.0 == other.0) (vl.0 == of_vl.0) outer.0 in
     let number_is : number ≡ cycle = cc in
     record {
       link = by;
@@ -166,7 +153,7 @@ taken_before hs device t link cause vl cycle e =
         elim (last_in None (filter (λ h. is_taken_before device vl t link cause (time_of h) h.note.body) hs) g last) [
           | inl none ↦ absurd cc
           | inr i ↦
-              let test = passes (λ (h : Happening). is_taken_before device vl t link cause (time_of h) h.note.body) hs g i in (
+              let test = has_passed (λ (h : Happening). is_taken_before device vl t link cause (time_of h) h.note.body) hs g i in (
                 g,
                 in_filter (λ h. is_taken_before device vl t link cause (time_of h) h.note.body) hs g i,
                 says_so device vl cycle t link cause g g.note.body
@@ -194,13 +181,6 @@ next_note ps t body = record { number = length ps + 1; time = units_of t; body =
 pub next_due : (s : Scenario) (ps : List Happening) (t : ℕ) (body : NoteBody) → IsCaused s ps (units_of t) body
     → IsDue s ps (happening s.network ps (next_note ps t body))
 next_due s ps t body cause = record { number = refl; same = refl; begun = omega (arith, ints); cause = cause }
-
--- a record of an earlier time is among those before a place
-found_before : (s : Scenario) (hs : List Happening) (t : ℕ) (more : List ℕ) (at : IsSplit place_of hs (t ∷ more)) (h : Happening)
-    → IsFounded place_of (IsDue s) hs → IsIn h hs → time_of h < t → numbered at.front h.note.number ≡ Some h
-found_before s hs t more at h founded i less =
-    let front = front_founded place_of (IsDue s) at.front at.rest (subst (IsFounded place_of (IsDue s)) at.whole founded) in
-    by_number s at.front h front (in_front_of place_of hs (t ∷ more) at h i (inl less))
 
 -- a device that is not turned on, and that the records leave synchronised, takes part
 pub state_is : (b : Bool) (state : State) → b ≡ false → state ≡ Synchronised → (if b then Integrating else state) ≡ Synchronised

@@ -1,9 +1,10 @@
 -- On the sound channel each row of a virtual link dispatches its frame.
 use Rattle.std.proofs.Common.{◌≡◌, ◌≢◌, ◌⊎◌, ℕ, zero, suc, ◌+◌, ◌*◌, ◌<◌, ◌≤◌, pos, Bool, true, List, [], ◌∷◌, filter, Option, Some, None, slice_get, inl, inr, refl, sym, ap, subst, ◌∙◌, arith}
-use Rattle.std.proofs.lemmas.Bool.{cases_lt, eq-eqb}
+use Rattle.std.proofs.lemmas.Bool.{and_parts, cases_lt, eq-eqb}
 use Rattle.std.proofs.lemmas.Int.{ints}
 use Rattle.std.specs.List.{last_or}
 use Rattle.std.specs.Prelude.{◌==◌, if◌then◌else◌}
+use Rattle.net_plan.proofs.SameIds.{one_device}
 use Rattle.net_plan.specs.Places.{link_at, IsSwitchOf}
 use Rattle.net_plan.specs.declared.ids.DeviceId.{DeviceId}
 use Rattle.net_plan.specs.declared.ids.LinkId.{LinkId}
@@ -12,14 +13,17 @@ use Rattle.net_plan.specs.declared.tables.Link.{Link}
 use Rattle.net_plan.specs.declared.tables.VirtualLink.{VirtualLink}
 use Rattle.precision_law.proofs.clocks.Epochs.{clocks_reach_sharply}
 use Rattle.precision_law.proofs.law.Together.{before_narrow}
-use Rattle.precision_law.proofs.records.Times.{in_earlier, in_kept, is_earlier, last_some, passes}
+use Rattle.precision_law.proofs.records.Points.{last_in}
+use Rattle.precision_law.proofs.records.Times.{in_kept, last_some}
 use Rattle.precision_law.proofs.records.Views.{room, steady}
 use Rattle.precision_law.specs.Blocks.{state_left}
 use Rattle.precision_law.specs.Epochs.{last_setting}
 use Rattle.precision_law.specs.Hulls.{Hull}
 use Rattle.precision_law.specs.Views.{IsGood, IsSoundSwitch, IsView, View}
+use Rattle.run_law.proofs.device.States.{reaches_by}
 use Rattle.run_law.proofs.law.FirstPlaces.{due_is_there, in_filter, same_earlier, split}
-use Rattle.run_law.proofs.runs.SameSteps.{same_some}
+use Rattle.run_law.proofs.records.Happenings.{from_earlier, is_earlier}
+use Rattle.run_law.proofs.records.Order.{has_passed}
 use Rattle.run_law.specs.control.Losses.{IsDispatchedOn}
 use Rattle.run_law.specs.declared.note.NoteBody.TheVariants as notes
 use Rattle.run_law.specs.declared.note.NoteBody.{NoteBody}
@@ -34,6 +38,7 @@ use Rattle.run_law.specs.scenario.Faults.{IsLinkOf}
 use Rattle.run_law.specs.scenario.Scenarios.{is_turned_on_at}
 use Rattle.run_law.specs.scenario.Ways.{way_from}
 use Rattle.run_law.specs.timed.Dispatching.{HasAtHand, is_accepted, last_accepted}
+use Rattle.schedule_tables.proofs.Entries.{same_or_other}
 use Rattle.schedule_tables.proofs.EntryLemmas.{in_range}
 use Rattle.schedule_tables.specs.Entries.{IsEntry, IsOnChannel, source_of, target_of}
 use Rattle.schedule_tables.specs.Windows.{OccursIn, window_end}
@@ -42,15 +47,14 @@ use Rattle.schedule_tables.specs.declared.rule.Rule.TheVariants.{Forwarding, Sou
 use Rattle.sync_state.specs.declared.state.State.TheVariants.{Integrating, Synchronised}
 use Rattle.traffic_law.proofs.delivery.Arriving.{delay_lies, frames_arrive_in_spans}
 use Rattle.traffic_law.proofs.delivery.Coming.{dispatches_begin, spans_are_apart, takings_come_by_rows}
-use Rattle.traffic_law.proofs.delivery.Receiving.{arrivals_are_taken, both_true, one_device, one_vl, next_due, next_note, state_is}
+use Rattle.traffic_law.proofs.delivery.Receiving.{arrivals_are_taken, one_vl, next_due, next_note, state_is}
 use Rattle.traffic_law.proofs.delivery.Taken.{takings_are_so}
 use Rattle.traffic_law.proofs.delivery.Takers.{switch_accepts}
 use Rattle.traffic_law.proofs.faults.Channels.{source_on, switch_channel, switch_no_end, target_on}
 use Rattle.traffic_law.proofs.ports.Cycles.{same_hull}
-use Rattle.traffic_law.proofs.ports.Dispatched.{cycle_is, dispatches_are_in_spans, dispatches_are_of_rows, offset_in_schedule, one_clock, same_reach}
-use Rattle.traffic_law.proofs.ports.Ends.{closed}
-use Rattle.traffic_law.proofs.schedule.Rows.{rows_are_in_time, rows_go_once, same_or_other}
-use Rattle.traffic_law.proofs.spans.Corrected.{earlier_founded, in_places, last_in, last_of}
+use Rattle.traffic_law.proofs.ports.Dispatched.{cycle_is, dispatches_are_in_spans, dispatches_are_of_rows, offset_in_schedule, one_clock}
+use Rattle.traffic_law.proofs.schedule.Rows.{rows_are_in_time, rows_go_once}
+use Rattle.traffic_law.proofs.spans.Corrected.{earlier_founded, in_places, last_of}
 use Rattle.traffic_law.proofs.spans.Forward.{synchronised_stay_so}
 use Rattle.traffic_law.proofs.spans.Reaching.{set_before, values_are_reached}
 use Rattle.traffic_law.proofs.spans.Spans.{has_time_at}
@@ -62,6 +66,7 @@ use Rattle.traffic_law.specs.Fits.{FieldsFit}
 use Rattle.traffic_law.specs.Passed.{arrives_at}
 use Rattle.traffic_law.specs.Senders.{SendersAreBroken, TimedAreNotTurnedOn}
 use Rattle.traffic_law.specs.Spans.{IsInSpan, IsTimedAt, ReachesInSpan}
+use Rattle.tte_lemmas.proofs.Options.{closed, one as same_some}
 use Rattle.tte_units.specs.Amount.{amount}
 
 -- all of these at once
@@ -114,7 +119,7 @@ dispatched channels v place entry cause cycle t is can =
               ∙ can.state;
           correct = channels.correct v device t can.good can.in_run;
         };
-        reached = same_reach s v.records at.front device (pos (cycle * amount n.cycle + amount entry.row.offset)) t (sym same) reached;
+        reached = reaches_by s v.records at.front device (pos (cycle * amount n.cycle + amount entry.row.offset)) t (sym same) reached;
         at_hand = can.at_hand at.front same;
       };
       whole = channels.whole v link (way_from n device link) t is on_link can.in_run;
@@ -235,7 +240,7 @@ record IsAtHand (v : View) (device : DeviceId) (vl : VlId) (cycle t : ℕ) : Typ
 accepted_so : (device : DeviceId) (vl : VlId) (body : NoteBody) → is_accepted device vl body ≡ true → (link : LinkId) × (from : ℕ) × (cycle : ℕ)
     × (body ≡ notes.Accepted device link from vl cycle)
 accepted_so device vl (notes.Accepted other link from of_vl cycle) e =
-    let parts = both_true (device.0 == other.0) (vl.0 == of_vl.0) e in (
+    let parts = and_parts (device.0 == other.0) (vl.0 == of_vl.0) e in (
       link,
       from,
       cycle,
@@ -252,7 +257,7 @@ no_later g h (inr (inr both)) = omega (arith, both.0)
 
 -- the last of what passes a test passes it
 pub last_passes : (p : Happening → Bool) (hs : List Happening) (r : Happening) → last_or None (filter p hs) ≡ Some r → IsIn r hs × (p r ≡ true)
-last_passes p hs r e = elim (last_in None (filter p hs) r e) [ inl none ↦ absurd cc | inr i ↦ (in_filter p hs r i, passes p hs r i) ]
+last_passes p hs r e = elim (last_in None (filter p hs) r e) [ inl none ↦ absurd cc | inr i ↦ (in_filter p hs r i, has_passed p hs r i) ]
 
 -- where some pass it there is a last
 pub none_last : (p : Happening → Bool) (hs : List Happening) (g : Happening) → last_or None (filter p hs) ≡ None → IsIn g hs → p g ≡ true → ⊥
@@ -282,7 +287,7 @@ at_hand_then brings v device vl cycle t is fit good sources span g early =
     by (Some r) e =
         let test = last_passes (λ h. is_accepted device vl h.note.body) (earlier t v.records) r e in
         let says = accepted_so device vl r.note.body test.1 in
-        let there = in_earlier t v.records r test.0 in
+        let there = from_earlier t v.records r test.0 in
         let order = no_later g.taking r (last_of (λ h. is_accepted device vl h.note.body) None (earlier t v.records) r g.taking
         (in_places v.scenario [] (earlier t v.records) (earlier_founded v t is)) e among hit) in
         let one = takings_are_so v g.taking device g.link g.from vl cycle is g.there (inl g.is) in

@@ -21,7 +21,6 @@ use Rattle.precision_law.proofs.records.Points.{before_of, earlier_before, same_
 use Rattle.precision_law.specs.Views.{IsView, View}
 use Rattle.run_law.proofs.law.FirstPlaces.{IsFoundedAt, founded_at, numbered_front, numbered_in}
 use Rattle.run_law.proofs.runs.Places.{in_left}
-use Rattle.run_law.proofs.runs.SameSteps.{same_some}
 use Rattle.run_law.specs.control.Arrivals.{control_arrival, frame_fault, frame_or_fault}
 use Rattle.run_law.specs.control.Wires.{Arrives, Launch, Signal, control, launched, signal_of, time_on_port, timed}
 use Rattle.run_law.specs.declared.judgement.Reason.{Reason}
@@ -43,12 +42,13 @@ use Rattle.run_law.specs.timed.Receptions.{ArrivesAs, arrival_of, last_taken}
 use Rattle.schedule_tables.specs.Entries.{target_by}
 use Rattle.schedule_tables.specs.Rules.{KeepsRules}
 use Rattle.schedule_tables.specs.Windows.{OccursIn, window_of}
+use Rattle.sync_state.proofs.StateFacts.{up_state}
 use Rattle.sync_state.specs.declared.state.State.TheVariants.{Synchronised}
 use Rattle.traffic_law.proofs.delivery.Faultless.{TakesIn, finds_none}
-use Rattle.traffic_law.proofs.ports.Dispatched.{not_turned_on}
 use Rattle.traffic_law.proofs.ports.Ends.{ends_differ}
 use Rattle.traffic_law.specs.Spans.{shown_at}
 use Rattle.traffic_law.specs.Taken.{IsTaking, TakingsAreSo}
+use Rattle.tte_lemmas.proofs.Options.{one as same_some}
 use Rattle.tte_units.specs.declared.units.Units.{Units}
 
 -- ---- ways
@@ -176,7 +176,7 @@ of_octets v h device link cause vl cycle is i found comes_of own putting there o
     let here : octets ≡ h.octets = same ∙ sym mine in
     let way = way_is n link arrives.way device is.lawful.rules arrives.receiver in
     let shown : clock_of at ≡ shown_at v device t = ap (λ (a : Units). pos (s.reading device t) +ℤ a.0) (same_adjustment v device t found.front split) in
-    let state : state_after s (earlier t found.front) device ≡ Synchronised = not_turned_on (is_turned_on_at s device t)
+    let state : state_after s (earlier t found.front) device ≡ Synchronised = up_state (is_turned_on_at s device t)
     (state_after s (earlier t found.front) device) finds.sound.synchronised in
     let entry = finds.entry in
     let number : numbered v.records cause ≡ Some putting = subst (λ (hs : List Happening). numbered hs cause ≡ Some putting) (sym found.whole)

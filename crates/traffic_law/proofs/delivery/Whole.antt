@@ -11,11 +11,10 @@ use Rattle.net_plan.specs.Padding.{padded}
 use Rattle.net_plan.specs.declared.ids.VlId.{VlId}
 use Rattle.net_plan.specs.declared.network.Network.{Network}
 use Rattle.net_plan.specs.declared.tables.VirtualLink.{VirtualLink}
-use Rattle.precision_law.proofs.records.Points.{before_of}
-use Rattle.precision_law.proofs.records.Times.{in_earlier}
+use Rattle.precision_law.proofs.records.Points.{before_of, last_in}
 use Rattle.run_law.proofs.law.FirstPlaces.{by_number, founded_at, in_filter}
+use Rattle.run_law.proofs.records.Happenings.{from_earlier}
 use Rattle.run_law.proofs.runs.Places.{in_parts}
-use Rattle.run_law.proofs.runs.SameSteps.{same_some}
 use Rattle.run_law.specs.declared.note.NoteBody.TheVariants as notes
 use Rattle.run_law.specs.records.Frames.{mac_of, tt_frame, tt_frame_by}
 use Rattle.run_law.specs.records.Happenings.{Happening, earlier, numbered, octets_by, octets_from, time_of}
@@ -25,9 +24,9 @@ use Rattle.schedule_tables.proofs.EntryLemmas.{in_range}
 use Rattle.schedule_tables.specs.Entries.{IsEntry}
 use Rattle.schedule_tables.specs.declared.entry.Entry.{Entry}
 use Rattle.traffic_law.proofs.delivery.Taken.{from_cause, takings_are_so}
-use Rattle.traffic_law.proofs.spans.Corrected.{last_in}
 use Rattle.traffic_law.specs.Dispatched.{DispatchesAreWhole}
 use Rattle.traffic_law.specs.Passed.{OctetsComeSo}
+use Rattle.tte_lemmas.proofs.Options.{one as same_some}
 
 -- ---- the frame that a sender makes
 
@@ -96,7 +95,7 @@ octets_come_so v h device link cause vl cycle is d =
       | inr passed ↦
           let has = passed.1 in
           let taken = has.taken in
-          let there = in_earlier t v.records taken (last_there (λ g. is_accepted device d.entry.row.vl g.note.body) (earlier t v.records) taken has.last) in
+          let there = from_earlier t v.records taken (last_there (λ g. is_accepted device d.entry.row.vl g.note.body) (earlier t v.records) taken has.last) in
           let before : IsIn taken found.front = in_first found.front split.rest taken t split.later (subst (IsIn taken) split.whole there.0) there.1 in
           let at_front = by_number s found.front taken found.founded before in
           let front_number : numbered found.front cause ≡ Some taken = ap (numbered found.front) has.number ∙ at_front in

@@ -2,7 +2,7 @@
 use Rattle.std.proofs.Common.{◌≡◌, ℕ, Bool, true, false, not, Option, Some, None, is_some, slice_get, inl, inr, refl, sym, ap, subst, ◌∙◌}
 use Rattle.std.proofs.lemmas.Bool.{both_ways}
 use Rattle.std.specs.Option.{option_map_or}
-use Rattle.net_plan.specs.Places.{device_at, is_end_system, IsEndSystem, IsSwitchOf}
+use Rattle.net_plan.specs.Places.{device_at, is_end_system, IsSwitchOf}
 use Rattle.net_plan.specs.Ranges.{IsDeviceInRange, IsInRange}
 use Rattle.net_plan.specs.declared.ids.DeviceId.{DeviceId}
 use Rattle.net_plan.specs.declared.ids.VlId.{VlId}
@@ -14,17 +14,17 @@ use Rattle.net_plan.specs.declared.tables.Way.TheVariants.{Up, Down}
 use Rattle.net_plan.specs.declared.tables.Way.{Way}
 use Rattle.pcf_values.specs.declared.channel.Channel.{Channel}
 use Rattle.precision_law.specs.Views.{IsGood, IsView, View}
-use Rattle.run_law.proofs.runs.SameSteps.{same_some}
+use Rattle.run_law.proofs.scenario.Devices.{end_test}
 use Rattle.run_law.specs.scenario.Devices.{is_end}
-use Rattle.schedule_tables.proofs.EntryLemmas.{all_at}
 use Rattle.schedule_tables.specs.Entries.{IsEntry, IsOnChannel, source_by, source_of, target_by, target_of}
 use Rattle.schedule_tables.specs.Rules.{KeepsRules}
 use Rattle.schedule_tables.specs.Schedule.{IsSwitch}
 use Rattle.schedule_tables.specs.declared.entry.Entry.{Entry}
 use Rattle.schedule_tables.specs.declared.rule.Rule.TheVariants.{Joints, Sources}
-use Rattle.traffic_law.proofs.ports.Ends.{closed, opened}
 use Rattle.traffic_law.specs.Bringing.{BringsChannels}
 use Rattle.traffic_law.specs.Coming.{HasGoodSources}
+use Rattle.tte_lemmas.proofs.Lists.{in_all}
+use Rattle.tte_lemmas.proofs.Options.{closed, one as same_some, opened}
 
 -- ---- switches
 
@@ -33,7 +33,7 @@ pub switch_channel : (network : Network) (device : DeviceId) → IsInRange netwo
     × IsSwitchOf network channel device
 switch_channel network device range switch =
     let d = opened (λ (x : Device). is_end_system x.role ≡ false) (device_at network device) switch in
-    let known = all_at IsDeviceInRange network.device device.0 d.0 range.devices d.1 in
+    let known = in_all IsDeviceInRange network.device device.0 d.0 range.devices d.1 in
     by d.0.channel refl d.0 d.1 (known.switches ∙ ap not d.2)
   where
     by : (o : Option Channel) {c : Option Channel} → c ≡ o → (x : Device) → device_at network device ≡ Some x → is_some x.channel ≡ true → (channel : Channel)
@@ -49,7 +49,7 @@ pub switch_no_end : (network : Network) (channel : Channel) (device : DeviceId) 
     → is_end network device ≡ false
 switch_no_end network channel device range switch =
     let d = opened (λ (x : Device). x.channel ≡ Some channel) (device_at network device) switch in
-    let known = all_at IsDeviceInRange network.device device.0 d.0 range.devices d.1 in
+    let known = in_all IsDeviceInRange network.device device.0 d.0 range.devices d.1 in
     let some : is_some d.0.channel ≡ true = ap is_some d.2 in
     ap (λ (o : Option Device). option_map_or (λ x. is_end_system x.role) o false) d.1 ∙ back (is_end_system d.0.role) (sym known.switches ∙ some)
   where
@@ -64,12 +64,6 @@ one_channel network a b device one two =
     let e = opened (λ (x : Device). x.channel ≡ Some b) (device_at network device) two in
     let same : d.0 ≡ e.0 = same_some (device_at network device) d.0 e.0 d.1 e.1 in
     same_some d.0.channel a b d.2 (ap (λ (x : Device). x.channel) same ∙ e.2)
-
--- the end system's test
-pub end_test : (network : Network) (device : DeviceId) → IsEndSystem network device → is_end network device ≡ true
-end_test network device end =
-    let d = opened (λ (x : Device). is_end_system x.role ≡ true) (device_at network device) end in
-    ap (λ (o : Option Device). option_map_or (λ x. is_end_system x.role) o false) d.1 ∙ d.2
 
 -- ---- links
 

@@ -3,12 +3,12 @@ use Rattle.std.proofs.Common.{◌≡◌, ℕ, zero, suc, ◌<◌, ◌≤◌, Boo
 use Rattle.std.proofs.lemmas.Bool.{both_ways, le-ltb}
 use Rattle.std.proofs.lemmas.List.Sums.{fold-append}
 use Rattle.std.specs.Prelude.{◌==◌, nat_lt, if◌then◌else◌, IsSomeAnd, IsNone, option_and_then}
+use Rattle.net_plan.proofs.SameIds.{one_device}
 use Rattle.net_plan.specs.Places.{device_at}
 use Rattle.net_plan.specs.declared.event.What.TheVariants.{On}
 use Rattle.net_plan.specs.declared.ids.DeviceId.{DeviceId}
 use Rattle.net_plan.specs.declared.network.Network.{Network}
 use Rattle.net_plan.specs.declared.tables.Device.{Device}
-use Rattle.precision_law.proofs.clocks.Epochs.{same_device}
 use Rattle.precision_law.proofs.records.Times.{between, earlier_parts, in_between}
 use Rattle.precision_law.proofs.records.Views.{in_order}
 use Rattle.precision_law.specs.Blocks.{NoneLost, state_left}
@@ -85,7 +85,7 @@ leaves_by v device next h (notes.State other state cause why) is kept firm i lt 
     by : (b : Bool) → (device.0 == other.0) ≡ b → (if b then state else Synchronised) ≡ Synchronised
     by false e = refl
     by true e =
-        let own : h.note.body ≡ notes.State device state cause why = body ∙ ap (λ (d : DeviceId). notes.State d state cause why) (same_device device other e) in
+        let own : h.note.body ≡ notes.State device state cause why = body ∙ ap (λ (d : DeviceId). notes.State d state cause why) (one_device device other e) in
         let found = founded_at v.scenario v.records h is.run.founded i in
         let caused : ChangesState v.scenario found.front device (time_of h) state cause why = subst (IsCaused v.scenario found.front h.note.time) own
         found.due.cause in

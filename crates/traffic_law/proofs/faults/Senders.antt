@@ -1,19 +1,19 @@
 -- Only a broken device puts octets of its own on a link.
-use Rattle.std.proofs.Common.{◌≡◌, ℕ, ◌<◌, ◌≤◌, ◌≤ℤ◌, Bool, true, List, [], ◌∷◌, ◌++◌, Any, zero, suc, length, get_or, inl, inr, refl, sym, ap, subst, ◌∙◌, append_assoc, arith}
-use Rattle.std.proofs.lemmas.Bool.{both_ways, eq-eqb, le-leb, or_left, or_right, true_from_ne_false}
+use Rattle.std.proofs.Common.{◌≡◌, ◌≤◌, ◌≤ℤ◌, true, List, [], ◌∷◌, ◌++◌, inl, inr, refl, sym, ap, subst, ◌∙◌, append_assoc, arith}
+use Rattle.std.proofs.lemmas.Bool.{both_ways, eq-eqb, le-leb, true_from_ne_false}
 use Rattle.std.proofs.lemmas.Int.{by_lt_z, ints}
-use Rattle.std.specs.List.{list_any}
 use Rattle.std.specs.Prelude.{nat_le}
 use Rattle.net_plan.specs.Places.{link_at}
 use Rattle.net_plan.specs.declared.event.Event.{Event}
 use Rattle.net_plan.specs.declared.event.What.TheVariants as events
 use Rattle.net_plan.specs.declared.tables.Link.{Link}
+use Rattle.precision_law.proofs.Plain.{any_is}
 use Rattle.precision_law.proofs.records.Points.{within_run}
 use Rattle.precision_law.proofs.records.Times.{in_kept}
 use Rattle.run_law.proofs.law.FirstDelays.{given}
 use Rattle.run_law.proofs.law.FirstPlaces.{founded_at, in_at}
+use Rattle.run_law.proofs.records.Order.{in_any}
 use Rattle.run_law.proofs.runs.Places.{in_left, parted}
-use Rattle.run_law.proofs.runs.SameSteps.{same_some}
 use Rattle.run_law.specs.declared.outside.Outside.TheVariants.{NotBroken, Order}
 use Rattle.run_law.specs.records.Happenings.{time_of}
 use Rattle.run_law.specs.records.Order.{IsIn}
@@ -21,17 +21,9 @@ use Rattle.run_law.specs.runs.DueRecords.{IsCaused, IsEventRecord}
 use Rattle.run_law.specs.scenario.Faults.{Breaks, IsBroken}
 use Rattle.run_law.specs.scenario.Hypothesis.{AreWithinHypothesis, breaks_at}
 use Rattle.run_law.specs.scenario.Scenarios.{Scenario, events_up_to, is_broken}
-use Rattle.traffic_law.proofs.ports.Ends.{opened}
 use Rattle.traffic_law.specs.Senders.{SendersAreBroken}
+use Rattle.tte_lemmas.proofs.Options.{one, opened}
 use Rattle.tte_units.specs.Amount.{amount}
-
--- ---- lists
-
--- where one of a list passes, some does
-in_any : {X : Type 0} (p : X → Bool) (xs : List X) (x : X) → IsIn x xs → p x ≡ true → list_any p xs ≡ true
-in_any p [] x i e = absurd i
-in_any p (y ∷ xs) x (inl same) e = or_left (p y) (list_any p xs) (ap p (sym same) ∙ e)
-in_any p (y ∷ xs) x (inr more) e = or_right (p y) (list_any p xs) (in_any p xs x more e)
 
 -- ---- the order of events
 
@@ -72,15 +64,6 @@ sorted_parts (p ∷ ps) qs e f order (inr more) = sorted_parts ps qs e f order.1
 
 -- ---- who sends
 
--- what is somewhere in a list is in it
-pub from_any : {X : Type 0} (P : X → Type 0) (xs : List X) → Any P xs → (x : X) × IsIn x xs × P x
-from_any P xs any = (any.1, in_index xs any.0 any.1 any.2 any.3, any.4)
-  where
-    in_index : {X : Type 0} (xs : List X) (k : ℕ) (x : X) → k < length xs → get_or xs k x ≡ x → IsIn x xs
-    in_index [] k x lt e = absurd (omega (arith, lt))
-    in_index (y ∷ xs) zero x lt e = inl (sym e)
-    in_index (y ∷ xs) (suc k) x lt e = inr (in_index xs k x (omega (arith, lt)) e)
-
 pub senders_are_broken : SendersAreBroken
 senders_are_broken v h line link octets l is i body there =
     let s = v.scenario in
@@ -99,9 +82,9 @@ senders_are_broken v h line link octets l is i body there =
       what = sym caused.same;
       unbroken = λ known.
           let k = opened (λ (x : Link). IsBroken at.0 x.child) (link_at s.network link) known in
-          let same : k.0 ≡ l = same_some (link_at s.network link) k.0 l k.1 there in
+          let same : k.0 ≡ l = one (link_at s.network link) k.0 l k.1 there in
           let broken : IsBroken at.0 l.child = subst (λ (x : Link). IsBroken at.0 x.child) same k.2 in
-          let breaks = from_any (Breaks l.child) at.0 broken in
+          let breaks = any_is (Breaks l.child) at.0 broken in
           let b = breaks.0 in
           let in_all : IsIn b s.events = subst (IsIn b) (sym at.2) (in_left b at.0 (e ∷ at.1) breaks.1) in
           let sooner = sorted_parts at.0 at.1 e b (subst AreSorted at.2 order) breaks.1 in

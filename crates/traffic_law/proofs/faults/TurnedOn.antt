@@ -1,17 +1,16 @@
 -- A device that has the common time is not turned on.
-use Rattle.std.proofs.Common.{◌≡◌, ℕ, zero, suc, ◌<◌, Bool, true, false, ◌&&◌, ◌||◌, List, [], ◌∷◌, ◌++◌, fold, Any, Option, Some, None, inl, inr, refl, sym, ap, subst, ◌∙◌, append_assoc, arith}
+use Rattle.std.proofs.Common.{◌≡◌, ℕ, zero, suc, ◌<◌, Bool, true, false, ◌&&◌, List, [], ◌∷◌, ◌++◌, fold, Any, Option, Some, None, inl, inr, refl, sym, ap, subst, ◌∙◌, append_assoc, arith}
 use Rattle.std.proofs.lemmas.Bool.{both_ways, eqb-true, false_from_ne_true, le-ltb}
 use Rattle.std.proofs.lemmas.List.Sums.{fold-append}
-use Rattle.std.specs.List.{list_any}
 use Rattle.std.specs.Prelude.{◌==◌, nat_lt, if◌then◌else◌, IsSomeAnd, IsNone, option_and_then}
+use Rattle.net_plan.proofs.SameIds.{one_device}
 use Rattle.net_plan.specs.Places.{device_at}
 use Rattle.net_plan.specs.declared.event.Event.{Event}
 use Rattle.net_plan.specs.declared.event.What.TheVariants as events
-use Rattle.net_plan.specs.declared.event.What.{What}
 use Rattle.net_plan.specs.declared.ids.DeviceId.{DeviceId}
 use Rattle.net_plan.specs.declared.network.Network.{Network}
 use Rattle.net_plan.specs.declared.tables.Device.{Device}
-use Rattle.precision_law.proofs.clocks.Epochs.{same_device}
+use Rattle.precision_law.proofs.faults.Turned.{looking_by}
 use Rattle.precision_law.proofs.records.Points.{before_of, earlier_before}
 use Rattle.precision_law.proofs.records.Times.{between, earlier_parts, in_between}
 use Rattle.precision_law.proofs.records.Views.{in_order}
@@ -19,8 +18,9 @@ use Rattle.precision_law.specs.Blocks.{state_left}
 use Rattle.precision_law.specs.Epochs.{has_time}
 use Rattle.precision_law.specs.Views.{IsView, View}
 use Rattle.run_law.proofs.law.FirstPlaces.{IsFoundedAt, founded_at, none_kept, numbered_in}
+use Rattle.run_law.proofs.records.Order.{any_in}
 use Rattle.run_law.proofs.runs.Places.{in_left, in_parts, in_right, parted}
-use Rattle.run_law.proofs.scenario.Decisions.{any_first, any_later}
+use Rattle.run_law.proofs.scenario.Devices.{on_by}
 use Rattle.run_law.specs.declared.judgement.Judgement.TheVariants.{Integrates}
 use Rattle.run_law.specs.declared.judgement.Why.TheVariants as whys
 use Rattle.run_law.specs.declared.judgement.Why.{Why}
@@ -39,28 +39,19 @@ use Rattle.run_law.specs.scenario.Scenarios.{Scenario, is_turned_on_at, turns_on
 use Rattle.sync_state.specs.Standing.{point_in, state_at_start}
 use Rattle.sync_state.specs.declared.state.State.TheVariants.{Off, Integrating, Joining, Synchronised}
 use Rattle.sync_state.specs.declared.state.State.{State}
-use Rattle.traffic_law.proofs.spans.Forward.{joins_integrating, turned_on_by}
+use Rattle.traffic_law.proofs.spans.Forward.{turned_on_by}
 use Rattle.traffic_law.specs.Senders.{TimedAreNotTurnedOn}
+use Rattle.tte_lemmas.proofs.Lists.{any_behind, any_first}
 use Rattle.tte_units.specs.Amount.{amount}
 use Rattle.tte_units.specs.declared.units.Units.{Units}
 
 -- ---- events that turn devices on
 
--- where some passes, it is in the list
-any_in : {X : Type 0} (p : X → Bool) (xs : List X) → list_any p xs ≡ true → (x : X) × IsIn x xs × (p x ≡ true)
-any_in p [] e = absurd cc
-any_in {X} p (x ∷ xs) e = either p x xs (p x) refl e (any_in p xs)
-  where
-    either : {X : Type 0} (p : X → Bool) (x : X) (xs : List X) (b : Bool) → p x ≡ b → (b || list_any p xs) ≡ true
-        → (list_any p xs ≡ true → (y : X) × IsIn y xs × (p y ≡ true)) → (y : X) × IsIn y (x ∷ xs) × (p y ≡ true)
-    either p x xs true at s back = (x, inl refl, at)
-    either p x xs false at s back = (let r = back s in (r.0, inr r.1, r.2))
-
 -- what is in a list is somewhere there
 to_any : {X : Type 0} (P : X → Type 0) (xs : List X) (x : X) → IsIn x xs → P x → Any P xs
 to_any P [] x i p = absurd i
 to_any P (y ∷ xs) x (inl same) p = any_first P y xs (subst P same p)
-to_any P (y ∷ xs) x (inr more) p = any_later P y xs (to_any P xs x more p)
+to_any P (y ∷ xs) x (inr more) p = any_behind P y xs (to_any P xs x more p)
 
 -- the event turns the device on at the time
 record TurnsOnAt (s : Scenario) (device : DeviceId) (t : ℕ) : Type 0 where
@@ -69,17 +60,12 @@ record TurnsOnAt (s : Scenario) (device : DeviceId) (t : ℕ) : Type 0 where
   pub what : event.what ≡ events.On device
   pub at : amount event.time ≡ t
 
--- the test of such an event
-turns_it_on : (device : DeviceId) (what : What) → turns_on device what ≡ true → what ≡ events.On device
-turns_it_on device (events.On other) e = ap events.On (same_device device other e)
-turns_it_on device what e = absurd cc
-
 -- a device that is turned on has such an event
 turned_on_at : (s : Scenario) (device : DeviceId) (t : ℕ) → is_turned_on_at s device t ≡ true → TurnsOnAt s device t
 turned_on_at s device t e =
     let found = any_in (λ (x : Event). turns_on device x.what && amount x.time == t) s.events e in
     let parts = both_true (turns_on device found.0.what) (amount found.0.time == t) found.2 in
-    record { event = found.0; there = found.1; what = turns_it_on device found.0.what parts.0; at = eqb-true (amount found.0.time) t parts.1 }
+    record { event = found.0; there = found.1; what = on_by device found.0.what parts.0; at = eqb-true (amount found.0.time) t parts.1 }
   where
     both_true : (x y : Bool) → (x && y) ≡ true → (x ≡ true) × (y ≡ true)
     both_true true y e = (refl, e)
@@ -142,7 +128,7 @@ no_joining_off v device h is i off not_on =
     let same = earlier_before v (time_of h) found.front (before_of v h is found) in
     let left : state_after s (earlier (time_of h) found.front) device ≡ Off = ap (λ (xs : List Happening). state_after s xs device) same ∙ off in
     false_from_ne_true (is_joined_by device h.note.body) (λ joined.
-    let was = joins_integrating s found.front h.note.time device h.note.body joined found.due.cause in
+    let was = looking_by s found.front h.note.time device h.note.body joined found.due.cause in
     let is_off = off_before (is_turned_on_at s device (time_of h)) (state_after s (earlier (time_of h) found.front) device) not_on left in
     apart _ is_off was)
   where
@@ -205,7 +191,7 @@ stays_off_by v device h (notes.State other state cause why) is i off not_on body
         let left : state_after s (earlier (time_of h) found.front) device ≡ Off = ap (λ (xs : List Happening). state_after s xs device) same ∙ off in
         let before = off_before (is_turned_on_at s device (time_of h)) (state_after s (earlier (time_of h) found.front) device) not_on left in
         let caused : ChangesState s found.front other (time_of h) state cause why = subst (IsCaused s found.front h.note.time) body found.due.cause in
-        let own = subst (λ (d : DeviceId). ChangesState s found.front d (time_of h) state cause why) (same_device device other e) caused in
+        let own = subst (λ (d : DeviceId). ChangesState s found.front d (time_of h) state cause why) (one_device device other e) caused in
         absurd (no_change_off v device h state cause why is i off not_on found before own)
 stays_off_by v device h (notes.Permanent other link cause point Integrates) is i off not_on body joined = rw joined refl
 stays_off_by v device h (notes.Compressed other opened at cycle members Integrates) is i off not_on body joined = rw joined refl

@@ -12,6 +12,7 @@ use Rattle.pcf_codec.specs.Fields.{field}
 use Rattle.pcf_codec.specs.declared.refusal.PcfRefusal.{PcfRefusal}
 use Rattle.pcf_values.specs.declared.pcf.Pcf.{Pcf}
 use Rattle.precision_law.specs.Views.{IsView, View}
+use Rattle.run_law.proofs.control.Verdicts.{none_first}
 use Rattle.run_law.proofs.law.FirstPlaces.{IsFoundedAt}
 use Rattle.run_law.specs.control.Arrivals.{clock_on_arrival, control_arrival, frame_fault, frame_or_fault, is_cold_start, is_gate_shut, is_of_other_domain, is_of_other_member, point_on_arrival}
 use Rattle.run_law.specs.control.Wires.{Signal, control, timed}
@@ -26,7 +27,6 @@ use Rattle.run_law.specs.scenario.Devices.{is_end, is_parent_of, is_relay}
 use Rattle.run_law.specs.timed.Arrivals.{entry_arrival, entry_entering, octets_fault, octets_or_fault, row_fault, taken_or_fault, timed_arrival}
 use Rattle.run_law.specs.timed.Receptions.{arrival_of, last_taken}
 use Rattle.schedule_tables.specs.declared.entry.Entry.{Entry}
-use Rattle.traffic_law.proofs.delivery.Faultless.{none_first}
 use Rattle.tte_units.specs.Amount.{amount}
 use Rattle.tte_units.specs.declared.units.Units.{Units}
 

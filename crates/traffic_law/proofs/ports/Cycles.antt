@@ -8,7 +8,7 @@ use Rattle.precision_law.proofs.records.Views.{room}
 use Rattle.precision_law.specs.Blocks.{Stands}
 use Rattle.precision_law.specs.Hulls.{Hull, IsOverBefore, hull_of, last_correction}
 use Rattle.precision_law.specs.Views.{IsView, View}
-use Rattle.run_law.proofs.runs.SameSteps.{same_some}
+use Rattle.tte_lemmas.proofs.Options.{one as same_some}
 
 -- the block of a cycle ends at one time
 pub same_end : (v : View) (n a b : ℕ) → IsOverBefore v n a → IsOverBefore v n b → a ≡ b

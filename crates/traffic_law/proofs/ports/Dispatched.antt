@@ -1,10 +1,8 @@
 -- The records of dispatches by the schedule.
-use Rattle.std.proofs.Common.{◌≡◌, ℕ, ◌+◌, ◌*◌, ◌≤◌, ℤ, pos, ◌+ℤ◌, ◌-ℤ◌, ◌<ℤ◌, Bool, true, false, List, filter, Option, None, inl, inr, sym, ap, subst, ◌∙◌, arith}
+use Rattle.std.proofs.Common.{◌≡◌, ℕ, ◌+◌, ◌*◌, ◌≤◌, pos, ◌<ℤ◌, List, filter, Option, None, inl, inr, sym, ap, subst, ◌∙◌, arith}
 use Rattle.std.proofs.lemmas.Int.{ints}
 use Rattle.std.specs.List.{last_or}
 use Rattle.std.specs.Option.{option_map_or}
-use Rattle.std.specs.Prelude.{if◌then◌else◌}
-use Rattle.drift_clock.specs.Reach.{IsReach}
 use Rattle.net_plan.specs.declared.ids.DeviceId.{DeviceId}
 use Rattle.precision_law.proofs.clocks.Epochs.{adjustment_stays, settings_stay}
 use Rattle.precision_law.proofs.records.Points.{before_of, earlier_before, within_run}
@@ -12,18 +10,19 @@ use Rattle.precision_law.specs.Blocks.{adjustment_left}
 use Rattle.precision_law.specs.Epochs.{epoch_time}
 use Rattle.precision_law.specs.Sizes.{Sizes}
 use Rattle.precision_law.specs.Views.{IsView, View}
+use Rattle.run_law.proofs.device.States.{reaches_by}
 use Rattle.run_law.proofs.law.FirstPlaces.{founded_at}
 use Rattle.run_law.specs.declared.note.NoteBody.TheVariants as notes
-use Rattle.run_law.specs.device.LocalClocks.{Reaches, changed_at, changes_adjustment}
-use Rattle.run_law.specs.device.States.{adjustment_after, adjustment_before, state_after}
+use Rattle.run_law.specs.device.LocalClocks.{Reaches, changed_at}
+use Rattle.run_law.specs.device.States.{state_after}
 use Rattle.run_law.specs.records.Happenings.{Happening, earlier, time_of}
 use Rattle.run_law.specs.runs.DueRecords.{IsCaused}
-use Rattle.run_law.specs.scenario.Scenarios.{Scenario, is_turned_on_at}
+use Rattle.run_law.specs.scenario.Scenarios.{is_turned_on_at}
 use Rattle.run_law.specs.timed.Dispatching.{is_accepted}
 use Rattle.schedule_tables.specs.Entries.{IsEntry}
 use Rattle.schedule_tables.specs.declared.entry.Entry.{Entry}
-use Rattle.sync_state.specs.declared.state.State.TheVariants.{Integrating, Synchronised}
-use Rattle.sync_state.specs.declared.state.State.{State}
+use Rattle.sync_state.proofs.StateFacts.{up_state}
+use Rattle.sync_state.specs.declared.state.State.TheVariants.{Synchronised}
 use Rattle.traffic_law.proofs.ports.Cycles.{same_next}
 use Rattle.traffic_law.proofs.schedule.Rows.{rows_are_in_time}
 use Rattle.traffic_law.proofs.spans.Spans.{synchronised_keep_time, values_are_reached_in_spans}
@@ -35,27 +34,6 @@ use Rattle.tte_units.specs.Amount.{amount}
 use Rattle.tte_units.specs.declared.units.Units.{Units}
 
 -- ---- what the earlier records fix
-
--- where two lists have the same earlier records, the clock reaches a value in both or in none
-pub same_reach : (s : Scenario) (gs hs : List Happening) (device : DeviceId) (value : ℤ) (t : ℕ) → earlier t gs ≡ earlier t hs → Reaches s gs device value t
-    → Reaches s hs device value t
-same_reach s gs hs device value t same r =
-    let time : changed_at gs device t ≡ changed_at hs device t =
-    ap (λ (xs : List Happening). option_map_or time_of (last_or None (filter (λ h. changes_adjustment device h.note.body) xs)) 0) same in
-    let adjustment : adjustment_before s gs device t ≡ adjustment_before s hs device t = ap (λ (xs : List Happening). adjustment_after s xs device) same in
-    record {
-      below =
-          subst (λ (a : Units). (pos (s.reading device (changed_at hs device t)) +ℤ a.0) <ℤ value) adjustment
-          (subst (λ (c : ℕ). (pos (s.reading device c) +ℤ (adjustment_before s gs device t).0) <ℤ value) time r.below);
-      reach =
-          subst (λ (a : Units). IsReach (s.reading device) (pos (changed_at hs device t)) (value -ℤ a.0) (pos t)) adjustment
-          (subst (λ (c : ℕ). IsReach (s.reading device) (pos c) (value -ℤ (adjustment_before s gs device t).0) (pos t)) time r.reach);
-    }
-
--- a device that is synchronised when something comes is not just turned on
-pub not_turned_on : (b : Bool) (state : State) → (if b then Integrating else state) ≡ Synchronised → state ≡ Synchronised
-not_turned_on true state e = absurd cc
-not_turned_on false state e = e
 
 -- the length of a cycle
 pub cycle_is : (v : View) → IsView v → v.sizes.cycle ≡ amount v.scenario.network.cycle
@@ -70,7 +48,7 @@ dispatches_are_of_rows v h device link cause vl cycle is i body =
     in
     let d = caused.dispatches in
     let same = earlier_before v t found.front (before_of v h is found) in
-    let left : state_after s (earlier t found.front) device ≡ Synchronised = not_turned_on (is_turned_on_at s device t)
+    let left : state_after s (earlier t found.front) device ≡ Synchronised = up_state (is_turned_on_at s device t)
     (state_after s (earlier t found.front) device) d.up.synchronised in
     record {
       there = i;
@@ -86,7 +64,7 @@ dispatches_are_of_rows v h device link cause vl cycle is i body =
       correct = d.up.correct;
       reached =
           subst (λ (n : ℕ). Reaches s v.records device (pos (cycle * n + amount d.entry.row.offset)) t) (sym (cycle_is v is))
-          (same_reach s found.front v.records device _ t same d.reached);
+          (reaches_by s found.front v.records device _ t same d.reached);
       at_hand = elim d.at_hand [
         | inl own ↦ inl own
         | inr taken ↦ inr (

@@ -1,48 +1,23 @@
 -- The two ends of a link, and the ways on which a device sends by it.
-use Rattle.std.proofs.Common.{◌≡◌, ◌≢◌, ◌⊎◌, ℕ, List, [], ◌∷◌, Option, Some, None, IsSomeAnd, true, inr, refl, sym, ap, subst, ◌∙◌}
+use Rattle.std.proofs.Common.{◌≡◌, ◌≢◌, ◌⊎◌, ℕ, Some, true, inr, refl, sym, ap, subst, ◌∙◌}
 use Rattle.net_plan.proofs.Shape.{rules_give_trees}
-use Rattle.net_plan.specs.Paths.{IsPath, IsTree, IsUplink}
+use Rattle.net_plan.proofs.TableFacts.{no_path}
+use Rattle.net_plan.specs.Paths.{IsUplink}
 use Rattle.net_plan.specs.Places.{device_at, link_at, is_end_system, IsDeviceOf, IsSwitchOf}
-use Rattle.net_plan.specs.declared.ids.DeviceId.{DeviceId}
 use Rattle.net_plan.specs.declared.ids.LinkId.{LinkId}
 use Rattle.net_plan.specs.declared.network.Network.{Network}
 use Rattle.net_plan.specs.declared.tables.Device.{Device}
 use Rattle.net_plan.specs.declared.tables.Link.{Link}
 use Rattle.net_plan.specs.declared.tables.Way.TheVariants.{Up, Down}
 use Rattle.net_plan.specs.declared.tables.Way.{Way}
-use Rattle.pcf_values.specs.declared.channel.Channel.{Channel}
-use Rattle.run_law.proofs.runs.SameSteps.{same_some}
 use Rattle.schedule_tables.proofs.Margins.{shape_rules}
 use Rattle.schedule_tables.specs.Entries.{IsEntry, source_by, source_of}
 use Rattle.schedule_tables.specs.Rules.{KeepsRules}
 use Rattle.schedule_tables.specs.declared.entry.Entry.{Entry}
 use Rattle.schedule_tables.specs.declared.rule.Rule.TheVariants.{Joints}
-
--- ---- what is there
-
--- the value behind `IsSomeAnd`, and back
-pub opened : {X : Type 0} (P : X → Type 0) (o : Option X) → IsSomeAnd o P → (x : X) × (o ≡ Some x) × P x
-opened P None h = absurd h
-opened P (Some x) h = (x, refl, h)
-
--- and back
-pub closed : {X : Type 0} (P : X → Type 0) (o : Option X) (x : X) → o ≡ Some x → P x → IsSomeAnd o P
-closed P o x e h = subst (λ (s : Option _). IsSomeAnd s P) (sym e) h
+use Rattle.tte_lemmas.proofs.Options.{closed, one as same_some, opened}
 
 -- ---- the ends of a link
-
--- a device whose uplink leads to itself has no path
-no_path : (network : Network) (channel : Channel) (device : DeviceId) (link : LinkId) (l : Link) → IsTree network → link_at network link ≡ Some l
-    → l.parent ≡ device → IsUplink network channel device link → (links : List LinkId) → IsPath network channel device links → ⊥
-no_path network channel device link l tree at turns up [] path = tree.root channel device link path up
-no_path network channel device link l tree at turns up (k ∷ ks) path =
-    let first = opened (λ (x : Link). (x.child ≡ device) × IsSwitchOf network channel x.parent × IsPath network channel x.parent ks) (link_at network k) path in
-    let here : IsUplink network channel device k = closed (λ (x : Link). (x.child ≡ device) × IsSwitchOf network channel x.parent) (link_at network k) first.0
-    first.1 (first.2.0, first.2.1) in
-    let one = tree.one_uplink channel device k link here up in
-    let same : first.0 ≡ l = same_some (link_at network k) first.0 l first.1 (subst (λ (m : LinkId). link_at network m ≡ Some l) (sym one) at) in
-    let parent : first.0.parent ≡ device = ap (λ (x : Link). x.parent) same ∙ turns in
-    no_path network channel device link l tree at turns up ks (subst (λ (d : DeviceId). IsPath network channel d ks) parent first.2.2)
 
 -- the ends of a link are two devices
 pub ends_differ : (network : Network) (link : LinkId) (l : Link) → KeepsRules network → link_at network link ≡ Some l → l.child ≢ l.parent

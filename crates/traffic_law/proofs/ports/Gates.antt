@@ -1,32 +1,34 @@
 -- What a synchronised compression master sends was opened by a frame that passed its gate.
-use Rattle.std.proofs.Common.{◌≡◌, ℕ, zero, suc, ◌+◌, ◌*◌, ◌≤◌, ◌<◌, ℤ, pos, ◌+ℤ◌, ◌-ℤ◌, ◌≤ℤ◌, Bool, true, false, ◌&&◌, ◌||◌, List, [], ◌∷◌, ◌++◌, filter, length, Contains, get_or, Option, Some, None, MatchBool, nat_lt, inl, inr, refl, sym, ap, subst, ◌∙◌, append_assoc, int_lt, arith}
+use Rattle.std.proofs.Common.{◌≡◌, ℕ, ◌+◌, ◌*◌, ◌≤◌, ◌<◌, ℤ, pos, ◌+ℤ◌, ◌-ℤ◌, ◌≤ℤ◌, Bool, true, false, ◌&&◌, ◌||◌, List, [], ◌∷◌, ◌++◌, filter, Option, Some, None, MatchBool, nat_lt, inl, inr, refl, sym, ap, subst, ◌∙◌, append_assoc, int_lt, arith}
 use Rattle.std.proofs.lemmas.Bool.{both_ways, eqb-true, false_from_ne_true, cases_lt, le-ltb, lt-ltb}
 use Rattle.std.proofs.lemmas.Int.{ints}
 use Rattle.std.proofs.lemmas.List.Sums.{fold-append}
-use Rattle.std.specs.List.{after_last, list_any}
+use Rattle.std.specs.List.{after_last}
 use Rattle.std.specs.Option.{option_map_or}
 use Rattle.std.specs.Prelude.{◌==◌, if◌then◌else◌, option_and_then}
 use Rattle.compression.specs.Clusters.{Point, point_at}
 use Rattle.compression.specs.Emission.{emission}
 use Rattle.compression.specs.declared.compressed.Compressed.{Compressed}
 use Rattle.drift_clock.specs.Reach.{IsReach}
+use Rattle.net_plan.proofs.SameIds.{one_device}
 use Rattle.net_plan.specs.declared.ids.DeviceId.{DeviceId}
 use Rattle.net_plan.specs.declared.ids.LinkId.{LinkId}
 use Rattle.net_plan.specs.declared.network.Network.{Network}
 use Rattle.pcf_values.specs.declared.members.Members.{Members}
 use Rattle.pcf_values.specs.declared.pcf.Pcf.{Pcf}
-use Rattle.precision_law.proofs.clocks.Epochs.{same_device}
 use Rattle.precision_law.proofs.clocks.Readings.{permanence_is_sharp}
-use Rattle.precision_law.proofs.records.Behind.{behind_last, in_filter_map}
+use Rattle.precision_law.proofs.records.Behind.{behind_last}
 use Rattle.precision_law.proofs.records.Judged.{all_judge}
 use Rattle.precision_law.proofs.records.Points.{before_of, earlier_before}
-use Rattle.precision_law.proofs.records.Times.{between, earlier_parts, in_between, same_kept}
+use Rattle.precision_law.proofs.records.Times.{between, earlier_parts, in_between}
 use Rattle.precision_law.proofs.records.Views.{in_order, steady}
 use Rattle.precision_law.specs.Blocks.{adjustment_left, state_left}
 use Rattle.precision_law.specs.Epochs.{has_time}
 use Rattle.precision_law.specs.Sizes.{Sizes}
 use Rattle.precision_law.specs.Views.{IsView, View}
+use Rattle.run_law.proofs.control.Verdicts.{none_first}
 use Rattle.run_law.proofs.law.FirstPlaces.{IsFoundedAt, founded_at, numbered_in}
+use Rattle.run_law.proofs.records.Order.{contained, given_of, none_any, same_kept}
 use Rattle.run_law.proofs.runs.Lacking.{behind_first}
 use Rattle.run_law.proofs.runs.Places.{in_left, in_parts, in_right, parted}
 use Rattle.run_law.specs.control.Collections.{ends_stretch, master_of, point_by, point_fault, points_of, observation_window}
@@ -52,27 +54,17 @@ use Rattle.schedule_tables.specs.Margins.{compression_time}
 use Rattle.sync_state.specs.Standing.{state_at_start}
 use Rattle.sync_state.specs.declared.state.State.TheVariants.{Joining, Synchronised}
 use Rattle.sync_state.specs.declared.state.State.{State}
-use Rattle.traffic_law.proofs.delivery.Faultless.{none_first, not_less}
 use Rattle.traffic_law.proofs.delivery.Sent.{no_later}
 use Rattle.traffic_law.proofs.ports.Arrived.{arrived_sound}
 use Rattle.traffic_law.proofs.ports.Openers.{opened_by}
-use Rattle.traffic_law.proofs.schedule.Values.{not_negative}
 use Rattle.traffic_law.proofs.spans.Forward.{no_joining}
 use Rattle.traffic_law.proofs.spans.Synchronised.{Keeps, kept_by_all, kept_if}
 use Rattle.traffic_law.specs.Senders.{TimedAreNotTurnedOn}
+use Rattle.tte_lemmas.proofs.Integers.{not_less, whole as not_negative}
 use Rattle.tte_units.specs.Amount.{amount}
 use Rattle.tte_units.specs.declared.units.Units.{Units}
 
 -- ---- the opener's record
-
--- what a list contains is in it
-in_contains : {X : Type 0} (xs : List X) (x : X) → Contains xs x → IsIn x xs
-in_contains xs x c = in_index xs c.0 x c.1 c.2
-  where
-    in_index : {X : Type 0} (xs : List X) (k : ℕ) (x : X) → k < length xs → get_or xs k x ≡ x → IsIn x xs
-    in_index [] k x lt e = absurd (omega (arith, lt))
-    in_index (y ∷ xs) zero x lt e = inl (sym e)
-    in_index (y ∷ xs) (suc k) x lt e = inr (in_index xs k x (omega (arith, lt)) e)
 
 -- the record of a frame that was permanent at the device gives this point
 record IsPermanentRecord (device : DeviceId) (h : Happening) (reading : ℤ) : Type 0 where
@@ -98,7 +90,7 @@ permanent_record device h (notes.Permanent other link cause point verdict) o sam
       cause = cause;
       point = point;
       verdict = verdict;
-      is = same ∙ ap (λ (d : DeviceId). notes.Permanent d link cause point verdict) (same_device device other made.0);
+      is = same ∙ ap (λ (d : DeviceId). notes.Permanent d link cause point verdict) (one_device device other made.0);
       reads = ap (λ (x : Point). x.reading) (sym made.1);
     }
 permanent_record device h body o same e = absurd cc
@@ -213,11 +205,6 @@ none_joined : (v : View) (device : DeviceId) (h : Happening) → IsView v → (f
 none_joined v device h is found timed off x i same =
     no_joining v device x is (subst (IsIn x) (sym found.whole) (in_left x found.front (h ∷ found.rest) i))
     (subst (λ (t : ℕ). state_left v device t ≡ Synchronised) (sym same) timed) (subst (λ (t : ℕ). is_turned_on_at v.scenario device t ≡ false) (sym same) off)
-
--- where none passes, no test does
-none_any : {X : Type 0} (p : X → Bool) (xs : List X) → ((x : X) → IsIn x xs → p x ≡ false) → list_any p xs ≡ false
-none_any p [] none = refl
-none_any p (x ∷ xs) none = (let here = none x (inl refl) in rw here (none_any p xs (λ y i. none y (inr i))))
 
 -- it hears it synchronised
 heard_state : (v : View) (device : DeviceId) (h : Happening) → IsView v → (found : IsFoundedAt v.scenario v.records h)
@@ -357,8 +344,8 @@ emission_opened never v device g opened at cycle members verdict is i body timed
     let opener = opened_by (observation_window n) (points_of found.front device) caused.clusters caused.cluster (omega (arith, ints)) caused.are caused.there in
     let ends = λ (h : Happening). ends_stretch device h.note.body in
     let kept = after_last ends found.front in
-    let made = in_filter_map (λ (h : Happening). point_by device h h.note.body) kept opener.opener
-    (in_contains (points_of found.front device) opener.opener opener.there) in
+    let made = given_of (λ (h : Happening). point_by device h h.note.body) kept opener.opener
+    (contained (points_of found.front device) opener.opener opener.there) in
     let r = made.0 in
     let record_is = permanent_record device r r.note.body opener.opener refl made.2 in
     let behind = behind_last ends found.front in

@@ -3,18 +3,13 @@ use Rattle.std.proofs.Common.{◌≡◌, ℕ, zero, suc, ◌+◌, ◌*◌, ◌<�
 use Rattle.std.proofs.lemmas.Bool.{both_ways, cases_lt}
 use Rattle.std.proofs.lemmas.Int.{by_lt_z, ints}
 use Rattle.std.specs.Option.{option_map_or}
-use Rattle.net_plan.specs.Places.{device_at, is_end_system, is_master}
 use Rattle.net_plan.specs.declared.ids.DeviceId.{DeviceId}
 use Rattle.net_plan.specs.declared.ids.LinkId.{LinkId}
-use Rattle.net_plan.specs.declared.network.Network.{Network}
-use Rattle.net_plan.specs.declared.tables.Device.{Device}
-use Rattle.net_plan.specs.declared.tables.Role.TheVariants.{Client, Cm, Master, Relay}
-use Rattle.net_plan.specs.declared.tables.Role.{Role}
 use Rattle.pcf_values.specs.declared.members.Members.{Members}
 use Rattle.precision_law.proofs.clocks.Epochs.{adjustment_stays, clocks_reach_sharply}
+use Rattle.precision_law.proofs.law.OnTime.{begins_late}
 use Rattle.precision_law.proofs.law.Together.{before_narrow, block_ends, follows_before, new_shows, old_shows, set_shows}
 use Rattle.precision_law.proofs.records.Points.{before_of, earlier_before, point_timed, setting_is, within_run}
-use Rattle.precision_law.proofs.records.Times.{is_earlier}
 use Rattle.precision_law.proofs.records.Views.{room}
 use Rattle.precision_law.proofs.sizes.Instants.{set_clocks_stay_at_correction}
 use Rattle.precision_law.specs.BlockLaws.{BlockIsOver, ComesTo}
@@ -23,7 +18,10 @@ use Rattle.precision_law.specs.Epochs.{epoch_time, has_time, last_setting}
 use Rattle.precision_law.specs.Hulls.{IsOverBefore, last_correction}
 use Rattle.precision_law.specs.Sizes.{Sizes}
 use Rattle.precision_law.specs.Views.{IsGood, IsView, View}
+use Rattle.run_law.proofs.device.States.{reaches_by}
 use Rattle.run_law.proofs.law.FirstPlaces.{founded_at}
+use Rattle.run_law.proofs.records.Happenings.{is_earlier}
+use Rattle.run_law.proofs.scenario.Devices.{master_end}
 use Rattle.run_law.specs.control.Corrections.{correction_value}
 use Rattle.run_law.specs.control.Leaving.{Gives}
 use Rattle.run_law.specs.declared.judgement.Judgement.{Judgement}
@@ -35,28 +33,28 @@ use Rattle.run_law.specs.device.States.{adjustment_after, is_synchronised, state
 use Rattle.run_law.specs.records.Happenings.{Happening, earlier, time_of}
 use Rattle.run_law.specs.records.Order.{IsIn}
 use Rattle.run_law.specs.runs.DueRecords.{IsCaused}
-use Rattle.run_law.specs.scenario.Devices.{has_role, is_end, is_relay}
+use Rattle.run_law.specs.scenario.Devices.{is_end, is_relay}
 use Rattle.run_law.specs.scenario.Scenarios.{is_turned_on_at}
 use Rattle.sync_state.specs.declared.answers.Verdict.TheVariants.{Corrected}
 use Rattle.sync_state.specs.declared.state.State.TheVariants.{Synchronised}
-use Rattle.traffic_law.proofs.delivery.Faultless.{not_less}
 use Rattle.traffic_law.proofs.delivery.Receiving.{state_is}
 use Rattle.traffic_law.proofs.delivery.Sent.{no_later, none_last}
 use Rattle.traffic_law.proofs.ports.Arrived.{arrived_sound}
 use Rattle.traffic_law.proofs.ports.Cycles.{same_end, same_next}
-use Rattle.traffic_law.proofs.ports.Dispatched.{cycle_is, dispatches_are_in_spans, same_reach}
+use Rattle.traffic_law.proofs.ports.Dispatched.{cycle_is, dispatches_are_in_spans}
 use Rattle.traffic_law.proofs.ports.Gates.{PassesGate, emission_opened}
 use Rattle.traffic_law.proofs.ports.Leavings.{hull_proper, hulls_follow}
-use Rattle.traffic_law.proofs.schedule.Values.{cycle_whole, not_negative, so_far, so_far_in}
+use Rattle.traffic_law.proofs.schedule.Values.{cycle_whole, so_far, so_far_in}
 use Rattle.traffic_law.proofs.spans.Corrected.{earlier_founded, in_places, last_is_correction, last_of}
 use Rattle.traffic_law.proofs.spans.Forward.{synchronised_stay_so}
 use Rattle.traffic_law.proofs.spans.Reaching.{hull_behind}
-use Rattle.traffic_law.proofs.spans.Spans.{begins_late, corrected_late, has_time_at, synchronised_keep_time}
+use Rattle.traffic_law.proofs.spans.Spans.{corrected_late, has_time_at, synchronised_keep_time}
 use Rattle.traffic_law.proofs.spans.Synchronised.{synchronised_stays}
 use Rattle.traffic_law.specs.Bringing.{BringsBlocks}
 use Rattle.traffic_law.specs.Ports.{GivingsKeepAway}
 use Rattle.traffic_law.specs.Senders.{TimedAreNotTurnedOn}
 use Rattle.traffic_law.specs.Spans.{IsInSpan, IsTimedAt, shown_at}
+use Rattle.tte_lemmas.proofs.Integers.{not_less, whole}
 use Rattle.tte_units.specs.Amount.{amount}
 use Rattle.tte_units.specs.declared.units.Units.{Units}
 
@@ -220,7 +218,7 @@ point_reached brings v j q block device is good timed old in_run after =
         ] in
         let early : epoch_time (earlier w v.records) device <ℤ pos q = omega (arith, ints, was_old, block.from) in
         let same : adjustment_left v device q ≡ adjustment_left v device w = ap (λ (a : Units). a.0) (adjustment_stays v device q w is not_before early) in
-        let reached = same_reach s found.front v.records device (correction_value s.network set.cycle) w (earlier_before v w found.front split)
+        let reached = reaches_by s found.front v.records device (correction_value s.network set.cycle) w (earlier_before v w found.front split)
         cause.corrected.reached in
         let sharp = clocks_reach_sharply v device (correction_value s.network set.cycle) w is reached in
         let cycle : v.sizes.cycle ≡ amount s.network.cycle = cycle_is v is in
@@ -336,20 +334,6 @@ cm_silent brings never v c g device opened at cycle members verdict span is i bo
 
 -- ---- the law
 
--- a master is an end system
-master_end : (network : Network) (device : DeviceId) → has_role network is_master device ≡ true → is_end network device ≡ true
-master_end network device e = by (device_at network device) e
-  where
-    by_role : (r : Role) → is_master r ≡ true → is_end_system r ≡ true
-    by_role Master e = refl
-    by_role Client e = absurd cc
-    by_role Cm e = absurd cc
-    by_role Relay e = absurd cc
-
-    by : (o : Option Device) → option_map_or (λ d. is_master d.role) o false ≡ true → option_map_or (λ d. is_end_system d.role) o false ≡ true
-    by None e = absurd cc
-    by (Some d) e = by_role d.role e
-
 -- what a synchronised switch gives in the span
 no_giving : BringsBlocks → TimedAreNotTurnedOn → (v : View) (c : ℕ) (g : Happening) (device : DeviceId) (by : LinkId) (body : NoteBody)
     (span : IsInSpan v (suc c) (time_of g)) → IsView v → IsIn g v.records → g.note.body ≡ body → is_end v.scenario.network device ≡ false
@@ -376,7 +360,7 @@ span_at v c t before is from in_run early =
     let behind = hull_behind v c before is in
     let end : ℤ = last_correction v.sizes before.hull +ℤ pos 1 in
     let next = unsigned_abs end in
-    let next_is : end ≡ pos next = not_negative end (omega (arith, ints, behind.0, behind.1)) in (
+    let next_is : end ≡ pos next = whole end (omega (arith, ints, behind.0, behind.1)) in (
       record {
         block = record {
           before = before;

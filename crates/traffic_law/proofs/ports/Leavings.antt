@@ -11,14 +11,15 @@ use Rattle.net_plan.specs.declared.ids.VlId.{VlId}
 use Rattle.net_plan.specs.declared.network.Network.{Network}
 use Rattle.net_plan.specs.declared.tables.Device.{Device}
 use Rattle.net_plan.specs.declared.tables.Link.{Link}
-use Rattle.net_plan.specs.declared.tables.Role.TheVariants.{Cm, Master, Relay, Client}
 use Rattle.net_plan.specs.declared.tables.Role.{Role}
 use Rattle.net_plan.specs.declared.tables.Way.{Way}
+use Rattle.precision_law.proofs.Plain.{cm_is_no_end}
 use Rattle.precision_law.proofs.block.Hulls.{has_before}
 use Rattle.precision_law.proofs.law.Together.{before_narrow}
 use Rattle.precision_law.proofs.records.Points.{within_run}
 use Rattle.precision_law.proofs.records.Views.{room}
 use Rattle.precision_law.proofs.sizes.Instants.{instants_are_in_order}
+use Rattle.precision_law.proofs.trips.Legs.{relay_not_end}
 use Rattle.precision_law.specs.Blocks.{Stands}
 use Rattle.precision_law.specs.Hulls.{Hull, IsInHull, IsNarrow, hull_of, start_hull}
 use Rattle.precision_law.specs.Sizes.{Sizes}
@@ -26,7 +27,6 @@ use Rattle.precision_law.specs.Views.{IsDispatch, IsGood, IsView, View}
 use Rattle.run_law.proofs.law.FirstDelays.{hold_most}
 use Rattle.run_law.proofs.law.FirstPlaces.{IsFoundedAt, founded_at, numbered_in}
 use Rattle.run_law.proofs.runs.Places.{in_left}
-use Rattle.run_law.proofs.runs.SameSteps.{same_some}
 use Rattle.run_law.specs.control.Leaving.{Departs, Gives, leaves}
 use Rattle.run_law.specs.declared.note.NoteBody.TheVariants as notes
 use Rattle.run_law.specs.declared.note.NoteBody.{NoteBody}
@@ -36,7 +36,7 @@ use Rattle.run_law.specs.records.Order.{IsIn}
 use Rattle.run_law.specs.runs.DueRecords.{IsCaused}
 use Rattle.run_law.specs.scenario.Devices.{has_role, is_cm, is_cm_role, is_end, is_relay_role}
 use Rattle.run_law.specs.scenario.Ways.{hold_at, way_from}
-use Rattle.schedule_tables.proofs.EntryLemmas.{all_at, in_range}
+use Rattle.schedule_tables.proofs.EntryLemmas.{in_range}
 use Rattle.schedule_tables.proofs.Margins.{margins}
 use Rattle.schedule_tables.specs.Delays.{delay_by, pcf_port_time}
 use Rattle.schedule_tables.specs.Entries.{IsEntry}
@@ -49,6 +49,8 @@ use Rattle.traffic_law.proofs.spans.Reaching.{begins_soon}
 use Rattle.traffic_law.specs.Bringing.{BringsBlocks}
 use Rattle.traffic_law.specs.Dispatched.{IsRowDispatch}
 use Rattle.traffic_law.specs.Ports.{GivesAt, GivingsKeepAway, LeavingsStandApart}
+use Rattle.tte_lemmas.proofs.Lists.{in_all}
+use Rattle.tte_lemmas.proofs.Options.{one as same_some}
 use Rattle.tte_units.specs.Amount.{amount}
 use Rattle.tte_units.specs.OctetTime.{octet_time}
 
@@ -95,7 +97,7 @@ holds_within v place entry link way t is row by =
     let at : link_at n link ≡ Some entry.link = subst (λ (x : LinkId). link_at n x ≡ Some entry.link) by row.link in
     let hold = hold_most v.scenario link entry.link way t is.lawful at range.link.hold.least in
     let links = (margins rules_give_trees n v.sizes.path is.lawful.range is.lawful.rules is.beta).dmax.links in
-    let fits = all_at (λ (l : Link). v.sizes.path + delay_by l ≤ amount n.dmax) n.link entry.row.link.0 entry.link links row.link in
+    let fits = in_all (λ (l : Link). v.sizes.path + delay_by l ≤ amount n.dmax) n.link entry.row.link.0 entry.link links row.link in
     let dmax : v.sizes.dmax ≡ amount n.dmax = ap (λ (s : Sizes). s.dmax) is.sizes in
     omega (arith, hold, fits, dmax)
 
@@ -117,20 +119,6 @@ apart_roles network device p q apart one two = by (device_at network device) one
     by None one two = cc
     by (Some d) one two = apart d.role one two
 
--- a compression master is no end system
-cm_or_end : (r : Role) → is_cm_role r ≡ true → is_end_system r ≡ true → ⊥
-cm_or_end Master one two = cc
-cm_or_end Client one two = cc
-cm_or_end Cm one two = cc
-cm_or_end Relay one two = cc
-
--- a relay is no end system
-relay_or_end : (r : Role) → is_relay_role r ≡ true → is_end_system r ≡ true → ⊥
-relay_or_end Master one two = cc
-relay_or_end Client one two = cc
-relay_or_end Cm one two = cc
-relay_or_end Relay one two = cc
-
 -- an end system gives its own dispatches alone
 end_gives : (v : View) (g : Happening) (device : DeviceId) (link : LinkId) (body : NoteBody) → IsView v → (found : IsFoundedAt v.scenario v.records g)
     → is_end v.scenario.network device ≡ true → g.note.body ≡ body → Gives v.scenario.network body device link → (cycle : ℕ)
@@ -139,9 +127,9 @@ end_gives v g device link (notes.Sent master cycle) is found end same gives = (c
 end_gives v g device link (notes.Compressed cm opened at cycle members verdict) is found end same gives =
     let caused : IsCaused v.scenario found.front g.note.time (notes.Compressed cm opened at cycle members verdict) = subst
     (IsCaused v.scenario found.front g.note.time) same found.due.cause in
-    absurd (apart_roles v.scenario.network device is_cm_role is_end_system cm_or_end (ap (is_cm v.scenario.network) gives.0 ∙ caused.cm) end)
+    absurd (apart_roles v.scenario.network device is_cm_role is_end_system cm_is_no_end (ap (is_cm v.scenario.network) gives.0 ∙ caused.cm) end)
 end_gives v g device link (notes.Arrived relay by cause clock) is found end same gives =
-    absurd (apart_roles v.scenario.network device is_relay_role is_end_system relay_or_end gives.1.relay end)
+    absurd (apart_roles v.scenario.network device is_relay_role is_end_system relay_not_end gives.1.relay end)
 end_gives v g device link body is found end same gives = absurd gives
 
 -- ---- ports

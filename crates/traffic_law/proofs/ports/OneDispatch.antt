@@ -13,7 +13,6 @@ use Rattle.net_plan.specs.declared.tables.Device.{Device}
 use Rattle.precision_law.specs.Blocks.{adjustment_left}
 use Rattle.precision_law.specs.Views.{IsGood, IsView, View}
 use Rattle.run_law.proofs.runs.Places.{never_self}
-use Rattle.run_law.proofs.runs.SameSteps.{same_some}
 use Rattle.run_law.specs.declared.note.NoteBody.TheVariants as notes
 use Rattle.run_law.specs.declared.note.NoteBody.{NoteBody}
 use Rattle.run_law.specs.device.LocalClocks.{changed_at}
@@ -27,11 +26,11 @@ use Rattle.schedule_tables.specs.Rules.{KeepsRules}
 use Rattle.schedule_tables.specs.declared.entry.Entry.{Entry}
 use Rattle.schedule_tables.specs.declared.rule.Rule.TheVariants.{Senders}
 use Rattle.traffic_law.proofs.ports.Dispatched.{dispatches_are_in_spans, one_clock}
-use Rattle.traffic_law.proofs.ports.Ends.{opened}
 use Rattle.traffic_law.proofs.schedule.Rows.{rows_go_once}
 use Rattle.traffic_law.proofs.spans.Corrected.{AreInPlaces, in_places}
 use Rattle.traffic_law.specs.Bringing.{BringsBlocks}
 use Rattle.traffic_law.specs.Dispatched.{DispatchesAreOne, IsRowDispatch}
+use Rattle.tte_lemmas.proofs.Options.{one as same_some, opened}
 use Rattle.tte_units.specs.Amount.{amount}
 
 -- ---- records at one place

@@ -1,5 +1,6 @@
 -- The point that opened what a compression master sends.
 use Rattle.std.proofs.Common.{◌≡◌, ℕ, ℤ, pos, ◌+ℤ◌, ◌-ℤ◌, ◌*ℤ◌, ◌≤ℤ◌, int_le, Bool, true, false, ◌&&◌, List, [], ◌∷◌, ◌++◌, map, fold, Contains, inl, inr, refl, sym, ap, subst, ◌∙◌, arith}
+use Rattle.std.proofs.lemmas.Bool.{and_parts}
 use Rattle.std.proofs.lemmas.Int.{ints}
 use Rattle.std.specs.Prelude.{◌==◌, if◌then◌else◌}
 use Rattle.compression.proofs.Elements.{from_beyond, in_cases, in_head, in_none, in_tail}
@@ -8,6 +9,7 @@ use Rattle.compression.proofs.Growth.{end_of-least, end_of-most}
 use Rattle.compression.proofs.Held.{held-start}
 use Rattle.compression.specs.Clusters.{AreClusters, Cluster, Point, beyond, cluster_of, end_of, firsts, has_master, of_cycle_within, with_first}
 use Rattle.compression.specs.Middle.{last_but_one, middle_of, relative}
+use Rattle.tte_lemmas.proofs.Integers.{int_le-is}
 use Rattle.tte_units.proofs.Means.{mean_of-floor}
 use Rattle.tte_units.specs.Mean.{mean_of}
 
@@ -45,23 +47,14 @@ abbrev AreLow : ℤ → List Point → Type 0
 AreLow high [] = Unit {0}
 AreLow high (q ∷ qs) = (q.reading ≤ℤ high) × AreLow high qs
 
--- the test of order
-le_from_test : (a b : ℤ) → int_le a b ≡ true → a ≤ℤ b
-le_from_test a b e = grind (arith, ints)
-
--- both parts of a test
-both_true : (x y : Bool) → (x && y) ≡ true → (x ≡ true) × (y ≡ true)
-both_true true y e = (refl, e)
-both_true false y e = absurd cc
-
 -- the points up to a reading
 held_low : (cycle : ℕ) (from to : ℤ) (ps : List Point) → AreLow to (of_cycle_within cycle from to ps)
 held_low cycle from to [] = tt
 held_low cycle from to (q ∷ qs) =
     elim (q.cycle == cycle && (int_le from q.reading && int_le q.reading to)) as (λ b. (q.cycle == cycle && (int_le from q.reading && int_le q.reading to)) ≡ b
     → AreLow to (if b then q ∷ of_cycle_within cycle from to qs else of_cycle_within cycle from to qs)) [
-      | true ↦ λ e. (let parts = both_true (q.cycle == cycle) (int_le from q.reading && int_le q.reading to)
-          e in (le_from_test q.reading to (both_true (int_le from q.reading) (int_le q.reading to) parts.1).1, held_low cycle from to qs))
+      | true ↦ λ e. (let parts = and_parts (q.cycle == cycle) (int_le from q.reading && int_le q.reading to)
+          e in (int_le-is q.reading to (and_parts (int_le from q.reading) (int_le q.reading to) parts.1).1, held_low cycle from to qs))
       | false ↦ λ e. held_low cycle from to qs
     ] refl
 

@@ -1,48 +1,23 @@
 -- The room that the schedule leaves its rows.
-use Rattle.std.proofs.Common.{◌≡◌, ◌≢◌, ◌⊎◌, ℕ, zero, suc, ◌+◌, ◌*◌, ◌≤◌, ◌<◌, inl, inr, sym, ap, subst, arith}
-use Rattle.std.proofs.lemmas.Bool.{cases_eq, cases_lt}
-use Rattle.net_plan.specs.declared.ids.DeviceId.{DeviceId}
+use Rattle.std.proofs.Common.{◌≡◌, ◌⊎◌, ℕ, ◌+◌, ◌*◌, ◌≤◌, ◌<◌, inl, inr, sym, ap, subst, arith}
+use Rattle.std.proofs.lemmas.Bool.{cases_lt}
 use Rattle.net_plan.specs.declared.network.Network.{Network}
 use Rattle.net_plan.specs.declared.tables.Link.{Link}
 use Rattle.precision_law.specs.Sizes.{Sizes}
-use Rattle.schedule_tables.proofs.EntryLemmas.{all_at, one_entry}
+use Rattle.schedule_tables.proofs.Entries.{begun_below, occur_together}
+use Rattle.schedule_tables.proofs.EntryLemmas.{one_entry}
 use Rattle.schedule_tables.specs.Delays.{pcf_port_time}
-use Rattle.schedule_tables.specs.Entries.{IsEntry, source_of}
+use Rattle.schedule_tables.specs.Entries.{IsEntry}
 use Rattle.schedule_tables.specs.Rules.{KeepsRules}
 use Rattle.schedule_tables.specs.Schedule.{IsClearBefore}
 use Rattle.schedule_tables.specs.Windows.{OccursIn}
 use Rattle.schedule_tables.specs.declared.entry.Entry.{Entry}
-use Rattle.schedule_tables.specs.declared.rule.Rule.TheVariants.{Forwarding, LinksOnce, Periods, ScheduleStart, Sources, Spacing, WindowEnds}
-use Rattle.traffic_law.proofs.schedule.Periods.{occur_together}
+use Rattle.schedule_tables.specs.declared.rule.Rule.TheVariants.{LinksOnce, Periods, ScheduleStart, Spacing, WindowEnds}
 use Rattle.traffic_law.specs.Rows.{RowsAreInTime, RowsComeInSchedule, RowsGoOnce, RowsStandApart}
+use Rattle.tte_lemmas.proofs.Lists.{in_all}
 use Rattle.tte_units.specs.Amount.{amount}
 
 -- ---- the schedule's begin
-
--- two ids are one device's or not
-pub same_or_other : (d e : DeviceId) → (d ≡ e) ⊎ (d ≢ e)
-same_or_other d e = elim (cases_eq d.0 e.0) [
-  | inl same ↦ inl (ap (λ (n : ℕ). let x : DeviceId = record { 0 = n } in x) same)
-  | inr other ↦ inr (λ same. other (ap (λ (x : DeviceId). x.0) same))
-]
-
--- by the offset: a row that leaves its sender is in the schedule, and any other comes behind one that enters its source
-begun_below : (network : Network) (bound place : ℕ) (entry : Entry) → KeepsRules network → IsEntry network place entry → amount entry.row.offset < bound
-    → amount network.tt_start ≤ amount entry.row.offset
-begun_below network zero place entry keeps is below = absurd (omega arith)
-begun_below network (suc bound) place entry keeps is below =
-    elim (same_or_other (source_of entry) entry.vl.sender) [
-      | inl sender ↦ (keeps Forwarding place).from_sender entry is sender
-      | inr not ↦ elim (keeps Sources place entry is) [
-        | inl sender ↦ absurd (not sender)
-        | inr other ↦
-            let k = other.1.0 in
-            let enters = other.1.2 in
-            let behind = (keeps Forwarding place).from_switch k enters.entry entry enters.is is (sym enters.same_vl) not enters.target in
-            let first = begun_below network bound k enters.entry keeps enters.is (omega (arith, behind, below)) in
-            omega (arith, behind, first)
-      ]
-    ]
 
 pub rows_come_in_schedule : RowsComeInSchedule
 rows_come_in_schedule network place entry keeps is = begun_below network (amount entry.row.offset + 1) place entry keeps is (omega arith)
@@ -54,7 +29,7 @@ rows_are_in_time v place entry is row =
     let n = v.scenario.network in
     let keeps = is.lawful.rules in
     let begun = rows_come_in_schedule n place entry keeps row in
-    let start = all_at (λ (l : Link). amount n.correction + amount n.dmax + 4 * amount n.precision + pcf_port_time l ≤ amount n.tt_start) n.link
+    let start = in_all (λ (l : Link). amount n.correction + amount n.dmax + 4 * amount n.precision + pcf_port_time l ≤ amount n.tt_start) n.link
     entry.row.link.0 entry.link (keeps ScheduleStart 0).begins row.link in
     let ends = keeps WindowEnds place entry row in
     let correction : v.sizes.correction ≡ amount n.correction = ap (λ (s : Sizes). s.correction) is.sizes in

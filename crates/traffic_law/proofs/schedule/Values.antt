@@ -1,17 +1,13 @@
 -- The cycle of a local value and its place in the cycle.
-use Rattle.std.proofs.Common.{◌≡◌, ℕ, ◌+◌, ◌-◌, ◌*◌, ◌<◌, ℤ, pos, negsuc, ◌≤ℤ◌, ◌<ℤ◌, unsigned_abs, refl, sym, ap, ◌∙◌, arith}
+use Rattle.std.proofs.Common.{◌≡◌, ℕ, ◌+◌, ◌-◌, ◌*◌, ◌<◌, ℤ, pos, negsuc, ◌≤ℤ◌, ◌<ℤ◌, sym, ap, ◌∙◌, arith}
 use Rattle.std.proofs.lemmas.Int.{ints}
 use Rattle.std.proofs.lemmas.Nat.{div-mul-add, mod-mul-add}
 use Rattle.std.specs.Int.{int_div_euclid, int_rem_euclid}
 use Rattle.net_plan.specs.declared.network.Network.{Network}
 use Rattle.precision_law.specs.Views.{IsView, View}
 use Rattle.run_law.specs.device.Standpoints.{cycle_at, natural, offset_in_cycle}
+use Rattle.tte_lemmas.proofs.Integers.{whole as not_negative}
 use Rattle.traffic_law.proofs.ports.Dispatched.{cycle_is}
-
--- a number that is not negative
-pub not_negative : (z : ℤ) → pos 0 ≤ℤ z → z ≡ pos (unsigned_abs z)
-not_negative (pos n) up = refl
-not_negative (negsuc n) up = absurd (omega (arith, ints, up))
 
 -- the cycle of a network is not negative
 pub cycle_whole : (v : View) → IsView v → v.scenario.network.cycle.0 ≡ pos v.sizes.cycle

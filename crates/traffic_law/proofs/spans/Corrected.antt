@@ -5,16 +5,16 @@ use Rattle.std.proofs.lemmas.List.{append-nil}
 use Rattle.std.proofs.lemmas.List.Elements.{filter-append}
 use Rattle.std.specs.List.{last_or}
 use Rattle.std.specs.Prelude.{nat_lt, if◌then◌else◌}
+use Rattle.net_plan.proofs.SameIds.{one_device}
 use Rattle.net_plan.specs.declared.ids.DeviceId.{DeviceId}
-use Rattle.precision_law.proofs.clocks.Epochs.{same_device}
 use Rattle.precision_law.proofs.clocks.Joiners.{joiner_waits}
-use Rattle.precision_law.proofs.records.Cutting.{of_earlier}
-use Rattle.precision_law.proofs.records.Points.{setting_is}
-use Rattle.precision_law.proofs.records.Times.{all_kept}
+use Rattle.precision_law.proofs.records.Points.{last_in, setting_is}
 use Rattle.precision_law.specs.Blocks.{state_left}
 use Rattle.precision_law.specs.Epochs.{last_setting}
 use Rattle.precision_law.specs.Views.{IsView, View}
 use Rattle.run_law.proofs.law.FirstPlaces.{front_founded, in_filter, none_kept, split}
+use Rattle.run_law.proofs.records.Happenings.{soon}
+use Rattle.run_law.proofs.records.Order.{all_kept}
 use Rattle.run_law.proofs.runs.Lacking.{behind_first}
 use Rattle.run_law.specs.declared.note.NoteBody.TheVariants as notes
 use Rattle.run_law.specs.declared.note.NoteBody.{NoteBody}
@@ -39,7 +39,7 @@ earlier_founded v t is =
       | inl lt ↦ absurd (at.none h i (inl lt))
       | inr ge ↦ le-ltb (time_of h) t ge
     ]) in
-    let all : earlier t at.front ≡ at.front = all_kept (λ h. nat_lt (time_of h) t) at.front (λ h i. lt-ltb (time_of h) t (of_earlier h t (at.before h i))) in
+    let all : earlier t at.front ≡ at.front = all_kept (λ h. nat_lt (time_of h) t) at.front (λ h i. lt-ltb (time_of h) t (soon h t (at.before h i))) in
     let same : at.front ≡ earlier t v.records = sym all ∙ sym (append-nil (earlier t at.front)) ∙ ap (λ (gs : List Happening). earlier t at.front ++ gs)
     (sym none) ∙ sym (filter-append (λ h. nat_lt (time_of h) t) at.front at.rest) ∙ ap (earlier t) (sym at.whole) in
     let founded = front_founded place_of (IsDue v.scenario) at.front at.rest (subst (IsFounded place_of (IsDue v.scenario)) at.whole is.run.founded) in
@@ -59,15 +59,6 @@ in_places s ps (q ∷ qs) founded = (
   λ g i. behind_first place_of (IsDue s) ps qs q g founded i,
   in_places s (ps ++ q ∷ []) qs (subst (IsFounded place_of (IsDue s)) (sym (append_assoc ps (q ∷ []) qs)) founded),
 )
-
--- the last of a list is in it
-pub last_in : {X : Type 0} (o : Option X) (xs : List X) (x : X) → last_or o xs ≡ Some x → (o ≡ Some x) ⊎ IsIn x xs
-last_in o [] x e = inl e
-last_in {X} o (y ∷ xs) x e =
-    elim (last_in (Some y) xs x e) [
-      | inl same ↦ (let one : x ≡ y = cc in inr (inl one))
-      | inr more ↦ inr (inr more)
-    ]
 
 -- of the records that pass a test none is behind the last
 pub last_of : (p : Happening → Bool) (o : Option Happening) (xs : List Happening) (h g : Happening) → AreInPlaces xs → last_or o (filter p xs) ≡ Some h
@@ -107,7 +98,7 @@ pub record IsCorrection (device : DeviceId) (body : NoteBody) : Type 0 where
 -- what sets the clock and is no joining is a correction
 is_correction_by : (device : DeviceId) (body : NoteBody) → changes_adjustment device body ≡ true → is_joined_by device body ≡ false → IsCorrection device body
 is_correction_by device (notes.Corrected d cycle by adjustment) sets not =
-    let same = same_device device d sets in
+    let same = one_device device d sets in
     record { cycle = cycle; by = by; adjustment = adjustment; is = ap (λ (x : DeviceId). notes.Corrected x cycle by adjustment) same }
 is_correction_by device body sets not = absurd (both_ways _ not sets)
 

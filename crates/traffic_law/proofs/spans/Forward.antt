@@ -1,21 +1,19 @@
 -- A synchronised device stays so in the span of a cycle.
-use Rattle.std.proofs.Common.{◌≡◌, ℕ, zero, suc, ◌+◌, ◌-◌, ◌≤◌, ℤ, pos, negsuc, ◌<ℤ◌, Bool, true, false, ◌&&◌, ◌||◌, List, [], ◌∷◌, ◌++◌, filter, fold, Option, Some, None, MatchBool, slice_get, inl, inr, refl, sym, ap, subst, ◌∙◌, arith}
+use Rattle.std.proofs.Common.{◌≡◌, ℕ, zero, suc, ◌+◌, ◌-◌, ◌≤◌, pos, negsuc, ◌<ℤ◌, Bool, true, false, ◌&&◌, List, [], ◌∷◌, ◌++◌, filter, fold, Option, None, inl, inr, refl, sym, ap, subst, ◌∙◌, arith}
 use Rattle.std.proofs.lemmas.Bool.{both_ways, eq-eqb, false_from_ne_true}
 use Rattle.std.proofs.lemmas.Int.{ints}
 use Rattle.std.proofs.lemmas.List.{append-nil}
 use Rattle.std.proofs.lemmas.List.Elements.{filter-append}
 use Rattle.std.proofs.lemmas.List.Sums.{fold-append}
-use Rattle.std.specs.List.{last_or, list_any}
+use Rattle.std.proofs.lemmas.Map.Keys.{any_passes_from_place}
+use Rattle.std.specs.List.{last_or}
 use Rattle.std.specs.Option.{option_map_or}
 use Rattle.std.specs.Prelude.{◌==◌, if◌then◌else◌}
-use Rattle.compression.specs.Clusters.{Point, point_at}
-use Rattle.compression.specs.declared.taken.Taken.TheVariants as taken
-use Rattle.compression.specs.declared.taken.Taken.{Taken}
+use Rattle.net_plan.proofs.SameIds.{one_device}
 use Rattle.net_plan.specs.declared.event.Event.{Event}
 use Rattle.net_plan.specs.declared.event.What.TheVariants.{On}
 use Rattle.net_plan.specs.declared.ids.DeviceId.{DeviceId}
-use Rattle.precision_law.proofs.clocks.Epochs.{same_device}
-use Rattle.precision_law.proofs.records.Judged.{earlier_judge}
+use Rattle.precision_law.proofs.faults.Turned.{looking_by}
 use Rattle.precision_law.proofs.records.Points.{before_of, earlier_before}
 use Rattle.precision_law.proofs.records.Times.{between, earlier_parts, in_between}
 use Rattle.precision_law.proofs.records.Views.{in_order}
@@ -25,15 +23,11 @@ use Rattle.precision_law.specs.Epochs.{last_setting}
 use Rattle.precision_law.specs.Views.{IsView, View}
 use Rattle.run_law.proofs.law.FirstPlaces.{IsFoundedAt, founded_at, none_kept, numbered_in}
 use Rattle.run_law.proofs.runs.Places.{in_left}
-use Rattle.run_law.specs.control.Collections.{master_of, point_fault, points_of, ripe_by_role, observation_window}
 use Rattle.run_law.specs.control.Corrections.{ComesToCorrection}
-use Rattle.run_law.specs.control.Emissions.{Emits}
-use Rattle.run_law.specs.control.Hearing.{heard_as}
-use Rattle.run_law.specs.control.Permanence.{IsCollectedOrDropped, BecomesPermanent, before_permanence, ripe_as}
+use Rattle.run_law.specs.control.Permanence.{ripe_as}
 use Rattle.run_law.specs.declared.judgement.Judgement.TheVariants as judgements
-use Rattle.run_law.specs.declared.judgement.Judgement.TheVariants.{Integrates, Outside, Within}
+use Rattle.run_law.specs.declared.judgement.Judgement.TheVariants.{Integrates}
 use Rattle.run_law.specs.declared.judgement.Judgement.{Judgement}
-use Rattle.run_law.specs.declared.judgement.Reason.{Reason}
 use Rattle.run_law.specs.declared.judgement.Why.TheVariants as whys
 use Rattle.run_law.specs.declared.judgement.Why.{Why}
 use Rattle.run_law.specs.declared.note.NoteBody.TheVariants as notes
@@ -41,16 +35,16 @@ use Rattle.run_law.specs.declared.note.NoteBody.{NoteBody}
 use Rattle.run_law.specs.declared.steps.Ripe.TheVariants as ripe
 use Rattle.run_law.specs.device.LocalClocks.{changes_adjustment}
 use Rattle.run_law.specs.device.StateChanges.{ChangesState}
-use Rattle.run_law.specs.device.States.{adjustment_at_hearing, has_joined_at, is_joined_by, state_after, state_at_hearing, state_before, state_with}
+use Rattle.run_law.specs.device.States.{is_joined_by, state_after, state_with}
 use Rattle.run_law.specs.records.Happenings.{Happening, earlier, time_of}
 use Rattle.run_law.specs.records.Order.{IsIn}
 use Rattle.run_law.specs.runs.DueRecords.{IsCaused, IsEventRecord}
-use Rattle.run_law.specs.scenario.Devices.{is_cm, plan_of, start_of}
+use Rattle.run_law.specs.scenario.Devices.{start_of}
 use Rattle.run_law.specs.scenario.Scenarios.{Scenario, is_turned_on_at, turns_on}
 use Rattle.sync_state.specs.Standing.{state_at_start}
 use Rattle.sync_state.specs.declared.answers.Verdict.TheVariants.{AsyncClique, Corrected, SyncClique}
 use Rattle.sync_state.specs.declared.answers.Verdict.{Verdict}
-use Rattle.sync_state.specs.declared.state.State.TheVariants.{Off, Integrating, Joining, Synchronised}
+use Rattle.sync_state.specs.declared.state.State.TheVariants.{Integrating, Synchronised}
 use Rattle.sync_state.specs.declared.state.State.{State}
 use Rattle.traffic_law.proofs.spans.Spans.{has_time_at}
 use Rattle.traffic_law.specs.Bringing.{BringsBlocks}
@@ -61,36 +55,8 @@ use Rattle.tte_units.specs.declared.units.Units.{Units}
 
 -- ---- who joins
 
--- only an integrating device integrates a frame
-hears_integrating : (plan : _) (precision : ℤ) (state : State) (adjustment point : ℤ) (cycle : ℕ) (members : _)
-    → Integrates ≡ heard_as plan precision state adjustment point cycle members → state ≡ Integrating
-hears_integrating plan precision Off adjustment point cycle members e = absurd cc
-hears_integrating plan precision Integrating adjustment point cycle members e = refl
-hears_integrating plan precision Joining adjustment point cycle members e = absurd (in_time _ e)
-  where
-    in_time : (b : Bool) → Integrates ≡ (if b then Within else Outside) → ⊥
-    in_time true e = cc
-    in_time false e = cc
-hears_integrating plan precision Synchronised adjustment point cycle members e = absurd (in_time _ e)
-  where
-    in_time : (b : Bool) → Integrates ≡ (if b then Within else Outside) → ⊥
-    in_time true e = cc
-    in_time false e = cc
-
--- a frame that is permanent so is not collected
-rise_integrating : (cm : Bool) (P Q : Type 0) (Z : Type 0) → MatchBool cm P Q → (P → Z) → (Q → Z) → Z
-rise_integrating true P Q Z m f g = f m
-rise_integrating false P Q Z m f g = g m
-
--- a role in a collection is no integration
-collected_other : (t : Taken) → ripe.Integrates ≡ ripe_by_role t → ⊥
-collected_other taken.Opened e = cc
-collected_other taken.Joined e = cc
-collected_other taken.Repeat e = cc
-collected_other taken.OtherCycle e = cc
-
 -- the judgement that is an integration
-ripe_integrates : (j : Judgement) → ripe.Integrates ≡ ripe_as j → Integrates ≡ j
+pub ripe_integrates : (j : Judgement) → ripe.Integrates ≡ ripe_as j → Integrates ≡ j
 ripe_integrates judgements.Opened e = absurd cc
 ripe_integrates judgements.Joined e = absurd cc
 ripe_integrates judgements.Repeat e = absurd cc
@@ -99,58 +65,7 @@ ripe_integrates judgements.Outside e = absurd cc
 ripe_integrates judgements.Integrates e = refl
 ripe_integrates judgements.Ignored e = absurd cc
 
--- what hears a frame so is integrating when something comes
-pub hearing_state : (joined : Bool) (state : State) → (if joined then Joining else state) ≡ Integrating → state ≡ Integrating
-hearing_state true state e = absurd cc
-hearing_state false state e = e
-
--- a device by whose record a frame tells it the time was integrating
-pub joins_integrating : (s : Scenario) (ps : List Happening) (time : Units) (device : DeviceId) (body : NoteBody) → is_joined_by device body ≡ true
-    → IsCaused s ps time body → state_before s ps device (amount time) ≡ Integrating
-joins_integrating s ps time device (notes.Permanent other link cause point Integrates) e c =
-    let same = same_device device other e in
-    let here : BecomesPermanent s ps device (amount time) link cause point (ripe_as Integrates) = subst
-    (λ (d : DeviceId). BecomesPermanent s ps d (amount time) link cause point (ripe_as Integrates)) same c in
-    let judged = before_permanence ps device (amount time) link cause here.frame point in
-    let before : state_before s judged device (amount time) ≡ Integrating = hearing_state (has_joined_at judged device (amount time))
-    (state_before s judged device (amount time)) (ripens here) in
-    sym (ap (λ (hs : List Happening). if is_turned_on_at s device (amount time) then Integrating else state_after s hs device)
-    (earlier_judge ps (amount time) device link cause here.frame point)) ∙ before
-  where
-    fault_other : (o : Option Reason) (points : List Point) (point : Point) → IsCollectedOrDropped s.network points point o ripe.Integrates → ⊥
-    fault_other None points point c = collected_other c.taken c.becomes
-    fault_other (Some reason) points point c = cc
-
-    ripens : (r : BecomesPermanent s ps device (amount time) link cause point (ripe_as Integrates))
-        → state_at_hearing s (before_permanence ps device (amount time) link cause r.frame point) device (amount time) ≡ Integrating
-    ripens r =
-        let judged = before_permanence ps device (amount time) link cause r.frame point in
-        rise_integrating (is_cm s.network device) _ _ (state_at_hearing s judged device (amount time) ≡ Integrating) r.becomes
-        (λ c. absurd (fault_other
-        (point_fault s.network (state_at_hearing s judged device (amount time)) (adjustment_at_hearing s judged device (amount time)).0 point.0
-        r.frame.cycle) (points_of judged device) (point_at point.0 (master_of r.frame.members.0) r.frame.cycle) c))
-        (λ h. hears_integrating (plan_of s.network device) (observation_window s.network) (state_at_hearing s judged device (amount time))
-        (adjustment_at_hearing s judged device (amount time)).0 point.0 r.frame.cycle r.frame.members (ripe_integrates _ h))
-joins_integrating s ps time device (notes.Compressed other opened at cycle members Integrates) e c =
-    let same = same_device device other e in
-    let here : Emits s ps device (amount time) (record { opened = opened; at = at; cycle = cycle; members = members }) Integrates = subst
-    (λ (d : DeviceId). Emits s ps d (amount time) (record { opened = opened; at = at; cycle = cycle; members = members }) Integrates) same c in
-    hearing_state (has_joined_at ps device (amount time)) (state_before s ps device (amount time))
-    (hears_integrating (plan_of s.network device) (observation_window s.network) (state_at_hearing s ps device (amount time))
-    (adjustment_at_hearing s ps device (amount time)).0 at.0 cycle members here.heard)
-joins_integrating s ps time device body e c = absurd cc
-
 -- ---- who is turned on
-
--- where the element at a place passes, some does
-any_at : {X : Type 0} (p : X → Bool) (xs : List X) (i : ℕ) (x : X) → slice_get xs i ≡ Some x → p x ≡ true → list_any p xs ≡ true
-any_at p [] i x e hit = absurd cc
-any_at {X} p (y ∷ xs) zero x e hit = (let same : y ≡ x = cc in let here : p y ≡ true = ap p same ∙ hit in rw here refl)
-any_at p (y ∷ xs) (suc i) x e hit = by (p y) (any_at p xs i x e hit)
-  where
-    by : (b : Bool) → list_any p xs ≡ true → (b || list_any p xs) ≡ true
-    by true more = refl
-    by false more = more
 
 -- the device of an `on` event's record is turned on at its time
 pub turned_on_by : (s : Scenario) (time : Units) (line : ℕ) (device : DeviceId) → IsEventRecord s.events time line (On device)
@@ -158,7 +73,7 @@ pub turned_on_by : (s : Scenario) (time : Units) (line : ℕ) (device : DeviceId
 turned_on_by s time line device r =
     let what : turns_on device r.event.what ≡ true = ap (turns_on device) (sym r.same) ∙ eq-eqb device.0 device.0 refl in
     let at : (amount r.event.time == amount time) ≡ true = eq-eqb (amount r.event.time) (amount time) (ap amount (sym r.at)) in
-    any_at (λ (e : Event). turns_on device e.what && amount e.time == amount time) s.events r.before r.event r.is (rw (what, at) refl)
+    any_passes_from_place (λ (e : Event). turns_on device e.what && amount e.time == amount time) s.events r.before r.event r.is (rw (what, at) refl)
 
 -- ---- an instant at which nothing changes
 
@@ -180,7 +95,7 @@ no_joining v device h is i timed not_on =
     let found = founded_at s v.records h is.run.founded i in
     let same = earlier_before v (time_of h) found.front (before_of v h is found) in
     false_from_ne_true (is_joined_by device h.note.body) (λ joined.
-    let was = joins_integrating s found.front h.note.time device h.note.body joined found.due.cause in
+    let was = looking_by s found.front h.note.time device h.note.body joined found.due.cause in
     let left : state_after s (earlier (time_of h) found.front) device ≡ Synchronised = subst (λ (xs : List Happening). state_after s xs device ≡ Synchronised)
     (sym same) timed in
     apart (is_turned_on_at s device (time_of h)) (state_after s (earlier (time_of h) found.front) device) not_on left was)
@@ -237,13 +152,13 @@ leaves_by v device h (notes.State other state cause why) is i timed not_on none 
         let found = founded_at v.scenario v.records h is.run.founded i in
         let caused : ChangesState v.scenario found.front other (time_of h) state cause why = subst (IsCaused v.scenario found.front h.note.time) body
         found.due.cause in
-        let own = subst (λ (d : DeviceId). ChangesState v.scenario found.front d (time_of h) state cause why) (same_device device other e) caused in
+        let own = subst (λ (d : DeviceId). ChangesState v.scenario found.front d (time_of h) state cause why) (one_device device other e) caused in
         absurd (no_change v device h state cause why is i timed not_on none found own)
 leaves_by v device h (notes.Corrected other cycle by adjustment) is i timed not_on none body joined =
     record {
       clock = false_from_ne_true (device.0 == other.0)
           (λ e. no_correction v device h cycle by adjustment is i none
-          (body ∙ ap (λ (d : DeviceId). notes.Corrected d cycle by adjustment) (same_device device other e)));
+          (body ∙ ap (λ (d : DeviceId). notes.Corrected d cycle by adjustment) (one_device device other e)));
       state = refl;
     }
 leaves_by v device h (notes.Permanent other link cause point Integrates) is i timed not_on none body joined = record { clock = joined; state = rw joined refl }

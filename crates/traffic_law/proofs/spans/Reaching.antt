@@ -3,6 +3,7 @@ use Rattle.std.proofs.Common.{◌≡◌, ℕ, zero, suc, ◌+◌, ◌*◌, ◌<�
 use Rattle.std.proofs.lemmas.Int.{ints}
 use Rattle.std.specs.Option.{option_map_or}
 use Rattle.net_plan.specs.declared.ids.DeviceId.{DeviceId}
+use Rattle.precision_law.proofs.block.Coming.{set_before as changed_before}
 use Rattle.precision_law.proofs.block.Hulls.{has_before}
 use Rattle.precision_law.proofs.clocks.Epochs.{adjustment_stays, clocks_have_reached}
 use Rattle.precision_law.proofs.law.Together.{before_narrow, follows_before}
@@ -13,16 +14,16 @@ use Rattle.precision_law.specs.Blocks.{IsOldAt, Stands, adjustment_left}
 use Rattle.precision_law.specs.Epochs.{last_setting}
 use Rattle.precision_law.specs.Hulls.{IsNarrow, hull_of, last_correction, start_hull}
 use Rattle.precision_law.specs.Views.{IsView, View}
-use Rattle.run_law.proofs.runs.SameSteps.{same_some}
 use Rattle.run_law.specs.device.LocalClocks.{changed_at}
 use Rattle.run_law.specs.records.Happenings.{Happening, earlier, time_of}
 use Rattle.traffic_law.proofs.ports.Cycles.{hulls_grow}
-use Rattle.traffic_law.proofs.schedule.Values.{not_negative}
 use Rattle.traffic_law.proofs.spans.Forward.{synchronised_stay_so}
 use Rattle.traffic_law.proofs.spans.Spans.{synchronised_keep_time, values_are_reached_in_spans}
 use Rattle.traffic_law.specs.Bringing.{BringsBlocks}
 use Rattle.traffic_law.specs.Senders.{TimedAreNotTurnedOn}
 use Rattle.traffic_law.specs.Spans.{IsInSpan, IsTimedAt, ValuesAreReached}
+use Rattle.tte_lemmas.proofs.Integers.{whole}
+use Rattle.tte_lemmas.proofs.Options.{one}
 use Rattle.tte_units.specs.declared.units.Units.{Units}
 
 -- ---- the beginning of a span
@@ -33,7 +34,7 @@ pub begins_soon : (v : View) (n : ℕ) (stands : Stands v (suc n)) → IsView v
 begins_soon v n stands is =
     let over = stands.is_over in
     let there = stands.narrow n (omega arith) in
-    let same : there.0 ≡ over.0 = same_some (hull_of v n) there.0 over.0 there.1 over.1 in
+    let same : there.0 ≡ over.0 = one (hull_of v n) there.0 over.0 there.1 over.1 in
     let narrow : IsNarrow v.sizes over.0 = subst (IsNarrow v.sizes) same there.2 in
     let order = instants_are_in_order v.sizes over.0 stands.hull (room v is) narrow (follows_before v n over.0 stands.hull is over.1 stands.is_hull) in
     omega (arith, ints, over.2, order.last_not_late)
@@ -52,11 +53,6 @@ pub set_before : (v : View) (device : DeviceId) (t : ℕ) (o : Option Happening)
 set_before v device t None e = omega (arith, ints)
 set_before v device t (Some h) e = (let at = setting_is v device t h e in omega (arith, ints, at.early))
 
--- a clock that was set before a time changed not behind it
-changed_before : (o : Option Happening) (t : ℕ) → option_map_or (λ h. pos (time_of h)) o (negsuc 0) <ℤ pos t → option_map_or time_of o 0 ≤ t
-changed_before None t lt = omega arith
-changed_before (Some h) t lt = omega (arith, ints, lt)
-
 -- ---- reaching
 
 pub values_are_reached : BringsBlocks → TimedAreNotTurnedOn → ValuesAreReached
@@ -69,10 +65,10 @@ values_are_reached brings never v (suc c) value before device is timed begun wit
     let behind = hull_behind v c before is in
     let last : ℤ = (before.hull.greatest +ℤ pos value) +ℤ pos v.sizes.reach in
     let t = unsigned_abs last in
-    let t_is : last ≡ pos t = not_negative last (omega (arith, ints, behind.0, behind.1)) in
+    let t_is : last ≡ pos t = whole last (omega (arith, ints, behind.0, behind.1)) in
     let end : ℤ = last_correction v.sizes before.hull +ℤ pos 1 in
     let next = unsigned_abs end in
-    let next_is : end ≡ pos next = not_negative end (omega (arith, ints, behind.0, behind.1)) in
+    let next_is : end ≡ pos next = whole end (omega (arith, ints, behind.0, behind.1)) in
     let span_at : (x : ℕ) → before.next ≤ x → x ≤ t → IsInSpan v n x = λ x from to. record {
       block = record {
         before = before;

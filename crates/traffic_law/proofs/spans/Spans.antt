@@ -1,23 +1,23 @@
 -- The span of a cycle: what clocks show there, and when they reach a value of the schedule.
-use Rattle.std.proofs.Common.{◌≡◌, ℕ, zero, suc, ◌+◌, ◌*◌, ◌<◌, ◌≤◌, ℤ, pos, negsuc, ◌+ℤ◌, ◌≤ℤ◌, ◌<ℤ◌, true, Option, Some, None, inl, inr, refl, sym, ap, subst, arith}
+use Rattle.std.proofs.Common.{◌≡◌, ℕ, zero, suc, ◌+◌, ◌*◌, ◌<◌, ◌≤◌, ℤ, pos, negsuc, ◌+ℤ◌, ◌≤ℤ◌, ◌<ℤ◌, true, Option, Some, None, inl, inr, refl, sym, ap, subst, arith, suc-mul}
 use Rattle.std.proofs.Math.Nat.{mul-le-mul_right}
 use Rattle.std.proofs.lemmas.Bool.{cases_lt}
 use Rattle.std.proofs.lemmas.Int.{by_lt_z, ints}
 use Rattle.std.specs.Option.{option_map_or}
 use Rattle.net_plan.specs.declared.ids.DeviceId.{DeviceId}
 use Rattle.precision_law.proofs.clocks.Epochs.{clocks_reach_sharply}
+use Rattle.precision_law.proofs.law.OnTime.{begins_late}
 use Rattle.precision_law.proofs.law.Together.{before_narrow, block_ends, follows_before, new_shows, old_shows, set_shows}
 use Rattle.precision_law.proofs.records.Points.{before_of, point_timed, setting_is}
 use Rattle.precision_law.proofs.records.Views.{room}
-use Rattle.precision_law.proofs.sizes.Instants.{instants_are_in_order, set_clocks_stay_at_correction}
+use Rattle.precision_law.proofs.sizes.Instants.{set_clocks_stay_at_correction}
 use Rattle.precision_law.specs.BlockLaws.{BlocksGoSo, ComesTo}
-use Rattle.precision_law.specs.Blocks.{HasTimeAt, IsInBlock, IsOldAt, Stands, adjustment_left, state_left}
+use Rattle.precision_law.specs.Blocks.{HasTimeAt, IsInBlock, IsOldAt, adjustment_left, state_left}
 use Rattle.precision_law.specs.Epochs.{epoch_time, has_time, last_setting}
-use Rattle.precision_law.specs.Hulls.{IsNarrow, first_correction, hull_of}
+use Rattle.precision_law.specs.Hulls.{first_correction}
 use Rattle.precision_law.specs.Standings.{ShowsIn}
 use Rattle.precision_law.specs.Views.{IsView, View}
 use Rattle.run_law.proofs.law.FirstPlaces.{founded_at}
-use Rattle.run_law.proofs.runs.SameSteps.{same_some}
 use Rattle.run_law.specs.declared.note.NoteBody.TheVariants as notes
 use Rattle.run_law.specs.records.Happenings.{earlier, time_of, Happening}
 use Rattle.run_law.specs.runs.DueRecords.{IsCaused}
@@ -83,26 +83,6 @@ synchronised_keep_time brings v n t span device is timed =
 
 -- ---- reaching
 
--- a cycle more is as long as a cycle
-one_more : (cycle length : ℕ) → suc cycle * length ≡ cycle * length + length
-one_more cycle length = omega arith
-
--- behind the end of a cycle's block its hull lies a correction back
-pub begins_late : (v : View) (n : ℕ) (stands : Stands v (suc n)) → IsView v
-    → ((stands.hull.greatest +ℤ pos (v.sizes.correction + v.sizes.reach)) +ℤ pos 1) ≤ℤ pos stands.next
-begins_late v n stands is =
-    let over = stands.is_over in
-    let before = over.0 in
-    let narrow = narrow_before in
-    let order = instants_are_in_order v.sizes before stands.hull (room v is) narrow (follows_before v n before stands.hull is over.1 stands.is_hull) in
-    omega (arith, ints, over.2, order.last_not_early)
-  where
-    narrow_before : IsNarrow v.sizes stands.is_over.0
-    narrow_before =
-        let there = stands.narrow n (omega arith) in
-        let same : there.0 ≡ stands.is_over.0 = same_some (hull_of v n) there.0 stands.is_over.0 there.1 stands.is_over.1 in
-        subst (IsNarrow v.sizes) same there.2
-
 -- a clock that was set before the block reaches the value in no other cycle
 same_cycle : (v : View) (n k value t : ℕ) (block : IsInBlock v k t) (shown : ℤ) → IsView v → 1 ≤ n → IsInSchedule v.sizes value
     → ShowsIn v.sizes shown k block.before.hull t
@@ -114,7 +94,7 @@ same_cycle v n k value t block shown is begun within shows least most =
     elim (cases_lt k n) [
       | inl lt ↦
           let more : suc k * v.sizes.cycle ≤ n * v.sizes.cycle = mul-le-mul_right v.sizes.cycle (omega (arith, lt)) in
-          let one = one_more k v.sizes.cycle in
+          let one = suc-mul k v.sizes.cycle in
           absurd (omega (arith, ints, more, one, least, shows.most, block.to, ends, narrow, within.begins, space.eight_errors, space.errors.reach_is))
       | inr ge ↦ elim (cases_lt n k) [
         | inl lt ↦ absurd (by k block shows lt)
@@ -128,7 +108,7 @@ same_cycle v n k value t block shown is begun within shows least most =
         let space = room v is in
         let late = begins_late v j block.before is in
         let more : suc n * v.sizes.cycle ≤ suc j * v.sizes.cycle = mul-le-mul_right v.sizes.cycle (omega (arith, lt)) in
-        let one = one_more n v.sizes.cycle in
+        let one = suc-mul n v.sizes.cycle in
         absurd (omega (arith, ints, more, one, most, shows.least, block.from, late, within.ends, space.eight_errors, space.errors.reach_is))
 
 pub values_are_reached_in_spans : BringsBlocks → ValuesAreReachedInSpans
@@ -175,6 +155,6 @@ values_are_reached_in_spans brings v n value t device is timed in_run begun with
       | inl lt ↦ (let more : suc k * v.sizes.cycle ≤ n * v.sizes.cycle = mul-le-mul_right v.sizes.cycle (omega (arith, lt)) in
           omega (arith, ints, more, least, near.most, within.begins, space.eight_errors, space.errors.reach_is, space.errors.clock_is))
       | inr ge ↦ (let more : n * v.sizes.cycle ≤ k * v.sizes.cycle = mul-le-mul_right v.sizes.cycle ge in
-          let one = one_more k v.sizes.cycle in
+          let one = suc-mul k v.sizes.cycle in
           omega (arith, ints, more, one, most, near.least, within.ends, space.eight_errors, space.errors.reach_is, space.errors.clock_is))
     ]))

@@ -6,13 +6,13 @@ use Rattle.precision_law.proofs.clocks.Epochs.{state_stays}
 use Rattle.precision_law.specs.Blocks.{state_left}
 use Rattle.precision_law.specs.Epochs.{epoch_time}
 use Rattle.precision_law.specs.Views.{IsView, View}
+use Rattle.run_law.proofs.device.States.{is_in}
 use Rattle.run_law.specs.declared.note.NoteBody.{NoteBody}
 use Rattle.run_law.specs.device.States.{is_synchronised, state_with}
 use Rattle.run_law.specs.records.Happenings.{Happening, earlier}
 use Rattle.run_law.specs.records.Order.{IsIn}
 use Rattle.sync_state.specs.declared.state.State.TheVariants.{Synchronised}
 use Rattle.sync_state.specs.declared.state.State.{State}
-use Rattle.traffic_law.proofs.delivery.Faultless.{synchronised_so}
 
 -- ---- backwards
 
@@ -36,4 +36,4 @@ kept_if false state old never e = e
 pub synchronised_stays : (v : View) (device : DeviceId) (u t : ℕ) → IsView v → u ≤ t → epoch_time (earlier t v.records) device <ℤ pos u
     → state_left v device t ≡ Synchronised → state_left v device u ≡ Synchronised
 synchronised_stays v device u t is le early timed =
-    synchronised_so (state_left v device u) (state_stays is_synchronised refl v device u t is le early (ap is_synchronised timed))
+    is_in (state_left v device u) (state_stays is_synchronised refl v device u t is le early (ap is_synchronised timed))

@@ -1,0 +1,123 @@
+-- What a frame is judged as, and what it ripens to.
+use Rattle.std.proofs.Common.{Bool, List, MatchBool, None, Option, Some, cond, false, option_map, refl, true, ℕ, ℤ, ◌≡◌}
+use Rattle.compression.proofs.Times.{one_list_of_clusters}
+use Rattle.compression.specs.Clusters.{Point}
+use Rattle.compression.specs.Role.{role}
+use Rattle.compression.specs.declared.taken.Taken.{Taken}
+use Rattle.run_law.specs.control.Collections.{observation_window, ripe_by_role}
+use Rattle.run_law.specs.declared.steps.Ripe.TheVariants as ripe
+use Rattle.compression.specs.declared.taken.Taken.TheVariants as takings
+use Rattle.net_plan.specs.declared.ids.DeviceId.{DeviceId}
+use Rattle.net_plan.specs.declared.network.Network.{Network}
+use Rattle.pcf_values.specs.declared.members.Members.{Members}
+use Rattle.pcf_values.specs.declared.pcf.Pcf.{Pcf}
+use Rattle.run_law.specs.control.Corrections.{cycle_after}
+use Rattle.run_law.specs.control.Hearing.{heard_as, heard_by_schedule, heard_enough}
+use Rattle.run_law.specs.control.Permanence.{IsCollectedOrDropped, IsPermanenceOutcome, ripe_as}
+use Rattle.run_law.specs.declared.judgement.Judgement.{Judgement}
+use Rattle.run_law.specs.declared.judgement.Reason.{Reason}
+use Rattle.run_law.specs.declared.judgement.Judgement.TheVariants as judgements
+use Rattle.run_law.specs.declared.judgement.Judgement.TheVariants.{Integrates}
+use Rattle.run_law.specs.declared.note.NoteBody.{NoteBody}
+use Rattle.run_law.specs.device.LocalClocks.{changes_adjustment}
+use Rattle.run_law.specs.records.Happenings.{Happening}
+use Rattle.run_law.specs.declared.note.NoteBody.TheVariants as notes
+use Rattle.run_law.specs.declared.steps.Ripe.{Ripe}
+use Rattle.run_law.specs.declared.steps.Ripe.TheVariants.{Within}
+use Rattle.run_law.specs.scenario.Devices.{is_cm}
+use Rattle.sync_state.specs.declared.plan.SyncPlan.{SyncPlan}
+use Rattle.sync_state.specs.declared.state.State.{State}
+use Rattle.sync_state.specs.declared.state.State.TheVariants as states
+use Rattle.sync_state.specs.declared.state.State.TheVariants.{Integrating, Joining, Off, Synchronised}
+
+-- a role in a collection is no integration
+pub role_not : (taken : Taken) → ripe.Integrates ≡ ripe_by_role taken → ⊥
+role_not takings.Opened e = cc
+role_not takings.Joined e = cc
+role_not takings.Repeat e = cc
+role_not takings.OtherCycle e = cc
+
+pub collected_not : (network : Network) (points : List Point) (p : Point) (fault : Option Reason) → IsCollectedOrDropped network points p fault ripe.Integrates → ⊥
+collected_not network points p None so = role_not so.taken so.becomes
+collected_not network points p (Some reason) so = cc
+
+pub never_dropped : (v : Judgement) (reason : Reason) → ripe.Dropped reason ≡ ripe_as v → ⊥
+never_dropped judgements.Opened reason e = cc
+never_dropped judgements.Joined reason e = cc
+never_dropped judgements.Repeat reason e = cc
+never_dropped judgements.Within reason e = cc
+never_dropped judgements.Outside reason e = cc
+never_dropped judgements.Integrates reason e = cc
+never_dropped judgements.Ignored reason e = cc
+
+-- where no reason is the first, its test fails and no later one is
+pub none_first : (b : Bool) (x : Bool × Reason) (o : Option (Bool × Reason)) → option_map (λ test. test.1) (cond b (Some x) o) ≡ None
+    → (b ≡ false) × (option_map (λ test. test.1) o ≡ None)
+none_first true x o e = absurd cc
+none_first false x o e = (refl, e)
+
+pub by_schedule : (b : Bool) → heard_by_schedule b ≡ Integrates → ⊥
+by_schedule true e = absurd cc
+by_schedule false e = absurd cc
+
+pub cycle_stays : (device : DeviceId) (old : ℕ) (h : Happening) (body : NoteBody) → changes_adjustment device body ≡ false → cycle_after device old h body ≡ old
+cycle_stays device old h (notes.Corrected d number by adjustment) e = rw e refl
+cycle_stays device old h (notes.Permanent d link cause point Integrates) e = rw e refl
+cycle_stays device old h (notes.Compressed d opened own of_cycle members Integrates) e = rw e refl
+cycle_stays device old h body e = refl
+
+pub collected : (network : Network) (points : List Point) (point : Point) (fault : Option Reason)
+    → (is : Ripe) × IsCollectedOrDropped network points point fault is
+collected network points point (Some reason) = (ripe.Dropped reason, refl)
+collected network points point None =
+    let all = one_list_of_clusters (observation_window network) points in (
+      ripe_by_role (role all.0 point),
+      record { taken = role all.0 point; collected = record { clusters = all.0; are = all.1; is = refl }; becomes = refl },
+    )
+
+pub by_kind : (b : Bool) (P : Ripe → Type 0) (heard : Ripe) → (is : Ripe) × P is → (is : Ripe) × MatchBool b (P is) (is ≡ heard)
+by_kind true P heard there = there
+by_kind false P heard there = (heard, refl)
+
+pub some_outcome : (network : Network) (device : DeviceId) (state : State) (adjustment : ℤ) (points : List Point) (frame : Pcf) (point : ℤ)
+    → (is : Ripe) × IsPermanenceOutcome network device state adjustment points frame point is
+some_outcome network device state adjustment points frame point =
+    by_kind (is_cm network device) (λ is. IsCollectedOrDropped network points _ _ is) _ (collected network points _ _)
+
+pub heard_integrates : (plan : SyncPlan) (precision : ℤ) (state : State) (adjustment point : ℤ) (cycle : ℕ) (members : Members)
+    → heard_as plan precision state adjustment point cycle members ≡ judgements.Integrates → state ≡ states.Integrating
+heard_integrates plan precision states.Off adjustment point cycle members e = absurd cc
+heard_integrates plan precision states.Integrating adjustment point cycle members e = refl
+heard_integrates plan precision states.Joining adjustment point cycle members e = absurd (by_schedule _ e)
+heard_integrates plan precision states.Synchronised adjustment point cycle members e = absurd (by_schedule _ e)
+
+pub looking_ripe : (plan : SyncPlan) (precision : ℤ) (state : State) (adjustment point : ℤ) (cycle : ℕ) (members : Members)
+    → ripe.Integrates ≡ ripe_as (heard_as plan precision state adjustment point cycle members) → state ≡ Integrating
+looking_ripe plan precision Off adjustment point cycle members e = absurd cc
+looking_ripe plan precision Integrating adjustment point cycle members e = refl
+looking_ripe plan precision Joining adjustment point cycle members e = absurd (not_scheduled _ e)
+  where
+    not_scheduled : (b : Bool) → ripe.Integrates ≡ ripe_as (heard_by_schedule b) → ⊥
+    not_scheduled true e = cc
+    not_scheduled false e = cc
+looking_ripe plan precision Synchronised adjustment point cycle members e = absurd (not_scheduled _ e)
+  where
+    not_scheduled : (b : Bool) → ripe.Integrates ≡ ripe_as (heard_by_schedule b) → ⊥
+    not_scheduled true e = cc
+    not_scheduled false e = cc
+
+pub in_time_not : (b : Bool) → ripe_as (heard_by_schedule b) ≡ ripe.Integrates → ⊥
+in_time_not true e = cc
+in_time_not false e = cc
+
+pub in_time_by : (b : Bool) → ripe_as (heard_by_schedule b) ≡ Within → b ≡ true
+in_time_by true e = refl
+in_time_by false e = absurd cc
+
+pub tells_by : (b : Bool) → ripe_as (heard_enough b) ≡ ripe.Integrates → b ≡ true
+tells_by true e = refl
+tells_by false e = absurd cc
+
+pub enough_not : (b : Bool) → ripe_as (heard_enough b) ≡ Within → ⊥
+enough_not true e = cc
+enough_not false e = cc

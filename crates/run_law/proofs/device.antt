@@ -1,0 +1,2 @@
+-- Device.
+pub mod States

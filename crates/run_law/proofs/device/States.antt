@@ -1,0 +1,49 @@
+-- The state of a device.
+use Rattle.std.proofs.Common.{Bool, List, None, false, filter, if◌then◌else◌, pos, refl, subst, true, ℕ, ℤ, ◌≡◌}
+use Rattle.std.specs.List.{last_or}
+use Rattle.std.specs.Option.{option_map_or}
+use Rattle.std.specs.Prelude.{◌+ℤ◌, ◌-ℤ◌, ◌<ℤ◌}
+use Rattle.drift_clock.specs.Reach.{IsReach}
+use Rattle.net_plan.specs.declared.ids.DeviceId.{DeviceId}
+use Rattle.run_law.specs.declared.judgement.Judgement.TheVariants.{Integrates}
+use Rattle.run_law.specs.declared.note.NoteBody.{NoteBody}
+use Rattle.run_law.specs.device.LocalClocks.{Reaches, changes_adjustment}
+use Rattle.run_law.specs.device.States.{adjustment_after, adjustment_with, is_joined_by, is_off, is_synchronised}
+use Rattle.run_law.specs.records.Happenings.{Happening, earlier, time_of}
+use Rattle.run_law.specs.scenario.Scenarios.{Scenario}
+use Rattle.sync_state.specs.declared.state.State.{State}
+use Rattle.sync_state.specs.declared.state.State.TheVariants.{Joining, Synchronised}
+use Rattle.run_law.specs.declared.note.NoteBody.TheVariants as notes
+use Rattle.tte_units.specs.declared.units.Units.{Units}
+
+-- a clock reaches a value by the records of earlier times
+pub reaches_by : (s : Scenario) (gs hs : List Happening) (device : DeviceId) (v : ℤ) (t : ℕ) → earlier t gs ≡ earlier t hs → Reaches s gs device v t
+    → Reaches s hs device v t
+reaches_by s gs hs device v t same h =
+    let changed : List Happening → ℕ = λ es. option_map_or time_of (last_or None (filter (λ x. changes_adjustment device x.note.body) es)) 0 in
+    record {
+      below = subst (λ (es : List Happening). (pos (s.reading device (changed es)) +ℤ (adjustment_after s es device).0) <ℤ v) same h.below;
+      reach = subst (λ (es : List Happening). IsReach (s.reading device) (pos (changed es)) (v -ℤ (adjustment_after s es device).0) (pos t)) same h.reach;
+    }
+
+-- the test of the state
+pub is_in : (state : State) → is_synchronised state ≡ true → state ≡ Synchronised
+is_in Synchronised e = refl
+is_in state e = absurd cc
+
+-- a frame that tells the device the time changes its adjustment
+pub joined_changes : (device : DeviceId) (body : NoteBody) → is_joined_by device body ≡ true → changes_adjustment device body ≡ true
+joined_changes device (notes.Corrected other cycle by adjustment) e = absurd cc
+joined_changes device body e = e
+
+-- other records leave it
+pub adjustment_kept : (s : Scenario) (device : DeviceId) (cycle : ℕ) (old : Units) (body : NoteBody) → changes_adjustment device body ≡ false
+    → adjustment_with s device cycle old body ≡ old
+adjustment_kept s device cycle old (notes.Corrected d number by adjustment) e = rw e refl
+adjustment_kept s device cycle old (notes.Permanent d link cause point Integrates) e = rw e refl
+adjustment_kept s device cycle old (notes.Compressed d opened own of_cycle members Integrates) e = rw e refl
+adjustment_kept s device cycle old body e = refl
+
+pub joined_or : (b : Bool) (old : State) → is_off old ≡ false → is_off (if b then Joining else old) ≡ false
+joined_or true old e = refl
+joined_or false old e = e

@@ -1,0 +1,3 @@
+-- Records.
+pub mod Order
+pub mod Happenings

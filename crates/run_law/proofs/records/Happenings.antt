@@ -1,0 +1,66 @@
+-- Records, their numbers and their places.
+use Rattle.std.proofs.Common.{Bool, List, Some, [], ap, append_assoc, false, if◌then◌else◌, inl, inr, length, nat_lt, refl, subst, suc, sym, true, zero, ℕ, ◌++◌, ◌<◌, ◌∙◌, ◌∷◌, ◌≡◌}
+use Rattle.std.proofs.lemmas.Bool.{cases_lt, le-ltb, lt-ltb}
+use Rattle.std.proofs.lemmas.List.{append-nil, length-map}
+use Rattle.std.specs.List.{fold}
+use Rattle.net_plan.specs.declared.network.Network.{Network}
+use Rattle.run_law.specs.declared.note.Note.{Note}
+use Rattle.run_law.specs.records.Happenings.{Happening, earlier, happening, happenings, numbered, time_of}
+use Rattle.run_law.specs.records.Order.{IsBefore, IsIn}
+use Rattle.run_law.specs.records.Ranks.{key, members_in, place_of, rank}
+use Rattle.run_law.proofs.records.Order.{got_in}
+use Rattle.run_law.proofs.runs.NetworkRuns.{one_more, same_notes}
+use Rattle.run_law.proofs.runs.Places.{earlier_time}
+
+-- what the list has by a number is in it
+pub numbered_in : (hs : List Happening) (n : ℕ) (x : Happening) → numbered hs n ≡ Some x → IsIn x hs
+numbered_in hs zero x e = absurd cc
+numbered_in hs (suc k) x e = got_in hs k x e
+
+pub none_numbered : (number : ℕ) (g : Happening) → numbered [] number ≡ Some g → ⊥
+none_numbered zero g e = cc
+none_numbered (suc before) g e = cc
+
+-- a record is earlier exactly where its time is
+pub from_earlier : (t : ℕ) (hs : List Happening) (h : Happening) → IsIn h (earlier t hs) → IsIn h hs × (time_of h < t)
+from_earlier t [] h i = absurd i
+from_earlier t (x ∷ hs) h i =
+    elim (cases_lt (time_of x) t) [
+      | inl lt ↦ elim (subst (λ (b : Bool). IsIn h (if b then x ∷ earlier t hs else earlier t hs)) (lt-ltb (time_of x) t lt) i) [
+        | inl same ↦ (inl same, subst (λ (y : Happening). time_of y < t) (sym same) lt)
+        | inr more ↦ let it = from_earlier t hs h more in (inr it.0, it.1)
+      ]
+      | inr ge ↦ let it =
+          from_earlier t hs h (subst (λ (b : Bool). IsIn h (if b then x ∷ earlier t hs else earlier t hs)) (le-ltb (time_of x) t ge) i) in (inr it.0, it.1)
+    ]
+
+pub is_earlier : (t : ℕ) (hs : List Happening) (h : Happening) → IsIn h hs → time_of h < t → IsIn h (earlier t hs)
+is_earlier t [] h i lt = i
+is_earlier t (x ∷ hs) h (inl same) lt =
+    let early : nat_lt (time_of x) t ≡ true = ap (λ (y : Happening). nat_lt (time_of y) t) (sym same) ∙ lt-ltb (time_of h) t lt in
+    subst (λ (b : Bool). IsIn h (if b then x ∷ earlier t hs else earlier t hs)) (sym early) (inl same)
+is_earlier t (x ∷ hs) h (inr i) lt =
+    elim (nat_lt (time_of x) t) as (λ b. IsIn h (if b then x ∷ earlier t hs else earlier t hs))
+    [ true ↦ inr (is_earlier t hs h i lt) | false ↦ is_earlier t hs h i lt ]
+
+-- there are as many records with their frames as records
+pub as_many : (network : Network) (ns : List Note) → length (happenings network ns) ≡ length ns
+as_many network ns = sym (length-map (happenings network ns) (λ h. h.note)) ∙ ap length (same_notes network ns)
+
+pub happenings_on : (network : Network) (notes rest : List Note) → (hs : List Happening) × (happenings network (notes ++ rest) ≡ happenings network notes ++ hs)
+happenings_on network notes [] = ([], ap (happenings network) (append-nil notes) ∙ sym (append-nil (happenings network notes)))
+happenings_on network notes (m ∷ rest) =
+    let r = happenings_on network (notes ++ m ∷ []) rest in
+    let h = happening network (happenings network notes) m in (
+      h ∷ r.0,
+      ap (happenings network) (sym (append_assoc notes (m ∷ []) rest)) ∙ r.1 ∙ ap (λ (l : List Happening). l ++ r.0) (one_more network notes m)
+          ∙ append_assoc (happenings network notes) (h ∷ []) r.0,
+    )
+
+-- and what is before the time is of an earlier one
+pub soon : (y : Happening) (u : ℕ) → IsBefore (place_of y) (u ∷ []) → time_of y < u
+soon y u b = earlier_time (time_of y) u (rank y.note.body ∷ key (members_in y) y.note.body) b
+
+pub fold_parts : {A : Type 0} (f : A → Happening → A) (a : A) (xs ys : List Happening) → fold f a (xs ++ ys) ≡ fold f (fold f a xs) ys
+fold_parts f a [] ys = refl
+fold_parts f a (x ∷ xs) ys = fold_parts f (f a x) xs ys

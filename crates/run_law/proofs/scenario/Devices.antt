@@ -1,0 +1,140 @@
+-- Devices of a scenario.
+use Rattle.std.proofs.Common.{Bool, List, None, Option, Some, [], ap, append_assoc, arith, false, filter, if◌then◌else◌, inl, inr, nat_le, pos, refl, subst, sym, true, ℕ, ◌++◌, ◌||◌, ◌∙◌, ◌∷◌, ◌≡◌, ◌≤ℤ◌, ◌≤◌}
+use Rattle.std.proofs.lemmas.Bool.{cases_lt, eq-eqb, eqb-true, le-leb}
+use Rattle.std.proofs.lemmas.Int.{ints}
+use Rattle.std.proofs.lemmas.List.{append-nil}
+use Rattle.std.specs.List.{list_any}
+use Rattle.std.specs.Option.{option_map_or}
+use Rattle.std.specs.Prelude.{IsSomeAnd, ◌==◌}
+use Rattle.net_plan.proofs.SameIds.{alike}
+use Rattle.net_plan.specs.Places.{IsEndSystem, device_at, is_end_system, is_master, link_at}
+use Rattle.net_plan.specs.declared.event.Event.{Event}
+use Rattle.net_plan.specs.declared.event.What.{What}
+use Rattle.net_plan.specs.declared.ids.DeviceId.{DeviceId}
+use Rattle.run_law.specs.scenario.Scenarios.{Scenario, is_broken, turns_on}
+use Rattle.net_plan.specs.declared.event.What.TheVariants as events
+use Rattle.net_plan.specs.declared.ids.LinkId.{LinkId}
+use Rattle.net_plan.specs.declared.network.Network.{Network}
+use Rattle.net_plan.specs.declared.tables.Device.{Device}
+use Rattle.net_plan.specs.declared.tables.Link.{Link}
+use Rattle.net_plan.specs.declared.tables.Role.{Role}
+use Rattle.net_plan.specs.declared.tables.Role.TheVariants.{Client, Cm, Master, Relay}
+use Rattle.run_law.specs.scenario.Hypothesis.{AreWithinHypothesis, IsWithinHypothesis, breaks_at}
+use Rattle.tte_units.specs.Amount.{amount}
+use Rattle.run_law.proofs.runs.Grow.{in_two}
+use Rattle.run_law.specs.declared.outside.Outside.TheVariants as outside
+use Rattle.run_law.specs.scenario.Devices.{IsParentOf, has_role, is_cm_role, is_end, is_parent_of}
+use Rattle.tte_lemmas.proofs.Options.{opened}
+
+-- the test of such an event
+pub on_by : (device : DeviceId) (what : What) → turns_on device what ≡ true → what ≡ events.On device
+on_by device (events.On other) e = ap (λ (n : ℕ). events.On (let x : DeviceId = record { 0 = n } in x)) (sym (eqb-true device.0 other.0 e))
+on_by device other e = absurd cc
+
+-- one more event within the hypothesis
+pub all_within : (network : Network) (past : List Event) (event : Event) → AreWithinHypothesis network past → IsWithinHypothesis network past event
+    → AreWithinHypothesis network (past ++ event ∷ [])
+all_within network past event all here before behind e order =
+    elim (in_two past before (e ∷ behind) event order) [
+      | inl l ↦ absurd (not_none e behind l.0)
+      | inr r ↦ at r.others r.last r.whole
+    ]
+  where
+    not_none : (x : Event) (xs : List Event) → x ∷ xs ≡ [] → ⊥
+    not_none x xs e = cc
+
+    at : (others : List Event) → e ∷ behind ≡ others ++ event ∷ [] → past ≡ before ++ others → IsWithinHypothesis network before e
+    at [] last whole =
+        let same : event ≡ e = cc in
+        let all_before : past ≡ before = whole ∙ append-nil before in
+        subst (λ (l : List Event). IsWithinHypothesis network l e) all_before (subst (λ (x : Event). IsWithinHypothesis network past x) same here)
+    at (o ∷ others) last whole =
+        let same : o ≡ e = cc in
+        all before others e (whole ∙ ap (λ (x : Event). before ++ x ∷ others) same)
+
+-- one is not before the last of those that befell before it
+pub in_turn : (network : Network) (front : List Event) (last event : Event) → IsWithinHypothesis network (front ++ last ∷ []) event → pos 0 ≤ℤ last.time.0
+    → pos 0 ≤ℤ event.time.0 → amount last.time ≤ amount event.time
+in_turn network front last event within first second = elim (cases_lt (amount event.time) (amount last.time)) [
+  | inl sooner ↦ absurd (within outside.Order (record { front = front; last = last; order = refl; later = omega (arith, ints, sooner, first, second) }))
+  | inr later ↦ later
+]
+
+pub broken_by : (device : DeviceId) (what : What) → breaks_at device.0 what ≡ true → what ≡ events.Break device
+broken_by device (events.Break other) e =
+    let same = eqb-true other.0 device.0 e in ap (λ (n : ℕ). events.Break (let d : DeviceId = record { 0 = n } in d)) same
+broken_by device other e = absurd cc
+
+-- a link's parent shows as one
+pub shown_parent : (n : Network) (device : DeviceId) (link : LinkId) → IsParentOf n device link → is_parent_of n device link ≡ true
+shown_parent n device link parent =
+    let l = opened (λ (k : Link). k.parent ≡ device) (link_at n link) parent in
+    ap (λ (o : Option Link). option_map_or (λ k. k.parent.0 == device.0) o false) l.1 ∙ eq-eqb l.0.parent.0 device.0 (ap (λ (d : DeviceId). d.0) l.2)
+
+pub end_is : (end_of : Link → DeviceId) (o : Option Link) (device : DeviceId) → option_map_or (λ l. (end_of l).0 == device.0) o false ≡ true
+    → IsSomeAnd o (λ l. end_of l ≡ device)
+end_is end_of None device e = absurd cc
+end_is end_of (Some l) device e = alike (end_of l) device e
+
+-- and what shows as one is
+pub parent_shown : (network : Network) (device : DeviceId) (link : LinkId) → is_parent_of network device link ≡ true → IsParentOf network device link
+parent_shown network device link e = end_is (λ (l : Link). l.parent) (link_at network link) device e
+
+-- the end system's test
+pub end_test : (network : Network) (device : DeviceId) → IsEndSystem network device → is_end network device ≡ true
+end_test network device end =
+    let d = opened (λ (x : Device). is_end_system x.role ≡ true) (device_at network device) end in
+    ap (λ (o : Option Device). option_map_or (λ x. is_end_system x.role) o false) d.1 ∙ d.2
+
+-- a master is an end system
+pub master_end : (network : Network) (device : DeviceId) → has_role network is_master device ≡ true → is_end network device ≡ true
+master_end network device e = by (device_at network device) e
+  where
+    by_role : (r : Role) → is_master r ≡ true → is_end_system r ≡ true
+    by_role Master e = refl
+    by_role Client e = absurd cc
+    by_role Cm e = absurd cc
+    by_role Relay e = absurd cc
+
+    by : (o : Option Device) → option_map_or (λ d. is_master d.role) o false ≡ true → option_map_or (λ d. is_end_system d.role) o false ≡ true
+    by None e = absurd cc
+    by (Some d) e = by_role d.role e
+
+-- the first of events within the hypothesis are
+pub within_front : (network : Network) (front rest : List Event) → AreWithinHypothesis network (front ++ rest) → AreWithinHypothesis network front
+within_front network front rest within before behind event order =
+    within before (behind ++ rest) event (ap (λ (l : List Event). l ++ rest) order ∙ append_assoc before (event ∷ behind) rest)
+
+-- a compression master's role
+pub cm_role : (role : Role) → is_cm_role role ≡ true → role ≡ Cm
+cm_role Cm e = refl
+cm_role role e = absurd cc
+
+pub any_less : (q : Event → Bool) (t later : ℕ) (xs : List Event) → t ≤ later → list_any q (filter (λ e. nat_le (amount e.time) later) xs) ≡ false
+    → list_any q (filter (λ e. nat_le (amount e.time) t) xs) ≡ false
+any_less q t later [] le none = refl
+any_less q t later (x ∷ xs) le none =
+    elim (cases_lt t (amount x.time)) [
+      | inl far ↦
+          ap (λ (b : Bool). list_any q (if b then x ∷ filter (λ e. nat_le (amount e.time) t) xs else filter (λ e. nat_le (amount e.time) t) xs))
+          (Rattle.std.proofs.lemmas.Bool.lt-leb (amount x.time) t far)
+          ∙ any_less q t later xs le (rest (nat_le (amount x.time) later) none)
+      | inr near ↦
+          let both = ap (λ (b : Bool). list_any q (if b then x ∷ filter (λ e. nat_le (amount e.time) later) xs
+          else filter (λ e. nat_le (amount e.time) later) xs))
+          (sym (le-leb (amount x.time) later (omega (arith, near, le)))) ∙ none in
+          let parts = Rattle.std.proofs.lemmas.Bool.or_parts (q x) (list_any q (filter (λ e. nat_le (amount e.time) later) xs)) both in
+          ap (λ (b : Bool). list_any q (if b then x ∷ filter (λ e. nat_le (amount e.time) t) xs else filter (λ e. nat_le (amount e.time) t) xs))
+          (le-leb (amount x.time) t near)
+          ∙ ap (λ (b : Bool). b || list_any q (filter (λ e. nat_le (amount e.time) t) xs)) parts.0
+          ∙ any_less q t later xs le parts.1
+    ]
+  where
+    rest : (b : Bool) → list_any q (if b then x ∷ filter (λ e. nat_le (amount e.time) later) xs else filter (λ e. nat_le (amount e.time) later) xs) ≡ false
+        → list_any q (filter (λ e. nat_le (amount e.time) later) xs) ≡ false
+    rest true e = (Rattle.std.proofs.lemmas.Bool.or_parts (q x) (list_any q (filter (λ e. nat_le (amount e.time) later) xs)) e).1
+    rest false e = e
+
+-- a device that is sound was so before
+pub correct_before : (s : Scenario) (device : DeviceId) (t later : ℕ) → t ≤ later → is_broken s device later ≡ false → is_broken s device t ≡ false
+correct_before s device t later le sound = any_less (λ e. breaks_at device.0 e.what) t later s.events le sound

@@ -1,0 +1,2 @@
+-- Timed.
+pub mod Rows

@@ -1,0 +1,40 @@
+-- Rows of the schedule.
+use Rattle.std.proofs.Common.{List, None, Some, filter, inl, inr, refl, subst, ℕ, ◌≡◌}
+use Rattle.std.specs.List.{last_or}
+use Rattle.std.specs.Prelude.{IsSome}
+use Rattle.net_plan.specs.Ranges.{IsRowInRange}
+use Rattle.net_plan.specs.declared.ids.DeviceId.{DeviceId}
+use Rattle.net_plan.specs.declared.network.Network.{Network}
+use Rattle.net_plan.specs.declared.tables.Row.{Row}
+use Rattle.run_law.specs.records.Happenings.{Happening, earlier}
+use Rattle.run_law.specs.timed.Arrivals.{entry_of}
+use Rattle.run_law.specs.timed.Dispatching.{HasAtHand, is_accepted}
+use Rattle.schedule_tables.specs.Entries.{IsEntry}
+use Rattle.schedule_tables.specs.declared.entry.Entry.{Entry}
+use Rattle.tte_lemmas.proofs.Lists.{some_at}
+
+pub entry_at : (network : Network) (place : ℕ) (entry : Entry) → IsEntry network place entry → entry_of network entry.row ≡ Some entry
+entry_at network place entry is = rw is.vl (rw is.link refl)
+
+pub has_entry : (network : Network) (row : Row) → IsRowInRange network row → IsSome (entry_of network row)
+has_entry network row r =
+    let vl = some_at network.vl row.vl.0 r.vl in
+    let link = some_at network.link row.link.0 r.link in
+    rw vl.1 (rw link.1 refl)
+
+pub at_hand_by : (network : Network) (js hs : List Happening) (device : DeviceId) (entry : Entry) (t cause cycle : ℕ) → earlier t js ≡ earlier t hs
+    → HasAtHand network js device entry t cause cycle → HasAtHand network hs device entry t cause cycle
+at_hand_by network js hs device entry t cause cycle same (inl sender) = inl sender
+at_hand_by network js hs device entry t cause cycle same (inr took) =
+    inr (
+      took.0,
+      record {
+        taken = took.1.taken;
+        last =
+            subst (λ (w : List Happening). last_or None (filter (λ h. is_accepted device entry.row.vl h.note.body) w) ≡ Some took.1.taken) same took.1.last;
+        number = took.1.number;
+        link = took.1.link;
+        from = took.1.from;
+        is = took.1.is;
+      },
+    )
