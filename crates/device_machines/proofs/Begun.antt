@@ -4,9 +4,9 @@ use Rattle.std.specs.Prelude.{slice_get}
 use Rattle.net_plan.specs.declared.ids.DeviceId.{DeviceId}
 use Rattle.net_plan.specs.declared.network.Network.{Network}
 use Rattle.run_law.specs.machines.Nodes.{begun_node}
-use Rattle.schedule_tables.proofs.EntryLemmas.{pushed}
 use Rattle.device_machines.specs.Standing.{StandsAsDevice}
 use Rattle.device_machines.specs.declared.device_machine.DeviceMachine.{DeviceMachine}
+use Rattle.tte_lemmas.proofs.Lists.{pushed}
 
 -- the machine stands for the device at the place, which has just begun
 abbrev pub HasBegun : Network → ℕ → DeviceMachine → Type 0

@@ -41,7 +41,8 @@ pub struct World<'a, C: Clock> {
 impl<'a, C: Clock> World<'a, C> {
     /// The world of a network at time 0, which nothing has befallen.
     pub fn begin(alloc: Global, accepted: &'a Accepted) -> Result<World<'a, C>, OutOfMemory>
-        ensures stands { IfOk result (λ world. StandsUnder C.fresh C.after_step C.reading StandsAsDevice accepted.now world.inner [] []) }
+        ensures stands { IfOk result (λ world.
+            StandsUnder C.fresh C.after_step C.reading StandsAsDevice accepted.now world.inner [] []) }
         ensures fresh { IfOk result (λ world. (world.inner.now ≡ 0) × (world.inner.early ≡ true)) }
     {
         let Ok(machines) = machines_of(alloc, accepted) else {
@@ -55,9 +56,9 @@ impl<'a, C: Clock> World<'a, C> {
 
     /// The event of this line befalls the network, at its time, before which no record is left. Its record is answered.
     ///
-    /// The lines count the events from 1. The event is within the fault hypothesis after those applied, comes before the
-    /// end, and is not past. A hold that it sets is a time from 0 on. On an error it has not befallen the network, and
-    /// may be applied again.
+    /// The lines count the events from 1. The event is within the fault hypothesis after those applied, comes before
+    /// the end, and is not past. A hold that it sets is a time from 0 on. On an error it has not befallen the network,
+    /// and may be applied again.
     pub fn apply(&mut self, line: u64, event: &Event) -> Result<Note, OutOfMemory>
         requires line { line ≡ self.old.inner.lines + 1 }
         requires open { IsOpenFrom self.old.inner event.now }
@@ -65,7 +66,8 @@ impl<'a, C: Clock> World<'a, C> {
         requires hold { HoldsATime event.now.what }
         ensures stands { (network : Network) (events : List EventValue) (notes : List NoteValue)
             → ComesBehind C.fresh C.after_step C.reading StandsAsDevice network self.old.inner events notes event.now
-            → MatchResult result (λ note. StandsUnder C.fresh C.after_step C.reading StandsAsDevice network self.new.inner
+            → MatchResult result
+            (λ note. StandsUnder C.fresh C.after_step C.reading StandsAsDevice network self.new.inner
             (events ++ event.now ∷ []) (notes ++ note ∷ []))
             (λ _. StandsUnder C.fresh C.after_step C.reading StandsAsDevice network self.new.inner events notes) }
         ensures run { (network : Network) (events : List EventValue) (notes : List NoteValue)
@@ -90,14 +92,16 @@ impl<'a, C: Clock> World<'a, C> {
         requires limit { until.0 ≤ℤ pos (2 ^ 60 + 1) }
         ensures stands { (network : Network) (events : List EventValue) (notes : List NoteValue)
             → StandsUnder C.fresh C.after_step C.reading StandsAsDevice network self.old.inner events notes
-            → StandsUnder C.fresh C.after_step C.reading StandsAsDevice network self.new.inner events (notes ++ given_by result) }
+            → StandsUnder C.fresh C.after_step C.reading StandsAsDevice network self.new.inner events
+            (notes ++ given_by result) }
         ensures complete { (network : Network) (events : List EventValue) (notes : List NoteValue)
             → StandsUnder C.fresh C.after_step C.reading StandsAsDevice network self.old.inner events notes
             → pos self.old.inner.now <ℤ until.0
             → IfOk result (λ next. IfNone next
             (IsSafeFront C.fresh C.after_step C.reading network events (amount (bounded self.old.inner until)) notes)) }
         ensures reached { ComesUpTo self.old.inner self.new.inner (bounded self.old.inner until) result }
-        ensures before { IfOk result (λ next. IfSome next (λ note. (note.time ≡ units_of self.new.inner.now) × (note.time.0 <ℤ until.0))) }
+        ensures before { IfOk result (λ next. IfSome next (λ note.
+            (note.time ≡ units_of self.new.inner.now) × (note.time.0 <ℤ until.0))) }
         ensures fewer { IfOk result (λ next. IfSome next (λ _. left_of self.new.inner < left_of self.old.inner)) }
     {
         self.inner.next(until)

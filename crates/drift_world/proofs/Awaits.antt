@@ -1,5 +1,6 @@
 -- What waits by a record, as its law asks for it.
 use Rattle.std.proofs.Common.{◌≡◌, ◌⊎◌, ℕ, pos, Bool, true, false, not, ◌&&◌, List, ◌∷◌, [], ◌++◌, map, Option, Some, None, inl, inr, refl, sym, ap, subst, ◌∙◌}
+use Rattle.std.proofs.lemmas.Option.{same_Some}
 use Rattle.std.specs.Prelude.{if◌then◌else◌}
 use Rattle.net_plan.specs.declared.ids.DeviceId.{DeviceId}
 use Rattle.net_plan.specs.declared.ids.LinkId.{LinkId}
@@ -12,33 +13,16 @@ use Rattle.run_law.specs.records.Happenings.{Happening, time_of}
 use Rattle.run_law.specs.records.Order.{IsIn}
 use Rattle.run_law.specs.scenario.Scenarios.{Scenario, is_broken}
 use Rattle.transparent_clock.specs.Points.{point_of}
-use Rattle.drift_world.proofs.Puts.{map_parts}
-use Rattle.world_state.proofs.UnderWays.{some_is}
-use Rattle.world_state.specs.Giving.{awaited_by, giver_of, waits_from, with_one}
+use Rattle.world_state.specs.Giving.{awaited_by, giver_of, waits_from}
+use Rattle.world_state.specs.Frames.{IsOneMore}
 use Rattle.world_state.specs.Views.{waiting_as}
 use Rattle.world_state.specs.declared.contents.Waits.{Waits}
 use Rattle.world_state.specs.declared.giving.Giving.{Giving}
 use Rattle.world_law.specs.world.Moves.{AreAwaited}
 use Rattle.world_law.specs.world.World.{IsAwaitedFor, Waiting}
-
-in_push : {X : Type 0} (xs : List X) (y x : X) → IsIn x (xs ++ y ∷ []) → IsIn x xs ⊎ (x ≡ y)
-in_push [] y x (inl e) = inr e
-in_push [] y x (inr rest) = absurd rest
-in_push (z ∷ xs) y x (inl e) = inl (inl e)
-in_push (z ∷ xs) y x (inr rest) =
-    elim (in_push xs y x rest) [
-      | inl i ↦ inl (inr i)
-      | inr e ↦ inr e
-    ]
-
-push_old : {X : Type 0} (xs : List X) (y x : X) → IsIn x xs → IsIn x (xs ++ y ∷ [])
-push_old [] y x there = absurd there
-push_old (z ∷ xs) y x (inl e) = inl e
-push_old (z ∷ xs) y x (inr rest) = inr (push_old xs y x rest)
-
-push_new : {X : Type 0} (xs : List X) (y x : X) → x ≡ y → IsIn x (xs ++ y ∷ [])
-push_new [] y x e = inl e
-push_new (z ∷ xs) y x e = inr (push_new xs y x e)
+use Rattle.std.specs.List.Sorted.{IsPermutation}
+use Rattle.std.proofs.lemmas.List.Sorted.{IsPermutation-map, IsPermutation-sym}
+use Rattle.due_queue.proofs.Bags.{in_permuted}
 
 -- an arrival, or another record, by which nothing waits
 record IsArrival (body : NoteBody) : Type 0 where
@@ -88,7 +72,7 @@ none_awaited s x number old none = record { real = λ e there. inl there; kept =
 
 module _ (s : Scenario) (now : ℕ) (x : Happening) (number : ℕ) (giving : Giving) (at : time_of x ≡ now) (by : giver_of x.note.body ≡ Some giving.device)
     (numbered : giving.number ≡ number) (frame : x.frame ≡ Some giving.frame) (read : giving.reading ≡ s.reading giving.device now)
-    (broken : giving.broken ≡ is_broken s giving.device now) (old : List Waits) where
+    (broken : giving.broken ≡ is_broken s giving.device now) (old new : List Waits) where
   reads_so : giving.reading ≡ s.reading giving.device (time_of x)
   reads_so = read ∙ ap (s.reading giving.device) (sym at)
 
@@ -106,7 +90,7 @@ module _ (s : Scenario) (now : ℕ) (x : Happening) (number : ℕ) (giving : Giv
         let device : e.device ≡ giving.device = cc in
         let links : e.link ≡ link = cc in
         let clocks : for.clock ≡ clock = cc in
-        let frames : e.frame ≡ giving.frame = some_is _ _ (sym for.of_frame ∙ frame) in
+        let frames : e.frame ≡ giving.frame = same_Some _ _ (sym for.of_frame ∙ frame) in
         let points : e.point.0 ≡ point_of (pos giving.reading) clock s.network.dmax.0 =
         for.at_point ∙ ap (λ (d : DeviceId). point_of (pos (s.reading d (time_of x))) for.clock s.network.dmax.0) device
         ∙ ap (λ (k : ℕ). point_of (pos (s.reading giving.device (time_of x))) k s.network.dmax.0) clocks
@@ -114,23 +98,24 @@ module _ (s : Scenario) (now : ℕ) (x : Happening) (number : ℕ) (giving : Giv
         (same_waiting e (waiting_as one) device links (cause_is ∙ sym numbered) frames points, device, links)
 
     arrival_waits : (b : Bool) → (not giving.broken && waits_for s.network giving.device link) ≡ b
-        → AreAwaited s x number (map waiting_as old) (map waiting_as (with_one (if b then Some one else None) old))
-    arrival_waits false e = none_awaited s x number (map waiting_as old) (λ w for sound.
+        → IsOneMore (if b then Some one else None) old new → AreAwaited s x number (map waiting_as old) (map waiting_as new)
+    arrival_waits false e more = subst (λ (l : List Waits). AreAwaited s x number (map waiting_as old) (map waiting_as l)) (sym more)
+        (none_awaited s x number (map waiting_as old) (λ w for sound.
         let o = only (record w { cause = number }) refl (record { from = for.from; clock = for.clock; arrived = for.arrived; of_frame = for.of_frame; waits = for.waits; at_point = for.at_point }) in
         let whole : giving.broken ≡ false = broken_so ∙ ap (λ (d : DeviceId). is_broken s d (time_of x)) (sym o.1) ∙ sound in
         let wait : waits_for s.network giving.device link ≡ true =
         ap (λ (d : DeviceId). waits_for s.network d link) (sym o.1) ∙ ap (waits_for s.network w.device) (sym o.2) ∙ for.waits in
         let both : (not giving.broken && waits_for s.network giving.device link) ≡ true =
         ap (λ (c : Bool). not c && waits_for s.network giving.device link) whole ∙ wait in
-        let no_bool : true ≡ false = sym both ∙ e in absurd cc)
-    arrival_waits true e =
+        let no_bool : true ≡ false = sym both ∙ e in absurd cc))
+    arrival_waits true e more =
         let parts = split giving.broken (waits_for s.network giving.device link) e in
-        let lists : map waiting_as (old ++ one ∷ []) ≡ map waiting_as old ++ waiting_as one ∷ [] = map_parts waiting_as old (one ∷ []) in
-        subst (AreAwaited s x number (map waiting_as old)) (sym lists) (record {
+        let mapped : IsPermutation (waiting_as one ∷ map waiting_as old) (map waiting_as new) = IsPermutation-map waiting_as (one ∷ old) new more in
+        record {
           real = λ w there.
-              elim (in_push (map waiting_as old) (waiting_as one) w there) [
-                | inl before ↦ inl before
-                | inr own ↦ inr (subst (λ (v : Waiting). (v.cause ≡ number) × IsAwaitedFor s x v × (is_broken s v.device (time_of x) ≡ false)) (sym own) (
+              elim (in_permuted _ _ w (IsPermutation-sym _ _ mapped) there) [
+                | inr before ↦ inl before
+                | inl own ↦ inr (subst (λ (v : Waiting). (v.cause ≡ number) × IsAwaitedFor s x v × (is_broken s v.device (time_of x) ≡ false)) (sym own) (
                   numbered,
                   record {
                     from = cause;
@@ -143,24 +128,22 @@ module _ (s : Scenario) (now : ℕ) (x : Happening) (number : ℕ) (giving : Giv
                   sym broken_so ∙ parts.0,
                 ))
               ];
-          kept = λ w there. push_old (map waiting_as old) (waiting_as one) w there;
-          all = λ w cause_is for sound. push_new (map waiting_as old) (waiting_as one) w (only w cause_is for).0;
-        })
+          kept = λ w there. in_permuted _ _ w mapped (inr there);
+          all = λ w cause_is for sound. in_permuted _ _ w mapped (inl (only w cause_is for).0);
+        }
 
   -- what waits by it
-  pub awaits : AreAwaited s x number (map waiting_as old)
-      (map waiting_as (with_one (awaited_by s.network giving.broken x.note.body (Some giving.frame) giving.reading giving.number) old))
-  awaits =
+  pub awaits : IsOneMore (awaited_by s.network giving.broken x.note.body (Some giving.frame) giving.reading giving.number) old new
+      → AreAwaited s x number (map waiting_as old) (map waiting_as new)
+  awaits more =
       elim (arrival_or_none x.note.body) [
         | inl a ↦
-            let device : a.device ≡ giving.device = some_is _ _ (ap giver_of (sym a.is) ∙ by) in
+            let device : a.device ≡ giving.device = same_Some _ _ (ap giver_of (sym a.is) ∙ by) in
             let is : x.note.body ≡ Arrived giving.device a.link a.cause a.clock = a.is ∙ ap (λ (d : DeviceId). Arrived d a.link a.cause a.clock) device in
-            subst
-            (λ (b : NoteBody). AreAwaited s x number (map waiting_as old)
-            (map waiting_as (with_one (awaited_by s.network giving.broken b (Some giving.frame) giving.reading giving.number) old))) (sym is)
-            (arrival_waits a.link a.cause a.clock is _ refl)
+            arrival_waits a.link a.cause a.clock is _ refl
+            (subst (λ (b : NoteBody). IsOneMore (awaited_by s.network giving.broken b (Some giving.frame) giving.reading giving.number) old new) is more)
         | inr a ↦
-            subst (λ (o : Option Waits). AreAwaited s x number (map waiting_as old) (map waiting_as (with_one o old)))
-            (sym (a.none s.network giving.broken (Some giving.frame) giving.reading giving.number))
+            subst (λ (l : List Waits). AreAwaited s x number (map waiting_as old) (map waiting_as l))
+            (sym (subst (λ (o : Option Waits). IsOneMore o old new) (a.none s.network giving.broken (Some giving.frame) giving.reading giving.number) more))
             (none_awaited s x number (map waiting_as old) (λ w for sound. a.apart w.device w.link for.from for.clock for.arrived))
       ]

@@ -4,8 +4,8 @@ use Rattle.std.specs.List.{filter_map}
 use Rattle.std.specs.Option.{option_map_or}
 use Rattle.std.proofs.lemmas.List.{length-map}
 use Rattle.std.proofs.lemmas.List.Sorted.{IsPermutation-sym}
-use Rattle.std.proofs.lemmas.Option.{slice_get-map, slice_get_within}
-use Rattle.due_queue.proofs.Bags.{given_of, in_permuted, is_given}
+use Rattle.std.proofs.lemmas.Option.{same_Some, slice_get-map, slice_get_within}
+use Rattle.due_queue.proofs.Bags.{in_permuted}
 use Rattle.due_queue.specs.declared.Entry.{Entry}
 use Rattle.net_plan.specs.Places.{link_at}
 use Rattle.net_plan.specs.declared.event.What.TheVariants as events
@@ -32,7 +32,6 @@ use Rattle.world_state.proofs.Befallings.{IsFreshOf, is_mapped, ports_settled}
 use Rattle.drift_world.proofs.Fits.{all_put_some, have_octets}
 use Rattle.drift_world.proofs.HiddenCauses.{InOrder}
 use Rattle.drift_world.proofs.Puts.{is_put_in, one_put_in, order_put, some_put_in}
-use Rattle.world_state.proofs.UnderWays.{some_is}
 use Rattle.world_state.specs.Befalling.{AreSettledBy, bare, entry_of, lost_on, record_of, sent_up, turned_on}
 use Rattle.world_state.specs.Giving.{IsPutOn}
 use Rattle.world_state.specs.Places.{IsSomePut}
@@ -47,6 +46,7 @@ use Rattle.world_state.specs.declared.contents.Signal.TheVariants as signals
 use Rattle.world_state.specs.declared.contents.WayState.{WayState}
 use Rattle.world_state.specs.declared.kept.Kept.{Kept}
 use Rattle.drift_world.specs.declared.state.State.{State}
+use Rattle.run_law.proofs.records.Order.{given_of, is_given}
 use Rattle.world_steps.proofs.befalling.Befell.{befell_step}
 use Rattle.world_steps.proofs.befalling.Seen.{on_within, put_event, put_in_more, sent_on, wires_of}
 use Rattle.world_law.proofs.runs.Worlds.{length_is}
@@ -70,7 +70,7 @@ record IsUp (s : Scenario) (now : ℕ) (link : LinkId) (ups : List WayState) : T
 way_found : (s : Scenario) (now : ℕ) (link : LinkId) (ups : List WayState) (o : Option WayState) → slice_get ups link.0 ≡ o
     → option_map way_as o ≡ Some (way_now s now link Up) → IsUp s now link ups
 way_found s now link ups None found is = absurd cc
-way_found s now link ups (Some w) found is = record { way = w; found = found; is = some_is _ _ is }
+way_found s now link ups (Some w) found is = record { way = w; found = found; is = same_Some _ _ is }
 
 way_up : (s : Scenario) (now : ℕ) (ups downs : List WayState) → AreWays s now (map way_as ups) (map way_as downs) → (link : LinkId)
     → link.0 < length s.network.link → IsUp s now link ups
@@ -99,7 +99,7 @@ module _ (s : Scenario) where
         let of = given_of (on_wire s.network) new y there in
         elim (in_permuted new (e ∷ old) of.0 (IsPermutation-sym _ _ put) of.1) [
           | inl own ↦
-              let same : y ≡ on.0 = some_is _ _ (sym of.2 ∙ ap (on_wire s.network) own ∙ on.1) in
+              let same : y ≡ on.0 = same_Some _ _ (sym of.2 ∙ ap (on_wire s.network) own ∙ on.1) in
               inr (subst (λ (l : List OnWire). IsIn y l) (sym on.2) (inl same))
           | inr rest ↦ inl (is_given (on_wire s.network) old of.0 y rest of.2)
         ],
@@ -293,7 +293,7 @@ module _ {C M : Type 0} (reading : C → ℕ → ℕ) (stands : Kept M → Netwo
           } in
           let on = is_given (on_wire s.network) state.under_way.entries d w there (ap (wire_at s.network d.place) is) in
           let real = old.wires.real w on in
-          let same : real.0.putting ≡ it.h = some_is _ _ (sym real.0.there ∙ ap (numbered (happenings s.network notes)) cause ∙ it.of_time.there) in
+          let same : real.0.putting ≡ it.h = same_Some _ _ (sym real.0.there ∙ ap (numbered (happenings s.network notes)) cause ∙ it.of_time.there) in
           real.1 pending (ap time_of same ∙ it.of_time.same_time)
 
   -- the outcomes are settled
@@ -386,11 +386,11 @@ module _ {C M : Type 0} (reading : C → ℕ → ℕ) (stands : Kept M → Netwo
 turned_octets : (number : ℕ) (device : DeviceId) (o : Option Bool) (z : Settled) → option_and_then (turned_on number device) o ≡ Some z → have_octets z
 turned_octets number device None z e = absurd cc
 turned_octets number device (Some true) z e = absurd cc
-turned_octets number device (Some false) z e = subst have_octets (some_is _ _ e) tt
+turned_octets number device (Some false) z e = subst have_octets (same_Some _ _ e) tt
 
 cut_octets : (number : ℕ) (link : LinkId) (l : Link) (cut : Bool) (z : Settled) → (if cut then Some (bare (kinds.Lost l.child link number)) else None) ≡ Some z
     → have_octets z
-cut_octets number link l true z e = subst have_octets (some_is _ _ e) tt
+cut_octets number link l true z e = subst have_octets (same_Some _ _ e) tt
 cut_octets number link l false z e = absurd cc
 
 way_octets : (number : ℕ) (link : LinkId) (l : Link) (o : Option WayState) (z : Settled) → option_and_then (lost_on number link l) o ≡ Some z → have_octets z

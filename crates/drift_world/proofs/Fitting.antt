@@ -1,5 +1,13 @@
 -- What is fit stays so where an event befalls.
-use Rattle.std.proofs.Common.{◌≡◌, ℕ, zero, suc, ◌+◌, ◌<◌, ◌^◌, Bool, true, false, if◌then◌else◌, List, [], ◌∷◌, filter, length, Option, Some, None, refl, sym, subst, ◌∙◌, arith}
+use Rattle.std.proofs.Common.{◌≡◌, ℕ, zero, suc, ◌+◌, ◌<◌, ◌^◌, Bool, true, false, if◌then◌else◌, List, [], ◌∷◌, filter, length, map, nat_eq, Some, None, inl, inr, ap, refl, subst, arith}
+use Rattle.std.specs.List.{IsDistinct}
+use Rattle.std.specs.List.Sorted.{IsPermutation}
+use Rattle.std.proofs.lemmas.List.Sorted.{IsPermutation-map, IsPermutation-sym}
+use Rattle.std.proofs.lemmas.Map.Keys.{IsDistinct-IsPermutation, IsDistinct-cons, IsDistinct-head, IsDistinct-tail}
+use Rattle.due_queue.proofs.Bags.{all_apart, each_apart, in_permuted}
+use Rattle.run_law.proofs.records.Order.{all_of}
+use Rattle.tte_lemmas.proofs.Naturals.{flips}
+use Rattle.drift_world.specs.Sound.{AreApart}
 use Rattle.std.specs.Prelude.{slice_get, unwrap_or, All}
 use Rattle.std.proofs.lemmas.List.Elements.{All-filter}
 use Rattle.std.proofs.lemmas.Option.{slice_get-get_or}
@@ -7,9 +15,10 @@ use Rattle.net_plan.specs.declared.event.What.{What}
 use Rattle.net_plan.specs.declared.event.What.TheVariants as events
 use Rattle.net_plan.specs.declared.ids.LinkId.{LinkId}
 use Rattle.net_plan.specs.declared.tables.Way.{Way}
-use Rattle.run_law.proofs.law.FirstPlaces.{in_at, in_filter}
+use Rattle.run_law.proofs.law.FirstPlaces.{in_filter}
 use Rattle.run_law.specs.scenario.Ways.{is_way_of}
-use Rattle.schedule_tables.proofs.EntryLemmas.{all_at}
+use Rattle.tte_lemmas.proofs.Lists.{in_all}
+use Rattle.tte_lemmas.proofs.Options.{one}
 use Rattle.tte_units.specs.Amount.{amount}
 use Rattle.drift_world.proofs.Beginnings.{found}
 use Rattle.world_state.specs.Applying.{SetsShort, way_after}
@@ -35,9 +44,6 @@ way_short link way (events.Break device) was short old = old
 way_short link way (events.Send other octets) was short old = old
 way_short link way events.End was short old = old
 
-pub some_is : {X : Type 0} (o : Option X) (x y : X) → o ≡ Some x → o ≡ Some y → x ≡ y
-some_is o x y e f = let same : Some x ≡ Some y = sym e ∙ f in cc
-
 pub ways_short : (old new : List WayState) (way : Way) (what : What) → SetsShort what → length new ≡ length old
     → ((link : LinkId) (was : WayState) → slice_get old link.0 ≡ Some was → slice_get new link.0 ≡ Some (way_after link way what was))
     → All IsShort old → All IsShort new
@@ -45,39 +51,48 @@ ways_short old new way what short same each all k d lt =
     let many : k < length old = omega (arith, lt, same) in
     let was = found old k many in
     let link : LinkId = record { 0 = k } in
-    let is = some_is (slice_get new k) _ _ (each link was.0 was.1) (slice_get-get_or new k d lt) in
-    subst IsShort is (way_short link way what was.0 short (all_at IsShort old k was.0 all was.1))
+    let is = one (slice_get new k) _ _ (each link was.0 was.1) (slice_get-get_or new k d lt) in
+    subst IsShort is (way_short link way what was.0 short (in_all IsShort old k was.0 all was.1))
 
 -- ---- what waits
 
--- no two have one cause
-abbrev pub AreApart : List Waits → Type 0
-AreApart l = (i j : ℕ) (v w : Waits) → slice_get l i ≡ Some v → slice_get l j ≡ Some w → v.cause ≡ w.cause → i ≡ j
+abbrev pub cause_of : Waits → ℕ
+cause_of w = w.cause
 
-rest_apart : (x : Waits) (xs : List Waits) → AreApart (x ∷ xs) → AreApart xs
-rest_apart x xs apart i j v w here there same = let more = apart (suc i) (suc j) v w here there same in omega (arith, more)
-
--- what the filter keeps is there
-kept_there : (q : Waits → Bool) (xs : List Waits) (j : ℕ) (w : Waits) → slice_get (filter q xs) j ≡ Some w → (m : ℕ) × (slice_get xs m ≡ Some w)
-kept_there q xs j w is = in_get xs w (in_filter q xs w (in_at (filter q xs) j w is))
-
-first_kept : (x : Waits) (xs ys : List Waits) → AreApart (x ∷ xs) → AreApart ys
-    → ((j : ℕ) (w : Waits) → slice_get ys j ≡ Some w → (m : ℕ) × (slice_get xs m ≡ Some w)) → AreApart (x ∷ ys)
-first_kept x xs ys apart rest there zero zero v w here at same = refl
-first_kept x xs ys apart rest there zero (suc j) v w here at same =
-    let m = there j w at in let bad = apart zero (suc m.0) v w here m.1 same in absurd (omega (arith, bad))
-first_kept x xs ys apart rest there (suc i) zero v w here at same =
-    let m = there i v here in let bad = apart (suc m.0) zero v w m.1 at same in absurd (omega (arith, bad))
-first_kept x xs ys apart rest there (suc i) (suc j) v w here at same = let more = rest i j v w here at same in omega (arith, more)
+pub none_apart : AreApart []
+unfolding IsDistinct
+none_apart = tt
 
 pub apart_kept : (q : Waits → Bool) (xs : List Waits) → AreApart xs → AreApart (filter q xs)
 apart_kept q [] apart = apart
 apart_kept q (x ∷ xs) apart =
-    let rest = apart_kept q xs (rest_apart x xs apart) in
+    let rest = apart_kept q xs (IsDistinct-tail nat_eq x.cause (map cause_of xs) apart) in
     elim (q x) as (λ b. AreApart (if b then x ∷ filter q xs else filter q xs)) [
-      | true ↦ first_kept x xs (filter q xs) apart rest (kept_there q xs)
+      | true ↦ IsDistinct-cons nat_eq x.cause (map cause_of (filter q xs)) (all_apart cause_of x.cause (filter q xs) (λ v there.
+          each_apart cause_of x.cause xs (IsDistinct-head nat_eq x.cause (map cause_of xs) apart) v (in_filter q xs v there))) rest
       | false ↦ rest
     ]
+
+-- one more with a greater cause
+pub apart_more : (number : ℕ) (one : Waits) (old new : List Waits) → IsPermutation (one ∷ old) new → one.cause ≡ number
+    → All (λ w. w.cause < number) old → AreApart old → AreApart new
+apart_more number one old new more cause all apart =
+    IsDistinct-IsPermutation nat_eq flips (map cause_of (one ∷ old)) (map cause_of new) (IsPermutation-map cause_of _ _ more)
+    (IsDistinct-cons nat_eq one.cause (map cause_of old) (all_apart cause_of one.cause old (λ v there same.
+    let at = in_get old v there in
+    let low = in_all (λ (w : Waits). w.cause < number) old at.0 v all at.1 in
+    omega (arith, low, same, cause))) apart)
+
+pub below_one_more : (number : ℕ) (one : Waits) (old new : List Waits) → IsPermutation (one ∷ old) new → one.cause ≡ number
+    → All (λ w. w.cause < number) old → All (λ w. w.cause < number + 1) new
+below_one_more number one old new more cause all = all_of (λ (w : Waits). w.cause < number + 1) new (λ v there.
+    elim (in_permuted new (one ∷ old) v (IsPermutation-sym _ _ more) there) [
+      | inl own ↦ let e = ap cause_of own in omega (arith, e, cause)
+      | inr was ↦
+          let at = in_get old v was in
+          let low = in_all (λ (w : Waits). w.cause < number) old at.0 v all at.1 in
+          omega (arith, low)
+    ])
 
 pub below_more : (n : ℕ) (q : Waits → Bool) (xs : List Waits) → All (λ w. w.cause < n) xs → All (λ w. w.cause < n + 1) (filter q xs)
 below_more n q xs all k d lt =

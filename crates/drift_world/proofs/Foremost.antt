@@ -1,9 +1,8 @@
 -- What comes first of all that a state has under way.
-use Rattle.std.proofs.Common.{◌≡◌, ◌⊎◌, ℕ, ◌+◌, ◌-◌, ◌<◌, ◌≤◌, ◌^◌, pos, ◌≤ℤ◌, true, false, List, [], ◌∷◌, All, length, get_or, Option, Some, None, slice_get, inl, inr, refl, sym, ap, subst, ◌∙◌, arith}
+use Rattle.std.proofs.Common.{◌≡◌, ◌⊎◌, ℕ, ◌+◌, ◌-◌, ◌<◌, ◌≤◌, ◌^◌, true, false, List, [], ◌∷◌, All, length, get_or, Option, Some, None, slice_get, inl, inr, refl, sym, ap, subst, ◌∙◌, arith}
 use Rattle.std.specs.Prelude.{IfSome}
 use Rattle.std.proofs.lemmas.Bool.{both_ways, cases_lt}
 use Rattle.std.proofs.lemmas.Option.{get_or_from_slice_get, slice_get-get_or}
-use Rattle.due_queue.proofs.Bags.{is_given}
 use Rattle.due_queue.specs.declared.Entry.{Entry}
 use Rattle.due_queue.specs.declared.Place.{Place}
 use Rattle.due_queue.specs.Places.{IsFirst, numbers_of}
@@ -20,13 +19,13 @@ use Rattle.drift_world.specs.Sound.{IsSized}
 use Rattle.world_state.specs.Sound.{AreUnderWay, rank_of}
 use Rattle.drift_world.specs.Sourcing.{AreFirsts, AreNotBefore, AreTimed, HasNothingBefore, IsRipePlace, due_place}
 use Rattle.drift_world.specs.Stepping.{IsRunning}
-use Rattle.world_state.specs.Views.{at_port, on_wire, port_at, waiting_as, wire_at}
+use Rattle.world_state.specs.Views.{at_port, on_wire, port_at, wire_at}
 use Rattle.world_state.specs.declared.contents.Content.TheVariants.{Wire, Port}
 use Rattle.world_state.specs.declared.contents.Content.{Content}
-use Rattle.world_state.specs.declared.contents.Waits.{Waits}
 use Rattle.world_state.specs.declared.kept.Kept.{Kept}
 use Rattle.drift_world.specs.declared.state.State.{State}
-use Rattle.world_law.specs.world.World.{AtPort, OnWire, port_place, ripe_place, wire_place}
+use Rattle.run_law.proofs.records.Order.{is_given}
+use Rattle.world_law.specs.world.World.{AtPort, OnWire, port_place, wire_place}
 
 -- ---- places of one time, or of a later one
 
@@ -52,11 +51,6 @@ of_run now rest le (inr (e, b)) = omega (arith, le, e)
 pub of_end : (until : ℕ) → until ≤ 2 ^ 60 + 1 → IsBefore ((2 ^ 60 + 1) ∷ []) (until ∷ []) → ⊥
 of_end until le (inl lt) = omega (arith, le, lt)
 of_end until le (inr (e, b)) = b
-
--- no place of a time is before an earlier time
-pub not_before_time : (t until : ℕ) (rest : List ℕ) → until ≤ t → IsBefore (t ∷ rest) (until ∷ []) → ⊥
-not_before_time t until rest le (inl lt) = omega (arith, le, lt)
-not_before_time t until rest le (inr (e, b)) = b
 
 -- what a slot is for is due at the slot's time
 pub slot_time : (devices : ℕ) (due : Due) (p : List ℕ) → (IsBefore (due.time ∷ 3 ∷ due.slot ∷ []) p → ⊥)
@@ -386,29 +380,9 @@ module _ {C M : Type 0} (last_step : C → ℕ) (reading : C → ℕ → ℕ) (s
       → IfSome place (λ q. t ≤ q.at) → IfSome due (λ d. t ≤ d.time) → AreNotBefore reading network state place due (t ∷ [])
   none_before t most calm no_clock places dues =
       are_not (t ∷ []) (of_end t most)
-      (λ q e le either. not_before_time q.at t (q.rank ∷ q.device ∷ q.link ∷ q.cause ∷ []) (from_some (λ (x : Place). t ≤ x.at) place q places e))
+      (λ q e le either. not_first q.at t (q.rank ∷ q.device ∷ q.link ∷ q.cause ∷ []) (from_some (λ (x : Place). t ≤ x.at) place q places e))
       (λ d e le. inl (slot_time (length network.device) d (t ∷ [])
-      (not_before_time d.time t (3 ∷ d.slot ∷ []) (from_some (λ (x : Due). t ≤ x.time) due d dues e))
-      (not_before_time d.time t (4 ∷ (d.slot - length network.device) ∷ []) (from_some (λ (x : Due). t ≤ x.time) due d dues e))))
+      (not_first d.time t (3 ∷ d.slot ∷ []) (from_some (λ (x : Due). t ≤ x.time) due d dues e))
+      (not_first d.time t (4 ∷ (d.slot - length network.device) ∷ []) (from_some (λ (x : Due). t ≤ x.time) due d dues e))))
       (none_befell (t ∷ []) calm)
       (λ ended more. absurd (no_clock ended more))
-
--- the place of the first frame that is permanent at a device now
-pub ripe_place_is : {C M : Type 0} (reading : C → ℕ → ℕ) (network : Network) (state : State C M) (due : Due) (device : DeviceId) (one : Waits) (clock : C)
-    → device.0 < length network.device → due.slot ≡ device.0 → due.time ≡ state.time → one.device ≡ device
-    → slice_get state.clocks.items device.0 ≡ Some clock
-    → ((w : Waits) → IsIn w state.waiting.items → w.device ≡ device → w.point.0 ≤ℤ pos (reading clock state.time)
-    → IsBefore (ripe_place state.time (waiting_as w)) (ripe_place state.time (waiting_as one)) → ⊥)
-    → IsRipePlace reading network state due (ripe_place state.time (waiting_as one))
-ripe_place_is reading network state due device one clock of_it slot at own held none = record {
-  there = omega (arith, of_it, slot);
-  one = one;
-  at = ap (λ (d : DeviceId). d.0) own ∙ sym slot;
-  place = ap (λ (t : ℕ). ripe_place t (waiting_as one)) (sym at);
-  none = λ w k there same has reached.
-      let clocks : clock ≡ k = let e : Some clock ≡ Some k = sym held ∙ ap (λ (n : ℕ). slice_get state.clocks.items n) (sym slot) ∙ has in cc in
-      subst (λ (t : ℕ). IsBefore (ripe_place t (waiting_as w)) (ripe_place state.time (waiting_as one)) → ⊥) (sym at)
-      (none w there (ap (λ (n : ℕ). let d : DeviceId = record { 0 = n } in d) (same ∙ slot))
-      (subst (λ (t : ℕ). w.point.0 ≤ℤ pos (reading clock t)) at
-      (subst (λ (c : _). w.point.0 ≤ℤ pos (reading c due.time)) (sym clocks) reached)));
-}

@@ -1,9 +1,9 @@
 -- Under events within the hypothesis each way of a link takes some time.
-use Rattle.std.proofs.Common.{◌≡◌, ◌⊎◌, ℕ, ◌≤◌, pos, ◌≤ℤ◌, ◌<ℤ◌, ◌+ℤ◌, Bool, true, false, ◌&&◌, ◌==◌, if◌then◌else◌, List, [], ◌∷◌, filter_map, Option, Some, None, inl, inr, refl, sym, ap, subst, ◌∙◌, arith}
+use Rattle.std.proofs.Common.{◌≡◌, ◌⊎◌, ℕ, ◌≤◌, pos, ◌≤ℤ◌, ◌<ℤ◌, ◌+ℤ◌, Bool, true, false, ◌==◌, if◌then◌else◌, List, [], ◌∷◌, filter_map, Option, Some, None, inl, inr, refl, sym, ap, subst, ◌∙◌, arith}
 use Rattle.std.specs.Prelude.{unwrap_or, nat_le, IsSomeAnd}
 use Rattle.std.specs.List.{filter, last_or}
 use Rattle.std.specs.Option.{option_map_or}
-use Rattle.std.proofs.lemmas.Bool.{cases_lt, eqb-true}
+use Rattle.std.proofs.lemmas.Bool.{and_parts, cases_lt, eqb-true}
 use Rattle.std.proofs.lemmas.Int.{ints}
 use Rattle.net_plan.specs.Places.{link_at}
 use Rattle.net_plan.specs.Ranges.{IsInRange}
@@ -22,18 +22,14 @@ use Rattle.run_law.specs.records.Order.{IsIn}
 use Rattle.run_law.specs.scenario.Hypothesis.{AreWithinHypothesis, IsWithinHypothesis}
 use Rattle.run_law.specs.scenario.Scenarios.{events_up_to}
 use Rattle.run_law.specs.scenario.Ways.{delay_at, is_way, is_way_of, wire_of, wire_set}
-use Rattle.schedule_tables.proofs.EntryLemmas.{all_at}
 use Rattle.schedule_tables.specs.Entries.{target_by}
+use Rattle.tte_lemmas.proofs.Lists.{in_all}
 use Rattle.tte_units.specs.Amount.{amount}
 use Rattle.tte_units.specs.declared.units.Units.{Units}
 use Rattle.world_law.specs.source.Agreeing.{scenario}
 use Rattle.world_law.specs.world.World.{IsForward}
 
 -- ---- a wire that is set is no shorter than the link's
-
-both : (a b : Bool) → (a && b) ≡ true → (a ≡ true) × (b ≡ true)
-both true b e = (refl, e)
-both false b e = absurd cc
 
 -- the value, where there is one, is at least 1
 abbrev IsSome1 : Option ℕ → Type 0
@@ -45,7 +41,7 @@ wire_is : (network : Network) (link other : LinkId) (l : Link) (way turned : Way
     → (b : Bool) → is_way_of link way other turned ≡ b → IsSome1 (if b then Some (amount delay) else None)
 wire_is network link other l way turned delay before event there least within what false e = tt
 wire_is network link other l way turned delay before event there least within what true e =
-    let same : link.0 ≡ other.0 = eqb-true link.0 other.0 (both (link.0 == other.0) (is_way way turned) e).0 in
+    let same : link.0 ≡ other.0 = eqb-true link.0 other.0 (and_parts (link.0 == other.0) (is_way way turned) e).0 in
     let at : link_at network other ≡ Some l = subst (λ (n : ℕ). link_at network (record { 0 = n }) ≡ Some l) same there in
     elim (cases_lt (amount delay) 1) [
       | inr some ↦ some
@@ -97,7 +93,7 @@ forward network f all range within link way device t receives = of (link_at netw
     of None none =
         let bad : None ≡ Some device = sym (ap (λ (o : Option Link). Rattle.std.specs.Prelude.option_map (target_by way) o) none) ∙ receives in absurd cc
     of (Some l) there =
-        let known = all_at (Rattle.net_plan.specs.Ranges.IsLinkInRange network) network.link link.0 l range.links there in
+        let known = in_all (Rattle.net_plan.specs.Ranges.IsLinkInRange network) network.link link.0 l range.links there in
         let least = known.wire.least in
         let set = λ (e : Event). wire_set link way e.what in
         let each : (e : Event) → IsIn e (events_up_to (scenario network f all) t) → IsSome1 (set e) = λ e i.

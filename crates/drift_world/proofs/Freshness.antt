@@ -14,11 +14,11 @@ use Rattle.net_plan.specs.declared.network.Network.{Network}
 use Rattle.run_law.specs.law.FirstLaws.{IsEventInRange}
 use Rattle.run_law.specs.machines.Nodes.{Node}
 use Rattle.run_law.specs.scenario.Hypothesis.{AreWithinHypothesis}
-use Rattle.schedule_tables.proofs.EntryLemmas.{all_at}
 use Rattle.schedule_tables.specs.Rules.{KeepsRules}
 use Rattle.tte_units.specs.Amount.{amount}
 use Rattle.drift_world.proofs.Beginnings.{first_ways_are, found, found_in, none_under_way}
-use Rattle.drift_world.proofs.Fitting.{AreApart, some_is}
+use Rattle.drift_world.proofs.Fitting.{none_apart}
+use Rattle.drift_world.specs.Sound.{AreApart}
 use Rattle.drift_world.proofs.Forwards.{forward}
 use Rattle.drift_world.proofs.Steadiness.{steady}
 use Rattle.drift_world.specs.Beginning.{AreFresh, IsFirstState}
@@ -33,6 +33,8 @@ use Rattle.world_state.specs.Views.{at_port, on_wire, way_as}
 use Rattle.world_state.specs.declared.contents.Settled.{Settled}
 use Rattle.world_state.specs.declared.contents.Waits.{Waits}
 use Rattle.drift_world.specs.declared.state.State.{State}
+use Rattle.tte_lemmas.proofs.Lists.{in_all}
+use Rattle.tte_lemmas.proofs.Options.{one}
 use Rattle.world_steps.proofs.steps.Beginnings.{begun}
 use Rattle.world_law.specs.source.Agreeing.{scenario}
 use Rattle.world_law.specs.world.World.{AreWays}
@@ -50,12 +52,12 @@ module _ {C M : Type 0} (fresh : ℕ → C) (last_step : C → ℕ) (network : N
   ways_short range k d lt =
       let n : length (map first_way network.link) ≡ length network.link = length-map _ _ in
       let it = found network.link k (omega (arith, lt, n)) in
-      let known = all_at (IsLinkInRange network) network.link k it.0 range.links it.1 in
+      let known = in_all (IsLinkInRange network) network.link k it.0 range.links it.1 in
       let least = known.wire.least in
       let most = known.wire.most in
       let short : IsShort (first_way it.0) = (omega (arith, ints, least, most), omega arith) in
       let at = slice_get-map first_way network.link k ∙ ap (option_map first_way) it.1 in
-      subst IsShort (some_is (slice_get (map first_way network.link) k) _ _ at
+      subst IsShort (one (slice_get (map first_way network.link) k) _ _ at
       (slice_get-get_or (map first_way network.link) k d lt)) short
 
   pub first_sound : IsInRange network → length machines ≡ length network.device → IsSound last_step network state
@@ -77,7 +79,7 @@ module _ {C M : Type 0} (fresh : ℕ → C) (last_step : C → ℕ) (network : N
       octets = subst (All (λ (z : Settled). HasItsOctets z.body z.octets)) (sym first.settled) (All-nil _);
       below = subst (AreBelow (state.given + 1)) (sym first.under_way) (λ e i. absurd i);
       waits_below = subst (All (λ (w : Waits). w.cause < state.given + 1)) (sym first.waiting) (All-nil _);
-      apart = subst AreApart (sym first.waiting) (λ i j v w here there same. absurd cc);
+      apart = subst AreApart (sym first.waiting) none_apart;
     };
   }
 

@@ -2,9 +2,10 @@
 use Rattle.std.proofs.Common.{◌≡◌, ◌⊎◌, ℕ, zero, suc, ◌+◌, ◌<◌, Bool, true, false, not, ◌&&◌, if◌then◌else◌, List, [], ◌∷◌, ◌++◌, map, length, slice_get, Option, Some, None, inl, inr, refl, sym, ap, subst, ◌∙◌, arith}
 use Rattle.std.specs.Prelude.{All, IfSome, filter_map, ◌^◌, ◌≤◌, ◌↔◌}
 use Rattle.std.specs.Option.{option_map}
-use Rattle.std.proofs.lemmas.List.Elements.{All-map, All-push, All-weaker}
+use Rattle.std.proofs.lemmas.List.Elements.{All-map, All-weaker}
+use Rattle.std.specs.List.Sorted.{IsPermutation}
 use Rattle.std.proofs.lemmas.List.Sorted.{IsPermutation-sym}
-use Rattle.std.proofs.lemmas.Option.{get_or_from_slice_get, slice_get_within}
+use Rattle.std.proofs.lemmas.Option.{same_Some}
 use Rattle.due_queue.proofs.Bags.{in_permuted}
 use Rattle.due_queue.specs.Places.{numbers_of}
 use Rattle.due_queue.specs.declared.Entry.{Entry}
@@ -15,19 +16,19 @@ use Rattle.net_plan.specs.declared.ids.DeviceId.{DeviceId}
 use Rattle.net_plan.specs.declared.ids.LinkId.{LinkId}
 use Rattle.net_plan.specs.declared.network.Network.{Network}
 use Rattle.pcf_values.specs.declared.pcf.Pcf.{Pcf}
-use Rattle.run_law.proofs.runs.Places.{in_left}
 use Rattle.run_law.specs.control.Permanence.{waits_for}
 use Rattle.run_law.specs.declared.note.NoteBody.TheVariants.{Event, Arrived, Permanent, Compressed, Sent, Corrected, State as Changed, Left, Lost, TtSent, Accepted, Delivered, Dropped, Clock}
 use Rattle.run_law.specs.declared.note.NoteBody.{NoteBody}
 use Rattle.run_law.specs.records.Order.{IsIn}
 use Rattle.run_law.specs.scenario.Ways.{receiver_of, way_from}
 use Rattle.drift_world.proofs.Sendings.{link_within}
-use Rattle.drift_world.proofs.Storings.{in_pushed}
-use Rattle.world_state.proofs.UnderWays.{some_is, sound_with}
+use Rattle.drift_world.proofs.Fitting.{apart_more, below_one_more}
+use Rattle.world_state.proofs.UnderWays.{sound_with}
 use Rattle.drift_world.specs.Giving.{IsGivenOut}
-use Rattle.world_state.specs.Giving.{HasItsOctets, IsPutOn, awaited_by, changed_device, control_on_wire, delay_by, place_on_wire, timed_on_wire, waits_from, wire_entry, with_one}
+use Rattle.world_state.specs.Giving.{HasItsOctets, IsPutOn, awaited_by, changed_device, control_on_wire, delay_by, place_on_wire, timed_on_wire, waits_from, wire_entry}
+use Rattle.world_state.specs.Frames.{IsOneMore}
 use Rattle.world_state.specs.Naming.{named_settled}
-use Rattle.drift_world.specs.Sound.{IsSound}
+use Rattle.drift_world.specs.Sound.{AreApart, IsSound}
 use Rattle.world_state.specs.Sound.{AreBelow, AreUnderWay, IsShort, rank_of}
 use Rattle.drift_world.specs.Stepping.{ChangesOnly}
 use Rattle.drift_world.specs.Views.{with_first, world_of}
@@ -166,11 +167,11 @@ from_wire network number old new (Some d) is put e there =
 -- ---- what waits
 
 -- nothing more waits, or one more, at the device of the record, by its number
-pub record IsOneMore (body : NoteBody) (number : ℕ) (old new : List Waits) : Type 0 where
+pub record HasOneMore (body : NoteBody) (number : ℕ) (old new : List Waits) : Type 0 where
   pub one : Waits
   pub cause : one.cause ≡ number
   pub device : one.device.0 ≡ changed_device body
-  pub is : new ≡ old ++ one ∷ []
+  pub is : IsPermutation (one ∷ old) new
 
 awaited_so : (network : Network) (broken : Bool) (body : NoteBody) (frame : Option Pcf) (reading number : ℕ)
     → IfSome (awaited_by network broken body frame reading number) (λ w. (w.cause ≡ number) × (w.device.0 ≡ changed_device body))
@@ -196,84 +197,46 @@ awaited_so network broken (Dropped a b c d) frame reading number = tt
 awaited_so network broken (Clock a b c d) frame reading number = tt
 
 one_more : (body : NoteBody) (number : ℕ) (old new : List Waits) (o : Option Waits)
-    → IfSome o (λ w. (w.cause ≡ number) × (w.device.0 ≡ changed_device body)) → new ≡ with_one o old → (new ≡ old) ⊎ IsOneMore body number old new
+    → IfSome o (λ w. (w.cause ≡ number) × (w.device.0 ≡ changed_device body)) → IsOneMore o old new → (new ≡ old) ⊎ HasOneMore body number old new
 one_more body number old new None so is = inl is
 one_more body number old new (Some w) so is = inr (record { one = w; cause = so.0; device = so.1; is = is })
 
 pub waits_more : {C M : Type 0} (reading : C → ℕ → ℕ) (network : Network) (old new : State C M) (body : NoteBody) (frame : Option Pcf) (number : ℕ)
     (giving : Option Giving) → IsGivenOut reading network old new body frame number giving
-    → (new.waiting.items ≡ old.waiting.items) ⊎ IsOneMore body number old.waiting.items new.waiting.items
+    → (new.waiting.items ≡ old.waiting.items) ⊎ HasOneMore body number old.waiting.items new.waiting.items
 waits_more reading network old new body frame number None out = inl out.no_wait
 waits_more reading network old new body frame number (Some g) out =
     one_more body number old.waiting.items new.waiting.items (awaited_by network g.broken body (Some g.frame) g.reading number)
     (awaited_so network g.broken body (Some g.frame) g.reading number)
-    (out.waits ∙ ap (λ (k : ℕ). with_one (awaited_by network g.broken body (Some g.frame) g.reading k) old.waiting.items) out.giver.numbered)
+    (subst (λ (k : ℕ). IsOneMore (awaited_by network g.broken body (Some g.frame) g.reading k) old.waiting.items new.waiting.items) out.giver.numbered out.waits)
 
 waits_at : (number : ℕ) (xs ys : List Waits) → ys ≡ xs → All (λ w. w.cause < number) xs → All (λ w. w.cause < number + 1) ys
 waits_at number xs ys is all = subst (λ (l : List Waits). All (λ w. w.cause < number + 1) l) (sym is)
     (All-weaker (λ (w : Waits). w.cause < number) (λ (w : Waits). w.cause < number + 1) (λ w lt. omega (arith, lt)) xs all)
 
-pub waits_below : (body : NoteBody) (number : ℕ) (old new : List Waits) → (new ≡ old) ⊎ IsOneMore body number old new → All (λ w. w.cause < number) old
+pub waits_below : (body : NoteBody) (number : ℕ) (old new : List Waits) → (new ≡ old) ⊎ HasOneMore body number old new → All (λ w. w.cause < number) old
     → All (λ w. w.cause < number + 1) new
 waits_below body number old new (inl same) all = waits_at number old new same all
 waits_below body number old new (inr more) all =
-    let cause = more.cause in
-    subst (λ (l : List Waits). All (λ w. w.cause < number + 1) l) (sym more.is)
-    (All-push (λ (w : Waits). w.cause < number + 1) old more.one (waits_at number old old refl all) (omega (arith, cause)))
+    below_one_more number more.one old new more.is more.cause all
 
-pushed_at : {X : Type 0} (xs : List X) (y : X) (i : ℕ) (v : X) → slice_get (xs ++ y ∷ []) i ≡ Some v → (slice_get xs i ≡ Some v) ⊎ ((i ≡ length xs) × (v ≡ y))
-pushed_at [] y zero v e = inr (refl, sym (some_is _ _ e))
-pushed_at [] y (suc i) v e = absurd cc
-pushed_at (x ∷ xs) y zero v e = inl e
-pushed_at (x ∷ xs) y (suc i) v e =
-    elim (pushed_at xs y i v e) [
-      | inl old ↦ inl old
-      | inr new ↦ let at = new.0 in inr (omega (arith, at), new.1)
-    ]
-
-abbrev pub AreApart : List Waits → Type 0
-AreApart waiting = (i j : ℕ) (v w : Waits) → slice_get waiting i ≡ Some v → slice_get waiting j ≡ Some w → v.cause ≡ w.cause → i ≡ j
-
-low_at : (number : ℕ) (xs : List Waits) (i : ℕ) (w : Waits) → All (λ w. w.cause < number) xs → slice_get xs i ≡ Some w → w.cause < number
-low_at number xs i w all at =
-    subst (λ (v : Waits). v.cause < number) (get_or_from_slice_get xs i w w at) (all i w (slice_get_within xs i w at))
-
-pub waits_apart : (body : NoteBody) (number : ℕ) (old new : List Waits) → (new ≡ old) ⊎ IsOneMore body number old new → All (λ w. w.cause < number) old
+pub waits_apart : (body : NoteBody) (number : ℕ) (old new : List Waits) → (new ≡ old) ⊎ HasOneMore body number old new → All (λ w. w.cause < number) old
     → AreApart old → AreApart new
 waits_apart body number old new (inl same) all apart = subst AreApart (sym same) apart
-waits_apart body number old new (inr more) all apart = subst AreApart (sym more.is) (λ i j v w at there same.
-    let own = more.cause in
-    elim (pushed_at old more.one i v at) [
-      | inl a ↦
-          elim (pushed_at old more.one j w there) [
-            | inl b ↦ apart i j v w a b same
-            | inr b ↦
-                let low = low_at number old i v all a in
-                let new = ap (λ (x : Waits). x.cause) b.1 in
-                omega (arith, low, new, own, same)
-          ]
-      | inr a ↦
-          elim (pushed_at old more.one j w there) [
-            | inl b ↦
-                let low = low_at number old j w all b in
-                let new = ap (λ (x : Waits). x.cause) a.1 in
-                omega (arith, low, new, own, same)
-            | inr b ↦ a.0 ∙ sym b.0
-          ]
-    ])
+waits_apart body number old new (inr more) all apart = apart_more number more.one old new more.is more.cause all apart
 
 -- of other devices the same frames wait
-pub waits_elsewhere : (body : NoteBody) (number : ℕ) (old new : List Waits) → (new ≡ old) ⊎ IsOneMore body number old new
+pub waits_elsewhere : (body : NoteBody) (number : ℕ) (old new : List Waits) → (new ≡ old) ⊎ HasOneMore body number old new
     → (w : Waits) → (w.device.0 ≡ changed_device body → ⊥) → IsIn w new ↔ IsIn w old
 waits_elsewhere body number old new (inl same) w apart =
     (λ i. subst (λ (l : List Waits). IsIn w l) same i, λ i. subst (λ (l : List Waits). IsIn w l) (sym same) i)
 waits_elsewhere body number old new (inr more) w apart = (
   λ i.
-      elim (in_pushed old more.one w (subst (λ (l : List Waits). IsIn w l) more.is i)) [
-        | inl was ↦ was
-        | inr e ↦ absurd (apart (ap (λ (x : Waits). x.device.0) e ∙ more.device))
+      elim (in_permuted new (more.one ∷ old) w (IsPermutation-sym _ _ more.is) i) [
+        | inl e ↦ absurd (apart (ap (λ (x : Waits). x.device.0) e ∙ more.device))
+        | inr was ↦ was
       ],
-  λ i. subst (λ (l : List Waits). IsIn w l) (sym more.is) (in_left w old (more.one ∷ []) i),
+  λ i. in_permuted (more.one ∷ old) new w more.is (inr i),
 )
 
 -- ---- what is settled

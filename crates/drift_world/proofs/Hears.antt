@@ -1,9 +1,9 @@
 -- What is on a wire arrives: its device may hear it, and the world stands again.
-use Rattle.std.proofs.Common.{◌≡◌, ℕ, zero, suc, ◌==◌, pos, Bool, set, true, false, if◌then◌else◌, List, [], ◌∷◌, map, Option, Some, Ok, Err, Result, slice_get, option_map, inl, inr, refl, sym, ap, subst, ◌∙◌, arith}
+use Rattle.std.proofs.Common.{◌≡◌, ℕ, ◌==◌, pos, Bool, set, true, false, if◌then◌else◌, List, [], ◌∷◌, map, Option, Some, Ok, Err, Result, slice_get, option_map, inl, inr, refl, sym, ap, subst, ◌∙◌, arith}
 use Rattle.std.specs.List.{filter_map}
 use Rattle.std.specs.List.Sorted.{IsPermutation}
 use Rattle.std.proofs.lemmas.List.Sorted.{IsPermutation-sym}
-use Rattle.due_queue.proofs.Bags.{in_permuted, is_given}
+use Rattle.due_queue.proofs.Bags.{in_permuted}
 use Rattle.due_queue.specs.Places.{numbers_of}
 use Rattle.due_queue.specs.declared.Entry.{Entry}
 use Rattle.due_queue.specs.declared.Place.{Place}
@@ -33,7 +33,7 @@ use Rattle.drift_world.proofs.Alike.{with_ports}
 use Rattle.drift_world.proofs.Arrivals.{control_so, on_arrival, timed_so}
 use Rattle.drift_world.proofs.Fits.{have_octets}
 use Rattle.drift_world.proofs.HiddenCauses.{settled_in_order}
-use Rattle.drift_world.proofs.Puts.{one_put_in, same_units}
+use Rattle.drift_world.proofs.Puts.{one_put_in}
 use Rattle.drift_world.proofs.Signals.{frame_told, octets_told, plain_on_wire}
 use Rattle.world_state.proofs.UnderWays.{ports_stay, wires_without}
 use Rattle.world_state.specs.Hearing.{AreOctetsOf, IsAsSent, MayCome, arrived, frame_kept, octets_kept, timed_in}
@@ -48,6 +48,8 @@ use Rattle.world_state.specs.declared.contents.Signal.TheVariants as signals
 use Rattle.world_state.specs.declared.contents.Signal.{Signal as SignalSent}
 use Rattle.world_state.specs.declared.kept.Kept.{Kept}
 use Rattle.drift_world.specs.declared.state.State.{State}
+use Rattle.run_law.proofs.records.Order.{is_given}
+use Rattle.run_law.proofs.runs.Determined.{same_units}
 use Rattle.world_law.proofs.giving.Given.{some_same}
 use Rattle.world_steps.proofs.hearing.Calling.{may_call}
 use Rattle.world_steps.proofs.hearing.HeardSteps.{heard_step}
@@ -141,15 +143,6 @@ arrival_octets network other device node moment place link (signals.Timed own) =
     (last_taken_by node) (record { dropped = λ reason. tt; accepted = λ vl cycle. tt; delivered = λ vl cycle. tt })
 arrival_octets network other device node moment place link (signals.Octets given) =
     sent_octets place given (arrival_at other device node moment link (signal_as network (signals.Octets given)))
-
--- ---- the list of machines
-
-pub set_aside : {X : Type 0} (xs : List X) (i j : ℕ) (x : X) → (j ≡ i → ⊥) → slice_get (set xs i x) j ≡ slice_get xs j
-set_aside [] i j x apart = refl
-set_aside (y ∷ xs) zero zero x apart = absurd (apart refl)
-set_aside (y ∷ xs) zero (suc j) x apart = refl
-set_aside (y ∷ xs) (suc i) zero x apart = refl
-set_aside (y ∷ xs) (suc i) (suc j) x apart = set_aside xs i j x (λ e. apart (ap (λ (n : ℕ). suc n) e))
 
 -- ---- the moment
 

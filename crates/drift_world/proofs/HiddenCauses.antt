@@ -15,7 +15,9 @@ use Rattle.run_law.specs.declared.judgement.Why.{Why}
 use Rattle.run_law.specs.declared.note.NoteBody.TheVariants.{Event, Arrived, Permanent, Compressed, Sent, Corrected, State as Changed, Left, Lost, TtSent, Accepted, Delivered, Dropped, Clock}
 use Rattle.run_law.specs.declared.note.NoteBody.{NoteBody}
 use Rattle.sync_state.specs.declared.state.State.{State}
+use Rattle.world_law.proofs.putting.PutShown.{hidden_rank}
 use Rattle.world_law.specs.world.World.{AreSettled, Stands, World, hidden, hidden_body, none_yet}
+use Rattle.world_steps.proofs.acting.Stays.{out_mapped}
 
 -- none is before one that stands before it
 abbrev pub InOrder : List Happening → Type 0
@@ -97,13 +99,6 @@ hides_up given c b few lt =
 abbrev placed : ℕ → ℕ → NoteBody → List ℕ
 placed t members body = t ∷ rank body ∷ key members body
 
-same_rank : (given : ℕ) (p : NoteBody) → rank (hidden_body given p) ≡ rank p
-same_rank given p =
-    elim (change_or_other given p) [
-      | inl a ↦ subst (λ (q : NoteBody). rank (hidden_body given q) ≡ rank q) (sym a.is) refl
-      | inr a ↦ ap rank a.same
-    ]
-
 module _ (given : ℕ) (few : given < none_yet) (t u m n : ℕ) where
   abbrev Turns : NoteBody → NoteBody → Type 0
   Turns p q = IsBefore (placed t m p) (placed u n q) → IsBefore (placed u n (hidden_body given q)) (placed t m (hidden_body given p)) → ⊥
@@ -124,8 +119,8 @@ module _ (given : ℕ) (few : given < none_yet) (t u m n : ℕ) where
   of_ranks : (p q : NoteBody) → (rank p ≡ rank q → ⊥) → Turns p q
   of_ranks p q apart before after =
       parts t u (rank p) (rank q) (key m p) (key n q) (key n (hidden_body given q)) (key m (hidden_body given p)) before
-      (subst (λ (r : ℕ). IsBefore (u ∷ rank q ∷ key n (hidden_body given q)) (t ∷ r ∷ key m (hidden_body given p))) (same_rank given p)
-      (subst (λ (r : ℕ). IsBefore (u ∷ r ∷ key n (hidden_body given q)) (t ∷ rank (hidden_body given p) ∷ key m (hidden_body given p))) (same_rank given q)
+      (subst (λ (r : ℕ). IsBefore (u ∷ rank q ∷ key n (hidden_body given q)) (t ∷ r ∷ key m (hidden_body given p))) (hidden_rank given p)
+      (subst (λ (r : ℕ). IsBefore (u ∷ r ∷ key n (hidden_body given q)) (t ∷ rank (hidden_body given p) ∷ key m (hidden_body given p))) (hidden_rank given q)
       after))
       apart
 
@@ -155,16 +150,11 @@ abbrev pub Rises : List Happening → Type 0
 Rises [] = Unit {0}
 Rises (x ∷ xs) = ((y : Happening) → IsIn y xs → IsBefore (place_of x) (place_of y)) × Rises xs
 
-of_mapped : (f : Happening → Happening) (xs : List Happening) (y : Happening) → IsIn y (map f xs) → (x : Happening) × IsIn x xs × (y ≡ f x)
-of_mapped f [] y there = absurd there
-of_mapped f (x ∷ xs) y (inl e) = (x, inl refl, e)
-of_mapped f (x ∷ xs) y (inr rest) = let o = of_mapped f xs y rest in (o.0, inr o.1, o.2)
-
 hidden_in_order : (given : ℕ) → given < none_yet → (xs : List Happening) → Rises xs → InOrder (map (hidden given) xs)
 hidden_in_order given few [] up = tt
 hidden_in_order given few (x ∷ xs) up = (
   λ y there before.
-      let o = of_mapped (hidden given) xs y there in
+      let o = out_mapped (hidden given) xs y there in
       hidden_order given few x o.0 (up.0 o.0 o.1) (subst (λ (h : Happening). IsBefore (place_of h) (place_of (hidden given x))) o.2 before),
   hidden_in_order given few xs up.1,
 )

@@ -1,13 +1,12 @@
 -- What a record of the present instant put on a wire is there still.
-use Rattle.std.proofs.Common.{◌≡◌, ℕ, zero, suc, ◌+◌, ◌<◌, ◌≤◌, true, List, [], ◌∷◌, length, Option, Some, None, option_map, inl, inr, refl, sym, ap, subst, ◌∙◌, arith, ℤ, Bor}
+use Rattle.std.proofs.Common.{◌≡◌, ℕ, ◌+◌, ◌<◌, ◌≤◌, true, List, [], ◌∷◌, length, Option, Some, None, option_map, inl, inr, refl, sym, ap, subst, ◌∙◌, arith, ℤ, Bor}
 use Rattle.std.specs.Option.{option_copied}
-use Rattle.std.specs.Prelude.{IfNone, IfSome, slice_get}
+use Rattle.std.specs.Prelude.{IfNone, IfSome}
 use Rattle.std.specs.List.{filter_map}
 use Rattle.drift_world.specs.Running.{StandsUnder, reading_of}
 use Rattle.drift_world.specs.Views.{world_of}
 use Rattle.drift_world.specs.Wires.{IsOfNow, IsOnOwnLink, on_wire_in, put_by}
 use Rattle.drift_world.specs.declared.state.State.{State}
-use Rattle.due_queue.proofs.Bags.{given_of, is_given}
 use Rattle.due_queue.specs.Finding.{HoldsAt, HoldsNoneAt, IsPlaceFor}
 use Rattle.due_queue.specs.declared.Entry.{Entry}
 use Rattle.due_queue.specs.declared.Place.{Place}
@@ -16,6 +15,7 @@ use Rattle.net_plan.specs.declared.ids.DeviceId.{DeviceId}
 use Rattle.net_plan.specs.declared.network.Network.{Network}
 use Rattle.net_plan.specs.declared.tables.Link.{Link}
 use Rattle.run_law.proofs.law.FirstPlaces.{numbered_in}
+use Rattle.run_law.proofs.records.Order.{given_of, is_given}
 use Rattle.run_law.specs.control.Wires.{Arrives, Launch, Signal, launched, time_on_port}
 use Rattle.run_law.specs.declared.note.Note.{Note}
 use Rattle.run_law.specs.machines.Nodes.{Node}
@@ -25,6 +25,7 @@ use Rattle.run_law.specs.records.Ranks.{place_of, rank}
 use Rattle.run_law.specs.scenario.Scenarios.{Scenario}
 use Rattle.run_law.specs.scenario.Ways.{delay_at, receiver_of}
 use Rattle.schedule_tables.specs.Entries.{target_by}
+use Rattle.tte_lemmas.proofs.Lists.{some_at}
 use Rattle.world_law.proofs.giving.Given.{some_same}
 use Rattle.world_law.specs.source.Agreeing.{scenario}
 use Rattle.world_law.specs.source.Sources.{IsArriving}
@@ -64,15 +65,10 @@ not_soon : (t now : ℕ) (more : List ℕ) → now + 1 ≤ t → IsBefore (t ∷
 not_soon t now more late (inl lt) = omega (arith, late, lt)
 not_soon t now more late (inr (same, none)) = absurd none
 
-at_place : {X : Type 0} (xs : List X) (i : ℕ) → i < length xs → (x : X) × (slice_get xs i ≡ Some x)
-at_place [] i lt = absurd (omega (arith, lt))
-at_place (x ∷ xs) zero lt = (x, refl)
-at_place (x ∷ xs) (suc i) lt = at_place xs i (omega (arith, lt))
-
 received : (network : Network) (launch : Launch) → launch.link.0 < length network.link
     → (device : DeviceId) × (receiver_of network launch.link launch.way ≡ Some device)
 received network launch lt =
-    let there = at_place network.link launch.link.0 lt in
+    let there = some_at network.link launch.link.0 lt in
     (target_by launch.way there.0, ap (option_map (target_by launch.way)) there.1)
 
 module _ {C M : Type 0} (reading : C → ℕ → ℕ) (stands : Kept M → Network → DeviceId → Node → Type 0) (s : Scenario) (network : Network)

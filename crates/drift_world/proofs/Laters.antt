@@ -22,15 +22,11 @@ use Rattle.tte_units.specs.Amount.{amount, units_of}
 use Rattle.tte_units.specs.declared.units.Units.{Units}
 use Rattle.drift_world.specs.Later.{ComesBehind, IsOpenFrom, MayApplyAgain}
 use Rattle.drift_world.specs.Running.{HasReached, IsOpenTo, Reaches, StandsUnder}
+use Rattle.tte_lemmas.proofs.Integers.{whole as whole_time}
 use Rattle.world_law.specs.world.World.{World}
 use Rattle.world_state.specs.declared.kept.Kept.{Kept}
 
 -- ---- times
-
--- a time from 0 on is its amount
-whole_time : (time : ℤ) → pos 0 ≤ℤ time → time ≡ pos (unsigned_abs time)
-whole_time (pos n) begun = refl
-whole_time (negsuc n) begun = absurd (omega (arith, ints, begun))
 
 at_most : (time : ℤ) (n : ℕ) → (pos n <ℤ time → ⊥) → time ≤ℤ pos n
 at_most (pos m) n not = grind (arith, ints)

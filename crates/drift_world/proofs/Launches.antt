@@ -1,10 +1,9 @@
 -- What a record launches, as its law asks for it.
 use Rattle.std.proofs.Common.{◌≡◌, ℕ, ◌+◌, ◌<◌, Bool, true, false, List, ◌∷◌, [], map, length, Option, Some, None, inl, inr, refl, sym, ap, subst, ◌∙◌, arith}
 use Rattle.std.specs.Prelude.{if◌then◌else◌, IsSomeAnd, IfSome, IfNone}
-use Rattle.std.specs.List.{All, filter_map, slice_get}
-use Rattle.std.specs.Option.{option_map, option_map_or}
-use Rattle.std.proofs.lemmas.Option.{get_or_from_slice_get, slice_get-map, slice_get_within}
-use Rattle.due_queue.proofs.Bags.{given_of, is_given}
+use Rattle.std.specs.List.{filter_map, slice_get}
+use Rattle.std.specs.Option.{option_map_or}
+use Rattle.std.proofs.lemmas.Option.{same_Some, slice_get-map, slice_get_within}
 use Rattle.due_queue.specs.declared.Entry.{Entry}
 use Rattle.net_plan.specs.declared.ids.DeviceId.{DeviceId}
 use Rattle.net_plan.specs.declared.ids.LinkId.{LinkId}
@@ -18,7 +17,6 @@ use Rattle.run_law.specs.records.Happenings.{Happening, time_of}
 use Rattle.run_law.specs.scenario.Devices.{is_parent_of}
 use Rattle.run_law.specs.scenario.Scenarios.{Scenario, is_broken}
 use Rattle.run_law.specs.scenario.Ways.{delay_at, hold_at, way_from}
-use Rattle.world_state.proofs.UnderWays.{some_is}
 use Rattle.drift_world.specs.Giving.{IsGivenOut, IsGiver}
 use Rattle.world_state.specs.Giving.{ArePutTo, ArrivedAt, HasItsFrame, delay_by, entry_at_port, giver_of, hold_by}
 use Rattle.drift_world.specs.Showing.{IsOf}
@@ -29,15 +27,14 @@ use Rattle.drift_world.specs.declared.state.State.{State}
 use Rattle.drift_world.proofs.Awaits.{awaits, none_awaited}
 use Rattle.net_plan.specs.Ranges.{IsInRange, IsLinkInRange}
 use Rattle.pcf_values.specs.declared.pcf.Pcf.{Pcf}
+use Rattle.run_law.proofs.records.Order.{given_of, is_given}
+use Rattle.tte_lemmas.proofs.Lists.{in_all}
+use Rattle.tte_lemmas.proofs.Options.{mapped}
 use Rattle.world_state.specs.declared.contents.Content.{Content}
 use Rattle.world_state.specs.declared.contents.WayState.{WayState}
 use Rattle.world_state.specs.declared.giving.Giving.{Giving}
 use Rattle.world_law.specs.world.Moves.{AreAwaited, AreGiven}
 use Rattle.world_law.specs.world.World.{AreWays, AtPort, IsGivenBy, WayNow, port_place, way_now}
-
-some_of : {X Y : Type 0} (f : X → Y) (o : Option X) (y : Y) → option_map f o ≡ Some y → (x : X) × (o ≡ Some x) × (f x ≡ y)
-some_of f None y e = absurd cc
-some_of f (Some x) y e = (x, refl, some_is _ _ e)
 
 within_and : {X : Type 0} (P : X → Type 0) (xs : List X) (i : ℕ) (o : Option X) → slice_get xs i ≡ o → IsSomeAnd o P → i < length xs
 within_and P xs i None e and = absurd and
@@ -47,9 +44,9 @@ within_and P xs i (Some x) e and = slice_get_within xs i x e
 
 pub giver_gives : (network : Network) (body : NoteBody) (device giver : DeviceId) (link : LinkId) → Gives network body device link
     → giver_of body ≡ Some giver → device ≡ giver
-giver_gives network (Sent master cycle) device giver link gives by = gives.0 ∙ some_is _ _ by
-giver_gives network (Compressed cm opened at cycle members verdict) device giver link gives by = gives.0 ∙ some_is _ _ by
-giver_gives network (Arrived relay from cause clock) device giver link gives by = gives.0 ∙ some_is _ _ by
+giver_gives network (Sent master cycle) device giver link gives by = gives.0 ∙ same_Some _ _ by
+giver_gives network (Compressed cm opened at cycle members verdict) device giver link gives by = gives.0 ∙ same_Some _ _ by
+giver_gives network (Arrived relay from cause clock) device giver link gives by = gives.0 ∙ same_Some _ _ by
 giver_gives network (Event line what) device giver link gives by = absurd gives
 giver_gives network (Permanent d l cause point verdict) device giver link gives by = absurd gives
 giver_gives network (Corrected d cycle of adjustment) device giver link gives by = absurd gives
@@ -101,9 +98,6 @@ gives_by network (Delivered d l cause vl cycle) device link gives = absurd gives
 gives_by network (Dropped d l cause reason) device link gives = absurd gives
 gives_by network (Clock d reading adjustment state) device link gives = absurd gives
 
-in_all : {X : Type 0} (P : X → Type 0) (xs : List X) (i : ℕ) (x : X) → All P xs → slice_get xs i ≡ Some x → P x
-in_all P xs i x all e = subst P (get_or_from_slice_get xs i x x e) (all i x (slice_get_within xs i x e))
-
 child_in : (network : Network) (device : DeviceId) (i : ℕ) (o : Option Link) → slice_get network.link i ≡ o → IsInRange network
     → IsSomeAnd o (λ l. l.child ≡ device) → device.0 < length network.device
 child_in network device i None e range and = absurd and
@@ -142,8 +136,8 @@ gives_in network (Clock d reading adjustment state) device link range gives = ab
 module _ (s : Scenario) (now : ℕ) (ups downs : List WayState) (ways : AreWays s now (map way_as ups) (map way_as downs)) where
   way_there : (down : Bool) (link : LinkId) → link.0 < length s.network.link
       → (w : WayState) × (slice_get (if down then downs else ups) link.0 ≡ Some w) × (way_as w ≡ way_now s now link (if down then Down else Up))
-  way_there true link lt = some_of way_as (slice_get downs link.0) _ (sym (slice_get-map way_as downs link.0) ∙ ways.down link lt)
-  way_there false link lt = some_of way_as (slice_get ups link.0) _ (sym (slice_get-map way_as ups link.0) ∙ ways.up link lt)
+  way_there true link lt = mapped way_as (slice_get downs link.0) _ (sym (slice_get-map way_as downs link.0) ∙ ways.down link lt)
+  way_there false link lt = mapped way_as (slice_get ups link.0) _ (sym (slice_get-map way_as ups link.0) ∙ ways.up link lt)
 
   pub hold_is : (device : DeviceId) (link : LinkId) → link.0 < length s.network.link
       → hold_by s.network ups downs device link ≡ hold_at s link (way_from s.network device link) now
@@ -198,7 +192,7 @@ module _ (s : Scenario) (now : ℕ) (ups downs : List WayState) (ways : AreWays 
               elim (put.real of.0 of.1) [
                 | inl before ↦ inl (is_given at_port old of.0 e before of.2)
                 | inr to ↦
-                    let is : e ≡ port_of to.0 = some_is _ _ (sym of.2 ∙ ap at_port to.3) in
+                    let is : e ≡ port_of to.0 = same_Some _ _ (sym of.2 ∙ ap at_port to.3) in
                     inr (subst (λ (p : AtPort). (p.cause ≡ number) × IsGivenBy s x p) (sym is) (numbered, given_so to.0 to.1 to.2))
               ];
           kept = λ e there. let of = given_of at_port old e there in is_given at_port new of.0 e (put.kept of.0 of.1) of.2;
@@ -240,12 +234,11 @@ given_out reading s old new x number (Some g) of range at framed arrived out =
     let frame = by.of_frame in
     let clock = of.clocks g.device by.there in
     let read : g.reading ≡ s.reading g.device old.time =
-    by.reads ∙ ap (λ k. reading k old.time) (some_is _ _ (sym by.own ∙ clock.1)) ∙ sym (clock.2 old.time (omega arith)) in
-    let broken : g.broken ≡ is_broken s g.device old.time = some_is _ _ (sym by.broken ∙ of.broken g.device by.there) in (
+    by.reads ∙ ap (λ k. reading k old.time) (same_Some _ _ (sym by.own ∙ clock.1)) ∙ sym (clock.2 old.time (omega arith)) in
+    let broken : g.broken ≡ is_broken s g.device old.time = same_Some _ _ (sym by.broken ∙ of.broken g.device by.there) in (
       given_to s old.time old.ups.items old.downs.items of.ways x number g at by.by by.time by.numbered frame read old.under_way.entries
           new.under_way.entries out.put,
-      subst (λ (l : List Waits). AreAwaited s x number (map waiting_as old.waiting.items) (map waiting_as l)) (sym out.waits)
-          (awaits s old.time x number g at by.by by.numbered frame read broken old.waiting.items),
+      awaits s old.time x number g at by.by by.numbered frame read broken old.waiting.items new.waiting.items out.waits,
     )
 given_out reading s old new x number None of range at framed arrived out =
     let none : (device : DeviceId) (link : LinkId) → Gives s.network x.note.body device link → ⊥ = λ device link gives.

@@ -20,7 +20,6 @@ pub mod Gave
 pub mod Givings
 pub mod Hears
 pub mod HiddenCauses
-pub mod Admitted
 pub mod Laters
 pub mod Launches
 pub mod LocalValues

@@ -1,7 +1,7 @@
 -- The first of what is settled may be given, where the state stands.
 use Rattle.std.proofs.Common.{◌≡◌, ℕ, ◌+◌, ◌<◌, ◌≤◌, List, [], ◌∷◌, length, slice_get, Option, Some, None, inl, inr, refl, sym, ap, subst, ◌∙◌, append-nil, arith}
 use Rattle.std.specs.Prelude.{◌^◌, option_map, option_and_then}
-use Rattle.std.proofs.lemmas.Option.{slice_get_within}
+use Rattle.std.proofs.lemmas.Option.{same_Some, slice_get_within}
 use Rattle.net_plan.specs.Places.{link_at}
 use Rattle.net_plan.specs.Ranges.{IsInRange}
 use Rattle.net_plan.specs.declared.ids.DeviceId.{DeviceId}
@@ -24,7 +24,6 @@ use Rattle.tte_units.specs.declared.units.Units.{Units}
 use Rattle.drift_world.proofs.FirstSettled.{first_of}
 use Rattle.drift_world.proofs.HiddenCauses.{change_or_other}
 use Rattle.drift_world.proofs.Sendings.{link_within}
-use Rattle.world_state.proofs.UnderWays.{some_is}
 use Rattle.world_state.specs.Giving.{ArrivedAt, CameBy, HasItsFrame, HasItsOctets, IsYoung, MayBeGiven}
 use Rattle.world_state.specs.Views.{settled_at}
 use Rattle.world_state.specs.declared.contents.Settled.{Settled}
@@ -131,6 +130,6 @@ low_now {C} reading stands s world notes old devices same all k clock at =
     let within = slice_get_within world.clocks k clock at in
     let device : DeviceId = record { 0 = k } in
     let own = old.clocks device (omega (arith, within, all, same)) in
-    let is : clock ≡ own.0 = some_is _ _ (sym at ∙ own.1) in
+    let is : clock ≡ own.0 = same_Some _ _ (sym at ∙ own.1) in
     let low = (old.steady device).low world.now old.limit in
     subst (λ (n : ℕ). n ≤ 2 ^ 60 + 2 ^ 51) (own.2 world.now (omega arith) ∙ ap (λ (c : C). reading c world.now) (sym is)) low

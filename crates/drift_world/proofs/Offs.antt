@@ -1,27 +1,27 @@
 -- A device that began off, and that no event turned on, is off.
 use Rattle.std.proofs.Common.{◌≡◌, ℕ, ℤ, Bool, true, false, ◌&&◌, ◌||◌, ◌==◌, if◌then◌else◌, List, [], ◌∷◌, ◌++◌, append_assoc, fold, Option, Some, None, inl, inr, refl, sym, ap, subst, ◌∙◌}
 use Rattle.std.specs.Prelude.{nat_lt, IsSomeAnd, IsNone, MatchBool, option_and_then}
-use Rattle.std.proofs.lemmas.Bool.{eqb-true, false_from_ne_true}
+use Rattle.std.proofs.lemmas.Bool.{and_parts, false_from_ne_true}
 use Rattle.compression.specs.Clusters.{point_at}
-use Rattle.compression.specs.declared.taken.Taken.TheVariants as taken
-use Rattle.compression.specs.declared.taken.Taken.{Taken}
+use Rattle.net_plan.proofs.SameIds.{one_device}
 use Rattle.net_plan.specs.Places.{device_at}
 use Rattle.net_plan.specs.declared.event.Event.{Event}
 use Rattle.net_plan.specs.declared.event.What.TheVariants.{On}
-use Rattle.net_plan.specs.declared.event.What.{What}
 use Rattle.net_plan.specs.declared.ids.DeviceId.{DeviceId}
 use Rattle.net_plan.specs.declared.ids.LinkId.{LinkId}
 use Rattle.net_plan.specs.declared.tables.Device.{Device}
 use Rattle.pcf_values.specs.declared.members.Members.{Members}
+use Rattle.run_law.proofs.control.Verdicts.{role_not}
 use Rattle.run_law.proofs.law.FirstPlaces.{in_at, in_filter, numbered_in}
+use Rattle.run_law.proofs.records.Order.{any_in}
 use Rattle.run_law.proofs.runs.Places.{in_parts}
-use Rattle.run_law.specs.control.Collections.{master_of, observation_window, point_fault, points_of, ripe_by_role}
+use Rattle.run_law.proofs.scenario.Devices.{on_by}
+use Rattle.run_law.specs.control.Collections.{master_of, observation_window, point_fault, points_of}
 use Rattle.run_law.specs.control.Corrections.{ComesToCorrection, next_cycle}
 use Rattle.run_law.specs.control.Emissions.{Emits}
 use Rattle.run_law.specs.control.Hearing.{heard_as}
 use Rattle.run_law.specs.control.Permanence.{BecomesPermanent, IsCollectedOrDropped, before_permanence, ripe_as}
 use Rattle.run_law.specs.declared.judgement.Judgement.TheVariants.{Integrates}
-use Rattle.run_law.specs.declared.judgement.Judgement.{Judgement}
 use Rattle.run_law.specs.declared.judgement.Reason.{Reason}
 use Rattle.run_law.specs.declared.judgement.Why.TheVariants as whys
 use Rattle.run_law.specs.declared.judgement.Why.{Why}
@@ -41,10 +41,10 @@ use Rattle.sync_state.specs.declared.answers.Verdict.TheVariants.{Corrected}
 use Rattle.sync_state.specs.declared.plan.SyncPlan.{SyncPlan}
 use Rattle.sync_state.specs.declared.state.State.TheVariants.{Off, Integrating, Joining, Synchronised}
 use Rattle.sync_state.specs.declared.state.State.{State}
+use Rattle.traffic_law.proofs.spans.Forward.{ripe_integrates}
 use Rattle.tte_units.specs.Amount.{amount}
 use Rattle.tte_units.specs.declared.units.Units.{Units}
 use Rattle.world_law.proofs.devices.OwnRecords.{joins_no_other, keeps_state}
-use Rattle.world_steps.proofs.ripening.Awake.{any_in, both_are}
 use Rattle.world_law.specs.device.Own.{moves}
 
 -- ---- what hears nothing joins by nothing
@@ -56,16 +56,6 @@ off_hears plan precision adjustment point cycle members Off off e = cc
 off_hears plan precision adjustment point cycle members Integrating off e = cc
 off_hears plan precision adjustment point cycle members Joining off e = cc
 off_hears plan precision adjustment point cycle members Synchronised off e = cc
-
-ripe_joins : (judgement : Judgement) → ripe.Integrates ≡ ripe_as judgement → Integrates ≡ judgement
-ripe_joins Integrates e = refl
-ripe_joins judgement e = absurd cc
-
-by_role : (t : Taken) → ripe.Integrates ≡ ripe_by_role t → ⊥
-by_role taken.Opened e = cc
-by_role taken.Joined e = cc
-by_role taken.Repeat e = cc
-by_role taken.OtherCycle e = cc
 
 -- ---- no record moves it
 
@@ -88,20 +78,13 @@ unmoved device first (h ∷ hs) still =
     ap (λ (z : State). fold (λ state g. state_with device state g.note.body) z hs) (keeps_state device first h.note.body (still h (inl refl)))
     ∙ unmoved device first hs (λ g i. still g (inr i))
 
-same_device : (device other : DeviceId) → (device.0 == other.0) ≡ true → other ≡ device
-same_device device other e = let same = eqb-true device.0 other.0 e in ap (λ (n : ℕ). let d : DeviceId = record { 0 = n } in d) (sym same)
-
-pub on_by : (device : DeviceId) (what : What) → turns_on device what ≡ true → what ≡ On device
-on_by device (On other) e = ap On (same_device device other e)
-on_by device other e = absurd cc
-
 module _ (s : Scenario) (device : DeviceId) (begins : state_at_start (start_of s.network device) ≡ Off)
     (never : (e : Event) → IsIn e s.events → e.what ≡ On device → ⊥) where
   -- no event turns it on at a time
   pub not_on : (t : ℕ) → is_turned_on_at s device t ≡ false
   not_on t = false_from_ne_true (is_turned_on_at s device t) (λ on.
       let found = any_in (λ e. turns_on device e.what && amount e.time == t) s.events on in
-      let parts = both_are (turns_on device found.0.what) (amount found.0.time == t) found.2 in
+      let parts = and_parts (turns_on device found.0.what) (amount found.0.time == t) found.2 in
       never found.0 found.1 (on_by device found.0.what parts.0))
 
   -- while no record has moved it, it is off
@@ -140,7 +123,7 @@ module _ (s : Scenario) (device : DeviceId) (begins : state_at_start (start_of s
           → ⊥
       from judged kept false e =
           off_hears (plan_of s.network device) (observation_window s.network) (adjustment_at_hearing s judged device t).0
-          point.0 c.frame.cycle c.frame.members (state_at_hearing s judged device t) (off_at_hearing judged t kept) (ripe_joins _ e)
+          point.0 c.frame.cycle c.frame.members (state_at_hearing s judged device t) (off_at_hearing judged t kept) (ripe_integrates _ e)
       from judged kept true e =
           collected (point_fault s.network (state_at_hearing s judged device t)
           (adjustment_at_hearing s judged device t).0 point.0 c.frame.cycle) e
@@ -148,7 +131,7 @@ module _ (s : Scenario) (device : DeviceId) (begins : state_at_start (start_of s
           collected : (o : Option Reason) → IsCollectedOrDropped s.network (points_of judged device)
               (point_at point.0 (master_of c.frame.members.0) c.frame.cycle) o
               ripe.Integrates → ⊥
-          collected None it = by_role it.taken it.becomes
+          collected None it = role_not it.taken it.becomes
           collected (Some reason) it = cc
 
   -- nor does the next
@@ -169,17 +152,17 @@ module _ (s : Scenario) (device : DeviceId) (begins : state_at_start (start_of s
       → IsCaused s hs time body → moves device body ≡ true → ⊥
   stays hs time (notes.State other state cause why) still untold c own =
       no_change hs (amount time) state cause why still untold
-      (subst (λ (d : DeviceId). ChangesState s hs d (amount time) state cause why) (same_device device other own) c)
+      (subst (λ (d : DeviceId). ChangesState s hs d (amount time) state cause why) (one_device device other own) c)
   stays hs time (notes.Corrected other cycle by adjustment) still untold c own =
       no_point hs (amount time) cycle still
       (subst (λ (d : DeviceId). ComesToCorrection s hs d (amount time) cycle
-      (Corrected by)) (same_device device other own) c.corrected).next
+      (Corrected by)) (one_device device other own) c.corrected).next
   stays hs time (notes.Permanent other link cause point Integrates) still untold c own =
       no_frame hs (amount time) link cause point still
-      (subst (λ (d : DeviceId). BecomesPermanent s hs d (amount time) link cause point ripe.Integrates) (same_device device other own) c)
+      (subst (λ (d : DeviceId). BecomesPermanent s hs d (amount time) link cause point ripe.Integrates) (one_device device other own) c)
   stays hs time (notes.Compressed other opened at cycle members Integrates) still untold c own =
       let e = subst (λ (d : DeviceId). Emits s hs d (amount time) (record { opened = opened; at = at; cycle = cycle; members = members }) Integrates)
-      (same_device device other own) c in
+      (one_device device other own) c in
       off_hears (plan_of s.network device) (observation_window s.network)
       (adjustment_at_hearing s hs device (amount time)).0 at.0 cycle members
       (state_at_hearing s hs device (amount time)) (off_at_hearing hs (amount time) still) e.heard

@@ -20,9 +20,7 @@ use Rattle.sync_state.specs.declared.state.State.{State as DeviceState}
 use Rattle.tte_units.specs.Amount.{amount}
 use Rattle.drift_world.proofs.Agreements.{clock_more, reads_same, reads_value}
 use Rattle.drift_world.proofs.EventRuns.{run_behind_events}
-use Rattle.drift_world.proofs.Fitting.{some_is}
 use Rattle.drift_world.proofs.Forwards.{forward}
-use Rattle.drift_world.proofs.Admitted.{all_within}
 use Rattle.drift_world.proofs.Steadiness.{steady}
 use Rattle.drift_world.proofs.Suits.{suits}
 use Rattle.world_state.specs.Applying.{IsShown, clock_after}
@@ -34,6 +32,8 @@ use Rattle.drift_world.specs.Views.{world_of}
 use Rattle.world_state.specs.declared.kept.Kept.{Kept}
 use Rattle.world_state.specs.declared.memory.OutOfMemory.{OutOfMemory}
 use Rattle.drift_world.specs.declared.state.State.{State}
+use Rattle.run_law.proofs.scenario.Devices.{all_within}
+use Rattle.tte_lemmas.proofs.Options.{one}
 use Rattle.world_law.proofs.giving.Given.{in_get}
 use Rattle.world_law.specs.source.Agreeing.{scenario}
 use Rattle.world_law.specs.source.Applying.{note_of_event}
@@ -86,7 +86,7 @@ module _ {C M : Type 0} (fresh : ℕ → C) (after_step : C → ℕ → ℤ → 
     reads = λ device clock is t late.
         let lt : device.0 < length network.device = let there = slice_get_within state.clocks.items device.0 clock is in omega (arith, there, many) in
         let own : clock_of fresh after_step network events device ≡ clock =
-        some_is (slice_get state.clocks.items device.0) (clock_of fresh after_step network events device) clock (under.clocks device lt) is in
+        one (slice_get state.clocks.items device.0) (clock_of fresh after_step network events device) clock (under.clocks device lt) is in
         reads_value fresh after_step reading network (events ++ event ∷ []) device t (λ e i. let past = past_all e i in omega (arith, past, late))
         ∙ ap (λ (c : C). reading c t) (clock_more fresh after_step network events event device
         ∙ ap (clock_after after_step device event.time event.what) own);

@@ -1,5 +1,5 @@
 -- A record that is put in at its place.
-use Rattle.std.proofs.Common.{◌≡◌, ℕ, ℤ, zero, suc, ◌+◌, ◌≤◌, ◌<◌, Bool, true, false, Option, Some, None, List, [], ◌∷◌, ◌++◌, map, length, take, drop, get_or, inl, inr, refl, sym, ap, subst, ◌∙◌, arith}
+use Rattle.std.proofs.Common.{◌≡◌, ℕ, zero, suc, ◌+◌, ◌≤◌, ◌<◌, Bool, true, false, Option, Some, None, List, [], ◌∷◌, ◌++◌, map, length, take, drop, get_or, inl, inr, refl, sym, ap, subst, ◌∙◌, arith}
 use Rattle.std.proofs.lemmas.List.{take-append-drop}
 use Rattle.net_plan.specs.declared.network.Network.{Network}
 use Rattle.run_law.proofs.runs.Places.{chain, either_way, in_left, in_parts, in_right, never_self}
@@ -13,7 +13,6 @@ use Rattle.run_law.specs.records.Happenings.{Happening, frame_from, with_clock}
 use Rattle.run_law.specs.records.Order.{AllBefore, IsBefore, NoneBefore}
 use Rattle.run_law.specs.records.Ranks.{place_of}
 use Rattle.run_law.specs.declared.note.NoteBody.{NoteBody}
-use Rattle.tte_units.specs.declared.units.Units.{Units}
 use Rattle.drift_world.proofs.HiddenCauses.{InOrder}
 use Rattle.world_state.specs.Leaving.{frame_after}
 use Rattle.world_state.specs.Places.{IsPutAt, IsSomePut, own_place}
@@ -97,9 +96,6 @@ one_put_in other network now hs body z old new at put order is = (
   subst (λ (h : Happening). IsPutIn h (map (settled_at network now) old) (map (settled_at network now) new)) is (is_put_in network now z old new at put order),
   refl,
 )
-
-pub same_units : (a b : Units) → a.0 ≡ b.0 → a ≡ b
-same_units a b same = ap (λ (n : ℤ). let t : Units = record { 0 = n } in t) same
 
 -- a record is put in, or there is none
 pub some_put_in : (other network : Network) (now : ℕ) (hs : List Happening) (body : NoteBody) (z : Settled) (old new : List Settled) (none : Bool)

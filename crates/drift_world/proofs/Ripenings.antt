@@ -1,5 +1,5 @@
 -- A frame that waits is permanent: its machine may be asked, and the state stands behind it.
-use Rattle.std.proofs.Common.{◌≡◌, ℕ, ◌+◌, ◌<◌, ◌≤◌, pos, ◌≤ℤ◌, ◌^◌, List, [], ◌∷◌, length, map, slice_set, All, Option, Some, false, refl, sym, ap, subst, ◌∙◌, arith}
+use Rattle.std.proofs.Common.{◌≡◌, ℕ, ◌+◌, ◌<◌, ◌≤◌, pos, ◌≤ℤ◌, ◌^◌, List, [], ◌∷◌, length, map, nat_eq, slice_set, All, Option, Some, false, refl, sym, ap, subst, ◌∙◌, arith}
 use Rattle.std.specs.List.{slice_get}
 use Rattle.std.specs.Prelude.{◌↔◌}
 use Rattle.std.specs.Option.{option_and_then}
@@ -26,7 +26,7 @@ use Rattle.tte_units.specs.declared.units.Units.{Units}
 use Rattle.drift_world.proofs.Fits.{all_put, all_put_some, have_octets}
 use Rattle.drift_world.proofs.HiddenCauses.{InOrder, settled_in_order}
 use Rattle.drift_world.proofs.Puts.{one_put_in, two_put_in}
-use Rattle.world_state.proofs.Swaps.{IsTaken, at_in, from_map, in_at, in_map, is_set, same_place, stayed, stays, stood}
+use Rattle.world_state.proofs.Swaps.{from_map, is_set, stayed, stays, was_there}
 use Rattle.world_state.specs.Keeping.{keeps}
 use Rattle.world_state.specs.Places.{IsPutAt}
 use Rattle.world_state.specs.Ripening.{AreSettledSo, joined_record, judged_so, ripe_record}
@@ -37,65 +37,67 @@ use Rattle.world_state.specs.declared.contents.Settled.{Settled}
 use Rattle.world_state.specs.declared.contents.Waits.{Waits}
 use Rattle.world_state.specs.declared.kept.Kept.{Kept}
 use Rattle.drift_world.specs.declared.state.State.{State}
-use Rattle.world_law.proofs.giving.Given.{some_same}
+use Rattle.run_law.proofs.records.Order.{all_of}
+use Rattle.world_law.proofs.giving.Given.{in_get, some_same}
+use Rattle.std.specs.List.Sorted.{IsPermutation}
+use Rattle.std.proofs.lemmas.List.Sorted.{IsPermutation-map}
+use Rattle.std.proofs.lemmas.Map.Keys.{IsDistinct-IsPermutation, IsDistinct-head, IsDistinct-tail}
+use Rattle.due_queue.proofs.Bags.{each_apart}
+use Rattle.tte_lemmas.proofs.Naturals.{flips}
+use Rattle.drift_world.proofs.Fitting.{cause_of}
+use Rattle.drift_world.specs.Sound.{AreApart}
 use Rattle.world_steps.proofs.ripening.Asking.{may_ask}
-use Rattle.world_steps.proofs.ripening.Ripens.{all_in}
 use Rattle.world_steps.proofs.ripening.RipenedSteps.{ripened_step, waits_within}
 use Rattle.world_law.specs.world.Calls.{moment_of}
 use Rattle.world_steps.specs.Ripening.{HasRipened, ripe_bodies}
 use Rattle.world_law.specs.world.Moves.{ArePutIn, ComesFirst, IsWithout, StandsBehind, settled_as}
 use Rattle.world_law.specs.world.World.{Stands, Waiting, none_yet, ripe_place}
+use Rattle.world_state.proofs.Befallings.{is_mapped}
 
 -- ---- what waits is apart by its cause
 
-abbrev pub AreApart : List Waits → Type 0
-AreApart l = (i j : ℕ) (v w : Waits) → slice_get l i ≡ Some v → slice_get l j ≡ Some w → v.cause ≡ w.cause → i ≡ j
+module _ (w : Waits) (old new : List Waits) (t : IsPermutation old (w ∷ new)) (apart : AreApart old) where
+  now_apart : AreApart (w ∷ new)
+  now_apart = IsDistinct-IsPermutation nat_eq flips (map cause_of old) (map cause_of (w ∷ new)) (IsPermutation-map cause_of old (w ∷ new) t) apart
 
-module _ (index : ℕ) (w : Waits) (old new : List Waits) (t : IsTaken index w old new) (apart : AreApart old) where
   pub still_apart : AreApart new
-  still_apart i j u v a b same =
-      let p = stood index w old new t i u a in
-      let q = stood index w old new t j v b in
-      same_place index w old new t i j u v p q (apart p.was q.was u v p.is q.is same)
+  still_apart = IsDistinct-tail nat_eq w.cause (map cause_of new) now_apart
 
   others : (v : Waits) → IsIn v new → v.cause ≡ w.cause → ⊥
-  others v there same =
-      let at = in_at new v there in
-      let p = stood index w old new t at.0 v at.1 in
-      p.other (apart p.was index v w p.is t.is same)
+  others v there = each_apart cause_of w.cause new (IsDistinct-head nat_eq w.cause (map cause_of new) now_apart) v there
 
-  cause_of : (now : ℕ) (v : Waits) → ripe_place now (waiting_as v) ≡ ripe_place now (waiting_as w) → v.cause ≡ w.cause
-  cause_of now v e = cc
+  same_cause : (now : ℕ) (v : Waits) → ripe_place now (waiting_as v) ≡ ripe_place now (waiting_as w) → v.cause ≡ w.cause
+  same_cause now v e = cc
 
   pub without : (now : ℕ) → IsWithout (ripe_place now) (ripe_place now (waiting_as w)) (map waiting_as old) (map waiting_as new)
   without now e = (
     λ there.
         let from = from_map waiting_as new e there in
         let v = from.0 in (
-          subst (λ (x : Waiting). IsIn x (map waiting_as old)) (sym from.2) (in_map waiting_as old v (stayed index w old new t v from.1)),
-          λ place. others v from.1 (cause_of now v (sym (ap (ripe_place now) from.2) ∙ place)),
+          subst (λ (x : Waiting). IsIn x (map waiting_as old)) (sym from.2) (is_mapped waiting_as old v (stayed w old new t v from.1)),
+          λ place. others v from.1 (same_cause now v (sym (ap (ripe_place now) from.2) ∙ place)),
         ),
     λ h.
         let from = from_map waiting_as old e h.0 in
         let v = from.0 in
         subst (λ (x : Waiting). IsIn x (map waiting_as new)) (sym from.2)
-        (in_map waiting_as new v (stays index w old new t v from.1 (λ same. h.1 (ap (ripe_place now) from.2
+        (is_mapped waiting_as new v (stays w old new t v from.1 (λ same. h.1 (ap (ripe_place now) from.2
         ∙ ap (λ (x : Waits). ripe_place now (waiting_as x)) same)))),
   )
 
-pub below_taken : (number index : ℕ) (w : Waits) (old new : List Waits) → IsTaken index w old new → All (λ v. v.cause < number) old
+pub below_taken : (number : ℕ) (w : Waits) (old new : List Waits) → IsPermutation old (w ∷ new) → All (λ v. v.cause < number) old
     → All (λ v. v.cause < number) new
-below_taken number index w old new t below =
-    all_in (λ v. v.cause < number) new (λ v there.
-    let at = in_at old v (stayed index w old new t v there) in
+below_taken number w old new t below =
+    all_of (λ v. v.cause < number) new (λ v there.
+    let at = in_get old v (stayed w old new t v there) in
     let lt = slice_get_within old at.0 v at.1 in
     subst (λ (x : Waits). x.cause < number) (get_or_from_slice_get old at.0 v v at.1) (below at.0 v lt))
 
-pub others_wait : (index : ℕ) (w : Waits) (old new : List Waits) → IsTaken index w old new → (v : Waits) → (v.device.0 ≡ w.device.0 → ⊥)
+pub others_wait : (w : Waits) (old new : List Waits) → IsPermutation old (w ∷ new) → (v : Waits) → (v.device.0 ≡ w.device.0 → ⊥)
     → IsIn v new ↔ IsIn v old
-others_wait index w old new t v other = (
-  λ there. stayed index w old new t v there,
-  λ there. stays index w old new t v there (λ same. other (ap (λ (x : Waits). x.device.0) same)),
+others_wait w old new t v other = (
+  λ there. stayed w old new t v there,
+  λ there. stays w old new t v there (λ same. other (ap (λ (x : Waits). x.device.0) same)),
 )
 
 -- ---- the machine may be asked
@@ -107,7 +109,7 @@ module _ {C M : Type 0} (reading : C → ℕ → ℕ) (stands : M → Network �
     (there : IsIn w state.waiting.items)
     (reached : (clock : C) → slice_get state.clocks.items w.device.0 ≡ Some clock → w.point.0 ≤ℤ pos (reading clock state.time)) where
   in_waiting : IsIn (waiting_as w) (map waiting_as state.waiting.items)
-  in_waiting = in_map waiting_as state.waiting.items w there
+  in_waiting = is_mapped waiting_as state.waiting.items w there
 
   pub within : (s : Scenario) (notes : List Note) → Stands reading (keeps stands) s (world_of network state) notes → w.device.0 < length s.network.device
   within s notes old = waits_within s (happenings s.network notes) (waiting_as w) (old.waiting.real (waiting_as w) in_waiting) old.run.founded old.range
@@ -229,9 +231,9 @@ StandsAfter reading stands network old new w =
     → ComesFirst reading (keeps stands) s (world_of network old) notes was (ripe_place old.time (waiting_as w))
     → StandsBehind reading (keeps stands) s (world_of network new) notes (behind (ripe_place old.time (waiting_as w)))
 
-pub ripened : {C M : Type 0} (reading : C → ℕ → ℕ) (stands : M → Network → DeviceId → Node → Type 0) (network : Network) (state : State C M) (index : ℕ)
+pub ripened : {C M : Type 0} (reading : C → ℕ → ℕ) (stands : M → Network → DeviceId → Node → Type 0) (network : Network) (state : State C M)
     (w : Waits) (new : List Waits) (machine after : Kept M) (result : Ripe) (settled : List Settled)
-    → IsTaken index w state.waiting.items new → AreApart state.waiting.items
+    → IsPermutation state.waiting.items (w ∷ new) → AreApart state.waiting.items
     → ((clock : C) → slice_get state.clocks.items w.device.0 ≡ Some clock → w.point.0 ≤ℤ pos (reading clock state.time))
     → w.device.0 < length state.machines.items → slice_get state.machines.items w.device.0 ≡ Some machine
     → AreSettledSo w result state.settled.items settled
@@ -244,14 +246,14 @@ pub ripened : {C M : Type 0} (reading : C → ℕ → ℕ) (stands : M → Netwo
       waiting = map waiting_as new;
       settled = map (settled_at network state.time) settled;
     }) notes (behind (ripe_place state.time (waiting_as w)))
-ripened reading stands network state index w new machine after result settled t apart reached many own put s notes old first has =
+ripened reading stands network state w new machine after result settled t apart reached many own put s notes old first has =
     let world = world_of network state in
-    let there = at_in state.waiting.items index w t.is in
+    let there = was_there w state.waiting.items new t in
     let hs = happenings s.network notes in
-    let inside = in_map waiting_as state.waiting.items w there in
+    let inside = is_mapped waiting_as state.waiting.items w there in
     let it = old.waiting.real (waiting_as w) inside in
     let of : frame_from hs w.cause ≡ Some w.frame = ap (λ (o : Option Happening). option_and_then (λ h. h.frame) o) it.there ∙ it.awaited.of_frame in
     ripened_step reading (keeps stands) s world notes (waiting_as w) machine after result (slice_set state.machines.items w.device.0 after)
     (map waiting_as new) (map (settled_at network state.time) settled) old inside (point reading stands network state w there reached s notes old) first own has
-    (is_set state.machines.items w.device.0 after many) (without index w state.waiting.items new t apart state.time)
+    (is_set state.machines.items w.device.0 after many) (without w state.waiting.items new t apart state.time)
     (are_put_in s network state.time hs w of result state.settled.items settled put (settled_in_order reading (keeps stands) s world notes old))

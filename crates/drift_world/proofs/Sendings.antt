@@ -3,8 +3,8 @@ use Rattle.std.proofs.Common.{◌≡◌, ℕ, ◌+◌, ◌<◌, List, ◌∷◌,
 use Rattle.std.specs.List.{filter_map, slice_get}
 use Rattle.std.specs.Option.{option_map}
 use Rattle.std.proofs.lemmas.List.Sorted.{IsPermutation-sym}
-use Rattle.std.proofs.lemmas.Option.{slice_get_within}
-use Rattle.due_queue.proofs.Bags.{given_of, in_permuted, is_given}
+use Rattle.std.proofs.lemmas.Option.{same_Some, slice_get_within}
+use Rattle.due_queue.proofs.Bags.{in_permuted}
 use Rattle.due_queue.specs.declared.Entry.{Entry}
 use Rattle.due_queue.specs.declared.Place.{Place}
 use Rattle.net_plan.specs.Places.{link_at}
@@ -13,6 +13,7 @@ use Rattle.net_plan.specs.declared.ids.LinkId.{LinkId}
 use Rattle.net_plan.specs.declared.tables.Link.{Link}
 use Rattle.net_plan.specs.declared.tables.Way.{Way}
 use Rattle.pcf_values.specs.declared.pcf.Pcf.{Pcf}
+use Rattle.run_law.proofs.records.Order.{given_of, is_given}
 use Rattle.run_law.specs.control.Wires.{Arrives, Launch, Signal, control, launched, time_on_port, timed}
 use Rattle.run_law.specs.declared.note.NoteBody.TheVariants.{Event, Arrived, Permanent, Compressed, Sent, Corrected, State as Changed, Left, Lost, TtSent, Accepted, Delivered, Dropped, Clock}
 use Rattle.run_law.specs.declared.note.NoteBody.{NoteBody}
@@ -21,7 +22,6 @@ use Rattle.run_law.specs.scenario.Scenarios.{Scenario}
 use Rattle.run_law.specs.scenario.Ways.{delay_at, receiver_of, way_from}
 use Rattle.schedule_tables.specs.Entries.{target_by}
 use Rattle.drift_world.proofs.Launches.{delay_is}
-use Rattle.world_state.proofs.UnderWays.{some_is}
 use Rattle.world_state.specs.Giving.{HasItsOctets, IsPutOn, delay_by, wire_entry}
 use Rattle.world_state.specs.Views.{octets_in, octets_of, on_wire, signal_as, way_as}
 use Rattle.world_state.specs.declared.contents.Content.TheVariants.{Wire}
@@ -83,7 +83,7 @@ module _ (s : Scenario) (now : ℕ) (ups downs : List WayState) (ways : AreWays 
     this : (d : DeviceId) (l : LinkId) (t : ℕ) (g : Signal) → Arrives s x d l t g → IsThis d l t g
     this d l t g a =
         let same : record { link = l; way = a.way; signal = g } ≡ record { link = link; way = way_from s.network device link; signal = signal } =
-        some_is _ _ (sym a.put ∙ put) in
+        same_Some _ _ (sym a.put ∙ put) in
         let links : l ≡ link = ap (λ (k : Launch). k.link) same in
         let on : a.way ≡ way_from s.network device link = ap (λ (k : Launch). k.way) same in
         let sig : g ≡ signal = ap (λ (k : Launch). k.signal) same in
@@ -117,7 +117,7 @@ module _ (s : Scenario) (now : ℕ) (ups downs : List WayState) (ways : AreWays 
               let of = given_of (on_wire s.network) new y there in
               elim (in_permuted new (e ∷ old) of.0 (IsPermutation-sym _ _ is) of.1) [
                 | inl own ↦
-                    let same : y ≡ w = some_is _ _ (sym of.2 ∙ ap (on_wire s.network) own) in
+                    let same : y ≡ w = same_Some _ _ (sym of.2 ∙ ap (on_wire s.network) own) in
                     inr (subst (λ (v : OnWire). (v.cause ≡ number) × Arrives s x v.device v.link v.at v.signal) (sym same) (
                       refl,
                       subst (λ (g : Signal). Arrives s x receiver link w.at g) (sym as_signal)
@@ -130,7 +130,7 @@ module _ (s : Scenario) (now : ℕ) (ups downs : List WayState) (ways : AreWays 
               is_given (on_wire s.network) new of.0 y (in_permuted (e ∷ old) new of.0 is (inr of.1)) of.2;
           all = λ d l t g a.
               let it = this d l t g a in
-              let who : receiver ≡ d = some_is _ _ (sym found ∙ it.receives) in (
+              let who : receiver ≡ d = same_Some _ _ (sym found ∙ it.receives) in (
                 w,
                 is_given (on_wire s.network) new e w (in_permuted (e ∷ old) new e is (inl refl)) refl,
                 ap (λ (k : ℕ). k ∷ 2 ∷ receiver.0 ∷ link.0 ∷ number ∷ []) (time_so lt ∙ sym it.arrives)

@@ -12,18 +12,18 @@ use Rattle.net_plan.specs.declared.network.Network.{Network}
 use Rattle.net_plan.specs.declared.tables.Link.{Link}
 use Rattle.run_law.specs.declared.outside.Outside.TheVariants as outside
 use Rattle.run_law.specs.scenario.Hypothesis.{IsWithinHypothesis}
-use Rattle.schedule_tables.proofs.EntryLemmas.{all_at}
 use Rattle.tte_units.specs.Amount.{amount}
 use Rattle.drift_world.proofs.Beginnings.{found}
 use Rattle.world_state.specs.Applying.{SetsShort}
 use Rattle.drift_world.specs.Running.{HoldsATime}
+use Rattle.tte_lemmas.proofs.Lists.{in_all}
 
 pub sets_short : (network : Network) (past : List Event) (event : Event) → IsInRange network → IsWithinHypothesis network past event → (what : What)
     → event.what ≡ what → IsOfNetwork network what → HoldsATime what → SetsShort what
 sets_short network past event range within (events.Wire link way delay) same there hold =
     let it = found network.link link.0 there in
     let l = it.0 in
-    let known = all_at (IsLinkInRange network) network.link link.0 l range.links it.1 in
+    let known = in_all (IsLinkInRange network) network.link link.0 l range.links it.1 in
     let wire = known.wire in
     let jitter = known.jitter in
     elim (cases_lt (amount delay) (2 ^ 62)) [
@@ -45,7 +45,7 @@ sets_short network past event range within (events.Wire link way delay) same the
 sets_short network past event range within (events.Hold link way hold) same there begun =
     let it = found network.link link.0 there in
     let l = it.0 in
-    let known = all_at (IsLinkInRange network) network.link link.0 l range.links it.1 in
+    let known = in_all (IsLinkInRange network) network.link link.0 l range.links it.1 in
     let most = known.hold.most in
     elim (cases_lt (amount hold) (2 ^ 62)) [
       | inl short ↦ short

@@ -15,12 +15,13 @@ use Rattle.pcf_codec.specs.EtherType.{pcf_type}
 use Rattle.pcf_codec.specs.Fields.{field}
 use Rattle.pcf_codec.specs.declared.refusal.PcfRefusal.{PcfRefusal}
 use Rattle.pcf_values.specs.declared.pcf.Pcf.{Pcf}
+use Rattle.run_law.proofs.law.FirstDeliveries.{last_in}
 use Rattle.run_law.proofs.law.FirstPlaces.{IsFoundedAt, by_number, founded_at, in_filter, number_is, numbered_front, numbered_in, numbered_within}
 use Rattle.run_law.specs.control.Wires.{Launch, Signal, control, launched, signal_of, timed}
 use Rattle.run_law.specs.declared.note.NoteBody.TheVariants as kinds
 use Rattle.run_law.specs.declared.note.NoteBody.{NoteBody}
 use Rattle.run_law.specs.declared.steps.Arrival.TheVariants as arrivals
-use Rattle.run_law.specs.records.Happenings.{Happening, earlier, frame_by, frame_from, frame_in, numbered, octets_by, octets_from, time_of}
+use Rattle.run_law.specs.records.Happenings.{Happening, earlier, frame_by, frame_from, numbered, octets_by, octets_from, time_of}
 use Rattle.run_law.specs.records.Order.{IsIn}
 use Rattle.run_law.specs.records.Ranks.{place_of}
 use Rattle.run_law.specs.runs.DueRecords.{IsCaused, IsDue}
@@ -31,10 +32,11 @@ use Rattle.run_law.specs.timed.Dispatching.{is_accepted}
 use Rattle.run_law.specs.timed.Receptions.{ArrivesAs, arrival_of}
 use Rattle.run_law.specs.device.Standpoints.{standpoint}
 use Rattle.run_law.specs.records.Frames.{tt_frame}
+use Rattle.world_law.proofs.frames.Proper.{launch_signal as signal_in}
 use Rattle.drift_world.proofs.Arrivals.{control_so}
 use Rattle.world_state.proofs.Made.{made_type, plain_signal}
-use Rattle.world_law.proofs.putting.PutIn.{last_in}
 use Rattle.world_law.specs.world.World.{IsOnWire, OnWire}
+use Rattle.world_steps.proofs.hearing.OneMaster.{decoded_of}
 
 -- octets with another EtherType than that of protocol control frames
 abbrev IsPlain : List ℕ → Type 0
@@ -47,21 +49,12 @@ as_they_are : (b : Bool) (r : Result Pcf PcfRefusal) (given octets : List ℕ) �
 as_they_are true r given octets e = absurd cc
 as_they_are false r given octets e = (refl, cc)
 
--- the frame on a wire by octets that spell it
-as_decoded : (b : Bool) (r : Result Pcf PcfRefusal) (given : List ℕ) (frame : Pcf) → (if b then control r else timed given) ≡ control (Ok frame)
-    → frame_in r ≡ Some frame
-as_decoded true r given frame e = let a : r ≡ Ok frame = cc in ap frame_in a
-as_decoded false r given frame e = absurd cc
-
 -- a record puts this on a wire: a frame of the schedule, octets of an event, or a control frame that leaves
 data PutsThis (h : Happening) (signal : Signal) : Type 0 where
   dispatched : (device : DeviceId) (link : LinkId) (cause : ℕ) (vl : VlId) (cycle : ℕ) → h.note.body ≡ kinds.TtSent device link cause vl cycle
       → timed h.octets ≡ signal → PutsThis h signal
   sent : (line : ℕ) (link : LinkId) (octets : List ℕ) → h.note.body ≡ kinds.Event line (events.Send link octets) → signal_of octets ≡ signal → PutsThis h signal
   leaving : (frame : Pcf) → h.frame ≡ Some frame → control (Ok frame) ≡ signal → PutsThis h signal
-
-signal_in : (a b : Launch) → Some a ≡ Some b → a.signal ≡ b.signal
-signal_in a b e = ap (λ (o : Option Launch). option_map_or (λ (x : Launch). x.signal) o b.signal) e
 
 left_put : (h : Happening) (own : LinkId) (from : Way) (l : Launch) (o : Option Pcf) → h.frame ≡ o
     → option_map (λ (f : Pcf). (let x : Launch = record { link = own; way = from; signal = control (Ok f) } in x)) o ≡ Some l → PutsThis h l.signal
@@ -91,7 +84,7 @@ frame_same a b e = cc
 this_frame : (s : Scenario) (front : List Happening) (h : Happening) (frame : Pcf) → IsDue s front h → PutsThis h (control (Ok frame)) → h.frame ≡ Some frame
 this_frame s front h frame due (PutsThis.dispatched device link cause vl cycle is e) = absurd cc
 this_frame s front h frame due (PutsThis.sent line link octets is e) =
-    ap (λ (x : Happening). x.frame) due.same ∙ ap (frame_by s.network front) is ∙ as_decoded _ _ octets frame e
+    ap (λ (x : Happening). x.frame) due.same ∙ ap (frame_by s.network front) is ∙ decoded_of _ _ octets frame e
 this_frame s front h frame due (PutsThis.leaving f of e) = of ∙ ap (λ (x : Pcf). Some x) (frame_same f frame e)
 
 this_octets : (s : Scenario) (front : List Happening) (h : Happening) (octets : List ℕ) → IsDue s front h → PutsThis h (timed octets) → h.octets ≡ octets

@@ -3,7 +3,6 @@ use Rattle.std.proofs.Common.{◌≡◌, ◌⊎◌, ℕ, ◌+◌, ◌-◌, ◌<�
 use Rattle.std.specs.Prelude.{IfSome, IfNone, if◌then◌else◌}
 use Rattle.std.proofs.lemmas.Bool.{cases_lt, cases_eq, le-ltb, lt-ltb}
 use Rattle.std.proofs.lemmas.Option.{get_or_from_slice_get, slice_get_within}
-use Rattle.due_queue.proofs.Bags.{given_of}
 use Rattle.due_queue.specs.declared.Entry.{Entry}
 use Rattle.due_queue.specs.declared.Place.{Place}
 use Rattle.due_queue.specs.Places.{IsFirst, numbers_of}
@@ -24,25 +23,26 @@ use Rattle.run_law.specs.records.Ranks.{place_of}
 use Rattle.run_law.specs.runs.DueRecords.{IsDue}
 use Rattle.run_law.specs.runs.Runs.{IsFounded}
 use Rattle.run_law.specs.scenario.Scenarios.{Scenario}
-use Rattle.schedule_tables.proofs.EntryLemmas.{all_at}
 use Rattle.tte_units.specs.Amount.{amount}
 use Rattle.world_state.specs.Keeping.{keeps}
-use Rattle.world_state.proofs.UnderWays.{port_numbers, some_is}
+use Rattle.world_state.proofs.UnderWays.{port_numbers, wire_numbers}
 use Rattle.drift_world.specs.Sound.{IsSized}
-use Rattle.world_state.specs.Sound.{AreUnderWay, rank_of}
+use Rattle.world_state.specs.Sound.{AreUnderWay}
 use Rattle.drift_world.specs.Sourcing.{AreFirsts, AreNotBefore, AreTimed, HasNothingBefore, IsRipePlace, due_place}
 use Rattle.drift_world.specs.Views.{world_of}
-use Rattle.world_state.specs.Views.{at_port, on_wire, waiting_as, wire_at}
-use Rattle.world_state.specs.declared.contents.Content.TheVariants.{Wire, Port}
+use Rattle.world_state.specs.Views.{at_port, on_wire, waiting_as}
 use Rattle.world_state.specs.declared.contents.Content.{Content}
 use Rattle.world_state.specs.declared.contents.Waits.{Waits}
 use Rattle.world_state.specs.declared.kept.Kept.{Kept}
 use Rattle.drift_world.specs.declared.state.State.{State}
+use Rattle.run_law.proofs.records.Order.{given_of}
+use Rattle.tte_lemmas.proofs.Lists.{in_all}
+use Rattle.tte_lemmas.proofs.Options.{some_same}
 use Rattle.world_law.proofs.frames.Proper.{IsReceiver, received}
 use Rattle.world_steps.proofs.ripening.Ripens.{come_of}
 use Rattle.world_law.specs.world.Calls.{IsDueNow, moment_of}
 use Rattle.world_law.specs.world.Moves.{NothingBefore}
-use Rattle.world_law.specs.world.World.{IsWaitingFor, OnWire, Stands, Waiting, act_place, ripe_place, wire_place}
+use Rattle.world_law.specs.world.World.{IsWaitingFor, Stands, Waiting, act_place, ripe_place}
 
 -- what is not before the first is not before a place that the first is not before
 pub not_sooner : (q first p : List ℕ) → (IsBefore q first → ⊥) → (IsBefore first p → ⊥) → IsBefore q p → ⊥
@@ -155,9 +155,6 @@ same_slot device other rest more le (inl lt) = absurd (omega (arith, lt))
 same_slot device other rest more le (inr (e, inl lt)) = absurd (omega (arith, le, lt))
 same_slot device other rest more le (inr (e, inr (same, b))) = same
 
-some_same : {X : Type 0} (x y : X) (o : Option X) → o ≡ Some x → o ≡ Some y → x ≡ y
-some_same x y o a b = let e : Some x ≡ Some y = sym a ∙ b in cc
-
 module _ {C M : Type 0} (last_step : C → ℕ) (reading : C → ℕ → ℕ) (stands : M → Network → DeviceId → Node → Type 0) (network : Network)
     (state : State C M) (sized : IsSized last_step network state) (are : AreTimed reading stands network state) (p : List ℕ)
     (in_time : IsBefore ((2 ^ 60 + 1) ∷ []) p → ⊥) where
@@ -168,7 +165,7 @@ module _ {C M : Type 0} (last_step : C → ℕ) (reading : C → ℕ → ℕ) (s
       → w.device.0 < length network.device → (time : ℕ) → slice_get state.timers w.device.0 ≡ Some time → (t : ℕ) → time ≤ t → t ≤ 2 ^ 60
       → w.point.0 ≤ℤ pos (reading clock t) → IsBefore (ripe_place t (waiting_as w)) p → ⊥
   waits_by None first none not w clock there own of_it time at t le most reached b =
-      let past = all_at (λ (n : ℕ). never ≤ n) state.timers w.device.0 time none at in absurd (omega (arith, past, le, most))
+      let past = in_all (λ (n : ℕ). never ≤ n) state.timers w.device.0 time none at in absurd (omega (arith, past, le, most))
   waits_by (Some d) first none (inl not) w clock there own of_it time at t le most reached b =
       not_sooner (time ∷ 3 ∷ w.device.0 ∷ []) (due_place (length network.device) d) p
       (ripe_slot (length network.device) state.timers d w.device.0 time first at of_it) not
@@ -196,7 +193,7 @@ module _ {C M : Type 0} (last_step : C → ℕ) (reading : C → ℕ → ℕ) (s
       → (device : DeviceId) (time : ℕ) → slice_get state.timers (length network.device + device.0) ≡ Some time → (t : ℕ) → time ≤ t → t ≤ 2 ^ 60
       → IsBefore (act_place t device) p → ⊥
   acts_by None first none not device time at t le most b =
-      let past = all_at (λ (n : ℕ). never ≤ n) state.timers (length network.device + device.0) time none at in absurd (omega (arith, past, le, most))
+      let past = in_all (λ (n : ℕ). never ≤ n) state.timers (length network.device + device.0) time none at in absurd (omega (arith, past, le, most))
   acts_by (Some d) first none (inl not) device time at t le most b =
       not_sooner (time ∷ 4 ∷ device.0 ∷ []) (due_place (length network.device) d) p
       (act_slot (length network.device) state.timers d device.0 time first at) not (act_earlier t time device.0 p le b)
@@ -326,23 +323,16 @@ waits_there s hs e range founded it =
     by_way : (way : Way) → IsReceiver s.network e.device e.link way → e.device.0 < length s.network.device
     by_way Up v =
         subst (λ (d : DeviceId). d.0 < length s.network.device) v.is
-        (all_at (IsLinkInRange s.network) s.network.link e.link.0 v.joint range.links v.there).parent
+        (in_all (IsLinkInRange s.network) s.network.link e.link.0 v.joint range.links v.there).parent
     by_way Down v =
         subst (λ (d : DeviceId). d.0 < length s.network.device) v.is
-        (all_at (IsLinkInRange s.network) s.network.link e.link.0 v.joint range.links v.there).child
+        (in_all (IsLinkInRange s.network) s.network.link e.link.0 v.joint range.links v.there).child
 
 -- what is in a list of what a function makes of others is made of one
 made_of : {X Y : Type 0} (f : X → Y) (xs : List X) (y : Y) → IsIn y (map f xs) → (x : X) × IsIn x xs × (f x ≡ y)
 made_of f [] y i = absurd i
 made_of f (x ∷ xs) y (inl e) = (x, inl refl, sym e)
 made_of f (x ∷ xs) y (inr i) = let more = made_of f xs y i in (more.0, inr more.1, more.2)
-
--- the place of what is on a wire
-wire_numbers : (network : Network) (place : Place) (content : Content) (x : OnWire) → wire_at network place content ≡ Some x → place.rank ≡ rank_of content
-    → wire_place x ≡ numbers_of place
-wire_numbers network place (Wire signal) x is kind =
-    ap wire_place (sym (some_is _ _ is)) ∙ ap (λ (r : ℕ). place.at ∷ r ∷ place.device ∷ place.link ∷ place.cause ∷ []) (sym kind)
-wire_numbers network place (Port frame given) x is kind = absurd cc
 
 shown_earlier : (now shown device : ℕ) (p : List ℕ) → shown ≤ device → IsBefore (now ∷ 14 ∷ device ∷ []) p → IsBefore (now ∷ 14 ∷ shown ∷ []) p
 shown_earlier now shown device p le b =

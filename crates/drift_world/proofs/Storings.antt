@@ -1,9 +1,10 @@
 -- What switches hold once a record is given, as its law asks for it.
 use Rattle.std.proofs.Common.{◌≡◌, ◌⊎◌, ℕ, Bool, true, false, not, ◌&&◌, ◌==◌, if◌then◌else◌, List, [], ◌∷◌, ◌++◌, map, filter, Option, Some, None, inl, inr, refl, sym, ap, subst, ◌∙◌}
-use Rattle.std.proofs.lemmas.Bool.{both_ways, eqb-true, eq-eqb}
+use Rattle.std.proofs.lemmas.Bool.{both_ways, eqb-true, eq-eqb, not-true, not_from_false}
 use Rattle.net_plan.specs.declared.ids.DeviceId.{DeviceId}
 use Rattle.net_plan.specs.declared.ids.VlId.{VlId}
 use Rattle.net_plan.specs.declared.network.Network.{Network}
+use Rattle.precision_law.proofs.records.Times.{in_kept}
 use Rattle.run_law.proofs.runs.Places.{in_left, in_right}
 use Rattle.run_law.specs.declared.note.NoteBody.TheVariants.{Event, Arrived, Permanent, Compressed, Sent, Corrected, State as Changed, Left, Lost, TtSent, Accepted, Delivered, Dropped, Clock}
 use Rattle.run_law.specs.declared.note.NoteBody.{NoteBody}
@@ -17,18 +18,10 @@ use Rattle.world_state.specs.declared.contents.Holding.{Holding}
 use Rattle.world_state.specs.declared.contents.Timed.{Timed}
 use Rattle.world_law.specs.world.Moves.{AreTaken}
 use Rattle.world_law.specs.world.World.{Stored}
+use Rattle.world_state.proofs.Befallings.{is_mapped}
+use Rattle.world_state.proofs.Swaps.{from_map}
 
 -- ---- lists that are mapped and filtered
-
-into_map : {X Y : Type 0} (f : X → Y) (xs : List X) (x : X) → IsIn x xs → IsIn (f x) (map f xs)
-into_map f [] x there = absurd there
-into_map f (y ∷ xs) x (inl e) = inl (ap f e)
-into_map f (y ∷ xs) x (inr rest) = inr (into_map f xs x rest)
-
-out_of_map : {X Y : Type 0} (f : X → Y) (xs : List X) (y : Y) → IsIn y (map f xs) → (x : X) × IsIn x xs × (y ≡ f x)
-out_of_map f [] y there = absurd there
-out_of_map f (x ∷ xs) y (inl e) = (x, inl refl, e)
-out_of_map f (x ∷ xs) y (inr rest) = let of = out_of_map f xs y rest in (of.0, inr of.1, of.2)
 
 record IsPassed {X : Type 0} (q : X → Bool) (xs : List X) (x : X) : Type 0 where
   was : IsIn x xs
@@ -43,15 +36,6 @@ out_of_filter {X} q (y ∷ xs) x there = by_test (q y) refl (λ i. out_of_filter
     by_test true is more (inr rest) = let of = more rest in record { was = inr of.was; passes = of.passes }
     by_test false is more rest = let of = more rest in record { was = inr of.was; passes = of.passes }
 
-into_filter : {X : Type 0} (q : X → Bool) (xs : List X) (x : X) → IsIn x xs → q x ≡ true → IsIn x (filter q xs)
-into_filter q [] x there is = absurd there
-into_filter {X} q (y ∷ xs) x (inl e) is = subst (λ (b : Bool). IsIn x (if b then y ∷ filter q xs else filter q xs)) (sym is ∙ ap q e) (inl e)
-into_filter {X} q (y ∷ xs) x (inr rest) is =
-    elim (q y) as (λ b. IsIn x (if b then y ∷ filter q xs else filter q xs)) [
-      | true ↦ inr (into_filter q xs x rest is)
-      | false ↦ into_filter q xs x rest is
-    ]
-
 pub in_pushed : {X : Type 0} (xs : List X) (y x : X) → IsIn x (xs ++ y ∷ []) → IsIn x xs ⊎ (x ≡ y)
 in_pushed [] y x (inl e) = inr e
 in_pushed [] y x (inr rest) = absurd rest
@@ -61,14 +45,6 @@ in_pushed (z ∷ xs) y x (inr rest) =
       | inl i ↦ inl (inr i)
       | inr e ↦ inr e
     ]
-
-not_not : (b : Bool) → not b ≡ true → b ≡ false
-not_not true e = absurd cc
-not_not false e = refl
-
-not_so : (b : Bool) → b ≡ false → not b ≡ true
-not_so true e = absurd cc
-not_so false e = refl
 
 -- ---- no frame is taken
 
@@ -95,13 +71,13 @@ module _ (network : Network) (x : Happening) (number : ℕ) (held : List Holding
   one_taken : AreTaken x number (map (stored_as network) held) (map (stored_as network) (stored_with one held))
   one_taken = record {
     real = λ e there.
-        let of = out_of_map (stored_as network) (stored_with one held) e there in
+        let of = from_map (stored_as network) (stored_with one held) e there in
         elim (in_pushed _ one of.0 of.1) [
           | inl old ↦
               let was = out_of_filter (λ (h : Holding). not (is_held_of one.device one.vl h)) held of.0 old in
               inl (subst (λ (s : Stored). IsIn s (map (stored_as network) held) × (is_accepted s.device s.vl x.note.body ≡ false)) (sym of.2) (
-                into_map (stored_as network) held of.0 was.was,
-                by of.0.device of.0.vl ∙ not_not _ was.passes,
+                is_mapped (stored_as network) held of.0 was.was,
+                by of.0.device of.0.vl ∙ not-true _ was.passes,
               ))
           | inr new ↦
               let same : e ≡ stored_as network one = of.2 ∙ ap (stored_as network) new in
@@ -112,16 +88,16 @@ module _ (network : Network) (x : Happening) (number : ℕ) (held : List Holding
               ))
         ];
     kept = λ e there not_taken.
-        let of = out_of_map (stored_as network) held e there in
+        let of = from_map (stored_as network) held e there in
         let is = subst (λ (s : Stored). is_accepted s.device s.vl x.note.body ≡ false) of.2 not_taken in
         subst (λ (s : Stored). IsIn s (map (stored_as network) (stored_with one held))) (sym of.2)
-        (into_map (stored_as network) (stored_with one held) of.0
+        (is_mapped (stored_as network) (stored_with one held) of.0
         (in_left of.0 _ (one ∷ [])
-        (into_filter (λ (h : Holding). not (is_held_of one.device one.vl h)) held of.0 of.1 (not_so _ (sym (by of.0.device of.0.vl) ∙ is)))));
+        (in_kept (λ (h : Holding). not (is_held_of one.device one.vl h)) held of.0 of.1 (not_from_false _ (sym (by of.0.device of.0.vl) ∙ is)))));
     all = λ device vl is.
         let same = same_both device.0 one.device.0 vl.0 one.vl.0 (sym (by device vl) ∙ is) in (
           stored_as network one,
-          into_map (stored_as network) (stored_with one held) one (in_right one _ (one ∷ []) (inl refl)),
+          is_mapped (stored_as network) (stored_with one held) one (in_right one _ (one ∷ []) (inl refl)),
           ap (λ (k : ℕ). let d : DeviceId = record { 0 = k } in d) (sym same.0),
           ap (λ (k : ℕ). let v : VlId = record { 0 = k } in v) (sym same.1),
         );

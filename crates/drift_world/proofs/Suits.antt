@@ -1,10 +1,9 @@
 -- An event within the hypothesis suits the world: it turns on only a device that is off, and has octets sent only by an
 -- end system.
-use Rattle.std.proofs.Common.{◌≡◌, ℕ, ◌<◌, true, false, List, [], ◌∷◌, ◌++◌, length, Option, Some, None, inl, inr, refl, sym, ap, subst, ◌∙◌}
+use Rattle.std.proofs.Common.{◌≡◌, ℕ, ◌<◌, true, false, List, ◌++◌, length, Option, Some, None, inl, inr, refl, sym, ap, subst, ◌∙◌}
 use Rattle.std.specs.Prelude.{nat_le, IsSomeAnd}
-use Rattle.std.specs.List.{Any}
 use Rattle.std.specs.Option.{option_map_or}
-use Rattle.std.proofs.lemmas.Bool.{cases_Bool, eqb-true}
+use Rattle.std.proofs.lemmas.Bool.{cases_Bool}
 use Rattle.std.proofs.lemmas.List.{append-nil}
 use Rattle.net_plan.specs.Belonging.{IsOfNetwork}
 use Rattle.net_plan.specs.Places.{device_at, is_end_system, is_master, link_at}
@@ -16,57 +15,31 @@ use Rattle.net_plan.specs.declared.ids.LinkId.{LinkId}
 use Rattle.net_plan.specs.declared.network.Network.{Network}
 use Rattle.net_plan.specs.declared.tables.Device.{Device}
 use Rattle.net_plan.specs.declared.tables.Link.{Link}
-use Rattle.net_plan.specs.declared.tables.Role.{Role}
-use Rattle.net_plan.specs.declared.tables.Role.TheVariants.{Client, Cm, Master, Relay}
+use Rattle.precision_law.proofs.Plain.{any_is, any_of_in}
 use Rattle.run_law.proofs.law.FirstPlaces.{in_filter}
+use Rattle.run_law.proofs.records.Order.{any_in}
 use Rattle.run_law.proofs.runs.Places.{parted}
-use Rattle.run_law.proofs.scenario.Decisions.{any_first, any_later, any_of_none, any_parts}
+use Rattle.run_law.proofs.scenario.Devices.{broken_by}
 use Rattle.run_law.specs.declared.note.Note.{Note}
 use Rattle.run_law.specs.declared.outside.Outside.TheVariants as outside
 use Rattle.run_law.specs.machines.Nodes.{Node}
 use Rattle.run_law.specs.records.Happenings.{Happening, happenings}
-use Rattle.run_law.specs.records.Order.{IsIn}
 use Rattle.run_law.specs.scenario.Devices.{is_end}
 use Rattle.run_law.specs.scenario.Faults.{Breaks, IsBroken, TurnsOn}
 use Rattle.run_law.specs.scenario.Hypothesis.{AreWithinHypothesis, IsWithinHypothesis, breaks_at}
 use Rattle.run_law.specs.scenario.Scenarios.{is_broken}
+use Rattle.schedule_tables.proofs.Margins.{master_ends}
 use Rattle.sync_state.specs.declared.state.State.{State}
 use Rattle.sync_state.specs.declared.state.State.TheVariants.{Off}
 use Rattle.tte_units.specs.Amount.{amount}
 use Rattle.drift_world.proofs.EventRuns.{none_coming}
 use Rattle.drift_world.proofs.Offs.{begins_off, stays_off}
 use Rattle.world_state.specs.Applying.{IsShown}
-use Rattle.world_steps.proofs.ripening.Awake.{any_in}
 use Rattle.world_law.specs.source.Agreeing.{scenario}
 use Rattle.world_steps.specs.Steps.{FitsWorld}
 use Rattle.world_law.specs.world.World.{IsFromEnd, IsHeld, Stands, World}
 
--- ---- one of the events
-
-any_of_in : {X : Type 0} (P : X → Type 0) (x : X) (xs : List X) → IsIn x xs → P x → Any P xs
-any_of_in P x [] i p = absurd i
-any_of_in P x (y ∷ xs) (inl same) p = any_first P y xs (subst P same p)
-any_of_in P x (y ∷ xs) (inr i) p = any_later P y xs (any_of_in P x xs i p)
-
-in_of_any : {X : Type 0} (P : X → Type 0) (xs : List X) → Any P xs → (x : X) × IsIn x xs × P x
-in_of_any P [] any = absurd (any_of_none P any)
-in_of_any P (x ∷ xs) any = elim (any_parts P x xs any) [
-  | inl p ↦ (x, inl refl, p)
-  | inr more ↦ let it = in_of_any P xs more in (it.0, inr it.1, it.2)
-]
-
-broken_by : (device : DeviceId) (what : What) → breaks_at device.0 what ≡ true → what ≡ events.Break device
-broken_by device (events.Break other) e =
-    let same = eqb-true other.0 device.0 e in ap (λ (n : ℕ). events.Break (let d : DeviceId = record { 0 = n } in d)) same
-broken_by device other e = absurd cc
-
 -- ---- octets are sent by a broken device alone, which is a master
-
-master_ends : (role : Role) → is_master role ≡ true → is_end_system role ≡ true
-master_ends Master e = refl
-master_ends Client e = refl
-master_ends Cm e = absurd cc
-master_ends Relay e = absurd cc
 
 not_end : (o : Option Device) → option_map_or (λ d. is_end_system d.role) o false ≡ false → IsSomeAnd o (λ d. is_master d.role ≡ true) → ⊥
 not_end None none_such master = absurd master
@@ -76,7 +49,7 @@ not_end (Some d) none_such master = let yes = master_ends d.role master in let b
 broken_ends : (network : Network) (past : List Event) (device : DeviceId) → AreWithinHypothesis network past → is_end network device ≡ false
     → IsBroken past device → ⊥
 broken_ends network past device within none_such broken =
-    let it = in_of_any (Breaks device) past broken in
+    let it = any_is (Breaks device) past broken in
     let at = parted it.0 past it.1 in
     within at.0 at.1 it.0 at.2 outside.NotMaster (record { device = device; breaks = it.2; no_master = not_end (device_at network device) none_such })
 

@@ -1,5 +1,5 @@
 -- Timers that are right, and stay so.
-use Rattle.std.proofs.Common.{◌≡◌, ◌↔◌, ℕ, zero, suc, ◌+◌, ◌*◌, ◌<◌, ◌≤◌, ◌^◌, pos, ◌≤ℤ◌, Bool, List, [], ◌∷◌, All, length, Option, Some, None, slice_get, slice_set, inl, inr, refl, sym, ap, subst, ◌∙◌, arith}
+use Rattle.std.proofs.Common.{◌≡◌, ◌↔◌, ℕ, ◌+◌, ◌*◌, ◌<◌, ◌≤◌, ◌^◌, pos, ◌≤ℤ◌, Bool, List, All, length, Option, Some, None, slice_get, inl, inr, refl, sym, ap, subst, ◌∙◌, arith}
 use Rattle.std.proofs.lemmas.Bool.{cases_eq, cases_lt}
 use Rattle.std.proofs.lemmas.Int.{ints}
 use Rattle.due_timers.specs.Times.{never}
@@ -17,20 +17,6 @@ use Rattle.world_state.specs.Timing.{IsLeastPoint, IsTimeFor}
 use Rattle.world_state.specs.declared.contents.Waits.{Waits}
 use Rattle.world_state.specs.declared.kept.Kept.{Kept}
 use Rattle.drift_world.specs.declared.state.State.{State}
-
--- ---- a slot that is set
-
-pub set_same : {X : Type 0} (xs : List X) (i : ℕ) (x : X) → i < length xs → slice_get (slice_set xs i x) i ≡ Some x
-set_same [] i x h = absurd (omega (arith, h))
-set_same (y ∷ xs) zero x h = refl
-set_same (y ∷ xs) (suc i) x h = set_same xs i x (omega (arith, h))
-
-pub set_other : {X : Type 0} (xs : List X) (i j : ℕ) (x : X) → (j ≡ i → ⊥) → slice_get (slice_set xs i x) j ≡ slice_get xs j
-set_other [] i j x h = refl
-set_other (y ∷ xs) zero zero x h = absurd (h refl)
-set_other (y ∷ xs) zero (suc j) x h = refl
-set_other (y ∷ xs) (suc i) zero x h = refl
-set_other (y ∷ xs) (suc i) (suc j) x h = set_other xs i j x (λ e. h (ap suc e))
 
 -- ---- a time at which a clock reads so much
 

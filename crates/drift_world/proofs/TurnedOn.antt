@@ -1,13 +1,14 @@
 -- A device is turned on at the present instant where such an event befell and is pending.
-use Rattle.std.proofs.Common.{◌≡◌, ◌⊎◌, ℕ, suc, pos, ◌≤ℤ◌, ◌+◌, Bool, true, false, ◌&&◌, ◌||◌, ◌==◌, List, [], ◌∷◌, ◌++◌, length, Some, inl, inr, refl, sym, ap, subst, ◌∙◌, append_assoc, arith}
+use Rattle.std.proofs.Common.{◌≡◌, ℕ, suc, pos, ◌≤ℤ◌, ◌+◌, true, false, ◌&&◌, ◌==◌, List, [], ◌∷◌, ◌++◌, length, Some, inl, inr, refl, sym, ap, subst, ◌∙◌, append_assoc, arith}
 use Rattle.std.specs.List.{list_any, slice_get}
-use Rattle.std.proofs.lemmas.Bool.{both_ways, cases_Bool, eq-eqb, eqb-true}
+use Rattle.std.proofs.lemmas.Bool.{and_from, and_parts, both_ways, cases_Bool, eq-eqb, eqb-true}
 use Rattle.net_plan.specs.declared.event.Event.{Event}
 use Rattle.net_plan.specs.declared.event.What.TheVariants as events
 use Rattle.net_plan.specs.declared.event.What.{What}
 use Rattle.net_plan.specs.declared.ids.DeviceId.{DeviceId}
 use Rattle.net_plan.specs.declared.network.Network.{Network}
 use Rattle.run_law.proofs.law.FirstPlaces.{in_at, numbered_in}
+use Rattle.run_law.proofs.records.Order.{any_in, in_any}
 use Rattle.run_law.proofs.runs.Places.{before_or_not, chain, in_right, never_self, parted}
 use Rattle.run_law.specs.machines.Nodes.{Node}
 use Rattle.run_law.specs.records.Causes.{IsOfThisTime}
@@ -19,50 +20,13 @@ use Rattle.run_law.specs.runs.Runs.{IsFounded}
 use Rattle.run_law.specs.scenario.Scenarios.{Scenario, is_turned_on_at, turns_on}
 use Rattle.run_law.specs.declared.note.Note.{Note}
 use Rattle.run_law.specs.declared.note.NoteBody.TheVariants as kinds
+use Rattle.tte_lemmas.proofs.Bools.{same_tests}
 use Rattle.tte_units.specs.Amount.{amount}
 use Rattle.drift_world.proofs.HiddenCauses.{Rises}
 use Rattle.world_law.proofs.giving.Given.{in_get, some_same}
 use Rattle.world_law.proofs.runs.Applies.{event_cause, event_place}
 use Rattle.world_steps.proofs.steps.AppliedParts.{before_others}
 use Rattle.world_law.specs.world.World.{Befell, Stands, World, has_outcome}
-
--- ---- tests of a list
-
-by_first : (a b : Bool) → (a || b) ≡ true → (a ≡ true) ⊎ (b ≡ true)
-by_first true b e = inl refl
-by_first false b e = inr e
-
-pub any_in : {X : Type 0} (p : X → Bool) (xs : List X) → list_any p xs ≡ true → (x : X) × IsIn x xs × (p x ≡ true)
-any_in p [] e = absurd (both_ways false refl e)
-any_in p (x ∷ xs) e =
-    elim (by_first (p x) (list_any p xs) e) [
-      | inl here ↦ (x, inl refl, here)
-      | inr rest ↦ let found = any_in p xs rest in (found.0, inr found.1, found.2)
-    ]
-
-true_either : (a b : Bool) → (a ≡ true) ⊎ (b ≡ true) → (a || b) ≡ true
-true_either true b h = refl
-true_either false b (inl h) = absurd (both_ways false refl h)
-true_either false b (inr h) = h
-
-pub in_any : {X : Type 0} (p : X → Bool) (xs : List X) (x : X) → IsIn x xs → p x ≡ true → list_any p xs ≡ true
-in_any p [] x there e = absurd there
-in_any p (y ∷ xs) x (inl same) e = true_either (p y) (list_any p xs) (inl (ap p (sym same) ∙ e))
-in_any p (y ∷ xs) x (inr rest) e = true_either (p y) (list_any p xs) (inr (in_any p xs x rest e))
-
-both_true : (a b : Bool) → (a && b) ≡ true → (a ≡ true) × (b ≡ true)
-both_true true b e = (refl, e)
-both_true false b e = absurd (both_ways false refl e)
-
-and_true : (a b : Bool) → a ≡ true → b ≡ true → (a && b) ≡ true
-and_true true b e f = f
-and_true false b e f = absurd (both_ways false refl e)
-
-same_tests : (a b : Bool) → (a ≡ true → b ≡ true) → (b ≡ true → a ≡ true) → a ≡ b
-same_tests true true f g = refl
-same_tests false false f g = refl
-same_tests true false f g = sym (f refl)
-same_tests false true f g = g refl
 
 -- ---- records at a place
 
@@ -151,7 +115,7 @@ module _ {C M : Type 0} (reading : C → ℕ → ℕ) (stands : M → Network �
       let due = (old.run.founded split.0 split.1 h split.2).1 in
       let r : IsEventRecord s.events h.note.time real.0 b.what = subst (IsCaused s split.0 h.note.time) real.3 due.cause in
       in_any (λ e. turns_on device e.what && amount e.time == world.now) s.events r.event (in_at s.events r.before r.event r.is)
-      (and_true _ _ (ap (turns_on device) (sym r.same) ∙ found.2) (eq-eqb (amount r.event.time) world.now (ap amount (sym r.at) ∙ real.2.same_time)))
+      (and_from _ _ (ap (turns_on device) (sym r.same) ∙ found.2) (eq-eqb (amount r.event.time) world.now (ap amount (sym r.at) ∙ real.2.same_time)))
 
   -- the events of this instant are pending
   unsettled : (number : ℕ) (h : Happening) → IsOfThisTime hs world.now number h → world.pending ≡ true
@@ -214,7 +178,7 @@ module _ {C M : Type 0} (reading : C → ℕ → ℕ) (stands : M → Network �
   befell_so on =
       let found = any_in (λ e. turns_on device e.what && amount e.time == world.now) s.events on in
       let e = found.0 in
-      let both = both_true (turns_on device e.what) (amount e.time == world.now) found.2 in
+      let both = and_parts (turns_on device e.what) (amount e.time == world.now) found.2 in
       let at = in_get s.events e found.1 in
       let it = told at.0 e at.1 (eqb-true (amount e.time) world.now both.1) in
       in_any (λ (b : Befell). turns_on device b.what) world.befell (record { number = it.number; what = e.what })

@@ -35,8 +35,9 @@ use Rattle.world_law.specs.world.Moves.{ComesFirst}
 use Rattle.world_law.proofs.runs.Worlds.{nothing_settled_is_all}
 use Rattle.drift_world.specs.declared.next.Turn.TheVariants.{Gives, Ends, GoesOn}
 use Rattle.drift_world.specs.declared.next.Turn.{Turn}
-use Rattle.world_law.specs.world.World.{AreSettled, Stands, World, hidden}
+use Rattle.world_law.specs.world.World.{AreSettled, Stands, World}
 use Rattle.run_law.specs.runs.DueRecords.{IsScenarioRun}
+use Rattle.world_steps.proofs.steps.Passed.{none_hidden}
 
 -- ---- a source and what is settled
 
@@ -54,7 +55,7 @@ shaped reading stands network state (Arrival place) there now = record {
   own = refl;
   place = ap (λ (n : ℕ). n ∷ place.rank ∷ place.device ∷ place.link ∷ place.cause ∷ []) there.now;
 }
-shaped reading stands network state (Ripening index w) there now = record { numbers = _; own = refl; place = refl }
+shaped reading stands network state (Ripening w) there now = record { numbers = _; own = refl; place = refl }
 shaped reading stands network state (Act device) there now = record { numbers = _; own = refl; place = refl }
 shaped reading stands network state (Departure place) there now = record {
   numbers = _;
@@ -81,7 +82,7 @@ pub ahead_before : {C M : Type 0} (reading : C → ℕ → ℕ) (stands : M → 
     → IsBefore (place_of (settled_at network state.time first)) (source_place state.time source)
 ahead_before reading stands network state Events first there ahead = inr (refl, ahead)
 ahead_before reading stands network state (Arrival place) first there ahead = inr (sym there.now, ahead)
-ahead_before reading stands network state (Ripening index w) first there ahead = inr (refl, ahead)
+ahead_before reading stands network state (Ripening w) first there ahead = inr (refl, ahead)
 ahead_before reading stands network state (Act device) first there ahead = inr (refl, ahead)
 ahead_before reading stands network state (Departure place) first there ahead = inr (sym there.now, ahead)
 ahead_before reading stands network state (Clock device) first there ahead = inr (refl, ahead)
@@ -101,11 +102,6 @@ none_sooner network now (x ∷ xs) w order not z (inl e) before = not x xs refl 
 none_sooner network now (x ∷ xs) w order not z (inr rest) before =
     let first = place_of (settled_at network now x) in
     order.0 z rest (before_later (place_of z) first w before (not x xs refl))
-
--- nothing is to come, where nothing is settled
-none_coming : (given : ℕ) (coming : List Happening) → [] ≡ map (hidden given) coming → coming ≡ []
-none_coming given [] e = refl
-none_coming given (c ∷ cs) e = absurd cc
 
 module _ {C M : Type 0} (last_step : C → ℕ) (reading : C → ℕ → ℕ) (stands : M → Network → DeviceId → Node → Type 0) (network : Network) where
   -- the source that comes first of what is under way comes first of all
@@ -163,7 +159,7 @@ module _ {C M : Type 0} (last_step : C → ℕ) (reading : C → ℕ → ℕ) (s
       → (old : Stands reading (keeps stands) s (world_of network state) notes) → IsScenarioRun s (until ∷ []) notes
   whole_run state s notes until sound none empty later old =
       let settled : (world_of network state).settled ≡ [] = ap (map (settled_at network state.time)) empty in
-      let coming : old.coming ≡ [] = none_coming (length notes) old.coming (sym settled ∙ old.settled) in
+      let coming : old.coming ≡ [] = none_hidden (length notes) old.coming (sym settled ∙ old.settled) in
       nothing_settled_is_all s notes old.mark old.cursor state.time until old.run
       (subst (λ (l : List Happening). AreSettled s (happenings s.network notes) l old.mark old.cursor state.time) coming old.are)
       (λ p before. before_later_time p (state.time + 1) until (omega (arith, later)) (old.not_later p (old.ahead p before)))
@@ -311,7 +307,7 @@ module _ {C M : Type 0} (last_step : C → ℕ) (reading : C → ℕ → ℕ) (s
 pub now_so : (source : Source) → ((time : ℕ) → source ≡ Later time → ⊥) → IsNow source
 now_so Events not = tt
 now_so (Arrival place) not = tt
-now_so (Ripening index w) not = tt
+now_so (Ripening w) not = tt
 now_so (Act device) not = tt
 now_so (Departure place) not = tt
 now_so (Clock device) not = tt

@@ -6,7 +6,8 @@ use Rattle.pcf_values.specs.declared.pcf.Pcf.{Pcf}
 use Rattle.world_state.specs.declared.giving.Giving.{Giving}
 use Rattle.drift_world.specs.declared.state.State.{State}
 use Rattle.run_law.specs.declared.note.NoteBody.{NoteBody}
-use Rattle.world_state.specs.Giving.{ArePutTo, awaited_by, with_one, giver_of}
+use Rattle.world_state.specs.Giving.{ArePutTo, awaited_by, giver_of}
+use Rattle.world_state.specs.Frames.{IsOneMore}
 
 -- the frame of a record is given, or waited for, by this device, whose clock reads so
 pub record IsGiver {C M : Type 0} (reading : C → ℕ → ℕ) (network : Network) (state : State C M) (body : NoteBody) (frame : Option Pcf) (number : ℕ)
@@ -28,7 +29,7 @@ pub record IsGivenOut {C M : Type 0} (reading : C → ℕ → ℕ) (network : Ne
   pub no_giver : IfNone giving ((device : DeviceId) → giver_of body ≡ Some device → device.0 < length network.device → frame ≡ None)
   pub put : IfSome giving (λ g. ArePutTo (length network.link) network old.ups.items old.downs.items body g old.under_way.entries
       new.under_way.entries)
-  pub waits : IfSome giving (λ g. new.waiting.items ≡ with_one (awaited_by network g.broken body (Some g.frame) g.reading g.number) old.waiting.items)
+  pub waits : IfSome giving (λ g. IsOneMore (awaited_by network g.broken body (Some g.frame) g.reading g.number) old.waiting.items new.waiting.items)
   pub none : IfNone giving (new.under_way.entries ≡ old.under_way.entries)
   pub no_wait : IfNone giving (new.waiting.items ≡ old.waiting.items)
 

@@ -24,8 +24,8 @@ pub record IsOpenFrom {C M : Type 0} (world : World C (Kept M)) (event : Event) 
 -- these events and records leave the world where it stands; where the event is later than the present time, no record
 -- before it is left; and it is within the hypothesis after these events
 pub record ComesBehind {C M : Type 0} (fresh : ℕ → C) (after_step : C → ℕ → ℤ → C) (reading : C → ℕ → ℕ)
-    (stands : M → Network → DeviceId → Node → Type 0) (network : Network) (world : World C (Kept M)) (events : List Event)
-    (notes : List Note) (event : Event) : Type 0 where
+    (stands : M → Network → DeviceId → Node → Type 0) (network : Network) (world : World C (Kept M))
+    (events : List Event) (notes : List Note) (event : Event) : Type 0 where
   pub is : StandsUnder fresh after_step reading stands network world events notes
   pub none_left : pos world.now <ℤ event.time.0
       → IsRunOf network (reading_of fresh after_step reading network events) events (amount event.time ∷ []) notes

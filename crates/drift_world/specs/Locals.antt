@@ -81,7 +81,8 @@ pub record MayShowBefore {C M : Type 0} (fresh : ℕ → C) (after_step : C → 
 -- records, or None where the device is not correct and synchronised then
 abbrev pub IsLocalClockBefore : Scenario → List Happening → DeviceId → ℕ → Option ℤ → Type 0
 IsLocalClockBefore s hs device t shown =
-    MatchOption shown (IsInStepBefore s hs device t → ⊥) (λ l. IsInStepBefore s hs device t × (l ≡ local_before s hs device t))
+    MatchOption shown (IsInStepBefore s hs device t → ⊥)
+    (λ l. IsInStepBefore s hs device t × (l ≡ local_before s hs device t))
 
 -- some events and records leave the world where it stands, and they are all of the run up to the time; or this is the
 -- present time, and nothing of it but events is worked off
@@ -92,7 +93,8 @@ pub record MayShowAt {C M : Type 0} (fresh : ℕ → C) (after_step : C → ℕ 
 
 -- the adjustments of such machines lie strictly between -2^61 and 2^61
 abbrev pub AreSmall : {M : Type 0} → (M → Network → DeviceId → Node → Type 0) → Type 0
-AreSmall {M} stands = (machine : M) (network : Network) (device : DeviceId) (node : Node) → stands machine network device node
+AreSmall {M} stands =
+    (machine : M) (network : Network) (device : DeviceId) (node : Node) → stands machine network device node
     → IsSmall node.standing.adjustment.0
 
 -- a local value that a clock shows in a run: it has fewer than 64 bits

@@ -85,7 +85,8 @@ pub record MayTryAgain {C M : Type 0} (old new : World C (Kept M)) (until : Unit
 -- how far a world came that was asked for the next record before the time: to the time, where none is due before it;
 -- and where memory ran out, not yet to it
 abbrev pub ComesUpTo : {C M E : Type 0} → World C (Kept M) → World C (Kept M) → Units → Result (Option Note) E → Type 0
-ComesUpTo old new until result = MatchResult result (λ next. IfNone next (Reaches old new until)) (λ _. MayTryAgain old new until)
+ComesUpTo old new until result =
+    MatchResult result (λ next. IfNone next (Reaches old new until)) (λ _. MayTryAgain old new until)
 
 -- how many numbers are left for records
 abbrev pub left_of : {C M : Type 0} → World C (Kept M) → ℕ

@@ -1,5 +1,6 @@
 -- What a state keeps.
-use Rattle.std.specs.Prelude.{◌≡◌, ℕ, ◌+◌, ◌≤◌, ◌<◌, ◌^◌, length, All, slice_get, Some}
+use Rattle.std.specs.Prelude.{◌≡◌, ℕ, ◌+◌, ◌≤◌, ◌<◌, ◌^◌, List, length, map, nat_eq, All}
+use Rattle.std.specs.List.{IsDistinct}
 use Rattle.net_plan.specs.declared.network.Network.{Network}
 use Rattle.world_state.specs.Giving.{HasItsOctets}
 use Rattle.world_state.specs.declared.contents.Waits.{Waits}
@@ -18,6 +19,10 @@ pub record IsSized {C M : Type 0} (last_step : C → ℕ) (network : Network) (s
   pub limit : s.time ≤ 2 ^ 60
   pub shown : s.shown ≤ length network.device
 
+-- no two of the frames that wait came by one record
+abbrev pub AreApart : List Waits → Type 0
+AreApart waiting = IsDistinct nat_eq (map (λ (w : Waits). w.cause) waiting)
+
 -- the records that are settled may be given: the ways are short, a frame of the schedule that is dispatched has its
 -- octets, and what is under way or waits has been put there by records given, of which each has one frame wait at most
 pub record IsFit {C M : Type 0} (s : State C M) : Type 0 where
@@ -26,8 +31,7 @@ pub record IsFit {C M : Type 0} (s : State C M) : Type 0 where
   pub octets : All (λ z. HasItsOctets z.body z.octets) s.settled.items
   pub below : AreBelow (s.given + 1) s.under_way.entries
   pub waits_below : All (λ w. w.cause < s.given + 1) s.waiting.items
-  pub apart : (i j : ℕ) (v w : Waits) → slice_get s.waiting.items i ≡ Some v → slice_get s.waiting.items j ≡ Some w
-      → v.cause ≡ w.cause → i ≡ j
+  pub apart : AreApart s.waiting.items
 
 -- so it is, with what is under way
 pub record IsSound {C M : Type 0} (last_step : C → ℕ) (network : Network) (s : State C M) : Type 0 where

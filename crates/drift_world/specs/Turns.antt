@@ -12,7 +12,8 @@ use Rattle.due_queue.specs.Places.{IsFirst, numbers_of}
 use Rattle.net_plan.specs.declared.ids.DeviceId.{DeviceId}
 use Rattle.net_plan.specs.declared.network.Network.{Network}
 use Rattle.run_law.specs.declared.note.Note.{Note}
-use Rattle.run_law.specs.records.Order.{IsBefore}
+use Rattle.run_law.specs.records.Order.{IsBefore, IsIn}
+use Rattle.world_state.specs.Frames.{first_of}
 use Rattle.run_law.specs.machines.Calls.{HasDue}
 use Rattle.run_law.specs.machines.Nodes.{Node}
 use Rattle.run_law.specs.runs.DueRecords.{IsScenarioRun}
@@ -33,7 +34,7 @@ use Rattle.world_law.specs.world.World.{Stands, act_place, clock_place, ripe_pla
 abbrev pub source_place : ℕ → Source → List ℕ
 source_place now Events = now ∷ 2 ∷ []
 source_place now (Arrival place) = numbers_of place
-source_place now (Ripening index w) = ripe_place now (waiting_as w)
+source_place now (Ripening w) = ripe_place now (waiting_as w)
 source_place now (Act device) = act_place now device
 source_place now (Departure place) = numbers_of place
 source_place now (Clock device) = clock_place now device
@@ -47,9 +48,10 @@ pub record IsDueEntry {C M : Type 0} (network : Network) (state : State C M) (ra
   pub device : place.device < length network.device
   pub link : place.link < length network.link
 
--- the frame that waits at this index is permanent now
-pub record IsRipe {C M : Type 0} (reading : C → ℕ → ℕ) (network : Network) (state : State C M) (index : ℕ) (w : Waits) : Type 0 where
-  pub there : slice_get state.waiting.items index ≡ Some w
+-- the frame is the first that waits at its device, and permanent now
+pub record IsRipe {C M : Type 0} (reading : C → ℕ → ℕ) (network : Network) (state : State C M) (w : Waits) : Type 0 where
+  pub there : IsIn w state.waiting.items
+  pub is : first_of state.waiting w.device.0 ≡ Some w
   pub of : w.device.0 < length network.device
   pub clock : C
   pub own : slice_get state.clocks.items w.device.0 ≡ Some clock
@@ -75,7 +77,7 @@ pub record IsToShow {C M : Type 0} (network : Network) (state : State C M) (devi
 abbrev pub IsThere : {C M : Type 0} → (C → ℕ → ℕ) → (M → Network → DeviceId → Node → Type 0) → Network → State C M → Source → Type 0
 IsThere reading stands network state Events = state.pending ≡ true
 IsThere reading stands network state (Arrival place) = IsDueEntry network state 2 place
-IsThere reading stands network state (Ripening index w) = IsRipe reading network state index w
+IsThere reading stands network state (Ripening w) = IsRipe reading network state w
 IsThere reading stands network state (Act device) = IsActive reading stands network state device
 IsThere reading stands network state (Departure place) = IsDueEntry network state 8 place
 IsThere reading stands network state (Clock device) = IsToShow network state device
@@ -102,7 +104,7 @@ IsWithin until other = Unit {0}
 abbrev pub own_numbers : Source → Option (List ℕ)
 own_numbers Events = Some (2 ∷ [])
 own_numbers (Arrival place) = Some (place.rank ∷ place.device ∷ place.link ∷ place.cause ∷ [])
-own_numbers (Ripening index w) = Some (3 ∷ w.device.0 ∷ amount w.point ∷ w.frame.members.0 ∷ w.link.0 ∷ w.cause ∷ [])
+own_numbers (Ripening w) = Some (3 ∷ w.device.0 ∷ amount w.point ∷ w.frame.members.0 ∷ w.link.0 ∷ w.cause ∷ [])
 own_numbers (Act device) = Some (4 ∷ device.0 ∷ [])
 own_numbers (Departure place) = Some (place.rank ∷ place.device ∷ place.link ∷ place.cause ∷ [])
 own_numbers (Clock device) = Some (14 ∷ device.0 ∷ [])

@@ -12,6 +12,7 @@ use run_law::Machine;
 use std::alloc::Global;
 use std::collections::VecDeque;
 use world_state::OutOfMemory;
+use world_state::frames::Frames;
 use world_state::fresh::{first_ways, fresh_clocks, none_broken};
 use world_state::kept::all_kept;
 
@@ -38,7 +39,7 @@ pub fn fresh_state<C: Clock, M: Machine + Drop>(
         ups,
         downs,
         under_way: UnderWay::new(alloc),
-        waiting: Vec::new(alloc),
+        waiting: Frames::new(alloc),
         stored: Vec::new(alloc),
         spare: Vec::new(alloc),
         made: MadeFrame::new(),

@@ -6,7 +6,7 @@ ghost use Rattle.run_law.specs.scenario.Scenarios.{Scenario};
 
 use crate::state::State;
 use drift_clock::Clock;
-use net_plan::Network;
+use net_plan::{DeviceId, Network};
 use pcf_values::Pcf;
 use run_law::Machine;
 use tte_units::Units;
@@ -17,7 +17,7 @@ use world_state::giving::{Giving, give_frame, make_room};
 use world_state::naming::name_followers;
 use world_state::sending::{put_on, sent_by};
 use world_state::storing::store;
-use world_state::waiting::giver;
+use world_state::waiting::{giver, waiter};
 
 impl<C: Clock, M: Machine + Drop> State<C, M> {
     ghost use Rattle.drift_world.specs.Views.{with_first, world_of};
@@ -31,6 +31,7 @@ impl<C: Clock, M: Machine + Drop> State<C, M> {
     ghost use Rattle.drift_world.specs.Giving.{AreLow, IsGiver, IsGivenOut};
     ghost use Rattle.world_state.specs.Giving.{ArrivedAt, CameBy, IsPutOn, IsYoung, MayBeGiven, changed_device, giver_of, wire_entry};
     ghost use Rattle.drift_world.specs.Stepping.{ChangesOnly, IsRunning};
+    ghost use Rattle.world_state.specs.Frames.{room_of, waiter_of};
     ghost use Rattle.world_state.specs.Storing.{stored_by};
     ghost use Rattle.world_state.specs.declared.contents.Settled.{Settled as SettledValue};
     ghost use Rattle.world_state.specs.declared.giving.Giving.{Giving as GivingValue};
@@ -107,7 +108,7 @@ impl<C: Clock, M: Machine + Drop> State<C, M> {
         requires by { CameBy (length network.now.link) body.now }
         requires young { IsYoung (amount network.now.dmax) body.now }
         requires room { length network.now.link ≤ self.old.under_way.room }
-        requires capacity { vec_len self.old.waiting < vec_capacity self.old.waiting }
+        requires capacity { IfSome (waiter_of body.now) (λ d. 0 < room_of self.old.waiting d.0) }
         requires ups { All IsShort self.old.ups.items }
         requires downs { All IsShort self.old.downs.items }
         requires low { AreLow C.reading self.old }
@@ -165,7 +166,7 @@ impl<C: Clock, M: Machine + Drop> State<C, M> {
         requires may { MayBeGiven network.now first.body first.frame first.octets }
         requires number { self.old.given + 1 < 2 ^ 64 }
         requires room { length network.now.link < self.old.under_way.room }
-        requires capacity { vec_len self.old.waiting < vec_capacity self.old.waiting }
+        requires capacity { IfSome (waiter_of first.body) (λ d. 0 < room_of self.old.waiting d.0) }
         requires free { vec_len self.old.stored < vec_capacity self.old.stored }
         requires low { AreLow C.reading self.old }
         ensures note { result ≡ record {
@@ -207,6 +208,17 @@ impl<C: Clock, M: Machine + Drop> State<C, M> {
         }
     }
 
+    /// The device at which the frame of the first settled record may wait.
+    fn first_waiter(&self) -> Option<DeviceId>
+        ensures { (first : SettledValue) (rest : List SettledValue) → self.now.settled.items ≡ first ∷ rest
+            → result ≡ waiter_of first.body }
+    {
+        match self.settled.front() {
+            Some(first) => waiter(&first.body),
+            None => None,
+        }
+    }
+
     /// The first record that is settled is given, with the next number: what it launches is under way, or waits.
     ///
     /// On an error nothing has changed.
@@ -237,11 +249,13 @@ impl<C: Clock, M: Machine + Drop> State<C, M> {
         ensures others { IfOk result (λ note. ChangesOnly (changed_device note.body) self.old self.new) }
         ensures unmoved { OnErr result ((n : ℕ) → ChangesOnly n self.old self.new) }
     {
+        let device = self.first_waiter();
         if let Err(error) = make_room(
             &mut self.under_way,
             &mut self.waiting,
             &mut self.stored,
             network,
+            device,
         ) {
             return Err(error);
         }

@@ -244,8 +244,8 @@ impl<C: Clock, M: Machine + Drop> State<C, M> {
                 self.arrive(network, place);
                 Ok(())
             }
-            Source::Ripening(index, one) => {
-                self.ripen(network, index, one);
+            Source::Ripening(one) => {
+                self.ripen(network, one);
                 Ok(())
             }
             Source::Act(device) => self.act(network, device),

@@ -1,15 +1,16 @@
-ghost use Rattle.std.specs.Prelude.{◌≡◌, ◌+◌, ◌≤◌, ◌<◌, pos, ◌≤ℤ◌, false, List, Some, length, slice_get};
+ghost use Rattle.std.specs.Prelude.{◌≡◌, ◌+◌, ◌≤◌, ◌<◌, pos, ◌≤ℤ◌, false, true, List, Some, is_some, length, slice_get};
 ghost use Rattle.std.specs.VecDeque.{deque_capacity, deque_len};
 ghost use Rattle.net_plan.specs.Ranges.{IsInRange};
 ghost use Rattle.run_law.specs.declared.note.Note.{Note};
 ghost use Rattle.run_law.specs.records.Order.{behind};
 ghost use Rattle.run_law.specs.scenario.Scenarios.{Scenario};
+ghost use Rattle.world_state.specs.Frames.{first_of};
 ghost use Rattle.world_state.specs.Keeping.{keeps};
 ghost use Rattle.world_state.specs.declared.contents.Waits.{Waits as WaitsValue};
 
 use crate::state::State;
 use drift_clock::Clock;
-use net_plan::Network;
+use net_plan::{DeviceId, Network};
 use run_law::{Machine, Moment};
 use tte_units::Units;
 use world_state::ripening::settle_ripe;
@@ -22,26 +23,26 @@ impl<C: Clock, M: Machine + Drop> State<C, M> {
     ghost use Rattle.world_law.specs.world.Moves.{ComesFirst, StandsBehind};
     ghost use Rattle.world_law.specs.world.World.{Stands, ripe_place};
 
-    /// A frame that waits is permanent: the first of all that is to come.
-    pub fn ripen_first(&mut self, network: &Network, index: usize)
+    /// The first frame that waits at the device is permanent: the first of all that is to come.
+    pub fn ripen_first(&mut self, network: &Network, device: DeviceId)
         requires sound { IsSound C.last_step network.now self.old }
         requires range { IsInRange network.now }
-        requires there { index < length self.old.waiting.items }
-        requires reached { (w : WaitsValue) (clock : C) → slice_get self.old.waiting.items index ≡ Some w
+        requires there { is_some (first_of self.old.waiting device.0) ≡ true }
+        requires reached { (w : WaitsValue) (clock : C) → first_of self.old.waiting device.0 ≡ Some w
             → slice_get self.old.clocks.items w.device.0 ≡ Some clock → w.point.0 ≤ℤ pos (C.reading clock self.old.time) }
         requires room { deque_len self.old.settled + 2 ≤ deque_capacity self.old.settled }
-        requires comes { (w : WaitsValue) → slice_get self.old.waiting.items index ≡ Some w
+        requires comes { (w : WaitsValue) → first_of self.old.waiting device.0 ≡ Some w
             → IsAt C.reading M.stands network.now self.old (ripe_place self.old.time (waiting_as w)) }
         ensures sound { IsSound C.last_step network.now self.new }
-        ensures stands { (w : WaitsValue) → slice_get self.old.waiting.items index ≡ Some w → (s : Scenario) (notes : List Note)
+        ensures stands { (w : WaitsValue) → first_of self.old.waiting device.0 ≡ Some w → (s : Scenario) (notes : List Note)
             → (old : Stands C.reading (keeps M.stands) s (world_of network.now self.old) notes)
             → ComesFirst C.reading (keeps M.stands) s (world_of network.now self.old) notes old (ripe_place self.old.time (waiting_as w))
             → StandsBehind C.reading (keeps M.stands) s (world_of network.now self.new) notes (behind (ripe_place self.old.time (waiting_as w))) }
         ensures same { self.new ≡ record self.old { early = false; machines = self.new.machines; waiting = self.new.waiting; settled = self.new.settled } }
-        ensures others { (w : WaitsValue) → slice_get self.old.waiting.items index ≡ Some w → ChangesOnly w.device.0 self.old self.new }
+        ensures others { (w : WaitsValue) → first_of self.old.waiting device.0 ≡ Some w → ChangesOnly w.device.0 self.old self.new }
         ensures shorter { length self.old.waiting.items ≡ length self.new.waiting.items + 1 }
     {
-        let waits = self.waiting.swap_remove(index);
+        let waits = self.waiting.take_first(device);
         let reading = self.reading_of(network, waits.device.0);
         let moment = Moment {
             time: Units::from_amount(self.time),

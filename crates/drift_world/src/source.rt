@@ -27,7 +27,7 @@ pub enum Source {
     /// What is on a wire arrives.
     Arrival(Place),
     /// A frame that waits is permanent: this one, at this index.
-    Ripening(usize, Waits),
+    Ripening(Waits),
     /// A device does what is due.
     Act(DeviceId),
     /// A frame at a port leaves.
@@ -93,7 +93,7 @@ pub fn own_numbers(source: &Source) -> Option<ArrayVec<u64, MOST>>
             u64::from(place.link),
             place.cause,
         ])),
-        Source::Ripening(_, one) => Some(numbers(&[
+        Source::Ripening(one) => Some(numbers(&[
             3,
             u64::from(one.device.0),
             one.point.0.unsigned_abs(),
@@ -151,8 +151,8 @@ impl<C: Clock, M: Machine + Drop> State<C, M> {
     {
         let devices = network.device.as_slice().len();
         if slot < devices {
-            if let Some(index) = self.ripe_index(network, DeviceId(slot as u32)) {
-                return Source::Ripening(index, self.waiting[index]);
+            if let Some(one) = self.ripe_frame(network, DeviceId(slot as u32)) {
+                return Source::Ripening(one);
             }
         }
         Source::Act(DeviceId((slot - devices) as u32))

@@ -22,8 +22,9 @@ use world_state::applying::{
     befall_machines, breaks_on, drop_waiting, ends, keep_befallen, set_broken, set_rate, set_way,
 };
 use world_state::bodies::{Body, Kind};
-use world_state::contents::{Befallen, Content, Holding, Settled, Waits, WayState};
+use world_state::contents::{Befallen, Content, Holding, Settled, WayState};
 use world_state::event_notes::EventNote;
+use world_state::frames::Frames;
 use world_state::kept::Kept;
 use world_state::leaving::{departed, is_parent, take_port};
 use world_state::settled::{put_in, put_some};
@@ -41,7 +42,7 @@ pub struct State<C: Clock, M: Machine + Drop> {
     /// What is on the wires and at the ports.
     pub under_way: UnderWay<Content>,
     /// The frames that wait for their permanence.
-    pub waiting: Vec<Waits>,
+    pub waiting: Frames,
     /// The frames that switches hold.
     pub stored: Vec<Holding>,
     /// Memory for the octets of a frame that a switch sends and still holds.

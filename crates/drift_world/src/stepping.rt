@@ -42,17 +42,17 @@ impl<C: Clock, M: Machine + Drop> State<C, M> {
         self.rekey(network, place.device);
     }
 
-    /// The frame at the index, which is the first that is permanent, is judged.
-    pub fn ripen(&mut self, network: &Network, index: usize, one: Waits)
+    /// The frame that is the first that is permanent is judged.
+    pub fn ripen(&mut self, network: &Network, one: Waits)
         requires range { IsInRange network.now }
         requires well { IsWell C.last_step C.reading M.stands network.now self.old }
         requires room { HasRoom self.old }
-        requires foremost { IsForemost C.reading M.stands network.now self.old (Source.Ripening index one) }
-        requires first { SourceFirst self.old.settled.items (Source.Ripening index one) }
+        requires foremost { IsForemost C.reading M.stands network.now self.old (Source.Ripening one) }
+        requires first { SourceFirst self.old.settled.items (Source.Ripening one) }
         ensures step { IsStep C.last_step C.reading M.stands network.now self.old self.new }
         ensures less { IsLess network.now self.old self.new }
     {
-        self.ripen_first(network, index);
+        self.ripen_first(network, one.device);
         self.rekey(network, one.device.0);
     }
 

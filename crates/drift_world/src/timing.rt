@@ -26,7 +26,7 @@ impl<C: Clock, M: Machine + Drop> State<C, M> {
         ensures later { All (λ (time : ℕ). self.old.time ≤ time) self.old.timers → All (λ (time : ℕ). self.new.time ≤ time) self.new.timers }
     {
         let index = device as usize;
-        let point = least_point(self.waiting.as_slice(), device);
+        let point = least_point(&self.waiting, device);
         let ripe = time_for(&self.clocks[index], self.time, point);
         let due = self.machines[index].due();
         let act = time_for(&self.clocks[index], self.time, due);

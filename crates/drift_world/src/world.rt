@@ -117,9 +117,9 @@ impl<'a, C: Clock, M: Machine + Drop> World<'a, C, M> {
 
     /// The event of this line befalls the network, at its time, before which no record is left. Its record is answered.
     ///
-    /// The lines count the events from 1. The event is within the fault hypothesis after those applied, comes before the
-    /// end, and is not past. A hold that it sets is a time from 0 on. On an error it has not befallen the network, and
-    /// may be applied again.
+    /// The lines count the events from 1. The event is within the fault hypothesis after those applied, comes before
+    /// the end, and is not past. A hold that it sets is a time from 0 on. On an error it has not befallen the network,
+    /// and may be applied again.
     pub fn apply(&mut self, line: u64, event: &Event) -> Result<Note, OutOfMemory>
         requires line { line ≡ self.old.lines + 1 }
         requires open { IsOpenFrom self.old event.now }
@@ -153,8 +153,8 @@ impl<'a, C: Clock, M: Machine + Drop> World<'a, C, M> {
     /// the records given are the run up to the time, and in the first 2^20 cycles this run is safe.
     ///
     /// Where it is None, and the end has not come, the world comes to this time. After the end the time is at most the
-    /// one behind it. On an error no record is lost: those to come are the same. The world may have worked ahead, but is
-    /// before the time still, and may be asked again.
+    /// one behind it. On an error no record is lost: those to come are the same. The world may have worked ahead, but
+    /// is before the time still, and may be asked again.
     ///
     /// The answer is small, and seen as the record that it stands for.
     pub fn next_given(&mut self, until: Units) -> Result<Option<Given>, OutOfMemory>
@@ -236,8 +236,8 @@ impl<'a, C: Clock, M: Machine + Drop> World<'a, C, M> {
         local_of(&self.state, self.accepted.network(), device, t)
     }
 
-    /// A device's local clock at a time, in units of 2^-16 ns. Where the records given are all of the run up to the time,
-    /// it is that of `local`; where this is the present time, and nothing of it but events is worked off, that of
+    /// A device's local clock at a time, in units of 2^-16 ns. Where the records given are all of the run up to the
+    /// time, it is that of `local`; where this is the present time, and nothing of it but events is worked off, that of
     /// `local_before`.
     pub fn local_at(&self, device: DeviceId, t: Units) -> Option<i128>
         requires there { device.0 < length self.now.network.device }

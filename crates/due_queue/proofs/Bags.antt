@@ -1,10 +1,11 @@
 -- What is in a list, and in another with the same elements.
-use Rattle.std.proofs.Common.{◌≡◌, ◌≢◌, ◌⊎◌, ℕ, zero, suc, ◌<◌, true, false, List, [], ◌∷◌, length, map, get_or, Option, Some, None, is_some, inl, inr, refl, sym, ap, subst, ◌∙◌, ◌==◌, arith}
-use Rattle.std.specs.List.{AllByRecursion, Contains, cons_option, filter_map}
+use Rattle.std.proofs.Common.{◌≡◌, ◌≢◌, ℕ, zero, suc, ◌<◌, true, false, List, [], ◌∷◌, length, map, get_or, Option, Some, None, is_some, inl, inr, refl, sym, ap, subst, ◌∙◌, ◌==◌, arith}
+use Rattle.std.specs.List.{AllByRecursion, cons_option, filter_map}
 use Rattle.std.specs.List.Sorted.{IsPermutation}
 use Rattle.std.specs.Option.{unwrap_or}
-use Rattle.std.proofs.lemmas.Bool.{both_ways, cases_eq, eq-eqb, eqb-false, ne_eqb}
+use Rattle.std.proofs.lemmas.Bool.{both_ways, eqb-false, ne_eqb}
 use Rattle.std.proofs.lemmas.List.Sorted.{Contains-permutation, IsPermutation-map, IsPermutation-refl, IsPermutation-sym, length_permutation}
+use Rattle.run_law.proofs.records.Order.{contains}
 use Rattle.run_law.specs.records.Order.{IsIn}
 
 pub in_contained : {X : Type 0} (xs : List X) (k : ℕ) (x : X) → k < length xs → get_or xs k x ≡ x → IsIn x xs
@@ -12,14 +13,9 @@ in_contained [] k x lt e = absurd (omega (arith, lt))
 in_contained (y ∷ xs) zero x lt e = inl (sym e)
 in_contained (y ∷ xs) (suc k) x lt e = inr (in_contained xs k x (omega (arith, lt)) e)
 
-contained : {X : Type 0} (xs : List X) (x : X) → IsIn x xs → Contains xs x
-contained [] x there = absurd there
-contained (y ∷ xs) x (inl e) = (0, omega arith, sym e)
-contained (y ∷ xs) x (inr rest) = let c = contained xs x rest in let lt = c.1 in (suc c.0, omega (arith, lt), c.2)
-
 -- what is in a list is in one with the same elements
 pub in_permuted : {X : Type 0} (xs ys : List X) (x : X) → IsPermutation xs ys → IsIn x xs → IsIn x ys
-in_permuted xs ys x same there = let c = Contains-permutation xs ys x same (contained xs x there) in in_contained ys c.0 x c.1 c.2
+in_permuted xs ys x same there = let c = Contains-permutation xs ys x same (contains xs x there) in in_contained ys c.0 x c.1 c.2
 
 pub all_in : {X : Type 0} (P : X → Type 0) (xs : List X) → AllByRecursion P xs → (x : X) → IsIn x xs → P x
 all_in P [] all x there = absurd there
@@ -72,38 +68,7 @@ same_map g h [] same = refl
 same_map g h (x ∷ xs) same = ap (λ o. cons_option o (filter_map g xs)) (same x (inl refl))
     ∙ ap (cons_option (h x)) (same_map g h xs (λ y there. same y (inr there)))
 
-of_option : {Y : Type 0} (o : Option Y) (ys : List Y) (y : Y) → IsIn y (cons_option o ys) → (o ≡ Some y) ⊎ IsIn y ys
-of_option None ys y there = inr there
-of_option (Some z) ys y (inl same) = inl (ap Some (sym same))
-of_option (Some z) ys y (inr rest) = inr rest
-
--- what is there was given of one
-pub given_of : {X Y : Type 0} (h : X → Option Y) (xs : List X) (y : Y) → IsIn y (filter_map h xs) → (x : X) × IsIn x xs × (h x ≡ Some y)
-given_of h [] y there = absurd there
-given_of h (x ∷ xs) y there =
-    elim (of_option (h x) (filter_map h xs) y there) [
-      | inl e ↦ (x, inl refl, e)
-      | inr rest ↦ let g = given_of h xs y rest in (g.0, inr g.1, g.2)
-    ]
-
-behind_option : {Y : Type 0} (o : Option Y) (ys : List Y) (y : Y) → IsIn y ys → IsIn y (cons_option o ys)
-behind_option None ys y there = there
-behind_option (Some z) ys y there = inr there
-
--- and what is given of one is there
-pub is_given : {X Y : Type 0} (h : X → Option Y) (xs : List X) (x : X) (y : Y) → IsIn x xs → h x ≡ Some y → IsIn y (filter_map h xs)
-is_given h [] x y there e = absurd there
-is_given h (z ∷ xs) x y (inl same) e = subst (λ o. IsIn y (cons_option o (filter_map h xs))) (sym (ap h (sym same) ∙ e)) (inl refl)
-is_given h (z ∷ xs) x y (inr rest) e = behind_option (h z) (filter_map h xs) y (is_given h xs x y rest e)
-
 -- ---- numbers that differ
-
-pub flips : (x y : ℕ) → (x == y) ≡ (y == x)
-flips x y =
-    elim (cases_eq x y) [
-      | inl e ↦ eq-eqb x y e ∙ sym (eq-eqb y x (sym e))
-      | inr apart ↦ ne_eqb x y apart ∙ sym (ne_eqb y x (λ e. apart (sym e)))
-    ]
 
 pub all_apart : {X : Type 0} (f : X → ℕ) (k : ℕ) (xs : List X) → ((x : X) → IsIn x xs → f x ≢ k) → AllByRecursion (λ y. (k == y) ≡ false) (map f xs)
 all_apart f k [] apart = tt

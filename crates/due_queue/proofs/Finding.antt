@@ -1,5 +1,5 @@
 -- What is found by its rank and its cause.
-use Rattle.std.proofs.Common.{◌≡◌, ◌⊎◌, ℕ, ◌+◌, ◌<◌, suc, true, List, [], ◌∷◌, ◌++◌, get_or, length, take, Option, Some, None, is_some, inl, inr, refl, sym, ap, subst, ◌∙◌, arith, Bor}
+use Rattle.std.proofs.Common.{◌≡◌, ℕ, ◌+◌, ◌<◌, suc, List, [], ◌∷◌, ◌++◌, get_or, length, take, Option, Some, None, inl, inr, refl, sym, ap, subst, ◌∙◌, arith, Bor}
 use Rattle.std.proofs.Math.Seq.{take-suc}
 use Rattle.std.proofs.lemmas.List.{get_or_default}
 use Rattle.std.specs.Option.{option_copied, option_map}
@@ -9,11 +9,12 @@ use Rattle.run_law.specs.records.Order.{IsIn}
 use Rattle.run_law.proofs.runs.Places.{in_parts}
 use Rattle.slab.specs.Slab.{Slab, get}
 use Rattle.due_queue.specs.Finding.{HoldsAt, HoldsNoneAt, IsPlaceFor, IsSlotFor, NoSlotFor}
-use Rattle.due_queue.specs.Queues.{IsSound, entries_in, entry_at, entry_of}
+use Rattle.due_queue.specs.Queues.{entries_in, entry_at, entry_of}
 use Rattle.due_queue.specs.declared.Entry.{Entry}
 use Rattle.due_queue.specs.declared.Place.{Place}
 use Rattle.due_queue.specs.declared.Slotted.{Slotted}
-use Rattle.due_queue.proofs.Bags.{given_of, in_contained, is_given}
+use Rattle.run_law.proofs.records.Order.{given_of, is_given}
+use Rattle.due_queue.proofs.Bags.{in_contained}
 
 -- each of them is one of them
 pub is_one : (places : List (Reverse Slotted)) (i : ℕ) (d : Reverse Slotted) → i < length places → IsIn (get_or places i d) places

@@ -2,3 +2,4 @@ pub mod Bags
 pub mod Orders
 pub mod Slots
 pub mod Finding
+pub mod Heads

@@ -16,7 +16,9 @@ use Rattle.due_queue.specs.declared.Place.{Place}
 use Rattle.due_queue.specs.declared.Slotted.{Slotted}
 use Rattle.due_queue.specs.Places.{IsFirst, numbers_of}
 use Rattle.due_queue.specs.Queues.{IsSound, entries_in, entry_at, entry_of, reversed}
-use Rattle.due_queue.proofs.Bags.{all_apart, all_in, each_apart, flips, given_of, in_permuted, is_given, length_map, permuted_map, same_map}
+use Rattle.run_law.proofs.records.Order.{given_of, is_given}
+use Rattle.tte_lemmas.proofs.Naturals.{flips}
+use Rattle.due_queue.proofs.Bags.{all_apart, all_in, each_apart, in_permuted, length_map, permuted_map, same_map}
 use Rattle.due_queue.proofs.Orders.{not_before}
 
 abbrev pub slot_of : Reverse Slotted → ℕ
@@ -27,7 +29,7 @@ module _ {T : Type 0} where
   some_mapped place None some = absurd (both_ways false refl some)
   some_mapped place (Some content) some = refl
 
-  some_entry : (s : Slab T) (r : Reverse Slotted) → is_some (get s r.0.slot) ≡ true → is_some (entry_of s r) ≡ true
+  pub some_entry : (s : Slab T) (r : Reverse Slotted) → is_some (get s r.0.slot) ≡ true → is_some (entry_of s r) ≡ true
   some_entry s r some = some_mapped r.0.place (get s r.0.slot) some
 
   place_or : Option (Entry T) → Place → Place

@@ -1,5 +1,5 @@
 -- The order of places.
-use Rattle.std.specs.Prelude.{◌≡◌, ℕ, List, [], ◌∷◌}
+use Rattle.std.specs.Prelude.{◌≡◌, ℕ, List, [], ◌∷◌, Option, Some, None}
 use Rattle.run_law.specs.records.Order.{IsBefore, IsIn}
 use Rattle.due_queue.specs.declared.Entry.{Entry}
 use Rattle.due_queue.specs.declared.Place.{Place}
@@ -14,3 +14,8 @@ pub record IsFirst {T : Type 0} (entries : List (Entry T)) (place : Place) : Typ
   pub there : IsIn entry entries
   pub at : entry.place ≡ place
   pub none : (other : Entry T) → IsIn other entries → IsBefore (numbers_of other.place) (numbers_of place) → ⊥
+
+-- what stands before the others, where there is something
+abbrev pub first_entry : {T : Type 0} → List (Entry T) → Option (Entry T)
+first_entry [] = None
+first_entry (e ∷ es) = Some e

@@ -1,10 +1,10 @@
 //! What is under way, in the order in which it is due.
 #![tactic(auto)]
 
-ghost use Rattle.std.specs.Prelude.{◌≡◌, ◌∷◌, [], ◌+◌, ◌≤◌, ◌<◌, length, IsTrue, ◌↔◌, IfSome, IfNone, OnOk, OnSome, IsPermutation};
+ghost use Rattle.std.specs.Prelude.{◌≡◌, ◌∷◌, [], ◌+◌, ◌≤◌, ◌<◌, length, IsTrue, ◌↔◌, IfSome, IfNone, OnOk, OnSome, IsPermutation, option_copied, option_map};
 ghost use Rattle.std.specs.BinaryHeap.{heap_capacity, heap_items, heap_len, KeepsHeap};
 ghost use Rattle.due_queue.specs.Queues.{reversed};
-ghost use Rattle.due_queue.specs.Places.{IsFirst, numbers_of};
+ghost use Rattle.due_queue.specs.Places.{IsFirst, first_entry, numbers_of};
 ghost use Rattle.due_queue.specs.Finding.{HoldsAt, HoldsNoneAt, IsSlotFor, NoSlotFor};
 
 use slab::Slab;
@@ -149,6 +149,17 @@ impl<T> UnderWay<T> {
         }
     }
 
+    /// What is due first.
+    pub fn peek(&self) -> Option<&T>
+        ensures is { option_copied result ≡ option_map (λ e. e.content) (first_entry self.now.entries) }
+        ensures first { IfSome (first_entry self.now.entries) (λ e. IsFirst self.now.entries e.place) }
+    {
+        match self.heap.peek() {
+            Some(first) => self.contents.get(first.0.slot),
+            None => None,
+        }
+    }
+
     /// What is due at a place of this rank and this cause. It is None exactly where nothing is.
     ///
     /// It looks through all places.
@@ -165,6 +176,7 @@ impl<T> UnderWay<T> {
     /// Takes the first out.
     pub fn take_first(&mut self) -> Option<Entry<T>>
         ensures first { IfSome result (λ entry. IsFirst self.old.entries entry.place) }
+        ensures head { result ≡ first_entry self.old.entries }
         ensures entries { IfSome result (λ entry. IsPermutation self.old.entries (entry ∷ self.new.entries)) }
         ensures room { OnSome result (self.new.room ≡ self.old.room + 1) }
         ensures none { IfNone result (self.old.entries ≡ []) }

@@ -11,6 +11,7 @@ use Rattle.exact_runs.specs.Records.{AreRecordsBefore}
 use Rattle.exact_runs.specs.Worlds.{ExactWorld, StandsExact}
 use Rattle.net_plan.specs.declared.event.Event.{Event}
 use Rattle.net_plan.specs.declared.network.Network.{Network}
+use Rattle.run_law.proofs.records.Order.{index_of}
 use Rattle.run_law.proofs.runs.NetworkRuns.{one_more}
 use Rattle.run_law.proofs.runs.Places.{in_left, in_right}
 use Rattle.run_law.specs.declared.note.Note.{Note}
@@ -19,7 +20,7 @@ use Rattle.run_law.specs.records.Order.{IsIn}
 use Rattle.run_law.specs.records.Ranks.{rank}
 use Rattle.tte_units.specs.Amount.{amount, units_of}
 use Rattle.tte_units.specs.declared.units.Units.{Units}
-use Rattle.world_drive.proofs.Placed.{in_slice, last_of, stays_now, unended_before}
+use Rattle.world_drive.proofs.Placed.{last_of, stays_now, unended_before}
 use Rattle.world_drive.proofs.Ways.{past_is}
 use Rattle.world_drive.specs.Observing.{IsCompleteExact, IsGiven}
 use Rattle.world_drive.specs.Seeing.{IsPast, IsUnderwayAt}
@@ -60,7 +61,7 @@ complete_past network events notes more time world next at stands gone all =
     let same = amount_now world time at.now in
     subst (λ (t : ℕ). IsCompleteExact network next t events (notes ++ more)) (sym same) (record {
       is = stands;
-      past = λ e i. let there = in_slice e events i in at.stands.is.befallen.past there.0 e there.1;
+      past = λ e i. let there = index_of e events i in at.stands.is.befallen.past there.0 e there.1;
       all = subst (λ (t : ℕ). AreRecordsBefore network events ((t + 1) ∷ []) (notes ++ more)) same all;
       come = elim gone [
         | inl on ↦ let now = on.0 in inl (omega (arith, now), on.1)

@@ -1,5 +1,5 @@
 -- Where the records stand that a world gives one after another.
-use Rattle.std.proofs.Common.{◌≡◌, ℕ, suc, ◌≤◌, ◌<◌, pos, ◌+ℤ◌, ◌<ℤ◌, true, false, List, [], ◌∷◌, ◌++◌, length-append, Some, slice_get, inl, inr, refl, sym, ap, subst, arith}
+use Rattle.std.proofs.Common.{◌≡◌, ℕ, ◌≤◌, ◌<◌, pos, ◌+ℤ◌, ◌<ℤ◌, true, false, List, [], ◌∷◌, ◌++◌, length-append, inl, inr, refl, sym, ap, subst, arith}
 use Rattle.std.proofs.lemmas.Bool.{cases_Bool, cases_lt}
 use Rattle.std.proofs.lemmas.Int.{ints}
 use Rattle.std.proofs.lemmas.List.{append-nil}
@@ -99,8 +99,3 @@ fewer network events others notes more note world next a b =
     let longer = length-append (notes ++ note ∷ []) more in
     let long = length-append notes (note ∷ []) in
     omega (arith, room, old, new, longer, long)
-
-pub in_slice : {X : Type 0} (x : X) (xs : List X) → IsIn x xs → (i : ℕ) × (slice_get xs i ≡ Some x)
-in_slice x [] i = absurd i
-in_slice x (y ∷ ys) (inl same) = (0, ap Some (sym same))
-in_slice x (y ∷ ys) (inr more) = let at = in_slice x ys more in (suc at.0, at.1)

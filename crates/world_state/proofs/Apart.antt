@@ -3,9 +3,10 @@ use Rattle.std.proofs.Common.{◌≡◌, ℕ, List, ◌∷◌, Option, Some, Non
 use Rattle.std.specs.Prelude.{◌↔◌, IfSome, IfNone}
 use Rattle.std.specs.List.{filter_map}
 use Rattle.std.proofs.lemmas.List.Sorted.{IsPermutation-sym}
-use Rattle.due_queue.proofs.Bags.{given_of, in_permuted, is_given}
+use Rattle.due_queue.proofs.Bags.{in_permuted}
 use Rattle.due_queue.specs.declared.Entry.{Entry}
 use Rattle.net_plan.specs.declared.network.Network.{Network}
+use Rattle.run_law.proofs.records.Order.{given_of, is_given}
 use Rattle.run_law.specs.records.Order.{IsIn}
 use Rattle.run_law.specs.declared.note.NoteBody.{NoteBody}
 use Rattle.world_state.specs.Giving.{ArePutTo, IsPutOn}

@@ -2,7 +2,7 @@
 use Rattle.std.proofs.Common.{◌≡◌, ◌↔◌, ℕ, zero, suc, ◌+◌, ◌≤◌, ◌<◌, Bool, true, false, if◌then◌else◌, List, [], ◌∷◌, ◌++◌, length, map, take, get_or, Option, Some, None, slice_get, option_and_then, inl, inr, refl, sym, ap, subst, ◌∙◌, arith}
 use Rattle.std.specs.List.{filter_map}
 use Rattle.std.proofs.lemmas.List.Sorted.{IsPermutation-sym}
-use Rattle.std.proofs.lemmas.Option.{get_or_from_slice_get, slice_get-get_or, slice_get_within}
+use Rattle.std.proofs.lemmas.Option.{get_or_from_slice_get, same_Some, slice_get-get_or, slice_get_within}
 use Rattle.due_queue.proofs.Bags.{in_permuted}
 use Rattle.due_queue.specs.declared.Entry.{Entry}
 use Rattle.net_plan.specs.Places.{link_at}
@@ -15,9 +15,9 @@ use Rattle.run_law.specs.records.Order.{IsIn}
 use Rattle.net_plan.specs.Ranges.{IsInRange, IsLinkInRange}
 use Rattle.run_law.specs.control.Wires.{signal_of, time_on_port}
 use Rattle.std.specs.Prelude.{IfSome}
+use Rattle.tte_lemmas.proofs.Lists.{in_all}
 use Rattle.world_state.proofs.Apart.{ports_kept}
-use Rattle.made_frames.proofs.Made.{in_all}
-use Rattle.world_state.proofs.UnderWays.{some_is, sound_with}
+use Rattle.world_state.proofs.UnderWays.{sound_with}
 use Rattle.world_state.specs.Sound.{AreBelow, AreUnderWay, rank_of}
 use Rattle.world_state.specs.Views.{at_port, befell_as}
 use Rattle.world_state.specs.declared.contents.Content.TheVariants.{Wire}
@@ -110,7 +110,7 @@ module _ (network : Network) (range : IsInRange network) (ups : List WayState) (
       absurd (let bad : None ≡ Some e = sym (ap (λ (b : Bool). if b then None else Some (up_entry network time number link octets l w)) is) ∙ sent in cc)
   sent_is link octets l w false e found is sent =
       let same : up_entry network time number link octets l w ≡ e =
-      some_is _ _ (sym (ap (λ (b : Bool). if b then None else Some (up_entry network time number link octets l w)) is) ∙ sent) in
+      same_Some _ _ (sym (ap (λ (b : Bool). if b then None else Some (up_entry network time number link octets l w)) is) ∙ sent) in
       subst (IsSendOf network number) same
       (record {
         rank = refl;

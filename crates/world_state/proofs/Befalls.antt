@@ -3,8 +3,9 @@ use Rattle.std.proofs.Common.{◌≡◌, ◌≢◌, ℕ, ◌<◌, Bool, true, no
 use Rattle.std.specs.Prelude.{if◌then◌else◌}
 use Rattle.std.specs.List.{slice_get}
 use Rattle.std.proofs.lemmas.Bool.{cases_eq, ne_eqb}
-use Rattle.std.proofs.lemmas.List.{get_or-set_other, get_or-set_same, length-set}
+use Rattle.std.proofs.lemmas.List.{get_or-set_other, length-set}
 use Rattle.std.proofs.lemmas.Option.{get_or_from_slice_get, slice_get-get_or, slice_get_within}
+use Rattle.net_plan.proofs.SameIds.{same_device}
 use Rattle.net_plan.specs.declared.event.What.TheVariants.{On, Break}
 use Rattle.net_plan.specs.declared.event.What.{What}
 use Rattle.net_plan.specs.declared.ids.DeviceId.{DeviceId}
@@ -12,10 +13,8 @@ use Rattle.net_plan.specs.declared.network.Network.{Network}
 use Rattle.run_law.specs.machines.Answers.{node_turned_on}
 use Rattle.run_law.specs.machines.Nodes.{Node}
 use Rattle.sync_state.specs.declared.state.State.TheVariants.{Off}
+use Rattle.tte_lemmas.proofs.Lists.{set_same}
 use Rattle.world_law.specs.world.Outcomes.{befallen_node}
-
-pub set_here : {X : Type 0} (xs : List X) (i : ℕ) (x : X) → i < length xs → slice_get (set xs i x) i ≡ Some x
-set_here xs i x lt = slice_get-get_or (set xs i x) i x (omega (arith, lt, length-set xs i x)) ∙ ap Some (get_or-set_same xs i x x lt)
 
 pub set_there : {X : Type 0} (xs : List X) (i j : ℕ) (x y : X) → j ≢ i → slice_get xs j ≡ Some y → slice_get (set xs i x) j ≡ Some y
 set_there xs i j x y apart found =
@@ -33,9 +32,6 @@ break_other other turned device node apart =
     (record node { broken = true; standing = record node.standing { state = if turned then Off else node.standing.state } }) else node)
     (ne_eqb other.0 device.0 (λ e. apart (sym e)))
 
-same_device : (device other : DeviceId) → device.0 ≡ other.0 → device ≡ other
-same_device device other same = ap (λ (n : ℕ). let d : DeviceId = record { 0 = n } in d) same
-
 -- one of the machines is called, and the others stay
 pub one_befalls : {M : Type 0} (keeps : M → Network → DeviceId → Node → Type 0) (what : What) (at : DeviceId) (machines : List M) (after : M)
     → at.0 < length machines
@@ -48,7 +44,7 @@ one_befalls keeps what at machines after within others network device machine tu
     elim (cases_eq device.0 at.0) [
       | inl same ↦ (
         after,
-        subst (λ (n : ℕ). slice_get (set machines at.0 after) n ≡ Some after) (sym same) (set_here machines at.0 after within),
+        subst (λ (n : ℕ). slice_get (set machines at.0 after) n ≡ Some after) (sym same) (set_same machines at.0 after within),
         own
             (same_device device at same),
       )

@@ -5,11 +5,11 @@ pub mod Befalls
 pub mod Firsts
 pub mod Hearings
 pub mod Holdings
-pub mod LeastPoints
 pub mod Made
 pub mod Mapped
 pub mod Leading
 pub mod PutTo
-pub mod Ripes
 pub mod Swaps
 pub mod UnderWays
+pub mod Queues
+pub mod Emptied

@@ -1,21 +1,22 @@
 -- The frames that senders make, on the wire.
-use Rattle.std.proofs.Common.{◌≡◌, ℕ, ◌+◌, ◌-◌, ◌<◌, ◌^◌, ◌==◌, false, List, ◌++◌, length, Option, Some, None, ap, refl, replicate, sym, ◌∙◌, slice_get, drop, length-append, append_assoc, arith}
+use Rattle.std.proofs.Common.{◌≡◌, ℕ, ◌+◌, ◌-◌, ◌<◌, ◌^◌, ◌==◌, false, List, ◌++◌, length, Option, Some, None, ap, refl, replicate, sym, ◌∙◌, slice_get, length-append, append_assoc, arith}
 use Rattle.std.specs.Option.{option_map_or}
 use Rattle.std.specs.Prelude.{Bool, if◌then◌else◌}
-use Rattle.std.proofs.Math.Seq.{drop-append_seam}
 use Rattle.std.proofs.lemmas.Bool.{ne_eqb}
-use Rattle.byteorder.specs.Endian.{big_bytes, big_number}
-use Rattle.byteorder.specs.Numbers.{big_number-reads_back, length-bytes_high_first}
+use Rattle.byteorder.specs.Endian.{big_bytes}
+use Rattle.byteorder.specs.Numbers.{length-bytes_high_first}
 use Rattle.net_plan.specs.Ranges.{IsInRange, IsVlInRange}
 use Rattle.net_plan.specs.declared.ids.VlId.{VlId}
 use Rattle.net_plan.specs.declared.network.Network.{Network}
 use Rattle.net_plan.specs.declared.tables.VirtualLink.{VirtualLink}
-use Rattle.made_frames.proofs.Made.{in_all, made_is}
+use Rattle.made_frames.proofs.Made.{made_is}
+use Rattle.pcf_codec.proofs.Numbers.{read_behind}
 use Rattle.pcf_codec.specs.EtherType.{pcf_type}
 use Rattle.pcf_codec.specs.Decoding.{decoded}
 use Rattle.pcf_codec.specs.Fields.{field}
 use Rattle.run_law.specs.control.Wires.{control, signal_of, timed}
 use Rattle.run_law.specs.records.Frames.{mac_of, tt_frame, tt_frame_by}
+use Rattle.tte_lemmas.proofs.Lists.{in_all}
 use Rattle.world_state.specs.Views.{octets_of}
 use Rattle.world_state.specs.declared.contents.Timed.TheVariants.{Made}
 
@@ -25,12 +26,6 @@ pub made_octets : (network : Network) (vl : VlId) (cycle : ℕ) → vl.0 < lengt
 made_octets network vl cycle lt = made_is network vl cycle lt
 
 -- ---- its EtherType
-
-read_behind : (front rest : List ℕ) (at size x : ℕ) → length front ≡ at → x < 256 ^ size → field at size (front ++ (big_bytes size x ++ rest)) ≡ x
-read_behind front rest at size x is less =
-    ap (λ (n : ℕ). big_number size (drop n (front ++ (big_bytes size x ++ rest)))) (sym is)
-    ∙ ap (big_number size) (drop-append_seam front (big_bytes size x ++ rest))
-    ∙ big_number-reads_back size x rest less
 
 -- a frame shows the EtherType of its virtual link
 pub type_shown : (network : Network) (vl : VirtualLink) (cycle : ℕ) → vl.ethertype < 2 ^ 16 → field 12 2 (tt_frame_by network vl cycle) ≡ vl.ethertype

@@ -5,20 +5,17 @@ use Rattle.std.proofs.lemmas.List.Sorted.{IsPermutation-sym}
 use Rattle.std.specs.List.Sorted.{IsPermutation}
 use Rattle.due_queue.proofs.Bags.{in_permuted}
 use Rattle.due_queue.specs.declared.Entry.{Entry}
-use Rattle.net_plan.specs.declared.ids.LinkId.{LinkId}
 use Rattle.net_plan.specs.declared.network.Network.{Network}
 use Rattle.run_law.specs.control.Leaving.{Gives}
 use Rattle.run_law.specs.records.Order.{IsIn}
 use Rattle.run_law.specs.declared.note.NoteBody.{NoteBody}
 use Rattle.due_queue.specs.Places.{numbers_of}
+use Rattle.net_plan.proofs.SameIds.{link_is}
 use Rattle.world_state.specs.Giving.{ArePutTo, entry_at_port, place_at_port}
 use Rattle.world_state.specs.Sound.{AreBelow}
 use Rattle.world_state.specs.declared.contents.Content.{Content}
 use Rattle.world_state.specs.declared.contents.WayState.{WayState}
 use Rattle.world_state.specs.declared.giving.Giving.{Giving}
-
-same_link : (link : LinkId) (i : ℕ) → link.0 ≡ i → link ≡ record { 0 = i }
-same_link link i same = ap (λ (n : ℕ). let l : LinkId = record { 0 = n } in l) same
 
 module _ (network : Network) (ups downs : List WayState) (body : NoteBody) (giving : Giving) (i : ℕ) (old mid : List (Entry Content))
     (are : ArePutTo i network ups downs body giving old mid) where
@@ -43,7 +40,7 @@ module _ (network : Network) (ups downs : List WayState) (body : NoteBody) (givi
               | inl before ↦ in_permuted (entry ∷ mid) new _ same (inr (are.all link before gives))
               | inr here ↦
                   let own : link.0 ≡ i = omega (arith, lt, here) in
-                  in_permuted (entry ∷ mid) new _ same (inl (ap (entry_at_port network ups downs giving) (same_link link i own) ∙ sym is))
+                  in_permuted (entry ∷ mid) new _ same (inl (ap (entry_at_port network ups downs giving) (link_is link i own) ∙ sym is))
             ];
       }
 
@@ -61,7 +58,7 @@ module _ (network : Network) (ups downs : List WayState) (body : NoteBody) (givi
             elim (cases_lt link.0 i) [
               | inl before ↦ are.all link before gives
               | inr here ↦ let own : link.0 ≡ i = omega (arith, lt, here) in absurd
-                  (not_given (subst (Gives network body giving.device) (same_link link i own) gives))
+                  (not_given (subst (Gives network body giving.device) (link_is link i own) gives))
             ];
       }
 

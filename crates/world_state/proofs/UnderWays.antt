@@ -1,20 +1,23 @@
 -- What is under way without the first, and with one more.
-use Rattle.std.proofs.Common.{◌≡◌, ℕ, ◌<◌, Bool, true, false, length, subst, List, [], ◌∷◌, map, Some, None, inl, inr, refl, sym, ap, ◌∙◌}
+use Rattle.std.proofs.Common.{◌≡◌, ℕ, ◌<◌, false, length, subst, List, [], ◌∷◌, map, Some, None, inl, inr, refl, sym, ap, ◌∙◌}
 use Rattle.std.specs.Prelude.{◌↔◌}
 use Rattle.std.specs.List.{AllByRecursion, IsDistinct, filter_map}
 use Rattle.std.specs.List.Sorted.{IsPermutation}
 use Rattle.std.specs.Str.{bytes_eq}
-use Rattle.std.proofs.lemmas.Bool.{both_ways}
+use Rattle.std.proofs.lemmas.Bool.{false_from_ne_true}
 use Rattle.std.proofs.lemmas.Slice.Eq.{bytes_eq-Decides}
 use Rattle.std.proofs.lemmas.Cmp.{nat_list_eq_equiv}
 use Rattle.std.proofs.lemmas.List.Sorted.{IsPermutation-map, IsPermutation-sym}
 use Rattle.std.proofs.lemmas.Map.Keys.{IsDistinct-IsPermutation, IsDistinct-cons, IsDistinct-head, IsDistinct-tail}
-use Rattle.due_queue.proofs.Bags.{given_of, in_permuted, is_given}
+use Rattle.std.proofs.lemmas.Option.{same_Some}
+use Rattle.due_queue.proofs.Bags.{in_permuted}
 use Rattle.due_queue.specs.declared.Entry.{Entry}
 use Rattle.due_queue.specs.declared.Place.{Place}
 use Rattle.due_queue.specs.Places.{numbers_of}
 use Rattle.net_plan.specs.declared.network.Network.{Network}
+use Rattle.run_law.proofs.records.Order.{given_of, is_given}
 use Rattle.run_law.specs.records.Order.{IsIn}
+use Rattle.tte_lemmas.proofs.Lists.{differ}
 use Rattle.world_state.specs.Sound.{AreUnderWay, rank_of}
 use Rattle.world_state.specs.Views.{at_port, on_wire, port_at, wire_at}
 use Rattle.world_state.specs.declared.contents.Content.TheVariants.{Wire, Port}
@@ -25,30 +28,24 @@ use Rattle.world_law.specs.world.World.{AtPort, OnWire, port_place, wire_place}
 abbrev pub place_numbers : Entry Content → List ℕ
 place_numbers e = numbers_of e.place
 
-pub some_is : {X : Type 0} (x y : X) → Some x ≡ Some y → x ≡ y
-some_is x y e = cc
-
 -- the place of what is at a port
 pub port_numbers : (place : Place) (content : Content) (x : AtPort) → port_at place content ≡ Some x → place.rank ≡ rank_of content
     → port_place x ≡ numbers_of place
 port_numbers place (Wire signal) x is kind = absurd cc
 port_numbers place (Port frame given) x is kind =
-    ap port_place (sym (some_is _ _ is)) ∙ ap (λ (r : ℕ). place.at ∷ r ∷ place.device ∷ place.link ∷ place.cause ∷ []) (sym kind)
+    ap port_place (sym (same_Some _ _ is)) ∙ ap (λ (r : ℕ). place.at ∷ r ∷ place.device ∷ place.link ∷ place.cause ∷ []) (sym kind)
 
 -- and of what is on a wire
-wire_numbers : (network : Network) (place : Place) (content : Content) (x : OnWire) → wire_at network place content ≡ Some x
+pub wire_numbers : (network : Network) (place : Place) (content : Content) (x : OnWire) → wire_at network place content ≡ Some x
     → place.rank ≡ rank_of content → wire_place x ≡ numbers_of place
 wire_numbers network place (Port frame given) x is kind = absurd cc
 wire_numbers network place (Wire signal) x is kind =
-    ap wire_place (sym (some_is _ _ is)) ∙ ap (λ (r : ℕ). place.at ∷ r ∷ place.device ∷ place.link ∷ place.cause ∷ []) (sym kind)
-
-never_equal : (xs ys : List ℕ) → bytes_eq xs ys ≡ false → xs ≡ ys → ⊥
-never_equal xs ys apart same = both_ways (bytes_eq xs ys) apart (ap (bytes_eq xs) (sym same) ∙ nat_list_eq_equiv.refl xs)
+    ap wire_place (sym (same_Some _ _ is)) ∙ ap (λ (r : ℕ). place.at ∷ r ∷ place.device ∷ place.link ∷ place.cause ∷ []) (sym kind)
 
 all_numbers : (k : List ℕ) (es : List (Entry Content)) → AllByRecursion (λ y. bytes_eq k y ≡ false) (map place_numbers es) → (e : Entry Content) → IsIn e es
     → numbers_of e.place ≡ k → ⊥
 all_numbers k [] all e there same = absurd there
-all_numbers k (d ∷ es) all e (inl is) same = never_equal k (numbers_of d.place) all.0 (sym same ∙ ap place_numbers is)
+all_numbers k (d ∷ es) all e (inl is) same = differ k (numbers_of d.place) all.0 (sym same ∙ ap place_numbers is)
 all_numbers k (d ∷ es) all e (inr rest) same = all_numbers k es all.1 e rest same
 
 module _ (network : Network) (old new : List (Entry Content)) (taken : Entry Content) (are : AreUnderWay network old) (same : IsPermutation old (taken ∷ new))
@@ -83,7 +80,7 @@ module _ (network : Network) (old new : List (Entry Content)) (taken : Entry Con
       λ h.
           let of = given_of at_port old y h.0 in
           elim (in_permuted _ _ of.0 same of.1) [
-            | inl e ↦ absurd (h.1 (ap port_place (some_is _ _ (sym of.2 ∙ ap at_port e ∙ is))))
+            | inl e ↦ absurd (h.1 (ap port_place (same_Some _ _ (sym of.2 ∙ ap at_port e ∙ is))))
             | inr rest ↦ is_given at_port new of.0 y rest of.2
           ],
     )
@@ -114,7 +111,7 @@ module _ (network : Network) (old new : List (Entry Content)) (taken : Entry Con
       λ h.
           let of = given_of (on_wire network) old y h.0 in
           elim (in_permuted _ _ of.0 same of.1) [
-            | inl e ↦ absurd (h.1 (ap wire_place (some_is _ _ (sym of.2 ∙ ap (on_wire network) e ∙ is))))
+            | inl e ↦ absurd (h.1 (ap wire_place (same_Some _ _ (sym of.2 ∙ ap (on_wire network) e ∙ is))))
             | inr rest ↦ is_given (on_wire network) new of.0 y rest of.2
           ],
     )
@@ -133,12 +130,8 @@ module _ (network : Network) (old new : List (Entry Content)) (taken : Entry Con
 
 -- ---- with one more
 
-false_of : (b : Bool) → (b ≡ true → ⊥) → b ≡ false
-false_of true not_true = absurd (not_true refl)
-false_of false not_true = refl
-
 differs : (xs ys : List ℕ) → (xs ≡ ys → ⊥) → bytes_eq xs ys ≡ false
-differs xs ys apart = false_of (bytes_eq xs ys) (λ e. apart ((bytes_eq-Decides xs ys).0 e))
+differs xs ys apart = false_from_ne_true (bytes_eq xs ys) (λ e. apart ((bytes_eq-Decides xs ys).0 e))
 
 none_equal : (k : List ℕ) (es : List (Entry Content)) → ((e : Entry Content) → IsIn e es → numbers_of e.place ≡ k → ⊥)
     → AllByRecursion (λ y. bytes_eq k y ≡ false) (map place_numbers es)

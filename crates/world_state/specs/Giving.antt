@@ -127,11 +127,6 @@ awaited_by network broken (kinds.Arrived device link cause clock) frame reading 
     if not broken && waits_for network device link then option_map (waits_from network device link clock reading number) frame else None
 awaited_by network broken other frame reading number = None
 
--- with it, where there is one
-abbrev pub with_one : Option Waits → List Waits → List Waits
-with_one None waiting = waiting
-with_one (Some one) waiting = waiting ++ one ∷ []
-
 -- the device that gives the frame of a record to links, or waits for it
 abbrev pub giver_of : NoteBody → Option DeviceId
 giver_of (kinds.Sent device cycle) = Some device

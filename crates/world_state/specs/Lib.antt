@@ -3,6 +3,7 @@ pub mod Applying
 pub mod Befalling
 pub mod Beginning
 pub mod Bodies
+pub mod Frames
 pub mod Giving
 pub mod Happenings
 pub mod Hearing
@@ -10,6 +11,7 @@ pub mod Keeping
 pub mod Leaving
 pub mod Naming
 pub mod Places
+pub mod Reaching
 pub mod Ripening
 pub mod Sound
 pub mod Storing

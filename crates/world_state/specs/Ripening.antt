@@ -1,5 +1,5 @@
 -- The record of a frame that is permanent, and the first of those that wait.
-use Rattle.std.specs.Prelude.{◌≡◌, ℕ, ◌<◌, pos, ◌≤ℤ◌, List, [], ◌∷◌, Option, Some, None, slice_get}
+use Rattle.std.specs.Prelude.{◌≡◌, ℕ, ◌<◌, pos, ◌≤ℤ◌, List, [], ◌∷◌, Option, Some, None}
 use Rattle.net_plan.specs.declared.ids.DeviceId.{DeviceId}
 use Rattle.run_law.specs.declared.judgement.Judgement.TheVariants as judgements
 use Rattle.run_law.specs.declared.judgement.Judgement.{Judgement}
@@ -7,7 +7,6 @@ use Rattle.run_law.specs.declared.judgement.Why.TheVariants as whys
 use Rattle.run_law.specs.declared.note.NoteBody.TheVariants as kinds
 use Rattle.run_law.specs.declared.steps.Ripe.TheVariants as ripe
 use Rattle.run_law.specs.declared.steps.Ripe.{Ripe}
-use Rattle.run_law.specs.records.Order.{IsBefore}
 use Rattle.sync_state.specs.declared.state.State.TheVariants.{Joining}
 use Rattle.tte_units.specs.Amount.{amount}
 use Rattle.world_state.specs.Places.{IsPutAt, IsSomePut}
@@ -62,12 +61,3 @@ ripe_numbers w = w.device.0 ∷ amount w.point ∷ w.frame.members.0 ∷ w.link.
 pub record IsReached (device : DeviceId) (reading : ℕ) (w : Waits) : Type 0 where
   pub at : w.device.0 ≡ device.0
   pub reached : w.point.0 ≤ℤ pos reading
-
--- of the first frames, so many, it is the first that is reached; or none is
-abbrev pub IsFirstReached : List Waits → DeviceId → ℕ → ℕ → Option ℕ → Type 0
-IsFirstReached waiting device reading n None =
-    (k : ℕ) (v : Waits) → k < n → slice_get waiting k ≡ Some v → IsReached device reading v → ⊥
-IsFirstReached waiting device reading n (Some i) =
-    (i < n) × ((w : Waits) × (slice_get waiting i ≡ Some w) × IsReached device reading w
-    × ((k : ℕ) (v : Waits) → k < n → slice_get waiting k ≡ Some v → IsReached device reading v
-    → IsBefore (ripe_numbers v) (ripe_numbers w) → ⊥))

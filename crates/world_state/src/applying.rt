@@ -1,4 +1,4 @@
-ghost use Rattle.std.specs.Prelude.{◌≡◌, ◌*◌, ◌+◌, ◌<◌, ◌≤◌, ◌^◌, ◌||◌, Bool, pos, unsigned_abs, ◌≤ℤ◌, All, length, filter, not, slice_get, Some, ℕ, ◌≢◌, ◌++◌, map, IfSome, IfNone, OnOk, OnErr};
+ghost use Rattle.std.specs.Prelude.{◌≡◌, ◌*◌, ◌+◌, ◌<◌, ◌≤◌, ◌^◌, ◌||◌, Bool, pos, unsigned_abs, ◌≤ℤ◌, All, length, filter, not, slice_get, Some, ℕ, ◌≢◌, ◌++◌, map, IfSome, IfNone, OnOk, OnErr, ◌==◌, false};
 ghost use Rattle.std.specs.List.{list_any};
 ghost use Rattle.net_plan.specs.declared.ids.DeviceId.{DeviceId};
 ghost use Rattle.net_plan.specs.declared.ids.LinkId.{LinkId};
@@ -18,7 +18,8 @@ ghost use Rattle.world_state.specs.declared.kept.Kept.{Kept as KeptValue};
 ghost use Rattle.world_law.specs.world.Outcomes.{also_befell, befallen_node, ends_world};
 
 use crate::OutOfMemory;
-use crate::contents::{Befallen, Waits, WayState};
+use crate::contents::{Befallen, WayState};
+use crate::frames::Frames;
 use crate::kept::Kept;
 use crate::packets::{Happened, Happening, Packet};
 use drift_clock::Clock;
@@ -110,21 +111,31 @@ pub fn is_turned_on(befell: &[Befallen], device: DeviceId) -> bool
         .any(|befallen| does_turn_on(&befallen.what, device))
 }
 
-/// Does it still wait, after what befalls the network?
-fn still_waits(waits: &Waits, what: &What) -> bool
-    ensures { result ≡ not (breaks_at waits.now.device.0 what.now) }
+/// The device that the event breaks, if it breaks one.
+fn broken_by(what: &What) -> Option<DeviceId>
+    ensures some { IfSome result (λ d. (place : ℕ) → breaks_at place what.now ≡ (d.0 == place)) }
+    ensures none { IfNone result ((place : ℕ) → breaks_at place what.now ≡ false) }
 {
     match what {
-        What::Break(device) => device.0 != waits.device.0,
-        _ => true,
+        What::Break(device) => Some(*device),
+        What::Rate(_, _)
+        | What::On(_)
+        | What::Wire(_, _, _)
+        | What::Hold(_, _, _)
+        | What::Cut(_, _)
+        | What::Heal(_, _)
+        | What::Send(_, _)
+        | What::End => None,
     }
 }
 
 /// A broken device waits for nothing.
-pub fn drop_waiting(waiting: &mut Vec<Waits>, what: &What)
+pub fn drop_waiting(waiting: &mut Frames, what: &What)
     ensures { waiting.new.items ≡ filter (λ w. not (breaks_at w.device.0 what.now)) waiting.old.items }
 {
-    waiting.retain(|waits| still_waits(waits, what));
+    if let Some(device) = broken_by(what) {
+        waiting.drop_all(device);
+    }
 }
 
 /// What the event makes of what is kept of the devices. One that breaks is `on` where it was turned on at this instant.

@@ -3,13 +3,15 @@ ghost use Rattle.net_plan.specs.Ranges.{IsInRange};
 ghost use Rattle.tte_units.specs.Amount.{amount};
 ghost use Rattle.net_plan.specs.Rules.{IsChildOf};
 ghost use Rattle.world_state.specs.Sound.{AreBelow, AreUnderWay};
-ghost use Rattle.world_state.specs.Giving.{ArePutTo, CameBy, IsYoung, awaited_by, place_at_port, with_one};
+ghost use Rattle.world_state.specs.Giving.{ArePutTo, CameBy, IsYoung, awaited_by, place_at_port};
+ghost use Rattle.world_state.specs.Frames.{IsOneMore, room_of, waiter_of};
 ghost use Rattle.run_law.specs.control.Leaving.{Gives, Passes};
 ghost use Rattle.run_law.specs.scenario.Devices.{IsParentOf, is_relay};
 
 use crate::OutOfMemory;
 use crate::bodies::{Body, Kind};
-use crate::contents::{Content, Holding, Waits, WayState};
+use crate::contents::{Content, Holding, WayState};
+use crate::frames::Frames;
 use crate::waiting::{awaited, wait_for};
 use due_queue::{Place, UnderWay};
 use net_plan::{DeviceId, LinkId, Network, Role};
@@ -161,7 +163,7 @@ pub fn put_ports(
 /// Gives a frame to the links to which its device gives it, or has it wait, where there is one.
 pub fn give_frame(
     under_way: &mut UnderWay<Content>,
-    waiting: &mut Vec<Waits>,
+    waiting: &mut Frames,
     network: &Network,
     ups: &[WayState],
     downs: &[WayState],
@@ -176,7 +178,7 @@ pub fn give_frame(
     requires up_holds { All (λ w. w.hold < 2 ^ 62) ups.now }
     requires down_holds { All (λ w. w.hold < 2 ^ 62) downs.now }
     requires room { length network.now.link ≤ under_way.old.room }
-    requires capacity { vec_len waiting.old < vec_capacity waiting.old }
+    requires capacity { IfSome (waiter_of body.now) (λ d. 0 < room_of waiting.old d.0) }
     requires time { IfSome giving (λ g. g.time ≤ 2 ^ 60) }
     requires device { IfSome giving (λ g. g.device.0 < length network.now.device) }
     requires low { IfSome giving (λ g. g.reading ≤ 2 ^ 60 + 2 ^ 51) }
@@ -185,8 +187,8 @@ pub fn give_frame(
     ensures room { under_way.old.room ≤ under_way.new.room + length network.now.link }
     ensures put { IfSome giving (λ g. ArePutTo (length network.now.link) network.now ups.now downs.now body.now g
         under_way.old.entries under_way.new.entries) }
-    ensures waits { IfSome giving (λ g. waiting.new.items
-        ≡ with_one (awaited_by network.now g.broken body.now (Some g.frame) g.reading g.number) waiting.old.items) }
+    ensures waits { IfSome giving (λ g. IsOneMore (awaited_by network.now g.broken body.now (Some g.frame) g.reading g.number)
+        waiting.old.items waiting.new.items) }
     ensures none { IfNone giving (under_way.new.entries ≡ under_way.old.entries) }
     ensures no_wait { IfNone giving (waiting.new.items ≡ waiting.old.items) }
 {
@@ -207,20 +209,23 @@ pub fn give_frame(
 /// Takes room for what a record may launch, and a switch take by it.
 pub fn make_room(
     under_way: &mut UnderWay<Content>,
-    waiting: &mut Vec<Waits>,
+    waiting: &mut Frames,
     stored: &mut Vec<Holding>,
     network: &Network,
+    waiter: Option<DeviceId>,
 ) -> Result<(), OutOfMemory>
     requires few { length network.now.link < 2 ^ 32 }
     ensures entries { under_way.new.entries ≡ under_way.old.entries }
     ensures waiting { waiting.new.items ≡ waiting.old.items }
     ensures stored { stored.new.items ≡ stored.old.items }
     ensures room { OnOk result (length network.now.link < under_way.new.room) }
-    ensures capacity { OnOk result (vec_len waiting.new < vec_capacity waiting.new) }
+    ensures capacity { OnOk result (IfSome waiter (λ d. 0 < room_of waiting.new d.0)) }
     ensures free { OnOk result (vec_len stored.new < vec_capacity stored.new) }
 {
     under_way.reserve(network.link.as_slice().len() + 1)?;
-    waiting.reserve(1)?;
+    if let Some(device) = waiter {
+        waiting.reserve(device)?;
+    }
     stored.reserve(1)?;
     Ok(())
 }

@@ -6,6 +6,7 @@ pub mod befalling;
 pub mod bodies;
 pub mod contents;
 pub mod event_notes;
+pub mod frames;
 pub mod fresh;
 pub mod giving;
 pub mod hands;

@@ -1,11 +1,13 @@
-ghost use Rattle.std.specs.Prelude.{◌≡◌, ◌<◌, ◌≤◌, ◌^◌, ◌+◌, ◌++◌, ◌∷◌, [], length, vec_len, vec_capacity};
+ghost use Rattle.std.specs.Prelude.{◌≡◌, ◌<◌, ◌≤◌, ◌≤ℤ◌, ◌^◌, ◌+◌, pos, length, IfSome, Some};
 ghost use Rattle.net_plan.specs.Ranges.{IsInRange};
 ghost use Rattle.tte_units.specs.Amount.{amount};
 ghost use Rattle.run_law.specs.control.Permanence.{waits_for};
-ghost use Rattle.world_state.specs.Giving.{CameBy, IsYoung, awaited_by, giver_of, with_one};
+ghost use Rattle.world_state.specs.Giving.{CameBy, IsYoung, awaited_by, giver_of};
+ghost use Rattle.world_state.specs.Frames.{IsOneMore, room_of, waiter_of};
 
 use crate::bodies::{Body, Kind};
 use crate::contents::Waits;
+use crate::frames::Frames;
 use crate::giving::is_a_relay;
 use crate::leaving::is_parent;
 use net_plan::{DeviceId, LinkId, Network};
@@ -34,7 +36,9 @@ pub fn awaited(
     requires by { CameBy (length network.now.link) body.now }
     requires young { IsYoung (amount network.now.dmax) body.now }
     requires low { reading ≤ 2 ^ 60 + 2 ^ 51 }
-    ensures { result ≡ awaited_by network.now broken body.now frame reading number }
+    ensures is { result ≡ awaited_by network.now broken body.now frame reading number }
+    ensures begun { IfSome result (λ w. pos 0 ≤ℤ w.point.0) }
+    ensures own { IfSome result (λ w. waiter_of body.now ≡ Some w.device) }
 {
     let Kind::Arrived {
         device,
@@ -71,20 +75,23 @@ pub fn giver(body: &Body) -> Option<DeviceId>
     }
 }
 
-/// Puts behind the others, where there is room.
-fn push_reserved(waiting: &mut Vec<Waits>, one: Waits)
-    requires { vec_len waiting.old < vec_capacity waiting.old }
-    ensures { waiting.new.items ≡ waiting.old.items ++ one ∷ [] }
+/// The device at which the frame of a record may wait.
+pub fn waiter(body: &Body) -> Option<DeviceId>
+    ensures { result ≡ waiter_of body.now }
 {
-    let _ = waiting.push(one);
+    match &body.kind {
+        Kind::Arrived { device, .. } => Some(*device),
+        _ => None,
+    }
 }
 
 /// It waits, where there is one.
-pub fn wait_for(waiting: &mut Vec<Waits>, one: Option<Waits>)
-    requires { vec_len waiting.old < vec_capacity waiting.old }
-    ensures { waiting.new.items ≡ with_one one waiting.old.items }
+pub fn wait_for(waiting: &mut Frames, one: Option<Waits>)
+    requires room { IfSome one (λ w. 0 < room_of waiting.old w.device.0) }
+    requires begun { IfSome one (λ w. pos 0 ≤ℤ w.point.0) }
+    ensures { IsOneMore one waiting.old.items waiting.new.items }
 {
     if let Some(one) = one {
-        push_reserved(waiting, one);
+        waiting.put(one);
     }
 }

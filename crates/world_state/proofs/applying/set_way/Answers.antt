@@ -2,7 +2,8 @@ use Rattle.std.proofs.Common.{◌≡◌, ℕ, Some, ap, arith, inl, inr, length,
 use Rattle.std.specs.List.{slice_get}
 use Rattle.std.proofs.lemmas.Bool.{cases_eq}
 use Rattle.std.proofs.lemmas.Option.{get_or_from_slice_get}
-use Rattle.world_state.proofs.Befalls.{set_here, set_there}
+use Rattle.tte_lemmas.proofs.Lists.{set_same}
+use Rattle.world_state.proofs.Befalls.{set_there}
 use Rattle.world_state.specs.Applying.{way_after}
 use Rattle.world_state.specs.declared.contents.WayState.{WayState}
 use Rattle.world_state.proofs.applying.set_way.Goals as goal
@@ -22,7 +23,7 @@ returns-in-Some-clause-each c = λ link was found.
           let own = c.index-was.ensures ∙ get_or_from_slice_get items l was c.index-was.result.now
           (subst (λ (n : ℕ). slice_get items n ≡ Some was) same found) in
           subst (λ (n : ℕ). slice_get (set items l c.way_after.result) n ≡ Some (way_after (record { 0 = n }) c.args.way c.args.what.now was)) (sym same)
-          (set_here items l c.way_after.result (c.in-Some.ensures.there (length items) c.requires)
+          (set_same items l c.way_after.result (c.in-Some.ensures.there (length items) c.requires)
           ∙ ap Some (c.way_after.ensures ∙ ap (λ (w : WayState). way_after (record { 0 = l }) c.args.way c.args.what.now w) own))
       | inr apart ↦ set_there items l link.0 c.way_after.result was apart found ∙ ap Some (sym (c.in-Some.ensures.others link c.args.way was apart))
     ]

@@ -12,7 +12,8 @@ use Rattle.tte_units.specs.Amount.{amount}
 use Rattle.drift_world.proofs.Applies.{any_mapped, waits_more, ways_more}
 use Rattle.drift_world.proofs.Beginnings.{found}
 use Rattle.drift_world.proofs.Elsewhere.{clock_elsewhere, waits_elsewhere}
-use Rattle.drift_world.proofs.Fitting.{AreApart, apart_kept, below_more, ways_short}
+use Rattle.drift_world.proofs.Fitting.{apart_kept, below_more, ways_short}
+use Rattle.drift_world.specs.Sound.{AreApart}
 use Rattle.drift_world.proofs.TurnedOn.{turned_on_is}
 use Rattle.world_state.specs.Keeping.{keeps}
 use Rattle.run_law.specs.records.Order.{IsIn}

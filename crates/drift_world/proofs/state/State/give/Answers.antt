@@ -1,5 +1,5 @@
-use Rattle.std.proofs.Common.{◌≡◌, ◌+◌, ◌++◌, ◌∷◌, [], ℕ, List, length, map, ap, refl, subst, sym, ◌∙◌}
-use Rattle.std.specs.Prelude.{All, option_to_list}
+use Rattle.std.proofs.Common.{◌≡◌, ◌<◌, ◌+◌, ◌++◌, ◌∷◌, [], ℕ, List, length, map, ap, refl, subst, sym, ◌∙◌}
+use Rattle.std.specs.Prelude.{All, IfSome, Option, option_to_list}
 use Rattle.std.proofs.lemmas.List.Elements.{All-head, All-tail}
 use Rattle.run_law.specs.declared.note.Note.{Note}
 use Rattle.run_law.specs.records.Happenings.{happenings}
@@ -9,6 +9,8 @@ use Rattle.tte_units.specs.Amount.{units_of}
 use Rattle.drift_world.proofs.Gave.{changes_since, popped_world, sound_same, unchanged}
 use Rattle.drift_world.proofs.MayGive.{low_now, may_be_given}
 use Rattle.world_state.specs.Giving.{HasItsOctets, changed_device}
+use Rattle.net_plan.specs.declared.ids.DeviceId.{DeviceId}
+use Rattle.world_state.specs.Frames.{room_of}
 use Rattle.world_state.specs.Keeping.{keeps}
 use Rattle.drift_world.specs.Stepping.{ChangesOnly}
 use Rattle.drift_world.specs.Views.{world_of}
@@ -50,6 +52,13 @@ give_first-requires-clause-may g c =
     (subst (All (λ (z : Settled). HasItsOctets z.body z.octets)) whole c.requires.sound.fit.octets) in
     may_be_given g.C.Clock.reading (keeps g.M.Machine.stands) run.s (world_of network w) run.notes network w.time c.unwrap-first.result _ run.is run.is.same
     (ap (map (settled_at network w.time)) whole) has
+
+pub give_first-requires-clause-capacity : goal.give_first-requires-clause-capacity
+give_first-requires-clause-capacity g c =
+    let whole : c.args.self.now.settled.items ≡ c.unwrap-first.result ∷ c.pop_front.new.self.items =
+    c.pop_front.ensures.items ∙ ap (λ o. option_to_list o ++ c.pop_front.new.self.items) c.unwrap-first.ensures in
+    subst (λ (o : Option DeviceId). IfSome o (λ d. 0 < room_of c.make_room.new.waiting d.0))
+    (c.first_waiter-device.ensures c.unwrap-first.result c.pop_front.new.self.items whole) c.in_default.ensures.capacity
 
 pub give_first-requires-clause-low : goal.give_first-requires-clause-low
 give_first-requires-clause-low g c =

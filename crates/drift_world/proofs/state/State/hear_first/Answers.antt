@@ -4,13 +4,13 @@ use Rattle.std.proofs.lemmas.List.Sorted.{length_permutation}
 use Rattle.std.proofs.lemmas.Option.{slice_get_read}
 use Rattle.net_plan.specs.declared.ids.DeviceId.{DeviceId}
 use Rattle.net_plan.specs.declared.network.Network.{Network}
+use Rattle.tte_lemmas.proofs.Lists.{set_aside, set_same}
 use Rattle.world_state.specs.Keeping.{keeps}
 use Rattle.world_state.specs.Places.{IsPutAt}
 use Rattle.world_state.specs.declared.contents.Settled.{Settled}
 use Rattle.world_law.proofs.giving.Given.{some_same}
-use Rattle.world_state.proofs.Befalls.{set_here}
 use Rattle.drift_world.proofs.Fits.{all_put, below_without, have_octets}
-use Rattle.drift_world.proofs.Hears.{as_sent, heard_octets, heard_stands, may_come, moment_is, set_aside}
+use Rattle.drift_world.proofs.Hears.{as_sent, heard_octets, heard_stands, may_come, moment_is}
 use Rattle.world_state.proofs.UnderWays.{sound_without}
 use Rattle.drift_world.proofs.state.State.hear_first.Goals as goal
 
@@ -117,7 +117,7 @@ returns-clause-stands g c = λ s notes old first.
     heard.new.kept heard.ensures.0 heard.result (set w.machines.items device.0 heard.new.kept) c.put_in.new.settled.items put.0
     c.requires.sound.under_way first heard.ensures.1 heard.ensures.2
     (record {
-      there = set_here w.machines.items device.0 heard.new.kept (omega (arith, machines, within, kept));
+      there = set_same w.machines.items device.0 heard.new.kept (omega (arith, machines, within, kept));
       same = λ i apart. set_aside w.machines.items device.0 i heard.new.kept apart;
     })
     (subst (λ (z : Settled). IsPutAt z w.settled.items c.put_in.new.settled.items put.0) c.arrived.ensures put.1)

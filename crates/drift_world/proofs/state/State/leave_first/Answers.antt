@@ -1,7 +1,7 @@
 use Rattle.std.proofs.Common.{◌≡◌, ◌+◌, ◌∷◌, [], ℕ, List, Option, false, ap, arith, inl, map, refl, subst, sym}
 use Rattle.std.specs.List.{filter_map}
 use Rattle.std.proofs.lemmas.List.Sorted.{IsPermutation-sym, length_permutation}
-use Rattle.due_queue.proofs.Bags.{in_permuted, is_given}
+use Rattle.due_queue.proofs.Bags.{in_permuted}
 use Rattle.due_queue.specs.declared.Entry.{Entry}
 use Rattle.due_queue.specs.Places.{numbers_of}
 use Rattle.run_law.specs.records.Happenings.{happenings}
@@ -17,6 +17,7 @@ use Rattle.world_state.proofs.UnderWays.{ports_without, sound_without, wires_sta
 use Rattle.world_state.specs.Leaving.{port_entry}
 use Rattle.world_state.specs.Places.{IsSomePut}
 use Rattle.drift_world.specs.Views.{world_of}
+use Rattle.run_law.proofs.records.Order.{is_given}
 use Rattle.world_state.specs.Views.{at_port, on_wire, settled_at}
 use Rattle.world_state.specs.declared.contents.Content.TheVariants.{Port}
 use Rattle.world_state.specs.declared.contents.Content.{Content}

@@ -4,9 +4,9 @@ use Rattle.std.proofs.lemmas.List.Elements.{All-set}
 use Rattle.std.proofs.lemmas.Option.{slice_get_read}
 use Rattle.net_plan.specs.declared.ids.DeviceId.{DeviceId}
 use Rattle.net_plan.specs.declared.network.Network.{Network}
-use Rattle.drift_world.proofs.Timings.{IsLow, acts_timed, not_past, ripe_timed, set_other, set_same}
+use Rattle.tte_lemmas.proofs.Lists.{set_aside, set_same}
+use Rattle.drift_world.proofs.Timings.{IsLow, acts_timed, not_past, ripe_timed}
 use Rattle.world_state.specs.Timing.{IsLeastPoint, IsTimeFor}
-use Rattle.world_state.specs.declared.contents.Waits.{Waits}
 use Rattle.world_law.proofs.giving.Given.{some_same}
 use Rattle.drift_world.proofs.state.State.rekey.Given.{Over}
 use Rattle.drift_world.proofs.state.State.rekey.Goals as goal
@@ -44,8 +44,7 @@ returns-clause-timed g c =
     (slice_get_read w.clocks.items w.clocks.len c.args.device c.index-3.result.now w.clocks.ok.0 (omega (arith, clocks, there, held)) c.index-3.ensures) in
     let low : IsLow K.reading clock w.time = λ u from most.
     let least = (old.steady device).low u most in let reads = own.2 u from in omega (arith, least, reads) in
-    let point : IsLeastPoint w.waiting.items c.args.device c.least_point-point.result =
-    subst (λ (l : List Waits). IsLeastPoint l c.args.device c.least_point-point.result) c.as_slice.ensures.value c.least_point-point.ensures in
+    let point : IsLeastPoint w.waiting.items c.args.device c.least_point-point.result = c.least_point-point.ensures in
     record {
       clock = clock;
       of_clock = own.1;
@@ -54,7 +53,7 @@ returns-clause-timed g c =
           c.index-2.ensures;
       ripe = c.time_for-ripe.result;
       of_ripe = ap (λ (l : List ℕ). slice_get l c.args.device) (timers_are g c)
-          ∙ set_other _ (length network.device + c.args.device) c.args.device c.time_for-act.result (λ e. omega (arith, e, there))
+          ∙ set_aside _ (length network.device + c.args.device) c.args.device c.time_for-act.result (λ e. omega (arith, e, there))
           ∙ set_same w.timers c.args.device c.time_for-ripe.result (omega (arith, slots, there));
       ripens = ripe_timed K.reading clock w.waiting.items c.args.device w.time c.least_point-point.result c.time_for-ripe.result low point
           (subst (λ k. IsTimeFor K.reading k w.time c.least_point-point.result c.time_for-ripe.result) (sym same) c.time_for-ripe.ensures);
@@ -70,8 +69,8 @@ returns-clause-timed g c =
 pub returns-clause-others : goal.returns-clause-others
 returns-clause-others g c = λ slot ne apart.
     ap (λ (l : List ℕ). slice_get l slot) (timers_are g c)
-    ∙ set_other _ (length c.args.network.now.device + c.args.device) slot c.time_for-act.result apart
-    ∙ set_other c.args.self.now.timers c.args.device slot c.time_for-ripe.result ne
+    ∙ set_aside _ (length c.args.network.now.device + c.args.device) slot c.time_for-act.result apart
+    ∙ set_aside c.args.self.now.timers c.args.device slot c.time_for-ripe.result ne
 
 pub returns-clause-later : goal.returns-clause-later
 returns-clause-later g c = λ all.

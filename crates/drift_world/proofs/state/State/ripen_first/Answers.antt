@@ -1,9 +1,10 @@
 use Rattle.std.proofs.Common.{◌+◌, false, length, length-set, arith, ap, refl, subst, ◌∙◌}
 use Rattle.std.specs.Vec.{with_item}
+use Rattle.std.proofs.lemmas.List.Sorted.{length_permutation}
 use Rattle.std.proofs.lemmas.Option.{slice_get_read}
 use Rattle.run_law.specs.declared.steps.Moment.{Moment}
 use Rattle.drift_world.proofs.Ripenings.{StandsAfter, asked, below_taken, device_in, low, moment_by, moment_is, octets_fit, others_wait, ripened, still_apart}
-use Rattle.world_state.proofs.Swaps.{at_in, is_set, taken}
+use Rattle.world_state.proofs.Swaps.{is_set, was_there}
 use Rattle.world_state.specs.Keeping.{keeps}
 use Rattle.world_state.specs.declared.contents.Waits.{Waits}
 use Rattle.drift_world.specs.declared.state.State.{State}
@@ -14,20 +15,22 @@ use Rattle.drift_world.proofs.state.State.ripen_first.Goals as goal
 pub reading_of-reading-requires-clause-there : goal.reading_of-reading-requires-clause-there
 reading_of-reading-requires-clause-there g c =
     let w = c.args.self.now in
-    let one = c.swap_remove-waits.result in
-    let is = slice_get_read w.waiting.items (length w.waiting.items) c.args.index one refl c.requires.there c.swap_remove-waits.ensures.value in
+    let one = c.take_first-waits.result in
+    let is = c.take_first-waits.ensures.is in
+    let inside = was_there one w.waiting.items c.take_first-waits.new.self.items c.take_first-waits.ensures.items in
     let at = c.requires.comes one is in
-    device_in g.C.Clock.reading g.M.Machine.stands c.args.network.now w one (at_in w.waiting.items c.args.index one is)
+    device_in g.C.Clock.reading g.M.Machine.stands c.args.network.now w one inside
     (λ clock own. c.requires.reached one clock is own) at.s at.notes at.is
 
 pub from_amount-requires-2 : goal.from_amount-requires-2
 from_amount-requires-2 g c =
     let w = c.args.self.now in
-    let one = c.swap_remove-waits.result in
-    let is = slice_get_read w.waiting.items (length w.waiting.items) c.args.index one refl c.requires.there c.swap_remove-waits.ensures.value in
+    let one = c.take_first-waits.result in
+    let is = c.take_first-waits.ensures.is in
+    let inside = was_there one w.waiting.items c.take_first-waits.new.self.items c.take_first-waits.ensures.items in
     let at = c.requires.comes one is in
     let own = c.reading_of-reading.ensures in
-    let most = low g.C.Clock.reading g.M.Machine.stands c.args.network.now w one (at_in w.waiting.items c.args.index one is)
+    let most = low g.C.Clock.reading g.M.Machine.stands c.args.network.now w one inside
     (λ clock own. c.requires.reached one clock is own) at.s at.notes at.is own.0 own.1 in
     let same = own.2 in
     omega (arith, most, same)
@@ -35,10 +38,11 @@ from_amount-requires-2 g c =
 pub index_mut-requires : goal.index_mut-requires
 index_mut-requires g c =
     let w = c.args.self.now in
-    let one = c.swap_remove-waits.result in
-    let is = slice_get_read w.waiting.items (length w.waiting.items) c.args.index one refl c.requires.there c.swap_remove-waits.ensures.value in
+    let one = c.take_first-waits.result in
+    let is = c.take_first-waits.ensures.is in
+    let inside = was_there one w.waiting.items c.take_first-waits.new.self.items c.take_first-waits.ensures.items in
     let at = c.requires.comes one is in
-    let lt = device_in g.C.Clock.reading g.M.Machine.stands c.args.network.now w one (at_in w.waiting.items c.args.index one is)
+    let lt = device_in g.C.Clock.reading g.M.Machine.stands c.args.network.now w one inside
     (λ clock own. c.requires.reached one clock is own) at.s at.notes at.is in
     let many = c.requires.sound.sized.machines in
     let len = w.machines.ok.0 in
@@ -47,10 +51,10 @@ index_mut-requires g c =
 pub ripen-ripe-requires : goal.ripen-ripe-requires
 ripen-ripe-requires g c =
     let w = c.args.self.now in
-    let one = c.swap_remove-waits.result in
-    let is = slice_get_read w.waiting.items (length w.waiting.items) c.args.index one refl c.requires.there c.swap_remove-waits.ensures.value in
+    let one = c.take_first-waits.result in
+    let is = c.take_first-waits.ensures.is in
+    let inside = was_there one w.waiting.items c.take_first-waits.new.self.items c.take_first-waits.ensures.items in
     let at = c.requires.comes one is in
-    let inside = at_in w.waiting.items c.args.index one is in
     let K = g.C.Clock in
     let stands = g.M.Machine.stands in
     let network = c.args.network.now in
@@ -66,11 +70,11 @@ ripen-ripe-requires g c =
 pub returns-clause-sound : goal.returns-clause-sound
 returns-clause-sound g c =
     let w = c.args.self.now in
-    let one = c.swap_remove-waits.result in
+    let one = c.take_first-waits.result in
     let z = c.requires.sound.sized in
     let fit = c.requires.sound.fit in
-    let swap = c.swap_remove-waits.ensures in
-    let t = taken w.waiting c.swap_remove-waits.new.self c.args.index one c.requires.there swap.value swap.items swap.len swap.by_index in
+    let is = c.take_first-waits.ensures.is in
+    let t = c.take_first-waits.ensures.items in
     record {
       sized = record {
         clocks = z.clocks;
@@ -88,61 +92,66 @@ returns-clause-sound g c =
         downs = fit.downs;
         octets = octets_fit one c.ripen-ripe.result w.settled.items c.settle_ripe.new.settled.items c.settle_ripe.ensures fit.octets;
         below = fit.below;
-        waits_below = below_taken (w.given + 1) c.args.index one w.waiting.items c.swap_remove-waits.new.self.items t fit.waits_below;
-        apart = still_apart c.args.index one w.waiting.items c.swap_remove-waits.new.self.items t fit.apart;
+        waits_below = below_taken (w.given + 1) one w.waiting.items c.take_first-waits.new.self.items t fit.waits_below;
+        apart = still_apart one w.waiting.items c.take_first-waits.new.self.items t fit.apart;
       };
     }
 
 pub returns-clause-stands : goal.returns-clause-stands
 returns-clause-stands g c = λ v at.
     let w = c.args.self.now in
-    let one = c.swap_remove-waits.result in
+    let one = c.take_first-waits.result in
     let K = g.C.Clock in
     let M = g.M.Machine in
     let network = c.args.network.now in
-    let swap = c.swap_remove-waits.ensures in
-    let t = taken w.waiting c.swap_remove-waits.new.self c.args.index one c.requires.there swap.value swap.items swap.len swap.by_index in
-    let inside = at_in w.waiting.items c.args.index one t.is in
-    let came = c.requires.comes one t.is in
-    let lt = device_in K.reading M.stands network w one inside (λ clock own. c.requires.reached one clock t.is own) came.s came.notes came.is in
+    let is = c.take_first-waits.ensures.is in
+    let t = c.take_first-waits.ensures.items in
+    let inside = was_there one w.waiting.items c.take_first-waits.new.self.items t in
+    let came = c.requires.comes one is in
+    let lt = device_in K.reading M.stands network w one inside (λ clock own. c.requires.reached one clock is own) came.s came.notes came.is in
     let many = c.requires.sound.sized.machines in
     let own = c.reading_of-reading.ensures in
     let moment = moment_by c.from_amount.result c.from_amount-2.result in
     let after : State _ _ = record w {
       machines = with_item w.machines one.device.0 c.ripen-ripe.new.self;
-      waiting = c.swap_remove-waits.new.self;
+      waiting = c.take_first-waits.new.self;
       early = false;
       settled = c.settle_ripe.new.settled;
     } in
-    subst (StandsAfter K.reading M.stands network w after) (some_same one v _ t.is at) (λ s notes old first.
-    ripened K.reading M.stands network w c.args.index one c.swap_remove-waits.new.self.items c.index_mut.result.now c.ripen-ripe.new.self
-    c.ripen-ripe.result c.settle_ripe.new.settled.items t c.requires.sound.fit.apart (λ clock own. c.requires.reached one clock t.is own) (omega (arith, lt, many))
+    subst (StandsAfter K.reading M.stands network w after) (some_same one v _ is at) (λ s notes old first.
+    ripened K.reading M.stands network w one c.take_first-waits.new.self.items c.index_mut.result.now c.ripen-ripe.new.self
+    c.ripen-ripe.result c.settle_ripe.new.settled.items t c.requires.sound.fit.apart (λ clock own. c.requires.reached one clock is own) (omega (arith, lt, many))
     (slice_get_read w.machines.items (length w.machines.items) one.device.0 c.index_mut.result.now refl (omega (arith, lt, many)) c.index_mut.ensures.value)
     c.settle_ripe.ensures s notes old first
     (subst (λ (m : Moment). HasRipened (keeps M.stands) s.network one.device m one.link one.frame one.point c.ripen-ripe.result c.index_mut.result.now
     c.ripen-ripe.new.self)
-    (moment_is K.reading M.stands network w one inside (λ clock own. c.requires.reached one clock t.is own) s notes old own.0 own.1 c.reading_of-reading.result own.2 c.from_amount.result
+    (moment_is K.reading M.stands network w one inside (λ clock own. c.requires.reached one clock is own) s notes old own.0 own.1 c.reading_of-reading.result own.2 c.from_amount.result
     c.from_amount-2.result c.from_amount.ensures.value c.from_amount-2.ensures.value)
     (λ node. c.ripen-ripe.ensures s.network one.device node)))
 
 pub returns-clause-others : goal.returns-clause-others
 returns-clause-others g c = λ v at.
     let w = c.args.self.now in
-    let one = c.swap_remove-waits.result in
+    let one = c.take_first-waits.result in
     let network = c.args.network.now in
-    let swap = c.swap_remove-waits.ensures in
-    let t = taken w.waiting c.swap_remove-waits.new.self c.args.index one c.requires.there swap.value swap.items swap.len swap.by_index in
-    let inside = at_in w.waiting.items c.args.index one t.is in
-    let came = c.requires.comes one t.is in
-    let lt = device_in g.C.Clock.reading g.M.Machine.stands network w one inside (λ clock own. c.requires.reached one clock t.is own) came.s came.notes came.is in
+    let is = c.take_first-waits.ensures.is in
+    let t = c.take_first-waits.ensures.items in
+    let inside = was_there one w.waiting.items c.take_first-waits.new.self.items t in
+    let came = c.requires.comes one is in
+    let lt = device_in g.C.Clock.reading g.M.Machine.stands network w one inside (λ clock own. c.requires.reached one clock is own) came.s came.notes came.is in
     let many = c.requires.sound.sized.machines in
-    let same = some_same one v _ t.is at in
+    let same = some_same one v _ is at in
     let set = is_set w.machines.items one.device.0 c.ripen-ripe.new.self (omega (arith, lt, many)) in
     record {
       clocks = refl;
       time = refl;
       ended = refl;
       machines = λ i ne. set.same i (λ e. ne (e ∙ ap (λ (x : Waits). x.device.0) same));
-      waiting = λ x ne. others_wait c.args.index one w.waiting.items c.swap_remove-waits.new.self.items t x
+      waiting = λ x ne. others_wait one w.waiting.items c.take_first-waits.new.self.items t x
           (λ e. ne (e ∙ ap (λ (y : Waits). y.device.0) same));
     }
+
+pub returns-clause-shorter : goal.returns-clause-shorter
+returns-clause-shorter g c =
+    let len = length_permutation _ _ c.take_first-waits.ensures.items in
+    omega (arith, len)

@@ -9,13 +9,14 @@ use Rattle.tte_units.specs.Amount.{amount, units_of}
 use Rattle.tte_units.specs.declared.units.Units.{Units}
 use Rattle.world_state.specs.Keeping.{keeps}
 use Rattle.drift_world.specs.Views.{world_of}
+use Rattle.run_law.proofs.runs.Determined.{same_units}
 use Rattle.world_state.specs.Views.{settled_at}
 use Rattle.world_state.specs.declared.contents.Settled.{Settled}
 use Rattle.world_law.proofs.giving.Given.{some_same}
 use Rattle.world_steps.proofs.steps.ClockSteps.{clock_step}
 use Rattle.drift_world.proofs.Fits.{all_put, have_octets}
 use Rattle.drift_world.proofs.HiddenCauses.{settled_in_order}
-use Rattle.drift_world.proofs.Puts.{one_put_in, same_units}
+use Rattle.drift_world.proofs.Puts.{one_put_in}
 use Rattle.drift_world.proofs.state.State.show_clock.Goals as goal
 
 pub returns-clause-sound : goal.returns-clause-sound

@@ -2,6 +2,7 @@ use Rattle.std.proofs.Common.{◌≡◌, ℕ, ◌-◌, ◌≤◌, ◌∷◌, [],
 use Rattle.std.specs.Prelude.{IfNone}
 use Rattle.due_timers.specs.declared.Due.{Due}
 use Rattle.net_plan.specs.declared.ids.DeviceId.{DeviceId}
+use Rattle.world_state.specs.declared.contents.Waits.{Waits}
 use Rattle.drift_world.proofs.Sources.{due_acts, due_ripe, slot_high}
 use Rattle.drift_world.specs.Turns.{IsActive}
 use Rattle.drift_world.proofs.state.State.source_of_slot.Given.{Over}
@@ -19,7 +20,7 @@ high g c =
           let low = w.if-slot-devices.true in
           let ripe = due_ripe g.C.Clock.reading g.M.Machine.stands c.args.network.now c.args.self.now due c.requires.well.timed c.requires.due
           (omega (arith, low, len)) (omega (arith, limit)) in
-          let none = subst (λ (o : Option ℕ). IfNone o _) w.in_default.is w.ripe_index.ensures.none in
+          let none = subst (λ (o : Option Waits). IfNone o _) w.in_default.is w.ripe_frame.ensures.none in
           absurd (none ripe.2.0 ripe.0 ripe.2.1 (ap (λ (n : ℕ). let d : DeviceId = record { 0 = n } in d) ripe.2.2) ripe.1 ripe.2.3)
       | else-slot-devices w ↦ let test = w.if-slot-devices.false in omega (arith, test, len)
     ]

@@ -1,13 +1,13 @@
 use Rattle.std.proofs.Common.{ℕ, ◌<◌, ◌≤◌, ◌^◌, ◌∙◌, length, inl, inr, sym, ap, subst, arith}
 use Rattle.std.proofs.lemmas.Int.{ints}
 use Rattle.run_law.specs.records.Happenings.{happenings}
-use Rattle.schedule_tables.proofs.EntryLemmas.{all_at}
 use Rattle.tte_units.specs.Amount.{amount}
 use Rattle.drift_world.proofs.LocalValues.{complete_reads, local_value, now_reads}
 use Rattle.drift_world.proofs.Locals.{clock_stepped, local_is}
 use Rattle.drift_world.proofs.LocalsBefore.{local_is_before}
 use Rattle.drift_world.specs.Locals.{IsComplete, IsLocalClockBefore}
 use Rattle.drift_world.specs.Running.{StandsUnder, reading_of}
+use Rattle.tte_lemmas.proofs.Lists.{in_all}
 use Rattle.world_state.specs.Keeping.{keeps}
 use Rattle.world_state.specs.declared.kept.Kept.{Kept}
 use Rattle.world_law.proofs.giving.Given.{some_same}
@@ -34,7 +34,7 @@ local_of-requires-clause-stepped g c = λ clock found.
           let le : K.last_step clock ≤ amount c.args.t = subst (λ k. K.last_step k ≤ amount c.args.t) (sym same) least in
           omega (arith, ints, le, begun)
       | inr now ↦
-          let least = all_at (λ k. K.last_step k ≤ state.time) state.clocks.items device.0 clock c.self.invariant.sound.sized.stepped found in
+          let least = in_all (λ k. K.last_step k ≤ state.time) state.clocks.items device.0 clock c.self.invariant.sound.sized.stepped found in
           let at = now.0 ∙ sym (ap (λ (w : World _ (Kept _)). w.now) c.self.view_is) in
           omega (arith, ints, least, at, begun)
     ]

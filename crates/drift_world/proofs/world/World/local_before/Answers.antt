@@ -1,11 +1,11 @@
 use Rattle.std.proofs.Common.{ℕ, ◌<◌, ◌≤◌, ◌∙◌, length, sym, ap, subst, arith}
 use Rattle.std.proofs.lemmas.Int.{ints}
 use Rattle.run_law.specs.records.Happenings.{happenings}
-use Rattle.schedule_tables.proofs.EntryLemmas.{all_at}
 use Rattle.tte_units.specs.Amount.{amount}
 use Rattle.drift_world.proofs.LocalsBefore.{local_is_before}
 use Rattle.drift_world.specs.Locals.{IsLocalClockBefore}
 use Rattle.drift_world.specs.Running.{reading_of}
+use Rattle.tte_lemmas.proofs.Lists.{in_all}
 use Rattle.world_state.specs.Keeping.{keeps}
 use Rattle.world_state.specs.declared.kept.Kept.{Kept}
 use Rattle.world_law.specs.source.Agreeing.{scenario}
@@ -16,7 +16,7 @@ pub local_of-requires-clause-stepped : goal.local_of-requires-clause-stepped
 local_of-requires-clause-stepped g c = λ clock found.
     let K = g.C.Clock in
     let state = c.self.inside.state in
-    let least = all_at (λ k. K.last_step k ≤ state.time) state.clocks.items c.args.device.0 clock c.self.invariant.sound.sized.stepped found in
+    let least = in_all (λ k. K.last_step k ≤ state.time) state.clocks.items c.args.device.0 clock c.self.invariant.sound.sized.stepped found in
     let is = c.from_amount-now.ensures.whole in
     omega (arith, ints, least, is)
 

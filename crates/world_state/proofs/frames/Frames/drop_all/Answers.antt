@@ -1,0 +1,42 @@
+use Rattle.std.proofs.Common.{◌≡◌, ◌+◌, ◌<◌, ℕ, List, filter, length, slice_get, Some, inr, refl, sym, ap, subst, ◌∙◌, arith}
+use Rattle.std.proofs.lemmas.Option.{slice_get_read}
+use Rattle.due_queue.specs.declared.Entry.{Entry}
+use Rattle.run_law.specs.records.Order.{IsIn}
+use Rattle.world_state.proofs.Emptied.{emptied, from_zero, keeps_it, kept_beyond}
+use Rattle.world_state.proofs.Queues.{set_queued}
+use Rattle.world_state.specs.Frames.{Waiting, frames_in}
+use Rattle.world_state.specs.declared.contents.Waits.{Waits}
+use Rattle.world_state.proofs.frames.Frames.drop_all.Goals as goal
+
+pub invariant_of-self : goal.invariant_of-self
+invariant_of-self c =
+    let b = c.self.inside in
+    let test = c.if-index-len.true in
+    let len = c.len.ensures in
+    let ok = b.queues.ok.0 in
+    let at = slice_get_read b.queues.items (length b.queues.items) c.args.device.0 c.index_mut.result.now refl (omega (arith, test, len, ok)) c.index_mut.ensures.value in
+    set_queued b.queues.items c.args.device.0 c.index_mut.result.now c.new.result c.self.invariant at
+    (λ e there. absurd (subst (λ (l : List (Entry Waits)). IsIn e l) c.new.ensures there))
+
+pub returns-then-index-len : goal.returns-then-index-len
+returns-then-index-len c =
+    let b = c.self.inside in
+    let k = c.args.device.0 in
+    let test = c.if-index-len.true in
+    let len = c.len.ensures in
+    let ok = b.queues.ok.0 in
+    let at = slice_get_read b.queues.items (length b.queues.items) k c.index_mut.result.now refl (omega (arith, test, len, ok)) c.index_mut.ensures.value in
+    let zero : 0 + k ≡ k = omega arith in
+    emptied 0 k b.queues.items c.index_mut.result.now c.new.result (from_zero b.queues.items c.self.invariant) at c.new.ensures
+    ∙ ap (λ (n : ℕ). filter (keeps_it n) (frames_in b.queues.items)) zero
+    ∙ ap (λ (w : Waiting). filter (keeps_it k) w.items) c.self.view_is
+
+pub returns-else-index-len : goal.returns-else-index-len
+returns-else-index-len c =
+    let b = c.self.inside in
+    let k = c.args.device.0 in
+    let test = c.if-index-len.false in
+    let len = c.len.ensures in
+    let ok = b.queues.ok.0 in
+    subst (λ (w : Waiting). w.items ≡ filter (keeps_it k) w.items) c.self.view_is
+    (sym (kept_beyond 0 k b.queues.items (from_zero b.queues.items c.self.invariant) (inr (omega (arith, test, len, ok)))))

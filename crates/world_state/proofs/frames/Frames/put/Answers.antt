@@ -1,0 +1,39 @@
+use Rattle.std.proofs.Common.{◌≡◌, ◌<◌, List, ◌∷◌, length, slice_get, slice_set, inl, inr, refl, sym, ap, subst, ◌∙◌}
+use Rattle.std.specs.List.Sorted.{IsPermutation}
+use Rattle.std.proofs.lemmas.List.Sorted.{IsPermutation-map, IsPermutation-sym}
+use Rattle.std.proofs.lemmas.Option.{slice_get_read}
+use Rattle.due_queue.specs.declared.Entry.{Entry}
+use Rattle.due_queue.proofs.Bags.{in_permuted}
+use Rattle.world_state.proofs.Queues.{content_of, has_room, one_more_in, set_queued}
+use Rattle.world_state.specs.Frames.{IsQueued, Waiting, frames_in, room_of}
+use Rattle.world_state.specs.declared.contents.Waits.{Waits}
+use Rattle.world_state.proofs.frames.Frames.put.Goals as goal
+
+pub invariant_of-self : goal.invariant_of-self
+invariant_of-self c =
+    let qs = c.self.inside.queues.items in
+    let one = c.args.one in
+    let d = one.device.0 in
+    let was = c.index_mut.result.now in
+    let is = c.put.new.self in
+    let put : Entry Waits = record { place = c.place_of.result; content = one } in
+    let lt = has_room qs d (slice_get qs d) refl (subst (λ (w : Waiting). 0 < room_of w d) (sym c.self.view_is) c.requires.room) in
+    let at = slice_get_read qs (length qs) d was refl lt c.index_mut.ensures.value in
+    set_queued qs d was is c.self.invariant at (λ e there.
+    elim (in_permuted is.entries (put ∷ was.entries) e (IsPermutation-sym _ _ c.put.ensures.entries) there) [
+      | inl own ↦ subst (IsQueued d) (sym own) (record { own = refl; place = c.place_of.ensures; begun = c.requires.begun })
+      | inr old ↦ c.self.invariant d was e at old
+    ])
+
+pub returns : goal.returns
+returns c =
+    let qs = c.self.inside.queues.items in
+    let one = c.args.one in
+    let d = one.device.0 in
+    let was = c.index_mut.result.now in
+    let is = c.put.new.self in
+    let put : Entry Waits = record { place = c.place_of.result; content = one } in
+    let lt = has_room qs d (slice_get qs d) refl (subst (λ (w : Waiting). 0 < room_of w d) (sym c.self.view_is) c.requires.room) in
+    let at = slice_get_read qs (length qs) d was refl lt c.index_mut.ensures.value in
+    subst (λ (w : Waiting). IsPermutation (one ∷ w.items) (frames_in (slice_set qs d is))) c.self.view_is
+    (one_more_in qs d was is one at (IsPermutation-map content_of (put ∷ was.entries) is.entries c.put.ensures.entries))

@@ -1,0 +1,24 @@
+use Rattle.std.proofs.Common.{◌≡◌, Option, None, subst, sym, ap, ◌∙◌}
+use Rattle.std.specs.Option.{option_copied}
+use Rattle.std.specs.Prelude.{MatchOption}
+use Rattle.std.proofs.lemmas.Bool.{both_ways}
+use Rattle.world_state.proofs.Queues.{none_reached}
+use Rattle.world_state.specs.Frames.{IsFirstAt, NoneAt, first_of}
+use Rattle.world_state.specs.declared.contents.Waits.{Waits}
+use Rattle.world_state.proofs.reached.first_reached.Goals as goal
+
+pub returns-else-is_reached : goal.returns-else-is_reached
+returns-else-is_reached c =
+    let items = c.args.waiting.now.items in
+    let d = c.args.device in
+    none_reached items d c.args.reading c.in-Some.first.now
+    (subst (λ (o : Option Waits). MatchOption o (NoneAt items d.0) (IsFirstAt items d.0)) (sym c.in-Some.ensures.is) c.in-Some.ensures.first)
+    (λ at. both_ways _ c.if-is_reached.false (c.is_reached.ensures.1 at))
+
+pub returns-in_default : goal.returns-in_default
+returns-in_default c =
+    let items = c.args.waiting.now.items in
+    let d = c.args.device in
+    let is : first_of c.args.waiting.now d.0 ≡ None = sym c.first.ensures.is ∙ ap option_copied c.in_default.is in
+    let none = subst (λ (o : Option Waits). MatchOption o (NoneAt items d.0) (IsFirstAt items d.0)) is c.first.ensures.first in
+    λ v there at. none v there at.at
