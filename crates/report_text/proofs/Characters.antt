@@ -14,6 +14,7 @@ use Rattle.std.proofs.lemmas.List.Sums.{AllPass-from_list_all}
 use Rattle.hex.specs.Hex.{IsBytes, is_hex_digit, decode_of, encode_lower}
 use Rattle.hex.proofs.HexLemmas.{decode_of-ok, decode_of-same, decode_of-encode_lower}
 use Rattle.net_plan.specs.NameText.{is_name_character, IsNameText}
+use Rattle.tte_lemmas.proofs.Naturals.{byte_at_small}
 
 -- the character is above ASCII's space
 abbrev pub is_visible : ℕ → Bool
@@ -54,11 +55,6 @@ pub hex_visible : (octets : List ℕ) → IsBytes octets → IsVisible (encode_l
 hex_visible octets bytes =
     let text = encode_lower octets in
     All-weaker (λ c. is_hex_digit c ≡ true) (λ c. is_visible c ≡ true) hex_character text (decode_of-ok text octets (decode_of-encode_lower octets bytes)).1
-
--- what a number's bytes are: each is below 256
-byte_at_small : (k n : ℕ) → byte_at k n < 256
-byte_at_small zero n = omega arith
-byte_at_small (suc k) n = omega arith
 
 IsBytes-cons : (b : ℕ) (rest : List ℕ) → b < 256 → IsBytes rest → IsBytes (b ∷ rest)
 IsBytes-cons b rest h hs zero = h

@@ -10,7 +10,8 @@ use Rattle.trace_text.specs.Steps.{Words, words}
 use Rattle.report_text.specs.NoteLine.{passage_words, stream_words, body_words, body_text}
 use Rattle.net_plan.specs.Belonging.{HasVl}
 use Rattle.report_text.specs.Ranges.{HasPassage, IsCount, IsShortCount, IsBodyOf, IsBodyInRange}
-use Rattle.report_text.proofs.SameWords.{IsNamedApart, word_at, differ, same_count, same_short, same_units, same_members, same_device, same_link, same_vl, same_state, same_judgement, same_why, same_reason, same_what}
+use Rattle.tte_lemmas.proofs.Lists.{differ}
+use Rattle.report_text.proofs.SameWords.{IsNamedApart, word_at, same_count, same_short, same_units, same_members, same_device, same_link, same_vl, same_state, same_judgement, same_why, same_reason, same_what}
 use Rattle.report_text.proofs.Texts.{words_of_line}
 use Rattle.report_text.proofs.Visible.{body_visible}
 

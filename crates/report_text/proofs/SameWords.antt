@@ -1,6 +1,6 @@
 -- Words of one spelling are one.
-use Rattle.std.proofs.Common.{◌≡◌, ◌≢◌, ℕ, zero, suc, ◌<◌, ◌^◌, true, false, List, [], ◌∷◌, ◌++◌, Some, Ok, Err, refl, sym, ap, ◌∙◌, arith}
-use Rattle.std.specs.Prelude.{Result, codes, decimal, bytes_eq, get_or, length, slice_get}
+use Rattle.std.proofs.Common.{◌≡◌, ◌≢◌, ℕ, ◌<◌, ◌^◌, List, [], ◌∷◌, ◌++◌, Some, Ok, Err, refl, sym, ap, ◌∙◌, arith}
+use Rattle.std.specs.Prelude.{Result, codes, decimal, get_or, length, slice_get}
 use Rattle.std.specs.Fmt.{signed_decimal}
 use Rattle.std.specs.Int.{w32, to_be_bytes, from_be_bytes}
 use Rattle.std.specs.List.{join_with_byte}
@@ -8,7 +8,6 @@ use Rattle.std.specs.Option.{option_map_or}
 use Rattle.std.proofs.lemmas.Fmt.{decimal_injective, signed_decimal_injective}
 use Rattle.std.proofs.lemmas.Int.{ints}
 use Rattle.std.proofs.lemmas.Nat.{from_be_bytes-to_be_bytes_4}
-use Rattle.std.proofs.lemmas.Slice.Eq.{bytes_eq-Decides}
 use Rattle.net_plan.specs.Ranges.{IsInRange}
 use Rattle.net_plan.specs.Rules.{DeviceIsNew, LinkIsNew}
 use Rattle.net_plan.specs.declared.event.Event.{Event}
@@ -39,6 +38,7 @@ use Rattle.tte_units.specs.declared.units.Units.{Units}
 use Rattle.hex.specs.Hex.{encode_lower}
 use Rattle.report_text.specs.NoteWords.{members_text, state_text, judgement_text, why_text, reason_words}
 use Rattle.report_text.specs.Ranges.{IsCount, IsShortCount, IsSignedUnits, IsReasonInRange}
+use Rattle.tte_lemmas.proofs.Lists.{differ, some_at}
 use Rattle.report_text.proofs.Characters.{octet_is_byte, word_is_bytes, same_octets}
 use Rattle.report_text.proofs.Visible.{units_mag}
 
@@ -52,12 +52,6 @@ pub record IsNamedApart (network : Network) : Type 0 where
 -- the word at a place of a line
 abbrev pub word_at : ℕ → Words → List ℕ
 word_at i ws = get_or ws i []
-
--- texts that a test tells apart differ
-pub differ : (text other : List ℕ) → bytes_eq text other ≡ false → text ≡ other → ⊥
-differ text other apart same =
-    let equal : bytes_eq text other ≡ true = (bytes_eq-Decides text other).1 same in
-    absurd (cc)
 
 -- ---- numbers
 
@@ -85,11 +79,6 @@ same_octet octet other h g same =
 abbrev AreNew : {X : Type 0} → (X → List ℕ) → List X → Type 0
 AreNew {X} name xs = (i k : ℕ) (earlier thing : X) → k < i → slice_get xs k ≡ Some earlier → slice_get xs i ≡ Some thing → name thing ≢ name earlier
 
-thing_at : {X : Type 0} (xs : List X) (i : ℕ) → i < length xs → (x : X) × (slice_get xs i ≡ Some x)
-thing_at [] i h = absurd (omega arith)
-thing_at (x ∷ xs) zero h = (x, refl)
-thing_at (x ∷ xs) (suc i) h = thing_at xs i (omega arith)
-
 name_at : {X : Type 0} (name : X → List ℕ) (xs : List X) (i : ℕ) (x : X) → slice_get xs i ≡ Some x → option_map_or name (slice_get xs i) [] ≡ name x
 name_at name xs i x h = ap (λ o. option_map_or name o []) h
 
@@ -97,8 +86,8 @@ name_at name xs i x h = ap (λ o. option_map_or name o []) h
 same_place : {X : Type 0} (name : X → List ℕ) (xs : List X) (i j : ℕ) → AreNew name xs → i < length xs → j < length xs
     → option_map_or name (slice_get xs i) [] ≡ option_map_or name (slice_get xs j) [] → i ≡ j
 same_place name xs i j new h g same =
-    let at = thing_at xs i h in
-    let other = thing_at xs j g in
+    let at = some_at xs i h in
+    let other = some_at xs j g in
     let names : name at.0 ≡ name other.0 = sym (name_at name xs i at.0 at.1) ∙ same ∙ name_at name xs j other.0 other.1 in
     let not_before : i < j → ⊥ = λ before. new j i at.0 other.0 before at.1 other.1 (sym names) in
     let not_behind : j < i → ⊥ = λ behind. new i j other.0 at.0 behind other.1 at.1 names in

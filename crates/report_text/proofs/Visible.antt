@@ -1,7 +1,7 @@
 -- The words of records are visible.
-use Rattle.std.proofs.Common.{◌≡◌, ℕ, zero, suc, ◌<◌, ◌^◌, true, List, [], ◌∷◌, length, Some, refl, arith}
+use Rattle.std.proofs.Common.{◌≡◌, ℕ, ◌<◌, ◌^◌, true, List, [], ◌∷◌, length, refl, arith}
 use Rattle.std.proofs.lemmas.Int.{ints}
-use Rattle.std.specs.Prelude.{codes, decimal, ℤ, pos, negsuc, neg_ℤ, ◌≤ℤ◌, slice_get}
+use Rattle.std.specs.Prelude.{codes, decimal, ℤ, pos, negsuc, neg_ℤ, ◌≤ℤ◌}
 use Rattle.std.specs.Fmt.{signed_decimal}
 use Rattle.std.specs.Int.Signed.{mag}
 use Rattle.std.specs.List.{list_all}
@@ -34,30 +34,26 @@ use Rattle.report_text.proofs.Characters.{is_visible, IsVisible, visible_from_te
 use Rattle.report_text.specs.NoteLine.{body_words}
 use Rattle.report_text.specs.NoteWords.{state_text, judgement_text, why_text, reason_words}
 use Rattle.report_text.specs.Ranges.{HasPassage, HasStream, IsCount, IsShortCount, IsSignedUnits, IsReasonInRange, IsBodyOf, IsBodyInRange}
+use Rattle.tte_lemmas.proofs.Lists.{some_at}
 use Rattle.tte_units.specs.declared.rates.Ppb.{Ppb}
 use Rattle.tte_units.specs.declared.units.Units.{Units}
 use Rattle.report_text.proofs.Texts.{AreVisible, AreOfLine}
 
 -- ---- names and numbers
 
-thing_at : {X : Type 0} (xs : List X) (i : ℕ) → i < length xs → (x : X) × (slice_get xs i ≡ Some x)
-thing_at [] i h = absurd (omega arith)
-thing_at (x ∷ xs) zero h = (x, refl)
-thing_at (x ∷ xs) (suc i) h = thing_at xs i (omega arith)
-
 device_visible : (network : Network) (d : DeviceId) → IsInRange network → HasDevice network d → IsVisible (device_name network d)
 device_visible network d h of_network =
-    let at = thing_at network.device d.0 of_network in
+    let at = some_at network.device d.0 of_network in
     rw at.1 (name_visible at.0.name (in_list IsDeviceInRange network.device d.0 at.0 at.1 h.devices).name)
 
 link_visible : (network : Network) (l : LinkId) → IsInRange network → HasLink network l → IsVisible (link_name network l)
 link_visible network l h of_network =
-    let at = thing_at network.link l.0 of_network in
+    let at = some_at network.link l.0 of_network in
     rw at.1 (name_visible at.0.name (in_list (IsLinkInRange network) network.link l.0 at.0 at.1 h.links).name)
 
 vl_visible : (network : Network) (vl : VlId) → IsInRange network → HasVl network vl → IsVisible (vl_name network vl)
 vl_visible network vl h of_network =
-    let at = thing_at network.vl vl.0 of_network in
+    let at = some_at network.vl vl.0 of_network in
     rw at.1 (name_visible at.0.name (in_list (IsVlInRange network) network.vl vl.0 at.0 at.1 h.vls).name)
 
 way_visible : (way : Way) → IsVisible (way_text way)
@@ -69,7 +65,7 @@ number_visible : (z : ℤ) → neg_ℤ (pos (2 ^ 60)) ≤ℤ z → z ≤ℤ pos 
 number_visible (pos n) least most = signed_visible (pos n) (omega (arith, ints, most))
 number_visible (negsuc n) least most = signed_visible (negsuc n) (omega (arith, ints, least))
 
-time_visible : (time : Units) → IsTime time → IsVisible (signed_decimal time.0)
+pub time_visible : (time : Units) → IsTime time → IsVisible (signed_decimal time.0)
 time_visible time h = number_visible time.0 (omega (arith, ints, h.least)) (omega (arith, ints, h.most))
 
 rate_visible : (r : Ppb) → IsRate r → IsVisible (signed_decimal r.0)
@@ -138,7 +134,7 @@ reason_visible (reasons.RefusedKind octet) h =
 
 -- ---- the words of events
 
-what_visible : (network : Network) (what : What) → IsInRange network → IsOfNetwork network what → IsWhatInRange what → AreVisible (what_words network what)
+pub what_visible : (network : Network) (what : What) → IsInRange network → IsOfNetwork network what → IsWhatInRange what → AreVisible (what_words network what)
 what_visible network (events.Rate d r) n of_network h = (visible_from_test (codes "rate") refl, (device_visible network d n of_network, (rate_visible r h, tt)))
 what_visible network (events.Wire l w u) n of_network h =
     (visible_from_test (codes "wire") refl, (link_visible network l n of_network, (way_visible w, (time_visible u h, tt))))

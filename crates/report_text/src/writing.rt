@@ -1,4 +1,4 @@
-ghost use Rattle.std.specs.Prelude.{◌≡◌, ◌≤◌, OnOk, OnErr};
+ghost use Rattle.std.specs.Prelude.{◌≡◌, ◌≤◌, MatchResult, OnOk, OnErr};
 ghost use Rattle.std.specs.Io.KnownBytes.{Appends};
 ghost use Rattle.net_plan.specs.Ranges.{IsInRange};
 ghost use Rattle.report_text.specs.NoteLine.{note_line};
@@ -33,7 +33,7 @@ pub fn make_note_line(line: &mut LineText, network: &Network, note: &Note)
 /// next one.
 ///
 /// The network is in its ranges, and the record's devices, links and virtual links are its own.
-pub fn write<K: Sink>(
+pub fn write_in<K: Sink>(
     line: &mut LineText,
     network: &Network,
     note: &Note,
@@ -52,4 +52,24 @@ pub fn write<K: Sink>(
 {
     make_note_line(line, network, note);
     out.put(line.as_slice())
+}
+
+/// Puts a record's line, ended by LF, in one put.
+///
+/// The network is in its ranges, and the record's devices, links and virtual links are its own.
+pub fn write<K: Sink>(network: &Network, note: &Note, out: &mut K) -> Result<(), SinkFailed>
+    requires in_range { IsInRange network.now }
+    requires of_network { IsNoteOf network.now note.now }
+
+    ensures puts { MatchResult result
+        (λ _. Appends (K.written out.old) (K.written out.new) (note_line network.now note.now))
+        (λ _. AppendsFront (K.written out.old) (K.written out.new) (note_line network.now note.now)) }
+    ensures counted { K.puts out.new ≡ next_count (K.puts out.old) }
+
+    ensures never_falls { K.faults out.old ≤ K.faults out.new }
+    ensures faults { MatchResult result (λ _. K.faults out.new ≡ K.faults out.old)
+        (λ _. Rose (K.faults out.old) (K.faults out.new)) }
+{
+    let mut line = LineText::new();
+    write_in(&mut line, network, note, out)
 }

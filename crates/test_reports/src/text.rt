@@ -7,7 +7,7 @@ mod network;
 use net_plan::{Network, Way, What};
 use network::{C1, C1_A, C1_B, CA, CB, M1, M1_A, M1_B, M3, M4, M4_A, RA, RA_CA, V1, V2, half};
 use pcf_values::Members;
-use report_text::write;
+use report_text::{write, write_in};
 use run_law::{Judgement, Note, NoteBody, Reason, Why};
 use std::alloc::Global;
 use std::test::Fail;
@@ -33,7 +33,7 @@ fn shows(
         body,
     };
     let mut sink = MemorySink::new(alloc, 4096, &[2])?;
-    let written = write(&mut LineText::new(), network, &note, &mut sink);
+    let written = write(network, &note, &mut sink);
     Ok(written.is_ok() && sink.written() == line.as_bytes())
 }
 
@@ -586,8 +586,8 @@ fn a_failed_put_is_told(rt: HostRuntime) -> Result<(), Fail> {
     let line = b"1 0 lost m1 m1_b 18446744073709551615\n".as_slice();
     let mut sink = MemorySink::new(rt.alloc(), 4096, &[2])?;
     let mut text = LineText::new();
-    assert!(rt; write(&mut text, &network, &lost, &mut sink) == Ok(()));
-    assert!(rt; write(&mut text, &network, &lost, &mut sink) == Err(SinkFailed));
+    assert!(rt; write_in(&mut text, &network, &lost, &mut sink) == Ok(()));
+    assert!(rt; write_in(&mut text, &network, &lost, &mut sink) == Err(SinkFailed));
     assert!(rt; sink.written() == line);
     Ok(())
 }

@@ -3,7 +3,7 @@ use Rattle.std.proofs.lemmas.Bool.Decides.{nat_tests}
 use Rattle.std.proofs.Common.{◌≡◌, ◌≢◌, ℕ, zero, suc, ◌+◌, ◌<◌, Bool, true, false, List, [], ◌∷◌, length, map, Option, Some, None, refl, sym, ap, ◌∙◌, arith, subst}
 use Rattle.std.specs.Prelude.{bytes_eq, is_some, IfSome, IfNone}
 use Rattle.std.specs.List.{All, position_from}
-use Rattle.std.specs.Option.{unwrap_or, option_map}
+use Rattle.std.specs.Option.{option_map}
 use Rattle.std.specs.Str.{IsUtf8}
 use Rattle.std.specs.Cmp.Lexicographic.{bytes_decides}
 use Rattle.std.proofs.lemmas.Bool.{false≢true}
@@ -16,6 +16,7 @@ use Rattle.net_plan.proofs.Bearing.{behind}
 use Rattle.net_plan.specs.Bearers.{IsFirstBearer, HasNoBearer}
 use Rattle.net_plan.specs.NameText.{is_name_character, IsNameText}
 use Rattle.trace_text.specs.Names.{first_place}
+use Rattle.tte_lemmas.proofs.Lists.{same_name}
 
 other_case : (text name : List ℕ) (b : Bool) → bytes_eq text name ≡ b → name ≢ text → b ≡ false
 other_case text name true e other = absurd (other (sym ((bytes_decides text name).0 e)))
@@ -23,9 +24,6 @@ other_case text name false e other = refl
 
 other : (text name : List ℕ) → name ≢ text → bytes_eq text name ≡ false
 other text name h = other_case text name (bytes_eq text name) refl h
-
-same_name : (name text : List ℕ) → Some name ≡ Some text → name ≡ text
-same_name name text e = ap (λ (o : Option (List ℕ)). unwrap_or o text) e
 
 found_from : (s : ℕ) (names : List (List ℕ)) (text : List ℕ) (i : ℕ) → IsFirstBearer names text i → position_from (bytes_eq text) s names ≡ Some (s + i)
 found_from s [] text i h = absurd (false≢true (ap is_some h.bears))

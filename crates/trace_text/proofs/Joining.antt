@@ -5,7 +5,7 @@ use Rattle.std.specs.Prelude.{All, not, ⊤, decimal, ◌^◌}
 use Rattle.std.specs.Char.{digit_value}
 use Rattle.std.specs.List.{join_with_byte, list_all}
 use Rattle.std.specs.Str.Parse.{AllDigits}
-use Rattle.std.proofs.lemmas.Bool.{and_parts}
+use Rattle.std.proofs.lemmas.Bool.{and_parts, not-true}
 use Rattle.std.proofs.lemmas.Fmt.{decimal_is_IsNumeral}
 use Rattle.std.proofs.lemmas.List.Elements.{All-cons, All-nil, All-weaker}
 use Rattle.std.proofs.lemmas.List.Splits.{slice_split_at, slice_split_none}
@@ -35,13 +35,9 @@ words_joined w (v ∷ vs) h hs =
 abbrev pub no_space : List ℕ → Bool
 no_space text = list_all (λ c. not (is_space c)) text
 
-not_true : (b : Bool) → not b ≡ true → b ≡ false
-not_true true h = absurd (cc h)
-not_true false h = refl
-
 pub word_from_test : (text : List ℕ) → no_space text ≡ true → IsWord text
 word_from_test text h =
-    All-weaker (λ c. not (is_space c) ≡ true) (λ c. is_space c ≡ false) (λ c q. not_true (is_space c) q) text
+    All-weaker (λ c. not (is_space c) ≡ true) (λ c. is_space c ≡ false) (λ c q. not-true (is_space c) q) text
     (AllPass-from_list_all (λ c. not (is_space c)) text h)
 
 pub event_word_is_word : (word : EventWord) → IsWord (event_word_text word)
@@ -79,7 +75,7 @@ decimal_is_word n h = digits_are_word (decimal n) ((decimal_is_IsNumeral n h).0)
 -- at each place of such a table, and beyond it
 table_character : (t : List ℕ) (i : ℕ) → no_space t ≡ true → is_space (slice_index t i) ≡ false
 table_character [] i h = refl
-table_character (c ∷ cs) zero h = not_true (is_space c) (and_parts (not (is_space c)) (no_space cs) h).0
+table_character (c ∷ cs) zero h = not-true (is_space c) (and_parts (not (is_space c)) (no_space cs) h).0
 table_character (c ∷ cs) (suc i) h = table_character cs i (and_parts (not (is_space c)) (no_space cs) h).1
 
 encoded_is_word : (t octets : List ℕ) → no_space t ≡ true → IsWord (encode_with t octets)

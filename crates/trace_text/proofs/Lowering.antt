@@ -1,7 +1,7 @@
 -- What words that are read spell, in lower case.
 use Rattle.std.proofs.lemmas.Bool.Decides.{nat_tests}
 use Rattle.std.proofs.Common.{◌≡◌, ◌⊎◌, inl, inr, ℕ, zero, suc, ◌+◌, ◌*◌, ◌/◌, ◌%◌, ◌<◌, ◌≤◌, ◌^◌, Bool, true, false, cond, List, [], ◌∷◌, map, slice_index, Option, Some, None, Ok, Err, refl, sym, ap, subst, ◌∙◌, arith}
-use Rattle.std.specs.Prelude.{Result, pos, ◌==◌, ◌&&◌, nat_le, bytes_eq, decimal, find, slice_get, All}
+use Rattle.std.specs.Prelude.{Result, pos, ◌==◌, ◌&&◌, nat_le, bytes_eq, decimal, slice_get, All}
 use Rattle.std.specs.Char.{to_ascii_lowercase, digit_value, digit_char}
 use Rattle.std.specs.Cmp.Lexicographic.{bytes_decides}
 use Rattle.std.specs.Fmt.{signed_decimal}
@@ -38,6 +38,8 @@ use Rattle.trace_text.specs.declared.event_word.EventWord.{EventWord}
 use Rattle.trace_text.specs.declared.event_word.EventWord.TheVariants.{Rate, Wire, Hold, Cut, Heal, On, Break, Send, End}
 use Rattle.trace_text.specs.declared.refusal.LineRefusal.{LineRefusal}
 use Rattle.trace_text.specs.declared.refusal.LineRefusal.TheVariants.{Form, Name, Number}
+use Rattle.tte_lemmas.proofs.Lists.{found_passes}
+use Rattle.tte_lemmas.proofs.Options.{mapped}
 use Rattle.tte_units.specs.Amount.{units_of}
 use Rattle.tte_units.specs.declared.rates.Ppb.{Ppb}
 use Rattle.tte_units.specs.declared.units.Units.{Units}
@@ -101,10 +103,6 @@ word_forth meaning printed spells (w ∷ rest) x left e =
 meant : {A : Type 0} (o : Option A) (fault : LineRefusal) (x : A) → ok_or o fault ≡ Ok x → o ≡ Some x
 meant (Some y) fault x e = cc e
 meant None fault x e = absurd (cc e)
-
-mapped : {A B : Type 0} (f : A → B) (o : Option A) (y : B) → option_map f o ≡ Some y → (x : A) × (o ≡ Some x) × (f x ≡ y)
-mapped f (Some x) y e = (x, refl, cc e)
-mapped f None y e = absurd (cc e)
 
 -- numbers
 
@@ -217,18 +215,6 @@ link_forth network n ws l left e =
     (λ text x q. link_spells network n text x (meant (link_spelled network text) Name x q)) ws l left e
 
 -- the words of ways and events
-
-found_case : {X : Type 0} (p : X → Bool) (x y : X) (rest : Option X) (b : Bool) → p x ≡ b → cond b (Some x) rest ≡ Some y → (p y ≡ true) ⊎ (rest ≡ Some y)
-found_case p x y rest true test e = let same : x ≡ y = cc e in inl (ap p (sym same) ∙ test)
-found_case p x y rest false test e = inr e
-
-found_passes : {X : Type 0} (p : X → Bool) (xs : List X) (y : X) → find p xs ≡ Some y → p y ≡ true
-found_passes p [] y e = absurd (cc e)
-found_passes p (x ∷ xs) y e =
-    elim (found_case p x y (find p xs) (p x) refl e) [
-      | inl here ↦ here
-      | inr there ↦ found_passes p xs y there
-    ]
 
 way_is_lower : (w : Way) → IsLower (way_text w)
 way_is_lower Up = refl

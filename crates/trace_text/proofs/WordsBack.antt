@@ -1,7 +1,7 @@
 -- Words that are printed read back.
 use Rattle.std.proofs.lemmas.Bool.Decides.{nat_tests}
 use Rattle.std.proofs.lemmas.Int.{ints}
-use Rattle.std.proofs.Common.{◌≡◌, ◌≢◌, ℕ, zero, suc, ◌<◌, ◌^◌, false, List, [], ◌∷◌, map, length, Option, Some, Ok, refl, sym, ap, subst, ◌∙◌, arith}
+use Rattle.std.proofs.Common.{◌≡◌, ◌≢◌, ℕ, suc, ◌<◌, ◌^◌, false, List, [], ◌∷◌, map, length, Option, Some, Ok, refl, sym, ap, subst, ◌∙◌, arith}
 use Rattle.std.specs.Prelude.{ℤ, pos, negsuc, ◌≤ℤ◌, neg_ℤ, ◌==◌, decimal, slice_get}
 use Rattle.std.specs.Fmt.{signed_decimal}
 use Rattle.std.specs.List.{All}
@@ -40,6 +40,7 @@ use Rattle.trace_text.proofs.Decimals.{number_of_decimal}
 use Rattle.trace_text.proofs.Joining.{IsWord, decimal_is_word, name_is_word}
 use Rattle.std.proofs.lemmas.List.Elements.{All-cons}
 use Rattle.trace_text.specs.Steps.{is_space}
+use Rattle.tte_lemmas.proofs.Lists.{some_at}
 
 units_at : ℤ → Units
 units_at z = record { 0 = z }
@@ -91,11 +92,6 @@ rate_is_word r h = signed_is_word r.0 (omega (arith, ints, h.least)) (omega (ari
 
 -- a name is written and read
 
-pub thing_at : {X : Type 0} (xs : List X) (i : ℕ) → i < length xs → (x : X) × (slice_get xs i ≡ Some x)
-thing_at [] i h = absurd (omega arith)
-thing_at (x ∷ xs) zero h = (x, refl)
-thing_at (x ∷ xs) (suc i) h = thing_at xs i (omega arith)
-
 -- a thing whose name none before it has is the first bearer of its name
 pub first_bearer : {X : Type 0} (f : X → List ℕ) (xs : List X) (i : ℕ) (x : X) → slice_get xs i ≡ Some x
     → ((k : ℕ) (earlier thing : X) → k < i → slice_get xs k ≡ Some earlier → slice_get xs i ≡ Some thing → f thing ≢ f earlier)
@@ -110,7 +106,7 @@ pub device_read : (network : Network) (d : DeviceId) → ((i : ℕ) → DeviceIs
 unfolding device_spelled
 device_read network d new of_network =
     let f = λ (x : Device). x.name in
-    let at = thing_at network.device d.0 of_network in
+    let at = some_at network.device d.0 of_network in
     let first = first_bearer f network.device d.0 at.0 at.1 (λ k earlier thing lt e here. (new d.0 k earlier thing lt e here).0) in
     rw at.1 (ap (option_map device_id) (place_found (map f network.device) at.0.name d.0 first))
 
@@ -123,7 +119,7 @@ pub link_read : (network : Network) (l : LinkId) → ((i : ℕ) → LinkIsNew ne
 unfolding link_spelled
 link_read network l new of_network =
     let f = λ (x : Link). x.name in
-    let at = thing_at network.link l.0 of_network in
+    let at = some_at network.link l.0 of_network in
     let first = first_bearer f network.link l.0 at.0 at.1 (λ k earlier thing lt e here. new l.0 k earlier thing lt e here) in
     rw at.1 (ap (option_map link_id) (place_found (map f network.link) at.0.name l.0 first))
 
@@ -137,12 +133,12 @@ in_list P xs i x here all = subst P (get_or_from_slice_get xs i x x here) (all i
 
 pub device_is_word : (network : Network) (d : DeviceId) → IsInRange network → HasDevice network d → IsWord (device_name network d)
 device_is_word network d h of_network =
-    let at = thing_at network.device d.0 of_network in
+    let at = some_at network.device d.0 of_network in
     rw at.1 (name_is_word at.0.name (in_list IsDeviceInRange network.device d.0 at.0 at.1 h.devices).name)
 
 pub link_is_word : (network : Network) (l : LinkId) → IsInRange network → HasLink network l → IsWord (link_name network l)
 link_is_word network l h of_network =
-    let at = thing_at network.link l.0 of_network in
+    let at = some_at network.link l.0 of_network in
     rw at.1 (name_is_word at.0.name (in_list (IsLinkInRange network) network.link l.0 at.0 at.1 h.links).name)
 
 -- the words of ways and events

@@ -61,7 +61,7 @@ impl EventWord {
 }
 
 /// The way's word as it is written.
-pub(crate) fn way_text(way: Way) -> &'static str
+pub fn way_text(way: Way) -> &'static str
     ensures text { result.now ≡ way_text way }
     ensures short { length result.now ≤ 4 }
 {

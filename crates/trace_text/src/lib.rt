@@ -11,6 +11,7 @@ mod reading;
 mod refusal;
 mod words;
 
+pub use event_word::way_text;
 pub use laws::{prints_back_law, reads_back_law};
 pub use names::{device_spelled, link_spelled};
 pub use printing::{EventText, event_text, print, push_what};

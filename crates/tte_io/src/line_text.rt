@@ -1,4 +1,4 @@
-ghost use Rattle.std.specs.Prelude.{◌≡◌, ◌≤◌, ◌+◌, ◌*◌, ◌↔◌, [], ◌++◌, length, decimal, IsTrue};
+ghost use Rattle.std.specs.Prelude.{◌≡◌, ◌≤◌, ◌+◌, ◌*◌, ◌↔◌, [], ◌∷◌, ◌++◌, length, decimal, IsTrue};
 ghost use Rattle.tte_io.specs.Line.{line_limit};
 ghost use Rattle.hex.specs.Hex.{encode_lower};
 
@@ -76,14 +76,29 @@ impl LineText {
         self.append(text.as_bytes());
     }
 
+    /// Adds one octet, for which there is room.
+    fn push_octet(&mut self, octet: u8)
+        requires { length self.old + 1 ≤ line_limit }
+        ensures { self.new ≡ self.old ++ octet ∷ [] }
+    {
+        self.octets[self.len] = octet;
+        self.len += 1;
+    }
+
     /// Adds a number in decimal, which takes at most 20 octets.
+    #[tactic(auto, using(std::proofs::lemmas::Fmt::decimal_digit))]
     pub fn push_decimal(&mut self, n: u64)
         requires { length self.old + 20 ≤ line_limit }
         ensures text { self.new ≡ self.old ++ decimal n }
         ensures grows { length self.new ≤ length self.old + 20 }
     {
-        let mut buffer = Buffer::new();
-        self.push(buffer.format(n));
+        // Most numbers of a line have one digit.
+        if n < 10 {
+            self.push_octet(b'0' + n as u8);
+        } else {
+            let mut buffer = Buffer::new();
+            self.push(buffer.format(n));
+        }
     }
 
     /// Adds octets in lower-case hexadecimal, two digits each.
