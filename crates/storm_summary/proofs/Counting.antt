@@ -4,7 +4,10 @@ use Rattle.std.specs.Prelude.{codes, if◌then◌else◌}
 use Rattle.std.proofs.lemmas.List.Elements.{filter-append}
 use Rattle.run_law.specs.declared.note.Note.{Note}
 use Rattle.run_law.specs.declared.note.NoteBody.{NoteBody}
-use Rattle.storm_summary.specs.Counting.{count_where, counts_of, drops_for, drops_of, is_drop_for, is_of_kind, raised, records_of}
+use Rattle.run_law.specs.declared.note.NoteBody.TheVariants as notes
+use Rattle.storm_summary.specs.Counting.{count_where, counted_as, counts_of, drops_for, drops_of, is_drop_for, is_of_kind, raised, records_of, with_drop}
+use Rattle.storm_summary.specs.declared.counted.Counted.{Counted}
+use Rattle.storm_summary.specs.declared.counted.Counted.TheVariants as lines
 use Rattle.storm_summary.specs.declared.counts.Counts.{Counts}
 use Rattle.storm_summary.specs.declared.counts.Drops.{Drops}
 
@@ -108,5 +111,38 @@ counts_grow notes note =
     (length-append notes (note ∷ [])) (λ (word : List ℕ). grown (is_of_kind word) notes note) (drops_grow notes note)
 
 -- where the counts become those with the record, they are its
-pub counted : (old new : Counts) (note : Note) → new ≡ counts_with note.body old → (notes : List Note) → old ≡ counts_of notes → new ≡ counts_of (notes ++ note ∷ [])
-counted old new note is notes so_far = is ∙ ap (counts_with note.body) so_far ∙ sym (counts_grow notes note)
+counted_one : (old new : Counts) (note : Note) → new ≡ counts_with note.body old → (notes : List Note) → old ≡ counts_of notes → new ≡ counts_of (notes ++ note ∷ [])
+counted_one old new note is notes so_far = is ∙ ap (counts_with note.body) so_far ∙ sym (counts_grow notes note)
+
+-- the counts with one more that this line counts
+abbrev pub counts_and : Counted → Counts → Counts
+counts_and lines.Compressed c = record { records = c.records + 1; compressed = c.compressed + 1; corrected = c.corrected; lost = c.lost; tt_sent = c.tt_sent; accepted = c.accepted; delivered = c.delivered; dropped = c.dropped }
+counts_and lines.Corrected c = record { records = c.records + 1; compressed = c.compressed; corrected = c.corrected + 1; lost = c.lost; tt_sent = c.tt_sent; accepted = c.accepted; delivered = c.delivered; dropped = c.dropped }
+counts_and lines.Lost c = record { records = c.records + 1; compressed = c.compressed; corrected = c.corrected; lost = c.lost + 1; tt_sent = c.tt_sent; accepted = c.accepted; delivered = c.delivered; dropped = c.dropped }
+counts_and lines.TtSent c = record { records = c.records + 1; compressed = c.compressed; corrected = c.corrected; lost = c.lost; tt_sent = c.tt_sent + 1; accepted = c.accepted; delivered = c.delivered; dropped = c.dropped }
+counts_and lines.Accepted c = record { records = c.records + 1; compressed = c.compressed; corrected = c.corrected; lost = c.lost; tt_sent = c.tt_sent; accepted = c.accepted + 1; delivered = c.delivered; dropped = c.dropped }
+counts_and lines.Delivered c = record { records = c.records + 1; compressed = c.compressed; corrected = c.corrected; lost = c.lost; tt_sent = c.tt_sent; accepted = c.accepted; delivered = c.delivered + 1; dropped = c.dropped }
+counts_and (lines.Dropped reason) c = record { records = c.records + 1; compressed = c.compressed; corrected = c.corrected; lost = c.lost; tt_sent = c.tt_sent; accepted = c.accepted; delivered = c.delivered; dropped = with_drop reason c.dropped }
+counts_and lines.Unlisted c = record { records = c.records + 1; compressed = c.compressed; corrected = c.corrected; lost = c.lost; tt_sent = c.tt_sent; accepted = c.accepted; delivered = c.delivered; dropped = c.dropped }
+
+-- they are those with the record that it counts
+counts_line : (counted : Counted) (body : NoteBody) (c : Counts) → counted ≡ counted_as body → counts_and counted c ≡ counts_with body c
+counts_line counted (notes.Event line what) c e = ap (λ (k : Counted). counts_and k c) e
+counts_line counted (notes.Arrived device link cause clock) c e = ap (λ (k : Counted). counts_and k c) e
+counts_line counted (notes.Permanent device link cause point verdict) c e = ap (λ (k : Counted). counts_and k c) e
+counts_line counted (notes.Compressed device opened at cycle members verdict) c e = ap (λ (k : Counted). counts_and k c) e
+counts_line counted (notes.Sent device cycle) c e = ap (λ (k : Counted). counts_and k c) e
+counts_line counted (notes.Corrected device cycle by adjustment) c e = ap (λ (k : Counted). counts_and k c) e
+counts_line counted (notes.State device state cause why) c e = ap (λ (k : Counted). counts_and k c) e
+counts_line counted (notes.Left device link cause clock) c e = ap (λ (k : Counted). counts_and k c) e
+counts_line counted (notes.Lost device link cause) c e = ap (λ (k : Counted). counts_and k c) e
+counts_line counted (notes.TtSent device link cause vl cycle) c e = ap (λ (k : Counted). counts_and k c) e
+counts_line counted (notes.Accepted device link cause vl cycle) c e = ap (λ (k : Counted). counts_and k c) e
+counts_line counted (notes.Delivered device link cause vl cycle) c e = ap (λ (k : Counted). counts_and k c) e
+counts_line counted (notes.Dropped device link cause reason) c e = ap (λ (k : Counted). counts_and k c) e
+counts_line counted (notes.Clock device reading adjustment state) c e = ap (λ (k : Counted). counts_and k c) e
+
+-- where the counts become those with one more that the record's line counts, they are the record's
+pub added : (old new : Counts) (counted : Counted) (note : Note) → new ≡ counts_and counted old → counted ≡ counted_as note.body → (notes : List Note)
+    → old ≡ counts_of notes → new ≡ counts_of (notes ++ note ∷ [])
+added old new counted note is line notes so_far = counted_one old new note (is ∙ counts_line counted note.body old line) notes so_far

@@ -7,6 +7,8 @@ use Rattle.run_law.specs.declared.note.NoteBody.{NoteBody}
 use Rattle.run_law.specs.declared.note.NoteBody.TheVariants as notes
 use Rattle.storm_summary.specs.declared.counts.Counts.{Counts}
 use Rattle.storm_summary.specs.declared.counts.Drops.{Drops}
+use Rattle.storm_summary.specs.declared.counted.Counted.{Counted}
+use Rattle.storm_summary.specs.declared.counted.Counted.TheVariants as lines
 
 -- the word of a record's kind
 abbrev pub kind_word : NoteBody → List ℕ
@@ -53,6 +55,17 @@ is_of_kind word body = bytes_eq word (kind_word body)
 abbrev pub is_drop_for : List ℕ → NoteBody → Bool
 is_drop_for word (notes.Dropped device link cause reason) = bytes_eq word (drop_word reason)
 is_drop_for word other = false
+
+-- which line of a summary counts the record
+abbrev pub counted_as : NoteBody → Counted
+counted_as (notes.Compressed device opened at cycle members verdict) = lines.Compressed
+counted_as (notes.Corrected device cycle by adjustment) = lines.Corrected
+counted_as (notes.Lost device link cause) = lines.Lost
+counted_as (notes.TtSent device link cause vl cycle) = lines.TtSent
+counted_as (notes.Accepted device link cause vl cycle) = lines.Accepted
+counted_as (notes.Delivered device link cause vl cycle) = lines.Delivered
+counted_as (notes.Dropped device link cause reason) = lines.Dropped reason
+counted_as other = lines.Unlisted
 
 -- how many of the records are such
 abbrev pub count_where : (NoteBody → Bool) → List Note → ℕ

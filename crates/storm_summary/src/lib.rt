@@ -2,11 +2,13 @@
 //! lines that say so.
 #![tactic(auto)]
 
+mod counted;
 mod counts;
 mod laws;
 mod summary;
 mod tally;
 
+pub use counted::Counted;
 pub use counts::{Counts, Drops};
 pub use laws::{spread_is_one, spread_is_within_precision};
 pub use summary::{LINES, Summary};

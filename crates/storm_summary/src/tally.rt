@@ -1,9 +1,10 @@
 ghost use Rattle.std.specs.Prelude.{◌≡◌, ◌<◌, ◌+◌, ◌^◌, [], ◌∷◌, ◌++◌, List};
 ghost use Rattle.run_law.specs.declared.note.Note.{Note as NoteValue};
-ghost use Rattle.storm_summary.specs.Counting.{all_drops, counts_of, with_drop};
+ghost use Rattle.storm_summary.specs.Counting.{all_drops, counted_as, counts_of, with_drop};
 
+use crate::counted::{Counted, counted_as};
 use crate::counts::{Counts, Drops};
-use run_law::{Note, NoteBody, Reason};
+use run_law::{Note, Reason};
 use std::marker::Model;
 
 /// The counts of the records so far.
@@ -38,22 +39,25 @@ impl Tally {
         requires { self.old.records + 1 < 2 ^ 64 }
         ensures { (notes : List NoteValue) → self.old ≡ counts_of notes → self.new ≡ counts_of (notes ++ note.now ∷ []) }
     {
+        self.add(counted_as(&note.body));
+    }
+
+    /// Counts one more record, by the line that counts it. There are fewer than 2^64 in all.
+    pub fn add(&mut self, counted: Counted)
+        requires { self.old.records + 1 < 2 ^ 64 }
+        ensures { (notes : List NoteValue) (note : NoteValue) → counted ≡ counted_as note.body
+            → self.old ≡ counts_of notes → self.new ≡ counts_of (notes ++ note ∷ []) }
+    {
         self.counts.records += 1;
-        match &note.body {
-            NoteBody::Compressed { .. } => self.counts.compressed += 1,
-            NoteBody::Corrected { .. } => self.counts.corrected += 1,
-            NoteBody::Lost { .. } => self.counts.lost += 1,
-            NoteBody::TtSent { .. } => self.counts.tt_sent += 1,
-            NoteBody::Accepted { .. } => self.counts.accepted += 1,
-            NoteBody::Delivered { .. } => self.counts.delivered += 1,
-            NoteBody::Dropped { reason, .. } => count_drop(&mut self.counts.dropped, *reason),
-            NoteBody::Event { .. } => (),
-            NoteBody::Arrived { .. } => (),
-            NoteBody::Permanent { .. } => (),
-            NoteBody::Sent { .. } => (),
-            NoteBody::State { .. } => (),
-            NoteBody::Left { .. } => (),
-            NoteBody::Clock { .. } => (),
+        match counted {
+            Counted::Compressed => self.counts.compressed += 1,
+            Counted::Corrected => self.counts.corrected += 1,
+            Counted::Lost => self.counts.lost += 1,
+            Counted::TtSent => self.counts.tt_sent += 1,
+            Counted::Accepted => self.counts.accepted += 1,
+            Counted::Delivered => self.counts.delivered += 1,
+            Counted::Dropped(reason) => count_drop(&mut self.counts.dropped, reason),
+            Counted::Unlisted => (),
         }
     }
 

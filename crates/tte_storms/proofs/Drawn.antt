@@ -50,7 +50,7 @@ own_storm network seed cycles events it is =
 -- ---- the next event
 
 -- the end has not come where only steps' events were given
-none_ended : (network : Network) (seed cycles : ℕ) (events : List Event) → AreStormEvents network seed cycles events → length events ≤ 8 * cycles
+pub none_ended : (network : Network) (seed cycles : ℕ) (events : List Event) → AreStormEvents network seed cycles events → length events ≤ 8 * cycles
     → HaveEnded events → ⊥
 none_ended network seed cycles events each few (k, e, lt, at, is) =
     let p = parted events e (k, lt, at) in

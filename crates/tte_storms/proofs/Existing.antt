@@ -1,5 +1,5 @@
 -- There is a storm of each seed, and an answer for it.
-use Rattle.std.proofs.Common.{◌≡◌, ℕ, zero, suc, ◌+◌, ◌*◌, ◌/◌, ◌%◌, ◌^◌, ◌<◌, ◌≤◌, Bool, true, false, if◌then◌else◌, ◌==◌, ◌||◌, List, [], ◌∷◌, ◌++◌, length, Option, Some, None, Any, replicate, inl, inr, refl, sym, subst, ◌∙◌, arith, length-append}
+use Rattle.std.proofs.Common.{append_assoc, ◌≡◌, ℕ, zero, suc, ◌+◌, ◌-◌, ◌*◌, ◌%◌, ◌^◌, ◌<◌, ◌≤◌, Bool, true, false, if◌then◌else◌, ◌==◌, ◌||◌, List, [], ◌∷◌, ◌++◌, length, Option, Some, None, Any, replicate, inl, inr, refl, sym, subst, ◌∙◌, arith, length-append}
 use Rattle.std.specs.Prelude.{IfSome, IsSomeAnd, MatchOption, is_some, slice_index}
 use Rattle.std.specs.Int.{byte_at, bytes_high_first}
 use Rattle.std.specs.List.{All}
@@ -7,10 +7,9 @@ use Rattle.std.proofs.Math.Nat.{div-lt_iff_lt-mul, mod-lt}
 use Rattle.std.proofs.Math.Pow.{pow-lt}
 use Rattle.std.proofs.lemmas.Bool.{cases_Bool, cases_lt}
 use Rattle.std.proofs.lemmas.Int.{ints}
-use Rattle.std.proofs.lemmas.List.{get_or_past}
+use Rattle.std.proofs.lemmas.List.{append-nil, get_or_past}
 use Rattle.std.proofs.lemmas.List.Elements.{All-append, All-cons, All-nil, All-replicate}
 use Rattle.std.proofs.lemmas.List.Quantifiers.{Any-push}
-use Rattle.fault_hypothesis.proofs.Standing.{all_at, stands_at}
 use Rattle.hex.specs.Hex.{IsBytes}
 use Rattle.net_plan.specs.Places.{is_master, link_at}
 use Rattle.net_plan.specs.Ranges.{IsDeviceInRange, IsInRange}
@@ -49,6 +48,8 @@ use Rattle.run_existence.proofs.Existence.{runs_exist_to_each_mark}
 use Rattle.run_law.specs.declared.note.Note.{Note}
 use Rattle.run_law.specs.scenario.Scenarios.{Scenario}
 use Rattle.tte_forms.specs.declared.status.Status.TheVariants.{Done}
+use Rattle.tte_lemmas.proofs.Lists.{in_all, some_at}
+use Rattle.tte_lemmas.proofs.Naturals.{byte_at_small}
 use Rattle.tte_storms.specs.Answer.{exact_scenario}
 use Rattle.tte_units.specs.Amount.{amount}
 use Rattle.tte_units.specs.declared.units.Units.{Units}
@@ -67,13 +68,9 @@ record IsReady (network : Network) (time : Units) : Type 0 where
 abbrev AreBytes : List ℕ → Type 0
 AreBytes = All (λ b. b < 256)
 
-byte_small : (k n : ℕ) → byte_at k n < 256
-byte_small zero n = mod-lt n (omega arith)
-byte_small (suc k) n = mod-lt (n / 256 ^ suc k) (omega arith)
-
 number_bytes : (k n : ℕ) → AreBytes (bytes_high_first k n)
 number_bytes zero n = All-nil (λ b. b < 256)
-number_bytes (suc k) n = All-cons (λ b. b < 256) (byte_at k n) (bytes_high_first k n) (byte_small k n) (number_bytes k n)
+number_bytes (suc k) n = All-cons (λ b. b < 256) (byte_at k n) (bytes_high_first k n) (byte_at_small k n) (number_bytes k n)
 
 kind_small : (kind : PcfKind) → code_of kind < 256
 kind_small Integration = omega arith
@@ -130,7 +127,7 @@ some_broken before = decided_any (λ e. (device : DeviceId) × Breaks device e) 
 last_below : (network : Network) (place : ℕ) → place ≤ length network.device → (last : Option DeviceId) × IsLastBelow network last place
 last_below network zero within = (None, λ device lt. absurd (omega (arith, lt)))
 last_below network (suc n) within =
-    let found = stands_at network.device n (omega (arith, within)) in
+    let found = some_at network.device n (omega (arith, within)) in
     let next : n + 1 ≡ suc n = omega arith in
     elim (cases_Bool (is_master found.0.role)) [
       | inl is ↦
@@ -162,7 +159,7 @@ sends_forged : (network : Network) (device : DeviceId) (time : Units) (seed n : 
     → (what : What) × SendsForged network device time (draw_at seed n) what
 sends_forged network device time seed n ready is =
     let found = master_found network device is in
-    let here = all_at IsDeviceInRange network.device device.0 found.0 ready.range.devices found.1 in
+    let here = in_all IsDeviceInRange network.device device.0 found.0 ready.range.devices found.1 in
     let member = numbered found.0.member (here.masters ∙ found.2) here.member in
     let up = master_uplink network device (channel_of (draw_at seed n)) ready.rules is in
     let frame = forged network found.0 member.0 time (draw_at seed n) in
@@ -175,7 +172,7 @@ sends_forged network device time seed n ready is =
     let clock = mod-lt (draw_at seed n).size {m = amount network.dmax + 1} (omega arith) in
     let fits : Fits frame = record {
       destination = ready.fits.destination;
-      source = all_at (λ d. d.mac < 2 ^ 48) network.device device.0 found.0 ready.fits.sources found.1;
+      source = in_all (λ d. d.mac < 2 ^ 48) network.device device.0 found.0 ready.fits.sources found.1;
       cycle = (div-lt_iff_lt-mul {k = amount network.cycle} {x = amount time} {y = 2 ^ 32} some).1 (omega (arith, some, early));
       members = pow-lt {i = member.0} {j = 32} (omega (arith, small));
       clock = omega (arith, ints, clock, dmax, least);
@@ -223,7 +220,7 @@ strike network before time seed n ready within =
 -- the link that is drawn is one of the network
 link_there : (network : Network) (seed n : ℕ) → KeepsRules network → (link : Link) × (link_at network (link_of network (draw_at seed n)) ≡ Some link)
 link_there network seed n rules =
-    stands_at network.link ((draw_at seed n).place % length network.link) (mod-lt (draw_at seed n).place (some_link network rules))
+    some_at network.link ((draw_at seed n).place % length network.link) (mod-lt (draw_at seed n).place (some_link network rules))
 
 chosen_link : (o : Option Link) (link : Link) (f : Link → What) → o ≡ Some link → IsSomeAnd o (λ l. f link ≡ f l)
 chosen_link o link f at = subst (λ (x : Option Link). IsSomeAnd x (λ l. f link ≡ f l)) (sym at) refl
@@ -288,11 +285,11 @@ all_records network events range ended =
     (run.0, (end.0, end.1, run.1))
 
 -- what a storm is of
-record IsStormy (network : Network) (cycles : ℕ) : Type 0 where
-  few : cycles ≤ 100000
-  range : IsInRange network
-  rules : KeepsRules network
-  fits : FitsFrames network
+pub record IsStormy (network : Network) (cycles : ℕ) : Type 0 where
+  pub few : cycles ≤ 100000
+  pub range : IsInRange network
+  pub rules : KeepsRules network
+  pub fits : FitsFrames network
 
 ready_at : (network : Network) (cycles n : ℕ) → IsStormy network cycles → n ≤ 8 * cycles → IsReady network (time_of network n)
 ready_at network cycles n stormy within =
@@ -300,39 +297,59 @@ ready_at network cycles n stormy within =
     let early = time_in_run network n (omega (arith, few, within)) in
     record { range = stormy.range; rules = stormy.rules; fits = stormy.fits; early = omega (arith, ints, early) }
 
--- so many first events of the storm
-first_events : (network : Network) (seed cycles n : ℕ) → IsStormy network cycles → n ≤ 8 * cycles
-    → (events : List Event) × (length events ≡ n) × AreStormEvents network seed cycles events
-first_events network seed cycles zero stormy within = ([], refl, no_events network seed cycles)
-first_events network seed cycles (suc n) stormy within =
-    let front = first_events network seed cycles n stormy (omega (arith, within)) in
-    let size = front.1 in
-    let keeps = storms_within network seed cycles front.0 stormy.few front.2 in
-    let ready = ready_at network cycles (length front.0) stormy (omega (arith, within, size)) in
-    let next = step network front.0 (time_of network (length front.0)) seed (length front.0) ready keeps in (
-      front.0 ++ next.0 ∷ [],
-      omega (arith, size, length-append front.0 (next.0 ∷ [])),
-      more_events network seed cycles front.0 next.0 front.2 (inl (omega (arith, within, size), next.1)),
+-- so many more events of the storm behind the first ones
+more_steps : (network : Network) (seed cycles n : ℕ) (front : List Event) → IsStormy network cycles → AreStormEvents network seed cycles front
+    → length front + n ≤ 8 * cycles → (behind : List Event) × (length behind ≡ n) × AreStormEvents network seed cycles (front ++ behind)
+more_steps network seed cycles zero front stormy each within = ([], refl, subst (AreStormEvents network seed cycles) (sym (append-nil front)) each)
+more_steps network seed cycles (suc n) front stormy each within =
+    let keeps = storms_within network seed cycles front stormy.few each in
+    let ready = ready_at network cycles (length front) stormy (omega (arith, within)) in
+    let next = step network front (time_of network (length front)) seed (length front) ready keeps in
+    let one : AreStormEvents network seed cycles (front ++ next.0 ∷ []) =
+    more_events network seed cycles front next.0 each (inl (omega (arith, within), next.1)) in
+    let size = length-append front (next.0 ∷ []) in
+    let rest = more_steps network seed cycles n (front ++ next.0 ∷ []) stormy one (omega (arith, within, size)) in
+    let count = rest.1 in (
+      next.0 ∷ rest.0,
+      omega (arith, count),
+      subst (AreStormEvents network seed cycles) (append_assoc front (next.0 ∷ []) rest.0) rest.2,
     )
 
--- all of them, and behind them the end
-storm : (network : Network) (seed cycles : ℕ) → IsStormy network cycles
-    → (events : List Event) × IsStorm network seed cycles events × HaveEnded events
-storm network seed cycles stormy =
-    let front = first_events network seed cycles (8 * cycles) stormy (omega arith) in
-    let size = front.1 in
-    let end : Event = record { time = time_of network (length front.0); what = kinds.End } in (
-      front.0 ++ end ∷ [],
-      record {
-        whole = omega (arith, size, length-append front.0 (end ∷ []));
-        each = more_events network seed cycles front.0 end front.2 (inr (size, refl));
-      },
-      Any-push (λ (e : Event). e.what ≡ kinds.End) front.0 end refl,
+-- behind the first events of a storm, all others, and the end with them
+pub rest_of_storm : (network : Network) (seed cycles : ℕ) (front : List Event) → IsStormy network cycles → AreStormEvents network seed cycles front
+    → length front ≤ 8 * cycles → (behind : List Event) × IsStorm network seed cycles (front ++ behind) × HaveEnded (front ++ behind)
+rest_of_storm network seed cycles front stormy each within =
+    let steps = more_steps network seed cycles (8 * cycles - length front) front stormy each (omega (arith, within)) in
+    let all = front ++ steps.0 in
+    let count = steps.1 in
+    let long = length-append front steps.0 in
+    let size : length all ≡ 8 * cycles = omega (arith, within, count, long) in
+    let end : Event = record { time = time_of network (length all); what = kinds.End } in
+    let moved = append_assoc front steps.0 (end ∷ []) in
+    let is : IsStorm network seed cycles (all ++ end ∷ []) = record {
+      whole = omega (arith, size, length-append all (end ∷ []));
+      each = more_events network seed cycles all end steps.2 (inr (size, refl));
+    } in (
+      steps.0 ++ end ∷ [],
+      subst (IsStorm network seed cycles) moved is,
+      subst HaveEnded moved (Any-push (λ (e : Event). e.what ≡ kinds.End) all end refl),
     )
+
+-- behind the first events that were given, whatever is left
+pub storm_behind : (network : Network) (seed cycles : ℕ) (front : List Event) → IsStormy network cycles → AreStormEvents network seed cycles front
+    → length front ≤ 8 * cycles + 1 → (behind : List Event) × IsStorm network seed cycles (front ++ behind)
+storm_behind network seed cycles front stormy each within = elim (cases_lt (length front) (8 * cycles + 1)) [
+  | inl less ↦ let rest = rest_of_storm network seed cycles front stormy each (omega (arith, less)) in (rest.0, rest.1)
+  | inr all ↦ (
+    [],
+    subst (IsStorm network seed cycles) (sym (append-nil front)) (record { whole = omega (arith, within, all); each = each }),
+  )
+]
 
 pub storm_answers_exist : StormAnswersExist
 storm_answers_exist seed cycles network few range rules fits =
-    let events = storm network seed cycles (record { few = few; range = range; rules = rules; fits = fits }) in
+    let stormy : IsStormy network cycles = record { few = few; range = range; rules = rules; fits = fits } in
+    let events = rest_of_storm network seed cycles [] stormy (no_events network seed cycles) (omega arith) in
     let run = all_records network events.0 range events.2 in
     let widest = greatest_spread (exact_scenario network events.0) (happenings network run.0) in (
       record { status = Done; lines = summary_lines seed cycles (counts_of run.0) widest.0 network.precision },

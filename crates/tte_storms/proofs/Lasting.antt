@@ -6,6 +6,7 @@ use Rattle.std.proofs.lemmas.Bool.{lt-leb}
 use Rattle.std.proofs.lemmas.Int.{ints}
 use Rattle.std.proofs.lemmas.List.{append-nil}
 use Rattle.std.proofs.lemmas.List.Elements.{filter-append}
+use Rattle.drift_clock.proofs.ExactSegments.{exact_steps}
 use Rattle.drift_clock.specs.Segment.{fresh_segment, segment_count, segment_reading, stepped_segment}
 use Rattle.drift_world.proofs.Agreements.{reads_same}
 use Rattle.net_plan.specs.Belonging.{HasDevice}
@@ -21,7 +22,6 @@ use Rattle.run_law.specs.records.Order.{IsIn}
 use Rattle.run_law.specs.scenario.Hypothesis.{breaks_at}
 use Rattle.run_law.specs.scenario.Scenarios.{Scenario, events_up_to, is_broken}
 use Rattle.storm_summary.specs.Spread.{AreApart, AreSeenApart, IsCorrection, IsGreatestSpread}
-use Rattle.exact_runs.proofs.Clocks.{exact_steps}
 use Rattle.tte_storms.specs.Answer.{exact_scenario}
 use Rattle.tte_storms.specs.Spreads.{IsSpreadAt}
 use Rattle.tte_units.specs.Amount.{amount}

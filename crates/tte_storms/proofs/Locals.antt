@@ -10,6 +10,7 @@ use Rattle.run_law.specs.device.LocalClocks.{local}
 use Rattle.run_law.specs.law.Safety.{IsInStep}
 use Rattle.run_law.specs.records.Happenings.{Happening}
 use Rattle.run_law.specs.scenario.Scenarios.{Scenario}
+use Rattle.tte_lemmas.proofs.Integers.{through}
 use Rattle.tte_storms.specs.declared.spreads.Ends.{Ends}
 use Rattle.tte_storms.specs.Spreads.{AreEnds, AreEndsOf, IsOfOne, IsSpreadAt, Widens}
 
@@ -51,9 +52,6 @@ next_bounds s hs t n value ends new w is d same =
     let least = w.least in
     let greatest = w.greatest in (subst (λ (z : ℤ). new.least ≤ℤ z) (sym at) least, subst (λ (z : ℤ). z ≤ℤ new.greatest) (sym at) greatest)
 
-trans : (a b c : ℤ) → a ≤ℤ b → b ≤ℤ c → a ≤ℤ c
-trans a b c x y = omega (arith, ints, x, y)
-
 pub ends_widen : (s : Scenario) (hs : List Happening) (t n : ℕ) (ends : Option Ends) (value : ℤ) (new : Ends) → n < length s.network.device
     → IsInStep s hs (record { 0 = n }) t → value ≡ local s hs (record { 0 = n }) t → Widens ends value new → AreEnds s hs t n ends
     → AreEndsOf s hs t (n + 1) new
@@ -77,8 +75,8 @@ ends_widen s hs t n (Some ends) value new lt step is w are = record {
   bounds = λ d less in_step. elim (one_more d n less) [
     | inl before ↦
         let old = are.bounds d before in_step in (
-          trans new.least ends.least (local s hs d t) w.lesser.0 old.0,
-          trans (local s hs d t) ends.greatest new.greatest old.1 w.lesser.1,
+          through new.least ends.least (local s hs d t) w.lesser.0 old.0,
+          through (local s hs d t) ends.greatest new.greatest old.1 w.lesser.1,
         )
     | inr same ↦ next_bounds s hs t n value (Some ends) new w is d same
   ];

@@ -5,6 +5,7 @@ use Rattle.std.specs.Io.KnownBytes.{Appends}
 use Rattle.std.specs.Prelude.{slice_get}
 use Rattle.std.proofs.lemmas.Int.{ints}
 use Rattle.std.proofs.lemmas.List.{append-nil}
+use Rattle.drift_clock.proofs.ExactSegments.{exact_laws}
 use Rattle.drift_clock.specs.Segment.{fresh_segment, stepped_segment, segment_reading}
 use Rattle.net_plan.specs.Ranges.{IsInRange}
 use Rattle.net_plan.specs.declared.network.Network.{Network}
@@ -27,7 +28,7 @@ use Rattle.tte_io.specs.Faults.{next_count}
 use Rattle.tte_io.specs.Told.{AppendsFront}
 use Rattle.tte_forms.proofs.Puts.{Ends-gives, PutsLines-fails, PutsLines-more, PutsLines-none, PutsLines-still}
 use Rattle.tte_forms.proofs.networks.Answers.{answered_accepted}
-use Rattle.exact_runs.proofs.Clocks.{exact_begins, exact_laws}
+use Rattle.exact_runs.proofs.Clocks.{exact_begins}
 use Rattle.tte_forms.specs.Answering.{AnswersOne, Ends, ForOctets, Gives, GivesAnswer}
 use Rattle.tte_forms.specs.Putting.{PutsLines, Shown, WriteFails}
 use Rattle.tte_forms.specs.declared.status.Status.{Status}

@@ -1,7 +1,7 @@
 -- The events of a storm that were given, and what is told of their run at the end.
-use Rattle.std.specs.Prelude.{◌≡◌, ℕ, ◌≤◌, ◌≤ℤ◌, ◌⊎◌, List, All, length}
+use Rattle.std.specs.Prelude.{◌≡◌, ℕ, ◌+◌, ◌-◌, ◌*◌, ◌<◌, ◌≤◌, ◌≤ℤ◌, ◌⊎◌, List, [], ◌∷◌, ◌++◌, All, length, Option, Some, None}
 use Rattle.drift_clock.specs.Segment.{fresh_segment, stepped_segment, segment_reading}
-use Rattle.exact_runs.specs.Records.{AreAllRecords}
+use Rattle.exact_runs.specs.Records.{AreAllRecords, HaveEnded}
 use Rattle.fault_hypothesis.specs.Watching.{Watches}
 use Rattle.net_plan.specs.Belonging.{IsOfNetwork}
 use Rattle.net_plan.specs.declared.event.Event.{Event}
@@ -21,6 +21,7 @@ use Rattle.tte_storms.specs.Answer.{IsWidest}
 use Rattle.tte_storms.specs.declared.counting.Seen.{Seen}
 use Rattle.tte_storms.specs.declared.events.StormEvents.{StormEvents}
 use Rattle.tte_units.specs.declared.units.Units.{Units}
+use Rattle.world_drive.specs.Sources.{MayGive}
 
 -- these events, the first of the storm, were given and admitted
 pub record IsStormTo (network : Network) (seed cycles : ℕ) (events : List Event) (storm : StormEvents) : Type 0 where
@@ -32,6 +33,17 @@ pub record IsStormTo (network : Network) (seed cycles : ℕ) (events : List Even
   pub seed_is : storm.storm.seed ≡ seed
   pub cycles_is : storm.storm.cycles ≡ cycles
   pub given_is : storm.storm.given ≡ length events
+
+-- how many events may still come
+abbrev pub left_of : StormEvents → ℕ
+left_of storm = 8 * storm.storm.cycles + 1 - storm.storm.given
+
+-- the source gives the next event of the storm; or it gave them all
+abbrev pub GivesStorm : Network → ℕ → ℕ → List Event → Option Event → StormEvents → StormEvents → Type 0
+GivesStorm network seed cycles events (Some event) old new =
+    MayGive network events event × (left_of new < left_of old) × IsStormTo network seed cycles (events ++ event ∷ []) new
+GivesStorm network seed cycles events None old new =
+    HaveEnded events × IsStormTo network seed cycles events new × (length events ≡ 8 * cycles + 1)
 
 -- all events of the storm have befallen the network, and all records of the run are seen
 pub record HasStormed (network : Network) (seed cycles : ℕ) (seen : Seen) : Type 0 where

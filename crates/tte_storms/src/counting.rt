@@ -1,17 +1,18 @@
 ghost use Rattle.std.specs.Prelude.{◌≡◌, refl};
-ghost use Rattle.storm_summary.specs.Counting.{counts_of};
+ghost use Rattle.storm_summary.specs.Counting.{counted_as, counts_of};
 ghost use Rattle.tte_storms.specs.Counts.{IsSeen, corrects};
+ghost use Rattle.world_state.specs.Bodies.{body_of};
 ghost use Rattle.world_drive.specs.declared.observing.Cut.{Cut as CutValue};
 
 use crate::spreads::spread_at;
 use drift_world::{EventNote, Given};
 use exact_runs::ExactWorld;
 use net_plan::{Event, Network};
-use run_law::{Note, NoteBody};
-use storm_summary::Tally;
+use storm_summary::{Counted, Tally};
 use tte_io::Sink;
 use tte_units::Units;
 use world_drive::{Cut, Observer};
+use world_state::bodies::Kind;
 
 /// What was seen of a run. It puts nothing.
 #[derive(Drop)]
@@ -22,10 +23,31 @@ pub(crate) struct Seen {
 }
 
 /// Is the record that of a correction?
-fn is_correction(note: &Note) -> bool
-    ensures { result ≡ corrects note.now.body }
+fn is_correction(kind: &Kind) -> bool
+    ensures { result ≡ corrects (body_of kind.now) }
 {
-    matches!(note.body, NoteBody::Corrected { .. })
+    matches!(kind, Kind::Corrected { .. })
+}
+
+/// Which line of a summary counts the record.
+fn counted_as(kind: &Kind) -> Counted
+    ensures { result ≡ counted_as (body_of kind.now) }
+{
+    match kind {
+        Kind::Compressed { .. } => Counted::Compressed,
+        Kind::Corrected { .. } => Counted::Corrected,
+        Kind::Lost { .. } => Counted::Lost,
+        Kind::TtSent { .. } => Counted::TtSent,
+        Kind::Accepted { .. } => Counted::Accepted,
+        Kind::Delivered { .. } => Counted::Delivered,
+        Kind::Dropped { reason, .. } => Counted::Dropped(*reason),
+        Kind::Arrived { .. }
+        | Kind::Permanent { .. }
+        | Kind::Sent { .. }
+        | Kind::State { .. }
+        | Kind::Left { .. }
+        | Kind::Clock { .. } => Counted::Unlisted,
+    }
 }
 
 impl<K: Sink> Observer<K> for Seen {
@@ -43,9 +65,9 @@ impl<K: Sink> Observer<K> for Seen {
         note: &Given,
         _out: &mut K,
     ) -> Result<bool, Cut> {
-        let note = note.note();
-        self.tally.count(&note);
-        Ok(is_correction(&note))
+        let kind = note.body().kind;
+        self.tally.add(counted_as(&kind));
+        Ok(is_correction(&kind))
     }
 
     fn event(
@@ -53,10 +75,10 @@ impl<K: Sink> Observer<K> for Seen {
         _world: &ExactWorld<'_>,
         _network: &Network,
         _event: &Event,
-        note: &EventNote<'_>,
+        _note: &EventNote<'_>,
         _out: &mut K,
     ) -> Result<(), Cut> {
-        self.tally.count(&note.note());
+        self.tally.add(Counted::Unlisted);
         Ok(())
     }
 

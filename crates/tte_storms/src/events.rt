@@ -1,5 +1,7 @@
-ghost use Rattle.std.specs.Prelude.{◌≡◌, ◌≤◌, ◌+◌, ◌-◌, ◌*◌, [], length};
-ghost use Rattle.tte_storms.specs.Storms.{IsStormTo};
+ghost use Rattle.std.specs.Prelude.{◌≡◌, ◌≤◌, ◌+◌, ◌*◌, ℕ, List, [], length};
+ghost use Rattle.net_plan.specs.declared.event.Event.{Event as EventValue};
+ghost use Rattle.net_plan.specs.declared.network.Network.{Network as NetworkValue};
+ghost use Rattle.tte_storms.specs.Storms.{GivesStorm, IsStormTo, left_of};
 
 use fault_hypothesis::Watch;
 use net_plan::Event;
@@ -10,7 +12,7 @@ use world_drive::Events;
 
 /// The events of a storm, each admitted by the fault hypothesis.
 #[derive(Drop)]
-pub(crate) struct StormEvents<'a> {
+pub struct StormEvents<'a> {
     accepted: &'a Accepted,
     storm: Storm,
     /// The watch that admitted the events so far.
@@ -19,7 +21,7 @@ pub(crate) struct StormEvents<'a> {
 
 impl<'a> StormEvents<'a> {
     /// The storm of the seed over 1 to 100,000 cycles, of which no event was given.
-    pub(crate) fn new(accepted: &'a Accepted, seed: u64, cycles: u32) -> StormEvents<'a>
+    pub fn new(accepted: &'a Accepted, seed: u64, cycles: u32) -> StormEvents<'a>
         requires least { 1 ≤ cycles }
         requires most { cycles ≤ 100000 }
         ensures { IsStormTo accepted.now seed cycles [] result }
@@ -29,6 +31,20 @@ impl<'a> StormEvents<'a> {
             storm: Storm::new(seed, cycles),
             watch: Watch::new(accepted),
         }
+    }
+
+    /// The next event of the storm, or None behind its end.
+    pub fn next(&mut self) -> Option<Event>
+        ensures { (network : NetworkValue) (seed cycles : ℕ) (events : List EventValue)
+            → IsStormTo network seed cycles events self.old
+            → GivesStorm network seed cycles events result self.old self.new }
+    {
+        let Some(event) = self.storm.next_event(self.accepted, &self.watch) else {
+            return None;
+        };
+        // It is within the hypothesis, as each event of a storm is.
+        let _admitted = self.watch.admit(&event);
+        Some(event)
     }
 }
 
@@ -40,14 +56,12 @@ impl<'a, K: Sink> Events<(), K, ()> for StormEvents<'a> {
 
     ghost stopped = { λ network first origin events stop from it before after. ⊥ };
 
-    ghost left = { λ it. 8 * it.storm.cycles + 1 - it.storm.given };
+    ghost left = { λ it. left_of it };
 
     fn next_event(&mut self, _from: &mut (), _out: &mut K) -> Result<Option<Event>, ()> {
-        let Some(event) = self.storm.next_event(self.accepted, &self.watch) else {
-            return Ok(None);
-        };
-        // It is within the hypothesis, as each event of a storm is.
-        let _admitted = self.watch.admit(&event);
-        Ok(Some(event))
+        match self.next() {
+            Some(event) => Ok(Some(event)),
+            None => Ok(None),
+        }
     }
 }

@@ -8,5 +8,6 @@ mod spreads;
 mod storming;
 mod summing;
 
-pub use laws::storm_answers_exist;
+pub use events::StormEvents;
+pub use laws::{frames_fit, storm_answers_exist};
 pub use storming::storm_run;
