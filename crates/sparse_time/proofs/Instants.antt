@@ -10,7 +10,7 @@ use Rattle.net_plan.specs.declared.tables.Device.{Device}
 use Rattle.precision_law.proofs.Plain.{reached}
 use Rattle.precision_law.proofs.block.Starts.{has_start, none_at_start}
 use Rattle.precision_law.proofs.clocks.Readings.{clocks_are_steady}
-use Rattle.precision_law.proofs.law.Precision.{not_integrating, timed_of, up_to_is}
+use Rattle.precision_law.proofs.law.Precision.{timed_of, up_to_is}
 use Rattle.precision_law.proofs.law.Whole.{cycles_kept}
 use Rattle.precision_law.specs.Dispatches.{AreFromTo}
 use Rattle.precision_law.specs.Epochs.{epoch_cycle}
@@ -25,14 +25,15 @@ use Rattle.run_law.specs.law.Safety.{IsInStep}
 use Rattle.run_law.specs.records.Happenings.{Happening, earlier, happenings, up_to}
 use Rattle.run_law.specs.scenario.Devices.{start_of}
 use Rattle.run_law.specs.scenario.Scenarios.{Scenario, is_turned_on_at}
-use Rattle.schedule_tables.proofs.EntryLemmas.{all_at}
 use Rattle.schedule_tables.specs.declared.rule.Rule.TheVariants.{Masters}
 use Rattle.sparse_time.proofs.Stamped.{IsReady}
 use Rattle.sparse_time.proofs.Traces.{unbroken}
 use Rattle.sparse_time.specs.Lines.{IsLineOf, Line, scenario_at}
 use Rattle.sparse_time.specs.Stamps.{shown_at}
+use Rattle.sync_state.proofs.StateFacts.{up_state}
 use Rattle.sync_state.specs.Standing.{adjustment_at_start}
 use Rattle.sync_state.specs.declared.state.State.TheVariants.{Synchronised}
+use Rattle.tte_lemmas.proofs.Lists.{in_all}
 use Rattle.tte_units.specs.Amount.{amount}
 use Rattle.tte_units.specs.declared.units.Units.{Units}
 
@@ -44,9 +45,9 @@ start_within : (s : Scenario) (device : DeviceId) (u : Units) → IsLawful s →
 start_within s device u lawful e =
     let n = s.network in
     let from = reached (λ (d : Device). d.start) (device_at n device) u e in
-    let known : IsDeviceInRange from.0 = all_at IsDeviceInRange n.device device.0 from.0 lawful.range.devices from.1 in
+    let known : IsDeviceInRange from.0 = in_all IsDeviceInRange n.device device.0 from.0 lawful.range.devices from.1 in
     let within : IsWithin 0 (2 ^ 40) u = subst (λ (o : Option Units). IfSome o (IsWithin 0 (2 ^ 40))) from.2 known.start in
-    let settled = all_at (λ d. IfSome d.start (λ start. start.0 ≤ℤ n.settled.0)) n.device device.0 from.0 ((lawful.rules Masters 4).starts refl) from.1 in
+    let settled = in_all (λ d. IfSome d.start (λ start. start.0 ≤ℤ n.settled.0)) n.device device.0 from.0 ((lawful.rules Masters 4).starts refl) from.1 in
     (within.least, subst (λ (o : Option Units). IfSome o (λ start. start.0 ≤ℤ n.settled.0)) from.2 settled)
 
 -- ---- before a line
@@ -62,7 +63,7 @@ module _ (s : Scenario) (mark : List ℕ) (hs : List Happening) (line : Line) (d
   -- the records of earlier times leave it synchronised
   left : state_after s (earlier line.time line.records) device ≡ Synchronised
   left =
-      not_integrating (is_turned_on_at (scenario_at s.network line) device line.time) (state_after s (earlier line.time line.records) device) ready.synchronised
+      up_state (is_turned_on_at (scenario_at s.network line) device line.time) (state_after s (earlier line.time line.records) device) ready.synchronised
 
   -- at time 0 it shows its start
   pub at_start : line.time ≡ 0 → (pos 0 ≤ℤ shown_at s.network line device) × (shown_at s.network line device ≤ℤ s.network.settled.0)

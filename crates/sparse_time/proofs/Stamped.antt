@@ -4,7 +4,7 @@ use Rattle.std.proofs.lemmas.Bool.{and_parts}
 use Rattle.net_plan.specs.declared.ids.DeviceId.{DeviceId}
 use Rattle.net_plan.specs.declared.network.Network.{Network}
 use Rattle.precision_law.proofs.Plain.{some_if}
-use Rattle.precision_law.proofs.block.Halving.{synchronised_is}
+use Rattle.run_law.proofs.device.States.{is_in}
 use Rattle.run_law.specs.device.States.{is_synchronised, state_before}
 use Rattle.run_law.specs.law.Safety.{IsInStepBefore}
 use Rattle.run_law.specs.scenario.Scenarios.{is_broken}
@@ -29,7 +29,7 @@ stamps_ready network line device e =
     let broken = is_broken (scenario_at network line) device line.time in
     let state = state_before (scenario_at network line) line.records device line.time in
     let both = and_parts (not broken) (is_synchronised state) e in
-    record { correct = not_true broken both.0; synchronised = synchronised_is state both.1 }
+    record { correct = not_true broken both.0; synchronised = is_in state both.1 }
   where
     not_true : (b : Bool) → not b ≡ true → b ≡ false
     not_true true e = absurd cc

@@ -1,21 +1,21 @@
 -- What the events of a run tell at a line of its trace.
 use Rattle.std.proofs.Common.{◌*◌, ◌++◌, ◌<◌, ◌^◌, ◌∙◌, ◌∷◌, ◌≡◌, ◌≤ℤ◌, ◌≤◌, List, [], append_assoc, arith, false, inl, inr, le-leb, leb-true, nat_le, pos, refl, subst, sym, ℕ}
-use Rattle.std.proofs.lemmas.Bool.{cases_lt, false_from_ne_true}
+use Rattle.std.proofs.lemmas.Bool.{false_from_ne_true}
 use Rattle.std.proofs.lemmas.Int.{by_lt_z, ints}
 use Rattle.std.proofs.lemmas.List.Elements.{All-contains}
 use Rattle.net_plan.specs.declared.event.Event.{Event}
 use Rattle.net_plan.specs.declared.ids.DeviceId.{DeviceId}
 use Rattle.net_plan.specs.declared.network.Network.{Network}
-use Rattle.precision_law.proofs.compression.Counted.{contains}
-use Rattle.precision_law.proofs.faults.Masters.{any_in, in_any}
-use Rattle.precision_law.proofs.records.Times.{in_kept, passes}
+use Rattle.precision_law.proofs.records.Times.{in_kept}
 use Rattle.run_law.proofs.law.FirstPlaces.{in_filter}
+use Rattle.run_law.proofs.records.Order.{any_in, contains, has_passed, in_any}
 use Rattle.run_law.proofs.runs.Places.{in_left, in_parts, in_right, parted}
+use Rattle.run_law.proofs.scenario.Devices.{in_turn}
 use Rattle.run_law.specs.declared.outside.Outside.TheVariants as outside
 use Rattle.run_law.specs.law.FirstLaws.{IsEventInRange, IsLawful}
 use Rattle.run_law.specs.records.Happenings.{Happening}
 use Rattle.run_law.specs.records.Order.{IsIn}
-use Rattle.run_law.specs.scenario.Hypothesis.{AreWithinHypothesis, IsWithinHypothesis, breaks_at}
+use Rattle.run_law.specs.scenario.Hypothesis.{AreWithinHypothesis, breaks_at}
 use Rattle.run_law.specs.scenario.Scenarios.{Scenario, events_up_to, is_broken}
 use Rattle.sparse_time.specs.Lines.{IsLineOf, Line, scenario_at}
 use Rattle.tte_units.specs.Amount.{amount}
@@ -32,14 +32,6 @@ in_time s lawful event i =
     let parts = parted event s.events i in
     by_lt_z {P = amount event.time ≤ 2 ^ 20 * amount s.network.cycle} (pos (2 ^ 20 * amount s.network.cycle)) event.time.0
     (λ late. absurd (lawful.within parts.0 parts.1 event parts.2 outside.Late late)) (λ le. omega (arith, ints, le, begun s lawful event i))
-
--- one is not before the last of those that befell before it
-in_turn : (network : Network) (front : List Event) (last event : Event) → IsWithinHypothesis network (front ++ last ∷ []) event → pos 0 ≤ℤ last.time.0
-    → pos 0 ≤ℤ event.time.0 → amount last.time ≤ amount event.time
-in_turn network front last event within first second = elim (cases_lt (amount event.time) (amount last.time)) [
-  | inl sooner ↦ absurd (within outside.Order (record { front = front; last = last; order = refl; later = omega (arith, ints, sooner, first, second) }))
-  | inr later ↦ later
-]
 
 -- nor any behind it
 pub behind_later : (network : Network) (all front rest : List Event) (last : Event) → all ≡ (front ++ last ∷ []) ++ rest → AreWithinHypothesis network all
@@ -79,7 +71,7 @@ module _ (s : Scenario) (mark : List ℕ) (hs : List Happening) (line : Line) (l
       let breaks = λ (e : Event). breaks_at device.0 e.what in
       let by_then = λ (e : Event). nat_le (amount e.time) u in
       let found = any_in breaks (events_up_to s u) broken in
-      let early = leb-true (amount found.0.time) u (passes by_then s.events found.0 found.1) in
+      let early = leb-true (amount found.0.time) u (has_passed by_then s.events found.0 found.1) in
       elim (in_parts found.0 line.befallen of.behind (subst (IsIn found.0) of.trace (in_filter by_then s.events found.0 found.1))) [
         | inl before ↦
             let kept = in_kept (λ (e : Event). nat_le (amount e.time) line.time) line.befallen found.0 before

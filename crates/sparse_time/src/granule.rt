@@ -58,7 +58,7 @@ impl Granule {
     pub fn stamp_wide(&self, local: i128) -> i64
         requires low { neg_ℤ (pos (2 ^ 64)) ≤ℤ local }
         requires high { local ≤ℤ pos (2 ^ 64) }
-        ensures value { result ≡ stamp_of self.now local }
+        ensures { result ≡ stamp_of self.now local }
     {
         local.div_euclid(i128::from(self.units)) as i64
     }

@@ -1,0 +1,43 @@
+-- The answer of `stamp` is one, and valid input is answered to its end.
+use Rattle.std.proofs.Common.{◌≡◌, ℕ, ◌≤◌, List, ◌∙◌, sym, inl, inr}
+use Rattle.net_plan.specs.declared.event.Event.{Event}
+use Rattle.net_plan.specs.declared.network.Network.{Network}
+use Rattle.schedule_checker.specs.Refusals.{RefusalIsOne}
+use Rattle.sparse_time.specs.Granules.{least_granule}
+use Rattle.tte_forms.proofs.OneAnswers.{answered_done}
+use Rattle.tte_forms.proofs.networks.Answers.{accepted_alone, network_answer_one}
+use Rattle.tte_forms.specs.Answering.{Answer, GivesAnswer, IsDone}
+use Rattle.tte_forms.specs.Putting.{Shown}
+use Rattle.tte_forms.specs.declared.status.Status.{Status}
+use Rattle.tte_forms.specs.declared.status.Status.TheVariants.{ReadFault, WriteFault}
+use Rattle.tte_forms.specs.networks.Accepting.{IsNetworkAnswer, MeansAccepted}
+use Rattle.tte_stamps.proofs.Ends.{refused_alone, run_alone}
+use Rattle.tte_stamps.specs.Answer.{IsStampAnswer}
+use Rattle.tte_stamps.specs.StampLines.{stamp_lines}
+use Rattle.tte_traces.proofs.Answers.{trace_answer_one}
+use Rattle.tte_traces.proofs.Given.{all_done}
+use Rattle.tte_traces.specs.Along.{IsAllAdmitted}
+use Rattle.tte_units.specs.Amount.{amount}
+use Rattle.tte_units.specs.declared.units.Units.{Units}
+
+pub stamp_answer_one : (granule : Units) (network : Network) (trace : List ℕ) (a b : Answer) → IsStampAnswer granule trace network a
+    → IsStampAnswer granule trace network b → a ≡ b
+stamp_answer_one granule network trace a b (inl p) q = p.1 ∙ sym (refused_alone granule network trace p.0 b q)
+stamp_answer_one granule network trace a b (inr p) q =
+    trace_answer_one (stamp_lines (amount granule)) network trace a b p.1 (run_alone granule network trace p.0 b q)
+
+-- the octets of a network file and of a trace have one answer
+pub stamp_one : RefusalIsOne → (granule : Units) (octets trace : List ℕ) (a b : Answer) → IsNetworkAnswer (IsStampAnswer granule trace) octets a
+    → IsNetworkAnswer (IsStampAnswer granule trace) octets b → a ≡ b
+stamp_one one granule octets trace a b p q =
+    network_answer_one one (IsStampAnswer granule trace) octets (λ network accepted. stamp_answer_one granule network trace) a b p q
+
+-- an accepted network under a trace that is admitted to its end is stamped to its end, in granules that it allows
+pub stamp_whole : (granule : Units) (octets trace : List ℕ) (network : Network) (events : List Event) (status : Status) (old new : Shown)
+    (SourceRose SinkRose : Type 0) → MeansAccepted octets network → least_granule network ≤ amount granule → IsAllAdmitted network trace events
+    → GivesAnswer (IsNetworkAnswer (IsStampAnswer granule trace) octets) status old new → (status ≡ ReadFault → SourceRose)
+    → (status ≡ WriteFault → SinkRose) → (SourceRose → ⊥) → (SinkRose → ⊥) → IsDone status
+stamp_whole granule octets trace network events status old new SourceRose SinkRose m fine all g =
+    answered_done (IsNetworkAnswer (IsStampAnswer granule trace) octets) status old new SourceRose SinkRose g
+    (λ a is. inl (all_done (stamp_lines (amount granule)) trace network events a all
+    (run_alone granule network trace fine a (accepted_alone (IsStampAnswer granule trace) octets network m a is))))

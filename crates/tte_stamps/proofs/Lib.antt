@@ -1,0 +1,14 @@
+pub mod SameRecords
+pub mod SameStamps
+pub mod Staying
+pub mod Ordered
+pub mod OneStamp
+pub mod Beginning
+pub mod Stamped
+pub mod EventLines
+pub mod Along
+pub mod Telling
+pub mod Safely
+pub mod Ends
+pub mod Existing
+pub mod Completes

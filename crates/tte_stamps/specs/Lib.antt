@@ -1,0 +1,4 @@
+pub mod StampLines
+pub mod Answer
+pub mod Safely
+pub mod Stamping
