@@ -1,0 +1,15 @@
+pub mod Settled
+pub mod Cuts
+pub mod Puts
+pub mod Spelt
+pub mod Seen
+pub mod Given
+pub mod Sent
+pub mod Befallen
+pub mod Passing
+pub mod Fronts
+pub mod Along
+pub mod Ended
+pub mod Headed
+pub mod Networks
+pub mod Safely

@@ -1,0 +1,7 @@
+use Rattle.std.proofs.Common.{Ok, map, take}
+use Rattle.tte_wires.specs.Packets.{packet_at}
+use Rattle.tte_wires.specs.Seeing.{PutsAll}
+use Rattle.tte_wires.proofs.frames.put_frames.Given as goal
+
+abbrev pub invariant-frames : goal.invariant-frames
+invariant-frames g l = PutsAll {T = Unit {0}} g.K.Sink (map (packet_at l.fn.time) (take l.frame-index l.fn.frames)) (Ok (tt {0})) l.fn.out l.out

@@ -1,0 +1,6 @@
+pub mod Packets
+pub mod Answer
+pub mod Streaming
+pub mod Safely
+pub mod Seeing
+pub mod Stopping
