@@ -1,4 +1,4 @@
-ghost use Rattle.std.specs.Prelude.{◌≡◌, ◌≤◌, length, MatchOption, None, Some};
+ghost use Rattle.std.specs.Prelude.{◌≡◌, ◌≤◌, length, IfSome, MatchOption, None, Some};
 ghost use Rattle.tmr_vote.specs.Vote.{IsOpen, IsVote, no_votes, payload_of, vote_of, with_payload};
 
 use crate::seat::Seat;
@@ -71,8 +71,9 @@ impl Ballot {
 
     /// The payload of a seat. It is None exactly where the seat is not cast or is at least 3.
     pub fn payload(&self, seat: u32) -> Option<&[u8]>
-        ensures { MatchOption result (payload_of self.now seat ≡ None)
+        ensures value { MatchOption result (payload_of self.now seat ≡ None)
             (λ payload. payload_of self.now seat ≡ Some payload.now) }
+        ensures most { IfSome result (λ payload. length payload.now ≤ 1500) }
     {
         match seat {
             0 => self.first.payload(),

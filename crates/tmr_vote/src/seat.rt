@@ -1,4 +1,4 @@
-ghost use Rattle.std.specs.Prelude.{◌≡◌, ◌↔◌, ◌≤◌, length, MatchOption, IsTrue, Some, None};
+ghost use Rattle.std.specs.Prelude.{◌≡◌, ◌↔◌, ◌≤◌, length, IfSome, MatchOption, IsTrue, Some, None};
 ghost use Rattle.tmr_vote.specs.Vote.{AreEqual, are_equal};
 
 use std::marker::Model;
@@ -52,7 +52,8 @@ impl Seat {
 
     /// Its payload. It is None exactly where it is not cast.
     pub fn payload(&self) -> Option<&[u8]>
-        ensures { MatchOption result (self.now ≡ None) (λ payload. self.now ≡ Some payload.now) }
+        ensures value { MatchOption result (self.now ≡ None) (λ payload. self.now ≡ Some payload.now) }
+        ensures most { IfSome result (λ payload. length payload.now ≤ 1500) }
     {
         match self.len {
             Some(len) => Some(&self.octets[..len]),

@@ -2,10 +2,11 @@
 use Rattle.std.proofs.Common.{◌≡◌, ℕ, ◌-◌, ◌==◌, ◌&&◌, true, List, ◌++◌, Option, Some, drop, length, replicate, refl, sym, ap, ◌∙◌, arith, append_assoc, length-append}
 use Rattle.std.specs.Prelude.{option_and_then, option_map}
 use Rattle.std.proofs.Math.Seq.{drop-append_seam}
-use Rattle.std.proofs.lemmas.Bool.{eq-eqb, eqb-true}
+use Rattle.std.proofs.lemmas.Bool.{and_from, eq-eqb, eqb-true}
 use Rattle.byteorder.specs.Endian.{big_bytes}
 use Rattle.byteorder.specs.Numbers.{length-bytes_high_first}
 use Rattle.frame_trace.specs.RecordOctets.{record_octets, shown}
+use Rattle.net_plan.proofs.SameIds.{same_device, same_vl}
 use Rattle.net_plan.specs.declared.ids.DeviceId.{DeviceId}
 use Rattle.net_plan.specs.declared.ids.LinkId.{LinkId}
 use Rattle.net_plan.specs.declared.ids.VlId.{VlId}
@@ -18,7 +19,8 @@ use Rattle.run_law.specs.records.Frames.{mac_of, tt_frame_by}
 use Rattle.run_law.specs.records.Happenings.{Happening}
 use Rattle.run_law.specs.records.Order.{IsIn}
 use Rattle.run_law.specs.scenario.Scenarios.{Scenario}
-use Rattle.vote_law.proofs.Found.{both_true, find_one, left_true, right_true}
+use Rattle.tte_lemmas.proofs.Bools.{both_left, both_right}
+use Rattle.vote_law.proofs.Found.{find_one}
 use Rattle.vote_law.specs.Ballots.{delivery_of, is_delivery, payload_in, payload_taken}
 use Rattle.vote_law.specs.Outvoting.{sent_payload}
 
@@ -81,31 +83,25 @@ the_device n = record { 0 = n }
 abbrev the_vl : ℕ → VlId
 the_vl n = record { 0 = n }
 
-same_device : (a b : DeviceId) → a.0 ≡ b.0 → a ≡ b
-same_device a b e = ap the_device e
-
-same_vl : (a b : VlId) → a.0 ≡ b.0 → a ≡ b
-same_vl a b e = ap the_vl e
-
 -- the record is one of the device, the virtual link and the cycle
 abbrev IsSuch : VlId → ℕ → DeviceId → NoteBody → Type 0
 IsSuch vl cycle device body = (link : LinkId) × (cause : ℕ) × (body ≡ notes.Delivered device link cause vl cycle)
 
 told : (vl : VlId) (cycle : ℕ) (device : DeviceId) (body : NoteBody) → is_delivery vl cycle device body ≡ true → IsSuch vl cycle device body
 told vl cycle device (notes.Delivered other link cause of_vl of_cycle) e =
-    let rest = right_true (device.0 == other.0) (vl.0 == of_vl.0 && cycle == of_cycle) e in
+    let rest = both_right (device.0 == other.0) (vl.0 == of_vl.0 && cycle == of_cycle) e in
     let devices : device ≡ other = same_device device other
-    (eqb-true device.0 other.0 (left_true (device.0 == other.0) (vl.0 == of_vl.0 && cycle == of_cycle) e)) in
-    let vls : vl ≡ of_vl = same_vl vl of_vl (eqb-true vl.0 of_vl.0 (left_true (vl.0 == of_vl.0) (cycle == of_cycle) rest)) in
-    let cycles : cycle ≡ of_cycle = eqb-true cycle of_cycle (right_true (vl.0 == of_vl.0) (cycle == of_cycle) rest) in
+    (eqb-true device.0 other.0 (both_left (device.0 == other.0) (vl.0 == of_vl.0 && cycle == of_cycle) e)) in
+    let vls : vl ≡ of_vl = same_vl vl of_vl (eqb-true vl.0 of_vl.0 (both_left (vl.0 == of_vl.0) (cycle == of_cycle) rest)) in
+    let cycles : cycle ≡ of_cycle = eqb-true cycle of_cycle (both_right (vl.0 == of_vl.0) (cycle == of_cycle) rest) in
     (link, cause, cc)
 told vl cycle device other e = absurd cc
 
 hits : (vl : VlId) (cycle : ℕ) (device : DeviceId) (link : LinkId) (cause : ℕ)
     → is_delivery vl cycle device (notes.Delivered device link cause vl cycle) ≡ true
 hits vl cycle device link cause =
-    both_true (device.0 == device.0) (vl.0 == vl.0 && cycle == cycle) (eq-eqb device.0 device.0 refl)
-    (both_true (vl.0 == vl.0) (cycle == cycle) (eq-eqb vl.0 vl.0 refl) (eq-eqb cycle cycle refl))
+    and_from (device.0 == device.0) (vl.0 == vl.0 && cycle == cycle) (eq-eqb device.0 device.0 refl)
+    (and_from (vl.0 == vl.0) (cycle == cycle) (eq-eqb vl.0 vl.0 refl) (eq-eqb cycle cycle refl))
 
 -- what is taken of a frame that is delivered once, as it was sent
 pub payload_delivered : (s : Scenario) (hs : List Happening) (vl : VlId) (of_vl : VirtualLink) (cycle : ℕ) (device : DeviceId)

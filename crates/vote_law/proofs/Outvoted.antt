@@ -8,8 +8,8 @@ use Rattle.net_plan.specs.declared.tables.VirtualLink.{VirtualLink}
 use Rattle.run_law.specs.law.Safety.{FramesAreDelivered, IsOwed}
 use Rattle.run_law.specs.records.Happenings.{Happening}
 use Rattle.run_law.specs.scenario.Scenarios.{Scenario}
+use Rattle.tte_lemmas.proofs.Bools.{both_left, both_right}
 use Rattle.vote_law.proofs.Delivered.{payload_delivered}
-use Rattle.vote_law.proofs.Found.{left_true, right_true}
 use Rattle.vote_law.proofs.Voted.{first_and_second, first_and_third, second_and_third}
 use Rattle.vote_law.specs.Ballots.{ballot_of, payload_taken}
 use Rattle.vote_law.specs.Outvoting.{TwoOutvoteTheThird, sent_payload}
@@ -18,8 +18,8 @@ use Rattle.vote_law.specs.Voting.{is_match}
 same_length : (a b : VirtualLink) → is_match a b ≡ true → a.length ≡ b.length
 same_length a b e =
     eqb-true a.length b.length
-    (left_true (a.length == b.length) (a.period == b.period && a.phase == b.phase)
-    (right_true (not (a.sender.0 == b.sender.0)) (a.length == b.length && (a.period == b.period && a.phase == b.phase)) e))
+    (both_left (a.length == b.length) (a.period == b.period && a.phase == b.phase)
+    (both_right (not (a.sender.0 == b.sender.0)) (a.length == b.length && (a.period == b.period && a.phase == b.phase)) e))
 
 -- senders of virtual links of one length make one payload
 same_payload : (a b : VirtualLink) (cycle : ℕ) → is_match a b ≡ true → sent_payload b cycle ≡ sent_payload a cycle
@@ -35,8 +35,8 @@ pub two_outvote_the_third : TwoOutvoteTheThird
 two_outvote_the_third s hs until voters a b c cycle device may delivered two =
     let ballot = ballot_of voters hs cycle device in
     let p = sent_payload a cycle in
-    let of_a = left_true (is_match a b) (is_match a c && is_match b c) may.told in
-    let of_b = left_true (is_match a c) (is_match b c) (right_true (is_match a b) (is_match a c && is_match b c) may.told) in
+    let of_a = both_left (is_match a b) (is_match a c && is_match b c) may.told in
+    let of_b = both_left (is_match a c) (is_match b c) (both_right (is_match a b) (is_match a c && is_match b c) may.told) in
     let as_b = ap Some (same_payload a b cycle of_a) in
     let as_c = ap Some (same_payload a c cycle of_b) in
     elim two [

@@ -2,9 +2,8 @@
 use Rattle.std.proofs.Common.{◌≡◌, ◌||◌, ℕ, Bool, true, false, nat_eq, List, Option, Some, None, inl, inr, refl, sym, ap, ◌∙◌}
 use Rattle.std.specs.Cmp.Lexicographic.{other_text, pointwise, same_text}
 use Rattle.std.specs.Prelude.{if◌then◌else◌, option_and_then}
-use Rattle.std.proofs.lemmas.Bool.{cases_Bool}
+use Rattle.std.proofs.lemmas.Bool.{cases_Bool, or_cases, or_right}
 use Rattle.tmr_vote.specs.Vote.{Votes, are_equal, payload_of, voted}
-use Rattle.vote_law.proofs.Found.{or_right, or_split}
 
 equal_self : (p : List ℕ) → pointwise nat_eq p p ≡ true
 equal_self p = elim (cases_Bool (pointwise nat_eq p p)) [ inl same ↦ same | inr other ↦ absurd (other_text p p (sym other) refl) ]
@@ -43,7 +42,7 @@ second_and_third v p e f =
     let a = are_equal v.first v.second in
     let b = are_equal v.first v.third in
     elim (cases_Bool (a || b)) [
-      | inl t ↦ elim (or_split a b t) [
+      | inl t ↦ elim (or_cases a b t) [
         | inl s ↦ by_first v p (equal_told v.first v.second p s e) t
         | inr s ↦ by_first v p (equal_told v.first v.third p s f) t
       ]

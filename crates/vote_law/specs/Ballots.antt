@@ -7,12 +7,7 @@ use Rattle.run_law.specs.declared.note.NoteBody.TheVariants as notes
 use Rattle.run_law.specs.declared.note.NoteBody.{NoteBody}
 use Rattle.run_law.specs.records.Happenings.{Happening}
 use Rattle.tmr_vote.specs.Vote.{Votes}
-
--- the three virtual links of a vote, in the order of the words
-pub record Voters : Type 0 where
-  pub first : VlId
-  pub second : VlId
-  pub third : VlId
+use Rattle.vote_law.specs.declared.voters.Voters.{Voters}
 
 -- does the device take a frame of the virtual link by this record, in this cycle of its own?
 abbrev pub is_delivery : VlId → ℕ → DeviceId → NoteBody → Bool

@@ -7,7 +7,8 @@ use Rattle.run_law.specs.law.Safety.{FramesAreDelivered, IsOwed}
 use Rattle.run_law.specs.records.Happenings.{Happening}
 use Rattle.run_law.specs.scenario.Scenarios.{Scenario}
 use Rattle.tmr_vote.specs.Vote.{voted}
-use Rattle.vote_law.specs.Ballots.{Voters, ballot_of}
+use Rattle.vote_law.specs.Ballots.{ballot_of}
+use Rattle.vote_law.specs.declared.voters.Voters.{Voters}
 use Rattle.vote_law.specs.Voting.{MayVote}
 
 -- the payload that a correct sender makes for a cycle: the cycle in four octets, and zeros

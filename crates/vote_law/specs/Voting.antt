@@ -2,7 +2,7 @@
 use Rattle.std.specs.Prelude.{◌≡◌, ◌==◌, ◌&&◌, not, Bool, Some, slice_get}
 use Rattle.net_plan.specs.declared.network.Network.{Network}
 use Rattle.net_plan.specs.declared.tables.VirtualLink.{VirtualLink}
-use Rattle.vote_law.specs.Ballots.{Voters}
+use Rattle.vote_law.specs.declared.voters.Voters.{Voters}
 
 -- have the two other senders, and one length, one period and one phase?
 abbrev pub is_match : VirtualLink → VirtualLink → Bool

@@ -3,5 +3,7 @@
 #![tactic(auto)]
 
 mod law;
+mod voters;
 
 pub use law::two_outvote_the_third;
+pub use voters::Voters;

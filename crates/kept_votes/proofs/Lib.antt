@@ -1,0 +1,5 @@
+pub mod Casting
+pub mod Ballots
+pub mod Filled
+pub mod Kept
+pub mod First

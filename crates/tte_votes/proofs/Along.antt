@@ -1,0 +1,59 @@
+-- The observer of `vote` puts nothing along the run.
+use Rattle.std.proofs.Common.{◌≡◌, ℕ, List, [], Option, Some, None, inl, inr, refl, sym, subst}
+use Rattle.net_plan.specs.declared.network.Network.{Network}
+use Rattle.tte_forms.proofs.Octets.{for_all}
+use Rattle.tte_forms.proofs.OneAnswers.{none_put}
+use Rattle.tte_forms.proofs.Puts.{PutsLines-none}
+use Rattle.tte_forms.specs.Answering.{Answer, GivesOne}
+use Rattle.tte_forms.specs.Putting.{PutsLines, Shown}
+use Rattle.tte_forms.specs.declared.status.Status.TheVariants.{OutOfMemory}
+use Rattle.tte_traces.proofs.Streams.{untouched, writes_nothing}
+use Rattle.tte_traces.specs.Along.{PutsAlong}
+use Rattle.tte_traces.specs.Answer.{IsTraceAnswer}
+use Rattle.tte_traces.specs.Report.{StopsLines, shown_as}
+use Rattle.tte_votes.specs.Ending.{VotesEnd}
+use Rattle.tte_votes.specs.Streaming.{no_lines}
+use Rattle.tte_votes.specs.VoteLines.{vote_lines}
+use Rattle.tte_votes.specs.Voting.{SeesVotes, StopsVotes}
+use Rattle.tte_votes.specs.declared.voter.Voter.{Voter}
+use Rattle.vote_law.specs.declared.voters.Voters.{Voters}
+use Rattle.world_drive.specs.Observing.{Sees, Stops, Told}
+use Rattle.world_drive.specs.declared.observing.Cut.{Cut}
+use Rattle.world_drive.specs.declared.observing.Cut.TheVariants as cuts
+
+-- what it sees
+abbrev pub vote_sees : Sees Voter
+vote_sees network events notes instant old put it = SeesVotes network notes old put it
+
+abbrev pub vote_stops : Stops Voter
+vote_stops network events notes cut old put = StopsVotes old put
+
+-- the answers that it is for
+abbrev pub IsOwn : Voter → List ℕ → Network → Answer → Type 0
+IsOwn begun octets network a = IsTraceAnswer (vote_lines begun.votes.voters) octets network a
+
+none_along : (old put : Told) → put ≡ old → PutsLines [] (shown_as old) (shown_as put)
+none_along old put same = subst (λ (t : Told). PutsLines [] (shown_as old) (shown_as t)) (sym same) (PutsLines-none (shown_as old))
+
+none_stops : (cut : Cut) (old put : Told) → put ≡ old → StopsLines [] cut old put
+none_stops cuts.WriteFault old put same = inr (none_along old put same)
+none_stops cuts.OutOfMemory old put same = none_along old put same
+
+pub votes_along : (begun : Voter) → PutsAlong begun vote_sees vote_stops no_lines (IsOwn begun)
+votes_along begun = record {
+  at_first = λ network. refl;
+  so_far = λ network events notes old put o run seen. none_along old put seen.nothing;
+  all = λ network octets events notes old put o admitted run seen. none_along old put seen.nothing;
+  front = λ network octets events notes admitted run a is. (a.lines, refl);
+  short = λ network octets events next befallen notes cut old put at stops. ([], none_stops cut old put stops, λ a is. (a.lines, refl));
+}
+
+-- where there is no memory for a run, nothing was put
+pub votes_no_memory : (voters : Voters) (network : Network) (left : Option (List ℕ)) (s : Shown) → VotesEnd voters network left left OutOfMemory s s
+votes_no_memory voters network left s = record {
+  general =
+      for_all left (λ trace. GivesOne (IsTraceAnswer (vote_lines voters) trace network) OutOfMemory s s)
+      (λ trace. inr (inr (inr refl, λ a is. none_put a.lines s s (PutsLines-none s))));
+  cut = λ is. absurd cc;
+  little = untouched no_lines network left s s refl (writes_nothing s);
+}

@@ -1,0 +1,9 @@
+pub mod Places
+pub mod Loops
+pub mod Told
+pub mod Outvoted
+pub mod Along
+pub mod Ended
+pub mod Safely
+pub mod Ends
+pub mod Completes

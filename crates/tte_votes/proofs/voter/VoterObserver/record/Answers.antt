@@ -1,0 +1,16 @@
+use Rattle.std.proofs.Common.{◌+◌, ◌∷◌, ◌++◌, [], length, ◌≡◌, sym, subst}
+use Rattle.kept_votes.specs.Keeping.{HoldsVotes}
+use Rattle.run_law.specs.declared.note.Note.{Note}
+use Rattle.tte_votes.proofs.Loops.{number_given}
+use Rattle.tte_votes.proofs.voter.VoterObserver.record.Goals as goal
+
+pub returns-in-Ok-clause-goes : goal.returns-in-Ok-clause-goes
+returns-in-Ok-clause-goes g c = λ events notes instant old given seen.
+    let network = c.args._network.now in
+    let number = number_given network c.args._world.now events notes c.args.note.now given.stands in
+    record {
+      votes = subst (λ (n : Note). HoldsVotes network old.observer.votes.voters (notes ++ n ∷ []) c.note-2.new.self) c.note.ensures
+          (c.in-Ok.ensures network old.observer.votes.voters notes seen.votes
+          (subst (λ (n : Note). n.number ≡ length notes + 1) (sym c.note.ensures) number));
+      nothing = seen.nothing;
+    }

@@ -1,0 +1,24 @@
+use Rattle.std.proofs.Common.{[], refl, sym, subst}
+use Rattle.kept_votes.specs.Keeping.{HoldsVotes}
+use Rattle.tte_forms.specs.Putting.{shown_by}
+use Rattle.tte_votes.proofs.Along.{votes_no_memory}
+use Rattle.tte_votes.specs.Ending.{VotesEnd}
+use Rattle.vote_law.specs.declared.voters.Voters.{Voters}
+use Rattle.tte_votes.proofs.voting.vote_run.Goals as goal
+
+pub vote_world-requires : goal.vote_world-requires
+vote_world-requires g c = record {
+  votes = subst (λ (v : Voters). HoldsVotes c.args.accepted.now v [] c.in-Ok.votes) (sym c.in-Ok.ensures.voters_are) c.in-Ok.ensures;
+  nothing = refl;
+}
+
+pub returns-in-Ok-clause-ends : goal.returns-in-Ok-clause-ends
+returns-in-Ok-clause-ends g c =
+    let shown = shown_by g.K.Sink in
+    let left = g.B.Source.left in
+    subst (λ (v : Voters). VotesEnd v c.args.accepted.now (left c.args.second.now) (left c.vote_world.new.second) c.vote_world.result (shown c.args.out.now)
+    (shown c.vote_world.new.out)) c.in-Ok.ensures.voters_are c.vote_world.ensures.ends
+
+pub returns-in-Err-clause-ends : goal.returns-in-Err-clause-ends
+returns-in-Err-clause-ends g c =
+    votes_no_memory c.args.voters c.args.accepted.now (g.B.Source.left c.args.second.now) (shown_by g.K.Sink c.args.out.now)

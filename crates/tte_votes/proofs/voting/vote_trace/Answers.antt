@@ -1,0 +1,60 @@
+use Rattle.std.proofs.Common.{inr}
+use Rattle.tte_forms.specs.Putting.{shown_by}
+use Rattle.tte_traces.proofs.Sources.{trace_unaccepted}
+use Rattle.tte_votes.proofs.Ends.{general_of, little_of, stops_of, vote_accepted}
+use Rattle.tte_votes.proofs.Safely.{none_safely, voted_safely}
+use Rattle.tte_votes.specs.Answer.{IsVoteAnswer, the_names}
+use Rattle.tte_votes.proofs.voting.vote_trace.Goals as goal
+
+pub returns-in-Ok-clause-general : goal.returns-in-Ok-clause-general
+returns-in-Ok-clause-general g c =
+    let shown = shown_by g.K.Sink in
+    let names = the_names c.args.one.now c.args.two.now c.args.three.now in
+    let second = g.B.Source.left c.args.second.now in
+    vote_accepted names (g.A.Source.left c.args.first.now) second c.in-Ok.accepted c.vote_network.result (shown c.args.out.now) (shown c.vote_network.new.out)
+    c.in-Ok.ensures.accepted
+    (general_of names c.in-Ok.accepted second (g.B.Source.left c.vote_network.new.second) c.vote_network.result (shown c.args.out.now)
+    (shown c.vote_network.new.out) c.in-Ok.ensures.range c.vote_network.ensures.ends)
+
+pub returns-in-Err-clause-general : goal.returns-in-Err-clause-general
+returns-in-Err-clause-general g c =
+    let shown = shown_by g.K.Sink in
+    trace_unaccepted (IsVoteAnswer (the_names c.args.one.now c.args.two.now c.args.three.now)) (g.A.Source.left c.args.first.now)
+    (g.B.Source.left c.args.second.now) c.in-Err.cause c.put_no_network.result (shown c.args.out.now) (shown c.put_no_network.new.out) c.in-Err.ensures.none
+    c.put_no_network.ensures.gives c.put_no_network.ensures.unput
+
+pub returns-in-Ok-clause-safe : goal.returns-in-Ok-clause-safe
+returns-in-Ok-clause-safe g c =
+    let shown = shown_by g.K.Sink in
+    let names = the_names c.args.one.now c.args.two.now c.args.three.now in
+    let second = g.B.Source.left c.args.second.now in
+    voted_safely names (g.A.Source.left c.args.first.now) second c.in-Ok.accepted c.vote_network.result (shown c.args.out.now) (shown c.vote_network.new.out)
+    c.in-Ok.ensures.range c.in-Ok.ensures.accepted
+    (general_of names c.in-Ok.accepted second (g.B.Source.left c.vote_network.new.second) c.vote_network.result (shown c.args.out.now)
+    (shown c.vote_network.new.out) c.in-Ok.ensures.range c.vote_network.ensures.ends)
+
+pub returns-in-Err-clause-safe : goal.returns-in-Err-clause-safe
+returns-in-Err-clause-safe g c =
+    let shown = shown_by g.K.Sink in
+    none_safely (the_names c.args.one.now c.args.two.now c.args.three.now) (g.A.Source.left c.args.first.now) (g.B.Source.left c.args.second.now)
+    c.in-Err.cause c.put_no_network.result (shown c.args.out.now) (shown c.put_no_network.new.out) c.in-Err.ensures.none c.put_no_network.ensures.gives
+
+pub returns-in-Ok-clause-faults : goal.returns-in-Ok-clause-faults
+returns-in-Ok-clause-faults g c =
+    let shown = shown_by g.K.Sink in
+    let names = the_names c.args.one.now c.args.two.now c.args.three.now in
+    record {
+      read = λ is. inr (
+        c.vote_network.ensures.cause.read is,
+        stops_of names c.in-Ok.accepted (g.B.Source.left c.args.second.now) (g.B.Source.left c.vote_network.new.second) c.vote_network.result
+            (shown c.args.out.now) (shown c.vote_network.new.out) (g.A.Source.left c.args.first.now) c.in-Ok.ensures.accepted is c.vote_network.ensures.ends,
+      );
+      write = c.vote_network.ensures.cause.write;
+    }
+
+pub returns-in-Ok-clause-little : goal.returns-in-Ok-clause-little
+returns-in-Ok-clause-little g c =
+    let shown = shown_by g.K.Sink in
+    little_of (the_names c.args.one.now c.args.two.now c.args.three.now) c.in-Ok.accepted (g.B.Source.left c.args.second.now)
+    (g.B.Source.left c.vote_network.new.second) c.vote_network.result (shown c.args.out.now) (shown c.vote_network.new.out) (g.A.Source.left c.args.first.now)
+    c.in-Ok.ensures.accepted c.vote_network.ensures.ends
