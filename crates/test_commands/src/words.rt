@@ -1,11 +1,14 @@
 use crate::cases::{Case, try_case, words_of};
+use net_plan::Way;
 use std::test::Fail;
 use tte_forms::{Form, read_form};
 use tte_run::Status;
+use tte_units::Units;
 
 const USAGE: &str =
     "usage: tte show FILE | check NETWORK | run NETWORK TRACE | storm NETWORK SEED CYCLES | \
-                     audit NETWORK REPORT | capture FILE\n";
+                     stamp NETWORK TRACE GRANULE | audit NETWORK REPORT | capture FILE | \
+                     wire NETWORK TRACE LINK WAY | vote NETWORK TRACE VL VL VL\n";
 
 const NO_FORMS: &[&[&str]] = &[
     &[],
@@ -49,6 +52,35 @@ const NO_FORMS: &[&[&str]] = &[
     &["storm", "a", "1 ", "1"],
     &["storm", "a", "1", "0x1"],
     &["storm", "a", "one", "1"],
+    &["stamp"],
+    &["stamp", "a"],
+    &["stamp", "a", "b"],
+    &["stamp", "a", "b", "1", "1"],
+    &["Stamp", "a", "b", "1"],
+    // Granules of no units, of more than 2^60, and what is no decimal number.
+    &["stamp", "a", "b", "0"],
+    &["stamp", "a", "b", "1152921504606846977"],
+    &["stamp", "a", "b", "18446744073709551617"],
+    &["stamp", "a", "b", "01"],
+    &["stamp", "a", "b", "+1"],
+    &["stamp", "a", "b", "-1"],
+    &["stamp", "a", "b", "1 "],
+    &["stamp", "a", "b", ""],
+    &["stamp", "a", "b", "x"],
+    &["wire"],
+    &["wire", "a", "b"],
+    &["wire", "a", "b", "l"],
+    &["wire", "a", "b", "l", "up", "up"],
+    &["Wire", "a", "b", "l", "up"],
+    &["wire", "a", "b", "l", ""],
+    &["wire", "a", "b", "l", "Up"],
+    &["wire", "a", "b", "l", "up "],
+    &["wire", "a", "b", "up", "l"],
+    &["vote"],
+    &["vote", "a", "b"],
+    &["vote", "a", "b", "v1", "v2"],
+    &["vote", "a", "b", "v1", "v2", "v3", "v4"],
+    &["Vote", "a", "b", "v1", "v2", "v3"],
 ];
 
 // The words of storms, with their seeds and cycles.
@@ -61,6 +93,21 @@ const STORMS: &[(&[&str], u64, u32)] = &[
         u64::MAX,
         100_000,
     ),
+];
+
+// Granules, and how many units they are.
+const GRANULES: &[(&str, i64)] = &[
+    ("1", 1),
+    ("4194304000", 4_194_304_000),
+    ("1152921504606846976", 1_152_921_504_606_846_976),
+];
+
+// Links with the words of their ways.
+const WAYS: &[(&str, &str, Way)] = &[
+    ("m1_a", "up", Way::Up),
+    ("m1_a", "down", Way::Down),
+    ("up", "down", Way::Down),
+    ("", "up", Way::Up),
 ];
 
 #[test]
@@ -84,12 +131,44 @@ fn words_of_no_form_are_answered_by_the_usage(rt: HostRuntime) -> Result<(), Fai
 fn words_of_storms_are_read(rt: HostRuntime) -> Result<(), Fail> {
     for (texts, seed, cycles) in STORMS {
         let words = words_of(rt.alloc(), texts)?;
-        let storm = Form::Storm {
-            seed: *seed,
-            cycles: *cycles,
-        };
-        assert_eq!(rt; read_form(&words), Some(storm));
+        let form = read_form(&words);
+        assert!(rt;
+            matches!(form, Some(Form::Storm { seed: s, cycles: c }) if s == *seed && c == *cycles)
+        );
     }
+    Ok(())
+}
+
+#[test]
+fn granules_are_read(rt: HostRuntime) -> Result<(), Fail> {
+    for (text, units) in GRANULES {
+        let words = words_of(rt.alloc(), &["stamp", "a", "b", text])?;
+        let form = read_form(&words);
+        assert!(rt; matches!(form, Some(Form::Stamp { granule }) if granule == Units(*units)));
+    }
+    Ok(())
+}
+
+#[test]
+fn ways_of_links_are_read(rt: HostRuntime) -> Result<(), Fail> {
+    for (name, text, of) in WAYS {
+        let words = words_of(rt.alloc(), &["wire", "a", "b", name, text])?;
+        let form = read_form(&words);
+        assert!(rt;
+            matches!(&form, Some(Form::Wire { link, way }) if link.text() == *name && *way == *of)
+        );
+    }
+    Ok(())
+}
+
+#[test]
+fn names_of_votes_are_read(rt: HostRuntime) -> Result<(), Fail> {
+    let words = words_of(rt.alloc(), &["vote", "a", "b", "v1", "", "v2"])?;
+    let form = read_form(&words);
+    assert!(rt;
+        matches!(&form, Some(Form::Vote { first, second, third })
+        if first.text() == "v1" && second.text().is_empty() && third.text() == "v2")
+    );
     Ok(())
 }
 

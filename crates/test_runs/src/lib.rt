@@ -10,4 +10,8 @@ mod running;
 #[cfg(test)]
 mod tracing;
 #[cfg(test)]
+mod votes;
+#[cfg(test)]
+mod wires;
+#[cfg(test)]
 mod worked;

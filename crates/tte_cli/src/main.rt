@@ -45,7 +45,32 @@ fn run(rt: &HostRuntime, alloc: Global) -> Result<Status, OutOfMemory> {
         };
         let _told = eprintln!(rt; "tte: cannot read {unread}");
     }
+    if words.get(0) == Some("wire") {
+        explain_wire(rt, status);
+    }
     Ok(status)
+}
+
+/// Says on standard error why `wire` ended so, which puts no line for any refusal.
+fn explain_wire(rt: &HostRuntime, status: Status) {
+    let meaning = match status {
+        Status::NetworkRefused => "the network is refused; check says why",
+        Status::TraceRefused => "a line of the trace is refused; run says which",
+        Status::OutsideHypothesis => "an event is outside the fault hypothesis; run says which",
+        Status::NameRefused => "the network has no link of this name",
+        Status::Done
+        | Status::Usage
+        | Status::FrameRefused
+        | Status::ReadFault
+        | Status::WriteFault
+        | Status::OutOfMemory
+        | Status::TooLong
+        | Status::GranuleRefused
+        | Status::AuditRefused
+        | Status::CaptureRefused
+        | Status::VoteRefused => return,
+    };
+    let _told = eprintln!(rt; "tte: {meaning}");
 }
 
 /// Says on standard error what a status means that puts no line; a file that can't be read is named before.

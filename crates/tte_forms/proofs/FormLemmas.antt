@@ -4,24 +4,34 @@ use Rattle.std.specs.Option.{option_and_then, option_map}
 use Rattle.std.specs.Prelude.{IfSome, Option, ◌&&◌, ◌==◌, bytes_eq, codes, decimal, if◌then◌else◌, nat_le, slice_get}
 use Rattle.std.specs.Str.Parse.{digits_value}
 use Rattle.std.proofs.lemmas.Bool.{and_parts}
+use Rattle.std.proofs.lemmas.Int.{ints}
 use Rattle.std.proofs.lemmas.Bool.Decides.{nat_tests}
+use Rattle.net_plan.specs.declared.tables.Way.{Way}
 use Rattle.trace_text.specs.Numbers.{number_up_to}
-use Rattle.tte_forms.specs.Forms.{IsFormInRange, cycles_spelled, form_of, if_some, most_cycles, one_file_form, seed_spelled, storm_form, two_files_form}
-use Rattle.tte_forms.specs.declared.form.Form.TheVariants.{Show, Check, Run, Storm, Audit, Capture}
+use Rattle.tte_forms.specs.Forms.{IsFormInRange, cycles_spelled, form_of, four_words_form, greatest_granule, if_some, most_cycles, one_file_form, seed_spelled, stamp_form, storm_form, two_files_form, vote_form, way_spelled, wire_form}
+use Rattle.tte_forms.specs.declared.form.Form.{Form}
+use Rattle.tte_forms.specs.declared.form.Form.TheVariants.{Show, Check, Run, Storm, Stamp, Audit, Capture, Wire, Vote}
+use Rattle.tte_units.specs.Amount.{units_of}
 
 pub no_words : (words : List (List ℕ)) → length words ≤ 0 → None ≡ form_of words
 unfolding form_of
 no_words [] e = refl
 no_words (a ∷ words) e = absurd (omega (arith, e))
 
-pub other_count : (words : List (List ℕ)) → (length words ≡ 2 → ⊥) → (length words ≡ 3 → ⊥) → (length words ≡ 4 → ⊥) → None ≡ form_of words
+-- how many words a form has, with its command
+abbrev pub IsCount : ℕ → Type 0
+IsCount n = (2 ≤ n) × (n ≤ 6)
+
+pub other_count : (words : List (List ℕ)) → (IsCount (length words) → ⊥) → None ≡ form_of words
 unfolding form_of
-other_count [] h k l = refl
-other_count (a ∷ []) h k l = refl
-other_count (a ∷ b ∷ []) h k l = absurd (h refl)
-other_count (a ∷ b ∷ c ∷ []) h k l = absurd (k refl)
-other_count (a ∷ b ∷ c ∷ d ∷ []) h k l = absurd (l refl)
-other_count (a ∷ b ∷ c ∷ d ∷ e ∷ rest) h k l = refl
+other_count [] other = refl
+other_count (a ∷ []) other = refl
+other_count (a ∷ b ∷ []) other = absurd (other (omega arith, omega arith))
+other_count (a ∷ b ∷ c ∷ []) other = absurd (other (omega arith, omega arith))
+other_count (a ∷ b ∷ c ∷ d ∷ []) other = absurd (other (omega arith, omega arith))
+other_count (a ∷ b ∷ c ∷ d ∷ e ∷ []) other = absurd (other (omega arith, omega arith))
+other_count (a ∷ b ∷ c ∷ d ∷ e ∷ f ∷ []) other = absurd (other (omega arith, omega arith))
+other_count (a ∷ b ∷ c ∷ d ∷ e ∷ f ∷ g ∷ rest) other = refl
 
 pub one_file : (words : List (List ℕ)) (command : List ℕ) → length words ≡ 2 → slice_get words 0 ≡ Some command → form_of words ≡ one_file_form command
 unfolding form_of
@@ -38,19 +48,52 @@ two_files (a ∷ b ∷ []) command n e = absurd (omega arith)
 two_files (a ∷ b ∷ c ∷ []) command n e = let same : a ≡ command = cc in rw same refl
 two_files (a ∷ b ∷ c ∷ d ∷ rest) command n e = absurd (omega arith)
 
-pub storm_words : (words : List (List ℕ)) (command seed cycles : List ℕ) → length words ≡ 4 → slice_get words 0 ≡ Some command
-    → slice_get words 2 ≡ Some seed → slice_get words 3 ≡ Some cycles → form_of words ≡ storm_form command seed cycles
+pub four_words : (words : List (List ℕ)) (command third last : List ℕ) → length words ≡ 4 → slice_get words 0 ≡ Some command
+    → slice_get words 2 ≡ Some third → slice_get words 3 ≡ Some last → form_of words ≡ four_words_form command third last
 unfolding form_of
-storm_words [] command seed cycles n e f g = absurd (omega arith)
-storm_words (a ∷ []) command seed cycles n e f g = absurd (omega arith)
-storm_words (a ∷ b ∷ []) command seed cycles n e f g = absurd (omega arith)
-storm_words (a ∷ b ∷ c ∷ []) command seed cycles n e f g = absurd (omega arith)
-storm_words (a ∷ b ∷ c ∷ d ∷ []) command seed cycles n e f g =
+four_words [] command third last n e f g = absurd (omega arith)
+four_words (a ∷ []) command third last n e f g = absurd (omega arith)
+four_words (a ∷ b ∷ []) command third last n e f g = absurd (omega arith)
+four_words (a ∷ b ∷ c ∷ []) command third last n e f g = absurd (omega arith)
+four_words (a ∷ b ∷ c ∷ d ∷ []) command third last n e f g =
     let first : a ≡ command = cc in
-    let third : c ≡ seed = cc in
-    let last : d ≡ cycles = cc in
-    rw (first, third, last) refl
-storm_words (a ∷ b ∷ c ∷ d ∷ x ∷ rest) command seed cycles n e f g = absurd (omega arith)
+    let behind : c ≡ third = cc in
+    let end : d ≡ last = cc in
+    rw (first, behind, end) refl
+four_words (a ∷ b ∷ c ∷ d ∷ x ∷ rest) command third last n e f g = absurd (omega arith)
+
+pub five_words : (words : List (List ℕ)) (command link way : List ℕ) → length words ≡ 5 → slice_get words 0 ≡ Some command
+    → slice_get words 3 ≡ Some link → slice_get words 4 ≡ Some way → form_of words ≡ wire_form command link way
+unfolding form_of
+five_words [] command link way n e f g = absurd (omega arith)
+five_words (a ∷ []) command link way n e f g = absurd (omega arith)
+five_words (a ∷ b ∷ []) command link way n e f g = absurd (omega arith)
+five_words (a ∷ b ∷ c ∷ []) command link way n e f g = absurd (omega arith)
+five_words (a ∷ b ∷ c ∷ d ∷ []) command link way n e f g = absurd (omega arith)
+five_words (a ∷ b ∷ c ∷ d ∷ x ∷ []) command link way n e f g =
+    let first : a ≡ command = cc in
+    let behind : d ≡ link = cc in
+    let end : x ≡ way = cc in
+    rw (first, behind, end) refl
+five_words (a ∷ b ∷ c ∷ d ∷ x ∷ y ∷ rest) command link way n e f g = absurd (omega arith)
+
+pub six_words : (words : List (List ℕ)) (command first second third : List ℕ) → length words ≡ 6 → slice_get words 0 ≡ Some command
+    → slice_get words 3 ≡ Some first → slice_get words 4 ≡ Some second → slice_get words 5 ≡ Some third
+    → form_of words ≡ vote_form command first second third
+unfolding form_of
+six_words [] command first second third n e f g h = absurd (omega arith)
+six_words (a ∷ []) command first second third n e f g h = absurd (omega arith)
+six_words (a ∷ b ∷ []) command first second third n e f g h = absurd (omega arith)
+six_words (a ∷ b ∷ c ∷ []) command first second third n e f g h = absurd (omega arith)
+six_words (a ∷ b ∷ c ∷ d ∷ []) command first second third n e f g h = absurd (omega arith)
+six_words (a ∷ b ∷ c ∷ d ∷ x ∷ []) command first second third n e f g h = absurd (omega arith)
+six_words (a ∷ b ∷ c ∷ d ∷ x ∷ y ∷ []) command first second third n e f g h =
+    let same : a ≡ command = cc in
+    let one : d ≡ first = cc in
+    let two : x ≡ second = cc in
+    let three : y ≡ third = cc in
+    rw (same, one, two, three) refl
+six_words (a ∷ b ∷ c ∷ d ∷ x ∷ y ∷ z ∷ rest) command first second third n e f g h = absurd (omega arith)
 
 -- ---- the numbers of forms
 
@@ -79,12 +122,35 @@ cycles_by : (o : Option ℕ) → IfSome o (λ n. n ≤ most_cycles) → IfSome (
 cycles_by None few = tt
 cycles_by (Some n) few = some_cycles n few
 
-storm_by : (b : Bool) (seed cycles : Option ℕ) → IfSome cycles AreCycles
-    → IfSome (if b then option_and_then (λ s. option_map (λ c. Storm s c) cycles) seed else None) IsFormInRange
-storm_by false seed cycles range = tt
-storm_by true None cycles range = tt
-storm_by true (Some s) None range = tt
-storm_by true (Some s) (Some c) range = range
+storm_by : (seed cycles : Option ℕ) → IfSome cycles AreCycles → IfSome (option_and_then (λ s. option_map (λ c. Storm s c) cycles) seed) IsFormInRange
+storm_by None cycles range = tt
+storm_by (Some s) None range = tt
+storm_by (Some s) (Some c) range = range
+
+some_units : (n : ℕ) (b : Bool) → (b ≡ false → 1 ≤ n) → n ≤ greatest_granule
+    → IfSome (option_map (λ g. Stamp g) (option_map units_of (if b then None else Some n))) IsFormInRange
+some_units n true some few = tt
+some_units n false some few = record { least = omega (arith, ints, some refl); most = omega (arith, ints, few) }
+
+stamp_by : (o : Option ℕ) → IfSome o (λ n. n ≤ greatest_granule)
+    → IfSome (option_map (λ g. Stamp g) (option_map units_of (option_and_then if_some o))) IsFormInRange
+stamp_by None few = tt
+stamp_by (Some n) few = some_units n (n == 0) (λ e. grind (arith, nat_tests, e)) few
+
+four_words_by : (b d : Bool) (storm stamp : Option Form) → IfSome storm IsFormInRange → IfSome stamp IsFormInRange
+    → IfSome (if b then storm else if d then stamp else None) IsFormInRange
+four_words_by true d storm stamp h k = h
+four_words_by false true storm stamp h k = k
+four_words_by false false storm stamp h k = tt
+
+wire_by : (b : Bool) (link : List ℕ) (way : Option Way) → IfSome (if b then option_map (λ w. Wire link w) way else None) IsFormInRange
+wire_by false link way = tt
+wire_by true link None = tt
+wire_by true link (Some w) = tt
+
+vote_by : (b : Bool) (first second third : List ℕ) → IfSome (if b then Some (Vote first second third) else None) IsFormInRange
+vote_by false first second third = tt
+vote_by true first second third = tt
 
 one_file_by : (b d e : Bool) → IfSome (if b then Some Show else if d then Some Check else if e then Some Capture else None) IsFormInRange
 one_file_by true d e = tt
@@ -105,6 +171,10 @@ form_in_range (command ∷ []) = tt
 form_in_range (command ∷ file ∷ []) =
     one_file_by (bytes_eq command (codes "show")) (bytes_eq command (codes "check")) (bytes_eq command (codes "capture"))
 form_in_range (command ∷ file ∷ other ∷ []) = two_files_by (bytes_eq command (codes "run")) (bytes_eq command (codes "audit"))
-form_in_range (command ∷ file ∷ seed ∷ cycles ∷ []) =
-    storm_by (bytes_eq command (codes "storm")) (seed_spelled seed) (cycles_spelled cycles) (cycles_by (number_up_to most_cycles cycles) (up_to most_cycles cycles))
-form_in_range (command ∷ file ∷ seed ∷ cycles ∷ more ∷ words) = tt
+form_in_range (command ∷ file ∷ third ∷ last ∷ []) =
+    four_words_by (bytes_eq command (codes "storm")) (bytes_eq command (codes "stamp")) (storm_form third last) (stamp_form last)
+    (storm_by (seed_spelled third) (cycles_spelled last) (cycles_by (number_up_to most_cycles last) (up_to most_cycles last)))
+    (stamp_by (number_up_to greatest_granule last) (up_to greatest_granule last))
+form_in_range (command ∷ file ∷ trace ∷ link ∷ way ∷ []) = wire_by (bytes_eq command (codes "wire")) link (way_spelled way)
+form_in_range (command ∷ file ∷ trace ∷ first ∷ second ∷ third ∷ []) = vote_by (bytes_eq command (codes "vote")) first second third
+form_in_range (command ∷ file ∷ other ∷ third ∷ fourth ∷ fifth ∷ sixth ∷ words) = tt

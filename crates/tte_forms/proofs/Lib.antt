@@ -5,3 +5,4 @@ pub mod Octets
 pub mod OneAnswers
 pub mod frames
 pub mod networks
+pub mod Facts

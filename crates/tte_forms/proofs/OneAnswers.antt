@@ -1,10 +1,11 @@
 -- Answers that are one of those with a property.
-use Rattle.std.proofs.Common.{◌≡◌, ◌⊎◌, ℕ, List, [], ◌∷◌, ◌++◌, length, refl, sym, ap, ◌∙◌, subst, inl, inr, ⊎_elim, arith, length-append}
+use Rattle.std.proofs.Common.{◌≡◌, ◌⊎◌, ℕ, List, [], refl, sym, ◌∙◌, subst, inl, inr, ⊎_elim}
 use Rattle.tte_forms.specs.Putting.{Shown, PutsLines, PutsNone, PutsSome, WriteFails}
 use Rattle.tte_forms.specs.Answering.{Answer, Gives, GivesAnswer, GivesOne, IsDone}
 use Rattle.tte_forms.proofs.Puts.{PutsSome-all}
 use Rattle.tte_forms.specs.declared.status.Status.{Status}
 use Rattle.tte_forms.specs.declared.status.Status.TheVariants.{ReadFault, WriteFault, OutOfMemory}
+use Rattle.tte_lemmas.proofs.Lists.{no_front, none_stands}
 
 -- the one answer with the property was given
 pub one_given : (Is : Answer → Type 0) (a : Answer) (status : Status) (old new : Shown) → Is a → ((b : Answer) → Is b → b ≡ a) → Gives a status old new
@@ -24,22 +25,15 @@ widened Is Wide status old new into back (inr (inr g)) = inr (inr (g.0, λ b h. 
 pub none_put : (lines : List (List ℕ)) (old new : Shown) → PutsLines [] old new → PutsSome lines old new
 none_put lines old new p = record { done = []; left = lines; order = refl; puts = p }
 
-nothing : {X : Type 0} (xs ys : List X) → [] ≡ xs ++ ys → xs ≡ []
-nothing [] ys e = refl
-nothing (x ∷ xs) ys e = absurd (omega (arith, ap length e))
-
-not_behind : {X : Type 0} (xs : List X) (y : X) (ys : List X) → [] ≡ xs ++ y ∷ ys → ⊥
-not_behind xs y ys e = omega (arith, ap length e, length-append xs (y ∷ ys))
-
 -- the first ones of no lines
 some_nothing : (lines : List (List ℕ)) (old new : Shown) → lines ≡ [] → PutsSome lines old new → PutsLines [] old new
 some_nothing lines old new e s =
-    let none = nothing s.done s.left (sym e ∙ s.order) in subst (λ (ls : List (List ℕ)). PutsLines ls old new) none s.puts
+    let none = no_front s.done s.left (sym e ∙ s.order) in subst (λ (ls : List (List ℕ)). PutsLines ls old new) none s.puts
 
 -- an answer without lines puts nothing
 pub puts_nothing : (a : Answer) (status : Status) (old new : Shown) → a.lines ≡ [] → Gives a status old new → PutsLines [] old new
 puts_nothing a status old new e (inl g) = subst (λ (ls : List (List ℕ)). PutsLines ls old new) e g.1
-puts_nothing a status old new e (inr (inl (is, inl g))) = absurd (not_behind g.done g.line g.left (sym e ∙ g.order))
+puts_nothing a status old new e (inr (inl (is, inl g))) = absurd (none_stands g.done g.line g.left (sym e ∙ g.order))
 puts_nothing a status old new e (inr (inl (is, inr g))) = some_nothing a.lines old new e g
 puts_nothing a status old new e (inr (inr g)) = some_nothing a.lines old new e g.1
 

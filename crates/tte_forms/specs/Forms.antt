@@ -2,9 +2,14 @@
 use Rattle.std.specs.Prelude.{ℕ, ◌≤◌, ◌==◌, ◌^◌, ◌-◌, List, [], ◌∷◌, codes, if◌then◌else◌, Option, Some, None}
 use Rattle.std.specs.Option.{option_and_then, option_map}
 use Rattle.std.specs.Str.{bytes_eq}
+use Rattle.net_plan.specs.Ranges.{IsWithin}
+use Rattle.net_plan.specs.declared.tables.Way.{Way}
+use Rattle.net_plan.specs.declared.tables.Way.TheVariants.{Up, Down}
 use Rattle.trace_text.specs.Numbers.{number_up_to}
 use Rattle.tte_forms.specs.declared.form.Form.{Form}
-use Rattle.tte_forms.specs.declared.form.Form.TheVariants.{Show, Check, Run, Storm, Audit, Capture}
+use Rattle.tte_forms.specs.declared.form.Form.TheVariants.{Show, Check, Run, Storm, Stamp, Audit, Capture, Wire, Vote}
+use Rattle.tte_units.specs.Amount.{units_of}
+use Rattle.tte_units.specs.declared.units.Units.{Units}
 
 -- a command with one file: `show FILE`, `check NETWORK` or `capture FILE`
 abbrev pub one_file_form : List ℕ → Option Form
@@ -42,15 +47,50 @@ abbrev pub cycles_spelled : List ℕ → Option ℕ
 cycles_spelled text = option_and_then if_some (number_up_to most_cycles text)
 
 -- a storm's seed and cycles: `storm NETWORK SEED CYCLES`
-abbrev pub storm_form : List ℕ → List ℕ → List ℕ → Option Form
-storm_form command seed cycles =
-    if bytes_eq command (codes "storm")
-    then option_and_then (λ s. option_map (λ c. Storm s c) (cycles_spelled cycles)) (seed_spelled seed)
+abbrev pub storm_form : List ℕ → List ℕ → Option Form
+storm_form seed cycles =
+    option_and_then (λ s. option_map (λ c. Storm s c) (cycles_spelled cycles)) (seed_spelled seed)
+
+-- the greatest granule of stamps, in units
+abbrev pub greatest_granule : ℕ
+greatest_granule = 2 ^ 60
+
+-- the granule of stamps, at least 1 unit, in decimal without leading zeros
+abbrev pub granule_spelled : List ℕ → Option Units
+granule_spelled text = option_map units_of (option_and_then if_some (number_up_to greatest_granule text))
+
+-- the granule of stamps: `stamp NETWORK TRACE GRANULE`
+abbrev pub stamp_form : List ℕ → Option Form
+stamp_form granule = option_map (λ g. Stamp g) (granule_spelled granule)
+
+-- a command with four words: `storm NETWORK SEED CYCLES` or `stamp NETWORK TRACE GRANULE`
+abbrev pub four_words_form : List ℕ → List ℕ → List ℕ → Option Form
+four_words_form command third last =
+    if bytes_eq command (codes "storm") then storm_form third last
+    else if bytes_eq command (codes "stamp") then stamp_form last
     else None
+
+-- the way of a link whose word this is
+abbrev pub way_spelled : List ℕ → Option Way
+way_spelled text =
+    if bytes_eq text (codes "up") then Some Up
+    else if bytes_eq text (codes "down") then Some Down
+    else None
+
+-- a link and a way of it: `wire NETWORK TRACE LINK WAY`
+abbrev pub wire_form : List ℕ → List ℕ → List ℕ → Option Form
+wire_form command link way =
+    if bytes_eq command (codes "wire") then option_map (λ w. Wire link w) (way_spelled way) else None
+
+-- three virtual links: `vote NETWORK TRACE VL VL VL`
+abbrev pub vote_form : List ℕ → List ℕ → List ℕ → List ℕ → Option Form
+vote_form command first second third =
+    if bytes_eq command (codes "vote") then Some (Vote first second third) else None
 
 -- the numbers of the form lie in their ranges
 abbrev pub IsFormInRange : Form → Type 0
 IsFormInRange (Storm seed cycles) = (1 ≤ cycles) × (cycles ≤ most_cycles)
+IsFormInRange (Stamp granule) = IsWithin 1 greatest_granule granule
 IsFormInRange other = Unit {0}
 
 -- the form of the words
@@ -59,5 +99,7 @@ form_of [] = None
 form_of (command ∷ []) = None
 form_of (command ∷ file ∷ []) = one_file_form command
 form_of (command ∷ file ∷ other ∷ []) = two_files_form command
-form_of (command ∷ file ∷ seed ∷ cycles ∷ []) = storm_form command seed cycles
-form_of (command ∷ file ∷ seed ∷ cycles ∷ more ∷ words) = None
+form_of (command ∷ file ∷ third ∷ last ∷ []) = four_words_form command third last
+form_of (command ∷ file ∷ trace ∷ link ∷ way ∷ []) = wire_form command link way
+form_of (command ∷ file ∷ trace ∷ first ∷ second ∷ third ∷ []) = vote_form command first second third
+form_of (command ∷ file ∷ other ∷ third ∷ fourth ∷ fifth ∷ sixth ∷ words) = None

@@ -1,8 +1,8 @@
 ghost use Rattle.std.specs.Prelude.{◌≡◌, ◌≢◌, ◌⊎◌, ◌≤◌, length, Err, IfErr, IfOk};
 ghost use Rattle.net_plan.specs.Ranges.{IsInRange};
-ghost use Rattle.tte_forms.specs.networks.Accepting.{MeansAccepted};
+ghost use Rattle.tte_forms.specs.networks.Accepting.{MeansAccepted, MeansNetwork};
 ghost use Rattle.tte_forms.specs.Answering.{ForOctets, Gives};
-ghost use Rattle.tte_forms.specs.networks.NoNetworks.{IsNoNetwork, no_network_answer};
+ghost use Rattle.tte_forms.specs.networks.NoNetworks.{IsNoNetwork, IsUnread, no_network_answer};
 ghost use Rattle.tte_forms.specs.Faults.{PutFailed, ReadFailed};
 ghost use Rattle.tte_forms.specs.Putting.{Over, PutsNone};
 ghost use Rattle.tte_forms.specs.frames.Answer.{file_limit};
@@ -12,6 +12,7 @@ pub(crate) mod network_line;
 use crate::Status;
 use crate::put_line::{end_with, put_last};
 use net_file::{FileRefusal, read_network};
+use net_plan::Network;
 use network_line::{make_file_line, make_rule_line};
 use schedule_checker::{RuleBroken, Unfit, check};
 use schedule_tables::Accepted;
@@ -69,6 +70,37 @@ fn accept_text(alloc: Global, text: &[u8]) -> Result<Accepted, NoNetwork>
         Ok(accepted) => Ok(accepted),
         Err(Unfit::Rule(told)) => Err(NoNetwork::Rule(told)),
         Err(Unfit::OutOfMemory) => Err(NoNetwork::OutOfMemory),
+    }
+}
+
+/// Reads a network from a file of at most 262,144 octets, whether it keeps the rules or not.
+///
+/// The error says why there is none. It is no broken rule.
+pub fn read_unjudged<A: Source>(alloc: Global, source: &mut A) -> Result<Network, NoNetwork>
+    ensures read { IfOk result (λ network. ForOctets (A.left source.old) (λ octets. MeansNetwork octets network)) }
+    ensures range { IfOk result IsInRange }
+    ensures none { IfErr result (λ cause. ForOctets (A.left source.old) (λ octets. IsUnread octets cause)) }
+    ensures failed { result ≡ Err NoNetwork.ReadFault → ReadFailed A.Source source.old source.new }
+{
+    match read_all(alloc, source, LIMIT) {
+        Ok(octets) => unjudged_text(alloc, octets.as_slice()),
+        Err(ReadAll::Fault) => Err(NoNetwork::ReadFault),
+        Err(ReadAll::TooLong) => Err(NoNetwork::TooLong),
+        Err(ReadAll::OutOfMemory) => Err(NoNetwork::OutOfMemory),
+    }
+}
+
+fn unjudged_text(alloc: Global, text: &[u8]) -> Result<Network, NoNetwork>
+    requires { length text.now ≤ file_limit }
+    ensures read { IfOk result (MeansNetwork text.now) }
+    ensures range { IfOk result IsInRange }
+    ensures none { IfErr result (IsUnread text.now) }
+    ensures failed { result ≢ Err NoNetwork.ReadFault }
+{
+    match read_network(alloc, text) {
+        Ok(network) => Ok(network),
+        Err(FileRefusal::OutOfMemory) => Err(NoNetwork::OutOfMemory),
+        Err(refusal) => Err(NoNetwork::File(refusal)),
     }
 }
 

@@ -8,12 +8,15 @@ mod form;
 mod put_line;
 mod showing;
 mod status;
+mod word;
 mod words;
 
-pub use accepting::{NoNetwork, accept, put_no_network};
+pub use accepting::network_line::make_rule_line;
+pub use accepting::{NoNetwork, accept, put_no_network, read_unjudged};
 pub use checking::check_network;
-pub use form::{Form, read_form};
+pub use form::{Form, cycles_spelled, number_up_to, read_form};
 pub use put_line::{end_with, put_last};
 pub use showing::{push_frame, push_refusal, show, show_law};
 pub use status::Status;
+pub use word::Word;
 pub use words::Words;

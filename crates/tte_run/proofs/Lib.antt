@@ -1,2 +1,3 @@
 pub mod TopAnswers
+pub mod WireAnswers
 pub mod reports

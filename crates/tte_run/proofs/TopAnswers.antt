@@ -1,6 +1,6 @@
 -- The answer for the words.
-use Rattle.std.proofs.Common.{◌≡◌, ℕ, List, Some, None, refl, sym, ap, subst, ◌∙◌, inl, inr, []}
-use Rattle.std.specs.Prelude.{◌≢◌, IfSome, Option}
+use Rattle.std.proofs.Common.{◌≡◌, ℕ, List, Some, None, refl, sym, ap, ◌∙◌, inl, inr, []}
+use Rattle.std.specs.Prelude.{IfSome, Option}
 use Rattle.net_plan.specs.Bounds.{BetaIsUnique}
 use Rattle.net_plan.specs.declared.event.Event.{Event}
 use Rattle.net_plan.specs.declared.network.Network.{Network}
@@ -17,9 +17,9 @@ use Rattle.tte_run.specs.SecondFiles.{ForSecond, report_file, trace_file}
 use Rattle.tte_run.specs.Top.{AnswerIsOne, IsFormAnswer}
 use Rattle.tte_run.specs.Whole.{Completes, MeansRun}
 use Rattle.tte_forms.specs.declared.form.Form.{Form}
-use Rattle.tte_forms.specs.declared.form.Form.TheVariants.{Show, Check, Run, Storm, Audit, Capture}
+use Rattle.tte_forms.specs.declared.form.Form.TheVariants.{Show, Check, Run, Storm, Stamp, Audit, Capture, Wire, Vote}
 use Rattle.tte_forms.specs.declared.status.Status.{Status}
-use Rattle.tte_forms.specs.declared.status.Status.TheVariants.{Done, ReadFault, Usage, WriteFault}
+use Rattle.tte_forms.specs.declared.status.Status.TheVariants.{Done, ReadFault, WriteFault}
 use Rattle.tte_forms.proofs.networks.Answers.{accepted_alone, network_answer_one, acceptance_one}
 use Rattle.tte_forms.proofs.Octets.{for_more}
 use Rattle.tte_forms.proofs.OneAnswers.{answered_done}
@@ -27,13 +27,16 @@ use Rattle.tte_traces.proofs.Answers.{IsAllAdmitted}
 use Rattle.tte_traces.proofs.Completes.{run_one, run_whole}
 use Rattle.tte_forms.proofs.frames.Answers.{shown_whole}
 use Rattle.tte_forms.proofs.FormLemmas.{form_in_range}
+use Rattle.tte_run.proofs.WireAnswers.{wire_done, wire_one}
 use Rattle.tte_run.proofs.reports.Answers.{audit_one, audit_whole}
 use Rattle.tte_storms.proofs.OneAnswer.{storm_one}
 use Rattle.tte_storms.specs.Answer.{IsStormAnswer}
-
--- a status of such a call is not that of usage
-pub no_usage : (Is : Status → Type 0) (status : Status) → (Is Usage → ⊥) → Is status → status ≢ Usage
-no_usage Is status none is e = none (subst Is e is)
+use Rattle.tte_units.specs.declared.units.Units.{Units}
+use Rattle.tte_wires.specs.Answer.{IsWireAnswer, IsWireNetworkAnswer}
+use Rattle.net_plan.specs.declared.tables.Way.{Way}
+use Rattle.tte_stamps.proofs.Completes.{stamp_one, stamp_whole}
+use Rattle.tte_votes.proofs.Completes.{vote_one, vote_whole}
+use Rattle.tte_votes.specs.Answer.{the_names}
 
 -- the one answer for the octets of a file is one of those
 pub as_one : (answer : List ℕ → Answer) (first : Option (List ℕ)) (status : Status) (old new : Shown) → Answers answer first status old new
@@ -49,19 +52,20 @@ completes-show None second status old new SourceRose SinkRose a read write = tt
 completes-show (Some octets) second status old new SourceRose SinkRose a read write =
     λ quiet calm ps short s. shown_whole octets ps status old new SourceRose SinkRose short s a read write quiet calm
 
--- an accepted network whose answers are of those that are done is answered to its end
-answered_whole : (Then : Network → Answer → Type 0) → ((n : Network) (a : Answer) → Then n a → a.status ≡ Done) → (octets : List ℕ) (n : Network)
-    (status : Status) (old new : Shown) (SourceRose SinkRose : Type 0) → MeansAccepted octets n → GivesAnswer (IsNetworkAnswer Then octets) status old new
+-- an accepted network all of whose answers are done is answered to its end
+answered_whole : (Then : Network → Answer → Type 0) (octets : List ℕ) (n : Network) → ((a : Answer) → Then n a → a.status ≡ Done)
+    → (status : Status) (old new : Shown) (SourceRose SinkRose : Type 0) → MeansAccepted octets n
+    → GivesAnswer (IsNetworkAnswer Then octets) status old new
     → (status ≡ ReadFault → SourceRose) → (status ≡ WriteFault → SinkRose) → (SourceRose → ⊥) → (SinkRose → ⊥) → IsDone status
-answered_whole Then done octets n status old new SourceRose SinkRose m g =
-    answered_done (IsNetworkAnswer Then octets) status old new SourceRose SinkRose g (λ a is. inl (done n a (accepted_alone Then octets n m a is)))
+answered_whole Then octets n done status old new SourceRose SinkRose m g =
+    answered_done (IsNetworkAnswer Then octets) status old new SourceRose SinkRose g (λ a is. inl (done a (accepted_alone Then octets n m a is)))
 
 pub completes-check : (first second : Option (List ℕ)) (status : Status) (old new : Shown) (SourceRose SinkRose : Type 0)
     → AnswersOne IsCheckAnswer first status old new
     → (status ≡ ReadFault → SourceRose) → (status ≡ WriteFault → SinkRose) → Completes (Some Check) first second SourceRose SinkRose status
 completes-check None second status old new SourceRose SinkRose a read write = tt
 completes-check (Some octets) second status old new SourceRose SinkRose a read write =
-    λ quiet calm n m. answered_whole IsAcceptance (λ k b is. ap (λ (x : Answer). x.status) is.answer) octets n status old new SourceRose SinkRose m a read
+    λ quiet calm n m. answered_whole IsAcceptance octets n (λ b is. ap (λ (x : Answer). x.status) is.answer) status old new SourceRose SinkRose m a read
     write quiet calm
 
 pub completes-storm : (seed cycles : ℕ) (first second : Option (List ℕ)) (status : Status) (old new : Shown) (SourceRose SinkRose : Type 0)
@@ -69,7 +73,7 @@ pub completes-storm : (seed cycles : ℕ) (first second : Option (List ℕ)) (st
     → (status ≡ ReadFault → SourceRose) → (status ≡ WriteFault → SinkRose) → Completes (Some (Storm seed cycles)) first second SourceRose SinkRose status
 completes-storm seed cycles None second status old new SourceRose SinkRose a read write = tt
 completes-storm seed cycles (Some octets) second status old new SourceRose SinkRose a read write =
-    λ quiet calm n m. answered_whole (IsStormAnswer seed cycles) (λ k b is. ap (λ (x : Answer). x.status) is.answer) octets n status old new SourceRose
+    λ quiet calm n m. answered_whole (IsStormAnswer seed cycles) octets n (λ b is. ap (λ (x : Answer). x.status) is.answer) status old new SourceRose
     SinkRose m a read write quiet calm
 
 all_admitted : {octets trace : List ℕ} {n : Network} {events : List Event} → MeansRun octets trace n events → IsAllAdmitted n trace events
@@ -82,6 +86,24 @@ completes-run None second status old new SourceRose SinkRose a read write = tt
 completes-run (Some octets) None status old new SourceRose SinkRose a read write = λ quiet calm. tt
 completes-run (Some octets) (Some trace) status old new SourceRose SinkRose a read write =
     λ quiet calm n events m. run_whole octets trace n events status old new SourceRose SinkRose m.accepted (all_admitted m) a read write quiet calm
+
+pub completes-stamp : (granule : Units) (first second : Option (List ℕ)) (status : Status) (old new : Shown) (SourceRose SinkRose : Type 0)
+    → ForOctets first (λ octets. ForSecond trace_file second (λ trace. GivesAnswer (IsFormAnswer (Some (Stamp granule)) octets trace) status old new))
+    → (status ≡ ReadFault → SourceRose) → (status ≡ WriteFault → SinkRose) → Completes (Some (Stamp granule)) first second SourceRose SinkRose status
+completes-stamp granule None second status old new SourceRose SinkRose a read write = tt
+completes-stamp granule (Some octets) None status old new SourceRose SinkRose a read write = λ quiet calm. tt
+completes-stamp granule (Some octets) (Some trace) status old new SourceRose SinkRose a read write =
+    λ quiet calm n events m fine. stamp_whole granule octets trace n events status old new SourceRose SinkRose m.accepted fine (all_admitted m) a
+    read write quiet calm
+
+pub completes-vote : (one two three : List ℕ) (first second : Option (List ℕ)) (status : Status) (old new : Shown) (SourceRose SinkRose : Type 0)
+    → ForOctets first (λ octets. ForSecond trace_file second (λ trace. GivesAnswer (IsFormAnswer (Some (Vote one two three)) octets trace) status old new))
+    → (status ≡ ReadFault → SourceRose) → (status ≡ WriteFault → SinkRose) → Completes (Some (Vote one two three)) first second SourceRose SinkRose status
+completes-vote one two three None second status old new SourceRose SinkRose a read write = tt
+completes-vote one two three (Some octets) None status old new SourceRose SinkRose a read write = λ quiet calm. tt
+completes-vote one two three (Some octets) (Some trace) status old new SourceRose SinkRose a read write =
+    λ quiet calm n events voters m named may. vote_whole (the_names one two three) octets trace n events voters status old new SourceRose SinkRose
+    m.accepted named may (all_admitted m) a read write quiet calm
 
 pub completes-audit : (first second : Option (List ℕ)) (status : Status) (old new : Shown) (SourceRose SinkRose : Type 0)
     → ForOctets first (λ octets. ForSecond report_file second (λ report. GivesAnswer (IsFormAnswer (Some Audit) octets report) status old new))
@@ -107,6 +129,15 @@ completes-capture (Some octets) second status old new SourceRose SinkRose a read
     λ quiet calm head ps m. given_whole (capture_answer octets) status old new SourceRose SinkRose
     (ap (λ (x : Answer). x.status) (shows_packets.whole octets head ps m.file m.opened m.packets)) a read write quiet calm
 
+pub completes-wire : (name : List ℕ) (way : Way) (first second : Option (List ℕ)) (status : Status) (old new : Shown) (SourceRose SinkRose : Type 0)
+    → ForOctets first (λ octets. ForSecond trace_file second (λ trace. GivesAnswer (IsFormAnswer (Some (Wire name way)) octets trace) status old new))
+    → (status ≡ ReadFault → SourceRose) → (status ≡ WriteFault → SinkRose) → Completes (Some (Wire name way)) first second SourceRose SinkRose status
+completes-wire name way None second status old new SourceRose SinkRose a read write = tt
+completes-wire name way (Some octets) None status old new SourceRose SinkRose a read write = λ quiet calm. tt
+completes-wire name way (Some octets) (Some trace) status old new SourceRose SinkRose g read write =
+    λ quiet calm n events link m named. answered_done (IsWireNetworkAnswer (IsWireAnswer name way trace) octets) status old new SourceRose SinkRose g
+    (λ a is. inl (wire_done name way octets trace n events link m named a is)) read write quiet calm
+
 form_one : BetaIsUnique → RefusalIsOne → (form : Option Form) → IfSome form IsFormInRange → (octets trace : List ℕ) (a b : Answer)
     → IsFormAnswer form octets trace a → IsFormAnswer form octets trace b → a ≡ b
 form_one unique one None range octets trace a b p q = p ∙ sym q
@@ -114,8 +145,11 @@ form_one unique one (Some Show) range octets trace a b p q = p ∙ sym q
 form_one unique one (Some Check) range octets trace a b p q = network_answer_one one IsAcceptance octets (λ n accepted. acceptance_one unique n) a b p q
 form_one unique one (Some Run) range octets trace a b p q = run_one one octets trace a b p q
 form_one unique one (Some (Storm seed cycles)) range octets trace a b p q = storm_one one seed cycles range.1 octets a b p q
+form_one unique one (Some (Stamp granule)) range octets trace a b p q = stamp_one one granule octets trace a b p q
 form_one unique one (Some Audit) range octets trace a b p q = audit_one one octets trace a b p q
 form_one unique one (Some Capture) range octets trace a b p q = p ∙ sym q
+form_one unique one (Some (Wire link way)) range octets trace a b p q = wire_one link way octets trace a b p q
+form_one unique one (Some (Vote x y z)) range octets trace a b p q = vote_one one (the_names x y z) octets trace a b p q
 
 pub one_answer : BetaIsUnique → RefusalIsOne → AnswerIsOne
 one_answer unique one words octets trace a b p q = form_one unique one (form_of words) (form_in_range words) octets trace a b p q

@@ -1,10 +1,15 @@
 -- What the forms do with their second file.
-use Rattle.std.specs.Prelude.{◌⊎◌, ℕ, List, [], Option, Some}
+use Rattle.std.specs.Prelude.{◌≢◌, ◌⊎◌, ℕ, List, [], Option, Some}
 use Rattle.tte_forms.specs.Answering.{ForOctets}
 use Rattle.tte_forms.specs.Putting.{Shown}
 use Rattle.tte_forms.specs.declared.form.Form.{Form}
-use Rattle.tte_forms.specs.declared.form.Form.TheVariants.{Run, Audit}
+use Rattle.tte_forms.specs.declared.form.Form.TheVariants.{Run, Stamp, Audit, Wire, Vote}
+use Rattle.tte_forms.specs.declared.status.Status.{Status}
+use Rattle.tte_forms.specs.declared.status.Status.TheVariants.{GranuleRefused}
+use Rattle.tte_stamps.specs.Answer.{StampStops, StampTakesLittle}
 use Rattle.tte_traces.specs.Streaming.{RunStops, RunTakesLittle}
+use Rattle.tte_votes.specs.Streaming.{IsOfRun, VoteStops, VoteTakesLittle}
+use Rattle.tte_wires.specs.Streaming.{WireStops, WireTakesLittle}
 
 -- what the second file is, if there is one
 pub data Second : Type 0 where
@@ -15,6 +20,9 @@ pub data Second : Type 0 where
 -- what it is for the words of a form, or of none
 abbrev pub second_of : Option Form → Second
 second_of (Some Run) = trace_file
+second_of (Some (Stamp granule)) = trace_file
+second_of (Some (Wire link way)) = trace_file
+second_of (Some (Vote one two three)) = trace_file
 second_of (Some Audit) = report_file
 second_of other = no_second
 
@@ -34,6 +42,9 @@ FailsToRead report_file InFirst InSecond Unput Unread Stops = (InFirst × Unput 
 -- what was put from a trace stops behind the lines that were taken, for the form
 abbrev pub FormStops : Option Form → Option (List ℕ) → Option (List ℕ) → Option (List ℕ) → Shown → Shown → Type 0
 FormStops (Some Run) first second left old new = RunStops first second left old new
+FormStops (Some (Stamp granule)) first second left old new = StampStops granule first second left old new
+FormStops (Some (Wire link way)) first second left old new = WireStops link way first second left old new
+FormStops (Some (Vote one two three)) first second left old new = VoteStops first second left old new
 FormStops other first second left old new = Unit {0}
 
 -- a trace is read, and by that little more of it than what was put is of; a report is read for an accepted network; and
@@ -43,7 +54,14 @@ TakesSecond no_second Unread Little Whole = Unread
 TakesSecond trace_file Unread Little Whole = Unread ⊎ Little
 TakesSecond report_file Unread Little Whole = Unread ⊎ Whole
 
--- little more of a trace was taken than what was put is of, for the form
-abbrev pub FormTakesLittle : Option Form → Option (List ℕ) → Option (List ℕ) → Option (List ℕ) → Shown → Shown → Type 0
-FormTakesLittle (Some Run) first second left old new = RunTakesLittle first second left old new
-FormTakesLittle other first second left old new = Unit {0}
+-- little more of a trace was taken than what was put is of, for the form; where a granule, a name or a vote was refused,
+-- nothing was
+abbrev pub FormTakesLittle : Option Form → Option (List ℕ) → Option (List ℕ) → Option (List ℕ) → Status
+    → Shown → Shown → Type 0
+FormTakesLittle (Some Run) first second left status old new = RunTakesLittle first second left old new
+FormTakesLittle (Some (Stamp granule)) first second left status old new =
+    (status ≢ GranuleRefused) × StampTakesLittle granule first second left old new
+FormTakesLittle (Some (Wire link way)) first second left status old new = WireTakesLittle link way first second left old new
+FormTakesLittle (Some (Vote one two three)) first second left status old new =
+    IsOfRun status × VoteTakesLittle first second left old new
+FormTakesLittle other first second left status old new = Unit {0}

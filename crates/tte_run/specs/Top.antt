@@ -12,10 +12,16 @@ use Rattle.tte_traces.specs.Answer.{IsRunAnswer}
 use Rattle.tte_traces.specs.Safely.{WritesSafely}
 use Rattle.tte_storms.specs.Answer.{IsStormAnswer}
 use Rattle.tte_storms.specs.Safely.{SummarisesSafely}
+use Rattle.tte_stamps.specs.Answer.{IsStampAnswer}
+use Rattle.tte_stamps.specs.Safely.{StampsSafely}
+use Rattle.tte_votes.specs.Answer.{IsVoteAnswer, the_names}
+use Rattle.tte_votes.specs.Safely.{VotesSafely}
+use Rattle.tte_wires.specs.Answer.{IsWireAnswer, IsWireNetworkAnswer}
+use Rattle.tte_wires.specs.Safely.{WiresSafely}
 use Rattle.tte_forms.specs.frames.Answer.{show_answer}
 use Rattle.tte_forms.specs.Forms.{form_of}
 use Rattle.tte_forms.specs.declared.form.Form.{Form}
-use Rattle.tte_forms.specs.declared.form.Form.TheVariants.{Show, Check, Run, Storm, Audit, Capture}
+use Rattle.tte_forms.specs.declared.form.Form.TheVariants.{Show, Check, Run, Storm, Stamp, Audit, Capture, Wire, Vote}
 use Rattle.tte_forms.specs.declared.status.Status.{Status}
 use Rattle.tte_forms.specs.declared.status.Status.TheVariants.{Usage}
 
@@ -23,7 +29,8 @@ use Rattle.tte_forms.specs.declared.status.Status.TheVariants.{Usage}
 abbrev pub usage_line : List ℕ
 usage_line =
     codes "usage: tte show FILE | check NETWORK | run NETWORK TRACE | storm NETWORK SEED CYCLES | "
-    ++ codes "audit NETWORK REPORT | capture FILE\n"
+    ++ codes "stamp NETWORK TRACE GRANULE | audit NETWORK REPORT | capture FILE | "
+    ++ codes "wire NETWORK TRACE LINK WAY | vote NETWORK TRACE VL VL VL\n"
 
 -- the answer for words of no form: the usage line
 abbrev pub usage_answer : Answer
@@ -36,8 +43,12 @@ IsFormAnswer (Some Show) octets trace a = a ≡ show_answer octets
 IsFormAnswer (Some Check) octets trace a = IsCheckAnswer octets a
 IsFormAnswer (Some Run) octets trace a = IsNetworkAnswer (IsRunAnswer trace) octets a
 IsFormAnswer (Some (Storm seed cycles)) octets trace a = IsNetworkAnswer (IsStormAnswer seed cycles) octets a
+IsFormAnswer (Some (Stamp granule)) octets trace a = IsNetworkAnswer (IsStampAnswer granule trace) octets a
 IsFormAnswer (Some Audit) octets report a = IsNetworkAnswer (IsAuditAnswer report) octets a
 IsFormAnswer (Some Capture) octets trace a = a ≡ capture_answer octets
+IsFormAnswer (Some (Wire link way)) octets trace a = IsWireNetworkAnswer (IsWireAnswer link way trace) octets a
+IsFormAnswer (Some (Vote one two three)) octets trace a =
+    IsNetworkAnswer (IsVoteAnswer (the_names one two three) trace) octets a
 
 -- an answer for the words and the octets of the files
 abbrev pub IsAnswer : List (List ℕ) → List ℕ → List ℕ → Answer → Type 0
@@ -58,10 +69,15 @@ AnswersWords (Some form) first second status old new =
     × ForOctets first (λ octets.
     ForSecond (second_of (Some form)) second (λ trace. GivesAnswer (IsFormAnswer (Some form) octets trace) status old new))
 
--- what was put of a run, for `run` and `storm`, is of one that goes well; and so is what was audited
+-- what was put of a run, for `run`, `storm`, `stamp`, `wire` and `vote`, is of one that goes well; and so is what was
+-- audited
 abbrev pub AnswersSafely : Option Form → Option (List ℕ) → Option (List ℕ) → Status → Shown → Shown → Type 0
 AnswersSafely (Some Run) first second status old new = WritesSafely first second status old new
 AnswersSafely (Some (Storm seed cycles)) first second status old new =
     SummarisesSafely seed cycles first status old new
+AnswersSafely (Some (Stamp granule)) first second status old new = StampsSafely granule first second status old new
 AnswersSafely (Some Audit) first second status old new = AuditsSafely first second status
+AnswersSafely (Some (Wire link way)) first second status old new = WiresSafely link way first second status old new
+AnswersSafely (Some (Vote one two three)) first second status old new =
+    VotesSafely (the_names one two three) first second status old new
 AnswersSafely other first second status old new = Unit {0}

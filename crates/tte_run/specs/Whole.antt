@@ -1,10 +1,12 @@
 -- What input is valid for each form; it is answered to its end.
-use Rattle.std.specs.Prelude.{◌≡◌, IfSome, ℕ, ◌≤◌, List, [], length, Option, Some, None}
+use Rattle.std.specs.Prelude.{◌≡◌, IfSome, ℕ, ◌≤◌, true, List, [], length, Option, Some, None}
 use Rattle.exact_runs.specs.Records.{HaveEnded}
 use Rattle.net_plan.specs.declared.event.Event.{Event}
+use Rattle.net_plan.specs.declared.ids.LinkId.{LinkId}
 use Rattle.net_plan.specs.declared.network.Network.{Network}
 use Rattle.pcf_codec.specs.Sequence.{SpellsAll}
 use Rattle.pcf_values.specs.declared.pcf.Pcf.{Pcf}
+use Rattle.sparse_time.specs.Granules.{least_granule}
 use Rattle.tte_audit.specs.Answers.{IsAudited}
 use Rattle.pcap_form.specs.Layout.{IsHead, head_length}
 use Rattle.pcap_form.specs.declared.capture.CaptureHead.{CaptureHead}
@@ -14,10 +16,15 @@ use Rattle.tte_forms.specs.Answering.{IsDone}
 use Rattle.tte_forms.specs.frames.Answer.{file_limit}
 use Rattle.tte_forms.specs.networks.Accepting.{MeansAccepted}
 use Rattle.tte_forms.specs.declared.form.Form.{Form}
-use Rattle.tte_forms.specs.declared.form.Form.TheVariants.{Show, Check, Run, Storm, Audit, Capture}
+use Rattle.tte_forms.specs.declared.form.Form.TheVariants.{Show, Check, Run, Storm, Stamp, Audit, Capture, Wire, Vote}
 use Rattle.tte_forms.specs.declared.status.Status.{Status}
 use Rattle.tte_run.specs.reports.Answer.{report_limit}
 use Rattle.tte_traces.specs.Lines.{AreAdmitted, behind_lines}
+use Rattle.tte_votes.specs.Answer.{AreNamed, MayThey, Names, the_names}
+use Rattle.tte_wires.specs.Answer.{IsNamed}
+use Rattle.tte_units.specs.Amount.{amount}
+use Rattle.tte_units.specs.declared.units.Units.{Units}
+use Rattle.vote_law.specs.declared.voters.Voters.{Voters}
 
 -- a file that spells a sequence is shown to its end
 abbrev pub ShowsWhole : List ℕ → Status → Type 0
@@ -43,6 +50,12 @@ RunsWhole octets trace status =
 abbrev pub StormsWhole : List ℕ → Status → Type 0
 StormsWhole octets status = (network : Network) → MeansAccepted octets network → IsDone status
 
+-- an accepted network whose whole trace is admitted is stamped, in granules that are not below its least
+abbrev pub StampsWhole : Units → List ℕ → List ℕ → Status → Type 0
+StampsWhole granule octets trace status =
+    (network : Network) (events : List Event) → MeansRun octets trace network events
+    → least_granule network ≤ amount granule → IsDone status
+
 -- a report that is that of a run of an accepted network is audited
 abbrev pub AuditsWhole : List ℕ → List ℕ → Status → Type 0
 AuditsWhole octets report status =
@@ -60,14 +73,31 @@ abbrev pub CapturesWhole : List ℕ → Status → Type 0
 CapturesWhole octets status =
     (head : CaptureHead) (ps : List Packet) → HoldsPackets octets head ps → IsDone status
 
+-- an accepted network that has the link, and whose whole trace is admitted, is run, and the way is written
+abbrev pub WiresWhole : List ℕ → List ℕ → List ℕ → Status → Type 0
+WiresWhole name octets trace status =
+    (network : Network) (events : List Event) (link : LinkId) → MeansRun octets trace network events
+    → IsNamed network name link → IsDone status
+
+-- an accepted network that has virtual links of the three names, which may vote, and whose whole trace is admitted, is
+-- run, and they vote
+abbrev pub VotesWhole : Names → List ℕ → List ℕ → Status → Type 0
+VotesWhole names octets trace status =
+    (network : Network) (events : List Event) (voters : Voters) → MeansRun octets trace network events
+    → AreNamed network names voters → MayThey network voters true → IsDone status
+
 -- valid octets of the files are answered to their end
 abbrev pub AnswersWhole : Form → List ℕ → Option (List ℕ) → Status → Type 0
 AnswersWhole Show octets second status = ShowsWhole octets status
 AnswersWhole Check octets second status = ChecksWhole octets status
 AnswersWhole Run octets second status = IfSome second (λ trace. RunsWhole octets trace status)
 AnswersWhole (Storm seed cycles) octets second status = StormsWhole octets status
+AnswersWhole (Stamp granule) octets second status = IfSome second (λ trace. StampsWhole granule octets trace status)
 AnswersWhole Audit octets second status = IfSome second (λ report. AuditsWhole octets report status)
 AnswersWhole Capture octets second status = CapturesWhole octets status
+AnswersWhole (Wire link way) octets second status = IfSome second (λ trace. WiresWhole link octets trace status)
+AnswersWhole (Vote one two three) octets second status =
+    IfSome second (λ trace. VotesWhole (the_names one two three) octets trace status)
 
 -- valid input is answered to its end, where no count of faults rose
 abbrev pub Completes : Option Form → Option (List ℕ) → Option (List ℕ) → Type 0 → Type 0 → Status → Type 0

@@ -8,5 +8,8 @@ pub use auditing::audit_report;
 pub use top::{answer_law, tte};
 pub use tte_captures::{capture_file, capture_law};
 pub use tte_forms::{Status, Words, check_network, show, show_law};
+pub use tte_stamps::stamp_trace;
 pub use tte_storms::storm_run;
 pub use tte_traces::run_trace;
+pub use tte_votes::vote_trace;
+pub use tte_wires::wire_trace;

@@ -15,12 +15,16 @@ use std::alloc::Global;
 use tte_captures::capture_file;
 use tte_forms::{Form, Status, Words, check_network, put_last, read_form, show};
 use tte_io::{Sink, Source};
+use tte_stamps::stamp_trace;
 use tte_storms::storm_run;
 use tte_traces::run_trace;
+use tte_votes::vote_trace;
+use tte_wires::wire_trace;
 
 const USAGE: &str =
     "usage: tte show FILE | check NETWORK | run NETWORK TRACE | storm NETWORK SEED CYCLES | \
-                     audit NETWORK REPORT | capture FILE\n";
+                     stamp NETWORK TRACE GRANULE | audit NETWORK REPORT | capture FILE | \
+                     wire NETWORK TRACE LINK WAY | vote NETWORK TRACE VL VL VL\n";
 
 /// All that the program does: it answers the words, with `first` as the file that word 2 names and
 /// `second` as the one that word 3 names, and writes to `out`.
@@ -44,7 +48,7 @@ pub fn tte<A: Source, B: Source, K: Sink>(
         (PutFailed K.Sink out.old out.new) }
     ensures second { TakesSecond (second_of (form_of words.now)) (second.new ≡ second.old)
         (Over K.Sink out.old out.new
-        (FormTakesLittle (form_of words.now) (A.left first.old) (B.left second.old) (B.left second.new)))
+        (FormTakesLittle (form_of words.now) (A.left first.old) (B.left second.old) (B.left second.new) result))
         (ReadsReport (A.left first.old) (B.left second.old) (B.left second.new) result) }
     ensures complete { Completes (form_of words.now) (A.left first.old) (B.left second.old)
         (ReadFailed A.Source first.old first.new ⊎ ReadFailed B.Source second.old second.new)
@@ -55,8 +59,27 @@ pub fn tte<A: Source, B: Source, K: Sink>(
         Some(Form::Check) => check_network(alloc, first, out),
         Some(Form::Run) => run_trace(alloc, first, second, out),
         Some(Form::Storm { seed, cycles }) => storm_run(alloc, first, seed, cycles, out),
+        Some(Form::Stamp { granule }) => stamp_trace(alloc, first, second, granule, out),
         Some(Form::Audit) => audit_report(alloc, first, second, out),
         Some(Form::Capture) => capture_file(alloc, first, out),
+        Some(Form::Wire { link, way }) => wire_trace(alloc, first, second, link.text(), way, out),
+        Some(
+            Form::Vote {
+                first: one,
+                second: two,
+                third: three,
+            },
+        ) => {
+            vote_trace(
+                alloc,
+                first,
+                second,
+                one.text(),
+                two.text(),
+                three.text(),
+                out,
+            )
+        }
         None => put_usage(out),
     }
 }

@@ -1,5 +1,5 @@
 -- The events admitted from the octets of a trace.
-use Rattle.std.proofs.Common.{◌≡◌, ℕ, List, [], ◌∷◌, ◌++◌, length, pos, ◌≤ℤ◌, refl, sym, ap, subst, ◌∙◌, arith, append_assoc, length-append}
+use Rattle.std.proofs.Common.{◌≡◌, ℕ, List, [], ◌∷◌, ◌++◌, length, pos, ◌≤ℤ◌, refl, sym, ap, subst, ◌∙◌, arith, append_assoc}
 use Rattle.std.proofs.lemmas.List.{append-nil}
 use Rattle.std.proofs.lemmas.List.Quantifiers.{Any-push}
 use Rattle.drift_world.specs.Running.{last_time}
@@ -16,16 +16,13 @@ use Rattle.trace_text.proofs.ReadTimes.{event_time}
 use Rattle.tte_traces.proofs.EventOrder.{AreInOrder, IsInOrder}
 use Rattle.tte_traces.proofs.Faults.{one_event}
 use Rattle.exact_runs.proofs.Events.{parted, last_is}
+use Rattle.tte_lemmas.proofs.Lists.{fronts, none_before}
 use Rattle.world_drive.proofs.Order.{not_less, sizes}
 
 -- ---- no events
 
-no_part : {X : Type 0} (ps qs : List X) (x : X) → [] ≡ ps ++ x ∷ qs → ⊥
-no_part [] qs x e = cc
-no_part (p ∷ ps) qs x e = cc
-
 pub admitted_none : (network : Network) (octets : List ℕ) → AreAdmitted network octets []
-admitted_none network octets before behind event e = absurd (no_part before behind event e)
+admitted_none network octets before behind event e = absurd (none_before before behind event e)
 
 -- the first of them are admitted
 pub front_admitted : (network : Network) (octets : List ℕ) (events : List Event) (event : Event) (others : List Event)
@@ -115,10 +112,6 @@ pub admitted_one : (network : Network) (octets : List ℕ) (events all : List Ev
     → IsStopped network octets all
     → (more : List Event) × (all ≡ events ++ more)
 admitted_one network octets events all a b stop = front_from network octets [] events all a b stop
-
-fronts : {X : Type 0} (xs ys more rest : List X) → ys ≡ xs ++ more → xs ≡ ys ++ rest → xs ≡ ys
-fronts xs ys [] rest a b = sym (a ∙ append-nil xs)
-fronts xs ys (m ∷ more) rest a b = absurd (omega (arith, ap length a, length-append xs (m ∷ more), ap length b, length-append ys rest))
 
 -- where none is admitted behind either, they are the same
 pub stopped_one : (network : Network) (octets : List ℕ) (events others : List Event) → AreAdmitted network octets events → IsStopped network octets events

@@ -83,7 +83,7 @@ fault_cause fault status which into = record {
 
 -- ---- what is told of a sink is what it shows
 
-puts_shown : {K : Type 0} (sink : sinks.Ghosts K) (lines : List (List ℕ)) (old new : K)
+pub puts_shown : {K : Type 0} (sink : sinks.Ghosts K) (lines : List (List ℕ)) (old new : K)
     → PutsLines lines (shown_as (told_by sink old)) (shown_as (told_by sink new)) → PutsLines lines (shown_by sink old) (shown_by sink new)
 puts_shown sink lines old new p = record { written = p.written; counted = p.counted }
 

@@ -1,8 +1,9 @@
 -- One more event of a trace that is taken line by line.
 use Rattle.std.proofs.Common.{◌≡◌, ◌≢◌, ◌⊎◌, ◌↔◌, ℕ, ◌+◌, ◌^◌, ◌<◌, ◌≤◌, zero, suc, Bool, true, false, List, [], ◌∷◌, ◌++◌, length, Option, Some, None, Result, Ok, Err, inl, inr, refl, sym, ap, subst, ◌∙◌, arith, length-append, append-nil, append_assoc}
+use Rattle.std.proofs.lemmas.Bool.{false_from_ne_true}
 use Rattle.std.specs.Prelude.{IfErr, IfOk, IfSome, ◌==◌, if◌then◌else◌}
 use denote.Bor.{Bor}
-use Rattle.fault_hypothesis.proofs.Befalling.{any_last, any_none, any_parts, stands_where}
+use Rattle.fault_hypothesis.proofs.Befalling.{any_last, stands_where}
 use Rattle.fault_hypothesis.specs.Watching.{Watches}
 use Rattle.fault_hypothesis.specs.declared.watch.Watch.{Watch}
 use Rattle.net_plan.specs.declared.event.Event.{Event}
@@ -23,6 +24,7 @@ use Rattle.tte_io.specs.declared.lines.LineTaken.{LineTaken}
 use Rattle.tte_io.specs.declared.lines.LineTaken.TheVariants as found
 use Rattle.tte_traces.specs.Following.{Follows, GoesOn, IsFound, IsRefused, Judges, JudgesSo, Reads, ReadsAny, ReadsMore, ReadsOn, TakesFew}
 use Rattle.exact_runs.specs.Records.{HaveEnded}
+use Rattle.tte_lemmas.proofs.Lists.{any_none, any_parts}
 use Rattle.tte_traces.specs.Lines.{AreAdmitted, IsAdmitted, IsFault, StandWhole, behind_lines}
 use Rattle.tte_traces.specs.declared.fault.TraceFault.{TraceFault}
 use Rattle.tte_traces.specs.declared.fault.TraceStop.{TraceStop}
@@ -128,10 +130,6 @@ followed_with network events trace reader f = record { over = f.over; watch = f.
 to_come_all : (pending : List ℕ) (ended : Bool) (left : List ℕ) → (ended ≡ true → left ≡ []) → to_come pending ended left ≡ pending ++ left
 to_come_all pending true left none = ap (λ (t : List ℕ). pending ++ t) (sym (none refl))
 to_come_all pending false left none = refl
-
-not_true : (b : Bool) → (b ≡ true → ⊥) → b ≡ false
-not_true true refuses = absurd (refuses refl)
-not_true false refuses = refl
 
 -- what comes of told octets
 told_outcome : (before : List ℕ) (had : Bool) (left : List ℕ) (after : LineReaderState) (left_before left_after : Option (List ℕ))
@@ -264,7 +262,7 @@ reads_same network octets events left old reader left_before left_after stop tol
     let o = told_outcome (pending old.reader) old.reader.ended left reader left_before left_after (Err stop) told r.none_left n outcome in
     let unread : reader.ahead ≡ [] = ap (λ (s : LineReaderState). s.ahead) n.answer.reader in
     let line : pending reader ≡ reader.kept = ap (λ (a : List ℕ). reader.kept ++ a) unread ∙ append-nil reader.kept in
-    let unended : old.reader.ended ≡ false = not_true old.reader.ended (λ is. n.ends is) in
+    let unended : old.reader.ended ≡ false = false_from_ne_true old.reader.ended (λ is. n.ends is) in
     let next = record old { reader = reader } in
     let reads : Reads network octets events next o.0 =
     record {

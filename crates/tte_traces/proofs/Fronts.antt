@@ -39,7 +39,7 @@ report_begins network notes front rest order = (report_of network rest, ap (repo
 -- ---- the records so far
 
 -- what is before a place of the last event's time is up to the end
-up_to_end : (octets : List ℕ) (network : Network) (events : List Event) (time : Units) → AreAdmitted network octets events → EndsAt events time → (p : List ℕ)
+pub up_to_end : (octets : List ℕ) (network : Network) (events : List Event) (time : Units) → AreAdmitted network octets events → EndsAt events time → (p : List ℕ)
     → IsBefore p (behind_events (amount (last_time events))) → IsBefore p ((amount time + 1) ∷ [])
 up_to_end octets network events time all ends p before =
     let last = (admitted_in_order network octets events all).last time ends in
@@ -66,7 +66,7 @@ stopped_begins network octets events mark notes a all low run (inr f) =
     (fault_lines (length events + 1) f.fault, ap (λ (b : Answer). b.lines) f.answer)
 
 -- the place of an event's record is one of the last event's time at most
-place_low : (network : Network) (octets : List ℕ) (events others : List Event) (event : Event) → AreAdmitted network octets (events ++ event ∷ others)
+pub place_low : (network : Network) (octets : List ℕ) (events others : List Event) (event : Event) → AreAdmitted network octets (events ++ event ∷ others)
     → (p : List ℕ) → IsBefore p (place_of_event events event) → IsBefore p (behind_events (amount (last_time (events ++ event ∷ others))))
 place_low network octets events others event all p b =
     low _ _ p (no_further (amount event.time) _ (length events + 1) (last_of events others event (admitted_in_order network octets _ all).order) p b)

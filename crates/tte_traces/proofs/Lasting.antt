@@ -1,8 +1,8 @@
 -- The run up to the next event lasts under this event and those behind it.
-use Rattle.std.proofs.Common.{◌≡◌, ℕ, suc, ◌≤◌, ◌<◌, ◌==◌, Bool, true, false, List, [], ◌∷◌, ◌++◌, filter, Option, Some, None, slice_get, if◌then◌else◌, inl, inr, refl, sym, ap, ◌∙◌, arith}
+use Rattle.std.proofs.Common.{◌≡◌, ℕ, suc, ◌≤◌, ◌<◌, ◌==◌, Bool, true, false, List, [], ◌∷◌, ◌++◌, filter, Option, Some, None, slice_get, if◌then◌else◌, refl, sym, ap, ◌∙◌, arith}
 use Rattle.std.specs.Prelude.{nat_le}
 use Rattle.std.specs.List.{cons_option}
-use Rattle.std.proofs.lemmas.Bool.{cases_Bool, leb-true}
+use Rattle.std.proofs.lemmas.Bool.{lt-leb}
 use Rattle.std.proofs.lemmas.List.{append-nil}
 use Rattle.std.proofs.lemmas.List.Elements.{filter-append, filter_map-append}
 use Rattle.drift_clock.specs.RateSteps.{RateStep, up_to}
@@ -32,9 +32,6 @@ use Rattle.world_law.specs.source.Applying.{place_of_event}
 abbrev pub AreFrom : ℕ → List Event → Type 0
 AreFrom t events = (k : ℕ) (e : Event) → slice_get events k ≡ Some e → t ≤ amount e.time
 
-not_up_to : (at x : ℕ) → x < at → nat_le at x ≡ false
-not_up_to at x lt = elim (cases_Bool (nat_le at x)) [ inr no_it ↦ no_it | inl holds ↦ let le = leb-true at x holds in absurd (omega (arith, le, lt)) ]
-
 -- what holds of the value, where there is one
 abbrev Holds : {X : Type 0} → Option X → (X → Type 0) → Type 0
 Holds None P = Unit {0}
@@ -58,7 +55,7 @@ step_at device time End = tt
 dropped : (x : ℕ) (o : Option RateStep) (steps : List RateStep) → Holds o (λ s. x < s.at) → up_to x steps ≡ [] → up_to x (cons_option o steps) ≡ []
 dropped x None steps late none = none
 dropped x (Some s) steps late none =
-    ap (λ (b : Bool). if b then s ∷ up_to x steps else up_to x steps) (not_up_to s.at x late) ∙ none
+    ap (λ (b : Bool). if b then s ∷ up_to x steps else up_to x steps) (lt-leb s.at x late) ∙ none
 
 holds_later : (x time : ℕ) (o : Option RateStep) → x < time → Holds o (λ s. s.at ≡ time) → Holds o (λ s. x < s.at)
 holds_later x time None lt h = tt
@@ -89,7 +86,7 @@ no_events u t (e ∷ more) lt from =
     let late = from 0 e refl in
     let rest = no_events u t more lt (λ k d is. from (suc k) d is) in
     ap (λ (b : Bool). if b then e ∷ filter (λ d. nat_le (amount d.time) u) more else filter (λ d. nat_le (amount d.time) u) more)
-    (not_up_to (amount e.time) u (omega (arith, lt, late)))
+    (lt-leb (amount e.time) u (omega (arith, lt, late)))
     ∙ rest
 
 agree : (network : Network) (events more : List Event) (t u : ℕ) → u < t → AreFrom t more

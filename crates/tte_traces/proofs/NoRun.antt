@@ -33,7 +33,7 @@ given_none cause status old new (inr (inr (inl read, some))) = subst IsOfNoRun (
 given_none cause status old new (inr (inr (inr memory, some))) = subst IsOfNoRun (sym memory) tt
 
 -- a file that is too long has no line
-none_long : (cause : NoNetwork) (old new : Shown) → Gives (no_network_answer cause) TooLong old new → PutsLines [] old new
+pub none_long : (cause : NoNetwork) (old new : Shown) → Gives (no_network_answer cause) TooLong old new → PutsLines [] old new
 none_long causes.ReadFault old new g = puts_nothing (no_network_answer causes.ReadFault) TooLong old new refl g
 none_long causes.TooLong old new g = puts_nothing (no_network_answer causes.TooLong) TooLong old new refl g
 none_long causes.OutOfMemory old new g = puts_nothing (no_network_answer causes.OutOfMemory) TooLong old new refl g

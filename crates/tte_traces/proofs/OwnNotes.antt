@@ -1,27 +1,24 @@
 -- The devices, links and virtual links of a record of a run are the network's.
-use Rattle.std.proofs.Common.{◌≡◌, ℕ, ◌<◌, Bool, true, false, List, [], ◌∷◌, ◌++◌, length, Option, Some, None, option_map, append_assoc, inl, inr, refl, sym, ap, subst, ◌∙◌}
+use Rattle.std.proofs.Common.{◌≡◌, ℕ, ◌<◌, true, false, List, [], ◌∷◌, ◌++◌, length, Option, Some, None, option_map, append_assoc, inl, inr, refl, sym, ap, subst, ◌∙◌}
 use Rattle.std.proofs.lemmas.Bool.{cases_lt, eq-eqb}
 use Rattle.std.proofs.lemmas.Option.{slice_get_within}
-use Rattle.std.specs.Option.{IsSomeAnd, option_map_or}
 use Rattle.fault_hypothesis.specs.Watching.{AreOfNetwork as AreEventsOf}
 use Rattle.net_plan.specs.Belonging.{IsOfNetwork}
-use Rattle.net_plan.specs.Places.{device_at, link_at}
+use Rattle.net_plan.specs.Places.{link_at}
 use Rattle.net_plan.specs.Ranges.{IsInRange, IsLinkInRange}
 use Rattle.net_plan.specs.declared.event.What.{What}
 use Rattle.net_plan.specs.declared.ids.DeviceId.{DeviceId}
 use Rattle.net_plan.specs.declared.ids.LinkId.{LinkId}
 use Rattle.net_plan.specs.declared.ids.VlId.{VlId}
 use Rattle.net_plan.specs.declared.network.Network.{Network}
-use Rattle.net_plan.specs.declared.tables.Device.{Device}
 use Rattle.net_plan.specs.declared.tables.Link.{Link}
-use Rattle.net_plan.specs.declared.tables.Role.{Role}
 use Rattle.net_plan.specs.declared.tables.Way.TheVariants.{Up, Down}
 use Rattle.net_plan.specs.declared.tables.Way.{Way}
 use Rattle.report_text.specs.Ranges.{HasPassage, HasStream, IsBodyOf, IsNoteOf}
 use Rattle.run_law.proofs.law.FirstPlaces.{numbered_in}
 use Rattle.run_law.proofs.runs.NetworkRuns.{one_more}
 use Rattle.run_law.proofs.runs.Places.{in_left, in_right, parted}
-use Rattle.run_law.specs.control.Leaving.{Departs, Departure, Gives}
+use Rattle.run_law.specs.control.Leaving.{Departs, Departure}
 use Rattle.run_law.specs.control.Wires.{Arrives, Signal}
 use Rattle.run_law.specs.declared.note.Note.{Note}
 use Rattle.run_law.specs.declared.note.NoteBody.TheVariants as kinds
@@ -31,29 +28,22 @@ use Rattle.run_law.specs.records.Order.{IsIn}
 use Rattle.run_law.specs.records.Ranks.{place_of}
 use Rattle.run_law.specs.runs.DueRecords.{IsArrivedRecord, IsCaused, IsDue, IsScenarioRun}
 use Rattle.run_law.specs.runs.Runs.{IsFounded}
-use Rattle.run_law.specs.scenario.Devices.{has_role}
 use Rattle.run_law.specs.scenario.Scenarios.{Scenario}
 use Rattle.run_law.specs.timed.Dispatching.{Dispatches}
 use Rattle.run_law.specs.timed.Receptions.{ArrivesAs}
-use Rattle.schedule_tables.proofs.EntryLemmas.{all_at}
 use Rattle.schedule_tables.specs.Entries.{IsEntry, source_by, source_of}
 use Rattle.schedule_tables.specs.declared.entry.Entry.{Entry}
 use Rattle.tte_units.specs.Amount.{amount}
 use Rattle.tte_units.specs.declared.units.Units.{Units}
-use Rattle.drift_world.proofs.Launches.{gives_in}
-use Rattle.world_steps.proofs.hearing.Receptions.{in_all, receiver_in}
+use Rattle.drift_world.proofs.Launches.{gives_in, gives_within}
+use Rattle.run_existence.proofs.bounds.Named.{device_there}
+use Rattle.tte_lemmas.proofs.Lists.{in_all as all_at}
+use Rattle.world_steps.proofs.hearing.Receptions.{receiver_in}
 use Rattle.world_law.proofs.rows.Entered.{delivered_of, taken_at}
 use Rattle.world_law.specs.device.Own.{moves}
 use Rattle.world_law.specs.world.World.{AreOfNetwork}
 
 -- ---- links and devices
-
-link_in : (network : Network) (link : LinkId) (P : Link → Type 0) → IsSomeAnd (link_at network link) P → link.0 < length network.link
-link_in network link P some = by (link_at network link) refl some
-  where
-    by : (o : Option Link) → link_at network link ≡ o → IsSomeAnd o P → link.0 < length network.link
-    by None is some = absurd some
-    by (Some l) is some = slice_get_within network.link link.0 l is
 
 received_link : (network : Network) (way : Way) (link : LinkId) (device : DeviceId) (f : Link → DeviceId) → option_map f (link_at network link) ≡ Some device
     → link.0 < length network.link
@@ -62,14 +52,6 @@ received_link network way link device f e = by (link_at network link) refl e
     by : (o : Option Link) → link_at network link ≡ o → option_map f o ≡ Some device → link.0 < length network.link
     by None is e = absurd cc
     by (Some l) is e = slice_get_within network.link link.0 l is
-
--- a device in a role is the network's
-role_in : (network : Network) (kind : Role → Bool) (device : DeviceId) → has_role network kind device ≡ true → device.0 < length network.device
-role_in network kind device has = by (device_at network device) refl has
-  where
-    by : (o : Option Device) → device_at network device ≡ o → option_map_or (λ d. kind d.role) o false ≡ true → device.0 < length network.device
-    by None is has = absurd cc
-    by (Some d) is has = slice_get_within network.device device.0 d is
 
 -- where something arrives
 arrives_at : (s : Scenario) (h : Happening) (device : DeviceId) (link : LinkId) (t : ℕ) (signal : Signal) → IsInRange s.network
@@ -85,28 +67,10 @@ arrived_at s hs device t link cause clock range c = elim c.taken [
   | inr (inr b) ↦ arrives_at s b.putting device link t b.signal range b.arrives
 ]
 
--- where a frame is given to a link
-gives_link : (network : Network) (body : NoteBody) (device : DeviceId) (link : LinkId) → Gives network body device link → link.0 < length network.link
-gives_link network (kinds.Sent master cycle) device link gives = link_in network link _ gives.1
-gives_link network (kinds.Compressed cm opened at cycle members verdict) device link gives = link_in network link _ gives.1
-gives_link network (kinds.Arrived relay from cause clock) device link gives =
-    elim gives.1.on [ inl up ↦ link_in network link _ up.1 | inr down ↦ link_in network link _ down.1 ]
-gives_link network (kinds.Event line what) device link gives = absurd gives
-gives_link network (kinds.Permanent d l cause point verdict) device link gives = absurd gives
-gives_link network (kinds.Corrected d cycle by adjustment) device link gives = absurd gives
-gives_link network (kinds.State d state cause why) device link gives = absurd gives
-gives_link network (kinds.Left d l cause clock) device link gives = absurd gives
-gives_link network (kinds.Lost d l cause) device link gives = absurd gives
-gives_link network (kinds.TtSent d l cause vl cycle) device link gives = absurd gives
-gives_link network (kinds.Accepted d l cause vl cycle) device link gives = absurd gives
-gives_link network (kinds.Delivered d l cause vl cycle) device link gives = absurd gives
-gives_link network (kinds.Dropped d l cause reason) device link gives = absurd gives
-gives_link network (kinds.Clock d reading adjustment state) device link gives = absurd gives
-
 departs_at : (s : Scenario) (hs : List Happening) (device : DeviceId) (t : ℕ) (link : LinkId) (cause : ℕ) (is : Departure) → IsInRange s.network
     → Departs s hs device t link cause is → HasPassage s.network device link
 departs_at s hs device t link cause is range d =
-    (gives_in s.network d.giving.note.body device link range d.gives, gives_link s.network d.giving.note.body device link d.gives)
+    (gives_in s.network d.giving.note.body device link range d.gives, gives_within s.network d.giving.note.body device link d.gives)
 
 source_by_in : (network : Network) (way : Way) (l : Link) → IsLinkInRange network l → (source_by way l).0 < length network.device
 source_by_in network Up l range = range.child
@@ -116,7 +80,7 @@ source_in : (network : Network) (place : ℕ) (entry : Entry) (device : DeviceId
     → device.0 < length network.device
 source_in network place entry device range is leaves =
     subst (λ (d : DeviceId). d.0 < length network.device) leaves
-    (source_by_in network entry.row.way entry.link (in_all (IsLinkInRange network) network.link entry.row.link.0 entry.link range.links is.link))
+    (source_by_in network entry.row.way entry.link (all_at (IsLinkInRange network) network.link entry.row.link.0 entry.link range.links is.link))
 
 -- where a row's frame is dispatched
 dispatched_at : (s : Scenario) (hs : List Happening) (device : DeviceId) (t : ℕ) (link : LinkId) (cause : ℕ) (vl : VlId) (cycle : ℕ) → IsInRange s.network
@@ -153,8 +117,8 @@ body_of s hs time (kinds.Arrived device link cause clock) range all founded own 
 body_of s hs time (kinds.Permanent device link cause point verdict) range all founded own c =
     let p = c.permanent in
     permanent_at s hs p.arrival device link p.from p.clock range founded (numbered_in hs cause p.arrival p.there) p.arrived
-body_of s hs time (kinds.Compressed device opened at cycle members verdict) range all founded own c = role_in s.network _ device c.cm
-body_of s hs time (kinds.Sent device cycle) range all founded own c = role_in s.network _ device c.master
+body_of s hs time (kinds.Compressed device opened at cycle members verdict) range all founded own c = device_there s.network _ device c.cm
+body_of s hs time (kinds.Sent device cycle) range all founded own c = device_there s.network _ device c.master
 body_of s hs time (kinds.Corrected device cycle by adjustment) range all founded own c = own device (eq-eqb device.0 device.0 refl)
 body_of s hs time (kinds.State device state cause why) range all founded own c = own device (eq-eqb device.0 device.0 refl)
 body_of s hs time (kinds.Left device link cause clock) range all founded own c = departs_at s hs device (amount time) link cause _ range c
@@ -163,7 +127,7 @@ body_of s hs time (kinds.Lost device link cause) range all founded own (inr (inl
     let at = dispatched_at s hs device (amount time) link cause d.0 d.1 range d.2 in (at.0, at.1)
 body_of s hs time (kinds.Lost device link cause) range all founded own (inr (inr l)) = (
   subst (λ (d : DeviceId). d.0 < length s.network.device) (sym l.by)
-      (in_all (IsLinkInRange s.network) s.network.link link.0 l.way range.links l.there).child,
+      (all_at (IsLinkInRange s.network) s.network.link link.0 l.way range.links l.there).child,
   slice_get_within s.network.link link.0 l.way l.there,
 )
 body_of s hs time (kinds.TtSent device link cause vl cycle) range all founded own c =

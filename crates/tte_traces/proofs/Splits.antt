@@ -3,7 +3,6 @@ use Rattle.std.proofs.Common.{◌≡◌, ◌≢◌, ◌⊎◌, ℕ, zero, suc, �
 use Rattle.std.proofs.lemmas.Bool.{cases_lt}
 use Rattle.net_plan.specs.declared.event.Event.{Event}
 use Rattle.net_plan.specs.declared.event.What.TheVariants.{End}
-use Rattle.net_plan.specs.declared.event.What.{What}
 use Rattle.net_plan.specs.declared.network.Network.{Network}
 use Rattle.run_law.proofs.scenario.Decided.{hypothesis_is_decided}
 use Rattle.run_law.proofs.scenario.Decisions.{IsDecided, decided_any}
@@ -11,6 +10,7 @@ use Rattle.trace_text.specs.EventReading.{event_read}
 use Rattle.trace_text.specs.Steps.{Read}
 use Rattle.tte_io.specs.Line.{first_line, line_limit}
 use Rattle.exact_runs.specs.Records.{HaveEnded}
+use Rattle.run_existence.proofs.decisions.Events.{is_end}
 use Rattle.tte_traces.specs.Lines.{AreAdmitted, HasEvent, IsAdmitted, IsFault, IsOpen, behind_lines}
 use Rattle.tte_traces.specs.declared.fault.TraceFault.{TraceFault}
 use Rattle.tte_traces.specs.declared.fault.TraceFault.TheVariants.{Missing, TooMany, After, Long, Line, Event as Outlaw}
@@ -26,10 +26,6 @@ Stops network before rest = (HaveEnded before × (rest ≡ [])) ⊎ ((fault : Tr
 -- or a line that is admitted
 abbrev GoesOn : Network → List Event → List ℕ → Type 0
 GoesOn network before rest = Stops network before rest ⊎ ((event : Event) × IsAdmitted network before rest event)
-
-is_end : (what : What) → IsDecided (what ≡ End)
-is_end End = inl refl
-is_end other = inr (λ e. cc)
 
 have_ended : (events : List Event) → IsDecided (HaveEnded events)
 have_ended events = decided_any (λ e. e.what ≡ End) (λ e. is_end e.what) events

@@ -2,6 +2,7 @@
 use Rattle.std.proofs.Common.{◌≡◌, ℕ, ◌+◌, List, [], ◌∷◌, ◌++◌, length, inl, inr, refl, ap}
 use Rattle.std.specs.List.{All}
 use Rattle.std.proofs.lemmas.List.Elements.{All-cons, All-nil}
+use Rattle.drift_clock.proofs.ExactSegments.{exact_laws}
 use Rattle.drift_clock.specs.Segment.{fresh_segment, segment_reading, stepped_segment}
 use Rattle.net_plan.specs.Belonging.{IsOfNetwork}
 use Rattle.net_plan.specs.Ranges.{IsInRange}
@@ -22,7 +23,7 @@ use Rattle.tte_forms.specs.networks.Accepting.{MeansAccepted}
 use Rattle.tte_traces.specs.Answer.{AnswersAll, AnswersFault, IsRunAnswer, report_lines}
 use Rattle.tte_traces.specs.Lines.{AreAdmitted, behind_lines}
 use Rattle.tte_traces.specs.Safely.{BeginsRunTo, IsReportToFault, IsSafeText, IsWholeReport}
-use Rattle.exact_runs.proofs.Clocks.{exact_laws, exact_begins}
+use Rattle.exact_runs.proofs.Clocks.{exact_begins}
 use Rattle.exact_runs.specs.Records.{AreRecordsSoFar, clock_reading}
 use Rattle.drift_world.specs.Running.{behind_events, last_time}
 use Rattle.tte_traces.proofs.Existing.{records_before}
@@ -52,7 +53,7 @@ admitted_under octets trace network events range accepted all = record {
 -- ---- what an answer's lines are
 
 -- the run up to the time of the last event, this time and all
-begins_run : (network : Network) (events : List Event) (notes : List Note) → IsUnder network events → AreRecordsSoFar network events notes
+pub begins_run : (network : Network) (events : List Event) (notes : List Note) → IsUnder network events → AreRecordsSoFar network events notes
     → BeginsRunTo network events (amount (last_time events)) notes
 begins_run network events notes under records =
     let time = amount (last_time events) in

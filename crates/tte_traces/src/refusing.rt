@@ -12,7 +12,7 @@ use tte_forms::{Status, end_with, put_last};
 use tte_io::{LineText, Sink};
 
 /// Answers why the trace is refused at the line of this number, in words made in `line`.
-pub(crate) fn put_fault<K: Sink>(
+pub fn put_fault<K: Sink>(
     fault: TraceFault,
     number: u64,
     line: &mut LineText,

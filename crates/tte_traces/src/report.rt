@@ -10,7 +10,7 @@ ghost use Rattle.tte_traces.specs.Report.{PutsReport, StopsReport};
 use drift_world::{EventNote, Given};
 use exact_runs::ExactWorld;
 use net_plan::{Event, Network};
-use report_text::write;
+use report_text::write_in;
 use run_law::Note;
 use tte_io::{LineText, Sink};
 use tte_units::Units;
@@ -39,7 +39,7 @@ fn put_note<K: Sink>(
     ensures counted { K.puts out.new ≡ next_count (K.puts out.old) }
     ensures cut { IfErr result (λ cut. cut ≡ Cut.WriteFault) }
 {
-    match write(text, network, note, out) {
+    match write_in(text, network, note, out) {
         Ok(()) => Ok(()),
         Err(_) => Err(Cut::WriteFault),
     }

@@ -20,6 +20,11 @@ pub record MeansNoNetwork (octets : List ℕ) (refusal : FileRefusal) : Type 0 w
   pub fits : length octets ≤ file_limit
   pub read : network_read octets ≡ Err refusal
 
+-- the octets mean this network, which may break rules
+pub record MeansNetwork (octets : List ℕ) (network : Network) : Type 0 where
+  pub fits : length octets ≤ file_limit
+  pub read : network_read octets ≡ Ok network
+
 -- the octets mean a network that breaks this rule first
 pub record MeansUnfit (octets : List ℕ) (told : RuleBroken) : Type 0 where
   pub network : Network

@@ -15,6 +15,14 @@ IsNoNetwork octets causes.OutOfMemory = Unit {0}
 IsNoNetwork octets (causes.File refusal) = MeansNoNetwork octets refusal
 IsNoNetwork octets (causes.Rule told) = MeansUnfit octets told
 
+-- the octets give no network at all, for this cause, which is no broken rule
+abbrev pub IsUnread : List ℕ → NoNetwork → Type 0
+IsUnread octets causes.ReadFault = Unit {0}
+IsUnread octets causes.TooLong = IsTooLong octets
+IsUnread octets causes.OutOfMemory = Unit {0}
+IsUnread octets (causes.File refusal) = MeansNoNetwork octets refusal
+IsUnread octets (causes.Rule told) = ⊥
+
 -- what is answered
 abbrev pub no_network_answer : NoNetwork → Answer
 no_network_answer causes.ReadFault = record { status = ReadFault; lines = [] }

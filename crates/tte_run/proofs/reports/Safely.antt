@@ -2,6 +2,7 @@
 use Rattle.std.proofs.Common.{◌≡◌, ℕ, List, Option, inl, inr, ap, ◌∙◌, sym}
 use Rattle.std.specs.List.{concat}
 use Rattle.std.proofs.lemmas.List.{append-nil}
+use Rattle.drift_clock.proofs.ExactSegments.{exact_laws}
 use Rattle.drift_clock.specs.Segment.{fresh_segment, segment_reading, stepped_segment}
 use Rattle.net_plan.specs.declared.network.Network.{Network}
 use Rattle.report_text.specs.NoteLine.{report_of}
@@ -21,7 +22,7 @@ use Rattle.tte_forms.proofs.Octets.{for_more}
 use Rattle.tte_run.proofs.reports.Answers.{kept_apart}
 use Rattle.tte_run.proofs.reports.Sources.{GivesNetworkAudit}
 use Rattle.tte_run.proofs.reports.Under.{report_ends, report_under}
-use Rattle.exact_runs.proofs.Clocks.{exact_begins, exact_laws}
+use Rattle.exact_runs.proofs.Clocks.{exact_begins}
 
 safe_run : (octets report : List ℕ) (network : Network) (count : ℕ) → MeansAccepted octets network → PassesAudit network report count
     → ReportsSafeRun octets report

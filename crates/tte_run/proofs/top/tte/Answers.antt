@@ -4,14 +4,24 @@ use Rattle.tte_forms.specs.frames.Answer.{IsShowStatus, show_answer}
 use Rattle.tte_forms.specs.networks.Checking.{IsCheckStatus}
 use Rattle.tte_traces.specs.Answer.{IsRunStatus}
 use Rattle.tte_run.specs.reports.Answer.{IsAuditStatus}
+use Rattle.tte_stamps.specs.Answer.{IsStampStatus}
+use Rattle.net_plan.specs.declared.tables.Way.{Way}
+use Rattle.tte_forms.specs.Answering.{ForOctets, GivesAnswer}
+use Rattle.tte_forms.specs.networks.Accepting.{IsNetworkAnswer}
+use Rattle.tte_votes.specs.Answer.{IsVoteAnswer, IsVoteStatus, the_names}
+use Rattle.tte_wires.specs.Answer.{IsWireAnswer, IsWireNetworkAnswer, IsWireStatus}
+use Rattle.tte_wires.specs.Streaming.{WireStops}
 use Rattle.tte_forms.specs.Putting.{Shown, shown_by}
 use Rattle.tte_captures.specs.Answer.{IsCaptureStatus, capture_answer}
+use Rattle.tte_forms.proofs.Facts.{no_usage}
+use Rattle.tte_forms.specs.Faults.{HasCause}
+use Rattle.tte_run.specs.SecondFiles.{FailsToRead, FormStops, second_of}
 use Rattle.tte_run.specs.Top.{AnswersWords}
 use Rattle.tte_run.specs.Whole.{Completes}
 use Rattle.tte_forms.specs.declared.form.Form.{Form}
-use Rattle.tte_forms.specs.declared.form.Form.TheVariants.{Show, Check, Run, Storm, Audit, Capture}
+use Rattle.tte_forms.specs.declared.form.Form.TheVariants.{Show, Check, Run, Storm, Stamp, Audit, Capture, Wire, Vote}
 use Rattle.tte_forms.specs.declared.status.Status.{Status}
-use Rattle.tte_run.proofs.TopAnswers.{as_one, no_usage, completes-capture, completes-show, completes-check, completes-run, completes-storm, completes-audit}
+use Rattle.tte_run.proofs.TopAnswers.{as_one, completes-capture, completes-show, completes-check, completes-run, completes-stamp, completes-storm, completes-audit, completes-vote, completes-wire}
 use Rattle.tte_run.proofs.top.tte.Goals as goal
 
 -- what is answered for the form is answered for the words
@@ -22,6 +32,12 @@ words_as {f} {form} same first second status old new a = subst (λ (x : Option F
 whole_as : {f form : Option Form} → f ≡ form → (first second : Option (List ℕ)) (status : Status) (SourceRose SinkRose : Type 0)
     → Completes f first second SourceRose SinkRose status → Completes form first second SourceRose SinkRose status
 whole_as {f} {form} same first second status SourceRose SinkRose h = subst (λ (x : Option Form). Completes x first second SourceRose SinkRose status) same h
+
+faults_as : {f form : Option Form} → f ≡ form → (first second left : Option (List ℕ)) (status : Status) (old new : Shown) (A B U R P : Type 0)
+    → HasCause status (FailsToRead (second_of f) A B U R (FormStops f first second left old new)) P
+    → HasCause status (FailsToRead (second_of form) A B U R (FormStops form first second left old new)) P
+faults_as {f} {form} same first second left status old new A B U R P h =
+    subst (λ (x : Option Form). HasCause status (FailsToRead (second_of x) A B U R (FormStops x first second left old new)) P) same h
 
 -- a read that failed raised one of the counts
 read_rose : {F U V T W : Type 0} → (F × U × V) ⊎ (T × W) → F ⊎ T
@@ -163,3 +179,108 @@ returns-in-Some-Capture-clause-complete g c =
     whole_as form first second c.capture_file.result _ _
     (completes-capture first second c.capture_file.result old new _ _ c.capture_file.ensures.general
     (λ e. inl (c.capture_file.ensures.faults.read e).0) c.capture_file.ensures.faults.write)
+
+pub returns-in-Some-Stamp-clause-general : goal.returns-in-Some-Stamp-clause-general
+returns-in-Some-Stamp-clause-general g c =
+    let form : Some (Stamp c.in-Some-Stamp.granule) ≡ form_of c.args.words.now = search rules in
+    let first = g.A.Source.left c.args.first.now in
+    let second = g.B.Source.left c.args.second.now in
+    let old = shown_by g.K.Sink c.args.out.now in
+    let new = shown_by g.K.Sink c.stamp_trace.new.out in
+    words_as form first second c.stamp_trace.result old new
+    (no_usage IsStampStatus c.stamp_trace.result (λ none. none) c.stamp_trace.ensures.statuses, c.stamp_trace.ensures.general)
+
+pub returns-in-Some-Stamp-clause-complete : goal.returns-in-Some-Stamp-clause-complete
+returns-in-Some-Stamp-clause-complete g c =
+    let form : Some (Stamp c.in-Some-Stamp.granule) ≡ form_of c.args.words.now = search rules in
+    let first = g.A.Source.left c.args.first.now in
+    let second = g.B.Source.left c.args.second.now in
+    let old = shown_by g.K.Sink c.args.out.now in
+    let new = shown_by g.K.Sink c.stamp_trace.new.out in
+    whole_as form first second c.stamp_trace.result _ _
+    (completes-stamp c.in-Some-Stamp.granule first second c.stamp_trace.result old new _ _ c.stamp_trace.ensures.general
+    (λ e. read_rose (c.stamp_trace.ensures.faults.read e)) c.stamp_trace.ensures.faults.write)
+
+-- what was given for the text of the link's word was given for the word
+named_as : {text name : List ℕ} → text ≡ name → (way : Way) (first second : Option (List ℕ)) (status : Status) (old new : Shown)
+    → ForOctets first (λ octets. ForOctets second (λ trace. GivesAnswer (IsWireNetworkAnswer (IsWireAnswer text way trace) octets) status old new))
+    → ForOctets first (λ octets. ForOctets second (λ trace. GivesAnswer (IsWireNetworkAnswer (IsWireAnswer name way trace) octets) status old new))
+named_as {text} {name} same way first second status old new g =
+    subst
+    (λ (x : List ℕ). ForOctets first (λ octets. ForOctets second (λ trace. GivesAnswer (IsWireNetworkAnswer (IsWireAnswer x way trace) octets) status old new)))
+    same g
+
+pub returns-in-Some-Wire-clause-general : goal.returns-in-Some-Wire-clause-general
+returns-in-Some-Wire-clause-general g c =
+    let form : Some (Wire c.in-Some-Wire.link c.in-Some-Wire.way) ≡ form_of c.args.words.now = search rules in
+    let first = g.A.Source.left c.args.first.now in
+    let second = g.B.Source.left c.args.second.now in
+    let old = shown_by g.K.Sink c.args.out.now in
+    let new = shown_by g.K.Sink c.wire_trace.new.out in
+    words_as form first second c.wire_trace.result old new (
+      no_usage IsWireStatus c.wire_trace.result (λ none. none) c.wire_trace.ensures.statuses,
+      named_as c.text.ensures c.in-Some-Wire.way first second c.wire_trace.result old new c.wire_trace.ensures.general,
+    )
+
+-- what was put for the text of the link's word stops so for the word
+stops_as : {text name : List ℕ} → text ≡ name → (way : Way) (first second left : Option (List ℕ)) (status : Status) (old new : Shown) (A B U R P : Type 0)
+    → HasCause status ((A × U × R) ⊎ (B × WireStops text way first second left old new)) P
+    → HasCause status ((A × U × R) ⊎ (B × WireStops name way first second left old new)) P
+stops_as {text} {name} same way first second left status old new A B U R P h =
+    subst (λ (x : List ℕ). HasCause status ((A × U × R) ⊎ (B × WireStops x way first second left old new)) P) same h
+
+pub returns-in-Some-Wire-clause-faults : goal.returns-in-Some-Wire-clause-faults
+returns-in-Some-Wire-clause-faults g c =
+    let form : Some (Wire c.in-Some-Wire.link c.in-Some-Wire.way) ≡ form_of c.args.words.now = search rules in
+    let first = g.A.Source.left c.args.first.now in
+    let second = g.B.Source.left c.args.second.now in
+    let left = g.B.Source.left c.wire_trace.new.second in
+    let old = shown_by g.K.Sink c.args.out.now in
+    let new = shown_by g.K.Sink c.wire_trace.new.out in
+    faults_as form first second left c.wire_trace.result old new _ _ _ _ _
+    (stops_as c.text.ensures c.in-Some-Wire.way first second left c.wire_trace.result old new _ _ _ _ _ c.wire_trace.ensures.faults)
+
+pub returns-in-Some-Wire-clause-complete : goal.returns-in-Some-Wire-clause-complete
+returns-in-Some-Wire-clause-complete g c =
+    let form : Some (Wire c.in-Some-Wire.link c.in-Some-Wire.way) ≡ form_of c.args.words.now = search rules in
+    let first = g.A.Source.left c.args.first.now in
+    let second = g.B.Source.left c.args.second.now in
+    let old = shown_by g.K.Sink c.args.out.now in
+    let new = shown_by g.K.Sink c.wire_trace.new.out in
+    whole_as form first second c.wire_trace.result _ _
+    (completes-wire c.in-Some-Wire.link c.in-Some-Wire.way first second c.wire_trace.result old new _ _
+    (named_as c.text.ensures c.in-Some-Wire.way first second c.wire_trace.result old new c.wire_trace.ensures.general)
+    (λ e. read_rose (c.wire_trace.ensures.faults.read e)) c.wire_trace.ensures.faults.write)
+
+-- what was given for the texts of three words was given for the words
+votes_as : {a b c one two three : List ℕ} → a ≡ one → b ≡ two → c ≡ three → (first second : Option (List ℕ)) (status : Status) (old new : Shown)
+    → ForOctets first (λ octets. ForOctets second (λ trace. GivesAnswer (IsNetworkAnswer (IsVoteAnswer (the_names a b c) trace) octets) status old new))
+    → ForOctets first (λ octets. ForOctets second (λ trace. GivesAnswer (IsNetworkAnswer (IsVoteAnswer (the_names one two three) trace) octets) status old new))
+votes_as {a} {b} {c} {one} {two} {three} p q r first second status old new g =
+    let Given : List ℕ → List ℕ → List ℕ → Type 0 = λ x y z.
+    ForOctets first (λ octets. ForOctets second (λ trace. GivesAnswer (IsNetworkAnswer (IsVoteAnswer (the_names x y z) trace) octets) status old new)) in
+    subst (λ (z : List ℕ). Given one two z) r (subst (λ (y : List ℕ). Given one y c) q (subst (λ (x : List ℕ). Given x b c) p g))
+
+pub returns-in-Some-Vote-clause-general : goal.returns-in-Some-Vote-clause-general
+returns-in-Some-Vote-clause-general g c =
+    let form : Some (Vote c.in-Some-Vote.one c.in-Some-Vote.two c.in-Some-Vote.three) ≡ form_of c.args.words.now = search rules in
+    let first = g.A.Source.left c.args.first.now in
+    let second = g.B.Source.left c.args.second.now in
+    let old = shown_by g.K.Sink c.args.out.now in
+    let new = shown_by g.K.Sink c.vote_trace.new.out in
+    words_as form first second c.vote_trace.result old new (
+      no_usage IsVoteStatus c.vote_trace.result (λ none. none) c.vote_trace.ensures.statuses,
+      votes_as c.text-in-Some-Vote.ensures c.text-in-Some-Vote-2.ensures c.text-in-Some-Vote-3.ensures first second c.vote_trace.result old new c.vote_trace.ensures.general,
+    )
+
+pub returns-in-Some-Vote-clause-complete : goal.returns-in-Some-Vote-clause-complete
+returns-in-Some-Vote-clause-complete g c =
+    let form : Some (Vote c.in-Some-Vote.one c.in-Some-Vote.two c.in-Some-Vote.three) ≡ form_of c.args.words.now = search rules in
+    let first = g.A.Source.left c.args.first.now in
+    let second = g.B.Source.left c.args.second.now in
+    let old = shown_by g.K.Sink c.args.out.now in
+    let new = shown_by g.K.Sink c.vote_trace.new.out in
+    whole_as form first second c.vote_trace.result _ _
+    (completes-vote c.in-Some-Vote.one c.in-Some-Vote.two c.in-Some-Vote.three first second c.vote_trace.result old new _ _
+    (votes_as c.text-in-Some-Vote.ensures c.text-in-Some-Vote-2.ensures c.text-in-Some-Vote-3.ensures first second c.vote_trace.result old new c.vote_trace.ensures.general)
+    (λ e. read_rose (c.vote_trace.ensures.faults.read e)) c.vote_trace.ensures.faults.write)
