@@ -1,10 +1,10 @@
 -- A rule that is kept at the places where it is judged is kept at each.
-use Rattle.std.proofs.Common.{◌≡◌, ⊎_elim, ℕ, ◌<◌, ◌≤◌, List, [], ◌∷◌, Bool, true, false, cond, Option, Some, None, length, get_or, refl, ap, subst, arith}
+use Rattle.std.proofs.Common.{◌≡◌, ⊎_elim, ℕ, ◌<◌, ◌≤◌, List, [], ◌∷◌, Bool, true, false, cond, Some, None, length, get_or, refl, ap, subst, arith}
 use Rattle.std.proofs.lemmas.Bool.{cases_lt, ne_eqb}
 use Rattle.std.proofs.lemmas.List.Elements.{All-tail}
 use Rattle.std.proofs.lemmas.List.Sums.{sum_by-cons}
 use Rattle.std.proofs.lemmas.Option.{slice_get_within, slice_get_cases}
-use Rattle.std.specs.Prelude.{IsSomeAnd, slice_get}
+use Rattle.std.specs.Prelude.{slice_get}
 use Rattle.std.specs.List.{All, count_by}
 use Rattle.net_plan.specs.Places.{is_end_system}
 use Rattle.net_plan.specs.Ranges.{IsInRange, IsLinkInRange, IsRowInRange}
@@ -20,18 +20,11 @@ use Rattle.schedule_tables.specs.Rules.{IsKeptAt, IsKept}
 use Rattle.schedule_tables.specs.Schedule.{leaves, HasFewRows}
 use Rattle.schedule_tables.specs.declared.rule.Rule.{Rule}
 use Rattle.schedule_tables.specs.declared.rule.Rule.TheVariants.{Limits, DevicesDiffer, LinksDiffer, CompressionMasters, Joints, Connections, Masters, Delays, Settling, Precision, Correction, ScheduleStart, WindowEnds, VlNamesDiffer, VlIdsDiffer, Periods, Senders, LinksOnce, Sources, Targets, Spacing, BothChannels, Forwarding, RowsOfDevice}
+use Rattle.schedule_checker.proofs.ShapePaths.{within}
 
 -- the rule is kept where it is judged
 abbrev pub IsKeptWhereJudged : Rule → Network → Type 0
 IsKeptWhereJudged rule n = (k : ℕ) → k < places_of rule n → IsKeptAt rule n k
-
--- a place that holds something is within the list
-within : {X : Type 0} (P : X → Type 0) (xs : List X) (k : ℕ) → IsSomeAnd (slice_get xs k) P → k < length xs
-within P xs k h = some_within xs k (slice_get xs k) P refl h
-  where
-    some_within : {X : Type 0} (xs : List X) (k : ℕ) (o : Option X) (P : X → Type 0) → slice_get xs k ≡ o → IsSomeAnd o P → k < length xs
-    some_within xs k None P e h = absurd h
-    some_within xs k (Some x) P e h = slice_get_within xs k x e
 
 limits : (n : Network) → IsKeptWhereJudged Limits n → IsKept Limits n
 limits n h k =

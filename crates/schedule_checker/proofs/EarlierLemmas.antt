@@ -1,11 +1,12 @@
 -- What a test of all earlier elements of a list tells of the one at a place.
-use Rattle.std.proofs.Common.{◌≡◌, ◌≢◌, ℕ, ◌<◌, Bool, true, false, List, length, take, get_or, Option, Some, refl, sym, ap, ◌∙◌, arith}
+use Rattle.std.proofs.Common.{◌≡◌, ◌≢◌, ℕ, ◌<◌, Bool, true, false, List, length, take, get_or, Some, refl, sym, ap, ◌∙◌, arith}
 use Rattle.std.proofs.lemmas.Bool.{false≢true}
 use Rattle.std.proofs.lemmas.List.{get_or-take, length-take}
 use Rattle.std.proofs.lemmas.Option.{get_or_from_slice_get, slice_get_within, slice_get-get_or}
 use Rattle.std.specs.Prelude.{IsTrue, slice_get}
 use Rattle.std.specs.Bool.{MatchBool}
 use Rattle.std.specs.List.{AllWithin, HoldsAt}
+use Rattle.tte_lemmas.proofs.Options.{one}
 
 -- the element at the place has a mark that no earlier one has
 abbrev pub IsNewAt : {X Y : Type 0} → (X → Y) → List X → ℕ → Type 0
@@ -19,10 +20,6 @@ IsCompared mark xs place x b =
     (AllWithin (λ e. mark e ≢ mark x) (take place xs) 0 (length (take place xs)))
     ((k : ℕ) × (k < length (take place xs)) × HoldsAt (λ e. mark e ≡ mark x) (take place xs) k)
 
--- an option holds one value
-one_value : {X : Type 0} (o : Option X) (x y : X) → o ≡ Some x → o ≡ Some y → x ≡ y
-one_value o x y p q = cc
-
 -- the answer decides whether the mark is new
 pub new_from_all : {X Y : Type 0} (mark : X → Y) (xs : List X) (place : ℕ) (x : X) (b : Bool) → slice_get xs place ≡ Some x → IsCompared mark xs place x b
     → (IsTrue b → IsNewAt mark xs place) × (IsNewAt mark xs place → IsTrue b)
@@ -30,7 +27,7 @@ new_from_all mark xs place x true at all = (
   λ t k e y below here there same.
       let within : k < length (take place xs) = omega (arith, length-take place xs, slice_get_within xs k e here) in
       let read = get_or-take place xs k e below ∙ get_or_from_slice_get xs k e e here in
-      all k e (omega arith) within (ap mark read ∙ sym same ∙ ap mark (sym (one_value (slice_get xs place) x y at there))),
+      all k e (omega arith) within (ap mark read ∙ sym same ∙ ap mark (sym (one (slice_get xs place) x y at there))),
   λ h. refl,
 )
 new_from_all mark xs place x false at old = (

@@ -5,6 +5,7 @@ use Rattle.std.specs.List.{All, AllWithin, HoldsAt, enumerate_from, slice_get}
 use Rattle.std.proofs.lemmas.Bool.{false≢true}
 use Rattle.std.proofs.lemmas.List.{get_or-drop}
 use Rattle.std.proofs.lemmas.Option.{slice_get_within, slice_get-get_or, get_or_from_slice_get}
+use Rattle.tte_lemmas.proofs.Lists.{some_at}
 
 -- each element has the property
 abbrev pub Each : {X : Type 0} → (X → Type 0) → List X → Type 0
@@ -13,12 +14,6 @@ Each {X} P xs = (k : ℕ) (x : X) → slice_get xs k ≡ Some x → P x
 -- each of the first n elements has the property
 abbrev pub EachBelow : {X : Type 0} → (X → Type 0) → List X → ℕ → Type 0
 EachBelow {X} P xs n = (k : ℕ) (x : X) → k < n → slice_get xs k ≡ Some x → P x
-
--- there is an element at each place
-pub element_at : {X : Type 0} (xs : List X) (k : ℕ) → k < length xs → (x : X) × (slice_get xs k ≡ Some x)
-element_at [] k h = absurd (omega (arith, h))
-element_at (x ∷ xs) zero h = (x, refl)
-element_at (x ∷ xs) (suc k) h = element_at xs k (omega arith)
 
 pub each_of_all : {X : Type 0} (P : X → Type 0) (xs : List X) → All P xs → Each P xs
 each_of_all P xs all k x at = subst P (get_or_from_slice_get xs k x x at) (all k x (slice_get_within xs k x at))
@@ -84,14 +79,14 @@ pub all_decides : {X : Type 0} (P : X → Type 0) (r : Bool) (xs : List X)
     → MatchBool r (AllWithin P xs 0 (length xs)) ((k : ℕ) × (k < length xs) × HoldsAt (λ x. ¬ P x) xs k) → Decides r (Each P xs)
 all_decides P true xs h = (λ e. each_of_all P xs (λ k d below. h k d (omega arith) below), λ each. refl)
 all_decides P false xs h =
-    let found = element_at xs h.0 h.1 in
+    let found = some_at xs h.0 h.1 in
     (λ e. absurd (false≢true e), λ each. absurd (h.2 found.0 (subst P (sym (get_or_from_slice_get xs h.0 found.0 found.0 found.1)) (each h.0 found.0 found.1))))
 
 -- what `any` answers decides what holds of some
 pub any_decides : {X : Type 0} (P : X → Type 0) (r : Bool) (xs : List X) → MatchBool r ((k : ℕ) × (k < length xs) × HoldsAt P xs k)
     (AllWithin (λ x. ¬ P x) xs 0 (length xs)) → Decides r (Holds P xs)
 any_decides P true xs h =
-    let found = element_at xs h.0 h.1 in
+    let found = some_at xs h.0 h.1 in
     (λ e. (h.0, found.0, found.1, subst P (get_or_from_slice_get xs h.0 found.0 found.0 found.1) (h.2 found.0)), λ some. refl)
 any_decides {X} P false xs h =
     (λ e. absurd (false≢true e), λ some. absurd (each_of_all (λ (x : X). ¬ P x) xs (λ k d below. h k d (omega arith) below) some.0 some.1 some.2 some.3))

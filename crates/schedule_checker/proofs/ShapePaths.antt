@@ -1,5 +1,5 @@
 -- Paths by first uplinks, and devices that are connected on both channels.
-use Rattle.std.proofs.Common.{◌≡◌, ◌≢◌, ℕ, zero, suc, ◌-◌, ◌<◌, ◌≤◌, List, [], ◌∷◌, length, Option, Some, ap, sym, subst, ◌∙◌, ⊎_elim, arith}
+use Rattle.std.proofs.Common.{◌≡◌, ◌≢◌, ℕ, zero, suc, ◌-◌, ◌<◌, ◌≤◌, List, [], ◌∷◌, length, Some, ap, ◌∙◌, ⊎_elim, arith}
 use Rattle.std.specs.Prelude.{IsSomeAnd, slice_get}
 use Rattle.std.proofs.lemmas.Bool.{cases_lt}
 use Rattle.net_plan.specs.Paths.{IsUplink, IsFirstUplink, IsFirstPath}
@@ -12,18 +12,12 @@ use Rattle.net_plan.specs.declared.tables.Link.{Link}
 use Rattle.pcf_values.specs.declared.channel.Channel.{Channel}
 use Rattle.pcf_values.specs.declared.channel.Channel.TheVariants.{A, B}
 use Rattle.schedule_checker.specs.Shape.{IsConnectedOn, LeadsToCmWithin}
+use Rattle.tte_lemmas.proofs.Options.{at_known, closed}
 
-within : {X : Type 0} (P : X → Type 0) (xs : List X) (i : ℕ) → IsSomeAnd (slice_get xs i) P → i < length xs
+pub within : {X : Type 0} (P : X → Type 0) (xs : List X) (i : ℕ) → IsSomeAnd (slice_get xs i) P → i < length xs
 within P [] i h = absurd h
 within P (x ∷ xs) zero h = omega arith
 within P (x ∷ xs) (suc i) h = omega (arith, within P xs i h)
-
--- a value is known to have a property, and back
-closed : {X : Type 0} (P : X → Type 0) (o : Option X) (x : X) → o ≡ Some x → P x → IsSomeAnd o P
-closed P o x e h = subst (λ (s : Option _). IsSomeAnd s P) (sym e) h
-
-at_known : {X : Type 0} (P : X → Type 0) (o : Option X) (x : X) → o ≡ Some x → IsSomeAnd o P → P x
-at_known P o x e h = subst (λ (s : Option _). IsSomeAnd s P) e h
 
 pub uplink_within : (n : Network) (c : Channel) (d : DeviceId) (link : LinkId) → IsFirstUplink n c d link → link.0 < length n.link
 uplink_within n c d link first = within (λ l. (l.child ≡ d) × IsSwitchOf n c l.parent) n.link link.0 first.leads

@@ -1,6 +1,7 @@
 ghost use Rattle.std.specs.Prelude.{◌≡◌, ◌≢◌, ◌≤◌, ◌<◌, ◌↔◌, OnOk, IfErr, IfNone, IfSome, IsTrue};
 ghost use Rattle.net_plan.specs.Ranges.{IsInRange};
 ghost use Rattle.schedule_checker.specs.Judging.{BreaksAt, IsPlan, places_of, plan_rule, shape_rule};
+ghost use Rattle.schedule_tables.specs.Numbers.{number_of};
 ghost use Rattle.schedule_tables.specs.Rules.{IsFirstBroken, IsKept, IsKeptAt, KeepsBelow, KeepsRules};
 
 use crate::kept::{keeps_plan_rule, keeps_shape_rule};
@@ -12,24 +13,26 @@ use tte_units::Units;
 
 /// A rule that the network breaks, and the first place at which it does.
 #[derive(Clone, Copy)]
-pub(crate) struct Broken {
-    pub(crate) rule: Rule,
-    pub(crate) place: u32,
+pub struct Broken {
+    pub rule: Rule,
+    pub place: u32,
 }
 
 /// A network that keeps the rules of its shape, with what the other rules speak of.
 #[derive(Drop)]
-pub(crate) struct Plan<'a> {
-    pub(crate) network: &'a Network,
-    pub(crate) entries: &'a [Entry],
-    pub(crate) beta: Units,
+pub struct Plan<'a> {
+    pub network: &'a Network,
+    pub entries: &'a [Entry],
+    pub beta: Units,
 }
 
 /// Judges the rules of the network's shape, in their order.
-pub(crate) fn judge_shape(network: &Network) -> Result<(), Broken>
+pub fn judge_shape(network: &Network) -> Result<(), Broken>
     requires { IsInRange network.now }
     ensures kept { OnOk result (KeepsBelow 8 network.now) }
     ensures told { IfErr result (λ broken. IsFirstBroken network.now broken.rule broken.place) }
+    ensures shape { IfErr result (λ broken. number_of broken.rule < 8) }
+    ensures place { IfErr result (λ broken. broken.place < places_of broken.rule network.now) }
 {
     'rules: for rule in &ShapeRule::ALL {
         match broken_shape(*rule, network) {
@@ -48,6 +51,7 @@ fn broken_shape(rule: ShapeRule, network: &Network) -> Option<u32>
     requires { IsInRange network.now }
     ensures none { IfNone result (IsKept (shape_rule rule) network.now) }
     ensures some { IfSome result (BreaksAt network.now (shape_rule rule)) }
+    ensures place { IfSome result (λ place. place < places_of (shape_rule rule) network.now) }
 {
     'places: for place in 0..places_of(rule.rule(), network) {
         if !keeps_shape_rule(rule, network, place) {
@@ -77,10 +81,11 @@ pub(crate) fn judge_plan(plan: &Plan<'_>) -> Result<(), Broken>
 }
 
 /// The first place at which the network breaks the rule, which is none of its shape.
-fn broken_plan(rule: PlanRule, plan: &Plan<'_>) -> Option<u32>
+pub fn broken_plan(rule: PlanRule, plan: &Plan<'_>) -> Option<u32>
     requires { IsPlan plan.now }
     ensures none { IfNone result (IsKept (plan_rule rule) plan.now.network.now) }
     ensures some { IfSome result (BreaksAt plan.now.network.now (plan_rule rule)) }
+    ensures place { IfSome result (λ place. place < places_of (plan_rule rule) plan.now.network.now) }
 {
     'places: for place in 0..places_of(rule.rule(), plan.network) {
         if !keeps_plan_rule(rule, plan, place) {

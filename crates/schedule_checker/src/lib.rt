@@ -17,5 +17,8 @@ mod timing;
 mod virtual_links;
 
 pub use checker::check;
+pub use judge::{Broken, Plan, broken_plan, judge_shape};
 pub use laws::refusal_is_one;
+pub use parts::PlanRule;
 pub use refusal::{RuleBroken, Unfit};
+pub use timing::{delay_on, pcf_port_time};

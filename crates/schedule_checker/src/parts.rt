@@ -46,7 +46,7 @@ impl ShapeRule {
 
 /// A rule behind those of the shape.
 #[derive(Clone, Copy)]
-pub(crate) enum PlanRule {
+pub enum PlanRule {
     Delays,
     Settling,
     Precision,
@@ -89,7 +89,7 @@ impl PlanRule {
     ];
 
     /// The rule that it is.
-    pub(crate) fn rule(self) -> Rule
+    pub fn rule(self) -> Rule
         ensures { result ≡ plan_rule self }
     {
         match self {

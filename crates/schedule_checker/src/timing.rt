@@ -46,7 +46,7 @@ fn delays_fit_on(network: &Network, beta: u64, device: DeviceId, channel: Channe
 }
 
 /// How long the links of the path delay a frame together at most.
-fn delay_on(network: &Network, path: &Path) -> u64
+pub fn delay_on(network: &Network, path: &Path) -> u64
     requires { IsInRange network.now }
     ensures value { result ≡ delay_on network.now path.now }
     ensures bound { result ≤ 24 * 2 ^ 40 }
@@ -132,7 +132,7 @@ pub(crate) fn schedule_fits(network: &Network) -> bool
 }
 
 /// How long a protocol control frame occupies the port of the link.
-fn pcf_port_time(link: &Link) -> u64
+pub fn pcf_port_time(link: &Link) -> u64
     ensures value { result ≡ pcf_port_time link.now }
     ensures bound { result ≤ 2 ^ 30 }
 {

@@ -15,3 +15,9 @@ returns-in-Some-clause-told c =
     rw c.rule.ensures
     (tells c.args.network.now (shape_rule (get_or shape_rules c.rules.rule-index shapes.Limits)) (1 + c.rules.rule-index) _ c.rules.invariant
     (shape_number c.rules.rule-index c.rules-test.true) c.in-Some.ensures.some)
+
+pub returns-in-Some-clause-shape : goal.returns-in-Some-clause-shape
+returns-in-Some-clause-shape c = rw c.rule.ensures (omega (arith, shape_number c.rules.rule-index c.rules-test.true, c.rules-test.true))
+
+pub returns-in-Some-clause-place : goal.returns-in-Some-clause-place
+returns-in-Some-clause-place c = rw c.rule.ensures c.in-Some.ensures.place

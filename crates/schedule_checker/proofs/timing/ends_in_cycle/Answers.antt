@@ -3,7 +3,8 @@ use Rattle.std.specs.Prelude.{unsigned_abs}
 use Rattle.std.proofs.lemmas.Bool.{leb-true, le-leb}
 use Rattle.schedule_tables.specs.Windows.{window_end}
 use Rattle.schedule_tables.specs.declared.window.Window.{Window}
-use Rattle.schedule_checker.proofs.WindowLemmas.{entry_read, ends_from_entry}
+use Rattle.schedule_checker.proofs.EntryPlaces.{entry_read}
+use Rattle.schedule_checker.proofs.WindowLemmas.{ends_from_entry}
 use Rattle.schedule_checker.proofs.timing.ends_in_cycle.Goals as goal
 
 pub window_of-window-requires-clause-entry : goal.window_of-window-requires-clause-entry

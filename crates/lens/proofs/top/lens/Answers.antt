@@ -1,0 +1,35 @@
+use Rattle.std.proofs.Common.{◌≡◌, Some, None, rules}
+use Rattle.lens.proofs.TopAnswers.{words_as}
+use Rattle.lens_forms.specs.Forms.{form_of}
+use Rattle.lens_forms.specs.declared.form.Form.TheVariants.{Slack, SlackOf, Events}
+use Rattle.tte_forms.proofs.Facts.{no_usage}
+use Rattle.tte_forms.specs.Putting.{shown_by}
+use Rattle.tte_forms.specs.networks.Checking.{IsCheckStatus}
+use Rattle.lens.proofs.top.lens.Goals as goal
+
+pub returns-in-Some-Slack-clause-general : goal.returns-in-Some-Slack-clause-general
+returns-in-Some-Slack-clause-general g c =
+    let form : Some Slack ≡ form_of c.args.words.now = search rules in
+    let shown = shown_by g.K.Sink in
+    words_as form (g.A.Source.left c.args.network.now) c.slack_of_network.result (shown c.args.out.now) (shown c.slack_of_network.new.out)
+    (no_usage IsCheckStatus c.slack_of_network.result (λ none. none) c.slack_of_network.ensures.statuses, c.slack_of_network.ensures.general)
+
+pub returns-in-Some-SlackOf-clause-general : goal.returns-in-Some-SlackOf-clause-general
+returns-in-Some-SlackOf-clause-general g c =
+    let form : Some (SlackOf c.in-Some-SlackOf.rule) ≡ form_of c.args.words.now = search rules in
+    let shown = shown_by g.K.Sink in
+    words_as form (g.A.Source.left c.args.network.now) c.slack_of_rule.result (shown c.args.out.now) (shown c.slack_of_rule.new.out)
+    (no_usage IsCheckStatus c.slack_of_rule.result (λ none. none) c.slack_of_rule.ensures.statuses, c.slack_of_rule.ensures.general)
+
+pub returns-in-Some-Events-clause-general : goal.returns-in-Some-Events-clause-general
+returns-in-Some-Events-clause-general g c =
+    let form : Some (Events c.in-Some-Events.seed c.in-Some-Events.cycles) ≡ form_of c.args.words.now = search rules in
+    let shown = shown_by g.K.Sink in
+    words_as form (g.A.Source.left c.args.network.now) c.storm_events.result (shown c.args.out.now) (shown c.storm_events.new.out)
+    (no_usage IsCheckStatus c.storm_events.result (λ none. none) c.storm_events.ensures.statuses, c.storm_events.ensures.general)
+
+pub returns-in-None-clause-general : goal.returns-in-None-clause-general
+returns-in-None-clause-general g c =
+    let form : None ≡ form_of c.args.words.now = search rules in
+    let shown = shown_by g.K.Sink in
+    words_as form (g.A.Source.left c.args.network.now) c.put_usage.result (shown c.args.out.now) (shown c.put_usage.new.out) c.put_usage.ensures.gives

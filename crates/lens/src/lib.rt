@@ -1,0 +1,9 @@
+//! The commands of the program `lens`, over any source and any sink.
+#![tactic(auto)]
+
+mod top;
+
+pub use lens_events::{events_answers_exist, storm_events, storm_report_law};
+pub use lens_slack::{slack_law, slack_of_network, slack_of_rule};
+pub use top::{answer_law, lens};
+pub use tte_forms::{Status, Words};

@@ -1,0 +1,69 @@
+//! The program `lens`: it takes the words of the command line, makes the real ends, and ends with the status.
+#![tactic(auto)]
+
+use lens::{Status, Words, lens};
+use std::alloc::Global;
+use std::env;
+use std::io::ErrorKind;
+use std::process::ExitCode;
+use tte_io::{LazyFile, OutOfMemory, PathText, StdSink};
+
+/// No form has as many words.
+const MOST_WORDS: u32 = 8;
+
+/// The words of the command line without the program's name, or none where they are no text.
+fn words(rt: &HostRuntime, alloc: Global) -> Result<Words, OutOfMemory> {
+    let mut words = Words::new(alloc);
+    let args = match env::args(rt) {
+        Ok(args) => args,
+        Err(error) if error.kind() == ErrorKind::OutOfMemory => return Err(OutOfMemory),
+        Err(_) => return Ok(words),
+    };
+    for word in args.skip(1) {
+        if words.len() < MOST_WORDS {
+            words.push(word.as_str())?;
+        }
+    }
+    Ok(words)
+}
+
+/// Answers the words over a real file and standard output. A file that can't be read is named on standard error.
+fn run(rt: &HostRuntime, alloc: Global) -> Result<Status, OutOfMemory> {
+    let words = words(rt, alloc)?;
+    let path = words.get(1).unwrap_or("");
+    let mut network = LazyFile::new(rt, PathText::new(alloc, path)?);
+    let mut out = StdSink::new(rt);
+    let status = lens(alloc, &words, &mut network, &mut out);
+    if status == Status::ReadFault {
+        let _told = eprintln!(rt; "lens: cannot read {path}");
+    }
+    Ok(status)
+}
+
+/// Says on standard error what a status means that puts no line; a file that can't be read is named before.
+fn explain(rt: &HostRuntime, status: Status) {
+    let meaning = match status {
+        Status::WriteFault => "cannot write to standard output",
+        Status::OutOfMemory => "out of memory",
+        Status::TooLong => "more than is read: 262144 octets",
+        Status::ReadFault
+        | Status::Done
+        | Status::Usage
+        | Status::FrameRefused
+        | Status::NetworkRefused
+        | Status::TraceRefused
+        | Status::OutsideHypothesis
+        | Status::GranuleRefused
+        | Status::AuditRefused
+        | Status::CaptureRefused
+        | Status::NameRefused
+        | Status::VoteRefused => return,
+    };
+    let _told = eprintln!(rt; "lens: {meaning}");
+}
+
+fn main(rt: HostRuntime) -> ExitCode {
+    let status = run(&rt, rt.alloc()).unwrap_or(Status::OutOfMemory);
+    explain(&rt, status);
+    ExitCode::from(status.number())
+}

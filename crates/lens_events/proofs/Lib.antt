@@ -1,0 +1,5 @@
+pub mod PutLines
+pub mod Ranged
+pub mod EventTexts
+pub mod ShortTexts
+pub mod Reporting

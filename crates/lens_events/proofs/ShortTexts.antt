@@ -1,0 +1,107 @@
+-- The text of an event fits a line.
+use Rattle.std.proofs.Common.{◌≡◌, ℕ, ◌+◌, ◌*◌, ◌≤◌, ◌^◌, List, [], ◌∷◌, length, length-append, arith, subst, sym}
+use Rattle.std.specs.Fmt.{signed_decimal}
+use Rattle.std.specs.List.{join_with_byte}
+use Rattle.std.specs.Prelude.{ℤ, pos, negsuc, neg_ℤ, ◌≤ℤ◌}
+use Rattle.std.proofs.lemmas.Fmt.{length_signed_le}
+use Rattle.std.proofs.lemmas.Int.{ints}
+use Rattle.hex.proofs.HexLemmas.{length-encode_with}
+use Rattle.hex.specs.Hex.{encode_lower, lower_digits}
+use Rattle.net_plan.specs.Belonging.{HasDevice, HasLink, IsOfNetwork, device_name, link_name}
+use Rattle.net_plan.specs.Ranges.{IsDeviceInRange, IsInRange, IsLinkInRange}
+use Rattle.net_plan.specs.declared.event.Event.{Event}
+use Rattle.net_plan.specs.declared.event.What.TheVariants as events
+use Rattle.net_plan.specs.declared.event.What.{What}
+use Rattle.net_plan.specs.declared.ids.DeviceId.{DeviceId}
+use Rattle.net_plan.specs.declared.ids.LinkId.{LinkId}
+use Rattle.net_plan.specs.declared.network.Network.{Network}
+use Rattle.net_plan.specs.declared.tables.Way.TheVariants.{Down, Up}
+use Rattle.net_plan.specs.declared.tables.Way.{Way}
+use Rattle.trace_text.proofs.EventsBack.{text_joined}
+use Rattle.trace_text.specs.EventLine.{event_text, what_words}
+use Rattle.trace_text.specs.EventWords.{way_text}
+use Rattle.trace_text.specs.Ranges.{IsEventInRange, IsRate, IsTime, IsWhatInRange}
+use Rattle.trace_text.specs.Steps.{Words, space}
+use Rattle.tte_io.specs.Line.{line_limit}
+use Rattle.tte_lemmas.proofs.Lists.{in_all, some_at}
+use Rattle.tte_units.specs.declared.rates.Ppb.{Ppb}
+use Rattle.tte_units.specs.declared.units.Units.{Units}
+
+-- ---- words
+
+-- how many octets the words have, with one more each
+size : Words → ℕ
+size [] = 0
+size (w ∷ ws) = length w + (1 + size ws)
+
+-- joined they have no more
+joined_short : (ws : Words) → length (join_with_byte space ws) ≤ size ws
+unfolding size
+joined_short [] = omega arith
+joined_short (w ∷ []) = omega arith
+joined_short (w ∷ v ∷ ws) =
+    let rest = joined_short (v ∷ ws) in
+    omega (arith, rest, length-append w (space ∷ join_with_byte space (v ∷ ws)))
+
+-- ---- one word
+
+device_short : (network : Network) (d : DeviceId) → IsInRange network → HasDevice network d → length (device_name network d) ≤ 16
+device_short network d range of_network =
+    let at = some_at network.device d.0 of_network in
+    rw at.1 (in_all IsDeviceInRange network.device d.0 at.0 range.devices at.1).name.short
+
+link_short : (network : Network) (l : LinkId) → IsInRange network → HasLink network l → length (link_name network l) ≤ 16
+link_short network l range of_network =
+    let at = some_at network.link l.0 of_network in
+    rw at.1 (in_all (IsLinkInRange network) network.link l.0 at.0 range.links at.1).name.short
+
+way_short : (way : Way) → length (way_text way) ≤ 4
+way_short Up = omega arith
+way_short Down = omega arith
+
+-- a signed number of a trace
+number_short : (z : ℤ) → neg_ℤ (pos (2 ^ 60)) ≤ℤ z → z ≤ℤ pos (2 ^ 60) → length (signed_decimal z) ≤ 20
+number_short (pos n) least most = length_signed_le 19 (pos n) (omega (arith, ints, most)) (omega (arith, ints, most))
+number_short (negsuc n) least most = length_signed_le 19 (negsuc n) (omega (arith, ints, least)) (omega (arith, ints, least))
+
+time_short : (time : Units) → IsTime time → length (signed_decimal time.0) ≤ 20
+time_short time h = number_short time.0 (omega (arith, ints, h.least)) (omega (arith, ints, h.most))
+
+rate_short : (rate : Ppb) → IsRate rate → length (signed_decimal rate.0) ≤ 20
+rate_short rate h = number_short rate.0 (omega (arith, ints, h.least)) (omega (arith, ints, h.most))
+
+-- ---- the words of an event
+
+what_short : (network : Network) (what : What) → IsInRange network → IsOfNetwork network what → IsWhatInRange what → size (what_words network what) ≤ 3060
+unfolding size
+what_short network (events.Rate d r) range of_network h =
+    let name = device_short network d range of_network in let number = rate_short r h in omega (arith, name, number)
+what_short network (events.Wire l w u) range of_network h =
+    let name = link_short network l range of_network in
+    let way = way_short w in let number = time_short u h in omega (arith, name, way, number)
+what_short network (events.Hold l w u) range of_network h =
+    let name = link_short network l range of_network in
+    let way = way_short w in let number = time_short u h in omega (arith, name, way, number)
+what_short network (events.Cut l w) range of_network h =
+    let name = link_short network l range of_network in let way = way_short w in omega (arith, name, way)
+what_short network (events.Heal l w) range of_network h =
+    let name = link_short network l range of_network in let way = way_short w in omega (arith, name, way)
+what_short network (events.On d) range of_network h = let name = device_short network d range of_network in omega (arith, name)
+what_short network (events.Break d) range of_network h = let name = device_short network d range of_network in omega (arith, name)
+what_short network (events.Send l o) range of_network h =
+    let name = link_short network l range of_network in
+    let digits : length (encode_lower o) ≡ 2 * length o = length-encode_with lower_digits o in
+    let most = h.most in
+    omega (arith, name, digits, most)
+what_short network events.End range of_network h = omega arith
+
+pub event_short : (network : Network) (event : Event) → IsInRange network → IsOfNetwork network event.what → IsEventInRange event
+    → length (event_text network event) ≤ line_limit
+unfolding size
+event_short network event range of_network in_range =
+    let time = signed_decimal event.time.0 in
+    let words = what_words network event.what in
+    let short = what_short network event.what range of_network in_range.what in
+    let first = time_short event.time in_range.time in
+    let joined = joined_short (time ∷ words) in
+    subst (λ (t : List ℕ). length t ≤ line_limit) (sym (text_joined network event)) (omega (arith, short, first, joined))

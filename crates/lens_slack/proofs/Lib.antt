@@ -1,0 +1,15 @@
+pub mod Deciding
+pub mod Keeping
+pub mod Numbered
+pub mod Singles
+pub mod SmallBeta
+pub mod Ones
+pub mod Numbers
+pub mod Taken
+pub mod Writable
+pub mod Files
+pub mod Accepting
+pub mod Refusing
+pub mod OneSlack
+pub mod Named
+pub mod Listed

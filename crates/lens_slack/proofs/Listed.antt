@@ -1,0 +1,24 @@
+-- The line of the next finding.
+use Rattle.std.proofs.Common.{◌≡◌, ℕ, ◌+◌, ◌<◌, List, [], ◌∷◌, ◌++◌, length, get_or, take, drop, subst}
+use Rattle.std.proofs.lemmas.List.{take_more}
+use Rattle.lens_slack.proofs.Taken.{drop_next}
+use Rattle.lens_slack.specs.Lines.{finding_line}
+use Rattle.lens_slack.specs.declared.spot.Finding.{Finding}
+use Rattle.net_plan.specs.declared.network.Network.{Network}
+
+-- the finding of this number, and its line
+pub record IsNext (network : Network) (all : List Finding) (n : ℕ) (text : List ℕ) : Type 0 where
+  pub finding : Finding
+  pub line : text ≡ finding_line network finding
+  pub front : take (n + 1) all ≡ take n all ++ finding ∷ []
+  pub rest : drop n all ≡ finding ∷ drop (n + 1) all
+
+pub next_line : (network : Network) (all listed : List Finding) (d : Finding) (n : ℕ) (text : List ℕ) → listed ≡ all → n < length listed
+    → text ≡ finding_line network (get_or listed n d) → IsNext network all n text
+next_line network all listed d n text same within is =
+    subst (λ (fs : List Finding). IsNext network fs n text) same (record {
+      finding = get_or listed n d;
+      line = is;
+      front = take_more listed n d within;
+      rest = drop_next listed n d within;
+    })

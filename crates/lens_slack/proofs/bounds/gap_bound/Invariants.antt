@@ -1,0 +1,12 @@
+use Rattle.std.specs.Prelude.{IfSome}
+use Rattle.lens_slack.proofs.Keeping.{Below}
+use Rattle.lens_slack.specs.Bounds.{IsGapBound}
+use Rattle.lens_slack.specs.Keeping.{IsSmall}
+use Rattle.lens_slack.specs.Tightest.{IsFirstTightest}
+use Rattle.lens_slack.proofs.bounds.gap_bound.Given as goal
+
+abbrev pub invariant-earlier : goal.invariant-earlier
+invariant-earlier l = record {
+  so_far : IsFirstTightest (Below (IsGapBound l.network l.row) l.number) l.best;
+  small : IfSome l.best IsSmall;
+}

@@ -1,0 +1,11 @@
+pub mod Bounds
+pub mod Tightest
+pub mod Keeping
+pub mod Spots
+pub mod Lines
+pub mod Writing
+pub mod Steps
+pub mod Finds
+pub mod Answer
+pub mod Taking
+pub mod Laws

@@ -1,0 +1,15 @@
+//! What a network has where a rule bounds a number of it, and the room that is left or what is short.
+#![tactic(auto)]
+
+mod bounds;
+mod laws;
+mod lines;
+mod measuring;
+mod slacking;
+mod spot;
+mod step;
+mod tightest;
+
+pub use laws::slack_law;
+pub use slacking::{slack_of_network, slack_of_rule};
+pub use spot::{Beside, Finding, Measure, Spot};
