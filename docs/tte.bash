@@ -7,8 +7,11 @@ _tte_forms=(
     'check NETWORK'
     'run NETWORK TRACE'
     'storm NETWORK SEED CYCLES'
+    'stamp NETWORK TRACE GRANULE'
     'audit NETWORK REPORT'
     'capture FILE'
+    'wire NETWORK TRACE LINK WAY'
+    'vote NETWORK TRACE VL VL VL'
     'prove'
 )
 
@@ -42,6 +45,7 @@ _tte() {
         case ${kinds[COMP_CWORD - 1]-} in
             NETWORK) _tte_networks "$word" ;;
             FILE | TRACE | REPORT) _tte_files ;;
+            WAY) mapfile -t COMPREPLY < <(compgen -W 'up down' -- "$word") ;;
         esac
     done
 }
