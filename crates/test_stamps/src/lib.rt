@@ -4,4 +4,6 @@
 #[cfg(test)]
 mod granules;
 #[cfg(test)]
+mod stamping;
+#[cfg(test)]
 mod worked;

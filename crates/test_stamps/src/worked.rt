@@ -6,7 +6,7 @@ use std::process::Abort;
 use std::test::Fail;
 
 /// The worked network: four masters and a client, and a relay and a compression master on each channel.
-const WORKED: &str = "version = 1
+pub(super) const WORKED: &str = "version = 1
 cycle = 131072000000
 rho = 50000
 dmax = 3276800000
