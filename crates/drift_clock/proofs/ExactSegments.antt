@@ -1,9 +1,7 @@
 -- Clocks whose rate is steady between turns.
 use Rattle.std.proofs.Common.{refl}
-use Rattle.drift_clock.specs.ClockLaws.{AlwaysKeepsClockLaws}
-use Rattle.drift_clock.specs.Segment.{fresh_segment, segment_count, segment_reading, stepped_segment}
-use Rattle.drift_clock.specs.SegmentLaws.{advances, counts_time, keeps_count}
-use Rattle.drift_clock.proofs.Readings.{IsLawful, keeps_clock_laws}
+use Rattle.drift_clock.{proofs.Readings.{IsLawful, keeps_clock_laws}, specs.ClockLaws.AlwaysKeepsClockLaws}
+use Rattle.drift_clock.specs.{Segment.{fresh_segment, segment_count, segment_reading, stepped_segment}, SegmentLaws.{advances, counts_time, keeps_count}}
 
 -- the program's clocks count exactly
 pub exact_steps : IsLawful fresh_segment stepped_segment segment_reading (λ c. c.grain) segment_count

@@ -1,10 +1,7 @@
 -- Rate steps in the order of time.
-use Rattle.std.proofs.Common.{◌≡◌, ℕ, suc, ◌<◌, ◌≤◌, List, [], ◌∷◌, refl, ap, ◌∙◌, arith, unsigned_abs}
-use Rattle.std.specs.Prelude.{All}
-use Rattle.std.specs.List.Sorted.{IsNonDecreasingBy}
-use Rattle.std.proofs.lemmas.Bool.{le-leb, lt-leb}
-use Rattle.std.proofs.lemmas.List.Sorted.{IsNonDecreasingBy-drop}
-use Rattle.drift_clock.specs.RateSteps.{RateStep, IsHistory, up_to}
+use Rattle.std.proofs.{Common.{◌<◌, ◌∙◌, ◌∷◌, ◌≡◌, ◌≤◌, List, [], ap, arith, refl, suc, unsigned_abs, ℕ}, lemmas.Bool.{le-leb, lt-leb}}
+use Rattle.std.{proofs.lemmas.List.Sorted.IsNonDecreasingBy-drop, specs.{List.Sorted.IsNonDecreasingBy, Prelude.All}}
+use Rattle.drift_clock.specs.RateSteps.{IsHistory, RateStep, up_to}
 
 -- steps from a time on, each after the one before it
 abbrev pub InOrder : ℕ → ℕ → List RateStep → Type 0

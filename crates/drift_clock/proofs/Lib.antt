@@ -5,3 +5,4 @@ pub mod Readings
 pub mod Sums
 pub mod SlipLaw
 pub mod ExactSegments
+pub mod Drifts

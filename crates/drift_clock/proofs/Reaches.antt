@@ -1,15 +1,8 @@
 -- The instant at which a count is enough.
-use Rattle.std.proofs.Common.{◌≡◌, ℕ, ◌+◌, ◌-◌, ◌*◌, ◌/◌, ◌%◌, ◌^◌, ◌<◌, ◌≤◌, arith, inl, inr, ℤ, pos}
+use Rattle.std.proofs.Common.{◌%◌, ◌*◌, ◌+◌, ◌-◌, ◌/◌, ◌<◌, ◌^◌, ◌≡◌, ◌≤◌, arith, inl, inr, pos, ℕ, ℤ}
+use Rattle.std.proofs.{Math.Nat.{lt_of_mul-lt-mul_left, mul-div-le, mul-le-mul_left}, lemmas.{Bool.cases_lt, Grind.div_ceil_times, Int.ints, Nat.le-div}}
 use Rattle.std.specs.Int.{div_ceil}
-use Rattle.std.proofs.lemmas.Bool.{cases_lt}
-use Rattle.std.proofs.lemmas.Grind.{div_ceil_times}
-use Rattle.std.proofs.lemmas.Int.{ints}
-use Rattle.std.proofs.lemmas.Nat.{le-div}
-use Rattle.std.proofs.Math.Nat.{mul-le-mul_left, mul-div-le, lt_of_mul-lt-mul_left}
-use Rattle.drift_clock.specs.Counts.{gain}
-use Rattle.drift_clock.specs.Reach.{IsReach}
-use Rattle.drift_clock.specs.Segment.{Segment, segment_count, segment_reading}
-use Rattle.drift_clock.proofs.Rounding.{le-rounded, rounded-lt}
+use Rattle.drift_clock.{proofs.Rounding.{le-rounded, rounded-lt}, specs.{Counts.gain, Reach.IsReach, Segment.{Segment, segment_count, segment_reading}}}
 
 -- a reach over numbers that are not negative
 pub record IsReachFrom (reading : ℕ → ℕ) (from v t : ℕ) : Type 0 where

@@ -1,14 +1,10 @@
 -- The readings of a clock under its steps, from the laws of one step.
-use Rattle.std.proofs.Common.{◌≡◌, ℕ, ◌^◌, ◌+◌, ◌-◌, ◌*◌, ◌<◌, ◌≤◌, List, [], ◌∷◌, ℤ, refl, ap, subst, ◌∙◌, arith, inl, inr, unsigned_abs}
-use Rattle.std.proofs.lemmas.Bool.{cases_lt}
-use Rattle.std.proofs.Math.Nat.{mul-le-mul_right}
-use Rattle.drift_clock.specs.RateSteps.{RateStep, up_to}
-use Rattle.drift_clock.specs.Readings.{value_after, reading_at}
-use Rattle.drift_clock.specs.Counts.{Advances, rounded}
-use Rattle.drift_clock.specs.ClockLaws.{AlwaysKeepsClockLaws, AlwaysBeginsAtZero, ReadsItsSteps}
-use Rattle.drift_clock.specs.SteadyLaws.{time_advances}
-use Rattle.drift_clock.proofs.Histories.{InOrder, in_order, up_to-cons, up_to-late, up_to-none, up_to-all}
-use Rattle.drift_clock.proofs.Rounding.{rounded-zero, rounded-mono, rounded-measures}
+use Rattle.std.proofs.Common.{◌*◌, ◌+◌, ◌-◌, ◌<◌, ◌^◌, ◌∙◌, ◌∷◌, ◌≡◌, ◌≤◌, List, [], ap, arith, inl, inr, refl, subst, unsigned_abs, ℕ, ℤ}
+use Rattle.std.proofs.{Math.Nat.mul-le-mul_right, lemmas.Bool.cases_lt}
+use Rattle.drift_clock.proofs.Histories.{InOrder, in_order, up_to-all, up_to-cons, up_to-late, up_to-none}
+use Rattle.drift_clock.proofs.Rounding.{rounded-measures, rounded-mono, rounded-zero}
+use Rattle.drift_clock.specs.{ClockLaws.{AlwaysBeginsAtZero, AlwaysKeepsClockLaws, ReadsItsSteps}, Counts.{Advances, rounded}, RateSteps.{RateStep, up_to}}
+use Rattle.drift_clock.specs.{Readings.{reading_at, value_after}, SteadyLaws.time_advances}
 
 -- a step keeps the count, which then drifts by its rate
 pub record IsSteppable {C : Type 0} (after_step : C → ℕ → ℤ → C) (count : C → ℕ → ℕ) : Type 0 where
@@ -27,10 +23,6 @@ join rho d e a b c f p q same = rw same (record { least = omega (arith, p.least,
 reading_at-cons : {C : Type 0} (after_step : C → ℕ → ℤ → C) (reading : C → ℕ → ℕ) (c : C) (s : RateStep) (steps : List RateStep) (t : ℕ) → s.at ≤ t
     → reading_at after_step reading c (s ∷ steps) t ≡ reading_at after_step reading (after_step c s.at s.rate) steps t
 reading_at-cons after_step reading c s steps t le = ap (λ xs. reading (value_after after_step c xs) t) (up_to-cons t s steps le)
-
-reading_at-none : {C : Type 0} (after_step : C → ℕ → ℤ → C) (reading : C → ℕ → ℕ) (c : C) (rho from : ℕ) (steps : List RateStep) (t : ℕ)
-    → InOrder rho from steps → t < from → reading_at after_step reading c steps t ≡ reading c t
-reading_at-none after_step reading c rho from steps t i lt = ap (λ xs. reading (value_after after_step c xs) t) (up_to-none rho t from steps i lt)
 
 -- where the first step is still to come
 reading_at-early : {C : Type 0} (after_step : C → ℕ → ℤ → C) (reading : C → ℕ → ℕ) (c : C) (rho from : ℕ) (s : RateStep) (steps : List RateStep) (t : ℕ)

@@ -1,9 +1,7 @@
 -- A count rounded down to whole grains.
-use Rattle.std.proofs.Common.{◌≡◌, ℕ, ◌+◌, ◌-◌, ◌*◌, ◌/◌, ◌%◌, ◌^◌, ◌<◌, ◌≤◌, arith}
-use Rattle.std.proofs.lemmas.Nat.{le-div}
-use Rattle.std.proofs.Math.Nat.{mul-le-mul_left, lt_of_mul-lt-mul_left, lt-mul-div-succ, mul-div-le}
-use Rattle.drift_clock.specs.Counts.{Advances, rounded}
-use Rattle.drift_clock.specs.ClockLaws.{Measures}
+use Rattle.std.proofs.Common.{◌%◌, ◌*◌, ◌+◌, ◌-◌, ◌/◌, ◌<◌, ◌^◌, ◌≡◌, ◌≤◌, arith, ℕ}
+use Rattle.std.proofs.{Math.Nat.{lt-mul-div-succ, lt_of_mul-lt-mul_left, mul-div-le, mul-le-mul_left}, lemmas.Nat.le-div}
+use Rattle.drift_clock.specs.{ClockLaws.Measures, Counts.{Advances, rounded}}
 
 pub rounded-zero : (grain : ℕ) → rounded grain 0 ≡ 0
 rounded-zero grain = omega (arith, mul-div-le 0 (grain * 10 ^ 9))

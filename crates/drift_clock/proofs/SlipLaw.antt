@@ -1,12 +1,7 @@
 -- The law of slip, from the clock laws.
-use Rattle.std.proofs.Common.{◌≡◌, ℕ, ◌+◌, ◌-◌, ◌*◌, ◌/◌, ◌^◌, ◌<◌, ◌≤◌, arith, inl, inr, pos}
-use Rattle.std.specs.Int.{abs_diff}
-use Rattle.std.proofs.lemmas.Bool.{cases_lt}
-use Rattle.std.proofs.lemmas.Int.{ints}
-use Rattle.std.proofs.Math.Nat.{mul-le-mul_left, mul-le-mul_right}
-use Rattle.drift_clock.specs.ClockLaws.{KeepsClockLaws}
-use Rattle.drift_clock.specs.Reach.{IsReach}
-use Rattle.drift_clock.specs.Slips.{SlipsLittle, grained_slip}
+use Rattle.std.proofs.{Common.{◌*◌, ◌+◌, ◌-◌, ◌/◌, ◌<◌, ◌^◌, ◌≡◌, ◌≤◌, arith, inl, inr, pos, ℕ}, Math.Nat.{mul-le-mul_left, mul-le-mul_right}}
+use Rattle.std.{proofs.lemmas.{Bool.cases_lt, Int.ints}, specs.Int.abs_diff}
+use Rattle.drift_clock.specs.{ClockLaws.KeepsClockLaws, Reach.IsReach, Slips.{SlipsLittle, grained_slip}}
 
 -- d is how far the time l is from v
 close : (rho grain v l d : ℕ) → rho ≤ 1000000 → 1 ≤ grain → d ≡ abs_diff l v → 10 ^ 9 * d ≤ rho * (l + 1) + 2 * grain * 10 ^ 9 → d ≤ grained_slip rho grain v

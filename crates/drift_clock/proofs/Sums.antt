@@ -1,11 +1,7 @@
 -- What a segment counts over its steps.
-use Rattle.std.proofs.Common.{◌≡◌, ℕ, ◌+◌, ◌-◌, ◌*◌, List, [], ◌∷◌, refl, ap, ◌∙◌, zero-add, arith}
-use Rattle.std.specs.Prelude.{sum_by}
-use Rattle.std.proofs.lemmas.List.Sums.{sum_by-cons}
-use Rattle.drift_clock.specs.RateSteps.{RateStep, up_to}
-use Rattle.drift_clock.specs.Readings.{value_after}
-use Rattle.drift_clock.specs.Counts.{gain, Stretch, stretches, count_of, rounded, ReadsCount}
-use Rattle.drift_clock.specs.Segment.{Segment, fresh_segment, segment_count, stepped_segment, segment_reading}
+use Rattle.std.{proofs.{Common.{◌*◌, ◌+◌, ◌-◌, ◌∙◌, ◌∷◌, ◌≡◌, List, [], ap, arith, refl, zero-add, ℕ}, lemmas.List.Sums.sum_by-cons}, specs.Prelude.sum_by}
+use Rattle.drift_clock.specs.{Counts.{ReadsCount, Stretch, count_of, gain, rounded, stretches}, RateSteps.{RateStep, up_to}, Readings.value_after}
+use Rattle.drift_clock.specs.Segment.{Segment, fresh_segment, segment_count, segment_reading, stepped_segment}
 
 abbrev weight : Stretch → ℕ
 weight s = gain s.rate * s.units

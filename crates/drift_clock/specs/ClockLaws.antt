@@ -1,8 +1,6 @@
 -- What every clock keeps, whatever the steps of its rate.
-use Rattle.std.specs.Prelude.{◌≡◌, ℕ, ◌+◌, ◌-◌, ◌*◌, ◌^◌, ◌≤◌, List, All, ℤ}
-use Rattle.std.specs.Int.{abs_diff}
-use Rattle.drift_clock.specs.RateSteps.{RateStep, IsHistory}
-use Rattle.drift_clock.specs.Readings.{value_after, reading_at}
+use Rattle.std.specs.{Int.abs_diff, Prelude.{◌*◌, ◌+◌, ◌-◌, ◌^◌, ◌≡◌, ◌≤◌, All, List, ℕ, ℤ}}
+use Rattle.drift_clock.specs.{RateSteps.{IsHistory, RateStep}, Readings.{reading_at, value_after}}
 
 -- in `real` units of time a reading grew by `seen`: the same, but for rho parts in 10^9 and a grain at each end
 abbrev pub Measures : ℕ → ℕ → ℕ → ℕ → Type 0

@@ -1,7 +1,6 @@
 -- What an oscillator counts, in parts of 10^9 of a unit.
-use Rattle.std.specs.Prelude.{◌≡◌, ℕ, ◌+◌, ◌-◌, ◌*◌, ◌/◌, ◌^◌, ◌≤◌, List, [], ◌∷◌, sum_by, ℤ, pos, ◌+ℤ◌, unsigned_abs}
-use Rattle.drift_clock.specs.RateSteps.{RateStep, up_to}
-use Rattle.drift_clock.specs.Readings.{reading_at}
+use Rattle.std.specs.Prelude.{◌*◌, ◌+ℤ◌, ◌+◌, ◌-◌, ◌/◌, ◌^◌, ◌∷◌, ◌≡◌, ◌≤◌, List, [], pos, sum_by, unsigned_abs, ℕ, ℤ}
+use Rattle.drift_clock.specs.{RateSteps.{RateStep, up_to}, Readings.reading_at}
 
 -- what is counted in one unit of time: 10^9 and the rate
 abbrev pub gain : ℤ → ℕ

@@ -5,6 +5,7 @@ pub mod ClockLaws
 pub mod Reach
 pub mod Slips
 pub mod Segment
+pub mod Splits
 pub mod SegmentLaws
 pub mod Steady
 pub mod SteadyLaws

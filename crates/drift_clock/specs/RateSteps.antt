@@ -1,6 +1,5 @@
 -- The steps of a clock's rate.
-use Rattle.std.specs.Prelude.{ℕ, ◌≤◌, List, filter, nat_le, All, ℤ, unsigned_abs}
-use Rattle.std.specs.List.Sorted.{IsNonDecreasingBy}
+use Rattle.std.specs.{List.Sorted.IsNonDecreasingBy, Prelude.{◌≤◌, All, List, filter, nat_le, unsigned_abs, ℕ, ℤ}}
 
 -- from a time on the clock has this rate
 pub record RateStep : Type 0 where

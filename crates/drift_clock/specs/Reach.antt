@@ -1,5 +1,5 @@
 -- When a clock reaches a value.
-use Rattle.std.specs.Prelude.{ℕ, ℤ, pos, ◌≤ℤ◌, ◌<ℤ◌, unsigned_abs}
+use Rattle.std.specs.Prelude.{◌<ℤ◌, ◌≤ℤ◌, pos, unsigned_abs, ℕ, ℤ}
 
 -- t is the least time from `from` on at which the reading is at least v
 pub record IsReach (reading : ℕ → ℕ) (from v t : ℤ) : Type 0 where

@@ -1,5 +1,5 @@
 -- What a clock reads under the steps of its rate.
-use Rattle.std.specs.Prelude.{ℕ, List, fold, ℤ}
+use Rattle.std.specs.Prelude.{List, fold, ℕ, ℤ}
 use Rattle.drift_clock.specs.RateSteps.{RateStep, up_to}
 
 -- what the steps make of a clock, one after the other

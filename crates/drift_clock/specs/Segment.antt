@@ -1,6 +1,10 @@
 -- A clock that counts exactly.
-use Rattle.std.specs.Prelude.{ℕ, ◌+◌, ◌-◌, ◌*◌, ◌^◌, ◌≤◌, ℤ, pos, unsigned_abs}
+use Rattle.std.specs.Prelude.{◌*◌, ◌+◌, ◌-◌, ◌^◌, ◌≤◌, pos, unsigned_abs, ℕ, ℤ}
 use Rattle.drift_clock.specs.Counts.{gain, rounded}
+
+-- the count of so many whole units and parts
+abbrev pub counted : ℕ → ℕ → ℕ
+counted whole part = 10 ^ 9 * whole + part
 
 -- a grain, the count at the last rate step, its time, and the rate since
 pub record Segment : Type 0 where

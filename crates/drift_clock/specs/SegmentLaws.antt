@@ -1,10 +1,7 @@
 -- A clock that counts exactly keeps the laws of a clock.
-use Rattle.std.specs.Prelude.{◌≡◌, ℕ, ◌+◌, ◌-◌, ◌*◌, ◌^◌, ◌≤◌, ℤ, pos, negsuc, unsigned_abs}
-use Rattle.std.proofs.Common.{arith}
-use Rattle.std.proofs.lemmas.Int.{ints}
-use Rattle.std.proofs.Math.Nat.{mul-le-mul_right}
-use Rattle.drift_clock.specs.Counts.{gain, Advances}
-use Rattle.drift_clock.specs.Segment.{Segment, fresh_segment, segment_count, stepped_segment}
+use Rattle.std.proofs.{Common.arith, Math.Nat.mul-le-mul_right, lemmas.Int.ints}
+use Rattle.std.specs.Prelude.{◌*◌, ◌+◌, ◌-◌, ◌^◌, ◌≡◌, ◌≤◌, negsuc, pos, unsigned_abs, ℕ, ℤ}
+use Rattle.drift_clock.specs.{Counts.{Advances, gain}, Segment.{Segment, fresh_segment, segment_count, stepped_segment}}
 
 -- at the time of the step itself
 stays : (n g d : ℕ) → d ≡ 0 → n + g * d ≡ n

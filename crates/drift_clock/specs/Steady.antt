@@ -1,7 +1,6 @@
 -- A clock that shows world time.
-use Rattle.std.specs.Prelude.{◌≡◌, ℕ, ◌*◌, ◌/◌, List, ℤ}
-use Rattle.drift_clock.specs.RateSteps.{RateStep}
-use Rattle.drift_clock.specs.Readings.{reading_at}
+use Rattle.std.specs.Prelude.{◌*◌, ◌/◌, ◌≡◌, List, ℕ, ℤ}
+use Rattle.drift_clock.specs.{RateSteps.RateStep, Readings.reading_at}
 
 -- the time t, rounded down to a multiple of the grain
 abbrev pub steady_reading : ℕ → ℕ → ℕ

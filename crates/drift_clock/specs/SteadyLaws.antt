@@ -1,9 +1,7 @@
 -- A clock that shows world time keeps the laws of a clock.
-use Rattle.std.specs.Prelude.{◌≡◌, ℕ, ◌+◌, ◌-◌, ◌*◌, ◌/◌, ◌^◌, ◌<◌, ◌≤◌}
-use Rattle.std.proofs.Common.{arith, ap, sym, zero, suc}
-use Rattle.std.proofs.Math.Nat.{mul-div-le, lt-mul-div-succ, div-eq_of_lt-le}
-use Rattle.drift_clock.specs.Counts.{Advances, rounded}
-use Rattle.drift_clock.specs.Steady.{steady_reading}
+use Rattle.std.proofs.{Common.{ap, arith, suc, sym, zero}, Math.Nat.{div-eq_of_lt-le, lt-mul-div-succ, mul-div-le}}
+use Rattle.std.specs.Prelude.{◌*◌, ◌+◌, ◌-◌, ◌/◌, ◌<◌, ◌^◌, ◌≡◌, ◌≤◌, ℕ}
+use Rattle.drift_clock.specs.{Counts.{Advances, rounded}, Steady.steady_reading}
 
 -- the count of the time advances rightly
 pub time_advances : (rho s t : ℕ) → s ≤ t → Advances rho (t - s) (10 ^ 9 * s) (10 ^ 9 * t)

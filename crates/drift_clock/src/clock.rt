@@ -1,6 +1,5 @@
-ghost use Rattle.std.specs.Prelude.{◌≡◌, ℕ, ◌-◌, ◌*◌, ◌^◌, ◌≤◌, ℤ, pos, ◌≤ℤ◌, unsigned_abs};
-ghost use Rattle.drift_clock.specs.Counts.{Advances, rounded};
-ghost use Rattle.drift_clock.specs.Reach.{IsReach};
+ghost use Rattle.std.specs.Prelude.{◌*◌, ◌-◌, ◌^◌, ◌≡◌, ◌≤ℤ◌, ◌≤◌, pos, unsigned_abs, ℕ, ℤ};
+ghost use Rattle.drift_clock.specs.{Counts.{Advances, rounded}, Reach.IsReach};
 
 use tte_units::{Ppb, Units};
 

@@ -1,7 +1,5 @@
 ghost use Rattle.drift_clock.specs.ClockLaws.{AlwaysBeginsAtZero, AlwaysKeepsClockLaws, ReadsItsSteps};
-ghost use Rattle.drift_clock.specs.Counts.{ReadsCount};
-ghost use Rattle.drift_clock.specs.Slips.{SlipsLittle};
-ghost use Rattle.drift_clock.specs.Steady.{ReadsTime};
+ghost use Rattle.drift_clock.specs.{Counts.ReadsCount, Slips.SlipsLittle, Steady.ReadsTime};
 
 use crate::{Clock, SegmentClock, SteadyClock};
 

@@ -1,39 +1,56 @@
-ghost use Rattle.std.specs.Prelude.{◌≡◌, ◌^◌, ◌≤◌, unsigned_abs};
-ghost use Rattle.drift_clock.specs.Counts.{gain};
+ghost use Rattle.std.specs.{Int.div_ceil, Prelude.{◌*ℤ◌, ◌*◌, ◌+◌, ◌-◌, ◌/◌, ◌<◌, ◌^◌, ◌≡◌, ◌≤◌, pos, unsigned_abs}};
+ghost use Rattle.drift_clock.specs.{Counts.gain, Segment.counted};
 
 use crate::Clock;
 use std::marker::Model;
 use tte_units::{Ppb, Units};
 
 // The parts in which a unit is counted.
-const PARTS: u128 = 1_000_000_000;
+const PARTS: u64 = 1_000_000_000;
 
-/// A clock that counts exactly: it keeps its count at the last rate step, and the rate since.
+// How long a stretch is at most whose drift is reckoned in 64 bits: 2^42 units.
+const SHORT: u64 = 1 << 42;
+
+// More whole units than a clock drifts by in a short stretch.
+const SHIFT: u64 = 4_500_000_000;
+
+/// A clock that counts exactly: it keeps its count at the last rate step, in whole units and parts, and the rate since.
 #[derive(Clone, Copy, Debug, PartialEq, Eq)]
 pub struct SegmentClock {
     grain: u64,
     at: u64,
-    count: u128,
+    whole: u64,
+    part: u64,
     rate: Ppb,
 }
 
 impl Model for SegmentClock {
-    ghost use Rattle.drift_clock.specs.Segment.{Segment, IsSegment};
+    ghost use Rattle.std.specs.Prelude.{◌/◌, ◌%◌, ◌^◌, ◌<◌};
+    ghost use Rattle.drift_clock.specs.Segment.{Segment, IsSegment, counted};
 
     ghost Value = { Segment };
 
-    ghost view = { λ c. record { grain = c.grain; at = c.at; count = c.count; rate = c.rate.0 } };
+    ghost view = { λ c. record { grain = c.grain; at = c.at; count = counted c.whole c.part; rate = c.rate.0 } };
 
-    ghost invariant = { λ c. IsSegment c.grain c.at c.count c.rate.0 };
+    ghost invariant = { λ c. IsSegment c.grain c.at (counted c.whole c.part) c.rate.0 × (c.part < 10 ^ 9) };
 
-    ghost inverse = { λ c. record { grain = c.grain; at = c.at; count = c.count; rate = record { 0 = c.rate } } };
+    ghost inverse = { λ c. record {
+      grain = c.grain;
+      at = c.at;
+      whole = c.count / 10 ^ 9;
+      part = c.count % 10 ^ 9;
+      rate = record { 0 = c.rate };
+    } };
+
+    ghost use Rattle.drift_clock.specs.Splits.{split_back};
+
+    ghost inverse_ok = { λ c h. split_back c h.1 };
 }
 
 impl Clock for SegmentClock {
-    ghost use Rattle.std.specs.Prelude.{refl};
-    ghost use Rattle.std.proofs.Common.{rules};
-    ghost use Rattle.drift_clock.specs.Segment.{Segment, fresh_segment, segment_count, stepped_segment, segment_reading};
-    ghost use Rattle.drift_clock.specs.SegmentLaws.{counts_time, keeps_count, advances};
+    ghost use Rattle.std.{proofs.Common.rules, specs.Prelude.refl};
+    ghost use Rattle.drift_clock.specs.Segment.{Segment, fresh_segment, segment_count, segment_reading};
+    ghost use Rattle.drift_clock.specs.{Segment.stepped_segment, SegmentLaws.{advances, counts_time, keeps_count}};
 
     ghost fresh = { fresh_segment };
 
@@ -51,7 +68,8 @@ impl Clock for SegmentClock {
         SegmentClock {
             grain: grain.amount(),
             at: 0,
-            count: 0,
+            whole: 0,
+            part: 0,
             rate: Ppb(0),
         }
     }
@@ -61,8 +79,8 @@ impl Clock for SegmentClock {
     }
 
     fn read(&self, t: Units) -> Units {
-        let grains = self.count_at(t.amount()) / (u128::from(self.grain) * PARTS);
-        Units::from_amount(self.grain * grains as u64)
+        let whole = self.count_at(t.amount()).whole;
+        Units::from_amount(in_grains(whole, self.grain))
     }
 
     fn reach(&self, from: Units, v: Units) -> Units {
@@ -75,7 +93,9 @@ impl Clock for SegmentClock {
 
     fn rate(&mut self, t: Units, r: Ppb) {
         let t = t.amount();
-        self.count = self.count_at(t);
+        let count = self.count_at(t);
+        self.whole = count.whole;
+        self.part = count.part;
         self.at = t;
         self.rate = r;
     }
@@ -97,17 +117,37 @@ impl Clock for SegmentClock {
     ghost drifts = { λ c s t u r rho small most from to. advances c s t u r rho small most from to };
 }
 
+// A count in whole units and parts of 10^9 of one.
+#[derive(Clone, Copy)]
+struct Tally {
+    whole: u64,
+    part: u64,
+}
+
 impl SegmentClock {
     ghost use Rattle.std.specs.Prelude.{ℕ, ◌+◌, ◌*◌, ◌<◌};
     ghost use Rattle.drift_clock.specs.Segment.{segment_count};
 
     // The count at a time that is not before the last rate step.
-    fn count_at(&self, t: u64) -> u128
+    fn count_at(&self, t: u64) -> Tally
         requires stepped { self.now.at ≤ t }
         requires limit { t ≤ 2 ^ 60 }
-        ensures { result ≡ segment_count self.now t }
+        ensures count { counted result.whole result.part ≡ segment_count self.now t }
+        ensures part { result.part < 10 ^ 9 }
     {
-        self.count + u128::from(gain_of(self.rate)) * u128::from(t - self.at)
+        let since = t - self.at;
+        if self.rate.0 == 0 {
+            return Tally {
+                whole: self.whole + since,
+                part: self.part,
+            };
+        }
+        if since < SHORT {
+            return drifted(self.whole, self.part, self.rate, since);
+        }
+        let count = in_parts(self.whole, self.part)
+            + u128::from(gain_of(self.rate)) * u128::from(since);
+        split(count)
     }
 
     // The least time, from the last rate step on, at which so many units are counted.
@@ -120,10 +160,118 @@ impl SegmentClock {
             → segment_count self.now t < 10 ^ 9 * goal }
         ensures bound { result < 2 ^ 63 }
     {
-        let missing = u128::from(goal) * PARTS - self.count;
-        let steps = missing.div_ceil(u128::from(gain_of(self.rate)));
-        self.at + steps as u64
+        self.at + self.steps_to(goal)
     }
+
+    // The fewest steps, from the last rate step on, by which so many units are counted.
+    fn steps_to(&self, goal: u64) -> u64
+        requires limit { goal ≤ 2 ^ 61 + 2 ^ 20 }
+        requires ahead { self.now.count ≤ 10 ^ 9 * goal }
+        ensures { result ≡ div_ceil (10 ^ 9 * goal - self.now.count) (gain self.now.rate) }
+    {
+        let missing = goal - self.whole;
+        if self.rate.0 == 0 {
+            return missing;
+        }
+        if missing < SHORT {
+            return short_steps(missing, self.part, self.rate);
+        }
+        let lacking = u128::from(goal) * u128::from(PARTS) - in_parts(self.whole, self.part);
+        lacking.div_ceil(u128::from(gain_of(self.rate))) as u64
+    }
+}
+
+// So many whole units and parts, and what is counted at the rate in a short stretch.
+fn drifted(whole: u64, part: u64, rate: Ppb, since: u64) -> Tally
+    requires whole { whole ≤ 2 ^ 61 }
+    requires part { part < 10 ^ 9 }
+    requires short { since < 2 ^ 42 }
+    requires slow { unsigned_abs rate.0 ≤ 1000000 }
+    ensures count { counted result.whole result.part ≡ counted whole part + gain rate.0 * since }
+    ensures part { result.part < 10 ^ 9 }
+{
+    let more = shifted_parts(part, rate, since);
+    Tally {
+        whole: whole + since + more / PARTS - SHIFT,
+        part: more % PARTS,
+    }
+}
+
+// The drift of a short stretch, in parts.
+fn drift_of(rate: Ppb, since: u64) -> i64
+    requires short { since < 2 ^ 42 }
+    requires slow { unsigned_abs rate.0 ≤ 1000000 }
+    ensures is { result ≡ (rate.0 *ℤ pos since) }
+    ensures bound { unsigned_abs result ≤ 4400000000000000000 }
+{
+    i64::from(rate.0) * since as i64
+}
+
+// The parts and the drift of a short stretch, and the shift.
+fn shifted_parts(part: u64, rate: Ppb, since: u64) -> u64
+    requires part { part < 10 ^ 9 }
+    requires short { since < 2 ^ 42 }
+    requires slow { unsigned_abs rate.0 ≤ 1000000 }
+    ensures { result + 10 ^ 9 * since ≡ 10 ^ 9 * 4500000000 + part + gain rate.0 * since }
+{
+    ((SHIFT * PARTS + part) as i64 + drift_of(rate, since)) as u64
+}
+
+// The fewest steps at the rate by which so many units less a part are counted, where these are few.
+fn short_steps(missing: u64, part: u64, rate: Ppb) -> u64
+    requires part { part < 10 ^ 9 }
+    requires some { part ≤ 10 ^ 9 * missing }
+    requires short { missing < 2 ^ 42 }
+    requires slow { unsigned_abs rate.0 ≤ 1000000 }
+    ensures { result ≡ div_ceil (10 ^ 9 * missing - part) (gain rate.0) }
+{
+    let each = gain_of(rate);
+    let more = shifted_lack(missing, part, rate, each);
+    missing + more.div_ceil(each) - SHIFT
+}
+
+// What is lacking of so many units less a part, after as many steps at the rate, and the shift.
+fn shifted_lack(missing: u64, part: u64, rate: Ppb, each: u64) -> u64
+    requires part { part < 10 ^ 9 }
+    requires some { part ≤ 10 ^ 9 * missing }
+    requires short { missing < 2 ^ 42 }
+    requires slow { unsigned_abs rate.0 ≤ 1000000 }
+    requires each { each ≡ gain rate.0 }
+    ensures { result + each * missing + part ≡ 10 ^ 9 * missing + each * 4500000000 }
+{
+    ((SHIFT * each - part) as i64 - drift_of(rate, missing)) as u64
+}
+
+// The count of whole units and parts, in parts.
+fn in_parts(whole: u64, part: u64) -> u128
+    requires { part < 10 ^ 9 }
+    ensures { result ≡ counted whole part }
+{
+    u128::from(whole) * u128::from(PARTS) + u128::from(part)
+}
+
+// A count of parts, in whole units and parts.
+fn split(count: u128) -> Tally
+    requires { count < 10 ^ 9 * 2 ^ 63 }
+    ensures count { counted result.whole result.part ≡ count }
+    ensures part { result.part < 10 ^ 9 }
+{
+    let parts = u128::from(PARTS);
+    Tally {
+        whole: (count / parts) as u64,
+        part: (count % parts) as u64,
+    }
+}
+
+// Whole units in whole grains.
+fn in_grains(whole: u64, grain: u64) -> u64
+    requires { 1 ≤ grain }
+    ensures { result ≡ grain * (whole / grain) }
+{
+    if grain == 1 {
+        return whole;
+    }
+    grain * (whole / grain)
 }
 
 // What is counted in one unit of time.

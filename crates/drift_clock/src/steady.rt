@@ -21,10 +21,8 @@ impl Model for SteadyClock {
 }
 
 impl Clock for SteadyClock {
-    ghost use Rattle.std.specs.Prelude.{◌*◌, refl};
-    ghost use Rattle.std.proofs.Common.{rules};
-    ghost use Rattle.drift_clock.specs.Steady.{steady_reading};
-    ghost use Rattle.drift_clock.specs.SteadyLaws.{steady_reads, time_advances};
+    ghost use Rattle.std.{proofs.Common.rules, specs.Prelude.{◌*◌, refl}};
+    ghost use Rattle.drift_clock.specs.{Steady.steady_reading, SteadyLaws.{steady_reads, time_advances}};
 
     ghost fresh = { λ g. g };
 

@@ -1,4 +1,4 @@
-use Rattle.drift_clock.proofs.Readings.{keeps_clock_laws, begins_at_zero, reads_its_steps}
+use Rattle.drift_clock.proofs.Readings.{begins_at_zero, keeps_clock_laws, reads_its_steps}
 use Rattle.drift_clock.proofs.laws.clock_laws.Goals as goal
 
 pub returns-clause-laws : goal.returns-clause-laws

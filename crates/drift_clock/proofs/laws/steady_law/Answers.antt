@@ -1,7 +1,5 @@
-use Rattle.std.proofs.Common.{ap, refl}
-use Rattle.std.proofs.lemmas.List.Folds.{fold_stays}
-use Rattle.drift_clock.specs.RateSteps.{up_to}
-use Rattle.drift_clock.specs.Steady.{steady_reading}
+use Rattle.std.proofs.{Common.{ap, refl}, lemmas.List.Folds.fold_stays}
+use Rattle.drift_clock.specs.{RateSteps.up_to, Steady.steady_reading}
 use Rattle.drift_clock.proofs.laws.steady_law.Goals as goal
 
 pub returns : goal.returns

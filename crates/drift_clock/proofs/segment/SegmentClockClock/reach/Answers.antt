@@ -1,7 +1,5 @@
-use Rattle.std.proofs.Common.{◌≡◌, ap, ◌≤◌, ◌<◌, ◌+◌, ◌*◌, ◌%◌, ◌^◌, ℕ, unsigned_abs, arith}
-use Rattle.std.proofs.lemmas.Int.{ints}
-use Rattle.drift_clock.specs.Segment.{Segment, segment_count, segment_reading}
-use Rattle.drift_clock.proofs.Reaches.{IsCounted, ahead, segment_reaches, reach_from}
+use Rattle.std.proofs.{Common.{◌%◌, ◌*◌, ◌+◌, ◌<◌, ◌^◌, ◌≡◌, ◌≤◌, ap, arith, unsigned_abs, ℕ}, lemmas.Int.ints}
+use Rattle.drift_clock.{proofs.Reaches.{IsCounted, ahead, reach_from, segment_reaches}, specs.Segment.{Segment, segment_count, segment_reading}}
 use Rattle.drift_clock.proofs.segment.SegmentClockClock.reach.Goals as goal
 
 pub time_of-requires-clause-ahead : goal.time_of-requires-clause-ahead
@@ -11,7 +9,7 @@ time_of-requires-clause-ahead c =
     let n : ℕ = c.amount.result in
     let m : ℕ = c.next_multiple_of-goal.result in
     let grain : c.self.inside.grain ≡ s.grain = ap (λ (x : Segment). x.grain) c.self.view_is in
-    let some : 1 ≤ s.grain = omega (arith, grain, c.self.invariant.some_grain) in
+    let some : 1 ≤ s.grain = omega (arith, grain, c.self.invariant.0.some_grain) in
     let short : segment_reading s t < n = omega (arith, ints, c.read.ensures, c.if-v-read.false, c.amount.ensures.whole) in
     let whole : m % s.grain ≡ 0 = rw grain at c.next_multiple_of-goal.ensures.multiple in
     let low : segment_count s t < 10 ^ 9 * m = ahead s t n m some whole c.next_multiple_of-goal.ensures.lower_bound short in
@@ -24,7 +22,7 @@ returns c =
     let n : ℕ = c.amount.result in
     let m : ℕ = c.next_multiple_of-goal.result in
     let grain : c.self.inside.grain ≡ s.grain = ap (λ (x : Segment). x.grain) c.self.view_is in
-    let some : 1 ≤ s.grain = omega (arith, grain, c.self.invariant.some_grain) in
+    let some : 1 ≤ s.grain = omega (arith, grain, c.self.invariant.0.some_grain) in
     let short : segment_reading s t < n = omega (arith, ints, c.read.ensures, c.if-v-read.false, c.amount.ensures.whole) in
     let whole : m % s.grain ≡ 0 = rw grain at c.next_multiple_of-goal.ensures.multiple in
     let least : m < n + s.grain = rw grain at c.next_multiple_of-goal.ensures.upper_bound in

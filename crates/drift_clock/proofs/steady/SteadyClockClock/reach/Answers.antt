@@ -1,6 +1,5 @@
-use Rattle.std.proofs.Common.{◌≡◌, ◌≤◌, ◌<◌, ◌+◌, ◌*◌, ◌/◌, ◌%◌, ℕ, unsigned_abs, arith}
-use Rattle.std.proofs.lemmas.Int.{ints}
-use Rattle.drift_clock.proofs.Reaches.{steady_reaches, reach_from}
+use Rattle.std.proofs.{Common.{◌%◌, ◌*◌, ◌+◌, ◌/◌, ◌<◌, ◌≡◌, ◌≤◌, arith, unsigned_abs, ℕ}, lemmas.Int.ints}
+use Rattle.drift_clock.proofs.Reaches.{reach_from, steady_reaches}
 use Rattle.drift_clock.proofs.steady.SteadyClockClock.reach.Goals as goal
 
 pub returns : goal.returns
