@@ -1,22 +1,11 @@
 -- The place of a name among those of a network.
-use Rattle.std.proofs.lemmas.Bool.Decides.{nat_tests}
-use Rattle.std.proofs.Common.{◌≡◌, ◌≢◌, ℕ, zero, suc, ◌+◌, ◌<◌, Bool, true, false, List, [], ◌∷◌, length, map, Option, Some, None, refl, sym, ap, ◌∙◌, arith, subst}
-use Rattle.std.specs.Prelude.{bytes_eq, is_some, IfSome, IfNone}
-use Rattle.std.specs.List.{All, position_from}
-use Rattle.std.specs.Option.{option_map}
-use Rattle.std.specs.Str.{IsUtf8}
-use Rattle.std.specs.Cmp.Lexicographic.{bytes_decides}
-use Rattle.std.proofs.lemmas.Bool.{false≢true}
-use Rattle.std.proofs.lemmas.List.Elements.{All-weaker}
-use Rattle.std.proofs.lemmas.List.Sums.{AllPass-from_list_all}
-use Rattle.std.proofs.lemmas.Option.{slice_get_within, get_or_from_slice_get}
-use Rattle.std.proofs.lemmas.Str.{IsUtf8-from_ascii}
-use Rattle.std.proofs.lemmas.Str.Ascii.{IsAscii-from_all}
-use Rattle.net_plan.proofs.Bearing.{behind}
-use Rattle.net_plan.specs.Bearers.{IsFirstBearer, HasNoBearer}
-use Rattle.net_plan.specs.NameText.{is_name_character, IsNameText}
-use Rattle.trace_text.specs.Names.{first_place}
+use Rattle.std.proofs.Common.{◌+◌, ◌<◌, ◌∙◌, ◌∷◌, ◌≡◌, ◌≢◌, Bool, List, None, Option, Some, [], ap, arith, false, length, map, refl, subst, suc, sym, true}
+use Rattle.std.proofs.{Common.{zero, ℕ}, lemmas.{Bool.{false≢true, Decides.nat_tests}, List.{Elements.All-weaker, Sums.AllPass-from_list_all}}}
+use Rattle.std.proofs.lemmas.{Option.{get_or_from_slice_get, slice_get_within}, Str.{IsUtf8-from_ascii, Ascii.IsAscii-from_all}}
+use Rattle.std.specs.{Cmp.Lexicographic.bytes_decides, List.{All, position_from}, Option.option_map, Prelude.{IfNone, IfSome, bytes_eq, is_some}, Str.IsUtf8}
+use Rattle.net_plan.{proofs.Bearing.behind, specs.{Bearers.{HasNoBearer, IsFirstBearer}, NameText.{IsNameText, is_name_character}}}
 use Rattle.tte_lemmas.proofs.Lists.{same_name}
+use Rattle.trace_text.specs.Names.{first_place}
 
 other_case : (text name : List ℕ) (b : Bool) → bytes_eq text name ≡ b → name ≢ text → b ≡ false
 other_case text name true e other = absurd (other (sym ((bytes_decides text name).0 e)))

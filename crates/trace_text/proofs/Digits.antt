@@ -1,13 +1,8 @@
 -- Texts that are no frame's.
-use Rattle.std.proofs.lemmas.Bool.Decides.{nat_tests}
-use Rattle.std.proofs.Common.{◌≡◌, ◌⊎◌, ℕ, ◌<◌, ◌/◌, ◌%◌, List, length, Ok, Err, refl, ap, ◌∙◌, arith, inl, inr}
-use Rattle.std.specs.Prelude.{Result}
-use Rattle.std.specs.List.{AllPass}
-use Rattle.hex.specs.Hex.{decode_of, is_hex_digit}
-use Rattle.hex.specs.declared.error.FromHexError.{FromHexError}
-use Rattle.hex.proofs.HexLemmas.{decode_of-ok, decode_of-digits}
-use Rattle.trace_text.specs.WordReading.{octets_spelled, frame_of}
-use Rattle.trace_text.specs.declared.refusal.LineRefusal.TheVariants.{Hex, Octets}
+use Rattle.std.proofs.{Common.{◌%◌, ◌/◌, ◌<◌, ◌∙◌, ◌≡◌, ◌⊎◌, Err, List, Ok, ap, arith, inl, inr, length, refl, ℕ}, lemmas.Bool.Decides.nat_tests}
+use Rattle.std.specs.{List.AllPass, Prelude.Result}
+use Rattle.hex.{proofs.HexLemmas.{decode_of-digits, decode_of-ok}, specs.{Hex.{decode_of, is_hex_digit}, declared.error.FromHexError.FromHexError}}
+use Rattle.trace_text.specs.{WordReading.{frame_of, octets_spelled}, declared.refusal.LineRefusal.TheVariants.{Hex, Octets}}
 
 -- digits of either case, an even number of them
 abbrev pub IsHexadecimal : List ℕ → Type 0

@@ -1,26 +1,16 @@
 -- An event that is printed reads back.
-use Rattle.std.proofs.Common.{◌≡◌, ℕ, List, [], ◌∷◌, ◌++◌, Ok, refl, sym, ap, subst, ◌∙◌, append_assoc}
+use Rattle.std.{proofs.Common.{◌++◌, ◌∙◌, ◌∷◌, ◌≡◌, List, Ok, [], ap, append_assoc, refl, subst, sym, ℕ}, specs.{Fmt.signed_decimal, List.join_with_byte}}
 use Rattle.std.specs.Prelude.{codes}
-use Rattle.std.specs.Fmt.{signed_decimal}
-use Rattle.std.specs.List.{join_with_byte}
 use Rattle.hex.specs.Hex.{encode_lower}
-use Rattle.net_plan.specs.Ranges.{IsInRange}
-use Rattle.net_plan.specs.Rules.{DeviceIsNew, LinkIsNew}
-use Rattle.net_plan.specs.declared.event.Event.{Event}
-use Rattle.net_plan.specs.declared.event.What.{What}
+use Rattle.net_plan.specs.{Belonging.{IsOfNetwork, device_name, link_name}, Ranges.IsInRange, Rules.{DeviceIsNew, LinkIsNew}, declared.event.Event.Event}
+use Rattle.net_plan.specs.declared.{event.What.What, network.Network.Network}
+use Rattle.trace_text.proofs.Joining.{AreWords, event_word_is_word, hex_is_word, way_is_word, words_joined}
+use Rattle.trace_text.proofs.WordsBack.{device_back, device_is_word, event_word_back, link_back, link_is_word, octets_back, rate_back, rate_is_word}
+use Rattle.trace_text.{proofs.WordsBack.{time_is_word, units_back, way_back}, specs.EventLine.{event_text, what_text, what_words}}
+use Rattle.trace_text.specs.{EventReading.{event_read, event_reader, what_behind, what_reader}, EventWords.{event_word_text, way_text}, Laws.ReadsBack}
+use Rattle.trace_text.specs.{Ranges.{IsEventInRange, IsWhatInRange}, Steps.{Words, line_end, outcome, space, words}, declared.event_word.EventWord.EventWord}
+use Rattle.trace_text.specs.declared.event_word.EventWord.TheVariants.{Break, Cut, End, Heal, Hold, On, Rate, Send, Wire}
 use Rattle.net_plan.specs.declared.event.What.TheVariants as events
-use Rattle.net_plan.specs.declared.network.Network.{Network}
-use Rattle.net_plan.specs.Belonging.{device_name, link_name, IsOfNetwork}
-use Rattle.trace_text.specs.EventLine.{what_words, what_text, event_text}
-use Rattle.trace_text.specs.EventReading.{what_behind, what_reader, event_reader, event_read}
-use Rattle.trace_text.specs.EventWords.{event_word_text, way_text}
-use Rattle.trace_text.specs.Laws.{ReadsBack}
-use Rattle.trace_text.specs.Ranges.{IsWhatInRange, IsEventInRange}
-use Rattle.trace_text.specs.Steps.{Words, space, words, outcome, line_end}
-use Rattle.trace_text.specs.declared.event_word.EventWord.{EventWord}
-use Rattle.trace_text.specs.declared.event_word.EventWord.TheVariants.{Rate, Wire, Hold, Cut, Heal, On, Break, Send, End}
-use Rattle.trace_text.proofs.Joining.{AreWords, words_joined, event_word_is_word, way_is_word, hex_is_word}
-use Rattle.trace_text.proofs.WordsBack.{units_back, rate_back, device_back, link_back, way_back, event_word_back, octets_back, time_is_word, rate_is_word, device_is_word, link_is_word}
 
 -- which word an event has
 kind : What → EventWord

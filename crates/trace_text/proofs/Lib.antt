@@ -2,6 +2,8 @@ pub mod Splitting
 pub mod Bearing
 pub mod Decimals
 pub mod Digits
+pub mod Deciphering
+pub mod Finding
 pub mod Joining
 pub mod WordsBack
 pub mod EventsBack

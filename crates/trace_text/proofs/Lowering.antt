@@ -1,49 +1,24 @@
 -- What words that are read spell, in lower case.
-use Rattle.std.proofs.lemmas.Bool.Decides.{nat_tests}
-use Rattle.std.proofs.Common.{◌≡◌, ◌⊎◌, inl, inr, ℕ, zero, suc, ◌+◌, ◌*◌, ◌/◌, ◌%◌, ◌<◌, ◌≤◌, ◌^◌, Bool, true, false, cond, List, [], ◌∷◌, map, slice_index, Option, Some, None, Ok, Err, refl, sym, ap, subst, ◌∙◌, arith}
-use Rattle.std.specs.Prelude.{Result, pos, ◌==◌, ◌&&◌, nat_le, bytes_eq, decimal, slice_get, All}
-use Rattle.std.specs.Char.{to_ascii_lowercase, digit_value, digit_char}
-use Rattle.std.specs.Cmp.Lexicographic.{bytes_decides}
-use Rattle.std.specs.Fmt.{signed_decimal}
-use Rattle.std.specs.List.{position_from}
-use Rattle.std.specs.Option.{option_map, option_map_or, option_and_then, ok_or}
-use Rattle.std.specs.Result.{result_unwrap_or}
-use Rattle.std.specs.Str.{str_to_ascii_lowercase}
-use Rattle.std.specs.Str.Parse.{AllDigits, digits_value}
-use Rattle.std.proofs.lemmas.Bool.{and_parts, eqb-true, cases_lt}
-use Rattle.std.proofs.lemmas.Fmt.{decimal_is_IsNumeral}
-use Rattle.std.proofs.lemmas.List.Elements.{All-head, All-tail}
-use Rattle.std.proofs.lemmas.List.Sums.{AllPass-from_list_all}
-use Rattle.hex.specs.Hex.{decode_of, decode_pairs, digit_or_error, encode_lower, encode_with, hex_digit_value, lower_digits, pair_value, value_at, ◌>>=◌}
+use Rattle.std.proofs.Common.{◌%◌, ◌*◌, ◌+◌, ◌/◌, ◌<◌, ◌^◌, ◌∙◌, ◌∷◌, ◌≡◌, ◌≤◌, ◌⊎◌, Bool, Err, List, None, Ok, Option, Some, [], ap, arith, cond, false, inl}
+use Rattle.std.proofs.{Common.{inr, map, refl, slice_index, subst, suc, sym, true, zero, ℕ}, lemmas.Bool.{and_parts, cases_lt, eqb-true, Decides.nat_tests}}
+use Rattle.std.proofs.lemmas.{Fmt.decimal_is_IsNumeral, List.{Elements.{All-head, All-tail}, Sums.AllPass-from_list_all}}
+use Rattle.std.specs.{Char.{digit_char, digit_value, to_ascii_lowercase}, Cmp.Lexicographic.bytes_decides, Fmt.signed_decimal, List.position_from}
+use Rattle.std.specs.{Option.{ok_or, option_and_then, option_map, option_map_or}, Prelude.{◌&&◌, ◌==◌, All, Result, bytes_eq, decimal, nat_le, pos, slice_get}}
+use Rattle.std.specs.{Result.result_unwrap_or, Str.{str_to_ascii_lowercase, Parse.{AllDigits, digits_value}}}
+use Rattle.hex.proofs.HexLemmas.{decode_of-even, decode_of-ok}
+use Rattle.hex.specs.Hex.{◌>>=◌, decode_of, decode_pairs, digit_or_error, encode_lower, encode_with, hex_digit_value, lower_digits, pair_value, value_at}
 use Rattle.hex.specs.declared.error.FromHexError.{FromHexError}
-use Rattle.hex.proofs.HexLemmas.{decode_of-ok, decode_of-even}
-use Rattle.net_plan.proofs.Bearing.{behind}
-use Rattle.net_plan.specs.Bearers.{device_names, link_names}
-use Rattle.net_plan.specs.NameText.{is_name_character, IsNameText}
-use Rattle.net_plan.specs.Ranges.{IsInRange, IsDeviceInRange, IsLinkInRange}
-use Rattle.net_plan.specs.declared.ids.DeviceId.{DeviceId}
-use Rattle.net_plan.specs.declared.ids.LinkId.{LinkId}
-use Rattle.net_plan.specs.declared.network.Network.{Network}
-use Rattle.net_plan.specs.declared.tables.Device.{Device}
-use Rattle.net_plan.specs.declared.tables.Link.{Link}
-use Rattle.net_plan.specs.declared.tables.Way.{Way}
-use Rattle.net_plan.specs.declared.tables.Way.TheVariants.{Up, Down}
-use Rattle.net_plan.specs.Belonging.{device_name, link_name}
-use Rattle.trace_text.specs.EventWords.{event_word_text, event_word_spelled, event_words, way_text, way_spelled}
-use Rattle.trace_text.specs.Names.{first_place, device_id, link_id, device_spelled, link_spelled}
-use Rattle.trace_text.specs.Numbers.{number_up_to, units_spelled, latest, rate_spelled, fastest, minus, ppb_of}
-use Rattle.trace_text.specs.Steps.{Read, Words, next_word, with_rest}
-use Rattle.trace_text.specs.WordReading.{event_word, units, rate, device, link, way, octets, octets_spelled, frame_of}
-use Rattle.trace_text.specs.declared.event_word.EventWord.{EventWord}
-use Rattle.trace_text.specs.declared.event_word.EventWord.TheVariants.{Rate, Wire, Hold, Cut, Heal, On, Break, Send, End}
-use Rattle.trace_text.specs.declared.refusal.LineRefusal.{LineRefusal}
-use Rattle.trace_text.specs.declared.refusal.LineRefusal.TheVariants.{Form, Name, Number}
-use Rattle.tte_lemmas.proofs.Lists.{found_passes}
-use Rattle.tte_lemmas.proofs.Options.{mapped}
-use Rattle.tte_units.specs.Amount.{units_of}
-use Rattle.tte_units.specs.declared.rates.Ppb.{Ppb}
-use Rattle.tte_units.specs.declared.units.Units.{Units}
-use Rattle.trace_text.proofs.WordsBack.{minus_some, in_list}
+use Rattle.net_plan.{proofs.Bearing.behind, specs.{Bearers.{device_names, link_names}, Belonging.{device_name, link_name}}}
+use Rattle.net_plan.specs.{NameText.{IsNameText, is_name_character}, Ranges.{IsDeviceInRange, IsInRange, IsLinkInRange}, declared.ids.DeviceId.DeviceId}
+use Rattle.net_plan.specs.declared.{ids.LinkId.LinkId, network.Network.Network, tables.{Device.Device, Link.Link, Way.{Way, TheVariants.{Down, Up}}}}
+use Rattle.tte_lemmas.proofs.{Lists.found_passes, Options.mapped}
+use Rattle.tte_units.specs.{Amount.units_of, declared.{rates.Ppb.Ppb, units.Units.Units}}
+use Rattle.trace_text.{proofs.WordsBack.{in_list, minus_some}, specs.EventWords.{event_word_spelled, event_word_text, event_words, way_spelled, way_text}}
+use Rattle.trace_text.specs.Names.{device_id, device_spelled, first_place, link_id, link_spelled}
+use Rattle.trace_text.specs.{Numbers.{fastest, latest, minus, number_up_to, ppb_of, rate_spelled, units_spelled}, Steps.{Read, Words, next_word, with_rest}}
+use Rattle.trace_text.specs.WordReading.{device, event_word, frame_of, link, octets, octets_spelled, rate, units, way}
+use Rattle.trace_text.specs.declared.event_word.EventWord.{EventWord, TheVariants.{Break, Cut, End, Heal, Hold, On, Rate, Send, Wire}}
+use Rattle.trace_text.specs.declared.refusal.LineRefusal.{LineRefusal, TheVariants.{Form, Name, Number}}
 
 -- a text in lower case
 abbrev pub lower : List ℕ → List ℕ

@@ -1,25 +1,15 @@
 -- The devices and links of an event that is read are the network's.
-use Rattle.std.proofs.Common.{◌≡◌, ℕ, ◌+◌, ◌<◌, List, [], ◌∷◌, length, Bool, true, false, Option, Some, None, Ok, Err, cond, subst, arith, refl}
-use Rattle.std.specs.List.{position_from}
-use Rattle.std.specs.Option.{ok_or, option_map}
-use Rattle.std.specs.Prelude.{bytes_eq}
-use Rattle.std.proofs.lemmas.List.{length-map}
-use Rattle.net_plan.specs.Bearers.{device_names, link_names}
-use Rattle.net_plan.specs.declared.event.Event.{Event}
-use Rattle.net_plan.specs.declared.event.What.{What}
-use Rattle.net_plan.specs.declared.event.What.TheVariants as events
-use Rattle.net_plan.specs.declared.network.Network.{Network}
-use Rattle.net_plan.specs.declared.tables.Device.{Device}
-use Rattle.net_plan.specs.declared.tables.Link.{Link}
-use Rattle.trace_text.specs.EventReading.{event_read, event_reader, what_behind}
-use Rattle.trace_text.specs.Names.{device_id, device_spelled, first_place, link_id, link_spelled}
-use Rattle.net_plan.specs.Belonging.{HasDevice, HasLink, IsOfNetwork}
-use Rattle.trace_text.specs.Steps.{Read, Reader, Words, and_then, give, line_end, outcome, with_rest, words, ◌>>=◌}
-use Rattle.trace_text.specs.WordReading.{device, event_word, link, octets, rate, units, way}
-use Rattle.trace_text.specs.declared.event_word.EventWord.{EventWord}
-use Rattle.trace_text.specs.declared.event_word.EventWord.TheVariants.{Rate, Wire, Hold, Cut, Heal, On, Break, Send, End}
-use Rattle.trace_text.specs.declared.refusal.LineRefusal.TheVariants.{Name}
+use Rattle.std.proofs.Common.{◌+◌, ◌<◌, ◌∷◌, ◌≡◌, Bool, Err, List, None, Ok, Option, Some, [], arith, cond, false, length, refl, subst, true, ℕ}
+use Rattle.std.{proofs.lemmas.List.length-map, specs.{List.position_from, Option.{ok_or, option_map}, Prelude.bytes_eq}}
+use Rattle.net_plan.specs.{Bearers.{device_names, link_names}, Belonging.{HasDevice, HasLink, IsOfNetwork}, declared.event.{Event.Event, What.What}}
+use Rattle.net_plan.specs.declared.{network.Network.Network, tables.{Device.Device, Link.Link}}
 use Rattle.tte_units.specs.declared.units.Units.{Units}
+use Rattle.trace_text.specs.{EventReading.{event_read, event_reader, what_behind}, Names.{device_id, device_spelled, first_place, link_id, link_spelled}}
+use Rattle.trace_text.specs.Steps.{◌>>=◌, Read, Reader, Words, and_then, give, line_end, outcome, with_rest, words}
+use Rattle.trace_text.specs.{WordReading.{device, event_word, link, octets, rate, units, way}, declared.event_word.EventWord.EventWord}
+use Rattle.trace_text.specs.declared.event_word.EventWord.TheVariants.{Break, Cut, End, Heal, Hold, On, Rate, Send, Wire}
+use Rattle.trace_text.specs.declared.refusal.LineRefusal.TheVariants.{Name}
+use Rattle.net_plan.specs.declared.event.What.TheVariants as events
 
 -- ---- what is read, step by step
 

@@ -1,25 +1,14 @@
 -- The times of an event that is read from a line.
-use Rattle.std.proofs.Common.{◌≡◌, ℕ, ◌≤◌, List, [], ◌∷◌, Bool, true, false, Some, None, Ok, cond, refl, arith}
-use Rattle.std.specs.Prelude.{◌&&◌, nat_le, bytes_eq, decimal}
-use Rattle.std.specs.Option.{ok_or, option_map}
-use Rattle.std.specs.Str.Parse.{digits_value}
-use Rattle.std.proofs.lemmas.Bool.{and_parts, leb-true}
-use Rattle.std.proofs.lemmas.Int.{ints}
-use Rattle.net_plan.specs.declared.event.Event.{Event}
-use Rattle.net_plan.specs.declared.event.What.{What}
-use Rattle.net_plan.specs.declared.event.What.TheVariants as events
-use Rattle.net_plan.specs.declared.network.Network.{Network}
-use Rattle.trace_text.proofs.ReadOfNetwork.{Gives, from_outcome, with_any, with_first}
-use Rattle.trace_text.specs.EventReading.{event_read, event_reader, what_behind}
-use Rattle.trace_text.specs.Numbers.{latest}
-use Rattle.trace_text.specs.Ranges.{IsTime}
-use Rattle.trace_text.specs.Steps.{Words, give, line_end, with_rest, words, ◌>>=◌}
-use Rattle.trace_text.specs.WordReading.{device, event_word, link, octets, rate, units, way}
-use Rattle.trace_text.specs.declared.event_word.EventWord.{EventWord}
-use Rattle.trace_text.specs.declared.event_word.EventWord.TheVariants.{Rate, Wire, Hold, Cut, Heal, On, Break, Send, End}
+use Rattle.std.proofs.{Common.{◌∷◌, ◌≡◌, ◌≤◌, Bool, List, None, Ok, Some, [], arith, cond, false, refl, true, ℕ}, lemmas.{Bool.{and_parts, leb-true}, Int.ints}}
+use Rattle.std.specs.{Option.{ok_or, option_map}, Prelude.{◌&&◌, bytes_eq, decimal, nat_le}, Str.Parse.digits_value}
+use Rattle.net_plan.specs.declared.{event.{Event.Event, What.What}, network.Network.Network}
+use Rattle.tte_units.specs.{Amount.units_of, declared.units.Units.Units}
+use Rattle.trace_text.{proofs.ReadOfNetwork.{Gives, from_outcome, with_any, with_first}, specs.EventReading.{event_read, event_reader, what_behind}}
+use Rattle.trace_text.specs.{Numbers.latest, Ranges.IsTime, Steps.{◌>>=◌, Words, give, line_end, with_rest, words}}
+use Rattle.trace_text.specs.{WordReading.{device, event_word, link, octets, rate, units, way}, declared.event_word.EventWord.EventWord}
+use Rattle.trace_text.specs.declared.event_word.EventWord.TheVariants.{Break, Cut, End, Heal, Hold, On, Rate, Send, Wire}
 use Rattle.trace_text.specs.declared.refusal.LineRefusal.TheVariants.{Number}
-use Rattle.tte_units.specs.Amount.{units_of}
-use Rattle.tte_units.specs.declared.units.Units.{Units}
+use Rattle.net_plan.specs.declared.event.What.TheVariants as events
 
 -- a number up to the latest is a time
 number_is_time : (n : ℕ) (test : Bool) (left : Words) → (test ≡ true → n ≤ latest)

@@ -1,11 +1,7 @@
 -- The words of a text.
-use Rattle.std.proofs.lemmas.Bool.Decides.{nat_tests}
-use Rattle.std.proofs.Common.{◌≡◌, ℕ, ◌+◌, ◌≤◌, Bool, true, false, cond, List, [], ◌∷◌, length, take, drop, Option, Some, None, MatchOption, refl, arith, nat_lt}
-use Rattle.std.specs.Prelude.{position}
-use Rattle.std.specs.List.{position_or_len, slice_split}
-use Rattle.std.proofs.lemmas.List.Elements.{All-from_get_or}
-use Rattle.std.proofs.lemmas.List.Splits.{slice_split_first, slice_split_none}
-use Rattle.std.proofs.lemmas.List.Sums.{fails_before_first}
+use Rattle.std.proofs.Common.{◌+◌, ◌∷◌, ◌≡◌, ◌≤◌, Bool, List, MatchOption, None, Option, Some, [], arith, cond, drop, false, length, nat_lt, refl, take, true}
+use Rattle.std.proofs.{Common.ℕ, lemmas.{Bool.Decides.nat_tests, List.{Elements.All-from_get_or, Splits.{slice_split_first, slice_split_none}}}}
+use Rattle.std.{proofs.lemmas.List.Sums.fails_before_first, specs.{List.{position_or_len, slice_split}, Prelude.position}}
 use Rattle.trace_text.specs.Steps.{is_space, words}
 
 -- what stands at the first place that passes, if there is one, parts a list

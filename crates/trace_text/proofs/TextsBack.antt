@@ -1,32 +1,18 @@
 -- A text that reads as an event is its text, but for capital digits.
-use Rattle.std.proofs.Common.{◌≡◌, ℕ, List, [], ◌∷◌, ◌++◌, Ok, Err, refl, sym, ap, ◌∙◌, append-nil}
-use Rattle.std.specs.Fmt.{signed_decimal}
-use Rattle.std.specs.List.{join_with_byte}
+use Rattle.std.proofs.{Common.{◌++◌, ◌∙◌, ◌∷◌, ◌≡◌, Err, List, Ok, [], ap, append-nil, refl, sym, ℕ}, lemmas.List.map-append}
+use Rattle.std.{proofs.lemmas.List.Splits.join_with_byte-slice_split, specs.{Char.to_ascii_lowercase, Fmt.signed_decimal, List.join_with_byte}}
 use Rattle.std.specs.Result.{result_unwrap_or}
-use Rattle.std.specs.Char.{to_ascii_lowercase}
-use Rattle.std.proofs.lemmas.List.{map-append}
-use Rattle.std.proofs.lemmas.List.Splits.{join_with_byte-slice_split}
 use Rattle.hex.specs.Hex.{encode_lower}
-use Rattle.net_plan.specs.Ranges.{IsInRange}
-use Rattle.net_plan.specs.declared.event.Event.{Event}
-use Rattle.net_plan.specs.declared.event.What.{What}
-use Rattle.net_plan.specs.declared.event.What.TheVariants as events
-use Rattle.net_plan.specs.declared.ids.DeviceId.{DeviceId}
-use Rattle.net_plan.specs.declared.ids.LinkId.{LinkId}
-use Rattle.net_plan.specs.declared.network.Network.{Network}
-use Rattle.net_plan.specs.declared.tables.Way.{Way}
-use Rattle.net_plan.specs.Belonging.{device_name, link_name}
-use Rattle.trace_text.specs.EventLine.{what_words}
-use Rattle.trace_text.specs.EventReading.{what_behind, event_reader, event_read}
-use Rattle.trace_text.specs.EventWords.{event_word_text, way_text}
-use Rattle.trace_text.specs.Laws.{PrintsBack}
-use Rattle.trace_text.specs.Steps.{Read, Reader, Words, space, words, and_then, ◌>>=◌, give, outcome, line_end}
-use Rattle.trace_text.specs.WordReading.{event_word, units, rate, device, link, way, octets}
-use Rattle.trace_text.specs.declared.event_word.EventWord.{EventWord}
-use Rattle.trace_text.specs.declared.event_word.EventWord.TheVariants.{Rate, Wire, Hold, Cut, Heal, On, Break, Send, End}
+use Rattle.net_plan.specs.{Belonging.{device_name, link_name}, Ranges.IsInRange, declared.{event.{Event.Event, What.What}, ids.DeviceId.DeviceId}}
+use Rattle.net_plan.specs.declared.{ids.LinkId.LinkId, network.Network.Network, tables.Way.Way}
 use Rattle.tte_units.specs.declared.units.Units.{Units}
 use Rattle.trace_text.proofs.EventsBack.{text_joined}
-use Rattle.trace_text.proofs.Lowering.{lower, lower_words, units_forth, rate_forth, device_forth, link_forth, way_forth, event_word_forth, octets_forth}
+use Rattle.trace_text.proofs.Lowering.{device_forth, event_word_forth, link_forth, lower, lower_words, octets_forth, rate_forth, units_forth, way_forth}
+use Rattle.trace_text.specs.{EventLine.what_words, EventReading.{event_read, event_reader, what_behind}, EventWords.{event_word_text, way_text}}
+use Rattle.trace_text.specs.{Laws.PrintsBack, Steps.{◌>>=◌, Read, Reader, Words, and_then, give, line_end, outcome, space, words}}
+use Rattle.trace_text.specs.{WordReading.{device, event_word, link, octets, rate, units, way}, declared.event_word.EventWord.EventWord}
+use Rattle.trace_text.specs.declared.event_word.EventWord.TheVariants.{Break, Cut, End, Heal, Hold, On, Rate, Send, Wire}
+use Rattle.net_plan.specs.declared.event.What.TheVariants as events
 
 -- what was read first, and what was read of the words that it left
 record Steps {A B : Type 0} (reader : Read (A × Words)) (next : A → Reader B) (y : B) (left : Words) : Type 0 where

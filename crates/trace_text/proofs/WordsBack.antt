@@ -1,49 +1,21 @@
 -- Words that are printed read back.
-use Rattle.std.proofs.lemmas.Bool.Decides.{nat_tests}
-use Rattle.std.proofs.lemmas.Int.{ints}
-use Rattle.std.proofs.Common.{◌≡◌, ◌≢◌, ℕ, suc, ◌<◌, ◌^◌, false, List, [], ◌∷◌, map, length, Option, Some, Ok, refl, sym, ap, subst, ◌∙◌, arith}
-use Rattle.std.specs.Prelude.{ℤ, pos, negsuc, ◌≤ℤ◌, neg_ℤ, ◌==◌, decimal, slice_get}
-use Rattle.std.specs.Fmt.{signed_decimal}
-use Rattle.std.specs.List.{All}
-use Rattle.std.specs.Option.{option_map, option_and_then, ok_or}
-use Rattle.std.specs.Str.Parse.{AllDigits}
-use Rattle.std.proofs.lemmas.Fmt.{decimal_is_IsNumeral}
-use Rattle.std.proofs.lemmas.Option.{slice_get-map, slice_get_within, get_or_from_slice_get}
-use Rattle.hex.specs.Hex.{encode_lower}
-use Rattle.hex.proofs.HexLemmas.{decode_of-encode_lower}
-use Rattle.net_plan.proofs.Bearing.{behind}
-use Rattle.net_plan.specs.Bearers.{IsFirstBearer}
-use Rattle.net_plan.specs.Ranges.{IsInRange, IsDeviceInRange, IsLinkInRange}
-use Rattle.net_plan.specs.Rules.{DeviceIsNew, LinkIsNew}
-use Rattle.net_plan.specs.declared.ids.DeviceId.{DeviceId}
-use Rattle.net_plan.specs.declared.ids.LinkId.{LinkId}
-use Rattle.net_plan.specs.declared.network.Network.{Network}
-use Rattle.net_plan.specs.declared.tables.Device.{Device}
-use Rattle.net_plan.specs.declared.tables.Link.{Link}
-use Rattle.net_plan.specs.declared.tables.Way.{Way}
-use Rattle.net_plan.specs.declared.tables.Way.TheVariants.{Up, Down}
-use Rattle.net_plan.specs.Belonging.{device_name, link_name, HasDevice, HasLink}
-use Rattle.trace_text.specs.EventWords.{event_word_text, event_word_spelled, way_text, way_spelled}
-use Rattle.trace_text.specs.Names.{device_spelled, link_spelled, device_id, link_id}
-use Rattle.trace_text.specs.Numbers.{latest, fastest, number_up_to, units_spelled, rate_spelled, minus, ppb_of}
-use Rattle.trace_text.specs.Ranges.{IsTime, IsRate, IsFrame}
-use Rattle.trace_text.specs.Steps.{Read, Words, with_rest}
-use Rattle.trace_text.specs.WordReading.{event_word, units, rate, device, link, way, octets, octets_spelled, frame_of}
-use Rattle.trace_text.specs.declared.event_word.EventWord.{EventWord}
-use Rattle.trace_text.specs.declared.event_word.EventWord.TheVariants.{Rate, Wire, Hold, Cut, Heal, On, Break, Send, End}
-use Rattle.trace_text.specs.declared.refusal.LineRefusal.TheVariants.{Form, Name, Number}
-use Rattle.tte_units.specs.Amount.{units_of}
-use Rattle.tte_units.specs.declared.rates.Ppb.{Ppb}
-use Rattle.tte_units.specs.declared.units.Units.{Units}
-use Rattle.trace_text.proofs.Bearing.{place_found}
-use Rattle.trace_text.proofs.Decimals.{number_of_decimal}
-use Rattle.trace_text.proofs.Joining.{IsWord, decimal_is_word, name_is_word}
-use Rattle.std.proofs.lemmas.List.Elements.{All-cons}
-use Rattle.trace_text.specs.Steps.{is_space}
+use Rattle.std.proofs.Common.{◌<◌, ◌^◌, ◌∙◌, ◌∷◌, ◌≡◌, ◌≢◌, List, Ok, Option, Some, [], ap, arith, false, length, map, refl, subst, suc, sym, ℕ}
+use Rattle.std.proofs.lemmas.{Bool.Decides.nat_tests, Fmt.decimal_is_IsNumeral, Int.ints, List.Elements.All-cons}
+use Rattle.std.{proofs.lemmas.Option.{get_or_from_slice_get, slice_get-map, slice_get_within}, specs.{Fmt.signed_decimal, List.All}}
+use Rattle.std.specs.{Option.{ok_or, option_and_then, option_map}, Prelude.{◌==◌, ◌≤ℤ◌, decimal, neg_ℤ, negsuc, pos, slice_get, ℤ}, Str.Parse.AllDigits}
+use Rattle.hex.{proofs.HexLemmas.decode_of-encode_lower, specs.Hex.encode_lower}
+use Rattle.net_plan.{proofs.Bearing.behind, specs.{Bearers.IsFirstBearer, Belonging.{HasDevice, HasLink, device_name, link_name}}}
+use Rattle.net_plan.specs.{Ranges.{IsDeviceInRange, IsInRange, IsLinkInRange}, Rules.{DeviceIsNew, LinkIsNew}, declared.ids.{DeviceId.DeviceId, LinkId.LinkId}}
+use Rattle.net_plan.specs.declared.{network.Network.Network, tables.{Device.Device, Link.Link, Way.{Way, TheVariants.{Down, Up}}}}
 use Rattle.tte_lemmas.proofs.Lists.{some_at}
-
-units_at : ℤ → Units
-units_at z = record { 0 = z }
+use Rattle.tte_units.specs.{Amount.units_of, declared.{rates.Ppb.Ppb, units.Units.Units}}
+use Rattle.trace_text.proofs.{Bearing.place_found, Decimals.number_of_decimal, Joining.{IsWord, decimal_is_word, name_is_word}}
+use Rattle.trace_text.specs.{EventWords.{event_word_spelled, event_word_text, way_spelled, way_text}, Names.{device_id, device_spelled, link_id, link_spelled}}
+use Rattle.trace_text.specs.{Numbers.{fastest, latest, minus, number_up_to, ppb_of, rate_spelled, units_spelled}, Ranges.{IsFrame, IsRate, IsTime}}
+use Rattle.trace_text.specs.Steps.{Read, Words, is_space, with_rest}
+use Rattle.trace_text.specs.WordReading.{device, event_word, frame_of, link, octets, octets_spelled, rate, units, way}
+use Rattle.trace_text.specs.declared.event_word.EventWord.{EventWord, TheVariants.{Break, Cut, End, Heal, Hold, On, Rate, Send, Wire}}
+use Rattle.trace_text.specs.declared.refusal.LineRefusal.TheVariants.{Form, Name, Number}
 
 -- a time is written and read
 

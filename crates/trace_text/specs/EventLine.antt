@@ -1,20 +1,12 @@
 -- The line of an event.
-use Rattle.std.specs.Prelude.{ℕ, ◌+◌, ◌*◌, List, [], ◌∷◌, ◌++◌, codes}
-use Rattle.std.specs.Fmt.{signed_decimal}
-use Rattle.std.specs.List.{join_with_byte}
-use Rattle.std.specs.Option.{option_map_or}
+use Rattle.std.specs.{Fmt.signed_decimal, List.join_with_byte, Prelude.{◌*◌, ◌++◌, ◌+◌, ◌∷◌, List, [], codes, ℕ}}
 use Rattle.hex.specs.Hex.{encode_lower}
-use Rattle.net_plan.specs.Places.{device_at, link_at}
-use Rattle.net_plan.specs.declared.event.Event.{Event}
-use Rattle.net_plan.specs.declared.event.What.{What}
-use Rattle.net_plan.specs.declared.event.What.TheVariants as events
-use Rattle.net_plan.specs.declared.ids.DeviceId.{DeviceId}
-use Rattle.net_plan.specs.declared.ids.LinkId.{LinkId}
+use Rattle.net_plan.specs.{Belonging.{device_name, link_name}, declared.event.{Event.Event, What.What}}
 use Rattle.net_plan.specs.declared.network.Network.{Network}
-use Rattle.trace_text.specs.EventWords.{event_word_text, way_text}
-use Rattle.trace_text.specs.Steps.{Words, space}
-use Rattle.trace_text.specs.declared.event_word.EventWord.TheVariants.{Rate, Wire, Hold, Cut, Heal, On, Break, Send, End}
-use Rattle.net_plan.specs.Belonging.{device_name, link_name}
+use Rattle.trace_text.specs.{EventWords.{event_word_text, way_text}, Steps.{Words, space}}
+use Rattle.trace_text.specs.declared.event_word.EventWord.TheVariants.{Break, Cut, End, Heal, Hold, On, Rate, Send}
+use Rattle.trace_text.specs.declared.event_word.EventWord.TheVariants.{Wire}
+use Rattle.net_plan.specs.declared.event.What.TheVariants as events
 
 -- the words of an event behind its time
 abbrev pub what_words : Network → What → Words

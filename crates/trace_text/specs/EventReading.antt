@@ -11,15 +11,14 @@
 --     TIME end                      nothing befalls the network any more
 --
 -- The line is judged word by word from the left.
-use Rattle.std.specs.Prelude.{ℕ, List}
-use Rattle.net_plan.specs.declared.event.Event.{Event}
-use Rattle.net_plan.specs.declared.event.What.{What}
-use Rattle.net_plan.specs.declared.event.What.TheVariants as events
-use Rattle.net_plan.specs.declared.network.Network.{Network}
-use Rattle.trace_text.specs.Steps.{Read, Reader, ◌>>=◌, give, words, line_end, outcome}
-use Rattle.trace_text.specs.WordReading.{event_word, units, rate, device, link, way, octets}
+use Rattle.std.specs.Prelude.{List, ℕ}
+use Rattle.net_plan.specs.declared.{event.{Event.Event, What.What}, network.Network.Network}
+use Rattle.trace_text.specs.Steps.{◌>>=◌, Read, Reader, give, line_end, outcome, words}
+use Rattle.trace_text.specs.WordReading.{device, event_word, link, octets, rate, units, way}
 use Rattle.trace_text.specs.declared.event_word.EventWord.{EventWord}
-use Rattle.trace_text.specs.declared.event_word.EventWord.TheVariants.{Rate, Wire, Hold, Cut, Heal, On, Break, Send, End}
+use Rattle.trace_text.specs.declared.event_word.EventWord.TheVariants.{Break, Cut, End, Heal, Hold, On, Rate, Send}
+use Rattle.trace_text.specs.declared.event_word.EventWord.TheVariants.{Wire}
+use Rattle.net_plan.specs.declared.event.What.TheVariants as events
 
 -- what befalls the network, by the words behind the event's word
 unfoldable pub what_behind : Network → EventWord → Reader What

@@ -1,9 +1,9 @@
 -- The words that name an event and a way.
-use Rattle.std.specs.Prelude.{ℕ, List, [], ◌∷◌, codes, bytes_eq, find, Option}
-use Rattle.net_plan.specs.declared.tables.Way.{Way}
-use Rattle.net_plan.specs.declared.tables.Way.TheVariants.{Up, Down}
+use Rattle.std.specs.Prelude.{◌∷◌, List, Option, [], bytes_eq, codes, find, ℕ}
+use Rattle.net_plan.specs.declared.tables.Way.{Way, TheVariants.{Down, Up}}
 use Rattle.trace_text.specs.declared.event_word.EventWord.{EventWord}
-use Rattle.trace_text.specs.declared.event_word.EventWord.TheVariants.{Rate, Wire, Hold, Cut, Heal, On, Break, Send, End}
+use Rattle.trace_text.specs.declared.event_word.EventWord.TheVariants.{Break, Cut, End, Heal, Hold, On, Rate, Send}
+use Rattle.trace_text.specs.declared.event_word.EventWord.TheVariants.{Wire}
 
 -- the word of an event
 abbrev pub event_word_text : EventWord → List ℕ

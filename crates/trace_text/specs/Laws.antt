@@ -1,13 +1,7 @@
-use Rattle.std.specs.Prelude.{◌≡◌, ℕ, List, Ok}
-use Rattle.std.specs.Str.{str_to_ascii_lowercase}
-use Rattle.net_plan.specs.Ranges.{IsInRange}
-use Rattle.net_plan.specs.Rules.{DeviceIsNew, LinkIsNew}
-use Rattle.net_plan.specs.declared.event.Event.{Event}
-use Rattle.net_plan.specs.declared.network.Network.{Network}
-use Rattle.trace_text.specs.EventLine.{event_text}
-use Rattle.trace_text.specs.EventReading.{event_read}
-use Rattle.net_plan.specs.Belonging.{IsOfNetwork}
-use Rattle.trace_text.specs.Ranges.{IsEventInRange}
+use Rattle.std.specs.{Prelude.{◌≡◌, List, Ok, ℕ}, Str.str_to_ascii_lowercase}
+use Rattle.net_plan.specs.{Belonging.IsOfNetwork, Ranges.IsInRange, Rules.{DeviceIsNew, LinkIsNew}}
+use Rattle.net_plan.specs.declared.{event.Event.Event, network.Network.Network}
+use Rattle.trace_text.specs.{EventLine.event_text, EventReading.event_read, Ranges.IsEventInRange}
 
 -- where no two devices and no two links have one name, the text of an event reads back as that event
 abbrev pub ReadsBack : Type 0

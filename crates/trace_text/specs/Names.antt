@@ -1,10 +1,6 @@
 -- The things of a network by their names.
-use Rattle.std.specs.Prelude.{ℕ, List, bytes_eq, Option}
-use Rattle.std.specs.List.{position_from}
-use Rattle.std.specs.Option.{option_map}
-use Rattle.net_plan.specs.Bearers.{device_names, link_names}
-use Rattle.net_plan.specs.declared.ids.DeviceId.{DeviceId}
-use Rattle.net_plan.specs.declared.ids.LinkId.{LinkId}
+use Rattle.std.specs.{List.position_from, Option.option_map, Prelude.{List, Option, bytes_eq, ℕ}}
+use Rattle.net_plan.specs.{Bearers.{device_names, link_names}, declared.ids.{DeviceId.DeviceId, LinkId.LinkId}}
 use Rattle.net_plan.specs.declared.network.Network.{Network}
 
 -- the place of the first of these names that is the text

@@ -1,10 +1,8 @@
 -- Numbers in decimal.
-use Rattle.std.specs.Prelude.{ℕ, ◌&&◌, ◌==◌, ◌^◌, nat_le, ℤ, pos, neg_ℤ, List, [], ◌∷◌, bytes_eq, Option, Some, None, decimal, if◌then◌else◌}
-use Rattle.std.specs.Option.{option_map, option_and_then}
-use Rattle.std.specs.Str.Parse.{digits_value}
-use Rattle.tte_units.specs.Amount.{units_of}
-use Rattle.tte_units.specs.declared.rates.Ppb.{Ppb}
-use Rattle.tte_units.specs.declared.units.Units.{Units}
+use Rattle.std.specs.Option.{option_and_then, option_map}
+use Rattle.std.specs.Prelude.{if◌then◌else◌, ◌&&◌, ◌==◌, ◌^◌, ◌∷◌, List, None, Option, Some, [], bytes_eq, decimal}
+use Rattle.std.specs.{Prelude.{nat_le, neg_ℤ, pos, ℕ, ℤ}, Str.Parse.digits_value}
+use Rattle.tte_units.specs.{Amount.units_of, declared.{rates.Ppb.Ppb, units.Units.Units}}
 
 -- the number whose decimal the text is, if there is one and it is at most this
 abbrev pub number_up_to : ℕ → List ℕ → Option ℕ

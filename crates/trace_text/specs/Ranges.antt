@@ -1,16 +1,10 @@
 -- Which events have a line.
-use Rattle.std.specs.Prelude.{◌≤◌, ◌<◌, ⊤, pos, neg_ℤ, ◌≤ℤ◌, ℕ, List, length}
+use Rattle.std.specs.Prelude.{◌≤ℤ◌, ◌≤◌, List, length, neg_ℤ, pos, ℕ, ⊤}
 use Rattle.hex.specs.Hex.{IsBytes}
-use Rattle.net_plan.specs.Ranges.{IsWithin}
-use Rattle.net_plan.specs.declared.event.Event.{Event}
-use Rattle.net_plan.specs.declared.event.What.{What}
-use Rattle.net_plan.specs.declared.event.What.TheVariants.{Rate, Wire, Hold, Cut, Heal, On, Break, Send, End}
-use Rattle.net_plan.specs.declared.ids.DeviceId.{DeviceId}
-use Rattle.net_plan.specs.declared.ids.LinkId.{LinkId}
-use Rattle.net_plan.specs.declared.network.Network.{Network}
-use Rattle.trace_text.specs.Numbers.{latest, fastest}
-use Rattle.tte_units.specs.declared.rates.Ppb.{Ppb}
-use Rattle.tte_units.specs.declared.units.Units.{Units}
+use Rattle.net_plan.specs.{Ranges.IsWithin, declared.event.{Event.Event, What.What}}
+use Rattle.net_plan.specs.declared.event.What.TheVariants.{Break, Cut, End, Heal, Hold, On, Rate, Send, Wire}
+use Rattle.tte_units.specs.declared.{rates.Ppb.Ppb, units.Units.Units}
+use Rattle.trace_text.specs.Numbers.{fastest, latest}
 
 -- a time of a trace, in units
 abbrev pub IsTime : Units → Type 0

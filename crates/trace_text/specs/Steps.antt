@@ -1,8 +1,6 @@
 -- Readings, step by step, of a line's words from the left.
-use Rattle.std.specs.Prelude.{◌≡◌, ◌==◌, ℕ, Bool, List, [], ◌∷◌, Result, Ok, Err}
-use Rattle.std.specs.List.{slice_split}
-use Rattle.trace_text.specs.declared.refusal.LineRefusal.{LineRefusal}
-use Rattle.trace_text.specs.declared.refusal.LineRefusal.TheVariants.{Form}
+use Rattle.std.specs.{List.slice_split, Prelude.{◌==◌, ◌∷◌, ◌≡◌, Bool, Err, List, Ok, Result, [], ℕ}}
+use Rattle.trace_text.specs.declared.refusal.LineRefusal.{LineRefusal, TheVariants.Form}
 
 -- the words of a line, or those that are left of them
 abbrev pub Words : Type 0

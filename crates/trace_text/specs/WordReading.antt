@@ -1,20 +1,13 @@
 -- The kinds of words of a trace's line, each with its one fault.
-use Rattle.std.specs.Prelude.{ℕ, ◌&&◌, nat_le, List, length, Result, Ok, Err, if◌then◌else◌}
-use Rattle.std.specs.Option.{ok_or}
-use Rattle.hex.specs.Hex.{decode_of}
-use Rattle.hex.specs.declared.error.FromHexError.{FromHexError}
-use Rattle.net_plan.specs.declared.ids.DeviceId.{DeviceId}
-use Rattle.net_plan.specs.declared.ids.LinkId.{LinkId}
-use Rattle.net_plan.specs.declared.network.Network.{Network}
-use Rattle.net_plan.specs.declared.tables.Way.{Way}
-use Rattle.trace_text.specs.EventWords.{event_word_spelled, way_spelled}
-use Rattle.trace_text.specs.Names.{device_spelled, link_spelled}
-use Rattle.trace_text.specs.Numbers.{units_spelled, rate_spelled}
-use Rattle.trace_text.specs.Steps.{Read, Reader, next_word}
+use Rattle.std.specs.Option.{ok_or, unwrap_or}
+use Rattle.std.specs.Prelude.{if◌then◌else◌, ◌&&◌, Err, List, Ok, Result, length, nat_le, ℕ}
+use Rattle.hex.specs.{Hex.{decode_of, hex_digit_value}, declared.error.FromHexError.FromHexError}
+use Rattle.net_plan.specs.declared.{ids.{DeviceId.DeviceId, LinkId.LinkId}, network.Network.Network, tables.Way.Way}
+use Rattle.tte_units.specs.declared.{rates.Ppb.Ppb, units.Units.Units}
+use Rattle.trace_text.specs.{EventWords.{event_word_spelled, way_spelled}, Names.{device_spelled, link_spelled}}
+use Rattle.trace_text.specs.{Numbers.{rate_spelled, units_spelled}, Steps.{Read, Reader, next_word}}
 use Rattle.trace_text.specs.declared.event_word.EventWord.{EventWord}
-use Rattle.trace_text.specs.declared.refusal.LineRefusal.TheVariants.{Form, Name, Number, Hex, Octets}
-use Rattle.tte_units.specs.declared.rates.Ppb.{Ppb}
-use Rattle.tte_units.specs.declared.units.Units.{Units}
+use Rattle.trace_text.specs.declared.refusal.LineRefusal.TheVariants.{Form, Hex, Name, Number, Octets}
 
 -- the word of an event
 unfoldable pub event_word : Reader EventWord
@@ -39,6 +32,10 @@ link network = next_word (λ text. ok_or (link_spelled network text) Name)
 -- WAY: up or down
 unfoldable pub way : Reader Way
 way = next_word (λ text. ok_or (way_spelled text) Form)
+
+-- the value of a hexadecimal digit of either case, and 16 for an octet that is none
+abbrev pub digit_number : ℕ → ℕ
+digit_number octet = unwrap_or (hex_digit_value octet) 16
 
 -- the octets of a frame are 60 to 1,514
 abbrev pub frame_of : Result (List ℕ) FromHexError → Read (List ℕ)

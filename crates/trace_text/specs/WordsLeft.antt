@@ -1,6 +1,5 @@
 -- The words of what is left of a line.
-use Rattle.std.specs.Prelude.{ℕ, List, [], Option, Some, None}
-use Rattle.std.specs.Borrow.{Bor}
+use Rattle.std.specs.{Borrow.Bor, Prelude.{List, None, Option, Some, [], ℕ}}
 use Rattle.trace_text.specs.Steps.{Words, words}
 
 -- none where the line has ended

@@ -17,18 +17,6 @@ pub(crate) enum EventWord {
     End,
 }
 
-const EVENT_WORDS: [EventWord; 9] = [
-    EventWord::Rate,
-    EventWord::Wire,
-    EventWord::Hold,
-    EventWord::Cut,
-    EventWord::Heal,
-    EventWord::On,
-    EventWord::Break,
-    EventWord::Send,
-    EventWord::End,
-];
-
 impl EventWord {
     /// The word as it is written.
     pub(crate) fn text(self) -> &'static str
@@ -53,10 +41,27 @@ impl EventWord {
     pub(crate) fn spelled(text: &[u8]) -> Option<EventWord>
         ensures { result ≡ event_word_spelled text.now }
     {
-        EVENT_WORDS
-            .iter()
-            .copied()
-            .find(|word| word.text().as_bytes() == text)
+        if EventWord::Rate.text().as_bytes() == text {
+            Some(EventWord::Rate)
+        } else if EventWord::Wire.text().as_bytes() == text {
+            Some(EventWord::Wire)
+        } else if EventWord::Hold.text().as_bytes() == text {
+            Some(EventWord::Hold)
+        } else if EventWord::Cut.text().as_bytes() == text {
+            Some(EventWord::Cut)
+        } else if EventWord::Heal.text().as_bytes() == text {
+            Some(EventWord::Heal)
+        } else if EventWord::On.text().as_bytes() == text {
+            Some(EventWord::On)
+        } else if EventWord::Break.text().as_bytes() == text {
+            Some(EventWord::Break)
+        } else if EventWord::Send.text().as_bytes() == text {
+            Some(EventWord::Send)
+        } else if EventWord::End.text().as_bytes() == text {
+            Some(EventWord::End)
+        } else {
+            None
+        }
     }
 }
 
@@ -76,8 +81,11 @@ pub fn way_text(way: Way) -> &'static str
 pub(crate) fn way_spelled(text: &[u8]) -> Option<Way>
     ensures { result ≡ way_spelled text.now }
 {
-    [Way::Up, Way::Down]
-        .iter()
-        .copied()
-        .find(|way| way_text(*way).as_bytes() == text)
+    if way_text(Way::Up).as_bytes() == text {
+        Some(Way::Up)
+    } else if way_text(Way::Down).as_bytes() == text {
+        Some(Way::Down)
+    } else {
+        None
+    }
 }

@@ -1,8 +1,8 @@
-ghost use Rattle.std.specs.Prelude.{◌≡◌, ◌<◌, ◌⊎◌, ◌/◌, ◌%◌, Err, ◌↔◌, IsTrue, IfOk, length};
 ghost use Rattle.std.specs.List.{AllPass};
-ghost use Rattle.hex.specs.Hex.{is_hex_digit};
-ghost use Rattle.trace_text.specs.Ranges.{IsFrame};
-ghost use Rattle.trace_text.specs.WordReading.{octets_spelled};
+ghost use Rattle.std.specs.Prelude.{◌%◌, ◌*◌, ◌/◌, ◌<◌, ◌↔◌, ◌≡◌, ◌≤◌, ◌⊎◌, Err, IfOk, IsFalse, IsTrue, MatchResult};
+ghost use Rattle.std.specs.Prelude.{length};
+ghost use Rattle.hex.specs.Hex.{decode_of, is_hex_digit};
+ghost use Rattle.trace_text.specs.{Ranges.IsFrame, WordReading.{digit_number, octets_spelled}};
 
 use crate::LineRefusal;
 use net_plan::Octets;
@@ -32,6 +32,44 @@ fn fault(text: &[u8]) -> LineRefusal
     }
 }
 
+/// The value of a hexadecimal digit of either case, and 16 for an octet that is none.
+fn digit_value(digit: u8) -> u8
+    ensures { result ≡ digit_number digit }
+{
+    match digit {
+        b'A'..=b'F' => digit - b'A' + 10,
+        b'a'..=b'f' => digit - b'a' + 10,
+        b'0'..=b'9' => digit - b'0',
+        _ => 16,
+    }
+}
+
+/// The greatest of three octets.
+fn greatest_of(a: u8, b: u8, c: u8) -> u8
+    ensures low { result < 16 → (a < 16) × (b < 16) × (c < 16) }
+    ensures high { 16 ≤ result → (16 ≤ a) ⊎ ((16 ≤ b) ⊎ (16 ≤ c)) }
+{
+    let greater = if a < b { b } else { a };
+    if greater < c { c } else { greater }
+}
+
+/// Reads two digits to each octet, and answers whether all of them are digits. Where they are not, the octets are of
+/// no use.
+fn decode(text: &[u8], octets: &mut [u8]) -> bool
+    requires { length text.now ≡ 2 * length octets.old }
+    ensures { MatchResult (decode_of text.now) (λ decoded. IsTrue result
+        × (octets.new ≡ decoded)) (λ e. IsFalse result) }
+{
+    let mut greatest = 0;
+    'octets: for i in 0..octets.len() {
+        let high = digit_value(text[2 * i]);
+        let low = digit_value(text[2 * i + 1]);
+        octets[i] = high.wrapping_mul(16).wrapping_add(low);
+        greatest = greatest_of(greatest, high, low);
+    }
+    greatest < 16
+}
+
 /// The octets of a frame in hexadecimal digits of either case.
 #[tactic(auto, unfolding(crate::specs::WordReading::octets_spelled))]
 pub(crate) fn octets_spelled(text: &[u8]) -> Result<Octets, LineRefusal>
@@ -44,8 +82,9 @@ pub(crate) fn octets_spelled(text: &[u8]) -> Result<Octets, LineRefusal>
         return Err(fault(text));
     }
     let octets = &mut octets[..count];
-    match hex::decode_to_slice(text, octets) {
-        Ok(()) => Ok(Octets::new(octets)),
-        Err(_) => Err(LineRefusal::Hex),
+    if text.len() % 2 == 0 && decode(text, octets) {
+        Ok(Octets::new(octets))
+    } else {
+        Err(LineRefusal::Hex)
     }
 }

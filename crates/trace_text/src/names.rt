@@ -1,7 +1,6 @@
 ghost use Rattle.std.specs.Prelude.{◌≡◌, IfSome};
-ghost use Rattle.net_plan.specs.Ranges.{IsInRange};
+ghost use Rattle.net_plan.specs.{Belonging.{HasDevice, HasLink}, Ranges.IsInRange};
 ghost use Rattle.trace_text.specs.Names.{device_spelled, link_spelled};
-ghost use Rattle.net_plan.specs.Belonging.{HasDevice, HasLink};
 
 use net_plan::{DeviceId, LinkId, Network};
 

@@ -1,8 +1,6 @@
-ghost use Rattle.std.specs.Prelude.{◌≡◌, ◌≤◌, ◌<◌, ◌^◌, ◌↔◌, IsTrue, IfSome, length, slice_index};
-ghost use Rattle.std.specs.Option.{SomeIff};
+ghost use Rattle.std.specs.{Option.SomeIff, Prelude.{◌<◌, ◌^◌, ◌↔◌, ◌≡◌, ◌≤◌, IfSome, IsTrue, length, slice_index}};
 ghost use Rattle.std.specs.Str.Parse.{AllDigits, digits_value};
-ghost use Rattle.trace_text.specs.Numbers.{minus, number_up_to, units_spelled, rate_spelled};
-ghost use Rattle.trace_text.specs.Ranges.{IsTime, IsRate};
+ghost use Rattle.trace_text.specs.{Numbers.{minus, number_up_to, rate_spelled, units_spelled}, Ranges.{IsRate, IsTime}};
 
 use tte_units::{Ppb, Units};
 

@@ -1,14 +1,9 @@
-ghost use Rattle.std.specs.Prelude.{◌≡◌, ◌≤◌, ◌+◌, ◌∷◌, ◌++◌, length, OnOk, OnErr};
-ghost use Rattle.std.specs.Fmt.{signed_decimal};
-ghost use Rattle.std.specs.Io.KnownBytes.{Appends};
-ghost use Rattle.net_plan.specs.Ranges.{IsInRange};
-ghost use Rattle.tte_io.specs.Faults.{Rose, next_count};
-ghost use Rattle.tte_io.specs.Line.{line_limit};
-ghost use Rattle.tte_io.specs.Told.{AppendsFront};
-ghost use Rattle.net_plan.specs.Belonging.{device_name, link_name, HasDevice, HasLink, IsOfNetwork};
-ghost use Rattle.trace_text.specs.EventLine.{what_text, longest_text, event_line};
-ghost use Rattle.trace_text.specs.EventWords.{event_word_text, way_text};
-ghost use Rattle.trace_text.specs.Steps.{space};
+ghost use Rattle.std.specs.{Fmt.signed_decimal, Io.KnownBytes.Appends};
+ghost use Rattle.std.specs.Prelude.{◌++◌, ◌+◌, ◌∷◌, ◌≡◌, ◌≤◌, OnErr, OnOk, length};
+ghost use Rattle.net_plan.specs.{Belonging.{HasDevice, HasLink, IsOfNetwork, device_name, link_name}, Ranges.IsInRange};
+ghost use Rattle.tte_io.specs.{Faults.{Rose, next_count}, Line.line_limit, Told.AppendsFront};
+ghost use Rattle.trace_text.specs.EventLine.{event_line, longest_text, what_text};
+ghost use Rattle.trace_text.specs.{EventWords.{event_word_text, way_text}, Steps.space};
 
 use crate::event_word::{EventWord, way_text};
 use net_plan::{DeviceId, Event, LinkId, Network, Way, What};

@@ -1,9 +1,7 @@
 ghost use Rattle.std.specs.Prelude.{◌≡◌, IfOk};
-ghost use Rattle.net_plan.specs.Ranges.{IsInRange};
-ghost use Rattle.trace_text.specs.EventReading.{what_behind, what_reader, event_read};
-ghost use Rattle.net_plan.specs.Belonging.{IsOfNetwork};
-ghost use Rattle.trace_text.specs.Ranges.{IsWhatInRange, IsEventInRange};
-ghost use Rattle.trace_text.specs.Steps.{Reads};
+ghost use Rattle.net_plan.specs.{Belonging.IsOfNetwork, Ranges.IsInRange};
+ghost use Rattle.trace_text.specs.EventReading.{event_read, what_behind, what_reader};
+ghost use Rattle.trace_text.specs.{Ranges.{IsEventInRange, IsWhatInRange}, Steps.Reads};
 
 use crate::LineRefusal;
 use crate::event_word::EventWord;

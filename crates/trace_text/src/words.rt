@@ -1,9 +1,7 @@
-ghost use Rattle.std.specs.Prelude.{◌≡◌, [], ◌∷◌, ◌<◌, MatchOption, MatchResult, IfOk, IfSome, length, position};
-ghost use Rattle.net_plan.specs.Ranges.{IsInRange};
-ghost use Rattle.net_plan.specs.Belonging.{HasDevice, HasLink};
-ghost use Rattle.trace_text.specs.Ranges.{IsTime, IsRate, IsFrame};
-ghost use Rattle.trace_text.specs.Steps.{is_space, words, Reads, line_end};
-ghost use Rattle.trace_text.specs.WordReading.{event_word, units, rate, device, link, way, octets};
+ghost use Rattle.std.specs.Prelude.{◌<◌, ◌∷◌, ◌≡◌, IfOk, IfSome, MatchOption, MatchResult, [], length, position};
+ghost use Rattle.net_plan.specs.{Belonging.{HasDevice, HasLink}, Ranges.IsInRange};
+ghost use Rattle.trace_text.specs.{Ranges.{IsFrame, IsRate, IsTime}, Steps.{Reads, is_space, line_end, words}};
+ghost use Rattle.trace_text.specs.WordReading.{device, event_word, link, octets, rate, units, way};
 ghost use Rattle.trace_text.specs.declared.refusal.LineRefusal.TheVariants.{Form};
 
 use crate::LineRefusal;
@@ -11,6 +9,7 @@ use crate::event_word::{EventWord, way_spelled};
 use crate::frames::octets_spelled;
 use crate::names::{device_spelled, link_spelled};
 use crate::numbers::{rate_spelled, units_spelled};
+use memchr::memchr;
 use net_plan::{DeviceId, LinkId, Network, Octets, Way};
 use std::marker::Model;
 use tte_units::{Ppb, Units};
@@ -19,7 +18,7 @@ fn first_space(text: &[u8]) -> Option<usize>
     ensures place { result ≡ position is_space text.now }
     ensures within { IfSome result (λ place. place < length text.now) }
 {
-    text.iter().position(|octet| *octet == b' ')
+    memchr(b' ', text)
 }
 
 /// The words of a line, the texts between its spaces, to be read from the left. Each reader of a

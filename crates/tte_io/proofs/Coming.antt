@@ -1,12 +1,10 @@
 -- What comes of the octets to come, where they are told.
-use Rattle.std.proofs.Common.{◌≡◌, ◌≢◌, ℕ, ◌<◌, Bool, true, false, if◌then◌else◌, List, [], ◌∷◌, ◌++◌, length, Option, Some, None, Result, Ok, Err, refl, sym, ap, subst, ◌∙◌, inl, inr, append_assoc, append-nil, arith, length-append}
+use Rattle.std.proofs.Common.{◌++◌, ◌<◌, ◌∙◌, ◌∷◌, ◌≡◌, ◌≢◌, Bool, Err, List, None, Ok, Option, Result, Some, [], ap, append-nil, append_assoc, arith, false}
+use Rattle.std.proofs.Common.{inl, inr, length, length-append, refl, subst, sym, true, ℕ}
+use Rattle.tte_io.{proofs.FirstLine.{behind_line-append, first_line-append, first_line-too_long}, specs.Line.{IsLine, behind_line, first_line, lf, line_limit}}
+use Rattle.tte_io.specs.{NextLine.{NextLine, TakesLine}, Outcome.{Outcome, TellsOutcome}, ReaderState.{LineReaderState, pending, to_come}}
 use Rattle.tte_io.specs.declared.lines.LineTaken.{LineTaken}
 use Rattle.tte_io.specs.declared.lines.LineTaken.TheVariants as taken
-use Rattle.tte_io.specs.Line.{lf, line_limit, IsLine, first_line, behind_line}
-use Rattle.tte_io.specs.ReaderState.{LineReaderState, pending, to_come}
-use Rattle.tte_io.specs.NextLine.{TakesLine, NextLine, IsEnd}
-use Rattle.tte_io.specs.Outcome.{Outcome, TellsOutcome}
-use Rattle.tte_io.proofs.FirstLine.{first_line-append, behind_line-append, first_line-too_long}
 
 -- what was to come is what was given, and what is still to come
 coming : {E : Type 0} (before : List ℕ) (had : Bool) (left : List ℕ) (after : LineReaderState) (rest : List ℕ) (result : Result LineTaken E)

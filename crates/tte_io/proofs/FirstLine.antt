@@ -1,9 +1,7 @@
 -- The first line of octets that begin with octets without an LF.
-use Rattle.std.proofs.Common.{◌≡◌, ℕ, ◌+◌, ◌<◌, Bool, cond, List, [], ◌∷◌, ◌++◌, length, take, drop, refl, sym, ap, ◌∙◌, append_assoc, arith, length-append, length-take}
-use Rattle.std.proofs.lemmas.Bool.{ne_eqb}
-use Rattle.std.proofs.lemmas.List.{take-append-drop}
-use Rattle.std.proofs.lemmas.List.Elements.{All-head, All-tail}
-use Rattle.tte_io.specs.Line.{lf, line_limit, IsUnbroken, IsTooLong, first_line, behind_line}
+use Rattle.std.proofs.Common.{◌++◌, ◌+◌, ◌<◌, ◌∙◌, ◌∷◌, ◌≡◌, Bool, List, [], ap, append_assoc, arith, cond, drop, length, length-append, length-take, refl, sym}
+use Rattle.std.proofs.{Common.{take, ℕ}, lemmas.{Bool.ne_eqb, List.{take-append-drop, Elements.{All-head, All-tail}}}}
+use Rattle.tte_io.specs.Line.{IsTooLong, IsUnbroken, behind_line, first_line, lf, line_limit}
 
 pub first_line-append : (text rest : List ℕ) → IsUnbroken text → first_line (text ++ rest) ≡ text ++ first_line rest
 first_line-append [] rest unbroken = refl

@@ -2,6 +2,8 @@ pub mod Taken
 pub mod Passing
 pub mod Ranges
 pub mod LongLines
+pub mod Sizes
+pub mod Spelling
 pub mod Making
 pub mod FirstLine
 pub mod Coming

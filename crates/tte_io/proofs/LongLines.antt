@@ -1,8 +1,7 @@
 -- Lines, and octets that are too many for one.
-use Rattle.std.proofs.Common.{◌≡◌, ◌≢◌, ℕ, ◌+◌, ◌<◌, ◌≤◌, List, ◌++◌, length, take, drop, sym, ap, subst, ◌∙◌, append_assoc, arith, length-append, length-take}
-use Rattle.std.proofs.lemmas.List.{take-append-drop, take-append-le}
-use Rattle.std.proofs.lemmas.List.Elements.{All-append, All-take}
-use Rattle.tte_io.specs.Line.{lf, line_limit, IsUnbroken, IsTooLong}
+use Rattle.std.proofs.Common.{◌++◌, ◌+◌, ◌<◌, ◌∙◌, ◌≡◌, ◌≢◌, ◌≤◌, List, ap, append_assoc, arith, drop, length, length-append, length-take, subst, sym, take, ℕ}
+use Rattle.std.proofs.lemmas.List.{take-append-drop, take-append-le, Elements.{All-append, All-take}}
+use Rattle.tte_io.specs.Line.{IsTooLong, IsUnbroken, lf, line_limit}
 
 -- a line and octets without an LF behind it that pass its limit
 pub too_long_behind : (line octets : List ℕ) (count : ℕ) → IsUnbroken line → IsUnbroken (take count octets) → count ≤ length octets

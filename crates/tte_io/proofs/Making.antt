@@ -1,17 +1,10 @@
 -- A line in the making, and what comes of it.
-use Rattle.std.proofs.Common.{◌≡◌, ◌≢◌, ◌⊎◌, ℕ, ◌≤◌, Bool, true, false, List, [], ◌∷◌, ◌++◌, length, Option, Ok, Err, refl, sym, ap, subst, ◌∙◌, inl, inr, append_assoc, append-nil, arith}
-use Rattle.std.specs.Io.KnownBytes.{Consumes, IsAtEnd}
-use Rattle.std.proofs.KnownBytes.{Consumes-nil, Consumes-trans}
-use Rattle.tte_io.specs.declared.lines.LineTaken.{LineTaken}
-use Rattle.tte_io.specs.declared.lines.LineTaken.TheVariants.{Whole, Long, End}
-use Rattle.tte_io.specs.declared.lines.Progress.{Progress}
-use Rattle.tte_io.specs.declared.lines.Progress.TheVariants.{Unfinished, Taken, TooLong}
-use Rattle.tte_io.specs.ReaderState.{LineReaderState, KeepsEnd, pending, at_end}
+use Rattle.std.proofs.Common.{◌++◌, ◌∙◌, ◌∷◌, ◌≡◌, ◌≢◌, ◌≤◌, ◌⊎◌, Bool, Err, List, Ok, Option, [], ap, append-nil, append_assoc, arith, false, inl, inr, length}
+use Rattle.std.{proofs.{Common.{refl, subst, sym, true, ℕ}, KnownBytes.{Consumes-nil, Consumes-trans}}, specs.Io.KnownBytes.{Consumes, IsAtEnd}}
+use Rattle.tte_io.specs.{Line.{IsLine, IsTooLong, ahead_limit, lf}, NextLine.NextLine, Progress.{progress_after, reader_state}}
+use Rattle.tte_io.specs.{ReaderState.{KeepsEnd, LineReaderState, at_end, pending}, Steps.{Advances, Fills}, declared.lines.LineTaken.LineTaken}
+use Rattle.tte_io.specs.declared.lines.{LineTaken.TheVariants.{End, Long, Whole}, Progress.{Progress, TheVariants.{Taken, TooLong, Unfinished}}}
 use Rattle.tte_io.specs.declared.taking.Step.TheVariants as step
-use Rattle.tte_io.specs.Line.{lf, ahead_limit, IsLine, IsTooLong}
-use Rattle.tte_io.specs.NextLine.{NextLine}
-use Rattle.tte_io.specs.Progress.{reader_state, progress_after}
-use Rattle.tte_io.specs.Steps.{Fills, Advances}
 
 -- what was pending and what was read are the line so far and what is ahead
 pub record Making (before : List ℕ) (left_before : Option (List ℕ)) (line ahead : List ℕ) (left : Option (List ℕ)) : Type 0 where

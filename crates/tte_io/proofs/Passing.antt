@@ -1,6 +1,5 @@
 -- What was passed on of what was put.
-use Rattle.std.proofs.Common.{◌≡◌, ℕ, ◌≤◌, List, [], ◌++◌, length, take, drop, Some, sym, ap, ◌∙◌, append-nil}
-use Rattle.std.proofs.lemmas.List.{take-append-drop, take-append-le}
+use Rattle.std.proofs.{Common.{◌++◌, ◌∙◌, ◌≡◌, ◌≤◌, List, Some, [], ap, append-nil, drop, length, sym, take, ℕ}, lemmas.List.{take-append-drop, take-append-le}}
 use Rattle.tte_io.specs.Told.{PassesSome}
 
 -- no more of it

@@ -1,7 +1,5 @@
 -- Parts of a store.
-use Rattle.std.proofs.Common.{◌≡◌, ℕ, ◌+◌, ◌-◌, ◌≤◌, List, take, drop, ap, ◌∙◌, arith}
-use Rattle.std.specs.List.{slice_range}
-use Rattle.std.proofs.lemmas.List.{drop-take, drop-drop}
+use Rattle.std.{proofs.{Common.{◌+◌, ◌-◌, ◌∙◌, ◌≡◌, ◌≤◌, List, ap, arith, drop, take, ℕ}, lemmas.List.{drop-drop, drop-take}}, specs.List.slice_range}
 
 pub drop-slice_range : (xs : List ℕ) (i n j : ℕ) → i + n ≤ j → drop n (slice_range xs i j) ≡ slice_range xs (i + n) j
 drop-slice_range xs i n j within =

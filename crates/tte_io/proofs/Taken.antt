@@ -1,6 +1,5 @@
 -- What was taken from a source was left in it.
-use Rattle.std.proofs.Common.{ℕ, ◌<◌, List, length, Some, None, IfSome, ap, arith, length-append}
-use Rattle.std.specs.declared.option.Option.{Option}
+use Rattle.std.{proofs.Common.{◌<◌, IfSome, List, None, Some, ap, arith, length, length-append, ℕ}, specs.declared.option.Option.Option}
 use Rattle.tte_io.specs.Whole.{TakesTooMany}
 
 pub too_many-left : (old new : Option (List ℕ)) (limit : ℕ) → TakesTooMany old new limit → IfSome old (λ left. limit < length left)

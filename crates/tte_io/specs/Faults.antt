@@ -1,5 +1,5 @@
 -- Counts of faults and of calls.
-use Rattle.std.specs.Prelude.{ℕ, ◌+◌, ◌-◌, ◌^◌, ◌≤◌, min}
+use Rattle.std.specs.Prelude.{◌+◌, ◌-◌, ◌^◌, ◌≤◌, min, ℕ}
 
 -- the next value of a 64-bit count, which stands still at its last value
 abbrev pub next_count : ℕ → ℕ

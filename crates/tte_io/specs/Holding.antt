@@ -1,5 +1,5 @@
 -- Octets that are held until they are written.
-use Rattle.std.specs.Prelude.{◌≡◌, ℕ, List, drop}
+use Rattle.std.specs.Prelude.{◌≡◌, List, drop, ℕ}
 
 -- how many octets are held at most
 abbrev pub held_limit : ℕ

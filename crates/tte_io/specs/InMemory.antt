@@ -1,5 +1,5 @@
 -- The ends in memory, as callers see them, and what a call changes.
-use Rattle.std.specs.Prelude.{ℕ, ◌+◌, List, [], ◌++◌, drop}
+use Rattle.std.specs.Prelude.{◌++◌, ◌+◌, List, [], drop, ℕ}
 use Rattle.tte_io.specs.Faults.{next_count}
 
 -- a source in memory

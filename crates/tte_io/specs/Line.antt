@@ -1,5 +1,5 @@
 -- Lines of octets.
-use Rattle.std.specs.Prelude.{◌≢◌, ℕ, ◌+◌, ◌<◌, ◌≤◌, List, [], ◌∷◌, length, take, All, if◌then◌else◌, ◌==◌}
+use Rattle.std.specs.Prelude.{if◌then◌else◌, ◌+◌, ◌<◌, ◌==◌, ◌∷◌, ◌≢◌, ◌≤◌, All, List, [], length, take, ℕ}
 
 -- the octet that ends a line
 abbrev pub lf : ℕ

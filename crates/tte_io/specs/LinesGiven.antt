@@ -1,11 +1,7 @@
 -- What a reader of lines has given, over any number of calls.
-use Rattle.std.specs.Prelude.{◌≡◌, ◌≤◌, ◌+◌, ℕ, List, [], ◌++◌, length, Option, Some, Result}
-use Rattle.std.specs.Io.KnownBytes.{Consumes}
-use Rattle.tte_io.specs.declared.ends.SourceFailed.{SourceFailed}
-use Rattle.tte_io.specs.declared.lines.LineTaken.{LineTaken}
-use Rattle.tte_io.specs.Line.{ahead_limit}
-use Rattle.tte_io.specs.ReaderState.{LineReaderState, pending, at_rest}
-use Rattle.tte_io.specs.NextLine.{NextLine}
+use Rattle.std.specs.{Io.KnownBytes.Consumes, Prelude.{◌++◌, ◌+◌, ◌≡◌, ◌≤◌, List, Option, Result, Some, [], length, ℕ}}
+use Rattle.tte_io.specs.{Line.ahead_limit, NextLine.NextLine, ReaderState.{LineReaderState, at_rest, pending}}
+use Rattle.tte_io.specs.declared.{ends.SourceFailed.SourceFailed, lines.LineTaken.LineTaken}
 
 -- since `first` was left in the source, the reader has read what it gave and what is pending
 pub record HasGiven (first : Option (List ℕ)) (given : List ℕ) (reader : LineReaderState)

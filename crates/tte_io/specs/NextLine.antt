@@ -1,10 +1,10 @@
 -- What taking the next line reads, gives and keeps.
-use Rattle.std.specs.Prelude.{◌≡◌, ◌≢◌, ◌⊎◌, ℕ, ◌≤◌, List, [], ◌∷◌, ◌++◌, length, Bool, true, false, Option, Some, None, Result, Ok, Err}
 use Rattle.std.specs.Io.KnownBytes.{Consumes, IsAtEnd}
+use Rattle.std.specs.Prelude.{◌++◌, ◌∷◌, ◌≡◌, ◌≢◌, ◌≤◌, ◌⊎◌, Bool, Err, List, None, Ok, Option, Result, Some, [], false}
+use Rattle.std.specs.Prelude.{length, true, ℕ}
+use Rattle.tte_io.specs.{Line.{IsLine, IsTooLong, ahead_limit, lf}, ReaderState.{LineReaderState, at_end, pending}}
 use Rattle.tte_io.specs.declared.lines.LineTaken.{LineTaken}
 use Rattle.tte_io.specs.declared.lines.LineTaken.TheVariants as taken
-use Rattle.tte_io.specs.Line.{lf, ahead_limit, IsLine, IsTooLong}
-use Rattle.tte_io.specs.ReaderState.{LineReaderState, pending, at_end}
 
 -- the line is taken: it is given with its LF, or it is what was left when the source ended
 pub record TakesLine (given : List ℕ) (after : LineReaderState) (left : Option (List ℕ)) : Type 0 where
@@ -16,7 +16,8 @@ pub record TakesLine (given : List ℕ) (after : LineReaderState) (left : Option
       ≡ record { kept = []; ahead = after.ahead; text = Some text; long = false; ended = after.ended }
 
 -- the source has ended, or had ended before, and no line is unfinished
-pub record FindsEnd (had_ended : Bool) (given : List ℕ) (after : LineReaderState) (left : Option (List ℕ)) : Type 0 where
+pub record FindsEnd (had_ended : Bool) (given : List ℕ) (after : LineReaderState) (left : Option (List ℕ)) : Type
+    0 where
   pub none : given ≡ []
   pub reader : after ≡ at_end
   pub end : (had_ended ≡ true) ⊎ IsAtEnd left

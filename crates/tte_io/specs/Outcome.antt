@@ -1,9 +1,9 @@
 -- What comes of the octets to come, where a source tells them.
-use Rattle.std.specs.Prelude.{◌≡◌, ◌≢◌, ℕ, ◌<◌, ◌≤◌, ⊤, Bool, false, List, [], ◌∷◌, ◌++◌, length, Option, Some, None, Result, Ok, Err}
-use Rattle.tte_io.specs.declared.lines.LineTaken.{LineTaken}
+use Rattle.std.specs.Prelude.{◌++◌, ◌<◌, ◌∷◌, ◌≡◌, ◌≢◌, ◌≤◌, Bool, Err, List, None, Ok, Option, Result, Some, [], false}
+use Rattle.std.specs.Prelude.{length, ℕ, ⊤}
+use Rattle.tte_io.specs.Line.{behind_line, first_line, lf, line_limit}
+use Rattle.tte_io.specs.{ReaderState.{LineReaderState, pending, to_come}, declared.lines.LineTaken.LineTaken}
 use Rattle.tte_io.specs.declared.lines.LineTaken.TheVariants as taken
-use Rattle.tte_io.specs.Line.{lf, line_limit, first_line, behind_line}
-use Rattle.tte_io.specs.ReaderState.{LineReaderState, pending, to_come}
 
 -- what comes of the octets to come: from those before the call, by its answer, to those after it; a line that is taken
 -- has its LF, unless the end of the source was found

@@ -1,10 +1,8 @@
 -- What a reader of lines shows of its two stores.
-use Rattle.std.specs.Prelude.{ℕ, List, [], Some, None, Bool, true, false, Result, Ok, Err}
-use Rattle.tte_io.specs.declared.lines.LineTaken.{LineTaken}
+use Rattle.std.specs.Prelude.{Bool, Err, List, None, Ok, Result, Some, [], false, true, ℕ}
+use Rattle.tte_io.specs.{ReaderState.LineReaderState, declared.lines.{LineTaken.LineTaken, Progress.Progress}}
+use Rattle.tte_io.specs.declared.lines.Progress.TheVariants.{Taken, TooLong, Unfinished}
 use Rattle.tte_io.specs.declared.lines.LineTaken.TheVariants as answer
-use Rattle.tte_io.specs.declared.lines.Progress.{Progress}
-use Rattle.tte_io.specs.declared.lines.Progress.TheVariants.{Unfinished, Taken, TooLong}
-use Rattle.tte_io.specs.ReaderState.{LineReaderState}
 
 -- the reader, by how far the stored line has come, by the octets ahead, and by whether the end was found
 abbrev pub reader_state : Progress → List ℕ → List ℕ → Bool → LineReaderState

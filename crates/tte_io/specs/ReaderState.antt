@@ -1,5 +1,5 @@
 -- What a reader of lines keeps.
-use Rattle.std.specs.Prelude.{◌≡◌, ℕ, List, [], ◌++◌, Bool, true, false, if◌then◌else◌, Option, None}
+use Rattle.std.specs.Prelude.{if◌then◌else◌, ◌++◌, ◌≡◌, Bool, List, None, Option, [], false, true, ℕ}
 use Rattle.tte_io.specs.Line.{IsTooLong}
 
 -- a reader of lines

@@ -1,9 +1,7 @@
 -- The steps of taking a line.
-use Rattle.std.specs.Prelude.{◌≡◌, ◌≢◌, ◌≤◌, ℕ, List, [], ◌∷◌, ◌++◌, length, Option}
-use Rattle.std.specs.Io.KnownBytes.{Consumes}
-use Rattle.tte_io.specs.declared.taking.Step.{Step}
-use Rattle.tte_io.specs.declared.taking.Step.TheVariants.{Ended, Unfinished, TooLong}
-use Rattle.tte_io.specs.Line.{lf, ahead_limit, IsLine, IsTooLong}
+use Rattle.std.specs.{Io.KnownBytes.Consumes, Prelude.{◌++◌, ◌∷◌, ◌≡◌, ◌≢◌, ◌≤◌, List, Option, [], length, ℕ}}
+use Rattle.tte_io.specs.{Line.{IsLine, IsTooLong, ahead_limit, lf}, declared.taking.Step.Step}
+use Rattle.tte_io.specs.declared.taking.Step.TheVariants.{Ended, TooLong, Unfinished}
 
 -- a read adds to what is ahead, and only where nothing is
 pub record Fills (ahead : List ℕ) (left : Option (List ℕ)) (ahead_after : List ℕ)

@@ -1,6 +1,5 @@
 -- Octets that a source or a sink tells.
-use Rattle.std.specs.Prelude.{◌≡◌, ◌↔◌, ℕ, ◌<◌, List, [], ◌++◌, length, IfSome}
-use Rattle.std.specs.Io.KnownBytes.{Appends}
+use Rattle.std.specs.{Io.KnownBytes.Appends, Prelude.{◌++◌, ◌<◌, ◌↔◌, ◌≡◌, IfSome, List, [], length, ℕ}}
 use Rattle.std.specs.declared.option.Option.{Option}
 
 -- what was written grows by a front of these octets

@@ -1,7 +1,5 @@
 -- What reading all of a source takes from it.
-use Rattle.std.specs.Prelude.{ℕ, ◌<◌, List, length}
-use Rattle.std.specs.Io.KnownBytes.{Consumes}
-use Rattle.std.specs.declared.option.Option.{Option}
+use Rattle.std.specs.{Io.KnownBytes.Consumes, Prelude.{◌<◌, List, length, ℕ}, declared.option.Option.Option}
 
 -- some octets were taken from the source, the next ones
 abbrev pub TakesSome : Option (List ℕ) → Option (List ℕ) → Type 0

@@ -1,8 +1,5 @@
-ghost use Rattle.std.specs.Prelude.{◌≡◌, ◌≤◌, ◌↔◌, [], length, drop, IsTrue, OnOk, OnErr};
-ghost use Rattle.std.specs.Io.KnownBytes.{IsAtEnd};
-ghost use Rattle.tte_io.specs.Faults.{Rose};
-ghost use Rattle.tte_io.specs.Line.{ahead_limit};
-ghost use Rattle.tte_io.specs.Steps.{Fills};
+ghost use Rattle.std.specs.{Io.KnownBytes.IsAtEnd, Prelude.{◌↔◌, ◌≡◌, ◌≤◌, IsTrue, OnErr, OnOk, [], drop, length}};
+ghost use Rattle.tte_io.specs.{Faults.Rose, Line.ahead_limit, Steps.Fills};
 
 use crate::{Source, SourceFailed};
 use std::marker::Model;

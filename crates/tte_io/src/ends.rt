@@ -1,9 +1,6 @@
-ghost use Rattle.std.specs.Prelude.{◌≡◌, ◌≤◌, ℕ, List, IfOk, OnOk, OnErr, MatchResult};
-ghost use Rattle.std.specs.Io.{ReadsAtMost};
-ghost use Rattle.std.specs.Io.KnownBytes.{Appends, Keeps, ReadConsumes};
-ghost use Rattle.std.specs.declared.option.Option.{Option};
-ghost use Rattle.tte_io.specs.Faults.{Rose, next_count};
-ghost use Rattle.tte_io.specs.Told.{AppendsFront, IsZeroExactlyAtEnd, PassesSome};
+ghost use Rattle.std.specs.Io.{ReadsAtMost, KnownBytes.{Appends, Keeps, ReadConsumes}};
+ghost use Rattle.std.specs.{Prelude.{◌≡◌, ◌≤◌, IfOk, List, MatchResult, OnErr, OnOk, ℕ}, declared.option.Option.Option};
+ghost use Rattle.tte_io.specs.{Faults.{Rose, next_count}, Told.{AppendsFront, IsZeroExactlyAtEnd, PassesSome}};
 
 /// A read failed.
 #[derive(Clone, Copy, Debug, PartialEq, Eq)]

@@ -2,9 +2,11 @@
 #![tactic(auto)]
 
 mod ahead;
+mod digits;
 mod edge;
 mod ends;
 mod held;
+mod hexadecimal;
 mod laws;
 mod line_text;
 mod lines;

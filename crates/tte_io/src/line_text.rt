@@ -2,7 +2,9 @@ ghost use Rattle.std.specs.Prelude.{◌≡◌, ◌≤◌, ◌+◌, ◌*◌, ◌�
 ghost use Rattle.tte_io.specs.Line.{line_limit};
 ghost use Rattle.hex.specs.Hex.{encode_lower};
 
-use itoa::Buffer;
+use crate::digits::digit_count;
+use crate::hexadecimal::spell;
+use itoa::write_digits;
 use std::marker::Model;
 
 /// How many octets a line has at most.
@@ -96,8 +98,9 @@ impl LineText {
         if n < 10 {
             self.push_octet(b'0' + n as u8);
         } else {
-            let mut buffer = Buffer::new();
-            self.push(buffer.format(n));
+            let end = self.len + digit_count(n);
+            write_digits(n, &mut self.octets, end);
+            self.len = end;
         }
     }
 
@@ -108,10 +111,8 @@ impl LineText {
         ensures grows { length self.new ≡ length self.old + 2 * length octets.now }
     {
         let end = self.len + 2 * octets.len();
-        match hex::encode_to_slice(octets, &mut self.octets[self.len..end]) {
-            Ok(()) => self.len = end,
-            Err(_) => unreachable!(),
-        }
+        spell(octets, &mut self.octets[self.len..end]);
+        self.len = end;
     }
 
     /// The text.

@@ -1,4 +1,5 @@
-ghost use Rattle.std.specs.Prelude.{◌≡◌, ◌≤◌, ◌<◌, ℕ, List, [], Option, Some, Ok, true, false, length, IfNone, IfSome, IsSome, OnOk, OnErr};
+ghost use Rattle.std.specs.Prelude.{◌<◌, ◌≡◌, ◌≤◌, IfNone, IfSome, IsSome, List, Ok, OnErr, OnOk, Option, Some, []};
+ghost use Rattle.std.specs.Prelude.{false, length, true, ℕ};
 ghost use Rattle.tte_io.specs.Faults.{Rose};
 
 use crate::ahead::Ahead;
@@ -37,9 +38,8 @@ pub struct LineReader {
 
 impl Model for LineReader {
     ghost use Rattle.std.specs.Prelude.{◌≤◌, length};
-    ghost use Rattle.tte_io.specs.Line.{IsLine, ahead_limit};
-    ghost use Rattle.tte_io.specs.ReaderState.{LineReaderState, KeepsEnd, KeepsLongLine};
-    ghost use Rattle.tte_io.specs.Progress.{reader_state};
+    ghost use Rattle.tte_io.specs.{Line.{IsLine, ahead_limit}, Progress.reader_state};
+    ghost use Rattle.tte_io.specs.ReaderState.{KeepsEnd, KeepsLongLine, LineReaderState};
 
     ghost Value = { LineReaderState };
 
@@ -51,10 +51,8 @@ impl Model for LineReader {
 }
 
 impl LineReader {
-    ghost use Rattle.tte_io.specs.Line.{line_limit, ahead_limit};
-    ghost use Rattle.tte_io.specs.NextLine.{KeepsLine, NextLine};
-    ghost use Rattle.tte_io.specs.Outcome.{TellsOutcome};
-    ghost use Rattle.tte_io.specs.ReaderState.{at_rest, pending};
+    ghost use Rattle.tte_io.specs.{Line.{ahead_limit, line_limit}, NextLine.{KeepsLine, NextLine}};
+    ghost use Rattle.tte_io.specs.{Outcome.TellsOutcome, ReaderState.{at_rest, pending}};
 
     /// A reader that has read nothing.
     pub fn new() -> LineReader

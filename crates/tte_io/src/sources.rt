@@ -1,9 +1,8 @@
-ghost use Rattle.std.specs.Prelude.{◌≡◌, ◌≤◌, ◌+◌, ◌↔◌, ℕ, List, length, drop, min, IsOk, IsErr, IfOk, OnOk, OnErr, Contains, Some};
-ghost use Rattle.std.specs.Io.{ReadsAtMost};
-ghost use Rattle.std.specs.Io.KnownBytes.{ReadConsumes};
-ghost use Rattle.tte_io.specs.Faults.{Rose};
+ghost use Rattle.std.specs.Io.{ReadsAtMost, KnownBytes.ReadConsumes};
+ghost use Rattle.std.specs.Prelude.{◌+◌, ◌↔◌, ◌≡◌, ◌≤◌, Contains, IfOk, IsErr, IsOk, List, OnErr, OnOk, Some, drop};
+ghost use Rattle.std.specs.Prelude.{length, min, ℕ};
+ghost use Rattle.tte_io.specs.{Faults.Rose, InMemory.{after_failed_read, after_giving, fresh_source}};
 ghost use Rattle.tte_io.specs.Told.{IsZeroExactlyAtEnd};
-ghost use Rattle.tte_io.specs.InMemory.{fresh_source, after_giving, after_failed_read};
 
 use crate::memory::Calls;
 use crate::{OutOfMemory, Source, SourceFailed};

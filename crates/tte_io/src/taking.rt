@@ -1,13 +1,11 @@
-ghost use Rattle.std.specs.Prelude.{◌≡◌, ◌≢◌, ◌⊎◌, ◌≤◌, ◌+◌, ◌<◌, ℕ, false, List, [], ◌∷◌, ◌++◌, length, take, drop, IfSome, IfNone, OnOk, OnErr};
-ghost use Rattle.tte_io.specs.Faults.{Rose};
-ghost use Rattle.tte_io.specs.NextLine.{NextLine};
-ghost use Rattle.tte_io.specs.Outcome.{TellsOutcome};
-ghost use Rattle.tte_io.specs.Progress.{reader_state, progress_after};
-ghost use Rattle.tte_io.specs.Line.{lf, ahead_limit, IsUnbroken, IsLine};
-ghost use Rattle.tte_io.specs.Steps.{Advances};
+ghost use Rattle.std.specs.Prelude.{◌++◌, ◌+◌, ◌<◌, ◌∷◌, ◌≡◌, ◌≢◌, ◌≤◌, ◌⊎◌, IfNone, IfSome, List, OnErr, OnOk, []};
+ghost use Rattle.std.specs.Prelude.{drop, false, length, take, ℕ};
+ghost use Rattle.tte_io.specs.{Faults.Rose, Line.{IsLine, IsUnbroken, ahead_limit, lf}, NextLine.NextLine};
+ghost use Rattle.tte_io.specs.{Outcome.TellsOutcome, Progress.{progress_after, reader_state}, Steps.Advances};
 
 use crate::ahead::Ahead;
 use crate::{LineTaken, LineText, Source, SourceFailed};
+use memchr::memchr;
 
 /// What the octets ahead brought.
 pub(crate) enum Step {
@@ -25,8 +23,7 @@ fn before_lf(octets: &[u8]) -> usize
     ensures unbroken { IsUnbroken (take result octets.now) }
     ensures found { result < length octets.now → drop result octets.now ≡ lf ∷ drop (result + 1) octets.now }
 {
-    let found = octets.iter().position(|&octet| octet == b'\n');
-    found.unwrap_or(octets.len())
+    memchr(b'\n', octets).unwrap_or(octets.len())
 }
 
 /// Moves the octets ahead into the line, up to the LF, which it lets go. A line that they would

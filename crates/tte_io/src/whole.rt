@@ -1,7 +1,6 @@
-ghost use Rattle.std.specs.Prelude.{◌≡◌, ◌≢◌, ◌<◌, ◌≤◌, length, IfOk, OnOk, IfSome, Err};
 ghost use Rattle.std.specs.Io.KnownBytes.{Consumes, IsAtEnd};
-ghost use Rattle.tte_io.specs.Faults.{Rose};
-ghost use Rattle.tte_io.specs.Whole.{TakesSome, TakesTooMany};
+ghost use Rattle.std.specs.Prelude.{◌<◌, ◌≡◌, ◌≢◌, ◌≤◌, Err, IfOk, IfSome, OnOk, length};
+ghost use Rattle.tte_io.specs.{Faults.Rose, Whole.{TakesSome, TakesTooMany}};
 
 use crate::Source;
 use std::alloc::Global;

@@ -1,13 +1,6 @@
-use Rattle.std.proofs.Common.{◌≡◌, ◌∙◌, ℕ, List, ap, sym, refl}
-use Rattle.std.specs.Option.{option_map}
-use Rattle.std.proofs.lemmas.List.Elements.{All-weaker}
-use Rattle.net_plan.specs.NameText.{IsNameText}
-use Rattle.net_plan.specs.Bearers.{device_names}
-use Rattle.net_plan.specs.Ranges.{IsDeviceInRange}
-use Rattle.net_plan.specs.declared.ids.DeviceId.{DeviceId}
-use Rattle.net_plan.specs.declared.tables.Device.{Device}
-use Rattle.trace_text.specs.Names.{device_spelled, device_id, first_place}
-use Rattle.trace_text.proofs.Bearing.{IsNamed, named_place, named_within, place_absent, bears_utf8}
+use Rattle.std.{proofs.{Common.{◌∙◌, ◌≡◌, List, ap, refl, sym, ℕ}, lemmas.List.Elements.All-weaker}, specs.Option.option_map}
+use Rattle.net_plan.specs.{Bearers.device_names, NameText.IsNameText, Ranges.IsDeviceInRange, declared.{ids.DeviceId.DeviceId, tables.Device.Device}}
+use Rattle.trace_text.{proofs.Bearing.{IsNamed, bears_utf8, named_place, named_within, place_absent}, specs.Names.{device_id, device_spelled, first_place}}
 use Rattle.trace_text.proofs.names.device_spelled.Goals as goal
 
 abbrev number : DeviceId → ℕ

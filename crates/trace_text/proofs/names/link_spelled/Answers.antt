@@ -1,13 +1,6 @@
-use Rattle.std.proofs.Common.{◌≡◌, ◌∙◌, ℕ, List, ap, sym, refl}
-use Rattle.std.specs.Option.{option_map}
-use Rattle.std.proofs.lemmas.List.Elements.{All-weaker}
-use Rattle.net_plan.specs.NameText.{IsNameText}
-use Rattle.net_plan.specs.Bearers.{link_names}
-use Rattle.net_plan.specs.Ranges.{IsLinkInRange}
-use Rattle.net_plan.specs.declared.ids.LinkId.{LinkId}
-use Rattle.net_plan.specs.declared.tables.Link.{Link}
-use Rattle.trace_text.specs.Names.{link_spelled, link_id, first_place}
-use Rattle.trace_text.proofs.Bearing.{IsNamed, named_place, named_within, place_absent, bears_utf8}
+use Rattle.std.{proofs.{Common.{◌∙◌, ◌≡◌, List, ap, refl, sym, ℕ}, lemmas.List.Elements.All-weaker}, specs.Option.option_map}
+use Rattle.net_plan.specs.{Bearers.link_names, NameText.IsNameText, Ranges.IsLinkInRange, declared.{ids.LinkId.LinkId, tables.Link.Link}}
+use Rattle.trace_text.{proofs.Bearing.{IsNamed, bears_utf8, named_place, named_within, place_absent}, specs.Names.{first_place, link_id, link_spelled}}
 use Rattle.trace_text.proofs.names.link_spelled.Goals as goal
 
 abbrev number : LinkId → ℕ

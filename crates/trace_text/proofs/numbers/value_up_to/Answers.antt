@@ -1,7 +1,5 @@
-use Rattle.std.proofs.Common.{true, ◌≡◌, ◌+◌, ◌-◌, ◌<◌, length, get_or, arith, rules}
-use Rattle.std.specs.Char.{digit_value, is_ascii_digit}
-use Rattle.std.proofs.lemmas.Int.Digits.{digits_more, digits_value_more}
-use Rattle.std.proofs.lemmas.Str.Parse.{digits_value-take-le}
+use Rattle.std.proofs.{Common.{◌+◌, ◌-◌, ◌<◌, ◌≡◌, arith, get_or, length, rules, true}, lemmas.Int.Digits.{digits_more, digits_value_more}}
+use Rattle.std.{proofs.lemmas.Str.Parse.digits_value-take-le, specs.Char.{digit_value, is_ascii_digit}}
 use Rattle.trace_text.proofs.Decimals.{digit_shows, digit_spells, digits_pass}
 use Rattle.trace_text.proofs.numbers.value_up_to.Goals as goal
 

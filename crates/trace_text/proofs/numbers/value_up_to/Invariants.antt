@@ -1,5 +1,4 @@
-use Rattle.std.proofs.Common.{◌≡◌, ◌≤◌, take}
-use Rattle.std.specs.Str.Parse.{AllDigits, digits_value}
+use Rattle.std.{proofs.Common.{◌≡◌, ◌≤◌, take}, specs.Str.Parse.{AllDigits, digits_value}}
 use Rattle.trace_text.proofs.numbers.value_up_to.Given as goal
 
 abbrev pub invariant-digits : goal.invariant-digits

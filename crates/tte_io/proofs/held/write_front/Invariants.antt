@@ -1,4 +1,4 @@
-use Rattle.std.proofs.Common.{◌≤◌, ◌-◌, length}
+use Rattle.std.proofs.Common.{◌-◌, ◌≤◌, length}
 use Rattle.tte_io.proofs.held.write_front.Given as goal
 
 abbrev pub invariant-pieces : goal.invariant-pieces

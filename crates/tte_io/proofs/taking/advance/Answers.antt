@@ -1,4 +1,4 @@
-use Rattle.std.proofs.Common.{length, refl, ap, arith}
+use Rattle.std.proofs.Common.{ap, arith, length, refl}
 use Rattle.tte_io.proofs.LongLines.{too_long_behind}
 use Rattle.tte_io.proofs.taking.advance.Goals as goal
 

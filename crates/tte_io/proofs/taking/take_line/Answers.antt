@@ -1,7 +1,5 @@
-use Rattle.std.proofs.Common.{◌∙◌, refl, arith}
-use Rattle.std.proofs.lemmas.Result.{err_from_is_err_and}
-use Rattle.tte_io.proofs.Making.{making_filled, making_advanced, taken_at_lf, found_too_long, taken_at_end, kept_after_failure}
-use Rattle.tte_io.proofs.Coming.{outcome_told}
+use Rattle.std.proofs.{Common.{◌∙◌, arith, refl}, lemmas.Result.err_from_is_err_and}
+use Rattle.tte_io.proofs.{Coming.outcome_told, Making.{found_too_long, kept_after_failure, making_advanced, making_filled, taken_at_end, taken_at_lf}}
 use Rattle.tte_io.proofs.taking.take_line.Goals as goal
 
 pub returns-in_err-fill-clause-next : goal.returns-in_err-fill-clause-next

@@ -1,5 +1,4 @@
-use Rattle.std.proofs.Common.{◌≡◌, ◌≤◌, ◌-◌, length}
-use Rattle.std.specs.Io.KnownBytes.{Consumes}
+use Rattle.std.{proofs.Common.{◌-◌, ◌≡◌, ◌≤◌, length}, specs.Io.KnownBytes.Consumes}
 use Rattle.tte_io.proofs.whole.read_all.Given as goal
 
 abbrev pub invariant-pieces : goal.invariant-pieces

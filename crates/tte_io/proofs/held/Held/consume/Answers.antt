@@ -1,7 +1,5 @@
-use Rattle.std.proofs.Common.{◌≡◌, ◌+◌, ◌-◌, length, take, drop, sym, ap, ◌∙◌, arith, length-drop, length-take-le}
+use Rattle.std.proofs.{Common.{◌+◌, ◌-◌, ◌∙◌, ◌≡◌, ap, arith, drop, length, length-drop, length-take-le, sym, take}, lemmas.List.{drop-take, Edits.take-paste}}
 use lib.Seq.{paste}
-use Rattle.std.proofs.lemmas.List.{drop-take}
-use Rattle.std.proofs.lemmas.List.Edits.{take-paste}
 use Rattle.tte_io.proofs.held.Held.consume.Goals as goal
 
 pub returns : goal.returns

@@ -1,14 +1,9 @@
-use Rattle.std.proofs.Common.{◌≡◌, sym, ap, subst, ◌∙◌, refl, Ok}
-use Rattle.tte_io.specs.declared.lines.LineTaken.TheVariants.{Long}
-use Rattle.tte_io.specs.declared.lines.Progress.{Progress}
-use Rattle.tte_io.specs.declared.lines.Progress.TheVariants.{TooLong}
-use Rattle.tte_io.specs.declared.ends.SourceFailed.{SourceFailed}
-use Rattle.tte_io.specs.ReaderState.{LineReaderState, KeepsEnd, KeepsLongLine, pending}
-use Rattle.tte_io.specs.NextLine.{NextLine}
-use Rattle.tte_io.specs.Progress.{reader_state}
-use Rattle.tte_io.proofs.Making.{MadeOf, Making, found_ended, found_too_long, long_unended, made_next, made_on, making_next, making_on, still_too_long, taken_at_lf}
+use Rattle.std.proofs.Common.{◌∙◌, ◌≡◌, Ok, ap, refl, subst, sym}
+use Rattle.tte_io.proofs.Making.{MadeOf, Making, found_ended, found_too_long, long_unended, made_next, made_on, making_next, making_on, still_too_long}
+use Rattle.tte_io.{proofs.{Making.taken_at_lf, lines.LineReader.line_ahead.Goals.{in-Taken, in-Unfinished}}, specs.{NextLine.NextLine, Progress.reader_state}}
+use Rattle.tte_io.specs.{ReaderState.{KeepsEnd, KeepsLongLine, LineReaderState, pending}, declared.ends.SourceFailed.SourceFailed}
+use Rattle.tte_io.specs.declared.lines.{LineTaken.TheVariants.Long, Progress.{Progress, TheVariants.TooLong}}
 use Rattle.tte_io.proofs.lines.LineReader.line_ahead.Goals as goal
-use Rattle.tte_io.proofs.lines.LineReader.line_ahead.Goals.{in-Taken, in-Unfinished}
 
 pub returns-in-TooLong-clause-found : goal.returns-in-TooLong-clause-found
 returns-in-TooLong-clause-found c left =
@@ -30,7 +25,8 @@ returns-in-Ended-clause-found c left =
     elim c.match-self.branch [
       | in-Taken w ↦
           rw w.self-inside-is (making_next r.progress r.line r.ahead r.ended w.clear.new.self c.args.self.now left c.self.view_is w.in-Taken.is w.clear.ensures)
-      | in-Unfinished w ↦ rw w.self-inside-is (making_on r.progress r.line r.ahead r.ended c.args.self.now left c.self.view_is w.in-Unfinished.is c.self.invariant.0)
+      | in-Unfinished w ↦ rw w.self-inside-is (making_on r.progress r.line r.ahead r.ended c.args.self.now left c.self.view_is w.in-Unfinished.is
+          c.self.invariant.0)
     ] in
     let made : MadeOf c.args.self.now at.line at.ahead at.ended =
     elim c.match-self.branch [
@@ -49,7 +45,8 @@ returns-in-TooLong-advance-clause-found c left =
     elim c.match-self.branch [
       | in-Taken w ↦
           rw w.self-inside-is (making_next r.progress r.line r.ahead r.ended w.clear.new.self c.args.self.now left c.self.view_is w.in-Taken.is w.clear.ensures)
-      | in-Unfinished w ↦ rw w.self-inside-is (making_on r.progress r.line r.ahead r.ended c.args.self.now left c.self.view_is w.in-Unfinished.is c.self.invariant.0)
+      | in-Unfinished w ↦ rw w.self-inside-is (making_on r.progress r.line r.ahead r.ended c.args.self.now left c.self.view_is w.in-Unfinished.is
+          c.self.invariant.0)
     ] in
     let made : MadeOf c.args.self.now at.line at.ahead at.ended =
     elim c.match-self.branch [

@@ -1,6 +1,5 @@
-use Rattle.std.proofs.Common.{◌≡◌, take, ap, ◌∙◌}
-use Rattle.tte_io.specs.InMemory.{SinkState}
-use Rattle.tte_io.proofs.Passing.{passes_none, passed_still}
+use Rattle.std.proofs.Common.{◌∙◌, ◌≡◌, ap, take}
+use Rattle.tte_io.{proofs.Passing.{passed_still, passes_none}, specs.InMemory.SinkState}
 use Rattle.tte_io.proofs.sinks.MemorySinkSink.put.Goals as goal
 
 pub returns-then-fails-clause-passes : goal.returns-then-fails-clause-passes
