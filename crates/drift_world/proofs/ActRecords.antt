@@ -1,59 +1,26 @@
 -- The records of an act are those of the law, and are put in.
-use Rattle.std.proofs.Common.{◌≡◌, ℕ, ◌≤◌, ◌==◌, Bool, true, false, Option, Some, None, List, [], ◌∷◌, ◌++◌, map, inl, inr, refl, sym, ap, subst, ◌∙◌, arith}
-use Rattle.std.specs.Prelude.{if◌then◌else◌, ◌⊎◌}
-use Rattle.std.specs.Option.{option_map, option_map_or}
-use Rattle.std.proofs.lemmas.Bool.{ne_eqb}
-use Rattle.std.proofs.lemmas.Option.{slice_get_within}
-use Rattle.net_plan.specs.declared.ids.DeviceId.{DeviceId}
+use Rattle.drift_world.proofs.Words.{if◌then◌else◌, ◌++◌, ◌==◌, ◌∙◌, ◌∷◌, ◌≡◌, ◌≤◌, ◌⊎◌, ArePutIn, Bool, DeviceId, Happening, HasItsOctets, Holding}
+use Rattle.drift_world.proofs.Words.{Integrating, IsBefore, IsIn, IsSomePut, Joining, List, Network, Node, None, NoteBody, Off, Option, Pcf, Scenario, Settled}
+use Rattle.drift_world.proofs.Words.{Some, Units, [], act_place, amount, ap, arith, false, in_parts, in_right, inl, inr, is_cut, map, moment_of, none_yet}
+use Rattle.drift_world.proofs.Words.{octets_from, octets_of, option_map_or, own_place, rank, refl, settled_as, settled_at, slice_get_within, stored_as, subst}
+use Rattle.drift_world.proofs.Words.{sym, true, way_from, ℕ}
+use Rattle.std.{proofs.lemmas.Bool.ne_eqb, specs.Option.option_map}
 use Rattle.net_plan.specs.declared.ids.RowId.{RowId}
-use Rattle.net_plan.specs.declared.network.Network.{Network}
-use Rattle.pcf_values.specs.declared.pcf.Pcf.{Pcf}
-use Rattle.run_law.proofs.runs.Places.{in_left, in_parts, in_right}
+use Rattle.run_law.{proofs.runs.Places.in_left, specs.{declared.steps.{Act.Act, Ripe.Ripe}, machines.{Answers.IsActOf, Nodes.dispatching}}}
+use Rattle.run_law.specs.{machines.Tasks.{IsFirstTask, doing}, records.{Frames.{dispatched_frame, tt_frame}, Ranks.{key, sign}}, timed.Dispatching.HasAtHand}
+use Rattle.schedule_tables.specs.{Entries.IsEntry, declared.entry.Entry.Entry}
+use Rattle.sync_state.specs.declared.{answers.Verdict.{Verdict, TheVariants.{AsyncClique, Cleared, Corrected, SyncClique}}, state.State.State as Standing}
+use Rattle.sync_state.specs.declared.state.State.TheVariants.{Synchronised}
+use Rattle.world_law.{proofs.rows.AtHand.sender_or, specs.world.{Moves.IsPutIn, Outcomes.judged_as, World.{AreStored, Stored}}}
+use Rattle.world_state.proofs.Made.{made_octets}
+use Rattle.world_state.specs.Acting.{AreOutcomes, IsHeldIn, bare, bodies_of, body_of, corrected_by, dispatched_by, emitted_by, first_by, framed, joined_by}
+use Rattle.world_state.specs.{Acting.sent_by, declared.{contents.Timed.TheVariants.Made, hands.AtHand.AtHand, outcomes.Outcomes.Outcomes}}
+use Rattle.world_steps.{proofs.acting.{Held.{IsHeldFrame, held_frame}, Stage.Stage}, specs.Acting.{AreActBodies, first_bodies, joining_bodies}}
+use Rattle.drift_world.proofs.{HiddenCauses.InOrder, Puts.{is_put_in, order_put}}
 use Rattle.run_law.specs.declared.judgement.Why.TheVariants as whys
 use Rattle.run_law.specs.declared.note.NoteBody.TheVariants as kinds
-use Rattle.run_law.specs.declared.note.NoteBody.{NoteBody}
 use Rattle.run_law.specs.declared.steps.Act.TheVariants as acts
-use Rattle.run_law.specs.declared.steps.Act.{Act}
 use Rattle.run_law.specs.declared.steps.Ripe.TheVariants as ripe
-use Rattle.run_law.specs.declared.steps.Ripe.{Ripe}
-use Rattle.run_law.specs.machines.Answers.{IsActOf}
-use Rattle.run_law.specs.machines.Nodes.{Node, dispatching}
-use Rattle.run_law.specs.machines.Tasks.{IsFirstTask, doing}
-use Rattle.run_law.specs.records.Frames.{dispatched_frame, tt_frame}
-use Rattle.run_law.specs.records.Happenings.{Happening, octets_from}
-use Rattle.run_law.specs.records.Order.{IsBefore, IsIn}
-use Rattle.run_law.specs.records.Ranks.{key, rank, sign}
-use Rattle.run_law.specs.scenario.Scenarios.{Scenario}
-use Rattle.run_law.specs.scenario.Ways.{is_cut, way_from}
-use Rattle.run_law.specs.timed.Dispatching.{HasAtHand}
-use Rattle.schedule_tables.specs.Entries.{IsEntry}
-use Rattle.schedule_tables.specs.declared.entry.Entry.{Entry}
-use Rattle.sync_state.specs.declared.answers.Verdict.TheVariants.{Corrected, SyncClique, AsyncClique, Cleared}
-use Rattle.sync_state.specs.declared.answers.Verdict.{Verdict}
-use Rattle.sync_state.specs.declared.state.State.TheVariants.{Off, Integrating, Joining, Synchronised}
-use Rattle.sync_state.specs.declared.state.State.{State as Standing}
-use Rattle.tte_units.specs.Amount.{amount}
-use Rattle.tte_units.specs.declared.units.Units.{Units}
-use Rattle.drift_world.proofs.HiddenCauses.{InOrder}
-use Rattle.world_state.proofs.Made.{made_octets}
-use Rattle.drift_world.proofs.Puts.{is_put_in, order_put}
-use Rattle.world_state.specs.Acting.{AreOutcomes, IsHeldIn, bare, bodies_of, body_of, corrected_by, dispatched_by, emitted_by, first_by, framed, joined_by, sent_by}
-use Rattle.world_state.specs.Giving.{HasItsOctets}
-use Rattle.world_state.specs.Places.{IsSomePut, own_place}
-use Rattle.world_state.specs.Views.{octets_of, settled_at, stored_as}
-use Rattle.world_state.specs.declared.hands.AtHand.{AtHand}
-use Rattle.world_state.specs.declared.contents.Holding.{Holding}
-use Rattle.world_state.specs.declared.contents.Settled.{Settled}
-use Rattle.world_state.specs.declared.contents.Timed.TheVariants.{Made}
-use Rattle.world_state.specs.declared.outcomes.Outcomes.{Outcomes}
-use Rattle.world_steps.proofs.acting.Held.{IsHeldFrame, held_frame}
-use Rattle.world_steps.proofs.acting.Stage.{Stage}
-use Rattle.world_law.proofs.rows.AtHand.{sender_or}
-use Rattle.world_steps.specs.Acting.{AreActBodies, first_bodies, joining_bodies}
-use Rattle.world_law.specs.world.Outcomes.{judged_as}
-use Rattle.world_law.specs.world.Calls.{moment_of}
-use Rattle.world_law.specs.world.Moves.{ArePutIn, IsPutIn, settled_as}
-use Rattle.world_law.specs.world.World.{AreStored, Stored, act_place, none_yet}
 
 -- ---- two records are put in, one after the other
 

@@ -1,48 +1,18 @@
 -- A device acts once.
-use Rattle.std.proofs.Common.{◌≡◌, ℕ, ◌<◌, Bool, true, false, Some, List, map, length, inl, inr, refl, sym, subst}
-use Rattle.std.specs.List.{slice_get}
-use Rattle.std.specs.Prelude.{All, ◌⊎◌}
-use Rattle.std.proofs.lemmas.Option.{slice_get_within}
-use Rattle.net_plan.specs.declared.ids.DeviceId.{DeviceId}
-use Rattle.net_plan.specs.declared.network.Network.{Network}
-use Rattle.run_law.specs.declared.note.Note.{Note}
-use Rattle.run_law.specs.declared.steps.Act.TheVariants as acts
-use Rattle.run_law.specs.declared.steps.Act.{Act}
-use Rattle.run_law.specs.declared.steps.Moment.{Moment}
-use Rattle.run_law.specs.machines.Answers.{IsActOf}
-use Rattle.run_law.specs.machines.Calls.{MayAct, StandsFor}
-use Rattle.run_law.specs.machines.Nodes.{Node}
-use Rattle.run_law.specs.records.Happenings.{Happening, happenings}
-use Rattle.run_law.specs.records.Order.{IsBefore, IsIn}
-use Rattle.run_law.specs.records.Ranks.{place_of}
-use Rattle.run_law.specs.scenario.Scenarios.{Scenario}
+use Rattle.drift_world.proofs.Words.{◌<◌, ◌≡◌, ◌⊎◌, ArePutIn, Bool, ComesFirst, DeviceId, Happening, HasActed, IsAt, IsBefore, IsDueNow, IsIn, IsOf, IsSomePut}
+use Rattle.drift_world.proofs.Words.{Kept, List, Moment, Network, Node, Note, Scenario, Settled, Some, Stands, StandsBehind, StandsFor, Units, act_place, false}
+use Rattle.drift_world.proofs.Words.{happenings, inl, inr, keeps, length, map, moment_of, place_of, refl, settled_at, slice_get_within, stored_as, subst, sym}
+use Rattle.drift_world.proofs.Words.{true, world_of, ℕ}
+use Rattle.std.specs.{List.slice_get, Prelude.All}
+use Rattle.run_law.specs.{declared.steps.Act.Act, machines.{Answers.IsActOf, Calls.MayAct}}
 use Rattle.sync_state.specs.declared.state.State.{State as Standing}
-use Rattle.tte_units.specs.declared.units.Units.{Units}
-use Rattle.drift_world.proofs.ActRecords.{AreProper, IsFine, IsOwn, both_put, order_then, proper, there_then}
-use Rattle.drift_world.proofs.Fits.{all_put_some, have_octets}
-use Rattle.drift_world.proofs.HiddenCauses.{settled_in_order}
-use Rattle.drift_world.proofs.Showings.{shows_of}
-use Rattle.drift_world.specs.Acting.{IsDueAt, IsIdle, act_cursor}
-use Rattle.world_state.specs.Acting.{AreOutcomes, HasItsRow, bodies_of}
-use Rattle.world_state.specs.Keeping.{keeps}
-use Rattle.world_state.specs.Places.{IsSomePut}
-use Rattle.drift_world.specs.Showing.{IsOf}
-use Rattle.drift_world.specs.Stepping.{IsAt}
-use Rattle.drift_world.specs.Views.{world_of}
-use Rattle.world_state.specs.Views.{settled_at, stored_as}
-use Rattle.world_state.specs.declared.contents.Settled.{Settled}
-use Rattle.world_state.specs.declared.kept.Kept.{Kept}
-use Rattle.world_state.specs.declared.outcomes.Outcomes.{Outcomes}
-use Rattle.drift_world.specs.declared.state.State.{State}
-use Rattle.world_steps.proofs.acting.Kept.{may_act_now}
-use Rattle.world_steps.proofs.acting.LastSteps.{last_acted_step}
-use Rattle.world_steps.proofs.acting.Stage.{Stage, stage_of}
-use Rattle.world_steps.proofs.acting.StaySteps.{acted_step}
-use Rattle.world_steps.proofs.steps.Passed.{no_task}
+use Rattle.world_law.specs.world.{Calls.{IsSet, IsStateOf}, World.AreStored}
+use Rattle.world_state.specs.{Acting.{AreOutcomes, HasItsRow, bodies_of}, declared.outcomes.Outcomes.Outcomes}
+use Rattle.world_steps.proofs.{acting.{Kept.may_act_now, LastSteps.last_acted_step, Stage.{Stage, stage_of}, StaySteps.acted_step}, steps.Passed.no_task}
 use Rattle.world_steps.specs.Acting.{Acts}
-use Rattle.world_law.specs.world.Calls.{HasActed, IsDueNow, IsSet, moment_of, IsStateOf}
-use Rattle.world_law.specs.world.Moves.{ArePutIn, ComesFirst, StandsBehind}
-use Rattle.world_law.specs.world.World.{AreStored, Stands, act_place}
+use Rattle.drift_world.proofs.{ActRecords.{AreProper, IsFine, IsOwn, both_put, order_then, proper, there_then}, Fits.{all_put_some, have_octets}}
+use Rattle.drift_world.{proofs.{HiddenCauses.settled_in_order, Showings.shows_of}, specs.{Acting.{IsDueAt, IsIdle, act_cursor}, declared.state.State.State}}
+use Rattle.run_law.specs.declared.steps.Act.TheVariants as acts
 
 -- what an act dispatches is a row of the network
 pub its_row : (network : Network) (device : DeviceId) (node : Node) (moment : Moment) (act : Act) (new : Node) → IsActOf network device node moment act new

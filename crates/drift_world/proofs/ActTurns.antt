@@ -1,34 +1,13 @@
 -- A device acts again and again at one instant.
-use Rattle.std.proofs.Common.{◌≡◌, ℕ, ◌+◌, ◌≤◌, ◌<◌, Bool, true, false, Some, List, map, length, inl, inr, refl, sym, ap, subst, ◌∙◌, arith}
-use Rattle.std.specs.List.{slice_get}
-use Rattle.std.proofs.lemmas.List.{length-map}
-use Rattle.std.specs.Prelude.{All}
-use Rattle.net_plan.specs.declared.ids.DeviceId.{DeviceId}
-use Rattle.net_plan.specs.declared.network.Network.{Network}
-use Rattle.run_law.specs.declared.note.Note.{Note}
+use Rattle.drift_world.proofs.Words.{◌+◌, ◌<◌, ◌∙◌, ◌≡◌, ◌≤◌, Bool, ComesFirst, DeviceId, Happening, HasActed, IsAt, IsBefore, IsDueNow, IsIn, IsSound, Kept}
+use Rattle.drift_world.proofs.Words.{List, Network, NoSourceBefore, Node, Note, Scenario, Settled, Some, Stands, StandsBehind, World, act_place, ap, arith}
+use Rattle.drift_world.proofs.Words.{behind, false, happenings, inl, inr, keeps, length, length-map, map, moment_of, none_yet, place_of, refl, settled_at}
+use Rattle.drift_world.proofs.Words.{subst, sym, true, world_of, ℕ}
+use Rattle.std.specs.{List.slice_get, Prelude.All}
 use Rattle.run_law.specs.declared.steps.Act.{Act}
-use Rattle.run_law.specs.machines.Nodes.{Node}
-use Rattle.run_law.specs.records.Happenings.{Happening, happenings}
-use Rattle.run_law.specs.records.Order.{IsBefore, IsIn, behind}
-use Rattle.run_law.specs.records.Ranks.{place_of}
-use Rattle.run_law.specs.scenario.Scenarios.{Scenario}
-use Rattle.drift_world.proofs.Fits.{have_octets}
-use Rattle.drift_world.specs.Acting.{IsDueAt, SettlesFrom, act_cursor}
-use Rattle.world_state.specs.Keeping.{keeps}
-use Rattle.drift_world.specs.Sound.{IsSound}
-use Rattle.drift_world.specs.Stepping.{IsAt}
-use Rattle.drift_world.specs.Views.{world_of}
-use Rattle.world_state.specs.Views.{settled_at}
-use Rattle.world_state.specs.declared.contents.Settled.{Settled}
-use Rattle.world_state.specs.declared.kept.Kept.{Kept}
-use Rattle.drift_world.specs.declared.state.State.{State}
 use Rattle.world_law.proofs.giving.Given.{some_same}
-use Rattle.world_steps.proofs.growing.Repeating.{acts_add_up, acts_are_bounded, no_act_yet}
-use Rattle.world_law.specs.source.First.{NoSourceBefore}
-use Rattle.world_law.specs.world.Calls.{HasActed, IsDueNow, moment_of}
-use Rattle.world_steps.specs.Repeating.{HasActedTimes}
-use Rattle.world_law.specs.world.Moves.{ComesFirst, StandsBehind}
-use Rattle.world_law.specs.world.World.{Stands, World, act_place, none_yet}
+use Rattle.world_steps.{proofs.growing.Repeating.{acts_add_up, acts_are_bounded, no_act_yet}, specs.Repeating.HasActedTimes}
+use Rattle.drift_world.{proofs.Fits.have_octets, specs.{Acting.{IsDueAt, SettlesFrom, act_cursor}, declared.state.State.State}}
 
 -- the state stands, and the device's acts come first, but that there may be no numbers
 pub record IsStill {C M : Type 0} (reading : C → ℕ → ℕ) (stands : M → Network → DeviceId → Node → Type 0) (network : Network) (device : DeviceId) (time : ℕ)

@@ -1,27 +1,14 @@
 -- How the clocks of a network go on by an event: what they read up to then stays, and from then on they read what the
 -- event makes of them.
-use Rattle.std.proofs.Common.{◌≡◌, ℕ, ◌≤◌, ℤ, ◌==◌, List, [], ◌∷◌, ◌++◌, Option, Some, None, true, false, if◌then◌else◌, Bool, inl, inr, refl, sym, ap, subst, ◌∙◌, arith}
-use Rattle.std.specs.List.{All}
-use Rattle.std.specs.Option.{option_map_or}
-use Rattle.std.proofs.lemmas.Bool.{cases_lt, le-leb, lt-leb}
-use Rattle.std.proofs.lemmas.List.{append-nil}
-use Rattle.std.proofs.lemmas.List.Elements.{filter-append, filter_map-append}
-use Rattle.std.proofs.lemmas.List.Sums.{fold-append}
-use Rattle.drift_clock.proofs.Histories.{up_to-all}
-use Rattle.drift_clock.proofs.Readings.{IsLawful}
-use Rattle.drift_clock.specs.Counts.{rounded}
-use Rattle.drift_clock.specs.RateSteps.{RateStep, up_to}
-use Rattle.drift_clock.specs.Readings.{reading_at, value_after}
+use Rattle.drift_world.proofs.Words.{if◌then◌else◌, ◌++◌, ◌==◌, ◌∙◌, ◌∷◌, ◌≡◌, ◌≤◌, Bool, DeviceId, IsIn, IsLawful, List, Network, None, Option, RateStep, Some}
+use Rattle.drift_world.proofs.Words.{What, [], amount, ap, arith, cases_lt, clock_after, false, inl, inr, le-leb, option_map_or, rate_steps, reading_of, refl}
+use Rattle.drift_world.proofs.Words.{subst, sym, true, ℕ, ℤ}
+use Rattle.std.{proofs.lemmas.{Bool.lt-leb, List.{Elements.{filter-append, filter_map-append}, Sums.fold-append}}, specs.List.All}
+use Rattle.drift_clock.{proofs.Histories.up_to-all, specs.{Counts.rounded, RateSteps.up_to, Readings.{reading_at, value_after}}}
 use Rattle.net_plan.specs.declared.event.Event.{Event}
-use Rattle.net_plan.specs.declared.event.What.{What}
+use Rattle.run_law.specs.scenario.Rates.{step_by}
+use Rattle.drift_world.specs.Running.{clock_of}
 use Rattle.net_plan.specs.declared.event.What.TheVariants as events
-use Rattle.net_plan.specs.declared.ids.DeviceId.{DeviceId}
-use Rattle.net_plan.specs.declared.network.Network.{Network}
-use Rattle.run_law.specs.records.Order.{IsIn}
-use Rattle.run_law.specs.scenario.Rates.{rate_steps, step_by}
-use Rattle.tte_units.specs.Amount.{amount}
-use Rattle.world_state.specs.Applying.{clock_after}
-use Rattle.drift_world.specs.Running.{clock_of, reading_of}
 
 -- ---- the steps of more events
 
@@ -36,7 +23,8 @@ steps_more past event device =
     filter_map-append (λ (e : Event). step_by device (amount e.time) e.what) past (event ∷ [])
     ∙ ap (λ (l : List RateStep). rate_steps past device ++ l) (last (step_by device (amount event.time) event.what) refl)
   where
-    last : (o : Option RateStep) → step_by device (amount event.time) event.what ≡ o → rate_steps (event ∷ []) device ≡ one_of (step_by device (amount event.time) event.what)
+    last : (o : Option RateStep) → step_by device (amount event.time) event.what ≡ o
+        → rate_steps (event ∷ []) device ≡ one_of (step_by device (amount event.time) event.what)
     last None e = ap (λ (o : Option RateStep). Rattle.std.specs.List.cons_option o []) e ∙ sym (ap one_of e)
     last (Some step) e = ap (λ (o : Option RateStep). Rattle.std.specs.List.cons_option o []) e ∙ sym (ap one_of e)
 

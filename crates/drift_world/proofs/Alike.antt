@@ -1,14 +1,5 @@
 -- A world stands also where its lists have what they had in another order.
-use Rattle.std.proofs.Common.{ℕ, List}
-use Rattle.std.specs.Prelude.{◌↔◌}
-use Rattle.net_plan.specs.declared.ids.DeviceId.{DeviceId}
-use Rattle.net_plan.specs.declared.network.Network.{Network}
-use Rattle.run_law.specs.machines.Nodes.{Node}
-use Rattle.run_law.specs.records.Order.{IsIn}
-use Rattle.run_law.specs.scenario.Scenarios.{Scenario}
-use Rattle.run_law.specs.declared.note.Note.{Note}
-use Rattle.world_law.specs.world.Moves.{StandsBehind}
-use Rattle.world_law.specs.world.World.{AtPort, OnWire, World}
+use Rattle.drift_world.proofs.Words.{◌↔◌, AtPort, DeviceId, IsIn, List, Network, Node, Note, OnWire, Scenario, StandsBehind, World, ℕ}
 
 -- other wires with the same on them
 pub with_wires : {C M : Type 0} (reading : C → ℕ → ℕ) (stands : M → Network → DeviceId → Node

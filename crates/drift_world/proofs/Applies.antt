@@ -1,34 +1,16 @@
 -- An event is applied to a state.
-use Rattle.std.proofs.Common.{◌≡◌, ◌⊎◌, ℕ, ◌<◌, Bool, true, false, not, cond, ◌||◌, List, [], ◌∷◌, ◌++◌, map, filter, length, Option, Some, None, inl, inr, refl, sym, ap, ◌∙◌, arith}
-use Rattle.std.specs.Prelude.{◌↔◌, unwrap_or, nat_le}
-use Rattle.std.specs.List.{cons_option, filter_map, last_or, list_any, slice_get}
+use Rattle.drift_world.proofs.Words.{◌++◌, ◌<◌, ◌↔◌, ◌∙◌, ◌∷◌, ◌≡◌, ◌⊎◌, AreWays, Befallen, Bool, DeviceId, Down, IsIn, LinkId, List, Network, None, Option}
+use Rattle.drift_world.proofs.Words.{Some, Up, Waiting, Waits, Way, WayNow, WayState, What, [], amount, ap, arith, befell_as, both_ways, breaks_at, false}
+use Rattle.drift_world.proofs.Words.{filter, inl, inr, is_broken, le-leb, length, list_any, map, nat_le, not, refl, scenario, slice_get-map, sym, true}
+use Rattle.drift_world.proofs.Words.{turns_on, unwrap_or, waiting_as, way_as, way_now, ℕ}
+use Rattle.std.{proofs.{Common.{◌||◌, cond}, lemmas.List.Elements.filter_map-append}, specs.List.{cons_option, filter_map, last_or, slice_get}}
 use Rattle.std.specs.Option.{option_map}
-use Rattle.std.proofs.lemmas.Bool.{both_ways, le-leb}
-use Rattle.std.proofs.lemmas.List.Elements.{filter_map-append}
-use Rattle.std.proofs.lemmas.Option.{slice_get-map}
 use Rattle.net_plan.specs.declared.event.Event.{Event}
-use Rattle.net_plan.specs.declared.event.What.{What}
-use Rattle.net_plan.specs.declared.ids.DeviceId.{DeviceId}
-use Rattle.net_plan.specs.declared.ids.LinkId.{LinkId}
-use Rattle.net_plan.specs.declared.network.Network.{Network}
-use Rattle.net_plan.specs.declared.tables.Way.TheVariants.{Up, Down}
-use Rattle.net_plan.specs.declared.tables.Way.{Way}
-use Rattle.run_law.specs.records.Order.{IsIn}
-use Rattle.run_law.specs.scenario.Hypothesis.{breaks_at}
-use Rattle.run_law.specs.scenario.Scenarios.{events_up_to, is_broken, last_set, turns_on}
-use Rattle.run_law.specs.scenario.Ways.{cut_set, hold_set, wire_of, wire_set}
-use Rattle.tte_units.specs.Amount.{amount}
-use Rattle.drift_world.proofs.Beginnings.{found}
+use Rattle.run_law.specs.scenario.{Scenarios.{events_up_to, last_set}, Ways.{cut_set, hold_set, wire_of, wire_set}}
+use Rattle.world_law.proofs.{giving.Given.some_same, lists.Lists.filter_yes}
 use Rattle.world_state.specs.Applying.{way_after}
-use Rattle.world_state.specs.Views.{befell_as, waiting_as, way_as}
-use Rattle.world_state.specs.declared.contents.Befallen.{Befallen}
-use Rattle.world_state.specs.declared.contents.Waits.{Waits}
-use Rattle.world_state.specs.declared.contents.WayState.{WayState}
-use Rattle.world_law.proofs.giving.Given.{some_same}
-use Rattle.world_law.proofs.lists.Lists.{filter_yes}
 use Rattle.world_steps.proofs.steps.AppliedParts.{broken_more}
-use Rattle.world_law.specs.source.Agreeing.{scenario}
-use Rattle.world_law.specs.world.World.{AreWays, Waiting, WayNow, way_now}
+use Rattle.drift_world.proofs.Beginnings.{found}
 
 -- ---- the ways
 

@@ -1,23 +1,11 @@
 -- What may become of a frame that arrives, kind by kind.
-use Rattle.std.proofs.Common.{ℕ, Bool, true, false, if◌then◌else◌, List, length, Option, Some, None, Ok}
-use Rattle.net_plan.specs.declared.ids.DeviceId.{DeviceId}
-use Rattle.net_plan.specs.declared.ids.LinkId.{LinkId}
-use Rattle.net_plan.specs.declared.ids.VlId.{VlId}
-use Rattle.net_plan.specs.declared.network.Network.{Network}
-use Rattle.net_plan.specs.declared.tables.Way.TheVariants.{Down, Up}
-use Rattle.net_plan.specs.declared.tables.Way.{Way}
-use Rattle.pcf_codec.specs.Fields.{field}
-use Rattle.pcf_values.specs.declared.pcf.Pcf.{Pcf}
-use Rattle.run_law.specs.control.Arrivals.{clock_on_arrival, control_arrival, frame_fault, frame_or_fault, point_on_arrival}
-use Rattle.run_law.specs.declared.judgement.Reason.{Reason}
-use Rattle.run_law.specs.declared.steps.Arrival.TheVariants as arrivals
-use Rattle.run_law.specs.declared.steps.Arrival.{Arrival}
-use Rattle.run_law.specs.device.Standpoints.{Standpoint, clock_of, cycle_at}
-use Rattle.run_law.specs.records.Happenings.{with_clock}
-use Rattle.run_law.specs.scenario.Devices.{is_end, is_parent_of, is_relay}
+use Rattle.drift_world.proofs.Words.{if◌then◌else◌, Bool, DeviceId, Down, LinkId, List, Network, None, Ok, Option, Pcf, Some, Units, Up, VlId, Way, false}
+use Rattle.drift_world.proofs.Words.{field, is_parent_of, length, true, with_clock, ℕ}
+use Rattle.run_law.specs.{control.Arrivals.{clock_on_arrival, control_arrival, frame_fault, frame_or_fault, point_on_arrival}, declared.judgement.Reason.Reason}
+use Rattle.run_law.specs.{declared.steps.Arrival.Arrival, device.Standpoints.{Standpoint, clock_of, cycle_at}, scenario.Devices.{is_end, is_relay}}
 use Rattle.run_law.specs.timed.Arrivals.{entry_arrival, entry_entering, octets_fault, octets_or_fault, row_fault, taken_or_fault, timed_arrival}
 use Rattle.schedule_tables.specs.declared.entry.Entry.{Entry}
-use Rattle.tte_units.specs.declared.units.Units.{Units}
+use Rattle.run_law.specs.declared.steps.Arrival.TheVariants as arrivals
 
 -- the frame as it arrives
 abbrev pub on_arrival : Network → LinkId → Pcf → Pcf
@@ -53,7 +41,8 @@ pub record HoldsOfTimed (P : Arrival → Type 0) : Type 0 where
   pub accepted : (vl : VlId) (cycle : ℕ) → P (arrivals.Accepted vl cycle)
   pub delivered : (vl : VlId) (cycle : ℕ) → P (arrivals.Delivered vl cycle)
 
-by_so : (P : Arrival → Type 0) (vl : VlId) (cycle : ℕ) (end : Bool) → HoldsOfTimed P → P (if end then arrivals.Delivered vl cycle else arrivals.Accepted vl cycle)
+by_so : (P : Arrival → Type 0) (vl : VlId) (cycle : ℕ) (end : Bool) → HoldsOfTimed P
+    → P (if end then arrivals.Delivered vl cycle else arrivals.Accepted vl cycle)
 by_so P vl cycle true h = h.delivered vl cycle
 by_so P vl cycle false h = h.accepted vl cycle
 

@@ -1,28 +1,12 @@
 -- What waits by a record, as its law asks for it.
-use Rattle.std.proofs.Common.{◌≡◌, ◌⊎◌, ℕ, pos, Bool, true, false, not, ◌&&◌, List, ◌∷◌, [], ◌++◌, map, Option, Some, None, inl, inr, refl, sym, ap, subst, ◌∙◌}
-use Rattle.std.proofs.lemmas.Option.{same_Some}
-use Rattle.std.specs.Prelude.{if◌then◌else◌}
-use Rattle.net_plan.specs.declared.ids.DeviceId.{DeviceId}
-use Rattle.net_plan.specs.declared.ids.LinkId.{LinkId}
-use Rattle.net_plan.specs.declared.network.Network.{Network}
-use Rattle.pcf_values.specs.declared.pcf.Pcf.{Pcf}
-use Rattle.run_law.specs.control.Permanence.{waits_for}
-use Rattle.run_law.specs.declared.note.NoteBody.TheVariants.{Event, Arrived, Permanent, Compressed, Sent, Corrected, State as Changed, Left, Lost, TtSent, Accepted, Delivered, Dropped, Clock}
-use Rattle.run_law.specs.declared.note.NoteBody.{NoteBody}
-use Rattle.run_law.specs.records.Happenings.{Happening, time_of}
-use Rattle.run_law.specs.records.Order.{IsIn}
-use Rattle.run_law.specs.scenario.Scenarios.{Scenario, is_broken}
+use Rattle.drift_world.proofs.Words.{if◌then◌else◌, ◌&&◌, ◌∙◌, ◌∷◌, ◌≡◌, ◌⊎◌, Accepted, Arrived, Bool, Changed, Compressed, Delivered, DeviceId, Dropped}
+use Rattle.drift_world.proofs.Words.{Giving, Happening, IsPermutation, IsPermutation-map, IsPermutation-sym, Left, LinkId, List, Lost, Network, None, NoteBody}
+use Rattle.drift_world.proofs.Words.{Option, Pcf, Permanent, Scenario, Some, TtSent, Waiting, Waits, ap, false, in_permuted, inl, inr, is_broken, map, not, pos}
+use Rattle.drift_world.proofs.Words.{refl, same_Some, subst, sym, time_of, true, waiting_as, ℕ}
+use Rattle.run_law.specs.{control.Permanence.waits_for, declared.note.NoteBody.TheVariants.{Clock, Corrected, Event, Sent}}
 use Rattle.transparent_clock.specs.Points.{point_of}
-use Rattle.world_state.specs.Giving.{awaited_by, giver_of, waits_from}
-use Rattle.world_state.specs.Frames.{IsOneMore}
-use Rattle.world_state.specs.Views.{waiting_as}
-use Rattle.world_state.specs.declared.contents.Waits.{Waits}
-use Rattle.world_state.specs.declared.giving.Giving.{Giving}
-use Rattle.world_law.specs.world.Moves.{AreAwaited}
-use Rattle.world_law.specs.world.World.{IsAwaitedFor, Waiting}
-use Rattle.std.specs.List.Sorted.{IsPermutation}
-use Rattle.std.proofs.lemmas.List.Sorted.{IsPermutation-map, IsPermutation-sym}
-use Rattle.due_queue.proofs.Bags.{in_permuted}
+use Rattle.world_law.specs.world.{Moves.AreAwaited, World.IsAwaitedFor}
+use Rattle.world_state.specs.{Frames.IsOneMore, Giving.{awaited_by, giver_of, waits_from}}
 
 -- an arrival, or another record, by which nothing waits
 record IsArrival (body : NoteBody) : Type 0 where
@@ -63,7 +47,13 @@ same_waiting e f device link cause frame point =
     ∙ ap (λ (l : LinkId). let w : Waiting = record { device = f.device; link = l; cause = e.cause; frame = e.frame; point = e.point } in w) link
     ∙ ap (λ (k : ℕ). let w : Waiting = record { device = f.device; link = f.link; cause = k; frame = e.frame; point = e.point } in w) cause
     ∙ ap (λ (p : Pcf). let w : Waiting = record { device = f.device; link = f.link; cause = f.cause; frame = p; point = e.point } in w) frame
-    ∙ ap (λ (z : Rattle.std.specs.Prelude.ℤ). let w : Waiting = record { device = f.device; link = f.link; cause = f.cause; frame = f.frame; point = record { 0 = z } } in w) point
+    ∙ ap (λ (z : Rattle.std.specs.Prelude.ℤ). let w : Waiting = record {
+      device = f.device;
+      link = f.link;
+      cause = f.cause;
+      frame = f.frame;
+      point = record { 0 = z };
+    } in w) point
 
 -- nothing waits by it
 pub none_awaited : (s : Scenario) (x : Happening) (number : ℕ) (old : List Waiting)
@@ -101,7 +91,14 @@ module _ (s : Scenario) (now : ℕ) (x : Happening) (number : ℕ) (giving : Giv
         → IsOneMore (if b then Some one else None) old new → AreAwaited s x number (map waiting_as old) (map waiting_as new)
     arrival_waits false e more = subst (λ (l : List Waits). AreAwaited s x number (map waiting_as old) (map waiting_as l)) (sym more)
         (none_awaited s x number (map waiting_as old) (λ w for sound.
-        let o = only (record w { cause = number }) refl (record { from = for.from; clock = for.clock; arrived = for.arrived; of_frame = for.of_frame; waits = for.waits; at_point = for.at_point }) in
+        let o = only (record w { cause = number }) refl (record {
+          from = for.from;
+          clock = for.clock;
+          arrived = for.arrived;
+          of_frame = for.of_frame;
+          waits = for.waits;
+          at_point = for.at_point;
+        }) in
         let whole : giving.broken ≡ false = broken_so ∙ ap (λ (d : DeviceId). is_broken s d (time_of x)) (sym o.1) ∙ sound in
         let wait : waits_for s.network giving.device link ≡ true =
         ap (λ (d : DeviceId). waits_for s.network d link) (sym o.1) ∙ ap (waits_for s.network w.device) (sym o.2) ∙ for.waits in

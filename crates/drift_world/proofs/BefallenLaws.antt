@@ -1,59 +1,24 @@
 -- What comes of the events of an instant is settled, as its law asks for it.
-use Rattle.std.proofs.Common.{◌≡◌, ◌⊎◌, ◌↔◌, ℕ, ◌+◌, ◌<◌, Bool, true, false, if◌then◌else◌, List, [], ◌∷◌, length, map, Option, Some, None, slice_get, option_map, option_and_then, inl, inr, refl, sym, ap, subst, ◌∙◌, All, arith}
-use Rattle.std.specs.List.{filter_map}
-use Rattle.std.specs.Option.{option_map_or}
-use Rattle.std.proofs.lemmas.List.{length-map}
-use Rattle.std.proofs.lemmas.List.Sorted.{IsPermutation-sym}
-use Rattle.std.proofs.lemmas.Option.{same_Some, slice_get-map, slice_get_within}
-use Rattle.due_queue.proofs.Bags.{in_permuted}
-use Rattle.due_queue.specs.declared.Entry.{Entry}
-use Rattle.net_plan.specs.Places.{link_at}
-use Rattle.net_plan.specs.declared.event.What.TheVariants as events
-use Rattle.net_plan.specs.declared.event.What.{What}
-use Rattle.net_plan.specs.declared.ids.DeviceId.{DeviceId}
-use Rattle.net_plan.specs.declared.ids.LinkId.{LinkId}
-use Rattle.net_plan.specs.declared.network.Network.{Network}
-use Rattle.net_plan.specs.declared.tables.Link.{Link}
-use Rattle.net_plan.specs.declared.tables.Way.TheVariants.{Up}
-use Rattle.run_law.proofs.law.FirstPlaces.{numbered_within}
-use Rattle.run_law.specs.control.Wires.{signal_of, time_on_port}
-use Rattle.run_law.specs.declared.judgement.Why.TheVariants as whys
-use Rattle.run_law.specs.declared.note.Note.{Note}
-use Rattle.run_law.specs.declared.note.NoteBody.TheVariants as kinds
-use Rattle.run_law.specs.machines.Nodes.{Node}
-use Rattle.run_law.specs.records.Causes.{IsOfThisTime}
-use Rattle.run_law.specs.records.Happenings.{Happening, happenings, numbered, time_of}
-use Rattle.run_law.specs.records.Order.{IsIn, behind}
-use Rattle.run_law.specs.scenario.Scenarios.{Scenario, is_broken}
-use Rattle.run_law.specs.scenario.Ways.{delay_at, is_cut}
-use Rattle.sync_state.specs.declared.state.State.TheVariants.{Integrating}
-use Rattle.drift_world.proofs.Alike.{with_ports}
-use Rattle.world_state.proofs.Befallings.{IsFreshOf, is_mapped, ports_settled}
-use Rattle.drift_world.proofs.Fits.{all_put_some, have_octets}
-use Rattle.drift_world.proofs.HiddenCauses.{InOrder}
-use Rattle.drift_world.proofs.Puts.{is_put_in, one_put_in, order_put, some_put_in}
-use Rattle.world_state.specs.Befalling.{AreSettledBy, bare, entry_of, lost_on, record_of, sent_up, turned_on}
-use Rattle.world_state.specs.Giving.{IsPutOn}
-use Rattle.world_state.specs.Places.{IsSomePut}
-use Rattle.world_state.specs.Sound.{AreUnderWay, rank_of}
-use Rattle.drift_world.specs.Views.{world_of}
-use Rattle.world_state.specs.Views.{at_port, befell_as, on_wire, settled_at, signal_as, way_as, wire_at}
-use Rattle.world_state.specs.declared.contents.Befallen.{Befallen}
-use Rattle.world_state.specs.declared.contents.Content.TheVariants.{Port, Wire}
-use Rattle.world_state.specs.declared.contents.Content.{Content}
-use Rattle.world_state.specs.declared.contents.Settled.{Settled}
-use Rattle.world_state.specs.declared.contents.Signal.TheVariants as signals
-use Rattle.world_state.specs.declared.contents.WayState.{WayState}
-use Rattle.world_state.specs.declared.kept.Kept.{Kept}
-use Rattle.drift_world.specs.declared.state.State.{State}
-use Rattle.run_law.proofs.records.Order.{given_of, is_given}
-use Rattle.world_steps.proofs.befalling.Befell.{befell_step}
-use Rattle.world_steps.proofs.befalling.Seen.{on_within, put_event, put_in_more, sent_on, wires_of}
+use Rattle.drift_world.proofs.Words.{if◌then◌else◌, ◌+◌, ◌<◌, ◌↔◌, ◌∙◌, ◌∷◌, ◌≡◌, ◌⊎◌, ArePutIn, AreUnderWay, AreWays, Befallen, Bool, Content, DeviceId}
+use Rattle.drift_world.proofs.Words.{Happening, Integrating, IsIn, IsPermutation-sym, IsPutOn, IsSomePut, Kept, Link, LinkId, List, Network, Node, None, Note}
+use Rattle.drift_world.proofs.Words.{OnWire, Option, Port, Scenario, Settled, Some, Stands, StandsBehind, Up, WayNow, WayState, What, Wire, World, [], ap}
+use Rattle.drift_world.proofs.Words.{arith, at_port, befell_as, behind, delay_at, false, given_of, happenings, hidden, in_permuted, inl, inr, is_broken, is_cut}
+use Rattle.drift_world.proofs.Words.{is_given, is_mapped, length, length-map, link_at, map, none_yet, numbered, on_wire, option_map_or, rank_of, refl}
+use Rattle.drift_world.proofs.Words.{same_Some, settled_at, signal_as, signal_of, slice_get-map, slice_get_within, subst, sym, time_of, time_on_port, true}
+use Rattle.drift_world.proofs.Words.{way_as, way_now, wire_at, world_of, ℕ}
+use Rattle.std.{proofs.Common.{All, option_and_then, option_map, slice_get}, specs.List.filter_map}
+use Rattle.run_law.{proofs.law.FirstPlaces.numbered_within, specs.records.Causes.IsOfThisTime}
 use Rattle.world_law.proofs.runs.Worlds.{length_is}
-use Rattle.world_steps.proofs.steps.Applied.{no_coming}
+use Rattle.world_queue.specs.declared.Entry.{Entry}
+use Rattle.world_state.{proofs.Befallings.{IsFreshOf, ports_settled}, specs.Befalling.{AreSettledBy, bare, entry_of, lost_on, record_of, sent_up, turned_on}}
+use Rattle.world_steps.proofs.{befalling.{Befell.befell_step, Seen.{on_within, put_event, put_in_more, sent_on, wires_of}}, steps.Applied.no_coming}
 use Rattle.world_steps.specs.Befalling.{ArePutBy, befell_bodies, bodies_of}
-use Rattle.world_law.specs.world.Moves.{ArePutIn, StandsBehind}
-use Rattle.world_law.specs.world.World.{AreWays, OnWire, Stands, WayNow, World, hidden, none_yet, way_now}
+use Rattle.drift_world.proofs.{Alike.with_ports, Fits.{all_put_some, have_octets}, HiddenCauses.InOrder, Puts.{is_put_in, one_put_in, order_put, some_put_in}}
+use Rattle.drift_world.specs.declared.state.State.{State}
+use Rattle.net_plan.specs.declared.event.What.TheVariants as events
+use Rattle.run_law.specs.declared.judgement.Why.TheVariants as whys
+use Rattle.run_law.specs.declared.note.NoteBody.TheVariants as kinds
+use Rattle.world_state.specs.declared.contents.Signal.TheVariants as signals
 
 none_mapped : {X Y : Type 0} (f : X → Y) (xs : List X) → map f xs ≡ [] → xs ≡ []
 none_mapped f [] e = refl

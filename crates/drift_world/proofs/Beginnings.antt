@@ -1,21 +1,10 @@
 -- A fresh world.
-use Rattle.std.proofs.Common.{◌≡◌, ℕ, ◌<◌, List, [], map, length, replicate, Some, Option, false, inl, inr, sym, ap, ◌∙◌, arith}
-use Rattle.std.specs.List.{IsDistinct, slice_get}
-use Rattle.std.specs.Option.{option_map, option_map_or}
-use Rattle.std.proofs.lemmas.List.{get_or-replicate, length-replicate}
-use Rattle.std.proofs.lemmas.Option.{slice_get-get_or, slice_get-map, slice_get_cases}
-use Rattle.net_plan.specs.declared.ids.DeviceId.{DeviceId}
-use Rattle.net_plan.specs.declared.ids.LinkId.{LinkId}
-use Rattle.net_plan.specs.declared.network.Network.{Network}
-use Rattle.net_plan.specs.declared.tables.Link.{Link}
-use Rattle.net_plan.specs.declared.tables.Way.TheVariants.{Up, Down}
-use Rattle.net_plan.specs.declared.tables.Way.{Way}
-use Rattle.tte_units.specs.Amount.{amount}
-use Rattle.world_law.specs.source.Agreeing.{scenario}
-use Rattle.world_law.specs.world.World.{AreWays, WayNow, way_now}
+use Rattle.drift_world.proofs.Words.{◌<◌, ◌∙◌, ◌≡◌, AreUnderWay, AreWays, DeviceId, Down, Link, LinkId, List, Network, Option, Some, Up, Way, WayNow, []}
+use Rattle.drift_world.proofs.Words.{amount, ap, arith, false, inl, inr, length, map, option_map_or, scenario, slice_get-get_or, slice_get-map, sym, way_as}
+use Rattle.drift_world.proofs.Words.{way_now, ℕ}
+use Rattle.std.{proofs.{Common.replicate, lemmas.{List.{get_or-replicate, length-replicate}, Option.slice_get_cases}}, specs.List.{IsDistinct, slice_get}}
+use Rattle.std.specs.Option.{option_map}
 use Rattle.world_state.specs.Beginning.{first_way}
-use Rattle.world_state.specs.Sound.{AreUnderWay}
-use Rattle.world_state.specs.Views.{way_as}
 
 pub found : {X : Type 0} (xs : List X) (i : ℕ) → i < length xs → (x : X) × (slice_get xs i ≡ Some x)
 found xs i lt =

@@ -1,25 +1,11 @@
 -- An event leaves all devices as they were but one.
-use Rattle.std.proofs.Common.{◌≡◌, ◌≢◌, ◌↔◌, ℕ, ℤ, ◌+◌, ◌<◌, ◌≤◌, Bool, true, false, ◌==◌, if◌then◌else◌, List, [], ◌∷◌, All, filter, length, Option, Some, None, slice_get, inl, inr, refl, sym, ap, subst, ◌∙◌, arith}
-use Rattle.std.specs.Prelude.{IfSome, not}
-use Rattle.std.specs.Option.{option_map_or}
-use Rattle.std.proofs.lemmas.Bool.{cases_eq, eqb-true, false_from_ne_true}
-use Rattle.net_plan.specs.declared.event.What.{What}
+use Rattle.drift_world.proofs.Words.{if◌then◌else◌, ◌+◌, ◌<◌, ◌==◌, ◌↔◌, ◌∙◌, ◌∷◌, ◌≡◌, ◌≤◌, AreTimed, Bool, DeviceId, IfSome, IsIn, IsTimed, List, Network}
+use Rattle.drift_world.proofs.Words.{Node, None, Option, RateStep, Some, Units, Waits, What, [], amount, ap, arith, breaks_at, cases_eq, clock_after, eqb-true}
+use Rattle.drift_world.proofs.Words.{false, false_from_ne_true, filter, in_filter, inl, inr, length, not, option_map_or, refl, subst, sym, true, ℕ, ℤ}
+use Rattle.std.proofs.Common.{◌≢◌, All, slice_get}
+use Rattle.world_state.specs.Applying.{IsElsewhere, device_in}
+use Rattle.drift_world.{proofs.Timings.still_timed, specs.declared.state.State.State}
 use Rattle.net_plan.specs.declared.event.What.TheVariants as events
-use Rattle.net_plan.specs.declared.ids.DeviceId.{DeviceId}
-use Rattle.net_plan.specs.declared.network.Network.{Network}
-use Rattle.drift_clock.specs.RateSteps.{RateStep}
-use Rattle.run_law.proofs.law.FirstPlaces.{in_filter}
-use Rattle.run_law.specs.machines.Nodes.{Node}
-use Rattle.run_law.specs.records.Order.{IsIn}
-use Rattle.run_law.specs.scenario.Hypothesis.{breaks_at}
-use Rattle.tte_units.specs.Amount.{amount}
-use Rattle.tte_units.specs.declared.units.Units.{Units}
-use Rattle.drift_world.proofs.Timings.{still_timed}
-use Rattle.world_state.specs.Applying.{IsElsewhere, clock_after, device_in}
-use Rattle.drift_world.specs.Sourcing.{AreTimed}
-use Rattle.drift_world.specs.Stepping.{IsTimed}
-use Rattle.world_state.specs.declared.contents.Waits.{Waits}
-use Rattle.drift_world.specs.declared.state.State.{State}
 
 -- ---- what an event does to another device
 
@@ -108,7 +94,8 @@ timed_by_event {C} {M} reading stands network old mid new what are away timers t
         (kept.0 ∙ ap (λ (l : List ℕ). slice_get l device.0) timers)
         (kept.1 ∙ ap (λ (l : List ℕ). slice_get l (length network.device + device.0)) timers)
 
-    each : (device : DeviceId) → device.0 < length network.device → (o : Option DeviceId) → device_in what ≡ o → IsTimed reading stands network new.timers new device
+    each : (device : DeviceId) → device.0 < length network.device → (o : Option DeviceId) → device_in what ≡ o
+        → IsTimed reading stands network new.timers new device
     each device there None none =
         still device there (subst (λ (o : Option DeviceId). IfSome o (λ d. d.0 ≢ device.0)) (sym none) tt)
     each device there (Some other) is = elim (cases_eq other.0 device.0) [

@@ -1,25 +1,11 @@
 -- Where only events of the present instant are worked off, the records given are the run behind them.
-use Rattle.std.proofs.Common.{◌≡◌, ◌⊎◌, ℕ, ◌+◌, ◌≤◌, ◌<◌, List, [], ◌∷◌, ◌++◌, true, inl, inr, refl, sym, ap, subst, ◌∙◌, arith}
-use Rattle.std.proofs.lemmas.List.{append-nil}
+use Rattle.drift_world.proofs.Words.{◌+◌, ◌<◌, ◌∷◌, ◌≡◌, ◌≤◌, AreSettled, DeviceId, Happening, IsBefore, IsDue, IsIn, IsScenarioRun, List, Network, Node, Note}
+use Rattle.drift_world.proofs.Words.{Scenario, Stands, World, [], amount, ap, append-nil, arith, chain, happenings, inl, inr, never_self, place_of, refl, subst}
+use Rattle.drift_world.proofs.Words.{sym, true, ℕ}
 use Rattle.net_plan.specs.declared.event.Event.{Event}
-use Rattle.net_plan.specs.declared.ids.DeviceId.{DeviceId}
-use Rattle.net_plan.specs.declared.network.Network.{Network}
 use Rattle.run_law.proofs.runs.Grow.{move_mark}
-use Rattle.run_law.proofs.runs.Places.{chain, never_self}
-use Rattle.run_law.specs.declared.note.Note.{Note}
-use Rattle.run_law.specs.machines.Nodes.{Node}
-use Rattle.run_law.specs.records.Happenings.{Happening, happenings}
-use Rattle.run_law.specs.records.Order.{IsBefore, IsIn}
-use Rattle.run_law.specs.records.Ranks.{place_of}
-use Rattle.run_law.specs.runs.DueRecords.{IsDue, IsScenarioRun}
-use Rattle.run_law.specs.scenario.Scenarios.{Scenario}
-use Rattle.tte_units.specs.Amount.{amount}
-use Rattle.world_law.proofs.runs.Firsts.{source_before}
-use Rattle.world_law.proofs.runs.Next.{none_due}
-use Rattle.world_law.proofs.runs.Sourced.{sourced}
-use Rattle.world_law.specs.source.Next.{NoneDueBefore}
-use Rattle.world_law.specs.source.Sources.{IsSource}
-use Rattle.world_law.specs.world.World.{AreSettled, IsWorkedOff, Stands, World}
+use Rattle.world_law.{proofs.runs.{Firsts.source_before, Next.none_due, Sourced.sourced}, specs.source.{Next.NoneDueBefore, Sources.IsSource}}
+use Rattle.world_law.specs.world.World.{IsWorkedOff}
 
 -- ---- what is before the place behind the events
 
@@ -28,10 +14,6 @@ sooner : (t now k : ℕ) (ws : List ℕ) → IsBefore (t ∷ k ∷ ws) (now ∷ 
 sooner t now k ws (inl lt) high = lt
 sooner t now k ws (inr (e, inl few)) high = absurd (omega (arith, few, high))
 sooner t now k ws (inr (e, inr (same, none))) high = absurd none
-
-event_sooner : (t now : ℕ) → IsBefore (t ∷ 1 ∷ []) (now ∷ 2 ∷ []) → (t < now) ⊎ (t ≡ now)
-event_sooner t now (inl lt) = inl lt
-event_sooner t now (inr (e, b)) = inr e
 
 module _ {C M : Type 0} (reading : C → ℕ → ℕ) (stands : M → Network → DeviceId → Node → Type 0) (s : Scenario) (world : World C M) (notes : List Note)
     (old : Stands reading stands s world notes) (early : world.early ≡ true) where

@@ -1,15 +1,8 @@
 -- The first of what is settled is the record that is given, with its frame and its octets.
-use Rattle.std.proofs.Common.{◌≡◌, ℕ, List, [], ◌∷◌, map, length, Option, inl, inr, refl, sym, ap, subst, ◌∙◌, append-nil}
-use Rattle.net_plan.specs.declared.ids.DeviceId.{DeviceId}
-use Rattle.net_plan.specs.declared.network.Network.{Network}
-use Rattle.pcf_values.specs.declared.pcf.Pcf.{Pcf}
-use Rattle.run_law.specs.machines.Nodes.{Node}
-use Rattle.run_law.specs.records.Happenings.{Happening, frame_by, happening, happenings, octets_by}
-use Rattle.run_law.specs.scenario.Scenarios.{Scenario}
-use Rattle.run_law.specs.declared.note.Note.{Note}
-use Rattle.run_law.specs.declared.note.NoteBody.{NoteBody}
+use Rattle.drift_world.proofs.Words.{◌∙◌, ◌∷◌, ◌≡◌, DeviceId, Happening, List, Network, Node, Note, NoteBody, Option, Pcf, Scenario, Stands, World, [], ap}
+use Rattle.drift_world.proofs.Words.{append-nil, frame_by, happening, happenings, hidden, hidden_body, inl, inr, length, map, note_of, octets_by, refl, subst}
+use Rattle.drift_world.proofs.Words.{sym, ℕ}
 use Rattle.drift_world.proofs.HiddenCauses.{change_or_other}
-use Rattle.world_law.specs.world.World.{Stands, World, hidden, hidden_body, note_of}
 
 same_frame : (network : Network) (hs : List Happening) (given : ℕ) (body : NoteBody) → frame_by network hs (hidden_body given body) ≡ frame_by network hs body
 same_frame network hs given body =

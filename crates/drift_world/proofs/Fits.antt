@@ -1,21 +1,10 @@
 -- What is settled stays fit to be given.
-use Rattle.std.proofs.Common.{◌≡◌, ℕ, List, ◌∷◌, All, Bool, Option, Some, None, inr, refl, sym, subst, arith}
-use Rattle.std.specs.Prelude.{IfSome}
-use Rattle.std.specs.List.Sorted.{IsPermutation}
-use Rattle.std.proofs.lemmas.List.Sorted.{IsPermutation-sym}
-use Rattle.std.proofs.lemmas.Grind.{elements}
+use Rattle.drift_world.proofs.Words.{◌∷◌, ◌≡◌, AreBelow, AtPort, Bool, Content, HasItsOctets, IfSome, IsPermutation, IsPermutation-sym, IsPutAt, IsSomePut}
+use Rattle.drift_world.proofs.Words.{List, Network, None, Option, Settled, Some, arith, departure_body, in_permuted, inr, refl, subst, sym, ℕ}
+use Rattle.std.proofs.{Common.All, lemmas.Grind.elements}
 use Rattle.run_law.specs.control.Leaving.{Departure, leaves, on_cut_way, too_old}
-use Rattle.world_state.specs.Giving.{HasItsOctets}
-use Rattle.due_queue.proofs.Bags.{in_permuted}
-use Rattle.due_queue.specs.declared.Entry.{Entry}
-use Rattle.world_state.specs.Sound.{AreBelow}
-use Rattle.world_state.specs.declared.contents.Content.{Content}
-use Rattle.net_plan.specs.declared.network.Network.{Network}
+use Rattle.world_queue.specs.declared.Entry.{Entry}
 use Rattle.world_state.specs.Leaving.{departed, departure_by}
-use Rattle.world_law.specs.world.Outcomes.{departure_body}
-use Rattle.world_law.specs.world.World.{AtPort}
-use Rattle.world_state.specs.Places.{IsPutAt, IsSomePut}
-use Rattle.world_state.specs.declared.contents.Settled.{Settled}
 
 abbrev pub have_octets : Settled → Type 0
 have_octets z = HasItsOctets z.body z.octets

@@ -1,31 +1,15 @@
 -- What is fit stays so where an event befalls.
-use Rattle.std.proofs.Common.{◌≡◌, ℕ, zero, suc, ◌+◌, ◌<◌, ◌^◌, Bool, true, false, if◌then◌else◌, List, [], ◌∷◌, filter, length, map, nat_eq, Some, None, inl, inr, ap, refl, subst, arith}
-use Rattle.std.specs.List.{IsDistinct}
-use Rattle.std.specs.List.Sorted.{IsPermutation}
-use Rattle.std.proofs.lemmas.List.Sorted.{IsPermutation-map, IsPermutation-sym}
-use Rattle.std.proofs.lemmas.Map.Keys.{IsDistinct-IsPermutation, IsDistinct-cons, IsDistinct-head, IsDistinct-tail}
-use Rattle.due_queue.proofs.Bags.{all_apart, each_apart, in_permuted}
-use Rattle.run_law.proofs.records.Order.{all_of}
+use Rattle.drift_world.proofs.Words.{if◌then◌else◌, ◌+◌, ◌<◌, ◌^◌, ◌∷◌, ◌≡◌, AreApart, Bool, IsPermutation, IsPermutation-map, IsPermutation-sym, IsShort}
+use Rattle.drift_world.proofs.Words.{LinkId, List, None, Some, Waits, Way, WayState, What, [], amount, ap, arith, false, filter, in_all, in_filter, in_get}
+use Rattle.drift_world.proofs.Words.{in_permuted, inl, inr, length, map, one, slice_get-get_or, subst, true, unwrap_or, ℕ}
+use Rattle.std.proofs.{Common.nat_eq, lemmas.{List.Elements.All-filter, Map.Keys.{IsDistinct-IsPermutation, IsDistinct-cons, IsDistinct-head, IsDistinct-tail}}}
+use Rattle.std.specs.{List.IsDistinct, Prelude.{All, slice_get}}
+use Rattle.run_law.{proofs.records.Order.all_of, specs.scenario.Ways.is_way_of}
 use Rattle.tte_lemmas.proofs.Naturals.{flips}
-use Rattle.drift_world.specs.Sound.{AreApart}
-use Rattle.std.specs.Prelude.{slice_get, unwrap_or, All}
-use Rattle.std.proofs.lemmas.List.Elements.{All-filter}
-use Rattle.std.proofs.lemmas.Option.{slice_get-get_or}
-use Rattle.net_plan.specs.declared.event.What.{What}
-use Rattle.net_plan.specs.declared.event.What.TheVariants as events
-use Rattle.net_plan.specs.declared.ids.LinkId.{LinkId}
-use Rattle.net_plan.specs.declared.tables.Way.{Way}
-use Rattle.run_law.proofs.law.FirstPlaces.{in_filter}
-use Rattle.run_law.specs.scenario.Ways.{is_way_of}
-use Rattle.tte_lemmas.proofs.Lists.{in_all}
-use Rattle.tte_lemmas.proofs.Options.{one}
-use Rattle.tte_units.specs.Amount.{amount}
-use Rattle.drift_world.proofs.Beginnings.{found}
+use Rattle.world_queue.proofs.Bags.{all_apart, each_apart}
 use Rattle.world_state.specs.Applying.{SetsShort, way_after}
-use Rattle.world_state.specs.Sound.{IsShort}
-use Rattle.world_state.specs.declared.contents.Waits.{Waits}
-use Rattle.world_state.specs.declared.contents.WayState.{WayState}
-use Rattle.world_law.proofs.giving.Given.{in_get}
+use Rattle.drift_world.proofs.Beginnings.{found}
+use Rattle.net_plan.specs.declared.event.What.TheVariants as events
 
 -- ---- the ways
 

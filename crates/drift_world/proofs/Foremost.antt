@@ -1,31 +1,15 @@
 -- What comes first of all that a state has under way.
-use Rattle.std.proofs.Common.{◌≡◌, ◌⊎◌, ℕ, ◌+◌, ◌-◌, ◌<◌, ◌≤◌, ◌^◌, true, false, List, [], ◌∷◌, All, length, get_or, Option, Some, None, slice_get, inl, inr, refl, sym, ap, subst, ◌∙◌, arith}
-use Rattle.std.specs.Prelude.{IfSome}
-use Rattle.std.proofs.lemmas.Bool.{both_ways, cases_lt}
-use Rattle.std.proofs.lemmas.Option.{get_or_from_slice_get, slice_get-get_or}
-use Rattle.due_queue.specs.declared.Entry.{Entry}
-use Rattle.due_queue.specs.declared.Place.{Place}
-use Rattle.due_queue.specs.Places.{IsFirst, numbers_of}
-use Rattle.due_timers.specs.declared.Due.{Due}
-use Rattle.due_timers.specs.Times.{IsFirst as IsFirstDue, never}
-use Rattle.net_plan.specs.declared.ids.DeviceId.{DeviceId}
-use Rattle.net_plan.specs.declared.network.Network.{Network}
-use Rattle.run_law.proofs.runs.Places.{never_self}
-use Rattle.run_law.specs.machines.Nodes.{Node}
-use Rattle.run_law.specs.records.Order.{IsBefore, IsIn}
-use Rattle.drift_world.proofs.Sources.{due_time, slot_high, slot_low}
-use Rattle.world_state.specs.Keeping.{keeps}
-use Rattle.drift_world.specs.Sound.{IsSized}
-use Rattle.world_state.specs.Sound.{AreUnderWay, rank_of}
-use Rattle.drift_world.specs.Sourcing.{AreFirsts, AreNotBefore, AreTimed, HasNothingBefore, IsRipePlace, due_place}
-use Rattle.drift_world.specs.Stepping.{IsRunning}
-use Rattle.world_state.specs.Views.{at_port, on_wire, port_at, wire_at}
-use Rattle.world_state.specs.declared.contents.Content.TheVariants.{Wire, Port}
-use Rattle.world_state.specs.declared.contents.Content.{Content}
-use Rattle.world_state.specs.declared.kept.Kept.{Kept}
-use Rattle.drift_world.specs.declared.state.State.{State}
-use Rattle.run_law.proofs.records.Order.{is_given}
-use Rattle.world_law.specs.world.World.{AtPort, OnWire, port_place, wire_place}
+use Rattle.drift_world.proofs.Words.{◌+◌, ◌-◌, ◌<◌, ◌^◌, ◌∙◌, ◌∷◌, ◌≡◌, ◌≤◌, ◌⊎◌, AreFirsts, AreNotBefore, AreTimed, AreUnderWay, AtPort, Content, DeviceId}
+use Rattle.drift_world.proofs.Words.{Due, HasNothingBefore, IfSome, IsBefore, IsFirst, IsIn, IsRunning, IsSized, Kept, List, Network, Node, None, OnWire}
+use Rattle.drift_world.proofs.Words.{Option, Place, Port, Some, Wire, [], ap, arith, at_port, both_ways, cases_lt, false, get_or_from_slice_get, inl, inr}
+use Rattle.drift_world.proofs.Words.{is_given, keeps, length, never, never_self, numbers_of, on_wire, rank_of, refl, slice_get-get_or, subst, sym, true}
+use Rattle.drift_world.proofs.Words.{wire_at, wire_place, ℕ}
+use Rattle.std.proofs.Common.{All, get_or, slice_get}
+use Rattle.world_law.specs.world.World.{port_place}
+use Rattle.world_queue.specs.declared.Entry.{Entry}
+use Rattle.world_state.specs.Views.{port_at}
+use Rattle.world_timers.specs.Times.{IsFirst as IsFirstDue}
+use Rattle.drift_world.{proofs.Sources.{due_time, slot_high, slot_low}, specs.{Sourcing.{IsRipePlace, due_place}, declared.state.State.State}}
 
 -- ---- places of one time, or of a later one
 
@@ -180,7 +164,13 @@ shape_of reading network state due p (inl e) =
     elim (cases_lt due.slot (length network.device)) [
       | inl lt ↦ record { rank = 3; rest = due.slot ∷ []; is = e ∙ slot_low (length network.device) due lt; least = omega arith; most = omega arith }
       | inr le ↦
-          record { rank = 4; rest = (due.slot - length network.device) ∷ []; is = e ∙ slot_high (length network.device) due le; least = omega arith; most = omega arith }
+          record {
+            rank = 4;
+            rest = (due.slot - length network.device) ∷ [];
+            is = e ∙ slot_high (length network.device) due le;
+            least = omega arith;
+            most = omega arith;
+          }
     ]
 shape_of reading network state due p (inr r) = record {
   rank = 3;

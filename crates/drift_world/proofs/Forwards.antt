@@ -1,33 +1,14 @@
 -- Under events within the hypothesis each way of a link takes some time.
-use Rattle.std.proofs.Common.{◌≡◌, ◌⊎◌, ℕ, ◌≤◌, pos, ◌≤ℤ◌, ◌<ℤ◌, ◌+ℤ◌, Bool, true, false, ◌==◌, if◌then◌else◌, List, [], ◌∷◌, filter_map, Option, Some, None, inl, inr, refl, sym, ap, subst, ◌∙◌, arith}
-use Rattle.std.specs.Prelude.{unwrap_or, nat_le, IsSomeAnd}
-use Rattle.std.specs.List.{filter, last_or}
-use Rattle.std.specs.Option.{option_map_or}
-use Rattle.std.proofs.lemmas.Bool.{and_parts, cases_lt, eqb-true}
-use Rattle.std.proofs.lemmas.Int.{ints}
-use Rattle.net_plan.specs.Places.{link_at}
-use Rattle.net_plan.specs.Ranges.{IsInRange}
+use Rattle.drift_world.proofs.Words.{if◌then◌else◌, ◌+ℤ◌, ◌<ℤ◌, ◌==◌, ◌∙◌, ◌∷◌, ◌≡◌, ◌≤ℤ◌, ◌≤◌, ◌⊎◌, AreWithinHypothesis, Bool, DeviceId, IsIn, IsInRange}
+use Rattle.drift_world.proofs.Words.{IsSomeAnd, IsWithinHypothesis, Link, LinkId, List, Network, None, Option, Some, Units, Way, What, [], amount, and_parts}
+use Rattle.drift_world.proofs.Words.{ap, arith, cases_lt, delay_at, eqb-true, false, in_all, in_filter, inl, inr, ints, link_at, nat_le, option_map_or, parted}
+use Rattle.drift_world.proofs.Words.{pos, refl, scenario, subst, sym, target_by, true, unwrap_or, ℕ}
+use Rattle.std.{proofs.Common.filter_map, specs.List.last_or}
 use Rattle.net_plan.specs.declared.event.Event.{Event}
-use Rattle.net_plan.specs.declared.event.What.{What}
-use Rattle.net_plan.specs.declared.event.What.TheVariants as events
-use Rattle.net_plan.specs.declared.ids.DeviceId.{DeviceId}
-use Rattle.net_plan.specs.declared.ids.LinkId.{LinkId}
-use Rattle.net_plan.specs.declared.network.Network.{Network}
-use Rattle.net_plan.specs.declared.tables.Link.{Link}
-use Rattle.net_plan.specs.declared.tables.Way.{Way}
-use Rattle.run_law.proofs.law.FirstPlaces.{in_filter}
-use Rattle.run_law.proofs.runs.Places.{parted}
-use Rattle.run_law.specs.declared.outside.Outside.TheVariants as outside
-use Rattle.run_law.specs.records.Order.{IsIn}
-use Rattle.run_law.specs.scenario.Hypothesis.{AreWithinHypothesis, IsWithinHypothesis}
-use Rattle.run_law.specs.scenario.Scenarios.{events_up_to}
-use Rattle.run_law.specs.scenario.Ways.{delay_at, is_way, is_way_of, wire_of, wire_set}
-use Rattle.schedule_tables.specs.Entries.{target_by}
-use Rattle.tte_lemmas.proofs.Lists.{in_all}
-use Rattle.tte_units.specs.Amount.{amount}
-use Rattle.tte_units.specs.declared.units.Units.{Units}
-use Rattle.world_law.specs.source.Agreeing.{scenario}
+use Rattle.run_law.specs.scenario.{Scenarios.events_up_to, Ways.{is_way, is_way_of, wire_of, wire_set}}
 use Rattle.world_law.specs.world.World.{IsForward}
+use Rattle.net_plan.specs.declared.event.What.TheVariants as events
+use Rattle.run_law.specs.declared.outside.Outside.TheVariants as outside
 
 -- ---- a wire that is set is no shorter than the link's
 
@@ -71,7 +52,8 @@ wire_kept network link l way before event there least within events.End same = t
 -- ---- the last that is set
 
 kept_by : (setting : Event → Option ℕ) (es : List Event) (o p : Option ℕ) → IsSome1 o → IsSome1 p
-    → ((q : Option ℕ) → IsSome1 q → IsSome1 (last_or q (filter_map setting es))) → IsSome1 (last_or o (Rattle.std.specs.List.cons_option p (filter_map setting es)))
+    → ((q : Option ℕ) → IsSome1 q → IsSome1 (last_or q (filter_map setting es)))
+    → IsSome1 (last_or o (Rattle.std.specs.List.cons_option p (filter_map setting es)))
 kept_by setting es o None is here more = more o is
 kept_by setting es o (Some n) is here more = more (Some n) here
 

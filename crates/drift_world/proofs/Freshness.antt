@@ -1,43 +1,15 @@
 -- A world as it is at first is sound, and it stands.
-use Rattle.std.proofs.Common.{◌≡◌, ℕ, ◌+◌, ◌<◌, ℤ, List, [], ◌∷◌, ◌++◌, filter_map, length, map, slice_get, All, refl, sym, ap, subst, ◌∙◌, arith}
-use Rattle.std.specs.Option.{option_map}
-use Rattle.std.proofs.lemmas.Int.{ints}
-use Rattle.std.proofs.lemmas.List.{length-map, length-replicate}
-use Rattle.std.proofs.lemmas.List.Elements.{All-nil}
-use Rattle.std.proofs.lemmas.Option.{slice_get-get_or, slice_get-map}
-use Rattle.drift_clock.proofs.Readings.{IsLawful, begins_at_zero, keeps_clock_laws}
-use Rattle.net_plan.specs.Belonging.{IsOfNetwork}
-use Rattle.net_plan.specs.Ranges.{IsInRange, IsLinkInRange}
+use Rattle.drift_world.proofs.Words.{◌++◌, ◌+◌, ◌<◌, ◌∙◌, ◌∷◌, ◌≡◌, AreApart, AreBelow, AreUnderWay, AreWays, AreWithinHypothesis, DeviceId, HasItsOctets}
+use Rattle.drift_world.proofs.Words.{IsInRange, IsLawful, IsLinkInRange, IsOfNetwork, IsShort, IsSound, KeepsRules, List, Network, Node, Settled, StandsUnder}
+use Rattle.drift_world.proofs.Words.{Waits, [], amount, ap, arith, at_port, begins_at_zero, in_all, ints, keeps, keeps_clock_laws, length, length-map, map}
+use Rattle.drift_world.proofs.Words.{on_wire, one, reading_of, refl, scenario, slice_get-get_or, slice_get-map, subst, sym, way_as, world_of, ℕ, ℤ}
+use Rattle.std.{proofs.{Common.{All, filter_map, slice_get}, lemmas.List.{length-replicate, Elements.All-nil}}, specs.Option.option_map}
 use Rattle.net_plan.specs.declared.event.Event.{Event}
-use Rattle.net_plan.specs.declared.ids.DeviceId.{DeviceId}
-use Rattle.net_plan.specs.declared.network.Network.{Network}
 use Rattle.run_law.specs.law.FirstLaws.{IsEventInRange}
-use Rattle.run_law.specs.machines.Nodes.{Node}
-use Rattle.run_law.specs.scenario.Hypothesis.{AreWithinHypothesis}
-use Rattle.schedule_tables.specs.Rules.{KeepsRules}
-use Rattle.tte_units.specs.Amount.{amount}
-use Rattle.drift_world.proofs.Beginnings.{first_ways_are, found, found_in, none_under_way}
-use Rattle.drift_world.proofs.Fitting.{none_apart}
-use Rattle.drift_world.specs.Sound.{AreApart}
-use Rattle.drift_world.proofs.Forwards.{forward}
-use Rattle.drift_world.proofs.Steadiness.{steady}
-use Rattle.drift_world.specs.Beginning.{AreFresh, IsFirstState}
-use Rattle.world_state.specs.Beginning.{first_way}
-use Rattle.world_state.specs.Giving.{HasItsOctets}
-use Rattle.world_state.specs.Keeping.{keeps, sound_one}
-use Rattle.drift_world.specs.Running.{StandsUnder, reading_of}
-use Rattle.drift_world.specs.Sound.{IsSound}
-use Rattle.world_state.specs.Sound.{AreBelow, AreUnderWay, IsShort}
-use Rattle.drift_world.specs.Views.{world_of}
-use Rattle.world_state.specs.Views.{at_port, on_wire, way_as}
-use Rattle.world_state.specs.declared.contents.Settled.{Settled}
-use Rattle.world_state.specs.declared.contents.Waits.{Waits}
-use Rattle.drift_world.specs.declared.state.State.{State}
-use Rattle.tte_lemmas.proofs.Lists.{in_all}
-use Rattle.tte_lemmas.proofs.Options.{one}
+use Rattle.world_state.specs.{Beginning.first_way, Keeping.sound_one}
 use Rattle.world_steps.proofs.steps.Beginnings.{begun}
-use Rattle.world_law.specs.source.Agreeing.{scenario}
-use Rattle.world_law.specs.world.World.{AreWays}
+use Rattle.drift_world.proofs.{Beginnings.{first_ways_are, found, found_in, none_under_way}, Fitting.none_apart, Forwards.forward, Steadiness.steady}
+use Rattle.drift_world.specs.{Beginning.{AreFresh, IsFirstState}, declared.state.State.State}
 
 none_within : (network : Network) → AreWithinHypothesis network []
 none_within network before behind e order = absurd (from before order)

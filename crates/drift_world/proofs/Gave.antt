@@ -1,50 +1,18 @@
 -- Once a record is given the state is sound again.
-use Rattle.std.proofs.Common.{◌≡◌, ◌⊎◌, ℕ, zero, suc, ◌+◌, ◌<◌, Bool, true, false, not, ◌&&◌, if◌then◌else◌, List, [], ◌∷◌, ◌++◌, map, length, slice_get, Option, Some, None, inl, inr, refl, sym, ap, subst, ◌∙◌, arith}
-use Rattle.std.specs.Prelude.{All, IfSome, filter_map, ◌^◌, ◌≤◌, ◌↔◌}
-use Rattle.std.specs.Option.{option_map}
-use Rattle.std.proofs.lemmas.List.Elements.{All-map, All-weaker}
-use Rattle.std.specs.List.Sorted.{IsPermutation}
-use Rattle.std.proofs.lemmas.List.Sorted.{IsPermutation-sym}
-use Rattle.std.proofs.lemmas.Option.{same_Some}
-use Rattle.due_queue.proofs.Bags.{in_permuted}
-use Rattle.due_queue.specs.Places.{numbers_of}
-use Rattle.due_queue.specs.declared.Entry.{Entry}
-use Rattle.due_queue.specs.declared.Place.{Place}
-use Rattle.net_plan.specs.Places.{link_at}
-use Rattle.net_plan.specs.Ranges.{IsInRange}
-use Rattle.net_plan.specs.declared.ids.DeviceId.{DeviceId}
-use Rattle.net_plan.specs.declared.ids.LinkId.{LinkId}
-use Rattle.net_plan.specs.declared.network.Network.{Network}
-use Rattle.pcf_values.specs.declared.pcf.Pcf.{Pcf}
-use Rattle.run_law.specs.control.Permanence.{waits_for}
-use Rattle.run_law.specs.declared.note.NoteBody.TheVariants.{Event, Arrived, Permanent, Compressed, Sent, Corrected, State as Changed, Left, Lost, TtSent, Accepted, Delivered, Dropped, Clock}
-use Rattle.run_law.specs.declared.note.NoteBody.{NoteBody}
-use Rattle.run_law.specs.records.Order.{IsIn}
-use Rattle.run_law.specs.scenario.Ways.{receiver_of, way_from}
-use Rattle.drift_world.proofs.Sendings.{link_within}
-use Rattle.drift_world.proofs.Fitting.{apart_more, below_one_more}
-use Rattle.world_state.proofs.UnderWays.{sound_with}
-use Rattle.drift_world.specs.Giving.{IsGivenOut}
-use Rattle.world_state.specs.Giving.{HasItsOctets, IsPutOn, awaited_by, changed_device, control_on_wire, delay_by, place_on_wire, timed_on_wire, waits_from, wire_entry}
-use Rattle.world_state.specs.Frames.{IsOneMore}
-use Rattle.world_state.specs.Naming.{named_settled}
-use Rattle.drift_world.specs.Sound.{AreApart, IsSound}
-use Rattle.world_state.specs.Sound.{AreBelow, AreUnderWay, IsShort, rank_of}
-use Rattle.drift_world.specs.Stepping.{ChangesOnly}
-use Rattle.drift_world.specs.Views.{with_first, world_of}
-use Rattle.world_state.specs.Views.{at_port, on_wire, settled_at, stored_as, waiting_as}
-use Rattle.world_state.specs.declared.contents.Content.{Content}
-use Rattle.world_state.specs.declared.contents.Holding.{Holding}
-use Rattle.world_state.specs.declared.contents.Settled.{Settled}
-use Rattle.world_state.specs.declared.contents.Timed.{Timed}
-use Rattle.world_state.specs.declared.contents.Waits.{Waits}
-use Rattle.world_state.specs.declared.contents.WayState.{WayState}
-use Rattle.world_state.specs.declared.giving.Giving.{Giving}
-use Rattle.world_state.specs.declared.kept.Kept.{Kept}
-use Rattle.drift_world.specs.declared.state.State.{State}
-use Rattle.world_steps.proofs.hearing.Receptions.{receiver_in}
+use Rattle.drift_world.proofs.Words.{if◌then◌else◌, ◌&&◌, ◌+◌, ◌<◌, ◌^◌, ◌↔◌, ◌∙◌, ◌∷◌, ◌≡◌, ◌≤◌, ◌⊎◌, Accepted, AreApart, AreBelow, AreUnderWay, Arrived, Bool}
+use Rattle.drift_world.proofs.Words.{Changed, ChangesOnly, Compressed, Content, Delivered, DeviceId, Dropped, Giving, HasItsOctets, Holding, IfSome, IsGivenOut}
+use Rattle.drift_world.proofs.Words.{IsIn, IsInRange, IsPermutation, IsPermutation-sym, IsPutOn, IsShort, IsSound, Kept, Left, LinkId, List, Lost, Network}
+use Rattle.drift_world.proofs.Words.{None, NoteBody, Option, Pcf, Permanent, Place, Settled, Some, Timed, TtSent, Waits, WayState, World, ap, arith, at_port}
+use Rattle.drift_world.proofs.Words.{changed_device, delay_by, false, in_permuted, inl, inr, length, link_at, map, named_settled, not, numbers_of, on_wire}
+use Rattle.drift_world.proofs.Words.{rank_of, receiver_of, refl, settled_at, stored_as, subst, sym, true, waiting_as, way_from, wire_entry, with_first}
+use Rattle.drift_world.proofs.Words.{world_of, ℕ}
+use Rattle.std.{proofs.{Common.slice_get, lemmas.List.Elements.{All-map, All-weaker}}, specs.{Option.option_map, Prelude.{All, filter_map}}}
+use Rattle.run_law.specs.{control.Permanence.waits_for, declared.note.NoteBody.TheVariants.{Clock, Corrected, Event, Sent}}
 use Rattle.world_law.specs.world.Moves.{named_body}
-use Rattle.world_law.specs.world.World.{World}
+use Rattle.world_queue.specs.declared.Entry.{Entry}
+use Rattle.world_state.{proofs.UnderWays.sound_with, specs.{Frames.IsOneMore, Giving.{awaited_by, control_on_wire, place_on_wire, timed_on_wire, waits_from}}}
+use Rattle.world_steps.proofs.hearing.Receptions.{receiver_in}
+use Rattle.drift_world.{proofs.{Fitting.{apart_more, below_one_more}, Sendings.link_within}, specs.declared.state.State.State}
 
 -- ---- what is put to ports
 
@@ -208,7 +176,8 @@ waits_more reading network old new body frame number None out = inl out.no_wait
 waits_more reading network old new body frame number (Some g) out =
     one_more body number old.waiting.items new.waiting.items (awaited_by network g.broken body (Some g.frame) g.reading number)
     (awaited_so network g.broken body (Some g.frame) g.reading number)
-    (subst (λ (k : ℕ). IsOneMore (awaited_by network g.broken body (Some g.frame) g.reading k) old.waiting.items new.waiting.items) out.giver.numbered out.waits)
+    (subst (λ (k : ℕ). IsOneMore (awaited_by network g.broken body (Some g.frame) g.reading k) old.waiting.items new.waiting.items) out.giver.numbered
+    out.waits)
 
 waits_at : (number : ℕ) (xs ys : List Waits) → ys ≡ xs → All (λ w. w.cause < number) xs → All (λ w. w.cause < number + 1) ys
 waits_at number xs ys is all = subst (λ (l : List Waits). All (λ w. w.cause < number + 1) l) (sym is)

@@ -1,45 +1,15 @@
 -- The first of what is settled is given: the world stands again.
-use Rattle.std.proofs.Common.{◌≡◌, ℕ, ◌+◌, List, [], ◌∷◌, ◌++◌, map, length, Option, Some, None, refl, sym, ap, subst, ◌∙◌}
-use Rattle.std.specs.Prelude.{IfSome}
-use Rattle.std.specs.List.{filter_map}
-use Rattle.std.specs.Option.{option_map}
-use Rattle.due_queue.specs.declared.Entry.{Entry}
-use Rattle.due_queue.specs.declared.Place.{Place}
-use Rattle.net_plan.specs.declared.ids.DeviceId.{DeviceId}
-use Rattle.net_plan.specs.declared.network.Network.{Network}
-use Rattle.pcf_values.specs.declared.pcf.Pcf.{Pcf}
-use Rattle.run_law.specs.declared.note.Note.{Note}
-use Rattle.run_law.specs.declared.note.NoteBody.TheVariants.{Event, Arrived, Permanent, Compressed, Sent, Corrected, State as Changed, Left, Lost, TtSent, Accepted, Delivered, Dropped, Clock}
-use Rattle.run_law.specs.declared.note.NoteBody.{NoteBody}
-use Rattle.run_law.specs.machines.Nodes.{Node}
-use Rattle.run_law.specs.records.Happenings.{Happening, happening, happenings}
-use Rattle.run_law.specs.records.Order.{behind}
-use Rattle.run_law.specs.records.Ranks.{place_of}
-use Rattle.run_law.specs.scenario.Scenarios.{Scenario}
-use Rattle.world_state.proofs.Apart.{given_then, ports_kept, put_from, wires_kept}
-use Rattle.drift_world.proofs.FirstSettled.{first_is}
-use Rattle.drift_world.proofs.Launches.{given_out}
-use Rattle.drift_world.proofs.Sendings.{puts}
-use Rattle.drift_world.specs.Giving.{IsGivenOut}
-use Rattle.world_state.specs.Giving.{IsPutOn, MayBeGiven, control_on_wire, timed_on_wire, wire_entry}
-use Rattle.drift_world.specs.Showing.{IsOf}
-use Rattle.drift_world.proofs.Storings.{taken_by}
-use Rattle.world_state.specs.Storing.{stored_by}
-use Rattle.drift_world.specs.Views.{with_first}
-use Rattle.world_state.specs.Views.{at_port, octets_in, on_wire, settled_at, stored_as, waiting_as}
-use Rattle.world_state.specs.Naming.{named_settled}
-use Rattle.world_state.specs.declared.contents.Content.{Content}
-use Rattle.world_state.specs.declared.contents.Holding.{Holding}
-use Rattle.world_state.specs.declared.contents.Settled.{Settled}
-use Rattle.world_state.specs.declared.contents.Timed.{Timed}
-use Rattle.world_state.specs.declared.contents.WayState.{WayState}
-use Rattle.world_state.specs.declared.giving.Giving.{Giving}
-use Rattle.world_state.specs.declared.kept.Kept.{Kept}
-use Rattle.drift_world.specs.declared.state.State.{State}
-use Rattle.world_law.proofs.giving.Given.{given_step}
-use Rattle.world_law.specs.source.First.{NoSourceBefore}
-use Rattle.world_law.specs.world.Moves.{AreTaken, StandsBehind, named}
-use Rattle.world_law.specs.world.World.{Stands, note_of}
+use Rattle.drift_world.proofs.Words.{◌++◌, ◌+◌, ◌∙◌, ◌∷◌, ◌≡◌, Accepted, Arrived, Changed, Compressed, Content, Delivered, DeviceId, Dropped, Giving, Happening}
+use Rattle.drift_world.proofs.Words.{Holding, IfSome, IsGivenOut, IsOf, IsPutOn, IsStoredBy, Kept, Left, List, Lost, Network, NoSourceBefore, Node, None, Note}
+use Rattle.drift_world.proofs.Words.{NoteBody, Option, Pcf, Permanent, Place, Scenario, Settled, Some, Stands, StandsBehind, Timed, TtSent, WayState, [], ap}
+use Rattle.drift_world.proofs.Words.{at_port, behind, happening, happenings, length, map, named_settled, note_of, octets_in, on_wire, place_of, refl}
+use Rattle.drift_world.proofs.Words.{settled_at, stored_as, subst, sym, waiting_as, wire_entry, with_first, ℕ}
+use Rattle.std.specs.{List.filter_map, Option.option_map}
+use Rattle.run_law.specs.declared.note.NoteBody.TheVariants.{Clock, Corrected, Event, Sent}
+use Rattle.world_law.{proofs.giving.Given.given_step, specs.world.Moves.named}
+use Rattle.world_queue.specs.declared.Entry.{Entry}
+use Rattle.world_state.{proofs.Apart.{given_then, ports_kept, put_from, wires_kept}, specs.Giving.{MayBeGiven, control_on_wire, timed_on_wire}}
+use Rattle.drift_world.{proofs.{FirstSettled.first_is, Launches.given_out, Sendings.puts, Storings.taken_by}, specs.declared.state.State.State}
 
 no_port_at : (f : Place → Entry Content) → ((p : Place) → at_port (f p) ≡ None) → (o : Option Place) → IfSome (option_map f o) (λ one. at_port one ≡ None)
 no_port_at f none None = tt
@@ -66,7 +36,8 @@ no_port network ups downs (Clock a b c d) frame octets time number = tt
 
 -- what follows it is named
 pub named_all : (network : Network) (now number : ℕ) (first : Settled) (xs : List Settled)
-    → map (named number (settled_at network now first)) (map (settled_at network now) xs) ≡ map (settled_at network now) (map (named_settled number first.body) xs)
+    → map (named number (settled_at network now first)) (map (settled_at network now) xs)
+    ≡ map (settled_at network now) (map (named_settled number first.body) xs)
 named_all network now number first [] = refl
 named_all network now number first (z ∷ xs) = ap (λ l. settled_at network now (named_settled number first.body z) ∷ l) (named_all network now number first xs)
 
@@ -81,7 +52,7 @@ GivesOn {C} {M} reading stands s network =
     → IsGivenOut reading network state after first.body first.frame (length notes + 1) giving
     → IsPutOn (wire_entry network state.ups.items state.downs.items first.body first.frame first.octets state.time (length notes + 1))
     after.under_way.entries entries
-    → held ≡ stored_by first.body first.octets (length notes + 1) state.stored.items
+    → IsStoredBy first.body first.octets (length notes + 1) state.stored.items held
     → StandsBehind reading stands s
     (record (with_first network state first rest) {
       wires = filter_map (on_wire network) entries;
@@ -94,7 +65,7 @@ GivesOn {C} {M} reading stands s network =
 
 given_stands : {C M : Type 0} (reading : C → ℕ → ℕ) (stands : Kept M → Network → DeviceId → Node → Type 0) (s : Scenario)
     → GivesOn {C = C} {M = M} reading stands s s.network
-given_stands {C} {M} reading stands s state after notes first rest giving entries held old none may out sent held_is =
+given_stands {C} {M} reading stands s state after notes first rest giving entries held old none may out sent stored =
     let number = length notes + 1 in
     let z = settled_at s.network state.time first in
     let others = map (settled_at s.network state.time) rest in
@@ -106,10 +77,10 @@ given_stands {C} {M} reading stands s state after notes first rest giving entrie
     let of : IsOf reading s s.network state = record { same = refl; clocks = old.clocks; broken = old.broken; ways = old.ways } in
     let own = subst (λ (f : Option Pcf). IsGivenOut reading s.network state after first.body f number giving) (sym frame) out in
     let both = given_out reading s state after x number giving of old.range refl (λ d by no. may.framed d by (sym frame ∙ no)) may.arrived own in
-    let put = puts s state.time state.ups.items state.downs.items old.ways x number refl after.under_way.entries entries first.body first.frame first.octets refl
+    let put = puts s state.time state.ups.items state.downs.items old.ways x number refl after.under_way.entries entries first.body first.frame first.octets
+    refl
     may.with_octets frame octets sent in
-    let taken = subst (λ (l : List Holding). AreTaken x number (map (stored_as s.network) state.stored.items) (map (stored_as s.network) l)) (sym held_is)
-    (taken_by s.network x number state.stored.items first.body first.octets refl may.with_octets octets) in
+    let taken = taken_by s.network x number state.stored.items held first.body first.octets refl may.with_octets octets stored in
     given_step reading stands s world notes z others (filter_map (on_wire s.network) entries) (filter_map at_port entries) (map waiting_as after.waiting.items)
     (map (stored_as s.network) held) old refl none
     (put_from s x number _ _ _ (wires_kept (length s.network.link) s.network s.network state.ups.items state.downs.items first.body giving

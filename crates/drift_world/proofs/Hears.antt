@@ -1,64 +1,24 @@
 -- What is on a wire arrives: its device may hear it, and the world stands again.
-use Rattle.std.proofs.Common.{◌≡◌, ℕ, ◌==◌, pos, Bool, set, true, false, if◌then◌else◌, List, [], ◌∷◌, map, Option, Some, Ok, Err, Result, slice_get, option_map, inl, inr, refl, sym, ap, subst, ◌∙◌, arith}
-use Rattle.std.specs.List.{filter_map}
-use Rattle.std.specs.List.Sorted.{IsPermutation}
-use Rattle.std.proofs.lemmas.List.Sorted.{IsPermutation-sym}
-use Rattle.due_queue.proofs.Bags.{in_permuted}
-use Rattle.due_queue.specs.Places.{numbers_of}
-use Rattle.due_queue.specs.declared.Entry.{Entry}
-use Rattle.due_queue.specs.declared.Place.{Place}
-use Rattle.net_plan.specs.declared.ids.DeviceId.{DeviceId}
-use Rattle.net_plan.specs.declared.ids.LinkId.{LinkId}
-use Rattle.net_plan.specs.declared.network.Network.{Network}
-use Rattle.pcf_codec.specs.Decoding.{decoded}
-use Rattle.pcf_codec.specs.EtherType.{pcf_type}
-use Rattle.pcf_codec.specs.Fields.{field}
-use Rattle.pcf_codec.specs.declared.refusal.PcfRefusal.{PcfRefusal}
-use Rattle.pcf_values.specs.declared.pcf.Pcf.{Pcf}
-use Rattle.run_law.specs.control.Arrivals.{clock_on_arrival}
-use Rattle.run_law.specs.control.Wires.{Signal, control, signal_of, timed}
-use Rattle.run_law.specs.declared.note.Note.{Note}
-use Rattle.run_law.specs.declared.steps.Arrival.TheVariants as arrivals
-use Rattle.run_law.specs.declared.steps.Arrival.{Arrival}
-use Rattle.run_law.specs.declared.steps.Moment.{Moment}
-use Rattle.run_law.specs.machines.Answers.{arrival_at}
-use Rattle.run_law.specs.machines.Calls.{MayArrive, MayCall, StandsFor}
-use Rattle.run_law.specs.machines.Nodes.{Node, arriving, last_taken_by, standpoint_at}
-use Rattle.run_law.specs.records.Happenings.{Happening, frame_by, frame_from, happenings, octets_by, octets_from, with_clock}
-use Rattle.run_law.specs.records.Order.{IsBefore, IsIn, behind}
-use Rattle.run_law.specs.scenario.Scenarios.{Scenario}
-use Rattle.tte_units.specs.Amount.{amount, units_of}
-use Rattle.tte_units.specs.declared.units.Units.{Units}
-use Rattle.drift_world.proofs.Alike.{with_ports}
-use Rattle.drift_world.proofs.Arrivals.{control_so, on_arrival, timed_so}
-use Rattle.drift_world.proofs.Fits.{have_octets}
-use Rattle.drift_world.proofs.HiddenCauses.{settled_in_order}
-use Rattle.drift_world.proofs.Puts.{one_put_in}
-use Rattle.drift_world.proofs.Signals.{frame_told, octets_told, plain_on_wire}
+use Rattle.drift_world.proofs.Words.{if◌then◌else◌, ◌==◌, ◌∙◌, ◌∷◌, ◌≡◌, AreUnderWay, Bool, ComesFirst, Content, DeviceId, Err, Happening, IsBefore, IsHeld}
+use Rattle.drift_world.proofs.Words.{IsIn, IsPermutation, IsPermutation-sym, IsPutAt, Kept, LinkId, List, Moment, Network, Node, Note, Ok, OnWire, Option, Pcf}
+use Rattle.drift_world.proofs.Words.{Place, Result, Scenario, Settled, Signal, Some, Stands, StandsBehind, StandsFor, Units, Wire, World, [], amount, ap, arith}
+use Rattle.drift_world.proofs.Words.{at_port, behind, control, false, field, frame_by, frame_from, happenings, in_permuted, inl, inr, is_given, map, moment_of}
+use Rattle.drift_world.proofs.Words.{numbers_of, octets_by, octets_from, octets_in, octets_of, on_wire, pos, refl, settled_as, settled_at, signal_as, signal_of}
+use Rattle.drift_world.proofs.Words.{subst, sym, timed, true, units_of, wire_place, with_clock, world_of, ℕ}
+use Rattle.std.{proofs.Common.{option_map, set, slice_get}, specs.List.filter_map}
+use Rattle.pcf_codec.specs.{Decoding.decoded, EtherType.pcf_type, declared.refusal.PcfRefusal.PcfRefusal}
+use Rattle.run_law.{proofs.runs.Determined.same_units, specs.{control.Arrivals.clock_on_arrival, declared.steps.Arrival.Arrival, machines.Answers.arrival_at}}
+use Rattle.run_law.specs.machines.{Calls.{MayArrive, MayCall}, Nodes.{arriving, last_taken_by, standpoint_at}}
+use Rattle.world_law.{proofs.giving.Given.some_same, specs.world.{Calls.{HasHeard, IsSet}, Outcomes.arrival_body, World.IsClockOf}}
+use Rattle.world_queue.specs.declared.Entry.{Entry}
 use Rattle.world_state.proofs.UnderWays.{ports_stay, wires_without}
 use Rattle.world_state.specs.Hearing.{AreOctetsOf, IsAsSent, MayCome, arrived, frame_kept, octets_kept, timed_in}
-use Rattle.world_state.specs.Places.{IsPutAt}
-use Rattle.world_state.specs.Sound.{AreUnderWay}
-use Rattle.drift_world.specs.Views.{world_of}
-use Rattle.world_state.specs.Views.{at_port, octets_in, octets_of, on_wire, settled_at, signal_as}
-use Rattle.world_state.specs.declared.contents.Content.TheVariants.{Wire}
-use Rattle.world_state.specs.declared.contents.Content.{Content}
-use Rattle.world_state.specs.declared.contents.Settled.{Settled}
-use Rattle.world_state.specs.declared.contents.Signal.TheVariants as signals
 use Rattle.world_state.specs.declared.contents.Signal.{Signal as SignalSent}
-use Rattle.world_state.specs.declared.kept.Kept.{Kept}
-use Rattle.drift_world.specs.declared.state.State.{State}
-use Rattle.run_law.proofs.records.Order.{is_given}
-use Rattle.run_law.proofs.runs.Determined.{same_units}
-use Rattle.world_law.proofs.giving.Given.{some_same}
-use Rattle.world_steps.proofs.hearing.Calling.{may_call}
-use Rattle.world_steps.proofs.hearing.HeardSteps.{heard_step}
-use Rattle.world_steps.proofs.hearing.OneMaster.{may_arrive}
-use Rattle.world_steps.proofs.hearing.Receptions.{device_there}
-use Rattle.world_law.specs.world.Calls.{HasHeard, IsSet, moment_of}
-use Rattle.world_law.specs.world.Outcomes.{arrival_body}
-use Rattle.world_law.specs.world.Moves.{ComesFirst, StandsBehind, settled_as}
-use Rattle.world_law.specs.world.World.{IsClockOf, IsHeld, OnWire, Stands, World, wire_place}
+use Rattle.world_steps.proofs.hearing.{Calling.may_call, HeardSteps.heard_step, OneMaster.may_arrive, Receptions.device_there}
+use Rattle.drift_world.proofs.{Alike.with_ports, Arrivals.{control_so, on_arrival, timed_so}, Fits.have_octets, HiddenCauses.settled_in_order, Puts.one_put_in}
+use Rattle.drift_world.{proofs.Signals.{frame_told, octets_told, plain_on_wire}, specs.declared.state.State.State}
+use Rattle.run_law.specs.declared.steps.Arrival.TheVariants as arrivals
+use Rattle.world_state.specs.declared.contents.Signal.TheVariants as signals
 
 -- ---- the record of what becomes of it
 

@@ -1,22 +1,11 @@
 -- What is settled is in the order of its places, also where the causes that are to come are hidden.
-use Rattle.std.proofs.Common.{◌≡◌, ◌⊎◌, ℕ, ◌<◌, ◌≤◌, List, [], ◌∷◌, ◌++◌, Bool, map, length, inl, inr, refl, sym, ap, subst, ◌∙◌, append_assoc, arith}
-use Rattle.std.specs.Prelude.{if◌then◌else◌, nat_lt}
-use Rattle.std.proofs.lemmas.Bool.{cases_lt, le-ltb, lt-ltb}
-use Rattle.net_plan.specs.declared.ids.DeviceId.{DeviceId}
-use Rattle.run_law.proofs.runs.Places.{chain, in_right, never_self, parted}
-use Rattle.net_plan.specs.declared.network.Network.{Network}
-use Rattle.run_law.specs.machines.Nodes.{Node}
-use Rattle.run_law.specs.scenario.Scenarios.{Scenario}
-use Rattle.run_law.specs.declared.note.Note.{Note}
-use Rattle.run_law.specs.records.Happenings.{Happening, happenings, time_of}
-use Rattle.run_law.specs.records.Order.{IsBefore, IsIn, NoneBefore}
-use Rattle.run_law.specs.records.Ranks.{key, members_in, place_of, rank}
-use Rattle.run_law.specs.declared.judgement.Why.{Why}
-use Rattle.run_law.specs.declared.note.NoteBody.TheVariants.{Event, Arrived, Permanent, Compressed, Sent, Corrected, State as Changed, Left, Lost, TtSent, Accepted, Delivered, Dropped, Clock}
-use Rattle.run_law.specs.declared.note.NoteBody.{NoteBody}
+use Rattle.drift_world.proofs.Words.{if◌then◌else◌, ◌++◌, ◌<◌, ◌∙◌, ◌∷◌, ◌≡◌, ◌≤◌, ◌⊎◌, Accepted, AreSettled, Arrived, Bool, Changed, Compressed, Delivered}
+use Rattle.drift_world.proofs.Words.{DeviceId, Dropped, Happening, IsBefore, IsIn, Left, List, Lost, Network, Node, NoneBefore, Note, NoteBody, Permanent}
+use Rattle.drift_world.proofs.Words.{Scenario, Stands, TtSent, World, [], ap, append_assoc, arith, cases_lt, chain, happenings, hidden, hidden_body, in_right}
+use Rattle.drift_world.proofs.Words.{inl, inr, le-ltb, length, lt-ltb, map, nat_lt, never_self, none_yet, parted, place_of, rank, refl, subst, sym, time_of, ℕ}
+use Rattle.run_law.specs.{declared.{judgement.Why.Why, note.NoteBody.TheVariants.{Clock, Corrected, Event, Sent}}, records.Ranks.{key, members_in}}
 use Rattle.sync_state.specs.declared.state.State.{State}
 use Rattle.world_law.proofs.putting.PutShown.{hidden_rank}
-use Rattle.world_law.specs.world.World.{AreSettled, Stands, World, hidden, hidden_body, none_yet}
 use Rattle.world_steps.proofs.acting.Stays.{out_mapped}
 
 -- none is before one that stands before it

@@ -1,42 +1,16 @@
 -- What a record of the present instant put on a wire is there still.
-use Rattle.std.proofs.Common.{◌≡◌, ℕ, ◌+◌, ◌<◌, ◌≤◌, true, List, [], ◌∷◌, length, Option, Some, None, option_map, inl, inr, refl, sym, ap, subst, ◌∙◌, arith, ℤ, Bor}
-use Rattle.std.specs.Option.{option_copied}
-use Rattle.std.specs.Prelude.{IfNone, IfSome}
-use Rattle.std.specs.List.{filter_map}
-use Rattle.drift_world.specs.Running.{StandsUnder, reading_of}
-use Rattle.drift_world.specs.Views.{world_of}
-use Rattle.drift_world.specs.Wires.{IsOfNow, IsOnOwnLink, on_wire_in, put_by}
-use Rattle.drift_world.specs.declared.state.State.{State}
-use Rattle.due_queue.specs.Finding.{HoldsAt, HoldsNoneAt, IsPlaceFor}
-use Rattle.due_queue.specs.declared.Entry.{Entry}
-use Rattle.due_queue.specs.declared.Place.{Place}
+use Rattle.drift_world.proofs.Words.{◌+◌, ◌<◌, ◌∙◌, ◌∷◌, ◌≡◌, ◌≤◌, AreUnderWay, Arrives, Content, DeviceId, Happening, IfNone, IfSome, IsBefore, Kept, Launch}
+use Rattle.drift_world.proofs.Words.{List, Network, Node, None, Note, OnWire, Option, Place, Port, Scenario, Some, Stands, StandsUnder, Wire, [], ap, arith}
+use Rattle.drift_world.proofs.Words.{delay_at, given_of, happenings, inl, inr, is_given, keeps, launched, length, numbered, numbered_in, on_wire, place_of}
+use Rattle.drift_world.proofs.Words.{rank, rank_of, reading_of, receiver_of, refl, scenario, signal_as, sym, target_by, time_of, time_on_port, wire_at}
+use Rattle.drift_world.proofs.Words.{wire_place, world_of, ℕ, ℤ}
+use Rattle.std.{proofs.Common.{Bor, option_map}, specs.Option.option_copied}
 use Rattle.net_plan.specs.declared.event.Event.{Event}
-use Rattle.net_plan.specs.declared.ids.DeviceId.{DeviceId}
-use Rattle.net_plan.specs.declared.network.Network.{Network}
-use Rattle.net_plan.specs.declared.tables.Link.{Link}
-use Rattle.run_law.proofs.law.FirstPlaces.{numbered_in}
-use Rattle.run_law.proofs.records.Order.{given_of, is_given}
-use Rattle.run_law.specs.control.Wires.{Arrives, Launch, Signal, launched, time_on_port}
-use Rattle.run_law.specs.declared.note.Note.{Note}
-use Rattle.run_law.specs.machines.Nodes.{Node}
-use Rattle.run_law.specs.records.Happenings.{Happening, happenings, numbered, time_of}
-use Rattle.run_law.specs.records.Order.{IsBefore, IsIn}
-use Rattle.run_law.specs.records.Ranks.{place_of, rank}
-use Rattle.run_law.specs.scenario.Scenarios.{Scenario}
-use Rattle.run_law.specs.scenario.Ways.{delay_at, receiver_of}
-use Rattle.schedule_tables.specs.Entries.{target_by}
 use Rattle.tte_lemmas.proofs.Lists.{some_at}
-use Rattle.world_law.proofs.giving.Given.{some_same}
-use Rattle.world_law.specs.source.Agreeing.{scenario}
-use Rattle.world_law.specs.source.Sources.{IsArriving}
-use Rattle.world_law.specs.world.World.{OnWire, Stands, wire_place}
-use Rattle.world_state.specs.Keeping.{keeps}
-use Rattle.world_state.specs.Sound.{AreUnderWay, rank_of}
-use Rattle.world_state.specs.Views.{on_wire, signal_as, wire_at}
-use Rattle.world_state.specs.declared.contents.Content.TheVariants.{Wire, Port}
-use Rattle.world_state.specs.declared.contents.Content.{Content}
+use Rattle.world_law.{proofs.giving.Given.some_same, specs.source.Sources.IsArriving}
+use Rattle.world_queue.specs.Finding.{HoldsAt, HoldsNoneAt}
 use Rattle.world_state.specs.declared.contents.Signal.{Signal as Sent}
-use Rattle.world_state.specs.declared.kept.Kept.{Kept}
+use Rattle.drift_world.specs.{Wires.{IsOfNow, IsOnOwnLink, on_wire_in, put_by}, declared.state.State.State}
 
 -- ---- what is found
 
@@ -124,7 +98,8 @@ module _ {C M : Type 0} (reading : C → ℕ → ℕ) (stands : Kept M → Netwo
   none_put (Some launch) put own none = absurd (some_found launch put own none)
 
   -- what is found on a wire is what the record put there
-  pub just_put : (found : Option Content) → IfSome found (HoldsAt state.under_way.entries 2 number) → IfNone found (HoldsNoneAt state.under_way.entries 2 number)
+  pub just_put : (found : Option Content) → IfSome found (HoldsAt state.under_way.entries 2 number)
+      → IfNone found (HoldsNoneAt state.under_way.entries 2 number)
       → IsOnOwnLink s h → option_map (signal_as network) (on_wire_in found) ≡ put_by s h
   just_put None some none own = none_put (launched s h (time_of h) h.note.body) refl own none
   just_put (Some content) some none own =

@@ -1,30 +1,13 @@
 -- An event of a later time befalls a world, where no record before it is left.
-use Rattle.std.proofs.Common.{◌≡◌, ℕ, ◌*◌, ◌^◌, ◌≤◌, ℤ, pos, negsuc, ◌≤ℤ◌, ◌<ℤ◌, unsigned_abs, List, [], ◌∷◌, ◌++◌, Option, Some, None, append-nil, inl, inr, refl, sym, ap, subst, ◌∙◌, arith}
-use Rattle.std.specs.Prelude.{IfNone, IfSome, option_to_list}
-use Rattle.std.proofs.lemmas.Bool.{cases_lt, false_from_ne_true, true≢false}
-use Rattle.std.proofs.lemmas.Int.{ints}
-use Rattle.net_plan.specs.Ranges.{IsInRange}
+use Rattle.drift_world.proofs.Words.{◌*◌, ◌++◌, ◌<ℤ◌, ◌^◌, ◌∙◌, ◌∷◌, ◌≡◌, ◌≤ℤ◌, ◌≤◌, DeviceId, IfNone, IfSome, IsBefore, IsInRange, IsScenarioRun}
+use Rattle.drift_world.proofs.Words.{IsWithinHypothesis, Kept, List, Network, Node, None, Note, Option, Scenario, Some, StandsUnder, Units, World, [], amount}
+use Rattle.drift_world.proofs.Words.{ap, append-nil, arith, cases_lt, false_from_ne_true, happening, happenings, inl, inr, ints, never_self, place_of, pos}
+use Rattle.drift_world.proofs.Words.{refl, subst, sym, units_of, unsigned_abs, ℕ, ℤ}
+use Rattle.std.{proofs.{Common.negsuc, lemmas.Bool.true≢false}, specs.Prelude.option_to_list}
 use Rattle.net_plan.specs.declared.event.Event.{Event}
-use Rattle.net_plan.specs.declared.ids.DeviceId.{DeviceId}
-use Rattle.net_plan.specs.declared.network.Network.{Network}
-use Rattle.run_law.proofs.runs.NetworkRuns.{one_more}
-use Rattle.run_law.proofs.runs.Places.{never_self}
-use Rattle.run_law.specs.declared.note.Note.{Note}
-use Rattle.run_law.specs.declared.outside.Outside.TheVariants.{Late}
-use Rattle.run_law.specs.machines.Nodes.{Node}
-use Rattle.run_law.specs.records.Happenings.{happening, happenings}
-use Rattle.run_law.specs.records.Order.{IsBefore}
-use Rattle.run_law.specs.records.Ranks.{place_of}
-use Rattle.run_law.specs.runs.DueRecords.{IsScenarioRun}
-use Rattle.run_law.specs.scenario.Hypothesis.{IsWithinHypothesis}
-use Rattle.run_law.specs.scenario.Scenarios.{Scenario}
-use Rattle.tte_units.specs.Amount.{amount, units_of}
-use Rattle.tte_units.specs.declared.units.Units.{Units}
-use Rattle.drift_world.specs.Later.{ComesBehind, IsOpenFrom, MayApplyAgain}
-use Rattle.drift_world.specs.Running.{HasReached, IsOpenTo, Reaches, StandsUnder}
+use Rattle.run_law.{proofs.runs.NetworkRuns.one_more, specs.declared.outside.Outside.TheVariants.Late}
 use Rattle.tte_lemmas.proofs.Integers.{whole as whole_time}
-use Rattle.world_law.specs.world.World.{World}
-use Rattle.world_state.specs.declared.kept.Kept.{Kept}
+use Rattle.drift_world.specs.{Later.{ComesBehind, IsOpenFrom, MayApplyAgain}, Running.{HasReached, IsOpenTo, Reaches}}
 
 -- ---- times
 

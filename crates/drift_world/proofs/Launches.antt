@@ -1,40 +1,17 @@
 -- What a record launches, as its law asks for it.
-use Rattle.std.proofs.Common.{◌≡◌, ℕ, ◌+◌, ◌<◌, Bool, true, false, List, ◌∷◌, [], map, length, Option, Some, None, inl, inr, refl, sym, ap, subst, ◌∙◌, arith}
-use Rattle.std.specs.Prelude.{if◌then◌else◌, IsSomeAnd, IfSome, IfNone}
+use Rattle.drift_world.proofs.Words.{if◌then◌else◌, ◌+◌, ◌<◌, ◌∙◌, ◌∷◌, ◌≡◌, Accepted, AreBelow, AreUnderWay, AreWays, Arrived, ArrivedAt, AtPort, Bool}
+use Rattle.drift_world.proofs.Words.{Changed, Compressed, Content, Delivered, DeviceId, Down, Dropped, Giving, Happening, IfNone, IfSome, IsGivenOut, IsInRange}
+use Rattle.drift_world.proofs.Words.{IsLinkInRange, IsOf, IsSomeAnd, Left, Link, LinkId, List, Lost, Network, None, NoteBody, Option, Pcf, Permanent, Scenario}
+use Rattle.drift_world.proofs.Words.{Some, TtSent, Up, Waits, WayNow, WayState, [], ap, arith, at_port, delay_at, delay_by, false, given_of, in_all, inl, inr}
+use Rattle.drift_world.proofs.Words.{is_broken, is_given, is_parent_of, length, map, option_map_or, refl, same_Some, slice_get-map, slice_get_within, subst}
+use Rattle.drift_world.proofs.Words.{sym, time_of, true, waiting_as, way_as, way_from, way_now, ℕ}
 use Rattle.std.specs.List.{filter_map, slice_get}
-use Rattle.std.specs.Option.{option_map_or}
-use Rattle.std.proofs.lemmas.Option.{same_Some, slice_get-map, slice_get_within}
-use Rattle.due_queue.specs.declared.Entry.{Entry}
-use Rattle.net_plan.specs.declared.ids.DeviceId.{DeviceId}
-use Rattle.net_plan.specs.declared.ids.LinkId.{LinkId}
-use Rattle.net_plan.specs.declared.network.Network.{Network}
-use Rattle.net_plan.specs.declared.tables.Link.{Link}
-use Rattle.net_plan.specs.declared.tables.Way.TheVariants.{Up, Down}
-use Rattle.run_law.specs.control.Leaving.{Gives}
-use Rattle.run_law.specs.declared.note.NoteBody.TheVariants.{Event, Arrived, Permanent, Compressed, Sent, Corrected, State as Changed, Left, Lost, TtSent, Accepted, Delivered, Dropped, Clock}
-use Rattle.run_law.specs.declared.note.NoteBody.{NoteBody}
-use Rattle.run_law.specs.records.Happenings.{Happening, time_of}
-use Rattle.run_law.specs.scenario.Devices.{is_parent_of}
-use Rattle.run_law.specs.scenario.Scenarios.{Scenario, is_broken}
-use Rattle.run_law.specs.scenario.Ways.{delay_at, hold_at, way_from}
-use Rattle.drift_world.specs.Giving.{IsGivenOut, IsGiver}
-use Rattle.world_state.specs.Giving.{ArePutTo, ArrivedAt, HasItsFrame, delay_by, entry_at_port, giver_of, hold_by}
-use Rattle.drift_world.specs.Showing.{IsOf}
-use Rattle.world_state.specs.Sound.{AreBelow, AreUnderWay}
-use Rattle.world_state.specs.Views.{at_port, waiting_as, way_as}
-use Rattle.world_state.specs.declared.contents.Waits.{Waits}
-use Rattle.drift_world.specs.declared.state.State.{State}
-use Rattle.drift_world.proofs.Awaits.{awaits, none_awaited}
-use Rattle.net_plan.specs.Ranges.{IsInRange, IsLinkInRange}
-use Rattle.pcf_values.specs.declared.pcf.Pcf.{Pcf}
-use Rattle.run_law.proofs.records.Order.{given_of, is_given}
-use Rattle.tte_lemmas.proofs.Lists.{in_all}
+use Rattle.run_law.specs.{control.Leaving.Gives, declared.note.NoteBody.TheVariants.{Clock, Corrected, Event, Sent}, scenario.Ways.hold_at}
 use Rattle.tte_lemmas.proofs.Options.{mapped}
-use Rattle.world_state.specs.declared.contents.Content.{Content}
-use Rattle.world_state.specs.declared.contents.WayState.{WayState}
-use Rattle.world_state.specs.declared.giving.Giving.{Giving}
-use Rattle.world_law.specs.world.Moves.{AreAwaited, AreGiven}
-use Rattle.world_law.specs.world.World.{AreWays, AtPort, IsGivenBy, WayNow, port_place, way_now}
+use Rattle.world_law.specs.world.{Moves.{AreAwaited, AreGiven}, World.{IsGivenBy, port_place}}
+use Rattle.world_queue.specs.declared.Entry.{Entry}
+use Rattle.world_state.specs.Giving.{ArePutTo, HasItsFrame, entry_at_port, giver_of, hold_by}
+use Rattle.drift_world.{proofs.Awaits.{awaits, none_awaited}, specs.{Giving.IsGiver, declared.state.State.State}}
 
 within_and : {X : Type 0} (P : X → Type 0) (xs : List X) (i : ℕ) (o : Option X) → slice_get xs i ≡ o → IsSomeAnd o P → i < length xs
 within_and P xs i None e and = absurd and

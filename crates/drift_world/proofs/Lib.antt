@@ -47,3 +47,4 @@ pub mod TurnedOn
 pub mod Turning
 pub mod Wells
 pub mod JustPut
+pub mod Words

@@ -1,28 +1,13 @@
 -- The values that local clocks show, where the machines' adjustments are small.
-use Rattle.std.proofs.Common.{◌≡◌, ℕ, ◌+◌, ◌^◌, ◌≤◌, ◌<◌, ℤ, Bool, true, false, List, length, Option, inl, inr, refl, sym, ap, subst, ◌∙◌, arith}
-use Rattle.std.specs.Prelude.{IfSome}
-use Rattle.std.proofs.lemmas.Int.{ints}
+use Rattle.drift_world.proofs.Words.{◌+◌, ◌<◌, ◌^◌, ◌∙◌, ◌≡◌, ◌≤◌, Bool, DeviceId, DeviceState, Happening, IfSome, IsComplete, IsHeld, Kept, List, Network}
+use Rattle.drift_world.proofs.Words.{Node, Note, Option, Scenario, Shows, Stands, Units, ap, arith, false, happenings, inl, inr, ints, is_broken, keeps, length}
+use Rattle.drift_world.proofs.Words.{local_shown, reading_of, refl, subst, sym, true, world_of, ℕ, ℤ}
 use Rattle.clock_correction.specs.Deviation.{IsSmall}
-use Rattle.drift_world.proofs.Agreements.{reads_value}
 use Rattle.net_plan.specs.declared.event.Event.{Event}
-use Rattle.net_plan.specs.declared.ids.DeviceId.{DeviceId}
-use Rattle.net_plan.specs.declared.network.Network.{Network}
-use Rattle.run_law.specs.declared.note.Note.{Note}
-use Rattle.run_law.specs.machines.Nodes.{Node}
-use Rattle.run_law.specs.records.Happenings.{Happening, happenings}
-use Rattle.run_law.specs.scenario.Scenarios.{Scenario, is_broken}
+use Rattle.world_law.{proofs.giving.Given.{no_later_breaks, some_same}, specs.world.World.HaveBefallen}
+use Rattle.world_state.specs.declared.kept.Kept.TheVariants.{Out, Sound}
+use Rattle.drift_world.{proofs.Agreements.reads_value, specs.{Locals.{AreSmall, IsLocalValue}, Running.clock_of, declared.state.State.State}}
 use Rattle.sync_state.specs.declared.state.State.TheVariants as states
-use Rattle.sync_state.specs.declared.state.State.{State as DeviceState}
-use Rattle.tte_units.specs.declared.units.Units.{Units}
-use Rattle.world_state.specs.Keeping.{keeps}
-use Rattle.world_state.specs.declared.kept.Kept.TheVariants.{Sound, Out}
-use Rattle.world_state.specs.declared.kept.Kept.{Kept}
-use Rattle.drift_world.specs.Locals.{AreSmall, IsComplete, IsLocalValue, Shows, local_shown}
-use Rattle.drift_world.specs.Running.{clock_of, reading_of}
-use Rattle.drift_world.specs.Views.{world_of}
-use Rattle.drift_world.specs.declared.state.State.{State}
-use Rattle.world_law.proofs.giving.Given.{no_later_breaks, some_same}
-use Rattle.world_law.specs.world.World.{HaveBefallen, IsHeld, Stands}
 
 -- the machine of a sound device has a small adjustment
 small_kept : {M : Type 0} (stands : M → Network → DeviceId → Node → Type 0) → AreSmall stands → (kept : Kept M) (network : Network)

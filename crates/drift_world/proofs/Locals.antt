@@ -1,43 +1,16 @@
 -- The local clock of a device, as a world shows it, is that of the records.
-use Rattle.std.proofs.Common.{◌≡◌, ℕ, suc, ◌+◌, ◌≤◌, ◌<◌, ℤ, pos, ◌+ℤ◌, Bool, true, false, List, [], ◌∷◌, ◌++◌, Option, length, inl, inr, refl, sym, ap, subst, ◌∙◌, arith}
-use Rattle.std.specs.Prelude.{if◌then◌else◌, nat_le, filter}
-use Rattle.std.proofs.lemmas.Bool.{le-leb}
-use Rattle.std.proofs.lemmas.List.{append-nil}
-use Rattle.drift_clock.specs.RateSteps.{RateStep}
+use Rattle.drift_world.proofs.Words.{if◌then◌else◌, ◌++◌, ◌+ℤ◌, ◌+◌, ◌<◌, ◌∙◌, ◌∷◌, ◌≡◌, ◌≤◌, Bool, DeviceId, DeviceState, Happening, IsBefore, IsComplete}
+use Rattle.drift_world.proofs.Words.{IsDue, IsIn, IsScenarioRun, Kept, List, Network, Node, Note, Option, RateStep, Scenario, Shows, Stands, Units, World, []}
+use Rattle.drift_world.proofs.Words.{amount, ap, append-nil, arith, breaks_at, chain, false, filter, happenings, inl, inr, is_broken, keeps, le-leb, length}
+use Rattle.drift_world.proofs.Words.{list_any, local_shown, nat_le, never_self, numbered_in, place_of, pos, rate_steps, reading_of, refl, scenario, subst, suc}
+use Rattle.drift_world.proofs.Words.{sym, time_of, true, world_of, ℕ, ℤ}
+use Rattle.std.specs.List.{All}
 use Rattle.drift_clock.specs.Readings.{value_after}
 use Rattle.net_plan.specs.declared.event.Event.{Event}
-use Rattle.net_plan.specs.declared.ids.DeviceId.{DeviceId}
-use Rattle.net_plan.specs.declared.network.Network.{Network}
-use Rattle.run_law.proofs.law.FirstPlaces.{numbered_in}
-use Rattle.run_law.proofs.runs.Places.{chain, either_way, never_self}
-use Rattle.run_law.specs.declared.note.Note.{Note}
-use Rattle.run_law.specs.device.States.{adjustment_after, state_after}
-use Rattle.run_law.specs.machines.Nodes.{Node}
-use Rattle.run_law.specs.records.Happenings.{Happening, happenings, time_of, up_to}
-use Rattle.run_law.specs.records.Order.{IsBefore, IsIn}
-use Rattle.run_law.specs.records.Ranks.{place_of}
-use Rattle.run_law.specs.runs.DueRecords.{IsDue, IsScenarioRun}
-use Rattle.run_law.specs.scenario.Hypothesis.{breaks_at}
-use Rattle.run_law.specs.scenario.Scenarios.{Scenario, is_broken}
-use Rattle.run_law.specs.scenario.Rates.{rate_steps}
-use Rattle.std.specs.List.{All, list_any}
+use Rattle.run_law.{proofs.runs.Places.either_way, specs.{device.States.{adjustment_after, state_after}, records.Happenings.up_to}}
+use Rattle.world_law.proofs.{devices.{Resting.IsWorked, Shown.{all_past, held_shows}, TurnedOn.all_up_to}, giving.Given.some_same}
+use Rattle.drift_world.{proofs.Agreements.{all_come, reads_value}, specs.{Locals.{HasCome, IsLocalClock}, Running.clock_of, declared.state.State.State}}
 use Rattle.sync_state.specs.declared.state.State.TheVariants as states
-use Rattle.sync_state.specs.declared.state.State.{State as DeviceState}
-use Rattle.tte_units.specs.Amount.{amount}
-use Rattle.tte_units.specs.declared.units.Units.{Units}
-use Rattle.drift_world.proofs.Agreements.{all_come, reads_value}
-use Rattle.world_state.specs.Keeping.{keeps}
-use Rattle.drift_world.specs.Locals.{HasCome, IsComplete, IsLocalClock, Shows, local_shown}
-use Rattle.drift_world.specs.Running.{clock_of, reading_of}
-use Rattle.drift_world.specs.Views.{world_of}
-use Rattle.world_state.specs.declared.kept.Kept.{Kept}
-use Rattle.drift_world.specs.declared.state.State.{State}
-use Rattle.world_law.proofs.devices.Resting.{IsWorked}
-use Rattle.world_law.proofs.devices.Shown.{all_past, held_shows}
-use Rattle.world_law.proofs.devices.TurnedOn.{all_up_to}
-use Rattle.world_law.proofs.giving.Given.{some_same}
-use Rattle.world_law.specs.source.Agreeing.{scenario}
-use Rattle.world_law.specs.world.World.{Stands, World}
 
 -- ---- what has been up to a time
 
@@ -144,9 +117,12 @@ shown_is s hs device t false states.Synchronised x a broken in_state reads adjus
   record { correct = broken; synchronised = in_state },
   ap (λ (n : ℕ). pos n +ℤ a.0) reads ∙ ap (λ (u : Units). pos (s.reading device t) +ℤ u.0) adjusts,
 )
-shown_is s hs device t false states.Off x a broken in_state reads adjusts = λ step. (let no : ◌≡◌ {A = DeviceState} states.Off states.Synchronised = sym in_state ∙ step.synchronised in cc)
-shown_is s hs device t false states.Integrating x a broken in_state reads adjusts = λ step. (let no : ◌≡◌ {A = DeviceState} states.Integrating states.Synchronised = sym in_state ∙ step.synchronised in cc)
-shown_is s hs device t false states.Joining x a broken in_state reads adjusts = λ step. (let no : ◌≡◌ {A = DeviceState} states.Joining states.Synchronised = sym in_state ∙ step.synchronised in cc)
+shown_is s hs device t false states.Off x a broken in_state reads adjusts =
+    λ step. (let no : ◌≡◌ {A = DeviceState} states.Off states.Synchronised = sym in_state ∙ step.synchronised in cc)
+shown_is s hs device t false states.Integrating x a broken in_state reads adjusts =
+    λ step. (let no : ◌≡◌ {A = DeviceState} states.Integrating states.Synchronised = sym in_state ∙ step.synchronised in cc)
+shown_is s hs device t false states.Joining x a broken in_state reads adjusts =
+    λ step. (let no : ◌≡◌ {A = DeviceState} states.Joining states.Synchronised = sym in_state ∙ step.synchronised in cc)
 
 pub local_is : {C M : Type 0} (fresh : ℕ → C) (after_step : C → ℕ → ℤ → C) (reading : C → ℕ → ℕ) (stands : M → Network → DeviceId → Node → Type 0)
     (own network : Network) (state : State C M) (t : ℕ) (events : List Event) (notes : List Note) (device : DeviceId) (shown : Option ℤ)

@@ -1,26 +1,11 @@
 -- The local clock of a device before the records of the present time, as a world shows it, is that of the records.
-use Rattle.std.proofs.Common.{◌≡◌, ℕ, ◌<◌, ℤ, pos, ◌+ℤ◌, Bool, true, false, List, [], ◌∷◌, ◌++◌, Option, length, inl, inr, refl, sym, ap, subst, ◌∙◌, arith}
-use Rattle.std.proofs.lemmas.List.{append-nil}
-use Rattle.net_plan.specs.declared.ids.DeviceId.{DeviceId}
-use Rattle.net_plan.specs.declared.network.Network.{Network}
-use Rattle.run_law.proofs.runs.Places.{never_self}
-use Rattle.run_law.specs.declared.note.Note.{Note}
+use Rattle.drift_world.proofs.Words.{◌++◌, ◌+ℤ◌, ◌<◌, ◌∙◌, ◌∷◌, ◌≡◌, Bool, DeviceId, DeviceState, Happening, IsBefore, IsHeld, IsIn, IsLocalClockBefore, Kept}
+use Rattle.drift_world.proofs.Words.{List, Network, Node, Note, Option, Scenario, Shows, Stands, Units, World, [], ap, append-nil, arith, false, happenings}
+use Rattle.drift_world.proofs.Words.{inl, inr, is_broken, keeps, length, local_shown, never_self, pos, refl, subst, sym, true, world_of, ℕ, ℤ}
 use Rattle.run_law.specs.device.States.{adjustment_before, state_before}
-use Rattle.run_law.specs.machines.Nodes.{Node}
-use Rattle.run_law.specs.records.Happenings.{Happening, happenings}
-use Rattle.run_law.specs.records.Order.{IsBefore, IsIn}
-use Rattle.run_law.specs.scenario.Scenarios.{Scenario, is_broken}
+use Rattle.world_law.{proofs.giving.Given.some_same, specs.world.World.IsKept}
+use Rattle.drift_world.{proofs.Locals.no_first, specs.declared.state.State.State}
 use Rattle.sync_state.specs.declared.state.State.TheVariants as states
-use Rattle.sync_state.specs.declared.state.State.{State as DeviceState}
-use Rattle.tte_units.specs.declared.units.Units.{Units}
-use Rattle.drift_world.proofs.Locals.{no_first}
-use Rattle.world_state.specs.Keeping.{keeps}
-use Rattle.drift_world.specs.Locals.{IsLocalClockBefore, Shows, local_shown}
-use Rattle.drift_world.specs.Views.{world_of}
-use Rattle.world_state.specs.declared.kept.Kept.{Kept}
-use Rattle.drift_world.specs.declared.state.State.{State}
-use Rattle.world_law.proofs.giving.Given.{some_same}
-use Rattle.world_law.specs.world.World.{IsHeld, IsKept, Stands, World}
 
 -- ---- where only events of the instant are worked off
 

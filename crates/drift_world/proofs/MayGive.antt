@@ -1,36 +1,16 @@
 -- The first of what is settled may be given, where the state stands.
-use Rattle.std.proofs.Common.{◌≡◌, ℕ, ◌+◌, ◌<◌, ◌≤◌, List, [], ◌∷◌, length, slice_get, Option, Some, None, inl, inr, refl, sym, ap, subst, ◌∙◌, append-nil, arith}
-use Rattle.std.specs.Prelude.{◌^◌, option_map, option_and_then}
-use Rattle.std.proofs.lemmas.Option.{same_Some, slice_get_within}
-use Rattle.net_plan.specs.Places.{link_at}
-use Rattle.net_plan.specs.Ranges.{IsInRange}
-use Rattle.net_plan.specs.declared.ids.DeviceId.{DeviceId}
-use Rattle.net_plan.specs.declared.ids.LinkId.{LinkId}
-use Rattle.net_plan.specs.declared.network.Network.{Network}
-use Rattle.pcf_values.specs.declared.pcf.Pcf.{Pcf}
-use Rattle.run_law.proofs.law.FirstPlaces.{founded_at, numbered_in}
-use Rattle.run_law.specs.control.Wires.{Arrives}
-use Rattle.run_law.specs.declared.note.Note.{Note}
-use Rattle.run_law.specs.declared.note.NoteBody.TheVariants.{Event, Arrived, Permanent, Compressed, Sent, Corrected, State as Changed, Left, Lost, TtSent, Accepted, Delivered, Dropped, Clock}
-use Rattle.run_law.specs.declared.note.NoteBody.{NoteBody}
-use Rattle.run_law.specs.machines.Nodes.{Node}
-use Rattle.run_law.specs.records.Happenings.{Happening, frame_by, happenings, time_of, with_clock}
-use Rattle.run_law.specs.records.Ranks.{place_of}
-use Rattle.run_law.specs.runs.DueRecords.{IsArrivedRecord, IsCaused, IsDue}
-use Rattle.run_law.specs.runs.Runs.{IsFounded}
-use Rattle.run_law.specs.scenario.Scenarios.{Scenario}
-use Rattle.tte_units.specs.Amount.{amount}
-use Rattle.tte_units.specs.declared.units.Units.{Units}
-use Rattle.drift_world.proofs.FirstSettled.{first_of}
-use Rattle.drift_world.proofs.HiddenCauses.{change_or_other}
-use Rattle.drift_world.proofs.Sendings.{link_within}
-use Rattle.world_state.specs.Giving.{ArrivedAt, CameBy, HasItsFrame, HasItsOctets, IsYoung, MayBeGiven}
-use Rattle.world_state.specs.Views.{settled_at}
-use Rattle.world_state.specs.declared.contents.Settled.{Settled}
-use Rattle.world_steps.proofs.growing.FromZero.{arrived_clock}
-use Rattle.world_steps.proofs.hearing.Receptions.{receiver_in}
+use Rattle.drift_world.proofs.Words.{◌+◌, ◌<◌, ◌^◌, ◌∙◌, ◌∷◌, ◌≡◌, ◌≤◌, Accepted, Arrived, ArrivedAt, Arrives, Changed, Compressed, Delivered, DeviceId}
+use Rattle.drift_world.proofs.Words.{Dropped, Happening, HasItsOctets, IsCaused, IsDue, IsFounded, IsInRange, Left, LinkId, List, Lost, Network, Node, None}
+use Rattle.drift_world.proofs.Words.{Note, NoteBody, Option, Pcf, Permanent, Scenario, Settled, Some, Stands, TtSent, Units, World, [], amount, ap, append-nil}
+use Rattle.drift_world.proofs.Words.{arith, frame_by, happenings, hidden_body, inl, inr, length, link_at, numbered_in, place_of, refl, same_Some, settled_at}
+use Rattle.drift_world.proofs.Words.{slice_get_within, subst, sym, time_of, with_clock, ℕ}
+use Rattle.std.{proofs.Common.slice_get, specs.Prelude.{option_and_then, option_map}}
+use Rattle.run_law.{proofs.law.FirstPlaces.founded_at, specs.declared.note.NoteBody.TheVariants.{Clock, Corrected, Event, Sent}}
+use Rattle.run_law.specs.runs.DueRecords.{IsArrivedRecord}
 use Rattle.world_law.proofs.frames.Proper.{arrived_so, launched_frame}
-use Rattle.world_law.specs.world.World.{Stands, World, hidden_body}
+use Rattle.world_state.specs.Giving.{CameBy, HasItsFrame, IsYoung, MayBeGiven}
+use Rattle.world_steps.proofs.{growing.FromZero.arrived_clock, hearing.Receptions.receiver_in}
+use Rattle.drift_world.proofs.{FirstSettled.first_of, HiddenCauses.change_or_other, Sendings.link_within}
 
 -- it may be given but for its octets
 record MayBut (network : Network) (body : NoteBody) (frame : Option Pcf) : Type 0 where
@@ -107,7 +87,8 @@ first_may reading stands s world notes z rest old is =
     let hs = happenings s.network notes in
     let of = first_of (length notes) old.coming z rest (sym is ∙ old.settled) in
     let due : IsDue s hs of.first = subst (λ (l : List Happening). IsDue s l of.first) (append-nil hs) (old.are.founded [] of.others of.first of.whole).1 in
-    let may = caused_may s hs of.first.note.time of.first.note.body of.first.frame old.range old.run.founded due.cause (ap (λ (h : Happening). h.frame) due.same)
+    let may = caused_may s hs of.first.note.time of.first.note.body of.first.frame old.range old.run.founded due.cause
+    (ap (λ (h : Happening). h.frame) due.same)
     in
     subst (λ (h : Happening). MayBut s.network h.note.body h.frame) (sym of.shows) (hidden_may s.network (length notes) of.first.note.body of.first.frame may)
 

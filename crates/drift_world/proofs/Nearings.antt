@@ -1,36 +1,15 @@
 -- A world comes nearer to a time, turn by turn.
-use Rattle.std.proofs.Common.{◌≡◌, ℕ, zero, suc, ◌+◌, ◌-◌, ◌*◌, ◌<◌, ◌≤◌, pos, ◌≤ℤ◌, Bool, true, false, List, [], ◌∷◌, drop, length, Option, Some, None, Result, Ok, Err, slice_get, inl, inr, refl, sym, ap, subst, ◌∙◌, arith}
-use Rattle.std.specs.Prelude.{IfOk, OnOk, nat_lt, if◌then◌else◌}
-use Rattle.std.proofs.lemmas.Bool.{cases_lt, le-ltb, lt-ltb}
-use Rattle.std.proofs.lemmas.Int.{ints}
-use Rattle.std.proofs.lemmas.List.{length-drop}
-use Rattle.std.proofs.lemmas.Option.{get_or_from_slice_get, slice_get_within}
-use Rattle.std.proofs.lemmas.List.Sorted.{length_permutation}
-use Rattle.std.proofs.Math.Nat.{mul-le-mul_right}
-use Rattle.due_queue.specs.declared.Entry.{Entry}
-use Rattle.net_plan.specs.declared.ids.DeviceId.{DeviceId}
-use Rattle.net_plan.specs.declared.network.Network.{Network}
-use Rattle.run_law.specs.machines.Nodes.{Node}
-use Rattle.run_law.specs.machines.Tasks.{IsPending, reading_for}
-use Rattle.drift_world.proofs.Foremost.{node_of}
-use Rattle.drift_world.proofs.Showings.{shows_of}
-use Rattle.world_state.specs.Befalling.{AreSettledBy, entry_of}
-use Rattle.world_state.specs.Giving.{IsPutOn}
-use Rattle.world_state.specs.Keeping.{keeps}
-use Rattle.drift_world.specs.Nearing.{IsIdleAt, IsLess, Nears, acting, burden, come, distance}
-use Rattle.drift_world.specs.Sourcing.{AreTimed}
-use Rattle.drift_world.specs.Stepping.{IsRunning}
-use Rattle.drift_world.specs.Turns.{IsActive}
-use Rattle.drift_world.specs.Wells.{IsWell}
-use Rattle.world_state.specs.declared.contents.Befallen.{Befallen}
-use Rattle.world_state.specs.declared.contents.Content.{Content}
-use Rattle.world_state.specs.declared.contents.Settled.{Settled}
-use Rattle.world_state.specs.declared.contents.WayState.{WayState}
-use Rattle.world_state.specs.declared.kept.Kept.{Kept}
-use Rattle.drift_world.specs.declared.next.Turn.TheVariants.{Gives, Ends, GoesOn}
-use Rattle.drift_world.specs.declared.next.Turn.{Turn}
-use Rattle.drift_world.specs.declared.state.State.{State}
+use Rattle.drift_world.proofs.Words.{if◌then◌else◌, ◌*◌, ◌+◌, ◌-◌, ◌<◌, ◌∙◌, ◌∷◌, ◌≡◌, ◌≤ℤ◌, ◌≤◌, AreTimed, Befallen, Bool, Content, DeviceId, Err, IfOk}
+use Rattle.drift_world.proofs.Words.{IsPutOn, IsRunning, IsWell, Kept, List, Network, Node, None, Ok, OnOk, Option, Result, Settled, Some, Turn, WayState, []}
+use Rattle.drift_world.proofs.Words.{ap, arith, cases_lt, false, get_or_from_slice_get, inl, inr, ints, keeps, le-ltb, length, length_permutation, lt-ltb}
+use Rattle.drift_world.proofs.Words.{nat_lt, pos, reading_for, refl, slice_get_within, subst, suc, sym, true, zero, ℕ}
+use Rattle.std.proofs.{Common.{drop, slice_get}, Math.Nat.mul-le-mul_right, lemmas.List.length-drop}
+use Rattle.run_law.specs.machines.Tasks.{IsPending}
 use Rattle.world_law.proofs.giving.Given.{some_same}
+use Rattle.world_queue.specs.declared.Entry.{Entry}
+use Rattle.world_state.specs.Befalling.{AreSettledBy, entry_of}
+use Rattle.drift_world.{proofs.{Foremost.node_of, Showings.shows_of}, specs.{Nearing.{IsIdleAt, IsLess, Nears, acting, burden, come, distance}, Turns.IsActive}}
+use Rattle.drift_world.specs.declared.{next.Turn.TheVariants.{Ends, Gives, GoesOn}, state.State.State}
 
 -- ---- times that have come
 

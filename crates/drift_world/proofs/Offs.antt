@@ -1,51 +1,25 @@
 -- A device that began off, and that no event turned on, is off.
-use Rattle.std.proofs.Common.{◌≡◌, ℕ, ℤ, Bool, true, false, ◌&&◌, ◌||◌, ◌==◌, if◌then◌else◌, List, [], ◌∷◌, ◌++◌, append_assoc, fold, Option, Some, None, inl, inr, refl, sym, ap, subst, ◌∙◌}
-use Rattle.std.specs.Prelude.{nat_lt, IsSomeAnd, IsNone, MatchBool, option_and_then}
-use Rattle.std.proofs.lemmas.Bool.{and_parts, false_from_ne_true}
+use Rattle.drift_world.proofs.Words.{if◌then◌else◌, ◌&&◌, ◌++◌, ◌==◌, ◌∙◌, ◌∷◌, ◌≡◌, Bool, DeviceId, Happening, Integrating, IsCaused, IsDue, IsIn, IsSomeAnd}
+use Rattle.drift_world.proofs.Words.{Joining, LinkId, List, None, NoteBody, Off, Option, Scenario, Some, Units, [], amount, and_parts, any_in, ap, append_assoc}
+use Rattle.drift_world.proofs.Words.{false, false_from_ne_true, in_filter, in_parts, inl, inr, is_turned_on_at, nat_lt, numbered_in, refl, subst, sym, time_of}
+use Rattle.drift_world.proofs.Words.{true, turns_on, ℕ, ℤ}
+use Rattle.std.{proofs.Common.{◌||◌, fold}, specs.Prelude.{IsNone, MatchBool, option_and_then}}
 use Rattle.compression.specs.Clusters.{point_at}
-use Rattle.net_plan.proofs.SameIds.{one_device}
-use Rattle.net_plan.specs.Places.{device_at}
-use Rattle.net_plan.specs.declared.event.Event.{Event}
-use Rattle.net_plan.specs.declared.event.What.TheVariants.{On}
-use Rattle.net_plan.specs.declared.ids.DeviceId.{DeviceId}
-use Rattle.net_plan.specs.declared.ids.LinkId.{LinkId}
-use Rattle.net_plan.specs.declared.tables.Device.{Device}
+use Rattle.net_plan.{proofs.SameIds.one_device, specs.{Places.device_at, declared.{event.{Event.Event, What.TheVariants.On}, tables.Device.Device}}}
 use Rattle.pcf_values.specs.declared.members.Members.{Members}
-use Rattle.run_law.proofs.control.Verdicts.{role_not}
-use Rattle.run_law.proofs.law.FirstPlaces.{in_at, in_filter, numbered_in}
-use Rattle.run_law.proofs.records.Order.{any_in}
-use Rattle.run_law.proofs.runs.Places.{in_parts}
-use Rattle.run_law.proofs.scenario.Devices.{on_by}
-use Rattle.run_law.specs.control.Collections.{master_of, observation_window, point_fault, points_of}
-use Rattle.run_law.specs.control.Corrections.{ComesToCorrection, next_cycle}
-use Rattle.run_law.specs.control.Emissions.{Emits}
-use Rattle.run_law.specs.control.Hearing.{heard_as}
-use Rattle.run_law.specs.control.Permanence.{BecomesPermanent, IsCollectedOrDropped, before_permanence, ripe_as}
-use Rattle.run_law.specs.declared.judgement.Judgement.TheVariants.{Integrates}
-use Rattle.run_law.specs.declared.judgement.Reason.{Reason}
-use Rattle.run_law.specs.declared.judgement.Why.TheVariants as whys
-use Rattle.run_law.specs.declared.judgement.Why.{Why}
-use Rattle.run_law.specs.declared.note.NoteBody.TheVariants as notes
-use Rattle.run_law.specs.declared.note.NoteBody.{NoteBody}
-use Rattle.run_law.specs.declared.steps.Ripe.TheVariants as ripe
-use Rattle.run_law.specs.device.StateChanges.{ChangesState}
+use Rattle.run_law.proofs.{control.Verdicts.role_not, law.FirstPlaces.in_at, scenario.Devices.on_by}
+use Rattle.run_law.specs.control.{Collections.{master_of, observation_window, point_fault, points_of}, Corrections.{ComesToCorrection, next_cycle}}
+use Rattle.run_law.specs.control.{Emissions.Emits, Hearing.heard_as, Permanence.{BecomesPermanent, IsCollectedOrDropped, before_permanence, ripe_as}}
+use Rattle.run_law.specs.{declared.judgement.{Judgement.TheVariants.Integrates, Reason.Reason, Why.Why}, device.StateChanges.ChangesState}
 use Rattle.run_law.specs.device.States.{adjustment_at_hearing, has_joined_at, state_after, state_at_hearing, state_before, state_with}
-use Rattle.run_law.specs.records.Happenings.{Happening, earlier, time_of}
-use Rattle.run_law.specs.records.Order.{IsIn}
-use Rattle.run_law.specs.runs.DueRecords.{IsCaused, IsDue, IsEventRecord}
-use Rattle.run_law.specs.scenario.Devices.{is_cm, plan_of, start_of}
-use Rattle.run_law.specs.scenario.Faults.{BeginsOn}
-use Rattle.run_law.specs.scenario.Scenarios.{Scenario, is_turned_on_at, turns_on}
-use Rattle.sync_state.specs.Standing.{point_in, state_at_start}
-use Rattle.sync_state.specs.declared.answers.Verdict.TheVariants.{Corrected}
-use Rattle.sync_state.specs.declared.plan.SyncPlan.{SyncPlan}
-use Rattle.sync_state.specs.declared.state.State.TheVariants.{Off, Integrating, Joining, Synchronised}
-use Rattle.sync_state.specs.declared.state.State.{State}
+use Rattle.run_law.specs.{records.Happenings.earlier, runs.DueRecords.IsEventRecord, scenario.{Devices.{is_cm, plan_of, start_of}, Faults.BeginsOn}}
+use Rattle.sync_state.specs.{Standing.{point_in, state_at_start}, declared.{answers.Verdict.TheVariants.Corrected, plan.SyncPlan.SyncPlan, state.State.State}}
+use Rattle.sync_state.specs.declared.state.State.TheVariants.{Synchronised}
 use Rattle.traffic_law.proofs.spans.Forward.{ripe_integrates}
-use Rattle.tte_units.specs.Amount.{amount}
-use Rattle.tte_units.specs.declared.units.Units.{Units}
-use Rattle.world_law.proofs.devices.OwnRecords.{joins_no_other, keeps_state}
-use Rattle.world_law.specs.device.Own.{moves}
+use Rattle.world_law.{proofs.devices.OwnRecords.{joins_no_other, keeps_state}, specs.device.Own.moves}
+use Rattle.run_law.specs.declared.judgement.Why.TheVariants as whys
+use Rattle.run_law.specs.declared.note.NoteBody.TheVariants as notes
+use Rattle.run_law.specs.declared.steps.Ripe.TheVariants as ripe
 
 -- ---- what hears nothing joins by nothing
 

@@ -1,44 +1,15 @@
 -- A world goes on by an event.
-use Rattle.std.proofs.Common.{◌≡◌, ℕ, ◌≤◌, ◌<◌, ℤ, pos, ◌≤ℤ◌, List, [], ◌∷◌, ◌++◌, length, slice_get, Some, true, unsigned_abs, inl, inr, refl, sym, ap, subst, ◌∙◌, arith}
-use Rattle.std.specs.Prelude.{IfOk, OnOk, Result, Ok, Err}
-use Rattle.std.proofs.lemmas.Int.{ints}
-use Rattle.std.proofs.lemmas.List.Elements.{All-push}
-use Rattle.std.proofs.lemmas.Option.{slice_get_within}
-use Rattle.drift_clock.proofs.Readings.{IsLawful, begins_at_zero, keeps_clock_laws}
-use Rattle.net_plan.specs.Belonging.{IsOfNetwork}
-use Rattle.net_plan.specs.declared.event.Event.{Event}
-use Rattle.net_plan.specs.declared.event.What.TheVariants.{On}
-use Rattle.net_plan.specs.declared.ids.DeviceId.{DeviceId}
-use Rattle.net_plan.specs.declared.network.Network.{Network}
-use Rattle.run_law.proofs.runs.Places.{in_parts}
-use Rattle.run_law.specs.declared.note.Note.{Note}
-use Rattle.run_law.specs.machines.Nodes.{Node}
-use Rattle.run_law.specs.records.Order.{IsIn}
-use Rattle.run_law.specs.runs.DueRecords.{IsRunOf}
-use Rattle.run_law.specs.scenario.Hypothesis.{IsWithinHypothesis}
-use Rattle.sync_state.specs.declared.state.State.{State as DeviceState}
-use Rattle.tte_units.specs.Amount.{amount}
-use Rattle.drift_world.proofs.Agreements.{clock_more, reads_same, reads_value}
-use Rattle.drift_world.proofs.EventRuns.{run_behind_events}
-use Rattle.drift_world.proofs.Forwards.{forward}
-use Rattle.drift_world.proofs.Steadiness.{steady}
-use Rattle.drift_world.proofs.Suits.{suits}
-use Rattle.world_state.specs.Applying.{IsShown, clock_after}
-use Rattle.drift_world.specs.Following.{Follows}
-use Rattle.run_law.specs.law.FirstLaws.{IsEventInRange}
-use Rattle.world_state.specs.Keeping.{keeps}
-use Rattle.drift_world.specs.Running.{HoldsATime, IsOpenTo, StandsUnder, behind_events, clock_of, reading_of}
-use Rattle.drift_world.specs.Views.{world_of}
-use Rattle.world_state.specs.declared.kept.Kept.{Kept}
-use Rattle.world_state.specs.declared.memory.OutOfMemory.{OutOfMemory}
-use Rattle.drift_world.specs.declared.state.State.{State}
-use Rattle.run_law.proofs.scenario.Devices.{all_within}
-use Rattle.tte_lemmas.proofs.Options.{one}
-use Rattle.world_law.proofs.giving.Given.{in_get}
-use Rattle.world_law.specs.source.Agreeing.{scenario}
+use Rattle.drift_world.proofs.Words.{◌++◌, ◌<◌, ◌∙◌, ◌∷◌, ◌≡◌, ◌≤ℤ◌, ◌≤◌, DeviceId, DeviceState, Err, FitsWorld, IfOk, IsIn, IsLawful, IsOfNetwork, IsRunOf}
+use Rattle.drift_world.proofs.Words.{IsWithinHypothesis, Kept, List, Network, Node, Note, Ok, OnOk, OutOfMemory, Result, Some, Stands, StandsUnder, World, []}
+use Rattle.drift_world.proofs.Words.{amount, ap, arith, begins_at_zero, behind_events, clock_after, in_get, in_parts, inl, inr, ints, keeps, keeps_clock_laws}
+use Rattle.drift_world.proofs.Words.{length, one, pos, reading_of, refl, scenario, slice_get_within, subst, sym, true, unsigned_abs, world_of, ℕ, ℤ}
+use Rattle.std.proofs.{Common.slice_get, lemmas.List.Elements.All-push}
+use Rattle.net_plan.specs.declared.event.{Event.Event, What.TheVariants.On}
+use Rattle.run_law.{proofs.scenario.Devices.all_within, specs.law.FirstLaws.IsEventInRange}
 use Rattle.world_law.specs.source.Applying.{note_of_event}
-use Rattle.world_steps.specs.Steps.{FitsWorld}
-use Rattle.world_law.specs.world.World.{Stands, World}
+use Rattle.world_state.specs.Applying.{IsShown}
+use Rattle.drift_world.proofs.{Agreements.{clock_more, reads_same, reads_value}, EventRuns.run_behind_events, Forwards.forward, Steadiness.steady, Suits.suits}
+use Rattle.drift_world.specs.{Following.Follows, Running.{HoldsATime, IsOpenTo, clock_of}, declared.state.State.State}
 
 -- an event of a time from 0 on, with a hold from 0 on, is in range
 in_range : (event : Event) (time : ℕ) → event.time.0 ≡ pos time → HoldsATime event.what → IsEventInRange event
@@ -137,14 +108,16 @@ module _ {C M E : Type 0} (fresh : ℕ → C) (after_step : C → ℕ → ℤ �
   goes_on events notes under within =
       let f = reading_of fresh after_step reading network events in
       let h = reading_of fresh after_step reading network (events ++ event ∷ []) in
-      let fits = suits reading (keeps stands) network f events (world_of network state) notes under.is early event within event.what refl under.within of_network
+      let fits = suits reading (keeps stands) network f events (world_of network state) notes under.is early event within event.what refl under.within
+      of_network
       shown in
       let goes = followed fresh after_step reading grain count law stands network state events notes event under time hold within many in
       more_ok (λ (note : Note). (note ≡ note_of_event notes events event)
       × Stands reading (keeps stands) (scenario network h (events ++ event ∷ [])) (world_of network new) (notes ++ note ∷ []))
       (λ (note : Note). StandsUnder fresh after_step reading stands network (world_of network new) (events ++ event ∷ []) (notes ++ note ∷ []))
       _ result
-      (λ known note it. stands_again fresh after_step reading grain count law stands network state events notes event under time hold within new (notes ++ note ∷ [])
+      (λ known note it. stands_again fresh after_step reading grain count law stands network state events notes event under time hold within new (notes ++ note
+      ∷ [])
       of_network known it.1)
       clocks (step f h events notes under.is goes fits)
 
@@ -186,7 +159,8 @@ module _ {C M E : Type 0} (fresh : ℕ → C) (after_step : C → ℕ → ℤ �
 module _ {C M : Type 0} (fresh : ℕ → C) (after_step : C → ℕ → ℤ → C) (reading : C → ℕ → ℕ) (grain : C → ℕ) (count : C → ℕ → ℕ)
     (law : IsLawful fresh after_step reading grain count) (stands : M → Network → DeviceId → Node → Type 0) (network : Network) (state new : State C M)
     (world : World C (Kept M)) (view : world_of network state ≡ world) (event : Event) (note : Note)
-    (many : length state.clocks.items ≡ length network.device) (open_to : IsOpenTo world event) (hold : HoldsATime event.what) (of_network : IsOfNetwork world.network event.what)
+    (many : length state.clocks.items ≡ length network.device) (open_to : IsOpenTo world event) (hold : HoldsATime event.what)
+    (of_network : IsOfNetwork world.network event.what)
     (shown : (n : Network) (device : DeviceId) → event.what ≡ On device → (is : DeviceState) × IsShown (keeps stands) n
     state.machines.items device is)
     (still : (new.time ≡ state.time) × (new.early ≡ state.early))
@@ -211,10 +185,12 @@ module _ {C M : Type 0} (fresh : ℕ → C) (after_step : C → ℕ → ℤ → 
       let answer : Result Note OutOfMemory = Ok note in
       let shows : (device : DeviceId) → event.what ≡ On device → (is : DeviceState) × IsShown (keeps stands) network state.machines.items device is =
       λ device on. shown network device on in (
-        goes_on_there fresh after_step reading grain count law stands network state new event answer many early time hold own shows still clocks step n events notes
+        goes_on_there fresh after_step reading grain count law stands network state new event answer many early time hold own shows still clocks step n events
+            notes
             here within,
         subst (λ (w : World C (Kept M)). IsRunOf n (reading_of fresh after_step reading n (events ++ event ∷ [])) (events ++ event ∷ [])
             (behind_events w.now) (notes ++ note ∷ [])) view
-            (runs_on_there fresh after_step reading grain count law stands network state new event answer many early time hold own shows still clocks step n events
+            (runs_on_there fresh after_step reading grain count law stands network state new event answer many early time hold own shows still clocks step n
+            events
             notes here within),
       )

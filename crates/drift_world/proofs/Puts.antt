@@ -1,26 +1,13 @@
 -- A record that is put in at its place.
-use Rattle.std.proofs.Common.{◌≡◌, ℕ, zero, suc, ◌+◌, ◌≤◌, ◌<◌, Bool, true, false, Option, Some, None, List, [], ◌∷◌, ◌++◌, map, length, take, drop, get_or, inl, inr, refl, sym, ap, subst, ◌∙◌, arith}
-use Rattle.std.proofs.lemmas.List.{take-append-drop}
-use Rattle.net_plan.specs.declared.network.Network.{Network}
-use Rattle.run_law.proofs.runs.Places.{chain, either_way, in_left, in_parts, in_right, never_self}
-use Rattle.std.specs.Prelude.{if◌then◌else◌}
-use Rattle.std.specs.Option.{option_and_then, option_map}
-use Rattle.pcf_values.specs.declared.pcf.Pcf.{Pcf}
-use Rattle.run_law.specs.control.Leaving.{Departure, leaves, on_cut_way, too_old}
-use Rattle.run_law.specs.scenario.Scenarios.{Scenario}
-use Rattle.tte_units.specs.Amount.{units_of}
-use Rattle.run_law.specs.records.Happenings.{Happening, frame_from, with_clock}
-use Rattle.run_law.specs.records.Order.{AllBefore, IsBefore, NoneBefore}
-use Rattle.run_law.specs.records.Ranks.{place_of}
-use Rattle.run_law.specs.declared.note.NoteBody.{NoteBody}
-use Rattle.drift_world.proofs.HiddenCauses.{InOrder}
+use Rattle.drift_world.proofs.Words.{if◌then◌else◌, ◌++◌, ◌+◌, ◌<◌, ◌∙◌, ◌∷◌, ◌≡◌, ◌≤◌, ArePutIn, AtPort, Bool, Happening, IsBefore, IsPutAt, IsSomePut, List}
+use Rattle.drift_world.proofs.Words.{Network, None, NoneBefore, NoteBody, Option, Pcf, Scenario, Settled, Some, [], ap, arith, chain, departure_body, false}
+use Rattle.drift_world.proofs.Words.{frame_from, in_parts, in_right, inl, inr, length, map, never_self, own_place, place_of, refl, settled_as, settled_at}
+use Rattle.drift_world.proofs.Words.{subst, suc, sym, true, units_of, with_clock, zero, ℕ}
+use Rattle.std.{proofs.{Common.{drop, get_or, take}, lemmas.List.take-append-drop}, specs.Option.{option_and_then, option_map}}
+use Rattle.run_law.{proofs.runs.Places.{either_way, in_left}, specs.{control.Leaving.{Departure, leaves, on_cut_way, too_old}, records.Order.AllBefore}}
+use Rattle.world_law.specs.world.{Moves.IsPutIn, World.IsAtPort}
 use Rattle.world_state.specs.Leaving.{frame_after}
-use Rattle.world_state.specs.Places.{IsPutAt, IsSomePut, own_place}
-use Rattle.world_state.specs.Views.{settled_at}
-use Rattle.world_state.specs.declared.contents.Settled.{Settled}
-use Rattle.world_law.specs.world.Moves.{ArePutIn, IsPutIn, settled_as}
-use Rattle.world_law.specs.world.Outcomes.{departure_body}
-use Rattle.world_law.specs.world.World.{AtPort, IsAtPort}
+use Rattle.drift_world.proofs.HiddenCauses.{InOrder}
 
 pub map_parts : {X Y : Type 0} (f : X → Y) (xs ys : List X) → map f (xs ++ ys) ≡ map f xs ++ map f ys
 map_parts f [] ys = refl
@@ -138,7 +125,8 @@ pub order_put : (w : Happening) (old new : List Happening) → InOrder old → I
 order_put w old new order put = subst InOrder (sym put.is) (order_with w put.front put.back (subst InOrder put.was order) put.before put.none)
 
 -- two records are put in, one after the other
-pub two_put_in : (other network : Network) (now : ℕ) (hs : List Happening) (first second : NoteBody) (y z : Settled) (old mid new : List Settled) (at then_at : ℕ)
+pub two_put_in : (other network : Network) (now : ℕ) (hs : List Happening) (first second : NoteBody) (y z : Settled) (old mid new : List Settled) (at
+    then_at : ℕ)
     → IsPutAt y old mid at → IsPutAt z mid new then_at → InOrder (map (settled_at network now) old)
     → settled_at network now y ≡ settled_as other hs now first → settled_at network now z ≡ settled_as other hs now second
     → ArePutIn other hs now (first ∷ second ∷ []) (map (settled_at network now) old) (map (settled_at network now) new)

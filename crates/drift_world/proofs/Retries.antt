@@ -1,20 +1,8 @@
 -- How far a world came that was asked for the next record.
-use Rattle.std.proofs.Common.{◌≡◌, ℕ, ◌<◌, ◌≤◌, ◌^◌, pos, List, [], ◌++◌, length, false, Option, Some, None, Result, Ok, Err, append-nil, ap, sym, ◌∙◌, arith}
-use Rattle.std.specs.Prelude.{IfNone, IfOk, OnErr}
-use Rattle.std.proofs.lemmas.Int.{ints}
-use Rattle.net_plan.specs.declared.ids.DeviceId.{DeviceId}
-use Rattle.net_plan.specs.declared.network.Network.{Network}
-use Rattle.run_law.specs.declared.note.Note.{Note}
-use Rattle.run_law.specs.machines.Nodes.{Node}
-use Rattle.run_law.specs.scenario.Scenarios.{Scenario}
-use Rattle.tte_units.specs.declared.units.Units.{Units}
-use Rattle.drift_world.specs.Running.{ComesUpTo, MayTryAgain, given_by}
-use Rattle.drift_world.specs.Stepping.{IsRunning}
-use Rattle.drift_world.specs.Turns.{HasCome, IsAfter}
-use Rattle.drift_world.specs.Views.{world_of}
-use Rattle.drift_world.specs.declared.state.State.{State}
-use Rattle.world_law.specs.world.World.{Stands}
-use Rattle.world_state.specs.Keeping.{keeps}
+use Rattle.drift_world.proofs.Words.{◌++◌, ◌<◌, ◌^◌, ◌∙◌, ◌≡◌, ◌≤◌, ComesUpTo, DeviceId, Err, IfNone, IfOk, IsRunning, List, Network, Node, None, Note, Ok}
+use Rattle.drift_world.proofs.Words.{OnErr, Option, Result, Scenario, Some, Stands, Units, [], ap, append-nil, arith, false, given_by, ints, keeps, length, pos}
+use Rattle.drift_world.proofs.Words.{sym, world_of, ℕ}
+use Rattle.drift_world.specs.{Running.MayTryAgain, Turns.{HasCome, IsAfter}, declared.state.State.State}
 
 module _ {C M : Type 0} (reading : C → ℕ → ℕ) (stands : M → Network → DeviceId → Node → Type 0) (own : Network)
     (old new : State C M) where

@@ -1,58 +1,23 @@
 -- A frame that waits is permanent: its machine may be asked, and the state stands behind it.
-use Rattle.std.proofs.Common.{◌≡◌, ℕ, ◌+◌, ◌<◌, ◌≤◌, pos, ◌≤ℤ◌, ◌^◌, List, [], ◌∷◌, length, map, nat_eq, slice_set, All, Option, Some, false, refl, sym, ap, subst, ◌∙◌, arith}
-use Rattle.std.specs.List.{slice_get}
-use Rattle.std.specs.Prelude.{◌↔◌}
+use Rattle.drift_world.proofs.Words.{◌+◌, ◌<◌, ◌^◌, ◌↔◌, ◌∙◌, ◌∷◌, ◌≡◌, ◌≤ℤ◌, ◌≤◌, AreApart, ArePutIn, ComesFirst, DeviceId, Happening, IsAt, IsIn}
+use Rattle.drift_world.proofs.Words.{IsPermutation, IsPermutation-map, IsPutAt, Joining, Kept, List, Moment, Network, Node, Note, Option, Pcf, Scenario}
+use Rattle.drift_world.proofs.Words.{Settled, Some, Stands, StandsBehind, StandsFor, Units, Waiting, Waits, [], ap, arith, behind, false, frame_from}
+use Rattle.drift_world.proofs.Words.{get_or_from_slice_get, happenings, in_get, is_mapped, is_set, keeps, length, map, moment_of, none_yet, pos, refl}
+use Rattle.drift_world.proofs.Words.{ripe_place, settled_as, settled_at, slice_get_within, slice_set, subst, sym, units_of, waiting_as, world_of, ℕ}
+use Rattle.std.{proofs.{Common.{All, nat_eq}, lemmas.Map.Keys.{IsDistinct-IsPermutation, IsDistinct-head, IsDistinct-tail}}, specs.List.slice_get}
 use Rattle.std.specs.Option.{option_and_then}
-use Rattle.std.proofs.lemmas.Option.{get_or_from_slice_get, slice_get_within}
-use Rattle.net_plan.specs.declared.ids.DeviceId.{DeviceId}
-use Rattle.net_plan.specs.declared.network.Network.{Network}
-use Rattle.pcf_values.specs.declared.pcf.Pcf.{Pcf}
-use Rattle.run_law.specs.declared.judgement.Judgement.TheVariants as judgements
-use Rattle.run_law.specs.declared.judgement.Judgement.{Judgement}
-use Rattle.run_law.specs.declared.judgement.Why.TheVariants as whys
-use Rattle.run_law.specs.declared.note.Note.{Note}
-use Rattle.run_law.specs.declared.note.NoteBody.TheVariants as kinds
-use Rattle.run_law.specs.declared.steps.Moment.{Moment}
-use Rattle.run_law.specs.declared.steps.Ripe.TheVariants as ripe
-use Rattle.run_law.specs.declared.steps.Ripe.{Ripe}
-use Rattle.run_law.specs.machines.Calls.{MayTake, StandsFor}
-use Rattle.run_law.specs.machines.Nodes.{Node}
-use Rattle.run_law.specs.records.Happenings.{Happening, frame_from, happenings}
-use Rattle.run_law.specs.records.Order.{IsIn, behind}
-use Rattle.run_law.specs.scenario.Scenarios.{Scenario}
-use Rattle.sync_state.specs.declared.state.State.TheVariants.{Joining}
-use Rattle.tte_units.specs.Amount.{units_of}
-use Rattle.tte_units.specs.declared.units.Units.{Units}
-use Rattle.drift_world.proofs.Fits.{all_put, all_put_some, have_octets}
-use Rattle.drift_world.proofs.HiddenCauses.{InOrder, settled_in_order}
-use Rattle.drift_world.proofs.Puts.{one_put_in, two_put_in}
-use Rattle.world_state.proofs.Swaps.{from_map, is_set, stayed, stays, was_there}
-use Rattle.world_state.specs.Keeping.{keeps}
-use Rattle.world_state.specs.Places.{IsPutAt}
-use Rattle.world_state.specs.Ripening.{AreSettledSo, joined_record, judged_so, ripe_record}
-use Rattle.drift_world.specs.Stepping.{IsAt}
-use Rattle.drift_world.specs.Views.{world_of}
-use Rattle.world_state.specs.Views.{settled_at, waiting_as}
-use Rattle.world_state.specs.declared.contents.Settled.{Settled}
-use Rattle.world_state.specs.declared.contents.Waits.{Waits}
-use Rattle.world_state.specs.declared.kept.Kept.{Kept}
-use Rattle.drift_world.specs.declared.state.State.{State}
-use Rattle.run_law.proofs.records.Order.{all_of}
-use Rattle.world_law.proofs.giving.Given.{in_get, some_same}
-use Rattle.std.specs.List.Sorted.{IsPermutation}
-use Rattle.std.proofs.lemmas.List.Sorted.{IsPermutation-map}
-use Rattle.std.proofs.lemmas.Map.Keys.{IsDistinct-IsPermutation, IsDistinct-head, IsDistinct-tail}
-use Rattle.due_queue.proofs.Bags.{each_apart}
+use Rattle.run_law.{proofs.records.Order.all_of, specs.{declared.{judgement.Judgement.Judgement, steps.Ripe.Ripe}, machines.Calls.MayTake}}
 use Rattle.tte_lemmas.proofs.Naturals.{flips}
-use Rattle.drift_world.proofs.Fitting.{cause_of}
-use Rattle.drift_world.specs.Sound.{AreApart}
-use Rattle.world_steps.proofs.ripening.Asking.{may_ask}
-use Rattle.world_steps.proofs.ripening.RipenedSteps.{ripened_step, waits_within}
-use Rattle.world_law.specs.world.Calls.{moment_of}
-use Rattle.world_steps.specs.Ripening.{HasRipened, ripe_bodies}
-use Rattle.world_law.specs.world.Moves.{ArePutIn, ComesFirst, IsWithout, StandsBehind, settled_as}
-use Rattle.world_law.specs.world.World.{Stands, Waiting, none_yet, ripe_place}
-use Rattle.world_state.proofs.Befallings.{is_mapped}
+use Rattle.world_law.{proofs.giving.Given.some_same, specs.world.Moves.IsWithout}
+use Rattle.world_queue.proofs.Bags.{each_apart}
+use Rattle.world_state.{proofs.Swaps.{from_map, stayed, stays, was_there}, specs.Ripening.{AreSettledSo, joined_record, judged_so, ripe_record}}
+use Rattle.world_steps.{proofs.ripening.{Asking.may_ask, RipenedSteps.{ripened_step, waits_within}}, specs.Ripening.{HasRipened, ripe_bodies}}
+use Rattle.drift_world.proofs.{Fits.{all_put, all_put_some, have_octets}, Fitting.cause_of, HiddenCauses.{InOrder, settled_in_order}}
+use Rattle.drift_world.{proofs.Puts.{one_put_in, two_put_in}, specs.declared.state.State.State}
+use Rattle.run_law.specs.declared.judgement.Judgement.TheVariants as judgements
+use Rattle.run_law.specs.declared.judgement.Why.TheVariants as whys
+use Rattle.run_law.specs.declared.note.NoteBody.TheVariants as kinds
+use Rattle.run_law.specs.declared.steps.Ripe.TheVariants as ripe
 
 -- ---- what waits is apart by its cause
 

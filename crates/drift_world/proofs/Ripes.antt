@@ -1,16 +1,11 @@
 -- The first of the frames that wait at a device and are reached.
-use Rattle.std.proofs.Common.{◌≡◌, ℕ, pos, ◌≤ℤ◌, Option, Some, None, IfSome, IfNone, slice_get, arith, ap, sym, subst, inl, inr, ◌∙◌}
-use Rattle.net_plan.specs.declared.ids.DeviceId.{DeviceId}
-use Rattle.run_law.specs.records.Order.{IsBefore, IsIn}
-use Rattle.drift_world.specs.Ripening.{IsFirstRipe}
-use Rattle.world_state.specs.Reaching.{IsFirstReached}
-use Rattle.world_state.specs.Ripening.{ripe_numbers}
-use Rattle.world_state.specs.Views.{waiting_as}
-use Rattle.world_state.specs.declared.contents.Waits.{Waits}
-use Rattle.drift_world.specs.declared.state.State.{State}
+use Rattle.drift_world.proofs.Words.{◌∙◌, ◌≡◌, ◌≤ℤ◌, DeviceId, IfNone, IfSome, IsBefore, IsIn, None, Option, Some, Waits, ap, arith, inl, inr, pos, ripe_place}
+use Rattle.drift_world.proofs.Words.{subst, sym, waiting_as, ℕ}
+use Rattle.std.proofs.Common.{slice_get}
 use Rattle.net_plan.proofs.SameIds.{same_device}
 use Rattle.world_law.proofs.giving.Given.{some_same}
-use Rattle.world_law.specs.world.World.{ripe_place}
+use Rattle.world_state.specs.{Reaching.IsFirstReached, Ripening.ripe_numbers}
+use Rattle.drift_world.specs.{Ripening.IsFirstRipe, declared.state.State.State}
 
 -- so it is of all that wait
 pub first_ripe : {C M : Type 0} (reading : C → ℕ → ℕ) (state : State C M) (device : DeviceId) (now : ℕ) (clock : C)

@@ -1,11 +1,7 @@
 -- What a settled record says, and the body of its record.
-use Rattle.std.proofs.Common.{◌≡◌, ℕ, ◌^◌, refl}
-use Rattle.net_plan.specs.declared.ids.DeviceId.{DeviceId}
-use Rattle.net_plan.specs.declared.ids.LinkId.{LinkId}
-use Rattle.world_state.specs.Bodies.{body_of}
-use Rattle.world_state.specs.Giving.{changed_device}
+use Rattle.drift_world.proofs.Words.{◌^◌, ◌≡◌, DeviceId, LinkId, changed_device, refl, ℕ}
+use Rattle.world_state.specs.{Bodies.body_of, declared.bodies.Kind.Kind}
 use Rattle.world_state.specs.declared.bodies.Kind.TheVariants as said
-use Rattle.world_state.specs.declared.bodies.Kind.{Kind}
 
 -- by what is not an arrival no frame begins to wait
 pub far_kind : (kind : Kind) → ((device : DeviceId) (link : LinkId) (cause clock : ℕ) → kind ≡ said.Arrived device link cause clock → ⊥)

@@ -1,37 +1,17 @@
 -- What a record puts on a wire, as its law asks for it.
-use Rattle.std.proofs.Common.{◌≡◌, ℕ, ◌+◌, ◌<◌, List, ◌∷◌, [], map, length, Option, Some, None, Ok, inl, inr, refl, sym, ap, subst, ◌∙◌}
-use Rattle.std.specs.List.{filter_map, slice_get}
-use Rattle.std.specs.Option.{option_map}
-use Rattle.std.proofs.lemmas.List.Sorted.{IsPermutation-sym}
-use Rattle.std.proofs.lemmas.Option.{same_Some, slice_get_within}
-use Rattle.due_queue.proofs.Bags.{in_permuted}
-use Rattle.due_queue.specs.declared.Entry.{Entry}
-use Rattle.due_queue.specs.declared.Place.{Place}
-use Rattle.net_plan.specs.Places.{link_at}
-use Rattle.net_plan.specs.declared.ids.DeviceId.{DeviceId}
-use Rattle.net_plan.specs.declared.ids.LinkId.{LinkId}
-use Rattle.net_plan.specs.declared.tables.Link.{Link}
-use Rattle.net_plan.specs.declared.tables.Way.{Way}
-use Rattle.pcf_values.specs.declared.pcf.Pcf.{Pcf}
-use Rattle.run_law.proofs.records.Order.{given_of, is_given}
-use Rattle.run_law.specs.control.Wires.{Arrives, Launch, Signal, control, launched, time_on_port, timed}
-use Rattle.run_law.specs.declared.note.NoteBody.TheVariants.{Event, Arrived, Permanent, Compressed, Sent, Corrected, State as Changed, Left, Lost, TtSent, Accepted, Delivered, Dropped, Clock}
-use Rattle.run_law.specs.declared.note.NoteBody.{NoteBody}
-use Rattle.run_law.specs.records.Happenings.{Happening, time_of}
-use Rattle.run_law.specs.scenario.Scenarios.{Scenario}
-use Rattle.run_law.specs.scenario.Ways.{delay_at, receiver_of, way_from}
-use Rattle.schedule_tables.specs.Entries.{target_by}
-use Rattle.drift_world.proofs.Launches.{delay_is}
-use Rattle.world_state.specs.Giving.{HasItsOctets, IsPutOn, delay_by, wire_entry}
-use Rattle.world_state.specs.Views.{octets_in, octets_of, on_wire, signal_as, way_as}
-use Rattle.world_state.specs.declared.contents.Content.TheVariants.{Wire}
-use Rattle.world_state.specs.declared.contents.Content.{Content}
-use Rattle.world_state.specs.declared.contents.Signal.TheVariants as signals
-use Rattle.world_state.specs.declared.contents.Signal.{Signal as SignalSent}
-use Rattle.world_state.specs.declared.contents.Timed.{Timed}
-use Rattle.world_state.specs.declared.contents.WayState.{WayState}
+use Rattle.drift_world.proofs.Words.{◌+◌, ◌<◌, ◌∙◌, ◌∷◌, ◌≡◌, Accepted, AreWays, Arrived, Arrives, Changed, Compressed, Content, Delivered, DeviceId, Dropped}
+use Rattle.drift_world.proofs.Words.{Happening, HasItsOctets, IsPermutation-sym, IsPutOn, Launch, Left, Link, LinkId, List, Lost, None, NoteBody, Ok, OnWire}
+use Rattle.drift_world.proofs.Words.{Option, Pcf, Permanent, Place, Scenario, Signal, Some, Timed, TtSent, Way, WayState, Wire, [], ap, control, delay_at}
+use Rattle.drift_world.proofs.Words.{delay_by, given_of, in_permuted, inl, inr, is_given, launched, length, link_at, map, octets_in, octets_of, on_wire}
+use Rattle.drift_world.proofs.Words.{receiver_of, refl, same_Some, signal_as, slice_get_within, subst, sym, target_by, time_of, time_on_port, timed, way_as}
+use Rattle.drift_world.proofs.Words.{way_from, wire_entry, ℕ}
+use Rattle.std.specs.{List.{filter_map, slice_get}, Option.option_map}
+use Rattle.run_law.specs.declared.note.NoteBody.TheVariants.{Clock, Corrected, Event, Sent}
 use Rattle.world_law.specs.world.Moves.{ArePut}
-use Rattle.world_law.specs.world.World.{AreWays, OnWire}
+use Rattle.world_queue.specs.declared.Entry.{Entry}
+use Rattle.world_state.specs.declared.contents.Signal.{Signal as SignalSent}
+use Rattle.drift_world.proofs.Launches.{delay_is}
+use Rattle.world_state.specs.declared.contents.Signal.TheVariants as signals
 
 pub link_within : (xs : List Link) (i : ℕ) (way : Way) (o : Option Link) (device : DeviceId) → slice_get xs i ≡ o → option_map (target_by way) o ≡ Some device
     → i < length xs

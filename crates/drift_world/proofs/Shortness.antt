@@ -1,22 +1,12 @@
 -- A delay or a hold that an event within the hypothesis sets is short.
-use Rattle.std.proofs.Common.{◌≡◌, ◌⊎◌, ℤ, negsuc, unsigned_abs, List, ◌≤◌, ◌^◌, pos, ◌≤ℤ◌, ◌<ℤ◌, ◌+ℤ◌, Option, inl, inr, sym, subst, arith}
-use Rattle.std.specs.Prelude.{IsSomeAnd}
-use Rattle.std.proofs.lemmas.Bool.{cases_lt}
-use Rattle.std.proofs.lemmas.Int.{ints}
-use Rattle.net_plan.specs.Belonging.{IsOfNetwork}
-use Rattle.net_plan.specs.Ranges.{IsInRange, IsLinkInRange}
+use Rattle.drift_world.proofs.Words.{◌+ℤ◌, ◌<ℤ◌, ◌^◌, ◌≡◌, ◌≤ℤ◌, ◌≤◌, ◌⊎◌, IsInRange, IsLinkInRange, IsOfNetwork, IsSomeAnd, IsWithinHypothesis, Link, List}
+use Rattle.drift_world.proofs.Words.{Network, Option, What, amount, arith, cases_lt, in_all, inl, inr, ints, pos, subst, sym, unsigned_abs, ℤ}
+use Rattle.std.proofs.Common.{negsuc}
 use Rattle.net_plan.specs.declared.event.Event.{Event}
-use Rattle.net_plan.specs.declared.event.What.{What}
-use Rattle.net_plan.specs.declared.event.What.TheVariants as events
-use Rattle.net_plan.specs.declared.network.Network.{Network}
-use Rattle.net_plan.specs.declared.tables.Link.{Link}
-use Rattle.run_law.specs.declared.outside.Outside.TheVariants as outside
-use Rattle.run_law.specs.scenario.Hypothesis.{IsWithinHypothesis}
-use Rattle.tte_units.specs.Amount.{amount}
-use Rattle.drift_world.proofs.Beginnings.{found}
 use Rattle.world_state.specs.Applying.{SetsShort}
-use Rattle.drift_world.specs.Running.{HoldsATime}
-use Rattle.tte_lemmas.proofs.Lists.{in_all}
+use Rattle.drift_world.{proofs.Beginnings.found, specs.Running.HoldsATime}
+use Rattle.net_plan.specs.declared.event.What.TheVariants as events
+use Rattle.run_law.specs.declared.outside.Outside.TheVariants as outside
 
 pub sets_short : (network : Network) (past : List Event) (event : Event) → IsInRange network → IsWithinHypothesis network past event → (what : What)
     → event.what ≡ what → IsOfNetwork network what → HoldsATime what → SetsShort what

@@ -1,27 +1,11 @@
 -- What the parts of a state show of a scenario.
-use Rattle.std.proofs.Common.{◌≡◌, ℕ, ◌<◌, Bool, true, false, List, map, length, Some, None, sym, ap, ◌∙◌}
-use Rattle.std.specs.Prelude.{if◌then◌else◌}
-use Rattle.std.specs.List.{slice_get}
-use Rattle.std.specs.Option.{option_map}
-use Rattle.std.proofs.lemmas.Option.{slice_get-map}
-use Rattle.net_plan.specs.declared.ids.DeviceId.{DeviceId}
-use Rattle.net_plan.specs.declared.ids.LinkId.{LinkId}
-use Rattle.net_plan.specs.declared.network.Network.{Network}
-use Rattle.net_plan.specs.declared.tables.Way.TheVariants.{Up, Down}
-use Rattle.net_plan.specs.declared.tables.Way.{Way}
-use Rattle.run_law.specs.machines.Nodes.{Node}
-use Rattle.run_law.specs.scenario.Scenarios.{Scenario, is_broken}
-use Rattle.run_law.specs.scenario.Ways.{is_cut, way_from}
-use Rattle.run_law.specs.declared.note.Note.{Note}
-use Rattle.world_state.specs.Leaving.{departed, departure_in}
-use Rattle.drift_world.specs.Showing.{IsOf}
-use Rattle.drift_world.specs.Views.{world_of}
-use Rattle.world_state.specs.Views.{way_as}
-use Rattle.world_state.specs.declared.contents.WayState.{WayState}
-use Rattle.world_state.specs.declared.kept.Kept.{Kept}
-use Rattle.drift_world.specs.declared.state.State.{State}
+use Rattle.drift_world.proofs.Words.{if◌then◌else◌, ◌<◌, ◌∙◌, ◌≡◌, AreWays, AtPort, Bool, DeviceId, Down, IsOf, Kept, LinkId, List, Network, Node, None, Note}
+use Rattle.drift_world.proofs.Words.{Scenario, Some, Stands, Up, Way, WayState, ap, false, is_broken, is_cut, length, map, slice_get-map, sym, true, way_as}
+use Rattle.drift_world.proofs.Words.{way_from, way_now, world_of, ℕ}
+use Rattle.std.specs.{List.slice_get, Option.option_map}
 use Rattle.world_law.proofs.giving.Given.{some_same}
-use Rattle.world_law.specs.world.World.{AreWays, AtPort, Stands, way_now}
+use Rattle.world_state.specs.Leaving.{departed, departure_in}
+use Rattle.drift_world.specs.declared.state.State.{State}
 
 pub shows_of : {C M : Type 0} (reading : C → ℕ → ℕ) (stands : Kept M → Network → DeviceId → Node
     → Type 0) (s : Scenario) (network : Network) (state : State C M) (notes : List Note) → Stands reading stands s (world_of network state) notes

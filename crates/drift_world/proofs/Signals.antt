@@ -1,42 +1,21 @@
 -- What is on a wire, by the record that put it there.
-use Rattle.std.proofs.Common.{◌≡◌, ◌⊎◌, ℕ, zero, suc, ◌+◌, ◌≤◌, Bool, true, false, ◌==◌, if◌then◌else◌, List, [], ◌∷◌, filter, Option, Some, None, Result, Ok, Err, option_map, option_and_then, inl, inr, refl, sym, ap, subst, ◌∙◌, arith}
-use Rattle.std.specs.Prelude.{nat_lt}
-use Rattle.std.proofs.lemmas.Bool.{eq-eqb, ne_eqb}
-use Rattle.std.specs.Option.{option_map_or}
-use Rattle.net_plan.specs.Ranges.{IsInRange}
-use Rattle.net_plan.specs.declared.event.What.TheVariants as events
-use Rattle.net_plan.specs.declared.ids.DeviceId.{DeviceId}
-use Rattle.net_plan.specs.declared.ids.LinkId.{LinkId}
-use Rattle.net_plan.specs.declared.ids.VlId.{VlId}
-use Rattle.net_plan.specs.declared.tables.Way.TheVariants.{Up}
-use Rattle.net_plan.specs.declared.tables.Way.{Way}
-use Rattle.pcf_codec.specs.Decoding.{decoded}
-use Rattle.pcf_codec.specs.EtherType.{pcf_type}
-use Rattle.pcf_codec.specs.Fields.{field}
-use Rattle.pcf_codec.specs.declared.refusal.PcfRefusal.{PcfRefusal}
-use Rattle.pcf_values.specs.declared.pcf.Pcf.{Pcf}
-use Rattle.run_law.proofs.law.FirstDeliveries.{last_in}
-use Rattle.run_law.proofs.law.FirstPlaces.{IsFoundedAt, by_number, founded_at, in_filter, number_is, numbered_front, numbered_in, numbered_within}
-use Rattle.run_law.specs.control.Wires.{Launch, Signal, control, launched, signal_of, timed}
-use Rattle.run_law.specs.declared.note.NoteBody.TheVariants as kinds
-use Rattle.run_law.specs.declared.note.NoteBody.{NoteBody}
-use Rattle.run_law.specs.declared.steps.Arrival.TheVariants as arrivals
-use Rattle.run_law.specs.records.Happenings.{Happening, earlier, frame_by, frame_from, numbered, octets_by, octets_from, time_of}
-use Rattle.run_law.specs.records.Order.{IsIn}
-use Rattle.run_law.specs.records.Ranks.{place_of}
-use Rattle.run_law.specs.runs.DueRecords.{IsCaused, IsDue}
-use Rattle.run_law.specs.runs.Runs.{IsFounded}
-use Rattle.run_law.specs.scenario.Scenarios.{Scenario}
-use Rattle.run_law.specs.scenario.Ways.{is_cut, way_from}
-use Rattle.run_law.specs.timed.Dispatching.{is_accepted}
+use Rattle.drift_world.proofs.Words.{if◌then◌else◌, ◌+◌, ◌==◌, ◌∙◌, ◌∷◌, ◌≡◌, ◌≤◌, ◌⊎◌, Bool, DeviceId, Err, Happening, IsCaused, IsDue, IsFounded, IsIn}
+use Rattle.drift_world.proofs.Words.{IsInRange, Launch, LinkId, List, None, NoteBody, Ok, OnWire, Option, Pcf, Result, Scenario, Signal, Some, Up, VlId, Way}
+use Rattle.drift_world.proofs.Words.{[], ap, arith, control, eq-eqb, false, field, filter, frame_by, frame_from, in_filter, inl, inr, is_cut, launched, nat_lt}
+use Rattle.drift_world.proofs.Words.{numbered, numbered_in, octets_by, octets_from, option_map_or, place_of, refl, signal_of, subst, suc, sym, time_of, timed}
+use Rattle.drift_world.proofs.Words.{true, way_from, zero, ℕ}
+use Rattle.std.proofs.{Common.{option_and_then, option_map}, lemmas.Bool.ne_eqb}
+use Rattle.pcf_codec.specs.{Decoding.decoded, EtherType.pcf_type, declared.refusal.PcfRefusal.PcfRefusal}
+use Rattle.run_law.proofs.law.{FirstDeliveries.last_in, FirstPlaces.{IsFoundedAt, by_number, founded_at, number_is, numbered_front, numbered_within}}
+use Rattle.run_law.specs.{device.Standpoints.standpoint, records.{Frames.tt_frame, Happenings.earlier}, timed.Dispatching.is_accepted}
 use Rattle.run_law.specs.timed.Receptions.{ArrivesAs, arrival_of}
-use Rattle.run_law.specs.device.Standpoints.{standpoint}
-use Rattle.run_law.specs.records.Frames.{tt_frame}
-use Rattle.world_law.proofs.frames.Proper.{launch_signal as signal_in}
-use Rattle.drift_world.proofs.Arrivals.{control_so}
+use Rattle.world_law.{proofs.frames.Proper.launch_signal as signal_in, specs.world.World.IsOnWire}
 use Rattle.world_state.proofs.Made.{made_type, plain_signal}
-use Rattle.world_law.specs.world.World.{IsOnWire, OnWire}
 use Rattle.world_steps.proofs.hearing.OneMaster.{decoded_of}
+use Rattle.drift_world.proofs.Arrivals.{control_so}
+use Rattle.net_plan.specs.declared.event.What.TheVariants as events
+use Rattle.run_law.specs.declared.note.NoteBody.TheVariants as kinds
+use Rattle.run_law.specs.declared.steps.Arrival.TheVariants as arrivals
 
 -- octets with another EtherType than that of protocol control frames
 abbrev IsPlain : List ℕ → Type 0
@@ -45,7 +24,8 @@ IsPlain octets = (field 12 2 octets == pcf_type) ≡ false
 -- ---- octets that are on a wire
 
 -- octets on a wire as they are: the octets, which have another EtherType
-as_they_are : (b : Bool) (r : Result Pcf PcfRefusal) (given octets : List ℕ) → (if b then control r else timed given) ≡ timed octets → (b ≡ false) × (given ≡ octets)
+as_they_are : (b : Bool) (r : Result Pcf PcfRefusal) (given octets : List ℕ) → (if b then control r else timed given) ≡ timed octets → (b ≡ false)
+    × (given ≡ octets)
 as_they_are true r given octets e = absurd cc
 as_they_are false r given octets e = (refl, cc)
 
@@ -194,7 +174,8 @@ module _ (s : Scenario) (hs : List Happening) (founded : IsFounded place_of (IsD
       subst IsPlain so.1 so.0
   accepted_by cause vl cycle putting octets number (PutsThis.leaving f of e) = absurd cc
 
-  accepted_so : (device : DeviceId) (link : LinkId) (cause : ℕ) (vl : VlId) (cycle : ℕ) (signal : Signal) (a : ArrivesAs s at.front device (time_of h) link cause
+  accepted_so : (device : DeviceId) (link : LinkId) (cause : ℕ) (vl : VlId) (cycle : ℕ) (signal : Signal)
+      (a : ArrivesAs s at.front device (time_of h) link cause
       (arrivals.Accepted vl cycle)) → a.signal ≡ signal → h.octets ≡ octets_from at.front cause → IsPlain h.octets
   accepted_so device link cause vl cycle (control r) a is own =
       absurd (control_taken s at.front device (time_of h) link cause r vl cycle

@@ -1,48 +1,19 @@
 -- What comes first of what a state has under way.
-use Rattle.std.proofs.Common.{◌≡◌, ◌⊎◌, ℕ, ◌+◌, ◌-◌, ◌<◌, ◌≤◌, ◌^◌, pos, ◌≤ℤ◌, Bool, List, [], ◌∷◌, All, length, map, Option, Some, None, slice_get, inl, inr, refl, sym, ap, subst, ◌∙◌, arith}
-use Rattle.std.specs.Prelude.{IfSome, IfNone, if◌then◌else◌}
-use Rattle.std.proofs.lemmas.Bool.{cases_lt, cases_eq, le-ltb, lt-ltb}
-use Rattle.std.proofs.lemmas.Option.{get_or_from_slice_get, slice_get_within}
-use Rattle.due_queue.specs.declared.Entry.{Entry}
-use Rattle.due_queue.specs.declared.Place.{Place}
-use Rattle.due_queue.specs.Places.{IsFirst, numbers_of}
-use Rattle.due_timers.specs.declared.Due.{Due}
-use Rattle.due_timers.specs.Times.{IsFirst as IsFirstDue, never}
-use Rattle.net_plan.specs.Ranges.{IsInRange, IsLinkInRange}
-use Rattle.net_plan.specs.declared.ids.DeviceId.{DeviceId}
-use Rattle.net_plan.specs.declared.tables.Way.TheVariants.{Up, Down}
-use Rattle.net_plan.specs.declared.tables.Way.{Way}
-use Rattle.net_plan.specs.declared.network.Network.{Network}
-use Rattle.run_law.proofs.runs.Places.{before_later, chain}
-use Rattle.run_law.specs.machines.Nodes.{Node}
-use Rattle.run_law.specs.machines.Tasks.{IsPending, Task, reading_for}
-use Rattle.run_law.specs.declared.note.Note.{Note}
-use Rattle.run_law.specs.records.Happenings.{Happening, happenings}
-use Rattle.run_law.specs.records.Order.{IsBefore, IsIn}
-use Rattle.run_law.specs.records.Ranks.{place_of}
-use Rattle.run_law.specs.runs.DueRecords.{IsDue}
-use Rattle.run_law.specs.runs.Runs.{IsFounded}
-use Rattle.run_law.specs.scenario.Scenarios.{Scenario}
-use Rattle.tte_units.specs.Amount.{amount}
-use Rattle.world_state.specs.Keeping.{keeps}
-use Rattle.world_state.proofs.UnderWays.{port_numbers, wire_numbers}
-use Rattle.drift_world.specs.Sound.{IsSized}
-use Rattle.world_state.specs.Sound.{AreUnderWay}
-use Rattle.drift_world.specs.Sourcing.{AreFirsts, AreNotBefore, AreTimed, HasNothingBefore, IsRipePlace, due_place}
-use Rattle.drift_world.specs.Views.{world_of}
-use Rattle.world_state.specs.Views.{at_port, on_wire, waiting_as}
-use Rattle.world_state.specs.declared.contents.Content.{Content}
-use Rattle.world_state.specs.declared.contents.Waits.{Waits}
-use Rattle.world_state.specs.declared.kept.Kept.{Kept}
-use Rattle.drift_world.specs.declared.state.State.{State}
-use Rattle.run_law.proofs.records.Order.{given_of}
-use Rattle.tte_lemmas.proofs.Lists.{in_all}
+use Rattle.drift_world.proofs.Words.{if◌then◌else◌, ◌+◌, ◌-◌, ◌<◌, ◌^◌, ◌∙◌, ◌∷◌, ◌≡◌, ◌≤ℤ◌, ◌≤◌, ◌⊎◌, AreFirsts, AreNotBefore, AreTimed, AreUnderWay, Bool}
+use Rattle.drift_world.proofs.Words.{Content, DeviceId, Down, Due, Happening, HasNothingBefore, IfNone, IfSome, IsBefore, IsDue, IsDueNow, IsFirst, IsFounded}
+use Rattle.drift_world.proofs.Words.{IsIn, IsInRange, IsLinkInRange, IsSized, Kept, List, Network, Node, None, Note, Option, Place, Scenario, Some, Stands, Up}
+use Rattle.drift_world.proofs.Words.{Waiting, Waits, Way, [], act_place, amount, ap, arith, at_port, cases_eq, cases_lt, chain, get_or_from_slice_get, given_of}
+use Rattle.drift_world.proofs.Words.{happenings, in_all, inl, inr, keeps, le-ltb, length, lt-ltb, map, moment_of, never, numbers_of, on_wire, place_of, pos}
+use Rattle.drift_world.proofs.Words.{reading_for, refl, ripe_place, slice_get_within, subst, sym, waiting_as, world_of, ℕ}
+use Rattle.std.proofs.Common.{All, slice_get}
+use Rattle.run_law.{proofs.runs.Places.before_later, specs.machines.Tasks.{IsPending, Task}}
 use Rattle.tte_lemmas.proofs.Options.{some_same}
-use Rattle.world_law.proofs.frames.Proper.{IsReceiver, received}
+use Rattle.world_law.{proofs.frames.Proper.{IsReceiver, received}, specs.world.{Moves.NothingBefore, World.IsWaitingFor}}
+use Rattle.world_queue.specs.declared.Entry.{Entry}
+use Rattle.world_state.proofs.UnderWays.{port_numbers, wire_numbers}
 use Rattle.world_steps.proofs.ripening.Ripens.{come_of}
-use Rattle.world_law.specs.world.Calls.{IsDueNow, moment_of}
-use Rattle.world_law.specs.world.Moves.{NothingBefore}
-use Rattle.world_law.specs.world.World.{IsWaitingFor, Stands, Waiting, act_place, ripe_place}
+use Rattle.world_timers.specs.Times.{IsFirst as IsFirstDue}
+use Rattle.drift_world.specs.{Sourcing.{IsRipePlace, due_place}, declared.state.State.State}
 
 -- what is not before the first is not before a place that the first is not before
 pub not_sooner : (q first p : List ℕ) → (IsBefore q first → ⊥) → (IsBefore first p → ⊥) → IsBefore q p → ⊥

@@ -1,27 +1,12 @@
 -- What a clock reads under events within the hypothesis is steady.
-use Rattle.std.proofs.Common.{◌≡◌, ℕ, ◌+◌, ◌-◌, ◌*◌, ◌^◌, ◌≤◌, ◌<◌, ℤ, pos, ◌≤ℤ◌, List, subst, arith}
-use Rattle.std.specs.Int.{abs_diff}
-use Rattle.std.proofs.lemmas.Int.{ints}
-use Rattle.std.proofs.Math.Nat.{mul-le-mul_right}
+use Rattle.drift_world.proofs.Words.{◌*◌, ◌+◌, ◌-◌, ◌<◌, ◌^◌, ◌≡◌, ◌≤ℤ◌, ◌≤◌, AreWithinHypothesis, DeviceId, IsIn, IsInRange, KeepsRules, List, Network, amount}
+use Rattle.drift_world.proofs.Words.{arith, ints, pos, rate_steps, reading_of, subst, ℕ, ℤ}
+use Rattle.std.{proofs.Math.Nat.mul-le-mul_right, specs.Int.abs_diff}
 use Rattle.drift_clock.specs.ClockLaws.{AlwaysBeginsAtZero, AlwaysKeepsClockLaws, KeepsClockLaws}
-use Rattle.net_plan.proofs.Beta.{beta_exists}
-use Rattle.net_plan.proofs.Shape.{rules_give_trees}
-use Rattle.net_plan.specs.Bounds.{IsBeta, beta_at}
-use Rattle.net_plan.specs.Ranges.{IsInRange}
-use Rattle.net_plan.specs.declared.event.Event.{Event}
-use Rattle.net_plan.specs.declared.ids.DeviceId.{DeviceId}
-use Rattle.net_plan.specs.declared.network.Network.{Network}
-use Rattle.run_law.specs.records.Order.{IsIn}
-use Rattle.run_law.specs.scenario.Hypothesis.{AreWithinHypothesis}
-use Rattle.run_law.specs.scenario.Rates.{rate_steps}
-use Rattle.schedule_tables.proofs.Margins.{shape_rules}
-use Rattle.schedule_tables.specs.Rules.{KeepsRules}
-use Rattle.schedule_tables.specs.declared.rule.Rule.TheVariants.{Precision}
-use Rattle.tte_units.specs.Amount.{amount}
+use Rattle.net_plan.{proofs.{Beta.beta_exists, Shape.rules_give_trees}, specs.{Bounds.{IsBeta, beta_at}, declared.event.Event.Event}}
 use Rattle.safe_runs.proofs.Histories.{history}
-use Rattle.drift_world.specs.Running.{reading_of}
-use Rattle.world_law.proofs.devices.Leaps.{no_leap}
-use Rattle.world_law.specs.device.Ready.{IsSteady}
+use Rattle.schedule_tables.{proofs.Margins.shape_rules, specs.declared.rule.Rule.TheVariants.Precision}
+use Rattle.world_law.{proofs.devices.Leaps.no_leap, specs.device.Ready.IsSteady}
 
 -- the precision holds eighty grains
 pub many_grains : (network : Network) → KeepsRules network → 80 * amount network.grain ≤ amount network.precision

@@ -1,25 +1,13 @@
 -- What switches hold once a record is given, as its law asks for it.
-use Rattle.std.proofs.Common.{◌≡◌, ◌⊎◌, ℕ, Bool, true, false, not, ◌&&◌, ◌==◌, if◌then◌else◌, List, [], ◌∷◌, ◌++◌, map, filter, Option, Some, None, inl, inr, refl, sym, ap, subst, ◌∙◌}
-use Rattle.std.proofs.lemmas.Bool.{both_ways, eqb-true, eq-eqb, not-true, not_from_false}
-use Rattle.net_plan.specs.declared.ids.DeviceId.{DeviceId}
-use Rattle.net_plan.specs.declared.ids.VlId.{VlId}
-use Rattle.net_plan.specs.declared.network.Network.{Network}
+use Rattle.drift_world.proofs.Words.{if◌then◌else◌, ◌&&◌, ◌==◌, ◌∙◌, ◌∷◌, ◌≡◌, Accepted, Arrived, Bool, Changed, Compressed, Delivered, DeviceId, Dropped}
+use Rattle.drift_world.proofs.Words.{Happening, HasItsOctets, Holding, IsIn, IsPermutation-sym, IsStoredBy, Left, List, Lost, Network, None, NoteBody, Option}
+use Rattle.drift_world.proofs.Words.{Permanent, Some, Timed, TtSent, VlId, [], ap, both_ways, eq-eqb, eqb-true, false, filter, in_permuted, inl, inr, is_mapped}
+use Rattle.drift_world.proofs.Words.{map, not, octets_in, octets_of, refl, stored_as, subst, sym, true, ℕ}
+use Rattle.std.proofs.lemmas.Bool.{not-true, not_from_false}
 use Rattle.precision_law.proofs.records.Times.{in_kept}
-use Rattle.run_law.proofs.runs.Places.{in_left, in_right}
-use Rattle.run_law.specs.declared.note.NoteBody.TheVariants.{Event, Arrived, Permanent, Compressed, Sent, Corrected, State as Changed, Left, Lost, TtSent, Accepted, Delivered, Dropped, Clock}
-use Rattle.run_law.specs.declared.note.NoteBody.{NoteBody}
-use Rattle.run_law.specs.records.Happenings.{Happening}
-use Rattle.run_law.specs.records.Order.{IsIn}
-use Rattle.run_law.specs.timed.Dispatching.{is_accepted}
-use Rattle.world_state.specs.Giving.{HasItsOctets}
-use Rattle.world_state.specs.Storing.{is_held_of, stored_by, stored_for, stored_with}
-use Rattle.world_state.specs.Views.{octets_in, octets_of, stored_as}
-use Rattle.world_state.specs.declared.contents.Holding.{Holding}
-use Rattle.world_state.specs.declared.contents.Timed.{Timed}
-use Rattle.world_law.specs.world.Moves.{AreTaken}
-use Rattle.world_law.specs.world.World.{Stored}
-use Rattle.world_state.proofs.Befallings.{is_mapped}
-use Rattle.world_state.proofs.Swaps.{from_map}
+use Rattle.run_law.specs.{declared.note.NoteBody.TheVariants.{Clock, Corrected, Event, Sent}, timed.Dispatching.is_accepted}
+use Rattle.world_law.specs.world.{Moves.AreTaken, World.Stored}
+use Rattle.world_state.{proofs.Swaps.from_map, specs.Storing.{IsHeldInstead, IsStoredFor, is_held_of}}
 
 -- ---- lists that are mapped and filtered
 
@@ -35,16 +23,6 @@ out_of_filter {X} q (y ∷ xs) x there = by_test (q y) refl (λ i. out_of_filter
     by_test true is more (inl e) = record { was = inl e; passes = ap q e ∙ is }
     by_test true is more (inr rest) = let of = more rest in record { was = inr of.was; passes = of.passes }
     by_test false is more rest = let of = more rest in record { was = inr of.was; passes = of.passes }
-
-pub in_pushed : {X : Type 0} (xs : List X) (y x : X) → IsIn x (xs ++ y ∷ []) → IsIn x xs ⊎ (x ≡ y)
-in_pushed [] y x (inl e) = inr e
-in_pushed [] y x (inr rest) = absurd rest
-in_pushed (z ∷ xs) y x (inl e) = inl (inl e)
-in_pushed (z ∷ xs) y x (inr rest) =
-    elim (in_pushed xs y x rest) [
-      | inl i ↦ inl (inr i)
-      | inr e ↦ inr e
-    ]
 
 -- ---- no frame is taken
 
@@ -65,39 +43,39 @@ same_both a b c d e = by_first (a == b) refl e
     by_first true is e = (eqb-true a b is, eqb-true c d e)
     by_first false is e = absurd cc
 
-module _ (network : Network) (x : Happening) (number : ℕ) (held : List Holding) (one : Holding)
+module _ (network : Network) (x : Happening) (number : ℕ) (held new : List Holding) (one : Holding) (instead : IsHeldInstead one held new)
     (by : (device : DeviceId) (vl : VlId) → is_accepted device vl x.note.body ≡ (device.0 == one.device.0 && vl.0 == one.vl.0)) (numbered : one.number ≡ number)
     (own : x.octets ≡ octets_of network one.octets) where
-  one_taken : AreTaken x number (map (stored_as network) held) (map (stored_as network) (stored_with one held))
+  one_taken : AreTaken x number (map (stored_as network) held) (map (stored_as network) new)
   one_taken = record {
     real = λ e there.
-        let of = from_map (stored_as network) (stored_with one held) e there in
-        elim (in_pushed _ one of.0 of.1) [
-          | inl old ↦
-              let was = out_of_filter (λ (h : Holding). not (is_held_of one.device one.vl h)) held of.0 old in
-              inl (subst (λ (s : Stored). IsIn s (map (stored_as network) held) × (is_accepted s.device s.vl x.note.body ≡ false)) (sym of.2) (
-                is_mapped (stored_as network) held of.0 was.was,
-                by of.0.device of.0.vl ∙ not-true _ was.passes,
-              ))
-          | inr new ↦
-              let same : e ≡ stored_as network one = of.2 ∙ ap (stored_as network) new in
+        let of = from_map (stored_as network) new e there in
+        elim (in_permuted _ _ of.0 (IsPermutation-sym _ _ instead) of.1) [
+          | inl fresh ↦
+              let same : e ≡ stored_as network one = of.2 ∙ ap (stored_as network) fresh in
               inr (subst (λ (s : Stored). (is_accepted s.device s.vl x.note.body ≡ true) × (s.number ≡ number) × (s.octets ≡ x.octets)) (sym same) (
                 by one.device one.vl ∙ itself,
                 numbered,
                 sym own,
               ))
+          | inr old ↦
+              let was = out_of_filter (λ (h : Holding). not (is_held_of one.device one.vl h)) held of.0 old in
+              inl (subst (λ (s : Stored). IsIn s (map (stored_as network) held) × (is_accepted s.device s.vl x.note.body ≡ false)) (sym of.2) (
+                is_mapped (stored_as network) held of.0 was.was,
+                by of.0.device of.0.vl ∙ not-true _ was.passes,
+              ))
         ];
     kept = λ e there not_taken.
         let of = from_map (stored_as network) held e there in
         let is = subst (λ (s : Stored). is_accepted s.device s.vl x.note.body ≡ false) of.2 not_taken in
-        subst (λ (s : Stored). IsIn s (map (stored_as network) (stored_with one held))) (sym of.2)
-        (is_mapped (stored_as network) (stored_with one held) of.0
-        (in_left of.0 _ (one ∷ [])
-        (in_kept (λ (h : Holding). not (is_held_of one.device one.vl h)) held of.0 of.1 (not_from_false _ (sym (by of.0.device of.0.vl) ∙ is)))));
+        subst (λ (s : Stored). IsIn s (map (stored_as network) new)) (sym of.2)
+        (is_mapped (stored_as network) new of.0
+        (in_permuted _ _ of.0 instead
+        (inr (in_kept (λ (h : Holding). not (is_held_of one.device one.vl h)) held of.0 of.1 (not_from_false _ (sym (by of.0.device of.0.vl) ∙ is))))));
     all = λ device vl is.
         let same = same_both device.0 one.device.0 vl.0 one.vl.0 (sym (by device vl) ∙ is) in (
           stored_as network one,
-          is_mapped (stored_as network) (stored_with one held) one (in_right one _ (one ∷ []) (inl refl)),
+          is_mapped (stored_as network) new one (in_permuted _ _ one instead (inl refl)),
           ap (λ (k : ℕ). let d : DeviceId = record { 0 = k } in d) (sym same.0),
           ap (λ (k : ℕ). let v : VlId = record { 0 = k } in v) (sym same.1),
         );
@@ -108,35 +86,52 @@ module _ (network : Network) (x : Happening) (number : ℕ) (held : List Holding
 
 -- ---- by the record
 
-by_accepted : (network : Network) (x : Happening) (number : ℕ) (held : List Holding) (device : DeviceId) (vl : VlId) (octets : Option Timed)
+by_accepted : (network : Network) (x : Happening) (number : ℕ) (held new : List Holding) (device : DeviceId) (vl : VlId) (octets : Option Timed)
     → ((other : DeviceId) (of_vl : VlId) → is_accepted other of_vl x.note.body ≡ (other.0 == device.0 && of_vl.0 == vl.0))
-    → (octets ≡ None → ⊥) → x.octets ≡ octets_in network octets
-    → AreTaken x number (map (stored_as network) held) (map (stored_as network) (stored_for device vl octets number held))
-by_accepted network x number held device vl None by some own = absurd (some refl)
-by_accepted network x number held device vl (Some octets) by some own =
-    one_taken network x number held (record { device = device; vl = vl; number = number; octets = octets }) by refl own
+    → (octets ≡ None → ⊥) → x.octets ≡ octets_in network octets → IsStoredFor device vl octets number held new
+    → AreTaken x number (map (stored_as network) held) (map (stored_as network) new)
+by_accepted network x number held new device vl None by some own stored = absurd (some refl)
+by_accepted network x number held new device vl (Some octets) by some own stored =
+    one_taken network x number held new (record { device = device; vl = vl; number = number; octets = octets }) stored by refl own
 
 has_some : (device : DeviceId) (link : _) (cause : ℕ) (vl : VlId) (cycle : ℕ) (octets : Option Timed)
     → HasItsOctets (Accepted device link cause vl cycle) octets → octets ≡ None → ⊥
 has_some device link cause vl cycle None has e = has
 has_some device link cause vl cycle (Some o) has e = cc
 
+same_taken : (network : Network) (x : Happening) (number : ℕ) (held new : List Holding) → new ≡ held
+    → ((device : DeviceId) (vl : VlId) → is_accepted device vl x.note.body ≡ false)
+    → AreTaken x number (map (stored_as network) held) (map (stored_as network) new)
+same_taken network x number held new same none =
+    subst (λ (l : List Holding). AreTaken x number (map (stored_as network) held) (map (stored_as network) l)) (sym same)
+    (none_taken x number (map (stored_as network) held) none)
+
 -- what the switch took by it is held, and nothing else changes
-pub taken_by : (network : Network) (x : Happening) (number : ℕ) (held : List Holding) (body : NoteBody) (octets : Option Timed) → x.note.body ≡ body
+pub taken_by : (network : Network) (x : Happening) (number : ℕ) (held new : List Holding) (body : NoteBody) (octets : Option Timed) → x.note.body ≡ body
     → HasItsOctets body octets → x.octets ≡ octets_in network octets
-    → AreTaken x number (map (stored_as network) held) (map (stored_as network) (stored_by body octets number held))
-taken_by network x number held (Accepted d l c v k) octets is has own = by_accepted network x number held d v octets
-    (λ other of_vl. ap (is_accepted other of_vl) is) (has_some d l c v k octets has) own
-taken_by network x number held (Event a b) octets is has own = none_taken x number _ (λ device vl. ap (is_accepted device vl) is)
-taken_by network x number held (Arrived a b c d) octets is has own = none_taken x number _ (λ device vl. ap (is_accepted device vl) is)
-taken_by network x number held (Permanent a b c d e) octets is has own = none_taken x number _ (λ device vl. ap (is_accepted device vl) is)
-taken_by network x number held (Compressed a b c d e f) octets is has own = none_taken x number _ (λ device vl. ap (is_accepted device vl) is)
-taken_by network x number held (Sent a b) octets is has own = none_taken x number _ (λ device vl. ap (is_accepted device vl) is)
-taken_by network x number held (Corrected a b c d) octets is has own = none_taken x number _ (λ device vl. ap (is_accepted device vl) is)
-taken_by network x number held (Changed a b c d) octets is has own = none_taken x number _ (λ device vl. ap (is_accepted device vl) is)
-taken_by network x number held (Left a b c d) octets is has own = none_taken x number _ (λ device vl. ap (is_accepted device vl) is)
-taken_by network x number held (Lost a b c) octets is has own = none_taken x number _ (λ device vl. ap (is_accepted device vl) is)
-taken_by network x number held (TtSent a b c d e) octets is has own = none_taken x number _ (λ device vl. ap (is_accepted device vl) is)
-taken_by network x number held (Delivered a b c d e) octets is has own = none_taken x number _ (λ device vl. ap (is_accepted device vl) is)
-taken_by network x number held (Dropped a b c d) octets is has own = none_taken x number _ (λ device vl. ap (is_accepted device vl) is)
-taken_by network x number held (Clock a b c d) octets is has own = none_taken x number _ (λ device vl. ap (is_accepted device vl) is)
+    → IsStoredBy body octets number held new → AreTaken x number (map (stored_as network) held) (map (stored_as network) new)
+taken_by network x number held new (Accepted d l c v k) octets is has own stored = by_accepted network x number held new d v octets
+    (λ other of_vl. ap (is_accepted other of_vl) is) (has_some d l c v k octets has) own stored
+taken_by network x number held new (Event a b) octets is has own same = same_taken network x number held new same (λ device vl. ap (is_accepted device vl) is)
+taken_by network x number held new (Arrived a b c d) octets is has own same =
+    same_taken network x number held new same (λ device vl. ap (is_accepted device vl) is)
+taken_by network x number held new (Permanent a b c d e) octets is has own same =
+    same_taken network x number held new same (λ device vl. ap (is_accepted device vl) is)
+taken_by network x number held new (Compressed a b c d e f) octets is has own same =
+    same_taken network x number held new same (λ device vl. ap (is_accepted device vl) is)
+taken_by network x number held new (Sent a b) octets is has own same = same_taken network x number held new same (λ device vl. ap (is_accepted device vl) is)
+taken_by network x number held new (Corrected a b c d) octets is has own same =
+    same_taken network x number held new same (λ device vl. ap (is_accepted device vl) is)
+taken_by network x number held new (Changed a b c d) octets is has own same =
+    same_taken network x number held new same (λ device vl. ap (is_accepted device vl) is)
+taken_by network x number held new (Left a b c d) octets is has own same =
+    same_taken network x number held new same (λ device vl. ap (is_accepted device vl) is)
+taken_by network x number held new (Lost a b c) octets is has own same = same_taken network x number held new same (λ device vl. ap (is_accepted device vl) is)
+taken_by network x number held new (TtSent a b c d e) octets is has own same =
+    same_taken network x number held new same (λ device vl. ap (is_accepted device vl) is)
+taken_by network x number held new (Delivered a b c d e) octets is has own same =
+    same_taken network x number held new same (λ device vl. ap (is_accepted device vl) is)
+taken_by network x number held new (Dropped a b c d) octets is has own same =
+    same_taken network x number held new same (λ device vl. ap (is_accepted device vl) is)
+taken_by network x number held new (Clock a b c d) octets is has own same =
+    same_taken network x number held new same (λ device vl. ap (is_accepted device vl) is)

@@ -1,43 +1,20 @@
 -- An event within the hypothesis suits the world: it turns on only a device that is off, and has octets sent only by an
 -- end system.
-use Rattle.std.proofs.Common.{◌≡◌, ℕ, ◌<◌, true, false, List, ◌++◌, length, Option, Some, None, inl, inr, refl, sym, ap, subst, ◌∙◌}
-use Rattle.std.specs.Prelude.{nat_le, IsSomeAnd}
-use Rattle.std.specs.Option.{option_map_or}
+use Rattle.drift_world.proofs.Words.{◌++◌, ◌<◌, ◌∙◌, ◌≡◌, AreWithinHypothesis, DeviceId, FitsWorld, Happening, IsHeld, IsOfNetwork, IsSomeAnd}
+use Rattle.drift_world.proofs.Words.{IsWithinHypothesis, Link, LinkId, List, Network, Node, None, Note, Off, Option, Some, Stands, What, World, amount, any_in}
+use Rattle.drift_world.proofs.Words.{ap, append-nil, breaks_at, false, happenings, in_filter, inl, inr, is_broken, length, link_at, nat_le, option_map_or}
+use Rattle.drift_world.proofs.Words.{parted, refl, scenario, subst, sym, true, ℕ}
 use Rattle.std.proofs.lemmas.Bool.{cases_Bool}
-use Rattle.std.proofs.lemmas.List.{append-nil}
-use Rattle.net_plan.specs.Belonging.{IsOfNetwork}
-use Rattle.net_plan.specs.Places.{device_at, is_end_system, is_master, link_at}
-use Rattle.net_plan.specs.declared.event.Event.{Event}
-use Rattle.net_plan.specs.declared.event.What.{What}
-use Rattle.net_plan.specs.declared.event.What.TheVariants as events
-use Rattle.net_plan.specs.declared.ids.DeviceId.{DeviceId}
-use Rattle.net_plan.specs.declared.ids.LinkId.{LinkId}
-use Rattle.net_plan.specs.declared.network.Network.{Network}
-use Rattle.net_plan.specs.declared.tables.Device.{Device}
-use Rattle.net_plan.specs.declared.tables.Link.{Link}
+use Rattle.net_plan.specs.{Places.{device_at, is_end_system, is_master}, declared.{event.Event.Event, tables.Device.Device}}
 use Rattle.precision_law.proofs.Plain.{any_is, any_of_in}
-use Rattle.run_law.proofs.law.FirstPlaces.{in_filter}
-use Rattle.run_law.proofs.records.Order.{any_in}
-use Rattle.run_law.proofs.runs.Places.{parted}
-use Rattle.run_law.proofs.scenario.Devices.{broken_by}
-use Rattle.run_law.specs.declared.note.Note.{Note}
-use Rattle.run_law.specs.declared.outside.Outside.TheVariants as outside
-use Rattle.run_law.specs.machines.Nodes.{Node}
-use Rattle.run_law.specs.records.Happenings.{Happening, happenings}
-use Rattle.run_law.specs.scenario.Devices.{is_end}
-use Rattle.run_law.specs.scenario.Faults.{Breaks, IsBroken, TurnsOn}
-use Rattle.run_law.specs.scenario.Hypothesis.{AreWithinHypothesis, IsWithinHypothesis, breaks_at}
-use Rattle.run_law.specs.scenario.Scenarios.{is_broken}
+use Rattle.run_law.{proofs.scenario.Devices.broken_by, specs.scenario.{Devices.is_end, Faults.{Breaks, IsBroken, TurnsOn}}}
 use Rattle.schedule_tables.proofs.Margins.{master_ends}
 use Rattle.sync_state.specs.declared.state.State.{State}
-use Rattle.sync_state.specs.declared.state.State.TheVariants.{Off}
-use Rattle.tte_units.specs.Amount.{amount}
-use Rattle.drift_world.proofs.EventRuns.{none_coming}
-use Rattle.drift_world.proofs.Offs.{begins_off, stays_off}
+use Rattle.world_law.specs.world.World.{IsFromEnd}
 use Rattle.world_state.specs.Applying.{IsShown}
-use Rattle.world_law.specs.source.Agreeing.{scenario}
-use Rattle.world_steps.specs.Steps.{FitsWorld}
-use Rattle.world_law.specs.world.World.{IsFromEnd, IsHeld, Stands, World}
+use Rattle.drift_world.proofs.{EventRuns.none_coming, Offs.{begins_off, stays_off}}
+use Rattle.net_plan.specs.declared.event.What.TheVariants as events
+use Rattle.run_law.specs.declared.outside.Outside.TheVariants as outside
 
 -- ---- octets are sent by a broken device alone, which is a master
 
@@ -109,7 +86,8 @@ module _ {C M : Type 0} (reading : C → ℕ → ℕ) (stands : M → Network �
       )
 
   pub suits : (what : What) → event.what ≡ what → AreWithinHypothesis network past → IsOfNetwork network what
-      → ((device : DeviceId) → what ≡ events.On device → (state : State) × IsShown stands network world.machines device state) → FitsWorld stands network world what
+      → ((device : DeviceId) → what ≡ events.On device → (state : State) × IsShown stands network world.machines device state)
+      → FitsWorld stands network world what
   suits (events.On device) what all of_network shows =
       let state = shows device refl in
       let it = old.devices device of_network in

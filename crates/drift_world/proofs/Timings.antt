@@ -1,22 +1,11 @@
 -- Timers that are right, and stay so.
-use Rattle.std.proofs.Common.{◌≡◌, ◌↔◌, ℕ, ◌+◌, ◌*◌, ◌<◌, ◌≤◌, ◌^◌, pos, ◌≤ℤ◌, Bool, List, All, length, Option, Some, None, slice_get, inl, inr, refl, sym, ap, subst, ◌∙◌, arith}
-use Rattle.std.proofs.lemmas.Bool.{cases_eq, cases_lt}
-use Rattle.std.proofs.lemmas.Int.{ints}
-use Rattle.due_timers.specs.Times.{never}
-use Rattle.net_plan.specs.declared.ids.DeviceId.{DeviceId}
-use Rattle.net_plan.specs.declared.network.Network.{Network}
-use Rattle.run_law.specs.machines.Nodes.{Node}
+use Rattle.drift_world.proofs.Words.{◌*◌, ◌+◌, ◌<◌, ◌^◌, ◌↔◌, ◌∙◌, ◌≡◌, ◌≤ℤ◌, ◌≤◌, AreTimed, Bool, ChangesOnly, DeviceId, IsIn, IsRunning, IsSized, IsTimed}
+use Rattle.drift_world.proofs.Words.{Kept, List, Network, Node, None, Option, Some, Units, Waits, ap, arith, cases_eq, cases_lt, inl, inr, ints, keeps, length}
+use Rattle.drift_world.proofs.Words.{never, pos, refl, subst, sym, ℕ}
+use Rattle.std.proofs.Common.{All, slice_get}
 use Rattle.run_law.specs.machines.Tasks.{IsDueReading}
-use Rattle.run_law.specs.records.Order.{IsIn}
-use Rattle.tte_units.specs.declared.units.Units.{Units}
-use Rattle.world_state.specs.Keeping.{keeps}
-use Rattle.drift_world.specs.Sourcing.{AreTimed}
-use Rattle.drift_world.specs.Sound.{IsSized}
-use Rattle.drift_world.specs.Stepping.{ActsAt, ChangesOnly, IsRipeAt, IsRunning, IsTimed}
 use Rattle.world_state.specs.Timing.{IsLeastPoint, IsTimeFor}
-use Rattle.world_state.specs.declared.contents.Waits.{Waits}
-use Rattle.world_state.specs.declared.kept.Kept.{Kept}
-use Rattle.drift_world.specs.declared.state.State.{State}
+use Rattle.drift_world.specs.{Stepping.{ActsAt, IsRipeAt}, declared.state.State.State}
 
 -- ---- a time at which a clock reads so much
 

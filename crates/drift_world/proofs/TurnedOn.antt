@@ -1,32 +1,18 @@
 -- A device is turned on at the present instant where such an event befell and is pending.
-use Rattle.std.proofs.Common.{◌≡◌, ℕ, suc, pos, ◌≤ℤ◌, ◌+◌, true, false, ◌&&◌, ◌==◌, List, [], ◌∷◌, ◌++◌, length, Some, inl, inr, refl, sym, ap, subst, ◌∙◌, append_assoc, arith}
-use Rattle.std.specs.List.{list_any, slice_get}
-use Rattle.std.proofs.lemmas.Bool.{and_from, and_parts, both_ways, cases_Bool, eq-eqb, eqb-true}
+use Rattle.drift_world.proofs.Words.{◌&&◌, ◌++◌, ◌+◌, ◌==◌, ◌∙◌, ◌∷◌, ◌≡◌, ◌≤ℤ◌, DeviceId, Happening, IsBefore, IsCaused, IsDue, IsFounded, IsIn, List, Network}
+use Rattle.drift_world.proofs.Words.{Node, NoneBefore, Note, Scenario, Some, Stands, What, World, [], amount, and_parts, any_in, ap, append_assoc, arith}
+use Rattle.drift_world.proofs.Words.{both_ways, chain, eq-eqb, eqb-true, false, happening, happenings, in_get, in_right, inl, inr, is_turned_on_at, length}
+use Rattle.drift_world.proofs.Words.{list_any, never_self, numbered_in, parted, place_of, pos, refl, subst, suc, sym, time_of, true, turns_on, ℕ}
+use Rattle.std.{proofs.lemmas.Bool.{and_from, cases_Bool}, specs.List.slice_get}
 use Rattle.net_plan.specs.declared.event.Event.{Event}
-use Rattle.net_plan.specs.declared.event.What.TheVariants as events
-use Rattle.net_plan.specs.declared.event.What.{What}
-use Rattle.net_plan.specs.declared.ids.DeviceId.{DeviceId}
-use Rattle.net_plan.specs.declared.network.Network.{Network}
-use Rattle.run_law.proofs.law.FirstPlaces.{in_at, numbered_in}
-use Rattle.run_law.proofs.records.Order.{any_in, in_any}
-use Rattle.run_law.proofs.runs.Places.{before_or_not, chain, in_right, never_self, parted}
-use Rattle.run_law.specs.machines.Nodes.{Node}
-use Rattle.run_law.specs.records.Causes.{IsOfThisTime}
-use Rattle.run_law.specs.records.Happenings.{Happening, happening, happenings, time_of}
-use Rattle.run_law.specs.records.Order.{AllBefore, IsBefore, IsIn, NoneBefore}
-use Rattle.run_law.specs.records.Ranks.{place_of}
-use Rattle.run_law.specs.runs.DueRecords.{IsCaused, IsDue, IsEventRecord}
-use Rattle.run_law.specs.runs.Runs.{IsFounded}
-use Rattle.run_law.specs.scenario.Scenarios.{Scenario, is_turned_on_at, turns_on}
-use Rattle.run_law.specs.declared.note.Note.{Note}
-use Rattle.run_law.specs.declared.note.NoteBody.TheVariants as kinds
+use Rattle.run_law.{proofs.{law.FirstPlaces.in_at, records.Order.in_any, runs.Places.before_or_not}, specs.records.{Causes.IsOfThisTime, Order.AllBefore}}
+use Rattle.run_law.specs.runs.DueRecords.{IsEventRecord}
 use Rattle.tte_lemmas.proofs.Bools.{same_tests}
-use Rattle.tte_units.specs.Amount.{amount}
-use Rattle.drift_world.proofs.HiddenCauses.{Rises}
-use Rattle.world_law.proofs.giving.Given.{in_get, some_same}
-use Rattle.world_law.proofs.runs.Applies.{event_cause, event_place}
+use Rattle.world_law.{proofs.{giving.Given.some_same, runs.Applies.{event_cause, event_place}}, specs.world.World.{Befell, has_outcome}}
 use Rattle.world_steps.proofs.steps.AppliedParts.{before_others}
-use Rattle.world_law.specs.world.World.{Befell, Stands, World, has_outcome}
+use Rattle.drift_world.proofs.HiddenCauses.{Rises}
+use Rattle.net_plan.specs.declared.event.What.TheVariants as events
+use Rattle.run_law.specs.declared.note.NoteBody.TheVariants as kinds
 
 -- ---- records at a place
 

@@ -1,43 +1,18 @@
 -- A turn of a world: what comes first, and what the steps keep.
-use Rattle.std.proofs.Common.{◌≡◌, ℕ, ◌+◌, ◌<◌, ◌≤◌, ◌^◌, List, [], ◌∷◌, ◌++◌, All, length, map, Option, Some, true, Result, Ok, Err, slice_get, inl, inr, refl, sym, ap, subst, ◌∙◌, arith}
-use Rattle.std.proofs.lemmas.List.{append-nil, length-map}
-use Rattle.std.specs.Prelude.{◌↔◌, IfOk, OnErr, OnOk}
-use Rattle.net_plan.specs.declared.ids.DeviceId.{DeviceId}
-use Rattle.net_plan.specs.declared.network.Network.{Network}
-use Rattle.run_law.proofs.runs.Places.{before_later, before_later_time, chain, never_self}
-use Rattle.run_law.specs.declared.note.Note.{Note}
-use Rattle.run_law.specs.machines.Nodes.{Node}
-use Rattle.run_law.specs.records.Happenings.{Happening, happenings}
-use Rattle.run_law.specs.records.Order.{IsBefore, IsIn}
-use Rattle.run_law.specs.records.Ranks.{place_of}
-use Rattle.run_law.specs.scenario.Scenarios.{Scenario}
-use Rattle.drift_world.proofs.HiddenCauses.{InOrder, settled_in_order}
-use Rattle.drift_world.proofs.Sources.{of_world, sooner_too}
-use Rattle.drift_world.proofs.Foremost.{timers_later}
-use Rattle.drift_world.proofs.Timings.{passed, rekeyed, unchanged}
-use Rattle.world_state.specs.Giving.{HasItsOctets}
-use Rattle.world_state.specs.Keeping.{keeps}
-use Rattle.world_state.specs.Places.{own_place}
-use Rattle.drift_world.specs.Sound.{IsSound}
-use Rattle.drift_world.specs.Sourcing.{AreTimed, HasNothingBefore}
-use Rattle.drift_world.specs.Stepping.{ChangesOnly, IsAt, IsRunning, IsTimed}
-use Rattle.drift_world.specs.Turns.{HasRoom, IsAfter, IsAhead, IsForemost, IsNow, IsStep, IsThere, PassSays, SourceFirst, TurnSays, given_in, own_numbers, source_place}
-use Rattle.drift_world.specs.Views.{world_of}
-use Rattle.world_state.specs.Views.{settled_at}
-use Rattle.drift_world.specs.Wells.{IsWell}
-use Rattle.world_state.specs.declared.contents.Settled.{Settled}
-use Rattle.drift_world.specs.declared.source.Source.TheVariants.{Events, Arrival, Ripening, Act, Departure, Clock, Later}
-use Rattle.drift_world.specs.declared.source.Source.{Source}
-use Rattle.drift_world.specs.declared.state.State.{State}
-use Rattle.world_law.proofs.acts.NoActs.{nothing_comes_before}
-use Rattle.world_law.specs.source.First.{NoSourceBefore}
-use Rattle.world_law.specs.world.Moves.{ComesFirst}
-use Rattle.world_law.proofs.runs.Worlds.{nothing_settled_is_all}
-use Rattle.drift_world.specs.declared.next.Turn.TheVariants.{Gives, Ends, GoesOn}
-use Rattle.drift_world.specs.declared.next.Turn.{Turn}
-use Rattle.world_law.specs.world.World.{AreSettled, Stands, World}
-use Rattle.run_law.specs.runs.DueRecords.{IsScenarioRun}
+use Rattle.drift_world.proofs.Words.{◌++◌, ◌+◌, ◌<◌, ◌^◌, ◌↔◌, ◌∙◌, ◌∷◌, ◌≡◌, ◌≤◌, AreSettled, AreTimed, ChangesOnly, ComesFirst, DeviceId, Err, Happening}
+use Rattle.drift_world.proofs.Words.{HasItsOctets, HasNothingBefore, IfOk, IsAt, IsBefore, IsIn, IsRunning, IsScenarioRun, IsSound, IsTimed, IsWell, List}
+use Rattle.drift_world.proofs.Words.{Network, NoSourceBefore, Node, Note, Ok, OnErr, OnOk, Option, Result, Scenario, Settled, Some, SourceFirst, Stands, Turn}
+use Rattle.drift_world.proofs.Words.{World, [], ap, append-nil, arith, chain, happenings, inl, inr, keeps, length, length-map, map, never_self, own_place}
+use Rattle.drift_world.proofs.Words.{place_of, refl, settled_at, subst, sym, true, world_of, ℕ}
+use Rattle.std.proofs.Common.{All, slice_get}
+use Rattle.run_law.proofs.runs.Places.{before_later, before_later_time}
+use Rattle.world_law.proofs.{acts.NoActs.nothing_comes_before, runs.Worlds.nothing_settled_is_all}
 use Rattle.world_steps.proofs.steps.Passed.{none_hidden}
+use Rattle.drift_world.proofs.{Foremost.timers_later, HiddenCauses.{InOrder, settled_in_order}, Sources.{of_world, sooner_too}}
+use Rattle.drift_world.proofs.Timings.{passed, rekeyed, unchanged}
+use Rattle.drift_world.specs.Turns.{HasRoom, IsAfter, IsAhead, IsForemost, IsNow, IsStep, IsThere, PassSays, TurnSays, given_in, own_numbers, source_place}
+use Rattle.drift_world.specs.declared.{next.Turn.TheVariants.{Ends, Gives, GoesOn}, source.Source.Source}
+use Rattle.drift_world.specs.declared.{source.Source.TheVariants.{Act, Arrival, Clock, Departure, Events, Later, Ripening}, state.State.State}
 
 -- ---- a source and what is settled
 
@@ -236,7 +211,11 @@ module _ {C M : Type 0} (last_step : C → ℕ) (reading : C → ℕ → ℕ) (s
           running = runs_on old new well.running on;
           timed = rekeyed reading stands network (record { 0 = device }) old mid new well.timed there changes timers same timed sized others later;
         };
-        after = record { clocks = ap (λ (t : State C M). t.clocks) same ∙ changes.clocks; ended = ap (λ (t : State C M). t.ended) same ∙ changes.ended; later = omega (arith, at) };
+        after = record {
+          clocks = ap (λ (t : State C M). t.clocks) same ∙ changes.clocks;
+          ended = ap (λ (t : State C M). t.ended) same ∙ changes.ended;
+          later = omega (arith, at);
+        };
         still = on;
         time = at;
         given = ap (λ (t : State C M). t.given) same ∙ given;

@@ -1,7 +1,5 @@
 -- A state is well, where only its timers are set anew.
-use Rattle.std.proofs.Common.{◌≡◌, ℕ, sym, subst}
-use Rattle.net_plan.specs.declared.network.Network.{Network}
-use Rattle.drift_world.specs.Sound.{IsSound}
+use Rattle.drift_world.proofs.Words.{◌≡◌, IsSound, Network, subst, sym, ℕ}
 use Rattle.drift_world.specs.declared.state.State.{State}
 
 -- it is as sound as it was

@@ -1,25 +1,19 @@
 -- What a device has to do, and where its acts lead.
-use Rattle.std.specs.Prelude.{◌≡◌, ◌⊎◌, ℕ, pos, ◌<ℤ◌, Bool, true, false, List, Some, slice_get}
-use Rattle.net_plan.specs.declared.ids.DeviceId.{DeviceId}
-use Rattle.net_plan.specs.declared.network.Network.{Network}
-use Rattle.run_law.specs.declared.note.Note.{Note}
-use Rattle.run_law.specs.machines.Nodes.{Node}
-use Rattle.run_law.specs.machines.Tasks.{IsPending, Task, reading_for}
-use Rattle.run_law.specs.records.Happenings.{Happening}
-use Rattle.run_law.specs.records.Order.{IsBefore, IsIn, behind}
-use Rattle.run_law.specs.records.Ranks.{place_of}
+use Rattle.std.specs.Prelude.{◌<ℤ◌, ◌≡◌, ◌⊎◌, Bool, List, Some, false, pos, slice_get, true, ℕ}
+use Rattle.net_plan.specs.declared.{ids.DeviceId.DeviceId, network.Network.Network}
+use Rattle.run_law.specs.{declared.note.Note.Note, machines.{Nodes.Node, Tasks.{IsPending, Task, reading_for}}}
+use Rattle.run_law.specs.records.{Happenings.Happening, Order.{IsBefore, IsIn, behind}, Ranks.place_of}
 use Rattle.run_law.specs.scenario.Scenarios.{Scenario}
-use Rattle.world_state.specs.Keeping.{keeps}
-use Rattle.drift_world.specs.Views.{world_of}
-use Rattle.world_state.specs.declared.kept.Kept.{Kept}
-use Rattle.drift_world.specs.declared.state.State.{State}
-use Rattle.world_law.specs.world.Calls.{IsDueNow, moment_of}
-use Rattle.world_law.specs.world.World.{Stands, act_place}
+use Rattle.world_law.specs.world.{Calls.{IsDueNow, moment_of}, World.{Stands, act_place}}
+use Rattle.world_state.specs.{Keeping.keeps, declared.kept.Kept.Kept}
+use Rattle.drift_world.specs.{Views.world_of, declared.state.State.State}
 
 -- in each scenario for which the state stands the device has something to do now
-abbrev pub IsDueAt : {C M : Type 0} → (C → ℕ → ℕ) → (M → Network → DeviceId → Node → Type 0) → Network → State C M → DeviceId → Type 0
+abbrev pub IsDueAt : {C M : Type 0} → (C → ℕ → ℕ) → (M → Network → DeviceId → Node → Type 0) → Network → State C M
+    → DeviceId → Type 0
 IsDueAt reading stands network state device =
-    (s : Scenario) (notes : List Note) (machine : Kept _) → Stands reading (keeps stands) s (world_of network state) notes
+    (s : Scenario) (notes : List Note) (machine : Kept _)
+    → Stands reading (keeps stands) s (world_of network state) notes
     → slice_get state.machines.items device.0 ≡ Some machine
     → IsDueNow (keeps stands) s.network device (moment_of s device state.time) machine
 

@@ -1,18 +1,18 @@
 -- How a world begins.
-use Rattle.std.specs.Prelude.{◌≡◌, ℕ, ◌*◌, ◌≤◌, List, [], length, map, replicate, slice_get, Some, true, false, All}
-use Rattle.due_timers.specs.Times.{never}
-use Rattle.net_plan.specs.declared.ids.DeviceId.{DeviceId}
-use Rattle.net_plan.specs.declared.network.Network.{Network}
+use Rattle.std.specs.Prelude.{◌*◌, ◌≡◌, ◌≤◌, All, List, Some, [], false, length, map, replicate, slice_get, true, ℕ}
+use Rattle.net_plan.specs.declared.{ids.DeviceId.DeviceId, network.Network.Network}
 use Rattle.run_law.specs.machines.Nodes.{Node, begun_node}
 use Rattle.tte_units.specs.Amount.{amount}
-use Rattle.world_state.specs.Keeping.{sound_one}
+use Rattle.world_state.specs.{Beginning.first_way, Keeping.sound_one}
+use Rattle.world_timers.specs.Times.{never}
 use Rattle.drift_world.specs.declared.state.State.{State}
-use Rattle.world_state.specs.Beginning.{first_way}
 
 -- there is a machine for each device, which has just begun
-pub record AreFresh {M : Type 0} (stands : M → Network → DeviceId → Node → Type 0) (network : Network) (machines : List M) : Type 0 where
+pub record AreFresh {M : Type 0} (stands : M → Network → DeviceId → Node
+    → Type 0) (network : Network) (machines : List M) : Type 0 where
   pub each : length machines ≡ length network.device
-  pub begun : (device : DeviceId) (machine : M) → slice_get machines device.0 ≡ Some machine → stands machine network device (begun_node network device)
+  pub begun : (device : DeviceId) (machine : M) → slice_get machines device.0 ≡ Some machine
+      → stands machine network device (begun_node network device)
 
 -- the state as it is at first: fresh clocks, machines that have just begun, nothing broken, and nothing under way
 pub record IsFirstState {C M : Type 0} (fresh : ℕ → C) (last_step : C → ℕ) (network : Network) (begun : List M)

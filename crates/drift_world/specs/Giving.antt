@@ -1,16 +1,14 @@
 -- The frame of a record is given out.
-use Rattle.std.specs.Prelude.{◌≡◌, ℕ, ◌+◌, ◌^◌, ◌<◌, ◌≤◌, Option, Some, None, length, slice_get, IfSome, IfNone}
-use Rattle.net_plan.specs.declared.ids.DeviceId.{DeviceId}
-use Rattle.net_plan.specs.declared.network.Network.{Network}
+use Rattle.std.specs.Prelude.{◌+◌, ◌<◌, ◌^◌, ◌≡◌, ◌≤◌, IfNone, IfSome, None, Option, Some, length, slice_get, ℕ}
+use Rattle.net_plan.specs.declared.{ids.DeviceId.DeviceId, network.Network.Network}
 use Rattle.pcf_values.specs.declared.pcf.Pcf.{Pcf}
-use Rattle.world_state.specs.declared.giving.Giving.{Giving}
-use Rattle.drift_world.specs.declared.state.State.{State}
 use Rattle.run_law.specs.declared.note.NoteBody.{NoteBody}
-use Rattle.world_state.specs.Giving.{ArePutTo, awaited_by, giver_of}
-use Rattle.world_state.specs.Frames.{IsOneMore}
+use Rattle.world_state.specs.{Frames.IsOneMore, Giving.{ArePutTo, awaited_by, giver_of}, declared.giving.Giving.Giving}
+use Rattle.drift_world.specs.declared.state.State.{State}
 
 -- the frame of a record is given, or waited for, by this device, whose clock reads so
-pub record IsGiver {C M : Type 0} (reading : C → ℕ → ℕ) (network : Network) (state : State C M) (body : NoteBody) (frame : Option Pcf) (number : ℕ)
+pub record IsGiver {C M : Type 0} (reading : C → ℕ
+    → ℕ) (network : Network) (state : State C M) (body : NoteBody) (frame : Option Pcf) (number : ℕ)
     (giving : Giving) : Type 0 where
   pub by : giver_of body ≡ Some giving.device
   pub there : giving.device.0 < length network.device
@@ -23,13 +21,17 @@ pub record IsGiver {C M : Type 0} (reading : C → ℕ → ℕ) (network : Netwo
   pub broken : slice_get state.broken.items giving.device.0 ≡ Some giving.broken
 
 -- the frame of a record is given to ports, or waits, where a device gives it
-pub record IsGivenOut {C M : Type 0} (reading : C → ℕ → ℕ) (network : Network) (old new : State C M) (body : NoteBody) (frame : Option Pcf)
+pub record IsGivenOut {C M : Type 0} (reading : C → ℕ
+    → ℕ) (network : Network) (old new : State C M) (body : NoteBody) (frame : Option Pcf)
     (number : ℕ) (giving : Option Giving) : Type 0 where
   pub giver : IfSome giving (IsGiver reading network old body frame number)
-  pub no_giver : IfNone giving ((device : DeviceId) → giver_of body ≡ Some device → device.0 < length network.device → frame ≡ None)
-  pub put : IfSome giving (λ g. ArePutTo (length network.link) network old.ups.items old.downs.items body g old.under_way.entries
+  pub no_giver : IfNone giving ((device : DeviceId) → giver_of body ≡ Some device → device.0 < length network.device
+      → frame ≡ None)
+  pub put : IfSome giving (λ g. ArePutTo (length network.link) network old.ups.items old.downs.items body g
+      old.under_way.entries
       new.under_way.entries)
-  pub waits : IfSome giving (λ g. IsOneMore (awaited_by network g.broken body (Some g.frame) g.reading g.number) old.waiting.items new.waiting.items)
+  pub waits : IfSome giving (λ g. IsOneMore (awaited_by network g.broken body (Some g.frame) g.reading g.number)
+      old.waiting.items new.waiting.items)
   pub none : IfNone giving (new.under_way.entries ≡ old.under_way.entries)
   pub no_wait : IfNone giving (new.waiting.items ≡ old.waiting.items)
 

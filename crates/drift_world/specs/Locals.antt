@@ -1,27 +1,17 @@
 -- The local clock of a device, as a world shows it.
-use Rattle.std.specs.Prelude.{◌≡◌, ◌⊎◌, ℕ, ◌+◌, ◌^◌, ◌≤◌, ◌<◌, ℤ, pos, neg_ℤ, ◌+ℤ◌, ◌≤ℤ◌, ◌<ℤ◌, Bool, true, false, List, [], ◌∷◌, slice_get, Option, Some, None, MatchOption}
+use Rattle.std.specs.Prelude.{◌+ℤ◌, ◌+◌, ◌<ℤ◌, ◌<◌, ◌^◌, ◌∷◌, ◌≡◌, ◌≤ℤ◌, ◌≤◌, ◌⊎◌, Bool, List, MatchOption, None}
+use Rattle.std.specs.Prelude.{Option, Some, [], false, neg_ℤ, pos, slice_get, true, ℕ, ℤ}
 use Rattle.clock_correction.specs.Deviation.{IsSmall}
-use Rattle.net_plan.specs.declared.event.Event.{Event}
-use Rattle.net_plan.specs.declared.ids.DeviceId.{DeviceId}
-use Rattle.net_plan.specs.declared.network.Network.{Network}
-use Rattle.run_law.specs.declared.note.Note.{Note}
-use Rattle.run_law.specs.device.LocalClocks.{local, local_before}
-use Rattle.run_law.specs.law.Safety.{IsInStep, IsInStepBefore}
-use Rattle.run_law.specs.machines.Nodes.{Node}
-use Rattle.run_law.specs.records.Happenings.{Happening, happenings}
-use Rattle.run_law.specs.records.Order.{IsBefore, IsIn}
-use Rattle.run_law.specs.records.Ranks.{place_of}
-use Rattle.run_law.specs.runs.DueRecords.{IsRunOf}
-use Rattle.run_law.specs.scenario.Scenarios.{Scenario}
-use Rattle.sync_state.specs.declared.state.State.TheVariants.{Synchronised}
-use Rattle.sync_state.specs.declared.state.State.{State as DeviceState}
-use Rattle.tte_units.specs.Amount.{amount}
-use Rattle.tte_units.specs.declared.units.Units.{Units}
-use Rattle.world_state.specs.Keeping.{keeps}
-use Rattle.drift_world.specs.Running.{StandsUnder, reading_of}
-use Rattle.world_state.specs.declared.kept.Kept.{Kept}
-use Rattle.drift_world.specs.declared.state.State.{State}
+use Rattle.net_plan.specs.declared.{event.Event.Event, ids.DeviceId.DeviceId, network.Network.Network}
+use Rattle.run_law.specs.{declared.note.Note.Note, device.LocalClocks.{local, local_before}}
+use Rattle.run_law.specs.{law.Safety.{IsInStep, IsInStepBefore}, machines.Nodes.Node}
+use Rattle.run_law.specs.records.{Happenings.{Happening, happenings}, Order.{IsBefore, IsIn}, Ranks.place_of}
+use Rattle.run_law.specs.{runs.DueRecords.IsRunOf, scenario.Scenarios.Scenario}
+use Rattle.sync_state.specs.declared.state.State.{State as DeviceState, TheVariants.Synchronised}
+use Rattle.tte_units.specs.{Amount.amount, declared.units.Units.Units}
 use Rattle.world_law.specs.world.World.{World}
+use Rattle.world_state.specs.{Keeping.keeps, declared.kept.Kept.Kept}
+use Rattle.drift_world.specs.{Running.{StandsUnder, reading_of}, declared.state.State.State}
 
 -- the local clock of a device in this state with this reading and this adjustment, or None where it is broken or not
 -- synchronised
@@ -30,7 +20,8 @@ local_shown false Synchronised reading adjustment = Some (pos reading +ℤ adjus
 local_shown broken state reading adjustment = None
 
 -- the state shows so much of the device's local clock at the time
-pub record Shows {C M : Type 0} (reading : C → ℕ → ℕ) (stands : M → Network → DeviceId → Node → Type 0) (state : State C M)
+pub record Shows {C M : Type 0} (reading : C → ℕ → ℕ) (stands : M → Network → DeviceId → Node
+    → Type 0) (state : State C M)
     (device : DeviceId) (t : ℕ) (shown : Option ℤ) : Type 0 where
   pub clock : C
   pub clock_is : slice_get state.clocks.items device.0 ≡ Some clock

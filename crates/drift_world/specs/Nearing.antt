@@ -1,14 +1,10 @@
 -- How a world comes nearer to a time, turn by turn.
-use Rattle.std.specs.Prelude.{◌≡◌, ◌⊎◌, ℕ, ◌+◌, ◌-◌, ◌*◌, ◌<◌, List, [], ◌∷◌, drop, length, slice_get, Some, nat_lt, if◌then◌else◌}
-use Rattle.net_plan.specs.declared.ids.DeviceId.{DeviceId}
-use Rattle.net_plan.specs.declared.network.Network.{Network}
-use Rattle.run_law.specs.machines.Nodes.{Node}
-use Rattle.run_law.specs.scenario.Scenarios.{Scenario}
-use Rattle.drift_world.specs.Acting.{IsIdle}
-use Rattle.drift_world.specs.Showing.{IsOf}
+use Rattle.std.specs.Prelude.{if◌then◌else◌, ◌*◌, ◌+◌, ◌-◌, ◌<◌, ◌∷◌, ◌≡◌, ◌⊎◌, List, Some, [], drop, length, nat_lt}
+use Rattle.std.specs.Prelude.{slice_get, ℕ}
+use Rattle.net_plan.specs.declared.{ids.DeviceId.DeviceId, network.Network.Network}
+use Rattle.run_law.specs.{machines.Nodes.Node, scenario.Scenarios.Scenario}
 use Rattle.world_state.specs.declared.kept.Kept.{Kept}
-use Rattle.drift_world.specs.declared.next.Turn.TheVariants.{Gives, Ends, GoesOn}
-use Rattle.drift_world.specs.declared.next.Turn.{Turn}
+use Rattle.drift_world.specs.{Acting.IsIdle, Showing.IsOf, declared.next.Turn.{Turn, TheVariants.{Ends, Gives, GoesOn}}}
 use Rattle.drift_world.specs.declared.state.State.{State}
 
 -- how many of these times have come
@@ -19,7 +15,8 @@ come now (t ∷ ts) = if nat_lt now t then come now ts else come now ts + 1
 -- how much there is to work off: events, what is under way, frames that wait, and clocks to be shown
 abbrev pub burden : {C M : Type 0} → Network → State C M → ℕ
 burden network state =
-    (if state.pending then 1 else 0) + length state.befell.items + length state.under_way.entries + length state.waiting.items
+    (if state.pending then 1 else 0) + length state.befell.items + length state.under_way.entries
+    + length state.waiting.items
     + (length network.device - state.shown)
 
 -- how many devices have something to do now
@@ -34,7 +31,8 @@ IsLess network old new =
 
 -- how far it is to the time: a unit of time, or one to work off, is more than all devices that have something to do
 abbrev pub distance : {C M : Type 0} → Network → ℕ → State C M → ℕ
-distance network until state = ((until - state.time) + burden network state) * (length network.device + 1) + acting network state
+distance network until state = ((until - state.time) + burden network state) * (length network.device + 1)
+    + acting network state
 
 -- a turn that goes on comes nearer to the time
 abbrev pub Nears : {C M : Type 0} → Network → ℕ → State C M → State C M → Turn → Type 0
@@ -43,7 +41,9 @@ Nears network until old new (Gives note) = Unit {0}
 Nears network until old new Ends = Unit {0}
 
 -- in each scenario whose clocks, ways and broken devices the state shows, the device has nothing to do now
-abbrev pub IsIdleAt : {C M : Type 0} → (C → ℕ → ℕ) → (M → Network → DeviceId → Node → Type 0) → Network → State C M → DeviceId → Type 0
+abbrev pub IsIdleAt : {C M : Type 0} → (C → ℕ → ℕ) → (M → Network → DeviceId → Node → Type 0) → Network → State C M
+    → DeviceId → Type 0
 IsIdleAt reading stands network state device =
-    (s : Scenario) (machine : Kept _) → IsOf reading s network state → slice_get state.machines.items device.0 ≡ Some machine
+    (s : Scenario) (machine : Kept _) → IsOf reading s network state
+    → slice_get state.machines.items device.0 ≡ Some machine
     → IsIdle stands s state.time device machine

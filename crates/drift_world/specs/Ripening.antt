@@ -1,15 +1,14 @@
 -- The first of the frames that wait at a device.
-use Rattle.std.specs.Prelude.{◌≡◌, ℕ, pos, ◌≤ℤ◌, Some, slice_get}
+use Rattle.std.specs.Prelude.{◌≡◌, ◌≤ℤ◌, Some, pos, slice_get, ℕ}
 use Rattle.net_plan.specs.declared.ids.DeviceId.{DeviceId}
 use Rattle.run_law.specs.records.Order.{IsBefore, IsIn}
-use Rattle.world_state.specs.Frames.{first_of}
-use Rattle.world_state.specs.Views.{waiting_as}
-use Rattle.world_state.specs.declared.contents.Waits.{Waits}
-use Rattle.drift_world.specs.declared.state.State.{State}
 use Rattle.world_law.specs.world.World.{ripe_place}
+use Rattle.world_state.specs.{Frames.first_of, Views.waiting_as, declared.contents.Waits.Waits}
+use Rattle.drift_world.specs.declared.state.State.{State}
 
 -- the frame waits at the device, its clock reads its point or more, and none such is before it
-pub record IsFirstRipe {C M : Type 0} (reading : C → ℕ → ℕ) (state : State C M) (device : DeviceId) (one : Waits) : Type 0 where
+pub record IsFirstRipe {C M : Type 0} (reading : C → ℕ
+    → ℕ) (state : State C M) (device : DeviceId) (one : Waits) : Type 0 where
   pub there : IsIn one state.waiting.items
   pub is : first_of state.waiting device.0 ≡ Some one
   pub at : one.device ≡ device

@@ -1,29 +1,24 @@
 -- The run that a world gives: where the events applied to it, and the records that it gave, leave it.
-use Rattle.std.specs.Prelude.{◌≡◌, ◌⊎◌, ℕ, ◌-◌, ◌^◌, ◌≤◌, ◌<◌, ℤ, pos, ◌≤ℤ◌, ◌<ℤ◌, true, false, List, [], ◌∷◌, length, slice_get, Option, Some, option_to_list, Result, Ok, Err, MatchResult, IfNone, All}
-use Rattle.net_plan.specs.Belonging.{IsOfNetwork}
-use Rattle.net_plan.specs.declared.event.Event.{Event}
-use Rattle.net_plan.specs.declared.event.What.TheVariants.{Hold}
-use Rattle.net_plan.specs.declared.event.What.{What}
-use Rattle.net_plan.specs.declared.ids.DeviceId.{DeviceId}
-use Rattle.net_plan.specs.declared.network.Network.{Network}
-use Rattle.run_law.specs.declared.note.Note.{Note}
-use Rattle.run_law.specs.declared.note.NoteBody.TheVariants.{Event as Befalls}
-use Rattle.run_law.specs.law.FirstLaws.{IsEventInRange}
-use Rattle.run_law.specs.machines.Nodes.{Node}
+use Rattle.std.specs.Prelude.{◌-◌, ◌<ℤ◌, ◌<◌, ◌^◌, ◌∷◌, ◌≡◌, ◌≤ℤ◌, ◌≤◌, ◌⊎◌, All, Err, IfNone, List, MatchResult, Ok}
+use Rattle.std.specs.Prelude.{Option, Result, Some, [], false, length, option_to_list, pos, slice_get, true, ℕ, ℤ}
+use Rattle.net_plan.specs.{Belonging.IsOfNetwork, declared.event.{Event.Event, What.{What, TheVariants.Hold}}}
+use Rattle.net_plan.specs.declared.{ids.DeviceId.DeviceId, network.Network.Network}
+use Rattle.run_law.specs.declared.note.{Note.Note, NoteBody.TheVariants.Event as Befalls}
+use Rattle.run_law.specs.{law.FirstLaws.IsEventInRange, machines.Nodes.Node}
 use Rattle.run_law.specs.scenario.Hypothesis.{AreWithinHypothesis, IsWithinHypothesis}
-pub use Rattle.safe_runs.specs.Under.{clock_of, last_time, reading_of}
 use Rattle.tte_units.specs.declared.units.Units.{Units}
-use Rattle.world_state.specs.Keeping.{keeps}
-use Rattle.world_state.specs.declared.kept.Kept.{Kept}
-use Rattle.world_law.specs.source.Agreeing.{scenario}
-use Rattle.world_law.specs.world.World.{Stands, World}
+use Rattle.world_law.specs.{source.Agreeing.scenario, world.World.{Stands, World}}
+use Rattle.world_state.specs.{Keeping.keeps, declared.kept.Kept.Kept}
+pub use Rattle.safe_runs.specs.Under.{clock_of, last_time, reading_of}
 
--- the events are the network's, their times are none below 0, and each is within the fault hypothesis; the records given are those of the run under
--- them, and each part of the world is as these events and records leave it
+-- the events are the network's, their times are none below 0, and each is within the fault hypothesis; the records
+-- given are those of the run under them, and each part of the world is as these events and records leave it
 pub record StandsUnder {C M : Type 0} (fresh : ℕ → C) (after_step : C → ℕ → ℤ → C) (reading : C → ℕ → ℕ)
-    (stands : M → Network → DeviceId → Node → Type 0) (network : Network) (world : World C (Kept M)) (events : List Event)
+    (stands : M → Network → DeviceId → Node
+    → Type 0) (network : Network) (world : World C (Kept M)) (events : List Event)
     (notes : List Note) : Type 0 where
-  pub is : Stands reading (keeps stands) (scenario network (reading_of fresh after_step reading network events) events) world notes
+  pub is : Stands reading (keeps stands) (scenario network (reading_of fresh after_step reading network events) events)
+      world notes
   pub clocks : (device : DeviceId) → device.0 < length network.device
       → slice_get world.clocks device.0 ≡ Some (clock_of fresh after_step network events device)
   pub of_network : All (λ e. IsOfNetwork network e.what) events

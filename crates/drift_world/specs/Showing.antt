@@ -1,14 +1,14 @@
 -- What the parts of a state show of a scenario.
-use Rattle.std.specs.Prelude.{◌≡◌, ℕ, ◌<◌, length, map, slice_get, Some}
-use Rattle.net_plan.specs.declared.ids.DeviceId.{DeviceId}
-use Rattle.net_plan.specs.declared.network.Network.{Network}
+use Rattle.std.specs.Prelude.{◌<◌, ◌≡◌, Some, length, map, slice_get, ℕ}
+use Rattle.net_plan.specs.declared.{ids.DeviceId.DeviceId, network.Network.Network}
 use Rattle.run_law.specs.scenario.Scenarios.{Scenario, is_broken}
+use Rattle.world_law.specs.world.World.{AreWays, IsClockOf}
 use Rattle.world_state.specs.Views.{way_as}
 use Rattle.drift_world.specs.declared.state.State.{State}
-use Rattle.world_law.specs.world.World.{AreWays, IsClockOf}
 
 -- the clocks, the ways and what is broken are those of the scenario
-pub record IsOf {C M : Type 0} (reading : C → ℕ → ℕ) (s : Scenario) (network : Network) (state : State C M) : Type 0 where
+pub record IsOf {C M : Type 0} (reading : C → ℕ
+    → ℕ) (s : Scenario) (network : Network) (state : State C M) : Type 0 where
   pub same : network ≡ s.network
   pub clocks : (device : DeviceId) → device.0 < length s.network.device → (clock : C)
       × (slice_get state.clocks.items device.0 ≡ Some clock) × IsClockOf reading s state.time device clock

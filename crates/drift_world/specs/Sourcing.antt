@@ -1,29 +1,22 @@
 -- What comes first of what a state has under way, by its own parts.
-use Rattle.std.specs.Prelude.{◌≡◌, ◌⊎◌, ℕ, ◌+◌, ◌-◌, ◌*◌, ◌<◌, ◌≤◌, ◌^◌, pos, ◌≤ℤ◌, List, [], ◌∷◌, length, slice_get, Option, Some, All, true, IfSome, IfNone, nat_lt, if◌then◌else◌}
-use Rattle.due_queue.specs.declared.Entry.{Entry}
-use Rattle.due_queue.specs.declared.Place.{Place}
-use Rattle.due_queue.specs.Places.{IsFirst, numbers_of}
-use Rattle.due_timers.specs.declared.Due.{Due}
-use Rattle.due_timers.specs.Times.{IsFirst as IsFirstDue, never}
-use Rattle.net_plan.specs.declared.ids.DeviceId.{DeviceId}
-use Rattle.net_plan.specs.declared.network.Network.{Network}
-use Rattle.run_law.specs.machines.Nodes.{Node}
-use Rattle.run_law.specs.machines.Tasks.{IsPending, Task, reading_for}
-use Rattle.run_law.specs.records.Order.{IsBefore, IsIn}
-use Rattle.world_state.specs.Keeping.{keeps}
-use Rattle.drift_world.specs.Stepping.{IsTimed}
-use Rattle.world_state.specs.Views.{waiting_as}
-use Rattle.world_state.specs.declared.contents.Content.{Content}
-use Rattle.world_state.specs.declared.contents.Waits.{Waits}
-use Rattle.world_state.specs.declared.kept.Kept.{Kept}
-use Rattle.drift_world.specs.declared.state.State.{State}
+use Rattle.std.specs.Prelude.{if◌then◌else◌, ◌*◌, ◌+◌, ◌-◌, ◌<◌, ◌^◌, ◌∷◌, ◌≡◌, ◌≤ℤ◌, ◌≤◌, ◌⊎◌, All, IfNone, IfSome}
+use Rattle.std.specs.Prelude.{List, Option, Some, [], length, nat_lt, pos, slice_get, true, ℕ}
+use Rattle.net_plan.specs.declared.{ids.DeviceId.DeviceId, network.Network.Network}
+use Rattle.run_law.specs.{machines.{Nodes.Node, Tasks.{IsPending, Task, reading_for}}, records.Order.{IsBefore, IsIn}}
 use Rattle.world_law.specs.world.World.{act_place, ripe_place}
+use Rattle.world_queue.specs.{Places.{IsFirst, numbers_of}, declared.{Entry.Entry, Place.Place}}
+use Rattle.world_state.specs.{Keeping.keeps, Views.waiting_as, declared.contents.{Content.Content, Waits.Waits}}
+use Rattle.world_state.specs.declared.kept.Kept.{Kept}
+use Rattle.world_timers.specs.{Times.{IsFirst as IsFirstDue, never}, declared.Due.Due}
+use Rattle.drift_world.specs.{Stepping.IsTimed, declared.state.State.State}
 
 -- the timers of all devices are right, and none is past
-pub record AreTimed {C M : Type 0} (reading : C → ℕ → ℕ) (stands : M → Network → DeviceId → Node → Type 0) (network : Network)
+pub record AreTimed {C M : Type 0} (reading : C → ℕ → ℕ) (stands : M → Network → DeviceId → Node
+    → Type 0) (network : Network)
     (state : State C M) : Type 0 where
   pub sized : length state.timers ≡ 2 * length network.device
-  pub each : (device : DeviceId) → device.0 < length network.device → IsTimed reading stands network state.timers state device
+  pub each : (device : DeviceId) → device.0 < length network.device
+      → IsTimed reading stands network state.timers state device
   pub later : All (λ (time : ℕ). state.time ≤ time) state.timers
 
 -- where what a slot is for is due: the frames that wait at a device, or its acts
@@ -39,7 +32,8 @@ pub record AreFirsts {C M : Type 0} (state : State C M) (place : Option Place) (
   pub no_due : IfNone due (All (λ (time : ℕ). never ≤ time) state.timers)
 
 -- the place is that of a frame that waits at the device of the timer and is permanent by it; none such is before it
-pub record IsRipePlace {C M : Type 0} (reading : C → ℕ → ℕ) (network : Network) (state : State C M) (due : Due) (p : List ℕ) : Type 0 where
+pub record IsRipePlace {C M : Type 0} (reading : C → ℕ
+    → ℕ) (network : Network) (state : State C M) (due : Due) (p : List ℕ) : Type 0 where
   pub there : due.slot < length network.device
   pub one : Waits
   pub at : one.device.0 ≡ due.slot
@@ -49,23 +43,29 @@ pub record IsRipePlace {C M : Type 0} (reading : C → ℕ → ℕ) (network : N
       → IsBefore (ripe_place due.time (waiting_as w)) p → ⊥
 
 -- none of them is before the place, nor what befell, nor the clocks at the end; and the place is in time
-pub record AreNotBefore {C M : Type 0} (reading : C → ℕ → ℕ) (network : Network) (state : State C M) (place : Option Place) (due : Option Due)
+pub record AreNotBefore {C M : Type 0} (reading : C → ℕ
+    → ℕ) (network : Network) (state : State C M) (place : Option Place) (due : Option Due)
     (p : List ℕ) : Type 0 where
   pub in_time : IsBefore ((2 ^ 60 + 1) ∷ []) p → ⊥
   pub under_way : IfSome place (λ q. IsBefore (numbers_of q) p → ⊥)
-  pub timers : IfSome due (λ d. (IsBefore (due_place (length network.device) d) p → ⊥) ⊎ IsRipePlace reading network state d p)
+  pub timers : IfSome due (λ d. (IsBefore (due_place (length network.device) d) p → ⊥)
+      ⊎ IsRipePlace reading network state d p)
   pub befell : state.pending ≡ true → IsBefore (state.time ∷ 2 ∷ []) p → ⊥
-  pub clocks : state.ended ≡ true → state.shown < length network.device → IsBefore (state.time ∷ 14 ∷ state.shown ∷ []) p → ⊥
+  pub clocks : state.ended ≡ true → state.shown < length network.device
+      → IsBefore (state.time ∷ 14 ∷ state.shown ∷ []) p → ⊥
 
 -- nothing that the state has under way is before the place, by its own parts
-pub record HasNothingBefore {C M : Type 0} (reading : C → ℕ → ℕ) (stands : M → Network → DeviceId → Node → Type 0) (network : Network)
+pub record HasNothingBefore {C M : Type 0} (reading : C → ℕ → ℕ) (stands : M → Network → DeviceId → Node
+    → Type 0) (network : Network)
     (state : State C M) (p : List ℕ) : Type 0 where
   pub under_way : (e : Entry Content) → IsIn e state.under_way.entries → IsBefore (numbers_of e.place) p → ⊥
-  pub waiting : (w : Waits) (clock : C) → IsIn w state.waiting.items → slice_get state.clocks.items w.device.0 ≡ Some clock → (t : ℕ)
+  pub waiting : (w : Waits) (clock : C) → IsIn w state.waiting.items
+      → slice_get state.clocks.items w.device.0 ≡ Some clock → (t : ℕ)
       → state.time ≤ t → w.point.0 ≤ℤ pos (reading clock t) → IsBefore (ripe_place t (waiting_as w)) p → ⊥
   pub acting : (device : DeviceId) (machine : Kept M) (clock : C) (node : Node) (task : Task)
       → slice_get state.machines.items device.0 ≡ Some machine → slice_get state.clocks.items device.0 ≡ Some clock
       → keeps stands machine network device node → IsPending network device node task → (t : ℕ) → state.time ≤ t
       → reading_for network node task ≤ℤ pos (reading clock t) → IsBefore (act_place t device) p → ⊥
   pub befell : state.pending ≡ true → IsBefore (state.time ∷ 2 ∷ []) p → ⊥
-  pub clocks : state.ended ≡ true → state.shown < length network.device → IsBefore (state.time ∷ 14 ∷ state.shown ∷ []) p → ⊥
+  pub clocks : state.ended ≡ true → state.shown < length network.device
+      → IsBefore (state.time ∷ 14 ∷ state.shown ∷ []) p → ⊥

@@ -1,30 +1,24 @@
 -- Where a state stands, and what a step of it leaves.
-use Rattle.std.specs.Prelude.{◌≡◌, ◌↔◌, ℕ, ◌+◌, ◌<◌, ◌≤◌, ◌^◌, pos, ◌≤ℤ◌, List, length, slice_get, Some}
-use Rattle.due_timers.specs.Times.{never}
-use Rattle.net_plan.specs.declared.ids.DeviceId.{DeviceId}
-use Rattle.net_plan.specs.declared.network.Network.{Network}
-use Rattle.run_law.specs.declared.note.Note.{Note}
-use Rattle.run_law.specs.machines.Nodes.{Node}
-use Rattle.run_law.specs.machines.Tasks.{IsPending, Task, reading_for}
-use Rattle.run_law.specs.records.Order.{IsIn}
-use Rattle.run_law.specs.scenario.Scenarios.{Scenario}
-use Rattle.world_state.specs.Keeping.{keeps}
-use Rattle.drift_world.specs.Views.{world_of}
-use Rattle.world_state.specs.declared.contents.Waits.{Waits}
-use Rattle.world_state.specs.declared.kept.Kept.{Kept}
-use Rattle.drift_world.specs.declared.state.State.{State}
-use Rattle.world_law.specs.world.Moves.{ComesFirst}
-use Rattle.world_law.specs.world.World.{Stands}
+use Rattle.std.specs.Prelude.{◌+◌, ◌<◌, ◌^◌, ◌↔◌, ◌≡◌, ◌≤ℤ◌, ◌≤◌, List, Some, length, pos, slice_get, ℕ}
+use Rattle.net_plan.specs.declared.{ids.DeviceId.DeviceId, network.Network.Network}
+use Rattle.run_law.specs.{declared.note.Note.Note, machines.{Nodes.Node, Tasks.{IsPending, Task, reading_for}}}
+use Rattle.run_law.specs.{records.Order.IsIn, scenario.Scenarios.Scenario}
+use Rattle.world_law.specs.world.{Moves.ComesFirst, World.Stands}
+use Rattle.world_state.specs.{Keeping.keeps, declared.{contents.Waits.Waits, kept.Kept.Kept}}
+use Rattle.world_timers.specs.Times.{never}
+use Rattle.drift_world.specs.{Views.world_of, declared.state.State.State}
 
 -- some scenario and records leave the state where it stands
-pub record IsRunning {C M : Type 0} (reading : C → ℕ → ℕ) (stands : M → Network → DeviceId → Node → Type 0) (network : Network)
+pub record IsRunning {C M : Type 0} (reading : C → ℕ → ℕ) (stands : M → Network → DeviceId → Node
+    → Type 0) (network : Network)
     (state : State C M) : Type 0 where
   pub s : Scenario
   pub notes : List Note
   pub is : Stands reading (keeps stands) s (world_of network state) notes
 
 -- and the source at this place comes first
-pub record IsAt {C M : Type 0} (reading : C → ℕ → ℕ) (stands : M → Network → DeviceId → Node → Type 0) (network : Network) (state : State C M)
+pub record IsAt {C M : Type 0} (reading : C → ℕ → ℕ) (stands : M → Network → DeviceId → Node
+    → Type 0) (network : Network) (state : State C M)
     (place : List ℕ) : Type 0 where
   pub s : Scenario
   pub notes : List Note
@@ -42,12 +36,16 @@ pub record ChangesOnly {C M : Type 0} (device : ℕ) (old new : State C M) : Typ
 -- ---- timers
 
 -- no frame that waits at the device is permanent before the time, and where that is a time, one is then
-pub record IsRipeAt {C : Type 0} (reading : C → ℕ → ℕ) (clock : C) (waiting : List Waits) (device now time : ℕ) : Type 0 where
-  pub none : (w : Waits) → IsIn w waiting → w.device.0 ≡ device → (u : ℕ) → now ≤ u → u ≤ 2 ^ 60 → w.point.0 ≤ℤ pos (reading clock u) → time ≤ u
-  pub one : time < never → (w : Waits) × IsIn w waiting × (w.device.0 ≡ device) × (w.point.0 ≤ℤ pos (reading clock time))
+pub record IsRipeAt {C : Type 0} (reading : C → ℕ
+    → ℕ) (clock : C) (waiting : List Waits) (device now time : ℕ) : Type 0 where
+  pub none : (w : Waits) → IsIn w waiting → w.device.0 ≡ device → (u : ℕ) → now ≤ u → u ≤ 2 ^ 60
+      → w.point.0 ≤ℤ pos (reading clock u) → time ≤ u
+  pub one : time < never → (w : Waits) × IsIn w waiting × (w.device.0 ≡ device)
+      × (w.point.0 ≤ℤ pos (reading clock time))
 
 -- the device has nothing to do before the time, and where that is a time, something then
-pub record ActsAt {C M : Type 0} (reading : C → ℕ → ℕ) (stands : M → Network → DeviceId → Node → Type 0) (network : Network) (clock : C)
+pub record ActsAt {C M : Type 0} (reading : C → ℕ → ℕ) (stands : M → Network → DeviceId → Node
+    → Type 0) (network : Network) (clock : C)
     (machine : Kept M) (device : DeviceId) (now time : ℕ) : Type 0 where
   pub none : (node : Node) (task : Task) → keeps stands machine network device node → IsPending network device node task
       → (u : ℕ) → now ≤ u → u ≤ 2 ^ 60 → reading_for network node task ≤ℤ pos (reading clock u) → time ≤ u
@@ -55,7 +53,8 @@ pub record ActsAt {C M : Type 0} (reading : C → ℕ → ℕ) (stands : M → N
       → (task : Task) × IsPending network device node task × (reading_for network node task ≤ℤ pos (reading clock time))
 
 -- the timers of the device are right: one for the frames that wait at it, and one for what it does by itself
-pub record IsTimed {C M : Type 0} (reading : C → ℕ → ℕ) (stands : M → Network → DeviceId → Node → Type 0) (network : Network) (timers : List ℕ)
+pub record IsTimed {C M : Type 0} (reading : C → ℕ → ℕ) (stands : M → Network → DeviceId → Node
+    → Type 0) (network : Network) (timers : List ℕ)
     (state : State C M) (device : DeviceId) : Type 0 where
   pub clock : C
   pub of_clock : slice_get state.clocks.items device.0 ≡ Some clock

@@ -1,34 +1,19 @@
 -- How a world goes on, one source after the other.
-use Rattle.std.specs.Prelude.{◌≡◌, ◌⊎◌, ℕ, ◌+◌, ◌<◌, ◌≤◌, ◌^◌, ◌-◌, pos, ◌≤ℤ◌, true, false, List, [], ◌∷◌, length, slice_get, Some, None, Option, Result, Ok, Err}
-use Rattle.due_queue.specs.declared.Place.{Place}
-use Rattle.due_timers.specs.declared.Due.{Due}
-use Rattle.drift_world.specs.Sourcing.{HasNothingBefore, IsRipePlace, due_place}
-use Rattle.drift_world.specs.Wells.{IsWell}
-use Rattle.world_state.specs.Places.{own_place}
-use Rattle.world_state.specs.declared.contents.Settled.{Settled}
+use Rattle.std.specs.Prelude.{◌+◌, ◌-◌, ◌<◌, ◌^◌, ◌∷◌, ◌≡◌, ◌≤ℤ◌, ◌≤◌, ◌⊎◌, Err, List, None, Ok, Option, Result, Some}
+use Rattle.std.specs.{Prelude.{[], false, length, pos, slice_get, true, ℕ}, VecDeque.{deque_capacity, deque_len}}
+use Rattle.net_plan.specs.declared.{ids.DeviceId.DeviceId, network.Network.Network}
+use Rattle.run_law.specs.{declared.note.Note.Note, machines.{Calls.HasDue, Nodes.Node}, records.Order.{IsBefore, IsIn}}
+use Rattle.run_law.specs.{runs.DueRecords.IsScenarioRun, scenario.Scenarios.Scenario}
 use Rattle.tte_units.specs.Amount.{amount, units_of}
-use Rattle.std.specs.VecDeque.{deque_capacity, deque_len}
-use Rattle.due_queue.specs.Places.{IsFirst, numbers_of}
-use Rattle.net_plan.specs.declared.ids.DeviceId.{DeviceId}
-use Rattle.net_plan.specs.declared.network.Network.{Network}
-use Rattle.run_law.specs.declared.note.Note.{Note}
-use Rattle.run_law.specs.records.Order.{IsBefore, IsIn}
-use Rattle.world_state.specs.Frames.{first_of}
-use Rattle.run_law.specs.machines.Calls.{HasDue}
-use Rattle.run_law.specs.machines.Nodes.{Node}
-use Rattle.run_law.specs.runs.DueRecords.{IsScenarioRun}
-use Rattle.run_law.specs.scenario.Scenarios.{Scenario}
-use Rattle.world_state.specs.Keeping.{keeps}
-use Rattle.drift_world.specs.Views.{world_of}
-use Rattle.world_state.specs.Views.{waiting_as}
-use Rattle.world_state.specs.declared.contents.Waits.{Waits}
-use Rattle.world_state.specs.declared.kept.Kept.{Kept}
-use Rattle.drift_world.specs.declared.source.Source.TheVariants.{Events, Arrival, Ripening, Act, Departure, Clock, Later}
-use Rattle.drift_world.specs.declared.source.Source.{Source}
-use Rattle.drift_world.specs.declared.next.Turn.TheVariants.{Gives, Ends, GoesOn}
-use Rattle.drift_world.specs.declared.next.Turn.{Turn}
-use Rattle.drift_world.specs.declared.state.State.{State}
 use Rattle.world_law.specs.world.World.{Stands, act_place, clock_place, ripe_place}
+use Rattle.world_queue.specs.{Places.{IsFirst, numbers_of}, declared.Place.Place}
+use Rattle.world_state.specs.{Frames.first_of, Keeping.keeps, Places.own_place, Views.waiting_as}
+use Rattle.world_state.specs.declared.{contents.{Settled.Settled, Waits.Waits}, kept.Kept.Kept}
+use Rattle.world_timers.specs.declared.Due.{Due}
+use Rattle.drift_world.specs.{Sourcing.{HasNothingBefore, IsRipePlace, due_place}, Views.world_of, Wells.IsWell}
+use Rattle.drift_world.specs.declared.{next.Turn.{Turn, TheVariants.{Ends, Gives, GoesOn}}, source.Source.Source}
+use Rattle.drift_world.specs.declared.source.Source.TheVariants.{Act, Arrival, Clock, Departure, Events, Later}
+use Rattle.drift_world.specs.declared.{source.Source.TheVariants.Ripening, state.State.State}
 
 -- the place of a source, at the present time
 abbrev pub source_place : ℕ → Source → List ℕ
@@ -49,7 +34,8 @@ pub record IsDueEntry {C M : Type 0} (network : Network) (state : State C M) (ra
   pub link : place.link < length network.link
 
 -- the frame is the first that waits at its device, and permanent now
-pub record IsRipe {C M : Type 0} (reading : C → ℕ → ℕ) (network : Network) (state : State C M) (w : Waits) : Type 0 where
+pub record IsRipe {C M : Type 0} (reading : C → ℕ
+    → ℕ) (network : Network) (state : State C M) (w : Waits) : Type 0 where
   pub there : IsIn w state.waiting.items
   pub is : first_of state.waiting w.device.0 ≡ Some w
   pub of : w.device.0 < length network.device
@@ -58,14 +44,16 @@ pub record IsRipe {C M : Type 0} (reading : C → ℕ → ℕ) (network : Networ
   pub reached : w.point.0 ≤ℤ pos (reading clock state.time)
 
 -- the device has something to do now
-pub record IsActive {C M : Type 0} (reading : C → ℕ → ℕ) (stands : M → Network → DeviceId → Node → Type 0) (network : Network) (state : State C M)
+pub record IsActive {C M : Type 0} (reading : C → ℕ → ℕ) (stands : M → Network → DeviceId → Node
+    → Type 0) (network : Network) (state : State C M)
     (device : DeviceId) : Type 0 where
   pub of : device.0 < length network.device
   pub clock : C
   pub own : slice_get state.clocks.items device.0 ≡ Some clock
   pub machine : Kept M
   pub there : slice_get state.machines.items device.0 ≡ Some machine
-  pub due : (node : Node) → keeps stands machine network device node → HasDue network device node (pos (reading clock state.time))
+  pub due : (node : Node) → keeps stands machine network device node
+      → HasDue network device node (pos (reading clock state.time))
 
 -- the clock of the device is to be shown
 pub record IsToShow {C M : Type 0} (network : Network) (state : State C M) (device : DeviceId) : Type 0 where
@@ -74,7 +62,8 @@ pub record IsToShow {C M : Type 0} (network : Network) (state : State C M) (devi
   pub more : device.0 < length network.device
 
 -- the source is there
-abbrev pub IsThere : {C M : Type 0} → (C → ℕ → ℕ) → (M → Network → DeviceId → Node → Type 0) → Network → State C M → Source → Type 0
+abbrev pub IsThere : {C M : Type 0} → (C → ℕ → ℕ) → (M → Network → DeviceId → Node → Type 0) → Network → State C M
+    → Source → Type 0
 IsThere reading stands network state Events = state.pending ≡ true
 IsThere reading stands network state (Arrival place) = IsDueEntry network state 2 place
 IsThere reading stands network state (Ripening w) = IsRipe reading network state w
@@ -133,7 +122,8 @@ pub record HasRoom {C M : Type 0} (state : State C M) : Type 0 where
   pub numbers : state.given + length state.settled.items + 2 < 2 ^ 64 - 1
 
 -- the source comes first of all that is under way
-pub record IsForemost {C M : Type 0} (reading : C → ℕ → ℕ) (stands : M → Network → DeviceId → Node → Type 0) (network : Network) (state : State C M)
+pub record IsForemost {C M : Type 0} (reading : C → ℕ → ℕ) (stands : M → Network → DeviceId → Node
+    → Type 0) (network : Network) (state : State C M)
     (source : Source) : Type 0 where
   pub there : IsThere reading stands network state source
   pub nothing : HasNothingBefore reading stands network state (source_place state.time source)
@@ -177,7 +167,8 @@ IsWhole s notes until Ends = IsScenarioRun s (until ∷ []) notes
 IsWhole s notes until other = Unit {0}
 
 -- what it is to work a source off: nothing is given, and the present instant stays
-pub record IsStep {C M : Type 0} (last_step : C → ℕ) (reading : C → ℕ → ℕ) (stands : M → Network → DeviceId → Node → Type 0) (network : Network)
+pub record IsStep {C M : Type 0} (last_step : C → ℕ) (reading : C → ℕ → ℕ) (stands : M → Network → DeviceId → Node
+    → Type 0) (network : Network)
     (old new : State C M) : Type 0 where
   pub well : IsWell last_step reading stands network new
   pub after : IsAfter old new

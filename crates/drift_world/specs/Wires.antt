@@ -1,12 +1,8 @@
 -- What a record has put on a wire, as a world shows it.
-use Rattle.std.specs.Prelude.{◌≡◌, ℕ, ◌<◌, List, length, Option, Some, None, IfSome, option_map}
-use Rattle.run_law.specs.control.Wires.{Signal, launched}
-use Rattle.run_law.specs.records.Happenings.{Happening, numbered, time_of}
-use Rattle.run_law.specs.records.Ranks.{rank}
-use Rattle.run_law.specs.scenario.Scenarios.{Scenario}
-use Rattle.world_state.specs.declared.contents.Content.TheVariants.{Wire, Port}
-use Rattle.world_state.specs.declared.contents.Content.{Content}
-use Rattle.world_state.specs.declared.contents.Signal.{Signal as Sent}
+use Rattle.std.specs.Prelude.{◌<◌, ◌≡◌, IfSome, List, None, Option, Some, length, option_map, ℕ}
+use Rattle.run_law.specs.{control.Wires.{Signal, launched}, records.Happenings.{Happening, numbered, time_of}}
+use Rattle.run_law.specs.{records.Ranks.rank, scenario.Scenarios.Scenario}
+use Rattle.world_state.specs.declared.contents.{Content.{Content, TheVariants.{Port, Wire}}, Signal.Signal as Sent}
 
 -- what the record put on a wire, where it put some there
 abbrev pub put_by : Scenario → Happening → Option Signal

@@ -1,25 +1,16 @@
-ghost use Rattle.std.specs.Prelude.{◌≡◌, ◌≤◌, ◌<◌, ◌+◌, ◌-◌, ◌^◌, ◌≤ℤ◌, ◌<ℤ◌, ℕ, List, Some, true, false, length, slice_get, vec_capacity, IfOk, IfSome, IsSomeAnd, IsTrue, IsFalse, OnErr, OnOk};
+ghost use Rattle.std.specs.Prelude.{◌+◌, ◌-◌, ◌<ℤ◌, ◌<◌, ◌^◌, ◌≡◌, ◌≤ℤ◌, ◌≤◌, IfOk, IfSome, IsFalse, IsSomeAnd, IsTrue};
+ghost use Rattle.std.specs.Prelude.{List, OnErr, OnOk, Some, false, length, slice_get, true, vec_capacity, ℕ};
 ghost use Rattle.std.specs.VecDeque.{deque_capacity, deque_len};
-ghost use Rattle.net_plan.specs.Ranges.{IsInRange};
-ghost use Rattle.net_plan.specs.declared.network.Network.{Network};
-ghost use Rattle.run_law.specs.declared.note.Note.{Note};
-ghost use Rattle.run_law.specs.declared.steps.Act.{Act as ActValue};
-ghost use Rattle.run_law.specs.records.Order.{behind};
+ghost use Rattle.net_plan.specs.{Ranges.IsInRange, declared.network.Network.Network};
+ghost use Rattle.run_law.specs.{declared.{note.Note.Note, steps.Act.Act as ActValue}, records.Order.behind};
 ghost use Rattle.run_law.specs.scenario.Scenarios.{Scenario};
-ghost use Rattle.schedule_tables.specs.Entries.{IsEntry};
-ghost use Rattle.schedule_tables.specs.declared.entry.Entry.{Entry as EntryValue};
-ghost use Rattle.drift_world.specs.Acting.{IsDueAt, IsIdle, SettlesFrom, act_cursor};
-ghost use Rattle.world_state.specs.Acting.{AreOutcomes, HasItsRow, IsDispatched};
-ghost use Rattle.world_state.specs.Keeping.{keeps};
-ghost use Rattle.drift_world.specs.Nearing.{IsIdleAt};
-ghost use Rattle.drift_world.specs.Showing.{IsOf};
-ghost use Rattle.drift_world.specs.Sound.{IsSized, IsSound};
-ghost use Rattle.drift_world.specs.Stepping.{ChangesOnly, IsAt};
-ghost use Rattle.drift_world.specs.Views.{world_of};
-ghost use Rattle.world_state.specs.declared.kept.Kept.{Kept as KeptValue};
-ghost use Rattle.world_law.specs.world.Calls.{HasActed, IsDueNow, moment_of};
-ghost use Rattle.world_law.specs.world.Moves.{ComesFirst, StandsBehind};
+ghost use Rattle.schedule_tables.specs.{Entries.IsEntry, declared.entry.Entry.Entry as EntryValue};
+ghost use Rattle.world_law.specs.world.{Calls.{HasActed, IsDueNow, moment_of}, Moves.{ComesFirst, StandsBehind}};
 ghost use Rattle.world_law.specs.world.World.{Stands, act_place};
+ghost use Rattle.world_state.specs.{Acting.{AreOutcomes, HasItsRow, IsDispatched}, Keeping.keeps};
+ghost use Rattle.world_state.specs.declared.kept.Kept.{Kept as KeptValue};
+ghost use Rattle.drift_world.specs.{Acting.{IsDueAt, IsIdle, SettlesFrom, act_cursor}, Nearing.IsIdleAt, Showing.IsOf};
+ghost use Rattle.drift_world.specs.{Sound.{IsSized, IsSound}, Stepping.{ChangesOnly, IsAt}, Views.world_of};
 
 use crate::state::State;
 use drift_clock::Clock;
@@ -82,11 +73,12 @@ impl<C: Clock, M: Machine + Drop> State<C, M> {
         requires row { row.0 < length network.now.row }
         requires room { 1514 ≤ vec_capacity room.old }
         ensures { (s : Scenario) (entry : EntryValue) → IsOf C.reading s network.now self.now
-            → IsEntry network.now row.0 entry → IsDispatched s self.now.stored.items self.now.time device entry cycle result }
+            → IsEntry network.now row.0 entry → IsDispatched s self.now.stored.items self.now.time device entry cycle
+            result }
     {
         let entry = entry_of(network, row);
         let way = self.way_from(network, device, entry.row.link);
-        let hand = at_hand(self.stored.as_slice(), device, &entry, cycle, room)?;
+        let hand = at_hand(&self.stored, device, &entry, cycle, room)?;
         Some(dispatched(way.cut, device, &entry, cycle, hand))
     }
 

@@ -1,6 +1,5 @@
-ghost use Rattle.std.specs.Prelude.{◌≡◌, ◌*◌, ◌+◌, ◌<◌, ◌≤◌, All, length, slice_get, Some, ℕ};
-ghost use Rattle.net_plan.specs.declared.ids.DeviceId.{DeviceId};
-ghost use Rattle.net_plan.specs.declared.network.Network.{Network};
+ghost use Rattle.std.specs.Prelude.{◌*◌, ◌+◌, ◌<◌, ◌≡◌, ◌≤◌, All, Some, length, slice_get, ℕ};
+ghost use Rattle.net_plan.specs.declared.{ids.DeviceId.DeviceId, network.Network.Network};
 ghost use Rattle.world_state.specs.Applying.{IsElsewhere, device_in};
 
 use crate::state::State;
@@ -11,8 +10,7 @@ use world_state::applying::device_in;
 
 impl<C: Clock, M: Machine + Drop> State<C, M> {
     ghost use Rattle.net_plan.specs.Belonging.{IsOfNetwork};
-    ghost use Rattle.drift_world.specs.Sound.{IsSized};
-    ghost use Rattle.drift_world.specs.Stepping.{IsRunning, IsTimed};
+    ghost use Rattle.drift_world.specs.{Sound.IsSized, Stepping.{IsRunning, IsTimed}};
 
     /// Sets the timers of the device that the event changes, if it changes one.
     pub fn rekey_by(&mut self, network: &Network, what: &What)
@@ -28,7 +26,8 @@ impl<C: Clock, M: Machine + Drop> State<C, M> {
             → (slice_get self.new.timers device.0 ≡ slice_get self.old.timers device.0)
             × (slice_get self.new.timers (length network.now.device + device.0)
             ≡ slice_get self.old.timers (length network.now.device + device.0)) }
-        ensures later { All (λ (time : ℕ). self.old.time ≤ time) self.old.timers → All (λ (time : ℕ). self.new.time ≤ time) self.new.timers }
+        ensures later { All (λ (time : ℕ). self.old.time ≤ time) self.old.timers
+            → All (λ (time : ℕ). self.new.time ≤ time) self.new.timers }
     {
         if let Some(device) = device_in(what) {
             self.rekey(network, device.0);

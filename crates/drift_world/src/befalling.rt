@@ -1,14 +1,9 @@
-ghost use Rattle.std.specs.Prelude.{◌≡◌, ◌∷◌, [], ◌+◌, ◌<◌, ◌≤◌, List, ℕ, length, true, false, OnOk, OnErr};
+ghost use Rattle.std.specs.Prelude.{◌+◌, ◌<◌, ◌∷◌, ◌≡◌, ◌≤◌, List, OnErr, OnOk, [], false, length, true, ℕ};
 ghost use Rattle.net_plan.specs.Ranges.{IsInRange};
-ghost use Rattle.run_law.specs.declared.note.Note.{Note};
-ghost use Rattle.run_law.specs.records.Order.{behind};
-ghost use Rattle.run_law.specs.scenario.Scenarios.{Scenario};
+ghost use Rattle.run_law.specs.{declared.note.Note.Note, records.Order.behind, scenario.Scenarios.Scenario};
+ghost use Rattle.world_law.specs.world.{Moves.StandsBehind, World.Stands};
 ghost use Rattle.world_state.specs.Keeping.{keeps};
-ghost use Rattle.drift_world.specs.Sound.{IsSound};
-ghost use Rattle.drift_world.specs.Stepping.{ChangesOnly, IsRunning};
-ghost use Rattle.drift_world.specs.Views.{world_of};
-ghost use Rattle.world_law.specs.world.Moves.{StandsBehind};
-ghost use Rattle.world_law.specs.world.World.{Stands};
+ghost use Rattle.drift_world.specs.{Sound.IsSound, Stepping.{ChangesOnly, IsRunning}, Views.world_of};
 
 use crate::state::State;
 use drift_clock::Clock;
@@ -29,7 +24,8 @@ impl<C: Clock, M: Machine + Drop> State<C, M> {
         ensures sound { IsSound C.last_step network.now self.new }
         ensures stands { (s : Scenario) (notes : List Note)
             → Stands C.reading (keeps M.stands) s (world_of network.now self.old) notes
-            → OnOk result (StandsBehind C.reading (keeps M.stands) s (world_of network.now self.new) notes (behind (self.old.time ∷ 2 ∷ []))) }
+            → OnOk result (StandsBehind C.reading (keeps M.stands) s (world_of network.now self.new) notes
+            (behind (self.old.time ∷ 2 ∷ []))) }
         ensures err { OnErr result (world_of network.now self.new ≡ world_of network.now self.old) }
         ensures done { OnOk result (self.new.pending ≡ false) }
         ensures others { (device : ℕ) → ChangesOnly device self.old self.new }

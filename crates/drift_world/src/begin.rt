@@ -4,17 +4,18 @@ ghost use Rattle.drift_world.specs.Beginning.{IsFirstState};
 
 use crate::state::State;
 use drift_clock::Clock;
-use due_queue::UnderWay;
-use due_timers::Timers;
 use made_frames::MadeFrame;
 use net_plan::Network;
 use run_law::Machine;
 use std::alloc::Global;
 use std::collections::VecDeque;
+use world_queue::UnderWay;
 use world_state::OutOfMemory;
 use world_state::frames::Frames;
 use world_state::fresh::{first_ways, fresh_clocks, none_broken};
 use world_state::kept::all_kept;
+use world_state::shelves::Shelves;
+use world_timers::Timers;
 
 /// The state of a network at time 0.
 pub fn fresh_state<C: Clock, M: Machine + Drop>(
@@ -40,7 +41,7 @@ pub fn fresh_state<C: Clock, M: Machine + Drop>(
         downs,
         under_way: UnderWay::new(alloc),
         waiting: Frames::new(alloc),
-        stored: Vec::new(alloc),
+        stored: Shelves::new(alloc),
         spare: Vec::new(alloc),
         made: MadeFrame::new(),
         timers,

@@ -1,8 +1,7 @@
-ghost use Rattle.std.specs.Prelude.{◌≡◌, ◌^◌, ◌≤◌, ◌<◌, [], ◌∷◌, List, ℕ, length, Some, ◌++◌, ◌+◌, IfOk, OnOk, OnErr, IfSome, IfNone, None, All, Option, vec_len, vec_capacity};
+ghost use Rattle.std.specs.Prelude.{◌++◌, ◌+◌, ◌<◌, ◌^◌, ◌∷◌, ◌≡◌, ◌≤◌, All, IfNone, IfOk, IfSome, List, None, OnErr};
+ghost use Rattle.std.specs.Prelude.{OnOk, Option, Some, [], length, ℕ};
 ghost use Rattle.net_plan.specs.Ranges.{IsInRange};
-ghost use Rattle.run_law.specs.records.Order.{behind};
-ghost use Rattle.run_law.specs.declared.note.Note.{Note};
-ghost use Rattle.run_law.specs.scenario.Scenarios.{Scenario};
+ghost use Rattle.run_law.specs.{declared.note.Note.Note, records.Order.behind, scenario.Scenarios.Scenario};
 
 use crate::state::State;
 use drift_clock::Clock;
@@ -12,33 +11,26 @@ use run_law::Machine;
 use tte_units::Units;
 use world_state::OutOfMemory;
 use world_state::bodies::{Body, Given, Kind};
-use world_state::contents::{Settled, Timed};
+use world_state::contents::{Settled, Spot, Timed};
 use world_state::giving::{Giving, give_frame, make_room};
 use world_state::naming::name_followers;
 use world_state::sending::{put_on, sent_by};
-use world_state::storing::store;
+use world_state::storing::{store, taker};
 use world_state::waiting::{giver, waiter};
 
 impl<C: Clock, M: Machine + Drop> State<C, M> {
-    ghost use Rattle.drift_world.specs.Views.{with_first, world_of};
-    ghost use Rattle.world_state.specs.Views.{settled_at};
-    ghost use Rattle.run_law.specs.records.Happenings.{happenings};
-    ghost use Rattle.run_law.specs.records.Ranks.{place_of};
-    ghost use Rattle.world_law.specs.source.First.{NoSourceBefore};
-    ghost use Rattle.drift_world.specs.Sound.{IsSized, IsSound};
-    ghost use Rattle.world_state.specs.Sound.{AreBelow, AreUnderWay, IsShort};
-    ghost use Rattle.world_state.specs.Keeping.{keeps};
-    ghost use Rattle.drift_world.specs.Giving.{AreLow, IsGiver, IsGivenOut};
-    ghost use Rattle.world_state.specs.Giving.{ArrivedAt, CameBy, IsPutOn, IsYoung, MayBeGiven, changed_device, giver_of, wire_entry};
-    ghost use Rattle.drift_world.specs.Stepping.{ChangesOnly, IsRunning};
+    ghost use Rattle.net_plan.specs.declared.ids.DeviceId.{DeviceId as DeviceOf};
+    ghost use Rattle.run_law.specs.records.{Happenings.happenings, Ranks.place_of};
+    ghost use Rattle.tte_units.specs.Amount.{amount, units_of};
+    ghost use Rattle.world_law.specs.{source.First.NoSourceBefore, world.{Moves.StandsBehind, World.{Stands, note_of}}};
     ghost use Rattle.world_state.specs.Frames.{room_of, waiter_of};
-    ghost use Rattle.world_state.specs.Storing.{stored_by};
+    ghost use Rattle.world_state.specs.Giving.{ArrivedAt, CameBy, IsPutOn, IsYoung, MayBeGiven, changed_device};
+    ghost use Rattle.world_state.specs.{Giving.{giver_of, wire_entry}, Keeping.keeps, Shelves.{HasPlace, spot_of}};
+    ghost use Rattle.world_state.specs.{Sound.{AreBelow, AreUnderWay, IsShort}, Storing.IsStoredBy, Views.settled_at};
     ghost use Rattle.world_state.specs.declared.contents.Settled.{Settled as SettledValue};
     ghost use Rattle.world_state.specs.declared.giving.Giving.{Giving as GivingValue};
-    ghost use Rattle.tte_units.specs.Amount.{amount, units_of};
-    ghost use Rattle.world_law.specs.world.Moves.{StandsBehind};
-    ghost use Rattle.net_plan.specs.declared.ids.DeviceId.{DeviceId as DeviceOf};
-    ghost use Rattle.world_law.specs.world.World.{Stands, note_of};
+    ghost use Rattle.drift_world.specs.{Giving.{AreLow, IsGivenOut, IsGiver}, Sound.{IsSized, IsSound}};
+    ghost use Rattle.drift_world.specs.{Stepping.{ChangesOnly, IsRunning}, Views.{with_first, world_of}};
 
     /// The frame of a record that its device gives to links, or waits for.
     fn giving_by(
@@ -143,17 +135,21 @@ impl<C: Clock, M: Machine + Drop> State<C, M> {
         requires sized { IsSized C.last_step network.now self.old }
         requires range { IsInRange network.now }
         requires room { 0 < self.old.under_way.room }
-        requires capacity { vec_len self.old.stored < vec_capacity self.old.stored }
+        requires place { IfSome (spot_of body.now) (HasPlace self.old.stored) }
         requires ups { All IsShort self.old.ups.items }
         requires downs { All IsShort self.old.downs.items }
         ensures same { self.new ≡ record self.old { under_way = self.new.under_way; stored = self.new.stored } }
         ensures sent { IsPutOn
             (wire_entry network.now self.old.ups.items self.old.downs.items body.now frame octets self.old.time number)
             self.old.under_way.entries self.new.under_way.entries }
-        ensures stored { self.new.stored.items ≡ stored_by body.now octets number self.old.stored.items }
+        ensures stored { IsStoredBy body.now octets number self.old.stored.items self.new.stored.items }
     {
         if let Kind::Accepted { device, vl, .. } = &body.kind {
-            store(&mut self.stored, *device, *vl, octets, number);
+            let spot = Spot {
+                device: *device,
+                vl: *vl,
+            };
+            store(&mut self.stored, spot, octets, number);
         } else {
             self.launch_wire(network, body, frame, octets, number);
         }
@@ -167,7 +163,7 @@ impl<C: Clock, M: Machine + Drop> State<C, M> {
         requires number { self.old.given + 1 < 2 ^ 64 }
         requires room { length network.now.link < self.old.under_way.room }
         requires capacity { IfSome (waiter_of first.body) (λ d. 0 < room_of self.old.waiting d.0) }
-        requires free { vec_len self.old.stored < vec_capacity self.old.stored }
+        requires place { IfSome (spot_of first.body) (HasPlace self.old.stored) }
         requires low { AreLow C.reading self.old }
         ensures note { result ≡ record {
           number = self.old.given + 1;
@@ -219,6 +215,17 @@ impl<C: Clock, M: Machine + Drop> State<C, M> {
         }
     }
 
+    /// Where the frame stands that a switch takes by the first settled record.
+    fn first_taker(&self) -> Option<Spot>
+        ensures { (first : SettledValue) (rest : List SettledValue) → self.now.settled.items ≡ first ∷ rest
+            → result ≡ spot_of first.body }
+    {
+        match self.settled.front() {
+            Some(first) => taker(&first.body),
+            None => None,
+        }
+    }
+
     /// The first record that is settled is given, with the next number: what it launches is under way, or waits.
     ///
     /// On an error nothing has changed.
@@ -250,12 +257,14 @@ impl<C: Clock, M: Machine + Drop> State<C, M> {
         ensures unmoved { OnErr result ((n : ℕ) → ChangesOnly n self.old self.new) }
     {
         let device = self.first_waiter();
+        let spot = self.first_taker();
         if let Err(error) = make_room(
             &mut self.under_way,
             &mut self.waiting,
             &mut self.stored,
             network,
             device,
+            spot,
         ) {
             return Err(error);
         }

@@ -1,24 +1,17 @@
-ghost use Rattle.std.specs.Prelude.{◌≡◌, ◌+◌, ◌<◌, List, false, length};
-ghost use Rattle.std.specs.VecDeque.{deque_capacity, deque_len};
-ghost use Rattle.due_queue.specs.Places.{IsFirst, numbers_of};
+ghost use Rattle.std.specs.{Prelude.{◌+◌, ◌<◌, ◌≡◌, List, false, length}, VecDeque.{deque_capacity, deque_len}};
 ghost use Rattle.net_plan.specs.Ranges.{IsInRange};
-ghost use Rattle.run_law.specs.declared.note.Note.{Note};
-ghost use Rattle.run_law.specs.records.Order.{behind};
-ghost use Rattle.run_law.specs.scenario.Scenarios.{Scenario};
-ghost use Rattle.world_state.specs.Hearing.{arrived};
-ghost use Rattle.world_state.specs.Keeping.{keeps};
-ghost use Rattle.drift_world.specs.Sound.{IsSound};
-ghost use Rattle.drift_world.specs.Stepping.{ChangesOnly, IsAt};
-ghost use Rattle.drift_world.specs.Views.{world_of};
-ghost use Rattle.world_law.specs.world.Moves.{ComesFirst, StandsBehind};
-ghost use Rattle.world_law.specs.world.World.{Stands};
+ghost use Rattle.run_law.specs.{declared.note.Note.Note, records.Order.behind, scenario.Scenarios.Scenario};
+ghost use Rattle.world_law.specs.world.{Moves.{ComesFirst, StandsBehind}, World.Stands};
+ghost use Rattle.world_queue.specs.Places.{IsFirst, numbers_of};
+ghost use Rattle.world_state.specs.{Hearing.arrived, Keeping.keeps};
+ghost use Rattle.drift_world.specs.{Sound.IsSound, Stepping.{ChangesOnly, IsAt}, Views.world_of};
 
 use crate::state::State;
 use drift_clock::Clock;
-use due_queue::Place;
 use net_plan::{LinkId, Network};
 use run_law::{Machine, Moment};
 use tte_units::Units;
+use world_queue::Place;
 use world_state::hearing::{arrived, hear_signal, take_wire};
 use world_state::settled::put_in;
 
@@ -38,7 +31,8 @@ impl<C: Clock, M: Machine + Drop> State<C, M> {
         ensures stands { (s : Scenario) (notes : List Note)
             → (old : Stands C.reading (keeps M.stands) s (world_of network.now self.old) notes)
             → ComesFirst C.reading (keeps M.stands) s (world_of network.now self.old) notes old (numbers_of place)
-            → StandsBehind C.reading (keeps M.stands) s (world_of network.now self.new) notes (behind (numbers_of place)) }
+            → StandsBehind C.reading (keeps M.stands) s (world_of network.now self.new) notes
+            (behind (numbers_of place)) }
         ensures others { ChangesOnly place.device self.old self.new }
         ensures same { self.new ≡ record self.old {
           machines = self.new.machines;

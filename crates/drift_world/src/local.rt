@@ -1,7 +1,6 @@
-ghost use Rattle.std.specs.Prelude.{◌≡◌, ◌^◌, ◌<◌, pos, ◌≤ℤ◌, length, Some, slice_get, IfSome};
-ghost use Rattle.drift_world.specs.Locals.{IsWide, Shows};
-ghost use Rattle.drift_world.specs.Sound.{IsSized};
+ghost use Rattle.std.specs.Prelude.{◌<◌, ◌^◌, ◌≡◌, ◌≤ℤ◌, IfSome, Some, length, pos, slice_get};
 ghost use Rattle.tte_units.specs.Amount.{amount};
+ghost use Rattle.drift_world.specs.{Locals.{IsWide, Shows}, Sound.IsSized};
 
 use crate::state::State;
 use drift_clock::Clock;
@@ -20,7 +19,8 @@ pub fn local_of<C: Clock, M: Machine + Drop>(
 ) -> Option<i128>
     requires sized { IsSized C.last_step network.now state.now }
     requires there { device.0 < length network.now.device }
-    requires stepped { (clock : C) → slice_get state.now.clocks.items device.0 ≡ Some clock → pos (C.last_step clock) ≤ℤ t.0 }
+    requires stepped { (clock : C) → slice_get state.now.clocks.items device.0 ≡ Some clock
+        → pos (C.last_step clock) ≤ℤ t.0 }
     requires limit { t.0 ≤ℤ pos (2 ^ 60) }
     ensures shows { Shows C.reading M.stands state.now device (amount t) result }
     ensures range { IfSome result IsWide }

@@ -1,7 +1,7 @@
-ghost use Rattle.std.specs.Prelude.{◌≡◌, ◌+◌, ◌*◌, ◌≤◌, ◌<◌, ◌^◌, ◌∷◌, ◌++◌, [], List, IsTrue, length, Some, IfOk, IfSome, IfNone, OnOk, OnErr, pos, ◌<ℤ◌, true, false};
+ghost use Rattle.std.specs.Prelude.{◌*◌, ◌++◌, ◌+◌, ◌<ℤ◌, ◌<◌, ◌^◌, ◌∷◌, ◌≡◌, ◌≤◌, IfNone, IfOk, IfSome, IsTrue, List};
+ghost use Rattle.std.specs.Prelude.{OnErr, OnOk, Some, [], false, length, pos, true};
 ghost use Rattle.net_plan.specs.Ranges.{IsInRange};
-ghost use Rattle.run_law.specs.declared.note.Note.{Note as NoteOf};
-ghost use Rattle.run_law.specs.runs.DueRecords.{IsScenarioRun};
+ghost use Rattle.run_law.specs.{declared.note.Note.Note as NoteOf, runs.DueRecords.IsScenarioRun};
 ghost use Rattle.run_law.specs.scenario.Scenarios.{Scenario};
 
 use crate::source::{Source, own_numbers};
@@ -28,22 +28,16 @@ pub enum Turn {
 }
 
 impl<C: Clock, M: Machine + Drop> State<C, M> {
-    ghost use Rattle.world_state.specs.Keeping.{keeps};
-    ghost use Rattle.world_state.specs.Giving.{ArrivedAt, changed_device};
-    ghost use Rattle.drift_world.specs.declared.state.State.{State as StateOf};
-    ghost use Rattle.drift_world.specs.Nearing.{IsLess, Nears};
-    ghost use Rattle.drift_world.specs.Sound.{IsSized};
-    ghost use Rattle.drift_world.specs.Sourcing.{AreTimed, HasNothingBefore};
-    ghost use Rattle.drift_world.specs.Stepping.{ChangesOnly, IsRunning};
-    ghost use Rattle.drift_world.specs.Turns.{GivesAt, HasCome, HasRoom, IsForemost, IsStep, PassSays, IsAfter, IsNow, IsThere, IsWhole, IsWithin, SettledFirst, SourceFirst, TurnSays, given_in, source_place};
-    ghost use Rattle.drift_world.specs.Running.{given_by};
-    ghost use Rattle.drift_world.specs.Views.{world_of};
-    ghost use Rattle.world_state.specs.Views.{settled_at};
-    ghost use Rattle.drift_world.specs.Wells.{IsWell};
-    ghost use Rattle.run_law.specs.records.Order.{IsBefore};
-    ghost use Rattle.run_law.specs.records.Ranks.{place_of};
-    ghost use Rattle.world_law.specs.world.World.{Stands};
+    ghost use Rattle.run_law.specs.records.{Order.IsBefore, Ranks.place_of};
     ghost use Rattle.tte_units.specs.Amount.{units_of};
+    ghost use Rattle.world_law.specs.world.World.{Stands};
+    ghost use Rattle.world_state.specs.{Giving.{ArrivedAt, changed_device}, Keeping.keeps, Views.settled_at};
+    ghost use Rattle.drift_world.specs.{Nearing.{IsLess, Nears}, Running.given_by, Sound.IsSized};
+    ghost use Rattle.drift_world.specs.{Sourcing.{AreTimed, HasNothingBefore}, Stepping.{ChangesOnly, IsRunning}};
+    ghost use Rattle.drift_world.specs.Turns.{GivesAt, HasCome, HasRoom, IsAfter, IsForemost, IsNow, IsStep, IsThere};
+    ghost use Rattle.drift_world.specs.Turns.{IsWhole, IsWithin, PassSays, SettledFirst, SourceFirst, TurnSays};
+    ghost use Rattle.drift_world.specs.{Turns.{given_in, source_place}, Views.world_of, Wells.IsWell};
+    ghost use Rattle.drift_world.specs.declared.state.State.{State as StateOf};
 
     /// The next record before a time, if one is due before it.
     ///
@@ -57,12 +51,16 @@ impl<C: Clock, M: Machine + Drop> State<C, M> {
         requires ended { self.old.ended ≡ true → until ≤ self.old.time + 1 }
         ensures well { IsWell C.last_step C.reading M.stands network.now self.new }
         ensures after { IsAfter self.old self.new }
-        ensures stands { (s : Scenario) (notes : List NoteOf) → Stands C.reading (keeps M.stands) s (world_of network.now self.old) notes
+        ensures stands { (s : Scenario) (notes : List NoteOf)
+            → Stands C.reading (keeps M.stands) s (world_of network.now self.old) notes
             → Stands C.reading (keeps M.stands) s (world_of network.now self.new) (notes ++ given_by result) }
-        ensures complete { (s : Scenario) (notes : List NoteOf) → Stands C.reading (keeps M.stands) s (world_of network.now self.old) notes
+        ensures complete { (s : Scenario) (notes : List NoteOf)
+            → Stands C.reading (keeps M.stands) s (world_of network.now self.old) notes
             → IfOk result (λ next. IfNone next (IsScenarioRun s (until ∷ []) notes)) }
-        ensures reached { IfOk result (λ next. IfNone next (self.old.ended ≡ false → until ≤ 2 ^ 60 → HasCome self.new until)) }
-        ensures before { IfOk result (λ next. IfSome next (λ note. (note.time ≡ units_of self.new.time) × (note.time.0 <ℤ pos until))) }
+        ensures reached { IfOk result (λ next.
+            IfNone next (self.old.ended ≡ false → until ≤ 2 ^ 60 → HasCome self.new until)) }
+        ensures before { IfOk result (λ next.
+            IfSome next (λ note. (note.time ≡ units_of self.new.time) × (note.time.0 <ℤ pos until))) }
         ensures given { IfOk result (λ next. IfSome next (λ _. self.new.given ≡ self.old.given + 1)) }
         ensures err { OnErr result (self.new.time < until) }
     {
@@ -85,9 +83,11 @@ impl<C: Clock, M: Machine + Drop> State<C, M> {
         requires ended { self.old.ended ≡ true → until ≤ self.old.time + 1 }
         ensures well { IsWell C.last_step C.reading M.stands network.now self.new }
         ensures after { IsAfter self.old self.new }
-        ensures stands { (s : Scenario) (notes : List NoteOf) → Stands C.reading (keeps M.stands) s (world_of network.now self.old) notes
+        ensures stands { (s : Scenario) (notes : List NoteOf)
+            → Stands C.reading (keeps M.stands) s (world_of network.now self.old) notes
             → Stands C.reading (keeps M.stands) s (world_of network.now self.new) (notes ++ given_in result) }
-        ensures whole { (s : Scenario) (notes : List NoteOf) → Stands C.reading (keeps M.stands) s (world_of network.now self.old) notes
+        ensures whole { (s : Scenario) (notes : List NoteOf)
+            → Stands C.reading (keeps M.stands) s (world_of network.now self.old) notes
             → IfOk result (λ turn. IsWhole s notes until turn) }
         ensures says { IfOk result (λ turn. TurnSays self.old self.new until turn) }
         ensures nears { IfOk result (λ turn. Nears network.now until self.old self.new turn) }
@@ -109,9 +109,11 @@ impl<C: Clock, M: Machine + Drop> State<C, M> {
         requires room { HasRoom self.old }
         ensures well { IsWell C.last_step C.reading M.stands network.now self.new }
         ensures after { IsAfter self.old self.new }
-        ensures stands { (s : Scenario) (notes : List NoteOf) → Stands C.reading (keeps M.stands) s (world_of network.now self.old) notes
+        ensures stands { (s : Scenario) (notes : List NoteOf)
+            → Stands C.reading (keeps M.stands) s (world_of network.now self.old) notes
             → Stands C.reading (keeps M.stands) s (world_of network.now self.new) (notes ++ given_in result) }
-        ensures whole { (s : Scenario) (notes : List NoteOf) → Stands C.reading (keeps M.stands) s (world_of network.now self.old) notes
+        ensures whole { (s : Scenario) (notes : List NoteOf)
+            → Stands C.reading (keeps M.stands) s (world_of network.now self.old) notes
             → IfOk result (λ turn. IsWhole s notes until turn) }
         ensures says { IfOk result (λ turn. TurnSays self.old self.new until turn) }
         ensures nears { IfOk result (λ turn. Nears network.now until self.old self.new turn) }
@@ -166,7 +168,8 @@ impl<C: Clock, M: Machine + Drop> State<C, M> {
         requires first { SettledFirst self.old.settled.items source }
         ensures well { IsWell C.last_step C.reading M.stands network.now self.new }
         ensures after { IsAfter self.old self.new }
-        ensures stands { (s : Scenario) (notes : List NoteOf) → Stands C.reading (keeps M.stands) s (world_of network.now self.old) notes
+        ensures stands { (s : Scenario) (notes : List NoteOf)
+            → Stands C.reading (keeps M.stands) s (world_of network.now self.old) notes
             → Stands C.reading (keeps M.stands) s (world_of network.now self.new) (notes ++ given_in result) }
         ensures says { IfOk result (λ turn. GivesAt self.old self.new turn) }
         ensures err { OnErr result (self.new.time ≡ self.old.time) }
@@ -209,9 +212,11 @@ impl<C: Clock, M: Machine + Drop> State<C, M> {
         requires empty { self.old.settled.items ≡ [] }
         ensures well { IsWell C.last_step C.reading M.stands network.now self.new }
         ensures after { IsAfter self.old self.new }
-        ensures stands { (s : Scenario) (notes : List NoteOf) → Stands C.reading (keeps M.stands) s (world_of network.now self.old) notes
+        ensures stands { (s : Scenario) (notes : List NoteOf)
+            → Stands C.reading (keeps M.stands) s (world_of network.now self.old) notes
             → Stands C.reading (keeps M.stands) s (world_of network.now self.new) notes }
-        ensures whole { (s : Scenario) (notes : List NoteOf) → Stands C.reading (keeps M.stands) s (world_of network.now self.old) notes
+        ensures whole { (s : Scenario) (notes : List NoteOf)
+            → Stands C.reading (keeps M.stands) s (world_of network.now self.old) notes
             → IsWhole s notes until result }
         ensures says { PassSays self.old self.new until result }
         ensures nears { Nears network.now until self.old self.new result }

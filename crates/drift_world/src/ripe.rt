@@ -19,7 +19,8 @@ impl<C: Clock, M: Machine + Drop> State<C, M> {
         requires there { device.0 < length network.now.device }
         ensures some { IfSome result (λ one. IsFirstRipe C.reading self.now device one) }
         ensures none { IfNone result ((w : WaitsValue) (clock : C) → IsIn w self.now.waiting.items → w.device ≡ device
-            → slice_get self.now.clocks.items device.0 ≡ Some clock → w.point.0 ≤ℤ pos (C.reading clock self.now.time) → ⊥) }
+            → slice_get self.now.clocks.items device.0 ≡ Some clock → w.point.0 ≤ℤ pos (C.reading clock self.now.time)
+            → ⊥) }
     {
         let reading = self.reading_of(network, device.0);
         first_reached(&self.waiting, device, reading)

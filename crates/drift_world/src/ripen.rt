@@ -1,12 +1,8 @@
-ghost use Rattle.std.specs.Prelude.{◌≡◌, ◌+◌, ◌≤◌, ◌<◌, pos, ◌≤ℤ◌, false, true, List, Some, is_some, length, slice_get};
+ghost use Rattle.std.specs.Prelude.{◌+◌, ◌<◌, ◌≡◌, ◌≤ℤ◌, ◌≤◌, List, Some, false, is_some, length, pos, slice_get, true};
 ghost use Rattle.std.specs.VecDeque.{deque_capacity, deque_len};
 ghost use Rattle.net_plan.specs.Ranges.{IsInRange};
-ghost use Rattle.run_law.specs.declared.note.Note.{Note};
-ghost use Rattle.run_law.specs.records.Order.{behind};
-ghost use Rattle.run_law.specs.scenario.Scenarios.{Scenario};
-ghost use Rattle.world_state.specs.Frames.{first_of};
-ghost use Rattle.world_state.specs.Keeping.{keeps};
-ghost use Rattle.world_state.specs.declared.contents.Waits.{Waits as WaitsValue};
+ghost use Rattle.run_law.specs.{declared.note.Note.Note, records.Order.behind, scenario.Scenarios.Scenario};
+ghost use Rattle.world_state.specs.{Frames.first_of, Keeping.keeps, declared.contents.Waits.Waits as WaitsValue};
 
 use crate::state::State;
 use drift_clock::Clock;
@@ -16,12 +12,9 @@ use tte_units::Units;
 use world_state::ripening::settle_ripe;
 
 impl<C: Clock, M: Machine + Drop> State<C, M> {
-    ghost use Rattle.drift_world.specs.Sound.{IsSized, IsSound};
-    ghost use Rattle.drift_world.specs.Stepping.{ChangesOnly, IsAt};
-    ghost use Rattle.drift_world.specs.Views.{world_of};
+    ghost use Rattle.world_law.specs.world.{Moves.{ComesFirst, StandsBehind}, World.{Stands, ripe_place}};
     ghost use Rattle.world_state.specs.Views.{waiting_as};
-    ghost use Rattle.world_law.specs.world.Moves.{ComesFirst, StandsBehind};
-    ghost use Rattle.world_law.specs.world.World.{Stands, ripe_place};
+    ghost use Rattle.drift_world.specs.{Sound.{IsSized, IsSound}, Stepping.{ChangesOnly, IsAt}, Views.world_of};
 
     /// The first frame that waits at the device is permanent: the first of all that is to come.
     pub fn ripen_first(&mut self, network: &Network, device: DeviceId)
@@ -29,17 +22,27 @@ impl<C: Clock, M: Machine + Drop> State<C, M> {
         requires range { IsInRange network.now }
         requires there { is_some (first_of self.old.waiting device.0) ≡ true }
         requires reached { (w : WaitsValue) (clock : C) → first_of self.old.waiting device.0 ≡ Some w
-            → slice_get self.old.clocks.items w.device.0 ≡ Some clock → w.point.0 ≤ℤ pos (C.reading clock self.old.time) }
+            → slice_get self.old.clocks.items w.device.0 ≡ Some clock
+            → w.point.0 ≤ℤ pos (C.reading clock self.old.time) }
         requires room { deque_len self.old.settled + 2 ≤ deque_capacity self.old.settled }
         requires comes { (w : WaitsValue) → first_of self.old.waiting device.0 ≡ Some w
             → IsAt C.reading M.stands network.now self.old (ripe_place self.old.time (waiting_as w)) }
         ensures sound { IsSound C.last_step network.now self.new }
-        ensures stands { (w : WaitsValue) → first_of self.old.waiting device.0 ≡ Some w → (s : Scenario) (notes : List Note)
+        ensures stands { (w : WaitsValue) → first_of self.old.waiting device.0 ≡ Some w
+            → (s : Scenario) (notes : List Note)
             → (old : Stands C.reading (keeps M.stands) s (world_of network.now self.old) notes)
-            → ComesFirst C.reading (keeps M.stands) s (world_of network.now self.old) notes old (ripe_place self.old.time (waiting_as w))
-            → StandsBehind C.reading (keeps M.stands) s (world_of network.now self.new) notes (behind (ripe_place self.old.time (waiting_as w))) }
-        ensures same { self.new ≡ record self.old { early = false; machines = self.new.machines; waiting = self.new.waiting; settled = self.new.settled } }
-        ensures others { (w : WaitsValue) → first_of self.old.waiting device.0 ≡ Some w → ChangesOnly w.device.0 self.old self.new }
+            → ComesFirst C.reading (keeps M.stands) s (world_of network.now self.old) notes old
+            (ripe_place self.old.time (waiting_as w))
+            → StandsBehind C.reading (keeps M.stands) s (world_of network.now self.new) notes
+            (behind (ripe_place self.old.time (waiting_as w))) }
+        ensures same { self.new ≡ record self.old {
+          early = false;
+          machines = self.new.machines;
+          waiting = self.new.waiting;
+          settled = self.new.settled;
+        } }
+        ensures others { (w : WaitsValue) → first_of self.old.waiting device.0 ≡ Some w
+            → ChangesOnly w.device.0 self.old self.new }
         ensures shorter { length self.old.waiting.items ≡ length self.new.waiting.items + 1 }
     {
         let waits = self.waiting.take_first(device);

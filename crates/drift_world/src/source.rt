@@ -1,17 +1,16 @@
-ghost use Rattle.std.specs.Prelude.{◌≡◌, ℕ, ◌+◌, ◌≤◌, ◌<◌, ◌^◌, Some, IfSome, IfNone, Option};
-ghost use Rattle.due_timers.specs.Times.{IsFirst as IsFirstDue};
-ghost use Rattle.std.specs.Option.{option_map};
+ghost use Rattle.std.specs.{Option.option_map, Prelude.{◌+◌, ◌<◌, ◌^◌, ◌≡◌, ◌≤◌, IfNone, IfSome, Option, Some, ℕ}};
+ghost use Rattle.world_timers.specs.Times.{IsFirst as IsFirstDue};
 ghost use Rattle.drift_world.specs.Turns.{own_numbers};
 
 use crate::state::State;
 use arrayvec::ArrayVec;
 use drift_clock::Clock;
-use due_queue::Place;
-use due_timers::Due;
 use net_plan::{DeviceId, Network};
 use run_law::Machine;
+use world_queue::Place;
 use world_state::contents::Waits;
 use world_state::settled::{MOST, numbers};
+use world_timers::Due;
 
 /// The rank of what arrives, among all of one instant.
 pub const ARRIVING: u8 = 2;
@@ -69,7 +68,8 @@ fn least_of(place: Option<Place>, due: Option<Due>, time: u64) -> u64
     ensures within { result ≤ time }
     ensures place { IfSome place (λ p. result ≤ p.at) }
     ensures due { IfSome due (λ d. result ≤ d.time) }
-    ensures later { (now : ℕ) → now < time → IfSome place (λ p. now < p.at) → IfSome due (λ d. now < d.time) → now < result }
+    ensures later { (now : ℕ) → now < time → IfSome place (λ p. now < p.at) → IfSome due (λ d. now < d.time)
+        → now < result }
 {
     let least = match place {
         Some(place) => time.min(place.at),
@@ -108,9 +108,8 @@ pub fn own_numbers(source: &Source) -> Option<ArrayVec<u64, MOST>>
 }
 
 impl<C: Clock, M: Machine + Drop> State<C, M> {
-    ghost use Rattle.drift_world.specs.Turns.{IsSlotPlace, IsThere, IsWithin, source_place};
     ghost use Rattle.drift_world.specs.Sourcing.{HasNothingBefore};
-    ghost use Rattle.drift_world.specs.Wells.{IsWell};
+    ghost use Rattle.drift_world.specs.{Turns.{IsSlotPlace, IsThere, IsWithin, source_place}, Wells.IsWell};
 
     /// What comes first of all that is under way before a time.
     pub fn first_source(&self, network: &Network, until: u64) -> Source

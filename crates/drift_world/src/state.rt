@@ -1,15 +1,11 @@
-ghost use Rattle.std.specs.Prelude.{◌≡◌, ◌↔◌, ◌^◌, ◌≤◌, ◌<◌, [], ◌∷◌, List, ℕ, true, false, length, Some, slice_get, if◌then◌else◌, pos, unsigned_abs, ◌++◌, ◌+◌, IfOk, OnOk, OnErr, IfSome, None, Option};
-ghost use Rattle.std.specs.VecDeque.{deque_capacity, deque_len};
-ghost use Rattle.due_queue.specs.Places.{IsFirst, numbers_of};
-ghost use Rattle.net_plan.specs.Ranges.{IsInRange};
-ghost use Rattle.run_law.specs.records.Order.{behind};
-ghost use Rattle.net_plan.specs.declared.network.Network.{Network};
-ghost use Rattle.run_law.specs.declared.note.Note.{Note};
-ghost use Rattle.run_law.specs.scenario.Scenarios.{Scenario};
+ghost use Rattle.std.specs.Prelude.{if◌then◌else◌, ◌++◌, ◌+◌, ◌<◌, ◌^◌, ◌↔◌, ◌∷◌, ◌≡◌, ◌≤◌, IfOk, IfSome, List, None};
+ghost use Rattle.std.specs.Prelude.{OnErr, OnOk, Option, Some, [], false, length, pos, slice_get, true, unsigned_abs};
+ghost use Rattle.std.specs.{Prelude.ℕ, VecDeque.{deque_capacity, deque_len}};
+ghost use Rattle.net_plan.specs.{Ranges.IsInRange, declared.network.Network.Network};
+ghost use Rattle.run_law.specs.{declared.note.Note.Note, records.Order.behind, scenario.Scenarios.Scenario};
+ghost use Rattle.world_queue.specs.Places.{IsFirst, numbers_of};
 
 use drift_clock::Clock;
-use due_queue::{Place, UnderWay};
-use due_timers::Timers;
 use made_frames::MadeFrame;
 use net_plan::{DeviceId, Event, LinkId, Network, Way, What};
 use pcf_values::Pcf;
@@ -17,17 +13,20 @@ use run_law::{Machine, NoteBody};
 use std::collections::VecDeque;
 use sync_state::State as DeviceState;
 use tte_units::Units;
+use world_queue::{Place, UnderWay};
 use world_state::OutOfMemory;
 use world_state::applying::{
     befall_machines, breaks_on, drop_waiting, ends, keep_befallen, set_broken, set_rate, set_way,
 };
 use world_state::bodies::{Body, Kind};
-use world_state::contents::{Befallen, Content, Holding, Settled, WayState};
+use world_state::contents::{Befallen, Content, Settled, WayState};
 use world_state::event_notes::EventNote;
 use world_state::frames::Frames;
 use world_state::kept::Kept;
 use world_state::leaving::{departed, is_parent, take_port};
 use world_state::settled::{put_in, put_some};
+use world_state::shelves::Shelves;
+use world_timers::Timers;
 
 /// The parts of a world that change.
 #[derive(Drop)]
@@ -44,7 +43,7 @@ pub struct State<C: Clock, M: Machine + Drop> {
     /// The frames that wait for their permanence.
     pub waiting: Frames,
     /// The frames that switches hold.
-    pub stored: Vec<Holding>,
+    pub stored: Shelves,
     /// Memory for the octets of a frame that a switch sends and still holds.
     pub spare: Vec<u8>,
     /// The last frame that was made as its sender makes it.
@@ -71,36 +70,24 @@ pub struct State<C: Clock, M: Machine + Drop> {
 }
 
 impl<C: Clock, M: Machine + Drop> State<C, M> {
-    ghost use Rattle.drift_world.specs.Views.{with_first, world_of};
-    ghost use Rattle.world_state.specs.Views.{settled_at};
-    ghost use Rattle.run_law.specs.records.Happenings.{happenings};
-    ghost use Rattle.run_law.specs.records.Ranks.{place_of};
-    ghost use Rattle.world_law.specs.source.First.{NoSourceBefore};
-    ghost use Rattle.drift_world.specs.Sound.{IsSized, IsSound};
-    ghost use Rattle.world_state.specs.Sound.{AreBelow, AreUnderWay};
-    ghost use Rattle.drift_world.specs.Stepping.{ChangesOnly};
-    ghost use Rattle.world_state.specs.Leaving.{departure_in, port_entry};
-    ghost use Rattle.world_state.specs.Keeping.{keeps};
-    ghost use Rattle.drift_world.specs.Showing.{IsOf};
-    ghost use Rattle.drift_world.specs.Giving.{IsGiver, IsGivenOut};
-    ghost use Rattle.world_state.specs.Giving.{CameBy, HasItsOctets, IsPutOn, IsYoung, MayBeGiven, giver_of, wire_entry};
-    ghost use Rattle.world_state.specs.declared.giving.Giving.{Giving as GivingValue};
-    ghost use Rattle.tte_units.specs.Amount.{amount, units_of};
-    ghost use Rattle.run_law.specs.scenario.Devices.{is_parent_of};
-    ghost use Rattle.world_law.specs.world.Moves.{ComesFirst, NothingBefore, StandsBehind};
-    ghost use Rattle.world_steps.specs.Steps.{FitsWorld};
-    ghost use Rattle.world_law.specs.source.Agreeing.{scenario};
-    ghost use Rattle.world_law.specs.source.Applying.{note_of_event};
-    ghost use Rattle.world_state.specs.Applying.{IsElsewhere, IsShown, SetsShort, clock_after};
-    ghost use Rattle.drift_world.specs.Following.{Follows};
-    ghost use Rattle.run_law.specs.records.Order.{IsIn};
-    ghost use Rattle.world_state.specs.declared.contents.Waits.{Waits as WaitsValue};
-    ghost use Rattle.net_plan.specs.Belonging.{IsOfNetwork};
-    ghost use Rattle.net_plan.specs.declared.event.Event.{Event as EventValue};
+    ghost use Rattle.net_plan.specs.{Belonging.IsOfNetwork, declared.event.Event.Event as EventValue};
     ghost use Rattle.net_plan.specs.declared.ids.DeviceId.{DeviceId as DeviceOf};
+    ghost use Rattle.run_law.specs.records.{Happenings.happenings, Order.IsIn, Ranks.place_of};
+    ghost use Rattle.run_law.specs.scenario.Devices.{is_parent_of};
     ghost use Rattle.sync_state.specs.declared.state.State.{State as DeviceState};
-    ghost use Rattle.tte_units.specs.declared.rates.Ppb.{Ppb};
+    ghost use Rattle.tte_units.specs.{Amount.{amount, units_of}, declared.rates.Ppb.Ppb};
+    ghost use Rattle.world_law.specs.source.{Agreeing.scenario, Applying.note_of_event, First.NoSourceBefore};
+    ghost use Rattle.world_law.specs.world.Moves.{ComesFirst, NothingBefore, StandsBehind};
     ghost use Rattle.world_law.specs.world.World.{Stands, clock_place, note_of};
+    ghost use Rattle.world_state.specs.Applying.{IsElsewhere, IsShown, SetsShort, clock_after};
+    ghost use Rattle.world_state.specs.Giving.{CameBy, HasItsOctets, IsPutOn, IsYoung, MayBeGiven, giver_of};
+    ghost use Rattle.world_state.specs.{Giving.wire_entry, Keeping.keeps, Leaving.{departure_in, port_entry}};
+    ghost use Rattle.world_state.specs.{Sound.{AreBelow, AreUnderWay}, Views.settled_at};
+    ghost use Rattle.world_state.specs.declared.contents.Waits.{Waits as WaitsValue};
+    ghost use Rattle.world_state.specs.declared.giving.Giving.{Giving as GivingValue};
+    ghost use Rattle.world_steps.specs.Steps.{FitsWorld};
+    ghost use Rattle.drift_world.specs.{Following.Follows, Giving.{IsGivenOut, IsGiver}, Showing.IsOf};
+    ghost use Rattle.drift_world.specs.{Sound.{IsSized, IsSound}, Stepping.ChangesOnly, Views.{with_first, world_of}};
 
     /// Time passes, where nothing is under way before.
     pub fn pass_to(&mut self, time: u64)
@@ -108,7 +95,8 @@ impl<C: Clock, M: Machine + Drop> State<C, M> {
         requires limit { time ≤ 2 ^ 60 }
         requires none { self.old.settled.items ≡ [] }
         requires open { self.old.ended ≡ false }
-        ensures sound { (network : Network) → IsSound C.last_step network self.old → IsSound C.last_step network self.new }
+        ensures sound { (network : Network) → IsSound C.last_step network self.old
+            → IsSound C.last_step network self.new }
         ensures stands { (network : Network) (s : Scenario) (notes : List Note)
             → Stands C.reading (keeps M.stands) s (world_of network self.old) notes
             → NothingBefore (keeps M.stands) s (world_of network self.old) (time ∷ [])
@@ -128,11 +116,16 @@ impl<C: Clock, M: Machine + Drop> State<C, M> {
         ensures sound { IsSound C.last_step network.now self.new }
         ensures stands { (s : Scenario) (notes : List Note)
             → (old : Stands C.reading (keeps M.stands) s (world_of network.now self.old) notes) → self.old.ended ≡ true
-            → ComesFirst C.reading (keeps M.stands) s (world_of network.now self.old) notes old (clock_place self.old.time (record { 0 = self.old.shown }))
+            → ComesFirst C.reading (keeps M.stands) s (world_of network.now self.old) notes old
+            (clock_place self.old.time (record { 0 = self.old.shown }))
             → StandsBehind C.reading (keeps M.stands) s (world_of network.now self.new) notes
             (behind (clock_place self.old.time (record { 0 = self.old.shown }))) }
         ensures others { (n : ℕ) → ChangesOnly n self.old self.new }
-        ensures same { self.new ≡ record self.old { early = false; settled = self.new.settled; shown = self.old.shown + 1 } }
+        ensures same { self.new ≡ record self.old {
+          early = false;
+          settled = self.new.settled;
+          shown = self.old.shown + 1;
+        } }
     {
         let index = self.shown as usize;
         let reading = self.clocks[index].read(Units::from_amount(self.time));
@@ -159,7 +152,8 @@ impl<C: Clock, M: Machine + Drop> State<C, M> {
     pub fn reading_of(&self, network: &Network, device: u32) -> u64
         requires sized { IsSized C.last_step network.now self.now }
         requires there { device < length network.now.device }
-        ensures { (clock : C) × (slice_get self.now.clocks.items device ≡ Some clock) × (result ≡ C.reading clock self.now.time) }
+        ensures { (clock : C) × (slice_get self.now.clocks.items device ≡ Some clock)
+            × (result ≡ C.reading clock self.now.time) }
     {
         self.clocks[device as usize]
             .read(Units::from_amount(self.time))
@@ -170,7 +164,8 @@ impl<C: Clock, M: Machine + Drop> State<C, M> {
     pub fn way_from(&self, network: &Network, device: DeviceId, link: LinkId) -> WayState
         requires sized { IsSized C.last_step network.now self.now }
         requires there { link.0 < length network.now.link }
-        ensures { slice_get (if is_parent_of network.now device link then self.now.downs.items else self.now.ups.items) link.0 ≡ Some result }
+        ensures { slice_get (if is_parent_of network.now device link then self.now.downs.items
+            else self.now.ups.items) link.0 ≡ Some result }
     {
         if is_parent(network, device, link) {
             self.downs[link.0 as usize]
@@ -208,11 +203,17 @@ impl<C: Clock, M: Machine + Drop> State<C, M> {
         requires room { deque_len self.old.settled < deque_capacity self.old.settled }
         ensures sound { IsSound C.last_step network.now self.new }
         ensures stands { (s : Scenario) (notes : List Note)
-            → (old : Stands C.reading (keeps M.stands) s (world_of network.now self.old) notes) → place.at ≡ self.old.time
+            → (old : Stands C.reading (keeps M.stands) s (world_of network.now self.old) notes)
+            → place.at ≡ self.old.time
             → ComesFirst C.reading (keeps M.stands) s (world_of network.now self.old) notes old (numbers_of place)
-            → StandsBehind C.reading (keeps M.stands) s (world_of network.now self.new) notes (behind (numbers_of place)) }
+            → StandsBehind C.reading (keeps M.stands) s (world_of network.now self.new) notes
+            (behind (numbers_of place)) }
         ensures others { (n : ℕ) → ChangesOnly n self.old self.new }
-        ensures same { self.new ≡ record self.old { early = false; under_way = self.new.under_way; settled = self.new.settled } }
+        ensures same { self.new ≡ record self.old {
+          early = false;
+          under_way = self.new.under_way;
+          settled = self.new.settled;
+        } }
         ensures shorter { length self.old.under_way.entries ≡ length self.new.under_way.entries + 1 }
     {
         let (frame, given) = take_port(&mut self.under_way, place);
@@ -246,7 +247,8 @@ impl<C: Clock, M: Machine + Drop> State<C, M> {
         requires early { self.old.early ≡ true }
         requires open { self.old.ended ≡ false }
         requires of_network { IsOfNetwork network.now event.now.what }
-        requires slow { (device : DeviceOf) (rate : Ppb) → event.now.what ≡ What.Rate device rate → unsigned_abs rate.0 ≤ 1000000 }
+        requires slow { (device : DeviceOf) (rate : Ppb) → event.now.what ≡ What.Rate device rate
+            → unsigned_abs rate.0 ≤ 1000000 }
         requires short { SetsShort event.now.what }
         ensures sound { IsSound C.last_step network.now self.new }
         ensures note { IfOk result (λ note. note ≡ record {
@@ -255,19 +257,25 @@ impl<C: Clock, M: Machine + Drop> State<C, M> {
           body = NoteBody.Event (self.old.lines + 1) event.now.what;
         }) }
         ensures still { (self.new.time ≡ self.old.time) × (self.new.early ≡ self.old.early) }
-        ensures clocks { OnOk result ((device : DeviceOf) (clock : C) → slice_get self.old.clocks.items device.0 ≡ Some clock
-            → slice_get self.new.clocks.items device.0 ≡ Some (clock_after C.after_step device event.now.time event.now.what clock)) }
+        ensures clocks { OnOk result ((device : DeviceOf) (clock : C)
+            → slice_get self.old.clocks.items device.0 ≡ Some clock
+            → slice_get self.new.clocks.items device.0
+            ≡ Some (clock_after C.after_step device event.now.time event.now.what clock)) }
         ensures timers { self.new.timers ≡ self.old.timers }
-        ensures others { OnOk result ((device : DeviceOf) → device.0 < length network.now.device → IsElsewhere event.now.what device
+        ensures others { OnOk result ((device : DeviceOf) → device.0 < length network.now.device
+            → IsElsewhere event.now.what device
             → (slice_get self.new.clocks.items device.0 ≡ slice_get self.old.clocks.items device.0)
             × (slice_get self.new.machines.items device.0 ≡ slice_get self.old.machines.items device.0)
-            × ((w : WaitsValue) → w.device.0 ≡ device.0 → IsIn w self.new.waiting.items ↔ IsIn w self.old.waiting.items)) }
+            × ((w : WaitsValue) → w.device.0 ≡ device.0 → IsIn w self.new.waiting.items
+            ↔ IsIn w self.old.waiting.items)) }
         ensures stands { (f g : DeviceOf → ℕ → ℕ) (past : List EventValue) (notes : List Note)
-            → (old : Stands C.reading (keeps M.stands) (scenario network.now f past) (world_of network.now self.old) notes)
+            → (old : Stands C.reading (keeps M.stands) (scenario network.now f past) (world_of network.now self.old)
+            notes)
             → Follows C.after_step C.reading network.now f g past event.now self.old
             → FitsWorld (keeps M.stands) network.now (world_of network.now self.old) event.now.what
             → IfOk result (λ note. (note ≡ note_of_event notes past event.now)
-            × Stands C.reading (keeps M.stands) (scenario network.now g (past ++ event.now ∷ [])) (world_of network.now self.new)
+            × Stands C.reading (keeps M.stands) (scenario network.now g (past ++ event.now ∷ []))
+            (world_of network.now self.new)
             (notes ++ note ∷ [])) }
         ensures err { OnErr result (world_of network.now self.new ≡ world_of network.now self.old) }
         ensures kept { OnErr result (self.new ≡ record self.old { befell = self.new.befell }) }

@@ -3,16 +3,14 @@ ghost use Rattle.net_plan.specs.Ranges.{IsInRange};
 
 use crate::state::State;
 use drift_clock::Clock;
-use due_queue::Place;
 use net_plan::{DeviceId, Network};
 use run_law::Machine;
+use world_queue::Place;
 use world_state::OutOfMemory;
 use world_state::contents::Waits;
 
 impl<C: Clock, M: Machine + Drop> State<C, M> {
-    ghost use Rattle.drift_world.specs.Nearing.{IsLess};
-    ghost use Rattle.drift_world.specs.Turns.{HasRoom, IsForemost, IsStep, SourceFirst};
-    ghost use Rattle.drift_world.specs.Wells.{IsWell};
+    ghost use Rattle.drift_world.specs.{Nearing.IsLess, Turns.{HasRoom, IsForemost, IsStep, SourceFirst}, Wells.IsWell};
     ghost use Rattle.drift_world.specs.declared.source.Source.{Source};
 
     /// The outcomes of the events of the instant are settled.

@@ -8,9 +8,7 @@ use run_law::Machine;
 use world_state::timing::{least_point, time_for};
 
 impl<C: Clock, M: Machine + Drop> State<C, M> {
-    ghost use Rattle.drift_world.specs.Sound.{IsSized};
-    ghost use Rattle.drift_world.specs.Sourcing.{AreTimed};
-    ghost use Rattle.drift_world.specs.Stepping.{IsRunning, IsTimed};
+    ghost use Rattle.drift_world.specs.{Sound.IsSized, Sourcing.AreTimed, Stepping.{IsRunning, IsTimed}};
 
     /// Sets the timers of a device: for the frames that wait at it, and for what it does by itself.
     pub fn rekey(&mut self, network: &Network, device: u32)
@@ -23,7 +21,8 @@ impl<C: Clock, M: Machine + Drop> State<C, M> {
         ensures sized { length self.new.timers ≡ length self.old.timers }
         ensures others { (slot : ℕ) → (slot ≡ device → ⊥) → (slot ≡ length network.now.device + device → ⊥)
             → slice_get self.new.timers slot ≡ slice_get self.old.timers slot }
-        ensures later { All (λ (time : ℕ). self.old.time ≤ time) self.old.timers → All (λ (time : ℕ). self.new.time ≤ time) self.new.timers }
+        ensures later { All (λ (time : ℕ). self.old.time ≤ time) self.old.timers
+            → All (λ (time : ℕ). self.new.time ≤ time) self.new.timers }
     {
         let index = device as usize;
         let point = least_point(&self.waiting, device);

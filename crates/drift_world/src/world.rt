@@ -1,10 +1,8 @@
-ghost use Rattle.std.specs.Prelude.{true, ◌≡◌, ◌+◌, ◌<◌, ◌^◌, pos, ◌≤ℤ◌, ◌<ℤ◌, List, [], ◌∷◌, ◌++◌, IfOk, IfSome, IfNone, MatchResult, OnErr, length};
-ghost use Rattle.net_plan.specs.declared.event.Event.{Event as EventValue};
-ghost use Rattle.net_plan.specs.declared.network.Network.{Network};
-ghost use Rattle.run_law.specs.declared.note.Note.{Note as NoteValue};
-ghost use Rattle.run_law.specs.records.Happenings.{happenings};
-ghost use Rattle.run_law.specs.runs.DueRecords.{IsRunOf};
-ghost use Rattle.run_law.specs.scenario.Hypothesis.{IsWithinHypothesis};
+ghost use Rattle.std.specs.Prelude.{◌++◌, ◌+◌, ◌<ℤ◌, ◌<◌, ◌^◌, ◌∷◌, ◌≡◌, ◌≤ℤ◌, IfNone, IfOk, IfSome, List, MatchResult};
+ghost use Rattle.std.specs.Prelude.{OnErr, [], length, pos, true};
+ghost use Rattle.net_plan.specs.declared.{event.Event.Event as EventValue, network.Network.Network};
+ghost use Rattle.run_law.specs.{declared.note.Note.Note as NoteValue, records.Happenings.happenings};
+ghost use Rattle.run_law.specs.{runs.DueRecords.IsRunOf, scenario.Hypothesis.IsWithinHypothesis};
 ghost use Rattle.tte_units.specs.Amount.{amount, units_of};
 ghost use Rattle.world_law.specs.source.Agreeing.{scenario};
 
@@ -48,8 +46,7 @@ impl<'a, C: Clock, M: Machine + Drop> Model for World<'a, C, M> {
 
     ghost Value = { World C (Kept M) };
 
-    ghost use Rattle.drift_world.specs.Views.{world_of};
-    ghost use Rattle.drift_world.specs.Wells.{IsWell};
+    ghost use Rattle.drift_world.specs.{Views.world_of, Wells.IsWell};
 
     ghost view = { λ w. world_of w.accepted.now w.state };
 
@@ -59,9 +56,11 @@ impl<'a, C: Clock, M: Machine + Drop> Model for World<'a, C, M> {
 impl<'a, C: Clock, M: Machine + Drop> World<'a, C, M> {
     ghost use Rattle.safe_runs.specs.Headline.{IsSafeFront};
     ghost use Rattle.drift_world.specs.Beginning.{AreFresh};
-    ghost use Rattle.drift_world.specs.Locals.{AreSmall, IsComplete, IsLocalClock, IsLocalClockBefore, IsLocalValue, IsWide, MayShow, MayShowAt, MayShowBefore};
     ghost use Rattle.drift_world.specs.Later.{ComesBehind, IsAtTime, IsOpenFrom, MayApply, MayApplyAgain, bounded};
-    ghost use Rattle.drift_world.specs.Running.{ComesUpTo, HoldsATime, IsOpenTo, MayBefall, StandsUnder, behind_events, event_note, given_by, left_of, reading_of};
+    ghost use Rattle.drift_world.specs.Locals.{AreSmall, IsComplete, IsLocalClock, IsLocalClockBefore, IsLocalValue};
+    ghost use Rattle.drift_world.specs.Locals.{IsWide, MayShow, MayShowAt, MayShowBefore};
+    ghost use Rattle.drift_world.specs.Running.{ComesUpTo, HoldsATime, IsOpenTo, MayBefall, StandsUnder, behind_events};
+    ghost use Rattle.drift_world.specs.Running.{event_note, given_by, left_of, reading_of};
 
     /// The world of a network at time 0: nothing has befallen it, and its machines have just begun.
     pub fn begin(
@@ -70,7 +69,8 @@ impl<'a, C: Clock, M: Machine + Drop> World<'a, C, M> {
         machines: Vec<M>,
     ) -> Result<World<'a, C, M>, OutOfMemory>
         requires { AreFresh M.stands accepted.now machines.items }
-        ensures stands { IfOk result (λ world. StandsUnder C.fresh C.after_step C.reading M.stands accepted.now world [] []) }
+        ensures stands { IfOk result (λ world.
+            StandsUnder C.fresh C.after_step C.reading M.stands accepted.now world [] []) }
         ensures fresh { IfOk result (λ world. (world.now ≡ 0) × (world.early ≡ true)) }
     {
         let network = accepted.network();
@@ -81,8 +81,8 @@ impl<'a, C: Clock, M: Machine + Drop> World<'a, C, M> {
 
     /// The event of this line befalls the network, at the present time. Its record is answered.
     ///
-    /// The lines count the events from 1. The event is within the fault hypothesis after those applied, and comes before
-    /// the end. A hold that it sets is a time from 0 on. On an error nothing has changed.
+    /// The lines count the events from 1. The event is within the fault hypothesis after those applied, and comes
+    /// before the end. A hold that it sets is a time from 0 on. On an error nothing has changed.
     ///
     /// The answer is small, and seen as the record that it stands for.
     pub fn befall<'e>(&mut self, line: u64, event: &'e Event) -> Result<EventNote<'e>, OutOfMemory>
@@ -93,12 +93,14 @@ impl<'a, C: Clock, M: Machine + Drop> World<'a, C, M> {
         ensures stands { (network : Network) (events : List EventValue) (notes : List NoteValue)
             → StandsUnder C.fresh C.after_step C.reading M.stands network self.old events notes
             → IsWithinHypothesis network events event.now
-            → IfOk result (λ note. StandsUnder C.fresh C.after_step C.reading M.stands network self.new (events ++ event.now ∷ [])
+            → IfOk result (λ note. StandsUnder C.fresh C.after_step C.reading M.stands network self.new (events
+            ++ event.now ∷ [])
             (notes ++ note ∷ [])) }
         ensures run { (network : Network) (events : List EventValue) (notes : List NoteValue)
             → StandsUnder C.fresh C.after_step C.reading M.stands network self.old events notes
             → IsWithinHypothesis network events event.now
-            → IfOk result (λ note. IsRunOf network (reading_of C.fresh C.after_step C.reading network (events ++ event.now ∷ []))
+            → IfOk result (λ note. IsRunOf network
+            (reading_of C.fresh C.after_step C.reading network (events ++ event.now ∷ []))
             (events ++ event.now ∷ []) (behind_events self.old.now) (notes ++ note ∷ [])) }
         ensures note { IfOk result (λ note. note ≡ event_note (self.old.given + 1) line event.now) }
         ensures still { (self.new.now ≡ self.old.now) × (self.new.early ≡ self.old.early) }
@@ -169,7 +171,8 @@ impl<'a, C: Clock, M: Machine + Drop> World<'a, C, M> {
             → IfOk result (λ next. IfNone next
             (IsSafeFront C.fresh C.after_step C.reading network events (amount until) notes)) }
         ensures reached { ComesUpTo self.old self.new until result }
-        ensures before { IfOk result (λ next. IfSome next (λ note. (note.time ≡ units_of self.new.now) × (note.time.0 <ℤ until.0))) }
+        ensures before { IfOk result (λ next.
+            IfSome next (λ note. (note.time ≡ units_of self.new.now) × (note.time.0 <ℤ until.0))) }
         ensures fewer { IfOk result (λ next. IfSome next (λ _. left_of self.new < left_of self.old)) }
     {
         if until.0 <= Units::from_amount(self.state.time).0 {
@@ -210,7 +213,8 @@ impl<'a, C: Clock, M: Machine + Drop> World<'a, C, M> {
             → IfOk result (λ next. IfNone next
             (IsSafeFront C.fresh C.after_step C.reading network events (amount (bounded self.old until)) notes)) }
         ensures reached { ComesUpTo self.old self.new (bounded self.old until) result }
-        ensures before { IfOk result (λ next. IfSome next (λ note. (note.time ≡ units_of self.new.now) × (note.time.0 <ℤ until.0))) }
+        ensures before { IfOk result (λ next.
+            IfSome next (λ note. (note.time ≡ units_of self.new.now) × (note.time.0 <ℤ until.0))) }
         ensures fewer { IfOk result (λ next. IfSome next (λ _. left_of self.new < left_of self.old)) }
     {
         let time = self.bounded(until);

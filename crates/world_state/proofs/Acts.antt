@@ -1,23 +1,14 @@
 -- What an act leaves as it was.
-use Rattle.std.proofs.Common.{◌≡◌, ℤ, ◌≤ℤ◌, ◌<ℤ◌, Option, Some, None, ap, arith, refl, subst, sym, ◌∙◌}
-use Rattle.std.specs.Prelude.{IfSome, IsSomeAnd}
-use Rattle.std.proofs.lemmas.Int.{ints}
-use Rattle.net_plan.specs.declared.ids.DeviceId.{DeviceId}
-use Rattle.net_plan.specs.declared.network.Network.{Network}
-use Rattle.run_law.specs.declared.steps.Act.TheVariants as acts
-use Rattle.run_law.specs.declared.steps.Act.{Act}
-use Rattle.run_law.specs.declared.steps.Moment.{Moment}
-use Rattle.run_law.specs.declared.steps.Ripe.TheVariants as ripe
-use Rattle.run_law.specs.declared.steps.Ripe.{Ripe}
+use Rattle.std.{proofs.{Common.{◌<ℤ◌, ◌∙◌, ◌≡◌, ◌≤ℤ◌, None, Option, Some, ap, arith, refl, subst, sym, ℤ}, lemmas.Int.ints}, specs.Prelude.{IfSome, IsSomeAnd}}
 use Rattle.compression.specs.declared.compressed.Compressed.{Compressed}
 use Rattle.membership.specs.Summary.{Summary}
-use Rattle.run_law.specs.machines.Answers.{IsActOf, after_correction, after_emission}
-use Rattle.run_law.specs.machines.Calls.{HasDue}
-use Rattle.run_law.specs.machines.Nodes.{Node}
-use Rattle.run_law.specs.machines.Tasks.{IsDueReading, IsPending, Task, reading_for}
+use Rattle.net_plan.specs.declared.{ids.DeviceId.DeviceId, network.Network.Network}
+use Rattle.run_law.specs.{declared.steps.{Act.Act, Moment.Moment, Ripe.Ripe}, machines.{Answers.{IsActOf, after_correction, after_emission}, Calls.HasDue}}
+use Rattle.run_law.specs.machines.{Nodes.Node, Tasks.{IsDueReading, IsPending, Task, reading_for}}
+use Rattle.sync_state.specs.declared.answers.Verdict.{Verdict, TheVariants.{AsyncClique, Cleared, Corrected, SyncClique}}
 use Rattle.tte_units.specs.declared.units.Units.{Units}
-use Rattle.sync_state.specs.declared.answers.Verdict.TheVariants.{Corrected, SyncClique, AsyncClique, Cleared}
-use Rattle.sync_state.specs.declared.answers.Verdict.{Verdict}
+use Rattle.run_law.specs.declared.steps.Act.TheVariants as acts
+use Rattle.run_law.specs.declared.steps.Ripe.TheVariants as ripe
 
 of_emission : (network : Network) (device : DeviceId) (node : Node) (moment : Moment) (sent : Compressed) (heard : Ripe)
     → (after_emission network device node moment sent heard).broken ≡ node.broken

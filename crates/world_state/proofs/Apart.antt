@@ -1,23 +1,13 @@
 -- What is put to ports leaves the wires as they are, and what is put on a wire the ports.
-use Rattle.std.proofs.Common.{◌≡◌, ℕ, List, ◌∷◌, Option, Some, None, inl, inr, sym, ap, subst, ◌∙◌}
-use Rattle.std.specs.Prelude.{◌↔◌, IfSome, IfNone}
-use Rattle.std.specs.List.{filter_map}
-use Rattle.std.proofs.lemmas.List.Sorted.{IsPermutation-sym}
-use Rattle.due_queue.proofs.Bags.{in_permuted}
-use Rattle.due_queue.specs.declared.Entry.{Entry}
+use Rattle.std.proofs.{Common.{◌∙◌, ◌∷◌, ◌≡◌, List, None, Option, Some, ap, inl, inr, subst, sym, ℕ}, lemmas.List.Sorted.IsPermutation-sym}
+use Rattle.std.specs.{List.filter_map, Prelude.{◌↔◌, IfNone, IfSome}}
 use Rattle.net_plan.specs.declared.network.Network.{Network}
-use Rattle.run_law.proofs.records.Order.{given_of, is_given}
-use Rattle.run_law.specs.records.Order.{IsIn}
-use Rattle.run_law.specs.declared.note.NoteBody.{NoteBody}
-use Rattle.world_state.specs.Giving.{ArePutTo, IsPutOn}
-use Rattle.world_state.specs.Views.{at_port, on_wire}
-use Rattle.world_state.specs.declared.contents.Content.{Content}
-use Rattle.world_state.specs.declared.contents.WayState.{WayState}
-use Rattle.world_state.specs.declared.giving.Giving.{Giving}
-use Rattle.world_law.specs.world.Moves.{ArePut, AreGiven}
-use Rattle.world_law.specs.world.World.{AtPort, OnWire}
-use Rattle.run_law.specs.records.Happenings.{Happening}
+use Rattle.run_law.{proofs.records.Order.{given_of, is_given}, specs.{declared.note.NoteBody.NoteBody, records.{Happenings.Happening, Order.IsIn}}}
 use Rattle.run_law.specs.scenario.Scenarios.{Scenario}
+use Rattle.world_law.specs.world.{Moves.{AreGiven, ArePut}, World.{AtPort, OnWire}}
+use Rattle.world_queue.{proofs.Bags.in_permuted, specs.declared.Entry.Entry}
+use Rattle.world_state.specs.{Giving.{ArePutTo, IsPutOn}, Views.{at_port, on_wire}, declared.contents.{Content.Content, WayState.WayState}}
+use Rattle.world_state.specs.declared.giving.Giving.{Giving}
 
 -- the wires after a frame is put to ports
 pub wires_kept : (n : ℕ) (network other : Network) (ups downs : List WayState) (body : NoteBody) (giving : Option Giving) (old new : List (Entry Content))

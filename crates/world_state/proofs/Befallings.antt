@@ -1,35 +1,18 @@
 -- What comes of the events of an instant is settled: the world stands again.
-use Rattle.std.proofs.Common.{◌≡◌, ◌↔◌, ℕ, zero, suc, ◌+◌, ◌≤◌, ◌<◌, Bool, true, false, if◌then◌else◌, List, [], ◌∷◌, ◌++◌, length, map, take, get_or, Option, Some, None, slice_get, option_and_then, inl, inr, refl, sym, ap, subst, ◌∙◌, arith}
-use Rattle.std.specs.List.{filter_map}
-use Rattle.std.proofs.lemmas.List.Sorted.{IsPermutation-sym}
-use Rattle.std.proofs.lemmas.Option.{get_or_from_slice_get, same_Some, slice_get-get_or, slice_get_within}
-use Rattle.due_queue.proofs.Bags.{in_permuted}
-use Rattle.due_queue.specs.declared.Entry.{Entry}
-use Rattle.net_plan.specs.Places.{link_at}
-use Rattle.net_plan.specs.declared.event.What.TheVariants as events
-use Rattle.net_plan.specs.declared.event.What.{What}
-use Rattle.net_plan.specs.declared.ids.LinkId.{LinkId}
-use Rattle.net_plan.specs.declared.network.Network.{Network}
+use Rattle.std.proofs.Common.{if◌then◌else◌, ◌++◌, ◌+◌, ◌<◌, ◌↔◌, ◌∙◌, ◌∷◌, ◌≡◌, ◌≤◌, Bool, List, None, Option, Some, [], ap, arith, false, get_or, inl, inr}
+use Rattle.std.proofs.{Common.{length, map, option_and_then, refl, slice_get, subst, suc, sym, take, true, zero, ℕ}, lemmas.List.Sorted.IsPermutation-sym}
+use Rattle.std.{proofs.lemmas.Option.{get_or_from_slice_get, same_Some, slice_get-get_or, slice_get_within}, specs.{List.filter_map, Prelude.IfSome}}
+use Rattle.net_plan.specs.{Places.link_at, Ranges.{IsInRange, IsLinkInRange}, declared.{event.What.What, ids.LinkId.LinkId, network.Network.Network}}
 use Rattle.net_plan.specs.declared.tables.Link.{Link}
-use Rattle.run_law.specs.records.Order.{IsIn}
-use Rattle.net_plan.specs.Ranges.{IsInRange, IsLinkInRange}
-use Rattle.run_law.specs.control.Wires.{signal_of, time_on_port}
-use Rattle.std.specs.Prelude.{IfSome}
+use Rattle.run_law.specs.{control.Wires.{signal_of, time_on_port}, records.Order.IsIn}
 use Rattle.tte_lemmas.proofs.Lists.{in_all}
-use Rattle.world_state.proofs.Apart.{ports_kept}
-use Rattle.world_state.proofs.UnderWays.{sound_with}
-use Rattle.world_state.specs.Sound.{AreBelow, AreUnderWay, rank_of}
-use Rattle.world_state.specs.Views.{at_port, befell_as}
-use Rattle.world_state.specs.declared.contents.Content.TheVariants.{Wire}
-use Rattle.world_state.specs.declared.contents.Signal.TheVariants as signals
 use Rattle.world_law.specs.world.World.{AreInOrder, AtPort}
-use Rattle.world_state.specs.Befalling.{AreSettledBy, entry_of, record_of, sent_up}
-use Rattle.world_state.specs.Giving.{IsPutOn}
-use Rattle.world_state.specs.Places.{IsSomePut}
-use Rattle.world_state.specs.declared.contents.Befallen.{Befallen}
-use Rattle.world_state.specs.declared.contents.Content.{Content}
-use Rattle.world_state.specs.declared.contents.Settled.{Settled}
-use Rattle.world_state.specs.declared.contents.WayState.{WayState}
+use Rattle.world_queue.{proofs.Bags.in_permuted, specs.declared.Entry.Entry}
+use Rattle.world_state.{proofs.{Apart.ports_kept, UnderWays.sound_with}, specs.{Befalling.{AreSettledBy, entry_of, record_of, sent_up}, Giving.IsPutOn}}
+use Rattle.world_state.specs.{Places.IsSomePut, Sound.{AreBelow, AreUnderWay, rank_of}, Views.{at_port, befell_as}, declared.contents.Befallen.Befallen}
+use Rattle.world_state.specs.declared.contents.{Content.{Content, TheVariants.Wire}, Settled.Settled, WayState.WayState}
+use Rattle.net_plan.specs.declared.event.What.TheVariants as events
+use Rattle.world_state.specs.declared.contents.Signal.TheVariants as signals
 
 -- ---- a step of the loop
 

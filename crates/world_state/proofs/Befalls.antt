@@ -1,17 +1,9 @@
 -- What an event makes of a device.
-use Rattle.std.proofs.Common.{◌≡◌, ◌≢◌, ℕ, ◌<◌, Bool, true, not, ◌&&◌, List, length, set, Some, inl, inr, sym, ap, subst, ◌∙◌, arith}
-use Rattle.std.specs.Prelude.{if◌then◌else◌}
-use Rattle.std.specs.List.{slice_get}
-use Rattle.std.proofs.lemmas.Bool.{cases_eq, ne_eqb}
-use Rattle.std.proofs.lemmas.List.{get_or-set_other, length-set}
-use Rattle.std.proofs.lemmas.Option.{get_or_from_slice_get, slice_get-get_or, slice_get_within}
-use Rattle.net_plan.proofs.SameIds.{same_device}
-use Rattle.net_plan.specs.declared.event.What.TheVariants.{On, Break}
-use Rattle.net_plan.specs.declared.event.What.{What}
-use Rattle.net_plan.specs.declared.ids.DeviceId.{DeviceId}
-use Rattle.net_plan.specs.declared.network.Network.{Network}
-use Rattle.run_law.specs.machines.Answers.{node_turned_on}
-use Rattle.run_law.specs.machines.Nodes.{Node}
+use Rattle.std.proofs.Common.{◌&&◌, ◌<◌, ◌∙◌, ◌≡◌, ◌≢◌, Bool, List, Some, ap, arith, inl, inr, length, not, set, subst, sym, true, ℕ}
+use Rattle.std.proofs.lemmas.{Bool.{cases_eq, ne_eqb}, List.{get_or-set_other, length-set}, Option.{get_or_from_slice_get, slice_get-get_or, slice_get_within}}
+use Rattle.std.specs.{List.slice_get, Prelude.if◌then◌else◌}
+use Rattle.net_plan.{proofs.SameIds.same_device, specs.declared.{event.What.{What, TheVariants.{Break, On}}, ids.DeviceId.DeviceId, network.Network.Network}}
+use Rattle.run_law.specs.machines.{Answers.node_turned_on, Nodes.Node}
 use Rattle.sync_state.specs.declared.state.State.TheVariants.{Off}
 use Rattle.tte_lemmas.proofs.Lists.{set_same}
 use Rattle.world_law.specs.world.Outcomes.{befallen_node}

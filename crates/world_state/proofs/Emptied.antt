@@ -1,14 +1,9 @@
 -- All frames of a device are dropped.
-use Rattle.std.proofs.Common.{◌≡◌, ◌⊎◌, ℕ, zero, suc, ◌+◌, ◌<◌, ◌≤◌, Bool, true, false, not, cond, ◌==◌, List, [], ◌∷◌, ◌++◌, length, map, filter, slice_get, slice_set, Option, Some, None, inl, inr, refl, sym, ap, subst, ◌∙◌, arith}
-use Rattle.std.proofs.lemmas.Bool.{eq-eqb, ne_eqb}
-use Rattle.std.proofs.lemmas.List.Elements.{filter-append}
-use Rattle.due_queue.specs.declared.Entry.{Entry}
-use Rattle.due_queue.specs.Queues.{Queue}
+use Rattle.std.proofs.Common.{◌++◌, ◌+◌, ◌<◌, ◌==◌, ◌∙◌, ◌∷◌, ◌≡◌, ◌≤◌, ◌⊎◌, Bool, List, Some, [], ap, arith, cond, filter, inl, inr, length, map, not, refl}
+use Rattle.std.proofs.{Common.{slice_get, slice_set, suc, sym, true, zero, ℕ}, lemmas.{Bool.{eq-eqb, ne_eqb}, List.Elements.filter-append}}
 use Rattle.run_law.specs.records.Order.{IsIn}
-use Rattle.world_state.proofs.Swaps.{from_map}
-use Rattle.world_state.proofs.Queues.{content_of}
-use Rattle.world_state.specs.Frames.{AreQueued, IsQueued, frames_in, frames_of}
-use Rattle.world_state.specs.declared.contents.Waits.{Waits}
+use Rattle.world_queue.specs.{Queues.Queue, declared.Entry.Entry}
+use Rattle.world_state.{proofs.{Queues.content_of, Swaps.from_map}, specs.{Frames.{AreQueued, frames_in, frames_of}, declared.contents.Waits.Waits}}
 
 -- it waits elsewhere
 abbrev pub keeps_it : ℕ → Waits → Bool

@@ -1,25 +1,10 @@
 -- What a device hears, as its machine asks for it.
-use Rattle.std.proofs.Common.{◌≡◌, ℕ, ◌≤◌, List, length, Bool, sym, ap, subst, ◌∙◌, arith, eq-eqb}
-use Rattle.std.specs.Prelude.{if◌then◌else◌, Ok, Result}
-use Rattle.net_plan.specs.Ranges.{IsInRange}
-use Rattle.net_plan.specs.declared.ids.VlId.{VlId}
-use Rattle.world_state.proofs.Made.{made_signal}
-use Rattle.world_state.specs.Views.{octets_of}
-use Rattle.world_state.specs.declared.contents.Timed.TheVariants.{Made}
-use Rattle.net_plan.specs.declared.ids.DeviceId.{DeviceId}
-use Rattle.net_plan.specs.declared.ids.LinkId.{LinkId}
-use Rattle.net_plan.specs.declared.network.Network.{Network}
-use Rattle.pcf_codec.specs.Decoding.{decoded}
-use Rattle.pcf_codec.specs.EtherType.{pcf_type}
-use Rattle.pcf_codec.specs.Fields.{field}
-use Rattle.pcf_codec.specs.Spelling.{Spells}
-use Rattle.pcf_codec.specs.declared.refusal.PcfRefusal.{PcfRefusal}
+use Rattle.std.{proofs.Common.{◌∙◌, ◌≡◌, ◌≤◌, Bool, List, ap, arith, eq-eqb, length, subst, sym, ℕ}, specs.Prelude.{if◌then◌else◌, Ok, Result}}
+use Rattle.net_plan.specs.{Ranges.IsInRange, declared.{ids.{DeviceId.DeviceId, LinkId.LinkId, VlId.VlId}, network.Network.Network}}
+use Rattle.pcf_codec.specs.{Decoding.decoded, EtherType.pcf_type, Fields.field, Spelling.Spells, declared.refusal.PcfRefusal.PcfRefusal}
 use Rattle.pcf_values.specs.declared.pcf.Pcf.{Pcf}
-use Rattle.run_law.specs.control.Wires.{Signal, control, signal_of, timed}
-use Rattle.run_law.specs.declared.steps.Moment.{Moment}
-use Rattle.run_law.specs.machines.Calls.{MayHear, StandsFor}
-use Rattle.run_law.specs.machines.Nodes.{Node}
-use Rattle.world_state.specs.Hearing.{AreOctetsOf, MayCome}
+use Rattle.run_law.specs.{control.Wires.{Signal, control, signal_of, timed}, declared.steps.Moment.Moment, machines.{Calls.{MayHear, StandsFor}, Nodes.Node}}
+use Rattle.world_state.{proofs.Made.made_signal, specs.{Hearing.{AreOctetsOf, MayCome}, Views.octets_of, declared.contents.Timed.TheVariants.Made}}
 
 -- the octets of a control frame
 pub control_octets : (octets : List ℕ) (frame : Pcf) → Spells octets frame → decoded octets ≡ Ok frame → AreOctetsOf (control (Ok frame)) octets
@@ -31,7 +16,8 @@ control_octets octets frame spells back = record {
 }
 
 -- so they may be heard
-pub may_hear : {M : Type 0} (stands : M → Network → DeviceId → Node → Type 0) (machine : M) (signal : Signal) (moment : Moment) (link : LinkId) (octets : List ℕ)
+pub may_hear : {M : Type 0} (stands : M → Network → DeviceId → Node
+    → Type 0) (machine : M) (signal : Signal) (moment : Moment) (link : LinkId) (octets : List ℕ)
     → StandsFor stands machine (MayCome signal moment link) → AreOctetsOf signal octets
     → StandsFor stands machine (λ network device node. MayHear network device node moment link octets)
 may_hear stands machine signal moment link octets may are =

@@ -1,12 +1,9 @@
 -- Where no change of state follows a record, none is named by it.
-use Rattle.std.proofs.Common.{◌≡◌, ℕ, List, [], ◌∷◌, Bool, map, refl, ap, sym, ◌∙◌}
-use Rattle.std.specs.Prelude.{◌&&◌, ◌==◌, if◌then◌else◌}
-use Rattle.world_state.specs.Naming.{LeadsNowhere, named_settled}
-use Rattle.world_state.specs.declared.contents.Settled.{Settled}
+use Rattle.std.{proofs.Common.{◌∙◌, ◌∷◌, ◌≡◌, Bool, List, [], ap, map, refl, sym, ℕ}, specs.Prelude.{if◌then◌else◌, ◌&&◌, ◌==◌}}
 use Rattle.run_law.specs.declared.note.NoteBody.{NoteBody}
+use Rattle.world_law.specs.world.{Moves.named_body, World.none_yet}
+use Rattle.world_state.specs.{Naming.{LeadsNowhere, named_settled}, declared.contents.Settled.Settled}
 use Rattle.run_law.specs.declared.note.NoteBody.TheVariants as kinds
-use Rattle.world_law.specs.world.Moves.{named_body}
-use Rattle.world_law.specs.world.World.{none_yet}
 
 same_body : (number : ℕ) (first : NoteBody) → LeadsNowhere first → (body : NoteBody) → named_body number first body ≡ body
 same_body number first nowhere (kinds.State device state cause why) =

@@ -4,8 +4,8 @@ pub mod Befallings
 pub mod Befalls
 pub mod Firsts
 pub mod Hearings
-pub mod Holdings
 pub mod Made
+pub mod Placings
 pub mod Mapped
 pub mod Leading
 pub mod PutTo

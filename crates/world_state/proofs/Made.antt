@@ -1,24 +1,13 @@
 -- The frames that senders make, on the wire.
-use Rattle.std.proofs.Common.{◌≡◌, ℕ, ◌+◌, ◌-◌, ◌<◌, ◌^◌, ◌==◌, false, List, ◌++◌, length, Option, Some, None, ap, refl, replicate, sym, ◌∙◌, slice_get, length-append, append_assoc, arith}
-use Rattle.std.specs.Option.{option_map_or}
-use Rattle.std.specs.Prelude.{Bool, if◌then◌else◌}
-use Rattle.std.proofs.lemmas.Bool.{ne_eqb}
-use Rattle.byteorder.specs.Endian.{big_bytes}
-use Rattle.byteorder.specs.Numbers.{length-bytes_high_first}
-use Rattle.net_plan.specs.Ranges.{IsInRange, IsVlInRange}
-use Rattle.net_plan.specs.declared.ids.VlId.{VlId}
-use Rattle.net_plan.specs.declared.network.Network.{Network}
-use Rattle.net_plan.specs.declared.tables.VirtualLink.{VirtualLink}
+use Rattle.std.proofs.Common.{◌++◌, ◌-◌, ◌<◌, ◌==◌, ◌^◌, ◌∙◌, ◌≡◌, List, None, Option, Some, ap, append_assoc, arith, false, length, length-append, refl}
+use Rattle.std.{proofs.{Common.{replicate, slice_get, sym, ℕ}, lemmas.Bool.ne_eqb}, specs.{Option.option_map_or, Prelude.{if◌then◌else◌, Bool}}}
+use Rattle.byteorder.specs.{Endian.big_bytes, Numbers.length-bytes_high_first}
 use Rattle.made_frames.proofs.Made.{made_is}
-use Rattle.pcf_codec.proofs.Numbers.{read_behind}
-use Rattle.pcf_codec.specs.EtherType.{pcf_type}
-use Rattle.pcf_codec.specs.Decoding.{decoded}
-use Rattle.pcf_codec.specs.Fields.{field}
-use Rattle.run_law.specs.control.Wires.{control, signal_of, timed}
-use Rattle.run_law.specs.records.Frames.{mac_of, tt_frame, tt_frame_by}
+use Rattle.net_plan.specs.{Ranges.{IsInRange, IsVlInRange}, declared.{ids.VlId.VlId, network.Network.Network, tables.VirtualLink.VirtualLink}}
+use Rattle.pcf_codec.{proofs.Numbers.read_behind, specs.{Decoding.decoded, EtherType.pcf_type, Fields.field}}
+use Rattle.run_law.specs.{control.Wires.{control, signal_of, timed}, records.Frames.{mac_of, tt_frame, tt_frame_by}}
 use Rattle.tte_lemmas.proofs.Lists.{in_all}
-use Rattle.world_state.specs.Views.{octets_of}
-use Rattle.world_state.specs.declared.contents.Timed.TheVariants.{Made}
+use Rattle.world_state.specs.{Views.octets_of, declared.contents.Timed.TheVariants.Made}
 
 -- of a virtual link of the network it is the frame of the law
 pub made_octets : (network : Network) (vl : VlId) (cycle : ℕ) → vl.0 < length network.vl

@@ -1,5 +1,5 @@
 -- A list is mapped from its front on.
-use Rattle.std.proofs.Common.{◌≡◌, ℕ, zero, suc, ◌+◌, ◌<◌, ◌≤◌, List, [], ◌∷◌, ◌++◌, map, take, drop, set, get_or, length, refl, ap, ◌∙◌, arith}
+use Rattle.std.proofs.Common.{◌++◌, ◌+◌, ◌<◌, ◌∙◌, ◌∷◌, ◌≡◌, ◌≤◌, List, [], ap, arith, drop, get_or, length, map, refl, set, suc, take, zero, ℕ}
 use Rattle.std.proofs.lemmas.List.{length-append, length-drop, length-map, length-take}
 
 step : {X : Type 0} (f : X → X) (xs : List X) (i : ℕ) (d : X) → i < length xs

@@ -1,20 +1,10 @@
 -- A frame is given to one link more.
-use Rattle.std.proofs.Common.{◌≡◌, ℕ, ◌+◌, List, ◌∷◌, get_or, inl, inr, sym, ap, subst, ◌∙◌, arith}
-use Rattle.std.proofs.lemmas.Bool.{cases_lt}
-use Rattle.std.proofs.lemmas.List.Sorted.{IsPermutation-sym}
+use Rattle.std.proofs.{Common.{◌+◌, ◌∙◌, ◌∷◌, ◌≡◌, List, ap, arith, get_or, inl, inr, subst, sym, ℕ}, lemmas.{Bool.cases_lt, List.Sorted.IsPermutation-sym}}
 use Rattle.std.specs.List.Sorted.{IsPermutation}
-use Rattle.due_queue.proofs.Bags.{in_permuted}
-use Rattle.due_queue.specs.declared.Entry.{Entry}
-use Rattle.net_plan.specs.declared.network.Network.{Network}
-use Rattle.run_law.specs.control.Leaving.{Gives}
-use Rattle.run_law.specs.records.Order.{IsIn}
-use Rattle.run_law.specs.declared.note.NoteBody.{NoteBody}
-use Rattle.due_queue.specs.Places.{numbers_of}
-use Rattle.net_plan.proofs.SameIds.{link_is}
-use Rattle.world_state.specs.Giving.{ArePutTo, entry_at_port, place_at_port}
-use Rattle.world_state.specs.Sound.{AreBelow}
-use Rattle.world_state.specs.declared.contents.Content.{Content}
-use Rattle.world_state.specs.declared.contents.WayState.{WayState}
+use Rattle.net_plan.{proofs.SameIds.link_is, specs.declared.network.Network.Network}
+use Rattle.run_law.specs.{control.Leaving.Gives, declared.note.NoteBody.NoteBody, records.Order.IsIn}
+use Rattle.world_queue.{proofs.Bags.in_permuted, specs.{Places.numbers_of, declared.Entry.Entry}}
+use Rattle.world_state.specs.{Giving.{ArePutTo, entry_at_port, place_at_port}, Sound.AreBelow, declared.contents.{Content.Content, WayState.WayState}}
 use Rattle.world_state.specs.declared.giving.Giving.{Giving}
 
 module _ (network : Network) (ups downs : List WayState) (body : NoteBody) (giving : Giving) (i : ℕ) (old mid : List (Entry Content))

@@ -1,29 +1,17 @@
 -- Queues of devices: one more frame in one, the first taken out, and the first of those that wait at a device.
-use Rattle.std.proofs.Common.{◌≡◌, ◌≢◌, ℕ, zero, suc, ◌+◌, ◌<◌, ◌≤◌, pos, ◌≤ℤ◌, unsigned_abs, ◌⊎◌, Bool, true, false, not, cond, ◌==◌, List, [], ◌∷◌, ◌++◌, length, map, filter, slice_get, slice_set, Option, Some, None, is_some, inl, inr, refl, sym, ap, subst, ◌∙◌, arith}
-use Rattle.std.proofs.lemmas.Int.{ints}
-use Rattle.std.specs.List.{flat_map}
-use Rattle.std.specs.List.Sorted.{IsPermutation}
-use Rattle.std.specs.Option.{option_and_then, option_map, option_map_or}
-use Rattle.std.proofs.lemmas.Bool.{both_ways, cases_lt}
-use Rattle.tte_units.specs.Amount.{amount}
-use Rattle.std.proofs.lemmas.Option.{slice_get_within}
+use Rattle.std.proofs.Common.{◌++◌, ◌<◌, ◌∙◌, ◌∷◌, ◌≡◌, ◌≤ℤ◌, ◌⊎◌, Bool, List, None, Option, Some, [], ap, arith, false, inl, inr, is_some, length, map, not}
+use Rattle.std.proofs.{Common.{pos, refl, slice_get, slice_set, subst, suc, sym, true, zero, ℕ}, lemmas.{Bool.{both_ways, cases_lt}, Int.ints}}
+use Rattle.std.proofs.lemmas.List.Sorted.{IsPermutation-append_left, IsPermutation-append_right, IsPermutation-middle, IsPermutation-sym, IsPermutation-trans}
+use Rattle.std.{proofs.lemmas.Option.slice_get_within, specs.{List.Sorted.IsPermutation, Option.{option_and_then, option_map, option_map_or}}}
+use Rattle.std.specs.Prelude.{if◌then◌else◌, IfSome, MatchOption}
 use Rattle.net_plan.specs.declared.ids.DeviceId.{DeviceId}
-use Rattle.world_state.specs.Timing.{IsLeastPoint}
-use Rattle.std.proofs.lemmas.List.Sorted.{IsPermutation-append_left, IsPermutation-append_right, IsPermutation-map, IsPermutation-middle, IsPermutation-sym, IsPermutation-trans}
-use Rattle.std.specs.Prelude.{IfSome, MatchOption, if◌then◌else◌}
-use Rattle.due_queue.specs.declared.Entry.{Entry}
-use Rattle.due_queue.specs.declared.Place.{Place}
-use Rattle.due_queue.specs.Places.{IsFirst, first_entry, numbers_of}
-use Rattle.due_queue.specs.Queues.{Queue}
-use Rattle.due_queue.proofs.Bags.{in_permuted}
-use Rattle.run_law.proofs.runs.Places.{in_left, in_parts, in_right}
-use Rattle.run_law.specs.records.Order.{IsBefore, IsIn}
+use Rattle.run_law.{proofs.runs.Places.{in_left, in_parts, in_right}, specs.records.Order.{IsBefore, IsIn}}
+use Rattle.tte_units.specs.Amount.{amount}
 use Rattle.world_law.proofs.giving.Given.{some_same}
-use Rattle.world_state.proofs.Swaps.{from_map}
-use Rattle.world_state.proofs.Befallings.{is_mapped}
+use Rattle.world_queue.specs.{Places.{IsFirst, first_entry, numbers_of}, Queues.Queue, declared.{Entry.Entry, Place.Place}}
+use Rattle.world_state.proofs.{Befallings.is_mapped, Swaps.from_map}
 use Rattle.world_state.specs.Frames.{AreQueued, IsFirstAt, IsQueued, NoneAt, first_frame, frames_in, frames_of, queue_place}
-use Rattle.world_state.specs.Ripening.{IsReached, ripe_numbers}
-use Rattle.world_state.specs.declared.contents.Waits.{Waits}
+use Rattle.world_state.specs.{Ripening.{IsReached, ripe_numbers}, Timing.IsLeastPoint, declared.contents.Waits.Waits}
 
 abbrev pub content_of : Entry Waits → Waits
 content_of e = e.content

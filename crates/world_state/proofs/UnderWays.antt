@@ -1,29 +1,15 @@
 -- What is under way without the first, and with one more.
-use Rattle.std.proofs.Common.{◌≡◌, ℕ, ◌<◌, false, length, subst, List, [], ◌∷◌, map, Some, None, inl, inr, refl, sym, ap, ◌∙◌}
-use Rattle.std.specs.Prelude.{◌↔◌}
-use Rattle.std.specs.List.{AllByRecursion, IsDistinct, filter_map}
-use Rattle.std.specs.List.Sorted.{IsPermutation}
-use Rattle.std.specs.Str.{bytes_eq}
-use Rattle.std.proofs.lemmas.Bool.{false_from_ne_true}
-use Rattle.std.proofs.lemmas.Slice.Eq.{bytes_eq-Decides}
-use Rattle.std.proofs.lemmas.Cmp.{nat_list_eq_equiv}
-use Rattle.std.proofs.lemmas.List.Sorted.{IsPermutation-map, IsPermutation-sym}
-use Rattle.std.proofs.lemmas.Map.Keys.{IsDistinct-IsPermutation, IsDistinct-cons, IsDistinct-head, IsDistinct-tail}
-use Rattle.std.proofs.lemmas.Option.{same_Some}
-use Rattle.due_queue.proofs.Bags.{in_permuted}
-use Rattle.due_queue.specs.declared.Entry.{Entry}
-use Rattle.due_queue.specs.declared.Place.{Place}
-use Rattle.due_queue.specs.Places.{numbers_of}
+use Rattle.std.proofs.{Common.{◌<◌, ◌∙◌, ◌∷◌, ◌≡◌, List, None, Some, [], ap, false, inl, inr, length, map, refl, subst, sym, ℕ}, lemmas.Bool.false_from_ne_true}
+use Rattle.std.proofs.lemmas.{Cmp.nat_list_eq_equiv, List.Sorted.{IsPermutation-map, IsPermutation-sym}}
+use Rattle.std.proofs.lemmas.{Map.Keys.{IsDistinct-IsPermutation, IsDistinct-cons, IsDistinct-head, IsDistinct-tail}, Option.same_Some}
+use Rattle.std.{proofs.lemmas.Slice.Eq.bytes_eq-Decides, specs.{List.{AllByRecursion, IsDistinct, filter_map, Sorted.IsPermutation}, Prelude.◌↔◌, Str.bytes_eq}}
 use Rattle.net_plan.specs.declared.network.Network.{Network}
-use Rattle.run_law.proofs.records.Order.{given_of, is_given}
-use Rattle.run_law.specs.records.Order.{IsIn}
+use Rattle.run_law.{proofs.records.Order.{given_of, is_given}, specs.records.Order.IsIn}
 use Rattle.tte_lemmas.proofs.Lists.{differ}
-use Rattle.world_state.specs.Sound.{AreUnderWay, rank_of}
-use Rattle.world_state.specs.Views.{at_port, on_wire, port_at, wire_at}
-use Rattle.world_state.specs.declared.contents.Content.TheVariants.{Wire, Port}
-use Rattle.world_state.specs.declared.contents.Content.{Content}
-use Rattle.world_law.specs.world.Moves.{IsWithout}
-use Rattle.world_law.specs.world.World.{AtPort, OnWire, port_place, wire_place}
+use Rattle.world_law.specs.world.{Moves.IsWithout, World.{AtPort, OnWire, port_place, wire_place}}
+use Rattle.world_queue.{proofs.Bags.in_permuted, specs.{Places.numbers_of, declared.{Entry.Entry, Place.Place}}}
+use Rattle.world_state.specs.{Sound.{AreUnderWay, rank_of}, Views.{at_port, on_wire, port_at, wire_at}, declared.contents.Content.Content}
+use Rattle.world_state.specs.declared.contents.Content.TheVariants.{Port, Wire}
 
 abbrev pub place_numbers : Entry Content → List ℕ
 place_numbers e = numbers_of e.place

@@ -1,36 +1,23 @@
 -- The records of an act of a device.
-use Rattle.std.specs.Prelude.{◌≡◌, ℕ, ◌<◌, Bool, true, false, List, [], ◌∷◌, ◌++◌, Option, Some, None, option_map}
+use Rattle.std.specs.Prelude.{◌++◌, ◌<◌, ◌∷◌, ◌≡◌, Bool, List, None, Option, Some, [], false, option_map, true, ℕ}
 use Rattle.compression.specs.declared.compressed.Compressed.{Compressed}
-use Rattle.net_plan.specs.declared.ids.DeviceId.{DeviceId}
-use Rattle.net_plan.specs.declared.ids.VlId.{VlId}
-use Rattle.net_plan.specs.declared.network.Network.{Network}
+use Rattle.net_plan.specs.declared.{ids.{DeviceId.DeviceId, VlId.VlId}, network.Network.Network}
 use Rattle.pcf_values.specs.declared.pcf.Pcf.{Pcf}
-use Rattle.run_law.specs.declared.judgement.Why.TheVariants as whys
-use Rattle.run_law.specs.declared.judgement.Why.{Why}
-use Rattle.run_law.specs.declared.note.NoteBody.TheVariants as kinds
-use Rattle.run_law.specs.declared.note.NoteBody.{NoteBody}
-use Rattle.run_law.specs.declared.steps.Act.TheVariants as acts
-use Rattle.run_law.specs.declared.steps.Act.{Act}
-use Rattle.run_law.specs.declared.steps.Ripe.TheVariants as ripe
-use Rattle.run_law.specs.declared.steps.Ripe.{Ripe}
-use Rattle.run_law.specs.records.Frames.{integration_frame}
-use Rattle.run_law.specs.records.Order.{IsIn}
-use Rattle.run_law.specs.scenario.Scenarios.{Scenario}
+use Rattle.run_law.specs.declared.{judgement.Why.Why, note.NoteBody.NoteBody, steps.{Act.Act, Ripe.Ripe}}
+use Rattle.run_law.specs.{records.{Frames.integration_frame, Order.IsIn}, scenario.Scenarios.Scenario}
 use Rattle.run_law.specs.scenario.Ways.{is_cut, way_from}
-use Rattle.schedule_tables.specs.Entries.{IsEntry}
-use Rattle.schedule_tables.specs.declared.entry.Entry.{Entry}
-use Rattle.sync_state.specs.declared.answers.Verdict.TheVariants as verdicts
-use Rattle.sync_state.specs.declared.answers.Verdict.{Verdict}
+use Rattle.schedule_tables.specs.{Entries.IsEntry, declared.entry.Entry.Entry}
+use Rattle.sync_state.specs.declared.{answers.Verdict.Verdict, state.State.State as Standing}
 use Rattle.sync_state.specs.declared.state.State.TheVariants.{Integrating, Joining, Synchronised}
-use Rattle.sync_state.specs.declared.state.State.{State as Standing}
 use Rattle.tte_units.specs.declared.units.Units.{Units}
-use Rattle.world_state.specs.declared.hands.AtHand.{AtHand}
-use Rattle.world_state.specs.declared.contents.Holding.{Holding}
-use Rattle.world_state.specs.declared.contents.Settled.{Settled}
-use Rattle.world_state.specs.declared.contents.Timed.TheVariants.{Made}
-use Rattle.world_state.specs.declared.outcomes.Outcomes.{Outcomes}
-use Rattle.world_law.specs.world.Outcomes.{judged_as}
-use Rattle.world_law.specs.world.World.{none_yet}
+use Rattle.world_law.specs.world.{Outcomes.judged_as, World.none_yet}
+use Rattle.world_state.specs.declared.contents.{Holding.Holding, Settled.Settled, Timed.TheVariants.Made}
+use Rattle.world_state.specs.declared.{hands.AtHand.AtHand, outcomes.Outcomes.Outcomes}
+use Rattle.run_law.specs.declared.judgement.Why.TheVariants as whys
+use Rattle.run_law.specs.declared.note.NoteBody.TheVariants as kinds
+use Rattle.run_law.specs.declared.steps.Act.TheVariants as acts
+use Rattle.run_law.specs.declared.steps.Ripe.TheVariants as ripe
+use Rattle.sync_state.specs.declared.answers.Verdict.TheVariants as verdicts
 
 -- ---- the records
 
@@ -95,7 +82,8 @@ IsHeldIn stored device vl (Some hand) = (h : Holding) × IsIn h stored × (h.dev
     × (hand ≡ record { cause = h.number; octets = h.octets })
 
 -- the frame that a device has at hand: that which it makes as the sender, or that which it holds as a switch
-pub record IsHand (stored : List Holding) (device : DeviceId) (entry : Entry) (cycle : ℕ) (hand : Option AtHand) : Type 0 where
+pub record IsHand (stored : List Holding) (device : DeviceId) (entry : Entry) (cycle : ℕ) (hand : Option AtHand) : Type
+    0 where
   pub sender : entry.vl.sender ≡ device → hand ≡ Some (record { cause = 0; octets = Made entry.row.vl cycle })
   pub held : (entry.vl.sender ≡ device → ⊥) → IsHeldIn stored device entry.row.vl hand
 
@@ -113,14 +101,16 @@ pub record IsDispatched (s : Scenario) (stored : List Holding) (now : ℕ) (devi
     (result : Option Settled) : Type 0 where
   pub hand : Option AtHand
   pub of_hand : IsHand stored device entry cycle hand
-  pub is : result ≡ option_map (dispatched_by (is_cut s entry.row.link (way_from s.network device entry.row.link) now) device entry cycle) hand
+  pub is : result ≡ option_map (dispatched_by (is_cut s entry.row.link (way_from s.network device entry.row.link) now)
+      device entry cycle) hand
 
 -- ---- an act
 
 -- the records of the act of a device that was in this state, and has this adjustment then
 abbrev pub AreOutcomes : Scenario → List Holding → ℕ → DeviceId → Standing → Units → Act → Outcomes → Type 0
 AreOutcomes s stored now device was adjustment (acts.Send frame) result = result ≡ sent_by device frame
-AreOutcomes s stored now device was adjustment (acts.Emit sent heard) result = result ≡ emitted_by s.network device sent heard
+AreOutcomes s stored now device was adjustment (acts.Emit sent heard) result =
+    result ≡ emitted_by s.network device sent heard
 AreOutcomes s stored now device was adjustment (acts.Correct cycle verdict) result =
     result ≡ corrected_by device was cycle adjustment verdict
 AreOutcomes s stored now device was adjustment (acts.Dispatch row cycle) result =

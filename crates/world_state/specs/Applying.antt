@@ -1,19 +1,13 @@
 -- What an event makes of the parts of a state.
-use Rattle.std.specs.Prelude.{◌≡◌, ◌≢◌, ℕ, ℤ, ◌<◌, ◌^◌, List, slice_get, IfSome, None, Option, Some, unwrap_or}
 use Rattle.std.specs.Option.{option_map_or}
-use Rattle.net_plan.specs.declared.event.What.TheVariants as events
-use Rattle.net_plan.specs.declared.event.What.{What}
-use Rattle.net_plan.specs.declared.ids.DeviceId.{DeviceId}
-use Rattle.net_plan.specs.declared.ids.LinkId.{LinkId}
-use Rattle.net_plan.specs.declared.network.Network.{Network}
+use Rattle.std.specs.Prelude.{◌<◌, ◌^◌, ◌≡◌, ◌≢◌, IfSome, List, None, Option, Some, slice_get, unwrap_or, ℕ, ℤ}
+use Rattle.net_plan.specs.declared.{event.What.What, ids.{DeviceId.DeviceId, LinkId.LinkId}, network.Network.Network}
 use Rattle.net_plan.specs.declared.tables.Way.{Way}
-use Rattle.run_law.specs.machines.Nodes.{Node}
-use Rattle.run_law.specs.scenario.Rates.{step_by}
-use Rattle.run_law.specs.scenario.Ways.{cut_set, hold_set, wire_set}
+use Rattle.run_law.specs.{machines.Nodes.Node, scenario.{Rates.step_by, Ways.{cut_set, hold_set, wire_set}}}
 use Rattle.sync_state.specs.declared.state.State.{State}
-use Rattle.tte_units.specs.Amount.{amount}
-use Rattle.tte_units.specs.declared.units.Units.{Units}
+use Rattle.tte_units.specs.{Amount.amount, declared.units.Units.Units}
 use Rattle.world_state.specs.declared.contents.WayState.{WayState}
+use Rattle.net_plan.specs.declared.event.What.TheVariants as events
 
 -- a device's clock after what befalls the network at a time
 abbrev pub clock_after : {C : Type 0} → (C → ℕ → ℤ → C) → DeviceId → Units → What → C → C
@@ -54,7 +48,8 @@ HasItsLink n (events.Heal link way) = link.0 < n
 HasItsLink n other = Unit {0}
 
 -- the device shows this state, by whatever its machine stands for
-abbrev pub IsShown : {M : Type 0} → (M → Network → DeviceId → Node → Type 0) → Network → List M → DeviceId → State → Type 0
+abbrev pub IsShown : {M : Type 0} → (M → Network → DeviceId → Node → Type 0) → Network → List M → DeviceId → State
+    → Type 0
 IsShown {M} stands network machines device state =
     (machine : M) (node : Node) → slice_get machines device.0 ≡ Some machine → stands machine network device node
     → state ≡ node.standing.state

@@ -1,14 +1,15 @@
 -- What a settled record says, as the body of its record.
 use Rattle.run_law.specs.declared.note.NoteBody.TheVariants as kinds
 use Rattle.run_law.specs.declared.note.NoteBody.{NoteBody}
-use Rattle.world_state.specs.declared.bodies.Kind.TheVariants as said
 use Rattle.world_state.specs.declared.bodies.Kind.{Kind}
+use Rattle.world_state.specs.declared.bodies.Kind.TheVariants as said
 
 -- the body of the record that says this
 abbrev pub body_of : Kind → NoteBody
 body_of (said.Arrived device link cause clock) = kinds.Arrived device link cause clock
 body_of (said.Permanent device link cause point verdict) = kinds.Permanent device link cause point verdict
-body_of (said.Compressed device opened at cycle members verdict) = kinds.Compressed device opened at cycle members verdict
+body_of (said.Compressed device opened at cycle members verdict) =
+    kinds.Compressed device opened at cycle members verdict
 body_of (said.Sent device cycle) = kinds.Sent device cycle
 body_of (said.Corrected device cycle by adjustment) = kinds.Corrected device cycle by adjustment
 body_of (said.State device state cause why) = kinds.State device state cause why

@@ -1,17 +1,13 @@
 -- The frames that wait at devices: each device has a queue of its own.
-use Rattle.std.specs.Prelude.{◌≡◌, ℕ, pos, ◌≤ℤ◌, List, ◌∷◌, map, flat_map, slice_get, Option, Some, None, option_map, option_and_then, IsPermutation}
 use Rattle.std.specs.Option.{option_map_or}
-use Rattle.due_queue.specs.declared.Entry.{Entry}
-use Rattle.due_queue.specs.declared.Place.{Place}
-use Rattle.due_queue.specs.Places.{first_entry}
-use Rattle.due_queue.specs.Queues.{Queue}
+use Rattle.std.specs.Prelude.{◌∷◌, ◌≡◌, ◌≤ℤ◌, IsPermutation, List, None, Option, Some, flat_map, map, option_and_then}
+use Rattle.std.specs.Prelude.{option_map, pos, slice_get, ℕ}
 use Rattle.net_plan.specs.declared.ids.DeviceId.{DeviceId}
-use Rattle.run_law.specs.declared.note.NoteBody.TheVariants as kinds
-use Rattle.run_law.specs.declared.note.NoteBody.{NoteBody}
-use Rattle.run_law.specs.records.Order.{IsBefore, IsIn}
+use Rattle.run_law.specs.{declared.note.NoteBody.NoteBody, records.Order.{IsBefore, IsIn}}
 use Rattle.tte_units.specs.Amount.{amount}
-use Rattle.world_state.specs.Ripening.{ripe_numbers}
-use Rattle.world_state.specs.declared.contents.Waits.{Waits}
+use Rattle.world_queue.specs.{Places.first_entry, Queues.Queue, declared.{Entry.Entry, Place.Place}}
+use Rattle.world_state.specs.{Ripening.ripe_numbers, declared.contents.Waits.Waits}
+use Rattle.run_law.specs.declared.note.NoteBody.TheVariants as kinds
 
 -- the frames that wait, and the queues of the devices
 pub record Waiting : Type 0 where
@@ -50,7 +46,8 @@ pub record IsQueued (device : ℕ) (e : Entry Waits) : Type 0 where
 
 -- so it is in each queue
 abbrev pub AreQueued : List (Queue Waits) → Type 0
-AreQueued queues = (k : ℕ) (q : Queue Waits) (e : Entry Waits) → slice_get queues k ≡ Some q → IsIn e q.entries → IsQueued k e
+AreQueued queues = (k : ℕ) (q : Queue Waits) (e : Entry Waits) → slice_get queues k ≡ Some q → IsIn e q.entries
+    → IsQueued k e
 
 -- it waits at the device, and none that waits there is before it
 pub record IsFirstAt (items : List Waits) (device : ℕ) (w : Waits) : Type 0 where

@@ -1,31 +1,19 @@
 -- Frames that are given to links.
-use Rattle.std.specs.Prelude.{◌≡◌, ◌⊎◌, ℕ, ◌+◌, ◌^◌, ◌<◌, ◌≤◌, pos, Bool, not, ◌&&◌, List, [], ◌∷◌, ◌++◌, Option, Some, None, option_map, option_and_then, length, slice_get, if◌then◌else◌}
-use Rattle.std.specs.List.Sorted.{IsPermutation}
-use Rattle.std.specs.Option.{option_map_or}
-use Rattle.due_queue.specs.declared.Entry.{Entry}
-use Rattle.due_queue.specs.declared.Place.{Place}
-use Rattle.net_plan.specs.declared.ids.DeviceId.{DeviceId}
-use Rattle.net_plan.specs.declared.ids.LinkId.{LinkId}
-use Rattle.net_plan.specs.declared.network.Network.{Network}
+use Rattle.std.specs.{List.Sorted.IsPermutation, Option.option_map_or}
+use Rattle.std.specs.Prelude.{if◌then◌else◌, ◌&&◌, ◌+◌, ◌<◌, ◌^◌, ◌∷◌, ◌≡◌, ◌≤◌, ◌⊎◌, Bool, List, None, Option, Some}
+use Rattle.std.specs.Prelude.{length, not, option_and_then, option_map, pos, slice_get, ℕ}
+use Rattle.net_plan.specs.declared.{ids.{DeviceId.DeviceId, LinkId.LinkId}, network.Network.Network}
 use Rattle.pcf_values.specs.declared.pcf.Pcf.{Pcf}
-use Rattle.run_law.specs.control.Leaving.{Gives}
-use Rattle.run_law.specs.control.Permanence.{waits_for}
-use Rattle.run_law.specs.control.Wires.{time_on_port, timed}
-use Rattle.run_law.specs.records.Order.{IsIn}
-use Rattle.run_law.specs.scenario.Devices.{is_parent_of}
+use Rattle.run_law.specs.control.{Leaving.Gives, Permanence.waits_for, Wires.{time_on_port, timed}}
+use Rattle.run_law.specs.{declared.note.NoteBody.NoteBody, records.Order.IsIn, scenario.Devices.is_parent_of}
 use Rattle.run_law.specs.scenario.Ways.{receiver_of, way_from}
 use Rattle.transparent_clock.specs.Points.{point_of}
 use Rattle.tte_units.specs.Amount.{amount}
-use Rattle.world_state.specs.Views.{octets_of}
-use Rattle.world_state.specs.declared.contents.Content.TheVariants.{Wire, Port}
-use Rattle.world_state.specs.declared.contents.Content.{Content}
+use Rattle.world_queue.specs.declared.{Entry.Entry, Place.Place}
+use Rattle.world_state.specs.{Views.octets_of, declared.contents.Content.{Content, TheVariants.{Port, Wire}}}
+use Rattle.world_state.specs.declared.{contents.{Timed.Timed, Waits.Waits, WayState.WayState}, giving.Giving.Giving}
 use Rattle.world_state.specs.declared.contents.Signal.TheVariants as signals
-use Rattle.world_state.specs.declared.contents.Timed.{Timed}
-use Rattle.world_state.specs.declared.contents.Waits.{Waits}
-use Rattle.world_state.specs.declared.contents.WayState.{WayState}
-use Rattle.world_state.specs.declared.giving.Giving.{Giving}
 use Rattle.run_law.specs.declared.note.NoteBody.TheVariants as kinds
-use Rattle.run_law.specs.declared.note.NoteBody.{NoteBody}
 
 -- there are so many links that what arrived came by one
 abbrev pub CameBy : ℕ → NoteBody → Type 0
@@ -91,12 +79,15 @@ abbrev pub timed_on_wire : Timed → Place → Entry Content
 timed_on_wire octets place = record { place = place; content = Wire (signals.Timed octets) }
 
 -- what the record of this number, given at the time, puts on a wire
-abbrev pub wire_entry : Network → List WayState → List WayState → NoteBody → Option Pcf → Option Timed → ℕ → ℕ → Option (Entry Content)
+abbrev pub wire_entry : Network → List WayState → List WayState → NoteBody → Option Pcf → Option Timed → ℕ → ℕ
+    → Option (Entry Content)
 wire_entry network ups downs (kinds.Left device link cause clock) frame octets time number =
-    option_and_then (λ f. option_map (control_on_wire f) (place_on_wire network ups downs device link time 0 number)) frame
+    option_and_then (λ f. option_map (control_on_wire f) (place_on_wire network ups downs device link time 0 number))
+    frame
 wire_entry network ups downs (kinds.TtSent device link cause vl cycle) frame octets time number =
     option_and_then
-    (λ o. option_map (timed_on_wire o) (place_on_wire network ups downs device link time (time_on_port network link (timed (octets_of network o))) number)) octets
+    (λ o. option_map (timed_on_wire o) (place_on_wire network ups downs device link time
+    (time_on_port network link (timed (octets_of network o))) number)) octets
 wire_entry network ups downs other frame octets time number = None
 
 -- it is put under way, where there is one
@@ -124,7 +115,8 @@ waits_from network device link clock reading number frame = record {
 -- what waits by the record of this number, at a device that is broken or not
 abbrev pub awaited_by : Network → Bool → NoteBody → Option Pcf → ℕ → ℕ → Option Waits
 awaited_by network broken (kinds.Arrived device link cause clock) frame reading number =
-    if not broken && waits_for network device link then option_map (waits_from network device link clock reading number) frame else None
+    if not broken && waits_for network device link
+    then option_map (waits_from network device link clock reading number) frame else None
 awaited_by network broken other frame reading number = None
 
 -- the device that gives the frame of a record to links, or waits for it

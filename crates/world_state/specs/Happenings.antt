@@ -1,8 +1,8 @@
 -- What befell a network, where something may come of it.
 use Rattle.net_plan.specs.declared.event.What.TheVariants as events
 use Rattle.net_plan.specs.declared.event.What.{What}
-use Rattle.world_state.specs.declared.packets.Happening.TheVariants as kept
 use Rattle.world_state.specs.declared.packets.Happening.{Happening}
+use Rattle.world_state.specs.declared.packets.Happening.TheVariants as kept
 
 -- what befell the network
 abbrev pub what_of : Happening → What

@@ -1,23 +1,15 @@
 -- What a device hears, and the record of what becomes of it.
-use Rattle.std.specs.Prelude.{◌≡◌, ℕ, ◌≤◌, List, length, Option, Some, None}
-use Rattle.due_queue.specs.declared.Place.{Place}
-use Rattle.net_plan.specs.declared.ids.DeviceId.{DeviceId}
-use Rattle.net_plan.specs.declared.ids.LinkId.{LinkId}
-use Rattle.net_plan.specs.declared.network.Network.{Network}
+use Rattle.std.specs.Prelude.{◌≡◌, ◌≤◌, List, None, Option, Some, length, ℕ}
+use Rattle.net_plan.specs.declared.{ids.{DeviceId.DeviceId, LinkId.LinkId}, network.Network.Network}
 use Rattle.pcf_values.specs.declared.pcf.Pcf.{Pcf}
-use Rattle.run_law.specs.control.Wires.{Signal, signal_of, timed}
-use Rattle.run_law.specs.declared.steps.Arrival.TheVariants as arrivals
-use Rattle.run_law.specs.declared.steps.Arrival.{Arrival}
-use Rattle.run_law.specs.declared.steps.Moment.{Moment}
-use Rattle.run_law.specs.machines.Calls.{HasLink, MayArrive, MayCall}
-use Rattle.run_law.specs.machines.Nodes.{Node, arriving}
-use Rattle.world_state.specs.Views.{octets_of}
-use Rattle.world_state.specs.declared.contents.Settled.{Settled}
-use Rattle.world_state.specs.declared.contents.Signal.TheVariants as signals
-use Rattle.world_state.specs.declared.contents.Signal.{Signal as SignalSent}
-use Rattle.world_state.specs.declared.contents.Timed.TheVariants.{Sent}
-use Rattle.world_state.specs.declared.contents.Timed.{Timed}
+use Rattle.run_law.specs.{control.Wires.{Signal, signal_of, timed}, declared.steps.{Arrival.Arrival, Moment.Moment}}
+use Rattle.run_law.specs.machines.{Calls.{HasLink, MayArrive, MayCall}, Nodes.{Node, arriving}}
 use Rattle.world_law.specs.world.Outcomes.{arrival_body}
+use Rattle.world_queue.specs.declared.Place.{Place}
+use Rattle.world_state.specs.{Views.octets_of, declared.contents.{Settled.Settled, Signal.Signal as SignalSent}}
+use Rattle.world_state.specs.declared.contents.Timed.{Timed, TheVariants.Sent}
+use Rattle.run_law.specs.declared.steps.Arrival.TheVariants as arrivals
+use Rattle.world_state.specs.declared.contents.Signal.TheVariants as signals
 
 -- a frame of these octets is on a wire as this
 pub record AreOctetsOf (signal : Signal) (octets : List ℕ) : Type 0 where
@@ -32,9 +24,11 @@ IsAsSent network (signals.Timed octets) = signal_of (octets_of network octets) �
 IsAsSent network (signals.Octets given) = Unit {0}
 
 -- what is on the wire may come to the device by the link
-pub record MayCome (signal : Signal) (moment : Moment) (link : LinkId) (network : Network) (device : DeviceId) (node : Node) : Type 0 where
+pub record MayCome (signal : Signal) (moment : Moment) (link : LinkId) (network : Network) (device : DeviceId)
+    (node : Node) : Type 0 where
   pub call : MayCall network device node moment arriving
-  pub arrives : (octets : List ℕ) → AreOctetsOf signal octets → HasLink network device → MayArrive network device link octets
+  pub arrives : (octets : List ℕ) → AreOctetsOf signal octets → HasLink network device
+      → MayArrive network device link octets
 
 -- the octets of what was on the wire, where they were those of a frame of the schedule
 abbrev pub timed_in : SignalSent → Option Timed

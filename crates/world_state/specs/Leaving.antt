@@ -1,16 +1,13 @@
 -- What becomes of a frame at a port that leaves.
-use Rattle.std.specs.Prelude.{ℕ, ◌+◌, ◌-◌, Bool, Option, Some, None, nat_lt, if◌then◌else◌}
-use Rattle.due_queue.specs.declared.Place.{Place}
+use Rattle.std.specs.Prelude.{if◌then◌else◌, ◌+◌, ◌-◌, Bool, None, Option, Some, nat_lt, ℕ}
 use Rattle.net_plan.specs.declared.network.Network.{Network}
 use Rattle.pcf_values.specs.declared.pcf.Pcf.{Pcf}
-use Rattle.run_law.specs.control.Leaving.{Departure, leaves, on_cut_way, too_old}
-use Rattle.run_law.specs.records.Happenings.{with_clock}
-use Rattle.run_law.specs.scenario.Scenarios.{Scenario, is_broken}
-use Rattle.run_law.specs.scenario.Ways.{is_cut, way_from}
+use Rattle.run_law.specs.{control.Leaving.{Departure, leaves, on_cut_way, too_old}, records.Happenings.with_clock}
+use Rattle.run_law.specs.scenario.{Scenarios.{Scenario, is_broken}, Ways.{is_cut, way_from}}
 use Rattle.tte_units.specs.Amount.{amount}
+use Rattle.world_law.specs.world.{Outcomes.departure_body, World.AtPort}
+use Rattle.world_queue.specs.declared.Place.{Place}
 use Rattle.world_state.specs.declared.contents.Settled.{Settled}
-use Rattle.world_law.specs.world.Outcomes.{departure_body}
-use Rattle.world_law.specs.world.World.{AtPort}
 
 -- what is at the port
 abbrev pub port_entry : Place → Pcf → ℕ → AtPort

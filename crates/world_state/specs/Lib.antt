@@ -13,6 +13,7 @@ pub mod Naming
 pub mod Places
 pub mod Reaching
 pub mod Ripening
+pub mod Shelves
 pub mod Sound
 pub mod Storing
 pub mod Timing

@@ -1,9 +1,8 @@
 -- The first of the frames that wait at a device and are reached.
-use Rattle.std.specs.Prelude.{◌≡◌, ℕ, Option, Some, None}
+use Rattle.std.specs.Prelude.{◌≡◌, None, Option, Some, ℕ}
 use Rattle.net_plan.specs.declared.ids.DeviceId.{DeviceId}
 use Rattle.run_law.specs.records.Order.{IsBefore, IsIn}
-use Rattle.world_state.specs.Frames.{Waiting, first_of}
-use Rattle.world_state.specs.Ripening.{IsReached, ripe_numbers}
+use Rattle.world_state.specs.{Frames.{Waiting, first_of}, Ripening.{IsReached, ripe_numbers}}
 use Rattle.world_state.specs.declared.contents.Waits.{Waits}
 
 -- it is the first of its device and reached, and no other that is reached is before it
@@ -11,7 +10,8 @@ pub record IsFirstOf (waiting : Waiting) (device : DeviceId) (reading : ℕ) (w 
   pub there : IsIn w waiting.items
   pub is : first_of waiting device.0 ≡ Some w
   pub reached : IsReached device reading w
-  pub none : (v : Waits) → IsIn v waiting.items → IsReached device reading v → IsBefore (ripe_numbers v) (ripe_numbers w) → ⊥
+  pub none : (v : Waits) → IsIn v waiting.items → IsReached device reading v
+      → IsBefore (ripe_numbers v) (ripe_numbers w) → ⊥
 
 -- it is the first that is reached; or none is
 abbrev pub IsFirstReached : Waiting → DeviceId → ℕ → Option Waits → Type 0

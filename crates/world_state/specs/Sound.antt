@@ -1,14 +1,9 @@
 -- What is under way, and how short ways are.
-use Rattle.std.specs.Prelude.{◌≡◌, ℕ, ◌<◌, ◌^◌, List, length, map}
-use Rattle.std.specs.List.{IsDistinct}
-use Rattle.std.specs.Str.{bytes_eq}
-use Rattle.due_queue.specs.declared.Entry.{Entry}
-use Rattle.due_queue.specs.Places.{numbers_of}
+use Rattle.std.specs.{List.IsDistinct, Prelude.{◌<◌, ◌^◌, ◌≡◌, List, length, map, ℕ}, Str.bytes_eq}
 use Rattle.net_plan.specs.declared.network.Network.{Network}
 use Rattle.run_law.specs.records.Order.{IsIn}
-use Rattle.world_state.specs.declared.contents.Content.TheVariants.{Wire, Port}
-use Rattle.world_state.specs.declared.contents.Content.{Content}
-use Rattle.world_state.specs.declared.contents.WayState.{WayState}
+use Rattle.world_queue.specs.{Places.numbers_of, declared.Entry.Entry}
+use Rattle.world_state.specs.declared.contents.{Content.{Content, TheVariants.{Port, Wire}}, WayState.WayState}
 
 -- the rank of what is under way
 abbrev pub rank_of : Content → ℕ

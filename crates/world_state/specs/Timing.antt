@@ -1,8 +1,8 @@
 -- When a clock reaches what a device waits for.
-use Rattle.std.specs.Prelude.{◌≡◌, ◌⊎◌, ℕ, ◌<◌, ◌≤◌, ◌^◌, pos, ◌<ℤ◌, ◌≤ℤ◌, List, Option, Some, None}
-use Rattle.due_timers.specs.Times.{never}
+use Rattle.std.specs.Prelude.{◌<ℤ◌, ◌<◌, ◌^◌, ◌≡◌, ◌≤ℤ◌, ◌≤◌, ◌⊎◌, List, None, Option, Some, pos, ℕ}
 use Rattle.run_law.specs.records.Order.{IsIn}
 use Rattle.tte_units.specs.declared.units.Units.{Units}
+use Rattle.world_timers.specs.Times.{never}
 use Rattle.world_state.specs.declared.contents.Waits.{Waits}
 
 -- the least point of the frames that wait at the device, where one does
@@ -13,7 +13,8 @@ IsLeastPoint waiting device (Some point) =
     × ((w : Waits) → IsIn w waiting → w.device.0 ≡ device → point.0 ≤ℤ w.point.0)
 
 -- from now on the clock reads so much at the time, and not before
-pub record IsReachedAt {C : Type 0} (reading : C → ℕ → ℕ) (clock : C) (now : ℕ) (value : Units) (time : ℕ) : Type 0 where
+pub record IsReachedAt {C : Type 0} (reading : C → ℕ
+    → ℕ) (clock : C) (now : ℕ) (value : Units) (time : ℕ) : Type 0 where
   pub from_now : now ≤ time
   pub true_time : time < never
   pub reached : value.0 ≤ℤ pos (reading clock time)

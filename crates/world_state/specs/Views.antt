@@ -1,25 +1,16 @@
 -- The parts of a state as the law of worlds sees them.
-use Rattle.std.specs.Prelude.{ℕ, List, [], Option, Some, None, Ok, replicate, slice_get}
-use Rattle.std.specs.Option.{option_map_or}
+use Rattle.std.specs.{Option.option_map_or, Prelude.{List, None, Ok, Option, Some, [], replicate, slice_get, ℕ}}
 use Rattle.net_plan.specs.declared.network.Network.{Network}
-use Rattle.run_law.specs.control.Wires.{Signal, control, signal_of, timed}
+use Rattle.run_law.specs.{control.Wires.{Signal, control, signal_of, timed}, records.Frames.tt_frame_by}
 use Rattle.run_law.specs.records.Happenings.{Happening}
-use Rattle.run_law.specs.records.Frames.{tt_frame_by}
 use Rattle.tte_units.specs.Amount.{units_of}
-use Rattle.due_queue.specs.declared.Entry.{Entry}
-use Rattle.due_queue.specs.declared.Place.{Place}
-use Rattle.world_state.specs.declared.contents.Befallen.{Befallen}
-use Rattle.world_state.specs.declared.contents.Content.TheVariants.{Wire, Port}
-use Rattle.world_state.specs.declared.contents.Content.{Content}
-use Rattle.world_state.specs.declared.contents.Holding.{Holding}
-use Rattle.world_state.specs.declared.contents.Settled.{Settled}
-use Rattle.world_state.specs.declared.contents.Signal.TheVariants as signals
-use Rattle.world_state.specs.declared.contents.Signal.{Signal as Sent}
-use Rattle.world_state.specs.declared.contents.Timed.TheVariants as octets
-use Rattle.world_state.specs.declared.contents.Timed.{Timed}
-use Rattle.world_state.specs.declared.contents.Waits.{Waits}
-use Rattle.world_state.specs.declared.contents.WayState.{WayState}
 use Rattle.world_law.specs.world.World.{AtPort, Befell, OnWire, Stored, Waiting, WayNow}
+use Rattle.world_queue.specs.declared.{Entry.Entry, Place.Place}
+use Rattle.world_state.specs.declared.contents.{Befallen.Befallen, Content.{Content, TheVariants.{Port, Wire}}}
+use Rattle.world_state.specs.declared.contents.{Holding.Holding, Settled.Settled, Signal.Signal as Sent, Timed.Timed}
+use Rattle.world_state.specs.declared.contents.{Waits.Waits, WayState.WayState}
+use Rattle.world_state.specs.declared.contents.Signal.TheVariants as signals
+use Rattle.world_state.specs.declared.contents.Timed.TheVariants as octets
 
 -- the octets of a frame of the schedule; zeros stand for a virtual link that the network does not have
 abbrev pub octets_of : Network → Timed → List ℕ

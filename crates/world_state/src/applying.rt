@@ -1,21 +1,16 @@
-ghost use Rattle.std.specs.Prelude.{◌≡◌, ◌*◌, ◌+◌, ◌<◌, ◌≤◌, ◌^◌, ◌||◌, Bool, pos, unsigned_abs, ◌≤ℤ◌, All, length, filter, not, slice_get, Some, ℕ, ◌≢◌, ◌++◌, map, IfSome, IfNone, OnOk, OnErr, ◌==◌, false};
 ghost use Rattle.std.specs.List.{list_any};
-ghost use Rattle.net_plan.specs.declared.ids.DeviceId.{DeviceId};
-ghost use Rattle.net_plan.specs.declared.ids.LinkId.{LinkId};
-ghost use Rattle.net_plan.specs.declared.network.Network.{Network};
-ghost use Rattle.run_law.specs.machines.Nodes.{Node};
-ghost use Rattle.run_law.specs.scenario.Hypothesis.{breaks_at};
-ghost use Rattle.run_law.specs.scenario.Scenarios.{turns_on};
-ghost use Rattle.run_law.specs.scenario.Ways.{is_way};
+ghost use Rattle.std.specs.Prelude.{◌*◌, ◌++◌, ◌+◌, ◌<◌, ◌==◌, ◌^◌, ◌||◌, ◌≡◌, ◌≢◌, ◌≤ℤ◌, ◌≤◌, All, Bool, IfNone};
+ghost use Rattle.std.specs.Prelude.{IfSome, OnErr, OnOk, Some, false, filter, length, map, not, pos, slice_get};
+ghost use Rattle.std.specs.Prelude.{unsigned_abs, ℕ};
+ghost use Rattle.net_plan.specs.declared.{ids.{DeviceId.DeviceId, LinkId.LinkId}, network.Network.Network};
+ghost use Rattle.net_plan.specs.declared.tables.Way.{Way as WayOf};
+ghost use Rattle.run_law.specs.{machines.Nodes.Node, scenario.{Hypothesis.breaks_at, Scenarios.turns_on, Ways.is_way}};
 ghost use Rattle.sync_state.specs.declared.state.State.TheVariants.{Off};
 ghost use Rattle.tte_units.specs.declared.rates.Ppb.{Ppb};
-ghost use Rattle.world_state.specs.Applying.{IsElsewhere, device_in, clock_after, way_after, HasItsLink};
-ghost use Rattle.world_state.specs.Views.{befell_as};
-ghost use Rattle.net_plan.specs.declared.tables.Way.{Way as WayOf};
-ghost use Rattle.world_state.specs.Keeping.{keeps};
-ghost use Rattle.world_state.specs.declared.contents.WayState.{WayState as WayValue};
-ghost use Rattle.world_state.specs.declared.kept.Kept.{Kept as KeptValue};
 ghost use Rattle.world_law.specs.world.Outcomes.{also_befell, befallen_node, ends_world};
+ghost use Rattle.world_state.specs.Applying.{HasItsLink, IsElsewhere, clock_after, device_in, way_after};
+ghost use Rattle.world_state.specs.{Keeping.keeps, Views.befell_as, declared.contents.WayState.WayState as WayValue};
+ghost use Rattle.world_state.specs.declared.kept.Kept.{Kept as KeptValue};
 
 use crate::OutOfMemory;
 use crate::contents::{Befallen, WayState};
@@ -145,7 +140,8 @@ pub fn befall_machines<M: Machine + Drop>(machines: &mut Vec<Kept<M>>, what: &Wh
     ensures each { (network : Network) (device : DeviceId) (machine : KeptValue M) (turned : Bool)
         → slice_get machines.old.items device.0 ≡ Some machine
         → (what.now ≡ What.Break device → turned ≡ on)
-        → (what.now ≡ What.On device → (node : Node) → keeps M.stands machine network device node → node.standing.state ≡ Off)
+        → (what.now ≡ What.On device → (node : Node) → keeps M.stands machine network device node
+        → node.standing.state ≡ Off)
         → (after : KeptValue M) × (slice_get machines.new.items device.0 ≡ Some after)
         × ((node : Node) → keeps M.stands machine network device node
         → keeps M.stands after network device (befallen_node turned what.now device node)) }
@@ -165,7 +161,8 @@ fn link_of(what: &What) -> Option<u32>
     ensures there { IfSome result (λ l. (n : ℕ) → HasItsLink n what.now → l < n) }
     ensures others { IfSome result (λ l. (link : LinkId) (way : WayOf) (was : WayValue) → link.0 ≢ l
         → way_after link way what.now was ≡ was) }
-    ensures none { IfNone result ((link : LinkId) (way : WayOf) (was : WayValue) → way_after link way what.now was ≡ was) }
+    ensures none { IfNone result ((link : LinkId) (way : WayOf) (was : WayValue)
+        → way_after link way what.now was ≡ was) }
 {
     match what {
         What::Wire(link, _, _) | What::Hold(link, _, _) => Some(link.0),
@@ -189,7 +186,8 @@ pub fn set_way(ways: &mut Vec<WayState>, way: Way, what: &What)
 
 /// Was the device that breaks turned on by what befell?
 pub fn breaks_on(befell: &[Befallen], what: &What) -> bool
-    ensures { (device : DeviceId) → what.now ≡ What.Break device → result ≡ list_any (λ b. turns_on device b.what) befell.now }
+    ensures { (device : DeviceId) → what.now ≡ What.Break device
+        → result ≡ list_any (λ b. turns_on device b.what) befell.now }
 {
     match what {
         What::Break(device) => is_turned_on(befell, *device),
@@ -203,7 +201,8 @@ pub fn keep_befallen(
     number: u64,
     what: &What,
 ) -> Result<(), OutOfMemory>
-    ensures ok { OnOk result (map befell_as befell.new.items ≡ map befell_as befell.old.items ++ also_befell number what.now) }
+    ensures ok { OnOk result (map befell_as befell.new.items ≡ map befell_as befell.old.items
+        ++ also_befell number what.now) }
     ensures err { OnErr result (befell.new.items ≡ befell.old.items) }
 {
     let alloc = *befell.allocator();

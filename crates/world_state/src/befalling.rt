@@ -10,12 +10,12 @@ use crate::contents::{Befallen, Content, Settled, Signal, WayState};
 use crate::packets::{Happened, Happening, Packet};
 use crate::sending::{frame_time, put_on};
 use crate::settled::put_some;
-use due_queue::{Entry, Place, UnderWay};
 use net_plan::{DeviceId, Link, LinkId, Network};
 use pcf_codec::is_pcf;
 use run_law::Why;
 use std::collections::VecDeque;
 use std::mem::replace;
+use world_queue::{Entry, Place, UnderWay};
 
 /// How long octets are on their port.
 fn port_time(network: &Network, link: LinkId, given: &[u8]) -> u64

@@ -72,6 +72,15 @@ pub struct Holding {
     pub octets: Timed,
 }
 
+/// A switch, and a virtual link of which it may hold a frame.
+#[derive(Clone, Copy)]
+pub struct Spot {
+    /// The switch.
+    pub device: DeviceId,
+    /// The virtual link.
+    pub vl: VlId,
+}
+
 /// An event of the present instant, by the number of its record, whose outcome is not settled.
 #[derive(Drop)]
 pub struct Befallen {

@@ -17,8 +17,7 @@ pub struct EventNote<'e> {
 }
 
 impl<'e> Model for EventNote<'e> {
-    ghost use Rattle.run_law.specs.declared.note.Note.{Note};
-    ghost use Rattle.run_law.specs.declared.note.NoteBody.TheVariants.{Event as Befalls};
+    ghost use Rattle.run_law.specs.declared.note.{Note.Note, NoteBody.TheVariants.Event as Befalls};
 
     ghost Value = { Note };
 

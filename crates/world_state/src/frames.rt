@@ -1,12 +1,13 @@
-ghost use Rattle.std.specs.Prelude.{◌≡◌, ◌∷◌, [], ◌<◌, ◌≤ℤ◌, pos, true, is_some, not, filter, option_copied, IfSome, IsNone, OnOk, IsPermutation, MatchOption, ◌==◌, length};
+ghost use Rattle.std.specs.Prelude.{◌<◌, ◌==◌, ◌∷◌, ◌≡◌, ◌≤ℤ◌, IfSome, IsNone, IsPermutation, MatchOption, OnOk, []};
+ghost use Rattle.std.specs.Prelude.{filter, is_some, length, not, option_copied, pos, true};
 ghost use Rattle.run_law.specs.scenario.Hypothesis.{breaks_at};
 ghost use Rattle.world_state.specs.Frames.{IsFirstAt, NoneAt, first_of, queue_place, room_of};
 
 use crate::contents::Waits;
-use due_queue::{Place, UnderWay};
 use net_plan::DeviceId;
 use std::alloc::{AllocError, Global};
 use std::marker::Model;
+use world_queue::{Place, UnderWay};
 
 /// The frames that wait for their permanence: those of each device in a queue of its own, in the order in which they
 /// are permanent.
@@ -85,7 +86,8 @@ impl Frames {
     /// The first of the frames that wait at the device.
     pub fn first(&self, device: DeviceId) -> Option<&Waits>
         ensures is { option_copied result ≡ first_of self.now device.0 }
-        ensures first { MatchOption (first_of self.now device.0) (NoneAt self.now.items device.0) (IsFirstAt self.now.items device.0) }
+        ensures first { MatchOption (first_of self.now device.0) (NoneAt self.now.items device.0)
+            (IsFirstAt self.now.items device.0) }
     {
         match self.queues.get(device.0 as usize) {
             Some(queue) => queue.peek(),

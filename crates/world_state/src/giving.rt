@@ -1,21 +1,20 @@
-ghost use Rattle.std.specs.Prelude.{◌≡◌, ◌<◌, ◌↔◌, length, IsTrue, ◌≤◌, ◌^◌, ◌+◌, All, Some, IfSome, IfNone, OnOk, vec_len, vec_capacity};
-ghost use Rattle.net_plan.specs.Ranges.{IsInRange};
+ghost use Rattle.std.specs.Prelude.{◌+◌, ◌<◌, ◌^◌, ◌↔◌, ◌≡◌, ◌≤◌, All, IfNone, IfSome, IsTrue, OnOk, Some, length};
+ghost use Rattle.net_plan.specs.{Ranges.IsInRange, Rules.IsChildOf};
+ghost use Rattle.run_law.specs.{control.Leaving.{Gives, Passes}, scenario.Devices.{IsParentOf, is_relay}};
 ghost use Rattle.tte_units.specs.Amount.{amount};
-ghost use Rattle.net_plan.specs.Rules.{IsChildOf};
-ghost use Rattle.world_state.specs.Sound.{AreBelow, AreUnderWay};
-ghost use Rattle.world_state.specs.Giving.{ArePutTo, CameBy, IsYoung, awaited_by, place_at_port};
 ghost use Rattle.world_state.specs.Frames.{IsOneMore, room_of, waiter_of};
-ghost use Rattle.run_law.specs.control.Leaving.{Gives, Passes};
-ghost use Rattle.run_law.specs.scenario.Devices.{IsParentOf, is_relay};
+ghost use Rattle.world_state.specs.{Giving.{ArePutTo, CameBy, IsYoung, awaited_by, place_at_port}, Shelves.HasPlace};
+ghost use Rattle.world_state.specs.Sound.{AreBelow, AreUnderWay};
 
 use crate::OutOfMemory;
 use crate::bodies::{Body, Kind};
-use crate::contents::{Content, Holding, WayState};
+use crate::contents::{Content, Spot, WayState};
 use crate::frames::Frames;
+use crate::shelves::Shelves;
 use crate::waiting::{awaited, wait_for};
-use due_queue::{Place, UnderWay};
 use net_plan::{DeviceId, LinkId, Network, Role};
 use pcf_values::Pcf;
+use world_queue::{Place, UnderWay};
 
 /// Does the link lead from the device up to its parent?
 fn is_child(network: &Network, device: DeviceId, link: LinkId) -> bool
@@ -149,7 +148,8 @@ pub fn put_ports(
     ensures sound { AreBelow giving.now.number under_way.old.entries → AreUnderWay network.now under_way.old.entries
         → AreUnderWay network.now under_way.new.entries }
     ensures room { under_way.old.room ≤ under_way.new.room + length network.now.link }
-    ensures put { ArePutTo (length network.now.link) network.now ups.now downs.now body.now giving.now under_way.old.entries under_way.new.entries }
+    ensures put { ArePutTo (length network.now.link) network.now ups.now downs.now body.now giving.now
+        under_way.old.entries under_way.new.entries }
 {
     for index in 0..network.link.as_slice().len() {
         let link = LinkId(index as u32);
@@ -182,12 +182,14 @@ pub fn give_frame(
     requires time { IfSome giving (λ g. g.time ≤ 2 ^ 60) }
     requires device { IfSome giving (λ g. g.device.0 < length network.now.device) }
     requires low { IfSome giving (λ g. g.reading ≤ 2 ^ 60 + 2 ^ 51) }
-    ensures sound { IfSome giving (λ g. AreBelow g.number under_way.old.entries → AreUnderWay network.now under_way.old.entries
+    ensures sound { IfSome giving (λ g. AreBelow g.number under_way.old.entries
+        → AreUnderWay network.now under_way.old.entries
         → AreUnderWay network.now under_way.new.entries) }
     ensures room { under_way.old.room ≤ under_way.new.room + length network.now.link }
     ensures put { IfSome giving (λ g. ArePutTo (length network.now.link) network.now ups.now downs.now body.now g
         under_way.old.entries under_way.new.entries) }
-    ensures waits { IfSome giving (λ g. IsOneMore (awaited_by network.now g.broken body.now (Some g.frame) g.reading g.number)
+    ensures waits { IfSome giving (λ g. IsOneMore
+        (awaited_by network.now g.broken body.now (Some g.frame) g.reading g.number)
         waiting.old.items waiting.new.items) }
     ensures none { IfNone giving (under_way.new.entries ≡ under_way.old.entries) }
     ensures no_wait { IfNone giving (waiting.new.items ≡ waiting.old.items) }
@@ -210,9 +212,10 @@ pub fn give_frame(
 pub fn make_room(
     under_way: &mut UnderWay<Content>,
     waiting: &mut Frames,
-    stored: &mut Vec<Holding>,
+    stored: &mut Shelves,
     network: &Network,
     waiter: Option<DeviceId>,
+    taker: Option<Spot>,
 ) -> Result<(), OutOfMemory>
     requires few { length network.now.link < 2 ^ 32 }
     ensures entries { under_way.new.entries ≡ under_way.old.entries }
@@ -220,12 +223,14 @@ pub fn make_room(
     ensures stored { stored.new.items ≡ stored.old.items }
     ensures room { OnOk result (length network.now.link < under_way.new.room) }
     ensures capacity { OnOk result (IfSome waiter (λ d. 0 < room_of waiting.new d.0)) }
-    ensures free { OnOk result (vec_len stored.new < vec_capacity stored.new) }
+    ensures place { OnOk result (IfSome taker (HasPlace stored.new)) }
 {
     under_way.reserve(network.link.as_slice().len() + 1)?;
     if let Some(device) = waiter {
         waiting.reserve(device)?;
     }
-    stored.reserve(1)?;
+    if let Some(spot) = taker {
+        stored.reserve(spot)?;
+    }
     Ok(())
 }

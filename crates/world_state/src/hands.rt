@@ -2,10 +2,11 @@ ghost use Rattle.std.specs.Prelude.{◌≡◌, ◌≤◌, ◌<◌, ◌-◌, Some
 ghost use Rattle.world_state.specs.Acting.{IsHand, IsHeldIn, dispatched_by};
 
 use crate::bodies::{Body, Kind};
-use crate::contents::{Holding, Settled, Timed};
+use crate::contents::{Settled, Spot, Timed};
 use crate::outcomes::bare;
 use crate::packets::Packet;
-use net_plan::{DeviceId, VlId};
+use crate::shelves::Shelves;
+use net_plan::DeviceId;
 use schedule_tables::Entry;
 
 /// The frame of a row that a device has at hand, and the number of the record by which a switch took it, or 0 at its
@@ -30,30 +31,29 @@ fn copied(octets: &Timed, room: &mut Vec<u8>) -> Timed
 }
 
 /// The frame of the virtual link that the switch holds.
-fn held(stored: &[Holding], device: DeviceId, vl: VlId, room: &mut Vec<u8>) -> Option<AtHand>
+fn held(stored: &Shelves, spot: Spot, room: &mut Vec<u8>) -> Option<AtHand>
     requires { 1514 ≤ vec_capacity room.old }
-    ensures { IsHeldIn stored.now device vl result }
+    ensures { IsHeldIn stored.now.items spot.device spot.vl result }
 {
-    let index = stored
-        .iter()
-        .position(|holding| holding.device == device && holding.vl == vl)?;
-    let holding = &stored[index];
-    Some(AtHand {
-        cause: holding.number,
-        octets: copied(&holding.octets, room),
-    })
+    match stored.get(spot) {
+        Some(holding) => Some(AtHand {
+            cause: holding.number,
+            octets: copied(&holding.octets, room),
+        }),
+        None => None,
+    }
 }
 
 /// The frame that the device has at hand.
 pub fn at_hand(
-    stored: &[Holding],
+    stored: &Shelves,
     device: DeviceId,
     entry: &Entry,
     cycle: u32,
     room: &mut Vec<u8>,
 ) -> Option<AtHand>
     requires { 1514 ≤ vec_capacity room.old }
-    ensures { IsHand stored.now device entry.now cycle result }
+    ensures { IsHand stored.now.items device entry.now cycle result }
 {
     if entry.vl.sender == device {
         return Some(AtHand {
@@ -61,7 +61,8 @@ pub fn at_hand(
             octets: Timed::Made(entry.row.vl, cycle),
         });
     }
-    held(stored, device, entry.row.vl, room)
+    let vl = entry.row.vl;
+    held(stored, Spot { device, vl }, room)
 }
 
 /// The record of its dispatch, where its way is cut or not.

@@ -1,34 +1,30 @@
-ghost use Rattle.std.specs.Prelude.{◌≡◌, ◌∷◌, ◌+◌, ◌<◌, List, ℕ, IsPermutation};
-ghost use Rattle.due_queue.specs.Places.{IsFirst};
-ghost use Rattle.net_plan.specs.Ranges.{IsInRange};
+ghost use Rattle.std.specs.Prelude.{◌+◌, ◌<◌, ◌∷◌, ◌≡◌, IsPermutation, List, ℕ};
+ghost use Rattle.net_plan.specs.{Ranges.IsInRange, declared.ids.DeviceId.DeviceId as DeviceOf};
 ghost use Rattle.net_plan.specs.declared.network.Network.{Network as NetworkValue};
-ghost use Rattle.net_plan.specs.declared.ids.DeviceId.{DeviceId as DeviceOf};
-ghost use Rattle.run_law.specs.machines.Calls.{StandsFor};
+ghost use Rattle.run_law.specs.{control.Wires.{signal_of, timed}, machines.Calls.StandsFor};
+ghost use Rattle.world_law.specs.world.{Calls.HasHeard, Outcomes.arrival_body};
+ghost use Rattle.world_queue.specs.Places.{IsFirst};
 ghost use Rattle.world_state.specs.Bodies.{body_of};
 ghost use Rattle.world_state.specs.Hearing.{AreOctetsOf, IsAsSent, MayCome, arrived, frame_kept, octets_kept, timed_in};
-ghost use Rattle.world_state.specs.Keeping.{keeps};
-ghost use Rattle.world_state.specs.Sound.{AreUnderWay, rank_of};
-ghost use Rattle.run_law.specs.control.Wires.{signal_of, timed};
-ghost use Rattle.world_state.specs.Views.{octets_of, signal_as};
-ghost use Rattle.world_law.specs.world.Calls.{HasHeard};
-ghost use Rattle.world_law.specs.world.Outcomes.{arrival_body};
+ghost use Rattle.world_state.specs.{Keeping.keeps, Sound.{AreUnderWay, rank_of}, Views.{octets_of, signal_as}};
 
 use crate::bodies::{Body, Kind};
 use crate::contents::{Content, Settled, Signal, Timed};
 use crate::kept::Kept;
-use due_queue::{Place, UnderWay};
 use made_frames::MadeFrame;
 use net_plan::{DeviceId, LinkId, Network};
 use pcf_codec::{PCF_LENGTH, encode};
 use pcf_values::Pcf;
 use run_law::{Arrival, Machine, Moment};
+use world_queue::{Place, UnderWay};
 
 /// Takes out what is on a wire and the first of all that is under way.
 pub fn take_wire(under_way: &mut UnderWay<Content>, place: Place) -> Signal
     requires first { IsFirst under_way.old.entries place }
     requires sound { (network : NetworkValue) × AreUnderWay network under_way.old.entries }
     requires wire { place.rank ≡ 2 }
-    ensures { IsPermutation under_way.old.entries (record { place = place; content = Content.Wire result } ∷ under_way.new.entries) }
+    ensures { IsPermutation under_way.old.entries (record { place = place; content = Content.Wire result }
+        ∷ under_way.new.entries) }
 {
     let Some(first) = under_way.take_first() else {
         unreachable!()
@@ -60,7 +56,8 @@ fn hear_timed<M: Machine + Drop>(
     requires may { StandsFor (keeps M.stands) kept.old (MayCome (timed (octets_of network.now frame.now)) moment link) }
     requires as_sent { signal_of (octets_of network.now frame.now) ≡ timed (octets_of network.now frame.now) }
     ensures { (octets : List ℕ) × AreOctetsOf (timed (octets_of network.now frame.now)) octets
-        × ((other : NetworkValue) (device : DeviceOf) → HasHeard (keeps M.stands) other device moment link octets result kept.old kept.new) }
+        × ((other : NetworkValue) (device : DeviceOf)
+        → HasHeard (keeps M.stands) other device moment link octets result kept.old kept.new) }
 {
     match frame {
         Timed::Made(vl, cycle) => {
@@ -84,7 +81,8 @@ pub fn hear_signal<M: Machine + Drop>(
     requires may { StandsFor (keeps M.stands) kept.old (MayCome (signal_as network.now signal.now) moment link) }
     requires as_sent { IsAsSent network.now signal.now }
     ensures { (octets : List ℕ) × AreOctetsOf (signal_as network.now signal.now) octets
-        × ((other : NetworkValue) (device : DeviceOf) → HasHeard (keeps M.stands) other device moment link octets result kept.old kept.new) }
+        × ((other : NetworkValue) (device : DeviceOf)
+        → HasHeard (keeps M.stands) other device moment link octets result kept.old kept.new) }
 {
     match signal {
         Signal::Control(frame) => {

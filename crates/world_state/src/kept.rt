@@ -1,14 +1,10 @@
-ghost use Rattle.std.specs.Prelude.{◌≡◌, Bool, true, map, IfOk, IfSome, IfNone};
-ghost use Rattle.net_plan.specs.declared.ids.DeviceId.{DeviceId};
+ghost use Rattle.std.specs.Prelude.{◌≡◌, Bool, IfNone, IfOk, IfSome, map, true};
+ghost use Rattle.net_plan.specs.declared.{event.What.TheVariants.{Break, On}, ids.DeviceId.DeviceId};
 ghost use Rattle.net_plan.specs.declared.network.Network.{Network};
-ghost use Rattle.net_plan.specs.declared.event.What.TheVariants.{On, Break};
-ghost use Rattle.run_law.specs.machines.Calls.{MayAct, MayHear, StandsFor};
-ghost use Rattle.run_law.specs.machines.Nodes.{Node};
-ghost use Rattle.run_law.specs.machines.Tasks.{IsDueReading};
+ghost use Rattle.run_law.specs.machines.{Calls.{MayAct, MayHear, StandsFor}, Nodes.Node, Tasks.IsDueReading};
 ghost use Rattle.sync_state.specs.declared.state.State.TheVariants.{Off};
+ghost use Rattle.world_law.specs.world.{Calls.{HasActed, HasHeard, IsStateOf}, Outcomes.befallen_node};
 ghost use Rattle.world_state.specs.Keeping.{keeps, sound_one};
-ghost use Rattle.world_law.specs.world.Calls.{HasActed, HasHeard, IsStateOf};
-ghost use Rattle.world_law.specs.world.Outcomes.{befallen_node};
 
 use crate::OutOfMemory;
 use net_plan::LinkId;
@@ -96,8 +92,10 @@ impl<M: Machine + Drop> Kept<M> {
 
     /// An event turns the device on, which is off, unless it is broken.
     pub fn turn_on(&mut self)
-        ensures { (network : Network) (device : DeviceId) (node : Node) (on : Bool) → keeps M.stands self.old network device node
-            → node.standing.state ≡ Off → keeps M.stands self.new network device (befallen_node on (On device) device node) }
+        ensures { (network : Network) (device : DeviceId) (node : Node) (on : Bool)
+            → keeps M.stands self.old network device node
+            → node.standing.state ≡ Off → keeps M.stands self.new network device
+            (befallen_node on (On device) device node) }
     {
         if let Kept::Sound(machine) = self {
             machine.turn_on();
@@ -106,8 +104,10 @@ impl<M: Machine + Drop> Kept<M> {
 
     /// A frame of these octets, 60 to 1,514, comes to the device by a link. One that is broken drops it.
     pub fn hear(&mut self, moment: Moment, link: LinkId, octets: &[u8]) -> Arrival
-        requires { StandsFor (keeps M.stands) self.old (λ network device node. MayHear network device node moment link octets.now) }
-        ensures { (network : Network) (device : DeviceId) → HasHeard (keeps M.stands) network device moment link octets.now result self.old self.new }
+        requires { StandsFor (keeps M.stands) self.old (λ network device node.
+            MayHear network device node moment link octets.now) }
+        ensures { (network : Network) (device : DeviceId)
+            → HasHeard (keeps M.stands) network device moment link octets.now result self.old self.new }
     {
         match self {
             Kept::Sound(machine) => machine.hear(moment, link, octets),

@@ -1,19 +1,15 @@
-ghost use Rattle.std.specs.Prelude.{◌≡◌, ◌∷◌, ◌<◌, length, IsPermutation, None};
-ghost use Rattle.due_queue.specs.Places.{IsFirst};
-ghost use Rattle.net_plan.specs.Ranges.{IsInRange};
-ghost use Rattle.net_plan.specs.declared.network.Network.{Network as NetworkValue};
-ghost use Rattle.run_law.specs.scenario.Devices.{is_parent_of};
-ghost use Rattle.run_law.specs.records.Happenings.{with_clock};
-ghost use Rattle.world_state.specs.Bodies.{body_of};
-ghost use Rattle.world_state.specs.Leaving.{departed, port_entry};
-ghost use Rattle.world_state.specs.Sound.{AreUnderWay, rank_of};
+ghost use Rattle.std.specs.Prelude.{◌<◌, ◌∷◌, ◌≡◌, IsPermutation, None, length};
+ghost use Rattle.net_plan.specs.{Ranges.IsInRange, declared.network.Network.Network as NetworkValue};
+ghost use Rattle.run_law.specs.{records.Happenings.with_clock, scenario.Devices.is_parent_of};
+ghost use Rattle.world_queue.specs.Places.{IsFirst};
+ghost use Rattle.world_state.specs.{Bodies.body_of, Leaving.{departed, port_entry}, Sound.{AreUnderWay, rank_of}};
 
 use crate::bodies::{Body, Kind};
 use crate::contents::{Content, Settled};
-use due_queue::{Place, UnderWay};
 use net_plan::{DeviceId, LinkId, Network};
 use pcf_values::Pcf;
 use run_law::Reason;
+use world_queue::{Place, UnderWay};
 
 /// Takes the frame out that is at a port, and the first of all that is under way; and what its device's clock read
 /// when it gave the frame to the link.

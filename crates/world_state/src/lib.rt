@@ -21,6 +21,7 @@ pub mod reached;
 pub mod ripening;
 pub mod sending;
 pub mod settled;
+pub mod shelves;
 pub mod storing;
 pub mod timing;
 pub mod waiting;

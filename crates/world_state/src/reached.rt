@@ -1,6 +1,5 @@
-ghost use Rattle.std.specs.Prelude.{IsTrue, ◌↔◌};
-ghost use Rattle.world_state.specs.Ripening.{IsReached};
-ghost use Rattle.world_state.specs.Reaching.{IsFirstReached};
+ghost use Rattle.std.specs.Prelude.{◌↔◌, IsTrue};
+ghost use Rattle.world_state.specs.{Reaching.IsFirstReached, Ripening.IsReached};
 
 use crate::contents::Waits;
 use crate::frames::Frames;

@@ -1,13 +1,9 @@
-ghost use Rattle.std.specs.Prelude.{◌≡◌, ◌+◌, ◌≤◌, ◌<◌, Some};
-ghost use Rattle.std.specs.VecDeque.{deque_capacity, deque_len};
-ghost use Rattle.net_plan.specs.declared.ids.DeviceId.{DeviceId as DeviceOf};
-ghost use Rattle.net_plan.specs.declared.network.Network.{Network as NetworkValue};
+ghost use Rattle.std.specs.{Prelude.{◌+◌, ◌<◌, ◌≡◌, ◌≤◌, Some}, VecDeque.{deque_capacity, deque_len}};
+ghost use Rattle.net_plan.specs.declared.{ids.DeviceId.DeviceId as DeviceOf, network.Network.Network as NetworkValue};
 ghost use Rattle.run_law.specs.machines.Answers.{IsPermanenceOutcomeAt, after_permanence, called};
 ghost use Rattle.run_law.specs.machines.Calls.{IsHearing, MayCall, MayRipen, MayTake, StandsFor};
-ghost use Rattle.run_law.specs.machines.Nodes.{Node, ripening};
-ghost use Rattle.run_law.specs.scenario.Devices.{channel_of_link};
-ghost use Rattle.world_state.specs.Keeping.{keeps};
-ghost use Rattle.world_state.specs.Ripening.{AreSettledSo, joined_record, judged_so, ripe_record};
+ghost use Rattle.run_law.specs.{machines.Nodes.{Node, ripening}, scenario.Devices.channel_of_link};
+ghost use Rattle.world_state.specs.{Keeping.keeps, Ripening.{AreSettledSo, joined_record, judged_so, ripe_record}};
 
 use crate::bodies::{Body, Kind};
 use crate::contents::{Settled, Waits};
@@ -25,7 +21,8 @@ impl<M: Machine + Drop> Kept<M> {
     pub fn ripen(&mut self, moment: Moment, link: LinkId, frame: &Pcf, point: Units) -> Ripe
         requires { StandsFor (keeps M.stands) self.old
             (λ network device node. MayTake network device node moment link frame.now point) }
-        ensures { (network : NetworkValue) (device : DeviceOf) (node : Node) → keeps M.stands self.old network device node
+        ensures { (network : NetworkValue) (device : DeviceOf) (node : Node)
+            → keeps M.stands self.old network device node
             → MayCall network device node moment ripening → IsHearing network device node
             → MayRipen network device node moment link frame.now point
             → IsPermanenceOutcomeAt network device node frame.now point result

@@ -1,16 +1,15 @@
-ghost use Rattle.std.specs.Prelude.{List, ℕ, ◌≡◌, ◌<◌, ◌≤◌, ◌^◌, ◌+◌, length, All};
+ghost use Rattle.std.specs.Prelude.{◌+◌, ◌<◌, ◌^◌, ◌≡◌, ◌≤◌, All, List, length, ℕ};
 ghost use Rattle.net_plan.specs.Ranges.{IsInRange};
 ghost use Rattle.run_law.specs.control.Wires.{time_on_port, timed};
-ghost use Rattle.world_state.specs.Giving.{IsPutOn, place_on_wire, wire_entry};
-ghost use Rattle.world_state.specs.Views.{octets_of};
+ghost use Rattle.world_state.specs.{Giving.{IsPutOn, place_on_wire, wire_entry}, Views.octets_of};
 
 use crate::bodies::{Body, Kind};
 use crate::contents::{Content, Signal, Timed, WayState};
 use crate::leaving::is_parent;
-use due_queue::{Entry, Place, UnderWay};
 use net_plan::{DeviceId, LinkId, Network};
 use pcf_values::Pcf;
 use tte_units::octets;
+use world_queue::{Entry, Place, UnderWay};
 
 /// How many octets a frame of the schedule has.
 fn octet_count(network: &Network, timed: &Timed) -> u32
@@ -77,7 +76,8 @@ fn wire_place(
     requires down_delays { All (λ w. w.delay < 2 ^ 62) downs.now }
     requires time { sending.time ≤ 2 ^ 60 }
     requires port { sending.on_port ≤ 2 ^ 40 }
-    ensures { result ≡ place_on_wire network.now ups.now downs.now sending.device sending.link sending.time sending.on_port sending.number }
+    ensures { result ≡ place_on_wire network.now ups.now downs.now sending.device sending.link sending.time
+        sending.on_port sending.number }
 {
     let link = sending.link;
     let index = link.0 as usize;

@@ -3,9 +3,9 @@ ghost use Rattle.world_state.specs.Timing.{IsLeastPoint, IsTimeFor};
 
 use crate::frames::Frames;
 use drift_clock::Clock;
-use due_timers::NEVER;
 use net_plan::DeviceId;
 use tte_units::Units;
+use world_timers::NEVER;
 
 /// More than any clock reads in a run.
 const GREATEST: Units = Units(1 << 61);

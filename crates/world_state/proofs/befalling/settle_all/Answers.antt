@@ -1,5 +1,4 @@
-use Rattle.std.proofs.Common.{◌∙◌, arith}
-use Rattle.std.proofs.lemmas.List.{get_or-set_other, length-set}
+use Rattle.std.proofs.{Common.{◌∙◌, arith}, lemmas.List.{get_or-set_other, length-set}}
 use Rattle.world_state.proofs.Befallings.{loop_step}
 use Rattle.world_state.proofs.befalling.settle_all.Goals as goal
 

@@ -1,7 +1,5 @@
-use Rattle.std.proofs.Common.{◌≡◌, ◌+◌, ◌≤◌, ℕ, get_or, length, take}
-use Rattle.std.specs.VecDeque.{deque_capacity, deque_len}
-use Rattle.world_state.specs.Befalling.{AreSettledBy}
-use Rattle.world_state.specs.declared.contents.Befallen.{Befallen}
+use Rattle.std.{proofs.Common.{◌+◌, ◌≡◌, ◌≤◌, get_or, length, take, ℕ}, specs.VecDeque.{deque_capacity, deque_len}}
+use Rattle.world_state.specs.{Befalling.AreSettledBy, declared.contents.Befallen.Befallen}
 use Rattle.world_state.proofs.befalling.settle_all.Given as goal
 
 abbrev pub invariant-loop-index : goal.invariant-loop-index

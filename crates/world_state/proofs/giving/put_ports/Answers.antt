@@ -1,15 +1,8 @@
-use Rattle.std.proofs.Common.{◌+◌, ◌∷◌, refl, rules, ap, arith, subst, sym, ◌∙◌}
-use Rattle.std.proofs.lemmas.Bool.{both_ways}
-use Rattle.due_queue.specs.declared.Entry.{Entry}
-use Rattle.due_queue.specs.declared.Place.{Place}
-use Rattle.world_state.proofs.PutTo.{apart_from, more_put, none_put}
-use Rattle.world_state.proofs.UnderWays.{sound_with}
-use Rattle.std.specs.List.Sorted.{IsPermutation}
-use Rattle.world_state.specs.Giving.{ArePutTo, entry_at_port, place_at_port}
-use Rattle.world_state.specs.Sound.{AreUnderWay}
-use Rattle.world_state.specs.declared.contents.Content.{Content}
+use Rattle.std.{proofs.{Common.{◌+◌, ◌∙◌, ◌∷◌, ap, arith, refl, rules, subst, sym}, lemmas.Bool.both_ways}, specs.List.Sorted.IsPermutation}
+use Rattle.world_queue.specs.declared.{Entry.Entry, Place.Place}
+use Rattle.world_state.proofs.{PutTo.{apart_from, more_put, none_put}, UnderWays.sound_with, giving.put_ports.Goals.{else-gives, then-gives}}
+use Rattle.world_state.specs.{Giving.{ArePutTo, entry_at_port, place_at_port}, Sound.AreUnderWay, declared.contents.Content.Content}
 use Rattle.world_state.proofs.giving.put_ports.Goals as goal
-use Rattle.world_state.proofs.giving.put_ports.Goals.{then-gives, else-gives}
 
 pub loop-index-preserved : goal.loop-index-preserved
 loop-index-preserved c =

@@ -1,12 +1,7 @@
-use Rattle.std.proofs.Common.{◌≡◌, subst, sym, ◌∙◌}
-use Rattle.run_law.specs.control.Wires.{signal_of, timed}
-use Rattle.run_law.specs.machines.Calls.{StandsFor}
-use Rattle.world_state.specs.Hearing.{AreOctetsOf, MayCome}
-use Rattle.world_state.specs.Keeping.{keeps}
-use Rattle.world_state.specs.Views.{octets_of}
-use Rattle.world_state.specs.declared.contents.Timed.TheVariants.{Made}
-use Rattle.world_state.specs.declared.contents.Timed.{Timed}
-use Rattle.world_state.proofs.Hearings.{made_are, may_hear, sent_octets}
+use Rattle.std.proofs.Common.{◌∙◌, ◌≡◌, subst, sym}
+use Rattle.run_law.specs.{control.Wires.{signal_of, timed}, machines.Calls.StandsFor}
+use Rattle.world_state.{proofs.Hearings.{made_are, may_hear, sent_octets}, specs.{Hearing.{AreOctetsOf, MayCome}, Keeping.keeps, Views.octets_of}}
+use Rattle.world_state.specs.declared.contents.Timed.{Timed, TheVariants.Made}
 use Rattle.world_state.proofs.hearing.hear_timed.Goals as goal
 
 pub hear-requires : goal.hear-requires

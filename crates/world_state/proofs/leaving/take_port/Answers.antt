@@ -1,7 +1,5 @@
-use Rattle.std.proofs.Common.{◌∙◌, ap, inl, refl, sym}
-use Rattle.std.proofs.lemmas.List.Sorted.{IsPermutation-sym}
-use Rattle.due_queue.proofs.Bags.{in_permuted}
-use Rattle.due_queue.specs.declared.Place.{Place}
+use Rattle.std.proofs.{Common.{◌∙◌, ap, inl, refl, sym}, lemmas.List.Sorted.IsPermutation-sym}
+use Rattle.world_queue.{proofs.Bags.in_permuted, specs.declared.Place.Place}
 use Rattle.world_state.proofs.Firsts.{in_words, one_first}
 use Rattle.world_state.proofs.leaving.take_port.Goals as goal
 

@@ -1,7 +1,5 @@
 use Rattle.std.proofs.Common.{◌<◌, arith, length}
-use Rattle.world_state.proofs.Leading.{none_named}
-use Rattle.world_state.proofs.Mapped.{mapped_more, part_mapped}
-use Rattle.world_state.specs.Naming.{named_settled}
+use Rattle.world_state.{proofs.{Leading.none_named, Mapped.{mapped_more, part_mapped}}, specs.Naming.named_settled}
 use Rattle.world_state.proofs.naming.name_followers.Goals as goal
 
 pub loop-index-preserved : goal.loop-index-preserved

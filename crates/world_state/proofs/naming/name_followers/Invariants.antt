@@ -1,4 +1,4 @@
-use Rattle.std.proofs.Common.{◌≡◌, ◌-◌, ◌≤◌, ◌++◌, drop, length, map, take}
+use Rattle.std.proofs.Common.{◌++◌, ◌-◌, ◌≡◌, ◌≤◌, drop, length, map, take}
 use Rattle.world_state.specs.Naming.{named_settled}
 use Rattle.world_state.proofs.naming.name_followers.Given as goal
 

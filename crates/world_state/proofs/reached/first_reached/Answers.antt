@@ -1,10 +1,5 @@
-use Rattle.std.proofs.Common.{◌≡◌, Option, None, subst, sym, ap, ◌∙◌}
-use Rattle.std.specs.Option.{option_copied}
-use Rattle.std.specs.Prelude.{MatchOption}
-use Rattle.std.proofs.lemmas.Bool.{both_ways}
-use Rattle.world_state.proofs.Queues.{none_reached}
-use Rattle.world_state.specs.Frames.{IsFirstAt, NoneAt, first_of}
-use Rattle.world_state.specs.declared.contents.Waits.{Waits}
+use Rattle.std.{proofs.{Common.{◌∙◌, ◌≡◌, None, Option, ap, subst, sym}, lemmas.Bool.both_ways}, specs.{Option.option_copied, Prelude.MatchOption}}
+use Rattle.world_state.{proofs.Queues.none_reached, specs.{Frames.{IsFirstAt, NoneAt, first_of}, declared.contents.Waits.Waits}}
 use Rattle.world_state.proofs.reached.first_reached.Goals as goal
 
 pub returns-else-is_reached : goal.returns-else-is_reached

@@ -1,8 +1,5 @@
-use Rattle.std.proofs.Common.{Option, Some, subst, sym, ◌∙◌}
-use Rattle.std.specs.Prelude.{MatchOption}
-use Rattle.world_state.proofs.Queues.{least_is}
-use Rattle.world_state.specs.Frames.{IsFirstAt, NoneAt}
-use Rattle.world_state.specs.declared.contents.Waits.{Waits}
+use Rattle.std.{proofs.Common.{Option, subst, sym}, specs.Prelude.MatchOption}
+use Rattle.world_state.{proofs.Queues.least_is, specs.{Frames.{IsFirstAt, NoneAt}, declared.contents.Waits.Waits}}
 use Rattle.world_state.proofs.timing.least_point.Goals as goal
 
 pub returns-in-Some : goal.returns-in-Some

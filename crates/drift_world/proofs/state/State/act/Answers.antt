@@ -1,25 +1,10 @@
-use Rattle.std.proofs.Common.{ap, subst, sym, ◌≡◌, ◌∙◌, pos, ℕ, List, Result, Ok, Err, arith, length, ◌<◌}
-use Rattle.std.specs.Prelude.{IfOk, OnErr}
-use Rattle.net_plan.specs.declared.ids.DeviceId.{DeviceId}
-use Rattle.net_plan.specs.declared.network.Network.{Network}
-use Rattle.run_law.specs.declared.note.Note.{Note}
+use Rattle.drift_world.proofs.Words.{◌<◌, ◌∙◌, ◌≡◌, ComesFirst, DeviceId, Err, IfOk, IsWell, Kept, List, Network, Node, Note, Ok, OnErr, Result, Scenario}
+use Rattle.drift_world.proofs.Words.{SourceFirst, Stands, StandsBehind, act_place, ap, arith, behind, keeps, length, pos, subst, sym, world_of, ℕ}
 use Rattle.run_law.specs.machines.Calls.{HasDue}
-use Rattle.run_law.specs.machines.Nodes.{Node}
-use Rattle.run_law.specs.records.Order.{behind}
-use Rattle.run_law.specs.scenario.Scenarios.{Scenario}
-use Rattle.drift_world.proofs.Turning.{comes_first, is_at, rekeyed_step, runs_on}
-use Rattle.drift_world.proofs.state.State.act.Goals as goal
-use Rattle.world_state.specs.Keeping.{keeps}
-use Rattle.drift_world.specs.Turns.{HasRoom, IsForemost, SourceFirst}
-use Rattle.drift_world.specs.Views.{world_of}
-use Rattle.drift_world.specs.Wells.{IsWell}
-use Rattle.world_state.specs.declared.kept.Kept.{Kept}
-use Rattle.drift_world.specs.declared.source.Source.TheVariants.{Act}
-use Rattle.drift_world.specs.declared.state.State.{State}
 use Rattle.world_law.proofs.giving.Given.{some_same}
-use Rattle.world_law.specs.world.Moves.{ComesFirst, StandsBehind}
-use Rattle.world_law.specs.world.World.{Stands, act_place}
-use Rattle.drift_world.proofs.Nearings.{act_less, on_ok}
+use Rattle.drift_world.{proofs.{Nearings.{act_less, on_ok}, Turning.{comes_first, is_at, rekeyed_step, runs_on}}, specs.Turns.{HasRoom, IsForemost}}
+use Rattle.drift_world.specs.declared.{source.Source.TheVariants.Act, state.State.State}
+use Rattle.drift_world.proofs.state.State.act.Goals as goal
 
 -- where one of these clauses holds for each result, what is said of all of them does
 either_way : {A E : Type 0} (result : Result A E) (P Q R : Type 0) → IfOk result (λ done. P) → OnErr result Q → (P → R) → (Q → R) → R

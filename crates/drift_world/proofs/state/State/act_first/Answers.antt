@@ -1,6 +1,5 @@
-use Rattle.std.proofs.Common.{◌≡◌, length, arith, ap, subst}
-use Rattle.drift_world.proofs.ActTurns.{IsActed, all_acted, comes_at, turn_begun, turn_on, turn_with}
-use Rattle.drift_world.specs.declared.state.State.{State}
+use Rattle.drift_world.proofs.Words.{◌≡◌, ap, arith, length, subst}
+use Rattle.drift_world.{proofs.ActTurns.{IsActed, all_acted, comes_at, turn_begun, turn_on, turn_with}, specs.declared.state.State.State}
 use Rattle.drift_world.proofs.state.State.act_first.Goals as goal
 
 pub acts-init : goal.acts-init

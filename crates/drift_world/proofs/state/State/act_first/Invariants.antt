@@ -1,4 +1,4 @@
-use Rattle.std.proofs.Common.{◌-◌}
+use Rattle.drift_world.proofs.Words.{◌-◌}
 use Rattle.drift_world.proofs.ActTurns.{IsTurn}
 use Rattle.drift_world.proofs.state.State.act_first.Given as goal
 

@@ -1,13 +1,7 @@
-use Rattle.std.proofs.Common.{◌≡◌, length, length-set, slice_set, arith, refl, subst, ◌∙◌}
-use Rattle.std.proofs.lemmas.Option.{slice_get_read}
-use Rattle.run_law.specs.declared.steps.Moment.{Moment}
-use Rattle.drift_world.proofs.ActSteps.{acted_once, asked_to_act, never_broken, octets_then, proper_at, row_within, settles_from}
-use Rattle.drift_world.proofs.Showings.{shows_of}
-use Rattle.world_state.proofs.Swaps.{is_set}
-use Rattle.world_state.specs.Keeping.{keeps}
-use Rattle.world_state.specs.declared.kept.Kept.{Kept}
-use Rattle.world_law.proofs.giving.Given.{some_same}
-use Rattle.world_law.specs.world.Calls.{HasActed, moment_of, IsStateOf}
+use Rattle.drift_world.proofs.Words.{◌∙◌, ◌≡◌, HasActed, Kept, Moment, arith, is_set, keeps, length, length-set, moment_of, refl, slice_get_read, slice_set}
+use Rattle.drift_world.proofs.Words.{subst}
+use Rattle.world_law.{proofs.giving.Given.some_same, specs.world.Calls.IsStateOf}
+use Rattle.drift_world.proofs.{ActSteps.{acted_once, asked_to_act, never_broken, octets_then, proper_at, row_within, settles_from}, Showings.shows_of}
 use Rattle.drift_world.proofs.state.State.act_once.Goals as goal
 
 pub act-requires : goal.act-requires

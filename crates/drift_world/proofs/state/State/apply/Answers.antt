@@ -1,32 +1,12 @@
-use Rattle.std.proofs.Common.{◌≡◌, ◌+◌, ◌∷◌, [], ◌++◌, ℕ, Bool, List, Some, ap, arith, length, map, subst, sym, false, true, unsigned_abs, ◌∙◌}
-use Rattle.std.specs.List.{list_any}
-use Rattle.std.specs.Prelude.{◌↔◌, ◌<◌, All, not}
-use Rattle.std.proofs.lemmas.Int.{ints}
-use Rattle.net_plan.specs.declared.event.What.{What}
-use Rattle.net_plan.specs.declared.tables.Way.TheVariants.{Up, Down}
-use Rattle.run_law.specs.scenario.Hypothesis.{breaks_at}
-use Rattle.run_law.specs.declared.note.Note.{Note}
+use Rattle.drift_world.proofs.Words.{◌++◌, ◌+◌, ◌<◌, ◌↔◌, ◌∙◌, ◌∷◌, ◌≡◌, AreApart, Bool, Down, FitsWorld, IsIn, List, Note, Some, Stands, Up, Waits, What}
+use Rattle.drift_world.proofs.Words.{World, [], amount, ap, arith, befell_as, breaks_at, false, ints, is_broken, is_turned_on_at, keeps, length, list_any, map}
+use Rattle.drift_world.proofs.Words.{not, scenario, subst, sym, true, turns_on, unsigned_abs, waiting_as, way_as, world_of, ℕ}
+use Rattle.std.specs.Prelude.{All}
+use Rattle.world_law.specs.{source.Applying.note_of_event, world.{Outcomes.{also_befell, ends_world}, World.Befell}}
+use Rattle.world_steps.proofs.steps.{Applied.applied_step, AppliedParts.broken_more}
+use Rattle.drift_world.proofs.{Applies.{any_mapped, waits_more, ways_more}, Beginnings.found, Elsewhere.{clock_elsewhere, waits_elsewhere}}
+use Rattle.drift_world.proofs.{Fitting.{apart_kept, below_more, ways_short}, TurnedOn.turned_on_is}
 use Rattle.run_law.specs.declared.note.NoteBody.TheVariants as kinds
-use Rattle.run_law.specs.scenario.Scenarios.{is_broken, is_turned_on_at, turns_on}
-use Rattle.tte_units.specs.Amount.{amount}
-use Rattle.drift_world.proofs.Applies.{any_mapped, waits_more, ways_more}
-use Rattle.drift_world.proofs.Beginnings.{found}
-use Rattle.drift_world.proofs.Elsewhere.{clock_elsewhere, waits_elsewhere}
-use Rattle.drift_world.proofs.Fitting.{apart_kept, below_more, ways_short}
-use Rattle.drift_world.specs.Sound.{AreApart}
-use Rattle.drift_world.proofs.TurnedOn.{turned_on_is}
-use Rattle.world_state.specs.Keeping.{keeps}
-use Rattle.run_law.specs.records.Order.{IsIn}
-use Rattle.world_state.specs.declared.contents.Waits.{Waits}
-use Rattle.drift_world.specs.Views.{world_of}
-use Rattle.world_state.specs.Views.{befell_as, waiting_as, way_as}
-use Rattle.world_steps.proofs.steps.Applied.{applied_step}
-use Rattle.world_steps.proofs.steps.AppliedParts.{broken_more}
-use Rattle.world_law.specs.source.Agreeing.{scenario}
-use Rattle.world_law.specs.source.Applying.{note_of_event}
-use Rattle.world_steps.specs.Steps.{FitsWorld}
-use Rattle.world_law.specs.world.Outcomes.{also_befell, ends_world}
-use Rattle.world_law.specs.world.World.{Befell, Stands, World}
 use Rattle.drift_world.proofs.state.State.apply.Goals as goal
 
 pub returns-clause-sound : goal.returns-clause-sound

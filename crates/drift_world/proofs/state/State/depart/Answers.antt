@@ -1,9 +1,7 @@
-use Rattle.std.proofs.Common.{ap}
-use Rattle.drift_world.specs.declared.source.Source.TheVariants.{Departure}
+use Rattle.drift_world.proofs.Words.{ap}
+use Rattle.drift_world.{proofs.{Nearings.departed_less, Turning.{comes_first, plain_step}}, specs.declared.source.Source.TheVariants.Departure}
 use Rattle.drift_world.specs.declared.state.State.{State}
-use Rattle.drift_world.proofs.Turning.{comes_first, plain_step}
 use Rattle.drift_world.proofs.state.State.depart.Goals as goal
-use Rattle.drift_world.proofs.Nearings.{departed_less}
 
 pub returns-clause-step : goal.returns-clause-step
 returns-clause-step g c =
@@ -13,7 +11,8 @@ returns-clause-step g c =
     plain_step g.C.Clock.last_step g.C.Clock.reading g.M.Machine.stands c.args.network.now w c.leave_first.new.self r.well step.sound step.others
     (ap (λ (t : State _ _). t.timers) step.same) (ap (λ (t : State _ _). t.given) step.same)
     (λ s notes old. (step.stands s notes old r.foremost.there.now
-    (comes_first g.C.Clock.last_step g.C.Clock.reading g.M.Machine.stands c.args.network.now w (Departure c.args.place) s notes r.well.sound r.room r.foremost r.first tt old)).0)
+    (comes_first g.C.Clock.last_step g.C.Clock.reading g.M.Machine.stands c.args.network.now w (Departure c.args.place) s notes r.well.sound r.room r.foremost
+    r.first tt old)).0)
 
 pub returns-clause-less : goal.returns-clause-less
 returns-clause-less g c =

@@ -1,16 +1,9 @@
-use Rattle.std.proofs.Common.{◌≡◌, ◌<◌, Some, ap, arith, length, sym, subst, ◌∙◌}
-use Rattle.std.specs.Prelude.{if◌then◌else◌}
+use Rattle.drift_world.proofs.Words.{if◌then◌else◌, ◌<◌, ◌∙◌, ◌≡◌, DeviceId, LinkId, Network, Some, WayNow, ap, arith, is_parent_of, length, slice_get_read}
+use Rattle.drift_world.proofs.Words.{subst, sym}
 use Rattle.std.specs.List.{slice_get}
-use Rattle.std.proofs.lemmas.Option.{slice_get_read}
-use Rattle.net_plan.specs.declared.ids.DeviceId.{DeviceId}
-use Rattle.net_plan.specs.declared.ids.LinkId.{LinkId}
-use Rattle.net_plan.specs.declared.network.Network.{Network}
-use Rattle.run_law.specs.scenario.Devices.{is_parent_of}
-use Rattle.drift_world.proofs.Fits.{have_octets, left_octets}
-use Rattle.drift_world.proofs.Showings.{departure_is, way_by}
-use Rattle.world_state.specs.Leaving.{port_entry}
 use Rattle.world_law.proofs.giving.Given.{some_same}
-use Rattle.world_law.specs.world.World.{WayNow}
+use Rattle.world_state.specs.Leaving.{port_entry}
+use Rattle.drift_world.proofs.{Fits.{have_octets, left_octets}, Showings.{departure_is, way_by}}
 use Rattle.drift_world.proofs.state.State.departure.Goals as goal
 
 pub returns-clause-octets : goal.returns-clause-octets

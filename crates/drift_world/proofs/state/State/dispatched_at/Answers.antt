@@ -1,15 +1,8 @@
-use Rattle.std.proofs.Common.{◌≡◌, ◌<◌, List, Some, None, Bool, length, subst, ap, ◌∙◌}
-use Rattle.std.specs.Prelude.{if◌then◌else◌}
+use Rattle.drift_world.proofs.Words.{if◌then◌else◌, ◌<◌, ◌∙◌, ◌≡◌, Bool, Network, None, Some, WayNow, ap, is_parent_of, length, slice_get_within, subst}
 use Rattle.std.specs.List.{slice_get}
-use Rattle.std.proofs.lemmas.Option.{slice_get_within}
-use Rattle.net_plan.specs.declared.network.Network.{Network}
-use Rattle.run_law.specs.scenario.Devices.{is_parent_of}
-use Rattle.schedule_tables.proofs.EntryLemmas.{one_entry}
-use Rattle.schedule_tables.specs.declared.entry.Entry.{Entry}
+use Rattle.schedule_tables.{proofs.EntryLemmas.one_entry, specs.declared.entry.Entry.Entry}
+use Rattle.world_state.specs.Acting.{IsDispatched, dispatched_by}
 use Rattle.drift_world.proofs.Showings.{way_by}
-use Rattle.world_state.specs.Acting.{IsDispatched, IsHand, dispatched_by}
-use Rattle.world_state.specs.declared.contents.Holding.{Holding}
-use Rattle.world_law.specs.world.World.{WayNow}
 use Rattle.drift_world.proofs.state.State.dispatched_at.Goals as goal
 
 pub returns-in_err-hand : goal.returns-in_err-hand
@@ -19,8 +12,7 @@ returns-in_err-hand g c = λ s entry of is.
     (one_entry c.args.network.now c.args.row.0 c.entry_of-entry.result entry c.entry_of-entry.ensures.is is)
     (record {
       hand = None;
-      of_hand = subst (λ (l : List Holding). IsHand l c.args.device c.entry_of-entry.result c.args.cycle None) c.as_slice.ensures.value
-          c.in_err-hand.ensures;
+      of_hand = c.in_err-hand.ensures;
       is = c.from_residual.ensures;
     })
 
@@ -41,6 +33,6 @@ returns g c = λ s entry of is.
     (one_entry network c.args.row.0 found entry c.entry_of-entry.ensures.is is)
     (record {
       hand = Some c.in_ok-hand.hand;
-      of_hand = subst (λ (l : List Holding). IsHand l device found c.args.cycle (Some c.in_ok-hand.hand)) c.as_slice.ensures.value c.in_ok-hand.ensures;
+      of_hand = c.in_ok-hand.ensures;
       is = ap Some (c.dispatched.ensures ∙ ap (λ (b : Bool). dispatched_by b device found c.args.cycle c.in_ok-hand.hand) cut);
     })

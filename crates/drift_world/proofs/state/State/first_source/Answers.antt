@@ -1,18 +1,10 @@
-use Rattle.std.proofs.Common.{ℕ, List, length, Option, refl, ap, arith}
-use Rattle.std.proofs.lemmas.Bool.{both_ways}
-use Rattle.due_queue.specs.Places.{IsFirst}
-use Rattle.due_queue.specs.declared.Place.{Place}
-use Rattle.due_timers.specs.declared.Due.{Due}
-use Rattle.net_plan.specs.declared.network.Network.{Network}
-use Rattle.run_law.specs.machines.Nodes.{Node}
-use Rattle.net_plan.specs.declared.ids.DeviceId.{DeviceId}
+use Rattle.drift_world.proofs.Words.{AreFirsts, AreNotBefore, DeviceId, Due, HasNothingBefore, IsFirst, IsWell, List, Network, Node, Option, Place, ap, arith}
+use Rattle.drift_world.proofs.Words.{both_ways, length, refl, ℕ}
 use Rattle.drift_world.proofs.Foremost.{clock_first, departure_first, due_after, events_first, from_some, none_before, place_after, placed, slot_first}
 use Rattle.drift_world.proofs.Sources.{nothing_before}
-use Rattle.drift_world.specs.Sourcing.{AreFirsts, AreNotBefore, HasNothingBefore}
-use Rattle.drift_world.specs.Wells.{IsWell}
+use Rattle.drift_world.proofs.state.State.first_source.Goals.{else-self-2-via-else-self-2, else-self-2-via-then-self-2+else-self-as_slice}
 use Rattle.drift_world.specs.declared.state.State.{State}
 use Rattle.drift_world.proofs.state.State.first_source.Goals as goal
-use Rattle.drift_world.proofs.state.State.first_source.Goals.{else-self-2-via-then-self-2+else-self-as_slice, else-self-2-via-else-self-2}
 
 by : {C M : Type 0} (last_step : C → ℕ) (reading : C → ℕ → ℕ) (stands : M → Network → DeviceId → Node → Type 0) (network : Network) (state : State C M)
     (place : Option Place) (due : Option Due) (p : List ℕ) → IsWell last_step reading stands network state → AreFirsts state place due

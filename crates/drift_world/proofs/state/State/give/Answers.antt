@@ -1,25 +1,9 @@
-use Rattle.std.proofs.Common.{◌≡◌, ◌<◌, ◌+◌, ◌++◌, ◌∷◌, [], ℕ, List, length, map, ap, refl, subst, sym, ◌∙◌}
-use Rattle.std.specs.Prelude.{All, IfSome, Option, option_to_list}
-use Rattle.std.proofs.lemmas.List.Elements.{All-head, All-tail}
-use Rattle.run_law.specs.declared.note.Note.{Note}
-use Rattle.run_law.specs.records.Happenings.{happenings}
-use Rattle.run_law.specs.records.Order.{behind}
-use Rattle.run_law.specs.records.Ranks.{place_of}
-use Rattle.tte_units.specs.Amount.{units_of}
-use Rattle.drift_world.proofs.Gave.{changes_since, popped_world, sound_same, unchanged}
-use Rattle.drift_world.proofs.MayGive.{low_now, may_be_given}
-use Rattle.world_state.specs.Giving.{HasItsOctets, changed_device}
-use Rattle.net_plan.specs.declared.ids.DeviceId.{DeviceId}
-use Rattle.world_state.specs.Frames.{room_of}
-use Rattle.world_state.specs.Keeping.{keeps}
-use Rattle.drift_world.specs.Stepping.{ChangesOnly}
-use Rattle.drift_world.specs.Views.{world_of}
-use Rattle.world_state.specs.Views.{settled_at}
-use Rattle.world_state.specs.declared.contents.Settled.{Settled}
-use Rattle.drift_world.specs.declared.state.State.{State}
-use Rattle.world_law.specs.source.First.{NoSourceBefore}
-use Rattle.world_law.specs.world.Moves.{StandsBehind}
-use Rattle.world_law.specs.world.World.{Stands, World, note_of}
+use Rattle.drift_world.proofs.Words.{◌++◌, ◌+◌, ◌<◌, ◌∙◌, ◌∷◌, ◌≡◌, ChangesOnly, DeviceId, HasItsOctets, IfSome, List, NoSourceBefore, Note, Option, Settled}
+use Rattle.drift_world.proofs.Words.{Stands, StandsBehind, World, [], ap, behind, changed_device, happenings, keeps, length, map, note_of, place_of, refl}
+use Rattle.drift_world.proofs.Words.{settled_at, subst, sym, units_of, world_of, ℕ}
+use Rattle.std.{proofs.lemmas.List.Elements.{All-head, All-tail}, specs.Prelude.{All, option_to_list}}
+use Rattle.world_state.specs.{Frames.room_of, Shelves.HasPlace, declared.contents.Spot.Spot}
+use Rattle.drift_world.{proofs.{Gave.{changes_since, popped_world, sound_same, unchanged}, MayGive.{low_now, may_be_given}}, specs.declared.state.State.State}
 use Rattle.drift_world.proofs.state.State.give.Goals as goal
 
 heads : (x y : Settled) (xs ys : List Settled) → x ∷ xs ≡ y ∷ ys → x ≡ y
@@ -40,7 +24,8 @@ give_first-requires-clause-sound g c =
     let whole = c.pop_front.ensures.items ∙ ap (λ o. option_to_list o ++ c.pop_front.new.self.items) c.unwrap-first.ensures in
     let octets = All-tail (λ (z : Settled). HasItsOctets z.body z.octets) c.unwrap-first.result c.pop_front.new.self.items
     (subst (All (λ (z : Settled). HasItsOctets z.body z.octets)) whole c.requires.sound.fit.octets) in
-    sound_same g.C.Clock.last_step c.args.network.now c.args.self.now _ c.requires.sound refl refl refl refl refl refl refl refl room.entries room.waiting octets
+    sound_same g.C.Clock.last_step c.args.network.now c.args.self.now _ c.requires.sound refl refl refl refl refl refl refl refl room.entries room.waiting
+    octets
 
 pub give_first-requires-clause-may : goal.give_first-requires-clause-may
 give_first-requires-clause-may g c =
@@ -59,6 +44,13 @@ give_first-requires-clause-capacity g c =
     c.pop_front.ensures.items ∙ ap (λ o. option_to_list o ++ c.pop_front.new.self.items) c.unwrap-first.ensures in
     subst (λ (o : Option DeviceId). IfSome o (λ d. 0 < room_of c.make_room.new.waiting d.0))
     (c.first_waiter-device.ensures c.unwrap-first.result c.pop_front.new.self.items whole) c.in_default.ensures.capacity
+
+pub give_first-requires-clause-place : goal.give_first-requires-clause-place
+give_first-requires-clause-place g c =
+    let whole : c.args.self.now.settled.items ≡ c.unwrap-first.result ∷ c.pop_front.new.self.items =
+    c.pop_front.ensures.items ∙ ap (λ o. option_to_list o ++ c.pop_front.new.self.items) c.unwrap-first.ensures in
+    subst (λ (o : Option Spot). IfSome o (HasPlace c.make_room.new.stored))
+    (c.first_taker-spot.ensures c.unwrap-first.result c.pop_front.new.self.items whole) c.in_default.ensures.place
 
 pub give_first-requires-clause-low : goal.give_first-requires-clause-low
 give_first-requires-clause-low g c =

@@ -1,24 +1,9 @@
-use Rattle.std.proofs.Common.{◌≡◌, ◌+◌, ◌++◌, ◌∷◌, [], ℕ, List, map, length, ap, arith, inl, inr, refl, subst, sym, ◌∙◌}
-use Rattle.std.specs.Prelude.{All}
-use Rattle.std.specs.List.{filter_map}
-use Rattle.run_law.specs.records.Happenings.{Happening}
-use Rattle.run_law.specs.records.Order.{behind}
-use Rattle.run_law.specs.records.Ranks.{place_of}
+use Rattle.drift_world.proofs.Words.{◌++◌, ◌+◌, ◌∙◌, ◌∷◌, ◌≡◌, ChangesOnly, Happening, HasItsOctets, IsGivenOut, IsPutOn, IsSound, IsStoredBy, List, Settled}
+use Rattle.drift_world.proofs.Words.{StandsBehind, [], ap, arith, at_port, behind, changed_device, inl, inr, keeps, length, map, named_settled, note_of}
+use Rattle.drift_world.proofs.Words.{on_wire, place_of, refl, settled_at, stored_as, subst, sym, waiting_as, wire_entry, with_first, world_of, ℕ}
+use Rattle.std.specs.{List.filter_map, Prelude.All}
 use Rattle.drift_world.proofs.Gave.{from_ports, from_wire, settled_has, waits_apart, waits_below, waits_elsewhere, waits_more, wire_is, wire_sound}
-use Rattle.drift_world.proofs.Givings.{given_on, named_all}
-use Rattle.drift_world.specs.Giving.{IsGivenOut}
-use Rattle.world_state.specs.Giving.{HasItsOctets, IsPutOn, changed_device, wire_entry}
-use Rattle.world_state.specs.Keeping.{keeps}
-use Rattle.world_state.specs.Naming.{named_settled}
-use Rattle.drift_world.specs.Sound.{IsSound}
-use Rattle.drift_world.specs.Stepping.{ChangesOnly}
-use Rattle.world_state.specs.Storing.{stored_by}
-use Rattle.drift_world.specs.Views.{with_first, world_of}
-use Rattle.world_state.specs.Views.{at_port, on_wire, settled_at, stored_as, waiting_as}
-use Rattle.world_state.specs.declared.contents.Settled.{Settled}
-use Rattle.drift_world.specs.declared.state.State.{State}
-use Rattle.world_law.specs.world.Moves.{StandsBehind}
-use Rattle.world_law.specs.world.World.{note_of}
+use Rattle.drift_world.{proofs.Givings.{given_on, named_all}, specs.declared.state.State.State}
 use Rattle.drift_world.proofs.state.State.give_first.Goals as goal
 
 pub returns-clause-sound : goal.returns-clause-sound
@@ -104,10 +89,12 @@ returns-clause-stands g c = λ s notes old none.
     two.under_way.entries three.under_way.entries) number
     (subst (λ (q : State _ _). IsPutOn (wire_entry network q.ups.items q.downs.items first.body first.frame first.octets q.time (w.given + 1))
     two.under_way.entries three.under_way.entries) c.launch_frame.ensures.same c.launch_octets.ensures.sent) in
-    let held : three.stored.items ≡ stored_by first.body first.octets (length notes + 1) w.stored.items =
-    c.launch_octets.ensures.stored ∙ ap (λ (q : State _ _). stored_by first.body first.octets (w.given + 1) q.stored.items) c.launch_frame.ensures.same
-    ∙ ap (λ (k : ℕ). stored_by first.body first.octets k w.stored.items) number in
-    let step = given_on K.reading stands s network (sym old.same) one two notes first w.settled.items given.0 three.under_way.entries three.stored.items old none
+    let held : IsStoredBy first.body first.octets (length notes + 1) w.stored.items three.stored.items =
+    subst (λ (k : ℕ). IsStoredBy first.body first.octets k w.stored.items three.stored.items) number
+    (subst (λ (q : State _ _). IsStoredBy first.body first.octets (w.given + 1) q.stored.items three.stored.items) c.launch_frame.ensures.same
+    c.launch_octets.ensures.stored) in
+    let step = given_on K.reading stands s network (sym old.same) one two notes first w.settled.items given.0 three.under_way.entries three.stored.items old
+    none
     c.requires.may out sent held in
     let lists = named_all network w.time (length notes + 1) first w.settled.items
     ∙ ap (λ (k : ℕ). map (settled_at network w.time) (map (named_settled k first.body) w.settled.items)) (sym number)

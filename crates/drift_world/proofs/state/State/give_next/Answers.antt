@@ -1,16 +1,6 @@
-use Rattle.std.proofs.Common.{[], ◌∷◌, ◌++◌, ap, subst, sym, ◌∙◌}
-use Rattle.run_law.specs.declared.note.Note.{Note}
-use Rattle.run_law.specs.declared.note.NoteBody.{NoteBody}
-use Rattle.tte_units.specs.Amount.{units_of}
-use Rattle.drift_world.proofs.Timings.{unchanged}
-use Rattle.drift_world.proofs.Turning.{gives_first, runs_on, sound_so}
-use Rattle.world_state.specs.Giving.{changed_device}
-use Rattle.world_state.specs.Keeping.{keeps}
-use Rattle.drift_world.specs.Sound.{IsSound}
-use Rattle.drift_world.specs.Stepping.{ChangesOnly}
-use Rattle.drift_world.specs.Views.{world_of}
-use Rattle.drift_world.specs.declared.state.State.{State}
-use Rattle.world_law.specs.world.World.{Stands, World}
+use Rattle.drift_world.proofs.Words.{◌++◌, ◌∙◌, ◌∷◌, ChangesOnly, IsSound, Note, NoteBody, Stands, World, [], ap, changed_device, keeps, subst, sym, units_of}
+use Rattle.drift_world.proofs.Words.{world_of}
+use Rattle.drift_world.{proofs.{Timings.unchanged, Turning.{gives_first, runs_on, sound_so}}, specs.declared.state.State.State}
 use Rattle.drift_world.proofs.state.State.give_next.Goals as goal
 
 pub rekey_after-requires-clause-running : goal.rekey_after-requires-clause-running
@@ -23,7 +13,8 @@ rekey_after-requires-clause-running g c =
       s = run.s;
       notes = run.notes ++ c.in-Ok.note ∷ [];
       is = (c.in-Ok.ensures.stands run.s run.notes f.first f.others f.whole run.is
-          (gives_first g.C.Clock.last_step g.C.Clock.reading g.M.Machine.stands c.args.network.now w c.args.source f.first f.others run.s run.notes r.well.sound r.foremost f.whole f.ahead run.is)).1.0;
+          (gives_first g.C.Clock.last_step g.C.Clock.reading g.M.Machine.stands c.args.network.now w c.args.source f.first f.others run.s run.notes r.well.sound
+          r.foremost f.whole f.ahead run.is)).1.0;
     }
 
 pub returns-in-Ok-clause-stands : goal.returns-in-Ok-clause-stands
@@ -34,7 +25,8 @@ returns-in-Ok-clause-stands g c = λ s notes old.
     subst (λ (t : State _ _). Stands g.C.Clock.reading (keeps g.M.Machine.stands) s (world_of c.args.network.now t) (notes ++ c.in-Ok.note ∷ []))
     (sym c.rekey_after.ensures.same)
     (c.in-Ok.ensures.stands s notes f.first f.others f.whole old
-    (gives_first g.C.Clock.last_step g.C.Clock.reading g.M.Machine.stands c.args.network.now w c.args.source f.first f.others s notes r.well.sound r.foremost f.whole f.ahead old)).1.0
+    (gives_first g.C.Clock.last_step g.C.Clock.reading g.M.Machine.stands c.args.network.now w c.args.source f.first f.others s notes r.well.sound r.foremost
+    f.whole f.ahead old)).1.0
 
 pub returns-in-Ok-clause-well : goal.returns-in-Ok-clause-well
 returns-in-Ok-clause-well g c =
@@ -44,7 +36,8 @@ returns-in-Ok-clause-well g c =
     let new = c.rekey_after.new.self in
     let E = c.in-Ok.ensures in
     record {
-      sound = subst (IsSound g.C.Clock.last_step c.args.network.now) (sym c.rekey_after.ensures.same) (sound_so g.C.Clock.last_step g.C.Clock.reading g.M.Machine.stands c.args.network.now mid new.timers E.sound);
+      sound = subst (IsSound g.C.Clock.last_step c.args.network.now) (sym c.rekey_after.ensures.same)
+          (sound_so g.C.Clock.last_step g.C.Clock.reading g.M.Machine.stands c.args.network.now mid new.timers E.sound);
       running = record { s = run.s; notes = run.notes ++ c.in-Ok.note ∷ []; is = returns-in-Ok-clause-stands g c run.s run.notes run.is };
       timed = c.rekey_after.ensures.timed c.args.self.now r.well.timed
           (subst (λ (b : NoteBody). ChangesOnly (changed_device b) c.args.self.now mid) (sym c.body.ensures) E.others)
@@ -60,7 +53,8 @@ returns-in-Ok-clause-says g c =
     let E = c.in-Ok.ensures in
     let same = c.rekey_after.ensures.same in
     let note = (E.stands run.s run.notes f.first f.others f.whole run.is
-    (gives_first g.C.Clock.last_step g.C.Clock.reading g.M.Machine.stands c.args.network.now w c.args.source f.first f.others run.s run.notes r.well.sound r.foremost f.whole f.ahead run.is)).0 in
+    (gives_first g.C.Clock.last_step g.C.Clock.reading g.M.Machine.stands c.args.network.now w c.args.source f.first f.others run.s run.notes r.well.sound
+    r.foremost f.whole f.ahead run.is)).0 in
     let time = ap (λ (t : State _ _). t.time) same ∙ ap (λ (t : State _ _). t.time) E.same in
     (ap (λ (n : Note). n.time) note ∙ ap units_of (sym time), time, ap (λ (t : State _ _). t.given) same ∙ E.given)
 
@@ -73,7 +67,8 @@ returns-in-Err-clause-well g c =
       sound = E.sound;
       running = runs_on g.C.Clock.last_step g.C.Clock.reading g.M.Machine.stands c.args.network.now w c.give.new.self r.well.running
           (λ s notes old. subst (λ (v : World _ _). Stands g.C.Clock.reading (keeps g.M.Machine.stands) s v notes) (sym E.err) old);
-      timed = unchanged g.C.Clock.reading g.M.Machine.stands c.args.network.now w c.give.new.self r.well.timed E.unmoved (ap (λ (t : State _ _). t.timers) E.same);
+      timed = unchanged g.C.Clock.reading g.M.Machine.stands c.args.network.now w c.give.new.self r.well.timed E.unmoved
+          (ap (λ (t : State _ _). t.timers) E.same);
     }
 
 pub returns-in-Err-clause-err : goal.returns-in-Err-clause-err

@@ -1,17 +1,10 @@
-use Rattle.std.proofs.Common.{◌+◌, ◌<◌, arith, length, refl, set, subst, sym, ◌∙◌}
-use Rattle.std.proofs.lemmas.List.{length-set}
-use Rattle.std.proofs.lemmas.List.Sorted.{length_permutation}
-use Rattle.std.proofs.lemmas.Option.{slice_get_read}
-use Rattle.net_plan.specs.declared.ids.DeviceId.{DeviceId}
-use Rattle.net_plan.specs.declared.network.Network.{Network}
+use Rattle.drift_world.proofs.Words.{◌+◌, ◌<◌, ◌∙◌, DeviceId, IsPutAt, Network, Settled, arith, keeps, length, length-set, length_permutation, refl}
+use Rattle.drift_world.proofs.Words.{slice_get_read, subst, sym}
+use Rattle.std.proofs.Common.{set}
 use Rattle.tte_lemmas.proofs.Lists.{set_aside, set_same}
-use Rattle.world_state.specs.Keeping.{keeps}
-use Rattle.world_state.specs.Places.{IsPutAt}
-use Rattle.world_state.specs.declared.contents.Settled.{Settled}
 use Rattle.world_law.proofs.giving.Given.{some_same}
-use Rattle.drift_world.proofs.Fits.{all_put, below_without, have_octets}
-use Rattle.drift_world.proofs.Hears.{as_sent, heard_octets, heard_stands, may_come, moment_is}
 use Rattle.world_state.proofs.UnderWays.{sound_without}
+use Rattle.drift_world.proofs.{Fits.{all_put, below_without, have_octets}, Hears.{as_sent, heard_octets, heard_stands, may_come, moment_is}}
 use Rattle.drift_world.proofs.state.State.hear_first.Goals as goal
 
 pub hear_signal-arrival-requires-clause-may : goal.hear_signal-arrival-requires-clause-may

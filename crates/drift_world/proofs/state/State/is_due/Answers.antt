@@ -1,12 +1,7 @@
-use Rattle.std.proofs.Common.{◌≡◌, ℤ, pos, ◌<ℤ◌, subst, sym, ap, arith}
-use Rattle.std.proofs.lemmas.Option.{slice_get_read}
-use Rattle.run_law.specs.declared.steps.Moment.{Moment}
+use Rattle.drift_world.proofs.Words.{◌<ℤ◌, ◌≡◌, Kept, Moment, ap, arith, keeps, pos, reading_for, slice_get_read, subst, sym, ℤ}
 use Rattle.run_law.specs.machines.Calls.{HasDue}
-use Rattle.run_law.specs.machines.Tasks.{reading_for}
-use Rattle.world_state.proofs.Acts.{none_due, some_due}
-use Rattle.world_state.specs.Keeping.{keeps}
-use Rattle.world_state.specs.declared.kept.Kept.{Kept}
 use Rattle.world_law.proofs.giving.Given.{some_same}
+use Rattle.world_state.proofs.Acts.{none_due, some_due}
 use Rattle.drift_world.proofs.state.State.is_due.Goals as goal
 
 pub returns-clause-yes : goal.returns-clause-yes

@@ -1,32 +1,12 @@
-use Rattle.std.proofs.Common.{◌≡◌, ◌+◌, ◌∷◌, [], ℕ, List, Option, false, ap, arith, inl, map, refl, subst, sym}
+use Rattle.drift_world.proofs.Words.{◌+◌, ◌∷◌, ◌≡◌, ComesFirst, Content, IsPermutation-sym, IsSomePut, List, Option, Port, Settled, StandsBehind, World, [], ap}
+use Rattle.drift_world.proofs.Words.{arith, at_port, behind, departure_body, false, happenings, in_permuted, inl, is_broken, is_given, keeps}
+use Rattle.drift_world.proofs.Words.{length_permutation, map, numbers_of, on_wire, refl, settled_at, subst, sym, world_of, ℕ}
 use Rattle.std.specs.List.{filter_map}
-use Rattle.std.proofs.lemmas.List.Sorted.{IsPermutation-sym, length_permutation}
-use Rattle.due_queue.proofs.Bags.{in_permuted}
-use Rattle.due_queue.specs.declared.Entry.{Entry}
-use Rattle.due_queue.specs.Places.{numbers_of}
-use Rattle.run_law.specs.records.Happenings.{happenings}
-use Rattle.run_law.specs.records.Order.{behind}
-use Rattle.run_law.specs.scenario.Scenarios.{is_broken}
-use Rattle.world_state.specs.Keeping.{keeps}
-use Rattle.drift_world.proofs.Alike.{with_wires}
-use Rattle.drift_world.proofs.Fits.{all_put_some, below_without, have_octets, if_some}
-use Rattle.drift_world.proofs.HiddenCauses.{settled_in_order}
-use Rattle.drift_world.proofs.Puts.{departed_is, frame_of_port, some_put_in}
-use Rattle.drift_world.proofs.Showings.{shows_of}
-use Rattle.world_state.proofs.UnderWays.{ports_without, sound_without, wires_stay}
-use Rattle.world_state.specs.Leaving.{port_entry}
-use Rattle.world_state.specs.Places.{IsSomePut}
-use Rattle.drift_world.specs.Views.{world_of}
-use Rattle.run_law.proofs.records.Order.{is_given}
-use Rattle.world_state.specs.Views.{at_port, on_wire, settled_at}
-use Rattle.world_state.specs.declared.contents.Content.TheVariants.{Port}
-use Rattle.world_state.specs.declared.contents.Content.{Content}
-use Rattle.world_state.specs.declared.contents.Settled.{Settled}
-use Rattle.world_steps.proofs.steps.LeftSteps.{left_step}
-use Rattle.world_law.specs.world.Moves.{ComesFirst, StandsBehind}
-use Rattle.world_law.specs.world.Outcomes.{departure_body}
-use Rattle.world_steps.specs.Steps.{departure_now}
-use Rattle.world_law.specs.world.World.{World}
+use Rattle.world_queue.specs.declared.Entry.{Entry}
+use Rattle.world_state.{proofs.UnderWays.{ports_without, sound_without, wires_stay}, specs.Leaving.port_entry}
+use Rattle.world_steps.{proofs.steps.LeftSteps.left_step, specs.Steps.departure_now}
+use Rattle.drift_world.proofs.{Alike.with_wires, Fits.{all_put_some, below_without, have_octets, if_some}, HiddenCauses.settled_in_order}
+use Rattle.drift_world.proofs.{Puts.{departed_is, frame_of_port, some_put_in}, Showings.shows_of}
 use Rattle.drift_world.proofs.state.State.leave_first.Goals as goal
 
 pub returns-clause-sound : goal.returns-clause-sound

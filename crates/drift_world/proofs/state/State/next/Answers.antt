@@ -1,13 +1,6 @@
-use Rattle.std.proofs.Common.{◌≡◌, ℕ, ◌+◌, List, [], ◌++◌, Ok, ap, append-nil, arith, refl, subst, sym, ◌∙◌}
-use Rattle.drift_world.proofs.Turning.{after_then}
-use Rattle.run_law.specs.declared.note.Note.{Note}
-use Rattle.world_state.specs.Keeping.{keeps}
-use Rattle.drift_world.specs.Nearing.{Nears}
-use Rattle.drift_world.specs.Turns.{IsWhole, TurnSays, given_in}
-use Rattle.world_state.specs.declared.memory.OutOfMemory.{OutOfMemory}
-use Rattle.drift_world.specs.declared.next.Turn.{Turn}
-use Rattle.world_law.specs.world.World.{Stands}
-use Rattle.drift_world.specs.Views.{world_of}
+use Rattle.drift_world.proofs.Words.{◌++◌, ◌+◌, ◌∙◌, ◌≡◌, List, Note, Ok, OutOfMemory, Stands, Turn, [], ap, append-nil, arith, keeps, refl, subst, sym}
+use Rattle.drift_world.proofs.Words.{world_of, ℕ}
+use Rattle.drift_world.{proofs.Turning.after_then, specs.{Nearing.Nears, Turns.{IsWhole, TurnSays, given_in}}}
 use Rattle.drift_world.proofs.state.State.next.Goals as goal
 
 pub turns-init : goal.turns-init
@@ -37,19 +30,22 @@ returns-in-Ok-Gives-clause-after g c = after_then c.args.self.now c.turns.self c
 
 pub returns-in-Ok-Gives-clause-stands : goal.returns-in-Ok-Gives-clause-stands
 returns-in-Ok-Gives-clause-stands g c = λ s notes is.
-    subst (λ (t : Turn). Stands g.C.Clock.reading (keeps g.M.Machine.stands) s (world_of c.args.network.now c.turn.new.self) (notes ++ given_in {E = OutOfMemory} (Ok t))) c.in-Ok-Gives.field-0-is
+    subst (λ (t : Turn). Stands g.C.Clock.reading (keeps g.M.Machine.stands) s (world_of c.args.network.now c.turn.new.self) (notes
+    ++ given_in {E = OutOfMemory} (Ok t))) c.in-Ok-Gives.field-0-is
     (c.in-Ok-Gives.ensures.stands s notes (c.turns.invariant.still s notes is))
 
 pub returns-in-Ok-Gives-clause-given : goal.returns-in-Ok-Gives-clause-given
 returns-in-Ok-Gives-clause-given g c =
-    (subst (TurnSays c.turns.self c.turn.new.self c.args.until) c.in-Ok-Gives.field-0-is c.in-Ok-Gives.ensures.says).2 ∙ ap (λ (n : ℕ). n + 1) c.turns.invariant.given
+    (subst (TurnSays c.turns.self c.turn.new.self c.args.until) c.in-Ok-Gives.field-0-is c.in-Ok-Gives.ensures.says).2
+    ∙ ap (λ (n : ℕ). n + 1) c.turns.invariant.given
 
 pub returns-in-Ok-Ends-clause-after : goal.returns-in-Ok-Ends-clause-after
 returns-in-Ok-Ends-clause-after g c = after_then c.args.self.now c.turns.self c.turn.new.self c.turns.invariant.after c.turn.ensures.after
 
 pub returns-in-Ok-Ends-clause-stands : goal.returns-in-Ok-Ends-clause-stands
 returns-in-Ok-Ends-clause-stands g c = λ s notes is.
-    subst (λ (t : Turn). Stands g.C.Clock.reading (keeps g.M.Machine.stands) s (world_of c.args.network.now c.turn.new.self) (notes ++ given_in {E = OutOfMemory} (Ok t))) c.in-Ok-Ends.field-0-is
+    subst (λ (t : Turn). Stands g.C.Clock.reading (keeps g.M.Machine.stands) s (world_of c.args.network.now c.turn.new.self) (notes
+    ++ given_in {E = OutOfMemory} (Ok t))) c.in-Ok-Ends.field-0-is
     (c.in-Ok-Ends.ensures.stands s notes (c.turns.invariant.still s notes is))
 
 pub returns-in-Ok-Ends-clause-complete : goal.returns-in-Ok-Ends-clause-complete
@@ -83,7 +79,8 @@ turns-preserved g c =
       well = turn.well;
       after = after_then c.args.self.now c.turns.self c.turn.new.self before.after turn.after;
       still = λ s notes is.
-          subst (Stands g.C.Clock.reading (keeps g.M.Machine.stands) s (world_of c.args.network.now c.turn.new.self)) (ap (λ (l : List Note). notes ++ l) none ∙ append-nil notes)
+          subst (Stands g.C.Clock.reading (keeps g.M.Machine.stands) s (world_of c.args.network.now c.turn.new.self)) (ap (λ (l : List Note). notes ++ l) none
+          ∙ append-nil notes)
           (turn.stands s notes (before.still s notes is));
       early = says.0;
       given = says.1 ∙ before.given;

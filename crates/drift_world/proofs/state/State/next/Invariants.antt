@@ -1,5 +1,4 @@
-use Rattle.drift_world.proofs.Turning.{IsOnward}
-use Rattle.drift_world.specs.Nearing.{distance}
+use Rattle.drift_world.{proofs.Turning.IsOnward, specs.Nearing.distance}
 use Rattle.drift_world.proofs.state.State.next.Given as goal
 
 abbrev pub invariant-turns : goal.invariant-turns

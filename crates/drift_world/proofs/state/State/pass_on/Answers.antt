@@ -1,8 +1,5 @@
-use Rattle.std.proofs.Common.{◌≡◌, ◌⊎◌, ◌<◌, ◌≤◌, ◌+◌, ◌^◌, ℕ, [], ◌∷◌, arith, false, inl, inr, subst, true}
-use Rattle.run_law.specs.runs.DueRecords.{IsScenarioRun}
-use Rattle.drift_world.proofs.Sources.{of_world}
-use Rattle.drift_world.proofs.Nearings.{passing_nears}
-use Rattle.drift_world.proofs.Turning.{passes, whole_run}
+use Rattle.drift_world.proofs.Words.{◌+◌, ◌<◌, ◌^◌, ◌∷◌, ◌≡◌, ◌≤◌, ◌⊎◌, IsScenarioRun, [], arith, false, inl, inr, subst, true, ℕ}
+use Rattle.drift_world.proofs.{Nearings.passing_nears, Sources.of_world, Turning.{passes, whole_run}}
 use Rattle.drift_world.proofs.state.State.pass_on.Goals as goal
 
 -- where no time may pass, the time is the last
@@ -30,7 +27,8 @@ pub returns-then-time-until-clause-well : goal.returns-then-time-until-clause-we
 returns-then-time-until-clause-well g c =
     let r = c.requires in
     let most = c.if-time-gt-LAST.false in
-    passes g.C.Clock.last_step g.C.Clock.reading g.M.Machine.stands c.args.network.now c.args.self.now c.pass_to.new.self c.args.time r.well r.nothing r.later (omega (arith, most)) c.pass_to.ensures.same
+    passes g.C.Clock.last_step g.C.Clock.reading g.M.Machine.stands c.args.network.now c.args.self.now c.pass_to.new.self c.args.time r.well r.nothing r.later
+    (omega (arith, most)) c.pass_to.ensures.same
     (c.pass_to.ensures.sound c.args.network.now r.well.sound) (returns-then-time-until-clause-stands g c)
 
 pub returns-else-time-until-clause-stands : goal.returns-else-time-until-clause-stands
@@ -44,7 +42,8 @@ pub returns-else-time-until-clause-well : goal.returns-else-time-until-clause-we
 returns-else-time-until-clause-well g c =
     let r = c.requires in
     let most = c.if-time-gt-LAST.false in
-    passes g.C.Clock.last_step g.C.Clock.reading g.M.Machine.stands c.args.network.now c.args.self.now c.pass_to.new.self c.args.time r.well r.nothing r.later (omega (arith, most)) c.pass_to.ensures.same
+    passes g.C.Clock.last_step g.C.Clock.reading g.M.Machine.stands c.args.network.now c.args.self.now c.pass_to.new.self c.args.time r.well r.nothing r.later
+    (omega (arith, most)) c.pass_to.ensures.same
     (c.pass_to.ensures.sound c.args.network.now r.well.sound) (returns-else-time-until-clause-stands g c)
 
 pub returns-else-time-until-clause-whole : goal.returns-else-time-until-clause-whole
@@ -54,7 +53,8 @@ returns-else-time-until-clause-whole g c = λ s notes old.
     let not_less = c.if-time-until.false in
     let at : c.args.time ≡ c.args.until = omega (arith, within, not_less) in
     subst (λ (t : ℕ). IsScenarioRun s (t ∷ []) notes) at
-    (whole_run g.C.Clock.last_step g.C.Clock.reading g.M.Machine.stands c.args.network.now c.args.self.now s notes c.args.time r.well.sound r.nothing r.empty r.later old)
+    (whole_run g.C.Clock.last_step g.C.Clock.reading g.M.Machine.stands c.args.network.now c.args.self.now s notes c.args.time r.well.sound r.nothing r.empty
+    r.later old)
 
 pub returns-then-time-until-clause-nears : goal.returns-then-time-until-clause-nears
 returns-then-time-until-clause-nears g c =

@@ -1,10 +1,5 @@
-use Rattle.std.proofs.Common.{◌∷◌, [], List, ap, map, subst, sym, true, ◌∙◌}
-use Rattle.run_law.specs.records.Happenings.{Happening}
-use Rattle.world_state.specs.Keeping.{keeps}
-use Rattle.drift_world.specs.Views.{world_of}
-use Rattle.world_state.specs.Views.{settled_at}
+use Rattle.drift_world.proofs.Words.{◌∙◌, ◌∷◌, Happening, List, StandsBehind, [], ap, keeps, map, settled_at, subst, sym, true, world_of}
 use Rattle.world_steps.proofs.steps.Passed.{passed_step}
-use Rattle.world_law.specs.world.Moves.{StandsBehind}
 use Rattle.drift_world.proofs.state.State.pass_to.Goals as goal
 
 pub returns-clause-stands : goal.returns-clause-stands

@@ -1,14 +1,9 @@
-use Rattle.std.proofs.Common.{◌≡◌, ℕ, ◌+◌, ◌<◌, ◌≤◌, arith, List, length, slice_get, slice_set, subst, sym, ap, ◌∙◌, All}
-use Rattle.std.proofs.lemmas.List.{length-set}
-use Rattle.std.proofs.lemmas.List.Elements.{All-set}
-use Rattle.std.proofs.lemmas.Option.{slice_get_read}
-use Rattle.net_plan.specs.declared.ids.DeviceId.{DeviceId}
-use Rattle.net_plan.specs.declared.network.Network.{Network}
+use Rattle.drift_world.proofs.Words.{◌+◌, ◌<◌, ◌∙◌, ◌≡◌, ◌≤◌, DeviceId, List, Network, ap, arith, length, length-set, slice_get_read, slice_set, subst, sym, ℕ}
+use Rattle.std.proofs.{Common.{All, slice_get}, lemmas.List.Elements.All-set}
 use Rattle.tte_lemmas.proofs.Lists.{set_aside, set_same}
-use Rattle.drift_world.proofs.Timings.{IsLow, acts_timed, not_past, ripe_timed}
-use Rattle.world_state.specs.Timing.{IsLeastPoint, IsTimeFor}
 use Rattle.world_law.proofs.giving.Given.{some_same}
-use Rattle.drift_world.proofs.state.State.rekey.Given.{Over}
+use Rattle.world_state.specs.Timing.{IsLeastPoint, IsTimeFor}
+use Rattle.drift_world.proofs.{Timings.{IsLow, acts_timed, not_past, ripe_timed}, state.State.rekey.Given.Over}
 use Rattle.drift_world.proofs.state.State.rekey.Goals as goal
 
 -- the slots, as they are set

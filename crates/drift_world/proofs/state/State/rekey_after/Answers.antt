@@ -1,10 +1,6 @@
-use Rattle.std.proofs.Common.{◌≡◌, ap, arith, refl, subst, sym, ◌∙◌, length, ◌^◌}
-use Rattle.run_law.specs.declared.note.NoteBody.{NoteBody}
-use Rattle.drift_world.proofs.Timings.{aside, rekeyed}
-use Rattle.drift_world.proofs.Said.{far_kind}
+use Rattle.drift_world.proofs.Words.{◌^◌, ◌∙◌, ◌≡◌, ArrivedAt, ChangesOnly, NoteBody, ap, arith, changed_device, length, refl, subst, sym}
 use Rattle.world_state.specs.Bodies.{body_of}
-use Rattle.world_state.specs.Giving.{ArrivedAt, changed_device}
-use Rattle.drift_world.specs.Stepping.{ChangesOnly}
+use Rattle.drift_world.proofs.{Said.far_kind, Timings.{aside, rekeyed}}
 use Rattle.drift_world.proofs.state.State.rekey_after.Goals as goal
 
 pub returns-in-Arrived-clause-timed : goal.returns-in-Arrived-clause-timed
@@ -22,5 +18,6 @@ returns-in_default g c = record {
   timed = λ before are changes timers.
       let far : changed_device c.args.body.now ≡ 2 ^ 32 = ap changed_device (sym c.body.view_is) ∙ far_kind c.body.inside.kind c.in_default.not-Arrived in
       let few = c.requires.range.few_devices in
-      aside g.C.Clock.reading g.M.Machine.stands c.args.network.now (changed_device c.args.body.now) before c.args.self.now are (omega (arith, far, few)) changes timers;
+      aside g.C.Clock.reading g.M.Machine.stands c.args.network.now (changed_device c.args.body.now) before c.args.self.now are (omega (arith, far, few))
+      changes timers;
 }

@@ -1,4 +1,4 @@
-use Rattle.std.proofs.Common.{ap, arith, length}
+use Rattle.drift_world.proofs.Words.{ap, arith, length}
 use Rattle.drift_world.proofs.Timings.{running_with, set_more}
 use Rattle.drift_world.proofs.state.State.rekey_all.Goals as goal
 

@@ -1,15 +1,11 @@
-use Rattle.std.proofs.Common.{◌+◌, false, length, length-set, arith, ap, refl, subst, ◌∙◌}
+use Rattle.drift_world.proofs.Words.{◌+◌, ◌∙◌, Moment, Waits, ap, arith, false, is_set, keeps, length, length-set, length_permutation, refl, slice_get_read}
+use Rattle.drift_world.proofs.Words.{subst}
 use Rattle.std.specs.Vec.{with_item}
-use Rattle.std.proofs.lemmas.List.Sorted.{length_permutation}
-use Rattle.std.proofs.lemmas.Option.{slice_get_read}
-use Rattle.run_law.specs.declared.steps.Moment.{Moment}
-use Rattle.drift_world.proofs.Ripenings.{StandsAfter, asked, below_taken, device_in, low, moment_by, moment_is, octets_fit, others_wait, ripened, still_apart}
-use Rattle.world_state.proofs.Swaps.{is_set, was_there}
-use Rattle.world_state.specs.Keeping.{keeps}
-use Rattle.world_state.specs.declared.contents.Waits.{Waits}
-use Rattle.drift_world.specs.declared.state.State.{State}
 use Rattle.world_law.proofs.giving.Given.{some_same}
+use Rattle.world_state.proofs.Swaps.{was_there}
 use Rattle.world_steps.specs.Ripening.{HasRipened}
+use Rattle.drift_world.proofs.Ripenings.{StandsAfter, asked, below_taken, device_in, low, moment_by, moment_is, octets_fit, others_wait, ripened, still_apart}
+use Rattle.drift_world.specs.declared.state.State.{State}
 use Rattle.drift_world.proofs.state.State.ripen_first.Goals as goal
 
 pub reading_of-reading-requires-clause-there : goal.reading_of-reading-requires-clause-there
@@ -64,7 +60,8 @@ ripen-ripe-requires g c =
     asked K.reading stands network w one inside (λ clock own. c.requires.reached one clock is own) at c.index_mut.result.now
     (moment_by c.from_amount.result c.from_amount-2.result)
     (slice_get_read w.machines.items (length w.machines.items) one.device.0 c.index_mut.result.now refl (omega (arith, lt, many)) c.index_mut.ensures.value)
-    (moment_is K.reading stands network w one inside (λ clock own. c.requires.reached one clock is own) at.s at.notes at.is own.0 own.1 c.reading_of-reading.result own.2 c.from_amount.result
+    (moment_is K.reading stands network w one inside (λ clock own.
+    c.requires.reached one clock is own) at.s at.notes at.is own.0 own.1 c.reading_of-reading.result own.2 c.from_amount.result
     c.from_amount-2.result c.from_amount.ensures.value c.from_amount-2.ensures.value)
 
 pub returns-clause-sound : goal.returns-clause-sound
@@ -120,12 +117,14 @@ returns-clause-stands g c = λ v at.
     } in
     subst (StandsAfter K.reading M.stands network w after) (some_same one v _ is at) (λ s notes old first.
     ripened K.reading M.stands network w one c.take_first-waits.new.self.items c.index_mut.result.now c.ripen-ripe.new.self
-    c.ripen-ripe.result c.settle_ripe.new.settled.items t c.requires.sound.fit.apart (λ clock own. c.requires.reached one clock is own) (omega (arith, lt, many))
+    c.ripen-ripe.result c.settle_ripe.new.settled.items t c.requires.sound.fit.apart (λ clock own.
+    c.requires.reached one clock is own) (omega (arith, lt, many))
     (slice_get_read w.machines.items (length w.machines.items) one.device.0 c.index_mut.result.now refl (omega (arith, lt, many)) c.index_mut.ensures.value)
     c.settle_ripe.ensures s notes old first
     (subst (λ (m : Moment). HasRipened (keeps M.stands) s.network one.device m one.link one.frame one.point c.ripen-ripe.result c.index_mut.result.now
     c.ripen-ripe.new.self)
-    (moment_is K.reading M.stands network w one inside (λ clock own. c.requires.reached one clock is own) s notes old own.0 own.1 c.reading_of-reading.result own.2 c.from_amount.result
+    (moment_is K.reading M.stands network w one inside (λ clock own.
+    c.requires.reached one clock is own) s notes old own.0 own.1 c.reading_of-reading.result own.2 c.from_amount.result
     c.from_amount-2.result c.from_amount.ensures.value c.from_amount-2.ensures.value)
     (λ node. c.ripen-ripe.ensures s.network one.device node)))
 

@@ -1,11 +1,6 @@
-use Rattle.std.proofs.Common.{ap, subst, sym}
-use Rattle.drift_world.proofs.Turning.{either_end, plain_step}
+use Rattle.drift_world.proofs.Words.{Stands, World, ap, keeps, subst, sym, world_of}
+use Rattle.drift_world.{proofs.{Nearings.{on_both, settled_less}, Turning.{either_end, plain_step}}, specs.declared.state.State.State}
 use Rattle.drift_world.proofs.state.State.settle.Goals as goal
-use Rattle.world_state.specs.Keeping.{keeps}
-use Rattle.drift_world.specs.Views.{world_of}
-use Rattle.drift_world.specs.declared.state.State.{State}
-use Rattle.world_law.specs.world.World.{Stands, World}
-use Rattle.drift_world.proofs.Nearings.{on_both, settled_less}
 
 pub returns-clause-step : goal.returns-clause-step
 returns-clause-step g c =

@@ -1,10 +1,7 @@
-use Rattle.std.proofs.Common.{◌≡◌, ◌+◌, All, ap, arith, length, subst, sym}
-use Rattle.world_state.specs.Keeping.{keeps}
-use Rattle.world_state.specs.Sound.{AreBelow, AreUnderWay}
-use Rattle.drift_world.proofs.BefallenLaws.{all_fresh, befallen_behind, numbers_given, octets_settled}
+use Rattle.drift_world.proofs.Words.{◌+◌, ◌≡◌, AreBelow, AreUnderWay, ap, arith, keeps, length, subst, sym}
+use Rattle.std.proofs.Common.{All}
 use Rattle.world_state.proofs.Befallings.{settled_with, sound_settled}
-use Rattle.drift_world.proofs.Fits.{have_octets}
-use Rattle.drift_world.proofs.Nearings.{settled_length}
+use Rattle.drift_world.proofs.{BefallenLaws.{all_fresh, befallen_behind, numbers_given, octets_settled}, Fits.have_octets, Nearings.settled_length}
 use Rattle.drift_world.proofs.state.State.settle_befallen.Goals as goal
 
 pub returns-in_err-make_room-clause-sound : goal.returns-in_err-make_room-clause-sound

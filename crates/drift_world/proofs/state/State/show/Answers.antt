@@ -1,14 +1,7 @@
-use Rattle.std.proofs.Common.{ap, subst, ℕ}
-use Rattle.drift_world.specs.declared.source.Source.TheVariants.{Clock}
-use Rattle.drift_world.specs.declared.state.State.{State}
-use Rattle.drift_world.proofs.Turning.{comes_first, plain_step}
-use Rattle.drift_world.proofs.state.State.show.Goals as goal
-use Rattle.world_state.specs.Keeping.{keeps}
-use Rattle.drift_world.specs.Views.{world_of}
-use Rattle.world_law.specs.world.Moves.{ComesFirst}
+use Rattle.drift_world.proofs.Words.{◌<◌, ComesFirst, ap, keeps, length, subst, world_of, ℕ}
 use Rattle.world_law.specs.world.World.{clock_place}
-use Rattle.drift_world.proofs.Nearings.{shown_less}
-use Rattle.std.proofs.Common.{◌<◌, length}
+use Rattle.drift_world.{proofs.{Nearings.shown_less, Turning.{comes_first, plain_step}}, specs.declared.{source.Source.TheVariants.Clock, state.State.State}}
+use Rattle.drift_world.proofs.state.State.show.Goals as goal
 
 pub returns-clause-step : goal.returns-clause-step
 returns-clause-step g c =
@@ -18,9 +11,11 @@ returns-clause-step g c =
     plain_step g.C.Clock.last_step g.C.Clock.reading g.M.Machine.stands c.args.network.now w c.show_clock.new.self r.well step.sound step.others
     (ap (λ (t : State _ _). t.timers) step.same) (ap (λ (t : State _ _). t.given) step.same)
     (λ s notes old. (step.stands s notes old r.foremost.there.ended
-    (subst (λ (n : ℕ). ComesFirst g.C.Clock.reading (keeps g.M.Machine.stands) s (world_of c.args.network.now w) notes old (clock_place w.time (record { 0 = n })))
+    (subst (λ (n : ℕ). ComesFirst g.C.Clock.reading (keeps g.M.Machine.stands) s (world_of c.args.network.now w) notes old
+    (clock_place w.time (record { 0 = n })))
     r.foremost.there.next
-    (comes_first g.C.Clock.last_step g.C.Clock.reading g.M.Machine.stands c.args.network.now w (Clock c.args.device) s notes r.well.sound r.room r.foremost r.first tt old))).0)
+    (comes_first g.C.Clock.last_step g.C.Clock.reading g.M.Machine.stands c.args.network.now w (Clock c.args.device) s notes r.well.sound r.room r.foremost
+    r.first tt old))).0)
 
 pub returns-clause-less : goal.returns-clause-less
 returns-clause-less g c =

@@ -1,22 +1,9 @@
-use Rattle.std.proofs.Common.{◌≡◌, ◌<◌, ap, pos, refl, subst, sym, ◌∙◌, length, None, arith}
-use Rattle.std.proofs.lemmas.Option.{slice_get_read}
-use Rattle.net_plan.specs.declared.network.Network.{Network}
-use Rattle.net_plan.specs.declared.ids.DeviceId.{DeviceId}
-use Rattle.run_law.specs.records.Happenings.{happenings}
-use Rattle.run_law.specs.declared.note.NoteBody.TheVariants.{Clock as Shown}
-use Rattle.run_law.specs.declared.note.NoteBody.{NoteBody}
-use Rattle.tte_units.specs.Amount.{amount, units_of}
-use Rattle.tte_units.specs.declared.units.Units.{Units}
-use Rattle.world_state.specs.Keeping.{keeps}
-use Rattle.drift_world.specs.Views.{world_of}
-use Rattle.run_law.proofs.runs.Determined.{same_units}
-use Rattle.world_state.specs.Views.{settled_at}
-use Rattle.world_state.specs.declared.contents.Settled.{Settled}
+use Rattle.drift_world.proofs.Words.{◌<◌, ◌∙◌, ◌≡◌, DeviceId, Network, None, NoteBody, Settled, Units, amount, ap, arith, happenings, keeps, length, pos, refl}
+use Rattle.drift_world.proofs.Words.{settled_at, slice_get_read, subst, sym, units_of, world_of}
+use Rattle.run_law.{proofs.runs.Determined.same_units, specs.declared.note.NoteBody.TheVariants.Clock as Shown}
 use Rattle.world_law.proofs.giving.Given.{some_same}
 use Rattle.world_steps.proofs.steps.ClockSteps.{clock_step}
-use Rattle.drift_world.proofs.Fits.{all_put, have_octets}
-use Rattle.drift_world.proofs.HiddenCauses.{settled_in_order}
-use Rattle.drift_world.proofs.Puts.{one_put_in}
+use Rattle.drift_world.proofs.{Fits.{all_put, have_octets}, HiddenCauses.settled_in_order, Puts.one_put_in}
 use Rattle.drift_world.proofs.state.State.show_clock.Goals as goal
 
 pub returns-clause-sound : goal.returns-clause-sound

@@ -1,13 +1,7 @@
-use Rattle.std.proofs.Common.{◌≡◌, ℕ, ◌-◌, ◌≤◌, ◌∷◌, [], length, Option, inl, sym, ap, subst, ◌∙◌, arith}
-use Rattle.std.specs.Prelude.{IfNone}
-use Rattle.due_timers.specs.declared.Due.{Due}
-use Rattle.net_plan.specs.declared.ids.DeviceId.{DeviceId}
-use Rattle.world_state.specs.declared.contents.Waits.{Waits}
-use Rattle.drift_world.proofs.Sources.{due_acts, due_ripe, slot_high}
-use Rattle.drift_world.specs.Turns.{IsActive}
-use Rattle.drift_world.proofs.state.State.source_of_slot.Given.{Over}
+use Rattle.drift_world.proofs.Words.{◌-◌, ◌∙◌, ◌∷◌, ◌≡◌, ◌≤◌, DeviceId, Due, IfNone, Option, Waits, [], ap, arith, inl, length, subst, sym, ℕ}
+use Rattle.drift_world.proofs.{Sources.{due_acts, due_ripe, slot_high}, state.State.source_of_slot.Given.Over}
+use Rattle.drift_world.{proofs.state.State.source_of_slot.Goals.{else-slot-devices, then-slot-devices+in_default}, specs.Turns.IsActive}
 use Rattle.drift_world.proofs.state.State.source_of_slot.Goals as goal
-use Rattle.drift_world.proofs.state.State.source_of_slot.Goals.{then-slot-devices+in_default, else-slot-devices}
 
 -- the slot is for the acts of a device: else a frame that waits were permanent
 high : (g : Over) (c : goal.Joined-slot-devices g) → length c.args.network.now.device ≤ c.args.slot

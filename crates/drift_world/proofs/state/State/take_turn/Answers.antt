@@ -1,10 +1,5 @@
-use Rattle.std.proofs.Common.{[], refl, subst, arith}
-use Rattle.drift_world.proofs.Nearings.{less_nears}
-use Rattle.drift_world.proofs.Turning.{none_given, none_settled, now_so, same_records}
-use Rattle.world_state.specs.Keeping.{keeps}
-use Rattle.drift_world.specs.Turns.{SourceFirst}
-use Rattle.drift_world.specs.Views.{world_of}
-use Rattle.world_state.specs.declared.memory.OutOfMemory.{OutOfMemory}
+use Rattle.drift_world.proofs.Words.{OutOfMemory, SourceFirst, [], arith, keeps, refl, subst, world_of}
+use Rattle.drift_world.proofs.{Nearings.less_nears, Turning.{none_given, none_settled, now_so, same_records}}
 use Rattle.drift_world.proofs.state.State.take_turn.Goals as goal
 
 pub pass_on-requires-clause-empty : goal.pass_on-requires-clause-empty
@@ -39,7 +34,8 @@ returns-in-Ok g c =
     record {
       well = step.well;
       after = step.after;
-      stands = λ s notes old. same_records g.C.Clock.reading (keeps g.M.Machine.stands) s (world_of c.args.network.now c.work_off.new.self) notes [] refl (step.still s notes old);
+      stands = λ s notes old. same_records g.C.Clock.reading (keeps g.M.Machine.stands) s (world_of c.args.network.now c.work_off.new.self) notes [] refl
+          (step.still s notes old);
       whole = λ s notes old. tt;
       says = (omega (arith, time, early), step.given);
       nears = less_nears g.C.Clock.last_step g.C.Clock.reading g.M.Machine.stands c.args.network.now c.args.until c.args.self.now c.work_off.new.self step.well
@@ -53,7 +49,8 @@ returns-in-Err g c =
     record {
       well = step.well;
       after = step.after;
-      stands = λ s notes old. same_records g.C.Clock.reading (keeps g.M.Machine.stands) s (world_of c.args.network.now c.work_off.new.self) notes [] refl (step.still s notes old);
+      stands = λ s notes old. same_records g.C.Clock.reading (keeps g.M.Machine.stands) s (world_of c.args.network.now c.work_off.new.self) notes [] refl
+          (step.still s notes old);
       whole = λ s notes old. tt;
       says = tt;
       nears = tt;

@@ -1,19 +1,17 @@
-use Rattle.std.proofs.Common.{[], arith, refl, sym, ◌∙◌}
-use Rattle.drift_world.proofs.Nearings.{nears_then}
-use Rattle.drift_world.proofs.Turning.{after_then, err_then, roomier, same_records, says_then}
-use Rattle.world_state.specs.Keeping.{keeps}
-use Rattle.drift_world.specs.Views.{world_of}
-use Rattle.world_state.specs.declared.memory.OutOfMemory.{OutOfMemory}
+use Rattle.drift_world.proofs.Words.{◌∙◌, OutOfMemory, [], arith, keeps, refl, sym, world_of}
+use Rattle.drift_world.proofs.{Nearings.nears_then, Turning.{after_then, err_then, roomier, same_records, says_then}}
 use Rattle.drift_world.proofs.state.State.turn.Goals as goal
 
 pub returns-in-Err : goal.returns-in-Err
 returns-in-Err g c =
     let made = c.make_places.ensures in
-    let step = roomier g.C.Clock.last_step g.C.Clock.reading g.M.Machine.stands c.args.network.now c.args.self.now c.make_places.new.self c.requires.well made.same made.items in
+    let step = roomier g.C.Clock.last_step g.C.Clock.reading g.M.Machine.stands c.args.network.now c.args.self.now c.make_places.new.self c.requires.well
+    made.same made.items in
     record {
       well = step.well;
       after = step.after;
-      stands = λ s notes is. same_records g.C.Clock.reading (keeps g.M.Machine.stands) s (world_of c.args.network.now c.make_places.new.self) notes [] refl (step.still s notes is);
+      stands = λ s notes is. same_records g.C.Clock.reading (keeps g.M.Machine.stands) s (world_of c.args.network.now c.make_places.new.self) notes [] refl
+          (step.still s notes is);
       whole = λ s notes is. tt;
       says = tt;
       nears = tt;
@@ -24,7 +22,8 @@ pub take_turn-requires : goal.take_turn-requires
 take_turn-requires g c =
     let r = c.requires in
     let made = c.make_places.ensures in
-    let step = roomier g.C.Clock.last_step g.C.Clock.reading g.M.Machine.stands c.args.network.now c.args.self.now c.make_places.new.self r.well made.same made.items in
+    let step = roomier g.C.Clock.last_step g.C.Clock.reading g.M.Machine.stands c.args.network.now c.args.self.now c.make_places.new.self r.well made.same
+    made.items in
     let time = step.time in
     let early = r.open in
     record {
@@ -39,7 +38,8 @@ take_turn-requires g c =
 pub returns : goal.returns
 returns g c =
     let made = c.make_places.ensures in
-    let step = roomier g.C.Clock.last_step g.C.Clock.reading g.M.Machine.stands c.args.network.now c.args.self.now c.make_places.new.self c.requires.well made.same made.items in
+    let step = roomier g.C.Clock.last_step g.C.Clock.reading g.M.Machine.stands c.args.network.now c.args.self.now c.make_places.new.self c.requires.well
+    made.same made.items in
     let turn = c.take_turn.ensures in
     record {
       well = turn.well;

@@ -1,5 +1,4 @@
-use Rattle.std.proofs.Common.{subst}
-use Rattle.drift_world.specs.Turns.{SourceFirst}
+use Rattle.drift_world.proofs.Words.{SourceFirst, subst}
 use Rattle.drift_world.specs.declared.source.Source.{Source}
 use Rattle.drift_world.proofs.state.State.work_off.Goals as goal
 

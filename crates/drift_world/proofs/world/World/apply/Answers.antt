@@ -1,15 +1,7 @@
-use Rattle.std.proofs.Common.{◌+◌, ◌++◌, ◌∷◌, [], ℕ, List, append-nil, pos, sym, ap, subst, ◌∙◌, arith}
-use Rattle.std.proofs.lemmas.Int.{ints}
-use Rattle.net_plan.specs.Belonging.{IsOfNetwork}
-use Rattle.net_plan.specs.declared.network.Network.{Network}
-use Rattle.run_law.specs.declared.note.Note.{Note}
-use Rattle.run_law.specs.runs.DueRecords.{IsRunOf}
-use Rattle.run_law.specs.scenario.Hypothesis.{IsWithinHypothesis}
+use Rattle.drift_world.proofs.Words.{◌++◌, ◌+◌, ◌∙◌, ◌∷◌, IsOfNetwork, IsRunOf, IsWithinHypothesis, Kept, List, Network, Note, StandsUnder, World, [], ap}
+use Rattle.drift_world.proofs.Words.{append-nil, arith, behind_events, ints, pos, reading_of, subst, sym, ℕ}
 use Rattle.drift_world.proofs.Laters.{again_there, given_there, has_reached, lines_there, network_there, now_there, open_there, stands_there, time_limit}
-use Rattle.drift_world.specs.Later.{MayApplyAgain}
-use Rattle.drift_world.specs.Running.{StandsUnder, behind_events, event_note, reading_of}
-use Rattle.world_law.specs.world.World.{World}
-use Rattle.world_state.specs.declared.kept.Kept.{Kept}
+use Rattle.drift_world.specs.{Later.MayApplyAgain, Running.event_note}
 use Rattle.drift_world.proofs.world.World.apply.Goals as goal
 
 pub next_given-requires-clause-limit : goal.next_given-requires-clause-limit
@@ -56,7 +48,8 @@ befall-requires-clause-within g c =
     let mid = c.next_given.new.self in
     let event = c.args.event.now in
     let stands = E.stands world.network may.events may.notes may.comes.is in
-    let same = network_there K.fresh K.after_step K.reading S world.network world mid may.events may.notes event may.comes c.requires.open c.in-Ok.field-0 stands
+    let same = network_there K.fresh K.after_step K.reading S world.network world mid may.events may.notes event may.comes c.requires.open c.in-Ok.field-0
+    stands
     E.before E.reached in
     record {
       events = may.events;
@@ -74,7 +67,8 @@ returns-in-Ok-befall-clause-stands g c = λ network events notes comes.
     let S = g.M.Machine.stands in
     let E = c.in-Ok.ensures in
     let event = c.args.event.now in
-    let stands = stands_there K.fresh K.after_step K.reading S network c.args.self.now c.next_given.new.self events notes event comes c.requires.open c.in-Ok.field-0
+    let stands = stands_there K.fresh K.after_step K.reading S network c.args.self.now c.next_given.new.self events notes event comes c.requires.open
+    c.in-Ok.field-0
     (E.stands network events notes comes.is) E.before E.reached in
     subst (λ (note : Note). StandsUnder K.fresh K.after_step K.reading S network c.befall.new.self (events ++ event ∷ [])
     (notes ++ note ∷ [])) (sym c.note.ensures) (c.in-Ok-befall.ensures.stands network events notes stands comes.within)
@@ -86,9 +80,11 @@ returns-in-Ok-befall-clause-run g c = λ network events notes comes.
     let E = c.in-Ok.ensures in
     let event = c.args.event.now in
     let more = E.stands network events notes comes.is in
-    let stands = stands_there K.fresh K.after_step K.reading S network c.args.self.now c.next_given.new.self events notes event comes c.requires.open c.in-Ok.field-0
+    let stands = stands_there K.fresh K.after_step K.reading S network c.args.self.now c.next_given.new.self events notes event comes c.requires.open
+    c.in-Ok.field-0
     more E.before E.reached in
-    let now = now_there K.fresh K.after_step K.reading S network c.args.self.now c.next_given.new.self events notes event comes c.requires.open c.in-Ok.field-0 more
+    let now = now_there K.fresh K.after_step K.reading S network c.args.self.now c.next_given.new.self events notes event comes c.requires.open c.in-Ok.field-0
+    more
     E.before E.reached in
     let f = reading_of K.fresh K.after_step K.reading network (events ++ event ∷ []) in
     subst (λ (n : ℕ). IsRunOf network f (events ++ event ∷ []) (behind_events n) (notes ++ c.note.result ∷ [])) now
@@ -117,7 +113,8 @@ returns-in-Ok-befall-clause-at g c =
     let stands = E.stands world.network may.events may.notes may.comes.is in
     let mid = c.next_given.new.self in
     let event = c.args.event.now in
-    let reached = has_reached K.fresh K.after_step K.reading S world.network world mid may.events may.notes event may.comes c.requires.open c.in-Ok.field-0 stands
+    let reached = has_reached K.fresh K.after_step K.reading S world.network world mid may.events may.notes event may.comes c.requires.open c.in-Ok.field-0
+    stands
     E.before E.reached in
     let opens = open_there K.fresh K.after_step K.reading S world.network world mid may.events may.notes event may.comes c.requires.open c.in-Ok.field-0 stands
     E.before E.reached in
@@ -134,7 +131,8 @@ returns-in-Err-befall-clause-stands g c = λ network events notes comes.
     let S = g.M.Machine.stands in
     let E = c.in-Ok.ensures in
     subst (λ (w : World _ (Kept _)). StandsUnder K.fresh K.after_step K.reading S network w events notes) (sym c.in-Err-befall.ensures.err)
-    (stands_there K.fresh K.after_step K.reading S network c.args.self.now c.next_given.new.self events notes c.args.event.now comes c.requires.open c.in-Ok.field-0
+    (stands_there K.fresh K.after_step K.reading S network c.args.self.now c.next_given.new.self events notes c.args.event.now comes c.requires.open
+    c.in-Ok.field-0
     (E.stands network events notes comes.is) E.before E.reached)
 
 pub returns-in-Err-befall-clause-err : goal.returns-in-Err-befall-clause-err

@@ -1,25 +1,9 @@
-use Rattle.std.proofs.Common.{◌≡◌, ◌++◌, ◌∷◌, [], List, refl, sym, ap, subst, ◌∙◌, arith, length}
-use Rattle.drift_clock.proofs.Readings.{IsLawful}
+use Rattle.drift_world.proofs.Words.{◌++◌, ◌∙◌, ◌∷◌, ◌≡◌, AreTimed, IsLawful, IsRunOf, IsSound, IsWithinHypothesis, Kept, List, Network, Note, Stands}
+use Rattle.drift_world.proofs.Words.{StandsUnder, World, [], ap, arith, behind_events, keeps, length, reading_of, refl, scenario, subst, sym, world_of}
 use Rattle.net_plan.specs.declared.event.Event.{Event}
-use Rattle.net_plan.specs.declared.network.Network.{Network}
-use Rattle.run_law.specs.declared.note.Note.{Note}
-use Rattle.run_law.specs.runs.DueRecords.{IsRunOf}
-use Rattle.run_law.specs.scenario.Hypothesis.{IsWithinHypothesis}
 use Rattle.safe_runs.proofs.Histories.{slow_rate}
-use Rattle.drift_world.proofs.Elsewhere.{timed_by_event}
-use Rattle.drift_world.proofs.Onwards.{befalls}
-use Rattle.drift_world.proofs.Shortness.{sets_short}
-use Rattle.drift_world.proofs.Timings.{unmoved}
-use Rattle.drift_world.proofs.Wells.{sound_timers}
-use Rattle.world_state.specs.Keeping.{keeps}
-use Rattle.drift_world.specs.Running.{StandsUnder, behind_events, reading_of}
-use Rattle.drift_world.specs.Sound.{IsSound}
-use Rattle.drift_world.specs.Sourcing.{AreTimed}
-use Rattle.drift_world.specs.Views.{world_of}
-use Rattle.world_state.specs.declared.kept.Kept.{Kept}
+use Rattle.drift_world.proofs.{Elsewhere.timed_by_event, Onwards.befalls, Shortness.sets_short, Timings.unmoved, Wells.sound_timers}
 use Rattle.drift_world.specs.declared.state.State.{State}
-use Rattle.world_law.specs.source.Agreeing.{scenario}
-use Rattle.world_law.specs.world.World.{Stands, World}
 use Rattle.drift_world.proofs.world.World.befall.Given as given
 use Rattle.drift_world.proofs.world.World.befall.Goals as goal
 

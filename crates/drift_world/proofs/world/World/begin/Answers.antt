@@ -1,17 +1,6 @@
-use Rattle.std.proofs.Common.{[], ap, subst, sym}
-use Rattle.drift_clock.proofs.Readings.{IsLawful}
-use Rattle.net_plan.specs.declared.network.Network.{Network}
-use Rattle.net_plan.specs.Ranges.{IsInRange}
-use Rattle.schedule_tables.specs.Rules.{KeepsRules}
-use Rattle.drift_world.proofs.Freshness.{first_sound, first_stands}
-use Rattle.drift_world.proofs.Wells.{sound_timers}
-use Rattle.drift_world.specs.Beginning.{AreFresh, IsFirstState}
-use Rattle.drift_world.specs.Running.{StandsUnder, reading_of}
-use Rattle.drift_world.specs.Sourcing.{AreTimed}
-use Rattle.drift_world.specs.Views.{world_of}
-use Rattle.world_state.specs.declared.kept.Kept.{Kept}
-use Rattle.world_law.specs.source.Agreeing.{scenario}
-use Rattle.world_law.specs.world.World.{World}
+use Rattle.drift_world.proofs.Words.{AreTimed, IsInRange, IsLawful, KeepsRules, Kept, Network, StandsUnder, World, [], ap, reading_of, scenario, subst, sym}
+use Rattle.drift_world.proofs.Words.{world_of}
+use Rattle.drift_world.{proofs.{Freshness.{first_sound, first_stands}, Wells.sound_timers}, specs.Beginning.{AreFresh, IsFirstState}}
 use Rattle.drift_world.proofs.world.World.begin.Given as given
 use Rattle.drift_world.proofs.world.World.begin.Goals as goal
 
@@ -36,7 +25,8 @@ pub rekey_all-requires-clause-running : goal.rekey_all-requires-clause-running
 rekey_all-requires-clause-running g c =
     let K = g.C.Clock in
     let network = c.network-network.result.now in
-    let under = first_stands K.fresh K.last_step network c.args.machines.items c.in_ok-state.state c.in_ok-state.ensures K.after_step K.reading K.grain_of K.count
+    let under = first_stands K.fresh K.last_step network c.args.machines.items c.in_ok-state.state c.in_ok-state.ensures K.after_step K.reading K.grain_of
+    K.count
     (lawful g) g.M.Machine.stands
     (subst (λ (n : Network). AreFresh g.M.Machine.stands n c.args.machines.items) (sym c.network-network.ensures.value) c.requires)
     (subst IsInRange (sym c.network-network.ensures.value) c.network-network.ensures.range)
@@ -61,7 +51,8 @@ stands g c =
     let K = g.C.Clock in
     subst (λ (w : World _ (Kept _)). StandsUnder K.fresh K.after_step K.reading g.M.Machine.stands c.args.accepted.now w [] [])
     (ap (world_of c.args.accepted.now) (sym c.rekey_all.ensures.same))
-    (first_stands K.fresh K.last_step c.args.accepted.now c.args.machines.items c.in_ok-state.state (first g c) K.after_step K.reading K.grain_of K.count (lawful g)
+    (first_stands K.fresh K.last_step c.args.accepted.now c.args.machines.items c.in_ok-state.state (first g c) K.after_step K.reading K.grain_of K.count
+    (lawful g)
     g.M.Machine.stands c.requires c.network-network.ensures.range c.network-network.ensures.rules)
 
 pub invariant_of-result : goal.invariant_of-result

@@ -1,11 +1,6 @@
-use Rattle.std.proofs.Common.{◌<◌, ◌≤◌, ◌∙◌, length, sym, ap, subst, arith}
-use Rattle.std.proofs.lemmas.Int.{ints}
-use Rattle.tte_units.specs.Amount.{amount}
-use Rattle.drift_world.proofs.Locals.{clock_stepped, local_is}
-use Rattle.drift_world.specs.Locals.{IsComplete}
-use Rattle.world_state.specs.declared.kept.Kept.{Kept}
+use Rattle.drift_world.proofs.Words.{◌<◌, ◌∙◌, ◌≤◌, IsComplete, Kept, World, amount, ap, arith, ints, length, subst, sym}
 use Rattle.world_law.proofs.giving.Given.{some_same}
-use Rattle.world_law.specs.world.World.{World}
+use Rattle.drift_world.proofs.Locals.{clock_stepped, local_is}
 use Rattle.drift_world.proofs.world.World.local.Goals as goal
 
 pub local_of-requires-clause-stepped : goal.local_of-requires-clause-stepped
@@ -31,6 +26,7 @@ returns-clause-local g c = λ network events notes complete.
     let own = c.self.inside.accepted.now in
     local_is K.fresh K.after_step K.reading g.M.Machine.stands own network c.self.inside.state (amount c.args.t) events notes c.args.device c.local_of.result
     (subst (λ (w : World _ (Kept _)). c.args.device.0 < length w.network.device) (sym c.self.view_is) c.requires.there)
-    (subst (λ (w : World _ (Kept _)). IsComplete K.fresh K.after_step K.reading g.M.Machine.stands network w (amount c.args.t) events notes) (sym c.self.view_is)
+    (subst (λ (w : World _ (Kept _)). IsComplete K.fresh K.after_step K.reading g.M.Machine.stands network w (amount c.args.t) events notes)
+    (sym c.self.view_is)
     complete)
     c.local_of.ensures.shows

@@ -1,18 +1,7 @@
-use Rattle.std.proofs.Common.{ℕ, ◌<◌, ◌≤◌, ◌^◌, ◌∙◌, length, inl, inr, sym, ap, subst, arith}
-use Rattle.std.proofs.lemmas.Int.{ints}
-use Rattle.run_law.specs.records.Happenings.{happenings}
-use Rattle.tte_units.specs.Amount.{amount}
-use Rattle.drift_world.proofs.LocalValues.{complete_reads, local_value, now_reads}
-use Rattle.drift_world.proofs.Locals.{clock_stepped, local_is}
-use Rattle.drift_world.proofs.LocalsBefore.{local_is_before}
-use Rattle.drift_world.specs.Locals.{IsComplete, IsLocalClockBefore}
-use Rattle.drift_world.specs.Running.{StandsUnder, reading_of}
-use Rattle.tte_lemmas.proofs.Lists.{in_all}
-use Rattle.world_state.specs.Keeping.{keeps}
-use Rattle.world_state.specs.declared.kept.Kept.{Kept}
+use Rattle.drift_world.proofs.Words.{◌<◌, ◌^◌, ◌∙◌, ◌≤◌, IsComplete, IsLocalClockBefore, Kept, Stands, StandsUnder, World, amount, ap, arith, happenings}
+use Rattle.drift_world.proofs.Words.{in_all, inl, inr, ints, keeps, length, reading_of, scenario, subst, sym, ℕ}
 use Rattle.world_law.proofs.giving.Given.{some_same}
-use Rattle.world_law.specs.source.Agreeing.{scenario}
-use Rattle.world_law.specs.world.World.{Stands, World}
+use Rattle.drift_world.proofs.{LocalValues.{complete_reads, local_value, now_reads}, Locals.{clock_stepped, local_is}, LocalsBefore.local_is_before}
 use Rattle.drift_world.proofs.world.World.local_at.Given as given
 use Rattle.drift_world.proofs.world.World.local_at.Goals as goal
 
@@ -49,7 +38,8 @@ returns-clause-local g c = λ network events notes complete.
     let own = c.self.inside.accepted.now in
     local_is K.fresh K.after_step K.reading g.M.Machine.stands own network c.self.inside.state (amount c.args.t) events notes c.args.device c.local_of.result
     (there g c)
-    (subst (λ (w : World _ (Kept _)). IsComplete K.fresh K.after_step K.reading g.M.Machine.stands network w (amount c.args.t) events notes) (sym c.self.view_is)
+    (subst (λ (w : World _ (Kept _)). IsComplete K.fresh K.after_step K.reading g.M.Machine.stands network w (amount c.args.t) events notes)
+    (sym c.self.view_is)
     complete)
     c.local_of.ensures.shows
 
@@ -87,7 +77,8 @@ returns-clause-small g c = λ small.
           shows)
       | inr now ↦
           let may = now.1 in
-          let under = subst (λ (w : World _ (Kept _)). StandsUnder K.fresh K.after_step K.reading S w.network w may.events may.notes) (sym c.self.view_is) may.is
+          let under = subst (λ (w : World _ (Kept _)). StandsUnder K.fresh K.after_step K.reading S w.network w may.events may.notes) (sym c.self.view_is)
+          may.is
           in
           let s = scenario own (reading_of K.fresh K.after_step K.reading own may.events) may.events in
           local_value K.reading S small s own state may.notes c.args.device (amount c.args.t) c.local_of.result under.is (there g c) limit shows

@@ -1,15 +1,6 @@
-use Rattle.std.proofs.Common.{ℕ, ◌<◌, ◌≤◌, ◌∙◌, length, sym, ap, subst, arith}
-use Rattle.std.proofs.lemmas.Int.{ints}
-use Rattle.run_law.specs.records.Happenings.{happenings}
-use Rattle.tte_units.specs.Amount.{amount}
+use Rattle.drift_world.proofs.Words.{◌<◌, ◌∙◌, ◌≤◌, IsLocalClockBefore, Kept, Stands, World, amount, ap, arith, happenings, in_all, ints, keeps, length}
+use Rattle.drift_world.proofs.Words.{reading_of, scenario, subst, sym, ℕ}
 use Rattle.drift_world.proofs.LocalsBefore.{local_is_before}
-use Rattle.drift_world.specs.Locals.{IsLocalClockBefore}
-use Rattle.drift_world.specs.Running.{reading_of}
-use Rattle.tte_lemmas.proofs.Lists.{in_all}
-use Rattle.world_state.specs.Keeping.{keeps}
-use Rattle.world_state.specs.declared.kept.Kept.{Kept}
-use Rattle.world_law.specs.source.Agreeing.{scenario}
-use Rattle.world_law.specs.world.World.{Stands, World}
 use Rattle.drift_world.proofs.world.World.local_before.Goals as goal
 
 pub local_of-requires-clause-stepped : goal.local_of-requires-clause-stepped

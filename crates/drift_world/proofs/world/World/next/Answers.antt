@@ -1,12 +1,7 @@
-use Rattle.std.proofs.Common.{◌++◌, ◌<◌, ◌≡◌, ◌<ℤ◌, ◌≤ℤ◌, ℕ, ℤ, Option, Some, None, Result, Ok, Err, sym, subst, arith}
-use Rattle.std.specs.Prelude.{IfNone, IfOk, IfSome}
-use Rattle.std.proofs.lemmas.Int.{ints}
-use Rattle.run_law.specs.declared.note.Note.{Note}
+use Rattle.drift_world.proofs.Words.{◌++◌, ◌<ℤ◌, ◌<◌, ◌≡◌, ◌≤ℤ◌, ComesUpTo, Err, IfNone, IfOk, IfSome, None, Note, Ok, Option, OutOfMemory, Result, Some}
+use Rattle.drift_world.proofs.Words.{StandsUnder, Units, amount, arith, given_by, ints, subst, sym, units_of, ℕ, ℤ}
 use Rattle.safe_runs.specs.Headline.{IsSafeFront}
-use Rattle.tte_units.specs.Amount.{amount, units_of}
-use Rattle.tte_units.specs.declared.units.Units.{Units}
-use Rattle.drift_world.specs.Running.{ComesUpTo, StandsUnder, given_by, left_of}
-use Rattle.world_state.specs.declared.memory.OutOfMemory.{OutOfMemory}
+use Rattle.drift_world.specs.Running.{left_of}
 use Rattle.drift_world.proofs.world.World.next.Goals as goal
 
 -- what is before a time is before a later one

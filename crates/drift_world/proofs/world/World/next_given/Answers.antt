@@ -1,22 +1,9 @@
-use Rattle.std.proofs.Common.{◌≡◌, ℕ, List, ◌++◌, ◌∷◌, [], sym, ap, subst, ◌∙◌, arith, slice_get}
-use Rattle.std.specs.Prelude.{IfNone, IfOk, Option, Some, None, Result, Ok, Err}
-use Rattle.std.proofs.lemmas.Int.{ints}
-use Rattle.net_plan.specs.declared.network.Network.{Network}
-use Rattle.run_law.specs.declared.note.Note.{Note}
-use Rattle.run_law.specs.runs.DueRecords.{IsRunOf, IsScenarioRun}
-use Rattle.run_law.specs.scenario.Scenarios.{Scenario}
-use Rattle.drift_clock.proofs.Readings.{IsLawful, begins_at_zero, keeps_clock_laws}
-use Rattle.safe_runs.proofs.Clocked.{before}
-use Rattle.safe_runs.specs.Headline.{IsSafeFront}
-use Rattle.safe_runs.specs.Under.{IsUnder}
-use Rattle.tte_units.specs.Amount.{amount}
-use Rattle.world_state.specs.Keeping.{keeps}
+use Rattle.drift_world.proofs.Words.{◌++◌, ◌∙◌, ◌∷◌, ◌≡◌, ComesUpTo, Err, IfNone, IfOk, IsLawful, IsRunOf, IsScenarioRun, Kept, List, Network, None, Note, Ok}
+use Rattle.drift_world.proofs.Words.{Option, Result, Scenario, Some, Stands, StandsUnder, World, [], amount, ap, arith, begins_at_zero, given_by, ints, keeps}
+use Rattle.drift_world.proofs.Words.{keeps_clock_laws, reading_of, scenario, subst, sym, world_of, ℕ}
+use Rattle.std.proofs.Common.{slice_get}
+use Rattle.safe_runs.{proofs.Clocked.before, specs.{Headline.IsSafeFront, Under.IsUnder}}
 use Rattle.drift_world.proofs.Retries.{comes_up_to}
-use Rattle.drift_world.specs.Running.{ComesUpTo, StandsUnder, given_by, reading_of}
-use Rattle.drift_world.specs.Views.{world_of}
-use Rattle.world_state.specs.declared.kept.Kept.{Kept}
-use Rattle.world_law.specs.source.Agreeing.{scenario}
-use Rattle.world_law.specs.world.World.{Stands, World}
 use Rattle.drift_world.proofs.world.World.next_given.Given as given
 use Rattle.drift_world.proofs.world.World.next_given.Goals as goal
 

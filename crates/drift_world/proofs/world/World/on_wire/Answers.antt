@@ -1,10 +1,5 @@
-use Rattle.std.proofs.Common.{subst, sym, ap}
-use Rattle.drift_world.proofs.JustPut.{shown_put}
-use Rattle.drift_world.specs.Running.{StandsUnder}
-use Rattle.drift_world.specs.Wires.{IsOfNow}
-use Rattle.run_law.specs.records.Happenings.{happenings}
-use Rattle.world_law.specs.world.World.{World}
-use Rattle.world_state.specs.declared.kept.Kept.{Kept}
+use Rattle.drift_world.proofs.Words.{Kept, StandsUnder, World, happenings, subst, sym}
+use Rattle.drift_world.{proofs.JustPut.shown_put, specs.Wires.IsOfNow}
 use Rattle.drift_world.proofs.world.World.on_wire.Goals as goal
 
 pub returns : goal.returns

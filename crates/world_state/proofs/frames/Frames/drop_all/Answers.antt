@@ -1,10 +1,7 @@
-use Rattle.std.proofs.Common.{◌≡◌, ◌+◌, ◌<◌, ℕ, List, filter, length, slice_get, Some, inr, refl, sym, ap, subst, ◌∙◌, arith}
-use Rattle.std.proofs.lemmas.Option.{slice_get_read}
-use Rattle.due_queue.specs.declared.Entry.{Entry}
+use Rattle.std.proofs.{Common.{◌+◌, ◌∙◌, ◌≡◌, List, ap, arith, filter, inr, length, refl, subst, sym, ℕ}, lemmas.Option.slice_get_read}
 use Rattle.run_law.specs.records.Order.{IsIn}
-use Rattle.world_state.proofs.Emptied.{emptied, from_zero, keeps_it, kept_beyond}
-use Rattle.world_state.proofs.Queues.{set_queued}
-use Rattle.world_state.specs.Frames.{Waiting, frames_in}
+use Rattle.world_queue.specs.declared.Entry.{Entry}
+use Rattle.world_state.{proofs.{Emptied.{emptied, from_zero, keeps_it, kept_beyond}, Queues.set_queued}, specs.Frames.{Waiting, frames_in}}
 use Rattle.world_state.specs.declared.contents.Waits.{Waits}
 use Rattle.world_state.proofs.frames.Frames.drop_all.Goals as goal
 
@@ -14,7 +11,8 @@ invariant_of-self c =
     let test = c.if-index-len.true in
     let len = c.len.ensures in
     let ok = b.queues.ok.0 in
-    let at = slice_get_read b.queues.items (length b.queues.items) c.args.device.0 c.index_mut.result.now refl (omega (arith, test, len, ok)) c.index_mut.ensures.value in
+    let at = slice_get_read b.queues.items (length b.queues.items) c.args.device.0 c.index_mut.result.now refl (omega (arith, test, len, ok))
+    c.index_mut.ensures.value in
     set_queued b.queues.items c.args.device.0 c.index_mut.result.now c.new.result c.self.invariant at
     (λ e there. absurd (subst (λ (l : List (Entry Waits)). IsIn e l) c.new.ensures there))
 

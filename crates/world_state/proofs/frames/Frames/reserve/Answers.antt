@@ -1,14 +1,9 @@
-use Rattle.std.proofs.Common.{◌≡◌, ◌<◌, List, length, Option, refl, sym, ap, subst, ◌∙◌}
-use Rattle.std.specs.Option.{option_map_or}
+use Rattle.std.{proofs.{Common.{◌<◌, ◌∙◌, List, Option, ap, length, refl, subst, sym}, lemmas.Option.slice_get_read}, specs.Option.option_map_or}
 use Rattle.std.specs.Prelude.{OnOk}
-use Rattle.std.proofs.lemmas.Option.{slice_get_read}
-use Rattle.due_queue.specs.declared.Entry.{Entry}
-use Rattle.due_queue.specs.Queues.{Queue}
 use Rattle.run_law.specs.records.Order.{IsIn}
 use Rattle.tte_lemmas.proofs.Lists.{set_same}
-use Rattle.world_state.proofs.Queues.{same_in, set_queued}
-use Rattle.world_state.specs.Frames.{Waiting}
-use Rattle.world_state.specs.declared.contents.Waits.{Waits}
+use Rattle.world_queue.specs.{Queues.Queue, declared.Entry.Entry}
+use Rattle.world_state.{proofs.Queues.{same_in, set_queued}, specs.{Frames.Waiting, declared.contents.Waits.Waits}}
 use Rattle.world_state.proofs.frames.Frames.reserve.Goals as goal
 
 pub invariant_of-self : goal.invariant_of-self

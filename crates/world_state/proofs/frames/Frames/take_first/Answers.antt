@@ -1,12 +1,8 @@
-use Rattle.std.proofs.Common.{◌≡◌, ◌<◌, true, is_some, List, ◌∷◌, length, slice_get, slice_set, Option, Some, IfSome, inr, refl, sym, ap, subst, ◌∙◌}
-use Rattle.std.specs.List.Sorted.{IsPermutation}
+use Rattle.std.proofs.Common.{◌∙◌, ◌∷◌, ◌≡◌, IfSome, Option, Some, ap, inr, is_some, length, refl, slice_get, slice_set, subst, sym, true}
+use Rattle.std.{proofs.lemmas.{List.Sorted.{IsPermutation-map, IsPermutation-sym}, Option.slice_get_read}, specs.List.Sorted.IsPermutation}
 use Rattle.std.specs.Option.{option_and_then, option_map}
-use Rattle.std.proofs.lemmas.List.Sorted.{IsPermutation-map, IsPermutation-sym}
-use Rattle.std.proofs.lemmas.Option.{slice_get_read}
-use Rattle.due_queue.specs.declared.Entry.{Entry}
-use Rattle.due_queue.proofs.Bags.{in_permuted}
-use Rattle.world_state.proofs.Queues.{content_of, has_first, one_fewer_in, set_queued}
-use Rattle.world_state.specs.Frames.{Waiting, first_frame, first_of, frames_in}
+use Rattle.world_queue.{proofs.Bags.in_permuted, specs.declared.Entry.Entry}
+use Rattle.world_state.{proofs.Queues.{content_of, has_first, one_fewer_in, set_queued}, specs.Frames.{Waiting, first_frame, first_of, frames_in}}
 use Rattle.world_state.specs.declared.contents.Waits.{Waits}
 use Rattle.world_state.proofs.frames.Frames.take_first.Goals as goal
 
@@ -18,7 +14,8 @@ invariant_of-self c =
     let is = c.take_first.new.self in
     let lt = has_first qs d (slice_get qs d) refl (subst (λ (w : Waiting). is_some (first_of w d) ≡ true) (sym c.self.view_is) c.requires.some) in
     let at = slice_get_read qs (length qs) d was refl lt c.index_mut.ensures.value in
-    let taken = subst (λ (o : Option (Entry Waits)). IfSome o (λ e. IsPermutation was.entries (e ∷ is.entries))) c.unwrap.ensures c.take_first.ensures.entries in
+    let taken = subst (λ (o : Option (Entry Waits)). IfSome o (λ e. IsPermutation was.entries (e ∷ is.entries))) c.unwrap.ensures
+    c.take_first.ensures.entries in
     set_queued qs d was is c.self.invariant at (λ e there. c.self.invariant d was e at (in_permuted _ _ e (IsPermutation-sym _ _ taken) (inr there)))
 
 pub returns-clause-is : goal.returns-clause-is
@@ -39,6 +36,7 @@ returns-clause-items c =
     let is = c.take_first.new.self in
     let lt = has_first qs d (slice_get qs d) refl (subst (λ (w : Waiting). is_some (first_of w d) ≡ true) (sym c.self.view_is) c.requires.some) in
     let at = slice_get_read qs (length qs) d was refl lt c.index_mut.ensures.value in
-    let taken = subst (λ (o : Option (Entry Waits)). IfSome o (λ e. IsPermutation was.entries (e ∷ is.entries))) c.unwrap.ensures c.take_first.ensures.entries in
+    let taken = subst (λ (o : Option (Entry Waits)). IfSome o (λ e. IsPermutation was.entries (e ∷ is.entries))) c.unwrap.ensures
+    c.take_first.ensures.entries in
     subst (λ (w : Waiting). IsPermutation w.items (c.unwrap.result.content ∷ frames_in (slice_set qs d is))) c.self.view_is
     (one_fewer_in qs d was is c.unwrap.result.content at (IsPermutation-map content_of was.entries (c.unwrap.result ∷ is.entries) taken))

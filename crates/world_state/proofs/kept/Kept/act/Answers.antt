@@ -1,7 +1,5 @@
-use Rattle.std.proofs.Common.{subst, ◌∙◌}
-use Rattle.world_state.specs.Keeping.{keeps}
-use Rattle.world_state.specs.declared.kept.Kept.{Kept}
-use Rattle.world_state.proofs.Acts.{still_sound}
+use Rattle.std.proofs.Common.{◌∙◌, subst}
+use Rattle.world_state.{proofs.Acts.still_sound, specs.{Keeping.keeps, declared.kept.Kept.Kept}}
 use Rattle.world_state.proofs.kept.Kept.act.Goals as goal
 
 pub returns-in-Sound-clause-acted : goal.returns-in-Sound-clause-acted
