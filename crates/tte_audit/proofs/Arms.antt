@@ -1,29 +1,14 @@
 -- What a record of each kind says is read back, where that kind is known.
-use Rattle.std.proofs.Common.{◌≡◌, ℕ, [], ◌∷◌, ◌++◌, Some, refl}
-use Rattle.std.specs.Prelude.{Option, codes, decimal}
+use Rattle.tte_audit.proofs.Words.{◌++◌, ◌∷◌, ◌≡◌, IsBodyOf, IsReasonInRange, Judgement, Network, NoteBody, Option, Reason, Some, State, Units, VlId, What, Why}
+use Rattle.tte_audit.proofs.Words.{Words, [], behind_word, codes, decimal, head_word, judgement_text, kind_of, kind_text, reason_words, refl, state_text}
+use Rattle.tte_audit.proofs.Words.{why_text, ℕ}
 use Rattle.std.specs.Fmt.{signed_decimal}
-use Rattle.net_plan.specs.declared.event.What.{What}
-use Rattle.net_plan.specs.declared.ids.DeviceId.{DeviceId}
-use Rattle.net_plan.specs.declared.ids.LinkId.{LinkId}
-use Rattle.net_plan.specs.declared.ids.VlId.{VlId}
-use Rattle.net_plan.specs.declared.network.Network.{Network}
+use Rattle.net_plan.specs.{Belonging.{HasDevice, IsOfNetwork, device_name}, declared.ids.{DeviceId.DeviceId, LinkId.LinkId}}
 use Rattle.pcf_values.specs.declared.members.Members.{Members}
-use Rattle.report_text.specs.NoteLine.{body_words, passage_words, stream_words}
-use Rattle.report_text.specs.NoteWords.{members_text, state_text, judgement_text, why_text, reason_words}
-use Rattle.report_text.specs.Ranges.{HasPassage, HasStream, IsBodyOf, IsBodyInRange, IsCount, IsShortCount, IsSignedUnits, IsReasonInRange}
-use Rattle.run_law.specs.declared.judgement.Judgement.{Judgement}
-use Rattle.run_law.specs.declared.judgement.Reason.{Reason}
-use Rattle.run_law.specs.declared.judgement.Why.{Why}
-use Rattle.run_law.specs.declared.note.NoteBody.{NoteBody}
+use Rattle.report_text.specs.{NoteLine.{body_words, passage_words, stream_words}, NoteWords.members_text}
+use Rattle.report_text.specs.Ranges.{HasPassage, HasStream, IsBodyInRange, IsCount, IsShortCount, IsSignedUnits}
+use Rattle.trace_text.specs.{EventLine.what_words, Ranges.IsWhatInRange}
 use Rattle.run_law.specs.declared.note.NoteBody.TheVariants as bodies
-use Rattle.sync_state.specs.declared.state.State.{State}
-use Rattle.net_plan.specs.Belonging.{device_name, HasDevice, IsOfNetwork}
-use Rattle.trace_text.specs.EventLine.{what_words}
-use Rattle.trace_text.specs.Ranges.{IsWhatInRange}
-use Rattle.trace_text.specs.Steps.{Words}
-use Rattle.tte_units.specs.declared.units.Units.{Units}
-use Rattle.tte_audit.specs.Kinds.{kind_of}
-use Rattle.tte_audit.specs.Spellings.{head_word, behind_word, kind_text}
 use Rattle.tte_audit.specs.declared.kind.Kind.TheVariants as kinds
 
 -- the first word of a record is that of its kind

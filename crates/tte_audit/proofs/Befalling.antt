@@ -1,12 +1,7 @@
 -- One more event of a report.
-use Rattle.std.proofs.Common.{◌≡◌, List, [], ◌∷◌, ◌++◌, refl, sym, ap, subst}
-use Rattle.std.specs.Prelude.{Any, Option, Some, None, Bool, true, false, MatchBool}
-use Rattle.net_plan.specs.declared.event.Event.{Event}
-use Rattle.net_plan.specs.declared.event.What.{What}
-use Rattle.net_plan.specs.declared.event.What.TheVariants.{End}
-use Rattle.tte_audit.specs.Report.{EndWith}
-use Rattle.tte_lemmas.proofs.Lists.{any_behind, any_first}
-use Rattle.tte_units.specs.declared.units.Units.{Units}
+use Rattle.tte_audit.proofs.Words.{◌++◌, ◌∷◌, ◌≡◌, Any, Bool, End, EndWith, Event, List, None, Option, Some, Units, What, [], any_behind, any_first, ap, false}
+use Rattle.tte_audit.proofs.Words.{refl, subst, sym, true}
+use Rattle.std.specs.Prelude.{MatchBool}
 
 event_at : Units → What → Event
 event_at time what = record { time = time; what = what }

@@ -1,27 +1,14 @@
 -- The clocks of a report whose events are right keep the clock laws.
-use Rattle.std.proofs.lemmas.Int.{ints}
-use Rattle.std.proofs.Common.{◌≡◌, pos, ◌≤ℤ◌, ◌≤◌, List, [], ◌∷◌, ◌++◌, Option, Some, None, inl, inr, refl, sym, ap, subst, ◌∙◌, arith}
-use Rattle.std.specs.List.{cons_option}
-use Rattle.std.proofs.lemmas.List.Elements.{All-cons, All-nil}
+use Rattle.tte_audit.proofs.Words.{◌++◌, ◌∙◌, ◌∷◌, ◌≡◌, ◌≤◌, AreEventsRight, Event, List, MayCome, Network, None, Note, NoteBody, Option, Some, Units, []}
+use Rattle.tte_audit.proofs.Words.{amount, ap, arith, event_by, events_of, inl, inr, refl, scenario_of, subst, sym}
+use Rattle.std.{proofs.{Common.{◌≤ℤ◌, pos}, lemmas.{Int.ints, List.Elements.{All-cons, All-nil}}}, specs.List.cons_option}
+use Rattle.audit_events.{proofs.{Befalling.{events_from, steps_from}, Clocking.steps_history}, specs.Readings.HaveBegun}
 use Rattle.audit_law.specs.SameRuns.{IsClocked}
 use Rattle.drift_clock.proofs.ExactSegments.{exact_laws}
-use Rattle.event_history.proofs.Befalling.{events_from, steps_from}
-use Rattle.event_history.proofs.Clocking.{steps_history}
-use Rattle.event_history.specs.Readings.{HaveBegun}
 use Rattle.net_plan.proofs.TableFacts.{none_told}
-use Rattle.net_plan.specs.declared.event.Event.{Event}
-use Rattle.net_plan.specs.declared.network.Network.{Network}
-use Rattle.run_law.proofs.runs.Places.{parted}
-use Rattle.run_law.specs.declared.note.Note.{Note}
-use Rattle.run_law.specs.declared.note.NoteBody.TheVariants as notes
-use Rattle.run_law.specs.declared.note.NoteBody.{NoteBody}
-use Rattle.run_law.specs.records.Order.{IsIn}
-use Rattle.run_law.specs.scenario.Hypothesis.{AreWithinHypothesis, IsWithinHypothesis}
-use Rattle.run_law.specs.scenario.Rates.{rate_steps}
-use Rattle.tte_units.specs.Amount.{amount}
-use Rattle.tte_units.specs.declared.units.Units.{Units}
+use Rattle.run_law.{proofs.runs.Places.parted, specs.{records.Order.IsIn, scenario.{Hypothesis.{AreWithinHypothesis, IsWithinHypothesis}, Rates.rate_steps}}}
 use Rattle.tte_audit.specs.Named.{IsNamed}
-use Rattle.tte_audit.specs.Report.{AreEventsRight, MayCome, event_by, events_of, scenario_of}
+use Rattle.run_law.specs.declared.note.NoteBody.TheVariants as notes
 
 -- ---- its events
 
@@ -42,7 +29,8 @@ pub told : (ns : List Note) (before behind : List Event) (event : Event) → eve
 told [] before behind event e = absurd (none_told before behind event e)
 told (n ∷ ns) before behind event e = by (λ bs same. told ns bs behind event same) (event_in n) refl before e
   where
-    by : ((bs : List Event) → events_of ns ≡ bs ++ event ∷ behind → IsTold ns bs event) → (o : Option Event) → event_in n ≡ o → (before : List Event) → events_of (n ∷ ns) ≡ before ++ event ∷ behind → IsTold (n ∷ ns) before event
+    by : ((bs : List Event) → events_of ns ≡ bs ++ event ∷ behind → IsTold ns bs event) → (o : Option Event) → event_in n ≡ o → (before : List Event)
+        → events_of (n ∷ ns) ≡ before ++ event ∷ behind → IsTold (n ∷ ns) before event
     by behind_it None is before e =
         let more = behind_it before (sym (ap (λ (o : Option Event). cons_option o (events_of ns)) is) ∙ e) in
         record {

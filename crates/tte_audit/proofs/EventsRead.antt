@@ -1,16 +1,9 @@
 -- The events of a report, read record by record.
-use Rattle.std.proofs.Common.{◌≡◌, ℕ, ◌+◌, ◌≤◌, List, [], ◌∷◌, ◌++◌, length, inl, inr, refl, sym, ap, subst, ◌∙◌, append_assoc, arith}
-use Rattle.std.specs.Prelude.{Option, Some, None, filter_map}
-use Rattle.std.proofs.lemmas.List.{append-nil}
-use Rattle.std.proofs.lemmas.List.Elements.{filter_map-append}
-use Rattle.net_plan.specs.declared.event.Event.{Event}
-use Rattle.net_plan.specs.declared.network.Network.{Network}
-use Rattle.run_law.specs.declared.note.Note.{Note}
-use Rattle.run_law.specs.declared.note.NoteBody.{NoteBody}
-use Rattle.run_law.specs.declared.note.NoteBody.TheVariants as notes
+use Rattle.tte_audit.proofs.Words.{◌++◌, ◌+◌, ◌∙◌, ◌∷◌, ◌≡◌, ◌≤◌, AreEventsRight, Event, IsEventFault, List, MayCome, Network, None, Note, NoteBody, Option}
+use Rattle.tte_audit.proofs.Words.{Some, Units, [], ap, append-nil, append_assoc, arith, event_by, events_of, inl, inr, length, refl, subst, sym, with_event, ℕ}
+use Rattle.std.{proofs.lemmas.List.Elements.filter_map-append, specs.Prelude.filter_map}
 use Rattle.run_law.proofs.runs.Grow.{in_two}
-use Rattle.tte_units.specs.declared.units.Units.{Units}
-use Rattle.tte_audit.specs.Report.{AreEventsRight, IsEventFault, MayCome, event_by, events_of, with_event}
+use Rattle.run_law.specs.declared.note.NoteBody.TheVariants as notes
 
 more_events : (befallen : List Event) (time : Units) (body : NoteBody) → befallen ++ events_of
     (record { number = 0; time = time; body = body } ∷ []) ≡ with_event befallen time body

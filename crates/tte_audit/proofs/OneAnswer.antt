@@ -1,26 +1,13 @@
 -- An audit has one answer.
-use Rattle.std.proofs.Common.{◌≡◌, ◌⊎◌, ℕ, List, [], ◌∷◌, ◌++◌, length, inl, inr, refl, sym, ap, subst, ◌∙◌, arith}
-use Rattle.std.specs.Prelude.{Any}
-use Rattle.net_plan.specs.declared.event.Event.{Event}
-use Rattle.net_plan.specs.declared.event.What.TheVariants.{End}
-use Rattle.net_plan.specs.declared.network.Network.{Network}
-use Rattle.run_law.specs.records.Happenings.{happenings}
-use Rattle.run_law.specs.records.Ranks.{place_of}
-use Rattle.audit_law.specs.DueRecords.{IsDue}
-use Rattle.run_law.specs.declared.note.Note.{Note}
+use Rattle.tte_audit.proofs.Words.{◌++◌, ◌∙◌, ◌∷◌, ◌≡◌, ◌⊎◌, Any, AreEventsRight, End, EndWith, Event, IsDue, IsEventFault, IsRefusedBy, List, Network, Note}
+use Rattle.tte_audit.proofs.Words.{Units, [], any_behind, any_first, ap, arith, behind_time, events_of, happenings, inl, inr, length, place_of, refl}
+use Rattle.tte_audit.proofs.Words.{scenario_of, subst, sym, ℕ}
+use Rattle.audit_law.{proofs.Sound.{fronts, full_of_run, none_unsound, one_unsound, sound_of_run}, specs.Findings.IsUnfoundedAt}
 use Rattle.tte_units.specs.Amount.{units_of}
-use Rattle.tte_units.specs.declared.units.Units.{Units}
-use Rattle.tte_audit.specs.Answers.{IsAudited, IsOfFormOrEvents, IsRefusedBy, IsFirstLackOf, IsEventsFault}
-use Rattle.audit_law.specs.Findings.{IsUnfoundedAt}
-use Rattle.tte_audit.specs.Laws.{AnswerLaw, IsOfReport}
-use Rattle.tte_audit.specs.Named.{IsNamed}
-use Rattle.tte_audit.specs.Report.{AreEventsRight, EndWith, IsEventFault, IsOfEvents, behind_time, events_of, scenario_of}
+use Rattle.tte_audit.proofs.{Meet.{form_or_report, one_form, one_list}, ReportRuns.audit_run}
+use Rattle.tte_audit.specs.{Answers.{IsAudited, IsEventsFault, IsFirstLackOf, IsOfFormOrEvents}, Laws.{AnswerLaw, IsOfReport}, Named.IsNamed, Report.IsOfEvents}
 use Rattle.tte_audit.specs.declared.refusal.AuditRefusal.{AuditRefusal}
 use Rattle.tte_audit.specs.declared.refusal.AuditRefusal.TheVariants as refusals
-use Rattle.tte_audit.proofs.ReportRuns.{audit_run}
-use Rattle.tte_audit.proofs.Meet.{form_or_report, one_form, one_list}
-use Rattle.audit_law.proofs.Sound.{fronts, full_of_run, none_unsound, one_unsound, sound_of_run}
-use Rattle.tte_lemmas.proofs.Lists.{any_behind, any_first}
 
 -- ---- events
 
@@ -106,10 +93,12 @@ not_both network octets count (refusals.Unfounded n) named of a h =
     let found = subst (λ (t : Units). IsUnfoundedAt place_of (IsDue (scenario_of network a.notes)) (behind_time t) (happenings network a.notes) n) same.times
     (subst (λ (ns : List Note). IsUnfoundedAt place_of (IsDue (scenario_of network ns)) (behind_time h.1) (happenings network ns) n) same.lists h.3) in
     none_unsound place_of (IsDue (scenario_of network a.notes)) (behind_time a.time) (happenings network a.notes) n
-    (sound_of_run place_of (IsDue (scenario_of network a.notes)) (behind_time a.time) (happenings network a.notes) (audit_run network a.notes a.time named a.events.right a.run)) found
+    (sound_of_run place_of (IsDue (scenario_of network a.notes)) (behind_time a.time) (happenings network a.notes)
+    (audit_run network a.notes a.time named a.events.right a.run)) found
 not_both network octets count (refusals.Lacking t) named of a h =
     let same = same_of network octets h.0 a.notes h.1 a.time named h.2 a.events in
-    let lack = subst (λ (e : Units). IsFirstLackOf network a.notes e t) same.times (subst (λ (ns : List Note). IsFirstLackOf network ns h.1 t) same.lists h.4) in
+    let lack = subst (λ (e : Units). IsFirstLackOf network a.notes e t) same.times
+    (subst (λ (ns : List Note). IsFirstLackOf network ns h.1 t) same.lists h.4) in
     full_of_run place_of (IsDue (scenario_of network a.notes)) (behind_time a.time) (happenings network a.notes)
     (audit_run network a.notes a.time named a.events.right a.run) lack.lack.missing lack.lack.lacking lack.lack.within
 not_both network octets count refusals.OutOfMemory named of a h = of

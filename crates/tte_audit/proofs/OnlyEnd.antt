@@ -1,22 +1,13 @@
 -- The end of the events of a report.
-use Rattle.std.proofs.Common.{◌≡◌, ◌⊎◌, ◌≤◌, ◌^◌, List, [], ◌∷◌, ◌++◌, inl, inr, sym, ap, subst}
-use Rattle.std.specs.Prelude.{◌↔◌, Any, Some}
-use Rattle.std.specs.List.{Contains}
+use Rattle.tte_audit.proofs.Words.{◌++◌, ◌^◌, ◌∷◌, ◌≡◌, ◌≤◌, ◌⊎◌, Any, AreEventsRight, End, EndWith, Event, List, MayCome, Network, Note, NoteBody, Some, Units}
+use Rattle.tte_audit.proofs.Words.{[], amount, any_behind, any_first, ap, event_by, events_of, inl, inr, subst, sym}
+use Rattle.std.specs.{List.Contains, Prelude.◌↔◌}
+use Rattle.audit_events.proofs.Befalling.{soon}
 use Rattle.compression.proofs.Elements.{in_cases, in_head, in_none, in_tail}
-use Rattle.event_history.proofs.Befalling.{soon}
 use Rattle.net_plan.specs.Ranges.{IsInRange}
-use Rattle.net_plan.specs.declared.event.Event.{Event}
-use Rattle.net_plan.specs.declared.event.What.TheVariants.{End}
-use Rattle.net_plan.specs.declared.network.Network.{Network}
-use Rattle.run_law.specs.declared.note.Note.{Note}
-use Rattle.run_law.specs.declared.note.NoteBody.TheVariants as notes
-use Rattle.run_law.specs.declared.note.NoteBody.{NoteBody}
 use Rattle.run_law.specs.runs.DueRecords.{EndsAt}
-use Rattle.tte_units.specs.Amount.{amount}
-use Rattle.tte_units.specs.declared.units.Units.{Units}
-use Rattle.tte_audit.specs.Report.{AreEventsRight, EndWith, MayBefall, MayCome, event_by, events_of}
-use Rattle.tte_lemmas.proofs.Lists.{any_behind, any_first}
-use Rattle.tte_audit.proofs.Clocked.{told}
+use Rattle.tte_audit.{proofs.Clocked.told, specs.Report.MayBefall}
+use Rattle.run_law.specs.declared.note.NoteBody.TheVariants as notes
 
 abbrev end_at : Units → Event
 end_at time = record { time = time; what = End }

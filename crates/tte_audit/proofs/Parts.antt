@@ -1,21 +1,14 @@
 -- A report is parted at the ends of its lines.
-use Rattle.std.proofs.lemmas.Bool.Decides.{nat_tests}
-use Rattle.std.proofs.Common.{◌≡◌, ◌≢◌, ℕ, ◌+◌, ◌≤◌, Bool, true, false, cond, List, [], ◌∷◌, ◌++◌, length, take, drop, Option, Some, None, MatchOption, inl, inr, refl, sym, ap, ◌∙◌, append_assoc, length-append, arith, nat_lt}
-use Rattle.std.specs.Prelude.{position, codes}
-use Rattle.std.specs.List.{position_or_len, slice_split, concat, join_with_byte}
-use Rattle.std.proofs.lemmas.List.Elements.{All-from_get_or, All-nil, All-push}
-use Rattle.std.proofs.lemmas.List.{append-nil}
-use Rattle.std.proofs.lemmas.List.Splits.{slice_split_first, slice_split_none, slice_split_at, length-slice_split, join_with_byte-slice_split}
-use Rattle.std.proofs.lemmas.List.Sums.{fails_before_first}
-use Rattle.net_plan.specs.declared.network.Network.{Network}
-use Rattle.report_text.specs.NoteLine.{note_line, note_text, report_of}
-use Rattle.report_text.specs.Ranges.{IsNoteOf, IsNoteInRange}
+use Rattle.tte_audit.proofs.Words.{◌++◌, ◌+◌, ◌∙◌, ◌∷◌, ◌≡◌, ◌≤◌, BeginsWith, BeginsWithLine, BeginsWithRecord, Bool, IsTextOf, List, Network, None, Note}
+use Rattle.tte_audit.proofs.Words.{Option, Some, [], ap, append-nil, append_assoc, arith, codes, concat, false, inl, inr, is_line_end, length, length-append}
+use Rattle.tte_audit.proofs.Words.{nat_tests, note_line, note_text, position, refl, report_of, sym, take, true, ℕ}
+use Rattle.std.proofs.{Common.{◌≢◌, MatchOption, cond, drop, nat_lt}, lemmas.List.Elements.{All-from_get_or, All-nil, All-push}}
+use Rattle.std.proofs.lemmas.List.Splits.{join_with_byte-slice_split, length-slice_split, slice_split_at, slice_split_first, slice_split_none}
+use Rattle.std.{proofs.lemmas.List.Sums.fails_before_first, specs.List.{join_with_byte, position_or_len, slice_split}}
+use Rattle.report_text.{proofs.SameReports.note_unbroken, specs.Ranges.{IsNoteInRange, IsNoteOf}}
 use Rattle.run_law.proofs.runs.Grow.{in_two}
-use Rattle.report_text.proofs.SameReports.{note_unbroken}
-use Rattle.run_law.specs.declared.note.Note.{Note}
 use Rattle.tte_io.specs.Line.{lf}
-use Rattle.tte_audit.specs.Named.{IsNamed}
-use Rattle.tte_audit.specs.Report.{AreNumbered, BeginsWith, BeginsWithLine, BeginsWithRecord, IsTextOf, LineThen, is_line_end}
+use Rattle.tte_audit.specs.{Named.IsNamed, Report.{AreNumbered, LineThen}}
 
 -- what stands at the first place that passes, if there is one, parts a list
 abbrev PartedAt : (ℕ → Bool) → List ℕ → Option ℕ → Type 0

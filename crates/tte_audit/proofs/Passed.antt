@@ -1,16 +1,8 @@
 -- What an audit passes.
-use Rattle.std.proofs.Common.{List, refl, subst}
+use Rattle.tte_audit.proofs.Words.{IsDue, List, Note, Units, behind_time, happenings, place_of, refl, scenario_of, subst}
 use Rattle.audit_law.proofs.Sound.{run_exactly}
-use Rattle.audit_law.specs.DueRecords.{IsDue}
-use Rattle.run_law.specs.declared.note.Note.{Note}
-use Rattle.run_law.specs.records.Happenings.{happenings}
-use Rattle.run_law.specs.records.Ranks.{place_of}
 use Rattle.run_law.specs.runs.Runs.{IsRun}
-use Rattle.tte_audit.proofs.OneAnswer.{same_of}
-use Rattle.tte_audit.proofs.ReportRuns.{audit_run, run_of_audit}
-use Rattle.tte_audit.specs.Laws.{PassedLaw}
-use Rattle.tte_audit.specs.Report.{behind_time, scenario_of}
-use Rattle.tte_units.specs.declared.units.Units.{Units}
+use Rattle.tte_audit.{proofs.{OneAnswer.same_of, ReportRuns.{audit_run, run_of_audit}}, specs.Laws.PassedLaw}
 
 pub passed_law : PassedLaw
 passed_law network octets ns time named of =

@@ -1,11 +1,7 @@
 -- What a report lacks first is told by its debts.
-use Rattle.std.proofs.Common.{ℕ, refl, sym, ap, subst}
-use Rattle.audit_law.proofs.FirstUnpaid.{lack_law}
-use Rattle.audit_law.specs.DebtLaws.{IsFirstLack}
-use Rattle.run_law.specs.records.Happenings.{happenings}
-use Rattle.tte_units.specs.Amount.{amount}
+use Rattle.tte_audit.proofs.Words.{amount, ap, happenings, refl, scenario_of, subst, sym, ℕ}
+use Rattle.audit_law.{proofs.FirstUnpaid.lack_law, specs.DebtLaws.IsFirstLack}
 use Rattle.tte_audit.specs.Laws.{ReportLackLaw}
-use Rattle.tte_audit.specs.Report.{scenario_of}
 
 pub report_lack_law : ReportLackLaw
 report_lack_law network ns end time sound =

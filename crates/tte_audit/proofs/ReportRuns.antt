@@ -1,18 +1,9 @@
 -- A report of a run is one by what is due in an audit.
-use Rattle.std.proofs.Common.{List}
+use Rattle.tte_audit.proofs.Words.{AreEventsRight, IsDue, List, Network, Note, Units, amount, behind_time, happenings, place_of, scenario_of}
 use Rattle.audit_law.proofs.SameRuns.{same_runs}
-use Rattle.audit_law.specs.DueRecords.{IsDue}
-use Rattle.net_plan.specs.declared.network.Network.{Network}
-use Rattle.run_law.specs.declared.note.Note.{Note}
-use Rattle.run_law.specs.records.Happenings.{happenings}
-use Rattle.run_law.specs.records.Ranks.{place_of}
-use Rattle.run_law.specs.runs.DueRecords as runs
 use Rattle.run_law.specs.runs.Runs.{IsRun}
-use Rattle.tte_audit.proofs.Clocked.{clocked}
-use Rattle.tte_audit.specs.Named.{IsNamed}
-use Rattle.tte_audit.specs.Report.{AreEventsRight, behind_time, scenario_of}
-use Rattle.tte_units.specs.Amount.{amount}
-use Rattle.tte_units.specs.declared.units.Units.{Units}
+use Rattle.tte_audit.{proofs.Clocked.clocked, specs.Named.IsNamed}
+use Rattle.run_law.specs.runs.DueRecords as runs
 
 pub audit_run : (network : Network) (ns : List Note) (time : Units) → IsNamed network → AreEventsRight network ns
     → IsRun place_of (runs.IsDue (scenario_of network ns)) (behind_time time) (happenings network ns)

@@ -1,46 +1,19 @@
 -- The records of a report, swept one by one.
-use Rattle.std.proofs.Common.{◌≡◌, ℕ, zero, suc, ◌+◌, ◌≤◌, List, [], ◌∷◌, ◌++◌, length, inl, inr, refl, sym, ap, subst, ◌∙◌, append_assoc, arith}
-use Rattle.std.proofs.lemmas.List.{append-nil}
-use Rattle.std.proofs.lemmas.List.Elements.{filter_map-append}
-use Rattle.std.specs.Prelude.{Option, Some, slice_get}
-use Rattle.std.specs.List.{concat, cons_option}
-use Rattle.audit_law.proofs.FirstUnpaid.{lack_law}
-use Rattle.audit_law.proofs.Owing.{timely}
-use Rattle.audit_law.specs.DebtLaws.{IsFirstDebt}
-use Rattle.audit_law.specs.Debts.{IsPaid}
-use Rattle.audit_law.specs.DueRecords.{IsDue}
-use Rattle.audit_law.specs.Findings.{AreSound, IsSound, LacksNothing}
+use Rattle.tte_audit.proofs.Words.{◌++◌, ◌+◌, ◌∙◌, ◌∷◌, ◌≡◌, ◌≤◌, AreEventsRight, BeginsWith, BeginsWithLine, BeginsWithRecord, Event, IsDue, IsRefusedBy, List}
+use Rattle.tte_audit.proofs.Words.{MayCome, Network, Note, NoteBody, Option, Some, Units, [], amount, ap, append-nil, append_assoc, arith, behind_time, concat}
+use Rattle.tte_audit.proofs.Words.{event_by, events_of, happenings, inl, inr, length, place_of, refl, report_of, scenario_of, subst, sym, ℕ}
+use Rattle.std.{proofs.{Common.{suc, zero}, lemmas.List.Elements.filter_map-append}, specs.{List.cons_option, Prelude.slice_get}}
+use Rattle.audit_law.{proofs.{FirstUnpaid.lack_law, Owing.timely}, specs.{DebtLaws.IsFirstDebt, Debts.IsPaid, Findings.{AreSound, IsSound, LacksNothing}}}
+use Rattle.audit_law.specs.{Owed.Pays, TracedEvents.{OwesEvent, TellsEvent}}
+use Rattle.audit_sweep.specs.{Judging.Befalls, Sweeping.IsSwept, declared.sweep.Sweep.Sweep}
+use Rattle.run_law.proofs.{law.FirstPlaces.at_length, records.Happenings.{as_many, happenings_on}, runs.{NetworkRuns.one_more, Places.in_right}}
+use Rattle.run_law.specs.records.{Happenings.{Happening, happening, time_of}, Order.IsIn, Ranks.{key, members_in, rank}}
+use Rattle.tte_units.specs.Amount.{units_of}
+use Rattle.tte_audit.proofs.{Clocked.told, Meet.{GoesOn, apart_of, meet, next_line, no_octets}, Parts.begins_more, Passed.passed_law}
+use Rattle.tte_audit.{proofs.ReportLacks.report_lack_law, specs.{Answers.{AreSoundNotes, IsAudited}, Named.IsNamed, Report.IsOfEvents}}
 use Rattle.audit_law.specs.Owed as debts
-use Rattle.audit_law.specs.Owed.{Pays}
-use Rattle.audit_law.specs.TracedEvents.{OwesEvent, TellsEvent}
-use Rattle.net_plan.specs.declared.event.Event.{Event}
-use Rattle.net_plan.specs.declared.network.Network.{Network}
-use Rattle.report_sweep.specs.Judging.{Befalls}
-use Rattle.report_sweep.specs.Sweeping.{IsSwept}
-use Rattle.report_sweep.specs.declared.sweep.Sweep.{Sweep}
-use Rattle.report_text.specs.NoteLine.{report_of}
-use Rattle.run_law.proofs.law.FirstPlaces.{at_length}
-use Rattle.run_law.proofs.records.Happenings.{as_many, happenings_on}
-use Rattle.run_law.proofs.runs.NetworkRuns.{one_more}
-use Rattle.run_law.proofs.runs.Places.{in_right}
-use Rattle.run_law.specs.declared.note.Note.{Note}
 use Rattle.run_law.specs.declared.note.NoteBody.TheVariants as notes
-use Rattle.run_law.specs.declared.note.NoteBody.{NoteBody}
-use Rattle.run_law.specs.records.Happenings.{Happening, happening, happenings, time_of}
-use Rattle.run_law.specs.records.Order.{IsIn}
-use Rattle.run_law.specs.records.Ranks.{key, members_in, place_of, rank}
-use Rattle.tte_units.specs.Amount.{amount, units_of}
-use Rattle.tte_units.specs.declared.units.Units.{Units}
-use Rattle.tte_audit.specs.Answers.{AreSoundNotes, IsAudited, IsRefusedBy}
-use Rattle.tte_audit.specs.Named.{IsNamed}
-use Rattle.tte_audit.specs.Report.{AreEventsRight, BeginsWith, BeginsWithLine, BeginsWithRecord, IsOfEvents, MayCome}
-use Rattle.tte_audit.specs.Report.{behind_time, event_by, events_of, scenario_of}
 use Rattle.tte_audit.specs.declared.refusal.AuditRefusal.TheVariants as refusals
-use Rattle.tte_audit.proofs.Clocked.{told}
-use Rattle.tte_audit.proofs.Meet.{GoesOn, apart_of, meet, next_line, no_octets}
-use Rattle.tte_audit.proofs.Parts.{begins_more}
-use Rattle.tte_audit.proofs.Passed.{passed_law}
-use Rattle.tte_audit.proofs.ReportLacks.{report_lack_law}
 
 -- of a report whose events are right these octets are left behind the records that were taken
 pub record IsUnderWay (network : Network) (octets : List ℕ) (records : ℕ) (rest : List ℕ) (sweep : Sweep) : Type 0 where

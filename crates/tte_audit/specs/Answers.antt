@@ -1,20 +1,14 @@
 -- What an audit answers.
-use Rattle.std.specs.Prelude.{◌≡◌, ◌⊎◌, ℕ, List, [], length}
-use Rattle.audit_law.specs.DebtLaws.{IsFirstLack}
-use Rattle.audit_law.specs.Findings.{AreSound, IsUnfoundedAt}
-use Rattle.event_history.specs.Readings.{clock_reading}
+use Rattle.std.specs.Prelude.{◌≡◌, ◌⊎◌, List, [], length, ℕ}
+use Rattle.audit_events.specs.Readings.{clock_reading}
+use Rattle.audit_law.specs.{DebtLaws.IsFirstLack, DueRecords.IsDue, Findings.{AreSound, IsUnfoundedAt}}
 use Rattle.net_plan.specs.declared.network.Network.{Network}
-use Rattle.run_law.specs.records.Happenings.{happenings}
-use Rattle.run_law.specs.records.Ranks.{place_of}
-use Rattle.audit_law.specs.DueRecords.{IsDue}
+use Rattle.run_law.specs.{declared.note.Note.Note, records.{Happenings.happenings, Ranks.place_of}}
 use Rattle.run_law.specs.runs.DueRecords.{IsRunOf}
-use Rattle.run_law.specs.declared.note.Note.{Note}
-use Rattle.tte_audit.specs.Report.{BeginsWith, IsEndless, IsEventFault, IsFormFault, IsOfEvents, behind_time}
-use Rattle.tte_audit.specs.Report.{events_of, scenario_of}
-use Rattle.tte_audit.specs.declared.refusal.AuditRefusal.{AuditRefusal}
+use Rattle.tte_units.specs.{Amount.{amount, units_of}, declared.units.Units.Units}
+use Rattle.tte_audit.specs.Report.{BeginsWith, IsEndless, IsEventFault, IsFormFault, IsOfEvents, behind_time, events_of}
+use Rattle.tte_audit.specs.{Report.scenario_of, declared.refusal.AuditRefusal.AuditRefusal}
 use Rattle.tte_audit.specs.declared.refusal.AuditRefusal.TheVariants as refusals
-use Rattle.tte_units.specs.Amount.{amount, units_of}
-use Rattle.tte_units.specs.declared.units.Units.{Units}
 
 -- the octets are the report of the run under the events of its own records, which are within the hypothesis and end
 -- with the only end; it has so many records

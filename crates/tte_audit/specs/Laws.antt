@@ -1,19 +1,13 @@
 -- What holds of audits.
-use Rattle.std.specs.Prelude.{◌≡◌, ℕ, ◌↔◌, List, length}
-use Rattle.audit_law.specs.DebtLaws.{IsFirstDebt}
-use Rattle.audit_law.specs.DueRecords.{IsDue}
-use Rattle.audit_law.specs.Findings.{LacksNothing}
+use Rattle.std.specs.Prelude.{◌↔◌, ◌≡◌, List, length, ℕ}
+use Rattle.audit_law.specs.{DebtLaws.IsFirstDebt, DueRecords.IsDue, Findings.LacksNothing}
 use Rattle.net_plan.specs.declared.network.Network.{Network}
-use Rattle.run_law.specs.declared.note.Note.{Note}
-use Rattle.run_law.specs.records.Happenings.{happenings}
-use Rattle.run_law.specs.records.Ranks.{place_of}
+use Rattle.run_law.specs.{declared.note.Note.Note, records.{Happenings.happenings, Ranks.place_of}}
+use Rattle.tte_units.specs.{Amount.{amount, units_of}, declared.units.Units.Units}
 use Rattle.tte_audit.specs.Answers.{AreSoundNotes, IsAudited, IsFirstLackOf, IsOfFormOrEvents, IsRefusedBy}
-use Rattle.tte_audit.specs.Named.{IsNamed}
+use Rattle.tte_audit.specs.{Named.IsNamed, Report.{IsOfEvents, behind_time, scenario_of}}
 use Rattle.tte_audit.specs.declared.refusal.AuditRefusal.{AuditRefusal}
 use Rattle.tte_audit.specs.declared.refusal.AuditRefusal.TheVariants as refusals
-use Rattle.tte_audit.specs.Report.{IsOfEvents, behind_time, scenario_of}
-use Rattle.tte_units.specs.Amount.{amount, units_of}
-use Rattle.tte_units.specs.declared.units.Units.{Units}
 
 -- a refusal that the octets themselves give: all but want of memory
 abbrev pub IsOfReport : AuditRefusal → Type 0

@@ -1,10 +1,6 @@
 -- The names of a network's things.
-use Rattle.std.specs.Prelude.{ℕ, List, Option}
-use Rattle.std.specs.Option.{option_map}
-use Rattle.net_plan.specs.Bearers.{vl_names}
-use Rattle.net_plan.specs.Ranges.{IsInRange}
-use Rattle.net_plan.specs.Rules.{DeviceIsNew, LinkIsNew}
-use Rattle.net_plan.specs.declared.ids.VlId.{VlId}
+use Rattle.std.specs.{Option.option_map, Prelude.{List, Option, ℕ}}
+use Rattle.net_plan.specs.{Bearers.vl_names, Ranges.IsInRange, Rules.{DeviceIsNew, LinkIsNew}, declared.ids.VlId.VlId}
 use Rattle.net_plan.specs.declared.network.Network.{Network}
 use Rattle.schedule_tables.specs.Schedule.{VlNameIsNew}
 use Rattle.trace_text.specs.Names.{first_place}

@@ -1,22 +1,16 @@
 -- A report, as the records that it tells, and the events among them.
-use Rattle.tte_io.specs.Line.{lf}
-use Rattle.std.specs.Prelude.{Bool, ◌==◌, ◌≡◌, ◌≢◌, ℕ, ◌+◌, pos, ◌≤ℤ◌, List, [], ◌∷◌, ◌++◌, length, filter_map, Any}
-use Rattle.std.specs.Prelude.{Option, Some, None}
 use Rattle.std.specs.List.{concat}
-use Rattle.event_history.specs.Readings.{scenario_under}
-use Rattle.net_plan.specs.declared.event.Event.{Event}
-use Rattle.net_plan.specs.declared.event.What.TheVariants.{End}
-use Rattle.net_plan.specs.declared.network.Network.{Network}
-use Rattle.report_text.specs.Laws.{AreOfNetwork}
-use Rattle.report_text.specs.NoteLine.{note_line, note_text, report_of}
-use Rattle.report_text.specs.Ranges.{IsNoteOf, IsNoteInRange}
-use Rattle.run_law.specs.scenario.Hypothesis.{IsWithinHypothesis}
+use Rattle.std.specs.Prelude.{◌++◌, ◌+◌, ◌==◌, ◌∷◌, ◌≡◌, ◌≢◌, ◌≤ℤ◌, Any, Bool, List, None, Option, Some, [], filter_map}
+use Rattle.std.specs.Prelude.{length, pos, ℕ}
+use Rattle.audit_events.specs.Readings.{scenario_under}
+use Rattle.net_plan.specs.declared.{event.{Event.Event, What.TheVariants.End}, network.Network.Network}
+use Rattle.report_text.specs.{Laws.AreOfNetwork, NoteLine.{note_line, note_text, report_of}}
+use Rattle.report_text.specs.Ranges.{IsNoteInRange, IsNoteOf}
+use Rattle.run_law.specs.{declared.note.{Note.Note, NoteBody.NoteBody}, scenario.Hypothesis.IsWithinHypothesis}
 use Rattle.run_law.specs.scenario.Scenarios.{Scenario}
-use Rattle.run_law.specs.declared.note.Note.{Note}
-use Rattle.run_law.specs.declared.note.NoteBody.{NoteBody}
+use Rattle.tte_io.specs.Line.{lf}
+use Rattle.tte_units.specs.{Amount.amount, declared.units.Units.Units}
 use Rattle.run_law.specs.declared.note.NoteBody.TheVariants as notes
-use Rattle.tte_units.specs.Amount.{amount}
-use Rattle.tte_units.specs.declared.units.Units.{Units}
 
 -- ---- form
 
@@ -55,6 +49,11 @@ pub record BeginsWithRecord (network : Network) (note : Note) (octets left : Lis
   pub of_network : IsNoteOf network note
   pub in_range : IsNoteInRange note
   pub text : octets ≡ note_line network note ++ left
+
+-- the octets begin with the line of this record, which has this number, and then these are left
+pub record IsNextLine (network : Network) (number : ℕ) (octets left : List ℕ) (note : Note) : Type 0 where
+  pub begins : BeginsWithRecord network note octets left
+  pub numbered : note.number ≡ number
 
 -- the octets begin with the line of a record of this number, and then these are left
 pub record LineThen (network : Network) (n : ℕ) (octets left : List ℕ) : Type 0 where
@@ -95,6 +94,11 @@ pub record MayBefall (network : Network) (befallen : List Event) (line : ℕ) (e
   pub begun : pos 0 ≤ℤ event.time.0
   pub within : IsWithinHypothesis network befallen event
   pub unended : Any (λ e. e.what ≡ End) befallen → ⊥
+
+-- the record has no event
+abbrev pub HasNoEvent : NoteBody → Type 0
+HasNoEvent (notes.Event line what) = ⊥
+HasNoEvent other = Unit {0}
 
 -- a record with this may come at the time, given the events before it: what is no event always may
 abbrev pub MayCome : Network → List Event → Units → NoteBody → Type 0

@@ -1,22 +1,23 @@
 -- What is read of the events of a report.
-use Rattle.std.specs.Prelude.{◌≡◌, ℕ, ◌++◌, ◌∷◌, [], List, length, MatchOption, Result, MatchResult, IfOk}
-use Rattle.event_history.specs.Remembering.{Remembers}
+use Rattle.std.specs.Borrow.{Bor}
+use Rattle.std.specs.Prelude.{◌++◌, ◌+◌, ◌∷◌, ◌≡◌, ◌⊎◌, Err, IfOk, List, MatchOption, MatchResult, Ok, Result, []}
+use Rattle.std.specs.Prelude.{length, ℕ}
+use Rattle.audit_events.specs.Remembering.{Remembers}
 use Rattle.net_plan.specs.declared.network.Network.{Network}
 use Rattle.report_text.specs.Ranges.{IsNoteOf}
 use Rattle.run_law.specs.declared.note.Note.{Note}
-use Rattle.tte_audit.specs.Answers.{IsEventsFault}
-use Rattle.tte_audit.specs.Following.{Follows}
-use Rattle.tte_audit.specs.Report.{AreEventsRight, EndWith, IsEventFault, IsOfEvents, events_of}
-use Rattle.tte_audit.specs.declared.passes.ReportEvents.{ReportEvents}
-use Rattle.tte_audit.specs.declared.passes.Told.{Told}
+use Rattle.tte_units.specs.declared.units.Units.{Units}
+use Rattle.tte_audit.specs.{Answers.IsEventsFault, Following.Follows}
+use Rattle.tte_audit.specs.Report.{AreEventsRight, BeginsWithLine, EndWith, IsEventFault, IsNextLine, IsOfEvents}
+use Rattle.tte_audit.specs.{Report.events_of, declared.passes.{ReportEvents.ReportEvents, Told.Told}}
 use Rattle.tte_audit.specs.declared.refusal.AuditRefusal.{AuditRefusal}
 use Rattle.tte_audit.specs.declared.refusal.AuditRefusal.TheVariants as refusals
-use Rattle.tte_units.specs.declared.units.Units.{Units}
 
 -- the events of these records are right and were followed
 pub record AreFollowed (network : Network) (notes : List Note) (told : Told) : Type 0 where
   pub right : AreEventsRight network notes
-  pub follows : Follows network told.befallen.watch told.befallen.history told.befallen.count told.befallen.end (events_of notes)
+  pub follows : Follows network told.befallen.watch told.befallen.history told.befallen.count told.befallen.end
+      (events_of notes)
 
 -- these records were told, and either their events are right or this is the first record whose event is not
 pub record AreTold (network : Network) (notes : List Note) (told : Told) : Type 0 where
@@ -28,6 +29,15 @@ abbrev pub IsToldOf : {E : Type 0} → Told → Told → Note → Result (Unit {
 IsToldOf old new note result =
     (network : Network) (notes : List Note) → AreTold network notes old → IsNoteOf network note
     → IfOk result (λ _. AreTold network (notes ++ note ∷ []) new)
+
+-- the next line was told and these octets are left, or it is that of no record of its number, or memory ran out
+abbrev pub IsLineTold : Network → Told → Told → List ℕ → Result (Bor (List ℕ)) AuditRefusal → Type 0
+IsLineTold network old new octets (Ok left) =
+    (note : Note) × IsNextLine network (old.records + 1) octets left.now note
+    × ((notes : List Note) → AreTold network notes old → AreTold network (notes ++ note ∷ []) new)
+IsLineTold network old new octets (Err refusal) =
+    (refusal ≡ refusals.OutOfMemory)
+    ⊎ ((refusal ≡ refusals.Form (old.records + 1)) × (BeginsWithLine network (old.records + 1) octets → ⊥))
 
 -- the end of these records, whose events are right, or the first whose event is not
 abbrev pub EndsThem : Network → List Note → Told → Result Units AuditRefusal → Type 0

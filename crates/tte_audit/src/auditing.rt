@@ -1,14 +1,17 @@
-ghost use Rattle.std.specs.Prelude.{◌<◌, ◌^◌, List, MatchResult, length};
+ghost use Rattle.std.specs.Prelude.{◌<◌, ◌^◌, ◌≡◌, List, MatchResult, length, ℕ};
+ghost use Rattle.audit_sweep.specs.Sweeping.{SweepsSome};
+ghost use Rattle.net_plan.specs.declared.network.Network.{Network as NetworkValue};
+ghost use Rattle.report_text.specs.Ranges.{IsBodyOf};
 ghost use Rattle.run_law.specs.declared.note.Note.{Note as NoteValue};
-ghost use Rattle.tte_audit.specs.Answers.{IsAudited, IsRefusedBy};
-ghost use Rattle.tte_audit.specs.Named.{IsNamed};
-ghost use Rattle.tte_audit.specs.Telling.{IsReadOf};
+ghost use Rattle.tte_audit.specs.{Answers.{IsAudited, IsRefusedBy}, LineSwept.IsLineSwept, Named.IsNamed};
+ghost use Rattle.tte_audit.specs.{Report.IsNextLine, Telling.IsReadOf};
 
-use crate::lines::numbered_record;
+use crate::lines::{numbered_record, plain_record};
 use crate::named::keep_names_apart;
 use crate::{AuditRefusal, ReportEvents, read_events};
+use audit_sweep::Sweep;
 use net_plan::Network;
-use report_sweep::Sweep;
+use run_law::Note;
 use schedule_tables::Accepted;
 use std::alloc::Global;
 use tte_units::Units;
@@ -51,17 +54,76 @@ fn audit_records(
     };
     let mut rest = report;
     let mut records = 0;
-    'records: while let Some(taken) = numbered_record(network, records + 1, rest) {
-        match sweep.take(&taken.note) {
-            Ok(true) => {}
-            Ok(false) => return Err(AuditRefusal::Unfounded(records + 1)),
-            Err(_) => return Err(AuditRefusal::OutOfMemory),
+    'records: while !rest.is_empty() {
+        match take_line(&mut sweep, network, records + 1, rest) {
+            Ok(left) => {
+                records += 1;
+                rest = left;
+            }
+            Err(refusal) => return Err(refusal),
         }
-        records += 1;
-        rest = taken.left;
     }
     match sweep.first_lack() {
         Some(time) => Err(AuditRefusal::Lacking(Units::from_amount(time))),
         None => Ok(records),
+    }
+}
+
+// Takes the record of this number, whose line comes first, and answers what is left.
+fn take_line<'r>(
+    sweep: &mut Sweep,
+    network: &Network,
+    number: u64,
+    octets: &'r [u8],
+) -> Result<&'r [u8], AuditRefusal>
+    requires named { IsNamed network.now }
+    requires swept { SweepsSome sweep.old }
+    requires same { sweep.old.network.now ≡ network.now }
+    ensures { IsLineSwept network.now number sweep.old sweep.new octets.now result }
+{
+    match plain_record(network, number, octets) {
+        Some(taken) => {
+            let note = Note {
+                number: taken.read.number,
+                time: taken.read.time,
+                body: taken.read.plain.body(),
+            };
+            judge(sweep, &note, taken.left)
+        }
+        None => take_other(sweep, network, number, octets),
+    }
+}
+
+// The same, for any record.
+#[inline(never)]
+fn take_other<'r>(
+    sweep: &mut Sweep,
+    network: &Network,
+    number: u64,
+    octets: &'r [u8],
+) -> Result<&'r [u8], AuditRefusal>
+    requires named { IsNamed network.now }
+    requires swept { SweepsSome sweep.old }
+    requires same { sweep.old.network.now ≡ network.now }
+    ensures { IsLineSwept network.now number sweep.old sweep.new octets.now result }
+{
+    match numbered_record(network, number, octets) {
+        Some(taken) => judge(sweep, &taken.note, taken.left),
+        None => Err(AuditRefusal::Form(number)),
+    }
+}
+
+// Takes the record, behind which this is left.
+fn judge<'r>(sweep: &mut Sweep, note: &Note, left: &'r [u8]) -> Result<&'r [u8], AuditRefusal>
+    requires swept { SweepsSome sweep.old }
+    requires named { IsBodyOf sweep.old.network.now note.now.body }
+    ensures { (network : NetworkValue) (number : ℕ) (octets : List ℕ)
+        → IsNextLine network number octets left.now note.now
+        → IsLineSwept network number sweep.old sweep.new octets result }
+{
+    match sweep.take(note) {
+        Ok(true) => Ok(left),
+        Ok(false) => Err(AuditRefusal::Unfounded(note.number)),
+        Err(_) => Err(AuditRefusal::OutOfMemory),
     }
 }

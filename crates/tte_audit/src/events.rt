@@ -1,15 +1,10 @@
-ghost use Rattle.std.specs.Prelude.{◌≡◌, ◌↔◌, ◌<◌, ◌^◌, ◌++◌, ◌∷◌, [], List, pos, ◌≤ℤ◌};
-ghost use Rattle.std.specs.Prelude.{IsTrue, IfOk, MatchBool};
-ghost use Rattle.net_plan.specs.Belonging.{IsOfNetwork};
-ghost use Rattle.net_plan.specs.declared.event.Event.{Event as EventValue};
-ghost use Rattle.net_plan.specs.declared.event.What.TheVariants.{End};
-ghost use Rattle.net_plan.specs.declared.network.Network.{Network as NetworkValue};
+ghost use Rattle.std.specs.Prelude.{◌++◌, ◌<◌, ◌^◌, ◌↔◌, ◌∷◌, ◌≡◌, ◌≤ℤ◌, IfOk, IsTrue, List, MatchBool, [], pos};
+ghost use Rattle.net_plan.specs.{Belonging.IsOfNetwork, declared.event.Event.Event as EventValue};
+ghost use Rattle.net_plan.specs.declared.{event.What.TheVariants.End, network.Network.Network as NetworkValue};
 ghost use Rattle.report_text.specs.Ranges.{IsBodyOf};
-ghost use Rattle.tte_audit.specs.Following.{Follows};
-ghost use Rattle.tte_audit.specs.Named.{IsNamed};
-ghost use Rattle.tte_audit.specs.Report.{MayBefall, MayCome, with_event};
+ghost use Rattle.tte_audit.specs.{Following.Follows, Named.IsNamed, Report.{MayBefall, MayCome, with_event}};
 
-use event_history::{EventHistory, OutOfMemory};
+use audit_events::{EventHistory, OutOfMemory};
 use fault_hypothesis::Watch;
 use net_plan::{Event, What};
 use run_law::NoteBody;
@@ -95,7 +90,8 @@ impl<'a> Befallen<'a> {
             → IsBodyOf network body
             → IfOk result (λ taken. MatchBool taken
             (MayCome network befallen time body
-            × Follows network self.new.watch self.new.history self.new.count self.new.end (with_event befallen time body))
+            × Follows network self.new.watch self.new.history self.new.count self.new.end
+            (with_event befallen time body))
             (MayCome network befallen time body → ⊥)) }
     {
         match body {

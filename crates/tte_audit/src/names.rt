@@ -1,8 +1,7 @@
-ghost use Rattle.std.specs.Prelude.{◌≡◌, Some, IfSome};
-ghost use Rattle.net_plan.specs.declared.ids.DeviceId.{DeviceId as DeviceIdValue};
-ghost use Rattle.net_plan.specs.declared.ids.LinkId.{LinkId as LinkIdValue};
+ghost use Rattle.std.specs.Prelude.{◌≡◌, IfSome, Some};
+ghost use Rattle.net_plan.specs.Belonging.{HasDevice, HasLink, HasVl, device_name, link_name, vl_name};
+ghost use Rattle.net_plan.specs.declared.ids.{DeviceId.DeviceId as DeviceIdValue, LinkId.LinkId as LinkIdValue};
 ghost use Rattle.net_plan.specs.declared.ids.VlId.{VlId as VlIdValue};
-ghost use Rattle.net_plan.specs.Belonging.{vl_name, HasVl, device_name, link_name, HasDevice, HasLink};
 ghost use Rattle.tte_audit.specs.Named.{IsNamed, vl_spelled};
 
 use net_plan::{DeviceId, LinkId, Network, VlId};

@@ -1,12 +1,8 @@
-ghost use Rattle.std.specs.Prelude.{◌≡◌, ◌↔◌, ℕ, Some, IfSome, IsTrue, MatchOption};
+ghost use Rattle.std.specs.Prelude.{◌↔◌, ◌≡◌, IfSome, IsTrue, MatchOption, Some, ℕ};
 ghost use Rattle.report_text.specs.NoteLine.{body_words, note_line, note_text};
-ghost use Rattle.report_text.specs.Ranges.{IsBodyOf, IsBodyInRange, IsNoteOf, IsNoteInRange};
-ghost use Rattle.run_law.specs.declared.note.Note.{Note as NoteValue};
-ghost use Rattle.run_law.specs.declared.note.NoteBody.{NoteBody as NoteBodyValue};
-ghost use Rattle.tte_audit.specs.Named.{IsNamed};
-ghost use Rattle.tte_audit.specs.Kinds.{kind_of};
-ghost use Rattle.tte_audit.specs.Spellings.{behind_word};
-ghost use Rattle.tte_audit.specs.Report.{IsTextOf};
+ghost use Rattle.report_text.specs.Ranges.{IsBodyInRange, IsBodyOf, IsNoteInRange, IsNoteOf};
+ghost use Rattle.run_law.specs.declared.note.{Note.Note as NoteValue, NoteBody.NoteBody as NoteBodyValue};
+ghost use Rattle.tte_audit.specs.{Kinds.kind_of, Named.IsNamed, Report.IsTextOf, Spellings.behind_word};
 
 use crate::bodies::{
     accepted, arrived, changed, clock, compressed, corrected, delivered, dropped, event, left,
@@ -15,6 +11,7 @@ use crate::bodies::{
 use crate::kind::Kind;
 use crate::line_words::next;
 use crate::numbers::{count, units};
+use crate::plain_line::plain_line;
 use net_plan::Network;
 use report_text::make_note_line;
 use run_law::{Note, NoteBody};
@@ -91,11 +88,9 @@ fn is_text_of(network: &Network, note: &Note, text: &[u8]) -> bool
     shown.len() == text.len() + 1 && &shown[..text.len()] == text
 }
 
-/// The record whose line, without its LF, the text is. It is None exactly where it is that of no record of the
-/// network.
-///
-/// The network is in its ranges, and no two devices, no two links and no two virtual links have one name.
-pub fn note_line(network: &Network, text: &[u8]) -> Option<Note>
+// The record whose line, without its LF, the text is, by comparison.
+#[inline(never)]
+fn compared_line(network: &Network, text: &[u8]) -> Option<Note>
     requires { IsNamed network.now }
     ensures { MatchOption result
         ((note : NoteValue) → IsTextOf network.now note text.now → ⊥)
@@ -106,5 +101,25 @@ pub fn note_line(network: &Network, text: &[u8]) -> Option<Note>
         Some(note)
     } else {
         None
+    }
+}
+
+/// The record whose line, without its LF, the text is. It is None exactly where it is that of no record of the
+/// network.
+///
+/// The network is in its ranges, and no two devices, no two links and no two virtual links have one name.
+pub fn note_line(network: &Network, text: &[u8]) -> Option<Note>
+    requires { IsNamed network.now }
+    ensures { MatchOption result
+        ((note : NoteValue) → IsTextOf network.now note text.now → ⊥)
+        (λ note. IsTextOf network.now note text.now) }
+{
+    match plain_line(network, text) {
+        Some(read) => Some(Note {
+            number: read.number,
+            time: read.time,
+            body: read.plain.body(),
+        }),
+        None => compared_line(network, text),
     }
 }

@@ -1,4 +1,4 @@
-use Rattle.std.proofs.Common.{◌+◌, ◌≤◌, length}
+use Rattle.tte_audit.proofs.Words.{◌+◌, ◌≤◌, length}
 use Rattle.tte_audit.proofs.UnderWay.{IsUnderWay}
 use Rattle.tte_audit.proofs.auditing.audit_records.Given as goal
 

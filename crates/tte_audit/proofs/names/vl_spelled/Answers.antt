@@ -1,14 +1,8 @@
-use Rattle.std.proofs.Common.{◌≡◌, ◌∙◌, ℕ, List, ap, sym, refl}
-use Rattle.std.specs.Option.{option_map}
-use Rattle.std.proofs.lemmas.List.Elements.{All-weaker}
-use Rattle.net_plan.specs.NameText.{IsNameText}
-use Rattle.net_plan.specs.Bearers.{vl_names}
-use Rattle.net_plan.specs.Ranges.{IsVlInRange}
-use Rattle.net_plan.specs.declared.ids.VlId.{VlId}
-use Rattle.net_plan.specs.declared.tables.VirtualLink.{VirtualLink}
-use Rattle.trace_text.specs.Names.{first_place}
-use Rattle.trace_text.proofs.Bearing.{IsNamed, named_place, named_within, place_absent, bears_utf8}
-use Rattle.tte_audit.specs.Named.{vl_spelled, vl_id}
+use Rattle.tte_audit.proofs.Words.{◌∙◌, ◌≡◌, List, VlId, ap, refl, sym, ℕ}
+use Rattle.std.{proofs.lemmas.List.Elements.All-weaker, specs.Option.option_map}
+use Rattle.net_plan.specs.{Bearers.vl_names, NameText.IsNameText, Ranges.IsVlInRange, declared.tables.VirtualLink.VirtualLink}
+use Rattle.trace_text.{proofs.Bearing.{IsNamed, bears_utf8, named_place, named_within, place_absent}, specs.Names.first_place}
+use Rattle.tte_audit.specs.Named.{vl_id, vl_spelled}
 use Rattle.tte_audit.proofs.names.vl_spelled.Goals as goal
 
 abbrev number : VlId → ℕ

@@ -1,7 +1,5 @@
-use Rattle.std.proofs.Common.{◌≡◌, ◌+◌, ◌∷◌, ◌++◌, [], length, length-append, subst, arith, rules}
-use Rattle.net_plan.specs.declared.network.Network.{Network}
-use Rattle.tte_audit.specs.Report.{BeginsWith, BeginsWithRecord}
-use Rattle.tte_audit.proofs.Parts.{begins_more, begins_none, no_octets_left, shorter}
+use Rattle.tte_audit.proofs.Words.{◌++◌, ◌+◌, ◌∷◌, ◌≡◌, AreTold, BeginsWith, Network, [], arith, length, length-append, rules, subst, sym}
+use Rattle.tte_audit.{proofs.Parts.{begins_more, begins_none, no_octets_left, shorter}, specs.Telling.IsLineTold}
 use Rattle.tte_audit.proofs.passes.read_events.Goals as goal
 
 pub lines-init : goal.lines-init
@@ -10,20 +8,25 @@ lines-init c = record {
   few = let told = c.in-Ok.ensures in omega (arith, told.counted);
 }
 
+pub take_line-requires-clause-told : goal.take_line-requires-clause-told
+take_line-requires-clause-told c =
+    let old = c.lines.invariant.begun in
+    (old.0, subst (λ (n : Network). AreTold n old.0 c.lines.told) (sym c.network.ensures.value) old.2)
+
 pub lines-preserved : goal.lines-preserved
 lines-preserved c =
     let network = c.args.accepted.now in
-    let note = c.in-Some.taken.note in
-    let left = c.in-Some.taken.left.now in
+    let left = c.in-Ok-take_line.left.now in
     let old = c.lines.invariant.begun in
-    let taken = c.in-Some.ensures in
-    let here : BeginsWithRecord network note c.lines.rest.now left =
-    subst (λ (n : Network). BeginsWithRecord n note c.lines.rest.now left) c.network.ensures.value taken.0 in
-    let next : note.number ≡ length old.0 + 1 = omega (arith, taken.1, old.2.counted) in
-    let more = c.in-Ok-take.ensures network old.0 old.2 here.of_network in
-    let less = shorter network note c.lines.rest.now left here in
+    let line = subst (λ (n : Network). IsLineTold n c.lines.told c.take_line.new.self c.lines.rest.now c.take_line.result) c.network.ensures.value
+    c.take_line.ensures in
+    let h = subst (λ r. IsLineTold network c.lines.told c.take_line.new.self c.lines.rest.now r) c.in-Ok-take_line.is line in
+    let note = h.0 in
+    let next : note.number ≡ length old.0 + 1 = omega (arith, h.1.numbered, old.2.counted) in
+    let more = h.2 old.0 old.2 in
+    let less = shorter network note c.lines.rest.now left h.1.begins in
     record {
-      begun = (old.0 ++ note ∷ [], begins_more network c.args.report.now c.lines.rest.now left old.0 note old.1 here next, more);
+      begun = (old.0 ++ note ∷ [], begins_more network c.args.report.now c.lines.rest.now left old.0 note old.1 h.1.begins next, more);
       few = omega (arith, less, c.lines.invariant.few, more.counted, old.2.counted, length-append old.0 (note ∷ []));
     }
 

@@ -1,7 +1,4 @@
-use Rattle.std.proofs.Common.{◌+◌, ◌≤◌, List, length}
-use Rattle.run_law.specs.declared.note.Note.{Note}
-use Rattle.tte_audit.specs.Report.{BeginsWith}
-use Rattle.tte_audit.specs.Telling.{AreTold}
+use Rattle.tte_audit.proofs.Words.{◌+◌, ◌≤◌, AreTold, BeginsWith, List, Note, length}
 use Rattle.tte_audit.proofs.passes.read_events.Given as goal
 
 abbrev pub invariant-lines : goal.invariant-lines

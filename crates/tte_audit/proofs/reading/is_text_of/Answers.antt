@@ -1,6 +1,4 @@
-use Rattle.std.proofs.Common.{◌≡◌, ◌∙◌, ◌++◌, length, take, sym, rules}
-use Rattle.std.specs.Prelude.{codes}
-use Rattle.report_text.specs.NoteLine.{note_text}
+use Rattle.tte_audit.proofs.Words.{◌++◌, ◌∙◌, ◌≡◌, codes, length, note_text, rules, sym, take}
 use Rattle.tte_audit.proofs.NoteWords.{front_of_line}
 use Rattle.tte_audit.proofs.reading.is_text_of.Goals as goal
 

@@ -1,4 +1,4 @@
-use Rattle.std.proofs.Common.{refl}
+use Rattle.tte_audit.proofs.Words.{refl}
 use Rattle.tte_audit.proofs.Telling.{none_told}
 use Rattle.tte_audit.proofs.passes.Told.new.Goals as goal
 

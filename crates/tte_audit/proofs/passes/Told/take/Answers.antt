@@ -1,8 +1,5 @@
-use Rattle.std.proofs.Common.{◌≡◌, ◌∙◌, false, refl, sym, arith}
-use Rattle.std.specs.Prelude.{is_some}
-use Rattle.tte_audit.specs.Report.{events_of}
-use Rattle.tte_audit.proofs.Befalling.{match_false, match_true}
-use Rattle.tte_audit.proofs.Telling.{fault_stays, few, followed, goes_on, stops}
+use Rattle.tte_audit.proofs.Words.{◌∙◌, ◌≡◌, arith, events_of, false, is_some, refl, sym}
+use Rattle.tte_audit.proofs.{Befalling.{match_false, match_true}, Telling.{fault_stays, few, followed, goes_on, stops}}
 use Rattle.tte_audit.proofs.passes.Told.take.Goals as goal
 
 pub returns-then-is_some : goal.returns-then-is_some

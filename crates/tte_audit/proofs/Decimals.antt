@@ -1,0 +1,35 @@
+-- When a text is the decimal of a number.
+use Rattle.tte_audit.proofs.Words.{◌++◌, ◌<◌, ◌^◌, ◌∙◌, ◌≡◌, ◌≤◌, AllDigits, List, ap, arith, decimal, digits_value, get_or, length, nat_tests, subst, sym}
+use Rattle.tte_audit.proofs.Words.{take, true, ℕ}
+use Rattle.std.proofs.{Common.◌-◌, Math.Nat.pow-le-pow_right, lemmas.{Fmt.decimal-digits_value, Int.Digits.digits_value-lt, List.length-take-le}}
+use Rattle.std.{proofs.lemmas.Str.Parse.{IsNumeralModel, numerals_by_value, tells_digits}, specs.Char.{digit_value, is_ascii_digit}}
+
+own : IsNumeralModel (AllDigits 10) (digits_value 10)
+own = numerals_by_value (AllDigits 10) tells_digits
+
+-- some digits have a small value
+pub few_digits : (text : List ℕ) (i : ℕ) → AllDigits 10 (take i text) → i < length text → i ≤ 18 → digits_value 10 (take i text) < 1000000000000000000
+few_digits text i all below short =
+    let value = digits_value-lt 10 (take i text) all in
+    let long : length (take i text) ≡ i = length-take-le i text (omega (arith, below)) in
+    let most = pow-le-pow_right {n = 10} (omega arith) {i = length (take i text)} {j = 18} (omega (arith, long, short)) in
+    omega (arith, value, most)
+
+-- digits at the front of a text that have no leading zero are the decimal of their value
+pub decimal_front : (left front rest : List ℕ) (count number : ℕ) → front ≡ take count left → left ≡ front ++ rest → AllDigits 10 (take count left)
+    → number ≡ digits_value 10 (take count left) → 0 < count → count ≤ length left → (get_or front 0 0 ≡ 48 → length front ≤ 1) → number < 2 ^ 64
+    → left ≡ decimal number ++ rest
+decimal_front left front rest count number is parts all value some within plain bound =
+    let same : number ≡ digits_value 10 front = value ∙ ap (digits_value 10) (sym is) in
+    let digits : AllDigits 10 front = subst (AllDigits 10) (sym is) all in
+    let long : length front ≡ count = ap length is ∙ length-take-le count left within in
+    let whole : decimal (digits_value 10 front) ≡ front = decimal-digits_value own front digits (omega (arith, long, some))
+    (λ zero. omega (arith, plain zero, long, some)) (omega (arith, same, bound)) in
+    parts ∙ ap (λ (t : List ℕ). t ++ rest) (sym whole ∙ ap decimal (sym same))
+
+-- a digit's value
+pub digit_shows : (c : ℕ) → is_ascii_digit c ≡ true → digit_value c < 10
+digit_shows c h = grind (arith, nat_tests)
+
+pub digit_spells : (c : ℕ) → is_ascii_digit c ≡ true → digit_value c ≡ c - 48
+digit_spells c h = grind (arith, nat_tests)

@@ -1,0 +1,61 @@
+-- Records without an event.
+use Rattle.tte_audit.proofs.Words.{◌++◌, ◌+◌, ◌∷◌, ◌≡◌, AreTold, Bool, Event, Follows, List, MayCome, Network, Note, NoteBody, Units, [], events_of, false}
+use Rattle.tte_audit.proofs.Words.{is_some, refl, subst, sym, true, with_event}
+use Rattle.tte_audit.{proofs.Telling.{fault_stays, followed, goes_on}, specs.{Plain.plain_body, Report.HasNoEvent, declared.passes.Told.Told}}
+use Rattle.tte_audit.specs.declared.plain.Plain.{Plain}
+use Rattle.run_law.specs.declared.note.NoteBody.TheVariants as bodies
+use Rattle.tte_audit.specs.declared.plain.Plain.TheVariants as plain
+
+pub plain_quiet : (p : Plain) → HasNoEvent (plain_body p)
+plain_quiet (plain.Arrived device link cause clock) = tt
+plain_quiet (plain.Permanent device link cause point verdict) = tt
+plain_quiet (plain.Compressed device opened at cycle members verdict) = tt
+plain_quiet (plain.Sent device cycle) = tt
+plain_quiet (plain.Corrected device cycle by adjustment) = tt
+plain_quiet (plain.State device state cause why) = tt
+plain_quiet (plain.Left device link cause clock) = tt
+plain_quiet (plain.Lost device link cause) = tt
+plain_quiet (plain.TtSent device link cause vl cycle) = tt
+plain_quiet (plain.Accepted device link cause vl cycle) = tt
+plain_quiet (plain.Delivered device link cause vl cycle) = tt
+plain_quiet (plain.Dropped device link cause reason) = tt
+plain_quiet (plain.Clock device reading adjustment state) = tt
+
+-- it may come, and adds no event
+record GoesBy (network : Network) (befallen : List Event) (time : Units) (body : NoteBody) : Type 0 where
+  may : MayCome network befallen time body
+  same : with_event befallen time body ≡ befallen
+
+goes_by : (network : Network) (befallen : List Event) (time : Units) (body : NoteBody) → HasNoEvent body → GoesBy network befallen time body
+goes_by network befallen time (bodies.Event line what) h = absurd h
+goes_by network befallen time (bodies.Arrived device link cause clock) h = record { may = tt; same = refl }
+goes_by network befallen time (bodies.Permanent device link cause point verdict) h = record { may = tt; same = refl }
+goes_by network befallen time (bodies.Compressed device opened at cycle members verdict) h = record { may = tt; same = refl }
+goes_by network befallen time (bodies.Sent device cycle) h = record { may = tt; same = refl }
+goes_by network befallen time (bodies.Corrected device cycle by adjustment) h = record { may = tt; same = refl }
+goes_by network befallen time (bodies.State device state cause why) h = record { may = tt; same = refl }
+goes_by network befallen time (bodies.Left device link cause clock) h = record { may = tt; same = refl }
+goes_by network befallen time (bodies.Lost device link cause) h = record { may = tt; same = refl }
+goes_by network befallen time (bodies.TtSent device link cause vl cycle) h = record { may = tt; same = refl }
+goes_by network befallen time (bodies.Accepted device link cause vl cycle) h = record { may = tt; same = refl }
+goes_by network befallen time (bodies.Delivered device link cause vl cycle) h = record { may = tt; same = refl }
+goes_by network befallen time (bodies.Dropped device link cause reason) h = record { may = tt; same = refl }
+goes_by network befallen time (bodies.Clock device reading adjustment state) h = record { may = tt; same = refl }
+
+by_fault : (network : Network) (notes : List Note) (note : Note) (old new : Told) (b : Bool) → is_some old.fault ≡ b → AreTold network notes old
+    → HasNoEvent note.body → new.fault ≡ old.fault → new.records ≡ old.records + 1 → new.befallen ≡ old.befallen
+    → AreTold network (notes ++ note ∷ []) new
+by_fault network notes note old new true e told quiet fault next befallen = fault_stays network notes note old new told e fault next
+by_fault network notes note old new false e told quiet fault next befallen =
+    let by = goes_by network (events_of notes) note.time note.body quiet in
+    let own = (followed network notes old told e).follows in
+    let moved = subst (λ b. Follows network b.watch b.history b.count b.end (events_of notes)) (sym befallen) own in
+    goes_on network notes note old new told e fault next by.may
+    (subst (λ (es : List Event). Follows network new.befallen.watch new.befallen.history new.befallen.count new.befallen.end es) (sym by.same) moved)
+
+-- one record more that has no event
+pub passed_on : (network : Network) (notes : List Note) (note : Note) (old new : Told) → AreTold network notes old
+    → HasNoEvent note.body → new.fault ≡ old.fault → new.records ≡ old.records + 1 → new.befallen ≡ old.befallen
+    → AreTold network (notes ++ note ∷ []) new
+passed_on network notes note old new told quiet fault next befallen =
+    by_fault network notes note old new (is_some old.fault) refl told quiet fault next befallen

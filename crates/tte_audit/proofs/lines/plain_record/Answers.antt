@@ -1,0 +1,17 @@
+use Rattle.tte_audit.proofs.Words.{◌+◌, ◌∙◌, ◌≡◌, BeginsWithRecord, Some, is_line_end, position, rules, subst, sym}
+use Rattle.std.proofs.lemmas.List.{take_rest}
+use Rattle.tte_audit.{proofs.Parts.record_at, specs.Plain.plain_note}
+use Rattle.tte_audit.proofs.lines.plain_record.Goals as goal
+
+pub returns-then-read-number : goal.returns-then-read-number
+returns-then-read-number c =
+    let octets = c.args.octets.now in
+    let place = c.in_ok-place.place in
+    let note = plain_note c.in_ok-read.read in
+    let found : c.first_lf.result ≡ Some place = search rules in
+    let at : position is_line_end octets ≡ Some place = sym c.first_lf.ensures.place ∙ found in
+    let here = record_at c.args.network.now octets place note at c.in_ok-read.ensures in
+    record {
+      begins = subst (BeginsWithRecord c.args.network.now note octets) (sym (take_rest octets (place + 1))) here;
+      numbered = c.if-read-number.true;
+    }

@@ -1,0 +1,361 @@
+//! What a record of one kind says, where its line is just what is written for it.
+
+ghost use Rattle.std.specs.{List.join_with_byte, Prelude.{◌++◌, ◌∷◌, ◌≡◌, IfSome, [], codes, decimal}};
+ghost use Rattle.net_plan.specs.{Belonging.HasVl, Ranges.IsInRange};
+ghost use Rattle.report_text.specs.NoteLine.{body_words, passage_words, stream_words};
+ghost use Rattle.report_text.specs.Ranges.{HasPassage, IsBodyInRange, IsBodyOf, IsCount, IsShortCount};
+ghost use Rattle.trace_text.specs.Steps.{space};
+ghost use Rattle.tte_audit.specs.{Plain.plain_body, Spellings.kind_text};
+
+use crate::cursor::Cursor;
+use crate::enums::{judgement as judgement_word, state as state_word, why as why_word};
+use crate::kind::Kind;
+use crate::plain::Plain;
+use crate::plain_words::{take_device, take_kind, take_link, take_members, take_state, take_vl};
+use crate::reasons::one_word_reason;
+use net_plan::{DeviceId, LinkId, Network, VlId};
+
+// Where a frame is and what it comes from.
+#[derive(Clone, Copy)]
+struct Stop {
+    device: DeviceId,
+    link: LinkId,
+    cause: u64,
+}
+
+// Which time-triggered frame it is.
+#[derive(Clone, Copy)]
+struct Stream {
+    vl: VlId,
+    cycle: u32,
+}
+
+// The device, the link and the cause.
+fn take_stop(network: &Network, cursor: &mut Cursor) -> Option<Stop>
+    requires { IsInRange network.now }
+    ensures of_network { IfSome result (λ s. HasPassage network.now s.device s.link) }
+    ensures range { IfSome result (λ s. IsCount s.cause) }
+    ensures text { IfSome result (λ s. cursor.old
+        ≡ join_with_byte space (passage_words network.now s.device s.link s.cause) ++ cursor.new) }
+{
+    let device = take_device(network, cursor)?;
+    cursor.fixed(" ")?;
+    let link = take_link(network, cursor)?;
+    cursor.fixed(" ")?;
+    let cause = cursor.count()?;
+    Some(Stop {
+        device,
+        link,
+        cause,
+    })
+}
+
+// A virtual link and a cycle, the last of the line.
+fn take_stream(network: &Network, cursor: &mut Cursor) -> Option<Stream>
+    requires { IsInRange network.now }
+    ensures of_network { IfSome result (λ s. HasVl network.now s.vl) }
+    ensures range { IfSome result (λ s. IsShortCount s.cycle) }
+    ensures text { IfSome result (λ s. cursor.old
+        ≡ codes " " ++ join_with_byte space (stream_words network.now s.vl s.cycle)) }
+{
+    cursor.fixed(" vl ")?;
+    let vl = take_vl(network, cursor)?;
+    cursor.fixed(" cycle ")?;
+    let cycle = cursor.last_short()?;
+    Some(Stream { vl, cycle })
+}
+
+fn arrived(network: &Network, cursor: &mut Cursor) -> Option<Plain>
+    requires { IsInRange network.now }
+    ensures of_network { IfSome result (λ p. IsBodyOf network.now (plain_body p)) }
+    ensures range { IfSome result (λ p. IsBodyInRange (plain_body p)) }
+    ensures text { IfSome result (λ p. codes "arrived " ++ cursor.old
+        ≡ join_with_byte space (body_words network.now (plain_body p))) }
+{
+    let stop = take_stop(network, cursor)?;
+    cursor.fixed(" clock ")?;
+    let clock = cursor.last_count()?;
+    Some(Plain::Arrived {
+        device: stop.device,
+        link: stop.link,
+        cause: stop.cause,
+        clock,
+    })
+}
+
+fn left(network: &Network, cursor: &mut Cursor) -> Option<Plain>
+    requires { IsInRange network.now }
+    ensures of_network { IfSome result (λ p. IsBodyOf network.now (plain_body p)) }
+    ensures range { IfSome result (λ p. IsBodyInRange (plain_body p)) }
+    ensures text { IfSome result (λ p. codes "left " ++ cursor.old
+        ≡ join_with_byte space (body_words network.now (plain_body p))) }
+{
+    let stop = take_stop(network, cursor)?;
+    cursor.fixed(" clock ")?;
+    let clock = cursor.last_count()?;
+    Some(Plain::Left {
+        device: stop.device,
+        link: stop.link,
+        cause: stop.cause,
+        clock,
+    })
+}
+
+fn permanent(network: &Network, cursor: &mut Cursor) -> Option<Plain>
+    requires { IsInRange network.now }
+    ensures of_network { IfSome result (λ p. IsBodyOf network.now (plain_body p)) }
+    ensures range { IfSome result (λ p. IsBodyInRange (plain_body p)) }
+    ensures text { IfSome result (λ p. codes "permanent " ++ cursor.old
+        ≡ join_with_byte space (body_words network.now (plain_body p))) }
+{
+    let stop = take_stop(network, cursor)?;
+    cursor.fixed(" point ")?;
+    let point = cursor.units()?;
+    cursor.fixed(" ")?;
+    let verdict = judgement_word(cursor.last())?;
+    Some(Plain::Permanent {
+        device: stop.device,
+        link: stop.link,
+        cause: stop.cause,
+        point,
+        verdict,
+    })
+}
+
+fn compressed(network: &Network, cursor: &mut Cursor) -> Option<Plain>
+    requires { IsInRange network.now }
+    ensures of_network { IfSome result (λ p. IsBodyOf network.now (plain_body p)) }
+    ensures range { IfSome result (λ p. IsBodyInRange (plain_body p)) }
+    ensures text { IfSome result (λ p. codes "compressed " ++ cursor.old
+        ≡ join_with_byte space (body_words network.now (plain_body p))) }
+{
+    let device = take_device(network, cursor)?;
+    cursor.fixed(" opened ")?;
+    let opened = cursor.units()?;
+    cursor.fixed(" at ")?;
+    let at = cursor.units()?;
+    cursor.fixed(" cycle ")?;
+    let cycle = cursor.short()?;
+    cursor.fixed(" members ")?;
+    let members = take_members(cursor)?;
+    cursor.fixed(" ")?;
+    let verdict = judgement_word(cursor.last())?;
+    Some(Plain::Compressed {
+        device,
+        opened,
+        at,
+        cycle,
+        members,
+        verdict,
+    })
+}
+
+fn sent(network: &Network, cursor: &mut Cursor) -> Option<Plain>
+    requires { IsInRange network.now }
+    ensures of_network { IfSome result (λ p. IsBodyOf network.now (plain_body p)) }
+    ensures range { IfSome result (λ p. IsBodyInRange (plain_body p)) }
+    ensures text { IfSome result (λ p. codes "sent " ++ cursor.old
+        ≡ join_with_byte space (body_words network.now (plain_body p))) }
+{
+    let device = take_device(network, cursor)?;
+    cursor.fixed(" cycle ")?;
+    let cycle = cursor.last_short()?;
+    Some(Plain::Sent { device, cycle })
+}
+
+fn corrected(network: &Network, cursor: &mut Cursor) -> Option<Plain>
+    requires { IsInRange network.now }
+    ensures of_network { IfSome result (λ p. IsBodyOf network.now (plain_body p)) }
+    ensures range { IfSome result (λ p. IsBodyInRange (plain_body p)) }
+    ensures text { IfSome result (λ p. codes "corrected " ++ cursor.old
+        ≡ join_with_byte space (body_words network.now (plain_body p))) }
+{
+    let device = take_device(network, cursor)?;
+    cursor.fixed(" cycle ")?;
+    let cycle = cursor.short()?;
+    cursor.fixed(" by ")?;
+    let by = cursor.units()?;
+    cursor.fixed(" adj ")?;
+    let adjustment = cursor.last_units()?;
+    Some(Plain::Corrected {
+        device,
+        cycle,
+        by,
+        adjustment,
+    })
+}
+
+fn changed(network: &Network, cursor: &mut Cursor) -> Option<Plain>
+    requires { IsInRange network.now }
+    ensures of_network { IfSome result (λ p. IsBodyOf network.now (plain_body p)) }
+    ensures range { IfSome result (λ p. IsBodyInRange (plain_body p)) }
+    ensures text { IfSome result (λ p. codes "state " ++ cursor.old
+        ≡ join_with_byte space (body_words network.now (plain_body p))) }
+{
+    let device = take_device(network, cursor)?;
+    cursor.fixed(" ")?;
+    let state = take_state(cursor)?;
+    cursor.fixed(" ")?;
+    let cause = cursor.count()?;
+    cursor.fixed(" ")?;
+    let why = why_word(cursor.last())?;
+    Some(Plain::State {
+        device,
+        state,
+        cause,
+        why,
+    })
+}
+
+fn lost(network: &Network, cursor: &mut Cursor) -> Option<Plain>
+    requires { IsInRange network.now }
+    ensures of_network { IfSome result (λ p. IsBodyOf network.now (plain_body p)) }
+    ensures range { IfSome result (λ p. IsBodyInRange (plain_body p)) }
+    ensures text { IfSome result (λ p. codes "lost " ++ cursor.old
+        ≡ join_with_byte space (body_words network.now (plain_body p))) }
+{
+    let device = take_device(network, cursor)?;
+    cursor.fixed(" ")?;
+    let link = take_link(network, cursor)?;
+    cursor.fixed(" ")?;
+    let cause = cursor.last_count()?;
+    Some(Plain::Lost {
+        device,
+        link,
+        cause,
+    })
+}
+
+fn ttsent(network: &Network, cursor: &mut Cursor) -> Option<Plain>
+    requires { IsInRange network.now }
+    ensures of_network { IfSome result (λ p. IsBodyOf network.now (plain_body p)) }
+    ensures range { IfSome result (λ p. IsBodyInRange (plain_body p)) }
+    ensures text { IfSome result (λ p. codes "ttsent " ++ cursor.old
+        ≡ join_with_byte space (body_words network.now (plain_body p))) }
+{
+    let stop = take_stop(network, cursor)?;
+    let stream = take_stream(network, cursor)?;
+    Some(Plain::TtSent {
+        device: stop.device,
+        link: stop.link,
+        cause: stop.cause,
+        vl: stream.vl,
+        cycle: stream.cycle,
+    })
+}
+
+fn accepted(network: &Network, cursor: &mut Cursor) -> Option<Plain>
+    requires { IsInRange network.now }
+    ensures of_network { IfSome result (λ p. IsBodyOf network.now (plain_body p)) }
+    ensures range { IfSome result (λ p. IsBodyInRange (plain_body p)) }
+    ensures text { IfSome result (λ p. codes "accepted " ++ cursor.old
+        ≡ join_with_byte space (body_words network.now (plain_body p))) }
+{
+    let stop = take_stop(network, cursor)?;
+    let stream = take_stream(network, cursor)?;
+    Some(Plain::Accepted {
+        device: stop.device,
+        link: stop.link,
+        cause: stop.cause,
+        vl: stream.vl,
+        cycle: stream.cycle,
+    })
+}
+
+fn delivered(network: &Network, cursor: &mut Cursor) -> Option<Plain>
+    requires { IsInRange network.now }
+    ensures of_network { IfSome result (λ p. IsBodyOf network.now (plain_body p)) }
+    ensures range { IfSome result (λ p. IsBodyInRange (plain_body p)) }
+    ensures text { IfSome result (λ p. codes "delivered " ++ cursor.old
+        ≡ join_with_byte space (body_words network.now (plain_body p))) }
+{
+    let stop = take_stop(network, cursor)?;
+    let stream = take_stream(network, cursor)?;
+    Some(Plain::Delivered {
+        device: stop.device,
+        link: stop.link,
+        cause: stop.cause,
+        vl: stream.vl,
+        cycle: stream.cycle,
+    })
+}
+
+fn dropped(network: &Network, cursor: &mut Cursor) -> Option<Plain>
+    requires { IsInRange network.now }
+    ensures of_network { IfSome result (λ p. IsBodyOf network.now (plain_body p)) }
+    ensures range { IfSome result (λ p. IsBodyInRange (plain_body p)) }
+    ensures text { IfSome result (λ p. codes "dropped " ++ cursor.old
+        ≡ join_with_byte space (body_words network.now (plain_body p))) }
+{
+    let stop = take_stop(network, cursor)?;
+    cursor.fixed(" ")?;
+    let reason = one_word_reason(cursor.last())?;
+    Some(Plain::Dropped {
+        device: stop.device,
+        link: stop.link,
+        cause: stop.cause,
+        reason,
+    })
+}
+
+fn clock(network: &Network, cursor: &mut Cursor) -> Option<Plain>
+    requires { IsInRange network.now }
+    ensures of_network { IfSome result (λ p. IsBodyOf network.now (plain_body p)) }
+    ensures range { IfSome result (λ p. IsBodyInRange (plain_body p)) }
+    ensures text { IfSome result (λ p. codes "clock " ++ cursor.old
+        ≡ join_with_byte space (body_words network.now (plain_body p))) }
+{
+    let device = take_device(network, cursor)?;
+    cursor.fixed(" reading ")?;
+    let reading = cursor.units()?;
+    cursor.fixed(" adj ")?;
+    let adjustment = cursor.units()?;
+    cursor.fixed(" state ")?;
+    let state = state_word(cursor.last())?;
+    Some(Plain::Clock {
+        device,
+        reading,
+        adjustment,
+        state,
+    })
+}
+
+// What a record of the kind says. Those of events are not read here.
+fn plain_of(network: &Network, kind: Kind, cursor: &mut Cursor) -> Option<Plain>
+    requires { IsInRange network.now }
+    ensures of_network { IfSome result (λ p. IsBodyOf network.now (plain_body p)) }
+    ensures range { IfSome result (λ p. IsBodyInRange (plain_body p)) }
+    ensures text { IfSome result (λ p. kind_text kind ++ codes " " ++ cursor.old
+        ≡ join_with_byte space (body_words network.now (plain_body p))) }
+{
+    match kind {
+        Kind::Event => None,
+        Kind::Arrived => arrived(network, cursor),
+        Kind::Permanent => permanent(network, cursor),
+        Kind::Compressed => compressed(network, cursor),
+        Kind::Sent => sent(network, cursor),
+        Kind::Corrected => corrected(network, cursor),
+        Kind::State => changed(network, cursor),
+        Kind::Left => left(network, cursor),
+        Kind::Lost => lost(network, cursor),
+        Kind::TtSent => ttsent(network, cursor),
+        Kind::Accepted => accepted(network, cursor),
+        Kind::Delivered => delivered(network, cursor),
+        Kind::Dropped => dropped(network, cursor),
+        Kind::Clock => clock(network, cursor),
+    }
+}
+
+/// What a record says that is of no event.
+pub(crate) fn take_plain(network: &Network, cursor: &mut Cursor) -> Option<Plain>
+    requires { IsInRange network.now }
+    ensures of_network { IfSome result (λ p. IsBodyOf network.now (plain_body p)) }
+    ensures range { IfSome result (λ p. IsBodyInRange (plain_body p)) }
+    ensures text { IfSome result (λ p. cursor.old
+        ≡ join_with_byte space (body_words network.now (plain_body p))) }
+{
+    let kind = take_kind(cursor)?;
+    cursor.fixed(" ")?;
+    let plain = plain_of(network, kind, cursor)?;
+    Some(plain)
+}

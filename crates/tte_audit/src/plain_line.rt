@@ -1,0 +1,37 @@
+ghost use Rattle.std.specs.Prelude.{IfSome};
+ghost use Rattle.net_plan.specs.Ranges.{IsInRange};
+ghost use Rattle.tte_audit.specs.{Plain.plain_note, Report.IsTextOf};
+
+use crate::cursor::Cursor;
+use crate::plain::Plain;
+use crate::plain_bodies::take_plain;
+use net_plan::Network;
+use tte_units::Units;
+
+/// A record without an event.
+#[derive(Clone, Copy)]
+pub struct PlainRecord {
+    pub number: u64,
+    pub time: Units,
+    pub plain: Plain,
+}
+
+/// The record whose line, without its LF, the text is, where it is one without an event. Some such lines are not
+/// read: those with a number of more than 19 digits.
+#[tactic(auto, unfolding(report_text::specs::NoteLine::body_text))]
+pub fn plain_line(network: &Network, text: &[u8]) -> Option<PlainRecord>
+    requires { IsInRange network.now }
+    ensures { IfSome result (λ r. IsTextOf network.now (plain_note r) text.now) }
+{
+    let mut cursor = Cursor::of(text);
+    let number = cursor.count()?;
+    cursor.fixed(" ")?;
+    let time = cursor.units()?;
+    cursor.fixed(" ")?;
+    let plain = take_plain(network, &mut cursor)?;
+    Some(PlainRecord {
+        number,
+        time,
+        plain,
+    })
+}
