@@ -190,6 +190,7 @@ fn statuses_have_their_numbers(rt: HostRuntime) {
         Status::CaptureRefused,
         Status::NameRefused,
         Status::VoteRefused,
+        Status::NumberRefused,
     ];
     for (number, status) in statuses.iter().enumerate() {
         assert!(rt; usize::from(status.number()) == number);

@@ -1,17 +1,9 @@
 -- The answer of `capture` for a source.
-use Rattle.std.proofs.Common.{◌≡◌, ℕ, ◌<◌, ◌≤◌, List, [], length, Ok, Err, refl, sym, subst, inl, inr}
-use Rattle.std.specs.Prelude.{Option, IfSome}
-use Rattle.std.proofs.lemmas.Bool.{cases_lt, lt-ltb, le-ltb}
-use Rattle.pcap_form.specs.declared.capture.CaptureHead.{CaptureHead}
-use Rattle.pcap_form.specs.declared.refusal.CaptureRefusal.TheVariants.{Header}
-use Rattle.pcap_form.specs.Layout.{head_length}
-use Rattle.pcap_form.specs.Reading.{opened}
-use Rattle.tte_forms.specs.Putting.{Shown}
-use Rattle.tte_forms.specs.Answering.{Answer, Answers, Ends, Gives}
-use Rattle.tte_forms.specs.declared.status.Status.{Status}
-use Rattle.tte_forms.specs.declared.status.Status.TheVariants.{TooLong}
-use Rattle.tte_forms.proofs.Octets.{for_read, for_too_many}
-use Rattle.tte_forms.proofs.Puts.{PutsLines-none, Ends-gives}
+use Rattle.std.proofs.{Common.{◌<◌, ◌≡◌, ◌≤◌, Err, List, Ok, [], inl, inr, length, refl, subst, sym, ℕ}, lemmas.Bool.{cases_lt, le-ltb, lt-ltb}}
+use Rattle.std.specs.Prelude.{IfSome, Option}
+use Rattle.pcap_form.specs.{Layout.head_length, Reading.opened, declared.{capture.CaptureHead.CaptureHead, refusal.CaptureRefusal.TheVariants.Header}}
+use Rattle.tte_forms.{proofs.{Octets.{for_read, for_too_many}, Puts.{Ends-gives, PutsLines-none}}, specs.Answering.{Answer, Answers, Ends, Gives}}
+use Rattle.tte_forms.specs.{Putting.Shown, declared.status.Status.{Status, TheVariants.TooLong}}
 use Rattle.tte_captures.specs.Answer.{capture_answer, capture_limit, opened_answer}
 
 -- an empty file, or a short one, has no header

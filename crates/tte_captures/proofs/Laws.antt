@@ -1,34 +1,20 @@
 -- The packets that stand in a file have their lines.
-use Rattle.std.proofs.Common.{◌≡◌, ℕ, zero, suc, ◌+◌, ◌-◌, ◌*◌, ◌<◌, ◌≤◌, Bool, true, false, List, [], ◌∷◌, ◌++◌, length, Ok, Err, refl, ap, ◌∙◌, inl, inr, arith}
-use Rattle.std.specs.Prelude.{Option, Some, None, Result, codes, nat_le, ◌==◌}
-use Rattle.std.specs.Fmt.{decimal}
-use Rattle.std.proofs.lemmas.Bool.{and_parts}
-use Rattle.std.proofs.lemmas.Bool.Decides.{nat_tests}
-use Rattle.std.proofs.lemmas.List.{append-nil}
-use Rattle.pcap_form.specs.declared.capture.CaptureHead.{CaptureHead}
-use Rattle.pcap_form.specs.declared.capture.Packet.{Packet}
+use Rattle.std.proofs.Common.{◌*◌, ◌++◌, ◌+◌, ◌-◌, ◌<◌, ◌∙◌, ◌∷◌, ◌≡◌, ◌≤◌, Bool, Err, List, Ok, [], ap, arith, false, inl, inr, length, refl, suc, true, zero}
+use Rattle.std.{proofs.{Common.ℕ, lemmas.{Bool.{and_parts, Decides.nat_tests}, List.append-nil}}, specs.Fmt.decimal}
+use Rattle.std.specs.Prelude.{◌==◌, None, Option, Result, Some, codes, nat_le}
+use Rattle.pcap_form.{proofs.{Heads.finds_head, Packets.{finds_packets, packet_stands}}, specs.Layout.{IsHead, IsPacket, head_length}}
+use Rattle.pcap_form.specs.{Reading.{opened, packet_at}, ReadingLaw.{HasHeadFault, HasPacketFault}, declared.capture.{CaptureHead.CaptureHead, Packet.Packet}}
 use Rattle.pcap_form.specs.declared.refusal.CaptureRefusal.{CaptureRefusal}
-use Rattle.pcap_form.specs.declared.refusal.CaptureRefusal.TheVariants as reasons
-use Rattle.pcap_form.specs.Layout.{head_length, IsHead, IsPacket}
-use Rattle.pcap_form.specs.Reading.{opened, packet_at}
-use Rattle.pcap_form.specs.ReadingLaw.{HasHeadFault, HasPacketFault}
-use Rattle.pcap_form.proofs.Heads.{finds_head}
-use Rattle.pcap_form.proofs.Packets.{finds_packets, packet_stands}
-use Rattle.pcf_values.specs.declared.pcf.Pcf.{Pcf}
+use Rattle.pcf_codec.{proofs.Outcomes.is_spelling, specs.{Decoding.decoded, EtherType.{HasPcfType, pcf_type}, Fields.field}}
 use Rattle.pcf_codec.specs.declared.refusal.PcfRefusal.{PcfRefusal}
-use Rattle.pcf_codec.specs.Fields.{field}
-use Rattle.pcf_codec.specs.EtherType.{HasPcfType, pcf_type}
-use Rattle.pcf_codec.specs.Decoding.{decoded}
-use Rattle.pcf_codec.proofs.Outcomes.{is_spelling}
-use Rattle.tte_forms.specs.Answering.{Answer, line_answer, with_line}
-use Rattle.tte_forms.specs.declared.status.Status.TheVariants.{Done, CaptureRefused}
-use Rattle.tte_forms.specs.frames.FrameLine.{refusal_text}
-use Rattle.tte_forms.proofs.frames.Frames.{behind}
-use Rattle.tte_captures.specs.CaptureLine.{has_pcf_type, no_frame_words, words_of, packet_line, head_refusal_line, packet_refusal_line}
+use Rattle.pcf_values.specs.declared.pcf.Pcf.{Pcf}
+use Rattle.tte_forms.{proofs.frames.Frames.behind, specs.Answering.{Answer, line_answer, with_line}}
+use Rattle.tte_forms.specs.{declared.status.Status.TheVariants.{CaptureRefused, Done}, frames.FrameLine.refusal_text}
+use Rattle.tte_captures.proofs.{Files.capture_answer-fits, Packets.{answer_behind, packets_next}}
 use Rattle.tte_captures.specs.Answer.{capture_answer, found_answer, opened_answer, packets_answer}
+use Rattle.tte_captures.specs.CaptureLine.{has_pcf_type, head_refusal_line, no_frame_words, packet_line, packet_refusal_line, words_of}
 use Rattle.tte_captures.specs.Law.{HasPackets, IsFile, IsJudged, ShowsOctets, ShowsPackets, StandFrom, packet_lines, refused_behind, whole_answer}
-use Rattle.tte_captures.proofs.Packets.{answer_behind, packets_next}
-use Rattle.tte_captures.proofs.Files.{capture_answer-fits}
+use Rattle.pcap_form.specs.declared.refusal.CaptureRefusal.TheVariants as reasons
 
 -- ---- octets
 

@@ -1,23 +1,13 @@
 -- The answer for the packets of a capture, packet by packet.
-use Rattle.std.proofs.Common.{◌≡◌, ℕ, suc, ◌+◌, ◌-◌, ◌<◌, ◌≤◌, List, [], ◌∷◌, ◌++◌, length, Result, Ok, Err, refl, sym, ap, subst, ◌∙◌, inl, inr, arith, append_assoc}
-use Rattle.std.specs.Prelude.{Option, Some, None}
-use Rattle.std.specs.Io.KnownBytes.{Appends}
-use Rattle.std.proofs.lemmas.List.{append-nil}
-use Rattle.tte_io.specs.Faults.{next_count}
-use Rattle.tte_io.specs.Told.{AppendsFront}
-use Rattle.pcap_form.specs.declared.capture.CaptureHead.{CaptureHead}
-use Rattle.pcap_form.specs.declared.capture.Packet.{Packet}
+use Rattle.std.proofs.Common.{◌++◌, ◌+◌, ◌-◌, ◌<◌, ◌∙◌, ◌∷◌, ◌≡◌, ◌≤◌, Err, List, Ok, Result, [], ap, append_assoc, arith, inl, inr, length, refl, subst, suc}
+use Rattle.std.{proofs.{Common.{sym, ℕ}, lemmas.List.append-nil}, specs.{Io.KnownBytes.Appends, Prelude.{None, Option, Some}}}
+use Rattle.pcap_form.specs.{Layout.{head_length, stamp_length}, Reading.packet_at, declared.capture.{CaptureHead.CaptureHead, Packet.Packet}}
 use Rattle.pcap_form.specs.declared.refusal.CaptureRefusal.{CaptureRefusal}
-use Rattle.pcap_form.specs.Layout.{head_length, stamp_length}
-use Rattle.pcap_form.specs.Reading.{packet_at}
-use Rattle.tte_forms.specs.Putting.{Shown, PutsLines}
-use Rattle.tte_forms.specs.Answering.{Answer, Ends, Gives, line_answer}
-use Rattle.tte_forms.specs.declared.status.Status.{Status}
-use Rattle.tte_forms.specs.declared.status.Status.TheVariants.{Done, CaptureRefused, WriteFault}
-use Rattle.tte_forms.proofs.Puts.{PutsLines-none, PutsLines-more, PutsLines-fails, Ends-gives}
-use Rattle.tte_forms.proofs.frames.Frames.{behind, Gives-behind}
-use Rattle.tte_captures.specs.CaptureLine.{packet_line, packet_refusal_line}
-use Rattle.tte_captures.specs.Answer.{found_answer, packets_answer}
+use Rattle.tte_forms.proofs.{Puts.{Ends-gives, PutsLines-fails, PutsLines-more, PutsLines-none}, frames.Frames.{Gives-behind, behind}}
+use Rattle.tte_forms.specs.{Answering.{Answer, Ends, Gives, line_answer}, Putting.{PutsLines, Shown}, declared.status.Status.Status}
+use Rattle.tte_forms.specs.declared.status.Status.TheVariants.{CaptureRefused, Done, WriteFault}
+use Rattle.tte_io.specs.{Faults.next_count, Told.AppendsFront}
+use Rattle.tte_captures.specs.{Answer.{found_answer, packets_answer}, CaptureLine.{packet_line, packet_refusal_line}}
 
 -- the answer behind a packet, from a place on
 abbrev pub answer_behind : ℕ → ℕ → CaptureHead → List ℕ → ℕ → Answer

@@ -1,14 +1,14 @@
 -- What `capture` answers for the octets of a file.
-use Rattle.std.specs.Prelude.{ℕ, zero, suc, ◌+◌, List, [], length, nat_lt, if◌then◌else◌, Option, Some, None, Result, Ok, Err}
-use Rattle.pcap_form.specs.declared.capture.CaptureHead.{CaptureHead}
-use Rattle.pcap_form.specs.declared.capture.Packet.{Packet}
-use Rattle.pcap_form.specs.declared.refusal.CaptureRefusal.{CaptureRefusal}
-use Rattle.pcap_form.specs.Layout.{head_length}
-use Rattle.pcap_form.specs.Reading.{opened, packet_at}
-use Rattle.tte_forms.specs.Answering.{Answer, line_answer, with_line}
-use Rattle.tte_forms.specs.declared.status.Status.{Status}
-use Rattle.tte_forms.specs.declared.status.Status.TheVariants.{Done, Usage, FrameRefused, NetworkRefused, TraceRefused, OutsideHypothesis, ReadFault, WriteFault, OutOfMemory, TooLong, AuditRefused, GranuleRefused, CaptureRefused, NameRefused, VoteRefused}
-use Rattle.tte_captures.specs.CaptureLine.{packet_line, head_refusal_line, packet_refusal_line}
+use Rattle.std.specs.Prelude.{if◌then◌else◌, ◌+◌, Err, List, None, Ok, Option, Result, Some, [], length, nat_lt, suc}
+use Rattle.std.specs.Prelude.{zero, ℕ}
+use Rattle.pcap_form.specs.{Layout.head_length, Reading.{opened, packet_at}, declared.capture.CaptureHead.CaptureHead}
+use Rattle.pcap_form.specs.declared.{capture.Packet.Packet, refusal.CaptureRefusal.CaptureRefusal}
+use Rattle.tte_forms.specs.{Answering.{Answer, line_answer, with_line}, declared.status.Status.Status}
+use Rattle.tte_forms.specs.declared.status.Status.TheVariants.{AuditRefused, CaptureRefused, Done, FrameRefused}
+use Rattle.tte_forms.specs.declared.status.Status.TheVariants.{GranuleRefused, NameRefused, NetworkRefused}
+use Rattle.tte_forms.specs.declared.status.Status.TheVariants.{NumberRefused, OutOfMemory, OutsideHypothesis, ReadFault}
+use Rattle.tte_forms.specs.declared.status.Status.TheVariants.{TooLong, TraceRefused, Usage, VoteRefused, WriteFault}
+use Rattle.tte_captures.specs.CaptureLine.{head_refusal_line, packet_line, packet_refusal_line}
 
 -- how many octets a capture has at most
 abbrev pub capture_limit : ℕ
@@ -55,3 +55,4 @@ IsCaptureStatus GranuleRefused = ⊥
 IsCaptureStatus CaptureRefused = Unit {0}
 IsCaptureStatus NameRefused = ⊥
 IsCaptureStatus VoteRefused = ⊥
+IsCaptureStatus NumberRefused = ⊥

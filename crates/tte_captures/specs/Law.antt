@@ -1,21 +1,16 @@
 -- What the answer of `capture` has to do with the packets that stand in a file.
-use Rattle.std.specs.Prelude.{◌≡◌, ◌⊎◌, ℕ, ◌+◌, ◌≤◌, List, [], ◌∷◌, ◌++◌, length, codes}
-use Rattle.std.specs.Fmt.{decimal}
-use Rattle.pcap_form.specs.declared.capture.CaptureHead.{CaptureHead}
-use Rattle.pcap_form.specs.declared.capture.Packet.{Packet}
-use Rattle.pcap_form.specs.declared.refusal.CaptureRefusal.{CaptureRefusal}
-use Rattle.pcap_form.specs.Layout.{head_length, IsHead, IsPacket}
+use Rattle.std.specs.{Fmt.decimal, Prelude.{◌++◌, ◌+◌, ◌∷◌, ◌≡◌, ◌≤◌, ◌⊎◌, List, [], codes, length, ℕ}}
+use Rattle.pcap_form.specs.Layout.{IsHead, IsPacket, head_length}
 use Rattle.pcap_form.specs.ReadingLaw.{AreOctets, HasHeadFault, HasPacketFault}
-use Rattle.pcf_values.specs.declared.pcf.Pcf.{Pcf}
+use Rattle.pcap_form.specs.declared.capture.{CaptureHead.CaptureHead, Packet.Packet}
+use Rattle.pcap_form.specs.declared.refusal.CaptureRefusal.{CaptureRefusal}
+use Rattle.pcf_codec.specs.{EtherType.HasPcfType, Faults.IsFirstFault, Spelling.Spells}
 use Rattle.pcf_codec.specs.declared.refusal.PcfRefusal.{PcfRefusal}
-use Rattle.pcf_codec.specs.EtherType.{HasPcfType}
-use Rattle.pcf_codec.specs.Spelling.{Spells}
-use Rattle.pcf_codec.specs.Faults.{IsFirstFault}
-use Rattle.tte_forms.specs.Answering.{Answer, line_answer}
-use Rattle.tte_forms.specs.declared.status.Status.TheVariants.{Done, CaptureRefused}
+use Rattle.pcf_values.specs.declared.pcf.Pcf.{Pcf}
+use Rattle.tte_forms.specs.{Answering.{Answer, line_answer}, declared.status.Status.TheVariants.{CaptureRefused, Done}}
 use Rattle.tte_forms.specs.frames.FrameLine.{frame_words, refusal_text}
-use Rattle.tte_captures.specs.CaptureLine.{octets_words, packet_line, head_refusal_line, packet_refusal_line}
 use Rattle.tte_captures.specs.Answer.{capture_answer, capture_limit}
+use Rattle.tte_captures.specs.CaptureLine.{head_refusal_line, octets_words, packet_line, packet_refusal_line}
 
 -- the octets have the words of the control frame that they spell; where they spell none, of their first fault, if they
 -- count as one, and else of their number

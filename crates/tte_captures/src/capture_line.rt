@@ -1,6 +1,7 @@
-ghost use Rattle.std.specs.Prelude.{◌≡◌, ◌<◌, ◌≤◌, ◌+◌, ◌++◌, ◌^◌, length, Err};
+ghost use Rattle.std.specs.Prelude.{◌++◌, ◌+◌, ◌<◌, ◌^◌, ◌≡◌, ◌≤◌, Err, length};
 ghost use Rattle.pcf_codec.specs.Decoding.{decoded};
-ghost use Rattle.tte_captures.specs.CaptureLine.{captured_octets, octets_words, no_frame_words, packet_line, reason_text, head_refusal_line, packet_refusal_line};
+ghost use Rattle.tte_captures.specs.CaptureLine.{captured_octets, head_refusal_line, no_frame_words, octets_words};
+ghost use Rattle.tte_captures.specs.CaptureLine.{packet_line, packet_refusal_line, reason_text};
 
 use pcap_form::{CaptureRefusal, Packet};
 use pcf_codec::{PcfRefusal, decode, is_pcf};

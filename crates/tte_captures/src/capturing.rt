@@ -1,11 +1,8 @@
 ghost use Rattle.std.specs.Prelude.{◌≡◌, ◌≢◌, ◌≤◌, length};
-ghost use Rattle.pcap_form.specs.Layout.{head_length};
-ghost use Rattle.pcap_form.specs.Reading.{opened};
-ghost use Rattle.tte_forms.specs.Faults.{HasCause, PutFailed, ReadFailed};
-ghost use Rattle.tte_forms.specs.Putting.{Over};
-ghost use Rattle.tte_forms.specs.Answering.{Answers, Gives};
-ghost use Rattle.tte_captures.specs.Answer.{capture_answer, capture_limit, opened_answer, packets_answer, IsCaptureStatus};
-ghost use Rattle.tte_captures.specs.Law.{ShowsOctets, ShowsPackets};
+ghost use Rattle.pcap_form.specs.{Layout.head_length, Reading.opened};
+ghost use Rattle.tte_forms.specs.{Answering.{Answers, Gives}, Faults.{HasCause, PutFailed, ReadFailed}, Putting.Over};
+ghost use Rattle.tte_captures.specs.Answer.{IsCaptureStatus, capture_answer, capture_limit, opened_answer};
+ghost use Rattle.tte_captures.specs.{Answer.packets_answer, Law.{ShowsOctets, ShowsPackets}};
 
 use crate::capture_line::{make_head_refusal_line, make_packet_line, make_packet_refusal_line};
 use pcap_form::{CaptureHead, next_packet, open_capture};

@@ -68,7 +68,8 @@ fn explain_wire(rt: &HostRuntime, status: Status) {
         | Status::GranuleRefused
         | Status::AuditRefused
         | Status::CaptureRefused
-        | Status::VoteRefused => return,
+        | Status::VoteRefused
+        | Status::NumberRefused => return,
     };
     let _told = eprintln!(rt; "tte: {meaning}");
 }
@@ -92,7 +93,8 @@ fn explain(rt: &HostRuntime, status: Status) {
         | Status::AuditRefused
         | Status::CaptureRefused
         | Status::NameRefused
-        | Status::VoteRefused => return,
+        | Status::VoteRefused
+        | Status::NumberRefused => return,
     };
     let _told = eprintln!(rt; "tte: {meaning}");
 }

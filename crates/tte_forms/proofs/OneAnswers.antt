@@ -1,11 +1,9 @@
 -- Answers that are one of those with a property.
-use Rattle.std.proofs.Common.{◌≡◌, ◌⊎◌, ℕ, List, [], refl, sym, ◌∙◌, subst, inl, inr, ⊎_elim}
-use Rattle.tte_forms.specs.Putting.{Shown, PutsLines, PutsNone, PutsSome, WriteFails}
-use Rattle.tte_forms.specs.Answering.{Answer, Gives, GivesAnswer, GivesOne, IsDone}
-use Rattle.tte_forms.proofs.Puts.{PutsSome-all}
-use Rattle.tte_forms.specs.declared.status.Status.{Status}
-use Rattle.tte_forms.specs.declared.status.Status.TheVariants.{ReadFault, WriteFault, OutOfMemory}
+use Rattle.std.proofs.Common.{◌∙◌, ◌≡◌, ◌⊎◌, List, [], inl, inr, refl, subst, sym, ℕ, ⊎_elim}
 use Rattle.tte_lemmas.proofs.Lists.{no_front, none_stands}
+use Rattle.tte_forms.{proofs.Puts.PutsSome-all, specs.Answering.{Answer, Gives, GivesAnswer, GivesOne, IsDone}}
+use Rattle.tte_forms.specs.{Putting.{PutsLines, PutsNone, PutsSome, Shown, WriteFails}, declared.status.Status.Status}
+use Rattle.tte_forms.specs.declared.status.Status.TheVariants.{OutOfMemory, ReadFault, WriteFault}
 
 -- the one answer with the property was given
 pub one_given : (Is : Answer → Type 0) (a : Answer) (status : Status) (old new : Shown) → Is a → ((b : Answer) → Is b → b ≡ a) → Gives a status old new

@@ -1,14 +1,8 @@
 -- Lines put one after another.
-use Rattle.std.proofs.Common.{◌≡◌, ℕ, List, [], ◌∷◌, ◌++◌, length, Option, refl, sym, ap, subst, ◌∙◌, inl, inr, append_assoc}
-use Rattle.std.specs.List.{concat}
-use Rattle.std.specs.Io.KnownBytes.{Appends}
-use Rattle.std.proofs.lemmas.List.{append-nil}
-use Rattle.std.proofs.lemmas.List.Folds.{concat-append}
-use Rattle.std.proofs.KnownBytes.{Appends-nil, Appends-trans}
-use Rattle.tte_io.specs.Faults.{next_count}
-use Rattle.tte_io.specs.Told.{AppendsFront}
-use Rattle.tte_forms.specs.Answering.{Ends, Gives}
-use Rattle.tte_forms.specs.Putting.{Shown, puts_after, PutsLines, PutsNone, PutsSome, PutFails, WriteFails}
+use Rattle.std.proofs.Common.{◌++◌, ◌∙◌, ◌∷◌, ◌≡◌, List, Option, [], ap, append_assoc, inl, inr, length, refl, subst, sym, ℕ}
+use Rattle.std.{proofs.{KnownBytes.{Appends-nil, Appends-trans}, lemmas.List.{append-nil, Folds.concat-append}}, specs.{Io.KnownBytes.Appends, List.concat}}
+use Rattle.tte_io.specs.{Faults.next_count, Told.AppendsFront}
+use Rattle.tte_forms.specs.{Answering.{Ends, Gives}, Putting.{PutFails, PutsLines, PutsNone, PutsSome, Shown, WriteFails, puts_after}}
 use Rattle.tte_forms.specs.declared.status.Status.{Status}
 
 pub PutsLines-none : (s : Shown) → PutsLines [] s s

@@ -1,8 +1,7 @@
 -- What the program owes: an answer, whole or cut short.
-use Rattle.std.specs.Prelude.{◌≡◌, ◌⊎◌, ℕ, List, [], ◌∷◌, Option, Some, None}
-use Rattle.tte_forms.specs.Putting.{Shown, IsPassedOn, PutsLines, PutsNone, PutsSome, WriteFails}
-use Rattle.tte_forms.specs.declared.status.Status.{Status}
-use Rattle.tte_forms.specs.declared.status.Status.TheVariants.{Done, ReadFault, WriteFault, OutOfMemory}
+use Rattle.std.specs.Prelude.{◌∷◌, ◌≡◌, ◌⊎◌, List, None, Option, Some, [], ℕ}
+use Rattle.tte_forms.specs.Putting.{IsPassedOn, PutsLines, PutsNone, PutsSome, Shown, WriteFails}
+use Rattle.tte_forms.specs.declared.status.Status.{Status, TheVariants.{Done, OutOfMemory, ReadFault, WriteFault}}
 
 -- a status, and lines with their ends
 pub record Answer : Type 0 where

@@ -1,10 +1,9 @@
 -- The faults of a call.
 use Rattle.std.specs.Prelude.{◌≡◌, ◌⊎◌}
 use Rattle.tte_io.specs.Faults.{Rose}
+use Rattle.tte_forms.specs.declared.status.Status.{Status, TheVariants.{ReadFault, WriteFault}}
 use Rattle.tte_io.specs.declared.ends.Sink as sinks
 use Rattle.tte_io.specs.declared.ends.Source as sources
-use Rattle.tte_forms.specs.declared.status.Status.{Status}
-use Rattle.tte_forms.specs.declared.status.Status.TheVariants.{ReadFault, WriteFault}
 
 -- a read of the source failed in the call
 abbrev pub ReadFailed : {S : Type 0} → sources.Ghosts S → S → S → Type 0

@@ -1,15 +1,12 @@
 -- The forms of the words.
-use Rattle.std.specs.Prelude.{ℕ, ◌≤◌, ◌==◌, ◌^◌, ◌-◌, List, [], ◌∷◌, codes, if◌then◌else◌, Option, Some, None}
 use Rattle.std.specs.Option.{option_and_then, option_map}
+use Rattle.std.specs.Prelude.{if◌then◌else◌, ◌-◌, ◌==◌, ◌^◌, ◌∷◌, ◌≤◌, List, None, Option, Some, [], codes, ℕ}
 use Rattle.std.specs.Str.{bytes_eq}
-use Rattle.net_plan.specs.Ranges.{IsWithin}
-use Rattle.net_plan.specs.declared.tables.Way.{Way}
-use Rattle.net_plan.specs.declared.tables.Way.TheVariants.{Up, Down}
+use Rattle.net_plan.specs.{Ranges.IsWithin, declared.tables.Way.{Way, TheVariants.{Down, Up}}}
 use Rattle.trace_text.specs.Numbers.{number_up_to}
+use Rattle.tte_units.specs.{Amount.units_of, declared.units.Units.Units}
 use Rattle.tte_forms.specs.declared.form.Form.{Form}
-use Rattle.tte_forms.specs.declared.form.Form.TheVariants.{Show, Check, Run, Storm, Stamp, Audit, Capture, Wire, Vote}
-use Rattle.tte_units.specs.Amount.{units_of}
-use Rattle.tte_units.specs.declared.units.Units.{Units}
+use Rattle.tte_forms.specs.declared.form.Form.TheVariants.{Audit, Capture, Check, Run, Show, Stamp, Storm, Vote, Wire}
 
 -- a command with one file: `show FILE`, `check NETWORK` or `capture FILE`
 abbrev pub one_file_form : List ℕ → Option Form

@@ -1,10 +1,7 @@
 -- What a sink shows of the lines that were put.
-use Rattle.std.specs.Prelude.{◌≡◌, ◌⊎◌, ℕ, zero, suc, List, ◌∷◌, ◌++◌, length, Option}
-use Rattle.std.specs.List.{concat}
-use Rattle.std.specs.Io.KnownBytes.{Appends}
-use Rattle.tte_io.specs.Faults.{next_count}
-use Rattle.tte_io.specs.Told.{AppendsFront}
-use Rattle.tte_io.specs.declared.ends.Sink.{Ghosts}
+use Rattle.std.specs.{Io.KnownBytes.Appends, List.concat}
+use Rattle.std.specs.Prelude.{◌++◌, ◌∷◌, ◌≡◌, ◌⊎◌, List, Option, length, suc, zero, ℕ}
+use Rattle.tte_io.specs.{Faults.next_count, Told.AppendsFront, declared.ends.Sink.Ghosts}
 
 -- the octets that were put and those that were passed on, where they are told, and the count of puts
 pub record Shown : Type 0 where

@@ -1,6 +1,9 @@
 use Rattle.std.specs.Prelude.{ℕ}
 use Rattle.tte_forms.specs.declared.status.Status.{Status}
-use Rattle.tte_forms.specs.declared.status.Status.TheVariants.{Done, Usage, FrameRefused, NetworkRefused, TraceRefused, OutsideHypothesis, ReadFault, WriteFault, OutOfMemory, TooLong, AuditRefused, GranuleRefused, CaptureRefused, NameRefused, VoteRefused}
+use Rattle.tte_forms.specs.declared.status.Status.TheVariants.{AuditRefused, CaptureRefused, Done, FrameRefused}
+use Rattle.tte_forms.specs.declared.status.Status.TheVariants.{GranuleRefused, NameRefused, NetworkRefused}
+use Rattle.tte_forms.specs.declared.status.Status.TheVariants.{NumberRefused, OutOfMemory, OutsideHypothesis, ReadFault}
+use Rattle.tte_forms.specs.declared.status.Status.TheVariants.{TooLong, TraceRefused, Usage, VoteRefused, WriteFault}
 
 -- the exit status
 abbrev pub status_number : Status → ℕ
@@ -19,3 +22,4 @@ status_number AuditRefused = 11
 status_number CaptureRefused = 12
 status_number NameRefused = 13
 status_number VoteRefused = 14
+status_number NumberRefused = 15

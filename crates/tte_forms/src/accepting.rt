@@ -1,11 +1,9 @@
-ghost use Rattle.std.specs.Prelude.{◌≡◌, ◌≢◌, ◌⊎◌, ◌≤◌, length, Err, IfErr, IfOk};
+ghost use Rattle.std.specs.Prelude.{◌≡◌, ◌≢◌, ◌≤◌, ◌⊎◌, Err, IfErr, IfOk, length};
 ghost use Rattle.net_plan.specs.Ranges.{IsInRange};
+ghost use Rattle.tte_forms.specs.{Answering.{ForOctets, Gives}, Faults.{PutFailed, ReadFailed}};
+ghost use Rattle.tte_forms.specs.{Putting.{Over, PutsNone}, frames.Answer.file_limit};
 ghost use Rattle.tte_forms.specs.networks.Accepting.{MeansAccepted, MeansNetwork};
-ghost use Rattle.tte_forms.specs.Answering.{ForOctets, Gives};
 ghost use Rattle.tte_forms.specs.networks.NoNetworks.{IsNoNetwork, IsUnread, no_network_answer};
-ghost use Rattle.tte_forms.specs.Faults.{PutFailed, ReadFailed};
-ghost use Rattle.tte_forms.specs.Putting.{Over, PutsNone};
-ghost use Rattle.tte_forms.specs.frames.Answer.{file_limit};
 
 pub(crate) mod network_line;
 

@@ -1,8 +1,6 @@
 ghost use Rattle.std.specs.Prelude.{◌≡◌};
-ghost use Rattle.tte_forms.specs.Answering.{AnswersOne, GivesAnswer};
-ghost use Rattle.tte_forms.specs.networks.Checking.{IsAcceptance, IsCheckAnswer, IsCheckStatus};
-ghost use Rattle.tte_forms.specs.Faults.{IsWanted, PutFailed, ReadFailed};
-ghost use Rattle.tte_forms.specs.Putting.{Over};
+ghost use Rattle.tte_forms.specs.{Answering.{AnswersOne, GivesAnswer}, Faults.{IsWanted, PutFailed, ReadFailed}};
+ghost use Rattle.tte_forms.specs.{Putting.Over, networks.Checking.{IsAcceptance, IsCheckAnswer, IsCheckStatus}};
 
 use crate::Status;
 use crate::accepting::network_line::make_acceptance_line;

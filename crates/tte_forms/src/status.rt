@@ -34,10 +34,12 @@ pub enum Status {
     NameRefused,
     /// The three virtual links can't be voted on.
     VoteRefused,
+    /// The report has no record of the number.
+    NumberRefused,
 }
 
 impl Status {
-    /// The exit status of the program, from 0 to 14.
+    /// The exit status of the program, from 0 to 15.
     pub fn number(self) -> u8
         ensures { result ≡ status_number self }
     {
@@ -57,6 +59,7 @@ impl Status {
             Status::CaptureRefused => 12,
             Status::NameRefused => 13,
             Status::VoteRefused => 14,
+            Status::NumberRefused => 15,
         }
     }
 }

@@ -1,4 +1,5 @@
-ghost use Rattle.std.specs.Prelude.{◌≡◌, ◌<◌, ◌≤◌, ◌-◌, ◌^◌, ◌↔◌, [], ◌∷◌, ◌++◌, length, IsNone, IfSome, OnOk, OnErr, Some, slice_get};
+ghost use Rattle.std.specs.Prelude.{◌++◌, ◌-◌, ◌<◌, ◌^◌, ◌↔◌, ◌∷◌, ◌≡◌, ◌≤◌, IfSome, IsNone, OnErr, OnOk, Some, []};
+ghost use Rattle.std.specs.Prelude.{length, slice_get};
 
 use std::alloc::Global;
 use std::marker::Model;

@@ -1,3 +1,2 @@
 pub mod TopAnswers
 pub mod WireAnswers
-pub mod reports

@@ -1,42 +1,23 @@
 -- The answer for the words.
-use Rattle.std.proofs.Common.{◌≡◌, ℕ, List, Some, None, refl, sym, ap, ◌∙◌, inl, inr, []}
-use Rattle.std.specs.Prelude.{IfSome, Option}
-use Rattle.net_plan.specs.Bounds.{BetaIsUnique}
-use Rattle.net_plan.specs.declared.event.Event.{Event}
-use Rattle.net_plan.specs.declared.network.Network.{Network}
+use Rattle.std.{proofs.Common.{◌∙◌, ◌≡◌, List, None, Some, ap, inl, inr, refl, sym, ℕ}, specs.Prelude.{IfSome, Option}}
+use Rattle.net_plan.specs.{Bounds.BetaIsUnique, declared.{event.Event.Event, network.Network.Network, tables.Way.Way}}
 use Rattle.schedule_checker.specs.Refusals.{RefusalIsOne}
-use Rattle.tte_forms.specs.networks.Accepting.{IsNetworkAnswer, MeansAccepted}
-use Rattle.tte_forms.specs.Putting.{Shown}
-use Rattle.tte_forms.specs.Answering.{Answer, ForOctets, Gives, GivesAnswer, Answers, AnswersOne, IsDone}
-use Rattle.tte_forms.specs.networks.Checking.{IsAcceptance, IsCheckAnswer}
-use Rattle.tte_forms.specs.Forms.{IsFormInRange, form_of}
-use Rattle.tte_forms.specs.frames.Answer.{show_answer}
-use Rattle.tte_captures.proofs.Laws.{shows_packets}
-use Rattle.tte_captures.specs.Answer.{capture_answer}
-use Rattle.tte_run.specs.SecondFiles.{ForSecond, report_file, trace_file}
-use Rattle.tte_run.specs.Top.{AnswerIsOne, IsFormAnswer}
-use Rattle.tte_run.specs.Whole.{Completes, MeansRun}
-use Rattle.tte_forms.specs.declared.form.Form.{Form}
-use Rattle.tte_forms.specs.declared.form.Form.TheVariants.{Show, Check, Run, Storm, Stamp, Audit, Capture, Wire, Vote}
-use Rattle.tte_forms.specs.declared.status.Status.{Status}
-use Rattle.tte_forms.specs.declared.status.Status.TheVariants.{Done, ReadFault, WriteFault}
-use Rattle.tte_forms.proofs.networks.Answers.{accepted_alone, network_answer_one, acceptance_one}
-use Rattle.tte_forms.proofs.Octets.{for_more}
-use Rattle.tte_forms.proofs.OneAnswers.{answered_done}
-use Rattle.tte_traces.proofs.Answers.{IsAllAdmitted}
-use Rattle.tte_traces.proofs.Completes.{run_one, run_whole}
-use Rattle.tte_forms.proofs.frames.Answers.{shown_whole}
-use Rattle.tte_forms.proofs.FormLemmas.{form_in_range}
-use Rattle.tte_run.proofs.WireAnswers.{wire_done, wire_one}
-use Rattle.tte_run.proofs.reports.Answers.{audit_one, audit_whole}
-use Rattle.tte_storms.proofs.OneAnswer.{storm_one}
-use Rattle.tte_storms.specs.Answer.{IsStormAnswer}
-use Rattle.tte_units.specs.declared.units.Units.{Units}
-use Rattle.tte_wires.specs.Answer.{IsWireAnswer, IsWireNetworkAnswer}
-use Rattle.net_plan.specs.declared.tables.Way.{Way}
+use Rattle.tte_captures.{proofs.Laws.shows_packets, specs.Answer.capture_answer}
+use Rattle.tte_forms.proofs.{FormLemmas.form_in_range, Octets.for_more, OneAnswers.answered_done, frames.Answers.shown_whole}
+use Rattle.tte_forms.proofs.networks.Answers.{acceptance_one, accepted_alone, network_answer_one}
+use Rattle.tte_forms.specs.{Answering.{Answer, Answers, AnswersOne, ForOctets, Gives, GivesAnswer, IsDone}, Forms.{IsFormInRange, form_of}, Putting.Shown}
+use Rattle.tte_forms.specs.declared.{form.Form.{Form, TheVariants.{Audit, Capture, Check, Run, Show, Stamp, Storm, Vote, Wire}}, status.Status.Status}
+use Rattle.tte_forms.specs.{declared.status.Status.TheVariants.{Done, ReadFault, WriteFault}, frames.Answer.show_answer}
+use Rattle.tte_forms.specs.networks.{Accepting.{IsNetworkAnswer, MeansAccepted}, Checking.{IsAcceptance, IsCheckAnswer}}
+use Rattle.tte_reports.proofs.Answers.{audit_one, audit_whole}
 use Rattle.tte_stamps.proofs.Completes.{stamp_one, stamp_whole}
-use Rattle.tte_votes.proofs.Completes.{vote_one, vote_whole}
-use Rattle.tte_votes.specs.Answer.{the_names}
+use Rattle.tte_storms.{proofs.OneAnswer.storm_one, specs.Answer.IsStormAnswer}
+use Rattle.tte_traces.proofs.{Answers.IsAllAdmitted, Completes.{run_one, run_whole}}
+use Rattle.tte_units.specs.declared.units.Units.{Units}
+use Rattle.tte_votes.{proofs.Completes.{vote_one, vote_whole}, specs.Answer.the_names}
+use Rattle.tte_wires.specs.Answer.{IsWireAnswer, IsWireNetworkAnswer}
+use Rattle.tte_run.{proofs.WireAnswers.{wire_done, wire_one}, specs.{SecondFiles.{ForSecond, report_file, trace_file}, Top.{AnswerIsOne, IsFormAnswer}}}
+use Rattle.tte_run.specs.Whole.{Completes, MeansRun}
 
 -- the one answer for the octets of a file is one of those
 pub as_one : (answer : List ℕ → Answer) (first : Option (List ℕ)) (status : Status) (old new : Shown) → Answers answer first status old new

@@ -1,34 +1,20 @@
 -- The answer of `wire` is one, and valid input is written to its end.
-use Rattle.std.proofs.Common.{◌≡◌, ℕ, ◌≤◌, List, length, refl, sym, ap, subst, ◌∙◌, inl, inr, arith}
+use Rattle.std.proofs.Common.{◌∙◌, ◌≡◌, ◌≤◌, List, ap, arith, inl, inr, length, refl, subst, sym, ℕ}
 use Rattle.drift_world.specs.Running.{behind_events, last_time}
-use Rattle.exact_runs.specs.Records.{clock_reading}
-use Rattle.net_plan.specs.Bearers.{link_names}
-use Rattle.net_plan.specs.declared.event.Event.{Event}
-use Rattle.net_plan.specs.declared.ids.LinkId.{LinkId}
-use Rattle.net_plan.specs.declared.network.Network.{Network}
-use Rattle.net_plan.specs.declared.tables.Way.{Way}
+use Rattle.net_plan.specs.{Bearers.link_names, declared.{event.Event.Event, ids.LinkId.LinkId, network.Network.Network, tables.Way.Way}}
 use Rattle.pcap_form.specs.Writing.{head_octets}
-use Rattle.run_law.proofs.runs.NetworkRuns.{run_is_one}
-use Rattle.run_law.specs.declared.note.Note.{Note}
+use Rattle.run_law.{proofs.runs.NetworkRuns.run_is_one, specs.declared.note.Note.Note}
 use Rattle.trace_text.proofs.Bearing.{place_found}
-use Rattle.tte_forms.specs.Answering.{Answer, with_line}
-use Rattle.tte_forms.specs.networks.Accepting.{IsTooLong, MeansAccepted, refused_answer, too_long_answer}
+use Rattle.tte_forms.{proofs.networks.Answers.accepted_alone, specs.{Answering.{Answer, with_line}, declared.status.Status.TheVariants.Done}}
+use Rattle.tte_forms.specs.{frames.Answer.file_limit, networks.Accepting.{IsTooLong, MeansAccepted, refused_answer, too_long_answer}}
 use Rattle.tte_forms.specs.networks.NetworkLine.{file_reason, rule_reason}
-use Rattle.tte_forms.specs.frames.Answer.{file_limit}
-use Rattle.tte_forms.proofs.networks.Answers.{accepted_alone}
-use Rattle.tte_forms.specs.declared.status.Status.TheVariants.{Done}
-use Rattle.tte_run.specs.Whole.{MeansRun}
-use Rattle.tte_traces.proofs.Admitted.{stopped_one}
-use Rattle.tte_traces.proofs.Answers.{whole_is}
-use Rattle.tte_traces.proofs.Faults.{end_has_no_fault, fault_one}
-use Rattle.tte_traces.specs.Along.{IsAllAdmitted}
-use Rattle.tte_traces.specs.Answer.{IsTraceAnswer}
-use Rattle.tte_traces.specs.FaultLine.{fault_status}
-use Rattle.tte_traces.specs.Lines.{AreAdmitted, behind_lines}
-use Rattle.tte_traces.specs.declared.fault.TraceFault.{TraceFault}
+use Rattle.tte_traces.{proofs.{Admitted.stopped_one, Answers.whole_is, Faults.{end_has_no_fault, fault_one}}, specs.{Along.IsAllAdmitted, Answer.IsTraceAnswer}}
+use Rattle.tte_traces.specs.{FaultLine.fault_status, Lines.{AreAdmitted, behind_lines}, declared.fault.TraceFault.TraceFault}
 use Rattle.tte_units.specs.Amount.{amount}
 use Rattle.tte_wires.proofs.Fronts.{all_whole, either_stops}
 use Rattle.tte_wires.specs.Answer.{EndsEither, IsCapture, IsHeaded, IsNamed, IsWireAnswer, IsWireNetworkAnswer, silent_answer, way_lines}
+use Rattle.world_exact.specs.Records.{clock_reading}
+use Rattle.tte_run.specs.Whole.{MeansRun}
 
 -- ---- the packets of a way
 
@@ -95,7 +81,8 @@ module _ (Then : Network → Answer → Type 0) (octets : List ℕ) where
   long_alone long b (inr (inr (inl h))) = absurd (omega (arith, long, h.1.fits))
   long_alone long b (inr (inr (inr h))) = absurd (omega (arith, long, h.1.fits))
 
-  silent_alone : length octets ≤ file_limit → ((n : Network) → MeansAccepted octets n → ⊥) → (b : Answer) → IsWireNetworkAnswer Then octets b → b ≡ silent_answer
+  silent_alone : length octets ≤ file_limit → ((n : Network) → MeansAccepted octets n → ⊥) → (b : Answer) → IsWireNetworkAnswer Then octets b
+      → b ≡ silent_answer
   silent_alone fits other b (inl h) = absurd (omega (arith, h.0, fits))
   silent_alone fits other b (inr (inl h)) = h.2
   silent_alone fits other b (inr (inr (inl h))) = h.2

@@ -1,4 +1,3 @@
 pub mod Top
 pub mod SecondFiles
 pub mod Whole
-pub mod reports

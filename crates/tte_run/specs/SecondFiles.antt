@@ -1,10 +1,7 @@
 -- What the forms do with their second file.
-use Rattle.std.specs.Prelude.{◌≢◌, ◌⊎◌, ℕ, List, [], Option, Some}
-use Rattle.tte_forms.specs.Answering.{ForOctets}
-use Rattle.tte_forms.specs.Putting.{Shown}
-use Rattle.tte_forms.specs.declared.form.Form.{Form}
-use Rattle.tte_forms.specs.declared.form.Form.TheVariants.{Run, Stamp, Audit, Wire, Vote}
-use Rattle.tte_forms.specs.declared.status.Status.{Status}
+use Rattle.std.specs.Prelude.{◌≢◌, ◌⊎◌, List, Option, Some, [], ℕ}
+use Rattle.tte_forms.specs.{Answering.ForOctets, Putting.Shown, declared.form.Form.Form}
+use Rattle.tte_forms.specs.declared.{form.Form.TheVariants.{Audit, Run, Stamp, Vote, Wire}, status.Status.Status}
 use Rattle.tte_forms.specs.declared.status.Status.TheVariants.{GranuleRefused}
 use Rattle.tte_stamps.specs.Answer.{StampStops, StampTakesLittle}
 use Rattle.tte_traces.specs.Streaming.{RunStops, RunTakesLittle}
@@ -54,14 +51,15 @@ TakesSecond no_second Unread Little Whole = Unread
 TakesSecond trace_file Unread Little Whole = Unread ⊎ Little
 TakesSecond report_file Unread Little Whole = Unread ⊎ Whole
 
--- little more of a trace was taken than what was put is of, for the form; where a granule, a name or a vote was refused,
--- nothing was
+-- little more of a trace was taken than what was put is of, for the form; where a granule, a name or a vote was
+-- refused, nothing was
 abbrev pub FormTakesLittle : Option Form → Option (List ℕ) → Option (List ℕ) → Option (List ℕ) → Status
     → Shown → Shown → Type 0
 FormTakesLittle (Some Run) first second left status old new = RunTakesLittle first second left old new
 FormTakesLittle (Some (Stamp granule)) first second left status old new =
     (status ≢ GranuleRefused) × StampTakesLittle granule first second left old new
-FormTakesLittle (Some (Wire link way)) first second left status old new = WireTakesLittle link way first second left old new
+FormTakesLittle (Some (Wire link way)) first second left status old new =
+    WireTakesLittle link way first second left old new
 FormTakesLittle (Some (Vote one two three)) first second left status old new =
     IsOfRun status × VoteTakesLittle first second left old new
 FormTakesLittle other first second left status old new = Unit {0}

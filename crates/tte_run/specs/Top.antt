@@ -1,29 +1,18 @@
 -- What the program answers.
-use Rattle.std.specs.Prelude.{◌≡◌, ◌≢◌, ℕ, List, ◌++◌, codes, Option, Some, None}
-use Rattle.tte_forms.specs.Putting.{Shown}
-use Rattle.tte_forms.specs.networks.Accepting.{IsNetworkAnswer}
-use Rattle.tte_forms.specs.Answering.{Answer, ForOctets, Gives, GivesAnswer, line_answer}
-use Rattle.tte_forms.specs.networks.Checking.{IsCheckAnswer}
+use Rattle.std.specs.Prelude.{◌++◌, ◌≡◌, ◌≢◌, List, None, Option, Some, codes, ℕ}
 use Rattle.tte_captures.specs.Answer.{capture_answer}
+use Rattle.tte_forms.specs.{Answering.{Answer, ForOctets, Gives, GivesAnswer, line_answer}, Forms.form_of}
+use Rattle.tte_forms.specs.{Putting.Shown, declared.form.Form.Form}
+use Rattle.tte_forms.specs.declared.form.Form.TheVariants.{Audit, Capture, Check, Run, Show, Stamp, Storm, Vote, Wire}
+use Rattle.tte_forms.specs.{declared.status.Status.{Status, TheVariants.Usage}, frames.Answer.show_answer}
+use Rattle.tte_forms.specs.networks.{Accepting.IsNetworkAnswer, Checking.IsCheckAnswer}
+use Rattle.tte_reports.specs.{Answer.IsAuditAnswer, Safely.AuditsSafely}
+use Rattle.tte_stamps.specs.{Answer.IsStampAnswer, Safely.StampsSafely}
+use Rattle.tte_storms.specs.{Answer.IsStormAnswer, Safely.SummarisesSafely}
+use Rattle.tte_traces.specs.{Answer.IsRunAnswer, Safely.WritesSafely}
+use Rattle.tte_votes.specs.{Answer.{IsVoteAnswer, the_names}, Safely.VotesSafely}
+use Rattle.tte_wires.specs.{Answer.{IsWireAnswer, IsWireNetworkAnswer}, Safely.WiresSafely}
 use Rattle.tte_run.specs.SecondFiles.{ForSecond, second_of}
-use Rattle.tte_run.specs.reports.Answer.{IsAuditAnswer}
-use Rattle.tte_run.specs.reports.Safely.{AuditsSafely}
-use Rattle.tte_traces.specs.Answer.{IsRunAnswer}
-use Rattle.tte_traces.specs.Safely.{WritesSafely}
-use Rattle.tte_storms.specs.Answer.{IsStormAnswer}
-use Rattle.tte_storms.specs.Safely.{SummarisesSafely}
-use Rattle.tte_stamps.specs.Answer.{IsStampAnswer}
-use Rattle.tte_stamps.specs.Safely.{StampsSafely}
-use Rattle.tte_votes.specs.Answer.{IsVoteAnswer, the_names}
-use Rattle.tte_votes.specs.Safely.{VotesSafely}
-use Rattle.tte_wires.specs.Answer.{IsWireAnswer, IsWireNetworkAnswer}
-use Rattle.tte_wires.specs.Safely.{WiresSafely}
-use Rattle.tte_forms.specs.frames.Answer.{show_answer}
-use Rattle.tte_forms.specs.Forms.{form_of}
-use Rattle.tte_forms.specs.declared.form.Form.{Form}
-use Rattle.tte_forms.specs.declared.form.Form.TheVariants.{Show, Check, Run, Storm, Stamp, Audit, Capture, Wire, Vote}
-use Rattle.tte_forms.specs.declared.status.Status.{Status}
-use Rattle.tte_forms.specs.declared.status.Status.TheVariants.{Usage}
 
 -- the line for words of no form
 abbrev pub usage_line : List ℕ
@@ -67,7 +56,8 @@ AnswersWords None first second status old new = Gives usage_answer status old ne
 AnswersWords (Some form) first second status old new =
     (status ≢ Usage)
     × ForOctets first (λ octets.
-    ForSecond (second_of (Some form)) second (λ trace. GivesAnswer (IsFormAnswer (Some form) octets trace) status old new))
+    ForSecond (second_of (Some form)) second (λ trace.
+    GivesAnswer (IsFormAnswer (Some form) octets trace) status old new))
 
 -- what was put of a run, for `run`, `storm`, `stamp`, `wire` and `vote`, is of one that goes well; and so is what was
 -- audited

@@ -1,30 +1,22 @@
 -- What input is valid for each form; it is answered to its end.
-use Rattle.std.specs.Prelude.{◌≡◌, IfSome, ℕ, ◌≤◌, true, List, [], length, Option, Some, None}
-use Rattle.exact_runs.specs.Records.{HaveEnded}
-use Rattle.net_plan.specs.declared.event.Event.{Event}
-use Rattle.net_plan.specs.declared.ids.LinkId.{LinkId}
-use Rattle.net_plan.specs.declared.network.Network.{Network}
+use Rattle.std.specs.Prelude.{◌≡◌, ◌≤◌, IfSome, List, None, Option, Some, [], length, true, ℕ}
+use Rattle.net_plan.specs.declared.{event.Event.Event, ids.LinkId.LinkId, network.Network.Network}
+use Rattle.pcap_form.specs.{Layout.{IsHead, head_length}, declared.capture.{CaptureHead.CaptureHead, Packet.Packet}}
 use Rattle.pcf_codec.specs.Sequence.{SpellsAll}
 use Rattle.pcf_values.specs.declared.pcf.Pcf.{Pcf}
 use Rattle.sparse_time.specs.Granules.{least_granule}
 use Rattle.tte_audit.specs.Answers.{IsAudited}
-use Rattle.pcap_form.specs.Layout.{IsHead, head_length}
-use Rattle.pcap_form.specs.declared.capture.CaptureHead.{CaptureHead}
-use Rattle.pcap_form.specs.declared.capture.Packet.{Packet}
 use Rattle.tte_captures.specs.Law.{IsFile, StandFrom}
-use Rattle.tte_forms.specs.Answering.{IsDone}
-use Rattle.tte_forms.specs.frames.Answer.{file_limit}
-use Rattle.tte_forms.specs.networks.Accepting.{MeansAccepted}
-use Rattle.tte_forms.specs.declared.form.Form.{Form}
-use Rattle.tte_forms.specs.declared.form.Form.TheVariants.{Show, Check, Run, Storm, Stamp, Audit, Capture, Wire, Vote}
-use Rattle.tte_forms.specs.declared.status.Status.{Status}
-use Rattle.tte_run.specs.reports.Answer.{report_limit}
+use Rattle.tte_forms.specs.{Answering.IsDone, declared.form.Form.Form}
+use Rattle.tte_forms.specs.declared.form.Form.TheVariants.{Audit, Capture, Check, Run, Show, Stamp, Storm, Vote, Wire}
+use Rattle.tte_forms.specs.{declared.status.Status.Status, frames.Answer.file_limit, networks.Accepting.MeansAccepted}
+use Rattle.tte_reports.specs.Answer.{report_limit}
 use Rattle.tte_traces.specs.Lines.{AreAdmitted, behind_lines}
+use Rattle.tte_units.specs.{Amount.amount, declared.units.Units.Units}
 use Rattle.tte_votes.specs.Answer.{AreNamed, MayThey, Names, the_names}
 use Rattle.tte_wires.specs.Answer.{IsNamed}
-use Rattle.tte_units.specs.Amount.{amount}
-use Rattle.tte_units.specs.declared.units.Units.{Units}
 use Rattle.vote_law.specs.declared.voters.Voters.{Voters}
+use Rattle.world_exact.specs.Records.{HaveEnded}
 
 -- a file that spells a sequence is shown to its end
 abbrev pub ShowsWhole : List ℕ → Status → Type 0

@@ -1,13 +1,12 @@
 //! The commands of the program, over any source and any sink.
 #![tactic(auto)]
 
-mod auditing;
 mod top;
 
-pub use auditing::audit_report;
 pub use top::{answer_law, tte};
 pub use tte_captures::{capture_file, capture_law};
 pub use tte_forms::{Status, Words, check_network, show, show_law};
+pub use tte_reports::audit_report;
 pub use tte_stamps::stamp_trace;
 pub use tte_storms::storm_run;
 pub use tte_traces::run_trace;

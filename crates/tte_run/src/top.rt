@@ -1,12 +1,9 @@
 ghost use Rattle.std.specs.Prelude.{◌≡◌, ◌⊎◌};
-ghost use Rattle.tte_forms.specs.Answering.{Gives};
-ghost use Rattle.tte_forms.specs.Faults.{HasCause, IsWanted, PutFailed, ReadFailed};
-ghost use Rattle.tte_forms.specs.Forms.{form_of};
+ghost use Rattle.tte_forms.specs.{Answering.Gives, Faults.{HasCause, IsWanted, PutFailed, ReadFailed}, Forms.form_of};
 ghost use Rattle.tte_forms.specs.Putting.{Over};
-ghost use Rattle.tte_run.specs.reports.Reading.{ReadsReport};
-ghost use Rattle.tte_run.specs.SecondFiles.{FailsToRead, FormTakesLittle, FormStops, TakesSecond, second_of};
-ghost use Rattle.tte_run.specs.Top.{AnswerIsOne, AnswersSafely, AnswersWords, usage_answer};
-ghost use Rattle.tte_run.specs.Whole.{Completes};
+ghost use Rattle.tte_reports.specs.Reading.{ReadsReport};
+ghost use Rattle.tte_run.specs.SecondFiles.{FailsToRead, FormStops, FormTakesLittle, TakesSecond, second_of};
+ghost use Rattle.tte_run.specs.{Top.{AnswerIsOne, AnswersSafely, AnswersWords, usage_answer}, Whole.Completes};
 
 use crate::audit_report;
 use net_plan::beta_is_unique;

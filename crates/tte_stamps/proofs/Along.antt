@@ -1,26 +1,14 @@
 -- The observer of `stamp` puts its lines along the run.
-use Rattle.std.proofs.Common.{◌≡◌, ℕ, ◌+◌, ◌≤◌, List, [], ◌∷◌, Option, Some, None, refl, sym, ap, subst, ◌∙◌, inl, inr, append-nil, arith}
-use Rattle.drift_world.specs.Running.{behind_events, last_time}
-use Rattle.exact_runs.specs.Records.{AreAllRecords, AreRecordsBefore, AreRecordsSoFar, clock_reading}
-use Rattle.net_plan.specs.declared.event.Event.{Event}
-use Rattle.net_plan.specs.declared.network.Network.{Network}
+use Rattle.tte_stamps.proofs.Words.{◌+◌, ◌∙◌, ◌∷◌, ◌≡◌, ◌≤◌, AreAdmitted, AreRecordsBefore, AreRecordsSoFar, Event, IsTraceAnswer, List, Network, None, Note}
+use Rattle.tte_stamps.proofs.Words.{Option, PutsLines, Some, Units, [], admitted_in_order, amount, ap, append-nil, arith, clock_reading, inl, inr, last_time}
+use Rattle.tte_stamps.proofs.Words.{refl, shown_as, stamp_lines, subst, sym, ℕ}
+use Rattle.drift_world.specs.Running.{behind_events}
 use Rattle.run_law.proofs.runs.NetworkRuns.{run_is_one}
-use Rattle.run_law.specs.declared.note.Note.{Note}
-use Rattle.tte_forms.specs.Putting.{PutsLines}
-use Rattle.tte_stamps.proofs.Beginning.{stamps_begin}
-use Rattle.tte_stamps.proofs.Ordered.{admitted_up_to_last}
-use Rattle.tte_stamps.proofs.SameRecords.{up_to_mark}
-use Rattle.tte_stamps.proofs.Staying.{stamps_stay}
-use Rattle.tte_stamps.specs.StampLines.{stamp_lines}
-use Rattle.tte_stamps.specs.Stamping.{PutsStamps, StopsStamps}
-use Rattle.tte_traces.proofs.Admitted.{admitted_in_order, events_admitted}
-use Rattle.tte_traces.specs.Along.{IsShortAt, PutsAlong}
-use Rattle.tte_traces.specs.Answer.{IsTraceAnswer}
-use Rattle.tte_traces.specs.Lines.{AreAdmitted}
-use Rattle.tte_traces.specs.Report.{shown_as}
-use Rattle.tte_units.specs.Amount.{amount}
-use Rattle.tte_units.specs.declared.units.Units.{Units}
+use Rattle.tte_traces.{proofs.Admitted.events_admitted, specs.Along.{IsShortAt, PutsAlong}}
 use Rattle.world_drive.specs.Observing.{Sees, Stops, Told}
+use Rattle.world_exact.specs.Records.{AreAllRecords}
+use Rattle.tte_stamps.proofs.{Beginning.stamps_begin, Ordered.admitted_up_to_last, SameRecords.up_to_mark, Staying.stamps_stay}
+use Rattle.tte_stamps.specs.Stamping.{PutsStamps, StopsStamps}
 
 -- ---- an observer whose granule is given by it
 

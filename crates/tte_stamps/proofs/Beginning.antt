@@ -1,23 +1,9 @@
 -- Each answer of `stamp` begins with the stamps of the lines that were taken.
-use Rattle.std.proofs.Common.{◌≡◌, ℕ, ◌+◌, ◌≤◌, List, [], ◌∷◌, ◌++◌, length, sym, ap, subst, ◌∙◌, inl, inr, append_assoc, arith}
-use Rattle.drift_world.specs.Running.{last_time}
-use Rattle.exact_runs.specs.Records.{AreRecordsBefore, AreRecordsSoFar}
-use Rattle.net_plan.specs.declared.event.Event.{Event}
-use Rattle.net_plan.specs.declared.network.Network.{Network}
-use Rattle.run_law.specs.declared.note.Note.{Note}
-use Rattle.tte_forms.specs.Answering.{Answer}
-use Rattle.tte_stamps.proofs.Ordered.{admitted_follow, admitted_up_to_last, last_grows}
-use Rattle.tte_stamps.proofs.SameRecords.{IsUpTo, up_to_mark}
-use Rattle.tte_stamps.proofs.Staying.{stamps_stay}
-use Rattle.tte_stamps.specs.StampLines.{stamp_lines, stamps_behind}
-use Rattle.tte_traces.proofs.Admitted.{admitted_in_order, admitted_one}
-use Rattle.tte_traces.proofs.Answers.{AnswersEither, answer_stops}
-use Rattle.tte_traces.specs.Along.{BeginWith, IsFrontOf}
-use Rattle.tte_traces.specs.Answer.{IsTraceAnswer}
-use Rattle.tte_traces.specs.FaultLine.{fault_lines}
-use Rattle.tte_traces.specs.Lines.{AreAdmitted}
-use Rattle.tte_units.specs.Amount.{amount}
-use Rattle.tte_units.specs.declared.units.Units.{Units}
+use Rattle.tte_stamps.proofs.Words.{◌++◌, ◌+◌, ◌∙◌, ◌∷◌, ◌≡◌, ◌≤◌, Answer, AreAdmitted, AreRecordsBefore, AreRecordsSoFar, Event, IsTraceAnswer, List, Network}
+use Rattle.tte_stamps.proofs.Words.{Note, Units, [], admitted_in_order, amount, ap, append_assoc, arith, inl, inr, last_time, length, stamp_lines}
+use Rattle.tte_stamps.proofs.Words.{stamps_behind, subst, sym, ℕ}
+use Rattle.tte_traces.{proofs.{Admitted.admitted_one, Answers.{AnswersEither, answer_stops}}, specs.{Along.{BeginWith, IsFrontOf}, FaultLine.fault_lines}}
+use Rattle.tte_stamps.proofs.{Ordered.{admitted_follow, admitted_up_to_last, last_grows}, SameRecords.{IsUpTo, up_to_mark}, Staying.stamps_stay}
 
 module _ (granule : ℕ) (network : Network) (octets : List ℕ) (events : List Event) (notes : List Note) (run : AreRecordsSoFar network events notes) where
   -- those of further events behind them
@@ -51,7 +37,8 @@ module _ (granule : ℕ) (network : Network) (octets : List ℕ) (events : List 
             ∙ append_assoc (stamp_lines granule network events notes) rest fault,
       )
 
-  pub stamps_begin : AreAdmitted network octets events → IsFrontOf (IsTraceAnswer (stamp_lines granule) octets network) (stamp_lines granule network events notes)
+  pub stamps_begin : AreAdmitted network octets events
+      → IsFrontOf (IsTraceAnswer (stamp_lines granule) octets network) (stamp_lines granule network events notes)
   stamps_begin own a i =
       let stop = answer_stops (stamp_lines granule) network octets i.events a i.is in
       let more = admitted_one network octets events i.events own i.admitted stop in

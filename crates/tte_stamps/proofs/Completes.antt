@@ -1,24 +1,11 @@
 -- The answer of `stamp` is one, and valid input is answered to its end.
-use Rattle.std.proofs.Common.{◌≡◌, ℕ, ◌≤◌, List, ◌∙◌, sym, inl, inr}
-use Rattle.net_plan.specs.declared.event.Event.{Event}
-use Rattle.net_plan.specs.declared.network.Network.{Network}
+use Rattle.tte_stamps.proofs.Words.{◌∙◌, ◌≡◌, ◌≤◌, Answer, Event, IsStampAnswer, List, MeansAccepted, Network, ReadFault, Shown, Status, Units, amount, inl}
+use Rattle.tte_stamps.proofs.Words.{inr, least_granule, stamp_lines, sym, ℕ}
 use Rattle.schedule_checker.specs.Refusals.{RefusalIsOne}
-use Rattle.sparse_time.specs.Granules.{least_granule}
-use Rattle.tte_forms.proofs.OneAnswers.{answered_done}
-use Rattle.tte_forms.proofs.networks.Answers.{accepted_alone, network_answer_one}
-use Rattle.tte_forms.specs.Answering.{Answer, GivesAnswer, IsDone}
-use Rattle.tte_forms.specs.Putting.{Shown}
-use Rattle.tte_forms.specs.declared.status.Status.{Status}
-use Rattle.tte_forms.specs.declared.status.Status.TheVariants.{ReadFault, WriteFault}
-use Rattle.tte_forms.specs.networks.Accepting.{IsNetworkAnswer, MeansAccepted}
+use Rattle.tte_forms.{proofs.{OneAnswers.answered_done, networks.Answers.{accepted_alone, network_answer_one}}, specs.Answering.{GivesAnswer, IsDone}}
+use Rattle.tte_forms.specs.{declared.status.Status.TheVariants.WriteFault, networks.Accepting.IsNetworkAnswer}
+use Rattle.tte_traces.{proofs.{Answers.trace_answer_one, Given.all_done}, specs.Along.IsAllAdmitted}
 use Rattle.tte_stamps.proofs.Ends.{refused_alone, run_alone}
-use Rattle.tte_stamps.specs.Answer.{IsStampAnswer}
-use Rattle.tte_stamps.specs.StampLines.{stamp_lines}
-use Rattle.tte_traces.proofs.Answers.{trace_answer_one}
-use Rattle.tte_traces.proofs.Given.{all_done}
-use Rattle.tte_traces.specs.Along.{IsAllAdmitted}
-use Rattle.tte_units.specs.Amount.{amount}
-use Rattle.tte_units.specs.declared.units.Units.{Units}
 
 pub stamp_answer_one : (granule : Units) (network : Network) (trace : List ℕ) (a b : Answer) → IsStampAnswer granule trace network a
     → IsStampAnswer granule trace network b → a ≡ b

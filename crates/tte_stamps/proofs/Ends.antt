@@ -1,21 +1,13 @@
 -- How `stamp` ends.
-use Rattle.std.proofs.Common.{◌≡◌, ◌≢◌, ◌⊎◌, ℕ, ◌<◌, ◌≤◌, ℤ, pos, negsuc, ◌<ℤ◌, ◌≤ℤ◌, unsigned_abs, List, Option, inl, inr, refl, subst, arith}
-use Rattle.std.proofs.lemmas.Bool.{cases_lt}
-use Rattle.std.proofs.lemmas.Int.{ints}
-use Rattle.net_plan.specs.declared.network.Network.{Network}
-use Rattle.sparse_time.specs.Granules.{least_granule}
-use Rattle.tte_forms.proofs.OneAnswers.{one_given, widened}
-use Rattle.tte_forms.specs.Answering.{Answer, ForOctets, GivesOne}
-use Rattle.tte_forms.specs.Putting.{Shown}
-use Rattle.tte_forms.specs.declared.status.Status.{Status}
-use Rattle.tte_forms.specs.declared.status.Status.TheVariants.{Done, Usage, FrameRefused, NetworkRefused, TraceRefused, OutsideHypothesis, ReadFault, WriteFault, OutOfMemory, TooLong, AuditRefused, GranuleRefused, CaptureRefused, NameRefused, VoteRefused}
-use Rattle.tte_forms.specs.networks.Accepting.{MeansAccepted}
-use Rattle.tte_stamps.specs.Answer.{IsStampAnswer, IsStampStatus, StampEnds, StampStops, StampTakesLittle, granule_answer}
-use Rattle.tte_stamps.specs.StampLines.{stamp_lines}
-use Rattle.tte_forms.proofs.Octets.{for_all, for_more}
-use Rattle.tte_traces.specs.Answer.{IsRunStatus, IsTraceAnswer}
-use Rattle.tte_units.specs.Amount.{amount}
-use Rattle.tte_units.specs.declared.units.Units.{Units}
+use Rattle.tte_stamps.proofs.Words.{◌≡◌, ◌≤ℤ◌, ◌≤◌, Answer, GranuleRefused, IsStampAnswer, IsTraceAnswer, List, MeansAccepted, Network, Option, ReadFault}
+use Rattle.tte_stamps.proofs.Words.{Shown, Status, Units, amount, arith, cases_lt, granule_answer, inl, inr, least_granule, pos, refl, stamp_lines, subst}
+use Rattle.tte_stamps.proofs.Words.{unsigned_abs, ℕ, ℤ}
+use Rattle.std.proofs.{Common.{◌<ℤ◌, ◌<◌, ◌≢◌, ◌⊎◌, negsuc}, lemmas.Int.ints}
+use Rattle.tte_forms.{proofs.{Octets.{for_all, for_more}, OneAnswers.{one_given, widened}}, specs.Answering.{ForOctets, GivesOne}}
+use Rattle.tte_forms.specs.declared.status.Status.TheVariants.{AuditRefused, CaptureRefused, Done, FrameRefused, NameRefused, NetworkRefused, NumberRefused}
+use Rattle.tte_forms.specs.declared.status.Status.TheVariants.{OutOfMemory, OutsideHypothesis, TooLong, TraceRefused, Usage, VoteRefused, WriteFault}
+use Rattle.tte_traces.specs.Answer.{IsRunStatus}
+use Rattle.tte_stamps.specs.Answer.{IsStampStatus, StampEnds, StampStops, StampTakesLittle}
 
 pub refused_alone : (granule : Units) (network : Network) (trace : List ℕ) → amount granule < least_granule network → (b : Answer)
     → IsStampAnswer granule trace network b → b ≡ granule_answer network
@@ -84,6 +76,7 @@ stamp_status GranuleRefused is = tt
 stamp_status CaptureRefused is = is
 stamp_status NameRefused is = is
 stamp_status VoteRefused is = is
+stamp_status NumberRefused is = is
 
 pub no_granule : (status : Status) → IsRunStatus status → status ≢ GranuleRefused
 no_granule status is same = subst IsRunStatus same is

@@ -1,14 +1,10 @@
 -- What an observer knows at an event.
-use Rattle.std.proofs.Common.{◌≡◌, ◌+◌, ℕ, List, [], ◌∷◌, ◌++◌, length, sym, ap, subst, ◌∙◌}
-use Rattle.exact_runs.specs.Worlds.{ExactWorld, StandsExact}
-use Rattle.net_plan.specs.declared.event.Event.{Event}
+use Rattle.tte_stamps.proofs.Words.{◌++◌, ◌+◌, ◌∙◌, ◌∷◌, ◌≡◌, Event, ExactWorld, IsAtLine, List, Network, Note, [], ap, length, subst, sym, ℕ}
 use Rattle.net_plan.specs.declared.event.What.{What}
-use Rattle.net_plan.specs.declared.network.Network.{Network}
-use Rattle.run_law.specs.declared.note.Note.{Note}
-use Rattle.run_law.specs.declared.note.NoteBody.TheVariants.{Event as Befalls}
-use Rattle.run_law.specs.declared.note.NoteBody.{NoteBody}
-use Rattle.tte_stamps.specs.Stamping.{IsAtLine, MayStamp}
+use Rattle.run_law.specs.declared.note.NoteBody.{NoteBody, TheVariants.Event as Befalls}
 use Rattle.world_drive.specs.Observing.{Befell}
+use Rattle.world_exact.specs.Worlds.{StandsExact}
+use Rattle.tte_stamps.specs.Stamping.{MayStamp}
 
 same_line : (a b : ℕ) (what other : What) → ◌≡◌ {A = NoteBody} (Befalls a what) (Befalls b other) → a ≡ b
 same_line a b what other e = cc

@@ -12,3 +12,4 @@ pub mod Safely
 pub mod Ends
 pub mod Existing
 pub mod Completes
+pub mod Words

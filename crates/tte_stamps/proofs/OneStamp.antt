@@ -1,32 +1,15 @@
 -- The stamp of one device, and those of the first devices.
-use Rattle.std.proofs.Common.{◌≡◌, ℕ, zero, suc, ◌+◌, ◌≤◌, ℤ, unsigned_abs, List, [], ◌∷◌, ◌++◌, length, Option, Some, None, sym, ap, subst, ◌∙◌, append_assoc, append-nil, length-append, arith, inl, inr}
-use Rattle.std.specs.Prelude.{option_map, option_to_list}
-use Rattle.std.proofs.lemmas.Bool.{cases_lt}
-use Rattle.std.specs.Io.KnownBytes.{Appends}
+use Rattle.tte_stamps.proofs.Words.{◌++◌, ◌+◌, ◌∙◌, ◌∷◌, ◌≡◌, ◌≤◌, DeviceId, Event, ExactWorld, IsAtLine, List, Network, None, Note, Option, PutsLines}
+use Rattle.tte_stamps.proofs.Words.{PutsLines-none, Some, [], ap, append-nil, append_assoc, arith, cases_lt, clock_reading, device_name, happenings, inl, inr}
+use Rattle.tte_stamps.proofs.Words.{length, line_at, lines_by_first, shown_as, stamp_line, stamp_of, subst, suc, sym, told_by, unsigned_abs, zero, ℕ, ℤ}
+use Rattle.std.{proofs.Common.length-append, specs.{Io.KnownBytes.Appends, Prelude.{option_map, option_to_list}}}
 use Rattle.drift_world.specs.Locals.{IsLocalClockBefore}
-use Rattle.exact_runs.specs.Records.{clock_reading}
-use Rattle.exact_runs.specs.Worlds.{ExactWorld}
-use Rattle.net_plan.specs.Belonging.{device_name}
-use Rattle.net_plan.specs.declared.event.Event.{Event}
-use Rattle.net_plan.specs.declared.ids.DeviceId.{DeviceId}
-use Rattle.net_plan.specs.declared.network.Network.{Network}
-use Rattle.run_law.specs.declared.note.Note.{Note}
-use Rattle.run_law.specs.records.Happenings.{happenings}
-use Rattle.sparse_time.proofs.Stamped.{of_locals}
-use Rattle.sparse_time.specs.Granules.{stamp_of}
-use Rattle.sparse_time.specs.Lines.{Line}
-use Rattle.sparse_time.specs.Stamps.{IsShownAt}
-use Rattle.tte_forms.proofs.Puts.{PutFails-behind, PutsLines-append, PutsLines-fails, PutsLines-more, PutsLines-none}
+use Rattle.sparse_time.{proofs.Stamped.of_locals, specs.{Lines.Line, Stamps.IsShownAt}}
+use Rattle.tte_forms.{proofs.Puts.{PutFails-behind, PutsLines-append, PutsLines-fails, PutsLines-more}, specs.Putting.PutFails}
+use Rattle.tte_io.specs.{Faults.next_count, Told.AppendsFront, declared.ends.Sink.Ghosts}
 use Rattle.tte_traces.proofs.Given.{PutFails-more}
-use Rattle.tte_forms.specs.Putting.{PutFails, PutsLines}
-use Rattle.tte_io.specs.Faults.{next_count}
-use Rattle.tte_io.specs.Told.{AppendsFront}
-use Rattle.tte_io.specs.declared.ends.Sink.{Ghosts}
-use Rattle.tte_stamps.specs.StampLines.{line_at, lines_by, lines_by_first, stamp_line}
-use Rattle.tte_stamps.specs.Stamping.{IsAtLine}
-use Rattle.tte_traces.specs.Report.{shown_as}
-use Rattle.world_drive.specs.Observing.{told_by}
 use Rattle.world_law.specs.source.Agreeing.{scenario}
+use Rattle.tte_stamps.specs.StampLines.{lines_by}
 
 -- ---- one device
 

@@ -1,22 +1,13 @@
 -- The order of the events of a trace.
-use Rattle.std.proofs.Common.{◌≡◌, ℕ, ◌≤◌, pos, ◌≤ℤ◌, List, [], ◌∷◌, ◌++◌, inl, inr, refl, sym, ap, subst, ◌∙◌, append_assoc, append-nil, arith}
-use Rattle.std.specs.List.{All}
-use Rattle.std.proofs.lemmas.List.Elements.{All-contains}
-use Rattle.drift_world.specs.Running.{last_time}
-use Rattle.exact_runs.proofs.Events.{last_is, last_or_none}
-use Rattle.net_plan.specs.declared.event.Event.{Event}
-use Rattle.net_plan.specs.declared.network.Network.{Network}
-use Rattle.run_law.proofs.records.Order.{contains}
-use Rattle.run_law.proofs.runs.Places.{in_parts, in_right, parted}
-use Rattle.run_law.specs.law.FirstLaws.{IsEventInRange}
-use Rattle.run_law.specs.records.Order.{IsIn}
+use Rattle.tte_stamps.proofs.Words.{◌++◌, ◌∙◌, ◌∷◌, ◌≡◌, ◌≤ℤ◌, ◌≤◌, AreAdmitted, Event, IsIn, List, Network, [], admitted_in_order, amount, ap, append-nil}
+use Rattle.tte_stamps.proofs.Words.{append_assoc, arith, inl, inr, last_time, pos, refl, subst, sym, ℕ}
+use Rattle.std.{proofs.lemmas.List.Elements.All-contains, specs.List.All}
+use Rattle.run_law.{proofs.{records.Order.contains, runs.Places.{in_parts, in_right, parted}}, specs.law.FirstLaws.IsEventInRange}
 use Rattle.run_law.specs.scenario.Hypothesis.{AreWithinHypothesis}
 use Rattle.sparse_time.proofs.Traces.{behind_later}
-use Rattle.tte_stamps.proofs.Staying.{AreUpToLast, FollowOn, MayFollow}
-use Rattle.tte_traces.proofs.Admitted.{admitted_in_order}
 use Rattle.tte_traces.proofs.EventOrder.{last_before, last_of, not_earlier}
-use Rattle.tte_traces.specs.Lines.{AreAdmitted}
-use Rattle.tte_units.specs.Amount.{amount}
+use Rattle.world_exact.proofs.Events.{last_is, last_or_none}
+use Rattle.tte_stamps.proofs.Staying.{AreUpToLast, FollowOn, MayFollow}
 
 -- ---- of events within the hypothesis
 

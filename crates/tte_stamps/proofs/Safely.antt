@@ -1,39 +1,21 @@
 -- What `stamp` puts are the stamps of a run that goes well, and they tell.
-use Rattle.std.proofs.Common.{◌≡◌, ℕ, ◌+◌, ◌≤◌, List, [], ◌∷◌, Option, inl, inr, refl, sym, ap, subst, arith}
-use Rattle.drift_clock.proofs.ExactSegments.{exact_laws}
-use Rattle.drift_clock.specs.Segment.{fresh_segment, segment_reading, stepped_segment}
-use Rattle.drift_world.specs.Running.{last_time}
-use Rattle.exact_runs.proofs.Clocks.{exact_begins}
+use Rattle.tte_stamps.proofs.Words.{◌+◌, ◌∷◌, ◌≡◌, ◌≤◌, Answer, AreAdmitted, Event, GranuleRefused, IsTraceAnswer, List, MeansAccepted, Network, Option}
+use Rattle.tte_stamps.proofs.Words.{PutsLines, ReadFault, Shown, Status, Units, [], admitted_in_order, amount, ap, arith, granule_answer, inl, inr, last_time}
+use Rattle.tte_stamps.proofs.Words.{least_granule, refl, stamp_lines, subst, sym, ℕ}
+use Rattle.drift_clock.{proofs.ExactSegments.exact_laws, specs.Segment.{fresh_segment, segment_reading, stepped_segment}}
 use Rattle.net_plan.specs.Ranges.{IsInRange}
-use Rattle.net_plan.specs.declared.event.Event.{Event}
-use Rattle.net_plan.specs.declared.network.Network.{Network}
 use Rattle.safe_runs.proofs.Clocked.{ended, so_far}
-use Rattle.sparse_time.specs.Granules.{least_granule}
-use Rattle.tte_forms.proofs.Octets.{for_all, for_more}
-use Rattle.tte_forms.proofs.OneAnswers.{fails_given, one_of, some_given}
-use Rattle.tte_forms.proofs.networks.Refused.{refusal_fails, refusal_some}
-use Rattle.tte_forms.specs.Answering.{Answer, ForOctets, Gives, GivesOne}
-use Rattle.tte_forms.specs.Putting.{PutsLines, PutsSo, PutsSome, Shown, WriteFails}
-use Rattle.tte_forms.specs.declared.accepting.NoNetwork.{NoNetwork}
-use Rattle.tte_forms.specs.declared.status.Status.{Status}
-use Rattle.tte_forms.specs.declared.status.Status.TheVariants.{Done, Usage, FrameRefused, NetworkRefused, TraceRefused, OutsideHypothesis, ReadFault, WriteFault, OutOfMemory, TooLong, AuditRefused, GranuleRefused, CaptureRefused, NameRefused, VoteRefused}
-use Rattle.tte_forms.specs.networks.Accepting.{MeansAccepted}
+use Rattle.tte_forms.proofs.{Octets.{for_all, for_more}, OneAnswers.{fails_given, one_of, some_given}, networks.Refused.{refusal_fails, refusal_some}}
+use Rattle.tte_forms.specs.{Answering.{ForOctets, Gives, GivesOne}, Putting.{PutsSo, PutsSome, WriteFails}, declared.accepting.NoNetwork.NoNetwork}
+use Rattle.tte_forms.specs.declared.status.Status.TheVariants.{AuditRefused, CaptureRefused, Done, FrameRefused, NameRefused, NetworkRefused, NumberRefused}
+use Rattle.tte_forms.specs.declared.status.Status.TheVariants.{OutOfMemory, OutsideHypothesis, TooLong, TraceRefused, Usage, VoteRefused, WriteFault}
 use Rattle.tte_forms.specs.networks.NoNetworks.{IsNoNetwork, no_network_answer}
-use Rattle.tte_stamps.proofs.SameRecords.{up_to_mark}
-use Rattle.tte_stamps.proofs.Telling.{stamps_tell}
-use Rattle.tte_stamps.specs.Answer.{StampEnds, granule_answer}
+use Rattle.tte_traces.proofs.{Existing.trace_answers_exist, NoRun.{IsOfNoRun, given_none, none_long}}
+use Rattle.tte_traces.proofs.{Safely.{IsOfTrace, done_is, long_is, not_done, outside_is, refused_is, status_of}, Texts.{admitted_under, begins_run}}
+use Rattle.tte_traces.specs.{Answer.{AnswersAll, AnswersFault}, FaultLine.fault_status}
+use Rattle.world_exact.proofs.Clocks.{exact_begins}
+use Rattle.tte_stamps.{proofs.{SameRecords.up_to_mark, Telling.stamps_tell}, specs.Answer.StampEnds}
 use Rattle.tte_stamps.specs.Safely.{IsSafeStamps, IsStampedRun, IsStampedToFault, PutsStampsSafely, StampsSafely}
-use Rattle.tte_stamps.specs.StampLines.{stamp_lines}
-use Rattle.tte_traces.proofs.Admitted.{admitted_in_order}
-use Rattle.tte_traces.proofs.Existing.{trace_answers_exist}
-use Rattle.tte_traces.proofs.NoRun.{IsOfNoRun, given_none, none_long}
-use Rattle.tte_traces.proofs.Safely.{IsOfTrace, done_is, long_is, not_done, outside_is, refused_is, status_of}
-use Rattle.tte_traces.proofs.Texts.{admitted_under, begins_run}
-use Rattle.tte_traces.specs.Answer.{AnswersAll, AnswersFault, IsTraceAnswer}
-use Rattle.tte_traces.specs.FaultLine.{fault_status}
-use Rattle.tte_traces.specs.Lines.{AreAdmitted}
-use Rattle.tte_units.specs.Amount.{amount}
-use Rattle.tte_units.specs.declared.units.Units.{Units}
 
 -- the answer was given whole under the status
 record StampsTrace (granule : ℕ) (trace : List ℕ) (network : Network) (status : Status) (old new : Shown) : Type 0 where
@@ -150,6 +132,7 @@ module _ (granule : ℕ) (octets trace : List ℕ) (network : Network) (range : 
     puts_safely CaptureRefused g = tt
     puts_safely NameRefused g = tt
     puts_safely VoteRefused g = tt
+    puts_safely NumberRefused g = tt
 
 -- ---- where there is no accepted network
 
@@ -173,6 +156,7 @@ none_puts granule GranuleRefused octets trace cause old new g = tt
 none_puts granule CaptureRefused octets trace cause old new g = tt
 none_puts granule NameRefused octets trace cause old new g = tt
 none_puts granule VoteRefused octets trace cause old new g = tt
+none_puts granule NumberRefused octets trace cause old new g = tt
 
 -- ---- where the granule is refused
 
@@ -208,6 +192,7 @@ refused_puts granule GranuleRefused octets trace network old new g = tt
 refused_puts granule CaptureRefused octets trace network old new g = tt
 refused_puts granule NameRefused octets trace network old new g = tt
 refused_puts granule VoteRefused octets trace network old new g = tt
+refused_puts granule NumberRefused octets trace network old new g = tt
 
 -- ---- for the octets of a network file and of a trace
 

@@ -1,22 +1,13 @@
 -- The stamps of a line are by the records of earlier times alone.
-use Rattle.std.proofs.Common.{◌≡◌, ℕ, zero, suc, ℤ, pos, ◌+ℤ◌, ◌&&◌, not, if◌then◌else◌, List, [], ◌∷◌, ◌++◌, length, Option, Some, None, refl, sym, ap, ◌∙◌, inl, inr, append_assoc}
-use Rattle.std.specs.Prelude.{option_map, option_to_list}
-use Rattle.std.proofs.lemmas.List.{append-nil}
-use Rattle.net_plan.specs.Belonging.{device_name}
-use Rattle.net_plan.specs.declared.event.Event.{Event}
-use Rattle.net_plan.specs.declared.ids.DeviceId.{DeviceId}
-use Rattle.net_plan.specs.declared.network.Network.{Network}
-use Rattle.run_law.specs.declared.note.Note.{Note}
-use Rattle.run_law.specs.device.States.{adjustment_after, is_synchronised, state_after}
-use Rattle.run_law.specs.records.Happenings.{Happening, earlier, happenings}
-use Rattle.run_law.specs.records.Order.{IsIn}
+use Rattle.tte_stamps.proofs.Words.{◌++◌, ◌∙◌, ◌∷◌, ◌≡◌, DeviceId, Event, IsIn, List, Network, None, Note, Option, Some, [], amount, ap, append-nil}
+use Rattle.tte_stamps.proofs.Words.{append_assoc, device_name, happenings, inl, inr, length, line_at, line_stamps, lines_by_first, pos, refl, stamp_line}
+use Rattle.tte_stamps.proofs.Words.{stamp_of, stamps_behind, suc, sym, zero, ℕ, ℤ}
+use Rattle.std.{proofs.Common.{if◌then◌else◌, ◌&&◌, ◌+ℤ◌, not}, specs.Prelude.{option_map, option_to_list}}
+use Rattle.run_law.specs.{device.States.{adjustment_after, is_synchronised, state_after}, records.Happenings.{Happening, earlier}}
 use Rattle.run_law.specs.scenario.Scenarios.{is_broken, is_turned_on_at}
-use Rattle.sparse_time.specs.Granules.{stamp_of}
-use Rattle.sparse_time.specs.Lines.{scenario_at}
-use Rattle.sparse_time.specs.Stamps.{stamp_at}
+use Rattle.sparse_time.specs.{Lines.scenario_at, Stamps.stamp_at}
 use Rattle.sync_state.specs.declared.state.State.TheVariants.{Integrating}
-use Rattle.tte_stamps.specs.StampLines.{line_at, line_stamps, lines_by, lines_by_first, stamp_line, stamps_behind}
-use Rattle.tte_units.specs.Amount.{amount}
+use Rattle.tte_stamps.specs.StampLines.{lines_by}
 
 -- the records of both are the same before the time
 abbrev pub AreSameAt : Network → List Note → List Note → ℕ → Type 0

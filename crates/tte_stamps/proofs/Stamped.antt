@@ -1,32 +1,15 @@
 -- What the observer of `stamp` has put, and what it puts at one more line.
-use Rattle.std.proofs.Common.{◌≡◌, ℕ, ◌≤◌, pos, ◌≤ℤ◌, List, [], ◌∷◌, ◌++◌, Result, Ok, Err, zero, suc, refl, sym, ap, subst, ◌∙◌, inl, inr, arith}
-use Rattle.std.specs.Prelude.{IfErr, MatchResult}
-use Rattle.std.proofs.lemmas.List.{append-nil}
-use Rattle.drift_world.specs.Running.{last_time}
-use Rattle.exact_runs.proofs.Events.{last_is, last_or_none}
-use Rattle.exact_runs.specs.Records.{AreRecordsSoFar}
-use Rattle.exact_runs.specs.Worlds.{ExactWorld}
-use Rattle.net_plan.specs.declared.event.Event.{Event}
-use Rattle.net_plan.specs.declared.network.Network.{Network}
-use Rattle.run_law.proofs.runs.Places.{in_left, in_right}
-use Rattle.run_law.proofs.scenario.Devices.{within_front}
-use Rattle.run_law.specs.declared.note.Note.{Note}
-use Rattle.run_law.specs.records.Order.{IsIn}
-use Rattle.tte_forms.proofs.Puts.{PutFails-behind, PutsLines-append, PutsLines-none}
-use Rattle.tte_forms.specs.Putting.{PutFails, PutsLines}
+use Rattle.tte_stamps.proofs.Words.{◌++◌, ◌∙◌, ◌∷◌, ◌≡◌, ◌≤ℤ◌, ◌≤◌, AreFrom, AreRecordsSoFar, Event, ExactWorld, IsIn, List, Network, Note, PutsLines}
+use Rattle.tte_stamps.proofs.Words.{PutsLines-none, [], amount, ap, append-nil, arith, inl, inr, last_time, line_at, line_stamps, pos, refl, shown_as}
+use Rattle.tte_stamps.proofs.Words.{stamp_lines, subst, suc, sym, told_by, zero, ℕ}
+use Rattle.std.{proofs.Common.{Err, Ok, Result}, specs.Prelude.{IfErr, MatchResult}}
+use Rattle.run_law.proofs.{runs.Places.{in_left, in_right}, scenario.Devices.within_front}
+use Rattle.tte_forms.{proofs.Puts.{PutFails-behind, PutsLines-append}, specs.Putting.PutFails}
 use Rattle.tte_io.specs.declared.ends.Sink.{Ghosts}
-use Rattle.tte_stamps.proofs.Ordered.{begun, hypothesis_up_to_last}
-use Rattle.tte_stamps.proofs.SameRecords.{up_to_mark}
-use Rattle.tte_stamps.proofs.Staying.{AreUpToLast, MayFollow, stamps_stay}
-use Rattle.tte_stamps.specs.StampLines.{line_at, line_stamps, stamp_lines}
+use Rattle.world_drive.{proofs.Earlier.records_none, specs.{Observing.{Befell, Told}, declared.observing.Cut.{Cut, TheVariants.{OutOfMemory, WriteFault}}}}
+use Rattle.world_exact.proofs.Events.{last_is, last_or_none}
+use Rattle.tte_stamps.proofs.{Ordered.{begun, hypothesis_up_to_last}, SameRecords.up_to_mark, Staying.{AreUpToLast, MayFollow, stamps_stay}}
 use Rattle.tte_stamps.specs.Stamping.{PutsAll, PutsStamps, StopsStamps}
-use Rattle.tte_traces.proofs.Lasting.{AreFrom}
-use Rattle.tte_traces.specs.Report.{shown_as}
-use Rattle.tte_units.specs.Amount.{amount}
-use Rattle.world_drive.proofs.Earlier.{records_none}
-use Rattle.world_drive.specs.Observing.{Befell, Told, told_by}
-use Rattle.world_drive.specs.declared.observing.Cut.{Cut}
-use Rattle.world_drive.specs.declared.observing.Cut.TheVariants.{OutOfMemory, WriteFault}
 
 -- ---- at first
 
@@ -100,7 +83,8 @@ module _ (granule : ℕ) (network : Network) (world : ExactWorld) (events : List
   }
 
 -- and the granule is the first one still
-pub seen_go : {T K : Type 0} (sink : Ghosts K) (r : Result T Cut) (granule own : ℕ) (network : Network) (events : List Event) (old : Told) (new : K) → own ≡ granule
+pub seen_go : {T K : Type 0} (sink : Ghosts K) (r : Result T Cut) (granule own : ℕ) (network : Network) (events : List Event) (old : Told) (new : K)
+    → own ≡ granule
     → MatchResult r (λ _. PutsStamps granule network events old (told_by sink new)) (λ cut. StopsStamps granule network events cut old (told_by sink new))
     → MatchResult r (λ _. (own ≡ granule) × PutsStamps granule network events old (told_by sink new))
     (λ cut. StopsStamps granule network events cut old (told_by sink new))

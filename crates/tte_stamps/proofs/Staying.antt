@@ -1,20 +1,10 @@
 -- The stamps of lines stay under further events.
-use Rattle.std.proofs.Common.{◌≡◌, ℕ, ◌+◌, ◌≤◌, List, [], ◌∷◌, ◌++◌, length, sym, ap, subst, ◌∙◌}
-use Rattle.std.proofs.lemmas.List.{append-nil}
-use Rattle.drift_world.specs.Running.{last_time}
-use Rattle.exact_runs.specs.Records.{AreRecordsBefore, AreRecordsSoFar, HaveEnded, clock_reading}
-use Rattle.net_plan.specs.declared.event.Event.{Event}
-use Rattle.net_plan.specs.declared.network.Network.{Network}
-use Rattle.run_law.specs.declared.note.Note.{Note}
-use Rattle.run_law.specs.records.Happenings.{happenings}
-use Rattle.run_law.specs.records.Order.{IsIn}
-use Rattle.run_law.specs.scenario.Scenarios.{Scenario}
-use Rattle.tte_stamps.proofs.SameRecords.{IsUpTo, same_before, up_to_mark}
-use Rattle.tte_stamps.proofs.SameStamps.{AreSameAt, same_behind, stamps_parts}
-use Rattle.tte_stamps.specs.StampLines.{stamp_lines, stamps_behind}
-use Rattle.tte_traces.proofs.Lasting.{AreFrom, lasts_under}
-use Rattle.tte_units.specs.Amount.{amount}
+use Rattle.tte_stamps.proofs.Words.{◌++◌, ◌+◌, ◌∙◌, ◌∷◌, ◌≡◌, ◌≤◌, AreFrom, AreRecordsBefore, AreRecordsSoFar, Event, IsIn, List, Network, Note, Scenario, []}
+use Rattle.tte_stamps.proofs.Words.{amount, ap, append-nil, clock_reading, happenings, last_time, length, stamp_lines, stamps_behind, subst, sym, ℕ}
+use Rattle.tte_traces.proofs.Lasting.{lasts_under}
 use Rattle.world_drive.proofs.Earlier.{no_further, so_far_at}
+use Rattle.world_exact.specs.Records.{HaveEnded}
+use Rattle.tte_stamps.proofs.{SameRecords.{IsUpTo, same_before, up_to_mark}, SameStamps.{AreSameAt, same_behind, stamps_parts}}
 
 -- no event is later than the last
 abbrev pub AreUpToLast : List Event → Type 0

@@ -1,31 +1,14 @@
 -- The stamps of a run agree, and tell the order of lines.
-use Rattle.std.proofs.Common.{◌≡◌, ℕ, ◌≤◌, List, [], ◌∷◌, ◌++◌, suc, refl, sym, ap, subst, ◌∙◌, append_assoc, append-nil, arith}
-use Rattle.drift_clock.proofs.ExactSegments.{exact_laws, exact_steps}
-use Rattle.drift_clock.specs.Segment.{fresh_segment, segment_count, segment_reading, stepped_segment}
+use Rattle.tte_stamps.proofs.Words.{◌++◌, ◌∙◌, ◌∷◌, ◌≡◌, ◌≤◌, AreAdmitted, AreFrom, AreRecordsBefore, DeviceId, Event, List, Network, Note, Scenario, []}
+use Rattle.tte_stamps.proofs.Words.{admitted_in_order, amount, ap, append-nil, append_assoc, arith, clock_reading, happenings, last_time, least_granule}
+use Rattle.tte_stamps.proofs.Words.{line_at, refl, subst, suc, sym, ℕ}
+use Rattle.drift_clock.{proofs.ExactSegments.{exact_laws, exact_steps}, specs.Segment.{fresh_segment, segment_count, segment_reading, stepped_segment}}
 use Rattle.drift_world.proofs.Agreements.{reads_same}
-use Rattle.drift_world.specs.Running.{last_time}
-use Rattle.exact_runs.proofs.Clocks.{exact_begins}
-use Rattle.exact_runs.specs.Records.{AreRecordsBefore, clock_reading}
-use Rattle.net_plan.specs.declared.event.Event.{Event}
-use Rattle.net_plan.specs.declared.ids.DeviceId.{DeviceId}
-use Rattle.net_plan.specs.declared.network.Network.{Network}
-use Rattle.run_law.specs.declared.note.Note.{Note}
-use Rattle.run_law.specs.records.Happenings.{happenings}
-use Rattle.run_law.specs.scenario.Scenarios.{Scenario}
-use Rattle.safe_runs.proofs.Lawful.{lawful}
-use Rattle.safe_runs.specs.Under.{IsUnder, scenario_of}
-use Rattle.sparse_time.proofs.Order.{agree, tell_order}
-use Rattle.sparse_time.specs.Granules.{least_granule}
-use Rattle.sparse_time.specs.Laws.{IsRunInGranules}
-use Rattle.sparse_time.specs.Lines.{IsLineOf}
-use Rattle.tte_stamps.proofs.SameRecords.{IsUpTo, up_to_mark}
-use Rattle.tte_stamps.specs.Safely.{StampsTell}
-use Rattle.tte_stamps.specs.StampLines.{line_at}
-use Rattle.tte_traces.proofs.Admitted.{admitted_in_order}
+use Rattle.safe_runs.{proofs.Lawful.lawful, specs.Under.{IsUnder, scenario_of}}
+use Rattle.sparse_time.{proofs.Order.{agree, tell_order}, specs.{Laws.IsRunInGranules, Lines.IsLineOf}}
 use Rattle.tte_traces.proofs.EventOrder.{last_of, not_earlier}
-use Rattle.tte_traces.proofs.Lasting.{AreFrom}
-use Rattle.tte_traces.specs.Lines.{AreAdmitted}
-use Rattle.tte_units.specs.Amount.{amount}
+use Rattle.world_exact.proofs.Clocks.{exact_begins}
+use Rattle.tte_stamps.{proofs.SameRecords.{IsUpTo, up_to_mark}, specs.Safely.StampsTell}
 
 -- up to a time a clock reads what it read before further events, which are not earlier
 reads_on : (network : Network) (device : DeviceId) (x t : ℕ) → x ≤ t → (past more : List Event) → AreFrom t more
@@ -76,8 +59,10 @@ module _ (granule : ℕ) (network : Network) (octets : List ℕ) (events : List 
   pub stamps_tell : StampsTell granule network events notes
   stamps_tell = record {
     agree = λ before behind event d e stamp other is one two.
-        agree granule (exact_scenario network events) mark notes (line_at network before event notes) d e stamp other in_run (is_line before behind event is) one two;
+        agree granule (exact_scenario network events) mark notes (line_at network before event notes) d e stamp other in_run (is_line before behind event is)
+        one two;
     order = λ before behind front back event later d e stamp more is same one two apart.
-        tell_order granule (exact_scenario network events) mark notes (line_at network before event notes) (line_at network front later notes) d e stamp more in_run
+        tell_order granule (exact_scenario network events) mark notes (line_at network before event notes) (line_at network front later notes) d e stamp more
+        in_run
         (is_line before behind event is) (is_line front back later same) one two apart;
   }

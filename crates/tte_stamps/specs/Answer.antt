@@ -1,17 +1,15 @@
 -- What `stamp` answers for the octets of a network file and of a trace, and a granule.
-use Rattle.std.specs.Prelude.{◌≡◌, ◌≢◌, ◌⊎◌, ℕ, ◌<◌, ◌≤◌, List, ◌++◌, codes, decimal, Option}
+use Rattle.std.specs.Prelude.{◌++◌, ◌<◌, ◌≡◌, ◌≢◌, ◌≤◌, ◌⊎◌, List, Option, codes, decimal, ℕ}
 use Rattle.net_plan.specs.declared.network.Network.{Network}
 use Rattle.sparse_time.specs.Granules.{least_granule}
-use Rattle.tte_forms.specs.Answering.{Answer, Gives, line_answer}
-use Rattle.tte_forms.specs.Putting.{Shown}
-use Rattle.tte_forms.specs.declared.status.Status.{Status}
-use Rattle.tte_forms.specs.declared.status.Status.TheVariants.{Done, Usage, FrameRefused, NetworkRefused, TraceRefused, OutsideHypothesis, ReadFault, WriteFault, OutOfMemory, TooLong, AuditRefused, GranuleRefused, CaptureRefused, NameRefused, VoteRefused}
+use Rattle.tte_forms.specs.{Answering.{Answer, Gives, line_answer}, Putting.Shown, declared.status.Status.Status}
+use Rattle.tte_forms.specs.declared.status.Status.TheVariants.{AuditRefused, CaptureRefused, Done, FrameRefused}
+use Rattle.tte_forms.specs.declared.status.Status.TheVariants.{GranuleRefused, NameRefused, NetworkRefused}
+use Rattle.tte_forms.specs.declared.status.Status.TheVariants.{NumberRefused, OutOfMemory, OutsideHypothesis, ReadFault}
+use Rattle.tte_forms.specs.declared.status.Status.TheVariants.{TooLong, TraceRefused, Usage, VoteRefused, WriteFault}
+use Rattle.tte_traces.specs.{Answer.IsTraceAnswer, Ending.RunEnds, Streaming.{ReadsLittle, StopsReading}}
+use Rattle.tte_units.specs.{Amount.amount, declared.units.Units.Units}
 use Rattle.tte_stamps.specs.StampLines.{stamp_lines}
-use Rattle.tte_traces.specs.Answer.{IsTraceAnswer}
-use Rattle.tte_traces.specs.Ending.{RunEnds}
-use Rattle.tte_traces.specs.Streaming.{ReadsLittle, StopsReading}
-use Rattle.tte_units.specs.Amount.{amount}
-use Rattle.tte_units.specs.declared.units.Units.{Units}
 
 -- the line of a granule that is less than the least, which is this
 abbrev pub granule_line : ℕ → List ℕ
@@ -62,3 +60,4 @@ IsStampStatus GranuleRefused = Unit {0}
 IsStampStatus CaptureRefused = ⊥
 IsStampStatus NameRefused = ⊥
 IsStampStatus VoteRefused = ⊥
+IsStampStatus NumberRefused = ⊥

@@ -1,27 +1,20 @@
 -- The stamps that `stamp` puts are those of a run that goes well. They agree, and tell the order of lines.
-use Rattle.std.specs.Prelude.{◌≡◌, ◌⊎◌, ℕ, ◌+◌, ◌<◌, ℤ, pos, ◌+ℤ◌, ◌≤ℤ◌, List, [], ◌∷◌, ◌++◌, length, Option, Some}
+use Rattle.std.specs.Prelude.{◌++◌, ◌+ℤ◌, ◌+◌, ◌<◌, ◌∷◌, ◌≡◌, ◌≤ℤ◌, ◌⊎◌, List, Option, Some, [], length, pos, ℕ, ℤ}
 use Rattle.drift_clock.specs.Segment.{fresh_segment, segment_reading, stepped_segment}
 use Rattle.drift_world.specs.Running.{last_time}
-use Rattle.net_plan.specs.declared.event.Event.{Event}
-use Rattle.net_plan.specs.declared.ids.DeviceId.{DeviceId}
-use Rattle.net_plan.specs.declared.network.Network.{Network}
+use Rattle.net_plan.specs.declared.{event.Event.Event, ids.DeviceId.DeviceId, network.Network.Network}
 use Rattle.run_law.specs.declared.note.Note.{Note}
 use Rattle.safe_runs.specs.Headline.{IsRunBefore, IsWholeRun}
 use Rattle.sparse_time.specs.Stamps.{stamp_at}
-use Rattle.tte_forms.specs.Answering.{ForOctets}
-use Rattle.tte_forms.specs.Putting.{PutsLines, PutsSo, PutsSome, Shown, WriteFails}
+use Rattle.tte_forms.specs.{Answering.ForOctets, Putting.{PutsLines, PutsSo, PutsSome, Shown, WriteFails}}
 use Rattle.tte_forms.specs.declared.status.Status.{Status}
-use Rattle.tte_forms.specs.declared.status.Status.TheVariants.{Done, TraceRefused, OutsideHypothesis, ReadFault, WriteFault, OutOfMemory, TooLong}
-use Rattle.tte_forms.specs.networks.Accepting.{MeansAccepted}
-use Rattle.tte_forms.specs.networks.NetworkLine.{IsRefusalText}
-use Rattle.tte_stamps.specs.Answer.{granule_line}
-use Rattle.tte_stamps.specs.StampLines.{line_at, stamp_lines}
-use Rattle.tte_traces.specs.FaultLine.{fault_lines}
-use Rattle.tte_traces.specs.Lines.{AreAdmitted, IsFault, behind_lines}
-use Rattle.tte_traces.specs.Safely.{BeginsRunTo}
+use Rattle.tte_forms.specs.declared.status.Status.TheVariants.{Done, OutOfMemory, OutsideHypothesis, ReadFault, TooLong}
+use Rattle.tte_forms.specs.declared.status.Status.TheVariants.{TraceRefused, WriteFault}
+use Rattle.tte_forms.specs.networks.{Accepting.MeansAccepted, NetworkLine.IsRefusalText}
+use Rattle.tte_traces.specs.{FaultLine.fault_lines, Lines.{AreAdmitted, IsFault, behind_lines}, Safely.BeginsRunTo}
 use Rattle.tte_traces.specs.declared.fault.TraceFault.{TraceFault}
-use Rattle.tte_units.specs.Amount.{amount}
-use Rattle.tte_units.specs.declared.units.Units.{Units}
+use Rattle.tte_units.specs.{Amount.amount, declared.units.Units.Units}
+use Rattle.tte_stamps.specs.{Answer.granule_line, StampLines.{line_at, stamp_lines}}
 
 -- any two stamps of one line differ by at most one; and where a stamp of a line is at least two more than one of a
 -- line, be it before or behind it, its time is later

@@ -1,17 +1,13 @@
 -- The lines that `stamp` puts.
-use Rattle.std.specs.Prelude.{ℕ, zero, suc, ℤ, List, [], ◌∷◌, ◌++◌, codes, decimal, length, option_map, option_to_list}
 use Rattle.std.specs.Fmt.{signed_decimal}
-use Rattle.exact_runs.specs.Records.{clock_reading}
-use Rattle.net_plan.specs.Belonging.{device_name}
-use Rattle.net_plan.specs.declared.event.Event.{Event}
-use Rattle.net_plan.specs.declared.ids.DeviceId.{DeviceId}
+use Rattle.std.specs.Prelude.{◌++◌, ◌∷◌, List, [], codes, decimal, length, option_map, option_to_list, suc, zero, ℕ, ℤ}
+use Rattle.net_plan.specs.{Belonging.device_name, declared.{event.Event.Event, ids.DeviceId.DeviceId}}
 use Rattle.net_plan.specs.declared.network.Network.{Network}
-use Rattle.run_law.specs.declared.note.Note.{Note}
-use Rattle.run_law.specs.records.Happenings.{happenings}
-use Rattle.sparse_time.specs.Lines.{Line}
-use Rattle.sparse_time.specs.Stamps.{stamp_at}
+use Rattle.run_law.specs.{declared.note.Note.Note, records.Happenings.happenings}
+use Rattle.sparse_time.specs.{Lines.Line, Stamps.stamp_at}
 use Rattle.tte_traces.specs.Answer.{LinesOf}
 use Rattle.tte_units.specs.Amount.{amount}
+use Rattle.world_exact.specs.Records.{clock_reading}
 
 -- the line of a stamp, by the device of this name at the trace's line of this number
 abbrev pub stamp_line : ℕ → List ℕ → ℤ → List ℕ

@@ -1,7 +1,5 @@
 ghost use Rattle.std.specs.Prelude.{◌≡◌};
-ghost use Rattle.tte_forms.specs.Answering.{Gives, line_answer};
-ghost use Rattle.tte_forms.specs.Faults.{IsWanted, PutFailed};
-ghost use Rattle.tte_forms.specs.Putting.{Over};
+ghost use Rattle.tte_forms.specs.{Answering.{Gives, line_answer}, Faults.{IsWanted, PutFailed}, Putting.Over};
 ghost use Rattle.tte_stamps.specs.Answer.{granule_line};
 
 use tte_forms::{Status, put_last};

@@ -1,5 +1,4 @@
-ghost use Rattle.std.specs.Prelude.{◌≡◌, ◌≤◌, ◌+◌, ◌++◌, length};
-ghost use Rattle.std.specs.Fmt.{signed_decimal};
+ghost use Rattle.std.specs.{Fmt.signed_decimal, Prelude.{◌++◌, ◌+◌, ◌≡◌, ◌≤◌, length}};
 ghost use Rattle.tte_io.specs.Line.{line_limit};
 ghost use Rattle.tte_stamps.specs.StampLines.{stamp_line};
 

@@ -1,20 +1,18 @@
-ghost use Rattle.std.specs.Prelude.{◌≡◌, List, IfErr};
-ghost use Rattle.net_plan.specs.Belonging.{HasDevice};
-ghost use Rattle.net_plan.specs.Ranges.{IsInRange};
-ghost use Rattle.net_plan.specs.declared.event.Event.{Event as EventValue};
+ghost use Rattle.std.specs.Prelude.{◌≡◌, IfErr, List};
+ghost use Rattle.net_plan.specs.{Belonging.HasDevice, Ranges.IsInRange, declared.event.Event.Event as EventValue};
 ghost use Rattle.run_law.specs.declared.note.Note.{Note as NoteValue};
+ghost use Rattle.world_drive.specs.Observing.{PutsFurther};
 ghost use Rattle.tte_stamps.specs.StampLines.{line_at, line_stamps, lines_by};
 ghost use Rattle.tte_stamps.specs.Stamping.{IsAtLine, MayStamp, PutsAll, PutsStamps, StopsStamps, stops_here};
-ghost use Rattle.world_drive.specs.Observing.{PutsFurther};
 
 use crate::stamp_line::make_stamp_line;
 use drift_world::{EventNote, Given};
-use exact_runs::ExactWorld;
 use net_plan::{DeviceId, Event, Network};
 use sparse_time::Granule;
 use tte_io::{LineText, Sink};
 use tte_units::Units;
 use world_drive::{Cut, Observer};
+use world_exact::ExactWorld;
 
 /// Puts the stamps of each line of a trace, as soon as its event befell the world.
 #[derive(Drop)]

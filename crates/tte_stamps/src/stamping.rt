@@ -1,8 +1,6 @@
-ghost use Rattle.std.specs.Prelude.{◌≡◌, ◌≢◌, ◌⊎◌, ◌^◌, pos, ◌≤ℤ◌};
-ghost use Rattle.tte_forms.specs.Answering.{ForOctets, GivesAnswer};
-ghost use Rattle.tte_forms.specs.Faults.{HasCause, PutFailed, ReadFailed};
-ghost use Rattle.tte_forms.specs.Putting.{Over};
-ghost use Rattle.tte_forms.specs.networks.Accepting.{IsNetworkAnswer};
+ghost use Rattle.std.specs.Prelude.{◌^◌, ◌≡◌, ◌≢◌, ◌≤ℤ◌, ◌⊎◌, pos};
+ghost use Rattle.tte_forms.specs.{Answering.{ForOctets, GivesAnswer}, Faults.{HasCause, PutFailed, ReadFailed}};
+ghost use Rattle.tte_forms.specs.{Putting.Over, networks.Accepting.IsNetworkAnswer};
 ghost use Rattle.tte_stamps.specs.Answer.{IsStampAnswer, IsStampStatus, StampEnds, StampStops, StampTakesLittle};
 ghost use Rattle.tte_stamps.specs.Safely.{StampsSafely};
 

@@ -1,30 +1,17 @@
 -- The events of a storm given one after another.
-use Rattle.std.proofs.Common.{◌≡◌, ℕ, ◌+◌, ◌-◌, ◌*◌, ◌≤◌, ◌<◌, List, [], ◌∷◌, ◌++◌, length, length-append, None, Result, Ok, Err, inl, inr, sym, ap, subst, ◌∙◌, arith}
-use Rattle.std.specs.Prelude.{MatchResult}
-use Rattle.std.proofs.lemmas.List.Quantifiers.{Any-push}
+use Rattle.std.proofs.Common.{◌*◌, ◌++◌, ◌+◌, ◌-◌, ◌<◌, ◌∙◌, ◌∷◌, ◌≡◌, ◌≤◌, Err, List, None, Ok, Result, [], ap, arith, inl, inr, length, length-append, subst}
+use Rattle.std.{proofs.{Common.{sym, ℕ}, lemmas.List.Quantifiers.Any-push}, specs.Prelude.MatchResult}
 use Rattle.drift_world.specs.Running.{HoldsATime}
-use Rattle.exact_runs.proofs.Events.{last_or_none, parted}
-use Rattle.exact_runs.specs.Records.{AreAllRecords, HaveEnded}
-use Rattle.exact_runs.specs.Worlds.{ExactWorld, StandsExact}
 use Rattle.fault_hypothesis.specs.Watching.{Watches}
-use Rattle.net_plan.specs.Belonging.{IsOfNetwork}
-use Rattle.net_plan.specs.declared.event.Event.{Event}
-use Rattle.net_plan.specs.declared.event.What.TheVariants as kinds
-use Rattle.net_plan.specs.declared.event.What.{What}
-use Rattle.net_plan.specs.declared.network.Network.{Network}
-use Rattle.run_law.specs.declared.note.Note.{Note}
-use Rattle.run_law.specs.scenario.Hypothesis.{IsWithinHypothesis}
-use Rattle.storm.proofs.Ends.{end_is_behind}
-use Rattle.storm.proofs.Storms.{no_events, none_later, one_more}
-use Rattle.storm.specs.Events.{AreNoLater, AreStormEvents, IsStormEvent, time_of}
+use Rattle.net_plan.specs.{Belonging.IsOfNetwork, declared.{event.{Event.Event, What.What}, network.Network.Network}}
+use Rattle.run_law.specs.{declared.note.Note.Note, scenario.Hypothesis.IsWithinHypothesis}
+use Rattle.storm.{proofs.{Ends.end_is_behind, Storms.{no_events, none_later, one_more}}, specs.Events.{AreNoLater, AreStormEvents, IsStormEvent, time_of}}
 use Rattle.storm.specs.Progress.{Progress}
 use Rattle.trace_text.specs.Ranges.{IsEventInRange, IsWhatInRange}
-use Rattle.tte_storms.specs.Storms.{HasStormed, IsStormTo}
-use Rattle.tte_storms.specs.Counts.{IsSeen}
-use Rattle.tte_storms.specs.declared.counting.Seen.{Seen}
-use Rattle.tte_storms.specs.declared.events.StormEvents.{StormEvents}
-use Rattle.world_drive.specs.Observing.{Told}
-use Rattle.world_drive.specs.Sources.{MayGive}
+use Rattle.world_drive.specs.{Observing.Told, Sources.MayGive}
+use Rattle.world_exact.{proofs.Events.{last_or_none, parted}, specs.{Records.{AreAllRecords, HaveEnded}, Worlds.{ExactWorld, StandsExact}}}
+use Rattle.tte_storms.specs.{Counts.IsSeen, Storms.{HasStormed, IsStormTo}, declared.{counting.Seen.Seen, events.StormEvents.StormEvents}}
+use Rattle.net_plan.specs.declared.event.What.TheVariants as kinds
 
 -- ---- the beginning
 

@@ -1,14 +1,10 @@
 -- When a storm ends.
-use Rattle.std.proofs.Common.{◌≡◌, ℕ, ◌*◌, List, refl, ap, ◌∙◌}
-use Rattle.net_plan.specs.declared.event.Event.{Event}
-use Rattle.net_plan.specs.declared.event.What.TheVariants.{End}
-use Rattle.net_plan.specs.declared.network.Network.{Network}
+use Rattle.std.proofs.Common.{◌*◌, ◌∙◌, ◌≡◌, List, ap, refl, ℕ}
+use Rattle.net_plan.specs.declared.{event.{Event.Event, What.TheVariants.End}, network.Network.Network}
 use Rattle.run_law.specs.runs.DueRecords.{EndsAt}
-use Rattle.storm.proofs.Ends.{end_is_behind}
-use Rattle.storm.proofs.Storms.{storm_time}
-use Rattle.storm.specs.Events.{AreStormEvents, time_of}
-use Rattle.exact_runs.proofs.Events.{parted}
+use Rattle.storm.{proofs.{Ends.end_is_behind, Storms.storm_time}, specs.Events.{AreStormEvents, time_of}}
 use Rattle.tte_units.specs.declared.units.Units.{Units}
+use Rattle.world_exact.proofs.Events.{parted}
 
 -- a storm ends behind all its steps
 pub storm_ends : (network : Network) (seed cycles : ℕ) (events : List Event) (time : Units) → AreStormEvents network seed cycles events → EndsAt events time

@@ -1,60 +1,30 @@
 -- There is a storm of each seed, and an answer for it.
-use Rattle.std.proofs.Common.{append_assoc, ◌≡◌, ℕ, zero, suc, ◌+◌, ◌-◌, ◌*◌, ◌%◌, ◌^◌, ◌<◌, ◌≤◌, Bool, true, false, if◌then◌else◌, ◌==◌, ◌||◌, List, [], ◌∷◌, ◌++◌, length, Option, Some, None, Any, replicate, inl, inr, refl, sym, subst, ◌∙◌, arith, length-append}
-use Rattle.std.specs.Prelude.{IfSome, IsSomeAnd, MatchOption, is_some, slice_index}
-use Rattle.std.specs.Int.{byte_at, bytes_high_first}
-use Rattle.std.specs.List.{All}
-use Rattle.std.proofs.Math.Nat.{div-lt_iff_lt-mul, mod-lt}
-use Rattle.std.proofs.Math.Pow.{pow-lt}
-use Rattle.std.proofs.lemmas.Bool.{cases_Bool, cases_lt}
-use Rattle.std.proofs.lemmas.Int.{ints}
-use Rattle.std.proofs.lemmas.List.{append-nil, get_or_past}
-use Rattle.std.proofs.lemmas.List.Elements.{All-append, All-cons, All-nil, All-replicate}
-use Rattle.std.proofs.lemmas.List.Quantifiers.{Any-push}
+use Rattle.std.proofs.Common.{if◌then◌else◌, ◌%◌, ◌*◌, ◌++◌, ◌+◌, ◌-◌, ◌<◌, ◌==◌, ◌^◌, ◌||◌, ◌∙◌, ◌∷◌, ◌≡◌, ◌≤◌, Any, Bool, List, None, Option, Some, []}
+use Rattle.std.proofs.Common.{append_assoc, arith, false, inl, inr, length, length-append, refl, replicate, subst, suc, sym, true, zero, ℕ}
+use Rattle.std.proofs.{Math.{Nat.{div-lt_iff_lt-mul, mod-lt}, Pow.pow-lt}, lemmas.{Bool.{cases_Bool, cases_lt}, Int.ints, List.{append-nil, get_or_past}}}
+use Rattle.std.{proofs.lemmas.List.{Elements.{All-append, All-cons, All-nil, All-replicate}, Quantifiers.Any-push}, specs.Int.{byte_at, bytes_high_first}}
+use Rattle.std.specs.{List.All, Prelude.{IfSome, IsSomeAnd, MatchOption, is_some, slice_index}}
 use Rattle.hex.specs.Hex.{IsBytes}
-use Rattle.net_plan.specs.Places.{is_master, link_at}
-use Rattle.net_plan.specs.Ranges.{IsDeviceInRange, IsInRange}
-use Rattle.net_plan.specs.declared.event.Event.{Event}
-use Rattle.net_plan.specs.declared.event.What.TheVariants as kinds
-use Rattle.net_plan.specs.declared.event.What.{What}
-use Rattle.net_plan.specs.declared.ids.DeviceId.{DeviceId}
-use Rattle.net_plan.specs.declared.network.Network.{Network}
-use Rattle.net_plan.specs.declared.tables.Link.{Link}
-use Rattle.pcf_codec.proofs.Encoding.{Fits, padding, spells}
-use Rattle.pcf_codec.specs.Encoded.{encoded}
-use Rattle.pcf_codec.specs.EtherType.{pcf_type}
-use Rattle.pcf_codec.specs.Spelling.{code_of}
-use Rattle.pcf_values.specs.declared.pcf.Pcf.{Pcf}
-use Rattle.pcf_values.specs.declared.pcf.PcfKind.TheVariants.{Integration, ColdStart, ColdStartAck}
-use Rattle.pcf_values.specs.declared.pcf.PcfKind.{PcfKind}
-use Rattle.run_law.proofs.scenario.Decided.{hypothesis_is_decided}
-use Rattle.run_law.proofs.scenario.Decisions.{IsDecided, decided_any}
-use Rattle.run_law.specs.records.Happenings.{happenings}
-use Rattle.run_law.specs.scenario.Faults.{Breaks, IsBroken}
-use Rattle.run_law.specs.scenario.Hypothesis.{AreWithinHypothesis}
+use Rattle.net_plan.specs.{Places.{is_master, link_at}, Ranges.{IsDeviceInRange, IsInRange}, declared.{event.{Event.Event, What.What}, ids.DeviceId.DeviceId}}
+use Rattle.net_plan.specs.declared.{network.Network.Network, tables.Link.Link}
+use Rattle.pcf_codec.{proofs.Encoding.{Fits, padding, spells}, specs.{Encoded.encoded, EtherType.pcf_type, Spelling.code_of}}
+use Rattle.pcf_values.specs.declared.pcf.{Pcf.Pcf, PcfKind.{PcfKind, TheVariants.{ColdStart, ColdStartAck, Integration}}}
+use Rattle.run_existence.proofs.Existence.{runs_exist_to_each_mark}
+use Rattle.run_law.{proofs.scenario.{Decided.hypothesis_is_decided, Decisions.{IsDecided, decided_any}}, specs.declared.note.Note.Note}
+use Rattle.run_law.specs.{records.Happenings.happenings, scenario.{Faults.{Breaks, IsBroken}, Hypothesis.AreWithinHypothesis, Scenarios.Scenario}}
 use Rattle.schedule_tables.specs.Rules.{KeepsRules}
-use Rattle.storm.proofs.Belongings.{some_link, some_master}
-use Rattle.storm.proofs.Masters.{IsLastBelow, last_of_all, master_found, master_uplink, next_master, next_other}
-use Rattle.storm.proofs.Storms.{more_events, no_events, storms_within, time_in_run}
-use Rattle.storm.proofs.Within.{broken_is_master}
+use Rattle.storm.proofs.{Belongings.{some_link, some_master}, Masters.{IsLastBelow, last_of_all, master_found, master_uplink, next_master, next_other}}
+use Rattle.storm.proofs.{Storms.{more_events, no_events, storms_within, time_in_run}, Within.broken_is_master}
 use Rattle.storm.specs.Choosing.{channel_of, choice_of, device_of, hold_of, link_of, rate_of, way_of, wire_of}
 use Rattle.storm.specs.Events.{AreStormEvents, IsChosen, IsDrawn, IsEventOf, IsStorm, substitute, time_of}
-use Rattle.storm.specs.Striking.{IsLastMaster, IsMaster, SendsForged, Strikes, forged}
-use Rattle.storm.specs.Words.{draw_at}
-use Rattle.storm_summary.specs.Counting.{counts_of}
-use Rattle.storm_summary.specs.Lines.{summary_lines}
-use Rattle.exact_runs.proofs.Events.{ended_at}
-use Rattle.exact_runs.specs.Records.{AreAllRecords, HaveEnded, clock_reading}
-use Rattle.run_existence.proofs.Existence.{runs_exist_to_each_mark}
-use Rattle.run_law.specs.declared.note.Note.{Note}
-use Rattle.run_law.specs.scenario.Scenarios.{Scenario}
+use Rattle.storm.specs.{Striking.{IsLastMaster, IsMaster, SendsForged, Strikes, forged}, Words.draw_at}
+use Rattle.storm_summary.specs.{Counting.counts_of, Lines.summary_lines}
 use Rattle.tte_forms.specs.declared.status.Status.TheVariants.{Done}
-use Rattle.tte_lemmas.proofs.Lists.{in_all, some_at}
-use Rattle.tte_lemmas.proofs.Naturals.{byte_at_small}
-use Rattle.tte_storms.specs.Answer.{exact_scenario}
-use Rattle.tte_units.specs.Amount.{amount}
-use Rattle.tte_units.specs.declared.units.Units.{Units}
-use Rattle.tte_storms.proofs.Widest.{greatest_spread}
-use Rattle.tte_storms.specs.Laws.{FitsFrames, StormAnswersExist}
+use Rattle.tte_lemmas.proofs.{Lists.{in_all, some_at}, Naturals.byte_at_small}
+use Rattle.tte_units.specs.{Amount.amount, declared.units.Units.Units}
+use Rattle.world_exact.{proofs.Events.ended_at, specs.Records.{AreAllRecords, HaveEnded, clock_reading}}
+use Rattle.tte_storms.{proofs.Widest.greatest_spread, specs.{Answer.exact_scenario, Laws.{FitsFrames, StormAnswersExist}}}
+use Rattle.net_plan.specs.declared.event.What.TheVariants as kinds
 
 -- what is known of the network and of the time of a step
 record IsReady (network : Network) (time : Units) : Type 0 where

@@ -1,18 +1,12 @@
 -- The least and the greatest of local clocks, device by device.
-use Rattle.std.proofs.Common.{◌≡◌, ◌⊎◌, ℕ, ◌+◌, ◌<◌, ◌^◌, ℤ, pos, neg_ℤ, FitsSigned, to_z, of_z, rules, ◌-ℤ◌, ◌≤ℤ◌, true, false, List, Option, Some, None, length, inl, inr, refl, sym, ap, subst, ◌∙◌, arith}
-use Rattle.std.specs.Int.{w128}
+use Rattle.std.proofs.Common.{◌+◌, ◌-ℤ◌, ◌<◌, ◌^◌, ◌∙◌, ◌≡◌, ◌≤ℤ◌, ◌⊎◌, FitsSigned, List, None, Option, Some, ap, arith, false, inl, inr, length, neg_ℤ, of_z}
+use Rattle.std.{proofs.{Common.{pos, refl, rules, subst, sym, to_z, true, ℕ, ℤ}, lemmas.{Bool.cases_lt, Int.{ints, to_z-of_z}}}, specs.Int.w128}
 use Rattle.std.specs.Prelude.{int_lt}
-use Rattle.std.proofs.lemmas.Bool.{cases_lt}
-use Rattle.std.proofs.lemmas.Int.{ints, to_z-of_z}
 use Rattle.drift_world.specs.Locals.{IsWide}
 use Rattle.net_plan.specs.declared.ids.DeviceId.{DeviceId}
-use Rattle.run_law.specs.device.LocalClocks.{local}
-use Rattle.run_law.specs.law.Safety.{IsInStep}
-use Rattle.run_law.specs.records.Happenings.{Happening}
-use Rattle.run_law.specs.scenario.Scenarios.{Scenario}
+use Rattle.run_law.specs.{device.LocalClocks.local, law.Safety.IsInStep, records.Happenings.Happening, scenario.Scenarios.Scenario}
 use Rattle.tte_lemmas.proofs.Integers.{through}
-use Rattle.tte_storms.specs.declared.spreads.Ends.{Ends}
-use Rattle.tte_storms.specs.Spreads.{AreEnds, AreEndsOf, IsOfOne, IsSpreadAt, Widens}
+use Rattle.tte_storms.specs.{Spreads.{AreEnds, AreEndsOf, IsOfOne, IsSpreadAt, Widens}, declared.spreads.Ends.Ends}
 
 -- one more device is one of those before it, or the next
 one_more : (d : DeviceId) (n : ℕ) → d.0 < n + 1 → (d.0 < n) ⊎ (d ≡ record { 0 = n })

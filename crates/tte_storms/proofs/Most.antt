@@ -1,6 +1,5 @@
 -- The greatest of some numbers, from 0 on, where it is decided which there are.
-use Rattle.std.proofs.Common.{◌≡◌, ◌⊎◌, ℕ, zero, suc, ◌<◌, ℤ, pos, negsuc, ◌≤ℤ◌, List, [], ◌∷◌, inl, inr, refl, subst, arith}
-use Rattle.std.proofs.lemmas.Bool.{cases_eq}
+use Rattle.std.proofs.{Common.{◌<◌, ◌∷◌, ◌≡◌, ◌≤ℤ◌, ◌⊎◌, List, [], arith, inl, inr, negsuc, pos, refl, subst, suc, zero, ℕ, ℤ}, lemmas.Bool.cases_eq}
 use Rattle.std.proofs.lemmas.Int.{by_lt_z, ints}
 use Rattle.run_law.specs.records.Order.{IsIn}
 

@@ -1,26 +1,16 @@
 -- An accepted network has one answer under a storm.
-use Rattle.std.proofs.Common.{◌≡◌, ℕ, ◌+◌, ◌≤◌, List, [], ◌∷◌, sym, ap, subst, ◌∙◌}
-use Rattle.net_plan.specs.declared.event.Event.{Event}
-use Rattle.net_plan.specs.declared.network.Network.{Network}
-use Rattle.run_law.proofs.runs.NetworkRuns.{run_is_one}
-use Rattle.run_law.specs.declared.note.Note.{Note}
-use Rattle.run_law.specs.records.Happenings.{happenings}
+use Rattle.std.proofs.Common.{◌+◌, ◌∙◌, ◌∷◌, ◌≡◌, ◌≤◌, List, [], ap, subst, sym, ℕ}
+use Rattle.net_plan.specs.declared.{event.Event.Event, network.Network.Network}
+use Rattle.run_law.{proofs.runs.NetworkRuns.run_is_one, specs.{declared.note.Note.Note, records.Happenings.happenings}}
 use Rattle.schedule_checker.specs.Refusals.{RefusalIsOne}
 use Rattle.schedule_tables.specs.Rules.{KeepsRules}
-use Rattle.storm.proofs.OneStorm.{one_storm}
-use Rattle.storm.specs.Events.{IsStorm}
-use Rattle.storm_summary.proofs.Spreads.{spread_is_one}
-use Rattle.storm_summary.specs.Counting.{counts_of}
-use Rattle.storm_summary.specs.Lines.{summary_lines}
-use Rattle.tte_forms.specs.Answering.{Answer}
-use Rattle.tte_forms.specs.declared.status.Status.TheVariants.{Done}
+use Rattle.storm.{proofs.OneStorm.one_storm, specs.Events.IsStorm}
+use Rattle.storm_summary.{proofs.Spreads.spread_is_one, specs.{Counting.counts_of, Lines.summary_lines}}
+use Rattle.tte_forms.{proofs.networks.Answers.network_answer_one, specs.{Answering.Answer, declared.status.Status.TheVariants.Done}}
 use Rattle.tte_forms.specs.networks.Accepting.{IsNetworkAnswer}
-use Rattle.tte_storms.specs.Answer.{IsStormAnswer, IsWidest, exact_scenario}
-use Rattle.exact_runs.specs.Records.{AreAllRecords, AreRecordsBefore, clock_reading}
-use Rattle.tte_forms.proofs.networks.Answers.{network_answer_one}
-use Rattle.tte_storms.proofs.Ends.{storm_ends}
-use Rattle.tte_units.specs.Amount.{amount}
-use Rattle.tte_units.specs.declared.units.Units.{Units}
+use Rattle.tte_units.specs.{Amount.amount, declared.units.Units.Units}
+use Rattle.world_exact.specs.Records.{AreAllRecords, AreRecordsBefore, clock_reading}
+use Rattle.tte_storms.{proofs.Ends.storm_ends, specs.Answer.{IsStormAnswer, IsWidest, exact_scenario}}
 
 -- the records of a storm's run, up to its end, are one list
 pub same_records : (network : Network) (seed cycles : ℕ) (events : List Event) (notes others : List Note) → IsStorm network seed cycles events
@@ -36,7 +26,8 @@ pub storm_answer_one : (seed cycles : ℕ) (network : Network) → cycles ≤ 10
 storm_answer_one seed cycles network few rules a b p q =
     let events : q.events ≡ p.events = one_storm network seed cycles q.events p.events rules few q.storm p.storm in
     let notes : q.notes ≡ p.notes =
-    same_records network seed cycles p.events q.notes p.notes p.storm (subst (λ (es : List Event). AreAllRecords network es q.notes) events q.records) p.records in
+    same_records network seed cycles p.events q.notes p.notes p.storm (subst (λ (es : List Event). AreAllRecords network es q.notes) events q.records)
+    p.records in
     let widest : IsWidest network p.events p.notes q.spread =
     subst (λ (ns : List Note). IsWidest network p.events ns q.spread) notes
     (subst (λ (es : List Event). IsWidest network es q.notes q.spread) events q.widest) in

@@ -1,21 +1,15 @@
 -- What `storm` writes is the summary of a run that is safe.
-use Rattle.std.proofs.Common.{◌≡◌, ℕ, List, [], Option, inl, inr, refl, ap}
+use Rattle.std.proofs.Common.{◌≡◌, List, Option, [], ap, inl, inr, refl, ℕ}
 use Rattle.net_plan.specs.declared.network.Network.{Network}
-use Rattle.storm_summary.specs.Lines.{lines_of}
-use Rattle.storm_summary.specs.declared.summary.Summary.{Summary}
-use Rattle.tte_forms.proofs.Octets.{for_more}
-use Rattle.tte_forms.proofs.OneAnswers.{fails_given, none_put, some_given}
-use Rattle.tte_forms.proofs.Puts.{PutsLines-none, PutsLines-still}
-use Rattle.tte_forms.proofs.networks.Refused.{of_no_network, refusal_fails, refusal_some, some_text}
-use Rattle.tte_forms.specs.Answering.{ForOctets, Gives}
-use Rattle.tte_forms.specs.Putting.{PutsLines, PutsSo, PutsSome, Shown, WriteFails}
-use Rattle.tte_forms.specs.declared.accepting.NoNetwork.{NoNetwork}
-use Rattle.tte_forms.specs.declared.status.Status.{Status}
-use Rattle.tte_forms.specs.declared.status.Status.TheVariants.{Done, Usage, FrameRefused, NetworkRefused, TraceRefused, OutsideHypothesis, ReadFault, WriteFault, OutOfMemory, TooLong, AuditRefused, GranuleRefused, CaptureRefused, NameRefused, VoteRefused}
-use Rattle.tte_forms.specs.networks.Accepting.{MeansAccepted}
+use Rattle.storm_summary.specs.{Lines.lines_of, declared.summary.Summary.Summary}
+use Rattle.tte_forms.proofs.{Octets.for_more, OneAnswers.{fails_given, none_put, some_given}, Puts.{PutsLines-none, PutsLines-still}}
+use Rattle.tte_forms.{proofs.networks.Refused.{of_no_network, refusal_fails, refusal_some, some_text}, specs.Answering.{ForOctets, Gives}}
+use Rattle.tte_forms.specs.{Putting.{PutsLines, PutsSo, PutsSome, Shown, WriteFails}, declared.{accepting.NoNetwork.NoNetwork, status.Status.Status}}
+use Rattle.tte_forms.specs.declared.status.Status.TheVariants.{AuditRefused, CaptureRefused, Done, FrameRefused, GranuleRefused, NameRefused, NetworkRefused}
+use Rattle.tte_forms.specs.declared.status.Status.TheVariants.{NumberRefused, OutOfMemory, OutsideHypothesis, ReadFault, TooLong, TraceRefused, Usage}
+use Rattle.tte_forms.specs.{declared.status.Status.TheVariants.{VoteRefused, WriteFault}, networks.Accepting.MeansAccepted}
 use Rattle.tte_forms.specs.networks.NoNetworks.{IsNoNetwork, no_network_answer}
-use Rattle.tte_storms.specs.Safely.{IsSafeSummary, IsSafeText, PutsSummarySafely, SummarisesSafely}
-use Rattle.tte_storms.specs.Storms.{EndsStorm, Summarises}
+use Rattle.tte_storms.specs.{Safely.{IsSafeSummary, IsSafeText, PutsSummarySafely, SummarisesSafely}, Storms.{EndsStorm, Summarises}}
 
 -- ---- for an accepted network
 
@@ -73,6 +67,7 @@ safely seed cycles octets network GranuleRefused old new m ends = tt
 safely seed cycles octets network CaptureRefused old new m ends = tt
 safely seed cycles octets network NameRefused old new m ends = tt
 safely seed cycles octets network VoteRefused old new m ends = tt
+safely seed cycles octets network NumberRefused old new m ends = tt
 
 pub storm_safely : (seed cycles : ℕ) (left : Option (List ℕ)) (network : Network) (status : Status) (old new : Shown)
     → ForOctets left (λ octets. MeansAccepted octets network) → EndsStorm network seed cycles status old new
@@ -102,6 +97,7 @@ none_safe seed cycles octets cause GranuleRefused old new g = tt
 none_safe seed cycles octets cause CaptureRefused old new g = tt
 none_safe seed cycles octets cause NameRefused old new g = tt
 none_safe seed cycles octets cause VoteRefused old new g = tt
+none_safe seed cycles octets cause NumberRefused old new g = tt
 
 pub none_safely : (seed cycles : ℕ) (left : Option (List ℕ)) (cause : NoNetwork) (status : Status) (old new : Shown)
     → ForOctets left (λ octets. IsNoNetwork octets cause) → Gives (no_network_answer cause) status old new → SummarisesSafely seed cycles left status old new

@@ -1,28 +1,16 @@
 -- Records seen one after another, and the spread of the times of corrections.
-use Rattle.std.proofs.Common.{◌≡◌, ◌⊎◌, ℕ, ◌+◌, ◌^◌, ◌≤◌, ◌<◌, ℤ, pos, ◌≤ℤ◌, unsigned_abs, Bool, true, false, List, [], ◌∷◌, ◌++◌, length, length-append, append_assoc, Option, Some, None, inl, inr, refl, sym, ap, subst, ◌∙◌, arith}
-use Rattle.exact_runs.specs.Worlds.{ExactWorld, StandsExact}
-use Rattle.net_plan.specs.declared.event.Event.{Event}
-use Rattle.net_plan.specs.declared.network.Network.{Network}
-use Rattle.run_law.proofs.runs.NetworkRuns.{one_more}
-use Rattle.run_law.proofs.runs.Places.{in_left, in_parts}
-use Rattle.run_law.specs.declared.note.Note.{Note}
-use Rattle.run_law.specs.declared.note.NoteBody.{NoteBody}
+use Rattle.std.proofs.Common.{◌++◌, ◌+◌, ◌<◌, ◌^◌, ◌∙◌, ◌∷◌, ◌≡◌, ◌≤ℤ◌, ◌≤◌, ◌⊎◌, Bool, List, None, Option, Some, [], ap, append_assoc, arith, false, inl, inr}
+use Rattle.std.proofs.Common.{length, length-append, refl, subst, sym, true, unsigned_abs, ℕ, ℤ}
+use Rattle.net_plan.specs.declared.{event.Event.Event, network.Network.Network}
+use Rattle.run_law.{proofs.runs.{NetworkRuns.one_more, Places.{in_left, in_parts}}, specs.declared.note.{Note.Note, NoteBody.NoteBody}}
+use Rattle.run_law.specs.records.{Happenings.{Happening, happenings, time_of}, Order.{IsBefore, IsIn}, Ranks.rank}
+use Rattle.storm_summary.specs.{Counting.counts_of, Spread.{IsCorrection, IsGreatestSpread}, declared.counts.Counts.Counts}
+use Rattle.tte_units.specs.{Amount.amount, declared.units.Units.Units}
+use Rattle.world_drive.{proofs.Placed.{given_behind, given_from, last_of}, specs.Observing.{Befell, IsCompleteExact, IsGiven, Told, instant_of}}
+use Rattle.world_exact.specs.Worlds.{ExactWorld, StandsExact}
+use Rattle.tte_storms.{proofs.Lasting.{alike_event, alike_more, spread_grows, spread_stays}, specs.Answer.exact_scenario}
+use Rattle.tte_storms.specs.{Counts.{ArePastCorrections, IsOpenAt, IsSeen, IsSpreadSoFar, corrects}, Spreads.IsSpreadAt, declared.counting.Seen.Seen}
 use Rattle.run_law.specs.declared.note.NoteBody.TheVariants as kinds
-use Rattle.run_law.specs.records.Happenings.{Happening, happenings, time_of}
-use Rattle.run_law.specs.records.Order.{IsBefore, IsIn}
-use Rattle.run_law.specs.records.Ranks.{rank}
-use Rattle.storm_summary.specs.Counting.{counts_of}
-use Rattle.storm_summary.specs.Spread.{IsCorrection, IsGreatestSpread}
-use Rattle.storm_summary.specs.declared.counts.Counts.{Counts}
-use Rattle.tte_storms.proofs.Lasting.{alike_event, alike_more, spread_grows, spread_stays}
-use Rattle.tte_storms.specs.Answer.{exact_scenario}
-use Rattle.tte_storms.specs.Counts.{ArePastCorrections, IsOpenAt, IsSeen, IsSpreadSoFar, corrects}
-use Rattle.tte_storms.specs.Spreads.{IsSpreadAt}
-use Rattle.tte_storms.specs.declared.counting.Seen.{Seen}
-use Rattle.tte_units.specs.Amount.{amount}
-use Rattle.tte_units.specs.declared.units.Units.{Units}
-use Rattle.world_drive.proofs.Placed.{given_behind, given_from, last_of}
-use Rattle.world_drive.specs.Observing.{Befell, IsCompleteExact, IsGiven, Told, instant_of}
 
 -- ---- numbers
 
@@ -40,7 +28,8 @@ room_for network events notes note next counts is b =
 
 -- a record that corrects a clock has a rank behind events, and is a correction
 pub correction_of : (h : Happening) (body : NoteBody) → h.note.body ≡ body → corrects body ≡ true → IsCorrection h × (2 < rank body)
-correction_of h (kinds.Corrected device cycle by adjustment) is c = (record { device = device; cycle = cycle; by = by; adjustment = adjustment; is = is }, omega arith)
+correction_of h (kinds.Corrected device cycle by adjustment) is c =
+    (record { device = device; cycle = cycle; by = by; adjustment = adjustment; is = is }, omega arith)
 correction_of h (kinds.Event line what) is c = absurd cc
 correction_of h (kinds.Arrived d link cause clock) is c = absurd cc
 correction_of h (kinds.Permanent d link cause point verdict) is c = absurd cc
@@ -104,7 +93,8 @@ module _ (network : Network) (events : List Event) (notes : List Note) (note : N
       let past = before.1 world note stands in
       let none = no_correction y plain in (
         subst (λ (l : List Happening). IsGreatestSpread s l spread) (sym joined)
-            (spread_stays s s hs (y ∷ []) (amount note.time) past (λ t lt. alike_more s hs (y ∷ []) (amount note.time) t lt behind) spread (none_in none) before.0),
+            (spread_stays s s hs (y ∷ []) (amount note.time) past (λ t lt.
+            alike_more s hs (y ∷ []) (amount note.time) t lt behind) spread (none_in none) before.0),
         past_on (amount note.time) refl past none,
       )
 
@@ -242,11 +232,3 @@ seen_settled network events notes t world at old put seen new complete is spread
     }
 
 -- ---- nothing was seen
-
-pub seen_first : (network : Network) (told : Told) (seen : Seen) → seen.tally ≡ counts_of [] → seen.spread ≡ pos 0
-    → IsSeen network [] [] None told told seen
-seen_first network told seen tallied spread = record {
-  tallied = tallied;
-  spread_is = (record { bound = λ apart a. absurd a.there; reached = inl spread }, λ next note more h i. absurd i);
-  unput = refl;
-}

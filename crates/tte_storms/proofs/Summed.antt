@@ -1,44 +1,22 @@
 -- The summary of a storm's run, and its lines.
-use Rattle.std.proofs.Common.{◌≡◌, ℕ, ◌+◌, ◌^◌, ◌≤◌, ℤ, pos, ◌≤ℤ◌, FitsSigned, rules, List, [], ◌∷◌, ◌++◌, length, length-append, append_assoc, Option, Some, inl, inr, refl, sym, ap, subst, ◌∙◌, arith}
-use Rattle.std.specs.Int.{w64, w128}
-use Rattle.std.specs.Io.KnownBytes.{Appends}
-use Rattle.std.specs.Prelude.{slice_get}
-use Rattle.std.proofs.lemmas.Int.{ints}
-use Rattle.std.proofs.lemmas.List.{append-nil}
-use Rattle.drift_clock.proofs.ExactSegments.{exact_laws}
-use Rattle.drift_clock.specs.Segment.{fresh_segment, stepped_segment, segment_reading}
-use Rattle.net_plan.specs.Ranges.{IsInRange}
-use Rattle.net_plan.specs.declared.network.Network.{Network}
-use Rattle.run_law.specs.device.LocalClocks.{local}
-use Rattle.run_law.specs.records.Happenings.{Happening, happenings, time_of}
-use Rattle.run_law.specs.records.Order.{IsIn}
-use Rattle.run_law.specs.scenario.Scenarios.{Scenario}
-use Rattle.safe_runs.proofs.Clocked.{ended}
-use Rattle.safe_runs.specs.Headline.{IsWholeRun}
-use Rattle.safe_runs.specs.Under.{IsUnder}
+use Rattle.std.proofs.Common.{◌++◌, ◌+◌, ◌^◌, ◌∙◌, ◌∷◌, ◌≡◌, ◌≤ℤ◌, ◌≤◌, FitsSigned, List, Option, Some, [], ap, append_assoc, arith, inl, inr, length}
+use Rattle.std.{proofs.{Common.{length-append, pos, refl, rules, subst, sym, ℕ, ℤ}, lemmas.{Int.ints, List.append-nil}}, specs.Int.{w128, w64}}
+use Rattle.std.specs.{Io.KnownBytes.Appends, Prelude.slice_get}
+use Rattle.drift_clock.{proofs.ExactSegments.exact_laws, specs.Segment.{fresh_segment, segment_reading, stepped_segment}}
+use Rattle.net_plan.specs.{Ranges.IsInRange, declared.network.Network.Network}
+use Rattle.run_law.specs.{device.LocalClocks.local, records.{Happenings.{Happening, happenings, time_of}, Order.IsIn}, scenario.Scenarios.Scenario}
+use Rattle.safe_runs.{proofs.Clocked.ended, specs.{Headline.IsWholeRun, Under.IsUnder}}
 use Rattle.schedule_tables.specs.Rules.{KeepsRules}
 use Rattle.storm.proofs.Storms.{storms_within}
-use Rattle.storm_summary.proofs.Spreads.{within_precision}
-use Rattle.storm_summary.specs.Counting.{counts_of}
-use Rattle.storm_summary.specs.Lines.{lines_of}
-use Rattle.storm_summary.specs.Spread.{IsGreatestSpread}
-use Rattle.storm_summary.specs.declared.counts.Counts.{Counts}
+use Rattle.storm_summary.{proofs.Spreads.within_precision, specs.{Counting.counts_of, Lines.lines_of, Spread.IsGreatestSpread, declared.counts.Counts.Counts}}
 use Rattle.storm_summary.specs.declared.summary.Summary.{Summary}
-use Rattle.tte_io.specs.Faults.{next_count}
-use Rattle.tte_io.specs.Told.{AppendsFront}
-use Rattle.tte_forms.proofs.Puts.{Ends-gives, PutsLines-fails, PutsLines-more, PutsLines-none, PutsLines-still}
-use Rattle.tte_forms.proofs.networks.Answers.{answered_accepted}
-use Rattle.exact_runs.proofs.Clocks.{exact_begins}
-use Rattle.tte_forms.specs.Answering.{AnswersOne, Ends, ForOctets, Gives, GivesAnswer}
-use Rattle.tte_forms.specs.Putting.{PutsLines, Shown, WriteFails}
-use Rattle.tte_forms.specs.declared.status.Status.{Status}
-use Rattle.tte_forms.specs.declared.status.Status.TheVariants.{Done, WriteFault}
-use Rattle.tte_storms.specs.declared.counting.Seen.{Seen}
-use Rattle.tte_forms.specs.networks.Accepting.{IsNetworkAnswer, MeansAccepted}
-use Rattle.tte_storms.specs.Answer.{IsStormAnswer, exact_scenario}
-use Rattle.tte_storms.specs.Storms.{EndsStorm, HasStormed, Summarises}
-use Rattle.tte_units.specs.Amount.{amount}
-use Rattle.tte_units.specs.declared.units.Units.{Units}
+use Rattle.tte_forms.proofs.{Puts.{Ends-gives, PutsLines-fails, PutsLines-more}, networks.Answers.answered_accepted}
+use Rattle.tte_forms.specs.{Answering.{AnswersOne, Ends, ForOctets, Gives, GivesAnswer}, Putting.{PutsLines, Shown, WriteFails}, declared.status.Status.Status}
+use Rattle.tte_forms.specs.{declared.status.Status.TheVariants.{Done, WriteFault}, networks.Accepting.{IsNetworkAnswer, MeansAccepted}}
+use Rattle.tte_io.specs.{Faults.next_count, Told.AppendsFront}
+use Rattle.tte_units.specs.{Amount.amount, declared.units.Units.Units}
+use Rattle.world_exact.proofs.Clocks.{exact_begins}
+use Rattle.tte_storms.specs.{Answer.{IsStormAnswer, exact_scenario}, Storms.{EndsStorm, HasStormed, Summarises}, declared.counting.Seen.Seen}
 
 -- so many of the lines were put
 pub record HasPutLines (lines : List (List ℕ)) (count : ℕ) (old new : Shown) : Type 0 where
@@ -47,9 +25,6 @@ pub record HasPutLines (lines : List (List ℕ)) (count : ℕ) (old new : Shown)
   pub order : lines ≡ done ++ left
   pub counted : length done ≡ count
   pub puts : PutsLines done old new
-
-pub lines_none : (lines : List (List ℕ)) (s : Shown) → HasPutLines lines 0 s s
-lines_none lines s = record { done = []; left = lines; order = refl; counted = refl; puts = PutsLines-none s }
 
 -- the next of them
 next_line : (done left : List (List ℕ)) (line : List ℕ) → slice_get (done ++ left) (length done) ≡ Some line → (rest : List (List ℕ)) × (left ≡ line ∷ rest)

@@ -1,20 +1,14 @@
 -- What was counted and seen of the records of a run.
-use Rattle.std.specs.Prelude.{◌≡◌, ℕ, ◌<◌, Bool, true, false, List, [], ◌∷◌, ◌++◌, Option, Some, None}
-use Rattle.exact_runs.specs.Worlds.{ExactWorld, StandsExact}
-use Rattle.net_plan.specs.declared.event.Event.{Event}
-use Rattle.net_plan.specs.declared.network.Network.{Network}
-use Rattle.run_law.specs.declared.note.Note.{Note}
-use Rattle.run_law.specs.declared.note.NoteBody.{NoteBody}
-use Rattle.run_law.specs.declared.note.NoteBody.TheVariants as kinds
-use Rattle.run_law.specs.records.Happenings.{Happening, happenings, time_of}
-use Rattle.run_law.specs.records.Order.{IsIn}
-use Rattle.storm_summary.specs.Counting.{counts_of}
-use Rattle.storm_summary.specs.Spread.{IsCorrection}
-use Rattle.tte_storms.specs.Answer.{IsWidest}
-use Rattle.tte_storms.specs.declared.counting.Seen.{Seen}
-use Rattle.tte_units.specs.Amount.{amount}
-use Rattle.tte_units.specs.declared.units.Units.{Units}
+use Rattle.std.specs.Prelude.{◌++◌, ◌<◌, ◌∷◌, ◌≡◌, Bool, List, None, Option, Some, [], false, true, ℕ}
+use Rattle.net_plan.specs.declared.{event.Event.Event, network.Network.Network}
+use Rattle.run_law.specs.declared.note.{Note.Note, NoteBody.NoteBody}
+use Rattle.run_law.specs.records.{Happenings.{Happening, happenings, time_of}, Order.IsIn}
+use Rattle.storm_summary.specs.{Counting.counts_of, Spread.IsCorrection}
+use Rattle.tte_units.specs.{Amount.amount, declared.units.Units.Units}
 use Rattle.world_drive.specs.Observing.{Told}
+use Rattle.world_exact.specs.Worlds.{ExactWorld, StandsExact}
+use Rattle.tte_storms.specs.{Answer.IsWidest, declared.counting.Seen.Seen}
+use Rattle.run_law.specs.declared.note.NoteBody.TheVariants as kinds
 
 -- does the record say that a clock is corrected?
 abbrev pub corrects : NoteBody → Bool
@@ -28,7 +22,8 @@ ArePastCorrections network events notes =
     → (h : Happening) → IsIn h (happenings network notes) → IsCorrection h → time_of h < amount note.time
 
 -- the last of the records are of the time, a correction is one of them, and the spread is that of those before
-pub record IsOpenAt (network : Network) (events : List Event) (notes : List Note) (t : ℕ) (spread : Units) : Type 0 where
+pub record IsOpenAt (network : Network) (events : List Event) (notes : List Note) (t : ℕ) (spread : Units) : Type
+    0 where
   pub front : List Note
   pub tail : List Happening
   pub is : happenings network notes ≡ happenings network front ++ tail
@@ -41,7 +36,8 @@ pub record IsOpenAt (network : Network) (events : List Event) (notes : List Note
 
 -- the spread is that of the corrections so far, but for those of the instant that is underway
 abbrev pub IsSpreadSoFar : Network → List Event → List Note → Option ℕ → Units → Type 0
-IsSpreadSoFar network events notes None spread = IsWidest network events notes spread × ArePastCorrections network events notes
+IsSpreadSoFar network events notes None spread = IsWidest network events notes spread
+    × ArePastCorrections network events notes
 IsSpreadSoFar network events notes (Some t) spread = IsOpenAt network events notes t spread
 
 -- the records are counted, the spread is that of their corrections, and nothing was put

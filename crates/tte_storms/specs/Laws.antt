@@ -1,8 +1,6 @@
 -- That there is an answer.
-use Rattle.std.specs.Prelude.{ℕ, ◌^◌, ◌<◌, ◌≤◌, List}
-use Rattle.std.specs.List.{All}
-use Rattle.net_plan.specs.Ranges.{IsInRange}
-use Rattle.net_plan.specs.declared.network.Network.{Network}
+use Rattle.std.specs.{List.All, Prelude.{◌<◌, ◌^◌, ◌≤◌, ℕ}}
+use Rattle.net_plan.specs.{Ranges.IsInRange, declared.network.Network.Network}
 use Rattle.schedule_tables.specs.Rules.{KeepsRules}
 use Rattle.tte_forms.specs.Answering.{Answer}
 use Rattle.tte_storms.specs.Answer.{IsStormAnswer}

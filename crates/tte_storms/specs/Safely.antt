@@ -1,24 +1,19 @@
 -- What `storm` writes is the summary of a run that is safe.
-use Rattle.std.specs.Prelude.{◌≡◌, ◌⊎◌, ℕ, ◌≤ℤ◌, List, Option}
-use Rattle.drift_clock.specs.Segment.{fresh_segment, stepped_segment, segment_reading}
-use Rattle.net_plan.specs.declared.event.Event.{Event}
-use Rattle.net_plan.specs.declared.network.Network.{Network}
+use Rattle.std.specs.Prelude.{◌≡◌, ◌≤ℤ◌, ◌⊎◌, List, Option, ℕ}
+use Rattle.drift_clock.specs.Segment.{fresh_segment, segment_reading, stepped_segment}
+use Rattle.net_plan.specs.declared.{event.Event.Event, network.Network.Network}
 use Rattle.run_law.specs.declared.note.Note.{Note}
 use Rattle.safe_runs.specs.Headline.{IsWholeRun}
 use Rattle.storm.specs.Events.{IsStorm}
-use Rattle.storm_summary.specs.Counting.{counts_of}
-use Rattle.storm_summary.specs.Lines.{summary_lines}
-use Rattle.tte_forms.specs.Answering.{ForOctets}
-use Rattle.tte_forms.specs.Putting.{PutsLines, PutsSo, PutsSome, Shown, WriteFails}
-use Rattle.tte_forms.specs.declared.status.Status.{Status}
-use Rattle.tte_forms.specs.declared.status.Status.TheVariants.{Done, ReadFault, WriteFault, OutOfMemory}
-use Rattle.tte_forms.specs.networks.Accepting.{MeansAccepted}
-use Rattle.tte_forms.specs.networks.NetworkLine.{IsRefusalText}
-use Rattle.tte_storms.specs.Answer.{IsWidest}
+use Rattle.storm_summary.specs.{Counting.counts_of, Lines.summary_lines}
+use Rattle.tte_forms.specs.{Answering.ForOctets, Putting.{PutsLines, PutsSo, PutsSome, Shown, WriteFails}}
+use Rattle.tte_forms.specs.declared.status.Status.{Status, TheVariants.{Done, OutOfMemory, ReadFault, WriteFault}}
+use Rattle.tte_forms.specs.networks.{Accepting.MeansAccepted, NetworkLine.IsRefusalText}
 use Rattle.tte_units.specs.declared.units.Units.{Units}
+use Rattle.tte_storms.specs.Answer.{IsWidest}
 
--- the lines are the summary of the run of the accepted network under the storm's events, up to their end; it goes well up
--- to there, and local clocks are seen at most the precision apart
+-- the lines are the summary of the run of the accepted network under the storm's events, up to their end; it goes well
+-- up to there, and local clocks are seen at most the precision apart
 pub record IsSafeSummary (seed cycles : ℕ) (octets : List ℕ) (lines : List (List ℕ)) : Type 0 where
   pub network : Network
   pub accepted : MeansAccepted octets network

@@ -1,16 +1,14 @@
 -- How far apart the local clocks of a run are at a time.
-use Rattle.std.specs.Prelude.{◌≡◌, ◌⊎◌, ℕ, ◌<◌, ℤ, pos, ◌≤ℤ◌, List, length, Option, Some, None, IfSome, IsSomeAnd}
-use Rattle.device_machines.specs.Standing.{StandsAsDevice}
-use Rattle.drift_clock.specs.Segment.{fresh_segment, stepped_segment, segment_reading}
+use Rattle.std.specs.Prelude.{◌<◌, ◌≡◌, ◌≤ℤ◌, ◌⊎◌, IfSome, IsSomeAnd, List, None, Option, Some, length, pos, ℕ, ℤ}
+use Rattle.drift_clock.specs.Segment.{fresh_segment, segment_reading, stepped_segment}
 use Rattle.drift_world.specs.Locals.{MayShow}
 use Rattle.net_plan.specs.declared.ids.DeviceId.{DeviceId}
-use Rattle.run_law.specs.device.LocalClocks.{local}
-use Rattle.run_law.specs.law.Safety.{IsInStep}
-use Rattle.run_law.specs.records.Happenings.{Happening}
+use Rattle.run_law.specs.{device.LocalClocks.local, law.Safety.IsInStep, records.Happenings.Happening}
 use Rattle.run_law.specs.scenario.Scenarios.{Scenario}
 use Rattle.storm_summary.specs.Spread.{AreApart}
+use Rattle.world_exact.specs.Worlds.{ExactWorld}
+use Rattle.world_machines.specs.Standing.{StandsAsDevice}
 use Rattle.tte_storms.specs.declared.spreads.Ends.{Ends}
-use Rattle.exact_runs.specs.Worlds.{ExactWorld}
 
 -- the world of the program stands for some events and records, which are all up to the time
 abbrev pub MayShowExact : ExactWorld → ℕ → Type 0

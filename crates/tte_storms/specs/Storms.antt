@@ -1,27 +1,19 @@
 -- The events of a storm that were given, and what is told of their run at the end.
-use Rattle.std.specs.Prelude.{◌≡◌, ℕ, ◌+◌, ◌-◌, ◌*◌, ◌<◌, ◌≤◌, ◌≤ℤ◌, ◌⊎◌, List, [], ◌∷◌, ◌++◌, All, length, Option, Some, None}
-use Rattle.drift_clock.specs.Segment.{fresh_segment, stepped_segment, segment_reading}
-use Rattle.exact_runs.specs.Records.{AreAllRecords, HaveEnded}
+use Rattle.std.specs.Prelude.{◌*◌, ◌++◌, ◌+◌, ◌-◌, ◌<◌, ◌∷◌, ◌≡◌, ◌≤ℤ◌, ◌≤◌, ◌⊎◌, All, List, None, Option, Some, []}
+use Rattle.std.specs.Prelude.{length, ℕ}
+use Rattle.drift_clock.specs.Segment.{fresh_segment, segment_reading, stepped_segment}
 use Rattle.fault_hypothesis.specs.Watching.{Watches}
-use Rattle.net_plan.specs.Belonging.{IsOfNetwork}
-use Rattle.net_plan.specs.declared.event.Event.{Event}
-use Rattle.net_plan.specs.declared.network.Network.{Network}
-use Rattle.run_law.specs.declared.note.Note.{Note}
-use Rattle.run_law.specs.law.FirstLaws.{IsEventInRange}
+use Rattle.net_plan.specs.{Belonging.IsOfNetwork, declared.{event.Event.Event, network.Network.Network}}
+use Rattle.run_law.specs.{declared.note.Note.Note, law.FirstLaws.IsEventInRange}
 use Rattle.safe_runs.specs.Headline.{IsWholeRun}
 use Rattle.storm.specs.Events.{AreStormEvents, IsStorm}
-use Rattle.storm_summary.specs.Counting.{counts_of}
-use Rattle.storm_summary.specs.Lines.{lines_of}
-use Rattle.storm_summary.specs.declared.summary.Summary.{Summary}
-use Rattle.tte_forms.specs.Answering.{Gives}
-use Rattle.tte_forms.specs.Putting.{PutsNone, Shown}
-use Rattle.tte_forms.specs.declared.status.Status.{Status}
+use Rattle.storm_summary.specs.{Counting.counts_of, Lines.lines_of, declared.summary.Summary.Summary}
+use Rattle.tte_forms.specs.{Answering.Gives, Putting.{PutsNone, Shown}, declared.status.Status.Status}
 use Rattle.tte_forms.specs.declared.status.Status.TheVariants.{Done, OutOfMemory}
-use Rattle.tte_storms.specs.Answer.{IsWidest}
-use Rattle.tte_storms.specs.declared.counting.Seen.{Seen}
-use Rattle.tte_storms.specs.declared.events.StormEvents.{StormEvents}
 use Rattle.tte_units.specs.declared.units.Units.{Units}
 use Rattle.world_drive.specs.Sources.{MayGive}
+use Rattle.world_exact.specs.Records.{AreAllRecords, HaveEnded}
+use Rattle.tte_storms.specs.{Answer.IsWidest, declared.{counting.Seen.Seen, events.StormEvents.StormEvents}}
 
 -- these events, the first of the storm, were given and admitted
 pub record IsStormTo (network : Network) (seed cycles : ℕ) (events : List Event) (storm : StormEvents) : Type 0 where
@@ -41,7 +33,8 @@ left_of storm = 8 * storm.storm.cycles + 1 - storm.storm.given
 -- the source gives the next event of the storm; or it gave them all
 abbrev pub GivesStorm : Network → ℕ → ℕ → List Event → Option Event → StormEvents → StormEvents → Type 0
 GivesStorm network seed cycles events (Some event) old new =
-    MayGive network events event × (left_of new < left_of old) × IsStormTo network seed cycles (events ++ event ∷ []) new
+    MayGive network events event × (left_of new < left_of old)
+    × IsStormTo network seed cycles (events ++ event ∷ []) new
 GivesStorm network seed cycles events None old new =
     HaveEnded events × IsStormTo network seed cycles events new × (length events ≡ 8 * cycles + 1)
 

@@ -6,12 +6,12 @@ ghost use Rattle.world_drive.specs.declared.observing.Cut.{Cut as CutValue};
 
 use crate::spreads::spread_at;
 use drift_world::{EventNote, Given};
-use exact_runs::ExactWorld;
 use net_plan::{Event, Network};
 use storm_summary::{Counted, Tally};
 use tte_io::Sink;
 use tte_units::Units;
 use world_drive::{Cut, Observer};
+use world_exact::ExactWorld;
 use world_state::bodies::Kind;
 
 /// What was seen of a run. It puts nothing.

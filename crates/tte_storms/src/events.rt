@@ -1,6 +1,5 @@
-ghost use Rattle.std.specs.Prelude.{◌≡◌, ◌≤◌, ◌+◌, ◌*◌, ℕ, List, [], length};
-ghost use Rattle.net_plan.specs.declared.event.Event.{Event as EventValue};
-ghost use Rattle.net_plan.specs.declared.network.Network.{Network as NetworkValue};
+ghost use Rattle.std.specs.Prelude.{◌*◌, ◌+◌, ◌≡◌, ◌≤◌, List, [], length, ℕ};
+ghost use Rattle.net_plan.specs.declared.{event.Event.Event as EventValue, network.Network.Network as NetworkValue};
 ghost use Rattle.tte_storms.specs.Storms.{GivesStorm, IsStormTo, left_of};
 
 use fault_hypothesis::Watch;
@@ -49,9 +48,11 @@ impl<'a> StormEvents<'a> {
 }
 
 impl<'a, K: Sink> Events<(), K, ()> for StormEvents<'a> {
-    ghost gave = { λ network first origin events from it. IsStormTo network origin.storm.seed origin.storm.cycles events it };
+    ghost gave = { λ network first origin events from it.
+        IsStormTo network origin.storm.seed origin.storm.cycles events it };
 
-    ghost ended = { λ network first origin events from it. IsStormTo network origin.storm.seed origin.storm.cycles events it
+    ghost ended = { λ network first origin events from it.
+        IsStormTo network origin.storm.seed origin.storm.cycles events it
         × (length events ≡ 8 * origin.storm.cycles + 1) };
 
     ghost stopped = { λ network first origin events stop from it before after. ⊥ };

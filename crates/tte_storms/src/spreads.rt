@@ -1,17 +1,14 @@
-ghost use Rattle.std.specs.Prelude.{◌≡◌, ◌⊎◌, ◌^◌, ◌≤ℤ◌, pos, List, IfSome, IsSomeAnd};
+ghost use Rattle.std.specs.Prelude.{◌^◌, ◌≡◌, ◌≤ℤ◌, ◌⊎◌, IfSome, IsSomeAnd, List, pos};
 ghost use Rattle.drift_world.specs.Locals.{IsWide};
-ghost use Rattle.net_plan.specs.Ranges.{IsInRange};
-ghost use Rattle.net_plan.specs.declared.event.Event.{Event as EventValue};
-ghost use Rattle.run_law.specs.declared.note.Note.{Note as NoteValue};
-ghost use Rattle.run_law.specs.records.Happenings.{happenings};
-ghost use Rattle.tte_storms.specs.Answer.{exact_scenario};
-ghost use Rattle.tte_storms.specs.Spreads.{IsSpreadAt, MayShowExact};
-ghost use Rattle.world_drive.specs.Observing.{IsCompleteExact};
+ghost use Rattle.net_plan.specs.{Ranges.IsInRange, declared.event.Event.Event as EventValue};
+ghost use Rattle.run_law.specs.{declared.note.Note.Note as NoteValue, records.Happenings.happenings};
 ghost use Rattle.tte_units.specs.Amount.{amount};
+ghost use Rattle.world_drive.specs.Observing.{IsCompleteExact};
+ghost use Rattle.tte_storms.specs.{Answer.exact_scenario, Spreads.{IsSpreadAt, MayShowExact}};
 
-use exact_runs::ExactWorld;
 use net_plan::{DeviceId, Network};
 use tte_units::Units;
+use world_exact::ExactWorld;
 
 /// The least and the greatest of some local clocks, in units of 2^-16 ns.
 #[derive(Clone, Copy)]

@@ -1,12 +1,7 @@
-ghost use Rattle.std.specs.Prelude.{◌≡◌, ◌⊎◌, ◌≤◌};
-ghost use Rattle.tte_forms.specs.Answering.{AnswersOne};
-ghost use Rattle.tte_forms.specs.Faults.{HasCause, IsWanted, PutFailed, ReadFailed};
-ghost use Rattle.tte_forms.specs.Putting.{Over};
-ghost use Rattle.tte_forms.specs.networks.Accepting.{IsNetworkAnswer};
-ghost use Rattle.tte_forms.specs.networks.Checking.{IsCheckStatus};
-ghost use Rattle.tte_storms.specs.Answer.{IsStormAnswer};
-ghost use Rattle.tte_storms.specs.Safely.{SummarisesSafely};
-ghost use Rattle.tte_storms.specs.Storms.{EndsStorm};
+ghost use Rattle.std.specs.Prelude.{◌≡◌, ◌≤◌, ◌⊎◌};
+ghost use Rattle.tte_forms.specs.{Answering.AnswersOne, Faults.{HasCause, IsWanted, PutFailed, ReadFailed}};
+ghost use Rattle.tte_forms.specs.{Putting.Over, networks.{Accepting.IsNetworkAnswer, Checking.IsCheckStatus}};
+ghost use Rattle.tte_storms.specs.{Answer.IsStormAnswer, Safely.SummarisesSafely, Storms.EndsStorm};
 
 use crate::summing::{put_summary, summary_of};
 use schedule_tables::Accepted;

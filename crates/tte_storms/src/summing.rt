@@ -1,9 +1,7 @@
 ghost use Rattle.std.specs.Prelude.{◌≡◌, ◌≤◌, IfOk, OnOk};
 ghost use Rattle.net_plan.specs.Ranges.{IsInRange};
 ghost use Rattle.storm_summary.specs.Lines.{lines_of};
-ghost use Rattle.tte_forms.specs.Answering.{Gives};
-ghost use Rattle.tte_forms.specs.Faults.{IsWanted, PutFailed};
-ghost use Rattle.tte_forms.specs.Putting.{Over, PutsNone};
+ghost use Rattle.tte_forms.specs.{Answering.Gives, Faults.{IsWanted, PutFailed}, Putting.{Over, PutsNone}};
 ghost use Rattle.tte_storms.specs.Storms.{HasStormed, Summarises};
 
 use crate::counting::Seen;

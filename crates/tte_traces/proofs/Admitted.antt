@@ -1,23 +1,13 @@
 -- The events admitted from the octets of a trace.
-use Rattle.std.proofs.Common.{◌≡◌, ℕ, List, [], ◌∷◌, ◌++◌, length, pos, ◌≤ℤ◌, refl, sym, ap, subst, ◌∙◌, arith, append_assoc}
-use Rattle.std.proofs.lemmas.List.{append-nil}
-use Rattle.std.proofs.lemmas.List.Quantifiers.{Any-push}
-use Rattle.drift_world.specs.Running.{last_time}
-use Rattle.net_plan.specs.declared.event.Event.{Event}
-use Rattle.net_plan.specs.declared.event.What.TheVariants.{End}
-use Rattle.net_plan.specs.declared.network.Network.{Network}
-use Rattle.run_law.specs.scenario.Hypothesis.{IsWithinHypothesis}
-use Rattle.run_law.specs.declared.outside.Outside.TheVariants.{Order}
-use Rattle.trace_text.specs.EventReading.{event_read}
-use Rattle.tte_io.specs.Line.{first_line}
-use Rattle.tte_traces.specs.Lines.{AreAdmitted, IsAdmitted, behind_lines}
-use Rattle.tte_units.specs.Amount.{amount}
+use Rattle.tte_traces.proofs.Words.{◌++◌, ◌∙◌, ◌∷◌, ◌≡◌, AreAdmitted, End, Event, IsAdmitted, List, Network, [], amount, ap, append-nil, append_assoc, arith}
+use Rattle.tte_traces.proofs.Words.{behind_lines, event_read, first_line, last_time, length, refl, subst, sym, ℕ}
+use Rattle.std.proofs.{Common.{◌≤ℤ◌, pos}, lemmas.List.Quantifiers.Any-push}
+use Rattle.run_law.specs.{declared.outside.Outside.TheVariants.Order, scenario.Hypothesis.IsWithinHypothesis}
 use Rattle.trace_text.proofs.ReadTimes.{event_time}
-use Rattle.tte_traces.proofs.EventOrder.{AreInOrder, IsInOrder}
-use Rattle.tte_traces.proofs.Faults.{one_event}
-use Rattle.exact_runs.proofs.Events.{parted, last_is}
 use Rattle.tte_lemmas.proofs.Lists.{fronts, none_before}
 use Rattle.world_drive.proofs.Order.{not_less, sizes}
+use Rattle.world_exact.proofs.Events.{last_is, parted}
+use Rattle.tte_traces.proofs.{EventOrder.{AreInOrder, IsInOrder}, Faults.one_event}
 
 -- ---- no events
 
@@ -31,7 +21,8 @@ front_admitted network octets events event others all before behind e is =
     all before (behind ++ others) e
     (sym (append_assoc events (event ∷ []) others) ∙ ap (λ (l : List Event). l ++ others) is ∙ append_assoc before (e ∷ behind) others)
 
-pub events_admitted : (network : Network) (octets : List ℕ) (events others : List Event) → AreAdmitted network octets (events ++ others) → AreAdmitted network octets events
+pub events_admitted : (network : Network) (octets : List ℕ) (events others : List Event) → AreAdmitted network octets (events ++ others)
+    → AreAdmitted network octets events
 events_admitted network octets events others all before behind e is =
     all before (behind ++ others) e (ap (λ (l : List Event). l ++ others) is ∙ append_assoc before (e ∷ behind) others)
 

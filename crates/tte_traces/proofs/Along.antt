@@ -1,15 +1,8 @@
 -- The observer of a report puts its lines along the run.
-use Rattle.std.proofs.Common.{ℕ, List, Option, Some, None, inl, inr, refl, sym, subst}
-use Rattle.net_plan.specs.declared.event.Event.{Event}
-use Rattle.net_plan.specs.declared.network.Network.{Network}
-use Rattle.report_text.specs.NoteLine.{report_of}
-use Rattle.run_law.specs.declared.note.Note.{Note}
-use Rattle.tte_traces.proofs.Fronts.{answer_begins, ended_begins, next_begins}
-use Rattle.tte_traces.specs.Along.{IsFrontOf, IsShortAt, PutsAlong}
-use Rattle.tte_traces.specs.Answer.{IsTraceAnswer, report_lines}
-use Rattle.tte_traces.specs.Lines.{AreAdmitted}
-use Rattle.tte_traces.specs.Report.{PutsReport, StopsReport}
+use Rattle.tte_traces.proofs.Words.{AreAdmitted, Event, IsFrontOf, IsTraceAnswer, List, Network, None, Note, Option, Some, inl, inr, refl, report_lines}
+use Rattle.tte_traces.proofs.Words.{report_of, subst, sym, ℕ}
 use Rattle.world_drive.specs.Observing.{Sees, Stops}
+use Rattle.tte_traces.{proofs.Fronts.{answer_begins, ended_begins, next_begins}, specs.{Along.{IsShortAt, PutsAlong}, Report.{PutsReport, StopsReport}}}
 
 -- what it sees
 abbrev pub report_sees : {O : Type 0} → Sees O

@@ -1,32 +1,11 @@
 -- The answers for a network under the octets of a trace: for each kind of lines there is one.
-use Rattle.std.proofs.Common.{◌≡◌, ◌⊎◌, ℕ, ◌+◌, List, [], ◌∷◌, ◌++◌, length, arith, sym, ap, subst, ◌∙◌, inl, inr, append_assoc}
-use Rattle.std.proofs.lemmas.List.{append-nil, map-append}
-use Rattle.net_plan.specs.declared.event.Event.{Event}
-use Rattle.net_plan.specs.declared.network.Network.{Network}
-use Rattle.report_text.specs.NoteLine.{note_line, report_of}
-use Rattle.run_law.specs.records.Order.{IsBefore}
-use Rattle.run_law.specs.runs.DueRecords.{EndsAt}
-use Rattle.run_law.specs.declared.note.Note.{Note}
-use Rattle.run_law.proofs.runs.NetworkRuns.{run_is_one, earlier_run_is_front}
-use Rattle.run_law.proofs.runs.Places.{before_next_time}
-use Rattle.tte_forms.specs.Answering.{Answer}
-use Rattle.exact_runs.specs.Records.{AreAllRecords, AreRecordsBefore, AreRecordsSoFar, HaveEnded, clock_reading}
+use Rattle.tte_traces.proofs.Words.{◌++◌, ◌+◌, ◌∙◌, ◌∷◌, ◌≡◌, ◌⊎◌, Answer, AnswersAll, AnswersFault, AreAdmitted, AreAllRecords, AreRecordsBefore}
+use Rattle.tte_traces.proofs.Words.{AreRecordsSoFar, Done, EndsAt, Event, IsFault, IsTraceAnswer, LinesOf, List, Network, Note, TraceFault, Units, [], amount}
+use Rattle.tte_traces.proofs.Words.{ap, behind_events, behind_lines, clock_reading, fault_lines, fault_status, inl, inr, last_time, length, subst, sym, ℕ}
+use Rattle.run_law.proofs.runs.NetworkRuns.{run_is_one}
+use Rattle.world_exact.proofs.Events.{ended_at}
+use Rattle.tte_traces.proofs.{Admitted.{IsStopped, admitted_in_order, stopped_one}, Faults.{end_has_no_fault, fault_one, fault_stops}}
 pub use Rattle.tte_traces.specs.Along.{BeginWith, IsAllAdmitted}
-use Rattle.tte_traces.specs.Answer.{AnswersAll, AnswersFault, IsRunAnswer, IsTraceAnswer, LinesOf, report_lines}
-use Rattle.tte_traces.specs.FaultLine.{fault_lines, fault_status}
-use Rattle.tte_traces.specs.Lines.{AreAdmitted, IsFault, behind_lines}
-use Rattle.tte_traces.specs.declared.fault.TraceFault.{TraceFault}
-use Rattle.tte_forms.specs.declared.status.Status.TheVariants.{Done}
-use Rattle.tte_units.specs.Amount.{amount}
-use Rattle.tte_units.specs.declared.units.Units.{Units}
-use Rattle.exact_runs.proofs.Events.{ended_at}
-use Rattle.tte_traces.proofs.Admitted.{IsStopped, admitted_in_order, admitted_one, front_admitted, stopped_one}
-use Rattle.tte_traces.proofs.EventOrder.{last_before, last_of}
-use Rattle.tte_traces.proofs.Lasting.{lasts}
-use Rattle.world_drive.proofs.Earlier.{no_further, so_far_at}
-use Rattle.tte_traces.proofs.Faults.{end_has_no_fault, fault_one, fault_stops}
-use Rattle.drift_world.specs.Running.{behind_events, last_time}
-use Rattle.world_law.specs.source.Applying.{place_of_event}
 
 -- ---- where an answer stops
 

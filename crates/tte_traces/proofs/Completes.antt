@@ -1,18 +1,10 @@
 -- The answer of `run` is one, and valid input is answered to its end.
-use Rattle.std.proofs.Common.{◌≡◌, ℕ, List, ◌∙◌, inl, inr}
-use Rattle.net_plan.specs.declared.network.Network.{Network}
-use Rattle.net_plan.specs.declared.event.Event.{Event}
+use Rattle.tte_traces.proofs.Words.{◌∙◌, ◌≡◌, Answer, Event, GivesOne, IsRunAnswer, IsTraceAnswer, LinesOf, List, MeansAccepted, Network, Shown, Status, inl}
+use Rattle.tte_traces.proofs.Words.{inr, report_lines, ℕ}
 use Rattle.schedule_checker.specs.Refusals.{RefusalIsOne}
-use Rattle.tte_forms.specs.networks.Accepting.{MeansAccepted, IsNetworkAnswer}
-use Rattle.tte_forms.specs.Answering.{Answer, GivesAnswer, GivesOne, IsDone}
-use Rattle.tte_forms.specs.Putting.{Shown}
-use Rattle.tte_traces.specs.Answer.{IsRunAnswer, IsTraceAnswer, LinesOf, report_lines}
-use Rattle.tte_forms.specs.declared.status.Status.{Status}
-use Rattle.tte_forms.specs.declared.status.Status.TheVariants.{ReadFault, WriteFault}
-use Rattle.tte_forms.proofs.OneAnswers.{answered_done}
-use Rattle.tte_forms.proofs.networks.Answers.{accepted_alone, network_answer_one}
-use Rattle.tte_traces.proofs.Answers.{IsAllAdmitted, trace_answer_one}
-use Rattle.tte_traces.proofs.Given.{all_done}
+use Rattle.tte_forms.{proofs.{OneAnswers.answered_done, networks.Answers.{accepted_alone, network_answer_one}}, specs.Answering.{GivesAnswer, IsDone}}
+use Rattle.tte_forms.specs.{declared.status.Status.TheVariants.{ReadFault, WriteFault}, networks.Accepting.IsNetworkAnswer}
+use Rattle.tte_traces.proofs.{Answers.{IsAllAdmitted, trace_answer_one}, Given.all_done}
 
 module _ (lines : LinesOf) where
   -- the octets of a network file and of a trace have one answer

@@ -1,17 +1,8 @@
 -- What a run that was cut short has put is a front of the report of a run that is safe.
-use Rattle.std.proofs.Common.{◌≡◌, ℕ, List}
-use Rattle.net_plan.specs.Ranges.{IsInRange}
-use Rattle.net_plan.specs.declared.network.Network.{Network}
-use Rattle.tte_forms.specs.Answering.{GivesOne}
-use Rattle.tte_forms.specs.declared.status.Status.{Status}
+use Rattle.tte_traces.proofs.Words.{◌≡◌, GivesOne, IsInRange, IsRunAnswer, List, MeansAccepted, Network, Shown, Status, ℕ}
+use Rattle.tte_forms.{proofs.OneAnswers.{fails_given, one_of, some_given}, specs.Putting.{PutsSo, PutsSome, WriteFails}}
 use Rattle.tte_forms.specs.declared.status.Status.TheVariants.{WriteFault}
-use Rattle.tte_forms.specs.networks.Accepting.{MeansAccepted}
-use Rattle.tte_traces.specs.Answer.{IsRunAnswer}
-use Rattle.tte_forms.specs.Putting.{PutsSo, PutsSome, Shown, WriteFails}
-use Rattle.tte_traces.specs.Safely.{IsSafeText}
-use Rattle.tte_forms.proofs.OneAnswers.{fails_given, one_of, some_given}
-use Rattle.tte_traces.proofs.Existing.{run_answers_exist}
-use Rattle.tte_traces.proofs.Texts.{safe_text}
+use Rattle.tte_traces.{proofs.{Existing.run_answers_exist, Texts.safe_text}, specs.Safely.IsSafeText}
 
 -- what was put of the answer where a read failed or memory ran out
 pub puts_some : (octets trace : List ℕ) (network : Network) (status : Status) (old new : Shown) → (status ≡ WriteFault → ⊥) → IsInRange network

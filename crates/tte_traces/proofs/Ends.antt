@@ -1,56 +1,26 @@
 -- How a run under a trace ends, by how its drive did.
-use Rattle.std.proofs.Common.{◌≡◌, ◌⊎◌, ◌+◌, ℕ, List, [], ◌∷◌, ◌++◌, length, Option, Some, None, Err, inl, inr, refl, sym, ap, ◌∙◌, subst}
-use Rattle.exact_runs.proofs.Given.{if_some}
-use Rattle.exact_runs.specs.Records.{AreRecordsSoFar}
-use Rattle.exact_runs.specs.Worlds.{ExactWorld}
-use Rattle.net_plan.specs.declared.event.Event.{Event}
-use Rattle.net_plan.specs.declared.network.Network.{Network}
-use Rattle.run_law.specs.declared.note.Note.{Note}
+use Rattle.tte_traces.proofs.Words.{◌++◌, ◌+◌, ◌∙◌, ◌∷◌, ◌≡◌, ◌⊎◌, After, Answer, AreAdmitted, AreRecordsSoFar, Done, Err, Event, ForOctets, GaveEvents, Gives}
+use Rattle.tte_traces.proofs.Words.{GivesOne, IsFault, IsFrontOf, IsTraceAnswer, Line, LinesOf, List, Long, Missing, Network, None, Note, Option, Outlaw}
+use Rattle.tte_traces.proofs.Words.{PutsLines, ReadsOn, Rose, RunEnds, Shown, Some, Status, TakesFew, TooMany, Trace, TraceFault, TraceStop, [], ap}
+use Rattle.tte_traces.proofs.Words.{behind_lines, fault_answer, fault_status, for_more, inl, inr, length, pending, refl, shown_by, subst, ℕ}
 use Rattle.std.proofs.KnownBytes.{Appends-trans}
-use Rattle.tte_forms.proofs.Octets.{for_more}
-use Rattle.tte_forms.proofs.Puts.{PutsLines-still}
-use Rattle.tte_forms.specs.Answering.{Answer, Ends, ForOctets, Gives, GivesOne}
-use Rattle.tte_forms.specs.Faults.{HasCause}
-use Rattle.tte_forms.specs.Putting.{PutsLines, Shown, StopsWriting, shown_by}
-use Rattle.tte_forms.specs.declared.status.Status.{Status}
-use Rattle.tte_forms.specs.declared.status.Status.TheVariants.{Done, OutOfMemory, ReadFault, WriteFault}
-use Rattle.tte_io.specs.Faults.{Rose}
-use Rattle.tte_io.specs.ReaderState.{pending}
+use Rattle.tte_forms.{proofs.Puts.PutsLines-still, specs.{Answering.Ends, Faults.HasCause, Putting.StopsWriting}}
+use Rattle.tte_forms.specs.declared.status.Status.TheVariants.{OutOfMemory, ReadFault, WriteFault}
+use Rattle.world_drive.specs.{Driving.{DrivesAll, DrivesCut, DrivesSoFar, HasSeenSoFar, IsCutAt}, Observing.{Sees, Stops, Told, told_by}}
+use Rattle.world_drive.specs.declared.observing.Cut.{Cut}
+use Rattle.world_exact.{proofs.Given.if_some, specs.Worlds.ExactWorld}
+use Rattle.tte_traces.proofs.{Admitted.events_admitted, Answers.IsAllAdmitted, Given.{faulty_given, front_failed, front_given, whole_failed, whole_given}}
+use Rattle.tte_traces.{proofs.{Streams.{for_trace, writes_answer, writes_none, writes_nothing}, Taken.gave_some}, specs.Along.{IsShortAt, PutsAlong}}
+use Rattle.tte_traces.specs.{Report.{StopsLines, shown_as}, Streaming.{ForTrace, StopsBehindLines, TakesLittle, WritesSome}}
+use Rattle.tte_traces.specs.Taking.{EndedBehind, IsStopAt, StoppedBehind, TakesFewFrom}
 use Rattle.tte_io.specs.declared.ends.Sink as sinks
 use Rattle.tte_io.specs.declared.ends.Source as sources
-use Rattle.tte_traces.proofs.Admitted.{events_admitted}
-use Rattle.tte_traces.proofs.Answers.{IsAllAdmitted}
-use Rattle.tte_traces.specs.Along.{IsFrontOf, IsShortAt, PutsAlong}
-use Rattle.tte_traces.proofs.Given.{faulty_given, front_failed, front_given, whole_failed, whole_given}
-use Rattle.tte_traces.proofs.Taken.{gave_some}
-use Rattle.tte_traces.proofs.Streams.{for_trace, writes_answer, writes_none, writes_nothing}
-use Rattle.tte_traces.specs.Answer.{IsTraceAnswer, LinesOf}
-use Rattle.tte_traces.specs.Ending.{RunEnds}
-use Rattle.tte_traces.specs.FaultLine.{fault_status}
-use Rattle.tte_traces.specs.Following.{ReadsOn, TakesFew}
-use Rattle.tte_traces.specs.Lines.{AreAdmitted, IsFault, behind_lines}
-use Rattle.tte_traces.specs.Refusing.{fault_answer}
-use Rattle.tte_traces.specs.Report.{StopsLines, shown_as}
-use Rattle.tte_traces.specs.Streaming.{ForTrace, StopsBehindLines, TakesLittle, WritesSome}
-use Rattle.tte_traces.specs.Taking.{EndedBehind, GaveEvents, IsStopAt, StoppedBehind, TakesFewFrom}
-use Rattle.tte_traces.specs.declared.fault.TraceFault.{TraceFault}
-use Rattle.tte_traces.specs.declared.fault.TraceFault.TheVariants.{Missing, TooMany, After, Long, Line, Event as Outlaw}
-use Rattle.tte_traces.specs.declared.fault.TraceStop.{TraceStop}
 use Rattle.tte_traces.specs.declared.fault.TraceStop.TheVariants as ends
-use Rattle.tte_traces.specs.declared.lines.Trace.{Trace}
-use Rattle.world_drive.specs.Driving.{DrivesAll, DrivesCut, DrivesSoFar, HasSeenSoFar, IsCutAt}
-use Rattle.world_drive.specs.Observing.{Sees, Stops, Told, told_by}
-use Rattle.world_drive.specs.declared.observing.Cut.{Cut}
 use Rattle.world_drive.specs.declared.observing.Cut.TheVariants as cuts
 
 -- little was taken of the trace
 abbrev pub Little : LinesOf → Network → Option (List ℕ) → Option (List ℕ) → Shown → Shown → Type 0
 Little lines network first after old new = ForTrace first after (λ octets rest. TakesLittle lines network octets rest old new)
-
--- no read failed where a put failed, memory ran out, or the trace was refused
-no_read : {X Y : Type 0} (status : Status) → ((status ≡ WriteFault) × X) ⊎ ((status ≡ OutOfMemory) × Y) → status ≡ ReadFault → ⊥
-no_read status (inl w) is = let e = w.0 in cc
-no_read status (inr m) is = let e = m.0 in cc
 
 -- the status is that of the fault, or a put failed
 abbrev pub IsStatusOf : TraceFault → Status → Type 0 → Type 0
@@ -64,22 +34,6 @@ fault_no_read After status (inl e) is = cc
 fault_no_read Long status (inl e) is = cc
 fault_no_read (Line refusal) status (inl e) is = cc
 fault_no_read (Outlaw outside) status (inl e) is = cc
-
-fault_write : {X : Type 0} (fault : TraceFault) (status : Status) → IsStatusOf fault status X → status ≡ WriteFault → X
-fault_write fault status (inr w) is = w.1
-fault_write Missing status (inl e) is = absurd cc
-fault_write TooMany status (inl e) is = absurd cc
-fault_write After status (inl e) is = absurd cc
-fault_write Long status (inl e) is = absurd cc
-fault_write (Line refusal) status (inl e) is = absurd cc
-fault_write (Outlaw outside) status (inl e) is = absurd cc
-
--- what is answered about a fault has a cause where writing failed
-pub fault_cause : {X Y Z : Type 0} (fault : TraceFault) (status : Status) → IsStatusOf fault status X → (X → Z) → HasCause status Y Z
-fault_cause fault status which into = record {
-  read = λ is. absurd (fault_no_read fault status which is);
-  write = λ is. into (fault_write fault status which is);
-}
 
 -- ---- what is told of a sink is what it shows
 
@@ -156,7 +110,8 @@ memory_cause status old now new (inr w) same = record {
 -- ---- the lines that an observer puts of a run
 
 module _ {B K O : Type 0} (source : sources.Ghosts B) (sink : sinks.Ghosts K) (begun : O) (see : Sees O) (stops : Stops O)
-    (lines : LinesOf) (Is : List ℕ → Network → Answer → Type 0) (along : PutsAlong begun see stops lines Is) (network : Network) (first : B) (origin : Trace) (now : B)
+    (lines : LinesOf) (Is : List ℕ → Network → Answer → Type 0) (along : PutsAlong begun see stops lines Is) (network : Network) (first : B) (origin : Trace)
+    (now : B)
     (trace : Trace) (old put : K) where
   -- one of the answers was given, and little was taken
   abbrev pub EndsSo : Status → Shown → Type 0
@@ -177,7 +132,8 @@ module _ {B K O : Type 0} (source : sources.Ghosts B) (sink : sinks.Ghosts K) (b
 
   -- ---- the trace stopped
 
-  module _ (observer : O) (stop : TraceStop) (d : DrivesSoFar sink (trace_stopped source sink) see network first origin stop now trace begun observer old put) where
+  module _ (observer : O) (stop : TraceStop) (d : DrivesSoFar sink (trace_stopped source sink) see network first origin stop now trace begun observer old
+      put) where
     admits_so_far : Admits source network first d.events now
     admits_so_far octets told = let a = d.stopped.reads octets told in (a.0, a.1, a.2)
 
@@ -367,6 +323,7 @@ module _ {B K O : Type 0} (source : sources.Ghosts B) (sink : sinks.Ghosts K) (b
             (seen_so_far source sink begun see stops lines (IsTraceAnswer lines) along network first origin now trace old put observer stop d)
             (subst (λ (n : ℕ). Gives (fault_answer n fault) status (shown_by sink put) (shown_by sink new)) count gives));
         cut = λ read. absurd (fault_no_read fault status which read);
-        little = little_at source sink begun see stops lines (IsTraceAnswer lines) along network first origin now trace old put observer stop d (shown_by sink new)
+        little = little_at source sink begun see stops lines (IsTraceAnswer lines) along network first origin now trace old put observer stop d
+            (shown_by sink new)
             (writes_answer (fault_answer line fault) status (shown_by sink put) (shown_by sink new) gives);
       }

@@ -1,10 +1,7 @@
 -- Events in order.
-use Rattle.std.proofs.Common.{◌≡◌, ℕ, zero, suc, ◌≤◌, List, [], ◌∷◌, ◌++◌, Some, pos, ◌≤ℤ◌, slice_get, fold, subst, arith}
-use Rattle.net_plan.specs.declared.event.Event.{Event}
-use Rattle.run_law.specs.runs.DueRecords.{EndsAt}
-use Rattle.tte_units.specs.Amount.{amount, units_of}
-use Rattle.tte_units.specs.declared.units.Units.{Units}
-use Rattle.drift_world.specs.Running.{last_time}
+use Rattle.tte_traces.proofs.Words.{◌++◌, ◌∷◌, ◌≡◌, ◌≤◌, EndsAt, Event, List, Some, Units, [], amount, arith, last_time, subst, suc, zero, ℕ}
+use Rattle.std.proofs.Common.{◌≤ℤ◌, fold, pos, slice_get}
+use Rattle.tte_units.specs.Amount.{units_of}
 
 -- the times of the events are from this on, and none is earlier than one before it
 abbrev pub IsInOrder : ℕ → List Event → Type 0
@@ -29,18 +26,6 @@ not_earlier least [] behind event zero e o is =
     let same : event ≡ e = cc in subst (λ (x : Event). amount event.time ≤ amount x.time) same (omega arith)
 not_earlier least [] behind event (suc k) e o is = none_less (amount event.time) behind k e o.2 is
 not_earlier least (d ∷ front) behind event k e o is = not_earlier (amount d.time) front behind event k e o.2 is
-
--- nor is one before it later
-pub not_later : (least : ℕ) (front behind : List Event) (event : Event) (k : ℕ) (d : Event) → IsInOrder least (front ++ event ∷ behind)
-    → slice_get front k ≡ Some d → amount d.time ≤ amount event.time
-not_later least [] behind event k d o is = absurd cc
-not_later least (f ∷ front) behind event zero d o is =
-    let same : f ≡ d = cc in subst (λ (g : Event). amount g.time ≤ amount event.time) same (at_least (amount f.time) front behind event o.2)
-  where
-    at_least : (least : ℕ) (es behind : List Event) (e : Event) → IsInOrder least (es ++ e ∷ behind) → least ≤ amount e.time
-    at_least least [] behind e o = o.1
-    at_least least (c ∷ es) behind e o = let more = at_least (amount c.time) es behind e o.2 in omega (arith, o.1, more)
-not_later least (f ∷ front) behind event (suc k) d o is = not_later (amount f.time) front behind event k d o.2 is
 
 -- the time of the last event, or this where there is none
 abbrev last_from : Units → List Event → Units

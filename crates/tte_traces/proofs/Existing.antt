@@ -1,22 +1,10 @@
 -- There is an answer for each trace.
-use Rattle.std.proofs.Common.{◌≡◌, ℕ, ◌+◌, List, [], ◌∷◌, ◌++◌, length, refl, inl, inr}
-use Rattle.net_plan.specs.Ranges.{IsInRange}
-use Rattle.net_plan.specs.declared.event.Event.{Event}
-use Rattle.net_plan.specs.declared.network.Network.{Network}
-use Rattle.run_law.specs.declared.note.Note.{Note}
+use Rattle.tte_traces.proofs.Words.{◌++◌, ◌+◌, ◌∷◌, ◌≡◌, Answer, AnswersAll, AnswersFault, AreAllRecords, AreRecordsBefore, Done, Event, HaveEnded, IsFault}
+use Rattle.tte_traces.proofs.Words.{IsInRange, IsTraceAnswer, LinesOf, List, Network, Note, TraceFault, [], amount, behind_events, behind_lines, clock_reading}
+use Rattle.tte_traces.proofs.Words.{fault_lines, fault_status, inl, inr, last_time, length, refl, report_lines, ℕ}
 use Rattle.run_existence.proofs.Existence.{runs_exist_to_each_mark}
-use Rattle.drift_world.specs.Running.{behind_events, last_time}
-use Rattle.exact_runs.proofs.Events.{ended_at}
-use Rattle.exact_runs.specs.Records.{AreAllRecords, AreRecordsBefore, HaveEnded, clock_reading}
-use Rattle.tte_forms.specs.Answering.{Answer}
-use Rattle.tte_forms.specs.declared.status.Status.TheVariants.{Done}
-use Rattle.tte_traces.specs.Answer.{AnswersAll, AnswersFault, IsTraceAnswer, LinesOf, report_lines}
-use Rattle.tte_traces.specs.FaultLine.{fault_lines, fault_status}
-use Rattle.tte_traces.specs.Lines.{IsFault, behind_lines}
-use Rattle.tte_traces.specs.declared.fault.TraceFault.{TraceFault}
-use Rattle.tte_units.specs.Amount.{amount}
-use Rattle.tte_traces.proofs.Splits.{split}
-use Rattle.tte_traces.specs.Laws.{RunAnswersExist}
+use Rattle.world_exact.proofs.Events.{ended_at}
+use Rattle.tte_traces.{proofs.Splits.split, specs.Laws.RunAnswersExist}
 
 -- ---- records
 

@@ -1,18 +1,9 @@
 -- The fault of a trace behind the events admitted is one.
-use Rattle.std.proofs.Common.{◌≡◌, ℕ, ◌<◌, ◌≤◌, List, [], Ok, Err, refl, ap, subst, inl, inr, arith}
+use Rattle.tte_traces.proofs.Words.{◌<◌, ◌≡◌, ◌≤◌, After, Err, Event, HaveEnded, IsAdmitted, IsFault, Line, List, Long, Missing, Network, Ok, Outlaw, Read}
+use Rattle.tte_traces.proofs.Words.{TooMany, TraceFault, [], ap, arith, event_read, first_line, inl, inr, refl, subst, ℕ}
 use Rattle.std.proofs.lemmas.Bool.{cases_order}
-use Rattle.net_plan.specs.declared.event.Event.{Event}
-use Rattle.net_plan.specs.declared.network.Network.{Network}
-use Rattle.run_law.specs.scenario.Hypothesis.{IsOutsideBy, IsWithinHypothesis}
-use Rattle.run_law.proofs.scenario.Decided.{hypothesis_is_decided}
-use Rattle.trace_text.specs.EventReading.{event_read}
-use Rattle.trace_text.specs.Steps.{Read}
+use Rattle.run_law.{proofs.scenario.Decided.hypothesis_is_decided, specs.scenario.Hypothesis.{IsOutsideBy, IsWithinHypothesis}}
 use Rattle.trace_text.specs.declared.refusal.LineRefusal.{LineRefusal}
-use Rattle.tte_io.specs.Line.{first_line}
-use Rattle.exact_runs.specs.Records.{HaveEnded}
-use Rattle.tte_traces.specs.Lines.{IsAdmitted, IsFault}
-use Rattle.tte_traces.specs.declared.fault.TraceFault.{TraceFault}
-use Rattle.tte_traces.specs.declared.fault.TraceFault.TheVariants.{Missing, TooMany, After, Long, Line, Event as Outlaw}
 
 -- one reading
 pub one_event : (r : Read Event) (d e : Event) → r ≡ Ok d → r ≡ Ok e → d ≡ e

@@ -1,36 +1,20 @@
 -- One more event of a trace that is taken line by line.
-use Rattle.std.proofs.Common.{◌≡◌, ◌≢◌, ◌⊎◌, ◌↔◌, ℕ, ◌+◌, ◌^◌, ◌<◌, ◌≤◌, zero, suc, Bool, true, false, List, [], ◌∷◌, ◌++◌, length, Option, Some, None, Result, Ok, Err, inl, inr, refl, sym, ap, subst, ◌∙◌, arith, length-append, append-nil, append_assoc}
-use Rattle.std.proofs.lemmas.Bool.{false_from_ne_true}
-use Rattle.std.specs.Prelude.{IfErr, IfOk, IfSome, ◌==◌, if◌then◌else◌}
-use denote.Bor.{Bor}
-use Rattle.fault_hypothesis.proofs.Befalling.{any_last, stands_where}
-use Rattle.fault_hypothesis.specs.Watching.{Watches}
-use Rattle.fault_hypothesis.specs.declared.watch.Watch.{Watch}
-use Rattle.net_plan.specs.declared.event.Event.{Event}
-use Rattle.net_plan.specs.declared.event.What.TheVariants.{End}
-use Rattle.net_plan.specs.declared.network.Network.{Network}
+use Rattle.tte_traces.proofs.Words.{if◌then◌else◌, ◌++◌, ◌+◌, ◌<◌, ◌==◌, ◌^◌, ◌∙◌, ◌∷◌, ◌≡◌, ◌≢◌, ◌≤◌, ◌⊎◌, AreAdmitted, Bool, End, Err, Event, HaveEnded}
+use Rattle.tte_traces.proofs.Words.{IfSome, IsAdmitted, IsFault, IsOfNetwork, LineReaderState, LineTaken, List, Network, None, Ok, Option, Read, ReadsOn}
+use Rattle.tte_traces.proofs.Words.{Result, Some, TakesFew, Trace, TraceFault, TraceStop, [], ap, append-nil, append_assoc, arith, behind_lines, event_read}
+use Rattle.tte_traces.proofs.Words.{false, first_line, inl, inr, length, length-append, pending, refl, subst, suc, sym, true, zero, ℕ}
+use Rattle.std.{proofs.{Common.◌↔◌, lemmas.Bool.false_from_ne_true}, specs.Prelude.{IfErr, IfOk}}
+use Rattle.fault_hypothesis.{proofs.Befalling.{any_last, stands_where}, specs.{Watching.Watches, declared.watch.Watch.Watch}}
 use Rattle.schedule_tables.specs.declared.accepted.Accepted.{Accepted}
-use Rattle.trace_text.specs.EventReading.{event_read}
-use Rattle.net_plan.specs.Belonging.{IsOfNetwork}
 use Rattle.trace_text.specs.Ranges.{IsEventInRange}
-use Rattle.trace_text.specs.Steps.{Read}
-use Rattle.tte_io.proofs.Coming.{outcome_told}
-use Rattle.tte_io.proofs.FirstLine.{first_line-append, behind_line-append, first_line-too_long}
-use Rattle.tte_io.specs.Line.{lf, line_limit, ahead_limit, IsUnbroken, first_line, behind_line}
-use Rattle.tte_io.specs.NextLine.{NextLine}
-use Rattle.tte_io.specs.Outcome.{Outcome, TellsOutcome}
-use Rattle.tte_io.specs.ReaderState.{LineReaderState, pending, to_come}
-use Rattle.tte_io.specs.declared.lines.LineTaken.{LineTaken}
-use Rattle.tte_io.specs.declared.lines.LineTaken.TheVariants as found
-use Rattle.tte_traces.specs.Following.{Follows, GoesOn, IsFound, IsRefused, Judges, JudgesSo, Reads, ReadsAny, ReadsMore, ReadsOn, TakesFew}
-use Rattle.exact_runs.specs.Records.{HaveEnded}
+use Rattle.tte_io.proofs.{Coming.outcome_told, FirstLine.{behind_line-append, first_line-append, first_line-too_long}}
+use Rattle.tte_io.specs.{Line.{IsUnbroken, ahead_limit, behind_line, lf, line_limit}, NextLine.NextLine, Outcome.{Outcome, TellsOutcome}, ReaderState.to_come}
 use Rattle.tte_lemmas.proofs.Lists.{any_none, any_parts}
-use Rattle.tte_traces.specs.Lines.{AreAdmitted, IsAdmitted, IsFault, StandWhole, behind_lines}
-use Rattle.tte_traces.specs.declared.fault.TraceFault.{TraceFault}
-use Rattle.tte_traces.specs.declared.fault.TraceStop.{TraceStop}
-use Rattle.tte_traces.specs.declared.fault.TraceStop.TheVariants as stops
-use Rattle.tte_traces.specs.declared.lines.Trace.{Trace}
+use denote.Bor.{Bor}
 use Rattle.tte_traces.proofs.TakenLines.{as_told, ends_so, none_left_after}
+use Rattle.tte_traces.specs.{Following.{Follows, GoesOn, IsFound, IsRefused, Judges, JudgesSo, Reads, ReadsAny, ReadsMore}, Lines.StandWhole}
+use Rattle.tte_io.specs.declared.lines.LineTaken.TheVariants as found
+use Rattle.tte_traces.specs.declared.fault.TraceStop.TheVariants as stops
 
 -- a trace without events has not ended
 pub none_ended : HaveEnded [] → ⊥
@@ -321,7 +305,8 @@ module _ (network : Network) (came : List ℕ) (events : List Event) (old : Trac
         let outcome = outcome_told (pending old.reader) old.reader.ended (Some (read ++ left)) reader (Some left) (Ok t) told in
         behind_more_octets network came read left events result new r.admitted
         (reads_told network (came ++ (read ++ left)) events result new left
-        (reads_so network (came ++ (read ++ left)) events (read ++ left) old new reader (Some (read ++ left)) (Some left) t result refl r told outcome judged same
+        (reads_so network (came ++ (read ++ left)) events (read
+        ++ left) old new reader (Some (read ++ left)) (Some left) t result refl r told outcome judged same
         refused));
   }
 
@@ -367,7 +352,8 @@ few_told coming after had left rest before (Err e) n o kept ahead =
     ap behind_line (sym o ∙ ap (λ (p : List ℕ). p ++ rest) line) ∙ behind_line-append after.kept rest n.answer.line.unbroken in
     omega (arith, ap length behind, line_length rest)
 
-pub takes_few : (octets : List ℕ) (lines : ℕ) (before : List ℕ) (had : Bool) (left : List ℕ) (after : LineReaderState) (left_before left_after : Option (List ℕ))
+pub takes_few : (octets : List ℕ) (lines : ℕ) (before : List ℕ) (had : Bool) (left : List ℕ) (after : LineReaderState)
+    (left_before left_after : Option (List ℕ))
     (result : Result LineTaken TraceStop) → left_before ≡ Some left → (had ≡ true → left ≡ []) → behind_lines lines octets ≡ before ++ left
     → NextLine before had left_before after left_after result → TellsOutcome before had left_before after left_after result
     → length after.kept ≤ line_limit → length after.ahead ≤ ahead_limit → IfSome left_after (TakesFew octets lines)

@@ -1,32 +1,14 @@
 -- What the answer of `run` begins with: the reports of the fronts of its run.
-use Rattle.std.proofs.Common.{◌≡◌, ◌⊎◌, ℕ, ◌+◌, List, [], ◌∷◌, ◌++◌, length, arith, sym, ap, subst, ◌∙◌, inl, inr, append_assoc}
-use Rattle.std.proofs.lemmas.List.{append-nil, map-append}
-use Rattle.net_plan.specs.declared.event.Event.{Event}
-use Rattle.net_plan.specs.declared.network.Network.{Network}
-use Rattle.report_text.specs.NoteLine.{note_line, report_of}
-use Rattle.run_law.specs.records.Order.{IsBefore}
-use Rattle.run_law.specs.runs.DueRecords.{EndsAt}
-use Rattle.run_law.specs.declared.note.Note.{Note}
-use Rattle.run_law.proofs.runs.NetworkRuns.{run_is_one, earlier_run_is_front}
-use Rattle.run_law.proofs.runs.Places.{before_next_time}
-use Rattle.tte_forms.specs.Answering.{Answer}
-use Rattle.exact_runs.specs.Records.{AreAllRecords, AreRecordsBefore, AreRecordsSoFar, HaveEnded, clock_reading}
-use Rattle.tte_traces.specs.Answer.{AnswersAll, AnswersFault, IsRunAnswer, IsTraceAnswer, LinesOf, report_lines}
-use Rattle.tte_traces.specs.FaultLine.{fault_lines, fault_status}
-use Rattle.tte_traces.specs.Lines.{AreAdmitted, IsFault, behind_lines}
-use Rattle.tte_traces.specs.declared.fault.TraceFault.{TraceFault}
-use Rattle.tte_forms.specs.declared.status.Status.TheVariants.{Done}
-use Rattle.tte_units.specs.Amount.{amount}
-use Rattle.tte_units.specs.declared.units.Units.{Units}
-use Rattle.exact_runs.proofs.Events.{ended_at}
-use Rattle.tte_traces.proofs.Admitted.{IsStopped, admitted_in_order, admitted_one, front_admitted, stopped_one}
-use Rattle.tte_traces.proofs.Answers.{AnswersEither, BeginWith, IsAllAdmitted, all_is_whole, answer_stops}
-use Rattle.tte_traces.proofs.EventOrder.{last_before, last_of}
-use Rattle.tte_traces.proofs.Lasting.{lasts}
+use Rattle.tte_traces.proofs.Words.{◌++◌, ◌+◌, ◌∙◌, ◌∷◌, ◌≡◌, Answer, AreAdmitted, AreRecordsBefore, AreRecordsSoFar, EndsAt, Event, IsRunAnswer, List, Network}
+use Rattle.tte_traces.proofs.Words.{Note, Units, [], amount, ap, append-nil, append_assoc, arith, behind_events, clock_reading, fault_lines, inl, inr}
+use Rattle.tte_traces.proofs.Words.{last_time, length, report_lines, report_of, subst, sym, ℕ}
+use Rattle.std.proofs.lemmas.List.{map-append}
+use Rattle.report_text.specs.NoteLine.{note_line}
+use Rattle.run_law.{proofs.runs.{NetworkRuns.earlier_run_is_front, Places.before_next_time}, specs.records.Order.IsBefore}
 use Rattle.world_drive.proofs.Earlier.{no_further, so_far_at}
-use Rattle.tte_traces.proofs.Faults.{end_has_no_fault, fault_one, fault_stops}
-use Rattle.drift_world.specs.Running.{behind_events, last_time}
 use Rattle.world_law.specs.source.Applying.{place_of_event}
+use Rattle.tte_traces.proofs.Admitted.{admitted_in_order, admitted_one, front_admitted}
+use Rattle.tte_traces.proofs.{Answers.{AnswersEither, BeginWith, IsAllAdmitted, all_is_whole, answer_stops}, EventOrder.{last_before, last_of}, Lasting.lasts}
 
 -- ---- reports
 
@@ -39,7 +21,8 @@ report_begins network notes front rest order = (report_of network rest, ap (repo
 -- ---- the records so far
 
 -- what is before a place of the last event's time is up to the end
-pub up_to_end : (octets : List ℕ) (network : Network) (events : List Event) (time : Units) → AreAdmitted network octets events → EndsAt events time → (p : List ℕ)
+pub up_to_end : (octets : List ℕ) (network : Network) (events : List Event) (time : Units) → AreAdmitted network octets events → EndsAt events time
+    → (p : List ℕ)
     → IsBefore p (behind_events (amount (last_time events))) → IsBefore p ((amount time + 1) ∷ [])
 up_to_end octets network events time all ends p before =
     let last = (admitted_in_order network octets events all).last time ends in

@@ -1,22 +1,11 @@
 -- What was put of the answers for a network under the octets of a trace: a front of each, where it was cut short; or the
 -- whole one, behind the end or at a fault of the trace.
-use Rattle.std.proofs.Common.{◌≡◌, ◌⊎◌, ℕ, ◌+◌, List, [], ◌∷◌, ◌++◌, length, refl, sym, ap, subst, ◌∙◌, inl, inr, append_assoc}
-use Rattle.std.proofs.lemmas.List.{append-nil}
-use Rattle.net_plan.specs.declared.event.Event.{Event}
-use Rattle.net_plan.specs.declared.network.Network.{Network}
-use Rattle.run_law.specs.declared.note.Note.{Note}
-use Rattle.tte_forms.specs.Answering.{Answer, Gives, GivesOne}
-use Rattle.tte_forms.specs.Putting.{Shown, IsPassedOn, PutsLines, PutFails, StopsWriting}
-use Rattle.exact_runs.specs.Records.{AreAllRecords, AreRecordsSoFar}
-use Rattle.tte_traces.specs.Along.{IsFrontOf}
-use Rattle.tte_traces.specs.Answer.{IsTraceAnswer, LinesOf}
-use Rattle.tte_traces.specs.FaultLine.{fault_lines, fault_status}
-use Rattle.tte_traces.specs.declared.fault.TraceFault.{TraceFault}
-use Rattle.tte_forms.specs.declared.status.Status.{Status}
-use Rattle.tte_forms.specs.declared.status.Status.TheVariants.{Done, ReadFault, WriteFault, OutOfMemory}
-use Rattle.tte_forms.proofs.frames.Frames.{Gives-behind}
-use Rattle.tte_forms.proofs.OneAnswers.{one_given}
-use Rattle.tte_traces.proofs.Answers.{BeginWith, IsAllAdmitted, IsFaultBehind, all_is_whole, faulty_answer, faulty_is, whole_is}
+use Rattle.tte_traces.proofs.Words.{◌++◌, ◌+◌, ◌∙◌, ◌∷◌, ◌≡◌, ◌⊎◌, Answer, AreAllRecords, AreRecordsSoFar, Done, Event, Gives, GivesOne, IsFrontOf}
+use Rattle.tte_traces.proofs.Words.{IsTraceAnswer, LinesOf, List, Network, Note, PutFails, PutsLines, Shown, Status, TraceFault, [], ap, append-nil}
+use Rattle.tte_traces.proofs.Words.{append_assoc, fault_lines, fault_status, inl, inr, length, refl, subst, sym, ℕ}
+use Rattle.tte_forms.{proofs.{OneAnswers.one_given, frames.Frames.Gives-behind}, specs.Putting.{IsPassedOn, StopsWriting}}
+use Rattle.tte_forms.specs.declared.status.Status.TheVariants.{OutOfMemory, ReadFault, WriteFault}
+use Rattle.tte_traces.proofs.Answers.{IsAllAdmitted, IsFaultBehind, all_is_whole, faulty_answer, faulty_is, whole_is}
 
 -- ---- a front of each answer was put
 
@@ -43,7 +32,11 @@ front_given Is lines status old new begins cause puts =
 pub front_failed : (Is : Answer → Type 0) (lines : List (List ℕ)) (status : Status) (old new : Shown) → IsFrontOf Is lines
     → status ≡ WriteFault → StopsWriting lines old new → GivesOne Is status old new
 front_failed Is lines status old new begins cause (inl fails) =
-    inr (inl (cause, λ a is. let b = begins a is in inl (subst (λ (ls : List (List ℕ)). PutFails ls old new) (sym b.1) (PutFails-more lines b.0 old new fails))))
+    inr (inl (
+      cause,
+      λ a is. let b = begins a is in inl (subst (λ (ls : List (List ℕ)).
+          PutFails ls old new) (sym b.1) (PutFails-more lines b.0 old new fails)),
+    ))
 front_failed Is lines status old new begins cause (inr puts) =
     inr (inl (cause, λ a is. let b = begins a is in inr (record { done = lines; left = b.0; order = b.1; puts = puts })))
 

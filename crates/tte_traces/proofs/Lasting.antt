@@ -1,30 +1,14 @@
 -- The run up to the next event lasts under this event and those behind it.
-use Rattle.std.proofs.Common.{◌≡◌, ℕ, suc, ◌≤◌, ◌<◌, ◌==◌, Bool, true, false, List, [], ◌∷◌, ◌++◌, filter, Option, Some, None, slice_get, if◌then◌else◌, refl, sym, ap, ◌∙◌, arith}
+use Rattle.tte_traces.proofs.Words.{if◌then◌else◌, ◌++◌, ◌<◌, ◌==◌, ◌∙◌, ◌∷◌, ◌≡◌, ◌≤◌, AreAdmitted, AreRecordsBefore, Bool, End, Event, HaveEnded, List}
+use Rattle.tte_traces.proofs.Words.{Network, None, Note, Option, Some, What, [], amount, ap, append-nil, arith, clock_reading, false, refl, suc, sym, true, ℕ}
+use Rattle.std.{proofs.{Common.{filter, slice_get}, lemmas.{Bool.lt-leb, List.Elements.{filter-append, filter_map-append}}}, specs.List.cons_option}
 use Rattle.std.specs.Prelude.{nat_le}
-use Rattle.std.specs.List.{cons_option}
-use Rattle.std.proofs.lemmas.Bool.{lt-leb}
-use Rattle.std.proofs.lemmas.List.{append-nil}
-use Rattle.std.proofs.lemmas.List.Elements.{filter-append, filter_map-append}
-use Rattle.drift_clock.specs.RateSteps.{RateStep, up_to}
-use Rattle.drift_clock.specs.Readings.{value_after}
-use Rattle.drift_clock.specs.Segment.{fresh_segment, segment_reading, stepped_segment}
-use Rattle.net_plan.specs.declared.event.Event.{Event}
-use Rattle.net_plan.specs.declared.event.What.TheVariants.{Rate, Wire, Hold, Cut, Heal, On, Break, Send, End}
-use Rattle.net_plan.specs.declared.event.What.{What}
-use Rattle.net_plan.specs.declared.ids.DeviceId.{DeviceId}
-use Rattle.net_plan.specs.declared.network.Network.{Network}
-use Rattle.run_law.specs.declared.note.Note.{Note}
-use Rattle.run_law.specs.records.Order.{IsBefore}
-use Rattle.run_law.specs.scenario.Rates.{rate_steps, step_by}
-use Rattle.tte_traces.proofs.Admitted.{admitted_in_order}
+use Rattle.drift_clock.specs.{RateSteps.{RateStep, up_to}, Readings.value_after, Segment.{fresh_segment, segment_reading, stepped_segment}}
+use Rattle.net_plan.specs.declared.{event.What.TheVariants.{Break, Cut, Heal, Hold, On, Rate, Send, Wire}, ids.DeviceId.DeviceId}
+use Rattle.run_law.specs.{records.Order.IsBefore, scenario.Rates.{rate_steps, step_by}}
 use Rattle.world_drive.proofs.Order.{have_ended}
-use Rattle.tte_traces.proofs.EventOrder.{not_earlier}
-use Rattle.exact_runs.specs.Records.{AreRecordsBefore, HaveEnded, clock_reading}
-use Rattle.tte_traces.specs.Lines.{AreAdmitted}
-use Rattle.tte_units.specs.Amount.{amount}
-use Rattle.world_law.proofs.runs.Stays.{run_stays_under_more}
-use Rattle.world_law.specs.source.Agreeing.{Agree}
-use Rattle.world_law.specs.source.Applying.{place_of_event}
+use Rattle.world_law.{proofs.runs.Stays.run_stays_under_more, specs.source.{Agreeing.Agree, Applying.place_of_event}}
+use Rattle.tte_traces.proofs.{Admitted.admitted_in_order, EventOrder.not_earlier}
 
 -- ---- later events change nothing before them
 

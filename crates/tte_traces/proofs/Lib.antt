@@ -22,3 +22,4 @@ pub mod Texts
 pub mod Cuts
 pub mod Safely
 pub mod NoRun
+pub mod Words

@@ -1,16 +1,12 @@
 -- What `run` writes where there is no accepted network.
-use Rattle.std.proofs.Common.{◌≡◌, ℕ, List, [], Option, inl, inr, refl, sym, subst}
-use Rattle.tte_forms.proofs.Octets.{for_all, for_more}
-use Rattle.tte_forms.proofs.OneAnswers.{puts_nothing}
-use Rattle.tte_forms.proofs.networks.Refused.{refusal_fails, refusal_some}
-use Rattle.tte_forms.specs.Answering.{ForOctets, Gives}
-use Rattle.tte_forms.specs.Putting.{PutsLines, Shown}
+use Rattle.tte_traces.proofs.Words.{Done, ForOctets, Gives, List, Option, PutsLines, Shown, Status, TraceRefused, [], for_more, inl, inr, refl, subst, sym, ℕ}
+use Rattle.tte_forms.proofs.{Octets.for_all, OneAnswers.puts_nothing, networks.Refused.{refusal_fails, refusal_some}}
 use Rattle.tte_forms.specs.declared.accepting.NoNetwork.{NoNetwork}
-use Rattle.tte_forms.specs.declared.accepting.NoNetwork.TheVariants as causes
-use Rattle.tte_forms.specs.declared.status.Status.{Status}
-use Rattle.tte_forms.specs.declared.status.Status.TheVariants.{Done, Usage, FrameRefused, NetworkRefused, TraceRefused, OutsideHypothesis, ReadFault, WriteFault, OutOfMemory, TooLong, AuditRefused, GranuleRefused, CaptureRefused, NameRefused, VoteRefused}
-use Rattle.tte_forms.specs.networks.NoNetworks.{IsNoNetwork, no_network_answer}
+use Rattle.tte_forms.specs.declared.status.Status.TheVariants.{AuditRefused, CaptureRefused, FrameRefused, GranuleRefused, NameRefused, NetworkRefused}
+use Rattle.tte_forms.specs.declared.status.Status.TheVariants.{NumberRefused, OutOfMemory, OutsideHypothesis, ReadFault, TooLong, Usage, VoteRefused}
+use Rattle.tte_forms.specs.{declared.status.Status.TheVariants.WriteFault, networks.NoNetworks.{IsNoNetwork, no_network_answer}}
 use Rattle.tte_traces.specs.Safely.{PutsSafely, WritesSafely}
+use Rattle.tte_forms.specs.declared.accepting.NoNetwork.TheVariants as causes
 
 -- a status under which nothing is said of a run
 abbrev pub IsOfNoRun : Status → Type 0
@@ -60,6 +56,7 @@ none_puts GranuleRefused octets trace cause old new g = tt
 none_puts CaptureRefused octets trace cause old new g = tt
 none_puts NameRefused octets trace cause old new g = tt
 none_puts VoteRefused octets trace cause old new g = tt
+none_puts NumberRefused octets trace cause old new g = tt
 
 pub none_safely : (first second : Option (List ℕ)) (cause : NoNetwork) (status : Status) (old new : Shown)
     → ForOctets first (λ octets. IsNoNetwork octets cause) → Gives (no_network_answer cause) status old new → WritesSafely first second status old new

@@ -1,47 +1,23 @@
 -- The devices, links and virtual links of a record of a run are the network's.
-use Rattle.std.proofs.Common.{◌≡◌, ℕ, ◌<◌, true, false, List, [], ◌∷◌, ◌++◌, length, Option, Some, None, option_map, append_assoc, inl, inr, refl, sym, ap, subst, ◌∙◌}
-use Rattle.std.proofs.lemmas.Bool.{cases_lt, eq-eqb}
-use Rattle.std.proofs.lemmas.Option.{slice_get_within}
-use Rattle.fault_hypothesis.specs.Watching.{AreOfNetwork as AreEventsOf}
-use Rattle.net_plan.specs.Belonging.{IsOfNetwork}
-use Rattle.net_plan.specs.Places.{link_at}
-use Rattle.net_plan.specs.Ranges.{IsInRange, IsLinkInRange}
-use Rattle.net_plan.specs.declared.event.What.{What}
-use Rattle.net_plan.specs.declared.ids.DeviceId.{DeviceId}
-use Rattle.net_plan.specs.declared.ids.LinkId.{LinkId}
-use Rattle.net_plan.specs.declared.ids.VlId.{VlId}
-use Rattle.net_plan.specs.declared.network.Network.{Network}
-use Rattle.net_plan.specs.declared.tables.Link.{Link}
-use Rattle.net_plan.specs.declared.tables.Way.TheVariants.{Up, Down}
-use Rattle.net_plan.specs.declared.tables.Way.{Way}
-use Rattle.report_text.specs.Ranges.{HasPassage, HasStream, IsBodyOf, IsNoteOf}
-use Rattle.run_law.proofs.law.FirstPlaces.{numbered_in}
-use Rattle.run_law.proofs.runs.NetworkRuns.{one_more}
-use Rattle.run_law.proofs.runs.Places.{in_left, in_right, parted}
-use Rattle.run_law.specs.control.Leaving.{Departs, Departure}
-use Rattle.run_law.specs.control.Wires.{Arrives, Signal}
-use Rattle.run_law.specs.declared.note.Note.{Note}
-use Rattle.run_law.specs.declared.note.NoteBody.TheVariants as kinds
-use Rattle.run_law.specs.declared.note.NoteBody.{NoteBody}
-use Rattle.run_law.specs.records.Happenings.{Happening, happening, happenings, time_of}
-use Rattle.run_law.specs.records.Order.{IsIn}
-use Rattle.run_law.specs.records.Ranks.{place_of}
-use Rattle.run_law.specs.runs.DueRecords.{IsArrivedRecord, IsCaused, IsDue, IsScenarioRun}
-use Rattle.run_law.specs.runs.Runs.{IsFounded}
-use Rattle.run_law.specs.scenario.Scenarios.{Scenario}
-use Rattle.run_law.specs.timed.Dispatching.{Dispatches}
-use Rattle.run_law.specs.timed.Receptions.{ArrivesAs}
-use Rattle.schedule_tables.specs.Entries.{IsEntry, source_by, source_of}
-use Rattle.schedule_tables.specs.declared.entry.Entry.{Entry}
-use Rattle.tte_units.specs.Amount.{amount}
-use Rattle.tte_units.specs.declared.units.Units.{Units}
+use Rattle.tte_traces.proofs.Words.{◌++◌, ◌<◌, ◌∙◌, ◌∷◌, ◌≡◌, IsInRange, IsNoteOf, IsOfNetwork, List, Network, None, Note, Option, Some, Units, What, []}
+use Rattle.tte_traces.proofs.Words.{amount, ap, append_assoc, false, inl, inr, length, refl, subst, sym, true, ℕ}
+use Rattle.std.proofs.{Common.option_map, lemmas.{Bool.{cases_lt, eq-eqb}, Option.slice_get_within}}
 use Rattle.drift_world.proofs.Launches.{gives_in, gives_within}
+use Rattle.fault_hypothesis.specs.Watching.{AreOfNetwork as AreEventsOf}
+use Rattle.net_plan.specs.{Places.link_at, Ranges.IsLinkInRange, declared.{ids.{DeviceId.DeviceId, LinkId.LinkId, VlId.VlId}, tables.{Link.Link, Way.Way}}}
+use Rattle.net_plan.specs.declared.tables.Way.TheVariants.{Down, Up}
+use Rattle.report_text.specs.Ranges.{HasPassage, HasStream, IsBodyOf}
 use Rattle.run_existence.proofs.bounds.Named.{device_there}
+use Rattle.run_law.proofs.{law.FirstPlaces.numbered_in, runs.{NetworkRuns.one_more, Places.{in_left, in_right, parted}}}
+use Rattle.run_law.specs.{control.{Leaving.{Departs, Departure}, Wires.{Arrives, Signal}}, declared.note.NoteBody.NoteBody}
+use Rattle.run_law.specs.records.{Happenings.{Happening, happening, happenings, time_of}, Order.IsIn, Ranks.place_of}
+use Rattle.run_law.specs.{runs.{DueRecords.{IsArrivedRecord, IsCaused, IsDue, IsScenarioRun}, Runs.IsFounded}, scenario.Scenarios.Scenario}
+use Rattle.run_law.specs.timed.{Dispatching.Dispatches, Receptions.ArrivesAs}
+use Rattle.schedule_tables.specs.{Entries.{IsEntry, source_by, source_of}, declared.entry.Entry.Entry}
 use Rattle.tte_lemmas.proofs.Lists.{in_all as all_at}
+use Rattle.world_law.{proofs.rows.Entered.{delivered_of, taken_at}, specs.{device.Own.moves, world.World.AreOfNetwork}}
 use Rattle.world_steps.proofs.hearing.Receptions.{receiver_in}
-use Rattle.world_law.proofs.rows.Entered.{delivered_of, taken_at}
-use Rattle.world_law.specs.device.Own.{moves}
-use Rattle.world_law.specs.world.World.{AreOfNetwork}
+use Rattle.run_law.specs.declared.note.NoteBody.TheVariants as kinds
 
 -- ---- links and devices
 

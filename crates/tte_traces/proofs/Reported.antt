@@ -1,26 +1,14 @@
 -- The lines of a report put one after another.
-use Rattle.std.proofs.Common.{◌≡◌, ℕ, List, [], ◌∷◌, ◌++◌, Result, Ok, Err, inl, sym, subst}
-use Rattle.std.specs.Prelude.{IfErr, MatchResult, OnErr, OnOk}
-use Rattle.std.specs.Io.KnownBytes.{Appends}
-use Rattle.std.proofs.lemmas.List.{map-append}
-use Rattle.exact_runs.specs.Records.{clock_reading}
-use Rattle.exact_runs.specs.Worlds.{ExactWorld, StandsExact}
-use Rattle.net_plan.specs.declared.event.Event.{Event}
-use Rattle.net_plan.specs.declared.network.Network.{Network}
-use Rattle.report_text.specs.NoteLine.{note_line, report_of}
-use Rattle.report_text.specs.Ranges.{IsNoteOf}
-use Rattle.run_law.specs.declared.note.Note.{Note}
-use Rattle.tte_forms.proofs.Puts.{PutsLines-fails, PutsLines-more, PutsLines-none}
-use Rattle.tte_forms.specs.Putting.{PutFails, PutsLines}
-use Rattle.tte_io.specs.Faults.{Rose, next_count}
-use Rattle.tte_io.specs.Told.{AppendsFront}
-use Rattle.tte_io.specs.declared.ends.Sink.{Ghosts}
-use Rattle.tte_traces.proofs.OwnNotes.{note_of}
-use Rattle.tte_traces.specs.Report.{PutsReport, StopsReport, shown_as}
-use Rattle.world_drive.specs.Observing.{PutsFurther, Told, told_by}
-use Rattle.world_drive.specs.declared.observing.Cut.{Cut}
-use Rattle.world_drive.specs.declared.observing.Cut.TheVariants.{OutOfMemory, WriteFault}
+use Rattle.tte_traces.proofs.Words.{◌++◌, ◌∷◌, ◌≡◌, Err, Event, IsNoteOf, List, Network, Note, Ok, PutFails, PutsLines, Result, Rose, [], clock_reading, inl}
+use Rattle.tte_traces.proofs.Words.{report_of, subst, sym, ℕ}
+use Rattle.std.{proofs.lemmas.List.map-append, specs.{Io.KnownBytes.Appends, Prelude.{IfErr, MatchResult, OnErr, OnOk}}}
+use Rattle.report_text.specs.NoteLine.{note_line}
+use Rattle.tte_forms.proofs.Puts.{PutsLines-fails, PutsLines-more}
+use Rattle.tte_io.specs.{Faults.next_count, Told.AppendsFront, declared.ends.Sink.Ghosts}
+use Rattle.world_drive.specs.{Observing.{PutsFurther, Told, told_by}, declared.observing.Cut.{Cut, TheVariants.{OutOfMemory, WriteFault}}}
+use Rattle.world_exact.specs.Worlds.{ExactWorld, StandsExact}
 use Rattle.world_law.specs.source.Agreeing.{scenario}
+use Rattle.tte_traces.{proofs.OwnNotes.note_of, specs.Report.{PutsReport, StopsReport, shown_as}}
 
 -- the record that a world gave last is the network's
 pub own_note : (network : Network) (events : List Event) (notes : List Note) (note : Note) (world : ExactWorld)
@@ -28,9 +16,6 @@ pub own_note : (network : Network) (events : List Event) (notes : List Note) (no
 own_note network events notes note world stands =
     note_of (scenario network (clock_reading network events) events) stands.is.mark notes note stands.is.coming stands.is.range stands.of_network stands.is.run
     stands.is.known
-
-pub report_first : (network : Network) (told : Told) → PutsReport network [] told told
-report_first network told = PutsLines-none (shown_as told)
 
 report_one : (network : Network) (notes : List Note) (note : Note)
     → report_of network notes ++ note_line network note ∷ [] ≡ report_of network (notes ++ note ∷ [])
@@ -49,7 +34,8 @@ pub report_more : {T K : Type 0} (sink : Ghosts K) (network : Network) (notes : 
     → PutsReport network (notes ++ note ∷ []) old (told_by sink new)
 report_more sink network notes note x old now new p n =
     subst (λ (ls : List (List ℕ)). PutsLines ls (shown_as old) (shown_as (told_by sink new))) (report_one network notes note)
-    (PutsLines-more (report_of network notes) (note_line network note) (shown_as old) (shown_as (told_by sink now)) (shown_as (told_by sink new)) p n.all.0 n.counted)
+    (PutsLines-more (report_of network notes) (note_line network note) (shown_as old) (shown_as (told_by sink now)) (shown_as (told_by sink new)) p n.all.0
+    n.counted)
 
 -- its put failed
 pub report_fails : {T K : Type 0} (sink : Ghosts K) (network : Network) (notes : List Note) (note : Note) (e : Cut) (old : Told) (now new : K)
@@ -63,7 +49,8 @@ report_fails sink network notes note WriteFault old now new p n =
 
 pub report_goes : {T K : Type 0} (sink : Ghosts K) (network : Network) (notes : List Note) (note : Note) (r : Result T Cut) (old : Told) (now new : K)
     → PutsReport network notes old (told_by sink now) → PutsNote sink network note r now new
-    → MatchResult r (λ _. PutsReport network (notes ++ note ∷ []) old (told_by sink new)) (λ cut. StopsReport network (notes ++ note ∷ []) cut old (told_by sink new))
+    → MatchResult r (λ _. PutsReport network (notes ++ note ∷ []) old (told_by sink new)) (λ cut.
+    StopsReport network (notes ++ note ∷ []) cut old (told_by sink new))
 report_goes sink network notes note (Ok x) old now new p n = report_more sink network notes note x old now new p n
 report_goes sink network notes note (Err e) old now new p n = report_fails sink network notes note e old now new p n
 

@@ -1,20 +1,14 @@
 -- What `run` writes for an accepted network is the report of a run that is safe.
-use Rattle.std.proofs.Common.{◌≡◌, ℕ, List, Option, inl, inr, refl, sym, ap, ◌∙◌}
-use Rattle.net_plan.specs.Ranges.{IsInRange}
-use Rattle.net_plan.specs.declared.network.Network.{Network}
-use Rattle.tte_forms.proofs.Octets.{for_more}
-use Rattle.tte_forms.specs.Answering.{Answer, ForOctets, GivesOne}
-use Rattle.tte_forms.specs.declared.status.Status.{Status}
-use Rattle.tte_forms.specs.declared.status.Status.TheVariants.{Done, Usage, FrameRefused, NetworkRefused, TraceRefused, OutsideHypothesis, ReadFault, WriteFault, OutOfMemory, TooLong, AuditRefused, GranuleRefused, CaptureRefused, NameRefused, VoteRefused}
-use Rattle.tte_traces.specs.declared.fault.TraceFault.{TraceFault}
-use Rattle.tte_traces.specs.declared.fault.TraceFault.TheVariants as faults
-use Rattle.tte_forms.specs.networks.Accepting.{MeansAccepted}
-use Rattle.tte_traces.specs.Answer.{IsRunAnswer, IsTraceAnswer, LinesOf, report_lines}
-use Rattle.tte_traces.specs.FaultLine.{fault_status}
-use Rattle.tte_forms.specs.Putting.{PutsLines, PutsSo, Shown}
+use Rattle.tte_traces.proofs.Words.{◌∙◌, ◌≡◌, Answer, Done, ForOctets, GivesOne, IsInRange, IsRunAnswer, IsTraceAnswer, LinesOf, List, MeansAccepted, Network}
+use Rattle.tte_traces.proofs.Words.{Option, PutsLines, Shown, Status, TraceFault, TraceRefused, ap, fault_status, for_more, inl, inr, refl, report_lines, sym}
+use Rattle.tte_traces.proofs.Words.{ℕ}
+use Rattle.tte_forms.specs.Putting.{PutsSo}
+use Rattle.tte_forms.specs.declared.status.Status.TheVariants.{AuditRefused, CaptureRefused, FrameRefused, GranuleRefused, NameRefused, NetworkRefused}
+use Rattle.tte_forms.specs.declared.status.Status.TheVariants.{NumberRefused, OutOfMemory, OutsideHypothesis, ReadFault, TooLong, Usage, VoteRefused}
+use Rattle.tte_forms.specs.declared.status.Status.TheVariants.{WriteFault}
+use Rattle.tte_traces.proofs.{Cuts.{puts_failing, puts_some}, Texts.{to_fault, whole}}
 use Rattle.tte_traces.specs.Safely.{IsReportToFault, IsWholeReport, PutsSafely, WritesSafely}
-use Rattle.tte_traces.proofs.Cuts.{puts_failing, puts_some}
-use Rattle.tte_traces.proofs.Texts.{to_fault, whole}
+use Rattle.tte_traces.specs.declared.fault.TraceFault.TheVariants as faults
 
 -- ---- by the status
 
@@ -67,7 +61,8 @@ outside_is = record { not_read = λ e. cc; not_write = λ e. cc; not_memory = λ
 pub long_is : IsOfTrace TooLong
 long_is = record { not_read = λ e. cc; not_write = λ e. cc; not_memory = λ e. cc }
 
-puts_whole : (octets trace : List ℕ) (old new : Shown) → AnswersTrace report_lines octets trace Done old new → PutsSo (IsWholeReport octets trace) PutsLines old new
+puts_whole : (octets trace : List ℕ) (old new : Shown) → AnswersTrace report_lines octets trace Done old new
+    → PutsSo (IsWholeReport octets trace) PutsLines old new
 puts_whole octets trace old new t =
     elim t.is.is [
       | inl all ↦ (t.a.lines, whole octets trace t.network t.is.events t.a t.range t.accepted t.is.admitted all, t.puts)
@@ -85,11 +80,13 @@ puts_before octets trace status old new not t =
 -- what was put under the status for an accepted network is the report of a run that goes well, or the first lines of one
 puts_safely : (octets trace : List ℕ) (network : Network) (status : Status) (old new : Shown) → IsInRange network → MeansAccepted octets network
     → GivesOne (IsRunAnswer trace network) status old new → PutsSafely status octets trace old new
-puts_safely octets trace network Done old new range m g = puts_whole octets trace old new (answers_trace report_lines octets trace network Done old new range m done_is g)
+puts_safely octets trace network Done old new range m g =
+    puts_whole octets trace old new (answers_trace report_lines octets trace network Done old new range m done_is g)
 puts_safely octets trace network TraceRefused old new range m g =
     puts_before octets trace TraceRefused old new (λ e. cc) (answers_trace report_lines octets trace network TraceRefused old new range m refused_is g)
 puts_safely octets trace network OutsideHypothesis old new range m g =
-    puts_before octets trace OutsideHypothesis old new (λ e. cc) (answers_trace report_lines octets trace network OutsideHypothesis old new range m outside_is g)
+    puts_before octets trace OutsideHypothesis old new (λ e.
+    cc) (answers_trace report_lines octets trace network OutsideHypothesis old new range m outside_is g)
 puts_safely octets trace network Usage old new range m g = tt
 puts_safely octets trace network FrameRefused old new range m g = tt
 puts_safely octets trace network NetworkRefused old new range m g = tt
@@ -103,6 +100,7 @@ puts_safely octets trace network GranuleRefused old new range m g = tt
 puts_safely octets trace network CaptureRefused old new range m g = tt
 puts_safely octets trace network NameRefused old new range m g = tt
 puts_safely octets trace network VoteRefused old new range m g = tt
+puts_safely octets trace network NumberRefused old new range m g = tt
 
 pub run_safely : (first second : Option (List ℕ)) (network : Network) (status : Status) (old new : Shown) → IsInRange network
     → ForOctets first (λ octets. MeansAccepted octets network) → ForOctets second (λ trace. GivesOne (IsRunAnswer trace network) status old new)

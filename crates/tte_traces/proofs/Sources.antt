@@ -1,22 +1,13 @@
 -- The answer of a command over a trace for its two sources.
-use Rattle.std.proofs.Common.{◌≡◌, ◌⊎◌, ℕ, List, [], Option, Some, None, inl, inr, refl}
-use Rattle.net_plan.specs.declared.network.Network.{Network}
+use Rattle.tte_traces.proofs.Words.{◌≡◌, ◌⊎◌, Answer, ForOctets, Gives, GivesOne, IsTraceAnswer, LinesOf, List, MeansAccepted, Network, Option, RunEnds, Shown}
+use Rattle.tte_traces.proofs.Words.{Status, [], for_more, inl, inr, refl, ℕ}
 use Rattle.schedule_checker.specs.Refusals.{RefusalIsOne}
-use Rattle.tte_forms.specs.networks.Accepting.{IsNetworkAnswer, MeansAccepted}
-use Rattle.tte_forms.specs.Answering.{Answer, ForOctets, Gives, GivesAnswer, GivesOne}
+use Rattle.tte_forms.proofs.{Octets.for_all, OneAnswers.{none_put, one_of}, Puts.PutsLines-none}
+use Rattle.tte_forms.{proofs.networks.Answers.{accepted_given, accepted_network, no_network, no_network_given}, specs.{Answering.GivesAnswer, Putting.PutsNone}}
+use Rattle.tte_forms.specs.{declared.{accepting.NoNetwork.NoNetwork, status.Status.TheVariants.{OutOfMemory, WriteFault}}, networks.Accepting.IsNetworkAnswer}
 use Rattle.tte_forms.specs.networks.NoNetworks.{IsNoNetwork, no_network_answer}
-use Rattle.tte_forms.specs.Putting.{PutsNone, Shown}
-use Rattle.tte_traces.specs.Answer.{IsTraceAnswer, LinesOf}
-use Rattle.tte_traces.specs.Ending.{RunEnds}
-use Rattle.tte_forms.specs.declared.accepting.NoNetwork.{NoNetwork}
-use Rattle.tte_forms.specs.declared.accepting.NoNetwork.TheVariants as causes
-use Rattle.tte_forms.specs.declared.status.Status.{Status}
-use Rattle.tte_forms.specs.declared.status.Status.TheVariants.{OutOfMemory, WriteFault}
-use Rattle.tte_forms.proofs.networks.Answers.{accepted_given, accepted_network, no_network, no_network_given}
-use Rattle.tte_forms.proofs.Octets.{for_all, for_more}
-use Rattle.tte_forms.proofs.OneAnswers.{none_put, one_of}
-use Rattle.tte_forms.proofs.Puts.{PutsLines-none}
 use Rattle.tte_traces.proofs.Streams.{untouched, writes_nothing}
+use Rattle.tte_forms.specs.declared.accepting.NoNetwork.TheVariants as causes
 
 -- ---- for an accepted network
 

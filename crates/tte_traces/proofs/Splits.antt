@@ -1,21 +1,12 @@
 -- A trace is admitted line by line, up to its end or to a fault.
-use Rattle.std.proofs.Common.{◌≡◌, ◌≢◌, ◌⊎◌, ℕ, zero, suc, ◌+◌, ◌^◌, ◌≤◌, List, [], ◌∷◌, ◌++◌, length, Ok, Err, inl, inr, refl, arith, length-append}
+use Rattle.tte_traces.proofs.Words.{◌++◌, ◌+◌, ◌^◌, ◌∷◌, ◌≡◌, ◌≢◌, ◌≤◌, ◌⊎◌, After, AreAdmitted, End, Err, Event, HaveEnded, IsAdmitted, IsFault, Line, List}
+use Rattle.tte_traces.proofs.Words.{Long, Missing, Network, Ok, Outlaw, Read, TooMany, TraceFault, [], arith, behind_lines, event_read, first_line, inl, inr}
+use Rattle.tte_traces.proofs.Words.{length, length-append, refl, suc, zero, ℕ}
 use Rattle.std.proofs.lemmas.Bool.{cases_lt}
-use Rattle.net_plan.specs.declared.event.Event.{Event}
-use Rattle.net_plan.specs.declared.event.What.TheVariants.{End}
-use Rattle.net_plan.specs.declared.network.Network.{Network}
-use Rattle.run_law.proofs.scenario.Decided.{hypothesis_is_decided}
-use Rattle.run_law.proofs.scenario.Decisions.{IsDecided, decided_any}
-use Rattle.trace_text.specs.EventReading.{event_read}
-use Rattle.trace_text.specs.Steps.{Read}
-use Rattle.tte_io.specs.Line.{first_line, line_limit}
-use Rattle.exact_runs.specs.Records.{HaveEnded}
 use Rattle.run_existence.proofs.decisions.Events.{is_end}
-use Rattle.tte_traces.specs.Lines.{AreAdmitted, HasEvent, IsAdmitted, IsFault, IsOpen, behind_lines}
-use Rattle.tte_traces.specs.declared.fault.TraceFault.{TraceFault}
-use Rattle.tte_traces.specs.declared.fault.TraceFault.TheVariants.{Missing, TooMany, After, Long, Line, Event as Outlaw}
-use Rattle.tte_traces.proofs.Admitted.{admitted_none}
-use Rattle.tte_traces.proofs.Following.{more_admitted}
+use Rattle.run_law.proofs.scenario.{Decided.hypothesis_is_decided, Decisions.{IsDecided, decided_any}}
+use Rattle.tte_io.specs.Line.{line_limit}
+use Rattle.tte_traces.{proofs.{Admitted.admitted_none, Following.more_admitted}, specs.Lines.{HasEvent, IsOpen}}
 
 -- ---- the next line
 

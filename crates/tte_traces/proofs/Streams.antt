@@ -1,18 +1,11 @@
 -- What a run has written, and what it has taken of its trace by then.
-use Rattle.std.proofs.Common.{◌≡◌, suc, ◌≤◌, ◌==◌, Bool, true, false, if◌then◌else◌, arith, ℕ, List, [], ◌∷◌, ◌++◌, length, Option, Some, None, inl, inr, refl, sym, subst}
-use Rattle.std.specs.List.{concat}
-use Rattle.std.proofs.KnownBytes.{Appends-nil, Appends-trans}
-use Rattle.std.specs.Io.KnownBytes.{Appends}
-use Rattle.net_plan.specs.declared.network.Network.{Network}
-use Rattle.tte_io.specs.Line.{lf, behind_line}
-use Rattle.tte_forms.specs.Answering.{Answer, Gives}
-use Rattle.tte_forms.specs.Putting.{Shown, PutsLines, PutsNone, PutFails, StopsWriting, WriteFails}
-use Rattle.tte_traces.specs.Answer.{LinesOf}
-use Rattle.tte_traces.specs.Streaming.{ForTrace, TakesLittle, WritesSome}
-use Rattle.tte_forms.specs.declared.status.Status.{Status}
-use Rattle.tte_traces.proofs.Admitted.{admitted_none}
-use Rattle.tte_forms.proofs.Puts.{PutsLines-none}
+use Rattle.tte_traces.proofs.Words.{if◌then◌else◌, ◌++◌, ◌==◌, ◌∷◌, ◌≡◌, ◌≤◌, Answer, Bool, Gives, LinesOf, List, Network, None, Option, PutFails, PutsLines}
+use Rattle.tte_traces.proofs.Words.{Shown, Some, Status, [], arith, false, inl, inr, length, refl, subst, suc, sym, true, ℕ}
+use Rattle.std.{proofs.KnownBytes.{Appends-nil, Appends-trans}, specs.{Io.KnownBytes.Appends, List.concat}}
+use Rattle.tte_forms.{proofs.Puts.PutsLines-none, specs.Putting.{PutsNone, WriteFails}}
+use Rattle.tte_io.specs.Line.{behind_line, lf}
 use Rattle.world_drive.proofs.Earlier.{records_none}
+use Rattle.tte_traces.{proofs.Admitted.admitted_none, specs.Streaming.{ForTrace, TakesLittle, WritesSome}}
 
 -- ---- what was written grew
 
@@ -28,10 +21,6 @@ writes_lines lines old new p = (concat lines, p.written)
 pub writes_fails : (lines : List (List ℕ)) (old new : Shown) → PutFails lines old new → WritesSome old new
 writes_fails lines old new p =
     (concat p.done ++ p.front.0, Appends-trans old.written p.before.written new.written (concat p.done) p.front.0 p.puts.written p.front.3)
-
-pub writes_stops : (lines : List (List ℕ)) (old new : Shown) → StopsWriting lines old new → WritesSome old new
-writes_stops lines old new (inl f) = writes_fails lines old new f
-writes_stops lines old new (inr p) = writes_lines lines old new p
 
 writes_failing : (lines : List (List ℕ)) (old new : Shown) → WriteFails lines old new → WritesSome old new
 writes_failing lines old new (inl f) = writes_fails lines old new f

@@ -1,25 +1,17 @@
 -- A trace gives its events one after another.
-use Rattle.std.proofs.Common.{◌≡◌, ◌≢◌, ℕ, ◌-◌, ◌^◌, ◌<◌, List, [], ◌∷◌, ◌++◌, length, length-append, Option, Some, None, Result, Ok, Err, refl, sym, ap, ◌∙◌, subst, arith}
-use Rattle.std.specs.Prelude.{IfSome}
-use Rattle.tte_forms.specs.Answering.{ForOctets}
+use Rattle.tte_traces.proofs.Words.{◌++◌, ◌<◌, ◌^◌, ◌∙◌, ◌∷◌, ◌≡◌, ◌≢◌, AreAdmitted, Err, Event, ForOctets, GaveEvents, IfSome, List, Network, None, Ok, Option}
+use Rattle.tte_traces.proofs.Words.{ReadsOn, Result, Rose, Some, TakesFew, Trace, TraceStop, What, [], ap, arith, behind_lines, length, length-append, refl}
+use Rattle.tte_traces.proofs.Words.{shown_by, subst, sym, ℕ}
+use Rattle.std.proofs.Common.{◌-◌}
 use Rattle.drift_world.specs.Running.{HoldsATime}
-use Rattle.net_plan.specs.declared.event.Event.{Event}
-use Rattle.net_plan.specs.declared.event.What.TheVariants as kinds
-use Rattle.net_plan.specs.declared.event.What.{What}
-use Rattle.net_plan.specs.declared.network.Network.{Network}
 use Rattle.trace_text.specs.Ranges.{IsWhatInRange}
-use Rattle.tte_forms.specs.Faults.{PutFailed, ReadFailed}
-use Rattle.tte_forms.specs.Putting.{IsPassedOn, shown_by}
-use Rattle.tte_io.specs.Faults.{Rose}
+use Rattle.tte_forms.specs.{Faults.{PutFailed, ReadFailed}, Putting.IsPassedOn}
+use Rattle.world_drive.specs.Sources.{GivesNext, MayGive}
+use Rattle.tte_traces.specs.{Following.{Follows, GivesEvent, GoesOn, Reads, ReadsMore, TakesNext}, Taking.{EndedBehind, IsStopAt, StoppedBehind}}
+use Rattle.tte_traces.specs.declared.fault.TraceStop.TheVariants.{Fault, ReadFault, WriteFault}
+use Rattle.net_plan.specs.declared.event.What.TheVariants as kinds
 use Rattle.tte_io.specs.declared.ends.Sink as sinks
 use Rattle.tte_io.specs.declared.ends.Source as sources
-use Rattle.tte_traces.specs.Following.{Follows, GivesEvent, GoesOn, Reads, ReadsAny, ReadsMore, ReadsOn, TakesFew, TakesNext}
-use Rattle.tte_traces.specs.Lines.{AreAdmitted, behind_lines}
-use Rattle.tte_traces.specs.Taking.{EndedBehind, GaveEvents, IsStopAt, StoppedBehind}
-use Rattle.tte_traces.specs.declared.fault.TraceStop.{TraceStop}
-use Rattle.tte_traces.specs.declared.fault.TraceStop.TheVariants.{Fault, ReadFault, WriteFault}
-use Rattle.tte_traces.specs.declared.lines.Trace.{Trace}
-use Rattle.world_drive.specs.Sources.{GivesNext, MayGive}
 
 -- a hold that it sets is a time
 holds_a_time : (what : What) → IsWhatInRange what → HoldsATime what

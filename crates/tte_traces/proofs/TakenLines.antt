@@ -1,13 +1,13 @@
 -- A line taken from the octets ahead, or by reads.
-use Rattle.std.proofs.Common.{◌≡◌, ◌≢◌, ℕ, Bool, true, false, List, [], ◌∷◌, ◌++◌, Option, Some, Result, Ok, Err, inl, inr, refl, sym, ap, subst, ◌∙◌, append-nil, arith}
+use Rattle.tte_traces.proofs.Words.{◌++◌, ◌∙◌, ◌∷◌, ◌≡◌, ◌≢◌, Bool, Err, LineReaderState, LineTaken, List, Ok, Option, Result, Some, [], ap, append-nil, arith}
+use Rattle.tte_traces.proofs.Words.{false, inl, inr, pending, refl, subst, sym, true, ℕ}
 use Rattle.std.proofs.KnownBytes.{Consumes-nil}
 use Rattle.tte_io.specs.NextLine.{KeepsLine, NextLine}
-use Rattle.tte_io.specs.ReaderState.{LineReaderState, pending}
-use Rattle.tte_io.specs.declared.lines.LineTaken.{LineTaken}
 use Rattle.tte_io.specs.declared.lines.LineTaken.TheVariants as taken
 
 -- what was found is found whatever errors there are
-pub found_over : {E F : Type 0} (before : List ℕ) (had : Bool) (left : Option (List ℕ)) (after : LineReaderState) (left_after : Option (List ℕ)) (found : LineTaken)
+pub found_over : {E F : Type 0} (before : List ℕ) (had : Bool) (left : Option (List ℕ)) (after : LineReaderState) (left_after : Option (List ℕ))
+    (found : LineTaken)
     → NextLine {E = E} before had left after left_after (Ok found) → NextLine {E = F} before had left after left_after (Ok found)
 found_over before had left after left_after taken.Whole n = record {
   earlier = n.earlier;
@@ -44,7 +44,8 @@ found_over before had left after left_after taken.End n = record {
 }
 
 -- so is what stays where a read failed
-pub failed_over : {E F : Type 0} (before : List ℕ) (had : Bool) (left : Option (List ℕ)) (after : LineReaderState) (left_after : Option (List ℕ)) (e : E) (f : F)
+pub failed_over : {E F : Type 0} (before : List ℕ) (had : Bool) (left : Option (List ℕ)) (after : LineReaderState) (left_after : Option (List ℕ)) (e : E)
+    (f : F)
     → NextLine before had left after left_after (Err e) → NextLine before had left after left_after (Err f)
 failed_over before had left after left_after e f n = record {
   earlier = n.earlier;
@@ -59,7 +60,8 @@ failed_over before had left after left_after e f n = record {
 }
 
 -- where no line was found ahead and nothing is read, the unfinished line stays
-pub unread : {F : Type 0} (before : List ℕ) (had : Bool) (left : Option (List ℕ)) (after : LineReaderState) (f : F) → had ≡ false → pending after ≡ before → KeepsLine [] after
+pub unread : {F : Type 0} (before : List ℕ) (had : Bool) (left : Option (List ℕ)) (after : LineReaderState) (f : F) → had ≡ false → pending after ≡ before
+    → KeepsLine [] after
     → NextLine before had left after left (Err f)
 unread before had left after f unended same keeps = record {
   earlier = [];

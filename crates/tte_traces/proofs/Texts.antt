@@ -1,33 +1,14 @@
 -- What the lines of an answer are: the report of a run that is safe.
-use Rattle.std.proofs.Common.{◌≡◌, ℕ, ◌+◌, List, [], ◌∷◌, ◌++◌, length, inl, inr, refl, ap}
-use Rattle.std.specs.List.{All}
-use Rattle.std.proofs.lemmas.List.Elements.{All-cons, All-nil}
-use Rattle.drift_clock.proofs.ExactSegments.{exact_laws}
-use Rattle.drift_clock.specs.Segment.{fresh_segment, segment_reading, stepped_segment}
-use Rattle.net_plan.specs.Belonging.{IsOfNetwork}
-use Rattle.net_plan.specs.Ranges.{IsInRange}
-use Rattle.net_plan.specs.declared.event.Event.{Event}
-use Rattle.net_plan.specs.declared.network.Network.{Network}
-use Rattle.run_law.specs.law.FirstLaws.{IsEventInRange}
-use Rattle.run_law.proofs.runs.NetworkRuns.{earlier_run_is_front}
-use Rattle.run_law.proofs.runs.Places.{before_next_time}
-use Rattle.run_law.specs.declared.note.Note.{Note}
-use Rattle.safe_runs.proofs.Clocked.{ended, own, so_far}
-use Rattle.safe_runs.proofs.Times.{last_in_time}
-use Rattle.safe_runs.specs.Under.{IsUnder}
+use Rattle.tte_traces.proofs.Words.{◌++◌, ◌+◌, ◌∷◌, ◌≡◌, Answer, AnswersAll, AnswersFault, AreAdmitted, AreRecordsSoFar, Event, IsInRange, IsOfNetwork}
+use Rattle.tte_traces.proofs.Words.{IsRunAnswer, List, MeansAccepted, Network, Note, [], amount, ap, behind_events, behind_lines, clock_reading, first_line}
+use Rattle.tte_traces.proofs.Words.{inl, inr, last_time, length, refl, report_lines, ℕ}
+use Rattle.std.{proofs.lemmas.List.Elements.{All-cons, All-nil}, specs.List.All}
+use Rattle.drift_clock.{proofs.ExactSegments.exact_laws, specs.Segment.{fresh_segment, segment_reading, stepped_segment}}
+use Rattle.run_law.{proofs.runs.{NetworkRuns.earlier_run_is_front, Places.before_next_time}, specs.law.FirstLaws.IsEventInRange}
+use Rattle.safe_runs.{proofs.{Clocked.{ended, own, so_far}, Times.last_in_time}, specs.Under.IsUnder}
 use Rattle.trace_text.proofs.ReadOfNetwork.{read_of_network}
-use Rattle.tte_io.specs.Line.{first_line}
-use Rattle.tte_traces.proofs.EventRanges.{event_in_range}
-use Rattle.tte_forms.specs.Answering.{Answer}
-use Rattle.tte_forms.specs.networks.Accepting.{MeansAccepted}
-use Rattle.tte_traces.specs.Answer.{AnswersAll, AnswersFault, IsRunAnswer, report_lines}
-use Rattle.tte_traces.specs.Lines.{AreAdmitted, behind_lines}
-use Rattle.tte_traces.specs.Safely.{BeginsRunTo, IsReportToFault, IsSafeText, IsWholeReport}
-use Rattle.exact_runs.proofs.Clocks.{exact_begins}
-use Rattle.exact_runs.specs.Records.{AreRecordsSoFar, clock_reading}
-use Rattle.drift_world.specs.Running.{behind_events, last_time}
-use Rattle.tte_traces.proofs.Existing.{records_before}
-use Rattle.tte_units.specs.Amount.{amount}
+use Rattle.world_exact.proofs.Clocks.{exact_begins}
+use Rattle.tte_traces.{proofs.{EventRanges.event_in_range, Existing.records_before}, specs.Safely.{BeginsRunTo, IsReportToFault, IsSafeText, IsWholeReport}}
 
 -- ---- what the laws on runs ask
 

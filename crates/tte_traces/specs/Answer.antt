@@ -1,16 +1,16 @@
 -- What a command over a trace answers, and what `run` does.
-use Rattle.std.specs.Prelude.{◌≡◌, ◌⊎◌, ℕ, ◌+◌, List, [], ◌++◌, length}
-use Rattle.net_plan.specs.declared.event.Event.{Event}
-use Rattle.net_plan.specs.declared.network.Network.{Network}
+use Rattle.std.specs.Prelude.{◌++◌, ◌+◌, ◌≡◌, ◌⊎◌, List, [], length, ℕ}
+use Rattle.net_plan.specs.declared.{event.Event.Event, network.Network.Network}
 use Rattle.report_text.specs.NoteLine.{report_of}
 use Rattle.run_law.specs.declared.note.Note.{Note}
-use Rattle.tte_forms.specs.Answering.{Answer}
-use Rattle.tte_traces.specs.FaultLine.{fault_status, fault_lines}
-use Rattle.exact_runs.specs.Records.{AreAllRecords, AreRecordsSoFar, HaveEnded}
-use Rattle.tte_traces.specs.Lines.{AreAdmitted, IsFault, behind_lines}
+use Rattle.tte_forms.specs.{Answering.Answer, declared.status.Status.Status}
+use Rattle.tte_forms.specs.declared.status.Status.TheVariants.{AuditRefused, CaptureRefused, Done, FrameRefused}
+use Rattle.tte_forms.specs.declared.status.Status.TheVariants.{GranuleRefused, NameRefused, NetworkRefused}
+use Rattle.tte_forms.specs.declared.status.Status.TheVariants.{NumberRefused, OutOfMemory, OutsideHypothesis, ReadFault}
+use Rattle.tte_forms.specs.declared.status.Status.TheVariants.{TooLong, TraceRefused, Usage, VoteRefused, WriteFault}
+use Rattle.world_exact.specs.Records.{AreAllRecords, AreRecordsSoFar, HaveEnded}
+use Rattle.tte_traces.specs.{FaultLine.{fault_lines, fault_status}, Lines.{AreAdmitted, IsFault, behind_lines}}
 use Rattle.tte_traces.specs.declared.fault.TraceFault.{TraceFault}
-use Rattle.tte_forms.specs.declared.status.Status.{Status}
-use Rattle.tte_forms.specs.declared.status.Status.TheVariants.{Done, Usage, FrameRefused, NetworkRefused, TraceRefused, OutsideHypothesis, ReadFault, WriteFault, OutOfMemory, TooLong, AuditRefused, GranuleRefused, CaptureRefused, NameRefused, VoteRefused}
 
 -- the lines that are put of a run under the events, by these records
 abbrev pub LinesOf : Type 0
@@ -68,3 +68,4 @@ IsRunStatus GranuleRefused = ⊥
 IsRunStatus CaptureRefused = ⊥
 IsRunStatus NameRefused = ⊥
 IsRunStatus VoteRefused = ⊥
+IsRunStatus NumberRefused = ⊥

@@ -1,12 +1,9 @@
 -- How a run under a trace ends.
-use Rattle.std.specs.Prelude.{◌≡◌, ℕ, List, Option}
+use Rattle.std.specs.Prelude.{◌≡◌, List, Option, ℕ}
 use Rattle.net_plan.specs.declared.network.Network.{Network}
-use Rattle.tte_forms.specs.Answering.{Answer, ForOctets, GivesOne}
-use Rattle.tte_forms.specs.Putting.{IsPassedOn, Shown}
-use Rattle.tte_forms.specs.declared.status.Status.{Status}
-use Rattle.tte_forms.specs.declared.status.Status.TheVariants.{ReadFault}
-use Rattle.tte_traces.specs.Answer.{LinesOf}
-use Rattle.tte_traces.specs.Streaming.{ForTrace, StopsBehindLines, TakesLittle}
+use Rattle.tte_forms.specs.{Answering.{Answer, ForOctets, GivesOne}, Putting.{IsPassedOn, Shown}}
+use Rattle.tte_forms.specs.declared.status.Status.{Status, TheVariants.ReadFault}
+use Rattle.tte_traces.specs.{Answer.LinesOf, Streaming.{ForTrace, StopsBehindLines, TakesLittle}}
 
 -- one of the answers was given, as far as the status tells; where a read failed, all that was put was passed on, and it
 -- stops behind the lines that were taken; and of the trace little more was taken than the lines whose lines were put

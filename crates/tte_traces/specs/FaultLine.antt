@@ -1,14 +1,11 @@
 -- The lines about a trace that is refused.
-use Rattle.std.specs.Prelude.{ℕ, List, [], ◌∷◌, ◌++◌, codes}
-use Rattle.std.specs.Fmt.{decimal}
-use Rattle.run_law.specs.scenario.Hypothesis.{condition_number}
-use Rattle.run_law.specs.declared.outside.Outside.{Outside}
+use Rattle.std.specs.{Fmt.decimal, Prelude.{◌++◌, ◌∷◌, List, [], codes, ℕ}}
+use Rattle.run_law.specs.{declared.outside.Outside.Outside, scenario.Hypothesis.condition_number}
 use Rattle.trace_text.specs.declared.refusal.LineRefusal.{LineRefusal}
-use Rattle.trace_text.specs.declared.refusal.LineRefusal.TheVariants as refusals
+use Rattle.tte_forms.specs.declared.status.Status.{Status, TheVariants.{OutsideHypothesis, TooLong, TraceRefused}}
 use Rattle.tte_traces.specs.declared.fault.TraceFault.{TraceFault}
+use Rattle.trace_text.specs.declared.refusal.LineRefusal.TheVariants as refusals
 use Rattle.tte_traces.specs.declared.fault.TraceFault.TheVariants as faults
-use Rattle.tte_forms.specs.declared.status.Status.{Status}
-use Rattle.tte_forms.specs.declared.status.Status.TheVariants.{OutsideHypothesis, TooLong, TraceRefused}
 
 -- why a line has no event
 abbrev pub line_reason : LineRefusal → List ℕ

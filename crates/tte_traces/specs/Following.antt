@@ -1,21 +1,17 @@
 -- How a trace that is taken line by line stands to the events that it gave.
-use Rattle.std.specs.Prelude.{◌≡◌, ◌≢◌, ◌↔◌, ℕ, ◌+◌, ◌^◌, ◌<◌, ◌≤◌, true, false, List, [], ◌∷◌, ◌++◌, length, Option, Some, None, IfSome, Result, Ok, Err}
+use Rattle.std.specs.Prelude.{◌++◌, ◌+◌, ◌<◌, ◌^◌, ◌↔◌, ◌∷◌, ◌≡◌, ◌≢◌, ◌≤◌, Err, IfSome, List, None, Ok, Option, Result}
+use Rattle.std.specs.Prelude.{Some, [], false, length, true, ℕ}
 use Rattle.fault_hypothesis.specs.Watching.{Watches}
-use Rattle.net_plan.specs.declared.event.Event.{Event}
-use Rattle.net_plan.specs.declared.network.Network.{Network}
+use Rattle.net_plan.specs.{Belonging.IsOfNetwork, declared.{event.Event.Event, network.Network.Network}}
 use Rattle.run_law.specs.scenario.Hypothesis.{IsWithinHypothesis}
-use Rattle.net_plan.specs.Belonging.{IsOfNetwork}
 use Rattle.trace_text.specs.Ranges.{IsEventInRange}
-use Rattle.tte_io.specs.Line.{line_limit, ahead_limit, IsUnbroken, first_line}
-use Rattle.tte_io.specs.ReaderState.{LineReaderState, pending}
+use Rattle.tte_io.specs.{Line.{IsUnbroken, ahead_limit, first_line, line_limit}, ReaderState.{LineReaderState, pending}}
 use Rattle.tte_io.specs.declared.lines.LineTaken.{LineTaken}
-use Rattle.tte_io.specs.declared.lines.LineTaken.TheVariants as found
-use Rattle.exact_runs.specs.Records.{HaveEnded}
+use Rattle.world_exact.specs.Records.{HaveEnded}
 use Rattle.tte_traces.specs.Lines.{AreAdmitted, IsAdmitted, IsFault, StandWhole, behind_lines}
-use Rattle.tte_traces.specs.declared.fault.TraceFault.{TraceFault}
-use Rattle.tte_traces.specs.declared.fault.TraceStop.{TraceStop}
+use Rattle.tte_traces.specs.declared.{fault.{TraceFault.TraceFault, TraceStop.TraceStop}, lines.Trace.Trace}
+use Rattle.tte_io.specs.declared.lines.LineTaken.TheVariants as found
 use Rattle.tte_traces.specs.declared.fault.TraceStop.TheVariants as stops
-use Rattle.tte_traces.specs.declared.lines.Trace.{Trace}
 
 -- the trace is over the network and gave these events, each from a line of its own
 pub record Follows (network : Network) (events : List Event) (trace : Trace) : Type 0 where
@@ -96,15 +92,16 @@ abbrev pub IsRefused : TraceStop → Type 0
 IsRefused stop = (fault : TraceFault) × (stop ≡ stops.Fault fault)
 
 -- more octets came; and with any that may follow them, the trace goes on so
-pub record ReadsMore (network : Network) (came : List ℕ) (events : List Event) (result : Result (Option Event) TraceStop)
+pub record ReadsMore (network : Network) (came : List ℕ) (events : List Event)
+    (result : Result (Option Event) TraceStop)
     (next : Trace) : Type 0 where
   pub more : List ℕ
   pub reads : (left : List ℕ) → (next.reader.ended ≡ true → left ≡ [])
       → AreAdmitted network ((came ++ more) ++ left) events
       × ReadsOn network ((came ++ more) ++ left) events result next left
 
--- a call for the next event takes it from the octets that are told, and takes few more; where they are not told, it takes
--- it from those that came
+-- a call for the next event takes it from the octets that are told, and takes few more; where they are not told, it
+-- takes it from those that came
 pub record TakesNext (trace : Trace) (left : Option (List ℕ)) (result : Result (Option Event) TraceStop) (next : Trace)
     (after : Option (List ℕ)) : Type 0 where
   pub reads : (network : Network) (octets : List ℕ) (events : List Event) (ahead : List ℕ) → left ≡ Some ahead

@@ -1,7 +1,6 @@
 -- That there is an answer.
-use Rattle.std.specs.Prelude.{ℕ, List}
-use Rattle.net_plan.specs.Ranges.{IsInRange}
-use Rattle.net_plan.specs.declared.network.Network.{Network}
+use Rattle.std.specs.Prelude.{List, ℕ}
+use Rattle.net_plan.specs.{Ranges.IsInRange, declared.network.Network.Network}
 use Rattle.tte_forms.specs.Answering.{Answer}
 use Rattle.tte_traces.specs.Answer.{IsRunAnswer}
 

@@ -1,13 +1,12 @@
 -- A trace judged line by line.
-use Rattle.std.specs.Prelude.{◌≡◌, ◌≢◌, ℕ, zero, suc, ◌+◌, ◌^◌, ◌<◌, ◌≤◌, List, [], ◌∷◌, ◌++◌, length, Ok, Err}
-use Rattle.net_plan.specs.declared.event.Event.{Event}
-use Rattle.net_plan.specs.declared.network.Network.{Network}
-use Rattle.run_law.specs.scenario.Hypothesis.{IsWithinHypothesis, IsOutsideBy}
+use Rattle.std.specs.Prelude.{◌++◌, ◌+◌, ◌<◌, ◌^◌, ◌∷◌, ◌≡◌, ◌≢◌, ◌≤◌, Err, List, Ok, [], length, suc, zero, ℕ}
+use Rattle.net_plan.specs.declared.{event.Event.Event, network.Network.Network}
+use Rattle.run_law.specs.scenario.Hypothesis.{IsOutsideBy, IsWithinHypothesis}
 use Rattle.trace_text.specs.EventReading.{event_read}
-use Rattle.tte_io.specs.Line.{lf, line_limit, first_line, behind_line}
+use Rattle.tte_io.specs.Line.{behind_line, first_line, lf, line_limit}
+use Rattle.world_exact.specs.Records.{HaveEnded}
 use Rattle.tte_traces.specs.declared.fault.TraceFault.{TraceFault}
 use Rattle.tte_traces.specs.declared.fault.TraceFault.TheVariants as faults
-use Rattle.exact_runs.specs.Records.{HaveEnded}
 
 -- what is left of the octets behind so many lines
 abbrev pub behind_lines : ℕ → List ℕ → List ℕ

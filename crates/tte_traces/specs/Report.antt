@@ -1,12 +1,10 @@
 -- The report of a run, as it is put line by line.
-use Rattle.std.specs.Prelude.{ℕ, List, None}
+use Rattle.std.specs.Prelude.{List, None, ℕ}
 use Rattle.net_plan.specs.declared.network.Network.{Network}
 use Rattle.report_text.specs.NoteLine.{report_of}
 use Rattle.run_law.specs.declared.note.Note.{Note}
 use Rattle.tte_forms.specs.Putting.{PutsLines, Shown, StopsWriting}
-use Rattle.world_drive.specs.Observing.{Told}
-use Rattle.world_drive.specs.declared.observing.Cut.{Cut}
-use Rattle.world_drive.specs.declared.observing.Cut.TheVariants.{OutOfMemory, WriteFault}
+use Rattle.world_drive.specs.{Observing.Told, declared.observing.Cut.{Cut, TheVariants.{OutOfMemory, WriteFault}}}
 
 -- what is told of a sink, as it shows it; what it passed on is left out
 abbrev pub shown_as : Told → Shown

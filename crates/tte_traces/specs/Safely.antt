@@ -1,28 +1,23 @@
 -- What `run` writes is the report of a run that is safe.
-use Rattle.std.specs.Prelude.{◌≡◌, ◌⊎◌, ℕ, ◌+◌, List, [], ◌∷◌, ◌++◌, length, Option}
-use Rattle.drift_clock.specs.Segment.{fresh_segment, stepped_segment, segment_reading}
+use Rattle.std.specs.Prelude.{◌++◌, ◌+◌, ◌∷◌, ◌≡◌, ◌⊎◌, List, Option, [], length, ℕ}
+use Rattle.drift_clock.specs.Segment.{fresh_segment, segment_reading, stepped_segment}
 use Rattle.drift_world.specs.Running.{last_time}
-use Rattle.exact_runs.specs.Records.{AreRecordsBefore}
-use Rattle.net_plan.specs.declared.event.Event.{Event}
-use Rattle.net_plan.specs.declared.network.Network.{Network}
+use Rattle.net_plan.specs.declared.{event.Event.Event, network.Network.Network}
 use Rattle.report_text.specs.NoteLine.{report_of}
-use Rattle.run_law.specs.declared.note.Note.{Note}
-use Rattle.run_law.specs.records.Happenings.{happenings}
-use Rattle.safe_runs.specs.Headline.{GoesWell, IsRunBefore, IsWholeRun}
-use Rattle.safe_runs.specs.Under.{scenario_of}
-use Rattle.tte_forms.specs.Answering.{ForOctets}
-use Rattle.tte_forms.specs.Putting.{PutsLines, PutsSo, PutsSome, Shown, WriteFails}
+use Rattle.run_law.specs.{declared.note.Note.Note, records.Happenings.happenings}
+use Rattle.safe_runs.specs.{Headline.{GoesWell, IsRunBefore, IsWholeRun}, Under.scenario_of}
+use Rattle.tte_forms.specs.{Answering.ForOctets, Putting.{PutsLines, PutsSo, PutsSome, Shown, WriteFails}}
 use Rattle.tte_forms.specs.declared.status.Status.{Status}
-use Rattle.tte_forms.specs.declared.status.Status.TheVariants.{Done, TraceRefused, OutsideHypothesis, ReadFault, WriteFault, OutOfMemory, TooLong}
-use Rattle.tte_forms.specs.networks.Accepting.{MeansAccepted}
-use Rattle.tte_forms.specs.networks.NetworkLine.{IsRefusalText}
-use Rattle.tte_traces.specs.FaultLine.{fault_lines}
-use Rattle.tte_traces.specs.Lines.{AreAdmitted, IsFault, behind_lines}
-use Rattle.tte_traces.specs.declared.fault.TraceFault.{TraceFault}
+use Rattle.tte_forms.specs.declared.status.Status.TheVariants.{Done, OutOfMemory, OutsideHypothesis, ReadFault, TooLong}
+use Rattle.tte_forms.specs.declared.status.Status.TheVariants.{TraceRefused, WriteFault}
+use Rattle.tte_forms.specs.networks.{Accepting.MeansAccepted, NetworkLine.IsRefusalText}
 use Rattle.tte_units.specs.Amount.{amount}
+use Rattle.world_exact.specs.Records.{AreRecordsBefore}
+use Rattle.tte_traces.specs.{FaultLine.fault_lines, Lines.{AreAdmitted, IsFault, behind_lines}}
+use Rattle.tte_traces.specs.declared.fault.TraceFault.{TraceFault}
 
--- the run of the network under the events up to the time, this time and all, begins with these records, and goes well up
--- to there
+-- the run of the network under the events up to the time, this time and all, begins with these records, and goes well
+-- up to there
 pub record BeginsRunTo (network : Network) (events : List Event) (time : ℕ) (written : List Note) : Type 0 where
   pub whole : List Note
   pub coming : List Note
@@ -65,8 +60,8 @@ IsSafeText octets trace lines =
     ⊎ IsReportToFault octets trace lines
     ⊎ IsRefusalText lines
 
--- what was put under the status is the report of a run that goes well; or, where the call was cut short, the first lines
--- of one; under NetworkRefused it is none
+-- what was put under the status is the report of a run that goes well; or, where the call was cut short, the first
+-- lines of one; under NetworkRefused it is none
 abbrev pub PutsSafely : Status → List ℕ → List ℕ → Shown → Shown → Type 0
 PutsSafely Done octets trace old new = PutsSo (IsWholeReport octets trace) PutsLines old new
 PutsSafely TraceRefused octets trace old new = PutsSo (IsReportToFault octets trace) PutsLines old new

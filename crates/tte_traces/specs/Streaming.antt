@@ -1,16 +1,12 @@
 -- How much of a trace was taken, and what was written by then.
-use Rattle.std.specs.Prelude.{◌≡◌, ℕ, List, ◌++◌, length, Option, Some, None}
-use Rattle.std.specs.Io.KnownBytes.{Appends}
-use Rattle.net_plan.specs.declared.event.Event.{Event}
-use Rattle.net_plan.specs.declared.network.Network.{Network}
+use Rattle.std.specs.{Io.KnownBytes.Appends, Prelude.{◌++◌, ◌≡◌, List, None, Option, Some, length, ℕ}}
+use Rattle.net_plan.specs.declared.{event.Event.Event, network.Network.Network}
 use Rattle.run_law.specs.declared.note.Note.{Note}
-use Rattle.tte_io.specs.Line.{IsUnbroken}
+use Rattle.tte_forms.specs.{Answering.ForOctets, Putting.{IsPassedOn, PutsLines, Shown}}
 use Rattle.tte_forms.specs.networks.Accepting.{MeansAccepted}
-use Rattle.tte_forms.specs.Answering.{ForOctets}
-use Rattle.tte_traces.specs.Answer.{LinesOf, report_lines}
-use Rattle.tte_traces.specs.Following.{TakesFew}
-use Rattle.tte_forms.specs.Putting.{Shown, IsPassedOn, PutsLines}
-use Rattle.exact_runs.specs.Records.{AreRecordsSoFar}
+use Rattle.tte_io.specs.Line.{IsUnbroken}
+use Rattle.world_exact.specs.Records.{AreRecordsSoFar}
+use Rattle.tte_traces.specs.{Answer.{LinesOf, report_lines}, Following.TakesFew}
 use Rattle.tte_traces.specs.Lines.{AreAdmitted, StandWhole, behind_lines}
 
 -- the fact holds for the octets of a trace and for those that were left of it, where the source tells them
@@ -37,7 +33,8 @@ pub record TakesLittle (lines : LinesOf) (network : Network) (octets left : List
 
 -- the octets taken are the trace's lines of the first events, each with its LF, and then a part of a line; and what was
 -- put are the lines of the run up to the record of the last of these events
-pub record StopsBehindLines (lines : LinesOf) (network : Network) (octets left : List ℕ) (old new : Shown) : Type 0 where
+pub record StopsBehindLines (lines : LinesOf) (network : Network) (octets left : List ℕ) (old new : Shown) : Type
+    0 where
   pub events : List Event
   pub admitted : AreAdmitted network octets events
   pub part : List ℕ

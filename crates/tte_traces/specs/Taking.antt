@@ -1,17 +1,12 @@
 -- A trace as a source of events: what it gave, and what was taken of its octets by then.
-use Rattle.std.specs.Prelude.{◌≡◌, ℕ, List, [], ◌∷◌, ◌++◌, length, Option, Some, IfSome, Err}
-use Rattle.net_plan.specs.declared.event.Event.{Event}
-use Rattle.net_plan.specs.declared.network.Network.{Network}
-use Rattle.tte_forms.specs.Answering.{ForOctets}
-use Rattle.tte_forms.specs.Faults.{PutFailed, ReadFailed}
-use Rattle.tte_forms.specs.Putting.{IsPassedOn, shown_by}
+use Rattle.std.specs.Prelude.{◌++◌, ◌∷◌, ◌≡◌, Err, IfSome, List, Option, Some, [], length, ℕ}
+use Rattle.net_plan.specs.declared.{event.Event.Event, network.Network.Network}
+use Rattle.tte_forms.specs.{Answering.ForOctets, Faults.{PutFailed, ReadFailed}, Putting.{IsPassedOn, shown_by}}
+use Rattle.tte_traces.specs.Following.{Follows, Reads, ReadsAny, ReadsOn, TakesFew}
+use Rattle.tte_traces.specs.{Lines.{AreAdmitted, IsFault, behind_lines}, declared.fault.TraceStop.TraceStop}
+use Rattle.tte_traces.specs.declared.{fault.TraceStop.TheVariants.{Fault, ReadFault, WriteFault}, lines.Trace.Trace}
 use Rattle.tte_io.specs.declared.ends.Sink as sinks
 use Rattle.tte_io.specs.declared.ends.Source as sources
-use Rattle.tte_traces.specs.Following.{Follows, Reads, ReadsAny, ReadsOn, TakesFew}
-use Rattle.tte_traces.specs.Lines.{AreAdmitted, IsFault, behind_lines}
-use Rattle.tte_traces.specs.declared.fault.TraceStop.{TraceStop}
-use Rattle.tte_traces.specs.declared.fault.TraceStop.TheVariants.{Fault, ReadFault, WriteFault}
-use Rattle.tte_traces.specs.declared.lines.Trace.{Trace}
 
 -- the octets that a trace had at first, where they are told, have the events in their first lines
 abbrev pub ReadsFrom : Option (List ℕ) → Option (List ℕ) → Network → List Event → Trace → Type 0
@@ -30,7 +25,8 @@ IsStopAt network events rest ReadFault = Unit {0}
 IsStopAt network events rest WriteFault = Unit {0}
 
 -- the trace gave these events, and behind the lines of all but the last little was taken
-pub record GaveEvents {B : Type 0} (source : sources.Ghosts B) (network : Network) (first : B) (events : List Event) (now : B)
+pub record GaveEvents {B : Type 0} (source : sources.Ghosts B) (network : Network) (first : B) (events : List Event)
+    (now : B)
     (trace : Trace) : Type 0 where
   pub follows : Follows network events trace
   pub reads : ReadsFrom (source.left first) (source.left now) network events trace
@@ -49,7 +45,8 @@ pub record EndedBehind {B : Type 0} (source : sources.Ghosts B) (network : Netwo
   pub few : TakesFewFrom (source.left first) (source.left now) (length events)
 
 -- it stopped behind them
-pub record StoppedBehind {B K : Type 0} (source : sources.Ghosts B) (sink : sinks.Ghosts K) (network : Network) (first : B)
+pub record StoppedBehind {B K : Type 0} (source : sources.Ghosts B) (sink : sinks.Ghosts K) (network : Network)
+    (first : B)
     (events : List Event) (stop : TraceStop) (now : B) (trace : Trace) (before after : K) : Type 0 where
   pub reads : (octets : List ℕ) → source.left first ≡ Some octets → (rest : List ℕ) × (source.left now ≡ Some rest)
       × AreAdmitted network octets events × ReadsOn network octets events (Err stop) trace rest

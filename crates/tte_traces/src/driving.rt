@@ -1,21 +1,18 @@
-ghost use Rattle.std.specs.Prelude.{◌≡◌, true, [], None};
-ghost use Rattle.exact_runs.specs.Worlds.{StandsExact};
-ghost use Rattle.tte_forms.specs.Faults.{HasCause, PutFailed, ReadFailed};
-ghost use Rattle.tte_forms.specs.Putting.{Over};
-ghost use Rattle.tte_traces.specs.Along.{PutsAlong};
-ghost use Rattle.tte_traces.specs.Answer.{IsRunStatus, IsTraceAnswer, LinesOf};
-ghost use Rattle.tte_traces.specs.Ending.{RunEnds};
+ghost use Rattle.std.specs.Prelude.{◌≡◌, None, [], true};
+ghost use Rattle.tte_forms.specs.{Faults.{HasCause, PutFailed, ReadFailed}, Putting.Over};
 ghost use Rattle.world_drive.specs.Observing.{start_by, told_by};
+ghost use Rattle.world_exact.specs.Worlds.{StandsExact};
+ghost use Rattle.tte_traces.specs.{Along.PutsAlong, Answer.{IsRunStatus, IsTraceAnswer, LinesOf}, Ending.RunEnds};
 
 use crate::fault::TraceStop;
 use crate::lines::Trace;
 use crate::refusing::put_fault;
-use exact_runs::ExactWorld;
 use schedule_tables::Accepted;
 use std::alloc::Global;
 use tte_forms::{Status, end_with};
 use tte_io::{LineText, Sink, Source};
 use world_drive::{Cut, Drove, Observer, begin_world, drive};
+use world_exact::ExactWorld;
 
 /// Runs an accepted network under a trace, which is taken line by line, to its end, or to where that is cut short. An
 /// observer sees the run and puts its lines. Behind them the line of the trace's fault is put, if it has one.
@@ -26,7 +23,8 @@ pub fn follow_trace<B: Source, K: Sink, O: Observer<K>>(
     observer: &mut O,
     out: &mut K,
 ) -> Status
-    requires { O.sees accepted.now [] [] None (start_by K.Sink out.old observer.old) (told_by K.Sink out.old) observer.old }
+    requires { O.sees accepted.now [] [] None (start_by K.Sink out.old observer.old) (told_by K.Sink out.old)
+        observer.old }
     ensures ends { (lines : LinesOf) → PutsAlong observer.old O.sees O.stops lines (IsTraceAnswer lines)
         → Over K.Sink out.old out.new (RunEnds (λ trace. IsTraceAnswer lines trace accepted.now) lines accepted.now
         (B.left second.old) (B.left second.new) result) }
@@ -49,7 +47,8 @@ fn follow_world<B: Source, K: Sink, O: Observer<K>>(
 ) -> Status
     requires world { StandsExact accepted.now world.old [] [] }
     requires fresh { (world.old.now ≡ 0) × (world.old.early ≡ true) }
-    requires seen { O.sees accepted.now [] [] None (start_by K.Sink out.old observer.old) (told_by K.Sink out.old) observer.old }
+    requires seen { O.sees accepted.now [] [] None (start_by K.Sink out.old observer.old) (told_by K.Sink out.old)
+        observer.old }
     ensures ends { (lines : LinesOf) → PutsAlong observer.old O.sees O.stops lines (IsTraceAnswer lines)
         → Over K.Sink out.old out.new (RunEnds (λ trace. IsTraceAnswer lines trace accepted.now) lines accepted.now
         (B.left second.old) (B.left second.new) result) }

@@ -1,11 +1,9 @@
-ghost use Rattle.std.specs.Prelude.{◌≡◌, ◌≢◌, ◌↔◌, ◌<◌, ◌≤◌, ◌-◌, ◌^◌, ℕ, List, [], ◌∷◌, ◌++◌, length, Some, Ok, Err, IfErr, IfOk, IfSome, IsNone, IsSome, IsTrue, MatchOption, MatchResult, OnOk};
-ghost use Rattle.net_plan.specs.Ranges.{IsInRange};
-ghost use Rattle.net_plan.specs.declared.event.Event.{Event as EventValue};
+ghost use Rattle.std.specs.Prelude.{◌++◌, ◌-◌, ◌<◌, ◌^◌, ◌↔◌, ◌∷◌, ◌≡◌, ◌≢◌, ◌≤◌, Err, IfErr, IfOk, IfSome, IsNone};
+ghost use Rattle.std.specs.Prelude.{IsSome, IsTrue, List, MatchOption, MatchResult, Ok, OnOk, Some, [], length, ℕ};
+ghost use Rattle.net_plan.specs.{Belonging.IsOfNetwork, Ranges.IsInRange, declared.event.Event.Event as EventValue};
 ghost use Rattle.net_plan.specs.declared.network.Network.{Network as NetworkValue};
-ghost use Rattle.net_plan.specs.Belonging.{IsOfNetwork};
 ghost use Rattle.trace_text.specs.Ranges.{IsEventInRange};
-ghost use Rattle.tte_forms.specs.Faults.{PutFailed, ReadFailed};
-ghost use Rattle.tte_forms.specs.Putting.{IsPassedOn, Over, PutsNone, shown_by};
+ghost use Rattle.tte_forms.specs.{Faults.{PutFailed, ReadFailed}, Putting.{IsPassedOn, Over, PutsNone, shown_by}};
 ghost use Rattle.tte_traces.specs.Following.{Follows, GoesOn, IsFound, IsRefused, JudgesSo, Reads, TakesNext};
 ghost use Rattle.tte_traces.specs.Lines.{HasEvent, IsAdmitted, IsFault, IsOpen};
 ghost use Rattle.tte_traces.specs.Taking.{EndedBehind, GaveEvents, StoppedBehind};
@@ -165,7 +163,8 @@ impl<'a, B: Source, K: Sink> Events<B, K, TraceStop> for Trace<'a> {
 
     ghost ended = { λ network first origin events now it. EndedBehind B.Source network first events now };
 
-    ghost stopped = { λ network first origin events stop now it before after. StoppedBehind B.Source K.Sink network first events stop now it before after };
+    ghost stopped = { λ network first origin events stop now it before after.
+        StoppedBehind B.Source K.Sink network first events stop now it before after };
 
     ghost left = { λ it. 2 ^ 32 - it.lines };
 

@@ -1,10 +1,7 @@
-ghost use Rattle.std.specs.Prelude.{◌≡◌, ◌≢◌, ◌⊎◌, ◌≤◌, length, Err, IfErr};
-ghost use Rattle.tte_io.specs.Line.{ahead_limit, line_limit};
-ghost use Rattle.tte_io.specs.NextLine.{NextLine};
-ghost use Rattle.tte_io.specs.Outcome.{TellsOutcome};
+ghost use Rattle.std.specs.Prelude.{◌≡◌, ◌≢◌, ◌≤◌, ◌⊎◌, Err, IfErr, length};
+ghost use Rattle.tte_forms.specs.{Faults.{PutFailed, ReadFailed}, Putting.{IsPassedOn, Over, PutsNone, shown_by}};
+ghost use Rattle.tte_io.specs.{Line.{ahead_limit, line_limit}, NextLine.NextLine, Outcome.TellsOutcome};
 ghost use Rattle.tte_io.specs.ReaderState.{pending};
-ghost use Rattle.tte_forms.specs.Faults.{PutFailed, ReadFailed};
-ghost use Rattle.tte_forms.specs.Putting.{IsPassedOn, Over, PutsNone, shown_by};
 
 use crate::fault::TraceStop;
 use tte_io::{LineReader, LineTaken, Sink, Source};

@@ -1,9 +1,6 @@
 ghost use Rattle.std.specs.Prelude.{◌≡◌, ◌≤◌, length};
-ghost use Rattle.tte_forms.specs.Answering.{Gives, line_answer};
-ghost use Rattle.tte_forms.specs.Faults.{IsWanted, PutFailed};
-ghost use Rattle.tte_forms.specs.Putting.{Over};
-ghost use Rattle.tte_traces.specs.Refusing.{fault_answer};
-ghost use Rattle.tte_traces.specs.FaultLine.{fault_status, trace_refusal_line};
+ghost use Rattle.tte_forms.specs.{Answering.{Gives, line_answer}, Faults.{IsWanted, PutFailed}, Putting.Over};
+ghost use Rattle.tte_traces.specs.{FaultLine.{fault_status, trace_refusal_line}, Refusing.fault_answer};
 
 use crate::fault::TraceFault;
 use crate::fault_line::{line_reason, make_outside_line, make_trace_refusal_line};

@@ -1,20 +1,17 @@
-ghost use Rattle.std.specs.Prelude.{◌≡◌, IfErr, OnErr, OnOk};
-ghost use Rattle.std.specs.Io.KnownBytes.{Appends};
+ghost use Rattle.std.specs.{Io.KnownBytes.Appends, Prelude.{◌≡◌, IfErr, OnErr, OnOk}};
 ghost use Rattle.net_plan.specs.Ranges.{IsInRange};
-ghost use Rattle.report_text.specs.NoteLine.{note_line};
-ghost use Rattle.report_text.specs.Ranges.{IsNoteOf};
-ghost use Rattle.tte_io.specs.Faults.{Rose, next_count};
-ghost use Rattle.tte_io.specs.Told.{AppendsFront};
+ghost use Rattle.report_text.specs.{NoteLine.note_line, Ranges.IsNoteOf};
+ghost use Rattle.tte_io.specs.{Faults.{Rose, next_count}, Told.AppendsFront};
 ghost use Rattle.tte_traces.specs.Report.{PutsReport, StopsReport};
 
 use drift_world::{EventNote, Given};
-use exact_runs::ExactWorld;
 use net_plan::{Event, Network};
 use report_text::write_in;
 use run_law::Note;
 use tte_io::{LineText, Sink};
 use tte_units::Units;
 use world_drive::{Cut, Observer};
+use world_exact::ExactWorld;
 
 /// Puts a line for each record of a run.
 #[derive(Drop)]

@@ -1,12 +1,8 @@
 ghost use Rattle.std.specs.Prelude.{◌≡◌, ◌⊎◌};
-ghost use Rattle.tte_forms.specs.networks.Accepting.{IsNetworkAnswer};
-ghost use Rattle.tte_forms.specs.Answering.{ForOctets, GivesAnswer};
-ghost use Rattle.tte_forms.specs.Faults.{HasCause, PutFailed, ReadFailed};
-ghost use Rattle.tte_forms.specs.Putting.{Over};
-ghost use Rattle.tte_traces.specs.Answer.{IsRunAnswer, IsRunStatus, report_lines};
-ghost use Rattle.tte_traces.specs.Safely.{WritesSafely};
-ghost use Rattle.tte_traces.specs.Ending.{RunEnds};
-ghost use Rattle.tte_traces.specs.Streaming.{RunStops, RunTakesLittle};
+ghost use Rattle.tte_forms.specs.{Answering.{ForOctets, GivesAnswer}, Faults.{HasCause, PutFailed, ReadFailed}};
+ghost use Rattle.tte_forms.specs.{Putting.Over, networks.Accepting.IsNetworkAnswer};
+ghost use Rattle.tte_traces.specs.{Answer.{IsRunAnswer, IsRunStatus, report_lines}, Ending.RunEnds};
+ghost use Rattle.tte_traces.specs.{Safely.WritesSafely, Streaming.{RunStops, RunTakesLittle}};
 
 use crate::driving::follow_trace;
 use crate::report::Report;

@@ -1,24 +1,10 @@
 -- The observer of `vote` puts nothing along the run.
-use Rattle.std.proofs.Common.{◌≡◌, ℕ, List, [], Option, Some, None, inl, inr, refl, sym, subst}
-use Rattle.net_plan.specs.declared.network.Network.{Network}
-use Rattle.tte_forms.proofs.Octets.{for_all}
+use Rattle.tte_votes.proofs.Words.{◌≡◌, Answer, GivesOne, IsTraceAnswer, List, Network, Option, OutOfMemory, PutsLines, PutsLines-none, Shown, Voters, VotesEnd}
+use Rattle.tte_votes.proofs.Words.{[], for_all, inr, no_lines, refl, subst, sym, vote_lines, ℕ}
 use Rattle.tte_forms.proofs.OneAnswers.{none_put}
-use Rattle.tte_forms.proofs.Puts.{PutsLines-none}
-use Rattle.tte_forms.specs.Answering.{Answer, GivesOne}
-use Rattle.tte_forms.specs.Putting.{PutsLines, Shown}
-use Rattle.tte_forms.specs.declared.status.Status.TheVariants.{OutOfMemory}
-use Rattle.tte_traces.proofs.Streams.{untouched, writes_nothing}
-use Rattle.tte_traces.specs.Along.{PutsAlong}
-use Rattle.tte_traces.specs.Answer.{IsTraceAnswer}
-use Rattle.tte_traces.specs.Report.{StopsLines, shown_as}
-use Rattle.tte_votes.specs.Ending.{VotesEnd}
-use Rattle.tte_votes.specs.Streaming.{no_lines}
-use Rattle.tte_votes.specs.VoteLines.{vote_lines}
-use Rattle.tte_votes.specs.Voting.{SeesVotes, StopsVotes}
-use Rattle.tte_votes.specs.declared.voter.Voter.{Voter}
-use Rattle.vote_law.specs.declared.voters.Voters.{Voters}
-use Rattle.world_drive.specs.Observing.{Sees, Stops, Told}
-use Rattle.world_drive.specs.declared.observing.Cut.{Cut}
+use Rattle.tte_traces.{proofs.Streams.{untouched, writes_nothing}, specs.{Along.PutsAlong, Report.{StopsLines, shown_as}}}
+use Rattle.world_drive.specs.{Observing.{Sees, Stops, Told}, declared.observing.Cut.Cut}
+use Rattle.tte_votes.specs.{Voting.{SeesVotes, StopsVotes}, declared.voter.Voter.Voter}
 use Rattle.world_drive.specs.declared.observing.Cut.TheVariants as cuts
 
 -- what it sees

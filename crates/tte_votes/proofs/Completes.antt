@@ -1,30 +1,16 @@
 -- The answer of `vote` is one, and valid input is answered to its end.
-use Rattle.std.proofs.Common.{◌≡◌, ℕ, true, false, Bool, List, Option, Some, refl, sym, ap, subst, ◌∙◌, inl, inr}
-use Rattle.std.specs.Prelude.{slice_get}
-use Rattle.std.proofs.lemmas.Option.{same_Some}
-use Rattle.net_plan.proofs.SameIds.{same_vl}
-use Rattle.net_plan.specs.Bearers.{vl_names}
-use Rattle.net_plan.specs.declared.event.Event.{Event}
-use Rattle.net_plan.specs.declared.ids.VlId.{VlId}
-use Rattle.net_plan.specs.declared.network.Network.{Network}
-use Rattle.net_plan.specs.declared.tables.VirtualLink.{VirtualLink}
+use Rattle.tte_votes.proofs.Words.{◌∙◌, ◌≡◌, Answer, AreNamed, Bool, Event, GivesAnswer, IsTraceAnswer, IsVoteAnswer, List, MayThey, MeansAccepted, NameRefused}
+use Rattle.tte_votes.proofs.Words.{Names, Network, ReadFault, Shown, Some, Status, VirtualLink, VlId, Voters, WriteFault, ap, false, inl, inr, subst, sym, true}
+use Rattle.tte_votes.proofs.Words.{vote_lines, ℕ}
+use Rattle.std.{proofs.lemmas.Option.same_Some, specs.Prelude.slice_get}
+use Rattle.net_plan.{proofs.SameIds.same_vl, specs.Bearers.vl_names}
 use Rattle.schedule_checker.specs.Refusals.{RefusalIsOne}
 use Rattle.trace_text.proofs.Bearing.{place_found}
-use Rattle.tte_forms.proofs.OneAnswers.{answered_done}
-use Rattle.tte_forms.proofs.networks.Answers.{accepted_alone, network_answer_one}
-use Rattle.tte_forms.specs.Answering.{Answer, GivesAnswer, IsDone, line_answer}
-use Rattle.tte_forms.specs.Putting.{Shown}
-use Rattle.tte_forms.specs.declared.status.Status.{Status}
-use Rattle.tte_forms.specs.declared.status.Status.TheVariants.{NameRefused, ReadFault, WriteFault}
-use Rattle.tte_forms.specs.networks.Accepting.{IsNetworkAnswer, MeansAccepted}
-use Rattle.tte_traces.proofs.Answers.{trace_answer_one}
-use Rattle.tte_traces.proofs.Given.{all_done}
-use Rattle.tte_traces.specs.Along.{IsAllAdmitted}
-use Rattle.tte_traces.specs.Answer.{IsTraceAnswer}
-use Rattle.tte_votes.specs.Answer.{AreNamed, IsFirstUnknown, IsNamed, IsUnknown, IsVoteAnswer, IsVoteRefusal, IsVoting, MayThey, Names, name_line}
-use Rattle.tte_votes.specs.VoteLines.{vote_lines}
-use Rattle.vote_law.specs.Voting.{MayVote, are_matches}
-use Rattle.vote_law.specs.declared.voters.Voters.{Voters}
+use Rattle.tte_forms.{proofs.{OneAnswers.answered_done, networks.Answers.{accepted_alone, network_answer_one}}, specs.Answering.{IsDone, line_answer}}
+use Rattle.tte_forms.specs.networks.Accepting.{IsNetworkAnswer}
+use Rattle.tte_traces.{proofs.{Answers.trace_answer_one, Given.all_done}, specs.Along.IsAllAdmitted}
+use Rattle.vote_law.specs.Voting.{are_matches}
+use Rattle.tte_votes.specs.Answer.{IsFirstUnknown, IsNamed, IsUnknown, IsVoteRefusal, IsVoting, name_line}
 
 -- ---- the names
 

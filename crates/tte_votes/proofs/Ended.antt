@@ -1,42 +1,19 @@
 -- How `vote` ends, where the drive came to its end or to a fault: the votes are put, and all is passed on.
-use Rattle.std.proofs.Common.{◌≡◌, ◌⊎◌, ℕ, ◌+◌, List, [], ◌++◌, length, inl, inr, refl, sym, ap, subst, ◌∙◌}
-use Rattle.exact_runs.specs.Records.{AreAllRecords, AreRecordsSoFar}
-use Rattle.exact_runs.specs.Worlds.{ExactWorld}
-use Rattle.net_plan.specs.declared.event.Event.{Event}
-use Rattle.net_plan.specs.declared.network.Network.{Network}
-use Rattle.run_law.specs.declared.note.Note.{Note}
-use Rattle.tte_forms.proofs.Octets.{for_more}
-use Rattle.tte_forms.proofs.OneAnswers.{one_given}
-use Rattle.tte_forms.proofs.Puts.{PutsLines-none}
-use Rattle.tte_forms.proofs.frames.Frames.{Gives-behind}
-use Rattle.tte_forms.specs.Answering.{Answer, Gives, GivesOne}
-use Rattle.tte_forms.specs.Putting.{PutsLines, Shown, shown_by}
-use Rattle.tte_forms.specs.declared.status.Status.TheVariants.{Done, ReadFault, WriteFault}
-use Rattle.tte_forms.specs.declared.status.Status.{Status}
+use Rattle.tte_votes.proofs.Words.{◌++◌, ◌+◌, ◌∙◌, ◌≡◌, ◌⊎◌, Answer, Done, Event, Gives, GivesOne, IsTraceAnswer, List, Network, Note, PutsLines}
+use Rattle.tte_votes.proofs.Words.{PutsLines-none, ReadFault, Shown, Status, Voters, VotesEnd, WriteFault, [], ap, fault_lines, fault_status, for_more, inl}
+use Rattle.tte_votes.proofs.Words.{inr, length, no_lines, refl, shown_by, subst, sym, vote_lines, ℕ}
+use Rattle.tte_forms.proofs.{OneAnswers.one_given, frames.Frames.Gives-behind}
+use Rattle.tte_traces.proofs.Answers.{IsFaultBehind, faulty_answer, faulty_is, whole_is}
+use Rattle.tte_traces.proofs.{Ends.{for_stopped, little_at, little_so_far, puts_shown, trace_ended, trace_stopped}, Streams.writes_answer}
+use Rattle.tte_traces.specs.{Along.IsAllAdmitted, Lines.{AreAdmitted, IsFault, behind_lines}, Report.shown_as, Taking.IsStopAt}
+use Rattle.tte_traces.specs.declared.{fault.{TraceFault.TraceFault, TraceStop.TraceStop}, lines.Trace.Trace}
+use Rattle.world_drive.specs.{Driving.{DrivesAll, DrivesSoFar}, Observing.{Told, told_by}}
+use Rattle.world_exact.specs.{Records.{AreAllRecords, AreRecordsSoFar}, Worlds.ExactWorld}
+use Rattle.tte_votes.{proofs.Along.{IsOwn, vote_sees, vote_stops, votes_along}, specs.declared.voter.Voter.Voter}
 use Rattle.tte_io.specs.declared.ends.Sink as sinks
 use Rattle.tte_io.specs.declared.ends.Source as sources
-use Rattle.tte_traces.proofs.Answers.{IsFaultBehind, faulty_answer, faulty_is, whole_is}
-use Rattle.tte_traces.proofs.Ends.{for_stopped, little_at, little_so_far, puts_shown, trace_ended, trace_stopped}
-use Rattle.tte_traces.proofs.Streams.{writes_answer}
-use Rattle.tte_traces.specs.Along.{IsAllAdmitted}
-use Rattle.tte_traces.specs.Answer.{IsTraceAnswer}
-use Rattle.tte_traces.specs.FaultLine.{fault_lines, fault_status}
-use Rattle.tte_traces.specs.Lines.{AreAdmitted, IsFault, behind_lines}
-use Rattle.tte_traces.specs.Report.{shown_as}
-use Rattle.tte_traces.specs.Taking.{IsStopAt}
 use Rattle.tte_traces.specs.declared.fault.TraceFault.TheVariants as faults
-use Rattle.tte_traces.specs.declared.fault.TraceFault.{TraceFault}
 use Rattle.tte_traces.specs.declared.fault.TraceStop.TheVariants as ends
-use Rattle.tte_traces.specs.declared.fault.TraceStop.{TraceStop}
-use Rattle.tte_traces.specs.declared.lines.Trace.{Trace}
-use Rattle.tte_votes.proofs.Along.{IsOwn, vote_sees, vote_stops, votes_along}
-use Rattle.tte_votes.specs.Ending.{VotesEnd}
-use Rattle.tte_votes.specs.Streaming.{no_lines}
-use Rattle.tte_votes.specs.VoteLines.{vote_lines}
-use Rattle.tte_votes.specs.declared.voter.Voter.{Voter}
-use Rattle.vote_law.specs.declared.voters.Voters.{Voters}
-use Rattle.world_drive.specs.Driving.{DrivesAll, DrivesSoFar}
-use Rattle.world_drive.specs.Observing.{Told, told_by}
 
 -- ---- the answer that was given
 

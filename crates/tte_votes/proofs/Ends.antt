@@ -1,26 +1,14 @@
 -- How `vote` ends.
-use Rattle.std.proofs.Common.{◌≡◌, ◌≢◌, ◌⊎◌, ℕ, ◌<◌, List, Option, Some, get_or, slice_get, length, map, inl, inr, refl, sym, ap, subst, ◌∙◌, arith}
-use Rattle.std.proofs.lemmas.List.{length-map}
-use Rattle.std.proofs.lemmas.Option.{slice_get_read, slice_get_within}
-use Rattle.net_plan.specs.Bearers.{vl_names}
-use Rattle.net_plan.specs.Ranges.{IsInRange}
-use Rattle.net_plan.specs.declared.ids.VlId.{VlId}
-use Rattle.net_plan.specs.declared.network.Network.{Network}
-use Rattle.net_plan.specs.declared.tables.VirtualLink.{VirtualLink}
-use Rattle.tte_forms.proofs.Octets.{for_all, for_more}
-use Rattle.tte_forms.proofs.OneAnswers.{answer_widened, one_of}
-use Rattle.tte_forms.proofs.networks.Answers.{accepted_given}
-use Rattle.tte_forms.specs.Answering.{Answer, ForOctets, GivesAnswer, GivesOne}
-use Rattle.tte_forms.specs.Putting.{Shown}
-use Rattle.tte_forms.specs.declared.status.Status.{Status}
-use Rattle.tte_forms.specs.declared.status.Status.TheVariants.{Done, Usage, FrameRefused, NetworkRefused, TraceRefused, OutsideHypothesis, ReadFault, WriteFault, OutOfMemory, TooLong, AuditRefused, GranuleRefused, CaptureRefused, NameRefused, VoteRefused}
-use Rattle.tte_forms.specs.networks.Accepting.{IsNetworkAnswer, MeansAccepted}
-use Rattle.tte_traces.proofs.Existing.{trace_answers_exist}
-use Rattle.tte_traces.specs.Answer.{IsRunStatus, IsTraceAnswer}
-use Rattle.tte_votes.specs.Answer.{IsNamed, IsVoteAnswer, IsVoteStatus, Names}
-use Rattle.tte_votes.specs.Ending.{VoteEnds}
-use Rattle.tte_votes.specs.Streaming.{IsOfRun, VoteStops, VoteTakesLittle}
-use Rattle.tte_votes.specs.VoteLines.{vote_lines}
+use Rattle.tte_votes.proofs.Words.{◌<◌, ◌∙◌, ◌≡◌, ◌⊎◌, Done, GivesAnswer, GivesOne, IsTraceAnswer, IsVoteAnswer, List, MeansAccepted, NameRefused, Names}
+use Rattle.tte_votes.proofs.Words.{Network, Option, OutOfMemory, ReadFault, Shown, Some, Status, VirtualLink, VlId, VoteRefused, WriteFault, ap, arith, for_all}
+use Rattle.tte_votes.proofs.Words.{for_more, inl, inr, length, refl, subst, sym, vote_lines, ℕ}
+use Rattle.std.proofs.{Common.{◌≢◌, get_or, slice_get}, lemmas.{List.length-map, Option.{slice_get_read, slice_get_within}}}
+use Rattle.net_plan.specs.{Bearers.vl_names, Ranges.IsInRange}
+use Rattle.tte_forms.{proofs.{OneAnswers.{answer_widened, one_of}, networks.Answers.accepted_given}, specs.Answering.ForOctets}
+use Rattle.tte_forms.specs.declared.status.Status.TheVariants.{AuditRefused, CaptureRefused, FrameRefused, GranuleRefused, NetworkRefused, NumberRefused}
+use Rattle.tte_forms.specs.{declared.status.Status.TheVariants.{OutsideHypothesis, TooLong, TraceRefused, Usage}, networks.Accepting.IsNetworkAnswer}
+use Rattle.tte_traces.{proofs.Existing.trace_answers_exist, specs.Answer.IsRunStatus}
+use Rattle.tte_votes.specs.{Answer.{IsNamed, IsVoteStatus}, Ending.VoteEnds, Streaming.{IsOfRun, VoteStops, VoteTakesLittle}}
 
 -- a virtual link that is read is the network's
 pub vl_read : (xs ys : List VirtualLink) (i : ℕ) (x : VirtualLink) → xs ≡ ys → i < length ys → x ≡ get_or xs i x → slice_get ys i ≡ Some x
@@ -88,6 +76,7 @@ vote_status GranuleRefused is = is
 vote_status CaptureRefused is = is
 vote_status NameRefused is = tt
 vote_status VoteRefused is = tt
+vote_status NumberRefused is = is
 
 pub of_run : (status : Status) → IsRunStatus status → IsOfRun status
 of_run status is = (λ same. subst IsRunStatus same is, λ same. subst IsRunStatus same is)

@@ -7,3 +7,4 @@ pub mod Ended
 pub mod Safely
 pub mod Ends
 pub mod Completes
+pub mod Words

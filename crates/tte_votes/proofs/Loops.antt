@@ -1,30 +1,17 @@
 -- The lines of ballots are put one after another.
-use Rattle.std.proofs.Common.{◌≡◌, ℕ, ◌+◌, ◌*◌, ◌^◌, ◌<◌, ◌≤◌, Bool, true, false, nat_lt, Option, Result, Ok, Err, List, [], ◌∷◌, ◌++◌, length, refl, sym, ap, subst, ◌∙◌, arith}
-use Rattle.std.specs.Io.KnownBytes.{Appends}
-use Rattle.std.specs.Prelude.{if◌then◌else◌, OnErr, OnOk}
-use Rattle.std.proofs.lemmas.Bool.{lt-ltb}
+use Rattle.tte_votes.proofs.Words.{if◌then◌else◌, ◌++◌, ◌+◌, ◌<◌, ◌^◌, ◌∙◌, ◌∷◌, ◌≡◌, ◌≤◌, Bool, DeviceId, Event, List, Network, Note, Option, PutsLines}
+use Rattle.tte_votes.proofs.Words.{PutsLines-none, Shown, Voters, Votes, [], ap, arith, false, happenings, key_of, length, lines_at, refl, shown_by, subst, sym}
+use Rattle.tte_votes.proofs.Words.{true, voted, ℕ}
+use Rattle.std.{proofs.{Common.{Err, Ok, Result, nat_lt}, lemmas.Bool.lt-ltb}, specs.{Io.KnownBytes.Appends, Prelude.{OnErr, OnOk}}}
 use Rattle.net_plan.specs.Belonging.{device_name}
-use Rattle.tte_io.specs.Faults.{next_count}
-use Rattle.tte_io.specs.Told.{AppendsFront}
-use Rattle.tte_io.specs.declared.ends.Sink.{Ghosts}
-use Rattle.tte_votes.specs.Putting.{PutsAll}
-use Rattle.exact_runs.specs.Worlds.{ExactWorld, StandsExact}
-use Rattle.kept_votes.specs.Keeping.{AreOpenFrom, IsNext, key_of}
-use Rattle.kept_votes.specs.declared.votes.KeptVotes.{KeptVotes}
-use Rattle.net_plan.specs.declared.event.Event.{Event}
-use Rattle.net_plan.specs.declared.ids.DeviceId.{DeviceId}
-use Rattle.net_plan.specs.declared.network.Network.{Network}
-use Rattle.run_law.proofs.records.Happenings.{as_many}
-use Rattle.run_law.proofs.runs.NetworkRuns.{one_more}
-use Rattle.run_law.specs.declared.note.Note.{Note}
-use Rattle.run_law.specs.records.Happenings.{happening, happenings}
-use Rattle.tmr_vote.specs.Vote.{Votes, voted}
-use Rattle.tte_forms.proofs.Puts.{PutFails-behind, PutsLines-append, PutsLines-fails, PutsLines-more, PutsLines-none}
-use Rattle.tte_forms.specs.Putting.{PutFails, PutsLines, Shown, shown_by}
+use Rattle.run_law.{proofs.{records.Happenings.as_many, runs.NetworkRuns.one_more}, specs.records.Happenings.happening}
+use Rattle.tte_forms.{proofs.Puts.{PutFails-behind, PutsLines-append, PutsLines-fails, PutsLines-more}, specs.Putting.PutFails}
+use Rattle.tte_io.specs.{Faults.next_count, Told.AppendsFront, declared.ends.Sink.Ghosts}
 use Rattle.tte_traces.proofs.Given.{PutFails-more}
-use Rattle.tte_votes.proofs.Places.{lines_all, lines_front, lines_given, lines_none, lines_open, lines_to}
-use Rattle.tte_votes.specs.VoteLines.{is_cast, lines_at, lines_before, vote_line}
-use Rattle.vote_law.specs.declared.voters.Voters.{Voters}
+use Rattle.vote_ballots.specs.{Keeping.{AreOpenFrom, IsNext}, declared.votes.KeptVotes.KeptVotes}
+use Rattle.world_exact.specs.Worlds.{ExactWorld, StandsExact}
+use Rattle.tte_votes.{proofs.Places.{lines_all, lines_front, lines_given, lines_none, lines_open, lines_to}, specs.Putting.PutsAll}
+use Rattle.tte_votes.specs.VoteLines.{is_cast, lines_before, vote_line}
 
 -- a record that the world gave has the next number
 pub number_given : (network : Network) (world : ExactWorld) (events : List Event) (notes : List Note) (note : Note)

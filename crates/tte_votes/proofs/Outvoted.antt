@@ -1,36 +1,16 @@
 -- In a run that goes well two correct senders outvote the third, and the lines tell it.
-use Rattle.std.proofs.Common.{◌≡◌, ℕ, ◌+◌, ◌^◌, ◌<◌, Bool, true, false, List, [], ◌∷◌, ◌++◌, cond, find, length, Option, Some, inl, inr, refl, sym, ap, subst, ◌∙◌, append_assoc}
-use Rattle.std.specs.Prelude.{option_and_then, option_map}
-use Rattle.std.proofs.lemmas.List.{append-nil}
-use Rattle.std.proofs.lemmas.Option.{slice_get_within}
+use Rattle.tte_votes.proofs.Words.{◌++◌, ◌+◌, ◌<◌, ◌^◌, ◌∙◌, ◌∷◌, ◌≡◌, Bool, DeviceId, Event, Happening, List, Network, Note, Option, Some, VirtualLink, VlId}
+use Rattle.tte_votes.proofs.Words.{Voters, Votes, [], ap, append-nil, ballot_of, false, happenings, inl, inr, length, refl, sym, true, vote_lines, voted, ℕ}
+use Rattle.std.{proofs.{Common.{append_assoc, cond, find}, lemmas.Option.slice_get_within}, specs.Prelude.{option_and_then, option_map}}
 use Rattle.drift_clock.specs.Segment.{fresh_segment, segment_reading, stepped_segment}
 use Rattle.frame_trace.specs.RecordOctets.{record_octets}
-use Rattle.net_plan.specs.Places.{device_at, is_end_system}
-use Rattle.net_plan.specs.declared.event.Event.{Event}
-use Rattle.net_plan.specs.declared.ids.DeviceId.{DeviceId}
-use Rattle.net_plan.specs.declared.ids.VlId.{VlId}
-use Rattle.net_plan.specs.declared.network.Network.{Network}
-use Rattle.net_plan.specs.declared.tables.Device.{Device}
-use Rattle.net_plan.specs.declared.tables.VirtualLink.{VirtualLink}
-use Rattle.run_law.proofs.runs.NetworkRuns.{one_more}
-use Rattle.run_law.proofs.runs.Places.{in_left}
-use Rattle.run_law.specs.declared.note.Note.{Note}
-use Rattle.run_law.specs.declared.note.NoteBody.{NoteBody}
-use Rattle.run_law.specs.law.Safety.{FramesAreDelivered, IsOwed}
-use Rattle.run_law.specs.records.Happenings.{Happening, happening, happenings}
-use Rattle.run_law.specs.records.Order.{IsIn}
-use Rattle.run_law.specs.scenario.Scenarios.{Scenario}
-use Rattle.safe_runs.specs.Headline.{IsEventOf}
-use Rattle.safe_runs.specs.Under.{scenario_of}
-use Rattle.tmr_vote.specs.Vote.{Votes, voted}
+use Rattle.net_plan.specs.{Places.{device_at, is_end_system}, declared.tables.Device.Device}
+use Rattle.run_law.{proofs.runs.{NetworkRuns.one_more, Places.in_left}, specs.{declared.note.NoteBody.NoteBody, law.Safety.{FramesAreDelivered, IsOwed}}}
+use Rattle.run_law.specs.{records.{Happenings.happening, Order.IsIn}, scenario.Scenarios.Scenario}
+use Rattle.safe_runs.specs.{Headline.IsEventOf, Under.scenario_of}
 use Rattle.tte_lemmas.proofs.Options.{opened}
-use Rattle.tte_votes.proofs.Told.{in_lines}
-use Rattle.tte_votes.specs.Safely.{IsToldVote, TwoOutvote}
-use Rattle.tte_votes.specs.VoteLines.{vote_lines}
-use Rattle.vote_law.proofs.Outvoted.{two_outvote_the_third}
-use Rattle.vote_law.specs.Ballots.{ballot_of, is_delivery, payload_in, payload_taken}
-use Rattle.vote_law.specs.Outvoting.{AreTwoOwed, sent_payload}
-use Rattle.vote_law.specs.declared.voters.Voters.{Voters}
+use Rattle.vote_law.{proofs.Outvoted.two_outvote_the_third, specs.{Ballots.{is_delivery, payload_in, payload_taken}, Outvoting.{AreTwoOwed, sent_payload}}}
+use Rattle.tte_votes.{proofs.Told.in_lines, specs.Safely.TwoOutvote}
 
 -- ---- records of events add no vote
 

@@ -1,17 +1,10 @@
 -- The lines of votes by the places of their ballots.
-use Rattle.std.proofs.Common.{◌≡◌, ℕ, zero, suc, ◌+◌, ◌*◌, ◌^◌, ◌<◌, ◌≤◌, ◌-◌, ◌/◌, ◌%◌, Bool, true, false, nat_lt, List, [], ◌∷◌, ◌++◌, length, inl, inr, refl, sym, ap, subst, ◌∙◌, arith, append_assoc, append-nil}
-use Rattle.std.specs.Prelude.{if◌then◌else◌}
-use Rattle.std.proofs.lemmas.Bool.{cases_lt, lt-ltb, false_from_ne_true, ltb-true}
-use Rattle.kept_votes.specs.Keeping.{AreOpenFrom, IsNext, key_of}
-use Rattle.kept_votes.specs.declared.votes.KeptVotes.{KeptVotes}
-use Rattle.net_plan.specs.declared.ids.DeviceId.{DeviceId}
-use Rattle.net_plan.specs.declared.network.Network.{Network}
-use Rattle.run_law.specs.declared.note.Note.{Note}
-use Rattle.run_law.specs.records.Happenings.{Happening, happenings}
-use Rattle.tmr_vote.specs.Vote.{Votes, no_votes}
-use Rattle.tte_votes.specs.VoteLines.{ballot_lines, lines_at, lines_before, lines_by_first}
-use Rattle.vote_law.specs.Ballots.{ballot_of}
-use Rattle.vote_law.specs.declared.voters.Voters.{Voters}
+use Rattle.tte_votes.proofs.Words.{if◌then◌else◌, ◌++◌, ◌+◌, ◌<◌, ◌^◌, ◌∙◌, ◌≡◌, ◌≤◌, Bool, DeviceId, Happening, List, Network, Note, Voters, Votes, [], ap}
+use Rattle.tte_votes.proofs.Words.{append-nil, arith, ballot_of, false, happenings, inl, inr, key_of, length, lines_at, refl, sym, true, ℕ}
+use Rattle.std.proofs.{Common.{◌%◌, ◌*◌, ◌-◌, ◌/◌, append_assoc, nat_lt, suc, zero}, lemmas.Bool.{cases_lt, false_from_ne_true, lt-ltb, ltb-true}}
+use Rattle.tmr_vote.specs.Vote.{no_votes}
+use Rattle.vote_ballots.specs.{Keeping.{AreOpenFrom, IsNext}, declared.votes.KeptVotes.KeptVotes}
+use Rattle.tte_votes.specs.VoteLines.{ballot_lines, lines_before, lines_by_first}
 
 abbrev pub the_device : ℕ → DeviceId
 the_device n = record { 0 = n }

@@ -1,37 +1,22 @@
 -- What `vote` puts are the votes in a run that goes well, in which two outvote the third.
-use Rattle.std.proofs.Common.{◌≡◌, ◌⊎◌, ℕ, ◌<◌, true, List, [], ◌∷◌, ◌++◌, Option, inl, inr, refl, sym, ap, subst, ◌∙◌}
-use Rattle.std.proofs.lemmas.List.{append-nil}
-use Rattle.drift_clock.proofs.ExactSegments.{exact_laws}
-use Rattle.drift_clock.specs.Segment.{fresh_segment, segment_reading, stepped_segment}
+use Rattle.tte_votes.proofs.Words.{◌++◌, ◌∙◌, ◌≡◌, ◌⊎◌, Answer, AreNamed, Done, Event, Gives, GivesAnswer, IsVoteAnswer, List, MayThey, MeansAccepted}
+use Rattle.tte_votes.proofs.Words.{NameRefused, Names, Network, Option, OutOfMemory, PutsLines, PutsLines-none, ReadFault, Shown, Status, VoteRefused, Voters}
+use Rattle.tte_votes.proofs.Words.{WriteFault, [], ap, append-nil, fault_lines, for_all, for_more, inl, inr, refl, subst, sym, true, vote_lines, ℕ}
+use Rattle.drift_clock.{proofs.ExactSegments.exact_laws, specs.Segment.{fresh_segment, segment_reading, stepped_segment}}
 use Rattle.drift_world.specs.Running.{last_time}
-use Rattle.exact_runs.proofs.Clocks.{exact_begins}
 use Rattle.net_plan.specs.Ranges.{IsInRange}
-use Rattle.net_plan.specs.declared.event.Event.{Event}
-use Rattle.net_plan.specs.declared.network.Network.{Network}
 use Rattle.safe_runs.proofs.Clocked.{ended, so_far}
-use Rattle.tte_forms.proofs.Octets.{for_all, for_more}
-use Rattle.tte_forms.proofs.OneAnswers.{fails_given, none_put, some_given}
-use Rattle.tte_forms.proofs.Puts.{PutsLines-none, PutsLines-still}
-use Rattle.tte_forms.proofs.networks.Refused.{refusal_fails, refusal_some, some_text}
-use Rattle.tte_forms.specs.Answering.{Answer, ForOctets, Gives, GivesAnswer}
-use Rattle.tte_forms.specs.Putting.{PutsLines, PutsNone, PutsSo, PutsSome, Shown, WriteFails}
-use Rattle.tte_forms.specs.declared.accepting.NoNetwork.{NoNetwork}
-use Rattle.tte_forms.specs.declared.status.Status.{Status}
-use Rattle.tte_forms.specs.declared.status.Status.TheVariants.{Done, Usage, FrameRefused, NetworkRefused, TraceRefused, OutsideHypothesis, ReadFault, WriteFault, OutOfMemory, TooLong, AuditRefused, GranuleRefused, CaptureRefused, NameRefused, VoteRefused}
-use Rattle.tte_forms.specs.networks.Accepting.{MeansAccepted}
+use Rattle.tte_forms.proofs.{OneAnswers.{fails_given, none_put, some_given}, Puts.PutsLines-still, networks.Refused.{refusal_fails, refusal_some, some_text}}
+use Rattle.tte_forms.specs.{Answering.ForOctets, Putting.{PutsNone, PutsSo, PutsSome, WriteFails}, declared.accepting.NoNetwork.NoNetwork}
+use Rattle.tte_forms.specs.declared.status.Status.TheVariants.{AuditRefused, CaptureRefused, FrameRefused, GranuleRefused, NetworkRefused, NumberRefused}
+use Rattle.tte_forms.specs.declared.status.Status.TheVariants.{OutsideHypothesis, TooLong, TraceRefused, Usage}
 use Rattle.tte_forms.specs.networks.NoNetworks.{IsNoNetwork, no_network_answer}
-use Rattle.tte_traces.proofs.NoRun.{given_none, none_long}
-use Rattle.tte_traces.proofs.Safely.{not_done}
-use Rattle.tte_traces.proofs.Texts.{admitted_under}
-use Rattle.tte_traces.specs.Answer.{AnswersAll, AnswersFault}
-use Rattle.tte_traces.specs.FaultLine.{fault_lines, fault_status}
+use Rattle.tte_traces.{proofs.{NoRun.{given_none, none_long}, Safely.not_done, Texts.admitted_under}, specs.Answer.{AnswersAll, AnswersFault}}
 use Rattle.tte_traces.specs.Lines.{AreAdmitted}
 use Rattle.tte_units.specs.Amount.{amount}
-use Rattle.tte_votes.proofs.Outvoted.{outvoted, outvoted_before}
-use Rattle.tte_votes.specs.Answer.{AreNamed, IsVoteAnswer, IsVoteRefusal, IsVoting, MayThey, Names}
+use Rattle.world_exact.proofs.Clocks.{exact_begins}
+use Rattle.tte_votes.{proofs.Outvoted.{outvoted, outvoted_before}, specs.Answer.IsVoteRefusal}
 use Rattle.tte_votes.specs.Safely.{IsSafeVotes, IsVoteRefusalText, IsVotedRun, IsVotedToFault, PutsVotesSafely, TwoOutvote, VotesSafely}
-use Rattle.tte_votes.specs.VoteLines.{vote_lines}
-use Rattle.vote_law.specs.declared.voters.Voters.{Voters}
 
 -- ---- what an answer's lines are
 
@@ -41,7 +26,8 @@ module _ (names : Names) (octets trace : List ℕ) (network : Network) (range : 
     whole : AnswersAll (vote_lines voters) network trace events a → IsVotedRun names octets trace a.lines
     whole is =
         let under = admitted_under octets trace network events range accepted all in
-        let run = ended fresh_segment stepped_segment segment_reading exact_laws exact_begins network events is.records.0 is.notes under is.records.1 is.records.2 in
+        let run = ended fresh_segment stepped_segment segment_reading exact_laws exact_begins network events is.records.0 is.notes under is.records.1
+        is.records.2 in
         let votes = vote_lines voters network events is.notes in
         let lines : a.lines ≡ votes = ap (λ (b : Answer). b.lines) is.answer in
         record {
@@ -197,6 +183,7 @@ module _ (names : Names) (octets trace : List ℕ) (network : Network) (range : 
     puts_safely CaptureRefused g = tt
     puts_safely NameRefused g = tt
     puts_safely VoteRefused g = tt
+    puts_safely NumberRefused g = tt
 
 -- ---- where there is no accepted network
 
@@ -220,6 +207,7 @@ none_puts names GranuleRefused octets trace cause old new g = tt
 none_puts names CaptureRefused octets trace cause old new g = tt
 none_puts names NameRefused octets trace cause old new g = tt
 none_puts names VoteRefused octets trace cause old new g = tt
+none_puts names NumberRefused octets trace cause old new g = tt
 
 -- ---- for the octets of a network file and of a trace
 

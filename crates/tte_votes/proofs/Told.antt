@@ -1,18 +1,10 @@
 -- A vote stands in the lines.
-use Rattle.std.proofs.Common.{◌≡◌, ℕ, zero, suc, ◌^◌, ◌<◌, ◌≤◌, Bool, true, false, List, [], ◌∷◌, ◌++◌, length, Option, Some, None, inl, inr, refl, sym, ap, subst, ◌∙◌, arith}
-use Rattle.std.specs.Prelude.{if◌then◌else◌}
-use Rattle.std.proofs.lemmas.Bool.{cases_lt}
+use Rattle.tte_votes.proofs.Words.{if◌then◌else◌, ◌<◌, ◌∙◌, ◌∷◌, ◌≡◌, Bool, DeviceId, Happening, List, Network, Option, Some, Voters, Votes, [], ap, arith}
+use Rattle.tte_votes.proofs.Words.{ballot_of, false, inl, inr, length, refl, subst, sym, true, voted, ℕ}
+use Rattle.std.proofs.{Common.{None, suc, zero}, lemmas.Bool.cases_lt}
 use Rattle.net_plan.specs.Belonging.{device_name}
-use Rattle.net_plan.specs.declared.ids.DeviceId.{DeviceId}
-use Rattle.net_plan.specs.declared.network.Network.{Network}
-use Rattle.run_law.proofs.runs.Places.{in_left, in_right}
-use Rattle.run_law.specs.records.Happenings.{Happening}
-use Rattle.run_law.specs.records.Order.{IsIn}
-use Rattle.tmr_vote.specs.Vote.{Votes, voted}
-use Rattle.tte_votes.proofs.Places.{the_device}
-use Rattle.tte_votes.specs.VoteLines.{ballot_lines, is_cast, lines_before, lines_by_first, vote_line}
-use Rattle.vote_law.specs.Ballots.{ballot_of}
-use Rattle.vote_law.specs.declared.voters.Voters.{Voters}
+use Rattle.run_law.{proofs.runs.Places.{in_left, in_right}, specs.records.Order.IsIn}
+use Rattle.tte_votes.{proofs.Places.the_device, specs.VoteLines.{ballot_lines, is_cast, lines_before, lines_by_first, vote_line}}
 
 -- a ballot with a value has a seat cast
 cast_of : (v : Votes) (payload : List ℕ) → voted v ≡ Some payload → is_cast v ≡ true

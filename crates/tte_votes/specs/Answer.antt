@@ -1,15 +1,14 @@
 -- What `vote` answers for the octets of a network file and of a trace, and three names.
-use Rattle.std.specs.Prelude.{◌≡◌, ◌⊎◌, ℕ, true, false, Bool, List, ◌++◌, codes, decimal}
-use Rattle.net_plan.specs.Bearers.{HasNoBearer, IsFirstBearer, vl_names}
-use Rattle.net_plan.specs.declared.ids.VlId.{VlId}
-use Rattle.net_plan.specs.declared.network.Network.{Network}
-use Rattle.net_plan.specs.declared.tables.VirtualLink.{VirtualLink}
-use Rattle.tte_forms.specs.Answering.{Answer, line_answer}
-use Rattle.tte_forms.specs.declared.status.Status.{Status}
-use Rattle.tte_forms.specs.declared.status.Status.TheVariants.{Done, Usage, FrameRefused, NetworkRefused, TraceRefused, OutsideHypothesis, ReadFault, WriteFault, OutOfMemory, TooLong, AuditRefused, GranuleRefused, CaptureRefused, NameRefused, VoteRefused}
+use Rattle.std.specs.Prelude.{◌++◌, ◌≡◌, ◌⊎◌, Bool, List, codes, decimal, false, true, ℕ}
+use Rattle.net_plan.specs.{Bearers.{HasNoBearer, IsFirstBearer, vl_names}, declared.ids.VlId.VlId}
+use Rattle.net_plan.specs.declared.{network.Network.Network, tables.VirtualLink.VirtualLink}
+use Rattle.tte_forms.specs.{Answering.{Answer, line_answer}, declared.status.Status.Status}
+use Rattle.tte_forms.specs.declared.status.Status.TheVariants.{AuditRefused, CaptureRefused, Done, FrameRefused}
+use Rattle.tte_forms.specs.declared.status.Status.TheVariants.{GranuleRefused, NameRefused, NetworkRefused}
+use Rattle.tte_forms.specs.declared.status.Status.TheVariants.{NumberRefused, OutOfMemory, OutsideHypothesis, ReadFault}
+use Rattle.tte_forms.specs.declared.status.Status.TheVariants.{TooLong, TraceRefused, Usage, VoteRefused, WriteFault}
 use Rattle.tte_traces.specs.Answer.{IsTraceAnswer}
-use Rattle.vote_law.specs.declared.voters.Voters.{Voters}
-use Rattle.vote_law.specs.Voting.{MayVote}
+use Rattle.vote_law.specs.{Voting.MayVote, declared.voters.Voters.Voters}
 use Rattle.tte_votes.specs.VoteLines.{vote_lines}
 
 -- three words, which are to name virtual links
@@ -96,3 +95,4 @@ IsVoteStatus GranuleRefused = ⊥
 IsVoteStatus CaptureRefused = ⊥
 IsVoteStatus NameRefused = Unit {0}
 IsVoteStatus VoteRefused = Unit {0}
+IsVoteStatus NumberRefused = ⊥

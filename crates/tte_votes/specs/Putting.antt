@@ -1,11 +1,11 @@
 -- How the lines of votes are put.
-use Rattle.std.specs.Prelude.{◌≡◌, ℕ, List, OnErr, OnOk, Result}
+use Rattle.std.specs.Prelude.{◌≡◌, List, OnErr, OnOk, Result, ℕ}
 use Rattle.tte_forms.specs.Putting.{PutFails, PutsLines, shown_by}
-use Rattle.tte_io.specs.Faults.{Rose}
-use Rattle.tte_io.specs.declared.ends.Sink.{Ghosts}
+use Rattle.tte_io.specs.{Faults.Rose, declared.ends.Sink.Ghosts}
 
 -- the lines were put, or the put of one of them failed
-pub record PutsAll {T E K : Type 0} (sink : Ghosts K) (lines : List (List ℕ)) (result : Result T E) (old new : K) : Type 0 where
+pub record PutsAll {T E K : Type 0} (sink : Ghosts K) (lines : List (List ℕ)) (result : Result T E) (old new : K) : Type
+    0 where
   pub all : OnOk result (PutsLines lines (shown_by sink old) (shown_by sink new))
   pub fails : OnErr result (PutFails lines (shown_by sink old) (shown_by sink new))
 

@@ -1,34 +1,24 @@
 -- The votes that `vote` puts are those of a run that goes well, in which two correct senders outvote the third.
-use Rattle.std.specs.Prelude.{◌≡◌, ◌⊎◌, ℕ, ◌+◌, ◌^◌, ◌<◌, true, List, [], ◌∷◌, ◌++◌, length, Option, Some}
+use Rattle.std.specs.Prelude.{◌++◌, ◌+◌, ◌<◌, ◌^◌, ◌∷◌, ◌≡◌, ◌⊎◌, List, Option, Some, [], length, true, ℕ}
 use Rattle.drift_clock.specs.Segment.{fresh_segment, segment_reading, stepped_segment}
 use Rattle.drift_world.specs.Running.{last_time}
-use Rattle.net_plan.specs.Belonging.{device_name}
-use Rattle.net_plan.specs.declared.event.Event.{Event}
-use Rattle.net_plan.specs.declared.ids.DeviceId.{DeviceId}
-use Rattle.net_plan.specs.declared.network.Network.{Network}
-use Rattle.net_plan.specs.declared.tables.VirtualLink.{VirtualLink}
-use Rattle.run_law.specs.declared.note.Note.{Note}
-use Rattle.run_law.specs.records.Happenings.{happenings}
-use Rattle.run_law.specs.records.Order.{IsIn}
-use Rattle.safe_runs.specs.Headline.{IsRunBefore, IsWholeRun}
-use Rattle.safe_runs.specs.Under.{scenario_of}
+use Rattle.net_plan.specs.{Belonging.device_name, declared.{event.Event.Event, ids.DeviceId.DeviceId}}
+use Rattle.net_plan.specs.declared.{network.Network.Network, tables.VirtualLink.VirtualLink}
+use Rattle.run_law.specs.{declared.note.Note.Note, records.{Happenings.happenings, Order.IsIn}}
+use Rattle.safe_runs.specs.{Headline.{IsRunBefore, IsWholeRun}, Under.scenario_of}
 use Rattle.tmr_vote.specs.Vote.{voted}
-use Rattle.tte_forms.specs.Answering.{ForOctets}
-use Rattle.tte_forms.specs.Putting.{PutsLines, PutsSo, PutsSome, Shown, WriteFails}
+use Rattle.tte_forms.specs.{Answering.ForOctets, Putting.{PutsLines, PutsSo, PutsSome, Shown, WriteFails}}
 use Rattle.tte_forms.specs.declared.status.Status.{Status}
-use Rattle.tte_forms.specs.declared.status.Status.TheVariants.{Done, TraceRefused, OutsideHypothesis, ReadFault, WriteFault, OutOfMemory, TooLong}
-use Rattle.tte_forms.specs.networks.Accepting.{MeansAccepted}
-use Rattle.tte_forms.specs.networks.NetworkLine.{IsRefusalText}
-use Rattle.tte_traces.specs.FaultLine.{fault_lines}
-use Rattle.tte_traces.specs.Lines.{AreAdmitted, IsFault, behind_lines}
+use Rattle.tte_forms.specs.declared.status.Status.TheVariants.{Done, OutOfMemory, OutsideHypothesis, ReadFault, TooLong}
+use Rattle.tte_forms.specs.declared.status.Status.TheVariants.{TraceRefused, WriteFault}
+use Rattle.tte_forms.specs.networks.{Accepting.MeansAccepted, NetworkLine.IsRefusalText}
+use Rattle.tte_traces.specs.{FaultLine.fault_lines, Lines.{AreAdmitted, IsFault, behind_lines}}
 use Rattle.tte_traces.specs.declared.fault.TraceFault.{TraceFault}
 use Rattle.tte_units.specs.Amount.{amount}
+use Rattle.vote_law.specs.{Ballots.ballot_of, Outvoting.{AreTwoOwed, sent_payload}, Voting.MayVote}
+use Rattle.vote_law.specs.declared.voters.Voters.{Voters}
 use Rattle.tte_votes.specs.Answer.{AreNamed, MayThey, Names, name_line, vote_refused}
 use Rattle.tte_votes.specs.VoteLines.{vote_line, vote_lines}
-use Rattle.vote_law.specs.Ballots.{ballot_of}
-use Rattle.vote_law.specs.Outvoting.{AreTwoOwed, sent_payload}
-use Rattle.vote_law.specs.Voting.{MayVote}
-use Rattle.vote_law.specs.declared.voters.Voters.{Voters}
 
 -- by these records the vote of the cycle at the device is this payload, and the lines tell it
 pub record IsToldVote (network : Network) (voters : Voters) (notes : List Note) (cycle : ℕ) (device : DeviceId)
@@ -36,9 +26,9 @@ pub record IsToldVote (network : Network) (voters : Voters) (notes : List Note) 
   pub value : voted (ballot_of voters (happenings network notes) cycle device) ≡ Some payload
   pub told : IsIn (vote_line cycle (device_name network device) (Some payload)) lines
 
--- where, by the records of a run, the frames of two of the three virtual links in a cycle are owed to a device up to the
--- time, its vote by the records that were written is the payload that a correct sender makes for the cycle, whatever the
--- third sender does; so the votes of all such devices are one
+-- where, by the records of a run, the frames of two of the three virtual links in a cycle are owed to a device up to
+-- the time, its vote by the records that were written is the payload that a correct sender makes for the cycle,
+-- whatever the third sender does; so the votes of all such devices are one
 abbrev pub TwoOutvote : Voters → Network → List Event → List Note → List Note → ℕ → List (List ℕ) → Type 0
 TwoOutvote voters network events run written until lines =
     (a b c : VirtualLink) (cycle : ℕ) (device : DeviceId)
@@ -47,8 +37,8 @@ TwoOutvote voters network events run written until lines =
     until voters a b c cycle device
     → IsToldVote network voters written cycle device (sent_payload a cycle) lines
 
--- the lines are the votes in the run of the accepted network under the events of the trace, up to their end; it goes well
--- up to there, and so two outvote the third
+-- the lines are the votes in the run of the accepted network under the events of the trace, up to their end; it goes
+-- well up to there, and so two outvote the third
 pub record IsVotedRun (names : Names) (octets trace : List ℕ) (lines : List (List ℕ)) : Type 0 where
   pub network : Network
   pub accepted : MeansAccepted octets network
@@ -62,8 +52,8 @@ pub record IsVotedRun (names : Names) (octets trace : List ℕ) (lines : List (L
   pub two : TwoOutvote voters network events notes notes (amount run.end) lines
   pub is : lines ≡ vote_lines voters network events notes
 
--- the trace has a fault behind the first events; the lines are the votes in the run under these, up to before the time of
--- the last of them, and then the fault; the run goes well up to there, and so two outvote the third
+-- the trace has a fault behind the first events; the lines are the votes in the run under these, up to before the time
+-- of the last of them, and then the fault; the run goes well up to there, and so two outvote the third
 pub record IsVotedToFault (names : Names) (octets trace : List ℕ) (lines : List (List ℕ)) : Type 0 where
   pub network : Network
   pub accepted : MeansAccepted octets network
@@ -84,8 +74,8 @@ pub record IsVotedToFault (names : Names) (octets trace : List ℕ) (lines : Lis
 abbrev pub IsVoteRefusalText : List (List ℕ) → Type 0
 IsVoteRefusalText lines = ((place : ℕ) × (lines ≡ name_line place ∷ [])) ⊎ (lines ≡ vote_refused ∷ [])
 
--- the lines are the votes in a run that goes well, to the end of the trace or to its fault; or the line of a network that
--- is refused, or of a vote
+-- the lines are the votes in a run that goes well, to the end of the trace or to its fault; or the line of a network
+-- that is refused, or of a vote
 abbrev pub IsSafeVotes : Names → List ℕ → List ℕ → List (List ℕ) → Type 0
 IsSafeVotes names octets trace lines =
     IsVotedRun names octets trace lines

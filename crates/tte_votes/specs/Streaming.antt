@@ -1,10 +1,7 @@
 -- How much of a trace `vote` has taken, and what was put by then: the votes are put at the end.
-use Rattle.std.specs.Prelude.{◌≢◌, ℕ, List, [], Option}
-use Rattle.tte_forms.specs.Putting.{Shown}
-use Rattle.tte_forms.specs.declared.status.Status.{Status}
-use Rattle.tte_forms.specs.declared.status.Status.TheVariants.{NameRefused, VoteRefused}
-use Rattle.tte_traces.specs.Answer.{LinesOf}
-use Rattle.tte_traces.specs.Streaming.{ReadsLittle, StopsReading}
+use Rattle.std.specs.Prelude.{◌≢◌, List, Option, [], ℕ}
+use Rattle.tte_forms.specs.{Putting.Shown, declared.status.Status.{Status, TheVariants.{NameRefused, VoteRefused}}}
+use Rattle.tte_traces.specs.{Answer.LinesOf, Streaming.{ReadsLittle, StopsReading}}
 
 -- no lines are put along a run
 abbrev pub no_lines : LinesOf

@@ -1,14 +1,12 @@
 -- The lines that `vote` puts.
-use Rattle.std.specs.Prelude.{ℕ, zero, suc, ◌^◌, ◌||◌, Bool, List, [], ◌∷◌, ◌++◌, Option, Some, None, codes, decimal, is_some, length, nat_lt, if◌then◌else◌}
+use Rattle.std.specs.Prelude.{if◌then◌else◌, ◌++◌, ◌^◌, ◌||◌, ◌∷◌, Bool, List, None, Option, Some, [], codes, decimal}
+use Rattle.std.specs.Prelude.{is_some, length, nat_lt, suc, zero, ℕ}
 use Rattle.hex.specs.Hex.{encode_lower}
-use Rattle.net_plan.specs.Belonging.{device_name}
-use Rattle.net_plan.specs.declared.ids.DeviceId.{DeviceId}
-use Rattle.net_plan.specs.declared.network.Network.{Network}
+use Rattle.net_plan.specs.{Belonging.device_name, declared.{ids.DeviceId.DeviceId, network.Network.Network}}
 use Rattle.run_law.specs.records.Happenings.{Happening, happenings}
 use Rattle.tmr_vote.specs.Vote.{Votes, voted}
 use Rattle.tte_traces.specs.Answer.{LinesOf}
-use Rattle.vote_law.specs.Ballots.{ballot_of}
-use Rattle.vote_law.specs.declared.voters.Voters.{Voters}
+use Rattle.vote_law.specs.{Ballots.ballot_of, declared.voters.Voters.Voters}
 
 -- the value that was voted, in hexadecimal, or that there is none
 abbrev pub value_text : Option (List ℕ) → List ℕ

@@ -1,13 +1,14 @@
 -- What the observer of `vote` sees of a run.
-use Rattle.std.specs.Prelude.{◌≡◌, ℕ, List}
-use Rattle.kept_votes.specs.Keeping.{HoldsVotes}
+use Rattle.std.specs.Prelude.{◌≡◌, List}
 use Rattle.net_plan.specs.declared.network.Network.{Network}
 use Rattle.run_law.specs.declared.note.Note.{Note}
-use Rattle.tte_votes.specs.declared.voter.Voter.{Voter}
+use Rattle.vote_ballots.specs.Keeping.{HoldsVotes}
 use Rattle.world_drive.specs.Observing.{Start, Told}
+use Rattle.tte_votes.specs.declared.voter.Voter.{Voter}
 
 -- nothing was put, and the votes are those of the records, for the virtual links that the observer had at first
-pub record SeesVotes (network : Network) (notes : List Note) (old : Start Voter) (put : Told) (it : Voter) : Type 0 where
+pub record SeesVotes (network : Network) (notes : List Note) (old : Start Voter) (put : Told) (it : Voter) : Type
+    0 where
   pub votes : HoldsVotes network old.observer.votes.voters notes it.votes
   pub nothing : put ≡ old.told
 

@@ -3,12 +3,12 @@
 ghost use Rattle.tte_votes.specs.Voting.{SeesVotes, StopsVotes, stops_here};
 
 use drift_world::{EventNote, Given};
-use exact_runs::ExactWorld;
-use kept_votes::KeptVotes;
 use net_plan::{Event, Network};
 use tte_io::Sink;
 use tte_units::Units;
+use vote_ballots::KeptVotes;
 use world_drive::{Cut, Observer};
+use world_exact::ExactWorld;
 
 /// Takes the deliveries of a run.
 #[derive(Drop)]

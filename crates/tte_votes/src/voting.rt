@@ -1,35 +1,31 @@
-ghost use Rattle.std.specs.Prelude.{◌≡◌, ◌⊎◌, true, [], None};
-ghost use Rattle.exact_runs.specs.Worlds.{StandsExact};
+ghost use Rattle.std.specs.Prelude.{◌≡◌, ◌⊎◌, None, [], true};
 ghost use Rattle.net_plan.specs.Ranges.{IsInRange};
-ghost use Rattle.tte_forms.specs.Answering.{ForOctets, GivesAnswer};
-ghost use Rattle.tte_forms.specs.Faults.{HasCause, PutFailed, ReadFailed};
-ghost use Rattle.tte_forms.specs.Putting.{Over};
-ghost use Rattle.tte_forms.specs.networks.Accepting.{IsNetworkAnswer};
+ghost use Rattle.tte_forms.specs.{Answering.{ForOctets, GivesAnswer}, Faults.{HasCause, PutFailed, ReadFailed}};
+ghost use Rattle.tte_forms.specs.{Putting.Over, networks.Accepting.IsNetworkAnswer};
 ghost use Rattle.tte_traces.specs.Answer.{IsRunStatus};
-ghost use Rattle.tte_votes.specs.Answer.{IsVoteAnswer, IsVoteStatus, the_names};
-ghost use Rattle.tte_votes.specs.Ending.{VoteEnds, VotesEnd};
-ghost use Rattle.tte_votes.specs.Safely.{VotesSafely};
-ghost use Rattle.tte_votes.specs.Streaming.{IsOfRun, VoteStops, VoteTakesLittle};
-ghost use Rattle.tte_votes.specs.Voting.{SeesVotes};
 ghost use Rattle.world_drive.specs.Observing.{start_by, told_by};
+ghost use Rattle.world_exact.specs.Worlds.{StandsExact};
+ghost use Rattle.tte_votes.specs.{Answer.{IsVoteAnswer, IsVoteStatus, the_names}, Ending.{VoteEnds, VotesEnd}};
+ghost use Rattle.tte_votes.specs.{Safely.VotesSafely, Streaming.{IsOfRun, VoteStops, VoteTakesLittle}};
+ghost use Rattle.tte_votes.specs.Voting.{SeesVotes};
 
 use crate::naming::{may_vote, voters_named};
 use crate::putting::{end_at_fault, end_votes};
 use crate::refused::{put_refused_name, put_refused_vote};
 use crate::voter::Voter;
-use exact_runs::ExactWorld;
-use kept_votes::KeptVotes;
 use schedule_tables::Accepted;
 use std::alloc::Global;
 use tte_forms::{Status, accept, end_with, put_no_network};
 use tte_io::{Sink, Source};
 use tte_traces::{Trace, TraceStop};
+use vote_ballots::KeptVotes;
 use vote_law::Voters;
 use world_drive::{Cut, Drove, begin_world, drive};
+use world_exact::ExactWorld;
 
-/// Runs the network of the first file under the trace of the second, and votes the payloads of the virtual links of these
-/// three names at each receiver, cycle by cycle. The votes are put at the end. A word that names no virtual link, and
-/// virtual links that may not vote, are refused before the trace is read.
+/// Runs the network of the first file under the trace of the second, and votes the payloads of the virtual links of
+/// these three names at each receiver, cycle by cycle. The votes are put at the end. A word that names no virtual link,
+/// and virtual links that may not vote, are refused before the trace is read.
 pub fn vote_trace<A: Source, B: Source, K: Sink>(
     alloc: Global,
     first: &mut A,
@@ -41,7 +37,8 @@ pub fn vote_trace<A: Source, B: Source, K: Sink>(
 ) -> Status
     ensures general { Over K.Sink out.old out.new (λ old new.
         ForOctets (A.left first.old) (λ octets. ForOctets (B.left second.old) (λ trace.
-        GivesAnswer (IsNetworkAnswer (IsVoteAnswer (the_names one.now two.now three.now) trace) octets) result old new))) }
+        GivesAnswer (IsNetworkAnswer (IsVoteAnswer (the_names one.now two.now three.now) trace) octets) result old
+        new))) }
     ensures safe { Over K.Sink out.old out.new
         (VotesSafely (the_names one.now two.now three.now) (A.left first.old) (B.left second.old) result) }
     ensures statuses { IsVoteStatus result }

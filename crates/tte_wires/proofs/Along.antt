@@ -1,34 +1,13 @@
 -- The observer of a way puts the packets of the settled records along the run.
-use Rattle.std.proofs.Common.{◌≡◌, ℕ, true, List, ◌++◌, Option, Some, None, inl, inr, refl, sym, ap, subst, ◌∙◌}
-use Rattle.exact_runs.specs.Records.{AreRecordsSoFar}
-use Rattle.net_plan.specs.declared.event.Event.{Event}
-use Rattle.net_plan.specs.declared.ids.LinkId.{LinkId}
-use Rattle.net_plan.specs.declared.network.Network.{Network}
-use Rattle.net_plan.specs.declared.tables.Way.{Way}
-use Rattle.run_law.specs.declared.note.Note.{Note}
-use Rattle.run_law.specs.records.Happenings.{Happening, happenings}
-use Rattle.run_law.specs.records.Order.{IsIn}
-use Rattle.tte_forms.proofs.Octets.{for_all}
-use Rattle.tte_forms.proofs.OneAnswers.{none_put}
-use Rattle.tte_forms.proofs.Puts.{PutsLines-none}
-use Rattle.tte_forms.specs.Answering.{Answer, GivesOne}
-use Rattle.tte_forms.specs.Putting.{PutsLines, Shown}
-use Rattle.tte_forms.specs.declared.status.Status.TheVariants.{OutOfMemory}
-use Rattle.tte_traces.proofs.Streams.{untouched, writes_nothing}
-use Rattle.tte_traces.specs.Ending.{RunEnds}
-use Rattle.tte_traces.specs.Along.{BeginWith, IsFrontOf, IsShortAt, PutsAlong}
-use Rattle.tte_traces.specs.Answer.{LinesOf}
-use Rattle.tte_traces.specs.Lines.{AreAdmitted}
-use Rattle.tte_traces.specs.Report.{shown_as}
-use Rattle.tte_wires.proofs.Fronts.{GoesOnTo, all_whole, answer_captures, begins, ended_goes, next_goes, so_far_goes}
-use Rattle.tte_wires.proofs.Seen.{at_start}
+use Rattle.tte_wires.proofs.Words.{◌++◌, ◌∙◌, ◌≡◌, Answer, AreAdmitted, AreRecordsSoFar, Capture, Event, GivesOne, Happening, IsCapture, IsIn, LinkId, List}
+use Rattle.tte_wires.proofs.Words.{Network, None, Note, Option, PutsLines, PutsLines-none, RunEnds, SeesWay, Shown, Some, StopsWay, Told, Way, ap, capture_of}
+use Rattle.tte_wires.proofs.Words.{for_all, happenings, inl, inr, is_settled, packets_of, refl, scenario_under, settled, settled_lines, shown_as, subst, sym}
+use Rattle.tte_wires.proofs.Words.{true, unsettled, ℕ}
+use Rattle.tte_forms.{proofs.OneAnswers.none_put, specs.declared.status.Status.TheVariants.OutOfMemory}
+use Rattle.tte_traces.{proofs.Streams.{untouched, writes_nothing}, specs.{Along.{BeginWith, IsFrontOf, IsShortAt, PutsAlong}, Answer.LinesOf}}
+use Rattle.world_drive.specs.Observing.{Sees, Stops}
+use Rattle.tte_wires.proofs.{Fronts.{GoesOnTo, all_whole, answer_captures, begins, ended_goes, next_goes, so_far_goes}, Seen.at_start}
 use Rattle.tte_wires.proofs.Settled.{filter_has, settled_first}
-use Rattle.tte_wires.specs.Answer.{IsCapture}
-use Rattle.tte_wires.specs.Packets.{capture_of, is_settled, packets_of, scenario_under, settled, unsettled}
-use Rattle.tte_wires.specs.Seeing.{SeesWay, StopsWay}
-use Rattle.tte_wires.specs.Streaming.{settled_lines}
-use Rattle.tte_wires.specs.declared.capture.Capture.{Capture}
-use Rattle.world_drive.specs.Observing.{Sees, Stops, Told}
 
 -- what it sees
 abbrev pub way_sees : Sees Capture

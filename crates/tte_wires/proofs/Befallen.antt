@@ -1,26 +1,14 @@
 -- An event that befell the world is seen.
-use Rattle.std.proofs.Common.{◌≡◌, ◌+◌, ◌^◌, ◌≤◌, List, [], ◌∷◌, ◌++◌, length, Result, Ok, Err, inl, inr, sym, ap, subst, ◌∙◌, arith}
+use Rattle.tte_wires.proofs.Words.{◌++◌, ◌+◌, ◌^◌, ◌∙◌, ◌∷◌, ◌≡◌, ◌≤◌, AllBefore, Capture, Cut, Err, Event, ExactWorld, Ghosts, Happening, IsIn, List, Network}
+use Rattle.tte_wires.proofs.Words.{Note, Ok, PassesTo, PutFails, PutsLines, Result, SeesRecords, SeesWay, Start, StopsRecords, StopsWay, Told, [], amount, ap}
+use Rattle.tte_wires.proofs.Words.{arith, happenings, inl, inr, last_happening, length, one_more, place_of, sends_of, sent_packets, shown_as, subst, sym}
+use Rattle.tte_wires.proofs.Words.{told_by}
 use Rattle.std.specs.Prelude.{IfErr, MatchResult, OnOk, unsigned_abs}
 use Rattle.drift_world.specs.Running.{event_note}
-use Rattle.exact_runs.specs.Worlds.{ExactWorld}
-use Rattle.net_plan.specs.declared.event.Event.{Event}
-use Rattle.net_plan.specs.declared.network.Network.{Network}
 use Rattle.run_law.proofs.records.Order.{index_of}
-use Rattle.run_law.proofs.runs.NetworkRuns.{one_more}
-use Rattle.run_law.specs.declared.note.Note.{Note}
-use Rattle.run_law.specs.records.Happenings.{Happening, happenings}
-use Rattle.run_law.specs.records.Order.{AllBefore, IsIn}
-use Rattle.run_law.specs.records.Ranks.{place_of}
-use Rattle.tte_forms.specs.Putting.{PutFails, PutsLines}
-use Rattle.tte_io.specs.declared.ends.Sink.{Ghosts}
-use Rattle.tte_traces.specs.Report.{shown_as}
-use Rattle.tte_units.specs.Amount.{amount}
+use Rattle.world_drive.specs.{Observing.Befell, declared.observing.Cut.TheVariants.{OutOfMemory, WriteFault}}
 use Rattle.tte_wires.proofs.Seen.{IsReady, flush_failed, flushed, later_ready, later_stops, ready_out, ready_seen, same_ready, sent_new}
-use Rattle.tte_wires.specs.Seeing.{PassesTo, SeesRecords, SeesWay, StopsRecords, StopsWay, TakesWhat, last_happening, octets_sent, sends_of, sent_packets}
-use Rattle.tte_wires.specs.declared.capture.Capture.{Capture}
-use Rattle.world_drive.specs.Observing.{Befell, Start, Told, told_by}
-use Rattle.world_drive.specs.declared.observing.Cut.TheVariants.{OutOfMemory, WriteFault}
-use Rattle.world_drive.specs.declared.observing.Cut.{Cut}
+use Rattle.tte_wires.specs.Seeing.{TakesWhat, octets_sent}
 
 module _ (network : Network) (world : ExactWorld) (events : List Event) (notes : List Note) (event : Event) (start : Start Capture) (told : Told)
     (it : Capture) (befell : Befell network world events notes event (event_note (length notes + 1) (length events + 1) event))

@@ -1,30 +1,17 @@
 -- Whether a way is cut, as events befall the network; and the packets that follow from it.
-use Rattle.std.proofs.Common.{◌≡◌, ℕ, ◌<◌, ◌≤◌, ◌==◌, nat_le, Bool, true, false, not, ◌&&◌, if◌then◌else◌, List, [], ◌∷◌, ◌++◌, filter, Option, Some, None, option_map, unwrap_or, refl, sym, ap, subst, ◌∙◌, arith}
-use Rattle.std.specs.List.{cons_option, filter_map, last_or}
-use Rattle.std.proofs.lemmas.Bool.{and_parts, eqb-true, le-leb}
-use Rattle.std.proofs.lemmas.List.{append-nil}
-use Rattle.std.proofs.lemmas.List.Elements.{filter-append, filter_map-append}
-use Rattle.due_queue.proofs.Bags.{same_map}
-use Rattle.net_plan.specs.declared.event.Event.{Event}
-use Rattle.net_plan.specs.declared.event.What.TheVariants as events
-use Rattle.net_plan.specs.declared.ids.LinkId.{LinkId}
-use Rattle.net_plan.specs.declared.network.Network.{Network}
+use Rattle.tte_wires.proofs.Words.{if◌then◌else◌, ◌++◌, ◌<◌, ◌==◌, ◌∙◌, ◌∷◌, ◌≡◌, ◌≤◌, AreFrom, Bool, Event, Happening, IsIn, LinkId, List, Network, None}
+use Rattle.tte_wires.proofs.Words.{NoteBody, Option, Pcf, Scenario, Some, Way, [], amount, and_parts, ap, append-nil, arith, cons_option, eqb-true, false}
+use Rattle.tte_wires.proofs.Words.{filter_map-append, is_sent_on, is_way_of, option_map, packet_at, packet_of, packets_of, rank, record_octets, refl}
+use Rattle.tte_wires.proofs.Words.{scenario_under, sends_of, sent_packets, subst, sym, time_of, true, ℕ}
+use Rattle.std.{proofs.{Common.{◌&&◌, filter, nat_le, not, unwrap_or}, lemmas.{Bool.le-leb, List.Elements.filter-append}}, specs.List.{filter_map, last_or}}
+use Rattle.frame_trace.specs.RecordOctets.{shown}
 use Rattle.net_plan.specs.declared.tables.Way.TheVariants.{Up}
-use Rattle.net_plan.specs.declared.tables.Way.{Way}
-use Rattle.pcf_values.specs.declared.pcf.Pcf.{Pcf}
+use Rattle.run_law.{proofs.records.Order.all_kept, specs.scenario.Ways.{cut_set, is_cut, is_way}}
+use Rattle.tte_traces.proofs.Lasting.{no_events}
+use Rattle.world_queue.proofs.Bags.{same_map}
+use Rattle.tte_wires.specs.{Packets.is_carried, Seeing.{cut_after, sent_by}}
+use Rattle.net_plan.specs.declared.event.What.TheVariants as events
 use Rattle.run_law.specs.declared.note.NoteBody.TheVariants as notes
-use Rattle.run_law.specs.declared.note.NoteBody.{NoteBody}
-use Rattle.run_law.specs.records.Happenings.{Happening, time_of}
-use Rattle.run_law.specs.records.Order.{IsIn}
-use Rattle.run_law.specs.records.Ranks.{rank}
-use Rattle.run_law.specs.scenario.Scenarios.{Scenario}
-use Rattle.run_law.specs.scenario.Ways.{cut_set, is_cut, is_way, is_way_of}
-use Rattle.tte_traces.proofs.Lasting.{AreFrom, no_events}
-use Rattle.tte_units.specs.Amount.{amount}
-use Rattle.tte_wires.specs.Packets.{is_carried, is_sent_on, packet_at, packet_of, packets_of, scenario_under}
-use Rattle.frame_trace.specs.RecordOctets.{record_octets, shown}
-use Rattle.run_law.proofs.records.Order.{all_kept}
-use Rattle.tte_wires.specs.Seeing.{cut_after, sends_of, sent_by, sent_packets}
 
 -- ---- whether the way up is cut
 
@@ -108,7 +95,8 @@ packet_if false t o = option_map (packet_at t) o
 same_link : (link k : LinkId) → link.0 ≡ k.0 → k ≡ link
 same_link link k e = ap (λ (n : ℕ). let l : LinkId = record { 0 = n } in l) (sym e)
 
-sent_one : (link : LinkId) (way : Way) (k : LinkId) (here cut there : Bool) (t : ℕ) (octets : List ℕ) → is_way_of link way k Up ≡ here → (here ≡ true → there ≡ cut)
+sent_one : (link : LinkId) (way : Way) (k : LinkId) (here cut there : Bool) (t : ℕ) (octets : List ℕ) → is_way_of link way k Up ≡ here
+    → (here ≡ true → there ≡ cut)
     → (if here && not there then option_map (packet_at t) (Some octets) else None) ≡ packet_if cut t (if here then Some octets else None)
 sent_one link way k true true there t octets is same = ap (λ (b : Bool). if not b then Some (packet_at t octets) else None) (same refl)
 sent_one link way k true false there t octets is same = ap (λ (b : Bool). if not b then Some (packet_at t octets) else None) (same refl)

@@ -1,52 +1,22 @@
 -- How the capture of a way ends, where the drive came to its end or to a fault: the sends that wait are put, and all is
 -- passed on.
-use Rattle.std.proofs.Common.{◌≡◌, ◌⊎◌, ℕ, ◌+◌, List, [], ◌∷◌, length, inl, inr, refl, sym, ap, subst, ◌∙◌}
+use Rattle.tte_wires.proofs.Words.{◌+◌, ◌∙◌, ◌∷◌, ◌≡◌, ◌⊎◌, Answer, AreAdmitted, AreRecordsSoFar, Capture, EndsEither, Event, ExactWorld, Gives, GivesOne}
+use Rattle.tte_wires.proofs.Words.{IsCapture, LinkId, List, Network, Note, ReadFault, RunEnds, SeesWay, Shown, Status, Units, Way, [], amount, ap, capture_of}
+use Rattle.tte_wires.proofs.Words.{fault_status, for_more, happenings, inl, inr, length, packets_of, refl, scenario_under, sent_packets, settled, settled_lines}
+use Rattle.tte_wires.proofs.Words.{shown_by, subst, sym, told_by, way_lines, ℕ}
 use Rattle.drift_world.specs.Running.{behind_events, last_time}
-use Rattle.exact_runs.specs.Records.{AreAllRecords, AreRecordsBefore, AreRecordsSoFar, clock_reading}
-use Rattle.exact_runs.specs.Worlds.{ExactWorld}
-use Rattle.net_plan.specs.declared.event.Event.{Event}
-use Rattle.net_plan.specs.declared.ids.LinkId.{LinkId}
-use Rattle.net_plan.specs.declared.network.Network.{Network}
-use Rattle.net_plan.specs.declared.tables.Way.{Way}
-use Rattle.run_law.proofs.runs.NetworkRuns.{run_is_one}
-use Rattle.run_law.specs.declared.note.Note.{Note}
-use Rattle.run_law.specs.records.Happenings.{happenings}
-use Rattle.run_law.specs.runs.DueRecords.{EndsAt}
-use Rattle.tte_forms.proofs.OneAnswers.{one_given}
-use Rattle.tte_forms.proofs.frames.Frames.{Gives-behind}
-use Rattle.tte_forms.specs.Answering.{Answer, Gives, GivesOne}
-use Rattle.tte_forms.specs.Putting.{Shown, shown_by}
-use Rattle.tte_forms.specs.declared.status.Status.TheVariants.{Done, ReadFault, WriteFault}
-use Rattle.tte_forms.specs.declared.status.Status.{Status}
+use Rattle.run_law.{proofs.runs.NetworkRuns.run_is_one, specs.runs.DueRecords.EndsAt}
+use Rattle.tte_forms.{proofs.{OneAnswers.one_given, frames.Frames.Gives-behind}, specs.declared.status.Status.TheVariants.{Done, WriteFault}}
+use Rattle.tte_traces.proofs.{Admitted.{admitted_in_order, stopped_one}, Ends.{for_stopped, little_at, little_so_far, puts_shown, trace_ended, trace_stopped}}
+use Rattle.tte_traces.{proofs.{Faults.{end_has_no_fault, fault_one}, Streams.writes_answer}, specs.{Along.IsAllAdmitted, Lines.{IsFault, behind_lines}}}
+use Rattle.tte_traces.specs.{Taking.IsStopAt, declared.{fault.{TraceFault.TraceFault, TraceStop.TraceStop}, lines.Trace.Trace}}
+use Rattle.world_drive.specs.{Driving.{DrivesAll, DrivesSoFar}, Observing.start_by}
+use Rattle.world_exact.specs.Records.{AreAllRecords, AreRecordsBefore, clock_reading}
+use Rattle.tte_wires.proofs.{Along.{IsOwn, lines, way_along, way_sees, way_stops}, Fronts.{all_whole, either_stops}, Seen.{at_start, whole}}
 use Rattle.tte_io.specs.declared.ends.Sink as sinks
 use Rattle.tte_io.specs.declared.ends.Source as sources
-use Rattle.tte_traces.proofs.Admitted.{admitted_in_order, stopped_one}
-use Rattle.tte_traces.proofs.Ends.{for_stopped, little_at, little_so_far, puts_shown, trace_ended, trace_stopped}
-use Rattle.tte_traces.proofs.Faults.{end_has_no_fault, fault_one}
-use Rattle.tte_traces.proofs.Streams.{writes_answer}
-use Rattle.tte_traces.specs.Along.{IsAllAdmitted}
-use Rattle.tte_traces.specs.Ending.{RunEnds}
-use Rattle.tte_traces.specs.FaultLine.{fault_status}
-use Rattle.tte_forms.proofs.Octets.{for_more}
-use Rattle.tte_traces.specs.Taking.{IsStopAt}
-use Rattle.tte_traces.specs.Lines.{AreAdmitted, IsFault, behind_lines}
 use Rattle.tte_traces.specs.declared.fault.TraceFault.TheVariants as faults
-use Rattle.tte_traces.specs.declared.fault.TraceFault.{TraceFault}
 use Rattle.tte_traces.specs.declared.fault.TraceStop.TheVariants as ends
-use Rattle.tte_traces.specs.declared.fault.TraceStop.{TraceStop}
-use Rattle.tte_traces.specs.declared.lines.Trace.{Trace}
-use Rattle.tte_units.specs.Amount.{amount}
-use Rattle.tte_units.specs.declared.units.Units.{Units}
-use Rattle.tte_wires.proofs.Along.{IsOwn, lines, way_along, way_sees, way_stops}
-use Rattle.tte_wires.proofs.Fronts.{all_whole, either_stops}
-use Rattle.tte_wires.proofs.Seen.{at_start, whole}
-use Rattle.tte_wires.specs.Answer.{EndsEither, IsCapture, way_lines}
-use Rattle.tte_wires.specs.Packets.{capture_of, packets_of, scenario_under, settled}
-use Rattle.tte_wires.specs.Seeing.{SeesWay, sent_packets}
-use Rattle.tte_wires.specs.Streaming.{settled_lines}
-use Rattle.tte_wires.specs.declared.capture.Capture.{Capture}
-use Rattle.world_drive.specs.Driving.{DrivesAll, DrivesSoFar}
-use Rattle.world_drive.specs.Observing.{start_by, told_by}
 
 -- ---- an answer is one
 

@@ -1,36 +1,18 @@
 -- The capture of a run begins with the packets of the settled records of each front of it.
-use Rattle.std.proofs.Common.{◌≡◌, ℕ, ◌+◌, true, not, List, [], ◌∷◌, ◌++◌, length, inl, inr, refl, sym, ap, subst, ◌∙◌, append_assoc}
-use Rattle.std.proofs.lemmas.List.{append-nil}
-use Rattle.std.proofs.lemmas.List.Elements.{filter_map-append}
+use Rattle.tte_wires.proofs.Words.{◌++◌, ◌+◌, ◌∙◌, ◌∷◌, ◌≡◌, AllBefore, Answer, AnswersAll, AreAdmitted, AreFrom, AreRecordsSoFar, EndsEither, Event, Happening}
+use Rattle.tte_wires.proofs.Words.{IsCapture, IsIn, LinkId, List, Network, Note, Units, Way, [], amount, ap, append-nil, capture_of, filter_map-append}
+use Rattle.tte_wires.proofs.Words.{happenings, inl, inr, is_settled, length, packet_of, packets_of, place_of, refl, scenario_under, subst, sym, true, way_lines}
+use Rattle.tte_wires.proofs.Words.{ℕ}
+use Rattle.std.proofs.Common.{append_assoc}
 use Rattle.drift_world.specs.Running.{behind_events, last_time}
-use Rattle.exact_runs.specs.Records.{AreRecordsBefore, AreRecordsSoFar, clock_reading}
-use Rattle.net_plan.specs.declared.event.Event.{Event}
-use Rattle.net_plan.specs.declared.ids.LinkId.{LinkId}
-use Rattle.net_plan.specs.declared.network.Network.{Network}
-use Rattle.net_plan.specs.declared.tables.Way.{Way}
-use Rattle.run_law.proofs.records.Happenings.{happenings_on}
-use Rattle.run_law.proofs.runs.NetworkRuns.{earlier_run_is_front}
-use Rattle.run_law.specs.declared.note.Note.{Note}
-use Rattle.run_law.specs.records.Happenings.{Happening, happenings}
-use Rattle.run_law.specs.records.Order.{AllBefore, IsBefore, IsIn}
-use Rattle.run_law.specs.records.Ranks.{place_of}
-use Rattle.tte_forms.specs.Answering.{Answer}
-use Rattle.tte_traces.proofs.Admitted.{IsStopped, admitted_in_order, admitted_one, front_admitted, stopped_one}
-use Rattle.tte_traces.proofs.EventOrder.{last_before, not_earlier}
-use Rattle.tte_traces.proofs.Faults.{end_has_no_fault, fault_stops}
-use Rattle.tte_traces.proofs.Fronts.{place_low, up_to_end}
-use Rattle.tte_traces.proofs.Lasting.{AreFrom, lasts}
-use Rattle.tte_traces.specs.Along.{BeginWith, IsAllAdmitted}
-use Rattle.tte_traces.specs.Answer.{AnswersAll}
-use Rattle.tte_traces.specs.Lines.{AreAdmitted, behind_lines}
-use Rattle.tte_units.specs.Amount.{amount}
-use Rattle.tte_units.specs.declared.units.Units.{Units}
-use Rattle.tte_wires.proofs.Cuts.{packets_stay}
-use Rattle.tte_wires.proofs.Settled.{settled_sooner}
-use Rattle.tte_wires.specs.Answer.{EndsEither, IsCapture, way_lines}
-use Rattle.tte_wires.specs.Packets.{capture_of, is_settled, packet_of, packets_of, scenario_under}
+use Rattle.run_law.{proofs.{records.Happenings.happenings_on, runs.NetworkRuns.earlier_run_is_front}, specs.records.Order.IsBefore}
+use Rattle.tte_traces.proofs.{Admitted.{IsStopped, admitted_in_order, admitted_one, front_admitted, stopped_one}, EventOrder.{last_before, not_earlier}}
+use Rattle.tte_traces.{proofs.{Faults.{end_has_no_fault, fault_stops}, Fronts.{place_low, up_to_end}, Lasting.lasts}, specs.Along.{BeginWith, IsAllAdmitted}}
+use Rattle.tte_traces.specs.Lines.{behind_lines}
 use Rattle.world_drive.proofs.Earlier.{no_further, so_far_at}
+use Rattle.world_exact.specs.Records.{AreRecordsBefore, clock_reading}
 use Rattle.world_law.specs.source.Applying.{place_of_event}
+use Rattle.tte_wires.proofs.{Cuts.packets_stay, Settled.settled_sooner}
 
 -- ---- a front of a run
 

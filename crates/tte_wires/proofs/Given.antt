@@ -1,53 +1,18 @@
 -- A record that the world gave is seen.
-use Rattle.std.proofs.Common.{◌≡◌, ℕ, ◌+◌, ◌<◌, false, if◌then◌else◌, List, [], ◌∷◌, ◌++◌, None, option_map, refl, sym, ap, subst, ◌∙◌, arith}
-use Rattle.std.specs.List.{cons_option}
-use Rattle.std.proofs.lemmas.List.{append-nil}
-use Rattle.std.proofs.lemmas.List.Elements.{filter_map-append}
-use Rattle.exact_runs.specs.Worlds.{ExactWorld, StandsExact}
-use Rattle.net_plan.specs.declared.event.Event.{Event}
-use Rattle.net_plan.specs.declared.ids.LinkId.{LinkId}
-use Rattle.net_plan.specs.declared.network.Network.{Network}
-use Rattle.net_plan.specs.declared.tables.Way.{Way}
-use Rattle.run_law.proofs.runs.NetworkRuns.{one_more}
-use Rattle.run_law.specs.declared.note.Note.{Note}
-use Rattle.run_law.specs.declared.note.NoteBody.TheVariants as notes
-use Rattle.run_law.specs.declared.note.NoteBody.{NoteBody}
-use Rattle.run_law.specs.records.Happenings.{Happening, happenings, time_of}
-use Rattle.run_law.specs.records.Order.{AllBefore}
-use Rattle.run_law.specs.records.Ranks.{place_of, rank}
-use Rattle.run_law.specs.scenario.Scenarios.{Scenario}
-use Rattle.tte_forms.proofs.Puts.{PutFails-behind, PutsLines-append}
-use Rattle.tte_forms.specs.Putting.{PutFails, PutsLines}
-use Rattle.tte_traces.specs.Report.{shown_as}
-use Rattle.tte_wires.proofs.Seen.{flush_failed, flushed, record_seen, record_stops}
-use Rattle.frame_trace.specs.RecordOctets.{record_octets}
-use Rattle.tte_wires.specs.Packets.{is_carried, is_sent_on, packet_at, packet_of, packets_of, scenario_under}
-use Rattle.tte_wires.specs.Seeing.{SeesRecords, SeesWay, StopsRecords, StopsWay, last_happening, sent_packets}
-use Rattle.tte_wires.specs.declared.capture.Capture.{Capture}
-use Rattle.world_drive.specs.Observing.{Start, Told}
+use Rattle.tte_wires.proofs.Words.{if◌then◌else◌, ◌++◌, ◌+◌, ◌<◌, ◌∙◌, ◌∷◌, ◌≡◌, AllBefore, Capture, Event, ExactWorld, Happening, LinkId, List, Network, None}
+use Rattle.tte_wires.proofs.Words.{Note, NoteBody, PutFails, PutFails-behind, PutsLines, PutsLines-append, Scenario, SeesRecords, SeesWay, Start, StopsRecords}
+use Rattle.tte_wires.proofs.Words.{StopsWay, Told, Way, [], ap, append-nil, arith, cons_option, false, filter_map-append, happenings, is_sent_on}
+use Rattle.tte_wires.proofs.Words.{last_happening, one_more, option_map, packet_at, packet_of, packets_of, place_of, rank, record_octets, refl, scenario_under}
+use Rattle.tte_wires.proofs.Words.{sent_packets, shown_as, subst, sym, time_of, ℕ}
 use Rattle.world_drive.specs.declared.observing.Cut.TheVariants.{WriteFault}
-use Rattle.world_state.specs.Bodies.{body_of}
+use Rattle.world_exact.specs.Worlds.{StandsExact}
+use Rattle.tte_wires.{proofs.Seen.{flush_failed, flushed, record_seen, record_stops}, specs.Packets.is_carried}
+use Rattle.run_law.specs.declared.note.NoteBody.TheVariants as notes
 use Rattle.world_state.specs.declared.bodies.Kind.TheVariants as kinds
-use Rattle.world_state.specs.declared.bodies.Kind.{Kind}
-
--- what a world gives is the record of no event
-pub behind_events : (kind : Kind) → 1 < rank (body_of kind)
-behind_events (kinds.Arrived device link cause clock) = omega arith
-behind_events (kinds.Permanent device link cause point verdict) = omega arith
-behind_events (kinds.Compressed device opened at cycle members verdict) = omega arith
-behind_events (kinds.Sent device cycle) = omega arith
-behind_events (kinds.Corrected device cycle by adjustment) = omega arith
-behind_events (kinds.State device state cause why) = omega arith
-behind_events (kinds.Left device link cause clock) = omega arith
-behind_events (kinds.Lost device link cause) = omega arith
-behind_events (kinds.TtSent device link cause vl cycle) = omega arith
-behind_events (kinds.Accepted device link cause vl cycle) = omega arith
-behind_events (kinds.Delivered device link cause vl cycle) = omega arith
-behind_events (kinds.Dropped device link cause reason) = omega arith
-behind_events (kinds.Clock device reading adjustment state) = omega arith
 
 -- a way carries it exactly where its device sends there
-pub carried_is : (s : Scenario) (link : LinkId) (way : Way) (t : ℕ) (body : NoteBody) → 1 < rank body → is_carried s link way t body ≡ is_sent_on s.network link way body
+pub carried_is : (s : Scenario) (link : LinkId) (way : Way) (t : ℕ) (body : NoteBody) → 1 < rank body
+    → is_carried s link way t body ≡ is_sent_on s.network link way body
 carried_is s link way t (notes.Event line what) high = absurd (omega (arith, high))
 carried_is s link way t (notes.Arrived device k cause clock) high = refl
 carried_is s link way t (notes.Permanent device k cause point verdict) high = refl
@@ -102,7 +67,8 @@ module _ (network : Network) (world : ExactWorld) (events : List Event) (notes :
   record_fails_first last p =
       let xs = happenings network notes in
       subst (λ (l : List Happening). StopsRecords network events l WriteFault start last) (sym (one_more network notes note))
-      (record_stops network events xs start told it seen z high order xs (z ∷ []) last refl (flush_failed network events xs start told it seen (shown_as last) p))
+      (record_stops network events xs start told it seen z high order xs (z
+      ∷ []) last refl (flush_failed network events xs start told it seen (shown_as last) p))
 
   -- that of its own packet fails
   pub record_fails_own : (lines : List (List ℕ)) (mid last : Told) → lines ≡ packets_of (scenario_under network events) it.link it.way (z ∷ [])

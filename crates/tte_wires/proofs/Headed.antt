@@ -1,20 +1,12 @@
 -- A header before the packets.
-use Rattle.std.proofs.Common.{◌≡◌, ℕ, List, [], ◌∷◌, Option, Some, None, inl, inr, refl, sym, subst}
+use Rattle.tte_wires.proofs.Words.{◌∷◌, ◌≡◌, Answer, GivesOne, IsHeaded, LinkId, List, Network, None, Option, PutFails, PutsLines, PutsLines-append}
+use Rattle.tte_wires.proofs.Words.{PutsLines-none, Shown, Some, Status, Way, [], head_octets, inl, inr, refl, settled_lines, subst, sym, ℕ}
 use Rattle.std.specs.Io.KnownBytes.{Appends}
-use Rattle.net_plan.specs.declared.ids.LinkId.{LinkId}
-use Rattle.net_plan.specs.declared.network.Network.{Network}
-use Rattle.net_plan.specs.declared.tables.Way.{Way}
-use Rattle.pcap_form.specs.Writing.{head_octets}
-use Rattle.tte_forms.proofs.Puts.{PutsLines-append, PutsLines-fails, PutsLines-more, PutsLines-none, PutsSome-behind, WriteFails-behind}
-use Rattle.tte_forms.specs.Answering.{Answer, GivesOne, with_line}
-use Rattle.tte_forms.specs.Putting.{PutFails, PutsLines, PutsSome, Shown, WriteFails}
-use Rattle.tte_forms.specs.declared.status.Status.TheVariants.{WriteFault}
-use Rattle.tte_forms.specs.declared.status.Status.{Status}
-use Rattle.tte_io.specs.Faults.{next_count}
-use Rattle.tte_io.specs.Told.{AppendsFront}
+use Rattle.tte_forms.{proofs.Puts.{PutsLines-fails, PutsLines-more, PutsSome-behind, WriteFails-behind}, specs.Answering.with_line}
+use Rattle.tte_forms.specs.{Putting.{PutsSome, WriteFails}, declared.status.Status.TheVariants.WriteFault}
+use Rattle.tte_io.specs.{Faults.next_count, Told.AppendsFront}
 use Rattle.tte_traces.specs.Streaming.{ForTrace, StopsBehindLines, TakesLittle}
-use Rattle.tte_wires.specs.Answer.{IsHeaded}
-use Rattle.tte_wires.specs.Streaming.{headed_lines, settled_lines}
+use Rattle.tte_wires.specs.Streaming.{headed_lines}
 
 -- the header is put
 pub head_put : (old new : Shown) → Appends old.written new.written head_octets → new.puts ≡ next_count old.puts → PutsLines (head_octets ∷ []) old new

@@ -13,3 +13,4 @@ pub mod Ended
 pub mod Headed
 pub mod Networks
 pub mod Safely
+pub mod Words

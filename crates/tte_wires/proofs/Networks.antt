@@ -1,27 +1,13 @@
 -- The answer of `wire` for the octets of a network file and for a name.
-use Rattle.std.proofs.Common.{◌≡◌, ◌⊎◌, ℕ, List, Option, inl, inr, refl, ◌∙◌}
-use Rattle.net_plan.specs.Bearers.{HasNoBearer, link_names}
-use Rattle.net_plan.specs.Ranges.{IsInRange}
-use Rattle.net_plan.specs.declared.event.Event.{Event}
-use Rattle.net_plan.specs.declared.ids.LinkId.{LinkId}
-use Rattle.net_plan.specs.declared.network.Network.{Network}
-use Rattle.net_plan.specs.declared.tables.Way.{Way}
-use Rattle.pcap_form.specs.Writing.{head_octets}
-use Rattle.tte_forms.proofs.Octets.{for_all, for_more}
-use Rattle.tte_forms.proofs.OneAnswers.{answer_widened, one_of}
-use Rattle.tte_forms.specs.Answering.{Answer, ForOctets, Gives, GivesAnswer, GivesOne, with_line}
-use Rattle.tte_forms.specs.Putting.{PutsNone, Shown}
+use Rattle.tte_wires.proofs.Words.{◌∙◌, ◌≡◌, ◌⊎◌, Answer, AnswersAll, AreAdmitted, Event, Gives, GivesOne, IsCapture, IsHeaded, IsNamed, LinkId, List, Network}
+use Rattle.tte_wires.proofs.Words.{Option, ReadFault, Shown, Status, Way, fault_status, for_all, for_more, head_octets, inl, inr, refl, way_lines, ℕ}
+use Rattle.net_plan.specs.{Bearers.{HasNoBearer, link_names}, Ranges.IsInRange}
+use Rattle.tte_forms.{proofs.OneAnswers.{answer_widened, one_of}, specs.{Answering.{ForOctets, GivesAnswer, with_line}, Putting.PutsNone}}
+use Rattle.tte_forms.specs.declared.{accepting.NoNetwork.NoNetwork, status.Status.TheVariants.{OutOfMemory, WriteFault}}
+use Rattle.tte_forms.specs.networks.{Accepting.{MeansAccepted, too_long_answer}, NoNetworks.IsNoNetwork}
+use Rattle.tte_traces.{proofs.Existing.trace_answers_exist, specs.Answer.AnswersFault}
+use Rattle.tte_wires.specs.Answer.{IsWireAnswer, IsWireNetworkAnswer, name_answer, quiet_answer, silent_answer}
 use Rattle.tte_forms.specs.declared.accepting.NoNetwork.TheVariants as causes
-use Rattle.tte_forms.specs.declared.accepting.NoNetwork.{NoNetwork}
-use Rattle.tte_forms.specs.declared.status.Status.TheVariants.{OutOfMemory, ReadFault, WriteFault}
-use Rattle.tte_forms.specs.declared.status.Status.{Status}
-use Rattle.tte_forms.specs.networks.Accepting.{MeansAccepted, too_long_answer}
-use Rattle.tte_forms.specs.networks.NoNetworks.{IsNoNetwork}
-use Rattle.tte_traces.proofs.Existing.{trace_answers_exist}
-use Rattle.tte_traces.specs.Answer.{AnswersAll, AnswersFault}
-use Rattle.tte_traces.specs.FaultLine.{fault_status}
-use Rattle.tte_traces.specs.Lines.{AreAdmitted}
-use Rattle.tte_wires.specs.Answer.{IsCapture, IsHeaded, IsNamed, IsWireAnswer, IsWireNetworkAnswer, name_answer, quiet_answer, silent_answer, way_lines}
 
 -- ---- a name
 

@@ -1,13 +1,8 @@
 -- What is put as the time of an event comes.
-use Rattle.std.proofs.Common.{◌≡◌, ℕ, List, [], Result, Ok, Err, inl, inr, sym, subst}
+use Rattle.tte_wires.proofs.Words.{◌≡◌, Capture, Cut, Err, Ghosts, List, Ok, PassesTo, PutsAll, Result, [], inl, inr, sent_packets, subst, sym, ℕ}
 use Rattle.std.specs.Prelude.{IfErr}
-use Rattle.tte_io.specs.declared.ends.Sink.{Ghosts}
+use Rattle.world_drive.specs.{Observing.PutsFurther, declared.observing.Cut.TheVariants.OutOfMemory}
 use Rattle.tte_wires.proofs.Puts.{all_further, failed_further, memory_further, puts_none}
-use Rattle.tte_wires.specs.Seeing.{PassesTo, PutsAll, sent_packets}
-use Rattle.tte_wires.specs.declared.capture.Capture.{Capture}
-use Rattle.world_drive.specs.Observing.{PutsFurther}
-use Rattle.world_drive.specs.declared.observing.Cut.TheVariants.{OutOfMemory}
-use Rattle.world_drive.specs.declared.observing.Cut.{Cut}
 
 module _ {K : Type 0} (sink : Ghosts K) (time : ℕ) (old : Capture) where
   -- the put of what waited failed

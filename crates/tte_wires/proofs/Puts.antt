@@ -1,22 +1,11 @@
 -- Packets put one after another.
-use Rattle.std.proofs.Common.{◌≡◌, ℕ, suc, ◌+◌, ◌<◌, arith, Bool, true, false, List, [], ◌∷◌, ◌++◌, map, take, drop, get_or, length, Ok, Err, Result, refl, sym, ap, subst, ◌∙◌}
-use Rattle.std.specs.Io.KnownBytes.{Appends}
-use Rattle.std.proofs.Math.Seq.{take-suc}
-use Rattle.std.proofs.lemmas.List.{map-append, take-append-drop}
-use Rattle.std.specs.List.{concat}
-use Rattle.tte_forms.proofs.Puts.{PutFails-behind, PutsLines-append, PutsLines-fails, PutsLines-more, PutsLines-none}
-use Rattle.tte_forms.specs.Putting.{PutFails, PutsLines}
-use Rattle.tte_io.specs.Faults.{Rose, next_count}
-use Rattle.tte_io.specs.Told.{AppendsFront}
-use Rattle.tte_io.specs.declared.ends.Sink.{Ghosts}
-use Rattle.tte_traces.proofs.Given.{PutFails-more}
-use Rattle.tte_traces.proofs.Streams.{writes_fails}
-use Rattle.tte_traces.specs.Report.{shown_as}
-use Rattle.tte_wires.specs.Packets.{packet_at}
-use Rattle.tte_wires.specs.Seeing.{PutsAll, sent_packets}
-use Rattle.world_drive.specs.Observing.{PutsFurther, told_by}
-use Rattle.world_drive.specs.declared.observing.Cut.{Cut}
-use Rattle.world_drive.specs.declared.observing.Cut.TheVariants.{OutOfMemory, WriteFault}
+use Rattle.tte_wires.proofs.Words.{◌++◌, ◌+◌, ◌<◌, ◌∙◌, ◌∷◌, ◌≡◌, Cut, Err, Ghosts, List, Ok, PutFails-behind, PutsAll, PutsLines, PutsLines-append}
+use Rattle.tte_wires.proofs.Words.{PutsLines-none, Result, [], ap, arith, length, map, packet_at, refl, shown_as, subst, suc, sym, take, told_by, ℕ}
+use Rattle.std.{proofs.{Common.{drop, get_or}, Math.Seq.take-suc, lemmas.List.{map-append, take-append-drop}}, specs.{Io.KnownBytes.Appends, List.concat}}
+use Rattle.tte_forms.proofs.Puts.{PutsLines-fails, PutsLines-more}
+use Rattle.tte_io.specs.{Faults.{Rose, next_count}, Told.AppendsFront}
+use Rattle.tte_traces.proofs.{Given.PutFails-more, Streams.writes_fails}
+use Rattle.world_drive.specs.{Observing.PutsFurther, declared.observing.Cut.TheVariants.{OutOfMemory, WriteFault}}
 
 module _ {K : Type 0} (sink : Ghosts K) where
   -- nothing is put
@@ -111,8 +100,3 @@ module _ (t : ℕ) (frames : List (List ℕ)) (i : ℕ) (frame : List ℕ) (lt :
   frames_all =
       ap (λ (l : List (List ℕ)). l ++ map (packet_at t) (drop (i + 1) frames)) frames_more
       ∙ sym (map-append (packet_at t) (take (i + 1) frames) (drop (i + 1) frames)) ∙ ap (map (packet_at t)) (take-append-drop (i + 1) frames)
-
--- where nothing was sent there is no packet
-pub nothing_sent : (cut : Bool) (t : ℕ) (sends : List (List ℕ)) → sends ≡ [] → sent_packets cut t sends ≡ []
-nothing_sent true t sends none = refl
-nothing_sent false t sends none = ap (map (packet_at t)) none

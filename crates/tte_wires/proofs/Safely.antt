@@ -1,33 +1,20 @@
 -- What `wire` writes is the capture of a run that is safe.
-use Rattle.std.proofs.Common.{◌≡◌, ℕ, List, [], ◌∷◌, Option, inl, inr, refl, sym, ap, subst, ◌∙◌}
-use Rattle.drift_clock.proofs.ExactSegments.{exact_laws}
-use Rattle.drift_clock.specs.Segment.{fresh_segment, segment_reading, stepped_segment}
-use Rattle.exact_runs.proofs.Clocks.{exact_begins}
+use Rattle.tte_wires.proofs.Words.{◌∙◌, ◌∷◌, ◌≡◌, Answer, AnswersAll, AreAdmitted, EndsEither, Event, Gives, IsNamed, LinkId, List, Network, Option, PutsLines}
+use Rattle.tte_wires.proofs.Words.{PutsLines-none, ReadFault, Shown, Status, Way, [], ap, for_all, for_more, head_octets, inl, inr, refl, subst, sym, way_lines}
+use Rattle.tte_wires.proofs.Words.{ℕ}
+use Rattle.drift_clock.{proofs.ExactSegments.exact_laws, specs.Segment.{fresh_segment, segment_reading, stepped_segment}}
 use Rattle.net_plan.specs.Ranges.{IsInRange}
-use Rattle.net_plan.specs.declared.event.Event.{Event}
-use Rattle.net_plan.specs.declared.ids.LinkId.{LinkId}
-use Rattle.net_plan.specs.declared.network.Network.{Network}
-use Rattle.net_plan.specs.declared.tables.Way.{Way}
-use Rattle.pcap_form.specs.Writing.{head_octets}
 use Rattle.safe_runs.proofs.Clocked.{ended, so_far}
-use Rattle.tte_forms.proofs.Octets.{for_all, for_more}
-use Rattle.tte_forms.proofs.OneAnswers.{fails_given, none_put, puts_nothing, some_given}
-use Rattle.tte_forms.proofs.Puts.{PutsLines-none, PutsLines-still}
-use Rattle.tte_forms.specs.Answering.{Answer, ForOctets, Gives, GivesAnswer}
-use Rattle.tte_forms.specs.Putting.{PutsLines, PutsSo, PutsSome, Shown, WriteFails}
-use Rattle.tte_forms.specs.declared.accepting.NoNetwork.TheVariants as causes
-use Rattle.tte_forms.specs.declared.accepting.NoNetwork.{NoNetwork}
-use Rattle.tte_forms.specs.declared.status.Status.TheVariants.{Done, Usage, FrameRefused, NetworkRefused, TraceRefused, OutsideHypothesis, ReadFault, WriteFault, OutOfMemory, TooLong, AuditRefused, GranuleRefused, CaptureRefused, NameRefused, VoteRefused}
-use Rattle.tte_forms.specs.declared.status.Status.{Status}
-use Rattle.tte_forms.specs.networks.Accepting.{MeansAccepted}
-use Rattle.tte_forms.specs.networks.NoNetworks.{IsNoNetwork}
-use Rattle.tte_traces.proofs.NoRun.{IsOfNoRun}
-use Rattle.tte_traces.proofs.Safely.{IsOfTrace, done_is, long_is, not_done, outside_is, refused_is}
-use Rattle.tte_traces.proofs.Texts.{admitted_under, begins_run}
-use Rattle.tte_traces.specs.Answer.{AnswersAll}
-use Rattle.tte_traces.specs.Lines.{AreAdmitted}
-use Rattle.tte_wires.specs.Answer.{BreaksOff, EndsEither, IsNamed, IsWireAnswer, quiet_answer, way_lines}
+use Rattle.tte_forms.{proofs.{OneAnswers.{fails_given, none_put, puts_nothing, some_given}, Puts.PutsLines-still}, specs.Answering.{ForOctets, GivesAnswer}}
+use Rattle.tte_forms.specs.{Putting.{PutsSo, PutsSome, WriteFails}, declared.accepting.NoNetwork.NoNetwork}
+use Rattle.tte_forms.specs.declared.status.Status.TheVariants.{AuditRefused, CaptureRefused, Done, FrameRefused, GranuleRefused, NameRefused, NetworkRefused}
+use Rattle.tte_forms.specs.declared.status.Status.TheVariants.{NumberRefused, OutOfMemory, OutsideHypothesis, TooLong, TraceRefused, Usage, VoteRefused}
+use Rattle.tte_forms.specs.{declared.status.Status.TheVariants.WriteFault, networks.{Accepting.MeansAccepted, NoNetworks.IsNoNetwork}}
+use Rattle.tte_traces.proofs.{NoRun.IsOfNoRun, Safely.{IsOfTrace, done_is, long_is, not_done, outside_is, refused_is}, Texts.{admitted_under, begins_run}}
+use Rattle.world_exact.proofs.Clocks.{exact_begins}
+use Rattle.tte_wires.specs.Answer.{BreaksOff, IsWireAnswer, quiet_answer}
 use Rattle.tte_wires.specs.Safely.{IsCaptureToFault, IsSafeCapture, IsWholeCapture, PutsCaptureSafely, WiresSafely}
+use Rattle.tte_forms.specs.declared.accepting.NoNetwork.TheVariants as causes
 
 -- ---- what an answer's lines are
 
@@ -143,6 +130,7 @@ module _ (name : List ℕ) (way : Way) (octets trace : List ℕ) (network : Netw
   puts_safely CaptureRefused old new g = tt
   puts_safely NameRefused old new g = tt
   puts_safely VoteRefused old new g = tt
+  puts_safely NumberRefused old new g = tt
 
 pub wire_safely : (first second : Option (List ℕ)) (name : List ℕ) (way : Way) (network : Network) (status : Status) (old new : Shown) → IsInRange network
     → ForOctets first (λ octets. MeansAccepted octets network)
@@ -198,6 +186,7 @@ none_puts name way GranuleRefused octets trace cause old new g = tt
 none_puts name way CaptureRefused octets trace cause old new g = tt
 none_puts name way NameRefused octets trace cause old new g = tt
 none_puts name way VoteRefused octets trace cause old new g = tt
+none_puts name way NumberRefused octets trace cause old new g = tt
 
 pub quiet_safely : (first second : Option (List ℕ)) (name : List ℕ) (way : Way) (cause : NoNetwork) (status : Status) (old new : Shown)
     → ForOctets first (λ octets. IsNoNetwork octets cause) → Gives (quiet_answer cause) status old new → WiresSafely name way first second status old new

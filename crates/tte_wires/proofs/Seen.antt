@@ -1,38 +1,20 @@
 -- What the observer of a way has put, from record to record.
-use Rattle.std.proofs.Common.{◌≡◌, ℕ, zero, suc, ◌+◌, ◌^◌, ◌<◌, ◌≤◌, Bool, true, false, if◌then◌else◌, List, [], ◌∷◌, ◌++◌, Some, None, unwrap_or, inl, inr, refl, sym, ap, subst, ◌∙◌, append_assoc, arith}
-use Rattle.std.specs.List.{cons_option, filter_map}
-use Rattle.std.proofs.lemmas.List.{append-nil}
-use Rattle.std.proofs.lemmas.List.Elements.{filter_map-append}
+use Rattle.tte_wires.proofs.Words.{if◌then◌else◌, ◌++◌, ◌+◌, ◌<◌, ◌^◌, ◌∙◌, ◌∷◌, ◌≡◌, ◌≤◌, AllBefore, AreFrom, Bool, Capture, Event, Happening, HasLink, IsIn}
+use Rattle.tte_wires.proofs.Words.{LinkId, List, Network, None, Note, PutFails, PutFails-behind, PutsLines, PutsLines-append, PutsLines-none, SeesRecords}
+use Rattle.tte_wires.proofs.Words.{SeesWay, Shown, Some, Start, StopsRecords, Told, Units, Way, [], amount, ap, append-nil, arith, cons_option, false}
+use Rattle.tte_wires.proofs.Words.{filter_map-append, inl, inr, is_settled, is_way_of, packet_of, packets_of, place_of, rank, refl, scenario_under, sends_of}
+use Rattle.tte_wires.proofs.Words.{sent_packets, settled, shown_as, subst, suc, sym, time_of, true, unsettled, ℕ}
+use Rattle.std.proofs.Common.{append_assoc, unwrap_or, zero}
 use Rattle.drift_world.specs.Running.{event_note}
-use Rattle.net_plan.specs.Belonging.{HasLink}
-use Rattle.net_plan.specs.declared.event.Event.{Event}
-use Rattle.net_plan.specs.declared.event.What.TheVariants as events
-use Rattle.net_plan.specs.declared.event.What.{What}
-use Rattle.net_plan.specs.declared.ids.LinkId.{LinkId}
-use Rattle.net_plan.specs.declared.network.Network.{Network}
-use Rattle.net_plan.specs.declared.tables.Way.TheVariants.{Up}
-use Rattle.net_plan.specs.declared.tables.Way.{Way}
-use Rattle.run_law.proofs.runs.Places.{in_left, in_parts}
-use Rattle.run_law.specs.declared.note.Note.{Note}
-use Rattle.run_law.specs.declared.note.NoteBody.TheVariants as notes
-use Rattle.run_law.specs.records.Happenings.{Happening, happening, time_of}
-use Rattle.run_law.specs.records.Order.{AllBefore, IsIn}
-use Rattle.run_law.specs.records.Ranks.{place_of, rank}
-use Rattle.run_law.specs.scenario.Ways.{cut_set, is_way_of}
-use Rattle.tte_forms.proofs.Puts.{PutFails-behind, PutsLines-append, PutsLines-none}
-use Rattle.tte_forms.specs.Putting.{PutFails, PutsLines, Shown}
-use Rattle.tte_traces.proofs.Lasting.{AreFrom}
-use Rattle.tte_traces.specs.Report.{shown_as}
-use Rattle.tte_units.specs.Amount.{amount}
-use Rattle.tte_units.specs.declared.units.Units.{Units}
-use Rattle.tte_wires.proofs.Cuts.{cut_known, cut_more, packets_sent, packets_stay}
-use Rattle.tte_wires.proofs.Settled.{IsBehindEvents, all_settled, before_record, filter_has, new_unsettled, others_earlier, others_settled, same_settled, settled_sooner, settles, still_settled, unsettled_rank}
-use Rattle.tte_wires.specs.Packets.{is_settled, packet_of, packets_of, scenario_under, settled, unsettled}
-use Rattle.tte_wires.specs.Seeing.{SeesRecords, SeesWay, StopsRecords, TakesWhat, cut_after, octets_sent, sends_of, sent_by, sent_packets}
-pub use Rattle.tte_wires.specs.Stopping.{at_start}
-use Rattle.tte_wires.specs.declared.capture.Capture.{Capture}
-use Rattle.world_drive.specs.Observing.{Start, Told}
+use Rattle.net_plan.specs.declared.{event.What.What, tables.Way.TheVariants.Up}
+use Rattle.run_law.{proofs.runs.Places.{in_left, in_parts}, specs.{records.Happenings.happening, scenario.Ways.cut_set}}
 use Rattle.world_drive.specs.declared.observing.Cut.TheVariants.{OutOfMemory, WriteFault}
+use Rattle.tte_wires.proofs.Cuts.{cut_known, cut_more, packets_sent, packets_stay}
+use Rattle.tte_wires.proofs.Settled.{IsBehindEvents, all_settled, before_record, filter_has, new_unsettled, others_earlier, others_settled, same_settled}
+use Rattle.tte_wires.{proofs.Settled.{settled_sooner, settles, still_settled, unsettled_rank}, specs.Seeing.{TakesWhat, cut_after, octets_sent, sent_by}}
+use Rattle.net_plan.specs.declared.event.What.TheVariants as events
+use Rattle.run_law.specs.declared.note.NoteBody.TheVariants as notes
+pub use Rattle.tte_wires.specs.Stopping.{at_start}
 
 -- ---- at first
 
@@ -163,7 +145,8 @@ module _ (network : Network) (events : List Event) (hs : List Happening) (start 
       rest = unsettled more;
       parts = r.parts;
       settled = λ h i. filter_has (is_settled more) more h i;
-      stops = subst (λ (ls : List (List ℕ)). PutsLines ls (shown_as start.told) (shown_as told)) (at_start network events hs start put it seen under (settled more)) r.puts;
+      stops = subst (λ (ls : List (List ℕ)). PutsLines ls (shown_as start.told) (shown_as told))
+          (at_start network events hs start put it seen under (settled more)) r.puts;
     }
 
     -- it is taken
@@ -274,7 +257,8 @@ module _ (network : Network) (events : List Event) (hs : List Happening) (start 
         parts = refl;
         settled = λ h i. settles hs newest h (inl (sooner apart h i));
         stops =
-            inl (subst (λ (ls : List (List ℕ)). PutFails ls (shown_as start.told) (shown_as told)) (sym (stays_put apart) ∙ at_start network events hs start put it seen under hs)
+            inl (subst (λ (ls : List (List ℕ)). PutFails ls (shown_as start.told) (shown_as told)) (sym (stays_put apart)
+            ∙ at_start network events hs start put it seen under hs)
             fails);
       }
 

@@ -1,33 +1,17 @@
 -- The packet of a frame that a record put on a wire, from what a world shows of it.
-use Rattle.std.proofs.Common.{◌≡◌, ℕ, suc, ◌+◌, ◌^◌, ◌<◌, ◌≤◌, ◌==◌, pos, Bool, true, false, if◌then◌else◌, List, [], ◌∷◌, ◌++◌, length, Option, Some, None, Ok, option_map, refl, sym, ap, ◌∙◌, arith}
-use Rattle.std.specs.List.{cons_option}
-use Rattle.std.specs.Prelude.{IfSome, slice_get}
-use Rattle.std.proofs.lemmas.Bool.{and_parts, both_ways, eqb-true}
-use Rattle.std.proofs.lemmas.Int.{ints}
+use Rattle.tte_wires.proofs.Words.{if◌then◌else◌, ◌++◌, ◌+◌, ◌<◌, ◌==◌, ◌^◌, ◌∙◌, ◌∷◌, ◌≡◌, ◌≤◌, Bool, Event, ExactWorld, Happening, HasLink, IsSpelt, LinkId}
+use Rattle.tte_wires.proofs.Words.{List, Network, None, Note, NoteBody, Ok, Option, Pcf, Scenario, Some, Units, Way, [], amount, and_parts, ap, arith}
+use Rattle.tte_wires.proofs.Words.{both_ways, cons_option, eqb-true, false, happenings, is_sent_on, is_way_of, last_happening, length, one_more, option_map}
+use Rattle.tte_wires.proofs.Words.{packet_at, packets_of, rank, record_octets, refl, suc, sym, time_of, true, ℕ}
+use Rattle.std.{proofs.{Common.pos, lemmas.Int.ints}, specs.Prelude.{IfSome, slice_get}}
 use Rattle.drift_world.specs.Wires.{IsOfNow, put_by}
-use Rattle.exact_runs.specs.Worlds.{ExactWorld, StandsExact}
-use Rattle.frame_trace.specs.RecordOctets.{record_octets, shown}
-use Rattle.net_plan.specs.Belonging.{HasLink}
-use Rattle.net_plan.specs.declared.event.Event.{Event}
-use Rattle.net_plan.specs.declared.ids.LinkId.{LinkId}
-use Rattle.net_plan.specs.declared.network.Network.{Network}
-use Rattle.net_plan.specs.declared.tables.Way.{Way}
+use Rattle.frame_trace.specs.RecordOctets.{shown}
 use Rattle.pcf_codec.specs.Encoded.{encoded}
-use Rattle.pcf_values.specs.declared.pcf.Pcf.{Pcf}
-use Rattle.run_law.proofs.runs.NetworkRuns.{one_more}
-use Rattle.run_law.specs.control.Wires.{Launch, Signal, control, launched, timed}
-use Rattle.run_law.specs.declared.note.Note.{Note}
+use Rattle.run_law.specs.{control.Wires.{Launch, Signal, control, launched, timed}, records.Happenings.numbered, scenario.Ways.{is_way, way_from}}
+use Rattle.tte_units.specs.Amount.{units_of}
+use Rattle.world_exact.specs.Worlds.{StandsExact}
+use Rattle.tte_wires.{proofs.Given.carried_is, specs.Seeing.IsTimely}
 use Rattle.run_law.specs.declared.note.NoteBody.TheVariants as notes
-use Rattle.run_law.specs.declared.note.NoteBody.{NoteBody}
-use Rattle.run_law.specs.records.Happenings.{Happening, happenings, numbered, time_of}
-use Rattle.run_law.specs.records.Ranks.{rank}
-use Rattle.run_law.specs.scenario.Scenarios.{Scenario}
-use Rattle.run_law.specs.scenario.Ways.{is_way, is_way_of, way_from}
-use Rattle.tte_units.specs.Amount.{amount, units_of}
-use Rattle.tte_units.specs.declared.units.Units.{Units}
-use Rattle.tte_wires.proofs.Given.{carried_is}
-use Rattle.tte_wires.specs.Packets.{is_sent_on, packet_at, packets_of}
-use Rattle.tte_wires.specs.Seeing.{IsSpelt, IsTimely, last_happening}
 
 -- ---- the record stands last
 
@@ -56,7 +40,8 @@ sent_rank network link way (notes.Dropped device k cause reason) sent = absurd (
 sent_rank network link way (notes.Clock device reading adjustment state) sent = absurd (both_ways false refl sent)
 
 -- the record that the world gave last is of its present time
-pub of_now : (network : Network) (world : ExactWorld) (events : List Event) (notes : List Note) (note : Note) → StandsExact network world events (notes ++ note ∷ [])
+pub of_now : (network : Network) (world : ExactWorld) (events : List Event) (notes : List Note) (note : Note)
+    → StandsExact network world events (notes ++ note ∷ [])
     → note.time ≡ units_of world.now → 2 < rank note.body
     → IsOfNow (happenings network (notes ++ note ∷ [])) world.now note.number (last_happening network notes note)
 of_now network world events notes note stands at behind =
@@ -80,11 +65,13 @@ within : (n : ℕ) (link k : LinkId) (way turned : Way) → link.0 < n → is_wa
 within n link k way turned lt is = let same = same_link link k way turned is in omega (arith, lt, same)
 
 launch_within : (s : Scenario) (link k : LinkId) (way turned : Way) (frame : Option Pcf) → HasLink s.network link → is_way_of link way k turned ≡ true
-    → IfSome (option_map (λ (f : Pcf). let l : Launch = record { link = k; way = turned; signal = control (Ok f) } in l) frame) (λ l. l.link.0 < length s.network.link)
+    → IfSome (option_map (λ (f : Pcf). let l : Launch = record { link = k; way = turned; signal = control (Ok f) } in l) frame) (λ l. l.link.0
+    < length s.network.link)
 launch_within s link k way turned None there is = tt
 launch_within s link k way turned (Some f) there is = within (length s.network.link) link k way turned there is
 
-pub on_own_link : (s : Scenario) (link : LinkId) (way : Way) (z : Happening) → HasLink s.network link → (body : NoteBody) → is_sent_on s.network link way body ≡ true
+pub on_own_link : (s : Scenario) (link : LinkId) (way : Way) (z : Happening) → HasLink s.network link → (body : NoteBody)
+    → is_sent_on s.network link way body ≡ true
     → IfSome (launched s z (time_of z) body) (λ l. l.link.0 < length s.network.link)
 on_own_link s link way z there (notes.Left device k cause clock) sent = launch_within s link k way (way_from s.network device k) z.frame there sent
 on_own_link s link way z there (notes.TtSent device k cause vl cycle) sent =
@@ -122,7 +109,8 @@ left_lines : (k : LinkId) (turned : Way) (t : ℕ) (frame : Option Pcf) (lines :
 left_lines k turned t None lines are = are.none refl
 left_lines k turned t (Some f) lines are = are.some (control (Ok f)) refl (encoded f) refl
 
-sent_lines : (s : Scenario) (link : LinkId) (way : Way) (z : Happening) (t : ℕ) (lines : List (List ℕ)) (body : NoteBody) → is_sent_on s.network link way body ≡ true
+sent_lines : (s : Scenario) (link : LinkId) (way : Way) (z : Happening) (t : ℕ) (lines : List (List ℕ)) (body : NoteBody)
+    → is_sent_on s.network link way body ≡ true
     → AreLinesOf t (put_of (launched s z t body)) lines → lines ≡ line_of t (shown body z.frame z.octets)
 sent_lines s link way z t lines (notes.Left device k cause clock) sent are = left_lines k (way_from s.network device k) t z.frame lines are
 sent_lines s link way z t lines (notes.TtSent device k cause vl cycle) sent are = are.some (timed z.octets) refl z.octets refl

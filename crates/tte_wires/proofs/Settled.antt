@@ -1,16 +1,14 @@
 -- Which records are settled as one more is given.
-use Rattle.std.proofs.Common.{◌≡◌, ◌⊎◌, ℕ, ◌<◌, ◌≤◌, ◌==◌, nat_lt, Bool, true, false, not, if◌then◌else◌, List, [], ◌∷◌, ◌++◌, filter, inl, inr, refl, sym, ap, subst, ◌∙◌, arith, ◌&&◌}
-use Rattle.std.proofs.lemmas.Bool.{and_from, and_parts, both_ways, cases_Bool, cases_lt, eq-eqb, eqb-true, false_from_ne_true, lt-ltb, ltb-true, not-true, not_from_false, not_from_true, or_cases, or_left, or_right}
-use Rattle.std.proofs.lemmas.List.{append-nil}
-use Rattle.std.proofs.lemmas.List.Elements.{filter-append}
+use Rattle.tte_wires.proofs.Words.{if◌then◌else◌, ◌++◌, ◌<◌, ◌==◌, ◌∙◌, ◌∷◌, ◌≡◌, ◌≤◌, ◌⊎◌, AllBefore, Bool, Happening, IsIn, List, [], and_parts, ap}
+use Rattle.tte_wires.proofs.Words.{append-nil, arith, both_ways, eqb-true, false, inl, inr, is_settled, place_of, rank, refl, settled, subst, sym, time_of}
+use Rattle.tte_wires.proofs.Words.{true, unsettled, ℕ}
+use Rattle.std.proofs.Common.{◌&&◌, filter, nat_lt, not}
+use Rattle.std.proofs.lemmas.Bool.{and_from, cases_Bool, cases_lt, eq-eqb, false_from_ne_true, lt-ltb, ltb-true, not-true, not_from_false, not_from_true}
+use Rattle.std.proofs.lemmas.{Bool.{or_cases, or_left, or_right}, List.Elements.filter-append}
 use Rattle.precision_law.proofs.records.Times.{in_kept}
-use Rattle.run_law.proofs.law.FirstPlaces.{in_filter, none_kept}
-use Rattle.run_law.proofs.records.Order.{all_kept, any_in, in_any, same_kept}
-use Rattle.run_law.proofs.runs.Places.{in_left, in_parts, in_right, parted}
-use Rattle.run_law.specs.records.Happenings.{Happening, time_of}
-use Rattle.run_law.specs.records.Order.{AllBefore, IsBefore, IsIn}
-use Rattle.run_law.specs.records.Ranks.{place_of, rank}
-use Rattle.tte_wires.specs.Packets.{is_behind_events, is_settled, settled, unsettled}
+use Rattle.run_law.proofs.{law.FirstPlaces.{in_filter, none_kept}, records.Order.{all_kept, any_in, in_any, same_kept}}
+use Rattle.run_law.{proofs.runs.Places.{in_left, in_parts, in_right, parted}, specs.records.Order.IsBefore}
+use Rattle.tte_wires.specs.Packets.{is_behind_events}
 pub use Rattle.tte_wires.specs.Stopping.{filter_has}
 
 -- ---- behind the events of a time
@@ -68,7 +66,8 @@ before_record h z (inl lt) = inl lt
 before_record h z (inr (same, rest)) = inr same
 
 -- a settled record is earlier than any event that comes behind all records
-pub settled_sooner : (hs : List Happening) (t : ℕ) (more : List ℕ) → AllBefore place_of hs (t ∷ 1 ∷ more) → (h : Happening) → is_settled hs h ≡ true → time_of h < t
+pub settled_sooner : (hs : List Happening) (t : ℕ) (more : List ℕ) → AllBefore place_of hs (t ∷ 1 ∷ more) → (h : Happening) → is_settled hs h ≡ true
+    → time_of h < t
 settled_sooner hs t more all h is =
     let s = settling hs h is in
     let g = s.0 in

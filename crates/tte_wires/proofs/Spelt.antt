@@ -1,17 +1,9 @@
 -- Octets that a broken master sent, as they are spelt anew.
-use Rattle.std.proofs.Common.{◌≡◌, ℕ, ◌==◌, Bool, true, false, if◌then◌else◌, List, Ok, Err, Result, refl, sym, ap, ◌∙◌}
-use Rattle.std.proofs.lemmas.Bool.{both_ways}
-use Rattle.pcf_codec.specs.Decoding.{decoded, fields_read}
-use Rattle.pcf_codec.specs.Encoded.{encoded}
-use Rattle.pcf_codec.specs.EtherType.{pcf_type}
-use Rattle.pcf_codec.specs.Fields.{field}
-use Rattle.pcf_codec.specs.Spelling.{pcf_length}
+use Rattle.tte_wires.proofs.Words.{if◌then◌else◌, ◌==◌, ◌∙◌, ◌≡◌, Bool, Err, IsSpelt, List, Ok, Pcf, Result, ap, both_ways, false, length, refl, sym, true, ℕ}
+use Rattle.pcf_codec.specs.{Decoding.{decoded, fields_read}, Encoded.encoded, EtherType.pcf_type, Fields.field, Spelling.pcf_length}
 use Rattle.pcf_codec.specs.declared.refusal.PcfRefusal.{PcfRefusal}
-use Rattle.pcf_codec.specs.declared.refusal.PcfRefusal.TheVariants as refusals
-use Rattle.pcf_values.specs.declared.pcf.Pcf.{Pcf}
 use Rattle.run_law.specs.control.Wires.{control, signal_of, timed}
-use Rattle.tte_wires.specs.Seeing.{IsSpelt}
-use Rattle.std.specs.Prelude.{length}
+use Rattle.pcf_codec.specs.declared.refusal.PcfRefusal.TheVariants as refusals
 
 -- what decodes to a frame has its EtherType
 has_type : (octets : List ℕ) (frame : Pcf) → decoded octets ≡ Ok frame → (field 12 2 octets == pcf_type) ≡ true
@@ -43,5 +35,6 @@ octets_as octets true (Ok f) refusal is spelt as_ = absurd (let e = is in cc)
 octets_as octets true (Err e) refusal is spelt as_ = absurd as_
 octets_as octets false r refusal is spelt as_ = sym as_
 
-pub spelt_octets : (octets : List ℕ) (refusal : PcfRefusal) → decoded octets ≡ Err refusal → (spelt : List ℕ) → IsSpelt (signal_of octets) spelt → octets ≡ spelt
+pub spelt_octets : (octets : List ℕ) (refusal : PcfRefusal) → decoded octets ≡ Err refusal → (spelt : List ℕ) → IsSpelt (signal_of octets) spelt
+    → octets ≡ spelt
 spelt_octets octets refusal is spelt as_ = octets_as octets (field 12 2 octets == pcf_type) (decoded octets) refusal is spelt as_

@@ -1,26 +1,23 @@
 -- What `wire` answers for the octets of a network file and of a trace.
-use Rattle.std.specs.Prelude.{◌≡◌, ◌⊎◌, ℕ, List, [], length}
-use Rattle.exact_runs.specs.Records.{AreRecordsSoFar}
+use Rattle.std.specs.Prelude.{◌≡◌, ◌⊎◌, List, [], length, ℕ}
 use Rattle.net_file.specs.declared.refusal.FileRefusal.{FileRefusal}
-use Rattle.net_plan.specs.Bearers.{HasNoBearer, IsFirstBearer, link_names}
-use Rattle.net_plan.specs.declared.event.Event.{Event}
-use Rattle.net_plan.specs.declared.ids.LinkId.{LinkId}
-use Rattle.net_plan.specs.declared.network.Network.{Network}
-use Rattle.net_plan.specs.declared.tables.Way.{Way}
+use Rattle.net_plan.specs.{Bearers.{HasNoBearer, IsFirstBearer, link_names}, declared.event.Event.Event}
+use Rattle.net_plan.specs.declared.{ids.LinkId.LinkId, network.Network.Network, tables.Way.Way}
 use Rattle.pcap_form.specs.Writing.{head_octets}
 use Rattle.run_law.specs.declared.note.Note.{Note}
 use Rattle.schedule_checker.specs.declared.refusal.RuleBroken.{RuleBroken}
-use Rattle.tte_forms.specs.Answering.{Answer, with_line}
-use Rattle.tte_forms.specs.networks.Accepting.{IsTooLong, MeansAccepted, MeansNoNetwork, MeansUnfit, too_long_answer}
-use Rattle.tte_forms.specs.declared.accepting.NoNetwork.TheVariants as causes
-use Rattle.tte_forms.specs.declared.accepting.NoNetwork.{NoNetwork}
-use Rattle.tte_forms.specs.declared.status.Status.TheVariants.{Done, Usage, FrameRefused, NetworkRefused, TraceRefused, OutsideHypothesis, ReadFault, WriteFault, OutOfMemory, TooLong, AuditRefused, GranuleRefused, CaptureRefused, NameRefused, VoteRefused}
+use Rattle.tte_forms.specs.{Answering.{Answer, with_line}, declared.accepting.NoNetwork.NoNetwork}
 use Rattle.tte_forms.specs.declared.status.Status.{Status}
-use Rattle.tte_traces.specs.Answer.{AnswersAll, LinesOf}
-use Rattle.tte_traces.specs.FaultLine.{fault_status}
-use Rattle.tte_traces.specs.Lines.{AreAdmitted, IsFault, behind_lines}
-use Rattle.tte_traces.specs.declared.fault.TraceFault.{TraceFault}
+use Rattle.tte_forms.specs.declared.status.Status.TheVariants.{AuditRefused, CaptureRefused, Done, FrameRefused}
+use Rattle.tte_forms.specs.declared.status.Status.TheVariants.{GranuleRefused, NameRefused, NetworkRefused}
+use Rattle.tte_forms.specs.declared.status.Status.TheVariants.{NumberRefused, OutOfMemory, OutsideHypothesis, ReadFault}
+use Rattle.tte_forms.specs.declared.status.Status.TheVariants.{TooLong, TraceRefused, Usage, VoteRefused, WriteFault}
+use Rattle.tte_forms.specs.networks.Accepting.{IsTooLong, MeansAccepted, MeansNoNetwork, MeansUnfit, too_long_answer}
+use Rattle.tte_traces.specs.{Answer.{AnswersAll, LinesOf}, FaultLine.fault_status}
+use Rattle.tte_traces.specs.{Lines.{AreAdmitted, IsFault, behind_lines}, declared.fault.TraceFault.TraceFault}
+use Rattle.world_exact.specs.Records.{AreRecordsSoFar}
 use Rattle.tte_wires.specs.Packets.{capture_of}
+use Rattle.tte_forms.specs.declared.accepting.NoNetwork.TheVariants as causes
 
 -- ---- the packets of a way
 
@@ -105,3 +102,4 @@ IsWireStatus GranuleRefused = ⊥
 IsWireStatus CaptureRefused = ⊥
 IsWireStatus NameRefused = Unit {0}
 IsWireStatus VoteRefused = ⊥
+IsWireStatus NumberRefused = ⊥

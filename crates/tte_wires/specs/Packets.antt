@@ -1,23 +1,17 @@
 -- The capture of one way of a link in the records of a run.
-use Rattle.std.specs.Prelude.{ℕ, ◌/◌, ◌%◌, ◌==◌, nat_lt, Bool, false, not, ◌&&◌, ◌||◌, List, filter, filter_map, Option, None, option_map, if◌then◌else◌}
 use Rattle.std.specs.List.{list_any}
-use Rattle.exact_runs.specs.Records.{clock_reading}
-use Rattle.net_plan.specs.declared.event.Event.{Event}
-use Rattle.net_plan.specs.declared.event.What.TheVariants.{Send}
-use Rattle.net_plan.specs.declared.ids.LinkId.{LinkId}
-use Rattle.net_plan.specs.declared.network.Network.{Network}
-use Rattle.net_plan.specs.declared.tables.Way.TheVariants.{Up}
-use Rattle.net_plan.specs.declared.tables.Way.{Way}
-use Rattle.pcap_form.specs.Writing.{packet_octets}
-use Rattle.run_law.specs.declared.note.Note.{Note}
-use Rattle.run_law.specs.declared.note.NoteBody.TheVariants as notes
-use Rattle.run_law.specs.declared.note.NoteBody.{NoteBody}
-use Rattle.run_law.specs.records.Happenings.{Happening, happenings, time_of}
-use Rattle.run_law.specs.records.Ranks.{rank}
-use Rattle.run_law.specs.scenario.Scenarios.{Scenario}
-use Rattle.run_law.specs.scenario.Ways.{is_cut, is_way_of, way_from}
+use Rattle.std.specs.Prelude.{if◌then◌else◌, ◌%◌, ◌&&◌, ◌/◌, ◌==◌, ◌||◌, Bool, List, None, Option, false, filter}
+use Rattle.std.specs.Prelude.{filter_map, nat_lt, not, option_map, ℕ}
 use Rattle.frame_trace.specs.RecordOctets.{record_octets}
+use Rattle.net_plan.specs.declared.{event.{Event.Event, What.TheVariants.Send}, ids.LinkId.LinkId}
+use Rattle.net_plan.specs.declared.{network.Network.Network, tables.Way.{Way, TheVariants.Up}}
+use Rattle.pcap_form.specs.Writing.{packet_octets}
+use Rattle.run_law.specs.declared.note.{Note.Note, NoteBody.NoteBody}
+use Rattle.run_law.specs.records.{Happenings.{Happening, happenings, time_of}, Ranks.rank}
+use Rattle.run_law.specs.scenario.{Scenarios.Scenario, Ways.{is_cut, is_way_of, way_from}}
+use Rattle.world_exact.specs.Records.{clock_reading}
 use Rattle.world_law.specs.source.Agreeing.{scenario}
+use Rattle.run_law.specs.declared.note.NoteBody.TheVariants as notes
 
 -- ---- a packet
 

@@ -1,25 +1,20 @@
 -- What `wire` writes is the capture of a run that is safe.
-use Rattle.std.specs.Prelude.{◌≡◌, ◌⊎◌, ℕ, List, [], ◌∷◌, length, Option}
-use Rattle.drift_clock.specs.Segment.{fresh_segment, stepped_segment, segment_reading}
+use Rattle.std.specs.Prelude.{◌∷◌, ◌≡◌, ◌⊎◌, List, Option, [], length, ℕ}
+use Rattle.drift_clock.specs.Segment.{fresh_segment, segment_reading, stepped_segment}
 use Rattle.drift_world.specs.Running.{last_time}
-use Rattle.net_plan.specs.declared.event.Event.{Event}
-use Rattle.net_plan.specs.declared.ids.LinkId.{LinkId}
-use Rattle.net_plan.specs.declared.network.Network.{Network}
-use Rattle.net_plan.specs.declared.tables.Way.{Way}
+use Rattle.net_plan.specs.declared.{event.Event.Event, ids.LinkId.LinkId, network.Network.Network, tables.Way.Way}
 use Rattle.pcap_form.specs.Writing.{head_octets}
 use Rattle.run_law.specs.declared.note.Note.{Note}
 use Rattle.safe_runs.specs.Headline.{IsRunBefore, IsWholeRun}
-use Rattle.tte_forms.specs.Answering.{ForOctets}
-use Rattle.tte_forms.specs.Putting.{PutsLines, PutsSo, PutsSome, Shown, WriteFails}
+use Rattle.tte_forms.specs.{Answering.ForOctets, Putting.{PutsLines, PutsSo, PutsSome, Shown, WriteFails}}
 use Rattle.tte_forms.specs.declared.status.Status.{Status}
-use Rattle.tte_forms.specs.declared.status.Status.TheVariants.{Done, TraceRefused, OutsideHypothesis, ReadFault, WriteFault, OutOfMemory, TooLong}
+use Rattle.tte_forms.specs.declared.status.Status.TheVariants.{Done, OutOfMemory, OutsideHypothesis, ReadFault, TooLong}
+use Rattle.tte_forms.specs.declared.status.Status.TheVariants.{TraceRefused, WriteFault}
 use Rattle.tte_forms.specs.networks.Accepting.{MeansAccepted}
-use Rattle.tte_traces.specs.Lines.{AreAdmitted, IsFault, behind_lines}
-use Rattle.tte_traces.specs.Safely.{BeginsRunTo}
+use Rattle.tte_traces.specs.{Lines.{AreAdmitted, IsFault, behind_lines}, Safely.BeginsRunTo}
 use Rattle.tte_traces.specs.declared.fault.TraceFault.{TraceFault}
 use Rattle.tte_units.specs.Amount.{amount}
-use Rattle.tte_wires.specs.Answer.{IsNamed}
-use Rattle.tte_wires.specs.Packets.{capture_of}
+use Rattle.tte_wires.specs.{Answer.IsNamed, Packets.capture_of}
 
 -- the lines are the header and the packets of the way in the run of the accepted network under the events of the trace,
 -- up to their end; it goes well up to there

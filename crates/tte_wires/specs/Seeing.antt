@@ -1,33 +1,21 @@
 -- What the observer of a way has put and keeps, by the records that it has seen.
-use Rattle.std.specs.Prelude.{◌≡◌, ◌⊎◌, ℕ, ◌^◌, ◌≤◌, pos, ◌≤ℤ◌, Bool, true, false, List, [], ◌∷◌, ◌++◌, filter_map, map, Option, Some, None, unwrap_or, IfErr, OnOk, Result, Ok, Err, if◌then◌else◌}
 use Rattle.std.specs.List.{last_or}
-use Rattle.net_plan.specs.declared.event.Event.{Event}
-use Rattle.net_plan.specs.declared.event.What.TheVariants.{Send}
-use Rattle.net_plan.specs.declared.event.What.{What}
-use Rattle.net_plan.specs.declared.ids.LinkId.{LinkId}
-use Rattle.net_plan.specs.Belonging.{HasLink}
-use Rattle.net_plan.specs.declared.network.Network.{Network}
-use Rattle.net_plan.specs.declared.tables.Way.TheVariants.{Up}
-use Rattle.net_plan.specs.declared.tables.Way.{Way}
-use Rattle.run_law.specs.control.Wires.{Signal, control, timed}
-use Rattle.run_law.specs.declared.note.Note.{Note}
-use Rattle.run_law.specs.declared.note.NoteBody.TheVariants as notes
-use Rattle.run_law.specs.declared.note.NoteBody.{NoteBody}
-use Rattle.run_law.specs.records.Happenings.{Happening, happening, happenings, time_of}
-use Rattle.run_law.specs.records.Order.{IsIn}
+use Rattle.std.specs.Prelude.{if◌then◌else◌, ◌++◌, ◌^◌, ◌∷◌, ◌≡◌, ◌≤ℤ◌, ◌≤◌, ◌⊎◌, Bool, Err, IfErr, List, None, Ok}
+use Rattle.std.specs.Prelude.{OnOk, Option, Result, Some, [], false, filter_map, map, pos, true, unwrap_or, ℕ}
+use Rattle.net_plan.specs.{Belonging.HasLink, declared.event.{Event.Event, What.{What, TheVariants.Send}}}
+use Rattle.net_plan.specs.declared.{ids.LinkId.LinkId, network.Network.Network, tables.Way.{Way, TheVariants.Up}}
+use Rattle.pcf_codec.specs.Encoded.{encoded}
+use Rattle.run_law.specs.{control.Wires.{Signal, control, timed}, declared.note.{Note.Note, NoteBody.NoteBody}}
+use Rattle.run_law.specs.records.{Happenings.{Happening, happening, happenings, time_of}, Order.IsIn}
 use Rattle.run_law.specs.scenario.Ways.{cut_set, is_way_of}
 use Rattle.tte_forms.specs.Putting.{PutFails, PutsLines}
-use Rattle.tte_io.specs.Faults.{Rose}
-use Rattle.tte_io.specs.declared.ends.Sink.{Ghosts}
+use Rattle.tte_io.specs.{Faults.Rose, declared.ends.Sink.Ghosts}
 use Rattle.tte_traces.specs.Report.{StopsLines, shown_as}
-use Rattle.tte_units.specs.Amount.{amount}
-use Rattle.tte_units.specs.declared.units.Units.{Units}
-use Rattle.pcf_codec.specs.Encoded.{encoded}
+use Rattle.tte_units.specs.{Amount.amount, declared.units.Units.Units}
+use Rattle.world_drive.specs.{Observing.{Start, Told, told_by}, declared.observing.Cut.{Cut, TheVariants.WriteFault}}
 use Rattle.tte_wires.specs.Packets.{is_settled, packet_at, packets_of, scenario_under, settled, unsettled}
 use Rattle.tte_wires.specs.declared.capture.Capture.{Capture}
-use Rattle.world_drive.specs.Observing.{Start, Told, told_by}
-use Rattle.world_drive.specs.declared.observing.Cut.{Cut}
-use Rattle.world_drive.specs.declared.observing.Cut.TheVariants.{WriteFault}
+use Rattle.run_law.specs.declared.note.NoteBody.TheVariants as notes
 
 -- ---- puts
 

@@ -1,20 +1,13 @@
 -- The law of the observer of a way: where memory runs out in the world, what it has put is that of settled records.
-use Rattle.std.specs.Prelude.{◌≡◌, ℕ, Bool, true, false, List, [], ◌∷◌, filter, if◌then◌else◌}
-use Rattle.std.proofs.Common.{inl, inr, refl, ap, subst, ◌∙◌}
-use Rattle.net_plan.specs.declared.event.Event.{Event}
-use Rattle.net_plan.specs.declared.ids.LinkId.{LinkId}
-use Rattle.net_plan.specs.declared.network.Network.{Network}
-use Rattle.net_plan.specs.declared.tables.Way.{Way}
-use Rattle.run_law.specs.declared.note.Note.{Note}
-use Rattle.run_law.specs.records.Happenings.{Happening, happenings}
-use Rattle.run_law.specs.records.Order.{IsIn}
+use Rattle.std.proofs.Common.{◌∙◌, ap, inl, inr, refl, subst}
+use Rattle.std.specs.Prelude.{if◌then◌else◌, ◌∷◌, ◌≡◌, Bool, List, [], false, filter, true, ℕ}
+use Rattle.net_plan.specs.declared.{event.Event.Event, ids.LinkId.LinkId, network.Network.Network, tables.Way.Way}
+use Rattle.run_law.specs.{declared.note.Note.Note, records.{Happenings.{Happening, happenings}, Order.IsIn}}
 use Rattle.tte_forms.specs.Putting.{PutsLines}
 use Rattle.tte_traces.specs.Report.{shown_as}
+use Rattle.world_drive.specs.{Observing.{Start, Told}, declared.observing.Cut.TheVariants.OutOfMemory}
 use Rattle.tte_wires.specs.Packets.{is_settled, packets_of, scenario_under, settled, unsettled}
-use Rattle.tte_wires.specs.Seeing.{SeesRecords, SeesWay, StopsRecords, StopsWay}
-use Rattle.tte_wires.specs.declared.capture.Capture.{Capture}
-use Rattle.world_drive.specs.Observing.{Start, Told}
-use Rattle.world_drive.specs.declared.observing.Cut.TheVariants.{OutOfMemory}
+use Rattle.tte_wires.specs.{Seeing.{SeesRecords, SeesWay, StopsRecords, StopsWay}, declared.capture.Capture.Capture}
 
 -- what is left of a list has the property
 pub filter_has : {X : Type 0} (p : X → Bool) (xs : List X) (x : X) → IsIn x (filter p xs) → p x ≡ true

@@ -1,14 +1,10 @@
 -- How much of a trace `wire` has taken, and what was written by then.
-use Rattle.std.specs.Prelude.{ℕ, List, ◌∷◌, Option}
-use Rattle.net_plan.specs.declared.ids.LinkId.{LinkId}
-use Rattle.net_plan.specs.declared.network.Network.{Network}
-use Rattle.net_plan.specs.declared.tables.Way.{Way}
+use Rattle.std.specs.Prelude.{◌∷◌, List, Option, ℕ}
+use Rattle.net_plan.specs.declared.{ids.LinkId.LinkId, network.Network.Network, tables.Way.Way}
 use Rattle.pcap_form.specs.Writing.{head_octets}
 use Rattle.tte_forms.specs.Putting.{IsPassedOn, Shown}
-use Rattle.tte_traces.specs.Answer.{LinesOf}
-use Rattle.tte_traces.specs.Streaming.{ForAccepted, ForTrace, StopsBehindLines, TakesLittle}
-use Rattle.tte_wires.specs.Answer.{IsNamed}
-use Rattle.tte_wires.specs.Packets.{settled_capture}
+use Rattle.tte_traces.specs.{Answer.LinesOf, Streaming.{ForAccepted, ForTrace, StopsBehindLines, TakesLittle}}
+use Rattle.tte_wires.specs.{Answer.IsNamed, Packets.settled_capture}
 
 -- the packets of the way, but for those that a further event may cut
 abbrev pub settled_lines : LinkId → Way → LinesOf

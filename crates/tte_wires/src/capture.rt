@@ -1,24 +1,22 @@
-ghost use Rattle.std.specs.Prelude.{◌≡◌, ◌≤◌, ◌^◌, List, ℕ, true, false, [], ◌∷◌, ◌++◌, length, IfErr, OnOk};
-ghost use Rattle.exact_runs.specs.Worlds.{StandsExact};
-ghost use Rattle.net_plan.specs.Belonging.{HasLink};
-ghost use Rattle.net_plan.specs.Ranges.{IsInRange};
-ghost use Rattle.net_plan.specs.declared.event.Event.{Event as EventValue};
+ghost use Rattle.std.specs.Prelude.{◌++◌, ◌^◌, ◌∷◌, ◌≡◌, ◌≤◌, IfErr, List, OnOk, [], false, length, true, ℕ};
+ghost use Rattle.net_plan.specs.{Belonging.HasLink, Ranges.IsInRange, declared.event.Event.Event as EventValue};
 ghost use Rattle.run_law.specs.declared.note.Note.{Note as NoteValue};
 ghost use Rattle.tte_units.specs.Amount.{amount, units_of};
+ghost use Rattle.world_drive.specs.{Observing.PutsFurther, declared.observing.Cut.Cut as CutValue};
+ghost use Rattle.world_exact.specs.Worlds.{StandsExact};
 ghost use Rattle.tte_wires.specs.Packets.{is_sent_on, packets_of, scenario_under};
-ghost use Rattle.tte_wires.specs.Seeing.{IsTimely, PassesTo, PutsAll, SeesWay, StopsWay, TakesWhat, last_happening, sent_packets};
-ghost use Rattle.world_drive.specs.Observing.{PutsFurther};
-ghost use Rattle.world_drive.specs.declared.observing.Cut.{Cut as CutValue};
+ghost use Rattle.tte_wires.specs.Seeing.{IsTimely, PassesTo, PutsAll, SeesWay, StopsWay, TakesWhat, last_happening};
+ghost use Rattle.tte_wires.specs.Seeing.{sent_packets};
 
 use crate::frames::{is_sent_on, is_way_of, put_frames, put_signal};
 use drift_world::{EventNote, Given};
-use exact_runs::ExactWorld;
 use made_frames::MadeFrame;
 use net_plan::{Event, LinkId, Network, Way, What};
 use std::alloc::Global;
 use tte_io::Sink;
 use tte_units::Units;
 use world_drive::{Cut, Observer};
+use world_exact::ExactWorld;
 use world_state::packets::Packet;
 
 /// Puts a packet for each frame that a way of a link carries. What a broken master sends is kept until all events of

@@ -1,14 +1,10 @@
-ghost use Rattle.std.specs.Prelude.{◌≡◌, ◌<◌, ◌≤◌, ◌^◌, List, ℕ, [], ◌∷◌, length, map};
-ghost use Rattle.net_plan.specs.Belonging.{HasLink};
-ghost use Rattle.net_plan.specs.Ranges.{IsInRange};
+ghost use Rattle.std.specs.Prelude.{◌<◌, ◌^◌, ◌∷◌, ◌≡◌, ◌≤◌, List, [], length, map, ℕ};
+ghost use Rattle.net_plan.specs.{Belonging.HasLink, Ranges.IsInRange};
 ghost use Rattle.pcap_form.specs.Layout.{most_written};
-ghost use Rattle.run_law.specs.control.Wires.{signal_of};
-ghost use Rattle.run_law.specs.records.Ranks.{rank};
-ghost use Rattle.run_law.specs.scenario.Ways.{is_way_of, way_from};
 ghost use Rattle.pcf_codec.specs.Encoded.{encoded};
-ghost use Rattle.tte_wires.specs.Packets.{is_sent_on, packet_at};
-ghost use Rattle.tte_wires.specs.Seeing.{IsSpelt, PutsAll};
+ghost use Rattle.run_law.specs.{control.Wires.signal_of, records.Ranks.rank, scenario.Ways.{is_way_of, way_from}};
 ghost use Rattle.world_state.specs.Views.{octets_of, signal_as};
+ghost use Rattle.tte_wires.specs.{Packets.{is_sent_on, packet_at}, Seeing.{IsSpelt, PutsAll}};
 
 use made_frames::MadeFrame;
 use net_plan::{DeviceId, LinkId, Network, Way};

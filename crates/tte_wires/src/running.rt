@@ -1,20 +1,16 @@
-ghost use Rattle.std.specs.Prelude.{◌≡◌, ◌⊎◌, ◌≢◌, ◌≤◌, ◌^◌, true, []};
-ghost use Rattle.exact_runs.specs.Worlds.{StandsExact};
-ghost use Rattle.net_plan.specs.Belonging.{HasLink};
-ghost use Rattle.net_plan.specs.Ranges.{IsInRange};
+ghost use Rattle.std.specs.Prelude.{◌^◌, ◌≡◌, ◌≢◌, ◌≤◌, ◌⊎◌, [], true};
+ghost use Rattle.net_plan.specs.{Belonging.HasLink, Ranges.IsInRange};
 ghost use Rattle.tte_forms.specs.Answering.{ForOctets, Gives, GivesAnswer, GivesOne};
-ghost use Rattle.tte_forms.specs.Faults.{HasCause, IsWanted, PutFailed, ReadFailed};
-ghost use Rattle.tte_forms.specs.Putting.{Over, PutsNone};
-ghost use Rattle.tte_traces.specs.Ending.{RunEnds};
-ghost use Rattle.tte_traces.specs.FaultLine.{fault_status};
-ghost use Rattle.tte_wires.specs.Answer.{IsCapture, IsHeaded, IsWireAnswer, IsWireNetworkAnswer, IsWireStatus, quiet_answer};
-ghost use Rattle.tte_wires.specs.Safely.{WiresSafely};
-ghost use Rattle.tte_wires.specs.Seeing.{SeesWay, sent_packets};
-ghost use Rattle.tte_wires.specs.Streaming.{StopsAtLink, StopsHeaded, TakesLittleAtLink, TakesLittleHeaded, WireStops, WireTakesLittle, settled_lines};
+ghost use Rattle.tte_forms.specs.{Faults.{HasCause, IsWanted, PutFailed, ReadFailed}, Putting.{Over, PutsNone}};
+ghost use Rattle.tte_traces.specs.{Ending.RunEnds, FaultLine.fault_status};
 ghost use Rattle.world_drive.specs.Observing.{start_by, told_by};
+ghost use Rattle.world_exact.specs.Worlds.{StandsExact};
+ghost use Rattle.tte_wires.specs.Answer.{IsCapture, IsHeaded, IsWireAnswer, IsWireNetworkAnswer, IsWireStatus};
+ghost use Rattle.tte_wires.specs.{Answer.quiet_answer, Safely.WiresSafely, Seeing.{SeesWay, sent_packets}};
+ghost use Rattle.tte_wires.specs.Streaming.{StopsAtLink, StopsHeaded, TakesLittleAtLink, TakesLittleHeaded, WireStops};
+ghost use Rattle.tte_wires.specs.Streaming.{WireTakesLittle, settled_lines};
 
 use crate::capture::Capture;
-use exact_runs::ExactWorld;
 use net_plan::{LinkId, Way};
 use pcap_form::put_head;
 use schedule_tables::Accepted;
@@ -23,6 +19,7 @@ use tte_forms::{NoNetwork, Status, accept, end_with};
 use tte_io::{Sink, Source};
 use tte_traces::{Trace, TraceFault, TraceStop};
 use world_drive::{Cut, Drove, begin_world, drive};
+use world_exact::ExactWorld;
 
 /// Writes the capture of one way of the link of this name, as the network of the first file runs under the trace of the
 /// second. It takes the trace line by line, and writes a frame as soon as it is known to be on the way.

@@ -1,26 +1,15 @@
 -- The answer of `show` for a source, and for a file that spells a sequence of frames.
-use Rattle.std.proofs.Common.{◌≡◌, ◌≢◌, ℕ, suc, ◌+◌, ◌-◌, ◌*◌, ◌<◌, ◌≤◌, List, [], ◌∷◌, ◌++◌, length, take, drop, Err, Result, refl, sym, ap, subst, ◌∙◌, inl, inr, arith, append_assoc, length-append}
-use Rattle.std.specs.Prelude.{Option, IfSome}
-use Rattle.std.proofs.lemmas.Bool.{lt-ltb, le-ltb}
-use Rattle.std.proofs.lemmas.List.{append-nil, nil_from_length, drop-drop}
-use Rattle.std.proofs.Math.Seq.{take-append_seam, drop-append_seam}
+use Rattle.std.proofs.Common.{◌*◌, ◌++◌, ◌+◌, ◌-◌, ◌<◌, ◌∙◌, ◌∷◌, ◌≡◌, ◌≢◌, ◌≤◌, Err, List, Result, [], ap, append_assoc, arith, drop, inl, inr, length}
+use Rattle.std.proofs.{Common.{length-append, refl, subst, suc, sym, take, ℕ}, Math.Seq.{drop-append_seam, take-append_seam}, lemmas.Bool.{le-ltb, lt-ltb}}
+use Rattle.std.{proofs.lemmas.List.{append-nil, drop-drop, nil_from_length}, specs.Prelude.{IfSome, Option}}
+use Rattle.pcf_codec.{proofs.{Outcomes.spelt_read, Sequences.length-spelling}, specs.{Decoding.decoded, Sequence.{IsLongestFront, SpellsAll}}}
+use Rattle.pcf_codec.specs.{Spelling.pcf_length, declared.refusal.PcfRefusal.PcfRefusal}
 use Rattle.pcf_values.specs.declared.pcf.Pcf.{Pcf}
-use Rattle.pcf_codec.specs.declared.refusal.PcfRefusal.{PcfRefusal}
-use Rattle.pcf_codec.specs.Spelling.{pcf_length}
-use Rattle.pcf_codec.specs.Decoding.{decoded}
-use Rattle.pcf_codec.specs.Sequence.{SpellsAll, IsLongestFront}
-use Rattle.pcf_codec.proofs.Outcomes.{spelt_read}
-use Rattle.pcf_codec.proofs.Sequences.{length-spelling}
-use Rattle.tte_forms.specs.frames.FrameLine.{frame_line, refusal_line}
-use Rattle.tte_forms.specs.Putting.{Shown}
-use Rattle.tte_forms.specs.Answering.{Answer, Ends, Gives, Answers, IsDone, with_line}
-use Rattle.tte_forms.specs.frames.Answer.{show_answer, file_limit, frames_answer, frame_count, frame_at, judgement_of}
+use Rattle.tte_forms.proofs.{Octets.{for_read, for_too_many}, Puts.{Ends-gives, PutsLines-none}, frames.Frames.{behind, no_frame}}
+use Rattle.tte_forms.specs.{Answering.{Answer, Answers, Ends, Gives, IsDone, with_line}, Putting.Shown, declared.status.Status.Status}
+use Rattle.tte_forms.specs.declared.status.Status.TheVariants.{Done, FrameRefused, ReadFault, TooLong, WriteFault}
+use Rattle.tte_forms.specs.frames.{Answer.{file_limit, frame_at, frame_count, frames_answer, judgement_of, show_answer}, FrameLine.{frame_line, refusal_line}}
 use Rattle.tte_forms.specs.frames.Law.{ShowsFrames, frame_lines}
-use Rattle.tte_forms.specs.declared.status.Status.{Status}
-use Rattle.tte_forms.specs.declared.status.Status.TheVariants.{Done, FrameRefused, ReadFault, WriteFault, TooLong}
-use Rattle.tte_forms.proofs.Octets.{for_read, for_too_many}
-use Rattle.tte_forms.proofs.Puts.{PutsLines-none, Ends-gives}
-use Rattle.tte_forms.proofs.frames.Frames.{behind, no_frame}
 
 pub show_answer-fits : (octets : List ℕ) → length octets ≤ file_limit → show_answer octets ≡ frames_answer 0 (frame_count octets) octets
 unfolding show_answer

@@ -1,19 +1,13 @@
 -- The answer for the frames of a file, frame by frame.
-use Rattle.std.proofs.Common.{◌≡◌, ℕ, zero, suc, ◌+◌, ◌-◌, ◌<◌, ◌≤◌, List, [], ◌∷◌, ◌++◌, Result, Ok, Err, refl, sym, ap, subst, ◌∙◌, inl, inr, arith, append_assoc}
-use Rattle.std.proofs.lemmas.List.{append-nil}
+use Rattle.std.proofs.Common.{◌++◌, ◌+◌, ◌-◌, ◌<◌, ◌∙◌, ◌∷◌, ◌≡◌, ◌≤◌, Err, List, Ok, Result, [], ap, append_assoc, arith, inl, inr, refl, subst, suc, sym}
+use Rattle.std.{proofs.{Common.{zero, ℕ}, lemmas.List.append-nil}, specs.Io.KnownBytes.Appends}
+use Rattle.pcf_codec.specs.{Decoding.decoded, declared.refusal.PcfRefusal.PcfRefusal}
 use Rattle.pcf_values.specs.declared.pcf.Pcf.{Pcf}
-use Rattle.pcf_codec.specs.declared.refusal.PcfRefusal.{PcfRefusal}
-use Rattle.pcf_codec.specs.Decoding.{decoded}
+use Rattle.tte_io.specs.{Faults.next_count, Told.AppendsFront}
+use Rattle.tte_forms.proofs.Puts.{Ends-gives, PutsLines-append, PutsLines-fails, PutsLines-more, PutsSome-behind, WriteFails-behind}
+use Rattle.tte_forms.specs.{Answering.{Answer, Ends, Gives, with_line}, Putting.{PutsLines, Shown}, declared.status.Status.Status}
+use Rattle.tte_forms.specs.{declared.status.Status.TheVariants.{Done, FrameRefused, WriteFault}, frames.Answer.{frame_at, frames_answer, judgement_of}}
 use Rattle.tte_forms.specs.frames.FrameLine.{frame_line, refusal_line}
-use Rattle.tte_forms.specs.Putting.{Shown, PutsLines}
-use Rattle.tte_forms.specs.Answering.{Answer, Ends, Gives, with_line}
-use Rattle.tte_forms.specs.frames.Answer.{frame_at, frames_answer, judgement_of}
-use Rattle.tte_forms.specs.declared.status.Status.{Status}
-use Rattle.tte_forms.specs.declared.status.Status.TheVariants.{Done, FrameRefused, WriteFault}
-use Rattle.tte_io.specs.Faults.{next_count}
-use Rattle.tte_io.specs.Told.{AppendsFront}
-use Rattle.std.specs.Io.KnownBytes.{Appends}
-use Rattle.tte_forms.proofs.Puts.{PutsLines-none, PutsLines-more, PutsLines-fails, PutsLines-append, PutsSome-behind, WriteFails-behind, Ends-gives}
 
 -- an answer behind some lines
 abbrev pub behind : List (List ℕ) → Answer → Answer
@@ -34,9 +28,6 @@ pub record IsShown (n k : ℕ) (octets : List ℕ) (old now : Shown) : Type 0 wh
   pub done : List (List ℕ)
   pub puts : PutsLines done old now
   pub rest : frames_answer 0 n octets ≡ behind done (frames_answer k (n - k) octets)
-
-pub IsShown-none : (n : ℕ) (octets : List ℕ) (s : Shown) → IsShown n 0 octets s s
-IsShown-none n octets s = record { done = []; puts = PutsLines-none s; rest = ap (λ (m : ℕ). frames_answer 0 m octets) (omega arith) }
 
 pub IsShown-more : (n k : ℕ) (octets : List ℕ) (p : Pcf) (old now new : Shown) → IsShown n k octets old now → k < n → decoded (frame_at k octets) ≡ Ok p
     → Appends now.written new.written (frame_line (k + 1) p) → new.puts ≡ next_count now.puts → IsShown n (k + 1) octets old new

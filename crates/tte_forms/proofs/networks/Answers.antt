@@ -1,25 +1,16 @@
 -- The answer for the octets of a network file.
-use Rattle.std.proofs.Common.{◌≡◌, ◌⊎◌, ℕ, pos, List, [], ◌∷◌, Option, Ok, Err, refl, sym, ap, ◌∙◌, subst, inl, inr, arith}
-use Rattle.std.proofs.lemmas.Int.{ints}
-use Rattle.net_file.specs.Schema.{network_read}
-use Rattle.net_file.specs.declared.refusal.FileRefusal.{FileRefusal}
-use Rattle.net_plan.specs.Bounds.{IsBeta, BetaIsUnique, gamma_of}
-use Rattle.net_plan.specs.declared.network.Network.{Network}
-use Rattle.schedule_checker.specs.Refusals.{TellsFirstBroken, RefusalIsOne}
-use Rattle.schedule_checker.specs.declared.refusal.RuleBroken.{RuleBroken}
+use Rattle.std.proofs.{Common.{◌∙◌, ◌∷◌, ◌≡◌, ◌⊎◌, Err, List, Ok, Option, [], ap, arith, inl, inr, pos, refl, subst, sym, ℕ}, lemmas.Int.ints}
+use Rattle.net_file.specs.{Schema.network_read, declared.refusal.FileRefusal.FileRefusal}
+use Rattle.net_plan.specs.{Bounds.{BetaIsUnique, IsBeta, gamma_of}, declared.network.Network.Network}
+use Rattle.schedule_checker.specs.{Refusals.{RefusalIsOne, TellsFirstBroken}, declared.refusal.RuleBroken.RuleBroken}
 use Rattle.schedule_tables.specs.Rules.{KeepsRules}
-use Rattle.tte_forms.specs.networks.Accepting.{IsTooLong, MeansNoNetwork, MeansUnfit, MeansAccepted, IsNetworkAnswer, too_long_answer, refused_answer}
-use Rattle.tte_forms.specs.Answering.{Answer, AnswersOne, ForOctets, Gives, GivesAnswer, GivesOne}
-use Rattle.tte_forms.specs.networks.Checking.{IsAcceptance}
-use Rattle.tte_forms.specs.networks.NetworkLine.{file_reason, rule_reason, acceptance_line}
+use Rattle.tte_forms.proofs.{Octets.for_more, OneAnswers.{answer_widened, cut_given, one_given, unput_answer, widened}}
+use Rattle.tte_forms.specs.{Answering.{Answer, AnswersOne, ForOctets, Gives, GivesAnswer, GivesOne}, Putting.{PutsNone, Shown}}
+use Rattle.tte_forms.specs.declared.{accepting.NoNetwork.NoNetwork, status.Status.{Status, TheVariants.{Done, WriteFault}}}
+use Rattle.tte_forms.specs.networks.Accepting.{IsNetworkAnswer, IsTooLong, MeansAccepted, MeansNoNetwork, MeansUnfit, refused_answer, too_long_answer}
+use Rattle.tte_forms.specs.networks.{Checking.IsAcceptance, NetworkLine.{acceptance_line, file_reason, rule_reason}}
 use Rattle.tte_forms.specs.networks.NoNetworks.{IsNoNetwork, no_network_answer}
-use Rattle.tte_forms.specs.Putting.{PutsNone, Shown}
-use Rattle.tte_forms.specs.declared.accepting.NoNetwork.{NoNetwork}
 use Rattle.tte_forms.specs.declared.accepting.NoNetwork.TheVariants as causes
-use Rattle.tte_forms.specs.declared.status.Status.{Status}
-use Rattle.tte_forms.specs.declared.status.Status.TheVariants.{Done, WriteFault}
-use Rattle.tte_forms.proofs.Octets.{for_more}
-use Rattle.tte_forms.proofs.OneAnswers.{answer_widened, cut_given, one_given, unput_answer, widened}
 
 -- a rule that is broken is not kept
 unfit_kept : (n : Network) (told : RuleBroken) → TellsFirstBroken n told → KeepsRules n → ⊥

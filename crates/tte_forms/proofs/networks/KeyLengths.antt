@@ -1,8 +1,10 @@
 -- The keys of a network file are short.
 use Rattle.std.proofs.Common.{◌≤◌, length, lit≤}
-use Rattle.net_file.specs.KeyTexts.{key_text}
-use Rattle.net_file.specs.declared.keys.KeyName.{KeyName}
-use Rattle.net_file.specs.declared.keys.KeyName.TheVariants.{Version, Cycle, Rho, Grain, Dmax, Calc, Settled, Precision, Correction, TtStart, SyncThreshold, Priority, Domain, PcfDestination, Marker, Name, Role, Mac, Member, Channel, Start, Child, Parent, Wire, Jitter, Hold, Speed, Id, Length, Ethertype, Sender, Period, Phase, Way, Offset, Device, Link, Vl, Row}
+use Rattle.net_file.specs.{KeyTexts.key_text, declared.keys.KeyName.KeyName}
+use Rattle.net_file.specs.declared.keys.KeyName.TheVariants.{Calc, Channel, Child, Correction, Cycle, Device, Dmax, Domain, Ethertype, Grain, Hold, Id, Jitter}
+use Rattle.net_file.specs.declared.keys.KeyName.TheVariants.{Length, Link, Mac, Marker, Member, Name, Offset, Parent, PcfDestination, Period, Phase, Precision}
+use Rattle.net_file.specs.declared.keys.KeyName.TheVariants.{Priority, Rho, Role, Row, Sender, Settled, Speed, Start, SyncThreshold, TtStart, Version, Vl, Way}
+use Rattle.net_file.specs.declared.keys.KeyName.TheVariants.{Wire}
 
 pub key_short : (key : KeyName) → length (key_text key) ≤ 15
 unfolding key_text

@@ -1,14 +1,10 @@
 -- What was put where there is no accepted network: a front of the line that says so.
-use Rattle.std.proofs.Common.{◌≡◌, ◌⊎◌, ℕ, List, [], ◌∷◌, inl, inr, refl, sym, subst}
-use Rattle.tte_forms.proofs.OneAnswers.{fails_given, none_put, puts_nothing, some_given}
-use Rattle.tte_forms.specs.Answering.{Gives}
-use Rattle.tte_forms.specs.Putting.{PutsSo, PutsSome, Shown, WriteFails}
-use Rattle.tte_forms.specs.declared.accepting.NoNetwork.{NoNetwork}
-use Rattle.tte_forms.specs.declared.accepting.NoNetwork.TheVariants as causes
-use Rattle.tte_forms.specs.declared.status.Status.{Status}
+use Rattle.std.proofs.Common.{◌∷◌, ◌≡◌, ◌⊎◌, List, [], inl, inr, refl, subst, sym, ℕ}
+use Rattle.tte_forms.{proofs.OneAnswers.{fails_given, none_put, puts_nothing, some_given}, specs.Answering.Gives}
+use Rattle.tte_forms.specs.{Putting.{PutsSo, PutsSome, Shown, WriteFails}, declared.{accepting.NoNetwork.NoNetwork, status.Status.Status}}
 use Rattle.tte_forms.specs.declared.status.Status.TheVariants.{NetworkRefused, OutOfMemory, ReadFault, TooLong, WriteFault}
-use Rattle.tte_forms.specs.networks.NetworkLine.{IsRefusalText, file_reason, network_refusal_line, rule_reason}
-use Rattle.tte_forms.specs.networks.NoNetworks.{no_network_answer}
+use Rattle.tte_forms.specs.networks.{NetworkLine.{IsRefusalText, file_reason, network_refusal_line, rule_reason}, NoNetworks.no_network_answer}
+use Rattle.tte_forms.specs.declared.accepting.NoNetwork.TheVariants as causes
 
 -- ---- the lines
 

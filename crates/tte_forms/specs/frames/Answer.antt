@@ -1,15 +1,14 @@
 -- What `show` answers for the octets of a file.
-use Rattle.std.specs.Prelude.{ℕ, zero, suc, ◌+◌, List, [], ◌∷◌, length, nat_lt, if◌then◌else◌, Result, Ok, Err}
-use Rattle.std.specs.Int.{div_ceil}
-use Rattle.std.specs.Fork.{slice_chunk}
+use Rattle.std.specs.{Fork.slice_chunk, Int.div_ceil}
+use Rattle.std.specs.Prelude.{if◌then◌else◌, ◌+◌, ◌∷◌, Err, List, Ok, Result, [], length, nat_lt, suc, zero, ℕ}
+use Rattle.pcf_codec.specs.{Decoding.decoded, Spelling.pcf_length, declared.refusal.PcfRefusal.PcfRefusal}
 use Rattle.pcf_values.specs.declared.pcf.Pcf.{Pcf}
-use Rattle.pcf_codec.specs.declared.refusal.PcfRefusal.{PcfRefusal}
-use Rattle.pcf_codec.specs.Spelling.{pcf_length}
-use Rattle.pcf_codec.specs.Decoding.{decoded}
+use Rattle.tte_forms.specs.{Answering.{Answer, with_line}, declared.status.Status.Status}
+use Rattle.tte_forms.specs.declared.status.Status.TheVariants.{AuditRefused, CaptureRefused, Done, FrameRefused}
+use Rattle.tte_forms.specs.declared.status.Status.TheVariants.{GranuleRefused, NameRefused, NetworkRefused}
+use Rattle.tte_forms.specs.declared.status.Status.TheVariants.{NumberRefused, OutOfMemory, OutsideHypothesis, ReadFault}
+use Rattle.tte_forms.specs.declared.status.Status.TheVariants.{TooLong, TraceRefused, Usage, VoteRefused, WriteFault}
 use Rattle.tte_forms.specs.frames.FrameLine.{frame_line, refusal_line}
-use Rattle.tte_forms.specs.Answering.{Answer, with_line}
-use Rattle.tte_forms.specs.declared.status.Status.{Status}
-use Rattle.tte_forms.specs.declared.status.Status.TheVariants.{Done, Usage, FrameRefused, NetworkRefused, TraceRefused, OutsideHypothesis, ReadFault, WriteFault, OutOfMemory, TooLong, AuditRefused, GranuleRefused, CaptureRefused, NameRefused, VoteRefused}
 
 -- how many octets a file has at most
 abbrev pub file_limit : ℕ
@@ -57,3 +56,4 @@ IsShowStatus GranuleRefused = ⊥
 IsShowStatus CaptureRefused = ⊥
 IsShowStatus NameRefused = ⊥
 IsShowStatus VoteRefused = ⊥
+IsShowStatus NumberRefused = ⊥

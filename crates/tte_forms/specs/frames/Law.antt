@@ -1,14 +1,10 @@
 -- What the answer of `show` has to do with the sequence of frames that a file spells.
-use Rattle.std.specs.Prelude.{◌≡◌, ℕ, ◌+◌, ◌≤◌, List, [], ◌∷◌, ◌++◌, length, take, Err}
-use Rattle.pcf_values.specs.declared.pcf.Pcf.{Pcf}
+use Rattle.std.specs.Prelude.{◌++◌, ◌+◌, ◌∷◌, ◌≡◌, ◌≤◌, Err, List, [], length, take, ℕ}
+use Rattle.pcf_codec.specs.{Decoding.decoded, Sequence.{IsLongestFront, SpellsAll}, Spelling.pcf_length}
 use Rattle.pcf_codec.specs.declared.refusal.PcfRefusal.{PcfRefusal}
-use Rattle.pcf_codec.specs.Spelling.{pcf_length}
-use Rattle.pcf_codec.specs.Decoding.{decoded}
-use Rattle.pcf_codec.specs.Sequence.{SpellsAll, IsLongestFront}
-use Rattle.tte_forms.specs.Answering.{Answer}
-use Rattle.tte_forms.specs.frames.FrameLine.{frame_line, refusal_line}
-use Rattle.tte_forms.specs.frames.Answer.{show_answer, file_limit}
-use Rattle.tte_forms.specs.declared.status.Status.TheVariants.{Done, FrameRefused}
+use Rattle.pcf_values.specs.declared.pcf.Pcf.{Pcf}
+use Rattle.tte_forms.specs.{Answering.Answer, declared.status.Status.TheVariants.{Done, FrameRefused}}
+use Rattle.tte_forms.specs.frames.{Answer.{file_limit, show_answer}, FrameLine.{frame_line, refusal_line}}
 
 -- the lines of frames, numbered from k on
 abbrev pub frame_lines : ℕ → List Pcf → List (List ℕ)

@@ -1,15 +1,12 @@
 -- How a network file is judged.
-use Rattle.std.specs.Prelude.{◌≡◌, ◌⊎◌, ℕ, ◌<◌, ◌≤◌, List, [], length, Ok, Err}
-use Rattle.net_file.specs.Schema.{network_read}
-use Rattle.net_file.specs.declared.refusal.FileRefusal.{FileRefusal}
+use Rattle.std.specs.Prelude.{◌<◌, ◌≡◌, ◌≤◌, ◌⊎◌, Err, List, Ok, [], length, ℕ}
+use Rattle.net_file.specs.{Schema.network_read, declared.refusal.FileRefusal.FileRefusal}
 use Rattle.net_plan.specs.declared.network.Network.{Network}
-use Rattle.schedule_checker.specs.Refusals.{TellsFirstBroken}
-use Rattle.schedule_checker.specs.declared.refusal.RuleBroken.{RuleBroken}
+use Rattle.schedule_checker.specs.{Refusals.TellsFirstBroken, declared.refusal.RuleBroken.RuleBroken}
 use Rattle.schedule_tables.specs.Rules.{KeepsRules}
 use Rattle.tte_forms.specs.Answering.{Answer, line_answer}
-use Rattle.tte_forms.specs.networks.NetworkLine.{file_reason, rule_reason, network_refusal_line}
-use Rattle.tte_forms.specs.frames.Answer.{file_limit}
-use Rattle.tte_forms.specs.declared.status.Status.TheVariants.{NetworkRefused, TooLong}
+use Rattle.tte_forms.specs.{declared.status.Status.TheVariants.{NetworkRefused, TooLong}, frames.Answer.file_limit}
+use Rattle.tte_forms.specs.networks.NetworkLine.{file_reason, network_refusal_line, rule_reason}
 
 -- the file is longer than files may be
 abbrev pub IsTooLong : List ℕ → Type 0

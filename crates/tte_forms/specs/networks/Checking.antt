@@ -1,12 +1,12 @@
 -- What `check` answers for the octets of a network file.
-use Rattle.std.specs.Prelude.{◌≡◌, ℕ, pos, List, [], ◌∷◌}
-use Rattle.net_plan.specs.Bounds.{IsBeta, gamma_of}
-use Rattle.net_plan.specs.declared.network.Network.{Network}
-use Rattle.tte_forms.specs.networks.Accepting.{IsNetworkAnswer}
-use Rattle.tte_forms.specs.Answering.{Answer}
-use Rattle.tte_forms.specs.networks.NetworkLine.{acceptance_line}
-use Rattle.tte_forms.specs.declared.status.Status.{Status}
-use Rattle.tte_forms.specs.declared.status.Status.TheVariants.{Done, Usage, FrameRefused, NetworkRefused, TraceRefused, OutsideHypothesis, ReadFault, WriteFault, OutOfMemory, TooLong, AuditRefused, GranuleRefused, CaptureRefused, NameRefused, VoteRefused}
+use Rattle.std.specs.Prelude.{◌∷◌, ◌≡◌, List, [], pos, ℕ}
+use Rattle.net_plan.specs.{Bounds.{IsBeta, gamma_of}, declared.network.Network.Network}
+use Rattle.tte_forms.specs.{Answering.Answer, declared.status.Status.Status}
+use Rattle.tte_forms.specs.declared.status.Status.TheVariants.{AuditRefused, CaptureRefused, Done, FrameRefused}
+use Rattle.tte_forms.specs.declared.status.Status.TheVariants.{GranuleRefused, NameRefused, NetworkRefused}
+use Rattle.tte_forms.specs.declared.status.Status.TheVariants.{NumberRefused, OutOfMemory, OutsideHypothesis, ReadFault}
+use Rattle.tte_forms.specs.declared.status.Status.TheVariants.{TooLong, TraceRefused, Usage, VoteRefused, WriteFault}
+use Rattle.tte_forms.specs.networks.{Accepting.IsNetworkAnswer, NetworkLine.acceptance_line}
 
 -- an accepted network is answered with its beta and its gamma
 pub record IsAcceptance (network : Network) (a : Answer) : Type 0 where
@@ -35,3 +35,4 @@ IsCheckStatus GranuleRefused = ⊥
 IsCheckStatus CaptureRefused = ⊥
 IsCheckStatus NameRefused = ⊥
 IsCheckStatus VoteRefused = ⊥
+IsCheckStatus NumberRefused = ⊥

@@ -1,12 +1,9 @@
 -- The lines about a network.
-use Rattle.std.specs.Prelude.{◌≡◌, ℕ, List, [], ◌∷◌, ◌++◌, codes}
-use Rattle.std.specs.Fmt.{decimal}
-use Rattle.net_file.specs.KeyTexts.{key_text}
-use Rattle.net_file.specs.declared.refusal.FileRefusal.{FileRefusal}
-use Rattle.net_file.specs.declared.refusal.FileRefusal.TheVariants.{NotToml, Missing, Kind, Unknown, Range, Name, OutOfMemory}
-use Rattle.net_file.specs.declared.spots.Spot.{Spot}
-use Rattle.net_file.specs.declared.spots.TableName.{TableName}
-use Rattle.net_file.specs.declared.spots.TableName.TheVariants.{Top, Device, Link, Vl, Row}
+use Rattle.std.specs.{Fmt.decimal, Prelude.{◌++◌, ◌∷◌, ◌≡◌, List, [], codes, ℕ}}
+use Rattle.net_file.specs.{KeyTexts.key_text, declared.refusal.FileRefusal.FileRefusal}
+use Rattle.net_file.specs.declared.refusal.FileRefusal.TheVariants.{Kind, Missing, Name, NotToml, OutOfMemory, Range}
+use Rattle.net_file.specs.declared.{refusal.FileRefusal.TheVariants.Unknown, spots.{Spot.Spot, TableName.TableName}}
+use Rattle.net_file.specs.declared.spots.TableName.TheVariants.{Device, Link, Row, Top, Vl}
 use Rattle.schedule_checker.specs.declared.refusal.RuleBroken.{RuleBroken}
 
 -- the name of a table

@@ -1,11 +1,10 @@
 -- What is answered where there is no accepted network.
-use Rattle.std.specs.Prelude.{ℕ, List, []}
-use Rattle.tte_forms.specs.networks.Accepting.{IsTooLong, MeansNoNetwork, MeansUnfit, too_long_answer, refused_answer}
-use Rattle.tte_forms.specs.Answering.{Answer}
+use Rattle.std.specs.Prelude.{List, [], ℕ}
+use Rattle.tte_forms.specs.{Answering.Answer, declared.accepting.NoNetwork.NoNetwork}
+use Rattle.tte_forms.specs.declared.status.Status.TheVariants.{OutOfMemory, ReadFault}
+use Rattle.tte_forms.specs.networks.Accepting.{IsTooLong, MeansNoNetwork, MeansUnfit, refused_answer, too_long_answer}
 use Rattle.tte_forms.specs.networks.NetworkLine.{file_reason, rule_reason}
-use Rattle.tte_forms.specs.declared.accepting.NoNetwork.{NoNetwork}
 use Rattle.tte_forms.specs.declared.accepting.NoNetwork.TheVariants as causes
-use Rattle.tte_forms.specs.declared.status.Status.TheVariants.{ReadFault, OutOfMemory}
 
 -- the octets give no accepted network, for this cause; a read may fail and memory may run out at any
 abbrev pub IsNoNetwork : List ℕ → NoNetwork → Type 0

@@ -1,5 +1,6 @@
-ghost use Rattle.std.specs.Prelude.{◌≡◌, ◌≤◌, ◌+◌, ◌*◌, ◌^◌, ◌<◌, ◌++◌, length};
-ghost use Rattle.tte_forms.specs.networks.NetworkLine.{acceptance_line, file_reason, network_refusal_line, place_text, rule_reason, spot_text, table_text};
+ghost use Rattle.std.specs.Prelude.{◌*◌, ◌++◌, ◌+◌, ◌<◌, ◌^◌, ◌≡◌, ◌≤◌, length};
+ghost use Rattle.tte_forms.specs.networks.NetworkLine.{acceptance_line, file_reason, network_refusal_line, place_text};
+ghost use Rattle.tte_forms.specs.networks.NetworkLine.{rule_reason, spot_text, table_text};
 
 use net_file::{FileRefusal, Spot, TableName};
 use schedule_checker::RuleBroken;

@@ -1,5 +1,6 @@
-ghost use Rattle.std.specs.Prelude.{◌≡◌, ◌≤◌, ◌+◌, ◌++◌, length};
-ghost use Rattle.tte_forms.specs.frames.FrameLine.{frame_line, frame_words, refusal_line, refusal_text, kind_text, hex_text};
+ghost use Rattle.std.specs.Prelude.{◌++◌, ◌+◌, ◌≡◌, ◌≤◌, length};
+ghost use Rattle.tte_forms.specs.frames.FrameLine.{frame_line, frame_words, hex_text, kind_text, refusal_line};
+ghost use Rattle.tte_forms.specs.frames.FrameLine.{refusal_text};
 
 use byteorder::{BigEndian, ByteOrder};
 use pcf_codec::PcfRefusal;

@@ -1,9 +1,7 @@
-use Rattle.std.proofs.Common.{ℕ, List, subst, ap, ◌∙◌, Err}
+use Rattle.std.proofs.Common.{◌∙◌, Err, List, ap, subst, ℕ}
 use Rattle.pcap_form.specs.Reading.{opened}
-use Rattle.tte_forms.specs.Putting.{shown_by}
-use Rattle.tte_forms.specs.Answering.{Gives}
-use Rattle.tte_captures.specs.Answer.{opened_answer}
-use Rattle.tte_captures.proofs.Files.{answers-read, answers-long}
+use Rattle.tte_forms.specs.{Answering.Gives, Putting.shown_by}
+use Rattle.tte_captures.{proofs.Files.{answers-long, answers-read}, specs.Answer.opened_answer}
 use Rattle.tte_captures.proofs.capturing.capture_file.Goals as goal
 
 pub returns-in-Ok-clause-general : goal.returns-in-Ok-clause-general

@@ -1,16 +1,10 @@
-use Rattle.std.proofs.Common.{◌≡◌, ◌≤◌, ◌+◌, ◌∙◌, List, ℕ, refl, sym, ap, subst, arith, Ok, Err}
-use Rattle.std.specs.Prelude.{IfSome, Option, Some, None, Result}
-use Rattle.std.specs.Io.KnownBytes.{Appends}
+use Rattle.std.{proofs.Common.{◌+◌, ◌∙◌, ◌≡◌, ◌≤◌, Err, List, Ok, ap, arith, refl, subst, sym, ℕ}, specs.Io.KnownBytes.Appends}
+use Rattle.std.specs.Prelude.{IfSome, None, Option, Result, Some}
+use Rattle.pcap_form.specs.{Layout.{IsPacket, stamp_length}, Reading.packet_at, declared.{capture.Packet.Packet, refusal.CaptureRefusal.CaptureRefusal}}
+use Rattle.tte_forms.specs.{Answering.{Gives, line_answer}, Putting.shown_by, declared.status.Status.TheVariants.CaptureRefused}
 use Rattle.tte_io.specs.Told.{AppendsFront}
-use Rattle.pcap_form.specs.declared.capture.Packet.{Packet}
-use Rattle.pcap_form.specs.declared.refusal.CaptureRefusal.{CaptureRefusal}
-use Rattle.pcap_form.specs.Layout.{stamp_length, IsPacket}
-use Rattle.pcap_form.specs.Reading.{packet_at}
-use Rattle.tte_forms.specs.Putting.{shown_by}
-use Rattle.tte_forms.specs.Answering.{Gives, line_answer}
-use Rattle.tte_forms.specs.declared.status.Status.TheVariants.{CaptureRefused}
+use Rattle.tte_captures.proofs.Packets.{IsShown-all, IsShown-fails, IsShown-more, IsShown-none, IsShown-refused}
 use Rattle.tte_captures.specs.CaptureLine.{packet_line, packet_refusal_line}
-use Rattle.tte_captures.proofs.Packets.{IsShown-none, IsShown-more, IsShown-all, IsShown-fails, IsShown-refused}
 use Rattle.tte_captures.proofs.capturing.show_packets.Goals as goal
 
 pub packets-init : goal.packets-init

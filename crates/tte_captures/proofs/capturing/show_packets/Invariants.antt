@@ -1,4 +1,4 @@
-use Rattle.std.proofs.Common.{◌≡◌, ◌≤◌, ◌-◌, length}
+use Rattle.std.proofs.Common.{◌-◌, ◌≡◌, ◌≤◌, length}
 use Rattle.tte_forms.specs.Putting.{shown_by}
 use Rattle.tte_captures.proofs.Packets.{IsShown}
 use Rattle.tte_captures.proofs.capturing.show_packets.Given as goal

@@ -1,6 +1,4 @@
-use Rattle.tte_forms.specs.Putting.{shown_by}
-use Rattle.tte_forms.specs.networks.Checking.{IsAcceptance}
-use Rattle.tte_forms.proofs.networks.Answers.{answered_accepted, answered_none}
+use Rattle.tte_forms.{proofs.networks.Answers.{answered_accepted, answered_none}, specs.{Putting.shown_by, networks.Checking.IsAcceptance}}
 use Rattle.tte_forms.proofs.checking.check_network.Goals as goal
 
 pub returns-in-Ok-clause-general : goal.returns-in-Ok-clause-general

@@ -1,12 +1,7 @@
-use Rattle.std.proofs.Common.{◌≡◌, subst, ℤ, ℕ, pos, List, ◌∷◌, [], ap, ◌∙◌, arith}
-use Rattle.std.proofs.lemmas.Int.{ints}
-use Rattle.net_plan.specs.Bounds.{IsBeta, gamma_of}
-use Rattle.net_plan.specs.declared.network.Network.{Network}
-use Rattle.tte_forms.specs.Answering.{Answer, Gives}
+use Rattle.std.proofs.{Common.{◌∙◌, ◌∷◌, ◌≡◌, List, [], ap, arith, pos, subst, ℕ, ℤ}, lemmas.Int.ints}
+use Rattle.net_plan.specs.{Bounds.{IsBeta, gamma_of}, declared.network.Network.Network}
+use Rattle.tte_forms.{proofs.networks.Answers.acceptance, specs.{Answering.{Answer, Gives}, Putting.shown_by, declared.status.Status.TheVariants.Done}}
 use Rattle.tte_forms.specs.networks.NetworkLine.{acceptance_line}
-use Rattle.tte_forms.specs.Putting.{shown_by}
-use Rattle.tte_forms.specs.declared.status.Status.TheVariants.{Done}
-use Rattle.tte_forms.proofs.networks.Answers.{acceptance}
 use Rattle.tte_forms.proofs.checking.put_acceptance.Goals as goal
 
 pub returns-clause-gives : goal.returns-clause-gives

@@ -1,4 +1,4 @@
-use Rattle.std.proofs.Common.{arith, rules, refl, sym, ◌∙◌}
+use Rattle.std.proofs.Common.{◌∙◌, arith, refl, rules, sym}
 use Rattle.tte_forms.proofs.FormLemmas.{five_words, four_words, no_words, one_file, other_count, six_words, two_files}
 use Rattle.tte_forms.proofs.form.read_form.Goals as goal
 

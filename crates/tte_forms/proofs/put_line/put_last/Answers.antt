@@ -1,6 +1,5 @@
-use Rattle.std.proofs.Common.{[], ◌∷◌, inl, inr, refl}
-use Rattle.tte_forms.specs.Putting.{shown_by}
-use Rattle.tte_forms.proofs.Puts.{Ends-gives, PutsLines-none, PutsLines-fails, PutsLines-more}
+use Rattle.std.proofs.Common.{◌∷◌, [], inl, inr, refl}
+use Rattle.tte_forms.{proofs.Puts.{Ends-gives, PutsLines-fails, PutsLines-more, PutsLines-none}, specs.Putting.shown_by}
 use Rattle.tte_forms.proofs.put_line.put_last.Goals as goal
 
 pub returns-in-Ok-clause-gives : goal.returns-in-Ok-clause-gives

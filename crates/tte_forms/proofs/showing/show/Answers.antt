@@ -1,8 +1,5 @@
-use Rattle.std.proofs.Common.{ℕ, List, subst, ap, ◌∙◌, Err}
-use Rattle.tte_forms.specs.Putting.{shown_by}
-use Rattle.tte_forms.specs.Answering.{Gives}
-use Rattle.tte_forms.specs.frames.Answer.{frames_answer, frame_count}
-use Rattle.tte_forms.proofs.frames.Answers.{answers-read, answers-long}
+use Rattle.std.proofs.Common.{◌∙◌, Err, List, ap, subst, ℕ}
+use Rattle.tte_forms.{proofs.frames.Answers.{answers-long, answers-read}, specs.{Answering.Gives, Putting.shown_by, frames.Answer.{frame_count, frames_answer}}}
 use Rattle.tte_forms.proofs.showing.show.Goals as goal
 
 pub returns-in-Ok-clause-general : goal.returns-in-Ok-clause-general

@@ -1,13 +1,8 @@
-use Rattle.std.proofs.Common.{◌≡◌, ℕ, ◌+◌, ◌∙◌, List, [], ◌∷◌, sym, ap, subst, arith, Ok, Err}
-use Rattle.std.specs.Io.KnownBytes.{Appends}
-use Rattle.tte_io.specs.Told.{AppendsFront}
+use Rattle.std.{proofs.Common.{◌+◌, ◌∙◌, ◌∷◌, ◌≡◌, Err, List, Ok, [], ap, arith, subst, sym, ℕ}, specs.Io.KnownBytes.Appends}
 use Rattle.pcf_codec.specs.Decoding.{decoded}
-use Rattle.tte_forms.specs.frames.FrameLine.{frame_line, refusal_line}
-use Rattle.tte_forms.specs.Answering.{Answer, Gives}
-use Rattle.tte_forms.specs.Putting.{shown_by}
-use Rattle.tte_forms.specs.frames.Answer.{frame_count, frame_at}
-use Rattle.tte_forms.specs.declared.status.Status.TheVariants.{FrameRefused}
-use Rattle.tte_forms.proofs.frames.Frames.{IsShown-more, IsShown-all, IsShown-fails, IsShown-refused}
+use Rattle.tte_io.specs.Told.{AppendsFront}
+use Rattle.tte_forms.{proofs.frames.Frames.{IsShown-all, IsShown-fails, IsShown-more, IsShown-refused}, specs.{Answering.{Answer, Gives}, Putting.shown_by}}
+use Rattle.tte_forms.specs.{declared.status.Status.TheVariants.FrameRefused, frames.{Answer.{frame_at, frame_count}, FrameLine.{frame_line, refusal_line}}}
 use Rattle.tte_forms.proofs.showing.show_frames.Goals as goal
 
 pub returns-in-Err-put-clause-gives : goal.returns-in-Err-put-clause-gives

@@ -1,7 +1,5 @@
 use Rattle.std.proofs.Common.{◌≡◌}
-use Rattle.tte_forms.specs.Putting.{shown_by}
-use Rattle.tte_forms.specs.frames.Answer.{frame_count}
-use Rattle.tte_forms.proofs.frames.Frames.{IsShown}
+use Rattle.tte_forms.{proofs.frames.Frames.IsShown, specs.{Putting.shown_by, frames.Answer.frame_count}}
 use Rattle.tte_forms.proofs.showing.show_frames.Given as goal
 
 abbrev pub invariant-frames : goal.invariant-frames

@@ -1,27 +1,17 @@
-use Rattle.std.proofs.Common.{◌≡◌, ◌⊎◌, ℕ, List, Option, Some, None, inl, inr, subst, rules}
-use Rattle.tte_forms.specs.Forms.{form_of}
-use Rattle.tte_forms.specs.frames.Answer.{IsShowStatus, show_answer}
-use Rattle.tte_forms.specs.networks.Checking.{IsCheckStatus}
-use Rattle.tte_traces.specs.Answer.{IsRunStatus}
-use Rattle.tte_run.specs.reports.Answer.{IsAuditStatus}
-use Rattle.tte_stamps.specs.Answer.{IsStampStatus}
+use Rattle.std.proofs.Common.{◌≡◌, ◌⊎◌, List, None, Option, Some, inl, inr, rules, subst, ℕ}
 use Rattle.net_plan.specs.declared.tables.Way.{Way}
-use Rattle.tte_forms.specs.Answering.{ForOctets, GivesAnswer}
-use Rattle.tte_forms.specs.networks.Accepting.{IsNetworkAnswer}
-use Rattle.tte_votes.specs.Answer.{IsVoteAnswer, IsVoteStatus, the_names}
-use Rattle.tte_wires.specs.Answer.{IsWireAnswer, IsWireNetworkAnswer, IsWireStatus}
-use Rattle.tte_wires.specs.Streaming.{WireStops}
-use Rattle.tte_forms.specs.Putting.{Shown, shown_by}
 use Rattle.tte_captures.specs.Answer.{IsCaptureStatus, capture_answer}
-use Rattle.tte_forms.proofs.Facts.{no_usage}
-use Rattle.tte_forms.specs.Faults.{HasCause}
-use Rattle.tte_run.specs.SecondFiles.{FailsToRead, FormStops, second_of}
-use Rattle.tte_run.specs.Top.{AnswersWords}
-use Rattle.tte_run.specs.Whole.{Completes}
-use Rattle.tte_forms.specs.declared.form.Form.{Form}
-use Rattle.tte_forms.specs.declared.form.Form.TheVariants.{Show, Check, Run, Storm, Stamp, Audit, Capture, Wire, Vote}
-use Rattle.tte_forms.specs.declared.status.Status.{Status}
-use Rattle.tte_run.proofs.TopAnswers.{as_one, completes-capture, completes-show, completes-check, completes-run, completes-stamp, completes-storm, completes-audit, completes-vote, completes-wire}
+use Rattle.tte_forms.{proofs.Facts.no_usage, specs.{Answering.{ForOctets, GivesAnswer}, Faults.HasCause, Forms.form_of, Putting.{Shown, shown_by}}}
+use Rattle.tte_forms.specs.declared.{form.Form.{Form, TheVariants.{Audit, Capture, Check, Run, Show, Stamp, Storm, Vote, Wire}}, status.Status.Status}
+use Rattle.tte_forms.specs.{frames.Answer.{IsShowStatus, show_answer}, networks.{Accepting.IsNetworkAnswer, Checking.IsCheckStatus}}
+use Rattle.tte_reports.specs.Answer.{IsAuditStatus}
+use Rattle.tte_stamps.specs.Answer.{IsStampStatus}
+use Rattle.tte_traces.specs.Answer.{IsRunStatus}
+use Rattle.tte_votes.specs.Answer.{IsVoteAnswer, IsVoteStatus, the_names}
+use Rattle.tte_wires.specs.{Answer.{IsWireAnswer, IsWireNetworkAnswer, IsWireStatus}, Streaming.WireStops}
+use Rattle.tte_run.proofs.TopAnswers.{as_one, completes-audit, completes-capture, completes-check, completes-run, completes-show, completes-stamp}
+use Rattle.tte_run.{proofs.TopAnswers.{completes-storm, completes-vote, completes-wire}, specs.SecondFiles.{FailsToRead, FormStops, second_of}}
+use Rattle.tte_run.specs.{Top.AnswersWords, Whole.Completes}
 use Rattle.tte_run.proofs.top.tte.Goals as goal
 
 -- what is answered for the form is answered for the words
@@ -270,7 +260,8 @@ returns-in-Some-Vote-clause-general g c =
     let new = shown_by g.K.Sink c.vote_trace.new.out in
     words_as form first second c.vote_trace.result old new (
       no_usage IsVoteStatus c.vote_trace.result (λ none. none) c.vote_trace.ensures.statuses,
-      votes_as c.text-in-Some-Vote.ensures c.text-in-Some-Vote-2.ensures c.text-in-Some-Vote-3.ensures first second c.vote_trace.result old new c.vote_trace.ensures.general,
+      votes_as c.text-in-Some-Vote.ensures c.text-in-Some-Vote-2.ensures c.text-in-Some-Vote-3.ensures first second c.vote_trace.result old new
+          c.vote_trace.ensures.general,
     )
 
 pub returns-in-Some-Vote-clause-complete : goal.returns-in-Some-Vote-clause-complete
@@ -282,5 +273,6 @@ returns-in-Some-Vote-clause-complete g c =
     let new = shown_by g.K.Sink c.vote_trace.new.out in
     whole_as form first second c.vote_trace.result _ _
     (completes-vote c.in-Some-Vote.one c.in-Some-Vote.two c.in-Some-Vote.three first second c.vote_trace.result old new _ _
-    (votes_as c.text-in-Some-Vote.ensures c.text-in-Some-Vote-2.ensures c.text-in-Some-Vote-3.ensures first second c.vote_trace.result old new c.vote_trace.ensures.general)
+    (votes_as c.text-in-Some-Vote.ensures c.text-in-Some-Vote-2.ensures c.text-in-Some-Vote-3.ensures first second c.vote_trace.result old new
+    c.vote_trace.ensures.general)
     (λ e. read_rose (c.vote_trace.ensures.faults.read e)) c.vote_trace.ensures.faults.write)

@@ -1,18 +1,9 @@
-use Rattle.std.proofs.Common.{◌≡◌, ℕ, refl, ap, subst, inl, inr, unsigned_abs, arith}
+use Rattle.tte_stamps.proofs.Words.{◌≡◌, GranuleRefused, IsTraceAnswer, ap, arith, inl, inr, least_granule, refl, stamp_lines, subst, told_by, unsigned_abs, ℕ}
 use Rattle.std.proofs.lemmas.Int.{ints}
-use Rattle.sparse_time.specs.Granules.{least_granule}
-use Rattle.tte_forms.specs.Answering.{Gives, line_answer}
-use Rattle.tte_forms.specs.Putting.{shown_by}
-use Rattle.tte_forms.specs.declared.status.Status.TheVariants.{GranuleRefused}
-use Rattle.tte_stamps.proofs.Along.{stamps_along}
-use Rattle.tte_stamps.proofs.Ends.{less_of, no_granule, not_less_of, not_read, stamp_status}
-use Rattle.tte_stamps.proofs.Stamped.{first_stamps}
-use Rattle.tte_stamps.specs.Answer.{granule_line}
-use Rattle.tte_stamps.specs.StampLines.{stamp_lines}
-use Rattle.tte_stamps.specs.declared.stamper.Stamper.{Stamper}
-use Rattle.tte_traces.specs.Answer.{IsTraceAnswer}
+use Rattle.tte_forms.specs.{Answering.{Gives, line_answer}, Putting.shown_by}
 use Rattle.tte_traces.specs.Ending.{RunEnds}
-use Rattle.world_drive.specs.Observing.{told_by}
+use Rattle.tte_stamps.proofs.{Along.stamps_along, Ends.{less_of, no_granule, not_less_of, not_read, stamp_status}, Stamped.first_stamps}
+use Rattle.tte_stamps.specs.{Answer.granule_line, declared.stamper.Stamper.Stamper}
 use Rattle.tte_stamps.proofs.stamping.stamp_network.Goals as goal
 
 pub follow_trace-requires : goal.follow_trace-requires
@@ -30,7 +21,8 @@ returns-in-Some-clause-ends g c =
     inr (
       not_less_of c.args.granule.0 (least_granule network) c.requires.least (λ less. (let no = c.in-Some.ensures.refused.1 less in cc)),
       subst (λ (n : ℕ). RunEnds (λ trace. IsTraceAnswer (stamp_lines n) trace network) (stamp_lines n) network (g.B.Source.left c.args.second.now)
-          (g.B.Source.left c.follow_trace.new.second) c.follow_trace.result (shown_by g.K.Sink c.args.out.now) (shown_by g.K.Sink c.follow_trace.new.out)) same ends,
+          (g.B.Source.left c.follow_trace.new.second) c.follow_trace.result (shown_by g.K.Sink c.args.out.now) (shown_by g.K.Sink c.follow_trace.new.out)) same
+          ends,
       no_granule c.follow_trace.result c.follow_trace.ensures.statuses,
     )
 

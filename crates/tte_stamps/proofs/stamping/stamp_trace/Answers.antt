@@ -1,10 +1,7 @@
-use Rattle.std.proofs.Common.{inr}
+use Rattle.tte_stamps.proofs.Words.{IsStampAnswer, inr}
 use Rattle.tte_forms.specs.Putting.{shown_by}
-use Rattle.tte_stamps.proofs.Ends.{general_of, little_of, stops_of}
-use Rattle.tte_stamps.proofs.Safely.{none_safely, stamped_safely}
-use Rattle.tte_stamps.specs.Answer.{IsStampAnswer}
-use Rattle.tte_stamps.proofs.Existing.{stamp_answers_exist}
 use Rattle.tte_traces.proofs.Sources.{trace_answered, trace_unaccepted}
+use Rattle.tte_stamps.proofs.{Ends.{general_of, little_of, stops_of}, Existing.stamp_answers_exist, Safely.{none_safely, stamped_safely}}
 use Rattle.tte_stamps.proofs.stamping.stamp_trace.Goals as goal
 
 pub returns-in-Ok-clause-general : goal.returns-in-Ok-clause-general

@@ -1,8 +1,5 @@
-use Rattle.std.proofs.Common.{◌≡◌, ℕ, ◌<◌, ◌+◌, ◌^◌, [], ◌∷◌, ◌++◌, ap, subst, sym, ◌∙◌, arith}
-use Rattle.std.specs.Prelude.{All, take}
-use Rattle.std.proofs.Math.Seq.{take-length}
-use Rattle.std.proofs.lemmas.List.{take_more}
-use Rattle.std.proofs.lemmas.List.Elements.{All-append, All-cons, All-nil}
+use Rattle.std.proofs.{Common.{◌++◌, ◌+◌, ◌<◌, ◌^◌, ◌∙◌, ◌∷◌, ◌≡◌, [], ap, arith, subst, sym, ℕ}, Math.Seq.take-length, lemmas.List.take_more}
+use Rattle.std.{proofs.lemmas.List.Elements.{All-append, All-cons, All-nil}, specs.Prelude.{All, take}}
 use Rattle.net_plan.specs.declared.tables.Device.{Device}
 use Rattle.tte_storms.proofs.laws.addresses_fit.Goals as goal
 
@@ -14,7 +11,8 @@ devices-preserved c =
     let fits : Device → Type 0 = λ d. d.mac < 2 ^ 48 in
     let front : take (n + 1) all ≡ take n all ++ device ∷ [] =
     take_more all n device c.devices-test.true ∙ ap (λ (d : Device). take n all ++ d ∷ []) (sym c.device-item.is) in
-    subst (All fits) (sym front) (All-append fits (take n all) (device ∷ []) c.devices.invariant (All-cons fits device [] c.address_fits.ensures (All-nil fits)))
+    subst (All fits) (sym front) (All-append fits (take n all) (device
+    ∷ []) c.devices.invariant (All-cons fits device [] c.address_fits.ensures (All-nil fits)))
 
 pub returns : goal.returns
 returns c =

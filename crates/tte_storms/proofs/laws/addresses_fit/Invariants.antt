@@ -1,5 +1,4 @@
-use Rattle.std.proofs.Common.{◌<◌, ◌^◌, take}
-use Rattle.std.specs.Prelude.{All}
+use Rattle.std.{proofs.Common.{◌<◌, ◌^◌, take}, specs.Prelude.All}
 use Rattle.net_plan.specs.declared.tables.Device.{Device}
 use Rattle.tte_storms.proofs.laws.addresses_fit.Given as goal
 

@@ -1,15 +1,11 @@
-use Rattle.std.proofs.Common.{◌≡◌, ◌+◌, ◌<◌, ◌-ℤ◌, FitsSigned, to_z, of_z, List, length, Option, Some, None, ap, subst, sym, ◌∙◌, arith}
-use Rattle.std.specs.Int.{w128}
+use Rattle.std.{proofs.Common.{◌+◌, ◌-ℤ◌, ◌<◌, ◌∙◌, ◌≡◌, FitsSigned, List, None, Option, Some, ap, arith, length, of_z, subst, sym, to_z}, specs.Int.w128}
 use Rattle.std.specs.Prelude.{IfSome}
 use Rattle.drift_world.specs.Locals.{IsLocalClock, IsWide}
 use Rattle.run_law.specs.records.Happenings.{happenings}
-use Rattle.tte_storms.specs.declared.spreads.Ends.{Ends}
-use Rattle.tte_storms.specs.Answer.{exact_scenario}
-use Rattle.tte_storms.specs.Spreads.{AreEnds, IsSpreadAt, Widens}
-use Rattle.tte_storms.proofs.Locals.{apart_fits, apart_is, ends_stay, ends_widen, no_spread, spread_of, value_is}
 use Rattle.tte_units.specs.Amount.{amount}
+use Rattle.tte_storms.proofs.{Locals.{apart_fits, apart_is, ends_stay, ends_widen, no_spread, spread_of, value_is}, spreads.spread_at.Goals.{in-None, in-Some}}
+use Rattle.tte_storms.specs.{Answer.exact_scenario, Spreads.{AreEnds, IsSpreadAt, Widens}, declared.spreads.Ends.Ends}
 use Rattle.tte_storms.proofs.spreads.spread_at.Goals as goal
-use Rattle.tte_storms.proofs.spreads.spread_at.Goals.{in-Some, in-None}
 
 pub devices-init : goal.devices-init
 devices-init c = record { ends = λ events notes complete d lt. absurd (omega (arith, lt)); wide = tt }
@@ -39,7 +35,8 @@ devices-preserved c = record {
               greatest_is = w.with_local.ensures.greatest_is;
             } in
             subst (AreEnds s hs t (n + 1)) (sym w.ends-is)
-            (ends_widen s hs t n c.devices.ends w.in-Some.local w.with_local.result (subst (λ (l : List _). n < length l) c.as_slice.ensures c.devices-test.true) shown.0 shown.1
+            (ends_widen s hs t n c.devices.ends w.in-Some.local w.with_local.result
+            (subst (λ (l : List _). n < length l) c.as_slice.ensures c.devices-test.true) shown.0 shown.1
             (subst (λ z. Widens c.devices.ends z w.with_local.result) (value_is w.in-Some.local w.in-Some.ensures.range) widens) old)
         | in-None w ↦
             subst (AreEnds s hs t (n + 1)) (sym w.ends-is)

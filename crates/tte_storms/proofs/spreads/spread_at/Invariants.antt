@@ -1,13 +1,10 @@
-use Rattle.std.proofs.Common.{List}
-use Rattle.std.specs.Prelude.{IfSome}
+use Rattle.std.{proofs.Common.List, specs.Prelude.IfSome}
 use Rattle.drift_world.specs.Locals.{IsWide}
 use Rattle.net_plan.specs.declared.event.Event.{Event as EventValue}
-use Rattle.run_law.specs.declared.note.Note.{Note as NoteValue}
-use Rattle.run_law.specs.records.Happenings.{happenings}
-use Rattle.tte_storms.specs.Answer.{exact_scenario}
-use Rattle.tte_storms.specs.Spreads.{AreEnds}
-use Rattle.world_drive.specs.Observing.{IsCompleteExact}
+use Rattle.run_law.specs.{declared.note.Note.Note as NoteValue, records.Happenings.happenings}
 use Rattle.tte_units.specs.Amount.{amount}
+use Rattle.world_drive.specs.Observing.{IsCompleteExact}
+use Rattle.tte_storms.specs.{Answer.exact_scenario, Spreads.AreEnds}
 use Rattle.tte_storms.proofs.spreads.spread_at.Given as goal
 
 abbrev pub invariant-devices : goal.invariant-devices

@@ -1,8 +1,6 @@
 use Rattle.std.proofs.Common.{[], inl}
 use Rattle.storm_summary.specs.Lines.{lines_of}
-use Rattle.tte_forms.proofs.Puts.{PutsLines-none, PutsLines-still}
-use Rattle.tte_forms.proofs.frames.Frames.{Gives-behind}
-use Rattle.tte_forms.specs.Putting.{shown_by}
+use Rattle.tte_forms.{proofs.{Puts.{PutsLines-none, PutsLines-still}, frames.Frames.Gives-behind}, specs.Putting.shown_by}
 use Rattle.tte_forms.specs.declared.status.Status.TheVariants.{Done}
 use Rattle.tte_storms.proofs.storming.run_storm.Goals as goal
 

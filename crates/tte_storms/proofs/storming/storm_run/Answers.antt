@@ -1,8 +1,5 @@
-use Rattle.tte_forms.proofs.networks.Answers.{answered_none}
-use Rattle.tte_forms.specs.Putting.{shown_by}
-use Rattle.tte_storms.proofs.Safely.{none_safely, storm_safely}
-use Rattle.tte_storms.proofs.Summed.{storm_accepted}
-use Rattle.tte_storms.specs.Answer.{IsStormAnswer}
+use Rattle.tte_forms.{proofs.networks.Answers.answered_none, specs.Putting.shown_by}
+use Rattle.tte_storms.{proofs.{Safely.{none_safely, storm_safely}, Summed.storm_accepted}, specs.Answer.IsStormAnswer}
 use Rattle.tte_storms.proofs.storming.storm_run.Goals as goal
 
 pub returns-in-Ok-clause-general : goal.returns-in-Ok-clause-general

@@ -1,7 +1,6 @@
-use Rattle.std.proofs.Common.{ℕ, subst}
+use Rattle.std.proofs.Common.{subst, ℕ}
 use Rattle.net_plan.specs.declared.network.Network.{Network}
-use Rattle.tte_storms.proofs.Drawn.{has_stormed}
-use Rattle.tte_storms.specs.Storms.{HasStormed}
+use Rattle.tte_storms.{proofs.Drawn.has_stormed, specs.Storms.HasStormed}
 use Rattle.tte_storms.proofs.summing.summary_of.Goals as goal
 
 pub told-requires-clause-stormed : goal.told-requires-clause-stormed

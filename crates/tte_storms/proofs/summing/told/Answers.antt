@@ -1,6 +1,4 @@
-use Rattle.std.proofs.Common.{FitsSigned, to_z, of_z, ℤ, ap, refl, subst, sym, ◌∙◌, arith}
-use Rattle.std.specs.Int.{w64, w128}
-use Rattle.std.proofs.lemmas.Int.{ints, to_z-of_z}
+use Rattle.std.{proofs.{Common.{◌∙◌, FitsSigned, ap, arith, of_z, refl, subst, sym, to_z, ℤ}, lemmas.Int.{ints, to_z-of_z}}, specs.Int.{w128, w64}}
 use Rattle.net_plan.specs.declared.network.Network.{Network}
 use Rattle.tte_storms.proofs.Summed.{is_fine, spread_fits, sums_up}
 use Rattle.tte_storms.proofs.summing.told.Goals as goal

@@ -1,4 +1,4 @@
-use Rattle.tte_forms.specs.Putting.{shown_by}
+use Rattle.tte_traces.proofs.Words.{shown_by}
 use Rattle.tte_traces.proofs.Sources.{trace_no_memory}
 use Rattle.tte_traces.proofs.driving.follow_trace.Goals as goal
 

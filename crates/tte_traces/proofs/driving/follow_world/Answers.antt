@@ -1,17 +1,7 @@
-use Rattle.std.proofs.Common.{ℕ, List, ◌+◌, [], sym, subst, arith}
-use Rattle.net_plan.specs.declared.network.Network.{Network}
-use Rattle.tte_forms.specs.Answering.{Gives}
-use Rattle.tte_forms.specs.Faults.{PutFailed}
-use Rattle.tte_forms.specs.Putting.{shown_by}
-use Rattle.tte_forms.specs.declared.status.Status.TheVariants.{ReadFault, WriteFault}
-use Rattle.tte_traces.proofs.Ends.{IsStatusOf, ends_all, ends_fault, ends_memory, ends_read, ends_unpassed, ends_write, memory_cause}
-use Rattle.tte_traces.proofs.Taken.{gave_none}
-use Rattle.tte_traces.specs.Answer.{IsTraceAnswer}
-use Rattle.tte_traces.specs.Ending.{RunEnds}
-use Rattle.tte_traces.specs.Refusing.{fault_answer}
-use Rattle.tte_traces.specs.Taking.{GaveEvents}
-use Rattle.tte_traces.specs.declared.fault.TraceFault.{TraceFault}
+use Rattle.tte_traces.proofs.Words.{◌+◌, GaveEvents, Gives, IsTraceAnswer, Network, RunEnds, TraceFault, [], arith, fault_answer, shown_by, subst, sym}
+use Rattle.tte_forms.specs.{Faults.PutFailed, declared.status.Status.TheVariants.{ReadFault, WriteFault}}
 use Rattle.world_drive.specs.Observing.{FailsBy}
+use Rattle.tte_traces.proofs.{Ends.{IsStatusOf, ends_all, ends_fault, ends_memory, ends_read, ends_unpassed, ends_write, memory_cause}, Taken.gave_none}
 use Rattle.tte_traces.proofs.driving.follow_world.Goals as goal
 
 pub drive-requires-clause-source : goal.drive-requires-clause-source
@@ -30,9 +20,11 @@ returns-in-All-clause-ends g c = λ lines along.
     let left = g.B.Source.left in
     let see = g.O.Observer.sees in
     let stops = g.O.Observer.stops in
-    subst (λ (m : Network). RunEnds (λ trace. IsTraceAnswer lines trace m) lines m (left first) (left now) c.end_with.result (shown old) (shown c.end_with.new.out))
+    subst (λ (m : Network). RunEnds (λ trace. IsTraceAnswer lines trace m) lines m (left first) (left now) c.end_with.result (shown old)
+    (shown c.end_with.new.out))
     c.network-network.ensures.value
-    (ends_all g.B.Source g.K.Sink c.args.observer.now see stops lines along n first c.new-trace.result now c.drive.new.source old mid c.drive.new.world c.drive.new.observer c.in-All.ensures c.end_with.result
+    (ends_all g.B.Source g.K.Sink c.args.observer.now see stops lines along n first c.new-trace.result now c.drive.new.source old mid c.drive.new.world
+    c.drive.new.observer c.in-All.ensures c.end_with.result
     c.end_with.new.out c.end_with.ensures.ends)
 
 pub returns-in-Stopped-Fault-clause-ends : goal.returns-in-Stopped-Fault-clause-ends
@@ -54,9 +46,11 @@ returns-in-Stopped-Fault-clause-ends g c = λ lines along.
     c.put_fault.ensures.status in
     let a = c.from-line.ensures in
     let b = c.lines.ensures in
-    subst (λ (m : Network). RunEnds (λ trace. IsTraceAnswer lines trace m) lines m (left first) (left now) c.put_fault.result (shown old) (shown c.put_fault.new.out))
+    subst (λ (m : Network). RunEnds (λ trace. IsTraceAnswer lines trace m) lines m (left first) (left now) c.put_fault.result (shown old)
+    (shown c.put_fault.new.out))
     c.network-network.ensures.value
-    (ends_fault g.B.Source g.K.Sink c.args.observer.now see stops lines along n first c.new-trace.result now c.drive.new.source old mid c.drive.new.observer c.in-Stopped-Fault.field-0 c.in-Stopped-Fault.ensures
+    (ends_fault g.B.Source g.K.Sink c.args.observer.now see stops lines along n first c.new-trace.result now c.drive.new.source old mid c.drive.new.observer
+    c.in-Stopped-Fault.field-0 c.in-Stopped-Fault.ensures
     fault line c.put_fault.result c.put_fault.new.out c.in-Stopped-Fault.field-0-is (omega (arith, a, b)) gives status)
 
 pub returns-in-Stopped-ReadFault-clause-ends : goal.returns-in-Stopped-ReadFault-clause-ends
@@ -72,7 +66,8 @@ returns-in-Stopped-ReadFault-clause-ends g c = λ lines along.
     let stops = g.O.Observer.stops in
     subst (λ (m : Network). RunEnds (λ trace. IsTraceAnswer lines trace m) lines m (left first) (left now) ReadFault (shown old) (shown mid))
     c.network-network.ensures.value
-    (ends_read g.B.Source g.K.Sink c.args.observer.now see stops lines (IsTraceAnswer lines) along n first c.new-trace.result now c.drive.new.source old mid c.drive.new.observer c.in-Stopped-ReadFault.field-0
+    (ends_read g.B.Source g.K.Sink c.args.observer.now see stops lines (IsTraceAnswer lines) along n first c.new-trace.result now c.drive.new.source old mid
+    c.drive.new.observer c.in-Stopped-ReadFault.field-0
     c.in-Stopped-ReadFault.ensures c.in-Stopped-ReadFault.field-0-is)
 
 pub returns-in-Stopped-WriteFault-clause-ends : goal.returns-in-Stopped-WriteFault-clause-ends
@@ -88,7 +83,8 @@ returns-in-Stopped-WriteFault-clause-ends g c = λ lines along.
     let stops = g.O.Observer.stops in
     subst (λ (m : Network). RunEnds (λ trace. IsTraceAnswer lines trace m) lines m (left first) (left now) WriteFault (shown old) (shown mid))
     c.network-network.ensures.value
-    (ends_unpassed g.B.Source g.K.Sink c.args.observer.now see stops lines (IsTraceAnswer lines) along n first c.new-trace.result now c.drive.new.source old mid c.drive.new.observer c.in-Stopped-WriteFault.field-0
+    (ends_unpassed g.B.Source g.K.Sink c.args.observer.now see stops lines (IsTraceAnswer lines) along n first c.new-trace.result now c.drive.new.source old mid
+    c.drive.new.observer c.in-Stopped-WriteFault.field-0
     c.in-Stopped-WriteFault.ensures)
 
 pub returns-in-Cut-WriteFault-clause-ends : goal.returns-in-Cut-WriteFault-clause-ends
@@ -104,7 +100,8 @@ returns-in-Cut-WriteFault-clause-ends g c = λ lines along.
     let stops = g.O.Observer.stops in
     subst (λ (m : Network). RunEnds (λ trace. IsTraceAnswer lines trace m) lines m (left first) (left now) WriteFault (shown old) (shown mid))
     c.network-network.ensures.value
-    (ends_write g.B.Source g.K.Sink c.args.observer.now see stops lines (IsTraceAnswer lines) along n first c.new-trace.result now c.drive.new.source old mid c.in-Cut-WriteFault.field-0 c.in-Cut-WriteFault.ensures
+    (ends_write g.B.Source g.K.Sink c.args.observer.now see stops lines (IsTraceAnswer lines) along n first c.new-trace.result now c.drive.new.source old mid
+    c.in-Cut-WriteFault.field-0 c.in-Cut-WriteFault.ensures
     c.in-Cut-WriteFault.field-0-is)
 
 pub returns-in-Cut-OutOfMemory-clause-ends : goal.returns-in-Cut-OutOfMemory-clause-ends
@@ -118,9 +115,11 @@ returns-in-Cut-OutOfMemory-clause-ends g c = λ lines along.
     let left = g.B.Source.left in
     let see = g.O.Observer.sees in
     let stops = g.O.Observer.stops in
-    subst (λ (m : Network). RunEnds (λ trace. IsTraceAnswer lines trace m) lines m (left first) (left now) c.end_with-in-Cut-OutOfMemory.result (shown old) (shown c.end_with-in-Cut-OutOfMemory.new.out))
+    subst (λ (m : Network). RunEnds (λ trace. IsTraceAnswer lines trace m) lines m (left first) (left now) c.end_with-in-Cut-OutOfMemory.result (shown old)
+    (shown c.end_with-in-Cut-OutOfMemory.new.out))
     c.network-network.ensures.value
-    (ends_memory g.B.Source g.K.Sink c.args.observer.now see stops lines (IsTraceAnswer lines) along n first c.new-trace.result now c.drive.new.source old mid c.in-Cut-OutOfMemory.field-0 c.in-Cut-OutOfMemory.ensures
+    (ends_memory g.B.Source g.K.Sink c.args.observer.now see stops lines (IsTraceAnswer lines) along n first c.new-trace.result now c.drive.new.source old mid
+    c.in-Cut-OutOfMemory.field-0 c.in-Cut-OutOfMemory.ensures
     c.end_with-in-Cut-OutOfMemory.result c.end_with-in-Cut-OutOfMemory.new.out c.in-Cut-OutOfMemory.field-0-is c.end_with-in-Cut-OutOfMemory.ensures.ends)
 
 pub returns-in-Cut-WriteFault-clause-cause : goal.returns-in-Cut-WriteFault-clause-cause

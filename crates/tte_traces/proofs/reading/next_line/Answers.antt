@@ -1,8 +1,6 @@
-use Rattle.std.proofs.Common.{Ok, Err}
+use Rattle.tte_traces.proofs.Words.{Err, Ok, TraceStop}
 use Rattle.tte_io.proofs.Coming.{outcome_told}
-use Rattle.tte_traces.specs.declared.fault.TraceStop.{TraceStop}
-use Rattle.tte_traces.specs.declared.fault.TraceStop.TheVariants.{ReadFault, WriteFault}
-use Rattle.tte_traces.proofs.TakenLines.{failed_over, found_over, unmoved, unread}
+use Rattle.tte_traces.{proofs.TakenLines.{failed_over, found_over, unmoved, unread}, specs.declared.fault.TraceStop.TheVariants.{ReadFault, WriteFault}}
 use Rattle.tte_traces.proofs.reading.next_line.Goals as goal
 
 pub returns-in-Some-clause-next : goal.returns-in-Some-clause-next
@@ -12,7 +10,8 @@ pub returns-in-Some-clause-told : goal.returns-in-Some-clause-told
 returns-in-Some-clause-told g c = outcome_told _ _ _ _ _ _ (returns-in-Some-clause-next g c)
 
 pub returns-in-Err-clause-next : goal.returns-in-Err-clause-next
-returns-in-Err-clause-next g c = unread _ _ (g.B.Source.left c.args.source.now) _ WriteFault c.in-None.ensures.none.0 c.in-None.ensures.none.1 c.in-None.ensures.none.2
+returns-in-Err-clause-next g c = unread _ _ (g.B.Source.left c.args.source.now) _ WriteFault c.in-None.ensures.none.0 c.in-None.ensures.none.1
+    c.in-None.ensures.none.2
 
 pub returns-in-Err-clause-told : goal.returns-in-Err-clause-told
 returns-in-Err-clause-told g c = outcome_told _ _ _ _ _ _ (returns-in-Err-clause-next g c)

@@ -1,11 +1,6 @@
-use Rattle.std.proofs.Common.{◌≡◌, ℕ, List, sym, subst}
-use Rattle.tte_forms.specs.Answering.{Gives, line_answer}
-use Rattle.tte_forms.specs.Putting.{Shown, shown_by}
-use Rattle.tte_traces.specs.Refusing.{fault_answer}
+use Rattle.tte_traces.proofs.Words.{◌≡◌, Gives, List, Shown, Status, TraceFault, TraceRefused, fault_answer, shown_by, subst, sym, ℕ}
+use Rattle.tte_forms.specs.Answering.{line_answer}
 use Rattle.tte_traces.specs.FaultLine.{trace_refusal_line}
-use Rattle.tte_forms.specs.declared.status.Status.{Status}
-use Rattle.tte_forms.specs.declared.status.Status.TheVariants.{TraceRefused}
-use Rattle.tte_traces.specs.declared.fault.TraceFault.{TraceFault}
 use Rattle.tte_traces.proofs.refusing.put_fault.Goals as goal
 
 -- the answer about one fault under two names

@@ -1,15 +1,12 @@
-use Rattle.tte_forms.specs.Putting.{shown_by}
-use Rattle.tte_traces.proofs.NoRun.{none_safely}
-use Rattle.tte_traces.proofs.Safely.{run_safely}
-use Rattle.tte_traces.proofs.Existing.{run_answers_exist}
-use Rattle.tte_traces.proofs.Sources.{trace_answered, trace_unaccepted}
-use Rattle.tte_traces.specs.Answer.{IsRunAnswer}
+use Rattle.tte_traces.proofs.Words.{IsRunAnswer, shown_by}
+use Rattle.tte_traces.proofs.{Existing.run_answers_exist, NoRun.none_safely, Safely.run_safely, Sources.{trace_answered, trace_unaccepted}}
 use Rattle.tte_traces.proofs.running.run_trace.Goals as goal
 
 pub returns-in-Ok-clause-general : goal.returns-in-Ok-clause-general
 returns-in-Ok-clause-general g c =
     let shown = shown_by g.K.Sink in
-    trace_answered IsRunAnswer (g.A.Source.left c.args.first.now) (g.B.Source.left c.args.second.now) c.in-Ok.accepted c.run_network.result (shown c.args.out.now)
+    trace_answered IsRunAnswer (g.A.Source.left c.args.first.now) (g.B.Source.left c.args.second.now) c.in-Ok.accepted c.run_network.result
+    (shown c.args.out.now)
     (shown c.run_network.new.out)
     (λ trace. run_answers_exist c.in-Ok.accepted trace c.in-Ok.ensures.range) c.in-Ok.ensures.accepted c.run_network.ensures.ends.general
 

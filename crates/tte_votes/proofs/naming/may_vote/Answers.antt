@@ -1,4 +1,4 @@
-use Rattle.std.proofs.Common.{sym}
+use Rattle.tte_votes.proofs.Words.{sym}
 use Rattle.tte_votes.proofs.Ends.{vl_read}
 use Rattle.tte_votes.proofs.naming.may_vote.Goals as goal
 

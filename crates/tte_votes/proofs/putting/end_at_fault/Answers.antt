@@ -1,13 +1,7 @@
-use Rattle.std.proofs.Common.{ℕ, [], refl, inl, inr, subst}
-use Rattle.tte_forms.proofs.frames.Frames.{Gives-behind}
-use Rattle.tte_forms.specs.Faults.{IsWanted}
-use Rattle.tte_forms.specs.Putting.{shown_by}
+use Rattle.tte_votes.proofs.Words.{[], fault_lines, fault_status, inl, inr, refl, shown_by, subst, vote_lines, ℕ}
+use Rattle.tte_forms.{proofs.frames.Frames.Gives-behind, specs.Faults.IsWanted}
 use Rattle.tte_io.specs.Faults.{Rose}
-use Rattle.tte_forms.proofs.OneAnswers.{fails_given}
-use Rattle.tte_traces.specs.FaultLine.{fault_lines, fault_status}
-use Rattle.tte_traces.specs.Refusing.{fault_answer}
-use Rattle.tte_traces.proofs.Given.{PutFails-more}
-use Rattle.tte_votes.specs.VoteLines.{vote_lines}
+use Rattle.tte_traces.{proofs.Given.PutFails-more, specs.Refusing.fault_answer}
 use Rattle.tte_votes.proofs.putting.end_at_fault.Goals as goal
 
 pub returns-in-Ok-clause-gives : goal.returns-in-Ok-clause-gives

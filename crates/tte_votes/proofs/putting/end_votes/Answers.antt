@@ -1,10 +1,6 @@
-use Rattle.std.proofs.Common.{ℕ, [], refl, inl, inr, subst}
-use Rattle.tte_forms.proofs.Puts.{Ends-gives}
-use Rattle.tte_forms.specs.Faults.{IsWanted}
-use Rattle.tte_forms.specs.Putting.{shown_by}
-use Rattle.tte_forms.specs.declared.status.Status.TheVariants.{Done}
+use Rattle.tte_votes.proofs.Words.{Done, [], inl, inr, refl, shown_by, subst, vote_lines, ℕ}
+use Rattle.tte_forms.{proofs.Puts.Ends-gives, specs.Faults.IsWanted}
 use Rattle.tte_io.specs.Faults.{Rose}
-use Rattle.tte_votes.specs.VoteLines.{vote_lines}
 use Rattle.tte_votes.proofs.putting.end_votes.Goals as goal
 
 pub returns-in-Ok-clause-gives : goal.returns-in-Ok-clause-gives

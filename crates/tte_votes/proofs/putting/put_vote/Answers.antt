@@ -1,6 +1,5 @@
-use Rattle.std.proofs.Common.{ℕ, List, length, ap, sym, arith, ◌∙◌}
+use Rattle.tte_votes.proofs.Words.{◌∙◌, ap, arith, length, lines_at, sym}
 use Rattle.tte_votes.proofs.Loops.{line_of, line_text, put_one}
-use Rattle.tte_votes.specs.VoteLines.{lines_at}
 use Rattle.tte_votes.proofs.putting.put_vote.Goals as goal
 
 pub returns-clause-lines : goal.returns-clause-lines

@@ -1,10 +1,8 @@
-use Rattle.std.proofs.Common.{◌≡◌, ℕ, ◌≤◌, ◌^◌, List}
-use Rattle.kept_votes.specs.Keeping.{HoldsFrom, HoldsVotes, kept_count}
+use Rattle.tte_votes.proofs.Words.{◌^◌, ◌≡◌, ◌≤◌, HoldsVotes, List, PutsLines, happenings, shown_by, ℕ}
 use Rattle.run_law.specs.declared.note.Note.{Note as NoteValue}
-use Rattle.run_law.specs.records.Happenings.{happenings}
-use Rattle.tte_forms.specs.Putting.{PutsLines, shown_by}
-use Rattle.tte_votes.proofs.Places.{lines_to}
+use Rattle.vote_ballots.specs.Keeping.{HoldsFrom, kept_count}
 use Rattle.vote_law.specs.declared.voters.Voters.{Voters as VotersValue}
+use Rattle.tte_votes.proofs.Places.{lines_to}
 use Rattle.tte_votes.proofs.putting.put_votes.Given as goal
 
 abbrev pub invariant-ballots : goal.invariant-ballots

@@ -1,20 +1,10 @@
-use Rattle.std.proofs.Common.{ℕ, List, [], ◌+◌, ◌++◌, sym, subst, arith}
-use Rattle.net_plan.specs.declared.network.Network.{Network}
-use Rattle.tte_forms.specs.Answering.{Gives}
+use Rattle.tte_votes.proofs.Words.{◌++◌, ◌+◌, Gives, Network, ReadFault, VotesEnd, WriteFault, [], arith, fault_lines, fault_status, no_lines, shown_by, subst}
+use Rattle.tte_votes.proofs.Words.{sym, vote_lines}
 use Rattle.tte_forms.specs.Faults.{PutFailed}
-use Rattle.tte_forms.specs.Putting.{shown_by}
-use Rattle.tte_forms.specs.declared.status.Status.TheVariants.{ReadFault, WriteFault}
-use Rattle.tte_traces.proofs.Ends.{IsStatusOf, ends_memory, ends_read, ends_unpassed, ends_write, memory_cause}
-use Rattle.tte_traces.proofs.Taken.{gave_none}
-use Rattle.tte_traces.specs.FaultLine.{fault_lines, fault_status}
-use Rattle.tte_traces.specs.Taking.{GaveEvents}
+use Rattle.tte_traces.{proofs.{Ends.{IsStatusOf, ends_memory, ends_read, ends_unpassed, ends_write, memory_cause}, Taken.gave_none}, specs.Taking.GaveEvents}
 use Rattle.tte_traces.specs.declared.fault.TraceFault.{TraceFault}
-use Rattle.tte_votes.proofs.Along.{IsOwn, vote_sees, vote_stops, votes_along}
-use Rattle.tte_votes.proofs.Ended.{ends_all, ends_fault}
-use Rattle.tte_votes.specs.Ending.{VotesEnd}
-use Rattle.tte_votes.specs.Streaming.{no_lines}
-use Rattle.tte_votes.specs.VoteLines.{vote_lines}
 use Rattle.world_drive.specs.Observing.{FailsBy}
+use Rattle.tte_votes.proofs.{Along.{IsOwn, vote_sees, vote_stops, votes_along}, Ended.{ends_all, ends_fault}}
 use Rattle.tte_votes.proofs.voting.follow_votes.Goals as goal
 
 pub drive-requires-clause-source : goal.drive-requires-clause-source

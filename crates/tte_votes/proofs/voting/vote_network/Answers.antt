@@ -1,9 +1,6 @@
-use Rattle.std.proofs.Common.{Bool, true, false, refl, inl, inr, subst}
-use Rattle.net_plan.specs.declared.network.Network.{Network}
+use Rattle.tte_votes.proofs.Words.{AreNamed, Bool, MayThey, NameRefused, Network, VoteRefused, false, inl, inr, refl, subst, true}
 use Rattle.tte_forms.specs.Answering.{line_answer}
-use Rattle.tte_forms.specs.declared.status.Status.TheVariants.{NameRefused, VoteRefused}
-use Rattle.tte_votes.proofs.Ends.{named_there, not_read, of_run, vote_status}
-use Rattle.tte_votes.specs.Answer.{AreNamed, IsFirstUnknown, MayThey, name_line, the_names, vote_refused}
+use Rattle.tte_votes.{proofs.Ends.{named_there, not_read, of_run, vote_status}, specs.Answer.{IsFirstUnknown, name_line, the_names, vote_refused}}
 use Rattle.tte_votes.proofs.voting.vote_network.Goals as goal
 
 pub returns-in-Err-clause-ends : goal.returns-in-Err-clause-ends

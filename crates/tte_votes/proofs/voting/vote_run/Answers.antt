@@ -1,9 +1,5 @@
-use Rattle.std.proofs.Common.{[], refl, sym, subst}
-use Rattle.kept_votes.specs.Keeping.{HoldsVotes}
-use Rattle.tte_forms.specs.Putting.{shown_by}
+use Rattle.tte_votes.proofs.Words.{HoldsVotes, Voters, VotesEnd, [], refl, shown_by, subst, sym}
 use Rattle.tte_votes.proofs.Along.{votes_no_memory}
-use Rattle.tte_votes.specs.Ending.{VotesEnd}
-use Rattle.vote_law.specs.declared.voters.Voters.{Voters}
 use Rattle.tte_votes.proofs.voting.vote_run.Goals as goal
 
 pub vote_world-requires : goal.vote_world-requires

@@ -1,9 +1,6 @@
-use Rattle.std.proofs.Common.{inr}
-use Rattle.tte_forms.specs.Putting.{shown_by}
+use Rattle.tte_votes.proofs.Words.{IsVoteAnswer, inr, shown_by}
 use Rattle.tte_traces.proofs.Sources.{trace_unaccepted}
-use Rattle.tte_votes.proofs.Ends.{general_of, little_of, stops_of, vote_accepted}
-use Rattle.tte_votes.proofs.Safely.{none_safely, voted_safely}
-use Rattle.tte_votes.specs.Answer.{IsVoteAnswer, the_names}
+use Rattle.tte_votes.{proofs.{Ends.{general_of, little_of, stops_of, vote_accepted}, Safely.{none_safely, voted_safely}}, specs.Answer.the_names}
 use Rattle.tte_votes.proofs.voting.vote_trace.Goals as goal
 
 pub returns-in-Ok-clause-general : goal.returns-in-Ok-clause-general

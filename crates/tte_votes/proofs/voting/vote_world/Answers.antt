@@ -1,4 +1,4 @@
-use Rattle.tte_forms.specs.Putting.{shown_by}
+use Rattle.tte_votes.proofs.Words.{shown_by}
 use Rattle.tte_votes.proofs.Along.{votes_no_memory}
 use Rattle.tte_votes.proofs.voting.vote_world.Goals as goal
 

@@ -1,5 +1,5 @@
+use Rattle.tte_wires.proofs.Words.{packet_at}
 use Rattle.tte_wires.proofs.Puts.{one_failed, one_put}
-use Rattle.tte_wires.specs.Packets.{packet_at}
 use Rattle.tte_wires.proofs.frames.put_frame.Goals as goal
 
 -- if the casts of the seconds and of the rest do not compute: they are the numbers themselves, since the time is at most

@@ -1,8 +1,6 @@
-use Rattle.std.proofs.Common.{◌+◌, ℕ, List, ◌++◌, ◌∷◌, [], Ok, Err, drop, map, subst, sym, take, ◌∙◌}
-use Rattle.std.proofs.lemmas.List.{get_or_default}
+use Rattle.tte_wires.proofs.Words.{◌++◌, ◌+◌, ◌∙◌, ◌∷◌, Err, List, Ok, PutsAll, [], map, packet_at, subst, sym, take, ℕ}
+use Rattle.std.proofs.{Common.drop, lemmas.List.get_or_default}
 use Rattle.tte_wires.proofs.Puts.{failed_more, frames_all, frames_more, then_all}
-use Rattle.tte_wires.specs.Packets.{packet_at}
-use Rattle.tte_wires.specs.Seeing.{PutsAll}
 use Rattle.tte_wires.proofs.frames.put_frames.Goals as goal
 
 pub frames-preserved : goal.frames-preserved

@@ -1,6 +1,4 @@
-use Rattle.std.proofs.Common.{Ok, map, take}
-use Rattle.tte_wires.specs.Packets.{packet_at}
-use Rattle.tte_wires.specs.Seeing.{PutsAll}
+use Rattle.tte_wires.proofs.Words.{Ok, PutsAll, map, packet_at, take}
 use Rattle.tte_wires.proofs.frames.put_frames.Given as goal
 
 abbrev pub invariant-frames : goal.invariant-frames

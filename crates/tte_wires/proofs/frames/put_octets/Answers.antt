@@ -1,6 +1,5 @@
-use Rattle.std.proofs.Common.{ap, sym}
+use Rattle.tte_wires.proofs.Words.{ap, packet_at, sym}
 use Rattle.tte_wires.proofs.Spelt.{spelt_frame, spelt_octets}
-use Rattle.tte_wires.specs.Packets.{packet_at}
 use Rattle.tte_wires.proofs.frames.put_octets.Goals as goal
 
 pub returns-in-Ok : goal.returns-in-Ok

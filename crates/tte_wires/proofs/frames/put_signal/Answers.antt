@@ -1,8 +1,5 @@
-use Rattle.std.proofs.Common.{ap, subst, sym}
-use Rattle.tte_wires.specs.Packets.{packet_at}
-use Rattle.tte_wires.specs.Seeing.{IsSpelt}
-use Rattle.world_state.specs.Views.{signal_as}
-use Rattle.world_state.specs.declared.contents.Signal.{Signal}
+use Rattle.tte_wires.proofs.Words.{IsSpelt, ap, packet_at, subst, sym}
+use Rattle.world_state.specs.{Views.signal_as, declared.contents.Signal.Signal}
 use Rattle.tte_wires.proofs.frames.put_signal.Goals as goal
 
 pub returns-in-Control : goal.returns-in-Control

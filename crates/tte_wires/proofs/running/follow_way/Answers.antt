@@ -1,18 +1,9 @@
-use Rattle.std.proofs.Common.{[], sym, ap, subst, ◌∙◌}
-use Rattle.net_plan.specs.declared.network.Network.{Network}
-use Rattle.tte_forms.specs.Putting.{shown_by}
-use Rattle.tte_forms.specs.declared.status.Status.TheVariants.{ReadFault, WriteFault}
-use Rattle.tte_traces.proofs.Ends.{ends_memory, ends_read, ends_unpassed, ends_write, memory_cause}
-use Rattle.tte_traces.proofs.Taken.{gave_none}
-use Rattle.tte_traces.specs.Ending.{RunEnds}
-use Rattle.tte_traces.specs.FaultLine.{fault_status}
-use Rattle.tte_traces.specs.Taking.{GaveEvents}
+use Rattle.tte_wires.proofs.Words.{◌∙◌, IsCapture, Network, ReadFault, RunEnds, [], ap, fault_status, settled_lines, shown_by, subst, sym}
+use Rattle.tte_forms.specs.declared.status.Status.TheVariants.{WriteFault}
+use Rattle.tte_traces.{proofs.{Ends.{ends_memory, ends_read, ends_unpassed, ends_write, memory_cause}, Taken.gave_none}, specs.Taking.GaveEvents}
 use Rattle.tte_traces.specs.declared.fault.TraceFault.{TraceFault}
-use Rattle.tte_wires.proofs.Along.{IsOwn, lines, way_along, way_sees, way_stops}
-use Rattle.tte_wires.proofs.Ended.{ends_all, ends_fault}
-use Rattle.tte_wires.specs.Answer.{IsCapture}
-use Rattle.tte_wires.specs.Streaming.{settled_lines}
 use Rattle.world_drive.specs.Observing.{FailsBy}
+use Rattle.tte_wires.proofs.{Along.{IsOwn, lines, way_along, way_sees, way_stops}, Ended.{ends_all, ends_fault}}
 use Rattle.tte_wires.proofs.running.follow_way.Goals as goal
 
 pub drive-requires-clause-source : goal.drive-requires-clause-source
@@ -55,7 +46,8 @@ returns-in-Stopped-ReadFault-clause-ends g c =
     let begun = c.args.capture.now in
     subst (λ (m : Network). RunEnds (λ trace. IsCapture begun.link begun.way trace m) (settled_lines begun.link begun.way) m (left c.args.second.now)
     (left c.drive.new.from) ReadFault (shown c.args.out.now) (shown c.drive.new.out)) c.network-network.ensures.value
-    (ends_read g.B.Source g.K.Sink begun way_sees way_stops (lines begun) (IsOwn begun) (way_along begun) n c.args.second.now c.new-trace.result c.drive.new.from
+    (ends_read g.B.Source g.K.Sink begun way_sees way_stops (lines begun) (IsOwn begun) (way_along begun) n c.args.second.now c.new-trace.result
+    c.drive.new.from
     c.drive.new.source c.args.out.now c.drive.new.out c.drive.new.observer c.in-Stopped-ReadFault.field-0 c.in-Stopped-ReadFault.ensures
     c.in-Stopped-ReadFault.field-0-is)
 

@@ -1,10 +1,6 @@
-use Rattle.std.proofs.Common.{inr}
-use Rattle.tte_forms.proofs.Octets.{for_all, for_more}
-use Rattle.tte_forms.specs.Answering.{GivesOne}
-use Rattle.tte_forms.specs.Putting.{shown_by}
+use Rattle.tte_wires.proofs.Words.{GivesOne, IsCapture, IsHeaded, for_all, for_more, inr, shown_by}
 use Rattle.tte_forms.specs.declared.status.Status.TheVariants.{WriteFault}
 use Rattle.tte_wires.proofs.Headed.{head_failed, head_put, headed_failed, headed_given, little_headed, stops_headed}
-use Rattle.tte_wires.specs.Answer.{IsCapture, IsHeaded}
 use Rattle.tte_wires.proofs.running.wire_link.Goals as goal
 
 pub returns-in-Ok-clause-general : goal.returns-in-Ok-clause-general

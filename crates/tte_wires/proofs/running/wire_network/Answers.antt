@@ -1,11 +1,7 @@
-use Rattle.std.proofs.Common.{[], inl, inr, subst}
+use Rattle.tte_wires.proofs.Words.{IsNamed, Network, PutsLines-none, [], inl, inr, shown_by, subst}
 use Rattle.net_plan.specs.Bearers.{HasNoBearer, link_names}
-use Rattle.net_plan.specs.declared.network.Network.{Network}
-use Rattle.tte_forms.proofs.Puts.{Ends-gives, PutsLines-none}
-use Rattle.tte_forms.specs.Putting.{shown_by}
-use Rattle.tte_forms.specs.declared.status.Status.TheVariants.{NameRefused}
+use Rattle.tte_forms.{proofs.Puts.Ends-gives, specs.declared.status.Status.TheVariants.NameRefused}
 use Rattle.tte_wires.proofs.Networks.{named_given, nameless_given}
-use Rattle.tte_wires.specs.Answer.{IsNamed}
 use Rattle.tte_wires.proofs.running.wire_network.Goals as goal
 
 pub returns-in-Some-clause-general : goal.returns-in-Some-clause-general

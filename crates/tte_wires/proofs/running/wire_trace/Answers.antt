@@ -1,7 +1,5 @@
-use Rattle.std.proofs.Common.{inl, inr}
-use Rattle.tte_forms.specs.Putting.{shown_by}
-use Rattle.tte_wires.proofs.Networks.{wire_accepted, wire_refused}
-use Rattle.tte_wires.proofs.Safely.{quiet_safely, wire_safely}
+use Rattle.tte_wires.proofs.Words.{inl, inr, shown_by}
+use Rattle.tte_wires.proofs.{Networks.{wire_accepted, wire_refused}, Safely.{quiet_safely, wire_safely}}
 use Rattle.tte_wires.proofs.running.wire_trace.Goals as goal
 
 pub returns-in-Ok-clause-general : goal.returns-in-Ok-clause-general

@@ -1,14 +1,5 @@
-use Rattle.std.proofs.Common.{subst, sym}
-use Rattle.tte_forms.specs.Putting.{shown_by}
-use Rattle.net_plan.specs.declared.tables.Way.{Way}
-use Rattle.tte_traces.specs.Ending.{RunEnds}
-use Rattle.tte_wires.proofs.Along.{way_no_memory}
-use Rattle.tte_wires.proofs.Seen.{seen_first}
-use Rattle.tte_wires.specs.Answer.{IsCapture}
-use Rattle.tte_wires.specs.Streaming.{settled_lines}
-use Rattle.world_drive.specs.Observing.{told_by}
-use Rattle.net_plan.specs.Belonging.{HasLink}
-use Rattle.net_plan.specs.declared.ids.LinkId.{LinkId}
+use Rattle.tte_wires.proofs.Words.{HasLink, IsCapture, LinkId, RunEnds, Way, settled_lines, shown_by, subst, sym, told_by}
+use Rattle.tte_wires.proofs.{Along.way_no_memory, Seen.seen_first}
 use Rattle.tte_wires.proofs.running.wire_way.Goals as goal
 
 pub follow_way-requires-clause-seen : goal.follow_way-requires-clause-seen

@@ -1,11 +1,6 @@
-use Rattle.std.proofs.Common.{◌≡◌, ◌<◌, ◌++◌, ◌∷◌, [], ℕ, List, length, to_z, of_z, sym, ap, subst, ◌∙◌, rules}
-use Rattle.std.specs.Int.{w64, w128}
-use Rattle.std.proofs.lemmas.Int.{to_z-of_z}
-use Rattle.net_plan.specs.Belonging.{device_name}
-use Rattle.net_plan.specs.declared.network.Network.{Network}
-use Rattle.sparse_time.specs.Granules.{stamp_of}
+use Rattle.tte_stamps.proofs.Words.{◌++◌, ◌∙◌, ◌∷◌, ◌≡◌, List, Network, [], ap, device_name, length, stamp_line, stamp_of, subst, sym, ℕ}
+use Rattle.std.{proofs.{Common.{◌<◌, of_z, rules, to_z}, lemmas.Int.to_z-of_z}, specs.Int.{w128, w64}}
 use Rattle.tte_stamps.proofs.OneStamp.{none_put, one_fails, one_put}
-use Rattle.tte_stamps.specs.StampLines.{stamp_line}
 use Rattle.tte_stamps.proofs.stamper.Stamper.put_stamp.Goals as goal
 
 pub local_before-requires-clause-there : goal.local_before-requires-clause-there

@@ -1,11 +1,6 @@
-use Rattle.std.proofs.Common.{◌≡◌, ℕ, length, refl, ap, subst, ◌∙◌, arith}
-use Rattle.tte_forms.proofs.Puts.{PutsLines-none}
-use Rattle.tte_stamps.proofs.OneStamp.{devices_fail, one_more_device}
-use Rattle.tte_stamps.specs.StampLines.{line_at, lines_by_first}
-use Rattle.tte_forms.specs.Putting.{PutsLines}
-use Rattle.tte_traces.specs.Report.{shown_as}
+use Rattle.tte_stamps.proofs.Words.{◌∙◌, ◌≡◌, PutsLines, PutsLines-none, ap, arith, length, line_at, lines_by_first, refl, shown_as, subst, told_by, ℕ}
 use Rattle.world_drive.proofs.More.{puts_cut, puts_more, puts_none, puts_well}
-use Rattle.world_drive.specs.Observing.{told_by}
+use Rattle.tte_stamps.proofs.OneStamp.{devices_fail, one_more_device}
 use Rattle.tte_stamps.proofs.stamper.Stamper.put_stamps.Goals as goal
 
 pub devices-init : goal.devices-init

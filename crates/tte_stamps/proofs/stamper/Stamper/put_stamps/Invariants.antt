@@ -1,12 +1,7 @@
-use Rattle.std.proofs.Common.{◌≡◌, List}
+use Rattle.tte_stamps.proofs.Words.{◌≡◌, IsAtLine, List, PutsLines, line_at, lines_by_first, shown_as, told_by}
 use Rattle.net_plan.specs.declared.event.Event.{Event as EventValue}
 use Rattle.run_law.specs.declared.note.Note.{Note as NoteValue}
-use Rattle.tte_forms.specs.Putting.{PutsLines}
-use Rattle.tte_stamps.specs.StampLines.{line_at, lines_by_first}
-use Rattle.tte_stamps.specs.Stamping.{IsAtLine}
-use Rattle.tte_traces.specs.Report.{shown_as}
 use Rattle.world_drive.proofs.More.{PutsSoFar}
-use Rattle.world_drive.specs.Observing.{told_by}
 use Rattle.tte_stamps.proofs.stamper.Stamper.put_stamps.Given as goal
 
 abbrev pub invariant-devices : goal.invariant-devices

@@ -1,9 +1,5 @@
-use Rattle.std.proofs.Common.{◌++◌, ◌∷◌, [], ℕ, sym, ap, subst, ◌∙◌}
-use Rattle.run_law.specs.declared.note.Note.{Note}
-use Rattle.tte_stamps.proofs.EventLines.{at_line, may_stamp}
-use Rattle.tte_stamps.proofs.Stamped.{seen_go, stamps_go}
-use Rattle.tte_stamps.specs.StampLines.{line_at, line_stamps}
-use Rattle.tte_stamps.specs.Stamping.{PutsAll}
+use Rattle.tte_stamps.proofs.Words.{◌++◌, ◌∙◌, ◌∷◌, Note, [], ap, line_at, line_stamps, subst, sym, ℕ}
+use Rattle.tte_stamps.{proofs.{EventLines.{at_line, may_stamp}, Stamped.{seen_go, stamps_go}}, specs.Stamping.PutsAll}
 use Rattle.tte_stamps.proofs.stamper.StamperObserver.event.Goals as goal
 
 pub put_stamps-requires-clause-may : goal.put_stamps-requires-clause-may

@@ -1,11 +1,8 @@
-use Rattle.std.proofs.Common.{◌≡◌, to_z, of_z, sym, subst, inl, inr, refl, rules}
-use Rattle.std.specs.Int.{w128}
-use Rattle.std.proofs.lemmas.Int.{to_z-of_z}
+use Rattle.std.{proofs.{Common.{◌≡◌, inl, inr, of_z, refl, rules, subst, sym, to_z}, lemmas.Int.to_z-of_z}, specs.Int.w128}
 use Rattle.net_plan.specs.declared.network.Network.{Network}
-use Rattle.tte_storms.proofs.Locals.{less_kept, most_kept, same_kept}
-use Rattle.tte_storms.proofs.Seen.{seen_settled}
 use Rattle.tte_units.specs.Amount.{amount}
 use Rattle.world_drive.specs.Observing.{IsCompleteExact, told_by}
+use Rattle.tte_storms.proofs.{Locals.{less_kept, most_kept, same_kept}, Seen.seen_settled}
 use Rattle.tte_storms.proofs.counting.SeenObserver.instant.Goals as goal
 
 pub spread_at-spread-requires-clause-same : goal.spread_at-spread-requires-clause-same

@@ -20,7 +20,8 @@ returns c network seed cycles events given =
     judged_well c.admit-admitted.result _ _ _ (λ t well. well.1) (λ e outside. inside _ outside.violates)
     (c.admit-admitted.ensures.judged network events given.watches d.of_network) in (
       may_give network seed cycles events it given event d,
-      fewer_left network seed cycles events it given event d (record { accepted = it.accepted; storm = c.next_event.new.self; watch = c.admit-admitted.new.self })
+      fewer_left network seed cycles events it given event d
+          (record { accepted = it.accepted; storm = c.next_event.new.self; watch = c.admit-admitted.new.self })
           c.in-Some.ensures.given,
       gives_one network seed cycles events it given event d
           (record { accepted = it.accepted; storm = c.next_event.new.self; watch = c.admit-admitted.new.self }) refl watches c.in-Some.ensures.given,

@@ -1,7 +1,5 @@
-use Rattle.std.proofs.Common.{subst}
-use Rattle.tte_io.specs.declared.lines.LineTaken.{LineTaken}
-use Rattle.tte_traces.specs.Following.{IsFound}
-use Rattle.tte_traces.proofs.Following.{long_some}
+use Rattle.tte_traces.proofs.Words.{LineTaken, subst}
+use Rattle.tte_traces.{proofs.Following.long_some, specs.Following.IsFound}
 use Rattle.tte_traces.proofs.lines.Trace.judge.Goals as goal
 
 pub returns-in-Whole-clause-judged : goal.returns-in-Whole-clause-judged

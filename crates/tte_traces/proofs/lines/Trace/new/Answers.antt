@@ -1,7 +1,5 @@
-use Rattle.std.proofs.Common.{◌≡◌, ◌++◌, false, sym, ap}
-use Rattle.tte_io.specs.ReaderState.{LineReaderState, pending}
-use Rattle.tte_traces.proofs.Admitted.{admitted_none}
-use Rattle.tte_traces.proofs.Following.{none_followed}
+use Rattle.tte_traces.proofs.Words.{◌++◌, ◌≡◌, LineReaderState, ap, false, pending, sym}
+use Rattle.tte_traces.proofs.{Admitted.admitted_none, Following.none_followed}
 use Rattle.tte_traces.proofs.lines.Trace.new.Goals as goal
 
 pub returns-clause-follows : goal.returns-clause-follows

@@ -1,9 +1,5 @@
-use Rattle.std.proofs.Common.{Ok, Err, [], length, refl, subst}
-use Rattle.std.specs.Prelude.{IfOk, IfSome}
-use Rattle.net_plan.specs.declared.network.Network.{Network}
-use Rattle.net_plan.specs.declared.event.Event.{Event}
-use Rattle.net_plan.specs.Belonging.{IsOfNetwork}
-use Rattle.tte_io.specs.ReaderState.{pending}
+use Rattle.tte_traces.proofs.Words.{Err, Event, IfSome, IsOfNetwork, Network, Ok, [], length, pending, refl, subst}
+use Rattle.std.specs.Prelude.{IfOk}
 use Rattle.tte_traces.proofs.Following.{followed_with, goes_so, reads_any, reads_same, reads_so, some_found, stays_any, takes_few}
 use Rattle.tte_traces.proofs.lines.Trace.next_event.Goals as goal
 
@@ -11,7 +7,8 @@ pub returns-in-Ok-clause-follows : goal.returns-in-Ok-clause-follows
 returns-in-Ok-clause-follows g c network events f =
     let before = pending c.args.self.now.reader in
     let reader = c.next_line.new.reader in
-    let found = some_found before c.args.self.now.reader.ended (g.B.Source.left c.args.source.now) reader (g.B.Source.left c.next_line.new.source) c.in-Ok.found c.in-Ok.ensures.next in
+    let found = some_found before c.args.self.now.reader.ended (g.B.Source.left c.args.source.now) reader (g.B.Source.left c.next_line.new.source) c.in-Ok.found
+    c.in-Ok.ensures.next in
     let judged = c.judge.ensures.judged network events found.0 (followed_with network events c.args.self.now reader f) found.1 in
     let of_network = subst (λ (n : Network). IfOk c.judge.result (λ event. IfSome event (λ (e : Event). IsOfNetwork n e.what))) f.over
     c.judge.ensures.of_network in
@@ -25,7 +22,8 @@ returns-in-Ok-clause-takes g c = record {
       (λ rest found. c.judge.ensures.judged network events rest (followed_with network events c.args.self.now c.next_line.new.reader r.follows) found)
       c.judge.ensures.reader c.judge.ensures.refused;
   few =
-      λ network octets events left told r. takes_few octets (length events) (pending c.args.self.now.reader) c.args.self.now.reader.ended left c.next_line.new.reader _ _
+      λ network octets events left told r. takes_few octets (length events) (pending c.args.self.now.reader) c.args.self.now.reader.ended left
+      c.next_line.new.reader _ _
       (Ok c.in-Ok.found) told r.none_left r.coming c.in-Ok.ensures.next c.in-Ok.ensures.told c.in-Ok.ensures.kept_bound c.in-Ok.ensures.ahead_bound;
   any = λ network came events any.
       let follows = (any [] (λ _. refl)).follows in
@@ -40,7 +38,8 @@ returns-in-Err-clause-takes g c = record {
       reads_same network octets events left c.args.self.now c.next_line.new.reader _ _ c.in-Err.stop told r c.in-Err.ensures.stop c.in-Err.ensures.next
       c.in-Err.ensures.told;
   few =
-      λ network octets events left told r. takes_few octets (length events) (pending c.args.self.now.reader) c.args.self.now.reader.ended left c.next_line.new.reader _ _
+      λ network octets events left told r. takes_few octets (length events) (pending c.args.self.now.reader) c.args.self.now.reader.ended left
+      c.next_line.new.reader _ _
       (Err c.in-Err.stop) told r.none_left r.coming c.in-Err.ensures.next c.in-Err.ensures.told c.in-Err.ensures.kept_bound c.in-Err.ensures.ahead_bound;
   any = λ network came events any.
       stays_any network came events c.args.self.now c.next_line.new.reader _ _ any c.in-Err.stop c.in-Err.ensures.stop c.in-Err.ensures.next;

@@ -1,13 +1,8 @@
-use Rattle.std.proofs.Common.{◌≡◌, ◌↔◌, true, Ok, Err, subst, sym, refl, ◌∙◌}
-use Rattle.fault_hypothesis.specs.Watching.{Watches}
-use Rattle.fault_hypothesis.specs.declared.watch.Watch.{Watch}
-use Rattle.net_plan.specs.declared.network.Network.{Network}
-use Rattle.net_plan.specs.declared.event.What.TheVariants.{End}
-use Rattle.net_plan.specs.Belonging.{IsOfNetwork}
-use Rattle.tte_traces.specs.Lines.{HasEvent}
-use Rattle.tte_traces.proofs.Following.{event_as, more_followed}
+use Rattle.tte_traces.proofs.Words.{◌∙◌, ◌≡◌, End, Err, IsOfNetwork, Network, Ok, refl, subst, sym, true}
+use Rattle.std.proofs.Common.{◌↔◌}
+use Rattle.fault_hypothesis.specs.{Watching.Watches, declared.watch.Watch.Watch}
+use Rattle.tte_traces.{proofs.{Following.{event_as, more_followed}, lines.Trace.take_line.Goals.{in-End, in_default}}, specs.Lines.HasEvent}
 use Rattle.tte_traces.proofs.lines.Trace.take_line.Goals as goal
-use Rattle.tte_traces.proofs.lines.Trace.take_line.Goals.{in-End, in_default}
 
 pub returns-in-Some-clause-judged : goal.returns-in-Some-clause-judged
 returns-in-Some-clause-judged c network events rest f found = (c.in-Some.ensures.fault network events rest f found.0, f)

@@ -1,6 +1,4 @@
-use Rattle.std.proofs.Common.{◌++◌, ◌∷◌, [], subst, sym}
-use Rattle.report_text.specs.Ranges.{IsNoteOf}
-use Rattle.run_law.specs.declared.note.Note.{Note}
+use Rattle.tte_traces.proofs.Words.{◌++◌, ◌∷◌, IsNoteOf, Note, [], subst, sym}
 use Rattle.tte_traces.proofs.Reported.{PutsNote, further, own_note, report_goes}
 use Rattle.tte_traces.proofs.report.ReportObserver.event.Goals as goal
 

@@ -1,6 +1,4 @@
-use Rattle.std.proofs.Common.{Ok, Err, subst, sym}
-use Rattle.report_text.specs.Ranges.{IsNoteOf}
-use Rattle.run_law.specs.declared.note.Note.{Note}
+use Rattle.tte_traces.proofs.Words.{Err, IsNoteOf, Note, Ok, subst, sym}
 use Rattle.tte_traces.proofs.Reported.{PutsNote, further_err, further_ok, own_note, report_fails, report_more}
 use Rattle.tte_traces.proofs.report.ReportObserver.record.Goals as goal
 
@@ -32,7 +30,8 @@ returns-in-Ok-clause-puts g c =
 
 pub returns-in-Err-clause-goes : goal.returns-in-Err-clause-goes
 returns-in-Err-clause-goes g c events notes instant old given seen =
-    let n = subst (λ (m : Note). PutsNote {T = Unit {0}} g.K.Sink c.args.network.now m (Err c.in-Err.cut) c.args.out.now c.put_note.new.out) c.note.ensures (record {
+    let n = subst (λ (m : Note). PutsNote {T = Unit {0}} g.K.Sink c.args.network.now m (Err c.in-Err.cut) c.args.out.now c.put_note.new.out) c.note.ensures
+    (record {
       all = c.in-Err.ensures.all;
       front = c.in-Err.ensures.front;
       counted = c.in-Err.ensures.counted;

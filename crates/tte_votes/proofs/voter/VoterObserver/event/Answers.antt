@@ -1,6 +1,4 @@
-use Rattle.std.proofs.Common.{ℕ, ◌+◌, ◌∷◌, ◌++◌, [], length, ◌≡◌, sym, ap, subst}
-use Rattle.kept_votes.specs.Keeping.{HoldsVotes}
-use Rattle.run_law.specs.declared.note.Note.{Note}
+use Rattle.tte_votes.proofs.Words.{◌++◌, ◌+◌, ◌∷◌, ◌≡◌, HoldsVotes, Note, [], ap, length, subst, sym}
 use Rattle.tte_votes.proofs.voter.VoterObserver.event.Goals as goal
 
 pub returns-in-Ok-clause-goes : goal.returns-in-Ok-clause-goes

@@ -1,6 +1,4 @@
-use Rattle.std.proofs.Common.{◌+◌, ◌∷◌, ◌++◌, [], length, ◌≡◌, sym, subst}
-use Rattle.kept_votes.specs.Keeping.{HoldsVotes}
-use Rattle.run_law.specs.declared.note.Note.{Note}
+use Rattle.tte_votes.proofs.Words.{◌++◌, ◌+◌, ◌∷◌, ◌≡◌, HoldsVotes, Note, [], length, subst, sym}
 use Rattle.tte_votes.proofs.Loops.{number_given}
 use Rattle.tte_votes.proofs.voter.VoterObserver.record.Goals as goal
 

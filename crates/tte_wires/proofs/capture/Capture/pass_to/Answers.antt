@@ -1,5 +1,4 @@
-use Rattle.std.proofs.Common.{inl, inr, refl, ap}
-use Rattle.tte_wires.specs.declared.capture.Capture.{Capture}
+use Rattle.tte_wires.proofs.Words.{Capture, ap, inl, inr, refl}
 use Rattle.tte_wires.proofs.capture.Capture.pass_to.Goals as goal
 
 pub returns-then-time-self : goal.returns-then-time-self
@@ -9,4 +8,8 @@ pub returns-in-Err : goal.returns-in-Err
 returns-in-Err g c = inr (λ same. c.if-time-self.false same, c.in-Err.ensures.puts, tt {0})
 
 pub returns : goal.returns
-returns g c = inr (λ same. c.if-time-self.false same, c.in-Ok.ensures.puts, (ap (λ (s : Capture). record s { time = c.args.time }) c.in-Ok.ensures.same, c.in-Ok.ensures.none))
+returns g c = inr (
+  λ same. c.if-time-self.false same,
+  c.in-Ok.ensures.puts,
+  (ap (λ (s : Capture). record s { time = c.args.time }) c.in-Ok.ensures.same, c.in-Ok.ensures.none),
+)

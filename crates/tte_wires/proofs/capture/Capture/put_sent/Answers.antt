@@ -1,14 +1,9 @@
-use Rattle.std.proofs.Common.{◌≡◌, ℕ, List, [], ◌∷◌, ◌++◌, ◌∙◌, refl, sym, ap, subst}
-use Rattle.run_law.specs.control.Wires.{Signal}
-use Rattle.run_law.specs.declared.note.Note.{Note}
-use Rattle.run_law.specs.records.Happenings.{happenings}
+use Rattle.tte_wires.proofs.Words.{◌++◌, ◌∙◌, ◌∷◌, ◌≡◌, IsSpelt, List, Note, [], amount, ap, happenings, last_happening, packet_at, refl, scenario_under, subst}
+use Rattle.tte_wires.proofs.Words.{sym, ℕ}
 use Rattle.drift_world.specs.Wires.{IsOfNow}
-use Rattle.tte_units.specs.Amount.{amount}
-use Rattle.tte_wires.proofs.Puts.{puts_none}
-use Rattle.tte_wires.proofs.Sent.{of_now, on_own_link, packet_is, sent_rank}
-use Rattle.tte_wires.specs.Packets.{packet_at, scenario_under}
-use Rattle.tte_wires.specs.Seeing.{IsSpelt, last_happening}
+use Rattle.run_law.specs.control.Wires.{Signal}
 use Rattle.world_state.specs.Views.{signal_as}
+use Rattle.tte_wires.proofs.{Puts.puts_none, Sent.{of_now, on_own_link, packet_is, sent_rank}}
 use Rattle.tte_wires.proofs.capture.Capture.put_sent.Goals as goal
 
 pub returns-in-Some-clause-puts : goal.returns-in-Some-clause-puts

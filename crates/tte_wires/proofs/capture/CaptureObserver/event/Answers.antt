@@ -1,10 +1,7 @@
-use Rattle.std.proofs.Common.{ℕ, Ok, Err, ◌++◌, ◌∷◌, [], refl, sym, subst}
-use Rattle.run_law.specs.declared.note.Note.{Note}
+use Rattle.tte_wires.proofs.Words.{◌++◌, ◌∷◌, Err, Note, Ok, PassesTo, SeesWay, StopsWay, [], refl, subst, sym, told_by, ℕ}
 use Rattle.std.specs.Prelude.{MatchResult}
-use Rattle.tte_wires.proofs.Befallen.{event_fails, event_goes}
-use Rattle.tte_wires.proofs.Passing.{passes_failed, passes_then}
-use Rattle.tte_wires.specs.Seeing.{PassesTo, SeesWay, StopsWay}
-use Rattle.world_drive.specs.Observing.{Befell, told_by}
+use Rattle.world_drive.specs.Observing.{Befell}
+use Rattle.tte_wires.proofs.{Befallen.{event_fails, event_goes}, Passing.{passes_failed, passes_then}}
 use Rattle.tte_wires.proofs.capture.CaptureObserver.event.Goals as goal
 
 pub amount-requires : goal.amount-requires
@@ -41,7 +38,8 @@ returns-clause-goes g c events notes old befell seen =
 
 -- some was put, or nothing
 pub returns-in-Err-clause-puts : goal.returns-in-Err-clause-puts
-returns-in-Err-clause-puts g c = passes_failed g.K.Sink c.amount.result c.args.self.now c.in-Err.cut c.pass_to.new.self c.args.out.now c.pass_to.new.out c.in-Err.ensures
+returns-in-Err-clause-puts g c = passes_failed g.K.Sink c.amount.result c.args.self.now c.in-Err.cut c.pass_to.new.self c.args.out.now c.pass_to.new.out
+    c.in-Err.ensures
 
 pub returns-clause-puts : goal.returns-clause-puts
 returns-clause-puts g c =

@@ -1,16 +1,6 @@
-use Rattle.std.proofs.Common.{◌<◌, [], ◌∷◌, ◌++◌, ◌∙◌, sym, ap, subst}
-use Rattle.run_law.specs.declared.note.NoteBody.{NoteBody}
-use Rattle.run_law.specs.records.Ranks.{rank}
-use Rattle.tte_forms.proofs.Puts.{PutsLines-none}
-use Rattle.tte_wires.proofs.Given.{not_carried, record_fails_first, record_fails_own, record_goes}
-use Rattle.tte_wires.proofs.Puts.{all_further, failed_further, then_all}
-use Rattle.tte_wires.proofs.Sent.{timely}
-use Rattle.net_plan.specs.Belonging.{HasLink}
-use Rattle.tte_wires.specs.Packets.{is_sent_on, packets_of, scenario_under}
-use Rattle.tte_wires.specs.Seeing.{StopsWay, last_happening}
-use Rattle.tte_wires.specs.declared.capture.Capture.{Capture}
-use Rattle.world_drive.specs.Observing.{told_by}
-use Rattle.world_drive.specs.declared.observing.Cut.{Cut}
+use Rattle.tte_wires.proofs.Words.{◌++◌, ◌<◌, ◌∙◌, ◌∷◌, Capture, Cut, HasLink, NoteBody, PutsLines-none, StopsWay, [], ap, is_sent_on, last_happening}
+use Rattle.tte_wires.proofs.Words.{packets_of, rank, scenario_under, subst, sym, told_by}
+use Rattle.tte_wires.proofs.{Given.{not_carried, record_fails_first, record_fails_own, record_goes}, Puts.{all_further, failed_further, then_all}, Sent.timely}
 use Rattle.tte_wires.proofs.capture.CaptureObserver.record.Goals as goal
 
 -- the link is one of the network's, and the time that of a world
@@ -43,7 +33,8 @@ returns-then-not-sent-clause-goes g c events notes instant old given seen =
     let high = (subst (λ (b : NoteBody). 1 < rank b) c.body.ensures c.is_sent_on-sent.ensures.behind) in
     let s = scenario_under network events in
     let is = c.in-Ok.ensures.same in
-    let none = not_carried s it.link it.way (last_happening network notes note) high (ap (is_sent_on network it.link it.way) (sym c.body.ensures) ∙ sym c.is_sent_on-sent.ensures.value ∙ c.if-not-sent.true) in
+    let none = not_carried s it.link it.way (last_happening network notes note) high (ap (is_sent_on network it.link it.way) (sym c.body.ensures)
+    ∙ sym c.is_sent_on-sent.ensures.value ∙ c.if-not-sent.true) in
     record_goes network c.args.world.now events notes note old (told c.args.out.now) it given.stands high seen [] (told c.put_sends.new.out)
     (told c.put_sends.new.out) c.put_sends.new.self (sym none) c.in-Ok.ensures.puts.all.0 (PutsLines-none _)
     (ap (λ (x : Capture). x.link) is) (ap (λ (x : Capture). x.way) is) (ap (λ (x : Capture). x.cut) is) (ap (λ (x : Capture). x.time) is) c.in-Ok.ensures.none
@@ -68,7 +59,8 @@ returns-in-Ok-put_sent-clause-goes g c events notes instant old given seen =
     p.2 events notes given.stands given.at (subst (λ l. HasLink network l) (sym link) seen.there)
     (ap (λ l. is_sent_on network l mid.way note.body) link
     ∙ ap (λ w. is_sent_on network it.link w note.body) way ∙ sent) in
-    record_goes network c.args.world.now events notes note old (told c.args.out.now) it given.stands (subst (λ (b : NoteBody). 1 < rank b) c.body.ensures c.is_sent_on-sent.ensures.behind) seen p.0
+    record_goes network c.args.world.now events notes note old (told c.args.out.now) it given.stands
+    (subst (λ (b : NoteBody). 1 < rank b) c.body.ensures c.is_sent_on-sent.ensures.behind) seen p.0
     (told c.put_sends.new.out) (told c.put_sent.new.out) c.put_sent.new.self
     (lines ∙ ap (λ l. packets_of s l mid.way (z ∷ [])) link ∙ ap (λ w. packets_of s it.link w (z ∷ [])) way) c.in-Ok.ensures.puts.all.0 p.1.all.0
     (ap (λ (x : Capture). x.link) made ∙ link) (ap (λ (x : Capture). x.way) made ∙ way)
@@ -94,7 +86,8 @@ returns-in-Err-put_sent-clause-goes g c events notes instant old given seen =
     p.2 events notes given.stands given.at (subst (λ l. HasLink network l) (sym link) seen.there)
     (ap (λ l. is_sent_on network l mid.way note.body) link ∙ ap (λ w. is_sent_on network it.link w note.body) way ∙ sent) in
     subst (λ (e : Cut). StopsWay network events (notes ++ note ∷ []) e old (told c.put_sent.new.out)) (sym p.1.failed.0)
-    (record_fails_own network c.args.world.now events notes note old (told c.args.out.now) it given.stands (subst (λ (b : NoteBody). 1 < rank b) c.body.ensures c.is_sent_on-sent.ensures.behind) seen p.0
+    (record_fails_own network c.args.world.now events notes note old (told c.args.out.now) it given.stands
+    (subst (λ (b : NoteBody). 1 < rank b) c.body.ensures c.is_sent_on-sent.ensures.behind) seen p.0
     (told c.put_sends.new.out) (told c.put_sent.new.out)
     (lines ∙ ap (λ l. packets_of s l mid.way (z ∷ [])) link ∙ ap (λ w. packets_of s it.link w (z ∷ [])) way) c.in-Ok.ensures.puts.all.0 p.1.failed.1)
 

@@ -1,5 +1,0 @@
--- What is answered for a report.
-pub mod Answers
-pub mod Sources
-pub mod Under
-pub mod Safely

@@ -1,5 +1,0 @@
--- What is answered for a report.
-pub mod AuditLine
-pub mod Answer
-pub mod Reading
-pub mod Safely
