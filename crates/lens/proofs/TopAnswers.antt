@@ -1,25 +1,17 @@
 -- The answer for the words.
-use Rattle.std.proofs.Common.{◌≡◌, ℕ, ◌≤◌, List, Some, None, sym, ap, subst, ◌∙◌}
-use Rattle.std.specs.Prelude.{IfSome, Option}
-use Rattle.lens.specs.Top.{AnswerIsOne, AnswersWords, IsAnswerBy}
+use Rattle.std.{proofs.Common.{◌∙◌, ◌≡◌, ◌≤◌, List, None, Some, ap, subst, sym, ℕ}, specs.Prelude.{IfSome, Option}}
 use Rattle.lens_events.specs.Answer.{IsEventsAnswer, event_lines}
-use Rattle.lens_forms.proofs.FormLemmas.{form_in_range}
-use Rattle.lens_forms.specs.Forms.{IsFormInRange, form_of}
-use Rattle.lens_forms.specs.declared.form.Form.{Form}
-use Rattle.lens_forms.specs.declared.form.Form.TheVariants.{Slack, SlackOf, Events}
-use Rattle.lens_slack.proofs.OneSlack.{octets_one}
-use Rattle.lens_slack.specs.Steps.{all_steps, rule_steps}
-use Rattle.net_plan.specs.declared.event.Event.{Event}
-use Rattle.net_plan.specs.declared.network.Network.{Network}
+use Rattle.lens_forms.{proofs.FormLemmas.form_in_range, specs.{Forms.{IsFormInRange, form_of}, declared.form.Form.Form}}
+use Rattle.lens_forms.specs.declared.form.Form.TheVariants.{Events, Least, Slack, SlackOf}
+use Rattle.lens_least.{proofs.OneLeast.least_one, specs.Answer.IsLeastOf}
+use Rattle.lens_slack.{proofs.OneSlack.{octets_one, slack_one}, specs.{Answer.IsSlackOf, Steps.{all_steps, rule_steps}}}
+use Rattle.net_plan.specs.declared.{event.Event.Event, network.Network.Network}
 use Rattle.schedule_checker.specs.Refusals.{RefusalIsOne}
 use Rattle.schedule_tables.specs.Rules.{KeepsRules}
 use Rattle.storm.proofs.OneStorm.{one_storm}
-use Rattle.tte_forms.proofs.networks.Answers.{network_answer_one}
-use Rattle.tte_forms.specs.Answering.{Answer}
-use Rattle.tte_forms.specs.Putting.{Shown}
+use Rattle.tte_forms.{proofs.networks.Answers.network_answer_one, specs.{Answering.Answer, Putting.Shown, declared.status.Status.{Status, TheVariants.Done}}}
 use Rattle.tte_forms.specs.networks.Accepting.{IsNetworkAnswer}
-use Rattle.tte_forms.specs.declared.status.Status.{Status}
-use Rattle.tte_forms.specs.declared.status.Status.TheVariants.{Done}
+use Rattle.lens.specs.Top.{AnswerIsOne, AnswersWords, IsAnswerBy}
 
 -- what is answered for the form is answered for the words
 pub words_as : {f form : Option Form} → f ≡ form → (left : Option (List ℕ)) (status : Status) (old new : Shown) → AnswersWords f left status old new
@@ -41,8 +33,9 @@ events_one one seed cycles few octets a b p q =
 answer_one : RefusalIsOne → (form : Option Form) → IfSome form IsFormInRange → (octets : List ℕ) (a b : Answer) → IsAnswerBy form octets a
     → IsAnswerBy form octets b → a ≡ b
 answer_one one None range octets a b p q = p ∙ sym q
-answer_one one (Some Slack) range octets a b p q = octets_one all_steps octets a b p q
-answer_one one (Some (SlackOf rule)) range octets a b p q = octets_one (rule_steps rule) octets a b p q
+answer_one one (Some Slack) range octets a b p q = octets_one (IsSlackOf all_steps) (slack_one all_steps) octets a b p q
+answer_one one (Some (SlackOf rule)) range octets a b p q = octets_one (IsSlackOf (rule_steps rule)) (slack_one (rule_steps rule)) octets a b p q
+answer_one one (Some Least) range octets a b p q = octets_one IsLeastOf least_one octets a b p q
 answer_one one (Some (Events seed cycles)) range octets a b p q = events_one one seed cycles range.1 octets a b p q
 
 pub one_answer : RefusalIsOne → AnswerIsOne

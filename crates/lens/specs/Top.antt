@@ -1,24 +1,21 @@
 -- What the program `lens` answers.
-use Rattle.std.specs.Prelude.{◌≡◌, ◌≢◌, ℕ, List, codes, Option, Some, None}
+use Rattle.std.specs.Prelude.{◌≡◌, ◌≢◌, List, None, Option, Some, codes, ℕ}
 use Rattle.lens_events.specs.Answer.{IsEventsAnswer}
-use Rattle.lens_forms.specs.Forms.{form_of}
-use Rattle.lens_forms.specs.declared.form.Form.{Form}
-use Rattle.lens_forms.specs.declared.form.Form.TheVariants.{Slack, SlackOf, Events}
+use Rattle.lens_forms.specs.{Forms.form_of, declared.form.Form.{Form, TheVariants.{Events, Least, Slack, SlackOf}}}
+use Rattle.lens_least.specs.Answer.{IsLeastAnswer}
 use Rattle.lens_slack.specs.Answer.{IsSlackAnswer, IsSlackAnswerOf}
-use Rattle.tte_forms.specs.Answering.{Answer, ForOctets, Gives, GivesAnswer, line_answer}
-use Rattle.tte_forms.specs.Putting.{Shown}
-use Rattle.tte_forms.specs.networks.Accepting.{IsNetworkAnswer}
-use Rattle.tte_forms.specs.declared.status.Status.{Status}
-use Rattle.tte_forms.specs.declared.status.Status.TheVariants.{Usage}
+use Rattle.tte_forms.specs.{Answering.{Answer, ForOctets, Gives, GivesAnswer, line_answer}, Putting.Shown}
+use Rattle.tte_forms.specs.{declared.status.Status.{Status, TheVariants.Usage}, networks.Accepting.IsNetworkAnswer}
 
 -- the answer for words of no form: the usage line
 abbrev pub usage_answer : Answer
-usage_answer = line_answer Usage (codes "usage: lens slack NETWORK [RULE] | events NETWORK SEED CYCLES\n")
+usage_answer = line_answer Usage (codes "usage: lens slack NETWORK [RULE] | least NETWORK | events NETWORK SEED CYCLES\n")
 
 -- an answer for a form and the octets of its network file
 abbrev pub IsFormAnswer : Form → List ℕ → Answer → Type 0
 IsFormAnswer Slack octets a = IsSlackAnswer octets a
 IsFormAnswer (SlackOf rule) octets a = IsSlackAnswerOf rule octets a
+IsFormAnswer Least octets a = IsLeastAnswer octets a
 IsFormAnswer (Events seed cycles) octets a = IsNetworkAnswer (IsEventsAnswer seed cycles) octets a
 
 -- an answer for the words and the octets of the network file

@@ -57,7 +57,8 @@ fn explain(rt: &HostRuntime, status: Status) {
         | Status::AuditRefused
         | Status::CaptureRefused
         | Status::NameRefused
-        | Status::VoteRefused => return,
+        | Status::VoteRefused
+        | Status::NumberRefused => return,
     };
     let _told = eprintln!(rt; "lens: {meaning}");
 }

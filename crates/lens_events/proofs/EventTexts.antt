@@ -1,19 +1,10 @@
 -- The text of an event has no LF.
-use Rattle.std.proofs.Common.{◌≡◌, ◌≢◌, ℕ, false, ◌∷◌, subst, sym, arith}
-use Rattle.std.proofs.lemmas.Bool.Decides.{nat_tests}
-use Rattle.std.proofs.lemmas.List.Elements.{All-weaker}
-use Rattle.net_plan.specs.Belonging.{IsOfNetwork}
-use Rattle.net_plan.specs.Ranges.{IsInRange}
-use Rattle.net_plan.specs.declared.event.Event.{Event}
-use Rattle.net_plan.specs.declared.network.Network.{Network}
-use Rattle.report_text.proofs.Texts.{is_lf, line_unbroken}
-use Rattle.report_text.proofs.Visible.{time_visible, what_visible}
-use Rattle.trace_text.proofs.EventsBack.{text_joined}
-use Rattle.trace_text.specs.EventLine.{event_text}
-use Rattle.trace_text.specs.Ranges.{IsEventInRange}
-use Rattle.tte_io.specs.Line.{IsUnbroken, lf}
+use Rattle.std.proofs.{Common.{◌∷◌, ◌≡◌, ◌≢◌, arith, false, subst, sym, ℕ}, lemmas.{Bool.Decides.nat_tests, List.Elements.All-weaker}}
 use Rattle.std.specs.Fmt.{signed_decimal}
-use Rattle.trace_text.specs.EventLine.{what_words}
+use Rattle.net_plan.specs.{Belonging.IsOfNetwork, Ranges.IsInRange, declared.{event.Event.Event, network.Network.Network}}
+use Rattle.report_text.proofs.{Texts.{is_lf, line_unbroken}, Visible.{time_visible, what_visible}}
+use Rattle.trace_text.{proofs.EventsBack.text_joined, specs.{EventLine.{event_text, what_words}, Ranges.IsEventInRange}}
+use Rattle.tte_io.specs.Line.{IsUnbroken, lf}
 
 no_lf : (octet : ℕ) → is_lf octet ≡ false → octet ≢ lf
 no_lf octet other same = grind (arith, nat_tests)

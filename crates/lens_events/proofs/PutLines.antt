@@ -1,21 +1,14 @@
 -- The lines of a storm's events put one after another.
-use Rattle.std.proofs.Common.{◌≡◌, ℕ, ◌+◌, ◌*◌, ◌≤◌, List, [], ◌∷◌, ◌++◌, length, length-append, append_assoc, refl, sym, ap, subst, ◌∙◌, inl, inr, arith}
+use Rattle.std.proofs.Common.{◌*◌, ◌++◌, ◌+◌, ◌∙◌, ◌∷◌, ◌≡◌, ◌≤◌, List, [], ap, append_assoc, arith, inl, inr, length, length-append, refl, subst, sym, ℕ}
 use Rattle.std.specs.Io.KnownBytes.{Appends}
-use Rattle.lens_events.specs.Answer.{IsEventsAnswer, event_lines}
-use Rattle.net_plan.specs.declared.event.Event.{Event}
-use Rattle.net_plan.specs.declared.network.Network.{Network}
+use Rattle.net_plan.specs.declared.{event.Event.Event, network.Network.Network}
 use Rattle.storm.proofs.Storms.{storm_number}
 use Rattle.trace_text.specs.EventLine.{event_line}
-use Rattle.tte_forms.proofs.Puts.{Ends-gives, PutsLines-fails, PutsLines-more, PutsLines-none}
-use Rattle.tte_forms.specs.Answering.{Answer, Ends, Gives, GivesAnswer}
-use Rattle.tte_forms.specs.Putting.{PutsLines, Shown}
-use Rattle.tte_forms.specs.declared.status.Status.{Status}
-use Rattle.tte_forms.specs.declared.status.Status.TheVariants.{Done, WriteFault}
-use Rattle.tte_io.specs.Faults.{next_count}
-use Rattle.tte_io.specs.Told.{AppendsFront}
-use Rattle.tte_storms.proofs.Existing.{IsStormy, storm_behind}
-use Rattle.tte_storms.specs.Storms.{IsStormTo}
-use Rattle.tte_storms.specs.declared.events.StormEvents.{StormEvents}
+use Rattle.tte_forms.{proofs.Puts.{Ends-gives, PutsLines-fails, PutsLines-more, PutsLines-none}, specs.Answering.{Answer, Ends, Gives, GivesAnswer}}
+use Rattle.tte_forms.specs.{Putting.{PutsLines, Shown}, declared.status.Status.{Status, TheVariants.{Done, WriteFault}}}
+use Rattle.tte_io.specs.{Faults.next_count, Told.AppendsFront}
+use Rattle.tte_storms.{proofs.Existing.{IsStormy, storm_behind}, specs.{Storms.IsStormTo, declared.events.StormEvents.StormEvents}}
+use Rattle.lens_events.specs.Answer.{IsEventsAnswer, event_lines}
 
 -- the lines of some events and of others behind them
 pub lines_of_both : (network : Network) (events others : List Event)

@@ -1,35 +1,19 @@
 -- The run over the lines of a storm's events is the one that the storm's summary sums up.
-use Rattle.std.proofs.Common.{◌≡◌, ℕ, zero, suc, ◌≤◌, List, [], ◌∷◌, ◌++◌, length, refl, sym, ap, subst, ◌∙◌, inl, arith, append_assoc, length-append}
-use Rattle.std.specs.List.{concat}
-use Rattle.std.proofs.lemmas.List.{append-nil}
-use Rattle.exact_runs.specs.Records.{AreAllRecords, HaveEnded}
-use Rattle.lens_events.proofs.EventTexts.{event_unbroken}
-use Rattle.lens_events.proofs.ShortTexts.{event_short}
-use Rattle.lens_events.proofs.Ranged.{storm_ranged}
-use Rattle.lens_events.specs.Answer.{event_lines}
-use Rattle.lens_events.specs.Laws.{EventsAnswersExist, StormReport}
-use Rattle.net_plan.specs.Ranges.{IsInRange}
-use Rattle.net_plan.specs.declared.event.Event.{Event}
-use Rattle.net_plan.specs.declared.network.Network.{Network}
+use Rattle.std.proofs.Common.{◌++◌, ◌∙◌, ◌∷◌, ◌≡◌, ◌≤◌, List, [], ap, append_assoc, arith, inl, length, length-append, refl, subst, suc, sym, zero, ℕ}
+use Rattle.std.{proofs.lemmas.List.append-nil, specs.List.concat}
+use Rattle.net_plan.specs.{Ranges.IsInRange, declared.{event.Event.Event, network.Network.Network}}
 use Rattle.report_text.specs.NoteLine.{report_of}
 use Rattle.run_law.specs.declared.note.Note.{Note}
-use Rattle.schedule_tables.specs.Rules.{KeepsRules}
-use Rattle.schedule_tables.specs.declared.rule.Rule.TheVariants.{DevicesDiffer, LinksDiffer}
-use Rattle.storm.proofs.OneStorm.{one_storm}
-use Rattle.storm.proofs.Storms.{front_of_storm, no_events, storm_number, storms_within}
-use Rattle.storm.specs.Events.{AreStormEvents, IsStorm}
-use Rattle.trace_text.proofs.EventsBack.{reads_back}
-use Rattle.trace_text.specs.EventLine.{event_line, event_text}
-use Rattle.trace_text.specs.EventReading.{event_read}
-use Rattle.tte_forms.specs.Answering.{Answer}
-use Rattle.tte_forms.specs.declared.status.Status.TheVariants.{Done}
-use Rattle.tte_io.proofs.FirstLine.{behind_line-append, first_line-append}
-use Rattle.tte_io.specs.Line.{behind_line, first_line, lf, line_limit}
-use Rattle.tte_storms.proofs.Drawn.{all_ended, none_ended}
-use Rattle.tte_storms.proofs.Existing.{IsStormy, storm_behind}
-use Rattle.tte_traces.proofs.Answers.{trace_answer_one}
-use Rattle.tte_traces.specs.Answer.{IsRunAnswer, report_lines}
-use Rattle.tte_traces.specs.Lines.{AreAdmitted, behind_lines}
+use Rattle.schedule_tables.specs.{Rules.KeepsRules, declared.rule.Rule.TheVariants.{DevicesDiffer, LinksDiffer}}
+use Rattle.storm.{proofs.{OneStorm.one_storm, Storms.{front_of_storm, no_events, storm_number, storms_within}}, specs.Events.{AreStormEvents, IsStorm}}
+use Rattle.trace_text.{proofs.EventsBack.reads_back, specs.{EventLine.{event_line, event_text}, EventReading.event_read}}
+use Rattle.tte_forms.specs.{Answering.Answer, declared.status.Status.TheVariants.Done}
+use Rattle.tte_io.{proofs.FirstLine.{behind_line-append, first_line-append}, specs.Line.{behind_line, first_line, lf, line_limit}}
+use Rattle.tte_storms.proofs.{Drawn.{all_ended, none_ended}, Existing.{IsStormy, storm_behind}}
+use Rattle.tte_traces.{proofs.Answers.trace_answer_one, specs.{Answer.{IsRunAnswer, report_lines}, Lines.{AreAdmitted, behind_lines}}}
+use Rattle.world_exact.specs.Records.{AreAllRecords, HaveEnded}
+use Rattle.lens_events.{proofs.{EventTexts.event_unbroken, Ranged.storm_ranged, ShortTexts.event_short}, specs.Answer.event_lines}
+use Rattle.lens_events.specs.Laws.{EventsAnswersExist, StormReport}
 
 -- the text of a trace of these events
 abbrev text_of : Network → List Event → List ℕ

@@ -1,31 +1,16 @@
 -- The text of an event fits a line.
-use Rattle.std.proofs.Common.{◌≡◌, ℕ, ◌+◌, ◌*◌, ◌≤◌, ◌^◌, List, [], ◌∷◌, length, length-append, arith, subst, sym}
-use Rattle.std.specs.Fmt.{signed_decimal}
-use Rattle.std.specs.List.{join_with_byte}
-use Rattle.std.specs.Prelude.{ℤ, pos, negsuc, neg_ℤ, ◌≤ℤ◌}
-use Rattle.std.proofs.lemmas.Fmt.{length_signed_le}
-use Rattle.std.proofs.lemmas.Int.{ints}
-use Rattle.hex.proofs.HexLemmas.{length-encode_with}
-use Rattle.hex.specs.Hex.{encode_lower, lower_digits}
-use Rattle.net_plan.specs.Belonging.{HasDevice, HasLink, IsOfNetwork, device_name, link_name}
-use Rattle.net_plan.specs.Ranges.{IsDeviceInRange, IsInRange, IsLinkInRange}
-use Rattle.net_plan.specs.declared.event.Event.{Event}
-use Rattle.net_plan.specs.declared.event.What.TheVariants as events
-use Rattle.net_plan.specs.declared.event.What.{What}
-use Rattle.net_plan.specs.declared.ids.DeviceId.{DeviceId}
-use Rattle.net_plan.specs.declared.ids.LinkId.{LinkId}
-use Rattle.net_plan.specs.declared.network.Network.{Network}
+use Rattle.std.proofs.{Common.{◌*◌, ◌+◌, ◌^◌, ◌∷◌, ◌≡◌, ◌≤◌, List, [], arith, length, length-append, subst, sym, ℕ}, lemmas.{Fmt.length_signed_le, Int.ints}}
+use Rattle.std.specs.{Fmt.signed_decimal, List.join_with_byte, Prelude.{◌≤ℤ◌, neg_ℤ, negsuc, pos, ℤ}}
+use Rattle.hex.{proofs.HexLemmas.length-encode_with, specs.Hex.{encode_lower, lower_digits}}
+use Rattle.net_plan.specs.{Belonging.{HasDevice, HasLink, IsOfNetwork, device_name, link_name}, Ranges.{IsDeviceInRange, IsInRange, IsLinkInRange}}
+use Rattle.net_plan.specs.declared.{event.{Event.Event, What.What}, ids.{DeviceId.DeviceId, LinkId.LinkId}, network.Network.Network, tables.Way.Way}
 use Rattle.net_plan.specs.declared.tables.Way.TheVariants.{Down, Up}
-use Rattle.net_plan.specs.declared.tables.Way.{Way}
-use Rattle.trace_text.proofs.EventsBack.{text_joined}
-use Rattle.trace_text.specs.EventLine.{event_text, what_words}
-use Rattle.trace_text.specs.EventWords.{way_text}
-use Rattle.trace_text.specs.Ranges.{IsEventInRange, IsRate, IsTime, IsWhatInRange}
-use Rattle.trace_text.specs.Steps.{Words, space}
+use Rattle.trace_text.{proofs.EventsBack.text_joined, specs.{EventLine.{event_text, what_words}, EventWords.way_text}}
+use Rattle.trace_text.specs.{Ranges.{IsEventInRange, IsRate, IsTime, IsWhatInRange}, Steps.{Words, space}}
 use Rattle.tte_io.specs.Line.{line_limit}
 use Rattle.tte_lemmas.proofs.Lists.{in_all, some_at}
-use Rattle.tte_units.specs.declared.rates.Ppb.{Ppb}
-use Rattle.tte_units.specs.declared.units.Units.{Units}
+use Rattle.tte_units.specs.declared.{rates.Ppb.Ppb, units.Units.Units}
+use Rattle.net_plan.specs.declared.event.What.TheVariants as events
 
 -- ---- words
 

@@ -1,11 +1,9 @@
 -- What `events` answers for the octets of a network file.
-use Rattle.std.specs.Prelude.{◌≡◌, ℕ, List, map}
-use Rattle.net_plan.specs.declared.event.Event.{Event}
-use Rattle.net_plan.specs.declared.network.Network.{Network}
+use Rattle.std.specs.Prelude.{◌≡◌, List, map, ℕ}
+use Rattle.net_plan.specs.declared.{event.Event.Event, network.Network.Network}
 use Rattle.storm.specs.Events.{IsStorm}
 use Rattle.trace_text.specs.EventLine.{event_line}
-use Rattle.tte_forms.specs.Answering.{Answer}
-use Rattle.tte_forms.specs.declared.status.Status.TheVariants.{Done}
+use Rattle.tte_forms.specs.{Answering.Answer, declared.status.Status.TheVariants.Done}
 
 -- the lines of events, each with its LF
 abbrev pub event_lines : Network → List Event → List (List ℕ)

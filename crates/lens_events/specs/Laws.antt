@@ -1,23 +1,17 @@
 -- What the events of a storm as a trace have to do with `run` and `storm`.
-use Rattle.std.specs.Prelude.{◌≡◌, ℕ, ◌≤◌, List}
-use Rattle.std.specs.List.{concat}
-use Rattle.exact_runs.specs.Records.{AreAllRecords}
-use Rattle.lens_events.specs.Answer.{IsEventsAnswer}
-use Rattle.net_plan.specs.Ranges.{IsInRange}
-use Rattle.net_plan.specs.declared.event.Event.{Event}
-use Rattle.net_plan.specs.declared.network.Network.{Network}
+use Rattle.std.specs.{List.concat, Prelude.{◌≡◌, ◌≤◌, List, ℕ}}
+use Rattle.net_plan.specs.{Ranges.IsInRange, declared.{event.Event.Event, network.Network.Network}}
 use Rattle.report_text.specs.NoteLine.{report_of}
 use Rattle.run_law.specs.declared.note.Note.{Note}
 use Rattle.schedule_tables.specs.Rules.{KeepsRules}
 use Rattle.storm.specs.Events.{IsStorm}
-use Rattle.storm_summary.specs.Counting.{counts_of}
-use Rattle.storm_summary.specs.Lines.{summary_lines}
-use Rattle.tte_forms.specs.Answering.{Answer}
-use Rattle.tte_forms.specs.declared.status.Status.TheVariants.{Done}
-use Rattle.tte_storms.specs.Answer.{IsStormAnswer, IsWidest}
-use Rattle.tte_storms.specs.Laws.{FitsFrames}
+use Rattle.storm_summary.specs.{Counting.counts_of, Lines.summary_lines}
+use Rattle.tte_forms.specs.{Answering.Answer, declared.status.Status.TheVariants.Done}
+use Rattle.tte_storms.specs.{Answer.{IsStormAnswer, IsWidest}, Laws.FitsFrames}
 use Rattle.tte_traces.specs.Answer.{IsRunAnswer}
 use Rattle.tte_units.specs.declared.units.Units.{Units}
+use Rattle.world_exact.specs.Records.{AreAllRecords}
+use Rattle.lens_events.specs.Answer.{IsEventsAnswer}
 
 -- the report and the summary are of one run, that of the network under the events of the storm, up to its end: the
 -- report has each record of it, and the summary has their counts and their spread

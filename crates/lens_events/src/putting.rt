@@ -1,10 +1,8 @@
 ghost use Rattle.std.specs.Prelude.{◌≡◌, ◌≤◌};
-ghost use Rattle.lens_events.specs.Answer.{IsEventsAnswer};
 ghost use Rattle.tte_forms.specs.Answering.{AnswersOne, GivesAnswer};
-ghost use Rattle.tte_forms.specs.Faults.{HasCause, IsWanted, PutFailed, ReadFailed};
-ghost use Rattle.tte_forms.specs.Putting.{Over};
-ghost use Rattle.tte_forms.specs.networks.Accepting.{IsNetworkAnswer};
-ghost use Rattle.tte_forms.specs.networks.Checking.{IsCheckStatus};
+ghost use Rattle.tte_forms.specs.{Faults.{HasCause, IsWanted, PutFailed, ReadFailed}, Putting.Over};
+ghost use Rattle.tte_forms.specs.networks.{Accepting.IsNetworkAnswer, Checking.IsCheckStatus};
+ghost use Rattle.lens_events.specs.Answer.{IsEventsAnswer};
 
 use schedule_tables::Accepted;
 use std::alloc::Global;
@@ -13,8 +11,8 @@ use tte_forms::{Status, accept, end_with, put_no_network};
 use tte_io::{Sink, Source};
 use tte_storms::{StormEvents, frames_fit};
 
-/// Puts the events of the storm of the seed over 1 to 100,000 cycles on the network of a file, a line for each: a trace,
-/// which `run` takes to its end. It keeps no event.
+/// Puts the events of the storm of the seed over 1 to 100,000 cycles on the network of a file, a line for each: a
+/// trace, which `run` takes to its end. It keeps no event.
 ///
 /// `storm_report_law` says that the run over these lines is the one that `storm` sums up.
 pub fn storm_events<A: Source, K: Sink>(

@@ -1,14 +1,13 @@
 -- The form of words by their count and their first, and the numbers of forms.
-use Rattle.std.proofs.Common.{◌≡◌, ℕ, ◌≤◌, List, [], ◌∷◌, length, Some, None, refl, arith, Bool, true, false}
-use Rattle.std.specs.Prelude.{slice_get, IfSome, Option, bytes_eq, codes, if◌then◌else◌}
-use Rattle.lens_forms.specs.Forms.{events_form, form_of, slack_form, slack_of_form, IsFormInRange, IsInequality, inequality_spelled}
-use Rattle.std.specs.Option.{option_and_then, option_map}
-use Rattle.lens_forms.specs.declared.form.Form.TheVariants.{Events, Slack, SlackOf}
+use Rattle.std.{proofs.Common.{◌∷◌, ◌≡◌, ◌≤◌, Bool, List, None, Some, [], arith, false, length, refl, true, ℕ}, specs.Option.{option_and_then, option_map}}
+use Rattle.std.specs.Prelude.{if◌then◌else◌, IfSome, Option, bytes_eq, codes, slice_get}
+use Rattle.schedule_tables.specs.declared.rule.Rule.{Rule}
+use Rattle.schedule_tables.specs.declared.rule.Rule.TheVariants.{Correction, Delays, Forwarding, Precision, ScheduleStart, Settling, Spacing, WindowEnds}
 use Rattle.tte_forms.proofs.FormLemmas.{form_in_range as storm_in_range}
 use Rattle.tte_forms.specs.Forms.{IsFormInRange as IsStormInRange, cycles_spelled, form_of as storm_form_of, seed_spelled, storm_form}
 use Rattle.tte_forms.specs.declared.form.Form.TheVariants.{Storm}
-use Rattle.schedule_tables.specs.declared.rule.Rule.{Rule}
-use Rattle.schedule_tables.specs.declared.rule.Rule.TheVariants.{Delays, Settling, Precision, Correction, ScheduleStart, WindowEnds, Spacing, Forwarding}
+use Rattle.lens_forms.specs.Forms.{IsFormInRange, IsInequality, events_form, form_of, inequality_spelled, network_form, slack_of_form}
+use Rattle.lens_forms.specs.declared.form.Form.TheVariants.{Events, Least, Slack, SlackOf}
 
 pub no_words : (words : List (List ℕ)) → length words ≤ 0 → None ≡ form_of words
 unfolding form_of
@@ -24,12 +23,12 @@ other_count (a ∷ b ∷ c ∷ []) h k l = absurd (k refl)
 other_count (a ∷ b ∷ c ∷ d ∷ []) h k l = absurd (l refl)
 other_count (a ∷ b ∷ c ∷ d ∷ e ∷ rest) h k l = refl
 
-pub slack_words : (words : List (List ℕ)) (command : List ℕ) → length words ≡ 2 → slice_get words 0 ≡ Some command → form_of words ≡ slack_form command
+pub network_words : (words : List (List ℕ)) (command : List ℕ) → length words ≡ 2 → slice_get words 0 ≡ Some command → form_of words ≡ network_form command
 unfolding form_of
-slack_words [] command n e = absurd (omega arith)
-slack_words (a ∷ []) command n e = absurd (omega arith)
-slack_words (a ∷ b ∷ []) command n e = let same : a ≡ command = cc in rw same refl
-slack_words (a ∷ b ∷ c ∷ rest) command n e = absurd (omega arith)
+network_words [] command n e = absurd (omega arith)
+network_words (a ∷ []) command n e = absurd (omega arith)
+network_words (a ∷ b ∷ []) command n e = let same : a ≡ command = cc in rw same refl
+network_words (a ∷ b ∷ c ∷ rest) command n e = absurd (omega arith)
 
 pub slack_of_words : (words : List (List ℕ)) (command rule : List ℕ) → length words ≡ 3 → slice_get words 0 ≡ Some command → slice_get words 2 ≡ Some rule
     → form_of words ≡ slack_of_form command rule
@@ -87,9 +86,10 @@ inequality_by text =
     (spelled_by (bytes_eq text (codes "13")) WindowEnds _ tt
     (spelled_by (bytes_eq text (codes "21")) Spacing _ tt (spelled_by (bytes_eq text (codes "23")) Forwarding None tt tt)))))))
 
-slack_by : (b : Bool) → IfSome (if b then Some Slack else None) IsFormInRange
-slack_by true = tt
-slack_by false = tt
+network_by : (slack least : Bool) → IfSome (if slack then Some Slack else if least then Some Least else None) IsFormInRange
+network_by true least = tt
+network_by false true = tt
+network_by false false = tt
 
 slack_of_by : (b : Bool) (o : Option Rule) → IfSome o IsInequality → IfSome (if b then option_map (λ r. SlackOf r) o else None) IsFormInRange
 slack_of_by true None is = tt
@@ -101,7 +101,7 @@ pub form_in_range : (words : List (List ℕ)) → IfSome (form_of words) IsFormI
 unfolding form_of
 form_in_range [] = tt
 form_in_range (command ∷ []) = tt
-form_in_range (command ∷ network ∷ []) = slack_by (bytes_eq command (codes "slack"))
+form_in_range (command ∷ network ∷ []) = network_by (bytes_eq command (codes "slack")) (bytes_eq command (codes "least"))
 form_in_range (command ∷ network ∷ rule ∷ []) = slack_of_by (bytes_eq command (codes "slack")) (inequality_spelled rule) (inequality_by rule)
 form_in_range (command ∷ network ∷ seed ∷ cycles ∷ []) =
     events_by (bytes_eq command (codes "events")) (seed_spelled seed) (cycles_spelled cycles) (storm_range seed cycles)

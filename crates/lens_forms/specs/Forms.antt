@@ -1,16 +1,18 @@
 -- The forms of the words of `lens`.
-use Rattle.std.specs.Prelude.{ℕ, ◌≤◌, List, [], ◌∷◌, codes, if◌then◌else◌, Option, Some, None}
 use Rattle.std.specs.Option.{option_and_then, option_map}
-use Rattle.std.specs.Str.{bytes_eq}
+use Rattle.std.specs.{Prelude.{if◌then◌else◌, ◌∷◌, ◌≤◌, List, None, Option, Some, [], codes, ℕ}, Str.bytes_eq}
 use Rattle.schedule_tables.specs.declared.rule.Rule.{Rule}
-use Rattle.schedule_tables.specs.declared.rule.Rule.TheVariants.{Delays, Settling, Precision, Correction, ScheduleStart, WindowEnds, Spacing, Forwarding}
+use Rattle.schedule_tables.specs.declared.rule.Rule.TheVariants.{Correction, Delays, Forwarding, Precision}
+use Rattle.schedule_tables.specs.declared.rule.Rule.TheVariants.{ScheduleStart, Settling, Spacing, WindowEnds}
 use Rattle.tte_forms.specs.Forms.{cycles_spelled, most_cycles, seed_spelled}
-use Rattle.lens_forms.specs.declared.form.Form.{Form}
-use Rattle.lens_forms.specs.declared.form.Form.TheVariants.{Slack, SlackOf, Events}
+use Rattle.lens_forms.specs.declared.form.Form.{Form, TheVariants.{Events, Least, Slack, SlackOf}}
 
--- a network alone: `slack NETWORK`
-abbrev pub slack_form : List ℕ → Option Form
-slack_form command = if bytes_eq command (codes "slack") then Some Slack else None
+-- a network alone: `slack NETWORK` and `least NETWORK`
+abbrev pub network_form : List ℕ → Option Form
+network_form command =
+    if bytes_eq command (codes "slack") then Some Slack
+    else if bytes_eq command (codes "least") then Some Least
+    else None
 
 -- the rule of this number, if it is an inequality
 abbrev pub inequality_spelled : List ℕ → Option Rule
@@ -53,13 +55,14 @@ IsInequality other = ⊥
 abbrev pub IsFormInRange : Form → Type 0
 IsFormInRange Slack = Unit {0}
 IsFormInRange (SlackOf rule) = IsInequality rule
+IsFormInRange Least = Unit {0}
 IsFormInRange (Events seed cycles) = (1 ≤ cycles) × (cycles ≤ most_cycles)
 
 -- the form of the words
 unfoldable pub form_of : List (List ℕ) → Option Form
 form_of [] = None
 form_of (command ∷ []) = None
-form_of (command ∷ network ∷ []) = slack_form command
+form_of (command ∷ network ∷ []) = network_form command
 form_of (command ∷ network ∷ rule ∷ []) = slack_of_form command rule
 form_of (command ∷ network ∷ seed ∷ cycles ∷ []) = events_form command seed cycles
 form_of (command ∷ network ∷ seed ∷ cycles ∷ more ∷ words) = None

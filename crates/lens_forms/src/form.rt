@@ -1,5 +1,6 @@
 ghost use Rattle.std.specs.Prelude.{◌≡◌, IfSome};
-ghost use Rattle.lens_forms.specs.Forms.{IsFormInRange, IsInequality, events_form, form_of, inequality_spelled, slack_form, slack_of_form};
+ghost use Rattle.lens_forms.specs.Forms.{IsFormInRange, IsInequality, events_form, form_of, inequality_spelled};
+ghost use Rattle.lens_forms.specs.Forms.{network_form, slack_of_form};
 
 use schedule_tables::Rule;
 use tte_forms::{Words, cycles_spelled, number_up_to};
@@ -11,6 +12,8 @@ pub enum Form {
     Slack,
     /// `slack NETWORK RULE`, of a rule that is an inequality.
     SlackOf(Rule),
+    /// `least NETWORK`.
+    Least,
     /// `events NETWORK SEED CYCLES`.
     Events {
         seed: u64,
@@ -20,12 +23,13 @@ pub enum Form {
 }
 
 /// The form of a command with a network alone.
-fn slack_form(command: &str) -> Option<Form>
-    ensures form { result ≡ slack_form command.now }
+fn network_form(command: &str) -> Option<Form>
+    ensures form { result ≡ network_form command.now }
     ensures range { IfSome result IsFormInRange }
 {
     match command {
         "slack" => Some(Form::Slack),
+        "least" => Some(Form::Least),
         _ => None,
     }
 }
@@ -80,7 +84,7 @@ pub fn read_form(words: &Words) -> Option<Form>
 {
     let command = words.get(0)?;
     match words.len() {
-        2 => slack_form(command),
+        2 => network_form(command),
         3 => slack_of_form(command, words.get(2)?),
         4 => events_form(command, words.get(2)?, words.get(3)?),
         _ => None,

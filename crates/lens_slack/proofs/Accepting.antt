@@ -1,35 +1,22 @@
 -- `slack` is done exactly where all rules are kept.
-use Rattle.std.proofs.Common.{◌≡◌, ℕ, zero, suc, ◌+◌, ◌<◌, List, [], ◌∷◌, ◌++◌, Bool, true, false, Option, Some, None, refl, sym, ap, subst, ◌∙◌, inl, inr, arith}
-use Rattle.std.specs.Prelude.{◌==◌, cond, if◌then◌else◌}
-use Rattle.std.proofs.lemmas.Bool.{cases_lt, eq-eqb, eqb-true, le-ltb, lt-ltb}
-use Rattle.std.proofs.lemmas.List.Sums.{sum_by-append, sum_by-cons}
+use Rattle.std.proofs.Common.{◌++◌, ◌+◌, ◌<◌, ◌∙◌, ◌∷◌, ◌≡◌, Bool, List, None, Option, Some, [], ap, arith, false, inl, inr, refl, subst, suc, sym, true, zero}
+use Rattle.std.proofs.{Common.ℕ, lemmas.{Bool.{cases_lt, eq-eqb, eqb-true, le-ltb, lt-ltb}, List.Sums.{sum_by-append, sum_by-cons}}}
+use Rattle.std.specs.Prelude.{if◌then◌else◌, ◌==◌, cond}
 use Rattle.lens_forms.specs.Forms.{IsInequality}
-use Rattle.lens_slack.proofs.Deciding.{bounds_decide}
-use Rattle.lens_slack.proofs.Numbers.{bounds_met, has_number, number_spot}
-use Rattle.lens_slack.proofs.Ones.{one_of}
-use Rattle.lens_slack.specs.Answer.{ending_status}
-use Rattle.lens_slack.specs.Finds.{AreFound, AreOf, shorts_of, some_found}
-use Rattle.lens_slack.specs.Laws.{SlackAccepts}
-use Rattle.lens_slack.specs.Lines.{spot_index}
-use Rattle.lens_slack.specs.Spots.{IsTightestOf, rule_of, spot_at, spots_of}
-use Rattle.lens_slack.specs.Steps.{all_steps}
-use Rattle.lens_slack.specs.Tightest.{IsEnough, IsTightestAt, is_short}
-use Rattle.lens_slack.specs.declared.measuring.Ending.{Ending}
-use Rattle.lens_slack.specs.declared.measuring.Ending.TheVariants.{Whole, Broken}
-use Rattle.lens_slack.specs.declared.spot.Finding.{Finding}
-use Rattle.lens_slack.specs.declared.spot.Measure.{Measure}
-use Rattle.lens_slack.specs.declared.spot.Measure.TheVariants as measures
-use Rattle.lens_slack.specs.declared.step.Step.{Step}
-use Rattle.lens_slack.specs.declared.step.Step.TheVariants.{Judged, Measured, Listed}
-use Rattle.net_plan.proofs.Shape.{rules_give_trees}
-use Rattle.net_plan.specs.Paths.{IsTree}
-use Rattle.net_plan.specs.declared.network.Network.{Network}
-use Rattle.schedule_checker.proofs.Trees.{tree_of}
-use Rattle.schedule_checker.specs.Judging.{plan_rule}
-use Rattle.schedule_tables.specs.Rules.{IsKept, IsKeptAt, KeepsBelow, KeepsRules}
-use Rattle.schedule_tables.specs.declared.rule.Rule.{Rule}
-use Rattle.schedule_tables.specs.declared.rule.Rule.TheVariants.{Limits, DevicesDiffer, LinksDiffer, CompressionMasters, Joints, Connections, Masters, Delays, Settling, Precision, Correction, ScheduleStart, WindowEnds, VlNamesDiffer, VlIdsDiffer, Periods, Senders, LinksOnce, Sources, Targets, Spacing, BothChannels, Forwarding, RowsOfDevice}
+use Rattle.net_plan.{proofs.Shape.rules_give_trees, specs.{Paths.IsTree, declared.network.Network.Network}}
+use Rattle.schedule_checker.{proofs.Trees.tree_of, specs.Judging.plan_rule}
+use Rattle.schedule_tables.specs.{Rules.{IsKept, IsKeptAt, KeepsBelow, KeepsRules}, declared.rule.Rule.Rule}
+use Rattle.schedule_tables.specs.declared.rule.Rule.TheVariants.{BothChannels, CompressionMasters, Connections, Correction, Delays, DevicesDiffer, Forwarding}
+use Rattle.schedule_tables.specs.declared.rule.Rule.TheVariants.{Joints, Limits, LinksDiffer, LinksOnce, Masters, Periods, Precision, RowsOfDevice}
+use Rattle.schedule_tables.specs.declared.rule.Rule.TheVariants.{ScheduleStart, Senders, Settling, Sources, Spacing, Targets, VlIdsDiffer, VlNamesDiffer}
+use Rattle.schedule_tables.specs.declared.rule.Rule.TheVariants.{WindowEnds}
 use Rattle.tte_forms.specs.declared.status.Status.TheVariants.{Done, NetworkRefused}
+use Rattle.lens_slack.{proofs.{Deciding.bounds_decide, Numbers.{bounds_met, has_number, number_spot}, Ones.one_of}, specs.Answer.ending_status}
+use Rattle.lens_slack.specs.{Finds.{AreFound, AreOf, shorts_of, some_found}, Laws.SlackAccepts, Lines.spot_index}
+use Rattle.lens_slack.specs.{Spots.{IsTightestOf, rule_of, spot_at, spots_of}, Steps.all_steps, Tightest.{IsEnough, IsTightestAt, is_short}}
+use Rattle.lens_slack.specs.declared.{measuring.Ending.{Ending, TheVariants.{Broken, Whole}}, spot.{Finding.Finding, Measure.Measure}, step.Step.Step}
+use Rattle.lens_slack.specs.declared.step.Step.TheVariants.{Judged, Listed, Measured}
+use Rattle.lens_slack.specs.declared.spot.Measure.TheVariants as measures
 
 -- ---- counting what is short
 
@@ -138,7 +125,8 @@ each network shape h met RowsOfDevice = h.1.1.1.1.1.1.1.1.1.1.1.1.1.1.1.1.1.0
 rules_kept : (network : Network) → KeepsBelow 8 network → AllHold network all_steps → KeepsRules network
 rules_kept network shape h =
     let tree = tree_of rules_give_trees network shape in
-    let met : (rule : Rule) → IsInequality rule → IsKept rule network = λ rule is place. met_kept network tree rule place is (λ measure same. all_met network h measure) in
+    let met : (rule : Rule) → IsInequality rule → IsKept rule network =
+    λ rule is place. met_kept network tree rule place is (λ measure same. all_met network h measure) in
     λ rule. each network shape h met rule
 
 -- ---- what is found where all rules are kept

@@ -1,29 +1,16 @@
 -- A rule that is an inequality is kept at a place exactly where all its bounds there are.
-use Rattle.std.proofs.Common.{◌≡◌, ◌⊎◌, ℕ, ◌+◌, ◌*◌, ◌<◌, ◌≤◌, refl, sym, subst, inl, inr, arith}
-use Rattle.std.specs.Prelude.{◌↔◌}
-use Rattle.std.proofs.lemmas.Bool.{cases_lt, lt-ltb, le-ltb}
-use Rattle.lens_slack.specs.Bounds.{IsBoundAt, begin_bound, calc_bound, clear_time, correction_bound, end_bound, entering_bound, found, gap_bound}
-use Rattle.lens_slack.specs.Laws.{BoundsDecide}
-use Rattle.lens_slack.specs.Spots.{IsSpotAt, device_of, row_of}
-use Rattle.lens_slack.specs.Tightest.{IsEnough}
-use Rattle.lens_slack.specs.declared.spot.Beside.TheVariants.{Behind, Before}
-use Rattle.lens_slack.specs.declared.spot.Finding.{Finding}
-use Rattle.lens_slack.specs.declared.spot.Spot.{Spot}
-use Rattle.lens_slack.specs.declared.spot.Spot.TheVariants as spots
-use Rattle.net_plan.specs.Bounds.{gamma_of}
-use Rattle.net_plan.specs.declared.ids.RowId.{RowId}
-use Rattle.net_plan.specs.declared.network.Network.{Network}
-use Rattle.net_plan.specs.declared.tables.Link.{Link}
+use Rattle.std.{proofs.{Common.{◌*◌, ◌+◌, ◌<◌, ◌≡◌, ◌≤◌, ◌⊎◌, arith, inl, inr, refl, subst, sym, ℕ}, lemmas.Bool.{cases_lt, le-ltb, lt-ltb}}, specs.Prelude.◌↔◌}
+use Rattle.net_plan.specs.{Bounds.gamma_of, declared.{ids.RowId.RowId, network.Network.Network, tables.Link.Link}}
 use Rattle.schedule_checker.proofs.Selection.{all_of_each, each_of_all}
 use Rattle.schedule_tables.specs.Delays.{CorrectionFits, DelaysFit, ErrorsSettle, PrecisionFits, ScheduleFits, delay_on, pcf_port_time}
-use Rattle.schedule_tables.specs.Schedule.{ComesInTime, EndsInCycle, IsClearBefore, StandsApart}
-use Rattle.schedule_tables.specs.Windows.{port_time, window_end}
-use Rattle.schedule_tables.specs.declared.entry.Entry.{Entry}
+use Rattle.schedule_tables.specs.{Schedule.{ComesInTime, EndsInCycle, IsClearBefore, StandsApart}, Windows.{port_time, window_end}, declared.entry.Entry.Entry}
 use Rattle.schedule_tables.specs.declared.rule.Rule.{Rule}
-use Rattle.schedule_tables.specs.declared.rule.Rule.TheVariants.{Delays, Settling, Precision, Correction, ScheduleStart, WindowEnds, Spacing, Forwarding}
-use Rattle.tte_units.specs.Amount.{amount}
-use Rattle.tte_units.specs.OctetTime.{octet_time}
-use Rattle.tte_units.specs.declared.speed.Speed.{Speed}
+use Rattle.schedule_tables.specs.declared.rule.Rule.TheVariants.{Correction, Delays, Forwarding, Precision, ScheduleStart, Settling, Spacing, WindowEnds}
+use Rattle.tte_units.specs.{Amount.amount, OctetTime.octet_time, declared.speed.Speed.Speed}
+use Rattle.lens_slack.specs.Bounds.{IsBoundAt, begin_bound, calc_bound, clear_time, correction_bound, end_bound, entering_bound, found, gap_bound}
+use Rattle.lens_slack.specs.{Laws.BoundsDecide, Spots.{IsSpotAt, device_of, row_of}, Tightest.IsEnough, declared.spot.Beside.TheVariants.{Before, Behind}}
+use Rattle.lens_slack.specs.declared.spot.{Finding.Finding, Spot.Spot}
+use Rattle.lens_slack.specs.declared.spot.Spot.TheVariants as spots
 use Rattle.tte_units.specs.declared.speed.Speed.TheVariants as speeds
 
 -- what is the same is as much

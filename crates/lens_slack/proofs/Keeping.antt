@@ -1,10 +1,7 @@
 -- The first of the tightest findings, kept while they come one after another.
-use Rattle.std.proofs.Common.{◌≡◌, ◌⊎◌, ℕ, ◌+◌, ◌<◌, ◌≤◌, refl, sym, subst, inl, inr, arith}
-use Rattle.std.specs.Prelude.{Option, Some, None}
-use Rattle.std.proofs.lemmas.Bool.{cases_lt, lt-ltb, le-ltb}
-use Rattle.lens_slack.specs.Keeping.{tighter, tighter_of}
-use Rattle.lens_slack.specs.Tightest.{ComesFirst, IsFirstTightest, IsTighter}
-use Rattle.lens_slack.specs.declared.spot.Finding.{Finding}
+use Rattle.std.proofs.{Common.{◌+◌, ◌<◌, ◌≡◌, ◌≤◌, ◌⊎◌, arith, inl, inr, refl, subst, sym, ℕ}, lemmas.Bool.{cases_lt, le-ltb, lt-ltb}}
+use Rattle.std.specs.Prelude.{None, Option, Some}
+use Rattle.lens_slack.specs.{Keeping.{tighter, tighter_of}, Tightest.{ComesFirst, IsFirstTightest, IsTighter}, declared.spot.Finding.Finding}
 
 -- those of a number below this one
 abbrev pub Below : (ℕ → Finding → Type 0) → ℕ → ℕ → Finding → Type 0

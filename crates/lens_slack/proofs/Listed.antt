@@ -1,10 +1,7 @@
 -- The line of the next finding.
-use Rattle.std.proofs.Common.{◌≡◌, ℕ, ◌+◌, ◌<◌, List, [], ◌∷◌, ◌++◌, length, get_or, take, drop, subst}
-use Rattle.std.proofs.lemmas.List.{take_more}
-use Rattle.lens_slack.proofs.Taken.{drop_next}
-use Rattle.lens_slack.specs.Lines.{finding_line}
-use Rattle.lens_slack.specs.declared.spot.Finding.{Finding}
+use Rattle.std.proofs.{Common.{◌++◌, ◌+◌, ◌<◌, ◌∷◌, ◌≡◌, List, [], drop, get_or, length, subst, take, ℕ}, lemmas.List.take_more}
 use Rattle.net_plan.specs.declared.network.Network.{Network}
+use Rattle.lens_slack.{proofs.Taken.drop_next, specs.{Lines.finding_line, declared.spot.Finding.Finding}}
 
 -- the finding of this number, and its line
 pub record IsNext (network : Network) (all : List Finding) (n : ℕ) (text : List ℕ) : Type 0 where

@@ -1,14 +1,9 @@
 -- A row by its names.
-use Rattle.std.proofs.Common.{◌≡◌, ℕ, ◌<◌, List, [], ◌++◌, length, get_or, sym, ap, ◌∙◌, append_assoc}
-use Rattle.std.specs.Prelude.{Option, codes, slice_get}
-use Rattle.std.specs.Option.{option_map_or}
-use Rattle.std.proofs.lemmas.Option.{slice_get-get_or}
-use Rattle.lens_slack.specs.Lines.{row_text}
-use Rattle.net_plan.specs.Belonging.{link_name, vl_name}
-use Rattle.net_plan.specs.declared.ids.RowId.{RowId}
-use Rattle.net_plan.specs.declared.network.Network.{Network}
-use Rattle.net_plan.specs.declared.tables.Row.{Row}
+use Rattle.std.proofs.{Common.{◌++◌, ◌<◌, ◌∙◌, ◌≡◌, List, [], ap, append_assoc, get_or, length, sym, ℕ}, lemmas.Option.slice_get-get_or}
+use Rattle.std.specs.{Option.option_map_or, Prelude.{Option, codes, slice_get}}
+use Rattle.net_plan.specs.{Belonging.{link_name, vl_name}, declared.{ids.RowId.RowId, network.Network.Network, tables.Row.Row}}
 use Rattle.trace_text.specs.EventWords.{way_text}
+use Rattle.lens_slack.specs.Lines.{row_text}
 
 abbrev names_of : Network → Row → List ℕ
 names_of network r = vl_name network r.vl ++ codes " " ++ link_name network r.link ++ codes " " ++ way_text r.way

@@ -1,16 +1,10 @@
 -- The one bound of a number at a spot with several, or none.
-use Rattle.std.proofs.Common.{◌≡◌, ◌≢◌, ℕ, ◌<◌, Option, Some, None, sym, ap, ◌∙◌, subst, inl, inr}
-use Rattle.std.specs.Prelude.{MatchOption, slice_get}
-use Rattle.std.specs.Option.{unwrap_or}
+use Rattle.std.{proofs.Common.{◌<◌, ◌∙◌, ◌≡◌, ◌≢◌, None, Option, Some, ap, inl, inr, subst, sym, ℕ}, specs.{Option.unwrap_or, Prelude.{MatchOption, slice_get}}}
+use Rattle.net_plan.specs.declared.{ids.RowId.RowId, network.Network.Network, tables.Link.Link}
+use Rattle.schedule_tables.{proofs.EntryLemmas.one_entry, specs.{Entries.{IsEntry, source_of}, declared.entry.Entry.Entry}}
 use Rattle.lens_slack.proofs.Keeping.{IsAt}
 use Rattle.lens_slack.specs.Bounds.{AreOfPort, EntersSource, IsBeginBound, IsComingBound, IsEnteringBound, IsGapBound, begin_bound, entering_bound, gap_bound}
 use Rattle.lens_slack.specs.declared.spot.Finding.{Finding}
-use Rattle.net_plan.specs.declared.ids.RowId.{RowId}
-use Rattle.net_plan.specs.declared.network.Network.{Network}
-use Rattle.net_plan.specs.declared.tables.Link.{Link}
-use Rattle.schedule_tables.proofs.EntryLemmas.{one_entry}
-use Rattle.schedule_tables.specs.Entries.{IsEntry, source_of}
-use Rattle.schedule_tables.specs.declared.entry.Entry.{Entry}
 
 -- a link has one
 pub begin_at : (network : Network) (n : ℕ) (link : Link) (f : Finding) → slice_get network.link n ≡ Some link → f ≡ begin_bound network link

@@ -1,28 +1,17 @@
 -- The spots of a rule, by the numbers that its measures give them.
-use Rattle.std.proofs.Common.{◌≡◌, ℕ, ◌+◌, ◌*◌, ◌<◌, length, Option, Some, None, refl, sym, ap, subst, ◌∙◌, inl, inr, arith}
-use Rattle.std.specs.Prelude.{◌/◌, ◌%◌, Bool, true, false, if◌then◌else◌, nat_lt}
-use Rattle.std.proofs.lemmas.Bool.{cases_lt}
-use Rattle.std.proofs.lemmas.Option.{slice_get_within}
-use Rattle.lens_slack.proofs.Ones.{some_at, some_of}
-use Rattle.lens_slack.proofs.Writable.{device_by}
-use Rattle.lens_slack.specs.Bounds.{IsBoundAt, clear_time, gap_bound}
-use Rattle.lens_slack.specs.Lines.{spot_index}
-use Rattle.lens_slack.specs.Spots.{IsFoundAt, IsSpotAt, IsTightestOf, channel_of, device_of, row_of, rule_of, spot_at, spots_of}
-use Rattle.lens_slack.specs.Tightest.{ComesFirst, IsEnough, IsFirstTightest, IsTightestAt}
-use Rattle.lens_slack.specs.declared.spot.Beside.TheVariants.{Behind, Before}
-use Rattle.lens_slack.specs.declared.spot.Finding.{Finding}
-use Rattle.lens_slack.specs.declared.spot.Measure.{Measure}
-use Rattle.lens_slack.specs.declared.spot.Measure.TheVariants as measures
-use Rattle.lens_slack.specs.declared.spot.Spot.{Spot}
-use Rattle.lens_slack.specs.declared.spot.Spot.TheVariants as spots
-use Rattle.net_plan.specs.Paths.{IsTree}
-use Rattle.net_plan.specs.Places.{device_at}
-use Rattle.net_plan.specs.declared.network.Network.{Network}
-use Rattle.pcf_values.specs.declared.channel.Channel.{Channel}
-use Rattle.pcf_values.specs.declared.channel.Channel.TheVariants.{A, B}
+use Rattle.std.proofs.{Common.{◌*◌, ◌+◌, ◌<◌, ◌∙◌, ◌≡◌, None, Option, Some, ap, arith, inl, inr, length, refl, subst, sym, ℕ}, lemmas.Bool.cases_lt}
+use Rattle.std.{proofs.lemmas.Option.slice_get_within, specs.Prelude.{if◌then◌else◌, ◌%◌, ◌/◌, Bool, false, nat_lt, true}}
+use Rattle.net_plan.specs.{Paths.IsTree, Places.device_at, declared.network.Network.Network}
+use Rattle.pcf_values.specs.declared.channel.Channel.{Channel, TheVariants.{A, B}}
 use Rattle.schedule_tables.specs.declared.rule.Rule.{Rule}
-use Rattle.schedule_tables.specs.declared.rule.Rule.TheVariants.{Delays, Settling, Precision, Correction, ScheduleStart, WindowEnds, Spacing, Forwarding}
+use Rattle.schedule_tables.specs.declared.rule.Rule.TheVariants.{Correction, Delays, Forwarding, Precision, ScheduleStart, Settling, Spacing, WindowEnds}
 use Rattle.tte_units.specs.Amount.{amount}
+use Rattle.lens_slack.{proofs.{Ones.{some_at, some_of}, Writable.device_by}, specs.{Bounds.{IsBoundAt, clear_time, gap_bound}, Lines.spot_index}}
+use Rattle.lens_slack.specs.Spots.{IsFoundAt, IsSpotAt, IsTightestOf, channel_of, device_of, row_of, rule_of, spot_at, spots_of}
+use Rattle.lens_slack.specs.{Tightest.{ComesFirst, IsEnough, IsFirstTightest, IsTightestAt}, declared.spot.Beside.TheVariants.{Before, Behind}}
+use Rattle.lens_slack.specs.declared.spot.{Finding.Finding, Measure.Measure, Spot.Spot}
+use Rattle.lens_slack.specs.declared.spot.Measure.TheVariants as measures
+use Rattle.lens_slack.specs.declared.spot.Spot.TheVariants as spots
 
 -- the spot is the one of this number
 pub record IsNumbered (network : Network) (measure : Measure) (number : ℕ) (spot : Spot) : Type 0 where

@@ -1,31 +1,14 @@
 -- A network has one answer of `slack`.
-use Rattle.std.proofs.Common.{◌≡◌, ℕ, zero, suc, ◌+◌, List, [], ◌∷◌, ◌++◌, Option, Ok, Err, refl, sym, ap, subst, ◌∙◌, inl, inr, arith}
-use Rattle.std.proofs.lemmas.Bool.{cases_lt}
-use Rattle.lens_slack.proofs.Ones.{one_at, one_of}
-use Rattle.lens_slack.specs.Answer.{IsFileAnswer, IsSlackOf, found_answer}
-use Rattle.lens_slack.specs.Finds.{AreFound, AreOf, IsFoundIn, some_found}
-use Rattle.lens_slack.specs.Spots.{spot_at, spots_of}
-use Rattle.lens_slack.specs.declared.measuring.Ending.{Ending}
-use Rattle.lens_slack.specs.declared.measuring.Ending.TheVariants.{Broken}
-use Rattle.lens_slack.specs.declared.spot.Finding.{Finding}
-use Rattle.lens_slack.specs.declared.spot.Measure.{Measure}
-use Rattle.lens_slack.specs.declared.step.Step.{Step}
-use Rattle.lens_slack.specs.declared.step.Step.TheVariants.{Judged, Measured, Listed}
-use Rattle.net_file.specs.Schema.{network_read}
-use Rattle.net_file.specs.declared.refusal.FileRefusal.{FileRefusal}
-use Rattle.net_plan.proofs.Shape.{rules_give_trees}
-use Rattle.net_plan.specs.Paths.{IsTree}
-use Rattle.net_plan.specs.declared.network.Network.{Network}
-use Rattle.schedule_checker.proofs.OneRefusal.{refusal_is_one, same_rule}
-use Rattle.schedule_checker.proofs.Trees.{tree_of}
-use Rattle.schedule_checker.specs.Judging.{BreaksAt, plan_rule}
+use Rattle.std.proofs.{Common.{◌++◌, ◌+◌, ◌∙◌, ◌∷◌, ◌≡◌, Err, List, Ok, Option, [], ap, arith, inl, inr, refl, subst, suc, sym, zero, ℕ}, lemmas.Bool.cases_lt}
+use Rattle.net_file.specs.{Schema.network_read, declared.refusal.FileRefusal.FileRefusal}
+use Rattle.net_plan.{proofs.Shape.rules_give_trees, specs.{Paths.IsTree, declared.network.Network.Network}}
+use Rattle.schedule_checker.{proofs.{OneRefusal.{refusal_is_one, same_rule}, Trees.tree_of}, specs.Judging.{BreaksAt, plan_rule}}
 use Rattle.schedule_checker.specs.declared.refusal.RuleBroken.{RuleBroken}
-use Rattle.schedule_tables.specs.Numbers.{number_of}
-use Rattle.schedule_tables.specs.Rules.{IsFirstBroken}
-use Rattle.schedule_tables.specs.declared.rule.Rule.{Rule}
-use Rattle.tte_forms.specs.Answering.{Answer}
-use Rattle.tte_forms.specs.networks.Accepting.{refused_answer}
-use Rattle.tte_forms.specs.networks.NetworkLine.{file_reason}
+use Rattle.schedule_tables.specs.{Numbers.number_of, Rules.IsFirstBroken, declared.rule.Rule.Rule}
+use Rattle.tte_forms.specs.{Answering.Answer, networks.{Accepting.refused_answer, NetworkLine.file_reason}}
+use Rattle.lens_slack.{proofs.Ones.{one_at, one_of}, specs.{Answer.{IsFileAnswer, IsSlackOf, found_answer}, Finds.{AreFound, AreOf, IsFoundIn, some_found}}}
+use Rattle.lens_slack.specs.{Spots.{spot_at, spots_of}, declared.{measuring.Ending.{Ending, TheVariants.Broken}, spot.{Finding.Finding, Measure.Measure}}}
+use Rattle.lens_slack.specs.declared.step.Step.{Step, TheVariants.{Judged, Listed, Measured}}
 
 -- the same was found, and it ends so
 abbrev AreSame : List Finding → List Finding → Ending → Ending → Type 0
@@ -39,7 +22,7 @@ breaks_once network rule place other a b = elim (cases_lt place other) [
   | inr most ↦ elim (cases_lt other place) [ inl more ↦ absurd (b.broken (a.places other more)) | inr least ↦ omega (arith, most, least) ]
 ]
 
-first_once : (network : Network) (rule other : Rule) (place there : ℕ) → IsFirstBroken network rule place → IsFirstBroken network other there
+pub first_once : (network : Network) (rule other : Rule) (place there : ℕ) → IsFirstBroken network rule place → IsFirstBroken network other there
     → Broken rule place ≡ Broken other there
 first_once network rule other place there a b =
     let told : RuleBroken = record { number = number_of rule; index = place } in
@@ -59,7 +42,8 @@ module _ (network : Network) (tree : IsTree network) where
   found_once : (measure : Measure) (first n : ℕ) (fs gs : List Finding) → AreFound network measure first n fs → AreFound network measure first n gs → fs ≡ gs
   found_once measure first zero fs gs none empty = none ∙ sym empty
   found_once measure first (suc n) fs gs (f, others, is, rest, same) (g, more, its, left, there) =
-      both_same f g others more fs gs (one_at network tree (spot_at measure first) f g is its) (found_once measure (first + 1) n others more rest left) same there
+      both_same f g others more fs gs (one_at network tree (spot_at measure first) f g is its) (found_once measure (first + 1) n others more rest left) same
+      there
 
   are_once : (steps : List Step) (fs gs : List Finding) (end other : Ending) → AreOf network steps fs end → AreOf network steps gs other
       → AreSame fs gs end other
@@ -107,15 +91,16 @@ no_both : (octets : List ℕ) (n : Network) (e : FileRefusal) → network_read o
 no_both octets n e p q = cc
 
 -- the octets of a network file have one answer
-pub octets_one : (steps : List Step) (octets : List ℕ) (a b : Answer) → IsFileAnswer steps octets a → IsFileAnswer steps octets b → a ≡ b
-octets_one steps octets a b (inl p) (inl q) = p.1 ∙ sym q.1
-octets_one steps octets a b (inl p) (inr (inl q)) = let long = p.0 in let fits = q.1.fits in absurd (omega (arith, long, fits))
-octets_one steps octets a b (inl p) (inr (inr q)) = let long = p.0 in let fits = q.1.fits in absurd (omega (arith, long, fits))
-octets_one steps octets a b (inr (inl p)) (inl q) = let long = q.0 in let fits = p.1.fits in absurd (omega (arith, long, fits))
-octets_one steps octets a b (inr (inl p)) (inr (inl q)) =
+pub octets_one : (Is : Network → Answer → Type 0) → ((network : Network) (a b : Answer) → Is network a → Is network b → a ≡ b) → (octets : List ℕ)
+    (a b : Answer) → IsFileAnswer Is octets a → IsFileAnswer Is octets b → a ≡ b
+octets_one Is one octets a b (inl p) (inl q) = p.1 ∙ sym q.1
+octets_one Is one octets a b (inl p) (inr (inl q)) = let long = p.0 in let fits = q.1.fits in absurd (omega (arith, long, fits))
+octets_one Is one octets a b (inl p) (inr (inr q)) = let long = p.0 in let fits = q.1.fits in absurd (omega (arith, long, fits))
+octets_one Is one octets a b (inr (inl p)) (inl q) = let long = q.0 in let fits = p.1.fits in absurd (omega (arith, long, fits))
+octets_one Is one octets a b (inr (inl p)) (inr (inl q)) =
     p.2 ∙ ap (λ (e : FileRefusal). refused_answer (file_reason e)) (same_refusal octets p.0 q.0 p.1.read q.1.read) ∙ sym q.2
-octets_one steps octets a b (inr (inl p)) (inr (inr q)) = absurd (no_both octets q.0 p.0 q.1.read p.1.read)
-octets_one steps octets a b (inr (inr p)) (inl q) = let long = q.0 in let fits = p.1.fits in absurd (omega (arith, long, fits))
-octets_one steps octets a b (inr (inr p)) (inr (inl q)) = absurd (no_both octets p.0 q.0 p.1.read q.1.read)
-octets_one steps octets a b (inr (inr p)) (inr (inr q)) =
-    slack_one steps q.0 a b (subst (λ (n : Network). IsSlackOf steps n a) (same_network octets p.0 q.0 p.1.read q.1.read) p.2) q.2
+octets_one Is one octets a b (inr (inl p)) (inr (inr q)) = absurd (no_both octets q.0 p.0 q.1.read p.1.read)
+octets_one Is one octets a b (inr (inr p)) (inl q) = let long = q.0 in let fits = p.1.fits in absurd (omega (arith, long, fits))
+octets_one Is one octets a b (inr (inr p)) (inr (inl q)) = absurd (no_both octets p.0 q.0 p.1.read q.1.read)
+octets_one Is one octets a b (inr (inr p)) (inr (inr q)) =
+    one q.0 a b (subst (λ (n : Network). Is n a) (same_network octets p.0 q.0 p.1.read q.1.read) p.2) q.2

@@ -1,30 +1,16 @@
 -- A spot has one bound of each number, and so one first tightest, which exists where it has any.
-use Rattle.std.proofs.Common.{◌≡◌, ℕ, zero, suc, pos, ◌+◌, ◌*◌, ◌<◌, List, length, Option, Some, None, refl, sym, ap, subst, ◌∙◌, inl, inr, arith}
-use Rattle.std.specs.Prelude.{slice_get}
-use Rattle.std.proofs.lemmas.Int.{ints}
-use Rattle.std.proofs.lemmas.Option.{slice_get_within}
-use Rattle.lens_slack.proofs.Keeping.{Below, IsAt, next_tightest, none_below, tightest_of_all}
-use Rattle.lens_slack.specs.Bounds.{IsBoundAt, IsEnteringBound, begin_bound, entering_bound, found, gap_bound}
-use Rattle.lens_slack.specs.Keeping.{tighter_of}
-use Rattle.lens_slack.specs.Spots.{IsFoundAt, IsTightestOf, spot_at, spots_of}
-use Rattle.lens_slack.specs.Tightest.{ComesFirst, IsFirstTightest, IsTightestAt}
-use Rattle.lens_slack.specs.declared.spot.Finding.{Finding}
-use Rattle.lens_slack.specs.declared.spot.Measure.{Measure}
-use Rattle.lens_slack.specs.declared.spot.Spot.{Spot}
-use Rattle.lens_slack.specs.declared.spot.Spot.TheVariants as spots
-use Rattle.net_plan.proofs.Beta.{beta_is_unique}
-use Rattle.net_plan.proofs.Trees.{paths_are_unique}
-use Rattle.net_plan.specs.Bounds.{IsBeta, gamma_of}
-use Rattle.net_plan.specs.Paths.{IsTree}
-use Rattle.net_plan.specs.declared.ids.LinkId.{LinkId}
+use Rattle.std.proofs.Common.{◌*◌, ◌+◌, ◌<◌, ◌∙◌, ◌≡◌, List, None, Option, Some, ap, arith, inl, inr, length, pos, refl, subst, suc, sym, zero, ℕ}
+use Rattle.std.{proofs.lemmas.{Int.ints, Option.slice_get_within}, specs.Prelude.slice_get}
+use Rattle.net_plan.{proofs.{Beta.beta_is_unique, Trees.paths_are_unique}, specs.{Bounds.{IsBeta, gamma_of}, Paths.IsTree, declared.ids.LinkId.LinkId}}
 use Rattle.net_plan.specs.declared.network.Network.{Network}
-use Rattle.schedule_tables.proofs.EntryLemmas.{one_entry}
-use Rattle.schedule_tables.specs.Delays.{delay_on}
-use Rattle.schedule_tables.specs.Entries.{source_of}
-use Rattle.schedule_tables.specs.Windows.{window_end}
-use Rattle.schedule_tables.specs.declared.entry.Entry.{Entry}
+use Rattle.schedule_tables.{proofs.EntryLemmas.one_entry, specs.{Delays.delay_on, Entries.source_of, Windows.window_end, declared.entry.Entry.Entry}}
 use Rattle.tte_lemmas.proofs.Options.{one}
 use Rattle.tte_units.specs.Amount.{amount}
+use Rattle.lens_slack.proofs.Keeping.{Below, IsAt, next_tightest, none_below, tightest_of_all}
+use Rattle.lens_slack.specs.{Bounds.{IsBoundAt, IsEnteringBound, begin_bound, entering_bound, found, gap_bound}, Keeping.tighter_of}
+use Rattle.lens_slack.specs.{Spots.{IsFoundAt, IsTightestOf, spot_at, spots_of}, Tightest.{ComesFirst, IsFirstTightest, IsTightestAt}}
+use Rattle.lens_slack.specs.declared.spot.{Finding.Finding, Measure.Measure, Spot.Spot}
+use Rattle.lens_slack.specs.declared.spot.Spot.TheVariants as spots
 
 -- each number has one finding at most
 abbrev pub IsOneEach : (ℕ → Finding → Type 0) → Type 0

@@ -1,29 +1,19 @@
 -- The first measure that is short is of the rule that `check` refuses, and its first spot is at the place that is told.
-use Rattle.std.proofs.Common.{◌≡◌, ◌⊎◌, ℕ, ◌+◌, ◌*◌, ◌<◌, ◌≤◌, Some, sym, ap, subst, ◌∙◌, inl, inr, arith}
-use Rattle.std.specs.Prelude.{◌/◌}
-use Rattle.std.proofs.lemmas.Bool.{cases_lt}
+use Rattle.std.{proofs.{Common.{◌*◌, ◌+◌, ◌<◌, ◌∙◌, ◌≡◌, ◌≤◌, ◌⊎◌, Some, ap, arith, inl, inr, subst, sym, ℕ}, lemmas.Bool.cases_lt}, specs.Prelude.◌/◌}
 use Rattle.lens_forms.specs.Forms.{IsInequality}
-use Rattle.lens_slack.proofs.Accepting.{kept_enough, met_kept, rule_inequality, tightest_enough}
-use Rattle.lens_slack.proofs.Deciding.{bounds_decide}
-use Rattle.lens_slack.proofs.Numbers.{bound_spot, channel_number, path_number, spot_met}
-use Rattle.lens_slack.specs.Laws.{IsFirstShort, IsFirstShortSpot, KeepsOthers, SlackRefuses}
-use Rattle.lens_slack.specs.Lines.{spot_index}
-use Rattle.lens_slack.specs.Spots.{IsSpotAt, rule_of, spot_at}
-use Rattle.lens_slack.specs.Tightest.{IsEnough, IsTightestAt}
-use Rattle.lens_slack.specs.declared.spot.Finding.{Finding}
-use Rattle.lens_slack.specs.declared.spot.Measure.{Measure}
-use Rattle.lens_slack.specs.declared.spot.Measure.TheVariants as measures
-use Rattle.lens_slack.specs.declared.spot.Spot.{Spot}
-use Rattle.net_plan.proofs.Shape.{rules_give_trees}
-use Rattle.net_plan.specs.Paths.{IsTree}
-use Rattle.net_plan.specs.declared.network.Network.{Network}
+use Rattle.net_plan.{proofs.Shape.rules_give_trees, specs.{Paths.IsTree, declared.network.Network.Network}}
 use Rattle.pcf_values.specs.declared.channel.Channel.TheVariants.{A, B}
-use Rattle.schedule_checker.proofs.OneRefusal.{same_rule}
-use Rattle.schedule_checker.proofs.Trees.{tree_of}
-use Rattle.schedule_tables.specs.Numbers.{number_of}
-use Rattle.schedule_tables.specs.Rules.{IsFirstBroken, IsKeptAt, KeepsBelow}
-use Rattle.schedule_tables.specs.declared.rule.Rule.{Rule}
-use Rattle.schedule_tables.specs.declared.rule.Rule.TheVariants.{Limits, DevicesDiffer, LinksDiffer, CompressionMasters, Joints, Connections, Masters, Delays, Settling, Precision, Correction, ScheduleStart, WindowEnds, VlNamesDiffer, VlIdsDiffer, Periods, Senders, LinksOnce, Sources, Targets, Spacing, BothChannels, Forwarding, RowsOfDevice}
+use Rattle.schedule_checker.proofs.{OneRefusal.same_rule, Trees.tree_of}
+use Rattle.schedule_tables.specs.{Numbers.number_of, Rules.{IsFirstBroken, IsKeptAt, KeepsBelow}, declared.rule.Rule.Rule}
+use Rattle.schedule_tables.specs.declared.rule.Rule.TheVariants.{BothChannels, CompressionMasters, Connections, Correction, Delays, DevicesDiffer, Forwarding}
+use Rattle.schedule_tables.specs.declared.rule.Rule.TheVariants.{Joints, Limits, LinksDiffer, LinksOnce, Masters, Periods, Precision, RowsOfDevice}
+use Rattle.schedule_tables.specs.declared.rule.Rule.TheVariants.{ScheduleStart, Senders, Settling, Sources, Spacing, Targets, VlIdsDiffer, VlNamesDiffer}
+use Rattle.schedule_tables.specs.declared.rule.Rule.TheVariants.{WindowEnds}
+use Rattle.lens_slack.proofs.{Accepting.{kept_enough, met_kept, rule_inequality, tightest_enough}, Deciding.bounds_decide}
+use Rattle.lens_slack.proofs.Numbers.{bound_spot, channel_number, path_number, spot_met}
+use Rattle.lens_slack.specs.{Laws.{IsFirstShort, IsFirstShortSpot, KeepsOthers, SlackRefuses}, Lines.spot_index, Spots.{IsSpotAt, rule_of, spot_at}}
+use Rattle.lens_slack.specs.{Tightest.{IsEnough, IsTightestAt}, declared.spot.{Finding.Finding, Measure.Measure, Spot.Spot}}
+use Rattle.lens_slack.specs.declared.spot.Measure.TheVariants as measures
 
 inequality_or : (rule : Rule) → IsInequality rule ⊎ (IsInequality rule → ⊥)
 inequality_or Limits = inr (λ is. is)

@@ -1,29 +1,15 @@
 -- The spots that have one bound, and that of the path of a device, which has one or none.
-use Rattle.std.proofs.Common.{◌≡◌, ℕ, pos, ◌+◌, ◌*◌, List, Some, None, refl, sym, ap, subst, ◌∙◌, inl, inr, arith}
-use Rattle.std.proofs.lemmas.Int.{ints}
-use Rattle.lens_slack.proofs.Keeping.{Below, IsAt, next_tightest, none_below, only_one, tightest_of_all}
-use Rattle.lens_slack.specs.Bounds.{IsBoundAt, IsErrorsBound, IsPrecisionBound, calc_bound, correction_bound, end_bound, found}
-use Rattle.lens_slack.specs.Keeping.{tighter_of}
-use Rattle.lens_slack.specs.Tightest.{IsFirstTightest, IsTightestAt}
-use Rattle.lens_slack.specs.declared.spot.Finding.{Finding}
-use Rattle.lens_slack.specs.declared.spot.Spot.TheVariants as spots
-use Rattle.net_plan.proofs.Beta.{beta_is_unique}
-use Rattle.net_plan.proofs.Trees.{paths_are_unique}
-use Rattle.net_plan.specs.Bounds.{IsBeta, gamma_of}
-use Rattle.net_plan.specs.Paths.{IsPath, IsTree}
-use Rattle.net_plan.specs.Places.{IsDeviceOf}
-use Rattle.net_plan.specs.declared.ids.DeviceId.{DeviceId}
-use Rattle.net_plan.specs.declared.ids.LinkId.{LinkId}
-use Rattle.net_plan.specs.declared.ids.RowId.{RowId}
-use Rattle.net_plan.specs.declared.network.Network.{Network}
+use Rattle.std.proofs.{Common.{◌*◌, ◌+◌, ◌∙◌, ◌≡◌, List, None, Some, ap, arith, inl, inr, pos, refl, subst, sym, ℕ}, lemmas.Int.ints}
+use Rattle.net_plan.{proofs.{Beta.beta_is_unique, Trees.paths_are_unique}, specs.{Bounds.{IsBeta, gamma_of}, Paths.{IsPath, IsTree}, Places.IsDeviceOf}}
+use Rattle.net_plan.specs.declared.{ids.{DeviceId.DeviceId, LinkId.LinkId, RowId.RowId}, network.Network.Network}
 use Rattle.pcf_values.specs.declared.channel.Channel.{Channel}
 use Rattle.schedule_checker.specs.Timing.{errors_of}
-use Rattle.schedule_tables.proofs.EntryLemmas.{one_entry}
-use Rattle.schedule_tables.specs.Delays.{delay_on}
-use Rattle.schedule_tables.specs.Entries.{IsEntry, source_of}
-use Rattle.schedule_tables.specs.Windows.{window_end}
-use Rattle.schedule_tables.specs.declared.entry.Entry.{Entry}
+use Rattle.schedule_tables.{proofs.EntryLemmas.one_entry, specs.{Delays.delay_on, Entries.{IsEntry, source_of}, Windows.window_end, declared.entry.Entry.Entry}}
 use Rattle.tte_units.specs.Amount.{amount}
+use Rattle.lens_slack.proofs.Keeping.{Below, IsAt, next_tightest, none_below, only_one, tightest_of_all}
+use Rattle.lens_slack.specs.{Bounds.{IsBoundAt, IsErrorsBound, IsPrecisionBound, calc_bound, correction_bound, end_bound, found}, Keeping.tighter_of}
+use Rattle.lens_slack.specs.{Tightest.{IsFirstTightest, IsTightestAt}, declared.spot.Finding.Finding}
+use Rattle.lens_slack.specs.declared.spot.Spot.TheVariants as spots
 
 -- ---- numbers of the whole network
 

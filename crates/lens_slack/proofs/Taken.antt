@@ -1,20 +1,12 @@
 -- What was found by the first steps, with what is to be found by the others.
-use Rattle.std.specs.Prelude.{Option}
-use Rattle.std.proofs.Common.{◌≡◌, ℕ, zero, suc, ◌+◌, ◌<◌, ◌≤◌, length, drop, get_or, arith, List, [], ◌∷◌, ◌++◌, refl, sym, ap, subst, ◌∙◌, inl, inr, append_assoc}
-use Rattle.std.proofs.lemmas.List.{append-nil}
-use Rattle.lens_slack.specs.Finds.{AreFound, AreOf, some_found}
-use Rattle.lens_slack.specs.Spots.{spot_at}
-use Rattle.lens_slack.specs.Taking.{Takes}
-use Rattle.lens_slack.specs.Tightest.{IsTightestAt}
-use Rattle.lens_slack.specs.declared.spot.Measure.{Measure}
-use Rattle.lens_slack.specs.declared.measuring.Ending.{Ending}
-use Rattle.lens_slack.specs.declared.measuring.Ending.TheVariants.{Whole, Broken}
-use Rattle.lens_slack.specs.declared.spot.Finding.{Finding}
-use Rattle.lens_slack.specs.declared.step.Step.{Step}
-use Rattle.lens_slack.specs.declared.step.Step.TheVariants.{Judged, Measured, Listed}
+use Rattle.std.proofs.Common.{◌++◌, ◌+◌, ◌<◌, ◌∙◌, ◌∷◌, ◌≡◌, ◌≤◌, List, [], ap, append_assoc, arith, drop, get_or, inl, inr, length, refl, subst, suc, sym}
+use Rattle.std.{proofs.{Common.{zero, ℕ}, lemmas.List.append-nil}, specs.Prelude.Option}
 use Rattle.net_plan.specs.declared.network.Network.{Network}
 use Rattle.schedule_checker.specs.Judging.{plan_rule}
 use Rattle.schedule_tables.specs.declared.rule.Rule.{Rule}
+use Rattle.lens_slack.specs.{Finds.{AreFound, AreOf, some_found}, Spots.spot_at, Taking.Takes, Tightest.IsTightestAt, declared.measuring.Ending.Ending}
+use Rattle.lens_slack.specs.declared.{measuring.Ending.TheVariants.{Broken, Whole}, spot.{Finding.Finding, Measure.Measure}, step.Step.Step}
+use Rattle.lens_slack.specs.declared.step.Step.TheVariants.{Judged, Listed, Measured}
 
 -- these findings stand before those of the steps that are left
 abbrev pub StandBefore : Network → List Step → List Step → List Finding → Type 0

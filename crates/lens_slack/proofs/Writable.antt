@@ -1,29 +1,16 @@
 -- What is found names things of the network, so it has a line.
-use Rattle.std.proofs.Common.{◌≡◌, ℕ, zero, suc, ◌+◌, ◌<◌, ◌≤◌, List, [], ◌∷◌, arith, Bool, true, false, if◌then◌else◌, Option, Some, None, inl, inr, refl, sym, subst}
+use Rattle.std.proofs.Common.{if◌then◌else◌, ◌+◌, ◌<◌, ◌∷◌, ◌≡◌, ◌≤◌, Bool, List, None, Option, Some, [], arith, false, inl, inr, refl, subst, suc, sym, true}
+use Rattle.std.proofs.{Common.{zero, ℕ}, lemmas.{List.Elements.{All-append, All-cons, All-nil}, Option.slice_get_within}}
 use Rattle.std.specs.Prelude.{All, IsSomeAnd, length, nat_lt}
-use Rattle.std.proofs.lemmas.Option.{slice_get_within}
-use Rattle.std.proofs.lemmas.List.Elements.{All-append, All-cons, All-nil}
-use Rattle.lens_slack.specs.Finds.{AreFound, AreOf, some_found}
-use Rattle.lens_slack.specs.Bounds.{IsBoundAt, calc_bound, clear_time, gap_bound}
-use Rattle.lens_slack.specs.Spots.{IsSpotOf, IsTightestOf, spot_at, spots_of}
-use Rattle.lens_slack.specs.Tightest.{IsTightestAt}
-use Rattle.lens_slack.specs.Writing.{IsWritable}
-use Rattle.lens_slack.specs.declared.spot.Beside.TheVariants.{Behind, Before}
-use Rattle.lens_slack.specs.declared.spot.Finding.{Finding}
-use Rattle.lens_slack.specs.declared.measuring.Ending.{Ending}
-use Rattle.lens_slack.specs.declared.spot.Measure.{Measure}
-use Rattle.lens_slack.specs.declared.spot.Measure.TheVariants as measures
-use Rattle.lens_slack.specs.declared.spot.Spot.{Spot}
-use Rattle.lens_slack.specs.declared.step.Step.{Step}
-use Rattle.lens_slack.specs.declared.step.Step.TheVariants.{Judged, Measured, Listed}
-use Rattle.lens_slack.specs.declared.spot.Spot.TheVariants as spots
-use Rattle.net_plan.specs.Places.{device_at}
-use Rattle.net_plan.specs.declared.ids.DeviceId.{DeviceId}
-use Rattle.net_plan.specs.declared.ids.RowId.{RowId}
-use Rattle.net_plan.specs.declared.network.Network.{Network}
-use Rattle.net_plan.specs.declared.tables.Device.{Device}
+use Rattle.net_plan.specs.{Places.device_at, declared.{ids.{DeviceId.DeviceId, RowId.RowId}, network.Network.Network, tables.Device.Device}}
 use Rattle.schedule_tables.specs.declared.entry.Entry.{Entry}
 use Rattle.tte_units.specs.Amount.{amount}
+use Rattle.lens_slack.specs.{Bounds.{IsBoundAt, calc_bound, clear_time, gap_bound}, Finds.{AreFound, AreOf, some_found}}
+use Rattle.lens_slack.specs.{Spots.{IsSpotOf, IsTightestOf, spot_at, spots_of}, Tightest.IsTightestAt, Writing.IsWritable, declared.measuring.Ending.Ending}
+use Rattle.lens_slack.specs.declared.{spot.{Beside.TheVariants.{Before, Behind}, Finding.Finding, Measure.Measure, Spot.Spot}, step.Step.Step}
+use Rattle.lens_slack.specs.declared.step.Step.TheVariants.{Judged, Listed, Measured}
+use Rattle.lens_slack.specs.declared.spot.Measure.TheVariants as measures
+use Rattle.lens_slack.specs.declared.spot.Spot.TheVariants as spots
 
 as_writable : (network : Network) (f g : Finding) → f ≡ g → IsWritable network g → IsWritable network f
 as_writable network f g same writable = subst (IsWritable network) (sym same) writable

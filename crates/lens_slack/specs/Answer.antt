@@ -1,22 +1,16 @@
 -- What `slack` answers for the octets of a network file.
-use Rattle.std.specs.Prelude.{◌≡◌, ◌⊎◌, ℕ, ◌==◌, if◌then◌else◌, List, [], ◌∷◌, ◌++◌, map}
-use Rattle.lens_slack.specs.Finds.{IsFoundIn, shorts_of}
-use Rattle.lens_slack.specs.Lines.{finding_line, place_line, sum_line}
-use Rattle.lens_slack.specs.Steps.{all_steps, rule_steps}
-use Rattle.lens_slack.specs.declared.spot.Finding.{Finding}
-use Rattle.lens_slack.specs.declared.measuring.Ending.{Ending}
-use Rattle.lens_slack.specs.declared.measuring.Ending.TheVariants.{Whole, Broken}
-use Rattle.lens_slack.specs.declared.step.Step.{Step}
+use Rattle.std.specs.Prelude.{if◌then◌else◌, ◌++◌, ◌==◌, ◌∷◌, ◌≡◌, ◌⊎◌, List, [], map, ℕ}
 use Rattle.net_file.specs.declared.refusal.FileRefusal.{FileRefusal}
 use Rattle.net_plan.specs.declared.network.Network.{Network}
 use Rattle.schedule_checker.specs.declared.refusal.RuleBroken.{RuleBroken}
-use Rattle.schedule_tables.specs.Numbers.{number_of}
-use Rattle.schedule_tables.specs.declared.rule.Rule.{Rule}
-use Rattle.tte_forms.specs.Answering.{Answer}
+use Rattle.schedule_tables.specs.{Numbers.number_of, declared.rule.Rule.Rule}
+use Rattle.tte_forms.specs.{Answering.Answer, declared.status.Status.{Status, TheVariants.{Done, NetworkRefused}}}
 use Rattle.tte_forms.specs.networks.Accepting.{IsTooLong, MeansNetwork, MeansNoNetwork, refused_answer, too_long_answer}
 use Rattle.tte_forms.specs.networks.NetworkLine.{file_reason, network_refusal_line, rule_reason}
-use Rattle.tte_forms.specs.declared.status.Status.{Status}
-use Rattle.tte_forms.specs.declared.status.Status.TheVariants.{Done, NetworkRefused}
+use Rattle.lens_slack.specs.{Finds.{IsFoundIn, shorts_of}, Lines.{finding_line, place_line, sum_line}}
+use Rattle.lens_slack.specs.{Steps.{all_steps, rule_steps}, declared.measuring.Ending.Ending}
+use Rattle.lens_slack.specs.declared.{measuring.Ending.TheVariants.{Broken, Whole}, spot.Finding.Finding}
+use Rattle.lens_slack.specs.declared.step.Step.{Step}
 
 -- the status: done where nothing is broken and nothing is short
 abbrev pub ending_status : List Finding → Ending → Status
@@ -32,6 +26,13 @@ abbrev pub ending_lines : Network → List Finding → Ending → List (List ℕ
 ending_lines network fs Whole = sum_line (shorts_of fs) ∷ []
 ending_lines network fs (Broken rule place) =
     network_refusal_line (rule_reason (told_of rule place)) ∷ place_line network rule place ∷ []
+
+-- the answer for a network that breaks this rule first, at this place
+abbrev pub broken_answer : Network → Rule → ℕ → Answer
+broken_answer network rule place = record {
+  status = NetworkRefused;
+  lines = network_refusal_line (rule_reason (told_of rule place)) ∷ place_line network rule place ∷ [];
+}
 
 -- the status and the last lines
 abbrev pub ending_answer : Network → List Finding → Ending → Answer
@@ -51,17 +52,17 @@ pub record IsSlackOf (steps : List Step) (network : Network) (a : Answer) : Type
   pub are : IsFoundIn network steps findings ending
   pub is : a ≡ found_answer network findings ending
 
--- the answer for the octets of a network file
-abbrev pub IsFileAnswer : List Step → List ℕ → Answer → Type 0
-IsFileAnswer steps octets a =
+-- the answer for the octets of a network file, where that for a network is given, whether it keeps the rules or not
+abbrev pub IsFileAnswer : (Network → Answer → Type 0) → List ℕ → Answer → Type 0
+IsFileAnswer IsAnswerFor octets a =
     (IsTooLong octets × (a ≡ too_long_answer))
     ⊎ ((refusal : FileRefusal) × MeansNoNetwork octets refusal × (a ≡ refused_answer (file_reason refusal)))
-    ⊎ ((network : Network) × MeansNetwork octets network × IsSlackOf steps network a)
+    ⊎ ((network : Network) × MeansNetwork octets network × IsAnswerFor network a)
 
 -- the answer of `slack NETWORK`
 abbrev pub IsSlackAnswer : List ℕ → Answer → Type 0
-IsSlackAnswer octets a = IsFileAnswer all_steps octets a
+IsSlackAnswer octets a = IsFileAnswer (IsSlackOf all_steps) octets a
 
 -- the answer of `slack NETWORK RULE`
 abbrev pub IsSlackAnswerOf : Rule → List ℕ → Answer → Type 0
-IsSlackAnswerOf rule octets a = IsFileAnswer (rule_steps rule) octets a
+IsSlackAnswerOf rule octets a = IsFileAnswer (IsSlackOf (rule_steps rule)) octets a

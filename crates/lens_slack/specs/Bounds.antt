@@ -1,24 +1,14 @@
 -- What a network has where a rule bounds a number of it, and what the rule wants there at least.
-use Rattle.std.specs.Prelude.{◌≡◌, ◌≢◌, ◌⊎◌, ℕ, pos, ◌+◌, ◌*◌, ◌<◌, nat_lt, if◌then◌else◌, List, Some, slice_get}
-use Rattle.lens_slack.specs.declared.spot.Beside.TheVariants.{Nothing, Calc, Behind, Before}
-use Rattle.lens_slack.specs.declared.spot.Finding.{Finding}
+use Rattle.std.specs.Prelude.{if◌then◌else◌, ◌*◌, ◌+◌, ◌<◌, ◌≡◌, ◌≢◌, ◌⊎◌, List, Some, nat_lt, pos, slice_get, ℕ}
+use Rattle.net_plan.specs.{Bounds.{IsBeta, gamma_of}, Paths.IsPath, Places.IsDeviceOf, declared.ids.DeviceId.DeviceId}
+use Rattle.net_plan.specs.declared.{ids.{LinkId.LinkId, RowId.RowId}, network.Network.Network, tables.Link.Link}
+use Rattle.pcf_values.specs.declared.channel.Channel.{Channel}
+use Rattle.schedule_tables.specs.{Delays.{delay_on, pcf_port_time}, Entries.{IsEntry, source_of, target_of}}
+use Rattle.schedule_tables.specs.{Schedule.Coincide, Windows.{port_time, window_end}, declared.entry.Entry.Entry}
+use Rattle.tte_units.specs.Amount.{amount}
+use Rattle.lens_slack.specs.declared.spot.{Beside.TheVariants.{Before, Behind, Calc, Nothing}, Finding.Finding}
 use Rattle.lens_slack.specs.declared.spot.Spot.{Spot}
 use Rattle.lens_slack.specs.declared.spot.Spot.TheVariants as spots
-use Rattle.net_plan.specs.Bounds.{IsBeta, gamma_of}
-use Rattle.net_plan.specs.Paths.{IsPath}
-use Rattle.net_plan.specs.Places.{IsDeviceOf}
-use Rattle.net_plan.specs.declared.ids.DeviceId.{DeviceId}
-use Rattle.net_plan.specs.declared.ids.LinkId.{LinkId}
-use Rattle.net_plan.specs.declared.ids.RowId.{RowId}
-use Rattle.net_plan.specs.declared.network.Network.{Network}
-use Rattle.net_plan.specs.declared.tables.Link.{Link}
-use Rattle.pcf_values.specs.declared.channel.Channel.{Channel}
-use Rattle.schedule_tables.specs.Delays.{delay_on, pcf_port_time}
-use Rattle.schedule_tables.specs.Entries.{IsEntry, source_of, target_of}
-use Rattle.schedule_tables.specs.Schedule.{Coincide}
-use Rattle.schedule_tables.specs.Windows.{port_time, window_end}
-use Rattle.schedule_tables.specs.declared.entry.Entry.{Entry}
-use Rattle.tte_units.specs.Amount.{amount}
 
 -- at this spot the network has so much, and so much is wanted
 abbrev pub found : Spot → ℕ → ℕ → Finding
@@ -37,7 +27,8 @@ pub record IsPathBound (network : Network) (device : DeviceId) (channel : Channe
 pub record IsSettledBound (network : Network) (f : Finding) : Type 0 where
   pub beta : ℕ
   pub is_beta : IsBeta network (pos beta)
-  pub is : f ≡ found spots.Settled (amount network.settled) (8 * beta + 12 * gamma_of network + 40 * amount network.grain)
+  pub is : f ≡ found spots.Settled (amount network.settled) (8 * beta + 12 * gamma_of network + 40
+      * amount network.grain)
 
 -- the precision, and the spread of the starts with twice these errors
 pub record IsErrorsBound (network : Network) (f : Finding) : Type 0 where

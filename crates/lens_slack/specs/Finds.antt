@@ -1,19 +1,12 @@
 -- What is found of a network by steps, and how it ends.
-use Rattle.std.specs.Prelude.{◌≡◌, ◌⊎◌, ℕ, zero, suc, ◌+◌, ◌<◌, List, [], ◌∷◌, ◌++◌, Option, Some, None}
 use Rattle.std.specs.List.{count_by}
-use Rattle.lens_slack.specs.Spots.{IsTightestOf, spot_at, spots_of}
-use Rattle.lens_slack.specs.Tightest.{IsTightestAt, is_short}
-use Rattle.lens_slack.specs.declared.measuring.Ending.{Ending}
-use Rattle.lens_slack.specs.declared.measuring.Ending.TheVariants.{Whole, Broken}
-use Rattle.lens_slack.specs.declared.spot.Finding.{Finding}
-use Rattle.lens_slack.specs.declared.spot.Measure.{Measure}
-use Rattle.lens_slack.specs.declared.step.Step.{Step}
-use Rattle.lens_slack.specs.declared.step.Step.TheVariants.{Judged, Measured, Listed}
+use Rattle.std.specs.Prelude.{◌++◌, ◌+◌, ◌<◌, ◌∷◌, ◌≡◌, ◌⊎◌, List, None, Option, Some, [], suc, zero, ℕ}
 use Rattle.net_plan.specs.declared.network.Network.{Network}
 use Rattle.schedule_checker.specs.Judging.{BreaksAt, plan_rule}
-use Rattle.schedule_tables.specs.Numbers.{number_of}
-use Rattle.schedule_tables.specs.Rules.{IsFirstBroken, IsKept, KeepsBelow}
-use Rattle.schedule_tables.specs.declared.rule.Rule.{Rule}
+use Rattle.schedule_tables.specs.{Numbers.number_of, Rules.{IsFirstBroken, IsKept, KeepsBelow}, declared.rule.Rule.Rule}
+use Rattle.lens_slack.specs.{Spots.{IsTightestOf, spot_at, spots_of}, Tightest.{IsTightestAt, is_short}}
+use Rattle.lens_slack.specs.declared.{measuring.Ending.{Ending, TheVariants.{Broken, Whole}}, spot.Finding.Finding}
+use Rattle.lens_slack.specs.declared.{spot.Measure.Measure, step.Step.{Step, TheVariants.{Judged, Listed, Measured}}}
 
 -- how many of the findings are short
 abbrev pub shorts_of : List Finding → ℕ

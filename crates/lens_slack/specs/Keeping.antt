@@ -1,5 +1,5 @@
 -- The tightest of findings that come one after another.
-use Rattle.std.specs.Prelude.{◌+◌, ◌^◌, ◌≤◌, nat_lt, if◌then◌else◌, Option, Some, None}
+use Rattle.std.specs.Prelude.{if◌then◌else◌, ◌+◌, ◌^◌, ◌≤◌, None, Option, Some, nat_lt}
 use Rattle.lens_slack.specs.declared.spot.Finding.{Finding}
 
 -- the numbers of the finding are so small that two of them have a sum

@@ -1,24 +1,17 @@
 -- What `slack` has to do with the rules and with `check`.
-use Rattle.std.specs.Prelude.{◌≡◌, ◌↔◌, ℕ, ◌<◌, Some}
+use Rattle.std.specs.Prelude.{◌<◌, ◌↔◌, ◌≡◌, Some, ℕ}
 use Rattle.lens_forms.specs.Forms.{IsInequality}
-use Rattle.lens_slack.specs.Answer.{IsSlackOf}
-use Rattle.lens_slack.specs.Bounds.{IsBoundAt}
-use Rattle.lens_slack.specs.Lines.{spot_index}
-use Rattle.lens_slack.specs.Spots.{IsSpotAt, IsTightestOf, rule_of, spot_at, spots_of}
-use Rattle.lens_slack.specs.Steps.{all_steps}
-use Rattle.lens_slack.specs.Tightest.{IsEnough, IsTightestAt}
-use Rattle.lens_slack.specs.declared.spot.Finding.{Finding}
-use Rattle.lens_slack.specs.declared.spot.Measure.{Measure}
-use Rattle.lens_slack.specs.declared.spot.Spot.{Spot}
-use Rattle.net_plan.specs.Ranges.{IsInRange}
-use Rattle.net_plan.specs.declared.network.Network.{Network}
-use Rattle.schedule_tables.specs.Numbers.{number_of}
-use Rattle.schedule_tables.specs.Rules.{IsFirstBroken, IsKept, IsKeptAt, KeepsRules}
+use Rattle.net_plan.specs.{Ranges.IsInRange, declared.network.Network.Network}
+use Rattle.schedule_tables.specs.{Numbers.number_of, Rules.{IsFirstBroken, IsKept, IsKeptAt, KeepsRules}}
 use Rattle.schedule_tables.specs.declared.rule.Rule.{Rule}
-use Rattle.tte_forms.specs.Answering.{Answer}
-use Rattle.tte_forms.specs.declared.status.Status.TheVariants.{Done}
+use Rattle.tte_forms.specs.{Answering.Answer, declared.status.Status.TheVariants.Done}
+use Rattle.lens_slack.specs.{Answer.IsSlackOf, Bounds.IsBoundAt, Lines.spot_index}
+use Rattle.lens_slack.specs.{Spots.{IsSpotAt, IsTightestOf, rule_of, spot_at, spots_of}, Steps.all_steps}
+use Rattle.lens_slack.specs.{Tightest.{IsEnough, IsTightestAt}, declared.spot.{Finding.Finding, Measure.Measure}}
+use Rattle.lens_slack.specs.declared.spot.Spot.{Spot}
 
--- a rule that is an inequality is kept at a place exactly where at each of its spots there the network has what is wanted
+-- a rule that is an inequality is kept at a place exactly where at each of its spots there the network has what is
+-- wanted
 abbrev pub BoundsDecide : Type 0
 BoundsDecide =
     (network : Network) (rule : Rule) (place : ℕ) → IsInequality rule

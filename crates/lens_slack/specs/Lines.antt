@@ -1,22 +1,20 @@
 -- The lines that `slack` writes.
-use Rattle.std.specs.Prelude.{ℕ, ◌-◌, ◌++◌, nat_lt, if◌then◌else◌, ◌==◌, List, [], codes, slice_get}
-use Rattle.std.specs.Fmt.{decimal}
-use Rattle.std.specs.Option.{option_map_or}
-use Rattle.lens_slack.specs.Spots.{device_of}
-use Rattle.lens_slack.specs.declared.spot.Beside.{Beside}
-use Rattle.lens_slack.specs.declared.spot.Beside.TheVariants.{Calc, Behind, Before}
-use Rattle.lens_slack.specs.declared.spot.Finding.{Finding}
-use Rattle.lens_slack.specs.declared.spot.Spot.{Spot}
-use Rattle.lens_slack.specs.declared.spot.Spot.TheVariants as spots
-use Rattle.net_plan.specs.Belonging.{device_name, link_name, vl_name}
-use Rattle.net_plan.specs.declared.ids.RowId.{RowId}
+use Rattle.std.specs.{Fmt.decimal, Option.option_map_or}
+use Rattle.std.specs.Prelude.{if◌then◌else◌, ◌++◌, ◌-◌, ◌==◌, List, [], codes, nat_lt, slice_get, ℕ}
+use Rattle.net_plan.specs.{Belonging.{device_name, link_name, vl_name}, declared.ids.RowId.RowId}
 use Rattle.net_plan.specs.declared.network.Network.{Network}
-use Rattle.pcf_values.specs.declared.channel.Channel.{Channel}
-use Rattle.pcf_values.specs.declared.channel.Channel.TheVariants.{A, B}
-use Rattle.schedule_tables.specs.Numbers.{number_of}
-use Rattle.schedule_tables.specs.declared.rule.Rule.{Rule}
-use Rattle.schedule_tables.specs.declared.rule.Rule.TheVariants.{Limits, DevicesDiffer, LinksDiffer, CompressionMasters, Joints, Connections, Masters, Delays, Settling, Precision, Correction, ScheduleStart, WindowEnds, VlNamesDiffer, VlIdsDiffer, Periods, Senders, LinksOnce, Sources, Targets, Spacing, BothChannels, Forwarding, RowsOfDevice}
+use Rattle.pcf_values.specs.declared.channel.Channel.{Channel, TheVariants.{A, B}}
+use Rattle.schedule_tables.specs.{Numbers.number_of, declared.rule.Rule.Rule}
+use Rattle.schedule_tables.specs.declared.rule.Rule.TheVariants.{BothChannels, CompressionMasters, Connections}
+use Rattle.schedule_tables.specs.declared.rule.Rule.TheVariants.{Correction, Delays, DevicesDiffer, Forwarding, Joints}
+use Rattle.schedule_tables.specs.declared.rule.Rule.TheVariants.{Limits, LinksDiffer, LinksOnce, Masters, Periods}
+use Rattle.schedule_tables.specs.declared.rule.Rule.TheVariants.{Precision, RowsOfDevice, ScheduleStart, Senders}
+use Rattle.schedule_tables.specs.declared.rule.Rule.TheVariants.{Settling, Sources, Spacing, Targets, VlIdsDiffer}
+use Rattle.schedule_tables.specs.declared.rule.Rule.TheVariants.{VlNamesDiffer, WindowEnds}
 use Rattle.trace_text.specs.EventWords.{way_text}
+use Rattle.lens_slack.specs.{Spots.device_of, declared.spot.Beside.{Beside, TheVariants.{Before, Behind, Calc}}}
+use Rattle.lens_slack.specs.declared.spot.{Finding.Finding, Spot.Spot}
+use Rattle.lens_slack.specs.declared.spot.Spot.TheVariants as spots
 
 -- the name of a channel
 abbrev pub channel_text : Channel → List ℕ

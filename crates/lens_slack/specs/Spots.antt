@@ -1,18 +1,14 @@
 -- Which spots a rule bounds, and in which order they are looked at.
-use Rattle.std.specs.Prelude.{◌≡◌, ◌⊎◌, ℕ, ◌*◌, ◌/◌, ◌%◌, ◌<◌, ◌==◌, if◌then◌else◌, List, [], ◌∷◌, length, Option, Some}
-use Rattle.lens_slack.specs.Tightest.{IsFirstTightest, IsTightestAt}
-use Rattle.lens_slack.specs.declared.spot.Finding.{Finding}
-use Rattle.lens_slack.specs.declared.spot.Measure.{Measure}
-use Rattle.lens_slack.specs.declared.spot.Measure.TheVariants as measures
-use Rattle.lens_slack.specs.declared.spot.Spot.{Spot}
-use Rattle.lens_slack.specs.declared.spot.Spot.TheVariants as spots
-use Rattle.net_plan.specs.declared.ids.DeviceId.{DeviceId}
-use Rattle.net_plan.specs.declared.ids.RowId.{RowId}
-use Rattle.net_plan.specs.declared.network.Network.{Network}
-use Rattle.pcf_values.specs.declared.channel.Channel.{Channel}
-use Rattle.pcf_values.specs.declared.channel.Channel.TheVariants.{A, B}
+use Rattle.std.specs.Prelude.{if◌then◌else◌, ◌%◌, ◌*◌, ◌/◌, ◌<◌, ◌==◌, ◌∷◌, ◌≡◌, ◌⊎◌, List, Option, Some, [], length, ℕ}
+use Rattle.net_plan.specs.declared.{ids.{DeviceId.DeviceId, RowId.RowId}, network.Network.Network}
+use Rattle.pcf_values.specs.declared.channel.Channel.{Channel, TheVariants.{A, B}}
 use Rattle.schedule_tables.specs.declared.rule.Rule.{Rule}
-use Rattle.schedule_tables.specs.declared.rule.Rule.TheVariants.{Delays, Settling, Precision, Correction, ScheduleStart, WindowEnds, Spacing, Forwarding}
+use Rattle.schedule_tables.specs.declared.rule.Rule.TheVariants.{Correction, Delays, Forwarding, Precision}
+use Rattle.schedule_tables.specs.declared.rule.Rule.TheVariants.{ScheduleStart, Settling, Spacing, WindowEnds}
+use Rattle.lens_slack.specs.{Tightest.{IsFirstTightest, IsTightestAt}, declared.spot.{Finding.Finding, Measure.Measure}}
+use Rattle.lens_slack.specs.declared.spot.Spot.{Spot}
+use Rattle.lens_slack.specs.declared.spot.Measure.TheVariants as measures
+use Rattle.lens_slack.specs.declared.spot.Spot.TheVariants as spots
 
 -- the rule whose bounds these are
 abbrev pub rule_of : Measure → Rule

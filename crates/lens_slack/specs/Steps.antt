@@ -1,11 +1,13 @@
 -- The order in which the rules behind those of the shape are looked at.
-use Rattle.std.specs.Prelude.{List, [], ◌∷◌, ◌++◌, map}
-use Rattle.lens_slack.specs.Spots.{measures_of}
-use Rattle.lens_slack.specs.declared.spot.Measure.TheVariants.{Paths, Settled, Precision, Correction, Begin, End, Windows, Gaps, Comings}
-use Rattle.lens_slack.specs.declared.step.Step.{Step}
-use Rattle.lens_slack.specs.declared.step.Step.TheVariants.{Judged, Measured, Listed}
-use Rattle.schedule_checker.specs.declared.parts.PlanRule.TheVariants.{VlNamesDiffer, VlIdsDiffer, Periods, Senders, LinksOnce, Sources, Targets, BothChannels, RowsOfDevice}
+use Rattle.std.specs.Prelude.{◌++◌, ◌∷◌, List, [], map}
+use Rattle.schedule_checker.specs.declared.parts.PlanRule.TheVariants.{BothChannels, LinksOnce, Periods, RowsOfDevice}
+use Rattle.schedule_checker.specs.declared.parts.PlanRule.TheVariants.{Senders, Sources, Targets, VlIdsDiffer}
+use Rattle.schedule_checker.specs.declared.parts.PlanRule.TheVariants.{VlNamesDiffer}
 use Rattle.schedule_tables.specs.declared.rule.Rule.{Rule}
+use Rattle.lens_slack.specs.Spots.{measures_of}
+use Rattle.lens_slack.specs.declared.spot.Measure.TheVariants.{Begin, Comings, Correction, End, Gaps, Paths, Precision}
+use Rattle.lens_slack.specs.declared.{spot.Measure.TheVariants.{Settled, Windows}, step.Step.Step}
+use Rattle.lens_slack.specs.declared.step.Step.TheVariants.{Judged, Listed, Measured}
 use Rattle.schedule_tables.specs.declared.rule.Rule.TheVariants as rules
 
 -- the rules that the inequalities of rows suppose

@@ -1,18 +1,11 @@
 -- What a step adds to what was found.
-use Rattle.std.specs.Prelude.{◌≡◌, List, ◌++◌}
-use Rattle.lens_slack.specs.Finds.{AreFound, some_found}
-use Rattle.lens_slack.specs.Spots.{IsTightestOf, spots_of}
-use Rattle.lens_slack.specs.declared.measuring.Ending.{Ending}
-use Rattle.lens_slack.specs.declared.measuring.Ending.TheVariants.{Whole, Broken}
-use Rattle.lens_slack.specs.declared.spot.Finding.{Finding}
-use Rattle.lens_slack.specs.declared.spot.Measure.{Measure}
-use Rattle.lens_slack.specs.declared.step.Step.{Step}
-use Rattle.lens_slack.specs.declared.step.Step.TheVariants.{Judged, Measured, Listed}
+use Rattle.std.specs.Prelude.{◌++◌, ◌≡◌, List, Option}
 use Rattle.net_plan.specs.declared.network.Network.{Network}
 use Rattle.schedule_checker.specs.Judging.{BreaksAt, plan_rule}
-use Rattle.schedule_tables.specs.Rules.{IsKept}
-use Rattle.schedule_tables.specs.declared.rule.Rule.{Rule}
-use Rattle.std.specs.Prelude.{Option}
+use Rattle.schedule_tables.specs.{Rules.IsKept, declared.rule.Rule.Rule}
+use Rattle.lens_slack.specs.{Finds.{AreFound, some_found}, Spots.{IsTightestOf, spots_of}}
+use Rattle.lens_slack.specs.declared.{measuring.Ending.{Ending, TheVariants.{Broken, Whole}}, spot.Finding.Finding}
+use Rattle.lens_slack.specs.declared.{spot.Measure.Measure, step.Step.{Step, TheVariants.{Judged, Listed, Measured}}}
 
 -- the rule is kept where it goes on, and otherwise it is broken first at the place that is told
 abbrev pub Judges : Network → Rule → Ending → Type 0

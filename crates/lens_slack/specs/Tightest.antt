@@ -1,9 +1,7 @@
 -- Which of several findings has the least room.
-use Rattle.std.specs.Prelude.{◌≡◌, ◌⊎◌, ℕ, ◌+◌, ◌<◌, ◌≤◌, nat_lt, Bool, Option, Some, None}
-use Rattle.lens_slack.specs.Bounds.{IsBoundAt}
-use Rattle.lens_slack.specs.declared.spot.Finding.{Finding}
-use Rattle.lens_slack.specs.declared.spot.Spot.{Spot}
+use Rattle.std.specs.Prelude.{◌+◌, ◌<◌, ◌≡◌, ◌≤◌, ◌⊎◌, Bool, None, Option, Some, nat_lt, ℕ}
 use Rattle.net_plan.specs.declared.network.Network.{Network}
+use Rattle.lens_slack.specs.{Bounds.IsBoundAt, declared.spot.{Finding.Finding, Spot.Spot}}
 
 -- the network has what is wanted
 abbrev pub IsEnough : Finding → Type 0

@@ -1,15 +1,11 @@
 -- Which findings and places have a line: those that name what the network has.
-use Rattle.std.specs.Prelude.{ℕ, ◌<◌, length}
-use Rattle.lens_slack.specs.declared.measuring.Ending.{Ending}
-use Rattle.lens_slack.specs.declared.measuring.Ending.TheVariants.{Whole, Broken}
-use Rattle.lens_slack.specs.declared.spot.Beside.{Beside}
-use Rattle.lens_slack.specs.declared.spot.Beside.TheVariants.{Behind, Before}
-use Rattle.lens_slack.specs.declared.spot.Finding.{Finding}
-use Rattle.lens_slack.specs.declared.spot.Spot.{Spot}
-use Rattle.lens_slack.specs.declared.spot.Spot.TheVariants as spots
+use Rattle.std.specs.Prelude.{◌<◌, length, ℕ}
 use Rattle.net_plan.specs.declared.network.Network.{Network}
 use Rattle.schedule_checker.specs.Judging.{places_of}
 use Rattle.schedule_tables.specs.declared.rule.Rule.{Rule}
+use Rattle.lens_slack.specs.declared.{measuring.Ending.{Ending, TheVariants.{Broken, Whole}}, spot.Beside.Beside}
+use Rattle.lens_slack.specs.declared.spot.{Beside.TheVariants.{Before, Behind}, Finding.Finding, Spot.Spot}
+use Rattle.lens_slack.specs.declared.spot.Spot.TheVariants as spots
 
 -- the device or the row of the spot is one of the network's
 abbrev pub HasSpot : Network → Spot → Type 0

@@ -1,17 +1,12 @@
 //! The tightest bound at each spot.
-ghost use Rattle.std.specs.Prelude.{◌≡◌, ◌≢◌, ◌<◌, ◌≤◌, ◌^◌, ◌↔◌, ℕ, pos, IfSome, IsTrue, MatchOption, Some, length};
-ghost use Rattle.lens_slack.specs.Bounds.{AreOfPort, EntersSource, IsErrorsBound, begin_bound, calc_bound, clear_time, correction_bound, end_bound, entering_bound, found, gap_bound};
-ghost use Rattle.lens_slack.specs.Keeping.{IsSmall};
-ghost use Rattle.lens_slack.specs.Spots.{IsSpotOf};
-ghost use Rattle.lens_slack.specs.Tightest.{IsTightestAt};
+ghost use Rattle.std.specs.Prelude.{◌<◌, ◌^◌, ◌↔◌, ◌≡◌, ◌≢◌, ◌≤◌, IfSome, IsTrue, MatchOption, Some, length, pos, ℕ};
+ghost use Rattle.net_plan.specs.{Bounds.IsBeta, Paths.IsTree, Ranges.IsInRange};
+ghost use Rattle.schedule_checker.specs.{Judging.IsPlan, Timing.errors_of};
+ghost use Rattle.schedule_tables.specs.{Entries.{IsEntry, IsEntryInRange, source_of}, Schedule.Coincide};
+ghost use Rattle.lens_slack.specs.Bounds.{AreOfPort, EntersSource, IsErrorsBound, begin_bound, calc_bound, clear_time};
+ghost use Rattle.lens_slack.specs.Bounds.{correction_bound, end_bound, entering_bound, found, gap_bound};
+ghost use Rattle.lens_slack.specs.{Keeping.IsSmall, Spots.IsSpotOf, Tightest.IsTightestAt};
 ghost use Rattle.lens_slack.specs.declared.spot.Spot.TheVariants as spots;
-ghost use Rattle.net_plan.specs.Bounds.{IsBeta};
-ghost use Rattle.net_plan.specs.Paths.{IsTree};
-ghost use Rattle.net_plan.specs.Ranges.{IsInRange};
-ghost use Rattle.schedule_checker.specs.Judging.{IsPlan};
-ghost use Rattle.schedule_checker.specs.Timing.{errors_of};
-ghost use Rattle.schedule_tables.specs.Entries.{IsEntry, IsEntryInRange, source_of};
-ghost use Rattle.schedule_tables.specs.Schedule.{Coincide};
 
 use crate::tightest::tighter_of;
 use crate::{Beside, Finding, Spot};
@@ -275,8 +270,8 @@ fn clear_time(network: &Network, entry: &Entry) -> u64
     entry.row.offset.amount() + entry.port_time().amount() + network.gamma().amount()
 }
 
-/// The row's offset, and where the schedule begins, if it leaves its sender; and else the place behind the windows of the
-/// rows that enter its source.
+/// The row's offset, and where the schedule begins, if it leaves its sender; and else the place behind the windows of
+/// the rows that enter its source.
 fn coming_bound(network: &Network, row: RowId) -> Option<Finding>
     requires range { IsInRange network.now }
     requires row { row.0 < length network.now.row }

@@ -11,5 +11,6 @@ mod step;
 mod tightest;
 
 pub use laws::slack_law;
-pub use slacking::{slack_of_network, slack_of_rule};
+pub use lines::make_finding_line;
+pub use slacking::{put_broken, slack_of_network, slack_of_rule};
 pub use spot::{Beside, Finding, Measure, Spot};

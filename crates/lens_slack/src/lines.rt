@@ -1,8 +1,9 @@
 //! The lines of what was found.
-ghost use Rattle.std.specs.Prelude.{◌≡◌, ◌<◌, ◌≤◌, ◌+◌, ◌++◌, length};
-ghost use Rattle.lens_slack.specs.Lines.{channel_text, demand_text, finding_line, limit_text, next_text, place_line, place_text, rest_text, row_text, spot_index, spot_rule, spot_text, sum_line, want_text, where_text};
-ghost use Rattle.lens_slack.specs.Writing.{HasPlace, HasSpot, IsNextOf};
+ghost use Rattle.std.specs.Prelude.{◌++◌, ◌+◌, ◌<◌, ◌≡◌, ◌≤◌, length};
 ghost use Rattle.net_plan.specs.Ranges.{IsInRange};
+ghost use Rattle.lens_slack.specs.Lines.{channel_text, demand_text, finding_line, limit_text, next_text, place_line};
+ghost use Rattle.lens_slack.specs.Lines.{place_text, rest_text, row_text, spot_index, spot_rule, spot_text, sum_line};
+ghost use Rattle.lens_slack.specs.{Lines.{want_text, where_text}, Writing.{HasPlace, HasSpot, IsNextOf}};
 
 use crate::{Beside, Finding, Spot};
 use net_plan::{DeviceId, LinkId, Network, RowId, VlId};
@@ -155,7 +156,7 @@ fn push_rest(line: &mut LineText, finding: &Finding)
 
 /// Makes the line of a finding.
 #[tactic(auto, unfolding(crate::specs::Lines::finding_line))]
-pub(crate) fn make_finding_line(line: &mut LineText, network: &Network, finding: &Finding)
+pub fn make_finding_line(line: &mut LineText, network: &Network, finding: &Finding)
     requires range { IsInRange network.now }
     requires spot { HasSpot network.now finding.now.spot }
     requires next { IsNextOf network.now finding.now.beside }

@@ -1,11 +1,10 @@
 //! What is found of a network, step by step.
-ghost use Rattle.std.specs.Prelude.{◌≡◌, ◌<◌, ◌++◌, All, IfOk, OnOk};
-ghost use Rattle.lens_slack.specs.Finds.{AreOf, IsFoundIn, some_found};
-ghost use Rattle.lens_slack.specs.Spots.{IsSpotOf, IsTightestOf, channel_of, spot_at, spots_of};
-ghost use Rattle.lens_slack.specs.Taking.{Judges, Pushes, Takes};
-ghost use Rattle.lens_slack.specs.Writing.{HasEndingPlace, IsWritable};
+ghost use Rattle.std.specs.Prelude.{◌++◌, ◌<◌, ◌≡◌, All, IfOk, OnOk};
 ghost use Rattle.net_plan.specs.Ranges.{IsInRange};
 ghost use Rattle.schedule_checker.specs.Judging.{IsPlan, plan_rule};
+ghost use Rattle.lens_slack.specs.Finds.{AreOf, IsFoundIn, some_found};
+ghost use Rattle.lens_slack.specs.Spots.{IsSpotOf, IsTightestOf, channel_of, spot_at, spots_of};
+ghost use Rattle.lens_slack.specs.{Taking.{Judges, Pushes, Takes}, Writing.{HasEndingPlace, IsWritable}};
 
 use crate::bounds::tightest_at;
 use crate::step::Step;

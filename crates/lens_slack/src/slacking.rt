@@ -1,15 +1,13 @@
 ghost use Rattle.std.specs.Prelude.{◌≡◌, ◌≢◌, All, List};
 ghost use Rattle.lens_forms.specs.Forms.{IsInequality};
-ghost use Rattle.lens_slack.specs.Answer.{IsFileAnswer, IsSlackAnswer, IsSlackAnswerOf, IsSlackOf, ending_answer, ending_status, found_answer, told_of};
-ghost use Rattle.lens_slack.specs.Finds.{shorts_of};
-ghost use Rattle.lens_slack.specs.Writing.{HasEndingPlace, IsWritable};
-ghost use Rattle.lens_slack.specs.declared.spot.Finding.{Finding as FindingValue};
 ghost use Rattle.net_plan.specs.Ranges.{IsInRange};
 ghost use Rattle.tte_forms.specs.Answering.{AnswersOne, Gives, GivesAnswer};
-ghost use Rattle.tte_forms.specs.Faults.{HasCause, IsWanted, PutFailed, ReadFailed};
-ghost use Rattle.tte_forms.specs.Putting.{Over};
-ghost use Rattle.tte_forms.specs.networks.Checking.{IsCheckStatus};
-ghost use Rattle.tte_forms.specs.networks.NetworkLine.{network_refusal_line, rule_reason};
+ghost use Rattle.tte_forms.specs.{Faults.{HasCause, IsWanted, PutFailed, ReadFailed}, Putting.Over};
+ghost use Rattle.tte_forms.specs.networks.{Checking.IsCheckStatus, NetworkLine.{network_refusal_line, rule_reason}};
+ghost use Rattle.lens_slack.specs.Answer.{IsFileAnswer, IsSlackAnswer, IsSlackAnswerOf, IsSlackOf, broken_answer};
+ghost use Rattle.lens_slack.specs.{Answer.{ending_answer, ending_status, found_answer, told_of}, Finds.shorts_of};
+ghost use Rattle.lens_slack.specs.Writing.{HasEndingPlace, HasPlace, IsWritable};
+ghost use Rattle.lens_slack.specs.declared.spot.Finding.{Finding as FindingValue};
 
 use crate::Finding;
 use crate::lines::{make_finding_line, make_place_line, make_sum_line};
@@ -22,8 +20,8 @@ use std::alloc::Global;
 use tte_forms::{Status, make_rule_line, put_last, put_no_network, read_unjudged};
 use tte_io::{LineText, Sink, Source};
 
-/// Tells of the network of a file, for each rule that is an inequality, what it has at its tightest place, what the rule
-/// wants there, and the room that is left or what is short.
+/// Tells of the network of a file, for each rule that is an inequality, what it has at its tightest place, what the
+/// rule wants there, and the room that is left or what is short.
 ///
 /// `slack_law` says that both are the sides of the rule, and that short is what `check` refuses.
 pub fn slack_of_network<A: Source, K: Sink>(alloc: Global, source: &mut A, out: &mut K) -> Status
@@ -59,7 +57,8 @@ fn slack_by<A: Source, K: Sink>(
     steps: &[Step],
     out: &mut K,
 ) -> Status
-    ensures general { Over K.Sink out.old out.new (AnswersOne (IsFileAnswer steps.now) (A.left source.old) result) }
+    ensures general { Over K.Sink out.old out.new
+        (AnswersOne (IsFileAnswer (IsSlackOf steps.now)) (A.left source.old) result) }
     ensures statuses { IsCheckStatus result }
     ensures faults { HasCause result (ReadFailed A.Source source.old source.new × (out.new ≡ out.old))
         (PutFailed K.Sink out.old out.new) }
@@ -127,16 +126,25 @@ fn put_ending<K: Sink>(
             make_sum_line(line, shorts);
             put_last(line.as_slice(), sum_status(shorts), out)
         }
-        Ending::Broken(rule, place) => {
-            make_broken_line(line, rule, place);
-            match out.put(line.as_slice()) {
-                Ok(()) => (),
-                Err(_) => return Status::WriteFault,
-            }
-            make_place_line(line, network, rule, place);
-            put_last(line.as_slice(), Status::NetworkRefused, out)
-        }
+        Ending::Broken(rule, place) => put_broken(network, rule, place, out),
     }
+}
+
+/// Puts the line of `check` for the rule, first broken at the place, and what its index means, and passes all on.
+pub fn put_broken<K: Sink>(network: &Network, rule: Rule, place: u32, out: &mut K) -> Status
+    requires range { IsInRange network.now }
+    requires place { HasPlace network.now rule place }
+    ensures gives { Over K.Sink out.old out.new (Gives (broken_answer network.now rule place) result) }
+    ensures status { IsWanted Status.NetworkRefused result (PutFailed K.Sink out.old out.new) }
+{
+    let mut line = LineText::new();
+    make_broken_line(&mut line, rule, place);
+    match out.put(line.as_slice()) {
+        Ok(()) => (),
+        Err(_) => return Status::WriteFault,
+    }
+    make_place_line(&mut line, network, rule, place);
+    put_last(line.as_slice(), Status::NetworkRefused, out)
 }
 
 /// The status where so many lines are short.

@@ -4,12 +4,16 @@ use lens_forms::{Form, read_form};
 use schedule_tables::Rule;
 use std::test::Fail;
 
-const USAGE: &str = "usage: lens slack NETWORK [RULE] | events NETWORK SEED CYCLES\n";
+const USAGE: &str =
+    "usage: lens slack NETWORK [RULE] | least NETWORK | events NETWORK SEED CYCLES\n";
 
 const NO_FORMS: &[&[&str]] = &[
     &[],
     &["events"],
     &["slack"],
+    &["least"],
+    &["least", "a", "8"],
+    &["Least", "a"],
     // Rules that are no inequalities, and what is no rule.
     &["slack", "a", "7"],
     &["slack", "a", "14"],
@@ -91,6 +95,13 @@ fn words_of_slack_are_read(rt: HostRuntime) -> Result<(), Fail> {
         let words = words_of(rt.alloc(), &["slack", "a", number])?;
         assert!(rt; read_form(&words) == Some(Form::SlackOf(*rule)));
     }
+    Ok(())
+}
+
+#[test]
+fn words_of_least_are_read(rt: HostRuntime) -> Result<(), Fail> {
+    let words = words_of(rt.alloc(), &["least", "a"])?;
+    assert!(rt; read_form(&words) == Some(Form::Least));
     Ok(())
 }
 

@@ -1,5 +1,5 @@
-//! Tests of the program `lens`: what is no form, what rules leave and want of networks, the events of storms, and the
-//! run over them.
+//! Tests of the program `lens`: what is no form, what rules leave and want of networks, the least numbers that they
+//! admit, the events of storms, and the run over them.
 #![tactic(auto)]
 
 #[cfg(test)]
@@ -8,6 +8,8 @@ mod cases;
 mod eventful;
 #[cfg(test)]
 mod forms;
+#[cfg(test)]
+mod least;
 #[cfg(test)]
 mod slack;
 #[cfg(test)]

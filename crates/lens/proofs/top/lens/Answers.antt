@@ -1,10 +1,7 @@
-use Rattle.std.proofs.Common.{◌≡◌, Some, None, rules}
+use Rattle.std.proofs.Common.{◌≡◌, None, Some, rules}
+use Rattle.lens_forms.specs.{Forms.form_of, declared.form.Form.TheVariants.{Events, Least, Slack, SlackOf}}
+use Rattle.tte_forms.{proofs.Facts.no_usage, specs.{Putting.shown_by, networks.Checking.IsCheckStatus}}
 use Rattle.lens.proofs.TopAnswers.{words_as}
-use Rattle.lens_forms.specs.Forms.{form_of}
-use Rattle.lens_forms.specs.declared.form.Form.TheVariants.{Slack, SlackOf, Events}
-use Rattle.tte_forms.proofs.Facts.{no_usage}
-use Rattle.tte_forms.specs.Putting.{shown_by}
-use Rattle.tte_forms.specs.networks.Checking.{IsCheckStatus}
 use Rattle.lens.proofs.top.lens.Goals as goal
 
 pub returns-in-Some-Slack-clause-general : goal.returns-in-Some-Slack-clause-general
@@ -20,6 +17,13 @@ returns-in-Some-SlackOf-clause-general g c =
     let shown = shown_by g.K.Sink in
     words_as form (g.A.Source.left c.args.network.now) c.slack_of_rule.result (shown c.args.out.now) (shown c.slack_of_rule.new.out)
     (no_usage IsCheckStatus c.slack_of_rule.result (λ none. none) c.slack_of_rule.ensures.statuses, c.slack_of_rule.ensures.general)
+
+pub returns-in-Some-Least-clause-general : goal.returns-in-Some-Least-clause-general
+returns-in-Some-Least-clause-general g c =
+    let form : Some Least ≡ form_of c.args.words.now = search rules in
+    let shown = shown_by g.K.Sink in
+    words_as form (g.A.Source.left c.args.network.now) c.least_of_network.result (shown c.args.out.now) (shown c.least_of_network.new.out)
+    (no_usage IsCheckStatus c.least_of_network.result (λ none. none) c.least_of_network.ensures.statuses, c.least_of_network.ensures.general)
 
 pub returns-in-Some-Events-clause-general : goal.returns-in-Some-Events-clause-general
 returns-in-Some-Events-clause-general g c =

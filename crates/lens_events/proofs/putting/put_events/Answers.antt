@@ -1,13 +1,10 @@
-use Rattle.std.proofs.Common.{◌∙◌, refl, subst, sym}
-use Rattle.std.specs.Io.KnownBytes.{Appends}
-use Rattle.lens_events.proofs.PutLines.{puts_all, puts_fail, puts_more, puts_none}
-use Rattle.net_plan.specs.Belonging.{IsOfNetwork}
-use Rattle.net_plan.specs.declared.network.Network.{Network}
+use Rattle.std.{proofs.Common.{◌∙◌, refl, subst, sym}, specs.Io.KnownBytes.Appends}
+use Rattle.net_plan.specs.{Belonging.IsOfNetwork, declared.network.Network.Network}
 use Rattle.trace_text.specs.EventLine.{event_line}
 use Rattle.tte_forms.specs.Putting.{shown_by}
 use Rattle.tte_io.specs.Told.{AppendsFront}
-use Rattle.tte_storms.proofs.Existing.{IsStormy}
-use Rattle.tte_storms.specs.Laws.{FitsFrames}
+use Rattle.tte_storms.{proofs.Existing.IsStormy, specs.Laws.FitsFrames}
+use Rattle.lens_events.proofs.PutLines.{puts_all, puts_fail, puts_more, puts_none}
 use Rattle.lens_events.proofs.putting.put_events.Goals as goal
 
 pub events-init : goal.events-init

@@ -1,7 +1,7 @@
 use Rattle.std.proofs.Common.{◌≡◌}
-use Rattle.lens_events.proofs.PutLines.{HasPutEvents}
 use Rattle.tte_forms.specs.Putting.{shown_by}
 use Rattle.tte_storms.specs.Storms.{left_of}
+use Rattle.lens_events.proofs.PutLines.{HasPutEvents}
 use Rattle.lens_events.proofs.putting.put_events.Given as goal
 
 abbrev pub invariant-events : goal.invariant-events

@@ -1,6 +1,5 @@
+use Rattle.tte_forms.{proofs.networks.Answers.{answered_accepted, answered_none}, specs.Putting.shown_by}
 use Rattle.lens_events.specs.Answer.{IsEventsAnswer}
-use Rattle.tte_forms.proofs.networks.Answers.{answered_accepted, answered_none}
-use Rattle.tte_forms.specs.Putting.{shown_by}
 use Rattle.lens_events.proofs.putting.storm_events.Goals as goal
 
 pub returns-in-Ok-clause-general : goal.returns-in-Ok-clause-general

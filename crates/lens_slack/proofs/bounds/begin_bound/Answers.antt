@@ -1,12 +1,8 @@
-use Rattle.std.proofs.Common.{◌≡◌, ◌+◌, length, ap, subst, sym, ◌∙◌, arith}
+use Rattle.std.proofs.{Common.{◌+◌, ◌∙◌, ◌≡◌, ap, arith, length, subst, sym}, lemmas.Option.{slice_get-get_or, slice_get_within}}
 use Rattle.std.specs.Prelude.{Option, Some, slice_get}
-use Rattle.std.proofs.lemmas.Option.{slice_get-get_or, slice_get_within}
-use Rattle.lens_slack.proofs.Keeping.{Below, next_tightest, none_below, tightest_of_all}
-use Rattle.lens_slack.proofs.Numbered.{begin_at}
-use Rattle.lens_slack.specs.Bounds.{IsBeginBound}
-use Rattle.lens_slack.specs.Tightest.{IsFirstTightest}
-use Rattle.lens_slack.specs.declared.spot.Finding.{Finding}
 use Rattle.net_plan.specs.declared.tables.Link.{Link}
+use Rattle.lens_slack.{proofs.{Keeping.{Below, next_tightest, none_below, tightest_of_all}, Numbered.begin_at}, specs.Bounds.IsBeginBound}
+use Rattle.lens_slack.specs.{Tightest.IsFirstTightest, declared.spot.Finding.Finding}
 use Rattle.lens_slack.proofs.bounds.begin_bound.Goals as goal
 
 pub links-init : goal.links-init

@@ -1,6 +1,6 @@
-use Rattle.std.proofs.Common.{ℤ, subst, sym}
-use Rattle.lens_slack.proofs.SmallBeta.{beta_small}
+use Rattle.std.proofs.Common.{subst, sym, ℤ}
 use Rattle.net_plan.specs.Bounds.{IsBeta}
+use Rattle.lens_slack.proofs.SmallBeta.{beta_small}
 use Rattle.lens_slack.proofs.bounds.beta_amount.Goals as goal
 
 pub returns-clause-value : goal.returns-clause-value

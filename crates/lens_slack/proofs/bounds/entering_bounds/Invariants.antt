@@ -1,8 +1,5 @@
 use Rattle.std.specs.Prelude.{IfSome}
-use Rattle.lens_slack.proofs.Keeping.{Below}
-use Rattle.lens_slack.specs.Bounds.{IsEnteringBound}
-use Rattle.lens_slack.specs.Keeping.{IsSmall}
-use Rattle.lens_slack.specs.Tightest.{IsFirstTightest}
+use Rattle.lens_slack.{proofs.Keeping.Below, specs.{Bounds.IsEnteringBound, Keeping.IsSmall, Tightest.IsFirstTightest}}
 use Rattle.lens_slack.proofs.bounds.entering_bounds.Given as goal
 
 abbrev pub invariant-rows : goal.invariant-rows

@@ -1,10 +1,6 @@
-use Rattle.std.proofs.Common.{◌≡◌, ◌≤◌, ◌^◌, ap, arith, ◌∙◌}
-use Rattle.std.specs.Prelude.{unsigned_abs}
-use Rattle.std.proofs.lemmas.Int.{ints}
-use Rattle.lens_slack.proofs.SmallBeta.{window_small}
-use Rattle.lens_slack.specs.declared.spot.Finding.{Finding}
-use Rattle.schedule_tables.specs.Windows.{window_end}
-use Rattle.schedule_tables.specs.declared.window.Window.{Window}
+use Rattle.std.{proofs.{Common.{◌^◌, ◌∙◌, ◌≡◌, ◌≤◌, ap, arith}, lemmas.Int.ints}, specs.Prelude.unsigned_abs}
+use Rattle.schedule_tables.specs.{Windows.window_end, declared.window.Window.Window}
+use Rattle.lens_slack.{proofs.SmallBeta.window_small, specs.declared.spot.Finding.Finding}
 use Rattle.lens_slack.proofs.bounds.entering_with.Goals as goal
 
 pub returns-clause-small : goal.returns-clause-small

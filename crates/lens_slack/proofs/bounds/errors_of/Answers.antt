@@ -1,7 +1,6 @@
-use Rattle.std.proofs.Common.{◌≡◌, subst, sym, arith}
-use Rattle.std.proofs.lemmas.Int.{ints}
-use Rattle.lens_slack.proofs.Ones.{beta_same}
+use Rattle.std.proofs.{Common.{◌≡◌, arith, subst, sym}, lemmas.Int.ints}
 use Rattle.net_plan.specs.Bounds.{IsBeta}
+use Rattle.lens_slack.proofs.Ones.{beta_same}
 use Rattle.lens_slack.proofs.bounds.errors_of.Goals as goal
 
 pub returns-clause-value : goal.returns-clause-value

@@ -1,10 +1,6 @@
-use Rattle.std.proofs.Common.{◌+◌, subst, sym, arith}
-use Rattle.std.specs.Prelude.{Option}
-use Rattle.lens_slack.proofs.Keeping.{Below, next_tightest, none_below, tightest_of_all}
-use Rattle.lens_slack.proofs.Numbered.{gap_at}
-use Rattle.lens_slack.specs.Bounds.{IsGapBound}
-use Rattle.lens_slack.specs.Tightest.{IsFirstTightest}
-use Rattle.lens_slack.specs.declared.spot.Finding.{Finding}
+use Rattle.std.{proofs.Common.{◌+◌, arith, subst, sym}, specs.Prelude.Option}
+use Rattle.lens_slack.{proofs.{Keeping.{Below, next_tightest, none_below, tightest_of_all}, Numbered.gap_at}, specs.Bounds.IsGapBound}
+use Rattle.lens_slack.specs.{Tightest.IsFirstTightest, declared.spot.Finding.Finding}
 use Rattle.lens_slack.proofs.bounds.gap_bound.Goals as goal
 
 pub earlier-init : goal.earlier-init

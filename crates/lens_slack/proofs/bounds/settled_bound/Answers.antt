@@ -1,8 +1,8 @@
 use Rattle.std.proofs.Common.{rules, subst}
-use Rattle.lens_slack.proofs.Singles.{settled_first}
 use Rattle.net_plan.specs.Bounds.{IsBeta}
 use Rattle.schedule_checker.proofs.BetaLemmas.{beta_is_whole}
 use Rattle.tte_units.specs.Amount.{amount}
+use Rattle.lens_slack.proofs.Singles.{settled_first}
 use Rattle.lens_slack.proofs.bounds.settled_bound.Goals as goal
 
 pub returns-clause-tightest : goal.returns-clause-tightest

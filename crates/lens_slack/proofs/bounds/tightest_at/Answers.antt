@@ -1,11 +1,7 @@
-use Rattle.std.proofs.Common.{◌≡◌, subst, sym}
-use Rattle.std.specs.Prelude.{Option, Some}
-use Rattle.lens_slack.proofs.Singles.{correction_first, end_first, precision_first}
-use Rattle.lens_slack.specs.Tightest.{IsTightestAt}
-use Rattle.lens_slack.specs.declared.spot.Finding.{Finding}
-use Rattle.lens_slack.specs.declared.spot.Spot.{Spot}
-use Rattle.lens_slack.specs.declared.spot.Spot.TheVariants as spots
+use Rattle.std.{proofs.Common.{◌≡◌, subst, sym}, specs.Prelude.{Option, Some}}
 use Rattle.net_plan.specs.declared.network.Network.{Network}
+use Rattle.lens_slack.{proofs.Singles.{correction_first, end_first, precision_first}, specs.{Tightest.IsTightestAt, declared.spot.{Finding.Finding, Spot.Spot}}}
+use Rattle.lens_slack.specs.declared.spot.Spot.TheVariants as spots
 use Rattle.lens_slack.proofs.bounds.tightest_at.Goals as goal
 
 at_spot : (network : Network) (spot other : Spot) (o : Option Finding) → spot ≡ other → IsTightestAt network other o → IsTightestAt network spot o

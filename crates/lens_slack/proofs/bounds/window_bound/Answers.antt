@@ -1,11 +1,6 @@
-use Rattle.std.proofs.Common.{◌≡◌, ◌≤◌, ◌^◌, ap, arith, ◌∙◌, rules}
-use Rattle.std.specs.Prelude.{unsigned_abs}
-use Rattle.std.proofs.lemmas.Int.{ints}
-use Rattle.lens_slack.proofs.SmallBeta.{window_small}
-use Rattle.lens_slack.specs.declared.spot.Finding.{Finding}
-use Rattle.schedule_tables.specs.Windows.{window_end}
-use Rattle.schedule_tables.specs.declared.window.Window.{Window}
-use Rattle.lens_slack.proofs.Singles.{window_first}
+use Rattle.std.{proofs.{Common.{◌^◌, ◌∙◌, ◌≡◌, ◌≤◌, ap, arith, rules}, lemmas.Int.ints}, specs.Prelude.unsigned_abs}
+use Rattle.schedule_tables.specs.{Windows.window_end, declared.window.Window.Window}
+use Rattle.lens_slack.{proofs.{Singles.window_first, SmallBeta.window_small}, specs.declared.spot.Finding.Finding}
 use Rattle.lens_slack.proofs.bounds.window_bound.Goals as goal
 
 pub returns-clause-tightest : goal.returns-clause-tightest

@@ -1,6 +1,4 @@
-use Rattle.lens_slack.proofs.Accepting.{accepts}
-use Rattle.lens_slack.proofs.Deciding.{bounds_decide}
-use Rattle.lens_slack.proofs.Refusing.{refuses}
+use Rattle.lens_slack.proofs.{Accepting.accepts, Deciding.bounds_decide, Refusing.refuses}
 use Rattle.lens_slack.proofs.laws.slack_law.Goals as goal
 
 pub returns-clause-bounds : goal.returns-clause-bounds

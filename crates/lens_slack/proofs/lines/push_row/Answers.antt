@@ -1,4 +1,4 @@
-use Rattle.std.proofs.Common.{◌<◌, ◌++◌, length, ap, ◌∙◌, arith}
+use Rattle.std.proofs.Common.{◌++◌, ◌<◌, ◌∙◌, ap, arith, length}
 use Rattle.lens_slack.proofs.Named.{joined, row_named}
 use Rattle.lens_slack.proofs.lines.push_row.Goals as goal
 

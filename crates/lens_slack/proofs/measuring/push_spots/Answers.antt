@@ -1,8 +1,5 @@
-use Rattle.std.proofs.Common.{◌≡◌, ℕ, subst, arith}
-use Rattle.lens_slack.proofs.Taken.{ArePushed, pushed_first, pushed_next}
-use Rattle.lens_slack.specs.Spots.{spots_of}
-use Rattle.lens_slack.specs.Tightest.{IsTightestAt}
-use Rattle.lens_slack.specs.declared.spot.Spot.{Spot}
+use Rattle.std.proofs.Common.{◌≡◌, arith, subst, ℕ}
+use Rattle.lens_slack.{proofs.Taken.{ArePushed, pushed_first, pushed_next}, specs.{Spots.spots_of, Tightest.IsTightestAt, declared.spot.Spot.Spot}}
 use Rattle.lens_slack.proofs.measuring.push_spots.Goals as goal
 
 pub spots-init : goal.spots-init

@@ -1,13 +1,8 @@
-use Rattle.std.proofs.Common.{List}
-use Rattle.std.specs.Prelude.{All, IfOk, Result, Ok, Err}
-use Rattle.lens_slack.proofs.Writable.{are_writable}
-use Rattle.lens_slack.specs.Finds.{AreOf}
-use Rattle.lens_slack.specs.Writing.{IsWritable}
-use Rattle.lens_slack.specs.declared.measuring.Slack.{Slack}
-use Rattle.lens_slack.specs.declared.step.Step.{Step}
+use Rattle.std.{proofs.Common.List, specs.Prelude.{All, Err, IfOk, Ok, Result}}
 use Rattle.net_plan.specs.declared.network.Network.{Network}
 use Rattle.schedule_checker.proofs.Trees.{tree_of}
 use Rattle.tte_io.specs.declared.memory.OutOfMemory.{OutOfMemory}
+use Rattle.lens_slack.{proofs.Writable.are_writable, specs.{Finds.AreOf, Writing.IsWritable, declared.{measuring.Slack.Slack, step.Step.Step}}}
 use Rattle.lens_slack.proofs.measuring.slack_of.Goals as goal
 
 pub beta-requires-clause-tree : goal.beta-requires-clause-tree

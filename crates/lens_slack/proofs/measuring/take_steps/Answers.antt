@@ -1,6 +1,5 @@
-use Rattle.std.proofs.Common.{List, subst, sym, arith}
-use Rattle.lens_slack.proofs.Taken.{StandBefore, drop_all, stand_all, stand_end, stand_first, stand_step}
-use Rattle.lens_slack.specs.declared.spot.Finding.{Finding}
+use Rattle.std.proofs.Common.{List, arith, subst, sym}
+use Rattle.lens_slack.{proofs.Taken.{StandBefore, drop_all, stand_all, stand_end, stand_first, stand_step}, specs.declared.spot.Finding.Finding}
 use Rattle.lens_slack.specs.declared.step.Step.{Step}
 use Rattle.lens_slack.proofs.measuring.take_steps.Goals as goal
 

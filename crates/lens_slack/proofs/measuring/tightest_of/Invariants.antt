@@ -1,8 +1,5 @@
 use Rattle.std.specs.Prelude.{IfSome}
-use Rattle.lens_slack.proofs.Keeping.{Below}
-use Rattle.lens_slack.specs.Keeping.{IsSmall}
-use Rattle.lens_slack.specs.Spots.{IsFoundAt}
-use Rattle.lens_slack.specs.Tightest.{IsFirstTightest}
+use Rattle.lens_slack.{proofs.Keeping.Below, specs.{Keeping.IsSmall, Spots.IsFoundAt, Tightest.IsFirstTightest}}
 use Rattle.lens_slack.proofs.measuring.tightest_of.Given as goal
 
 abbrev pub invariant-spots : goal.invariant-spots

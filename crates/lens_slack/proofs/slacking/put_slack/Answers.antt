@@ -1,16 +1,9 @@
-use Rattle.std.proofs.Common.{◌≡◌, ◌+◌, List, [], ◌∷◌, ◌++◌, ℕ, ap, map, append_assoc, drop, inl, inr, length, refl, subst, sym, take, ◌∙◌, arith}
-use Rattle.std.specs.Io.KnownBytes.{Appends}
-use Rattle.std.proofs.Math.Seq.{take-length}
-use Rattle.std.proofs.lemmas.List.{map-append, take-append-drop}
-use Rattle.lens_slack.proofs.Listed.{next_line}
-use Rattle.lens_slack.specs.Answer.{ending_answer, ending_lines}
-use Rattle.lens_slack.specs.Finds.{shorts_of}
-use Rattle.lens_slack.specs.Lines.{finding_line}
-use Rattle.lens_slack.specs.declared.spot.Finding.{Finding}
-use Rattle.tte_forms.proofs.Puts.{PutsLines-fails, PutsLines-more}
-use Rattle.tte_forms.proofs.frames.Frames.{Gives-behind}
-use Rattle.tte_forms.specs.Putting.{PutFails, PutsLines, shown_by}
+use Rattle.std.proofs.Common.{◌++◌, ◌+◌, ◌∙◌, ◌∷◌, ◌≡◌, List, [], ap, append_assoc, arith, drop, inl, inr, length, map, refl, subst, sym, take, ℕ}
+use Rattle.std.{proofs.{Math.Seq.take-length, lemmas.List.{map-append, take-append-drop}}, specs.Io.KnownBytes.Appends}
+use Rattle.tte_forms.{proofs.{Puts.{PutsLines-fails, PutsLines-more}, frames.Frames.Gives-behind}, specs.Putting.{PutFails, PutsLines, shown_by}}
 use Rattle.tte_io.specs.Told.{AppendsFront}
+use Rattle.lens_slack.{proofs.Listed.next_line, specs.{Answer.{ending_answer, ending_lines}, Finds.shorts_of, Lines.finding_line}}
+use Rattle.lens_slack.specs.declared.spot.Finding.{Finding}
 use Rattle.lens_slack.proofs.slacking.put_slack.Goals as goal
 
 pub findings-preserved : goal.findings-preserved
@@ -39,12 +32,18 @@ returns-clause-gives g c =
     let shown = shown_by g.K.Sink in
     let network = c.args.network.now in
     let all = c.args.slack.now.findings.items in
-    let whole = ap (λ (i : ℕ). take i all) (omega (arith, c.findings-test.false, c.findings.auto.finding-index-end, ap length c.as_slice-findings.ensures.value)) ∙ take-length all in
+    let whole = ap (λ (i : ℕ). take i all) (omega (
+      arith,
+      c.findings-test.false,
+      c.findings.auto.finding-index-end,
+      ap length c.as_slice-findings.ensures.value,
+    )) ∙ take-length all in
     let puts =
     subst (λ (fs : List Finding). PutsLines (map (finding_line network) fs) (shown c.args.out.now) (shown c.findings.out)) whole
     c.findings.invariant.puts in
     Gives-behind (map (finding_line network) all) (ending_answer network all c.args.slack.now.ending) c.put_ending.result (shown c.args.out.now)
-    (shown c.findings.out) (shown c.put_ending.new.out) puts (c.put_ending.ensures.gives all (c.shorts_of-shorts.ensures ∙ ap shorts_of c.as_slice-findings.ensures.value))
+    (shown c.findings.out) (shown c.put_ending.new.out) puts
+    (c.put_ending.ensures.gives all (c.shorts_of-shorts.ensures ∙ ap shorts_of c.as_slice-findings.ensures.value))
 
 pub returns-in-Err-clause-gives : goal.returns-in-Err-clause-gives
 returns-in-Err-clause-gives g c =

@@ -1,6 +1,6 @@
 use Rattle.std.proofs.Common.{◌≡◌, map, take}
-use Rattle.lens_slack.specs.Lines.{finding_line}
 use Rattle.tte_forms.specs.Putting.{PutsLines, shown_by}
+use Rattle.lens_slack.specs.Lines.{finding_line}
 use Rattle.lens_slack.proofs.slacking.put_slack.Given as goal
 
 abbrev pub invariant-findings : goal.invariant-findings

@@ -1,0 +1,11 @@
+pub mod Greatests
+pub mod SamePlan
+pub mod SameShape
+pub mod Drift
+pub mod Links
+pub mod Suffice
+pub mod Leasts
+pub mod Keeping
+pub mod Ranged
+pub mod OneLeast
+pub mod Rooms
