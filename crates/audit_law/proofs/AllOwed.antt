@@ -1,50 +1,20 @@
 -- What is due is owed in one of these ways, so a list is the run exactly where it is sound and its debts are paid.
-use Rattle.std.proofs.Common.{◌≡◌, ℕ, ◌+◌, List, [], ◌∷◌, inl, inr, refl, sym, ap, subst, ◌∙◌}
-use Rattle.run_law.specs.control.Leaving.{leaves, on_cut_way, too_old}
-use Rattle.run_law.specs.control.Permanence.{ripe_as}
-use Rattle.run_law.specs.declared.judgement.Reason.TheVariants.{Old}
-use Rattle.run_law.specs.declared.judgement.Reason.{Reason}
+use Rattle.audit_law.proofs.Words.{◌+◌, ◌∙◌, ◌∷◌, ◌≡◌, ArrivesAs, Debt, Dispatch, Happening, IsBefore, IsCaused, IsDue, IsDueIn, IsFounded, IsOwed, IsPaid}
+use Rattle.audit_law.proofs.Words.{IsRun, List, NoteBody, Old, Pays, Reason, Scenario, [], ap, inl, inr, place_of, refl, ripe_as, subst, sym, time_of, ℕ}
+use Rattle.run_law.specs.{control.Leaving.{leaves, on_cut_way, too_old}, declared.steps.Arrival.Arrival}
+use Rattle.audit_law.proofs.{Arriving.arrival_law, Changing.change_law, Correcting.{by_point, point_law}}
+use Rattle.audit_law.proofs.{Debts.{due_by_part, due_in, lack_of_unpaid, lacks_nothing, one_due, unpaid_of_lack}, Departing.departure_law}
+use Rattle.audit_law.proofs.{Determined.due_is_determined, Dispatching.{dispatch_law, sending_law}, Emitting.emission_law, EndingClocks.clock_law}
+use Rattle.audit_law.proofs.{LosingSends.loss_law, Owing.PaidAt, Ripening.{permanence_law, recorded}, Sound.{founded_of_sound, run_exactly, within_of_sound}}
+use Rattle.audit_law.{proofs.TracingEvents.event_law, specs.{Arrivals.{IsDueByArrival, arrival_record}, Changes.IsDueByChange, CorrectionPoints.IsDueByPoint}}
+use Rattle.audit_law.specs.{DebtLaws.DebtLaw, Debts.AreDebts, Departures.IsDueByLeaving, Dispatched.{IsDueByDispatch, IsDueBySending, dispatch_record}}
+use Rattle.audit_law.specs.{Emitted.IsDueByEmission, EndClocks.IsDueByEnd, LostSends.IsDueBySend, Owed.falls_due, Permanences.IsDueByPermanence}
+use Rattle.audit_law.specs.TracedEvents.{IsDueByEvent}
 use Rattle.run_law.specs.declared.judgement.Why.TheVariants as whys
 use Rattle.run_law.specs.declared.note.NoteBody.TheVariants as notes
-use Rattle.run_law.specs.declared.note.NoteBody.{NoteBody}
 use Rattle.run_law.specs.declared.steps.Arrival.TheVariants as arrivals
-use Rattle.run_law.specs.declared.steps.Arrival.{Arrival}
 use Rattle.run_law.specs.declared.steps.Ripe.TheVariants as ripe
-use Rattle.run_law.specs.records.Happenings.{Happening, time_of}
-use Rattle.run_law.specs.records.Order.{IsBefore}
-use Rattle.run_law.specs.records.Ranks.{place_of}
-use Rattle.audit_law.specs.DueRecords.{IsCaused, IsDue}
-use Rattle.run_law.specs.runs.Runs.{IsFounded, IsRun}
-use Rattle.run_law.specs.scenario.Scenarios.{Scenario}
-use Rattle.run_law.specs.timed.Receptions.{ArrivesAs}
-use Rattle.audit_law.proofs.Determined.{due_is_determined}
-use Rattle.audit_law.specs.Arrivals.{IsDueByArrival, arrival_record}
-use Rattle.audit_law.specs.Changes.{IsDueByChange}
-use Rattle.audit_law.specs.CorrectionPoints.{IsDueByPoint}
-use Rattle.audit_law.specs.Debts.{AreDebts, IsDueIn, IsPaid}
-use Rattle.audit_law.specs.Departures.{IsDueByLeaving}
-use Rattle.audit_law.specs.Dispatched.{Dispatch, IsDueByDispatch, IsDueBySending, dispatch_record}
-use Rattle.audit_law.specs.Emitted.{IsDueByEmission}
-use Rattle.audit_law.specs.EndClocks.{IsDueByEnd}
-use Rattle.audit_law.specs.DebtLaws.{DebtLaw}
-use Rattle.audit_law.specs.LostSends.{IsDueBySend}
-use Rattle.audit_law.specs.Owed.{Debt, IsOwed, Pays, falls_due}
 use Rattle.audit_law.specs.Owed as debts
-use Rattle.audit_law.specs.Permanences.{IsDueByPermanence}
-use Rattle.audit_law.specs.TracedEvents.{IsDueByEvent}
-use Rattle.audit_law.proofs.Arriving.{arrival_law}
-use Rattle.audit_law.proofs.Changing.{change_law}
-use Rattle.audit_law.proofs.Correcting.{by_point, point_law}
-use Rattle.audit_law.proofs.Debts.{due_by_part, due_in, lack_of_unpaid, lacks_nothing, one_due, unpaid_of_lack}
-use Rattle.audit_law.proofs.Departing.{departure_law}
-use Rattle.audit_law.proofs.Dispatching.{dispatch_law, sending_law}
-use Rattle.audit_law.proofs.Emitting.{emission_law}
-use Rattle.audit_law.proofs.EndingClocks.{clock_law}
-use Rattle.audit_law.proofs.LosingSends.{loss_law}
-use Rattle.audit_law.proofs.Owing.{PaidAt}
-use Rattle.audit_law.proofs.Ripening.{permanence_law, recorded}
-use Rattle.audit_law.proofs.Sound.{founded_of_sound, run_exactly, within_of_sound}
-use Rattle.audit_law.proofs.TracingEvents.{event_law}
 
 -- what is due in a list is due in it so, where it is due so given its front
 part_in : (s : Scenario) (IsDueSo : List Happening → Happening → Type 0) (hs : List Happening) (x : Happening) → (h : IsDueIn place_of (IsDue s) hs x)

@@ -1,51 +1,23 @@
 -- What is owed of arrivals is due.
-use Rattle.std.proofs.lemmas.Bool.{and_parts, both_ways, cases_lt, eqb-true, false_from_ne_true, ltb-true, or_cases}
-use Rattle.std.proofs.Common.{◌≡◌, ℕ, ◌+◌, ◌≤◌, Bool, true, false, List, [], ◌∷◌, ◌++◌, Option, Some, None, filter, inl, inr, refl, sym, ap, subst, ◌∙◌, arith}
-use Rattle.std.specs.List.{last_or}
-use Rattle.std.specs.Prelude.{◌==◌, ◌&&◌, ◌||◌, Ok, Err, length, nat_lt, not, option_and_then, if◌then◌else◌}
-use Rattle.net_plan.specs.declared.ids.DeviceId.{DeviceId}
-use Rattle.net_plan.specs.declared.ids.LinkId.{LinkId}
-use Rattle.net_plan.specs.declared.ids.VlId.{VlId}
-use Rattle.net_plan.specs.declared.network.Network.{Network}
-use Rattle.net_plan.specs.declared.tables.Way.TheVariants.{Up, Down}
-use Rattle.net_plan.specs.declared.tables.Way.{Way}
-use Rattle.pcf_values.specs.declared.pcf.Pcf.{Pcf}
-use Rattle.run_law.specs.control.Arrivals.{control_arrival, frame_fault, frame_or_fault}
-use Rattle.run_law.specs.control.Leaving.{Gives}
-use Rattle.run_law.specs.control.Wires.{Arrives, Launch, Signal, control, launched, timed, time_on_port}
-use Rattle.run_law.specs.declared.judgement.Reason.{Reason}
-use Rattle.run_law.specs.declared.note.NoteBody.TheVariants as notes
-use Rattle.run_law.specs.declared.note.NoteBody.{NoteBody}
-use Rattle.run_law.specs.declared.steps.Arrival.TheVariants as arrivals
-use Rattle.run_law.specs.declared.steps.Arrival.{Arrival}
-use Rattle.run_law.specs.device.Standpoints.{Standpoint, clock_of, cycle_at, standpoint}
-use Rattle.run_law.specs.device.States.{adjustment_after, is_off, state_after}
-use Rattle.run_law.specs.records.Happenings.{Happening, earlier, numbered, time_of}
-use Rattle.run_law.specs.records.Order.{IsBefore, IsIn}
-use Rattle.run_law.specs.records.Ranks.{key, members_in, place_at, place_of, rank}
-use Rattle.audit_law.specs.DueRecords.{IsCaused, IsDue}
-use Rattle.run_law.specs.runs.Runs.{IsFounded}
-use Rattle.run_law.specs.scenario.Devices.{is_end, is_parent_of, is_relay}
-use Rattle.run_law.specs.scenario.Scenarios.{Scenario, is_broken, is_turned_on_at}
+use Rattle.audit_law.proofs.Words.{if◌then◌else◌, ◌&&◌, ◌++◌, ◌+◌, ◌==◌, ◌||◌, ◌∙◌, ◌∷◌, ◌≡◌, ◌≤◌, ArrivesAs, Bool, DeviceId, Gives, Happening, Integrating}
+use Rattle.audit_law.proofs.Words.{IsBefore, IsCaused, IsDue, IsDueIn, IsFounded, IsIn, IsSplit, LinkId, List, Network, None, NoteBody, Option, Pcf, Reason}
+use Rattle.audit_law.proofs.Words.{Scenario, Some, Units, VlId, [], adjustment_after, amount, and_parts, ap, append-nil, arith, both_ways, cases_lt, earlier}
+use Rattle.audit_law.proofs.Words.{eqb-true, false, false_from_ne_true, filter, filter-append, in_right, inl, inr, is_broken, is_turned_on_at, key, last_or}
+use Rattle.audit_law.proofs.Words.{length, members_in, nat_lt, none_kept, not, numbered, numbered_in, option_and_then, place_at, place_of, rank, refl}
+use Rattle.audit_law.proofs.Words.{same_earlier, same_some, split, state_after, subst, sym, time_of, true, units_of, ℕ}
+use Rattle.std.{proofs.lemmas.Bool.{ltb-true, or_cases}, specs.Prelude.{Err, Ok}}
+use Rattle.net_plan.{proofs.SameIds.same_device, specs.declared.tables.Way.{Way, TheVariants.{Down, Up}}}
+use Rattle.run_law.{proofs.runs.SameSteps.same_arrival, specs.control.Arrivals.{control_arrival, frame_fault, frame_or_fault}}
+use Rattle.run_law.specs.{control.Wires.{Arrives, Launch, Signal, control, launched, time_on_port, timed}, declared.steps.Arrival.Arrival}
+use Rattle.run_law.specs.{device.{Standpoints.{Standpoint, clock_of, cycle_at, standpoint}, States.is_off}, scenario.Devices.{is_end, is_parent_of, is_relay}}
 use Rattle.run_law.specs.scenario.Ways.{delay_at, receiver_of}
 use Rattle.run_law.specs.timed.Arrivals.{entry_arrival, octets_fault, octets_or_fault, row_fault, taken_or_fault, timed_arrival}
-use Rattle.run_law.specs.timed.Receptions.{ArrivesAs, arrival_of, comes_before, is_taken_before, last_taken, taken_cycle}
+use Rattle.run_law.specs.timed.Receptions.{arrival_of, comes_before, is_taken_before, last_taken, taken_cycle}
 use Rattle.schedule_tables.specs.declared.entry.Entry.{Entry}
-use Rattle.sync_state.specs.declared.state.State.TheVariants.{Integrating}
-use Rattle.audit_law.proofs.Numbered.{founded_at}
-use Rattle.run_law.proofs.law.FirstPlaces.{IsSplit, none_kept, numbered_in, same_earlier, split}
-use Rattle.std.proofs.lemmas.List.{append-nil}
-use Rattle.std.proofs.lemmas.List.Elements.{filter-append}
-use Rattle.run_law.proofs.runs.Places.{in_right}
-use Rattle.run_law.proofs.runs.SameSteps.{same_arrival}
-use Rattle.tte_units.specs.Amount.{amount, units_of}
-use Rattle.tte_units.specs.declared.units.Units.{Units}
-use Rattle.audit_law.specs.Arrivals.{IsDueByArrival, OwesArrival, TellsArrival, arrival_record}
-use Rattle.audit_law.specs.Debts.{IsDueIn}
-use Rattle.audit_law.specs.DebtLaws.{ArrivalLaw}
-use Rattle.net_plan.proofs.SameIds.{same_device}
-use Rattle.tte_lemmas.proofs.Options.{one as same_some}
-use Rattle.audit_law.proofs.Owing.{PaidAt, due_there, found_before, in_whole, next_is_due, next_of, split_at, timely, within}
+use Rattle.audit_law.proofs.{Numbered.founded_at, Owing.{PaidAt, due_there, found_before, in_whole, next_is_due, next_of, split_at, timely, within}}
+use Rattle.audit_law.specs.{Arrivals.{IsDueByArrival, OwesArrival, TellsArrival, arrival_record}, DebtLaws.ArrivalLaw}
+use Rattle.run_law.specs.declared.note.NoteBody.TheVariants as notes
+use Rattle.run_law.specs.declared.steps.Arrival.TheVariants as arrivals
 
 -- ---- one judgement, by a front or by the whole list
 

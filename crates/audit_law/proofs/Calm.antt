@@ -1,22 +1,11 @@
 -- Records behind the last change of a device's adjustment: they bring it to no state with a correction point.
-use Rattle.std.proofs.lemmas.Bool.{both_ways, eq-eqb, eqb-true}
-use Rattle.std.proofs.Common.{◌≡◌, ◌⊎◌, ℕ, Bool, true, false, List, [], ◌∷◌, Some, inl, inr, refl, ap, ◌∙◌, if◌then◌else◌}
-use Rattle.std.specs.List.{fold}
-use Rattle.std.specs.Prelude.{◌==◌}
-use Rattle.audit_law.specs.DueRecords.{ChangesState}
-use Rattle.net_plan.specs.declared.ids.DeviceId.{DeviceId}
-use Rattle.run_law.proofs.device.States.{joined_changes}
+use Rattle.audit_law.proofs.Words.{if◌then◌else◌, ◌==◌, ◌∙◌, ◌∷◌, ◌≡◌, ◌⊎◌, Bool, ChangesState, DeviceId, Happening, Integrating, IsIn, Joining, List, NoteBody}
+use Rattle.audit_law.proofs.Words.{Off, Scenario, Some, State, Synchronised, Why, [], ap, both_ways, changes_adjustment, eqb-true, false, fold, inl, inr}
+use Rattle.audit_law.proofs.Words.{is_joined_by, numbered, refl, time_of, true, ℕ}
+use Rattle.std.proofs.lemmas.Bool.{eq-eqb}
+use Rattle.run_law.{proofs.device.States.joined_changes, specs.device.States.state_with}
 use Rattle.run_law.specs.declared.judgement.Why.TheVariants as whys
-use Rattle.run_law.specs.declared.judgement.Why.{Why}
 use Rattle.run_law.specs.declared.note.NoteBody.TheVariants as notes
-use Rattle.run_law.specs.declared.note.NoteBody.{NoteBody}
-use Rattle.run_law.specs.device.LocalClocks.{changes_adjustment}
-use Rattle.run_law.specs.device.States.{is_joined_by, state_with}
-use Rattle.run_law.specs.records.Happenings.{Happening, numbered, time_of}
-use Rattle.run_law.specs.records.Order.{IsIn}
-use Rattle.run_law.specs.scenario.Scenarios.{Scenario}
-use Rattle.sync_state.specs.declared.state.State.TheVariants.{Integrating, Joining, Off, Synchronised}
-use Rattle.sync_state.specs.declared.state.State.{State}
 
 -- ---- a record that does not change the adjustment
 

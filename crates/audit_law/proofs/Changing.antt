@@ -1,31 +1,14 @@
 -- What is owed of changes of state is due.
-use Rattle.std.proofs.lemmas.Bool.{eqb-true}
-use Rattle.std.proofs.Common.{◌≡◌, ℕ, ◌+◌, ◌<◌, true, List, [], ◌∷◌, Option, Some, None, refl, sym, ap, subst, ◌∙◌, arith, if◌then◌else◌}
+use Rattle.audit_law.proofs.Words.{if◌then◌else◌, ◌+◌, ◌<◌, ◌∙◌, ◌∷◌, ◌≡◌, ChangesState, DeviceId, Happening, Integrating, IsBefore, IsCaused, IsDue, IsDueIn}
+use Rattle.audit_law.proofs.Words.{IsFounded, Joining, List, None, NoteBody, Option, Scenario, Some, State, Why, [], ahead, ap, arith, earlier, eqb-true}
+use Rattle.audit_law.proofs.Words.{is_joined_by, is_turned_on_at, key, members_in, numbered, place_at, place_of, rank, refl, same_earlier, same_some, split}
+use Rattle.audit_law.proofs.Words.{state_after, subst, sym, time_of, true, ℕ}
 use Rattle.net_plan.specs.declared.event.What.TheVariants.{On}
-use Rattle.net_plan.specs.declared.ids.DeviceId.{DeviceId}
-use Rattle.run_law.specs.declared.judgement.Judgement.TheVariants.{Integrates}
-use Rattle.run_law.specs.declared.judgement.Why.TheVariants as whys
-use Rattle.run_law.specs.declared.judgement.Why.{Why}
-use Rattle.run_law.specs.declared.note.NoteBody.TheVariants as notes
-use Rattle.run_law.specs.declared.note.NoteBody.{NoteBody}
-use Rattle.audit_law.specs.DueRecords.{ChangesState}
-use Rattle.run_law.specs.device.States.{is_joined_by, state_after}
-use Rattle.run_law.specs.records.Causes.{IsOfThisTime}
-use Rattle.run_law.specs.records.Happenings.{Happening, earlier, numbered, time_of}
-use Rattle.run_law.specs.records.Order.{IsBefore}
-use Rattle.run_law.specs.records.Ranks.{key, members_in, place_at, place_of, rank}
-use Rattle.audit_law.specs.DueRecords.{IsCaused, IsDue}
-use Rattle.run_law.specs.runs.Runs.{IsFounded}
-use Rattle.run_law.specs.scenario.Scenarios.{Scenario, is_turned_on_at}
-use Rattle.sync_state.specs.declared.state.State.TheVariants.{Integrating, Joining}
-use Rattle.sync_state.specs.declared.state.State.{State}
-use Rattle.run_law.proofs.law.FirstPlaces.{same_earlier, split}
-use Rattle.audit_law.specs.Changes.{IsBrought, IsDueByChange, OwesChange, TellsChange}
-use Rattle.audit_law.specs.Debts.{IsDueIn}
-use Rattle.audit_law.specs.DebtLaws.{ChangeLaw}
-use Rattle.run_law.proofs.records.Order.{ahead}
-use Rattle.tte_lemmas.proofs.Options.{one as same_some}
+use Rattle.run_law.specs.{declared.judgement.Judgement.TheVariants.Integrates, records.Causes.IsOfThisTime}
 use Rattle.audit_law.proofs.Owing.{PaidAt, due_there, earlier_in, found_before, from_one, in_whole, next_is_due, next_of, timely, within}
+use Rattle.audit_law.specs.{Changes.{IsBrought, IsDueByChange, OwesChange, TellsChange}, DebtLaws.ChangeLaw}
+use Rattle.run_law.specs.declared.judgement.Why.TheVariants as whys
+use Rattle.run_law.specs.declared.note.NoteBody.TheVariants as notes
 
 -- ---- what brings a change
 

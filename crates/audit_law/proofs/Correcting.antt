@@ -1,47 +1,20 @@
 -- What is owed of correction points is due.
-use Rattle.std.proofs.lemmas.Bool.{cases_lt, le-leb, le-ltb, leb-true}
-use Rattle.std.proofs.lemmas.List.{append-nil}
-use Rattle.std.proofs.lemmas.List.Elements.{filter-append, filter_map-append}
-use Rattle.std.proofs.Common.{◌≡◌, ℕ, ◌+◌, ◌-◌, ◌<◌, ◌≤◌, ℤ, pos, Bool, List, [], ◌∷◌, ◌++◌, Option, Some, None, filter, inl, inr, refl, sym, ap, subst, ◌∙◌, arith, if◌then◌else◌}
-use Rattle.std.specs.Int.{int_div_euclid}
-use Rattle.std.specs.List.{after_last, filter_map, last_or}
-use Rattle.std.specs.Option.{option_map_or}
-use Rattle.std.specs.Prelude.{◌+ℤ◌, ◌-ℤ◌, ◌&&◌, ◌==◌, nat_le, nat_lt, int_le, int_lt}
-use Rattle.audit_law.proofs.Determined.{same_verdict}
+use Rattle.audit_law.proofs.Words.{if◌then◌else◌, ◌&&◌, ◌++◌, ◌+ℤ◌, ◌+◌, ◌-ℤ◌, ◌-◌, ◌<◌, ◌==◌, ◌∙◌, ◌∷◌, ◌≡◌, ◌≤◌, AsyncClique, Bool, ComesToPoint, Corrected}
+use Rattle.audit_law.proofs.Words.{DeviceId, Happening, HasVerdict, Integrating, IsBefore, IsCaused, IsDue, IsDueIn, IsFounded, IsIn, IsSplit, List, Network}
+use Rattle.audit_law.proofs.Words.{None, NoteBody, Option, Scenario, Some, Standing, State, Summarizes, SyncClique, Units, Verdict, [], adjustment_after}
+use Rattle.audit_law.proofs.Words.{adjustment_before, after_last, ap, append-nil, arith, cases_lt, changes_adjustment, correction_value, earlier, filter}
+use Rattle.audit_law.proofs.Words.{filter-append, heard_since_point, inl, inr, int_div_euclid, int_le, int_lt, integration_cycle, is_turned_on_at, key, last_or}
+use Rattle.audit_law.proofs.Words.{le-ltb, members_in, nat_le, nat_lt, natural, next_point, none_kept, option_map_or, place_at, place_of, plan_of, pos, rank}
+use Rattle.audit_law.proofs.Words.{recorded_cycle, refl, split, standing_at, state_after, subst, sym, time_of, units_of, up_to, ℕ, ℤ}
+use Rattle.std.{proofs.lemmas.{Bool.{le-leb, leb-true}, List.Elements.filter_map-append}, specs.List.filter_map}
 use Rattle.membership.specs.Hearing.{Hearing}
-use Rattle.membership.specs.Summary.{Summarizes}
-use Rattle.net_plan.specs.declared.ids.DeviceId.{DeviceId}
-use Rattle.net_plan.specs.declared.network.Network.{Network}
-use Rattle.audit_law.specs.CorrectionNumbers.{ComesToPoint, heard_since_point, standing_at}
-use Rattle.run_law.specs.control.Corrections.{correction_value, hearing_by, integration_cycle, recorded_cycle}
-use Rattle.run_law.specs.device.Standpoints.{natural}
+use Rattle.run_law.proofs.{device.States.reaches_by, law.FirstPlaces.in_filter, records.Order.{after_more, all_kept, has_passed, makes_none}}
+use Rattle.run_law.specs.control.Corrections.{hearing_by}
+use Rattle.sync_state.specs.declared.answers.Verdict.TheVariants.{Cleared}
+use Rattle.audit_law.proofs.{Determined.same_verdict, Owing.{PaidAt, due_there, next_is_due, next_of, split_at, timely, within}}
+use Rattle.audit_law.specs.{CorrectionPoints.{IsDueByPoint, IsPointOf, OwesPoint, ShowsVerdict, TellsPoint}, DebtLaws.PointLaw}
 use Rattle.run_law.specs.declared.judgement.Why.TheVariants as whys
 use Rattle.run_law.specs.declared.note.NoteBody.TheVariants as notes
-use Rattle.run_law.specs.declared.note.NoteBody.{NoteBody}
-use Rattle.run_law.specs.device.LocalClocks.{changes_adjustment}
-use Rattle.run_law.specs.device.States.{adjustment_after, adjustment_before, state_after}
-use Rattle.run_law.specs.records.Happenings.{Happening, earlier, time_of, up_to}
-use Rattle.run_law.specs.records.Order.{IsBefore, IsIn}
-use Rattle.run_law.specs.records.Ranks.{key, members_in, place_at, place_of, rank}
-use Rattle.audit_law.specs.DueRecords.{IsCaused, IsDue}
-use Rattle.run_law.specs.runs.Runs.{IsFounded}
-use Rattle.run_law.specs.scenario.Devices.{plan_of}
-use Rattle.run_law.specs.scenario.Scenarios.{Scenario, is_turned_on_at}
-use Rattle.sync_state.specs.Standing.{Standing, next_point}
-use Rattle.sync_state.specs.Verdicts.{HasVerdict}
-use Rattle.sync_state.specs.declared.answers.Verdict.TheVariants.{AsyncClique, Cleared, Corrected, SyncClique}
-use Rattle.sync_state.specs.declared.answers.Verdict.{Verdict}
-use Rattle.sync_state.specs.declared.state.State.TheVariants.{Integrating}
-use Rattle.sync_state.specs.declared.state.State.{State}
-use Rattle.run_law.proofs.law.FirstPlaces.{IsSplit, in_filter, none_kept, split}
-use Rattle.tte_units.specs.Amount.{units_of}
-use Rattle.tte_units.specs.declared.units.Units.{Units}
-use Rattle.audit_law.specs.CorrectionPoints.{IsDueByPoint, IsPointOf, OwesPoint, ShowsVerdict, TellsPoint}
-use Rattle.audit_law.specs.Debts.{IsDueIn}
-use Rattle.audit_law.specs.DebtLaws.{PointLaw}
-use Rattle.run_law.proofs.device.States.{reaches_by}
-use Rattle.run_law.proofs.records.Order.{after_more, all_kept, has_passed, makes_none}
-use Rattle.audit_law.proofs.Owing.{PaidAt, due_there, next_is_due, next_of, split_at, timely, within}
 
 -- ---- what the records of earlier times tell
 

@@ -1,19 +1,10 @@
 -- Founded lists in the order of time, cut at a time.
-use Rattle.std.proofs.lemmas.Bool.{cases_lt, le-ltb, lt-ltb}
-use Rattle.std.proofs.lemmas.List.{append-nil}
-use Rattle.std.proofs.lemmas.List.Elements.{filter-append}
-use Rattle.std.proofs.Common.{◌≡◌, ℕ, ◌<◌, ◌≤◌, Bool, true, false, List, [], ◌∷◌, ◌++◌, length, Option, Some, None, filter, not, inl, inr, refl, sym, ap, subst, ◌∙◌, append_assoc, arith, if◌then◌else◌, ◌-◌}
-use Rattle.std.specs.List.{after_last, fold, last_or, suffix_len}
-use Rattle.std.specs.Option.{option_map_or}
-use Rattle.std.specs.Prelude.{nat_lt}
-use Rattle.run_law.proofs.law.FirstPlaces.{front_founded, none_kept, split}
-use Rattle.run_law.proofs.records.Order.{all_kept, in_drop, time_before}
-use Rattle.run_law.proofs.runs.Lacking.{behind_first}
-use Rattle.run_law.proofs.runs.Places.{before_later_time, chain, earlier_time, in_parts, in_right, never_self}
-use Rattle.run_law.specs.records.Happenings.{Happening, earlier, time_of}
-use Rattle.run_law.specs.records.Order.{AllBefore, IsBefore, IsIn, NoneBefore}
-use Rattle.run_law.specs.records.Ranks.{key, members_in, place_of, rank}
-use Rattle.run_law.specs.runs.Runs.{IsFounded, IsRun}
+use Rattle.audit_law.proofs.Words.{if◌then◌else◌, ◌++◌, ◌-◌, ◌<◌, ◌∙◌, ◌∷◌, ◌≡◌, ◌≤◌, AllBefore, Bool, Happening, IsBefore, IsFounded, IsIn, IsRun, List, None}
+use Rattle.audit_law.proofs.Words.{NoneBefore, Option, Some, [], after_last, ap, append-nil, arith, behind_first, cases_lt, chain, earlier, false, filter}
+use Rattle.audit_law.proofs.Words.{filter-append, fold, front_founded, in_parts, in_right, inl, inr, key, last_or, le-ltb, length, members_in, nat_lt}
+use Rattle.audit_law.proofs.Words.{never_self, none_kept, not, option_map_or, place_of, rank, refl, split, subst, sym, time_of, true, ℕ}
+use Rattle.std.{proofs.{Common.append_assoc, lemmas.Bool.lt-ltb}, specs.List.suffix_len}
+use Rattle.run_law.proofs.{records.Order.{all_kept, in_drop, time_before}, runs.Places.{before_later_time, earlier_time}}
 
 abbrev Due : Type 1
 Due = List Happening → Happening → Type 0

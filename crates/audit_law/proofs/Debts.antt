@@ -1,12 +1,8 @@
 -- A sound list lacks nothing that is due so exactly where its debts are paid.
-use Rattle.std.proofs.Common.{◌≡◌, ℕ, List, [], ◌∷◌, ◌++◌, inl, inr, refl, sym, ap, subst, ◌∙◌}
-use Rattle.run_law.specs.records.Order.{IsBefore, IsIn, AllBefore, NoneBefore}
-use Rattle.run_law.specs.runs.Runs.{IsDetermined, IsFounded}
-use Rattle.run_law.proofs.runs.Lacking.{behind_first}
-use Rattle.run_law.proofs.runs.Places.{never_self, chain, parted}
-use Rattle.audit_law.specs.Debts.{AreDebts, IsDueIn, IsOfTime, IsPaid, IsPartOf}
-use Rattle.audit_law.specs.Findings.{AreSound, IsLacking, LacksNothing}
-use Rattle.audit_law.proofs.Sound.{founded_of_sound}
+use Rattle.audit_law.proofs.Words.{◌++◌, ◌∙◌, ◌∷◌, ◌≡◌, AllBefore, AreSound, IsBefore, IsDueIn, IsFounded, IsIn, IsPaid, LacksNothing, List, NoneBefore, [], ap}
+use Rattle.audit_law.proofs.Words.{behind_first, chain, inl, inr, never_self, parted, refl, subst, sym, ℕ}
+use Rattle.run_law.specs.runs.Runs.{IsDetermined}
+use Rattle.audit_law.{proofs.Sound.founded_of_sound, specs.{Debts.{AreDebts, IsOfTime, IsPartOf}, Findings.IsLacking}}
 
 -- a place parts a list in one way
 one_split : {N : Type 0} (place : N → List ℕ) (p : List ℕ) (ps qs ls rs : List N) → ps ++ qs ≡ ls ++ rs
@@ -20,7 +16,8 @@ one_split {N} place p (x ∷ ps) qs (l ∷ ls) rs e a n b m =
     ap (λ (t : N). t ∷ ps) head ∙ ap (λ (t : List N). l ∷ t) (one_split place p ps qs ls rs tail (λ y i. a y (inr i)) n (λ y i. b y (inr i)) m)
 
 -- each record of a founded list is due in it
-pub due_in : {N : Type 0} (place : N → List ℕ) (IsDue : List N → N → Type 0) (ns : List N) (m : N) → IsFounded place IsDue ns → IsIn m ns → IsDueIn place IsDue ns m
+pub due_in : {N : Type 0} (place : N → List ℕ) (IsDue : List N → N → Type 0) (ns : List N) (m : N) → IsFounded place IsDue ns → IsIn m ns
+    → IsDueIn place IsDue ns m
 due_in {N} place IsDue ns m founded i =
     let at = parted m ns i in
     let here = founded at.0 at.1 m at.2 in

@@ -1,32 +1,13 @@
 -- What is owed of leavings is due.
-use Rattle.std.proofs.Common.{◌≡◌, ℕ, ◌+◌, ◌<◌, ◌≤◌, false, List, [], ◌∷◌, ◌++◌, Some, inl, inr, refl, sym, ap, subst, ◌∙◌, arith}
-use Rattle.net_plan.specs.declared.ids.DeviceId.{DeviceId}
-use Rattle.net_plan.specs.declared.ids.LinkId.{LinkId}
-use Rattle.net_plan.specs.declared.ids.VlId.{VlId}
-use Rattle.net_plan.specs.declared.network.Network.{Network}
-use Rattle.run_law.specs.control.Leaving.{Departs, Departure, Gives, departure, leaves, on_cut_way, too_old}
+use Rattle.audit_law.proofs.Words.{◌++◌, ◌+◌, ◌<◌, ◌∙◌, ◌∷◌, ◌≡◌, ◌≤◌, DeviceId, Gives, Happening, HasAccepted, IsBefore, IsCaused, IsDue, IsDueIn, IsFounded}
+use Rattle.audit_law.proofs.Words.{LinkId, List, Network, NoteBody, Old, Reason, Scenario, Some, VlId, [], ahead, ap, arith, false, inl, inr, is_broken, key}
+use Rattle.audit_law.proofs.Words.{members_in, numbered, place_at, place_of, rank, refl, same_some, split, subst, sym, time_of, units_of, ℕ}
+use Rattle.run_law.{proofs.runs.SameSteps.same_departure, specs.control.Leaving.{Departs, Departure, departure, leaves, on_cut_way, too_old}}
 use Rattle.run_law.specs.control.Wires.{Launch, launched}
-use Rattle.run_law.specs.declared.judgement.Reason.TheVariants.{Old}
-use Rattle.run_law.specs.declared.judgement.Reason.{Reason}
-use Rattle.run_law.specs.declared.note.NoteBody.{NoteBody}
-use Rattle.run_law.specs.declared.note.NoteBody.TheVariants as notes
-use Rattle.run_law.specs.records.Happenings.{Happening, numbered, time_of}
-use Rattle.run_law.specs.records.Order.{IsBefore}
-use Rattle.run_law.specs.records.Ranks.{key, members_in, place_at, place_of, rank}
-use Rattle.audit_law.specs.DueRecords.{IsCaused, IsDue}
-use Rattle.run_law.specs.runs.Runs.{IsFounded}
-use Rattle.run_law.specs.scenario.Scenarios.{Scenario, is_broken}
-use Rattle.run_law.specs.timed.Dispatching.{HasAccepted}
-use Rattle.run_law.proofs.law.FirstPlaces.{split}
-use Rattle.run_law.proofs.runs.SameSteps.{same_departure}
-use Rattle.tte_units.specs.Amount.{units_of}
-use Rattle.audit_law.specs.Debts.{IsDueIn}
-use Rattle.audit_law.specs.Departures.{IsDueByLeaving, OwesDeparture, TellsDeparture, leaves_at, leaving_record}
-use Rattle.audit_law.specs.DebtLaws.{DepartureLaw}
-use Rattle.run_law.proofs.records.Order.{ahead}
-use Rattle.tte_lemmas.proofs.Options.{one as same_some}
-use Rattle.audit_law.proofs.PermanentDrops.{not_old}
 use Rattle.audit_law.proofs.Owing.{PaidAt, due_there, found_before, from_one, front_of, in_whole, next_is_due, next_of, split_at, taken_there, timely, within}
+use Rattle.audit_law.{proofs.PermanentDrops.not_old, specs.DebtLaws.DepartureLaw}
+use Rattle.audit_law.specs.Departures.{IsDueByLeaving, OwesDeparture, TellsDeparture, leaves_at, leaving_record}
+use Rattle.run_law.specs.declared.note.NoteBody.TheVariants as notes
 
 -- a frame is given by a record of a lower rank than that of its leaving
 given_before : (network : Network) (body : NoteBody) (device : DeviceId) (link : LinkId) (cause : ℕ) (d : Departure) → Gives network body device link

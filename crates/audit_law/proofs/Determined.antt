@@ -1,33 +1,17 @@
 -- A record that is due in an audit is determined by its place.
-use Rattle.std.proofs.Common.{◌≡◌, ◌⊎◌, ℕ, List, inl, inr, sym, ap, subst, ◌∙◌, arith}
-use Rattle.std.specs.Prelude.{◌+ℤ◌}
-use Rattle.audit_law.specs.CorrectionNumbers.{ComesToPoint, heard_since_point, standing_at}
-use Rattle.audit_law.specs.DueRecords.{ChangesState, IsCaused, IsCorrectedRecord, IsDue}
-use Rattle.membership.proofs.OneSummary.{one_summary}
-use Rattle.membership.specs.Summary.{Summary}
+use Rattle.audit_law.proofs.Words.{◌+ℤ◌, ◌∙◌, ◌≡◌, ◌⊎◌, AsyncClique, ChangesState, ComesToPoint, Corrected, DeviceId, Happening, HasVerdict, IsCaused, IsDue}
+use Rattle.audit_law.proofs.Words.{List, NoteBody, Scenario, State, SyncClique, Units, Verdict, Why, adjustment_before, amount, ap, arith, heard_since_point}
+use Rattle.audit_law.proofs.Words.{inl, inr, key, members_in, next_point, place_of, rank, standing_at, subst, sym, ℕ}
+use Rattle.membership.{proofs.OneSummary.one_summary, specs.Summary.Summary}
 use Rattle.net_plan.proofs.SameIds.{same_device}
-use Rattle.net_plan.specs.declared.ids.DeviceId.{DeviceId}
-use Rattle.run_law.proofs.runs.Determined as runs_determined
-use Rattle.run_law.proofs.runs.Determined.{no_cause, same_note, same_time, same_units}
-use Rattle.run_law.specs.declared.judgement.Why.TheVariants as whys
-use Rattle.run_law.specs.declared.judgement.Why.{Why}
-use Rattle.run_law.specs.declared.note.NoteBody.TheVariants as notes
-use Rattle.run_law.specs.declared.note.NoteBody.{NoteBody}
-use Rattle.run_law.specs.device.States.{adjustment_before}
-use Rattle.run_law.specs.records.Happenings.{Happening, happening}
-use Rattle.run_law.specs.records.Ranks.{key, members_in, place_of, rank}
-use Rattle.run_law.specs.runs.DueRecords as runs
-use Rattle.run_law.specs.runs.Runs.{IsDetermined}
-use Rattle.run_law.specs.scenario.Scenarios.{Scenario}
+use Rattle.run_law.{proofs.runs.Determined.{no_cause, same_note, same_time, same_units}, specs.{records.Happenings.happening, runs.Runs.IsDetermined}}
 use Rattle.sync_state.proofs.LawLemmas.{one_verdict}
-use Rattle.sync_state.specs.Standing.{next_point}
-use Rattle.sync_state.specs.Verdicts.{HasVerdict}
-use Rattle.sync_state.specs.declared.answers.Verdict.TheVariants.{AsyncClique, Corrected, SyncClique}
-use Rattle.sync_state.specs.declared.answers.Verdict.{Verdict}
-use Rattle.sync_state.specs.declared.state.State.{State}
 use Rattle.tte_lemmas.proofs.Options.{one}
-use Rattle.tte_units.specs.Amount.{amount}
-use Rattle.tte_units.specs.declared.units.Units.{Units}
+use Rattle.audit_law.specs.DueRecords.{IsCorrectedRecord}
+use Rattle.run_law.proofs.runs.Determined as runs_determined
+use Rattle.run_law.specs.declared.judgement.Why.TheVariants as whys
+use Rattle.run_law.specs.declared.note.NoteBody.TheVariants as notes
+use Rattle.run_law.specs.runs.DueRecords as runs
 
 -- ---- what is caused as in a run
 
@@ -119,7 +103,8 @@ same_state device other state later cause from why ids states causes =
     ∙ ap (λ (n : ℕ). notes.State other later n why) causes
 
 -- what is of a correction point has not the place of what is of none
-apart : (s : Scenario) (hs : List Happening) (time : Units) (m n : ℕ) (a b : NoteBody) → IsOfPoint a → IsOfNoPoint b → IsCaused s hs time a → IsCaused s hs time b
+apart : (s : Scenario) (hs : List Happening) (time : Units) (m n : ℕ) (a b : NoteBody) → IsOfPoint a → IsOfNoPoint b → IsCaused s hs time a
+    → IsCaused s hs time b
     → rank a ≡ rank b → key m a ≡ key n b → ⊥
 apart s hs time m n (notes.Corrected device cycle by adjustment) (notes.Corrected other number gain later) p off a b kinds keys = off
 apart s hs time m n (notes.Corrected device cycle by adjustment) body p off a b kinds keys = omega (arith, kinds)

@@ -1,28 +1,13 @@
 -- What is owed of schedules is due.
-use Rattle.std.proofs.Common.{◌≡◌, ℕ, ◌+◌, ◌*◌, ◌≤◌, pos, Bool, true, false, List, [], ◌∷◌, inl, inr, refl, sym, ap, subst, ◌∙◌}
-use Rattle.std.specs.Prelude.{if◌then◌else◌}
-use Rattle.net_plan.specs.declared.ids.DeviceId.{DeviceId}
-use Rattle.net_plan.specs.declared.ids.LinkId.{LinkId}
-use Rattle.net_plan.specs.declared.ids.VlId.{VlId}
+use Rattle.audit_law.proofs.Words.{if◌then◌else◌, ◌*◌, ◌+◌, ◌∙◌, ◌∷◌, ◌≡◌, ◌≤◌, Bool, DeviceId, Dispatch, Happening, Integrating, IsBefore, IsCaused, IsDue}
+use Rattle.audit_law.proofs.Words.{IsDueIn, IsFounded, LinkId, List, NoteBody, Scenario, Synchronised, VlId, [], amount, ap, earlier, false, inl, inr}
+use Rattle.audit_law.proofs.Words.{is_turned_on_at, key, members_in, place_at, place_of, pos, rank, refl, same_earlier, split, state_after, subst, sym, time_of}
+use Rattle.audit_law.proofs.Words.{true, units_of, ℕ}
+use Rattle.run_law.{proofs.{device.States.reaches_by, timed.Rows.at_hand_by}, specs.timed.Dispatching.{Dispatches, IsUp, Sends}}
+use Rattle.audit_law.{proofs.Owing.{PaidAt, due_there, earlier_in, next_is_due, next_of, timely, within}, specs.DebtLaws.{DispatchLaw, SendingLaw}}
+use Rattle.audit_law.specs.Dispatched.{IsDueByDispatch, IsDueBySending, OwesDispatch, OwesSending, Sending, TellsDispatch, TellsSending, dispatch_record}
+use Rattle.audit_law.specs.Dispatched.{is_cut_then}
 use Rattle.run_law.specs.declared.note.NoteBody.TheVariants as notes
-use Rattle.run_law.specs.declared.note.NoteBody.{NoteBody}
-use Rattle.run_law.specs.device.States.{state_after}
-use Rattle.run_law.specs.records.Happenings.{Happening, earlier, time_of}
-use Rattle.run_law.specs.records.Order.{IsBefore}
-use Rattle.run_law.specs.records.Ranks.{key, members_in, place_at, place_of, rank}
-use Rattle.audit_law.specs.DueRecords.{IsCaused, IsDue}
-use Rattle.run_law.specs.runs.Runs.{IsFounded}
-use Rattle.run_law.specs.scenario.Scenarios.{Scenario, is_turned_on_at}
-use Rattle.run_law.specs.timed.Dispatching.{Dispatches, IsUp, Sends}
-use Rattle.sync_state.specs.declared.state.State.TheVariants.{Integrating, Synchronised}
-use Rattle.run_law.proofs.law.FirstPlaces.{same_earlier, split}
-use Rattle.tte_units.specs.Amount.{amount, units_of}
-use Rattle.audit_law.specs.Debts.{IsDueIn}
-use Rattle.audit_law.specs.Dispatched.{Dispatch, IsDueByDispatch, IsDueBySending, OwesDispatch, OwesSending, Sending, TellsDispatch, TellsSending, dispatch_record, is_cut_then}
-use Rattle.audit_law.specs.DebtLaws.{DispatchLaw, SendingLaw}
-use Rattle.run_law.proofs.device.States.{reaches_by}
-use Rattle.run_law.proofs.timed.Rows.{at_hand_by}
-use Rattle.audit_law.proofs.Owing.{PaidAt, due_there, earlier_in, next_is_due, next_of, timely, within}
 
 -- ---- what the records of earlier times tell
 

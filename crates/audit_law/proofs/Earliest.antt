@@ -1,21 +1,11 @@
 -- The earliest of the first times of all kinds of debts.
-use Rattle.std.proofs.lemmas.Bool.{cases_lt}
-use Rattle.std.proofs.Common.{◌≡◌, ◌⊎◌, ℕ, ◌+◌, ◌≤◌, List, [], ◌∷◌, Option, Some, None, MatchOption, inl, inr, refl, subst, arith}
+use Rattle.audit_law.proofs.Words.{◌+◌, ◌∷◌, ◌≡◌, ◌≤◌, ◌⊎◌, AreSound, Debt, DeviceId, Dispatch, Happening, IsDue, IsOwed, IsPaid, LacksNothing, LinkId, List}
+use Rattle.audit_law.proofs.Words.{None, Option, Pays, Scenario, Some, [], arith, cases_lt, inl, inr, place_of, refl, subst, ℕ}
+use Rattle.std.proofs.Common.{MatchOption}
 use Rattle.compression.specs.declared.compressed.Compressed.{Compressed}
-use Rattle.net_plan.specs.declared.ids.DeviceId.{DeviceId}
-use Rattle.net_plan.specs.declared.ids.LinkId.{LinkId}
-use Rattle.run_law.specs.records.Happenings.{Happening}
-use Rattle.run_law.specs.records.Ranks.{place_of}
-use Rattle.run_law.specs.scenario.Scenarios.{Scenario}
-use Rattle.audit_law.specs.DebtLaws.{IsFirstDebt}
-use Rattle.audit_law.specs.Debts.{IsPaid}
-use Rattle.audit_law.specs.Dispatched.{Dispatch, Sending}
-use Rattle.audit_law.specs.DueRecords.{IsDue}
-use Rattle.audit_law.specs.Findings.{AreSound, LacksNothing}
-use Rattle.audit_law.specs.FirstDebts.{FirstDebtLaw, TellsFirst, earlier_of}
+use Rattle.audit_law.{proofs.AllOwed.debt_law, specs.{DebtLaws.IsFirstDebt, Dispatched.Sending, FirstDebts.{FirstDebtLaw, TellsFirst, earlier_of}}}
+use Rattle.audit_law.specs.Owed.{falls_due}
 use Rattle.audit_law.specs.Owed as debts
-use Rattle.audit_law.specs.Owed.{Debt, IsOwed, Pays, falls_due}
-use Rattle.audit_law.proofs.AllOwed.{debt_law}
 
 -- at this time, the first such, a debt falls due of which this holds and that no record pays
 record IsFirstIn (s : Scenario) (hs : List Happening) (until : ℕ) (P : Debt → Type 0) (time : ℕ) : Type 0 where

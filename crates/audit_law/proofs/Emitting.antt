@@ -1,30 +1,14 @@
 -- What is owed of clusters is due.
-use Rattle.std.proofs.lemmas.Bool.{false_from_ne_true}
-use Rattle.std.proofs.lemmas.List.{append-nil}
-use Rattle.std.proofs.lemmas.List.Elements.{filter-append}
-use Rattle.std.proofs.Common.{◌≡◌, ℕ, ◌+◌, pos, Bool, List, [], ◌∷◌, ◌++◌, filter, inl, inr, refl, sym, ap, subst, ◌∙◌}
-use Rattle.std.specs.Prelude.{if◌then◌else◌}
+use Rattle.audit_law.proofs.Words.{if◌then◌else◌, ◌++◌, ◌+◌, ◌∙◌, ◌∷◌, ◌≡◌, AllBefore, Bool, DeviceId, Happening, IsBefore, IsCaused, IsDue, IsDueIn, IsFounded}
+use Rattle.audit_law.proofs.Words.{IsReach, IsSplit, List, NoteBody, Scenario, Units, [], ap, append-nil, false_from_ne_true, filter, filter-append, inl, inr}
+use Rattle.audit_law.proofs.Words.{is_before, is_there, key, members_in, none_kept, place_at, place_of, pos, rank, refl, split, subst, sym, time_of, ℕ}
 use Rattle.compression.specs.declared.compressed.Compressed.{Compressed}
-use Rattle.drift_clock.specs.Reach.{IsReach}
-use Rattle.net_plan.specs.declared.ids.DeviceId.{DeviceId}
-use Rattle.pcf_values.specs.declared.members.Members.{Members}
-use Rattle.run_law.specs.control.Emissions.{Emits}
-use Rattle.run_law.specs.declared.note.NoteBody.TheVariants as notes
-use Rattle.run_law.specs.declared.note.NoteBody.{NoteBody}
-use Rattle.run_law.specs.records.Happenings.{Happening, time_of}
-use Rattle.run_law.specs.records.Order.{AllBefore, IsBefore, is_before}
-use Rattle.run_law.specs.records.Ranks.{key, members_in, place_at, place_of, rank}
-use Rattle.audit_law.specs.DueRecords.{IsCaused, IsDue}
-use Rattle.run_law.specs.runs.Runs.{IsFounded}
-use Rattle.run_law.specs.scenario.Scenarios.{Scenario}
-use Rattle.run_law.proofs.law.FirstPlaces.{IsSplit, none_kept, split}
-use Rattle.tte_units.specs.declared.units.Units.{Units}
-use Rattle.audit_law.specs.Debts.{IsDueIn}
-use Rattle.audit_law.specs.Emitted.{IsDueByEmission, OwesEmission, TellsEmission, before_place, emission_place, emission_record}
-use Rattle.audit_law.specs.DebtLaws.{EmissionLaw}
 use Rattle.drift_clock.proofs.Reaches.{one_reach}
-use Rattle.run_law.proofs.records.Order.{before_is, is_there}
-use Rattle.audit_law.proofs.Owing.{PaidAt, due_there, next_is_due, next_of, split_at, timely, within}
+use Rattle.pcf_values.specs.declared.members.Members.{Members}
+use Rattle.run_law.{proofs.records.Order.before_is, specs.control.Emissions.Emits}
+use Rattle.audit_law.{proofs.Owing.{PaidAt, due_there, next_is_due, next_of, split_at, timely, within}, specs.DebtLaws.EmissionLaw}
+use Rattle.audit_law.specs.Emitted.{IsDueByEmission, OwesEmission, TellsEmission, before_place, emission_place, emission_record}
+use Rattle.run_law.specs.declared.note.NoteBody.TheVariants as notes
 
 -- ---- the records before a place
 

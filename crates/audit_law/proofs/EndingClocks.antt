@@ -1,22 +1,10 @@
 -- What is owed at the end of the events is due.
-use Rattle.std.proofs.Common.{◌≡◌, ℕ, ◌+◌, List, [], ◌∷◌, refl, sym, ap, subst, ◌∙◌}
-use Rattle.net_plan.specs.declared.ids.DeviceId.{DeviceId}
-use Rattle.run_law.specs.declared.note.NoteBody.TheVariants as notes
-use Rattle.run_law.specs.declared.note.NoteBody.{NoteBody}
-use Rattle.run_law.specs.device.States.{adjustment_after, state_after}
-use Rattle.run_law.specs.records.Happenings.{Happening, time_of, up_to}
-use Rattle.run_law.specs.records.Order.{IsBefore}
-use Rattle.run_law.specs.records.Ranks.{key, members_in, place_at, place_of, rank}
-use Rattle.audit_law.specs.DueRecords.{IsDue}
+use Rattle.audit_law.proofs.Words.{◌+◌, ◌∙◌, ◌∷◌, ◌≡◌, DeviceId, Happening, IsBefore, IsDue, IsDueIn, IsFounded, List, NoteBody, Scenario, [], adjustment_after}
+use Rattle.audit_law.proofs.Words.{ap, key, members_in, place_at, place_of, rank, refl, split, state_after, subst, sym, time_of, units_of, up_to, ℕ}
 use Rattle.run_law.specs.runs.DueRecords.{EndsAt, IsClockRecord}
-use Rattle.run_law.specs.runs.Runs.{IsFounded}
-use Rattle.run_law.specs.scenario.Scenarios.{Scenario}
-use Rattle.run_law.proofs.law.FirstPlaces.{split}
-use Rattle.tte_units.specs.Amount.{units_of}
-use Rattle.audit_law.specs.Debts.{IsDueIn}
+use Rattle.audit_law.{proofs.Owing.{PaidAt, due_there, next_is_due, next_of, of_amount, timely, within}, specs.DebtLaws.ClockLaw}
 use Rattle.audit_law.specs.EndClocks.{IsClockOf, IsDueByEnd, OwesClock, TellsClock}
-use Rattle.audit_law.specs.DebtLaws.{ClockLaw}
-use Rattle.audit_law.proofs.Owing.{PaidAt, due_there, next_is_due, next_of, of_amount, timely, within}
+use Rattle.run_law.specs.declared.note.NoteBody.TheVariants as notes
 
 some_clock : (s : Scenario) (hs : List Happening) (until : ℕ) (device : DeviceId) (time : ℕ) → IsFounded place_of (IsDue s) hs
     → OwesClock s until device time

@@ -1,24 +1,11 @@
 -- What may be found wrong with the records of a scenario.
-use Rattle.std.proofs.Common.{◌≡◌, ◌⊎◌, ℕ, List, ◌∷◌, Some, inl, inr, refl, sym, subst}
-use Rattle.net_plan.specs.declared.ids.DeviceId.{DeviceId}
-use Rattle.net_plan.specs.declared.ids.VlId.{VlId}
-use Rattle.run_law.specs.records.Causes.{cause_of}
-use Rattle.run_law.specs.timed.Dispatching.{HasAccepted}
-use Rattle.run_law.specs.runs.Runs.{IsFounded}
-use Rattle.run_law.proofs.law.FirstDeliveries.{accepted_in}
-use Rattle.audit_law.proofs.Numbered.{by_number}
-use Rattle.run_law.proofs.law.FirstPlaces.{front_founded}
-use Rattle.tte_units.specs.Amount.{amount}
-use Rattle.run_law.specs.records.Happenings.{Happening, numbered}
-use Rattle.run_law.specs.records.Ranks.{place_of}
-use Rattle.audit_law.specs.DueRecords.{IsCaused, IsDue}
-use Rattle.run_law.specs.scenario.Scenarios.{Scenario}
-use Rattle.run_law.specs.declared.judgement.Why.TheVariants as whys
-use Rattle.run_law.specs.declared.note.NoteBody.{NoteBody}
-use Rattle.run_law.specs.declared.note.NoteBody.TheVariants as notes
-use Rattle.tte_units.specs.declared.units.Units.{Units}
+use Rattle.audit_law.proofs.Words.{◌∷◌, ◌≡◌, ◌⊎◌, DeviceId, Happening, HasAccepted, IsCaused, IsDue, IsFounded, List, NoteBody, Scenario, Some, Units, VlId}
+use Rattle.audit_law.proofs.Words.{amount, front_founded, inl, inr, numbered, place_of, refl, subst, sym, ℕ}
+use Rattle.run_law.{proofs.law.FirstDeliveries.accepted_in, specs.records.Causes.cause_of}
+use Rattle.audit_law.proofs.{Numbered.by_number, Sound.{founded_of_sound, lacks_in_gaps, next_exactly, none_unsound, one_unsound, run_exactly}}
 use Rattle.audit_law.specs.Laws.{AuditLaws, GapLaw, NextLaw}
-use Rattle.audit_law.proofs.Sound.{founded_of_sound, run_exactly, none_unsound, one_unsound, lacks_in_gaps, next_exactly}
+use Rattle.run_law.specs.declared.judgement.Why.TheVariants as whys
+use Rattle.run_law.specs.declared.note.NoteBody.TheVariants as notes
 
 pub audit_laws : AuditLaws
 audit_laws s mark hs = record {

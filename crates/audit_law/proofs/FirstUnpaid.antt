@@ -1,12 +1,6 @@
 -- The first record that is lacking is that of the first debt that is not paid.
-use Rattle.std.proofs.lemmas.Bool.{cases_lt}
-use Rattle.std.proofs.Common.{◌≡◌, ℕ, List, ◌∷◌, inl, inr, sym, ◌∙◌, arith}
-use Rattle.run_law.specs.records.Happenings.{Happening, time_of}
-use Rattle.run_law.specs.records.Ranks.{key, members_in, rank}
-use Rattle.run_law.specs.scenario.Scenarios.{Scenario}
-use Rattle.audit_law.specs.DebtLaws.{IsFirstDebt, IsFirstLack, LackLaw, ShowsInDebts}
-use Rattle.audit_law.proofs.AllOwed.{debt_law}
-use Rattle.audit_law.proofs.Owing.{timely, within}
+use Rattle.audit_law.proofs.Words.{◌∙◌, ◌∷◌, ◌≡◌, Happening, List, Scenario, arith, cases_lt, inl, inr, key, members_in, rank, sym, time_of, ℕ}
+use Rattle.audit_law.{proofs.{AllOwed.debt_law, Owing.{timely, within}}, specs.DebtLaws.{IsFirstDebt, IsFirstLack, LackLaw, ShowsInDebts}}
 
 lack_to_debt : (s : Scenario) (hs : List Happening) (until time : ℕ) → ShowsInDebts s hs until → IsFirstLack s hs until time
     → IsFirstDebt s hs until time

@@ -25,3 +25,4 @@ pub mod Steps
 pub mod Passing
 pub mod SameDue
 pub mod SameRuns
+pub mod Words

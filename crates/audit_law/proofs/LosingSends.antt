@@ -1,28 +1,12 @@
 -- What is owed of `send` events on ways that are cut is due.
-use Rattle.std.proofs.Common.{◌≡◌, ℕ, ◌+◌, List, [], ◌∷◌, Some, inl, inr, refl, sym, ap, subst, ◌∙◌, arith}
-use Rattle.std.specs.Prelude.{slice_get}
-use Rattle.net_plan.specs.declared.event.What.TheVariants.{Send}
-use Rattle.net_plan.specs.declared.ids.DeviceId.{DeviceId}
-use Rattle.net_plan.specs.declared.ids.LinkId.{LinkId}
-use Rattle.net_plan.specs.declared.network.Network.{Network}
-use Rattle.net_plan.specs.declared.tables.Link.{Link}
-use Rattle.run_law.specs.control.Leaving.{Gives}
+use Rattle.audit_law.proofs.Words.{◌+◌, ◌∙◌, ◌∷◌, ◌≡◌, DeviceId, Gives, Happening, IsBefore, IsCaused, IsDue, IsDueIn, IsFounded, LinkId, List, Network}
+use Rattle.audit_law.proofs.Words.{NoteBody, Scenario, Some, [], ahead, ap, arith, inl, inr, key, members_in, numbered, place_at, place_of, rank, refl}
+use Rattle.audit_law.proofs.Words.{same_some, slice_get, split, subst, sym, time_of, ℕ}
+use Rattle.net_plan.specs.declared.{event.What.TheVariants.Send, tables.Link.Link}
 use Rattle.run_law.specs.control.Losses.{IsSendLost}
-use Rattle.run_law.specs.declared.note.NoteBody.TheVariants as notes
-use Rattle.run_law.specs.declared.note.NoteBody.{NoteBody}
-use Rattle.run_law.specs.records.Happenings.{Happening, numbered, time_of}
-use Rattle.run_law.specs.records.Order.{IsBefore}
-use Rattle.run_law.specs.records.Ranks.{key, members_in, place_at, place_of, rank}
-use Rattle.audit_law.specs.DueRecords.{IsCaused, IsDue}
-use Rattle.run_law.specs.runs.Runs.{IsFounded}
-use Rattle.run_law.specs.scenario.Scenarios.{Scenario}
-use Rattle.run_law.proofs.law.FirstPlaces.{split}
-use Rattle.audit_law.specs.Debts.{IsDueIn}
-use Rattle.audit_law.specs.DebtLaws.{LossLaw}
-use Rattle.audit_law.specs.LostSends.{IsDueBySend, OwesLoss, TellsLoss}
-use Rattle.run_law.proofs.records.Order.{ahead}
-use Rattle.tte_lemmas.proofs.Options.{one as same_some}
 use Rattle.audit_law.proofs.Owing.{PaidAt, due_there, found_before, from_one, front_of, in_whole, next_is_due, next_of, split_at, taken_there, timely, within}
+use Rattle.audit_law.specs.{DebtLaws.LossLaw, LostSends.{IsDueBySend, OwesLoss, TellsLoss}}
+use Rattle.run_law.specs.declared.note.NoteBody.TheVariants as notes
 
 -- a loss is one by other records that have its event
 pub moved : (s : Scenario) (gs hs : List Happening) (device : DeviceId) (t : ℕ) (link : LinkId) (cause : ℕ) → (h : IsSendLost s gs device t link cause)

@@ -1,13 +1,7 @@
 -- The records of a founded list by their numbers.
-use Rattle.std.proofs.Common.{◌≡◌, ℕ, zero, suc, List, [], ◌∷◌, ◌++◌, length, Some, slice_get, refl, sym, ap, subst, arith}
-use Rattle.audit_law.specs.DueRecords.{IsDue}
-use Rattle.run_law.proofs.law.FirstPlaces.{front_founded, numbered_next}
-use Rattle.run_law.proofs.runs.Places.{parted}
-use Rattle.run_law.specs.records.Happenings.{Happening, numbered}
-use Rattle.run_law.specs.records.Order.{IsIn}
-use Rattle.run_law.specs.records.Ranks.{place_of}
-use Rattle.run_law.specs.runs.Runs.{IsFounded}
-use Rattle.run_law.specs.scenario.Scenarios.{Scenario}
+use Rattle.audit_law.proofs.Words.{◌++◌, ◌∷◌, ◌≡◌, Happening, IsDue, IsFounded, IsIn, List, Scenario, Some, [], ap, arith, front_founded, length, numbered}
+use Rattle.audit_law.proofs.Words.{parted, place_of, refl, slice_get, subst, suc, sym, zero, ℕ}
+use Rattle.run_law.proofs.law.FirstPlaces.{numbered_next}
 
 -- a record of a founded list, with those before it
 pub record IsFoundedAt (s : Scenario) (hs : List Happening) (h : Happening) : Type 0 where

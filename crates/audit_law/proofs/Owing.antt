@@ -1,24 +1,11 @@
 -- What is due in a founded list, by its places.
-use Rattle.std.proofs.lemmas.Int.{ints}
-use Rattle.std.proofs.Common.{◌≡◌, ℕ, zero, suc, ℤ, pos, ◌≤ℤ◌, ◌+◌, ◌≤◌, List, [], ◌∷◌, ◌++◌, Some, length, inl, inr, refl, sym, ap, subst, arith}
-use Rattle.net_plan.specs.declared.ids.DeviceId.{DeviceId}
-use Rattle.net_plan.specs.declared.ids.VlId.{VlId}
-use Rattle.run_law.specs.timed.Dispatching.{HasAccepted}
-use Rattle.run_law.proofs.law.FirstDeliveries.{accepted_in}
-use Rattle.run_law.specs.records.Happenings.{Happening, earlier, happening, numbered, time_of}
-use Rattle.run_law.specs.records.Order.{IsBefore}
-use Rattle.run_law.specs.records.Ranks.{key, members_in, place_of, rank}
-use Rattle.audit_law.specs.DueRecords.{IsCaused, IsDue}
-use Rattle.run_law.specs.runs.Runs.{IsFounded}
-use Rattle.run_law.specs.scenario.Scenarios.{Scenario}
-use Rattle.run_law.specs.declared.note.Note.{Note}
-use Rattle.run_law.specs.declared.note.NoteBody.{NoteBody}
-use Rattle.audit_law.proofs.Numbered.{by_number, number_is}
-use Rattle.run_law.proofs.law.FirstPlaces.{IsSplit, front_founded, in_front_of, numbered_front, numbered_in, same_earlier}
-use Rattle.tte_units.specs.Amount.{amount, units_of}
-use Rattle.tte_units.specs.declared.units.Units.{Units}
-use Rattle.audit_law.specs.Debts.{IsDueIn}
+use Rattle.audit_law.proofs.Words.{◌++◌, ◌+◌, ◌∷◌, ◌≡◌, ◌≤ℤ◌, ◌≤◌, DeviceId, Happening, HasAccepted, IsBefore, IsCaused, IsDue, IsDueIn, IsFounded, IsSplit}
+use Rattle.audit_law.proofs.Words.{List, NoteBody, Scenario, Some, Units, VlId, [], amount, ap, arith, earlier, front_founded, inl, inr, ints, key, length}
+use Rattle.audit_law.proofs.Words.{members_in, numbered, numbered_front, numbered_in, place_of, pos, rank, refl, same_earlier, subst, suc, sym, time_of}
+use Rattle.audit_law.proofs.Words.{units_of, zero, ℕ, ℤ}
+use Rattle.run_law.{proofs.law.{FirstDeliveries.accepted_in, FirstPlaces.in_front_of}, specs.{declared.note.Note.Note, records.Happenings.happening}}
 use Rattle.tte_lemmas.proofs.Integers.{whole}
+use Rattle.audit_law.proofs.Numbered.{by_number, number_is}
 
 -- where a list parts at what is due in it
 abbrev pub split_at : (IsDueSo : List Happening → Happening → Type 0) (hs : List Happening) (x : Happening) → IsDueIn place_of IsDueSo hs x

@@ -1,70 +1,31 @@
 -- In a run no device passes a correction point without a record, but a joiner that of the cycle by whose frame it
 -- joined.
-use Rattle.std.proofs.lemmas.Bool.{and_from, and_parts, and_right, both_ways, cases_Bool, cases_lt, eq-eqb, eqb-true, false_from_ne_true, le-leb, ltb-true}
-use Rattle.std.proofs.lemmas.Int.{by_lt_z, ints}
-use Rattle.std.proofs.lemmas.List.{append-nil}
-use Rattle.std.proofs.lemmas.List.Elements.{filter-append}
-use Rattle.std.proofs.Common.{◌≡◌, ℕ, suc, ℤ, pos, negsuc, ◌≤ℤ◌, unsigned_abs, ◌+◌, ◌-◌, ◌*◌, ◌^◌, ◌<◌, ◌≤◌, Bool, true, false, List, [], ◌∷◌, ◌++◌, Option, Some, None, slice_get, filter, inl, inr, refl, sym, ap, subst, ◌∙◌, arith, if◌then◌else◌}
-use Rattle.std.specs.Int.{int_div_euclid}
-use Rattle.std.specs.List.{fold, last_or, list_any}
-use Rattle.std.specs.Option.{option_map_or}
-use Rattle.std.specs.Prelude.{◌+ℤ◌, ◌-ℤ◌, ◌<ℤ◌, ◌==◌, ◌&&◌, ◌||◌, nat_le, nat_lt, int_le, int_lt}
-use Rattle.audit_law.proofs.AllOwed.{debt_law}
-use Rattle.audit_law.proofs.Calm.{IsCalm, IsTimed, SaysIntegrating, calm, leaves, not_joined, stays_integrating, stays_or_leaves}
-use Rattle.audit_law.proofs.Cuts.{cut_at, in_time, no_later, sorted, stays}
-use Rattle.audit_law.proofs.Numbered.{by_number, founded_at}
-use Rattle.audit_law.proofs.Sound.{sound_of_run}
-use Rattle.audit_law.proofs.Steps.{none_more, reached_by, short_step}
-use Rattle.audit_law.specs.CorrectionNumbers.{ComesToPoint, heard_since_point, standing_at}
-use Rattle.audit_law.specs.CorrectionPoints.{IsPointOf, OwesPoint}
-use Rattle.audit_law.specs.Debts.{IsPaid}
-use Rattle.audit_law.specs.DueRecords.{ChangesState, IsCaused, IsDue}
-use Rattle.audit_law.specs.Owed as debts
-use Rattle.audit_law.specs.Owed.{Debt, IsOwed, Pays}
-use Rattle.audit_law.specs.SameRuns.{IsClocked}
-use Rattle.audit_law.specs.TracedEvents.{OwesEvent, TellsEvent}
-use Rattle.audit_law.specs.Changes.{OwesChange, TellsChange}
-use Rattle.drift_clock.specs.Reach.{IsReach}
-use Rattle.membership.specs.Summary.{Summarizes, Summary}
-use Rattle.net_plan.specs.declared.event.Event.{Event}
-use Rattle.net_plan.specs.declared.event.What.TheVariants.{On}
-use Rattle.net_plan.specs.declared.event.What.{What}
-use Rattle.net_plan.specs.declared.ids.DeviceId.{DeviceId}
-use Rattle.run_law.proofs.control.Summaries.{summary_of, verdict_of}
-use Rattle.run_law.proofs.control.Verdicts.{cycle_stays}
-use Rattle.run_law.proofs.device.States.{adjustment_kept}
-use Rattle.run_law.proofs.law.FirstPlaces.{none_kept, numbered_front, numbered_in}
-use Rattle.run_law.proofs.records.Happenings.{fold_parts}
-use Rattle.run_law.proofs.records.Order.{got_in}
-use Rattle.run_law.proofs.runs.Lacking.{behind_first}
-use Rattle.run_law.proofs.runs.Places.{in_left, in_right, parted}
-use Rattle.run_law.proofs.scenario.Choices.{at_integration}
-use Rattle.run_law.proofs.scenario.Devices.{correct_before, on_by as turned}
-use Rattle.run_law.specs.control.Corrections.{correction_value, integration_cycle, is_integration_cycle, recorded_cycle}
-use Rattle.run_law.specs.declared.judgement.Why.TheVariants as whys
-use Rattle.run_law.specs.declared.judgement.Why.{Why}
-use Rattle.run_law.specs.declared.note.NoteBody.TheVariants as notes
-use Rattle.run_law.specs.declared.note.NoteBody.{NoteBody}
-use Rattle.run_law.specs.device.LocalClocks.{Reaches, changes_adjustment}
-use Rattle.run_law.specs.device.Standpoints.{natural}
-use Rattle.run_law.specs.device.States.{adjustment_after, cycle_in, is_joined_by, state_after, state_with}
-use Rattle.run_law.specs.records.Happenings.{Happening, earlier, numbered, time_of, up_to}
-use Rattle.run_law.specs.records.Order.{IsIn}
-use Rattle.run_law.specs.records.Ranks.{place_of}
-use Rattle.run_law.specs.runs.DueRecords.{IsEventRecord}
-use Rattle.run_law.specs.runs.Runs.{IsFounded, IsRun}
-use Rattle.run_law.specs.scenario.Devices.{plan_of}
-use Rattle.run_law.specs.scenario.Scenarios.{Scenario, is_broken, is_turned_on_at, turns_on}
-use Rattle.sync_state.specs.Standing.{IsAtIntegration, Standing, next_point, point_in}
-use Rattle.sync_state.specs.Verdicts.{HasVerdict}
-use Rattle.sync_state.specs.declared.answers.Verdict.TheVariants.{AsyncClique, Cleared, Corrected, SyncClique}
-use Rattle.sync_state.specs.declared.answers.Verdict.{Verdict}
-use Rattle.sync_state.specs.declared.state.State.TheVariants.{Integrating, Joining, Off, Synchronised}
-use Rattle.sync_state.specs.declared.state.State.{State}
+use Rattle.audit_law.proofs.Words.{if◌then◌else◌, ◌&&◌, ◌*◌, ◌++◌, ◌+ℤ◌, ◌+◌, ◌-ℤ◌, ◌-◌, ◌<◌, ◌==◌, ◌||◌, ◌∙◌, ◌∷◌, ◌≡◌, ◌≤ℤ◌, ◌≤◌, AsyncClique, Bool}
+use Rattle.audit_law.proofs.Words.{ChangesState, ComesToPoint, Corrected, Debt, DeviceId, Happening, HasVerdict, Integrating, IsCaused, IsClocked, IsDue}
+use Rattle.audit_law.proofs.Words.{IsFounded, IsIn, IsOwed, IsPaid, IsReach, IsRun, Joining, List, None, NoteBody, Off, Option, Pays, Scenario, Some, Standing}
+use Rattle.audit_law.proofs.Words.{State, Summarizes, SyncClique, Synchronised, Units, Verdict, Why, [], adjustment_after, amount, and_parts, and_right, ap}
+use Rattle.audit_law.proofs.Words.{append-nil, arith, behind_first, both_ways, cases_lt, changes_adjustment, correction_value, earlier, eqb-true, false}
+use Rattle.audit_law.proofs.Words.{false_from_ne_true, filter, filter-append, fold, heard_since_point, in_right, inl, inr, int_div_euclid, int_le, int_lt}
+use Rattle.audit_law.proofs.Words.{integration_cycle, ints, is_broken, is_joined_by, is_turned_on_at, last_or, nat_le, nat_lt, natural, next_point, none_kept}
+use Rattle.audit_law.proofs.Words.{numbered, numbered_front, numbered_in, option_map_or, parted, place_of, plan_of, pos, recorded_cycle, refl, same_some}
+use Rattle.audit_law.proofs.Words.{slice_get, standing_at, state_after, subst, suc, sym, time_of, true, up_to, ℕ, ℤ}
+use Rattle.std.{proofs.{Common.{◌^◌, negsuc, unsigned_abs}, lemmas.{Bool.{and_from, cases_Bool, eq-eqb, le-leb, ltb-true}, Int.by_lt_z}}, specs.List.list_any}
+use Rattle.std.specs.Prelude.{◌<ℤ◌}
+use Rattle.membership.specs.Summary.{Summary}
+use Rattle.net_plan.specs.declared.event.{Event.Event, What.{What, TheVariants.On}}
+use Rattle.run_law.proofs.{control.{Summaries.{summary_of, verdict_of}, Verdicts.cycle_stays}, device.States.adjustment_kept, records.Happenings.fold_parts}
+use Rattle.run_law.proofs.{records.Order.got_in, runs.Places.in_left, scenario.{Choices.at_integration, Devices.{correct_before, on_by as turned}}}
+use Rattle.run_law.specs.{control.Corrections.is_integration_cycle, device.{LocalClocks.Reaches, States.{cycle_in, state_with}}, runs.DueRecords.IsEventRecord}
+use Rattle.run_law.specs.scenario.Scenarios.{turns_on}
+use Rattle.sync_state.specs.{Standing.{IsAtIntegration, point_in}, declared.answers.Verdict.TheVariants.Cleared}
 use Rattle.tte_lemmas.proofs.Integers.{int_le-from, int_le-is, int_lt-from, int_lt-is}
-use Rattle.tte_lemmas.proofs.Options.{one as same_some}
-use Rattle.tte_units.specs.Amount.{amount}
-use Rattle.tte_units.specs.declared.units.Units.{Units}
+use Rattle.audit_law.proofs.{AllOwed.debt_law, Calm.{IsCalm, IsTimed, SaysIntegrating, calm, leaves, not_joined, stays_integrating, stays_or_leaves}}
+use Rattle.audit_law.proofs.{Cuts.{cut_at, in_time, no_later, sorted, stays}, Numbered.{by_number, founded_at}, Sound.sound_of_run}
+use Rattle.audit_law.{proofs.Steps.{none_more, reached_by, short_step}, specs.{Changes.{OwesChange, TellsChange}, CorrectionPoints.{IsPointOf, OwesPoint}}}
+use Rattle.audit_law.specs.TracedEvents.{OwesEvent, TellsEvent}
+use Rattle.audit_law.specs.Owed as debts
+use Rattle.run_law.specs.declared.judgement.Why.TheVariants as whys
+use Rattle.run_law.specs.declared.note.NoteBody.TheVariants as notes
 
 -- ---- events
 
@@ -137,7 +98,8 @@ stood s device u state adjustment number integrated changed = record {
   integrated = integrated;
 }
 
-pub stands_same : (s : Scenario) (device : DeviceId) (u : ℕ) (hs gs : List Happening) → LeavesSame s device (earlier u hs) gs → is_turned_on_at s device u ≡ false
+pub stands_same : (s : Scenario) (device : DeviceId) (u : ℕ) (hs gs : List Happening) → LeavesSame s device (earlier u hs) gs
+    → is_turned_on_at s device u ≡ false
     → standing_at s hs device u ≡ standing_of s device u gs
 stands_same s device u hs gs same off =
     let es = earlier u hs in
@@ -147,7 +109,8 @@ stands_same s device u hs gs same off =
     same.state
     ∙ ap (λ (x : Units). stood s device u (state_after s gs device) x (recorded_cycle es device) (integration_cycle es device) (last_changed es device))
     same.adjustment
-    ∙ ap (λ (x : ℕ). stood s device u (state_after s gs device) (adjustment_after s gs device) x (integration_cycle es device) (last_changed es device)) same.number
+    ∙ ap (λ (x : ℕ). stood s device u (state_after s gs device) (adjustment_after s gs device) x (integration_cycle es device) (last_changed es device))
+    same.number
     ∙ ap (λ (x : Option ℕ). stood s device u (state_after s gs device) (adjustment_after s gs device) (recorded_cycle gs device) x (last_changed es device))
     same.integrated
     ∙ ap (λ (x : ℕ). stood s device u (state_after s gs device) (adjustment_after s gs device) (recorded_cycle gs device) (integration_cycle gs device) x)
@@ -183,7 +146,8 @@ set_state device other state old cause why e is =
 -- come to a further one
 record PassesOne (s : Scenario) (gs : List Happening) (device : DeviceId) (until : ℕ) : Type 0 where
   joined : integration_cycle gs device ≡ Some (recorded_cycle gs device)
-  no_further : (pos (s.reading device until) +ℤ (adjustment_after s gs device).0) <ℤ (correction_value s.network (recorded_cycle gs device) +ℤ s.network.cycle.0)
+  no_further : (pos (s.reading device until) +ℤ (adjustment_after s gs device).0)
+      <ℤ (correction_value s.network (recorded_cycle gs device) +ℤ s.network.cycle.0)
 
 -- ---- a device that has a correction point, in a run
 
@@ -338,7 +302,8 @@ module _ (s : Scenario) (clocked : IsClocked s) (gs : List Happening) (device : 
           let by = founded_at s gs x run.founded inside in
           let c : IsEventRecord s.events x.note.time line what = subst (IsCaused s by.front x.note.time) is by.due.cause in
           let places : c.before ≡ i = omega (arith, c.line_is, pays) in
-          let same : c.event ≡ event = same_some (slice_get s.events i) c.event event (subst (λ (n : ℕ). slice_get s.events n ≡ Some c.event) places c.is) there in
+          let same : c.event ≡ event = same_some (slice_get s.events i) c.event event (subst (λ (n : ℕ). slice_get s.events n ≡ Some c.event) places c.is)
+          there in
           let now : time_of x ≡ u = ap amount (c.at ∙ ap (λ (v : Event). v.time) same) ∙ at in
           let turns : what ≡ On device = c.same ∙ ap (λ (v : Event). v.what) same ∙ what_is in
           let body_is : x.note.body ≡ notes.Event line (On device) = is ∙ ap (λ (w : What). notes.Event line w) turns in
@@ -534,7 +499,8 @@ module _ (s : Scenario) (clocked : IsClocked s) (gs : List Happening) (device : 
           let n = recorded_cycle gs device in
           let value = correction_value s.network (n + 1) in
           let long = long_cycle in
-          let r = reached_by reading rises changed (value -ℤ (adjustment_after s gs device).0) until (came_since reached below) (omega (arith, ints, next_value, ge)) in
+          let r = reached_by reading rises changed (value -ℤ (adjustment_after s gs device).0) until (came_since reached below)
+          (omega (arith, ints, next_value, ge)) in
           let there = r.reach.reached in
           let early = at_first in
           let later : f.time < r.time = elim (cases_lt f.time r.time) [

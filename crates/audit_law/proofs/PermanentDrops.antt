@@ -1,30 +1,15 @@
 -- A frame that is dropped when it is permanent is dropped by a gate or for its cycle.
-use Rattle.std.proofs.Common.{◌≡◌, ◌⊎◌, Bool, true, false, List, Option, Some, None, MatchBool, inl, inr, refl, sym, ◌∙◌, ℕ, ℤ}
-use Rattle.compression.specs.Clusters.{Point}
-use Rattle.compression.specs.declared.taken.Taken.TheVariants as taken
-use Rattle.compression.specs.declared.taken.Taken.{Taken}
-use Rattle.net_plan.specs.declared.ids.DeviceId.{DeviceId}
-use Rattle.net_plan.specs.declared.ids.LinkId.{LinkId}
-use Rattle.net_plan.specs.declared.network.Network.{Network}
-use Rattle.pcf_values.specs.declared.pcf.Pcf.{Pcf}
-use Rattle.run_law.specs.control.Collections.{dispatch_value, is_number, point_fault, ripe_by_role}
-use Rattle.run_law.specs.control.Permanence.{BecomesPermanent, IsCollectedOrDropped, IsPermanenceOutcome, ripe_as}
-use Rattle.run_law.specs.declared.judgement.Judgement.{Judgement}
-use Rattle.run_law.specs.declared.judgement.Reason.TheVariants.{Cycle, Gate, Old}
-use Rattle.run_law.specs.declared.judgement.Reason.{Reason}
-use Rattle.run_law.specs.declared.steps.Ripe.TheVariants as ripe
-use Rattle.run_law.specs.device.Standpoints.{first_reason, offset_in_cycle}
-use Rattle.run_law.specs.device.States.{is_synchronised}
-use Rattle.run_law.specs.records.Happenings.{Happening}
+use Rattle.audit_law.proofs.Words.{◌&&◌, ◌*◌, ◌∙◌, ◌∷◌, ◌≡◌, ◌⊎◌, Bool, DeviceId, Happening, LinkId, List, Network, None, Old, Option, Pcf, Reason, Scenario}
+use Rattle.audit_law.proofs.Words.{Some, State, Units, [], amount, false, inl, inr, int_div_euclid, int_lt, not, pos, refl, ripe_as, sym, true, ℕ, ℤ}
+use Rattle.std.proofs.Common.{MatchBool}
+use Rattle.compression.specs.{Clusters.Point, declared.taken.Taken.Taken}
+use Rattle.run_law.{proofs.control.Verdicts.never_dropped, specs.control.Collections.{dispatch_value, is_number, point_fault, ripe_by_role}}
+use Rattle.run_law.specs.{control.Permanence.{BecomesPermanent, IsCollectedOrDropped, IsPermanenceOutcome}, declared.judgement.Judgement.Judgement}
+use Rattle.run_law.specs.{declared.judgement.Reason.TheVariants.{Cycle, Gate}, device.{Standpoints.{first_reason, offset_in_cycle}, States.is_synchronised}}
 use Rattle.run_law.specs.scenario.Devices.{is_cm}
-use Rattle.run_law.specs.scenario.Scenarios.{Scenario}
-use Rattle.std.specs.Int.{int_div_euclid}
-use Rattle.std.specs.Prelude.{[], ◌∷◌, pos, ◌*◌, ◌&&◌, int_lt, not}
-use Rattle.run_law.proofs.control.Verdicts.{never_dropped}
-use Rattle.sync_state.specs.declared.state.State.{State}
 use Rattle.tte_lemmas.proofs.Options.{one}
-use Rattle.tte_units.specs.Amount.{amount}
-use Rattle.tte_units.specs.declared.units.Units.{Units}
+use Rattle.compression.specs.declared.taken.Taken.TheVariants as taken
+use Rattle.run_law.specs.declared.steps.Ripe.TheVariants as ripe
 
 abbrev IsGateOrCycle : Reason → Type 0
 IsGateOrCycle reason = (reason ≡ Gate) ⊎ (reason ≡ Cycle)

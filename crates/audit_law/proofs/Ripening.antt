@@ -1,46 +1,19 @@
 -- What is owed of permanences is due.
-use Rattle.std.proofs.lemmas.Bool.{false_from_ne_true}
-use Rattle.std.proofs.lemmas.Int.{ints}
-use Rattle.std.proofs.lemmas.List.{append-nil}
-use Rattle.std.proofs.lemmas.List.Elements.{filter-append}
-use Rattle.std.proofs.Common.{◌≡◌, ℕ, ◌+◌, ◌<◌, ℤ, pos, Bool, List, [], ◌∷◌, ◌++◌, Option, Some, filter, inl, inr, refl, sym, ap, subst, ◌∙◌, arith}
-use Rattle.std.specs.Option.{option_map_or}
-use Rattle.std.specs.Prelude.{option_and_then}
-use Rattle.drift_clock.specs.Reach.{IsReach}
-use Rattle.net_plan.specs.declared.ids.DeviceId.{DeviceId}
-use Rattle.net_plan.specs.declared.ids.LinkId.{LinkId}
-use Rattle.net_plan.specs.declared.network.Network.{Network}
-use Rattle.pcf_values.specs.declared.pcf.Pcf.{Pcf}
-use Rattle.run_law.specs.control.Collections.{points_of}
-use Rattle.run_law.specs.control.Permanence.{BecomesPermanent, IsJudgedBy, IsPermanent, before_permanence, ripe_as}
-use Rattle.run_law.specs.declared.judgement.Judgement.TheVariants as judgements
-use Rattle.run_law.specs.declared.judgement.Judgement.{Judgement}
-use Rattle.run_law.specs.declared.note.NoteBody.TheVariants as notes
-use Rattle.run_law.specs.declared.note.NoteBody.{NoteBody}
-use Rattle.run_law.specs.declared.steps.Ripe.TheVariants as ripe
-use Rattle.run_law.specs.declared.steps.Ripe.{Ripe}
-use Rattle.run_law.specs.device.States.{adjustment_at_hearing, state_at_hearing}
-use Rattle.run_law.specs.records.Happenings.{Happening, frame_by, frame_from, numbered, time_of}
-use Rattle.run_law.specs.records.Order.{IsBefore, is_before}
-use Rattle.run_law.specs.records.Ranks.{key, members_in, place_at, place_of, rank}
-use Rattle.audit_law.specs.DueRecords.{IsCaused, IsDue}
-use Rattle.run_law.specs.runs.Runs.{IsFounded}
-use Rattle.run_law.specs.scenario.Scenarios.{Scenario}
-use Rattle.run_law.proofs.law.FirstPlaces.{IsSplit, none_kept, split}
-use Rattle.run_law.proofs.runs.Places.{chain}
-use Rattle.run_law.proofs.runs.SameSteps.{same_ripening}
-use Rattle.tte_units.specs.Amount.{units_of}
-use Rattle.tte_units.specs.declared.units.Units.{Units}
-use Rattle.audit_law.specs.Debts.{IsDueIn}
-use Rattle.audit_law.specs.DebtLaws.{PermanenceLaw}
-use Rattle.audit_law.specs.Permanences.{IsDueByPermanence, OwesPermanence, TellsPermanence, permanence_record}
+use Rattle.audit_law.proofs.Words.{◌++◌, ◌+◌, ◌<◌, ◌∙◌, ◌∷◌, ◌≡◌, Bool, DeviceId, Happening, IsBefore, IsCaused, IsDue, IsDueIn, IsFounded, IsReach, IsSplit}
+use Rattle.audit_law.proofs.Words.{LinkId, List, Network, NoteBody, Option, Pcf, Scenario, Some, Units, [], ahead, ap, append-nil, arith, chain}
+use Rattle.audit_law.proofs.Words.{false_from_ne_true, filter, filter-append, inl, inr, ints, is_before, is_there, key, members_in, none_kept, numbered}
+use Rattle.audit_law.proofs.Words.{option_and_then, option_map_or, place_at, place_of, pos, rank, refl, ripe_as, same_some, split, subst, sym, time_of}
+use Rattle.audit_law.proofs.Words.{units_of, ℕ, ℤ}
 use Rattle.drift_clock.proofs.Reaches.{one_reach}
-use Rattle.run_law.proofs.control.Verdicts.{some_outcome}
-use Rattle.run_law.proofs.records.Order.{ahead, is_there}
-use Rattle.tte_lemmas.proofs.Options.{one as same_some}
-use Rattle.audit_law.proofs.Arriving.{IsPutting, puts}
-use Rattle.audit_law.proofs.Owing.{PaidAt, due_there, found_before, in_whole, next_is_due, next_of, split_at, timely, within}
-use Rattle.audit_law.proofs.PermanentDrops.{not_old}
+use Rattle.run_law.{proofs.{control.Verdicts.some_outcome, runs.SameSteps.same_ripening}, specs.control.Collections.points_of}
+use Rattle.run_law.specs.{control.Permanence.{BecomesPermanent, IsJudgedBy, IsPermanent, before_permanence}, declared.judgement.Judgement.Judgement}
+use Rattle.run_law.specs.{declared.steps.Ripe.Ripe, device.States.{adjustment_at_hearing, state_at_hearing}, records.Happenings.{frame_by, frame_from}}
+use Rattle.audit_law.proofs.{Arriving.{IsPutting, puts}, Owing.{PaidAt, due_there, found_before, in_whole, next_is_due, next_of, split_at, timely, within}}
+use Rattle.audit_law.{proofs.PermanentDrops.not_old, specs.DebtLaws.PermanenceLaw}
+use Rattle.audit_law.specs.Permanences.{IsDueByPermanence, OwesPermanence, TellsPermanence, permanence_record}
+use Rattle.run_law.specs.declared.judgement.Judgement.TheVariants as judgements
+use Rattle.run_law.specs.declared.note.NoteBody.TheVariants as notes
+use Rattle.run_law.specs.declared.steps.Ripe.TheVariants as ripe
 
 -- ---- places
 

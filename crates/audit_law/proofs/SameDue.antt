@@ -1,42 +1,21 @@
 -- Behind a run an audit and a run have the same records due.
-use Rattle.std.proofs.lemmas.Bool.{and_from, and_parts, and_right}
-use Rattle.std.proofs.Common.{◌≡◌, ℕ, zero, suc, ℤ, pos, ◌+◌, ◌-◌, ◌≤◌, Bool, true, false, List, [], ◌∷◌, Some, refl, sym, ap, subst, ◌∙◌, arith, if◌then◌else◌}
-use Rattle.std.specs.Int.{int_div_euclid}
-use Rattle.std.specs.List.{after_last, filter_map}
-use Rattle.std.proofs.lemmas.Int.{ints}
-use Rattle.run_law.specs.device.Standpoints.{natural}
-use Rattle.std.specs.Prelude.{◌+ℤ◌, ◌-ℤ◌, ◌==◌, ◌&&◌, ◌||◌, int_le, int_lt, nat_lt, not}
-use Rattle.audit_law.proofs.Calm.{IsTimed}
-use Rattle.audit_law.proofs.Cuts.{in_behind}
-use Rattle.audit_law.proofs.Determined.{caused_in_audit, caused_in_run}
-use Rattle.audit_law.proofs.Passing.{come_of, counts, last_changed, none_at_start}
-use Rattle.audit_law.specs.CorrectionNumbers.{ComesToPoint, heard_since_point, points_come, standing_at}
-use Rattle.audit_law.specs.DueRecords.{IsCaused, IsDue}
-use Rattle.audit_law.specs.SameRuns.{IsClocked}
-use Rattle.membership.specs.Summary.{Summarizes}
-use Rattle.net_plan.specs.declared.ids.DeviceId.{DeviceId}
+use Rattle.audit_law.proofs.Words.{if◌then◌else◌, ◌&&◌, ◌+ℤ◌, ◌+◌, ◌-ℤ◌, ◌-◌, ◌==◌, ◌||◌, ◌∙◌, ◌∷◌, ◌≡◌, ◌≤◌, Bool, ComesToPoint, DeviceId, Happening}
+use Rattle.audit_law.proofs.Words.{HasVerdict, Integrating, IsCaused, IsClocked, IsDue, IsIn, IsRun, Joining, List, NoteBody, Off, Scenario, Some, Standing}
+use Rattle.audit_law.proofs.Words.{State, Summarizes, Synchronised, Units, Verdict, [], adjustment_after, adjustment_before, after_last, amount, and_parts}
+use Rattle.audit_law.proofs.Words.{and_right, ap, arith, changes_adjustment, correction_value, earlier, false, heard_since_point, int_div_euclid, int_le}
+use Rattle.audit_law.proofs.Words.{int_lt, integration_cycle, ints, is_broken, is_turned_on_at, nat_lt, natural, next_point, not, place_of, plan_of, pos}
+use Rattle.audit_law.proofs.Words.{recorded_cycle, refl, standing_at, state_after, subst, suc, sym, time_of, true, zero, ℕ, ℤ}
+use Rattle.std.{proofs.lemmas.Bool.and_from, specs.List.filter_map}
 use Rattle.run_law.proofs.records.Order.{same_kept}
-use Rattle.run_law.specs.control.Corrections.{ComesToCorrection, correction_value, has_cleared, heard_since, hearing_by, integration_cycle, is_integration_cycle, recorded_cycle, standing_before}
+use Rattle.run_law.specs.control.Corrections.{ComesToCorrection, has_cleared, heard_since, hearing_by, is_integration_cycle, standing_before}
+use Rattle.run_law.specs.device.{LocalClocks.had_come, States.state_before}
+use Rattle.sync_state.specs.Standing.{point_in}
+use Rattle.tte_lemmas.proofs.Integers.{int_le-from, int_le-is}
+use Rattle.audit_law.proofs.{Calm.IsTimed, Cuts.in_behind, Determined.{caused_in_audit, caused_in_run}, Passing.{come_of, counts, last_changed, none_at_start}}
+use Rattle.audit_law.specs.CorrectionNumbers.{points_come}
 use Rattle.run_law.specs.declared.judgement.Why.TheVariants as whys
 use Rattle.run_law.specs.declared.note.NoteBody.TheVariants as notes
-use Rattle.run_law.specs.declared.note.NoteBody.{NoteBody}
-use Rattle.run_law.specs.device.LocalClocks.{changes_adjustment, had_come}
-use Rattle.run_law.specs.device.States.{adjustment_after, adjustment_before, state_after, state_before}
-use Rattle.run_law.specs.records.Happenings.{Happening, earlier, time_of}
-use Rattle.run_law.specs.records.Order.{IsIn}
-use Rattle.run_law.specs.records.Ranks.{place_of}
 use Rattle.run_law.specs.runs.DueRecords as runs
-use Rattle.run_law.specs.runs.Runs.{IsRun}
-use Rattle.run_law.specs.scenario.Devices.{plan_of}
-use Rattle.run_law.specs.scenario.Scenarios.{Scenario, is_broken, is_turned_on_at}
-use Rattle.sync_state.specs.Standing.{Standing, next_point, point_in}
-use Rattle.sync_state.specs.Verdicts.{HasVerdict}
-use Rattle.sync_state.specs.declared.answers.Verdict.{Verdict}
-use Rattle.sync_state.specs.declared.state.State.TheVariants.{Integrating, Joining, Off, Synchronised}
-use Rattle.sync_state.specs.declared.state.State.{State}
-use Rattle.tte_lemmas.proofs.Integers.{int_le-from, int_le-is}
-use Rattle.tte_units.specs.Amount.{amount}
-use Rattle.tte_units.specs.declared.units.Units.{Units}
 
 -- ---- how many points have come
 

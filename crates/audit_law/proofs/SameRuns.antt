@@ -1,21 +1,10 @@
 -- What is a run by what is due in an audit is one by what is due in a run, and the other way round.
-use Rattle.std.proofs.lemmas.List.{append-nil}
-use Rattle.std.proofs.lemmas.List.Elements.{filter-append}
-use Rattle.std.proofs.lemmas.Bool.{cases_lt, le-ltb}
-use Rattle.std.proofs.Common.{◌≡◌, ℕ, zero, suc, ◌+◌, ◌≤◌, List, [], ◌∷◌, ◌++◌, inl, inr, sym, ap, subst, ◌∙◌, arith}
-use Rattle.std.specs.Prelude.{nat_lt}
-use Rattle.audit_law.proofs.Cuts.{cut_at, in_time, run_before, run_by}
-use Rattle.audit_law.proofs.SameDue.{same_due}
-use Rattle.audit_law.specs.DueRecords.{IsDue}
-use Rattle.audit_law.specs.SameRuns.{IsClocked, SameRuns}
-use Rattle.run_law.proofs.law.FirstPlaces.{none_kept}
+use Rattle.audit_law.proofs.Words.{◌++◌, ◌+◌, ◌∙◌, ◌∷◌, ◌≡◌, ◌≤◌, AllBefore, Happening, IsClocked, IsDue, IsIn, IsRun, List, NoneBefore, Scenario, [], ap}
+use Rattle.audit_law.proofs.Words.{append-nil, arith, cases_lt, earlier, filter-append, inl, inr, le-ltb, nat_lt, none_kept, place_of, subst, suc, sym, time_of}
+use Rattle.audit_law.proofs.Words.{zero, ℕ}
 use Rattle.run_law.proofs.records.Happenings.{soon}
-use Rattle.run_law.specs.records.Happenings.{Happening, earlier, time_of}
-use Rattle.run_law.specs.records.Order.{AllBefore, IsIn, NoneBefore}
-use Rattle.run_law.specs.records.Ranks.{place_of}
+use Rattle.audit_law.{proofs.{Cuts.{cut_at, in_time, run_before, run_by}, SameDue.same_due}, specs.SameRuns.SameRuns}
 use Rattle.run_law.specs.runs.DueRecords as runs
-use Rattle.run_law.specs.runs.Runs.{IsRun}
-use Rattle.run_law.specs.scenario.Scenarios.{Scenario}
 
 -- the part before a record's place has all records of earlier times
 earlier_part : (hs ps qs : List Happening) (y : Happening) → hs ≡ ps ++ qs → NoneBefore place_of qs (place_of y)

@@ -1,44 +1,19 @@
 -- What is owed up to a time is told by the records up to then.
-use Rattle.std.proofs.lemmas.Bool.{and_left, and_right, false_from_ne_true, le-ltb, lt-leb, ne_eqb, or_from}
-use Rattle.std.proofs.lemmas.List.{append-nil}
-use Rattle.std.proofs.lemmas.List.Elements.{filter-append}
-use Rattle.std.proofs.lemmas.Int.{ints}
-use Rattle.std.proofs.Common.{◌≡◌, ℕ, ◌+◌, ◌<◌, ◌≤◌, Bool, false, List, ◌∷◌, ◌++◌, Some, None, filter, inl, inr, refl, sym, ap, subst, ◌∙◌, arith}
-use Rattle.std.specs.List.{last_or}
-use Rattle.std.specs.Prelude.{◌==◌, ◌&&◌, ◌||◌, nat_le, nat_lt, option_and_then}
-use Rattle.net_plan.specs.declared.ids.DeviceId.{DeviceId}
-use Rattle.net_plan.specs.declared.ids.LinkId.{LinkId}
-use Rattle.net_plan.specs.declared.ids.VlId.{VlId}
-use Rattle.run_law.specs.control.Arrivals.{control_arrival}
-use Rattle.audit_law.specs.CorrectionNumbers.{heard_since_point}
-use Rattle.run_law.specs.control.Emissions.{Emits}
-use Rattle.run_law.specs.control.Wires.{Signal, control, timed}
-use Rattle.run_law.specs.declared.judgement.Judgement.TheVariants.{Ignored}
+use Rattle.audit_law.proofs.Words.{◌&&◌, ◌++◌, ◌+◌, ◌<◌, ◌==◌, ◌||◌, ◌∙◌, ◌∷◌, ◌≡◌, ◌≤◌, ArrivesAs, Bool, Debt, DeviceId, Happening, IsDue, IsFounded, IsIn}
+use Rattle.audit_law.proofs.Words.{IsOwed, LinkId, List, None, NoteBody, Scenario, Some, VlId, and_right, ap, append-nil, arith, earlier, false}
+use Rattle.audit_law.proofs.Words.{false_from_ne_true, filter, filter-append, front_founded, heard_since_point, in_parts, inl, inr, ints, is_before, is_there}
+use Rattle.audit_law.proofs.Words.{key, last_or, le-ltb, nat_le, nat_lt, none_kept, numbered, numbered_front, numbered_in, option_and_then, place_of, rank}
+use Rattle.audit_law.proofs.Words.{refl, subst, sym, time_of, up_to, ℕ}
+use Rattle.std.proofs.lemmas.Bool.{and_left, lt-leb, ne_eqb, or_from}
+use Rattle.run_law.specs.{control.{Arrivals.control_arrival, Emissions.Emits, Wires.{Signal, control, timed}}, declared.judgement.Judgement.TheVariants.Ignored}
+use Rattle.run_law.specs.{device.Standpoints.{Standpoint, standpoint}, timed.Arrivals.{octets_fault, timed_arrival}}
+use Rattle.run_law.specs.timed.Receptions.{arrival_of, comes_before, is_taken_before, last_taken, taken_cycle}
+use Rattle.audit_law.proofs.{Arriving.{by_octets, same_standpoint}, Correcting.comes_by, Dispatching.{dispatches_by, sends_by}, Numbered.{by_number, number_is}}
+use Rattle.audit_law.{proofs.Ripening.permanent_by, specs.{DebtLaws.SettledLaw, Emitted.{before_place, emission_record}}}
 use Rattle.run_law.specs.declared.note.NoteBody.TheVariants as notes
-use Rattle.run_law.specs.declared.note.NoteBody.{NoteBody}
-use Rattle.run_law.specs.device.Standpoints.{Standpoint, standpoint}
-use Rattle.run_law.specs.records.Happenings.{Happening, earlier, numbered, time_of, up_to}
-use Rattle.run_law.specs.records.Order.{IsIn, is_before}
-use Rattle.run_law.specs.records.Ranks.{key, place_of, rank}
-use Rattle.audit_law.specs.DueRecords.{IsDue}
-use Rattle.run_law.specs.runs.Runs.{IsFounded}
-use Rattle.run_law.specs.scenario.Scenarios.{Scenario}
-use Rattle.run_law.specs.timed.Arrivals.{octets_fault, timed_arrival}
-use Rattle.run_law.specs.timed.Receptions.{ArrivesAs, arrival_of, comes_before, is_taken_before, last_taken, taken_cycle}
-use Rattle.audit_law.proofs.Numbered.{by_number, number_is}
-use Rattle.run_law.proofs.law.FirstPlaces.{front_founded, none_kept, numbered_front, numbered_in}
-use Rattle.run_law.proofs.runs.Places.{in_parts}
-use Rattle.audit_law.specs.DebtLaws.{SettledLaw}
-use Rattle.audit_law.specs.Emitted.{before_place, emission_record}
 use Rattle.audit_law.specs.Owed as debts
-use Rattle.audit_law.specs.Owed.{Debt, IsOwed}
-use Rattle.run_law.proofs.records.Order.{is_there}
-use Rattle.audit_law.proofs.Arriving.{by_octets, same_standpoint}
 use Rattle.audit_law.proofs.Changing as changing
-use Rattle.audit_law.proofs.Correcting.{comes_by}
-use Rattle.audit_law.proofs.Dispatching.{dispatches_by, sends_by}
 use Rattle.audit_law.proofs.LosingSends as losing
-use Rattle.audit_law.proofs.Ripening.{permanent_by}
 
 -- ---- two lists that tell the same up to a time
 

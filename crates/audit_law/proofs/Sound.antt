@@ -1,10 +1,9 @@
 -- What may be found wrong with a list of records, of any kinds.
-use Rattle.std.proofs.Common.{◌≡◌, ◌⊎◌, ℕ, List, [], ◌∷◌, ◌++◌, length, inl, inr, refl, sym, ap, subst, ◌∙◌, append_assoc, arith, ◌↔◌}
-use Rattle.run_law.specs.records.Order.{IsBefore, IsIn, AllBefore, NoneBefore}
-use Rattle.run_law.specs.runs.Runs.{IsFounded, IsRun, IsNextOf}
-use Rattle.run_law.proofs.runs.Grow.{grow}
-use Rattle.run_law.proofs.runs.Places.{never_self, chain, either_way, behind, before_behind, in_right, in_parts, parted}
-use Rattle.audit_law.specs.Findings.{AreSound, IsGap, IsLacking, IsUnfoundedAt, LacksNothing}
+use Rattle.audit_law.proofs.Words.{◌++◌, ◌∙◌, ◌∷◌, ◌≡◌, ◌⊎◌, AllBefore, AreSound, IsBefore, IsFounded, IsIn, IsRun, LacksNothing, List, NoneBefore, [], ap}
+use Rattle.audit_law.proofs.Words.{arith, chain, in_parts, in_right, inl, inr, length, never_self, parted, refl, subst, sym, ℕ}
+use Rattle.std.proofs.Common.{◌↔◌, append_assoc}
+use Rattle.run_law.{proofs.runs.{Grow.grow, Places.{before_behind, behind, either_way}}, specs.runs.Runs.IsNextOf}
+use Rattle.audit_law.specs.Findings.{IsGap, IsLacking, IsUnfoundedAt}
 
 -- ---- sound lists
 

@@ -1,12 +1,8 @@
 -- When a clock reaches a value, and how far it goes at one step.
-use Rattle.std.proofs.lemmas.Bool.{cases_lt}
-use Rattle.std.proofs.lemmas.Int.{by_lt_z, ints}
-use Rattle.std.proofs.Common.{◌≡◌, ℕ, zero, suc, ℤ, pos, negsuc, ◌≤ℤ◌, ◌+◌, ◌-◌, ◌*◌, ◌^◌, ◌<◌, ◌≤◌, inl, inr, subst, arith}
-use Rattle.std.specs.Int.{abs_diff, int_div_euclid}
-use Rattle.std.specs.Prelude.{◌<ℤ◌, ◌/◌}
+use Rattle.audit_law.proofs.Words.{◌*◌, ◌+◌, ◌-◌, ◌<◌, ◌≡◌, ◌≤ℤ◌, ◌≤◌, IsReach, arith, cases_lt, inl, inr, int_div_euclid, ints, natural, pos, subst, suc, zero}
+use Rattle.audit_law.proofs.Words.{ℕ, ℤ}
+use Rattle.std.{proofs.{Common.{◌^◌, negsuc}, lemmas.Int.by_lt_z}, specs.{Int.abs_diff, Prelude.{◌/◌, ◌<ℤ◌}}}
 use Rattle.drift_clock.specs.ClockLaws.{KeepsClockLaws}
-use Rattle.drift_clock.specs.Reach.{IsReach}
-use Rattle.run_law.specs.device.Standpoints.{natural}
 
 -- ---- the least time at which a value is reached
 
@@ -29,7 +25,8 @@ reached_by reading rises from v (suc by) le enough =
       | inl last ↦ late (λ x after before. absurd (omega (arith, ints, last, after, before)))
       | inr more ↦ by_lt_z (pos (reading by)) v
           (λ low. late (λ x after before. let up = rises x by (omega (arith, ints, before)) in omega (arith, ints, up, low)))
-          (λ high. let r = reached_by reading rises from v by more high in record { time = r.time; within = (let w = r.within in omega (arith, w)); reach = r.reach })
+          (λ high. let r = reached_by reading rises from v by more high in
+          record { time = r.time; within = (let w = r.within in omega (arith, w)); reach = r.reach })
     ]
 
 -- ---- one step

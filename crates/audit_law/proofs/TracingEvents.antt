@@ -1,23 +1,12 @@
 -- What is owed of events is due.
-use Rattle.std.proofs.Common.{◌≡◌, ℕ, ◌+◌, ◌≤◌, pos, ◌≤ℤ◌, List, [], ◌∷◌, Some, slice_get, refl, sym, ap, subst, ◌∙◌, arith}
+use Rattle.audit_law.proofs.Words.{◌+◌, ◌∙◌, ◌∷◌, ◌≡◌, ◌≤ℤ◌, ◌≤◌, Happening, IsBefore, IsCaused, IsDue, IsDueIn, IsFounded, List, NoteBody, Scenario, Some}
+use Rattle.audit_law.proofs.Words.{Units, [], amount, ap, arith, key, members_in, place_at, place_of, pos, rank, refl, same_some, slice_get, split, subst, sym}
+use Rattle.audit_law.proofs.Words.{time_of, units_of, ℕ}
 use Rattle.net_plan.specs.declared.event.Event.{Event}
-use Rattle.run_law.specs.declared.note.NoteBody.TheVariants as notes
-use Rattle.run_law.specs.declared.note.NoteBody.{NoteBody}
-use Rattle.run_law.specs.records.Happenings.{Happening, time_of}
-use Rattle.run_law.specs.records.Order.{IsBefore}
-use Rattle.run_law.specs.records.Ranks.{key, members_in, place_at, place_of, rank}
-use Rattle.audit_law.specs.DueRecords.{IsCaused, IsDue}
 use Rattle.run_law.specs.runs.DueRecords.{IsEventRecord}
-use Rattle.run_law.specs.runs.Runs.{IsFounded}
-use Rattle.run_law.specs.scenario.Scenarios.{Scenario}
-use Rattle.run_law.proofs.law.FirstPlaces.{split}
-use Rattle.tte_units.specs.Amount.{amount, units_of}
-use Rattle.tte_units.specs.declared.units.Units.{Units}
-use Rattle.audit_law.specs.Debts.{IsDueIn}
-use Rattle.audit_law.specs.DebtLaws.{EventLaw}
+use Rattle.audit_law.{proofs.Owing.{PaidAt, due_there, next_is_due, next_of, of_amount, timely, within}, specs.DebtLaws.EventLaw}
 use Rattle.audit_law.specs.TracedEvents.{IsDueByEvent, OwesEvent, TellsEvent}
-use Rattle.tte_lemmas.proofs.Options.{one as same_some}
-use Rattle.audit_law.proofs.Owing.{PaidAt, due_there, next_is_due, next_of, of_amount, timely, within}
+use Rattle.run_law.specs.declared.note.NoteBody.TheVariants as notes
 
 some_event : (s : Scenario) (hs : List Happening) (until line : ℕ) → IsFounded place_of (IsDue s) hs → (o : OwesEvent s until line)
     → PaidAt s hs until (IsDueByEvent s) (amount o.event.time) (λ x. TellsEvent line x.note.body)

@@ -1,17 +1,12 @@
 -- What is owed of the frames on the wires: each arrives, and is taken or dropped.
-use Rattle.std.specs.Prelude.{◌≡◌, ℕ, ◌≤◌, List}
-use Rattle.net_plan.specs.declared.ids.DeviceId.{DeviceId}
-use Rattle.net_plan.specs.declared.ids.LinkId.{LinkId}
-use Rattle.run_law.specs.declared.note.NoteBody.TheVariants as notes
-use Rattle.run_law.specs.declared.note.NoteBody.{NoteBody}
-use Rattle.run_law.specs.declared.steps.Arrival.TheVariants as arrivals
-use Rattle.run_law.specs.declared.steps.Arrival.{Arrival}
-use Rattle.run_law.specs.records.Happenings.{Happening, time_of}
-use Rattle.run_law.specs.records.Order.{IsBefore}
-use Rattle.run_law.specs.records.Ranks.{place_at, place_of}
+use Rattle.std.specs.Prelude.{◌≡◌, ◌≤◌, List, ℕ}
+use Rattle.net_plan.specs.declared.ids.{DeviceId.DeviceId, LinkId.LinkId}
+use Rattle.run_law.specs.declared.{note.NoteBody.NoteBody, steps.Arrival.Arrival}
+use Rattle.run_law.specs.records.{Happenings.{Happening, time_of}, Order.IsBefore, Ranks.{place_at, place_of}}
+use Rattle.run_law.specs.{scenario.Scenarios.Scenario, timed.Receptions.ArrivesAs}
 use Rattle.audit_law.specs.DueRecords.{IsDue}
-use Rattle.run_law.specs.scenario.Scenarios.{Scenario}
-use Rattle.run_law.specs.timed.Receptions.{ArrivesAs}
+use Rattle.run_law.specs.declared.note.NoteBody.TheVariants as notes
+use Rattle.run_law.specs.declared.steps.Arrival.TheVariants as arrivals
 
 -- the record of what became at its arrival of what the record with the number `cause` put on the link
 abbrev pub arrival_record : DeviceId → LinkId → ℕ → Arrival → NoteBody

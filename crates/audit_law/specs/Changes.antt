@@ -1,15 +1,12 @@
 -- What is owed of the records that change a device's state: the record of its new state.
-use Rattle.std.specs.Prelude.{◌≡◌, ℕ, ◌≤◌, List}
+use Rattle.std.specs.Prelude.{◌≡◌, ◌≤◌, List, ℕ}
 use Rattle.net_plan.specs.declared.ids.DeviceId.{DeviceId}
-use Rattle.run_law.specs.declared.judgement.Why.TheVariants as whys
-use Rattle.run_law.specs.declared.judgement.Why.{Why}
-use Rattle.run_law.specs.declared.note.NoteBody.TheVariants as notes
-use Rattle.run_law.specs.declared.note.NoteBody.{NoteBody}
-use Rattle.audit_law.specs.DueRecords.{ChangesState}
-use Rattle.run_law.specs.records.Happenings.{Happening, time_of}
-use Rattle.audit_law.specs.DueRecords.{IsDue}
+use Rattle.run_law.specs.{declared.{judgement.Why.Why, note.NoteBody.NoteBody}, records.Happenings.{Happening, time_of}}
 use Rattle.run_law.specs.scenario.Scenarios.{Scenario}
 use Rattle.sync_state.specs.declared.state.State.{State}
+use Rattle.audit_law.specs.DueRecords.{ChangesState, IsDue}
+use Rattle.run_law.specs.declared.judgement.Why.TheVariants as whys
+use Rattle.run_law.specs.declared.note.NoteBody.TheVariants as notes
 
 -- a change for this reason is brought by a record: an event, a frame or a correction
 abbrev pub IsBrought : Why → Type 0

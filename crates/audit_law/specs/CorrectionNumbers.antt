@@ -1,22 +1,16 @@
 -- Which correction point of a device is next in an audit: by the points that its clock has come to, not by the records
 -- that show them.
-use Rattle.std.specs.Prelude.{◌≡◌, ℕ, ◌+◌, ◌-◌, ℤ, pos, ◌+ℤ◌, ◌-ℤ◌, false, ◌&&◌, ◌==◌, nat_lt, List, filter}
-use Rattle.std.specs.Prelude.{filter_map, Some, if◌then◌else◌}
-use Rattle.std.specs.Int.{int_div_euclid}
-use Rattle.std.specs.List.{after_last}
-use Rattle.membership.specs.Hearing.{Hearing}
-use Rattle.membership.specs.Summary.{Summary, Summarizes}
+use Rattle.std.specs.{Int.int_div_euclid, List.after_last}
+use Rattle.std.specs.Prelude.{if◌then◌else◌, ◌&&◌, ◌+ℤ◌, ◌+◌, ◌-ℤ◌, ◌-◌, ◌==◌, ◌≡◌, List, Some, false, filter}
+use Rattle.std.specs.Prelude.{filter_map, nat_lt, pos, ℕ, ℤ}
+use Rattle.membership.specs.{Hearing.Hearing, Summary.{Summarizes, Summary}}
 use Rattle.net_plan.specs.declared.ids.DeviceId.{DeviceId}
 use Rattle.run_law.specs.control.Corrections.{correction_value, hearing_by, integration_cycle, recorded_cycle}
-use Rattle.run_law.specs.device.LocalClocks.{Reaches, changes_adjustment, had_come}
-use Rattle.run_law.specs.device.Standpoints.{natural}
+use Rattle.run_law.specs.device.{LocalClocks.{Reaches, changes_adjustment, had_come}, Standpoints.natural}
 use Rattle.run_law.specs.device.States.{adjustment_before, state_before}
-use Rattle.run_law.specs.records.Happenings.{Happening, earlier, time_of}
-use Rattle.run_law.specs.scenario.Devices.{plan_of}
+use Rattle.run_law.specs.{records.Happenings.{Happening, earlier, time_of}, scenario.Devices.plan_of}
 use Rattle.run_law.specs.scenario.Scenarios.{Scenario, is_broken}
-use Rattle.sync_state.specs.Standing.{Standing, next_point}
-use Rattle.sync_state.specs.Verdicts.{HasVerdict}
-use Rattle.sync_state.specs.declared.answers.Verdict.{Verdict}
+use Rattle.sync_state.specs.{Standing.{Standing, next_point}, Verdicts.HasVerdict, declared.answers.Verdict.Verdict}
 
 -- what the local clock shows at the time `at`, by the adjustment that the records of times before t leave
 abbrev pub shown_at : Scenario → List Happening → DeviceId → ℕ → ℕ → ℤ

@@ -1,18 +1,15 @@
 -- What is owed of correction points: the correction of the clock, or the state that a clique brings.
-use Rattle.std.specs.Prelude.{◌≡◌, ℕ, ◌≤◌, ◌+ℤ◌, List}
+use Rattle.std.specs.Prelude.{◌+ℤ◌, ◌≡◌, ◌≤◌, List, ℕ}
 use Rattle.net_plan.specs.declared.ids.DeviceId.{DeviceId}
-use Rattle.audit_law.specs.CorrectionNumbers.{ComesToPoint}
-use Rattle.run_law.specs.declared.judgement.Why.TheVariants as whys
-use Rattle.run_law.specs.declared.note.NoteBody.TheVariants as notes
-use Rattle.run_law.specs.declared.note.NoteBody.{NoteBody}
-use Rattle.run_law.specs.device.States.{adjustment_before}
-use Rattle.run_law.specs.records.Happenings.{Happening, time_of, up_to}
-use Rattle.audit_law.specs.DueRecords.{IsDue}
-use Rattle.run_law.specs.scenario.Scenarios.{Scenario}
-use Rattle.sync_state.specs.declared.answers.Verdict.TheVariants.{AsyncClique, Cleared, Corrected, SyncClique}
+use Rattle.run_law.specs.{declared.note.NoteBody.NoteBody, device.States.adjustment_before}
+use Rattle.run_law.specs.{records.Happenings.{Happening, time_of, up_to}, scenario.Scenarios.Scenario}
 use Rattle.sync_state.specs.declared.answers.Verdict.{Verdict}
+use Rattle.sync_state.specs.declared.answers.Verdict.TheVariants.{AsyncClique, Cleared, Corrected, SyncClique}
 use Rattle.sync_state.specs.declared.state.State.TheVariants.{Integrating}
 use Rattle.tte_units.specs.declared.units.Units.{Units}
+use Rattle.audit_law.specs.{CorrectionNumbers.ComesToPoint, DueRecords.IsDue}
+use Rattle.run_law.specs.declared.judgement.Why.TheVariants as whys
+use Rattle.run_law.specs.declared.note.NoteBody.TheVariants as notes
 
 -- the record shows the correction, and the adjustment that it leads to
 pub record ShowsCorrection (s : Scenario) (hs : List Happening) (device : DeviceId) (t cycle : ℕ) (by : Units)

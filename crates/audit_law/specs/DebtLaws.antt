@@ -1,29 +1,21 @@
 -- What holds of the debts of records.
-use Rattle.std.specs.Prelude.{◌≡◌, ℕ, ◌+◌, ◌<◌, ◌≤◌, ◌↔◌, List, [], ◌∷◌, ◌++◌}
+use Rattle.std.specs.Prelude.{◌++◌, ◌+◌, ◌<◌, ◌↔◌, ◌∷◌, ◌≡◌, ◌≤◌, List, [], ℕ}
 use Rattle.compression.specs.declared.compressed.Compressed.{Compressed}
-use Rattle.net_plan.specs.declared.ids.DeviceId.{DeviceId}
-use Rattle.net_plan.specs.declared.ids.LinkId.{LinkId}
-use Rattle.run_law.specs.records.Happenings.{Happening, time_of}
-use Rattle.run_law.specs.records.Order.{IsBefore, IsIn}
-use Rattle.run_law.specs.records.Ranks.{place_of}
-use Rattle.audit_law.specs.DueRecords.{IsDue}
-use Rattle.run_law.specs.runs.Runs.{IsFounded, IsRun}
-use Rattle.run_law.specs.scenario.Scenarios.{Scenario}
+use Rattle.net_plan.specs.declared.ids.{DeviceId.DeviceId, LinkId.LinkId}
+use Rattle.run_law.specs.records.{Happenings.{Happening, time_of}, Order.{IsBefore, IsIn}, Ranks.place_of}
+use Rattle.run_law.specs.{runs.Runs.{IsFounded, IsRun}, scenario.Scenarios.Scenario}
+use Rattle.tte_units.specs.Amount.{amount}
 use Rattle.audit_law.specs.Arrivals.{IsDueByArrival, OwesArrival, TellsArrival}
 use Rattle.audit_law.specs.Changes.{IsDueByChange, OwesChange, TellsChange}
-use Rattle.audit_law.specs.CorrectionPoints.{IsDueByPoint, OwesPoint, TellsPoint}
-use Rattle.audit_law.specs.Debts.{AreDebts, IsPaid}
+use Rattle.audit_law.specs.{CorrectionPoints.{IsDueByPoint, OwesPoint, TellsPoint}, Debts.{AreDebts, IsPaid}}
 use Rattle.audit_law.specs.Departures.{IsDueByLeaving, OwesDeparture, TellsDeparture, leaves_at}
 use Rattle.audit_law.specs.Dispatched.{IsDueByDispatch, IsDueBySending, OwesDispatch, OwesSending, TellsDispatch}
-use Rattle.audit_law.specs.Dispatched.{TellsSending}
+use Rattle.audit_law.specs.{Dispatched.TellsSending, DueRecords.IsDue}
 use Rattle.audit_law.specs.Emitted.{IsDueByEmission, OwesEmission, TellsEmission}
-use Rattle.audit_law.specs.EndClocks.{IsDueByEnd, OwesClock, TellsClock}
-use Rattle.audit_law.specs.Findings.{AreSound, IsLacking}
-use Rattle.audit_law.specs.LostSends.{IsDueBySend, OwesLoss, TellsLoss}
-use Rattle.audit_law.specs.Owed.{Debt, IsOwed, Pays, falls_due}
+use Rattle.audit_law.specs.{EndClocks.{IsDueByEnd, OwesClock, TellsClock}, Findings.{AreSound, IsLacking}}
+use Rattle.audit_law.specs.{LostSends.{IsDueBySend, OwesLoss, TellsLoss}, Owed.{Debt, IsOwed, Pays, falls_due}}
 use Rattle.audit_law.specs.Permanences.{IsDueByPermanence, OwesPermanence, TellsPermanence}
 use Rattle.audit_law.specs.TracedEvents.{IsDueByEvent, OwesEvent, TellsEvent}
-use Rattle.tte_units.specs.Amount.{amount}
 
 -- what a list of records owes up to a time: these are its debts that are paid by what is due so, and when they fall due
 abbrev pub AreOwed : {O : Type 0} → Scenario → List Happening → ℕ → (List Happening → Happening → Type 0)

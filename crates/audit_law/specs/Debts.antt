@@ -1,6 +1,6 @@
 -- What a list of records owes: each record that is due answers a debt, which earlier records have made.
-use Rattle.std.specs.Prelude.{◌≡◌, ℕ, List, [], ◌∷◌, ◌++◌}
-use Rattle.run_law.specs.records.Order.{IsBefore, IsIn, AllBefore, NoneBefore}
+use Rattle.std.specs.Prelude.{◌++◌, ◌∷◌, ◌≡◌, List, [], ℕ}
+use Rattle.run_law.specs.records.Order.{AllBefore, IsBefore, IsIn, NoneBefore}
 
 -- the record is due given those of the list that stand before its place
 pub record IsDueIn {N : Type 0} (place : N → List ℕ) (IsDue : List N → N → Type 0) (ns : List N) (x : N) : Type 0 where

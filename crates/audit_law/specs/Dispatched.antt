@@ -1,15 +1,10 @@
 -- What is owed of schedules: each master sends in each cycle, and each row's frame is dispatched.
-use Rattle.std.specs.Prelude.{◌≡◌, ℕ, ◌≤◌, List, Bool, if◌then◌else◌}
-use Rattle.net_plan.specs.declared.ids.DeviceId.{DeviceId}
-use Rattle.net_plan.specs.declared.ids.LinkId.{LinkId}
-use Rattle.net_plan.specs.declared.ids.VlId.{VlId}
-use Rattle.run_law.specs.declared.note.NoteBody.TheVariants as notes
-use Rattle.run_law.specs.declared.note.NoteBody.{NoteBody}
-use Rattle.run_law.specs.records.Happenings.{Happening, time_of}
+use Rattle.std.specs.Prelude.{if◌then◌else◌, ◌≡◌, ◌≤◌, Bool, List, ℕ}
+use Rattle.net_plan.specs.declared.ids.{DeviceId.DeviceId, LinkId.LinkId, VlId.VlId}
+use Rattle.run_law.specs.{declared.note.NoteBody.NoteBody, records.Happenings.{Happening, time_of}}
+use Rattle.run_law.specs.{scenario.{Scenarios.Scenario, Ways.{is_cut, way_from}}, timed.Dispatching.{Dispatches, Sends}}
 use Rattle.audit_law.specs.DueRecords.{IsDue}
-use Rattle.run_law.specs.scenario.Scenarios.{Scenario}
-use Rattle.run_law.specs.scenario.Ways.{is_cut, way_from}
-use Rattle.run_law.specs.timed.Dispatching.{Dispatches, Sends}
+use Rattle.run_law.specs.declared.note.NoteBody.TheVariants as notes
 
 -- the record is due by a master's sending
 pub record IsDueBySending (s : Scenario) (before : List Happening) (x : Happening) : Type 0 where

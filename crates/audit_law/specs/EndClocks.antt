@@ -1,17 +1,12 @@
 -- What is owed at the end of the events: the record of each device's clock.
-use Rattle.std.specs.Prelude.{◌≡◌, ℕ, ◌≤◌, List, Some}
-use Rattle.net_plan.specs.Places.{device_at}
-use Rattle.net_plan.specs.declared.ids.DeviceId.{DeviceId}
-use Rattle.net_plan.specs.declared.tables.Device.{Device}
-use Rattle.run_law.specs.declared.note.NoteBody.TheVariants as notes
-use Rattle.run_law.specs.declared.note.NoteBody.{NoteBody}
-use Rattle.run_law.specs.records.Happenings.{Happening, time_of}
-use Rattle.audit_law.specs.DueRecords.{IsDue}
-use Rattle.run_law.specs.runs.DueRecords.{EndsAt, IsClockRecord}
-use Rattle.run_law.specs.scenario.Scenarios.{Scenario}
+use Rattle.std.specs.Prelude.{◌≡◌, ◌≤◌, List, Some, ℕ}
+use Rattle.net_plan.specs.{Places.device_at, declared.{ids.DeviceId.DeviceId, tables.Device.Device}}
+use Rattle.run_law.specs.{declared.note.NoteBody.NoteBody, records.Happenings.{Happening, time_of}}
+use Rattle.run_law.specs.{runs.DueRecords.{EndsAt, IsClockRecord}, scenario.Scenarios.Scenario}
 use Rattle.sync_state.specs.declared.state.State.{State}
-use Rattle.tte_units.specs.Amount.{units_of}
-use Rattle.tte_units.specs.declared.units.Units.{Units}
+use Rattle.tte_units.specs.{Amount.units_of, declared.units.Units.Units}
+use Rattle.audit_law.specs.DueRecords.{IsDue}
+use Rattle.run_law.specs.declared.note.NoteBody.TheVariants as notes
 
 -- the record is due by the end of the events
 pub record IsDueByEnd (s : Scenario) (before : List Happening) (x : Happening) : Type 0 where

@@ -1,6 +1,6 @@
 -- What may be found wrong with a list of records, of any kinds, of which it is asked whether it is the run.
-use Rattle.std.specs.Prelude.{◌≡◌, ℕ, ◌+◌, List, ◌∷◌, ◌++◌, length}
-use Rattle.run_law.specs.records.Order.{IsBefore, IsIn, AllBefore, NoneBefore}
+use Rattle.std.specs.Prelude.{◌++◌, ◌+◌, ◌∷◌, ◌≡◌, List, length, ℕ}
+use Rattle.run_law.specs.records.Order.{AllBefore, IsBefore, IsIn, NoneBefore}
 
 -- the record stands behind those before it, is due given them, and is before the mark
 pub record IsSound {N : Type 0} (place : N → List ℕ) (IsDue : List N → N → Type 0) (mark : List ℕ) (before : List N)

@@ -1,18 +1,11 @@
 -- The first time of each kind of debts at which one of it is not paid, and the first of all.
-use Rattle.std.specs.Prelude.{◌≡◌, ℕ, ◌+◌, ◌≤◌, min, List, [], ◌∷◌, Option, Some, None, MatchOption}
+use Rattle.std.specs.Prelude.{◌+◌, ◌∷◌, ◌≡◌, ◌≤◌, List, MatchOption, None, Option, Some, [], min, ℕ}
 use Rattle.compression.specs.declared.compressed.Compressed.{Compressed}
-use Rattle.net_plan.specs.declared.ids.DeviceId.{DeviceId}
-use Rattle.net_plan.specs.declared.ids.LinkId.{LinkId}
-use Rattle.run_law.specs.records.Happenings.{Happening}
-use Rattle.run_law.specs.records.Ranks.{place_of}
-use Rattle.run_law.specs.scenario.Scenarios.{Scenario}
-use Rattle.audit_law.specs.DebtLaws.{IsFirstDebt}
-use Rattle.audit_law.specs.Debts.{IsPaid}
-use Rattle.audit_law.specs.Dispatched.{Dispatch, Sending}
-use Rattle.audit_law.specs.DueRecords.{IsDue}
-use Rattle.audit_law.specs.Findings.{AreSound, LacksNothing}
+use Rattle.net_plan.specs.declared.ids.{DeviceId.DeviceId, LinkId.LinkId}
+use Rattle.run_law.specs.{records.{Happenings.Happening, Ranks.place_of}, scenario.Scenarios.Scenario}
+use Rattle.audit_law.specs.{DebtLaws.IsFirstDebt, Debts.IsPaid, Dispatched.{Dispatch, Sending}, DueRecords.IsDue}
+use Rattle.audit_law.specs.{Findings.{AreSound, LacksNothing}, Owed.{Debt, IsOwed, Pays, falls_due}}
 use Rattle.audit_law.specs.Owed as debts
-use Rattle.audit_law.specs.Owed.{Debt, IsOwed, Pays, falls_due}
 
 -- at this time, the first such, a debt of this kind falls due that no record of the list pays
 pub record IsFirstOfKind {O : Type 0} (s : Scenario) (hs : List Happening) (until : ℕ) (debt_of : O → Debt) (time : ℕ)

@@ -1,12 +1,8 @@
 -- What holds of lists of records that are judged one by one.
-use Rattle.std.specs.Prelude.{◌≡◌, ℕ, ◌↔◌, List, [], ◌∷◌, ◌++◌}
-use Rattle.run_law.specs.records.Happenings.{Happening}
-use Rattle.run_law.specs.records.Order.{behind}
-use Rattle.run_law.specs.records.Ranks.{place_of}
-use Rattle.audit_law.specs.DueRecords.{IsDue}
-use Rattle.run_law.specs.runs.Runs.{IsNextOf, IsRun}
+use Rattle.std.specs.Prelude.{◌++◌, ◌↔◌, ◌∷◌, ◌≡◌, List, [], ℕ}
+use Rattle.run_law.specs.{records.{Happenings.Happening, Order.behind, Ranks.place_of}, runs.Runs.{IsNextOf, IsRun}}
 use Rattle.run_law.specs.scenario.Scenarios.{Scenario}
-use Rattle.audit_law.specs.Findings.{AreSound, IsGap, IsLacking, IsUnfoundedAt, LacksNothing}
+use Rattle.audit_law.specs.{DueRecords.IsDue, Findings.{AreSound, IsGap, IsLacking, IsUnfoundedAt, LacksNothing}}
 use Rattle.audit_law.specs.Linked.{AreLinked}
 
 -- a list of records is the run exactly where it is sound and lacks nothing; and one unsound record is the first

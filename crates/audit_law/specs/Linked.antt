@@ -1,7 +1,6 @@
 -- The causes of the records of a report.
-use Rattle.std.specs.Prelude.{◌≡◌, ◌⊎◌, List, ◌∷◌, ◌++◌, Some}
-use Rattle.run_law.specs.records.Causes.{cause_of}
-use Rattle.run_law.specs.records.Happenings.{Happening, numbered}
+use Rattle.std.specs.Prelude.{◌++◌, ◌∷◌, ◌≡◌, ◌⊎◌, List, Some}
+use Rattle.run_law.specs.records.{Causes.cause_of, Happenings.{Happening, numbered}}
 
 -- the record has no cause, or its cause is a record before it
 abbrev pub HasCause : List Happening → Happening → Type 0

@@ -1,13 +1,10 @@
 -- What is owed of the `send` events on ways that are cut: the record of the loss.
-use Rattle.std.specs.Prelude.{◌≡◌, ℕ, ◌≤◌, List}
-use Rattle.net_plan.specs.declared.ids.DeviceId.{DeviceId}
-use Rattle.net_plan.specs.declared.ids.LinkId.{LinkId}
-use Rattle.run_law.specs.control.Losses.{IsSendLost}
-use Rattle.run_law.specs.declared.note.NoteBody.TheVariants as notes
-use Rattle.run_law.specs.declared.note.NoteBody.{NoteBody}
-use Rattle.run_law.specs.records.Happenings.{Happening, time_of}
+use Rattle.std.specs.Prelude.{◌≡◌, ◌≤◌, List, ℕ}
+use Rattle.net_plan.specs.declared.ids.{DeviceId.DeviceId, LinkId.LinkId}
+use Rattle.run_law.specs.{control.Losses.IsSendLost, declared.note.NoteBody.NoteBody}
+use Rattle.run_law.specs.{records.Happenings.{Happening, time_of}, scenario.Scenarios.Scenario}
 use Rattle.audit_law.specs.DueRecords.{IsDue}
-use Rattle.run_law.specs.scenario.Scenarios.{Scenario}
+use Rattle.run_law.specs.declared.note.NoteBody.TheVariants as notes
 
 -- the record is due by the loss of a `send` event's octets
 pub record IsDueBySend (s : Scenario) (before : List Happening) (x : Happening) : Type 0 where

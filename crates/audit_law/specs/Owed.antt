@@ -1,20 +1,15 @@
 -- All that a list of records owes.
-use Rattle.std.specs.Prelude.{ℕ, List}
+use Rattle.std.specs.Prelude.{List, ℕ}
 use Rattle.compression.specs.declared.compressed.Compressed.{Compressed}
-use Rattle.net_plan.specs.declared.ids.DeviceId.{DeviceId}
-use Rattle.net_plan.specs.declared.ids.LinkId.{LinkId}
-use Rattle.run_law.specs.records.Happenings.{Happening}
-use Rattle.run_law.specs.scenario.Scenarios.{Scenario}
+use Rattle.net_plan.specs.declared.ids.{DeviceId.DeviceId, LinkId.LinkId}
+use Rattle.run_law.specs.{records.Happenings.Happening, scenario.Scenarios.Scenario}
 use Rattle.tte_units.specs.Amount.{amount}
-use Rattle.audit_law.specs.Arrivals.{OwesArrival, TellsArrival}
-use Rattle.audit_law.specs.Changes.{OwesChange, TellsChange}
+use Rattle.audit_law.specs.{Arrivals.{OwesArrival, TellsArrival}, Changes.{OwesChange, TellsChange}}
 use Rattle.audit_law.specs.CorrectionPoints.{OwesPoint, TellsPoint}
 use Rattle.audit_law.specs.Departures.{OwesDeparture, TellsDeparture, leaves_at}
 use Rattle.audit_law.specs.Dispatched.{Dispatch, OwesDispatch, OwesSending, Sending, TellsDispatch, TellsSending}
-use Rattle.audit_law.specs.Emitted.{OwesEmission, TellsEmission}
-use Rattle.audit_law.specs.EndClocks.{OwesClock, TellsClock}
-use Rattle.audit_law.specs.LostSends.{OwesLoss, TellsLoss}
-use Rattle.audit_law.specs.Permanences.{OwesPermanence, TellsPermanence}
+use Rattle.audit_law.specs.{Emitted.{OwesEmission, TellsEmission}, EndClocks.{OwesClock, TellsClock}}
+use Rattle.audit_law.specs.{LostSends.{OwesLoss, TellsLoss}, Permanences.{OwesPermanence, TellsPermanence}}
 use Rattle.audit_law.specs.TracedEvents.{OwesEvent, TellsEvent}
 
 -- what a record is owed for: an event by its line; what a record brings, by its number; or what a clock comes to, by

@@ -1,14 +1,11 @@
 -- What is owed of the events that befall a network: each has its record.
-use Rattle.std.specs.Prelude.{◌≡◌, ℕ, ◌+◌, ◌≤◌, pos, ◌≤ℤ◌, List, Some, slice_get}
-use Rattle.net_plan.specs.declared.event.Event.{Event}
-use Rattle.net_plan.specs.declared.event.What.{What}
-use Rattle.run_law.specs.declared.note.NoteBody.TheVariants as notes
-use Rattle.run_law.specs.declared.note.NoteBody.{NoteBody}
-use Rattle.run_law.specs.records.Happenings.{Happening}
-use Rattle.audit_law.specs.DueRecords.{IsDue}
-use Rattle.run_law.specs.runs.DueRecords.{IsEventRecord}
+use Rattle.std.specs.Prelude.{◌+◌, ◌≡◌, ◌≤ℤ◌, ◌≤◌, List, Some, pos, slice_get, ℕ}
+use Rattle.net_plan.specs.declared.event.{Event.Event, What.What}
+use Rattle.run_law.specs.{declared.note.NoteBody.NoteBody, records.Happenings.Happening, runs.DueRecords.IsEventRecord}
 use Rattle.run_law.specs.scenario.Scenarios.{Scenario}
 use Rattle.tte_units.specs.Amount.{amount}
+use Rattle.audit_law.specs.DueRecords.{IsDue}
+use Rattle.run_law.specs.declared.note.NoteBody.TheVariants as notes
 
 -- the record is due by an event
 pub record IsDueByEvent (s : Scenario) (before : List Happening) (x : Happening) : Type 0 where

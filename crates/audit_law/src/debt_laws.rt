@@ -1,7 +1,6 @@
-ghost use Rattle.audit_law.specs.DebtLaws.{ArrivalLaw, ChangeLaw, ClockLaw, DepartureLaw, DispatchLaw, EmissionLaw};
-ghost use Rattle.audit_law.specs.DebtLaws.{EventLaw, LossLaw, PermanenceLaw, PointLaw, SendingLaw};
-ghost use Rattle.audit_law.specs.DebtLaws.{DebtLaw, LackLaw, SettledLaw};
-ghost use Rattle.audit_law.specs.FirstDebts.{FirstDebtLaw};
+ghost use Rattle.audit_law.specs.DebtLaws.{ArrivalLaw, ChangeLaw, ClockLaw, DebtLaw, DepartureLaw, DispatchLaw};
+ghost use Rattle.audit_law.specs.DebtLaws.{EmissionLaw, EventLaw, LackLaw, LossLaw, PermanenceLaw, PointLaw};
+ghost use Rattle.audit_law.specs.{DebtLaws.{SendingLaw, SettledLaw}, FirstDebts.FirstDebtLaw};
 
 /// A founded list of records owes, for each frame that a record gives to a link, one record of its leaving: that it
 /// left, met a cut way or was too old. What is due by a leaving is so owed, and what is so owed is due.

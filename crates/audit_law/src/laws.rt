@@ -1,5 +1,4 @@
-ghost use Rattle.audit_law.specs.Laws.{AuditLaws, GapLaw, NextLaw};
-ghost use Rattle.audit_law.specs.SameRuns.{SameRuns};
+ghost use Rattle.audit_law.specs.{Laws.{AuditLaws, GapLaw, NextLaw}, SameRuns.SameRuns};
 
 /// A list of records is the run exactly where each record is sound and none is lacking. A sound list has no unfounded
 /// record, and no list has two that are the first.

@@ -1,6 +1,5 @@
-use Rattle.std.specs.Prelude.{Option, Some, None}
-use Rattle.tte_units.specs.declared.units.Units.{Units}
-use Rattle.tte_units.specs.Mean.{mean_of}
+use Rattle.std.specs.Prelude.{None, Option, Some}
+use Rattle.tte_units.specs.{Mean.mean_of, declared.units.Units.Units}
 
 -- the mean of both deviations rounded down, or the one that is there
 abbrev pub correction_of : Option Units → Option Units → Option Units

@@ -1,4 +1,4 @@
-use Rattle.std.specs.Prelude.{ℤ, pos, neg_ℤ, ◌-ℤ◌, ◌<ℤ◌, ◌^◌}
+use Rattle.std.specs.Prelude.{◌-ℤ◌, ◌<ℤ◌, ◌^◌, neg_ℤ, pos, ℤ}
 
 -- what the local clock should have shown at the point, less what it showed: the point plus the adjustment
 abbrev pub deviation_of : ℤ → ℤ → ℤ → ℤ

@@ -1,8 +1,6 @@
-ghost use Rattle.std.specs.Prelude.{◌≡◌, ◌↔◌, IfSome, ◌-ℤ◌, IsNone, FitsSigned};
-ghost use Rattle.std.specs.Int.{w64};
-ghost use Rattle.clock_correction.specs.Deviation.{deviation_of, IsSmall};
-ghost use Rattle.clock_correction.specs.Correction.{correction_of};
+ghost use Rattle.std.specs.{Int.w64, Prelude.{◌-ℤ◌, ◌↔◌, ◌≡◌, FitsSigned, IfSome, IsNone}};
 ghost use Rattle.tte_units.specs.Mean.{IsMean};
+ghost use Rattle.clock_correction.specs.{Correction.correction_of, Deviation.{IsSmall, deviation_of}};
 
 use tte_units::{Units, mean};
 

@@ -1,10 +1,8 @@
 -- Lists in rising order, and their first and last elements.
-use Rattle.std.proofs.Common.{◌≡◌, ℕ, zero, suc, ◌-◌, ◌<◌, ◌^◌, ℤ, pos, ◌≤ℤ◌, ◌<ℤ◌, List, [], ◌∷◌, ◌++◌, length, get_or, ◌∙◌, ap, refl, sym, subst, arith, Some, None, IsTrue, FitsSigned, w64}
-use Rattle.std.proofs.lemmas.Int.{ints}
-use Rattle.std.proofs.lemmas.Option.{slice_get-get_or}
-use Rattle.std.specs.Prelude.{slice_get, int_le}
-use Rattle.std.specs.List.{last_or}
-use Rattle.compression.specs.Ascent.{IsAscending, MayFollow, last_from, spread, offset_at}
+use Rattle.std.proofs.Common.{◌++◌, ◌-◌, ◌<ℤ◌, ◌<◌, ◌^◌, ◌∙◌, ◌∷◌, ◌≡◌, ◌≤ℤ◌, FitsSigned, IsTrue, List, None, Some, [], ap, arith, get_or, length, pos, refl}
+use Rattle.std.{proofs.{Common.{subst, suc, sym, w64, zero, ℕ, ℤ}, lemmas.{Int.ints, Option.slice_get-get_or}}, specs.List.last_or}
+use Rattle.std.specs.Prelude.{int_le, slice_get}
+use Rattle.compression.specs.Ascent.{IsAscending, MayFollow, last_from, offset_at, spread}
 
 at_length : {X : Type 0} (x : X) (xs : List X) → slice_get (x ∷ xs) (length xs) ≡ last_or (Some x) xs
 at_length x [] = refl

@@ -1,10 +1,7 @@
 -- Points of a cluster.
-use Rattle.std.proofs.Common.{Bool, List, [], arith, false, if◌then◌else◌, length, pos, true, ℤ, ◌*ℤ◌, ◌+ℤ◌, ◌∷◌, ◌≡◌, ◌≤ℤ◌}
-use Rattle.std.proofs.lemmas.Int.{ints}
-use Rattle.std.specs.List.{Contains}
-use Rattle.std.specs.Prelude.{nat_le}
-use Rattle.compression.specs.Clusters.{AreClusters, Cluster, Point, end_of, firsts, of_cycle_within}
-use Rattle.compression.proofs.Elements.{in_none}
+use Rattle.std.proofs.{Common.{if◌then◌else◌, ◌*ℤ◌, ◌+ℤ◌, ◌∷◌, ◌≡◌, ◌≤ℤ◌, Bool, List, [], arith, false, length, pos, true, ℤ}, lemmas.Int.ints}
+use Rattle.std.specs.{List.Contains, Prelude.nat_le}
+use Rattle.compression.{proofs.Elements.in_none, specs.Clusters.{AreClusters, Cluster, Point, end_of, firsts, of_cycle_within}}
 
 pub ends_soon : (ow : ℤ) (o : Point) (ps : List Point) → pos 0 ≤ℤ ow → end_of ow o ps ≤ℤ (o.reading +ℤ (pos 2 *ℤ ow))
 ends_soon ow o ps some = by (nat_le 2 (length (firsts (of_cycle_within o.cycle o.reading (o.reading +ℤ ow) ps))))

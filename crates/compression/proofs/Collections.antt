@@ -1,8 +1,6 @@
 -- Collections as points come.
-use Rattle.std.proofs.Common.{◌≡◌, ℤ, pos, ◌+ℤ◌, ◌*ℤ◌, ◌≤ℤ◌, arith}
-use Rattle.std.proofs.lemmas.Int.{ints}
-use Rattle.compression.specs.Clusters.{Cluster}
-use Rattle.compression.specs.Collection.{joined_end}
+use Rattle.std.proofs.{Common.{◌*ℤ◌, ◌+ℤ◌, ◌≡◌, ◌≤ℤ◌, arith, pos, ℤ}, lemmas.Int.ints}
+use Rattle.compression.specs.{Clusters.Cluster, Collection.joined_end}
 
 -- a point in the first window adds the second
 pub joined_end-first : (ow : ℤ) (c : Cluster) (reading : ℤ) → reading ≤ℤ (c.opened +ℤ ow) → joined_end ow c reading ≡ c.opened +ℤ (pos 2 *ℤ ow)

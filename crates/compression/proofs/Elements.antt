@@ -1,13 +1,9 @@
 -- Elements of lists, of filters and of lists in order.
-use Rattle.std.proofs.Common.{◌≡◌, ◌∙◌, ◌⊎◌, inl, inr, zero, suc, ◌≤◌, ℤ, ◌≤ℤ◌, ◌<ℤ◌, List, [], ◌∷◌, length, ap, refl, sym, subst, arith, Bool, true}
+use Rattle.std.proofs.Common.{◌<ℤ◌, ◌∙◌, ◌∷◌, ◌≡◌, ◌≤ℤ◌, ◌≤◌, ◌⊎◌, Bool, List, [], ap, arith, inl, inr, length, refl, subst, suc, sym, true, zero, ℤ}
+use Rattle.std.{proofs.lemmas.{Bool.cases_Bool, Int.ints, List.Elements.{All-contains, All-from_recursion}}, specs.List.AllByRecursion}
 use Rattle.std.specs.Prelude.{Contains, filter, int_lt}
-use Rattle.std.specs.List.{AllByRecursion}
-use Rattle.std.proofs.lemmas.Int.{ints}
-use Rattle.std.proofs.lemmas.Bool.{cases_Bool}
-use Rattle.std.proofs.lemmas.List.Elements.{All-from_recursion, All-contains}
-use Rattle.compression.specs.Clusters.{Point, beyond}
-use Rattle.compression.specs.OneCluster.{AreInOrder}
 use Rattle.tte_lemmas.proofs.Integers.{int_lt-from}
+use Rattle.compression.specs.{Clusters.{Point, beyond}, OneCluster.AreInOrder}
 
 pub in_head : {X : Type 0} (x : X) (xs : List X) → Contains (x ∷ xs) x
 in_head x xs = (0, omega arith, refl)

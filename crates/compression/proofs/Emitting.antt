@@ -1,20 +1,12 @@
 -- What is emitted next, and a collector after it.
-use Rattle.std.proofs.Common.{◌≡◌, ◌∙◌, ℤ, pos, ◌+ℤ◌, ◌*ℤ◌, ◌≤ℤ◌, ◌<ℤ◌, List, [], ◌∷◌, ◌++◌, length, take, map, ap, refl, sym, subst, arith, neg_ℤ, ◌^◌, FitsSigned, w64}
-use Rattle.std.specs.Prelude.{All}
-use Rattle.std.proofs.lemmas.Int.{ints}
-use Rattle.std.proofs.lemmas.List.{append_assoc, map-append, length-map}
-use Rattle.std.proofs.lemmas.List.Elements.{All-from_recursion, All-weaker, All-push, All-cons, All-map}
-use Rattle.compression.specs.Middle.{relative, middle_of}
-use Rattle.compression.specs.Clusters.{Point, Cluster, AreClusters}
-use Rattle.compression.specs.Emission.{emission, compressed}
-use Rattle.compression.specs.Collecting.{Collecting, emissions}
-use Rattle.compression.specs.Row.{IsCollection, IsRow, IsSound}
-use Rattle.compression.specs.Least.{IsLeast}
-use Rattle.compression.specs.Stands.{StandsForPoints, EmittedInOrder}
-use Rattle.compression.specs.declared.compressed.Compressed.{Compressed}
+use Rattle.std.proofs.Common.{◌*ℤ◌, ◌++◌, ◌+ℤ◌, ◌<ℤ◌, ◌^◌, ◌∙◌, ◌∷◌, ◌≡◌, ◌≤ℤ◌, FitsSigned, List, [], ap, arith, length, map, neg_ℤ, pos, refl, subst, sym}
+use Rattle.std.proofs.{Common.{take, w64, ℤ}, lemmas.{Int.ints, List.{append_assoc, length-map, map-append}}}
+use Rattle.std.{proofs.lemmas.List.Elements.{All-cons, All-from_recursion, All-map, All-push, All-weaker}, specs.Prelude.All}
 use Rattle.tte_lemmas.proofs.Lists.{drop-front}
-use Rattle.compression.proofs.Standing.{AreClusters-unique}
-use Rattle.compression.proofs.Rows.{row-head, row-rest, row-emissions, emission-within}
+use Rattle.compression.proofs.{Rows.{emission-within, row-emissions, row-head, row-rest}, Standing.AreClusters-unique}
+use Rattle.compression.specs.{Clusters.{AreClusters, Cluster, Point}, Collecting.{Collecting, emissions}, Emission.{compressed, emission}, Least.IsLeast}
+use Rattle.compression.specs.{Middle.{middle_of, relative}, Row.{IsCollection, IsRow, IsSound}, Stands.{EmittedInOrder, StandsForPoints}}
+use Rattle.compression.specs.declared.compressed.Compressed.{Compressed}
 
 -- the middle of a collection's points
 pub middle-within : (ow : ℤ) (c : Cluster) → IsCollection ow c → (pos 0 ≤ℤ middle_of (relative c.points)) × (middle_of (relative c.points) ≤ℤ (pos 2 *ℤ ow))

@@ -1,17 +1,10 @@
 -- The first point of each master, and the members that they make.
-use Rattle.std.proofs.Common.{◌≡◌, ◌∙◌, inl, inr, ℕ, ◌≤◌, ◌^◌, max, List, [], ◌∷◌, ◌++◌, ap, refl, sym, subst, arith, Bool, true, false, not, cond}
-use Rattle.std.specs.Prelude.{Contains, fold, bit_and, bit_or, ◌==◌}
-use Rattle.std.specs.Int.{bit_at}
-use Rattle.std.specs.List.{AllByRecursion}
-use Rattle.std.proofs.lemmas.Bool.{cases_Bool, eq-eqb, ne_eqb, cases_eq, or_parts, or_left, or_right}
-use Rattle.std.proofs.lemmas.List.{append-nil, append_assoc}
-use Rattle.std.proofs.lemmas.List.Folds.{list_any-append}
-use Rattle.std.proofs.lemmas.List.Sums.{fold-append}
-use Rattle.std.proofs.lemmas.Nat.{pow_pos}
-use Rattle.std.proofs.lemmas.Nat.Bits.{bit_at-zero, bit_at_or, bit_at-pow_same, bit_at-pow_other, and_pow}
-use Rattle.compression.proofs.Elements.{in_head, in_tail, in_none, in_cases}
+use Rattle.std.proofs.Common.{◌++◌, ◌^◌, ◌∙◌, ◌∷◌, ◌≡◌, ◌≤◌, Bool, List, [], ap, arith, cond, false, inl, inr, max, not, refl, subst, sym, true, ℕ}
+use Rattle.std.proofs.lemmas.{Bool.{cases_Bool, cases_eq, eq-eqb, ne_eqb, or_left, or_parts, or_right}, List.{append-nil, append_assoc, Folds.list_any-append}}
+use Rattle.std.proofs.lemmas.{List.Sums.fold-append, Nat.{pow_pos, Bits.{and_pow, bit_at-pow_other, bit_at-pow_same, bit_at-zero, bit_at_or}}}
+use Rattle.std.specs.{Int.bit_at, List.AllByRecursion, Prelude.{◌==◌, Contains, bit_and, bit_or, fold}}
+use Rattle.compression.{proofs.Elements.{in_cases, in_head, in_none, in_tail}, specs.Clusters.{Cluster, Point, firsts, has_master, members_of, with_first}}
 use Rattle.compression.specs.Role.{has_point_of}
-use Rattle.compression.specs.Clusters.{Point, Cluster, has_master, with_first, firsts, members_of}
 
 -- one more point at the end
 pub firsts-push : (xs : List Point) (p : Point) → firsts (xs ++ p ∷ []) ≡ with_first (firsts xs) p

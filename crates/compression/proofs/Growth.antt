@@ -1,16 +1,13 @@
 -- What one more point does to the clusters of a list.
-use Rattle.std.proofs.Common.{◌≡◌, ◌≢◌, ◌∙◌, inl, inr, ℕ, ◌^◌, ◌<◌, ◌≤◌, ℤ, pos, ◌+ℤ◌, ◌*ℤ◌, ◌≤ℤ◌, ◌<ℤ◌, List, [], ◌∷◌, ◌++◌, length, map, ap, refl, sym, subst, arith, true, false}
-use Rattle.std.specs.Prelude.{int_le, int_lt, nat_le, bit_or, if◌then◌else◌}
-use Rattle.std.specs.List.{AllByRecursion}
-use Rattle.std.proofs.lemmas.Int.{ints}
-use Rattle.std.specs.Int.Bits.{or_zero_l}
-use Rattle.std.proofs.lemmas.Bool.{cases_Bool, cases_eq, cases_lt, le-leb, lt-leb}
-use Rattle.std.proofs.lemmas.List.{length-append, map-append}
-use Rattle.compression.specs.Clusters.{Point, Cluster, of_cycle_within, beyond, has_master, with_first, firsts, members_of, end_of, cluster_of, AreClusters}
-use Rattle.compression.specs.Collection.{opening, joined_end, joined}
-use Rattle.compression.specs.Role.{has_point_of}
-use Rattle.compression.proofs.Firsts.{firsts-push, with_first-old, with_first-new, firsts-start, has_point_of-is, members_of-push}
-use Rattle.compression.proofs.Held.{held-push_in, held-push_beyond, held-push_other, int_lt-false, held-start, beyond-push_in, beyond-push_out, beyond-later, held-same}
+use Rattle.std.proofs.Common.{◌*ℤ◌, ◌++◌, ◌+ℤ◌, ◌<ℤ◌, ◌<◌, ◌^◌, ◌∙◌, ◌∷◌, ◌≡◌, ◌≢◌, ◌≤ℤ◌, ◌≤◌, List, [], ap, arith, false, inl, inr, length, map, pos, refl}
+use Rattle.std.proofs.{Common.{subst, sym, true, ℕ, ℤ}, lemmas.{Bool.{cases_Bool, cases_eq, cases_lt, le-leb, lt-leb}, Int.ints}}
+use Rattle.std.{proofs.lemmas.List.{length-append, map-append}, specs.{Int.Bits.or_zero_l, List.AllByRecursion}}
+use Rattle.std.specs.Prelude.{if◌then◌else◌, bit_or, int_le, int_lt, nat_le}
+use Rattle.compression.proofs.Firsts.{firsts-push, firsts-start, has_point_of-is, members_of-push, with_first-new, with_first-old}
+use Rattle.compression.proofs.Held.{beyond-later, beyond-push_in, beyond-push_out, held-push_beyond, held-push_in, held-push_other, held-same, held-start}
+use Rattle.compression.proofs.Held.{int_lt-false}
+use Rattle.compression.specs.Clusters.{AreClusters, Cluster, Point, beyond, cluster_of, end_of, firsts, has_master, members_of, of_cycle_within, with_first}
+use Rattle.compression.specs.{Collection.{joined, joined_end, opening}, Role.has_point_of}
 
 -- the points that count in the cluster that o opens, and those of its first window
 abbrev pub counted : ℤ → Point → List Point → List Point

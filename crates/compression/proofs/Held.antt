@@ -1,12 +1,9 @@
 -- The points that lie in an interval, as points are added.
-use Rattle.std.proofs.Common.{◌≡◌, ◌≢◌, ◌∙◌, inl, inr, ℕ, ℤ, ◌≤ℤ◌, ◌<ℤ◌, List, [], ◌∷◌, ◌++◌, ap, refl, arith, Bool, true, false, cond, ◌&&◌}
-use Rattle.std.specs.Prelude.{filter, int_le, int_lt, ◌==◌}
-use Rattle.std.proofs.lemmas.Int.{ints}
-use Rattle.std.proofs.lemmas.Bool.{cases_Bool, eq-eqb, ne_eqb, and_from, and_left, and_right}
-use Rattle.std.proofs.lemmas.List.{append-nil}
-use Rattle.std.proofs.lemmas.List.Elements.{filter-append}
-use Rattle.compression.specs.Clusters.{Point, of_cycle_within, beyond}
+use Rattle.std.proofs.Common.{◌&&◌, ◌++◌, ◌<ℤ◌, ◌∙◌, ◌∷◌, ◌≡◌, ◌≢◌, ◌≤ℤ◌, Bool, List, [], ap, arith, cond, false, inl, inr, refl, true, ℕ, ℤ}
+use Rattle.std.proofs.lemmas.{Bool.{and_from, and_left, and_right, cases_Bool, eq-eqb, ne_eqb}, Int.ints, List.{append-nil, Elements.filter-append}}
+use Rattle.std.specs.Prelude.{◌==◌, filter, int_le, int_lt}
 use Rattle.tte_lemmas.proofs.Integers.{int_le-from, int_lt-from, not_less}
+use Rattle.compression.specs.Clusters.{Point, beyond, of_cycle_within}
 
 pub int_le-false : (a b : ℤ) → b <ℤ a → int_le a b ≡ false
 int_le-false a b h = grind (arith, ints)
@@ -20,9 +17,6 @@ filter-push_in test ps p e = filter-append test ps (p ∷ []) ∙ ap (λ (b : Bo
 
 filter-push_out : (test : Point → Bool) (ps : List Point) (p : Point) → test p ≡ false → filter test (ps ++ p ∷ []) ≡ filter test ps
 filter-push_out test ps p e = filter-append test ps (p ∷ []) ∙ ap (λ (b : Bool). filter test ps ++ cond b (p ∷ []) []) e ∙ append-nil (filter test ps)
-
-test_of : ℕ → ℤ → ℤ → Point → Bool
-test_of cycle from to q = q.cycle == cycle && (int_le from q.reading && int_le q.reading to)
 
 -- a point of the cycle in the interval
 pub held-push_in : (cycle : ℕ) (from to : ℤ) (ps : List Point) (p : Point) → p.cycle ≡ cycle → from ≤ℤ p.reading → p.reading ≤ℤ to

@@ -1,13 +1,9 @@
 -- Where the middle of points lies.
-use Rattle.std.proofs.Common.{◌≡◌, ◌∙◌, inl, inr, ℕ, suc, ◌-◌, ℤ, pos, ◌+ℤ◌, ◌-ℤ◌, List, [], ◌∷◌, length, get_or, sym, ap, subst, arith}
-use Rattle.std.specs.Prelude.{All}
-use Rattle.std.proofs.lemmas.Int.{ints}
-use Rattle.std.proofs.lemmas.List.Elements.{All-head, All-tail}
-use Rattle.tte_units.specs.Mean.{mean_of, IsMean}
-use Rattle.tte_units.proofs.Means.{mean_of-floor}
-use Rattle.compression.specs.Ascent.{IsAscending, offset_at}
-use Rattle.compression.specs.Middle.{relative, middle_of, LiesWithin, AllButOne, MiddleAmongOthers, MiddleFromFirstToLast}
-use Rattle.compression.proofs.Middles.{middle_of-inner, middle_of-within}
+use Rattle.std.proofs.{Common.{◌+ℤ◌, ◌-ℤ◌, ◌-◌, ◌∙◌, ◌∷◌, ◌≡◌, List, [], ap, arith, get_or, inl, inr, length, pos, subst, suc, sym, ℕ, ℤ}, lemmas.Int.ints}
+use Rattle.std.{proofs.lemmas.List.Elements.{All-head, All-tail}, specs.Prelude.All}
+use Rattle.tte_units.{proofs.Means.mean_of-floor, specs.Mean.{IsMean, mean_of}}
+use Rattle.compression.{proofs.Middles.{middle_of-inner, middle_of-within}, specs.Ascent.{IsAscending, offset_at}}
+use Rattle.compression.specs.Middle.{AllButOne, LiesWithin, MiddleAmongOthers, MiddleFromFirstToLast, middle_of, relative}
 
 -- the second of three or more
 second : (low high a b c : ℤ) (more : List ℤ) → IsAscending (a ∷ b ∷ c ∷ more) → AllButOne (LiesWithin low high) (a ∷ b ∷ c ∷ more) → LiesWithin low high b

@@ -1,12 +1,8 @@
 -- What the middle of a list of points is by their places.
-use Rattle.std.proofs.Common.{◌≡◌, ◌≢◌, inl, inr, ◌≤ℤ◌, ◌∙◌, ℕ, suc, ◌+◌, ◌-◌, ◌<◌, ◌≤◌, ℤ, pos, ◌-ℤ◌, List, [], ◌∷◌, map, length, get_or, refl, sym, ap, subst, arith}
-use Rattle.std.proofs.lemmas.Int.{ints}
-use Rattle.tte_units.specs.Mean.{mean_of, IsMean}
-use Rattle.tte_units.proofs.Means.{mean_of-floor}
-use Rattle.compression.specs.Ascent.{IsAscending, spread, offset_at}
-use Rattle.compression.specs.Middle.{relative, last_but_one, middle_of}
-use Rattle.compression.proofs.Ascents.{offset_at-within}
-use Rattle.std.proofs.lemmas.Bool.{cases_lt}
+use Rattle.std.proofs.Common.{◌+◌, ◌-ℤ◌, ◌-◌, ◌<◌, ◌∙◌, ◌∷◌, ◌≡◌, ◌≢◌, ◌≤ℤ◌, ◌≤◌, List, [], ap, arith, get_or, inl, inr, length, map, pos, refl, subst, suc}
+use Rattle.std.proofs.{Common.{sym, ℕ, ℤ}, lemmas.{Bool.cases_lt, Int.ints}}
+use Rattle.tte_units.{proofs.Means.mean_of-floor, specs.Mean.{IsMean, mean_of}}
+use Rattle.compression.{proofs.Ascents.offset_at-within, specs.{Ascent.{IsAscending, offset_at, spread}, Middle.{last_but_one, middle_of, relative}}}
 
 only_mean : (s m : ℤ) → IsMean s s m → m ≡ s
 only_mean s m h = omega (arith, ints, h.least, h.most)

@@ -1,10 +1,6 @@
 -- The role of a point by the last cluster.
-use Rattle.std.proofs.Common.{◌≡◌, ℤ, ◌≤ℤ◌, ◌<ℤ◌, List, refl, arith, Some, None}
-use Rattle.std.proofs.lemmas.Int.{ints}
-use Rattle.std.specs.Prelude.{int_lt, true, false}
-use Rattle.std.specs.List.{last_or}
-use Rattle.compression.specs.Clusters.{Cluster}
-use Rattle.compression.specs.Role.{open_at}
+use Rattle.std.{proofs.{Common.{◌<ℤ◌, ◌≡◌, ◌≤ℤ◌, List, None, Some, arith, refl, ℤ}, lemmas.Int.ints}, specs.{List.last_or, Prelude.{false, int_lt, true}}}
+use Rattle.compression.specs.{Clusters.Cluster, Role.open_at}
 
 -- up to its end the last is open
 pub open_at-in : (cs : List Cluster) (c : Cluster) (reading : ℤ) → last_or None cs ≡ Some c → reading ≤ℤ c.end → open_at cs reading ≡ Some c

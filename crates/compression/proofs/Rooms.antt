@@ -1,17 +1,11 @@
 -- A cluster has one point of a master at most.
-use Rattle.std.proofs.Common.{◌≡◌, ◌≢◌, ◌∙◌, ◌⊎◌, inl, inr, ℕ, suc, ◌+◌, ◌<◌, ℤ, List, [], ◌∷◌, ◌++◌, length, ap, refl, sym, subst, arith, false, ◌&&◌}
-use Rattle.std.specs.Prelude.{Contains, int_le, ◌==◌, fold}
-use Rattle.std.specs.List.{AllByRecursion}
-use Rattle.std.proofs.lemmas.Bool.{cases_Bool, eqb-false, or_parts}
-use Rattle.std.proofs.lemmas.List.{length-append, length-map}
-use Rattle.std.proofs.lemmas.List.Folds.{list_any-append}
-use Rattle.std.proofs.lemmas.List.Elements.{recursion_from_All}
-use Rattle.compression.specs.Clusters.{Point, Cluster, of_cycle_within, beyond, has_master, with_first, firsts, end_of, cluster_of, AreClusters}
-use Rattle.compression.specs.Role.{has_point_of}
-use Rattle.compression.specs.Room.{RoomForEachMaster}
-use Rattle.compression.proofs.Elements.{in_head, in_tail, in_none, in_cases, all-filter}
-use Rattle.compression.proofs.Firsts.{with_first-old, with_first-new, has_point_of-is}
+use Rattle.std.proofs.Common.{◌&&◌, ◌++◌, ◌+◌, ◌<◌, ◌∙◌, ◌∷◌, ◌≡◌, ◌≢◌, ◌⊎◌, List, [], ap, arith, false, inl, inr, length, refl, subst, suc, sym, ℕ, ℤ}
+use Rattle.std.proofs.lemmas.{Bool.{cases_Bool, eqb-false, or_parts}, List.{length-append, length-map, Elements.recursion_from_All, Folds.list_any-append}}
+use Rattle.std.specs.{List.AllByRecursion, Prelude.{◌==◌, Contains, fold, int_le}}
+use Rattle.compression.proofs.{Elements.{all-filter, in_cases, in_head, in_none, in_tail}, Firsts.{has_point_of-is, with_first-new, with_first-old}}
 use Rattle.compression.proofs.Growth.{counted}
+use Rattle.compression.specs.Clusters.{AreClusters, Cluster, Point, beyond, cluster_of, end_of, firsts, has_master, of_cycle_within, with_first}
+use Rattle.compression.specs.{Role.has_point_of, Room.RoomForEachMaster}
 
 -- a list without one element
 record Without (x : ℕ) (ys : List ℕ) : Type 0 where

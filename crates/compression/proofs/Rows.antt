@@ -1,14 +1,8 @@
 -- Rows of collections, as points are taken and clusters are emitted.
-use Rattle.std.proofs.Common.{◌≡◌, ◌<◌, ℤ, pos, ◌+ℤ◌, ◌-ℤ◌, ◌*ℤ◌, ◌≤ℤ◌, ◌<ℤ◌, List, [], ◌∷◌, ◌++◌, length, ap, refl, sym, subst, arith, Some, None}
-use Rattle.std.specs.Prelude.{IfSome}
-use Rattle.std.specs.List.{last_or, AllByRecursion}
-use Rattle.std.proofs.lemmas.Int.{ints}
-use Rattle.compression.specs.Ascent.{IsAscending, MayFollow, last_from}
-use Rattle.compression.specs.Middle.{relative, middle_of}
-use Rattle.compression.specs.Clusters.{Cluster}
-use Rattle.compression.specs.Emission.{emission}
-use Rattle.compression.specs.Row.{IsCollection, IsRow}
-use Rattle.compression.proofs.Middles.{middle_of-within}
+use Rattle.std.proofs.Common.{◌*ℤ◌, ◌++◌, ◌+ℤ◌, ◌-ℤ◌, ◌<ℤ◌, ◌<◌, ◌∷◌, ◌≡◌, ◌≤ℤ◌, List, None, Some, [], ap, arith, length, pos, refl, subst, sym, ℤ}
+use Rattle.std.{proofs.lemmas.Int.ints, specs.{List.{AllByRecursion, last_or}, Prelude.IfSome}}
+use Rattle.compression.{proofs.Middles.middle_of-within, specs.{Ascent.{IsAscending, MayFollow, last_from}, Clusters.Cluster, Emission.emission}}
+use Rattle.compression.specs.{Middle.{middle_of, relative}, Row.{IsCollection, IsRow}}
 
 -- a list with a last element
 pub last_split : {X : Type 0} (xs : List X) (x : X) → last_or None xs ≡ Some x → (front : List X) × (xs ≡ front ++ x ∷ [])

@@ -1,20 +1,12 @@
 -- What is true of every collector stays true.
-use Rattle.std.proofs.Common.{◌≡◌, ◌∙◌, inl, inr, ℕ, ◌+◌, ◌<◌, ℤ, pos, ◌+ℤ◌, ◌-ℤ◌, ◌*ℤ◌, ◌≤ℤ◌, ◌<ℤ◌, List, [], ◌∷◌, ◌++◌, length, map, ap, refl, sym, subst, arith, Option, Some, None}
-use Rattle.std.specs.Prelude.{int_lt, int_le, All}
-use Rattle.std.specs.List.{last_or, AllByRecursion}
-use Rattle.std.proofs.lemmas.Int.{ints}
-use Rattle.std.proofs.lemmas.Bool.{cases_Bool}
-use Rattle.std.proofs.lemmas.List.Elements.{recursion_from_All}
+use Rattle.std.proofs.Common.{◌*ℤ◌, ◌++◌, ◌+ℤ◌, ◌+◌, ◌-ℤ◌, ◌<ℤ◌, ◌<◌, ◌∙◌, ◌∷◌, ◌≡◌, ◌≤ℤ◌, List, None, Option, Some, [], ap, arith, inl, inr, length, map, pos}
+use Rattle.std.proofs.{Common.{refl, subst, sym, ℕ, ℤ}, lemmas.{Bool.cases_Bool, Int.ints, List.Elements.recursion_from_All}}
+use Rattle.std.specs.{List.{AllByRecursion, last_or}, Prelude.{All, int_le, int_lt}}
 use Rattle.tte_units.specs.Reading.{greatest_reading}
-use Rattle.compression.specs.Ascent.{MayFollow, last_from}
-use Rattle.compression.specs.Clusters.{Point, Cluster}
-use Rattle.compression.specs.Emission.{emission}
-use Rattle.compression.specs.Role.{open_at}
-use Rattle.compression.specs.Collection.{opening, joined_end, joined}
-use Rattle.compression.specs.Collecting.{Collecting, with_opened, last_joined, emissions}
-use Rattle.compression.specs.Row.{IsCollection, IsRow, IsSound}
 use Rattle.compression.proofs.Ascents.{IsAscending-push}
-use Rattle.compression.proofs.Rows.{last_split, last_or-none, opened-before, row_last, row-push, row-replace, row-room, MayFollow-later}
+use Rattle.compression.proofs.Rows.{MayFollow-later, last_or-none, last_split, opened-before, row-push, row-replace, row-room, row_last}
+use Rattle.compression.specs.{Ascent.{MayFollow, last_from}, Clusters.{Cluster, Point}, Collecting.{Collecting, emissions, last_joined, with_opened}}
+use Rattle.compression.specs.{Collection.{joined, joined_end, opening}, Emission.emission, Role.open_at, Row.{IsCollection, IsRow, IsSound}}
 
 none_is_some : (c : Cluster) → Some c ≡ None → ⊥
 none_is_some c e = cc

@@ -1,19 +1,10 @@
 -- How the calls of a collector keep where it stands.
-use Rattle.std.proofs.Common.{◌≡◌, ◌≢◌, ◌∙◌, ◌⊎◌, inl, inr, ℤ, ◌≤ℤ◌, ◌<ℤ◌, List, [], ◌∷◌, ◌++◌, ap, refl, sym, subst, arith, None, true, false}
-use Rattle.std.specs.List.{AllByRecursion}
-use Rattle.std.proofs.lemmas.Int.{ints}
-use Rattle.std.proofs.lemmas.List.{append_assoc}
-use Rattle.std.proofs.lemmas.List.Elements.{recursion_from_All, All-from_recursion}
-use Rattle.compression.specs.Clusters.{Point, Cluster, AreClusters, beyond}
-use Rattle.compression.specs.Role.{has_point_of, open_at}
-use Rattle.compression.specs.Collection.{opening, joined}
-use Rattle.compression.specs.Collecting.{Collecting, with_opened}
-use Rattle.compression.specs.Row.{IsRow, IsSound}
-use Rattle.compression.specs.Stands.{StandsForPoints}
-use Rattle.compression.specs.declared.compressed.Compressed.{Compressed}
-use Rattle.compression.proofs.Growth.{AreClusters-opened, AreClusters-within, Grows}
-use Rattle.compression.proofs.Rows.{row_last, opened-before}
-use Rattle.compression.proofs.Sound.{with_last, all_ended, joined_end-within}
+use Rattle.std.proofs.Common.{◌++◌, ◌<ℤ◌, ◌∙◌, ◌∷◌, ◌≡◌, ◌≢◌, ◌≤ℤ◌, ◌⊎◌, List, None, [], ap, arith, false, inl, inr, refl, subst, sym, true, ℤ}
+use Rattle.std.{proofs.lemmas.{Int.ints, List.{append_assoc, Elements.{All-from_recursion, recursion_from_All}}}, specs.List.AllByRecursion}
+use Rattle.compression.proofs.{Growth.{AreClusters-opened, AreClusters-within, Grows}, Rows.{opened-before, row_last}}
+use Rattle.compression.{proofs.Sound.{all_ended, joined_end-within, with_last}, specs.Clusters.{AreClusters, Cluster, Point, beyond}}
+use Rattle.compression.specs.{Collecting.{Collecting, with_opened}, Collection.{joined, opening}, Role.{has_point_of, open_at}, Row.{IsRow, IsSound}}
+use Rattle.compression.specs.{Stands.StandsForPoints, declared.compressed.Compressed.Compressed}
 
 -- ends that lie before a later reading
 pub ended_later : (t r : ℤ) (cs : List Cluster) → t ≤ℤ r → AllByRecursion (λ c. c.end <ℤ t) cs → AllByRecursion (λ c. c.end <ℤ r) cs

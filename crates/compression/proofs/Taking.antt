@@ -1,22 +1,13 @@
 -- What a collector does with a point, by the point's role.
-use Rattle.std.proofs.Common.{◌≡◌, ◌≢◌, ◌∙◌, ◌⊎◌, inl, inr, ℕ, ◌<◌, ℤ, ◌≤ℤ◌, ◌<ℤ◌, List, [], ◌∷◌, ◌++◌, length, ap, refl, sym, subst, Option, Some, None, true, false, IsTrue}
-use Rattle.std.specs.Prelude.{◌==◌, int_lt, IfSome, if◌then◌else◌, option_and_then}
-use Rattle.std.specs.List.{last_or, AllByRecursion}
-use Rattle.std.proofs.lemmas.Bool.{cases_Bool, eqb-true, eqb-false}
-use Rattle.std.proofs.lemmas.List.{append-nil}
-use Rattle.std.proofs.lemmas.List.Elements.{recursion_from_All}
-use Rattle.compression.specs.Clusters.{Point, Cluster, AreClusters}
-use Rattle.compression.specs.Role.{has_point_of, open_at, role_in, role}
-use Rattle.compression.specs.Collection.{joined, CanTake}
-use Rattle.compression.specs.Collecting.{Collecting, with_opened, last_joined}
-use Rattle.compression.specs.Row.{IsRow, IsSound}
-use Rattle.compression.specs.Stands.{StandsForPoints}
-use Rattle.compression.specs.declared.taken.Taken.TheVariants.{Opened, Joined, Repeat, OtherCycle}
-use Rattle.compression.specs.declared.compressed.Compressed.{Compressed}
-use Rattle.compression.proofs.Roles.{open_at-in, open_at-beyond, open_at-none}
-use Rattle.compression.proofs.Rows.{last_split, last_or-none, row_last, MayFollow-later}
-use Rattle.compression.proofs.Sound.{with_last, last_joined-split, open_at-some, IsSound-joined}
-use Rattle.compression.proofs.Standing.{ended_later, Stands-opened, Stands-joined, Stands-ignored, AreClusters-unique}
+use Rattle.std.proofs.Common.{◌++◌, ◌<ℤ◌, ◌<◌, ◌∙◌, ◌∷◌, ◌≡◌, ◌≢◌, ◌≤ℤ◌, ◌⊎◌, IsTrue, List, None, Option, Some, [], ap, false, inl, inr, length, refl, subst}
+use Rattle.std.proofs.{Common.{sym, true, ℕ, ℤ}, lemmas.{Bool.{cases_Bool, eqb-false, eqb-true}, List.{append-nil, Elements.recursion_from_All}}}
+use Rattle.std.specs.{List.{AllByRecursion, last_or}, Prelude.{if◌then◌else◌, ◌==◌, IfSome, int_lt, option_and_then}}
+use Rattle.compression.proofs.{Roles.{open_at-beyond, open_at-in, open_at-none}, Rows.{MayFollow-later, last_or-none, last_split, row_last}}
+use Rattle.compression.proofs.Sound.{IsSound-joined, last_joined-split, open_at-some, with_last}
+use Rattle.compression.proofs.Standing.{AreClusters-unique, Stands-ignored, Stands-joined, Stands-opened, ended_later}
+use Rattle.compression.specs.{Clusters.{AreClusters, Cluster, Point}, Collecting.{Collecting, last_joined, with_opened}, Collection.{CanTake, joined}}
+use Rattle.compression.specs.{Role.{has_point_of, open_at, role, role_in}, Row.{IsRow, IsSound}, Stands.StandsForPoints}
+use Rattle.compression.specs.declared.{compressed.Compressed.Compressed, taken.Taken.TheVariants.{Joined, Opened, OtherCycle, Repeat}}
 
 -- the open collection and why a point joins it
 pub record Joins (o : Option Cluster) (p : Point) : Type 0 where

@@ -1,14 +1,9 @@
 -- The times of clusters: each point lies in one.
-use Rattle.std.proofs.Common.{◌≡◌, ◌⊎◌, inl, inr, ℕ, zero, suc, ◌≤◌, ℤ, pos, ◌≤ℤ◌, ◌<ℤ◌, List, [], ◌∷◌, length, ap, refl, sym, subst, arith}
-use Rattle.std.specs.Prelude.{Contains, int_le}
-use Rattle.std.specs.List.{AllByRecursion}
-use Rattle.std.proofs.lemmas.Int.{ints}
-use Rattle.std.proofs.lemmas.Bool.{cases_Bool}
-use Rattle.compression.specs.Clusters.{Point, Cluster, beyond, cluster_of, AreClusters}
-use Rattle.compression.specs.OneCluster.{LiesIn, OneTime, OneListOfClusters}
-use Rattle.compression.proofs.Elements.{in_head, in_tail, in_none, in_cases, all_at, Ordered, Ordered-from, Ordered-beyond, all-beyond, beyond-all, in_beyond, length-beyond}
-use Rattle.compression.proofs.Growth.{end_of-least}
-use Rattle.compression.proofs.Standing.{AreClusters-unique}
+use Rattle.std.proofs.Common.{◌<ℤ◌, ◌∷◌, ◌≡◌, ◌≤ℤ◌, ◌≤◌, ◌⊎◌, List, [], ap, arith, inl, inr, length, pos, refl, subst, suc, sym, zero, ℕ, ℤ}
+use Rattle.std.{proofs.lemmas.{Bool.cases_Bool, Int.ints}, specs.{List.AllByRecursion, Prelude.{Contains, int_le}}}
+use Rattle.compression.proofs.Elements.{Ordered, Ordered-beyond, Ordered-from, all-beyond, all_at, beyond-all, in_beyond, in_cases, in_head, in_none, in_tail}
+use Rattle.compression.proofs.{Elements.length-beyond, Growth.end_of-least, Standing.AreClusters-unique}
+use Rattle.compression.specs.{Clusters.{AreClusters, Cluster, Point, beyond, cluster_of}, OneCluster.{LiesIn, OneListOfClusters, OneTime}}
 
 -- clusters of points that lie beyond a reading open beyond it
 pub open_beyond : (ow low : ℤ) (ps : List Point) (cs : List Cluster) → AreClusters ow ps cs → AllByRecursion (λ q. low <ℤ q.reading) ps

@@ -1,6 +1,5 @@
 -- Numbers in rising order.
-use Rattle.std.specs.Prelude.{ℕ, ℤ, pos, ◌-ℤ◌, ◌≤ℤ◌, List, [], ◌∷◌, None, IfSome, ⊤, slice_index_or}
-use Rattle.std.specs.List.{last_or}
+use Rattle.std.specs.{List.last_or, Prelude.{◌-ℤ◌, ◌∷◌, ◌≤ℤ◌, IfSome, List, None, [], pos, slice_index_or, ℕ, ℤ, ⊤}}
 
 -- each number is at least the one before it
 abbrev pub IsAscending : List ℤ → Type 0

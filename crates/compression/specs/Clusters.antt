@@ -1,6 +1,7 @@
 -- Clusters of permanence points.
-use Rattle.std.specs.Prelude.{◌≡◌, ℕ, ◌^◌, ℤ, pos, ◌+ℤ◌, ◌*ℤ◌, int_le, int_lt, Bool, ◌&&◌, ◌==◌, nat_le, if◌then◌else◌, List, [], ◌∷◌, ◌++◌, length, map, filter, fold, bit_or, ⊤}
 use Rattle.std.specs.List.{list_any}
+use Rattle.std.specs.Prelude.{if◌then◌else◌, ◌&&◌, ◌*ℤ◌, ◌++◌, ◌+ℤ◌, ◌==◌, ◌^◌, ◌∷◌, ◌≡◌, Bool, List, [], bit_or}
+use Rattle.std.specs.Prelude.{filter, fold, int_le, int_lt, length, map, nat_le, pos, ℕ, ℤ, ⊤}
 
 -- a permanence point, the master whose frame it is, and the frame's cycle
 pub record Point : Type 0 where

@@ -1,9 +1,7 @@
 -- What a collector keeps.
-use Rattle.std.specs.Prelude.{ℤ, List, [], ◌∷◌, ◌++◌, map}
+use Rattle.std.specs.Prelude.{◌++◌, ◌∷◌, List, [], map, ℤ}
 use Rattle.tte_units.specs.Reading.{least_reading}
-use Rattle.compression.specs.Clusters.{Point, Cluster}
-use Rattle.compression.specs.Emission.{emission}
-use Rattle.compression.specs.Collection.{opening, joined}
+use Rattle.compression.specs.{Clusters.{Cluster, Point}, Collection.{joined, opening}, Emission.emission}
 
 -- the observation window, the time to calculate, the least reading that the next point may have, and the clusters of
 -- the points so far that are not emitted

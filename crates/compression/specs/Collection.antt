@@ -1,9 +1,8 @@
 -- One collection as points come.
-use Rattle.std.specs.Prelude.{◌≡◌, ℕ, ◌^◌, ◌<◌, false, length, ◌≤ℤ◌, ℤ, pos, ◌+ℤ◌, ◌*ℤ◌, int_le, if◌then◌else◌, [], ◌∷◌, ◌++◌, bit_or}
-use Rattle.tte_units.specs.Reading.{least_reading, greatest_reading}
-use Rattle.compression.specs.Ascent.{MayFollow}
-use Rattle.compression.specs.Clusters.{Point, Cluster}
-use Rattle.compression.specs.Role.{has_point_of}
+use Rattle.std.specs.Prelude.{if◌then◌else◌, ◌*ℤ◌, ◌++◌, ◌+ℤ◌, ◌<◌, ◌^◌, ◌∷◌, ◌≡◌, ◌≤ℤ◌, [], bit_or, false, int_le}
+use Rattle.std.specs.Prelude.{length, pos, ℕ, ℤ}
+use Rattle.tte_units.specs.Reading.{greatest_reading, least_reading}
+use Rattle.compression.specs.{Ascent.MayFollow, Clusters.{Cluster, Point}, Role.has_point_of}
 
 -- the collection that a point opens
 abbrev pub opening : ℤ → Point → Cluster

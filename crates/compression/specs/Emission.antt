@@ -1,8 +1,6 @@
 -- What a cluster emits.
-use Rattle.std.specs.Prelude.{ℤ, pos, ◌+ℤ◌, ◌*ℤ◌}
-use Rattle.compression.specs.Middle.{relative, middle_of}
-use Rattle.compression.specs.Clusters.{Cluster}
-use Rattle.compression.specs.declared.compressed.Compressed.{Compressed}
+use Rattle.std.specs.Prelude.{◌*ℤ◌, ◌+ℤ◌, pos, ℤ}
+use Rattle.compression.specs.{Clusters.Cluster, Middle.{middle_of, relative}, declared.compressed.Compressed.Compressed}
 
 -- the emission reading of a cluster: two observation windows, the time to calculate, and the middle of its points after
 -- its opening

@@ -1,5 +1,5 @@
 -- The middle of a cluster's points.
-use Rattle.std.specs.Prelude.{◌≤◌, ◌⊎◌, ℤ, pos, ◌+ℤ◌, ◌-ℤ◌, ◌≤ℤ◌, List, [], ◌∷◌, length, map, All, ⊤}
+use Rattle.std.specs.Prelude.{◌+ℤ◌, ◌-ℤ◌, ◌∷◌, ◌≤ℤ◌, ◌≤◌, ◌⊎◌, All, List, [], length, map, pos, ℤ, ⊤}
 use Rattle.tte_units.specs.Mean.{mean_of}
 use Rattle.compression.specs.Ascent.{IsAscending, last_from}
 

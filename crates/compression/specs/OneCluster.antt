@@ -1,7 +1,6 @@
 -- Where the points of one cycle stand in one cluster.
-use Rattle.std.specs.Prelude.{◌≡◌, ◌≢◌, ℕ, ℤ, pos, ◌+ℤ◌, ◌≤ℤ◌, List, map, Contains}
-use Rattle.compression.specs.Ascent.{IsAscending}
-use Rattle.compression.specs.Clusters.{Point, Cluster, AreClusters}
+use Rattle.std.specs.Prelude.{◌+ℤ◌, ◌≡◌, ◌≢◌, ◌≤ℤ◌, Contains, List, map, pos, ℕ, ℤ}
+use Rattle.compression.specs.{Ascent.IsAscending, Clusters.{AreClusters, Cluster, Point}}
 
 -- the points in the order of their readings
 abbrev pub AreInOrder : List Point → Type 0

@@ -1,9 +1,9 @@
 -- What becomes of a point.
-use Rattle.std.specs.Prelude.{ℕ, ◌^◌, ℤ, int_lt, Bool, not, ◌==◌, if◌then◌else◌, Option, Some, None, option_and_then, List, bit_and}
 use Rattle.std.specs.List.{last_or}
-use Rattle.compression.specs.Clusters.{Point, Cluster}
-use Rattle.compression.specs.declared.taken.Taken.{Taken}
-use Rattle.compression.specs.declared.taken.Taken.TheVariants.{Opened, Joined, Repeat, OtherCycle}
+use Rattle.std.specs.Prelude.{if◌then◌else◌, ◌==◌, ◌^◌, Bool, List, None, Option, Some, bit_and, int_lt, not}
+use Rattle.std.specs.Prelude.{option_and_then, ℕ, ℤ}
+use Rattle.compression.specs.{Clusters.{Cluster, Point}, declared.taken.Taken.Taken}
+use Rattle.compression.specs.declared.taken.Taken.TheVariants.{Joined, Opened, OtherCycle, Repeat}
 
 -- whether the cluster has a point of this master
 abbrev pub has_point_of : Cluster → ℕ → Bool

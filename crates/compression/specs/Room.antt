@@ -1,7 +1,6 @@
 -- Room for the point of each master.
-use Rattle.std.specs.Prelude.{ℕ, ◌<◌, ℤ, List, length, All, Contains, IsFalse}
-use Rattle.compression.specs.Clusters.{Point, Cluster, AreClusters}
-use Rattle.compression.specs.Role.{has_point_of}
+use Rattle.std.specs.Prelude.{◌<◌, All, Contains, IsFalse, List, length, ℕ, ℤ}
+use Rattle.compression.specs.{Clusters.{AreClusters, Cluster, Point}, Role.has_point_of}
 
 -- where all points are of these masters, a cluster without a point of one of them has fewer points than there are
 -- masters

@@ -1,9 +1,7 @@
 -- How collections follow each other, and what is true of every collector.
-use Rattle.std.specs.Prelude.{◌≡◌, ◌≤◌, length, ◌^◌, ℤ, pos, ◌+ℤ◌, ◌*ℤ◌, ◌≤ℤ◌, ◌<ℤ◌, List, [], ◌∷◌, ⊤}
-use Rattle.tte_units.specs.Reading.{least_reading, greatest_reading}
-use Rattle.compression.specs.Ascent.{IsAscending, MayFollow, last_from}
-use Rattle.compression.specs.Clusters.{Cluster}
-use Rattle.compression.specs.Collecting.{Collecting}
+use Rattle.std.specs.Prelude.{◌*ℤ◌, ◌+ℤ◌, ◌<ℤ◌, ◌^◌, ◌∷◌, ◌≡◌, ◌≤ℤ◌, ◌≤◌, List, [], length, pos, ℤ, ⊤}
+use Rattle.tte_units.specs.Reading.{greatest_reading, least_reading}
+use Rattle.compression.specs.{Ascent.{IsAscending, MayFollow, last_from}, Clusters.Cluster, Collecting.Collecting}
 
 -- a cluster ends one or two observation windows after it opens, and its points lie up to there
 pub record IsCollection (ow : ℤ) (c : Cluster) : Type 0 where

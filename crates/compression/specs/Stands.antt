@@ -1,8 +1,6 @@
 -- How a collector stands to the points that it has taken and what it has emitted.
-use Rattle.std.specs.Prelude.{◌≡◌, ◌<ℤ◌, List, ◌++◌, length, take, drop, map, All}
-use Rattle.compression.specs.Clusters.{Point, Cluster, AreClusters}
-use Rattle.compression.specs.Emission.{compressed}
-use Rattle.compression.specs.Collecting.{Collecting}
+use Rattle.std.specs.Prelude.{◌++◌, ◌<ℤ◌, ◌≡◌, All, List, drop, length, map, take}
+use Rattle.compression.specs.{Clusters.{AreClusters, Cluster, Point}, Collecting.Collecting, Emission.compressed}
 use Rattle.compression.specs.declared.compressed.Compressed.{Compressed}
 
 -- the clusters of the points are those emitted, in their order, and those that wait; no later point can reach into one

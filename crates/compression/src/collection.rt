@@ -20,7 +20,13 @@ impl Model for Collection {
 
     ghost Value = { Cluster };
 
-    ghost view = { λ c. record { opened = c.opened.0; end = c.end.0; cycle = c.cycle; points = c.points; members = c.members.0 } };
+    ghost view = { λ c. record {
+      opened = c.opened.0;
+      end = c.end.0;
+      cycle = c.cycle;
+      points = c.points;
+      members = c.members.0;
+    } };
 }
 
 impl Default for Collection {
@@ -36,13 +42,11 @@ impl Default for Collection {
 }
 
 impl Collection {
-    ghost use Rattle.tte_units.specs.Reading.{least_reading, greatest_reading};
-    ghost use Rattle.compression.specs.Ascent.{MayFollow};
-    ghost use Rattle.compression.specs.Clusters.{point_at};
-    ghost use Rattle.compression.specs.Collection.{opening, joined_end, joined, CanTake};
+    ghost use Rattle.tte_units.specs.Reading.{greatest_reading, least_reading};
+    ghost use Rattle.compression.specs.{Ascent.MayFollow, Clusters.point_at};
+    ghost use Rattle.compression.specs.Collection.{CanTake, joined, joined_end, opening};
+    ghost use Rattle.compression.specs.{Emission.{compressed, emission}, Role.{has_point_of, role_in}};
     ghost use Rattle.compression.specs.Row.{IsCollection};
-    ghost use Rattle.compression.specs.Emission.{emission, compressed};
-    ghost use Rattle.compression.specs.Role.{has_point_of, role_in};
 
     /// The collection that a point opens.
     pub(crate) fn open(ow: Units, reading: Units, master: u32, cycle: u32) -> Collection

@@ -1,5 +1,6 @@
 ghost use Rattle.std.specs.Int.{int_max};
-ghost use Rattle.std.specs.Prelude.{◌≡◌, ◌≢◌, ◌⊎◌, ◌<◌, ◌≤◌, ◌^◌, ◌↔◌, List, pos, ◌<ℤ◌, ◌≤ℤ◌, ◌-ℤ◌, None, [], ◌∷◌, ◌++◌, length, All, IsNone, IfSome, IsSomeAnd, IsTrue, IsFalse};
+ghost use Rattle.std.specs.Prelude.{◌++◌, ◌-ℤ◌, ◌<ℤ◌, ◌<◌, ◌^◌, ◌↔◌, ◌∷◌, ◌≡◌, ◌≢◌, ◌≤ℤ◌, ◌≤◌, ◌⊎◌, All, IfSome};
+ghost use Rattle.std.specs.Prelude.{IsFalse, IsNone, IsSomeAnd, IsTrue, List, None, [], length, pos};
 
 use crate::collection::Collection;
 use crate::waiting::Waiting;
@@ -26,26 +27,27 @@ pub struct Collector {
 }
 
 impl Model for Collector {
-    ghost use Rattle.compression.specs.Collecting.{Collecting};
-    ghost use Rattle.compression.specs.Row.{IsSound};
+    ghost use Rattle.compression.specs.{Collecting.Collecting, Row.IsSound};
 
     ghost Value = { Collecting };
 
     ghost view = { λ c. record { ow = c.ow.0; calc = c.calc.0; earliest = c.earliest.0; waiting = c.waiting } };
 
-    ghost invariant = { λ c. IsSound (record { ow = c.ow.0; calc = c.calc.0; earliest = c.earliest.0; waiting = c.waiting }) };
+    ghost invariant = { λ c. IsSound (record {
+      ow = c.ow.0;
+      calc = c.calc.0;
+      earliest = c.earliest.0;
+      waiting = c.waiting;
+    }) };
 }
 
 const LEAST_READING: Units = Units(-(READING_LIMIT as i64));
 
 impl Collector {
-    ghost use Rattle.compression.specs.Clusters.{Point, Cluster, AreClusters, point_at};
-    ghost use Rattle.compression.specs.Collecting.{fresh, with_opened, with_joined, emissions};
-    ghost use Rattle.compression.specs.Least.{IsLeast};
-    ghost use Rattle.compression.specs.Emission.{compressed};
     ghost use Rattle.tte_units.specs.Reading.{greatest_reading};
-    ghost use Rattle.compression.specs.Role.{has_point_of, open_at, role};
-    ghost use Rattle.compression.specs.Stands.{StandsForPoints};
+    ghost use Rattle.compression.specs.Clusters.{AreClusters, Cluster, Point, point_at};
+    ghost use Rattle.compression.specs.{Collecting.{emissions, fresh, with_joined, with_opened}, Emission.compressed};
+    ghost use Rattle.compression.specs.{Least.IsLeast, Role.{has_point_of, open_at, role}, Stands.StandsForPoints};
     ghost use Rattle.compression.specs.declared.compressed.Compressed.{Compressed};
 
     /// A collector without points.

@@ -1,6 +1,5 @@
 ghost use Rattle.compression.specs.Middle.{MiddleAmongOthers, MiddleFromFirstToLast};
-ghost use Rattle.compression.specs.OneCluster.{OneCluster, OneTime, OneListOfClusters};
-ghost use Rattle.compression.specs.Room.{RoomForEachMaster};
+ghost use Rattle.compression.specs.{OneCluster.{OneCluster, OneListOfClusters, OneTime}, Room.RoomForEachMaster};
 ghost use Rattle.compression.specs.Stands.{EmittedInOrder};
 
 /// The middle of three or more sorted points, of which one may be anywhere, lies among the others.

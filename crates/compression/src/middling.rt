@@ -1,6 +1,5 @@
-ghost use Rattle.std.specs.Prelude.{◌≡◌, ◌≢◌, ◌^◌, pos, ◌<ℤ◌, []};
-ghost use Rattle.compression.specs.Ascent.{spread};
-ghost use Rattle.compression.specs.Middle.{middle_of, relative};
+ghost use Rattle.std.specs.Prelude.{◌<ℤ◌, ◌^◌, ◌≡◌, ◌≢◌, [], pos};
+ghost use Rattle.compression.specs.{Ascent.spread, Middle.{middle_of, relative}};
 
 use crate::Points;
 use tte_units::{Units, mean};

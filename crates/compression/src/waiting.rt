@@ -1,5 +1,6 @@
-ghost use Rattle.std.specs.Prelude.{◌≡◌, ◌≢◌, ◌<◌, ◌^◌, List, pos, ◌≤ℤ◌, None, [], ◌∷◌, ◌++◌, length, IfSome, MatchOption};
 ghost use Rattle.std.specs.List.{last_or};
+ghost use Rattle.std.specs.Prelude.{◌++◌, ◌<◌, ◌^◌, ◌∷◌, ◌≡◌, ◌≢◌, ◌≤ℤ◌, IfSome, List, MatchOption, None, [], length};
+ghost use Rattle.std.specs.Prelude.{pos};
 
 use crate::Taken;
 use crate::collection::Collection;
@@ -24,9 +25,7 @@ impl Model for Waiting {
 }
 
 impl Waiting {
-    ghost use Rattle.compression.specs.Clusters.{Cluster, point_at};
-    ghost use Rattle.compression.specs.Collection.{joined, CanTake};
-    ghost use Rattle.compression.specs.Role.{role};
+    ghost use Rattle.compression.specs.{Clusters.{Cluster, point_at}, Collection.{CanTake, joined}, Role.role};
 
     /// No collections.
     pub(crate) fn new() -> Waiting

@@ -1,31 +1,16 @@
 -- The row by which a frame enters a device.
-use Rattle.std.proofs.Common.{◌≡◌, ◌∙◌, ℕ, List, length, slice_get, Option, Some, None, refl, sym, subst, ap}
-use Rattle.std.specs.Prelude.{option_map, option_and_then}
-use Rattle.std.specs.BTreeMap.{get}
-use Rattle.std.proofs.lemmas.Option.{same_Some}
-use Rattle.device_rules.specs.Entering.{AreEntrances, HasPeriod, entering_by, entrance_cmp, first_entering}
-use Rattle.device_rules.specs.Headings.{heading_fault, heading_of}
-use Rattle.device_rules.specs.declared.entrances.EnteringRow.{EnteringRow}
-use Rattle.device_rules.specs.declared.entrances.Entrance.{Entrance}
-use Rattle.device_rules.specs.declared.entrances.Entrances.{Entrances}
-use Rattle.device_rules.specs.declared.heading.Heading.{Heading}
-use Rattle.net_plan.specs.Ranges.{IsInRange, IsVlInRange}
-use Rattle.net_plan.specs.declared.ids.DeviceId.{DeviceId}
-use Rattle.net_plan.specs.declared.ids.LinkId.{LinkId}
-use Rattle.net_plan.specs.declared.ids.VlId.{VlId}
-use Rattle.net_plan.specs.declared.network.Network.{Network}
-use Rattle.net_plan.specs.declared.tables.Link.{Link}
-use Rattle.net_plan.specs.declared.tables.Row.{Row}
-use Rattle.net_plan.specs.declared.tables.VirtualLink.{VirtualLink}
-use Rattle.net_plan.specs.declared.tables.Way.TheVariants.{Up, Down}
-use Rattle.net_plan.specs.declared.tables.Way.{Way}
-use Rattle.run_law.specs.declared.judgement.Reason.TheVariants as reasons
-use Rattle.run_law.specs.declared.steps.Arrival.TheVariants as arrivals
-use Rattle.run_law.specs.device.Standpoints.{Standpoint}
-use Rattle.run_law.specs.scenario.Ways.{way_to}
+use Rattle.std.{proofs.{Common.{◌∙◌, ◌≡◌, List, None, Option, Some, ap, length, refl, slice_get, subst, sym, ℕ}, lemmas.Option.same_Some}, specs.BTreeMap.get}
+use Rattle.std.specs.Prelude.{option_and_then, option_map}
+use Rattle.net_plan.specs.{Ranges.{IsInRange, IsVlInRange}, declared.{ids.{DeviceId.DeviceId, LinkId.LinkId, VlId.VlId}, network.Network.Network}}
+use Rattle.net_plan.specs.declared.tables.{Link.Link, Row.Row, VirtualLink.VirtualLink, Way.{Way, TheVariants.{Down, Up}}}
+use Rattle.run_law.specs.{device.Standpoints.Standpoint, scenario.Ways.way_to}
 use Rattle.run_law.specs.timed.Arrivals.{entry_arrival, entry_entering, entry_of, octets_fault, octets_or_fault, row_fault, taken_or_fault, timed_arrival}
 use Rattle.schedule_tables.specs.declared.entry.Entry.{Entry}
 use Rattle.tte_lemmas.proofs.Lists.{in_all}
+use Rattle.device_rules.specs.{Entering.{AreEntrances, HasPeriod, entering_by, entrance_cmp, first_entering}, Headings.{heading_fault, heading_of}}
+use Rattle.device_rules.specs.declared.{entrances.{EnteringRow.EnteringRow, Entrance.Entrance, Entrances.Entrances}, heading.Heading.Heading}
+use Rattle.run_law.specs.declared.judgement.Reason.TheVariants as reasons
+use Rattle.run_law.specs.declared.steps.Arrival.TheVariants as arrivals
 
 -- ---- the row that is kept
 

@@ -1,29 +1,14 @@
 -- What is kept of the rows by which frames enter devices.
-use Rattle.std.proofs.Common.{◌≡◌, ◌∙◌, ⊎_elim, ℕ, Bool, true, false, ◌&&◌, ◌==◌, cond, List, [], ◌∷◌, ◌++◌, take, get_or, Option, Some, None, refl, sym, subst, ap}
-use Rattle.std.specs.Prelude.{find, slice_get, option_map, option_and_then, IsSome}
-use Rattle.std.specs.BTreeMap.{BTreeMap, get, Updates}
-use Rattle.std.specs.Ordering.{is_eq, nat_cmp}
-use Rattle.std.proofs.lemmas.Bool.{and_parts, cases_Bool, eqb-true, false≢true}
-use Rattle.std.proofs.lemmas.Cmp.{ranked}
-use Rattle.std.proofs.lemmas.List.Elements.{All-take}
-use Rattle.net_plan.specs.Ranges.{IsInRange}
-use Rattle.net_plan.specs.declared.ids.LinkId.{LinkId}
-use Rattle.net_plan.specs.declared.network.Network.{Network}
-use Rattle.net_plan.specs.declared.tables.Row.{Row}
-use Rattle.net_plan.specs.declared.tables.Way.{Way}
-use Rattle.run_law.specs.scenario.Ways.{is_way, is_way_of}
-use Rattle.run_law.specs.timed.Arrivals.{entry_of, is_row_with}
-use Rattle.schedule_tables.specs.Entries.{IsEntry}
-use Rattle.schedule_tables.specs.declared.entry.Entry.{Entry}
+use Rattle.std.proofs.Common.{◌&&◌, ◌++◌, ◌==◌, ◌∙◌, ◌∷◌, ◌≡◌, Bool, List, None, Option, Some, [], ap, cond, false, get_or, refl, subst, sym, take, true, ℕ}
+use Rattle.std.proofs.{Common.⊎_elim, lemmas.{Bool.{and_parts, cases_Bool, eqb-true, false≢true}, Cmp.ranked, List.Elements.All-take}}
+use Rattle.std.specs.{BTreeMap.{BTreeMap, Updates, get}, Ordering.{is_eq, nat_cmp}, Prelude.{IsSome, find, option_and_then, option_map, slice_get}}
+use Rattle.net_plan.{proofs.{SameIds.same_link, TableFacts.id_by}, specs.{Ranges.IsInRange, declared.{ids.LinkId.LinkId, network.Network.Network}}}
+use Rattle.net_plan.specs.declared.tables.{Row.Row, Way.Way}
+use Rattle.run_law.{proofs.timed.Rows.{entry_at, has_entry}, specs.{scenario.Ways.{is_way, is_way_of}, timed.Arrivals.{entry_of, is_row_with}}}
+use Rattle.schedule_tables.specs.{Entries.IsEntry, declared.entry.Entry.Entry}
+use Rattle.tte_lemmas.proofs.{Lists.{find_new, find_of, find_skips}, Naturals.{cmp_equal, cmp_same, eqb_same}, Options.{no_entry, some_or_none}}
 use Rattle.device_rules.specs.Entering.{AreRows, HaveEntries, entering_by, entrance_cmp, entrance_of, first_entering}
-use Rattle.device_rules.specs.declared.entrances.EnteringRow.{EnteringRow}
-use Rattle.device_rules.specs.declared.entrances.Entrance.{Entrance}
-use Rattle.net_plan.proofs.SameIds.{same_link}
-use Rattle.net_plan.proofs.TableFacts.{id_by}
-use Rattle.run_law.proofs.timed.Rows.{entry_at, has_entry}
-use Rattle.tte_lemmas.proofs.Lists.{find_new, find_of, find_skips}
-use Rattle.tte_lemmas.proofs.Naturals.{cmp_equal, cmp_same, eqb_same}
-use Rattle.tte_lemmas.proofs.Options.{no_entry, some_or_none}
+use Rattle.device_rules.specs.declared.entrances.{EnteringRow.EnteringRow, Entrance.Entrance}
 
 -- ---- entrances
 

@@ -1,9 +1,6 @@
 -- Numbers of units that are not negative.
-use Rattle.std.proofs.Common.{◌≡◌, ℕ, ℤ, pos, ◌+◌, ◌*◌, ◌+ℤ◌, ◌*ℤ◌, refl}
-use Rattle.net_plan.proofs.InRange.{its_amount}
-use Rattle.net_plan.specs.Ranges.{IsInRange}
-use Rattle.net_plan.specs.declared.ids.DeviceId.{DeviceId}
-use Rattle.net_plan.specs.declared.network.Network.{Network}
+use Rattle.std.proofs.Common.{◌*ℤ◌, ◌*◌, ◌+ℤ◌, ◌+◌, ◌≡◌, pos, refl, ℕ, ℤ}
+use Rattle.net_plan.{proofs.InRange.its_amount, specs.{Ranges.IsInRange, declared.{ids.DeviceId.DeviceId, network.Network.Network}}}
 use Rattle.run_law.specs.scenario.Devices.{expected_by, plan_of}
 use Rattle.sync_state.specs.Plan.{expected_at}
 use Rattle.tte_units.specs.Amount.{amount}

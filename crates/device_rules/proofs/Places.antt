@@ -1,14 +1,9 @@
 -- The links of a network, and the end systems at them.
-use Rattle.std.proofs.Common.{◌≡◌, ◌∙◌, ℕ, ◌<◌, ◌≤◌, ◌==◌, Bool, true, false, ◌&&◌, List, length, get_or, slice_get, Some, refl, sym, subst, ap, arith}
-use Rattle.std.proofs.lemmas.Option.{slice_get_read, slice_get_past}
-use Rattle.net_plan.specs.Places.{link_at}
-use Rattle.net_plan.specs.declared.ids.DeviceId.{DeviceId}
-use Rattle.net_plan.specs.declared.ids.LinkId.{LinkId}
-use Rattle.net_plan.specs.declared.network.Network.{Network}
-use Rattle.net_plan.specs.declared.tables.Link.{Link}
+use Rattle.std.proofs.Common.{◌&&◌, ◌<◌, ◌==◌, ◌∙◌, ◌≡◌, ◌≤◌, Bool, List, Some, ap, arith, false, get_or, length, refl, slice_get, subst, sym, true, ℕ}
+use Rattle.std.proofs.lemmas.Option.{slice_get_past, slice_get_read}
+use Rattle.net_plan.specs.{Places.link_at, declared.{ids.{DeviceId.DeviceId, LinkId.LinkId}, network.Network.Network, tables.Link.Link}}
 use Rattle.pcf_values.specs.declared.members.Members.{Members}
-use Rattle.run_law.specs.control.Arrivals.{are_others, is_of_other_member}
-use Rattle.run_law.specs.scenario.Devices.{is_end, member_of}
+use Rattle.run_law.specs.{control.Arrivals.{are_others, is_of_other_member}, scenario.Devices.{is_end, member_of}}
 use Rattle.tte_lemmas.proofs.Naturals.{unequal}
 
 -- what was read at a place of a list

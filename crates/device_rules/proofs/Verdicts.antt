@@ -1,16 +1,12 @@
 -- What a correction point comes to.
-use Rattle.std.proofs.Common.{ℤ, ◌≡◌, ◌∙◌, ◌⊎◌, inl, inr, ⊎_elim, ℕ, ◌≤◌, nat_le, Bool, true, false, Option, Some, None, if◌then◌else◌, option_and_then, refl, ap, arith}
-use Rattle.std.proofs.lemmas.Bool.{leb-true}
+use Rattle.std.proofs.Common.{if◌then◌else◌, ◌∙◌, ◌≡◌, ◌≤◌, ◌⊎◌, Bool, None, Option, Some, ap, arith, false, inl, inr, nat_le, option_and_then, refl, true, ℕ}
+use Rattle.std.proofs.{Common.{ℤ, ⊎_elim}, lemmas.Bool.leb-true}
 use Rattle.clock_correction.specs.Correction.{correction_of}
-use Rattle.device_rules.specs.Answers.{in_units}
-use Rattle.membership.specs.BestFrame.{Qualifies}
-use Rattle.membership.specs.Members.{count_of}
-use Rattle.membership.specs.Summary.{Summary}
-use Rattle.membership.specs.declared.frame.HeardFrame.{HeardFrame}
+use Rattle.membership.specs.{BestFrame.Qualifies, Members.count_of, Summary.Summary, declared.frame.HeardFrame.HeardFrame}
 use Rattle.pcf_values.specs.declared.channel.Channel.TheVariants.{A, B}
-use Rattle.sync_state.specs.Standing.{Standing}
-use Rattle.sync_state.specs.Verdicts.{SomeQualifies, deviation_by, deviation_on}
+use Rattle.sync_state.specs.{Standing.Standing, Verdicts.{SomeQualifies, deviation_by, deviation_on}}
 use Rattle.tte_units.specs.declared.units.Units.{Units}
+use Rattle.device_rules.specs.Answers.{in_units}
 
 -- the deviation that a best frame shows, where there is one that qualifies
 abbrev shown_by : Standing → Option HeardFrame → Option Units

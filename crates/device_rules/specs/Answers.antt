@@ -1,22 +1,17 @@
 -- What the answers of the rules say, in the words of runs.
-use Rattle.std.specs.Prelude.{ℤ, Option, option_map}
-use Rattle.device_rules.specs.declared.correcting.PointStanding.{PointStanding}
-use Rattle.device_rules.specs.declared.correcting.PointVerdict.TheVariants as points
-use Rattle.device_rules.specs.declared.correcting.PointVerdict.{PointVerdict}
-use Rattle.device_rules.specs.declared.leaving.Departed.TheVariants as departed
-use Rattle.device_rules.specs.declared.leaving.Departed.{Departed}
-use Rattle.device_rules.specs.declared.timed.TimedArrival.TheVariants as timed
-use Rattle.device_rules.specs.declared.timed.TimedArrival.{TimedArrival}
-use Rattle.net_plan.specs.declared.ids.DeviceId.{DeviceId}
-use Rattle.net_plan.specs.declared.network.Network.{Network}
-use Rattle.run_law.specs.control.Leaving.{Departure, leaves, on_cut_way, too_old}
-use Rattle.run_law.specs.declared.steps.Arrival.TheVariants as arrivals
-use Rattle.run_law.specs.declared.steps.Arrival.{Arrival}
+use Rattle.std.specs.Prelude.{Option, option_map, ℤ}
+use Rattle.net_plan.specs.declared.{ids.DeviceId.DeviceId, network.Network.Network}
+use Rattle.run_law.specs.{control.Leaving.{Departure, leaves, on_cut_way, too_old}, declared.steps.Arrival.Arrival}
 use Rattle.run_law.specs.scenario.Devices.{plan_of}
-use Rattle.sync_state.specs.Standing.{Standing}
-use Rattle.sync_state.specs.declared.answers.Verdict.TheVariants as verdicts
-use Rattle.sync_state.specs.declared.answers.Verdict.{Verdict}
+use Rattle.sync_state.specs.{Standing.Standing, declared.answers.Verdict.Verdict}
 use Rattle.tte_units.specs.declared.units.Units.{Units}
+use Rattle.device_rules.specs.declared.correcting.{PointStanding.PointStanding, PointVerdict.PointVerdict}
+use Rattle.device_rules.specs.declared.{leaving.Departed.Departed, timed.TimedArrival.TimedArrival}
+use Rattle.device_rules.specs.declared.correcting.PointVerdict.TheVariants as points
+use Rattle.device_rules.specs.declared.leaving.Departed.TheVariants as departed
+use Rattle.device_rules.specs.declared.timed.TimedArrival.TheVariants as timed
+use Rattle.run_law.specs.declared.steps.Arrival.TheVariants as arrivals
+use Rattle.sync_state.specs.declared.answers.Verdict.TheVariants as verdicts
 
 -- what becomes of a frame at its leaving
 abbrev pub departure_as : Departed → Departure

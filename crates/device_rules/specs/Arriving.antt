@@ -1,11 +1,8 @@
 -- How a frame that arrives is judged.
-use Rattle.std.specs.Prelude.{◌≡◌, ℕ, Option, Some, None, Result, Ok, Err, nat_lt, if◌then◌else◌}
-use Rattle.net_plan.specs.declared.ids.DeviceId.{DeviceId}
-use Rattle.net_plan.specs.declared.ids.LinkId.{LinkId}
-use Rattle.net_plan.specs.declared.network.Network.{Network}
+use Rattle.std.specs.Prelude.{if◌then◌else◌, ◌≡◌, Err, None, Ok, Option, Result, Some, nat_lt, ℕ}
+use Rattle.net_plan.specs.declared.{ids.{DeviceId.DeviceId, LinkId.LinkId}, network.Network.Network}
 use Rattle.pcf_values.specs.declared.pcf.Pcf.{Pcf}
-use Rattle.run_law.specs.control.Arrivals.{clock_on_arrival, frame_fault}
-use Rattle.run_law.specs.declared.judgement.Reason.{Reason}
+use Rattle.run_law.specs.{control.Arrivals.{clock_on_arrival, frame_fault}, declared.judgement.Reason.Reason}
 use Rattle.run_law.specs.device.Standpoints.{Standpoint}
 use Rattle.tte_units.specs.Amount.{amount}
 

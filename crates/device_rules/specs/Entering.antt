@@ -1,28 +1,17 @@
 -- The rows by which time-triggered frames enter devices.
-use Rattle.std.specs.Prelude.{◌≡◌, ℕ, ◌≤◌, ◌%◌, nat_le, int_lt, ℤ, not, ◌&&◌, ◌||◌, ◌==◌, List, [], ◌∷◌, length, find}
-use Rattle.std.specs.Prelude.{Option, option_map, option_and_then, Result, Ok, Err, IsSome}
-use Rattle.std.specs.BTreeMap.{BTreeMap, get}
-use Rattle.std.specs.List.{All}
-use Rattle.std.specs.Ordering.{nat_cmp, ordering_then}
+use Rattle.std.specs.{BTreeMap.{BTreeMap, get}, List.All, Ordering.{nat_cmp, ordering_then}}
+use Rattle.std.specs.Prelude.{◌%◌, ◌&&◌, ◌==◌, ◌||◌, ◌∷◌, ◌≡◌, ◌≤◌, Err, IsSome, List, Ok, Option, Result, [], find}
+use Rattle.std.specs.Prelude.{int_lt, length, nat_le, not, option_and_then, option_map, ℕ, ℤ}
 use Rattle.std.specs.declared.cmp.Ordering.{Ordering}
-use Rattle.device_rules.specs.declared.entrances.EnteringRow.{EnteringRow}
-use Rattle.device_rules.specs.declared.entrances.Entrance.{Entrance}
-use Rattle.device_rules.specs.declared.entrances.Entrances.{Entrances}
-use Rattle.net_plan.specs.declared.ids.DeviceId.{DeviceId}
-use Rattle.net_plan.specs.declared.ids.LinkId.{LinkId}
-use Rattle.net_plan.specs.declared.ids.VlId.{VlId}
-use Rattle.net_plan.specs.declared.network.Network.{Network}
-use Rattle.net_plan.specs.declared.tables.Row.{Row}
-use Rattle.net_plan.specs.declared.tables.Way.TheVariants.{Up, Down}
-use Rattle.net_plan.specs.declared.tables.Way.{Way}
-use Rattle.run_law.specs.declared.judgement.Reason.TheVariants as reasons
-use Rattle.run_law.specs.declared.judgement.Reason.{Reason}
-use Rattle.run_law.specs.declared.steps.Arrival.TheVariants as arrivals
-use Rattle.run_law.specs.device.Standpoints.{Standpoint, first_reason}
+use Rattle.net_plan.specs.declared.{ids.{DeviceId.DeviceId, LinkId.LinkId, VlId.VlId}, network.Network.Network}
+use Rattle.net_plan.specs.declared.tables.{Row.Row, Way.{Way, TheVariants.{Down, Up}}}
+use Rattle.run_law.specs.{declared.judgement.Reason.Reason, device.Standpoints.{Standpoint, first_reason}}
 use Rattle.run_law.specs.scenario.Ways.{is_way_of}
 use Rattle.run_law.specs.timed.Arrivals.{entry_of, is_row_with, is_taken_in, row_fault, taken_or_fault, timed_arrival}
-use Rattle.schedule_tables.specs.Windows.{window_of}
-use Rattle.schedule_tables.specs.declared.entry.Entry.{Entry}
+use Rattle.schedule_tables.specs.{Windows.window_of, declared.entry.Entry.Entry}
+use Rattle.device_rules.specs.declared.entrances.{EnteringRow.EnteringRow, Entrance.Entrance, Entrances.Entrances}
+use Rattle.run_law.specs.declared.judgement.Reason.TheVariants as reasons
+use Rattle.run_law.specs.declared.steps.Arrival.TheVariants as arrivals
 
 -- what is kept of an entry
 abbrev pub entering_by : Network → Entry → EnteringRow

@@ -1,13 +1,11 @@
 -- What a judgement reads of the octets of a time-triggered frame.
-use Rattle.std.specs.Prelude.{ℕ, nat_lt, not, ◌==◌, List, [], ◌∷◌, length, Option}
-use Rattle.device_rules.specs.declared.heading.Heading.{Heading}
+use Rattle.std.specs.Prelude.{◌==◌, ◌∷◌, List, Option, [], length, nat_lt, not, ℕ}
 use Rattle.net_plan.specs.declared.network.Network.{Network}
-use Rattle.pcf_codec.specs.EtherType.{least_type}
-use Rattle.pcf_codec.specs.Fields.{field}
-use Rattle.run_law.specs.declared.judgement.Reason.TheVariants as reasons
-use Rattle.run_law.specs.declared.judgement.Reason.{Reason}
-use Rattle.run_law.specs.device.Standpoints.{Standpoint, first_reason}
+use Rattle.pcf_codec.specs.{EtherType.least_type, Fields.field}
+use Rattle.run_law.specs.{declared.judgement.Reason.Reason, device.Standpoints.{Standpoint, first_reason}}
 use Rattle.run_law.specs.device.States.{is_synchronised}
+use Rattle.device_rules.specs.declared.heading.Heading.{Heading}
+use Rattle.run_law.specs.declared.judgement.Reason.TheVariants as reasons
 
 -- the heading of octets: how many they are, the marker, the id of the virtual link, and the EtherType
 abbrev pub heading_of : List ℕ → Heading

@@ -1,5 +1,5 @@
 -- How far adjustments, points and deviations may lie.
-use Rattle.std.specs.Prelude.{ℤ, pos, neg_ℤ, ◌≤ℤ◌, ◌^◌}
+use Rattle.std.specs.Prelude.{◌^◌, ◌≤ℤ◌, neg_ℤ, pos, ℤ}
 
 -- the number lies from -2^80 to 2^80, as each adjustment that a frame or a record gives
 pub record IsWide (z : ℤ) : Type 0 where

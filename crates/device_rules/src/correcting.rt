@@ -1,18 +1,12 @@
 //! What correction points come to, and how a device joins.
 
-ghost use Rattle.std.specs.Prelude.{◌≡◌, ◌↔◌, ◌≤◌, ◌≤ℤ◌, ◌-ℤ◌, ◌^◌, pos, neg_ℤ, IfSome, IsTrue, option_map};
-ghost use Rattle.clock_correction.specs.Correction.{correction_of};
-ghost use Rattle.clock_correction.specs.Deviation.{deviation_of};
-ghost use Rattle.device_rules.specs.Answers.{in_units, standing_of, verdict_as};
-ghost use Rattle.device_rules.specs.Widths.{IsFar, IsWide};
-ghost use Rattle.net_plan.specs.Ranges.{IsInRange};
-ghost use Rattle.net_plan.specs.declared.ids.DeviceId.{DeviceId};
-ghost use Rattle.net_plan.specs.declared.network.Network.{Network};
-ghost use Rattle.run_law.specs.control.Corrections.{correction_value};
-ghost use Rattle.run_law.specs.scenario.Devices.{plan_of};
-ghost use Rattle.sync_state.specs.Plan.{expected_at};
-ghost use Rattle.sync_state.specs.Standing.{IsAtIntegration};
+ghost use Rattle.std.specs.Prelude.{◌-ℤ◌, ◌^◌, ◌↔◌, ◌≡◌, ◌≤ℤ◌, ◌≤◌, IfSome, IsTrue, neg_ℤ, option_map, pos};
+ghost use Rattle.clock_correction.specs.{Correction.correction_of, Deviation.deviation_of};
+ghost use Rattle.net_plan.specs.{Ranges.IsInRange, declared.{ids.DeviceId.DeviceId, network.Network.Network}};
+ghost use Rattle.run_law.specs.{control.Corrections.correction_value, scenario.Devices.plan_of};
+ghost use Rattle.sync_state.specs.{Plan.expected_at, Standing.IsAtIntegration};
 ghost use Rattle.sync_state.specs.Verdicts.{HasVerdict, IsOutnumbered, deviation_on, members_of_best};
+ghost use Rattle.device_rules.specs.{Answers.{in_units, standing_of, verdict_as}, Widths.{IsFar, IsWide}};
 
 use crate::network::{begun, expected_at};
 use membership::{Heard, count};

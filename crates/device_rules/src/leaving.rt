@@ -1,14 +1,10 @@
 //! How protocol control frames leave.
 
-ghost use Rattle.std.specs.Prelude.{◌≡◌, ◌-◌, ℕ};
-ghost use Rattle.device_rules.specs.Answers.{departure_as};
-ghost use Rattle.net_plan.specs.Ranges.{IsInRange};
-ghost use Rattle.net_plan.specs.declared.ids.DeviceId.{DeviceId};
-ghost use Rattle.net_plan.specs.declared.ids.LinkId.{LinkId};
+ghost use Rattle.std.specs.Prelude.{◌-◌, ◌≡◌, ℕ};
+ghost use Rattle.net_plan.specs.{Ranges.IsInRange, declared.ids.{DeviceId.DeviceId, LinkId.LinkId}};
 ghost use Rattle.pcf_values.specs.declared.pcf.Pcf.{Pcf};
-ghost use Rattle.run_law.specs.control.Leaving.{departure};
-ghost use Rattle.run_law.specs.scenario.Scenarios.{Scenario};
-ghost use Rattle.run_law.specs.scenario.Ways.{is_cut, way_from};
+ghost use Rattle.run_law.specs.{control.Leaving.departure, scenario.{Scenarios.Scenario, Ways.{is_cut, way_from}}};
+ghost use Rattle.device_rules.specs.Answers.{departure_as};
 
 use net_plan::Network;
 

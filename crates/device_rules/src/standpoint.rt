@@ -1,7 +1,6 @@
-ghost use Rattle.std.specs.Prelude.{◌≡◌, ◌+ℤ◌, pos};
+ghost use Rattle.std.specs.Prelude.{◌+ℤ◌, ◌≡◌, pos};
+ghost use Rattle.run_law.specs.device.{Standpoints.clock_of, States.is_synchronised};
 ghost use Rattle.device_rules.specs.Widths.{IsLocal, IsWide};
-ghost use Rattle.run_law.specs.device.States.{is_synchronised};
-ghost use Rattle.run_law.specs.device.Standpoints.{clock_of};
 
 use std::marker::Model;
 use sync_state::State;

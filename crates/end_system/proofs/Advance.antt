@@ -1,30 +1,12 @@
 -- The agenda after each deed.
-use Rattle.std.proofs.Common.{◌≡◌, ◌⊎◌, ℕ, zero, suc, ◌+◌, ◌*◌, ◌^◌, ◌<◌, ◌≤◌, ℤ, pos, ◌+ℤ◌, ◌-ℤ◌, ◌<ℤ◌, ◌≤ℤ◌, List, [], ◌∷◌, ◌++◌, Option, Some, None, IfSome, inl, inr, refl, sym, ap, subst, ◌∙◌, arith}
-use Rattle.std.proofs.lemmas.Int.{ints}
-use Rattle.std.proofs.lemmas.List.Elements.{Contains-append_cases, Contains-append_left, Contains-append_right}
-use Rattle.std.proofs.Math.Nat.{mul-le-mul_left, mul-le-mul_right}
-use Rattle.std.specs.List.{Contains}
-use Rattle.clock_correction.specs.Deviation.{IsSmall}
-use Rattle.end_system.specs.Agendas.{IsCorrection, IsDispatch, IsSending}
+use Rattle.end_system.proofs.Words.{◌*◌, ◌++◌, ◌+ℤ◌, ◌+◌, ◌-ℤ◌, ◌<ℤ◌, ◌<◌, ◌^◌, ◌∙◌, ◌∷◌, ◌≡◌, ◌≤ℤ◌, ◌≤◌, Appointment, ClockTask, Contains}
+use Rattle.end_system.proofs.Words.{Contains-append_left, DeviceId, Dispatch, HasNumber, IfSome, IsAtSlot, IsCorrection, IsDispatch, IsOwnOf, IsSending}
+use Rattle.end_system.proofs.Words.{IsSmall, List, Network, None, Option, Own, RowId, Rows, Some, Standing, Summary, SyncPlan, Units, [], amount, ap, arith}
+use Rattle.end_system.proofs.Words.{correcting, dispatching, from_zero, inl, inr, ints, mul-le-mul_left, mul-le-mul_right, pos, refl, sending, subst, suc, sym}
+use Rattle.end_system.proofs.Words.{zero, ℕ, ℤ}
+use Rattle.std.proofs.{Common.◌⊎◌, lemmas.List.Elements.{Contains-append_cases, Contains-append_right}}
+use Rattle.tte_lemmas.proofs.{Integers.amount_least, Naturals.{below_next, less_than_next}}
 use Rattle.end_system.specs.Deeds.{IsNextSending}
-use Rattle.end_system.specs.Owns.{IsOwnOf}
-use Rattle.end_system.specs.RowSlots.{IsAtSlot}
-use Rattle.end_system.specs.Standing.{HasNumber}
-use Rattle.end_system.specs.declared.agenda.Appointment.{Appointment}
-use Rattle.end_system.specs.declared.own.Own.{Own}
-use Rattle.end_system.specs.declared.rows.Dispatch.{Dispatch}
-use Rattle.end_system.specs.declared.rows.Rows.{Rows}
-use Rattle.membership.specs.Summary.{Summary}
-use Rattle.net_plan.specs.declared.ids.DeviceId.{DeviceId}
-use Rattle.net_plan.specs.declared.ids.RowId.{RowId}
-use Rattle.net_plan.specs.declared.network.Network.{Network}
-use Rattle.run_law.specs.machines.Nodes.{ClockTask, sending, correcting, dispatching}
-use Rattle.sync_state.specs.Standing.{Standing}
-use Rattle.sync_state.specs.declared.plan.SyncPlan.{SyncPlan}
-use Rattle.tte_lemmas.proofs.Integers.{amount_least, from_zero}
-use Rattle.tte_lemmas.proofs.Naturals.{below_next, less_than_next}
-use Rattle.tte_units.specs.Amount.{amount}
-use Rattle.tte_units.specs.declared.units.Units.{Units}
 
 only_there : {X : Type 0} (x y : X) → Contains (y ∷ []) x → x ≡ y
 only_there x y (zero, lt, at) = sym at
@@ -57,16 +39,6 @@ no_sending_row row m n e = cc
 
 same_sending : (m n : ℕ) → sending m ≡ sending n → m ≡ n
 same_sending m n e = cc
-
-same_row : (row other : RowId) (m n : ℕ) → dispatching row m ≡ dispatching other n → row ≡ other
-same_row row other m n e = cc
-
-same_cycle : (row other : RowId) (m n : ℕ) → dispatching row m ≡ dispatching other n → m ≡ n
-same_cycle row other m n e = cc
-
--- the deed is no correction
-abbrev pub IsOther : ClockTask → Type 0
-IsOther deed = (n : ℕ) → correcting n ≡ deed → ⊥
 
 -- the next correction stays, whatever else is done
 pub correction_stays : (network : Network) (s : Standing) (changed : ℤ) (done : List ClockTask) (deed : ClockTask) (o : Option Appointment)

@@ -1,43 +1,17 @@
 -- Control frames that arrive at an end system.
-use Rattle.std.proofs.Common.{◌≡◌, ℕ, ◌+◌, ◌≤◌, ℤ, pos, ◌≤ℤ◌, Bool, true, false, not, ◌&&◌, ◌==◌, nat_lt, if◌then◌else◌, List, [], ◌∷◌, Option, Some, None, Result, Ok, Err, refl, sym, ap, subst, ◌∙◌, eq-eqb, length, IsTrue, ◌↔◌, arith}
-use Rattle.std.proofs.lemmas.Bool.{both_ways}
-use Rattle.std.specs.Option.{option_map_or}
-use Rattle.end_system.specs.Controls.{arrival_of, frame_arrival_of, waits_with}
-use Rattle.end_system.specs.Owns.{IsOwnOf, IsLinkOf, wire_by}
-use Rattle.end_system.specs.Standing.{StandsAsEnd}
-use Rattle.end_system.specs.declared.end_system.EndSystem.{EndSystem}
-use Rattle.end_system.specs.declared.own.Own.{Own}
-use Rattle.net_plan.specs.Places.{link_at}
-use Rattle.net_plan.specs.declared.ids.DeviceId.{DeviceId}
-use Rattle.net_plan.specs.declared.ids.LinkId.{LinkId}
-use Rattle.net_plan.specs.declared.network.Network.{Network}
-use Rattle.net_plan.specs.declared.tables.Link.{Link}
-use Rattle.pcf_codec.specs.Decoding.{decoded}
-use Rattle.pcf_codec.specs.EtherType.{HasPcfType, pcf_type}
-use Rattle.pcf_codec.specs.Fields.{field}
-use Rattle.pcf_codec.specs.declared.refusal.PcfRefusal.{PcfRefusal}
-use Rattle.pcf_values.specs.declared.pcf.Pcf.{Pcf}
-use Rattle.run_law.specs.control.Arrivals.{are_others, clock_on_arrival, control_arrival, frame_or_fault, frame_taken, is_cold_start, is_gate_shut, is_of_other_domain, is_of_other_member, point_on_arrival, refused}
-use Rattle.run_law.specs.control.Wires.{Signal, control, timed, signal_of}
-use Rattle.run_law.specs.declared.judgement.Reason.TheVariants.{Off, ColdStart, Domain, Member, Old, Gate}
-use Rattle.run_law.specs.declared.judgement.Reason.{Reason}
-use Rattle.run_law.specs.declared.steps.Arrival.TheVariants.{Dropped, Waits}
-use Rattle.run_law.specs.declared.steps.Arrival.{Arrival}
-use Rattle.run_law.specs.declared.steps.Moment.{Moment}
-use Rattle.run_law.specs.device.Standpoints.{Standpoint, first_reason}
-use Rattle.run_law.specs.device.States.{is_off}
-use Rattle.run_law.specs.machines.Answers.{after_arrival, arrival_at}
-use Rattle.run_law.specs.machines.Nodes.{Node, last_taken_by, standpoint_at}
-use Rattle.run_law.specs.records.Happenings.{with_clock}
-use Rattle.run_law.specs.scenario.Devices.{is_end, is_parent_of, is_relay, member_of}
-use Rattle.run_law.specs.timed.Arrivals.{timed_arrival}
-use Rattle.sync_state.specs.Standing.{Standing}
+use Rattle.end_system.proofs.Words.{if◌then◌else◌, ◌&&◌, ◌+◌, ◌==◌, ◌∙◌, ◌∷◌, ◌≡◌, ◌≤ℤ◌, ◌≤◌, Bool, DeviceId, EndSystem, IsOwnOf, Link, LinkId, List, Moment}
+use Rattle.end_system.proofs.Words.{Network, Node, None, Option, Own, Pcf, Reason, Some, Standing, Standpoint, StandsAsEnd, Units, [], amount, ap, arith, false}
+use Rattle.end_system.proofs.Words.{first_reason, is_end, is_off, length, link_at, not, option_map_or, pos, refl, standpoint_at, subst, sym, true, ℕ, ℤ}
+use Rattle.std.proofs.{Common.{◌↔◌, Err, IsTrue, Ok, Result, eq-eqb, nat_lt}, lemmas.Bool.both_ways}
+use Rattle.pcf_codec.specs.{Decoding.decoded, EtherType.{HasPcfType, pcf_type}, Fields.field, declared.refusal.PcfRefusal.PcfRefusal}
+use Rattle.run_law.specs.control.Arrivals.{are_others, clock_on_arrival, control_arrival, frame_or_fault, frame_taken, is_cold_start, is_gate_shut}
+use Rattle.run_law.specs.control.{Arrivals.{is_of_other_domain, is_of_other_member, point_on_arrival, refused}, Wires.{Signal, control, signal_of, timed}}
+use Rattle.run_law.specs.declared.{judgement.Reason.TheVariants.{ColdStart, Domain, Gate, Member, Off, Old}, steps.Arrival.Arrival}
+use Rattle.run_law.specs.{declared.steps.Arrival.TheVariants.{Dropped, Waits}, machines.{Answers.{after_arrival, arrival_at}, Nodes.last_taken_by}}
+use Rattle.run_law.specs.{records.Happenings.with_clock, scenario.Devices.{is_parent_of, is_relay, member_of}, timed.Arrivals.timed_arrival}
 use Rattle.transparent_clock.specs.Points.{point_of}
-use Rattle.tte_lemmas.proofs.Bools.{takes_by}
-use Rattle.tte_lemmas.proofs.Integers.{whole}
-use Rattle.tte_lemmas.proofs.Naturals.{unequal}
-use Rattle.tte_units.specs.Amount.{amount}
-use Rattle.tte_units.specs.declared.units.Units.{Units}
+use Rattle.tte_lemmas.proofs.{Bools.takes_by, Integers.whole, Naturals.unequal}
+use Rattle.end_system.specs.{Controls.{arrival_of, frame_arrival_of, waits_with}, Owns.{IsLinkOf, wire_by}}
 
 -- ---- a device that takes no part
 

@@ -1,41 +1,17 @@
 -- A correction point of an end system.
-use Rattle.std.proofs.Common.{◌≡◌, ℕ, ◌+◌, ◌*◌, ◌^◌, ◌<◌, ◌≤◌, ℤ, pos, ◌+ℤ◌, ◌-ℤ◌, ◌<ℤ◌, ◌≤ℤ◌, List, [], ◌∷◌, ◌++◌, Option, Some, None, IsSomeAnd, IfSome, inl, inr, refl, sym, ap, subst, ◌∙◌, arith}
-use Rattle.std.proofs.lemmas.Int.{ints}
-use Rattle.std.proofs.Math.Nat.{mul-le-mul_right}
-use Rattle.clock_correction.specs.Deviation.{IsSmall}
-use Rattle.end_system.proofs.Advance.{cycle_whole, not_fallen, was_done}
-use Rattle.end_system.proofs.Heard.{best_near, corrected_back, none_qualifies}
-use Rattle.end_system.specs.Agendas.{IsAgenda, IsAgendaAfter, IsCorrection, IsDispatch, IsEmpty, IsInNextCycle, IsSending}
-use Rattle.end_system.specs.Deeds.{IsNextCorrection}
-use Rattle.end_system.specs.Owns.{IsOwnOf, end_plan}
-use Rattle.end_system.specs.RowSlots.{IsAtSlot}
-use Rattle.end_system.specs.Standing.{AreHeardSo, HasNumber, StandsAsEnd}
-use Rattle.end_system.specs.declared.agenda.Agenda.{Agenda}
-use Rattle.end_system.specs.declared.agenda.Appointment.{Appointment}
-use Rattle.end_system.specs.declared.end_system.EndSystem.{EndSystem}
-use Rattle.end_system.specs.declared.own.Own.{Own}
-use Rattle.membership.specs.Summary.{Summary, Summarizes, silence}
-use Rattle.net_plan.specs.declared.ids.DeviceId.{DeviceId}
-use Rattle.net_plan.specs.declared.network.Network.{Network}
-use Rattle.run_law.proofs.silent.Due.{point_is}
-use Rattle.run_law.specs.control.Corrections.{correction_value}
-use Rattle.run_law.specs.declared.steps.Moment.{Moment}
-use Rattle.run_law.specs.machines.Answers.{after_correction, called}
-use Rattle.run_law.specs.machines.Calls.{MayCall}
-use Rattle.run_law.specs.machines.Nodes.{ClockTask, Node, correcting, acting}
-use Rattle.run_law.specs.machines.Tasks.{value_of}
-use Rattle.sync_state.proofs.StateFacts.{no_longer, point_up_to}
-use Rattle.sync_state.specs.Calls.{adjustment_by, after, reached_point}
-use Rattle.sync_state.specs.Standing.{IsAtIntegration, Standing, next_point, point_in}
-use Rattle.sync_state.specs.Verdicts.{HasVerdict, IfCorrected, IsNear}
-use Rattle.sync_state.specs.declared.answers.Verdict.TheVariants.{Corrected, SyncClique, AsyncClique, Cleared}
-use Rattle.sync_state.specs.declared.answers.Verdict.{Verdict}
-use Rattle.sync_state.specs.declared.state.State.TheVariants.{Off, Integrating, Joining, Synchronised}
-use Rattle.sync_state.specs.declared.state.State.{State}
-use Rattle.tte_lemmas.proofs.Integers.{from_zero}
+use Rattle.end_system.proofs.Words.{◌*◌, ◌++◌, ◌+ℤ◌, ◌+◌, ◌-ℤ◌, ◌<ℤ◌, ◌<◌, ◌^◌, ◌∙◌, ◌∷◌, ◌≡◌, ◌≤ℤ◌, ◌≤◌, Agenda, Appointment, AreHeardSo, ClockTask, DeviceId}
+use Rattle.end_system.proofs.Words.{EndSystem, HasNumber, HasVerdict, IfSome, IsAgenda, IsAtSlot, IsCorrection, IsDispatch, IsOwnOf, IsSending, IsSmall}
+use Rattle.end_system.proofs.Words.{IsSomeAnd, List, MayCall, Moment, Network, Node, None, Option, Own, Some, Standing, StandsAsEnd, Summarizes, Summary}
+use Rattle.end_system.proofs.Words.{Synchronised, Units, [], amount, ap, arith, called, correcting, end_plan, from_zero, inl, inr, ints, mul-le-mul_right}
+use Rattle.end_system.proofs.Words.{next_point, pos, refl, subst, sym, value_of, ℕ, ℤ}
+use Rattle.membership.specs.Summary.{silence}
+use Rattle.run_law.{proofs.silent.Due.point_is, specs.{control.Corrections.correction_value, machines.{Answers.after_correction, Nodes.acting}}}
+use Rattle.sync_state.{proofs.StateFacts.{no_longer, point_up_to}, specs.{Calls.{adjustment_by, after, reached_point}, Standing.{IsAtIntegration, point_in}}}
+use Rattle.sync_state.specs.{Verdicts.{IfCorrected, IsNear}, declared.answers.Verdict.{Verdict, TheVariants.{AsyncClique, Cleared, Corrected, SyncClique}}}
+use Rattle.sync_state.specs.declared.state.State.{State, TheVariants.{Integrating, Joining, Off}}
 use Rattle.tte_lemmas.proofs.Naturals.{less_than_next}
-use Rattle.tte_units.specs.Amount.{amount}
-use Rattle.tte_units.specs.declared.units.Units.{Units}
+use Rattle.end_system.proofs.{Advance.{cycle_whole, not_fallen, was_done}, Heard.{best_near, corrected_back, none_qualifies}}
+use Rattle.end_system.specs.{Agendas.{IsAgendaAfter, IsEmpty, IsInNextCycle}, Deeds.IsNextCorrection}
 
 -- ---- what the correction may rely on
 

@@ -1,42 +1,17 @@
 -- The rows by which frames enter an end system.
-use Rattle.std.proofs.Common.{◌≡◌, inl, inr, ⊎_elim, ℕ, zero, suc, ◌+◌, ◌<◌, ◌≤◌, ◌&&◌, ◌==◌, Bool, true, false, List, [], ◌∷◌, ◌++◌, length, Option, Some, None, IsSomeAnd, refl, ap, sym, ◌∙◌, subst, arith}
-use Rattle.std.proofs.lemmas.Bool.{and_parts, cases_Bool, eqb-true, false≢true}
-use Rattle.std.proofs.lemmas.List.Elements.{All-push, Contains-append_left, Contains-push}
-use Rattle.std.proofs.lemmas.List.Sorted.{All-permutation, Contains-permutation}
-use Rattle.std.proofs.lemmas.Option.{slice_get_within}
-use Rattle.std.specs.List.{All, AllPairs, Contains}
-use Rattle.std.specs.List.Sorted.{IsPermutation}
-use Rattle.std.specs.Option.{option_map_or}
-use Rattle.std.specs.Prelude.{find, option_and_then, slice_get}
-use Rattle.end_system.proofs.KeyOrder.{key_cmp, key_compares}
-use Rattle.end_system.proofs.OwnLemmas.{some_of}
-use Rattle.end_system.proofs.Search.{Ends, IsOrder, no_earlier, not_before, not_below}
-use Rattle.end_system.specs.EnteringRows.{AreKeysBelow, AreKeysOf, AreRowsOfKeys, IsKeyOf, IsKnown, enters, enters_by, numbers_of, row_by}
-use Rattle.end_system.specs.declared.entering.Entering.{Entering}
-use Rattle.end_system.specs.declared.entering.EnteringRow.{EnteringRow}
-use Rattle.end_system.specs.declared.entering.Key.{Key}
-use Rattle.net_plan.specs.Places.{link_at}
-use Rattle.net_plan.specs.Ranges.{IsInRange, IsVlInRange}
-use Rattle.net_plan.specs.Rules.{IsChildOf}
-use Rattle.net_plan.specs.declared.ids.DeviceId.{DeviceId}
-use Rattle.net_plan.specs.declared.ids.LinkId.{LinkId}
-use Rattle.net_plan.specs.declared.ids.RowId.{RowId}
-use Rattle.net_plan.specs.declared.network.Network.{Network}
-use Rattle.net_plan.specs.declared.tables.Row.{Row}
-use Rattle.net_plan.specs.declared.tables.VirtualLink.{VirtualLink}
-use Rattle.net_plan.specs.declared.tables.Way.TheVariants.{Up, Down}
-use Rattle.net_plan.specs.declared.tables.Way.{Way}
-use Rattle.run_law.proofs.timed.Rows.{entry_at}
-use Rattle.run_law.specs.scenario.Devices.{is_parent_of}
-use Rattle.run_law.specs.scenario.Ways.{is_way, is_way_of, way_to}
-use Rattle.run_law.specs.timed.Arrivals.{entry_entering, entry_of, is_row_with, row_entering}
-use Rattle.schedule_tables.proofs.EntryLemmas.{one_entry}
-use Rattle.schedule_tables.specs.Dispatches.{IsBelow}
-use Rattle.schedule_tables.specs.Entries.{IsEntry}
-use Rattle.schedule_tables.specs.declared.entry.Entry.{Entry}
-use Rattle.tte_lemmas.proofs.Lists.{in_all}
+use Rattle.end_system.proofs.Words.{◌&&◌, ◌++◌, ◌+◌, ◌<◌, ◌==◌, ◌∙◌, ◌∷◌, ◌≡◌, ◌≤◌, AllPairs, Bool, Contains, Contains-append_left, DeviceId, Entering}
+use Rattle.end_system.proofs.Words.{EnteringRow, Entry, IsBelow, IsInRange, IsSomeAnd, Key, LinkId, List, Network, None, Option, Row, RowId, Some, []}
+use Rattle.end_system.proofs.Words.{and_parts, ap, arith, cases_Bool, entry_entering, eqb-true, false, false≢true, in_all, inl, inr, length, link_at, one}
+use Rattle.end_system.proofs.Words.{option_and_then, option_map_or, refl, row_by, slice_get, slice_get_within, subst, suc, sym, true, zero, ℕ, ⊎_elim}
+use Rattle.std.{proofs.lemmas.List.{Elements.{All-push, Contains-push}, Sorted.{All-permutation, Contains-permutation}}, specs.List.Sorted.IsPermutation}
+use Rattle.std.specs.Prelude.{find}
+use Rattle.net_plan.specs.{Ranges.IsVlInRange, Rules.IsChildOf, declared.tables.{VirtualLink.VirtualLink, Way.{Way, TheVariants.{Down, Up}}}}
+use Rattle.run_law.{proofs.timed.Rows.entry_at, specs.scenario.{Devices.is_parent_of, Ways.{is_way, is_way_of, way_to}}}
+use Rattle.run_law.specs.timed.Arrivals.{entry_of, is_row_with, row_entering}
+use Rattle.schedule_tables.{proofs.EntryLemmas.one_entry, specs.Entries.IsEntry}
 use Rattle.tte_lemmas.proofs.Naturals.{below_or_at, eqb_same}
-use Rattle.tte_lemmas.proofs.Options.{one}
+use Rattle.end_system.proofs.{KeyOrder.{key_cmp, key_compares}, OwnLemmas.some_of, Search.{Ends, IsOrder, no_earlier, not_before, not_below}}
+use Rattle.end_system.specs.EnteringRows.{AreKeysBelow, AreKeysOf, AreRowsOfKeys, IsKeyOf, IsKnown, enters, enters_by, numbers_of}
 
 -- ---- how the keys are gathered
 
@@ -113,12 +88,6 @@ keys_all n d bound keys sorted enough are moved order = record {
 }
 
 -- ---- the rows of the keys
-
-pub rows_known : (n : Network) (d : DeviceId) (keys : List Key) → AreKeysOf n d keys → All (λ key. key.row.0 < length n.row) keys
-rows_known n d keys are i x within = let is = are.sound i x within in slice_get_within n.row _ is.entry.row is.is.row
-
-pub no_rows_of : (n : Network) (keys : List Key) → AreRowsOfKeys n keys 0 []
-no_rows_of n keys = record { count_is = refl; each = λ place key entry within there has. absurd (omega (arith, within)) }
 
 -- ---- the search
 

@@ -1,30 +1,14 @@
 -- Frames that were heard in time, and what they correct a clock by.
-use Rattle.std.proofs.Common.{◌≡◌, ℕ, ◌+◌, ◌*◌, ◌^◌, ◌<◌, ◌≤◌, ℤ, pos, neg_ℤ, ◌+ℤ◌, ◌-ℤ◌, ◌*ℤ◌, ◌<ℤ◌, ◌≤ℤ◌, Bool, true, false, nat_le, if◌then◌else◌, Option, Some, None, IsSomeAnd, IfSome, option_and_then, inl, inr, ap, subst, ◌∙◌, arith}
-use Rattle.std.proofs.lemmas.Int.{ints}
-use Rattle.std.proofs.lemmas.Option.{same_Some}
-use Rattle.std.proofs.Math.Nat.{mul-le-mul_left, mul-le-mul_right}
+use Rattle.end_system.proofs.Words.{if◌then◌else◌, ◌*◌, ◌+ℤ◌, ◌+◌, ◌-ℤ◌, ◌<ℤ◌, ◌<◌, ◌^◌, ◌∙◌, ◌≡◌, ◌≤ℤ◌, ◌≤◌, A, AreHeardSo, B, Bool, DeviceId, HasVerdict}
+use Rattle.end_system.proofs.Words.{IfSome, IsOwnOf, IsSmall, IsSomeAnd, Network, None, Option, Own, Some, Standing, Summary, SyncPlan, Units, amount, ap}
+use Rattle.end_system.proofs.Words.{arith, end_plan, expected_offset, false, from_zero, inl, inr, ints, mul-le-mul_left, mul-le-mul_right, neg_ℤ}
+use Rattle.end_system.proofs.Words.{option_and_then, pos, subst, true, ℕ, ℤ}
+use Rattle.std.proofs.{Common.{◌*ℤ◌, nat_le}, lemmas.Option.same_Some}
 use Rattle.clock_correction.specs.Correction.{correction_of}
-use Rattle.clock_correction.specs.Deviation.{IsSmall}
-use Rattle.end_system.specs.Owns.{IsOwnOf, end_plan}
-use Rattle.end_system.specs.Standing.{AreHeardSo, IsHeardSo}
-use Rattle.end_system.specs.declared.own.Own.{Own}
-use Rattle.membership.specs.Members.{count_of}
-use Rattle.membership.specs.Summary.{Summary}
-use Rattle.membership.specs.declared.frame.HeardFrame.{HeardFrame}
-use Rattle.net_plan.specs.declared.ids.DeviceId.{DeviceId}
-use Rattle.net_plan.specs.declared.network.Network.{Network}
-use Rattle.pcf_values.specs.declared.channel.Channel.TheVariants.{A, B}
-use Rattle.schedule_tables.specs.Margins.{expected_offset}
-use Rattle.sync_state.specs.Plan.{expected_at}
-use Rattle.sync_state.specs.Standing.{Standing}
-use Rattle.sync_state.specs.Verdicts.{HasVerdict, IsNear, deviation_by, deviation_on}
-use Rattle.sync_state.specs.declared.answers.Verdict.TheVariants.{Corrected}
-use Rattle.sync_state.specs.declared.plan.SyncPlan.{SyncPlan}
-use Rattle.tte_lemmas.proofs.Integers.{from_zero}
-use Rattle.tte_units.proofs.Means.{mean_of-floor}
-use Rattle.tte_units.specs.Amount.{amount}
-use Rattle.tte_units.specs.Mean.{IsMean}
-use Rattle.tte_units.specs.declared.units.Units.{Units}
+use Rattle.membership.specs.{Members.count_of, declared.frame.HeardFrame.HeardFrame}
+use Rattle.sync_state.specs.{Plan.expected_at, Verdicts.{IsNear, deviation_by, deviation_on}, declared.answers.Verdict.TheVariants.Corrected}
+use Rattle.tte_units.{proofs.Means.mean_of-floor, specs.Mean.IsMean}
+use Rattle.end_system.specs.Standing.{IsHeardSo}
 
 at_most : (high n : ℕ) (z : ℤ) → z ≡ pos n → z ≤ℤ pos high → n ≤ high
 at_most high n z e h = omega (arith, ints)
@@ -33,7 +17,8 @@ at_most high n z e h = omega (arith, ints)
 pub expected_is : (network : Network) (device : DeviceId) (own : Own) (plan : SyncPlan) (n : ℕ) → IsOwnOf network device own → plan ≡ end_plan network
     → expected_at plan n ≡ pos (n * amount network.cycle + expected_offset network)
 expected_is network device own plan n is e =
-    ap (λ (p : SyncPlan). expected_at p n) e ∙ ap (λ (z : ℤ). (pos n *ℤ z) +ℤ pos (expected_offset network)) (from_zero _ network.cycle.0 is.in_range.cycle.least)
+    ap (λ (p : SyncPlan). expected_at p n) e ∙ ap (λ (z : ℤ). (pos n *ℤ z)
+    +ℤ pos (expected_offset network)) (from_zero _ network.cycle.0 is.in_range.cycle.least)
 
 -- the numbers of the network that frames are judged by
 pub record HasNumbers (cycle offset precision correction : ℕ) : Type 0 where

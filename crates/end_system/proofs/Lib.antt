@@ -14,3 +14,4 @@ pub mod RowNext
 pub mod OwnLemmas
 pub mod EnteringLemmas
 pub mod Takings
+pub mod Words

@@ -1,43 +1,19 @@
 -- What an end system knows of an accepted network.
-use Rattle.std.proofs.Common.{◌≡◌, inl, inr, ⊎_elim, ℕ, ◌+◌, ◌*◌, ◌≤◌, ◌^◌, ◌==◌, ℤ, pos, ◌+ℤ◌, ◌*ℤ◌, ◌<ℤ◌, ◌≤ℤ◌, Bool, true, false, not, Option, Some, None, IsSomeAnd, is_some, refl, ap, sym, ◌∙◌, subst, arith, if◌then◌else◌}
-use Rattle.std.proofs.lemmas.Bool.{eqb-true, cases_Bool, false≢true}
-use Rattle.std.proofs.lemmas.Int.{ints}
-use Rattle.std.specs.Option.{option_map_or}
-use Rattle.std.specs.Prelude.{option_and_then}
-use Rattle.end_system.proofs.Values.{at_least}
-use Rattle.end_system.specs.Owns.{IsLinkOf, IsOwnOf, IsUplinkOf, channel_by, end_plan, wire_by}
-use Rattle.end_system.specs.declared.own.Own.{Own}
-use Rattle.net_plan.proofs.SameIds.{same_device, same_link}
-use Rattle.net_plan.proofs.InRange.{amount_most, its_amount}
-use Rattle.net_plan.proofs.Shape.{child_of}
-use Rattle.net_plan.specs.Paths.{IsUplink}
-use Rattle.net_plan.specs.Places.{IsEndSystem, IsSwitchOf, device_at, is_end_system, is_master, link_at}
-use Rattle.net_plan.specs.Ranges.{IsDeviceInRange, IsInRange, IsWithin}
-use Rattle.net_plan.specs.declared.ids.DeviceId.{DeviceId}
-use Rattle.net_plan.specs.declared.ids.LinkId.{LinkId}
-use Rattle.net_plan.specs.declared.ids.RowId.{RowId}
-use Rattle.net_plan.specs.declared.network.Network.{Network}
-use Rattle.net_plan.specs.declared.tables.Device.{Device}
-use Rattle.net_plan.specs.declared.tables.Link.{Link}
-use Rattle.net_plan.specs.declared.tables.Role.TheVariants.{Master, Client, Cm, Relay}
-use Rattle.net_plan.specs.declared.tables.Role.{Role}
-use Rattle.net_plan.specs.declared.tables.Row.{Row}
-use Rattle.pcf_values.specs.declared.channel.Channel.TheVariants.{A, B}
-use Rattle.pcf_values.specs.declared.channel.Channel.{Channel}
-use Rattle.run_law.proofs.scenario.Devices.{end_test}
-use Rattle.run_law.specs.machines.Calls.{IsLinkAt}
-use Rattle.run_law.specs.records.Frames.{dispatched_frame}
-use Rattle.run_law.specs.scenario.Devices.{IsParentOf, channel_of, has_role, is_cm, is_cm_role, is_relay, is_relay_role, plan_of}
-use Rattle.run_law.specs.scenario.Ways.{wire_of}
-use Rattle.schedule_tables.specs.Margins.{expected_offset}
+use Rattle.end_system.proofs.Words.{if◌then◌else◌, ◌*◌, ◌+ℤ◌, ◌+◌, ◌<ℤ◌, ◌==◌, ◌^◌, ◌∙◌, ◌≡◌, ◌≤ℤ◌, ◌≤◌, A, B, Bool, Channel, DeviceId, IsInRange, IsOwnOf}
+use Rattle.end_system.proofs.Words.{IsSomeAnd, Link, LinkId, Network, None, Option, Own, Row, RowId, Some, SyncPlan, Units, amount, amount_most, ap, arith}
+use Rattle.end_system.proofs.Words.{cases_Bool, end_plan, eqb-true, expected_offset, false, false≢true, in_all, inl, inr, ints, link_at, not, option_and_then}
+use Rattle.end_system.proofs.Words.{option_map_or, pos, refl, subst, sym, true, ℕ, ℤ, ⊎_elim}
+use Rattle.std.proofs.Common.{◌*ℤ◌, is_some}
+use Rattle.net_plan.{proofs.{InRange.its_amount, SameIds.{same_device, same_link}, Shape.child_of}, specs.Paths.IsUplink}
+use Rattle.net_plan.specs.{Places.{IsEndSystem, IsSwitchOf, device_at, is_end_system, is_master}, Ranges.{IsDeviceInRange, IsWithin}}
+use Rattle.net_plan.specs.declared.tables.{Device.Device, Role.{Role, TheVariants.{Client, Cm, Master, Relay}}}
+use Rattle.run_law.{proofs.scenario.Devices.end_test, specs.{machines.Calls.IsLinkAt, records.Frames.dispatched_frame}}
+use Rattle.run_law.specs.scenario.{Devices.{IsParentOf, channel_of, has_role, is_cm, is_cm_role, is_relay, is_relay_role, plan_of}, Ways.wire_of}
 use Rattle.schedule_tables.specs.Rules.{KeepsRules}
+use Rattle.tte_lemmas.proofs.{Naturals.eqb_same, Options.one as one_some}
+use Rattle.tte_units.specs.Amount.{units_of}
+use Rattle.end_system.{proofs.Values.at_least, specs.Owns.{IsLinkOf, IsUplinkOf, channel_by, wire_by}}
 use Rattle.schedule_tables.specs.declared.rule.Rule.TheVariants as rules
-use Rattle.sync_state.specs.declared.plan.SyncPlan.{SyncPlan}
-use Rattle.tte_lemmas.proofs.Lists.{in_all}
-use Rattle.tte_lemmas.proofs.Naturals.{eqb_same}
-use Rattle.tte_lemmas.proofs.Options.{one as one_some}
-use Rattle.tte_units.specs.Amount.{amount, units_of}
-use Rattle.tte_units.specs.declared.units.Units.{Units}
 
 pub some_of : {X : Type 0} (o : Option X) (P : X → Type 0) → IsSomeAnd o P → (x : X) × (o ≡ Some x) × P x
 some_of None P h = absurd h
@@ -124,12 +100,6 @@ link_facts network device link range keeps end parent =
     let l = some_of (link_at network link) (λ l. l.parent ≡ device) parent in
     let joint = keeps rules.Joints link.0 l.0 l.1 in
     no_switch network device joint.0 range end (subst (λ (d : DeviceId). IsSwitchOf network joint.0 d) l.2 joint.1)
-
-abbrev device_id : ℕ → DeviceId
-device_id n = record { 0 = n }
-
-abbrev link_id : ℕ → LinkId
-link_id n = record { 0 = n }
 
 parent_by : (o : Option Link) (l : Link) (device : DeviceId) → o ≡ Some l → (l.parent ≡ device → ⊥)
     → option_map_or (λ l. l.parent.0 == device.0) o false ≡ false
@@ -261,7 +231,8 @@ is_own network device own range keeps end plan_is precision correction dmax mark
             (record {
               least = from_zero (expected_offset network);
               most = expected_most (expected_offset network) (amount network.dmax)
-                  (amount network.precision) (amount network.calc) refl (amount_most _ _ _ range.dmax) (amount_most _ _ _ range.precision) (amount_most _ _ _ range.calc);
+                  (amount network.precision) (amount network.calc) refl (amount_most _ _ _ range.dmax) (amount_most _ _ _ range.precision)
+                  (amount_most _ _ _ range.calc);
             });
         precision = within _ _ network.precision own.precision precision range.precision;
         correction = within _ _ network.correction own.correction correction range.correction;

@@ -1,62 +1,24 @@
 -- Frames that are permanent at an end system.
-use Rattle.std.proofs.Common.{◌≡◌, ℕ, ◌+◌, ◌*◌, ◌^◌, ◌<◌, ◌≤◌, ℤ, pos, neg_ℤ, ◌+ℤ◌, ◌-ℤ◌, ◌<ℤ◌, ◌≤ℤ◌, Bool, true, false, ◌&&◌, nat_le, int_le, List, [], ◌∷◌, ◌++◌, Option, Some, None, IfSome, SomeIff, inl, inr, refl, sym, ap, subst, ◌∙◌, arith}
-use Rattle.std.proofs.lemmas.Bool.{and_parts, both_ways, leb-true}
-use Rattle.std.proofs.lemmas.Int.{ints}
-use Rattle.std.proofs.Math.Nat.{mul-le-mul_left, mul-le-mul_right}
-use Rattle.clock_correction.specs.Deviation.{IsSmall}
-use Rattle.end_system.proofs.Advance.{not_fallen, number_stays}
-use Rattle.end_system.proofs.Heard.{expected_is, has_numbers}
-use Rattle.end_system.specs.Agendas.{IsAgenda, IsCorrection, IsDispatch, IsSending}
-use Rattle.end_system.specs.Controls.{heard_by}
-use Rattle.end_system.specs.Owns.{IsOwnOf, channel_by, end_plan}
-use Rattle.end_system.specs.Ripening.{IsTold, heard_so}
-use Rattle.end_system.specs.RowSlots.{AreRowsOf, IsAtSlot}
-use Rattle.end_system.specs.Standing.{AreHeardSo, HasNumber, IsAtEnd, IsHeardSo, StandsAsEnd}
-use Rattle.end_system.specs.declared.agenda.Agenda.{Agenda}
-use Rattle.end_system.specs.declared.agenda.Appointment.{Appointment}
-use Rattle.end_system.specs.declared.end_system.EndSystem.{EndSystem}
-use Rattle.end_system.specs.declared.own.Own.{Own}
-use Rattle.end_system.specs.declared.rows.Dispatch.{Dispatch}
-use Rattle.membership.specs.BestFrame.{IsBetterOf}
-use Rattle.membership.specs.Hearing.{Hearing}
-use Rattle.membership.specs.Members.{count_of}
-use Rattle.membership.specs.Summary.{Hears, Summary, Summarizes, silence}
-use Rattle.membership.specs.declared.frame.HeardFrame.{HeardFrame}
-use Rattle.net_plan.specs.declared.ids.DeviceId.{DeviceId}
-use Rattle.net_plan.specs.declared.ids.LinkId.{LinkId}
-use Rattle.net_plan.specs.declared.network.Network.{Network}
-use Rattle.pcf_values.specs.declared.channel.Channel.TheVariants.{A, B}
-use Rattle.pcf_values.specs.declared.channel.Channel.{Channel}
+use Rattle.end_system.proofs.Words.{◌&&◌, ◌*◌, ◌++◌, ◌+ℤ◌, ◌+◌, ◌-ℤ◌, ◌<ℤ◌, ◌<◌, ◌^◌, ◌∙◌, ◌∷◌, ◌≡◌, ◌≤ℤ◌, ◌≤◌, A, Agenda, Appointment, AreHeardSo, AreRowsOf}
+use Rattle.end_system.proofs.Words.{B, Bool, Channel, ClockTask, DeviceId, Dispatch, EndSystem, HasNumber, IfSome, IsAgenda, IsAtSlot, IsCorrection, IsDispatch}
+use Rattle.end_system.proofs.Words.{IsOwnOf, IsSending, IsSmall, LinkId, List, MayCall, Moment, Network, Node, None, Option, Own, Pcf, Some, Standing}
+use Rattle.end_system.proofs.Words.{StandsAsEnd, Summarizes, Summary, SyncPlan, Synchronised, Units, [], amount, and_parts, ap, arith, called, end_plan}
+use Rattle.end_system.proofs.Words.{expected_offset, false, from_zero, inl, inr, ints, is_off, mul-le-mul_left, mul-le-mul_right, neg_ℤ, next_point, pos, refl}
+use Rattle.end_system.proofs.Words.{subst, sym, true, ℕ, ℤ}
+use Rattle.std.proofs.{Common.{SomeIff, int_le, nat_le}, lemmas.Bool.{both_ways, leb-true}}
+use Rattle.membership.specs.{BestFrame.IsBetterOf, Hearing.Hearing, Members.count_of, Summary.{Hears, silence}, declared.frame.HeardFrame.HeardFrame}
 use Rattle.pcf_values.specs.declared.members.Members.{Members}
-use Rattle.pcf_values.specs.declared.pcf.Pcf.{Pcf}
-use Rattle.run_law.proofs.control.Verdicts.{enough_not, in_time_by, in_time_not, tells_by}
-use Rattle.run_law.specs.control.Collections.{observation_window}
-use Rattle.run_law.specs.control.Corrections.{correction_value}
-use Rattle.run_law.specs.control.Hearing.{heard_as, heard_enough, heard_by_schedule, is_in_schedule, last_cycle}
-use Rattle.run_law.specs.control.Permanence.{ripe_as}
-use Rattle.run_law.specs.declared.steps.Moment.{Moment}
-use Rattle.run_law.specs.declared.steps.Ripe.TheVariants.{Within, Outside, Integrates, Ignored}
-use Rattle.run_law.specs.declared.steps.Ripe.{Ripe}
-use Rattle.run_law.specs.device.States.{is_off}
-use Rattle.run_law.specs.machines.Answers.{IsPermanenceOutcomeAt, called, hearings, node_turned_on, with_heard, with_joined}
-use Rattle.run_law.specs.machines.Calls.{IsLaterMoment, MayCall, MayRipen}
-use Rattle.run_law.specs.machines.Nodes.{ClockTask, Node, Phase, ripening}
-use Rattle.run_law.specs.scenario.Devices.{channel_of_link, is_cm, plan_of}
-use Rattle.schedule_tables.specs.Margins.{expected_offset}
-use Rattle.sync_state.proofs.StateFacts.{integrating_point, no_longer}
-use Rattle.sync_state.specs.Calls.{after, heard_frame, turned_on}
-use Rattle.sync_state.specs.Integration.{Integrates as DoesIntegrate, joined_by}
-use Rattle.sync_state.specs.Plan.{expected_at}
-use Rattle.sync_state.specs.Standing.{Standing, next_point, point_in}
-use Rattle.sync_state.specs.declared.answers.Joined.{Joined}
-use Rattle.sync_state.specs.declared.plan.SyncPlan.{SyncPlan}
-use Rattle.sync_state.specs.declared.state.State.TheVariants.{Off, Integrating, Joining, Synchronised}
-use Rattle.sync_state.specs.declared.state.State.{State}
-use Rattle.tte_lemmas.proofs.Bools.{match_false}
-use Rattle.tte_lemmas.proofs.Integers.{from_zero, int_le-is}
-use Rattle.tte_units.specs.Amount.{amount}
-use Rattle.tte_units.specs.declared.units.Units.{Units}
-use Rattle.end_system.proofs.Correct.{heard_nothing}
+use Rattle.run_law.{proofs.control.Verdicts.{enough_not, in_time_by, in_time_not, tells_by}, specs.control.Collections.observation_window}
+use Rattle.run_law.specs.control.{Corrections.correction_value, Hearing.{heard_as, heard_by_schedule, heard_enough, is_in_schedule, last_cycle}}
+use Rattle.run_law.specs.{control.Permanence.ripe_as, declared.steps.Ripe.{Ripe, TheVariants.{Ignored, Integrates, Outside, Within}}}
+use Rattle.run_law.specs.machines.{Answers.{IsPermanenceOutcomeAt, hearings, node_turned_on, with_heard, with_joined}, Calls.{IsLaterMoment, MayRipen}}
+use Rattle.run_law.specs.{machines.Nodes.{Phase, ripening}, scenario.Devices.{channel_of_link, is_cm, plan_of}}
+use Rattle.sync_state.{proofs.StateFacts.{integrating_point, no_longer}, specs.Calls.{after, heard_frame, turned_on}}
+use Rattle.sync_state.specs.{Integration.{Integrates as DoesIntegrate, joined_by}, Plan.expected_at, Standing.point_in, declared.answers.Joined.Joined}
+use Rattle.sync_state.specs.declared.state.State.{State, TheVariants.{Integrating, Joining, Off}}
+use Rattle.tte_lemmas.proofs.{Bools.match_false, Integers.int_le-is}
+use Rattle.end_system.{proofs.{Advance.{not_fallen, number_stays}, Correct.heard_nothing, Heard.{expected_is, has_numbers}}, specs.Controls.heard_by}
+use Rattle.end_system.specs.{Owns.channel_by, Ripening.{IsTold, heard_so}, Standing.{IsAtEnd, IsHeardSo}}
 
 -- ---- the range of points
 
@@ -78,9 +40,6 @@ pub point_high : (network : Network) (device : DeviceId) (node : Node) (moment :
 point_high network device node moment link frame point may ripens = high_point moment.reading.0 point.0 ripens.reached may.later.low_enough
 
 -- ---- a frame within its time
-
-not_within : (r : Ripe) → r ≡ Within → r ≡ Outside → ⊥
-not_within r a b = cc
 
 ignored_not : Ignored ≡ Within → ⊥
 ignored_not e = cc
@@ -348,9 +307,6 @@ joined_small_by network device node e new moment link frame point stands told va
     (does_tell network device node e moment link frame point stands told).in_time
     (point_low network device node e.own moment link frame point stands.own stands.begun told.call told.ripens)
     (point_high network device node moment link frame point told.call told.ripens))
-
-abbrev pub wide_low : ℤ → Type 0
-wide_low z = neg_ℤ (pos (2 ^ 61 + 2 ^ 58)) ≤ℤ z
 
 pub wide_range : (z : ℤ) → neg_ℤ (pos (2 ^ 40)) ≤ℤ z → z ≤ℤ pos (2 ^ 60 + 2 ^ 51) → (neg_ℤ (pos (2 ^ 61 + 2 ^ 58)) ≤ℤ z) × (z ≤ℤ pos (2 ^ 61 + 2 ^ 58))
 wide_range z low high = (omega (arith, ints), omega (arith, ints))

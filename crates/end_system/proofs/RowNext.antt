@@ -1,37 +1,14 @@
 -- The dispatch that comes next, among the slots of a device.
-use Rattle.std.proofs.Common.{◌≡◌, inl, inr, ℕ, zero, suc, ◌+◌, ◌-◌, ◌*◌, ◌/◌, ◌%◌, ◌<◌, ◌≤◌, ◌^◌, ℤ, pos, ◌-ℤ◌, ◌<ℤ◌, ◌≤ℤ◌, List, [], ◌∷◌, ◌++◌, Option, Some, None, refl, ap, sym, ◌∙◌, subst, arith}
-use Rattle.std.proofs.lemmas.Int.{ints}
-use Rattle.std.proofs.lemmas.List.Elements.{All-contains}
-use Rattle.std.proofs.Math.Nat.{div-add-mod, mod-lt, mul-le-mul_right}
-use Rattle.std.specs.List.{Contains}
-use Rattle.std.specs.Option.{option_map_or}
-use Rattle.end_system.proofs.Advance.{done_now, done_still, was_done}
-use Rattle.end_system.proofs.Tasks.{later_value}
-use Rattle.end_system.proofs.Values.{at_least}
-use Rattle.end_system.specs.Agendas.{IsDispatch}
-use Rattle.end_system.specs.Deeds.{IsSooner, Leaves}
-use Rattle.end_system.specs.Owns.{IsOwnOf}
-use Rattle.end_system.specs.RowSlots.{AreRowsOf, IsAtSlot, IsFirstFrom, IsNextFrom, IsSlotIn, IsSlotOf, key_of, numbers_of}
-use Rattle.end_system.specs.declared.own.Own.{Own}
-use Rattle.end_system.specs.declared.rows.Dispatch.{Dispatch}
-use Rattle.end_system.specs.declared.rows.Rows.{Rows}
-use Rattle.end_system.specs.declared.rows.Slot.{Slot}
-use Rattle.net_plan.specs.declared.ids.DeviceId.{DeviceId}
-use Rattle.net_plan.specs.declared.ids.LinkId.{LinkId}
-use Rattle.net_plan.specs.declared.ids.RowId.{RowId}
-use Rattle.net_plan.specs.declared.network.Network.{Network}
-use Rattle.net_plan.specs.declared.tables.Row.{Row}
-use Rattle.run_law.specs.machines.Nodes.{ClockTask, dispatching}
-use Rattle.run_law.specs.machines.Tasks.{offset_of, value_of}
-use Rattle.schedule_tables.proofs.OrderLemmas.{below_one_way, same_or_below}
-use Rattle.schedule_tables.specs.Dispatches.{IsBelow, dispatch_order}
-use Rattle.sync_state.specs.Standing.{Standing}
-use Rattle.sync_state.specs.declared.plan.SyncPlan.{SyncPlan}
-use Rattle.sync_state.specs.declared.state.State.TheVariants.{Synchronised}
-use Rattle.tte_lemmas.proofs.Lists.{none_in, period_divides}
-use Rattle.tte_lemmas.proofs.Naturals.{cases_of}
-use Rattle.tte_units.specs.Amount.{amount}
-use Rattle.tte_units.specs.declared.units.Units.{Units}
+use Rattle.end_system.proofs.Words.{◌%◌, ◌*◌, ◌++◌, ◌+◌, ◌-ℤ◌, ◌<ℤ◌, ◌<◌, ◌^◌, ◌∙◌, ◌∷◌, ◌≡◌, ◌≤ℤ◌, ◌≤◌, AreRowsOf, ClockTask, Contains, DeviceId, Dispatch}
+use Rattle.end_system.proofs.Words.{IsAtSlot, IsBelow, IsDispatch, IsOwnOf, IsSlotOf, LinkId, List, Network, None, Option, Own, Row, RowId, Rows, Slot, Some}
+use Rattle.end_system.proofs.Words.{Standing, SyncPlan, Synchronised, Units, [], amount, ap, arith, dispatching, inl, inr, ints, key_of, mul-le-mul_right}
+use Rattle.end_system.proofs.Words.{option_map_or, pos, refl, subst, suc, sym, value_of, zero, ℕ, ℤ}
+use Rattle.std.proofs.{Common.{◌-◌, ◌/◌}, Math.Nat.{div-add-mod, mod-lt}, lemmas.List.Elements.All-contains}
+use Rattle.run_law.specs.machines.Tasks.{offset_of}
+use Rattle.schedule_tables.{proofs.OrderLemmas.{below_one_way, same_or_below}, specs.Dispatches.dispatch_order}
+use Rattle.tte_lemmas.proofs.{Lists.{none_in, period_divides}, Naturals.cases_of}
+use Rattle.end_system.{proofs.{Advance.{done_now, done_still, was_done}, Tasks.later_value, Values.at_least}, specs.Deeds.{IsSooner, Leaves}}
+use Rattle.end_system.specs.RowSlots.{IsFirstFrom, IsNextFrom, IsSlotIn, numbers_of}
 
 -- ---- slots, and rows that leave in a cycle
 

@@ -1,25 +1,11 @@
 -- The first dispatch of a device that comes no earlier than a bound.
-use Rattle.std.proofs.Common.{◌≡◌, inl, inr, ⊎_elim, ℕ, ◌+◌, ◌*◌, ◌%◌, ◌<◌, ◌≤◌, ◌^◌, ℤ, pos, ◌-ℤ◌, List, ◌∷◌, length, Some, refl, sym, subst, arith}
-use Rattle.std.specs.Prelude.{slice_get}
-use Rattle.std.specs.List.{Contains}
-use Rattle.std.proofs.Math.Nat.{mul-le-mul_left}
-use Rattle.std.proofs.lemmas.Bool.{cases_lt}
-use Rattle.std.proofs.lemmas.Option.{get_or_from_slice_get, slice_get_within}
-use Rattle.end_system.proofs.KeyOrder.{slot_cmp, slot_compares}
-use Rattle.end_system.proofs.Search.{Ends, IsOrder, no_earlier, not_before, not_below}
-use Rattle.end_system.specs.RowSlots.{AreInOrder, AreRowsOf, IsNextFrom, IsSlotOf, key_of, numbers_of}
-use Rattle.end_system.specs.declared.own.Own.{Own}
-use Rattle.end_system.specs.declared.rows.Dispatch.{Dispatch}
-use Rattle.end_system.specs.declared.rows.Rows.{Rows}
-use Rattle.end_system.specs.declared.rows.Slot.{Slot}
-use Rattle.net_plan.proofs.InRange.{amount_most}
-use Rattle.net_plan.specs.Ranges.{IsInRange}
-use Rattle.net_plan.specs.declared.ids.DeviceId.{DeviceId}
-use Rattle.net_plan.specs.declared.network.Network.{Network}
+use Rattle.end_system.proofs.Words.{◌%◌, ◌*◌, ◌+◌, ◌-ℤ◌, ◌<◌, ◌^◌, ◌∷◌, ◌≡◌, ◌≤◌, AreInOrder, AreRowsOf, Contains, DeviceId, Dispatch, IsBelow, IsInRange}
+use Rattle.end_system.proofs.Words.{IsSlotOf, List, Network, Own, Rows, Slot, Some, amount, amount_most, arith, in_all, inl, inr, key_of, length}
+use Rattle.end_system.proofs.Words.{mul-le-mul_left, pos, refl, slice_get, slice_get_within, subst, sym, ℕ, ℤ, ⊎_elim}
+use Rattle.std.proofs.lemmas.{Bool.cases_lt, Option.get_or_from_slice_get}
 use Rattle.schedule_tables.proofs.EntryLemmas.{in_range}
-use Rattle.schedule_tables.specs.Dispatches.{IsBelow}
-use Rattle.tte_lemmas.proofs.Lists.{in_all}
-use Rattle.tte_units.specs.Amount.{amount}
+use Rattle.end_system.proofs.{KeyOrder.{slot_cmp, slot_compares}, Search.{Ends, IsOrder, no_earlier, not_before, not_below}}
+use Rattle.end_system.specs.RowSlots.{IsNextFrom, numbers_of}
 
 -- where the search for the bound ends
 abbrev pub SlotEnds : List Slot → Slot → ℕ → Type 0

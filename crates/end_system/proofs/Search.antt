@@ -1,15 +1,11 @@
 -- A search among things in order, each with its numbers.
-use Rattle.std.proofs.Common.{◌≡◌, ⊎_elim, true, false, ℕ, ◌<◌, ◌≤◌, List, length, get_or, Some, ap, sym, ◌∙◌, subst, arith, is_lt}
-use Rattle.std.specs.Prelude.{slice_get}
-use Rattle.std.specs.List.{AllPairs, Contains}
-use Rattle.std.specs.List.Sorted.{IsPartitionPoint, IsPartitionedBy}
+use Rattle.end_system.proofs.Words.{◌<◌, ◌∙◌, ◌≡◌, ◌≤◌, AllPairs, Contains, IsBelow, IsPartitionedBy, List, Some, ap, arith, below_itself, cases_Bool, false}
+use Rattle.end_system.proofs.Words.{is_lt, length, slice_get, slice_get_within, subst, sym, true, ℕ, ⊎_elim}
+use Rattle.std.{proofs.{Common.get_or, lemmas.{Bool.cases_lt, Option.get_or_from_slice_get}}, specs.List.Sorted.IsPartitionPoint}
 use Rattle.std.specs.declared.cmp.Ordering.{Ordering}
-use Rattle.std.proofs.lemmas.Bool.{cases_Bool, cases_lt}
-use Rattle.std.proofs.lemmas.Option.{get_or_from_slice_get, slice_get_within}
-use Rattle.end_system.proofs.KeyOrder.{Compares, lt_false, lt_true}
-use Rattle.schedule_tables.proofs.OrderLemmas.{below_itself, below_mono}
-use Rattle.schedule_tables.specs.Dispatches.{IsBelow}
+use Rattle.schedule_tables.proofs.OrderLemmas.{below_mono}
 use Rattle.tte_lemmas.proofs.Naturals.{above_or_same}
+use Rattle.end_system.proofs.KeyOrder.{Compares, lt_false, lt_true}
 
 -- the comparison is that of the numbers, of which each thing has as many
 pub record IsOrder {X : Type 0} (numbers : X → List ℕ) (cmp : X → X → Ordering) : Type 0 where

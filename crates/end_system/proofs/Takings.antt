@@ -1,36 +1,18 @@
 -- Frames that an end system takes.
-use Rattle.std.proofs.Common.{◌≡◌, ⊎_elim, ℕ, ◌<◌, ◌==◌, ◌||◌, not, int_lt, Bool, true, false, ℤ, List, [], ◌∷◌, ◌++◌, length, Option, Some, None, refl, ap, sym, ◌∙◌, subst, if◌then◌else◌}
-use Rattle.std.proofs.lemmas.Bool.{cases_Bool, eqb-true, eqb-false}
-use Rattle.std.proofs.lemmas.List.Elements.{filter-append}
-use Rattle.std.proofs.lemmas.Option.{slice_get_within}
-use Rattle.std.specs.Int.{int_div_euclid, int_rem_euclid}
-use Rattle.std.specs.List.{filter, last_or}
-use Rattle.std.specs.Prelude.{option_and_then, option_map, slice_get, slice_set}
-use Rattle.end_system.specs.EnteringRows.{AreEntering, fault_of, last_by, row_by}
-use Rattle.end_system.specs.Owns.{IsOwnOf}
-use Rattle.end_system.specs.declared.entering.Entering.{Entering}
-use Rattle.end_system.specs.declared.entering.EnteringRow.{EnteringRow}
-use Rattle.end_system.specs.declared.own.Own.{Own}
-use Rattle.net_plan.specs.Places.{link_at}
-use Rattle.net_plan.specs.declared.ids.DeviceId.{DeviceId}
-use Rattle.net_plan.specs.declared.ids.LinkId.{LinkId}
-use Rattle.net_plan.specs.declared.ids.VlId.{VlId}
-use Rattle.net_plan.specs.declared.network.Network.{Network}
-use Rattle.net_plan.specs.declared.tables.Link.{Link}
-use Rattle.net_plan.specs.declared.tables.Row.{Row}
-use Rattle.net_plan.specs.declared.tables.VirtualLink.{VirtualLink}
-use Rattle.run_law.specs.declared.judgement.Reason.TheVariants as reasons
-use Rattle.run_law.specs.declared.judgement.Reason.{Reason}
-use Rattle.run_law.specs.declared.steps.Arrival.TheVariants.{Delivered, Dropped}
-use Rattle.run_law.specs.device.Standpoints.{Standpoint, clock_of, cycle_at, first_reason, natural, offset_in_cycle}
+use Rattle.end_system.proofs.Words.{if◌then◌else◌, ◌++◌, ◌<◌, ◌==◌, ◌∙◌, ◌∷◌, ◌≡◌, Bool, DeviceId, Entering, EnteringRow, Entry, IsOwnOf, Link, LinkId, List}
+use Rattle.end_system.proofs.Words.{Network, None, Option, Own, Reason, Row, Some, Standpoint, SyncPlan, [], ap, cases_Bool, entry_entering, eqb-true, false}
+use Rattle.end_system.proofs.Words.{first_reason, is_end, length, link_at, not, one, option_and_then, refl, row_by, slice_get, slice_get_within, subst, sym}
+use Rattle.end_system.proofs.Words.{true, ℕ, ℤ, ⊎_elim}
+use Rattle.std.{proofs.{Common.{◌||◌, int_lt}, lemmas.{Bool.eqb-false, List.Elements.filter-append}}, specs.Int.{int_div_euclid, int_rem_euclid}}
+use Rattle.std.specs.{List.{filter, last_or}, Prelude.{option_map, slice_set}}
+use Rattle.net_plan.specs.declared.{ids.VlId.VlId, tables.VirtualLink.VirtualLink}
+use Rattle.run_law.specs.{declared.steps.Arrival.TheVariants.{Delivered, Dropped}, device.Standpoints.{clock_of, cycle_at, natural, offset_in_cycle}}
 use Rattle.run_law.specs.machines.Nodes.{TakenFrame}
-use Rattle.run_law.specs.scenario.Devices.{is_end}
-use Rattle.run_law.specs.timed.Arrivals.{entry_arrival, entry_entering, entry_of, is_taken_in, occurs_in, row_entering, row_fault, taken_by, taken_or_fault}
+use Rattle.run_law.specs.timed.Arrivals.{entry_arrival, entry_of, is_taken_in, occurs_in, row_entering, row_fault, taken_by, taken_or_fault}
 use Rattle.schedule_tables.specs.Windows.{window_of}
-use Rattle.schedule_tables.specs.declared.entry.Entry.{Entry}
-use Rattle.sync_state.specs.declared.plan.SyncPlan.{SyncPlan}
 use Rattle.tte_lemmas.proofs.Lists.{append_none, last_pushed, set_other, set_same}
-use Rattle.tte_lemmas.proofs.Options.{one}
+use Rattle.end_system.specs.EnteringRows.{AreEntering, fault_of, last_by}
+use Rattle.run_law.specs.declared.judgement.Reason.TheVariants as reasons
 
 -- ---- the row that the search gives
 

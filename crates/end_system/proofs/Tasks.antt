@@ -1,34 +1,16 @@
 -- What an end system has to do, and what of it comes first.
-use Rattle.std.proofs.Common.{◌≡◌, ℕ, ◌+◌, ◌*◌, ◌<◌, ◌≤◌, ℤ, pos, negsuc, ◌+ℤ◌, ◌-ℤ◌, ◌<ℤ◌, ◌≤ℤ◌, true, false, List, [], ◌∷◌, Option, Some, None, IsSomeAnd, IfSome, slice_get, unsigned_abs, inl, inr, refl, sym, ap, subst, ◌∙◌, arith}
-use Rattle.std.proofs.lemmas.Int.{ints}
-use Rattle.std.proofs.Math.Nat.{mul-le-mul_right}
-use Rattle.std.specs.Option.{option_map_or}
-use Rattle.end_system.specs.Agendas.{HasReading, IsAgenda, IsCorrection, IsDispatch, IsFirstDue, IsLeastReading, IsSending}
-use Rattle.end_system.specs.Deeds.{IsAhead, IsSooner, Leaves}
-use Rattle.end_system.specs.Owns.{IsOwnOf}
-use Rattle.end_system.specs.declared.agenda.Agenda.{Agenda}
-use Rattle.end_system.specs.declared.agenda.Appointment.{Appointment}
-use Rattle.end_system.specs.declared.agenda.Due.TheVariants as dues
-use Rattle.end_system.specs.declared.own.Own.{Own}
-use Rattle.end_system.specs.declared.rows.Dispatch.{Dispatch}
-use Rattle.net_plan.specs.declared.ids.DeviceId.{DeviceId}
-use Rattle.net_plan.specs.declared.ids.RowId.{RowId}
-use Rattle.net_plan.specs.declared.network.Network.{Network}
-use Rattle.net_plan.specs.declared.tables.Row.{Row}
-use Rattle.run_law.specs.declared.steps.Moment.{Moment}
-use Rattle.run_law.specs.machines.Calls.{MayCall}
-use Rattle.run_law.specs.machines.Nodes.{ClockTask, Node, sending, correcting, dispatching, acting}
-use Rattle.run_law.specs.machines.Tasks.{HasFrame, IsDueReading, IsFirstTask, IsPending, Task, emitting, doing, offset_of, order_of, reading_for, value_of}
+use Rattle.end_system.proofs.Words.{◌*◌, ◌+ℤ◌, ◌+◌, ◌-ℤ◌, ◌<ℤ◌, ◌<◌, ◌∙◌, ◌∷◌, ◌≡◌, ◌≤ℤ◌, ◌≤◌, Agenda, Appointment, ClockTask, DeviceId, Dispatch, IfSome}
+use Rattle.end_system.proofs.Words.{IsAgenda, IsBelow, IsCorrection, IsDispatch, IsOwnOf, IsSending, IsSomeAnd, List, MayCall, Moment, Network, Node, None}
+use Rattle.end_system.proofs.Words.{Option, Own, Row, RowId, Some, Standing, Units, [], amount, ap, arith, below_itself, correcting, dispatching, false, inl}
+use Rattle.end_system.proofs.Words.{inr, ints, is_end, mul-le-mul_right, option_map_or, pos, refl, sending, slice_get, subst, sym, true, value_of, ℕ, ℤ}
+use Rattle.std.proofs.Common.{negsuc, unsigned_abs}
+use Rattle.run_law.specs.machines.Nodes.{acting}
+use Rattle.run_law.specs.machines.Tasks.{HasFrame, IsDueReading, IsFirstTask, IsPending, Task, doing, emitting, offset_of, order_of, reading_for}
 use Rattle.run_law.specs.records.Order.{IsBefore}
-use Rattle.run_law.specs.scenario.Devices.{is_end}
-use Rattle.schedule_tables.proofs.OrderLemmas.{below_itself}
-use Rattle.schedule_tables.specs.Dispatches.{IsBelow, dispatch_order}
-use Rattle.sync_state.specs.Standing.{Standing}
-use Rattle.tte_lemmas.proofs.Bools.{not_both}
-use Rattle.tte_lemmas.proofs.Integers.{never_both, through}
-use Rattle.tte_lemmas.proofs.Naturals.{cases_of, none_less}
-use Rattle.tte_units.specs.Amount.{amount}
-use Rattle.tte_units.specs.declared.units.Units.{Units}
+use Rattle.schedule_tables.specs.Dispatches.{dispatch_order}
+use Rattle.tte_lemmas.proofs.{Bools.not_both, Integers.{never_both, through}, Naturals.{cases_of, none_less}}
+use Rattle.end_system.specs.{Agendas.{HasReading, IsFirstDue, IsLeastReading}, Deeds.{IsAhead, IsSooner, Leaves}}
+use Rattle.end_system.specs.declared.agenda.Due.TheVariants as dues
 
 -- ---- what is pending is ahead
 
@@ -248,9 +230,6 @@ due_reading network device own node agenda (Some at) is sound a least =
     )
 
 -- ---- what comes first
-
-le_not_lt : (x y : ℤ) → x ≤ℤ y → y <ℤ x → ⊥
-le_not_lt x y a b = omega (arith, ints)
 
 le_lt_trans : (x y z r : ℤ) → r <ℤ y → y ≤ℤ z → z ≤ℤ r → ⊥
 le_lt_trans x y z r a b c = omega (arith, ints)

@@ -1,31 +1,14 @@
 -- Time-triggered frames that arrive at an end system.
-use Rattle.std.proofs.Common.{◌≡◌, ℕ, ℤ, pos, ◌+ℤ◌, ◌^◌, ◌+◌, ◌≤ℤ◌, ◌<ℤ◌, neg_ℤ, Bool, true, false, not, ◌==◌, nat_lt, if◌then◌else◌, List, [], ◌∷◌, Option, Some, None, refl, sym, ap, ◌∙◌, arith}
-use Rattle.std.proofs.lemmas.Int.{ints}
-use Rattle.end_system.proofs.Advance.{not_fallen, number_stays}
-use Rattle.end_system.specs.EnteringRows.{AreEntering}
-use Rattle.end_system.specs.Owns.{IsOwnOf}
-use Rattle.end_system.specs.Standing.{StandsAsEnd}
-use Rattle.end_system.specs.Timed.{head_fault}
-use Rattle.end_system.specs.declared.end_system.EndSystem.{EndSystem}
-use Rattle.end_system.specs.declared.entering.Entering.{Entering}
-use Rattle.end_system.specs.declared.own.Own.{Own}
-use Rattle.net_plan.specs.declared.ids.DeviceId.{DeviceId}
-use Rattle.net_plan.specs.declared.ids.LinkId.{LinkId}
-use Rattle.net_plan.specs.declared.network.Network.{Network}
-use Rattle.pcf_codec.specs.EtherType.{least_type}
-use Rattle.pcf_codec.specs.Fields.{field}
-use Rattle.run_law.specs.declared.judgement.Reason.TheVariants as reasons
-use Rattle.run_law.specs.declared.judgement.Reason.{Reason}
-use Rattle.run_law.specs.declared.steps.Moment.{Moment}
-use Rattle.run_law.specs.device.Standpoints.{Standpoint, clock_of, first_reason}
-use Rattle.run_law.specs.device.States.{is_synchronised, is_off}
-use Rattle.run_law.specs.machines.Answers.{called}
-use Rattle.run_law.specs.machines.Calls.{IsLaterMoment}
-use Rattle.run_law.specs.machines.Nodes.{Node, TakenFrame, arriving, last_taken_by, standpoint_at}
+use Rattle.end_system.proofs.Words.{if◌then◌else◌, ◌+ℤ◌, ◌+◌, ◌<ℤ◌, ◌==◌, ◌^◌, ◌∙◌, ◌∷◌, ◌≡◌, ◌≤ℤ◌, Bool, DeviceId, EndSystem, Entering, IsOwnOf, LinkId, List}
+use Rattle.end_system.proofs.Words.{Moment, Network, Node, None, Option, Own, Reason, Some, Standing, Standpoint, StandsAsEnd, [], ap, arith, arriving, called}
+use Rattle.end_system.proofs.Words.{false, first_reason, ints, is_off, neg_ℤ, next_point, not, pos, refl, standpoint_at, sym, true, ℕ, ℤ}
+use Rattle.std.proofs.Common.{nat_lt}
+use Rattle.pcf_codec.specs.{EtherType.least_type, Fields.field}
+use Rattle.run_law.specs.{device.{Standpoints.clock_of, States.is_synchronised}, machines.{Calls.IsLaterMoment, Nodes.{TakenFrame, last_taken_by}}}
 use Rattle.run_law.specs.timed.Arrivals.{octets_fault, octets_or_fault, timed_arrival}
-use Rattle.sync_state.specs.Standing.{Standing, next_point}
-use Rattle.tte_lemmas.proofs.Bools.{takes_by}
-use Rattle.tte_lemmas.proofs.Integers.{whole}
+use Rattle.tte_lemmas.proofs.{Bools.takes_by, Integers.whole}
+use Rattle.end_system.{proofs.Advance.{not_fallen, number_stays}, specs.{EnteringRows.AreEntering, Timed.head_fault}}
+use Rattle.run_law.specs.declared.judgement.Reason.TheVariants as reasons
 
 by_head : (t e s m : Bool) → t ≡ true
     → (if e then Some reasons.RefusedEtherType else (if s then (if m then None else Some reasons.Unknown) else Some reasons.Unsynchronised))

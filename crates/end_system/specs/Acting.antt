@@ -1,20 +1,12 @@
 -- What an end system does when something is due.
-use Rattle.std.specs.Prelude.{◌+◌, ◌^◌, ◌≤◌, pos, ◌≤ℤ◌, Some, IfSome}
+use Rattle.std.specs.Prelude.{◌+◌, ◌^◌, ◌≤ℤ◌, ◌≤◌, IfSome, Some, pos}
 use Rattle.clock_correction.specs.Deviation.{IsSmall}
-use Rattle.end_system.specs.Agendas.{IsFirstDue}
-use Rattle.end_system.specs.Owns.{HasOwnRange}
-use Rattle.end_system.specs.RowSlots.{AreSomeRows}
-use Rattle.end_system.specs.Standing.{StandsAsEnd}
-use Rattle.end_system.specs.declared.agenda.Due.{Due}
-use Rattle.end_system.specs.declared.end_system.EndSystem.{EndSystem}
-use Rattle.net_plan.specs.declared.ids.DeviceId.{DeviceId}
-use Rattle.net_plan.specs.declared.network.Network.{Network}
-use Rattle.run_law.specs.declared.steps.Act.{Act}
-use Rattle.run_law.specs.declared.steps.Moment.{Moment}
-use Rattle.run_law.specs.machines.Answers.{IsActOf}
-use Rattle.run_law.specs.machines.Calls.{MayCall, StandsFor}
-use Rattle.run_law.specs.machines.Nodes.{Node, acting}
+use Rattle.net_plan.specs.declared.{ids.DeviceId.DeviceId, network.Network.Network}
+use Rattle.run_law.specs.{declared.steps.{Act.Act, Moment.Moment}, machines.Answers.IsActOf}
+use Rattle.run_law.specs.machines.{Calls.{MayCall, StandsFor}, Nodes.{Node, acting}}
 use Rattle.sync_state.specs.Standing.{next_point}
+use Rattle.end_system.specs.{Agendas.IsFirstDue, Owns.HasOwnRange, RowSlots.AreSomeRows, Standing.StandsAsEnd}
+use Rattle.end_system.specs.declared.{agenda.Due.Due, end_system.EndSystem.EndSystem}
 
 -- it stands as a device that may act at the moment, and this is the first that is due
 abbrev pub MayDo : EndSystem → Moment → Due → Type 0

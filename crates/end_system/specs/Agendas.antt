@@ -1,27 +1,17 @@
 -- What an agenda holds.
-use Rattle.std.specs.Prelude.{◌≡◌, ◌⊎◌, ℕ, ◌+◌, ◌^◌, ℤ, pos, neg_ℤ, ◌+ℤ◌, ◌-ℤ◌, [], ◌<ℤ◌, ◌≤ℤ◌, true, List, Option, Some, None, IfSome, IsSomeAnd}
-use Rattle.end_system.specs.Deeds.{IsNextCorrection, IsNextDispatch, IsNextSending, Leaves}
-use Rattle.end_system.specs.Owns.{IsOwnOf}
-use Rattle.end_system.specs.RowSlots.{AreRowsOf}
-use Rattle.end_system.specs.declared.agenda.Agenda.{Agenda}
-use Rattle.end_system.specs.declared.agenda.Appointment.{Appointment}
-use Rattle.end_system.specs.declared.agenda.Due.TheVariants as dues
-use Rattle.end_system.specs.declared.agenda.Due.{Due}
-use Rattle.end_system.specs.declared.own.Own.{Own}
-use Rattle.end_system.specs.declared.rows.Dispatch.{Dispatch}
-use Rattle.end_system.specs.declared.rows.Rows.{Rows}
-use Rattle.net_plan.specs.Places.{is_master}
-use Rattle.net_plan.specs.declared.ids.DeviceId.{DeviceId}
-use Rattle.net_plan.specs.declared.ids.RowId.{RowId}
-use Rattle.net_plan.specs.declared.network.Network.{Network}
-use Rattle.run_law.specs.machines.Nodes.{ClockTask, sending, correcting, dispatching}
-use Rattle.run_law.specs.machines.Tasks.{value_of}
+use Rattle.std.specs.Prelude.{◌+ℤ◌, ◌+◌, ◌-ℤ◌, ◌<ℤ◌, ◌^◌, ◌≡◌, ◌≤ℤ◌, ◌⊎◌, IfSome, IsSomeAnd, List, None, Option, Some}
+use Rattle.std.specs.Prelude.{[], neg_ℤ, pos, true, ℕ, ℤ}
+use Rattle.net_plan.specs.{Places.is_master, declared.{ids.{DeviceId.DeviceId, RowId.RowId}, network.Network.Network}}
+use Rattle.run_law.specs.machines.{Nodes.{ClockTask, correcting, dispatching, sending}, Tasks.value_of}
 use Rattle.run_law.specs.scenario.Devices.{has_role}
-use Rattle.sync_state.specs.Standing.{Standing, next_point}
-use Rattle.sync_state.specs.declared.answers.Verdict.TheVariants.{Corrected, SyncClique, AsyncClique, Cleared}
-use Rattle.sync_state.specs.declared.answers.Verdict.{Verdict}
+use Rattle.sync_state.specs.{Standing.{Standing, next_point}, declared.answers.Verdict.Verdict}
+use Rattle.sync_state.specs.declared.answers.Verdict.TheVariants.{AsyncClique, Cleared, Corrected, SyncClique}
 use Rattle.sync_state.specs.declared.state.State.TheVariants.{Synchronised}
 use Rattle.tte_units.specs.declared.units.Units.{Units}
+use Rattle.end_system.specs.{Deeds.{IsNextCorrection, IsNextDispatch, IsNextSending, Leaves}, Owns.IsOwnOf}
+use Rattle.end_system.specs.{RowSlots.AreRowsOf, declared.agenda.{Agenda.Agenda, Appointment.Appointment, Due.Due}}
+use Rattle.end_system.specs.declared.{own.Own.Own, rows.{Dispatch.Dispatch, Rows.Rows}}
+use Rattle.end_system.specs.declared.agenda.Due.TheVariants as dues
 
 -- the reading at which the deed is done
 abbrev pub IsAt : Network → Standing → ClockTask → Units → Type 0

@@ -1,18 +1,11 @@
 -- What an end system does with a frame that arrives.
-use Rattle.std.specs.Prelude.{◌≡◌, ℕ, false, List}
-use Rattle.end_system.specs.Standing.{StandsAsEnd}
-use Rattle.end_system.specs.declared.end_system.EndSystem.{EndSystem}
-use Rattle.net_plan.specs.declared.ids.DeviceId.{DeviceId}
-use Rattle.net_plan.specs.declared.ids.LinkId.{LinkId}
-use Rattle.net_plan.specs.declared.network.Network.{Network}
+use Rattle.std.specs.Prelude.{◌≡◌, List, false, ℕ}
+use Rattle.net_plan.specs.declared.{ids.{DeviceId.DeviceId, LinkId.LinkId}, network.Network.Network}
 use Rattle.pcf_codec.specs.Decoding.{decoded}
-use Rattle.run_law.specs.control.Wires.{Signal, control, timed}
-use Rattle.run_law.specs.declared.steps.Arrival.{Arrival}
-use Rattle.run_law.specs.declared.steps.Moment.{Moment}
-use Rattle.run_law.specs.device.States.{is_off}
-use Rattle.run_law.specs.machines.Answers.{after_arrival, arrival_at, called}
-use Rattle.run_law.specs.machines.Calls.{MayArrive, MayCall, StandsFor}
-use Rattle.run_law.specs.machines.Nodes.{Node, arriving}
+use Rattle.run_law.specs.{control.Wires.{Signal, control, timed}, declared.steps.{Arrival.Arrival, Moment.Moment}}
+use Rattle.run_law.specs.{device.States.is_off, machines.Answers.{after_arrival, arrival_at, called}}
+use Rattle.run_law.specs.machines.{Calls.{MayArrive, MayCall, StandsFor}, Nodes.{Node, arriving}}
+use Rattle.end_system.specs.{Standing.StandsAsEnd, declared.end_system.EndSystem.EndSystem}
 
 -- a frame of these octets may come to it by the link
 abbrev pub MayHearNow : EndSystem → Moment → LinkId → List ℕ → Type 0

@@ -1,9 +1,8 @@
 -- A device that is broken.
 use Rattle.std.specs.Prelude.{◌≡◌, true}
-use Rattle.end_system.specs.declared.broken.Broken.{Broken}
-use Rattle.net_plan.specs.declared.ids.DeviceId.{DeviceId}
-use Rattle.net_plan.specs.declared.network.Network.{Network}
+use Rattle.net_plan.specs.declared.{ids.DeviceId.DeviceId, network.Network.Network}
 use Rattle.run_law.specs.machines.Nodes.{Node}
+use Rattle.end_system.specs.declared.broken.Broken.{Broken}
 
 -- the machine stands as a device that broke in its state and with its adjustment
 pub record StandsBroken (b : Broken) (network : Network) (device : DeviceId) (node : Node) : Type 0 where

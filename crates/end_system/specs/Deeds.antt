@@ -1,19 +1,11 @@
 -- What an end system has still to do by itself, of each kind.
-use Rattle.std.specs.Prelude.{◌≡◌, ◌⊎◌, ℕ, ◌<◌, ◌≤◌, ℤ, ◌<ℤ◌, true, List, Some}
-use Rattle.std.specs.List.{Contains}
-use Rattle.net_plan.specs.Places.{is_master}
-use Rattle.net_plan.specs.declared.ids.DeviceId.{DeviceId}
-use Rattle.net_plan.specs.declared.ids.RowId.{RowId}
-use Rattle.net_plan.specs.declared.network.Network.{Network}
-use Rattle.run_law.specs.machines.Nodes.{ClockTask, sending, correcting, dispatching}
-use Rattle.run_law.specs.machines.Tasks.{value_of}
+use Rattle.std.specs.{List.Contains, Prelude.{◌<ℤ◌, ◌<◌, ◌≡◌, ◌≤◌, ◌⊎◌, List, Some, true, ℕ, ℤ}}
+use Rattle.net_plan.specs.{Places.is_master, declared.{ids.{DeviceId.DeviceId, RowId.RowId}, network.Network.Network}}
+use Rattle.run_law.specs.machines.{Nodes.{ClockTask, correcting, dispatching, sending}, Tasks.value_of}
 use Rattle.run_law.specs.scenario.Devices.{has_role}
-use Rattle.schedule_tables.specs.Dispatches.{IsBelow, dispatch_order}
-use Rattle.schedule_tables.specs.Entries.{IsEntry, source_of}
-use Rattle.schedule_tables.specs.Windows.{OccursIn}
+use Rattle.schedule_tables.specs.{Dispatches.{IsBelow, dispatch_order}, Entries.{IsEntry, source_of}, Windows.OccursIn}
 use Rattle.schedule_tables.specs.declared.entry.Entry.{Entry}
-use Rattle.sync_state.specs.Standing.{Standing, next_point}
-use Rattle.sync_state.specs.declared.state.State.TheVariants.{Synchronised}
+use Rattle.sync_state.specs.{Standing.{Standing, next_point}, declared.state.State.TheVariants.Synchronised}
 
 -- the device is the sender of the row's frames, and its virtual link occurs in the cycle
 pub record Leaves (network : Network) (device : DeviceId) (row : RowId) (cycle : ℕ) : Type 0 where

@@ -1,26 +1,15 @@
 -- The rows by which frames enter an end system.
-use Rattle.std.specs.Prelude.{◌≡◌, Bool, false, not, ◌&&◌, ◌||◌, nat_le, int_lt, ℕ, ℤ, ◌<◌, ◌≤◌, ◌%◌, ◌==◌, length, List, [], ◌∷◌, ◌++◌, Option, Some, None, Result, slice_get, filter, option_map, MatchResult}
 use Rattle.std.specs.List.{All, AllPairs, Contains, last_or}
-use Rattle.end_system.specs.declared.entering.Entering.{Entering}
-use Rattle.end_system.specs.declared.entering.EnteringRow.{EnteringRow}
-use Rattle.end_system.specs.declared.entering.Key.{Key}
-use Rattle.net_plan.specs.Ranges.{IsInRange}
-use Rattle.net_plan.specs.declared.ids.DeviceId.{DeviceId}
-use Rattle.net_plan.specs.declared.ids.LinkId.{LinkId}
-use Rattle.net_plan.specs.declared.ids.VlId.{VlId}
-use Rattle.net_plan.specs.declared.network.Network.{Network}
-use Rattle.net_plan.specs.declared.tables.Way.TheVariants.{Up, Down}
-use Rattle.net_plan.specs.declared.tables.Way.{Way}
-use Rattle.run_law.specs.declared.judgement.Reason.TheVariants as reasons
-use Rattle.run_law.specs.declared.judgement.Reason.{Reason}
-use Rattle.run_law.specs.declared.steps.Arrival.TheVariants.{Delivered, Dropped}
-use Rattle.run_law.specs.device.Standpoints.{Standpoint, first_reason}
-use Rattle.run_law.specs.machines.Nodes.{TakenFrame}
+use Rattle.std.specs.Prelude.{◌%◌, ◌&&◌, ◌++◌, ◌<◌, ◌==◌, ◌||◌, ◌∷◌, ◌≡◌, ◌≤◌, Bool, List, MatchResult, None, Option}
+use Rattle.std.specs.Prelude.{Result, Some, [], false, filter, int_lt, length, nat_le, not, option_map, slice_get, ℕ, ℤ}
+use Rattle.net_plan.specs.{Ranges.IsInRange, declared.ids.{DeviceId.DeviceId, LinkId.LinkId, VlId.VlId}}
+use Rattle.net_plan.specs.declared.{network.Network.Network, tables.Way.{Way, TheVariants.{Down, Up}}}
+use Rattle.run_law.specs.declared.{judgement.Reason.Reason, steps.Arrival.TheVariants.{Delivered, Dropped}}
+use Rattle.run_law.specs.{device.Standpoints.{Standpoint, first_reason}, machines.Nodes.TakenFrame}
 use Rattle.run_law.specs.timed.Arrivals.{entry_arrival, entry_entering}
-use Rattle.schedule_tables.specs.Dispatches.{IsBelow}
-use Rattle.schedule_tables.specs.Entries.{IsEntry}
-use Rattle.schedule_tables.specs.Windows.{window_of}
-use Rattle.schedule_tables.specs.declared.entry.Entry.{Entry}
+use Rattle.schedule_tables.specs.{Dispatches.IsBelow, Entries.IsEntry, Windows.window_of, declared.entry.Entry.Entry}
+use Rattle.end_system.specs.declared.entering.{Entering.Entering, EnteringRow.EnteringRow, Key.Key}
+use Rattle.run_law.specs.declared.judgement.Reason.TheVariants as reasons
 
 -- the cycle in which the last frame of the virtual link was taken
 abbrev pub last_by : List TakenFrame → VlId → Option ℕ

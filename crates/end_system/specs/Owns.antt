@@ -1,28 +1,16 @@
 -- What an end system knows of its network.
-use Rattle.std.specs.Prelude.{◌≡◌, ℕ, ◌*◌, ◌+◌, ◌^◌, ◌≤◌, pos, ◌+ℤ◌, ◌*ℤ◌, ◌<ℤ◌, true, false, ◌==◌, if◌then◌else◌, Some, IsSomeAnd}
-use Rattle.end_system.specs.Deeds.{Leaves}
-use Rattle.end_system.specs.declared.own.Own.{Own}
-use Rattle.end_system.specs.declared.own.Uplink.{Uplink}
-use Rattle.net_plan.specs.Paths.{IsUplink}
-use Rattle.net_plan.specs.Places.{is_master, link_at}
-use Rattle.net_plan.specs.Ranges.{IsInRange, IsWithin}
-use Rattle.net_plan.specs.Rules.{IsChildOf}
-use Rattle.net_plan.specs.declared.ids.DeviceId.{DeviceId}
-use Rattle.net_plan.specs.declared.ids.LinkId.{LinkId}
-use Rattle.net_plan.specs.declared.ids.RowId.{RowId}
-use Rattle.net_plan.specs.declared.network.Network.{Network}
-use Rattle.pcf_values.specs.declared.channel.Channel.TheVariants.{A, B}
-use Rattle.pcf_values.specs.declared.channel.Channel.{Channel}
-use Rattle.run_law.specs.machines.Calls.{HasLink, IsLinkAt}
-use Rattle.run_law.specs.machines.Tasks.{offset_of}
-use Rattle.run_law.specs.records.Frames.{dispatched_frame}
+use Rattle.std.specs.Prelude.{if◌then◌else◌, ◌*ℤ◌, ◌*◌, ◌+ℤ◌, ◌+◌, ◌<ℤ◌, ◌==◌, ◌^◌, ◌≡◌, ◌≤◌, IsSomeAnd, Some, false}
+use Rattle.std.specs.Prelude.{pos, true, ℕ}
+use Rattle.net_plan.specs.{Paths.IsUplink, Places.{is_master, link_at}, Ranges.{IsInRange, IsWithin}, Rules.IsChildOf}
+use Rattle.net_plan.specs.declared.{ids.{DeviceId.DeviceId, LinkId.LinkId, RowId.RowId}, network.Network.Network}
+use Rattle.pcf_values.specs.declared.channel.Channel.{Channel, TheVariants.{A, B}}
+use Rattle.run_law.specs.{machines.{Calls.{HasLink, IsLinkAt}, Tasks.offset_of}, records.Frames.dispatched_frame}
 use Rattle.run_law.specs.scenario.Devices.{channel_of_link, has_role, is_cm, is_end, is_parent_of, is_relay, plan_of}
 use Rattle.run_law.specs.scenario.Ways.{wire_of}
-use Rattle.schedule_tables.specs.Margins.{expected_offset}
-use Rattle.schedule_tables.specs.Schedule.{HasPeriod}
+use Rattle.schedule_tables.specs.{Margins.expected_offset, Schedule.HasPeriod}
 use Rattle.sync_state.specs.declared.plan.SyncPlan.{SyncPlan}
-use Rattle.tte_units.specs.Amount.{amount, units_of}
-use Rattle.tte_units.specs.declared.units.Units.{Units}
+use Rattle.tte_units.specs.{Amount.{amount, units_of}, declared.units.Units.Units}
+use Rattle.end_system.specs.{Deeds.Leaves, declared.own.{Own.Own, Uplink.Uplink}}
 
 -- what the network says of the synchronisation of an end system
 abbrev pub end_plan : Network → SyncPlan

@@ -1,20 +1,12 @@
 -- What an end system does with a frame that is permanent.
-use Rattle.std.specs.Prelude.{◌≡◌, Bool, if◌then◌else◌}
-use Rattle.end_system.specs.Controls.{heard_by}
-use Rattle.end_system.specs.Standing.{StandsAsEnd}
-use Rattle.end_system.specs.declared.end_system.EndSystem.{EndSystem}
-use Rattle.net_plan.specs.declared.ids.DeviceId.{DeviceId}
-use Rattle.net_plan.specs.declared.ids.LinkId.{LinkId}
-use Rattle.net_plan.specs.declared.network.Network.{Network}
+use Rattle.std.specs.Prelude.{if◌then◌else◌, ◌≡◌, Bool}
+use Rattle.net_plan.specs.declared.{ids.{DeviceId.DeviceId, LinkId.LinkId}, network.Network.Network}
 use Rattle.pcf_values.specs.declared.pcf.Pcf.{Pcf}
-use Rattle.run_law.specs.declared.steps.Moment.{Moment}
-use Rattle.run_law.specs.declared.steps.Ripe.TheVariants.{Within, Outside, Integrates}
-use Rattle.run_law.specs.declared.steps.Ripe.{Ripe}
-use Rattle.run_law.specs.machines.Answers.{called, with_heard, with_joined}
-use Rattle.run_law.specs.machines.Calls.{MayCall, MayRipen, StandsFor}
-use Rattle.run_law.specs.machines.Nodes.{Node, ripening}
-use Rattle.run_law.specs.scenario.Devices.{channel_of_link}
+use Rattle.run_law.specs.declared.steps.{Moment.Moment, Ripe.{Ripe, TheVariants.{Integrates, Outside, Within}}}
+use Rattle.run_law.specs.machines.{Answers.{called, with_heard, with_joined}, Calls.{MayCall, MayRipen, StandsFor}}
+use Rattle.run_law.specs.{machines.Nodes.{Node, ripening}, scenario.Devices.channel_of_link}
 use Rattle.tte_units.specs.declared.units.Units.{Units}
+use Rattle.end_system.specs.{Controls.heard_by, Standing.StandsAsEnd, declared.end_system.EndSystem.EndSystem}
 
 -- how a frame is heard that is within its time, or not
 abbrev pub heard_so : Bool → Ripe

@@ -1,17 +1,11 @@
 -- The slots of the rows that a device dispatches.
-use Rattle.std.specs.Prelude.{◌≡◌, Bool, ◌&&◌, ◌==◌, ℕ, ◌+◌, ◌*◌, ◌%◌, ◌<◌, ◌≤◌, ℤ, pos, ◌-ℤ◌, List, [], ◌∷◌, Option, Some, None}
 use Rattle.std.specs.List.{All, AllPairs, Contains}
-use Rattle.end_system.specs.declared.own.Own.{Own}
-use Rattle.end_system.specs.declared.rows.Dispatch.{Dispatch}
-use Rattle.end_system.specs.declared.rows.Rows.{Rows}
-use Rattle.end_system.specs.declared.rows.Slot.{Slot}
-use Rattle.net_plan.specs.Ranges.{IsInRange}
-use Rattle.net_plan.specs.declared.ids.DeviceId.{DeviceId}
-use Rattle.net_plan.specs.declared.network.Network.{Network}
-use Rattle.schedule_tables.specs.Dispatches.{IsBelow}
-use Rattle.schedule_tables.specs.Entries.{IsEntry, source_of}
-use Rattle.schedule_tables.specs.declared.entry.Entry.{Entry}
+use Rattle.std.specs.Prelude.{◌%◌, ◌&&◌, ◌*◌, ◌+◌, ◌-ℤ◌, ◌<◌, ◌==◌, ◌∷◌, ◌≡◌, ◌≤◌, Bool, List, None, Option, Some, []}
+use Rattle.std.specs.Prelude.{pos, ℕ, ℤ}
+use Rattle.net_plan.specs.{Ranges.IsInRange, declared.{ids.DeviceId.DeviceId, network.Network.Network}}
+use Rattle.schedule_tables.specs.{Dispatches.IsBelow, Entries.{IsEntry, source_of}, declared.entry.Entry.Entry}
 use Rattle.tte_units.specs.Amount.{amount}
+use Rattle.end_system.specs.declared.{own.Own.Own, rows.{Dispatch.Dispatch, Rows.Rows, Slot.Slot}}
 
 -- the numbers of a slot's place in the cycle, which are compared from the left
 abbrev pub numbers_of : Slot → List ℕ

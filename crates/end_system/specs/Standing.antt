@@ -1,21 +1,13 @@
 -- How an end system stands as a device.
-use Rattle.std.specs.Prelude.{◌≡◌, ℕ, ◌+◌, ◌^◌, ◌≤◌, ℤ, pos, neg_ℤ, ◌+ℤ◌, ◌-ℤ◌, ◌≤ℤ◌, false, None, IfSome}
+use Rattle.std.specs.Prelude.{◌+ℤ◌, ◌+◌, ◌-ℤ◌, ◌^◌, ◌≡◌, ◌≤ℤ◌, ◌≤◌, IfSome, None, false, neg_ℤ, pos, ℕ, ℤ}
 use Rattle.clock_correction.specs.Deviation.{IsSmall}
-use Rattle.end_system.specs.Agendas.{IsAgenda}
-use Rattle.end_system.specs.EnteringRows.{AreEntering}
-use Rattle.end_system.specs.Owns.{IsOwnOf}
-use Rattle.end_system.specs.RowSlots.{AreRowsOf, IsAtSlot}
-use Rattle.end_system.specs.declared.end_system.EndSystem.{EndSystem}
-use Rattle.membership.specs.Summary.{Summary, Summarizes}
-use Rattle.membership.specs.declared.frame.HeardFrame.{HeardFrame}
-use Rattle.net_plan.specs.declared.ids.DeviceId.{DeviceId}
-use Rattle.net_plan.specs.declared.network.Network.{Network}
-use Rattle.run_law.specs.control.Collections.{observation_window}
-use Rattle.run_law.specs.control.Corrections.{correction_value}
-use Rattle.run_law.specs.machines.Nodes.{Node}
+use Rattle.membership.specs.{Summary.{Summarizes, Summary}, declared.frame.HeardFrame.HeardFrame}
+use Rattle.net_plan.specs.declared.{ids.DeviceId.DeviceId, network.Network.Network}
+use Rattle.run_law.specs.{control.{Collections.observation_window, Corrections.correction_value}, machines.Nodes.Node}
 use Rattle.run_law.specs.scenario.Devices.{plan_of}
-use Rattle.sync_state.specs.Plan.{expected_at}
-use Rattle.sync_state.specs.Standing.{Standing, next_point}
+use Rattle.sync_state.specs.{Plan.expected_at, Standing.{Standing, next_point}}
+use Rattle.end_system.specs.{Agendas.IsAgenda, EnteringRows.AreEntering, Owns.IsOwnOf, RowSlots.{AreRowsOf, IsAtSlot}}
+use Rattle.end_system.specs.declared.end_system.EndSystem.{EndSystem}
 
 -- the frame was heard within its time, with this adjustment, and at a reading in the range of runs
 pub record IsHeardSo (network : Network) (s : Standing) (frame : HeardFrame) : Type 0 where

@@ -1,12 +1,10 @@
 -- How an end system judges the head of a time-triggered frame, by what it knows of its network.
-use Rattle.std.specs.Prelude.{ℕ, nat_lt, ◌==◌, if◌then◌else◌, List, Option, Some, None}
-use Rattle.end_system.specs.declared.own.Own.{Own}
-use Rattle.pcf_codec.specs.EtherType.{least_type}
-use Rattle.pcf_codec.specs.Fields.{field}
-use Rattle.run_law.specs.declared.judgement.Reason.TheVariants.{RefusedEtherType, Unsynchronised, Unknown}
-use Rattle.run_law.specs.declared.judgement.Reason.{Reason}
+use Rattle.std.specs.Prelude.{if◌then◌else◌, ◌==◌, List, None, Option, Some, nat_lt, ℕ}
+use Rattle.pcf_codec.specs.{EtherType.least_type, Fields.field}
+use Rattle.run_law.specs.declared.judgement.Reason.{Reason, TheVariants.{RefusedEtherType, Unknown, Unsynchronised}}
 use Rattle.run_law.specs.device.States.{is_synchronised}
 use Rattle.sync_state.specs.declared.state.State.{State}
+use Rattle.end_system.specs.declared.own.Own.{Own}
 
 -- why it is dropped, if it is
 abbrev pub head_fault : Own → State → List ℕ → Option Reason

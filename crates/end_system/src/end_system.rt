@@ -1,19 +1,12 @@
-ghost use Rattle.std.specs.Prelude.{◌≡◌, ◌<◌, ◌≤◌, ◌+◌, ◌^◌, pos, ◌+ℤ◌, ◌≤ℤ◌, [], IfOk, IfSome};
-ghost use Rattle.end_system.specs.Standing.{StandsAsEnd};
-ghost use Rattle.net_plan.specs.Places.{IsEndSystem};
-ghost use Rattle.run_law.specs.machines.Nodes.{begun_node};
-ghost use Rattle.end_system.specs.Acting.{CanPlan, Does, MayDo};
-ghost use Rattle.end_system.specs.Arriving.{HearsControl, HearsTimed, MayHearNow};
-ghost use Rattle.end_system.specs.Ripening.{Joins, Keeps, MayJoin};
-ghost use Rattle.end_system.specs.Agendas.{IsAgenda, IsAgendaAfter};
-ghost use Rattle.end_system.specs.Owns.{IsOwnOf};
-ghost use Rattle.end_system.specs.RowSlots.{AreRowsOf, IsAtSlot};
+ghost use Rattle.std.specs.Prelude.{◌+ℤ◌, ◌+◌, ◌<◌, ◌^◌, ◌≡◌, ◌≤ℤ◌, ◌≤◌, IfOk, IfSome, [], pos};
+ghost use Rattle.net_plan.specs.{Places.IsEndSystem, Ranges.{IsInRange, IsWithin}};
 ghost use Rattle.net_plan.specs.declared.ids.DeviceId.{DeviceId as DeviceIdValue};
-ghost use Rattle.net_plan.specs.Ranges.{IsInRange, IsWithin};
 ghost use Rattle.net_plan.specs.declared.network.Network.{Network as NetworkValue};
-ghost use Rattle.run_law.specs.scenario.Devices.{start_of};
-ghost use Rattle.run_law.specs.device.States.{is_off};
-ghost use Rattle.end_system.specs.declared.agenda.Due.{Due};
+ghost use Rattle.run_law.specs.{device.States.is_off, machines.Nodes.begun_node, scenario.Devices.start_of};
+ghost use Rattle.end_system.specs.{Acting.{CanPlan, Does, MayDo}, Agendas.{IsAgenda, IsAgendaAfter}};
+ghost use Rattle.end_system.specs.{Arriving.{HearsControl, HearsTimed, MayHearNow}, Owns.IsOwnOf};
+ghost use Rattle.end_system.specs.{Ripening.{Joins, Keeps, MayJoin}, RowSlots.{AreRowsOf, IsAtSlot}};
+ghost use Rattle.end_system.specs.{Standing.StandsAsEnd, declared.agenda.Due.Due};
 
 use crate::OutOfMemory;
 use crate::agenda::{Agenda, Appointment, Due, agenda_from, in_next_cycle};

@@ -1,18 +1,15 @@
-ghost use Rattle.std.specs.Prelude.{◌≡◌, ◌≤◌, ◌<◌, ◌&&◌, ◌==◌, ◌%◌, false, nat_le, List, [], All, IfOk, IfSome, length, option_map};
 ghost use Rattle.std.specs.Int.{int_div_euclid, int_rem_euclid};
-ghost use Rattle.end_system.specs.Agendas.{IsLocal};
-ghost use Rattle.end_system.specs.EnteringRows.{AreEntering, AreKeysOf, AreNoneTaken, AreRowsOfKeys, AreSomeEntering, IsKnown, IsTakenSo, enters, fault_of, row_by};
-ghost use Rattle.end_system.specs.Owns.{HasOwnRange, IsLinkOf, IsOwnOf};
-ghost use Rattle.net_plan.specs.Ranges.{IsInRange};
-ghost use Rattle.net_plan.specs.Rules.{IsChildOf};
-ghost use Rattle.net_plan.specs.declared.ids.DeviceId.{DeviceId as DeviceIdValue};
+ghost use Rattle.std.specs.Prelude.{◌%◌, ◌&&◌, ◌<◌, ◌==◌, ◌≡◌, ◌≤◌, All, IfOk, IfSome, List, [], false, length, nat_le};
+ghost use Rattle.std.specs.Prelude.{option_map};
+ghost use Rattle.net_plan.specs.{Ranges.IsInRange, Rules.IsChildOf, declared.ids.DeviceId.DeviceId as DeviceIdValue};
 ghost use Rattle.net_plan.specs.declared.network.Network.{Network as NetworkValue};
-ghost use Rattle.run_law.specs.scenario.Devices.{is_parent_of};
-ghost use Rattle.run_law.specs.machines.Nodes.{TakenFrame};
-ghost use Rattle.run_law.specs.device.Standpoints.{Standpoint, clock_of, natural};
-ghost use Rattle.run_law.specs.timed.Arrivals.{entry_entering, is_taken_in};
-ghost use Rattle.schedule_tables.specs.Entries.{IsEntry};
-ghost use Rattle.schedule_tables.specs.declared.entry.Entry.{Entry as EntryValue};
+ghost use Rattle.run_law.specs.{device.Standpoints.{Standpoint, clock_of, natural}, machines.Nodes.TakenFrame};
+ghost use Rattle.run_law.specs.{scenario.Devices.is_parent_of, timed.Arrivals.{entry_entering, is_taken_in}};
+ghost use Rattle.schedule_tables.specs.{Entries.IsEntry, declared.entry.Entry.Entry as EntryValue};
+ghost use Rattle.end_system.specs.Agendas.{IsLocal};
+ghost use Rattle.end_system.specs.EnteringRows.{AreEntering, AreKeysOf, AreNoneTaken, AreRowsOfKeys, AreSomeEntering};
+ghost use Rattle.end_system.specs.EnteringRows.{IsKnown, IsTakenSo, enters, fault_of, row_by};
+ghost use Rattle.end_system.specs.Owns.{HasOwnRange, IsLinkOf, IsOwnOf};
 
 use crate::OutOfMemory;
 use crate::own::Own;

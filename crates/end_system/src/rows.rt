@@ -1,15 +1,13 @@
-ghost use Rattle.std.specs.Prelude.{◌≡◌, ◌<◌, ◌≤◌, ◌^◌, ◌+◌, ◌*◌, ◌%◌, pos, ◌-ℤ◌, ◌≤ℤ◌, ◌<ℤ◌, [], ◌∷◌, ◌++◌, ℕ, ℤ, List, length, IfOk, IfSome, OnOk, Some};
+ghost use Rattle.std.specs.Prelude.{◌%◌, ◌*◌, ◌++◌, ◌+◌, ◌-ℤ◌, ◌<ℤ◌, ◌<◌, ◌^◌, ◌∷◌, ◌≡◌, ◌≤ℤ◌, ◌≤◌, IfOk, IfSome, List};
+ghost use Rattle.std.specs.Prelude.{OnOk, Some, [], length, pos, ℕ, ℤ};
 ghost use Rattle.clock_correction.specs.Deviation.{IsSmall};
-ghost use Rattle.end_system.specs.Agendas.{IsDispatch, IsLocal};
-ghost use Rattle.end_system.specs.Owns.{HasOwnRange, IsOwnOf};
-ghost use Rattle.end_system.specs.RowSlots.{AreRowsOf, AreSlotsBelow, AreSomeRows, IsAtSlot, IsFirstFrom, is_sent_by};
-ghost use Rattle.net_plan.specs.Ranges.{IsInRange, IsWithin};
-ghost use Rattle.net_plan.specs.declared.ids.DeviceId.{DeviceId as DeviceIdValue};
+ghost use Rattle.net_plan.specs.{Ranges.{IsInRange, IsWithin}, declared.ids.DeviceId.DeviceId as DeviceIdValue};
 ghost use Rattle.net_plan.specs.declared.network.Network.{Network as NetworkValue};
 ghost use Rattle.run_law.specs.machines.Nodes.{ClockTask, dispatching};
-ghost use Rattle.sync_state.specs.Standing.{Standing};
-ghost use Rattle.sync_state.specs.declared.state.State.TheVariants.{Synchronised};
+ghost use Rattle.sync_state.specs.{Standing.Standing, declared.state.State.TheVariants.Synchronised};
 ghost use Rattle.tte_units.specs.Amount.{amount};
+ghost use Rattle.end_system.specs.{Agendas.{IsDispatch, IsLocal}, Owns.{HasOwnRange, IsOwnOf}};
+ghost use Rattle.end_system.specs.RowSlots.{AreRowsOf, AreSlotsBelow, AreSomeRows, IsAtSlot, IsFirstFrom, is_sent_by};
 
 use crate::OutOfMemory;
 use crate::agenda::reading_at;

@@ -1,8 +1,6 @@
 -- One more event behind those of a list.
-use Rattle.std.proofs.Common.{◌≡◌, ◌⊎◌, List, [], ◌∷◌, ◌++◌, inl, inr, refl, sym, ap, ◌∙◌, arith, length-append}
-use Rattle.std.proofs.Math.ListN.{get_or-append}
-use Rattle.std.specs.List.{Any}
-use Rattle.std.proofs.lemmas.List.Quantifiers.{Any-push}
+use Rattle.std.proofs.{Common.{◌++◌, ◌∙◌, ◌∷◌, ◌≡◌, ◌⊎◌, List, [], ap, arith, inl, inr, length-append, refl, sym}, Math.ListN.get_or-append}
+use Rattle.std.{proofs.lemmas.List.Quantifiers.Any-push, specs.List.Any}
 
 -- what holds of some element of a list holds of some element of the longer one
 pub any_left : {X : Type 0} (P : X → Type 0) (xs : List X) (y : X) → Any P xs → Any P (xs ++ y ∷ [])

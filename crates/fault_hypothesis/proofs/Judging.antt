@@ -1,15 +1,8 @@
 -- What the values that a watch keeps say of an event.
-use Rattle.std.proofs.Common.{◌≡◌, ◌≢◌, ◌↔◌, ℕ, Bool, true, false, List, [], ◌∷◌, ◌++◌, Option, Some, None, refl, ap, subst, ◌∙◌}
-use Rattle.std.specs.Prelude.{IsSomeAnd, IsTrue, is_some, nat_lt, not}
-use Rattle.std.proofs.lemmas.Bool.{ltb-true, lt-ltb}
-use Rattle.net_plan.specs.Places.{link_at}
-use Rattle.net_plan.specs.declared.event.Event.{Event}
-use Rattle.net_plan.specs.declared.event.What.TheVariants.{Break, Cut, Send}
-use Rattle.net_plan.specs.declared.ids.DeviceId.{DeviceId}
-use Rattle.net_plan.specs.declared.ids.LinkId.{LinkId}
-use Rattle.net_plan.specs.declared.network.Network.{Network}
-use Rattle.net_plan.specs.declared.tables.Link.{Link}
-use Rattle.net_plan.specs.declared.tables.Way.{Way}
+use Rattle.std.proofs.Common.{◌++◌, ◌↔◌, ◌∙◌, ◌∷◌, ◌≡◌, ◌≢◌, Bool, List, None, Option, Some, [], ap, false, refl, subst, true, ℕ}
+use Rattle.std.{proofs.lemmas.Bool.{lt-ltb, ltb-true}, specs.Prelude.{IsSomeAnd, IsTrue, is_some, nat_lt, not}}
+use Rattle.net_plan.specs.{Places.link_at, declared.{event.{Event.Event, What.TheVariants.{Break, Cut, Send}}, ids.{DeviceId.DeviceId, LinkId.LinkId}}}
+use Rattle.net_plan.specs.declared.{network.Network.Network, tables.{Link.Link, Way.Way}}
 use Rattle.pcf_values.specs.declared.channel.Channel.{Channel}
 use Rattle.run_law.specs.scenario.Faults.{IsBroken, IsFaulty, IsLinkOf}
 use Rattle.run_law.specs.scenario.Hypothesis.{BreaksSecond, CutsOtherChannel, LeavesTooFew, SendsUnbroken, sound_masters}

@@ -1,10 +1,9 @@
 -- The conditions in the order in which they are judged.
-use Rattle.std.proofs.Common.{◌≡◌, ◌⊎◌, inl, inr, ℕ, ◌+◌, ◌-◌, ◌<◌, ◌≤◌, zero, suc, List, [], ◌∷◌, refl, sym, ap, ◌∙◌, arith}
+use Rattle.std.proofs.{Common.{◌+◌, ◌-◌, ◌<◌, ◌∙◌, ◌∷◌, ◌≡◌, ◌≤◌, ◌⊎◌, List, [], ap, arith, inl, inr, refl, suc, sym, zero, ℕ}, lemmas.Bool.cases_order}
 use Rattle.std.specs.List.{slice_index_or}
-use Rattle.std.proofs.lemmas.Bool.{cases_order}
-use Rattle.run_law.specs.scenario.Hypothesis.{condition_number}
 use Rattle.run_law.specs.declared.outside.Outside.{Outside}
-use Rattle.run_law.specs.declared.outside.Outside.TheVariants.{Order, Late, Rate, Wire, Hold, Channel, NotMaster, SecondBreak, TooFewMasters, NotBroken, NotOff}
+use Rattle.run_law.specs.declared.outside.Outside.TheVariants.{Channel, Hold, Late, NotBroken, NotMaster, NotOff, Order, Rate, SecondBreak, TooFewMasters, Wire}
+use Rattle.run_law.specs.scenario.Hypothesis.{condition_number}
 
 -- the conditions, by their numbers
 abbrev pub conditions : List Outside

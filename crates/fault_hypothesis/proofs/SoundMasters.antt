@@ -1,20 +1,12 @@
 -- How many masters are left behind a break.
-use Rattle.std.proofs.Common.{◌≡◌, ◌↔◌, ℕ, ◌+◌, List, [], ◌∷◌, ◌++◌, Bool, true, false, Option, Some, None, refl, sym, ap, ◌∙◌, cond}
-use Rattle.std.specs.Prelude.{◌&&◌, ◌||◌, not, ◌==◌, is_some}
-use Rattle.std.specs.List.{count_by, enumerate_from, list_any}
-use Rattle.std.specs.Option.{option_map_or}
-use Rattle.std.proofs.lemmas.List.Folds.{Any-from_list_any, list_any-from_Any, list_any-append}
-use Rattle.std.proofs.lemmas.List.Sums.{sum_by-cons}
-use Rattle.net_plan.specs.Places.{is_master}
-use Rattle.net_plan.specs.declared.event.Event.{Event}
-use Rattle.net_plan.specs.declared.event.What.{What}
-use Rattle.net_plan.specs.declared.event.What.TheVariants as events
-use Rattle.net_plan.specs.declared.ids.DeviceId.{DeviceId}
-use Rattle.net_plan.specs.declared.network.Network.{Network}
-use Rattle.run_law.specs.scenario.Faults.{IsBroken}
-use Rattle.run_law.specs.scenario.Hypothesis.{breaks_at, is_sound_master, sound_masters}
-use Rattle.fault_hypothesis.specs.SoundMasters.{is_sound_beside}
+use Rattle.std.proofs.Common.{◌++◌, ◌+◌, ◌↔◌, ◌∙◌, ◌∷◌, ◌≡◌, Bool, List, None, Option, Some, [], ap, cond, false, refl, sym, true, ℕ}
+use Rattle.std.proofs.lemmas.List.{Folds.{Any-from_list_any, list_any-append, list_any-from_Any}, Sums.sum_by-cons}
+use Rattle.std.specs.{List.{count_by, enumerate_from, list_any}, Option.option_map_or, Prelude.{◌&&◌, ◌==◌, ◌||◌, is_some, not}}
+use Rattle.net_plan.specs.{Places.is_master, declared.{event.{Event.Event, What.What}, ids.DeviceId.DeviceId, network.Network.Network}}
+use Rattle.run_law.specs.scenario.{Faults.IsBroken, Hypothesis.{breaks_at, is_sound_master, sound_masters}}
 use Rattle.tte_lemmas.proofs.Bools.{same_tests}
+use Rattle.fault_hypothesis.specs.SoundMasters.{is_sound_beside}
+use Rattle.net_plan.specs.declared.event.What.TheVariants as events
 
 -- what breaks the device at a place is a break of it
 breaks_it : (place : ℕ) (what : What) → breaks_at place what ≡ true → (device : DeviceId) × (what ≡ events.Break device) × ((device.0 == place) ≡ true)

@@ -1,16 +1,6 @@
 -- What stands at a place of a list.
-use Rattle.std.proofs.Common.{◌≡◌, ◌↔◌, Bool, true, false, Option, Some, None}
-use Rattle.std.specs.Prelude.{IsSomeAnd, IsTrue}
-use Rattle.std.specs.Bool.{MatchBool}
-use Rattle.std.specs.List.{AllWithin, HoldsAt}
-use Rattle.std.proofs.lemmas.Option.{slice_get-get_or}
-use Rattle.net_plan.specs.Places.{device_at, link_at}
-use Rattle.net_plan.specs.Ranges.{IsInRange, IsLinkInRange}
-use Rattle.net_plan.specs.declared.ids.DeviceId.{DeviceId}
-use Rattle.net_plan.specs.declared.ids.LinkId.{LinkId}
-use Rattle.net_plan.specs.declared.network.Network.{Network}
-use Rattle.net_plan.specs.declared.tables.Device.{Device}
-use Rattle.net_plan.specs.declared.tables.Link.{Link}
+use Rattle.std.{proofs.Common.{◌≡◌, None, Option, Some}, specs.Prelude.IsSomeAnd}
+use Rattle.net_plan.specs.{Places.link_at, Ranges.{IsInRange, IsLinkInRange}, declared.{ids.LinkId.LinkId, network.Network.Network, tables.Link.Link}}
 use Rattle.tte_lemmas.proofs.Lists.{in_all}
 
 -- each link of a network in range is in range

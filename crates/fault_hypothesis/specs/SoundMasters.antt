@@ -1,9 +1,6 @@
 -- The masters that a break leaves.
-use Rattle.std.specs.Prelude.{ℕ, Bool, false, ◌&&◌, not, is_some, ◌==◌, Option}
-use Rattle.std.specs.Option.{option_map_or}
-use Rattle.net_plan.specs.Places.{is_master}
-use Rattle.net_plan.specs.declared.ids.DeviceId.{DeviceId}
-use Rattle.net_plan.specs.declared.tables.Device.{Device}
+use Rattle.std.specs.{Option.option_map_or, Prelude.{◌&&◌, ◌==◌, Bool, Option, false, is_some, not, ℕ}}
+use Rattle.net_plan.specs.{Places.is_master, declared.{ids.DeviceId.DeviceId, tables.Device.Device}}
 
 -- is the device at the place a master that began on, and neither the broken one nor the other?
 abbrev pub is_sound_beside : Option DeviceId → DeviceId → ℕ × Device → Bool

@@ -1,7 +1,5 @@
-ghost use Rattle.std.specs.Prelude.{◌≡◌, ◌↔◌, IsTrue, MatchOption};
-ghost use Rattle.std.specs.Option.{option_copied};
-ghost use Rattle.net_plan.specs.Places.{device_at, link_at};
-ghost use Rattle.net_plan.specs.Rules.{HasOffSwitch};
+ghost use Rattle.std.specs.{Option.option_copied, Prelude.{◌↔◌, ◌≡◌, IsTrue, MatchOption}};
+ghost use Rattle.net_plan.specs.{Places.{device_at, link_at}, Rules.HasOffSwitch};
 ghost use Rattle.pcf_values.specs.declared.channel.Channel.{Channel as ChannelValue};
 ghost use Rattle.run_law.specs.scenario.Faults.{BeginsOn, IsLinkOf};
 

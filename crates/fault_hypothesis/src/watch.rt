@@ -1,12 +1,9 @@
-ghost use Rattle.std.specs.Prelude.{◌≡◌, Some, ◌↔◌, [], ◌∷◌, ◌++◌, List, MatchResult, OnErr, true, slice_set};
-ghost use Rattle.fault_hypothesis.specs.Watching.{Watches};
-ghost use Rattle.net_plan.specs.declared.event.Event.{Event as EventValue};
-ghost use Rattle.net_plan.specs.declared.ids.DeviceId.{DeviceId as DeviceIdValue};
-ghost use Rattle.net_plan.specs.declared.network.Network.{Network};
+ghost use Rattle.std.specs.Prelude.{◌++◌, ◌↔◌, ◌∷◌, ◌≡◌, List, MatchResult, OnErr, Some, [], slice_set, true};
+ghost use Rattle.net_plan.specs.{Belonging.IsOfNetwork, declared.event.Event.Event as EventValue};
+ghost use Rattle.net_plan.specs.declared.{ids.DeviceId.DeviceId as DeviceIdValue, network.Network.Network};
 ghost use Rattle.pcf_values.specs.declared.channel.Channel.{Channel as ChannelValue};
-ghost use Rattle.run_law.specs.scenario.Faults.{IsBroken, IsFaulty};
-ghost use Rattle.run_law.specs.scenario.Hypothesis.{IsWithinHypothesis, IsOutsideBy};
-ghost use Rattle.net_plan.specs.Belonging.{IsOfNetwork};
+ghost use Rattle.run_law.specs.scenario.{Faults.{IsBroken, IsFaulty}, Hypothesis.{IsOutsideBy, IsWithinHypothesis}};
+ghost use Rattle.fault_hypothesis.specs.Watching.{Watches};
 
 use crate::Outside;
 use crate::places::{channel_of, off_channel};

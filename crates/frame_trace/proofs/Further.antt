@@ -1,18 +1,11 @@
 -- A trace takes a further record.
-use Rattle.std.proofs.Common.{◌≡◌, ℕ, List, [], ◌∷◌, ◌++◌, sym, subst, ap, ◌∙◌}
-use Rattle.std.specs.List.{All}
-use Rattle.std.specs.Prelude.{Err, Ok, Result, cond, is_ok, map, option_and_then}
-use Rattle.std.proofs.lemmas.List.{map-append}
-use Rattle.std.proofs.lemmas.List.Elements.{All-append, All-cons, All-nil}
+use Rattle.std.proofs.{Common.{◌++◌, ◌∙◌, ◌∷◌, ◌≡◌, List, [], ap, subst, sym, ℕ}, lemmas.List.{map-append, Elements.{All-append, All-cons, All-nil}}}
+use Rattle.std.specs.{List.All, Prelude.{Err, Ok, Result, cond, is_ok, map, option_and_then}}
 use Rattle.net_plan.specs.declared.network.Network.{Network}
-use Rattle.run_law.proofs.runs.NetworkRuns.{one_more}
-use Rattle.run_law.specs.declared.note.Note.{Note}
-use Rattle.run_law.specs.records.Happenings.{Happening, happening, happenings}
-use Rattle.frame_trace.proofs.Growing.{views_grow}
-use Rattle.frame_trace.proofs.Numbered.{shown_at}
-use Rattle.frame_trace.specs.Keeping.{Grows, IsHeld, Keeps, Traced, TraceView, at_number, kept_shown, traced, traced_by, view_of, views_of}
-use Rattle.frame_trace.specs.RecordOctets.{octets_of}
-use Rattle.frame_trace.specs.declared.kept.Kept.{Kept}
+use Rattle.run_law.{proofs.runs.NetworkRuns.one_more, specs.{declared.note.Note.Note, records.Happenings.{Happening, happening, happenings}}}
+use Rattle.frame_trace.proofs.{Growing.views_grow, Numbered.shown_at}
+use Rattle.frame_trace.specs.Keeping.{Grows, IsHeld, Keeps, TraceView, Traced, at_number, kept_shown, traced, traced_by, view_of, views_of}
+use Rattle.frame_trace.specs.{RecordOctets.octets_of, declared.kept.Kept.Kept}
 
 -- all are held where one more is
 pub one_more_held : (pool : List ℕ) (ks : List Kept) (k : Kept) → All (IsHeld pool) ks → IsHeld pool k → All (IsHeld pool) (ks ++ k ∷ [])

@@ -1,14 +1,11 @@
 -- What is kept stays as it is while more octets of `send` events come.
-use Rattle.std.proofs.Common.{◌≡◌, ℕ, suc, List, [], ◌∷◌, ◌++◌, drop, take, Some, refl, sym, subst, ap, ◌∙◌, arith, length-append, length-drop}
-use Rattle.std.specs.List.{All}
-use Rattle.std.proofs.lemmas.List.{append-nil, drop-append-le, take-append-le}
+use Rattle.std.proofs.Common.{◌++◌, ◌∙◌, ◌∷◌, ◌≡◌, List, Some, [], ap, arith, drop, length-append, length-drop, refl, subst, suc, sym, take, ℕ}
+use Rattle.std.{proofs.lemmas.List.{append-nil, drop-append-le, take-append-le}, specs.List.All}
 use Rattle.net_plan.specs.declared.network.Network.{Network}
 use Rattle.pcf_codec.specs.Decoding.{decoded}
 use Rattle.run_law.specs.records.Happenings.{frame_in}
-use Rattle.frame_trace.specs.Keeping.{Grows, IsHeld, IsPieceOf, Traced, came, piece_in, view_of, views_of}
-use Rattle.frame_trace.specs.declared.kept.Kept.{Kept}
+use Rattle.frame_trace.specs.{Keeping.{Grows, IsHeld, IsPieceOf, Traced, came, piece_in, view_of, views_of}, declared.kept.{Kept.Kept, Piece.Piece}}
 use Rattle.frame_trace.specs.declared.kept.Kept.TheVariants as kept
-use Rattle.frame_trace.specs.declared.kept.Piece.{Piece}
 
 -- nothing more is a growth too
 pub grows_same : (xs : List ℕ) → Grows xs xs

@@ -1,15 +1,11 @@
 -- Looking up by number what is kept of a record.
-use Rattle.std.proofs.Common.{◌≡◌, ℕ, zero, suc, List, [], slice_get, Option, Some, None, refl, sym, ap, ◌∙◌}
-use Rattle.std.specs.List.{All}
-use Rattle.std.specs.Option.{option_map_or}
-use Rattle.std.specs.Prelude.{map, option_and_then, option_map}
-use Rattle.std.proofs.lemmas.Option.{slice_get-map}
+use Rattle.std.{proofs.{Common.{◌∙◌, ◌≡◌, List, None, Option, Some, [], ap, refl, slice_get, suc, sym, zero, ℕ}, lemmas.Option.slice_get-map}, specs.List.All}
+use Rattle.std.specs.{Option.option_map_or, Prelude.{map, option_and_then, option_map}}
 use Rattle.net_plan.specs.declared.network.Network.{Network}
 use Rattle.run_law.specs.records.Happenings.{Happening, frame_from, numbered, octets_from}
-use Rattle.frame_trace.specs.Keeping.{IsHeld, Traced, at_number, kept_frame, kept_octets, kept_shown, traced, view_of, views_of}
-use Rattle.frame_trace.specs.RecordOctets.{record_octets}
-use Rattle.frame_trace.specs.declared.kept.Kept.{Kept}
 use Rattle.tte_lemmas.proofs.Lists.{in_all}
+use Rattle.frame_trace.specs.{Keeping.{IsHeld, Traced, at_number, kept_frame, kept_octets, kept_shown, traced, view_of, views_of}, RecordOctets.record_octets}
+use Rattle.frame_trace.specs.declared.kept.Kept.{Kept}
 
 -- what is kept of the record of this number is held
 pub held_at : (pool : List ℕ) (ks : List Kept) (n : ℕ) (k : Kept) → All (IsHeld pool) ks → at_number ks n ≡ Some k → IsHeld pool k

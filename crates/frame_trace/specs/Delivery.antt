@@ -1,11 +1,7 @@
 -- The octets of a frame that is delivered as it was sent.
-use Rattle.std.specs.Prelude.{◌≡◌, ℕ, List, Some}
-use Rattle.net_plan.specs.declared.ids.DeviceId.{DeviceId}
-use Rattle.net_plan.specs.declared.ids.VlId.{VlId}
-use Rattle.net_plan.specs.declared.tables.VirtualLink.{VirtualLink}
-use Rattle.run_law.specs.law.Safety.{IsDelivered}
-use Rattle.run_law.specs.records.Happenings.{Happening}
-use Rattle.run_law.specs.records.Frames.{tt_frame_by}
+use Rattle.std.specs.Prelude.{◌≡◌, List, Some, ℕ}
+use Rattle.net_plan.specs.declared.{ids.{DeviceId.DeviceId, VlId.VlId}, tables.VirtualLink.VirtualLink}
+use Rattle.run_law.specs.{law.Safety.IsDelivered, records.{Frames.tt_frame_by, Happenings.Happening}}
 use Rattle.run_law.specs.scenario.Scenarios.{Scenario}
 use Rattle.frame_trace.specs.RecordOctets.{record_octets}
 

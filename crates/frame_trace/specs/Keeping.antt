@@ -1,17 +1,13 @@
 -- What a trace keeps of records.
-use Rattle.std.specs.Prelude.{◌≡◌, ℕ, zero, suc, ◌+◌, ◌≤◌, List, [], ◌++◌, length, take, drop, map, slice_get, Option, Some, None, option_map}
+use Rattle.std.specs.Prelude.{◌++◌, ◌+◌, ◌≡◌, ◌≤◌, List, None, Option, Some, [], drop, length, map, option_map}
+use Rattle.std.specs.Prelude.{slice_get, suc, take, zero, ℕ}
 use Rattle.net_plan.specs.declared.network.Network.{Network}
-use Rattle.pcf_codec.specs.Decoding.{decoded}
-use Rattle.pcf_codec.specs.Encoded.{encoded}
+use Rattle.pcf_codec.specs.{Decoding.decoded, Encoded.encoded}
 use Rattle.pcf_values.specs.declared.pcf.Pcf.{Pcf}
-use Rattle.run_law.specs.declared.note.Note.{Note}
-use Rattle.run_law.specs.declared.note.NoteBody.{NoteBody}
-use Rattle.run_law.specs.records.Frames.{tt_frame}
+use Rattle.run_law.specs.{declared.note.{Note.Note, NoteBody.NoteBody}, records.Frames.tt_frame}
 use Rattle.run_law.specs.records.Happenings.{Happening, frame_by, frame_in, happenings, octets_by}
-use Rattle.frame_trace.specs.RecordOctets.{record_octets, shown}
-use Rattle.frame_trace.specs.declared.kept.Kept.{Kept}
+use Rattle.frame_trace.specs.{RecordOctets.{record_octets, shown}, declared.kept.{Kept.Kept, Piece.Piece}}
 use Rattle.frame_trace.specs.declared.kept.Kept.TheVariants as kept
-use Rattle.frame_trace.specs.declared.kept.Piece.{Piece}
 
 -- what is kept of a record: its control frame, its octets, and those that it shows
 pub record Traced : Type 0 where

@@ -1,13 +1,11 @@
 -- The octets of a record's frame, by the record's kind.
-use Rattle.std.specs.Prelude.{ℕ, List, Option, Some, None, option_and_then, option_map}
-use Rattle.net_plan.specs.declared.event.What.TheVariants.{Send}
-use Rattle.net_plan.specs.declared.network.Network.{Network}
+use Rattle.std.specs.Prelude.{List, None, Option, Some, option_and_then, option_map, ℕ}
+use Rattle.net_plan.specs.declared.{event.What.TheVariants.Send, network.Network.Network}
 use Rattle.pcf_codec.specs.Encoded.{encoded}
 use Rattle.pcf_values.specs.declared.pcf.Pcf.{Pcf}
-use Rattle.run_law.specs.declared.note.Note.{Note}
-use Rattle.run_law.specs.declared.note.NoteBody.TheVariants as notes
-use Rattle.run_law.specs.declared.note.NoteBody.{NoteBody}
+use Rattle.run_law.specs.declared.note.{Note.Note, NoteBody.NoteBody}
 use Rattle.run_law.specs.records.Happenings.{Happening, happenings, numbered}
+use Rattle.run_law.specs.declared.note.NoteBody.TheVariants as notes
 
 -- the octets that a record of this body shows, given its control frame, if it is of one, and its octets.
 -- A control frame that a device dispatches, emits, gives to a link or takes is spelt with zero padding; that of a

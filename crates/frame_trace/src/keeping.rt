@@ -1,16 +1,12 @@
 //! What is kept of a further record, given what is kept of those before it.
 
-ghost use Rattle.std.specs.Prelude.{◌≡◌, ◌≤◌, ◌==◌, ℕ, List, length, map, if◌then◌else◌, option_map, IfOk};
-ghost use Rattle.std.specs.List.{All};
-ghost use Rattle.frame_trace.specs.Keeping.{Grows, IsHeld, IsPieceOf, at_number, came, control};
-ghost use Rattle.frame_trace.specs.Keeping.{kept_frame, kept_octets};
-ghost use Rattle.frame_trace.specs.Keeping.{piece_in, silent, traced, traced_by, view_of, views_of};
-ghost use Rattle.net_plan.specs.Ranges.{IsInRange};
-ghost use Rattle.net_plan.specs.declared.network.Network.{Network as NetworkValue};
+ghost use Rattle.std.specs.{List.All, Prelude.{if◌then◌else◌, ◌==◌, ◌≡◌, ◌≤◌, IfOk, List, length, map, option_map, ℕ}};
+ghost use Rattle.net_plan.specs.{Ranges.IsInRange, declared.network.Network.Network as NetworkValue};
 ghost use Rattle.pcf_codec.specs.Decoding.{decoded};
-ghost use Rattle.run_law.specs.declared.note.NoteBody.TheVariants.{Event};
-ghost use Rattle.run_law.specs.records.Frames.{tt_frame};
+ghost use Rattle.run_law.specs.{declared.note.NoteBody.TheVariants.Event, records.Frames.tt_frame};
 ghost use Rattle.run_law.specs.records.Happenings.{Happening, frame_from, frame_in, octets_from, with_clock};
+ghost use Rattle.frame_trace.specs.Keeping.{Grows, IsHeld, IsPieceOf, at_number, came, control, kept_frame};
+ghost use Rattle.frame_trace.specs.Keeping.{kept_octets, piece_in, silent, traced, traced_by, view_of, views_of};
 
 use crate::OutOfMemory;
 use crate::kept::{Kept, Piece};
@@ -141,7 +137,8 @@ fn with_clock(clock: u64, frame: Option<Pcf>) -> Option<Pcf>
 fn reclocked(pool: &[u8], records: &[Kept], number: u64, clock: u64) -> Kept
     requires { All (IsHeld pool.now) records.now }
     ensures held { IsHeld pool.now result }
-    ensures view { (network : NetworkValue) (hs : List Happening) → views_of network pool.now records.now ≡ map traced hs
+    ensures view { (network : NetworkValue) (hs : List Happening)
+        → views_of network pool.now records.now ≡ map traced hs
         → view_of network pool.now result ≡ control (option_map (with_clock clock) (frame_from hs number)) }
 {
     control(with_clock(clock, frame_from(pool, records, number)))

@@ -1,8 +1,7 @@
-ghost use Rattle.std.specs.Prelude.{◌≡◌, ℕ, List, [], ◌∷◌, ◌++◌, IfOk, OnErr, OnOk};
-ghost use Rattle.frame_trace.specs.Keeping.{Keeps};
-ghost use Rattle.frame_trace.specs.RecordOctets.{octets_of};
+ghost use Rattle.std.specs.Prelude.{◌++◌, ◌∷◌, ◌≡◌, IfOk, List, OnErr, OnOk, [], ℕ};
 ghost use Rattle.net_plan.specs.declared.network.Network.{Network};
 ghost use Rattle.run_law.specs.declared.note.Note.{Note as NoteValue};
+ghost use Rattle.frame_trace.specs.{Keeping.Keeps, RecordOctets.octets_of};
 
 use crate::keeping::{kept_at, kept_of};
 use crate::kept::Kept;

@@ -1,19 +1,12 @@
 -- The frame of a virtual link as it is written: a head, and zeros behind it.
-use Rattle.std.proofs.Common.{◌≡◌, ℕ, ◌+◌, ◌-◌, ◌<◌, List, [], ◌++◌, length, Option, Some, None, ap, replicate, sym, ◌∙◌, slice_get, drop, get_or, take, length-append, inl, inr, arith}
-use Rattle.std.specs.Option.{option_map_or}
-use Rattle.std.proofs.Math.Seq.{drop-append_seam, take-append-add}
-use Rattle.std.proofs.lemmas.List.{take-replicate}
-use Rattle.std.proofs.lemmas.Option.{slice_get-get_or, slice_get_cases}
-use Rattle.byteorder.specs.Endian.{big_bytes}
-use Rattle.byteorder.specs.Numbers.{length-bytes_high_first}
-use Rattle.net_plan.specs.Padding.{padded}
-use Rattle.net_plan.specs.Ranges.{IsInRange, IsVlInRange}
-use Rattle.net_plan.specs.declared.ids.VlId.{VlId}
-use Rattle.net_plan.specs.declared.network.Network.{Network}
-use Rattle.net_plan.specs.declared.tables.VirtualLink.{VirtualLink}
+use Rattle.std.proofs.Common.{◌++◌, ◌+◌, ◌-◌, ◌<◌, ◌∙◌, ◌≡◌, List, None, Option, Some, [], ap, arith, drop, get_or, inl, inr, length, length-append, replicate}
+use Rattle.std.proofs.{Common.{slice_get, sym, take, ℕ}, Math.Seq.{drop-append_seam, take-append-add}, lemmas.List.take-replicate}
+use Rattle.std.{proofs.lemmas.Option.{slice_get-get_or, slice_get_cases}, specs.Option.option_map_or}
+use Rattle.byteorder.specs.{Endian.big_bytes, Numbers.length-bytes_high_first}
+use Rattle.net_plan.specs.{Padding.padded, Ranges.{IsInRange, IsVlInRange}, declared.{ids.VlId.VlId, network.Network.Network, tables.VirtualLink.VirtualLink}}
 use Rattle.run_law.specs.records.Frames.{mac_of, tt_frame, tt_frame_by}
-use Rattle.made_frames.specs.Made.{head_of, made_frame}
 use Rattle.tte_lemmas.proofs.Lists.{in_all}
+use Rattle.made_frames.specs.Made.{head_of, made_frame}
 
 -- of a virtual link of the network it is the frame of the law
 pub made_is : (network : Network) (vl : VlId) (cycle : ℕ) → vl.0 < length network.vl

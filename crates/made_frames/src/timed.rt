@@ -1,9 +1,8 @@
 //! Time-triggered frames.
 
-ghost use Rattle.std.specs.Prelude.{◌≡◌, ◌≤◌, ◌<◌, ◌^◌, drop, length, replicate};
+ghost use Rattle.std.specs.Prelude.{◌<◌, ◌^◌, ◌≡◌, ◌≤◌, drop, length, replicate};
+ghost use Rattle.net_plan.specs.{Padding.padded, Ranges.{IsInRange, IsVlInRange}};
 ghost use Rattle.run_law.specs.records.Frames.{mac_of};
-ghost use Rattle.net_plan.specs.Padding.{padded};
-ghost use Rattle.net_plan.specs.Ranges.{IsInRange, IsVlInRange};
 ghost use Rattle.made_frames.specs.Made.{head_of, made_frame};
 
 use byteorder::{BigEndian, ByteOrder};

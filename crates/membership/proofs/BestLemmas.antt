@@ -1,13 +1,9 @@
 -- The best frame of a channel after one more frame.
-use Rattle.std.proofs.Common.{◌≡◌, ◌⊎◌, ℕ, ◌<◌, ℤ, ◌<ℤ◌, List, [], ◌∷◌, ◌++◌, All, Option, Some, None, inl, inr, refl, sym, ap, ◌∙◌, subst, arith, append_assoc}
-use Rattle.std.proofs.lemmas.Int.{ints, by_lt_z}
-use Rattle.std.proofs.lemmas.Bool.{cases_order}
-use Rattle.std.proofs.lemmas.List.Elements.{All-nil, All-cons, All-append, All-push, All-weaker}
+use Rattle.std.proofs.Common.{◌++◌, ◌<ℤ◌, ◌<◌, ◌∙◌, ◌∷◌, ◌≡◌, ◌⊎◌, All, List, None, Option, Some, [], ap, append_assoc, arith, inl, inr, refl, subst, sym, ℕ, ℤ}
+use Rattle.std.proofs.lemmas.{Bool.cases_order, Int.{by_lt_z, ints}, List.Elements.{All-append, All-cons, All-nil, All-push, All-weaker}}
 use Rattle.pcf_values.specs.declared.channel.Channel.{Channel}
+use Rattle.membership.specs.{BestFrame.{IsBehind, IsBest, IsBestOf, IsBetterOf, IsLevel}, Hearing.{Hearing, IsWithinOn, within_on}, Members.count_of}
 use Rattle.membership.specs.declared.frame.HeardFrame.{HeardFrame}
-use Rattle.membership.specs.Hearing.{Hearing, within_on, IsWithinOn}
-use Rattle.membership.specs.Members.{count_of}
-use Rattle.membership.specs.BestFrame.{IsBehind, IsLevel, IsBest, IsBestOf, IsBetterOf}
 
 -- behind it or level with it
 abbrev pub IsNoBetter : HeardFrame → HeardFrame → Type 0

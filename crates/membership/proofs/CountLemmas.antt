@@ -1,16 +1,11 @@
 -- The ones of a number are its bits that are set.
-use Rattle.std.proofs.Common.{◌≡◌, ℕ, zero, suc, ◌+◌, ◌*◌, ◌/◌, ◌%◌, ◌^◌, ◌<◌, Bool, cond, ◌==◌, List, [], ◌∷◌, count_by, count_ones, bit_or, refl, sym, ap, ◌∙◌, arith, add-one}
-use Rattle.std.specs.Int.{bit_at}
-use Rattle.std.specs.Int.Count.{ones_step}
+use Rattle.std.proofs.Common.{◌%◌, ◌*◌, ◌+◌, ◌/◌, ◌<◌, ◌==◌, ◌^◌, ◌∙◌, ◌∷◌, ◌≡◌, Bool, List, [], add-one, ap, arith, bit_or, cond, count_by, count_ones, refl}
+use Rattle.std.proofs.{Common.{suc, sym, zero, ℕ}, Math.Nat.pow-suc, lemmas.{Bool.Decides.nat_tests, List.Sums.sum_by-cons}}
+use Rattle.std.{proofs.lemmas.Nat.{and_le_l, ones_le_self, or_disjoint, Bits.{bit_at-lt, bit_at-suc, bit_at_lowest}}, specs.Int.{bit_at, Count.ones_step}}
 use Rattle.std.specs.List.{range_with_len}
-use Rattle.std.proofs.Math.Nat.{pow-suc}
-use Rattle.std.proofs.lemmas.List.Sums.{sum_by-cons}
-use Rattle.std.proofs.lemmas.Nat.{ones_le_self, or_disjoint, and_le_l}
-use Rattle.std.proofs.lemmas.Nat.Bits.{bit_at-suc, bit_at-lt, bit_at_lowest}
-use Rattle.std.proofs.lemmas.Bool.Decides.{nat_tests}
 use Rattle.pcf_values.specs.declared.members.Members.{Members}
-use Rattle.membership.specs.Members.{IsMember, single, union, count_of}
 use Rattle.tte_lemmas.proofs.Naturals.{or_half, or_parity}
+use Rattle.membership.specs.Members.{IsMember, count_of, single, union}
 
 count_agrees : (p q : ℕ → Bool) (xs : List ℕ) → ((i : ℕ) → p i ≡ q i) → count_by p xs ≡ count_by q xs
 count_agrees p q [] same = refl

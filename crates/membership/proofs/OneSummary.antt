@@ -1,19 +1,11 @@
 -- What is kept of a list of frames is one.
-use Rattle.std.proofs.Common.{◌≡◌, ◌⊎◌, ◌↔◌, ℕ, suc, ◌+◌, ◌-◌, ◌<◌, ℤ, ◌<ℤ◌, List, ◌∷◌, ◌++◌, length, get_or, Option, Some, None, inl, inr, refl, sym, ap, ◌∙◌, subst, arith}
-use Rattle.std.proofs.lemmas.Int.{ints}
-use Rattle.std.proofs.lemmas.Bool.{cases_order, true≢false}
-use Rattle.std.proofs.lemmas.List.{length-append, get_or_at, get_or_append_left, get_or-append-add}
-use Rattle.pcf_values.specs.declared.channel.Channel.{Channel}
-use Rattle.pcf_values.specs.declared.channel.Channel.TheVariants.{A, B}
-use Rattle.pcf_values.specs.declared.members.Members.{Members}
+use Rattle.std.proofs.Common.{◌++◌, ◌+◌, ◌-◌, ◌<ℤ◌, ◌<◌, ◌↔◌, ◌∙◌, ◌∷◌, ◌≡◌, ◌⊎◌, List, None, Option, Some, ap, arith, get_or, inl, inr, length, refl, subst}
+use Rattle.std.proofs.{Common.{suc, sym, ℕ, ℤ}, lemmas.{Bool.{cases_order, true≢false}, Int.ints}}
+use Rattle.std.proofs.lemmas.List.{get_or-append-add, get_or_append_left, get_or_at, length-append}
+use Rattle.pcf_values.specs.declared.{channel.Channel.{Channel, TheVariants.{A, B}}, members.Members.Members}
+use Rattle.membership.{proofs.{BestLemmas.IsNoBetter, SetLemmas.same_members, SummaryLemmas.none_exactly}, specs.BestFrame.{IsBehind, IsBest, IsBestOf}}
+use Rattle.membership.specs.{Hearing.{Hearing, IsWithinOn, within_on}, Members.{IsMember, count_of}, Summary.{Summarizes, Summary}}
 use Rattle.membership.specs.declared.frame.HeardFrame.{HeardFrame}
-use Rattle.membership.specs.Members.{IsMember, count_of}
-use Rattle.membership.specs.Hearing.{Hearing, within_on, IsWithinOn}
-use Rattle.membership.specs.BestFrame.{IsBehind, IsBest, IsBestOf}
-use Rattle.membership.specs.Summary.{Summary, Summarizes}
-use Rattle.membership.proofs.SetLemmas.{same_members}
-use Rattle.membership.proofs.BestLemmas.{IsNoBetter}
-use Rattle.membership.proofs.SummaryLemmas.{none_exactly}
 
 never_both : (m n : ℕ) (p q : ℤ) → ((m < n) ⊎ ((m ≡ n) × (p <ℤ q))) → (((n < m) ⊎ ((n ≡ m) × (q <ℤ p))) ⊎ ((n ≡ m) × (q ≡ p))) → ⊥
 never_both m n p q (inl a) (inl (inl b)) = absurd (omega (arith, a, b))

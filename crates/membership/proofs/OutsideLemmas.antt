@@ -1,14 +1,9 @@
 -- The members of the frames outside after one more frame.
-use Rattle.std.proofs.Common.{◌≡◌, ℕ, List, [], ◌∷◌, ◌++◌, true, false, Any, inl, inr, ◌∙◌, arith}
-use Rattle.std.proofs.lemmas.Bool.{both_ways}
-use Rattle.std.proofs.lemmas.List.{length-append, get_or_append_left}
-use Rattle.std.proofs.lemmas.List.Quantifiers.{Any-push}
+use Rattle.std.proofs.{Common.{◌++◌, ◌∙◌, ◌∷◌, ◌≡◌, Any, List, [], arith, false, inl, inr, true, ℕ}, lemmas.Bool.both_ways}
+use Rattle.std.proofs.lemmas.List.{get_or_append_left, length-append, Quantifiers.Any-push}
 use Rattle.pcf_values.specs.declared.members.Members.{Members}
-use Rattle.membership.specs.Members.{IsMember, union}
-use Rattle.membership.specs.Hearing.{Hearing, IsOutside}
-use Rattle.membership.specs.Summary.{AreOutside}
 use Rattle.tte_lemmas.proofs.Lists.{any_parts}
-use Rattle.membership.proofs.SetLemmas.{union-members}
+use Rattle.membership.{proofs.SetLemmas.union-members, specs.{Hearing.{Hearing, IsOutside}, Members.{IsMember, union}, Summary.AreOutside}}
 
 pub Any-append_left : {X : Type 0} (P : X → Type 0) (xs ys : List X) → Any P xs → Any P (xs ++ ys)
 Any-append_left P xs ys any =

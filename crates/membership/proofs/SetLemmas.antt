@@ -1,8 +1,6 @@
 -- Sets of masters by their bits.
-use Rattle.std.proofs.Common.{◌≡◌, ◌⊎◌, ◌↔◌, ℕ, ◌^◌, inl, inr, sym, ap, ◌∙◌, arith}
-use Rattle.std.specs.Int.{bit_at}
-use Rattle.std.proofs.lemmas.Bool.{cases_eq}
-use Rattle.std.proofs.lemmas.Nat.Bits.{bit_at_or, bit_at-lt, bit_at-pow_same, bit_at-pow_other, bit_at-zero, same_from_bits}
+use Rattle.std.proofs.{Common.{◌^◌, ◌↔◌, ◌∙◌, ◌≡◌, ◌⊎◌, ap, arith, inl, inr, sym, ℕ}, lemmas.Bool.cases_eq}
+use Rattle.std.{proofs.lemmas.Nat.Bits.{bit_at-lt, bit_at-pow_other, bit_at-pow_same, bit_at-zero, bit_at_or, same_from_bits}, specs.Int.bit_at}
 use Rattle.pcf_values.specs.declared.members.Members.{Members}
 use Rattle.membership.specs.Members.{IsMember, none, single, union}
 

@@ -1,18 +1,10 @@
 -- What is kept after one more frame.
-use Rattle.std.proofs.Common.{◌≡◌, ◌↔◌, List, [], ◌∷◌, ◌++◌, length, Bool, true, false, All, Option, Some, None, IsNone, refl, sym, ap, ◌∙◌, subst, arith}
-use Rattle.std.proofs.lemmas.Bool.{both_ways}
-use Rattle.std.proofs.lemmas.List.{length-append, get_or_at}
-use Rattle.std.proofs.lemmas.List.Elements.{All-nil}
-use Rattle.pcf_values.specs.declared.channel.Channel.{Channel}
-use Rattle.pcf_values.specs.declared.channel.Channel.TheVariants.{A, B}
-use Rattle.membership.specs.declared.frame.HeardFrame.{HeardFrame}
-use Rattle.membership.specs.Members.{none, union}
-use Rattle.membership.specs.Hearing.{Hearing, within_on, IsWithinOn}
-use Rattle.membership.specs.BestFrame.{IsBestOf, IsBetterOf, NoneWithin}
-use Rattle.membership.specs.Summary.{Summary, AreOutside, Summarizes, silence, best_on}
-use Rattle.membership.proofs.SetLemmas.{none-members}
-use Rattle.membership.proofs.BestLemmas.{best_stays, best_after}
-use Rattle.membership.proofs.OutsideLemmas.{outside_stays, outside_after}
+use Rattle.std.proofs.Common.{◌++◌, ◌↔◌, ◌∙◌, ◌∷◌, ◌≡◌, All, Bool, IsNone, List, None, Option, Some, [], ap, arith, false, length, refl, subst, sym, true}
+use Rattle.std.proofs.lemmas.{Bool.both_ways, List.{get_or_at, length-append, Elements.All-nil}}
+use Rattle.pcf_values.specs.declared.channel.Channel.{Channel, TheVariants.{A, B}}
+use Rattle.membership.proofs.{BestLemmas.{best_after, best_stays}, OutsideLemmas.{outside_after, outside_stays}, SetLemmas.none-members}
+use Rattle.membership.specs.{BestFrame.{IsBestOf, IsBetterOf, NoneWithin}, Hearing.{Hearing, IsWithinOn, within_on}, Members.{none, union}}
+use Rattle.membership.specs.{Summary.{AreOutside, Summarizes, Summary, best_on, silence}, declared.frame.HeardFrame.HeardFrame}
 
 pub silence_summarizes : Summarizes silence []
 silence_summarizes = record { best = best; outside = outside } where

@@ -1,8 +1,7 @@
-use Rattle.std.specs.Prelude.{◌≡◌, ◌⊎◌, ℕ, ◌<◌, ◌≤◌, ◌<ℤ◌, List, ◌∷◌, ◌++◌, All, Option, Some, None, IsSomeAnd}
+use Rattle.std.specs.Prelude.{◌++◌, ◌<ℤ◌, ◌<◌, ◌∷◌, ◌≡◌, ◌≤◌, ◌⊎◌, All, IsSomeAnd, List, None, Option, Some, ℕ}
 use Rattle.pcf_values.specs.declared.channel.Channel.{Channel}
+use Rattle.membership.specs.{Hearing.{Hearing, IsWithinOn, within_on}, Members.count_of}
 use Rattle.membership.specs.declared.frame.HeardFrame.{HeardFrame}
-use Rattle.membership.specs.Hearing.{Hearing, within_on, IsWithinOn}
-use Rattle.membership.specs.Members.{count_of}
 
 -- the frame has fewer members than the other, or as many and an earlier point
 abbrev pub IsBehind : HeardFrame → HeardFrame → Type 0

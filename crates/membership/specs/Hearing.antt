@@ -1,4 +1,4 @@
-use Rattle.std.specs.Prelude.{◌≡◌, Bool, true, false}
+use Rattle.std.specs.Prelude.{◌≡◌, Bool, false, true}
 use Rattle.pcf_values.specs.declared.channel.Channel.{Channel}
 use Rattle.membership.specs.declared.frame.HeardFrame.{HeardFrame}
 

@@ -1,5 +1,4 @@
-use Rattle.std.specs.Prelude.{◌≡◌, ℕ, ◌^◌, bit_or, count_ones}
-use Rattle.std.specs.Int.{bit_at}
+use Rattle.std.specs.{Int.bit_at, Prelude.{◌^◌, ◌≡◌, bit_or, count_ones, ℕ}}
 use Rattle.pcf_values.specs.declared.members.Members.{Members}
 
 -- the master with member number i is in the set

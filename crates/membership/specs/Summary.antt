@@ -1,11 +1,7 @@
-use Rattle.std.specs.Prelude.{◌≡◌, ◌↔◌, ℕ, List, Option, Some, None, Any, MatchBool}
-use Rattle.pcf_values.specs.declared.channel.Channel.{Channel}
-use Rattle.pcf_values.specs.declared.channel.Channel.TheVariants.{A, B}
-use Rattle.pcf_values.specs.declared.members.Members.{Members}
-use Rattle.membership.specs.declared.frame.HeardFrame.{HeardFrame}
-use Rattle.membership.specs.Members.{IsMember, none, union}
-use Rattle.membership.specs.Hearing.{Hearing, IsOutside}
-use Rattle.membership.specs.BestFrame.{IsBestOf, IsBetterOf}
+use Rattle.std.specs.Prelude.{◌↔◌, ◌≡◌, Any, List, MatchBool, None, Option, Some, ℕ}
+use Rattle.pcf_values.specs.declared.{channel.Channel.{Channel, TheVariants.{A, B}}, members.Members.Members}
+use Rattle.membership.specs.{BestFrame.{IsBestOf, IsBetterOf}, Hearing.{Hearing, IsOutside}}
+use Rattle.membership.specs.{Members.{IsMember, none, union}, declared.frame.HeardFrame.HeardFrame}
 
 -- what is kept of the frames heard: the best of each channel, and the members of those outside
 pub record Summary : Type 0 where

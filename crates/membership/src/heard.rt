@@ -1,6 +1,5 @@
-ghost use Rattle.std.specs.Prelude.{◌≡◌, ◌↔◌, ◌∷◌, [], ◌++◌, List, IsTrue, IsNone};
-ghost use Rattle.membership.specs.Hearing.{Hearing};
-ghost use Rattle.membership.specs.BestFrame.{IsBestOf, IsBetterOf, NoneWithin, Qualifies};
+ghost use Rattle.std.specs.Prelude.{◌++◌, ◌↔◌, ◌∷◌, ◌≡◌, IsNone, IsTrue, List, []};
+ghost use Rattle.membership.specs.{BestFrame.{IsBestOf, IsBetterOf, NoneWithin, Qualifies}, Hearing.Hearing};
 ghost use Rattle.membership.specs.Summary.{AreOutside, Hears, Summarizes, best_on, silence};
 
 use crate::{HeardFrame, count, join};

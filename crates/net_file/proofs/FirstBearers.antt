@@ -1,12 +1,9 @@
 -- What a name means.
-use Rattle.std.proofs.Common.{◌≡◌, ◌≢◌, ℕ, zero, suc, ◌+◌, ◌<◌, Bool, true, false, cond, List, [], ◌∷◌, Option, Some, None, refl, sym, ap, ◌∙◌, arith, subst}
-use Rattle.std.specs.Prelude.{bytes_eq, is_some, slice_get, MatchOption}
-use Rattle.std.specs.List.{position_from}
-use Rattle.std.specs.Cmp.Lexicographic.{bytes_decides}
-use Rattle.std.proofs.lemmas.Bool.{false≢true}
-use Rattle.net_plan.specs.Bearers.{IsFirstBearer, HasNoBearer}
-use Rattle.net_file.specs.Numbering.{MeansFirstBearer, first_of}
+use Rattle.std.proofs.Common.{◌+◌, ◌<◌, ◌∙◌, ◌∷◌, ◌≡◌, ◌≢◌, Bool, List, None, Option, Some, [], ap, arith, cond, false, refl, subst, suc, sym, true, zero, ℕ}
+use Rattle.std.{proofs.lemmas.Bool.false≢true, specs.{Cmp.Lexicographic.bytes_decides, List.position_from, Prelude.{MatchOption, bytes_eq, is_some, slice_get}}}
+use Rattle.net_plan.specs.Bearers.{HasNoBearer, IsFirstBearer}
 use Rattle.tte_lemmas.proofs.Lists.{same_name}
+use Rattle.net_file.specs.Numbering.{MeansFirstBearer, first_of}
 
 -- the answer of a search that begins its count at s
 abbrev Finds : ℕ → List (List ℕ) → List ℕ → Option ℕ → Type 0

@@ -1,13 +1,9 @@
 -- How a numbering grows by a name.
-use Rattle.std.proofs.Common.{◌≡◌, ℕ, ◌+◌, ◌<◌, suc, Bool, true, false, cond, List, [], ◌∷◌, ◌++◌, map, length, take, get_or, Option, Some, None, Bor, refl, sym, ap, arith, subst}
-use Rattle.std.specs.Prelude.{bytes_eq, IfSome}
-use Rattle.std.specs.List.{position_from}
-use Rattle.std.specs.Option.{option_or}
-use Rattle.std.specs.Map.{lookup}
-use Rattle.std.proofs.lemmas.Bool.{false≢true}
-use Rattle.std.proofs.lemmas.List.{take_more, length-take, length-map, map-append}
+use Rattle.std.proofs.Common.{◌++◌, ◌+◌, ◌<◌, ◌∷◌, ◌≡◌, Bool, Bor, List, None, Option, Some, [], ap, arith, cond, false, get_or, length, map, refl, subst, suc}
+use Rattle.std.{proofs.{Common.{sym, take, true, ℕ}, lemmas.{Bool.false≢true, List.{length-map, length-take, map-append, take_more}}}, specs.List.position_from}
+use Rattle.std.specs.{Map.lookup, Option.option_or, Prelude.{IfSome, bytes_eq}}
 use Rattle.indexmap.specs.IndexMap.{insert_entry}
-use Rattle.net_file.specs.Numbering.{Numbering, with_name, first_of, IsBelow}
+use Rattle.net_file.specs.Numbering.{IsBelow, Numbering, first_of, with_name}
 
 abbrev pub Entries : Type 0
 Entries = List (Bor (List ℕ) × ℕ)

@@ -1,10 +1,7 @@
 -- Ranges of the numbers of the whole document.
-use Rattle.std.proofs.Common.{◌≡◌, ◌⊎◌, inl, inr, refl, ℕ, zero, suc, ◌≤◌, Option, Some, None, arith}
-use Rattle.std.specs.Prelude.{IfSome}
-use Rattle.std.specs.Option.{unwrap_or}
+use Rattle.std.{proofs.Common.{◌≡◌, ◌≤◌, ◌⊎◌, None, Option, Some, arith, inl, inr, refl, suc, zero, ℕ}, specs.{Option.unwrap_or, Prelude.IfSome}}
 use Rattle.net_plan.specs.Ranges.{IsWithin}
-use Rattle.tte_units.specs.Amount.{units_of}
-use Rattle.tte_units.specs.declared.units.Units.{Units}
+use Rattle.tte_units.specs.{Amount.units_of, declared.units.Units.Units}
 
 pub one_or_two : (n : ℕ) → 1 ≤ n → n ≤ 2 → (n ≡ 1) ⊎ (n ≡ 2)
 one_or_two zero a b = absurd (omega (arith, a))

@@ -1,7 +1,12 @@
 -- The keys of a network file as they are written.
-use Rattle.std.specs.Prelude.{ℕ, List, codes}
+use Rattle.std.specs.Prelude.{List, codes, ℕ}
 use Rattle.net_file.specs.declared.keys.KeyName.{KeyName}
-use Rattle.net_file.specs.declared.keys.KeyName.TheVariants.{Version, Cycle, Rho, Grain, Dmax, Calc, Settled, Precision, Correction, TtStart, SyncThreshold, Priority, Domain, PcfDestination, Marker, Name, Role, Mac, Member, Channel, Start, Child, Parent, Wire, Jitter, Hold, Speed, Id, Length, Ethertype, Sender, Period, Phase, Way, Offset, Device, Link, Vl, Row}
+use Rattle.net_file.specs.declared.keys.KeyName.TheVariants.{Calc, Channel, Child, Correction, Cycle, Device, Dmax}
+use Rattle.net_file.specs.declared.keys.KeyName.TheVariants.{Domain, Ethertype, Grain, Hold, Id, Jitter, Length, Link}
+use Rattle.net_file.specs.declared.keys.KeyName.TheVariants.{Mac, Marker, Member, Name, Offset, Parent, PcfDestination}
+use Rattle.net_file.specs.declared.keys.KeyName.TheVariants.{Period, Phase, Precision, Priority, Rho, Role, Row, Sender}
+use Rattle.net_file.specs.declared.keys.KeyName.TheVariants.{Settled, Speed, Start, SyncThreshold, TtStart, Version, Vl}
+use Rattle.net_file.specs.declared.keys.KeyName.TheVariants.{Way, Wire}
 
 -- the text of a key
 unfoldable pub key_text : KeyName → List ℕ

@@ -1,10 +1,8 @@
 -- The numbers of things by their names.
-use Rattle.net_plan.specs.Bearers.{IsFirstBearer, HasNoBearer}
-use Rattle.std.specs.Prelude.{ℕ, ◌<◌, IfSome, MatchOption, List, bytes_eq, Option, Some, None, if◌then◌else◌}
-use Rattle.std.specs.Option.{option_or}
-use Rattle.std.specs.List.{position_from}
-use Rattle.std.specs.Borrow.{Bor}
+use Rattle.std.specs.{Borrow.Bor, List.position_from, Option.option_or}
+use Rattle.std.specs.Prelude.{if◌then◌else◌, ◌<◌, IfSome, List, MatchOption, None, Option, Some, bytes_eq, ℕ}
 use Rattle.indexmap.specs.IndexMap.{IndexMap, get_by}
+use Rattle.net_plan.specs.Bearers.{HasNoBearer, IsFirstBearer}
 
 -- which number a name has
 abbrev pub Numbering : Type 0

@@ -1,28 +1,20 @@
 -- The tables of a network file: the keys of each in their order, and what each may hold.
-use Rattle.std.specs.Prelude.{ℕ, ◌^◌, not, List, [], ◌∷◌, ◌++◌, map, length, Option, Some, None, Ok, Err, if◌then◌else◌}
-use Rattle.std.specs.Str.{is_utf8}
 use Rattle.std.specs.Option.{unwrap_or}
-use Rattle.toml.specs.Data.{Data, Items, no_items, item, Members, table}
-use Rattle.toml.specs.Parse.{parse_document}
-use Rattle.net_plan.specs.Bearers.{device_names, link_names, vl_names}
-use Rattle.net_plan.specs.Places.{is_end_system, is_master}
-use Rattle.net_plan.specs.declared.network.Network.{Network}
-use Rattle.net_plan.specs.declared.tables.Device.{Device}
-use Rattle.net_plan.specs.declared.tables.Link.{Link}
+use Rattle.std.specs.Prelude.{if◌then◌else◌, ◌++◌, ◌^◌, ◌∷◌, Err, List, None, Ok, Option, Some, [], length, not, ℕ}
+use Rattle.std.specs.Str.{is_utf8}
+use Rattle.net_plan.specs.{Bearers.{device_names, link_names, vl_names}, Places.{is_end_system, is_master}}
+use Rattle.net_plan.specs.declared.{network.Network.Network, tables.{Device.Device, Link.Link, Role.Role, Row.Row}}
 use Rattle.net_plan.specs.declared.tables.VirtualLink.{VirtualLink}
-use Rattle.net_plan.specs.declared.tables.Row.{Row}
-use Rattle.net_plan.specs.declared.tables.Role.{Role}
-use Rattle.net_plan.specs.declared.tables.Role.TheVariants as roles
-use Rattle.net_file.specs.Reading.{number, whole, time, time_if_there, word, named, nothing_else, tables}
+use Rattle.toml.specs.{Data.{Data, Items, Members, item, no_items, table}, Parse.parse_document}
+use Rattle.tte_units.specs.Amount.{units_of}
 use Rattle.net_file.specs.Numbering.{Numbering, first_of}
-use Rattle.net_file.specs.declared.refusal.FileRefusal.TheVariants.{NotToml}
-use Rattle.net_file.specs.Steps.{Read, ◌>>=◌, only_if}
-use Rattle.net_file.specs.Values.{hex_number, name_of, role_of, channel_of, way_of, speed_of, ethertype_of}
-use Rattle.net_file.specs.declared.keys.KeyName.{KeyName}
-use Rattle.net_file.specs.declared.spots.Place.{Place}
+use Rattle.net_file.specs.Reading.{named, nothing_else, number, tables, time, time_if_there, whole, word}
+use Rattle.net_file.specs.Steps.{◌>>=◌, Read, only_if}
+use Rattle.net_file.specs.Values.{channel_of, ethertype_of, hex_number, name_of, role_of, speed_of, way_of}
+use Rattle.net_file.specs.declared.{keys.KeyName.KeyName, refusal.FileRefusal.TheVariants.NotToml, spots.Place.Place}
+use Rattle.net_plan.specs.declared.tables.Role.TheVariants as roles
 use Rattle.net_file.specs.declared.keys.KeyName.TheVariants as keys
 use Rattle.net_file.specs.declared.spots.TableName.TheVariants as places
-use Rattle.tte_units.specs.Amount.{units_of}
 
 -- the whole document
 abbrev pub document : Place

@@ -1,7 +1,6 @@
 -- Steps of a reading, each of which may be a fault.
-use Rattle.std.specs.Prelude.{◌≡◌, ◌⊎◌, Bool, true, false, Option, Some, None, Result, Ok, Err}
-use Rattle.net_file.specs.declared.refusal.FileRefusal.{FileRefusal}
-use Rattle.net_file.specs.declared.refusal.FileRefusal.TheVariants.{OutOfMemory}
+use Rattle.std.specs.Prelude.{◌≡◌, ◌⊎◌, Bool, Err, None, Ok, Option, Result, Some, false, true}
+use Rattle.net_file.specs.declared.refusal.FileRefusal.{FileRefusal, TheVariants.OutOfMemory}
 
 -- what is read, or the first fault
 abbrev pub Read : Type 0 → Type 0

@@ -1,18 +1,14 @@
 -- What the values of a network file mean.
-use Rattle.std.specs.Prelude.{ℕ, ◌==◌, ◌&&◌, nat_le, Bool, ℤ, pos, negsuc, List, codes, bytes_eq, length, Option, Some, None, Result, Ok, Err, if◌then◌else◌}
 use Rattle.std.specs.List.{list_all}
+use Rattle.std.specs.Prelude.{if◌then◌else◌, ◌&&◌, ◌==◌, Bool, Err, List, None, Ok, Option, Result, Some, bytes_eq}
+use Rattle.std.specs.Prelude.{codes, length, nat_le, negsuc, pos, ℕ, ℤ}
 use Rattle.byteorder.specs.Endian.{big_number}
-use Rattle.hex.specs.Hex.{decode_sized}
-use Rattle.hex.specs.declared.error.FromHexError.{FromHexError}
-use Rattle.net_plan.specs.NameText.{is_name_character}
-use Rattle.net_plan.specs.declared.tables.Role.{Role}
-use Rattle.net_plan.specs.declared.tables.Role.TheVariants.{Master, Client, Cm, Relay}
-use Rattle.net_plan.specs.declared.tables.Way.{Way}
-use Rattle.net_plan.specs.declared.tables.Way.TheVariants.{Up, Down}
-use Rattle.pcf_values.specs.declared.channel.Channel.{Channel}
-use Rattle.pcf_values.specs.declared.channel.Channel.TheVariants.{A, B}
-use Rattle.tte_units.specs.declared.speed.Speed.{Speed}
-use Rattle.tte_units.specs.declared.speed.Speed.TheVariants.{Mbit100, Gbit1}
+use Rattle.hex.specs.{Hex.decode_sized, declared.error.FromHexError.FromHexError}
+use Rattle.net_plan.specs.{NameText.is_name_character, declared.tables.Role.Role}
+use Rattle.net_plan.specs.declared.tables.{Role.TheVariants.{Client, Cm, Master, Relay}, Way.Way}
+use Rattle.net_plan.specs.declared.tables.Way.TheVariants.{Down, Up}
+use Rattle.pcf_values.specs.declared.channel.Channel.{Channel, TheVariants.{A, B}}
+use Rattle.tte_units.specs.declared.speed.Speed.{Speed, TheVariants.{Gbit1, Mbit100}}
 
 -- a whole number from low to high
 abbrev pub number_within : ℕ → ℕ → ℤ → Option ℕ

@@ -1,13 +1,9 @@
-ghost use Rattle.std.specs.Prelude.{◌≡◌, ◌<◌, ◌^◌, ◌≤◌, [], length, IfOk, IfSome, is_some, not};
-ghost use Rattle.std.specs.List.{All};
-ghost use Rattle.net_plan.specs.Ranges.{IsDeviceInRange};
-ghost use Rattle.net_plan.specs.Places.{is_master, is_end_system};
-ghost use Rattle.toml.specs.View.{view, items_view};
-ghost use Rattle.net_file.specs.Reading.{whole, word};
-ghost use Rattle.net_file.specs.Schema.{device_of, device_keys, each};
-ghost use Rattle.net_file.specs.declared.keys.KeyName.TheVariants as keys;
-ghost use Rattle.net_file.specs.Steps.{Gives, only_if};
+ghost use Rattle.std.specs.{List.All, Prelude.{◌<◌, ◌^◌, ◌≡◌, ◌≤◌, IfOk, IfSome, [], is_some, length, not}};
+ghost use Rattle.net_plan.specs.{Places.{is_end_system, is_master}, Ranges.IsDeviceInRange};
+ghost use Rattle.toml.specs.View.{items_view, view};
+ghost use Rattle.net_file.specs.{Reading.{whole, word}, Schema.{device_keys, device_of, each}, Steps.{Gives, only_if}};
 ghost use Rattle.net_file.specs.Values.{channel_of};
+ghost use Rattle.net_file.specs.declared.keys.KeyName.TheVariants as keys;
 
 use crate::index::next_index;
 use crate::reader::Reader;

@@ -1,12 +1,8 @@
-ghost use Rattle.std.specs.Prelude.{◌≡◌, ◌≤◌, ◌⊎◌, length, IfOk, MatchResult, Some, None};
-ghost use Rattle.std.specs.Str.{is_utf8};
+ghost use Rattle.std.specs.{Prelude.{◌≡◌, ◌≤◌, ◌⊎◌, IfOk, MatchResult, None, Some, length}, Str.is_utf8};
 ghost use Rattle.net_plan.specs.Ranges.{IsInRange};
-ghost use Rattle.toml.specs.Data.{table};
-ghost use Rattle.toml.specs.Parse.{parse_document};
-ghost use Rattle.toml.specs.View.{view};
-ghost use Rattle.net_file.specs.Schema.{network_of, network_in, network_read, parsed};
-ghost use Rattle.net_file.specs.Steps.{Gives};
-ghost use Rattle.net_file.specs.declared.refusal.FileRefusal.TheVariants.{OutOfMemory, NotToml};
+ghost use Rattle.toml.specs.{Data.table, Parse.parse_document, View.view};
+ghost use Rattle.net_file.specs.{Schema.{network_in, network_of, network_read, parsed}, Steps.Gives};
+ghost use Rattle.net_file.specs.declared.refusal.FileRefusal.TheVariants.{NotToml, OutOfMemory};
 
 use crate::device::read_devices;
 use crate::document::{DOCUMENT, read_document};

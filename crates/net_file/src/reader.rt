@@ -1,13 +1,11 @@
-ghost use Rattle.std.specs.Prelude.{◌≡◌, ◌≤◌, ◌<◌, ◌^◌, MatchResult, Ok, Err, ◌≢◌, ℕ, IfOk, IfSome, is_some};
-ghost use Rattle.toml.specs.Data.{as_table, get};
-ghost use Rattle.toml.specs.View.{view, items_view, table_view};
-ghost use Rattle.net_file.specs.KeyTexts.{key_text};
+ghost use Rattle.std.specs.Prelude.{◌<◌, ◌^◌, ◌≡◌, ◌≢◌, ◌≤◌, Err, IfOk, IfSome, MatchResult, Ok, is_some, ℕ};
+ghost use Rattle.net_plan.specs.{NameText.IsNameText, Ranges.IsWithin};
+ghost use Rattle.toml.specs.{Data.{as_table, get}, View.{items_view, table_view, view}};
+ghost use Rattle.net_file.specs.{KeyTexts.key_text, Numbering.{IsBelow, numbering}};
+ghost use Rattle.net_file.specs.Reading.{are_keys_of, are_tables, has_only, integer_of, is_key_of, named, nothing_else};
+ghost use Rattle.net_file.specs.Reading.{number, spot, tables, text_of, time, time_if_there, value_of, whole, word};
+ghost use Rattle.net_file.specs.Values.{channel_of, ethertype_of, hex_number, name_of, role_of, speed_of, way_of};
 ghost use Rattle.net_file.specs.declared.refusal.FileRefusal.TheVariants.{Range};
-ghost use Rattle.net_plan.specs.NameText.{IsNameText};
-ghost use Rattle.net_plan.specs.Ranges.{IsWithin};
-ghost use Rattle.net_file.specs.Numbering.{numbering, IsBelow};
-ghost use Rattle.net_file.specs.Reading.{spot, value_of, integer_of, number, whole, text_of, word, time, time_if_there, named, is_key_of, are_keys_of, has_only, nothing_else, are_tables, tables};
-ghost use Rattle.net_file.specs.Values.{hex_number, name_of, role_of, channel_of, way_of, speed_of, ethertype_of};
 
 use crate::names::Names;
 use crate::spots::Place;

@@ -1,12 +1,7 @@
-ghost use Rattle.std.specs.Prelude.{◌≡◌, ◌<◌, ◌^◌, [], length, IfOk};
-ghost use Rattle.std.specs.List.{All};
-ghost use Rattle.net_plan.specs.Ranges.{IsRowInRange};
-ghost use Rattle.net_plan.specs.declared.network.Network.{Network};
-ghost use Rattle.toml.specs.View.{view, items_view};
-ghost use Rattle.net_file.specs.Numbering.{numbering, first_of, IsBelow};
-ghost use Rattle.net_file.specs.Schema.{row_of, each};
-ghost use Rattle.net_plan.specs.Bearers.{vl_names, link_names};
-ghost use Rattle.net_file.specs.Steps.{Gives};
+ghost use Rattle.std.specs.{List.All, Prelude.{◌<◌, ◌^◌, ◌≡◌, IfOk, [], length}};
+ghost use Rattle.net_plan.specs.{Bearers.{link_names, vl_names}, Ranges.IsRowInRange, declared.network.Network.Network};
+ghost use Rattle.toml.specs.View.{items_view, view};
+ghost use Rattle.net_file.specs.{Numbering.{IsBelow, first_of, numbering}, Schema.{each, row_of}, Steps.Gives};
 
 use crate::index::next_index;
 use crate::names::Names;

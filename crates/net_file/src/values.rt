@@ -1,8 +1,8 @@
-ghost use Rattle.std.specs.Prelude.{◌≡◌, ◌≤◌, ◌<◌, ◌^◌, ◌≢◌, IfSome, IsTrue, length};
-ghost use Rattle.std.specs.List.{list_all, AllPass};
+ghost use Rattle.std.specs.{List.{AllPass, list_all}, Prelude.{◌<◌, ◌^◌, ◌≡◌, ◌≢◌, ◌≤◌, IfSome, IsTrue, length}};
 ghost use Rattle.byteorder.specs.Endian.{big_number};
-ghost use Rattle.net_plan.specs.NameText.{is_name_character, IsNameText};
-ghost use Rattle.net_file.specs.Values.{number_within, hex_number, name_of, is_name_text, role_of, channel_of, way_of, speed_of, ethertype_of};
+ghost use Rattle.net_plan.specs.NameText.{IsNameText, is_name_character};
+ghost use Rattle.net_file.specs.Values.{channel_of, ethertype_of, hex_number, is_name_text, name_of, number_within};
+ghost use Rattle.net_file.specs.Values.{role_of, speed_of, way_of};
 
 use byteorder::{BigEndian, ByteOrder};
 use net_plan::{Name, Role, Way};

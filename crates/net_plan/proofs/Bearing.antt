@@ -1,8 +1,7 @@
 -- What a search by name finds is the first bearer.
-use Rattle.std.proofs.Common.{◌≡◌, ◌≢◌, ℕ, zero, suc, ◌<◌, List, [], ◌∷◌, map, length, Option, Some, MatchOption, refl, ap, ◌∙◌, arith, rules}
-use Rattle.std.specs.List.{AllWithin, HoldsAt, slice_get}
-use Rattle.std.proofs.lemmas.Option.{slice_get-map, slice_get_within, slice_get-get_or, get_or_from_slice_get}
-use Rattle.net_plan.specs.Bearers.{IsFirstBearer, HasNoBearer}
+use Rattle.std.proofs.Common.{◌<◌, ◌∙◌, ◌∷◌, ◌≡◌, ◌≢◌, List, MatchOption, Option, Some, [], ap, arith, length, map, refl, rules, suc, zero, ℕ}
+use Rattle.std.{proofs.lemmas.Option.{get_or_from_slice_get, slice_get-get_or, slice_get-map, slice_get_within}, specs.List.{AllWithin, HoldsAt, slice_get}}
+use Rattle.net_plan.specs.Bearers.{HasNoBearer, IsFirstBearer}
 
 -- the element behind an element of a mapped list
 pub behind : {X : Type 0} (f : X → List ℕ) (xs : List X) (k : ℕ) (y : List ℕ) → slice_get (map f xs) k ≡ Some y → (x : X) × (slice_get xs k ≡ Some x)

@@ -1,16 +1,12 @@
 -- A network of trees has one beta.
-use Rattle.std.proofs.Common.{◌≡◌, ℕ, zero, suc, pos, ◌+◌, max, Bool, true, false, Option, Some, None, List, length, refl, sym, ap, ◌∙◌, subst, inl, inr, ⊎_elim, ◌⊎◌, arith}
-use Rattle.std.specs.Prelude.{IsSomeAnd}
-use Rattle.net_plan.specs.Bounds.{IsGreatest, IsOfPath, IsOfPathOn, IsOfPathFrom, BetaIsUnique, BetaExists, beta_at, jitter_on}
-use Rattle.net_plan.specs.Paths.{IsTree}
-use Rattle.net_plan.specs.Places.{device_at, is_end_system, IsDeviceOf}
-use Rattle.net_plan.specs.declared.ids.DeviceId.{DeviceId}
-use Rattle.net_plan.specs.declared.ids.LinkId.{LinkId}
-use Rattle.net_plan.specs.declared.network.Network.{Network}
+use Rattle.std.proofs.Common.{◌+◌, ◌∙◌, ◌≡◌, ◌⊎◌, Bool, List, None, Option, Some, ap, arith, false, inl, inr, length, max, pos, refl, subst, suc, sym, true}
+use Rattle.std.{proofs.Common.{zero, ℕ, ⊎_elim}, specs.Prelude.IsSomeAnd}
+use Rattle.pcf_values.specs.declared.channel.Channel.{Channel, TheVariants.{A, B}}
+use Rattle.net_plan.proofs.Greatest.{IsOfPathBelow, greatest_below_all, greatest_below_more, greatest_below_none, greatest_from_none, greatest_from_path}
+use Rattle.net_plan.proofs.Greatest.{greatest_is_unique, greatest_of_channels}
+use Rattle.net_plan.specs.{Bounds.{BetaExists, BetaIsUnique, IsGreatest, IsOfPath, IsOfPathFrom, IsOfPathOn, beta_at, jitter_on}, Paths.IsTree}
+use Rattle.net_plan.specs.{Places.{IsDeviceOf, device_at, is_end_system}, declared.{ids.{DeviceId.DeviceId, LinkId.LinkId}, network.Network.Network}}
 use Rattle.net_plan.specs.declared.tables.Device.{Device}
-use Rattle.net_plan.proofs.Greatest.{greatest_is_unique, greatest_from_path, greatest_from_none, greatest_below_none, greatest_below_more, greatest_below_all, greatest_of_channels, IsOfPathBelow}
-use Rattle.pcf_values.specs.declared.channel.Channel.{Channel}
-use Rattle.pcf_values.specs.declared.channel.Channel.TheVariants.{A, B}
 
 pub beta_is_unique : BetaIsUnique
 beta_is_unique n b other g h =

@@ -1,19 +1,9 @@
 -- Three switches in a chain are a tree.
-use Rattle.std.proofs.Common.{◌≡◌, ℕ, zero, suc, true, false, ◌≤◌, List, [], ◌∷◌, length, Option, Some, refl, sym, ap, ◌∙◌, subst, inl, inr, ⊎_elim, ◌⊎◌, arith}
-use Rattle.std.specs.Prelude.{IsSomeAnd, slice_get}
-use Rattle.std.specs.List.{All}
-use Rattle.std.proofs.lemmas.Bool.{false≢true}
-use Rattle.net_plan.specs.Paths.{IsUplink, IsPath, HasPath, IsTree}
-use Rattle.net_plan.specs.Places.{is_end_system, IsSwitchOf, IsCmOf, IsDeviceOf}
-use Rattle.net_plan.specs.declared.ids.DeviceId.{DeviceId}
-use Rattle.net_plan.specs.declared.ids.LinkId.{LinkId}
-use Rattle.net_plan.specs.declared.network.Network.{Network}
-use Rattle.net_plan.specs.declared.tables.Device.{Device}
-use Rattle.net_plan.specs.declared.tables.Link.{Link}
-use Rattle.net_plan.specs.declared.tables.Role.{Role}
-use Rattle.net_plan.specs.declared.tables.Role.TheVariants.{Cm, Relay}
-use Rattle.pcf_values.specs.declared.channel.Channel.{Channel}
-use Rattle.pcf_values.specs.declared.channel.Channel.TheVariants.{A}
+use Rattle.std.proofs.Common.{◌∙◌, ◌∷◌, ◌≡◌, ◌≤◌, ◌⊎◌, List, Option, Some, [], ap, arith, false, inl, inr, length, refl, subst, suc, sym, true, zero, ℕ, ⊎_elim}
+use Rattle.std.{proofs.lemmas.Bool.false≢true, specs.{List.All, Prelude.{IsSomeAnd, slice_get}}}
+use Rattle.pcf_values.specs.declared.channel.Channel.{Channel, TheVariants.A}
+use Rattle.net_plan.specs.{Paths.{HasPath, IsPath, IsTree, IsUplink}, Places.{IsCmOf, IsDeviceOf, IsSwitchOf, is_end_system}, declared.ids.DeviceId.DeviceId}
+use Rattle.net_plan.specs.declared.{ids.LinkId.LinkId, network.Network.Network, tables.{Device.Device, Link.Link, Role.{Role, TheVariants.{Cm, Relay}}}}
 
 -- the devices are two relays and the compression master of channel a, each linked to the next
 pub record IsChain (n : Network) : Type 0 where
@@ -93,7 +83,8 @@ bottom n s =
     some_at (λ (l : Link). (l.child ≡ record { 0 = 0 }) × IsSwitchOf n A l.parent × IsPath n A l.parent (record { 0 = 1 } ∷ [])) n.link (s.low ∷ s.high ∷ []) 0
     s.links (
       ap (λ (i : ℕ). let d : DeviceId = record { 0 = i } in d) s.low_child,
-      subst (λ (i : ℕ). IsSwitchOf n A (record { 0 = i })) (sym s.low_parent) (some_at (λ (x : Device). x.channel ≡ Some A) n.device (s.one ∷ s.two ∷ s.cm ∷ []) 1
+      subst (λ (i : ℕ). IsSwitchOf n A (record { 0 = i })) (sym s.low_parent)
+          (some_at (λ (x : Device). x.channel ≡ Some A) n.device (s.one ∷ s.two ∷ s.cm ∷ []) 1
           s.devices s.two_channel),
       subst (λ (i : ℕ). IsPath n A (record { 0 = i }) (record { 0 = 1 } ∷ [])) (sym s.low_parent) (middle n s),
     )

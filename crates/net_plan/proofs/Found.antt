@@ -1,14 +1,7 @@
 -- What a search among the devices tells.
-use Rattle.std.proofs.Common.{◌≡◌, ◌↔◌, Bool, true, false, ℕ, ◌<◌, List, [], ◌∷◌, length, refl, subst, sym, arith, zero, suc, Option, Some, None}
-use Rattle.std.specs.Prelude.{IsSomeAnd, IsTrue, slice_get}
-use Rattle.std.specs.Bool.{MatchBool}
-use Rattle.std.specs.List.{AllWithin, HoldsAt}
-use Rattle.std.proofs.lemmas.Bool.{false≢true}
-use Rattle.std.proofs.lemmas.Option.{slice_get-get_or}
-use Rattle.net_plan.specs.Places.{device_at}
-use Rattle.net_plan.specs.declared.ids.DeviceId.{DeviceId}
-use Rattle.net_plan.specs.declared.network.Network.{Network}
-use Rattle.net_plan.specs.declared.tables.Device.{Device}
+use Rattle.std.proofs.{Common.{◌<◌, ◌↔◌, ◌∷◌, Bool, List, Option, [], arith, false, length, refl, subst, suc, sym, true, zero, ℕ}, lemmas.Bool.false≢true}
+use Rattle.std.{proofs.lemmas.Option.slice_get-get_or, specs.{Bool.MatchBool, List.{AllWithin, HoldsAt}, Prelude.{IsSomeAnd, IsTrue, slice_get}}}
+use Rattle.net_plan.specs.{Places.device_at, declared.{ids.DeviceId.DeviceId, network.Network.Network, tables.Device.Device}}
 
 some_at : {X : Type 0} (P : X → Type 0) (xs : List X) (k : ℕ) → k < length xs → HoldsAt P xs k → IsSomeAnd (slice_get xs k) P
 some_at P [] k below h = absurd (omega (arith, below))

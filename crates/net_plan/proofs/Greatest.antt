@@ -1,17 +1,10 @@
 -- The greatest of some numbers, of two kinds together and over the paths of a channel.
-use Rattle.std.proofs.Common.{◌≡◌, ℕ, ◌+◌, ◌<◌, ◌≤◌, max, List, length, refl, sym, ap, ◌∙◌, subst, inl, inr, ⊎_elim, ◌⊎◌, arith}
-use Rattle.std.proofs.lemmas.Bool.{cases_lt}
+use Rattle.std.proofs.{Common.{◌+◌, ◌<◌, ◌∙◌, ◌≡◌, ◌≤◌, ◌⊎◌, List, ap, arith, inl, inr, length, max, refl, subst, sym, ℕ, ⊎_elim}, lemmas.Bool.cases_lt}
 use Rattle.std.proofs.lemmas.Option.{slice_get_within}
-use Rattle.net_plan.specs.Bounds.{IsGreatest, IsOfPathFrom, IsOfPathOn, IsOfPath}
-use Rattle.net_plan.specs.Paths.{IsPath, IsTree}
-use Rattle.net_plan.specs.Places.{IsDeviceOf, device_at, is_end_system}
-use Rattle.net_plan.specs.declared.ids.DeviceId.{DeviceId}
-use Rattle.net_plan.specs.declared.ids.LinkId.{LinkId}
-use Rattle.net_plan.specs.declared.network.Network.{Network}
-use Rattle.net_plan.proofs.Trees.{paths_are_unique}
-use Rattle.pcf_values.specs.declared.channel.Channel.{Channel}
-use Rattle.pcf_values.specs.declared.channel.Channel.TheVariants.{A, B}
+use Rattle.pcf_values.specs.declared.channel.Channel.{Channel, TheVariants.{A, B}}
 use Rattle.tte_lemmas.proofs.Options.{opened}
+use Rattle.net_plan.{proofs.Trees.paths_are_unique, specs.{Bounds.{IsGreatest, IsOfPath, IsOfPathFrom, IsOfPathOn}, Paths.{IsPath, IsTree}}}
+use Rattle.net_plan.specs.{Places.{IsDeviceOf, device_at, is_end_system}, declared.{ids.{DeviceId.DeviceId, LinkId.LinkId}, network.Network.Network}}
 
 -- no two numbers are the greatest
 pub greatest_is_unique : (Has : ℕ → Type 0) (m n : ℕ) → IsGreatest Has m → IsGreatest Has n → m ≡ n

@@ -1,7 +1,6 @@
 -- Octets in front of zeros.
-use Rattle.std.proofs.Common.{ℕ, ◌≤◌, List, ◌++◌, length, drop, replicate, ◌∙◌, arith, length-append, length-drop}
+use Rattle.std.proofs.{Common.{◌++◌, ◌∙◌, ◌≤◌, List, arith, drop, length, length-append, length-drop, replicate, ℕ}, Math.Seq.drop-append_seam}
 use Rattle.std.proofs.lemmas.List.{drop-replicate, length-replicate}
-use Rattle.std.proofs.Math.Seq.{drop-append_seam}
 use Rattle.net_plan.specs.Padding.{IsPadded}
 
 pub padded_front : (size : ℕ) (xs : List ℕ) → length xs ≤ size → IsPadded size (xs ++ drop (length xs) (replicate size 0)) (length xs)

@@ -1,9 +1,6 @@
 -- Devices, links and virtual links are the same where their numbers are.
-use Rattle.std.proofs.Common.{Option, Some, ap, false, refl, sym, true, ℕ, ◌==◌, ◌≡◌}
-use Rattle.std.proofs.lemmas.Bool.{eq-eqb, eqb-true, ne_eqb}
-use Rattle.net_plan.specs.declared.ids.DeviceId.{DeviceId}
-use Rattle.net_plan.specs.declared.ids.LinkId.{LinkId}
-use Rattle.net_plan.specs.declared.ids.VlId.{VlId}
+use Rattle.std.proofs.{Common.{◌==◌, ◌≡◌, Option, Some, ap, false, refl, sym, true, ℕ}, lemmas.Bool.{eq-eqb, eqb-true, ne_eqb}}
+use Rattle.net_plan.specs.declared.ids.{DeviceId.DeviceId, LinkId.LinkId, VlId.VlId}
 
 -- devices of one number are one
 pub same_device : (a b : DeviceId) → a.0 ≡ b.0 → a ≡ b

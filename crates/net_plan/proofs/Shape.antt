@@ -1,18 +1,11 @@
 -- The rules of a network's shape make its links a tree on each channel.
-use Rattle.std.proofs.Common.{◌≡◌, true, List, [], ◌∷◌, Some, sym, ◌∙◌, subst, ⊎_elim, arith}
-use Rattle.std.proofs.lemmas.Bool.{false≢true}
-use Rattle.net_plan.specs.Paths.{IsUplink, IsPath, IsFirstPath, HasPath, LeadsToCm}
-use Rattle.net_plan.specs.Places.{device_at, link_at, is_end_system, IsEndSystem, IsSwitchOf, IsRoleOf, IsCmOf}
-use Rattle.net_plan.specs.Rules.{KeepsShapeRules, IsChildOf, RulesGiveTrees}
-use Rattle.net_plan.specs.declared.ids.DeviceId.{DeviceId}
-use Rattle.net_plan.specs.declared.ids.LinkId.{LinkId}
-use Rattle.net_plan.specs.declared.network.Network.{Network}
-use Rattle.net_plan.specs.declared.tables.Device.{Device}
-use Rattle.net_plan.specs.declared.tables.Link.{Link}
-use Rattle.net_plan.specs.declared.tables.Role.{Role}
-use Rattle.net_plan.specs.declared.tables.Role.TheVariants.{Cm, Relay}
+use Rattle.std.proofs.{Common.{◌∙◌, ◌∷◌, ◌≡◌, List, Some, [], arith, subst, sym, true, ⊎_elim}, lemmas.Bool.false≢true}
 use Rattle.pcf_values.specs.declared.channel.Channel.{Channel}
 use Rattle.tte_lemmas.proofs.Options.{at_known, closed, opened}
+use Rattle.net_plan.specs.Paths.{HasPath, IsFirstPath, IsPath, IsUplink, LeadsToCm}
+use Rattle.net_plan.specs.Places.{IsCmOf, IsEndSystem, IsRoleOf, IsSwitchOf, device_at, is_end_system, link_at}
+use Rattle.net_plan.specs.{Rules.{IsChildOf, KeepsShapeRules, RulesGiveTrees}, declared.{ids.{DeviceId.DeviceId, LinkId.LinkId}, network.Network.Network}}
+use Rattle.net_plan.specs.declared.tables.{Device.Device, Link.Link, Role.{Role, TheVariants.{Cm, Relay}}}
 
 -- a compression master is no end system and no relay
 cm_is_no_end : (r : Role) → r ≡ Cm → is_end_system r ≡ true → ⊥

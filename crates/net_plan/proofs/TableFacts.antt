@@ -1,21 +1,11 @@
 -- Links, virtual links, events and their ways.
-use Rattle.std.proofs.Common.{List, None, Option, Some, [], ap, false, inl, inr, length, refl, subst, sym, ℕ, ◌++◌, ◌<◌, ◌==◌, ◌∙◌, ◌∷◌, ◌≡◌, ◌⊎◌}
-use Rattle.std.proofs.lemmas.Option.{slice_get_within}
-use Rattle.std.specs.Option.{option_map_or}
-use Rattle.std.specs.Prelude.{IsSomeAnd}
-use Rattle.net_plan.specs.Paths.{IsPath, IsTree, IsUplink}
-use Rattle.net_plan.specs.Places.{IsSwitchOf, link_at}
-use Rattle.net_plan.specs.declared.event.Event.{Event}
-use Rattle.net_plan.specs.declared.event.What.{What}
-use Rattle.net_plan.specs.declared.ids.LinkId.{LinkId}
-use Rattle.net_plan.specs.declared.network.Network.{Network}
-use Rattle.net_plan.specs.declared.tables.Link.{Link}
-use Rattle.net_plan.specs.declared.tables.VirtualLink.{VirtualLink}
-use Rattle.net_plan.specs.declared.tables.Way.{Way}
-use Rattle.net_plan.specs.declared.event.What.TheVariants as events
-use Rattle.net_plan.specs.declared.ids.DeviceId.{DeviceId}
+use Rattle.std.proofs.Common.{◌++◌, ◌<◌, ◌==◌, ◌∙◌, ◌∷◌, ◌≡◌, ◌⊎◌, List, None, Option, Some, [], ap, false, inl, inr, length, refl, subst, sym, ℕ}
+use Rattle.std.{proofs.lemmas.Option.slice_get_within, specs.{Option.option_map_or, Prelude.IsSomeAnd}}
 use Rattle.pcf_values.specs.declared.channel.Channel.{Channel}
 use Rattle.tte_lemmas.proofs.Options.{closed, one as same_some, opened}
+use Rattle.net_plan.specs.{Paths.{IsPath, IsTree, IsUplink}, Places.{IsSwitchOf, link_at}, declared.{event.{Event.Event, What.What}, ids.DeviceId.DeviceId}}
+use Rattle.net_plan.specs.declared.{ids.LinkId.LinkId, network.Network.Network, tables.{Link.Link, VirtualLink.VirtualLink, Way.Way}}
+use Rattle.net_plan.specs.declared.event.What.TheVariants as events
 
 pub link_there : (o : Option Link) (P : Link → Type 0) → IsSomeAnd o P → (l : Link) × (o ≡ Some l)
 link_there None P is = absurd is
@@ -30,7 +20,8 @@ pub id_by : (o : Option VirtualLink) (vl : VirtualLink) (id : ℕ) → o ≡ Som
 id_by o vl id e = rw e refl
 
 -- an event cuts some link or none
-pub cuts_or_not : (what : What) → ((link : LinkId) × (way : Way) × (what ≡ events.Cut link way)) ⊎ ((link : LinkId) (way : Way) → what ≡ events.Cut link way → ⊥)
+pub cuts_or_not : (what : What) → ((link : LinkId) × (way : Way) × (what ≡ events.Cut link way))
+    ⊎ ((link : LinkId) (way : Way) → what ≡ events.Cut link way → ⊥)
 cuts_or_not (events.Cut link way) = inl (link, way, refl)
 cuts_or_not what = inr (λ link way e. cc)
 

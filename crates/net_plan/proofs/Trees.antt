@@ -1,13 +1,9 @@
 -- Paths in the trees of a network.
-use Rattle.std.proofs.Common.{◌≡◌, List, [], ◌∷◌, Some, refl, sym, ap, ◌∙◌, subst}
-use Rattle.net_plan.specs.Paths.{IsUplink, IsPath, IsTree, PathsAreUnique}
-use Rattle.net_plan.specs.Places.{link_at, IsSwitchOf}
-use Rattle.net_plan.specs.declared.ids.DeviceId.{DeviceId}
-use Rattle.net_plan.specs.declared.ids.LinkId.{LinkId}
-use Rattle.net_plan.specs.declared.network.Network.{Network}
-use Rattle.net_plan.specs.declared.tables.Link.{Link}
+use Rattle.std.proofs.Common.{◌∙◌, ◌∷◌, ◌≡◌, List, Some, [], ap, refl, subst, sym}
 use Rattle.pcf_values.specs.declared.channel.Channel.{Channel}
 use Rattle.tte_lemmas.proofs.Options.{at_known, closed, opened}
+use Rattle.net_plan.specs.{Paths.{IsPath, IsTree, IsUplink, PathsAreUnique}, Places.{IsSwitchOf, link_at}, declared.ids.{DeviceId.DeviceId, LinkId.LinkId}}
+use Rattle.net_plan.specs.declared.{network.Network.Network, tables.Link.Link}
 
 -- the first link of a path is an uplink
 pub uplink_of_path : (n : Network) (c : Channel) (d : DeviceId) (link : LinkId) (links : List LinkId) → IsPath n c d (link ∷ links) → IsUplink n c d link

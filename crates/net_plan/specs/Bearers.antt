@@ -1,7 +1,5 @@
-use Rattle.std.specs.Prelude.{◌≡◌, ◌≢◌, ℕ, ◌<◌, List, map, slice_get, Some}
-use Rattle.net_plan.specs.declared.tables.Device.{Device}
-use Rattle.net_plan.specs.declared.tables.Link.{Link}
-use Rattle.net_plan.specs.declared.tables.VirtualLink.{VirtualLink}
+use Rattle.std.specs.Prelude.{◌<◌, ◌≡◌, ◌≢◌, List, Some, map, slice_get, ℕ}
+use Rattle.net_plan.specs.declared.tables.{Device.Device, Link.Link, VirtualLink.VirtualLink}
 
 -- the thing at place i has the name, and no thing before it has
 pub record IsFirstBearer (names : List (List ℕ)) (name : List ℕ) (i : ℕ) : Type 0 where

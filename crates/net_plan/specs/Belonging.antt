@@ -1,13 +1,8 @@
 -- What belongs to a network, and the names of its things.
-use Rattle.std.specs.Prelude.{ℕ, ◌<◌, ⊤, List, [], length, slice_get}
-use Rattle.std.specs.Option.{option_map_or}
-use Rattle.net_plan.specs.Places.{device_at, link_at}
-use Rattle.net_plan.specs.declared.event.What.{What}
-use Rattle.net_plan.specs.declared.event.What.TheVariants.{Rate, Wire, Hold, Cut, Heal, On, Break, Send, End}
-use Rattle.net_plan.specs.declared.ids.DeviceId.{DeviceId}
-use Rattle.net_plan.specs.declared.ids.LinkId.{LinkId}
-use Rattle.net_plan.specs.declared.ids.VlId.{VlId}
-use Rattle.net_plan.specs.declared.network.Network.{Network}
+use Rattle.std.specs.{Option.option_map_or, Prelude.{◌<◌, List, [], length, slice_get, ℕ, ⊤}}
+use Rattle.net_plan.specs.{Places.{device_at, link_at}, declared.event.What.What}
+use Rattle.net_plan.specs.declared.event.What.TheVariants.{Break, Cut, End, Heal, Hold, On, Rate, Send, Wire}
+use Rattle.net_plan.specs.declared.{ids.{DeviceId.DeviceId, LinkId.LinkId, VlId.VlId}, network.Network.Network}
 
 -- the device is one of the network's
 abbrev pub HasDevice : Network → DeviceId → Type 0

@@ -1,14 +1,9 @@
-use Rattle.std.specs.Prelude.{◌≡◌, ◌⊎◌, ℕ, ℤ, pos, ◌+◌, ◌-◌, ◌*◌, ◌/◌, ◌^◌, ◌≤◌, List, length}
-use Rattle.std.specs.List.{sum_by}
-use Rattle.std.specs.Option.{option_map_or}
-use Rattle.net_plan.specs.Paths.{IsPath, IsTree}
-use Rattle.net_plan.specs.Places.{link_at, IsDeviceOf}
-use Rattle.net_plan.specs.declared.ids.DeviceId.{DeviceId}
-use Rattle.net_plan.specs.declared.ids.LinkId.{LinkId}
-use Rattle.net_plan.specs.declared.network.Network.{Network}
+use Rattle.std.specs.{List.sum_by, Option.option_map_or}
+use Rattle.std.specs.Prelude.{◌*◌, ◌+◌, ◌-◌, ◌/◌, ◌^◌, ◌≡◌, ◌≤◌, ◌⊎◌, List, length, pos, ℕ, ℤ}
 use Rattle.pcf_values.specs.declared.channel.Channel.{Channel}
-use Rattle.tte_units.specs.Amount.{amount}
-use Rattle.tte_units.specs.Slip.{slip_of}
+use Rattle.tte_units.specs.{Amount.amount, Slip.slip_of}
+use Rattle.net_plan.specs.{Paths.{IsPath, IsTree}, Places.{IsDeviceOf, link_at}, declared.ids.DeviceId.DeviceId}
+use Rattle.net_plan.specs.declared.{ids.LinkId.LinkId, network.Network.Network}
 
 -- gamma: how far two clocks drift apart over two cycles, with the roundings of four readings of
 -- one grain each

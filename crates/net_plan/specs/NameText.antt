@@ -1,6 +1,5 @@
-use Rattle.std.specs.Prelude.{ℕ, Bool, ◌||◌, ◌==◌, ◌≤◌, List, length, IsTrue}
-use Rattle.std.specs.Char.{is_ascii_digit, is_ascii_lowercase}
-use Rattle.std.specs.List.{list_all}
+use Rattle.std.specs.{Char.{is_ascii_digit, is_ascii_lowercase}, List.list_all}
+use Rattle.std.specs.Prelude.{◌==◌, ◌||◌, ◌≤◌, Bool, IsTrue, List, length, ℕ}
 
 -- a lower-case ASCII letter, a digit or the underscore, which is ASCII's 95
 abbrev pub is_name_character : ℕ → Bool

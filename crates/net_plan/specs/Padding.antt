@@ -1,4 +1,4 @@
-use Rattle.std.specs.Prelude.{◌≡◌, ℕ, ◌-◌, ◌≤◌, List, ◌++◌, length, drop, replicate}
+use Rattle.std.specs.Prelude.{◌++◌, ◌-◌, ◌≡◌, ◌≤◌, List, drop, length, replicate, ℕ}
 
 -- an array of this size, whose first octets are in use and whose others are zero
 pub record IsPadded (size : ℕ) (octets : List ℕ) (used : ℕ) : Type 0 where

@@ -1,9 +1,7 @@
-use Rattle.std.specs.Prelude.{◌≡◌, ◌≤◌, ◌<◌, List, [], ◌∷◌, length, IsSomeAnd}
-use Rattle.net_plan.specs.Places.{link_at, IsSwitchOf, IsCmOf, IsDeviceOf}
-use Rattle.net_plan.specs.declared.ids.DeviceId.{DeviceId}
-use Rattle.net_plan.specs.declared.ids.LinkId.{LinkId}
-use Rattle.net_plan.specs.declared.network.Network.{Network}
+use Rattle.std.specs.Prelude.{◌<◌, ◌∷◌, ◌≡◌, ◌≤◌, IsSomeAnd, List, [], length}
 use Rattle.pcf_values.specs.declared.channel.Channel.{Channel}
+use Rattle.net_plan.specs.{Places.{IsCmOf, IsDeviceOf, IsSwitchOf, link_at}, declared.ids.DeviceId.DeviceId}
+use Rattle.net_plan.specs.declared.{ids.LinkId.LinkId, network.Network.Network}
 
 -- the link leads from the device to a switch of the channel, its parent
 abbrev pub IsUplink : Network → Channel → DeviceId → LinkId → Type 0

@@ -1,12 +1,8 @@
-use Rattle.std.specs.Prelude.{◌≡◌, ◌⊎◌, Bool, true, false, Option, Some, IsSomeAnd, slice_get}
-use Rattle.net_plan.specs.declared.ids.DeviceId.{DeviceId}
-use Rattle.net_plan.specs.declared.ids.LinkId.{LinkId}
-use Rattle.net_plan.specs.declared.network.Network.{Network}
-use Rattle.net_plan.specs.declared.tables.Device.{Device}
-use Rattle.net_plan.specs.declared.tables.Link.{Link}
-use Rattle.net_plan.specs.declared.tables.Role.{Role}
-use Rattle.net_plan.specs.declared.tables.Role.TheVariants.{Master, Client, Cm, Relay}
+use Rattle.std.specs.Prelude.{◌≡◌, ◌⊎◌, Bool, IsSomeAnd, Option, Some, false, slice_get, true}
 use Rattle.pcf_values.specs.declared.channel.Channel.{Channel}
+use Rattle.net_plan.specs.declared.{ids.{DeviceId.DeviceId, LinkId.LinkId}, network.Network.Network}
+use Rattle.net_plan.specs.declared.tables.{Device.Device, Link.Link, Role.Role}
+use Rattle.net_plan.specs.declared.tables.Role.TheVariants.{Client, Cm, Master, Relay}
 
 -- the device of this id
 abbrev pub device_at : Network → DeviceId → Option Device

@@ -1,13 +1,7 @@
-use Rattle.std.specs.Prelude.{◌≡◌, ◌≢◌, ◌⊎◌, ℕ, ◌≤◌, ◌<◌, ◌^◌, ◌≤ℤ◌, pos, not, is_some, IfSome, length}
-use Rattle.std.specs.List.{All}
-use Rattle.net_plan.specs.NameText.{IsNameText}
-use Rattle.net_plan.specs.Places.{is_end_system, is_master}
-use Rattle.net_plan.specs.declared.network.Network.{Network}
-use Rattle.net_plan.specs.declared.tables.Device.{Device}
-use Rattle.net_plan.specs.declared.tables.Link.{Link}
-use Rattle.net_plan.specs.declared.tables.VirtualLink.{VirtualLink}
-use Rattle.net_plan.specs.declared.tables.Row.{Row}
+use Rattle.std.specs.{List.All, Prelude.{◌<◌, ◌^◌, ◌≡◌, ◌≢◌, ◌≤ℤ◌, ◌≤◌, ◌⊎◌, IfSome, is_some, length, not, pos, ℕ}}
 use Rattle.tte_units.specs.declared.units.Units.{Units}
+use Rattle.net_plan.specs.{NameText.IsNameText, Places.{is_end_system, is_master}, declared.network.Network.Network}
+use Rattle.net_plan.specs.declared.tables.{Device.Device, Link.Link, Row.Row, VirtualLink.VirtualLink}
 
 -- from low to high units
 pub record IsWithin (low high : ℕ) (units : Units) : Type 0 where

@@ -1,17 +1,13 @@
 -- The rules of a network's shape. Each says that it is kept at an index: the place of a device or a
 -- link, or the number of a part.
-use Rattle.std.specs.Prelude.{◌≡◌, ◌≢◌, ◌⊎◌, ℕ, ◌+◌, ◌<◌, ◌≤◌, ◌≤ℤ◌, if◌then◌else◌, ◌==◌, List, length, Some, IsNone, IfSome, IsSomeAnd, is_some, slice_get}
 use Rattle.std.specs.List.{All, count_by, filter}
-use Rattle.net_plan.specs.Paths.{IsUplink, LeadsToCm, IsTree}
-use Rattle.net_plan.specs.Places.{device_at, link_at, is_master, IsEndSystem, IsSwitchOf, IsRoleOf, IsCmOf, IsDeviceOf}
-use Rattle.net_plan.specs.declared.ids.DeviceId.{DeviceId}
-use Rattle.net_plan.specs.declared.ids.LinkId.{LinkId}
-use Rattle.net_plan.specs.declared.network.Network.{Network}
-use Rattle.net_plan.specs.declared.tables.Device.{Device}
-use Rattle.net_plan.specs.declared.tables.Link.{Link}
-use Rattle.net_plan.specs.declared.tables.Role.TheVariants.{Relay}
-use Rattle.pcf_values.specs.declared.channel.Channel.{Channel}
-use Rattle.pcf_values.specs.declared.channel.Channel.TheVariants.{A, B}
+use Rattle.std.specs.Prelude.{if◌then◌else◌, ◌+◌, ◌<◌, ◌==◌, ◌≡◌, ◌≢◌, ◌≤ℤ◌, ◌≤◌, ◌⊎◌, IfSome, IsNone, IsSomeAnd, List}
+use Rattle.std.specs.Prelude.{Some, is_some, length, slice_get, ℕ}
+use Rattle.pcf_values.specs.declared.channel.Channel.{Channel, TheVariants.{A, B}}
+use Rattle.net_plan.specs.Paths.{IsTree, IsUplink, LeadsToCm}
+use Rattle.net_plan.specs.Places.{IsCmOf, IsDeviceOf, IsEndSystem, IsRoleOf, IsSwitchOf, device_at, is_master, link_at}
+use Rattle.net_plan.specs.declared.{ids.{DeviceId.DeviceId, LinkId.LinkId}, network.Network.Network}
+use Rattle.net_plan.specs.declared.tables.{Device.Device, Link.Link, Role.TheVariants.Relay}
 
 -- exactly one thing has the property
 abbrev pub ExactlyOne : {X : Type 0} → (X → Type 0) → Type 0

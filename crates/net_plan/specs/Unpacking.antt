@@ -1,9 +1,7 @@
 -- What is kept in place comes back from the list of its octets.
-use Rattle.std.specs.Prelude.{◌≡◌, ℕ, List, length, take}
-use Rattle.std.proofs.Common.{ap, ◌∙◌, arith}
-use Rattle.std.proofs.lemmas.List.{take-append-drop, length-take}
-use Rattle.net_plan.specs.Padding.{IsPadded, padded}
-use Rattle.net_plan.specs.declared.name.Name.TheInside.{Inside as NameInside}
+use Rattle.std.proofs.{Common.{◌∙◌, ap, arith}, lemmas.List.{length-take, take-append-drop}}
+use Rattle.std.specs.Prelude.{◌≡◌, List, length, take, ℕ}
+use Rattle.net_plan.specs.{Padding.{IsPadded, padded}, declared.name.Name.TheInside.Inside as NameInside}
 use Rattle.net_plan.specs.declared.octets.Octets.TheInside.{Inside as OctetsInside}
 
 length-used : (size : ℕ) (octets : List ℕ) (used : ℕ) → IsPadded size octets used → length (take used octets) ≡ used

@@ -1,8 +1,7 @@
-ghost use Rattle.std.specs.Prelude.{◌≡◌, ◌+◌, ◌<◌, ◌≤◌, ◌*◌, ◌^◌, ◌≤ℤ◌, pos, length, max};
-ghost use Rattle.net_plan.specs.Bounds.{IsBeta, IsGreatest, IsOfPathFrom, IsOfPathOn, gamma_of, jitter_of, jitter_on};
-ghost use Rattle.net_plan.specs.Paths.{IsTree};
-ghost use Rattle.net_plan.specs.Ranges.{IsInRange};
+ghost use Rattle.std.specs.Prelude.{◌*◌, ◌+◌, ◌<◌, ◌^◌, ◌≡◌, ◌≤ℤ◌, ◌≤◌, length, max, pos};
 ghost use Rattle.tte_units.specs.Amount.{amount};
+ghost use Rattle.net_plan.specs.Bounds.{IsBeta, IsGreatest, IsOfPathFrom, IsOfPathOn, gamma_of, jitter_of, jitter_on};
+ghost use Rattle.net_plan.specs.{Paths.IsTree, Ranges.IsInRange};
 
 use crate::{DeviceId, LinkId, Network, Path};
 use pcf_values::Channel;

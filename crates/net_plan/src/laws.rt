@@ -1,6 +1,4 @@
-ghost use Rattle.net_plan.specs.Bounds.{BetaExists, BetaIsUnique};
-ghost use Rattle.net_plan.specs.Paths.{PathsAreUnique};
-ghost use Rattle.net_plan.specs.Rules.{RulesGiveTrees};
+ghost use Rattle.net_plan.specs.{Bounds.{BetaExists, BetaIsUnique}, Paths.PathsAreUnique, Rules.RulesGiveTrees};
 
 /// A network that keeps the rules of its shape has what `path` and `beta` ask for: the links form
 /// a tree on each channel.

@@ -1,8 +1,7 @@
-ghost use Rattle.std.specs.Prelude.{◌≡◌, ◌<◌, ◌≤◌, ◌^◌, ◌↔◌, IfNone, IfSome, IsNone, IsTrue, Some, length};
-ghost use Rattle.net_plan.specs.Bearers.{IsFirstBearer, HasNoBearer, device_names, link_names, vl_names};
+ghost use Rattle.std.specs.Prelude.{◌<◌, ◌^◌, ◌↔◌, ◌≡◌, ◌≤◌, IfNone, IfSome, IsNone, IsTrue, Some, length};
+ghost use Rattle.net_plan.specs.Bearers.{HasNoBearer, IsFirstBearer, device_names, link_names, vl_names};
 ghost use Rattle.net_plan.specs.Belonging.{HasDevice, HasLink, HasVl, device_name, link_name, vl_name};
-ghost use Rattle.net_plan.specs.Ranges.{IsInRange};
-ghost use Rattle.net_plan.specs.Rules.{HasOffSwitch};
+ghost use Rattle.net_plan.specs.{Ranges.IsInRange, Rules.HasOffSwitch};
 
 use crate::{Device, DeviceId, LinkId, Network, VlId};
 use pcf_values::Channel;

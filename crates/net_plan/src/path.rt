@@ -1,5 +1,6 @@
-ghost use Rattle.std.specs.Prelude.{◌≡◌, ◌+◌, ◌<◌, ◌≤◌, ◌^◌, ◌∷◌, [], ◌++◌, ◌↔◌, IfNone, IfSome, IsTrue, IsSomeAnd, Some, length, slice_get};
-ghost use Rattle.net_plan.specs.Paths.{IsFirstUplink, IsUplink, IsPath, IsTree};
+ghost use Rattle.std.specs.Prelude.{◌++◌, ◌+◌, ◌<◌, ◌^◌, ◌↔◌, ◌∷◌, ◌≡◌, ◌≤◌, IfNone, IfSome, IsSomeAnd, IsTrue, Some};
+ghost use Rattle.std.specs.Prelude.{[], length, slice_get};
+ghost use Rattle.net_plan.specs.Paths.{IsFirstUplink, IsPath, IsTree, IsUplink};
 ghost use Rattle.net_plan.specs.Places.{IsDeviceOf, IsSwitchOf, device_at, link_at};
 ghost use Rattle.net_plan.specs.declared.ids.LinkId.{LinkId as LinkIdValue};
 

@@ -1,13 +1,9 @@
 -- A file begins with a header, or has a first fault, and `opened` answers so.
-use Rattle.std.proofs.Common.{◌≡◌, ◌≢◌, ℕ, ◌%◌, ◌<◌, ◌≤◌, Bool, true, false, List, length, Result, Ok, Err, refl, ap, subst, ◌∙◌, inl, inr, arith}
-use Rattle.std.proofs.lemmas.Bool.{cases_lt, le-ltb, lt-ltb}
-use Rattle.std.proofs.lemmas.Bool.Decides.{eqb_tells}
-use Rattle.pcap_form.specs.declared.capture.CaptureHead.{CaptureHead}
-use Rattle.pcap_form.specs.declared.refusal.CaptureRefusal.{CaptureRefusal}
-use Rattle.pcap_form.specs.declared.refusal.CaptureRefusal.TheVariants.{Header, Magic, Version, LinkType, PacketLength, Cut}
-use Rattle.pcap_form.specs.Layout.{head_length, magic, ethernet, number, IsHead}
-use Rattle.pcap_form.specs.Reading.{judged, opened}
-use Rattle.pcap_form.specs.ReadingLaw.{HasMagic, HasVersion, HasHeadFault, AreOctets, FindsHead}
+use Rattle.std.proofs.Common.{◌%◌, ◌<◌, ◌∙◌, ◌≡◌, ◌≢◌, ◌≤◌, Bool, Err, List, Ok, Result, ap, arith, false, inl, inr, length, refl, subst, true, ℕ}
+use Rattle.std.proofs.lemmas.Bool.{cases_lt, le-ltb, lt-ltb, Decides.eqb_tells}
+use Rattle.pcap_form.specs.{Layout.{IsHead, ethernet, head_length, magic, number}, Reading.{judged, opened}}
+use Rattle.pcap_form.specs.{ReadingLaw.{AreOctets, FindsHead, HasHeadFault, HasMagic, HasVersion}, declared.capture.CaptureHead.CaptureHead}
+use Rattle.pcap_form.specs.declared.refusal.CaptureRefusal.{CaptureRefusal, TheVariants.{Cut, Header, LinkType, Magic, PacketLength, Version}}
 
 -- the answers, step by step
 

@@ -1,14 +1,10 @@
 -- At a place of a file stands a packet, its end or a first fault, and `packet_at` answers so.
-use Rattle.std.proofs.Common.{◌≡◌, ℕ, ◌+◌, ◌<◌, ◌≤◌, List, length, Option, Some, None, Result, Ok, Err, refl, sym, ap, subst, ◌∙◌, inl, inr, arith, eq-eqb}
+use Rattle.std.proofs.Common.{◌+◌, ◌<◌, ◌∙◌, ◌≡◌, ◌≤◌, Err, List, None, Ok, Option, Result, Some, ap, arith, eq-eqb, inl, inr, length, refl, subst, sym, ℕ}
 use Rattle.std.proofs.lemmas.Bool.{cases_lt, le-ltb, lt-ltb}
-use Rattle.pcap_form.specs.declared.capture.CaptureHead.{CaptureHead}
-use Rattle.pcap_form.specs.declared.capture.Packet.{Packet}
-use Rattle.pcap_form.specs.declared.refusal.CaptureRefusal.{CaptureRefusal}
-use Rattle.pcap_form.specs.declared.refusal.CaptureRefusal.TheVariants.{Header, Magic, Version, LinkType, PacketLength, Cut}
-use Rattle.pcap_form.specs.Layout.{stamp_length, most_captured, number, IsPacket}
-use Rattle.pcap_form.specs.Reading.{packet_of, packet_at}
-use Rattle.pcap_form.specs.ReadingLaw.{HasPacketFault, FindsPackets}
 use Rattle.tte_lemmas.proofs.Naturals.{goes_on}
+use Rattle.pcap_form.specs.{Layout.{IsPacket, most_captured, number, stamp_length}, Reading.{packet_at, packet_of}, ReadingLaw.{FindsPackets, HasPacketFault}}
+use Rattle.pcap_form.specs.declared.{capture.{CaptureHead.CaptureHead, Packet.Packet}, refusal.CaptureRefusal.CaptureRefusal}
+use Rattle.pcap_form.specs.declared.refusal.CaptureRefusal.TheVariants.{Cut, Header, LinkType, Magic, PacketLength, Version}
 
 -- how many octets of the packet at a place were captured
 abbrev captured : CaptureHead → List ℕ → ℕ → ℕ

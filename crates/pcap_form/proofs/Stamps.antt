@@ -1,11 +1,9 @@
 -- The octets that are written.
-use Rattle.std.proofs.Common.{◌≡◌, ℕ, ◌+◌, ◌<◌, ◌^◌, List, ◌++◌, length, length-append, take, drop, replicate, false, refl, sym, ap, subst, ◌∙◌, append_assoc}
+use Rattle.std.proofs.Common.{◌++◌, ◌+◌, ◌<◌, ◌^◌, ◌∙◌, ◌≡◌, List, ap, append_assoc, drop, false, length, length-append, refl, replicate, subst, sym, take, ℕ}
 use Rattle.std.proofs.Math.Seq.{take-append_seam}
-use borrow.Rule.Slice.PartMut.{put_mid, mid_of}
-use Rattle.byteorder.specs.Endian.{little_bytes}
-use Rattle.byteorder.specs.Numbers.{little_number-reads_back}
-use Rattle.pcap_form.specs.Layout.{number}
-use Rattle.pcap_form.specs.Writing.{stamp_octets, packet_octets}
+use Rattle.byteorder.specs.{Endian.little_bytes, Numbers.little_number-reads_back}
+use borrow.Rule.Slice.PartMut.{mid_of, put_mid}
+use Rattle.pcap_form.specs.{Layout.number, Writing.{packet_octets, stamp_octets}}
 
 -- zeros, over which the four numbers are written one after another
 pub writes : (seconds micros n : ℕ) (b1 b2 b3 b4 : List ℕ)
@@ -30,7 +28,8 @@ length-packet_octets seconds micros octets =
 pub written_front : (stamp octets room rest : List ℕ) → length stamp ≡ 16
     → take (16 + length octets) (take 16 (stamp ++ drop 16 room) ++ (octets ++ rest)) ≡ stamp ++ octets
 written_front stamp octets room rest size =
-    let first : take 16 (stamp ++ drop 16 room) ≡ stamp = subst (λ (n : ℕ). take n (stamp ++ drop 16 room) ≡ stamp) size (take-append_seam stamp (drop 16 room)) in
+    let first : take 16 (stamp ++ drop 16 room) ≡ stamp =
+    subst (λ (n : ℕ). take n (stamp ++ drop 16 room) ≡ stamp) size (take-append_seam stamp (drop 16 room)) in
     let whole : length (stamp ++ octets) ≡ 16 + length octets = length-append stamp octets ∙ ap (λ (n : ℕ). n + length octets) size in
     let all : take (16 + length octets) ((stamp ++ octets) ++ rest) ≡ stamp ++ octets =
     subst (λ (n : ℕ). take n ((stamp ++ octets) ++ rest) ≡ stamp ++ octets) whole (take-append_seam (stamp ++ octets) rest) in

@@ -1,16 +1,12 @@
 -- What was written is read back.
-use Rattle.std.proofs.Common.{◌≡◌, ◌≢◌, ℕ, ◌+◌, ◌-◌, ◌%◌, ◌<◌, ◌^◌, Bool, true, false, List, [], ◌∷◌, ◌++◌, All, length, length-append, drop, slice_range, Ok, refl, ap, subst, ◌∙◌, append_assoc, arith}
-use Rattle.std.proofs.Math.Seq.{drop-append-add, drop-append_seam, take-append_seam}
+use Rattle.std.proofs.Common.{◌%◌, ◌++◌, ◌+◌, ◌-◌, ◌<◌, ◌^◌, ◌∙◌, ◌∷◌, ◌≡◌, ◌≢◌, All, Bool, List, Ok, [], ap, append_assoc, arith, drop, false, length}
+use Rattle.std.proofs.{Common.{length-append, refl, slice_range, subst, true, ℕ}, Math.Seq.{drop-append-add, drop-append_seam, take-append_seam}}
 use Rattle.std.proofs.lemmas.List.Elements.{All-head, All-tail}
-use Rattle.pcap_form.specs.declared.capture.Packet.{Packet}
-use Rattle.pcap_form.specs.Layout.{magic, ethernet, stamp_length, number, IsPacket}
-use Rattle.pcap_form.specs.Reading.{opened}
-use Rattle.pcap_form.specs.ReadingLaw.{HasMagic}
-use Rattle.pcap_form.specs.Writing.{Stamped, head_octets, packet_octets, packets_octets, capture_octets}
-use Rattle.pcap_form.specs.RoundTrip.{IsWritable, Shows, Reads, written_head, ReadsBack}
-use Rattle.pcap_form.proofs.Heads.{judged_right, opened_little}
-use Rattle.pcap_form.proofs.Packets.{packet_stands, finds_packets}
-use Rattle.pcap_form.proofs.Stamps.{length-packet_octets, seconds_read, micros_read, captured_read, original_read, octets_behind}
+use Rattle.pcap_form.proofs.{Heads.{judged_right, opened_little}, Packets.{finds_packets, packet_stands}}
+use Rattle.pcap_form.proofs.Stamps.{captured_read, length-packet_octets, micros_read, octets_behind, original_read, seconds_read}
+use Rattle.pcap_form.specs.{Layout.{IsPacket, ethernet, magic, number, stamp_length}, Reading.opened, ReadingLaw.HasMagic}
+use Rattle.pcap_form.specs.RoundTrip.{IsWritable, Reads, ReadsBack, Shows, written_head}
+use Rattle.pcap_form.specs.{Writing.{Stamped, capture_octets, head_octets, packet_octets, packets_octets}, declared.capture.Packet.Packet}
 
 -- the header
 

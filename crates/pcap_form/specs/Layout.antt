@@ -1,8 +1,7 @@
 -- The layout of a capture (the classic pcap file format): a header of 24 octets, and then packets.
-use Rattle.std.specs.Prelude.{◌≡◌, ℕ, ◌+◌, ◌%◌, ◌≤◌, Bool, List, length, drop, if◌then◌else◌}
+use Rattle.std.specs.Prelude.{if◌then◌else◌, ◌%◌, ◌+◌, ◌≡◌, ◌≤◌, Bool, List, drop, length, ℕ}
 use Rattle.byteorder.specs.Endian.{big_number, little_number}
-use Rattle.pcap_form.specs.declared.capture.CaptureHead.{CaptureHead}
-use Rattle.pcap_form.specs.declared.capture.Packet.{Packet}
+use Rattle.pcap_form.specs.declared.capture.{CaptureHead.CaptureHead, Packet.Packet}
 
 -- how many octets the header has
 abbrev pub head_length : ℕ

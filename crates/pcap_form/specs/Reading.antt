@@ -1,10 +1,11 @@
 -- What reading a capture answers, judged in the order of the refusals.
-use Rattle.std.specs.Prelude.{ℕ, ◌+◌, ◌%◌, Bool, true, false, List, length, Option, Some, None, Result, Ok, Err, nat_lt, ◌==◌, ◌&&◌, if◌then◌else◌}
-use Rattle.pcap_form.specs.declared.capture.CaptureHead.{CaptureHead}
-use Rattle.pcap_form.specs.declared.capture.Packet.{Packet}
+use Rattle.std.specs.Prelude.{if◌then◌else◌, ◌%◌, ◌&&◌, ◌+◌, ◌==◌, Bool, Err, List, None, Ok, Option, Result, Some}
+use Rattle.std.specs.Prelude.{false, length, nat_lt, true, ℕ}
+use Rattle.pcap_form.specs.Layout.{ethernet, head_length, magic, most_captured, number, stamp_length}
+use Rattle.pcap_form.specs.declared.capture.{CaptureHead.CaptureHead, Packet.Packet}
 use Rattle.pcap_form.specs.declared.refusal.CaptureRefusal.{CaptureRefusal}
-use Rattle.pcap_form.specs.declared.refusal.CaptureRefusal.TheVariants.{Header, Magic, Version, LinkType, PacketLength, Cut}
-use Rattle.pcap_form.specs.Layout.{head_length, magic, ethernet, stamp_length, most_captured, number}
+use Rattle.pcap_form.specs.declared.refusal.CaptureRefusal.TheVariants.{Cut, Header, LinkType, Magic, PacketLength}
+use Rattle.pcap_form.specs.declared.refusal.CaptureRefusal.TheVariants.{Version}
 
 -- a header in this byte order, or the fault behind its magic
 unfoldable pub judged : Bool → List ℕ → Result CaptureHead CaptureRefusal

@@ -1,11 +1,11 @@
 -- What reading has to do with the layout of a capture.
-use Rattle.std.specs.Prelude.{◌≡◌, ◌≢◌, ◌⊎◌, ◌↔◌, ℕ, ◌+◌, ◌%◌, ◌<◌, ◌≤◌, Bool, List, length, slice_index, Some, None, Ok, Err}
-use Rattle.pcap_form.specs.declared.capture.CaptureHead.{CaptureHead}
-use Rattle.pcap_form.specs.declared.capture.Packet.{Packet}
+use Rattle.std.specs.Prelude.{◌%◌, ◌+◌, ◌<◌, ◌↔◌, ◌≡◌, ◌≢◌, ◌≤◌, ◌⊎◌, Bool, Err, List, None, Ok, Some, length}
+use Rattle.std.specs.Prelude.{slice_index, ℕ}
+use Rattle.pcap_form.specs.Layout.{IsHead, IsPacket, ethernet, head_length, magic, most_captured, number, stamp_length}
+use Rattle.pcap_form.specs.{Reading.{opened, packet_at}, declared.capture.{CaptureHead.CaptureHead, Packet.Packet}}
 use Rattle.pcap_form.specs.declared.refusal.CaptureRefusal.{CaptureRefusal}
-use Rattle.pcap_form.specs.declared.refusal.CaptureRefusal.TheVariants.{Header, Magic, Version, LinkType, PacketLength, Cut}
-use Rattle.pcap_form.specs.Layout.{head_length, magic, ethernet, stamp_length, most_captured, number, IsHead, IsPacket}
-use Rattle.pcap_form.specs.Reading.{opened, packet_at}
+use Rattle.pcap_form.specs.declared.refusal.CaptureRefusal.TheVariants.{Cut, Header, LinkType, Magic, PacketLength}
+use Rattle.pcap_form.specs.declared.refusal.CaptureRefusal.TheVariants.{Version}
 
 -- the file is long enough, and the magic stands in this byte order
 pub record HasMagic (file : List ℕ) (big : Bool) : Type 0 where
@@ -48,7 +48,8 @@ pub record FindsHead : Type 0 where
   pub found : (file : List ℕ) (head : CaptureHead) → AreOctets file → (opened file ≡ Ok head) ↔ IsHead file head
   pub refused : (file : List ℕ) (e : CaptureRefusal) → AreOctets file → (opened file ≡ Err e) ↔ HasHeadFault file e
 
--- a packet is found exactly where it stands, none exactly at the end, and a refusal exactly at the fault that stands first
+-- a packet is found exactly where it stands, none exactly at the end, and a refusal exactly at the fault that stands
+-- first
 pub record FindsPackets : Type 0 where
   pub found : (head : CaptureHead) (file : List ℕ) (at : ℕ) (p : Packet) → at ≤ length file
       → (packet_at head file at ≡ Ok (Some p)) ↔ IsPacket head file at p

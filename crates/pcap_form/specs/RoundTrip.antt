@@ -1,10 +1,8 @@
 -- Reading what was written.
-use Rattle.std.specs.Prelude.{◌≡◌, ℕ, ◌<◌, ◌≤◌, ◌^◌, false, List, [], ◌∷◌, All, length, slice_range, Some, None, Ok}
-use Rattle.pcap_form.specs.declared.capture.CaptureHead.{CaptureHead}
+use Rattle.std.specs.Prelude.{◌<◌, ◌^◌, ◌∷◌, ◌≡◌, ◌≤◌, All, List, None, Ok, Some, [], false, length, slice_range, ℕ}
+use Rattle.pcap_form.specs.{Layout.{head_length, most_written}, Reading.{opened, packet_at}}
+use Rattle.pcap_form.specs.{Writing.{Stamped, capture_octets}, declared.capture.CaptureHead.CaptureHead}
 use Rattle.pcap_form.specs.declared.capture.Packet.{Packet}
-use Rattle.pcap_form.specs.Layout.{head_length, most_written}
-use Rattle.pcap_form.specs.Reading.{opened, packet_at}
-use Rattle.pcap_form.specs.Writing.{Stamped, capture_octets}
 
 -- the octets and their stamp can be written
 pub record IsWritable (s : Stamped) : Type 0 where

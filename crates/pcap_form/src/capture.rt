@@ -1,6 +1,5 @@
-ghost use Rattle.std.specs.Prelude.{◌≡◌, ◌<◌, ◌≤◌, ◌^◌, length, IfOk, IfSome};
-ghost use Rattle.pcap_form.specs.Layout.{IsPacket};
-ghost use Rattle.pcap_form.specs.Reading.{judged, opened, packet_at};
+ghost use Rattle.std.specs.Prelude.{◌<◌, ◌^◌, ◌≡◌, ◌≤◌, IfOk, IfSome, length};
+ghost use Rattle.pcap_form.specs.{Layout.IsPacket, Reading.{judged, opened, packet_at}};
 
 use crate::CaptureRefusal;
 use crate::fields::{read_half, read_word};

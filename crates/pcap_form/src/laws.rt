@@ -1,5 +1,4 @@
-ghost use Rattle.pcap_form.specs.ReadingLaw.{FindsHead, FindsPackets};
-ghost use Rattle.pcap_form.specs.RoundTrip.{ReadsBack};
+ghost use Rattle.pcap_form.specs.{ReadingLaw.{FindsHead, FindsPackets}, RoundTrip.ReadsBack};
 
 /// What reading finds, as a law: a header exactly where its octets stand in the layout, a packet
 /// exactly where its octets do, the end exactly at the end, and a refusal exactly where it stands

@@ -1,9 +1,7 @@
-ghost use Rattle.std.specs.Prelude.{◌≡◌, ◌≤◌, ◌+◌, ◌++◌, length, take, MatchResult, OnOk, OnErr};
 ghost use Rattle.std.specs.Io.KnownBytes.{Appends};
-ghost use Rattle.tte_io.specs.Faults.{Rose, next_count};
-ghost use Rattle.tte_io.specs.Told.{AppendsFront};
-ghost use Rattle.pcap_form.specs.Layout.{most_written};
-ghost use Rattle.pcap_form.specs.Writing.{head_octets, stamp_octets, packet_octets};
+ghost use Rattle.std.specs.Prelude.{◌++◌, ◌+◌, ◌≡◌, ◌≤◌, MatchResult, OnErr, OnOk, length, take};
+ghost use Rattle.tte_io.specs.{Faults.{Rose, next_count}, Told.AppendsFront};
+ghost use Rattle.pcap_form.specs.{Layout.most_written, Writing.{head_octets, packet_octets, stamp_octets}};
 
 use byteorder::{ByteOrder, LittleEndian};
 use tte_io::{Sink, SinkFailed};

@@ -1,13 +1,10 @@
 -- The octets that `encode` writes.
-use Rattle.std.proofs.Common.{◌≡◌, ℕ, zero, suc, ◌+◌, ◌<◌, ◌≤◌, ◌^◌, List, [], ◌++◌, drop, get_or, slice_set, length, replicate, refl, sym, ◌∙◌, ◌-◌, inl, inr, arith}
-use Rattle.std.proofs.lemmas.List.{get_or-drop}
-use borrow.Rule.Slice.PartMut.{put_mid, mid_of}
-use Rattle.byteorder.specs.Endian.{big_bytes}
-use Rattle.byteorder.specs.Numbers.{big_number-reads_back}
+use Rattle.std.proofs.Common.{◌++◌, ◌+◌, ◌-◌, ◌<◌, ◌^◌, ◌∙◌, ◌≡◌, ◌≤◌, List, [], arith, drop, get_or, inl, inr, length, refl, replicate, slice_set, suc, sym}
+use Rattle.std.proofs.{Common.{zero, ℕ}, lemmas.List.get_or-drop}
+use Rattle.byteorder.specs.{Endian.big_bytes, Numbers.big_number-reads_back}
 use Rattle.pcf_values.specs.declared.pcf.Pcf.{Pcf}
-use Rattle.pcf_codec.specs.Encoded.{encoded}
-use Rattle.pcf_codec.specs.EtherType.{pcf_type}
-use Rattle.pcf_codec.specs.Spelling.{Spells, pcf_length, code_of, IsReserved, IsPadding}
+use borrow.Rule.Slice.PartMut.{mid_of, put_mid}
+use Rattle.pcf_codec.specs.{Encoded.encoded, EtherType.pcf_type, Spelling.{IsPadding, IsReserved, Spells, code_of, pcf_length}}
 
 -- zeros, over which the fields are written one after another
 pub writes : (p : Pcf) (destination source kind : ℕ) (b1 b2 b3 b4 b5 b6 : List ℕ) → destination ≡ p.destination → source ≡ p.source → kind ≡ code_of p.kind

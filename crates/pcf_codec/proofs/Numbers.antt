@@ -1,8 +1,6 @@
 -- Numbers of octets.
-use Rattle.std.proofs.Common.{List, ap, drop, length, sym, ℕ, ◌++◌, ◌<◌, ◌^◌, ◌∙◌, ◌≡◌}
-use Rattle.std.proofs.Math.Seq.{drop-append_seam}
-use Rattle.byteorder.specs.Endian.{big_bytes, big_number}
-use Rattle.byteorder.specs.Numbers.{big_number-reads_back}
+use Rattle.std.proofs.{Common.{◌++◌, ◌<◌, ◌^◌, ◌∙◌, ◌≡◌, List, ap, drop, length, sym, ℕ}, Math.Seq.drop-append_seam}
+use Rattle.byteorder.specs.{Endian.{big_bytes, big_number}, Numbers.big_number-reads_back}
 use Rattle.pcf_codec.specs.Fields.{field}
 
 -- a number that was written behind some octets is read there

@@ -1,20 +1,11 @@
 -- Octets spell a frame, or have a first fault, and `decoded` answers so.
-use Rattle.std.proofs.Common.{◌≡◌, ◌≢◌, ℕ, ◌-◌, ◌<◌, ◌≤◌, List, length, slice_index, Ok, Err, refl, sym, ap, subst, ◌∙◌, inl, inr, arith, length-append, le_antisymm}
-use Rattle.std.proofs.lemmas.Bool.{cases_lt}
-use Rattle.std.proofs.lemmas.Bool.Decides.{eqb_tells}
-use Rattle.std.proofs.lemmas.List.{nil_from_length}
-use Rattle.pcf_values.specs.declared.pcf.Pcf.{Pcf}
-use Rattle.pcf_values.specs.declared.pcf.PcfKind.{PcfKind}
-use Rattle.pcf_values.specs.declared.pcf.PcfKind.TheVariants.{Integration, ColdStart, ColdStartAck}
-use Rattle.pcf_codec.specs.declared.refusal.PcfRefusal.{PcfRefusal}
-use Rattle.pcf_codec.specs.declared.refusal.PcfRefusal.TheVariants.{Length, EtherType, Reserved, Kind}
-use Rattle.pcf_codec.specs.Fields.{field}
-use Rattle.pcf_codec.specs.EtherType.{pcf_type}
-use Rattle.pcf_codec.specs.Spelling.{Spells, pcf_length, code_of, IsReserved}
-use Rattle.pcf_codec.specs.Decoding.{decoded, frame_in}
-use Rattle.pcf_codec.specs.Faults.{HasFault, IsFirstFault, offset_of}
-use Rattle.pcf_codec.specs.SpellingLaw.{IsSpelling, IsPrefixFree}
-use Rattle.pcf_codec.proofs.Spellings.{AreZero, zeros, other, zeros_told, kind, none, kind_told, wrong_length, wrong_type, right_type, fields_first, fields_kind, fields_second, fields_all}
+use Rattle.std.proofs.Common.{◌-◌, ◌<◌, ◌∙◌, ◌≡◌, ◌≢◌, ◌≤◌, Err, List, Ok, ap, arith, inl, inr, le_antisymm, length, length-append, refl, slice_index, subst}
+use Rattle.std.proofs.{Common.{sym, ℕ}, lemmas.{Bool.{cases_lt, Decides.eqb_tells}, List.nil_from_length}}
+use Rattle.pcf_values.specs.declared.pcf.{Pcf.Pcf, PcfKind.{PcfKind, TheVariants.{ColdStart, ColdStartAck, Integration}}}
+use Rattle.pcf_codec.proofs.Spellings.{AreZero, fields_all, fields_first, fields_kind, fields_second, kind, kind_told, none, other, right_type, wrong_length}
+use Rattle.pcf_codec.{proofs.Spellings.{wrong_type, zeros, zeros_told}, specs.{Decoding.{decoded, frame_in}, EtherType.pcf_type}}
+use Rattle.pcf_codec.specs.{Faults.{HasFault, IsFirstFault, offset_of}, Fields.field, Spelling.{IsReserved, Spells, code_of, pcf_length}}
+use Rattle.pcf_codec.specs.{SpellingLaw.{IsPrefixFree, IsSpelling}, declared.refusal.PcfRefusal.{PcfRefusal, TheVariants.{EtherType, Kind, Length, Reserved}}}
 
 -- what is known once the length and the EtherType are right
 record IsTyped (octets : List ℕ) : Type 0 where

@@ -1,15 +1,12 @@
 -- The frames of a stream, in pieces.
-use Rattle.std.proofs.Common.{◌≡◌, ℕ, ◌+◌, ◌-◌, ◌*◌, ◌≤◌, List, [], ◌∷◌, ◌++◌, length, take, drop, length-drop, Result, Ok, Err, refl, sym, ap, subst, ◌∙◌, inl, inr, arith, append_assoc, length-append, length-take}
-use Rattle.std.proofs.lemmas.Bool.{cases_lt, lt-ltb, le-ltb}
-use Rattle.std.proofs.lemmas.List.{nil_from_length, append-nil, drop-append-le}
-use Rattle.std.proofs.Math.Seq.{drop-append_seam}
+use Rattle.std.proofs.Common.{◌*◌, ◌++◌, ◌+◌, ◌-◌, ◌∙◌, ◌∷◌, ◌≡◌, ◌≤◌, Err, List, Ok, Result, [], ap, append_assoc, arith, drop, inl, inr, length}
+use Rattle.std.proofs.{Common.{length-append, length-drop, length-take, refl, subst, sym, take, ℕ}, Math.Seq.drop-append_seam}
+use Rattle.std.proofs.lemmas.{Bool.{cases_lt, le-ltb, lt-ltb}, List.{append-nil, drop-append-le, nil_from_length}}
 use Rattle.pcf_values.specs.declared.pcf.Pcf.{Pcf}
+use Rattle.pcf_codec.{proofs.Outcomes.is_spelling, specs.Decoding.decoded}
+use Rattle.pcf_codec.specs.Reading.{Reading, Reads, fed, holding, judgement_of, reading_of, refused, taken_of, waiting}
+use Rattle.pcf_codec.specs.{Sequence.{IsLongestFront, IsRefusedFrame, IsUnfinished, SpellsAll}, Spelling.{Spells, pcf_length}}
 use Rattle.pcf_codec.specs.declared.refusal.PcfRefusal.{PcfRefusal}
-use Rattle.pcf_codec.specs.Spelling.{Spells, pcf_length}
-use Rattle.pcf_codec.specs.Decoding.{decoded}
-use Rattle.pcf_codec.specs.Sequence.{SpellsAll, IsLongestFront, IsUnfinished, IsRefusedFrame}
-use Rattle.pcf_codec.specs.Reading.{Reading, holding, waiting, refused, taken_of, fed, reading_of, judgement_of, Reads}
-use Rattle.pcf_codec.proofs.Outcomes.{is_spelling}
 
 -- a sequence has sixty octets a frame
 pub length-spelling : (octets : List ℕ) (ps : List Pcf) → SpellsAll octets ps → length octets ≡ 60 * length ps

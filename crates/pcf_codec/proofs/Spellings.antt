@@ -1,15 +1,10 @@
 -- Reading and spelling a protocol control frame agree.
-use Rattle.std.proofs.Common.{◌≡◌, ◌≢◌, ℕ, zero, suc, ◌+◌, ◌-◌, ◌<◌, ◌≤◌, List, length, slice_index, Ok, Err, refl, sym, ◌∙◌, inl, inr, arith}
+use Rattle.std.proofs.Common.{◌+◌, ◌-◌, ◌<◌, ◌∙◌, ◌≡◌, ◌≢◌, ◌≤◌, Err, List, Ok, arith, inl, inr, length, refl, slice_index, suc, sym, zero, ℕ}
 use Rattle.std.proofs.lemmas.Bool.Decides.{eqb_tells}
-use Rattle.pcf_values.specs.declared.pcf.PcfKind.{PcfKind}
-use Rattle.pcf_values.specs.declared.pcf.PcfKind.TheVariants.{Integration, ColdStart, ColdStartAck}
-use Rattle.pcf_codec.specs.declared.refusal.PcfRefusal.{PcfRefusal}
-use Rattle.pcf_codec.specs.declared.refusal.PcfRefusal.TheVariants.{Length, EtherType, Reserved, Kind}
-use Rattle.pcf_codec.specs.Fields.{field}
-use Rattle.pcf_codec.specs.EtherType.{pcf_type}
-use Rattle.pcf_codec.specs.Spelling.{pcf_length, code_of}
-use Rattle.pcf_codec.specs.Decoding.{decoded, fields_read, zeros_read, kind_read, frame_in}
-use Rattle.pcf_codec.proofs.Zeros.{stops, goes_on, ends}
+use Rattle.pcf_values.specs.declared.pcf.PcfKind.{PcfKind, TheVariants.{ColdStart, ColdStartAck, Integration}}
+use Rattle.pcf_codec.{proofs.Zeros.{ends, goes_on, stops}, specs.{Decoding.{decoded, fields_read, frame_in, kind_read, zeros_read}, EtherType.pcf_type}}
+use Rattle.pcf_codec.specs.{Fields.field, Spelling.{code_of, pcf_length}, declared.refusal.PcfRefusal.PcfRefusal}
+use Rattle.pcf_codec.specs.declared.refusal.PcfRefusal.TheVariants.{EtherType, Kind, Length, Reserved}
 
 -- n octets from place i on are zero
 abbrev pub AreZero : ℕ → ℕ → List ℕ → Type 0

@@ -1,8 +1,5 @@
-use Rattle.std.proofs.Common.{◌≡◌, ℕ, zero, suc, ◌+◌, ◌-◌, ◌<◌, List, get_or, Result, Ok, Err, refl, arith, sym, ◌∙◌}
-use Rattle.std.proofs.lemmas.Bool.Decides.{nat_tests}
-use Rattle.pcf_codec.specs.declared.refusal.PcfRefusal.{PcfRefusal}
-use Rattle.pcf_codec.specs.declared.refusal.PcfRefusal.TheVariants.{Reserved}
-use Rattle.pcf_codec.specs.Decoding.{zeros_read}
+use Rattle.std.proofs.{Common.{◌+◌, ◌-◌, ◌<◌, ◌∙◌, ◌≡◌, Err, List, Ok, Result, arith, get_or, refl, suc, sym, zero, ℕ}, lemmas.Bool.Decides.nat_tests}
+use Rattle.pcf_codec.specs.{Decoding.zeros_read, declared.refusal.PcfRefusal.{PcfRefusal, TheVariants.Reserved}}
 
 abbrev none : Result (Unit {0}) PcfRefusal
 none = Ok tt

@@ -1,4 +1,4 @@
-use Rattle.std.specs.Prelude.{◌≡◌, ℕ, ◌≤◌, List, length}
+use Rattle.std.specs.Prelude.{◌≡◌, ◌≤◌, List, length, ℕ}
 use Rattle.pcf_codec.specs.Fields.{field}
 
 -- the EtherType of a protocol control frame (SAE AS6802)

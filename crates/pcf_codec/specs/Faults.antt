@@ -1,11 +1,8 @@
 -- What can be wrong with octets that are to be a protocol control frame.
-use Rattle.std.specs.Prelude.{◌≡◌, ◌≢◌, ℕ, ◌≤◌, List, length, slice_index}
+use Rattle.std.specs.Prelude.{◌≡◌, ◌≢◌, ◌≤◌, List, length, slice_index, ℕ}
 use Rattle.pcf_values.specs.declared.pcf.PcfKind.{PcfKind}
-use Rattle.pcf_codec.specs.declared.refusal.PcfRefusal.{PcfRefusal}
-use Rattle.pcf_codec.specs.declared.refusal.PcfRefusal.TheVariants.{Length, EtherType, Reserved, Kind}
-use Rattle.pcf_codec.specs.Fields.{field}
-use Rattle.pcf_codec.specs.EtherType.{pcf_type}
-use Rattle.pcf_codec.specs.Spelling.{pcf_length, code_of, IsReserved}
+use Rattle.pcf_codec.specs.{EtherType.pcf_type, Fields.field, Spelling.{IsReserved, code_of, pcf_length}}
+use Rattle.pcf_codec.specs.declared.refusal.PcfRefusal.{PcfRefusal, TheVariants.{EtherType, Kind, Length, Reserved}}
 
 -- the offset at which a fault stands; a wrong length comes before any
 abbrev pub offset_of : PcfRefusal → ℕ

@@ -1,5 +1,5 @@
 -- The fields of a frame. All of them are big-endian (IEEE 802.3).
-use Rattle.std.specs.Prelude.{ℕ, List, drop}
+use Rattle.std.specs.Prelude.{List, drop, ℕ}
 use Rattle.byteorder.specs.Endian.{big_number}
 
 -- the number that n octets from an offset on spell, the greatest first

@@ -1,8 +1,6 @@
-use Rattle.std.specs.Prelude.{ℕ, List, take}
-use Rattle.pcf_codec.specs.declared.reader.Progress.{Progress}
-use Rattle.pcf_codec.specs.declared.reader.Progress.TheVariants.{Filling, Whole, Refused}
-use Rattle.pcf_codec.specs.declared.reader.PcfReader.TheInside.{Inside}
-use Rattle.pcf_codec.specs.Reading.{Reading, holding, waiting, refused}
+use Rattle.std.specs.Prelude.{List, take, ℕ}
+use Rattle.pcf_codec.specs.{Reading.{Reading, holding, refused, waiting}, declared.reader.PcfReader.TheInside.Inside}
+use Rattle.pcf_codec.specs.declared.reader.Progress.{Progress, TheVariants.{Filling, Refused, Whole}}
 
 -- how many octets of an unfinished frame are there
 abbrev pub held_in : Progress → ℕ

@@ -1,11 +1,9 @@
 -- A reader of the frames of a stream that comes in pieces.
-use Rattle.std.specs.Prelude.{◌≡◌, ℕ, ◌-◌, List, [], ◌∷◌, ◌++◌, length, take, Option, Some, None, Result, Ok, Err, nat_lt, if◌then◌else◌}
+use Rattle.std.specs.Prelude.{if◌then◌else◌, ◌++◌, ◌-◌, ◌∷◌, ◌≡◌, Err, List, None, Ok, Option, Result, Some, [], length}
+use Rattle.std.specs.Prelude.{nat_lt, take, ℕ}
 use Rattle.pcf_values.specs.declared.pcf.Pcf.{Pcf}
-use Rattle.pcf_codec.specs.declared.refusal.PcfRefusal.{PcfRefusal}
-use Rattle.pcf_codec.specs.declared.refusal.PcfRefusal.TheVariants.{Length}
-use Rattle.pcf_codec.specs.Spelling.{pcf_length}
-use Rattle.pcf_codec.specs.Decoding.{decoded}
-use Rattle.pcf_codec.specs.Sequence.{IsLongestFront, IsUnfinished, IsRefusedFrame}
+use Rattle.pcf_codec.specs.{Decoding.decoded, Sequence.{IsLongestFront, IsRefusedFrame, IsUnfinished}}
+use Rattle.pcf_codec.specs.{Spelling.pcf_length, declared.refusal.PcfRefusal.{PcfRefusal, TheVariants.Length}}
 
 -- what a reader stands at: octets of an unfinished frame, maybe none; a whole frame; a refusal
 pub data Reading : Type 0 where

@@ -1,9 +1,7 @@
 -- Frames one after another.
-use Rattle.std.specs.Prelude.{◌≡◌, ℕ, ◌≤◌, ◌<◌, List, [], ◌∷◌, ◌++◌, length, Err}
+use Rattle.std.specs.Prelude.{◌++◌, ◌<◌, ◌∷◌, ◌≡◌, ◌≤◌, Err, List, [], length, ℕ}
 use Rattle.pcf_values.specs.declared.pcf.Pcf.{Pcf}
-use Rattle.pcf_codec.specs.declared.refusal.PcfRefusal.{PcfRefusal}
-use Rattle.pcf_codec.specs.Spelling.{Spells, pcf_length}
-use Rattle.pcf_codec.specs.Decoding.{decoded}
+use Rattle.pcf_codec.specs.{Decoding.decoded, Spelling.{Spells, pcf_length}, declared.refusal.PcfRefusal.PcfRefusal}
 
 -- the octets are the spellings of these frames, one after another
 abbrev pub SpellsAll : List ℕ → List Pcf → Type 0

@@ -1,10 +1,8 @@
 -- The layout of a protocol control frame (SAE AS6802).
-use Rattle.std.specs.Prelude.{◌≡◌, ◌⊎◌, ℕ, ◌≤◌, ◌<◌, List, length, slice_index}
-use Rattle.pcf_values.specs.declared.pcf.Pcf.{Pcf}
-use Rattle.pcf_values.specs.declared.pcf.PcfKind.{PcfKind}
-use Rattle.pcf_values.specs.declared.pcf.PcfKind.TheVariants.{Integration, ColdStart, ColdStartAck}
-use Rattle.pcf_codec.specs.Fields.{field}
-use Rattle.pcf_codec.specs.EtherType.{pcf_type}
+use Rattle.std.specs.Prelude.{◌<◌, ◌≡◌, ◌≤◌, ◌⊎◌, List, length, slice_index, ℕ}
+use Rattle.pcf_values.specs.declared.pcf.{Pcf.Pcf, PcfKind.PcfKind}
+use Rattle.pcf_values.specs.declared.pcf.PcfKind.TheVariants.{ColdStart, ColdStartAck, Integration}
+use Rattle.pcf_codec.specs.{EtherType.pcf_type, Fields.field}
 
 -- how many octets a frame has, without its check sequence
 abbrev pub pcf_length : ℕ

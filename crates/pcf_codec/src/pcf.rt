@@ -1,7 +1,6 @@
-ghost use Rattle.std.specs.Prelude.{◌≡◌, ◌<◌, ◌≤◌, ◌+◌, ◌^◌, ℕ, length, slice_index, Ok};
-ghost use Rattle.pcf_codec.specs.Decoding.{decoded, zeros_read, kind_read};
-ghost use Rattle.pcf_codec.specs.Encoded.{encoded};
-ghost use Rattle.pcf_codec.specs.Spelling.{Spells, IsPadding, code_of};
+ghost use Rattle.std.specs.Prelude.{◌+◌, ◌<◌, ◌^◌, ◌≡◌, ◌≤◌, Ok, length, slice_index, ℕ};
+ghost use Rattle.pcf_codec.specs.{Decoding.{decoded, kind_read, zeros_read}, Encoded.encoded};
+ghost use Rattle.pcf_codec.specs.Spelling.{IsPadding, Spells, code_of};
 
 use crate::PcfRefusal;
 use crate::ethertype::PCF_TYPE;

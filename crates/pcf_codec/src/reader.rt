@@ -27,8 +27,7 @@ enum Progress {
 
 impl Model for PcfReader {
     ghost use Rattle.std.specs.Prelude.{◌<◌};
-    ghost use Rattle.pcf_codec.specs.Reading.{Reading};
-    ghost use Rattle.pcf_codec.specs.Spelling.{pcf_length};
+    ghost use Rattle.pcf_codec.specs.{Reading.Reading, Spelling.pcf_length};
 
     ghost Value = { Reading };
 

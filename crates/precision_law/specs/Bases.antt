@@ -1,22 +1,14 @@
 -- The compressed frames that compression masters send, their bases, and who hears them.
-use Rattle.std.specs.Prelude.{◌≡◌, ◌⊎◌, ℕ, ◌+◌, ℤ, pos, ◌+ℤ◌, ◌-ℤ◌, ◌≤ℤ◌, Some}
+use Rattle.std.specs.Prelude.{◌+ℤ◌, ◌+◌, ◌-ℤ◌, ◌≡◌, ◌≤ℤ◌, ◌⊎◌, Some, pos, ℕ, ℤ}
 use Rattle.membership.specs.Members.{IsMember}
-use Rattle.net_plan.specs.declared.ids.DeviceId.{DeviceId}
-use Rattle.net_plan.specs.declared.ids.LinkId.{LinkId}
-use Rattle.net_plan.specs.declared.tables.Way.TheVariants.{Down}
-use Rattle.pcf_values.specs.declared.channel.Channel.{Channel}
-use Rattle.pcf_values.specs.declared.members.Members.{Members}
-use Rattle.precision_law.specs.Hulls.{Hull, hull_of}
-use Rattle.precision_law.specs.Sizes.{Sizes, expectation}
-use Rattle.precision_law.specs.Views.{IsBad, IsGood, View}
-use Rattle.run_law.specs.declared.judgement.Judgement.{Judgement}
-use Rattle.run_law.specs.declared.note.NoteBody.TheVariants as notes
-use Rattle.run_law.specs.records.Causes.{GoesBackTo}
-use Rattle.run_law.specs.records.Happenings.{Happening, time_of}
-use Rattle.run_law.specs.records.Order.{IsIn}
-use Rattle.run_law.specs.scenario.Devices.{channel_of, member_of}
-use Rattle.run_law.specs.scenario.Ways.{way_to}
+use Rattle.net_plan.specs.declared.{ids.{DeviceId.DeviceId, LinkId.LinkId}, tables.Way.TheVariants.Down}
+use Rattle.pcf_values.specs.declared.{channel.Channel.Channel, members.Members.Members}
+use Rattle.run_law.specs.{declared.judgement.Judgement.Judgement, records.Causes.GoesBackTo}
+use Rattle.run_law.specs.records.{Happenings.{Happening, time_of}, Order.IsIn}
+use Rattle.run_law.specs.scenario.{Devices.{channel_of, member_of}, Ways.way_to}
 use Rattle.tte_units.specs.declared.units.Units.{Units}
+use Rattle.precision_law.specs.{Hulls.{Hull, hull_of}, Sizes.{Sizes, expectation}, Views.{IsBad, IsGood, View}}
+use Rattle.run_law.specs.declared.note.NoteBody.TheVariants as notes
 
 -- the base of what is sent at a time: when its members' frames would have been dispatched
 abbrev pub base_of : Sizes → ℕ → ℤ

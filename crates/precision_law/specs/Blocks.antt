@@ -1,21 +1,17 @@
 -- How the network stands when the block of a cycle is over.
-use Rattle.std.specs.Prelude.{◌≡◌, ◌⊎◌, ℕ, suc, ◌+◌, ◌*◌, ◌<◌, ◌≤◌, ℤ, pos, ◌+ℤ◌, ◌-ℤ◌, ◌≤ℤ◌, ◌<ℤ◌, true, Some, false}
+use Rattle.std.specs.Prelude.{◌*◌, ◌+ℤ◌, ◌+◌, ◌-ℤ◌, ◌<ℤ◌, ◌<◌, ◌≡◌, ◌≤ℤ◌, ◌≤◌, ◌⊎◌, Some, false, pos, suc, true, ℕ, ℤ}
 use Rattle.net_plan.specs.declared.ids.DeviceId.{DeviceId}
+use Rattle.run_law.specs.{control.Corrections.has_cleared, declared.judgement.Why.Why}
+use Rattle.run_law.specs.declared.judgement.Why.TheVariants.{AsyncClique, Correction, Frame, On, SyncClique}
+use Rattle.run_law.specs.device.LocalClocks.{changed_at}
+use Rattle.run_law.specs.device.States.{adjustment_before, cycle_in, is_joined_by, state_after}
+use Rattle.run_law.specs.records.{Happenings.{Happening, earlier, time_of}, Order.IsIn}
+use Rattle.sync_state.specs.declared.state.State.{State, TheVariants.Synchronised}
 use Rattle.precision_law.specs.Anchors.{IsAnchored, IsAnchoredIn}
 use Rattle.precision_law.specs.Epochs.{epoch_cycle, epoch_time, has_time, is_corrected}
 use Rattle.precision_law.specs.Hulls.{Hull, IsInHull, IsNarrow, IsOverBefore, first_correction, hull_of}
-use Rattle.precision_law.specs.Standings.{IsNearHull}
-use Rattle.precision_law.specs.Views.{IsDispatch, IsFirm, IsGood, IsGoodEnd, View}
-use Rattle.run_law.specs.control.Corrections.{has_cleared}
-use Rattle.run_law.specs.declared.judgement.Why.TheVariants.{On, Frame, Correction, SyncClique, AsyncClique}
-use Rattle.run_law.specs.declared.judgement.Why.{Why}
+use Rattle.precision_law.specs.{Standings.IsNearHull, Views.{IsDispatch, IsFirm, IsGood, IsGoodEnd, View}}
 use Rattle.run_law.specs.declared.note.NoteBody.TheVariants as notes
-use Rattle.run_law.specs.device.LocalClocks.{changed_at}
-use Rattle.run_law.specs.device.States.{adjustment_before, state_after, is_joined_by, cycle_in}
-use Rattle.run_law.specs.records.Happenings.{Happening, earlier, time_of}
-use Rattle.run_law.specs.records.Order.{IsIn}
-use Rattle.sync_state.specs.declared.state.State.TheVariants.{Synchronised}
-use Rattle.sync_state.specs.declared.state.State.{State}
 
 -- ---- devices
 

@@ -1,19 +1,17 @@
 -- What a device's clock was last set to fixes since then.
-use Rattle.std.specs.Prelude.{◌≡◌, ℕ, ◌+◌, ◌<◌, ◌≤◌, ℤ, pos, ◌+ℤ◌, ◌-ℤ◌, ◌≤ℤ◌, ◌<ℤ◌, true, false, if◌then◌else◌, List, Option, Some, None}
 use Rattle.std.specs.Option.{option_map_or}
+use Rattle.std.specs.Prelude.{if◌then◌else◌, ◌+ℤ◌, ◌+◌, ◌-ℤ◌, ◌<ℤ◌, ◌<◌, ◌≡◌, ◌≤ℤ◌, ◌≤◌, List, None, Option, Some}
+use Rattle.std.specs.Prelude.{false, pos, true, ℕ, ℤ}
 use Rattle.net_plan.specs.declared.ids.DeviceId.{DeviceId}
-use Rattle.precision_law.specs.Blocks.{adjustment_left, state_left}
-use Rattle.precision_law.specs.Epochs.{cycle_set, epoch_cycle, epoch_time, has_time, is_corrected, is_correction, last_setting}
-use Rattle.precision_law.specs.Readings.{IsFirstRead}
-use Rattle.precision_law.specs.Views.{IsView, View}
 use Rattle.run_law.specs.control.Corrections.{has_cleared, next_cycle, recorded_cycle}
 use Rattle.run_law.specs.device.LocalClocks.{Reaches, changed_at}
 use Rattle.run_law.specs.device.States.{adjustment_after, adjustment_with, cycle_in}
-use Rattle.run_law.specs.records.Happenings.{Happening, earlier}
-use Rattle.run_law.specs.scenario.Devices.{start_of}
-use Rattle.run_law.specs.scenario.Scenarios.{Scenario}
+use Rattle.run_law.specs.{records.Happenings.{Happening, earlier}, scenario.{Devices.start_of, Scenarios.Scenario}}
 use Rattle.sync_state.specs.Standing.{adjustment_at_start}
 use Rattle.tte_units.specs.declared.units.Units.{Units}
+use Rattle.precision_law.specs.Blocks.{adjustment_left, state_left}
+use Rattle.precision_law.specs.Epochs.{cycle_set, epoch_cycle, epoch_time, has_time, is_corrected, is_correction}
+use Rattle.precision_law.specs.{Epochs.last_setting, Readings.IsFirstRead, Views.{IsView, View}}
 
 -- the adjustment that the last record which set it shows, or that of the start
 abbrev pub set_adjustment : Scenario → DeviceId → Option Happening → Units

@@ -1,15 +1,11 @@
 -- Since when a device's clock stands as it does.
-use Rattle.std.specs.Prelude.{ℕ, ℤ, pos, negsuc, Bool, true, false, List, filter, Option, None}
-use Rattle.std.specs.List.{last_or}
-use Rattle.std.specs.Option.{option_map_or}
+use Rattle.std.specs.{List.last_or, Option.option_map_or}
+use Rattle.std.specs.Prelude.{Bool, List, None, Option, false, filter, negsuc, pos, true, ℕ, ℤ}
 use Rattle.net_plan.specs.declared.ids.DeviceId.{DeviceId}
-use Rattle.run_law.specs.declared.note.NoteBody.TheVariants as notes
-use Rattle.run_law.specs.declared.note.NoteBody.{NoteBody}
-use Rattle.run_law.specs.device.LocalClocks.{changes_adjustment}
-use Rattle.run_law.specs.device.States.{cycle_in}
+use Rattle.run_law.specs.{declared.note.NoteBody.NoteBody, device.{LocalClocks.changes_adjustment, States.cycle_in}}
 use Rattle.run_law.specs.records.Happenings.{Happening, time_of}
-use Rattle.sync_state.specs.declared.state.State.TheVariants.{Off, Integrating, Joining, Synchronised}
-use Rattle.sync_state.specs.declared.state.State.{State}
+use Rattle.sync_state.specs.declared.state.State.{State, TheVariants.{Integrating, Joining, Off, Synchronised}}
+use Rattle.run_law.specs.declared.note.NoteBody.TheVariants as notes
 
 -- has a device in this state a common time?
 abbrev pub has_time : State → Bool

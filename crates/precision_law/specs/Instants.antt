@@ -1,8 +1,7 @@
 -- The order of the instants of a cycle.
-use Rattle.std.specs.Prelude.{◌≡◌, ℕ, suc, ◌+◌, ◌*◌, ◌^◌, ◌≤◌, ℤ, pos, ◌+ℤ◌, ◌≤ℤ◌, ◌<ℤ◌}
-use Rattle.precision_law.specs.Hulls.{Hull, IsNarrow, first_correction, first_dispatch, last_correction, last_dispatch, start_hull}
-use Rattle.precision_law.specs.Sizes.{HaveRoom, Sizes, expectation}
-use Rattle.precision_law.specs.Standings.{Follows, ShowsIn}
+use Rattle.std.specs.Prelude.{◌*◌, ◌+ℤ◌, ◌+◌, ◌<ℤ◌, ◌^◌, ◌≡◌, ◌≤ℤ◌, ◌≤◌, pos, suc, ℕ, ℤ}
+use Rattle.precision_law.specs.Hulls.{Hull, IsNarrow, first_correction, first_dispatch, last_correction, last_dispatch}
+use Rattle.precision_law.specs.{Hulls.start_hull, Sizes.{HaveRoom, Sizes, expectation}, Standings.{Follows, ShowsIn}}
 
 -- behind the last correction of a cycle there are more than four precisions to the first dispatch of the cycle after
 -- the next

@@ -1,30 +1,19 @@
 -- How protocol control frames travel.
-use Rattle.std.specs.Prelude.{◌≡◌, ◌⊎◌, ℕ, ◌+◌, ◌^◌, ◌<◌, ◌≤◌, ℤ, pos, false, List, [], ◌∷◌, map, fold, Some}
 use Rattle.std.specs.Option.{option_map_or}
+use Rattle.std.specs.Prelude.{◌+◌, ◌<◌, ◌^◌, ◌∷◌, ◌≡◌, ◌≤◌, ◌⊎◌, List, Some, [], false, fold, map, pos, ℕ, ℤ}
 use Rattle.drift_clock.specs.Reach.{IsReach}
-use Rattle.net_plan.specs.Paths.{IsPath}
-use Rattle.net_plan.specs.Places.{IsCmOf, IsDeviceOf}
-use Rattle.net_plan.specs.declared.ids.DeviceId.{DeviceId}
-use Rattle.net_plan.specs.declared.ids.LinkId.{LinkId}
-use Rattle.net_plan.specs.declared.tables.Way.TheVariants.{Up, Down}
-use Rattle.net_plan.specs.declared.tables.Way.{Way}
-use Rattle.pcf_values.specs.declared.channel.Channel.{Channel}
-use Rattle.pcf_values.specs.declared.members.Members.{Members}
-use Rattle.precision_law.specs.Bases.{IsEmission, IsHeard, base_of}
-use Rattle.precision_law.specs.Standings.{IsTimely}
-use Rattle.precision_law.specs.Views.{IsBad, IsDispatch, IsGood, IsSoundSwitch, IsView, View}
-use Rattle.run_law.specs.control.Arrivals.{is_gate_shut}
-use Rattle.run_law.specs.control.Leaving.{Gives}
-use Rattle.run_law.specs.declared.note.NoteBody.TheVariants as notes
-use Rattle.run_law.specs.device.Standpoints.{standpoint}
-use Rattle.run_law.specs.device.States.{cycle_in, is_off, state_before}
-use Rattle.run_law.specs.records.Causes.{GoesBackTo}
-use Rattle.run_law.specs.records.Happenings.{Happening, time_of}
-use Rattle.run_law.specs.records.Order.{IsIn}
-use Rattle.run_law.specs.records.Ranks.{members_in}
+use Rattle.net_plan.specs.{Paths.IsPath, Places.{IsCmOf, IsDeviceOf}, declared.ids.{DeviceId.DeviceId, LinkId.LinkId}}
+use Rattle.net_plan.specs.declared.tables.Way.{Way, TheVariants.{Down, Up}}
+use Rattle.pcf_values.specs.declared.{channel.Channel.Channel, members.Members.Members}
+use Rattle.run_law.specs.{control.{Arrivals.is_gate_shut, Leaving.Gives}, device.Standpoints.standpoint}
+use Rattle.run_law.specs.{device.States.{cycle_in, is_off, state_before}, records.Causes.GoesBackTo}
+use Rattle.run_law.specs.records.{Happenings.{Happening, time_of}, Order.IsIn, Ranks.members_in}
 use Rattle.run_law.specs.scenario.Devices.{channel_of, channel_of_link, member_of}
 use Rattle.run_law.specs.scenario.Ways.{receiver_of, way_from, way_to}
 use Rattle.transparent_clock.specs.Points.{point_of}
+use Rattle.precision_law.specs.{Bases.{IsEmission, IsHeard, base_of}, Standings.IsTimely}
+use Rattle.precision_law.specs.Views.{IsBad, IsDispatch, IsGood, IsSoundSwitch, IsView, View}
+use Rattle.run_law.specs.declared.note.NoteBody.TheVariants as notes
 
 -- ---- legs
 

@@ -1,7 +1,6 @@
 ghost use Rattle.precision_law.specs.Dispatches.{DispatchesHalve, DispatchesStayNear};
 ghost use Rattle.precision_law.specs.IdealClocks.{ClocksKeepTheSpan, ClocksKeepTheirCycles, ValuesAreReachedOnTime};
-ghost use Rattle.precision_law.specs.Joined.{JoinersComeIn};
-ghost use Rattle.precision_law.specs.Precision.{ClocksStayTogether, TimeIsKept};
+ghost use Rattle.precision_law.specs.{Joined.JoinersComeIn, Precision.{ClocksStayTogether, TimeIsKept}};
 
 /// The clocks of any two correct synchronised devices stay within the precision.
 pub fn clocks_stay_together()

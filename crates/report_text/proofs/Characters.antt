@@ -1,19 +1,10 @@
 -- The characters of words: none is a space or an LF.
-use Rattle.std.proofs.lemmas.Bool.Decides.{nat_tests}
-use Rattle.std.proofs.Common.{◌≡◌, ℕ, zero, suc, ◌<◌, ◌^◌, Bool, true, List, [], ◌∷◌, refl, ap, ◌∙◌, arith}
-use Rattle.std.specs.Prelude.{All, decimal, ℤ, pos, negsuc, nat_lt}
-use Rattle.std.specs.Fmt.{signed_decimal}
-use Rattle.std.specs.Char.{digit_value}
-use Rattle.std.specs.Int.{w32, byte_at, bytes_high_first, to_be_bytes}
-use Rattle.std.specs.Int.Signed.{mag}
-use Rattle.std.specs.List.{list_all}
-use Rattle.std.specs.Str.Parse.{AllDigits}
-use Rattle.std.proofs.lemmas.Fmt.{decimal_is_IsNumeral}
-use Rattle.std.proofs.lemmas.List.Elements.{All-cons, All-nil, All-weaker}
-use Rattle.std.proofs.lemmas.List.Sums.{AllPass-from_list_all}
-use Rattle.hex.specs.Hex.{IsBytes, is_hex_digit, decode_of, encode_lower}
-use Rattle.hex.proofs.HexLemmas.{decode_of-ok, decode_of-same, decode_of-encode_lower}
-use Rattle.net_plan.specs.NameText.{is_name_character, IsNameText}
+use Rattle.std.proofs.{Common.{◌<◌, ◌^◌, ◌∙◌, ◌∷◌, ◌≡◌, Bool, List, [], ap, arith, refl, suc, true, zero, ℕ}, lemmas.Bool.Decides.nat_tests}
+use Rattle.std.{proofs.lemmas.{Fmt.decimal_is_IsNumeral, List.{Elements.{All-cons, All-nil, All-weaker}, Sums.AllPass-from_list_all}}, specs.Char.digit_value}
+use Rattle.std.specs.{Fmt.signed_decimal, Int.{byte_at, bytes_high_first, to_be_bytes, w32, Signed.mag}, List.list_all}
+use Rattle.std.specs.{Prelude.{All, decimal, nat_lt, negsuc, pos, ℤ}, Str.Parse.AllDigits}
+use Rattle.hex.{proofs.HexLemmas.{decode_of-encode_lower, decode_of-ok, decode_of-same}, specs.Hex.{IsBytes, decode_of, encode_lower, is_hex_digit}}
+use Rattle.net_plan.specs.NameText.{IsNameText, is_name_character}
 use Rattle.tte_lemmas.proofs.Naturals.{byte_at_small}
 
 -- the character is above ASCII's space

@@ -1,11 +1,8 @@
 -- The lines of records, from their pieces.
-use Rattle.std.proofs.Common.{◌≡◌, ℕ, List, ◌∷◌, ◌++◌, refl}
-use Rattle.std.specs.List.{join_with_byte}
-use Rattle.net_plan.specs.declared.event.What.{What}
+use Rattle.std.{proofs.Common.{◌++◌, ◌∷◌, ◌≡◌, List, refl, ℕ}, specs.List.join_with_byte}
+use Rattle.net_plan.specs.declared.{event.What.What, network.Network.Network}
+use Rattle.trace_text.specs.{EventLine.{what_text, what_words}, Steps.space}
 use Rattle.net_plan.specs.declared.event.What.TheVariants as events
-use Rattle.net_plan.specs.declared.network.Network.{Network}
-use Rattle.trace_text.specs.EventLine.{what_words, what_text}
-use Rattle.trace_text.specs.Steps.{space}
 
 -- an event's text stands behind the words before it
 pub event_joined : (word : List ℕ) (network : Network) (what : What) → join_with_byte space (word ∷ what_words network what) ≡ word ++ space

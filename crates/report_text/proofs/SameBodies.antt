@@ -1,19 +1,14 @@
 -- Records of one text are one.
-use Rattle.std.proofs.Common.{◌≡◌, ℕ, take, drop, refl, sym, ap, ◌∙◌}
-use Rattle.net_plan.specs.declared.ids.DeviceId.{DeviceId}
-use Rattle.net_plan.specs.declared.ids.LinkId.{LinkId}
-use Rattle.net_plan.specs.declared.ids.VlId.{VlId}
-use Rattle.net_plan.specs.declared.network.Network.{Network}
+use Rattle.std.proofs.Common.{◌∙◌, ◌≡◌, ap, drop, refl, sym, take, ℕ}
+use Rattle.net_plan.specs.{Belonging.HasVl, declared.{ids.{DeviceId.DeviceId, LinkId.LinkId, VlId.VlId}, network.Network.Network}}
 use Rattle.run_law.specs.declared.note.NoteBody.{NoteBody}
-use Rattle.run_law.specs.declared.note.NoteBody.TheVariants as bodies
 use Rattle.trace_text.specs.Steps.{Words, words}
-use Rattle.report_text.specs.NoteLine.{passage_words, stream_words, body_words, body_text}
-use Rattle.net_plan.specs.Belonging.{HasVl}
-use Rattle.report_text.specs.Ranges.{HasPassage, IsCount, IsShortCount, IsBodyOf, IsBodyInRange}
 use Rattle.tte_lemmas.proofs.Lists.{differ}
-use Rattle.report_text.proofs.SameWords.{IsNamedApart, word_at, same_count, same_short, same_units, same_members, same_device, same_link, same_vl, same_state, same_judgement, same_why, same_reason, same_what}
-use Rattle.report_text.proofs.Texts.{words_of_line}
-use Rattle.report_text.proofs.Visible.{body_visible}
+use Rattle.report_text.proofs.SameWords.{IsNamedApart, same_count, same_device, same_judgement, same_link, same_members, same_reason, same_short, same_state}
+use Rattle.report_text.proofs.{SameWords.{same_units, same_vl, same_what, same_why, word_at}, Texts.words_of_line, Visible.body_visible}
+use Rattle.report_text.specs.NoteLine.{body_text, body_words, passage_words, stream_words}
+use Rattle.report_text.specs.Ranges.{HasPassage, IsBodyInRange, IsBodyOf, IsCount, IsShortCount}
+use Rattle.run_law.specs.declared.note.NoteBody.TheVariants as bodies
 
 -- what a record of the network says, with its numbers in range
 pub record IsPrintable (network : Network) (body : NoteBody) : Type 0 where

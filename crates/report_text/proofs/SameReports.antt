@@ -1,26 +1,15 @@
 -- Lists of records of one report are one.
-use Rattle.std.proofs.Common.{◌≡◌, ℕ, List, [], ◌∷◌, ◌++◌, length, refl, sym, ap, subst, ◌∙◌, append_assoc, length-append, arith}
-use Rattle.std.specs.Prelude.{codes, decimal}
-use Rattle.std.specs.Fmt.{signed_decimal}
-use Rattle.std.specs.List.{concat}
-use Rattle.std.proofs.lemmas.Fmt.{decimal_injective}
-use Rattle.std.proofs.lemmas.List.Elements.{All-head, All-tail}
-use Rattle.net_plan.specs.Ranges.{IsInRange}
-use Rattle.net_plan.specs.declared.network.Network.{Network}
-use Rattle.run_law.specs.declared.note.Note.{Note}
-use Rattle.run_law.specs.declared.note.NoteBody.{NoteBody}
-use Rattle.trace_text.specs.Steps.{space, is_space}
+use Rattle.std.proofs.Common.{◌++◌, ◌∙◌, ◌∷◌, ◌≡◌, List, [], ap, append_assoc, arith, length, length-append, refl, subst, sym, ℕ}
+use Rattle.std.{proofs.lemmas.{Fmt.decimal_injective, List.Elements.{All-head, All-tail}}, specs.{Fmt.signed_decimal, List.concat, Prelude.{codes, decimal}}}
+use Rattle.net_plan.specs.{Ranges.IsInRange, declared.network.Network.Network}
+use Rattle.run_law.specs.declared.note.{Note.Note, NoteBody.NoteBody}
+use Rattle.trace_text.specs.Steps.{is_space, space}
 use Rattle.tte_io.specs.Line.{lf}
 use Rattle.tte_units.specs.declared.units.Units.{Units}
-use Rattle.report_text.specs.Laws.{AreOfNetwork, OneReport}
-use Rattle.report_text.specs.NoteLine.{body_words, body_text, note_text, report_of}
-use Rattle.report_text.specs.Ranges.{IsNoteOf, IsNoteInRange}
-use Rattle.report_text.proofs.Characters.{IsVisible, decimal_visible}
-use Rattle.report_text.proofs.SameBodies.{IsPrintable, same_body}
-use Rattle.report_text.proofs.SameWords.{IsNamedApart, same_units}
-use Rattle.report_text.proofs.Splits.{IsSplit, split_once}
-use Rattle.report_text.proofs.Texts.{is_lf, IsUnbroken, visible_unbroken, visible_word, unbroken_spaced, line_unbroken}
-use Rattle.report_text.proofs.Visible.{units_visible, body_visible}
+use Rattle.report_text.proofs.{Characters.{IsVisible, decimal_visible}, SameBodies.{IsPrintable, same_body}, SameWords.{IsNamedApart, same_units}}
+use Rattle.report_text.proofs.{Splits.{IsSplit, split_once}, Texts.{IsUnbroken, is_lf, line_unbroken, unbroken_spaced, visible_unbroken, visible_word}}
+use Rattle.report_text.{proofs.Visible.{body_visible, units_visible}, specs.Laws.{AreOfNetwork, OneReport}}
+use Rattle.report_text.specs.{NoteLine.{body_text, body_words, note_text, report_of}, Ranges.{IsNoteInRange, IsNoteOf}}
 
 -- a record of the network with its numbers in range
 pub record IsWritable (network : Network) (note : Note) : Type 0 where

@@ -1,46 +1,27 @@
 -- Words of one spelling are one.
-use Rattle.std.proofs.Common.{◌≡◌, ◌≢◌, ℕ, ◌<◌, ◌^◌, List, [], ◌∷◌, ◌++◌, Some, Ok, Err, refl, sym, ap, ◌∙◌, arith}
+use Rattle.std.proofs.Common.{◌++◌, ◌<◌, ◌^◌, ◌∙◌, ◌∷◌, ◌≡◌, ◌≢◌, Err, List, Ok, Some, [], ap, arith, refl, sym, ℕ}
+use Rattle.std.{proofs.lemmas.{Fmt.{decimal_injective, signed_decimal_injective}, Int.ints, Nat.from_be_bytes-to_be_bytes_4}, specs.Fmt.signed_decimal}
+use Rattle.std.specs.{Int.{from_be_bytes, to_be_bytes, w32}, List.join_with_byte, Option.option_map_or}
 use Rattle.std.specs.Prelude.{Result, codes, decimal, get_or, length, slice_get}
-use Rattle.std.specs.Fmt.{signed_decimal}
-use Rattle.std.specs.Int.{w32, to_be_bytes, from_be_bytes}
-use Rattle.std.specs.List.{join_with_byte}
-use Rattle.std.specs.Option.{option_map_or}
-use Rattle.std.proofs.lemmas.Fmt.{decimal_injective, signed_decimal_injective}
-use Rattle.std.proofs.lemmas.Int.{ints}
-use Rattle.std.proofs.lemmas.Nat.{from_be_bytes-to_be_bytes_4}
-use Rattle.net_plan.specs.Ranges.{IsInRange}
-use Rattle.net_plan.specs.Rules.{DeviceIsNew, LinkIsNew}
-use Rattle.net_plan.specs.declared.event.Event.{Event}
-use Rattle.net_plan.specs.declared.event.What.{What}
-use Rattle.net_plan.specs.declared.ids.DeviceId.{DeviceId}
-use Rattle.net_plan.specs.declared.ids.LinkId.{LinkId}
-use Rattle.net_plan.specs.declared.ids.VlId.{VlId}
-use Rattle.net_plan.specs.declared.network.Network.{Network}
-use Rattle.net_plan.specs.declared.tables.Device.{Device}
+use Rattle.hex.specs.Hex.{encode_lower}
+use Rattle.net_plan.specs.{Belonging.{HasDevice, HasLink, HasVl, IsOfNetwork, device_name, link_name, vl_name}, Ranges.IsInRange}
+use Rattle.net_plan.specs.{Rules.{DeviceIsNew, LinkIsNew}, declared.{event.{Event.Event, What.What}, ids.{DeviceId.DeviceId, LinkId.LinkId, VlId.VlId}}}
+use Rattle.net_plan.specs.declared.{network.Network.Network, tables.Device.Device}
 use Rattle.pcf_values.specs.declared.members.Members.{Members}
-use Rattle.run_law.specs.declared.judgement.Judgement.{Judgement}
-use Rattle.run_law.specs.declared.judgement.Judgement.TheVariants as judgements
-use Rattle.run_law.specs.declared.judgement.Reason.{Reason}
-use Rattle.run_law.specs.declared.judgement.Reason.TheVariants as reasons
-use Rattle.run_law.specs.declared.judgement.Why.{Why}
-use Rattle.run_law.specs.declared.judgement.Why.TheVariants as whys
+use Rattle.run_law.specs.declared.judgement.{Judgement.Judgement, Reason.Reason, Why.Why}
 use Rattle.schedule_tables.specs.Schedule.{VlNameIsNew}
 use Rattle.sync_state.specs.declared.state.State.{State}
-use Rattle.sync_state.specs.declared.state.State.TheVariants as states
-use Rattle.net_plan.specs.Belonging.{device_name, link_name, HasDevice, HasLink, IsOfNetwork, vl_name, HasVl}
-use Rattle.trace_text.specs.EventLine.{what_words, what_text, event_text}
-use Rattle.trace_text.specs.EventReading.{event_read}
-use Rattle.trace_text.specs.Ranges.{IsWhatInRange}
+use Rattle.trace_text.{proofs.EventsBack.reads_back, specs.{EventLine.{event_text, what_text, what_words}, EventReading.event_read, Ranges.IsWhatInRange}}
 use Rattle.trace_text.specs.Steps.{Read, Words, space}
-use Rattle.trace_text.proofs.EventsBack.{reads_back}
-use Rattle.tte_units.specs.Amount.{units_of}
-use Rattle.tte_units.specs.declared.units.Units.{Units}
-use Rattle.hex.specs.Hex.{encode_lower}
-use Rattle.report_text.specs.NoteWords.{members_text, state_text, judgement_text, why_text, reason_words}
-use Rattle.report_text.specs.Ranges.{IsCount, IsShortCount, IsSignedUnits, IsReasonInRange}
 use Rattle.tte_lemmas.proofs.Lists.{differ, some_at}
-use Rattle.report_text.proofs.Characters.{octet_is_byte, word_is_bytes, same_octets}
-use Rattle.report_text.proofs.Visible.{units_mag}
+use Rattle.tte_units.specs.{Amount.units_of, declared.units.Units.Units}
+use Rattle.report_text.proofs.{Characters.{octet_is_byte, same_octets, word_is_bytes}, Visible.units_mag}
+use Rattle.report_text.specs.NoteWords.{judgement_text, members_text, reason_words, state_text, why_text}
+use Rattle.report_text.specs.Ranges.{IsCount, IsReasonInRange, IsShortCount, IsSignedUnits}
+use Rattle.run_law.specs.declared.judgement.Judgement.TheVariants as judgements
+use Rattle.run_law.specs.declared.judgement.Reason.TheVariants as reasons
+use Rattle.run_law.specs.declared.judgement.Why.TheVariants as whys
+use Rattle.sync_state.specs.declared.state.State.TheVariants as states
 
 -- each thing of the network has a name of its own
 pub record IsNamedApart (network : Network) : Type 0 where

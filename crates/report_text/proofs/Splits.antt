@@ -1,9 +1,6 @@
 -- A text that ends at the first octet of a kind.
-use Rattle.std.proofs.Common.{◌≡◌, ℕ, Bool, true, false, List, [], ◌∷◌, ◌++◌, sym, ap, ◌∙◌}
-use Rattle.std.specs.Prelude.{All}
-use Rattle.std.specs.List.{slice_split}
-use Rattle.std.proofs.lemmas.List.{append_cancel_left}
-use Rattle.std.proofs.lemmas.List.Splits.{slice_split_at}
+use Rattle.std.proofs.{Common.{◌++◌, ◌∙◌, ◌∷◌, ◌≡◌, Bool, List, [], ap, false, sym, true, ℕ}, lemmas.List.{append_cancel_left, Splits.slice_split_at}}
+use Rattle.std.specs.{List.slice_split, Prelude.All}
 
 -- no octet of the text passes the test
 abbrev pub NonePasses : (ℕ → Bool) → List ℕ → Type 0

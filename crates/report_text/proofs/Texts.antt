@@ -1,14 +1,9 @@
 -- Texts that no LF breaks, and lines of visible words.
-use Rattle.std.proofs.lemmas.Bool.Decides.{nat_tests}
-use Rattle.std.proofs.Common.{◌≡◌, ℕ, Bool, true, false, List, [], ◌∷◌, ◌++◌, refl, arith}
-use Rattle.std.specs.Prelude.{⊤, ◌==◌}
-use Rattle.std.specs.List.{join_with_byte}
-use Rattle.std.proofs.lemmas.List.Elements.{All-cons, All-append, All-weaker}
-use Rattle.trace_text.specs.Steps.{Words, space, is_space, words}
-use Rattle.trace_text.proofs.Joining.{AreWords, words_joined}
-use Rattle.report_text.proofs.Characters.{is_visible, IsVisible}
-use Rattle.report_text.proofs.Splits.{NonePasses}
+use Rattle.std.proofs.{Common.{◌++◌, ◌∷◌, ◌≡◌, Bool, List, [], arith, false, refl, true, ℕ}, lemmas.Bool.Decides.nat_tests}
+use Rattle.std.{proofs.lemmas.List.Elements.{All-append, All-cons, All-weaker}, specs.{List.join_with_byte, Prelude.{◌==◌, ⊤}}}
+use Rattle.trace_text.{proofs.Joining.{AreWords, words_joined}, specs.Steps.{Words, is_space, space, words}}
 use Rattle.tte_io.specs.Line.{lf}
+use Rattle.report_text.proofs.{Characters.{IsVisible, is_visible}, Splits.NonePasses}
 
 -- the octet is LF
 abbrev pub is_lf : ℕ → Bool

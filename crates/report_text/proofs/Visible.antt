@@ -1,43 +1,24 @@
 -- The words of records are visible.
-use Rattle.std.proofs.Common.{◌≡◌, ℕ, ◌<◌, ◌^◌, true, List, [], ◌∷◌, length, refl, arith}
-use Rattle.std.proofs.lemmas.Int.{ints}
-use Rattle.std.specs.Prelude.{codes, decimal, ℤ, pos, negsuc, neg_ℤ, ◌≤ℤ◌}
-use Rattle.std.specs.Fmt.{signed_decimal}
-use Rattle.std.specs.Int.Signed.{mag}
-use Rattle.std.specs.List.{list_all}
-use Rattle.net_plan.specs.Ranges.{IsInRange, IsDeviceInRange, IsLinkInRange, IsVlInRange}
-use Rattle.net_plan.specs.declared.event.What.{What}
-use Rattle.net_plan.specs.declared.event.What.TheVariants as events
-use Rattle.net_plan.specs.declared.ids.DeviceId.{DeviceId}
-use Rattle.net_plan.specs.declared.ids.LinkId.{LinkId}
-use Rattle.net_plan.specs.declared.ids.VlId.{VlId}
-use Rattle.net_plan.specs.declared.network.Network.{Network}
-use Rattle.net_plan.specs.declared.tables.Way.{Way}
-use Rattle.net_plan.specs.declared.tables.Way.TheVariants.{Up, Down}
-use Rattle.run_law.specs.declared.judgement.Judgement.{Judgement}
-use Rattle.run_law.specs.declared.judgement.Judgement.TheVariants as judgements
-use Rattle.run_law.specs.declared.judgement.Reason.{Reason}
-use Rattle.run_law.specs.declared.judgement.Reason.TheVariants as reasons
-use Rattle.run_law.specs.declared.judgement.Why.{Why}
-use Rattle.run_law.specs.declared.judgement.Why.TheVariants as whys
-use Rattle.run_law.specs.declared.note.NoteBody.{NoteBody}
-use Rattle.run_law.specs.declared.note.NoteBody.TheVariants as bodies
+use Rattle.std.{proofs.{Common.{◌<◌, ◌^◌, ◌∷◌, ◌≡◌, List, [], arith, length, refl, true, ℕ}, lemmas.Int.ints}, specs.{Fmt.signed_decimal, Int.Signed.mag}}
+use Rattle.std.specs.{List.list_all, Prelude.{◌≤ℤ◌, codes, decimal, neg_ℤ, negsuc, pos, ℤ}}
+use Rattle.net_plan.specs.Belonging.{HasDevice, HasLink, HasVl, IsOfNetwork, device_name, link_name, vl_name}
+use Rattle.net_plan.specs.{Ranges.{IsDeviceInRange, IsInRange, IsLinkInRange, IsVlInRange}, declared.{event.What.What, ids.{DeviceId.DeviceId, LinkId.LinkId}}}
+use Rattle.net_plan.specs.declared.{ids.VlId.VlId, network.Network.Network, tables.Way.{Way, TheVariants.{Down, Up}}}
+use Rattle.run_law.specs.declared.{judgement.{Judgement.Judgement, Reason.Reason, Why.Why}, note.NoteBody.NoteBody}
 use Rattle.sync_state.specs.declared.state.State.{State}
-use Rattle.sync_state.specs.declared.state.State.TheVariants as states
-use Rattle.net_plan.specs.Belonging.{device_name, link_name, HasDevice, HasLink, IsOfNetwork, vl_name, HasVl}
-use Rattle.trace_text.specs.EventLine.{what_words}
-use Rattle.trace_text.specs.EventWords.{way_text}
-use Rattle.trace_text.specs.Ranges.{IsTime, IsRate, IsWhatInRange}
-use Rattle.trace_text.specs.Steps.{Words}
-use Rattle.trace_text.proofs.WordsBack.{in_list}
-use Rattle.report_text.proofs.Characters.{is_visible, IsVisible, visible_from_test, name_visible, decimal_visible, signed_visible, hex_visible, octet_is_byte, word_is_bytes}
-use Rattle.report_text.specs.NoteLine.{body_words}
-use Rattle.report_text.specs.NoteWords.{state_text, judgement_text, why_text, reason_words}
-use Rattle.report_text.specs.Ranges.{HasPassage, HasStream, IsCount, IsShortCount, IsSignedUnits, IsReasonInRange, IsBodyOf, IsBodyInRange}
+use Rattle.trace_text.{proofs.WordsBack.in_list, specs.{EventLine.what_words, EventWords.way_text, Ranges.{IsRate, IsTime, IsWhatInRange}, Steps.Words}}
 use Rattle.tte_lemmas.proofs.Lists.{some_at}
-use Rattle.tte_units.specs.declared.rates.Ppb.{Ppb}
-use Rattle.tte_units.specs.declared.units.Units.{Units}
-use Rattle.report_text.proofs.Texts.{AreVisible, AreOfLine}
+use Rattle.tte_units.specs.declared.{rates.Ppb.Ppb, units.Units.Units}
+use Rattle.report_text.proofs.Characters.{IsVisible, decimal_visible, hex_visible, is_visible, name_visible, octet_is_byte, signed_visible, visible_from_test}
+use Rattle.report_text.{proofs.{Characters.word_is_bytes, Texts.{AreOfLine, AreVisible}}, specs.NoteLine.body_words}
+use Rattle.report_text.specs.NoteWords.{judgement_text, reason_words, state_text, why_text}
+use Rattle.report_text.specs.Ranges.{HasPassage, HasStream, IsBodyInRange, IsBodyOf, IsCount, IsReasonInRange, IsShortCount, IsSignedUnits}
+use Rattle.net_plan.specs.declared.event.What.TheVariants as events
+use Rattle.run_law.specs.declared.judgement.Judgement.TheVariants as judgements
+use Rattle.run_law.specs.declared.judgement.Reason.TheVariants as reasons
+use Rattle.run_law.specs.declared.judgement.Why.TheVariants as whys
+use Rattle.run_law.specs.declared.note.NoteBody.TheVariants as bodies
+use Rattle.sync_state.specs.declared.state.State.TheVariants as states
 
 -- ---- names and numbers
 

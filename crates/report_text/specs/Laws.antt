@@ -1,13 +1,9 @@
 -- What holds of reports.
-use Rattle.std.specs.Prelude.{◌≡◌, ℕ, List, All}
-use Rattle.std.specs.List.{concat}
-use Rattle.net_plan.specs.Ranges.{IsInRange}
-use Rattle.net_plan.specs.Rules.{DeviceIsNew, LinkIsNew}
-use Rattle.net_plan.specs.declared.network.Network.{Network}
-use Rattle.report_text.specs.NoteLine.{report_of}
-use Rattle.report_text.specs.Ranges.{IsNoteOf, IsNoteInRange}
+use Rattle.std.specs.{List.concat, Prelude.{◌≡◌, All, List, ℕ}}
+use Rattle.net_plan.specs.{Ranges.IsInRange, Rules.{DeviceIsNew, LinkIsNew}, declared.network.Network.Network}
 use Rattle.run_law.specs.declared.note.Note.{Note}
 use Rattle.schedule_tables.specs.Schedule.{VlNameIsNew}
+use Rattle.report_text.specs.{NoteLine.report_of, Ranges.{IsNoteInRange, IsNoteOf}}
 
 -- records of the network with their numbers in range
 pub record AreOfNetwork (network : Network) (notes : List Note) : Type 0 where

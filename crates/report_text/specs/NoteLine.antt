@@ -17,20 +17,15 @@
 --
 -- DEVICE, LINK and VL are names, and CAUSE is a record's number or 0. M has eight hexadecimal digits; the
 -- other numbers are decimal.
-use Rattle.std.specs.Prelude.{ℕ, ◌+◌, List, [], ◌∷◌, ◌++◌, map, codes, decimal}
-use Rattle.std.specs.Fmt.{signed_decimal}
-use Rattle.std.specs.List.{join_with_byte}
-use Rattle.net_plan.specs.declared.ids.DeviceId.{DeviceId}
-use Rattle.net_plan.specs.declared.ids.LinkId.{LinkId}
-use Rattle.net_plan.specs.declared.ids.VlId.{VlId}
-use Rattle.net_plan.specs.declared.network.Network.{Network}
-use Rattle.run_law.specs.declared.note.Note.{Note}
-use Rattle.run_law.specs.declared.note.NoteBody.{NoteBody}
-use Rattle.run_law.specs.declared.note.NoteBody.TheVariants.{Event, Arrived, Permanent, Compressed, Sent, Corrected, State, Left, Lost, TtSent, Accepted, Delivered, Dropped, Clock}
-use Rattle.net_plan.specs.Belonging.{device_name, link_name, vl_name}
-use Rattle.trace_text.specs.EventLine.{what_words, longest_text}
-use Rattle.trace_text.specs.Steps.{Words, space}
-use Rattle.report_text.specs.NoteWords.{members_text, state_text, judgement_text, why_text, reason_words}
+use Rattle.std.specs.{Fmt.signed_decimal, List.join_with_byte}
+use Rattle.std.specs.Prelude.{◌++◌, ◌+◌, ◌∷◌, List, [], codes, decimal, map, ℕ}
+use Rattle.net_plan.specs.{Belonging.{device_name, link_name, vl_name}, declared.ids.{DeviceId.DeviceId, LinkId.LinkId}}
+use Rattle.net_plan.specs.declared.{ids.VlId.VlId, network.Network.Network}
+use Rattle.run_law.specs.declared.note.{Note.Note, NoteBody.NoteBody}
+use Rattle.run_law.specs.declared.note.NoteBody.TheVariants.{Accepted, Arrived, Clock, Compressed, Corrected, Delivered}
+use Rattle.run_law.specs.declared.note.NoteBody.TheVariants.{Dropped, Event, Left, Lost, Permanent, Sent, State, TtSent}
+use Rattle.trace_text.specs.{EventLine.{longest_text, what_words}, Steps.{Words, space}}
+use Rattle.report_text.specs.NoteWords.{judgement_text, members_text, reason_words, state_text, why_text}
 
 -- where a frame is and what it comes from: the device, the link and the cause
 abbrev pub passage_words : Network → DeviceId → LinkId → ℕ → Words

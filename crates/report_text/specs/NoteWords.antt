@@ -1,20 +1,13 @@
 -- The words of records.
-use Rattle.std.specs.Prelude.{ℕ, List, [], ◌∷◌, codes, decimal, slice_get}
-use Rattle.std.specs.Int.{w32, to_be_bytes}
-use Rattle.std.specs.Option.{option_map_or}
+use Rattle.std.specs.{Int.{to_be_bytes, w32}, Prelude.{◌∷◌, List, [], codes, decimal, ℕ}}
 use Rattle.hex.specs.Hex.{encode_lower}
-use Rattle.net_plan.specs.declared.ids.VlId.{VlId}
-use Rattle.net_plan.specs.declared.network.Network.{Network}
 use Rattle.pcf_values.specs.declared.members.Members.{Members}
-use Rattle.run_law.specs.declared.judgement.Judgement.{Judgement}
-use Rattle.run_law.specs.declared.judgement.Judgement.TheVariants as judgements
-use Rattle.run_law.specs.declared.judgement.Reason.{Reason}
-use Rattle.run_law.specs.declared.judgement.Reason.TheVariants as reasons
-use Rattle.run_law.specs.declared.judgement.Why.{Why}
-use Rattle.run_law.specs.declared.judgement.Why.TheVariants as whys
-use Rattle.sync_state.specs.declared.state.State.{State}
-use Rattle.sync_state.specs.declared.state.State.TheVariants.{Off, Integrating, Joining, Synchronised}
+use Rattle.run_law.specs.declared.judgement.{Judgement.Judgement, Reason.Reason, Why.Why}
+use Rattle.sync_state.specs.declared.state.State.{State, TheVariants.{Integrating, Joining, Off, Synchronised}}
 use Rattle.trace_text.specs.Steps.{Words}
+use Rattle.run_law.specs.declared.judgement.Judgement.TheVariants as judgements
+use Rattle.run_law.specs.declared.judgement.Reason.TheVariants as reasons
+use Rattle.run_law.specs.declared.judgement.Why.TheVariants as whys
 
 -- a set of masters: its number, in eight hexadecimal digits
 abbrev pub members_text : Members → List ℕ

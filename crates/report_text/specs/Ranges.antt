@@ -1,16 +1,11 @@
 -- Which records have a line.
-use Rattle.std.specs.Prelude.{ℕ, ◌<◌, ◌^◌, FitsSigned, ⊤, length}
-use Rattle.std.specs.Int.{w64}
-use Rattle.net_plan.specs.declared.ids.DeviceId.{DeviceId}
-use Rattle.net_plan.specs.declared.ids.LinkId.{LinkId}
-use Rattle.net_plan.specs.declared.ids.VlId.{VlId}
-use Rattle.net_plan.specs.declared.network.Network.{Network}
-use Rattle.run_law.specs.declared.judgement.Reason.{Reason}
-use Rattle.run_law.specs.declared.judgement.Reason.TheVariants.{RefusedLength, RefusedReserved, RefusedKind}
-use Rattle.run_law.specs.declared.note.Note.{Note}
-use Rattle.run_law.specs.declared.note.NoteBody.{NoteBody}
-use Rattle.run_law.specs.declared.note.NoteBody.TheVariants.{Event, Arrived, Permanent, Compressed, Sent, Corrected, State, Left, Lost, TtSent, Accepted, Delivered, Dropped, Clock}
-use Rattle.net_plan.specs.Belonging.{HasDevice, HasLink, IsOfNetwork, HasVl}
+use Rattle.std.specs.{Int.w64, Prelude.{◌<◌, ◌^◌, FitsSigned, length, ℕ, ⊤}}
+use Rattle.net_plan.specs.{Belonging.{HasDevice, HasLink, HasVl, IsOfNetwork}, declared.ids.DeviceId.DeviceId}
+use Rattle.net_plan.specs.declared.{ids.{LinkId.LinkId, VlId.VlId}, network.Network.Network}
+use Rattle.run_law.specs.declared.judgement.Reason.{Reason, TheVariants.{RefusedKind, RefusedLength, RefusedReserved}}
+use Rattle.run_law.specs.declared.note.{Note.Note, NoteBody.NoteBody}
+use Rattle.run_law.specs.declared.note.NoteBody.TheVariants.{Accepted, Arrived, Clock, Compressed, Corrected, Delivered}
+use Rattle.run_law.specs.declared.note.NoteBody.TheVariants.{Dropped, Event, Left, Lost, Permanent, Sent, State, TtSent}
 use Rattle.trace_text.specs.Ranges.{IsWhatInRange}
 use Rattle.tte_units.specs.declared.units.Units.{Units}
 

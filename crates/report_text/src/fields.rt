@@ -1,12 +1,10 @@
-ghost use Rattle.std.specs.Prelude.{◌≡◌, ◌≤◌, ◌+◌, ◌∷◌, ◌++◌, [], codes, length};
-ghost use Rattle.std.specs.Fmt.{signed_decimal};
-ghost use Rattle.std.specs.List.{join_with_byte};
+ghost use Rattle.std.specs.{Fmt.signed_decimal, List.join_with_byte};
+ghost use Rattle.std.specs.Prelude.{◌++◌, ◌+◌, ◌∷◌, ◌≡◌, ◌≤◌, [], codes, length};
+ghost use Rattle.net_plan.specs.Belonging.{HasDevice, HasLink, HasVl, device_name, link_name, vl_name};
 ghost use Rattle.net_plan.specs.Ranges.{IsInRange};
-ghost use Rattle.report_text.specs.NoteLine.{passage_words, stream_words};
-ghost use Rattle.net_plan.specs.Belonging.{vl_name, HasVl, device_name, link_name, HasDevice, HasLink};
-ghost use Rattle.report_text.specs.NoteWords.{members_text};
 ghost use Rattle.trace_text.specs.Steps.{space};
 ghost use Rattle.tte_io.specs.Line.{line_limit};
+ghost use Rattle.report_text.specs.{NoteLine.{passage_words, stream_words}, NoteWords.members_text};
 
 use net_plan::{DeviceId, LinkId, Network, VlId};
 use pcf_values::Members;
@@ -60,7 +58,8 @@ pub(crate) fn push_passage(
     requires device_of_network { HasDevice network.now device }
     requires link_of_network { HasLink network.now link }
     requires room { length line.old + length kind.now + 55 ≤ line_limit }
-    ensures text { line.new ≡ line.old ++ join_with_byte space (kind.now ∷ passage_words network.now device link cause) }
+    ensures text { line.new ≡ line.old ++ join_with_byte space (kind.now
+        ∷ passage_words network.now device link cause) }
     ensures grows { length line.new ≤ length line.old + length kind.now + 55 }
 {
     push_device(line, network, kind, device);

@@ -1,10 +1,7 @@
-ghost use Rattle.std.specs.Prelude.{◌≡◌, ◌≤◌, MatchResult, OnOk, OnErr};
-ghost use Rattle.std.specs.Io.KnownBytes.{Appends};
+ghost use Rattle.std.specs.{Io.KnownBytes.Appends, Prelude.{◌≡◌, ◌≤◌, MatchResult, OnErr, OnOk}};
 ghost use Rattle.net_plan.specs.Ranges.{IsInRange};
-ghost use Rattle.report_text.specs.NoteLine.{note_line};
-ghost use Rattle.report_text.specs.Ranges.{IsNoteOf};
-ghost use Rattle.tte_io.specs.Faults.{Rose, next_count};
-ghost use Rattle.tte_io.specs.Told.{AppendsFront};
+ghost use Rattle.tte_io.specs.{Faults.{Rose, next_count}, Told.AppendsFront};
+ghost use Rattle.report_text.specs.{NoteLine.note_line, Ranges.IsNoteOf};
 
 use crate::fields::push_units;
 use crate::kinds::push_body;

@@ -1,25 +1,13 @@
 -- There is a run up to each time.
-use Rattle.std.proofs.Common.{◌≡◌, ℕ, ◌+◌, ◌≤◌, List, [], ◌∷◌, ◌++◌, map, fold, inl, inr, refl, sym, ap, subst, ◌∙◌, append_assoc, arith}
-use Rattle.std.proofs.lemmas.Int.{ints}
+use Rattle.std.proofs.{Common.{◌++◌, ◌+◌, ◌∙◌, ◌∷◌, ◌≡◌, ◌≤◌, List, [], ap, append_assoc, arith, fold, inl, inr, map, refl, subst, sym, ℕ}, lemmas.Int.ints}
 use Rattle.std.proofs.lemmas.List.{append-nil}
 use Rattle.net_plan.specs.Ranges.{IsInRange}
-use Rattle.run_law.proofs.law.FirstPlaces.{IsSplit, front_founded, split}
-use Rattle.run_law.proofs.runs.Places.{before_next_time, chain, in_parts}
-use Rattle.run_law.specs.declared.note.Note.{Note}
-use Rattle.run_law.specs.records.Happenings.{Happening, happening, time_of}
-use Rattle.run_law.specs.records.Order.{IsBefore, IsIn}
-use Rattle.run_law.specs.records.Ranks.{key, members_in, place_of, rank}
-use Rattle.run_law.specs.runs.DueRecords.{IsDue, IsScenarioRun}
-use Rattle.run_law.specs.runs.Runs.{IsFounded, IsFull, IsRun}
-use Rattle.run_law.specs.scenario.Scenarios.{Scenario}
+use Rattle.run_law.{proofs.{law.FirstPlaces.{IsSplit, front_founded, split}, runs.Places.{before_next_time, chain, in_parts}}, specs.declared.note.Note.Note}
+use Rattle.run_law.specs.records.{Happenings.{Happening, happening, time_of}, Order.{IsBefore, IsIn}, Ranks.{key, members_in, place_of, rank}}
+use Rattle.run_law.specs.{runs.{DueRecords.{IsDue, IsScenarioRun}, Runs.{IsFounded, IsFull, IsRun}}, scenario.Scenarios.Scenario}
 use Rattle.tte_units.specs.Amount.{amount}
-use Rattle.run_existence.proofs.Sweep.{IsSized}
-use Rattle.run_existence.proofs.Times.{IsBoundedBy, IsShaped, never_before_none, run_to_time}
-use Rattle.run_existence.proofs.bounds.Ranks.{fits}
-use Rattle.run_existence.proofs.bounds.Weights.{bound, size_of}
-use Rattle.run_existence.proofs.decisions.Places.{place_parts}
-use Rattle.run_existence.proofs.decisions.Ranks.{is_rank, place_decided}
-use Rattle.run_existence.specs.Laws.{RunsExist, RunsExistToEachMark}
+use Rattle.run_existence.proofs.{Sweep.IsSized, Times.{IsBoundedBy, IsShaped, never_before_none, run_to_time}, bounds.{Ranks.fits, Weights.{bound, size_of}}}
+use Rattle.run_existence.{proofs.decisions.{Places.place_parts, Ranks.{is_rank, place_decided}}, specs.Laws.{RunsExist, RunsExistToEachMark}}
 
 -- ---- the places of records
 

@@ -1,12 +1,9 @@
 -- How a run goes on from place to place, where at each place it is decided whether a record is due.
-use Rattle.std.proofs.Common.{◌≡◌, ◌⊎◌, ℕ, zero, suc, ◌<◌, List, [], ◌∷◌, ◌++◌, inl, inr, refl, sym, ap, subst, ◌∙◌, append_assoc, arith}
-use Rattle.std.proofs.lemmas.Bool.{cases_order}
-use Rattle.std.proofs.lemmas.List.{append-nil}
+use Rattle.std.proofs.Common.{◌++◌, ◌<◌, ◌∙◌, ◌∷◌, ◌≡◌, ◌⊎◌, List, [], ap, append_assoc, arith, inl, inr, refl, subst, suc, sym, zero, ℕ}
+use Rattle.std.proofs.lemmas.{Bool.cases_order, List.append-nil}
 use Rattle.run_law.proofs.runs.Grow.{grow, move_mark}
 use Rattle.run_law.proofs.runs.Places.{before_behind, before_later, before_or_not, behind, chain, either_way, in_right, nothing_between}
-use Rattle.run_law.proofs.scenario.Decisions.{IsDecided}
-use Rattle.run_law.specs.records.Order.{IsBefore, IsIn}
-use Rattle.run_law.specs.runs.Runs.{IsRun}
+use Rattle.run_law.{proofs.scenario.Decisions.IsDecided, specs.{records.Order.{IsBefore, IsIn}, runs.Runs.IsRun}}
 
 -- ---- places under a place
 

@@ -1,12 +1,7 @@
 -- Where the places of what is due at each time and rank are bounded, there is a run up to each time.
-use Rattle.std.proofs.Common.{◌≡◌, ℕ, zero, suc, ◌<◌, List, [], ◌∷◌, ◌++◌, inl, inr, refl, sym, ap, subst, ◌∙◌, append_assoc, arith}
-use Rattle.std.proofs.lemmas.Bool.{cases_order}
+use Rattle.std.proofs.{Common.{◌++◌, ◌<◌, ◌∙◌, ◌∷◌, ◌≡◌, List, [], ap, append_assoc, arith, inl, inr, refl, subst, suc, sym, zero, ℕ}, lemmas.Bool.cases_order}
 use Rattle.std.proofs.lemmas.List.{append-nil}
-use Rattle.run_law.proofs.runs.Grow.{empty_run}
-use Rattle.run_law.proofs.runs.Places.{in_parts}
-use Rattle.run_law.proofs.scenario.Decisions.{IsDecided}
-use Rattle.run_law.specs.records.Order.{IsBefore, IsIn}
-use Rattle.run_law.specs.runs.Runs.{IsRun}
+use Rattle.run_law.{proofs.{runs.{Grow.empty_run, Places.in_parts}, scenario.Decisions.IsDecided}, specs.{records.Order.{IsBefore, IsIn}, runs.Runs.IsRun}}
 use Rattle.run_existence.proofs.Sweep.{HasDue, IsSized, IsUnder, inside_next, move_on, next_of, sweep, under_before}
 
 -- a place has a time, a rank and further numbers

@@ -1,9 +1,7 @@
 -- That there is a run.
-use Rattle.std.specs.Prelude.{ℕ, List, [], ◌∷◌}
+use Rattle.std.specs.Prelude.{◌∷◌, List, [], ℕ}
 use Rattle.net_plan.specs.Ranges.{IsInRange}
-use Rattle.run_law.specs.declared.note.Note.{Note}
-use Rattle.run_law.specs.runs.DueRecords.{IsScenarioRun}
-use Rattle.run_law.specs.scenario.Scenarios.{Scenario}
+use Rattle.run_law.specs.{declared.note.Note.Note, runs.DueRecords.IsScenarioRun, scenario.Scenarios.Scenario}
 
 -- a network in range has a run up to each time, whatever its events are and its clocks read
 abbrev pub RunsExist : Type 0

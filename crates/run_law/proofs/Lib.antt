@@ -1,3 +1,4 @@
+pub mod Words
 pub mod scenario
 pub mod runs
 pub mod silent

@@ -1,13 +1,12 @@
 ghost use Rattle.std.specs.Prelude.{◌≡◌, false};
-ghost use Rattle.net_plan.specs.declared.ids.DeviceId.{DeviceId};
-ghost use Rattle.net_plan.specs.declared.network.Network.{Network};
-ghost use Rattle.run_law.specs.machines.Calls.{HasDue, IsHearing, MayAct, MayArrive, MayCall, MayHear, MayRipen, MayTake, StandsFor};
-ghost use Rattle.run_law.specs.scenario.Devices.{channel_of_link};
-ghost use Rattle.run_law.specs.machines.Answers.{IsActOf, IsPermanenceOutcomeAt, after_arrival, after_permanence, arrival_at, called, node_turned_on};
-ghost use Rattle.run_law.specs.machines.Nodes.{Node, arriving, ripening, acting};
-ghost use Rattle.run_law.specs.machines.Tasks.{IsDueReading};
-ghost use Rattle.run_law.specs.control.Wires.{signal_of};
+ghost use Rattle.net_plan.specs.declared.{ids.DeviceId.DeviceId, network.Network.Network};
 ghost use Rattle.sync_state.specs.declared.state.State.TheVariants.{Off};
+ghost use Rattle.run_law.specs.control.Wires.{signal_of};
+ghost use Rattle.run_law.specs.machines.Answers.{IsActOf, IsPermanenceOutcomeAt, after_arrival, after_permanence};
+ghost use Rattle.run_law.specs.machines.Answers.{arrival_at, called, node_turned_on};
+ghost use Rattle.run_law.specs.machines.Calls.{HasDue, IsHearing, MayAct, MayArrive, MayCall, MayHear, MayRipen};
+ghost use Rattle.run_law.specs.machines.{Calls.{MayTake, StandsFor}, Nodes.{Node, acting, arriving, ripening}};
+ghost use Rattle.run_law.specs.{machines.Tasks.IsDueReading, scenario.Devices.channel_of_link};
 
 use crate::{Act, Arrival, Moment, Ripe};
 use net_plan::LinkId;
@@ -43,7 +42,8 @@ pub trait Machine {
 
     /// What becomes of the frame of these octets, 60 to 1,514, that arrives by a link of the device.
     fn hear(&mut self, moment: Moment, link: LinkId, octets: &[u8]) -> Arrival
-        requires { StandsFor stands self.old (λ network device node. MayHear network device node moment link octets.now) }
+        requires { StandsFor stands self.old (λ network device node.
+            MayHear network device node moment link octets.now) }
         ensures { (network : Network) (device : DeviceId) (node : Node) → stands self.old network device node
             → MayCall network device node moment arriving → MayArrive network device link octets.now
             → (result ≡ arrival_at network device node moment link (signal_of octets.now))

@@ -1,18 +1,11 @@
 -- The laws, for clocks that keep the clock laws.
-use Rattle.std.proofs.Common.{ℕ, ℤ, List, [], ◌∷◌, arith}
+use Rattle.std.proofs.Common.{◌∷◌, List, [], arith, ℕ, ℤ}
 use Rattle.drift_clock.specs.ClockLaws.{AlwaysBeginsAtZero, AlwaysKeepsClockLaws}
-use Rattle.net_plan.specs.declared.event.Event.{Event}
-use Rattle.net_plan.specs.declared.network.Network.{Network}
-use Rattle.run_law.specs.declared.note.Note.{Note}
-use Rattle.run_law.specs.runs.DueRecords.{IsRunOf}
-use Rattle.safe_runs.proofs.Fronts.{goes_well_before, part}
-use Rattle.safe_runs.proofs.Going.{goes_well}
-use Rattle.safe_runs.proofs.Lawful.{lawful}
-use Rattle.safe_runs.proofs.Times.{end_in_time, last_in_time}
-use Rattle.safe_runs.specs.Headline.{IsSafeFront}
-use Rattle.safe_runs.specs.Laws.{EndedRunsAreSafe, FrontRunsAreSafe, OwnRunsAreSafe, RunsSoFarAreSafe}
-use Rattle.safe_runs.specs.Under.{IsUnder, last_time, reading_of, scenario_of}
+use Rattle.net_plan.specs.declared.{event.Event.Event, network.Network.Network}
+use Rattle.run_law.specs.{declared.note.Note.Note, runs.DueRecords.IsRunOf}
 use Rattle.tte_units.specs.Amount.{amount}
+use Rattle.safe_runs.{proofs.{Fronts.{goes_well_before, part}, Going.goes_well, Lawful.lawful, Times.{end_in_time, last_in_time}}, specs.Headline.IsSafeFront}
+use Rattle.safe_runs.specs.{Laws.{EndedRunsAreSafe, FrontRunsAreSafe, OwnRunsAreSafe, RunsSoFarAreSafe}, Under.{IsUnder, last_time, reading_of, scenario_of}}
 
 pub own : {C : Type 0} (fresh : ℕ → C) (after_step : C → ℕ → ℤ → C) (reading : C → ℕ → ℕ) → AlwaysKeepsClockLaws fresh after_step reading
     → AlwaysBeginsAtZero fresh after_step reading → OwnRunsAreSafe fresh after_step reading

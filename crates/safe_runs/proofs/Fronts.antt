@@ -1,26 +1,14 @@
 -- The run up to behind the events of a time is one that goes just up to before the time, and then records of events.
-use Rattle.std.proofs.Common.{◌≡◌, ℕ, ◌+◌, ◌-◌, ◌*◌, ◌^◌, ◌<◌, ◌≤◌, List, [], ◌∷◌, ◌++◌, inl, inr, refl, sym, ap, subst, ◌∙◌, arith}
-use Rattle.std.proofs.lemmas.List.{map-append}
-use Rattle.precision_law.proofs.records.Cutting.{cut_run}
+use Rattle.std.proofs.{Common.{◌*◌, ◌++◌, ◌+◌, ◌-◌, ◌<◌, ◌^◌, ◌∙◌, ◌∷◌, ◌≡◌, ◌≤◌, List, [], ap, arith, inl, inr, refl, subst, sym, ℕ}, lemmas.List.map-append}
 use Rattle.net_plan.specs.declared.event.What.{What}
-use Rattle.run_law.proofs.law.FirstPlaces.{IsSplit, split}
-use Rattle.run_law.proofs.runs.NetworkRuns.{same_notes}
-use Rattle.run_law.proofs.runs.Places.{before_of_time, in_right, parted}
-use Rattle.run_law.specs.declared.note.Note.{Note}
-use Rattle.run_law.specs.declared.note.NoteBody.TheVariants as notes
-use Rattle.run_law.specs.declared.note.NoteBody.{NoteBody}
-use Rattle.run_law.specs.law.FirstLaws.{IsLawful}
-use Rattle.run_law.specs.records.Happenings.{Happening, happenings, time_of}
-use Rattle.run_law.specs.records.Order.{IsBefore, IsIn}
-use Rattle.run_law.specs.records.Ranks.{key, members_in, place_of, rank}
-use Rattle.run_law.specs.runs.DueRecords.{IsDue, IsScenarioRun}
-use Rattle.run_law.specs.runs.Runs.{IsRun}
+use Rattle.precision_law.proofs.records.Cutting.{cut_run}
+use Rattle.run_law.proofs.{law.FirstPlaces.{IsSplit, split}, runs.{NetworkRuns.same_notes, Places.{before_of_time, in_right, parted}}}
+use Rattle.run_law.specs.{declared.note.{Note.Note, NoteBody.NoteBody}, law.FirstLaws.IsLawful, records.Happenings.{Happening, happenings, time_of}}
+use Rattle.run_law.specs.{records.{Order.{IsBefore, IsIn}, Ranks.{key, members_in, place_of, rank}}, runs.{DueRecords.{IsDue, IsScenarioRun}, Runs.IsRun}}
 use Rattle.run_law.specs.scenario.Scenarios.{Scenario}
-use Rattle.safe_runs.proofs.Going.{goes_well, well_earlier}
-use Rattle.safe_runs.proofs.Told.{note_in, notes_of, told}
-use Rattle.safe_runs.specs.Headline.{GoesWell, IsEventOf}
-use Rattle.tte_units.proofs.Amounts.{units_are}
-use Rattle.tte_units.specs.Amount.{amount}
+use Rattle.tte_units.{proofs.Amounts.units_are, specs.Amount.amount}
+use Rattle.safe_runs.{proofs.{Going.{goes_well, well_earlier}, Told.{note_in, notes_of, told}}, specs.Headline.{GoesWell, IsEventOf}}
+use Rattle.run_law.specs.declared.note.NoteBody.TheVariants as notes
 
 -- ---- what is behind the front
 

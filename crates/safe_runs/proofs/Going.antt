@@ -1,20 +1,12 @@
 -- A lawful run that goes just as far as a time goes well up to there, and up to each earlier time.
-use Rattle.std.proofs.Common.{ℕ, ◌+◌, ◌*◌, ◌^◌, ◌≤◌, List, [], ◌∷◌, inl, arith}
-use Rattle.net_plan.specs.declared.ids.DeviceId.{DeviceId}
-use Rattle.net_plan.specs.declared.ids.VlId.{VlId}
-use Rattle.net_plan.specs.declared.tables.VirtualLink.{VirtualLink}
+use Rattle.std.proofs.Common.{◌*◌, ◌+◌, ◌^◌, ◌∷◌, ◌≤◌, List, [], arith, inl, ℕ}
+use Rattle.net_plan.specs.declared.{ids.{DeviceId.DeviceId, VlId.VlId}, tables.VirtualLink.VirtualLink}
 use Rattle.precision_law.proofs.law.Whole.{time_kept}
-use Rattle.run_law.proofs.records.Happenings.{soon}
-use Rattle.run_law.specs.declared.note.Note.{Note}
-use Rattle.run_law.specs.law.FirstLaws.{IsLawful}
-use Rattle.run_law.specs.law.Safety.{ClocksAgree, IsOwed, IsSafe}
-use Rattle.run_law.specs.records.Happenings.{Happening, happenings}
-use Rattle.run_law.specs.runs.DueRecords.{IsScenarioRun}
-use Rattle.run_law.specs.scenario.Scenarios.{Scenario}
-use Rattle.safe_runs.specs.Headline.{GoesWell, TimeStays}
-use Rattle.traffic_law.proofs.Safe.{all_are_safe}
-use Rattle.traffic_law.specs.Ports.{IsRunTo}
+use Rattle.run_law.{proofs.records.Happenings.soon, specs.{declared.note.Note.Note, law.{FirstLaws.IsLawful, Safety.{ClocksAgree, IsOwed, IsSafe}}}}
+use Rattle.run_law.specs.{records.Happenings.{Happening, happenings}, runs.DueRecords.IsScenarioRun, scenario.Scenarios.Scenario}
+use Rattle.traffic_law.{proofs.Safe.all_are_safe, specs.Ports.IsRunTo}
 use Rattle.tte_units.specs.Amount.{amount}
+use Rattle.safe_runs.specs.Headline.{GoesWell, TimeStays}
 
 run_to : (s : Scenario) (ns : List Note) (until : ℕ) → IsLawful s → until ≤ 2 ^ 20 * amount s.network.cycle → IsScenarioRun s ((until + 1) ∷ []) ns
     → IsRunTo s ((until + 1) ∷ []) ns until

@@ -1,23 +1,14 @@
 -- The rates that events within the hypothesis set are a history of a clock.
-use Rattle.std.proofs.Common.{◌≡◌, ℕ, zero, suc, ◌≤◌, ◌==◌, List, [], ◌∷◌, ◌++◌, append_assoc, Option, Some, None, true, false, if◌then◌else◌, unsigned_abs, pos, ◌≤ℤ◌, inl, inr, refl, sym, subst, ◌∙◌, arith}
-use Rattle.std.specs.List.{All, cons_option}
-use Rattle.std.specs.List.Sorted.{IsNonDecreasingBy}
-use Rattle.std.proofs.lemmas.Bool.{cases_lt}
-use Rattle.std.proofs.lemmas.List.Elements.{All-cons, All-nil}
+use Rattle.std.proofs.Common.{if◌then◌else◌, ◌++◌, ◌==◌, ◌∙◌, ◌∷◌, ◌≡◌, ◌≤ℤ◌, ◌≤◌, List, None, Option, Some, [], append_assoc, arith, false, inl, inr, pos}
+use Rattle.std.proofs.{Common.{refl, subst, suc, sym, true, unsigned_abs, zero, ℕ}, lemmas.{Bool.cases_lt, List.Elements.{All-cons, All-nil}}}
+use Rattle.std.specs.List.{All, cons_option, Sorted.IsNonDecreasingBy}
 use Rattle.drift_clock.specs.RateSteps.{IsHistory, RateStep}
-use Rattle.net_plan.specs.declared.event.Event.{Event}
-use Rattle.net_plan.specs.declared.event.What.{What}
+use Rattle.net_plan.specs.declared.{event.{Event.Event, What.What}, ids.DeviceId.DeviceId, network.Network.Network}
+use Rattle.run_law.{proofs.{runs.Places.{in_left, in_right}, scenario.Devices.in_turn}, specs.records.Order.IsIn}
+use Rattle.run_law.specs.scenario.{Hypothesis.{AreWithinHypothesis, IsWithinHypothesis}, Rates.{rate_steps, step_by}}
+use Rattle.tte_units.specs.{Amount.amount, declared.rates.Ppb.Ppb}
 use Rattle.net_plan.specs.declared.event.What.TheVariants as events
-use Rattle.net_plan.specs.declared.ids.DeviceId.{DeviceId}
-use Rattle.net_plan.specs.declared.network.Network.{Network}
-use Rattle.run_law.proofs.runs.Places.{in_left, in_right}
-use Rattle.run_law.proofs.scenario.Devices.{in_turn}
 use Rattle.run_law.specs.declared.outside.Outside.TheVariants as outside
-use Rattle.run_law.specs.records.Order.{IsIn}
-use Rattle.run_law.specs.scenario.Hypothesis.{AreWithinHypothesis, IsWithinHypothesis}
-use Rattle.run_law.specs.scenario.Rates.{rate_steps, step_by}
-use Rattle.tte_units.specs.Amount.{amount}
-use Rattle.tte_units.specs.declared.rates.Ppb.{Ppb}
 
 -- ---- a rate that is set is slow
 

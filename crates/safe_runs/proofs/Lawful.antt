@@ -1,20 +1,11 @@
 -- A network under admitted events, where each device has a clock that keeps the clock laws, is lawful.
-use Rattle.std.proofs.Common.{ℕ, ◌≤◌, ◌<◌, ℤ, pos, ◌≤ℤ◌, List, [], ◌∷◌, length, inl, inr, sym, subst, arith}
-use Rattle.std.specs.List.{All}
-use Rattle.std.proofs.lemmas.Int.{ints}
-use Rattle.std.proofs.lemmas.List.Elements.{All-head, All-tail}
+use Rattle.std.proofs.{Common.{◌<◌, ◌∷◌, ◌≤ℤ◌, ◌≤◌, List, [], arith, inl, inr, length, pos, subst, sym, ℕ, ℤ}, lemmas.Int.ints}
+use Rattle.std.{proofs.lemmas.List.Elements.{All-head, All-tail}, specs.List.All}
 use Rattle.drift_clock.specs.ClockLaws.{AlwaysBeginsAtZero, AlwaysKeepsClockLaws}
-use Rattle.net_plan.specs.Belonging.{IsOfNetwork}
-use Rattle.net_plan.specs.declared.event.Event.{Event}
-use Rattle.net_plan.specs.declared.ids.LinkId.{LinkId}
-use Rattle.net_plan.specs.declared.network.Network.{Network}
-use Rattle.run_law.specs.law.FirstLaws.{IsEventInRange, IsLawful}
-use Rattle.run_law.specs.records.Order.{IsIn}
-use Rattle.run_law.specs.scenario.Faults.{Cuts}
-use Rattle.run_law.specs.scenario.Rates.{rate_steps}
-use Rattle.safe_runs.proofs.Histories.{history}
-use Rattle.safe_runs.specs.Under.{IsUnder, scenario_of}
+use Rattle.net_plan.specs.{Belonging.IsOfNetwork, declared.{event.Event.Event, ids.LinkId.LinkId, network.Network.Network}}
+use Rattle.run_law.specs.{law.FirstLaws.{IsEventInRange, IsLawful}, records.Order.IsIn, scenario.{Faults.Cuts, Rates.rate_steps}}
 use Rattle.tte_units.specs.Amount.{amount}
+use Rattle.safe_runs.{proofs.Histories.history, specs.Under.{IsUnder, scenario_of}}
 
 each_in : {X : Type 0} (P : X → Type 0) (xs : List X) → All P xs → (x : X) → IsIn x xs → P x
 each_in P [] all x i = absurd i

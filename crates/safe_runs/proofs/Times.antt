@@ -1,18 +1,10 @@
 -- Events within the hypothesis come in the first 2^20 cycles.
-use Rattle.std.proofs.Common.{ℕ, ◌*◌, ◌^◌, ◌≤◌, ℤ, pos, negsuc, ◌≤ℤ◌, ◌<ℤ◌, unsigned_abs, List, [], ◌∷◌, fold, inl, inr, refl, arith}
-use Rattle.std.proofs.lemmas.Int.{ints}
-use Rattle.net_plan.specs.declared.event.Event.{Event}
-use Rattle.net_plan.specs.declared.event.What.TheVariants.{End}
-use Rattle.net_plan.specs.declared.network.Network.{Network}
-use Rattle.run_law.proofs.records.Order.{contained}
-use Rattle.run_law.proofs.runs.Places.{parted}
-use Rattle.run_law.specs.declared.outside.Outside.TheVariants.{Late}
-use Rattle.run_law.specs.records.Order.{IsIn}
+use Rattle.std.proofs.{Common.{◌*◌, ◌<ℤ◌, ◌^◌, ◌∷◌, ◌≤ℤ◌, ◌≤◌, List, [], arith, fold, inl, inr, negsuc, pos, refl, unsigned_abs, ℕ, ℤ}, lemmas.Int.ints}
+use Rattle.net_plan.specs.declared.{event.{Event.Event, What.TheVariants.End}, network.Network.Network}
+use Rattle.run_law.{proofs.{records.Order.contained, runs.Places.parted}, specs.{declared.outside.Outside.TheVariants.Late, records.Order.IsIn}}
 use Rattle.run_law.specs.runs.DueRecords.{EndsAt}
-use Rattle.safe_runs.proofs.Lawful.{begun}
-use Rattle.safe_runs.specs.Under.{IsUnder, last_time}
-use Rattle.tte_units.specs.Amount.{amount, units_of}
-use Rattle.tte_units.specs.declared.units.Units.{Units}
+use Rattle.tte_units.specs.{Amount.{amount, units_of}, declared.units.Units.Units}
+use Rattle.safe_runs.{proofs.Lawful.begun, specs.Under.{IsUnder, last_time}}
 
 not_late : (z : ℤ) (n : ℕ) → pos 0 ≤ℤ z → (pos n <ℤ z → ⊥) → unsigned_abs z ≤ n
 not_late (pos m) n begun not = grind (arith, ints)

@@ -1,13 +1,7 @@
 -- The records of happenings that are founded are told as these happenings.
-use Rattle.std.proofs.Common.{◌≡◌, List, [], ◌∷◌, ◌++◌, map, fold, inl, inr, refl, sym, ap, subst, ◌∙◌, append_assoc}
-use Rattle.std.proofs.lemmas.List.{append-nil}
-use Rattle.run_law.specs.declared.note.Note.{Note}
-use Rattle.run_law.specs.records.Happenings.{Happening, happening, happenings}
-use Rattle.run_law.specs.records.Order.{IsIn}
-use Rattle.run_law.specs.records.Ranks.{place_of}
-use Rattle.run_law.specs.runs.DueRecords.{IsDue}
-use Rattle.run_law.specs.runs.Runs.{IsFounded}
-use Rattle.run_law.specs.scenario.Scenarios.{Scenario}
+use Rattle.std.proofs.{Common.{◌++◌, ◌∙◌, ◌∷◌, ◌≡◌, List, [], ap, append_assoc, fold, inl, inr, map, refl, subst, sym}, lemmas.List.append-nil}
+use Rattle.run_law.specs.{declared.note.Note.Note, records.{Happenings.{Happening, happening, happenings}, Order.IsIn, Ranks.place_of}, runs.DueRecords.IsDue}
+use Rattle.run_law.specs.{runs.Runs.IsFounded, scenario.Scenarios.Scenario}
 
 -- the records of happenings
 abbrev pub notes_of : List Happening → List Note

@@ -1,26 +1,16 @@
 -- What is promised of the records that are written of a run.
-use Rattle.std.specs.Prelude.{◌≡◌, ℕ, ◌+◌, ◌*◌, ◌^◌, ◌<◌, ◌≤◌, ℤ, true, List, [], ◌∷◌, ◌++◌}
-use Rattle.net_plan.specs.Places.{IsSwitchOf}
-use Rattle.net_plan.specs.declared.event.Event.{Event}
-use Rattle.net_plan.specs.declared.event.What.{What}
-use Rattle.net_plan.specs.declared.ids.DeviceId.{DeviceId}
+use Rattle.std.specs.Prelude.{◌*◌, ◌++◌, ◌+◌, ◌<◌, ◌^◌, ◌∷◌, ◌≡◌, ◌≤◌, List, [], true, ℕ, ℤ}
+use Rattle.net_plan.specs.{Places.IsSwitchOf, declared.{event.{Event.Event, What.What}, ids.DeviceId.DeviceId}}
 use Rattle.net_plan.specs.declared.network.Network.{Network}
 use Rattle.pcf_values.specs.declared.channel.Channel.{Channel}
-use Rattle.precision_law.specs.Blocks.{IsClique}
-use Rattle.precision_law.specs.Views.{IsSound}
-use Rattle.run_law.specs.declared.judgement.Why.{Why}
-use Rattle.run_law.specs.declared.note.Note.{Note}
-use Rattle.run_law.specs.declared.note.NoteBody.TheVariants as notes
-use Rattle.run_law.specs.law.Safety.{IsSafe}
-use Rattle.run_law.specs.records.Happenings.{Happening, happenings, time_of}
-use Rattle.run_law.specs.records.Order.{IsIn}
-use Rattle.run_law.specs.runs.DueRecords.{EndsAt, IsRunOf}
-use Rattle.run_law.specs.scenario.Devices.{is_end}
-use Rattle.run_law.specs.scenario.Scenarios.{Scenario}
-use Rattle.safe_runs.specs.Under.{scenario_of, reading_of}
+use Rattle.precision_law.specs.{Blocks.IsClique, Views.IsSound}
+use Rattle.run_law.specs.{declared.{judgement.Why.Why, note.Note.Note}, law.Safety.IsSafe}
+use Rattle.run_law.specs.records.{Happenings.{Happening, happenings, time_of}, Order.IsIn}
+use Rattle.run_law.specs.{runs.DueRecords.{EndsAt, IsRunOf}, scenario.{Devices.is_end, Scenarios.Scenario}}
 use Rattle.sync_state.specs.declared.state.State.{State}
-use Rattle.tte_units.specs.Amount.{amount, units_of}
-use Rattle.tte_units.specs.declared.units.Units.{Units}
+use Rattle.tte_units.specs.{Amount.{amount, units_of}, declared.units.Units.Units}
+use Rattle.safe_runs.specs.Under.{reading_of, scenario_of}
+use Rattle.run_law.specs.declared.note.NoteBody.TheVariants as notes
 
 -- up to the time no end system, and no switch of a channel that is not the faulty one then, loses the common time
 abbrev pub TimeStays : Scenario → List Happening → ℕ → Type 0

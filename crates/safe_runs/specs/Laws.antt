@@ -1,14 +1,10 @@
 -- The runs of accepted networks go well.
-use Rattle.std.specs.Prelude.{ℕ, ◌+◌, ◌*◌, ◌^◌, ◌≤◌, ℤ, List, [], ◌∷◌}
-use Rattle.net_plan.specs.declared.event.Event.{Event}
-use Rattle.net_plan.specs.declared.network.Network.{Network}
-use Rattle.run_law.specs.declared.note.Note.{Note}
-use Rattle.run_law.specs.records.Happenings.{happenings}
-use Rattle.run_law.specs.runs.DueRecords.{EndsAt, IsRunOf}
+use Rattle.std.specs.Prelude.{◌*◌, ◌+◌, ◌^◌, ◌∷◌, ◌≤◌, List, [], ℕ, ℤ}
+use Rattle.net_plan.specs.declared.{event.Event.Event, network.Network.Network}
+use Rattle.run_law.specs.{declared.note.Note.Note, records.Happenings.happenings, runs.DueRecords.{EndsAt, IsRunOf}}
+use Rattle.tte_units.specs.{Amount.amount, declared.units.Units.Units}
 use Rattle.safe_runs.specs.Headline.{GoesWell, IsRunBefore, IsWholeRun}
-use Rattle.safe_runs.specs.Under.{IsUnder, scenario_of, last_time, reading_of}
-use Rattle.tte_units.specs.Amount.{amount}
-use Rattle.tte_units.specs.declared.units.Units.{Units}
+use Rattle.safe_runs.specs.Under.{IsUnder, last_time, reading_of, scenario_of}
 
 -- the run that goes just as far as a time of the first 2^20 cycles goes well up to there
 abbrev pub OwnRunsAreSafe : {C : Type 0} → (ℕ → C) → (C → ℕ → ℤ → C) → (C → ℕ → ℕ) → Type 0

@@ -1,26 +1,15 @@
 -- A rule that is kept at the places where it is judged is kept at each.
-use Rattle.std.proofs.Common.{◌≡◌, ⊎_elim, ℕ, ◌<◌, ◌≤◌, List, [], ◌∷◌, Bool, true, false, cond, Some, None, length, get_or, refl, ap, subst, arith}
-use Rattle.std.proofs.lemmas.Bool.{cases_lt, ne_eqb}
-use Rattle.std.proofs.lemmas.List.Elements.{All-tail}
-use Rattle.std.proofs.lemmas.List.Sums.{sum_by-cons}
-use Rattle.std.proofs.lemmas.Option.{slice_get_within, slice_get_cases}
-use Rattle.std.specs.Prelude.{slice_get}
-use Rattle.std.specs.List.{All, count_by}
-use Rattle.net_plan.specs.Places.{is_end_system}
-use Rattle.net_plan.specs.Ranges.{IsInRange, IsLinkInRange, IsRowInRange}
-use Rattle.net_plan.specs.declared.network.Network.{Network}
-use Rattle.net_plan.specs.declared.tables.Device.{Device}
-use Rattle.net_plan.specs.declared.tables.Link.{Link}
-use Rattle.net_plan.specs.declared.tables.Row.{Row}
-use Rattle.net_plan.specs.declared.tables.Way.{Way}
-use Rattle.net_plan.specs.declared.tables.Way.TheVariants.{Up, Down}
-use Rattle.schedule_checker.specs.Judging.{places_of}
-use Rattle.schedule_tables.specs.Entries.{source_by}
-use Rattle.schedule_tables.specs.Rules.{IsKeptAt, IsKept}
-use Rattle.schedule_tables.specs.Schedule.{leaves, HasFewRows}
-use Rattle.schedule_tables.specs.declared.rule.Rule.{Rule}
-use Rattle.schedule_tables.specs.declared.rule.Rule.TheVariants.{Limits, DevicesDiffer, LinksDiffer, CompressionMasters, Joints, Connections, Masters, Delays, Settling, Precision, Correction, ScheduleStart, WindowEnds, VlNamesDiffer, VlIdsDiffer, Periods, Senders, LinksOnce, Sources, Targets, Spacing, BothChannels, Forwarding, RowsOfDevice}
-use Rattle.schedule_checker.proofs.ShapePaths.{within}
+use Rattle.std.proofs.Common.{◌<◌, ◌∷◌, ◌≡◌, ◌≤◌, Bool, List, None, Some, [], ap, arith, cond, false, get_or, length, refl, subst, true, ℕ, ⊎_elim}
+use Rattle.std.proofs.lemmas.{Bool.{cases_lt, ne_eqb}, List.{Elements.All-tail, Sums.sum_by-cons}, Option.{slice_get_cases, slice_get_within}}
+use Rattle.std.specs.{List.{All, count_by}, Prelude.slice_get}
+use Rattle.net_plan.specs.{Places.is_end_system, Ranges.{IsInRange, IsLinkInRange, IsRowInRange}, declared.{network.Network.Network, tables.Device.Device}}
+use Rattle.net_plan.specs.declared.tables.{Link.Link, Row.Row, Way.{Way, TheVariants.{Down, Up}}}
+use Rattle.schedule_tables.specs.{Entries.source_by, Rules.{IsKept, IsKeptAt}, Schedule.{HasFewRows, leaves}, declared.rule.Rule.Rule}
+use Rattle.schedule_tables.specs.declared.rule.Rule.TheVariants.{BothChannels, CompressionMasters, Connections, Correction, Delays, DevicesDiffer, Forwarding}
+use Rattle.schedule_tables.specs.declared.rule.Rule.TheVariants.{Joints, Limits, LinksDiffer, LinksOnce, Masters, Periods, Precision, RowsOfDevice}
+use Rattle.schedule_tables.specs.declared.rule.Rule.TheVariants.{ScheduleStart, Senders, Settling, Sources, Spacing, Targets, VlIdsDiffer, VlNamesDiffer}
+use Rattle.schedule_tables.specs.declared.rule.Rule.TheVariants.{WindowEnds}
+use Rattle.schedule_checker.{proofs.ShapePaths.within, specs.Judging.places_of}
 
 -- the rule is kept where it is judged
 abbrev pub IsKeptWhereJudged : Rule → Network → Type 0

@@ -1,11 +1,7 @@
 -- What a test of all earlier elements of a list tells of the one at a place.
-use Rattle.std.proofs.Common.{◌≡◌, ◌≢◌, ℕ, ◌<◌, Bool, true, false, List, length, take, get_or, Some, refl, sym, ap, ◌∙◌, arith}
-use Rattle.std.proofs.lemmas.Bool.{false≢true}
-use Rattle.std.proofs.lemmas.List.{get_or-take, length-take}
-use Rattle.std.proofs.lemmas.Option.{get_or_from_slice_get, slice_get_within, slice_get-get_or}
-use Rattle.std.specs.Prelude.{IsTrue, slice_get}
-use Rattle.std.specs.Bool.{MatchBool}
-use Rattle.std.specs.List.{AllWithin, HoldsAt}
+use Rattle.std.proofs.{Common.{◌<◌, ◌∙◌, ◌≡◌, ◌≢◌, Bool, List, Some, ap, arith, false, get_or, length, refl, sym, take, true, ℕ}, lemmas.Bool.false≢true}
+use Rattle.std.{proofs.lemmas.{List.{get_or-take, length-take}, Option.{get_or_from_slice_get, slice_get-get_or, slice_get_within}}, specs.Bool.MatchBool}
+use Rattle.std.specs.{List.{AllWithin, HoldsAt}, Prelude.{IsTrue, slice_get}}
 use Rattle.tte_lemmas.proofs.Options.{one}
 
 -- the element at the place has a mark that no earlier one has

@@ -1,10 +1,7 @@
 -- Names are equal where their octets in place are.
-use Rattle.std.proofs.Common.{◌≡◌, ℕ, Bool, eqb, ◌&&◌, List, length, take, ap, sym, ◌∙◌}
-use Rattle.std.specs.Bool.{Decides}
+use Rattle.std.proofs.{Common.{◌&&◌, ◌∙◌, ◌≡◌, Bool, List, ap, eqb, length, sym, take, ℕ}, Math.Seq.take-append_seam}
+use Rattle.std.{proofs.lemmas.{Bool.Decides.{Decides-and, Decides-at, Decides-eqb, Decides-like}, Slice.Eq.bytes_eq-Decides}, specs.Bool.Decides}
 use Rattle.std.specs.Cmp.Lexicographic.{pointwise}
-use Rattle.std.proofs.Math.Seq.{take-append_seam}
-use Rattle.std.proofs.lemmas.Bool.Decides.{Decides-and, Decides-eqb, Decides-like, Decides-at}
-use Rattle.std.proofs.lemmas.Slice.Eq.{bytes_eq-Decides}
 use Rattle.net_plan.specs.Padding.{padded}
 
 -- what `==` computes at two names

@@ -1,20 +1,11 @@
 -- What holds of a network's entries, said of the rows of its ports.
-use Rattle.std.proofs.Common.{◌≡◌, ◌≢◌, ℕ, ◌+◌, ◌≤◌, ◌==◌, Bool, false, cond, Option, List, [], ◌∷◌, length, take, Some, refl, sym, ap, ◌∙◌, subst, suc, arith}
-use Rattle.std.specs.Bool.{Decides}
-use Rattle.std.specs.List.{All, count_by, slice_get}
-use Rattle.std.specs.Option.{option_map_or}
-use Rattle.std.proofs.lemmas.Bool.Decides.{Decides-like}
-use Rattle.std.proofs.lemmas.List.Sums.{sum_by-cons}
-use Rattle.net_plan.specs.declared.ids.DeviceId.{DeviceId}
-use Rattle.net_plan.specs.declared.network.Network.{Network}
-use Rattle.net_plan.specs.declared.tables.Link.{Link}
-use Rattle.net_plan.specs.declared.tables.Row.{Row}
-use Rattle.schedule_tables.specs.Entries.{IsEntry, AreEntries, EntryIsOne, source_by, source_of}
-use Rattle.schedule_tables.specs.Schedule.{StandsApart, ComesInTime, leaves}
+use Rattle.std.proofs.Common.{◌+◌, ◌==◌, ◌∙◌, ◌∷◌, ◌≡◌, ◌≢◌, ◌≤◌, Bool, List, Option, Some, [], ap, arith, cond, false, length, refl, subst, suc, sym, take, ℕ}
+use Rattle.std.{proofs.lemmas.{Bool.Decides.Decides-like, List.Sums.sum_by-cons}, specs.{Bool.Decides, List.{All, count_by, slice_get}, Option.option_map_or}}
+use Rattle.net_plan.specs.declared.{ids.DeviceId.DeviceId, network.Network.Network, tables.{Link.Link, Row.Row}}
+use Rattle.schedule_tables.specs.{Entries.{AreEntries, EntryIsOne, IsEntry, source_by, source_of}, Schedule.{ComesInTime, StandsApart, leaves}}
 use Rattle.schedule_tables.specs.declared.entry.Entry.{Entry}
-use Rattle.schedule_checker.specs.Ports.{AreApart, ComesBehind}
-use Rattle.schedule_checker.proofs.EntryPlaces.{entries_of_all, all_of_entries, earlier_of_all, all_of_earlier}
 use Rattle.tte_units.specs.Amount.{amount}
+use Rattle.schedule_checker.{proofs.EntryPlaces.{all_of_earlier, all_of_entries, earlier_of_all, entries_of_all}, specs.Ports.{AreApart, ComesBehind}}
 
 -- ---- rows of one port
 

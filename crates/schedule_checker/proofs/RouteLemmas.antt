@@ -1,23 +1,16 @@
 -- What holds of a network's entries, said of its virtual links.
-use Rattle.std.proofs.Common.{◌≡◌, ◌≢◌, ◌⊎◌, inl, inr, ⊎_elim, ℕ, ◌<◌, Bool, true, false, List, take, Some, refl, sym, ◌∙◌, subst, arith}
-use Rattle.std.specs.Bool.{Decides}
-use Rattle.std.specs.List.{All, enumerate_from, slice_get}
-use Rattle.std.proofs.lemmas.Bool.Decides.{Decides-like}
-use Rattle.net_plan.specs.Places.{IsEndSystem}
-use Rattle.net_plan.specs.declared.ids.DeviceId.{DeviceId}
-use Rattle.net_plan.specs.declared.ids.VlId.{VlId}
-use Rattle.net_plan.specs.declared.network.Network.{Network}
-use Rattle.net_plan.specs.declared.tables.Row.{Row}
+use Rattle.std.proofs.Common.{◌<◌, ◌∙◌, ◌≡◌, ◌≢◌, ◌⊎◌, Bool, List, Some, arith, false, inl, inr, refl, subst, sym, take, true, ℕ, ⊎_elim}
+use Rattle.std.{proofs.lemmas.Bool.Decides.Decides-like, specs.{Bool.Decides, List.{All, enumerate_from, slice_get}}}
+use Rattle.net_plan.specs.{Places.IsEndSystem, declared.{ids.{DeviceId.DeviceId, VlId.VlId}, network.Network.Network, tables.Row.Row}}
 use Rattle.net_plan.specs.declared.tables.VirtualLink.{VirtualLink}
-use Rattle.pcf_values.specs.declared.channel.Channel.{Channel}
-use Rattle.pcf_values.specs.declared.channel.Channel.TheVariants.{A, B}
-use Rattle.schedule_tables.specs.Entries.{IsEntry, AreEntries, EntryIsOne, IsOnChannel, source_of, target_of}
-use Rattle.schedule_tables.specs.Schedule
-use Rattle.schedule_tables.specs.Schedule.{GoesOnceByLink, HasSource, EntersAnew, IsSwitch, LeavesOn, EntersOn, GoesByBothChannels}
+use Rattle.pcf_values.specs.declared.channel.Channel.{Channel, TheVariants.{A, B}}
+use Rattle.schedule_tables.specs.Entries.{AreEntries, EntryIsOne, IsEntry, IsOnChannel, source_of, target_of}
+use Rattle.schedule_tables.specs.Schedule.{EntersAnew, EntersOn, GoesByBothChannels, GoesOnceByLink, HasSource, IsSwitch, LeavesOn}
 use Rattle.schedule_tables.specs.declared.entry.Entry.{Entry}
-use Rattle.schedule_checker.specs.Routes.{IsEnteredElsewhere, ShareChannel, EntersAgain, LeavesOnBoth, EntersEndSystem, EntersAlike, EntersAllAlike}
-use Rattle.schedule_checker.proofs.Selection.{Each, Holds, from_enumerate, into_enumerate, all_of_below, below_of_all}
-use Rattle.schedule_checker.proofs.EntryPlaces.{stands_at, earlier_of_all, all_of_earlier}
+use Rattle.schedule_checker.proofs.EntryPlaces.{all_of_earlier, earlier_of_all, stands_at}
+use Rattle.schedule_checker.proofs.Selection.{Each, Holds, all_of_below, below_of_all, from_enumerate, into_enumerate}
+use Rattle.schedule_checker.specs.Routes.{EntersAgain, EntersAlike, EntersAllAlike, EntersEndSystem, IsEnteredElsewhere, LeavesOnBoth, ShareChannel}
+use Rattle.schedule_tables.specs.Schedule
 
 -- ---- a virtual link goes once by a link
 
@@ -107,7 +100,8 @@ enters_all_alike n es vl r are one =
     Decides-like r
     (λ each d. record {
       alike = λ channel other end enters.
-          (subst (λ (x : DeviceId). EntersAlike n vl x) enters.target (each enters.place enters.entry (stands_at n es are one enters.place enters.entry enters.is)
+          (subst (λ (x : DeviceId). EntersAlike n vl x) enters.target
+          (each enters.place enters.entry (stands_at n es are one enters.place enters.entry enters.is)
           enters.same_vl)).alike channel other end enters;
     })
     (λ all k e at same. all (target_of e))

@@ -1,10 +1,7 @@
 -- What holds of each element of a list, or of some, said by their places.
-use Rattle.std.proofs.Common.{◌≡◌, ℕ, zero, suc, ◌+◌, ◌<◌, Bool, true, false, List, [], ◌∷◌, length, take, drop, get_or, Option, Some, refl, sym, ap, ◌∙◌, subst, arith}
-use Rattle.std.specs.Bool.{Decides, MatchBool}
-use Rattle.std.specs.List.{All, AllWithin, HoldsAt, enumerate_from, slice_get}
-use Rattle.std.proofs.lemmas.Bool.{false≢true}
-use Rattle.std.proofs.lemmas.List.{get_or-drop}
-use Rattle.std.proofs.lemmas.Option.{slice_get_within, slice_get-get_or, get_or_from_slice_get}
+use Rattle.std.proofs.Common.{◌+◌, ◌<◌, ◌∙◌, ◌∷◌, ◌≡◌, Bool, List, Option, Some, [], ap, arith, drop, false, get_or, length, refl, subst, suc, sym, take, true}
+use Rattle.std.proofs.{Common.{zero, ℕ}, lemmas.{Bool.false≢true, List.get_or-drop, Option.{get_or_from_slice_get, slice_get-get_or, slice_get_within}}}
+use Rattle.std.specs.{Bool.{Decides, MatchBool}, List.{All, AllWithin, HoldsAt, enumerate_from, slice_get}}
 use Rattle.tte_lemmas.proofs.Lists.{some_at}
 
 -- each element has the property

@@ -1,12 +1,8 @@
 -- Lists whose elements are judged by place.
-use Rattle.std.proofs.Common.{◌≡◌, ℕ, zero, suc, ◌<◌, Bool, true, false, cond, eqb, List, [], ◌∷◌, length, Option, Some, take, get_or, refl, ap, sym, subst, ◌∙◌, arith}
-use Rattle.std.specs.Bool.{Decides, MatchBool}
-use Rattle.std.specs.List.{All, AllWithin, HoldsAt, slice_get, filter}
-use Rattle.std.specs.Prelude.{IsSomeAnd}
-use Rattle.std.proofs.lemmas.Bool.{false≢true}
-use Rattle.std.proofs.lemmas.Bool.Decides.{Decides-eqb, Decides-like}
-use Rattle.std.proofs.lemmas.List.{get_or-take, length-take}
-use Rattle.std.proofs.lemmas.Option.{slice_get_within, slice_get-get_or, get_or_from_slice_get, same_Some}
+use Rattle.std.proofs.Common.{◌<◌, ◌∙◌, ◌∷◌, ◌≡◌, Bool, List, Some, [], ap, arith, cond, eqb, false, get_or, length, refl, subst, suc, sym, take, true, zero, ℕ}
+use Rattle.std.proofs.lemmas.{Bool.{false≢true, Decides.{Decides-eqb, Decides-like}}, List.{get_or-take, length-take}}
+use Rattle.std.{proofs.lemmas.Option.{get_or_from_slice_get, same_Some, slice_get-get_or, slice_get_within}, specs.Bool.{Decides, MatchBool}}
+use Rattle.std.specs.{List.{All, AllWithin, HoldsAt, filter, slice_get}, Prelude.IsSomeAnd}
 use Rattle.net_plan.specs.Rules.{ExactlyOne}
 
 -- what `all` answers, at a test of P

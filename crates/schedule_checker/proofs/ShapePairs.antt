@@ -1,9 +1,7 @@
 -- Pairs of elements, and of those that a filter keeps.
-use Rattle.std.proofs.Common.{◌≡◌, ℕ, zero, suc, ◌+◌, ◌<◌, ◌≤◌, Bool, true, false, cond, List, [], ◌∷◌, length, Some, take, get_or, refl, ap, sym, subst, ◌∙◌, ⊎_elim, arith}
-use Rattle.std.specs.List.{All, filter, slice_get}
-use Rattle.std.proofs.lemmas.Bool.{cases_lt}
-use Rattle.std.proofs.lemmas.List.{get_or-take, length-take}
-use Rattle.std.proofs.lemmas.Option.{none-some, same_Some, slice_get_within, slice_get-get_or, get_or_from_slice_get}
+use Rattle.std.proofs.Common.{◌+◌, ◌<◌, ◌∙◌, ◌∷◌, ◌≡◌, ◌≤◌, Bool, List, Some, [], ap, arith, cond, false, get_or, length, refl, subst, suc, sym, take, true}
+use Rattle.std.proofs.{Common.{zero, ℕ, ⊎_elim}, lemmas.{Bool.cases_lt, List.{get_or-take, length-take}}}
+use Rattle.std.{proofs.lemmas.Option.{get_or_from_slice_get, none-some, same_Some, slice_get-get_or, slice_get_within}, specs.List.{All, filter, slice_get}}
 
 -- each two elements are so related, the earlier first
 abbrev pub AtPairs : {X : Type 0} → (X → X → Type 0) → List X → Type 0

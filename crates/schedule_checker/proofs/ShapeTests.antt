@@ -1,18 +1,9 @@
 -- Tests of roles, channels and links.
-use Rattle.std.proofs.Common.{arith, ℕ, ◌≤◌, leb, ◌≡◌, Bool, true, false, not, eqb, ◌&&◌, Option, Some, None, refl, ap}
-use Rattle.std.specs.Bool.{Decides}
-use Rattle.std.specs.Prelude.{IsSomeAnd}
-use Rattle.std.proofs.lemmas.Bool.{false≢true}
-use Rattle.std.proofs.lemmas.Bool.Decides.{nat_tests, Decides-and, Decides-eqb, Decides-like}
-use Rattle.net_plan.specs.Places.{device_at, IsSwitchOf}
-use Rattle.net_plan.specs.declared.ids.DeviceId.{DeviceId}
-use Rattle.net_plan.specs.declared.network.Network.{Network}
-use Rattle.net_plan.specs.declared.tables.Device.{Device}
-use Rattle.net_plan.specs.declared.tables.Link.{Link}
-use Rattle.net_plan.specs.declared.tables.Role.{Role}
-use Rattle.net_plan.specs.declared.tables.Role.TheVariants.{Master, Client, Cm, Relay}
-use Rattle.pcf_values.specs.declared.channel.Channel.{Channel}
-use Rattle.pcf_values.specs.declared.channel.Channel.TheVariants.{A, B}
+use Rattle.std.proofs.{Common.{◌&&◌, ◌≡◌, ◌≤◌, Bool, None, Option, Some, ap, arith, eqb, false, leb, not, refl, true, ℕ}, lemmas.Bool.false≢true}
+use Rattle.std.{proofs.lemmas.Bool.Decides.{Decides-and, Decides-eqb, Decides-like, nat_tests}, specs.{Bool.Decides, Prelude.IsSomeAnd}}
+use Rattle.net_plan.specs.{Places.{IsSwitchOf, device_at}, declared.{ids.DeviceId.DeviceId, network.Network.Network, tables.{Device.Device, Link.Link}}}
+use Rattle.net_plan.specs.declared.tables.Role.{Role, TheVariants.{Client, Cm, Master, Relay}}
+use Rattle.pcf_values.specs.declared.channel.Channel.{Channel, TheVariants.{A, B}}
 
 same_channel : Channel → Channel → Bool
 same_channel A A = true

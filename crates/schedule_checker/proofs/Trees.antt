@@ -1,10 +1,8 @@
 -- The rules of a network's shape make its links trees.
 use Rattle.std.proofs.Common.{arith}
-use Rattle.net_plan.specs.Paths.{IsTree}
-use Rattle.net_plan.specs.Rules.{KeepsShapeRules, RulesGiveTrees}
-use Rattle.net_plan.specs.declared.network.Network.{Network}
+use Rattle.net_plan.specs.{Paths.IsTree, Rules.{KeepsShapeRules, RulesGiveTrees}, declared.network.Network.Network}
 use Rattle.schedule_tables.specs.Rules.{KeepsBelow}
-use Rattle.schedule_tables.specs.declared.rule.Rule.TheVariants.{Limits, DevicesDiffer, LinksDiffer, CompressionMasters, Joints, Connections, Masters}
+use Rattle.schedule_tables.specs.declared.rule.Rule.TheVariants.{CompressionMasters, Connections, DevicesDiffer, Joints, Limits, LinksDiffer, Masters}
 
 shape : (n : Network) → KeepsBelow 8 n → KeepsShapeRules n
 shape n kept = record {

@@ -1,10 +1,7 @@
 -- The end of a row's window, at the row's entry.
-use Rattle.std.proofs.Common.{ℕ, ◌+◌, ◌*◌, ◌≤◌, subst}
+use Rattle.std.proofs.Common.{◌*◌, ◌+◌, ◌≤◌, subst, ℕ}
 use Rattle.net_plan.specs.declared.network.Network.{Network}
-use Rattle.schedule_tables.specs.Entries.{EntryIsOne, IsEntry}
-use Rattle.schedule_tables.specs.Schedule.{EndsInCycle}
-use Rattle.schedule_tables.specs.Windows.{window_end}
-use Rattle.schedule_tables.specs.declared.entry.Entry.{Entry}
+use Rattle.schedule_tables.specs.{Entries.{EntryIsOne, IsEntry}, Schedule.EndsInCycle, Windows.window_end, declared.entry.Entry.Entry}
 use Rattle.tte_units.specs.Amount.{amount}
 
 -- the rule speaks of the one entry

@@ -1,18 +1,16 @@
 -- Where the rules are judged.
-use Rattle.std.specs.Prelude.{ℕ, ◌<◌, length}
-use Rattle.net_plan.specs.Bounds.{IsBeta}
-use Rattle.net_plan.specs.Paths.{IsTree}
-use Rattle.net_plan.specs.Ranges.{IsInRange}
-use Rattle.net_plan.specs.declared.network.Network.{Network}
-use Rattle.schedule_checker.specs.declared.judge.Plan.{Plan}
-use Rattle.schedule_checker.specs.declared.parts.PlanRule.{PlanRule}
+use Rattle.std.specs.Prelude.{◌<◌, length, ℕ}
+use Rattle.net_plan.specs.{Bounds.IsBeta, Paths.IsTree, Ranges.IsInRange, declared.network.Network.Network}
+use Rattle.schedule_tables.specs.{Entries.AreEntries, Rules.IsKeptAt, declared.rule.Rule.Rule}
+use Rattle.schedule_tables.specs.declared.rule.Rule.TheVariants.{BothChannels, CompressionMasters, Connections}
+use Rattle.schedule_tables.specs.declared.rule.Rule.TheVariants.{Correction, Delays, DevicesDiffer, Forwarding, Joints}
+use Rattle.schedule_tables.specs.declared.rule.Rule.TheVariants.{Limits, LinksDiffer, LinksOnce, Masters, Periods}
+use Rattle.schedule_tables.specs.declared.rule.Rule.TheVariants.{Precision, RowsOfDevice, ScheduleStart, Senders}
+use Rattle.schedule_tables.specs.declared.rule.Rule.TheVariants.{Settling, Sources, Spacing, Targets, VlIdsDiffer}
+use Rattle.schedule_tables.specs.declared.rule.Rule.TheVariants.{VlNamesDiffer, WindowEnds}
+use Rattle.schedule_checker.specs.declared.{judge.Plan.Plan, parts.{PlanRule.PlanRule, ShapeRule.ShapeRule}}
 use Rattle.schedule_checker.specs.declared.parts.PlanRule.TheVariants as plans
-use Rattle.schedule_checker.specs.declared.parts.ShapeRule.{ShapeRule}
 use Rattle.schedule_checker.specs.declared.parts.ShapeRule.TheVariants as shapes
-use Rattle.schedule_tables.specs.Entries.{AreEntries}
-use Rattle.schedule_tables.specs.Rules.{IsKeptAt}
-use Rattle.schedule_tables.specs.declared.rule.Rule.{Rule}
-use Rattle.schedule_tables.specs.declared.rule.Rule.TheVariants.{Limits, DevicesDiffer, LinksDiffer, CompressionMasters, Joints, Connections, Masters, Delays, Settling, Precision, Correction, ScheduleStart, WindowEnds, VlNamesDiffer, VlIdsDiffer, Periods, Senders, LinksOnce, Sources, Targets, Spacing, BothChannels, Forwarding, RowsOfDevice}
 
 -- at how many places the rule is judged: those of devices, links, virtual links or rows, the parts of
 -- a rule with parts, and one for any other

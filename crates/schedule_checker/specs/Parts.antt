@@ -1,10 +1,8 @@
 -- The numbers of the parts of rules that have parts.
 use Rattle.std.specs.Prelude.{ℕ}
-use Rattle.pcf_values.specs.declared.channel.Channel.{Channel}
-use Rattle.pcf_values.specs.declared.channel.Channel.TheVariants.{A, B}
-use Rattle.schedule_checker.specs.declared.shape.limits.Limit.{Limit}
+use Rattle.pcf_values.specs.declared.channel.Channel.{Channel, TheVariants.{A, B}}
+use Rattle.schedule_checker.specs.declared.shape.{limits.Limit.Limit, masters.Demand.Demand}
 use Rattle.schedule_checker.specs.declared.shape.limits.Limit.TheVariants as limits
-use Rattle.schedule_checker.specs.declared.shape.masters.Demand.{Demand}
 use Rattle.schedule_checker.specs.declared.shape.masters.Demand.TheVariants as demands
 
 -- the part of the rule on limits that speaks of these

@@ -1,12 +1,9 @@
 -- What the checker refuses.
 use Rattle.std.specs.Prelude.{◌≡◌}
 use Rattle.net_plan.specs.declared.network.Network.{Network}
-use Rattle.schedule_checker.specs.declared.refusal.RuleBroken.{RuleBroken}
-use Rattle.schedule_checker.specs.declared.refusal.Unfit.{Unfit}
-use Rattle.schedule_checker.specs.declared.refusal.Unfit.TheVariants.{Rule as Breaks, OutOfMemory}
-use Rattle.schedule_tables.specs.Numbers.{number_of}
-use Rattle.schedule_tables.specs.Rules.{IsFirstBroken}
-use Rattle.schedule_tables.specs.declared.rule.Rule.{Rule}
+use Rattle.schedule_tables.specs.{Numbers.number_of, Rules.IsFirstBroken, declared.rule.Rule.Rule}
+use Rattle.schedule_checker.specs.declared.refusal.{RuleBroken.RuleBroken, Unfit.Unfit}
+use Rattle.schedule_checker.specs.declared.refusal.Unfit.TheVariants.{OutOfMemory, Rule as Breaks}
 
 -- what is told is the number of the first rule that the network breaks, and its first place
 pub record TellsFirstBroken (network : Network) (told : RuleBroken) : Type 0 where

@@ -1,12 +1,8 @@
 -- How the rows of a virtual link enter devices.
-use Rattle.std.specs.Prelude.{◌≡◌, ◌≢◌, ◌⊎◌, ℕ, List, Some, slice_get}
-use Rattle.net_plan.specs.Places.{IsEndSystem}
-use Rattle.net_plan.specs.declared.ids.DeviceId.{DeviceId}
-use Rattle.net_plan.specs.declared.ids.VlId.{VlId}
-use Rattle.net_plan.specs.declared.network.Network.{Network}
+use Rattle.std.specs.Prelude.{◌≡◌, ◌≢◌, ◌⊎◌, List, Some, slice_get, ℕ}
+use Rattle.net_plan.specs.{Places.IsEndSystem, declared.{ids.{DeviceId.DeviceId, VlId.VlId}, network.Network.Network}}
 use Rattle.pcf_values.specs.declared.channel.Channel.{Channel}
-use Rattle.schedule_tables.specs.Entries.{IsOnChannel, source_of, target_of}
-use Rattle.schedule_tables.specs.Schedule.{EntersOn, IsSwitch, LeavesOn}
+use Rattle.schedule_tables.specs.{Entries.{IsOnChannel, source_of, target_of}, Schedule.{EntersOn, IsSwitch, LeavesOn}}
 use Rattle.schedule_tables.specs.declared.entry.Entry.{Entry}
 
 -- one of the entries, at another place than this and of the same virtual link, enters the entry's source

@@ -1,12 +1,8 @@
 -- Parts of the rules of a network's shape.
-use Rattle.std.specs.Prelude.{ℕ, ◌⊎◌, ◌≤◌, List, length}
+use Rattle.std.specs.Prelude.{◌≤◌, ◌⊎◌, List, length, ℕ}
 use Rattle.net_plan.specs.Paths.{IsFirstPath, IsUplink, LeadsToCm}
-use Rattle.net_plan.specs.Places.{IsDeviceOf, IsEndSystem, IsRoleOf, IsSwitchOf}
-use Rattle.net_plan.specs.Rules.{ExactlyOne, IsChildOf}
-use Rattle.net_plan.specs.declared.ids.DeviceId.{DeviceId}
-use Rattle.net_plan.specs.declared.ids.LinkId.{LinkId}
-use Rattle.net_plan.specs.declared.network.Network.{Network}
-use Rattle.net_plan.specs.declared.tables.Link.{Link}
+use Rattle.net_plan.specs.{Places.{IsDeviceOf, IsEndSystem, IsRoleOf, IsSwitchOf}, Rules.{ExactlyOne, IsChildOf}}
+use Rattle.net_plan.specs.declared.{ids.{DeviceId.DeviceId, LinkId.LinkId}, network.Network.Network, tables.Link.Link}
 use Rattle.net_plan.specs.declared.tables.Role.TheVariants.{Relay}
 use Rattle.pcf_values.specs.declared.channel.Channel.{Channel}
 

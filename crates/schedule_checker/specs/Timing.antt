@@ -1,11 +1,7 @@
 -- Parts of the rules of times.
-use Rattle.std.specs.Prelude.{ℕ, ◌+◌, ◌*◌, ◌≤◌, List}
-use Rattle.net_plan.specs.Bounds.{gamma_of}
-use Rattle.net_plan.specs.Paths.{IsPath}
-use Rattle.net_plan.specs.Places.{IsDeviceOf}
-use Rattle.net_plan.specs.declared.ids.DeviceId.{DeviceId}
-use Rattle.net_plan.specs.declared.ids.LinkId.{LinkId}
-use Rattle.net_plan.specs.declared.network.Network.{Network}
+use Rattle.std.specs.Prelude.{◌*◌, ◌+◌, ◌≤◌, List, ℕ}
+use Rattle.net_plan.specs.{Bounds.gamma_of, Paths.IsPath, Places.IsDeviceOf, declared.ids.DeviceId.DeviceId}
+use Rattle.net_plan.specs.declared.{ids.LinkId.LinkId, network.Network.Network}
 use Rattle.pcf_values.specs.declared.channel.Channel.{Channel}
 use Rattle.schedule_tables.specs.Delays.{delay_on}
 use Rattle.tte_units.specs.Amount.{amount}

@@ -1,8 +1,7 @@
 //! The rule that a virtual link goes by both channels.
-ghost use Rattle.std.specs.Prelude.{◌<◌, ◌↔◌, ℕ, IsTrue, length};
+ghost use Rattle.std.specs.Prelude.{◌<◌, ◌↔◌, IsTrue, length, ℕ};
 ghost use Rattle.net_plan.specs.Ranges.{IsInRange};
-ghost use Rattle.schedule_tables.specs.Entries.{AreEntries};
-ghost use Rattle.schedule_tables.specs.Schedule.{EntersOn, GoesByBothChannels, LeavesOn};
+ghost use Rattle.schedule_tables.specs.{Entries.AreEntries, Schedule.{EntersOn, GoesByBothChannels, LeavesOn}};
 ghost use Rattle.schedule_checker.specs.Routes.{EntersAlike, EntersAllAlike, EntersEndSystem, LeavesOnBoth};
 
 use crate::roles::is_end_system;

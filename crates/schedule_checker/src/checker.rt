@@ -1,8 +1,7 @@
 ghost use Rattle.std.specs.Prelude.{◌≡◌, IfErr, IfOk, OnOk};
 ghost use Rattle.net_plan.specs.Ranges.{IsInRange};
+ghost use Rattle.schedule_tables.specs.{Numbers.number_of, Rules.KeepsRules};
 ghost use Rattle.schedule_checker.specs.Refusals.{IsUnfitBy};
-ghost use Rattle.schedule_tables.specs.Numbers.{number_of};
-ghost use Rattle.schedule_tables.specs.Rules.{KeepsRules};
 
 use crate::judge::{Broken, Plan, judge_plan, judge_shape};
 use crate::{RuleBroken, Unfit};

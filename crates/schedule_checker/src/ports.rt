@@ -1,13 +1,11 @@
 //! The rules of when a device sends its rows.
-ghost use Rattle.std.specs.Prelude.{◌≡◌, ◌+◌, ◌^◌, ◌<◌, ◌≤◌, ◌↔◌, ℕ, All, IsTrue, length};
-ghost use Rattle.net_plan.specs.Bounds.{gamma_of};
-ghost use Rattle.net_plan.specs.Ranges.{IsInRange, IsWithin};
+ghost use Rattle.std.specs.Prelude.{◌+◌, ◌<◌, ◌^◌, ◌↔◌, ◌≡◌, ◌≤◌, All, IsTrue, length, ℕ};
+ghost use Rattle.net_plan.specs.{Bounds.gamma_of, Ranges.{IsInRange, IsWithin}};
 ghost use Rattle.net_plan.specs.declared.network.Network.{Network as NetworkValue};
 ghost use Rattle.schedule_tables.specs.Entries.{AreEntries, IsEntryInRange};
-ghost use Rattle.schedule_tables.specs.Schedule.{Coincide, ComesInTime, HasFewRows, StandsApart};
-ghost use Rattle.schedule_tables.specs.Windows.{port_time};
-ghost use Rattle.schedule_checker.specs.Ports.{AreApart, ComesBehind};
+ghost use Rattle.schedule_tables.specs.{Schedule.{Coincide, ComesInTime, HasFewRows, StandsApart}, Windows.port_time};
 ghost use Rattle.tte_units.specs.Amount.{amount};
+ghost use Rattle.schedule_checker.specs.Ports.{AreApart, ComesBehind};
 
 use net_plan::{DeviceId, Network, VirtualLink};
 use schedule_tables::{Entry, entries_law, window_of};
@@ -75,7 +73,8 @@ fn is_clear_before(gamma: u64, entry: &Entry, other: &Entry) -> bool
     requires offset { IsWithin 0 (2 ^ 40) entry.now.row.offset }
     requires octets { entry.now.vl.length ≤ 1514 }
     requires other { IsWithin 0 (2 ^ 40) other.now.row.offset }
-    ensures { IsTrue result ↔ (amount entry.now.row.offset + port_time entry.now + gamma ≤ amount other.now.row.offset) }
+    ensures { IsTrue result ↔ (amount entry.now.row.offset + port_time entry.now + gamma
+        ≤ amount other.now.row.offset) }
 {
     entry.row.offset.amount() + entry.port_time().amount() + gamma <= other.row.offset.amount()
 }

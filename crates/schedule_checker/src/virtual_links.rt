@@ -1,5 +1,4 @@
-ghost use Rattle.std.specs.Prelude.{◌≡◌, ◌<◌, ◌↔◌, IsTrue, [], ◌∷◌, Some, length, slice_get};
-ghost use Rattle.std.specs.List.{Contains};
+ghost use Rattle.std.specs.{List.Contains, Prelude.{◌<◌, ◌↔◌, ◌∷◌, ◌≡◌, IsTrue, Some, [], length, slice_get}};
 ghost use Rattle.schedule_tables.specs.Schedule.{HasEndSystemAsSender, HasPeriod, VlIdIsNew, VlNameIsNew};
 
 use crate::roles::is_end_system;

@@ -1,15 +1,9 @@
 -- The entries of rows.
-use Rattle.std.proofs.Common.{◌≡◌, ⊎_elim, ℕ, List, [], ◌∷◌, ◌++◌, length, Some, ap, sym, ◌∙◌, subst}
-use Rattle.std.specs.Prelude.{slice_get}
-use Rattle.net_plan.specs.Ranges.{IsLinkInRange, IsRowInRange, IsVlInRange}
-use Rattle.net_plan.specs.declared.network.Network.{Network}
-use Rattle.net_plan.specs.declared.tables.Link.{Link}
-use Rattle.net_plan.specs.declared.tables.Row.{Row}
+use Rattle.std.{proofs.Common.{◌++◌, ◌∙◌, ◌∷◌, ◌≡◌, List, Some, [], ap, length, subst, sym, ℕ, ⊎_elim}, specs.Prelude.slice_get}
+use Rattle.net_plan.specs.{Ranges.{IsLinkInRange, IsRowInRange, IsVlInRange}, declared.{network.Network.Network, tables.{Link.Link, Row.Row}}}
 use Rattle.net_plan.specs.declared.tables.VirtualLink.{VirtualLink}
-use Rattle.schedule_tables.specs.Entries.{IsEntry, EntriesAreInRange, EntryIsOne}
-use Rattle.schedule_tables.specs.declared.entry.Entry.{Entry}
-use Rattle.tte_lemmas.proofs.Lists.{in_all, pushed}
-use Rattle.tte_lemmas.proofs.Options.{one}
+use Rattle.tte_lemmas.proofs.{Lists.{in_all, pushed}, Options.one}
+use Rattle.schedule_tables.specs.{Entries.{EntriesAreInRange, EntryIsOne, IsEntry}, declared.entry.Entry.Entry}
 
 pub in_range : EntriesAreInRange
 in_range n i e range is = record {

@@ -1,35 +1,18 @@
 -- The rules of a network's times leave the margins.
-use Rattle.std.proofs.Common.{◌≡◌, ℕ, pos, get_or, ◌+◌, ◌*◌, ◌/◌, ◌^◌, ◌≤◌, suc, List, [], ◌∷◌, Option, Some, refl, ap, ◌∙◌, ◌⊎◌, inl, inr, ⊎_elim, arith}
-use Rattle.std.proofs.lemmas.Bool.{false≢true}
-use Rattle.std.proofs.lemmas.Int.{ints}
-use Rattle.std.proofs.lemmas.List.Sums.{sum_by-cons}
-use Rattle.std.specs.Option.{option_map_or}
-use Rattle.std.proofs.lemmas.List.Elements.{All-weaker}
-use Rattle.std.proofs.lemmas.Option.{slice_get-get_or}
-use Rattle.std.specs.Prelude.{if◌then◌else◌, Bool, true, false, length, slice_get}
-use Rattle.std.specs.List.{All, filter}
-use Rattle.net_plan.specs.Bounds.{IsBeta}
-use Rattle.net_plan.specs.Paths.{IsPath, IsTree, IsUplink}
-use Rattle.net_plan.specs.Places.{device_at, link_at, is_end_system, is_master, IsDeviceOf, IsEndSystem, IsRoleOf, IsSwitchOf}
-use Rattle.net_plan.specs.Ranges.{IsInRange, IsWithin}
-use Rattle.net_plan.specs.Rules.{RulesGiveTrees, KeepsShapeRules}
-use Rattle.net_plan.specs.declared.ids.DeviceId.{DeviceId}
-use Rattle.net_plan.specs.declared.ids.LinkId.{LinkId}
-use Rattle.net_plan.specs.declared.network.Network.{Network}
-use Rattle.net_plan.specs.declared.tables.Link.{Link}
-use Rattle.net_plan.specs.declared.tables.Device.{Device}
-use Rattle.net_plan.specs.declared.tables.Role.{Role}
-use Rattle.net_plan.specs.declared.tables.Role.TheVariants.{Master, Client, Cm, Relay}
-use Rattle.pcf_values.specs.declared.channel.Channel.{Channel}
-use Rattle.pcf_values.specs.declared.channel.Channel.TheVariants.{A}
-use Rattle.schedule_tables.specs.Delays.{delay_by, delay_of, pcf_port_time, ErrorsSettle, PrecisionFits, CorrectionFits, ScheduleFits}
-use Rattle.schedule_tables.specs.Margins.{DriftHasRoom, PrecisionHasRoom, CycleHasRoom, SettledHasRoom, ErrorsAreSmall, RulesGiveMargins}
-use Rattle.schedule_tables.specs.Rules.{KeepsRules}
-use Rattle.schedule_tables.specs.declared.rule.Rule.TheVariants.{Limits, DevicesDiffer, LinksDiffer, CompressionMasters, Joints, Connections, Masters, Delays, Settling, Precision, Correction, ScheduleStart}
-use Rattle.tte_lemmas.proofs.Lists.{in_all}
-use Rattle.tte_lemmas.proofs.Options.{closed, opened}
-use Rattle.tte_units.specs.Amount.{amount}
-use Rattle.tte_units.specs.declared.units.Units.{Units}
+use Rattle.std.proofs.Common.{◌*◌, ◌+◌, ◌/◌, ◌^◌, ◌∙◌, ◌∷◌, ◌≡◌, ◌≤◌, ◌⊎◌, List, Option, Some, [], ap, arith, get_or, inl, inr, pos, refl, suc, ℕ, ⊎_elim}
+use Rattle.std.{proofs.lemmas.{Bool.false≢true, Int.ints, List.{Elements.All-weaker, Sums.sum_by-cons}, Option.slice_get-get_or}, specs.List.{All, filter}}
+use Rattle.std.specs.{Option.option_map_or, Prelude.{if◌then◌else◌, Bool, false, length, slice_get, true}}
+use Rattle.net_plan.specs.{Bounds.IsBeta, Paths.{IsPath, IsTree, IsUplink}}
+use Rattle.net_plan.specs.{Places.{IsDeviceOf, IsEndSystem, IsRoleOf, IsSwitchOf, device_at, is_end_system, is_master, link_at}, Ranges.{IsInRange, IsWithin}}
+use Rattle.net_plan.specs.{Rules.{KeepsShapeRules, RulesGiveTrees}, declared.{ids.{DeviceId.DeviceId, LinkId.LinkId}, network.Network.Network}}
+use Rattle.net_plan.specs.declared.tables.{Device.Device, Link.Link, Role.{Role, TheVariants.{Client, Cm, Master, Relay}}}
+use Rattle.pcf_values.specs.declared.channel.Channel.{Channel, TheVariants.A}
+use Rattle.tte_lemmas.proofs.{Lists.in_all, Options.{closed, opened}}
+use Rattle.tte_units.specs.{Amount.amount, declared.units.Units.Units}
+use Rattle.schedule_tables.specs.Delays.{CorrectionFits, ErrorsSettle, PrecisionFits, ScheduleFits, delay_by, delay_of, pcf_port_time}
+use Rattle.schedule_tables.specs.{Margins.{CycleHasRoom, DriftHasRoom, ErrorsAreSmall, PrecisionHasRoom, RulesGiveMargins, SettledHasRoom}, Rules.KeepsRules}
+use Rattle.schedule_tables.specs.declared.rule.Rule.TheVariants.{CompressionMasters, Connections, Correction, Delays, DevicesDiffer, Joints, Limits}
+use Rattle.schedule_tables.specs.declared.rule.Rule.TheVariants.{LinksDiffer, Masters, Precision, ScheduleStart, Settling}
 
 amount_within : (low high : ℕ) (units : Units) → IsWithin low high units → (low ≤ amount units) × (amount units ≤ high)
 amount_within low high units h = (omega (arith, ints, h.least, h.most), omega (arith, ints, h.least, h.most))
@@ -118,7 +101,8 @@ cycle_room n beta link drift fits precision correction schedule first = record {
 kept : {X : Type 0} (p : X → Bool) (xs : List X) → 1 ≤ length (filter p xs) → (i : ℕ) × (x : X) × (slice_get xs i ≡ Some x) × (p x ≡ true)
 kept p [] h = absurd (omega arith)
 kept p (x ∷ xs) h =
-    elim (p x) as (λ b. p x ≡ b → 1 ≤ length (if b then x ∷ filter p xs else filter p xs) → (i : ℕ) × (y : _) × (slice_get (x ∷ xs) i ≡ Some y) × (p y ≡ true)) [
+    elim (p x) as (λ b. p x ≡ b → 1 ≤ length (if b then x ∷ filter p xs else filter p xs) → (i : ℕ) × (y : _) × (slice_get (x ∷ xs) i ≡ Some y)
+    × (p y ≡ true)) [
       | true ↦ λ e g. (0, x, refl, e)
       | false ↦ λ e g. let r = kept p xs g in (suc r.0, r.1, r.2, r.3)
     ] refl h

@@ -1,24 +1,13 @@
 -- The first slot behind a row's place is that of the next row.
-use Rattle.std.proofs.Common.{◌≡◌, inl, inr, ⊎_elim, ℕ, ◌%◌, ◌<◌, ◌≤◌, List, [], ◌∷◌, length, get_or, Option, Some, None, refl, ap, sym, ◌∙◌, arith}
-use Rattle.std.specs.Option.{option_map_or}
-use Rattle.std.proofs.lemmas.Option.{slice_get_read}
-use Rattle.std.proofs.lemmas.List.Elements.{All-contains}
-use Rattle.net_plan.specs.declared.ids.DeviceId.{DeviceId}
-use Rattle.net_plan.specs.declared.ids.RowId.{RowId}
-use Rattle.net_plan.specs.declared.network.Network.{Network}
-use Rattle.net_plan.specs.declared.tables.Row.{Row}
-use Rattle.schedule_tables.proofs.OrderLemmas.{same_or_below}
-use Rattle.schedule_tables.specs.Dispatches.{IsBelow, dispatch_order, ComesBehind, IsDispatched, IsNextRow, HasNoNextRow}
-use Rattle.schedule_tables.specs.Entries.{IsEntry}
-use Rattle.schedule_tables.specs.Slots.{AreSlotsOf, Follows, HasNoNextSlot, IsBehind, IsNextSlot, IsSlotOf, numbers_of, place_by}
-use Rattle.schedule_tables.specs.Schedule.{HasPeriod}
-use Rattle.schedule_tables.specs.TablesOf.{AreTimedRows}
-use Rattle.schedule_tables.specs.declared.entry.Entry.{Entry}
-use Rattle.schedule_tables.specs.declared.slot.Place.{Place}
-use Rattle.schedule_tables.specs.declared.slot.Slot.{Slot}
-use Rattle.schedule_tables.specs.declared.tables.TimedRow.{TimedRow}
+use Rattle.std.proofs.Common.{◌%◌, ◌<◌, ◌∙◌, ◌∷◌, ◌≡◌, ◌≤◌, List, None, Option, Some, [], ap, arith, get_or, inl, inr, length, refl, sym, ℕ, ⊎_elim}
+use Rattle.std.{proofs.lemmas.{List.Elements.All-contains, Option.slice_get_read}, specs.Option.option_map_or}
+use Rattle.net_plan.specs.declared.{ids.{DeviceId.DeviceId, RowId.RowId}, network.Network.Network, tables.Row.Row}
 use Rattle.tte_lemmas.proofs.Lists.{period_divides}
 use Rattle.tte_units.specs.Amount.{amount}
+use Rattle.schedule_tables.{proofs.OrderLemmas.same_or_below, specs.Dispatches.{ComesBehind, HasNoNextRow, IsBelow, IsDispatched, IsNextRow, dispatch_order}}
+use Rattle.schedule_tables.specs.{Entries.IsEntry, Schedule.HasPeriod}
+use Rattle.schedule_tables.specs.{Slots.{AreSlotsOf, Follows, HasNoNextSlot, IsBehind, IsNextSlot, IsSlotOf, numbers_of, place_by}, TablesOf.AreTimedRows}
+use Rattle.schedule_tables.specs.declared.{entry.Entry.Entry, slot.{Place.Place, Slot.Slot}, tables.TimedRow.TimedRow}
 
 -- a row's place by its entry
 place_is : (n : Network) (row : RowId) (e : Entry) → IsEntry n row.0 e → dispatch_order n row ≡ numbers_of (place_by e row)

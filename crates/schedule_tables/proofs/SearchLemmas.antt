@@ -1,17 +1,11 @@
 -- The search for a slot among slots in their order.
-use Rattle.std.proofs.Common.{◌≡◌, true, false, inl, inr, ⊎_elim, ℕ, ◌<◌, ◌≤◌, List, [], ◌∷◌, length, get_or, Option, Some, None, refl, ap, sym, ◌∙◌, subst, arith}
-use Rattle.std.proofs.lemmas.Bool.{cases_lt}
-use Rattle.std.specs.Prelude.{slice_get}
-use Rattle.std.specs.List.{Contains}
-use Rattle.std.specs.List.Sorted.{IsPartitionPoint, IsPartitionedBy}
-use Rattle.std.proofs.lemmas.Option.{slice_get_read, get_or_from_slice_get}
+use Rattle.std.proofs.Common.{◌<◌, ◌∙◌, ◌∷◌, ◌≡◌, ◌≤◌, List, None, Option, Some, [], ap, arith, false, get_or, inl, inr, length, refl, subst, sym, true, ℕ}
+use Rattle.std.{proofs.{Common.⊎_elim, lemmas.{Bool.cases_lt, Option.{get_or_from_slice_get, slice_get_read}}}, specs.List.Contains}
+use Rattle.std.specs.{List.Sorted.{IsPartitionPoint, IsPartitionedBy}, Prelude.slice_get}
 use Rattle.net_plan.specs.declared.ids.DeviceId.{DeviceId}
-use Rattle.schedule_tables.proofs.OrderLemmas.{below_itself, StandsBehind, passed, passed_first, passed_true, passed_false}
-use Rattle.schedule_tables.specs.Dispatches.{IsBelow}
-use Rattle.schedule_tables.specs.Slots.{AreInOrder, Follows, HasNoNextSlot, IsBehind, IsNextSlot, key_of, numbers_of}
-use Rattle.schedule_tables.specs.declared.slot.Place.{Place}
-use Rattle.schedule_tables.specs.declared.slot.Slot.{Slot}
 use Rattle.tte_lemmas.proofs.Naturals.{above_or_same}
+use Rattle.schedule_tables.{proofs.OrderLemmas.{StandsBehind, below_itself, passed, passed_false, passed_first, passed_true}, specs.Dispatches.IsBelow}
+use Rattle.schedule_tables.specs.{Slots.{AreInOrder, Follows, HasNoNextSlot, IsBehind, IsNextSlot, key_of, numbers_of}, declared.slot.{Place.Place, Slot.Slot}}
 
 -- a slot that follows stands behind
 stands_behind : (device : DeviceId) (residue : ℕ) (place : Option Place) (s : Slot) → Follows device residue place s → StandsBehind device residue place s

@@ -1,13 +1,8 @@
 -- The dispatches of a device in a cycle, in their order.
-use Rattle.std.specs.Prelude.{◌≡◌, ◌⊎◌, ℕ, ◌<◌, List, [], ◌∷◌, Option, Some, None, slice_get}
-use Rattle.std.specs.Option.{option_map_or}
-use Rattle.net_plan.specs.declared.ids.DeviceId.{DeviceId}
-use Rattle.net_plan.specs.declared.ids.RowId.{RowId}
-use Rattle.net_plan.specs.declared.network.Network.{Network}
-use Rattle.schedule_tables.specs.Entries.{IsEntry, source_of}
-use Rattle.schedule_tables.specs.Windows.{OccursIn}
-use Rattle.schedule_tables.specs.declared.entry.Entry.{Entry}
+use Rattle.std.specs.{Option.option_map_or, Prelude.{◌<◌, ◌∷◌, ◌≡◌, ◌⊎◌, List, None, Option, Some, [], slice_get, ℕ}}
+use Rattle.net_plan.specs.declared.{ids.{DeviceId.DeviceId, RowId.RowId}, network.Network.Network}
 use Rattle.tte_units.specs.Amount.{amount}
+use Rattle.schedule_tables.specs.{Entries.{IsEntry, source_of}, Windows.OccursIn, declared.entry.Entry.Entry}
 
 -- the first list is the lesser one, its numbers compared from the left
 abbrev pub IsBelow : List ℕ → List ℕ → Type 0

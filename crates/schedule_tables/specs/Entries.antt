@@ -1,12 +1,8 @@
 -- Rows of the schedule, with the virtual link and the link that they name.
-use Rattle.std.specs.Prelude.{◌≡◌, ℕ, List, length, Some, slice_get}
-use Rattle.net_plan.specs.Places.{IsSwitchOf}
-use Rattle.net_plan.specs.Ranges.{IsInRange, IsLinkInRange, IsRowInRange, IsVlInRange}
-use Rattle.net_plan.specs.declared.ids.DeviceId.{DeviceId}
-use Rattle.net_plan.specs.declared.network.Network.{Network}
-use Rattle.net_plan.specs.declared.tables.Link.{Link}
-use Rattle.net_plan.specs.declared.tables.Way.{Way}
-use Rattle.net_plan.specs.declared.tables.Way.TheVariants.{Up, Down}
+use Rattle.std.specs.Prelude.{◌≡◌, List, Some, length, slice_get, ℕ}
+use Rattle.net_plan.specs.{Places.IsSwitchOf, Ranges.{IsInRange, IsLinkInRange, IsRowInRange, IsVlInRange}}
+use Rattle.net_plan.specs.declared.{ids.DeviceId.DeviceId, network.Network.Network, tables.{Link.Link, Way.Way}}
+use Rattle.net_plan.specs.declared.tables.Way.TheVariants.{Down, Up}
 use Rattle.pcf_values.specs.declared.channel.Channel.{Channel}
 use Rattle.schedule_tables.specs.declared.entry.Entry.{Entry}
 

@@ -1,18 +1,11 @@
 -- What the times of an accepted network leave room for. The proofs that clocks stay together and that
 -- frames meet their windows rest on these inequalities alone.
-use Rattle.std.specs.Prelude.{◌≡◌, ℕ, pos, ◌+◌, ◌*◌, ◌/◌, ◌^◌, ◌≤◌, List}
-use Rattle.std.specs.List.{All}
-use Rattle.net_plan.specs.Bounds.{IsBeta, gamma_of}
-use Rattle.net_plan.specs.Paths.{IsPath}
-use Rattle.net_plan.specs.Places.{IsDeviceOf}
-use Rattle.net_plan.specs.Ranges.{IsInRange}
-use Rattle.net_plan.specs.declared.ids.DeviceId.{DeviceId}
-use Rattle.net_plan.specs.declared.ids.LinkId.{LinkId}
-use Rattle.net_plan.specs.declared.network.Network.{Network}
+use Rattle.std.specs.{List.All, Prelude.{◌*◌, ◌+◌, ◌/◌, ◌^◌, ◌≡◌, ◌≤◌, List, pos, ℕ}}
+use Rattle.net_plan.specs.{Bounds.{IsBeta, gamma_of}, Paths.IsPath, Places.IsDeviceOf, Ranges.IsInRange}
+use Rattle.net_plan.specs.declared.{ids.{DeviceId.DeviceId, LinkId.LinkId}, network.Network.Network}
 use Rattle.pcf_values.specs.declared.channel.Channel.{Channel}
-use Rattle.schedule_tables.specs.Delays.{delay_by, delay_on, pcf_port_time}
-use Rattle.schedule_tables.specs.Rules.{KeepsRules}
 use Rattle.tte_units.specs.Amount.{amount}
+use Rattle.schedule_tables.specs.{Delays.{delay_by, delay_on, pcf_port_time}, Rules.KeepsRules}
 
 -- how far a clock may drift over two cycles, with the roundings of two readings
 abbrev pub drift_of : Network → ℕ

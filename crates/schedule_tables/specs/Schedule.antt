@@ -1,20 +1,15 @@
 -- The rules of a network's schedule. Each says that it is kept at a place: that of a virtual link, of
 -- a row or of a device.
-use Rattle.std.specs.Prelude.{◌≡◌, ◌≢◌, ◌⊎◌, ℕ, ◌+◌, ◌*◌, ◌%◌, ◌<◌, ◌≤◌, ◌==◌, min, Bool, false, [], ◌∷◌, Some, IsSomeAnd, slice_get}
-use Rattle.std.specs.List.{Contains, count_by}
-use Rattle.std.specs.Option.{option_map_or}
-use Rattle.net_plan.specs.Bounds.{gamma_of}
-use Rattle.net_plan.specs.Places.{device_at, link_at, is_end_system, IsEndSystem}
-use Rattle.net_plan.specs.declared.ids.DeviceId.{DeviceId}
-use Rattle.net_plan.specs.declared.ids.VlId.{VlId}
-use Rattle.net_plan.specs.declared.network.Network.{Network}
-use Rattle.net_plan.specs.declared.tables.Row.{Row}
+use Rattle.std.specs.{List.{Contains, count_by}, Option.option_map_or}
+use Rattle.std.specs.Prelude.{◌%◌, ◌*◌, ◌+◌, ◌<◌, ◌==◌, ◌∷◌, ◌≡◌, ◌≢◌, ◌≤◌, ◌⊎◌, Bool, IsSomeAnd, Some, [], false, min}
+use Rattle.std.specs.Prelude.{slice_get, ℕ}
+use Rattle.net_plan.specs.{Bounds.gamma_of, Places.{IsEndSystem, device_at, is_end_system, link_at}}
+use Rattle.net_plan.specs.declared.{ids.{DeviceId.DeviceId, VlId.VlId}, network.Network.Network, tables.Row.Row}
 use Rattle.net_plan.specs.declared.tables.VirtualLink.{VirtualLink}
 use Rattle.pcf_values.specs.declared.channel.Channel.{Channel}
-use Rattle.schedule_tables.specs.Entries.{IsEntry, IsOnChannel, source_by, source_of, target_of}
-use Rattle.schedule_tables.specs.Windows.{port_time, window_end}
-use Rattle.schedule_tables.specs.declared.entry.Entry.{Entry}
 use Rattle.tte_units.specs.Amount.{amount}
+use Rattle.schedule_tables.specs.Entries.{IsEntry, IsOnChannel, source_by, source_of, target_of}
+use Rattle.schedule_tables.specs.{Windows.{port_time, window_end}, declared.entry.Entry.Entry}
 
 -- the row's window ends before the cycle does, with room for the precision
 abbrev pub EndsInCycle : Network → ℕ → Type 0

@@ -1,12 +1,8 @@
 -- When a row's frame is on its link, and when it may arrive.
-use Rattle.std.specs.Prelude.{◌≡◌, ℕ, pos, ◌+◌, ◌*◌, ◌%◌, ◌≤◌, ◌-ℤ◌}
-use Rattle.net_plan.specs.Bounds.{gamma_of}
-use Rattle.net_plan.specs.declared.network.Network.{Network}
-use Rattle.net_plan.specs.declared.tables.VirtualLink.{VirtualLink}
-use Rattle.schedule_tables.specs.declared.entry.Entry.{Entry}
-use Rattle.schedule_tables.specs.declared.window.Window.{Window}
-use Rattle.tte_units.specs.Amount.{amount, units_of}
-use Rattle.tte_units.specs.OctetTime.{octet_time}
+use Rattle.std.specs.Prelude.{◌%◌, ◌*◌, ◌+◌, ◌-ℤ◌, ◌≡◌, ◌≤◌, pos, ℕ}
+use Rattle.net_plan.specs.{Bounds.gamma_of, declared.{network.Network.Network, tables.VirtualLink.VirtualLink}}
+use Rattle.tte_units.specs.{Amount.{amount, units_of}, OctetTime.octet_time}
+use Rattle.schedule_tables.specs.declared.{entry.Entry.Entry, window.Window.Window}
 
 -- the virtual link occurs in the cycle: in one cycle of each period, but not in the silent cycle 0
 pub record OccursIn (vl : VirtualLink) (cycle : ℕ) : Type 0 where

@@ -1,6 +1,5 @@
 ghost use Rattle.std.specs.Prelude.{◌≡◌};
-ghost use Rattle.net_plan.specs.Paths.{IsTree};
-ghost use Rattle.net_plan.specs.Ranges.{IsInRange};
+ghost use Rattle.net_plan.specs.{Paths.IsTree, Ranges.IsInRange};
 ghost use Rattle.schedule_tables.specs.Rules.{KeepsRules};
 
 use net_plan::{Network, rules_give_trees};
@@ -13,8 +12,7 @@ pub struct Accepted {
 }
 
 impl Model for Accepted {
-    ghost use Rattle.net_plan.specs.declared.network.Network.{Network};
-    ghost use Rattle.net_plan.specs.Ranges.{IsInRange};
+    ghost use Rattle.net_plan.specs.{Ranges.IsInRange, declared.network.Network.Network};
     ghost use Rattle.schedule_tables.specs.Rules.{KeepsRules};
 
     ghost Value = { Network };

@@ -1,5 +1,4 @@
-ghost use Rattle.schedule_tables.specs.Entries.{EntriesAreInRange, EntryIsOne};
-ghost use Rattle.schedule_tables.specs.Margins.{RulesGiveMargins};
+ghost use Rattle.schedule_tables.specs.{Entries.{EntriesAreInRange, EntryIsOne}, Margins.RulesGiveMargins};
 
 use net_plan::rules_give_trees;
 

@@ -1,7 +1,6 @@
-ghost use Rattle.std.specs.Prelude.{◌≡◌, ◌≤◌, ◌*◌, ◌^◌};
+ghost use Rattle.std.specs.Prelude.{◌*◌, ◌^◌, ◌≡◌, ◌≤◌};
 ghost use Rattle.net_plan.specs.Ranges.{IsInRange, IsWithin};
-ghost use Rattle.schedule_tables.specs.Entries.{IsEntryInRange};
-ghost use Rattle.schedule_tables.specs.Windows.{arrival_of, tolerance, window_of};
+ghost use Rattle.schedule_tables.specs.{Entries.IsEntryInRange, Windows.{arrival_of, tolerance, window_of}};
 
 use crate::Entry;
 use net_plan::Network;

@@ -1,7 +1,5 @@
 -- Floors, and what they tell of two values.
-use Rattle.std.proofs.Common.{ℕ, ◌*◌, ◌+◌, ◌≤◌, ℤ, pos, negsuc, ◌+ℤ◌, ◌*ℤ◌, ◌≤ℤ◌, arith}
-use Rattle.std.proofs.lemmas.Int.{by_lt_z, ints}
-use Rattle.std.proofs.Math.Nat.{mul-le-mul_right}
+use Rattle.std.proofs.{Common.{◌*ℤ◌, ◌*◌, ◌+ℤ◌, ◌+◌, ◌≤ℤ◌, ◌≤◌, arith, negsuc, pos, ℕ, ℤ}, Math.Nat.mul-le-mul_right, lemmas.Int.{by_lt_z, ints}}
 use Rattle.sparse_time.specs.Granules.{IsFloor, stamp_of}
 
 -- the quotient that is rounded down is the floor

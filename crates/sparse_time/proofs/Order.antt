@@ -1,30 +1,16 @@
 -- Stamps of one line agree, and stamps that are far apart tell the order of their lines.
-use Rattle.std.proofs.Common.{◌*◌, ◌+ℤ◌, ◌+◌, ◌∷◌, ◌≡◌, ◌≤ℤ◌, ◌≤◌, List, Some, arith, inl, inr, pos, refl, subst, suc, sym, zero, ℕ, ℤ}
-use Rattle.std.proofs.lemmas.Bool.{cases_lt}
+use Rattle.std.proofs.{Common.{◌*◌, ◌+ℤ◌, ◌+◌, ◌∷◌, ◌≡◌, ◌≤ℤ◌, ◌≤◌, List, Some, arith, inl, inr, pos, refl, subst, suc, sym, zero, ℕ, ℤ}, lemmas.Bool.cases_lt}
 use Rattle.std.proofs.lemmas.Int.{ints}
 use Rattle.fall_law.proofs.Fall.{never_fall}
-use Rattle.net_plan.proofs.Beta.{beta_exists}
-use Rattle.net_plan.proofs.Shape.{rules_give_trees}
-use Rattle.net_plan.specs.Bounds.{IsBeta, beta_at}
-use Rattle.net_plan.specs.declared.ids.DeviceId.{DeviceId}
-use Rattle.precision_law.proofs.records.Views.{room_of}
-use Rattle.precision_law.specs.Precision.{IsRunUpTo}
-use Rattle.run_law.specs.declared.note.Note.{Note}
-use Rattle.run_law.specs.device.LocalClocks.{local}
-use Rattle.run_law.specs.law.FirstLaws.{IsLawful}
-use Rattle.run_law.specs.records.Happenings.{happenings}
-use Rattle.run_law.specs.runs.DueRecords.{IsScenarioRun}
-use Rattle.run_law.specs.scenario.Scenarios.{Scenario}
+use Rattle.net_plan.{proofs.{Beta.beta_exists, Shape.rules_give_trees}, specs.{Bounds.{IsBeta, beta_at}, declared.ids.DeviceId.DeviceId}}
+use Rattle.precision_law.{proofs.records.Views.room_of, specs.Precision.IsRunUpTo}
+use Rattle.run_law.specs.{declared.note.Note.Note, device.LocalClocks.local, law.FirstLaws.IsLawful, records.Happenings.happenings}
+use Rattle.run_law.specs.{runs.DueRecords.IsScenarioRun, scenario.Scenarios.Scenario}
 use Rattle.schedule_tables.proofs.Margins.{margins, shape_rules}
-use Rattle.sparse_time.proofs.Floors.{floors_near, stamp_of-floor}
-use Rattle.sparse_time.proofs.Instants.{AreSmall, are_small, at_start, just_before, not_behind}
-use Rattle.sparse_time.proofs.Stamped.{IsReady, stamped}
-use Rattle.sparse_time.proofs.Traces.{line_in_time}
-use Rattle.sparse_time.specs.Granules.{IsFloor, stamp_of}
-use Rattle.sparse_time.specs.Laws.{IsRunInGranules, StampsAgree, StampsTellOrder}
-use Rattle.sparse_time.specs.Lines.{IsLineOf, Line}
-use Rattle.sparse_time.specs.Stamps.{shown_at, stamp_at}
 use Rattle.tte_units.specs.Amount.{amount}
+use Rattle.sparse_time.proofs.{Floors.{floors_near, stamp_of-floor}, Instants.{AreSmall, are_small, at_start, just_before, not_behind}}
+use Rattle.sparse_time.{proofs.{Stamped.{IsReady, stamped}, Traces.line_in_time}, specs.Granules.{IsFloor, stamp_of}}
+use Rattle.sparse_time.specs.{Laws.{IsRunInGranules, StampsAgree, StampsTellOrder}, Lines.{IsLineOf, Line}, Stamps.{shown_at, stamp_at}}
 
 -- ---- a run
 

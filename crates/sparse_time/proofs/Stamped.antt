@@ -1,17 +1,9 @@
 -- Who stamps a line, and by what.
-use Rattle.std.proofs.Common.{◌&&◌, ◌∙◌, ◌≡◌, Bool, None, Some, ap, false, if◌then◌else◌, not, refl, sym, true, ℕ, ℤ}
-use Rattle.std.proofs.lemmas.Bool.{and_parts}
-use Rattle.net_plan.specs.declared.ids.DeviceId.{DeviceId}
-use Rattle.net_plan.specs.declared.network.Network.{Network}
+use Rattle.std.proofs.{Common.{if◌then◌else◌, ◌&&◌, ◌∙◌, ◌≡◌, Bool, None, Some, ap, false, not, refl, sym, true, ℕ, ℤ}, lemmas.Bool.and_parts}
+use Rattle.net_plan.specs.declared.{ids.DeviceId.DeviceId, network.Network.Network}
 use Rattle.precision_law.proofs.Plain.{some_if}
-use Rattle.run_law.proofs.device.States.{is_in}
-use Rattle.run_law.specs.device.States.{is_synchronised, state_before}
-use Rattle.run_law.specs.law.Safety.{IsInStepBefore}
-use Rattle.run_law.specs.scenario.Scenarios.{is_broken}
-use Rattle.sparse_time.specs.Granules.{stamp_of}
-use Rattle.sparse_time.specs.Laws.{StampsAreOfLocals}
-use Rattle.sparse_time.specs.Lines.{Line, scenario_at}
-use Rattle.sparse_time.specs.Stamps.{shown_at, stamp_at, stamps}
+use Rattle.run_law.{proofs.device.States.is_in, specs.{device.States.{is_synchronised, state_before}, law.Safety.IsInStepBefore, scenario.Scenarios.is_broken}}
+use Rattle.sparse_time.specs.{Granules.stamp_of, Laws.StampsAreOfLocals, Lines.{Line, scenario_at}, Stamps.{shown_at, stamp_at, stamps}}
 
 -- the device is correct and synchronised when the line's event comes
 abbrev pub IsReady : Network → Line → DeviceId → Type 0

@@ -1,6 +1,5 @@
 -- Granules of global time, and the floor of a local value in them.
-use Rattle.std.specs.Prelude.{ℕ, ◌*◌, ℤ, pos, ◌+ℤ◌, ◌*ℤ◌, ◌<ℤ◌, ◌≤ℤ◌}
-use Rattle.std.specs.Int.{int_div_euclid}
+use Rattle.std.specs.{Int.int_div_euclid, Prelude.{◌*ℤ◌, ◌*◌, ◌+ℤ◌, ◌<ℤ◌, ◌≤ℤ◌, pos, ℕ, ℤ}}
 use Rattle.net_plan.specs.declared.network.Network.{Network}
 use Rattle.tte_units.specs.Amount.{amount}
 

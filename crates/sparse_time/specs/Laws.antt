@@ -1,15 +1,9 @@
 -- What the stamps of a trace are, and what they tell.
-use Rattle.std.specs.Prelude.{◌≡◌, ℕ, ◌≤◌, ◌<◌, ℤ, pos, ◌+ℤ◌, ◌≤ℤ◌, List, Option, Some, option_map}
-use Rattle.net_plan.specs.declared.ids.DeviceId.{DeviceId}
-use Rattle.net_plan.specs.declared.network.Network.{Network}
-use Rattle.run_law.specs.declared.note.Note.{Note}
-use Rattle.run_law.specs.law.FirstLaws.{IsLawful}
-use Rattle.run_law.specs.records.Happenings.{happenings}
-use Rattle.run_law.specs.runs.DueRecords.{IsScenarioRun}
-use Rattle.run_law.specs.scenario.Scenarios.{Scenario}
-use Rattle.sparse_time.specs.Granules.{least_granule, stamp_of}
-use Rattle.sparse_time.specs.Lines.{IsLineOf, Line}
-use Rattle.sparse_time.specs.Stamps.{IsShownAt, stamp_at}
+use Rattle.std.specs.Prelude.{◌+ℤ◌, ◌<◌, ◌≡◌, ◌≤ℤ◌, ◌≤◌, List, Option, Some, option_map, pos, ℕ, ℤ}
+use Rattle.net_plan.specs.declared.{ids.DeviceId.DeviceId, network.Network.Network}
+use Rattle.run_law.specs.{declared.note.Note.Note, law.FirstLaws.IsLawful, records.Happenings.happenings}
+use Rattle.run_law.specs.{runs.DueRecords.IsScenarioRun, scenario.Scenarios.Scenario}
+use Rattle.sparse_time.specs.{Granules.{least_granule, stamp_of}, Lines.{IsLineOf, Line}, Stamps.{IsShownAt, stamp_at}}
 
 -- a device's stamp is that of its local clock, if it is correct and synchronised
 abbrev pub StampsAreOfLocals : Type 0

@@ -1,13 +1,9 @@
 -- The stamps of a line, by the devices' local clocks before the records of its time.
-use Rattle.std.specs.Prelude.{◌≡◌, ℕ, ℤ, Bool, ◌&&◌, not, if◌then◌else◌, Option, Some, None, MatchOption}
-use Rattle.net_plan.specs.declared.ids.DeviceId.{DeviceId}
-use Rattle.net_plan.specs.declared.network.Network.{Network}
-use Rattle.run_law.specs.device.LocalClocks.{local_before}
-use Rattle.run_law.specs.device.States.{is_synchronised, state_before}
-use Rattle.run_law.specs.law.Safety.{IsInStepBefore}
-use Rattle.run_law.specs.scenario.Scenarios.{is_broken}
-use Rattle.sparse_time.specs.Granules.{stamp_of}
-use Rattle.sparse_time.specs.Lines.{Line, scenario_at}
+use Rattle.std.specs.Prelude.{if◌then◌else◌, ◌&&◌, ◌≡◌, Bool, MatchOption, None, Option, Some, not, ℕ, ℤ}
+use Rattle.net_plan.specs.declared.{ids.DeviceId.DeviceId, network.Network.Network}
+use Rattle.run_law.specs.device.{LocalClocks.local_before, States.{is_synchronised, state_before}}
+use Rattle.run_law.specs.{law.Safety.IsInStepBefore, scenario.Scenarios.is_broken}
+use Rattle.sparse_time.specs.{Granules.stamp_of, Lines.{Line, scenario_at}}
 
 -- does the device stamp the line? The events up to it do not break it, and it is synchronised by the earlier records
 abbrev pub stamps : Network → Line → DeviceId → Bool

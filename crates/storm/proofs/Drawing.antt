@@ -1,20 +1,10 @@
 -- What the kinds of events draw.
-use Rattle.std.proofs.Common.{◌≡◌, Option, Some, None, List, sym, ap, subst, ◌∙◌}
-use Rattle.std.specs.Prelude.{IsSomeAnd, MatchOption}
-use Rattle.net_plan.specs.Places.{link_at}
-use Rattle.net_plan.specs.declared.event.Event.{Event}
-use Rattle.net_plan.specs.declared.event.What.TheVariants as kinds
-use Rattle.net_plan.specs.declared.event.What.{What}
-use Rattle.net_plan.specs.declared.ids.LinkId.{LinkId}
-use Rattle.net_plan.specs.declared.network.Network.{Network}
-use Rattle.net_plan.specs.declared.tables.Link.{Link}
-use Rattle.net_plan.specs.declared.tables.Way.{Way}
-use Rattle.storm.specs.Choosing.{choice_of, hold_of, link_of, way_of, wire_of}
-use Rattle.storm.specs.Events.{IsChosen, IsDrawn}
-use Rattle.storm.specs.declared.draw.Choice.TheVariants.{Wire, Hold}
-use Rattle.storm.specs.declared.draw.Choice.{Choice}
-use Rattle.storm.specs.declared.draw.Draw.{Draw}
+use Rattle.std.{proofs.Common.{◌∙◌, ◌≡◌, List, None, Option, Some, ap, subst, sym}, specs.Prelude.{IsSomeAnd, MatchOption}}
+use Rattle.net_plan.specs.{Places.link_at, declared.{event.{Event.Event, What.What}, ids.LinkId.LinkId, network.Network.Network, tables.{Link.Link, Way.Way}}}
 use Rattle.tte_units.specs.declared.units.Units.{Units}
+use Rattle.storm.specs.{Choosing.{choice_of, hold_of, link_of, way_of, wire_of}, Events.{IsChosen, IsDrawn}, declared.draw.Choice.Choice}
+use Rattle.storm.specs.declared.draw.{Choice.TheVariants.{Hold, Wire}, Draw.Draw}
+use Rattle.net_plan.specs.declared.event.What.TheVariants as kinds
 
 -- what is chosen is drawn where the words choose its kind
 pub drawn_by : (network : Network) (before : List Event) (time : Units) (draw : Draw) (choice : Choice) (what : What) → choice ≡ choice_of draw.kind

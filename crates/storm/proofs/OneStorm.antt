@@ -1,38 +1,21 @@
 -- There is one storm of a seed.
-use Rattle.std.proofs.Common.{◌≡◌, ◌⊎◌, ℕ, List, [], ◌∷◌, ◌++◌, length, Option, Some, None, inl, inr, refl, sym, ap, subst, ◌∙◌, arith, append_assoc}
-use Rattle.std.specs.Prelude.{IsSomeAnd}
-use Rattle.std.specs.List.{Any}
-use Rattle.std.proofs.lemmas.Bool.{cases_order}
-use Rattle.net_plan.specs.Places.{link_at}
-use Rattle.net_plan.specs.declared.event.Event.{Event}
-use Rattle.net_plan.specs.declared.event.What.TheVariants as kinds
-use Rattle.net_plan.specs.declared.event.What.{What}
-use Rattle.net_plan.specs.declared.ids.DeviceId.{DeviceId}
-use Rattle.net_plan.specs.declared.network.Network.{Network}
-use Rattle.net_plan.specs.declared.tables.Device.{Device}
+use Rattle.std.proofs.Common.{◌++◌, ◌∙◌, ◌∷◌, ◌≡◌, ◌⊎◌, List, None, Option, Some, [], ap, append_assoc, arith, inl, inr, length, refl, subst, sym, ℕ}
+use Rattle.std.{proofs.lemmas.Bool.cases_order, specs.{List.Any, Prelude.IsSomeAnd}}
+use Rattle.net_plan.specs.{Places.link_at, declared.{event.{Event.Event, What.What}, ids.DeviceId.DeviceId, network.Network.Network, tables.Device.Device}}
 use Rattle.net_plan.specs.declared.tables.Link.{Link}
 use Rattle.pcf_codec.specs.Spelling.{Spells}
 use Rattle.pcf_values.specs.declared.pcf.Pcf.{Pcf}
-use Rattle.run_law.proofs.scenario.Devices.{within_front}
-use Rattle.run_law.specs.declared.outside.Outside.TheVariants.{SecondBreak}
-use Rattle.run_law.specs.scenario.Faults.{Breaks, IsBroken}
+use Rattle.run_law.{proofs.scenario.Devices.within_front, specs.{declared.outside.Outside.TheVariants.SecondBreak, scenario.Faults.{Breaks, IsBroken}}}
 use Rattle.run_law.specs.scenario.Hypothesis.{AreWithinHypothesis, IsWithinHypothesis}
-use Rattle.schedule_tables.specs.Rules.{KeepsRules}
-use Rattle.schedule_tables.specs.declared.rule.Rule.TheVariants.{Connections}
-use Rattle.storm.specs.Choosing.{channel_of, choice_of, hold_of, link_of, way_of, wire_of}
-use Rattle.storm.specs.Events.{AreStormEvents, IsChosen, IsEventOf, IsStormEvent, time_of}
-use Rattle.storm.specs.Laws.{StormIsOne}
-use Rattle.storm.specs.Striking.{IsLastMaster, SendsForged, Strikes, forged}
-use Rattle.storm.specs.Words.{draw_at}
-use Rattle.storm.specs.declared.draw.Choice.TheVariants.{Rate, Wire, Hold, Cut, Heal, On, Strike}
-use Rattle.storm.specs.declared.draw.Choice.{Choice}
-use Rattle.storm.specs.declared.draw.Draw.{Draw}
+use Rattle.schedule_tables.specs.{Rules.KeepsRules, declared.rule.Rule.TheVariants.Connections}
 use Rattle.tte_lemmas.proofs.Lists.{any_behind, any_first, any_of}
-use Rattle.storm.proofs.Masters.{master_is_end}
-use Rattle.storm.proofs.SameOctets.{same_octets}
-use Rattle.storm.proofs.Storms.{storms_within}
-use Rattle.storm.proofs.Within.{any_split, broken_is_master}
 use Rattle.tte_units.specs.declared.units.Units.{Units}
+use Rattle.storm.proofs.{Masters.master_is_end, SameOctets.same_octets, Storms.storms_within, Within.{any_split, broken_is_master}}
+use Rattle.storm.specs.Choosing.{channel_of, choice_of, hold_of, link_of, way_of, wire_of}
+use Rattle.storm.specs.{Events.{AreStormEvents, IsChosen, IsEventOf, IsStormEvent, time_of}, Laws.StormIsOne}
+use Rattle.storm.specs.{Striking.{IsLastMaster, SendsForged, Strikes, forged}, Words.draw_at, declared.draw.Choice.Choice}
+use Rattle.storm.specs.declared.draw.{Choice.TheVariants.{Cut, Heal, Hold, On, Rate, Strike, Wire}, Draw.Draw}
+use Rattle.net_plan.specs.declared.event.What.TheVariants as kinds
 
 -- what holds of some element of two lists holds of one of the first or of the second
 any_either : {X : Type 0} (P : X → Type 0) (xs ys : List X) → Any P (xs ++ ys) → Any P xs ⊎ Any P ys

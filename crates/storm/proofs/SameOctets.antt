@@ -1,13 +1,9 @@
 -- Two spellings of one frame, of bytes and with zeros in the padding, are the same octets.
-use Rattle.std.proofs.Common.{◌≡◌, ℕ, zero, suc, ◌+◌, ◌-◌, ◌*◌, ◌^◌, ◌<◌, ◌≤◌, List, drop, inl, inr, sym, ap, subst, ◌∙◌, arith}
-use Rattle.std.proofs.lemmas.Bool.{cases_lt, cases_order}
-use Rattle.std.proofs.lemmas.List.{ext_get_or, get_or-drop}
-use Rattle.std.specs.Prelude.{slice_index}
-use Rattle.byteorder.specs.Endian.{big_from}
-use Rattle.byteorder.specs.Numbers.{big_from-lt}
+use Rattle.std.proofs.Common.{◌*◌, ◌+◌, ◌-◌, ◌<◌, ◌^◌, ◌∙◌, ◌≡◌, ◌≤◌, List, ap, arith, drop, inl, inr, subst, suc, sym, zero, ℕ}
+use Rattle.std.{proofs.lemmas.{Bool.{cases_lt, cases_order}, List.{ext_get_or, get_or-drop}}, specs.Prelude.slice_index}
+use Rattle.byteorder.specs.{Endian.big_from, Numbers.big_from-lt}
 use Rattle.hex.specs.Hex.{IsBytes}
-use Rattle.pcf_codec.specs.Fields.{field}
-use Rattle.pcf_codec.specs.Spelling.{IsPadding, Spells}
+use Rattle.pcf_codec.specs.{Fields.field, Spelling.{IsPadding, Spells}}
 use Rattle.pcf_values.specs.declared.pcf.Pcf.{Pcf}
 use Rattle.tte_lemmas.proofs.Naturals.{same_heads}
 

@@ -1,17 +1,12 @@
 -- The events of a storm, one after another: their times, and that they are within the hypothesis.
-use Rattle.std.proofs.Common.{◌≡◌, ℕ, ◌+◌, ◌*◌, ◌/◌, ◌^◌, ◌≤◌, List, [], ◌∷◌, ◌++◌, length, inl, inr, refl, sym, ap, subst, ◌∙◌, arith, append_assoc, length-append, pos, ◌≤ℤ◌}
-use Rattle.std.proofs.Math.Nat.{mul-le-mul_right}
-use Rattle.std.proofs.lemmas.Int.{ints}
+use Rattle.std.proofs.Common.{◌*◌, ◌++◌, ◌+◌, ◌/◌, ◌^◌, ◌∙◌, ◌∷◌, ◌≡◌, ◌≤ℤ◌, ◌≤◌, List, [], ap, append_assoc, arith, inl, inr, length, length-append, pos, refl}
+use Rattle.std.proofs.{Common.{subst, sym, ℕ}, Math.Nat.mul-le-mul_right, lemmas.Int.ints}
 use Rattle.fault_hypothesis.proofs.Befalling.{stands_where}
-use Rattle.net_plan.specs.declared.event.Event.{Event}
-use Rattle.net_plan.specs.declared.network.Network.{Network}
+use Rattle.net_plan.specs.declared.{event.Event.Event, network.Network.Network}
 use Rattle.run_law.specs.scenario.Hypothesis.{IsWithinHypothesis}
-use Rattle.storm.specs.Events.{AreNoLater, AreStormEvents, IsStormEvent, time_of}
-use Rattle.storm.specs.Laws.{StormsAreWithin}
+use Rattle.tte_units.specs.{Amount.amount, declared.units.Units.Units}
+use Rattle.storm.{proofs.Within.{end_within, step_within}, specs.{Events.{AreNoLater, AreStormEvents, IsStormEvent, time_of}, Laws.StormsAreWithin}}
 use Rattle.storm.specs.Words.{draw_at}
-use Rattle.storm.proofs.Within.{end_within, step_within}
-use Rattle.tte_units.specs.Amount.{amount}
-use Rattle.tte_units.specs.declared.units.Units.{Units}
 
 -- the time of an event of a storm
 pub storm_time : (network : Network) (seed cycles : ℕ) (before : List Event) (n : ℕ) (event : Event) → IsStormEvent network seed cycles before n event
@@ -32,7 +27,8 @@ storm_number network seed cycles before n event (inr end) = omega (arith, end.0)
 -- the steps of a storm lie in the run
 pub time_in_run : (network : Network) (n : ℕ) → n ≤ 800000 → (time_of network n).0 ≤ℤ pos (2 ^ 20 * amount network.cycle)
 time_in_run network n few =
-    let product : (n + 1) * (amount network.cycle / 8) ≤ 800001 * (amount network.cycle / 8) = mul-le-mul_right (amount network.cycle / 8) (omega (arith, few)) in
+    let product : (n + 1) * (amount network.cycle / 8) ≤ 800001 * (amount network.cycle / 8) =
+    mul-le-mul_right (amount network.cycle / 8) (omega (arith, few)) in
     omega (arith, ints, product)
 
 -- the times do not fall

@@ -1,27 +1,14 @@
 -- Which events of a storm are within the hypothesis.
-use Rattle.std.proofs.Common.{◌≡◌, ◌↔◌, ◌*◌, ◌^◌, true, false, List, [], ◌∷◌, ◌++◌, Option, Some, None, inl, inr, refl, sym, ap, subst, ◌∙◌, arith, zero, suc, pos, ◌≤ℤ◌}
-use Rattle.std.specs.Prelude.{IsSomeAnd, unsigned_abs}
-use Rattle.std.specs.List.{Any}
-use Rattle.std.proofs.lemmas.Bool.{cases_Bool}
-use Rattle.std.proofs.lemmas.Int.{ints}
-use Rattle.fault_hypothesis.specs.Watching.{Watches}
-use Rattle.fault_hypothesis.specs.declared.watch.Watch.{Watch}
-use Rattle.net_plan.specs.Places.{device_at, is_master}
-use Rattle.net_plan.specs.declared.event.Event.{Event}
-use Rattle.net_plan.specs.declared.event.What.TheVariants as kinds
-use Rattle.net_plan.specs.declared.ids.DeviceId.{DeviceId}
-use Rattle.net_plan.specs.declared.network.Network.{Network}
-use Rattle.net_plan.specs.declared.tables.Device.{Device}
-use Rattle.run_law.specs.declared.outside.Outside.TheVariants.{Order, Late, Rate, Wire, Hold, Channel as OtherChannel, NotMaster, SecondBreak, TooFewMasters, NotBroken, NotOff}
-use Rattle.run_law.specs.scenario.Faults.{Breaks, IsBroken}
+use Rattle.std.proofs.Common.{◌*◌, ◌++◌, ◌^◌, ◌↔◌, ◌∙◌, ◌∷◌, ◌≡◌, ◌≤ℤ◌, List, None, Option, Some, [], ap, arith, false, inl, inr, pos, refl, subst, suc, sym}
+use Rattle.std.{proofs.{Common.{true, zero}, lemmas.{Bool.cases_Bool, Int.ints}}, specs.{List.Any, Prelude.{IsSomeAnd, unsigned_abs}}}
+use Rattle.fault_hypothesis.specs.{Watching.Watches, declared.watch.Watch.Watch}
+use Rattle.net_plan.specs.{Places.{device_at, is_master}, declared.{event.Event.Event, ids.DeviceId.DeviceId, network.Network.Network, tables.Device.Device}}
+use Rattle.run_law.specs.declared.outside.Outside.TheVariants.{Channel as OtherChannel, Hold, Late, NotBroken, NotMaster, NotOff, Order, Rate, SecondBreak}
+use Rattle.run_law.specs.{declared.outside.Outside.TheVariants.{TooFewMasters, Wire}, scenario.Faults.{Breaks, IsBroken}}
 use Rattle.run_law.specs.scenario.Hypothesis.{AreWithinHypothesis, ComesTooEarly, IsWithinHypothesis}
-use Rattle.storm.specs.Events.{AreNoLater, IsEventOf, substitute}
-use Rattle.storm.specs.Known.{KnowsBroken}
-use Rattle.storm.specs.Striking.{IsMaster}
-use Rattle.storm.specs.declared.draw.Draw.{Draw}
-use Rattle.tte_units.specs.Amount.{amount}
-use Rattle.tte_units.specs.declared.rates.Ppb.{Ppb}
-use Rattle.tte_units.specs.declared.units.Units.{Units}
+use Rattle.tte_units.specs.{Amount.amount, declared.{rates.Ppb.Ppb, units.Units.Units}}
+use Rattle.storm.specs.{Events.{AreNoLater, IsEventOf, substitute}, Known.KnowsBroken, Striking.IsMaster, declared.draw.Draw.Draw}
+use Rattle.net_plan.specs.declared.event.What.TheVariants as kinds
 
 -- where something holds of some element, the list stands in front of it and behind
 pub any_split : {X : Type 0} (P : X → Type 0) (xs : List X) → Any P xs

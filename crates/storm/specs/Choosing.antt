@@ -1,19 +1,10 @@
 -- What the words of a step choose.
-use Rattle.std.specs.Prelude.{ℕ, ◌+◌, ◌*◌, ◌%◌, ◌^◌, pos, ◌+ℤ◌, ◌-ℤ◌, ◌==◌, ◌||◌, nat_lt, if◌then◌else◌, length}
-use Rattle.net_plan.specs.declared.ids.DeviceId.{DeviceId}
-use Rattle.net_plan.specs.declared.ids.LinkId.{LinkId}
-use Rattle.net_plan.specs.declared.network.Network.{Network}
-use Rattle.net_plan.specs.declared.tables.Link.{Link}
-use Rattle.net_plan.specs.declared.tables.Way.{Way}
-use Rattle.net_plan.specs.declared.tables.Way.TheVariants.{Up, Down}
-use Rattle.pcf_values.specs.declared.channel.Channel.{Channel}
-use Rattle.pcf_values.specs.declared.channel.Channel.TheVariants.{A, B}
-use Rattle.storm.specs.declared.draw.Choice.{Choice}
-use Rattle.storm.specs.declared.draw.Choice.TheVariants.{Rate, Wire, Hold, Cut, Heal, On, Strike}
-use Rattle.storm.specs.declared.draw.Draw.{Draw}
-use Rattle.tte_units.specs.Amount.{amount, units_of}
-use Rattle.tte_units.specs.declared.rates.Ppb.{Ppb}
-use Rattle.tte_units.specs.declared.units.Units.{Units}
+use Rattle.std.specs.Prelude.{if◌then◌else◌, ◌%◌, ◌*◌, ◌+ℤ◌, ◌+◌, ◌-ℤ◌, ◌==◌, ◌^◌, ◌||◌, length, nat_lt, pos, ℕ}
+use Rattle.net_plan.specs.declared.{ids.{DeviceId.DeviceId, LinkId.LinkId}, network.Network.Network, tables.Link.Link}
+use Rattle.net_plan.specs.declared.tables.Way.{Way, TheVariants.{Down, Up}}
+use Rattle.pcf_values.specs.declared.channel.Channel.{Channel, TheVariants.{A, B}}
+use Rattle.tte_units.specs.{Amount.{amount, units_of}, declared.{rates.Ppb.Ppb, units.Units.Units}}
+use Rattle.storm.specs.declared.draw.{Choice.{Choice, TheVariants.{Cut, Heal, Hold, On, Rate, Strike, Wire}}, Draw.Draw}
 
 -- the kind of event that the first word chooses: two of eight are rates
 abbrev pub choice_of : ℕ → Choice

@@ -1,19 +1,12 @@
 -- The events of a storm, step by step.
-use Rattle.std.specs.Prelude.{◌≡◌, ◌⊎◌, ℕ, ◌+◌, ◌*◌, ◌/◌, ◌<◌, pos, ◌≤ℤ◌, List, [], ◌∷◌, ◌++◌, length, IsSomeAnd}
-use Rattle.net_plan.specs.Places.{link_at}
-use Rattle.net_plan.specs.declared.event.Event.{Event}
-use Rattle.net_plan.specs.declared.event.What.TheVariants as kinds
-use Rattle.net_plan.specs.declared.event.What.{What}
-use Rattle.net_plan.specs.declared.network.Network.{Network}
+use Rattle.std.specs.Prelude.{◌*◌, ◌++◌, ◌+◌, ◌/◌, ◌<◌, ◌∷◌, ◌≡◌, ◌≤ℤ◌, ◌⊎◌, IsSomeAnd, List, [], length, pos, ℕ}
+use Rattle.net_plan.specs.{Places.link_at, declared.{event.{Event.Event, What.What}, network.Network.Network}}
 use Rattle.run_law.specs.scenario.Hypothesis.{IsWithinHypothesis}
-use Rattle.storm.specs.Choosing.{choice_of, device_of, hold_of, link_of, rate_of, way_of, wire_of}
-use Rattle.storm.specs.Striking.{Strikes}
-use Rattle.storm.specs.Words.{draw_at}
-use Rattle.storm.specs.declared.draw.Choice.TheVariants.{Rate, Wire, Hold, Cut, Heal, On, Strike}
-use Rattle.storm.specs.declared.draw.Choice.{Choice}
-use Rattle.storm.specs.declared.draw.Draw.{Draw}
-use Rattle.tte_units.specs.Amount.{amount, units_of}
-use Rattle.tte_units.specs.declared.units.Units.{Units}
+use Rattle.tte_units.specs.{Amount.{amount, units_of}, declared.units.Units.Units}
+use Rattle.storm.specs.{Choosing.{choice_of, device_of, hold_of, link_of, rate_of, way_of, wire_of}, Striking.Strikes}
+use Rattle.storm.specs.{Words.draw_at, declared.draw.Choice.Choice}
+use Rattle.storm.specs.declared.draw.{Choice.TheVariants.{Cut, Heal, Hold, On, Rate, Strike, Wire}, Draw.Draw}
+use Rattle.net_plan.specs.declared.event.What.TheVariants as kinds
 
 -- this befalls the network where an event of this kind is chosen, given the events before
 abbrev pub IsChosen : Network → List Event → Units → Draw → Choice → What → Type 0
@@ -39,7 +32,8 @@ substitute = kinds.Rate (record { 0 = 0 }) (record { 0 = pos 0 })
 
 -- the event at the time by the words of a step: what is drawn where that is within the hypothesis, given
 -- the events before, and otherwise the substitute
-pub record IsEventOf (network : Network) (before : List Event) (time : Units) (draw : Draw) (event : Event) : Type 0 where
+pub record IsEventOf (network : Network) (before : List Event) (time : Units) (draw : Draw) (event : Event) : Type
+    0 where
   pub drawn : What
   pub is_drawn : IsDrawn network before time draw drawn
   pub becomes : (IsWithinHypothesis network before (record { time = time; what = drawn })

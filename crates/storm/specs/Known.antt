@@ -1,8 +1,6 @@
 -- What is known of the broken device.
-use Rattle.std.specs.Prelude.{◌≡◌, ◌↔◌, List, Option, Some}
-use Rattle.net_plan.specs.declared.event.Event.{Event}
-use Rattle.net_plan.specs.declared.ids.DeviceId.{DeviceId}
-use Rattle.net_plan.specs.declared.network.Network.{Network}
+use Rattle.std.specs.Prelude.{◌↔◌, ◌≡◌, List, Option, Some}
+use Rattle.net_plan.specs.declared.{event.Event.Event, ids.DeviceId.DeviceId, network.Network.Network}
 use Rattle.run_law.specs.scenario.Faults.{IsBroken}
 use Rattle.storm.specs.Striking.{IsMaster}
 

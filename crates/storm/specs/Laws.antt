@@ -1,7 +1,6 @@
 -- What holds of all storms.
-use Rattle.std.specs.Prelude.{◌≡◌, ℕ, ◌≤◌, List}
-use Rattle.net_plan.specs.declared.event.Event.{Event}
-use Rattle.net_plan.specs.declared.network.Network.{Network}
+use Rattle.std.specs.Prelude.{◌≡◌, ◌≤◌, List, ℕ}
+use Rattle.net_plan.specs.declared.{event.Event.Event, network.Network.Network}
 use Rattle.run_law.specs.scenario.Hypothesis.{AreWithinHypothesis}
 use Rattle.schedule_tables.specs.Rules.{KeepsRules}
 use Rattle.storm.specs.Events.{AreStormEvents, IsStorm}

@@ -1,7 +1,6 @@
 -- The words of a storm: those of the generator PCG32 (XSH RR 64/32) of a seed, on its stream 0.
-use Rattle.std.specs.Prelude.{ℕ, zero, suc, ◌+◌, ◌*◌}
-use Rattle.rand_pcg.specs.Lcg.{Lcg, started, increment_of}
-use Rattle.rand_pcg.specs.Pcg.{pcg32, multiplier_64}
+use Rattle.std.specs.Prelude.{◌*◌, ◌+◌, suc, zero, ℕ}
+use Rattle.rand_pcg.specs.{Lcg.{Lcg, increment_of, started}, Pcg.{multiplier_64, pcg32}}
 use Rattle.storm.specs.declared.draw.Draw.{Draw}
 
 -- the generator of the seed, when so many words were drawn

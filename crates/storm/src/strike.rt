@@ -1,12 +1,11 @@
-ghost use Rattle.std.specs.Prelude.{◌≡◌, ◌<◌, ◌≤◌, ◌^◌, ℕ, pos, ◌≤ℤ◌, IfSome, MatchOption, length, slice_index};
+ghost use Rattle.std.specs.Prelude.{◌<◌, ◌^◌, ◌≡◌, ◌≤ℤ◌, ◌≤◌, IfSome, MatchOption, length, pos, slice_index, ℕ};
 ghost use Rattle.hex.specs.Hex.{IsBytes};
-ghost use Rattle.net_plan.specs.Belonging.{IsOfNetwork};
-ghost use Rattle.net_plan.specs.Ranges.{IsInRange};
+ghost use Rattle.net_plan.specs.{Belonging.IsOfNetwork, Ranges.IsInRange};
 ghost use Rattle.net_plan.specs.declared.ids.DeviceId.{DeviceId as DeviceIdValue};
 ghost use Rattle.pcf_codec.specs.Spelling.{IsPadding, Spells};
 ghost use Rattle.schedule_tables.specs.Rules.{KeepsRules};
-ghost use Rattle.storm.specs.Striking.{IsLastMaster, IsMaster, SendsForged, forged};
 ghost use Rattle.trace_text.specs.Ranges.{IsFrame, IsWhatInRange};
+ghost use Rattle.storm.specs.Striking.{IsLastMaster, IsMaster, SendsForged, forged};
 
 use crate::draw::Draw;
 use net_plan::{Device, DeviceId, Network, Octets, Role, What};

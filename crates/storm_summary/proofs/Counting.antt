@@ -1,15 +1,11 @@
 -- Counts go on by the next record.
-use Rattle.std.proofs.Common.{◌≡◌, ℕ, ◌+◌, Bool, true, false, List, [], ◌∷◌, ◌++◌, length, filter, refl, sym, ap, ◌∙◌, length-append, arith}
-use Rattle.std.specs.Prelude.{codes, if◌then◌else◌}
-use Rattle.std.proofs.lemmas.List.Elements.{filter-append}
-use Rattle.run_law.specs.declared.note.Note.{Note}
-use Rattle.run_law.specs.declared.note.NoteBody.{NoteBody}
-use Rattle.run_law.specs.declared.note.NoteBody.TheVariants as notes
+use Rattle.std.proofs.Common.{◌++◌, ◌+◌, ◌∙◌, ◌∷◌, ◌≡◌, Bool, List, [], ap, arith, false, filter, length, length-append, refl, sym, true, ℕ}
+use Rattle.std.{proofs.lemmas.List.Elements.filter-append, specs.Prelude.{if◌then◌else◌, codes}}
+use Rattle.run_law.specs.declared.note.{Note.Note, NoteBody.NoteBody}
 use Rattle.storm_summary.specs.Counting.{count_where, counted_as, counts_of, drops_for, drops_of, is_drop_for, is_of_kind, raised, records_of, with_drop}
-use Rattle.storm_summary.specs.declared.counted.Counted.{Counted}
+use Rattle.storm_summary.specs.declared.{counted.Counted.Counted, counts.{Counts.Counts, Drops.Drops}}
+use Rattle.run_law.specs.declared.note.NoteBody.TheVariants as notes
 use Rattle.storm_summary.specs.declared.counted.Counted.TheVariants as lines
-use Rattle.storm_summary.specs.declared.counts.Counts.{Counts}
-use Rattle.storm_summary.specs.declared.counts.Drops.{Drops}
 
 raised_by : (b : Bool) (n : ℕ) (note : Note) → n + length (if b then note ∷ [] else []) ≡ raised b n
 raised_by true n note = refl
@@ -111,19 +107,92 @@ counts_grow notes note =
     (length-append notes (note ∷ [])) (λ (word : List ℕ). grown (is_of_kind word) notes note) (drops_grow notes note)
 
 -- where the counts become those with the record, they are its
-counted_one : (old new : Counts) (note : Note) → new ≡ counts_with note.body old → (notes : List Note) → old ≡ counts_of notes → new ≡ counts_of (notes ++ note ∷ [])
+counted_one : (old new : Counts) (note : Note) → new ≡ counts_with note.body old → (notes : List Note) → old ≡ counts_of notes
+    → new ≡ counts_of (notes ++ note ∷ [])
 counted_one old new note is notes so_far = is ∙ ap (counts_with note.body) so_far ∙ sym (counts_grow notes note)
 
 -- the counts with one more that this line counts
 abbrev pub counts_and : Counted → Counts → Counts
-counts_and lines.Compressed c = record { records = c.records + 1; compressed = c.compressed + 1; corrected = c.corrected; lost = c.lost; tt_sent = c.tt_sent; accepted = c.accepted; delivered = c.delivered; dropped = c.dropped }
-counts_and lines.Corrected c = record { records = c.records + 1; compressed = c.compressed; corrected = c.corrected + 1; lost = c.lost; tt_sent = c.tt_sent; accepted = c.accepted; delivered = c.delivered; dropped = c.dropped }
-counts_and lines.Lost c = record { records = c.records + 1; compressed = c.compressed; corrected = c.corrected; lost = c.lost + 1; tt_sent = c.tt_sent; accepted = c.accepted; delivered = c.delivered; dropped = c.dropped }
-counts_and lines.TtSent c = record { records = c.records + 1; compressed = c.compressed; corrected = c.corrected; lost = c.lost; tt_sent = c.tt_sent + 1; accepted = c.accepted; delivered = c.delivered; dropped = c.dropped }
-counts_and lines.Accepted c = record { records = c.records + 1; compressed = c.compressed; corrected = c.corrected; lost = c.lost; tt_sent = c.tt_sent; accepted = c.accepted + 1; delivered = c.delivered; dropped = c.dropped }
-counts_and lines.Delivered c = record { records = c.records + 1; compressed = c.compressed; corrected = c.corrected; lost = c.lost; tt_sent = c.tt_sent; accepted = c.accepted; delivered = c.delivered + 1; dropped = c.dropped }
-counts_and (lines.Dropped reason) c = record { records = c.records + 1; compressed = c.compressed; corrected = c.corrected; lost = c.lost; tt_sent = c.tt_sent; accepted = c.accepted; delivered = c.delivered; dropped = with_drop reason c.dropped }
-counts_and lines.Unlisted c = record { records = c.records + 1; compressed = c.compressed; corrected = c.corrected; lost = c.lost; tt_sent = c.tt_sent; accepted = c.accepted; delivered = c.delivered; dropped = c.dropped }
+counts_and lines.Compressed c = record {
+  records = c.records + 1;
+  compressed = c.compressed + 1;
+  corrected = c.corrected;
+  lost = c.lost;
+  tt_sent = c.tt_sent;
+  accepted = c.accepted;
+  delivered = c.delivered;
+  dropped = c.dropped;
+}
+counts_and lines.Corrected c = record {
+  records = c.records + 1;
+  compressed = c.compressed;
+  corrected = c.corrected + 1;
+  lost = c.lost;
+  tt_sent = c.tt_sent;
+  accepted = c.accepted;
+  delivered = c.delivered;
+  dropped = c.dropped;
+}
+counts_and lines.Lost c = record {
+  records = c.records + 1;
+  compressed = c.compressed;
+  corrected = c.corrected;
+  lost = c.lost + 1;
+  tt_sent = c.tt_sent;
+  accepted = c.accepted;
+  delivered = c.delivered;
+  dropped = c.dropped;
+}
+counts_and lines.TtSent c = record {
+  records = c.records + 1;
+  compressed = c.compressed;
+  corrected = c.corrected;
+  lost = c.lost;
+  tt_sent = c.tt_sent + 1;
+  accepted = c.accepted;
+  delivered = c.delivered;
+  dropped = c.dropped;
+}
+counts_and lines.Accepted c = record {
+  records = c.records + 1;
+  compressed = c.compressed;
+  corrected = c.corrected;
+  lost = c.lost;
+  tt_sent = c.tt_sent;
+  accepted = c.accepted + 1;
+  delivered = c.delivered;
+  dropped = c.dropped;
+}
+counts_and lines.Delivered c = record {
+  records = c.records + 1;
+  compressed = c.compressed;
+  corrected = c.corrected;
+  lost = c.lost;
+  tt_sent = c.tt_sent;
+  accepted = c.accepted;
+  delivered = c.delivered + 1;
+  dropped = c.dropped;
+}
+counts_and (lines.Dropped reason) c = record {
+  records = c.records + 1;
+  compressed = c.compressed;
+  corrected = c.corrected;
+  lost = c.lost;
+  tt_sent = c.tt_sent;
+  accepted = c.accepted;
+  delivered = c.delivered;
+  dropped = with_drop reason c.dropped;
+}
+counts_and lines.Unlisted c = record {
+  records = c.records + 1;
+  compressed = c.compressed;
+  corrected = c.corrected;
+  lost = c.lost;
+  tt_sent = c.tt_sent;
+  accepted = c.accepted;
+  delivered = c.delivered;
+  dropped = c.dropped;
+}
 
 -- they are those with the record that it counts
 counts_line : (counted : Counted) (body : NoteBody) (c : Counts) → counted ≡ counted_as body → counts_and counted c ≡ counts_with body c

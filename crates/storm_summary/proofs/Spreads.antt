@@ -1,12 +1,8 @@
 -- The greatest spread of records.
-use Rattle.std.proofs.Common.{◌≡◌, ℤ, pos, ◌≤ℤ◌, List, inl, inr, ap, arith}
-use Rattle.std.proofs.lemmas.Int.{ints}
-use Rattle.run_law.specs.device.LocalClocks.{local}
-use Rattle.run_law.specs.records.Happenings.{Happening, time_of}
-use Rattle.run_law.specs.scenario.Scenarios.{Scenario}
-use Rattle.storm_summary.specs.Laws.{SpreadIsOne, SpreadIsWithinPrecision}
-use Rattle.storm_summary.specs.Spread.{AreSeenApart, IsGreatestSpread}
+use Rattle.std.proofs.{Common.{◌≡◌, ◌≤ℤ◌, List, ap, arith, inl, inr, pos, ℤ}, lemmas.Int.ints}
+use Rattle.run_law.specs.{device.LocalClocks.local, records.Happenings.{Happening, time_of}, scenario.Scenarios.Scenario}
 use Rattle.tte_units.specs.declared.units.Units.{Units}
+use Rattle.storm_summary.specs.{Laws.{SpreadIsOne, SpreadIsWithinPrecision}, Spread.{AreSeenApart, IsGreatestSpread}}
 
 -- where two devices are seen, one is seen with itself
 alone : (s : Scenario) (hs : List Happening) (apart : ℤ) → AreSeenApart s hs apart → AreSeenApart s hs (pos 0)

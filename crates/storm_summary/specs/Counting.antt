@@ -1,13 +1,9 @@
 -- Which records are of which kind, and how many there are of each.
-use Rattle.std.specs.Prelude.{ℕ, ◌+◌, ◌≤◌, List, length, filter, codes, bytes_eq, Bool, true, false}
-use Rattle.run_law.specs.declared.judgement.Reason.{Reason}
+use Rattle.std.specs.Prelude.{◌+◌, ◌≤◌, Bool, List, bytes_eq, codes, false, filter, length, true, ℕ}
+use Rattle.run_law.specs.declared.{judgement.Reason.Reason, note.{Note.Note, NoteBody.NoteBody}}
+use Rattle.storm_summary.specs.declared.{counted.Counted.Counted, counts.{Counts.Counts, Drops.Drops}}
 use Rattle.run_law.specs.declared.judgement.Reason.TheVariants as reasons
-use Rattle.run_law.specs.declared.note.Note.{Note}
-use Rattle.run_law.specs.declared.note.NoteBody.{NoteBody}
 use Rattle.run_law.specs.declared.note.NoteBody.TheVariants as notes
-use Rattle.storm_summary.specs.declared.counts.Counts.{Counts}
-use Rattle.storm_summary.specs.declared.counts.Drops.{Drops}
-use Rattle.storm_summary.specs.declared.counted.Counted.{Counted}
 use Rattle.storm_summary.specs.declared.counted.Counted.TheVariants as lines
 
 -- the word of a record's kind

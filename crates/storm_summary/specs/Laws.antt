@@ -1,11 +1,9 @@
 -- What holds of the spreads of runs.
-use Rattle.std.specs.Prelude.{◌≡◌, ℕ, ◌≤◌, pos, ◌≤ℤ◌, List}
-use Rattle.run_law.specs.law.Safety.{ClocksAgree}
-use Rattle.run_law.specs.records.Happenings.{Happening, time_of}
-use Rattle.run_law.specs.records.Order.{IsIn}
+use Rattle.std.specs.Prelude.{◌≡◌, ◌≤ℤ◌, ◌≤◌, List, pos, ℕ}
+use Rattle.run_law.specs.{law.Safety.ClocksAgree, records.{Happenings.{Happening, time_of}, Order.IsIn}}
 use Rattle.run_law.specs.scenario.Scenarios.{Scenario}
-use Rattle.storm_summary.specs.Spread.{IsGreatestSpread}
 use Rattle.tte_units.specs.declared.units.Units.{Units}
+use Rattle.storm_summary.specs.Spread.{IsGreatestSpread}
 
 -- the records have one greatest spread
 abbrev pub SpreadIsOne : Type 0

@@ -7,12 +7,9 @@
 --     spread S precision P
 --
 -- N is a count of records, and S and P are in units of 2^-16 ns. All numbers are decimal.
-use Rattle.std.specs.Prelude.{ℕ, List, [], ◌∷◌, ◌++◌, codes, decimal}
-use Rattle.std.specs.Fmt.{signed_decimal}
-use Rattle.storm_summary.specs.declared.counts.Counts.{Counts}
-use Rattle.storm_summary.specs.declared.counts.Drops.{Drops}
-use Rattle.storm_summary.specs.declared.summary.Summary.{Summary}
+use Rattle.std.specs.{Fmt.signed_decimal, Prelude.{◌++◌, ◌∷◌, List, [], codes, decimal, ℕ}}
 use Rattle.tte_units.specs.declared.units.Units.{Units}
+use Rattle.storm_summary.specs.declared.{counts.{Counts.Counts, Drops.Drops}, summary.Summary.Summary}
 
 -- the line of the storm
 abbrev pub storm_line : ℕ → ℕ → List ℕ

@@ -1,14 +1,10 @@
 -- How far apart local clocks are seen at the corrections of a run.
-use Rattle.std.specs.Prelude.{◌≡◌, ◌⊎◌, ℕ, ℤ, pos, ◌-ℤ◌, ◌≤ℤ◌, List}
-use Rattle.net_plan.specs.Belonging.{HasDevice}
-use Rattle.net_plan.specs.declared.ids.DeviceId.{DeviceId}
-use Rattle.run_law.specs.declared.note.NoteBody.TheVariants as notes
-use Rattle.run_law.specs.device.LocalClocks.{local}
-use Rattle.run_law.specs.law.Safety.{IsInStep}
-use Rattle.run_law.specs.records.Happenings.{Happening, time_of}
-use Rattle.run_law.specs.records.Order.{IsIn}
-use Rattle.run_law.specs.scenario.Scenarios.{Scenario}
+use Rattle.std.specs.Prelude.{◌-ℤ◌, ◌≡◌, ◌≤ℤ◌, ◌⊎◌, List, pos, ℕ, ℤ}
+use Rattle.net_plan.specs.{Belonging.HasDevice, declared.ids.DeviceId.DeviceId}
+use Rattle.run_law.specs.{device.LocalClocks.local, law.Safety.IsInStep, records.Happenings.{Happening, time_of}}
+use Rattle.run_law.specs.{records.Order.IsIn, scenario.Scenarios.Scenario}
 use Rattle.tte_units.specs.declared.units.Units.{Units}
+use Rattle.run_law.specs.declared.note.NoteBody.TheVariants as notes
 
 -- the record is that of a device's correction
 pub record IsCorrection (h : Happening) : Type 0 where
@@ -36,7 +32,8 @@ pub record AreSeenApart (s : Scenario) (hs : List Happening) (apart : ℤ) : Typ
   pub correction : IsCorrection seen_at
   pub apart_then : AreApart s hs (time_of seen_at) apart
 
--- so far apart they are seen at most, in units; 0 where there is no correction at which two, or one and itself, are seen
+-- so far apart they are seen at most, in units; 0 where there is no correction at which two, or one and itself, are
+-- seen
 pub record IsGreatestSpread (s : Scenario) (hs : List Happening) (spread : Units) : Type 0 where
   pub bound : (apart : ℤ) → AreSeenApart s hs apart → apart ≤ℤ spread.0
   pub reached : (spread.0 ≡ pos 0) ⊎ AreSeenApart s hs spread.0

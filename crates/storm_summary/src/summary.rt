@@ -1,7 +1,6 @@
-ghost use Rattle.std.specs.Prelude.{◌≡◌, ◌<◌, ◌≤◌, ◌+◌, ◌++◌, Some, length, slice_get};
-ghost use Rattle.std.specs.Fmt.{signed_decimal};
-ghost use Rattle.storm_summary.specs.Lines.{count_line, lines_of, spread_line, storm_line};
+ghost use Rattle.std.specs.{Fmt.signed_decimal, Prelude.{◌++◌, ◌+◌, ◌<◌, ◌≡◌, ◌≤◌, Some, length, slice_get}};
 ghost use Rattle.tte_io.specs.Line.{line_limit};
+ghost use Rattle.storm_summary.specs.Lines.{count_line, lines_of, spread_line, storm_line};
 
 use crate::counts::Counts;
 use tte_io::LineText;

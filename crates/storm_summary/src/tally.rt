@@ -14,8 +14,7 @@ pub struct Tally {
 }
 
 impl Model for Tally {
-    ghost use Rattle.storm_summary.specs.Counting.{AreWithinRecords};
-    ghost use Rattle.storm_summary.specs.declared.counts.Counts.{Counts};
+    ghost use Rattle.storm_summary.specs.{Counting.AreWithinRecords, declared.counts.Counts.Counts};
 
     ghost Value = { Counts };
 
@@ -37,7 +36,8 @@ impl Tally {
     /// Counts one more record, of which there are fewer than 2^64 in all.
     pub fn count(&mut self, note: &Note)
         requires { self.old.records + 1 < 2 ^ 64 }
-        ensures { (notes : List NoteValue) → self.old ≡ counts_of notes → self.new ≡ counts_of (notes ++ note.now ∷ []) }
+        ensures { (notes : List NoteValue) → self.old ≡ counts_of notes
+            → self.new ≡ counts_of (notes ++ note.now ∷ []) }
     {
         self.add(counted_as(&note.body));
     }

@@ -1,42 +1,18 @@
 -- What a switch has still to dispatch, from call to call.
-use Rattle.std.proofs.Common.{Global, ◌≡◌, ◌∙◌, inl, inr, ℕ, ◌<◌, ◌≤◌, ◌+◌, ◌^◌, ◌*◌, ℤ, pos, ◌≤ℤ◌, ◌+ℤ◌, ◌<ℤ◌, Bool, true, false, ◌&&◌, ◌==◌, List, [], ◌∷◌, ◌++◌, length, get_or, Option, Some, None, refl, sym, subst, ap, arith}
-use Rattle.std.proofs.lemmas.Int.{ints}
-use Rattle.std.proofs.lemmas.Bool.{and_from, cases_Bool}
-use Rattle.std.proofs.lemmas.List.Elements.{Contains-get_or, filter-append}
-use Rattle.std.specs.Prelude.{if◌then◌else◌, ⊤, option_map, IfSome, int_lt, filter, option_and_then}
-use Rattle.std.specs.List.{All, Contains, last_or}
-use Rattle.std.specs.declared.vec.Vec.{Vec}
-use Rattle.std.specs.Option.{option_map_or}
-use Rattle.compression.proofs.Elements.{in_none}
-use Rattle.net_plan.proofs.InRange.{amount_most}
-use Rattle.net_plan.specs.Ranges.{IsInRange}
-use Rattle.net_plan.specs.declared.ids.DeviceId.{DeviceId}
-use Rattle.net_plan.specs.declared.ids.RowId.{RowId}
-use Rattle.net_plan.specs.declared.ids.VlId.{VlId}
-use Rattle.net_plan.specs.declared.network.Network.{Network}
-use Rattle.net_plan.specs.declared.tables.Row.{Row}
-use Rattle.run_law.specs.declared.steps.Moment.{Moment}
-use Rattle.run_law.specs.machines.Nodes.{ClockTask, Node, TakenFrame, dispatching}
-use Rattle.run_law.specs.machines.Tasks.{offset_of, value_of}
+use Rattle.switch_ports.proofs.Words.{if◌then◌else◌, ◌&&◌, ◌*◌, ◌++◌, ◌+ℤ◌, ◌+◌, ◌<ℤ◌, ◌<◌, ◌==◌, ◌^◌, ◌∙◌, ◌∷◌, ◌≡◌, ◌≤ℤ◌, ◌≤◌, AreChained, AreEach, AreLeaves}
+use Rattle.switch_ports.proofs.Words.{Awaits, AwaitsIn, AwaitsSo, Bool, Changes, ClockTask, Contains, Departure, Departures, DeviceId, HasDepartures, Held}
+use Rattle.switch_ports.proofs.Words.{IfSome, Integrating, IsBegun, IsDeparture, IsInRange, IsLeaving, Joining, KnowsNext, LeavingRow, List, Moment, Network}
+use Rattle.switch_ports.proofs.Words.{Node, None, Off, Option, Row, RowId, Some, StandsAs, State, Switch, Synchronised, TakenFrame, VlId, [], amount}
+use Rattle.switch_ports.proofs.Words.{amount_most, ap, arith, cases_Bool, dispatch_at, dispatching, false, get_or, held_by, held_in, in_none, inl, inr, int_lt}
+use Rattle.switch_ports.proofs.Words.{ints, length, option_and_then, option_map, option_map_or, pos, refl, subst, sym, through, true, value_of, with_taking, ℕ}
+use Rattle.switch_ports.proofs.Words.{ℤ}
+use Rattle.std.{proofs.{Common.Global, lemmas.{Bool.and_from, List.Elements.{Contains-get_or, filter-append}}}, specs.List.{All, last_or}}
+use Rattle.std.specs.{Prelude.{filter, ⊤}, declared.vec.Vec.Vec}
+use Rattle.run_law.specs.machines.Tasks.{offset_of}
 use Rattle.schedule_tables.proofs.EntryLemmas.{in_range}
-use Rattle.switch_ports.proofs.EachRow.{all_each}
-use Rattle.switch_ports.proofs.RowOrder.{chained_each}
-use Rattle.switch_ports.proofs.Trees.{knows_next}
-use Rattle.switch_ports.specs.Departing.{Awaits, AwaitsIn, AwaitsSo, Changes, HasDepartures, IsBegun, IsDeparture, KnowsNext, Reopens, last_of}
-use Rattle.switch_ports.specs.Leaving.{AreChained, AreEach, HasRow, IsFit, IsFresh, IsHeldFit, IsLeaving, awaited_of, dispatch_at, held_by, held_in, is_dispatch_in, reopened, value_in, with_held, with_taking}
-use Rattle.switch_ports.specs.Tournaments.{AreLeaves}
-use Rattle.switch_ports.specs.Standing.{StandsAs}
-use Rattle.switch_ports.specs.declared.departures.Departure.{Departure}
-use Rattle.switch_ports.specs.declared.departures.Departures.{Departures}
-use Rattle.switch_ports.specs.declared.departures.Held.{Held}
-use Rattle.switch_ports.specs.declared.departures.LeavingRow.{LeavingRow}
-use Rattle.switch_ports.specs.declared.switch.Switch.{Switch}
-use Rattle.sync_state.specs.declared.state.State.TheVariants.{Off, Integrating, Joining, Synchronised}
-use Rattle.sync_state.specs.declared.state.State.{State}
-use Rattle.tte_lemmas.proofs.Bools.{both_left, both_right, turned}
-use Rattle.tte_lemmas.proofs.Integers.{int_lt-from, int_lt-is, through}
-use Rattle.tte_lemmas.proofs.Lists.{got_within, last_kept, last_pushed}
-use Rattle.tte_units.specs.Amount.{amount}
+use Rattle.tte_lemmas.proofs.{Bools.{both_left, both_right, turned}, Integers.{int_lt-from, int_lt-is}, Lists.{got_within, last_kept, last_pushed}}
+use Rattle.switch_ports.{proofs.{EachRow.all_each, RowOrder.chained_each, Trees.knows_next}, specs.Departing.{Reopens, last_of}}
+use Rattle.switch_ports.specs.Leaving.{HasRow, IsFit, IsFresh, IsHeldFit, awaited_of, is_dispatch_in, reopened, value_in, with_held}
 
 -- ---- the clock goes on
 

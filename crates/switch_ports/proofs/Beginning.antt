@@ -1,35 +1,12 @@
 -- How a switch stands at the beginning.
-use Rattle.std.proofs.Common.{◌≡◌, ◌∙◌, ℕ, ◌≤◌, ◌^◌, ◌+◌, ◌*◌, ℤ, pos, ◌+ℤ◌, ◌≤ℤ◌, [], Option, Some, None, refl, sym, ap, arith}
-use Rattle.std.proofs.lemmas.Int.{ints}
-use Rattle.std.specs.Prelude.{IfSome, option_and_then}
-use Rattle.clock_correction.specs.Deviation.{IsSmall}
-use Rattle.compression.specs.Collecting.{fresh}
-use Rattle.membership.specs.Summary.{silence}
-use Rattle.net_plan.proofs.InRange.{its_amount}
-use Rattle.net_plan.specs.Ranges.{IsWithin}
-use Rattle.net_plan.specs.declared.ids.DeviceId.{DeviceId}
-use Rattle.net_plan.specs.declared.network.Network.{Network}
-use Rattle.run_law.specs.control.Corrections.{correction_value}
-use Rattle.run_law.specs.control.Hearing.{last_cycle}
-use Rattle.run_law.specs.machines.Nodes.{begun_node}
-use Rattle.run_law.specs.scenario.Devices.{expected_by, plan_of, start_of}
-use Rattle.switch_ports.proofs.Awaiting.{awaits_fresh, departs_fresh}
-use Rattle.switch_ports.proofs.CorrectedStands.{and_then_same, silent_now}
-use Rattle.switch_ports.proofs.Fair.{HasRoom}
-use Rattle.switch_ports.proofs.Hearings.{fresh_stands, nothing_done, silent, times_three, times_two}
-use Rattle.switch_ports.proofs.Rooms.{expected_is, room}
-use Rattle.switch_ports.specs.Corrections.{correction_at, reading_of}
-use Rattle.switch_ports.specs.Departing.{IsBegun}
-use Rattle.switch_ports.specs.Sites.{IsSiteOf}
-use Rattle.switch_ports.specs.Standing.{HasTaken, IsAccepted, StandsAs}
-use Rattle.switch_ports.specs.Steady.{IsFair}
-use Rattle.switch_ports.specs.declared.switch.Switch.{Switch}
-use Rattle.sync_state.specs.Standing.{Standing, adjustment_at_start, begun, next_point, state_at_start}
-use Rattle.sync_state.specs.declared.plan.SyncPlan.{SyncPlan}
-use Rattle.sync_state.specs.declared.state.State.TheVariants.{Joining}
-use Rattle.tte_lemmas.proofs.Integers.{never_less}
-use Rattle.tte_units.specs.Amount.{amount}
-use Rattle.tte_units.specs.declared.units.Units.{Units}
+use Rattle.switch_ports.proofs.Words.{◌*◌, ◌+ℤ◌, ◌+◌, ◌^◌, ◌∙◌, ◌≡◌, ◌≤ℤ◌, ◌≤◌, DeviceId, HasTaken, IfSome, IsAccepted, IsBegun, IsFair, IsSiteOf, IsSmall}
+use Rattle.switch_ports.proofs.Words.{IsWithin, Joining, Network, None, Option, Some, Standing, StandsAs, Switch, SyncPlan, Units, [], amount, ap, arith}
+use Rattle.switch_ports.proofs.Words.{correction_at, correction_value, expected_by, fresh, ints, its_amount, last_cycle, never_less, next_point}
+use Rattle.switch_ports.proofs.Words.{option_and_then, plan_of, pos, reading_of, refl, silence, sym, ℕ, ℤ}
+use Rattle.run_law.specs.{machines.Nodes.begun_node, scenario.Devices.start_of}
+use Rattle.sync_state.specs.Standing.{adjustment_at_start, begun, state_at_start}
+use Rattle.switch_ports.proofs.{Awaiting.{awaits_fresh, departs_fresh}, CorrectedStands.{and_then_same, silent_now}, Fair.HasRoom}
+use Rattle.switch_ports.proofs.{Hearings.{fresh_stands, nothing_done, silent, times_three, times_two}, Rooms.{expected_is, room}}
 
 small_within : (u : Units) → IsWithin 0 (2 ^ 40) u → IsSmall u.0
 small_within u h = let a = h.least in let b = h.most in (omega (arith, ints, a, b), omega (arith, ints, a, b))

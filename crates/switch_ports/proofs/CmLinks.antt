@@ -1,28 +1,14 @@
 -- The links of a compression master.
-use Rattle.std.proofs.Common.{◌≡◌, ◌∙◌, ◌⊎◌, inl, inr, true, false, List, [], ◌∷◌, Option, Some, None, IsSomeAnd, refl, sym, subst, ap}
-use Rattle.std.proofs.lemmas.Option.{slice_get-get_or}
-use Rattle.std.specs.Option.{option_map_or}
-use Rattle.std.specs.Prelude.{option_and_then, slice_get}
+use Rattle.switch_ports.proofs.Words.{◌∙◌, ◌∷◌, ◌≡◌, ◌⊎◌, A, B, Channel, Device, DeviceId, IsAccepted, IsSomeAnd, Link, LinkId, List, Network, None, Option}
+use Rattle.switch_ports.proofs.Words.{Some, [], ap, false, inl, inr, is_cm, is_end_system, is_master, link_at, masters, option_and_then, option_map_or, refl}
+use Rattle.switch_ports.proofs.Words.{slice_get, slice_get-get_or, subst, sym, true}
 use Rattle.compression.proofs.Elements.{in_filter}
-use Rattle.net_plan.specs.Paths.{IsFirstPath}
-use Rattle.net_plan.specs.Places.{IsCmOf, IsEndSystem, IsRoleOf, device_at, is_end_system, is_master, link_at}
-use Rattle.net_plan.specs.Rules.{IsChildOf, masters}
-use Rattle.net_plan.specs.declared.ids.DeviceId.{DeviceId}
-use Rattle.net_plan.specs.declared.ids.LinkId.{LinkId}
-use Rattle.net_plan.specs.declared.network.Network.{Network}
-use Rattle.net_plan.specs.declared.tables.Device.{Device}
-use Rattle.net_plan.specs.declared.tables.Link.{Link}
+use Rattle.net_plan.specs.{Paths.IsFirstPath, Places.{IsCmOf, IsEndSystem, IsRoleOf, device_at}, Rules.IsChildOf, declared.tables.Role.Role}
 use Rattle.net_plan.specs.declared.tables.Role.TheVariants.{Cm, Relay}
-use Rattle.net_plan.specs.declared.tables.Role.{Role}
-use Rattle.pcf_values.specs.declared.channel.Channel.TheVariants.{A, B}
-use Rattle.pcf_values.specs.declared.channel.Channel.{Channel}
-use Rattle.run_law.proofs.scenario.Devices.{cm_role}
-use Rattle.run_law.specs.machines.Calls.{HasLink}
-use Rattle.run_law.specs.scenario.Devices.{channel_of, is_cm, is_cm_role}
+use Rattle.run_law.{proofs.scenario.Devices.cm_role, specs.{machines.Calls.HasLink, scenario.Devices.{channel_of, is_cm_role}}}
 use Rattle.schedule_tables.proofs.Margins.{master_ends}
-use Rattle.schedule_tables.specs.declared.rule.Rule.TheVariants as rules
 use Rattle.switch_ports.proofs.Rooms.{head_there, one_of_four}
-use Rattle.switch_ports.specs.Standing.{IsAccepted}
+use Rattle.schedule_tables.specs.declared.rule.Rule.TheVariants as rules
 
 -- a link whose parent is the channel's compression master
 abbrev LeadsUp : Network → Channel → Type 0

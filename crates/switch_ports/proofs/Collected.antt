@@ -1,33 +1,14 @@
 -- How a compression master stands when it has collected a frame.
-use Rattle.std.proofs.Common.{◌≡◌, ◌∙◌, ◌⊎◌, inl, inr, ℕ, zero, suc, get_or, ◌<◌, ℤ, pos, ◌≤ℤ◌, List, [], ◌∷◌, ◌++◌, Option, All, true, refl, sym, subst, ap, arith}
-use Rattle.std.proofs.lemmas.List.Elements.{All-append, All-contains, All-contains_itself, Contains-append_left, Contains-append_right}
-use Rattle.std.specs.List.{Contains}
-use Rattle.compression.proofs.Elements.{in_head}
-use Rattle.compression.specs.Clusters.{AreClusters, Point, point_at}
-use Rattle.compression.specs.Collecting.{Collecting}
-use Rattle.compression.specs.declared.taken.Taken.TheVariants as takens
-use Rattle.compression.specs.declared.taken.Taken.{Taken}
-use Rattle.net_plan.specs.declared.ids.DeviceId.{DeviceId}
-use Rattle.net_plan.specs.declared.network.Network.{Network}
-use Rattle.pcf_values.specs.declared.channel.Channel.{Channel}
-use Rattle.pcf_values.specs.declared.pcf.Pcf.{Pcf}
-use Rattle.run_law.specs.control.Collections.{master_of, ripe_by_role}
-use Rattle.run_law.specs.control.Permanence.{IsCollectionOutcome}
-use Rattle.run_law.specs.declared.steps.Moment.{Moment}
-use Rattle.run_law.specs.declared.steps.Ripe.{Ripe}
-use Rattle.run_law.specs.machines.Answers.{after_permanence, called}
-use Rattle.run_law.specs.machines.Nodes.{Node, Phase}
-use Rattle.run_law.specs.scenario.Devices.{is_cm}
-use Rattle.switch_ports.proofs.Awaiting.{awaits_called}
-use Rattle.switch_ports.proofs.MasterBits.{IsBit, master_is}
-use Rattle.switch_ports.proofs.Pending.{window_is}
-use Rattle.switch_ports.specs.Members.{member_numbers}
-use Rattle.switch_ports.specs.Standing.{HasCollected, StandsAs}
-use Rattle.switch_ports.specs.Steps.{CollectsSo}
-use Rattle.switch_ports.specs.declared.switch.Switch.{Switch}
+use Rattle.switch_ports.proofs.Words.{◌++◌, ◌<◌, ◌∙◌, ◌∷◌, ◌≡◌, ◌≤ℤ◌, ◌⊎◌, All-contains, All-contains_itself, AreClusters, Channel, Collecting, Contains}
+use Rattle.switch_ports.proofs.Words.{Contains-append_left, Contains-append_right, DeviceId, HasCollected, List, Moment, Network, Node, Option, Pcf, Phase}
+use Rattle.switch_ports.proofs.Words.{StandsAs, Switch, Units, [], after_permanence, ap, arith, called, further, get_or, in_head, inl, inr, is_cm, master_of}
+use Rattle.switch_ports.proofs.Words.{pos, refl, subst, suc, sym, through, true, zero, ℕ, ℤ}
+use Rattle.std.proofs.{Common.All, lemmas.List.Elements.All-append}
+use Rattle.compression.specs.{Clusters.{Point, point_at}, declared.taken.Taken.Taken}
+use Rattle.run_law.specs.{control.{Collections.ripe_by_role, Permanence.IsCollectionOutcome}, declared.steps.Ripe.Ripe}
 use Rattle.tte_lemmas.proofs.Bools.{not_both}
-use Rattle.tte_lemmas.proofs.Integers.{further, through}
-use Rattle.tte_units.specs.declared.units.Units.{Units}
+use Rattle.switch_ports.{proofs.{Awaiting.awaits_called, MasterBits.{IsBit, master_is}, Pending.window_is}, specs.{Members.member_numbers, Steps.CollectsSo}}
+use Rattle.compression.specs.declared.taken.Taken.TheVariants as takens
 
 one_at : (P : Point → Type 0) (x : Point) → P x → (k : ℕ) (d : Point) → k < 1 → P (get_or (x ∷ []) k d)
 one_at P x h zero d lt = h

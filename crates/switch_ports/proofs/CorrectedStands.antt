@@ -1,57 +1,23 @@
 -- How a switch stands once its correction point has come.
-use Rattle.std.proofs.Common.{◌≡◌, ◌∙◌, inl, inr, ℕ, ◌<◌, ◌≤◌, ◌+◌, ◌*◌, ℤ, pos, ◌+ℤ◌, ◌-ℤ◌, ◌≤ℤ◌, ◌<ℤ◌, Bool, true, false, [], ◌∷◌, ◌++◌, Option, Some, None, refl, sym, subst, ap, arith, if◌then◌else◌}
-use Rattle.std.proofs.lemmas.Int.{ints}
+use Rattle.switch_ports.proofs.Words.{if◌then◌else◌, ◌*◌, ◌++◌, ◌+ℤ◌, ◌+◌, ◌-ℤ◌, ◌<ℤ◌, ◌<◌, ◌∙◌, ◌∷◌, ◌≡◌, ◌≤ℤ◌, ◌≤◌, A, Awaits, B, Bool, Channel, Collecting}
+use Rattle.switch_ports.proofs.Words.{Contains, Departures, DeviceId, HasCollected, HasDepartures, HasTaken, HeardFrame, IfSome, Intake, Integrating, IsFair}
+use Rattle.switch_ports.proofs.Words.{IsSiteOf, IsSmall, Joining, Moment, Network, Node, None, Option, Some, Standing, StandsAs, Summary, Switch, SyncPlan}
+use Rattle.switch_ports.proofs.Words.{Synchronised, Units, [], acting, after, amount, ap, arith, best_on, called, correcting, correction_at, correction_value}
+use Rattle.switch_ports.proofs.Words.{expected_at, expected_by, false, fresh, further, in_none, inl, inr, ints, is_cm, is_timed, its_amount, last_cycle, nat_le}
+use Rattle.switch_ports.proofs.Words.{never_less, next_point, option_and_then, pos, reading_of, refl, silence, subst, sym, through, true, ℕ, ℤ}
 use Rattle.std.proofs.lemmas.List.Elements.{Contains-append_cases}
-use Rattle.std.specs.Prelude.{IfSome, nat_le, option_and_then}
-use Rattle.std.specs.List.{Contains}
 use Rattle.clock_correction.specs.Correction.{correction_of}
-use Rattle.clock_correction.specs.Deviation.{IsSmall}
-use Rattle.compression.proofs.Elements.{in_cases, in_none}
-use Rattle.compression.specs.Collecting.{Collecting, fresh}
-use Rattle.membership.proofs.SummaryLemmas.{silence_summarizes}
-use Rattle.membership.specs.BestFrame.{Qualifies}
-use Rattle.membership.specs.Members.{count_of}
-use Rattle.membership.specs.Summary.{Summary, Summarizes, best_on, silence}
-use Rattle.membership.specs.declared.frame.HeardFrame.{HeardFrame}
-use Rattle.net_plan.proofs.InRange.{its_amount}
-use Rattle.net_plan.specs.declared.ids.DeviceId.{DeviceId}
-use Rattle.net_plan.specs.declared.network.Network.{Network}
-use Rattle.pcf_values.specs.declared.channel.Channel.TheVariants.{A, B}
-use Rattle.pcf_values.specs.declared.channel.Channel.{Channel}
-use Rattle.run_law.specs.control.Corrections.{correction_value}
-use Rattle.run_law.specs.control.Hearing.{last_cycle}
-use Rattle.run_law.specs.declared.steps.Moment.{Moment}
-use Rattle.run_law.specs.device.States.{is_synchronised}
-use Rattle.run_law.specs.machines.Answers.{after_correction, called}
-use Rattle.run_law.specs.machines.Nodes.{Node, acting, correcting}
-use Rattle.run_law.specs.scenario.Devices.{expected_by, is_cm}
-use Rattle.schedule_tables.specs.declared.rule.Rule.TheVariants as rules
-use Rattle.switch_ports.proofs.Awaiting.{awaits_cleared, awaits_reopened, departs_reopened, departs_stopped}
-use Rattle.switch_ports.proofs.Hearings.{fresh_collects, site_due, silent, times_three, times_two, nothing_done}
-use Rattle.switch_ports.proofs.Rooms.{expected_is, small_expected}
-use Rattle.switch_ports.proofs.Verdicts.{next_small}
-use Rattle.switch_ports.specs.Corrections.{correction_at, reading_of}
-use Rattle.switch_ports.specs.Sites.{IsSiteOf}
-use Rattle.switch_ports.specs.Standing.{HasCollected, HasTaken, StandsAs}
-use Rattle.switch_ports.specs.Steady.{IsFair, is_timed}
-use Rattle.switch_ports.specs.Steps.{Corrects}
-use Rattle.switch_ports.specs.declared.intake.Intake.{Intake}
-use Rattle.switch_ports.specs.Departing.{Awaits, HasDepartures, Reopens}
-use Rattle.switch_ports.specs.declared.departures.Departures.{Departures}
-use Rattle.switch_ports.specs.declared.switch.Switch.{Switch}
-use Rattle.sync_state.specs.Calls.{after, reached_point}
-use Rattle.sync_state.specs.Plan.{expected_at}
-use Rattle.sync_state.specs.Standing.{Standing, next_point}
-use Rattle.sync_state.specs.Verdicts.{HasVerdict, SomeQualifies, deviation_by, deviation_on}
-use Rattle.sync_state.specs.declared.answers.Verdict.TheVariants.{Corrected, SyncClique, AsyncClique, Cleared}
-use Rattle.sync_state.specs.declared.answers.Verdict.{Verdict}
-use Rattle.sync_state.specs.declared.plan.SyncPlan.{SyncPlan}
-use Rattle.sync_state.specs.declared.state.State.TheVariants.{Integrating, Joining, Synchronised}
-use Rattle.tte_lemmas.proofs.Integers.{further, never_less, through}
+use Rattle.compression.proofs.Elements.{in_cases}
+use Rattle.membership.{proofs.SummaryLemmas.silence_summarizes, specs.{BestFrame.Qualifies, Members.count_of, Summary.Summarizes}}
+use Rattle.run_law.specs.{device.States.is_synchronised, machines.Answers.after_correction}
+use Rattle.sync_state.specs.{Calls.reached_point, Verdicts.{HasVerdict, SomeQualifies, deviation_by, deviation_on}, declared.answers.Verdict.Verdict}
+use Rattle.sync_state.specs.declared.answers.Verdict.TheVariants.{AsyncClique, Cleared, Corrected, SyncClique}
 use Rattle.tte_lemmas.proofs.Naturals.{less_than_next}
-use Rattle.tte_units.specs.Amount.{amount}
 use Rattle.tte_units.specs.Mean.{mean_of}
-use Rattle.tte_units.specs.declared.units.Units.{Units}
+use Rattle.switch_ports.proofs.Awaiting.{awaits_cleared, awaits_reopened, departs_reopened, departs_stopped}
+use Rattle.switch_ports.proofs.{Hearings.{fresh_collects, nothing_done, silent, site_due, times_three, times_two}, Rooms.{expected_is, small_expected}}
+use Rattle.switch_ports.{proofs.Verdicts.next_small, specs.{Departing.Reopens, Steps.Corrects}}
+use Rattle.schedule_tables.specs.declared.rule.Rule.TheVariants as rules
 
 -- ---- the correction is not less than a precision below
 

@@ -1,33 +1,10 @@
 -- How a switch stands when its correction point has come.
-use Rattle.std.proofs.Common.{◌≡◌, ◌∙◌, ℕ, ◌≤◌, ◌^◌, ◌+◌, ◌*◌, ℤ, pos, neg_ℤ, ◌+ℤ◌, ◌-ℤ◌, ◌*ℤ◌, ◌≤ℤ◌, ◌<ℤ◌, true, Option, Some, None, IsSomeAnd, refl, sym, subst, ap, arith}
-use Rattle.std.proofs.lemmas.Int.{ints}
-use Rattle.std.proofs.Math.Nat.{mul-le-mul_right}
-use Rattle.std.specs.Prelude.{IfSome}
-use Rattle.clock_correction.specs.Deviation.{IsSmall}
-use Rattle.membership.specs.Summary.{best_on}
-use Rattle.membership.specs.declared.frame.HeardFrame.{HeardFrame}
-use Rattle.net_plan.proofs.InRange.{amount_most, its_amount}
-use Rattle.net_plan.specs.declared.ids.DeviceId.{DeviceId}
-use Rattle.net_plan.specs.declared.network.Network.{Network}
-use Rattle.pcf_values.specs.declared.channel.Channel.{Channel}
-use Rattle.run_law.specs.control.Corrections.{correction_value}
-use Rattle.run_law.specs.control.Hearing.{last_cycle}
-use Rattle.run_law.specs.machines.Nodes.{Node}
-use Rattle.run_law.specs.scenario.Devices.{expected_by}
-use Rattle.switch_ports.proofs.Pending.{correction_pending}
-use Rattle.switch_ports.proofs.Ranges.{expected_most}
-use Rattle.switch_ports.proofs.Rooms.{expected_is}
-use Rattle.switch_ports.specs.Standing.{StandsAs}
-use Rattle.switch_ports.specs.Steady.{IsFair, is_timed}
-use Rattle.switch_ports.specs.declared.switch.Switch.{Switch}
-use Rattle.sync_state.specs.Plan.{expected_at}
-use Rattle.sync_state.specs.Standing.{Standing, next_point, point_in}
+use Rattle.switch_ports.proofs.Words.{◌*ℤ◌, ◌*◌, ◌+ℤ◌, ◌+◌, ◌-ℤ◌, ◌<ℤ◌, ◌^◌, ◌∙◌, ◌≡◌, ◌≤ℤ◌, ◌≤◌, Channel, DeviceId, HeardFrame, IfSome, Integrating, IsFair}
+use Rattle.switch_ports.proofs.Words.{IsSmall, IsSomeAnd, Joining, Network, Node, None, Off, Option, Some, Standing, StandsAs, State, Switch, SyncPlan}
+use Rattle.switch_ports.proofs.Words.{Synchronised, Units, amount, amount_most, ap, arith, best_on, correction_value, expected_at, expected_by, ints, is_timed}
+use Rattle.switch_ports.proofs.Words.{its_amount, last_cycle, mul-le-mul_right, neg_ℤ, next_point, point_in, pos, refl, subst, sym, true, ℕ, ℤ}
 use Rattle.sync_state.specs.Verdicts.{IsNear}
-use Rattle.sync_state.specs.declared.plan.SyncPlan.{SyncPlan}
-use Rattle.sync_state.specs.declared.state.State.TheVariants.{Off, Integrating, Joining, Synchronised}
-use Rattle.sync_state.specs.declared.state.State.{State}
-use Rattle.tte_units.specs.Amount.{amount}
-use Rattle.tte_units.specs.declared.units.Units.{Units}
+use Rattle.switch_ports.proofs.{Pending.correction_pending, Ranges.expected_most, Rooms.expected_is}
 
 pub timed_next : (state : State) (number cycle : ℕ) → point_in state number ≡ Some cycle → (is_timed state ≡ true) × (number ≡ cycle)
 timed_next Off number cycle e = absurd cc

@@ -1,40 +1,15 @@
 -- How a switch stands when it has dispatched a row's frame.
-use Rattle.std.proofs.Common.{get_or, length, ◌≡◌, ◌∙◌, inl, inr, ℕ, ◌<◌, ℤ, ◌≤ℤ◌, ◌<ℤ◌, Bool, true, false, ◌==◌, List, [], ◌∷◌, ◌++◌, Option, Some, None, refl, sym, subst, ap, arith}
-use Rattle.std.proofs.lemmas.Bool.{eqb-true}
-use Rattle.std.proofs.lemmas.List.{get_or_default}
-use Rattle.std.proofs.lemmas.List.Elements.{All-contains, All-contains_itself, Contains-append_left, Contains-push, Contains-push_cases}
-use Rattle.std.specs.Prelude.{IfSome, if◌then◌else◌}
-use Rattle.std.specs.List.{Contains}
-use Rattle.net_plan.specs.declared.ids.DeviceId.{DeviceId}
-use Rattle.net_plan.specs.declared.ids.RowId.{RowId}
-use Rattle.net_plan.specs.declared.network.Network.{Network}
-use Rattle.run_law.specs.declared.steps.Act.{Act}
-use Rattle.run_law.specs.declared.steps.Moment.{Moment}
-use Rattle.run_law.specs.machines.Answers.{IsActOf, called, with_done}
-use Rattle.run_law.specs.machines.Calls.{HasDue, MayCall}
-use Rattle.run_law.specs.machines.Nodes.{ClockTask, Node, TakenFrame, acting, correcting, dispatching}
-use Rattle.run_law.specs.machines.Tasks.{doing, reading_for, value_of}
-use Rattle.switch_ports.proofs.Awaiting.{departs_each, later_by}
-use Rattle.switch_ports.proofs.EachRow.{all_each}
-use Rattle.switch_ports.proofs.RowOrder.{distinct}
-use Rattle.switch_ports.proofs.Dispatching.{IsNextOf, its_awaits, next_of}
-use Rattle.switch_ports.proofs.FirstActs.{EmitsNone, first_dispatch, nothing_due, value_reached}
-use Rattle.switch_ports.specs.Departing.{Awaits, AwaitsIn, AwaitsSo, Changes, HasDepartures, IsDeparture, KnowsNext}
-use Rattle.switch_ports.specs.Leaving.{AreChained, closed, held_in}
-use Rattle.switch_ports.specs.Tournaments.{AreLeaves}
-use Rattle.switch_ports.specs.Standing.{StandsAs}
+use Rattle.switch_ports.proofs.Words.{if◌then◌else◌, ◌++◌, ◌<ℤ◌, ◌<◌, ◌==◌, ◌∙◌, ◌∷◌, ◌≡◌, ◌≤ℤ◌, All-contains, All-contains_itself, AreChained, AreLeaves}
+use Rattle.switch_ports.proofs.Words.{Awaits, AwaitsIn, AwaitsSo, Bool, Changes, ClockTask, Contains, Contains-append_left, Departure, Departures, DeviceId}
+use Rattle.switch_ports.proofs.Words.{Dispatch, HasDepartures, Held, IfSome, IsDeparture, KnowsNext, List, MayCall, Moment, Network, Node, None, Option, RowId}
+use Rattle.switch_ports.proofs.Words.{Some, Standing, StandsAs, State, Switch, Synchronised, TakenFrame, Units, [], acting, amount, ap, arith, called}
+use Rattle.switch_ports.proofs.Words.{correcting, dispatching, doing, eqb-true, false, further, get_or, held_in, inl, inr, length, reading_for, refl, subst}
+use Rattle.switch_ports.proofs.Words.{sym, through, true, value_of, ℕ, ℤ}
+use Rattle.std.proofs.lemmas.List.{get_or_default, Elements.{Contains-push, Contains-push_cases}}
+use Rattle.run_law.specs.{declared.steps.Act.Act, machines.{Answers.{IsActOf, with_done}, Calls.HasDue}}
+use Rattle.switch_ports.proofs.{Awaiting.{departs_each, later_by}, Dispatching.{IsNextOf, its_awaits, next_of}, EachRow.all_each}
+use Rattle.switch_ports.{proofs.{FirstActs.{EmitsNone, first_dispatch, nothing_due, value_reached}, RowOrder.distinct}, specs.Leaving.closed}
 use Rattle.switch_ports.specs.Steps.{Dispatches, DispatchesSo}
-use Rattle.switch_ports.specs.declared.departures.Departure.{Departure}
-use Rattle.switch_ports.specs.declared.departures.Departures.{Departures}
-use Rattle.switch_ports.specs.declared.departures.Dispatch.{Dispatch}
-use Rattle.switch_ports.specs.declared.departures.Held.{Held}
-use Rattle.switch_ports.specs.declared.switch.Switch.{Switch}
-use Rattle.sync_state.specs.Standing.{Standing}
-use Rattle.sync_state.specs.declared.state.State.TheVariants.{Synchronised}
-use Rattle.sync_state.specs.declared.state.State.{State}
-use Rattle.tte_lemmas.proofs.Integers.{further, through}
-use Rattle.tte_units.specs.Amount.{amount}
-use Rattle.tte_units.specs.declared.units.Units.{Units}
 
 -- ---- rows
 

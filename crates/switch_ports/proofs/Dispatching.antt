@@ -1,40 +1,17 @@
 -- The rows' frames that a switch has still to dispatch.
-use Rattle.std.proofs.Common.{◌≡◌, ◌∙◌, ◌⊎◌, inl, inr, ℕ, ◌%◌, ℤ, ◌≤ℤ◌, ◌+ℤ◌, ◌-ℤ◌, ◌<ℤ◌, true, false, ◌&&◌, ◌==◌, Option, Some, None, refl, sym, subst, ap, arith}
-use Rattle.std.proofs.lemmas.Bool.{both_ways}
-use Rattle.std.proofs.lemmas.Int.{ints}
-use Rattle.std.proofs.lemmas.List.Elements.{All-contains}
-use Rattle.std.specs.Prelude.{IfSome, IsSomeAnd, nat_le, option_map, option_and_then}
-use Rattle.std.specs.List.{Contains}
-use Rattle.std.specs.Option.{option_map_or}
-use Rattle.net_plan.specs.Places.{is_end_system}
-use Rattle.net_plan.specs.declared.ids.DeviceId.{DeviceId}
-use Rattle.net_plan.specs.declared.ids.RowId.{RowId}
-use Rattle.net_plan.specs.declared.ids.VlId.{VlId}
-use Rattle.net_plan.specs.declared.network.Network.{Network}
-use Rattle.net_plan.specs.declared.tables.Device.{Device}
+use Rattle.switch_ports.proofs.Words.{◌&&◌, ◌+ℤ◌, ◌-ℤ◌, ◌<ℤ◌, ◌==◌, ◌∙◌, ◌≡◌, ◌≤ℤ◌, ◌⊎◌, All-contains, Awaits, AwaitsIn, AwaitsSo, Contains, Departure}
+use Rattle.switch_ports.proofs.Words.{Departures, Device, DeviceId, Dispatch, Entry, Held, IfSome, Integrating, IsAccepted, IsDeparture, IsEntry, IsLeaving}
+use Rattle.switch_ports.proofs.Words.{IsPending, IsSomeAnd, Joining, LeavingRow, Network, Node, None, Off, Option, Precedes, RowId, Some, StandsAs, State}
+use Rattle.switch_ports.proofs.Words.{Switch, Synchronised, TakenFrame, Task, VlId, amount, ap, arith, correcting, dispatch_at, dispatching, doing, emitting}
+use Rattle.switch_ports.proofs.Words.{false, held_by, held_in, inl, inr, ints, is_end, is_end_system, nat_le, option_and_then, option_map, option_map_or}
+use Rattle.switch_ports.proofs.Words.{reading_for, refl, sending, subst, sym, true, value_of, ℕ, ℤ}
+use Rattle.std.proofs.{Common.◌%◌, lemmas.Bool.both_ways}
 use Rattle.net_plan.specs.declared.tables.VirtualLink.{VirtualLink}
-use Rattle.run_law.specs.machines.Nodes.{Node, TakenFrame, dispatching, sending, correcting}
-use Rattle.run_law.specs.machines.Tasks.{HasFrame, IsPending, Task, doing, emitting, reading_for, value_of}
-use Rattle.run_law.specs.scenario.Devices.{is_end}
-use Rattle.schedule_tables.proofs.EntryLemmas.{one_entry}
-use Rattle.schedule_tables.specs.Entries.{IsEntry}
-use Rattle.schedule_tables.specs.Windows.{OccursIn}
-use Rattle.schedule_tables.specs.declared.entry.Entry.{Entry}
-use Rattle.schedule_tables.specs.declared.rule.Rule.TheVariants as rules
-use Rattle.switch_ports.proofs.Awaiting.{held_of, held_so, value_is}
-use Rattle.switch_ports.specs.Departing.{Awaits, AwaitsIn, AwaitsSo, IsDeparture, last_of}
-use Rattle.switch_ports.specs.Leaving.{IsFirstOf, IsLeaving, Precedes, dispatch_at, dispatch_by, held_by, held_in, is_dispatch_in, value_in}
-use Rattle.switch_ports.specs.Standing.{IsAccepted, StandsAs}
-use Rattle.switch_ports.specs.declared.departures.Departure.{Departure}
-use Rattle.switch_ports.specs.declared.departures.Departures.{Departures}
-use Rattle.switch_ports.specs.declared.departures.Dispatch.{Dispatch}
-use Rattle.switch_ports.specs.declared.departures.Held.{Held}
-use Rattle.switch_ports.specs.declared.departures.LeavingRow.{LeavingRow}
-use Rattle.switch_ports.specs.declared.switch.Switch.{Switch}
-use Rattle.sync_state.specs.declared.state.State.TheVariants.{Off, Integrating, Joining, Synchronised}
-use Rattle.sync_state.specs.declared.state.State.{State}
+use Rattle.run_law.specs.machines.Tasks.{HasFrame}
+use Rattle.schedule_tables.{proofs.EntryLemmas.one_entry, specs.Windows.OccursIn}
 use Rattle.tte_lemmas.proofs.Options.{mapped}
-use Rattle.tte_units.specs.Amount.{amount}
+use Rattle.switch_ports.{proofs.Awaiting.{held_of, held_so, value_is}, specs.{Departing.last_of, Leaving.{IsFirstOf, dispatch_by, is_dispatch_in, value_in}}}
+use Rattle.schedule_tables.specs.declared.rule.Rule.TheVariants as rules
 
 -- ---- no switch is a sender
 

@@ -1,10 +1,6 @@
 -- Rows that leave a switch, one by one.
-use Rattle.std.proofs.Common.{◌∙◌, inl, inr, ◌<◌, List, length, get_or, sym, subst, arith}
-use Rattle.std.proofs.lemmas.Int.{ints}
+use Rattle.switch_ports.proofs.Words.{◌<◌, ◌∙◌, AreEach, Departure, Dispatch, List, Precedes, arith, get_or, inl, inr, ints, length, subst, sym}
 use Rattle.std.specs.List.{All}
-use Rattle.switch_ports.specs.Leaving.{AreEach, Precedes}
-use Rattle.switch_ports.specs.declared.departures.Departure.{Departure}
-use Rattle.switch_ports.specs.declared.departures.Dispatch.{Dispatch}
 
 -- ---- each row by itself
 

@@ -1,29 +1,12 @@
 -- How a compression master stands when it has sent a frame.
-use Rattle.std.proofs.Common.{◌≡◌, ◌∙◌, inl, inr, ℕ, ◌<◌, ℤ, pos, negsuc, neg_ℤ, ◌+ℤ◌, ◌≤ℤ◌, ◌<ℤ◌, get_or, suc, List, [], ◌∷◌, ◌++◌, Option, Some, None, All, refl, sym, subst, ap, arith}
-use Rattle.std.proofs.lemmas.Int.{ints}
-use Rattle.std.proofs.lemmas.List.Elements.{All-contains, All-contains_itself, Contains-append_left, Contains-append_right}
-use Rattle.std.specs.List.{AllByRecursion, Contains}
-use Rattle.std.specs.Prelude.{IfSome, IsSomeAnd, unsigned_abs}
-use Rattle.std.specs.Int.{int_max}
-use Rattle.compression.proofs.Elements.{in_head}
-use Rattle.compression.specs.Clusters.{Cluster}
-use Rattle.compression.specs.Collecting.{Collecting}
-use Rattle.compression.specs.Emission.{compressed}
-use Rattle.compression.specs.Least.{IsLeast}
-use Rattle.compression.specs.Stands.{StandsForPoints}
-use Rattle.compression.specs.declared.compressed.Compressed.{Compressed}
-use Rattle.net_plan.specs.declared.ids.DeviceId.{DeviceId}
-use Rattle.net_plan.specs.declared.network.Network.{Network}
-use Rattle.run_law.specs.declared.steps.Moment.{Moment}
-use Rattle.run_law.specs.machines.Calls.{MayCall}
-use Rattle.run_law.specs.machines.Nodes.{Node, Phase, sending, correcting, dispatching}
-use Rattle.run_law.specs.machines.Tasks.{IsFirstTask, IsPending, Task, emitting, doing, order_of, reading_for}
-use Rattle.run_law.specs.records.Order.{IsBefore}
-use Rattle.switch_ports.proofs.Pending.{IsClocked, IsEmission, emission_pending, kind_of, some_window}
-use Rattle.switch_ports.proofs.Waiting.{first_opened, opened_beyond}
-use Rattle.switch_ports.specs.Standing.{StandsAs}
-use Rattle.switch_ports.specs.declared.switch.Switch.{Switch}
-use Rattle.tte_units.specs.declared.units.Units.{Units}
+use Rattle.switch_ports.proofs.Words.{◌++◌, ◌+ℤ◌, ◌<ℤ◌, ◌<◌, ◌∙◌, ◌∷◌, ◌≡◌, ◌≤ℤ◌, All-contains, All-contains_itself, Cluster, Collecting, Compressed, Contains}
+use Rattle.switch_ports.proofs.Words.{Contains-append_left, Contains-append_right, DeviceId, IfSome, IsLeast, IsPending, IsSomeAnd, List, MayCall, Moment}
+use Rattle.switch_ports.proofs.Words.{Network, Node, None, Option, Phase, Some, StandsAs, StandsForPoints, Switch, Task, Units, [], ap, arith, compressed}
+use Rattle.switch_ports.proofs.Words.{correcting, dispatching, doing, emitting, get_or, in_head, inl, inr, ints, neg_ℤ, pos, reading_for, refl, sending, subst}
+use Rattle.switch_ports.proofs.Words.{suc, sym, ℕ, ℤ}
+use Rattle.std.{proofs.Common.{All, negsuc}, specs.{Int.int_max, List.AllByRecursion, Prelude.unsigned_abs}}
+use Rattle.run_law.specs.{machines.Tasks.{IsFirstTask, order_of}, records.Order.IsBefore}
+use Rattle.switch_ports.proofs.{Pending.{IsClocked, IsEmission, emission_pending, kind_of, some_window}, Waiting.{first_opened, opened_beyond}}
 
 -- the device that has sent one frame more
 abbrev pub with_sent : Node → Compressed → Node

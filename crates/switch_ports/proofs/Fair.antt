@@ -1,26 +1,13 @@
 -- What frames that are heard within their time show at the next correction point.
-use Rattle.std.proofs.Common.{◌≡◌, ◌⊎◌, inl, inr, ℕ, zero, suc, ◌+◌, ◌*◌, ◌≤◌, ℤ, pos, ◌+ℤ◌, ◌-ℤ◌, ◌≤ℤ◌, ◌<ℤ◌, Bool, true, false, ◌&&◌, Option, Some, None, refl, sym, subst, arith}
-use Rattle.std.proofs.lemmas.Int.{ints}
-use Rattle.std.proofs.Math.Nat.{mul-le-mul_right}
-use Rattle.std.specs.Prelude.{IfSome, int_le, nat_le}
+use Rattle.switch_ports.proofs.Words.{◌&&◌, ◌*◌, ◌+ℤ◌, ◌+◌, ◌-ℤ◌, ◌<ℤ◌, ◌≡◌, ◌≤ℤ◌, ◌≤◌, ◌⊎◌, A, B, Bool, Channel, HeardFrame, IfSome, Integrating, Joining}
+use Rattle.switch_ports.proofs.Words.{Members, None, Off, Option, Pcf, Some, State, Summary, SyncPlan, Synchronised, Units, arith, best_on, expected_at, false}
+use Rattle.switch_ports.proofs.Words.{heard_as, inl, inr, ints, is_timed, last_cycle, mul-le-mul_right, nat_le, pos, refl, ripe_as, subst, suc, sym, true, zero}
+use Rattle.switch_ports.proofs.Words.{ℕ, ℤ}
+use Rattle.std.specs.Prelude.{int_le}
 use Rattle.membership.specs.BestFrame.{IsBetterOf}
-use Rattle.membership.specs.Summary.{Summary, best_on}
-use Rattle.membership.specs.declared.frame.HeardFrame.{HeardFrame}
-use Rattle.pcf_values.specs.declared.channel.Channel.TheVariants.{A, B}
-use Rattle.pcf_values.specs.declared.channel.Channel.{Channel}
-use Rattle.pcf_values.specs.declared.members.Members.{Members}
-use Rattle.pcf_values.specs.declared.pcf.Pcf.{Pcf}
 use Rattle.run_law.proofs.control.Verdicts.{enough_not, in_time_by}
-use Rattle.run_law.specs.control.Hearing.{heard_as, last_cycle}
-use Rattle.run_law.specs.control.Permanence.{ripe_as}
-use Rattle.run_law.specs.declared.steps.Ripe.TheVariants as ripe
-use Rattle.switch_ports.specs.Steady.{is_timed}
 use Rattle.switch_ports.specs.Steps.{IsHeardSo}
-use Rattle.sync_state.specs.Plan.{expected_at}
-use Rattle.sync_state.specs.declared.plan.SyncPlan.{SyncPlan}
-use Rattle.sync_state.specs.declared.state.State.TheVariants.{Off, Integrating, Joining, Synchronised}
-use Rattle.sync_state.specs.declared.state.State.{State}
-use Rattle.tte_units.specs.declared.units.Units.{Units}
+use Rattle.run_law.specs.declared.steps.Ripe.TheVariants as ripe
 
 -- ---- what stays the best
 

@@ -1,44 +1,16 @@
 -- What a switch does first.
-use Rattle.std.proofs.Common.{pos, ◌+◌, ◌*◌, ◌<◌, ◌≤◌, ◌≡◌, ◌∙◌, inl, inr, ℕ, ℤ, ◌+ℤ◌, ◌-ℤ◌, ◌≤ℤ◌, ◌<ℤ◌, List, [], ◌∷◌, Option, Some, None, refl, sym, subst, ap, arith}
-use Rattle.std.proofs.lemmas.Int.{ints}
-use Rattle.std.proofs.lemmas.List.Elements.{All-contains}
-use Rattle.std.proofs.lemmas.Bool.{cases_Bool}
-use Rattle.std.proofs.Math.Nat.{mul-le-mul_right}
-use Rattle.std.specs.Option.{option_map_or}
-use Rattle.std.specs.Prelude.{nat_le, ◌⊎◌, IfSome, IsNone, ◌↔◌}
-use Rattle.std.specs.List.{Contains}
-use Rattle.compression.proofs.Elements.{in_none}
-use Rattle.compression.specs.Clusters.{Cluster}
-use Rattle.compression.specs.Collecting.{emissions}
-use Rattle.compression.specs.Emission.{emission}
-use Rattle.compression.specs.Least.{IsLeast}
-use Rattle.compression.specs.declared.compressed.Compressed.{Compressed}
-use Rattle.net_plan.proofs.InRange.{its_amount}
-use Rattle.net_plan.specs.declared.ids.DeviceId.{DeviceId}
-use Rattle.net_plan.specs.declared.network.Network.{Network}
-use Rattle.run_law.specs.machines.Calls.{HasDue, MayCall}
-use Rattle.run_law.specs.machines.Nodes.{Node, acting, sending, correcting, dispatching}
-use Rattle.run_law.specs.machines.Tasks.{IsFirstTask, IsPending, Task, emitting, doing, order_of, reading_for}
-use Rattle.run_law.specs.records.Order.{IsBefore}
+use Rattle.switch_ports.proofs.Words.{◌*◌, ◌+ℤ◌, ◌+◌, ◌-ℤ◌, ◌<ℤ◌, ◌<◌, ◌∙◌, ◌∷◌, ◌≡◌, ◌≤ℤ◌, ◌≤◌, ◌⊎◌, All-contains, Cluster, Compressed, Contains, DeviceId}
+use Rattle.switch_ports.proofs.Words.{Dispatch, IfSome, IsAccepted, IsLeast, IsLeaving, IsPending, LeavingRow, List, MayCall, Moment, Network, Node, None}
+use Rattle.switch_ports.proofs.Words.{Option, Precedes, Row, RowId, Some, StandsAs, Switch, Task, Units, [], acting, amount, ap, arith, cases_Bool, correcting}
+use Rattle.switch_ports.proofs.Words.{dispatch_at, dispatching, doing, emission, emissions, emitting, held_in, in_none, inl, inr, ints, its_amount}
+use Rattle.switch_ports.proofs.Words.{mul-le-mul_right, nat_le, next_point, option_map_or, pos, reading_for, refl, sending, subst, sym, through, ℕ, ℤ}
+use Rattle.std.specs.Prelude.{◌↔◌, IsNone}
+use Rattle.run_law.specs.{machines.{Calls.HasDue, Tasks.{IsFirstTask, order_of}}, records.Order.IsBefore}
 use Rattle.schedule_tables.specs.Dispatches.{dispatch_order}
-use Rattle.schedule_tables.specs.declared.rule.Rule.TheVariants as rules
-use Rattle.switch_ports.proofs.Awaiting.{value_is}
-use Rattle.switch_ports.proofs.Dispatching.{IsDispatch, dispatch_bound, dispatch_is, leaves_so, next_is, next_of, no_dispatch, not_sooner}
-use Rattle.switch_ports.proofs.Pending.{IsCorrection, IsEmission, correction_bound, correction_pending, emission_at, kind_of, no_correction, pending_correction}
-use Rattle.switch_ports.specs.Leaving.{IsLeaving, Precedes, dispatch_at, held_in}
-use Rattle.switch_ports.specs.Standing.{IsAccepted}
-use Rattle.switch_ports.specs.declared.departures.Dispatch.{Dispatch}
-use Rattle.switch_ports.specs.declared.departures.LeavingRow.{LeavingRow}
-use Rattle.tte_units.specs.Amount.{amount}
-use Rattle.net_plan.specs.declared.ids.RowId.{RowId}
-use Rattle.net_plan.specs.declared.tables.Row.{Row}
-use Rattle.run_law.specs.declared.steps.Moment.{Moment}
-use Rattle.switch_ports.specs.Standing.{StandsAs}
-use Rattle.switch_ports.specs.declared.switch.Switch.{Switch}
-use Rattle.sync_state.specs.Standing.{next_point}
-use Rattle.tte_lemmas.proofs.Integers.{through}
 use Rattle.tte_lemmas.proofs.Options.{same_next}
-use Rattle.tte_units.specs.declared.units.Units.{Units}
+use Rattle.switch_ports.proofs.{Awaiting.value_is, Dispatching.{IsDispatch, dispatch_bound, dispatch_is, leaves_so, next_is, next_of, no_dispatch, not_sooner}}
+use Rattle.switch_ports.proofs.Pending.{IsCorrection, IsEmission, correction_bound, correction_pending, emission_at, kind_of, no_correction, pending_correction}
+use Rattle.schedule_tables.specs.declared.rule.Rule.TheVariants as rules
 
 -- no collection is due
 pub record EmitsNone (s : Switch) (reading : ℤ) (o : Option Units) : Type 0 where

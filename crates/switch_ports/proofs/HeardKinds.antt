@@ -1,32 +1,11 @@
 -- What becomes of a frame that a device hears.
-use Rattle.std.proofs.Common.{◌≡◌, ◌∙◌, ◌⊎◌, inl, inr, ℕ, ℤ, Bool, true, false, Option, refl, sym, subst, ap}
-use Rattle.net_plan.proofs.InRange.{its_amount}
-use Rattle.net_plan.specs.declared.ids.DeviceId.{DeviceId}
-use Rattle.net_plan.specs.declared.network.Network.{Network}
-use Rattle.pcf_values.specs.declared.channel.Channel.{Channel}
-use Rattle.pcf_values.specs.declared.members.Members.{Members}
-use Rattle.pcf_values.specs.declared.pcf.Pcf.{Pcf}
-use Rattle.run_law.specs.control.Collections.{observation_window}
-use Rattle.run_law.specs.control.Hearing.{heard_as, heard_enough, heard_by_schedule}
-use Rattle.run_law.specs.control.Permanence.{ripe_as}
-use Rattle.run_law.specs.declared.steps.Moment.{Moment}
-use Rattle.run_law.specs.declared.steps.Ripe.TheVariants as ripe
-use Rattle.run_law.specs.declared.steps.Ripe.{Ripe}
-use Rattle.run_law.specs.machines.Answers.{after_permanence, called}
-use Rattle.run_law.specs.machines.Calls.{MayCall}
-use Rattle.run_law.specs.machines.Nodes.{Node, Phase}
-use Rattle.run_law.specs.scenario.Devices.{plan_of}
-use Rattle.switch_ports.proofs.Hearings.{IsComing, fair_frame, hears_stands, joins_stands}
-use Rattle.switch_ports.proofs.Joinings.{integrates_in}
-use Rattle.switch_ports.proofs.Standings.{called_stands}
-use Rattle.switch_ports.specs.Standing.{StandsAs}
+use Rattle.switch_ports.proofs.Words.{◌∙◌, ◌≡◌, ◌⊎◌, Bool, Channel, DeviceId, Integrating, Joining, MayCall, Members, Moment, Network, Node, Off, Option, Pcf}
+use Rattle.switch_ports.proofs.Words.{Phase, Standing, StandsAs, State, Switch, SyncPlan, Synchronised, Units, after_permanence, ap, called, false, heard_as}
+use Rattle.switch_ports.proofs.Words.{inl, inr, its_amount, observation_window, plan_of, refl, ripe_as, subst, sym, true, ℕ, ℤ}
+use Rattle.run_law.specs.{control.Hearing.{heard_by_schedule, heard_enough}, declared.steps.Ripe.Ripe}
+use Rattle.switch_ports.proofs.{Hearings.{IsComing, fair_frame, hears_stands, joins_stands}, Joinings.integrates_in, Standings.called_stands}
 use Rattle.switch_ports.specs.Steps.{HearsSo}
-use Rattle.switch_ports.specs.declared.switch.Switch.{Switch}
-use Rattle.sync_state.specs.Standing.{Standing}
-use Rattle.sync_state.specs.declared.plan.SyncPlan.{SyncPlan}
-use Rattle.sync_state.specs.declared.state.State.TheVariants.{Off, Integrating, Joining, Synchronised}
-use Rattle.sync_state.specs.declared.state.State.{State}
-use Rattle.tte_units.specs.declared.units.Units.{Units}
+use Rattle.run_law.specs.declared.steps.Ripe.TheVariants as ripe
 
 abbrev pub IsHearing : Ripe → Type 0
 IsHearing is = (is ≡ ripe.Within) ⊎ ((is ≡ ripe.Outside) ⊎ ((is ≡ ripe.Integrates) ⊎ (is ≡ ripe.Ignored)))

@@ -1,57 +1,19 @@
 -- How a switch stands when it has heard a frame.
-use Rattle.std.proofs.Common.{◌≡◌, ◌∙◌, ℕ, ◌<◌, ◌≤◌, ◌^◌, ◌+◌, ◌*◌, ℤ, pos, neg_ℤ, ◌+ℤ◌, ◌-ℤ◌, ◌*ℤ◌, ◌≤ℤ◌, ◌<ℤ◌, Bool, true, List, [], Option, Some, refl, sym, subst, ap, arith}
-use Rattle.std.proofs.lemmas.Int.{ints}
-use Rattle.std.specs.Prelude.{IfSome}
-use Rattle.std.specs.List.{Contains}
-use Rattle.std.proofs.Math.Nat.{mul-le-mul_right}
-use Rattle.clock_correction.specs.Deviation.{IsSmall}
+use Rattle.switch_ports.proofs.Words.{◌*ℤ◌, ◌*◌, ◌+ℤ◌, ◌+◌, ◌-ℤ◌, ◌<ℤ◌, ◌<◌, ◌^◌, ◌∙◌, ◌≡◌, ◌≤ℤ◌, ◌≤◌, A, B, Bool, Channel, ClockTask, Collecting, Compressed}
+use Rattle.switch_ports.proofs.Words.{Contains, Departures, DeviceId, HasCollected, HasTaken, HeardFrame, IfSome, Intake, Integrating, IsFair, IsSiteOf}
+use Rattle.switch_ports.proofs.Words.{IsSmall, Joining, List, MayCall, Moment, Network, Node, Off, Option, Pcf, Phase, Some, Standing, StandsAs}
+use Rattle.switch_ports.proofs.Words.{StandsForPoints, State, Summary, Switch, SyncPlan, Synchronised, Units, [], after, amount, amount_most, ap, arith}
+use Rattle.switch_ports.proofs.Words.{best_on, called, correcting, correction_at, correction_value, doing, expected_at, expected_by, fresh, further, heard_as}
+use Rattle.switch_ports.proofs.Words.{ints, is_timed, its_amount, last_cycle, mul-le-mul_right, neg_ℤ, never_less, plan_of, point_in, pos, reading_of, refl}
+use Rattle.switch_ports.proofs.Words.{ripe_as, silence, subst, sym, through, true, ℕ, ℤ}
 use Rattle.compression.specs.Clusters.{Point}
-use Rattle.compression.specs.Collecting.{Collecting, fresh}
-use Rattle.compression.specs.Stands.{StandsForPoints}
-use Rattle.compression.specs.declared.compressed.Compressed.{Compressed}
-use Rattle.membership.proofs.SummaryLemmas.{silence_summarizes}
-use Rattle.membership.specs.Summary.{Summary, Summarizes, best_on, silence}
-use Rattle.membership.specs.declared.frame.HeardFrame.{HeardFrame}
-use Rattle.net_plan.proofs.InRange.{amount_most, its_amount}
-use Rattle.net_plan.specs.declared.ids.DeviceId.{DeviceId}
-use Rattle.net_plan.specs.declared.network.Network.{Network}
-use Rattle.pcf_values.specs.declared.channel.Channel.TheVariants.{A, B}
-use Rattle.pcf_values.specs.declared.channel.Channel.{Channel}
-use Rattle.pcf_values.specs.declared.pcf.Pcf.{Pcf}
-use Rattle.run_law.specs.control.Corrections.{correction_value}
-use Rattle.run_law.specs.control.Hearing.{heard_as, last_cycle}
-use Rattle.run_law.specs.control.Permanence.{ripe_as}
-use Rattle.run_law.specs.declared.steps.Moment.{Moment}
-use Rattle.run_law.specs.declared.steps.Ripe.TheVariants as ripe
-use Rattle.run_law.specs.machines.Answers.{called, with_heard, with_joined}
-use Rattle.run_law.specs.machines.Calls.{MayCall}
-use Rattle.run_law.specs.machines.Nodes.{ClockTask, Node, Phase, correcting}
-use Rattle.run_law.specs.machines.Tasks.{doing}
-use Rattle.run_law.specs.scenario.Devices.{expected_by, plan_of}
-use Rattle.switch_ports.proofs.Awaiting.{awaits_called, departs_stopped}
-use Rattle.switch_ports.proofs.Fair.{HasRoom, IsHeardBefore, ahead, behind, kept, not_earlier, within_in}
-use Rattle.switch_ports.proofs.Ranges.{expected_most}
-use Rattle.switch_ports.proofs.Rooms.{expected_is, room}
-use Rattle.switch_ports.specs.Corrections.{correction_at, reading_of}
-use Rattle.switch_ports.specs.Sites.{IsSiteOf}
-use Rattle.switch_ports.specs.Standing.{HasCollected, HasTaken, StandsAs}
-use Rattle.switch_ports.specs.Standpoints.{IsPoint}
-use Rattle.switch_ports.specs.Steady.{IsFair, is_timed}
-use Rattle.switch_ports.specs.Steps.{Hears, Joins}
-use Rattle.switch_ports.specs.declared.intake.Intake.{Intake}
-use Rattle.switch_ports.specs.declared.departures.Departures.{Departures}
-use Rattle.switch_ports.specs.declared.switch.Switch.{Switch}
-use Rattle.sync_state.specs.Calls.{after, heard_frame}
-use Rattle.sync_state.specs.Integration.{joined_by}
-use Rattle.sync_state.specs.Plan.{expected_at}
-use Rattle.sync_state.specs.Standing.{Standing, point_in}
-use Rattle.sync_state.specs.declared.plan.SyncPlan.{SyncPlan}
-use Rattle.sync_state.specs.declared.state.State.TheVariants.{Off, Integrating, Joining, Synchronised}
-use Rattle.sync_state.specs.declared.state.State.{State}
-use Rattle.tte_lemmas.proofs.Integers.{further, never_less, through}
+use Rattle.membership.{proofs.SummaryLemmas.silence_summarizes, specs.Summary.Summarizes}
+use Rattle.run_law.specs.machines.Answers.{with_heard, with_joined}
+use Rattle.sync_state.specs.{Calls.heard_frame, Integration.joined_by}
 use Rattle.tte_lemmas.proofs.Naturals.{none_less}
-use Rattle.tte_units.specs.Amount.{amount}
-use Rattle.tte_units.specs.declared.units.Units.{Units}
+use Rattle.switch_ports.proofs.{Awaiting.{awaits_called, departs_stopped}, Fair.{HasRoom, IsHeardBefore, ahead, behind, kept, not_earlier, within_in}}
+use Rattle.switch_ports.{proofs.{Ranges.expected_most, Rooms.{expected_is, room}}, specs.{Standpoints.IsPoint, Steps.{Hears, Joins}}}
+use Rattle.run_law.specs.declared.steps.Ripe.TheVariants as ripe
 
 -- a frame comes to its point
 pub record IsComing (network : Network) (moment : Moment) (point : Units) : Type 0 where

@@ -1,18 +1,10 @@
 -- When a frame tells a device the time.
-use Rattle.std.proofs.Common.{◌≡◌, ℕ, ◌≤◌, ℤ, true, ◌&&◌, refl, arith}
-use Rattle.std.specs.Prelude.{nat_le}
+use Rattle.switch_ports.proofs.Words.{◌&&◌, ◌≡◌, ◌≤◌, Integrating, Joining, Members, Off, Pcf, Standing, State, SyncPlan, Synchronised, arith, heard_as}
+use Rattle.switch_ports.proofs.Words.{last_cycle, nat_le, refl, ripe_as, true, ℕ, ℤ}
 use Rattle.membership.specs.Members.{count_of}
-use Rattle.pcf_values.specs.declared.members.Members.{Members}
-use Rattle.pcf_values.specs.declared.pcf.Pcf.{Pcf}
 use Rattle.run_law.proofs.control.Verdicts.{in_time_not, tells_by as enough}
-use Rattle.run_law.specs.control.Hearing.{heard_as, last_cycle}
-use Rattle.run_law.specs.control.Permanence.{ripe_as}
-use Rattle.run_law.specs.declared.steps.Ripe.TheVariants as ripe
 use Rattle.sync_state.specs.Integration.{Integrates}
-use Rattle.sync_state.specs.Standing.{Standing}
-use Rattle.sync_state.specs.declared.plan.SyncPlan.{SyncPlan}
-use Rattle.sync_state.specs.declared.state.State.TheVariants.{Off, Integrating, Joining, Synchronised}
-use Rattle.sync_state.specs.declared.state.State.{State}
+use Rattle.run_law.specs.declared.steps.Ripe.TheVariants as ripe
 
 both : (t c n l : ℕ) → (nat_le t c && nat_le n l) ≡ true → (t ≤ c) × (n ≤ l)
 both t c n l e = grind (arith, e)

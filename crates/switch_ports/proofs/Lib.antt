@@ -27,3 +27,4 @@ pub mod RowOrder
 pub mod Trees
 pub mod Awaiting
 pub mod Dispatching
+pub mod Words

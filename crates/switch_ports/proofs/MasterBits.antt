@@ -1,44 +1,17 @@
 -- The frames of one master at a compression master.
-use Rattle.std.proofs.Common.{◌≡◌, ◌∙◌, ◌⊎◌, inl, inr, ℕ, zero, suc, ◌<◌, ◌≤◌, ◌^◌, ℤ, ◌-ℤ◌, ◌+ℤ◌, ◌≤ℤ◌, ◌<ℤ◌, Bool, true, false, List, [], ◌∷◌, ◌++◌, length, get_or, if◌then◌else◌, ◌==◌, Option, Some, None, All, IsSomeAnd, IsTrue, refl, sym, subst, ap, arith}
-use Rattle.std.proofs.lemmas.Int.{ints}
-use Rattle.std.proofs.lemmas.Bool.{cases_Bool}
-use Rattle.std.proofs.lemmas.List.{length-map}
-use Rattle.std.proofs.lemmas.Option.{same_Some, slice_get_cases}
-use Rattle.std.proofs.lemmas.Nat.Bits.{bit_at-trailing_zeros}
-use Rattle.std.proofs.lemmas.List.Elements.{All-contains_itself, Contains-append_right}
-use Rattle.std.proofs.Math.Pow.{pow-lt}
-use Rattle.std.specs.Int.{trailing_zeros, w32}
-use Rattle.std.specs.Prelude.{IfSome, is_some, option_and_then, unwrap_or, slice_get}
-use Rattle.std.specs.List.{Contains}
-use Rattle.compression.proofs.Elements.{in_filter_from, in_head}
-use Rattle.compression.proofs.Rooms.{room_for_each_master}
-use Rattle.compression.proofs.Rows.{last_split}
-use Rattle.compression.proofs.Sound.{open_at-some}
-use Rattle.compression.specs.Clusters.{Cluster}
-use Rattle.compression.specs.Collecting.{emissions}
-use Rattle.compression.specs.Emission.{compressed, emission}
-use Rattle.compression.specs.Role.{has_point_of, open_at}
+use Rattle.switch_ports.proofs.Words.{if◌then◌else◌, ◌++◌, ◌+ℤ◌, ◌-ℤ◌, ◌<ℤ◌, ◌<◌, ◌==◌, ◌^◌, ◌∙◌, ◌∷◌, ◌≡◌, ◌≤ℤ◌, ◌≤◌, ◌⊎◌, All-contains_itself, Bool, Cluster}
+use Rattle.switch_ports.proofs.Words.{Contains, Contains-append_right, Device, DeviceId, IfSome, IsAccepted, IsSomeAnd, List, MayCall, Members, Moment, Network}
+use Rattle.switch_ports.proofs.Words.{Node, None, Option, Phase, Some, StandsAs, Switch, Units, [], ap, arith, cases_Bool, compressed, emission, emissions}
+use Rattle.switch_ports.proofs.Words.{emitting, false, get_or, in_all, in_head, inl, inr, ints, is_master, length, length-map, master_of, masters}
+use Rattle.switch_ports.proofs.Words.{option_and_then, refl, slice_get, subst, suc, sym, true, unwrap_or, zero, ℕ, ℤ}
+use Rattle.std.proofs.{Common.{All, IsTrue}, Math.Pow.pow-lt, lemmas.{Nat.Bits.bit_at-trailing_zeros, Option.{same_Some, slice_get_cases}}}
+use Rattle.std.specs.{Int.{trailing_zeros, w32}, Prelude.is_some}
+use Rattle.compression.{proofs.{Elements.in_filter_from, Rooms.room_for_each_master, Rows.last_split, Sound.open_at-some}, specs.Role.{has_point_of, open_at}}
 use Rattle.membership.proofs.SetLemmas.{single-members}
-use Rattle.net_plan.specs.Places.{device_at, is_master}
-use Rattle.net_plan.specs.Ranges.{IsDeviceInRange}
-use Rattle.net_plan.specs.Rules.{masters, most_masters}
-use Rattle.net_plan.specs.declared.ids.DeviceId.{DeviceId}
-use Rattle.net_plan.specs.declared.network.Network.{Network}
-use Rattle.net_plan.specs.declared.tables.Device.{Device}
-use Rattle.pcf_values.specs.declared.members.Members.{Members}
-use Rattle.run_law.specs.control.Collections.{master_of}
-use Rattle.run_law.specs.declared.steps.Moment.{Moment}
-use Rattle.run_law.specs.machines.Calls.{IsOneMaster, MayCall}
-use Rattle.run_law.specs.machines.Nodes.{Node, Phase}
-use Rattle.run_law.specs.machines.Tasks.{emitting}
+use Rattle.net_plan.specs.{Places.device_at, Ranges.IsDeviceInRange, Rules.most_masters}
+use Rattle.run_law.specs.machines.Calls.{IsOneMaster}
+use Rattle.switch_ports.{proofs.{Pending.emission_pending, Waiting.{in_map, to_map}}, specs.Members.member_numbers}
 use Rattle.schedule_tables.specs.declared.rule.Rule.TheVariants as rules
-use Rattle.switch_ports.proofs.Pending.{emission_pending}
-use Rattle.switch_ports.proofs.Waiting.{in_map, to_map}
-use Rattle.switch_ports.specs.Members.{member_numbers}
-use Rattle.switch_ports.specs.Standing.{IsAccepted, StandsAs}
-use Rattle.switch_ports.specs.declared.switch.Switch.{Switch}
-use Rattle.tte_lemmas.proofs.Lists.{in_all}
-use Rattle.tte_units.specs.declared.units.Units.{Units}
 
 -- a device with this member number, if it is there
 record HasMember (network : Network) (o : Option Device) (m : ℕ) : Type 0 where

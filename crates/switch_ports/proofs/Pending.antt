@@ -1,38 +1,15 @@
 -- What a switch has still to do.
-use Rattle.std.proofs.Common.{◌≡◌, ◌∙◌, ◌⊎◌, inl, inr, ℕ, ◌<◌, ℤ, pos, ◌-ℤ◌, ◌≤ℤ◌, ◌<ℤ◌, true, List, [], ◌++◌, Option, Some, None, refl, sym, subst, ap, arith}
-use Rattle.std.specs.Prelude.{int_le, int_lt, IfSome, IsNone, ◌↔◌, option_and_then, option_map}
-use Rattle.std.specs.List.{Contains}
-use Rattle.std.proofs.lemmas.Int.{ints}
-use Rattle.std.proofs.lemmas.Bool.{both_ways, cases_Bool}
-use Rattle.std.proofs.lemmas.List.Elements.{All-contains, Contains-append_right}
+use Rattle.switch_ports.proofs.Words.{◌++◌, ◌-ℤ◌, ◌<ℤ◌, ◌<◌, ◌∙◌, ◌≡◌, ◌≤ℤ◌, ◌⊎◌, All-contains, AreClusters, Cluster, Compressed, Contains}
+use Rattle.switch_ports.proofs.Words.{Contains-append_right, DeviceId, Dispatch, IfSome, Integrating, IsLeast, IsPending, Joining, List, Network, Node, None}
+use Rattle.switch_ports.proofs.Words.{Off, Option, Some, StandsAs, State, Switch, Synchronised, Task, Units, [], amount, ap, arith, cases_Bool, compressed}
+use Rattle.switch_ports.proofs.Words.{correcting, correction_value, dispatching, doing, emission, emissions, emitting, in_none, inl, inr, int_lt, ints, is_cm}
+use Rattle.switch_ports.proofs.Words.{its_amount, next_point, observation_window, option_and_then, option_map, point_in, pos, reading_for, reading_of, refl}
+use Rattle.switch_ports.proofs.Words.{sending, subst, sym, true, ℕ, ℤ}
+use Rattle.std.{proofs.lemmas.Bool.both_ways, specs.Prelude.{◌↔◌, IsNone, int_le}}
 use Rattle.compression.proofs.ClusterFacts.{no_cluster}
-use Rattle.compression.proofs.Elements.{in_none}
-use Rattle.compression.specs.Clusters.{AreClusters, Cluster}
-use Rattle.compression.specs.Collecting.{emissions}
-use Rattle.compression.specs.Emission.{compressed, emission}
-use Rattle.compression.specs.Least.{IsLeast}
-use Rattle.compression.specs.declared.compressed.Compressed.{Compressed}
-use Rattle.net_plan.proofs.InRange.{its_amount}
-use Rattle.net_plan.specs.declared.ids.DeviceId.{DeviceId}
-use Rattle.net_plan.specs.declared.network.Network.{Network}
-use Rattle.run_law.specs.control.Collections.{observation_window}
-use Rattle.run_law.specs.control.Corrections.{correction_value}
-use Rattle.run_law.specs.machines.Nodes.{Node, sending, correcting, dispatching}
-use Rattle.run_law.specs.machines.Tasks.{IsDueReading, IsPending, Task, emitting, doing, reading_for}
-use Rattle.run_law.specs.scenario.Devices.{is_cm}
-use Rattle.switch_ports.proofs.Dispatching.{IsDispatch, dispatch_bound, dispatch_is, next_is, no_dispatch, pending_dispatch}
-use Rattle.switch_ports.proofs.Waiting.{in_map, to_map, unsent, waits}
-use Rattle.switch_ports.specs.Corrections.{reading_of}
-use Rattle.switch_ports.specs.Due.{least_of}
-use Rattle.switch_ports.specs.Standing.{StandsAs}
-use Rattle.switch_ports.specs.declared.departures.Dispatch.{Dispatch}
-use Rattle.switch_ports.specs.declared.switch.Switch.{Switch}
-use Rattle.sync_state.specs.Standing.{next_point, point_in}
-use Rattle.sync_state.specs.declared.state.State.TheVariants.{Off, Integrating, Joining, Synchronised}
-use Rattle.sync_state.specs.declared.state.State.{State}
-use Rattle.tte_units.specs.Amount.{amount}
-use Rattle.tte_units.specs.declared.units.Units.{Units}
-use Rattle.switch_ports.proofs.CorrectedStands.{number_of}
+use Rattle.run_law.specs.machines.Tasks.{IsDueReading}
+use Rattle.switch_ports.proofs.{CorrectedStands.number_of, Dispatching.{IsDispatch, dispatch_bound, dispatch_is, next_is, no_dispatch, pending_dispatch}}
+use Rattle.switch_ports.{proofs.Waiting.{in_map, to_map, unsent, waits}, specs.Due.least_of}
 
 -- ---- collections
 

@@ -1,22 +1,13 @@
 -- A site's numbers.
-use Rattle.std.proofs.Common.{◌≡◌, ℕ, ◌+◌, ◌*◌, ◌^◌, ◌≤◌, ℤ, pos, ◌≤ℤ◌, Bool, true, false, List, map, All, sym, subst, arith, if◌then◌else◌}
-use Rattle.std.proofs.lemmas.Int.{ints}
-use Rattle.std.proofs.lemmas.List.Elements.{All-map}
-use Rattle.net_plan.proofs.InRange.{amount_most, its_amount}
-use Rattle.net_plan.specs.Ranges.{IsInRange, IsLinkInRange, IsWithin}
-use Rattle.net_plan.specs.declared.ids.DeviceId.{DeviceId}
-use Rattle.net_plan.specs.declared.network.Network.{Network}
-use Rattle.net_plan.specs.declared.tables.Link.{Link}
-use Rattle.run_law.specs.scenario.Devices.{expected_by, is_cm}
+use Rattle.switch_ports.proofs.Words.{if◌then◌else◌, ◌*◌, ◌+◌, ◌^◌, ◌≡◌, ◌≤ℤ◌, ◌≤◌, Bool, DeviceId, IsInRange, IsSiteOf, IsWithin, Link, List, Network, Port}
+use Rattle.switch_ports.proofs.Words.{SyncPlan, amount, amount_most, arith, expected_by, false, ints, is_cm, its_amount, map, port_of, pos, subst, sym, true, ℕ}
+use Rattle.switch_ports.proofs.Words.{ℤ}
+use Rattle.std.proofs.{Common.All, lemmas.List.Elements.All-map}
+use Rattle.net_plan.specs.Ranges.{IsLinkInRange}
 use Rattle.schedule_tables.specs.Rules.{KeepsRules}
+use Rattle.tte_units.specs.Amount.{units_of}
+use Rattle.switch_ports.{proofs.Amounts.zero_least, specs.{Standpoints.IsSiteInRange, declared.site.Site.Site}}
 use Rattle.schedule_tables.specs.declared.rule.Rule.TheVariants as rules
-use Rattle.switch_ports.proofs.Amounts.{zero_least}
-use Rattle.switch_ports.specs.Sites.{IsSiteOf, port_of}
-use Rattle.switch_ports.specs.Standpoints.{IsSiteInRange}
-use Rattle.switch_ports.specs.declared.site.Port.{Port}
-use Rattle.switch_ports.specs.declared.site.Site.{Site}
-use Rattle.sync_state.specs.declared.plan.SyncPlan.{SyncPlan}
-use Rattle.tte_units.specs.Amount.{amount, units_of}
 
 small_offset : (b : Bool) (d p q : ℕ) → d ≤ 2 ^ 40 → p ≤ 2 ^ 40 → q ≤ 2 ^ 40 → (if b then d + (2 * p + q) else 2 * d + (2 * p + q)) ≤ 2 ^ 43
 small_offset true d p q a b c = omega (arith, a, b, c)

@@ -1,28 +1,12 @@
 -- What the numbers of an accepted network leave room for.
-use Rattle.std.proofs.Common.{◌≡◌, ◌∙◌, ℕ, ◌+◌, ◌*◌, ◌≤◌, ℤ, pos, ◌+ℤ◌, ◌*ℤ◌, ◌≤ℤ◌, Bool, true, false, List, [], ◌∷◌, length, Option, Some, None, IsSomeAnd, refl, sym, subst, ap, arith, if◌then◌else◌}
-use Rattle.std.proofs.lemmas.Int.{ints}
-use Rattle.std.proofs.lemmas.Option.{slice_get-get_or}
-use Rattle.std.specs.List.{Contains}
-use Rattle.std.specs.Prelude.{slice_get}
-use Rattle.compression.proofs.Elements.{in_filter, in_head}
-use Rattle.net_plan.proofs.InRange.{its_amount}
-use Rattle.net_plan.specs.Places.{is_end_system, is_master, link_at}
-use Rattle.net_plan.specs.Rules.{masters}
-use Rattle.net_plan.specs.declared.ids.DeviceId.{DeviceId}
-use Rattle.net_plan.specs.declared.ids.LinkId.{LinkId}
-use Rattle.net_plan.specs.declared.network.Network.{Network}
-use Rattle.net_plan.specs.declared.tables.Device.{Device}
-use Rattle.net_plan.specs.declared.tables.Link.{Link}
-use Rattle.pcf_values.specs.declared.channel.Channel.TheVariants.{A}
-use Rattle.run_law.specs.scenario.Devices.{expected_by, is_cm, plan_of}
-use Rattle.schedule_tables.proofs.Margins.{master_ends}
-use Rattle.schedule_tables.specs.Delays.{pcf_port_time}
-use Rattle.schedule_tables.specs.declared.rule.Rule.TheVariants as rules
+use Rattle.switch_ports.proofs.Words.{if◌then◌else◌, ◌*ℤ◌, ◌*◌, ◌+ℤ◌, ◌+◌, ◌∙◌, ◌∷◌, ◌≡◌, ◌≤ℤ◌, ◌≤◌, A, Bool, Contains, Device, DeviceId, IsAccepted, IsSomeAnd}
+use Rattle.switch_ports.proofs.Words.{Link, LinkId, List, Network, None, Option, Some, [], amount, ap, arith, expected_at, expected_by, false, in_all, in_head}
+use Rattle.switch_ports.proofs.Words.{ints, is_cm, is_end_system, is_master, its_amount, length, link_at, masters, plan_of, pos, refl, slice_get}
+use Rattle.switch_ports.proofs.Words.{slice_get-get_or, subst, sym, true, ℕ, ℤ}
+use Rattle.compression.proofs.Elements.{in_filter}
+use Rattle.schedule_tables.{proofs.Margins.master_ends, specs.Delays.pcf_port_time}
 use Rattle.switch_ports.proofs.Fair.{HasRoom}
-use Rattle.switch_ports.specs.Standing.{IsAccepted}
-use Rattle.sync_state.specs.Plan.{expected_at}
-use Rattle.tte_lemmas.proofs.Lists.{in_all}
-use Rattle.tte_units.specs.Amount.{amount}
+use Rattle.schedule_tables.specs.declared.rule.Rule.TheVariants as rules
 
 some_there : {X : Type 0} (o : Option X) (P : X → Type 0) → IsSomeAnd o P → (x : X) × (o ≡ Some x)
 some_there None P h = absurd h

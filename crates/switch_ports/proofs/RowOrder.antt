@@ -1,18 +1,11 @@
 -- The order of the rows that leave a switch.
-use Rattle.std.proofs.Common.{◌≡◌, ◌≢◌, ◌∙◌, inl, inr, ℕ, zero, suc, ◌<◌, ◌≤◌, ◌+◌, ◌==◌, List, [], ◌∷◌, ◌++◌, length, map, get_or, slice_set, Option, Some, None, refl, sym, subst, ap, arith}
-use Rattle.std.proofs.lemmas.Bool.{cases_Bool, eqb-true}
-use Rattle.std.proofs.lemmas.List.{length-map, length-set}
-use Rattle.std.proofs.lemmas.List.Elements.{All-push, Contains-append_left, Contains-push}
-use Rattle.std.specs.Prelude.{nat_lt}
-use Rattle.net_plan.specs.declared.ids.DeviceId.{DeviceId}
-use Rattle.net_plan.specs.declared.ids.RowId.{RowId}
-use Rattle.net_plan.specs.declared.network.Network.{Network}
-use Rattle.schedule_tables.specs.Entries.{IsEntry, source_of}
-use Rattle.schedule_tables.specs.declared.entry.Entry.{Entry}
-use Rattle.switch_ports.specs.Leaving.{AreChained, AreEach, AreLeaving, HasRow, IsFresh, IsLast, fresh_row, place_in}
-use Rattle.switch_ports.specs.declared.departures.Departure.{Departure}
-use Rattle.switch_ports.specs.declared.departures.LeavingRow.{LeavingRow}
+use Rattle.switch_ports.proofs.Words.{◌++◌, ◌+◌, ◌<◌, ◌==◌, ◌∙◌, ◌∷◌, ◌≡◌, ◌≤◌, AreChained, AreEach, AreLeaving, Contains-append_left, Departure, DeviceId}
+use Rattle.switch_ports.proofs.Words.{Entry, IsEntry, LeavingRow, List, Network, None, Option, RowId, Some, [], ap, arith, cases_Bool, eqb-true, get_or, inl}
+use Rattle.switch_ports.proofs.Words.{inr, length, length-map, map, refl, slice_set, subst, suc, sym, zero, ℕ}
+use Rattle.std.{proofs.{Common.◌≢◌, lemmas.List.{length-set, Elements.{All-push, Contains-push}}}, specs.Prelude.nat_lt}
+use Rattle.schedule_tables.specs.Entries.{source_of}
 use Rattle.tte_lemmas.proofs.Naturals.{below_next}
+use Rattle.switch_ports.specs.Leaving.{HasRow, IsFresh, IsLast, fresh_row, place_in}
 
 -- ---- one row more
 

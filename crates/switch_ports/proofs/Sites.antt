@@ -1,22 +1,11 @@
 -- What a site says of its links.
-use Rattle.std.proofs.Common.{◌≡◌, ◌∙◌, ℕ, ◌==◌, Bool, true, false, ◌&&◌, List, Option, Some, None, refl, ap, sym, slice_get, unwrap_or, if◌then◌else◌}
+use Rattle.switch_ports.proofs.Words.{if◌then◌else◌, ◌&&◌, ◌==◌, ◌∙◌, ◌≡◌, Bool, DeviceId, IsSiteOf, Link, LinkId, List, Members, Network, None, Option, Port}
+use Rattle.switch_ports.proofs.Words.{Some, ap, false, is_end, link_at, option_and_then, option_map, option_map_or, port_of, refl, slice_get, sym, true}
+use Rattle.switch_ports.proofs.Words.{unwrap_or, ℕ}
 use Rattle.std.proofs.lemmas.Option.{slice_get-map}
-use Rattle.std.specs.Prelude.{option_map, option_and_then}
-use Rattle.std.specs.Option.{option_map_or}
-use Rattle.net_plan.specs.Places.{link_at}
-use Rattle.net_plan.specs.declared.ids.DeviceId.{DeviceId}
-use Rattle.net_plan.specs.declared.ids.LinkId.{LinkId}
-use Rattle.net_plan.specs.declared.network.Network.{Network}
-use Rattle.net_plan.specs.declared.tables.Link.{Link}
-use Rattle.pcf_values.specs.declared.members.Members.{Members}
-use Rattle.run_law.specs.control.Arrivals.{are_others, is_of_other_member}
-use Rattle.run_law.specs.scenario.Devices.{channel_of, channel_of_link, is_end, is_parent_of, member_of}
-use Rattle.run_law.specs.scenario.Ways.{wire_of}
-use Rattle.switch_ports.specs.Sites.{IsSiteOf, end_below, is_below, is_other_member, no_port, port_in, port_of}
+use Rattle.run_law.specs.{control.Arrivals.{are_others, is_of_other_member}, scenario.Devices.{channel_of, channel_of_link, is_parent_of, member_of}}
+use Rattle.switch_ports.specs.{Sites.{end_below, is_below, is_other_member, no_port, port_in}, declared.site.Site.Site}
 use Rattle.switch_ports.specs.declared.site.Peer.TheVariants as peers
-use Rattle.switch_ports.specs.declared.site.Port.{Port}
-use Rattle.switch_ports.specs.declared.site.Site.{Site}
-use Rattle.tte_units.specs.Amount.{amount}
 
 -- the port of a link that may be there
 abbrev port_by : Network → DeviceId → Option Link → Port
@@ -70,14 +59,6 @@ parent_same network device site link h =
     ap (λ (p : Port). is_below p.peer) (port_is network device site link h) ∙ below_by network device (link_at network link)
 
 -- ---- wires and channels
-
-wire_by : (network : Network) (device : DeviceId) (o : Option Link) → amount (port_by network device o).wire ≡ option_map_or (λ l. amount l.wire) o 0
-wire_by network device None = refl
-wire_by network device (Some l) = refl
-
-pub wire_same : (network : Network) (device : DeviceId) (site : Site) (link : LinkId) → IsSiteOf network device site
-    → amount (port_in site.ports.items link).wire ≡ wire_of network link
-wire_same network device site link h = ap (λ (p : Port). amount p.wire) (port_is network device site link h) ∙ wire_by network device (link_at network link)
 
 channel_by : (network : Network) (device : DeviceId) (o : Option Link) → (port_by network device o).channel ≡ option_and_then (λ l. channel_of network l.parent)
     o

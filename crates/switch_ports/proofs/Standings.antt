@@ -1,34 +1,12 @@
 -- How a call leaves a switch to what it was given and has done.
-use Rattle.std.proofs.Common.{◌≡◌, ◌∙◌, inl, inr, ℕ, ℤ, ◌≤ℤ◌, Bool, true, false, not, ◌&&◌, ◌==◌, List, Option, Some, None, refl, sym, ap}
-use Rattle.std.proofs.lemmas.Bool.{cases_Bool, eqb-true}
-use Rattle.std.specs.Prelude.{Result, Ok, Err}
-use Rattle.net_plan.specs.declared.ids.DeviceId.{DeviceId}
-use Rattle.net_plan.specs.declared.ids.LinkId.{LinkId}
-use Rattle.net_plan.specs.declared.network.Network.{Network}
-use Rattle.pcf_codec.specs.EtherType.{pcf_type}
-use Rattle.pcf_codec.specs.Fields.{field}
-use Rattle.pcf_codec.specs.declared.refusal.PcfRefusal.{PcfRefusal}
-use Rattle.pcf_values.specs.declared.pcf.Pcf.{Pcf}
-use Rattle.run_law.specs.control.Arrivals.{control_arrival, frame_fault, frame_or_fault, frame_taken}
-use Rattle.run_law.specs.declared.judgement.Reason.{Reason}
-use Rattle.run_law.specs.declared.steps.Moment.{Moment}
-use Rattle.run_law.specs.device.Standpoints.{Standpoint as Point}
-use Rattle.run_law.specs.device.States.{is_off}
-use Rattle.run_law.specs.machines.Answers.{after_arrival, called}
-use Rattle.run_law.specs.machines.Calls.{MayCall}
-use Rattle.run_law.specs.machines.Nodes.{Node, Phase, standpoint_at}
-use Rattle.run_law.specs.scenario.Devices.{is_parent_of, is_relay}
-use Rattle.switch_ports.proofs.Awaiting.{awaits_called}
-use Rattle.switch_ports.proofs.Ranges.{site_in_range}
-use Rattle.switch_ports.specs.Standing.{StandsAs}
-use Rattle.switch_ports.specs.Standpoints.{IsAlive, standpoint_of}
-use Rattle.switch_ports.specs.declared.standpoint.Standpoint.{Standpoint}
-use Rattle.switch_ports.specs.declared.switch.Switch.{Switch}
-use Rattle.sync_state.specs.Standing.{Standing}
-use Rattle.sync_state.specs.declared.state.State.{State}
-use Rattle.tte_lemmas.proofs.Integers.{further, through}
-use Rattle.tte_units.specs.Amount.{amount}
-use Rattle.tte_units.specs.declared.units.Units.{Units}
+use Rattle.switch_ports.proofs.Words.{◌&&◌, ◌==◌, ◌∙◌, ◌≡◌, ◌≤ℤ◌, Bool, DeviceId, LinkId, List, MayCall, Moment, Network, Node, None, Option, Pcf, Phase}
+use Rattle.switch_ports.proofs.Words.{Reason, Some, Standing, StandsAs, State, Switch, Units, after_arrival, amount, ap, called, cases_Bool, eqb-true, false}
+use Rattle.switch_ports.proofs.Words.{further, inl, inr, refl, standpoint_of, sym, through, true, ℕ, ℤ}
+use Rattle.std.{proofs.Common.not, specs.Prelude.{Err, Ok, Result}}
+use Rattle.pcf_codec.specs.{EtherType.pcf_type, Fields.field, declared.refusal.PcfRefusal.PcfRefusal}
+use Rattle.run_law.specs.{control.Arrivals.{control_arrival, frame_fault, frame_or_fault, frame_taken}, device.{Standpoints.Standpoint as Point, States.is_off}}
+use Rattle.run_law.specs.{machines.Nodes.standpoint_at, scenario.Devices.{is_parent_of, is_relay}}
+use Rattle.switch_ports.{proofs.{Awaiting.awaits_called, Ranges.site_in_range}, specs.{Standpoints.IsAlive, declared.standpoint.Standpoint.Standpoint}}
 
 -- the moment of a call is in its range
 pub alive : (s : Switch) (network : Network) (device : DeviceId) (node : Node) (moment : Moment) (phase : Phase) (at : Standpoint)

@@ -1,48 +1,21 @@
 -- Time-triggered frames that a switch takes.
-use Rattle.std.proofs.Common.{◌*◌, ◌^◌, ◌+ℤ◌, ◌≡◌, ◌∙◌, ⊎_elim, ℕ, zero, suc, ◌<◌, ◌≤◌, ℤ, ◌≤ℤ◌, Bool, true, false, ◌==◌, cond, List, [], ◌∷◌, ◌++◌, length, map, Option, Some, None, refl, sym, subst, ap, arith}
-use Rattle.std.specs.Prelude.{find, filter, slice_get, option_map, option_and_then, unwrap_or, IfSome}
-use Rattle.std.specs.Int.{int_rem_euclid}
-use Rattle.std.specs.List.{All, last_or}
-use Rattle.std.specs.BTreeMap.{get}
-use Rattle.std.proofs.lemmas.Bool.{cases_Bool, eqb-true}
-use Rattle.std.proofs.lemmas.List.Elements.{All-head, All-map, All-tail, filter-append}
-use Rattle.std.proofs.lemmas.List.{length-map}
-use Rattle.net_plan.proofs.SameIds.{same_vl}
-use Rattle.net_plan.specs.Ranges.{IsInRange, IsRowInRange, IsVlInRange}
-use Rattle.net_plan.specs.declared.ids.DeviceId.{DeviceId}
-use Rattle.net_plan.specs.declared.ids.VlId.{VlId}
-use Rattle.net_plan.specs.declared.network.Network.{Network}
-use Rattle.net_plan.specs.declared.tables.Row.{Row}
-use Rattle.net_plan.specs.declared.tables.VirtualLink.{VirtualLink}
-use Rattle.run_law.specs.declared.judgement.Reason.{Reason}
-use Rattle.run_law.specs.declared.steps.Arrival.TheVariants as arrivals
-use Rattle.run_law.specs.declared.steps.Arrival.{Arrival}
-use Rattle.run_law.specs.declared.steps.Moment.{Moment}
-use Rattle.run_law.specs.device.Standpoints.{Standpoint, clock_of}
-use Rattle.run_law.specs.machines.Answers.{after_arrival, called, with_taken}
-use Rattle.run_law.specs.machines.Nodes.{Node, TakenFrame, arriving}
-use Rattle.run_law.specs.scenario.Devices.{is_end}
+use Rattle.switch_ports.proofs.Words.{◌*◌, ◌++◌, ◌+ℤ◌, ◌<◌, ◌==◌, ◌^◌, ◌∙◌, ◌∷◌, ◌≡◌, ◌≤ℤ◌, ◌≤◌, AreEntrances, AreLeaves, AwaitsIn, Bool, Changes, Departures}
+use Rattle.switch_ports.proofs.Words.{DeviceId, EnteringRow, Entry, HasDepartures, HasTaken, IfSome, Intake, IsInRange, KnowsNext, List, Moment, Network, Node}
+use Rattle.switch_ports.proofs.Words.{None, Option, Reason, Row, Some, Standing, StandsAs, Switch, SyncPlan, Synchronised, TakenFrame, Units, VlId, []}
+use Rattle.switch_ports.proofs.Words.{after_arrival, amount, ap, arith, called, cases_Bool, clock_of, entrance_cmp, eqb-true, false, further, in_all, is_end}
+use Rattle.switch_ports.proofs.Words.{length, length-map, map, option_and_then, option_map, refl, slice_get, subst, suc, sym, through, true, unwrap_or, zero, ℕ}
+use Rattle.switch_ports.proofs.Words.{ℤ}
+use Rattle.std.{proofs.{Common.{cond, ⊎_elim}, lemmas.List.Elements.{All-head, All-map, All-tail, filter-append}}, specs.{BTreeMap.get, Int.int_rem_euclid}}
+use Rattle.std.specs.{List.{All, last_or}, Prelude.{filter, find}}
+use Rattle.net_plan.{proofs.SameIds.same_vl, specs.{Ranges.{IsRowInRange, IsVlInRange}, declared.tables.VirtualLink.VirtualLink}}
+use Rattle.run_law.specs.{declared.steps.Arrival.Arrival, device.Standpoints.Standpoint, machines.{Answers.with_taken, Nodes.arriving}}
 use Rattle.run_law.specs.timed.Arrivals.{entry_arrival, entry_of, row_fault, taken_or_fault}
-use Rattle.schedule_tables.specs.declared.entry.Entry.{Entry}
-use Rattle.switch_ports.proofs.Awaiting.{awaits_taken, departs_taken, later_by, taken_as}
-use Rattle.switch_ports.proofs.Entrances.{enters}
-use Rattle.switch_ports.proofs.Standings.{called_stands}
-use Rattle.switch_ports.specs.Intakes.{AreEntrances, IsTakenSo, IsWhole, Takes, cycle_of, entering_by, entrance_cmp, fault_arrival, fault_of, first_entering, last_in, row_arrival}
-use Rattle.switch_ports.specs.Departing.{AwaitsIn, Changes, HasDepartures, IsKeptSo, Keeps, KnowsNext}
-use Rattle.switch_ports.specs.Tournaments.{AreLeaves}
-use Rattle.switch_ports.specs.Standing.{HasTaken, StandsAs, last_by}
-use Rattle.switch_ports.specs.declared.departures.Departures.{Departures}
-use Rattle.switch_ports.specs.declared.standpoint.Standpoint.{Standpoint as Place}
-use Rattle.switch_ports.specs.declared.intake.EnteringRow.{EnteringRow}
-use Rattle.switch_ports.specs.declared.intake.Intake.{Intake}
-use Rattle.switch_ports.specs.declared.switch.Switch.{Switch}
-use Rattle.sync_state.specs.Standing.{Standing}
-use Rattle.sync_state.specs.declared.plan.SyncPlan.{SyncPlan}
-use Rattle.sync_state.specs.declared.state.State.TheVariants.{Synchronised}
-use Rattle.tte_lemmas.proofs.Integers.{further, through}
-use Rattle.tte_lemmas.proofs.Lists.{find_of, in_all, last_kept, last_pushed, some_at}
-use Rattle.tte_units.specs.Amount.{amount}
-use Rattle.tte_units.specs.declared.units.Units.{Units}
+use Rattle.tte_lemmas.proofs.Lists.{find_of, last_kept, last_pushed, some_at}
+use Rattle.switch_ports.proofs.{Awaiting.{awaits_taken, departs_taken, later_by, taken_as}, Entrances.enters, Standings.called_stands}
+use Rattle.switch_ports.specs.Departing.{IsKeptSo, Keeps}
+use Rattle.switch_ports.specs.Intakes.{IsTakenSo, IsWhole, Takes, cycle_of, entering_by, fault_arrival, fault_of, first_entering, last_in, row_arrival}
+use Rattle.switch_ports.specs.{Standing.last_by, declared.standpoint.Standpoint.Standpoint as Place}
+use Rattle.run_law.specs.declared.steps.Arrival.TheVariants as arrivals
 
 -- ---- what is kept can be judged
 

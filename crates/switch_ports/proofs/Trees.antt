@@ -1,20 +1,12 @@
 -- Trees that have the first of many dispatches.
-use Rattle.std.proofs.Common.{◌≡◌, ◌≢◌, ◌∙◌, ◌⊎◌, inl, inr, ℕ, zero, suc, ◌<◌, ◌≤◌, ◌+◌, ◌*◌, ◌-◌, ◌/◌, ℤ, true, false, List, [], ◌∷◌, length, get_or, get_or-set_other, get_or-set_same, slice_set, ◌==◌, Option, Some, None, refl, sym, subst, ap, arith}
-use Rattle.std.proofs.lemmas.Int.{ints}
-use Rattle.std.proofs.lemmas.Bool.{cases_Bool, eqb-true}
-use Rattle.std.proofs.lemmas.List.{get_or_default, length-set}
-use Rattle.std.proofs.lemmas.List.Elements.{Contains-get_or}
-use Rattle.std.proofs.Math.ListN.{get_or-eq_default}
-use Rattle.std.specs.Prelude.{IfSome, nat_lt, nat_le, int_lt, nat_eq}
-use Rattle.switch_ports.proofs.EachRow.{before_itself, precedes_on}
-use Rattle.switch_ports.specs.Departing.{IsTakingAt, KnowsNext, Sets, bound_of}
-use Rattle.switch_ports.specs.Leaving.{AreChained, IsLast, with_taking, IsEarlier, IsFirstOf, Precedes, dispatch_by, held_by, with_held}
-use Rattle.switch_ports.specs.Tournaments.{AreLeaves, IsClimbing, IsTree, Puts, node_at}
-use Rattle.switch_ports.specs.declared.departures.Departure.{Departure}
-use Rattle.switch_ports.specs.declared.departures.Departures.{Departures}
-use Rattle.switch_ports.specs.declared.departures.Dispatch.{Dispatch}
-use Rattle.switch_ports.specs.declared.departures.Taking.{Taking}
-use Rattle.switch_ports.specs.declared.tournament.Tournament.{Tournament}
+use Rattle.switch_ports.proofs.Words.{◌*◌, ◌+◌, ◌<◌, ◌==◌, ◌∙◌, ◌∷◌, ◌≡◌, ◌≤◌, ◌⊎◌, AreChained, AreLeaves, Departure, Departures, Dispatch, IfSome, IsTakingAt}
+use Rattle.switch_ports.proofs.Words.{KnowsNext, List, None, Option, Precedes, Some, [], ap, arith, cases_Bool, eqb-true, false, get_or, held_by, inl, inr}
+use Rattle.switch_ports.proofs.Words.{int_lt, ints, length, nat_le, refl, slice_set, subst, suc, sym, true, with_taking, zero, ℕ, ℤ}
+use Rattle.std.proofs.{Common.{◌-◌, ◌/◌, ◌≢◌, get_or-set_other, get_or-set_same}, Math.ListN.get_or-eq_default, lemmas.List.{get_or_default, length-set}}
+use Rattle.std.{proofs.lemmas.List.Elements.Contains-get_or, specs.Prelude.{nat_eq, nat_lt}}
+use Rattle.switch_ports.{proofs.EachRow.{before_itself, precedes_on}, specs.Departing.{Sets, bound_of}}
+use Rattle.switch_ports.specs.{Leaving.{IsEarlier, IsFirstOf, IsLast, dispatch_by, with_held}, Tournaments.{IsClimbing, IsTree, Puts, node_at}}
+use Rattle.switch_ports.specs.declared.{departures.Taking.Taking, tournament.Tournament.Tournament}
 
 -- ---- a leaf is put
 

@@ -1,12 +1,7 @@
 -- Where a correction point leaves a device.
-use Rattle.std.proofs.Common.{◌≡◌, sym, subst}
-use Rattle.clock_correction.specs.Deviation.{IsSmall}
-use Rattle.membership.specs.Summary.{Summary}
-use Rattle.sync_state.specs.Calls.{after, reached_point}
-use Rattle.sync_state.specs.Standing.{Standing}
-use Rattle.sync_state.specs.Verdicts.{IfCorrected}
-use Rattle.sync_state.specs.declared.answers.Verdict.TheVariants.{Corrected, SyncClique, AsyncClique, Cleared}
-use Rattle.sync_state.specs.declared.answers.Verdict.{Verdict}
+use Rattle.switch_ports.proofs.Words.{◌≡◌, IsSmall, Standing, Summary, after, subst, sym}
+use Rattle.sync_state.specs.{Calls.reached_point, Verdicts.IfCorrected, declared.answers.Verdict.Verdict}
+use Rattle.sync_state.specs.declared.answers.Verdict.TheVariants.{AsyncClique, Cleared, Corrected, SyncClique}
 
 pub next_small : (s new : Standing) (heard : Summary) (v : Verdict) → new ≡ after s (reached_point heard v) → IsSmall s.adjustment.0
     → IfCorrected v (λ by. IsSmall new.adjustment.0) → IsSmall new.adjustment.0

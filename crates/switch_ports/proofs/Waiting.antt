@@ -1,16 +1,9 @@
 -- What a compression master has still to send: the collections that its collector keeps.
-use Rattle.std.proofs.Common.{◌≡◌, ◌∙◌, inl, inr, ℤ, pos, ◌≤ℤ◌, ◌<ℤ◌, List, [], ◌∷◌, ◌++◌, map, sym, subst, ap, arith, append_assoc}
-use Rattle.std.proofs.lemmas.Int.{ints}
-use Rattle.std.specs.List.{AllByRecursion, Contains}
-use Rattle.std.proofs.lemmas.List.Elements.{Contains-append_cases, Contains-append_right}
-use Rattle.compression.proofs.Elements.{all-beyond, beyond-all, in_cases, in_head, in_none, in_tail}
-use Rattle.compression.proofs.Growth.{end_of-least}
-use Rattle.compression.proofs.Times.{one_list_of_clusters}
-use Rattle.compression.specs.Clusters.{AreClusters, Cluster, Point, beyond, cluster_of}
-use Rattle.compression.specs.Collecting.{Collecting}
-use Rattle.compression.specs.Emission.{compressed}
-use Rattle.compression.specs.Stands.{StandsForPoints}
-use Rattle.compression.specs.declared.compressed.Compressed.{Compressed}
+use Rattle.switch_ports.proofs.Words.{◌++◌, ◌<ℤ◌, ◌∙◌, ◌∷◌, ◌≡◌, ◌≤ℤ◌, AreClusters, Cluster, Collecting, Compressed, Contains, Contains-append_right, List}
+use Rattle.switch_ports.proofs.Words.{StandsForPoints, [], ap, arith, compressed, in_head, in_none, inl, inr, ints, map, pos, subst, sym, ℤ}
+use Rattle.std.{proofs.{Common.append_assoc, lemmas.List.Elements.Contains-append_cases}, specs.List.AllByRecursion}
+use Rattle.compression.proofs.{Elements.{all-beyond, beyond-all, in_cases, in_tail}, Growth.end_of-least, Times.one_list_of_clusters}
+use Rattle.compression.specs.Clusters.{Point, beyond, cluster_of}
 
 pub in_map : {X Y : Type 0} (f : X → Y) (xs : List X) (y : Y) → Contains (map f xs) y → (x : X) × Contains xs x × (y ≡ f x)
 in_map f [] y at = absurd (in_none y at)

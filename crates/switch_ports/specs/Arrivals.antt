@@ -1,11 +1,8 @@
 -- How a frame that arrives is judged.
-use Rattle.std.specs.Prelude.{◌≡◌, ℕ, Some, None, Result, Ok, Err}
-use Rattle.net_plan.specs.declared.ids.DeviceId.{DeviceId}
-use Rattle.net_plan.specs.declared.ids.LinkId.{LinkId}
-use Rattle.net_plan.specs.declared.network.Network.{Network}
+use Rattle.std.specs.Prelude.{◌≡◌, Err, None, Ok, Result, Some, ℕ}
+use Rattle.net_plan.specs.declared.{ids.{DeviceId.DeviceId, LinkId.LinkId}, network.Network.Network}
 use Rattle.pcf_values.specs.declared.pcf.Pcf.{Pcf}
-use Rattle.run_law.specs.control.Arrivals.{clock_on_arrival, frame_fault}
-use Rattle.run_law.specs.declared.judgement.Reason.{Reason}
+use Rattle.run_law.specs.{control.Arrivals.{clock_on_arrival, frame_fault}, declared.judgement.Reason.Reason}
 use Rattle.run_law.specs.device.Standpoints.{Standpoint}
 
 -- this is the frame's clock as the wire has grown it, or why the frame is dropped

@@ -1,27 +1,20 @@
 -- The rows of a switch together.
-use Rattle.std.specs.Prelude.{◌≡◌, ◌↔◌, ℕ, ◌+◌, ◌*◌, ◌^◌, ◌<◌, ◌≤◌, ◌==◌, ℤ, ◌+ℤ◌, ◌<ℤ◌, ◌≤ℤ◌, List, length, filter, slice_index_or, slice_set, Option, Some, None, IfSome, option_and_then}
 use Rattle.std.specs.List.{All, Contains, last_or}
-use Rattle.net_plan.specs.declared.ids.DeviceId.{DeviceId}
-use Rattle.net_plan.specs.declared.ids.RowId.{RowId}
-use Rattle.net_plan.specs.declared.ids.VlId.{VlId}
-use Rattle.net_plan.specs.declared.network.Network.{Network}
-use Rattle.run_law.specs.declared.steps.Arrival.TheVariants as arrivals
-use Rattle.run_law.specs.declared.steps.Arrival.{Arrival}
-use Rattle.run_law.specs.machines.Nodes.{ClockTask, TakenFrame, dispatching}
+use Rattle.std.specs.Prelude.{◌*◌, ◌+ℤ◌, ◌+◌, ◌<ℤ◌, ◌<◌, ◌==◌, ◌^◌, ◌↔◌, ◌≡◌, ◌≤ℤ◌, ◌≤◌, IfSome, List, None, Option}
+use Rattle.std.specs.Prelude.{Some, filter, length, option_and_then, slice_index_or, slice_set, ℕ, ℤ}
+use Rattle.net_plan.specs.declared.{ids.{DeviceId.DeviceId, RowId.RowId, VlId.VlId}, network.Network.Network}
+use Rattle.run_law.specs.{declared.steps.Arrival.Arrival, machines.Nodes.{ClockTask, TakenFrame, dispatching}}
 use Rattle.run_law.specs.machines.Tasks.{value_of}
-use Rattle.schedule_tables.specs.Entries.{IsEntry, source_of}
-use Rattle.schedule_tables.specs.declared.entry.Entry.{Entry}
-use Rattle.switch_ports.specs.Leaving.{AreChained, AreEach, AreEachUpTo, AreLeaving, HasRow, IsFirstOf, IsFit, IsLeaving, dispatch_by, held_by, reopened, with_taking}
-use Rattle.switch_ports.specs.Tournaments.{AreLeaves, IsTree, Puts, node_at}
-use Rattle.switch_ports.specs.declared.departures.Departure.{Departure}
-use Rattle.switch_ports.specs.declared.departures.Departures.{Departures}
-use Rattle.switch_ports.specs.declared.departures.Held.{Held}
-use Rattle.switch_ports.specs.declared.standpoint.Standpoint.{Standpoint}
-use Rattle.sync_state.specs.declared.answers.Verdict.TheVariants.{Corrected, SyncClique, AsyncClique, Cleared}
+use Rattle.schedule_tables.specs.{Entries.{IsEntry, source_of}, declared.entry.Entry.Entry}
 use Rattle.sync_state.specs.declared.answers.Verdict.{Verdict}
-use Rattle.sync_state.specs.declared.state.State.TheVariants.{Synchronised}
-use Rattle.sync_state.specs.declared.state.State.{State}
+use Rattle.sync_state.specs.declared.answers.Verdict.TheVariants.{AsyncClique, Cleared, Corrected, SyncClique}
+use Rattle.sync_state.specs.declared.state.State.{State, TheVariants.Synchronised}
 use Rattle.tte_units.specs.Amount.{amount}
+use Rattle.switch_ports.specs.Leaving.{AreChained, AreEach, AreEachUpTo, AreLeaving, HasRow, IsFirstOf, IsFit}
+use Rattle.switch_ports.specs.Leaving.{IsLeaving, dispatch_by, held_by, reopened, with_taking}
+use Rattle.switch_ports.specs.{Tournaments.{AreLeaves, IsTree, Puts, node_at}, declared.departures.Departure.Departure}
+use Rattle.switch_ports.specs.declared.{departures.{Departures.Departures, Held.Held}, standpoint.Standpoint.Standpoint}
+use Rattle.run_law.specs.declared.steps.Arrival.TheVariants as arrivals
 
 -- ---- what holds at any time
 

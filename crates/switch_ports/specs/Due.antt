@@ -1,5 +1,5 @@
 -- The less of two readings that may be there.
-use Rattle.std.specs.Prelude.{int_le, Option, Some, None, if◌then◌else◌}
+use Rattle.std.specs.Prelude.{if◌then◌else◌, None, Option, Some, int_le}
 use Rattle.tte_units.specs.declared.units.Units.{Units}
 
 -- the less of a reading and one that may be there

@@ -1,26 +1,16 @@
 -- Which time-triggered frames a switch takes.
-use Rattle.std.specs.Prelude.{◌≡◌, ℕ, ◌≤◌, ◌<◌, ◌*◌, ◌^◌, ◌%◌, nat_le, int_lt, ℤ, Bool, not, ◌&&◌, ◌||◌, ◌==◌, List, [], ◌∷◌, length, Option, Some, None, option_map, option_and_then, find, slice_get, unwrap_or, IfSome, IsSome}
-use Rattle.std.specs.List.{All}
-use Rattle.std.specs.BTreeMap.{BTreeMap, get}
-use Rattle.std.specs.Int.{int_div_euclid}
-use Rattle.std.specs.Ordering.{nat_cmp, ordering_then}
-use Rattle.std.specs.declared.cmp.Ordering.{Ordering}
-use Rattle.net_plan.specs.declared.ids.DeviceId.{DeviceId}
-use Rattle.net_plan.specs.declared.ids.VlId.{VlId}
-use Rattle.net_plan.specs.declared.network.Network.{Network}
-use Rattle.net_plan.specs.declared.tables.Row.{Row}
-use Rattle.run_law.specs.declared.judgement.Reason.TheVariants as reasons
-use Rattle.run_law.specs.declared.judgement.Reason.{Reason}
-use Rattle.run_law.specs.declared.steps.Arrival.TheVariants as arrivals
-use Rattle.run_law.specs.declared.steps.Arrival.{Arrival}
-use Rattle.run_law.specs.device.Standpoints.{first_reason, natural}
-use Rattle.run_law.specs.scenario.Ways.{is_way, is_way_of, way_to}
+use Rattle.std.specs.{BTreeMap.{BTreeMap, get}, Int.int_div_euclid, List.All, Ordering.{nat_cmp, ordering_then}}
+use Rattle.std.specs.Prelude.{◌%◌, ◌&&◌, ◌*◌, ◌<◌, ◌==◌, ◌^◌, ◌||◌, ◌∷◌, ◌≡◌, ◌≤◌, Bool, IfSome, IsSome, List, None}
+use Rattle.std.specs.Prelude.{Option, Some, [], find, int_lt, length, nat_le, not, option_and_then, option_map}
+use Rattle.std.specs.{Prelude.{slice_get, unwrap_or, ℕ, ℤ}, declared.cmp.Ordering.Ordering}
+use Rattle.net_plan.specs.declared.{ids.{DeviceId.DeviceId, VlId.VlId}, network.Network.Network, tables.Row.Row}
+use Rattle.run_law.specs.declared.{judgement.Reason.Reason, steps.Arrival.Arrival}
+use Rattle.run_law.specs.{device.Standpoints.{first_reason, natural}, scenario.Ways.{is_way, is_way_of, way_to}}
 use Rattle.run_law.specs.timed.Arrivals.{entry_of, is_row_with, is_taken_in}
-use Rattle.schedule_tables.specs.Windows.{window_of}
-use Rattle.schedule_tables.specs.declared.entry.Entry.{Entry}
-use Rattle.switch_ports.specs.declared.intake.EnteringRow.{EnteringRow}
-use Rattle.switch_ports.specs.declared.intake.Entrance.{Entrance}
-use Rattle.switch_ports.specs.declared.intake.Intake.{Intake}
+use Rattle.schedule_tables.specs.{Windows.window_of, declared.entry.Entry.Entry}
+use Rattle.switch_ports.specs.declared.intake.{EnteringRow.EnteringRow, Entrance.Entrance, Intake.Intake}
+use Rattle.run_law.specs.declared.judgement.Reason.TheVariants as reasons
+use Rattle.run_law.specs.declared.steps.Arrival.TheVariants as arrivals
 
 -- what is kept of an entry
 abbrev pub entering_by : Network → Entry → EnteringRow

@@ -1,19 +1,13 @@
 -- The rows that leave a switch, and what they have still to dispatch.
-use Rattle.std.specs.Prelude.{◌≡◌, ◌⊎◌, ℕ, ◌+◌, ◌*◌, ◌^◌, ◌%◌, ◌<◌, ◌≤◌, nat_le, ℤ, pos, ◌-ℤ◌, ◌<ℤ◌, ◌≤ℤ◌, int_lt, Bool, ◌&&◌, ◌==◌, List, length, slice_get, slice_index_or, unwrap_or, Option, Some, None, option_map, IfSome, if◌then◌else◌}
 use Rattle.std.specs.List.{All, Contains}
-use Rattle.net_plan.specs.Ranges.{IsWithin}
-use Rattle.net_plan.specs.declared.ids.DeviceId.{DeviceId}
-use Rattle.net_plan.specs.declared.ids.RowId.{RowId}
-use Rattle.net_plan.specs.declared.network.Network.{Network}
-use Rattle.schedule_tables.specs.Entries.{IsEntry, source_of}
-use Rattle.schedule_tables.specs.declared.entry.Entry.{Entry}
-use Rattle.switch_ports.specs.declared.departures.Departure.{Departure}
-use Rattle.switch_ports.specs.declared.departures.Dispatch.{Dispatch}
-use Rattle.switch_ports.specs.declared.departures.Held.{Held}
-use Rattle.switch_ports.specs.declared.departures.LeavingRow.{LeavingRow}
-use Rattle.switch_ports.specs.declared.departures.Taking.{Taking}
-use Rattle.tte_units.specs.Amount.{amount}
-use Rattle.tte_units.specs.declared.units.Units.{Units}
+use Rattle.std.specs.Prelude.{if◌then◌else◌, ◌%◌, ◌&&◌, ◌*◌, ◌+◌, ◌-ℤ◌, ◌<ℤ◌, ◌<◌, ◌==◌, ◌^◌, ◌≡◌, ◌≤ℤ◌, ◌≤◌, ◌⊎◌, Bool}
+use Rattle.std.specs.Prelude.{IfSome, List, None, Option, Some, int_lt, length, nat_le, option_map, pos, slice_get}
+use Rattle.std.specs.Prelude.{slice_index_or, unwrap_or, ℕ, ℤ}
+use Rattle.net_plan.specs.{Ranges.IsWithin, declared.{ids.{DeviceId.DeviceId, RowId.RowId}, network.Network.Network}}
+use Rattle.schedule_tables.specs.{Entries.{IsEntry, source_of}, declared.entry.Entry.Entry}
+use Rattle.tte_units.specs.{Amount.amount, declared.units.Units.Units}
+use Rattle.switch_ports.specs.declared.departures.{Departure.Departure, Dispatch.Dispatch, Held.Held}
+use Rattle.switch_ports.specs.declared.departures.{LeavingRow.LeavingRow, Taking.Taking}
 
 -- ---- rows
 

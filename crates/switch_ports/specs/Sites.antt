@@ -1,20 +1,16 @@
 -- What the network says of a switch.
-use Rattle.std.specs.Prelude.{◌≡◌, ℕ, ◌+◌, ◌^◌, Bool, true, false, not, ◌==◌, List, map, Option, Some, None, if◌then◌else◌, slice_get, unwrap_or}
-use Rattle.net_plan.specs.Places.{is_master}
-use Rattle.net_plan.specs.declared.ids.DeviceId.{DeviceId}
-use Rattle.net_plan.specs.declared.ids.LinkId.{LinkId}
-use Rattle.net_plan.specs.declared.network.Network.{Network}
-use Rattle.net_plan.specs.declared.tables.Link.{Link}
-use Rattle.net_plan.specs.declared.tables.Role.{Role}
+use Rattle.std.specs.Prelude.{if◌then◌else◌, ◌+◌, ◌==◌, ◌^◌, ◌≡◌, Bool, List, None, Option, Some, false, map, not}
+use Rattle.std.specs.Prelude.{slice_get, true, unwrap_or, ℕ}
+use Rattle.net_plan.specs.{Places.is_master, declared.{ids.{DeviceId.DeviceId, LinkId.LinkId}, network.Network.Network}}
+use Rattle.net_plan.specs.declared.tables.{Link.Link, Role.Role}
 use Rattle.pcf_values.specs.declared.members.Members.{Members}
 use Rattle.run_law.specs.records.Frames.{mac_of}
-use Rattle.run_law.specs.scenario.Devices.{channel_of, has_role, is_cm, is_cm_role, is_end, is_relay, member_of, plan_of}
+use Rattle.run_law.specs.scenario.Devices.{channel_of, has_role, is_cm, is_cm_role, is_end, is_relay, member_of}
+use Rattle.run_law.specs.scenario.Devices.{plan_of}
 use Rattle.schedule_tables.specs.Margins.{compression_time, expected_offset}
-use Rattle.switch_ports.specs.declared.site.Peer.TheVariants as peers
-use Rattle.switch_ports.specs.declared.site.Peer.{Peer}
-use Rattle.switch_ports.specs.declared.site.Port.{Port}
-use Rattle.switch_ports.specs.declared.site.Site.{Site}
 use Rattle.tte_units.specs.Amount.{amount, units_of}
+use Rattle.switch_ports.specs.declared.site.{Peer.Peer, Port.Port, Site.Site}
+use Rattle.switch_ports.specs.declared.site.Peer.TheVariants as peers
 
 -- does the link lead down?
 abbrev pub is_below : Peer → Bool

@@ -1,28 +1,18 @@
 -- How a switch stands to what it was given and has done.
-use Rattle.std.specs.Prelude.{◌≡◌, ℕ, ◌<◌, ℤ, pos, ◌+ℤ◌, ◌≤ℤ◌, true, false, ◌==◌, List, [], length, filter, Option, None, option_map, All}
 use Rattle.std.specs.List.{Contains, last_or}
+use Rattle.std.specs.Prelude.{◌+ℤ◌, ◌<◌, ◌==◌, ◌≡◌, ◌≤ℤ◌, All, List, None, Option, [], false, filter, length}
+use Rattle.std.specs.Prelude.{option_map, pos, true, ℕ, ℤ}
 use Rattle.clock_correction.specs.Deviation.{IsSmall}
-use Rattle.compression.specs.Clusters.{Point}
-use Rattle.compression.specs.Collecting.{Collecting}
-use Rattle.compression.specs.Stands.{StandsForPoints}
+use Rattle.compression.specs.{Clusters.Point, Collecting.Collecting, Stands.StandsForPoints}
 use Rattle.compression.specs.declared.compressed.Compressed.{Compressed}
 use Rattle.membership.specs.Summary.{Summarizes}
-use Rattle.net_plan.specs.Ranges.{IsInRange}
-use Rattle.net_plan.specs.declared.ids.DeviceId.{DeviceId}
-use Rattle.net_plan.specs.declared.ids.VlId.{VlId}
-use Rattle.net_plan.specs.declared.network.Network.{Network}
-use Rattle.run_law.specs.machines.Nodes.{Node, TakenFrame, correcting}
-use Rattle.run_law.specs.scenario.Devices.{is_cm, plan_of}
+use Rattle.net_plan.specs.{Ranges.IsInRange, declared.{ids.{DeviceId.DeviceId, VlId.VlId}, network.Network.Network}}
+use Rattle.run_law.specs.{machines.Nodes.{Node, TakenFrame, correcting}, scenario.Devices.{is_cm, plan_of}}
 use Rattle.schedule_tables.specs.Rules.{KeepsRules}
-use Rattle.switch_ports.specs.Corrections.{correction_due}
-use Rattle.switch_ports.specs.Intakes.{AreEntrances, last_in}
-use Rattle.switch_ports.specs.Departing.{AwaitsIn, HasDepartures}
-use Rattle.switch_ports.specs.Members.{member_numbers}
-use Rattle.switch_ports.specs.Sites.{IsSiteOf}
-use Rattle.switch_ports.specs.Steady.{IsSteady, is_timed}
-use Rattle.switch_ports.specs.declared.intake.Intake.{Intake}
-use Rattle.switch_ports.specs.declared.switch.Switch.{Switch}
 use Rattle.tte_units.specs.Reading.{least_reading}
+use Rattle.switch_ports.specs.{Corrections.correction_due, Departing.{AwaitsIn, HasDepartures}}
+use Rattle.switch_ports.specs.{Intakes.{AreEntrances, last_in}, Members.member_numbers, Sites.IsSiteOf}
+use Rattle.switch_ports.specs.{Steady.{IsSteady, is_timed}, declared.{intake.Intake.Intake, switch.Switch.Switch}}
 
 -- a network that is accepted
 pub record IsAccepted (network : Network) : Type 0 where

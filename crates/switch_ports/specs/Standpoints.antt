@@ -1,14 +1,10 @@
 -- Where a switch stands when something comes to it.
-use Rattle.std.specs.Prelude.{◌^◌, ◌+◌, pos, neg_ℤ, ◌≤ℤ◌, not, All}
+use Rattle.std.specs.Prelude.{◌+◌, ◌^◌, ◌≤ℤ◌, All, neg_ℤ, not, pos}
 use Rattle.clock_correction.specs.Deviation.{IsSmall}
 use Rattle.net_plan.specs.Ranges.{IsWithin}
-use Rattle.run_law.specs.device.Standpoints.{Standpoint as Point}
-use Rattle.run_law.specs.device.States.{is_off}
-use Rattle.switch_ports.specs.declared.site.Port.{Port}
-use Rattle.switch_ports.specs.declared.site.Site.{Site}
-use Rattle.switch_ports.specs.declared.standpoint.Standpoint.{Standpoint}
-use Rattle.tte_units.specs.Amount.{amount}
-use Rattle.tte_units.specs.declared.units.Units.{Units}
+use Rattle.run_law.specs.device.{Standpoints.Standpoint as Point, States.is_off}
+use Rattle.tte_units.specs.{Amount.amount, declared.units.Units.Units}
+use Rattle.switch_ports.specs.declared.{site.{Port.Port, Site.Site}, standpoint.Standpoint.Standpoint}
 
 -- where the device stands that is not broken
 abbrev pub standpoint_of : Standpoint → Point

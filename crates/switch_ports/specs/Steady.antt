@@ -1,17 +1,12 @@
 -- What is true of a device's clock and of the frames that it has heard.
-use Rattle.std.specs.Prelude.{◌≡◌, ◌+◌, ◌≤◌, pos, ◌+ℤ◌, ◌*ℤ◌, ◌≤ℤ◌, ◌<ℤ◌, Bool, true, false, Some, IfSome}
-use Rattle.membership.specs.Summary.{Summary, best_on}
-use Rattle.membership.specs.declared.frame.HeardFrame.{HeardFrame}
+use Rattle.std.specs.Prelude.{◌*ℤ◌, ◌+ℤ◌, ◌+◌, ◌<ℤ◌, ◌≡◌, ◌≤ℤ◌, ◌≤◌, Bool, IfSome, Some, false, pos, true}
+use Rattle.membership.specs.{Summary.{Summary, best_on}, declared.frame.HeardFrame.HeardFrame}
 use Rattle.net_plan.specs.declared.network.Network.{Network}
 use Rattle.pcf_values.specs.declared.channel.Channel.{Channel}
-use Rattle.run_law.specs.control.Corrections.{correction_value}
-use Rattle.run_law.specs.control.Hearing.{last_cycle}
-use Rattle.run_law.specs.machines.Nodes.{Node}
-use Rattle.switch_ports.specs.Standpoints.{IsPoint}
-use Rattle.sync_state.specs.Plan.{expected_at}
-use Rattle.sync_state.specs.Standing.{Standing}
+use Rattle.run_law.specs.{control.{Corrections.correction_value, Hearing.last_cycle}, machines.Nodes.Node}
+use Rattle.sync_state.specs.{Plan.expected_at, Standing.Standing, declared.state.State.State}
 use Rattle.sync_state.specs.declared.state.State.TheVariants.{Joining, Synchronised}
-use Rattle.sync_state.specs.declared.state.State.{State}
+use Rattle.switch_ports.specs.Standpoints.{IsPoint}
 
 -- has the device in this state a next correction point?
 abbrev pub is_timed : State → Bool

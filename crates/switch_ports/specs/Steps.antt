@@ -1,38 +1,23 @@
 -- What a call changes in a switch.
-use Rattle.std.specs.Prelude.{◌≡◌, ◌⊎◌, ℤ, ◌+ℤ◌, if◌then◌else◌, Bool, true, false, List, ◌++◌, [], ◌∷◌, Option, Some, None, option_and_then}
+use Rattle.std.specs.Prelude.{if◌then◌else◌, ◌++◌, ◌+ℤ◌, ◌∷◌, ◌≡◌, ◌⊎◌, Bool, List, None, Option, Some, [], false}
+use Rattle.std.specs.Prelude.{option_and_then, true, ℤ}
 use Rattle.clock_correction.specs.Deviation.{IsSmall}
 use Rattle.compression.specs.Clusters.{AreClusters, Cluster, Point, point_at}
-use Rattle.compression.specs.Collecting.{Collecting, fresh, with_joined, with_opened}
-use Rattle.compression.specs.Role.{role}
-use Rattle.compression.specs.Stands.{StandsForPoints}
-use Rattle.compression.specs.declared.compressed.Compressed.{Compressed}
-use Rattle.compression.specs.declared.taken.Taken.TheVariants as takens
-use Rattle.compression.specs.declared.taken.Taken.{Taken}
-use Rattle.membership.specs.Hearing.{Hearing}
-use Rattle.membership.specs.Summary.{Hears as Keeps, Summarizes, Summary, silence}
-use Rattle.pcf_values.specs.declared.channel.Channel.{Channel}
-use Rattle.pcf_values.specs.declared.pcf.Pcf.{Pcf}
-use Rattle.run_law.specs.control.Collections.{master_of, ripe_by_role}
-use Rattle.run_law.specs.declared.steps.Act.TheVariants as acts
-use Rattle.run_law.specs.declared.steps.Act.{Act}
-use Rattle.run_law.specs.declared.steps.Moment.{Moment}
-use Rattle.run_law.specs.declared.steps.Ripe.TheVariants as ripe
-use Rattle.run_law.specs.declared.steps.Ripe.{Ripe}
-use Rattle.run_law.specs.device.States.{is_synchronised}
-use Rattle.run_law.specs.machines.Answers.{hearings}
-use Rattle.switch_ports.specs.Corrections.{correction_at}
-use Rattle.switch_ports.specs.Departing.{Changes, IsAwaitedSo, KnowsNext}
-use Rattle.switch_ports.specs.Leaving.{closed}
-use Rattle.switch_ports.specs.Tournaments.{AreLeaves}
-use Rattle.switch_ports.specs.declared.departures.Dispatch.{Dispatch}
-use Rattle.switch_ports.specs.declared.switch.Switch.{Switch}
-use Rattle.sync_state.specs.Calls.{after, heard_frame, reached_point}
-use Rattle.sync_state.specs.Integration.{joined_by}
-use Rattle.sync_state.specs.Standing.{next_point}
-use Rattle.sync_state.specs.Verdicts.{HasVerdict, IfCorrected}
-use Rattle.sync_state.specs.declared.answers.Verdict.TheVariants.{Corrected, SyncClique, AsyncClique, Cleared}
-use Rattle.sync_state.specs.declared.answers.Verdict.{Verdict}
+use Rattle.compression.specs.{Collecting.{Collecting, fresh, with_joined, with_opened}, Role.role}
+use Rattle.compression.specs.{Stands.StandsForPoints, declared.{compressed.Compressed.Compressed, taken.Taken.Taken}}
+use Rattle.membership.specs.{Hearing.Hearing, Summary.{Hears as Keeps, Summarizes, Summary, silence}}
+use Rattle.pcf_values.specs.declared.{channel.Channel.Channel, pcf.Pcf.Pcf}
+use Rattle.run_law.specs.{control.Collections.{master_of, ripe_by_role}, declared.steps.{Act.Act, Moment.Moment}}
+use Rattle.run_law.specs.{declared.steps.Ripe.Ripe, device.States.is_synchronised, machines.Answers.hearings}
+use Rattle.sync_state.specs.{Calls.{after, heard_frame, reached_point}, Integration.joined_by, Standing.next_point}
+use Rattle.sync_state.specs.{Verdicts.{HasVerdict, IfCorrected}, declared.answers.Verdict.Verdict}
+use Rattle.sync_state.specs.declared.answers.Verdict.TheVariants.{AsyncClique, Cleared, Corrected, SyncClique}
 use Rattle.tte_units.specs.declared.units.Units.{Units}
+use Rattle.switch_ports.specs.{Corrections.correction_at, Departing.{Changes, IsAwaitedSo, KnowsNext}, Leaving.closed}
+use Rattle.switch_ports.specs.{Tournaments.AreLeaves, declared.{departures.Dispatch.Dispatch, switch.Switch.Switch}}
+use Rattle.compression.specs.declared.taken.Taken.TheVariants as takens
+use Rattle.run_law.specs.declared.steps.Act.TheVariants as acts
+use Rattle.run_law.specs.declared.steps.Ripe.TheVariants as ripe
 
 -- what it keeps of one more frame: nothing where it came by no channel
 abbrev pub IsHeardSo : Summary → Option Channel → Pcf → Units → Bool → Summary → Type 0

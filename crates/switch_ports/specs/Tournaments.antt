@@ -1,9 +1,7 @@
 -- Trees that have the first of many dispatches.
-use Rattle.std.specs.Prelude.{◌≡◌, ℕ, ◌+◌, ◌*◌, ◌/◌, ◌<◌, ◌≤◌, ℤ, List, length, slice_index_or, Option, None}
-use Rattle.switch_ports.specs.Leaving.{IsEarlier, dispatch_by}
-use Rattle.switch_ports.specs.declared.departures.Departure.{Departure}
-use Rattle.switch_ports.specs.declared.departures.Dispatch.{Dispatch}
-use Rattle.switch_ports.specs.declared.tournament.Tournament.{Tournament}
+use Rattle.std.specs.Prelude.{◌*◌, ◌+◌, ◌/◌, ◌<◌, ◌≡◌, ◌≤◌, List, None, Option, length, slice_index_or, ℕ, ℤ}
+use Rattle.switch_ports.specs.{Leaving.{IsEarlier, dispatch_by}, declared.departures.Departure.Departure}
+use Rattle.switch_ports.specs.declared.{departures.Dispatch.Dispatch, tournament.Tournament.Tournament}
 
 -- the dispatch of the node, if it has one
 abbrev pub node_at : List (Option Dispatch) → ℕ → Option Dispatch

@@ -1,14 +1,15 @@
 //! The rows that leave a switch, and the frames that they have still to dispatch.
 
-ghost use Rattle.std.specs.Prelude.{length, map, ◌+◌, option_map, ◌≡◌, ◌↔◌, ◌<◌, ◌≤◌, ◌*◌, ◌^◌, IfOk, OnOk, IsTrue, None, pos, ◌≤ℤ◌, ◌-ℤ◌, All};
+ghost use Rattle.std.specs.Prelude.{◌*◌, ◌+◌, ◌-ℤ◌, ◌<◌, ◌^◌, ◌↔◌, ◌≡◌, ◌≤ℤ◌, ◌≤◌, All, IfOk, IsTrue, None, OnOk};
+ghost use Rattle.std.specs.Prelude.{length, map, option_map, pos};
 ghost use Rattle.clock_correction.specs.Deviation.{IsSmall};
-ghost use Rattle.net_plan.specs.Ranges.{IsInRange, IsWithin};
-ghost use Rattle.net_plan.specs.declared.network.Network.{Network as NetworkValue};
+ghost use Rattle.net_plan.specs.{Ranges.{IsInRange, IsWithin}, declared.network.Network.Network as NetworkValue};
 ghost use Rattle.schedule_tables.specs.Entries.{IsEntry, IsEntryInRange, source_of};
-ghost use Rattle.switch_ports.specs.Departing.{Changes, IsBegun, IsReady, KnowsNext, Sets};
-ghost use Rattle.switch_ports.specs.Leaving.{AreLeaving, IsEarlier, IsFit, IsTakingFit, Precedes, awaited_of, closed, dispatch_by, fresh_row, held_by, is_dispatch_in, place_in, reopened, value_in, with_held, with_taking};
-ghost use Rattle.switch_ports.specs.Tournaments.{AreLeaves, IsTree};
 ghost use Rattle.tte_units.specs.Amount.{amount};
+ghost use Rattle.switch_ports.specs.Departing.{Changes, IsBegun, IsReady, KnowsNext, Sets};
+ghost use Rattle.switch_ports.specs.Leaving.{AreLeaving, IsEarlier, IsFit, IsTakingFit, Precedes, awaited_of, closed};
+ghost use Rattle.switch_ports.specs.Leaving.{dispatch_by, fresh_row, held_by, is_dispatch_in, place_in, reopened};
+ghost use Rattle.switch_ports.specs.{Leaving.{value_in, with_held, with_taking}, Tournaments.{AreLeaves, IsTree}};
 
 use crate::tournament::Tournament;
 use net_plan::{DeviceId, LinkId, Network, RowId, VlId};

@@ -1,16 +1,14 @@
-ghost use Rattle.std.specs.Prelude.{◌*◌, ◌≡◌, ◌≤◌, ◌<◌, ◌^◌, ◌%◌, ◌==◌, ◌&&◌, nat_le, ◌≤ℤ◌, pos, neg_ℤ, IfOk, OnOk, List, ◌++◌, ◌∷◌, [], ℕ, length, map, None};
-ghost use Rattle.std.specs.BTreeMap.{get};
-ghost use Rattle.std.specs.Int.{int_rem_euclid};
-ghost use Rattle.net_plan.specs.Ranges.{IsInRange, IsWithin};
-ghost use Rattle.net_plan.specs.declared.network.Network.{Network as NetworkValue};
+ghost use Rattle.std.specs.{BTreeMap.get, Int.int_rem_euclid};
+ghost use Rattle.std.specs.Prelude.{◌%◌, ◌&&◌, ◌*◌, ◌++◌, ◌<◌, ◌==◌, ◌^◌, ◌∷◌, ◌≡◌, ◌≤ℤ◌, ◌≤◌, IfOk, List, None, OnOk};
+ghost use Rattle.std.specs.Prelude.{[], length, map, nat_le, neg_ℤ, pos, ℕ};
+ghost use Rattle.net_plan.specs.{Ranges.{IsInRange, IsWithin}, declared.ids.DeviceId.DeviceId as DeviceIdValue};
+ghost use Rattle.net_plan.specs.declared.{network.Network.Network as NetworkValue, tables.Row.Row};
 ghost use Rattle.run_law.specs.timed.Arrivals.{is_taken_in};
-ghost use Rattle.net_plan.specs.declared.ids.DeviceId.{DeviceId as DeviceIdValue};
-ghost use Rattle.net_plan.specs.declared.tables.Row.{Row};
 ghost use Rattle.schedule_tables.specs.Entries.{IsEntry, IsEntryInRange};
-ghost use Rattle.switch_ports.specs.Intakes.{AreEntrances, HaveEntries, IsCycleFit, IsTakenSo, IsWhole, Takes, comes_to, cycle_of, entering_by, entrance_cmp, entrance_of, fault_of, last_in, row_arrival};
-ghost use Rattle.switch_ports.specs.Sites.{IsSiteOf};
-ghost use Rattle.switch_ports.specs.Standpoints.{IsSiteInRange};
 ghost use Rattle.tte_units.specs.Amount.{amount};
+ghost use Rattle.switch_ports.specs.Intakes.{AreEntrances, HaveEntries, IsCycleFit, IsTakenSo, IsWhole, Takes};
+ghost use Rattle.switch_ports.specs.Intakes.{comes_to, cycle_of, entering_by, entrance_cmp, entrance_of, fault_of};
+ghost use Rattle.switch_ports.specs.{Intakes.{last_in, row_arrival}, Sites.IsSiteOf, Standpoints.IsSiteInRange};
 
 use crate::Site;
 use net_plan::{LinkId, Network, RowId, VlId, Way};

@@ -1,9 +1,7 @@
-ghost use Rattle.std.specs.Prelude.{◌≡◌, ◌≤ℤ◌, ◌<ℤ◌, IfSome, IsSomeAnd, IsTrue, IsFalse};
-ghost use Rattle.net_plan.specs.declared.ids.DeviceId.{DeviceId};
-ghost use Rattle.net_plan.specs.declared.network.Network.{Network};
+ghost use Rattle.std.specs.Prelude.{◌<ℤ◌, ◌≡◌, ◌≤ℤ◌, IfSome, IsFalse, IsSomeAnd, IsTrue};
+ghost use Rattle.net_plan.specs.declared.{ids.DeviceId.DeviceId, network.Network.Network};
 ghost use Rattle.run_law.specs.records.Frames.{integration_frame};
-ghost use Rattle.switch_ports.specs.Due.{least_of};
-ghost use Rattle.switch_ports.specs.Sites.{IsSiteOf};
+ghost use Rattle.switch_ports.specs.{Due.least_of, Sites.IsSiteOf};
 
 use crate::{Site, Switch};
 use net_plan::LinkId;

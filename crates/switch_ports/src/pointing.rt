@@ -1,13 +1,9 @@
-ghost use Rattle.std.specs.Prelude.{◌≡◌, ◌*◌, ℕ, pos, ◌-ℤ◌, ◌+ℤ◌, ◌&&◌, int_lt};
-ghost use Rattle.std.specs.Int.{int_div_euclid};
+ghost use Rattle.std.specs.{Int.int_div_euclid, Prelude.{◌&&◌, ◌*◌, ◌+ℤ◌, ◌-ℤ◌, ◌≡◌, int_lt, pos, ℕ}};
 ghost use Rattle.clock_correction.specs.Deviation.{IsSmall};
-ghost use Rattle.net_plan.specs.Ranges.{IsInRange};
-ghost use Rattle.net_plan.specs.declared.ids.DeviceId.{DeviceId};
-ghost use Rattle.net_plan.specs.declared.network.Network.{Network};
+ghost use Rattle.net_plan.specs.{Ranges.IsInRange, declared.{ids.DeviceId.DeviceId, network.Network.Network}};
 ghost use Rattle.run_law.specs.control.Collections.{dispatch_value, is_number, point_fault};
-ghost use Rattle.switch_ports.specs.Sites.{IsSiteOf};
-ghost use Rattle.switch_ports.specs.Standpoints.{IsAlive, IsPoint, IsSiteInRange};
 ghost use Rattle.tte_units.specs.Amount.{amount, units_of};
+ghost use Rattle.switch_ports.specs.{Sites.IsSiteOf, Standpoints.{IsAlive, IsPoint, IsSiteInRange}};
 
 use crate::hearing::shown;
 use crate::{Site, Standpoint};

@@ -1,18 +1,15 @@
 //! Frames that are no control frames.
 
-ghost use Rattle.std.specs.Prelude.{◌≡◌, ◌≤◌, ◌+◌, length, ℕ, Option, None, All};
-ghost use Rattle.net_plan.specs.Ranges.{IsInRange};
-ghost use Rattle.net_plan.specs.declared.ids.DeviceId.{DeviceId};
-ghost use Rattle.net_plan.specs.declared.ids.VlId.{VlId};
+ghost use Rattle.std.specs.Prelude.{◌+◌, ◌≡◌, ◌≤◌, All, None, Option, length, ℕ};
+ghost use Rattle.net_plan.specs.{Ranges.IsInRange, declared.ids.{DeviceId.DeviceId, VlId.VlId}};
 ghost use Rattle.net_plan.specs.declared.network.Network.{Network};
 ghost use Rattle.pcf_codec.specs.Fields.{field};
 ghost use Rattle.run_law.specs.timed.Arrivals.{octets_fault, timed_arrival};
-ghost use Rattle.switch_ports.specs.Intakes.{AreEntrances, IsTakenSo, IsWhole, last_in};
-ghost use Rattle.switch_ports.specs.Departing.{IsKeptSo, IsReady};
-ghost use Rattle.switch_ports.specs.Sites.{IsSiteOf};
-ghost use Rattle.switch_ports.specs.Standpoints.{IsAlive, standpoint_of};
 ghost use Rattle.sync_state.specs.declared.state.State.TheVariants.{Synchronised};
 ghost use Rattle.tte_units.specs.Amount.{amount};
+ghost use Rattle.switch_ports.specs.Departing.{IsKeptSo, IsReady};
+ghost use Rattle.switch_ports.specs.{Intakes.{AreEntrances, IsTakenSo, IsWhole, last_in}, Sites.IsSiteOf};
+ghost use Rattle.switch_ports.specs.Standpoints.{IsAlive, standpoint_of};
 
 use crate::departures::Taking;
 use crate::intake::Entrance;

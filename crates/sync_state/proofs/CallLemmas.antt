@@ -1,11 +1,8 @@
 -- One more call.
-use Rattle.std.proofs.Common.{◌≡◌, ◌⊎◌, ℕ, List, [], ◌∷◌, ◌++◌, fold, Option, None, inl, inr, refl, sym, ap, ◌∙◌, subst}
-use Rattle.std.proofs.lemmas.List.Sums.{fold_push}
+use Rattle.std.proofs.{Common.{◌++◌, ◌∙◌, ◌∷◌, ◌≡◌, ◌⊎◌, List, None, Option, [], ap, fold, inl, inr, refl, subst, sym, ℕ}, lemmas.List.Sums.fold_push}
 use Rattle.tte_units.specs.declared.units.Units.{Units}
-use Rattle.sync_state.specs.declared.plan.SyncPlan.{SyncPlan}
-use Rattle.sync_state.specs.declared.state.State.{State}
-use Rattle.sync_state.specs.Standing.{Standing, state_at_start, adjustment_at_start}
-use Rattle.sync_state.specs.Calls.{Call, next_state, next_adjustment, next_number, next_integrated, after, after_all, IsAnswered, StandsAfter}
+use Rattle.sync_state.specs.Calls.{Call, IsAnswered, StandsAfter, after, after_all, next_adjustment, next_integrated, next_number, next_state}
+use Rattle.sync_state.specs.{Standing.{Standing, adjustment_at_start, state_at_start}, declared.{plan.SyncPlan.SyncPlan, state.State.State}}
 
 -- a list that ends with y is split within the front, or at y
 push_split : {X : Type 0} (xs : List X) (y : X) (ps : List X) (x : X) (qs : List X) → xs ++ y ∷ [] ≡ ps ++ x ∷ qs

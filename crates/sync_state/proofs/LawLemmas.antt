@@ -1,20 +1,12 @@
 -- Laws of the verdicts.
-use Rattle.std.proofs.Common.{◌≡◌, nat_le, if◌then◌else◌, ℤ, ◌+ℤ◌, ◌-ℤ◌, Bool, true, false, Option, Some, None, option_and_then, option_map, refl, sym, ap, ◌∙◌, arith}
-use Rattle.std.proofs.lemmas.Int.{ints}
-use Rattle.std.proofs.lemmas.Option.{same_Some}
-use Rattle.tte_units.specs.declared.units.Units.{Units}
-use Rattle.tte_units.specs.Mean.{mean_of, IsMean}
-use Rattle.tte_units.proofs.Means.{mean_of-floor}
-use Rattle.pcf_values.specs.declared.channel.Channel.TheVariants.{A, B}
-use Rattle.membership.specs.declared.frame.HeardFrame.{HeardFrame}
-use Rattle.membership.specs.Members.{count_of}
-use Rattle.membership.specs.Summary.{Summary}
+use Rattle.std.proofs.Common.{if◌then◌else◌, ◌+ℤ◌, ◌-ℤ◌, ◌∙◌, ◌≡◌, Bool, None, Option, Some, ap, arith, false, nat_le, option_and_then, option_map, refl, sym}
+use Rattle.std.proofs.{Common.{true, ℤ}, lemmas.{Int.ints, Option.same_Some}}
 use Rattle.clock_correction.specs.Correction.{correction_of}
-use Rattle.sync_state.specs.declared.answers.Verdict.{Verdict}
-use Rattle.sync_state.specs.declared.answers.Verdict.TheVariants.{Corrected, SyncClique, AsyncClique, Cleared}
-use Rattle.sync_state.specs.Plan.{expected_at}
-use Rattle.sync_state.specs.Standing.{Standing}
-use Rattle.sync_state.specs.Verdicts.{HasVerdict, deviation_by, deviation_on}
+use Rattle.membership.specs.{Members.count_of, Summary.Summary, declared.frame.HeardFrame.HeardFrame}
+use Rattle.pcf_values.specs.declared.channel.Channel.TheVariants.{A, B}
+use Rattle.tte_units.{proofs.Means.mean_of-floor, specs.{Mean.{IsMean, mean_of}, declared.units.Units.Units}}
+use Rattle.sync_state.specs.{Plan.expected_at, Standing.Standing, Verdicts.{HasVerdict, deviation_by, deviation_on}, declared.answers.Verdict.Verdict}
+use Rattle.sync_state.specs.declared.answers.Verdict.TheVariants.{AsyncClique, Cleared, Corrected, SyncClique}
 
 pub one_verdict : (s : Standing) (heard : Summary) (v w : Verdict) → HasVerdict s heard v → HasVerdict s heard w → v ≡ w
 one_verdict s heard Cleared Cleared a b = refl

@@ -1,24 +1,14 @@
 -- What a correction point comes to.
-use Rattle.std.proofs.Common.{refl, IsSome, IsSomeAnd, ◌≡◌, ◌↔◌, ℕ, ◌≤◌, max, leb, nat_le, if◌then◌else◌, ℤ, ◌+ℤ◌, ◌-ℤ◌, IsTrue, Bool, true, false, Option, Some, None, IfSome, option_map, option_and_then, sym, subst, arith}
+use Rattle.std.proofs.Common.{if◌then◌else◌, ◌+ℤ◌, ◌-ℤ◌, ◌↔◌, ◌≡◌, ◌≤◌, Bool, IfSome, IsSome, IsSomeAnd, IsTrue, None, Option, Some, arith, false, leb, max}
+use Rattle.std.proofs.{Common.{nat_le, option_and_then, option_map, refl, subst, sym, true, ℕ, ℤ}, lemmas.{Bool.{le-leb, leb-true}, Int.ints, Option.same_Some}}
 use Rattle.std.specs.Option.{unwrap_or}
-use Rattle.std.proofs.lemmas.Bool.{leb-true, le-leb}
-use Rattle.std.proofs.lemmas.Int.{ints}
-use Rattle.std.proofs.lemmas.Option.{same_Some}
-use Rattle.tte_units.specs.declared.units.Units.{Units}
-use Rattle.tte_units.specs.Mean.{mean_of, IsMean}
-use Rattle.tte_units.proofs.Means.{mean_of-floor}
+use Rattle.clock_correction.specs.{Correction.correction_of, Deviation.IsSmall}
+use Rattle.membership.specs.{Members.count_of, Summary.Summary, declared.frame.HeardFrame.HeardFrame}
 use Rattle.pcf_values.specs.declared.channel.Channel.TheVariants.{A, B}
-use Rattle.membership.specs.declared.frame.HeardFrame.{HeardFrame}
-use Rattle.membership.specs.Members.{count_of}
-use Rattle.membership.specs.Summary.{Summary}
-use Rattle.clock_correction.specs.Deviation.{IsSmall}
-use Rattle.clock_correction.specs.Correction.{correction_of}
-use Rattle.sync_state.specs.declared.answers.Verdict.{Verdict}
-use Rattle.sync_state.specs.declared.answers.Verdict.TheVariants.{Corrected, SyncClique, AsyncClique, Cleared}
-use Rattle.sync_state.specs.Plan.{expected_at}
-use Rattle.sync_state.specs.Standing.{Standing}
-use Rattle.sync_state.specs.Verdicts.{IsNear, IsOutnumbered, IfCorrected, deviation_by, deviation_on, members_of_best}
-use Rattle.sync_state.specs.Calls.{adjustment_by}
+use Rattle.tte_units.{proofs.Means.mean_of-floor, specs.{Mean.{IsMean, mean_of}, declared.units.Units.Units}}
+use Rattle.sync_state.specs.{Calls.adjustment_by, Plan.expected_at, Standing.Standing}
+use Rattle.sync_state.specs.{Verdicts.{IfCorrected, IsNear, IsOutnumbered, deviation_by, deviation_on, members_of_best}, declared.answers.Verdict.Verdict}
+use Rattle.sync_state.specs.declared.answers.Verdict.TheVariants.{AsyncClique, Cleared, Corrected, SyncClique}
 
 best_within : (best : Option HeardFrame) (n : ℕ) → (unwrap_or (option_map (λ frame. count_of frame.members) best) 0 ≤ n) ↔ IfSome best
     (λ frame. count_of frame.members ≤ n)

@@ -1,10 +1,8 @@
-use Rattle.std.specs.Prelude.{◌≡◌, ◌+ℤ◌, ◌-ℤ◌}
-use Rattle.tte_units.specs.declared.units.Units.{Units}
+use Rattle.std.specs.Prelude.{◌+ℤ◌, ◌-ℤ◌, ◌≡◌}
 use Rattle.membership.specs.Summary.{Summary}
-use Rattle.sync_state.specs.declared.answers.Verdict.{Verdict}
+use Rattle.tte_units.specs.declared.units.Units.{Units}
+use Rattle.sync_state.specs.{Standing.Standing, Verdicts.HasVerdict, declared.answers.Verdict.Verdict}
 use Rattle.sync_state.specs.declared.answers.Verdict.TheVariants.{Corrected}
-use Rattle.sync_state.specs.Standing.{Standing}
-use Rattle.sync_state.specs.Verdicts.{HasVerdict}
 
 -- a correction point comes to one thing
 abbrev pub VerdictIsOne : Type 0

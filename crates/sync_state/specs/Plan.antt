@@ -1,5 +1,5 @@
-use Rattle.std.specs.Prelude.{ℕ, ℤ, pos, neg_ℤ, ◌+◌, ◌^◌, ◌+ℤ◌, ◌*ℤ◌, ◌≤ℤ◌}
-use Rattle.tte_units.specs.Reading.{least_reading, greatest_reading}
+use Rattle.std.specs.Prelude.{◌*ℤ◌, ◌+ℤ◌, ◌+◌, ◌^◌, ◌≤ℤ◌, pos, ℕ, ℤ}
+use Rattle.tte_units.specs.Reading.{greatest_reading, least_reading}
 use Rattle.sync_state.specs.declared.plan.SyncPlan.{SyncPlan}
 
 -- the cycle's length and the expected offset are within their ranges

@@ -1,8 +1,7 @@
-use Rattle.std.specs.Prelude.{◌≡◌, ℕ, pos, Option, Some, None, unwrap_or}
+use Rattle.std.specs.Prelude.{◌≡◌, None, Option, Some, pos, unwrap_or, ℕ}
 use Rattle.tte_units.specs.declared.units.Units.{Units}
-use Rattle.sync_state.specs.declared.plan.SyncPlan.{SyncPlan}
-use Rattle.sync_state.specs.declared.state.State.{State}
-use Rattle.sync_state.specs.declared.state.State.TheVariants.{Off, Integrating, Joining, Synchronised}
+use Rattle.sync_state.specs.declared.{plan.SyncPlan.SyncPlan, state.State.State}
+use Rattle.sync_state.specs.declared.state.State.TheVariants.{Integrating, Joining, Off, Synchronised}
 
 -- where a device stands: its state, its adjustment, the cycle of its next correction point, and the cycle by whose
 -- frame it joined last

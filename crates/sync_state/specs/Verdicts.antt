@@ -1,17 +1,12 @@
-use Rattle.std.specs.Prelude.{◌≡◌, ◌⊎◌, ℕ, ◌≤◌, ◌-ℤ◌, nat_le, if◌then◌else◌, Option, Some, None, IfSome, option_and_then, option_map, unwrap_or, ⊤}
-use Rattle.tte_units.specs.declared.units.Units.{Units}
-use Rattle.pcf_values.specs.declared.channel.Channel.{Channel}
-use Rattle.pcf_values.specs.declared.channel.Channel.TheVariants.{A, B}
+use Rattle.std.specs.Prelude.{if◌then◌else◌, ◌-ℤ◌, ◌≡◌, ◌≤◌, ◌⊎◌, IfSome, None, Option, Some, nat_le, option_and_then}
+use Rattle.std.specs.Prelude.{option_map, unwrap_or, ℕ, ⊤}
+use Rattle.clock_correction.specs.{Correction.correction_of, Deviation.{IsSmall, deviation_of}}
+use Rattle.membership.specs.{BestFrame.Qualifies, Members.count_of, Summary.{Summary, best_on}}
 use Rattle.membership.specs.declared.frame.HeardFrame.{HeardFrame}
-use Rattle.membership.specs.Members.{count_of}
-use Rattle.membership.specs.BestFrame.{Qualifies}
-use Rattle.membership.specs.Summary.{Summary, best_on}
-use Rattle.clock_correction.specs.Deviation.{deviation_of, IsSmall}
-use Rattle.clock_correction.specs.Correction.{correction_of}
-use Rattle.sync_state.specs.declared.answers.Verdict.{Verdict}
-use Rattle.sync_state.specs.declared.answers.Verdict.TheVariants.{Corrected, SyncClique, AsyncClique, Cleared}
-use Rattle.sync_state.specs.Plan.{expected_at}
-use Rattle.sync_state.specs.Standing.{Standing, IsAtIntegration}
+use Rattle.pcf_values.specs.declared.channel.Channel.{Channel, TheVariants.{A, B}}
+use Rattle.tte_units.specs.declared.units.Units.{Units}
+use Rattle.sync_state.specs.{Plan.expected_at, Standing.{IsAtIntegration, Standing}, declared.answers.Verdict.Verdict}
+use Rattle.sync_state.specs.declared.answers.Verdict.TheVariants.{AsyncClique, Cleared, Corrected, SyncClique}
 
 -- the deviation that a frame shows at the next correction point
 abbrev pub deviation_by : Standing → HeardFrame → Units

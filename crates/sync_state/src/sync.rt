@@ -1,13 +1,13 @@
-ghost use Rattle.std.specs.Prelude.{◌≡◌, ◌↔◌, ◌≤◌, ◌≤ℤ◌, ◌+◌, ◌+ℤ◌, ◌^◌, ℕ, pos, neg_ℤ, [], ◌∷◌, ◌++◌, List, IsTrue, IfSome, IfNone, IsSomeAnd, SomeIff, Option};
-ghost use Rattle.tte_units.specs.Reading.{least_reading, greatest_reading};
-ghost use Rattle.tte_units.specs.declared.units.Units.{Units};
-ghost use Rattle.sync_state.specs.Plan.{IsPlan};
-ghost use Rattle.sync_state.specs.Standing.{begun, next_point, IsAtIntegration};
-ghost use Rattle.sync_state.specs.Integration.{Integrates, joined_by};
-ghost use Rattle.sync_state.specs.Verdicts.{HasVerdict, IfCorrected, IsNear, IsOutnumbered, deviation_on, members_of_best};
-ghost use Rattle.membership.specs.Summary.{Summary, best_on};
+ghost use Rattle.std.specs.Prelude.{◌++◌, ◌+ℤ◌, ◌+◌, ◌^◌, ◌↔◌, ◌∷◌, ◌≡◌, ◌≤ℤ◌, ◌≤◌, IfNone, IfSome, IsSomeAnd, IsTrue};
+ghost use Rattle.std.specs.Prelude.{List, Option, SomeIff, [], neg_ℤ, pos, ℕ};
 ghost use Rattle.clock_correction.specs.Deviation.{IsSmall};
-ghost use Rattle.sync_state.specs.Calls.{turned_on, heard_frame, reached_point, after, CarriesOn, StandsAfter};
+ghost use Rattle.membership.specs.Summary.{Summary, best_on};
+ghost use Rattle.tte_units.specs.{Reading.{greatest_reading, least_reading}, declared.units.Units.Units};
+ghost use Rattle.sync_state.specs.Calls.{CarriesOn, StandsAfter, after, heard_frame, reached_point, turned_on};
+ghost use Rattle.sync_state.specs.{Integration.{Integrates, joined_by}, Plan.IsPlan};
+ghost use Rattle.sync_state.specs.Standing.{IsAtIntegration, begun, next_point};
+ghost use Rattle.sync_state.specs.Verdicts.{HasVerdict, IfCorrected, IsNear, IsOutnumbered, deviation_on};
+ghost use Rattle.sync_state.specs.Verdicts.{members_of_best};
 
 use crate::{Joined, State, SyncPlan, Verdict};
 use clock_correction::{correction, deviation};
@@ -33,8 +33,7 @@ pub struct Sync {
 }
 
 impl Model for Sync {
-    ghost use Rattle.sync_state.specs.Plan.{IsPlan};
-    ghost use Rattle.sync_state.specs.Standing.{Standing};
+    ghost use Rattle.sync_state.specs.{Plan.IsPlan, Standing.Standing};
 
     ghost Value = { Standing };
 

@@ -1,7 +1,7 @@
 ghost use Rattle.std.specs.Prelude.{IfOk};
-ghost use Rattle.collection_history.specs.Gathered.{IsGathered, IsHeld, IsLatest};
+ghost use Rattle.audit_collections.specs.Gathered.{IsGathered, IsHeld, IsLatest};
 
-use collection_history::{CollectionHistory, Emitted, Gathering};
+use audit_collections::{CollectionHistory, Emitted, Gathering};
 use compression::{Compressed, Taken};
 use pcf_values::Members;
 use std::alloc::{AllocError, Global};

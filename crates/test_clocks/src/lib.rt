@@ -1,4 +1,5 @@
-//! Tests of what keeps the common time: clocks, their correction, membership, compression and the synchronisation state.
+//! Tests of what keeps the common time: clocks, their correction, membership, compression and the synchronisation
+// state.
 #![tactic(auto)]
 
 #[cfg(test)]

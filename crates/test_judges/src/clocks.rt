@@ -1,13 +1,13 @@
 use crate::networks::MASTER;
-use clock_judge::{
+use audit_clocks::{
     Moment, Point, Sending, coming_cycle, coming_point, next_sending, reaches, sends,
 };
+use audit_devices::Shown;
+use audit_events::EventHistory;
 use device_rules::PointVerdict;
-use event_history::EventHistory;
 use membership::Heard;
 use net_file::read_network;
 use net_plan::DeviceId;
-use record_history::Shown;
 use std::test::Fail;
 
 #[test]

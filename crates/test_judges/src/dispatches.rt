@@ -1,10 +1,10 @@
 use crate::networks::SENDER;
-use dispatch_debts::RowDebtor;
-use event_history::{EventHistory, reading_law};
+use audit_devices::{Standings, Takings};
+use audit_dispatches::Exits;
+use audit_events::{EventHistory, reading_law};
+use audit_places::Places;
+use audit_unpaid_dispatches::RowDebtor;
 use net_file::read_network;
-use record_history::{Standings, Takings};
-use record_places::Places;
-use schedule_judge::Exits;
 use std::test::Fail;
 
 #[test]

@@ -1,14 +1,14 @@
 use crate::networks::MASTER;
-use emission_debts::first_unemitted;
-use event_history::EventHistory;
+use audit_devices::Carried;
+use audit_events::EventHistory;
+use audit_places::{Place, Places};
+use audit_stretches::StretchHistory;
+use audit_unpaid_emissions::first_unemitted;
 use net_file::read_network;
 use net_plan::{DeviceId, LinkId};
 use pcf_values::Members;
-use record_history::Carried;
-use record_places::{Place, Places};
 use run_law::{Judgement, NoteBody};
 use std::test::Fail;
-use stretch_history::StretchHistory;
 use tte_units::Units;
 
 #[test]

@@ -1,9 +1,9 @@
 ghost use Rattle.std.specs.Prelude.{◌≡◌, ◌≤◌, ◌<◌, [], IfOk, length, unsigned_abs};
-ghost use Rattle.event_history.specs.Remembering.{Remembers, RemembersSome};
+ghost use Rattle.audit_events.specs.Remembering.{Remembers, RemembersSome};
 ghost use Rattle.net_plan.specs.Ranges.{IsInRange};
 
 use crate::networks::MASTER;
-use event_history::{EventHistory, OutOfMemory, Settings, reading_law};
+use audit_events::{EventHistory, OutOfMemory, Settings, reading_law};
 use net_file::read_network;
 use net_plan::{DeviceId, Event, LinkId, Network, Way, What};
 use std::test::Fail;

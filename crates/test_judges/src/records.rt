@@ -1,8 +1,8 @@
 use crate::networks::MASTER;
+use audit_devices::{Mark, Takings};
 use net_file::read_network;
 use net_plan::{DeviceId, LinkId, VlId};
 use pcf_values::Members;
-use record_history::{Mark, Takings};
 use run_law::{NoteBody, Why};
 use std::test::Fail;
 use sync_state::State;

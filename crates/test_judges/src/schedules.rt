@@ -1,9 +1,9 @@
 use crate::networks::SENDER;
-use event_history::EventHistory;
+use audit_devices::{Shown, Takings};
+use audit_dispatches::{At, Dispatch, Exits, Loss, loses_dispatch, sends_some, sends_timed};
+use audit_events::EventHistory;
 use net_file::read_network;
 use net_plan::{DeviceId, LinkId, VlId};
-use record_history::{Shown, Takings};
-use schedule_judge::{At, Dispatch, Exits, Loss, loses_dispatch, sends_some, sends_timed};
 use std::test::Fail;
 
 #[test]

@@ -1,13 +1,13 @@
 use crate::networks::MASTER;
-use event_history::EventHistory;
-use kept_records::KeptRecords;
+use audit_devices::Standings;
+use audit_events::EventHistory;
+use audit_places::Places;
+use audit_records::KeptRecords;
+use audit_unpaid::{Debtor, Paid, Payments};
 use net_file::read_network;
 use net_plan::{DeviceId, LinkId};
-use record_history::Standings;
-use record_places::Places;
 use run_law::NoteBody;
 use std::test::Fail;
-use unpaid_debts::{Debtor, Paid, Payments};
 
 #[test]
 fn a_record_pays_what_its_cause_brings(rt: HostRuntime) -> Result<(), Fail> {

@@ -1,7 +1,5 @@
-ghost use Rattle.std.specs.Prelude.{◌≡◌, ◌^◌, [], IfOk, Some, false};
-ghost use Rattle.net_plan.specs.NameText.{IsNameText};
-ghost use Rattle.net_plan.specs.Paths.{IsTree};
-ghost use Rattle.net_plan.specs.Places.{is_end_system};
+ghost use Rattle.std.specs.Prelude.{◌^◌, ◌≡◌, IfOk, Some, [], false};
+ghost use Rattle.net_plan.specs.{NameText.IsNameText, Paths.IsTree, Places.is_end_system};
 ghost use Rattle.net_plan.specs.Ranges.{IsDeviceInRange, IsInRange, IsWithin};
 
 use net_plan::{

@@ -1,7 +1,5 @@
-ghost use Rattle.std.specs.Prelude.{◌≡◌, ◌<◌, ◌≤◌, ◌^◌, IfOk, IfSome, is_some, length, true};
-ghost use Rattle.std.specs.List.{All};
-ghost use Rattle.net_plan.specs.NameText.{IsNameText};
-ghost use Rattle.net_plan.specs.Places.{is_end_system, is_master};
+ghost use Rattle.std.specs.{List.All, Prelude.{◌<◌, ◌^◌, ◌≡◌, ◌≤◌, IfOk, IfSome, is_some, length, true}};
+ghost use Rattle.net_plan.specs.{NameText.IsNameText, Places.{is_end_system, is_master}};
 ghost use Rattle.net_plan.specs.Ranges.{IsDeviceInRange, IsInRange, IsLinkInRange, IsRowInRange, IsVlInRange, IsWithin};
 ghost use Rattle.net_plan.specs.declared.network.Network.{Network};
 

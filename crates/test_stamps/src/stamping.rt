@@ -160,8 +160,8 @@ fn a_broken_master_stamps_no_line(rt: HostRuntime) -> Result<(), Fail> {
     )
 }
 
-// The fast clock of m1 shows 149,422,079,999 at line 2. At line 3 it shows 149,422,080,000, which is 19 granules, and is
-// corrected then: set back by about the 7,470,730 by which the others are behind it. The stamps of line 3 are of the
+// The fast clock of m1 shows 149,422,079,999 at line 2. At line 3 it shows 149,422,080,000, which is 19 granules, and
+// is corrected then: set back by about the 7,470,730 by which the others are behind it. The stamps of line 3 are of the
 // clocks before the corrections of its time.
 #[test]
 fn stamps_come_before_the_corrections_of_the_instant(rt: HostRuntime) -> Result<(), Fail> {

@@ -1,6 +1,5 @@
-ghost use Rattle.std.specs.Prelude.{◌≡◌, ◌^◌, [], IfOk};
-ghost use Rattle.net_plan.specs.NameText.{IsNameText};
-ghost use Rattle.net_plan.specs.Ranges.{IsDeviceInRange, IsInRange, IsWithin};
+ghost use Rattle.std.specs.Prelude.{◌^◌, ◌≡◌, IfOk, []};
+ghost use Rattle.net_plan.specs.{NameText.IsNameText, Ranges.{IsDeviceInRange, IsInRange, IsWithin}};
 
 use net_plan::{
     Device, DeviceId, Devices, Event, Link, LinkId, Links, Name, Network, Octets, Role, Rows,

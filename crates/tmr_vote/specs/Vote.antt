@@ -1,6 +1,7 @@
 -- The vote of two out of three.
-use Rattle.std.specs.Prelude.{◌≡◌, ◌≢◌, ◌||◌, ℕ, ◌≤◌, ◌<◌, zero, suc, Bool, false, List, Option, Some, None, nat_eq, option_and_then, if◌then◌else◌}
 use Rattle.std.specs.Cmp.Lexicographic.{pointwise}
+use Rattle.std.specs.Prelude.{if◌then◌else◌, ◌<◌, ◌||◌, ◌≡◌, ◌≢◌, ◌≤◌, Bool, List, None, Option, Some, false, nat_eq}
+use Rattle.std.specs.Prelude.{option_and_then, suc, zero, ℕ}
 
 -- a ballot: the payload of each of its three seats, if the seat is cast
 pub record Votes : Type 0 where

@@ -1,4 +1,5 @@
 pub mod Safe
+pub mod Words
 pub mod schedule
 pub mod spans
 pub mod faults

@@ -2,5 +2,4 @@
 pub mod TurnedOn
 pub mod Senders
 pub mod Firm
-pub mod Ways
 pub mod Channels

@@ -1,20 +1,11 @@
 -- Where the frames come from that devices take.
-use Rattle.std.specs.Prelude.{◌≡◌, ℕ, ◌<◌, Some, slice_get}
-use Rattle.net_plan.specs.declared.ids.DeviceId.{DeviceId}
-use Rattle.net_plan.specs.declared.ids.LinkId.{LinkId}
-use Rattle.net_plan.specs.declared.ids.VlId.{VlId}
-use Rattle.net_plan.specs.declared.tables.VirtualLink.{VirtualLink}
+use Rattle.std.specs.Prelude.{◌<◌, ◌≡◌, Some, slice_get, ℕ}
+use Rattle.net_plan.specs.declared.{ids.{DeviceId.DeviceId, LinkId.LinkId, VlId.VlId}, tables.VirtualLink.VirtualLink}
 use Rattle.precision_law.specs.Views.{IsGood, IsView, View}
-use Rattle.run_law.specs.law.Safety.{IsFirstDispatch}
-use Rattle.run_law.specs.records.Causes.{GoesBackTo}
-use Rattle.run_law.specs.records.Frames.{tt_frame_by}
+use Rattle.run_law.specs.{law.Safety.IsFirstDispatch, records.{Causes.GoesBackTo, Frames.tt_frame_by}}
 use Rattle.run_law.specs.records.Happenings.{Happening, time_of}
-use Rattle.schedule_tables.specs.Entries.{IsEntry, source_of}
-use Rattle.schedule_tables.specs.declared.entry.Entry.{Entry}
-use Rattle.traffic_law.specs.Dispatched.{IsRowDispatch}
-use Rattle.traffic_law.specs.Fits.{FieldsFit}
-use Rattle.traffic_law.specs.Passed.{ArrivesInSpan}
-use Rattle.traffic_law.specs.Spans.{IsInSpan}
+use Rattle.schedule_tables.specs.{Entries.{IsEntry, source_of}, declared.entry.Entry.Entry}
+use Rattle.traffic_law.specs.{Dispatched.IsRowDispatch, Fits.FieldsFit, Passed.ArrivesInSpan, Spans.IsInSpan}
 use Rattle.traffic_law.specs.Taken.{IsTaking}
 
 -- what lies in the span of an earlier cycle is earlier

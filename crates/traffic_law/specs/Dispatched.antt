@@ -1,23 +1,14 @@
 -- The records of dispatches by the schedule.
-use Rattle.std.specs.Prelude.{◌≡◌, ℕ, ◌+◌, ◌*◌, pos, false, length}
-use Rattle.net_plan.specs.declared.ids.DeviceId.{DeviceId}
-use Rattle.net_plan.specs.declared.ids.LinkId.{LinkId}
-use Rattle.net_plan.specs.declared.ids.VlId.{VlId}
-use Rattle.precision_law.specs.Blocks.{state_left}
-use Rattle.precision_law.specs.Views.{IsGood, IsView, View}
-use Rattle.run_law.specs.declared.note.NoteBody.TheVariants as notes
-use Rattle.run_law.specs.device.LocalClocks.{Reaches}
-use Rattle.run_law.specs.records.Happenings.{Happening, time_of}
-use Rattle.run_law.specs.records.Order.{IsIn}
-use Rattle.run_law.specs.scenario.Scenarios.{is_broken}
-use Rattle.run_law.specs.scenario.Ways.{is_cut, way_from}
-use Rattle.run_law.specs.timed.Dispatching.{HasAtHand}
-use Rattle.schedule_tables.specs.Entries.{IsEntry, source_of}
-use Rattle.schedule_tables.specs.Windows.{OccursIn}
-use Rattle.schedule_tables.specs.declared.entry.Entry.{Entry}
+use Rattle.std.specs.Prelude.{◌*◌, ◌+◌, ◌≡◌, false, length, pos, ℕ}
+use Rattle.net_plan.specs.declared.ids.{DeviceId.DeviceId, LinkId.LinkId, VlId.VlId}
+use Rattle.precision_law.specs.{Blocks.state_left, Views.{IsGood, IsView, View}}
+use Rattle.run_law.specs.{device.LocalClocks.Reaches, records.{Happenings.{Happening, time_of}, Order.IsIn}}
+use Rattle.run_law.specs.{scenario.{Scenarios.is_broken, Ways.{is_cut, way_from}}, timed.Dispatching.HasAtHand}
+use Rattle.schedule_tables.specs.{Entries.{IsEntry, source_of}, Windows.OccursIn, declared.entry.Entry.Entry}
 use Rattle.sync_state.specs.declared.state.State.TheVariants.{Synchronised}
-use Rattle.traffic_law.specs.Spans.{IsReachedInSpan}
 use Rattle.tte_units.specs.Amount.{amount}
+use Rattle.traffic_law.specs.Spans.{IsReachedInSpan}
+use Rattle.run_law.specs.declared.note.NoteBody.TheVariants as notes
 
 -- the record is that by which the device dispatches the row's frame of the cycle
 pub record IsRowDispatch (v : View) (h : Happening) (device : DeviceId) (link : LinkId) (cause : ℕ) (vl : VlId)

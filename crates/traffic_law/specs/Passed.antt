@@ -1,24 +1,14 @@
 -- Where the octets of a dispatch come from, and when they arrive.
-use Rattle.std.specs.Prelude.{◌≡◌, ◌⊎◌, ℕ, ◌+◌, ◌*◌, ◌≤◌, ◌<◌, pos, ◌+ℤ◌, ◌≤ℤ◌, false, Some}
-use Rattle.net_plan.specs.declared.ids.DeviceId.{DeviceId}
-use Rattle.net_plan.specs.declared.ids.LinkId.{LinkId}
-use Rattle.net_plan.specs.declared.ids.VlId.{VlId}
-use Rattle.net_plan.specs.declared.tables.Way.{Way}
+use Rattle.std.specs.Prelude.{◌*◌, ◌+ℤ◌, ◌+◌, ◌<◌, ◌≡◌, ◌≤ℤ◌, ◌≤◌, ◌⊎◌, Some, false, pos, ℕ}
+use Rattle.net_plan.specs.declared.{ids.{DeviceId.DeviceId, LinkId.LinkId, VlId.VlId}, tables.Way.Way}
 use Rattle.precision_law.specs.Views.{IsGood, IsView, View}
-use Rattle.run_law.specs.declared.note.NoteBody.TheVariants as notes
-use Rattle.run_law.specs.device.Standpoints.{cycle_at, offset_in_cycle}
-use Rattle.run_law.specs.records.Frames.{tt_frame_by}
-use Rattle.run_law.specs.records.Happenings.{Happening, numbered, time_of}
-use Rattle.run_law.specs.records.Order.{IsIn}
-use Rattle.run_law.specs.scenario.Devices.{is_end}
-use Rattle.run_law.specs.scenario.Ways.{delay_at}
-use Rattle.run_law.specs.timed.Dispatching.{last_accepted}
-use Rattle.schedule_tables.specs.Entries.{IsEntry}
-use Rattle.schedule_tables.specs.Windows.{arrival_of, port_time}
-use Rattle.schedule_tables.specs.declared.entry.Entry.{Entry}
-use Rattle.traffic_law.specs.Dispatched.{IsRowDispatch}
-use Rattle.traffic_law.specs.Spans.{IsInSpan, IsTimedAt, shown_at}
+use Rattle.run_law.specs.{device.Standpoints.{cycle_at, offset_in_cycle}, records.Frames.tt_frame_by}
+use Rattle.run_law.specs.{records.{Happenings.{Happening, numbered, time_of}, Order.IsIn}, scenario.Devices.is_end}
+use Rattle.run_law.specs.{scenario.Ways.delay_at, timed.Dispatching.last_accepted}
+use Rattle.schedule_tables.specs.{Entries.IsEntry, Windows.{arrival_of, port_time}, declared.entry.Entry.Entry}
 use Rattle.tte_units.specs.Amount.{amount}
+use Rattle.traffic_law.specs.{Dispatched.IsRowDispatch, Spans.{IsInSpan, IsTimedAt, shown_at}}
+use Rattle.run_law.specs.declared.note.NoteBody.TheVariants as notes
 
 -- the octets are the frame that the sender makes
 pub record IsMade (v : View) (h : Happening) (device : DeviceId) (cause cycle : ℕ) (entry : Entry) : Type 0 where

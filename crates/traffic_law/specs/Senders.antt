@@ -1,17 +1,10 @@
 -- Who puts octets of its own on a link.
-use Rattle.std.specs.Prelude.{◌≡◌, ℕ, true, false, List, Some}
-use Rattle.net_plan.specs.Places.{link_at}
-use Rattle.net_plan.specs.declared.event.What.TheVariants.{Send}
-use Rattle.net_plan.specs.declared.ids.DeviceId.{DeviceId}
-use Rattle.net_plan.specs.declared.ids.LinkId.{LinkId}
-use Rattle.net_plan.specs.declared.tables.Link.{Link}
-use Rattle.precision_law.specs.Blocks.{state_left}
-use Rattle.precision_law.specs.Epochs.{has_time}
-use Rattle.precision_law.specs.Views.{IsView, View}
+use Rattle.std.specs.Prelude.{◌≡◌, List, Some, false, true, ℕ}
+use Rattle.net_plan.specs.{Places.link_at, declared.{event.What.TheVariants.Send, ids.DeviceId.DeviceId}}
+use Rattle.net_plan.specs.declared.{ids.LinkId.LinkId, tables.Link.Link}
+use Rattle.precision_law.specs.{Blocks.state_left, Epochs.has_time, Views.{IsView, View}}
+use Rattle.run_law.specs.{records.{Happenings.Happening, Order.IsIn}, scenario.Scenarios.{is_broken, is_turned_on_at}}
 use Rattle.run_law.specs.declared.note.NoteBody.TheVariants as notes
-use Rattle.run_law.specs.records.Happenings.{Happening}
-use Rattle.run_law.specs.records.Order.{IsIn}
-use Rattle.run_law.specs.scenario.Scenarios.{is_broken, is_turned_on_at}
 
 -- only a broken device does
 abbrev pub SendersAreBroken : Type 0

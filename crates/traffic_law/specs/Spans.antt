@@ -1,10 +1,8 @@
 -- The span of a cycle: from behind its last correction to the first of the next cycle.
-use Rattle.std.specs.Prelude.{◌≡◌, ℕ, ◌+◌, ◌*◌, ◌≤◌, ℤ, pos, ◌+ℤ◌, ◌≤ℤ◌}
+use Rattle.std.specs.Prelude.{◌*◌, ◌+ℤ◌, ◌+◌, ◌≡◌, ◌≤ℤ◌, ◌≤◌, pos, ℕ, ℤ}
 use Rattle.net_plan.specs.declared.ids.DeviceId.{DeviceId}
 use Rattle.precision_law.specs.Blocks.{IsInBlock, IsOldAt, Stands, adjustment_left, state_left}
-use Rattle.precision_law.specs.Hulls.{first_correction}
-use Rattle.precision_law.specs.Standings.{ShowsIn}
-use Rattle.precision_law.specs.Views.{IsGood, IsView, View}
+use Rattle.precision_law.specs.{Hulls.first_correction, Standings.ShowsIn, Views.{IsGood, IsView, View}}
 use Rattle.run_law.specs.device.LocalClocks.{Reaches}
 use Rattle.sync_state.specs.declared.state.State.TheVariants.{Synchronised}
 use Rattle.traffic_law.specs.Rows.{IsInSchedule}

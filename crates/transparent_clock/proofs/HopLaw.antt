@@ -1,10 +1,7 @@
 -- The path error, from what the hops of a path add up to.
-use Rattle.std.proofs.Common.{◌≡◌, ℕ, suc, ◌+◌, ◌-◌, ◌*◌, ◌/◌, ◌^◌, ◌<◌, ◌≤◌, List, [], ◌∷◌, length, arith, refl}
-use Rattle.std.specs.Prelude.{All}
-use Rattle.std.specs.List.{sum_by}
-use Rattle.std.proofs.lemmas.List.Sums.{sum_by-cons}
-use Rattle.std.proofs.Math.Nat.{mul-le-mul_left, mul-le-mul_right}
-use Rattle.transparent_clock.specs.Hops.{Hop, IsHop, travel, growth, PermanentInTime}
+use Rattle.std.proofs.Common.{◌*◌, ◌+◌, ◌-◌, ◌/◌, ◌<◌, ◌^◌, ◌∷◌, ◌≡◌, ◌≤◌, List, [], arith, length, refl, suc, ℕ}
+use Rattle.std.{proofs.{Math.Nat.{mul-le-mul_left, mul-le-mul_right}, lemmas.List.Sums.sum_by-cons}, specs.{List.sum_by, Prelude.All}}
+use Rattle.transparent_clock.specs.Hops.{Hop, IsHop, PermanentInTime, growth, travel}
 
 -- the holds, what was measured of them, the wires, the delays and the jitters of a path
 record Totals (rho e n : ℕ) (hops : List Hop) : Type 0 where

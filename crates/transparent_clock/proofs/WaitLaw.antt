@@ -1,8 +1,5 @@
 -- How far a reading advances from arrival to permanence, from the clock laws.
-use Rattle.std.proofs.Common.{◌≡◌, ℕ, ◌+◌, ◌-◌, ◌*◌, ◌^◌, ◌≤◌, arith, inl, inr}
-use Rattle.std.specs.Int.{abs_diff}
-use Rattle.std.proofs.lemmas.Bool.{cases_lt}
-use Rattle.std.proofs.lemmas.Int.{ints}
+use Rattle.std.{proofs.{Common.{◌*◌, ◌+◌, ◌-◌, ◌^◌, ◌≡◌, ◌≤◌, arith, inl, inr, ℕ}, lemmas.{Bool.cases_lt, Int.ints}}, specs.Int.abs_diff}
 use Rattle.transparent_clock.specs.Points.{WaitsForPoint}
 
 -- in one unit of time a reading grows by no more than two grains and a unit

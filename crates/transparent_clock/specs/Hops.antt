@@ -1,6 +1,5 @@
 -- The way of a frame from the device that gives it, over links, to the device where it is permanent.
-use Rattle.std.specs.Prelude.{◌≡◌, ℕ, ◌+◌, ◌-◌, ◌*◌, ◌/◌, ◌^◌, ◌≤◌, List, length, sum_by, All}
-use Rattle.std.specs.Int.{abs_diff}
+use Rattle.std.specs.{Int.abs_diff, Prelude.{◌*◌, ◌+◌, ◌-◌, ◌/◌, ◌^◌, ◌≡◌, ◌≤◌, All, List, length, sum_by, ℕ}}
 use Rattle.drift_clock.specs.ClockLaws.{Measures}
 use Rattle.transparent_clock.specs.Points.{Waits}
 

@@ -1,7 +1,6 @@
 -- The point at which a frame is permanent.
-use Rattle.std.specs.Prelude.{ℕ, ◌+◌, ◌-◌, ◌*◌, ◌≤◌, ℤ, pos, ◌+ℤ◌, ◌-ℤ◌}
-use Rattle.drift_clock.specs.ClockLaws.{Measures, KeepsClockLaws}
-use Rattle.drift_clock.specs.Reach.{IsReach}
+use Rattle.std.specs.Prelude.{◌*◌, ◌+ℤ◌, ◌+◌, ◌-ℤ◌, ◌-◌, ◌≤◌, pos, ℕ, ℤ}
+use Rattle.drift_clock.specs.{ClockLaws.{KeepsClockLaws, Measures}, Reach.IsReach}
 
 -- the reading at arrival, later by what the clock lacks of dmax
 abbrev pub point_of : ℤ → ℕ → ℤ → ℤ

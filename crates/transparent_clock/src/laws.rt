@@ -1,5 +1,4 @@
-ghost use Rattle.transparent_clock.specs.Hops.{PermanentInTime};
-ghost use Rattle.transparent_clock.specs.Points.{WaitsForPoint};
+ghost use Rattle.transparent_clock.specs.{Hops.PermanentInTime, Points.WaitsForPoint};
 
 /// A frame over at most eight hops is permanent `dmax` after it was given, up to the path error.
 pub fn path_law()

@@ -1,6 +1,5 @@
 -- Facts on tests.
-use Rattle.std.proofs.Common.{Bool, MatchBool, None, Some, ap, arith, false, not, refl, sym, true, ℕ, ◌==◌, ◌||◌, ◌∙◌, ◌≡◌}
-use Rattle.std.proofs.lemmas.Bool.{eqb-true}
+use Rattle.std.proofs.{Common.{◌==◌, ◌||◌, ◌∙◌, ◌≡◌, Bool, MatchBool, None, Some, ap, arith, false, not, refl, sym, true, ℕ}, lemmas.Bool.eqb-true}
 use Rattle.std.specs.Prelude.{if◌then◌else◌, ◌&&◌}
 use Rattle.tte_lemmas.proofs.Options.{one}
 

@@ -1,6 +1,5 @@
 -- Facts on integers.
-use Rattle.std.proofs.Common.{ap, arith, false, negsuc, pos, refl, true, unsigned_abs, ℕ, ℤ, ◌+ℤ◌, ◌-ℤ◌, ◌<ℤ◌, ◌≡◌, ◌≤ℤ◌, ◌≤◌}
-use Rattle.std.proofs.lemmas.Int.{ints}
+use Rattle.std.proofs.{Common.{◌+ℤ◌, ◌-ℤ◌, ◌<ℤ◌, ◌≡◌, ◌≤ℤ◌, ◌≤◌, ap, arith, false, negsuc, pos, refl, true, unsigned_abs, ℕ, ℤ}, lemmas.Int.ints}
 use Rattle.std.specs.Prelude.{int_le, int_lt}
 
 pub through : (x y z : ℤ) → x ≤ℤ y → y ≤ℤ z → x ≤ℤ z

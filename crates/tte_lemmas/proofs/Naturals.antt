@@ -1,15 +1,8 @@
 -- Facts on natural numbers.
-use Rattle.std.proofs.Common.{arith, bit_or, false, inl, inr, max, refl, suc, sym, true, zero, ℕ, ◌%◌, ◌*◌, ◌+◌, ◌/◌, ◌<◌, ◌∙◌, ◌≡◌, ◌≤◌, ◌⊎◌}
-use Rattle.std.proofs.Math.Nat.{mul-le-mul_right}
-use Rattle.std.proofs.lemmas.Bool.{cases_eq, cases_lt, cases_order, eq-eqb, ne_eqb}
-use Rattle.std.proofs.lemmas.Bool.Decides.{eqb_tells}
-use Rattle.std.proofs.lemmas.Nat.{or_shr}
-use Rattle.std.proofs.lemmas.Nat.Bits.{bit_at_lowest, bit_at_or}
-use Rattle.std.specs.Int.{byte_at}
-use Rattle.std.specs.Ordering.{MatchOrdering, is_eq, ordering_then}
-use Rattle.std.specs.Prelude.{◌==◌}
-use Rattle.std.specs.declared.cmp.Ordering.{Ordering}
-use Rattle.std.specs.declared.cmp.Ordering.TheVariants.{Equal, Greater, Less}
+use Rattle.std.proofs.Common.{◌%◌, ◌*◌, ◌+◌, ◌/◌, ◌<◌, ◌∙◌, ◌≡◌, ◌≤◌, ◌⊎◌, arith, bit_or, false, inl, inr, max, refl, suc, sym, true, zero, ℕ}
+use Rattle.std.proofs.{Math.Nat.mul-le-mul_right, lemmas.{Bool.{cases_eq, cases_lt, cases_order, eq-eqb, ne_eqb, Decides.eqb_tells}, Nat.or_shr}}
+use Rattle.std.{proofs.lemmas.Nat.Bits.{bit_at_lowest, bit_at_or}, specs.{Int.byte_at, Ordering.{MatchOrdering, is_eq, ordering_then}, Prelude.◌==◌}}
+use Rattle.std.specs.declared.cmp.Ordering.{Ordering, TheVariants.{Equal, Greater, Less}}
 
 pub eqb_same : (n : ℕ) → (n == n) ≡ true
 eqb_same n = grind (arith)
@@ -63,7 +56,8 @@ above_or_same i j h = grind arith
 pub goes_on : (a b : ℕ) → b < a → (a == b) ≡ false
 goes_on a b more = elim (eqb_tells a b) [ inl e ↦ absurd (omega (arith, e.1)) | inr e ↦ e.0 ]
 
-pub cmp_same : (o q : Ordering) (a b c d : ℕ) → MatchOrdering o (a < b) (a ≡ b) (b < a) → MatchOrdering q (c < d) (c ≡ d) (d < c) → is_eq (ordering_then o q) ≡ true
+pub cmp_same : (o q : Ordering) (a b c d : ℕ) → MatchOrdering o (a < b) (a ≡ b) (b < a) → MatchOrdering q (c < d) (c ≡ d) (d < c)
+    → is_eq (ordering_then o q) ≡ true
     → (a ≡ b) × (c ≡ d)
 cmp_same Less q a b c d m k e = absurd cc
 cmp_same Equal Less a b c d m k e = absurd cc

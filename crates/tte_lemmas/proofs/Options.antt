@@ -1,8 +1,6 @@
 -- Facts on options.
-use Rattle.std.proofs.Common.{Bool, None, Option, Some, cond, false, inl, inr, refl, subst, sym, true, ℕ, ◌∙◌, ◌≡◌, ◌⊎◌}
-use Rattle.std.proofs.lemmas.Option.{same_Some}
-use Rattle.std.specs.Option.{option_map, option_map_or}
-use Rattle.std.specs.Prelude.{IsSome, IsSomeAnd, is_some}
+use Rattle.std.proofs.{Common.{◌∙◌, ◌≡◌, ◌⊎◌, Bool, None, Option, Some, cond, false, inl, inr, refl, subst, sym, true, ℕ}, lemmas.Option.same_Some}
+use Rattle.std.specs.{Option.{option_map, option_map_or}, Prelude.{IsSome, IsSomeAnd, is_some}}
 
 -- what an option holds is one
 pub one : {X : Type 0} (o : Option X) (x y : X) → o ≡ Some x → o ≡ Some y → x ≡ y

@@ -1,4 +1,4 @@
-use Rattle.std.specs.Prelude.{ℕ, pos, unsigned_abs}
+use Rattle.std.specs.Prelude.{pos, unsigned_abs, ℕ}
 use Rattle.tte_units.specs.declared.units.Units.{Units}
 
 -- so many units

@@ -1,5 +1,4 @@
-use Rattle.std.specs.Prelude.{ℤ, pos, ◌+ℤ◌, ◌≤ℤ◌}
-use Rattle.std.specs.Int.{int_div_euclid}
+use Rattle.std.specs.{Int.int_div_euclid, Prelude.{◌+ℤ◌, ◌≤ℤ◌, pos, ℤ}}
 
 -- the mean of two numbers, rounded towards minus infinity
 abbrev pub mean_of : ℤ → ℤ → ℤ

@@ -1,6 +1,5 @@
-use Rattle.std.specs.Prelude.{ℕ, ◌*◌}
-use Rattle.tte_units.specs.declared.speed.Speed.{Speed}
-use Rattle.tte_units.specs.declared.speed.Speed.TheVariants.{Mbit100, Gbit1}
+use Rattle.std.specs.Prelude.{◌*◌, ℕ}
+use Rattle.tte_units.specs.declared.speed.Speed.{Speed, TheVariants.{Gbit1, Mbit100}}
 
 -- the time of one octet, in units: 8 bits of 10 ns or of 1 ns
 abbrev pub octet_time : Speed → ℕ

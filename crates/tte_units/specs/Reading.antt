@@ -1,5 +1,5 @@
 -- The bounds of readings, points and values of a local clock.
-use Rattle.std.specs.Prelude.{ℤ, pos, neg_ℤ}
+use Rattle.std.specs.Prelude.{neg_ℤ, pos, ℤ}
 use Rattle.tte_units.specs.declared.units.TheConstants.{READING_LIMIT}
 
 -- the least that a reading may be

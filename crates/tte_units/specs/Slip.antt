@@ -1,4 +1,4 @@
-use Rattle.std.specs.Prelude.{ℕ, ◌+◌, ◌*◌, ◌/◌, ◌^◌}
+use Rattle.std.specs.Prelude.{◌*◌, ◌+◌, ◌/◌, ◌^◌, ℕ}
 
 -- the relative drift of two clocks of rates within rho over v, and four roundings of one unit
 abbrev pub slip_of : ℕ → ℕ → ℕ

@@ -1,6 +1,5 @@
-ghost use Rattle.std.specs.Prelude.{◌≡◌, ◌<◌, ◌^◌, pos, neg_ℤ, ◌<ℤ◌, ◌≤ℤ◌};
-ghost use Rattle.tte_units.specs.Amount.{amount, units_of};
-ghost use Rattle.tte_units.specs.Mean.{mean_of, IsMean};
+ghost use Rattle.std.specs.Prelude.{◌<ℤ◌, ◌<◌, ◌^◌, ◌≡◌, ◌≤ℤ◌, neg_ℤ, pos};
+ghost use Rattle.tte_units.specs.{Amount.{amount, units_of}, Mean.{IsMean, mean_of}};
 
 /// A time, a clock's reading or a delay, in units of 2^-16 ns: 1 ns is 65,536 units.
 #[derive(Clone, Copy, Debug, PartialEq, Eq, Hash, PartialOrd, Ord)]

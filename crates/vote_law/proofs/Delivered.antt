@@ -1,28 +1,15 @@
 -- What a device takes of a frame that is owed to it.
-use Rattle.std.proofs.Common.{◌≡◌, ℕ, ◌-◌, ◌==◌, ◌&&◌, true, List, ◌++◌, Option, Some, drop, length, replicate, refl, sym, ap, ◌∙◌, arith, append_assoc, length-append}
-use Rattle.std.specs.Prelude.{option_and_then, option_map}
-use Rattle.std.proofs.Math.Seq.{drop-append_seam}
-use Rattle.std.proofs.lemmas.Bool.{and_from, eq-eqb, eqb-true}
-use Rattle.byteorder.specs.Endian.{big_bytes}
-use Rattle.byteorder.specs.Numbers.{length-bytes_high_first}
+use Rattle.std.proofs.Common.{◌&&◌, ◌++◌, ◌-◌, ◌==◌, ◌∙◌, ◌≡◌, List, Option, Some, ap, append_assoc, arith, drop, length, length-append, refl, replicate, sym}
+use Rattle.std.{proofs.{Common.{true, ℕ}, Math.Seq.drop-append_seam, lemmas.Bool.{and_from, eq-eqb, eqb-true}}, specs.Prelude.{option_and_then, option_map}}
+use Rattle.byteorder.specs.{Endian.big_bytes, Numbers.length-bytes_high_first}
 use Rattle.frame_trace.specs.RecordOctets.{record_octets, shown}
-use Rattle.net_plan.proofs.SameIds.{same_device, same_vl}
-use Rattle.net_plan.specs.declared.ids.DeviceId.{DeviceId}
-use Rattle.net_plan.specs.declared.ids.LinkId.{LinkId}
-use Rattle.net_plan.specs.declared.ids.VlId.{VlId}
-use Rattle.net_plan.specs.declared.network.Network.{Network}
+use Rattle.net_plan.{proofs.SameIds.{same_device, same_vl}, specs.declared.{ids.{DeviceId.DeviceId, LinkId.LinkId, VlId.VlId}, network.Network.Network}}
 use Rattle.net_plan.specs.declared.tables.VirtualLink.{VirtualLink}
-use Rattle.run_law.specs.declared.note.NoteBody.TheVariants as notes
-use Rattle.run_law.specs.declared.note.NoteBody.{NoteBody}
-use Rattle.run_law.specs.law.Safety.{IsDelivered}
-use Rattle.run_law.specs.records.Frames.{mac_of, tt_frame_by}
-use Rattle.run_law.specs.records.Happenings.{Happening}
-use Rattle.run_law.specs.records.Order.{IsIn}
+use Rattle.run_law.specs.{declared.note.NoteBody.NoteBody, law.Safety.IsDelivered, records.{Frames.{mac_of, tt_frame_by}, Happenings.Happening, Order.IsIn}}
 use Rattle.run_law.specs.scenario.Scenarios.{Scenario}
 use Rattle.tte_lemmas.proofs.Bools.{both_left, both_right}
-use Rattle.vote_law.proofs.Found.{find_one}
-use Rattle.vote_law.specs.Ballots.{delivery_of, is_delivery, payload_in, payload_taken}
-use Rattle.vote_law.specs.Outvoting.{sent_payload}
+use Rattle.vote_law.{proofs.Found.find_one, specs.{Ballots.{delivery_of, is_delivery, payload_in, payload_taken}, Outvoting.sent_payload}}
+use Rattle.run_law.specs.declared.note.NoteBody.TheVariants as notes
 
 -- ---- the payload that a sender makes
 
@@ -76,12 +63,6 @@ payload_made network vl cycle =
     ∙ ap (λ (n : ℕ). e ++ replicate (vl.length - n) 0) long
 
 -- ---- the record of the delivery
-
-abbrev the_device : ℕ → DeviceId
-the_device n = record { 0 = n }
-
-abbrev the_vl : ℕ → VlId
-the_vl n = record { 0 = n }
 
 -- the record is one of the device, the virtual link and the cycle
 abbrev IsSuch : VlId → ℕ → DeviceId → NoteBody → Type 0

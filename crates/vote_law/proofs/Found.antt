@@ -1,5 +1,5 @@
 -- The first of a list's entries that passes a test, where one alone does.
-use Rattle.std.proofs.Common.{◌≡◌, Bool, true, false, List, [], ◌∷◌, cond, find, Some, inl, inr, refl, sym, ap, ◌∙◌}
+use Rattle.std.proofs.Common.{◌∙◌, ◌∷◌, ◌≡◌, Bool, List, Some, [], ap, cond, false, find, inl, inr, refl, sym, true}
 use Rattle.run_law.specs.records.Order.{IsIn}
 
 -- the one entry that passes is found

@@ -1,19 +1,11 @@
 -- Two of three outvote the third.
-use Rattle.std.proofs.Common.{◌≡◌, ℕ, ◌-◌, ◌==◌, ◌&&◌, not, true, List, ◌++◌, Some, inl, inr, replicate, sym, ap, ◌∙◌}
-use Rattle.std.proofs.lemmas.Bool.{eqb-true}
+use Rattle.std.proofs.{Common.{◌&&◌, ◌++◌, ◌-◌, ◌==◌, ◌∙◌, ◌≡◌, List, Some, ap, inl, inr, not, replicate, sym, true, ℕ}, lemmas.Bool.eqb-true}
 use Rattle.byteorder.specs.Endian.{big_bytes}
-use Rattle.net_plan.specs.declared.ids.DeviceId.{DeviceId}
-use Rattle.net_plan.specs.declared.ids.VlId.{VlId}
-use Rattle.net_plan.specs.declared.tables.VirtualLink.{VirtualLink}
-use Rattle.run_law.specs.law.Safety.{FramesAreDelivered, IsOwed}
-use Rattle.run_law.specs.records.Happenings.{Happening}
-use Rattle.run_law.specs.scenario.Scenarios.{Scenario}
+use Rattle.net_plan.specs.declared.{ids.{DeviceId.DeviceId, VlId.VlId}, tables.VirtualLink.VirtualLink}
+use Rattle.run_law.specs.{law.Safety.{FramesAreDelivered, IsOwed}, records.Happenings.Happening, scenario.Scenarios.Scenario}
 use Rattle.tte_lemmas.proofs.Bools.{both_left, both_right}
-use Rattle.vote_law.proofs.Delivered.{payload_delivered}
-use Rattle.vote_law.proofs.Voted.{first_and_second, first_and_third, second_and_third}
-use Rattle.vote_law.specs.Ballots.{ballot_of, payload_taken}
-use Rattle.vote_law.specs.Outvoting.{TwoOutvoteTheThird, sent_payload}
-use Rattle.vote_law.specs.Voting.{is_match}
+use Rattle.vote_law.proofs.{Delivered.payload_delivered, Voted.{first_and_second, first_and_third, second_and_third}}
+use Rattle.vote_law.specs.{Ballots.{ballot_of, payload_taken}, Outvoting.{TwoOutvoteTheThird, sent_payload}, Voting.is_match}
 
 same_length : (a b : VirtualLink) → is_match a b ≡ true → a.length ≡ b.length
 same_length a b e =

@@ -1,8 +1,7 @@
 -- The vote where two payloads are equal.
-use Rattle.std.proofs.Common.{◌≡◌, ◌||◌, ℕ, Bool, true, false, nat_eq, List, Option, Some, None, inl, inr, refl, sym, ap, ◌∙◌}
-use Rattle.std.specs.Cmp.Lexicographic.{other_text, pointwise, same_text}
+use Rattle.std.proofs.Common.{◌||◌, ◌∙◌, ◌≡◌, Bool, List, None, Option, Some, ap, false, inl, inr, nat_eq, refl, sym, true, ℕ}
+use Rattle.std.{proofs.lemmas.Bool.{cases_Bool, or_cases, or_right}, specs.Cmp.Lexicographic.{other_text, pointwise, same_text}}
 use Rattle.std.specs.Prelude.{if◌then◌else◌, option_and_then}
-use Rattle.std.proofs.lemmas.Bool.{cases_Bool, or_cases, or_right}
 use Rattle.tmr_vote.specs.Vote.{Votes, are_equal, payload_of, voted}
 
 equal_self : (p : List ℕ) → pointwise nat_eq p p ≡ true

@@ -1,13 +1,11 @@
 -- The ballots of a run: what the devices took of three virtual links, cycle by cycle.
-use Rattle.std.specs.Prelude.{ℕ, ◌==◌, ◌&&◌, Bool, false, List, drop, find, Option, option_and_then, option_map}
+use Rattle.std.specs.Prelude.{◌&&◌, ◌==◌, Bool, List, Option, drop, false, find, option_and_then, option_map, ℕ}
 use Rattle.frame_trace.specs.RecordOctets.{record_octets}
-use Rattle.net_plan.specs.declared.ids.DeviceId.{DeviceId}
-use Rattle.net_plan.specs.declared.ids.VlId.{VlId}
-use Rattle.run_law.specs.declared.note.NoteBody.TheVariants as notes
-use Rattle.run_law.specs.declared.note.NoteBody.{NoteBody}
-use Rattle.run_law.specs.records.Happenings.{Happening}
+use Rattle.net_plan.specs.declared.ids.{DeviceId.DeviceId, VlId.VlId}
+use Rattle.run_law.specs.{declared.note.NoteBody.NoteBody, records.Happenings.Happening}
 use Rattle.tmr_vote.specs.Vote.{Votes}
 use Rattle.vote_law.specs.declared.voters.Voters.{Voters}
+use Rattle.run_law.specs.declared.note.NoteBody.TheVariants as notes
 
 -- does the device take a frame of the virtual link by this record, in this cycle of its own?
 abbrev pub is_delivery : VlId → ℕ → DeviceId → NoteBody → Bool

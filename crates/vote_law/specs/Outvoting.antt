@@ -1,15 +1,11 @@
 -- Two correct senders outvote the third, whatever it does.
-use Rattle.std.specs.Prelude.{◌≡◌, ◌⊎◌, ℕ, ◌-◌, true, List, ◌++◌, Some, replicate}
+use Rattle.std.specs.Prelude.{◌++◌, ◌-◌, ◌≡◌, ◌⊎◌, List, Some, replicate, true, ℕ}
 use Rattle.byteorder.specs.Endian.{big_bytes}
-use Rattle.net_plan.specs.declared.ids.DeviceId.{DeviceId}
-use Rattle.net_plan.specs.declared.tables.VirtualLink.{VirtualLink}
-use Rattle.run_law.specs.law.Safety.{FramesAreDelivered, IsOwed}
-use Rattle.run_law.specs.records.Happenings.{Happening}
+use Rattle.net_plan.specs.declared.{ids.DeviceId.DeviceId, tables.VirtualLink.VirtualLink}
+use Rattle.run_law.specs.{law.Safety.{FramesAreDelivered, IsOwed}, records.Happenings.Happening}
 use Rattle.run_law.specs.scenario.Scenarios.{Scenario}
 use Rattle.tmr_vote.specs.Vote.{voted}
-use Rattle.vote_law.specs.Ballots.{ballot_of}
-use Rattle.vote_law.specs.declared.voters.Voters.{Voters}
-use Rattle.vote_law.specs.Voting.{MayVote}
+use Rattle.vote_law.specs.{Ballots.ballot_of, Voting.MayVote, declared.voters.Voters.Voters}
 
 -- the payload that a correct sender makes for a cycle: the cycle in four octets, and zeros
 abbrev pub sent_payload : VirtualLink → ℕ → List ℕ

@@ -1,7 +1,6 @@
 -- Which virtual links may vote.
-use Rattle.std.specs.Prelude.{◌≡◌, ◌==◌, ◌&&◌, not, Bool, Some, slice_get}
-use Rattle.net_plan.specs.declared.network.Network.{Network}
-use Rattle.net_plan.specs.declared.tables.VirtualLink.{VirtualLink}
+use Rattle.std.specs.Prelude.{◌&&◌, ◌==◌, ◌≡◌, Bool, Some, not, slice_get}
+use Rattle.net_plan.specs.declared.{network.Network.Network, tables.VirtualLink.VirtualLink}
 use Rattle.vote_law.specs.declared.voters.Voters.{Voters}
 
 -- have the two other senders, and one length, one period and one phase?

@@ -1,11 +1,13 @@
 -- The worked network is accepted.
-use Rattle.schedule_tables.specs.Rules.{IsKept}
-use Rattle.schedule_tables.specs.declared.rule.Rule.TheVariants.{Limits, DevicesDiffer, LinksDiffer, CompressionMasters, Joints, Connections, Masters, Delays, Settling, Precision, Correction, ScheduleStart, WindowEnds, VlNamesDiffer, VlIdsDiffer, Periods, Senders, LinksOnce, Sources, Targets, Spacing, BothChannels, Forwarding, RowsOfDevice}
-use Rattle.schedule_tables.specs.declared.rule.Rule.{Rule}
-use Rattle.worked_network.proofs.Rows.{both_channels, comes_in_time, ends_send, enters_anew, few_rows, has_period, has_source, links_once, rows_stand_apart, vl_ids_differ, vl_names_differ, windows_end}
+use Rattle.schedule_tables.specs.{Rules.IsKept, declared.rule.Rule.Rule}
+use Rattle.schedule_tables.specs.declared.rule.Rule.TheVariants.{BothChannels, CompressionMasters, Connections, Correction, Delays, DevicesDiffer, Forwarding}
+use Rattle.schedule_tables.specs.declared.rule.Rule.TheVariants.{Joints, Limits, LinksDiffer, LinksOnce, Masters, Periods, Precision, RowsOfDevice}
+use Rattle.schedule_tables.specs.declared.rule.Rule.TheVariants.{ScheduleStart, Senders, Settling, Sources, Spacing, Targets, VlIdsDiffer, VlNamesDiffer}
+use Rattle.schedule_tables.specs.declared.rule.Rule.TheVariants.{WindowEnds}
+use Rattle.worked_network.proofs.Rows.{both_channels, comes_in_time, ends_send, enters_anew, few_rows, has_period, has_source, links_once, rows_stand_apart}
+use Rattle.worked_network.proofs.Rows.{vl_ids_differ, vl_names_differ, windows_end}
 use Rattle.worked_network.proofs.Shape.{cms_kept, connected, devices_differ, joins_kept, limits_kept, links_differ, masters_kept}
-use Rattle.worked_network.proofs.Times.{correction_fits, delays_fit, errors_settle, precision_fits, schedule_fits}
-use Rattle.worked_network.specs.Worked.{worked}
+use Rattle.worked_network.{proofs.Times.{correction_fits, delays_fit, errors_settle, precision_fits, schedule_fits}, specs.Worked.worked}
 
 pub worked_keeps_rules : (rule : Rule) → IsKept rule worked
 worked_keeps_rules Limits place = limits_kept place

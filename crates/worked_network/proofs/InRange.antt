@@ -1,20 +1,11 @@
 -- The worked network is in range.
-use Rattle.std.proofs.Common.{◌≡◌, ℕ, ◌+◌, ◌≤◌, ◌^◌, true, refl, sym, subst, inl, not, arith, List, length, Option, Some, IfSome}
-use Rattle.net_plan.specs.NameText.{IsNameText, is_name_character}
-use Rattle.net_plan.specs.Places.{is_end_system, is_master}
-use Rattle.net_plan.specs.Ranges.{IsInRange, IsWithin, IsDeviceInRange, IsLinkInRange, IsVlInRange, IsRowInRange}
-use Rattle.net_plan.specs.declared.tables.Device.{Device}
-use Rattle.net_plan.specs.declared.tables.Way.TheVariants.{Up, Down}
-use Rattle.net_plan.specs.declared.tables.Way.{Way}
-use Rattle.std.proofs.Math.Dec.{leb-zero}
-use Rattle.std.proofs.lemmas.Bool.{leb-true}
-use Rattle.std.proofs.lemmas.Int.{ints}
-use Rattle.std.specs.List.{list_all}
-use Rattle.std.specs.Prelude.{codes, is_some, nat_le}
-use Rattle.tte_units.specs.Amount.{units_of}
-use Rattle.tte_units.specs.declared.units.Units.{Units}
-use Rattle.worked_network.proofs.Lists.{all_each}
-use Rattle.worked_network.specs.Worked.{link_of, row_of, worked}
+use Rattle.std.proofs.{Common.{◌+◌, ◌^◌, ◌≡◌, ◌≤◌, IfSome, List, Option, Some, arith, inl, length, not, refl, subst, sym, true, ℕ}, Math.Dec.leb-zero}
+use Rattle.std.{proofs.lemmas.{Bool.leb-true, Int.ints}, specs.{List.list_all, Prelude.{codes, is_some, nat_le}}}
+use Rattle.net_plan.specs.{NameText.{IsNameText, is_name_character}, Places.{is_end_system, is_master}}
+use Rattle.net_plan.specs.{Ranges.{IsDeviceInRange, IsInRange, IsLinkInRange, IsRowInRange, IsVlInRange, IsWithin}, declared.tables.{Device.Device, Way.Way}}
+use Rattle.net_plan.specs.declared.tables.Way.TheVariants.{Down, Up}
+use Rattle.tte_units.specs.{Amount.units_of, declared.units.Units.Units}
+use Rattle.worked_network.{proofs.Lists.all_each, specs.Worked.{link_of, row_of, worked}}
 
 within : (low high n : ℕ) → nat_le low n ≡ true → nat_le n high ≡ true → IsWithin low high (units_of n)
 within low high n least most =

@@ -1,9 +1,6 @@
 -- What holds of each entry of a list that is written out.
-use Rattle.std.proofs.Common.{◌≡◌, ℕ, zero, suc, ◌<◌, List, [], ◌∷◌, Some, None, subst, slice_get, if◌then◌else◌, IsSomeAnd, arith}
-use Rattle.std.proofs.lemmas.Option.{same_Some}
-use Rattle.std.proofs.lemmas.List.Elements.{All-cons, All-nil}
-use Rattle.std.specs.List.{All}
-use Rattle.std.specs.Str.{bytes_eq}
+use Rattle.std.proofs.Common.{if◌then◌else◌, ◌<◌, ◌∷◌, ◌≡◌, IsSomeAnd, List, None, Some, [], arith, slice_get, subst, suc, zero, ℕ}
+use Rattle.std.{proofs.lemmas.{List.Elements.{All-cons, All-nil}, Option.same_Some}, specs.{List.All, Str.bytes_eq}}
 
 -- this holds of each entry and its place
 abbrev pub AllAt : {X : Type 0} → (ℕ → X → Type 0) → List X → Type 0

@@ -1,36 +1,19 @@
 -- The rough day of the worked network is one of which the laws on runs speak.
-use Rattle.std.proofs.Common.{◌≡◌, ℕ, ◌+◌, ◌*◌, ◌-◌, ◌^◌, pos, ◌≤◌, ◌<◌, true, refl, sym, ap, subst, ◌∙◌, inl, inr, arith, List, [], ◌∷◌, ◌++◌}
-use Rattle.std.proofs.lemmas.Bool.{leb-true}
-use Rattle.drift_clock.proofs.Readings.{begins_at_zero, keeps_clock_laws}
+use Rattle.std.proofs.{Common.{◌*◌, ◌++◌, ◌+◌, ◌-◌, ◌<◌, ◌^◌, ◌∙◌, ◌∷◌, ◌≡◌, List, [], ap, arith, inl, inr, pos, refl, subst, true, ℕ}, lemmas.Bool.leb-true}
+use Rattle.std.{proofs.lemmas.Int.ints, specs.{List.All, Prelude.{◌<ℤ◌, IsSomeAnd}}}
+use Rattle.drift_clock.proofs.{ExactSegments.exact_steps, Readings.{begins_at_zero, keeps_clock_laws}}
 use Rattle.drift_clock.specs.Segment.{fresh_segment, segment_count, segment_reading, stepped_segment}
-use Rattle.net_plan.specs.Belonging.{IsOfNetwork}
-use Rattle.net_plan.specs.declared.event.Event.{Event}
-use Rattle.net_plan.specs.Places.{device_at, is_master}
-use Rattle.net_plan.specs.declared.event.What.TheVariants as events
-use Rattle.net_plan.specs.declared.event.What.{What}
-use Rattle.net_plan.specs.declared.ids.DeviceId.{DeviceId}
-use Rattle.net_plan.specs.declared.ids.LinkId.{LinkId}
-use Rattle.net_plan.specs.declared.tables.Way.TheVariants.{Up}
-use Rattle.net_plan.specs.declared.tables.Way.{Way}
-use Rattle.tte_units.specs.Amount.{units_of}
-use Rattle.tte_units.specs.declared.units.Units.{Units}
+use Rattle.net_plan.{proofs.TableFacts.none_told, specs.{Belonging.IsOfNetwork, Places.{device_at, is_master}, declared.event.{Event.Event, What.What}}}
+use Rattle.net_plan.specs.declared.{ids.{DeviceId.DeviceId, LinkId.LinkId}, tables.Way.{Way, TheVariants.Up}}
 use Rattle.pcf_values.specs.declared.channel.Channel.{Channel}
-use Rattle.run_law.specs.law.FirstLaws.{IsEventInRange, IsLawful}
-use Rattle.run_law.specs.scenario.Faults.{IsBroken, IsFaulty}
-use Rattle.run_law.specs.scenario.Hypothesis.{AreWithinHypothesis, IsWithinHypothesis}
-use Rattle.run_law.specs.declared.outside.Outside.TheVariants.{Order, Late, Rate, Wire, Hold, Channel as OtherChannel, NotMaster, SecondBreak, TooFewMasters, NotBroken, NotOff}
-use Rattle.std.specs.Prelude.{◌<ℤ◌, IsSomeAnd}
-use Rattle.std.specs.List.{All}
-use Rattle.std.proofs.lemmas.Int.{ints}
-use Rattle.drift_clock.proofs.ExactSegments.{exact_steps}
-use Rattle.net_plan.proofs.TableFacts.{none_told}
-use Rattle.safe_runs.proofs.Lawful.{lawful}
-use Rattle.safe_runs.specs.Under.{IsUnder}
-use Rattle.worked_network.proofs.Accepted.{worked_keeps_rules}
-use Rattle.worked_network.proofs.InRange.{worked_in_range}
-use Rattle.worked_network.proofs.Lists.{all_each}
-use Rattle.worked_network.proofs.Shape.{no_off_switch}
+use Rattle.run_law.specs.declared.outside.Outside.TheVariants.{Channel as OtherChannel, Hold, Late, NotBroken, NotMaster, NotOff, Order, Rate, SecondBreak}
+use Rattle.run_law.specs.{declared.outside.Outside.TheVariants.{TooFewMasters, Wire}, law.FirstLaws.{IsEventInRange, IsLawful}}
+use Rattle.run_law.specs.scenario.{Faults.{IsBroken, IsFaulty}, Hypothesis.{AreWithinHypothesis, IsWithinHypothesis}}
+use Rattle.safe_runs.{proofs.Lawful.lawful, specs.Under.IsUnder}
+use Rattle.tte_units.specs.{Amount.units_of, declared.units.Units.Units}
+use Rattle.worked_network.proofs.{Accepted.worked_keeps_rules, InRange.worked_in_range, Lists.all_each, Shape.no_off_switch}
 use Rattle.worked_network.specs.Worked.{rough_day, rough_events, worked}
+use Rattle.net_plan.specs.declared.event.What.TheVariants as events
 
 abbrev the_break : Event
 the_break = record { time = units_of 131072000000; what = events.Break (record { 0 = 3 }) }

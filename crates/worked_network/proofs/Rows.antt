@@ -1,27 +1,16 @@
 -- The worked network keeps the rules of its schedule.
-use Rattle.std.proofs.Common.{◌≡◌, ◌≢◌, ◌⊎◌, ℕ, zero, suc, ◌+◌, ◌≤◌, ◌<◌, true, false, refl, sym, ap, subst, ◌∙◌, inl, inr, ◌==◌, if◌then◌else◌, ◌*◌, arith, List, [], ◌∷◌, Some, slice_get}
-use Rattle.std.proofs.lemmas.Bool.{leb-true}
-use Rattle.net_plan.specs.Places.{IsEndSystem}
-use Rattle.net_plan.specs.declared.ids.DeviceId.{DeviceId}
-use Rattle.net_plan.specs.declared.ids.LinkId.{LinkId}
-use Rattle.net_plan.specs.declared.ids.VlId.{VlId}
-use Rattle.net_plan.specs.declared.tables.Link.{Link}
-use Rattle.net_plan.specs.declared.tables.Row.{Row}
-use Rattle.net_plan.specs.declared.tables.VirtualLink.{VirtualLink}
-use Rattle.net_plan.specs.declared.tables.Way.TheVariants.{Up, Down}
-use Rattle.pcf_values.specs.declared.channel.Channel.TheVariants.{A, B}
-use Rattle.pcf_values.specs.declared.channel.Channel.{Channel}
+use Rattle.std.proofs.Common.{if◌then◌else◌, ◌*◌, ◌+◌, ◌<◌, ◌==◌, ◌∙◌, ◌∷◌, ◌≡◌, ◌≢◌, ◌≤◌, ◌⊎◌, List, Some, [], ap, arith, false, inl, inr, refl, slice_get}
+use Rattle.std.proofs.{Common.{subst, suc, sym, true, zero, ℕ}, lemmas.{Bool.leb-true, List.Sums.count_by-le-length, Option.same_Some}}
+use Rattle.std.specs.{List.{Contains, count_by}, Prelude.codes}
+use Rattle.net_plan.specs.{Places.IsEndSystem, declared.{ids.{DeviceId.DeviceId, LinkId.LinkId, VlId.VlId}, tables.{Link.Link, Row.Row}}}
+use Rattle.net_plan.specs.declared.tables.{VirtualLink.VirtualLink, Way.TheVariants.{Down, Up}}
+use Rattle.pcf_values.specs.declared.channel.Channel.{Channel, TheVariants.{A, B}}
 use Rattle.schedule_tables.specs.Entries.{IsEntry, IsOnChannel, source_of, target_of}
-use Rattle.schedule_tables.specs.Schedule.{ComesInTime, EndsInCycle, EntersAnew, EntersOn, GoesByBothChannels, GoesOnceByLink, HasEndSystemAsSender, HasFewRows, HasPeriod, HasSource, Enters, IsSwitch, LeavesOn, StandsApart, VlIdIsNew, VlNameIsNew, leaves}
-use Rattle.schedule_tables.specs.Windows.{window_end}
-use Rattle.schedule_tables.specs.declared.entry.Entry.{Entry}
-use Rattle.std.proofs.lemmas.List.Sums.{count_by-le-length}
-use Rattle.std.proofs.lemmas.Option.{same_Some}
-use Rattle.std.specs.List.{Contains, count_by}
-use Rattle.std.specs.Prelude.{codes}
+use Rattle.schedule_tables.specs.Schedule.{ComesInTime, EndsInCycle, Enters, EntersAnew, EntersOn, GoesByBothChannels, GoesOnceByLink, HasEndSystemAsSender}
+use Rattle.schedule_tables.specs.Schedule.{HasFewRows, HasPeriod, HasSource, IsSwitch, LeavesOn, StandsApart, VlIdIsNew, VlNameIsNew, leaves}
+use Rattle.schedule_tables.specs.{Windows.window_end, declared.entry.Entry.Entry}
 use Rattle.tte_units.specs.Amount.{amount}
-use Rattle.worked_network.proofs.Lists.{AllAt, at_place, numbered_apart}
-use Rattle.worked_network.specs.Worked.{link_of, row_of, worked}
+use Rattle.worked_network.{proofs.Lists.{AllAt, at_place, numbered_apart}, specs.Worked.{link_of, row_of, worked}}
 
 -- ---- the virtual link
 

@@ -1,21 +1,13 @@
 -- The worked network keeps the rules of its shape.
-use Rattle.std.proofs.Common.{◌≡◌, ◌⊎◌, ℕ, ◌+◌, pos, true, false, refl, sym, ap, subst, inl, inr, ◌==◌, arith, List, [], ◌∷◌, Option, Some, IfSome}
-use Rattle.std.proofs.lemmas.Bool.{leb-true}
-use Rattle.net_plan.specs.Paths.{IsFirstPath, IsFirstUplink, IsUplink, LeadsToCm}
+use Rattle.std.proofs.Common.{◌+◌, ◌==◌, ◌∷◌, ◌≡◌, ◌⊎◌, IfSome, List, Option, Some, [], ap, arith, false, inl, inr, pos, refl, subst, sym, true, ℕ}
+use Rattle.std.{proofs.lemmas.{Bool.leb-true, Int.ints}, specs.{Option.unwrap_or, Prelude.{if◌then◌else◌, ◌-◌, ◌≤ℤ◌, IsNone, codes}}}
+use Rattle.net_plan.{proofs.SameIds.link_is, specs.Paths.{IsFirstPath, IsFirstUplink, IsUplink, LeadsToCm}}
 use Rattle.net_plan.specs.Places.{IsCmOf, IsDeviceOf, IsEndSystem, IsRoleOf, IsSwitchOf, is_end_system}
-use Rattle.net_plan.specs.Rules.{DeviceIsNew, ExactlyOne, HasOffSwitch, HasOneCm, IsChildOf, IsConnected, IsWithinLimits, JoinsChildToSwitch, LinkIsNew, MastersSuffice, masters}
-use Rattle.net_plan.specs.declared.ids.DeviceId.{DeviceId}
-use Rattle.net_plan.specs.declared.ids.LinkId.{LinkId}
-use Rattle.net_plan.specs.declared.tables.Role.TheVariants.{Cm, Relay}
-use Rattle.pcf_values.specs.declared.channel.Channel.TheVariants.{A, B}
-use Rattle.pcf_values.specs.declared.channel.Channel.{Channel}
-use Rattle.std.proofs.lemmas.Int.{ints}
-use Rattle.std.specs.Option.{unwrap_or}
-use Rattle.std.specs.Prelude.{◌-◌, ◌≤ℤ◌, codes, if◌then◌else◌, IsNone}
-use Rattle.net_plan.proofs.SameIds.{link_is}
+use Rattle.net_plan.specs.Rules.{DeviceIsNew, ExactlyOne, HasOffSwitch, HasOneCm, IsChildOf, IsConnected, IsWithinLimits, JoinsChildToSwitch, LinkIsNew}
+use Rattle.net_plan.specs.{Rules.{MastersSuffice, masters}, declared.{ids.{DeviceId.DeviceId, LinkId.LinkId}, tables.Role.TheVariants.{Cm, Relay}}}
+use Rattle.pcf_values.specs.declared.channel.Channel.{Channel, TheVariants.{A, B}}
 use Rattle.tte_units.specs.Amount.{units_of}
-use Rattle.worked_network.proofs.Lists.{all_each, at_place, numbered_apart, place_in, some_place}
-use Rattle.worked_network.specs.Worked.{worked}
+use Rattle.worked_network.{proofs.Lists.{all_each, at_place, numbered_apart, place_in, some_place}, specs.Worked.worked}
 
 -- ---- limits and names
 
@@ -455,10 +447,6 @@ one_child c n e = subst (λ (k : ℕ). ExactlyOne (IsChildOf worked (record { 0 
 
 cm_leads : (c : Channel) → LeadsToCm worked c (record { 0 = cm_of c })
 cm_leads c = ([], leb-true 0 8 refl, cm_there c)
-
-relay_up : (c : Channel) → IsUplink worked c (record { 0 = relay_of c }) (record { 0 = up c (relay_of c) })
-relay_up A = (refl, refl)
-relay_up B = (refl, refl)
 
 relay_path : (c : Channel) → IsFirstPath worked c (record { 0 = relay_of c }) (record { 0 = up c (relay_of c) } ∷ [])
 relay_path A = (first_uplink A 5 (refl, refl), (refl, refl))

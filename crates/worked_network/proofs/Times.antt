@@ -1,11 +1,8 @@
 -- The worked network keeps the rules of its times.
-use Rattle.std.proofs.Common.{ℕ, ◌+◌, ◌*◌, ◌≤◌, refl, arith}
-use Rattle.std.proofs.lemmas.Bool.{leb-true}
+use Rattle.std.proofs.{Common.{◌*◌, ◌+◌, ◌≤◌, arith, refl, ℕ}, lemmas.Bool.leb-true}
 use Rattle.schedule_tables.specs.Delays.{CorrectionFits, DelaysFit, ErrorsSettle, PrecisionFits, ScheduleFits, pcf_port_time}
 use Rattle.tte_units.specs.Amount.{amount}
-use Rattle.worked_network.proofs.Lists.{all_each}
-use Rattle.worked_network.proofs.Trips.{delays_at_most, low_beta}
-use Rattle.worked_network.specs.Worked.{worked}
+use Rattle.worked_network.{proofs.{Lists.all_each, Trips.{delays_at_most, low_beta}}, specs.Worked.worked}
 
 pub delays_fit : (place : ℕ) → DelaysFit worked place
 delays_fit place beta channel links is_beta of path =

@@ -1,19 +1,12 @@
 -- How long the paths of the worked network are, and what they add up to.
-use Rattle.std.proofs.Common.{◌≡◌, ℕ, zero, suc, ◌+◌, ◌*◌, pos, ◌≤◌, true, false, refl, ap, inl, inr, ◌==◌, ◌||◌, arith, List, [], ◌∷◌, length, slice_get, IsSomeAnd, if◌then◌else◌, unsigned_abs}
-use Rattle.std.proofs.lemmas.Bool.{leb-true}
-use Rattle.net_plan.specs.Bounds.{IsBeta, IsGreatest, IsOfPath, jitter_of, jitter_on}
-use Rattle.net_plan.specs.Paths.{IsPath}
-use Rattle.net_plan.specs.Places.{IsSwitchOf, link_at}
-use Rattle.net_plan.specs.declared.ids.DeviceId.{DeviceId}
-use Rattle.net_plan.specs.declared.ids.LinkId.{LinkId}
-use Rattle.net_plan.specs.declared.tables.Link.{Link}
+use Rattle.std.proofs.Common.{if◌then◌else◌, ◌*◌, ◌+◌, ◌==◌, ◌||◌, ◌∷◌, ◌≡◌, ◌≤◌, IsSomeAnd, List, [], ap, arith, false, inl, inr, length, pos, refl, slice_get}
+use Rattle.std.{proofs.{Common.{suc, true, unsigned_abs, zero, ℕ}, lemmas.Bool.leb-true}, specs.{Option.option_map_or, Prelude.sum_by}}
+use Rattle.net_plan.specs.{Bounds.{IsBeta, IsGreatest, IsOfPath, jitter_of, jitter_on}, Paths.IsPath, Places.{IsSwitchOf, link_at}}
+use Rattle.net_plan.specs.declared.{ids.{DeviceId.DeviceId, LinkId.LinkId}, tables.Link.Link}
 use Rattle.pcf_values.specs.declared.channel.Channel.{Channel}
 use Rattle.schedule_tables.specs.Delays.{delay_by, delay_of, delay_on}
-use Rattle.std.specs.Option.{option_map_or}
-use Rattle.std.specs.Prelude.{sum_by}
 use Rattle.tte_units.specs.Amount.{amount}
-use Rattle.worked_network.proofs.Lists.{AllEach, some_place}
-use Rattle.worked_network.specs.Worked.{worked}
+use Rattle.worked_network.{proofs.Lists.{AllEach, some_place}, specs.Worked.worked}
 
 leb_zero : (n : ℕ) → 0 ≤ n
 leb_zero n = omega arith

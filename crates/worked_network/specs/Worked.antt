@@ -1,22 +1,14 @@
 -- A network with events that the laws on runs speak of.
-use Rattle.std.specs.Prelude.{ℕ, ◌-◌, ◌*◌, List, [], ◌∷◌, Option, Some, None, codes}
-use Rattle.drift_clock.specs.Segment.{fresh_segment, stepped_segment, segment_reading}
-use Rattle.net_plan.specs.declared.event.Event.{Event}
-use Rattle.net_plan.specs.declared.event.What.TheVariants.{Break, Cut, End}
-use Rattle.net_plan.specs.declared.network.Network.{Network}
-use Rattle.net_plan.specs.declared.tables.Device.{Device}
-use Rattle.net_plan.specs.declared.tables.Link.{Link}
-use Rattle.net_plan.specs.declared.tables.Role.TheVariants.{Master, Client, Cm, Relay}
-use Rattle.net_plan.specs.declared.tables.Role.{Role}
-use Rattle.net_plan.specs.declared.tables.Row.{Row}
-use Rattle.net_plan.specs.declared.tables.Way.TheVariants.{Up, Down}
-use Rattle.net_plan.specs.declared.tables.Way.{Way}
-use Rattle.pcf_values.specs.declared.channel.Channel.TheVariants.{A, B}
-use Rattle.pcf_values.specs.declared.channel.Channel.{Channel}
+use Rattle.std.specs.Prelude.{◌*◌, ◌-◌, ◌∷◌, List, None, Option, Some, [], codes, ℕ}
+use Rattle.drift_clock.specs.Segment.{fresh_segment, segment_reading, stepped_segment}
+use Rattle.net_plan.specs.declared.{event.{Event.Event, What.TheVariants.{Break, Cut, End}}, network.Network.Network}
+use Rattle.net_plan.specs.declared.tables.{Device.Device, Link.Link, Role.Role}
+use Rattle.net_plan.specs.declared.tables.{Role.TheVariants.{Client, Cm, Master, Relay}, Row.Row, Way.Way}
+use Rattle.net_plan.specs.declared.tables.Way.TheVariants.{Down, Up}
+use Rattle.pcf_values.specs.declared.channel.Channel.{Channel, TheVariants.{A, B}}
 use Rattle.run_law.specs.scenario.Scenarios.{Scenario}
 use Rattle.safe_runs.specs.Under.{scenario_of}
-use Rattle.tte_units.specs.Amount.{units_of}
-use Rattle.tte_units.specs.declared.speed.Speed.TheVariants.{Mbit100}
+use Rattle.tte_units.specs.{Amount.units_of, declared.speed.Speed.TheVariants.Mbit100}
 
 -- a device that begins on, with the adjustment 0
 abbrev pub device_of : List ℕ → Role → ℕ → Option ℕ → Option Channel → Device

@@ -14,8 +14,8 @@ pub fn worked_is_accepted()
 {}
 
 /// The events of a day on which a master breaks and a link of a channel is cut meet what the laws on the runs of the
-/// program ask of a network and its events; and the day, with the clocks of the program, meets what the laws on all runs
-/// ask of a network, its events and its clocks.
+/// program ask of a network and its events; and the day, with the clocks of the program, meets what the laws on all
+/// runs ask of a network, its events and its clocks.
 pub fn rough_day_is_lawful()
     ensures under { IsUnder worked rough_events }
     ensures lawful { IsLawful rough_day }

@@ -1,32 +1,15 @@
 -- Records up to a mark that is not behind a time, or not behind the next event.
-use Rattle.std.proofs.Common.{◌≡◌, ◌+◌, ◌≤◌, ◌<◌, ℕ, ◌≤ℤ◌, pos, List, [], ◌∷◌, ◌++◌, length, inl, inr, refl, sym, ap, ◌∙◌, subst, append_assoc, arith}
-use Rattle.std.proofs.lemmas.Bool.{cases_lt}
-use Rattle.std.proofs.lemmas.List.{append-nil}
-use Rattle.std.proofs.lemmas.Option.{slice_get_within}
-use Rattle.drift_world.specs.Running.{behind_events, last_time}
-use Rattle.exact_runs.specs.Records.{AreRecordsBefore, AreRecordsSoFar, clock_reading}
-use Rattle.exact_runs.specs.Worlds.{ExactWorld, StandsExact}
-use Rattle.net_plan.specs.declared.event.Event.{Event}
-use Rattle.net_plan.specs.declared.network.Network.{Network}
-use Rattle.run_law.proofs.runs.Grow.{empty_run}
-use Rattle.run_law.proofs.runs.Places.{before_later_time, before_next_time, before_of_time, parted}
-use Rattle.run_law.specs.declared.note.Note.{Note}
-use Rattle.run_law.specs.declared.note.NoteBody.{NoteBody}
-use Rattle.run_law.specs.declared.note.NoteBody.TheVariants.{Event as Befalls}
-use Rattle.run_law.specs.records.Happenings.{Happening, happenings}
-use Rattle.run_law.specs.records.Order.{IsBefore, IsIn}
-use Rattle.run_law.specs.records.Ranks.{key, members_in, place_of, rank}
-use Rattle.run_law.specs.runs.DueRecords.{IsCaused, IsDue}
-use Rattle.run_law.specs.scenario.Scenarios.{Scenario}
-use Rattle.std.specs.Prelude.{Some, slice_get}
-use Rattle.tte_units.specs.Amount.{amount}
-use Rattle.tte_units.specs.declared.units.Units.{Units}
-use Rattle.world_drive.proofs.Order.{in_order, sizes}
-use Rattle.world_drive.specs.Driving.{IsUpToEnd}
-use Rattle.world_drive.specs.Seeing.{AreEarlier, IsOnTheWay}
-use Rattle.world_drive.specs.Sources.{MayGive}
-use Rattle.world_law.proofs.runs.Applies.{event_cause, event_place, kinds}
-use Rattle.world_law.specs.source.Agreeing.{scenario}
+use Rattle.world_drive.proofs.Words.{◌++◌, ◌+◌, ◌<◌, ◌∙◌, ◌∷◌, ◌≡◌, ◌≤ℤ◌, ◌≤◌, AreEarlier, AreRecordsBefore, AreRecordsSoFar, Event, ExactWorld, Happening}
+use Rattle.world_drive.proofs.Words.{List, MayGive, Network, Note, Some, StandsExact, Units, [], amount, ap, append-nil, append_assoc, arith, cases_lt}
+use Rattle.world_drive.proofs.Words.{happenings, inl, inr, last_time, length, pos, refl, subst, sym, ℕ}
+use Rattle.std.{proofs.lemmas.Option.slice_get_within, specs.Prelude.slice_get}
+use Rattle.drift_world.specs.Running.{behind_events}
+use Rattle.run_law.{proofs.runs.{Grow.empty_run, Places.{before_later_time, before_next_time, before_of_time, parted}}, specs.declared.note.NoteBody.NoteBody}
+use Rattle.run_law.specs.{declared.note.NoteBody.TheVariants.Event as Befalls, records.{Order.{IsBefore, IsIn}, Ranks.{key, members_in, place_of, rank}}}
+use Rattle.run_law.specs.{runs.DueRecords.{IsCaused, IsDue}, scenario.Scenarios.Scenario}
+use Rattle.world_exact.specs.Records.{clock_reading}
+use Rattle.world_law.{proofs.runs.Applies.{event_cause, event_place, kinds}, specs.source.Agreeing.scenario}
+use Rattle.world_drive.{proofs.Order.{in_order, sizes}, specs.{Driving.IsUpToEnd, Seeing.IsOnTheWay}}
 
 -- ---- before a time
 

@@ -1,35 +1,27 @@
 -- A drive goes on, or ends.
-use Rattle.std.proofs.Common.{◌≡◌, ℕ, ◌+◌, ◌^◌, ◌<◌, pos, ◌+ℤ◌, ◌≤ℤ◌, true, List, [], ◌∷◌, ◌++◌, length, length-append, Option, Some, None, Ok, Err, refl, sym, ap, subst, ◌∙◌, arith}
-use Rattle.std.proofs.lemmas.Int.{ints}
-use Rattle.drift_world.specs.Running.{last_time}
-use Rattle.exact_runs.proofs.Events.{ended_at, last_is}
-use Rattle.exact_runs.proofs.Given.{amount_after}
-use Rattle.exact_runs.specs.Records.{AreAllRecords, AreRecordsBefore, AreRecordsSoFar, HaveEnded}
-use Rattle.exact_runs.specs.Worlds.{ExactWorld, IsReached, StandsExact}
-use Rattle.net_plan.specs.declared.event.Event.{Event}
-use Rattle.net_plan.specs.declared.network.Network.{Network}
-use Rattle.run_law.specs.declared.note.Note.{Note}
+use Rattle.world_drive.proofs.Words.{◌++◌, ◌+ℤ◌, ◌+◌, ◌<◌, ◌^◌, ◌∙◌, ◌∷◌, ◌≡◌, ◌≤ℤ◌, AreEarlier, AreRecordsBefore, AreRecordsSoFar, Cut, CutsAtEvent}
+use Rattle.world_drive.proofs.Words.{CutsBefore, Err, Event, ExactWorld, IsAsked, List, MayGive, Network, None, Note, Ok, Option, Sees, SeesEvent, SeesUntil}
+use Rattle.world_drive.proofs.Words.{Some, StandsExact, Stops, Told, Units, [], amount, ap, arith, ints, last_is, last_time, length, pos, refl, subst, sym}
+use Rattle.world_drive.proofs.Words.{told_by, true, units_of, ℕ}
+use Rattle.std.proofs.Common.{length-append}
 use Rattle.tte_io.specs.declared.ends.Sink.{Ghosts}
-use Rattle.tte_units.specs.Amount.{amount, units_of}
-use Rattle.tte_units.specs.declared.units.Units.{Units}
-use Rattle.world_drive.proofs.Earlier.{records_none, up_to_end}
-use Rattle.world_drive.proofs.More.{PutsSoFar, fails_on, puts_none}
-use Rattle.world_drive.specs.Driving.{DrivesAll, DrivesCut, DrivesSoFar, HasSeenSoFar}
-use Rattle.world_drive.specs.Observing.{Grows, PutsFurther, Sees, Stops, Told, start_by, told_by}
-use Rattle.world_drive.specs.Seeing.{AreEarlier, ComesNext, CutsAtEvent, CutsBefore, HasSeen, IsAsked, MayMeet, SeesEvent, SeesUntil}
-use Rattle.world_drive.specs.Sources.{Gave, GivesNext, MayGive, Stopped}
-use Rattle.world_drive.specs.declared.observing.Cut.{Cut}
+use Rattle.world_exact.{proofs.{Events.ended_at, Given.amount_after}, specs.{Records.{AreAllRecords, HaveEnded}, Worlds.IsReached}}
+use Rattle.world_drive.proofs.{Earlier.{records_none, up_to_end}, More.{PutsSoFar, fails_on, puts_none}}
+use Rattle.world_drive.specs.{Driving.{DrivesAll, DrivesCut, DrivesSoFar, HasSeenSoFar}, Observing.{Grows, PutsFurther, start_by}}
+use Rattle.world_drive.specs.{Seeing.{ComesNext, HasSeen, MayMeet}, Sources.{Gave, GivesNext, Stopped}}
 
 -- ---- what a source gave
 
-pub given_one : {B S K E : Type 0} (gave ended : Gave B E) (stopped : Stopped B S K E) (left : E → ℕ) (network : Network) (first : B) (origin : E) (events : List Event)
+pub given_one : {B S K E : Type 0} (gave ended : Gave B E) (stopped : Stopped B S K E) (left : E
+    → ℕ) (network : Network) (first : B) (origin : E) (events : List Event)
     (o : Option Event) (event : Event) (from : B) (old new : E) (before after : K) → o ≡ Some event
     → GivesNext gave ended stopped left network first origin events (Ok o) from old new before after
     → MayGive network events event × (left new < left old) × gave network first origin (events ++ event ∷ []) from new
 given_one gave ended stopped left network first origin events o event from old new before after is p =
     subst (λ (q : Option Event). GivesNext gave ended stopped left network first origin events (Ok q) from old new before after) is p
 
-pub given_end : {B S K E : Type 0} (gave ended : Gave B E) (stopped : Stopped B S K E) (left : E → ℕ) (network : Network) (first : B) (origin : E) (events : List Event)
+pub given_end : {B S K E : Type 0} (gave ended : Gave B E) (stopped : Stopped B S K E) (left : E
+    → ℕ) (network : Network) (first : B) (origin : E) (events : List Event)
     (o : Option Event) (from : B) (old new : E) (before after : K) → o ≡ None
     → GivesNext gave ended stopped left network first origin events (Ok o) from old new before after
     → HaveEnded events × ended network first origin events from new
@@ -39,7 +31,8 @@ given_end gave ended stopped left network first origin events o from old new bef
 -- ---- a drive goes on
 
 -- the events given befell the world, and the records up to that of the last are seen
-pub record IsDriving {B K E O : Type 0} (sink : Ghosts K) (give : Gave B E) (see : Sees O) (network : Network) (first : B) (origin : E) (begun_by : O) (from : B) (source : E)
+pub record IsDriving {B K E O : Type 0} (sink : Ghosts K) (give : Gave B E) (see : Sees O) (network : Network) (first : B) (origin : E) (begun_by : O)
+    (from : B) (source : E)
     (world : ExactWorld) (observer : O) (time : Units) (line : ℕ) (old now : K) : Type 0 where
   pub events : List Event
   pub notes : List Note
@@ -69,8 +62,10 @@ driving_first sink give see network from source world observer time line out sta
   puts = puts_none sink out;
 }
 
-module _ {B K E O : Type 0} (sink : Ghosts K) (give : Gave B E) (see : Sees O) (network : Network) (first : B) (origin : E) (begun_by : O) (from : B) (source : E) (world : ExactWorld)
-    (observer : O) (time : Units) (line : ℕ) (old now : K) (d : IsDriving sink give see network first origin begun_by from source world observer time line old now) where
+module _ {B K E O : Type 0} (sink : Ghosts K) (give : Gave B E) (see : Sees O) (network : Network) (first : B) (origin : E) (begun_by : O) (from : B)
+    (source : E) (world : ExactWorld)
+    (observer : O) (time : Units) (line : ℕ) (old now : K)
+    (d : IsDriving sink give see network first origin begun_by from source world observer time line old now) where
   -- the time is in the range of runs
   pub begun : pos 0 ≤ℤ time.0
   begun = let at = d.reached.now in omega (arith, ints, at)
@@ -158,8 +153,10 @@ module _ {B K E O : Type 0} (sink : Ghosts K) (give : Gave B E) (see : Sees O) (
           puts = puts;
         }
 
-        pub cut_at_event : (end : Gave B E) (stop : Stops O) (cut : Cut) (later : B) (next : E) (new : K) → give network first origin (d.events ++ event ∷ []) later next
-            → CutsAtEvent stop network d.events d.notes event cut (start_by sink old begun_by) (told_by sink new) → PutsFurther {T = Unit {0}} sink (Err cut) then_ new
+        pub cut_at_event : (end : Gave B E) (stop : Stops O) (cut : Cut) (later : B) (next : E) (new : K)
+            → give network first origin (d.events ++ event ∷ []) later next
+            → CutsAtEvent stop network d.events d.notes event cut (start_by sink old begun_by) (told_by sink new)
+            → PutsFurther {T = Unit {0}} sink (Err cut) then_ new
             → DrivesCut sink give end see stop network first origin cut later next begun_by old new
         cut_at_event end stop cut later next new gave k puts = record {
           events = d.events;

@@ -1,29 +1,13 @@
 -- The instant whose end is asked for.
-use Rattle.std.proofs.Common.{◌≡◌, ℕ, ◌+◌, ◌<◌, ◌^◌, pos, ◌+ℤ◌, ◌<ℤ◌, unsigned_abs, false, List, [], ◌∷◌, ◌++◌, append_assoc, Option, Some, None, Result, Ok, Err, inl, inr, refl, sym, ap, subst, ◌∙◌, arith}
-use Rattle.std.specs.Prelude.{IfNone, IfSome, MatchResult, OnOk, option_to_list}
-use Rattle.std.proofs.lemmas.Int.{ints}
-use Rattle.std.proofs.lemmas.List.{append-nil}
-use Rattle.drift_clock.specs.Segment.{fresh_segment, segment_reading, stepped_segment}
-use Rattle.drift_world.specs.Running.{Reaches}
+use Rattle.world_drive.proofs.Words.{◌++◌, ◌+ℤ◌, ◌+◌, ◌<ℤ◌, ◌<◌, ◌^◌, ◌∙◌, ◌∷◌, ◌≡◌, AreRecordsBefore, Err, Event, ExactWorld, Happening, IsPast, IsUnderwayAt}
+use Rattle.world_drive.proofs.Words.{List, Network, None, Note, Ok, Option, Reaches, Some, StandsExact, Units, [], amount, ap, append-nil, append_assoc, arith}
+use Rattle.world_drive.proofs.Words.{false, fresh_segment, happenings, if_some, inl, inr, ints, pos, refl, segment_reading, stepped_segment, subst, sym}
+use Rattle.world_drive.proofs.Words.{units_of, unsigned_abs, ℕ}
+use Rattle.std.{proofs.Common.Result, specs.Prelude.{IfNone, IfSome, MatchResult, OnOk, option_to_list}}
+use Rattle.run_law.{proofs.{records.Order.index_of, runs.{NetworkRuns.one_more, Places.{in_left, in_right}}}, specs.records.{Order.IsIn, Ranks.rank}}
 use Rattle.safe_runs.specs.Headline.{IsSafeFront}
-use Rattle.exact_runs.proofs.Given.{amount_after, given_none, given_some, if_none, if_some, is_before}
-use Rattle.exact_runs.specs.Records.{AreRecordsBefore}
-use Rattle.exact_runs.specs.Worlds.{ExactWorld, StandsExact}
-use Rattle.net_plan.specs.declared.event.Event.{Event}
-use Rattle.net_plan.specs.declared.network.Network.{Network}
-use Rattle.run_law.proofs.records.Order.{index_of}
-use Rattle.run_law.proofs.runs.NetworkRuns.{one_more}
-use Rattle.run_law.proofs.runs.Places.{in_left, in_right}
-use Rattle.run_law.specs.declared.note.Note.{Note}
-use Rattle.run_law.specs.records.Happenings.{Happening, happenings}
-use Rattle.run_law.specs.records.Order.{IsIn}
-use Rattle.run_law.specs.records.Ranks.{rank}
-use Rattle.tte_units.specs.Amount.{amount, units_of}
-use Rattle.tte_units.specs.declared.units.Units.{Units}
-use Rattle.world_drive.proofs.Placed.{last_of, stays_now, unended_before}
-use Rattle.world_drive.proofs.Ways.{past_is}
-use Rattle.world_drive.specs.Observing.{IsCompleteExact, IsGiven}
-use Rattle.world_drive.specs.Seeing.{IsPast, IsUnderwayAt}
+use Rattle.world_exact.proofs.Given.{amount_after, given_none, given_some, if_none, is_before}
+use Rattle.world_drive.{proofs.{Placed.{last_of, stays_now, unended_before}, Ways.past_is}, specs.Observing.{IsCompleteExact, IsGiven}}
 
 -- a record stays among those that follow
 pub in_more : (network : Network) (notes more : List Note) (h : Happening) → IsIn h (happenings network notes) → IsIn h (happenings network (notes ++ more))
@@ -71,7 +55,8 @@ complete_past network events notes more time world next at stands gone all =
 
 -- ---- the record that a world gave
 
-pub given_before : (network : Network) (events : List Event) (notes : List Note) (note : Note) (until : Units) (next : ExactWorld) (o : Option Note) → o ≡ Some note
+pub given_before : (network : Network) (events : List Event) (notes : List Note) (note : Note) (until : Units) (next : ExactWorld) (o : Option Note)
+    → o ≡ Some note
     → StandsExact network next events (notes ++ option_to_list o) → IfSome o (λ n. (n.time ≡ units_of next.now) × (n.time.0 <ℤ until.0))
     → IsGiven network next None events notes note
 given_before network events notes note until next o is stands before = record {

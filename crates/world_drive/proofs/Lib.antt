@@ -6,3 +6,4 @@ pub mod More
 pub mod Instants
 pub mod Meeting
 pub mod Ending
+pub mod Words

@@ -1,25 +1,15 @@
 -- An event befalls a world whose earlier records are seen.
-use Rattle.std.proofs.Common.{◌≡◌, ◌+◌, pos, ◌≤ℤ◌, unsigned_abs, false, ℕ, List, [], ◌∷◌, ◌++◌, length, None, inl, inr, refl, sym, ap, ◌∙◌, subst, append_assoc, arith}
+use Rattle.world_drive.proofs.Words.{◌++◌, ◌+◌, ◌∙◌, ◌∷◌, ◌≡◌, ◌≤ℤ◌, AreRecordsBefore, AreRecordsSoFar, Cut, CutsAtEvent, CutsBefore, Event, ExactWorld}
+use Rattle.world_drive.proofs.Words.{IsAsked, List, Network, None, Note, Reaches, Sees, SeesEvent, SeesUntil, StandsExact, Start, Stops, Told, [], amount, ap}
+use Rattle.world_drive.proofs.Words.{append_assoc, arith, false, fresh_segment, go_on, inl, inr, ints, last_is, last_time, length, pos, refl, segment_reading}
+use Rattle.world_drive.proofs.Words.{stepped_segment, subst, sym, units_of, unsigned_abs, ℕ}
 use Rattle.std.proofs.lemmas.Bool.{false_from_ne_true}
-use Rattle.std.proofs.lemmas.Int.{ints}
-use Rattle.device_machines.specs.Standing.{StandsAsDevice}
-use Rattle.drift_clock.specs.Segment.{fresh_segment, stepped_segment, segment_reading}
-use Rattle.drift_world.specs.Running.{HasReached, IsOpenTo, MayBefall, Reaches, behind_events, event_note, last_time}
-use Rattle.exact_runs.proofs.Events.{last_is}
-use Rattle.exact_runs.proofs.Worlds.{go_on}
-use Rattle.exact_runs.specs.Records.{AreRecordsBefore, AreRecordsSoFar}
-use Rattle.exact_runs.specs.Worlds.{ExactWorld, IsReached, StandsExact}
+use Rattle.drift_world.specs.Running.{HasReached, IsOpenTo, MayBefall, behind_events, event_note}
 use Rattle.net_plan.specs.Belonging.{IsOfNetwork}
-use Rattle.net_plan.specs.declared.event.Event.{Event}
-use Rattle.net_plan.specs.declared.network.Network.{Network}
-use Rattle.run_law.specs.declared.note.Note.{Note}
 use Rattle.run_law.specs.scenario.Hypothesis.{IsWithinHypothesis}
-use Rattle.tte_units.specs.Amount.{amount, units_of}
-use Rattle.world_drive.proofs.Earlier.{on_the_way}
-use Rattle.world_drive.proofs.Order.{have_ended, in_order}
-use Rattle.world_drive.specs.Observing.{Befell, Sees, Start, Stops, Told}
-use Rattle.world_drive.specs.Seeing.{ComesNext, CutsAtEvent, CutsBefore, IsAsked, SeesEvent, SeesUntil}
-use Rattle.world_drive.specs.declared.observing.Cut.{Cut}
+use Rattle.world_exact.specs.Worlds.{IsReached}
+use Rattle.world_machines.specs.Standing.{StandsAsDevice}
+use Rattle.world_drive.{proofs.{Earlier.on_the_way, Order.{have_ended, in_order}}, specs.{Observing.Befell, Seeing.ComesNext}}
 
 module _ (network : Network) (world : ExactWorld) (events : List Event) (notes : List Note) (event : Event)
     (n : ComesNext network world events notes event) where

@@ -1,21 +1,11 @@
 -- More records seen by an observer.
-use Rattle.std.proofs.Common.{◌≡◌, ℕ, ◌+◌, ◌<◌, ◌≤◌, true, List, [], ◌∷◌, ◌++◌, append_assoc, Option, None, Result, Ok, Err, inl, inr, refl, sym, ap, subst, ◌∙◌, pos, ◌<ℤ◌}
-use Rattle.std.proofs.KnownBytes.{Appends-nil, Appends-trans}
-use Rattle.std.proofs.lemmas.List.{append-nil}
-use Rattle.exact_runs.specs.Records.{AreRecordsBefore}
-use Rattle.exact_runs.specs.Worlds.{ExactWorld, StandsExact}
-use Rattle.net_plan.specs.declared.event.Event.{Event}
-use Rattle.net_plan.specs.declared.network.Network.{Network}
+use Rattle.world_drive.proofs.Words.{◌++◌, ◌+◌, ◌<ℤ◌, ◌<◌, ◌∙◌, ◌∷◌, ◌≡◌, ◌≤◌, AreEarlier, AreRecordsBefore, Cut, CutsBefore, Err, Event, ExactWorld, List}
+use Rattle.world_drive.proofs.Words.{Network, None, Note, Ok, Option, Sees, SeesUntil, StandsExact, Start, Stops, Told, Units, [], amount, ap, append-nil}
+use Rattle.world_drive.proofs.Words.{append_assoc, inl, inr, pos, refl, subst, sym, told_by, true, ℕ}
+use Rattle.std.proofs.{Common.Result, KnownBytes.{Appends-nil, Appends-trans}}
 use Rattle.run_law.proofs.runs.Places.{before_later_time}
-use Rattle.run_law.specs.declared.note.Note.{Note}
-use Rattle.tte_io.specs.Faults.{Rose}
-use Rattle.tte_io.specs.declared.ends.Sink.{Ghosts}
-use Rattle.tte_units.specs.Amount.{amount}
-use Rattle.tte_units.specs.declared.units.Units.{Units}
-use Rattle.world_drive.proofs.Earlier.{earlier_at, earlier_joined}
-use Rattle.world_drive.specs.Observing.{FailsBy, Grows, PutsFurther, Sees, Start, Stops, Told, told_by}
-use Rattle.world_drive.specs.Seeing.{AreEarlier, CutsBefore, SeesInstant, SeesUntil}
-use Rattle.world_drive.specs.declared.observing.Cut.{Cut}
+use Rattle.tte_io.specs.{Faults.Rose, declared.ends.Sink.Ghosts}
+use Rattle.world_drive.{proofs.Earlier.{earlier_at, earlier_joined}, specs.{Observing.{FailsBy, Grows, PutsFurther}, Seeing.SeesInstant}}
 use Rattle.world_drive.specs.declared.observing.Cut.TheVariants.{OutOfMemory, WriteFault}
 
 -- ---- what was put
@@ -31,7 +21,8 @@ puts_none sink out = record { grew = ([], Appends-nil (sink.written out)); quiet
 pub grows_on : (old now new : Told) → Grows old now → Grows now new → Grows old new
 grows_on old now new a b = (a.0 ++ b.0, Appends-trans old.written now.written new.written a.0 b.0 a.1 b.1)
 
-pub puts_more : {K T : Type 0} (sink : Ghosts K) (x : T) (old now new : K) → PutsSoFar sink old now → PutsFurther {T = T} sink (Ok x) now new → PutsSoFar sink old new
+pub puts_more : {K T : Type 0} (sink : Ghosts K) (x : T) (old now new : K) → PutsSoFar sink old now → PutsFurther {T = T} sink (Ok x) now new
+    → PutsSoFar sink old new
 puts_more sink x old now new a b = record {
   grew = grows_on (told_by sink old) (told_by sink now) (told_by sink new) a.grew b.grew;
   quiet = b.quiet ∙ a.quiet;
@@ -57,10 +48,6 @@ puts_on sink (Err e) old now new a b = record {
 -- where it went well, or where no call of the sink was the cause
 pub puts_well : {K T : Type 0} (sink : Ghosts K) (x : T) (old new : K) → PutsSoFar sink old new → PutsFurther {T = T} sink (Ok x) old new
 puts_well sink x old new a = record { grew = a.grew; quiet = a.quiet; cause = tt {0} }
-
--- nothing was
-pub puts_nothing : {K T : Type 0} (sink : Ghosts K) (x : T) (out : K) → PutsFurther {T = T} sink (Ok x) out out
-puts_nothing sink x out = puts_well sink x out out (puts_none sink out)
 
 pub puts_cut : {K T U : Type 0} (sink : Ghosts K) (e : Cut) (old now new : K) → PutsSoFar sink old now → PutsFurther {T = T} sink (Err e) now new
     → PutsFurther {T = U} sink (Err e) old new
@@ -88,7 +75,8 @@ pub record HasSeenMore {O : Type 0} (see : Sees O) (network : Network) (events :
   pub earlier : AreEarlier network events notes more until
 
 pub seen_none : {O : Type 0} (see : Sees O) (network : Network) (events : List Event) (notes : List Note) (instant : Option ℕ) (until : ℕ)
-    (world : ExactWorld) (observer : O) (old : Start O) (put : Told) → StandsExact network world events notes → see network events notes instant old put observer
+    (world : ExactWorld) (observer : O) (old : Start O) (put : Told) → StandsExact network world events notes
+    → see network events notes instant old put observer
     → HasSeenMore see network events notes instant until world observer old put
 seen_none see network events notes instant until world observer old put a b = record {
   more = [];

@@ -1,17 +1,11 @@
 -- The order of events.
-use Rattle.std.proofs.Common.{◌≡◌, ◌⊎◌, ℤ, pos, negsuc, ◌≤ℤ◌, ◌<ℤ◌, unsigned_abs, ◌≤◌, List, [], ◌∷◌, ◌++◌, inl, inr, refl, sym, subst, arith}
-use Rattle.std.proofs.lemmas.Int.{ints}
-use Rattle.drift_world.specs.Running.{last_time}
-use Rattle.exact_runs.proofs.Events.{last_is, last_or_none}
-use Rattle.exact_runs.specs.Records.{HaveEnded}
-use Rattle.net_plan.specs.declared.event.Event.{Event}
+use Rattle.world_drive.proofs.Words.{◌++◌, ◌<ℤ◌, ◌∷◌, ◌≡◌, ◌≤ℤ◌, ◌≤◌, Event, List, MayGive, Network, Units, [], arith, inl, inr, ints, last_is, last_time, pos}
+use Rattle.world_drive.proofs.Words.{refl, subst, sym, unsigned_abs}
+use Rattle.std.proofs.Common.{◌⊎◌, negsuc, ℤ}
 use Rattle.net_plan.specs.declared.event.What.TheVariants.{End}
-use Rattle.net_plan.specs.declared.network.Network.{Network}
+use Rattle.run_law.specs.{runs.DueRecords.EndsAt, scenario.Hypothesis.ComesTooEarly}
+use Rattle.world_exact.{proofs.Events.last_or_none, specs.Records.HaveEnded}
 use Rattle.run_law.specs.declared.outside.Outside.TheVariants as conditions
-use Rattle.run_law.specs.runs.DueRecords.{EndsAt}
-use Rattle.run_law.specs.scenario.Hypothesis.{ComesTooEarly}
-use Rattle.tte_units.specs.declared.units.Units.{Units}
-use Rattle.world_drive.specs.Sources.{MayGive}
 
 pub not_less : (a b : ℤ) → (b <ℤ a → ⊥) → a ≤ℤ b
 not_less a b not = grind (arith, ints)

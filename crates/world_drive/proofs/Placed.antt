@@ -1,23 +1,11 @@
 -- Where the records stand that a world gives one after another.
-use Rattle.std.proofs.Common.{◌≡◌, ℕ, ◌≤◌, ◌<◌, pos, ◌+ℤ◌, ◌<ℤ◌, true, false, List, [], ◌∷◌, ◌++◌, length-append, inl, inr, refl, sym, ap, subst, arith}
-use Rattle.std.proofs.lemmas.Bool.{cases_Bool, cases_lt}
-use Rattle.std.proofs.lemmas.Int.{ints}
-use Rattle.std.proofs.lemmas.List.{append-nil}
-use Rattle.drift_world.specs.Running.{left_of}
-use Rattle.exact_runs.specs.Records.{AreRecordsBefore, clock_reading}
-use Rattle.exact_runs.specs.Worlds.{ExactWorld, StandsExact}
-use Rattle.net_plan.specs.declared.event.Event.{Event}
-use Rattle.net_plan.specs.declared.network.Network.{Network}
-use Rattle.run_law.proofs.runs.NetworkRuns.{one_more}
-use Rattle.run_law.proofs.runs.Places.{never_self}
-use Rattle.run_law.specs.declared.note.Note.{Note}
-use Rattle.run_law.specs.records.Happenings.{Happening, happening, happenings, time_of}
-use Rattle.run_law.specs.records.Order.{IsBefore, IsIn}
-use Rattle.run_law.specs.records.Ranks.{place_of}
-use Rattle.run_law.specs.runs.DueRecords.{IsScenarioRun}
-use Rattle.run_law.specs.scenario.Scenarios.{Scenario}
-use Rattle.tte_units.specs.Amount.{amount, units_of}
-use Rattle.tte_units.specs.declared.units.Units.{Units}
+use Rattle.world_drive.proofs.Words.{◌++◌, ◌+ℤ◌, ◌<ℤ◌, ◌<◌, ◌∷◌, ◌≡◌, ◌≤◌, AreRecordsBefore, Event, ExactWorld, Happening, List, Network, Note, StandsExact}
+use Rattle.world_drive.proofs.Words.{Units, [], amount, ap, append-nil, arith, cases_lt, false, happenings, inl, inr, ints, left_of, pos, refl, subst, sym}
+use Rattle.world_drive.proofs.Words.{true, units_of, ℕ}
+use Rattle.std.proofs.{Common.length-append, lemmas.Bool.cases_Bool}
+use Rattle.run_law.{proofs.runs.{NetworkRuns.one_more, Places.never_self}, specs.records.{Happenings.happening, Order.IsBefore, Ranks.place_of}}
+use Rattle.run_law.specs.{runs.DueRecords.IsScenarioRun, scenario.Scenarios.Scenario}
+use Rattle.world_exact.specs.Records.{clock_reading}
 use Rattle.world_law.specs.source.Agreeing.{scenario}
 
 -- the last record with its frame
@@ -53,14 +41,6 @@ pub given_behind : (network : Network) (events : List Event) (notes : List Note)
 given_behind network events notes note next time all b = elim (cases_lt (amount note.time) time) [
   | inl lt ↦ absurd (not_marked (scenario network (clock_reading network events) events) notes note (time ∷ []) b.is.mark all b.is.run (inl lt))
   | inr le ↦ le
-]
-
--- no record is later than the world's time
-pub none_behind : (network : Network) (events : List Event) (notes : List Note) (world : ExactWorld) → StandsExact network world events notes → (h : Happening)
-    → IsIn h (happenings network notes) → time_of h ≤ world.now
-none_behind network events notes world a h i = elim (a.is.not_later (place_of h) (a.is.ahead (place_of h) (a.is.run.within h i))) [
-  | inl lt ↦ omega (arith, lt)
-  | inr bad ↦ absurd bad.1
 ]
 
 -- a record that is given before the time behind the world's is of the world's time

@@ -1,17 +1,9 @@
 -- How a world comes to a time.
-use Rattle.std.proofs.Common.{◌≡◌, ◌⊎◌, ℕ, ◌+◌, ◌^◌, ◌<◌, ℤ, pos, negsuc, ◌+ℤ◌, ◌<ℤ◌, ◌≤ℤ◌, true, false, List, inl, inr, subst, arith}
-use Rattle.std.proofs.lemmas.Bool.{cases_Bool, cases_lt}
-use Rattle.std.proofs.lemmas.Int.{ints}
-use Rattle.drift_world.specs.Running.{Reaches}
-use Rattle.exact_runs.proofs.Given.{still_ended}
-use Rattle.exact_runs.proofs.Worlds.{go_on}
-use Rattle.exact_runs.specs.Worlds.{ExactWorld, StandsExact}
-use Rattle.net_plan.specs.declared.event.Event.{Event}
-use Rattle.net_plan.specs.declared.network.Network.{Network}
-use Rattle.run_law.specs.declared.note.Note.{Note}
-use Rattle.tte_units.specs.declared.units.Units.{Units}
+use Rattle.world_drive.proofs.Words.{◌+ℤ◌, ◌+◌, ◌<ℤ◌, ◌<◌, ◌^◌, ◌≡◌, ◌≤ℤ◌, Event, ExactWorld, IsAsked, IsPast, List, Network, Note, Reaches, StandsExact, Units}
+use Rattle.world_drive.proofs.Words.{arith, cases_lt, false, go_on, inl, inr, ints, pos, subst, true, ℕ}
+use Rattle.std.proofs.{Common.{◌⊎◌, negsuc, ℤ}, lemmas.Bool.cases_Bool}
+use Rattle.world_exact.proofs.Given.{still_ended}
 use Rattle.world_drive.proofs.Placed.{end_stays, unended_before}
-use Rattle.world_drive.specs.Seeing.{IsAsked, IsPast}
 
 -- the world is where it was, or before the time, or it has just come to it
 abbrev pub IsNearing : ExactWorld → ExactWorld → Units → Type 0

@@ -1,24 +1,18 @@
 -- What an observer of a run sees, and what was put by then. `see` says of an observer that it has seen the records of a
 -- network under these events, and that from the start of the drive what was put led to this. Where it waits for the end
 -- of the instant that is underway, the time of this instant is told.
-use Rattle.std.specs.Prelude.{◌≡◌, ◌^◌, ◌+◌, ℕ, pos, ◌≤ℤ◌, Bool, true, false, List, [], ◌∷◌, ◌++◌, length, Option, Some, None, IfErr, IfSome, OnOk, Result}
 use Rattle.std.specs.Io.KnownBytes.{Appends}
-use Rattle.device_machines.specs.Standing.{StandsAsDevice}
-use Rattle.drift_clock.specs.Segment.{fresh_segment, stepped_segment, segment_reading}
-use Rattle.drift_world.specs.Locals.{IsComplete}
-use Rattle.drift_world.specs.Running.{event_note}
-use Rattle.exact_runs.specs.Records.{AreRecordsSoFar}
-use Rattle.exact_runs.specs.Worlds.{ExactWorld, IsReached, StandsExact}
-use Rattle.net_plan.specs.declared.event.Event.{Event}
-use Rattle.net_plan.specs.declared.network.Network.{Network}
+use Rattle.std.specs.Prelude.{◌++◌, ◌+◌, ◌^◌, ◌∷◌, ◌≡◌, ◌≤ℤ◌, Bool, IfErr, IfSome, List, None, OnOk, Option, Result}
+use Rattle.std.specs.Prelude.{Some, [], false, length, pos, true, ℕ}
+use Rattle.drift_clock.specs.Segment.{fresh_segment, segment_reading, stepped_segment}
+use Rattle.drift_world.specs.{Locals.IsComplete, Running.event_note}
+use Rattle.net_plan.specs.declared.{event.Event.Event, network.Network.Network}
 use Rattle.run_law.specs.declared.note.Note.{Note}
-use Rattle.tte_io.specs.Faults.{Rose}
-use Rattle.tte_io.specs.declared.ends.Sink.{Ghosts}
-use Rattle.tte_units.specs.Amount.{amount, units_of}
-use Rattle.tte_units.specs.declared.units.Units.{Units}
-use Rattle.world_drive.specs.Sources.{MayGive}
-use Rattle.world_drive.specs.declared.observing.Cut.{Cut}
-use Rattle.world_drive.specs.declared.observing.Cut.TheVariants.{OutOfMemory, WriteFault}
+use Rattle.tte_io.specs.{Faults.Rose, declared.ends.Sink.Ghosts}
+use Rattle.tte_units.specs.{Amount.{amount, units_of}, declared.units.Units.Units}
+use Rattle.world_exact.specs.{Records.AreRecordsSoFar, Worlds.{ExactWorld, IsReached, StandsExact}}
+use Rattle.world_machines.specs.Standing.{StandsAsDevice}
+use Rattle.world_drive.specs.{Sources.MayGive, declared.observing.Cut.{Cut, TheVariants.{OutOfMemory, WriteFault}}}
 
 -- ---- what was put
 
@@ -69,7 +63,8 @@ instant_of None true time = Some (amount time)
 instant_of None false time = None
 
 -- the world gave one more record, at its time; that is the instant whose end is waited for, if one is
-pub record IsGiven (network : Network) (world : ExactWorld) (instant : Option ℕ) (events : List Event) (notes : List Note)
+pub record IsGiven (network : Network) (world : ExactWorld) (instant : Option ℕ) (events : List Event)
+    (notes : List Note)
     (note : Note) : Type 0 where
   pub stands : StandsExact network world events (notes ++ note ∷ [])
   pub at : note.time ≡ units_of world.now
@@ -85,8 +80,8 @@ pub record MaySee {O : Type 0} (see : Sees O) (network : Network) (world : Exact
   pub given : IsGiven network world instant events notes note
   pub sees : see network events notes instant old put observer
 
--- the event, which may befall the network next, befell the world, which stands at its time; the records are those of the
--- run up to its own
+-- the event, which may befall the network next, befell the world, which stands at its time; the records are those of
+-- the run up to its own
 pub record Befell (network : Network) (world : ExactWorld) (events : List Event) (notes : List Note) (event : Event)
     (note : Note) : Type 0 where
   pub may : MayGive network events event
@@ -96,7 +91,8 @@ pub record Befell (network : Network) (world : ExactWorld) (events : List Event)
   pub is : note ≡ event_note (length notes + 1) (length events + 1) event
 
 -- it has befallen it, and the observer has not seen that
-pub record MaySeeEvent {O : Type 0} (see : Sees O) (network : Network) (world : ExactWorld) (event : Event) (note : Note)
+pub record MaySeeEvent {O : Type 0} (see : Sees O) (network : Network) (world : ExactWorld) (event : Event)
+    (note : Note)
     (observer : O) (put : Told) : Type 0 where
   pub events : List Event
   pub notes : List Note

@@ -1,20 +1,14 @@
 -- The records of a run seen one after another.
-use Rattle.std.specs.Prelude.{◌≡◌, ◌⊎◌, ℕ, ◌+◌, ◌^◌, ◌<◌, pos, ◌<ℤ◌, ◌≤ℤ◌, true, false, List, [], ◌∷◌, ◌++◌, length, Some, None}
+use Rattle.std.specs.Prelude.{◌++◌, ◌+◌, ◌<ℤ◌, ◌<◌, ◌^◌, ◌∷◌, ◌≡◌, ◌≤ℤ◌, ◌⊎◌, List, None, Some, [], false, length, pos}
+use Rattle.std.specs.Prelude.{true, ℕ}
 use Rattle.drift_world.specs.Running.{last_time}
-use Rattle.exact_runs.specs.Records.{AreRecordsBefore, AreRecordsSoFar}
-use Rattle.exact_runs.specs.Worlds.{ExactWorld, IsReached, StandsExact}
-use Rattle.net_plan.specs.declared.event.Event.{Event}
-use Rattle.net_plan.specs.declared.network.Network.{Network}
-use Rattle.run_law.specs.declared.note.Note.{Note}
-use Rattle.run_law.specs.records.Happenings.{Happening, happenings}
-use Rattle.run_law.specs.records.Order.{IsBefore, IsIn}
+use Rattle.net_plan.specs.declared.{event.Event.Event, network.Network.Network}
+use Rattle.run_law.specs.{declared.note.Note.Note, records.{Happenings.{Happening, happenings}, Order.{IsBefore, IsIn}}}
 use Rattle.run_law.specs.records.Ranks.{place_of}
-use Rattle.tte_units.specs.Amount.{amount}
-use Rattle.tte_units.specs.declared.units.Units.{Units}
-use Rattle.world_drive.specs.Observing.{Sees, Start, Stops, Told}
-use Rattle.world_drive.specs.Sources.{MayGive}
-use Rattle.world_drive.specs.declared.observing.Cut.{Cut}
+use Rattle.tte_units.specs.{Amount.amount, declared.units.Units.Units}
+use Rattle.world_exact.specs.{Records.{AreRecordsBefore, AreRecordsSoFar}, Worlds.{ExactWorld, IsReached, StandsExact}}
 use Rattle.world_law.specs.source.Applying.{place_of_event}
+use Rattle.world_drive.specs.{Observing.{Sees, Start, Stops, Told}, Sources.MayGive, declared.observing.Cut.Cut}
 
 -- ---- up to a time
 
@@ -26,7 +20,8 @@ AreEarlier network events notes more until =
     × AreRecordsBefore network events mark (notes ++ more))
 
 -- the observer has seen the records that leave the world where it stands
-pub record HasSeen {O : Type 0} (see : Sees O) (network : Network) (world : ExactWorld) (observer : O) (put : Told) : Type 0 where
+pub record HasSeen {O : Type 0} (see : Sees O) (network : Network) (world : ExactWorld) (observer : O)
+    (put : Told) : Type 0 where
   pub events : List Event
   pub notes : List Note
   pub old : Start O
@@ -46,10 +41,12 @@ pub record SeesUntil {O : Type 0} (see : Sees O) (network : Network) (events : L
   pub stands : StandsExact network world events (notes ++ more)
   pub sees : see network events (notes ++ more) None old put observer
   pub earlier : AreEarlier network events notes more (amount until)
-  pub all : from.ended ≡ true → pos from.now <ℤ until.0 → AreRecordsBefore network events (amount until ∷ []) (notes ++ more)
+  pub all : from.ended ≡ true → pos from.now <ℤ until.0
+      → AreRecordsBefore network events (amount until ∷ []) (notes ++ more)
 
 -- more records were given, which are earlier than the time, and there the observer failed
-pub record CutsBefore {O : Type 0} (stop : Stops O) (network : Network) (events : List Event) (notes : List Note) (until : ℕ) (cut : Cut)
+pub record CutsBefore {O : Type 0} (stop : Stops O) (network : Network) (events : List Event) (notes : List Note)
+    (until : ℕ) (cut : Cut)
     (old : Start O) (put : Told) : Type 0 where
   pub more : List Note
   pub earlier : AreEarlier network events notes more until
@@ -130,7 +127,8 @@ HasBefallen network events event befallen notes =
     ⊎ ((befallen ≡ events ++ event ∷ []) × AreRecordsSoFar network befallen notes)
 
 -- the observer failed on the way to the event, or at it
-pub record CutsAtEvent {O : Type 0} (stop : Stops O) (network : Network) (events : List Event) (notes : List Note) (event : Event)
+pub record CutsAtEvent {O : Type 0} (stop : Stops O) (network : Network) (events : List Event) (notes : List Note)
+    (event : Event)
     (cut : Cut) (old : Start O) (put : Told) : Type 0 where
   pub befallen : List Event
   pub more : List Note

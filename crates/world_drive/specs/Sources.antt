@@ -1,11 +1,10 @@
 -- Where the events of a run come from.
-use Rattle.std.specs.Prelude.{ℕ, ◌+◌, ◌^◌, ◌<◌, pos, ◌≤ℤ◌, List, [], ◌∷◌, ◌++◌, length, Option, Some, None, Result, Ok, Err}
+use Rattle.std.specs.Prelude.{◌++◌, ◌+◌, ◌<◌, ◌^◌, ◌∷◌, ◌≤ℤ◌, Err, List, None, Ok, Option, Result, Some, [], length}
+use Rattle.std.specs.Prelude.{pos, ℕ}
 use Rattle.drift_world.specs.Running.{HoldsATime}
-use Rattle.exact_runs.specs.Records.{HaveEnded}
-use Rattle.net_plan.specs.Belonging.{IsOfNetwork}
-use Rattle.net_plan.specs.declared.event.Event.{Event}
-use Rattle.net_plan.specs.declared.network.Network.{Network}
+use Rattle.net_plan.specs.{Belonging.IsOfNetwork, declared.{event.Event.Event, network.Network.Network}}
 use Rattle.run_law.specs.scenario.Hypothesis.{IsWithinHypothesis}
+use Rattle.world_exact.specs.Records.{HaveEnded}
 
 -- the event may befall the network after these, of which none is the end
 pub record MayGive (network : Network) (events : List Event) (event : Event) : Type 0 where
@@ -24,7 +23,8 @@ abbrev pub Stopped : Type 0 → Type 0 → Type 0 → Type 0 → Type 1
 Stopped B S K E = Network → B → E → List Event → S → B → E → K → K → Type 0
 
 -- the source gives one more event; or the end was given; or it stops
-abbrev pub GivesNext : {B S K E : Type 0} → Gave B E → Gave B E → Stopped B S K E → (E → ℕ) → Network → B → E → List Event
+abbrev pub GivesNext : {B S K E : Type 0} → Gave B E → Gave B E → Stopped B S K E → (E → ℕ) → Network → B → E
+    → List Event
     → Result (Option Event) S → B → E → E → K → K → Type 0
 GivesNext gave ended stopped left network first origin events (Ok (Some event)) from old new before after =
     MayGive network events event × (left new < left old) × gave network first origin (events ++ event ∷ []) from new

@@ -1,11 +1,11 @@
 ghost use Rattle.std.specs.Prelude.{◌≡◌, true, [], IfOk};
-ghost use Rattle.exact_runs.specs.Worlds.{StandsExact};
+ghost use Rattle.world_exact.specs.Worlds.{StandsExact};
 
-use device_machines::machines_of;
 use drift_world::{OutOfMemory, World};
-use exact_runs::ExactWorld;
 use schedule_tables::Accepted;
 use std::alloc::Global;
+use world_exact::ExactWorld;
+use world_machines::machines_of;
 
 /// The world of a network at time 0, which nothing has befallen.
 ///

@@ -1,16 +1,15 @@
-ghost use Rattle.std.specs.Prelude.{◌≡◌, true, [], None};
-ghost use Rattle.exact_runs.specs.Worlds.{StandsExact};
+ghost use Rattle.std.specs.Prelude.{◌≡◌, None, [], true};
 ghost use Rattle.net_plan.specs.Ranges.{IsInRange};
-ghost use Rattle.world_drive.specs.Driving.{Drives};
-ghost use Rattle.world_drive.specs.Observing.{start_by, told_by};
+ghost use Rattle.world_exact.specs.Worlds.{StandsExact};
+ghost use Rattle.world_drive.specs.{Driving.Drives, Observing.{start_by, told_by}};
 
 use crate::observing::{Cut, Observer};
 use crate::seeing::{next_unit, see_event, see_until};
 use crate::sources::Events;
-use exact_runs::ExactWorld;
 use net_plan::Network;
 use tte_io::Sink;
 use tte_units::Units;
+use world_exact::ExactWorld;
 
 /// How a drive ended.
 #[derive(Drop)]
@@ -37,7 +36,8 @@ pub fn drive<B, K: Sink, S, E: Events<B, K, S>, O: Observer<K>>(
     requires world { StandsExact network.now world.old [] [] }
     requires fresh { (world.old.now ≡ 0) × (world.old.early ≡ true) }
     requires source { E.gave network.now from.old source.old [] from.old source.old }
-    requires observer { O.sees network.now [] [] None (start_by K.Sink out.old observer.old) (told_by K.Sink out.old) observer.old }
+    requires observer { O.sees network.now [] [] None (start_by K.Sink out.old observer.old) (told_by K.Sink out.old)
+        observer.old }
     ensures { Drives K.Sink E.gave E.ended E.stopped O.sees O.stops network.now from.old source.old result
         from.new source.new world.new observer.old observer.new out.old out.new }
 {

@@ -1,18 +1,17 @@
-ghost use Rattle.std.specs.Prelude.{◌≡◌, ◌<◌, ℕ, true, List, [], ◌∷◌, ◌++◌, Option, Some, None, IfOk, MatchResult};
-ghost use Rattle.net_plan.specs.Ranges.{IsInRange};
-ghost use Rattle.net_plan.specs.declared.event.Event.{Event as EventValue};
+ghost use Rattle.std.specs.Prelude.{◌++◌, ◌<◌, ◌∷◌, ◌≡◌, IfOk, List, MatchResult, None, Option, Some, [], true, ℕ};
+ghost use Rattle.net_plan.specs.{Ranges.IsInRange, declared.event.Event.Event as EventValue};
 ghost use Rattle.net_plan.specs.declared.network.Network.{Network as NetworkValue};
-ghost use Rattle.run_law.specs.declared.note.Note.{Note as NoteValue};
-ghost use Rattle.run_law.specs.records.Ranks.{rank};
+ghost use Rattle.run_law.specs.{declared.note.Note.Note as NoteValue, records.Ranks.rank};
 ghost use Rattle.tte_units.specs.Amount.{amount};
-ghost use Rattle.world_drive.specs.Observing.{Befell, IsCompleteExact, IsGiven, MaySee, MaySeeEvent, MaySettle, PutsFurther, Start, Told, instant_of, told_by};
+ghost use Rattle.world_drive.specs.Observing.{Befell, IsCompleteExact, IsGiven, MaySee, MaySeeEvent, MaySettle};
+ghost use Rattle.world_drive.specs.Observing.{PutsFurther, Start, Told, instant_of, told_by};
 ghost use Rattle.world_drive.specs.declared.observing.Cut.{Cut as CutValue};
 
 use drift_world::{EventNote, Given};
-use exact_runs::ExactWorld;
 use net_plan::{Event, Network};
 use tte_io::Sink;
 use tte_units::Units;
+use world_exact::ExactWorld;
 
 /// Why a drive is cut short.
 #[derive(Clone, Copy, Debug, PartialEq, Eq)]

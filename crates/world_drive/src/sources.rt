@@ -1,8 +1,6 @@
-ghost use Rattle.std.specs.Prelude.{◌≡◌, ℕ, List, OnOk};
-ghost use Rattle.net_plan.specs.declared.event.Event.{Event as EventValue};
-ghost use Rattle.net_plan.specs.declared.network.Network.{Network as NetworkValue};
-ghost use Rattle.world_drive.specs.Observing.{told_by};
-ghost use Rattle.world_drive.specs.Sources.{GivesNext};
+ghost use Rattle.std.specs.Prelude.{◌≡◌, List, OnOk, ℕ};
+ghost use Rattle.net_plan.specs.declared.{event.Event.Event as EventValue, network.Network.Network as NetworkValue};
+ghost use Rattle.world_drive.specs.{Observing.told_by, Sources.GivesNext};
 
 use net_plan::Event;
 use tte_io::Sink;
@@ -26,7 +24,8 @@ pub trait Events<B, K: Sink, S>: Drop {
     fn next_event(&mut self, from: &mut B, out: &mut K) -> Result<Option<Event>, S>
         ensures gives { (network : NetworkValue) (first : B) (origin : Self) (events : List EventValue)
             → gave network first origin events from.old self.old
-            → GivesNext gave ended stopped left network first origin events result from.new self.old self.new out.old out.new }
+            → GivesNext gave ended stopped left network first origin events result from.new self.old self.new out.old
+            out.new }
         ensures nothing_put { told_by K.Sink out.new ≡ told_by K.Sink out.old }
         ensures quiet { OnOk result (K.faults out.new ≡ K.faults out.old) };
 }

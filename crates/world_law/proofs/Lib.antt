@@ -1,3 +1,4 @@
+pub mod Words
 pub mod lists
 pub mod frames
 pub mod rows

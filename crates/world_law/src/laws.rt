@@ -1,6 +1,5 @@
 ghost use Rattle.world_law.specs.device.Growing.{ActsAreFew, ActsGrow, FewAreEmitted};
-ghost use Rattle.world_law.specs.source.Applying.{RunGoesOnByEvent, RunStaysUnderMore};
-ghost use Rattle.world_law.specs.source.Sources.{DueIsSourced};
+ghost use Rattle.world_law.specs.source.{Applying.{RunGoesOnByEvent, RunStaysUnderMore}, Sources.DueIsSourced};
 ghost use Rattle.world_law.specs.world.Moves.{GivenStep, NothingComesBefore};
 ghost use Rattle.world_law.specs.world.World.{FirstSettledIsNext, NothingSettledIsAll};
 

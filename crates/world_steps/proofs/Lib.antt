@@ -1,3 +1,4 @@
+pub mod Words
 pub mod growing
 pub mod acting
 pub mod steps

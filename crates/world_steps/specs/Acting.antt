@@ -1,33 +1,22 @@
 -- A machine acts.
-use Rattle.std.specs.Prelude.{◌≡◌, ℕ, ◌<◌, pos, List, [], ◌∷◌, length, slice_get, Some, false, if◌then◌else◌, ◌<ℤ◌}
-use Rattle.net_plan.specs.declared.ids.DeviceId.{DeviceId}
-use Rattle.net_plan.specs.declared.network.Network.{Network}
-use Rattle.run_law.specs.records.Happenings.{Happening, happenings}
-use Rattle.run_law.specs.machines.Nodes.{Node}
-use Rattle.run_law.specs.records.Order.{behind}
-use Rattle.run_law.specs.scenario.Scenarios.{Scenario}
-use Rattle.run_law.specs.machines.Tasks.{IsPending, Task, reading_for}
-use Rattle.run_law.specs.scenario.Ways.{is_cut, way_from}
-use Rattle.run_law.specs.declared.judgement.Why.TheVariants as whys
-use Rattle.run_law.specs.declared.note.Note.{Note}
-use Rattle.run_law.specs.declared.note.NoteBody.TheVariants as kinds
-use Rattle.run_law.specs.declared.note.NoteBody.{NoteBody}
-use Rattle.sync_state.specs.declared.state.State.{State}
-use Rattle.tte_units.specs.declared.units.Units.{Units}
-use Rattle.world_law.specs.world.World.{Stands, World, act_place, none_yet}
-use Rattle.run_law.specs.timed.Dispatching.{HasAtHand}
-use Rattle.run_law.specs.declared.steps.Act.{Act}
-use Rattle.run_law.specs.declared.steps.Act.TheVariants as acts
-use Rattle.run_law.specs.declared.steps.Ripe.{Ripe}
-use Rattle.run_law.specs.declared.steps.Ripe.TheVariants as ripe
-use Rattle.schedule_tables.specs.declared.entry.Entry.{Entry}
-use Rattle.schedule_tables.specs.Entries.{IsEntry}
-use Rattle.sync_state.specs.declared.answers.Verdict.{Verdict}
-use Rattle.sync_state.specs.declared.answers.Verdict.TheVariants as verdicts
+use Rattle.std.specs.Prelude.{if◌then◌else◌, ◌<ℤ◌, ◌<◌, ◌∷◌, ◌≡◌, List, Some, [], false, length, pos, slice_get, ℕ}
+use Rattle.net_plan.specs.declared.{ids.DeviceId.DeviceId, network.Network.Network}
+use Rattle.run_law.specs.declared.{note.{Note.Note, NoteBody.NoteBody}, steps.{Act.Act, Ripe.Ripe}}
+use Rattle.run_law.specs.machines.{Nodes.Node, Tasks.{IsPending, Task, reading_for}}
+use Rattle.run_law.specs.{records.{Happenings.{Happening, happenings}, Order.behind}, scenario.Scenarios.Scenario}
+use Rattle.run_law.specs.{scenario.Ways.{is_cut, way_from}, timed.Dispatching.HasAtHand}
+use Rattle.schedule_tables.specs.{Entries.IsEntry, declared.entry.Entry.Entry}
+use Rattle.sync_state.specs.declared.{answers.Verdict.Verdict, state.State.State}
 use Rattle.sync_state.specs.declared.state.State.TheVariants.{Integrating, Joining, Synchronised}
-use Rattle.world_law.specs.world.Moves.{ArePutIn, ComesFirst, StandsBehind}
-use Rattle.world_law.specs.world.Calls.{IsStateOf, IsDueNow, HasActed, moment_of, IsSet}
-use Rattle.world_law.specs.world.Outcomes.{judged_as}
+use Rattle.tte_units.specs.declared.units.Units.{Units}
+use Rattle.world_law.specs.world.Calls.{HasActed, IsDueNow, IsSet, IsStateOf, moment_of}
+use Rattle.world_law.specs.world.{Moves.{ArePutIn, ComesFirst, StandsBehind}, Outcomes.judged_as}
+use Rattle.world_law.specs.world.World.{Stands, World, act_place, none_yet}
+use Rattle.run_law.specs.declared.judgement.Why.TheVariants as whys
+use Rattle.run_law.specs.declared.note.NoteBody.TheVariants as kinds
+use Rattle.run_law.specs.declared.steps.Act.TheVariants as acts
+use Rattle.run_law.specs.declared.steps.Ripe.TheVariants as ripe
+use Rattle.sync_state.specs.declared.answers.Verdict.TheVariants as verdicts
 
 -- a frame of its own that tells a device the time makes it joining
 abbrev pub joining_bodies : DeviceId → Ripe → List NoteBody

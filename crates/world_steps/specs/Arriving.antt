@@ -1,19 +1,12 @@
 -- A frame on a wire arrives.
-use Rattle.std.specs.Prelude.{◌≡◌, ℕ, List, [], ◌∷◌, slice_get, Some, false}
-use Rattle.net_plan.specs.declared.ids.DeviceId.{DeviceId}
-use Rattle.net_plan.specs.declared.network.Network.{Network}
-use Rattle.run_law.specs.records.Happenings.{Happening, happenings}
-use Rattle.run_law.specs.machines.Nodes.{Node}
-use Rattle.run_law.specs.records.Order.{IsIn, behind}
-use Rattle.run_law.specs.scenario.Scenarios.{Scenario}
-use Rattle.run_law.specs.declared.note.Note.{Note}
+use Rattle.std.specs.Prelude.{◌∷◌, ◌≡◌, List, Some, [], false, slice_get, ℕ}
+use Rattle.net_plan.specs.declared.{ids.DeviceId.DeviceId, network.Network.Network}
+use Rattle.run_law.specs.{control.Wires.signal_of, declared.{note.Note.Note, steps.Arrival.Arrival}}
+use Rattle.run_law.specs.{machines.{Calls.MayArrive, Nodes.Node}, records.Happenings.{Happening, happenings}}
+use Rattle.run_law.specs.{records.Order.{IsIn, behind}, scenario.Scenarios.Scenario}
+use Rattle.world_law.specs.world.Calls.{HasHeard, IsSet, moment_of}
+use Rattle.world_law.specs.world.{Moves.{ArePutIn, ComesFirst, IsWithout, StandsBehind}, Outcomes.arrival_body}
 use Rattle.world_law.specs.world.World.{OnWire, Stands, World, wire_place}
-use Rattle.run_law.specs.machines.Calls.{MayArrive}
-use Rattle.run_law.specs.control.Wires.{signal_of}
-use Rattle.run_law.specs.declared.steps.Arrival.{Arrival}
-use Rattle.world_law.specs.world.Moves.{ArePutIn, IsWithout, ComesFirst, StandsBehind}
-use Rattle.world_law.specs.world.Outcomes.{arrival_body}
-use Rattle.world_law.specs.world.Calls.{HasHeard, moment_of, IsSet}
 
 -- the first frame on a wire arrives: the machine of its device hears it, and its record is settled
 abbrev pub HeardStep : {C M : Type 0} → (C → ℕ → ℕ) → (M → Network → DeviceId → Node → Type 0) → Type 0

@@ -1,24 +1,17 @@
 -- What the events of an instant leave is settled.
-use Rattle.std.specs.Prelude.{Some, ◌≡◌, ℕ, ◌+◌, ◌<◌, List, [], ◌∷◌, length, false, true, flat_map, if◌then◌else◌}
-use Rattle.net_plan.specs.Places.{link_at}
 use Rattle.std.specs.Option.{option_map_or}
-use Rattle.net_plan.specs.declared.event.What.{What}
-use Rattle.net_plan.specs.declared.event.What.TheVariants as events
-use Rattle.net_plan.specs.declared.ids.DeviceId.{DeviceId}
-use Rattle.net_plan.specs.declared.network.Network.{Network}
+use Rattle.std.specs.Prelude.{if◌then◌else◌, ◌+◌, ◌<◌, ◌∷◌, ◌≡◌, List, Some, [], false, flat_map, length, true, ℕ}
+use Rattle.net_plan.specs.{Places.link_at, declared.{event.What.What, ids.DeviceId.DeviceId, network.Network.Network}}
 use Rattle.net_plan.specs.declared.tables.Way.TheVariants.{Up}
-use Rattle.run_law.specs.records.Happenings.{Happening, happenings, numbered}
-use Rattle.run_law.specs.machines.Nodes.{Node}
-use Rattle.run_law.specs.records.Order.{behind}
-use Rattle.run_law.specs.scenario.Scenarios.{Scenario, is_broken}
-use Rattle.run_law.specs.scenario.Ways.{is_cut}
-use Rattle.run_law.specs.declared.judgement.Why.TheVariants as whys
-use Rattle.run_law.specs.declared.note.Note.{Note}
-use Rattle.run_law.specs.declared.note.NoteBody.{NoteBody}
-use Rattle.run_law.specs.declared.note.NoteBody.TheVariants as kinds
+use Rattle.run_law.specs.{declared.note.{Note.Note, NoteBody.NoteBody}, machines.Nodes.Node}
+use Rattle.run_law.specs.records.{Happenings.{Happening, happenings, numbered}, Order.behind}
+use Rattle.run_law.specs.scenario.{Scenarios.{Scenario, is_broken}, Ways.is_cut}
 use Rattle.sync_state.specs.declared.state.State.TheVariants.{Integrating}
-use Rattle.world_law.specs.world.World.{Befell, OnWire, Stands, World, none_yet}
 use Rattle.world_law.specs.world.Moves.{ArePut, ArePutIn, StandsBehind}
+use Rattle.world_law.specs.world.World.{Befell, OnWire, Stands, World, none_yet}
+use Rattle.net_plan.specs.declared.event.What.TheVariants as events
+use Rattle.run_law.specs.declared.judgement.Why.TheVariants as whys
+use Rattle.run_law.specs.declared.note.NoteBody.TheVariants as kinds
 
 -- the records of what comes of an event that befell: the device is turned on, unless it is broken; or the octets of a
 -- broken master meet a cut way

@@ -1,29 +1,20 @@
 -- A frame that waits is permanent.
-use Rattle.std.specs.Prelude.{◌≡◌, ℕ, pos, ◌≤ℤ◌, List, [], ◌∷◌, slice_get, Some, false}
-use Rattle.net_plan.specs.declared.ids.DeviceId.{DeviceId}
-use Rattle.net_plan.specs.declared.ids.LinkId.{LinkId}
-use Rattle.net_plan.specs.declared.network.Network.{Network}
+use Rattle.std.specs.Prelude.{◌∷◌, ◌≡◌, ◌≤ℤ◌, List, Some, [], false, pos, slice_get, ℕ}
+use Rattle.net_plan.specs.declared.{ids.{DeviceId.DeviceId, LinkId.LinkId}, network.Network.Network}
 use Rattle.pcf_values.specs.declared.pcf.Pcf.{Pcf}
-use Rattle.run_law.specs.machines.Calls.{IsHearing, MayCall, MayRipen}
-use Rattle.run_law.specs.scenario.Devices.{channel_of_link}
-use Rattle.run_law.specs.records.Happenings.{Happening, happenings}
+use Rattle.run_law.specs.declared.{note.{Note.Note, NoteBody.NoteBody}, steps.{Moment.Moment, Ripe.Ripe}}
 use Rattle.run_law.specs.machines.Answers.{IsPermanenceOutcomeAt, after_permanence, called}
-use Rattle.run_law.specs.machines.Nodes.{Node, ripening}
-use Rattle.run_law.specs.records.Order.{IsIn, behind}
-use Rattle.run_law.specs.scenario.Scenarios.{Scenario}
-use Rattle.run_law.specs.declared.judgement.Judgement.TheVariants as judgements
-use Rattle.run_law.specs.declared.judgement.Why.TheVariants as whys
-use Rattle.run_law.specs.declared.note.Note.{Note}
-use Rattle.run_law.specs.declared.note.NoteBody.{NoteBody}
-use Rattle.run_law.specs.declared.note.NoteBody.TheVariants as kinds
-use Rattle.run_law.specs.declared.steps.Moment.{Moment}
-use Rattle.run_law.specs.declared.steps.Ripe.{Ripe}
-use Rattle.run_law.specs.declared.steps.Ripe.TheVariants as ripe
+use Rattle.run_law.specs.machines.{Calls.{IsHearing, MayCall, MayRipen}, Nodes.{Node, ripening}}
+use Rattle.run_law.specs.records.{Happenings.{Happening, happenings}, Order.{IsIn, behind}}
+use Rattle.run_law.specs.scenario.{Devices.channel_of_link, Scenarios.Scenario}
 use Rattle.sync_state.specs.declared.state.State.TheVariants.{Joining}
 use Rattle.tte_units.specs.declared.units.Units.{Units}
+use Rattle.world_law.specs.world.{Calls.{IsSet, moment_of}, Moves.{ArePutIn, ComesFirst, IsWithout, StandsBehind}}
 use Rattle.world_law.specs.world.World.{Stands, Waiting, World, none_yet, ripe_place}
-use Rattle.world_law.specs.world.Moves.{ArePutIn, IsWithout, ComesFirst, StandsBehind}
-use Rattle.world_law.specs.world.Calls.{moment_of, IsSet}
+use Rattle.run_law.specs.declared.judgement.Judgement.TheVariants as judgements
+use Rattle.run_law.specs.declared.judgement.Why.TheVariants as whys
+use Rattle.run_law.specs.declared.note.NoteBody.TheVariants as kinds
+use Rattle.run_law.specs.declared.steps.Ripe.TheVariants as ripe
 
 -- what becomes of it, as records
 abbrev pub ripe_bodies : DeviceId → LinkId → ℕ → Units → Ripe → List NoteBody

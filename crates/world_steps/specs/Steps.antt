@@ -1,32 +1,22 @@
 -- The steps of a world: where it stands, and a step's call answers as its contract says, it stands again.
-use Rattle.std.specs.Prelude.{◌≡◌, ◌↔◌, ℕ, ◌+◌, ◌-◌, ◌^◌, ◌≤◌, ◌<◌, pos, ◌≤ℤ◌, List, [], ◌∷◌, ◌++◌, length, slice_get, Some, Bool, true, false, nat_lt, if◌then◌else◌}
-use Rattle.net_plan.specs.declared.event.Event.{Event}
-use Rattle.net_plan.specs.declared.event.What.TheVariants as events
-use Rattle.net_plan.specs.declared.event.What.{What}
-use Rattle.net_plan.specs.declared.ids.DeviceId.{DeviceId}
-use Rattle.net_plan.specs.Ranges.{IsInRange}
+use Rattle.std.specs.Prelude.{if◌then◌else◌, ◌++◌, ◌+◌, ◌-◌, ◌<◌, ◌^◌, ◌↔◌, ◌∷◌, ◌≡◌, ◌≤ℤ◌, ◌≤◌, Bool, List, Some, []}
+use Rattle.std.specs.Prelude.{false, length, nat_lt, pos, slice_get, true, ℕ}
+use Rattle.net_plan.specs.{Ranges.IsInRange, declared.{event.{Event.Event, What.What}, ids.DeviceId.DeviceId}}
 use Rattle.net_plan.specs.declared.network.Network.{Network}
+use Rattle.run_law.specs.{control.Leaving.{Departure, leaves, on_cut_way, too_old}, declared.note.Note.Note}
+use Rattle.run_law.specs.{declared.note.NoteBody.NoteBody, machines.Nodes.{Node, begun_node}}
+use Rattle.run_law.specs.records.{Happenings.{Happening, happenings}, Order.{IsIn, behind}}
+use Rattle.run_law.specs.scenario.{Scenarios.{Scenario, is_broken, is_turned_on_at}, Ways.{is_cut, way_from}}
 use Rattle.schedule_tables.specs.Rules.{KeepsRules}
-use Rattle.run_law.specs.records.Happenings.{Happening, happenings}
-use Rattle.run_law.specs.control.Leaving.{Departure, leaves, on_cut_way, too_old}
-use Rattle.run_law.specs.machines.Nodes.{Node, begun_node}
-use Rattle.run_law.specs.records.Order.{IsIn, behind}
-use Rattle.run_law.specs.scenario.Scenarios.{Scenario, is_broken, is_turned_on_at}
-use Rattle.run_law.specs.scenario.Ways.{is_cut, way_from}
-use Rattle.run_law.specs.declared.note.Note.{Note}
+use Rattle.sync_state.specs.declared.state.State.{State, TheVariants.Off}
+use Rattle.tte_units.specs.{Amount.{amount, units_of}, declared.units.Units.Units}
+use Rattle.world_law.specs.{device.Ready.IsSteady, source.{Agreeing.scenario, Applying.note_of_event}}
+use Rattle.world_law.specs.world.{Calls.IsStateOf, Moves.{ArePutIn, ComesFirst, IsWithout, NothingBefore, StandsBehind}}
+use Rattle.world_law.specs.world.Outcomes.{also_befell, befallen_node, departure_body, ends_world}
+use Rattle.world_law.specs.world.World.{AreWays, AtPort, IsClockOf, IsForward, IsFromEnd, Stands, Waiting, WayNow}
+use Rattle.world_law.specs.world.World.{World, clock_place, none_yet, port_place}
+use Rattle.net_plan.specs.declared.event.What.TheVariants as events
 use Rattle.run_law.specs.declared.note.NoteBody.TheVariants as kinds
-use Rattle.run_law.specs.declared.note.NoteBody.{NoteBody}
-use Rattle.sync_state.specs.declared.state.State.TheVariants.{Off}
-use Rattle.sync_state.specs.declared.state.State.{State}
-use Rattle.tte_units.specs.Amount.{amount, units_of}
-use Rattle.tte_units.specs.declared.units.Units.{Units}
-use Rattle.world_law.specs.device.Ready.{IsSteady}
-use Rattle.world_law.specs.source.Agreeing.{scenario}
-use Rattle.world_law.specs.source.Applying.{note_of_event}
-use Rattle.world_law.specs.world.World.{AtPort, AreWays, IsFromEnd, IsClockOf, IsForward, Stands, Waiting, WayNow, World, clock_place, none_yet, port_place}
-use Rattle.world_law.specs.world.Moves.{ArePutIn, IsWithout, ComesFirst, StandsBehind, NothingBefore}
-use Rattle.world_law.specs.world.Calls.{IsStateOf}
-use Rattle.world_law.specs.world.Outcomes.{departure_body, befallen_node, also_befell, ends_world}
 
 -- ---- time passes
 

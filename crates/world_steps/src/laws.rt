@@ -1,9 +1,6 @@
-ghost use Rattle.world_steps.specs.Acting.{ActedStep, LastActedStep};
-ghost use Rattle.world_steps.specs.Befalling.{BefellStep};
-ghost use Rattle.world_steps.specs.Arriving.{HeardStep};
-ghost use Rattle.world_steps.specs.Ripening.{RipenedStep};
+ghost use Rattle.world_steps.specs.{Acting.{ActedStep, LastActedStep}, Arriving.HeardStep, Befalling.BefellStep};
 ghost use Rattle.world_steps.specs.Repeating.{ActsAddUp, ActsAreBounded, ActsBringFew, NoActYet};
-ghost use Rattle.world_steps.specs.Steps.{AppliedStep, Begun, ClockStep, LeftStep, PassedStep};
+ghost use Rattle.world_steps.specs.{Ripening.RipenedStep, Steps.{AppliedStep, Begun, ClockStep, LeftStep, PassedStep}};
 
 use drift_clock::Clock;
 use run_law::Machine;

@@ -1,12 +1,16 @@
 -- Correction points come while a block lasts.
-use Rattle.precision_law.proofs.words.Std.{◌*◌, ◌++◌, ◌+ℤ◌, ◌+◌, ◌<ℤ◌, ◌<◌, ◌==◌, ◌∙◌, ◌∷◌, ◌≡◌, ◌≤ℤ◌, ◌≤◌, Bool, List, None, Option, Some, ap, arith, both_ways, by_lt_z, cases_lt, eq-eqb, filter-append, fold, fold-append, if◌then◌else◌, inl, inr, ints, lt-ltb, nat_lt, negsuc, option_map_or, pos, refl, subst, suc, sym, true, ℕ, ℤ}
+use Rattle.precision_law.proofs.{block.Onward.last_of, words.Blocks.{before_narrow, early_show, had_time, joining_from, joins_none, old_number, sets_none}}
+use Rattle.precision_law.proofs.words.Clocks.{AreSorted, adjustment_stays, clocks_have_reached, in_earlier, in_order, keeps, kept_by_all, one_more, room}
+use Rattle.precision_law.proofs.words.Clocks.{set_clocks_have_reached, set_clocks_show, settings_stay, sizes_are, sorted_parts, steady}
+use Rattle.precision_law.proofs.words.Laws.{BlockIsOver, HasTimeAt, IsAnchoredIn, IsGood, IsOldAt, IsView, PointsAreRecorded, PointsHaveCome, Stands, View}
+use Rattle.precision_law.proofs.words.Laws.{adjustment_left, epoch_time, has_time, last_correction, last_setting, state_left}
 use Rattle.precision_law.proofs.words.Plans.{DeviceId, Integrating, State, Units, state_at_start}
-use Rattle.precision_law.proofs.words.Runs.{Happening, IsIn, Reaches, Why, changes_adjustment, correction_value, earlier, founded_at, in_left, in_right, integration_cycle, next_cycle, start_of, state_after, state_with, time_of}
-use Rattle.precision_law.proofs.words.Laws.{BlockIsOver, HasTimeAt, IsAnchoredIn, IsGood, IsOldAt, IsView, PointsAreRecorded, PointsHaveCome, Stands, View, adjustment_left, epoch_time, has_time, last_correction, last_setting, state_left}
-use Rattle.precision_law.proofs.words.Clocks.{AreSorted, adjustment_stays, clocks_have_reached, in_earlier, in_order, keeps, kept_by_all, one_more, room, set_clocks_have_reached, set_clocks_show, settings_stay, sizes_are, sorted_parts, steady}
-use Rattle.precision_law.proofs.words.Blocks.{before_narrow, early_show, had_time, joining_from, joins_none, old_number, sets_none}
+use Rattle.precision_law.proofs.words.Runs.{Happening, IsIn, Reaches, Why, changes_adjustment, correction_value, earlier, founded_at, in_left, in_right}
+use Rattle.precision_law.proofs.words.Runs.{integration_cycle, next_cycle, start_of, state_after, state_with, time_of}
+use Rattle.precision_law.proofs.words.Std.{if◌then◌else◌, ◌*◌, ◌++◌, ◌+ℤ◌, ◌+◌, ◌<ℤ◌, ◌<◌, ◌==◌, ◌∙◌, ◌∷◌, ◌≡◌, ◌≤ℤ◌, ◌≤◌, Bool, List, None, Option, Some, ap}
+use Rattle.precision_law.proofs.words.Std.{arith, both_ways, by_lt_z, cases_lt, eq-eqb, filter-append, fold, fold-append, inl, inr, ints, lt-ltb, nat_lt}
+use Rattle.precision_law.proofs.words.Std.{negsuc, option_map_or, pos, refl, subst, suc, sym, true, ℕ, ℤ}
 use Rattle.run_law.specs.declared.note.NoteBody.TheVariants as notes
-use Rattle.precision_law.proofs.block.Onward.{last_of}
 
 -- ---- between the last setting and a time
 

@@ -1,10 +1,10 @@
 -- How a device hears that has had a common time since before the block.
-use Rattle.precision_law.proofs.words.Std.{◌&&◌, ◌<ℤ◌, ◌<◌, ◌==◌, ◌||◌, ◌∙◌, ◌≡◌, ◌≤◌, Bool, List, and_parts, ap, arith, both_ways, cases_lt, eqb-true, false, false_from_ne_true, filter, if◌then◌else◌, inl, inr, ints, lt-ltb, nat_lt, pos, refl, true, ℕ}
-use Rattle.precision_law.proofs.words.Plans.{DeviceId, Integrating, Joining, Units}
-use Rattle.precision_law.proofs.words.Runs.{Happening, IsIn, adjustment_after, adjustment_at_hearing, changes_adjustment, earlier, has_joined_at, is_joined_by, state_after, state_at_hearing, state_before, time_of}
-use Rattle.precision_law.proofs.words.Laws.{IsView, View, adjustment_left, epoch_time, has_time, state_left}
-use Rattle.precision_law.proofs.words.Clocks.{adjustment_stays, any_in, joined_changes, same_kept, sets_none, time_stays}
-use Rattle.precision_law.proofs.faults.Turned.{not_turned_on_then}
+use Rattle.precision_law.proofs.{faults.Turned.not_turned_on_then, words.Clocks.{adjustment_stays, any_in, joined_changes, same_kept, sets_none, time_stays}}
+use Rattle.precision_law.proofs.words.{Laws.{IsView, View, adjustment_left, epoch_time, has_time, state_left}, Plans.{DeviceId, Integrating, Joining, Units}}
+use Rattle.precision_law.proofs.words.Runs.{Happening, IsIn, adjustment_after, adjustment_at_hearing, changes_adjustment, earlier, has_joined_at, is_joined_by}
+use Rattle.precision_law.proofs.words.Runs.{state_after, state_at_hearing, state_before, time_of}
+use Rattle.precision_law.proofs.words.Std.{if◌then◌else◌, ◌&&◌, ◌<ℤ◌, ◌<◌, ◌==◌, ◌||◌, ◌∙◌, ◌≡◌, ◌≤◌, Bool, List, and_parts, ap, arith, both_ways, cases_lt}
+use Rattle.precision_law.proofs.words.Std.{eqb-true, false, false_from_ne_true, filter, inl, inr, ints, lt-ltb, nat_lt, pos, refl, true, ℕ}
 
 -- records of the view up to a time, among them all of earlier times
 pub record AreUpTo (v : View) (q : ℕ) (hs : List Happening) : Type 0 where

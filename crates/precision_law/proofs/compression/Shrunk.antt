@@ -1,7 +1,10 @@
 -- A cluster of points is one without the points beyond its end as it is with them, and a point that it holds is of one of its members.
-use Rattle.precision_law.proofs.words.Std.{◌&&◌, ◌++◌, ◌+ℤ◌, ◌<ℤ◌, ◌==◌, ◌∙◌, ◌∷◌, ◌≡◌, ◌≤ℤ◌, ◌⊎◌, AllByRecursion, Contains, List, [], and_from, ap, append-nil, append_assoc, arith, bit_at, eq-eqb, inl, inr, int_le, ints, pos, subst, sym, ℤ}
-use Rattle.precision_law.proofs.words.Plans.{AreClusters, Cluster, Holds, Ordered, Ordered-beyond, Point, beyond, beyond-push_out, cluster_of, cluster_of-beyond, end_of, end_of-least, end_of-same, firsts, firsts-has, from_beyond, held-push_beyond, in_cases, in_filter_from, in_head, in_none, in_rest, in_tail, int_le-true, of_cycle_within, one_list_of_clusters}
 use Rattle.precision_law.proofs.words.Clocks.{cluster_from, has_is_member}
+use Rattle.precision_law.proofs.words.Plans.{AreClusters, Cluster, Holds, Ordered, Ordered-beyond, Point, beyond, beyond-push_out, cluster_of}
+use Rattle.precision_law.proofs.words.Plans.{cluster_of-beyond, end_of, end_of-least, end_of-same, firsts, firsts-has, from_beyond, held-push_beyond, in_cases}
+use Rattle.precision_law.proofs.words.Plans.{in_filter_from, in_head, in_none, in_rest, in_tail, int_le-true, of_cycle_within, one_list_of_clusters}
+use Rattle.precision_law.proofs.words.Std.{◌&&◌, ◌++◌, ◌+ℤ◌, ◌<ℤ◌, ◌==◌, ◌∙◌, ◌∷◌, ◌≡◌, ◌≤ℤ◌, ◌⊎◌, AllByRecursion, Contains, List, [], and_from, ap, append-nil}
+use Rattle.precision_law.proofs.words.Std.{append_assoc, arith, bit_at, eq-eqb, inl, inr, int_le, ints, pos, subst, sym, ℤ}
 
 -- ---- with points beyond and without
 

@@ -1,16 +1,21 @@
 -- A device that has the common time is not just turned on.
-use Rattle.precision_law.proofs.words.Std.{◌&&◌, ◌++◌, ◌<◌, ◌==◌, ◌∙◌, ◌∷◌, ◌≡◌, ◌≤◌, Bool, IsNone, IsSomeAnd, List, None, Option, Some, and_parts, ap, append_assoc, arith, eqb-true, false, false_from_ne_true, if◌then◌else◌, inl, inr, not, option_and_then, refl, subst, suc, sym, true, zero, ℕ}
-use Rattle.precision_law.proofs.words.Plans.{Device, DeviceId, Event, Integrating, Joining, Off, State, Units, amount, device_at, state_at_start}
-use Rattle.precision_law.proofs.words.Runs.{BecomesPermanent, ChangesState, Emits, Happening, Integrates, IsCaused, IsEventRecord, IsIn, NotOff, NoteBody, Scenario, TurnsOn, Why, adjustment_at_hearing, before_permanence, earlier, founded_at, has_joined_at, in_at, in_left, in_parts, in_right, is_joined_by, is_off, is_turned_on_at, numbered_in, observation_window, parted, plan_of, points_of, start_of, state_after, state_at_hearing, state_before, time_of, turns_on}
-use Rattle.precision_law.proofs.words.Laws.{AreBeforeCorrections, IsView, NoneTurnsOn, View, has_time, state_left}
-use Rattle.precision_law.proofs.words.Clocks.{Keeps, any_in, any_of_in, before_of, earlier_before, earlier_judge, in_earlier, kept_by_all, kept_if, point_has_time, same_device}
-use Rattle.net_plan.specs.declared.event.What.TheVariants as events
 use Rattle.run_law.proofs.scenario.Devices.{on_by}
+use Rattle.sync_state.proofs.StateFacts.{before_hearing}
+use Rattle.precision_law.proofs.block.Joins.{integrates_by, ripe_integrates}
+use Rattle.precision_law.proofs.words.Clocks.{Keeps, any_in, any_of_in, before_of, earlier_before, earlier_judge, in_earlier, kept_by_all, kept_if}
+use Rattle.precision_law.proofs.words.{Clocks.{point_has_time, same_device}, Laws.{AreBeforeCorrections, IsView, NoneTurnsOn, View, has_time, state_left}}
+use Rattle.precision_law.proofs.words.Plans.{Device, DeviceId, Event, Integrating, Joining, Off, State, Units, amount, device_at, state_at_start}
+use Rattle.precision_law.proofs.words.Runs.{BecomesPermanent, ChangesState, Emits, Happening, Integrates, IsCaused, IsEventRecord, IsIn, NotOff, NoteBody}
+use Rattle.precision_law.proofs.words.Runs.{Scenario, TurnsOn, Why, adjustment_at_hearing, before_permanence, earlier, founded_at, has_joined_at, in_at}
+use Rattle.precision_law.proofs.words.Runs.{in_left, in_parts, in_right, is_joined_by, is_off, is_turned_on_at, numbered_in, observation_window, parted}
+use Rattle.precision_law.proofs.words.Runs.{plan_of, points_of, start_of, state_after, state_at_hearing, state_before, time_of, turns_on}
+use Rattle.precision_law.proofs.words.Std.{if◌then◌else◌, ◌&&◌, ◌++◌, ◌<◌, ◌==◌, ◌∙◌, ◌∷◌, ◌≡◌, ◌≤◌, Bool, IsNone, IsSomeAnd, List, None, Option, Some}
+use Rattle.precision_law.proofs.words.Std.{and_parts, ap, append_assoc, arith, eqb-true, false, false_from_ne_true, inl, inr, not, option_and_then, refl, subst}
+use Rattle.precision_law.proofs.words.Std.{suc, sym, true, zero, ℕ}
+use Rattle.net_plan.specs.declared.event.What.TheVariants as events
 use Rattle.run_law.specs.declared.judgement.Why.TheVariants as whys
 use Rattle.run_law.specs.declared.note.NoteBody.TheVariants as notes
 use Rattle.run_law.specs.declared.steps.Ripe.TheVariants as ripe
-use Rattle.sync_state.proofs.StateFacts.{before_hearing}
-use Rattle.precision_law.proofs.block.Joins.{integrates_by, ripe_integrates}
 
 -- ---- states
 

@@ -1,16 +1,17 @@
 -- The sound channel: no way of its links is cut, and its switches begin on.
-use Rattle.precision_law.proofs.words.Std.{◌++◌, ◌<◌, ◌∙◌, ◌∷◌, ◌≡◌, ◌≤◌, ◌⊎◌, Any, Bool, IsNone, List, None, Option, Some, [], ap, append_assoc, arith, false, false_from_ne_true, filter, filter-append, if◌then◌else◌, inl, inr, ints, last_or, le-leb, leb-true, length, nat_le, refl, slice_get, subst, suc, sym, true, unwrap_or, zero, ℕ}
-use Rattle.precision_law.proofs.words.Plans.{A, B, Channel, Device, Event, HasOffSwitch, IsSwitchOf, Joints, Link, LinkId, Way, What, amount, closed, device_at, link_at, opened}
-use Rattle.precision_law.proofs.words.Runs.{Cuts, IsFaulty, IsIn, IsLinkOf, Scenario, any_of_none, any_parts, cut_set, events_up_to, in_filter, in_left, in_right, is_cut, is_way_of, parted}
+use Rattle.std.proofs.Common.{filter_map}
+use Rattle.run_law.proofs.{law.FirstDelays.{given, same_way_link}, records.Order.{given_of, has_passed}}
+use Rattle.precision_law.proofs.{Plain.{any_is, any_of_in, some_if}, records.Points.last_in, trips.Ascents.no_earlier}
 use Rattle.precision_law.proofs.words.Laws.{IsView, SoundSwitchesBeginOn, SoundWaysAreWhole, View}
+use Rattle.precision_law.proofs.words.Plans.{A, B, Channel, Device, Event, HasOffSwitch, IsSwitchOf, Joints, Link, LinkId, Way, What, amount, closed, device_at}
+use Rattle.precision_law.proofs.words.Plans.{link_at, opened}
+use Rattle.precision_law.proofs.words.Runs.{Cuts, IsFaulty, IsIn, IsLinkOf, Scenario, any_of_none, any_parts, cut_set, events_up_to, in_filter, in_left}
+use Rattle.precision_law.proofs.words.Runs.{in_right, is_cut, is_way_of, parted}
+use Rattle.precision_law.proofs.words.Std.{if◌then◌else◌, ◌++◌, ◌<◌, ◌∙◌, ◌∷◌, ◌≡◌, ◌≤◌, ◌⊎◌, Any, Bool, IsNone, List, None, Option, Some, [], ap, append_assoc}
+use Rattle.precision_law.proofs.words.Std.{arith, false, false_from_ne_true, filter, filter-append, inl, inr, ints, last_or, le-leb, leb-true, length, nat_le}
+use Rattle.precision_law.proofs.words.Std.{refl, slice_get, subst, suc, sym, true, unwrap_or, zero, ℕ}
 use Rattle.net_plan.specs.declared.event.What.TheVariants as events
 use Rattle.run_law.specs.declared.outside.Outside.TheVariants as outside
-use Rattle.std.proofs.Common.{filter_map}
-use Rattle.precision_law.proofs.records.Points.{last_in}
-use Rattle.precision_law.proofs.trips.Ascents.{no_earlier}
-use Rattle.precision_law.proofs.Plain.{any_is, any_of_in, some_if}
-use Rattle.run_law.proofs.law.FirstDelays.{given, same_way_link}
-use Rattle.run_law.proofs.records.Order.{given_of, has_passed}
 
 -- ---- switches
 

@@ -1,8 +1,7 @@
 -- When frames are heard.
-use Rattle.precision_law.proofs.words.Std.{◌+◌, ◌-◌, ◌≡◌, ◌≤◌, Some, arith, inl, inr, ints, subst, suc, ℕ}
+use Rattle.precision_law.proofs.words.{Blocks.has_dispatched, Clocks.{frames_come_first, has_before, room, within_run}}
 use Rattle.precision_law.proofs.words.Laws.{BasesAreNearHulls, EmissionsAreOfDispatches, HeardFramesAreTimely, HeardInTheirBlocks, expectation, hull_of}
-use Rattle.precision_law.proofs.words.Clocks.{frames_come_first, has_before, room, within_run}
-use Rattle.precision_law.proofs.words.Blocks.{has_dispatched}
+use Rattle.precision_law.proofs.words.Std.{◌+◌, ◌-◌, ◌≡◌, ◌≤◌, Some, arith, inl, inr, ints, subst, suc, ℕ}
 
 pub heard_in_their_blocks : HeardFramesAreTimely → EmissionsAreOfDispatches → BasesAreNearHulls → HeardInTheirBlocks
 heard_in_their_blocks timely dispatched near v device channel cycle members h q point expected is tidy good narrow heard =

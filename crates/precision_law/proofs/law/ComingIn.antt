@@ -1,10 +1,9 @@
 -- What a device that joins comes to by its first correction.
-use Rattle.precision_law.proofs.words.Std.{◌-ℤ◌, List, subst, sym, ℕ, ℤ}
-use Rattle.precision_law.proofs.words.Plans.{Corrected, DeviceId, HasVerdict}
-use Rattle.precision_law.proofs.words.Runs.{Happening, IsCaused, Note, Scenario, happenings, standing_before, time_of}
-use Rattle.precision_law.proofs.words.Laws.{ClocksStayTogether, DispatchesStayNear, IsFirstCorrection, IsFixedByPoints, IsRunUpTo, JoinersComeIn}
-use Rattle.run_law.specs.declared.note.NoteBody.TheVariants as notes
 use Rattle.sync_state.proofs.LawLemmas.{by_points}
+use Rattle.precision_law.proofs.words.Laws.{ClocksStayTogether, DispatchesStayNear, IsFirstCorrection, IsFixedByPoints, IsRunUpTo, JoinersComeIn}
+use Rattle.precision_law.proofs.words.Plans.{Corrected, DeviceId, HasVerdict}
+use Rattle.precision_law.proofs.words.{Runs.{Happening, IsCaused, Note, Scenario, happenings, standing_before, time_of}, Std.{◌-ℤ◌, List, subst, sym, ℕ, ℤ}}
+use Rattle.run_law.specs.declared.note.NoteBody.TheVariants as notes
 
 -- a correction is by what was heard
 fixed_by_points : (s : Scenario) (mark : List ℕ) (ns : List Note) (until : ℕ) → IsRunUpTo s mark ns until → (device : DeviceId) (h : Happening)

@@ -1,9 +1,8 @@
 -- The blocks cover the run.
+use Rattle.precision_law.proofs.{law.Together.{block_ends, follows_before}, words.Clocks.{corrections_come_first, room}}
+use Rattle.precision_law.proofs.words.Laws.{BlockIsOver, BlocksCover, Hull, IsInBlock, IsOverBefore, IsView, Stands, StandsAtStart, StandsOn, View, hull_of}
+use Rattle.precision_law.proofs.words.{Laws.{last_correction, start_hull}, Runs.same_some}
 use Rattle.precision_law.proofs.words.Std.{◌+ℤ◌, ◌+◌, ◌<◌, ◌≡◌, ◌≤ℤ◌, ◌≤◌, ap, arith, cases_lt, inl, inr, ints, negsuc, pos, refl, suc, zero, ℕ, ℤ}
-use Rattle.precision_law.proofs.words.Runs.{same_some}
-use Rattle.precision_law.proofs.words.Laws.{BlockIsOver, BlocksCover, Hull, IsInBlock, IsOverBefore, IsView, Stands, StandsAtStart, StandsOn, View, hull_of, last_correction, start_hull}
-use Rattle.precision_law.proofs.words.Clocks.{corrections_come_first, room}
-use Rattle.precision_law.proofs.law.Together.{block_ends, follows_before}
 
 -- the last correction comes behind the block before, so it is not before time 0
 pub later_end : (v : View) (n : ℕ) (stands : Stands v n) → IsView v → pos stands.next ≤ℤ last_correction v.sizes stands.hull

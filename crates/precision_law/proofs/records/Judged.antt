@@ -1,8 +1,9 @@
 -- The records by which a frame that is permanent is judged.
 use Rattle.run_law.proofs.records.Order.{all_kept, before_is}
-use Rattle.precision_law.proofs.words.Std.{◌∙◌, ◌∷◌, ◌≡◌, Bool, List, [], ap, both_ways, cases_Bool, false_from_ne_true, filter, if◌then◌else◌, inl, inr, nat_lt, or_left, refl, sym, true, ℕ}
 use Rattle.precision_law.proofs.words.Plans.{DeviceId, LinkId, Pcf, Units, amount}
 use Rattle.precision_law.proofs.words.Runs.{AllBefore, Happening, before_permanence, earlier, is_before, place_of, time_of}
+use Rattle.precision_law.proofs.words.Std.{if◌then◌else◌, ◌∙◌, ◌∷◌, ◌≡◌, Bool, List, [], ap, both_ways, cases_Bool, false_from_ne_true, filter, inl, inr}
+use Rattle.precision_law.proofs.words.Std.{nat_lt, or_left, refl, sym, true, ℕ}
 
 -- where all records are before the place of the frame's permanence, all count
 pub all_judge : (hs : List Happening) (t : ℕ) (device : DeviceId) (link : LinkId) (cause : ℕ) (frame : Pcf) (point : Units)

@@ -1,11 +1,17 @@
 -- The correction points of good devices are recorded.
-use Rattle.run_law.proofs.control.Summaries.{summary_of, verdict_of}
-use Rattle.run_law.proofs.records.Order.{makes_none}
-use Rattle.precision_law.proofs.words.Std.{◌&&◌, ◌++◌, ◌+ℤ◌, ◌+◌, ◌<◌, ◌||◌, ◌∙◌, ◌∷◌, ◌≡◌, ◌≤◌, Bool, List, None, Some, [], after_last, ap, append-nil, append_assoc, arith, filter, filter-append, filter_map, filter_map-append, if◌then◌else◌, inl, inr, le-ltb, nat_lt, not, refl, subst, sym, true, ℕ}
-use Rattle.precision_law.proofs.words.Plans.{AsyncClique, Corrected, DeviceId, HasVerdict, Hearing, Integrating, IsAtIntegration, Off, Standing, State, Summarizes, Summary, SyncClique, Units, Verdict, point_in}
-use Rattle.precision_law.proofs.words.Runs.{ChangesState, ComesToCorrection, Happening, IsBefore, IsDue, IsFounded, IsIn, IsSplit, NoteBody, Reaches, Why, adjustment_after, adjustment_before, chain, changes_adjustment, correction_value, earlier, front_founded, happening, has_cleared, heard_since, hearing_by, in_filter, in_parts, in_right, integration_cycle, is_turned_on_at, next_cycle, place_of, plan_of, rank, recorded_cycle, split, standing_before, state_after, time_of}
+use Rattle.run_law.proofs.{control.Summaries.{summary_of, verdict_of}, records.Order.makes_none}
+use Rattle.precision_law.proofs.words.Clocks.{after_more, before_place, cleared_by, due_there, earlier_before, good_is_correct, next_note, parts_at_last}
+use Rattle.precision_law.proofs.words.Clocks.{reaches_front, same_cleared, same_kept, same_next}
 use Rattle.precision_law.proofs.words.Laws.{AreBeforeCorrections, HasTimeAt, IsPointRecord, IsView, NoneTurnsOn, PointsAreRecorded, View, has_time}
-use Rattle.precision_law.proofs.words.Clocks.{after_more, before_place, cleared_by, due_there, earlier_before, good_is_correct, next_note, parts_at_last, reaches_front, same_cleared, same_kept, same_next}
+use Rattle.precision_law.proofs.words.Plans.{AsyncClique, Corrected, DeviceId, HasVerdict, Hearing, Integrating, IsAtIntegration, Off, Standing, State}
+use Rattle.precision_law.proofs.words.Plans.{Summarizes, Summary, SyncClique, Units, Verdict, point_in}
+use Rattle.precision_law.proofs.words.Runs.{ChangesState, ComesToCorrection, Happening, IsBefore, IsDue, IsFounded, IsIn, IsSplit, NoteBody, Reaches, Why}
+use Rattle.precision_law.proofs.words.Runs.{adjustment_after, adjustment_before, chain, changes_adjustment, correction_value, earlier, front_founded, happening}
+use Rattle.precision_law.proofs.words.Runs.{has_cleared, heard_since, hearing_by, in_filter, in_parts, in_right, integration_cycle, is_turned_on_at, next_cycle}
+use Rattle.precision_law.proofs.words.Runs.{place_of, plan_of, rank, recorded_cycle, split, standing_before, state_after, time_of}
+use Rattle.precision_law.proofs.words.Std.{if◌then◌else◌, ◌&&◌, ◌++◌, ◌+ℤ◌, ◌+◌, ◌<◌, ◌||◌, ◌∙◌, ◌∷◌, ◌≡◌, ◌≤◌, Bool, List, None, Some, [], after_last, ap}
+use Rattle.precision_law.proofs.words.Std.{append-nil, append_assoc, arith, filter, filter-append, filter_map, filter_map-append, inl, inr, le-ltb, nat_lt, not}
+use Rattle.precision_law.proofs.words.Std.{refl, subst, sym, true, ℕ}
 use Rattle.run_law.specs.declared.judgement.Why.TheVariants as whys
 use Rattle.run_law.specs.declared.note.NoteBody.TheVariants as notes
 

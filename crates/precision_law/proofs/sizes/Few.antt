@@ -1,8 +1,7 @@
 -- The cycles of a run are few enough for frames to name them.
-use Rattle.precision_law.proofs.words.Std.{◌*◌, ◌+◌, ◌^◌, ◌≡◌, ◌≤ℤ◌, ◌≤◌, Some, ap, arith, ints, pos, refl, subst, suc, sym, zero, ℕ}
-use Rattle.precision_law.proofs.words.Runs.{same_some}
-use Rattle.precision_law.proofs.words.Laws.{Hull, IsNotBefore, IsView, View, hull_of, start_hull}
 use Rattle.precision_law.proofs.words.Clocks.{cycles_are_few, has_before, hulls_go_on, room, sizes_are, within_run}
+use Rattle.precision_law.proofs.words.{Laws.{Hull, IsNotBefore, IsView, View, hull_of, start_hull}, Runs.same_some}
+use Rattle.precision_law.proofs.words.Std.{◌*◌, ◌+◌, ◌^◌, ◌≡◌, ◌≤ℤ◌, ◌≤◌, Some, ap, arith, ints, pos, refl, subst, suc, sym, zero, ℕ}
 
 -- the hull of a cycle is not before the cycle's time, but for the errors
 pub not_before : (v : View) (n : ℕ) (hull : Hull) → IsView v → hull_of v n ≡ Some hull → IsNotBefore v.sizes n hull

@@ -1,12 +1,9 @@
 -- Compressed frames come down from compression masters.
-use Rattle.precision_law.proofs.words.Std.{◌+◌, ◌∙◌, ◌≡◌, Option, ap, arith, inl, inr, option_map_or, refl, sym, ℕ}
+use Rattle.precision_law.proofs.{trips.{Ascents.{ComesSo, comes}, Legs.child_ways, Paths.frame_is}, words.Laws.{FramesDownAreOfCms, IsOfCm, IsView, View}}
 use Rattle.precision_law.proofs.words.Plans.{DeviceId, Down, Members, Pcf, Units, Up, opened}
 use Rattle.precision_law.proofs.words.Runs.{Gives, Happening, IsIn, Judgement, NoteBody, channel_of, channel_of_link, cycle_in, founded_at, members_in}
-use Rattle.precision_law.proofs.words.Laws.{FramesDownAreOfCms, IsOfCm, IsView, View}
+use Rattle.precision_law.proofs.words.Std.{◌+◌, ◌∙◌, ◌≡◌, Option, ap, arith, inl, inr, option_map_or, refl, sym, ℕ}
 use Rattle.run_law.specs.declared.note.NoteBody.TheVariants as notes
-use Rattle.precision_law.proofs.trips.Ascents.{ComesSo, comes}
-use Rattle.precision_law.proofs.trips.Legs.{child_ways}
-use Rattle.precision_law.proofs.trips.Paths.{frame_is}
 
 -- the frame of an emission shows the cycle and members
 pub emission_shows : (v : View) (g : Happening) (cm : DeviceId) (opened at : Units) (cycle : ℕ) (members : Members) (verdict : Judgement) → IsView v

@@ -1,17 +1,17 @@
 -- The sound channel delivers: up to its compression master, and down from it.
-use Rattle.precision_law.proofs.words.Std.{◌&&◌, ◌+◌, ◌==◌, ◌∙◌, ◌∷◌, ◌≡◌, ◌≤◌, Bool, IsNone, IsSomeAnd, List, None, Option, Some, [], ap, arith, by_lt_z, eq-eqb, false, fold, if◌then◌else◌, inl, inr, ints, le-ltb, nat_lt, not, option_and_then, pos, refl, subst, true, ℕ, ℤ}
-use Rattle.precision_law.proofs.words.Plans.{Device, DeviceId, Integrating, IsReach, LinkId, Network, Pcf, State, amount, device_at, point_of, state_at_start}
-use Rattle.precision_law.proofs.words.Runs.{BeginsOn, ChangesState, ColdStart, Domain, Gate, Happening, IsCaused, IsIn, Member, NoteBody, Old, Reason, Standpoint, Why, earlier, first_reason, founded_at, frame_fault, in_filter, is_cold_start, is_joined_by, is_of_other_member, is_off, is_turned_on_at, standpoint, start_of, state_after, state_before, state_with, time_of, wire_of, with_clock}
-use Rattle.precision_law.proofs.words.Laws.{IsGood, IsOpen, IsPermanentAt, IsSoundSwitch, IsView, View}
 use Rattle.pcf_values.specs.declared.pcf.PcfKind.TheVariants.{Integration}
-use Rattle.run_law.proofs.device.States.{joined_or}
-use Rattle.run_law.specs.declared.judgement.Reason.TheVariants.{Off as IsOffReason}
+use Rattle.run_law.{proofs.device.States.joined_or, specs.declared.judgement.Reason.TheVariants.Off as IsOffReason}
+use Rattle.precision_law.proofs.{clocks.Readings.reach_is_there, faults.{Masters.good_is_correct, Ways.sound_switches_begin_on}, records.Views.{room, steady}}
+use Rattle.precision_law.proofs.words.Laws.{IsGood, IsOpen, IsPermanentAt, IsSoundSwitch, IsView, View}
+use Rattle.precision_law.proofs.words.Plans.{Device, DeviceId, Integrating, IsReach, LinkId, Network, Pcf, State, amount, device_at, point_of, state_at_start}
+use Rattle.precision_law.proofs.words.Runs.{BeginsOn, ChangesState, ColdStart, Domain, Gate, Happening, IsCaused, IsIn, Member, NoteBody, Old, Reason}
+use Rattle.precision_law.proofs.words.Runs.{Standpoint, Why, earlier, first_reason, founded_at, frame_fault, in_filter, is_cold_start, is_joined_by}
+use Rattle.precision_law.proofs.words.Runs.{is_of_other_member, is_off, is_turned_on_at, standpoint, start_of, state_after, state_before, state_with, time_of}
+use Rattle.precision_law.proofs.words.Runs.{wire_of, with_clock}
+use Rattle.precision_law.proofs.words.Std.{if◌then◌else◌, ◌&&◌, ◌+◌, ◌==◌, ◌∙◌, ◌∷◌, ◌≡◌, ◌≤◌, Bool, IsNone, IsSomeAnd, List, None, Option, Some, [], ap, arith}
+use Rattle.precision_law.proofs.words.Std.{by_lt_z, eq-eqb, false, fold, inl, inr, ints, le-ltb, nat_lt, not, option_and_then, pos, refl, subst, true, ℕ, ℤ}
 use Rattle.run_law.specs.declared.judgement.Why.TheVariants as whys
 use Rattle.run_law.specs.declared.note.NoteBody.TheVariants as notes
-use Rattle.precision_law.proofs.clocks.Readings.{reach_is_there}
-use Rattle.precision_law.proofs.faults.Masters.{good_is_correct}
-use Rattle.precision_law.proofs.faults.Ways.{sound_switches_begin_on}
-use Rattle.precision_law.proofs.records.Views.{room, steady}
 
 -- ---- the switches of the sound channel are on
 

@@ -1,11 +1,13 @@
 -- What the legs of a trip add up to, and the path that they go.
-use Rattle.precision_law.proofs.words.Std.{◌+◌, ◌∙◌, ◌∷◌, ◌≡◌, ◌≤◌, All, All-cons, All-nil, List, Option, Some, [], ap, arith, fold, length, option_and_then, option_map, refl, subst, suc, sum_by, sum_by-cons, sym, true, ℕ}
-use Rattle.precision_law.proofs.words.Plans.{Channel, Device, DeviceId, Down, Hop, IsHop, IsPath, IsSwitchOf, Link, LinkId, Network, Pcf, Way, amount, closed, device_at, growth, jitter_of, jitter_on, link_at, opened, target_by, travel}
-use Rattle.precision_law.proofs.words.Runs.{Gives, Happening, IsCaused, NoteBody, channel_of, channel_of_link, cycle_in, founded_at, is_relay, members_in, same_some, time_of, with_clock}
+use Rattle.precision_law.proofs.{block.Joins.arrival_link, words.Clocks.{arrived_frame, child_channel, gives_down, leaving_is, leg_hop, reached, same_cycle}}
 use Rattle.precision_law.proofs.words.Laws.{IsLeg, IsTrip, IsView, Leg, View, clock_in, links_back}
-use Rattle.precision_law.proofs.words.Clocks.{arrived_frame, child_channel, gives_down, leaving_is, leg_hop, reached, same_cycle}
+use Rattle.precision_law.proofs.words.Plans.{Channel, Device, DeviceId, Down, Hop, IsHop, IsPath, IsSwitchOf, Link, LinkId, Network, Pcf, Way, amount, closed}
+use Rattle.precision_law.proofs.words.Plans.{device_at, growth, jitter_of, jitter_on, link_at, opened, target_by, travel}
+use Rattle.precision_law.proofs.words.Runs.{Gives, Happening, IsCaused, NoteBody, channel_of, channel_of_link, cycle_in, founded_at, is_relay, members_in}
+use Rattle.precision_law.proofs.words.Runs.{same_some, time_of, with_clock}
+use Rattle.precision_law.proofs.words.Std.{◌+◌, ◌∙◌, ◌∷◌, ◌≡◌, ◌≤◌, All, All-cons, All-nil, List, Option, Some, [], ap, arith, fold, length, option_and_then}
+use Rattle.precision_law.proofs.words.Std.{option_map, refl, subst, suc, sum_by, sum_by-cons, sym, true, ℕ}
 use Rattle.run_law.specs.declared.note.NoteBody.TheVariants as notes
-use Rattle.precision_law.proofs.block.Joins.{arrival_link}
 
 -- ---- sums
 

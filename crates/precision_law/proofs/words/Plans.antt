@@ -2,72 +2,37 @@
 pub use Rattle.clock_correction.specs.Correction.{correction_of}
 pub use Rattle.compression.proofs.Elements.{Ordered, Ordered-beyond, all-filter, from_beyond, in_cases, in_filter_from, in_head, in_none, in_tail}
 pub use Rattle.compression.proofs.Firsts.{counts, firsts-has, firsts-start, members_of-clear, members_of-set, with_first-new, with_first-old}
-pub use Rattle.compression.proofs.Growth.{cluster_of-beyond, end_of-least, end_of-same}
-pub use Rattle.compression.proofs.Held.{beyond-push_out, held-push_beyond, held-start}
-pub use Rattle.compression.proofs.MiddleLaws.{middle_among_others, middle_from_first_to_last}
-pub use Rattle.compression.proofs.Times.{in_rest, one_list_of_clusters, one_time_law}
+pub use Rattle.compression.proofs.{Growth.{cluster_of-beyond, end_of-least, end_of-same}, Held.{beyond-push_out, held-push_beyond, held-start}}
+pub use Rattle.compression.proofs.{MiddleLaws.{middle_among_others, middle_from_first_to_last}, Times.{in_rest, one_list_of_clusters, one_time_law}}
 pub use Rattle.compression.proofs.Together.{one_cluster}
 pub use Rattle.compression.specs.Ascent.{IsAscending, last_from}
-pub use Rattle.compression.specs.Clusters.{AreClusters, Cluster, Point, beyond, cluster_of, end_of, firsts, has_master, members_of, of_cycle_within, point_at, with_first}
-pub use Rattle.compression.specs.Emission.{emission}
-pub use Rattle.compression.specs.Middle.{AllButOne, LiesWithin, last_but_one, middle_of, middle_point, relative}
-pub use Rattle.compression.specs.OneCluster.{AreInOrder, Holds, IsDropped, IsKept, LiesIn}
-pub use Rattle.compression.specs.Role.{has_point_of, role, role_in}
-pub use Rattle.compression.specs.declared.compressed.Compressed.{Compressed}
-pub use Rattle.compression.specs.declared.taken.Taken.{Taken}
-pub use Rattle.compression.specs.declared.taken.Taken.TheVariants.{Opened}
-pub use Rattle.drift_clock.specs.ClockLaws.{Measures}
-pub use Rattle.drift_clock.specs.Reach.{IsReach}
-pub use Rattle.membership.specs.BestFrame.{IsBehind, IsBest, IsBestOf, IsBetterOf, IsLevel, Qualifies}
-pub use Rattle.membership.specs.Hearing.{Hearing, IsOutside, IsWithinOn, within_on}
-pub use Rattle.membership.specs.Members.{IsMember, count_of, none, single, union}
-pub use Rattle.membership.specs.Summary.{AreOutside, Summarizes, Summary, best_on, silence}
+pub use Rattle.compression.specs.Clusters.{AreClusters, Cluster, Point, beyond, cluster_of, end_of, firsts, has_master, members_of, of_cycle_within, point_at}
+pub use Rattle.compression.specs.{Clusters.with_first, Emission.emission, Middle.{AllButOne, LiesWithin, last_but_one, middle_of, middle_point, relative}}
+pub use Rattle.compression.specs.{OneCluster.{AreInOrder, Holds, IsDropped, IsKept, LiesIn}, Role.{has_point_of, role, role_in}}
+pub use Rattle.compression.specs.declared.{compressed.Compressed.Compressed, taken.Taken.{Taken, TheVariants.Opened}}
+pub use Rattle.drift_clock.specs.{ClockLaws.Measures, Reach.IsReach}
+pub use Rattle.membership.specs.{BestFrame.{IsBehind, IsBest, IsBestOf, IsBetterOf, IsLevel, Qualifies}, Hearing.{Hearing, IsOutside, IsWithinOn, within_on}}
+pub use Rattle.membership.specs.{Members.{IsMember, count_of, none, single, union}, Summary.{AreOutside, Summarizes, Summary, best_on, silence}}
 pub use Rattle.membership.specs.declared.frame.HeardFrame.{HeardFrame}
-pub use Rattle.net_plan.proofs.Beta.{beta_exists}
-pub use Rattle.net_plan.proofs.Shape.{rules_give_trees}
-pub use Rattle.net_plan.proofs.Trees.{paths_are_unique}
-pub use Rattle.net_plan.specs.Bounds.{IsBeta, beta_at, jitter_of, jitter_on}
-pub use Rattle.net_plan.specs.Paths.{IsPath, IsTree, IsUplink}
+pub use Rattle.net_plan.proofs.{Beta.beta_exists, Shape.rules_give_trees, Trees.paths_are_unique}
+pub use Rattle.net_plan.specs.{Bounds.{IsBeta, beta_at, jitter_of, jitter_on}, Paths.{IsPath, IsTree, IsUplink}}
 pub use Rattle.net_plan.specs.Places.{IsCmOf, IsDeviceOf, IsSwitchOf, device_at, is_end_system, is_master, link_at}
-pub use Rattle.net_plan.specs.Ranges.{IsDeviceInRange, IsLinkInRange, IsWithin}
-pub use Rattle.net_plan.specs.Rules.{HasOffSwitch, IsChildOf}
-pub use Rattle.net_plan.specs.declared.event.Event.{Event}
-pub use Rattle.net_plan.specs.declared.event.What.{What}
-pub use Rattle.net_plan.specs.declared.event.What.TheVariants.{Send}
-pub use Rattle.net_plan.specs.declared.ids.DeviceId.{DeviceId}
-pub use Rattle.net_plan.specs.declared.ids.LinkId.{LinkId}
-pub use Rattle.net_plan.specs.declared.network.Network.{Network}
-pub use Rattle.net_plan.specs.declared.tables.Device.{Device}
-pub use Rattle.net_plan.specs.declared.tables.Link.{Link}
-pub use Rattle.net_plan.specs.declared.tables.Role.{Role}
-pub use Rattle.net_plan.specs.declared.tables.Role.TheVariants.{Cm, Master, Relay}
-pub use Rattle.net_plan.specs.declared.tables.Way.{Way}
-pub use Rattle.net_plan.specs.declared.tables.Way.TheVariants.{Down, Up}
+pub use Rattle.net_plan.specs.{Ranges.{IsDeviceInRange, IsLinkInRange, IsWithin}, Rules.{HasOffSwitch, IsChildOf}}
+pub use Rattle.net_plan.specs.declared.{event.{Event.Event, What.{What, TheVariants.Send}}, ids.{DeviceId.DeviceId, LinkId.LinkId}, network.Network.Network}
+pub use Rattle.net_plan.specs.declared.tables.{Device.Device, Link.Link, Role.{Role, TheVariants.{Cm, Master, Relay}}, Way.{Way, TheVariants.{Down, Up}}}
 pub use Rattle.pcf_codec.specs.Fields.{field}
-pub use Rattle.pcf_values.specs.declared.channel.Channel.{Channel}
-pub use Rattle.pcf_values.specs.declared.channel.Channel.TheVariants.{A, B}
-pub use Rattle.pcf_values.specs.declared.members.Members.{Members}
-pub use Rattle.pcf_values.specs.declared.pcf.Pcf.{Pcf}
+pub use Rattle.pcf_values.specs.declared.{channel.Channel.{Channel, TheVariants.{A, B}}, members.Members.Members, pcf.Pcf.Pcf}
 pub use Rattle.schedule_tables.proofs.Margins.{margins, shape_rules}
-pub use Rattle.schedule_tables.specs.Delays.{delay_by, delay_of, delay_on, pcf_port_time}
-pub use Rattle.schedule_tables.specs.Entries.{target_by}
+pub use Rattle.schedule_tables.specs.{Delays.{delay_by, delay_of, delay_on, pcf_port_time}, Entries.target_by}
 pub use Rattle.schedule_tables.specs.Margins.{HasMargins, clock_error, compression_time, drift_of}
 pub use Rattle.schedule_tables.specs.declared.rule.Rule.TheVariants.{CompressionMasters, Connections, Joints, Masters}
-pub use Rattle.sync_state.specs.Plan.{expected_at}
-pub use Rattle.sync_state.specs.Standing.{IsAtIntegration, Standing, adjustment_at_start, point_in, state_at_start}
+pub use Rattle.sync_state.specs.{Plan.expected_at, Standing.{IsAtIntegration, Standing, adjustment_at_start, point_in, state_at_start}}
 pub use Rattle.sync_state.specs.Verdicts.{HasVerdict, IsOutnumbered, SomeQualifies, deviation_by, deviation_on}
-pub use Rattle.sync_state.specs.declared.answers.Verdict.{Verdict}
-pub use Rattle.sync_state.specs.declared.answers.Verdict.TheVariants.{AsyncClique, Cleared, Corrected, SyncClique}
-pub use Rattle.sync_state.specs.declared.plan.SyncPlan.{SyncPlan}
-pub use Rattle.sync_state.specs.declared.state.State.{State}
-pub use Rattle.sync_state.specs.declared.state.State.TheVariants.{Integrating, Joining, Off, Synchronised}
+pub use Rattle.sync_state.specs.declared.{answers.Verdict.{Verdict, TheVariants.{AsyncClique, Cleared, Corrected, SyncClique}}, plan.SyncPlan.SyncPlan}
+pub use Rattle.sync_state.specs.declared.state.State.{State, TheVariants.{Integrating, Joining, Off, Synchronised}}
 pub use Rattle.transparent_clock.proofs.WaitLaw.{waits_for_point}
-pub use Rattle.transparent_clock.specs.Hops.{Hop, IsHop, growth, travel}
-pub use Rattle.transparent_clock.specs.Points.{Waits, point_of}
-pub use Rattle.tte_lemmas.proofs.Integers.{int_le-from as int_le-true}
-pub use Rattle.tte_lemmas.proofs.Lists.{in_all as all_at}
-pub use Rattle.tte_lemmas.proofs.Options.{closed, opened}
+pub use Rattle.transparent_clock.specs.{Hops.{Hop, IsHop, growth, travel}, Points.{Waits, point_of}}
+pub use Rattle.tte_lemmas.proofs.{Integers.int_le-from as int_le-true, Lists.in_all as all_at, Options.{closed, opened}}
 pub use Rattle.tte_units.proofs.Means.{mean_of-floor}
-pub use Rattle.tte_units.specs.Amount.{amount, units_of}
-pub use Rattle.tte_units.specs.Mean.{IsMean, mean_of}
+pub use Rattle.tte_units.specs.{Amount.{amount, units_of}, Mean.{IsMean, mean_of}}
 pub use Rattle.tte_units.specs.declared.units.Units.{Units}

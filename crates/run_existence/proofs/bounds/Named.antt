@@ -1,37 +1,18 @@
 -- What the tables have, and of what a record speaks.
-use Rattle.std.proofs.Common.{◌≡◌, ◌⊎◌, ℕ, ◌<◌, ◌≤◌, ◌==◌, ℤ, pos, negsuc, Bool, true, false, if◌then◌else◌, List, [], ◌∷◌, length, Option, Some, None, slice_get, option_map, inl, inr, refl, sym, ap, ◌∙◌, arith, eqb-true, fold, option_and_then}
-use Rattle.std.proofs.lemmas.Option.{slice_get_within}
+use Rattle.std.proofs.Common.{if◌then◌else◌, ◌<◌, ◌==◌, ◌∙◌, ◌∷◌, ◌≡◌, ◌≤◌, ◌⊎◌, Bool, List, None, Option, Some, [], ap, arith, eqb-true, false, fold, inl, inr}
+use Rattle.std.proofs.{Common.{length, negsuc, option_and_then, option_map, pos, refl, slice_get, sym, true, ℕ, ℤ}, lemmas.Option.slice_get_within}
 use Rattle.std.specs.Option.{option_map_or}
-use Rattle.net_plan.proofs.TableFacts.{link_within}
-use Rattle.net_plan.specs.Places.{device_at, link_at}
+use Rattle.net_plan.{proofs.TableFacts.link_within, specs.{Places.{device_at, link_at}, declared.ids.{DeviceId.DeviceId, LinkId.LinkId}}}
+use Rattle.net_plan.specs.declared.{network.Network.Network, tables.{Device.Device, Link.Link, Role.Role, Way.{Way, TheVariants.{Down, Up}}}}
+use Rattle.run_law.{proofs.law.FirstPlaces.in_at, specs.control.{Collections.point_by, Leaving.Gives, Wires.{Launch, launched}}}
+use Rattle.run_law.specs.{declared.note.NoteBody.NoteBody, device.States.{is_joined_by, state_with}, records.{Happenings.Happening, Order.IsIn}}
+use Rattle.run_law.specs.{records.Ranks.{rank, sign}, scenario.{Devices.{has_role, start_of}, Scenarios.Scenario, Ways.receiver_of}}
+use Rattle.schedule_tables.specs.Entries.{source_by, target_by}
+use Rattle.sync_state.specs.{Standing.{point_in as point_by_state, state_at_start}, declared.state.State.{State, TheVariants.{Integrating, Joining, Off}}}
+use Rattle.run_existence.proofs.bounds.Weights.{device_in, ends, in_total, total}
 use Rattle.net_plan.specs.declared.event.What.TheVariants as events
-use Rattle.net_plan.specs.declared.ids.DeviceId.{DeviceId}
-use Rattle.net_plan.specs.declared.ids.LinkId.{LinkId}
-use Rattle.net_plan.specs.declared.network.Network.{Network}
-use Rattle.net_plan.specs.declared.tables.Device.{Device}
-use Rattle.net_plan.specs.declared.tables.Link.{Link}
-use Rattle.net_plan.specs.declared.tables.Role.{Role}
-use Rattle.net_plan.specs.declared.tables.Way.TheVariants.{Down, Up}
-use Rattle.net_plan.specs.declared.tables.Way.{Way}
-use Rattle.run_law.proofs.law.FirstPlaces.{in_at}
-use Rattle.run_law.specs.control.Collections.{point_by}
-use Rattle.run_law.specs.control.Leaving.{Gives}
-use Rattle.run_law.specs.control.Wires.{Launch, launched}
 use Rattle.run_law.specs.declared.judgement.Judgement.TheVariants as judgements
 use Rattle.run_law.specs.declared.note.NoteBody.TheVariants as notes
-use Rattle.run_law.specs.declared.note.NoteBody.{NoteBody}
-use Rattle.run_law.specs.device.States.{is_joined_by, state_with}
-use Rattle.run_law.specs.records.Happenings.{Happening}
-use Rattle.run_law.specs.records.Order.{IsIn}
-use Rattle.run_law.specs.records.Ranks.{rank, sign}
-use Rattle.run_law.specs.scenario.Devices.{has_role, start_of}
-use Rattle.run_law.specs.scenario.Scenarios.{Scenario}
-use Rattle.run_law.specs.scenario.Ways.{receiver_of}
-use Rattle.schedule_tables.specs.Entries.{target_by, source_by}
-use Rattle.sync_state.specs.Standing.{point_in as point_by_state, state_at_start}
-use Rattle.sync_state.specs.declared.state.State.TheVariants.{Integrating, Joining, Off}
-use Rattle.sync_state.specs.declared.state.State.{State}
-use Rattle.run_existence.proofs.bounds.Weights.{device_in, ends, in_total, total}
 
 -- ---- what is in the tables
 

@@ -1,61 +1,33 @@
 -- How great the numbers in the place of a record may be that is due at a time and rank.
-use Rattle.std.proofs.Common.{nat_lt, le-ltb, append-nil, ◌≡◌, ◌⊎◌, ℕ, ◌+◌, ◌*◌, ◌<◌, ◌≤◌, ℤ, pos, ◌+ℤ◌, unsigned_abs, List, [], ◌∷◌, ◌++◌, length, Option, Some, None, filter, inl, inr, sym, ap, subst, ◌∙◌, arith, append_assoc, option_and_then}
-use Rattle.std.proofs.Math.Nat.{mul-le-mul_left}
-use Rattle.std.proofs.lemmas.List.Elements.{filter-append, filter_map-append}
-use Rattle.std.proofs.lemmas.Option.{slice_get_within}
-use Rattle.std.specs.List.{after_last, filter_map}
+use Rattle.std.proofs.Common.{◌*◌, ◌++◌, ◌+ℤ◌, ◌+◌, ◌<◌, ◌∙◌, ◌∷◌, ◌≡◌, ◌≤◌, ◌⊎◌, List, None, Option, Some, [], ap, append-nil, append_assoc, arith, filter}
+use Rattle.std.proofs.{Common.{inl, inr, le-ltb, length, nat_lt, option_and_then, pos, subst, sym, unsigned_abs, ℕ, ℤ}, Math.Nat.mul-le-mul_left}
+use Rattle.std.{proofs.lemmas.{List.Elements.{filter-append, filter_map-append}, Option.slice_get_within}, specs.List.{after_last, filter_map}}
 use Rattle.std.specs.Option.{option_map_or}
-use Rattle.compression.proofs.Times.{one_list_of_clusters}
-use Rattle.compression.specs.Clusters.{AreClusters, Cluster, Point}
-use Rattle.compression.specs.Emission.{compressed}
+use Rattle.compression.{proofs.Times.one_list_of_clusters, specs.{Clusters.{AreClusters, Cluster, Point}, Emission.compressed}}
 use Rattle.compression.specs.declared.compressed.Compressed.{Compressed}
-use Rattle.net_plan.specs.Places.{is_master}
-use Rattle.net_plan.specs.declared.ids.DeviceId.{DeviceId}
-use Rattle.net_plan.specs.declared.ids.LinkId.{LinkId}
-use Rattle.net_plan.specs.declared.ids.VlId.{VlId}
-use Rattle.net_plan.specs.declared.tables.Way.TheVariants.{Up}
+use Rattle.net_plan.specs.{Places.is_master, declared.{ids.{DeviceId.DeviceId, LinkId.LinkId, VlId.VlId}, tables.Way.TheVariants.Up}}
 use Rattle.pcf_values.specs.declared.members.Members.{Members}
-use Rattle.precision_law.proofs.records.Behind as parts
-use Rattle.precision_law.proofs.records.Behind.{PartsAtLast, after_last_at, after_more, not_each, parts_at_last}
-use Rattle.precision_law.proofs.records.Points.{last_in}
-use Rattle.run_law.proofs.law.FirstPlaces.{in_at, in_filter, none_kept}
-use Rattle.run_law.proofs.records.Order.{contained, makes_none}
-use Rattle.run_law.proofs.runs.Places.{in_right}
-use Rattle.run_law.proofs.silent.Due.{no_cluster}
-use Rattle.run_law.specs.control.Collections.{ends_stretch, observation_window, point_by, points_of}
-use Rattle.run_law.specs.control.Corrections.{ComesToCorrection, standing_before}
-use Rattle.run_law.specs.control.Emissions.{Emits}
-use Rattle.run_law.specs.control.Leaving.{Departs, Departure, leaves}
-use Rattle.run_law.specs.control.Losses.{IsDispatchedOn, IsDropped, IsLost}
-use Rattle.run_law.specs.control.Permanence.{BecomesPermanent, ripe_as}
-use Rattle.run_law.specs.declared.judgement.Judgement.{Judgement}
-use Rattle.run_law.specs.declared.judgement.Reason.{Reason}
-use Rattle.run_law.specs.declared.judgement.Why.TheVariants as whys
-use Rattle.run_law.specs.declared.judgement.Why.{Why}
-use Rattle.run_law.specs.declared.note.NoteBody.TheVariants as notes
-use Rattle.run_law.specs.declared.note.NoteBody.{NoteBody}
-use Rattle.run_law.specs.declared.steps.Arrival.TheVariants as arrivals
-use Rattle.run_law.specs.declared.steps.Arrival.{Arrival}
-use Rattle.run_law.specs.declared.steps.Ripe.{Ripe}
-use Rattle.run_law.specs.device.LocalClocks.{Reaches}
-use Rattle.run_law.specs.device.StateChanges.{ChangesState}
+use Rattle.precision_law.proofs.records.{Behind.{PartsAtLast, after_last_at, after_more, not_each, parts_at_last}, Points.last_in}
+use Rattle.run_law.proofs.{law.FirstPlaces.{in_at, in_filter, none_kept}, records.Order.{contained, makes_none}, runs.Places.in_right, silent.Due.no_cluster}
+use Rattle.run_law.specs.control.{Collections.{ends_stretch, observation_window, point_by, points_of}, Corrections.{ComesToCorrection, standing_before}}
+use Rattle.run_law.specs.control.{Emissions.Emits, Leaving.{Departs, Departure, leaves}, Losses.{IsDispatchedOn, IsDropped, IsLost}}
+use Rattle.run_law.specs.{control.Permanence.{BecomesPermanent, ripe_as}, declared.judgement.{Judgement.Judgement, Reason.Reason, Why.Why}}
+use Rattle.run_law.specs.{declared.{note.NoteBody.NoteBody, steps.{Arrival.Arrival, Ripe.Ripe}}, device.{LocalClocks.Reaches, StateChanges.ChangesState}}
 use Rattle.run_law.specs.device.States.{adjustment_after, adjustment_before, state_after}
-use Rattle.run_law.specs.records.Happenings.{Happening, earlier, numbered, time_of, frame_by, frame_from}
-use Rattle.run_law.specs.records.Order.{IsIn}
-use Rattle.run_law.specs.records.Ranks.{key, rank, sign}
-use Rattle.run_law.specs.runs.DueRecords.{IsArrivedRecord, IsCaused, IsClockRecord, IsEventRecord}
-use Rattle.run_law.specs.scenario.Devices.{is_cm_role, start_of}
-use Rattle.run_law.specs.scenario.Scenarios.{Scenario, is_turned_on_at}
-use Rattle.run_law.specs.timed.Dispatching.{Sends, Dispatches}
-use Rattle.run_law.specs.timed.Receptions.{ArrivesAs}
-use Rattle.sync_state.specs.Standing.{point_in as point_by_state, state_at_start}
-use Rattle.sync_state.specs.declared.answers.Verdict.TheVariants.{Corrected}
-use Rattle.sync_state.specs.declared.state.State.{State}
-use Rattle.tte_units.specs.Amount.{amount}
-use Rattle.tte_units.specs.declared.units.Units.{Units}
+use Rattle.run_law.specs.records.{Happenings.{Happening, earlier, frame_by, frame_from, numbered, time_of}, Order.IsIn, Ranks.{key, rank, sign}}
+use Rattle.run_law.specs.{runs.DueRecords.{IsArrivedRecord, IsCaused, IsClockRecord, IsEventRecord}, scenario.Devices.{is_cm_role, start_of}}
+use Rattle.run_law.specs.{scenario.Scenarios.{Scenario, is_turned_on_at}, timed.{Dispatching.{Dispatches, Sends}, Receptions.ArrivesAs}}
+use Rattle.sync_state.specs.{Standing.{point_in as point_by_state, state_at_start}, declared.{answers.Verdict.TheVariants.Corrected, state.State.State}}
+use Rattle.tte_units.specs.{Amount.amount, declared.units.Units.Units}
 use Rattle.run_existence.proofs.Sweep.{IsSized}
-use Rattle.run_existence.proofs.bounds.Weights.{at_clock, bound, clock_at, clusters_at, device_in, devices_below, ends, in_sum, in_total, link_in, numbered_part, point_in, reach_most, sent_in, size_of, weight}
-use Rattle.run_existence.proofs.bounds.Named.{IsTouched, begins, device_there, giver, joined_device, joined_rank, launch_rank, never_off, no_point, received, signs, source_end, touched}
+use Rattle.run_existence.proofs.bounds.Named.{IsTouched, begins, device_there, giver, joined_device, joined_rank, launch_rank, never_off, no_point, received}
+use Rattle.run_existence.proofs.bounds.Named.{signs, source_end, touched}
+use Rattle.run_existence.proofs.bounds.Weights.{at_clock, bound, clock_at, clusters_at, device_in, devices_below, ends, in_sum, in_total, link_in}
+use Rattle.run_existence.proofs.bounds.Weights.{numbered_part, point_in, reach_most, sent_in, size_of, weight}
+use Rattle.precision_law.proofs.records.Behind as parts
+use Rattle.run_law.specs.declared.judgement.Why.TheVariants as whys
+use Rattle.run_law.specs.declared.note.NoteBody.TheVariants as notes
+use Rattle.run_law.specs.declared.steps.Arrival.TheVariants as arrivals
 
 -- ---- the ranks
 

@@ -1,24 +1,16 @@
 -- What the numbers in the places of records are bounded by.
-use Rattle.std.proofs.Common.{◌≡◌, ◌⊎◌, ℕ, zero, suc, ◌+◌, ◌<◌, ◌≤◌, ◌==◌, ℤ, pos, ◌+ℤ◌, ◌-ℤ◌, ◌≤ℤ◌, unsigned_abs, if◌then◌else◌, List, [], ◌∷◌, ◌++◌, length, Some, slice_get, inl, inr, refl, ap, arith}
-use Rattle.std.proofs.lemmas.Int.{ints}
-use Rattle.compression.proofs.Times.{one_list_of_clusters}
-use Rattle.compression.specs.Emission.{compressed}
-use Rattle.compression.specs.declared.compressed.Compressed.{Compressed}
-use Rattle.net_plan.specs.declared.event.What.TheVariants as events
-use Rattle.net_plan.specs.declared.network.Network.{Network}
-use Rattle.net_plan.specs.declared.tables.Link.{Link}
-use Rattle.run_law.proofs.law.FirstPlaces.{in_at}
-use Rattle.run_law.specs.control.Collections.{observation_window, points_of}
-use Rattle.run_law.specs.declared.note.NoteBody.TheVariants as notes
-use Rattle.run_law.specs.declared.note.NoteBody.{NoteBody}
-use Rattle.run_law.specs.device.States.{adjustment_after}
-use Rattle.run_law.specs.records.Happenings.{Happening, earlier, numbered, time_of}
-use Rattle.run_law.specs.records.Order.{IsIn}
-use Rattle.run_law.specs.records.Ranks.{members_in}
+use Rattle.std.proofs.Common.{if◌then◌else◌, ◌++◌, ◌+ℤ◌, ◌+◌, ◌-ℤ◌, ◌<◌, ◌==◌, ◌∷◌, ◌≡◌, ◌≤ℤ◌, ◌≤◌, ◌⊎◌, List, Some, [], ap, arith, inl, inr, length, pos, refl}
+use Rattle.std.proofs.{Common.{slice_get, suc, unsigned_abs, zero, ℕ, ℤ}, lemmas.Int.ints}
+use Rattle.compression.{proofs.Times.one_list_of_clusters, specs.{Emission.compressed, declared.compressed.Compressed.Compressed}}
+use Rattle.net_plan.specs.declared.{network.Network.Network, tables.Link.Link}
+use Rattle.run_law.{proofs.law.FirstPlaces.in_at, specs.{control.Collections.{observation_window, points_of}, declared.note.NoteBody.NoteBody}}
+use Rattle.run_law.specs.{device.States.adjustment_after, records.{Happenings.{Happening, earlier, numbered, time_of}, Order.IsIn, Ranks.members_in}}
 use Rattle.run_law.specs.scenario.Scenarios.{Scenario}
 use Rattle.transparent_clock.specs.Points.{point_of}
 use Rattle.tte_lemmas.proofs.Integers.{amount_least}
 use Rattle.tte_units.specs.Amount.{amount}
+use Rattle.net_plan.specs.declared.event.What.TheVariants as events
+use Rattle.run_law.specs.declared.note.NoteBody.TheVariants as notes
 
 -- ---- sums
 

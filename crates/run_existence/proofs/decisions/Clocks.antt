@@ -1,13 +1,10 @@
 -- Decisions: when a clock reaches a value.
-use Rattle.std.proofs.Common.{◌≡◌, ℕ, zero, suc, ◌<◌, ℤ, pos, ◌-ℤ◌, ◌≤ℤ◌, ◌<ℤ◌, List, inl, inr, sym, subst, arith}
-use Rattle.std.proofs.lemmas.Bool.{cases_eq}
+use Rattle.std.proofs.{Common.{◌-ℤ◌, ◌<ℤ◌, ◌<◌, ◌≡◌, ◌≤ℤ◌, List, arith, inl, inr, pos, subst, suc, sym, zero, ℕ, ℤ}, lemmas.Bool.cases_eq}
 use Rattle.std.proofs.lemmas.Int.{by_lt_z, ints}
 use Rattle.drift_clock.specs.Reach.{IsReach}
 use Rattle.net_plan.specs.declared.ids.DeviceId.{DeviceId}
 use Rattle.run_law.proofs.scenario.Decisions.{IsDecided, decided_and, decided_by, decided_less_int}
-use Rattle.run_law.specs.device.LocalClocks.{Reaches, changed_at, local_at_change}
-use Rattle.run_law.specs.device.States.{adjustment_before}
-use Rattle.run_law.specs.records.Happenings.{Happening}
+use Rattle.run_law.specs.{device.{LocalClocks.{Reaches, changed_at, local_at_change}, States.adjustment_before}, records.Happenings.Happening}
 use Rattle.run_law.specs.scenario.Scenarios.{Scenario}
 
 at_most_int : (a b : ℤ) → IsDecided (a ≤ℤ b)

@@ -1,31 +1,18 @@
 -- Decisions: to what a correction point comes, and whether the record of a correction is due.
-use Rattle.std.proofs.Common.{◌≡◌, ℕ, ◌+ℤ◌, false, List, Some, inl, inr, refl, subst, arith}
-use Rattle.membership.proofs.OneSummary.{one_summary}
-use Rattle.membership.specs.Summary.{Summary}
+use Rattle.std.proofs.Common.{◌+ℤ◌, ◌≡◌, List, Some, arith, false, inl, inr, refl, subst, ℕ}
+use Rattle.membership.{proofs.OneSummary.one_summary, specs.Summary.Summary}
 use Rattle.net_plan.specs.declared.ids.DeviceId.{DeviceId}
-use Rattle.run_law.proofs.control.Summaries.{summary_of, verdict_of}
-use Rattle.run_law.proofs.scenario.Choices.{at_integration}
+use Rattle.run_law.proofs.{control.Summaries.{summary_of, verdict_of}, scenario.Choices.at_integration}
 use Rattle.run_law.proofs.scenario.Decisions.{IsDecided, decided_and, decided_by, decided_false}
-use Rattle.run_law.specs.control.Corrections.{ComesToCorrection, correction_value, heard_since, standing_before}
-use Rattle.run_law.specs.declared.note.NoteBody.TheVariants as notes
-use Rattle.run_law.specs.declared.note.NoteBody.{NoteBody}
-use Rattle.run_law.specs.device.LocalClocks.{Reaches}
-use Rattle.run_law.specs.device.States.{adjustment_before}
-use Rattle.run_law.specs.records.Happenings.{Happening}
-use Rattle.run_law.specs.records.Ranks.{key, rank}
-use Rattle.run_law.specs.runs.DueRecords.{IsCaused, IsCorrectedRecord}
-use Rattle.run_law.specs.scenario.Scenarios.{Scenario, is_broken}
-use Rattle.sync_state.proofs.LawLemmas.{one_verdict}
-use Rattle.sync_state.specs.Standing.{Standing, next_point}
-use Rattle.sync_state.specs.Verdicts.{HasVerdict}
+use Rattle.run_law.specs.{control.Corrections.{ComesToCorrection, correction_value, heard_since, standing_before}, declared.note.NoteBody.NoteBody}
+use Rattle.run_law.specs.{device.{LocalClocks.Reaches, States.adjustment_before}, records.{Happenings.Happening, Ranks.{key, rank}}}
+use Rattle.run_law.specs.{runs.DueRecords.{IsCaused, IsCorrectedRecord}, scenario.Scenarios.{Scenario, is_broken}}
+use Rattle.sync_state.{proofs.LawLemmas.one_verdict, specs.{Standing.{Standing, next_point}, Verdicts.HasVerdict, declared.answers.Verdict.Verdict}}
 use Rattle.sync_state.specs.declared.answers.Verdict.TheVariants.{AsyncClique, Cleared, Corrected, SyncClique}
-use Rattle.sync_state.specs.declared.answers.Verdict.{Verdict}
 use Rattle.tte_lemmas.proofs.Options.{one as same_some}
-use Rattle.tte_units.specs.Amount.{units_of}
-use Rattle.tte_units.specs.declared.units.Units.{Units}
-use Rattle.run_existence.proofs.decisions.Clocks.{reaches_decided}
-use Rattle.run_existence.proofs.decisions.Places.{HasCaused, OfOne, by_one, caused, members_by}
-use Rattle.run_existence.proofs.decisions.Values.{decided_in, decided_within}
+use Rattle.tte_units.specs.{Amount.units_of, declared.units.Units.Units}
+use Rattle.run_existence.proofs.decisions.{Clocks.reaches_decided, Places.{HasCaused, OfOne, by_one, caused, members_by}, Values.{decided_in, decided_within}}
+use Rattle.run_law.specs.declared.note.NoteBody.TheVariants as notes
 
 -- ---- each point comes to a verdict
 

@@ -1,37 +1,18 @@
 -- Decisions: whether the record of a master's frame, or of a time-triggered frame that is dispatched, is due.
-use Rattle.std.proofs.Common.{◌≡◌, ℕ, ◌+◌, ◌*◌, ◌%◌, ◌<◌, pos, List, length, Some, slice_get, inr, sym, ap, subst, ◌∙◌, arith}
-use Rattle.std.proofs.lemmas.Option.{slice_get_within}
-use Rattle.net_plan.specs.Places.{is_master}
-use Rattle.net_plan.specs.declared.ids.DeviceId.{DeviceId}
-use Rattle.net_plan.specs.declared.ids.LinkId.{LinkId}
-use Rattle.net_plan.specs.declared.ids.VlId.{VlId}
-use Rattle.net_plan.specs.declared.tables.Link.{Link}
-use Rattle.net_plan.specs.declared.tables.Row.{Row}
-use Rattle.net_plan.specs.declared.tables.VirtualLink.{VirtualLink}
-use Rattle.run_law.proofs.scenario.Choices.{decided_le}
-use Rattle.run_law.proofs.scenario.Conditions.{same_device}
+use Rattle.std.proofs.{Common.{◌%◌, ◌*◌, ◌+◌, ◌<◌, ◌∙◌, ◌≡◌, List, Some, ap, arith, inr, length, pos, slice_get, subst, sym, ℕ}, lemmas.Option.slice_get_within}
+use Rattle.net_plan.specs.{Places.is_master, declared.{ids.{DeviceId.DeviceId, LinkId.LinkId, VlId.VlId}, tables.{Link.Link, Row.Row, VirtualLink.VirtualLink}}}
+use Rattle.run_law.proofs.scenario.{Choices.decided_le, Conditions.same_device}
 use Rattle.run_law.proofs.scenario.Decisions.{IsDecided, decided_and, decided_by, decided_false, decided_or, decided_same, decided_true}
-use Rattle.run_law.specs.control.Losses.{IsDispatchedOn}
-use Rattle.run_law.specs.declared.note.NoteBody.TheVariants as notes
-use Rattle.run_law.specs.declared.note.NoteBody.{NoteBody}
-use Rattle.run_law.specs.device.LocalClocks.{Reaches}
-use Rattle.run_law.specs.device.States.{state_before}
-use Rattle.run_law.specs.records.Happenings.{Happening}
-use Rattle.run_law.specs.records.Ranks.{key, rank}
-use Rattle.run_law.specs.runs.DueRecords.{IsCaused}
-use Rattle.run_law.specs.scenario.Devices.{has_role, is_end}
-use Rattle.run_law.specs.scenario.Scenarios.{Scenario, is_broken}
-use Rattle.run_law.specs.scenario.Ways.{is_cut, way_from}
+use Rattle.run_law.specs.{control.Losses.IsDispatchedOn, declared.note.NoteBody.NoteBody, device.{LocalClocks.Reaches, States.state_before}}
+use Rattle.run_law.specs.{records.{Happenings.Happening, Ranks.{key, rank}}, runs.DueRecords.IsCaused, scenario.Devices.{has_role, is_end}}
+use Rattle.run_law.specs.scenario.{Scenarios.{Scenario, is_broken}, Ways.{is_cut, way_from}}
 use Rattle.run_law.specs.timed.Dispatching.{Dispatches, HasAccepted, HasAtHand, IsUp, Sends, last_accepted}
-use Rattle.schedule_tables.proofs.EntryLemmas.{one_entry}
-use Rattle.schedule_tables.specs.Entries.{IsEntry, source_of}
-use Rattle.schedule_tables.specs.Windows.{OccursIn}
-use Rattle.schedule_tables.specs.declared.entry.Entry.{Entry}
+use Rattle.schedule_tables.{proofs.EntryLemmas.one_entry, specs.{Entries.{IsEntry, source_of}, Windows.OccursIn, declared.entry.Entry.Entry}}
 use Rattle.tte_lemmas.proofs.Options.{one as same_some}
 use Rattle.tte_units.specs.Amount.{amount, units_of}
-use Rattle.run_existence.proofs.decisions.Clocks.{reaches_decided}
-use Rattle.run_existence.proofs.decisions.Places.{HasCaused, OfFive, OfTwo, by_five, by_two, caused, members_by}
+use Rattle.run_existence.proofs.decisions.{Clocks.reaches_decided, Places.{HasCaused, OfFive, OfTwo, by_five, by_two, caused, members_by}}
 use Rattle.run_existence.proofs.decisions.Values.{decided_below, decided_in, is_synchronised, same_link, same_vl}
+use Rattle.run_law.specs.declared.note.NoteBody.TheVariants as notes
 
 -- ---- a master's frame
 

@@ -1,23 +1,14 @@
 -- Decisions: whether the record of an event, or of a device's clock at the end, is due.
-use Rattle.std.proofs.Common.{◌≡◌, ℕ, zero, suc, ℤ, pos, List, Some, Any, slice_get, slice_index_or, inl, inr, refl, ap, subst, ◌∙◌, arith}
-use Rattle.net_plan.specs.declared.event.Event.{Event}
-use Rattle.net_plan.specs.declared.event.What.TheVariants.{End}
-use Rattle.net_plan.specs.declared.event.What.{What}
-use Rattle.net_plan.specs.declared.tables.Device.{Device}
-use Rattle.run_law.proofs.scenario.Decisions.{IsDecided, decided_and, decided_any, decided_by}
-use Rattle.run_law.specs.declared.note.NoteBody.TheVariants as notes
-use Rattle.run_law.specs.declared.note.NoteBody.{NoteBody}
-use Rattle.run_law.specs.device.States.{adjustment_after, state_after}
-use Rattle.run_law.specs.records.Happenings.{Happening, up_to}
-use Rattle.run_law.specs.records.Ranks.{key, rank}
-use Rattle.run_law.specs.runs.DueRecords.{EndsAt, IsCaused, IsClockRecord, IsEventRecord}
-use Rattle.run_law.specs.scenario.Scenarios.{Scenario}
+use Rattle.std.proofs.Common.{◌∙◌, ◌≡◌, Any, List, Some, ap, arith, inl, inr, pos, refl, slice_get, slice_index_or, subst, suc, zero, ℕ, ℤ}
+use Rattle.net_plan.specs.declared.{event.{Event.Event, What.{What, TheVariants.End}}, tables.Device.Device}
+use Rattle.run_law.{proofs.scenario.Decisions.{IsDecided, decided_and, decided_any, decided_by}, specs.declared.note.NoteBody.NoteBody}
+use Rattle.run_law.specs.{device.States.{adjustment_after, state_after}, records.{Happenings.{Happening, up_to}, Ranks.{key, rank}}}
+use Rattle.run_law.specs.{runs.DueRecords.{EndsAt, IsCaused, IsClockRecord, IsEventRecord}, scenario.Scenarios.Scenario}
 use Rattle.sync_state.specs.declared.state.State.{State}
 use Rattle.tte_lemmas.proofs.Options.{one}
-use Rattle.tte_units.specs.Amount.{units_of}
-use Rattle.tte_units.specs.declared.units.Units.{Units}
-use Rattle.run_existence.proofs.decisions.Places.{HasCaused, OfOne, by_one, caused, members_by}
-use Rattle.run_existence.proofs.decisions.Values.{decided_in, same_int}
+use Rattle.tte_units.specs.{Amount.units_of, declared.units.Units.Units}
+use Rattle.run_existence.proofs.decisions.{Places.{HasCaused, OfOne, by_one, caused, members_by}, Values.{decided_in, same_int}}
+use Rattle.run_law.specs.declared.note.NoteBody.TheVariants as notes
 
 -- ---- an event
 

@@ -1,40 +1,19 @@
 -- Decisions: whether the record of a frame that is lost, or dropped, is due.
-use Rattle.std.proofs.Common.{◌≡◌, ◌⊎◌, ℕ, ◌<◌, ◌≤◌, true, List, length, Some, slice_get, inl, inr, refl, ap, subst, arith}
-use Rattle.std.proofs.lemmas.Option.{slice_get_within}
-use Rattle.net_plan.specs.declared.event.What.TheVariants.{Send}
-use Rattle.net_plan.specs.declared.ids.DeviceId.{DeviceId}
-use Rattle.net_plan.specs.declared.ids.LinkId.{LinkId}
-use Rattle.net_plan.specs.declared.ids.VlId.{VlId}
-use Rattle.net_plan.specs.declared.tables.Link.{Link}
-use Rattle.net_plan.specs.declared.tables.Way.TheVariants.{Up}
-use Rattle.run_law.proofs.runs.SameSteps.{same_arrival}
-use Rattle.run_law.proofs.scenario.Conditions.{same_device}
-use Rattle.run_law.proofs.scenario.Decisions.{IsDecided, decided_and, decided_by, decided_or, decided_true}
-use Rattle.run_law.specs.control.Leaving.{Departs, too_old}
-use Rattle.run_law.specs.control.Losses.{IsDropped, IsLost, IsSendLost}
-use Rattle.run_law.specs.declared.judgement.Reason.TheVariants.{Old}
-use Rattle.run_law.specs.declared.judgement.Reason.{Reason}
-use Rattle.run_law.specs.declared.note.NoteBody.TheVariants as notes
-use Rattle.run_law.specs.declared.note.NoteBody.{NoteBody}
-use Rattle.run_law.specs.declared.steps.Arrival.TheVariants as arrivals
-use Rattle.run_law.specs.declared.steps.Arrival.{Arrival}
-use Rattle.run_law.specs.records.Happenings.{Happening}
-use Rattle.run_law.specs.records.Ranks.{key, rank}
-use Rattle.run_law.specs.runs.DueRecords.{IsCaused}
-use Rattle.run_law.specs.scenario.Scenarios.{Scenario}
-use Rattle.run_law.specs.scenario.Ways.{is_cut, way_from}
-use Rattle.run_law.specs.timed.Dispatching.{Dispatches}
-use Rattle.run_law.specs.timed.Receptions.{ArrivesAs}
+use Rattle.std.proofs.{Common.{◌<◌, ◌≡◌, ◌≤◌, ◌⊎◌, List, Some, ap, arith, inl, inr, length, refl, slice_get, subst, true, ℕ}, lemmas.Option.slice_get_within}
+use Rattle.net_plan.specs.declared.{event.What.TheVariants.Send, ids.{DeviceId.DeviceId, LinkId.LinkId, VlId.VlId}, tables.{Link.Link, Way.TheVariants.Up}}
+use Rattle.run_law.proofs.{runs.SameSteps.same_arrival, scenario.Conditions.same_device}
+use Rattle.run_law.{proofs.scenario.Decisions.{IsDecided, decided_and, decided_by, decided_or, decided_true}, specs.control.Leaving.{Departs, too_old}}
+use Rattle.run_law.specs.{control.Losses.{IsDropped, IsLost, IsSendLost}, declared.{judgement.Reason.{Reason, TheVariants.Old}, note.NoteBody.NoteBody}}
+use Rattle.run_law.specs.{declared.steps.Arrival.Arrival, records.{Happenings.Happening, Ranks.{key, rank}}, runs.DueRecords.IsCaused}
+use Rattle.run_law.specs.{scenario.{Scenarios.Scenario, Ways.{is_cut, way_from}}, timed.{Dispatching.Dispatches, Receptions.ArrivesAs}}
 use Rattle.tte_lemmas.proofs.Options.{one as same_some}
 use Rattle.tte_units.specs.Amount.{amount, units_of}
-use Rattle.run_existence.proofs.bounds.Ranks.{cycle_of_dispatch}
-use Rattle.run_existence.proofs.bounds.Weights.{bound}
-use Rattle.run_existence.proofs.decisions.Arrivals.{arrives}
-use Rattle.run_existence.proofs.decisions.Departures.{cut_decided, old_decided}
-use Rattle.run_existence.proofs.decisions.Dispatches.{dispatches_decided}
-use Rattle.run_existence.proofs.decisions.Permanence.{HasDropped, dropped_decided}
+use Rattle.run_existence.proofs.{bounds.{Ranks.cycle_of_dispatch, Weights.bound}, decisions.{Arrivals.arrives, Departures.{cut_decided, old_decided}}}
+use Rattle.run_existence.proofs.decisions.{Dispatches.dispatches_decided, Permanence.{HasDropped, dropped_decided}}
 use Rattle.run_existence.proofs.decisions.Places.{HasCaused, OfThree, by_three, cause_decided, caused, members_by}
 use Rattle.run_existence.proofs.decisions.Values.{decided_below, decided_in, decided_within, same_link}
+use Rattle.run_law.specs.declared.note.NoteBody.TheVariants as notes
+use Rattle.run_law.specs.declared.steps.Arrival.TheVariants as arrivals
 
 -- ---- a frame meets a cut way
 

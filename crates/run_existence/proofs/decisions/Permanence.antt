@@ -1,35 +1,22 @@
 -- Decisions: whether the record of a frame that is permanent is due, and what becomes of the frame.
-use Rattle.std.proofs.Common.{◌≡◌, ℕ, ℤ, pos, true, false, List, [], ◌∷◌, Some, inl, inr, refl, sym, ap, subst, ◌∙◌, arith}
-use Rattle.std.specs.Option.{option_map_or}
+use Rattle.std.{proofs.Common.{◌∙◌, ◌∷◌, ◌≡◌, List, Some, [], ap, arith, false, inl, inr, pos, refl, subst, sym, true, ℕ, ℤ}, specs.Option.option_map_or}
 use Rattle.drift_clock.specs.Reach.{IsReach}
-use Rattle.net_plan.specs.declared.ids.DeviceId.{DeviceId}
-use Rattle.net_plan.specs.declared.ids.LinkId.{LinkId}
+use Rattle.net_plan.specs.declared.ids.{DeviceId.DeviceId, LinkId.LinkId}
 use Rattle.pcf_values.specs.declared.pcf.Pcf.{Pcf}
-use Rattle.run_law.proofs.control.Verdicts.{never_dropped, some_outcome}
-use Rattle.run_law.proofs.runs.SameSteps.{same_point, same_ripening}
-use Rattle.run_law.proofs.scenario.Conditions.{same_device}
+use Rattle.run_law.proofs.{control.Verdicts.{never_dropped, some_outcome}, runs.SameSteps.{same_point, same_ripening}, scenario.Conditions.same_device}
 use Rattle.run_law.proofs.scenario.Decisions.{IsDecided, decided_and, decided_by, decided_false, decided_same, decided_true}
-use Rattle.run_law.specs.control.Collections.{points_of}
-use Rattle.run_law.specs.control.Permanence.{BecomesPermanent, before_permanence, ripe_as, waits_for}
-use Rattle.run_law.specs.declared.judgement.Judgement.TheVariants as judgements
-use Rattle.run_law.specs.declared.judgement.Judgement.{Judgement}
-use Rattle.run_law.specs.declared.judgement.Reason.{Reason}
-use Rattle.run_law.specs.declared.note.NoteBody.TheVariants as notes
-use Rattle.run_law.specs.declared.note.NoteBody.{NoteBody}
-use Rattle.run_law.specs.declared.steps.Ripe.TheVariants as ripe
-use Rattle.run_law.specs.declared.steps.Ripe.{Ripe}
-use Rattle.run_law.specs.device.States.{adjustment_at_hearing, state_at_hearing}
-use Rattle.run_law.specs.records.Happenings.{Happening, frame_from, numbered, time_of}
-use Rattle.run_law.specs.records.Ranks.{key, rank}
-use Rattle.run_law.specs.runs.DueRecords.{IsCaused}
-use Rattle.run_law.specs.scenario.Scenarios.{Scenario, is_broken}
+use Rattle.run_law.specs.control.{Collections.points_of, Permanence.{BecomesPermanent, before_permanence, ripe_as, waits_for}}
+use Rattle.run_law.specs.declared.{judgement.{Judgement.Judgement, Reason.Reason}, note.NoteBody.NoteBody, steps.Ripe.Ripe}
+use Rattle.run_law.specs.{device.States.{adjustment_at_hearing, state_at_hearing}, records.Happenings.{Happening, frame_from, numbered, time_of}}
+use Rattle.run_law.specs.{records.Ranks.{key, rank}, runs.DueRecords.IsCaused, scenario.Scenarios.{Scenario, is_broken}}
 use Rattle.transparent_clock.specs.Points.{point_of}
 use Rattle.tte_lemmas.proofs.Options.{one as same_some}
-use Rattle.tte_units.specs.Amount.{amount, units_of}
-use Rattle.tte_units.specs.declared.units.Units.{Units}
-use Rattle.run_existence.proofs.decisions.Clocks.{reach_decided}
-use Rattle.run_existence.proofs.decisions.Places.{HasCaused, OfFive, by_five, members_by}
+use Rattle.tte_units.specs.{Amount.{amount, units_of}, declared.units.Units.Units}
+use Rattle.run_existence.proofs.decisions.{Clocks.reach_decided, Places.{HasCaused, OfFive, by_five, members_by}}
 use Rattle.run_existence.proofs.decisions.Values.{decided_in, decided_within, same_link}
+use Rattle.run_law.specs.declared.judgement.Judgement.TheVariants as judgements
+use Rattle.run_law.specs.declared.note.NoteBody.TheVariants as notes
+use Rattle.run_law.specs.declared.steps.Ripe.TheVariants as ripe
 
 -- ---- a frame is permanent
 

@@ -1,21 +1,11 @@
 -- A decision at a place is one on the bodies that are caused there.
-use Rattle.std.proofs.Common.{◌≡◌, ℕ, ◌+◌, List, [], ◌∷◌, length, Some, inr, refl, sym, ap, subst, ◌∙◌, arith}
-use Rattle.std.proofs.lemmas.Int.{ints}
-use Rattle.std.specs.Option.{option_map_or}
-use Rattle.run_law.proofs.scenario.Decisions.{IsDecided, decided_and, decided_by, decided_same}
-use Rattle.run_law.specs.declared.note.Note.{Note}
-use Rattle.run_law.specs.declared.note.NoteBody.{NoteBody}
-use Rattle.run_law.specs.records.Causes.{IsOfThisTime}
-use Rattle.run_law.specs.records.Happenings.{Happening, frame_by, happening, numbered, time_of}
-use Rattle.run_law.specs.records.Ranks.{key, members_in, place_of, rank}
-use Rattle.run_law.specs.runs.DueRecords.{IsCaused, IsDue}
-use Rattle.run_law.specs.scenario.Scenarios.{Scenario}
+use Rattle.std.{proofs.{Common.{◌+◌, ◌∙◌, ◌∷◌, ◌≡◌, List, Some, [], ap, arith, inr, length, refl, subst, sym, ℕ}, lemmas.Int.ints}, specs.Option.option_map_or}
+use Rattle.run_law.{proofs.scenario.Decisions.{IsDecided, decided_and, decided_by, decided_same}, specs.declared.note.{Note.Note, NoteBody.NoteBody}}
+use Rattle.run_law.specs.records.{Causes.IsOfThisTime, Happenings.{Happening, frame_by, happening, numbered, time_of}, Ranks.{key, members_in, place_of, rank}}
+use Rattle.run_law.specs.{runs.DueRecords.{IsCaused, IsDue}, scenario.Scenarios.Scenario}
 use Rattle.tte_lemmas.proofs.Options.{one}
-use Rattle.tte_units.proofs.Amounts.{units_are}
-use Rattle.tte_units.specs.Amount.{units_of}
-use Rattle.tte_units.specs.declared.units.Units.{Units}
-use Rattle.run_existence.proofs.Sweep.{HasDue}
-use Rattle.run_existence.proofs.decisions.Values.{decided_in}
+use Rattle.tte_units.{proofs.Amounts.units_are, specs.{Amount.units_of, declared.units.Units.Units}}
+use Rattle.run_existence.proofs.{Sweep.HasDue, decisions.Values.decided_in}
 
 -- the members of the frame that a record of this body has, as a number
 abbrev pub members_by : Scenario → List Happening → NoteBody → ℕ

@@ -1,25 +1,13 @@
 -- It is decided whether a record is due at a place.
-use Rattle.std.proofs.Common.{ℕ, ◌<◌, ◌≤◌, List, [], ◌∷◌, inl, inr, sym, subst, arith}
-use Rattle.std.proofs.lemmas.Bool.{cases_eq}
-use Rattle.run_law.proofs.scenario.Decisions.{IsDecided}
-use Rattle.run_law.specs.declared.note.NoteBody.TheVariants as notes
-use Rattle.run_law.specs.declared.note.NoteBody.{NoteBody}
-use Rattle.run_law.specs.records.Happenings.{Happening}
-use Rattle.run_law.specs.records.Ranks.{place_of, rank}
-use Rattle.run_law.specs.runs.DueRecords.{IsDue}
-use Rattle.run_law.specs.scenario.Scenarios.{Scenario}
+use Rattle.std.proofs.{Common.{◌<◌, ◌∷◌, ◌≤◌, List, [], arith, inl, inr, subst, sym, ℕ}, lemmas.Bool.cases_eq}
+use Rattle.run_law.{proofs.scenario.Decisions.IsDecided, specs.{declared.note.NoteBody.NoteBody, records.{Happenings.Happening, Ranks.{place_of, rank}}}}
+use Rattle.run_law.specs.{runs.DueRecords.IsDue, scenario.Scenarios.Scenario}
 use Rattle.tte_units.specs.Amount.{amount}
-use Rattle.run_existence.proofs.Sweep.{HasDue}
-use Rattle.run_existence.proofs.decisions.Arrivals.{accepted_decided, arrived_decided, delivered_decided}
-use Rattle.run_existence.proofs.decisions.Corrections.{corrected_decided}
-use Rattle.run_existence.proofs.decisions.Departures.{left_decided}
-use Rattle.run_existence.proofs.decisions.Dispatches.{sent_decided, tt_sent_decided}
-use Rattle.run_existence.proofs.decisions.Emissions.{compressed_decided}
-use Rattle.run_existence.proofs.decisions.Events.{clock_decided, event_decided}
-use Rattle.run_existence.proofs.decisions.Losses.{drop_decided, lost_decided}
-use Rattle.run_existence.proofs.decisions.Permanence.{permanent_decided}
-use Rattle.run_existence.proofs.decisions.Places.{HasCaused, due_decided}
-use Rattle.run_existence.proofs.decisions.States.{state_decided}
+use Rattle.run_existence.proofs.{Sweep.HasDue, decisions.{Arrivals.{accepted_decided, arrived_decided, delivered_decided}, Corrections.corrected_decided}}
+use Rattle.run_existence.proofs.decisions.{Departures.left_decided, Dispatches.{sent_decided, tt_sent_decided}, Emissions.compressed_decided}
+use Rattle.run_existence.proofs.decisions.{Events.{clock_decided, event_decided}, Losses.{drop_decided, lost_decided}, Permanence.permanent_decided}
+use Rattle.run_existence.proofs.decisions.{Places.{HasCaused, due_decided}, States.state_decided}
+use Rattle.run_law.specs.declared.note.NoteBody.TheVariants as notes
 
 -- the ranks are those from 1 to 14
 pub record IsRank (r : ℕ) : Type 0 where

@@ -1,30 +1,18 @@
 -- Decisions: whether the record of a device's new state is due.
-use Rattle.std.proofs.Common.{◌≡◌, ◌⊎◌, ℕ, true, false, List, inl, inr, refl, ap, arith}
-use Rattle.net_plan.specs.declared.event.What.TheVariants.{On}
-use Rattle.net_plan.specs.declared.ids.DeviceId.{DeviceId}
+use Rattle.std.proofs.Common.{◌≡◌, ◌⊎◌, List, ap, arith, false, inl, inr, refl, true, ℕ}
+use Rattle.net_plan.specs.declared.{event.What.TheVariants.On, ids.DeviceId.DeviceId}
 use Rattle.run_law.proofs.scenario.Conditions.{same_device}
 use Rattle.run_law.proofs.scenario.Decisions.{IsDecided, decided_and, decided_by, decided_false, decided_or, decided_same, decided_true}
-use Rattle.run_law.specs.control.Corrections.{ComesToCorrection}
-use Rattle.run_law.specs.declared.judgement.Why.TheVariants as whys
-use Rattle.run_law.specs.declared.judgement.Why.{Why}
-use Rattle.run_law.specs.declared.note.NoteBody.TheVariants as notes
-use Rattle.run_law.specs.declared.note.NoteBody.{NoteBody}
-use Rattle.run_law.specs.device.StateChanges.{ChangesState}
-use Rattle.run_law.specs.device.States.{is_joined_by, state_before}
-use Rattle.run_law.specs.records.Causes.{IsOfThisTime}
-use Rattle.run_law.specs.records.Happenings.{Happening}
-use Rattle.run_law.specs.records.Ranks.{key, rank}
-use Rattle.run_law.specs.runs.DueRecords.{IsCaused}
-use Rattle.run_law.specs.scenario.Scenarios.{Scenario, is_broken}
-use Rattle.sync_state.specs.declared.answers.Verdict.TheVariants.{AsyncClique, SyncClique}
-use Rattle.sync_state.specs.declared.answers.Verdict.{Verdict}
+use Rattle.run_law.specs.{control.Corrections.ComesToCorrection, declared.{judgement.Why.Why, note.NoteBody.NoteBody}, device.StateChanges.ChangesState}
+use Rattle.run_law.specs.{device.States.{is_joined_by, state_before}, records.{Causes.IsOfThisTime, Happenings.Happening, Ranks.{key, rank}}}
+use Rattle.run_law.specs.{runs.DueRecords.IsCaused, scenario.Scenarios.{Scenario, is_broken}}
+use Rattle.sync_state.specs.declared.{answers.Verdict.{Verdict, TheVariants.{AsyncClique, SyncClique}}, state.State.State}
 use Rattle.sync_state.specs.declared.state.State.TheVariants.{Integrating, Joining, Synchronised}
-use Rattle.sync_state.specs.declared.state.State.{State}
-use Rattle.tte_units.specs.Amount.{units_of}
-use Rattle.tte_units.specs.declared.units.Units.{Units}
-use Rattle.run_existence.proofs.decisions.Corrections.{one_outcome, point_decided}
-use Rattle.run_existence.proofs.decisions.Places.{HasCaused, OfTwo, by_two, cause_decided, caused, members_by}
+use Rattle.tte_units.specs.{Amount.units_of, declared.units.Units.Units}
+use Rattle.run_existence.proofs.decisions.{Corrections.{one_outcome, point_decided}, Places.{HasCaused, OfTwo, by_two, cause_decided, caused, members_by}}
 use Rattle.run_existence.proofs.decisions.Values.{decided_within, is_joining}
+use Rattle.run_law.specs.declared.judgement.Why.TheVariants as whys
+use Rattle.run_law.specs.declared.note.NoteBody.TheVariants as notes
 
 -- ---- the records that change a state
 

@@ -1,22 +1,13 @@
 -- What was heard has a summary, and a summary has a verdict.
-use Rattle.std.proofs.Common.{Bool, List, None, Option, Some, [], append_assoc, false, inl, inr, refl, subst, sym, true, ◌++◌, ◌∷◌, ◌≡◌, ◌⊎◌}
-use Rattle.std.proofs.lemmas.List.{append-nil}
+use Rattle.run_law.proofs.Words.{◌++◌, ◌∷◌, ◌≡◌, ◌⊎◌, A, B, Bool, List, None, Option, Some, Summary, Units, [], append-nil, append_assoc, false, inl, inr, refl}
+use Rattle.run_law.proofs.Words.{subst, sym, true}
 use Rattle.clock_correction.specs.Correction.{correction_of}
-use Rattle.membership.proofs.SummaryLemmas.{hears_on_a, hears_on_b, hears_outside, same_hearing, silence_summarizes}
-use Rattle.membership.specs.BestFrame.{IsBetterOf}
-use Rattle.membership.specs.Hearing.{Hearing}
-use Rattle.membership.specs.Members.{count_of, union}
-use Rattle.membership.specs.Summary.{Summarizes, Summary, silence}
-use Rattle.membership.specs.declared.frame.HeardFrame.{HeardFrame}
+use Rattle.membership.{proofs.SummaryLemmas.{hears_on_a, hears_on_b, hears_outside, same_hearing, silence_summarizes}, specs.BestFrame.IsBetterOf}
+use Rattle.membership.specs.{Hearing.Hearing, Members.{count_of, union}, Summary.{Summarizes, silence}, declared.frame.HeardFrame.HeardFrame}
 use Rattle.pcf_values.specs.declared.channel.Channel.{Channel}
-use Rattle.pcf_values.specs.declared.channel.Channel.TheVariants.{A, B}
-use Rattle.sync_state.proofs.StateFacts.{deviates}
-use Rattle.sync_state.specs.Standing.{IsAtIntegration, Standing}
-use Rattle.sync_state.specs.Verdicts.{HasVerdict, deviation_on}
+use Rattle.sync_state.{proofs.StateFacts.deviates, specs.{Standing.{IsAtIntegration, Standing}, Verdicts.{HasVerdict, deviation_on}}}
 use Rattle.sync_state.specs.declared.answers.Verdict.TheVariants.{AsyncClique, Corrected, SyncClique}
-use Rattle.tte_units.specs.declared.units.Units.{Units}
-use Rattle.run_law.proofs.scenario.Choices.{outnumbered, qualifies}
-use Rattle.run_law.proofs.scenario.Decisions.{decided_and, decided_less, decided_less_int, decided_or, decided_same}
+use Rattle.run_law.proofs.scenario.{Choices.{outnumbered, qualifies}, Decisions.{decided_and, decided_less, decided_less_int, decided_or, decided_same}}
 
 pub better : (o : Option HeardFrame) (later : HeardFrame) → (frame : HeardFrame) × IsBetterOf o later frame
 better None later = (later, refl)

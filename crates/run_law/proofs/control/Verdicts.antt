@@ -1,34 +1,17 @@
 -- What a frame is judged as, and what it ripens to.
-use Rattle.std.proofs.Common.{Bool, List, MatchBool, None, Option, Some, cond, false, option_map, refl, true, ℕ, ℤ, ◌≡◌}
-use Rattle.compression.proofs.Times.{one_list_of_clusters}
-use Rattle.compression.specs.Clusters.{Point}
-use Rattle.compression.specs.Role.{role}
-use Rattle.compression.specs.declared.taken.Taken.{Taken}
-use Rattle.run_law.specs.control.Collections.{observation_window, ripe_by_role}
+use Rattle.run_law.proofs.Words.{◌≡◌, Bool, DeviceId, Happening, Integrates, Integrating, Joining, Judgement, List, Members, Network, None, NoteBody, Option}
+use Rattle.run_law.proofs.Words.{Pcf, Reason, Ripe, Some, State, Synchronised, false, observation_window, option_map, refl, ripe_as, true, ℕ, ℤ}
+use Rattle.std.proofs.Common.{MatchBool, cond}
+use Rattle.compression.{proofs.Times.one_list_of_clusters, specs.{Clusters.Point, Role.role, declared.taken.Taken.Taken}}
+use Rattle.sync_state.specs.declared.{plan.SyncPlan.SyncPlan, state.State.TheVariants.Off}
+use Rattle.run_law.specs.control.{Collections.ripe_by_role, Corrections.cycle_after, Hearing.{heard_as, heard_by_schedule, heard_enough}}
+use Rattle.run_law.specs.{control.Permanence.{IsCollectedOrDropped, IsPermanenceOutcome}, declared.steps.Ripe.TheVariants.Within}
+use Rattle.run_law.specs.{device.LocalClocks.changes_adjustment, scenario.Devices.is_cm}
 use Rattle.run_law.specs.declared.steps.Ripe.TheVariants as ripe
 use Rattle.compression.specs.declared.taken.Taken.TheVariants as takings
-use Rattle.net_plan.specs.declared.ids.DeviceId.{DeviceId}
-use Rattle.net_plan.specs.declared.network.Network.{Network}
-use Rattle.pcf_values.specs.declared.members.Members.{Members}
-use Rattle.pcf_values.specs.declared.pcf.Pcf.{Pcf}
-use Rattle.run_law.specs.control.Corrections.{cycle_after}
-use Rattle.run_law.specs.control.Hearing.{heard_as, heard_by_schedule, heard_enough}
-use Rattle.run_law.specs.control.Permanence.{IsCollectedOrDropped, IsPermanenceOutcome, ripe_as}
-use Rattle.run_law.specs.declared.judgement.Judgement.{Judgement}
-use Rattle.run_law.specs.declared.judgement.Reason.{Reason}
 use Rattle.run_law.specs.declared.judgement.Judgement.TheVariants as judgements
-use Rattle.run_law.specs.declared.judgement.Judgement.TheVariants.{Integrates}
-use Rattle.run_law.specs.declared.note.NoteBody.{NoteBody}
-use Rattle.run_law.specs.device.LocalClocks.{changes_adjustment}
-use Rattle.run_law.specs.records.Happenings.{Happening}
 use Rattle.run_law.specs.declared.note.NoteBody.TheVariants as notes
-use Rattle.run_law.specs.declared.steps.Ripe.{Ripe}
-use Rattle.run_law.specs.declared.steps.Ripe.TheVariants.{Within}
-use Rattle.run_law.specs.scenario.Devices.{is_cm}
-use Rattle.sync_state.specs.declared.plan.SyncPlan.{SyncPlan}
-use Rattle.sync_state.specs.declared.state.State.{State}
 use Rattle.sync_state.specs.declared.state.State.TheVariants as states
-use Rattle.sync_state.specs.declared.state.State.TheVariants.{Integrating, Joining, Off, Synchronised}
 
 -- a role in a collection is no integration
 pub role_not : (taken : Taken) → ripe.Integrates ≡ ripe_by_role taken → ⊥
@@ -37,7 +20,8 @@ role_not takings.Joined e = cc
 role_not takings.Repeat e = cc
 role_not takings.OtherCycle e = cc
 
-pub collected_not : (network : Network) (points : List Point) (p : Point) (fault : Option Reason) → IsCollectedOrDropped network points p fault ripe.Integrates → ⊥
+pub collected_not : (network : Network) (points : List Point) (p : Point) (fault : Option Reason) → IsCollectedOrDropped network points p fault ripe.Integrates
+    → ⊥
 collected_not network points p None so = role_not so.taken so.becomes
 collected_not network points p (Some reason) so = cc
 

@@ -1,20 +1,11 @@
 -- The state of a device.
-use Rattle.std.proofs.Common.{Bool, List, None, false, filter, if◌then◌else◌, pos, refl, subst, true, ℕ, ℤ, ◌≡◌}
-use Rattle.std.specs.List.{last_or}
-use Rattle.std.specs.Option.{option_map_or}
-use Rattle.std.specs.Prelude.{◌+ℤ◌, ◌-ℤ◌, ◌<ℤ◌}
+use Rattle.run_law.proofs.Words.{if◌then◌else◌, ◌+ℤ◌, ◌<ℤ◌, ◌≡◌, Bool, DeviceId, Happening, Integrates, Joining, List, None, NoteBody, Scenario, State}
+use Rattle.run_law.proofs.Words.{Synchronised, Units, adjustment_after, earlier, false, is_joined_by, is_off, last_or, option_map_or, pos, refl, subst, time_of}
+use Rattle.run_law.proofs.Words.{true, ℕ, ℤ}
+use Rattle.std.{proofs.Common.filter, specs.Prelude.◌-ℤ◌}
 use Rattle.drift_clock.specs.Reach.{IsReach}
-use Rattle.net_plan.specs.declared.ids.DeviceId.{DeviceId}
-use Rattle.run_law.specs.declared.judgement.Judgement.TheVariants.{Integrates}
-use Rattle.run_law.specs.declared.note.NoteBody.{NoteBody}
-use Rattle.run_law.specs.device.LocalClocks.{Reaches, changes_adjustment}
-use Rattle.run_law.specs.device.States.{adjustment_after, adjustment_with, is_joined_by, is_off, is_synchronised}
-use Rattle.run_law.specs.records.Happenings.{Happening, earlier, time_of}
-use Rattle.run_law.specs.scenario.Scenarios.{Scenario}
-use Rattle.sync_state.specs.declared.state.State.{State}
-use Rattle.sync_state.specs.declared.state.State.TheVariants.{Joining, Synchronised}
+use Rattle.run_law.specs.device.{LocalClocks.{Reaches, changes_adjustment}, States.{adjustment_with, is_synchronised}}
 use Rattle.run_law.specs.declared.note.NoteBody.TheVariants as notes
-use Rattle.tte_units.specs.declared.units.Units.{Units}
 
 -- a clock reaches a value by the records of earlier times
 pub reaches_by : (s : Scenario) (gs hs : List Happening) (device : DeviceId) (v : ℤ) (t : ℕ) → earlier t gs ≡ earlier t hs → Reaches s gs device v t

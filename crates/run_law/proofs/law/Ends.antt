@@ -1,10 +1,7 @@
 -- The ends of local clocks, as they are found one after another.
-use Rattle.std.proofs.Common.{◌≡◌, ◌⊎◌, ℕ, zero, suc, ◌+◌, ◌<◌, ◌≤ℤ◌, List, [], ◌∷◌, length, slice_index_or, All, inl, inr, refl, sym, subst, arith}
-use Rattle.std.proofs.lemmas.Bool.{cases_lt}
-use Rattle.std.specs.List.{Contains}
-use Rattle.run_law.specs.law.Spread.{IsLocal}
+use Rattle.run_law.proofs.Words.{◌+◌, ◌<◌, ◌∷◌, ◌≡◌, ◌≤ℤ◌, ◌⊎◌, Contains, List, Units, [], arith, cases_lt, inl, inr, length, refl, subst, suc, sym, zero, ℕ}
+use Rattle.std.proofs.Common.{slice_index_or}
 use Rattle.tte_lemmas.proofs.Integers.{through}
-use Rattle.tte_units.specs.declared.units.Units.{Units}
 
 -- the least and the greatest of the first so many
 pub record AreEndsOf (locals : List Units) (count : ℕ) (least greatest : Units) : Type 0 where
@@ -44,7 +41,3 @@ with_next locals count least greatest local low high ends there at one below und
                 (subst (λ (u : Units). low.0 ≤ℤ u.0) (sym is) under, subst (λ (u : Units). u.0 ≤ℤ high.0) (sym is) over)
           ];
     }
-
--- what is there is a local value
-pub is_local : (locals : List Units) (u : Units) → All IsLocal locals → Contains locals u → IsLocal u
-is_local locals u all (k, lt, at) = subst IsLocal at (all k u lt)

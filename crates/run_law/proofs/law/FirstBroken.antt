@@ -1,40 +1,16 @@
 -- A broken device is still.
-use Rattle.std.proofs.Common.{◌≡◌, ℕ, Bool, true, false, List, ◌∷◌, ◌++◌, Option, Some, inl, inr, refl, sym, ap, subst, ◌∙◌}
-use Rattle.std.proofs.lemmas.Bool.{and_right, both_ways, eqb-true, not_from_true}
-use Rattle.std.specs.Prelude.{Result, Ok, Err, not, if◌then◌else◌}
-use Rattle.net_plan.specs.declared.ids.DeviceId.{DeviceId}
-use Rattle.net_plan.specs.declared.ids.LinkId.{LinkId}
-use Rattle.net_plan.specs.declared.network.Network.{Network}
+use Rattle.run_law.proofs.Words.{if◌then◌else◌, ◌++◌, ◌∙◌, ◌∷◌, ◌≡◌, Arrival, ArrivesAs, Bool, ChangesState, DeviceId, Happening, Integrates, IsArrivedRecord}
+use Rattle.run_law.proofs.Words.{IsCaused, IsDropped, IsDue, IsFounded, LinkId, List, Network, NoteBody, Ok, Option, Pcf, Reason, Scenario, Some, Standpoint}
+use Rattle.run_law.proofs.Words.{State, Units, Why, amount, ap, arrival_of, control, control_arrival, eqb-true, false, frame_fault, frame_or_fault, inl, inr}
+use Rattle.run_law.proofs.Words.{is_broken, is_joined_by, is_off, not, place_of, refl, standpoint, subst, sym, true, ℕ}
+use Rattle.std.{proofs.lemmas.Bool.{and_right, both_ways, not_from_true}, specs.Prelude.{Err, Result}}
 use Rattle.pcf_codec.specs.declared.refusal.PcfRefusal.{PcfRefusal}
-use Rattle.pcf_values.specs.declared.pcf.Pcf.{Pcf}
-use Rattle.run_law.proofs.law.FirstPlaces.{founded_at, numbered_front, numbered_in}
-use Rattle.run_law.specs.control.Arrivals.{control_arrival, frame_fault, frame_or_fault, refused}
-use Rattle.run_law.specs.control.Losses.{IsDropped, IsLost}
-use Rattle.run_law.specs.control.Wires.{Signal, control, timed}
-use Rattle.run_law.specs.declared.judgement.Judgement.TheVariants.{Integrates}
-use Rattle.run_law.specs.declared.judgement.Reason.TheVariants.{Off}
-use Rattle.run_law.specs.declared.judgement.Reason.{Reason}
+use Rattle.run_law.{proofs.law.FirstPlaces.{founded_at, numbered_front, numbered_in}, specs.control.{Arrivals.refused, Losses.IsLost, Wires.{Signal, timed}}}
+use Rattle.run_law.specs.{declared.judgement.Reason.TheVariants.Off, device.States.state_before, law.FirstLaws.{BrokenAreStill, IsLeftToBroken}}
+use Rattle.run_law.specs.{records.Causes.{IsOfThisTime, device_of}, timed.{Arrivals.{octets_fault, octets_or_fault, timed_arrival}, Receptions.last_taken}}
 use Rattle.run_law.specs.declared.judgement.Why.TheVariants as whys
-use Rattle.run_law.specs.declared.judgement.Why.{Why}
 use Rattle.run_law.specs.declared.note.NoteBody.TheVariants as notes
-use Rattle.run_law.specs.declared.note.NoteBody.{NoteBody}
 use Rattle.run_law.specs.declared.steps.Arrival.TheVariants as arrivals
-use Rattle.run_law.specs.declared.steps.Arrival.{Arrival}
-use Rattle.run_law.specs.device.Standpoints.{Standpoint, standpoint}
-use Rattle.run_law.specs.device.StateChanges.{ChangesState}
-use Rattle.run_law.specs.device.States.{is_joined_by, is_off, state_before}
-use Rattle.run_law.specs.law.FirstLaws.{BrokenAreStill, IsLeftToBroken}
-use Rattle.run_law.specs.records.Causes.{device_of, IsOfThisTime}
-use Rattle.run_law.specs.records.Happenings.{Happening}
-use Rattle.run_law.specs.records.Ranks.{place_of}
-use Rattle.run_law.specs.runs.DueRecords.{IsArrivedRecord, IsCaused, IsDue}
-use Rattle.run_law.specs.runs.Runs.{IsFounded}
-use Rattle.run_law.specs.scenario.Scenarios.{Scenario, is_broken}
-use Rattle.run_law.specs.timed.Arrivals.{octets_fault, octets_or_fault, timed_arrival}
-use Rattle.run_law.specs.timed.Receptions.{ArrivesAs, arrival_of, last_taken}
-use Rattle.sync_state.specs.declared.state.State.{State}
-use Rattle.tte_units.specs.Amount.{amount}
-use Rattle.tte_units.specs.declared.units.Units.{Units}
 
 -- ---- what comes to a broken device
 

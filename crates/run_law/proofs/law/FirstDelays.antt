@@ -1,34 +1,14 @@
 -- The delays and holds that events within the fault hypothesis set, and how far a clock grows over a hold.
-use Rattle.std.proofs.Common.{◌≡◌, ℕ, ◌+◌, ◌*◌, ◌/◌, ◌^◌, ◌≤◌, ◌<◌, ◌+ℤ◌, ◌<ℤ◌, ◌≤ℤ◌, ◌⊎◌, pos, true, List, [], ◌∷◌, length, Option, Some, None, slice_get, inl, inr, refl, sym, ap, subst, arith}
-use Rattle.std.proofs.Math.Nat.{mul-le-mul_left}
-use Rattle.std.proofs.lemmas.Bool.{and_parts, eqb-true}
-use Rattle.std.proofs.lemmas.Int.{by_lt_z, ints}
-use Rattle.std.specs.List.{cons_option, filter_map, last_or}
-use Rattle.std.specs.Option.{option_map_or, unwrap_or}
-use Rattle.std.specs.Prelude.{◌==◌, nat_le}
+use Rattle.run_law.proofs.Words.{◌*◌, ◌+ℤ◌, ◌+◌, ◌/◌, ◌<ℤ◌, ◌<◌, ◌==◌, ◌^◌, ◌∷◌, ◌≡◌, ◌≤ℤ◌, ◌≤◌, ◌⊎◌, Event, IsIn, IsWithinHypothesis, Link, LinkId, List}
+use Rattle.run_law.proofs.Words.{Network, None, Option, Scenario, Some, Units, Way, What, [], amount, ap, arith, beta_at, cons_option, eqb-true, filter_map}
+use Rattle.run_law.proofs.Words.{in_all, inl, inr, ints, last_or, length, link_at, option_map_or, pos, refl, slice_get, subst, sym, true, ℕ}
+use Rattle.std.{proofs.{Math.Nat.mul-le-mul_left, lemmas.{Bool.and_parts, Int.by_lt_z}}, specs.{Option.unwrap_or, Prelude.nat_le}}
 use Rattle.drift_clock.specs.ClockLaws.{Measures}
-use Rattle.net_plan.specs.Bounds.{beta_at}
-use Rattle.net_plan.specs.Places.{link_at}
-use Rattle.net_plan.specs.declared.event.Event.{Event}
-use Rattle.net_plan.specs.declared.event.What.TheVariants as events
-use Rattle.net_plan.specs.declared.event.What.{What}
-use Rattle.net_plan.specs.declared.ids.LinkId.{LinkId}
-use Rattle.net_plan.specs.declared.network.Network.{Network}
-use Rattle.net_plan.specs.declared.tables.Link.{Link}
-use Rattle.net_plan.specs.declared.tables.Way.{Way}
-use Rattle.run_law.proofs.law.FirstPlaces.{at_length, in_filter}
-use Rattle.run_law.proofs.runs.Places.{parted}
-use Rattle.run_law.specs.declared.outside.Outside.TheVariants.{Wire, Hold}
-use Rattle.run_law.specs.law.FirstLaws.{IsEventInRange, IsLawful}
-use Rattle.run_law.specs.records.Order.{IsIn}
-use Rattle.run_law.specs.scenario.Hypothesis.{IsWithinHypothesis}
-use Rattle.run_law.specs.scenario.Scenarios.{Scenario, events_up_to, last_set}
+use Rattle.tte_lemmas.proofs.{Bools.picked, Options.closed}
+use Rattle.run_law.{proofs.{law.FirstPlaces.{at_length, in_filter}, runs.Places.parted}, specs.declared.outside.Outside.TheVariants.{Hold, Wire}}
+use Rattle.run_law.specs.{law.FirstLaws.{IsEventInRange, IsLawful}, scenario.Scenarios.{events_up_to, last_set}}
 use Rattle.run_law.specs.scenario.Ways.{delay_at, hold_at, hold_set, is_way, is_way_of, wire_of, wire_set}
-use Rattle.tte_lemmas.proofs.Bools.{picked}
-use Rattle.tte_lemmas.proofs.Lists.{in_all}
-use Rattle.tte_lemmas.proofs.Options.{closed}
-use Rattle.tte_units.specs.Amount.{amount}
-use Rattle.tte_units.specs.declared.units.Units.{Units}
+use Rattle.net_plan.specs.declared.event.What.TheVariants as events
 
 -- ---- what is set last
 

@@ -1,38 +1,15 @@
 -- The frames that are delivered go back to where they begin.
-use Rattle.std.proofs.Common.{◌≡◌, ◌⊎◌, ℕ, zero, suc, ◌<◌, Bool, true, false, List, [], ◌∷◌, ◌++◌, Option, Some, None, inl, inr, refl, sym, ap, subst, ◌∙◌, arith}
-use Rattle.std.specs.List.{last_or}
-use Rattle.std.specs.Prelude.{Result, Ok, Err, nat_lt, option_map, if◌then◌else◌}
-use Rattle.net_plan.specs.declared.event.What.TheVariants.{Send}
-use Rattle.net_plan.specs.declared.ids.DeviceId.{DeviceId}
-use Rattle.net_plan.specs.declared.ids.LinkId.{LinkId}
-use Rattle.net_plan.specs.declared.network.Network.{Network}
-use Rattle.net_plan.specs.declared.tables.Way.TheVariants.{Up, Down}
-use Rattle.net_plan.specs.declared.tables.Way.{Way}
+use Rattle.run_law.proofs.Words.{if◌then◌else◌, ◌++◌, ◌<◌, ◌∙◌, ◌∷◌, ◌≡◌, ◌⊎◌, Arrival, ArrivesAs, Bool, DeviceId, Down, Happening, IsCaused, IsDue, IsFounded}
+use Rattle.run_law.proofs.Words.{IsIn, Launch, LinkId, List, Network, None, NoteBody, Ok, Option, Pcf, Reason, Scenario, Send, Some, Standpoint, Units, Up, Way}
+use Rattle.run_law.proofs.Words.{[], amount, ap, arith, arrival_of, control, control_arrival, earlier, false, frame_fault, frame_or_fault, inl, inr}
+use Rattle.run_law.proofs.Words.{is_parent_of, is_relay, last_or, launched, nat_lt, numbered, option_map, place_of, refl, same_some, standpoint, subst, suc}
+use Rattle.run_law.proofs.Words.{sym, time_of, true, zero, ℕ}
+use Rattle.std.specs.Prelude.{Err, Result}
 use Rattle.pcf_codec.specs.declared.refusal.PcfRefusal.{PcfRefusal}
-use Rattle.pcf_values.specs.declared.pcf.Pcf.{Pcf}
 use Rattle.run_law.proofs.law.FirstPlaces.{by_number, founded_at, in_filter, number_is, numbered_front, numbered_in, numbered_within}
-use Rattle.run_law.specs.control.Arrivals.{control_arrival, frame_fault, frame_or_fault}
-use Rattle.run_law.specs.control.Wires.{Launch, control, launched}
-use Rattle.run_law.specs.declared.judgement.Reason.{Reason}
+use Rattle.run_law.specs.{law.FirstLaws.{DeliveriesBegin, IsBeginning}, records.Causes.{GoesBackTo, cause_of}, timed.Dispatching.{HasAccepted, is_accepted}}
 use Rattle.run_law.specs.declared.note.NoteBody.TheVariants as notes
-use Rattle.run_law.specs.declared.note.NoteBody.{NoteBody}
 use Rattle.run_law.specs.declared.steps.Arrival.TheVariants as arrivals
-use Rattle.run_law.specs.declared.steps.Arrival.{Arrival}
-use Rattle.run_law.specs.device.Standpoints.{Standpoint, standpoint}
-use Rattle.run_law.specs.law.FirstLaws.{DeliveriesBegin, IsBeginning}
-use Rattle.run_law.specs.records.Causes.{GoesBackTo, cause_of}
-use Rattle.run_law.specs.records.Happenings.{Happening, earlier, numbered, time_of}
-use Rattle.run_law.specs.records.Order.{IsIn}
-use Rattle.run_law.specs.records.Ranks.{place_of}
-use Rattle.run_law.specs.runs.DueRecords.{IsCaused, IsDue}
-use Rattle.run_law.specs.runs.Runs.{IsFounded}
-use Rattle.run_law.specs.scenario.Devices.{is_parent_of, is_relay}
-use Rattle.run_law.specs.scenario.Scenarios.{Scenario}
-use Rattle.run_law.specs.timed.Dispatching.{HasAccepted, is_accepted}
-use Rattle.run_law.specs.timed.Receptions.{ArrivesAs, arrival_of}
-use Rattle.tte_lemmas.proofs.Options.{one as same_some}
-use Rattle.tte_units.specs.Amount.{amount}
-use Rattle.tte_units.specs.declared.units.Units.{Units}
 
 -- ---- what is taken is no control frame
 

@@ -1,20 +1,10 @@
 -- Where the records of a run stand: by their numbers, and by their places.
-use Rattle.std.proofs.Common.{◌≡◌, ℕ, zero, suc, ◌+◌, ◌<◌, Bool, true, false, List, [], ◌∷◌, ◌++◌, length, filter, Some, slice_get, inl, inr, refl, sym, ap, subst, ◌∙◌, append_assoc, arith}
-use Rattle.std.proofs.lemmas.Bool.{cases_lt, le-ltb}
-use Rattle.std.proofs.lemmas.List.{append-nil}
-use Rattle.std.proofs.lemmas.List.Elements.{filter-append}
-use Rattle.std.proofs.lemmas.Option.{slice_get_within}
-use Rattle.std.specs.Prelude.{nat_lt, if◌then◌else◌}
-use Rattle.run_law.proofs.runs.Determined.{due_is_determined}
-use Rattle.run_law.proofs.runs.Lacking.{behind_first}
-use Rattle.run_law.proofs.runs.OneRun.{due_is_next}
+use Rattle.run_law.proofs.Words.{if◌then◌else◌, ◌++◌, ◌+◌, ◌<◌, ◌∙◌, ◌∷◌, ◌≡◌, AllBefore, Bool, Happening, IsBefore, IsDue, IsFounded, IsIn, IsRun, List}
+use Rattle.run_law.proofs.Words.{NoneBefore, Scenario, Some, [], ap, append-nil, append_assoc, arith, cases_lt, earlier, false, inl, inr, le-ltb, length}
+use Rattle.run_law.proofs.Words.{nat_lt, numbered, place_of, refl, slice_get, subst, suc, sym, time_of, true, zero, ℕ}
+use Rattle.std.proofs.{Common.filter, lemmas.{List.Elements.filter-append, Option.slice_get_within}}
+use Rattle.run_law.proofs.runs.{Determined.due_is_determined, Lacking.behind_first, OneRun.due_is_next}
 use Rattle.run_law.proofs.runs.Places.{before_or_not, chain, in_parts, in_right, parted}
-use Rattle.run_law.specs.records.Happenings.{Happening, earlier, numbered, time_of}
-use Rattle.run_law.specs.records.Order.{IsBefore, IsIn, AllBefore, NoneBefore}
-use Rattle.run_law.specs.records.Ranks.{place_of}
-use Rattle.run_law.specs.runs.DueRecords.{IsDue}
-use Rattle.run_law.specs.runs.Runs.{IsFounded, IsRun}
-use Rattle.run_law.specs.scenario.Scenarios.{Scenario}
 
 -- ---- lists
 

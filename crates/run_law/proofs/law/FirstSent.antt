@@ -1,60 +1,26 @@
 -- The frames of masters come to the first switches of their ways.
-use Rattle.std.proofs.Common.{◌≡◌, ◌⊎◌, ℕ, ◌+◌, ◌-◌, ◌<◌, ◌≤◌, pos, Bool, true, false, List, [], ◌∷◌, length, Option, Some, None, inl, inr, refl, sym, ap, subst, ◌∙◌, arith}
-use Rattle.std.proofs.lemmas.Bool.{both_ways, cases_lt, le-ltb, ne_eqb, not_from_true}
-use Rattle.std.proofs.lemmas.Int.{ints}
-use Rattle.std.specs.Option.{option_map_or}
-use Rattle.std.specs.Prelude.{◌==◌, Ok, nat_lt, is_some, not, ◌&&◌, option_and_then, option_map, slice_get, if◌then◌else◌}
-use Rattle.net_plan.proofs.Amounts.{amount_within}
-use Rattle.net_plan.proofs.Beta.{beta_exists}
-use Rattle.net_plan.proofs.Shape.{rules_give_trees}
-use Rattle.net_plan.specs.Bounds.{IsBeta, beta_at}
-use Rattle.net_plan.specs.Places.{device_at, is_end_system, is_master, link_at}
-use Rattle.net_plan.specs.Ranges.{IsDeviceInRange, IsInRange, IsLinkInRange}
-use Rattle.net_plan.specs.Rules.{IsChildOf}
-use Rattle.net_plan.specs.declared.ids.DeviceId.{DeviceId}
-use Rattle.net_plan.specs.declared.ids.LinkId.{LinkId}
-use Rattle.net_plan.specs.declared.network.Network.{Network}
-use Rattle.net_plan.specs.declared.tables.Device.{Device}
-use Rattle.net_plan.specs.declared.tables.Link.{Link}
-use Rattle.net_plan.specs.declared.tables.Way.TheVariants.{Up, Down}
-use Rattle.net_plan.specs.declared.tables.Way.{Way}
+use Rattle.run_law.proofs.Words.{if◌then◌else◌, ◌&&◌, ◌+◌, ◌-◌, ◌<◌, ◌==◌, ◌∙◌, ◌∷◌, ◌≡◌, ◌≤◌, ◌⊎◌, Arrival, ArrivesAs, Bool, Departs, Device, DeviceId, Down}
+use Rattle.run_law.proofs.Words.{Gives, Happening, Integrating, IsArrivedRecord, IsBefore, IsCaused, IsDue, IsFounded, IsIn, IsRun, Launch, Link, LinkId, List}
+use Rattle.run_law.proofs.Words.{Network, None, Note, NoteBody, Ok, Option, Pcf, Reason, Scenario, Some, Standpoint, Units, Up, Way, [], adjustment_after}
+use Rattle.run_law.proofs.Words.{amount, ap, arith, beta_at, cases_lt, control, control_arrival, device_at, false, frame_fault, frame_or_fault, happening}
+use Rattle.run_law.proofs.Words.{in_all, inl, inr, ints, is_broken, is_master, is_off, is_parent_of, is_relay, key, launched, le-ltb, length, link_at}
+use Rattle.run_law.proofs.Words.{members_in, nat_lt, not, numbered, option_and_then, option_map, option_map_or, place_of, pos, rank, refl, slice_get}
+use Rattle.run_law.proofs.Words.{standpoint, state_after, subst, sym, time_of, true, units_of, ℕ}
+use Rattle.std.{proofs.lemmas.Bool.{both_ways, ne_eqb, not_from_true}, specs.Prelude.is_some}
+use Rattle.net_plan.{proofs.{Amounts.amount_within, Beta.beta_exists, Shape.rules_give_trees}, specs.{Bounds.IsBeta, Places.is_end_system}}
+use Rattle.net_plan.specs.{Ranges.{IsDeviceInRange, IsInRange, IsLinkInRange}, Rules.IsChildOf}
 use Rattle.pcf_values.specs.declared.channel.Channel.{Channel}
-use Rattle.pcf_values.specs.declared.pcf.Pcf.{Pcf}
-use Rattle.run_law.proofs.law.FirstDelays.{delay_least, grows_little, hold_most}
-use Rattle.run_law.proofs.law.FirstPlaces.{IsSplit, by_number, due_is_there, founded_at, front_founded, in_front_of, same_earlier, split}
-use Rattle.run_law.proofs.runs.Places.{chain}
-use Rattle.run_law.specs.control.Arrivals.{control_arrival, frame_fault, frame_or_fault}
-use Rattle.run_law.specs.control.Leaving.{Departs, Gives, clock_at_leaving, leaves, on_cut_way, too_old}
-use Rattle.run_law.specs.control.Wires.{Arrives, Launch, control, launched}
-use Rattle.run_law.specs.declared.judgement.Reason.{Reason}
-use Rattle.run_law.specs.declared.note.Note.{Note}
-use Rattle.run_law.specs.declared.note.NoteBody.TheVariants as notes
-use Rattle.run_law.specs.declared.note.NoteBody.{NoteBody}
-use Rattle.run_law.specs.declared.steps.Arrival.TheVariants as arrivals
-use Rattle.run_law.specs.declared.steps.Arrival.{Arrival}
-use Rattle.run_law.specs.device.Standpoints.{Standpoint, standpoint}
-use Rattle.run_law.specs.device.States.{adjustment_after, is_off, state_after}
-use Rattle.run_law.specs.law.FirstLaws.{ComesTo, IsLawful, SentFramesCome, arrival_time, leaving_time}
-use Rattle.run_law.specs.records.Frames.{dispatched_frame}
-use Rattle.run_law.specs.records.Happenings.{Happening, frame_by, frame_from, happening, numbered, time_of, with_clock}
-use Rattle.run_law.specs.records.Order.{IsBefore, IsIn}
-use Rattle.run_law.specs.records.Ranks.{key, members_in, place_of, rank}
-use Rattle.run_law.specs.runs.DueRecords.{IsArrivedRecord, IsCaused, IsDue}
-use Rattle.run_law.specs.runs.Runs.{IsFounded, IsRun}
-use Rattle.run_law.specs.scenario.Devices.{has_role, is_parent_of, is_relay}
-use Rattle.run_law.specs.scenario.Scenarios.{Scenario, is_broken, is_turned_on_at}
-use Rattle.run_law.specs.scenario.Ways.{delay_at, hold_at, is_cut, way_from}
-use Rattle.run_law.specs.timed.Receptions.{ArrivesAs}
-use Rattle.schedule_tables.proofs.Margins.{margins, master_ends, shape_rules}
-use Rattle.schedule_tables.specs.Delays.{delay_by}
-use Rattle.schedule_tables.specs.Entries.{target_by}
-use Rattle.schedule_tables.specs.Rules.{KeepsRules}
+use Rattle.schedule_tables.{proofs.Margins.{margins, master_ends, shape_rules}, specs.{Delays.delay_by, Entries.target_by, Rules.KeepsRules}}
 use Rattle.schedule_tables.specs.declared.rule.Rule.TheVariants.{Joints}
-use Rattle.sync_state.specs.declared.state.State.TheVariants.{Integrating}
-use Rattle.tte_lemmas.proofs.Lists.{in_all}
 use Rattle.tte_lemmas.proofs.Options.{closed, opened}
-use Rattle.tte_units.specs.Amount.{amount, units_of}
-use Rattle.tte_units.specs.declared.units.Units.{Units}
+use Rattle.run_law.proofs.law.FirstDelays.{delay_least, grows_little, hold_most}
+use Rattle.run_law.proofs.{law.FirstPlaces.{IsSplit, by_number, due_is_there, founded_at, front_founded, in_front_of, same_earlier, split}, runs.Places.chain}
+use Rattle.run_law.specs.control.{Leaving.{clock_at_leaving, leaves, on_cut_way, too_old}, Wires.Arrives}
+use Rattle.run_law.specs.{law.FirstLaws.{ComesTo, IsLawful, SentFramesCome, arrival_time, leaving_time}, records.Frames.dispatched_frame}
+use Rattle.run_law.specs.{records.Happenings.{frame_by, frame_from, with_clock}, scenario.{Devices.has_role, Scenarios.is_turned_on_at}}
+use Rattle.run_law.specs.scenario.Ways.{delay_at, hold_at, is_cut, way_from}
+use Rattle.run_law.specs.declared.note.NoteBody.TheVariants as notes
+use Rattle.run_law.specs.declared.steps.Arrival.TheVariants as arrivals
 
 -- ---- the way up from a master
 

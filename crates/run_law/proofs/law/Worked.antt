@@ -1,35 +1,16 @@
 -- The definitions on the worked network: what becomes of single frames there.
-use Rattle.std.proofs.Common.{◌≡◌, ℕ, pos, List, [], ◌∷◌, Option, Some, None, Ok, true, refl, replicate}
-use Rattle.std.specs.Prelude.{codes}
-use Rattle.net_plan.specs.declared.ids.DeviceId.{DeviceId}
-use Rattle.net_plan.specs.declared.ids.LinkId.{LinkId}
-use Rattle.net_plan.specs.declared.ids.VlId.{VlId}
-use Rattle.net_plan.specs.declared.network.Network.{Network}
-use Rattle.net_plan.specs.declared.tables.Device.{Device}
-use Rattle.net_plan.specs.declared.tables.Link.{Link}
-use Rattle.net_plan.specs.declared.tables.Role.TheVariants.{Master, Client, Cm, Relay}
-use Rattle.net_plan.specs.declared.tables.Role.{Role}
+use Rattle.run_law.proofs.Words.{◌∷◌, ◌≡◌, A, B, Client, Cm, Device, DeviceId, Down, Integrates, Integrating, Link, LinkId, List, Master, Network, None, Ok}
+use Rattle.run_law.proofs.Words.{Option, Pcf, Relay, Role, Some, Standpoint, Synchronised, Up, VlId, Way, [], control_arrival, observation_window, pos, refl}
+use Rattle.run_law.proofs.Words.{true, units_of, ℕ}
+use Rattle.std.{proofs.Common.replicate, specs.Prelude.codes}
 use Rattle.net_plan.specs.declared.tables.Row.{Row}
-use Rattle.net_plan.specs.declared.tables.Way.TheVariants.{Up, Down}
-use Rattle.net_plan.specs.declared.tables.Way.{Way}
-use Rattle.pcf_values.specs.declared.channel.Channel.TheVariants.{A, B}
-use Rattle.pcf_values.specs.declared.channel.Channel.{Channel}
-use Rattle.pcf_values.specs.declared.pcf.Pcf.{Pcf}
-use Rattle.pcf_values.specs.declared.pcf.PcfKind.TheVariants.{ColdStart}
-use Rattle.run_law.specs.control.Arrivals.{control_arrival}
-use Rattle.run_law.specs.control.Collections.{point_fault, observation_window}
-use Rattle.run_law.specs.control.Hearing.{heard_as}
-use Rattle.run_law.specs.declared.judgement.Judgement.TheVariants.{Within, Outside, Integrates, Ignored}
-use Rattle.run_law.specs.declared.judgement.Reason.TheVariants as reasons
-use Rattle.run_law.specs.declared.steps.Arrival.TheVariants.{Dropped, Waits, Passes, PassesAndWaits, Accepted, Delivered}
-use Rattle.run_law.specs.device.Standpoints.{Standpoint}
-use Rattle.run_law.specs.records.Frames.{dispatched_frame, integration_frame, tt_frame}
-use Rattle.run_law.specs.records.Happenings.{with_clock}
-use Rattle.run_law.specs.scenario.Devices.{expected_by, plan_of}
-use Rattle.run_law.specs.timed.Arrivals.{timed_arrival}
-use Rattle.sync_state.specs.declared.state.State.TheVariants.{Integrating, Synchronised}
-use Rattle.tte_units.specs.Amount.{units_of}
+use Rattle.pcf_values.specs.declared.{channel.Channel.Channel, pcf.PcfKind.TheVariants.ColdStart}
 use Rattle.tte_units.specs.declared.speed.Speed.TheVariants.{Mbit100}
+use Rattle.run_law.specs.{control.{Collections.point_fault, Hearing.heard_as}, declared.judgement.Judgement.TheVariants.{Ignored, Outside, Within}}
+use Rattle.run_law.specs.declared.steps.Arrival.TheVariants.{Accepted, Delivered, Dropped, Passes, PassesAndWaits, Waits}
+use Rattle.run_law.specs.{records.{Frames.{dispatched_frame, integration_frame, tt_frame}, Happenings.with_clock}, scenario.Devices.{expected_by, plan_of}}
+use Rattle.run_law.specs.timed.Arrivals.{timed_arrival}
+use Rattle.run_law.specs.declared.judgement.Reason.TheVariants as reasons
 
 abbrev device_of : List ℕ → Role → ℕ → Option ℕ → Option Channel → Device
 device_of name role mac member channel = record { name = name; role = role; mac = mac; member = member; channel = channel; start = Some (units_of 0) }

@@ -1,16 +1,9 @@
 -- Records, their numbers and their places.
-use Rattle.std.proofs.Common.{Bool, List, Some, [], ap, append_assoc, false, if◌then◌else◌, inl, inr, length, nat_lt, refl, subst, suc, sym, true, zero, ℕ, ◌++◌, ◌<◌, ◌∙◌, ◌∷◌, ◌≡◌}
-use Rattle.std.proofs.lemmas.Bool.{cases_lt, le-ltb, lt-ltb}
-use Rattle.std.proofs.lemmas.List.{append-nil, length-map}
-use Rattle.std.specs.List.{fold}
-use Rattle.net_plan.specs.declared.network.Network.{Network}
-use Rattle.run_law.specs.declared.note.Note.{Note}
-use Rattle.run_law.specs.records.Happenings.{Happening, earlier, happening, happenings, numbered, time_of}
-use Rattle.run_law.specs.records.Order.{IsBefore, IsIn}
-use Rattle.run_law.specs.records.Ranks.{key, members_in, place_of, rank}
-use Rattle.run_law.proofs.records.Order.{got_in}
-use Rattle.run_law.proofs.runs.NetworkRuns.{one_more, same_notes}
-use Rattle.run_law.proofs.runs.Places.{earlier_time}
+use Rattle.run_law.proofs.Words.{if◌then◌else◌, ◌++◌, ◌<◌, ◌∙◌, ◌∷◌, ◌≡◌, Bool, Happening, IsBefore, IsIn, List, Network, Note, Some, [], ap, append-nil}
+use Rattle.run_law.proofs.Words.{append_assoc, cases_lt, earlier, false, happening, happenings, inl, inr, key, le-ltb, length, members_in, nat_lt, numbered}
+use Rattle.run_law.proofs.Words.{place_of, rank, refl, subst, suc, sym, time_of, true, zero, ℕ}
+use Rattle.std.{proofs.lemmas.{Bool.lt-ltb, List.length-map}, specs.List.fold}
+use Rattle.run_law.proofs.{records.Order.got_in, runs.{NetworkRuns.{one_more, same_notes}, Places.earlier_time}}
 
 -- what the list has by a number is in it
 pub numbered_in : (hs : List Happening) (n : ℕ) (x : Happening) → numbered hs n ≡ Some x → IsIn x hs

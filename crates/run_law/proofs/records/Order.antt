@@ -1,14 +1,14 @@
 -- Places one before another, and records in a list.
-use Rattle.std.proofs.Common.{All, Bool, List, None, Option, Some, [], ap, arith, cond, drop, false, filter, if◌then◌else◌, inl, inr, length, length-append, not, refl, reverse, slice_get, subst, suc, sym, true, zero, zero-add, ℕ, ◌++◌, ◌+◌, ◌-◌, ◌<◌, ◌||◌, ◌∙◌, ◌∷◌, ◌≡◌, ◌≤◌, ◌⊎◌}
-use Rattle.std.proofs.lemmas.Bool.{and_from, and_parts, cases_lt, cond-true, eq-eqb, eqb-true, lt-ltb, ltb-true, or_cases, or_left, or_right}
-use Rattle.std.proofs.lemmas.List.{length-reverse, reverse-append}
-use Rattle.std.proofs.lemmas.List.Elements.{All-cons, All-head, All-nil, All-tail}
-use Rattle.std.specs.List.{Contains, after_last, cons_option, filter_map, list_any, prefix_len, suffix_len}
-use Rattle.std.specs.Prelude.{nat_lt, ◌&&◌, ◌==◌}
+use Rattle.run_law.proofs.Words.{if◌then◌else◌, ◌&&◌, ◌++◌, ◌+◌, ◌-◌, ◌<◌, ◌==◌, ◌∙◌, ◌∷◌, ◌≡◌, ◌≤◌, ◌⊎◌, Bool, Contains, IsBefore, IsIn, List, None, Option}
+use Rattle.run_law.proofs.Words.{Some, [], ap, arith, cases_lt, cons_option, eqb-true, false, filter_map, inl, inr, length, nat_lt, not, refl, slice_get, subst}
+use Rattle.run_law.proofs.Words.{suc, sym, true, zero, ℕ}
+use Rattle.std.proofs.Common.{◌||◌, All, cond, drop, filter, length-append, reverse, zero-add}
+use Rattle.std.proofs.lemmas.Bool.{and_from, and_parts, cond-true, eq-eqb, lt-ltb, ltb-true, or_cases, or_left, or_right}
+use Rattle.std.proofs.lemmas.List.{length-reverse, reverse-append, Elements.{All-cons, All-head, All-nil, All-tail}}
+use Rattle.std.specs.List.{after_last, list_any, prefix_len, suffix_len}
 use Rattle.compression.proofs.Elements.{in_cases, in_none}
-use Rattle.run_law.specs.records.Order.{IsBefore, IsIn, is_before}
 use Rattle.tte_lemmas.proofs.Lists.{all_turned}
-use Rattle.run_law.proofs.runs.Places.{in_parts}
+use Rattle.run_law.{proofs.runs.Places.in_parts, specs.records.Order.is_before}
 
 -- what is at a place is in the list
 pub got_in : {X : Type 0} (xs : List X) (i : ℕ) (x : X) → slice_get xs i ≡ Some x → IsIn x xs

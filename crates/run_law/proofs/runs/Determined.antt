@@ -1,51 +1,23 @@
 -- A record that is due is determined by its place.
-use Rattle.std.proofs.Common.{◌≡◌, ℕ, zero, suc, List, [], ◌∷◌, Some, ℤ, pos, negsuc, ◌≤ℤ◌, ◌+ℤ◌, true, slice_get, unsigned_abs, inl, inr, refl, sym, ap, subst, ◌∙◌, arith}
-use Rattle.std.proofs.lemmas.Int.{ints}
+use Rattle.run_law.proofs.Words.{◌+ℤ◌, ◌∙◌, ◌∷◌, ◌≡◌, ◌≤ℤ◌, Arrival, ArrivesAs, BecomesPermanent, ChangesState, Departs, DeviceId, Event, Happening}
+use Rattle.run_law.proofs.Words.{IsArrivedRecord, IsCaused, IsDetermined, IsDropped, IsDue, Judgement, LinkId, List, Members, Note, NoteBody, Reason, Scenario}
+use Rattle.run_law.proofs.Words.{Some, State, Summary, Units, VlId, What, Why, [], amount, ap, arith, happening, inl, inr, ints, is_joined_by, key, members_in}
+use Rattle.run_law.proofs.Words.{numbered, place_of, pos, rank, refl, ripe_as, same_some, slice_get, subst, suc, sym, true, unsigned_abs, zero, ℕ, ℤ}
+use Rattle.std.proofs.Common.{negsuc}
 use Rattle.compression.specs.declared.compressed.Compressed.{Compressed}
 use Rattle.membership.proofs.OneSummary.{one_summary}
-use Rattle.membership.specs.Summary.{Summary}
-use Rattle.net_plan.proofs.SameIds.{same_device, same_link, same_vl}
-use Rattle.net_plan.specs.declared.event.Event.{Event}
-use Rattle.net_plan.specs.declared.event.What.TheVariants.{On}
-use Rattle.net_plan.specs.declared.event.What.{What}
-use Rattle.net_plan.specs.declared.ids.DeviceId.{DeviceId}
-use Rattle.net_plan.specs.declared.ids.LinkId.{LinkId}
-use Rattle.net_plan.specs.declared.ids.VlId.{VlId}
-use Rattle.pcf_values.specs.declared.members.Members.{Members}
-use Rattle.run_law.proofs.runs.SameSteps.{same_arrival, same_point, same_ripening, same_judgement, same_departure, arrives_or_departs, arrives_or_ripens, dropped_or_departs}
-use Rattle.run_law.specs.control.Corrections.{ComesToCorrection, standing_before}
-use Rattle.run_law.specs.control.Emissions.{Emits}
-use Rattle.run_law.specs.control.Leaving.{Departs, leaves, too_old}
-use Rattle.run_law.specs.control.Losses.{IsDropped}
-use Rattle.run_law.specs.control.Permanence.{BecomesPermanent, ripe_as}
-use Rattle.run_law.specs.declared.judgement.Judgement.{Judgement}
-use Rattle.run_law.specs.declared.judgement.Reason.{Reason}
-use Rattle.run_law.specs.declared.judgement.Why.TheVariants as whys
-use Rattle.run_law.specs.declared.judgement.Why.{Why}
-use Rattle.run_law.specs.declared.note.Note.{Note}
-use Rattle.run_law.specs.declared.note.NoteBody.TheVariants as notes
-use Rattle.run_law.specs.declared.note.NoteBody.{NoteBody}
-use Rattle.run_law.specs.declared.steps.Arrival.TheVariants as arrivals
-use Rattle.run_law.specs.declared.steps.Arrival.{Arrival}
-use Rattle.run_law.specs.declared.steps.Ripe.TheVariants as ripe
-use Rattle.run_law.specs.device.StateChanges.{ChangesState}
-use Rattle.run_law.specs.device.States.{adjustment_before, is_joined_by}
-use Rattle.run_law.specs.records.Causes.{IsOfThisTime}
-use Rattle.run_law.specs.records.Happenings.{Happening, happening, numbered}
-use Rattle.run_law.specs.records.Ranks.{rank, key, members_in, place_of, sign}
-use Rattle.run_law.specs.runs.DueRecords.{IsArrivedRecord, IsCaused, IsClockRecord, IsCorrectedRecord, IsDue, IsEventRecord}
-use Rattle.run_law.specs.runs.Runs.{IsDetermined}
-use Rattle.run_law.specs.scenario.Scenarios.{Scenario}
-use Rattle.run_law.specs.timed.Receptions.{ArrivesAs}
-use Rattle.sync_state.proofs.LawLemmas.{one_verdict}
-use Rattle.sync_state.specs.Verdicts.{HasVerdict}
-use Rattle.sync_state.specs.declared.answers.Verdict.TheVariants.{Corrected, SyncClique, AsyncClique}
-use Rattle.sync_state.specs.declared.answers.Verdict.{Verdict}
-use Rattle.sync_state.specs.declared.state.State.{State}
+use Rattle.net_plan.{proofs.SameIds.{same_device, same_link, same_vl}, specs.declared.event.What.TheVariants.On}
+use Rattle.sync_state.{proofs.LawLemmas.one_verdict, specs.{Verdicts.HasVerdict, declared.answers.Verdict.Verdict}}
+use Rattle.sync_state.specs.declared.answers.Verdict.TheVariants.{AsyncClique, Corrected, SyncClique}
 use Rattle.tte_lemmas.proofs.Integers.{same_number}
-use Rattle.tte_lemmas.proofs.Options.{one as same_some}
-use Rattle.tte_units.specs.Amount.{amount}
-use Rattle.tte_units.specs.declared.units.Units.{Units}
+use Rattle.run_law.proofs.runs.SameSteps.{arrives_or_departs, arrives_or_ripens, dropped_or_departs, same_arrival, same_departure, same_judgement, same_point}
+use Rattle.run_law.{proofs.runs.SameSteps.same_ripening, specs.control.{Corrections.{ComesToCorrection, standing_before}, Emissions.Emits}}
+use Rattle.run_law.specs.{control.Leaving.{leaves, too_old}, device.States.adjustment_before, records.{Causes.IsOfThisTime, Ranks.sign}}
+use Rattle.run_law.specs.runs.DueRecords.{IsClockRecord, IsCorrectedRecord, IsEventRecord}
+use Rattle.run_law.specs.declared.judgement.Why.TheVariants as whys
+use Rattle.run_law.specs.declared.note.NoteBody.TheVariants as notes
+use Rattle.run_law.specs.declared.steps.Arrival.TheVariants as arrivals
+use Rattle.run_law.specs.declared.steps.Ripe.TheVariants as ripe
 
 -- ---- numbers and ids
 

@@ -1,9 +1,6 @@
 -- The run up to an earlier mark is the front of that up to a later one.
-use Rattle.std.proofs.Common.{◌≡◌, ℕ, List, [], ◌∷◌, ◌++◌, inl, inr, refl, sym, ap, subst, ◌∙◌, append_assoc}
-use Rattle.run_law.proofs.runs.Lacking.{before_rest, lacking}
-use Rattle.run_law.proofs.runs.Places.{chain, either_way, in_right}
-use Rattle.run_law.specs.records.Order.{IsBefore}
-use Rattle.run_law.specs.runs.Runs.{IsRun, IsDetermined}
+use Rattle.run_law.proofs.Words.{◌++◌, ◌∙◌, ◌∷◌, ◌≡◌, IsBefore, IsDetermined, IsRun, List, [], ap, append_assoc, inl, inr, refl, subst, sym, ℕ}
+use Rattle.run_law.proofs.runs.{Lacking.{before_rest, lacking}, Places.{chain, either_way, in_right}}
 
 front_from : {N : Type 0} (place : N → List ℕ) (IsDue : List N → N → Type 0) (mark later : List ℕ) → IsDetermined place IsDue
     → ((p : List ℕ) → IsBefore p mark → IsBefore p later) → (xs ys ps : List N) → IsRun place IsDue mark (ps ++ xs) → IsRun place IsDue later (ps ++ ys)

@@ -1,8 +1,6 @@
 -- What can't be missing from a run.
-use Rattle.std.proofs.Common.{◌≡◌, ℕ, List, ◌∷◌, ◌++◌, inl, inr, refl, sym, ap, subst, ◌∙◌, append_assoc}
-use Rattle.run_law.proofs.runs.Places.{never_self, chain, in_right, in_parts, parted}
-use Rattle.run_law.specs.records.Order.{IsBefore, IsIn, AllBefore}
-use Rattle.run_law.specs.runs.Runs.{IsFounded, IsFull}
+use Rattle.run_law.proofs.Words.{◌++◌, ◌∙◌, ◌∷◌, ◌≡◌, AllBefore, IsBefore, IsFounded, IsIn, List, ap, append_assoc, inl, inr, refl, subst, sym, ℕ}
+use Rattle.run_law.{proofs.runs.Places.{chain, in_parts, in_right, never_self, parted}, specs.runs.Runs.IsFull}
 
 -- all that follows y in a founded list is behind it
 pub behind_first : {N : Type 0} (place : N → List ℕ) (IsDue : List N → N → Type 0) (ps ys : List N) (y z : N) → IsFounded place IsDue (ps ++ y ∷ ys) → IsIn z ys

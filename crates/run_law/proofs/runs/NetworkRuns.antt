@@ -1,18 +1,9 @@
 -- The laws of the runs of a network.
-use Rattle.std.proofs.Common.{◌≡◌, List, [], ◌∷◌, ◌++◌, map, fold, refl, sym, ap, subst, ◌∙◌, append_assoc}
-use Rattle.std.proofs.lemmas.List.{append-nil}
-use Rattle.net_plan.specs.declared.network.Network.{Network}
-use Rattle.run_law.proofs.runs.Determined.{due_is_determined}
-use Rattle.run_law.proofs.runs.FrontOfRun.{front_of_run}
-use Rattle.run_law.proofs.runs.Grow.{grow}
-use Rattle.run_law.proofs.runs.OneRun.{one_run}
-use Rattle.run_law.specs.declared.note.Note.{Note}
+use Rattle.run_law.proofs.Words.{◌++◌, ◌∙◌, ◌∷◌, ◌≡◌, Happening, IsDue, IsRun, List, Network, Note, Scenario, [], ap, append-nil, append_assoc, happening}
+use Rattle.run_law.proofs.Words.{happenings, place_of, refl, subst, sym}
+use Rattle.std.proofs.Common.{fold, map}
+use Rattle.run_law.proofs.runs.{Determined.due_is_determined, FrontOfRun.front_of_run, Grow.grow, OneRun.one_run}
 use Rattle.run_law.specs.law.Laws.{EarlierRunIsFront, RunGoesOn, RunIsOne}
-use Rattle.run_law.specs.records.Happenings.{Happening, happening, happenings}
-use Rattle.run_law.specs.records.Ranks.{place_of}
-use Rattle.run_law.specs.runs.DueRecords.{IsDue}
-use Rattle.run_law.specs.runs.Runs.{IsRun}
-use Rattle.run_law.specs.scenario.Scenarios.{Scenario}
 
 -- ---- records and happenings
 

@@ -1,11 +1,7 @@
 -- There is one run, and what is due is its next record.
-use Rattle.std.proofs.Common.{◌≡◌, ℕ, List, [], ◌∷◌, ◌++◌, inl, inr, refl, sym, ap, subst, ◌∙◌}
-use Rattle.run_law.proofs.runs.FrontOfRun.{front_of_run}
-use Rattle.run_law.proofs.runs.Lacking.{behind_first}
-use Rattle.run_law.proofs.runs.Places.{never_self, in_parts}
-use Rattle.run_law.specs.records.Order.{IsBefore, IsIn, AllBefore, NoneBefore}
-use Rattle.run_law.specs.runs.Runs.{IsRun, IsDetermined}
+use Rattle.run_law.proofs.Words.{◌++◌, ◌∙◌, ◌∷◌, ◌≡◌, AllBefore, IsBefore, IsDetermined, IsIn, IsRun, List, NoneBefore, [], ap, inl, inr, refl, subst, sym, ℕ}
 use Rattle.tte_lemmas.proofs.Lists.{fronts}
+use Rattle.run_law.proofs.runs.{FrontOfRun.front_of_run, Lacking.behind_first, Places.{in_parts, never_self}}
 
 pub one_run : {N : Type 0} (place : N → List ℕ) (IsDue : List N → N → Type 0) (mark : List ℕ) → IsDetermined place IsDue → (xs ys : List N)
     → IsRun place IsDue mark xs → IsRun place IsDue mark ys → xs ≡ ys

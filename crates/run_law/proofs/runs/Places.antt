@@ -1,8 +1,7 @@
 -- The order of places, and what is in lists.
-use Rattle.std.proofs.Common.{◌≡◌, ◌⊎◌, ℕ, ◌+◌, ◌<◌, ◌≤◌, List, [], ◌∷◌, ◌++◌, inl, inr, refl, sym, ap, subst, ◌∙◌, arith}
+use Rattle.run_law.proofs.Words.{◌++◌, ◌+◌, ◌<◌, ◌∙◌, ◌∷◌, ◌≡◌, ◌≤◌, ◌⊎◌, IsBefore, IsIn, List, [], ap, arith, inl, inr, refl, subst, sym, ℕ}
 use Rattle.std.proofs.lemmas.Bool.{cases_order}
 pub use Rattle.run_law.specs.records.Order.{behind}
-use Rattle.run_law.specs.records.Order.{IsBefore, IsIn}
 
 -- no place is before itself
 pub never_self : (p : List ℕ) → IsBefore p p → ⊥

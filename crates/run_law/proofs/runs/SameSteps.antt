@@ -1,39 +1,17 @@
 -- What comes at one time from one cause is one.
-use Rattle.std.proofs.Common.{◌≡◌, ℕ, ℤ, pos, Bool, List, Option, Some, None, true, false, MatchBool, refl, sym, ap, subst, ◌∙◌}
-use Rattle.std.specs.Option.{option_map_or}
-use Rattle.compression.proofs.Times.{one_list_of_clusters}
-use Rattle.compression.specs.Clusters.{Cluster, Point}
-use Rattle.compression.specs.Role.{role}
-use Rattle.compression.specs.declared.taken.Taken.{Taken}
-use Rattle.net_plan.specs.Places.{device_at}
-use Rattle.net_plan.specs.declared.ids.DeviceId.{DeviceId}
-use Rattle.net_plan.specs.declared.ids.LinkId.{LinkId}
-use Rattle.net_plan.specs.declared.network.Network.{Network}
-use Rattle.net_plan.specs.declared.tables.Device.{Device}
-use Rattle.net_plan.specs.declared.tables.Role.TheVariants.{Master, Client, Cm, Relay}
-use Rattle.net_plan.specs.declared.tables.Role.{Role}
-use Rattle.pcf_values.specs.declared.pcf.Pcf.{Pcf}
-use Rattle.run_law.specs.control.Collections.{IsCollectedAs, points_of, ripe_by_role, observation_window}
-use Rattle.run_law.specs.control.Leaving.{Departs, Departure, Gives, departure}
-use Rattle.run_law.specs.control.Permanence.{IsCollectedOrDropped, IsPermanent, IsPermanenceOutcome, BecomesPermanent, ripe_as, IsJudgedBy, before_permanence}
-use Rattle.run_law.specs.control.Wires.{Arrives, Launch, Signal, launched}
-use Rattle.run_law.specs.declared.judgement.Judgement.TheVariants as judgements
-use Rattle.run_law.specs.declared.judgement.Judgement.{Judgement}
-use Rattle.run_law.specs.declared.judgement.Reason.{Reason}
-use Rattle.run_law.specs.declared.note.NoteBody.TheVariants as notes
-use Rattle.run_law.specs.declared.note.NoteBody.{NoteBody}
-use Rattle.run_law.specs.declared.steps.Arrival.{Arrival}
-use Rattle.run_law.specs.declared.steps.Ripe.TheVariants as ripe
-use Rattle.run_law.specs.declared.steps.Ripe.{Ripe}
-use Rattle.run_law.specs.device.States.{adjustment_at_hearing, state_at_hearing}
-use Rattle.run_law.specs.records.Happenings.{Happening, numbered, time_of}
-use Rattle.run_law.specs.scenario.Devices.{is_cm, is_cm_role, is_relay, is_relay_role}
-use Rattle.run_law.specs.scenario.Scenarios.{Scenario}
-use Rattle.run_law.specs.timed.Receptions.{ArrivesAs, arrival_of}
-use Rattle.sync_state.specs.declared.state.State.{State}
+use Rattle.run_law.proofs.Words.{◌∙◌, ◌≡◌, Arrival, ArrivesAs, BecomesPermanent, Bool, Client, Cm, Departs, Device, DeviceId, Gives, Happening, Judgement}
+use Rattle.run_law.proofs.Words.{Launch, LinkId, List, Master, Network, None, NoteBody, Option, Pcf, Reason, Relay, Ripe, Role, Scenario, Some, State, Units}
+use Rattle.run_law.proofs.Words.{ap, arrival_of, device_at, false, is_relay, launched, numbered, observation_window, option_map_or, pos, refl, ripe_as}
+use Rattle.run_law.proofs.Words.{same_some, subst, sym, time_of, true, ℕ, ℤ}
+use Rattle.std.proofs.Common.{MatchBool}
+use Rattle.compression.{proofs.Times.one_list_of_clusters, specs.{Clusters.{Cluster, Point}, Role.role, declared.taken.Taken.Taken}}
 use Rattle.transparent_clock.specs.Points.{point_of}
-use Rattle.tte_lemmas.proofs.Options.{one as same_some}
-use Rattle.tte_units.specs.declared.units.Units.{Units}
+use Rattle.run_law.specs.control.{Collections.{IsCollectedAs, points_of, ripe_by_role}, Leaving.{Departure, departure}}
+use Rattle.run_law.specs.control.{Permanence.{IsCollectedOrDropped, IsJudgedBy, IsPermanenceOutcome, IsPermanent, before_permanence}, Wires.{Arrives, Signal}}
+use Rattle.run_law.specs.{device.States.{adjustment_at_hearing, state_at_hearing}, scenario.Devices.{is_cm, is_cm_role, is_relay_role}}
+use Rattle.run_law.specs.declared.judgement.Judgement.TheVariants as judgements
+use Rattle.run_law.specs.declared.note.NoteBody.TheVariants as notes
+use Rattle.run_law.specs.declared.steps.Ripe.TheVariants as ripe
 
 -- ---- arrivals
 

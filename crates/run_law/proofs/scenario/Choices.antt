@@ -1,17 +1,9 @@
 -- What of a scenario is decided.
-use Rattle.std.proofs.Common.{None, Option, Some, ap, arith, inl, inr, refl, sym, ℕ, ◌∙◌, ◌≡◌, ◌≤◌}
-use Rattle.std.proofs.lemmas.Bool.{cases_lt}
+use Rattle.run_law.proofs.Words.{◌∙◌, ◌≡◌, ◌≤◌, A, B, Integrating, Joining, None, Option, Some, State, Summary, Synchronised, ap, arith, cases_lt, inl, inr}
+use Rattle.run_law.proofs.Words.{refl, same_some, sym, ℕ}
 use Rattle.std.specs.Prelude.{IfSome}
-use Rattle.membership.specs.BestFrame.{Qualifies}
-use Rattle.membership.specs.Members.{count_of}
-use Rattle.membership.specs.Summary.{Summary, best_on}
-use Rattle.membership.specs.declared.frame.HeardFrame.{HeardFrame}
-use Rattle.pcf_values.specs.declared.channel.Channel.TheVariants.{A, B}
-use Rattle.sync_state.specs.Standing.{IsAtIntegration, Standing}
-use Rattle.sync_state.specs.Verdicts.{IsOutnumbered}
-use Rattle.sync_state.specs.declared.state.State.{State}
-use Rattle.sync_state.specs.declared.state.State.TheVariants.{Integrating, Joining, Off, Synchronised}
-use Rattle.tte_lemmas.proofs.Options.{one as same_some}
+use Rattle.membership.specs.{BestFrame.Qualifies, Members.count_of, Summary.best_on, declared.frame.HeardFrame.HeardFrame}
+use Rattle.sync_state.specs.{Standing.{IsAtIntegration, Standing}, Verdicts.IsOutnumbered, declared.state.State.TheVariants.Off}
 use Rattle.run_law.proofs.scenario.Decisions.{IsDecided, decided_same, decided_some}
 
 pub decided_le : (a b : ℕ) → IsDecided (a ≤ b)

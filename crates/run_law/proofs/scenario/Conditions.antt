@@ -1,21 +1,16 @@
 -- Each condition of the fault hypothesis is decided.
-use Rattle.std.proofs.Common.{◌≡◌, ◌≢◌, ◌⊎◌, ℕ, ◌<◌, ◌+ℤ◌, ◌<ℤ◌, List, [], ◌∷◌, ◌++◌, Option, Some, None, IsSomeAnd, IsNone, Any, is_some, true, unsigned_abs, inl, inr, refl, sym, ap, subst, ◌∙◌}
-use Rattle.net_plan.specs.Places.{device_at, link_at, is_master, IsSwitchOf}
-use Rattle.net_plan.specs.Rules.{HasOffSwitch}
-use Rattle.net_plan.specs.declared.event.Event.{Event}
-use Rattle.net_plan.specs.declared.event.What.TheVariants.{Rate, Wire, Hold, Cut, On, Break, Send}
-use Rattle.net_plan.specs.declared.event.What.{What}
-use Rattle.net_plan.specs.declared.ids.DeviceId.{DeviceId}
-use Rattle.net_plan.specs.declared.ids.LinkId.{LinkId}
-use Rattle.net_plan.specs.declared.network.Network.{Network}
-use Rattle.pcf_values.specs.declared.channel.Channel.TheVariants.{A, B}
+use Rattle.run_law.proofs.Words.{◌++◌, ◌+ℤ◌, ◌<ℤ◌, ◌<◌, ◌∙◌, ◌∷◌, ◌≡◌, ◌⊎◌, A, B, DeviceId, Event, IsSomeAnd, LinkId, List, Network, None, Option, Send, Some}
+use Rattle.run_law.proofs.Words.{Units, What, [], ap, device_at, inl, inr, is_master, link_at, refl, subst, sym, true, unsigned_abs, ℕ}
+use Rattle.std.proofs.Common.{◌≢◌, Any, IsNone, is_some}
+use Rattle.net_plan.specs.{Places.IsSwitchOf, Rules.HasOffSwitch, declared.event.What.TheVariants.{Break, Cut, Hold, On, Rate, Wire}}
 use Rattle.pcf_values.specs.declared.channel.Channel.{Channel}
-use Rattle.run_law.proofs.scenario.Decisions.{IsDecided, decided_by, decided_not, decided_and, decided_or, decided_less, decided_same, decided_less_int, decided_true, decided_false, decided_some, decided_at, decided_any}
-use Rattle.run_law.specs.scenario.Faults.{Breaks, TurnsOn, Cuts, CutsOn, IsBroken, IsTurnedOn, BeginsOn, IsLinkOf, IsFirstCutOn, IsFaulty}
-use Rattle.run_law.specs.scenario.Hypothesis.{ComesTooEarly, SetsFastRate, SetsOtherWire, SetsLongHold, CutsOtherChannel, BreaksNoMaster, BreaksSecond, LeavesTooFew, SendsUnbroken, TurnsOnAgain, sound_masters}
 use Rattle.tte_lemmas.proofs.Lists.{any_behind, any_first, any_none, any_of}
 use Rattle.tte_units.specs.declared.rates.Ppb.{Ppb}
-use Rattle.tte_units.specs.declared.units.Units.{Units}
+use Rattle.run_law.proofs.scenario.Decisions.{IsDecided, decided_and, decided_any, decided_at, decided_by, decided_false, decided_less, decided_less_int}
+use Rattle.run_law.proofs.scenario.Decisions.{decided_not, decided_or, decided_same, decided_some, decided_true}
+use Rattle.run_law.specs.scenario.Faults.{BeginsOn, Breaks, Cuts, CutsOn, IsBroken, IsFaulty, IsFirstCutOn, IsLinkOf, IsTurnedOn, TurnsOn}
+use Rattle.run_law.specs.scenario.Hypothesis.{BreaksNoMaster, BreaksSecond, ComesTooEarly, CutsOtherChannel, LeavesTooFew, SendsUnbroken, SetsFastRate}
+use Rattle.run_law.specs.scenario.Hypothesis.{SetsLongHold, SetsOtherWire, TurnsOnAgain, sound_masters}
 
 -- ---- the time of an event
 

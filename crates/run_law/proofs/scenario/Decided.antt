@@ -1,15 +1,11 @@
 -- The hypothesis judges an event in one way.
-use Rattle.std.proofs.Common.{◌≡◌, ◌⊎◌, ℕ, zero, suc, ◌^◌, ◌*◌, ◌<◌, ◌==◌, pos, List, if◌then◌else◌, inl, inr, refl, sym, ap, subst, ◌∙◌, arith}
-use Rattle.std.proofs.lemmas.Bool.{cases_lt, cases_order}
-use Rattle.net_plan.specs.declared.event.Event.{Event}
-use Rattle.net_plan.specs.declared.network.Network.{Network}
-use Rattle.run_law.proofs.scenario.Conditions.{too_early, fast_rate, other_wire, long_hold, other_channel, no_master, second_break, too_few, sends_unbroken, turns_on_again}
-use Rattle.run_law.proofs.scenario.Decisions.{IsDecided, decided_less_int, decided_same}
-use Rattle.run_law.specs.declared.outside.Outside.TheVariants.{Order, Late, Rate, Wire, Hold, Channel, NotMaster, SecondBreak, TooFewMasters, NotBroken, NotOff}
-use Rattle.run_law.specs.declared.outside.Outside.{Outside}
-use Rattle.run_law.specs.law.Laws.{HypothesisIsDecided}
-use Rattle.run_law.specs.scenario.Hypothesis.{condition_number, IsOutsideBy, IsWithinHypothesis, Violates}
-use Rattle.tte_units.specs.Amount.{amount}
+use Rattle.run_law.proofs.Words.{if◌then◌else◌, ◌*◌, ◌<◌, ◌==◌, ◌^◌, ◌∙◌, ◌≡◌, ◌⊎◌, Event, IsWithinHypothesis, List, Network, amount, ap, arith, cases_lt, inl}
+use Rattle.run_law.proofs.Words.{inr, pos, refl, subst, suc, sym, zero, ℕ}
+use Rattle.std.proofs.lemmas.Bool.{cases_order}
+use Rattle.run_law.proofs.scenario.Conditions.{fast_rate, long_hold, no_master, other_channel, other_wire, second_break, sends_unbroken, too_early, too_few}
+use Rattle.run_law.{proofs.scenario.{Conditions.turns_on_again, Decisions.{IsDecided, decided_less_int, decided_same}}, specs.declared.outside.Outside.Outside}
+use Rattle.run_law.specs.declared.outside.Outside.TheVariants.{Channel, Hold, Late, NotBroken, NotMaster, NotOff, Order, Rate, SecondBreak, TooFewMasters, Wire}
+use Rattle.run_law.specs.{law.Laws.HypothesisIsDecided, scenario.Hypothesis.{IsOutsideBy, Violates, condition_number}}
 
 -- the condition of this number
 condition_of : ℕ → Outside

@@ -1,8 +1,7 @@
 -- Facts that are decided: they hold or they do not.
-use Rattle.std.proofs.Common.{◌≡◌, ◌⊎◌, ℕ, zero, suc, ◌<◌, ℤ, ◌<ℤ◌, Bool, true, false, List, [], ◌∷◌, Option, Some, None, IsSomeAnd, Any, slice_get, inl, inr, refl, arith}
-use Rattle.std.proofs.lemmas.Bool.{cases_lt, cases_eq}
-use Rattle.std.proofs.lemmas.Int.{by_lt_z}
-use Rattle.std.specs.Int.Signed.{clash_ℤ}
+use Rattle.run_law.proofs.Words.{◌<ℤ◌, ◌<◌, ◌∷◌, ◌≡◌, ◌⊎◌, Bool, IsSomeAnd, List, None, Option, Some, [], arith, cases_lt, false, inl, inr, refl, slice_get}
+use Rattle.run_law.proofs.Words.{suc, true, zero, ℕ, ℤ}
+use Rattle.std.{proofs.{Common.Any, lemmas.{Bool.cases_eq, Int.by_lt_z}}, specs.Int.Signed.clash_ℤ}
 use Rattle.tte_lemmas.proofs.Lists.{any_behind, any_first, any_none, any_of}
 
 abbrev pub IsDecided : Type 0 → Type 0

@@ -1,30 +1,15 @@
 -- Devices of a scenario.
-use Rattle.std.proofs.Common.{Bool, List, None, Option, Some, [], ap, append_assoc, arith, false, filter, if◌then◌else◌, inl, inr, nat_le, pos, refl, subst, sym, true, ℕ, ◌++◌, ◌||◌, ◌∙◌, ◌∷◌, ◌≡◌, ◌≤ℤ◌, ◌≤◌}
-use Rattle.std.proofs.lemmas.Bool.{cases_lt, eq-eqb, eqb-true, le-leb}
-use Rattle.std.proofs.lemmas.Int.{ints}
-use Rattle.std.proofs.lemmas.List.{append-nil}
-use Rattle.std.specs.List.{list_any}
-use Rattle.std.specs.Option.{option_map_or}
-use Rattle.std.specs.Prelude.{IsSomeAnd, ◌==◌}
-use Rattle.net_plan.proofs.SameIds.{alike}
-use Rattle.net_plan.specs.Places.{IsEndSystem, device_at, is_end_system, is_master, link_at}
-use Rattle.net_plan.specs.declared.event.Event.{Event}
-use Rattle.net_plan.specs.declared.event.What.{What}
-use Rattle.net_plan.specs.declared.ids.DeviceId.{DeviceId}
-use Rattle.run_law.specs.scenario.Scenarios.{Scenario, is_broken, turns_on}
-use Rattle.net_plan.specs.declared.event.What.TheVariants as events
-use Rattle.net_plan.specs.declared.ids.LinkId.{LinkId}
-use Rattle.net_plan.specs.declared.network.Network.{Network}
-use Rattle.net_plan.specs.declared.tables.Device.{Device}
-use Rattle.net_plan.specs.declared.tables.Link.{Link}
-use Rattle.net_plan.specs.declared.tables.Role.{Role}
-use Rattle.net_plan.specs.declared.tables.Role.TheVariants.{Client, Cm, Master, Relay}
-use Rattle.run_law.specs.scenario.Hypothesis.{AreWithinHypothesis, IsWithinHypothesis, breaks_at}
-use Rattle.tte_units.specs.Amount.{amount}
-use Rattle.run_law.proofs.runs.Grow.{in_two}
-use Rattle.run_law.specs.declared.outside.Outside.TheVariants as outside
-use Rattle.run_law.specs.scenario.Devices.{IsParentOf, has_role, is_cm_role, is_end, is_parent_of}
+use Rattle.run_law.proofs.Words.{if◌then◌else◌, ◌++◌, ◌==◌, ◌∙◌, ◌∷◌, ◌≡◌, ◌≤ℤ◌, ◌≤◌, Bool, Client, Cm, Device, DeviceId, Event, IsSomeAnd, IsWithinHypothesis}
+use Rattle.run_law.proofs.Words.{Link, LinkId, List, Master, Network, None, Option, Relay, Role, Scenario, Some, What, [], amount, ap, append-nil, append_assoc}
+use Rattle.run_law.proofs.Words.{arith, cases_lt, device_at, eqb-true, false, inl, inr, ints, is_broken, is_master, is_parent_of, link_at, option_map_or, pos}
+use Rattle.run_law.proofs.Words.{refl, subst, sym, true, ℕ}
+use Rattle.std.{proofs.{Common.{◌||◌, filter, nat_le}, lemmas.Bool.{eq-eqb, le-leb}}, specs.List.list_any}
+use Rattle.net_plan.{proofs.SameIds.alike, specs.Places.{IsEndSystem, is_end_system}}
 use Rattle.tte_lemmas.proofs.Options.{opened}
+use Rattle.run_law.{proofs.runs.Grow.in_two, specs.scenario.{Devices.{IsParentOf, has_role, is_cm_role, is_end}, Hypothesis.{AreWithinHypothesis, breaks_at}}}
+use Rattle.run_law.specs.scenario.Scenarios.{turns_on}
+use Rattle.net_plan.specs.declared.event.What.TheVariants as events
+use Rattle.run_law.specs.declared.outside.Outside.TheVariants as outside
 
 -- the test of such an event
 pub on_by : (device : DeviceId) (what : What) → turns_on device what ≡ true → what ≡ events.On device

@@ -1,12 +1,7 @@
 -- The definitions are met: by a run of one event, an event within the hypothesis and one outside.
-use Rattle.std.proofs.Common.{◌≡◌, ◌<◌, List, [], ◌∷◌, ◌++◌, arith}
-use Rattle.net_plan.specs.declared.event.Event.{Event}
-use Rattle.net_plan.specs.declared.network.Network.{Network}
-use Rattle.run_law.specs.declared.note.Note.{Note}
-use Rattle.run_law.specs.declared.note.NoteBody.TheVariants.{Event as Befalls}
-use Rattle.run_law.specs.declared.outside.Outside.TheVariants.{Order, Late}
-use Rattle.run_law.specs.declared.outside.Outside.{Outside}
-use Rattle.run_law.specs.scenario.Hypothesis.{ComesTooEarly, ComesTooLate, Violates, IsOutsideBy, condition_number}
+use Rattle.run_law.proofs.Words.{◌++◌, ◌<◌, ◌∷◌, ◌≡◌, Befalls, Event, List, Network, Note, [], arith}
+use Rattle.run_law.specs.declared.outside.Outside.{Outside, TheVariants.{Late, Order}}
+use Rattle.run_law.specs.scenario.Hypothesis.{ComesTooEarly, ComesTooLate, IsOutsideBy, Violates, condition_number}
 
 -- ---- a run of one event
 

@@ -1,7 +1,5 @@
 -- Ways over a link.
-use Rattle.std.proofs.Common.{refl, true, ◌≡◌}
-use Rattle.net_plan.specs.declared.tables.Way.{Way}
-use Rattle.net_plan.specs.declared.tables.Way.TheVariants.{Down, Up}
+use Rattle.run_law.proofs.Words.{◌≡◌, Down, Up, Way, refl, true}
 use Rattle.run_law.specs.scenario.Ways.{is_way}
 
 -- a way is itself

@@ -1,24 +1,12 @@
 -- The run of the silent cycle is the run.
-use Rattle.std.proofs.Common.{◌≡◌, ℕ, ◌+◌, ◌/◌, ◌<◌, List, [], ◌∷◌, ◌++◌, map, None, inl, inr, refl, sym, ap, subst, ◌∙◌, append_assoc}
-use Rattle.std.specs.List.{fold}
-use Rattle.std.proofs.lemmas.List.{append-nil, length-map, map-append}
-use Rattle.net_plan.specs.declared.event.What.TheVariants.{Send}
-use Rattle.net_plan.specs.declared.network.Network.{Network}
-use Rattle.run_law.proofs.runs.NetworkRuns.{same_notes}
-use Rattle.run_law.proofs.runs.Places.{earlier_time, in_right, parted}
-use Rattle.run_law.proofs.silent.Due.{IsEarlyOn, caused_silently, quiet_cause, silently_caused}
-use Rattle.run_law.proofs.silent.States.{AreQuiet, IsQuietBody, quiet_append}
-use Rattle.run_law.specs.declared.note.Note.{Note}
-use Rattle.run_law.specs.declared.note.NoteBody.TheVariants.{Event as Befalls, Clock}
-use Rattle.run_law.specs.declared.note.NoteBody.{NoteBody}
-use Rattle.run_law.specs.law.Silent.{silent_place, IsInFirstHalf, IsSilent, IsSilentlyDue, SilentRunsAgree}
-use Rattle.run_law.specs.records.Happenings.{Happening, frame_by, happening, happenings, octets_by, time_of}
-use Rattle.run_law.specs.records.Order.{AllBefore, IsBefore, IsIn, NoneBefore}
-use Rattle.run_law.specs.records.Ranks.{key, members_in, place_of, rank}
-use Rattle.run_law.specs.runs.DueRecords.{IsDue}
-use Rattle.run_law.specs.runs.Runs.{IsRun}
-use Rattle.run_law.specs.scenario.Scenarios.{Scenario}
-use Rattle.tte_units.specs.Amount.{amount}
+use Rattle.run_law.proofs.Words.{◌++◌, ◌+◌, ◌/◌, ◌<◌, ◌∙◌, ◌∷◌, ◌≡◌, AllBefore, Befalls, Happening, IsBefore, IsDue, IsIn, IsRun, List, Network, None}
+use Rattle.run_law.proofs.Words.{NoneBefore, Note, NoteBody, Scenario, Send, [], amount, ap, append-nil, append_assoc, happening, happenings, inl, inr, key}
+use Rattle.run_law.proofs.Words.{members_in, place_of, rank, refl, subst, sym, time_of, ℕ}
+use Rattle.std.{proofs.{Common.map, lemmas.List.{length-map, map-append}}, specs.List.fold}
+use Rattle.run_law.proofs.runs.{NetworkRuns.same_notes, Places.{earlier_time, in_right, parted}}
+use Rattle.run_law.proofs.silent.{Due.{IsEarlyOn, caused_silently, quiet_cause, silently_caused}, States.{AreQuiet, IsQuietBody, quiet_append}}
+use Rattle.run_law.specs.{declared.note.NoteBody.TheVariants.Clock, law.Silent.{IsInFirstHalf, IsSilent, IsSilentlyDue, SilentRunsAgree, silent_place}}
+use Rattle.run_law.specs.records.Happenings.{frame_by, octets_by}
 
 -- ---- records of no frame
 
@@ -74,10 +62,6 @@ quiet_all (n ∷ ns) q = (q n (inl refl), quiet_all ns (λ m i. q m (inr i)))
 quiet_front : (ls rs : List Note) → AreQuiet (map plain (ls ++ rs)) → AreQuiet (map plain ls)
 quiet_front [] rs q = tt
 quiet_front (l ∷ ls) rs q = (q.0, quiet_front ls rs q.1)
-
-quiet_here : (ls rs : List Note) (n : Note) → AreQuiet (map plain (ls ++ n ∷ rs)) → IsQuietBody n.body
-quiet_here [] rs n q = q.0
-quiet_here (l ∷ ls) rs n q = quiet_here ls rs n q.1
 
 in_plain : (ns : List Note) (n : Note) → IsIn n ns → IsIn (plain n) (map plain ns)
 in_plain [] n i = absurd i

@@ -1,55 +1,22 @@
 -- What is due in the first half cycle, behind records of events and clocks: no more than in the silent cycle.
-use Rattle.std.proofs.Common.{◌≡◌, ℕ, ◌+◌, ◌*◌, ◌/◌, ◌<◌, ◌≤◌, ℤ, pos, ◌≤ℤ◌, Bool, false, ◌&&◌, ◌==◌, if◌then◌else◌, List, [], ◌∷◌, length, Option, Some, None, slice_get, inl, inr, refl, sym, ap, subst, ◌∙◌, arith}
-use Rattle.std.specs.List.{All, Contains}
-use Rattle.std.specs.Option.{option_map_or, unwrap_or}
-use Rattle.std.specs.Prelude.{IsNone, IsSomeAnd, option_and_then}
-use Rattle.std.proofs.Math.Nat.{mul-le-mul_right}
-use Rattle.std.proofs.lemmas.Int.{ints}
-use Rattle.std.proofs.lemmas.Option.{slice_get_within}
+use Rattle.run_law.proofs.Words.{if◌then◌else◌, ◌&&◌, ◌*◌, ◌+◌, ◌/◌, ◌<◌, ◌==◌, ◌∙◌, ◌∷◌, ◌≡◌, ◌≤ℤ◌, ◌≤◌, Arrival, ArrivesAs, BecomesPermanent, Bool}
+use Rattle.run_law.proofs.Words.{ChangesState, Contains, Departs, Device, DeviceId, Event, Gives, Happening, Integrating, IsArrivedRecord, IsCaused, IsDropped}
+use Rattle.run_law.proofs.Words.{IsSomeAnd, Joining, Judgement, LinkId, List, Members, Network, None, NoteBody, Option, Reason, Ripe, Scenario, Send, Some}
+use Rattle.run_law.proofs.Words.{State, Synchronised, Units, VlId, Why, [], adjustment_after, adjustment_at_start, amount, ap, arith, device_at, earlier, false}
+use Rattle.run_law.proofs.Words.{in_all, inl, inr, ints, launched, length, observation_window, option_and_then, option_map_or, pos, refl, slice_get, start_of}
+use Rattle.run_law.proofs.Words.{state_after, subst, sym, time_of, units_of, ℕ, ℤ}
+use Rattle.std.{proofs.{Math.Nat.mul-le-mul_right, lemmas.Option.slice_get_within}, specs.{List.All, Option.unwrap_or, Prelude.IsNone}}
 use Rattle.compression.specs.Clusters.{AreClusters, Cluster}
-use Rattle.net_plan.specs.Places.{device_at}
-use Rattle.net_plan.specs.declared.event.Event.{Event}
-use Rattle.net_plan.specs.declared.event.What.TheVariants.{Send}
-use Rattle.net_plan.specs.declared.ids.DeviceId.{DeviceId}
-use Rattle.net_plan.specs.declared.ids.LinkId.{LinkId}
-use Rattle.net_plan.specs.declared.ids.VlId.{VlId}
-use Rattle.net_plan.specs.declared.network.Network.{Network}
-use Rattle.net_plan.specs.declared.tables.Device.{Device}
-use Rattle.pcf_values.specs.declared.members.Members.{Members}
-use Rattle.run_law.proofs.silent.States.{AreQuiet, IsQuietBody, adjustment_begins, first_cycle, joins_none, never_integrates, no_points, quiet_filter, quiet_numbered, state_begins}
-use Rattle.run_law.proofs.silent.Times.{never_there}
-use Rattle.run_law.specs.control.Collections.{observation_window}
-use Rattle.run_law.specs.control.Corrections.{ComesToCorrection, correction_value, integration_cycle, is_integration_cycle, next_cycle, recorded_cycle, standing_before, has_cleared}
-use Rattle.run_law.specs.control.Emissions.{Emits}
-use Rattle.run_law.specs.control.Leaving.{Departs, Departure, Gives}
-use Rattle.run_law.specs.control.Losses.{IsDropped, IsLost, IsSendLost}
-use Rattle.run_law.specs.control.Permanence.{BecomesPermanent}
-use Rattle.run_law.specs.control.Wires.{launched}
-use Rattle.run_law.specs.declared.judgement.Judgement.{Judgement}
-use Rattle.run_law.specs.declared.judgement.Reason.{Reason}
+use Rattle.sync_state.specs.{Standing.{point_in, state_at_start}, declared.{answers.Verdict.Verdict, state.State.TheVariants.Off}}
+use Rattle.run_law.proofs.silent.States.{AreQuiet, IsQuietBody, adjustment_begins, first_cycle, joins_none, never_integrates, no_points, quiet_filter}
+use Rattle.run_law.proofs.silent.{States.{quiet_numbered, state_begins}, Times.never_there}
+use Rattle.run_law.specs.control.Corrections.{ComesToCorrection, correction_value, has_cleared, integration_cycle, is_integration_cycle, next_cycle}
+use Rattle.run_law.specs.control.{Corrections.{recorded_cycle, standing_before}, Emissions.Emits, Leaving.Departure, Losses.{IsLost, IsSendLost}}
+use Rattle.run_law.specs.device.{LocalClocks.{Reaches, had_come}, States.adjustment_before}
+use Rattle.run_law.specs.{law.Silent.{IsQuiet, IsSilent, IsSilentClock, IsSilentNetwork, IsSilentlyCaused}, records.Happenings.up_to}
+use Rattle.run_law.specs.{runs.DueRecords.IsClockRecord, timed.Dispatching.{Dispatches, Sends}}
 use Rattle.run_law.specs.declared.judgement.Why.TheVariants as whys
-use Rattle.run_law.specs.declared.judgement.Why.{Why}
 use Rattle.run_law.specs.declared.note.NoteBody.TheVariants as notes
-use Rattle.run_law.specs.declared.note.NoteBody.{NoteBody}
-use Rattle.run_law.specs.declared.steps.Arrival.{Arrival}
-use Rattle.run_law.specs.declared.steps.Ripe.{Ripe}
-use Rattle.run_law.specs.device.LocalClocks.{Reaches, had_come}
-use Rattle.run_law.specs.device.StateChanges.{ChangesState}
-use Rattle.run_law.specs.device.States.{adjustment_after, adjustment_before, state_after}
-use Rattle.run_law.specs.law.Silent.{IsQuiet, IsSilent, IsSilentClock, IsSilentNetwork, IsSilentlyCaused}
-use Rattle.run_law.specs.records.Happenings.{Happening, earlier, time_of, up_to}
-use Rattle.run_law.specs.runs.DueRecords.{IsArrivedRecord, IsCaused, IsClockRecord}
-use Rattle.run_law.specs.scenario.Devices.{start_of}
-use Rattle.run_law.specs.scenario.Scenarios.{Scenario}
-use Rattle.run_law.specs.timed.Dispatching.{Dispatches, Sends}
-use Rattle.run_law.specs.timed.Receptions.{ArrivesAs}
-use Rattle.sync_state.specs.Standing.{adjustment_at_start, point_in, state_at_start}
-use Rattle.sync_state.specs.declared.answers.Verdict.{Verdict}
-use Rattle.sync_state.specs.declared.state.State.TheVariants.{Off, Integrating, Joining, Synchronised}
-use Rattle.sync_state.specs.declared.state.State.{State}
-use Rattle.tte_lemmas.proofs.Lists.{in_all}
-use Rattle.tte_units.specs.Amount.{amount, units_of}
-use Rattle.tte_units.specs.declared.units.Units.{Units}
 
 -- the scenario is silent, the records before are quiet, and it is the first half cycle
 pub record IsEarlyOn (s : Scenario) (hs : List Happening) (t : ℕ) : Type 0 where

@@ -1,19 +1,11 @@
 -- What records of events and clocks leave of a run: all stays as it begins.
-use Rattle.std.proofs.Common.{◌≡◌, ℕ, zero, suc, Bool, true, false, ◌-◌, not, if◌then◌else◌, List, [], ◌∷◌, ◌++◌, Option, Some, None, drop, length, slice_get, refl, ap, subst, ◌∙◌}
-use Rattle.std.specs.List.{cons_option, filter, filter_map, fold, after_last, suffix_len}
-use Rattle.net_plan.specs.declared.ids.DeviceId.{DeviceId}
-use Rattle.run_law.specs.control.Collections.{point_by, points_of, ends_stretch}
-use Rattle.run_law.specs.control.Corrections.{cycle_after, integration_cycle, recorded_cycle}
-use Rattle.run_law.specs.declared.note.NoteBody.TheVariants.{Event as Befalls, Clock}
-use Rattle.run_law.specs.declared.note.NoteBody.{NoteBody}
-use Rattle.run_law.specs.device.States.{adjustment_after, adjustment_with, cycle_in, is_joined_by, state_after, state_with}
-use Rattle.run_law.specs.law.Silent.{IsQuiet}
-use Rattle.run_law.specs.records.Happenings.{Happening, numbered}
-use Rattle.run_law.specs.scenario.Devices.{start_of}
-use Rattle.run_law.specs.scenario.Scenarios.{Scenario}
-use Rattle.sync_state.specs.Standing.{adjustment_at_start, state_at_start}
-use Rattle.sync_state.specs.declared.state.State.{State}
-use Rattle.tte_units.specs.declared.units.Units.{Units}
+use Rattle.run_law.proofs.Words.{if◌then◌else◌, ◌++◌, ◌-◌, ◌∙◌, ◌∷◌, ◌≡◌, Befalls, Bool, DeviceId, Happening, List, None, NoteBody, Option, Scenario, Some}
+use Rattle.run_law.proofs.Words.{State, Units, [], adjustment_after, adjustment_at_start, ap, cons_option, false, filter_map, is_joined_by, length, not}
+use Rattle.run_law.proofs.Words.{numbered, refl, slice_get, start_of, state_after, subst, suc, true, zero, ℕ}
+use Rattle.std.{proofs.Common.drop, specs.List.{after_last, filter, fold, suffix_len}}
+use Rattle.sync_state.specs.Standing.{state_at_start}
+use Rattle.run_law.specs.control.{Collections.{ends_stretch, point_by, points_of}, Corrections.{cycle_after, integration_cycle, recorded_cycle}}
+use Rattle.run_law.specs.{declared.note.NoteBody.TheVariants.Clock, device.States.{adjustment_with, cycle_in, state_with}, law.Silent.IsQuiet}
 
 -- the record is that of a quiet event, or of a clock
 abbrev pub IsQuietBody : NoteBody → Type 0
@@ -61,10 +53,6 @@ quiet_fold : {B : Type 0} (f : B → Happening → B) (z : B) → ((h : Happenin
     → fold f z hs ≡ z
 quiet_fold f z stays [] q = refl
 quiet_fold f z stays (h ∷ hs) q = ap (λ y. fold f y hs) (stays h q.0) ∙ quiet_fold f z stays hs q.1
-
-quiet_none : (p : Happening → Bool) → ((h : Happening) → IsQuietBody h.note.body → p h ≡ false) → (hs : List Happening) → AreQuiet hs → filter p hs ≡ []
-quiet_none p fails [] q = refl
-quiet_none p fails (h ∷ hs) q = ap (λ (b : Bool). if b then h ∷ filter p hs else filter p hs) (fails h q.0) ∙ quiet_none p fails hs q.1
 
 quiet_nothing : {B : Type 0} (f : Happening → Option B) → ((h : Happening) → IsQuietBody h.note.body → f h ≡ None) → (hs : List Happening) → AreQuiet hs
     → filter_map f hs ≡ []

@@ -1,26 +1,12 @@
 -- In the first half of the first cycle no clock comes to the second cycle.
-use Rattle.std.proofs.Common.{◌≡◌, ℕ, ◌+◌, ◌-◌, ◌*◌, ◌/◌, ◌^◌, ◌<◌, ◌≤◌, ℤ, pos, negsuc, ◌-ℤ◌, ◌≤ℤ◌, unsigned_abs, Option, Some, None, refl, subst, arith}
-use Rattle.std.specs.Int.{abs_diff}
-use Rattle.std.specs.Prelude.{IfSome, option_and_then}
-use Rattle.std.proofs.Math.Nat.{mul-le-mul_right}
-use Rattle.std.proofs.lemmas.Int.{ints}
+use Rattle.run_law.proofs.Words.{◌*◌, ◌+◌, ◌-◌, ◌/◌, ◌<◌, ◌^◌, ◌≡◌, ◌≤ℤ◌, ◌≤◌, Device, DeviceId, Network, None, Option, Some, Units, adjustment_at_start}
+use Rattle.run_law.proofs.Words.{amount, arith, beta_at, device_at, in_all, ints, option_and_then, pos, refl, start_of, subst, unsigned_abs, ℕ, ℤ}
+use Rattle.std.{proofs.{Common.{◌-ℤ◌, negsuc}, Math.Nat.mul-le-mul_right}, specs.{Int.abs_diff, Prelude.IfSome}}
 use Rattle.drift_clock.specs.ClockLaws.{KeepsClockLaws, Measures}
-use Rattle.net_plan.proofs.Beta.{beta_exists}
-use Rattle.net_plan.proofs.Shape.{rules_give_trees}
-use Rattle.net_plan.specs.Bounds.{IsBeta, beta_at}
-use Rattle.net_plan.specs.Places.{device_at}
-use Rattle.net_plan.specs.declared.ids.DeviceId.{DeviceId}
-use Rattle.net_plan.specs.declared.network.Network.{Network}
-use Rattle.net_plan.specs.declared.tables.Device.{Device}
-use Rattle.run_law.specs.law.Silent.{IsSilentNetwork}
-use Rattle.run_law.specs.scenario.Devices.{start_of}
-use Rattle.schedule_tables.proofs.Margins.{margins, shape_rules}
-use Rattle.schedule_tables.specs.declared.rule.Rule.TheVariants.{Masters}
-use Rattle.sync_state.specs.Standing.{adjustment_at_start}
+use Rattle.net_plan.{proofs.{Beta.beta_exists, Shape.rules_give_trees}, specs.Bounds.IsBeta}
+use Rattle.schedule_tables.{proofs.Margins.{margins, shape_rules}, specs.declared.rule.Rule.TheVariants.Masters}
 use Rattle.tte_lemmas.proofs.Integers.{whole}
-use Rattle.tte_lemmas.proofs.Lists.{in_all}
-use Rattle.tte_units.specs.Amount.{amount}
-use Rattle.tte_units.specs.declared.units.Units.{Units}
+use Rattle.run_law.specs.law.Silent.{IsSilentNetwork}
 
 -- ---- the starts
 

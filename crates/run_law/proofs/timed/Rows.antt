@@ -1,17 +1,10 @@
 -- Rows of the schedule.
-use Rattle.std.proofs.Common.{List, None, Some, filter, inl, inr, refl, subst, ℕ, ◌≡◌}
-use Rattle.std.specs.List.{last_or}
-use Rattle.std.specs.Prelude.{IsSome}
-use Rattle.net_plan.specs.Ranges.{IsRowInRange}
-use Rattle.net_plan.specs.declared.ids.DeviceId.{DeviceId}
-use Rattle.net_plan.specs.declared.network.Network.{Network}
-use Rattle.net_plan.specs.declared.tables.Row.{Row}
-use Rattle.run_law.specs.records.Happenings.{Happening, earlier}
-use Rattle.run_law.specs.timed.Arrivals.{entry_of}
-use Rattle.run_law.specs.timed.Dispatching.{HasAtHand, is_accepted}
-use Rattle.schedule_tables.specs.Entries.{IsEntry}
-use Rattle.schedule_tables.specs.declared.entry.Entry.{Entry}
+use Rattle.run_law.proofs.Words.{◌≡◌, DeviceId, Happening, List, Network, None, Some, earlier, inl, inr, last_or, refl, subst, ℕ}
+use Rattle.std.{proofs.Common.filter, specs.Prelude.IsSome}
+use Rattle.net_plan.specs.{Ranges.IsRowInRange, declared.tables.Row.Row}
+use Rattle.schedule_tables.specs.{Entries.IsEntry, declared.entry.Entry.Entry}
 use Rattle.tte_lemmas.proofs.Lists.{some_at}
+use Rattle.run_law.specs.timed.{Arrivals.entry_of, Dispatching.{HasAtHand, is_accepted}}
 
 pub entry_at : (network : Network) (place : ℕ) (entry : Entry) → IsEntry network place entry → entry_of network entry.row ≡ Some entry
 entry_at network place entry is = rw is.vl (rw is.link refl)

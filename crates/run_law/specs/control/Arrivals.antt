@@ -1,29 +1,23 @@
 -- How an arriving protocol control frame is judged.
-use Rattle.std.specs.Prelude.{ℕ, ◌+◌, ◌*◌, ◌^◌, pos, ◌+ℤ◌, int_lt, nat_lt, Bool, true, false, not, ◌&&◌, ◌==◌, [], ◌∷◌, Option, Some, None, Result, Ok, Err, if◌then◌else◌}
 use Rattle.std.specs.Option.{option_map_or}
-use Rattle.net_plan.specs.Places.{link_at}
-use Rattle.net_plan.specs.declared.ids.DeviceId.{DeviceId}
-use Rattle.net_plan.specs.declared.ids.LinkId.{LinkId}
-use Rattle.net_plan.specs.declared.network.Network.{Network}
-use Rattle.net_plan.specs.declared.tables.Way.TheVariants.{Up, Down}
-use Rattle.pcf_codec.specs.declared.refusal.PcfRefusal.TheVariants as refusals
+use Rattle.std.specs.Prelude.{if◌then◌else◌, ◌&&◌, ◌*◌, ◌+ℤ◌, ◌+◌, ◌==◌, ◌^◌, ◌∷◌, Bool, Err, None, Ok, Option, Result}
+use Rattle.std.specs.Prelude.{Some, [], false, int_lt, nat_lt, not, pos, true, ℕ}
+use Rattle.net_plan.specs.{Places.link_at, declared.{ids.{DeviceId.DeviceId, LinkId.LinkId}, network.Network.Network}}
+use Rattle.net_plan.specs.declared.tables.Way.TheVariants.{Down, Up}
 use Rattle.pcf_codec.specs.declared.refusal.PcfRefusal.{PcfRefusal}
-use Rattle.pcf_values.specs.declared.members.Members.{Members}
-use Rattle.pcf_values.specs.declared.pcf.Pcf.{Pcf}
+use Rattle.pcf_values.specs.declared.{members.Members.Members, pcf.{Pcf.Pcf, PcfKind.PcfKind}}
 use Rattle.pcf_values.specs.declared.pcf.PcfKind.TheVariants.{Integration}
-use Rattle.pcf_values.specs.declared.pcf.PcfKind.{PcfKind}
-use Rattle.run_law.specs.declared.judgement.Reason.TheVariants.{Off, ColdStart, Domain, Member, Old, Gate, RefusedLength, RefusedEtherType, RefusedReserved, RefusedKind}
-use Rattle.run_law.specs.declared.judgement.Reason.{Reason}
-use Rattle.run_law.specs.declared.steps.Arrival.TheVariants.{Dropped, Waits, Passes, PassesAndWaits}
-use Rattle.run_law.specs.declared.steps.Arrival.{Arrival}
-use Rattle.run_law.specs.device.Standpoints.{Standpoint, clock_of, first_reason, offset_in_cycle}
-use Rattle.run_law.specs.device.States.{is_synchronised}
-use Rattle.run_law.specs.records.Happenings.{with_clock}
-use Rattle.run_law.specs.scenario.Devices.{is_end, is_parent_of, is_relay, member_of}
-use Rattle.run_law.specs.scenario.Ways.{wire_of}
 use Rattle.transparent_clock.specs.Points.{point_of}
-use Rattle.tte_units.specs.Amount.{amount}
-use Rattle.tte_units.specs.declared.units.Units.{Units}
+use Rattle.tte_units.specs.{Amount.amount, declared.units.Units.Units}
+use Rattle.run_law.specs.declared.judgement.Reason.{Reason}
+use Rattle.run_law.specs.declared.judgement.Reason.TheVariants.{ColdStart, Domain, Gate, Member, Off, Old}
+use Rattle.run_law.specs.declared.judgement.Reason.TheVariants.{RefusedEtherType, RefusedKind, RefusedLength}
+use Rattle.run_law.specs.declared.{judgement.Reason.TheVariants.RefusedReserved, steps.Arrival.Arrival}
+use Rattle.run_law.specs.declared.steps.Arrival.TheVariants.{Dropped, Passes, PassesAndWaits, Waits}
+use Rattle.run_law.specs.device.Standpoints.{Standpoint, clock_of, first_reason, offset_in_cycle}
+use Rattle.run_law.specs.{device.States.is_synchronised, records.Happenings.with_clock}
+use Rattle.run_law.specs.scenario.{Devices.{is_end, is_parent_of, is_relay, member_of}, Ways.wire_of}
+use Rattle.pcf_codec.specs.declared.refusal.PcfRefusal.TheVariants as refusals
 
 -- why octets that the decoder refuses are dropped
 abbrev pub refused : PcfRefusal → Reason

@@ -1,26 +1,19 @@
 -- What a compression master collects.
-use Rattle.std.specs.Prelude.{◌≡◌, ℕ, ◌*◌, ℤ, pos, ◌+ℤ◌, ◌-ℤ◌, int_le, int_lt, Bool, false, not, ◌&&◌, ◌==◌, List, [], ◌∷◌, filter_map, Option, Some, None, if◌then◌else◌}
-use Rattle.std.specs.Int.{int_div_euclid, trailing_zeros, w32}
-use Rattle.std.specs.List.{after_last}
-use Rattle.compression.specs.Clusters.{AreClusters, Cluster, Point, point_at}
-use Rattle.compression.specs.Role.{role}
-use Rattle.compression.specs.declared.taken.Taken.TheVariants as taken
-use Rattle.compression.specs.declared.taken.Taken.{Taken}
-use Rattle.net_plan.specs.declared.ids.DeviceId.{DeviceId}
-use Rattle.net_plan.specs.declared.network.Network.{Network}
-use Rattle.run_law.specs.declared.judgement.Reason.TheVariants.{Gate, Cycle}
-use Rattle.run_law.specs.declared.judgement.Reason.{Reason}
-use Rattle.run_law.specs.declared.judgement.Why.TheVariants.{On}
-use Rattle.run_law.specs.declared.note.NoteBody.TheVariants as notes
-use Rattle.run_law.specs.declared.note.NoteBody.{NoteBody}
-use Rattle.run_law.specs.declared.steps.Ripe.TheVariants as ripe
-use Rattle.run_law.specs.declared.steps.Ripe.{Ripe}
-use Rattle.run_law.specs.device.Standpoints.{first_reason, offset_in_cycle}
-use Rattle.run_law.specs.device.States.{cycle_in, is_joined_by, is_synchronised}
-use Rattle.run_law.specs.records.Happenings.{Happening}
-use Rattle.run_law.specs.records.Ranks.{members_in}
+use Rattle.std.specs.{Int.{int_div_euclid, trailing_zeros, w32}, List.after_last}
+use Rattle.std.specs.Prelude.{if◌then◌else◌, ◌&&◌, ◌*◌, ◌+ℤ◌, ◌-ℤ◌, ◌==◌, ◌∷◌, ◌≡◌, Bool, List, None, Option, Some, []}
+use Rattle.std.specs.Prelude.{false, filter_map, int_le, int_lt, not, pos, ℕ, ℤ}
+use Rattle.compression.specs.{Clusters.{AreClusters, Cluster, Point, point_at}, Role.role, declared.taken.Taken.Taken}
+use Rattle.net_plan.specs.declared.{ids.DeviceId.DeviceId, network.Network.Network}
 use Rattle.sync_state.specs.declared.state.State.{State}
 use Rattle.tte_units.specs.Amount.{amount}
+use Rattle.run_law.specs.declared.judgement.{Reason.{Reason, TheVariants.{Cycle, Gate}}, Why.TheVariants.On}
+use Rattle.run_law.specs.declared.{note.NoteBody.NoteBody, steps.Ripe.Ripe}
+use Rattle.run_law.specs.device.Standpoints.{first_reason, offset_in_cycle}
+use Rattle.run_law.specs.{device.States.{cycle_in, is_joined_by, is_synchronised}, records.Happenings.Happening}
+use Rattle.run_law.specs.records.Ranks.{members_in}
+use Rattle.compression.specs.declared.taken.Taken.TheVariants as taken
+use Rattle.run_law.specs.declared.note.NoteBody.TheVariants as notes
+use Rattle.run_law.specs.declared.steps.Ripe.TheVariants as ripe
 
 -- does the record end a stretch of the device, in which its state is one? A frame that tells it the time ends one at
 -- once, before the record of the new state. Being turned on ends none: before it nothing was collected, and what comes

@@ -1,26 +1,18 @@
 -- The correction points of a device.
-use Rattle.std.specs.Prelude.{◌≡◌, ℕ, ◌+◌, ◌*◌, ℤ, pos, Bool, true, false, ◌||◌, ◌&&◌, not, ◌==◌, nat_lt, List, filter, filter_map, fold, Option, Some, None, option_map, if◌then◌else◌}
-use Rattle.std.specs.List.{after_last}
-use Rattle.std.specs.Option.{option_map_or}
-use Rattle.membership.specs.Hearing.{Hearing}
-use Rattle.membership.specs.Summary.{Summary, Summarizes}
-use Rattle.net_plan.specs.declared.ids.DeviceId.{DeviceId}
-use Rattle.net_plan.specs.declared.network.Network.{Network}
+use Rattle.std.specs.{List.after_last, Option.option_map_or}
+use Rattle.std.specs.Prelude.{if◌then◌else◌, ◌&&◌, ◌*◌, ◌+◌, ◌==◌, ◌||◌, ◌≡◌, Bool, List, None, Option, Some, false}
+use Rattle.std.specs.Prelude.{filter, filter_map, fold, nat_lt, not, option_map, pos, true, ℕ, ℤ}
+use Rattle.membership.specs.{Hearing.Hearing, Summary.{Summarizes, Summary}}
+use Rattle.net_plan.specs.declared.{ids.DeviceId.DeviceId, network.Network.Network}
 use Rattle.pcf_values.specs.declared.channel.Channel.{Channel}
-use Rattle.run_law.specs.declared.judgement.Judgement.TheVariants.{Within, Outside}
-use Rattle.run_law.specs.declared.note.NoteBody.TheVariants as notes
-use Rattle.run_law.specs.declared.note.NoteBody.{NoteBody}
+use Rattle.sync_state.specs.{Standing.{Standing, next_point}, Verdicts.HasVerdict, declared.answers.Verdict.Verdict}
+use Rattle.tte_units.specs.{Amount.amount, declared.units.Units.Units}
+use Rattle.run_law.specs.declared.{judgement.Judgement.TheVariants.{Outside, Within}, note.NoteBody.NoteBody}
 use Rattle.run_law.specs.device.LocalClocks.{Reaches, changes_adjustment, had_come}
 use Rattle.run_law.specs.device.States.{adjustment_before, cycle_in, is_joined_by, state_before}
-use Rattle.run_law.specs.records.Happenings.{Happening, earlier, time_of}
-use Rattle.run_law.specs.records.Ranks.{members_in}
-use Rattle.run_law.specs.scenario.Devices.{channel_of, channel_of_link, plan_of}
-use Rattle.run_law.specs.scenario.Scenarios.{Scenario, is_broken}
-use Rattle.sync_state.specs.Standing.{Standing, next_point}
-use Rattle.sync_state.specs.Verdicts.{HasVerdict}
-use Rattle.sync_state.specs.declared.answers.Verdict.{Verdict}
-use Rattle.tte_units.specs.Amount.{amount}
-use Rattle.tte_units.specs.declared.units.Units.{Units}
+use Rattle.run_law.specs.records.{Happenings.{Happening, earlier, time_of}, Ranks.members_in}
+use Rattle.run_law.specs.scenario.{Devices.{channel_of, channel_of_link, plan_of}, Scenarios.{Scenario, is_broken}}
+use Rattle.run_law.specs.declared.note.NoteBody.TheVariants as notes
 
 -- where the clock stands at the correction point of a cycle
 abbrev pub correction_value : Network → ℕ → ℤ

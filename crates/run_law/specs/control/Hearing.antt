@@ -1,13 +1,10 @@
 -- How a device hears a compressed frame.
-use Rattle.std.specs.Prelude.{ℕ, ◌+◌, ◌^◌, ℤ, ◌+ℤ◌, ◌-ℤ◌, int_le, nat_le, Bool, ◌&&◌, if◌then◌else◌}
+use Rattle.std.specs.Prelude.{if◌then◌else◌, ◌&&◌, ◌+ℤ◌, ◌+◌, ◌-ℤ◌, ◌^◌, Bool, int_le, nat_le, ℕ, ℤ}
 use Rattle.membership.specs.Members.{count_of}
 use Rattle.pcf_values.specs.declared.members.Members.{Members}
-use Rattle.run_law.specs.declared.judgement.Judgement.TheVariants.{Within, Outside, Integrates, Ignored}
-use Rattle.run_law.specs.declared.judgement.Judgement.{Judgement}
-use Rattle.sync_state.specs.Plan.{expected_at}
-use Rattle.sync_state.specs.declared.plan.SyncPlan.{SyncPlan}
-use Rattle.sync_state.specs.declared.state.State.TheVariants.{Off, Integrating, Joining, Synchronised}
-use Rattle.sync_state.specs.declared.state.State.{State}
+use Rattle.sync_state.specs.{Plan.expected_at, declared.{plan.SyncPlan.SyncPlan, state.State.State}}
+use Rattle.sync_state.specs.declared.state.State.TheVariants.{Integrating, Joining, Off, Synchronised}
+use Rattle.run_law.specs.declared.judgement.Judgement.{Judgement, TheVariants.{Ignored, Integrates, Outside, Within}}
 
 -- the last cycle of a frame that is used
 abbrev pub last_cycle : ℕ

@@ -1,26 +1,15 @@
 -- How the way of a frame ends: on a cut link, or dropped for a reason.
-use Rattle.std.specs.Prelude.{◌≡◌, ◌⊎◌, ℕ, true, false, List, Some, slice_get}
-use Rattle.net_plan.specs.declared.event.Event.{Event}
-use Rattle.net_plan.specs.declared.event.What.TheVariants.{Send}
-use Rattle.net_plan.specs.declared.ids.DeviceId.{DeviceId}
-use Rattle.net_plan.specs.declared.ids.LinkId.{LinkId}
-use Rattle.net_plan.specs.declared.ids.VlId.{VlId}
-use Rattle.net_plan.specs.declared.tables.Link.{Link}
-use Rattle.net_plan.specs.declared.tables.Way.TheVariants.{Up}
-use Rattle.run_law.specs.control.Leaving.{Departs, on_cut_way, too_old}
-use Rattle.run_law.specs.control.Permanence.{BecomesPermanent}
-use Rattle.run_law.specs.declared.judgement.Reason.TheVariants.{Old}
-use Rattle.run_law.specs.declared.judgement.Reason.{Reason}
+use Rattle.std.specs.Prelude.{◌≡◌, ◌⊎◌, List, Some, false, slice_get, true, ℕ}
+use Rattle.net_plan.specs.declared.{event.{Event.Event, What.TheVariants.Send}, ids.{DeviceId.DeviceId, LinkId.LinkId}}
+use Rattle.net_plan.specs.declared.{ids.VlId.VlId, tables.{Link.Link, Way.TheVariants.Up}}
+use Rattle.tte_units.specs.declared.units.Units.{Units}
+use Rattle.run_law.specs.control.{Leaving.{Departs, on_cut_way, too_old}, Permanence.BecomesPermanent}
+use Rattle.run_law.specs.{declared.judgement.Reason.{Reason, TheVariants.Old}, records.Causes.IsOfThisTime}
+use Rattle.run_law.specs.{records.Happenings.Happening, scenario.{Scenarios.Scenario, Ways.{is_cut, way_from}}}
+use Rattle.run_law.specs.timed.{Dispatching.Dispatches, Receptions.ArrivesAs}
 use Rattle.run_law.specs.declared.note.NoteBody.TheVariants as notes
 use Rattle.run_law.specs.declared.steps.Arrival.TheVariants as arrivals
 use Rattle.run_law.specs.declared.steps.Ripe.TheVariants as ripe
-use Rattle.run_law.specs.records.Causes.{IsOfThisTime}
-use Rattle.run_law.specs.records.Happenings.{Happening}
-use Rattle.run_law.specs.scenario.Scenarios.{Scenario}
-use Rattle.run_law.specs.scenario.Ways.{is_cut, way_from}
-use Rattle.run_law.specs.timed.Dispatching.{Dispatches}
-use Rattle.run_law.specs.timed.Receptions.{ArrivesAs}
-use Rattle.tte_units.specs.declared.units.Units.{Units}
 
 -- the record with the number `cause` is a `send` event of this time on the link, whose way up from the device, the
 -- broken master, is cut

@@ -1,30 +1,22 @@
 -- How a protocol control frame becomes permanent.
-use Rattle.std.specs.Prelude.{◌≡◌, ℕ, ℤ, pos, true, false, Bool, not, ◌||◌, List, [], ◌∷◌, filter, Option, Some, None, MatchBool}
-use Rattle.compression.specs.Clusters.{Point, point_at}
-use Rattle.compression.specs.declared.taken.Taken.{Taken}
+use Rattle.std.specs.Prelude.{◌||◌, ◌≡◌, Bool, List, MatchBool, None, Option, Some, false, filter, not, pos, true, ℕ, ℤ}
+use Rattle.compression.specs.{Clusters.{Point, point_at}, declared.taken.Taken.Taken}
 use Rattle.drift_clock.specs.Reach.{IsReach}
-use Rattle.net_plan.specs.declared.ids.DeviceId.{DeviceId}
-use Rattle.net_plan.specs.declared.ids.LinkId.{LinkId}
-use Rattle.net_plan.specs.declared.network.Network.{Network}
+use Rattle.net_plan.specs.declared.{ids.{DeviceId.DeviceId, LinkId.LinkId}, network.Network.Network}
 use Rattle.pcf_values.specs.declared.pcf.Pcf.{Pcf}
-use Rattle.run_law.specs.control.Collections.{IsCollectedAs, master_of, point_fault, points_of, ripe_by_role, observation_window}
-use Rattle.run_law.specs.control.Hearing.{heard_as}
-use Rattle.run_law.specs.declared.judgement.Judgement.TheVariants as judgements
-use Rattle.run_law.specs.declared.judgement.Judgement.{Judgement}
-use Rattle.run_law.specs.declared.judgement.Reason.{Reason}
-use Rattle.run_law.specs.declared.note.NoteBody.TheVariants as notes
-use Rattle.run_law.specs.declared.steps.Ripe.TheVariants as ripe
-use Rattle.run_law.specs.declared.steps.Ripe.{Ripe}
-use Rattle.run_law.specs.device.States.{adjustment_at_hearing, state_at_hearing}
-use Rattle.run_law.specs.records.Happenings.{Happening, numbered, time_of}
-use Rattle.run_law.specs.records.Order.{is_before}
-use Rattle.run_law.specs.records.Ranks.{place_at, place_of}
-use Rattle.run_law.specs.scenario.Devices.{is_cm, is_parent_of, is_relay, plan_of}
-use Rattle.run_law.specs.scenario.Scenarios.{Scenario, is_broken}
 use Rattle.sync_state.specs.declared.state.State.{State}
 use Rattle.transparent_clock.specs.Points.{point_of}
-use Rattle.tte_units.specs.Amount.{amount}
 use Rattle.tte_units.specs.declared.units.Units.{Units}
+use Rattle.run_law.specs.control.Collections.{IsCollectedAs, master_of, observation_window, point_fault, points_of}
+use Rattle.run_law.specs.{control.{Collections.ripe_by_role, Hearing.heard_as}, declared.judgement.Judgement.Judgement}
+use Rattle.run_law.specs.declared.{judgement.Reason.Reason, steps.Ripe.Ripe}
+use Rattle.run_law.specs.device.States.{adjustment_at_hearing, state_at_hearing}
+use Rattle.run_law.specs.records.{Happenings.{Happening, numbered, time_of}, Order.is_before}
+use Rattle.run_law.specs.{records.Ranks.{place_at, place_of}, scenario.Devices.{is_cm, is_parent_of, is_relay, plan_of}}
+use Rattle.run_law.specs.scenario.Scenarios.{Scenario, is_broken}
+use Rattle.run_law.specs.declared.judgement.Judgement.TheVariants as judgements
+use Rattle.run_law.specs.declared.note.NoteBody.TheVariants as notes
+use Rattle.run_law.specs.declared.steps.Ripe.TheVariants as ripe
 
 -- does the device wait for the permanence of what comes by the link? A relay does not for what it passes up
 abbrev pub waits_for : Network → DeviceId → LinkId → Bool

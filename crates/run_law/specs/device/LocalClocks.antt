@@ -1,14 +1,12 @@
 -- The local clocks of a run, and when they reach a value.
-use Rattle.std.specs.Prelude.{ℕ, ◌-◌, ℤ, pos, ◌+ℤ◌, ◌-ℤ◌, ◌<ℤ◌, int_lt, int_le, Bool, ◌&&◌, ◌==◌, List, filter, None}
-use Rattle.std.specs.List.{last_or}
-use Rattle.std.specs.Option.{option_map_or}
+use Rattle.std.specs.{List.last_or, Option.option_map_or}
+use Rattle.std.specs.Prelude.{◌&&◌, ◌+ℤ◌, ◌-ℤ◌, ◌-◌, ◌<ℤ◌, ◌==◌, Bool, List, None, filter, int_le, int_lt, pos, ℕ, ℤ}
 use Rattle.drift_clock.specs.Reach.{IsReach}
 use Rattle.net_plan.specs.declared.ids.DeviceId.{DeviceId}
-use Rattle.run_law.specs.declared.note.NoteBody.TheVariants as notes
 use Rattle.run_law.specs.declared.note.NoteBody.{NoteBody}
 use Rattle.run_law.specs.device.States.{adjustment_after, adjustment_before, is_joined_by}
-use Rattle.run_law.specs.records.Happenings.{Happening, earlier, up_to, time_of}
-use Rattle.run_law.specs.scenario.Scenarios.{Scenario}
+use Rattle.run_law.specs.{records.Happenings.{Happening, earlier, time_of, up_to}, scenario.Scenarios.Scenario}
+use Rattle.run_law.specs.declared.note.NoteBody.TheVariants as notes
 
 -- the local clock of the device at a time: its reading and its adjustment
 abbrev pub local : Scenario → List Happening → DeviceId → ℕ → ℤ

@@ -1,13 +1,10 @@
 -- Where a device stands when a frame comes to it.
-use Rattle.std.specs.Prelude.{ℕ, ℤ, pos, negsuc, ◌+ℤ◌, Bool, ◌&&◌, not, List, Option, find, option_map}
 use Rattle.std.specs.Int.{int_div_euclid, int_rem_euclid}
-use Rattle.net_plan.specs.declared.ids.DeviceId.{DeviceId}
-use Rattle.net_plan.specs.declared.network.Network.{Network}
-use Rattle.run_law.specs.declared.judgement.Reason.{Reason}
-use Rattle.run_law.specs.device.States.{adjustment_before, is_off, state_before}
-use Rattle.run_law.specs.records.Happenings.{Happening}
-use Rattle.run_law.specs.scenario.Scenarios.{Scenario, is_broken}
+use Rattle.std.specs.Prelude.{◌&&◌, ◌+ℤ◌, Bool, List, Option, find, negsuc, not, option_map, pos, ℕ, ℤ}
+use Rattle.net_plan.specs.declared.{ids.DeviceId.DeviceId, network.Network.Network}
 use Rattle.sync_state.specs.declared.state.State.{State}
+use Rattle.run_law.specs.{declared.judgement.Reason.Reason, device.States.{adjustment_before, is_off, state_before}}
+use Rattle.run_law.specs.{records.Happenings.Happening, scenario.Scenarios.{Scenario, is_broken}}
 
 -- is it on and not broken, its state, its reading and its adjustment
 pub record Standpoint : Type 0 where

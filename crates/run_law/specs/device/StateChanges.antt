@@ -1,20 +1,14 @@
 -- What changes the state of a device.
-use Rattle.std.specs.Prelude.{◌≡◌, ℕ, true, false, List}
-use Rattle.net_plan.specs.declared.event.Event.{Event}
-use Rattle.net_plan.specs.declared.event.What.TheVariants.{On}
-use Rattle.net_plan.specs.declared.ids.DeviceId.{DeviceId}
-use Rattle.run_law.specs.control.Corrections.{ComesToCorrection}
-use Rattle.run_law.specs.declared.judgement.Why.TheVariants as whys
-use Rattle.run_law.specs.declared.judgement.Why.{Why}
-use Rattle.run_law.specs.declared.note.NoteBody.TheVariants as notes
-use Rattle.run_law.specs.device.States.{is_joined_by, state_before}
-use Rattle.run_law.specs.records.Causes.{IsOfThisTime}
-use Rattle.run_law.specs.records.Happenings.{Happening}
-use Rattle.run_law.specs.scenario.Scenarios.{Scenario, is_broken}
-use Rattle.sync_state.specs.declared.answers.Verdict.TheVariants.{Corrected, SyncClique, AsyncClique}
-use Rattle.sync_state.specs.declared.state.State.TheVariants.{Integrating, Joining, Synchronised}
-use Rattle.sync_state.specs.declared.state.State.{State}
+use Rattle.std.specs.Prelude.{◌≡◌, List, false, true, ℕ}
+use Rattle.net_plan.specs.declared.{event.{Event.Event, What.TheVariants.On}, ids.DeviceId.DeviceId}
+use Rattle.sync_state.specs.declared.answers.Verdict.TheVariants.{AsyncClique, Corrected, SyncClique}
+use Rattle.sync_state.specs.declared.state.State.{State, TheVariants.{Integrating, Joining, Synchronised}}
 use Rattle.tte_units.specs.declared.units.Units.{Units}
+use Rattle.run_law.specs.{control.Corrections.ComesToCorrection, declared.judgement.Why.Why}
+use Rattle.run_law.specs.{device.States.{is_joined_by, state_before}, records.Causes.IsOfThisTime}
+use Rattle.run_law.specs.{records.Happenings.Happening, scenario.Scenarios.{Scenario, is_broken}}
+use Rattle.run_law.specs.declared.judgement.Why.TheVariants as whys
+use Rattle.run_law.specs.declared.note.NoteBody.TheVariants as notes
 
 -- the device changes its state, for this reason: an event turns it on; a frame tells it the time; a joiner has its
 -- first correction; or a correction point comes to one of the two cliques, which has no cause in the report

@@ -1,17 +1,10 @@
 -- What holds of all runs, and of all judgements by the fault hypothesis.
-use Rattle.std.specs.Prelude.{◌≡◌, ◌⊎◌, ℕ, List, [], ◌∷◌, ◌++◌}
-use Rattle.net_plan.specs.declared.event.Event.{Event}
-use Rattle.net_plan.specs.declared.ids.DeviceId.{DeviceId}
-use Rattle.net_plan.specs.declared.network.Network.{Network}
-use Rattle.run_law.specs.declared.note.Note.{Note}
-use Rattle.run_law.specs.declared.outside.Outside.{Outside}
-use Rattle.run_law.specs.records.Happenings.{Happening, happening, happenings}
-use Rattle.run_law.specs.records.Order.{IsBefore, behind}
-use Rattle.run_law.specs.records.Ranks.{place_of}
-use Rattle.run_law.specs.runs.DueRecords.{IsDue, IsRunOf, IsScenarioRun}
-use Rattle.run_law.specs.runs.Runs.{IsNextOf}
-use Rattle.run_law.specs.scenario.Hypothesis.{IsOutsideBy, IsWithinHypothesis}
-use Rattle.run_law.specs.scenario.Scenarios.{Scenario}
+use Rattle.std.specs.Prelude.{◌++◌, ◌∷◌, ◌≡◌, ◌⊎◌, List, [], ℕ}
+use Rattle.net_plan.specs.declared.{event.Event.Event, ids.DeviceId.DeviceId, network.Network.Network}
+use Rattle.run_law.specs.declared.{note.Note.Note, outside.Outside.Outside}
+use Rattle.run_law.specs.records.{Happenings.{Happening, happening, happenings}, Order.{IsBefore, behind}}
+use Rattle.run_law.specs.{records.Ranks.place_of, runs.{DueRecords.{IsDue, IsRunOf, IsScenarioRun}, Runs.IsNextOf}}
+use Rattle.run_law.specs.scenario.{Hypothesis.{IsOutsideBy, IsWithinHypothesis}, Scenarios.Scenario}
 
 -- there is one run of a network under the events up to a mark
 abbrev pub RunIsOne : Type 0

@@ -1,29 +1,19 @@
 -- What it is for a run to be safe up to a time.
-use Rattle.std.specs.Prelude.{◌≡◌, ◌≢◌, ◌⊎◌, ℕ, ◌+◌, ◌*◌, ◌≤◌, ◌<◌, ℤ, pos, ◌+ℤ◌, ◌≤ℤ◌, false, List, length, Some, slice_get}
 use Rattle.std.specs.Option.{option_map_or}
-use Rattle.net_plan.specs.Bounds.{IsGreatest}
-use Rattle.net_plan.specs.Places.{link_at, IsEndSystem}
-use Rattle.net_plan.specs.declared.ids.DeviceId.{DeviceId}
-use Rattle.net_plan.specs.declared.ids.LinkId.{LinkId}
-use Rattle.net_plan.specs.declared.ids.VlId.{VlId}
-use Rattle.net_plan.specs.declared.network.Network.{Network}
+use Rattle.std.specs.Prelude.{◌*◌, ◌+ℤ◌, ◌+◌, ◌<◌, ◌≡◌, ◌≢◌, ◌≤ℤ◌, ◌≤◌, ◌⊎◌, List, Some, false, length, pos, slice_get}
+use Rattle.std.specs.Prelude.{ℕ, ℤ}
+use Rattle.net_plan.specs.{Bounds.IsGreatest, Places.{IsEndSystem, link_at}, declared.ids.DeviceId.DeviceId}
+use Rattle.net_plan.specs.declared.{ids.{LinkId.LinkId, VlId.VlId}, network.Network.Network}
 use Rattle.net_plan.specs.declared.tables.VirtualLink.{VirtualLink}
-use Rattle.run_law.specs.declared.note.NoteBody.TheVariants as notes
-use Rattle.run_law.specs.declared.note.NoteBody.{NoteBody}
-use Rattle.run_law.specs.device.LocalClocks.{Reaches, local, local_before}
-use Rattle.run_law.specs.device.Standpoints.{offset_in_cycle}
-use Rattle.run_law.specs.device.States.{state_after, state_before}
-use Rattle.run_law.specs.records.Causes.{GoesBackTo}
-use Rattle.run_law.specs.records.Frames.{tt_frame_by}
-use Rattle.run_law.specs.records.Happenings.{Happening, time_of, up_to}
-use Rattle.run_law.specs.records.Order.{IsIn}
-use Rattle.run_law.specs.scenario.Scenarios.{Scenario, is_broken}
-use Rattle.schedule_tables.specs.Entries.{IsEntry, source_of, target_of}
-use Rattle.schedule_tables.specs.Windows.{OccursIn, window_end, window_of}
+use Rattle.schedule_tables.specs.{Entries.{IsEntry, source_of, target_of}, Windows.{OccursIn, window_end, window_of}}
 use Rattle.schedule_tables.specs.declared.entry.Entry.{Entry}
 use Rattle.sync_state.specs.declared.state.State.TheVariants.{Synchronised}
-use Rattle.tte_units.specs.Amount.{amount}
-use Rattle.tte_units.specs.OctetTime.{octet_time}
+use Rattle.tte_units.specs.{Amount.amount, OctetTime.octet_time}
+use Rattle.run_law.specs.{declared.note.NoteBody.NoteBody, device.LocalClocks.{Reaches, local, local_before}}
+use Rattle.run_law.specs.device.{Standpoints.offset_in_cycle, States.{state_after, state_before}}
+use Rattle.run_law.specs.records.{Causes.GoesBackTo, Frames.tt_frame_by, Happenings.{Happening, time_of, up_to}}
+use Rattle.run_law.specs.{records.Order.IsIn, scenario.Scenarios.{Scenario, is_broken}}
+use Rattle.run_law.specs.declared.note.NoteBody.TheVariants as notes
 
 -- ---- precision
 

@@ -1,30 +1,17 @@
 -- The run of the silent cycle, in which no frame is sent: it has the records of the events, and at the end one of
 -- each device's clock. The law says that this is the run.
-use Rattle.std.specs.Prelude.{◌≡◌, ◌↔◌, ℕ, ◌+◌, ◌/◌, ◌<◌, pos, ◌≤ℤ◌, List, [], ◌∷◌, length, Some}
-use Rattle.std.specs.List.{All}
-use Rattle.std.specs.Option.{unwrap_or}
+use Rattle.std.specs.{List.All, Option.unwrap_or}
+use Rattle.std.specs.Prelude.{◌+◌, ◌/◌, ◌<◌, ◌↔◌, ◌∷◌, ◌≡◌, ◌≤ℤ◌, List, Some, [], length, pos, ℕ}
 use Rattle.drift_clock.specs.ClockLaws.{KeepsClockLaws}
-use Rattle.net_plan.specs.Places.{device_at}
-use Rattle.net_plan.specs.Ranges.{IsInRange}
-use Rattle.net_plan.specs.declared.event.Event.{Event}
-use Rattle.net_plan.specs.declared.event.What.TheVariants.{On, Send}
-use Rattle.net_plan.specs.declared.event.What.{What}
-use Rattle.net_plan.specs.declared.ids.DeviceId.{DeviceId}
-use Rattle.net_plan.specs.declared.network.Network.{Network}
+use Rattle.net_plan.specs.{Places.device_at, Ranges.IsInRange, declared.event.{Event.Event, What.What}}
+use Rattle.net_plan.specs.declared.{event.What.TheVariants.{On, Send}, ids.DeviceId.DeviceId, network.Network.Network}
 use Rattle.net_plan.specs.declared.tables.Device.{Device}
-use Rattle.run_law.specs.declared.note.Note.{Note}
-use Rattle.run_law.specs.declared.note.NoteBody.TheVariants.{Event as Befalls, Clock}
-use Rattle.run_law.specs.declared.note.NoteBody.{NoteBody}
-use Rattle.run_law.specs.records.Order.{IsBefore}
-use Rattle.run_law.specs.records.Ranks.{key, rank}
-use Rattle.run_law.specs.runs.DueRecords.{EndsAt, IsEventRecord, IsRunOf}
-use Rattle.run_law.specs.runs.Runs.{IsRun}
-use Rattle.run_law.specs.scenario.Faults.{BeginsOn}
 use Rattle.schedule_tables.specs.Rules.{KeepsRules}
-use Rattle.sync_state.specs.declared.state.State.TheVariants.{Synchronised}
-use Rattle.sync_state.specs.declared.state.State.{State}
-use Rattle.tte_units.specs.Amount.{amount, units_of}
-use Rattle.tte_units.specs.declared.units.Units.{Units}
+use Rattle.sync_state.specs.declared.state.State.{State, TheVariants.Synchronised}
+use Rattle.tte_units.specs.{Amount.{amount, units_of}, declared.units.Units.Units}
+use Rattle.run_law.specs.declared.note.{Note.Note, NoteBody.{NoteBody, TheVariants.{Clock, Event as Befalls}}}
+use Rattle.run_law.specs.{records.{Order.IsBefore, Ranks.{key, rank}}, runs.DueRecords.{EndsAt, IsEventRecord, IsRunOf}}
+use Rattle.run_law.specs.{runs.Runs.IsRun, scenario.Faults.BeginsOn}
 
 -- where a record without a frame stands in the order
 abbrev pub silent_place : Note → List ℕ

@@ -1,6 +1,5 @@
 -- How far local clocks are apart.
-use Rattle.std.specs.Prelude.{◌≡◌, ◌⊎◌, pos, neg_ℤ, ◌+◌, ◌^◌, ◌-ℤ◌, ◌≤ℤ◌, List, []}
-use Rattle.std.specs.List.{All, Contains}
+use Rattle.std.specs.{List.{All, Contains}, Prelude.{◌+◌, ◌-ℤ◌, ◌^◌, ◌≡◌, ◌≤ℤ◌, ◌⊎◌, List, [], neg_ℤ, pos}}
 use Rattle.tte_units.specs.declared.units.Units.{Units}
 
 -- a local value in its range

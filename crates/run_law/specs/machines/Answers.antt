@@ -1,40 +1,25 @@
 -- What a device answers, and where each call leaves it.
-use Rattle.std.specs.Prelude.{◌≡◌, ℕ, ◌+ℤ◌, Bool, true, false, List, [], ◌∷◌, ◌++◌, Option, Some, option_to_list, option_map, if◌then◌else◌}
-use Rattle.compression.specs.Clusters.{Point, point_at}
-use Rattle.compression.specs.declared.compressed.Compressed.{Compressed}
-use Rattle.membership.specs.Hearing.{Hearing}
-use Rattle.membership.specs.Summary.{Summary, Summarizes}
-use Rattle.net_plan.specs.declared.ids.DeviceId.{DeviceId}
-use Rattle.net_plan.specs.declared.ids.LinkId.{LinkId}
-use Rattle.net_plan.specs.declared.ids.VlId.{VlId}
-use Rattle.net_plan.specs.declared.network.Network.{Network}
-use Rattle.pcf_values.specs.declared.channel.Channel.{Channel}
-use Rattle.pcf_values.specs.declared.members.Members.{Members}
-use Rattle.pcf_values.specs.declared.pcf.Pcf.{Pcf}
-use Rattle.run_law.specs.control.Arrivals.{control_arrival}
-use Rattle.run_law.specs.control.Collections.{master_of, observation_window}
-use Rattle.run_law.specs.control.Hearing.{heard_as}
-use Rattle.run_law.specs.control.Permanence.{IsPermanenceOutcome, ripe_as}
-use Rattle.run_law.specs.control.Wires.{Signal, control, timed}
-use Rattle.run_law.specs.declared.steps.Act.TheVariants as acts
-use Rattle.run_law.specs.declared.steps.Act.{Act}
-use Rattle.run_law.specs.declared.steps.Arrival.TheVariants as arrivals
-use Rattle.run_law.specs.declared.steps.Arrival.{Arrival}
-use Rattle.run_law.specs.declared.steps.Moment.{Moment}
-use Rattle.run_law.specs.declared.steps.Ripe.TheVariants as ripe
-use Rattle.run_law.specs.declared.steps.Ripe.{Ripe}
-use Rattle.run_law.specs.device.States.{is_synchronised}
-use Rattle.run_law.specs.machines.Nodes.{ClockTask, Node, Phase, sending, correcting, dispatching, acting, last_taken_by, local_at, standpoint_at}
-use Rattle.run_law.specs.machines.Tasks.{IsFirstTask, emitting, doing}
-use Rattle.run_law.specs.records.Frames.{dispatched_frame, integration_frame}
-use Rattle.run_law.specs.scenario.Devices.{channel_of, plan_of}
-use Rattle.run_law.specs.timed.Arrivals.{timed_arrival}
-use Rattle.sync_state.specs.Calls.{after, heard_frame, reached_point, turned_on}
-use Rattle.sync_state.specs.Integration.{joined_by}
-use Rattle.sync_state.specs.Verdicts.{HasVerdict}
-use Rattle.sync_state.specs.declared.answers.Verdict.TheVariants.{Corrected, SyncClique, AsyncClique, Cleared}
-use Rattle.sync_state.specs.declared.answers.Verdict.{Verdict}
+use Rattle.std.specs.Prelude.{if◌then◌else◌, ◌++◌, ◌+ℤ◌, ◌∷◌, ◌≡◌, Bool, List, Option, Some, [], false, option_map}
+use Rattle.std.specs.Prelude.{option_to_list, true, ℕ}
+use Rattle.compression.specs.{Clusters.{Point, point_at}, declared.compressed.Compressed.Compressed}
+use Rattle.membership.specs.{Hearing.Hearing, Summary.{Summarizes, Summary}}
+use Rattle.net_plan.specs.declared.{ids.{DeviceId.DeviceId, LinkId.LinkId, VlId.VlId}, network.Network.Network}
+use Rattle.pcf_values.specs.declared.{channel.Channel.Channel, members.Members.Members, pcf.Pcf.Pcf}
+use Rattle.sync_state.specs.{Calls.{after, heard_frame, reached_point, turned_on}, Integration.joined_by}
+use Rattle.sync_state.specs.{Verdicts.HasVerdict, declared.answers.Verdict.Verdict}
+use Rattle.sync_state.specs.declared.answers.Verdict.TheVariants.{AsyncClique, Cleared, Corrected, SyncClique}
 use Rattle.tte_units.specs.declared.units.Units.{Units}
+use Rattle.run_law.specs.control.{Arrivals.control_arrival, Collections.{master_of, observation_window}}
+use Rattle.run_law.specs.control.{Hearing.heard_as, Permanence.{IsPermanenceOutcome, ripe_as}}
+use Rattle.run_law.specs.{control.Wires.{Signal, control, timed}, declared.steps.{Act.Act, Arrival.Arrival}}
+use Rattle.run_law.specs.{declared.steps.{Moment.Moment, Ripe.Ripe}, device.States.is_synchronised}
+use Rattle.run_law.specs.machines.Nodes.{ClockTask, Node, Phase, acting, correcting, dispatching, last_taken_by}
+use Rattle.run_law.specs.machines.{Nodes.{local_at, sending, standpoint_at}, Tasks.{IsFirstTask, doing, emitting}}
+use Rattle.run_law.specs.{records.Frames.{dispatched_frame, integration_frame}, scenario.Devices.{channel_of, plan_of}}
+use Rattle.run_law.specs.timed.Arrivals.{timed_arrival}
+use Rattle.run_law.specs.declared.steps.Act.TheVariants as acts
+use Rattle.run_law.specs.declared.steps.Arrival.TheVariants as arrivals
+use Rattle.run_law.specs.declared.steps.Ripe.TheVariants as ripe
 
 -- the device after a call of this kind at the moment
 abbrev pub called : Moment → Phase → Node → Node

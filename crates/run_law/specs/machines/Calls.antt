@@ -1,22 +1,14 @@
 -- When a device may be called.
-use Rattle.std.specs.Prelude.{ℤ, ◌≡◌, ◌⊎◌, ℕ, ◌+◌, ◌^◌, ◌≤◌, pos, ◌+ℤ◌, ◌<ℤ◌, ◌≤ℤ◌, true, false, List, length, All, Ok, IsSomeAnd}
-use Rattle.net_plan.specs.Places.{link_at}
-use Rattle.net_plan.specs.Rules.{IsChildOf}
-use Rattle.net_plan.specs.declared.ids.DeviceId.{DeviceId}
-use Rattle.net_plan.specs.declared.ids.LinkId.{LinkId}
+use Rattle.std.specs.Prelude.{◌+ℤ◌, ◌+◌, ◌<ℤ◌, ◌^◌, ◌≡◌, ◌≤ℤ◌, ◌≤◌, ◌⊎◌, All, IsSomeAnd, List, Ok, false, length, pos}
+use Rattle.std.specs.Prelude.{true, ℕ, ℤ}
+use Rattle.net_plan.specs.{Places.link_at, Rules.IsChildOf, declared.ids.{DeviceId.DeviceId, LinkId.LinkId}}
 use Rattle.net_plan.specs.declared.network.Network.{Network}
-use Rattle.pcf_values.specs.declared.members.Members.{Members}
-use Rattle.pcf_values.specs.declared.pcf.Pcf.{Pcf}
-use Rattle.pcf_values.specs.declared.pcf.PcfKind.TheVariants.{Integration}
-use Rattle.run_law.specs.control.Permanence.{waits_for}
-use Rattle.run_law.specs.control.Wires.{control, signal_of}
-use Rattle.run_law.specs.declared.steps.Moment.{Moment}
-use Rattle.run_law.specs.device.States.{is_off}
-use Rattle.run_law.specs.machines.Nodes.{Node, Phase, turning_on, arriving, ripening, acting}
+use Rattle.pcf_values.specs.declared.{members.Members.Members, pcf.{Pcf.Pcf, PcfKind.TheVariants.Integration}}
+use Rattle.tte_units.specs.{Amount.amount, declared.units.Units.Units}
+use Rattle.run_law.specs.{control.{Permanence.waits_for, Wires.{control, signal_of}}, declared.steps.Moment.Moment}
+use Rattle.run_law.specs.{device.States.is_off, machines.Nodes.{Node, Phase, acting, arriving, ripening, turning_on}}
 use Rattle.run_law.specs.machines.Tasks.{IsPending, Task, reading_for}
 use Rattle.run_law.specs.scenario.Devices.{IsParentOf, is_end, member_of}
-use Rattle.tte_units.specs.Amount.{amount}
-use Rattle.tte_units.specs.declared.units.Units.{Units}
 
 -- the place of a kind of call among those of one instant
 abbrev pub order_of_phase : Phase → ℕ

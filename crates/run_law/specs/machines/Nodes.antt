@@ -1,19 +1,13 @@
 -- Where a device stands by itself: what it was given and what it has done, in whole lists.
-use Rattle.std.specs.Prelude.{ℕ, ℤ, ◌+ℤ◌, Bool, false, not, ◌&&◌, ◌==◌, List, [], filter, Option, None, option_map}
 use Rattle.std.specs.List.{last_or}
-use Rattle.compression.specs.Clusters.{Point}
-use Rattle.compression.specs.declared.compressed.Compressed.{Compressed}
+use Rattle.std.specs.Prelude.{◌&&◌, ◌+ℤ◌, ◌==◌, Bool, List, None, Option, [], false, filter, not, option_map, ℕ, ℤ}
+use Rattle.compression.specs.{Clusters.Point, declared.compressed.Compressed.Compressed}
 use Rattle.membership.specs.Hearing.{Hearing}
-use Rattle.net_plan.specs.declared.ids.DeviceId.{DeviceId}
-use Rattle.net_plan.specs.declared.ids.RowId.{RowId}
-use Rattle.net_plan.specs.declared.ids.VlId.{VlId}
-use Rattle.net_plan.specs.declared.network.Network.{Network}
-use Rattle.run_law.specs.declared.steps.Moment.{Moment}
-use Rattle.run_law.specs.device.Standpoints.{Standpoint}
-use Rattle.run_law.specs.device.States.{is_off}
-use Rattle.run_law.specs.scenario.Devices.{plan_of, start_of}
+use Rattle.net_plan.specs.declared.{ids.{DeviceId.DeviceId, RowId.RowId, VlId.VlId}, network.Network.Network}
 use Rattle.sync_state.specs.Standing.{Standing, begun}
 use Rattle.tte_units.specs.Amount.{amount, units_of}
+use Rattle.run_law.specs.{declared.steps.Moment.Moment, device.{Standpoints.Standpoint, States.is_off}}
+use Rattle.run_law.specs.scenario.Devices.{plan_of, start_of}
 
 -- the calls of one instant come in this order
 pub data Phase : Type 0 where

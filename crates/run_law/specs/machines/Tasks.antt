@@ -1,27 +1,17 @@
 -- What a device has still to do by itself.
-use Rattle.std.specs.Prelude.{◌≡◌, ◌⊎◌, ℕ, ◌+◌, ◌*◌, ◌≤◌, ℤ, pos, ◌-ℤ◌, ◌<ℤ◌, ◌≤ℤ◌, true, false, List, [], ◌∷◌, Option, Some, None, IsSomeAnd, slice_get}
-use Rattle.std.specs.List.{Contains}
-use Rattle.std.specs.Option.{option_map_or}
-use Rattle.compression.specs.Clusters.{AreClusters, Cluster}
-use Rattle.compression.specs.Emission.{compressed}
+use Rattle.std.specs.{List.Contains, Option.option_map_or}
+use Rattle.std.specs.Prelude.{◌*◌, ◌+◌, ◌-ℤ◌, ◌<ℤ◌, ◌∷◌, ◌≡◌, ◌≤ℤ◌, ◌≤◌, ◌⊎◌, IsSomeAnd, List, None, Option, Some, []}
+use Rattle.std.specs.Prelude.{false, pos, slice_get, true, ℕ, ℤ}
+use Rattle.compression.specs.{Clusters.{AreClusters, Cluster}, Emission.compressed}
 use Rattle.compression.specs.declared.compressed.Compressed.{Compressed}
-use Rattle.net_plan.specs.Places.{is_master}
-use Rattle.net_plan.specs.declared.ids.DeviceId.{DeviceId}
-use Rattle.net_plan.specs.declared.ids.RowId.{RowId}
-use Rattle.net_plan.specs.declared.network.Network.{Network}
-use Rattle.run_law.specs.control.Collections.{observation_window}
-use Rattle.run_law.specs.control.Corrections.{correction_value}
-use Rattle.run_law.specs.machines.Nodes.{ClockTask, Node, sending, correcting, dispatching, last_taken_frame}
-use Rattle.run_law.specs.records.Order.{IsBefore}
-use Rattle.run_law.specs.scenario.Devices.{has_role, is_cm, is_end}
-use Rattle.schedule_tables.specs.Dispatches.{dispatch_order}
-use Rattle.schedule_tables.specs.Entries.{IsEntry, source_of}
-use Rattle.schedule_tables.specs.Windows.{OccursIn}
+use Rattle.net_plan.specs.{Places.is_master, declared.{ids.{DeviceId.DeviceId, RowId.RowId}, network.Network.Network}}
+use Rattle.schedule_tables.specs.{Dispatches.dispatch_order, Entries.{IsEntry, source_of}, Windows.OccursIn}
 use Rattle.schedule_tables.specs.declared.entry.Entry.{Entry}
-use Rattle.sync_state.specs.Standing.{next_point}
-use Rattle.sync_state.specs.declared.state.State.TheVariants.{Synchronised}
-use Rattle.tte_units.specs.Amount.{amount}
-use Rattle.tte_units.specs.declared.units.Units.{Units}
+use Rattle.sync_state.specs.{Standing.next_point, declared.state.State.TheVariants.Synchronised}
+use Rattle.tte_units.specs.{Amount.amount, declared.units.Units.Units}
+use Rattle.run_law.specs.control.{Collections.observation_window, Corrections.correction_value}
+use Rattle.run_law.specs.machines.Nodes.{ClockTask, Node, correcting, dispatching, last_taken_frame, sending}
+use Rattle.run_law.specs.{records.Order.IsBefore, scenario.Devices.{has_role, is_cm, is_end}}
 
 -- a task: the frame of a collection to be sent, or a deed
 pub data Task : Type 0 where

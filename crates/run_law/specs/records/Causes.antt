@@ -1,9 +1,8 @@
 -- The causes of records, and where a chain of causes begins.
-use Rattle.std.specs.Prelude.{◌≡◌, ℕ, List, [], ◌∷◌, Option, Some, None}
+use Rattle.std.specs.Prelude.{◌∷◌, ◌≡◌, List, None, Option, Some, [], ℕ}
 use Rattle.net_plan.specs.declared.ids.DeviceId.{DeviceId}
+use Rattle.run_law.specs.{declared.note.NoteBody.NoteBody, records.Happenings.{Happening, numbered, time_of}}
 use Rattle.run_law.specs.declared.note.NoteBody.TheVariants as notes
-use Rattle.run_law.specs.declared.note.NoteBody.{NoteBody}
-use Rattle.run_law.specs.records.Happenings.{Happening, numbered, time_of}
 
 -- the number of the record that a record comes from, or 0
 abbrev pub cause_of : NoteBody → ℕ

@@ -1,17 +1,15 @@
 -- The records of a run with the frames that they are of. A record shows its frame by its cause, so the frames
 -- are found from the first record to the last.
-use Rattle.std.specs.Prelude.{ℕ, zero, suc, slice_get, ◌==◌, nat_lt, nat_le, List, [], ◌∷◌, ◌++◌, fold, filter, Option, Some, None, Result, Ok, Err, option_map, option_and_then, if◌then◌else◌}
 use Rattle.std.specs.Option.{option_map_or}
-use Rattle.net_plan.specs.declared.event.What.TheVariants.{Send}
-use Rattle.net_plan.specs.declared.network.Network.{Network}
-use Rattle.pcf_codec.specs.Decoding.{decoded}
-use Rattle.pcf_codec.specs.declared.refusal.PcfRefusal.{PcfRefusal}
+use Rattle.std.specs.Prelude.{if◌then◌else◌, ◌++◌, ◌==◌, ◌∷◌, Err, List, None, Ok, Option, Result, Some, [], filter}
+use Rattle.std.specs.Prelude.{fold, nat_le, nat_lt, option_and_then, option_map, slice_get, suc, zero, ℕ}
+use Rattle.net_plan.specs.declared.{event.What.TheVariants.Send, network.Network.Network}
+use Rattle.pcf_codec.specs.{Decoding.decoded, declared.refusal.PcfRefusal.PcfRefusal}
 use Rattle.pcf_values.specs.declared.pcf.Pcf.{Pcf}
-use Rattle.run_law.specs.declared.note.Note.{Note}
-use Rattle.run_law.specs.declared.note.NoteBody.TheVariants as notes
-use Rattle.run_law.specs.declared.note.NoteBody.{NoteBody}
-use Rattle.run_law.specs.records.Frames.{dispatched_frame, integration_frame, tt_frame}
 use Rattle.tte_units.specs.Amount.{amount}
+use Rattle.run_law.specs.declared.note.{Note.Note, NoteBody.NoteBody}
+use Rattle.run_law.specs.records.Frames.{dispatched_frame, integration_frame, tt_frame}
+use Rattle.run_law.specs.declared.note.NoteBody.TheVariants as notes
 
 -- a record, the protocol control frame that it is of, and the octets of the frame of a `send` event or of a
 -- time-triggered frame

@@ -1,5 +1,5 @@
 -- The order of records by their places, which are lists of numbers.
-use Rattle.std.specs.Prelude.{◌≡◌, ◌⊎◌, ℕ, ◌<◌, List, [], ◌∷◌, ◌++◌, Bool, true, false, nat_lt, ◌==◌, ◌&&◌, ◌||◌}
+use Rattle.std.specs.Prelude.{◌&&◌, ◌++◌, ◌<◌, ◌==◌, ◌||◌, ◌∷◌, ◌≡◌, ◌⊎◌, Bool, List, [], false, nat_lt, true, ℕ}
 
 -- the first place is before the second: their numbers are compared from the left, and a front of a place
 -- is before it

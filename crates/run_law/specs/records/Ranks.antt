@@ -1,11 +1,11 @@
 -- The order of the records: by time, then by kind, then by device, link and cause. Where a place has further
 -- numbers behind these, they part records that no run has at one place.
-use Rattle.std.specs.Prelude.{ℕ, ℤ, pos, negsuc, List, [], ◌∷◌}
-use Rattle.std.specs.Option.{option_map_or}
-use Rattle.run_law.specs.declared.note.NoteBody.TheVariants.{Event, Arrived, Permanent, Compressed, Sent, Corrected, State, Left, Lost, TtSent, Accepted, Delivered, Dropped, Clock}
-use Rattle.run_law.specs.declared.note.NoteBody.{NoteBody}
-use Rattle.run_law.specs.records.Happenings.{Happening, time_of}
+use Rattle.std.specs.{Option.option_map_or, Prelude.{◌∷◌, List, [], negsuc, pos, ℕ, ℤ}}
 use Rattle.tte_units.specs.Amount.{amount}
+use Rattle.run_law.specs.declared.note.NoteBody.{NoteBody}
+use Rattle.run_law.specs.declared.note.NoteBody.TheVariants.{Accepted, Arrived, Clock, Compressed, Corrected, Delivered}
+use Rattle.run_law.specs.declared.note.NoteBody.TheVariants.{Dropped, Event, Left, Lost, Permanent, Sent, State, TtSent}
+use Rattle.run_law.specs.records.Happenings.{Happening, time_of}
 
 -- the kinds of record at one time: an effect at the instant of its cause has the higher rank
 abbrev pub rank : NoteBody → ℕ

@@ -1,37 +1,19 @@
 -- When a record of a run is due, given those before it.
-use Rattle.std.specs.Prelude.{◌≡◌, ◌⊎◌, ℕ, ◌+◌, pos, ◌≤ℤ◌, ◌+ℤ◌, List, length, Some, slice_get}
-use Rattle.std.specs.List.{Contains}
-use Rattle.net_plan.specs.Places.{device_at}
-use Rattle.net_plan.specs.declared.event.Event.{Event}
-use Rattle.net_plan.specs.declared.event.What.TheVariants.{End}
-use Rattle.net_plan.specs.declared.event.What.{What}
-use Rattle.net_plan.specs.declared.ids.DeviceId.{DeviceId}
-use Rattle.net_plan.specs.declared.ids.LinkId.{LinkId}
-use Rattle.net_plan.specs.declared.network.Network.{Network}
-use Rattle.net_plan.specs.declared.tables.Device.{Device}
-use Rattle.net_plan.specs.declared.tables.Way.{Way}
+use Rattle.std.specs.{List.Contains, Prelude.{◌+ℤ◌, ◌+◌, ◌≡◌, ◌≤ℤ◌, ◌⊎◌, List, Some, length, pos, slice_get, ℕ}}
+use Rattle.net_plan.specs.{Places.device_at, declared.event.{Event.Event, What.{What, TheVariants.End}}}
+use Rattle.net_plan.specs.declared.{ids.{DeviceId.DeviceId, LinkId.LinkId}, network.Network.Network}
+use Rattle.net_plan.specs.declared.tables.{Device.Device, Way.Way}
 use Rattle.pcf_values.specs.declared.pcf.Pcf.{Pcf}
-use Rattle.run_law.specs.control.Corrections.{ComesToCorrection}
-use Rattle.run_law.specs.control.Emissions.{Emits}
-use Rattle.run_law.specs.control.Leaving.{Departs, leaves}
-use Rattle.run_law.specs.control.Losses.{IsDispatchedOn, IsLost, IsDropped}
-use Rattle.run_law.specs.control.Permanence.{BecomesPermanent, ripe_as}
-use Rattle.run_law.specs.declared.note.Note.{Note}
-use Rattle.run_law.specs.declared.note.NoteBody.TheVariants as notes
-use Rattle.run_law.specs.declared.note.NoteBody.{NoteBody}
-use Rattle.run_law.specs.declared.steps.Arrival.TheVariants as arrivals
-use Rattle.run_law.specs.device.StateChanges.{ChangesState}
+use Rattle.sync_state.specs.declared.{answers.Verdict.TheVariants.Corrected, state.State.State}
+use Rattle.tte_units.specs.{Amount.{amount, units_of}, declared.units.Units.Units}
+use Rattle.run_law.specs.control.{Corrections.ComesToCorrection, Emissions.Emits, Leaving.{Departs, leaves}}
+use Rattle.run_law.specs.control.{Losses.{IsDispatchedOn, IsDropped, IsLost}, Permanence.{BecomesPermanent, ripe_as}}
+use Rattle.run_law.specs.{declared.note.{Note.Note, NoteBody.NoteBody}, device.StateChanges.ChangesState}
 use Rattle.run_law.specs.device.States.{adjustment_after, adjustment_before, state_after}
-use Rattle.run_law.specs.records.Happenings.{Happening, happening, happenings, up_to}
-use Rattle.run_law.specs.records.Ranks.{place_of}
-use Rattle.run_law.specs.runs.Runs.{IsRun}
-use Rattle.run_law.specs.scenario.Scenarios.{Scenario}
-use Rattle.run_law.specs.timed.Dispatching.{Sends}
-use Rattle.run_law.specs.timed.Receptions.{ArrivesAs}
-use Rattle.sync_state.specs.declared.answers.Verdict.TheVariants.{Corrected}
-use Rattle.sync_state.specs.declared.state.State.{State}
-use Rattle.tte_units.specs.Amount.{amount, units_of}
-use Rattle.tte_units.specs.declared.units.Units.{Units}
+use Rattle.run_law.specs.records.{Happenings.{Happening, happening, happenings, up_to}, Ranks.place_of}
+use Rattle.run_law.specs.{runs.Runs.IsRun, scenario.Scenarios.Scenario, timed.{Dispatching.Sends, Receptions.ArrivesAs}}
+use Rattle.run_law.specs.declared.note.NoteBody.TheVariants as notes
+use Rattle.run_law.specs.declared.steps.Arrival.TheVariants as arrivals
 
 -- the record is that of the event of this line
 pub record IsEventRecord (events : List Event) (time : Units) (line : ℕ) (what : What) : Type 0 where

@@ -1,7 +1,7 @@
 -- What it is to be the run, for records of any kinds: each is due given those before it, and each that
 -- is due is there.
-use Rattle.std.specs.Prelude.{◌≡◌, ℕ, List, ◌∷◌, ◌++◌}
-use Rattle.run_law.specs.records.Order.{IsBefore, IsIn, AllBefore, NoneBefore}
+use Rattle.std.specs.Prelude.{◌++◌, ◌∷◌, ◌≡◌, List, ℕ}
+use Rattle.run_law.specs.records.Order.{AllBefore, IsBefore, IsIn, NoneBefore}
 
 -- each record stands behind those before it, and is due given them
 abbrev pub IsFounded : {N : Type 0} → (N → List ℕ) → (List N → N → Type 0) → List N → Type 0

@@ -1,13 +1,8 @@
 -- What the events have broken, turned on and cut.
-use Rattle.std.specs.Prelude.{◌≡◌, ◌⊎◌, List, ◌∷◌, ◌++◌, IsSomeAnd, IsNone, Any}
-use Rattle.net_plan.specs.Places.{device_at, link_at, IsSwitchOf}
-use Rattle.net_plan.specs.Rules.{HasOffSwitch}
-use Rattle.net_plan.specs.declared.event.Event.{Event}
-use Rattle.net_plan.specs.declared.event.What.TheVariants.{Cut, On, Break}
-use Rattle.net_plan.specs.declared.ids.DeviceId.{DeviceId}
-use Rattle.net_plan.specs.declared.ids.LinkId.{LinkId}
-use Rattle.net_plan.specs.declared.network.Network.{Network}
-use Rattle.net_plan.specs.declared.tables.Way.{Way}
+use Rattle.std.specs.Prelude.{◌++◌, ◌∷◌, ◌≡◌, ◌⊎◌, Any, IsNone, IsSomeAnd, List}
+use Rattle.net_plan.specs.{Places.{IsSwitchOf, device_at, link_at}, Rules.HasOffSwitch, declared.event.Event.Event}
+use Rattle.net_plan.specs.declared.{event.What.TheVariants.{Break, Cut, On}, ids.{DeviceId.DeviceId, LinkId.LinkId}}
+use Rattle.net_plan.specs.declared.{network.Network.Network, tables.Way.Way}
 use Rattle.pcf_values.specs.declared.channel.Channel.{Channel}
 
 -- the event breaks the device

@@ -1,22 +1,18 @@
 -- The fault hypothesis: which events may befall a network, given those before.
-use Rattle.std.specs.Prelude.{◌≡◌, ◌≢◌, ◌⊎◌, ℕ, pos, ◌*◌, ◌^◌, ◌<◌, ◌+ℤ◌, ◌<ℤ◌, unsigned_abs, Bool, true, false, ◌&&◌, not, is_some, ◌==◌, List, [], ◌∷◌, ◌++◌, IsSomeAnd}
 use Rattle.std.specs.List.{count_by, enumerate_from, list_any}
-use Rattle.net_plan.specs.Places.{device_at, link_at, is_master}
-use Rattle.net_plan.specs.declared.event.Event.{Event}
-use Rattle.net_plan.specs.declared.event.What.TheVariants as events
-use Rattle.net_plan.specs.declared.event.What.{What}
-use Rattle.net_plan.specs.declared.ids.DeviceId.{DeviceId}
-use Rattle.net_plan.specs.declared.ids.LinkId.{LinkId}
-use Rattle.net_plan.specs.declared.network.Network.{Network}
-use Rattle.net_plan.specs.declared.tables.Device.{Device}
-use Rattle.net_plan.specs.declared.tables.Way.{Way}
+use Rattle.std.specs.Prelude.{◌&&◌, ◌*◌, ◌++◌, ◌+ℤ◌, ◌<ℤ◌, ◌<◌, ◌==◌, ◌^◌, ◌∷◌, ◌≡◌, ◌≢◌, ◌⊎◌, Bool, IsSomeAnd, List}
+use Rattle.std.specs.Prelude.{[], false, is_some, not, pos, true, unsigned_abs, ℕ}
+use Rattle.net_plan.specs.{Places.{device_at, is_master, link_at}, declared.event.{Event.Event, What.What}}
+use Rattle.net_plan.specs.declared.{ids.{DeviceId.DeviceId, LinkId.LinkId}, network.Network.Network}
+use Rattle.net_plan.specs.declared.tables.{Device.Device, Way.Way}
 use Rattle.pcf_values.specs.declared.channel.Channel.{Channel}
-use Rattle.run_law.specs.declared.outside.Outside.TheVariants.{Order, Late, Rate, Wire, Hold, Channel as OtherChannel, NotMaster, SecondBreak, TooFewMasters, NotBroken, NotOff}
+use Rattle.tte_units.specs.{Amount.amount, declared.{rates.Ppb.Ppb, units.Units.Units}}
 use Rattle.run_law.specs.declared.outside.Outside.{Outside}
+use Rattle.run_law.specs.declared.outside.Outside.TheVariants.{Channel as OtherChannel, Hold, Late, NotBroken}
+use Rattle.run_law.specs.declared.outside.Outside.TheVariants.{NotMaster, NotOff, Order, Rate, SecondBreak}
+use Rattle.run_law.specs.declared.outside.Outside.TheVariants.{TooFewMasters, Wire}
 use Rattle.run_law.specs.scenario.Faults.{BeginsOn, Breaks, IsBroken, IsFaulty, IsLinkOf, IsTurnedOn}
-use Rattle.tte_units.specs.Amount.{amount}
-use Rattle.tte_units.specs.declared.rates.Ppb.{Ppb}
-use Rattle.tte_units.specs.declared.units.Units.{Units}
+use Rattle.net_plan.specs.declared.event.What.TheVariants as events
 
 -- the last of the events is later
 pub record ComesTooEarly (before : List Event) (event : Event) : Type 0 where

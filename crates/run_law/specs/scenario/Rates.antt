@@ -1,10 +1,8 @@
 -- The rates of a device's clock.
-use Rattle.std.specs.Prelude.{ℕ, ◌==◌, List, Option, Some, None, if◌then◌else◌}
-use Rattle.std.specs.List.{filter_map}
+use Rattle.std.specs.{List.filter_map, Prelude.{if◌then◌else◌, ◌==◌, List, None, Option, Some, ℕ}}
 use Rattle.drift_clock.specs.RateSteps.{RateStep}
-use Rattle.net_plan.specs.declared.event.Event.{Event}
-use Rattle.net_plan.specs.declared.event.What.TheVariants.{Rate, Wire, Hold, Cut, Heal, On, Break, Send, End}
-use Rattle.net_plan.specs.declared.event.What.{What}
+use Rattle.net_plan.specs.declared.event.{Event.Event, What.What}
+use Rattle.net_plan.specs.declared.event.What.TheVariants.{Break, Cut, End, Heal, Hold, On, Rate, Send, Wire}
 use Rattle.net_plan.specs.declared.ids.DeviceId.{DeviceId}
 use Rattle.tte_units.specs.Amount.{amount}
 

@@ -1,18 +1,12 @@
 -- The ways of the links: who sends and who receives on them, their delays and holds, and whether they are cut.
-use Rattle.std.specs.Prelude.{ℕ, Bool, true, false, ◌&&◌, ◌==◌, Option, Some, None, if◌then◌else◌, option_map}
 use Rattle.std.specs.Option.{option_map_or}
-use Rattle.net_plan.specs.Places.{link_at}
-use Rattle.net_plan.specs.declared.event.What.TheVariants.{Wire, Hold, Cut, Heal}
-use Rattle.net_plan.specs.declared.event.What.{What}
-use Rattle.net_plan.specs.declared.ids.DeviceId.{DeviceId}
-use Rattle.net_plan.specs.declared.ids.LinkId.{LinkId}
-use Rattle.net_plan.specs.declared.network.Network.{Network}
-use Rattle.net_plan.specs.declared.tables.Way.TheVariants.{Up, Down}
-use Rattle.net_plan.specs.declared.tables.Way.{Way}
-use Rattle.run_law.specs.scenario.Devices.{is_parent_of}
-use Rattle.run_law.specs.scenario.Scenarios.{Scenario, last_set}
+use Rattle.std.specs.Prelude.{if◌then◌else◌, ◌&&◌, ◌==◌, Bool, None, Option, Some, false, option_map, true, ℕ}
+use Rattle.net_plan.specs.{Places.link_at, declared.event.What.{What, TheVariants.{Cut, Heal, Hold, Wire}}}
+use Rattle.net_plan.specs.declared.{ids.{DeviceId.DeviceId, LinkId.LinkId}, network.Network.Network, tables.Way.Way}
+use Rattle.net_plan.specs.declared.tables.Way.TheVariants.{Down, Up}
 use Rattle.schedule_tables.specs.Entries.{target_by}
 use Rattle.tte_units.specs.Amount.{amount}
+use Rattle.run_law.specs.scenario.{Devices.is_parent_of, Scenarios.{Scenario, last_set}}
 
 -- are the two ways one?
 abbrev pub is_way : Way → Way → Bool

@@ -1,25 +1,16 @@
 -- How an arriving time-triggered frame is judged.
-use Rattle.std.specs.Prelude.{ℕ, ◌%◌, int_lt, nat_lt, nat_le, Bool, false, not, ◌&&◌, ◌||◌, ◌==◌, List, [], ◌∷◌, length, find, Option, Some, None, slice_get, option_map, option_and_then, if◌then◌else◌}
 use Rattle.std.specs.Option.{option_map_or}
-use Rattle.net_plan.specs.Places.{link_at}
-use Rattle.net_plan.specs.declared.ids.DeviceId.{DeviceId}
-use Rattle.net_plan.specs.declared.ids.LinkId.{LinkId}
-use Rattle.net_plan.specs.declared.ids.VlId.{VlId}
-use Rattle.net_plan.specs.declared.network.Network.{Network}
-use Rattle.net_plan.specs.declared.tables.Row.{Row}
-use Rattle.net_plan.specs.declared.tables.VirtualLink.{VirtualLink}
-use Rattle.pcf_codec.specs.EtherType.{least_type}
-use Rattle.pcf_codec.specs.Fields.{field}
-use Rattle.run_law.specs.declared.judgement.Reason.TheVariants as reasons
-use Rattle.run_law.specs.declared.judgement.Reason.{Reason}
-use Rattle.run_law.specs.declared.steps.Arrival.TheVariants.{Dropped, Accepted, Delivered}
-use Rattle.run_law.specs.declared.steps.Arrival.{Arrival}
+use Rattle.std.specs.Prelude.{if◌then◌else◌, ◌%◌, ◌&&◌, ◌==◌, ◌||◌, ◌∷◌, Bool, List, None, Option, Some, [], false}
+use Rattle.std.specs.Prelude.{find, int_lt, length, nat_le, nat_lt, not, option_and_then, option_map, slice_get, ℕ}
+use Rattle.net_plan.specs.{Places.link_at, declared.ids.{DeviceId.DeviceId, LinkId.LinkId, VlId.VlId}}
+use Rattle.net_plan.specs.declared.{network.Network.Network, tables.{Row.Row, VirtualLink.VirtualLink}}
+use Rattle.pcf_codec.specs.{EtherType.least_type, Fields.field}
+use Rattle.schedule_tables.specs.{Windows.window_of, declared.entry.Entry.Entry}
+use Rattle.run_law.specs.declared.{judgement.Reason.Reason, steps.Arrival.Arrival}
+use Rattle.run_law.specs.declared.steps.Arrival.TheVariants.{Accepted, Delivered, Dropped}
 use Rattle.run_law.specs.device.Standpoints.{Standpoint, clock_of, cycle_at, first_reason, offset_in_cycle}
-use Rattle.run_law.specs.device.States.{is_synchronised}
-use Rattle.run_law.specs.scenario.Devices.{is_end}
-use Rattle.run_law.specs.scenario.Ways.{is_way_of, way_to}
-use Rattle.schedule_tables.specs.Windows.{window_of}
-use Rattle.schedule_tables.specs.declared.entry.Entry.{Entry}
+use Rattle.run_law.specs.{device.States.is_synchronised, scenario.{Devices.is_end, Ways.{is_way_of, way_to}}}
+use Rattle.run_law.specs.declared.judgement.Reason.TheVariants as reasons
 
 -- does the virtual link occur in the cycle?
 abbrev pub occurs_in : VirtualLink → ℕ → Bool

@@ -1,23 +1,16 @@
 -- What a synchronised device dispatches.
-use Rattle.std.specs.Prelude.{◌≡◌, ◌⊎◌, ℕ, ◌+◌, ◌*◌, ◌≤◌, pos, ◌&&◌, ◌==◌, true, false, Bool, List, filter, Option, Some, None}
 use Rattle.std.specs.List.{last_or}
-use Rattle.net_plan.specs.Places.{is_master}
-use Rattle.net_plan.specs.declared.ids.DeviceId.{DeviceId}
-use Rattle.net_plan.specs.declared.ids.LinkId.{LinkId}
-use Rattle.net_plan.specs.declared.ids.VlId.{VlId}
+use Rattle.std.specs.Prelude.{◌&&◌, ◌*◌, ◌+◌, ◌==◌, ◌≡◌, ◌≤◌, ◌⊎◌, Bool, List, None, Option, Some, false, filter, pos}
+use Rattle.std.specs.Prelude.{true, ℕ}
+use Rattle.net_plan.specs.{Places.is_master, declared.ids.{DeviceId.DeviceId, LinkId.LinkId, VlId.VlId}}
 use Rattle.net_plan.specs.declared.network.Network.{Network}
-use Rattle.run_law.specs.declared.note.NoteBody.TheVariants as notes
-use Rattle.run_law.specs.declared.note.NoteBody.{NoteBody}
-use Rattle.run_law.specs.device.LocalClocks.{Reaches}
-use Rattle.run_law.specs.device.States.{state_before}
-use Rattle.run_law.specs.records.Happenings.{Happening, earlier}
-use Rattle.run_law.specs.scenario.Devices.{has_role, is_end}
-use Rattle.run_law.specs.scenario.Scenarios.{Scenario, is_broken}
-use Rattle.schedule_tables.specs.Entries.{IsEntry, source_of}
-use Rattle.schedule_tables.specs.Windows.{OccursIn}
-use Rattle.schedule_tables.specs.declared.entry.Entry.{Entry}
+use Rattle.schedule_tables.specs.{Entries.{IsEntry, source_of}, Windows.OccursIn, declared.entry.Entry.Entry}
 use Rattle.sync_state.specs.declared.state.State.TheVariants.{Synchronised}
 use Rattle.tte_units.specs.Amount.{amount}
+use Rattle.run_law.specs.{declared.note.NoteBody.NoteBody, device.{LocalClocks.Reaches, States.state_before}}
+use Rattle.run_law.specs.{records.Happenings.{Happening, earlier}, scenario.Devices.{has_role, is_end}}
+use Rattle.run_law.specs.scenario.Scenarios.{Scenario, is_broken}
+use Rattle.run_law.specs.declared.note.NoteBody.TheVariants as notes
 
 -- the device is synchronised and correct at the time
 pub record IsUp (s : Scenario) (hs : List Happening) (device : DeviceId) (t : ℕ) : Type 0 where

@@ -1,18 +1,13 @@
 -- What becomes of a frame that arrives, given the records before it.
-use Rattle.std.specs.Prelude.{◌≡◌, ℕ, Bool, false, ◌&&◌, ◌||◌, ◌==◌, nat_lt, List, filter, Option, Some, None, option_and_then}
 use Rattle.std.specs.List.{last_or}
-use Rattle.net_plan.specs.declared.ids.DeviceId.{DeviceId}
-use Rattle.net_plan.specs.declared.ids.LinkId.{LinkId}
-use Rattle.net_plan.specs.declared.ids.VlId.{VlId}
-use Rattle.run_law.specs.control.Arrivals.{control_arrival}
-use Rattle.run_law.specs.control.Wires.{Arrives, Signal, control, timed}
-use Rattle.run_law.specs.declared.note.NoteBody.TheVariants as notes
-use Rattle.run_law.specs.declared.note.NoteBody.{NoteBody}
-use Rattle.run_law.specs.declared.steps.Arrival.{Arrival}
-use Rattle.run_law.specs.device.Standpoints.{standpoint}
-use Rattle.run_law.specs.records.Happenings.{Happening, numbered, time_of}
-use Rattle.run_law.specs.scenario.Scenarios.{Scenario}
+use Rattle.std.specs.Prelude.{◌&&◌, ◌==◌, ◌||◌, ◌≡◌, Bool, List, None, Option, Some, false, filter, nat_lt}
+use Rattle.std.specs.Prelude.{option_and_then, ℕ}
+use Rattle.net_plan.specs.declared.ids.{DeviceId.DeviceId, LinkId.LinkId, VlId.VlId}
+use Rattle.run_law.specs.control.{Arrivals.control_arrival, Wires.{Arrives, Signal, control, timed}}
+use Rattle.run_law.specs.{declared.{note.NoteBody.NoteBody, steps.Arrival.Arrival}, device.Standpoints.standpoint}
+use Rattle.run_law.specs.{records.Happenings.{Happening, numbered, time_of}, scenario.Scenarios.Scenario}
 use Rattle.run_law.specs.timed.Arrivals.{timed_arrival}
+use Rattle.run_law.specs.declared.note.NoteBody.TheVariants as notes
 
 -- is the arrival of this link and cause, at one time, before that of the other?
 abbrev pub comes_before : LinkId → ℕ → LinkId → ℕ → Bool

@@ -1,10 +1,7 @@
-ghost use Rattle.std.specs.Prelude.{◌≡◌, ◌<◌, ◌≤◌, ◌↔◌, IfNone, IfSome, IsTrue, Some, length};
-ghost use Rattle.net_plan.specs.Paths.{IsUplink};
-ghost use Rattle.net_plan.specs.Places.{IsCmOf, IsRoleOf, IsSwitchOf};
-ghost use Rattle.net_plan.specs.Ranges.{IsInRange};
+ghost use Rattle.std.specs.Prelude.{◌<◌, ◌↔◌, ◌≡◌, ◌≤◌, IfNone, IfSome, IsTrue, Some, length};
+ghost use Rattle.net_plan.specs.{Paths.IsUplink, Places.{IsCmOf, IsRoleOf, IsSwitchOf}, Ranges.IsInRange};
 ghost use Rattle.net_plan.specs.Rules.{ExactlyOne, HasOneCm, IsChildOf, IsConnected, JoinsChildToSwitch};
-ghost use Rattle.schedule_checker.specs.Parts.{part_of_channel};
-ghost use Rattle.schedule_checker.specs.Shape.{IsConnectedOn, JoinsOn, LeadsToCmWithin};
+ghost use Rattle.schedule_checker.specs.{Parts.part_of_channel, Shape.{IsConnectedOn, JoinsOn, LeadsToCmWithin}};
 
 use crate::roles::is_end_system;
 use net_plan::{Device, DeviceId, Link, Network, Role};

@@ -1,7 +1,5 @@
-ghost use Rattle.std.specs.Prelude.{◌≡◌, ◌<◌, ◌≤◌, IfOk, length};
-ghost use Rattle.std.specs.List.{All};
-ghost use Rattle.net_plan.specs.NameText.{IsNameText};
-ghost use Rattle.net_plan.specs.Ranges.{IsDeviceInRange, IsInRange, IsLinkInRange, IsVlInRange};
+ghost use Rattle.std.specs.{List.All, Prelude.{◌<◌, ◌≡◌, ◌≤◌, IfOk, length}};
+ghost use Rattle.net_plan.specs.{NameText.IsNameText, Ranges.{IsDeviceInRange, IsInRange, IsLinkInRange, IsVlInRange}};
 ghost use Rattle.net_plan.specs.declared.network.Network.{Network};
 
 use net_plan::{

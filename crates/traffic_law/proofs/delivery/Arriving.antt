@@ -1,32 +1,12 @@
 -- When frames of the schedule arrive.
-use Rattle.std.proofs.Common.{◌≡◌, ◌⊎◌, ℕ, ◌+◌, ◌*◌, ◌≤◌, pos, ◌+ℤ◌, ◌≤ℤ◌, ◌<ℤ◌, Option, Some, inl, inr, ap, subst, arith}
-use Rattle.std.proofs.lemmas.Int.{by_lt_z, ints}
-use Rattle.std.specs.Option.{option_map_or}
-use Rattle.net_plan.specs.Places.{link_at}
-use Rattle.net_plan.specs.declared.event.Event.{Event}
-use Rattle.net_plan.specs.declared.ids.LinkId.{LinkId}
-use Rattle.net_plan.specs.declared.tables.Link.{Link}
-use Rattle.net_plan.specs.declared.tables.Way.{Way}
-use Rattle.precision_law.proofs.law.Together.{before_narrow, block_ends}
-use Rattle.precision_law.proofs.records.Views.{room}
-use Rattle.run_law.proofs.law.FirstDelays.{given, last_is, sets_wire}
-use Rattle.run_law.specs.declared.outside.Outside.TheVariants.{Wire}
-use Rattle.run_law.specs.law.FirstLaws.{IsLawful}
-use Rattle.run_law.specs.records.Happenings.{time_of}
-use Rattle.run_law.specs.records.Order.{IsIn}
-use Rattle.run_law.specs.scenario.Scenarios.{Scenario}
+use Rattle.traffic_law.proofs.Words.{◌*◌, ◌+ℤ◌, ◌+◌, ◌<ℤ◌, ◌≡◌, ◌≤ℤ◌, ◌≤◌, ◌⊎◌, BringsBlocks, Event, IsIn, IsInSpan, Link, LinkId, Option, Scenario, Some, Way}
+use Rattle.traffic_law.proofs.Words.{amount, ap, arith, arrives_at, before_narrow, block_ends, by_lt_z, closed, in_range, inl, inr, ints, link_at}
+use Rattle.traffic_law.proofs.Words.{option_map_or, pos, room, shown_at, subst, time_of, ℕ}
+use Rattle.run_law.{proofs.law.FirstDelays.{given, last_is, sets_wire}, specs.{declared.outside.Outside.TheVariants.Wire, law.FirstLaws.IsLawful}}
 use Rattle.run_law.specs.scenario.Ways.{delay_at, wire_of, wire_set}
-use Rattle.schedule_tables.proofs.EntryLemmas.{in_range}
 use Rattle.schedule_tables.specs.Windows.{arrival_of}
-use Rattle.traffic_law.proofs.ports.Dispatched.{dispatches_are_in_spans}
-use Rattle.traffic_law.proofs.schedule.Rows.{rows_are_in_time}
-use Rattle.traffic_law.proofs.schedule.Values.{cycle_whole, so_far, so_far_in}
-use Rattle.traffic_law.proofs.spans.Spans.{synchronised_keep_time}
-use Rattle.traffic_law.specs.Bringing.{BringsBlocks}
-use Rattle.traffic_law.specs.Passed.{ArrivalsAreInWindows, FramesArriveInSpans, arrives_at}
-use Rattle.traffic_law.specs.Spans.{IsInSpan, shown_at}
-use Rattle.tte_lemmas.proofs.Options.{closed}
-use Rattle.tte_units.specs.Amount.{amount}
+use Rattle.traffic_law.proofs.{ports.Dispatched.dispatches_are_in_spans, schedule.{Rows.rows_are_in_time, Values.{cycle_whole, so_far, so_far_in}}}
+use Rattle.traffic_law.{proofs.spans.Spans.synchronised_keep_time, specs.Passed.{ArrivalsAreInWindows, FramesArriveInSpans}}
 
 -- ---- wire delays
 

@@ -1,55 +1,18 @@
 -- Where the frames come from that devices take.
-use Rattle.std.proofs.Common.{◌≡◌, ℕ, zero, suc, ◌+◌, ◌*◌, ◌<◌, true, false, Bool, List, [], ◌∷◌, length, Option, Some, None, slice_get, inl, inr, refl, sym, ap, subst, ◌∙◌, arith}
-use Rattle.std.proofs.lemmas.Bool.{both_ways, cases_lt}
-use Rattle.std.proofs.lemmas.Int.{ints}
-use Rattle.std.specs.Option.{option_map_or}
-use Rattle.std.specs.Prelude.{if◌then◌else◌}
-use Rattle.net_plan.specs.Places.{link_at}
+use Rattle.traffic_law.proofs.Words.{if◌then◌else◌, ◌*◌, ◌+◌, ◌<◌, ◌∙◌, ◌∷◌, ◌≡◌, Bool, BringsBlocks, DeviceId, Entry, FieldsFit, Happening, HasGoodSources}
+use Rattle.traffic_law.proofs.Words.{IsEntry, IsGood, IsRowDispatch, IsTaking, IsTimedAt, IsView, KeepsRules, Link, LinkId, List, Network, None, NoteBody}
+use Rattle.traffic_law.proofs.Words.{Option, SendersAreBroken, Signal, Some, Up, View, VirtualLink, VlId, Way, [], ap, arith, arrives_at, begins_late}
+use Rattle.traffic_law.proofs.Words.{both_ways, cases_lt, cause_of, false, field, inl, inr, ints, is_broken, launched, length, link_at, numbered, octet_time}
+use Rattle.traffic_law.proofs.Words.{option_map_or, port_time, refl, same_some, slice_get, source_by, source_of, subst, suc, sym, time_of, timed, true}
+use Rattle.traffic_law.proofs.Words.{tt_frame_by, within_run, zero, ℕ}
 use Rattle.net_plan.specs.declared.event.What.TheVariants.{Send}
-use Rattle.net_plan.specs.declared.ids.DeviceId.{DeviceId}
-use Rattle.net_plan.specs.declared.ids.LinkId.{LinkId}
-use Rattle.net_plan.specs.declared.ids.VlId.{VlId}
-use Rattle.net_plan.specs.declared.network.Network.{Network}
-use Rattle.net_plan.specs.declared.tables.Link.{Link}
-use Rattle.net_plan.specs.declared.tables.VirtualLink.{VirtualLink}
-use Rattle.net_plan.specs.declared.tables.Way.TheVariants.{Up}
-use Rattle.net_plan.specs.declared.tables.Way.{Way}
-use Rattle.pcf_codec.specs.Fields.{field}
-use Rattle.precision_law.proofs.law.OnTime.{begins_late}
-use Rattle.precision_law.proofs.records.Points.{within_run}
-use Rattle.precision_law.specs.Views.{IsGood, IsView, View}
-use Rattle.run_law.specs.control.Wires.{Launch, Signal, launched, signal_of, time_on_port, timed}
-use Rattle.run_law.specs.declared.note.NoteBody.TheVariants as notes
-use Rattle.run_law.specs.declared.note.NoteBody.{NoteBody}
-use Rattle.run_law.specs.law.Safety.{IsFirstDispatch}
-use Rattle.run_law.specs.records.Causes.{cause_of}
-use Rattle.run_law.specs.records.Frames.{tt_frame_by}
-use Rattle.run_law.specs.records.Happenings.{Happening, numbered, time_of}
-use Rattle.run_law.specs.scenario.Scenarios.{is_broken}
-use Rattle.run_law.specs.scenario.Ways.{is_cut}
-use Rattle.schedule_tables.specs.Entries.{IsEntry, source_by, source_of}
-use Rattle.schedule_tables.specs.Rules.{KeepsRules}
-use Rattle.schedule_tables.specs.Windows.{port_time}
-use Rattle.schedule_tables.specs.declared.entry.Entry.{Entry}
+use Rattle.run_law.specs.{control.Wires.{Launch, signal_of, time_on_port}, law.Safety.IsFirstDispatch, scenario.Ways.is_cut}
 use Rattle.schedule_tables.specs.declared.rule.Rule.TheVariants.{VlIdsDiffer}
-use Rattle.traffic_law.proofs.delivery.Arriving.{arrivals_are_in_windows, frames_arrive_in_spans}
-use Rattle.traffic_law.proofs.delivery.Frames.{dispatch_shows}
-use Rattle.traffic_law.proofs.delivery.Taken.{left_control, put_on, takings_are_so}
-use Rattle.traffic_law.proofs.delivery.Whole.{octets_come_so}
-use Rattle.traffic_law.proofs.ports.Cycles.{hulls_grow}
-use Rattle.traffic_law.proofs.ports.Dispatched.{dispatches_are_of_rows}
-use Rattle.traffic_law.proofs.ports.Leavings.{hull_proper}
-use Rattle.traffic_law.proofs.schedule.Rows.{rows_go_once}
-use Rattle.traffic_law.specs.Bringing.{BringsBlocks}
-use Rattle.traffic_law.specs.Coming.{BeginsAtSender, DispatchesBegin, HasGoodSources, SpansAreApart, TakingsBegin, TakingsComeByRows}
-use Rattle.traffic_law.specs.Dispatched.{IsRowDispatch}
-use Rattle.traffic_law.specs.Fits.{FieldsFit}
-use Rattle.traffic_law.specs.Passed.{ArrivesInSpan, arrives_at}
-use Rattle.traffic_law.specs.Senders.{SendersAreBroken}
-use Rattle.traffic_law.specs.Spans.{IsTimedAt}
-use Rattle.traffic_law.specs.Taken.{IsTaking}
-use Rattle.tte_lemmas.proofs.Options.{one as same_some}
-use Rattle.tte_units.specs.OctetTime.{octet_time}
+use Rattle.traffic_law.proofs.delivery.{Arriving.{arrivals_are_in_windows, frames_arrive_in_spans}, Frames.dispatch_shows}
+use Rattle.traffic_law.proofs.{delivery.{Taken.{left_control, put_on, takings_are_so}, Whole.octets_come_so}, ports.Cycles.hulls_grow}
+use Rattle.traffic_law.proofs.{ports.{Dispatched.dispatches_are_of_rows, Leavings.hull_proper}, schedule.Rows.rows_go_once}
+use Rattle.traffic_law.specs.{Coming.{BeginsAtSender, DispatchesBegin, SpansAreApart, TakingsBegin, TakingsComeByRows}, Passed.ArrivesInSpan}
+use Rattle.run_law.specs.declared.note.NoteBody.TheVariants as notes
 
 -- ---- spans
 

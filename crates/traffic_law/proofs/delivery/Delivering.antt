@@ -1,70 +1,25 @@
 -- Each frame that is owed is delivered.
-use Rattle.std.proofs.Common.{◌≡◌, ℕ, zero, suc, ◌+◌, ◌-◌, ◌*◌, ◌<◌, ◌≤◌, ℤ, pos, ◌+ℤ◌, ◌≤ℤ◌, ◌<ℤ◌, false, List, [], ◌∷◌, max, Some, slice_get, inl, inr, refl, sym, ap, subst, ◌∙◌, arith}
-use Rattle.std.proofs.lemmas.Bool.{cases_lt}
-use Rattle.std.proofs.lemmas.Int.{ints}
-use Rattle.net_plan.specs.Bounds.{IsGreatest}
-use Rattle.net_plan.specs.Places.{IsEndSystem}
-use Rattle.net_plan.specs.Ranges.{IsInRange, IsVlInRange}
-use Rattle.net_plan.specs.declared.ids.DeviceId.{DeviceId}
-use Rattle.net_plan.specs.declared.ids.LinkId.{LinkId}
-use Rattle.net_plan.specs.declared.ids.VlId.{VlId}
-use Rattle.net_plan.specs.declared.network.Network.{Network}
-use Rattle.net_plan.specs.declared.tables.VirtualLink.{VirtualLink}
-use Rattle.precision_law.proofs.clocks.Epochs.{adjustment_stays, clocks_reach_sharply}
-use Rattle.precision_law.proofs.law.OnTime.{begins_late}
+use Rattle.traffic_law.proofs.Words.{◌*◌, ◌+ℤ◌, ◌+◌, ◌-◌, ◌<ℤ◌, ◌<◌, ◌∙◌, ◌∷◌, ◌≡◌, ◌≤ℤ◌, ◌≤◌, DeviceId, Entry, FieldsFit, Happening, HasGoodSources, IsDue}
+use Rattle.traffic_law.proofs.Words.{IsEntry, IsFounded, IsGood, IsIn, IsInSchedule, IsInSpan, IsOnChannel, IsTimedAt, IsView, Joints, LinkId, List, Network}
+use Rattle.traffic_law.proofs.Words.{Reaches, Scenario, Some, Synchronised, Units, View, VirtualLink, VlId, [], adjustment_after, adjustment_left}
+use Rattle.traffic_law.proofs.Words.{adjustment_stays, amount, ap, arith, arrives_at, begins_late, cases_lt, cause_of, clocks_reach_sharply, earlier}
+use Rattle.traffic_law.proofs.Words.{epoch_time, false, in_all, inl, inr, ints, is_broken, is_turned_on_at, numbered, numbered_in, offset_in_cycle, place_of}
+use Rattle.traffic_law.proofs.Words.{pos, reaches_by, refl, room, same_some, shown_at, slice_get, source_of, state_after, state_left, steady, subst, suc, sym}
+use Rattle.traffic_law.proofs.Words.{target_of, time_of, tt_frame_by, window_of, within_run, zero, ℕ, ℤ}
+use Rattle.std.proofs.Common.{max}
+use Rattle.net_plan.specs.{Bounds.IsGreatest, Places.IsEndSystem, Ranges.{IsInRange, IsVlInRange}}
 use Rattle.precision_law.proofs.law.Precision.{up_to_is, view_at, view_of}
-use Rattle.precision_law.proofs.records.Points.{within_run}
-use Rattle.precision_law.proofs.records.Views.{room, steady}
-use Rattle.precision_law.specs.Blocks.{adjustment_left, state_left}
-use Rattle.precision_law.specs.Epochs.{epoch_time}
-use Rattle.precision_law.specs.Views.{IsGood, IsView, View}
-use Rattle.run_law.proofs.device.States.{reaches_by}
-use Rattle.run_law.proofs.law.FirstPlaces.{by_number, number_is, numbered_in}
-use Rattle.run_law.proofs.scenario.Devices.{end_test}
-use Rattle.run_law.specs.declared.note.Note.{Note}
+use Rattle.run_law.{proofs.{law.FirstPlaces.{by_number, number_is}, scenario.Devices.end_test}, specs.declared.note.Note.Note}
+use Rattle.run_law.specs.{device.LocalClocks.local_before, law.Safety.{IsDelivered, IsInStep, IsOwed, IsRowInto, IsWindowEnd, ReachesPlace}}
+use Rattle.run_law.specs.records.{Causes.IsChain, Happenings.happenings}
+use Rattle.schedule_tables.specs.{Schedule.EntersOn, Windows.window_end, declared.rule.Rule.TheVariants.BothChannels}
+use Rattle.traffic_law.proofs.delivery.{Arriving.frames_arrive_in_spans, Coming.{dispatches_begin, takings_begin}, Once.delivered_once}
+use Rattle.traffic_law.proofs.delivery.{Receiving.{arrivals_are_taken, state_is}, Sent.{Brings, arrives_in_time, rows_are_sent}, Since.synchronised_before}
+use Rattle.traffic_law.proofs.{delivery.{Taken.takings_are_so, Takers.end_delivers}, faults.Channels.good_sources, ports.Cycles.same_next}
+use Rattle.traffic_law.proofs.{ports.Dispatched.{cycle_is, offset_in_schedule}, schedule.Rows.rows_are_in_time}
+use Rattle.traffic_law.{proofs.spans.Spans.{has_time_at, synchronised_keep_time, values_are_reached_in_spans}, specs.Delivered.IsSentIn}
+use Rattle.traffic_law.specs.{Ports.{IsRunTo, OwedFramesCome}, Spans.IsReachedInSpan}
 use Rattle.run_law.specs.declared.note.NoteBody.TheVariants as notes
-use Rattle.run_law.specs.device.LocalClocks.{Reaches, local_before}
-use Rattle.run_law.specs.device.Standpoints.{offset_in_cycle}
-use Rattle.run_law.specs.device.States.{adjustment_after, state_after}
-use Rattle.run_law.specs.law.Safety.{IsDelivered, IsInStep, IsOwed, IsRowInto, IsWindowEnd, ReachesPlace}
-use Rattle.run_law.specs.records.Causes.{IsChain, cause_of}
-use Rattle.run_law.specs.records.Frames.{tt_frame_by}
-use Rattle.run_law.specs.records.Happenings.{Happening, earlier, happenings, numbered, time_of}
-use Rattle.run_law.specs.records.Order.{IsIn}
-use Rattle.run_law.specs.records.Ranks.{place_of}
-use Rattle.run_law.specs.runs.DueRecords.{IsDue}
-use Rattle.run_law.specs.runs.Runs.{IsFounded}
-use Rattle.run_law.specs.scenario.Scenarios.{Scenario, is_broken, is_turned_on_at}
-use Rattle.schedule_tables.specs.Entries.{IsEntry, IsOnChannel, source_of, target_of}
-use Rattle.schedule_tables.specs.Schedule.{EntersOn}
-use Rattle.schedule_tables.specs.Windows.{window_end, window_of}
-use Rattle.schedule_tables.specs.declared.entry.Entry.{Entry}
-use Rattle.schedule_tables.specs.declared.rule.Rule.TheVariants.{BothChannels, Joints}
-use Rattle.sync_state.specs.declared.state.State.TheVariants.{Synchronised}
-use Rattle.traffic_law.proofs.delivery.Arriving.{frames_arrive_in_spans}
-use Rattle.traffic_law.proofs.delivery.Coming.{dispatches_begin, takings_begin}
-use Rattle.traffic_law.proofs.delivery.Once.{delivered_once}
-use Rattle.traffic_law.proofs.delivery.Receiving.{arrivals_are_taken, state_is}
-use Rattle.traffic_law.proofs.delivery.Sent.{Brings, arrives_in_time, rows_are_sent}
-use Rattle.traffic_law.proofs.delivery.Since.{synchronised_before}
-use Rattle.traffic_law.proofs.delivery.Taken.{takings_are_so}
-use Rattle.traffic_law.proofs.delivery.Takers.{end_delivers}
-use Rattle.traffic_law.proofs.faults.Channels.{good_sources}
-use Rattle.traffic_law.proofs.ports.Cycles.{same_next}
-use Rattle.traffic_law.proofs.ports.Dispatched.{cycle_is, offset_in_schedule}
-use Rattle.traffic_law.proofs.schedule.Rows.{rows_are_in_time}
-use Rattle.traffic_law.proofs.spans.Spans.{has_time_at, synchronised_keep_time, values_are_reached_in_spans}
-use Rattle.traffic_law.specs.Coming.{HasGoodSources}
-use Rattle.traffic_law.specs.Delivered.{IsSentIn}
-use Rattle.traffic_law.specs.Fits.{FieldsFit}
-use Rattle.traffic_law.specs.Passed.{arrives_at}
-use Rattle.traffic_law.specs.Ports.{IsRunTo, OwedFramesCome}
-use Rattle.traffic_law.specs.Rows.{IsInSchedule}
-use Rattle.traffic_law.specs.Spans.{IsInSpan, IsReachedInSpan, IsTimedAt, shown_at}
-use Rattle.tte_lemmas.proofs.Lists.{in_all}
-use Rattle.tte_lemmas.proofs.Options.{one as same_some}
-use Rattle.tte_units.specs.Amount.{amount}
-use Rattle.tte_units.specs.declared.units.Units.{Units}
 
 -- ---- what is owed, in the view of the run up to the end of the last window
 

@@ -1,33 +1,14 @@
 -- The row by which a frame of the schedule enters a device.
-use Rattle.std.proofs.Common.{◌≡◌, ℕ, zero, suc, ◌%◌, ◌≤◌, ◌≤ℤ◌, int_lt, Bool, true, false, not, ◌&&◌, ◌||◌, cond, List, [], ◌∷◌, find, Option, Some, None, nat_le, nat_lt, slice_get, refl, sym, ap, subst, ◌∙◌}
-use Rattle.std.proofs.lemmas.Bool.{eq-eqb, eqb-true, le-leb, le-ltb, not_from_true}
-use Rattle.std.specs.Option.{option_map_or}
-use Rattle.std.specs.Prelude.{◌==◌, option_map, option_and_then}
-use Rattle.net_plan.specs.Places.{link_at}
-use Rattle.net_plan.specs.declared.ids.DeviceId.{DeviceId}
-use Rattle.net_plan.specs.declared.ids.LinkId.{LinkId}
-use Rattle.net_plan.specs.declared.network.Network.{Network}
-use Rattle.net_plan.specs.declared.tables.Link.{Link}
+use Rattle.traffic_law.proofs.Words.{◌&&◌, ◌==◌, ◌||◌, ◌∙◌, ◌∷◌, ◌≡◌, ◌≤ℤ◌, ◌≤◌, Bool, DeviceId, Entry, IsEntry, KeepsRules, Link, LinkId, List, Network, None}
+use Rattle.traffic_law.proofs.Words.{OccursIn, Option, Reason, Some, Standpoint, VirtualLink, Way, [], ap, clock_of, cycle_at, entry_entering, eq-eqb, eqb-true}
+use Rattle.traffic_law.proofs.Words.{false, field, int_lt, is_synchronised, is_taken_in, le-ltb, link_at, nat_le, nat_lt, not, octets_fault, offset_in_cycle}
+use Rattle.traffic_law.proofs.Words.{option_and_then, option_map, option_map_or, refl, row_fault, slice_get, subst, suc, sym, true, way_to, window_of, zero, ℕ}
+use Rattle.std.proofs.{Common.{◌%◌, cond, find}, lemmas.Bool.{le-leb, not_from_true}}
 use Rattle.net_plan.specs.declared.tables.Row.{Row}
-use Rattle.net_plan.specs.declared.tables.VirtualLink.{VirtualLink}
-use Rattle.net_plan.specs.declared.tables.Way.{Way}
 use Rattle.pcf_codec.specs.EtherType.{least_type}
-use Rattle.pcf_codec.specs.Fields.{field}
-use Rattle.run_law.proofs.scenario.Ways.{way_itself}
-use Rattle.run_law.specs.declared.judgement.Reason.{Reason}
-use Rattle.run_law.specs.device.Standpoints.{Standpoint, clock_of, cycle_at, offset_in_cycle}
-use Rattle.run_law.specs.device.States.{is_synchronised}
-use Rattle.run_law.specs.scenario.Ways.{is_way, is_way_of, way_to}
-use Rattle.run_law.specs.timed.Arrivals.{entry_entering, entry_of, is_row_with, is_taken_in, occurs_in, octets_fault, row_entering, row_fault}
-use Rattle.schedule_tables.specs.Entries.{IsEntry}
-use Rattle.schedule_tables.specs.Rules.{KeepsRules}
-use Rattle.schedule_tables.specs.Windows.{OccursIn, window_of}
-use Rattle.schedule_tables.specs.declared.entry.Entry.{Entry}
-use Rattle.tte_lemmas.proofs.Integers.{not_below}
-use Rattle.tte_lemmas.proofs.Lists.{found_passes}
-use Rattle.traffic_law.proofs.delivery.Coming.{same_id}
-use Rattle.traffic_law.proofs.delivery.Faultless.{entering}
-use Rattle.traffic_law.proofs.schedule.Rows.{rows_go_once}
+use Rattle.run_law.{proofs.scenario.Ways.way_itself, specs.{scenario.Ways.{is_way, is_way_of}, timed.Arrivals.{entry_of, is_row_with, occurs_in, row_entering}}}
+use Rattle.tte_lemmas.proofs.{Integers.not_below, Lists.found_passes}
+use Rattle.traffic_law.proofs.{delivery.{Coming.same_id, Faultless.entering}, schedule.Rows.rows_go_once}
 
 -- ---- the row that is found
 

@@ -1,35 +1,16 @@
 -- What a device has found of a frame of the schedule that it takes.
-use Rattle.std.proofs.Common.{◌≡◌, ◌⊎◌, ℕ, ◌%◌, ◌≤ℤ◌, int_lt, Bool, true, false, not, ◌&&◌, ◌||◌, List, length, Option, Some, None, nat_le, slice_get, inl, inr, refl, sym, ap, ◌∙◌}
-use Rattle.std.proofs.lemmas.Bool.{and_parts, eqb-true, leb-true, not-false, or_parts}
-use Rattle.std.specs.Option.{option_map_or}
-use Rattle.std.specs.Prelude.{◌==◌, option_and_then, if◌then◌else◌}
-use Rattle.net_plan.proofs.SameIds.{one_link}
-use Rattle.net_plan.specs.Places.{link_at}
-use Rattle.net_plan.specs.declared.ids.DeviceId.{DeviceId}
-use Rattle.net_plan.specs.declared.ids.LinkId.{LinkId}
-use Rattle.net_plan.specs.declared.ids.VlId.{VlId}
-use Rattle.net_plan.specs.declared.network.Network.{Network}
-use Rattle.net_plan.specs.declared.tables.Row.{Row}
-use Rattle.net_plan.specs.declared.tables.VirtualLink.{VirtualLink}
-use Rattle.pcf_codec.specs.Fields.{field}
-use Rattle.run_law.proofs.control.Verdicts.{none_first}
-use Rattle.run_law.proofs.device.States.{is_in}
-use Rattle.run_law.proofs.scenario.Ways.{one_way}
-use Rattle.run_law.specs.declared.judgement.Reason.{Reason}
-use Rattle.run_law.specs.declared.steps.Arrival.TheVariants as arrivals
-use Rattle.run_law.specs.declared.steps.Arrival.{Arrival}
-use Rattle.run_law.specs.device.Standpoints.{Standpoint, clock_of, cycle_at, offset_in_cycle}
-use Rattle.run_law.specs.device.States.{is_synchronised}
-use Rattle.run_law.specs.scenario.Devices.{is_end}
-use Rattle.run_law.specs.scenario.Ways.{is_way, is_way_of, way_to}
-use Rattle.run_law.specs.timed.Arrivals.{entry_arrival, entry_entering, entry_of, is_row_with, is_taken_in, occurs_in, octets_fault, octets_or_fault, row_entering, row_fault, taken_or_fault, timed_arrival}
+use Rattle.traffic_law.proofs.Words.{if◌then◌else◌, ◌&&◌, ◌==◌, ◌||◌, ◌∙◌, ◌≡◌, ◌≤ℤ◌, ◌⊎◌, Arrival, Bool, DeviceId, Entry, IsEntry, LinkId, List, Network, None}
+use Rattle.traffic_law.proofs.Words.{OccursIn, Option, Reason, Some, Standpoint, Synchronised, VirtualLink, VlId, and_parts, ap, clock_of, cycle_at}
+use Rattle.traffic_law.proofs.Words.{entry_arrival, entry_entering, eqb-true, false, field, inl, inr, int_lt, is_end, is_synchronised, is_taken_in, length}
+use Rattle.traffic_law.proofs.Words.{link_at, nat_le, none_first, not, not_less, octets_fault, octets_or_fault, offset_in_cycle, option_and_then, option_map_or}
+use Rattle.traffic_law.proofs.Words.{refl, row_fault, slice_get, sym, taken_or_fault, timed_arrival, true, way_to, window_of, ℕ}
+use Rattle.std.proofs.{Common.◌%◌, lemmas.Bool.{leb-true, not-false, or_parts}}
+use Rattle.net_plan.{proofs.SameIds.one_link, specs.declared.tables.Row.Row}
+use Rattle.run_law.{proofs.{device.States.is_in, scenario.Ways.one_way}, specs.scenario.Ways.{is_way, is_way_of}}
+use Rattle.run_law.specs.timed.Arrivals.{entry_of, is_row_with, occurs_in, row_entering}
 use Rattle.schedule_tables.proofs.Entries.{entry_by}
-use Rattle.schedule_tables.specs.Entries.{IsEntry}
-use Rattle.schedule_tables.specs.Windows.{OccursIn, window_of}
-use Rattle.schedule_tables.specs.declared.entry.Entry.{Entry}
-use Rattle.sync_state.specs.declared.state.State.TheVariants.{Synchronised}
-use Rattle.tte_lemmas.proofs.Integers.{not_less}
 use Rattle.tte_lemmas.proofs.Lists.{find_at}
+use Rattle.run_law.specs.declared.steps.Arrival.TheVariants as arrivals
 
 -- ---- the row
 

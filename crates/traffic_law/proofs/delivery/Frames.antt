@@ -1,21 +1,11 @@
 -- What a frame of the schedule shows.
-use Rattle.std.proofs.Common.{◌≡◌, ℕ, ◌^◌, ◌<◌, List, [], ◌++◌, length, replicate, inl, inr, refl, sym, ap, ◌∙◌, ◌-◌, append_assoc, length-append, arith}
-use Rattle.byteorder.specs.Endian.{big_bytes}
-use Rattle.byteorder.specs.Numbers.{length-bytes_high_first}
-use Rattle.net_plan.specs.declared.ids.DeviceId.{DeviceId}
-use Rattle.net_plan.specs.declared.ids.LinkId.{LinkId}
-use Rattle.net_plan.specs.declared.ids.VlId.{VlId}
-use Rattle.net_plan.specs.declared.network.Network.{Network}
-use Rattle.net_plan.specs.declared.tables.VirtualLink.{VirtualLink}
+use Rattle.traffic_law.proofs.Words.{◌++◌, ◌-◌, ◌<◌, ◌∙◌, ◌≡◌, DeviceId, FieldsFit, Happening, IsRowDispatch, IsView, LinkId, List, Network, View, VirtualLink}
+use Rattle.traffic_law.proofs.Words.{VlId, [], ap, append_assoc, arith, field, inl, inr, length, refl, sym, tt_frame_by, ℕ}
+use Rattle.std.proofs.Common.{◌^◌, length-append, replicate}
+use Rattle.byteorder.specs.{Endian.big_bytes, Numbers.length-bytes_high_first}
 use Rattle.pcf_codec.proofs.Numbers.{read_behind}
-use Rattle.pcf_codec.specs.Fields.{field}
-use Rattle.precision_law.specs.Views.{IsView, View}
-use Rattle.run_law.specs.records.Frames.{mac_of, tt_frame_by}
-use Rattle.run_law.specs.records.Happenings.{Happening}
-use Rattle.traffic_law.proofs.delivery.Taken.{takings_are_so}
-use Rattle.traffic_law.proofs.delivery.Whole.{octets_come_so, same_vl}
-use Rattle.traffic_law.specs.Dispatched.{IsRowDispatch}
-use Rattle.traffic_law.specs.Fits.{FieldsFit}
+use Rattle.run_law.specs.records.Frames.{mac_of}
+use Rattle.traffic_law.proofs.delivery.{Taken.takings_are_so, Whole.{octets_come_so, same_vl}}
 
 -- the parts of the frame
 abbrev marker_part : Network → List ℕ

@@ -1,41 +1,15 @@
 -- A frame of the schedule is delivered once.
-use Rattle.std.proofs.Common.{◌≡◌, ℕ, Bool, true, false, ◌&&◌, ◌||◌, List, [], ◌∷◌, filter, Option, Some, None, nat_lt, inl, inr, refl, sym, ap, subst, ◌∙◌, arith}
-use Rattle.std.proofs.lemmas.Bool.{both_ways, cases_lt, eq-eqb, lt-ltb}
-use Rattle.std.specs.List.{last_or}
-use Rattle.std.specs.Prelude.{◌==◌, option_and_then}
-use Rattle.net_plan.specs.declared.ids.DeviceId.{DeviceId}
-use Rattle.net_plan.specs.declared.ids.LinkId.{LinkId}
-use Rattle.net_plan.specs.declared.ids.VlId.{VlId}
-use Rattle.net_plan.specs.declared.tables.Way.TheVariants.{Up, Down}
-use Rattle.net_plan.specs.declared.tables.Way.{Way}
-use Rattle.precision_law.specs.Views.{IsGood, IsView, View}
-use Rattle.run_law.proofs.law.FirstPlaces.{front_founded}
-use Rattle.run_law.proofs.runs.Lacking.{behind_first}
-use Rattle.run_law.proofs.runs.Places.{chain, either_way, in_left, in_parts, never_self}
-use Rattle.run_law.specs.declared.note.NoteBody.TheVariants as notes
-use Rattle.run_law.specs.declared.note.NoteBody.{NoteBody}
-use Rattle.run_law.specs.records.Happenings.{Happening, time_of}
-use Rattle.run_law.specs.records.Order.{IsBefore, IsIn}
-use Rattle.run_law.specs.records.Ranks.{key, members_in, place_of, rank}
-use Rattle.run_law.specs.runs.DueRecords.{IsDue}
-use Rattle.run_law.specs.runs.Runs.{IsFounded}
-use Rattle.run_law.specs.scenario.Devices.{is_end}
-use Rattle.run_law.specs.timed.Arrivals.{is_taken_in}
-use Rattle.run_law.specs.timed.Receptions.{comes_before, is_taken_before, last_taken, taken_cycle}
-use Rattle.schedule_tables.specs.Entries.{IsEntry, source_by, source_of, target_by, target_of}
-use Rattle.schedule_tables.specs.declared.entry.Entry.{Entry}
-use Rattle.schedule_tables.specs.declared.rule.Rule.TheVariants.{Joints}
-use Rattle.traffic_law.proofs.delivery.Coming.{spans_are_apart, takings_come_by_rows}
-use Rattle.traffic_law.proofs.delivery.Receiving.{says_so}
-use Rattle.traffic_law.proofs.delivery.Sent.{Brings, last_passes, no_later, none_last}
-use Rattle.traffic_law.proofs.delivery.Taken.{takings_are_so}
-use Rattle.traffic_law.proofs.delivery.Takers.{delivered_ends}
-use Rattle.traffic_law.proofs.faults.Channels.{switch_no_end}
-use Rattle.traffic_law.proofs.ports.OneDispatch.{same_by_place}
+use Rattle.traffic_law.proofs.Words.{◌&&◌, ◌==◌, ◌||◌, ◌∙◌, ◌∷◌, ◌≡◌, Bool, DeviceId, Down, Entry, FieldsFit, Happening, IsBefore, IsDue, IsEntry, IsFounded}
+use Rattle.traffic_law.proofs.Words.{IsGood, IsIn, IsInSpan, IsTaking, IsView, Joints, LinkId, List, None, NoteBody, Option, SaysTaken, Some, Up, View, VlId}
+use Rattle.traffic_law.proofs.Words.{Way, [], ap, arith, behind_first, both_ways, cases_lt, eq-eqb, false, filter, in_left, in_parts, inl, inr, is_end}
+use Rattle.traffic_law.proofs.Words.{is_taken_in, key, last_or, last_taken, lt-ltb, members_in, nat_lt, option_and_then, place_of, rank, refl, source_by}
+use Rattle.traffic_law.proofs.Words.{source_of, subst, sym, target_by, target_of, time_of, true, ℕ}
+use Rattle.run_law.proofs.{law.FirstPlaces.front_founded, runs.Places.{chain, either_way, never_self}}
+use Rattle.run_law.specs.timed.Receptions.{comes_before, is_taken_before, taken_cycle}
+use Rattle.traffic_law.proofs.delivery.{Coming.{spans_are_apart, takings_come_by_rows}, Receiving.says_so, Sent.{Brings, last_passes, no_later, none_last}}
+use Rattle.traffic_law.proofs.{delivery.{Taken.takings_are_so, Takers.delivered_ends}, faults.Channels.switch_no_end, ports.OneDispatch.same_by_place}
 use Rattle.traffic_law.proofs.spans.Corrected.{in_places, last_of}
-use Rattle.traffic_law.specs.Fits.{FieldsFit}
-use Rattle.traffic_law.specs.Spans.{IsInSpan}
-use Rattle.traffic_law.specs.Taken.{IsTaking, SaysTaken}
+use Rattle.run_law.specs.declared.note.NoteBody.TheVariants as notes
 
 -- ---- rows into end systems
 

@@ -1,70 +1,25 @@
 -- A dispatched frame that comes to a synchronised device is taken, or one was taken before.
-use Rattle.std.proofs.Common.{◌≡◌, ◌≢◌, ℕ, ◌+◌, ◌<◌, ◌≤◌, pos, ◌+ℤ◌, Bool, true, false, not, ◌&&◌, ◌||◌, List, [], ◌∷◌, ◌++◌, length, filter, Option, Some, None, nat_lt, inl, inr, refl, sym, ap, subst, ◌∙◌, arith}
-use Rattle.std.proofs.lemmas.Bool.{and_parts, eq-eqb, eqb-true, ltb-true, ne_eqb, or_cases}
-use Rattle.std.proofs.lemmas.Int.{ints}
-use Rattle.std.specs.List.{last_or}
-use Rattle.std.specs.Option.{option_map_or}
-use Rattle.std.specs.Prelude.{◌==◌, option_map, option_and_then, if◌then◌else◌}
-use Rattle.net_plan.proofs.SameIds.{one_device}
+use Rattle.traffic_law.proofs.Words.{if◌then◌else◌, ◌&&◌, ◌++◌, ◌+ℤ◌, ◌+◌, ◌<◌, ◌==◌, ◌||◌, ◌∙◌, ◌∷◌, ◌≡◌, ◌≢◌, ◌≤◌, Arrival, Bool, BringsBlocks}
+use Rattle.traffic_law.proofs.Words.{BringsChannels, DeviceId, Down, Entry, FieldsFit, Happening, Integrating, IsCaused, IsDue, IsGood, IsIn, IsRowDispatch}
+use Rattle.traffic_law.proofs.Words.{IsTimedAt, IsView, KeepsRules, Link, LinkId, List, Network, None, NoteBody, OccursIn, Option, SaysTaken, Scenario, Sizes}
+use Rattle.traffic_law.proofs.Words.{Some, Standpoint, State, Synchronised, Up, View, VlId, Way, [], adjustment_after, amount, and_parts, ap, arith, arrives_at}
+use Rattle.traffic_law.proofs.Words.{clock_of, cycle_at, earlier, entry_arrival, entry_entering, eq-eqb, eqb-true, false, field, filter, in_filter, in_left}
+use Rattle.traffic_law.proofs.Words.{in_range, inl, inr, ints, is_broken, is_end, is_synchronised, is_taken_in, is_turned_on_at, last_in, last_or, last_taken}
+use Rattle.traffic_law.proofs.Words.{launched, length, link_at, nat_lt, not, numbered, octets_fault, octets_or_fault, offset_in_cycle, one_device}
+use Rattle.traffic_law.proofs.Words.{option_and_then, option_map, option_map_or, place_of, pos, refl, room, row_fault, shown_at, source_by, split, standpoint}
+use Rattle.traffic_law.proofs.Words.{state_after, subst, sym, taken_or_fault, target_by, target_of, time_of, timed, timed_arrival, true, tt_frame_by, way_from}
+use Rattle.traffic_law.proofs.Words.{ℕ}
+use Rattle.std.proofs.lemmas.Bool.{ltb-true, ne_eqb, or_cases}
 use Rattle.net_plan.specs.Bounds.{gamma_of}
-use Rattle.net_plan.specs.Places.{link_at}
-use Rattle.net_plan.specs.declared.ids.DeviceId.{DeviceId}
-use Rattle.net_plan.specs.declared.ids.LinkId.{LinkId}
-use Rattle.net_plan.specs.declared.ids.VlId.{VlId}
-use Rattle.net_plan.specs.declared.network.Network.{Network}
-use Rattle.net_plan.specs.declared.tables.Link.{Link}
-use Rattle.net_plan.specs.declared.tables.Way.TheVariants.{Up, Down}
-use Rattle.net_plan.specs.declared.tables.Way.{Way}
-use Rattle.pcf_codec.specs.Fields.{field}
-use Rattle.precision_law.proofs.records.Points.{last_in}
-use Rattle.precision_law.proofs.records.Views.{room}
-use Rattle.precision_law.specs.Sizes.{Sizes}
-use Rattle.precision_law.specs.Views.{IsGood, IsView, View}
-use Rattle.run_law.proofs.law.FirstPlaces.{due_is_there, in_filter, same_earlier, split}
-use Rattle.run_law.proofs.law.FirstSent.{found_before}
-use Rattle.run_law.proofs.records.Order.{has_passed}
-use Rattle.run_law.proofs.runs.Places.{in_left}
-use Rattle.run_law.specs.control.Wires.{Arrives, launched, timed}
-use Rattle.run_law.specs.declared.note.Note.{Note}
+use Rattle.run_law.{proofs.{law.{FirstPlaces.{due_is_there, same_earlier}, FirstSent.found_before}, records.Order.has_passed}, specs.control.Wires.Arrives}
+use Rattle.run_law.specs.{declared.note.Note.Note, device.States.is_off, records.Happenings.happening, scenario.Ways.receiver_of, timed.Arrivals.taken_by}
+use Rattle.run_law.specs.timed.Receptions.{ArrivesAs, arrival_of, comes_before, is_taken_before, taken_cycle}
+use Rattle.tte_units.specs.Amount.{units_of}
+use Rattle.traffic_law.proofs.delivery.{Arriving.{arrivals_are_in_windows, delay_lies, frames_arrive_in_spans}, Coming.on_port}
+use Rattle.traffic_law.proofs.delivery.{Entering.{enters_by, octets_sound, row_sound}, Frames.frame_shows, Taken.{put_on, way_is}, Whole.dispatches_are_whole}
+use Rattle.traffic_law.{proofs.{ports.Ends.ends_differ, schedule.Rows.rows_are_in_time}, specs.Delivered.{ArrivalsAreTaken, HasTaken}}
 use Rattle.run_law.specs.declared.note.NoteBody.TheVariants as notes
-use Rattle.run_law.specs.declared.note.NoteBody.{NoteBody}
 use Rattle.run_law.specs.declared.steps.Arrival.TheVariants as arrivals
-use Rattle.run_law.specs.declared.steps.Arrival.{Arrival}
-use Rattle.run_law.specs.device.Standpoints.{Standpoint, clock_of, cycle_at, offset_in_cycle, standpoint}
-use Rattle.run_law.specs.device.States.{adjustment_after, is_off, is_synchronised, state_after}
-use Rattle.run_law.specs.records.Frames.{tt_frame_by}
-use Rattle.run_law.specs.records.Happenings.{Happening, earlier, happening, numbered, time_of}
-use Rattle.run_law.specs.records.Order.{IsIn}
-use Rattle.run_law.specs.records.Ranks.{place_of}
-use Rattle.run_law.specs.runs.DueRecords.{IsCaused, IsDue}
-use Rattle.run_law.specs.scenario.Devices.{is_end}
-use Rattle.run_law.specs.scenario.Scenarios.{Scenario, is_broken, is_turned_on_at}
-use Rattle.run_law.specs.scenario.Ways.{receiver_of, way_from}
-use Rattle.run_law.specs.timed.Arrivals.{entry_arrival, entry_entering, is_taken_in, octets_fault, octets_or_fault, row_fault, taken_by, taken_or_fault, timed_arrival}
-use Rattle.run_law.specs.timed.Receptions.{ArrivesAs, arrival_of, comes_before, is_taken_before, last_taken, taken_cycle}
-use Rattle.schedule_tables.proofs.EntryLemmas.{in_range}
-use Rattle.schedule_tables.specs.Entries.{source_by, target_by, target_of}
-use Rattle.schedule_tables.specs.Rules.{KeepsRules}
-use Rattle.schedule_tables.specs.Windows.{OccursIn}
-use Rattle.schedule_tables.specs.declared.entry.Entry.{Entry}
-use Rattle.sync_state.specs.declared.state.State.TheVariants.{Integrating, Synchronised}
-use Rattle.sync_state.specs.declared.state.State.{State}
-use Rattle.traffic_law.proofs.delivery.Arriving.{arrivals_are_in_windows, delay_lies, frames_arrive_in_spans}
-use Rattle.traffic_law.proofs.delivery.Coming.{on_port}
-use Rattle.traffic_law.proofs.delivery.Entering.{enters_by, octets_sound, row_sound}
-use Rattle.traffic_law.proofs.delivery.Frames.{frame_shows}
-use Rattle.traffic_law.proofs.delivery.Taken.{put_on, way_is}
-use Rattle.traffic_law.proofs.delivery.Whole.{dispatches_are_whole}
-use Rattle.traffic_law.proofs.ports.Ends.{ends_differ}
-use Rattle.traffic_law.proofs.schedule.Rows.{rows_are_in_time}
-use Rattle.traffic_law.specs.Bringing.{BringsBlocks, BringsChannels}
-use Rattle.traffic_law.specs.Delivered.{ArrivalsAreTaken, HasTaken}
-use Rattle.traffic_law.specs.Dispatched.{IsRowDispatch}
-use Rattle.traffic_law.specs.Fits.{FieldsFit}
-use Rattle.traffic_law.specs.Passed.{arrives_at}
-use Rattle.traffic_law.specs.Spans.{IsTimedAt, shown_at}
-use Rattle.traffic_law.specs.Taken.{SaysTaken}
-use Rattle.tte_units.specs.Amount.{amount, units_of}
 
 -- ---- ways
 

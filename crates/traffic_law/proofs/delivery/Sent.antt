@@ -1,73 +1,24 @@
 -- On the sound channel each row of a virtual link dispatches its frame.
-use Rattle.std.proofs.Common.{◌≡◌, ◌≢◌, ◌⊎◌, ℕ, zero, suc, ◌+◌, ◌*◌, ◌<◌, ◌≤◌, pos, Bool, true, List, [], ◌∷◌, filter, Option, Some, None, slice_get, inl, inr, refl, sym, ap, subst, ◌∙◌, arith}
-use Rattle.std.proofs.lemmas.Bool.{and_parts, cases_lt, eq-eqb}
-use Rattle.std.proofs.lemmas.Int.{ints}
-use Rattle.std.specs.List.{last_or}
-use Rattle.std.specs.Prelude.{◌==◌, if◌then◌else◌}
-use Rattle.net_plan.proofs.SameIds.{one_device}
-use Rattle.net_plan.specs.Places.{link_at, IsSwitchOf}
-use Rattle.net_plan.specs.declared.ids.DeviceId.{DeviceId}
-use Rattle.net_plan.specs.declared.ids.LinkId.{LinkId}
-use Rattle.net_plan.specs.declared.ids.VlId.{VlId}
-use Rattle.net_plan.specs.declared.tables.Link.{Link}
-use Rattle.net_plan.specs.declared.tables.VirtualLink.{VirtualLink}
-use Rattle.precision_law.proofs.clocks.Epochs.{clocks_reach_sharply}
-use Rattle.precision_law.proofs.law.Together.{before_narrow}
-use Rattle.precision_law.proofs.records.Points.{last_in}
-use Rattle.precision_law.proofs.records.Times.{in_kept, last_some}
-use Rattle.precision_law.proofs.records.Views.{room, steady}
-use Rattle.precision_law.specs.Blocks.{state_left}
-use Rattle.precision_law.specs.Epochs.{last_setting}
-use Rattle.precision_law.specs.Hulls.{Hull}
-use Rattle.precision_law.specs.Views.{IsGood, IsSoundSwitch, IsView, View}
-use Rattle.run_law.proofs.device.States.{reaches_by}
-use Rattle.run_law.proofs.law.FirstPlaces.{due_is_there, in_filter, same_earlier, split}
-use Rattle.run_law.proofs.records.Happenings.{from_earlier, is_earlier}
-use Rattle.run_law.proofs.records.Order.{has_passed}
-use Rattle.run_law.specs.control.Losses.{IsDispatchedOn}
-use Rattle.run_law.specs.declared.note.NoteBody.TheVariants as notes
-use Rattle.run_law.specs.declared.note.NoteBody.{NoteBody}
-use Rattle.run_law.specs.device.LocalClocks.{Reaches}
-use Rattle.run_law.specs.device.States.{state_after, state_before}
-use Rattle.run_law.specs.records.Frames.{tt_frame_by}
-use Rattle.run_law.specs.records.Happenings.{Happening, earlier, happening, time_of}
-use Rattle.run_law.specs.records.Order.{IsBefore, IsIn}
-use Rattle.run_law.specs.records.Ranks.{place_of}
-use Rattle.run_law.specs.runs.DueRecords.{IsDue}
-use Rattle.run_law.specs.scenario.Faults.{IsLinkOf}
-use Rattle.run_law.specs.scenario.Scenarios.{is_turned_on_at}
-use Rattle.run_law.specs.scenario.Ways.{way_from}
-use Rattle.run_law.specs.timed.Dispatching.{HasAtHand, is_accepted, last_accepted}
-use Rattle.schedule_tables.proofs.Entries.{same_or_other}
-use Rattle.schedule_tables.proofs.EntryLemmas.{in_range}
-use Rattle.schedule_tables.specs.Entries.{IsEntry, IsOnChannel, source_of, target_of}
-use Rattle.schedule_tables.specs.Windows.{OccursIn, window_end}
-use Rattle.schedule_tables.specs.declared.entry.Entry.{Entry}
-use Rattle.schedule_tables.specs.declared.rule.Rule.TheVariants.{Forwarding, Sources}
-use Rattle.sync_state.specs.declared.state.State.TheVariants.{Integrating, Synchronised}
-use Rattle.traffic_law.proofs.delivery.Arriving.{delay_lies, frames_arrive_in_spans}
-use Rattle.traffic_law.proofs.delivery.Coming.{dispatches_begin, spans_are_apart, takings_come_by_rows}
-use Rattle.traffic_law.proofs.delivery.Receiving.{arrivals_are_taken, one_vl, next_due, next_note, state_is}
-use Rattle.traffic_law.proofs.delivery.Taken.{takings_are_so}
-use Rattle.traffic_law.proofs.delivery.Takers.{switch_accepts}
-use Rattle.traffic_law.proofs.faults.Channels.{source_on, switch_channel, switch_no_end, target_on}
-use Rattle.traffic_law.proofs.ports.Cycles.{same_hull}
+use Rattle.traffic_law.proofs.Words.{if◌then◌else◌, ◌*◌, ◌+◌, ◌<◌, ◌==◌, ◌∙◌, ◌∷◌, ◌≡◌, ◌≢◌, ◌≤◌, ◌⊎◌, Bool, BringsBlocks, BringsChannels, DeviceId, Entry}
+use Rattle.traffic_law.proofs.Words.{FieldsFit, Happening, HasGoodSources, Hull, Integrating, IsBefore, IsDue, IsEntry, IsGood, IsIn, IsInSpan, IsOnChannel}
+use Rattle.traffic_law.proofs.Words.{IsRowDispatch, IsSwitchOf, IsTimedAt, IsView, Link, LinkId, List, None, NoteBody, OccursIn, Option, Reaches}
+use Rattle.traffic_law.proofs.Words.{SendersAreBroken, Some, Synchronised, TimedAreNotTurnedOn, View, VirtualLink, VlId, [], amount, and_parts, ap, arith}
+use Rattle.traffic_law.proofs.Words.{arrives_at, before_narrow, cases_lt, clocks_reach_sharply, closed, earlier, eq-eqb, filter, in_filter, in_range, inl, inr}
+use Rattle.traffic_law.proofs.Words.{ints, is_accepted, is_turned_on_at, last_accepted, last_in, last_or, last_setting, link_at, one_device, place_of, pos}
+use Rattle.traffic_law.proofs.Words.{reaches_by, refl, room, same_some, slice_get, source_of, split, state_after, state_before, state_left, steady, subst, suc}
+use Rattle.traffic_law.proofs.Words.{sym, target_of, time_of, true, tt_frame_by, way_from, zero, ℕ}
+use Rattle.precision_law.{proofs.records.Times.{in_kept, last_some}, specs.Views.IsSoundSwitch}
+use Rattle.run_law.proofs.{law.FirstPlaces.{due_is_there, same_earlier}, records.{Happenings.{from_earlier, is_earlier}, Order.has_passed}}
+use Rattle.run_law.specs.{control.Losses.IsDispatchedOn, records.Happenings.happening, scenario.Faults.IsLinkOf, timed.Dispatching.HasAtHand}
+use Rattle.schedule_tables.{proofs.Entries.same_or_other, specs.{Windows.window_end, declared.rule.Rule.TheVariants.{Forwarding, Sources}}}
+use Rattle.traffic_law.proofs.delivery.{Arriving.{delay_lies, frames_arrive_in_spans}, Coming.{dispatches_begin, spans_are_apart, takings_come_by_rows}}
+use Rattle.traffic_law.proofs.delivery.{Receiving.{arrivals_are_taken, next_due, next_note, one_vl, state_is}, Taken.takings_are_so, Takers.switch_accepts}
+use Rattle.traffic_law.proofs.{faults.Channels.{source_on, switch_channel, switch_no_end, target_on}, ports.Cycles.same_hull}
 use Rattle.traffic_law.proofs.ports.Dispatched.{cycle_is, dispatches_are_in_spans, dispatches_are_of_rows, offset_in_schedule, one_clock}
-use Rattle.traffic_law.proofs.schedule.Rows.{rows_are_in_time, rows_go_once}
-use Rattle.traffic_law.proofs.spans.Corrected.{earlier_founded, in_places, last_of}
-use Rattle.traffic_law.proofs.spans.Forward.{synchronised_stay_so}
-use Rattle.traffic_law.proofs.spans.Reaching.{set_before, values_are_reached}
-use Rattle.traffic_law.proofs.spans.Spans.{has_time_at}
-use Rattle.traffic_law.specs.Bringing.{BringsBlocks, BringsChannels}
-use Rattle.traffic_law.specs.Coming.{HasGoodSources}
-use Rattle.traffic_law.specs.Delivered.{IsRowSent, IsSentIn, RowsAreSent, SoundSwitchesKeepTime}
-use Rattle.traffic_law.specs.Dispatched.{IsRowDispatch}
-use Rattle.traffic_law.specs.Fits.{FieldsFit}
-use Rattle.traffic_law.specs.Passed.{arrives_at}
-use Rattle.traffic_law.specs.Senders.{SendersAreBroken, TimedAreNotTurnedOn}
-use Rattle.traffic_law.specs.Spans.{IsInSpan, IsTimedAt, ReachesInSpan}
-use Rattle.tte_lemmas.proofs.Options.{closed, one as same_some}
-use Rattle.tte_units.specs.Amount.{amount}
+use Rattle.traffic_law.proofs.{schedule.Rows.{rows_are_in_time, rows_go_once}, spans.Corrected.{earlier_founded, in_places, last_of}}
+use Rattle.traffic_law.proofs.spans.{Forward.synchronised_stay_so, Reaching.{set_before, values_are_reached}, Spans.has_time_at}
+use Rattle.traffic_law.specs.{Delivered.{IsRowSent, IsSentIn, RowsAreSent, SoundSwitchesKeepTime}, Spans.ReachesInSpan}
+use Rattle.run_law.specs.declared.note.NoteBody.TheVariants as notes
 
 -- all of these at once
 pub record Brings : Type 0 where

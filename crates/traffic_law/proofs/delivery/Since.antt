@@ -1,41 +1,15 @@
 -- A device that is synchronised right after its clock reaches its schedule was so before.
-use Rattle.std.proofs.Common.{◌≡◌, ℕ, suc, ◌+◌, ◌*◌, ◌≤◌, ◌<◌, ℤ, pos, List, ◌∷◌, ◌++◌, inl, inr, refl, sym, ap, subst, ◌∙◌, arith, suc-mul}
-use Rattle.std.proofs.Math.Nat.{mul-le-mul_right}
-use Rattle.std.proofs.lemmas.Bool.{cases_lt}
-use Rattle.std.proofs.lemmas.Int.{ints}
-use Rattle.std.proofs.lemmas.List.Sums.{fold-append}
-use Rattle.std.specs.Prelude.{◌==◌, if◌then◌else◌}
-use Rattle.net_plan.proofs.SameIds.{one_device}
-use Rattle.net_plan.specs.declared.ids.DeviceId.{DeviceId}
-use Rattle.precision_law.proofs.clocks.Epochs.{clocks_reach_sharply}
-use Rattle.precision_law.proofs.records.Points.{before_of, earlier_before}
-use Rattle.precision_law.proofs.records.Times.{between, earlier_parts, in_between}
-use Rattle.precision_law.proofs.records.Views.{in_order, room}
-use Rattle.precision_law.specs.Blocks.{state_left}
-use Rattle.precision_law.specs.Sizes.{Sizes}
-use Rattle.precision_law.specs.Views.{IsView, View}
-use Rattle.run_law.proofs.device.States.{reaches_by}
-use Rattle.run_law.proofs.law.FirstPlaces.{IsFoundedAt, founded_at, numbered_in}
-use Rattle.run_law.proofs.runs.Places.{in_left}
+use Rattle.traffic_law.proofs.Words.{◌*◌, ◌++◌, ◌+◌, ◌==◌, ◌∙◌, ◌∷◌, ◌≡◌, ◌≤◌, DeviceId, Happening, IsCaused, IsFoundedAt, IsIn, IsInSchedule, IsView, Joining}
+use Rattle.traffic_law.proofs.Words.{List, NoteBody, Reaches, Sizes, State, Synchronised, Units, View, amount, ap, arith, before_of, between, cases_lt}
+use Rattle.traffic_law.proofs.Words.{clocks_reach_sharply, earlier, earlier_before, earlier_parts, fold-append, founded_at, in_between, in_left, in_order, inl}
+use Rattle.traffic_law.proofs.Words.{inr, ints, numbered_in, one_device, pos, reaches_by, room, start_of, state_after, state_at_start, state_left, state_with}
+use Rattle.traffic_law.proofs.Words.{subst, suc, sym, time_of, ℕ, ℤ}
+use Rattle.std.proofs.{Common.suc-mul, Math.Nat.mul-le-mul_right}
 use Rattle.run_law.specs.control.Corrections.{correction_value}
+use Rattle.traffic_law.proofs.{ports.Dispatched.cycle_is, spans.Synchronised.{Keeps, kept_by_all, kept_if}}
 use Rattle.run_law.specs.declared.judgement.Judgement.TheVariants as judgements
 use Rattle.run_law.specs.declared.judgement.Why.TheVariants as whys
 use Rattle.run_law.specs.declared.note.NoteBody.TheVariants as notes
-use Rattle.run_law.specs.declared.note.NoteBody.{NoteBody}
-use Rattle.run_law.specs.device.LocalClocks.{Reaches}
-use Rattle.run_law.specs.device.States.{state_after, state_with}
-use Rattle.run_law.specs.records.Happenings.{Happening, earlier, time_of}
-use Rattle.run_law.specs.records.Order.{IsIn}
-use Rattle.run_law.specs.runs.DueRecords.{IsCaused}
-use Rattle.run_law.specs.scenario.Devices.{start_of}
-use Rattle.sync_state.specs.Standing.{state_at_start}
-use Rattle.sync_state.specs.declared.state.State.TheVariants.{Joining, Synchronised}
-use Rattle.sync_state.specs.declared.state.State.{State}
-use Rattle.traffic_law.proofs.ports.Dispatched.{cycle_is}
-use Rattle.traffic_law.proofs.spans.Synchronised.{Keeps, kept_by_all, kept_if}
-use Rattle.traffic_law.specs.Rows.{IsInSchedule}
-use Rattle.tte_units.specs.Amount.{amount}
-use Rattle.tte_units.specs.declared.units.Units.{Units}
 
 -- ---- a correction point is no place of the schedule
 
@@ -77,14 +51,16 @@ none_there : (v : View) (device : DeviceId) (n value t : ℕ) → IsView v → I
 none_there v device n value t is within reaches g cycle by adjustment there same body =
     let s = v.scenario in
     let found = founded_at s v.records g is.run.founded there in
-    let cause : IsCaused s found.front g.note.time (notes.Corrected device cycle by adjustment) = subst (IsCaused s found.front g.note.time) body found.due.cause in
+    let cause : IsCaused s found.front g.note.time (notes.Corrected device cycle by adjustment) =
+    subst (IsCaused s found.front g.note.time) body found.due.cause in
     let value_is : correction_value s.network cycle ≡ pos (cycle * v.sizes.cycle + v.sizes.correction) =
     ap (λ (k : ℕ). pos (cycle * k + amount s.network.correction)) (sym (cycle_is v is))
     ∙ ap (λ (k : ℕ). pos (cycle * v.sizes.cycle + k)) (sym (ap (λ (x : Sizes). x.correction) is.sizes)) in
     let reached : Reaches s v.records device (correction_value s.network cycle) (time_of g) =
     reaches_by s found.front v.records device (correction_value s.network cycle) (time_of g)
     (earlier_before v (time_of g) found.front (before_of v g is found)) cause.corrected.reached in
-    let at : Reaches s v.records device (correction_value s.network cycle) t = subst (Reaches s v.records device (correction_value s.network cycle)) same reached in
+    let at : Reaches s v.records device (correction_value s.network cycle) t =
+    subst (Reaches s v.records device (correction_value s.network cycle)) same reached in
     apart v device n value cycle t is within reaches (subst (λ (x : ℤ). Reaches s v.records device x t) value_is at)
 
 -- without one no record of the time makes it synchronised

@@ -1,55 +1,22 @@
 -- The records by which devices take frames of the schedule.
-use Rattle.std.proofs.Common.{◌≡◌, ◌≢◌, ℕ, ◌+◌, ◌≤ℤ◌, ℤ, pos, ◌+ℤ◌, Bool, true, false, not, ◌&&◌, List, [], ◌∷◌, length, Option, Some, None, inl, inr, refl, sym, ap, subst, ◌∙◌}
-use Rattle.std.proofs.lemmas.Bool.{eq-eqb, eqb-true}
-use Rattle.std.specs.Option.{option_map_or}
-use Rattle.std.specs.Prelude.{Result, Ok, Err, option_map, ◌==◌, if◌then◌else◌}
-use Rattle.net_plan.specs.Places.{link_at}
+use Rattle.traffic_law.proofs.Words.{if◌then◌else◌, ◌&&◌, ◌+ℤ◌, ◌+◌, ◌==◌, ◌∙◌, ◌∷◌, ◌≡◌, ◌≢◌, ◌≤ℤ◌, Arrival, Bool, DeviceId, Down, Happening, IsCaused}
+use Rattle.traffic_law.proofs.Words.{IsFoundedAt, IsIn, IsTaking, IsView, KeepsRules, Link, LinkId, List, Network, None, NoteBody, OccursIn, Option, Pcf}
+use Rattle.traffic_law.proofs.Words.{Reason, Scenario, Signal, Some, Standpoint, Synchronised, Units, Up, View, VlId, Way, [], ap, before_of, cause_of}
+use Rattle.traffic_law.proofs.Words.{clock_of, control, cycle_at, earlier, earlier_before, eq-eqb, eqb-true, false, field, founded_at, in_left, inl, inr}
+use Rattle.traffic_law.proofs.Words.{is_broken, is_relay, is_taken_in, is_turned_on_at, last_taken, launched, length, link_at, not, numbered, numbered_in}
+use Rattle.traffic_law.proofs.Words.{offset_in_cycle, option_map, option_map_or, pos, refl, same_some, shown_at, standpoint, state_after, state_before, subst}
+use Rattle.traffic_law.proofs.Words.{sym, target_by, time_of, timed, true, way_to, window_of, ℕ, ℤ}
+use Rattle.std.specs.Prelude.{Err, Ok, Result}
 use Rattle.net_plan.specs.declared.event.What.TheVariants.{Send}
-use Rattle.net_plan.specs.declared.ids.DeviceId.{DeviceId}
-use Rattle.net_plan.specs.declared.ids.LinkId.{LinkId}
-use Rattle.net_plan.specs.declared.ids.VlId.{VlId}
-use Rattle.net_plan.specs.declared.network.Network.{Network}
-use Rattle.net_plan.specs.declared.tables.Link.{Link}
-use Rattle.net_plan.specs.declared.tables.Way.TheVariants.{Up, Down}
-use Rattle.net_plan.specs.declared.tables.Way.{Way}
-use Rattle.pcf_codec.specs.Decoding.{decoded}
-use Rattle.pcf_codec.specs.EtherType.{pcf_type}
-use Rattle.pcf_codec.specs.Fields.{field}
-use Rattle.pcf_codec.specs.declared.refusal.PcfRefusal.{PcfRefusal}
-use Rattle.pcf_values.specs.declared.pcf.Pcf.{Pcf}
-use Rattle.precision_law.proofs.records.Points.{before_of, earlier_before, same_adjustment}
-use Rattle.precision_law.specs.Views.{IsView, View}
-use Rattle.run_law.proofs.law.FirstPlaces.{IsFoundedAt, founded_at, numbered_front, numbered_in}
-use Rattle.run_law.proofs.runs.Places.{in_left}
-use Rattle.run_law.specs.control.Arrivals.{control_arrival, frame_fault, frame_or_fault}
-use Rattle.run_law.specs.control.Wires.{Arrives, Launch, Signal, control, launched, signal_of, time_on_port, timed}
-use Rattle.run_law.specs.declared.judgement.Reason.{Reason}
-use Rattle.run_law.specs.declared.note.NoteBody.TheVariants as notes
-use Rattle.run_law.specs.declared.note.NoteBody.{NoteBody}
-use Rattle.run_law.specs.declared.steps.Arrival.TheVariants as arrivals
-use Rattle.run_law.specs.declared.steps.Arrival.{Arrival}
-use Rattle.run_law.specs.device.Standpoints.{Standpoint, clock_of, cycle_at, offset_in_cycle, standpoint}
-use Rattle.run_law.specs.device.States.{is_off, state_after, state_before}
-use Rattle.run_law.specs.records.Causes.{cause_of}
-use Rattle.run_law.specs.records.Happenings.{Happening, earlier, numbered, octets_by, octets_from, time_of}
-use Rattle.run_law.specs.records.Order.{IsIn}
-use Rattle.run_law.specs.runs.DueRecords.{IsCaused}
-use Rattle.run_law.specs.scenario.Devices.{is_parent_of, is_relay}
-use Rattle.run_law.specs.scenario.Scenarios.{Scenario, is_broken, is_turned_on_at}
-use Rattle.run_law.specs.scenario.Ways.{delay_at, is_cut, receiver_of, way_to}
-use Rattle.run_law.specs.timed.Arrivals.{is_taken_in}
-use Rattle.run_law.specs.timed.Receptions.{ArrivesAs, arrival_of, last_taken}
-use Rattle.schedule_tables.specs.Entries.{target_by}
-use Rattle.schedule_tables.specs.Rules.{KeepsRules}
-use Rattle.schedule_tables.specs.Windows.{OccursIn, window_of}
+use Rattle.pcf_codec.specs.{Decoding.decoded, EtherType.pcf_type, declared.refusal.PcfRefusal.PcfRefusal}
+use Rattle.precision_law.proofs.records.Points.{same_adjustment}
+use Rattle.run_law.{proofs.law.FirstPlaces.numbered_front, specs.control.Arrivals.{control_arrival, frame_fault, frame_or_fault}}
+use Rattle.run_law.specs.{control.Wires.{Arrives, Launch, signal_of, time_on_port}, device.States.is_off, records.Happenings.{octets_by, octets_from}}
+use Rattle.run_law.specs.{scenario.{Devices.is_parent_of, Ways.{delay_at, is_cut, receiver_of}}, timed.Receptions.{ArrivesAs, arrival_of}}
 use Rattle.sync_state.proofs.StateFacts.{up_state}
-use Rattle.sync_state.specs.declared.state.State.TheVariants.{Synchronised}
-use Rattle.traffic_law.proofs.delivery.Faultless.{TakesIn, finds_none}
-use Rattle.traffic_law.proofs.ports.Ends.{ends_differ}
-use Rattle.traffic_law.specs.Spans.{shown_at}
-use Rattle.traffic_law.specs.Taken.{IsTaking, TakingsAreSo}
-use Rattle.tte_lemmas.proofs.Options.{one as same_some}
-use Rattle.tte_units.specs.declared.units.Units.{Units}
+use Rattle.traffic_law.{proofs.{delivery.Faultless.{TakesIn, finds_none}, ports.Ends.ends_differ}, specs.Taken.TakingsAreSo}
+use Rattle.run_law.specs.declared.note.NoteBody.TheVariants as notes
+use Rattle.run_law.specs.declared.steps.Arrival.TheVariants as arrivals
 
 -- ---- ways
 

@@ -1,29 +1,12 @@
 -- Which devices accept frames of the schedule, and to which they are delivered.
-use Rattle.std.proofs.Common.{◌≡◌, ℕ, Bool, true, false, List, length, Option, Some, None, inl, inr, refl, sym, subst}
-use Rattle.std.proofs.lemmas.Bool.{both_ways}
-use Rattle.std.specs.Prelude.{if◌then◌else◌}
-use Rattle.net_plan.specs.declared.ids.DeviceId.{DeviceId}
-use Rattle.net_plan.specs.declared.ids.LinkId.{LinkId}
-use Rattle.net_plan.specs.declared.ids.VlId.{VlId}
-use Rattle.net_plan.specs.declared.network.Network.{Network}
-use Rattle.pcf_codec.specs.Fields.{field}
-use Rattle.precision_law.specs.Views.{IsView, View}
-use Rattle.run_law.proofs.law.FirstPlaces.{founded_at}
-use Rattle.run_law.specs.control.Wires.{Signal, control, timed}
-use Rattle.run_law.specs.declared.judgement.Reason.{Reason}
+use Rattle.traffic_law.proofs.Words.{if◌then◌else◌, ◌≡◌, Bool, DeviceId, Entry, Happening, IsCaused, IsIn, IsView, LinkId, List, Network, None, Option, Reason}
+use Rattle.traffic_law.proofs.Words.{SaysTaken, Signal, Some, Standpoint, View, VlId, amount, both_ways, control, entry_arrival, entry_entering, false, field}
+use Rattle.traffic_law.proofs.Words.{founded_at, inl, inr, is_end, last_taken, length, octets_fault, octets_or_fault, refl, row_fault, standpoint, subst, sym}
+use Rattle.traffic_law.proofs.Words.{taken_or_fault, timed, timed_arrival, true, ℕ}
+use Rattle.run_law.specs.timed.Receptions.{arrival_of}
+use Rattle.traffic_law.proofs.delivery.Taken.{never_control}
 use Rattle.run_law.specs.declared.note.NoteBody.TheVariants as notes
 use Rattle.run_law.specs.declared.steps.Arrival.TheVariants as arrivals
-use Rattle.run_law.specs.device.Standpoints.{Standpoint, standpoint}
-use Rattle.run_law.specs.records.Happenings.{Happening}
-use Rattle.run_law.specs.records.Order.{IsIn}
-use Rattle.run_law.specs.runs.DueRecords.{IsCaused}
-use Rattle.run_law.specs.scenario.Devices.{is_end}
-use Rattle.run_law.specs.timed.Arrivals.{entry_arrival, entry_entering, octets_fault, octets_or_fault, row_fault, taken_or_fault, timed_arrival}
-use Rattle.run_law.specs.timed.Receptions.{arrival_of, last_taken}
-use Rattle.schedule_tables.specs.declared.entry.Entry.{Entry}
-use Rattle.traffic_law.proofs.delivery.Taken.{never_control}
-use Rattle.traffic_law.specs.Taken.{SaysTaken}
-use Rattle.tte_units.specs.Amount.{amount}
 
 -- what is dropped is neither
 no_drop : (reason : Reason) (vl : VlId) (cycle : ℕ) (b : Bool)

@@ -1,32 +1,15 @@
 -- Where the octets of a dispatch come from, and how many they are.
-use Rattle.std.proofs.Common.{◌≡◌, ℕ, zero, suc, ◌-◌, ◌≤◌, ◌<◌, Bool, filter, true, false, List, [], ◌++◌, length, replicate, Option, Some, None, slice_get, inl, inr, sym, ap, subst, ◌∙◌, length-append, arith}
-use Rattle.std.proofs.lemmas.List.{length-replicate}
-use Rattle.std.proofs.lemmas.Bool.{eq-eqb, false_from_ne_true, eqb-true}
-use Rattle.std.specs.List.{last_or}
-use Rattle.std.specs.Option.{option_map_or}
-use Rattle.std.specs.Prelude.{◌==◌, if◌then◌else◌}
-use Rattle.byteorder.specs.Endian.{big_bytes}
-use Rattle.byteorder.specs.Numbers.{length-bytes_high_first}
+use Rattle.traffic_law.proofs.Words.{if◌then◌else◌, ◌++◌, ◌-◌, ◌<◌, ◌==◌, ◌∙◌, ◌≡◌, ◌≤◌, Bool, Entry, Happening, IsEntry, IsIn, List, Network, None, Option}
+use Rattle.traffic_law.proofs.Words.{Some, VirtualLink, VlId, [], ap, arith, before_of, earlier, eq-eqb, eqb-true, false, false_from_ne_true, filter}
+use Rattle.traffic_law.proofs.Words.{founded_at, in_filter, in_parts, in_range, inl, inr, is_accepted, last_accepted, last_in, last_or, length, numbered}
+use Rattle.traffic_law.proofs.Words.{option_map_or, same_some, slice_get, subst, suc, sym, time_of, true, tt_frame_by, zero, ℕ}
+use Rattle.std.proofs.{Common.{length-append, replicate}, lemmas.List.length-replicate}
+use Rattle.byteorder.specs.{Endian.big_bytes, Numbers.length-bytes_high_first}
 use Rattle.net_plan.specs.Padding.{padded}
-use Rattle.net_plan.specs.declared.ids.VlId.{VlId}
-use Rattle.net_plan.specs.declared.network.Network.{Network}
-use Rattle.net_plan.specs.declared.tables.VirtualLink.{VirtualLink}
-use Rattle.precision_law.proofs.records.Points.{before_of, last_in}
-use Rattle.run_law.proofs.law.FirstPlaces.{by_number, founded_at, in_filter}
-use Rattle.run_law.proofs.records.Happenings.{from_earlier}
-use Rattle.run_law.proofs.runs.Places.{in_parts}
+use Rattle.run_law.{proofs.{law.FirstPlaces.by_number, records.Happenings.from_earlier}, specs.records.Frames.{mac_of, tt_frame}}
+use Rattle.run_law.specs.records.Happenings.{octets_by, octets_from}
+use Rattle.traffic_law.{proofs.delivery.Taken.{from_cause, takings_are_so}, specs.{Dispatched.DispatchesAreWhole, Passed.OctetsComeSo}}
 use Rattle.run_law.specs.declared.note.NoteBody.TheVariants as notes
-use Rattle.run_law.specs.records.Frames.{mac_of, tt_frame, tt_frame_by}
-use Rattle.run_law.specs.records.Happenings.{Happening, earlier, numbered, octets_by, octets_from, time_of}
-use Rattle.run_law.specs.records.Order.{IsIn}
-use Rattle.run_law.specs.timed.Dispatching.{is_accepted, last_accepted}
-use Rattle.schedule_tables.proofs.EntryLemmas.{in_range}
-use Rattle.schedule_tables.specs.Entries.{IsEntry}
-use Rattle.schedule_tables.specs.declared.entry.Entry.{Entry}
-use Rattle.traffic_law.proofs.delivery.Taken.{from_cause, takings_are_so}
-use Rattle.traffic_law.specs.Dispatched.{DispatchesAreWhole}
-use Rattle.traffic_law.specs.Passed.{OctetsComeSo}
-use Rattle.tte_lemmas.proofs.Options.{one as same_some}
 
 -- ---- the frame that a sender makes
 

@@ -1,30 +1,13 @@
 -- The channels of rows, and the devices at their ends.
-use Rattle.std.proofs.Common.{◌≡◌, ℕ, Bool, true, false, not, Option, Some, None, is_some, slice_get, inl, inr, refl, sym, ap, subst, ◌∙◌}
-use Rattle.std.proofs.lemmas.Bool.{both_ways}
-use Rattle.std.specs.Option.{option_map_or}
-use Rattle.net_plan.specs.Places.{device_at, is_end_system, IsSwitchOf}
-use Rattle.net_plan.specs.Ranges.{IsDeviceInRange, IsInRange}
-use Rattle.net_plan.specs.declared.ids.DeviceId.{DeviceId}
-use Rattle.net_plan.specs.declared.ids.VlId.{VlId}
-use Rattle.net_plan.specs.declared.network.Network.{Network}
-use Rattle.net_plan.specs.declared.tables.Device.{Device}
-use Rattle.net_plan.specs.declared.tables.Role.TheVariants.{Relay}
-use Rattle.net_plan.specs.declared.tables.VirtualLink.{VirtualLink}
-use Rattle.net_plan.specs.declared.tables.Way.TheVariants.{Up, Down}
-use Rattle.net_plan.specs.declared.tables.Way.{Way}
+use Rattle.traffic_law.proofs.Words.{◌∙◌, ◌≡◌, Bool, BringsChannels, Device, DeviceId, Down, Entry, HasGoodSources, IsEntry, IsGood, IsOnChannel, IsSwitchOf}
+use Rattle.traffic_law.proofs.Words.{IsView, Joints, KeepsRules, Network, None, Option, Some, Up, View, VirtualLink, VlId, Way, ap, both_ways, closed}
+use Rattle.traffic_law.proofs.Words.{device_at, false, in_all, inl, inr, is_end, is_end_system, not, opened, option_map_or, refl, same_some, slice_get}
+use Rattle.traffic_law.proofs.Words.{source_by, source_of, subst, sym, target_by, target_of, true, ℕ}
+use Rattle.std.proofs.Common.{is_some}
+use Rattle.net_plan.specs.{Ranges.{IsDeviceInRange, IsInRange}, declared.tables.Role.TheVariants.Relay}
 use Rattle.pcf_values.specs.declared.channel.Channel.{Channel}
-use Rattle.precision_law.specs.Views.{IsGood, IsView, View}
 use Rattle.run_law.proofs.scenario.Devices.{end_test}
-use Rattle.run_law.specs.scenario.Devices.{is_end}
-use Rattle.schedule_tables.specs.Entries.{IsEntry, IsOnChannel, source_by, source_of, target_by, target_of}
-use Rattle.schedule_tables.specs.Rules.{KeepsRules}
-use Rattle.schedule_tables.specs.Schedule.{IsSwitch}
-use Rattle.schedule_tables.specs.declared.entry.Entry.{Entry}
-use Rattle.schedule_tables.specs.declared.rule.Rule.TheVariants.{Joints, Sources}
-use Rattle.traffic_law.specs.Bringing.{BringsChannels}
-use Rattle.traffic_law.specs.Coming.{HasGoodSources}
-use Rattle.tte_lemmas.proofs.Lists.{in_all}
-use Rattle.tte_lemmas.proofs.Options.{closed, one as same_some, opened}
+use Rattle.schedule_tables.specs.{Schedule.IsSwitch, declared.rule.Rule.TheVariants.Sources}
 
 -- ---- switches
 

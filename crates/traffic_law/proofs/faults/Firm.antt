@@ -1,42 +1,17 @@
 -- The switches of the sound channel are synchronised when the span of a cycle begins.
-use Rattle.std.proofs.Common.{◌≡◌, ℕ, zero, suc, ◌<◌, ◌≤◌, Bool, true, false, List, [], ◌∷◌, fold, Option, Some, None, inl, inr, refl, sym, ap, subst, ◌∙◌, arith}
-use Rattle.std.proofs.lemmas.Bool.{both_ways, le-ltb}
-use Rattle.std.proofs.lemmas.List.Sums.{fold-append}
-use Rattle.std.specs.Prelude.{◌==◌, nat_lt, if◌then◌else◌, IsSomeAnd, IsNone, option_and_then}
-use Rattle.net_plan.proofs.SameIds.{one_device}
-use Rattle.net_plan.specs.Places.{device_at}
+use Rattle.traffic_law.proofs.Words.{if◌then◌else◌, ◌<◌, ◌==◌, ◌∙◌, ◌∷◌, ◌≡◌, ◌≤◌, Bool, BringsChannels, ChangesState, Device, DeviceId, Happening, Integrates}
+use Rattle.traffic_law.proofs.Words.{IsCaused, IsFoundedAt, IsIn, IsView, List, Network, None, NoteBody, Option, Some, State, Synchronised, TimedAreNotTurnedOn}
+use Rattle.traffic_law.proofs.Words.{Units, View, Why, [], ap, arith, between, both_ways, device_at, earlier, earlier_parts, false, fold, fold-append}
+use Rattle.traffic_law.proofs.Words.{founded_at, has_time, in_between, in_left, in_order, inl, inr, is_joined_by, is_turned_on_at, le-ltb, nat_lt, none_kept}
+use Rattle.traffic_law.proofs.Words.{numbered_in, one_device, option_and_then, refl, start_of, state_after, state_at_start, state_left, state_with, subst, suc}
+use Rattle.traffic_law.proofs.Words.{sym, time_of, true, zero, ℕ}
+use Rattle.std.specs.Prelude.{IsNone, IsSomeAnd}
 use Rattle.net_plan.specs.declared.event.What.TheVariants.{On}
-use Rattle.net_plan.specs.declared.ids.DeviceId.{DeviceId}
-use Rattle.net_plan.specs.declared.network.Network.{Network}
-use Rattle.net_plan.specs.declared.tables.Device.{Device}
-use Rattle.precision_law.proofs.records.Times.{between, earlier_parts, in_between}
-use Rattle.precision_law.proofs.records.Views.{in_order}
-use Rattle.precision_law.specs.Blocks.{NoneLost, state_left}
-use Rattle.precision_law.specs.Epochs.{has_time}
-use Rattle.precision_law.specs.Views.{IsFirm, IsView, View}
-use Rattle.run_law.proofs.law.FirstPlaces.{IsFoundedAt, founded_at, none_kept, numbered_in}
-use Rattle.run_law.proofs.runs.Places.{in_left}
-use Rattle.run_law.specs.declared.judgement.Judgement.TheVariants.{Integrates}
-use Rattle.run_law.specs.declared.judgement.Why.TheVariants as whys
-use Rattle.run_law.specs.declared.judgement.Why.{Why}
-use Rattle.run_law.specs.declared.note.NoteBody.TheVariants as notes
-use Rattle.run_law.specs.declared.note.NoteBody.{NoteBody}
-use Rattle.run_law.specs.device.StateChanges.{ChangesState}
-use Rattle.run_law.specs.device.States.{is_joined_by, state_after, state_with}
-use Rattle.run_law.specs.records.Happenings.{Happening, earlier, time_of}
-use Rattle.run_law.specs.records.Order.{IsIn}
-use Rattle.run_law.specs.runs.DueRecords.{IsCaused}
-use Rattle.run_law.specs.scenario.Devices.{start_of}
+use Rattle.precision_law.specs.{Blocks.NoneLost, Views.IsFirm}
 use Rattle.run_law.specs.scenario.Faults.{BeginsOn}
-use Rattle.run_law.specs.scenario.Scenarios.{is_turned_on_at}
-use Rattle.sync_state.specs.Standing.{state_at_start}
-use Rattle.sync_state.specs.declared.state.State.TheVariants.{Synchronised}
-use Rattle.sync_state.specs.declared.state.State.{State}
-use Rattle.traffic_law.proofs.spans.Forward.{no_joining, turned_on_by}
-use Rattle.traffic_law.specs.Bringing.{BringsChannels}
-use Rattle.traffic_law.specs.Delivered.{SoundSwitchesKeepTime}
-use Rattle.traffic_law.specs.Senders.{TimedAreNotTurnedOn}
-use Rattle.tte_units.specs.declared.units.Units.{Units}
+use Rattle.traffic_law.{proofs.spans.Forward.{no_joining, turned_on_by}, specs.Delivered.SoundSwitchesKeepTime}
+use Rattle.run_law.specs.declared.judgement.Why.TheVariants as whys
+use Rattle.run_law.specs.declared.note.NoteBody.TheVariants as notes
 
 -- what begins on begins synchronised
 starts_synchronised : (network : Network) (device : DeviceId) → BeginsOn network device → state_at_start (start_of network device) ≡ Synchronised

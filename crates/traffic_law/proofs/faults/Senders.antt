@@ -1,29 +1,14 @@
 -- Only a broken device puts octets of its own on a link.
-use Rattle.std.proofs.Common.{◌≡◌, ◌≤◌, ◌≤ℤ◌, true, List, [], ◌∷◌, ◌++◌, inl, inr, refl, sym, ap, subst, ◌∙◌, append_assoc, arith}
-use Rattle.std.proofs.lemmas.Bool.{both_ways, eq-eqb, le-leb, true_from_ne_false}
-use Rattle.std.proofs.lemmas.Int.{by_lt_z, ints}
-use Rattle.std.specs.Prelude.{nat_le}
-use Rattle.net_plan.specs.Places.{link_at}
-use Rattle.net_plan.specs.declared.event.Event.{Event}
+use Rattle.traffic_law.proofs.Words.{◌++◌, ◌∙◌, ◌∷◌, ◌≡◌, ◌≤ℤ◌, ◌≤◌, Event, IsCaused, IsIn, Link, List, Scenario, SendersAreBroken, [], amount, ap}
+use Rattle.traffic_law.proofs.Words.{append_assoc, arith, both_ways, by_lt_z, eq-eqb, founded_at, in_left, inl, inr, ints, is_broken, link_at, nat_le, opened}
+use Rattle.traffic_law.proofs.Words.{parted, refl, subst, sym, time_of, true, within_run}
+use Rattle.std.proofs.lemmas.Bool.{le-leb, true_from_ne_false}
+use Rattle.precision_law.proofs.{Plain.any_is, records.Times.in_kept}
+use Rattle.run_law.{proofs.{law.{FirstDelays.given, FirstPlaces.in_at}, records.Order.in_any}, specs.declared.outside.Outside.TheVariants.{NotBroken, Order}}
+use Rattle.run_law.specs.{runs.DueRecords.IsEventRecord, scenario.{Faults.{Breaks, IsBroken}, Hypothesis.{AreWithinHypothesis, breaks_at}}}
+use Rattle.run_law.specs.scenario.Scenarios.{events_up_to}
+use Rattle.tte_lemmas.proofs.Options.{one}
 use Rattle.net_plan.specs.declared.event.What.TheVariants as events
-use Rattle.net_plan.specs.declared.tables.Link.{Link}
-use Rattle.precision_law.proofs.Plain.{any_is}
-use Rattle.precision_law.proofs.records.Points.{within_run}
-use Rattle.precision_law.proofs.records.Times.{in_kept}
-use Rattle.run_law.proofs.law.FirstDelays.{given}
-use Rattle.run_law.proofs.law.FirstPlaces.{founded_at, in_at}
-use Rattle.run_law.proofs.records.Order.{in_any}
-use Rattle.run_law.proofs.runs.Places.{in_left, parted}
-use Rattle.run_law.specs.declared.outside.Outside.TheVariants.{NotBroken, Order}
-use Rattle.run_law.specs.records.Happenings.{time_of}
-use Rattle.run_law.specs.records.Order.{IsIn}
-use Rattle.run_law.specs.runs.DueRecords.{IsCaused, IsEventRecord}
-use Rattle.run_law.specs.scenario.Faults.{Breaks, IsBroken}
-use Rattle.run_law.specs.scenario.Hypothesis.{AreWithinHypothesis, breaks_at}
-use Rattle.run_law.specs.scenario.Scenarios.{Scenario, events_up_to, is_broken}
-use Rattle.traffic_law.specs.Senders.{SendersAreBroken}
-use Rattle.tte_lemmas.proofs.Options.{one, opened}
-use Rattle.tte_units.specs.Amount.{amount}
 
 -- ---- the order of events
 

@@ -1,49 +1,21 @@
 -- A device that has the common time is not turned on.
-use Rattle.std.proofs.Common.{◌≡◌, ℕ, zero, suc, ◌<◌, Bool, true, false, ◌&&◌, List, [], ◌∷◌, ◌++◌, fold, Any, Option, Some, None, inl, inr, refl, sym, ap, subst, ◌∙◌, append_assoc, arith}
-use Rattle.std.proofs.lemmas.Bool.{both_ways, eqb-true, false_from_ne_true, le-ltb}
-use Rattle.std.proofs.lemmas.List.Sums.{fold-append}
-use Rattle.std.specs.Prelude.{◌==◌, nat_lt, if◌then◌else◌, IsSomeAnd, IsNone, option_and_then}
-use Rattle.net_plan.proofs.SameIds.{one_device}
-use Rattle.net_plan.specs.Places.{device_at}
-use Rattle.net_plan.specs.declared.event.Event.{Event}
-use Rattle.net_plan.specs.declared.event.What.TheVariants as events
-use Rattle.net_plan.specs.declared.ids.DeviceId.{DeviceId}
-use Rattle.net_plan.specs.declared.network.Network.{Network}
-use Rattle.net_plan.specs.declared.tables.Device.{Device}
+use Rattle.traffic_law.proofs.Words.{if◌then◌else◌, ◌&&◌, ◌++◌, ◌<◌, ◌==◌, ◌∙◌, ◌∷◌, ◌≡◌, Bool, ChangesState, Device, DeviceId, Event, Happening, Integrates}
+use Rattle.traffic_law.proofs.Words.{Integrating, IsCaused, IsFoundedAt, IsIn, IsView, Joining, List, Network, None, NoteBody, Option, Scenario, Some, State}
+use Rattle.traffic_law.proofs.Words.{Synchronised, TimedAreNotTurnedOn, Units, View, Why, [], amount, ap, append_assoc, arith, before_of, between, both_ways}
+use Rattle.traffic_law.proofs.Words.{device_at, earlier, earlier_before, earlier_parts, eqb-true, false, false_from_ne_true, fold, fold-append, founded_at}
+use Rattle.traffic_law.proofs.Words.{has_time, in_between, in_left, in_order, in_parts, inl, inr, is_joined_by, is_turned_on_at, le-ltb, nat_lt, none_kept}
+use Rattle.traffic_law.proofs.Words.{numbered_in, one_device, option_and_then, parted, refl, start_of, state_after, state_at_start, state_before, state_left}
+use Rattle.traffic_law.proofs.Words.{state_with, subst, suc, sym, time_of, true, zero, ℕ}
+use Rattle.std.{proofs.Common.Any, specs.Prelude.{IsNone, IsSomeAnd}}
 use Rattle.precision_law.proofs.faults.Turned.{looking_by}
-use Rattle.precision_law.proofs.records.Points.{before_of, earlier_before}
-use Rattle.precision_law.proofs.records.Times.{between, earlier_parts, in_between}
-use Rattle.precision_law.proofs.records.Views.{in_order}
-use Rattle.precision_law.specs.Blocks.{state_left}
-use Rattle.precision_law.specs.Epochs.{has_time}
-use Rattle.precision_law.specs.Views.{IsView, View}
-use Rattle.run_law.proofs.law.FirstPlaces.{IsFoundedAt, founded_at, none_kept, numbered_in}
-use Rattle.run_law.proofs.records.Order.{any_in}
-use Rattle.run_law.proofs.runs.Places.{in_left, in_parts, in_right, parted}
-use Rattle.run_law.proofs.scenario.Devices.{on_by}
-use Rattle.run_law.specs.declared.judgement.Judgement.TheVariants.{Integrates}
-use Rattle.run_law.specs.declared.judgement.Why.TheVariants as whys
-use Rattle.run_law.specs.declared.judgement.Why.{Why}
-use Rattle.run_law.specs.declared.note.NoteBody.TheVariants as notes
-use Rattle.run_law.specs.declared.note.NoteBody.{NoteBody}
-use Rattle.run_law.specs.declared.outside.Outside.TheVariants.{NotOff}
-use Rattle.run_law.specs.device.StateChanges.{ChangesState}
-use Rattle.run_law.specs.device.States.{is_joined_by, state_after, state_before, state_with}
-use Rattle.run_law.specs.law.FirstLaws.{IsLawful}
-use Rattle.run_law.specs.records.Happenings.{Happening, earlier, time_of}
-use Rattle.run_law.specs.records.Order.{IsIn}
-use Rattle.run_law.specs.runs.DueRecords.{IsCaused}
-use Rattle.run_law.specs.scenario.Devices.{start_of}
-use Rattle.run_law.specs.scenario.Faults.{BeginsOn, TurnsOn}
-use Rattle.run_law.specs.scenario.Scenarios.{Scenario, is_turned_on_at, turns_on}
-use Rattle.sync_state.specs.Standing.{point_in, state_at_start}
-use Rattle.sync_state.specs.declared.state.State.TheVariants.{Off, Integrating, Joining, Synchronised}
-use Rattle.sync_state.specs.declared.state.State.{State}
-use Rattle.traffic_law.proofs.spans.Forward.{turned_on_by}
-use Rattle.traffic_law.specs.Senders.{TimedAreNotTurnedOn}
+use Rattle.run_law.{proofs.{records.Order.any_in, runs.Places.in_right, scenario.Devices.on_by}, specs.declared.outside.Outside.TheVariants.NotOff}
+use Rattle.run_law.specs.{law.FirstLaws.IsLawful, scenario.{Faults.{BeginsOn, TurnsOn}, Scenarios.turns_on}}
+use Rattle.sync_state.specs.{Standing.point_in, declared.state.State.TheVariants.Off}
 use Rattle.tte_lemmas.proofs.Lists.{any_behind, any_first}
-use Rattle.tte_units.specs.Amount.{amount}
-use Rattle.tte_units.specs.declared.units.Units.{Units}
+use Rattle.traffic_law.proofs.spans.Forward.{turned_on_by}
+use Rattle.net_plan.specs.declared.event.What.TheVariants as events
+use Rattle.run_law.specs.declared.judgement.Why.TheVariants as whys
+use Rattle.run_law.specs.declared.note.NoteBody.TheVariants as notes
 
 -- ---- events that turn devices on
 

@@ -1,28 +1,13 @@
 -- No frame meets a frame of the schedule on a port.
-use Rattle.std.proofs.Common.{◌≡◌, ◌≢◌, ℕ, ◌+◌, ◌*◌, ◌<◌, ◌≤◌, length, Option, Some, inl, inr, refl, ap, subst, ◌∙◌, max, arith}
-use Rattle.std.specs.Option.{option_map_or}
-use Rattle.net_plan.specs.Places.{link_at}
-use Rattle.net_plan.specs.declared.ids.DeviceId.{DeviceId}
-use Rattle.net_plan.specs.declared.ids.LinkId.{LinkId}
-use Rattle.net_plan.specs.declared.ids.VlId.{VlId}
-use Rattle.net_plan.specs.declared.tables.Link.{Link}
+use Rattle.traffic_law.proofs.Words.{◌*◌, ◌+◌, ◌<◌, ◌∙◌, ◌≡◌, ◌≢◌, ◌≤◌, BringsBlocks, BringsChannels, DeviceId, GivingsKeepAway, Happening, IsGood, IsIn}
+use Rattle.traffic_law.proofs.Words.{IsRowDispatch, IsView, Link, LinkId, NoteBody, Option, Scenario, Some, View, VlId, ap, arith, inl, inr, length, link_at}
+use Rattle.traffic_law.proofs.Words.{octet_time, option_map_or, port_time, refl, subst, time_of, ℕ}
+use Rattle.std.proofs.Common.{max}
 use Rattle.precision_law.proofs.law.Precision.{view_at, view_of}
-use Rattle.precision_law.specs.Views.{IsGood, IsView, View}
+use Rattle.run_law.specs.{law.Safety.{IsControlOnPort, IsTtOnPort, time_of_octets}, records.Happenings.happenings}
+use Rattle.traffic_law.proofs.{delivery.Whole.dispatches_are_whole, ports.{Dispatched.dispatches_are_of_rows, Leavings.leavings_stand_apart}}
+use Rattle.traffic_law.{proofs.ports.TwoDispatches.dispatches_stand_apart, specs.Ports.{IsLeaving, PortsStayApart}}
 use Rattle.run_law.specs.declared.note.NoteBody.TheVariants as notes
-use Rattle.run_law.specs.declared.note.NoteBody.{NoteBody}
-use Rattle.run_law.specs.law.Safety.{IsControlOnPort, IsTtOnPort, time_of_octets}
-use Rattle.run_law.specs.records.Happenings.{Happening, happenings, time_of}
-use Rattle.run_law.specs.records.Order.{IsIn}
-use Rattle.run_law.specs.scenario.Scenarios.{Scenario}
-use Rattle.schedule_tables.specs.Windows.{port_time}
-use Rattle.traffic_law.proofs.delivery.Whole.{dispatches_are_whole}
-use Rattle.traffic_law.proofs.ports.Dispatched.{dispatches_are_of_rows}
-use Rattle.traffic_law.proofs.ports.Leavings.{leavings_stand_apart}
-use Rattle.traffic_law.proofs.ports.TwoDispatches.{dispatches_stand_apart}
-use Rattle.traffic_law.specs.Bringing.{BringsBlocks, BringsChannels}
-use Rattle.traffic_law.specs.Dispatched.{IsRowDispatch}
-use Rattle.traffic_law.specs.Ports.{GivingsKeepAway, IsLeaving, PortsStayApart}
-use Rattle.tte_units.specs.OctetTime.{octet_time}
 
 -- ---- what occupies a port
 

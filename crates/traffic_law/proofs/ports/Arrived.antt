@@ -1,34 +1,16 @@
 -- What a device has found of a control frame that it does not drop at its arrival.
-use Rattle.std.proofs.Common.{◌≡◌, ◌⊎◌, ℕ, ◌≤◌, Bool, true, false, not, List, length, Option, Some, None, nat_lt, inl, inr, refl, sym, ap, subst, ◌∙◌, arith}
-use Rattle.std.proofs.lemmas.Bool.{ltb-false}
-use Rattle.std.specs.Prelude.{Result, Ok, Err, if◌then◌else◌}
-use Rattle.net_plan.specs.declared.ids.DeviceId.{DeviceId}
-use Rattle.net_plan.specs.declared.ids.LinkId.{LinkId}
-use Rattle.net_plan.specs.declared.ids.VlId.{VlId}
-use Rattle.net_plan.specs.declared.network.Network.{Network}
-use Rattle.net_plan.specs.declared.tables.Way.TheVariants.{Up, Down}
-use Rattle.net_plan.specs.declared.tables.Way.{Way}
-use Rattle.pcf_codec.specs.Fields.{field}
+use Rattle.traffic_law.proofs.Words.{if◌then◌else◌, ◌∙◌, ◌≡◌, ◌≤◌, ◌⊎◌, Arrival, Bool, DeviceId, Down, Entry, Happening, IsCaused, IsFoundedAt, IsView, LinkId}
+use Rattle.traffic_law.proofs.Words.{List, Network, None, Option, Pcf, Reason, Signal, Some, Standpoint, Units, Up, View, VlId, Way, amount, ap, arith, control}
+use Rattle.traffic_law.proofs.Words.{entry_arrival, entry_entering, false, field, inl, inr, is_end, is_relay, last_taken, length, nat_lt, none_first, not}
+use Rattle.traffic_law.proofs.Words.{octets_fault, octets_or_fault, refl, row_fault, standpoint, subst, sym, taken_or_fault, time_of, timed, timed_arrival}
+use Rattle.traffic_law.proofs.Words.{true, ℕ}
+use Rattle.std.{proofs.lemmas.Bool.ltb-false, specs.Prelude.{Err, Ok, Result}}
 use Rattle.pcf_codec.specs.declared.refusal.PcfRefusal.{PcfRefusal}
-use Rattle.pcf_values.specs.declared.pcf.Pcf.{Pcf}
-use Rattle.precision_law.specs.Views.{IsView, View}
-use Rattle.run_law.proofs.control.Verdicts.{none_first}
-use Rattle.run_law.proofs.law.FirstPlaces.{IsFoundedAt}
-use Rattle.run_law.specs.control.Arrivals.{clock_on_arrival, control_arrival, frame_fault, frame_or_fault, is_cold_start, is_gate_shut, is_of_other_domain, is_of_other_member, point_on_arrival}
-use Rattle.run_law.specs.control.Wires.{Signal, control, timed}
-use Rattle.run_law.specs.declared.judgement.Reason.{Reason}
+use Rattle.run_law.specs.control.Arrivals.{clock_on_arrival, control_arrival, frame_fault, frame_or_fault, is_cold_start, is_gate_shut, is_of_other_domain}
+use Rattle.run_law.specs.{control.Arrivals.{is_of_other_member, point_on_arrival}, records.Happenings.with_clock, runs.DueRecords.IsArrivedRecord}
+use Rattle.run_law.specs.{scenario.Devices.is_parent_of, timed.Receptions.arrival_of}
 use Rattle.run_law.specs.declared.note.NoteBody.TheVariants as notes
 use Rattle.run_law.specs.declared.steps.Arrival.TheVariants as arrivals
-use Rattle.run_law.specs.declared.steps.Arrival.{Arrival}
-use Rattle.run_law.specs.device.Standpoints.{Standpoint, standpoint}
-use Rattle.run_law.specs.records.Happenings.{Happening, time_of, with_clock}
-use Rattle.run_law.specs.runs.DueRecords.{IsArrivedRecord, IsCaused}
-use Rattle.run_law.specs.scenario.Devices.{is_end, is_parent_of, is_relay}
-use Rattle.run_law.specs.timed.Arrivals.{entry_arrival, entry_entering, octets_fault, octets_or_fault, row_fault, taken_or_fault, timed_arrival}
-use Rattle.run_law.specs.timed.Receptions.{arrival_of, last_taken}
-use Rattle.schedule_tables.specs.declared.entry.Entry.{Entry}
-use Rattle.tte_units.specs.Amount.{amount}
-use Rattle.tte_units.specs.declared.units.Units.{Units}
 
 -- the frame, with this clock, waits or is passed on
 abbrev Goes : Arrival → ℕ → Type 0

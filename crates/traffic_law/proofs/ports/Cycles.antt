@@ -1,14 +1,7 @@
 -- What two instants of the blocks of a run have in common.
-use Rattle.std.proofs.Common.{◌≡◌, ℕ, zero, suc, ◌<◌, pos, ◌+ℤ◌, ◌≤ℤ◌, Some, inl, inr, ap, subst, arith}
-use Rattle.std.proofs.lemmas.Bool.{cases_lt}
-use Rattle.std.proofs.lemmas.Int.{ints}
-use Rattle.precision_law.proofs.block.Hulls.{has_before}
-use Rattle.precision_law.proofs.records.Points.{within_run}
-use Rattle.precision_law.proofs.records.Views.{room}
-use Rattle.precision_law.specs.Blocks.{Stands}
-use Rattle.precision_law.specs.Hulls.{Hull, IsOverBefore, hull_of, last_correction}
-use Rattle.precision_law.specs.Views.{IsView, View}
-use Rattle.tte_lemmas.proofs.Options.{one as same_some}
+use Rattle.traffic_law.proofs.Words.{◌+ℤ◌, ◌<◌, ◌≡◌, ◌≤ℤ◌, Hull, IsView, Some, Stands, View, ap, arith, cases_lt, has_before, hull_of, inl, inr, ints}
+use Rattle.traffic_law.proofs.Words.{last_correction, pos, room, same_some, subst, suc, within_run, zero, ℕ}
+use Rattle.precision_law.specs.Hulls.{IsOverBefore}
 
 -- the block of a cycle ends at one time
 pub same_end : (v : View) (n a b : ℕ) → IsOverBefore v n a → IsOverBefore v n b → a ≡ b

@@ -1,37 +1,13 @@
 -- The records of dispatches by the schedule.
-use Rattle.std.proofs.Common.{◌≡◌, ℕ, ◌+◌, ◌*◌, ◌≤◌, pos, ◌<ℤ◌, List, filter, Option, None, inl, inr, sym, ap, subst, ◌∙◌, arith}
-use Rattle.std.proofs.lemmas.Int.{ints}
-use Rattle.std.specs.List.{last_or}
-use Rattle.std.specs.Option.{option_map_or}
-use Rattle.net_plan.specs.declared.ids.DeviceId.{DeviceId}
-use Rattle.precision_law.proofs.clocks.Epochs.{adjustment_stays, settings_stay}
-use Rattle.precision_law.proofs.records.Points.{before_of, earlier_before, within_run}
-use Rattle.precision_law.specs.Blocks.{adjustment_left}
-use Rattle.precision_law.specs.Epochs.{epoch_time}
-use Rattle.precision_law.specs.Sizes.{Sizes}
-use Rattle.precision_law.specs.Views.{IsView, View}
-use Rattle.run_law.proofs.device.States.{reaches_by}
-use Rattle.run_law.proofs.law.FirstPlaces.{founded_at}
-use Rattle.run_law.specs.declared.note.NoteBody.TheVariants as notes
-use Rattle.run_law.specs.device.LocalClocks.{Reaches, changed_at}
-use Rattle.run_law.specs.device.States.{state_after}
-use Rattle.run_law.specs.records.Happenings.{Happening, earlier, time_of}
-use Rattle.run_law.specs.runs.DueRecords.{IsCaused}
-use Rattle.run_law.specs.scenario.Scenarios.{is_turned_on_at}
-use Rattle.run_law.specs.timed.Dispatching.{is_accepted}
-use Rattle.schedule_tables.specs.Entries.{IsEntry}
-use Rattle.schedule_tables.specs.declared.entry.Entry.{Entry}
+use Rattle.traffic_law.proofs.Words.{◌*◌, ◌+◌, ◌<ℤ◌, ◌∙◌, ◌≡◌, ◌≤◌, BringsBlocks, DeviceId, Entry, Happening, IsCaused, IsEntry, IsInSchedule, IsInSpan}
+use Rattle.traffic_law.proofs.Words.{IsTimedAt, IsView, List, None, Option, Reaches, Sizes, Synchronised, Units, View, adjustment_left, adjustment_stays}
+use Rattle.traffic_law.proofs.Words.{amount, ap, arith, before_of, changed_at, earlier, earlier_before, epoch_time, filter, founded_at, inl, inr, ints}
+use Rattle.traffic_law.proofs.Words.{is_accepted, is_turned_on_at, last_or, option_map_or, pos, reaches_by, state_after, subst, sym, time_of, within_run, ℕ}
+use Rattle.precision_law.proofs.clocks.Epochs.{settings_stay}
 use Rattle.sync_state.proofs.StateFacts.{up_state}
-use Rattle.sync_state.specs.declared.state.State.TheVariants.{Synchronised}
-use Rattle.traffic_law.proofs.ports.Cycles.{same_next}
-use Rattle.traffic_law.proofs.schedule.Rows.{rows_are_in_time}
-use Rattle.traffic_law.proofs.spans.Spans.{synchronised_keep_time, values_are_reached_in_spans}
-use Rattle.traffic_law.specs.Bringing.{BringsBlocks}
+use Rattle.traffic_law.proofs.{ports.Cycles.same_next, schedule.Rows.rows_are_in_time, spans.Spans.{synchronised_keep_time, values_are_reached_in_spans}}
 use Rattle.traffic_law.specs.Dispatched.{DispatchesAreInSpans, DispatchesAreOfRows}
-use Rattle.traffic_law.specs.Rows.{IsInSchedule}
-use Rattle.traffic_law.specs.Spans.{IsInSpan, IsTimedAt}
-use Rattle.tte_units.specs.Amount.{amount}
-use Rattle.tte_units.specs.declared.units.Units.{Units}
+use Rattle.run_law.specs.declared.note.NoteBody.TheVariants as notes
 
 -- ---- what the earlier records fix
 

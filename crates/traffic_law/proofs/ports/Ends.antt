@@ -1,21 +1,8 @@
 -- The two ends of a link, and the ways on which a device sends by it.
-use Rattle.std.proofs.Common.{◌≡◌, ◌≢◌, ◌⊎◌, ℕ, Some, true, inr, refl, sym, ap, subst, ◌∙◌}
-use Rattle.net_plan.proofs.Shape.{rules_give_trees}
-use Rattle.net_plan.proofs.TableFacts.{no_path}
-use Rattle.net_plan.specs.Paths.{IsUplink}
-use Rattle.net_plan.specs.Places.{device_at, link_at, is_end_system, IsDeviceOf, IsSwitchOf}
-use Rattle.net_plan.specs.declared.ids.LinkId.{LinkId}
-use Rattle.net_plan.specs.declared.network.Network.{Network}
-use Rattle.net_plan.specs.declared.tables.Device.{Device}
-use Rattle.net_plan.specs.declared.tables.Link.{Link}
-use Rattle.net_plan.specs.declared.tables.Way.TheVariants.{Up, Down}
-use Rattle.net_plan.specs.declared.tables.Way.{Way}
+use Rattle.traffic_law.proofs.Words.{◌∙◌, ◌≡◌, ◌≢◌, ◌⊎◌, Device, Down, Entry, IsEntry, IsSwitchOf, Joints, KeepsRules, Link, LinkId, Network, Some, Up, Way, ap}
+use Rattle.traffic_law.proofs.Words.{closed, device_at, inr, is_end_system, link_at, opened, refl, same_some, source_by, source_of, subst, sym, true, ℕ}
+use Rattle.net_plan.{proofs.{Shape.rules_give_trees, TableFacts.no_path}, specs.{Paths.IsUplink, Places.IsDeviceOf}}
 use Rattle.schedule_tables.proofs.Margins.{shape_rules}
-use Rattle.schedule_tables.specs.Entries.{IsEntry, source_by, source_of}
-use Rattle.schedule_tables.specs.Rules.{KeepsRules}
-use Rattle.schedule_tables.specs.declared.entry.Entry.{Entry}
-use Rattle.schedule_tables.specs.declared.rule.Rule.TheVariants.{Joints}
-use Rattle.tte_lemmas.proofs.Options.{closed, one as same_some, opened}
 
 -- ---- the ends of a link
 

@@ -1,68 +1,30 @@
 -- What a synchronised compression master sends was opened by a frame that passed its gate.
-use Rattle.std.proofs.Common.{◌≡◌, ℕ, ◌+◌, ◌*◌, ◌≤◌, ◌<◌, ℤ, pos, ◌+ℤ◌, ◌-ℤ◌, ◌≤ℤ◌, Bool, true, false, ◌&&◌, ◌||◌, List, [], ◌∷◌, ◌++◌, filter, Option, Some, None, MatchBool, nat_lt, inl, inr, refl, sym, ap, subst, ◌∙◌, append_assoc, int_lt, arith}
-use Rattle.std.proofs.lemmas.Bool.{both_ways, eqb-true, false_from_ne_true, cases_lt, le-ltb, lt-ltb}
-use Rattle.std.proofs.lemmas.Int.{ints}
-use Rattle.std.proofs.lemmas.List.Sums.{fold-append}
-use Rattle.std.specs.List.{after_last}
-use Rattle.std.specs.Option.{option_map_or}
-use Rattle.std.specs.Prelude.{◌==◌, if◌then◌else◌, option_and_then}
-use Rattle.compression.specs.Clusters.{Point, point_at}
-use Rattle.compression.specs.Emission.{emission}
-use Rattle.compression.specs.declared.compressed.Compressed.{Compressed}
+use Rattle.traffic_law.proofs.Words.{if◌then◌else◌, ◌&&◌, ◌*◌, ◌++◌, ◌+ℤ◌, ◌+◌, ◌-ℤ◌, ◌<◌, ◌==◌, ◌||◌, ◌∙◌, ◌∷◌, ◌≡◌, ◌≤ℤ◌, ◌≤◌, Bool, DeviceId, Happening}
+use Rattle.traffic_law.proofs.Words.{IsBefore, IsCaused, IsDue, IsFounded, IsFoundedAt, IsIn, IsView, Joining, Judgement, LinkId, List, Network, None, NoteBody}
+use Rattle.traffic_law.proofs.Words.{Option, Pcf, Reason, Scenario, Sizes, Some, State, Synchronised, TimedAreNotTurnedOn, Units, View, [], adjustment_after}
+use Rattle.traffic_law.proofs.Words.{adjustment_left, amount, ap, append_assoc, arith, before_of, behind_first, between, both_ways, cases_lt, earlier}
+use Rattle.traffic_law.proofs.Words.{earlier_before, earlier_parts, eqb-true, false, false_from_ne_true, filter, fold-append, founded_at, has_time, in_between}
+use Rattle.traffic_law.proofs.Words.{in_left, in_order, in_parts, inl, inr, int_lt, ints, is_joined_by, is_synchronised, is_turned_on_at, key, le-ltb, lt-ltb}
+use Rattle.traffic_law.proofs.Words.{members_in, nat_lt, none_first, not_less, numbered_in, offset_in_cycle, one_device, option_and_then, option_map_or, parted}
+use Rattle.traffic_law.proofs.Words.{place_of, pos, rank, refl, start_of, state_after, state_at_start, state_left, state_with, steady, subst, sym, time_of}
+use Rattle.traffic_law.proofs.Words.{true, ℕ, ℤ}
+use Rattle.std.{proofs.Common.MatchBool, specs.List.after_last}
+use Rattle.compression.specs.{Clusters.{Point, point_at}, Emission.emission, declared.compressed.Compressed.Compressed}
 use Rattle.drift_clock.specs.Reach.{IsReach}
-use Rattle.net_plan.proofs.SameIds.{one_device}
-use Rattle.net_plan.specs.declared.ids.DeviceId.{DeviceId}
-use Rattle.net_plan.specs.declared.ids.LinkId.{LinkId}
-use Rattle.net_plan.specs.declared.network.Network.{Network}
 use Rattle.pcf_values.specs.declared.members.Members.{Members}
-use Rattle.pcf_values.specs.declared.pcf.Pcf.{Pcf}
-use Rattle.precision_law.proofs.clocks.Readings.{permanence_is_sharp}
-use Rattle.precision_law.proofs.records.Behind.{behind_last}
-use Rattle.precision_law.proofs.records.Judged.{all_judge}
-use Rattle.precision_law.proofs.records.Points.{before_of, earlier_before}
-use Rattle.precision_law.proofs.records.Times.{between, earlier_parts, in_between}
-use Rattle.precision_law.proofs.records.Views.{in_order, steady}
-use Rattle.precision_law.specs.Blocks.{adjustment_left, state_left}
-use Rattle.precision_law.specs.Epochs.{has_time}
-use Rattle.precision_law.specs.Sizes.{Sizes}
-use Rattle.precision_law.specs.Views.{IsView, View}
-use Rattle.run_law.proofs.control.Verdicts.{none_first}
-use Rattle.run_law.proofs.law.FirstPlaces.{IsFoundedAt, founded_at, numbered_in}
-use Rattle.run_law.proofs.records.Order.{contained, given_of, none_any, same_kept}
-use Rattle.run_law.proofs.runs.Lacking.{behind_first}
-use Rattle.run_law.proofs.runs.Places.{in_left, in_parts, in_right, parted}
-use Rattle.run_law.specs.control.Collections.{ends_stretch, master_of, point_by, point_fault, points_of, observation_window}
-use Rattle.run_law.specs.control.Emissions.{Emits}
-use Rattle.run_law.specs.control.Permanence.{IsCollectedOrDropped, IsJudgedBy, BecomesPermanent, ripe_as}
+use Rattle.precision_law.proofs.{clocks.Readings.permanence_is_sharp, records.{Behind.behind_last, Judged.all_judge}}
+use Rattle.run_law.proofs.{records.Order.{contained, given_of, none_any, same_kept}, runs.Places.in_right}
+use Rattle.run_law.specs.control.{Collections.{ends_stretch, master_of, observation_window, point_by, point_fault, points_of}, Emissions.Emits}
+use Rattle.run_law.specs.control.Permanence.{BecomesPermanent, IsCollectedOrDropped, IsJudgedBy, ripe_as}
+use Rattle.run_law.specs.{device.States.{adjustment_at_hearing, cycle_in, has_joined_at, state_at_hearing}, records.Happenings.frame_by, scenario.Devices.is_cm}
+use Rattle.schedule_tables.specs.Margins.{compression_time}
+use Rattle.tte_lemmas.proofs.Integers.{whole as not_negative}
+use Rattle.traffic_law.proofs.{delivery.Sent.no_later, ports.{Arrived.arrived_sound, Openers.opened_by}, spans.Forward.no_joining}
+use Rattle.traffic_law.proofs.spans.Synchronised.{Keeps, kept_by_all, kept_if}
 use Rattle.run_law.specs.declared.judgement.Judgement.TheVariants as judgements
-use Rattle.run_law.specs.declared.judgement.Judgement.{Judgement}
-use Rattle.run_law.specs.declared.judgement.Reason.{Reason}
 use Rattle.run_law.specs.declared.judgement.Why.TheVariants as whys
 use Rattle.run_law.specs.declared.note.NoteBody.TheVariants as notes
-use Rattle.run_law.specs.declared.note.NoteBody.{NoteBody}
 use Rattle.run_law.specs.declared.steps.Ripe.TheVariants as ripe
-use Rattle.run_law.specs.device.Standpoints.{offset_in_cycle}
-use Rattle.run_law.specs.device.States.{adjustment_after, adjustment_at_hearing, cycle_in, has_joined_at, is_joined_by, is_synchronised, state_after, state_at_hearing, state_with}
-use Rattle.run_law.specs.records.Happenings.{Happening, earlier, frame_by, time_of}
-use Rattle.run_law.specs.records.Order.{IsBefore, IsIn}
-use Rattle.run_law.specs.records.Ranks.{key, members_in, place_of, rank}
-use Rattle.run_law.specs.runs.DueRecords.{IsCaused, IsDue}
-use Rattle.run_law.specs.runs.Runs.{IsFounded}
-use Rattle.run_law.specs.scenario.Devices.{is_cm, start_of}
-use Rattle.run_law.specs.scenario.Scenarios.{Scenario, is_turned_on_at}
-use Rattle.schedule_tables.specs.Margins.{compression_time}
-use Rattle.sync_state.specs.Standing.{state_at_start}
-use Rattle.sync_state.specs.declared.state.State.TheVariants.{Joining, Synchronised}
-use Rattle.sync_state.specs.declared.state.State.{State}
-use Rattle.traffic_law.proofs.delivery.Sent.{no_later}
-use Rattle.traffic_law.proofs.ports.Arrived.{arrived_sound}
-use Rattle.traffic_law.proofs.ports.Openers.{opened_by}
-use Rattle.traffic_law.proofs.spans.Forward.{no_joining}
-use Rattle.traffic_law.proofs.spans.Synchronised.{Keeps, kept_by_all, kept_if}
-use Rattle.traffic_law.specs.Senders.{TimedAreNotTurnedOn}
-use Rattle.tte_lemmas.proofs.Integers.{not_less, whole as not_negative}
-use Rattle.tte_units.specs.Amount.{amount}
-use Rattle.tte_units.specs.declared.units.Units.{Units}
 
 -- ---- the opener's record
 

@@ -1,62 +1,24 @@
 -- A switch that dispatches a frame gives no control frame to a link in the span of the cycle, until just before the next.
-use Rattle.std.proofs.Common.{◌≡◌, ℕ, zero, suc, ◌+◌, ◌*◌, ◌<◌, ◌≤◌, ℤ, pos, negsuc, ◌+ℤ◌, ◌-ℤ◌, ◌≤ℤ◌, ◌<ℤ◌, int_lt, unsigned_abs, Bool, true, false, ◌&&◌, List, [], Option, Some, None, inl, inr, refl, sym, ap, subst, ◌∙◌, arith}
-use Rattle.std.proofs.lemmas.Bool.{both_ways, cases_lt}
-use Rattle.std.proofs.lemmas.Int.{by_lt_z, ints}
-use Rattle.std.specs.Option.{option_map_or}
-use Rattle.net_plan.specs.declared.ids.DeviceId.{DeviceId}
-use Rattle.net_plan.specs.declared.ids.LinkId.{LinkId}
+use Rattle.traffic_law.proofs.Words.{◌&&◌, ◌*◌, ◌+ℤ◌, ◌+◌, ◌-ℤ◌, ◌<ℤ◌, ◌<◌, ◌∙◌, ◌≡◌, ◌≤ℤ◌, ◌≤◌, Bool, BringsBlocks, ComesTo, Corrected, DeviceId}
+use Rattle.traffic_law.proofs.Words.{GivingsKeepAway, Happening, IsCaused, IsGood, IsIn, IsInBlock, IsInSpan, IsOldAt, IsTimedAt, IsView, Judgement, LinkId}
+use Rattle.traffic_law.proofs.Words.{List, None, NoteBody, Option, Sizes, Some, Stands, Synchronised, TimedAreNotTurnedOn, Units, View, [], adjustment_after}
+use Rattle.traffic_law.proofs.Words.{adjustment_left, adjustment_stays, amount, ap, arith, before_narrow, before_of, begins_late, block_ends, both_ways}
+use Rattle.traffic_law.proofs.Words.{by_lt_z, cases_lt, changes_adjustment, clock_of, clocks_reach_sharply, earlier, earlier_before, epoch_time, false}
+use Rattle.traffic_law.proofs.Words.{follows_before, founded_at, has_time, inl, inr, int_lt, ints, is_end, is_relay, is_synchronised, is_turned_on_at}
+use Rattle.traffic_law.proofs.Words.{last_correction, last_setting, negsuc, not_less, offset_in_cycle, option_map_or, pos, reaches_by, refl, room, setting_is}
+use Rattle.traffic_law.proofs.Words.{shown_at, standpoint, state_after, state_left, subst, suc, sym, time_of, true, within_run, zero, ℕ, ℤ}
+use Rattle.std.proofs.Common.{unsigned_abs}
 use Rattle.pcf_values.specs.declared.members.Members.{Members}
-use Rattle.precision_law.proofs.clocks.Epochs.{adjustment_stays, clocks_reach_sharply}
-use Rattle.precision_law.proofs.law.OnTime.{begins_late}
-use Rattle.precision_law.proofs.law.Together.{before_narrow, block_ends, follows_before, new_shows, old_shows, set_shows}
-use Rattle.precision_law.proofs.records.Points.{before_of, earlier_before, point_timed, setting_is, within_run}
-use Rattle.precision_law.proofs.records.Views.{room}
-use Rattle.precision_law.proofs.sizes.Instants.{set_clocks_stay_at_correction}
-use Rattle.precision_law.specs.BlockLaws.{BlockIsOver, ComesTo}
-use Rattle.precision_law.specs.Blocks.{HasTimeAt, IsInBlock, IsOldAt, Stands, adjustment_left, state_left}
-use Rattle.precision_law.specs.Epochs.{epoch_time, has_time, last_setting}
-use Rattle.precision_law.specs.Hulls.{IsOverBefore, last_correction}
-use Rattle.precision_law.specs.Sizes.{Sizes}
-use Rattle.precision_law.specs.Views.{IsGood, IsView, View}
-use Rattle.run_law.proofs.device.States.{reaches_by}
-use Rattle.run_law.proofs.law.FirstPlaces.{founded_at}
-use Rattle.run_law.proofs.records.Happenings.{is_earlier}
-use Rattle.run_law.proofs.scenario.Devices.{master_end}
-use Rattle.run_law.specs.control.Corrections.{correction_value}
-use Rattle.run_law.specs.control.Leaving.{Gives}
-use Rattle.run_law.specs.declared.judgement.Judgement.{Judgement}
-use Rattle.run_law.specs.declared.note.NoteBody.TheVariants as notes
-use Rattle.run_law.specs.declared.note.NoteBody.{NoteBody}
-use Rattle.run_law.specs.device.LocalClocks.{changes_adjustment}
-use Rattle.run_law.specs.device.Standpoints.{clock_of, offset_in_cycle, standpoint}
-use Rattle.run_law.specs.device.States.{adjustment_after, is_synchronised, state_after}
-use Rattle.run_law.specs.records.Happenings.{Happening, earlier, time_of}
-use Rattle.run_law.specs.records.Order.{IsIn}
-use Rattle.run_law.specs.runs.DueRecords.{IsCaused}
-use Rattle.run_law.specs.scenario.Devices.{is_end, is_relay}
-use Rattle.run_law.specs.scenario.Scenarios.{is_turned_on_at}
-use Rattle.sync_state.specs.declared.answers.Verdict.TheVariants.{Corrected}
-use Rattle.sync_state.specs.declared.state.State.TheVariants.{Synchronised}
-use Rattle.traffic_law.proofs.delivery.Receiving.{state_is}
-use Rattle.traffic_law.proofs.delivery.Sent.{no_later, none_last}
-use Rattle.traffic_law.proofs.ports.Arrived.{arrived_sound}
-use Rattle.traffic_law.proofs.ports.Cycles.{same_end, same_next}
-use Rattle.traffic_law.proofs.ports.Dispatched.{cycle_is, dispatches_are_in_spans}
-use Rattle.traffic_law.proofs.ports.Gates.{PassesGate, emission_opened}
-use Rattle.traffic_law.proofs.ports.Leavings.{hull_proper, hulls_follow}
-use Rattle.traffic_law.proofs.schedule.Values.{cycle_whole, so_far, so_far_in}
-use Rattle.traffic_law.proofs.spans.Corrected.{earlier_founded, in_places, last_is_correction, last_of}
-use Rattle.traffic_law.proofs.spans.Forward.{synchronised_stay_so}
-use Rattle.traffic_law.proofs.spans.Reaching.{hull_behind}
-use Rattle.traffic_law.proofs.spans.Spans.{corrected_late, has_time_at, synchronised_keep_time}
+use Rattle.precision_law.proofs.{law.Together.{new_shows, old_shows, set_shows}, records.Points.point_timed, sizes.Instants.set_clocks_stay_at_correction}
+use Rattle.precision_law.specs.{BlockLaws.BlockIsOver, Blocks.HasTimeAt, Hulls.IsOverBefore}
+use Rattle.run_law.{proofs.{records.Happenings.is_earlier, scenario.Devices.master_end}, specs.control.{Corrections.correction_value, Leaving.Gives}}
+use Rattle.tte_lemmas.proofs.Integers.{whole}
+use Rattle.traffic_law.proofs.{delivery.{Receiving.state_is, Sent.{no_later, none_last}}, ports.{Arrived.arrived_sound, Cycles.{same_end, same_next}}}
+use Rattle.traffic_law.proofs.ports.{Dispatched.{cycle_is, dispatches_are_in_spans}, Gates.{PassesGate, emission_opened}, Leavings.{hull_proper, hulls_follow}}
+use Rattle.traffic_law.proofs.{schedule.Values.{cycle_whole, so_far, so_far_in}, spans.Corrected.{earlier_founded, in_places, last_is_correction, last_of}}
+use Rattle.traffic_law.proofs.spans.{Forward.synchronised_stay_so, Reaching.hull_behind, Spans.{corrected_late, has_time_at, synchronised_keep_time}}
 use Rattle.traffic_law.proofs.spans.Synchronised.{synchronised_stays}
-use Rattle.traffic_law.specs.Bringing.{BringsBlocks}
-use Rattle.traffic_law.specs.Ports.{GivingsKeepAway}
-use Rattle.traffic_law.specs.Senders.{TimedAreNotTurnedOn}
-use Rattle.traffic_law.specs.Spans.{IsInSpan, IsTimedAt, shown_at}
-use Rattle.tte_lemmas.proofs.Integers.{not_less, whole}
-use Rattle.tte_units.specs.Amount.{amount}
-use Rattle.tte_units.specs.declared.units.Units.{Units}
+use Rattle.run_law.specs.declared.note.NoteBody.TheVariants as notes
 
 -- ---- gates
 

@@ -1,58 +1,19 @@
 -- A frame of the schedule and a control frame do not meet on a port.
-use Rattle.std.proofs.Common.{◌≡◌, ◌⊎◌, ℕ, zero, suc, ◌+◌, ◌*◌, ◌<◌, ◌≤◌, ℤ, pos, ◌+ℤ◌, ◌≤ℤ◌, Bool, true, false, ◌∷◌, Option, Some, None, inl, inr, refl, sym, ap, subst, ◌∙◌, arith}
-use Rattle.std.proofs.lemmas.Bool.{cases_lt}
-use Rattle.std.proofs.lemmas.Int.{ints}
-use Rattle.std.specs.Option.{option_map_or}
-use Rattle.net_plan.proofs.Shape.{rules_give_trees}
-use Rattle.net_plan.specs.Places.{device_at, link_at, is_end_system}
-use Rattle.net_plan.specs.declared.ids.DeviceId.{DeviceId}
-use Rattle.net_plan.specs.declared.ids.LinkId.{LinkId}
-use Rattle.net_plan.specs.declared.ids.VlId.{VlId}
-use Rattle.net_plan.specs.declared.network.Network.{Network}
-use Rattle.net_plan.specs.declared.tables.Device.{Device}
-use Rattle.net_plan.specs.declared.tables.Link.{Link}
-use Rattle.net_plan.specs.declared.tables.Role.{Role}
-use Rattle.net_plan.specs.declared.tables.Way.{Way}
-use Rattle.precision_law.proofs.Plain.{cm_is_no_end}
-use Rattle.precision_law.proofs.block.Hulls.{has_before}
-use Rattle.precision_law.proofs.law.Together.{before_narrow}
-use Rattle.precision_law.proofs.records.Points.{within_run}
-use Rattle.precision_law.proofs.records.Views.{room}
-use Rattle.precision_law.proofs.sizes.Instants.{instants_are_in_order}
-use Rattle.precision_law.proofs.trips.Legs.{relay_not_end}
-use Rattle.precision_law.specs.Blocks.{Stands}
-use Rattle.precision_law.specs.Hulls.{Hull, IsInHull, IsNarrow, hull_of, start_hull}
-use Rattle.precision_law.specs.Sizes.{Sizes}
-use Rattle.precision_law.specs.Views.{IsDispatch, IsGood, IsView, View}
-use Rattle.run_law.proofs.law.FirstDelays.{hold_most}
-use Rattle.run_law.proofs.law.FirstPlaces.{IsFoundedAt, founded_at, numbered_in}
-use Rattle.run_law.proofs.runs.Places.{in_left}
-use Rattle.run_law.specs.control.Leaving.{Departs, Gives, leaves}
+use Rattle.traffic_law.proofs.Words.{◌*◌, ◌+ℤ◌, ◌+◌, ◌<◌, ◌∙◌, ◌∷◌, ◌≡◌, ◌≤ℤ◌, ◌≤◌, ◌⊎◌, Bool, BringsBlocks, Device, DeviceId, Entry, GivingsKeepAway}
+use Rattle.traffic_law.proofs.Words.{Happening, Hull, IsCaused, IsEntry, IsFoundedAt, IsGood, IsIn, IsRowDispatch, IsView, Link, LinkId, Network, None}
+use Rattle.traffic_law.proofs.Words.{NoteBody, Option, Sizes, Some, Stands, View, VlId, Way, amount, ap, arith, before_narrow, cases_lt, device_at, false}
+use Rattle.traffic_law.proofs.Words.{founded_at, has_before, hull_of, in_all, in_left, in_range, inl, inr, ints, is_end, is_end_system, link_at, numbered_in}
+use Rattle.traffic_law.proofs.Words.{octet_time, option_map_or, port_time, pos, refl, room, same_some, subst, suc, sym, time_of, true, way_from, within_run}
+use Rattle.traffic_law.proofs.Words.{zero, ℕ, ℤ}
+use Rattle.net_plan.{proofs.Shape.rules_give_trees, specs.declared.tables.Role.Role}
+use Rattle.precision_law.proofs.{Plain.cm_is_no_end, sizes.Instants.instants_are_in_order, trips.Legs.relay_not_end}
+use Rattle.precision_law.specs.{Hulls.{IsInHull, IsNarrow, start_hull}, Views.IsDispatch}
+use Rattle.run_law.{proofs.law.FirstDelays.hold_most, specs.{control.Leaving.{Departs, Gives, leaves}, law.Safety.time_of_octets}}
+use Rattle.run_law.specs.scenario.{Devices.{has_role, is_cm, is_cm_role, is_relay_role}, Ways.hold_at}
+use Rattle.schedule_tables.{proofs.Margins.margins, specs.Delays.{delay_by, pcf_port_time}}
+use Rattle.traffic_law.proofs.{ports.{Cycles.{hulls_grow, same_hull}, Dispatched.dispatches_are_in_spans}, schedule.Rows.rows_are_in_time}
+use Rattle.traffic_law.{proofs.spans.Reaching.begins_soon, specs.Ports.{GivesAt, LeavingsStandApart}}
 use Rattle.run_law.specs.declared.note.NoteBody.TheVariants as notes
-use Rattle.run_law.specs.declared.note.NoteBody.{NoteBody}
-use Rattle.run_law.specs.law.Safety.{time_of_octets}
-use Rattle.run_law.specs.records.Happenings.{Happening, time_of}
-use Rattle.run_law.specs.records.Order.{IsIn}
-use Rattle.run_law.specs.runs.DueRecords.{IsCaused}
-use Rattle.run_law.specs.scenario.Devices.{has_role, is_cm, is_cm_role, is_end, is_relay_role}
-use Rattle.run_law.specs.scenario.Ways.{hold_at, way_from}
-use Rattle.schedule_tables.proofs.EntryLemmas.{in_range}
-use Rattle.schedule_tables.proofs.Margins.{margins}
-use Rattle.schedule_tables.specs.Delays.{delay_by, pcf_port_time}
-use Rattle.schedule_tables.specs.Entries.{IsEntry}
-use Rattle.schedule_tables.specs.Windows.{port_time}
-use Rattle.schedule_tables.specs.declared.entry.Entry.{Entry}
-use Rattle.traffic_law.proofs.ports.Cycles.{hulls_grow, same_hull}
-use Rattle.traffic_law.proofs.ports.Dispatched.{dispatches_are_in_spans}
-use Rattle.traffic_law.proofs.schedule.Rows.{rows_are_in_time}
-use Rattle.traffic_law.proofs.spans.Reaching.{begins_soon}
-use Rattle.traffic_law.specs.Bringing.{BringsBlocks}
-use Rattle.traffic_law.specs.Dispatched.{IsRowDispatch}
-use Rattle.traffic_law.specs.Ports.{GivesAt, GivingsKeepAway, LeavingsStandApart}
-use Rattle.tte_lemmas.proofs.Lists.{in_all}
-use Rattle.tte_lemmas.proofs.Options.{one as same_some}
-use Rattle.tte_units.specs.Amount.{amount}
-use Rattle.tte_units.specs.OctetTime.{octet_time}
 
 -- ---- hulls
 

@@ -1,37 +1,14 @@
 -- One row has one dispatch in a cycle.
-use Rattle.std.proofs.Common.{◌≡◌, ℕ, ◌+◌, ◌*◌, ◌≤◌, ℤ, pos, ◌-ℤ◌, ◌≤ℤ◌, true, false, List, [], ◌∷◌, Option, inl, inr, sym, ap, subst, ◌∙◌, arith}
-use Rattle.std.proofs.lemmas.Bool.{both_ways, cases_lt}
-use Rattle.std.proofs.lemmas.Int.{ints}
-use Rattle.std.specs.Option.{option_map_or}
+use Rattle.traffic_law.proofs.Words.{◌*◌, ◌+◌, ◌-ℤ◌, ◌∙◌, ◌∷◌, ◌≡◌, ◌≤ℤ◌, ◌≤◌, BringsBlocks, Device, DeviceId, Entry, Happening, IsBefore, IsEntry, IsGood}
+use Rattle.traffic_law.proofs.Words.{IsIn, IsRowDispatch, IsView, KeepsRules, LinkId, List, Network, NoteBody, Option, View, VlId, [], adjustment_left, amount}
+use Rattle.traffic_law.proofs.Words.{ap, arith, both_ways, cases_lt, changed_at, device_at, false, inl, inr, ints, is_end, is_end_system, key, last_accepted}
+use Rattle.traffic_law.proofs.Words.{members_in, opened, option_map_or, place_of, pos, rank, same_some, subst, sym, time_of, true, ℕ, ℤ}
 use Rattle.drift_clock.specs.Reach.{IsReach}
-use Rattle.net_plan.specs.Places.{device_at, is_end_system}
-use Rattle.net_plan.specs.declared.ids.DeviceId.{DeviceId}
-use Rattle.net_plan.specs.declared.ids.LinkId.{LinkId}
-use Rattle.net_plan.specs.declared.ids.VlId.{VlId}
-use Rattle.net_plan.specs.declared.network.Network.{Network}
-use Rattle.net_plan.specs.declared.tables.Device.{Device}
-use Rattle.precision_law.specs.Blocks.{adjustment_left}
-use Rattle.precision_law.specs.Views.{IsGood, IsView, View}
-use Rattle.run_law.proofs.runs.Places.{never_self}
-use Rattle.run_law.specs.declared.note.NoteBody.TheVariants as notes
-use Rattle.run_law.specs.declared.note.NoteBody.{NoteBody}
-use Rattle.run_law.specs.device.LocalClocks.{changed_at}
-use Rattle.run_law.specs.records.Happenings.{Happening, time_of}
-use Rattle.run_law.specs.records.Order.{IsBefore, IsIn}
-use Rattle.run_law.specs.records.Ranks.{key, members_in, place_of, rank}
-use Rattle.run_law.specs.scenario.Devices.{is_end}
-use Rattle.run_law.specs.timed.Dispatching.{HasAtHand, last_accepted}
-use Rattle.schedule_tables.specs.Entries.{IsEntry}
-use Rattle.schedule_tables.specs.Rules.{KeepsRules}
-use Rattle.schedule_tables.specs.declared.entry.Entry.{Entry}
+use Rattle.run_law.{proofs.runs.Places.never_self, specs.timed.Dispatching.HasAtHand}
 use Rattle.schedule_tables.specs.declared.rule.Rule.TheVariants.{Senders}
-use Rattle.traffic_law.proofs.ports.Dispatched.{dispatches_are_in_spans, one_clock}
-use Rattle.traffic_law.proofs.schedule.Rows.{rows_go_once}
-use Rattle.traffic_law.proofs.spans.Corrected.{AreInPlaces, in_places}
-use Rattle.traffic_law.specs.Bringing.{BringsBlocks}
-use Rattle.traffic_law.specs.Dispatched.{DispatchesAreOne, IsRowDispatch}
-use Rattle.tte_lemmas.proofs.Options.{one as same_some, opened}
-use Rattle.tte_units.specs.Amount.{amount}
+use Rattle.traffic_law.proofs.{ports.Dispatched.{dispatches_are_in_spans, one_clock}, schedule.Rows.rows_go_once, spans.Corrected.{AreInPlaces, in_places}}
+use Rattle.traffic_law.specs.Dispatched.{DispatchesAreOne}
+use Rattle.run_law.specs.declared.note.NoteBody.TheVariants as notes
 
 -- ---- records at one place
 

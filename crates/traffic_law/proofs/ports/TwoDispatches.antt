@@ -1,32 +1,11 @@
 -- Two frames of the schedule do not meet on a port.
-use Rattle.std.proofs.Common.{◌≡◌, ◌⊎◌, ℕ, ◌+◌, ◌*◌, ◌<◌, ◌≤◌, pos, inl, inr, sym, ap, subst, ◌∙◌, arith}
-use Rattle.std.proofs.lemmas.Bool.{cases_lt}
-use Rattle.std.proofs.lemmas.Int.{ints}
+use Rattle.traffic_law.proofs.Words.{◌*◌, ◌+◌, ◌<◌, ◌∙◌, ◌≡◌, ◌≤◌, ◌⊎◌, BringsBlocks, DeviceId, Entry, Happening, Hull, IsEntry, IsGood, IsRowDispatch, IsView}
+use Rattle.traffic_law.proofs.Words.{LinkId, Sizes, View, VlId, amount, ap, arith, before_narrow, cases_lt, clocks_reach_sharply, inl, inr, ints, port_time}
+use Rattle.traffic_law.proofs.Words.{pos, room, steady, subst, sym, time_of, ℕ}
 use Rattle.net_plan.specs.Bounds.{gamma_of}
-use Rattle.net_plan.specs.declared.ids.DeviceId.{DeviceId}
-use Rattle.net_plan.specs.declared.ids.LinkId.{LinkId}
-use Rattle.net_plan.specs.declared.ids.VlId.{VlId}
-use Rattle.precision_law.proofs.clocks.Epochs.{clocks_reach_sharply}
-use Rattle.precision_law.proofs.law.Together.{before_narrow}
-use Rattle.precision_law.proofs.records.Views.{room, steady}
-use Rattle.precision_law.specs.Hulls.{Hull}
-use Rattle.precision_law.specs.Sizes.{Sizes}
-use Rattle.precision_law.specs.Views.{IsGood, IsView, View}
-use Rattle.run_law.specs.records.Happenings.{Happening, time_of}
-use Rattle.schedule_tables.proofs.EntryLemmas.{one_entry}
-use Rattle.schedule_tables.specs.Entries.{IsEntry}
-use Rattle.schedule_tables.specs.Schedule.{IsClearBefore}
-use Rattle.schedule_tables.specs.Windows.{port_time}
-use Rattle.schedule_tables.specs.declared.entry.Entry.{Entry}
-use Rattle.traffic_law.proofs.ports.Cycles.{hulls_grow, same_hull}
-use Rattle.traffic_law.proofs.ports.Dispatched.{dispatches_are_in_spans, one_clock}
-use Rattle.traffic_law.proofs.ports.Ends.{same_way}
-use Rattle.traffic_law.proofs.ports.OneDispatch.{dispatches_are_one}
-use Rattle.traffic_law.proofs.schedule.Rows.{rows_are_in_time, rows_stand_apart}
-use Rattle.traffic_law.specs.Bringing.{BringsBlocks}
-use Rattle.traffic_law.specs.Dispatched.{IsRowDispatch}
-use Rattle.traffic_law.specs.Ports.{DispatchesStandApart}
-use Rattle.tte_units.specs.Amount.{amount}
+use Rattle.schedule_tables.{proofs.EntryLemmas.one_entry, specs.Schedule.IsClearBefore}
+use Rattle.traffic_law.proofs.ports.{Cycles.{hulls_grow, same_hull}, Dispatched.{dispatches_are_in_spans, one_clock}, Ends.same_way}
+use Rattle.traffic_law.{proofs.{ports.OneDispatch.dispatches_are_one, schedule.Rows.{rows_are_in_time, rows_stand_apart}}, specs.Ports.DispatchesStandApart}
 
 -- the frame of an earlier cycle has left the port
 cycles_apart : BringsBlocks → (v : View) (h g : Happening) (device : DeviceId) (link : LinkId) (cause other : ℕ) (vl second : VlId) (cycle number : ℕ)

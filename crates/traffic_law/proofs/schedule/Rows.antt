@@ -1,21 +1,9 @@
 -- The room that the schedule leaves its rows.
-use Rattle.std.proofs.Common.{◌≡◌, ◌⊎◌, ℕ, ◌+◌, ◌*◌, ◌≤◌, ◌<◌, inl, inr, sym, ap, subst, arith}
-use Rattle.std.proofs.lemmas.Bool.{cases_lt}
-use Rattle.net_plan.specs.declared.network.Network.{Network}
-use Rattle.net_plan.specs.declared.tables.Link.{Link}
-use Rattle.precision_law.specs.Sizes.{Sizes}
-use Rattle.schedule_tables.proofs.Entries.{begun_below, occur_together}
-use Rattle.schedule_tables.proofs.EntryLemmas.{one_entry}
-use Rattle.schedule_tables.specs.Delays.{pcf_port_time}
-use Rattle.schedule_tables.specs.Entries.{IsEntry}
-use Rattle.schedule_tables.specs.Rules.{KeepsRules}
-use Rattle.schedule_tables.specs.Schedule.{IsClearBefore}
-use Rattle.schedule_tables.specs.Windows.{OccursIn}
-use Rattle.schedule_tables.specs.declared.entry.Entry.{Entry}
+use Rattle.traffic_law.proofs.Words.{◌*◌, ◌+◌, ◌<◌, ◌≡◌, ◌≤◌, ◌⊎◌, Entry, IsEntry, KeepsRules, Link, Network, OccursIn, Sizes, amount, ap, arith, cases_lt}
+use Rattle.traffic_law.proofs.Words.{in_all, inl, inr, subst, sym, ℕ}
+use Rattle.schedule_tables.{proofs.{Entries.{begun_below, occur_together}, EntryLemmas.one_entry}, specs.{Delays.pcf_port_time, Schedule.IsClearBefore}}
 use Rattle.schedule_tables.specs.declared.rule.Rule.TheVariants.{LinksOnce, Periods, ScheduleStart, Spacing, WindowEnds}
 use Rattle.traffic_law.specs.Rows.{RowsAreInTime, RowsComeInSchedule, RowsGoOnce, RowsStandApart}
-use Rattle.tte_lemmas.proofs.Lists.{in_all}
-use Rattle.tte_units.specs.Amount.{amount}
 
 -- ---- the schedule's begin
 

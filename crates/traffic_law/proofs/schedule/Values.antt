@@ -1,11 +1,8 @@
 -- The cycle of a local value and its place in the cycle.
-use Rattle.std.proofs.Common.{◌≡◌, ℕ, ◌+◌, ◌-◌, ◌*◌, ◌<◌, ℤ, pos, negsuc, ◌≤ℤ◌, ◌<ℤ◌, sym, ap, ◌∙◌, arith}
-use Rattle.std.proofs.lemmas.Int.{ints}
-use Rattle.std.proofs.lemmas.Nat.{div-mul-add, mod-mul-add}
-use Rattle.std.specs.Int.{int_div_euclid, int_rem_euclid}
-use Rattle.net_plan.specs.declared.network.Network.{Network}
-use Rattle.precision_law.specs.Views.{IsView, View}
-use Rattle.run_law.specs.device.Standpoints.{cycle_at, natural, offset_in_cycle}
+use Rattle.traffic_law.proofs.Words.{◌*◌, ◌+◌, ◌-◌, ◌<ℤ◌, ◌<◌, ◌∙◌, ◌≡◌, ◌≤ℤ◌, IsView, Network, View, ap, arith, cycle_at, ints, negsuc, offset_in_cycle, pos}
+use Rattle.traffic_law.proofs.Words.{sym, ℕ, ℤ}
+use Rattle.std.{proofs.lemmas.Nat.{div-mul-add, mod-mul-add}, specs.Int.{int_div_euclid, int_rem_euclid}}
+use Rattle.run_law.specs.device.Standpoints.{natural}
 use Rattle.tte_lemmas.proofs.Integers.{whole as not_negative}
 use Rattle.traffic_law.proofs.ports.Dispatched.{cycle_is}
 

@@ -1,33 +1,13 @@
 -- The clock of a synchronised device was last set by a correction.
-use Rattle.std.proofs.Common.{◌≡◌, ◌⊎◌, ℕ, Bool, true, false, List, [], ◌∷◌, ◌++◌, filter, Option, Some, inl, inr, refl, sym, ap, subst, ◌∙◌, append_assoc}
-use Rattle.std.proofs.lemmas.Bool.{both_ways, false_from_ne_true, le-ltb, lt-ltb, cases_lt}
-use Rattle.std.proofs.lemmas.List.{append-nil}
-use Rattle.std.proofs.lemmas.List.Elements.{filter-append}
-use Rattle.std.specs.List.{last_or}
-use Rattle.std.specs.Prelude.{nat_lt, if◌then◌else◌}
-use Rattle.net_plan.proofs.SameIds.{one_device}
-use Rattle.net_plan.specs.declared.ids.DeviceId.{DeviceId}
+use Rattle.traffic_law.proofs.Words.{if◌then◌else◌, ◌++◌, ◌∙◌, ◌∷◌, ◌≡◌, ◌⊎◌, Bool, DeviceId, Happening, IsBefore, IsDue, IsFounded, IsIn, IsView, List}
+use Rattle.traffic_law.proofs.Words.{NoteBody, Option, Scenario, Some, Synchronised, Units, View, [], ap, append_assoc, behind_first, both_ways, cases_lt}
+use Rattle.traffic_law.proofs.Words.{changes_adjustment, earlier, false, false_from_ne_true, filter, in_filter, inl, inr, is_joined_by, is_synchronised}
+use Rattle.traffic_law.proofs.Words.{last_in, last_or, last_setting, le-ltb, lt-ltb, nat_lt, none_kept, one_device, place_of, refl, setting_is, split}
+use Rattle.traffic_law.proofs.Words.{state_left, subst, sym, time_of, true, ℕ}
+use Rattle.std.proofs.lemmas.List.{append-nil, Elements.filter-append}
 use Rattle.precision_law.proofs.clocks.Joiners.{joiner_waits}
-use Rattle.precision_law.proofs.records.Points.{last_in, setting_is}
-use Rattle.precision_law.specs.Blocks.{state_left}
-use Rattle.precision_law.specs.Epochs.{last_setting}
-use Rattle.precision_law.specs.Views.{IsView, View}
-use Rattle.run_law.proofs.law.FirstPlaces.{front_founded, in_filter, none_kept, split}
-use Rattle.run_law.proofs.records.Happenings.{soon}
-use Rattle.run_law.proofs.records.Order.{all_kept}
-use Rattle.run_law.proofs.runs.Lacking.{behind_first}
+use Rattle.run_law.proofs.{law.FirstPlaces.front_founded, records.{Happenings.soon, Order.all_kept}}
 use Rattle.run_law.specs.declared.note.NoteBody.TheVariants as notes
-use Rattle.run_law.specs.declared.note.NoteBody.{NoteBody}
-use Rattle.run_law.specs.device.LocalClocks.{changes_adjustment}
-use Rattle.run_law.specs.device.States.{is_joined_by, is_synchronised}
-use Rattle.run_law.specs.records.Happenings.{Happening, earlier, time_of}
-use Rattle.run_law.specs.records.Order.{IsBefore, IsIn}
-use Rattle.run_law.specs.records.Ranks.{place_of}
-use Rattle.run_law.specs.runs.DueRecords.{IsDue}
-use Rattle.run_law.specs.runs.Runs.{IsFounded}
-use Rattle.run_law.specs.scenario.Scenarios.{Scenario}
-use Rattle.sync_state.specs.declared.state.State.TheVariants.{Synchronised}
-use Rattle.tte_units.specs.declared.units.Units.{Units}
 
 -- ---- the earlier records
 

@@ -1,57 +1,21 @@
 -- A synchronised device stays so in the span of a cycle.
-use Rattle.std.proofs.Common.{◌≡◌, ℕ, zero, suc, ◌+◌, ◌-◌, ◌≤◌, pos, negsuc, ◌<ℤ◌, Bool, true, false, ◌&&◌, List, [], ◌∷◌, ◌++◌, filter, fold, Option, None, inl, inr, refl, sym, ap, subst, ◌∙◌, arith}
-use Rattle.std.proofs.lemmas.Bool.{both_ways, eq-eqb, false_from_ne_true}
-use Rattle.std.proofs.lemmas.Int.{ints}
-use Rattle.std.proofs.lemmas.List.{append-nil}
-use Rattle.std.proofs.lemmas.List.Elements.{filter-append}
-use Rattle.std.proofs.lemmas.List.Sums.{fold-append}
-use Rattle.std.proofs.lemmas.Map.Keys.{any_passes_from_place}
-use Rattle.std.specs.List.{last_or}
-use Rattle.std.specs.Option.{option_map_or}
-use Rattle.std.specs.Prelude.{◌==◌, if◌then◌else◌}
-use Rattle.net_plan.proofs.SameIds.{one_device}
-use Rattle.net_plan.specs.declared.event.Event.{Event}
+use Rattle.traffic_law.proofs.Words.{if◌then◌else◌, ◌&&◌, ◌++◌, ◌+◌, ◌-◌, ◌<ℤ◌, ◌==◌, ◌∙◌, ◌∷◌, ◌≡◌, ◌≤◌, Bool, BringsBlocks, ChangesState, ComesTo, Corrected}
+use Rattle.traffic_law.proofs.Words.{DeviceId, Event, Happening, Integrates, Integrating, IsCaused, IsFoundedAt, IsIn, IsInBlock, IsInSpan, IsOldAt, IsTimedAt}
+use Rattle.traffic_law.proofs.Words.{IsView, Judgement, List, None, NoteBody, Option, Scenario, State, Synchronised, TimedAreNotTurnedOn, Units, View, Why, []}
+use Rattle.traffic_law.proofs.Words.{amount, ap, arith, before_of, between, both_ways, changes_adjustment, earlier, earlier_before, earlier_parts, eq-eqb}
+use Rattle.traffic_law.proofs.Words.{false, false_from_ne_true, filter, fold, fold-append, founded_at, in_between, in_left, in_order, inl, inr, ints}
+use Rattle.traffic_law.proofs.Words.{is_joined_by, is_turned_on_at, last_or, last_setting, negsuc, none_kept, numbered_in, one_device, option_map_or, pos, refl}
+use Rattle.traffic_law.proofs.Words.{start_of, state_after, state_at_start, state_left, state_with, subst, suc, sym, time_of, true, zero, ℕ}
+use Rattle.std.proofs.lemmas.{List.{append-nil, Elements.filter-append}, Map.Keys.any_passes_from_place}
 use Rattle.net_plan.specs.declared.event.What.TheVariants.{On}
-use Rattle.net_plan.specs.declared.ids.DeviceId.{DeviceId}
-use Rattle.precision_law.proofs.faults.Turned.{looking_by}
-use Rattle.precision_law.proofs.records.Points.{before_of, earlier_before}
-use Rattle.precision_law.proofs.records.Times.{between, earlier_parts, in_between}
-use Rattle.precision_law.proofs.records.Views.{in_order}
-use Rattle.precision_law.specs.BlockLaws.{AreBeforeCorrections, ComesTo}
-use Rattle.precision_law.specs.Blocks.{IsInBlock, IsOldAt, state_left}
-use Rattle.precision_law.specs.Epochs.{last_setting}
-use Rattle.precision_law.specs.Views.{IsView, View}
-use Rattle.run_law.proofs.law.FirstPlaces.{IsFoundedAt, founded_at, none_kept, numbered_in}
-use Rattle.run_law.proofs.runs.Places.{in_left}
-use Rattle.run_law.specs.control.Corrections.{ComesToCorrection}
-use Rattle.run_law.specs.control.Permanence.{ripe_as}
+use Rattle.precision_law.{proofs.faults.Turned.looking_by, specs.BlockLaws.AreBeforeCorrections}
+use Rattle.run_law.specs.{control.{Corrections.ComesToCorrection, Permanence.ripe_as}, runs.DueRecords.IsEventRecord, scenario.Scenarios.turns_on}
+use Rattle.sync_state.specs.declared.answers.Verdict.{Verdict, TheVariants.{AsyncClique, SyncClique}}
+use Rattle.traffic_law.{proofs.spans.Spans.has_time_at, specs.Spans.SynchronisedStaySo}
 use Rattle.run_law.specs.declared.judgement.Judgement.TheVariants as judgements
-use Rattle.run_law.specs.declared.judgement.Judgement.TheVariants.{Integrates}
-use Rattle.run_law.specs.declared.judgement.Judgement.{Judgement}
 use Rattle.run_law.specs.declared.judgement.Why.TheVariants as whys
-use Rattle.run_law.specs.declared.judgement.Why.{Why}
 use Rattle.run_law.specs.declared.note.NoteBody.TheVariants as notes
-use Rattle.run_law.specs.declared.note.NoteBody.{NoteBody}
 use Rattle.run_law.specs.declared.steps.Ripe.TheVariants as ripe
-use Rattle.run_law.specs.device.LocalClocks.{changes_adjustment}
-use Rattle.run_law.specs.device.StateChanges.{ChangesState}
-use Rattle.run_law.specs.device.States.{is_joined_by, state_after, state_with}
-use Rattle.run_law.specs.records.Happenings.{Happening, earlier, time_of}
-use Rattle.run_law.specs.records.Order.{IsIn}
-use Rattle.run_law.specs.runs.DueRecords.{IsCaused, IsEventRecord}
-use Rattle.run_law.specs.scenario.Devices.{start_of}
-use Rattle.run_law.specs.scenario.Scenarios.{Scenario, is_turned_on_at, turns_on}
-use Rattle.sync_state.specs.Standing.{state_at_start}
-use Rattle.sync_state.specs.declared.answers.Verdict.TheVariants.{AsyncClique, Corrected, SyncClique}
-use Rattle.sync_state.specs.declared.answers.Verdict.{Verdict}
-use Rattle.sync_state.specs.declared.state.State.TheVariants.{Integrating, Synchronised}
-use Rattle.sync_state.specs.declared.state.State.{State}
-use Rattle.traffic_law.proofs.spans.Spans.{has_time_at}
-use Rattle.traffic_law.specs.Bringing.{BringsBlocks}
-use Rattle.traffic_law.specs.Senders.{TimedAreNotTurnedOn}
-use Rattle.traffic_law.specs.Spans.{IsInSpan, IsTimedAt, SynchronisedStaySo}
-use Rattle.tte_units.specs.Amount.{amount}
-use Rattle.tte_units.specs.declared.units.Units.{Units}
 
 -- ---- who joins
 

@@ -1,30 +1,14 @@
 -- A device that is synchronised when the span of a cycle begins reaches each value of the schedule there.
-use Rattle.std.proofs.Common.{◌≡◌, ℕ, zero, suc, ◌+◌, ◌*◌, ◌<◌, ◌≤◌, ℤ, pos, negsuc, ◌+ℤ◌, ◌≤ℤ◌, ◌<ℤ◌, unsigned_abs, Option, Some, None, refl, sym, ap, subst, arith}
-use Rattle.std.proofs.lemmas.Int.{ints}
-use Rattle.std.specs.Option.{option_map_or}
-use Rattle.net_plan.specs.declared.ids.DeviceId.{DeviceId}
-use Rattle.precision_law.proofs.block.Coming.{set_before as changed_before}
-use Rattle.precision_law.proofs.block.Hulls.{has_before}
-use Rattle.precision_law.proofs.clocks.Epochs.{adjustment_stays, clocks_have_reached}
-use Rattle.precision_law.proofs.law.Together.{before_narrow, follows_before}
-use Rattle.precision_law.proofs.records.Points.{setting_is, within_run}
-use Rattle.precision_law.proofs.records.Views.{room}
-use Rattle.precision_law.proofs.sizes.Instants.{instants_are_in_order}
-use Rattle.precision_law.specs.Blocks.{IsOldAt, Stands, adjustment_left}
-use Rattle.precision_law.specs.Epochs.{last_setting}
-use Rattle.precision_law.specs.Hulls.{IsNarrow, hull_of, last_correction, start_hull}
-use Rattle.precision_law.specs.Views.{IsView, View}
-use Rattle.run_law.specs.device.LocalClocks.{changed_at}
-use Rattle.run_law.specs.records.Happenings.{Happening, earlier, time_of}
-use Rattle.traffic_law.proofs.ports.Cycles.{hulls_grow}
-use Rattle.traffic_law.proofs.spans.Forward.{synchronised_stay_so}
-use Rattle.traffic_law.proofs.spans.Spans.{synchronised_keep_time, values_are_reached_in_spans}
-use Rattle.traffic_law.specs.Bringing.{BringsBlocks}
-use Rattle.traffic_law.specs.Senders.{TimedAreNotTurnedOn}
-use Rattle.traffic_law.specs.Spans.{IsInSpan, IsTimedAt, ValuesAreReached}
-use Rattle.tte_lemmas.proofs.Integers.{whole}
-use Rattle.tte_lemmas.proofs.Options.{one}
-use Rattle.tte_units.specs.declared.units.Units.{Units}
+use Rattle.traffic_law.proofs.Words.{◌*◌, ◌+ℤ◌, ◌+◌, ◌<ℤ◌, ◌<◌, ◌≡◌, ◌≤ℤ◌, ◌≤◌, BringsBlocks, DeviceId, Happening, IsInSpan, IsOldAt, IsTimedAt, IsView, None}
+use Rattle.traffic_law.proofs.Words.{Option, Some, Stands, TimedAreNotTurnedOn, Units, View, adjustment_left, adjustment_stays, ap, arith, before_narrow}
+use Rattle.traffic_law.proofs.Words.{changed_at, earlier, follows_before, has_before, hull_of, ints, last_correction, last_setting, negsuc, option_map_or, pos}
+use Rattle.traffic_law.proofs.Words.{refl, room, setting_is, subst, suc, sym, time_of, within_run, zero, ℕ, ℤ}
+use Rattle.std.proofs.Common.{unsigned_abs}
+use Rattle.precision_law.proofs.{block.Coming.set_before as changed_before, clocks.Epochs.clocks_have_reached, sizes.Instants.instants_are_in_order}
+use Rattle.precision_law.specs.Hulls.{IsNarrow, start_hull}
+use Rattle.tte_lemmas.proofs.{Integers.whole, Options.one}
+use Rattle.traffic_law.proofs.{ports.Cycles.hulls_grow, spans.{Forward.synchronised_stay_so, Spans.{synchronised_keep_time, values_are_reached_in_spans}}}
+use Rattle.traffic_law.specs.Spans.{ValuesAreReached}
 
 -- ---- the beginning of a span
 

@@ -1,33 +1,14 @@
 -- The span of a cycle: what clocks show there, and when they reach a value of the schedule.
-use Rattle.std.proofs.Common.{◌≡◌, ℕ, zero, suc, ◌+◌, ◌*◌, ◌<◌, ◌≤◌, ℤ, pos, negsuc, ◌+ℤ◌, ◌≤ℤ◌, ◌<ℤ◌, true, Option, Some, None, inl, inr, refl, sym, ap, subst, arith, suc-mul}
-use Rattle.std.proofs.Math.Nat.{mul-le-mul_right}
-use Rattle.std.proofs.lemmas.Bool.{cases_lt}
-use Rattle.std.proofs.lemmas.Int.{by_lt_z, ints}
-use Rattle.std.specs.Option.{option_map_or}
-use Rattle.net_plan.specs.declared.ids.DeviceId.{DeviceId}
-use Rattle.precision_law.proofs.clocks.Epochs.{clocks_reach_sharply}
-use Rattle.precision_law.proofs.law.OnTime.{begins_late}
-use Rattle.precision_law.proofs.law.Together.{before_narrow, block_ends, follows_before, new_shows, old_shows, set_shows}
-use Rattle.precision_law.proofs.records.Points.{before_of, point_timed, setting_is}
-use Rattle.precision_law.proofs.records.Views.{room}
-use Rattle.precision_law.proofs.sizes.Instants.{set_clocks_stay_at_correction}
-use Rattle.precision_law.specs.BlockLaws.{BlocksGoSo, ComesTo}
-use Rattle.precision_law.specs.Blocks.{HasTimeAt, IsInBlock, IsOldAt, adjustment_left, state_left}
-use Rattle.precision_law.specs.Epochs.{epoch_time, has_time, last_setting}
-use Rattle.precision_law.specs.Hulls.{first_correction}
-use Rattle.precision_law.specs.Standings.{ShowsIn}
-use Rattle.precision_law.specs.Views.{IsView, View}
-use Rattle.run_law.proofs.law.FirstPlaces.{founded_at}
+use Rattle.traffic_law.proofs.Words.{◌*◌, ◌+ℤ◌, ◌+◌, ◌<ℤ◌, ◌<◌, ◌≡◌, ◌≤ℤ◌, ◌≤◌, BringsBlocks, ComesTo, Corrected, DeviceId, Happening, IsCaused, IsInBlock}
+use Rattle.traffic_law.proofs.Words.{IsInSchedule, IsOldAt, IsTimedAt, IsView, None, Option, Some, State, Synchronised, View, adjustment_left, ap, arith}
+use Rattle.traffic_law.proofs.Words.{before_narrow, before_of, begins_late, block_ends, by_lt_z, cases_lt, clocks_reach_sharply, earlier, epoch_time}
+use Rattle.traffic_law.proofs.Words.{follows_before, founded_at, has_time, inl, inr, ints, last_setting, negsuc, option_map_or, pos, refl, room, setting_is}
+use Rattle.traffic_law.proofs.Words.{shown_at, state_left, subst, suc, sym, time_of, true, zero, ℕ, ℤ}
+use Rattle.std.proofs.{Common.suc-mul, Math.Nat.mul-le-mul_right}
+use Rattle.precision_law.proofs.{law.Together.{new_shows, old_shows, set_shows}, records.Points.point_timed, sizes.Instants.set_clocks_stay_at_correction}
+use Rattle.precision_law.specs.{BlockLaws.BlocksGoSo, Blocks.HasTimeAt, Hulls.first_correction, Standings.ShowsIn}
+use Rattle.traffic_law.{proofs.spans.Corrected.last_is_correction, specs.Spans.{IsReachedInSpan, SynchronisedKeepTime, ValuesAreReachedInSpans}}
 use Rattle.run_law.specs.declared.note.NoteBody.TheVariants as notes
-use Rattle.run_law.specs.records.Happenings.{earlier, time_of, Happening}
-use Rattle.run_law.specs.runs.DueRecords.{IsCaused}
-use Rattle.sync_state.specs.declared.answers.Verdict.TheVariants.{Corrected}
-use Rattle.sync_state.specs.declared.state.State.TheVariants.{Synchronised}
-use Rattle.sync_state.specs.declared.state.State.{State}
-use Rattle.traffic_law.proofs.spans.Corrected.{last_is_correction}
-use Rattle.traffic_law.specs.Bringing.{BringsBlocks}
-use Rattle.traffic_law.specs.Rows.{IsInSchedule}
-use Rattle.traffic_law.specs.Spans.{IsReachedInSpan, IsTimedAt, SynchronisedKeepTime, ValuesAreReachedInSpans, shown_at}
 
 -- ---- devices with the time
 

@@ -1,18 +1,8 @@
 -- Since when a synchronised device has been so.
-use Rattle.std.proofs.Common.{◌≡◌, ℕ, ◌≤◌, pos, ◌<ℤ◌, Bool, true, false, List, [], ◌∷◌, fold, inl, inr, refl, ap}
-use Rattle.std.specs.Prelude.{if◌then◌else◌}
-use Rattle.net_plan.specs.declared.ids.DeviceId.{DeviceId}
+use Rattle.traffic_law.proofs.Words.{if◌then◌else◌, ◌<ℤ◌, ◌∷◌, ◌≡◌, ◌≤◌, Bool, DeviceId, Happening, IsIn, IsView, List, NoteBody, State, Synchronised, View, []}
+use Rattle.traffic_law.proofs.Words.{ap, earlier, epoch_time, false, fold, inl, inr, is_synchronised, pos, refl, state_left, state_with, true, ℕ}
 use Rattle.precision_law.proofs.clocks.Epochs.{state_stays}
-use Rattle.precision_law.specs.Blocks.{state_left}
-use Rattle.precision_law.specs.Epochs.{epoch_time}
-use Rattle.precision_law.specs.Views.{IsView, View}
 use Rattle.run_law.proofs.device.States.{is_in}
-use Rattle.run_law.specs.declared.note.NoteBody.{NoteBody}
-use Rattle.run_law.specs.device.States.{is_synchronised, state_with}
-use Rattle.run_law.specs.records.Happenings.{Happening, earlier}
-use Rattle.run_law.specs.records.Order.{IsIn}
-use Rattle.sync_state.specs.declared.state.State.TheVariants.{Synchronised}
-use Rattle.sync_state.specs.declared.state.State.{State}
 
 -- ---- backwards
 

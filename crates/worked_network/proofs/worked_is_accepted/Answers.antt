@@ -1,5 +1,4 @@
-use Rattle.worked_network.proofs.Accepted.{worked_keeps_rules}
-use Rattle.worked_network.proofs.InRange.{worked_in_range}
+use Rattle.worked_network.proofs.{Accepted.worked_keeps_rules, InRange.worked_in_range}
 use Rattle.worked_network.proofs.worked_is_accepted.Goals as goal
 
 pub returns-clause-range : goal.returns-clause-range

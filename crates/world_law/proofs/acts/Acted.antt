@@ -1,44 +1,20 @@
 -- After an act a device has the tasks that it had before, and such as are for later readings.
-use Rattle.std.proofs.Common.{◌≡◌, ℕ, ◌+◌, ◌*◌, ℤ, pos, ◌+ℤ◌, ◌-ℤ◌, ◌<ℤ◌, ◌≤ℤ◌, Bool, true, false, List, [], ◌∷◌, ◌++◌, Some, None, Contains, inl, inr, refl, sym, ap, subst, ◌∙◌, arith}
-use Rattle.std.specs.Prelude.{◌==◌, ◌&&◌, nat_le, IsSomeAnd, filter, if◌then◌else◌}
-use Rattle.std.specs.List.{last_or}
-use Rattle.std.proofs.lemmas.Int.{ints}
-use Rattle.std.proofs.lemmas.List.Elements.{Contains-append_left}
-use Rattle.compression.specs.Clusters.{AreClusters, Cluster}
+use Rattle.world_law.proofs.Words.{if◌then◌else◌, ◌&&◌, ◌*◌, ◌++◌, ◌+ℤ◌, ◌+◌, ◌-ℤ◌, ◌<ℤ◌, ◌==◌, ◌∙◌, ◌∷◌, ◌≡◌, ◌≤ℤ◌, Act, AreClusters, AsyncClique, Bool}
+use Rattle.world_law.proofs.Words.{Cleared, ClockTask, Cluster, Compressed, Corrected, DeviceId, Integrating, IsActOf, IsPending, Joining, List, MayCall}
+use Rattle.world_law.proofs.Words.{Moment, Network, Node, None, Off, Ripe, Some, Standing, State, Summary, SyncClique, Synchronised, Task, Units, Verdict, []}
+use Rattle.world_law.proofs.Words.{acting, after_correction, after_emission, amount, ap, arith, called, correcting, correction_value, dispatching, doing}
+use Rattle.world_law.proofs.Words.{emitting, false, filter, heard_as, inl, inr, ints, last_or, nat_le, next_point, no_cluster, observation_window, own_hearing}
+use Rattle.world_law.proofs.Words.{plan_of, point_in, pos, refl, sending, subst, sym, true, value_of, ℕ, ℤ}
+use Rattle.std.{proofs.{Common.Contains, lemmas.List.Elements.Contains-append_left}, specs.Prelude.IsSomeAnd}
 use Rattle.compression.specs.Emission.{compressed}
-use Rattle.compression.specs.declared.compressed.Compressed.{Compressed}
 use Rattle.membership.specs.Members.{count_of}
-use Rattle.membership.specs.Summary.{Summary}
-use Rattle.net_plan.specs.declared.ids.DeviceId.{DeviceId}
-use Rattle.net_plan.specs.declared.network.Network.{Network}
 use Rattle.pcf_values.specs.declared.members.Members.{Members}
-use Rattle.run_law.proofs.silent.Due.{no_cluster}
-use Rattle.run_law.specs.control.Collections.{observation_window}
-use Rattle.run_law.specs.control.Corrections.{correction_value}
-use Rattle.run_law.specs.control.Hearing.{heard_as, heard_enough, heard_by_schedule, is_in_schedule, last_cycle}
-use Rattle.run_law.specs.control.Permanence.{ripe_as}
-use Rattle.run_law.specs.declared.steps.Act.TheVariants as acts
-use Rattle.run_law.specs.declared.steps.Act.{Act}
-use Rattle.run_law.specs.declared.steps.Moment.{Moment}
-use Rattle.run_law.specs.declared.steps.Ripe.TheVariants as ripe
-use Rattle.run_law.specs.declared.steps.Ripe.{Ripe}
-use Rattle.run_law.specs.device.States.{is_synchronised}
-use Rattle.run_law.specs.machines.Answers.{IsActOf, after_correction, after_emission, called, own_hearing, with_clique, with_corrected, with_done}
-use Rattle.run_law.specs.machines.Calls.{MayCall}
-use Rattle.run_law.specs.machines.Nodes.{ClockTask, Node, acting, correcting, dispatching, sending}
-use Rattle.run_law.specs.machines.Tasks.{IsDeedOf, IsPending, IsUndone, IsWaiting, Task, doing, emitting, value_of}
-use Rattle.run_law.specs.scenario.Devices.{is_cm, plan_of}
-use Rattle.sync_state.proofs.StateFacts.{no_longer, no_point}
-use Rattle.sync_state.specs.Calls.{state_by}
-use Rattle.sync_state.specs.Standing.{Standing, next_point, point_in}
-use Rattle.sync_state.specs.declared.answers.Verdict.TheVariants.{Corrected, SyncClique, AsyncClique, Cleared}
-use Rattle.sync_state.specs.declared.answers.Verdict.{Verdict}
-use Rattle.sync_state.specs.declared.plan.SyncPlan.{SyncPlan}
-use Rattle.sync_state.specs.declared.state.State.TheVariants.{Off, Integrating, Joining, Synchronised}
-use Rattle.sync_state.specs.declared.state.State.{State}
-use Rattle.tte_units.specs.Amount.{amount}
-use Rattle.tte_units.specs.declared.units.Units.{Units}
+use Rattle.run_law.specs.{control.{Hearing.{heard_by_schedule, heard_enough, is_in_schedule, last_cycle}, Permanence.ripe_as}, device.States.is_synchronised}
+use Rattle.run_law.specs.{machines.{Answers.{with_clique, with_corrected, with_done}, Tasks.{IsDeedOf, IsUndone, IsWaiting}}, scenario.Devices.is_cm}
+use Rattle.sync_state.{proofs.StateFacts.{no_longer, no_point}, specs.{Calls.state_by, declared.plan.SyncPlan.SyncPlan}}
 use Rattle.world_law.specs.device.Acted.{IsCarried}
+use Rattle.run_law.specs.declared.steps.Act.TheVariants as acts
+use Rattle.run_law.specs.declared.steps.Ripe.TheVariants as ripe
 
 -- a device that stands as another but for what it has done and how it was called, and has taken the same frames, has
 -- the same deeds before it

@@ -1,31 +1,14 @@
 -- When a device acts by itself, it has a task that is due.
-use Rattle.std.proofs.Common.{◌≡◌, Contains, ℕ, ◌+◌, ◌-◌, ◌≤◌, ◌<◌, ℤ, pos, ◌+ℤ◌, ◌-ℤ◌, ◌<ℤ◌, ◌≤ℤ◌, Bool, true, false, if◌then◌else◌, int_lt, List, Some, inl, inr, refl, sym, ap, subst, ◌∙◌, arith}
-use Rattle.std.proofs.lemmas.Bool.{and_from, and_parts, both_ways, cases_Bool}
-use Rattle.std.proofs.lemmas.Int.{ints}
-use Rattle.compression.specs.Clusters.{AreClusters}
-use Rattle.compression.specs.declared.compressed.Compressed.{Compressed}
-use Rattle.net_plan.specs.declared.ids.DeviceId.{DeviceId}
-use Rattle.run_law.specs.control.Collections.{observation_window}
-use Rattle.run_law.specs.control.Corrections.{correction_value, has_cleared, is_integration_cycle, next_cycle, recorded_cycle}
-use Rattle.run_law.specs.control.Emissions.{Emits}
-use Rattle.run_law.specs.declared.judgement.Judgement.{Judgement}
-use Rattle.run_law.specs.device.LocalClocks.{Reaches, changed_at, local_at_change}
-use Rattle.run_law.specs.device.States.{adjustment_before, state_before}
-use Rattle.run_law.specs.machines.Nodes.{ClockTask, Node, correcting, sending}
-use Rattle.run_law.specs.machines.Tasks.{IsDeedOf, IsUndone, doing, emitting, value_of}
-use Rattle.run_law.specs.records.Happenings.{Happening, earlier}
-use Rattle.run_law.specs.scenario.Scenarios.{Scenario, is_broken, is_turned_on_at}
-use Rattle.run_law.specs.timed.Dispatching.{Sends}
-use Rattle.sync_state.specs.Standing.{point_in}
-use Rattle.sync_state.specs.declared.state.State.TheVariants.{Off, Integrating, Joining, Synchronised}
-use Rattle.sync_state.specs.declared.state.State.{State}
-use Rattle.tte_lemmas.proofs.Integers.{int_le-from, int_le-is, int_lt-is, never_both}
-use Rattle.tte_units.specs.declared.units.Units.{Units}
-use Rattle.world_law.proofs.devices.OwnRecords.{adjustment_still, change_still, state_still}
-use Rattle.world_law.proofs.devices.Passes.{cleared_still, local_still, next_still, not_turned_on}
-use Rattle.world_law.specs.device.Left.{HasDone, HasSent, HasTaskBy, IsLeft, is_timed}
-use Rattle.world_law.specs.device.Own.{IsStill}
-use Rattle.world_law.specs.source.Sources.{IsAtCorrection}
+use Rattle.world_law.proofs.Words.{if◌then◌else◌, ◌+ℤ◌, ◌+◌, ◌-ℤ◌, ◌-◌, ◌<ℤ◌, ◌<◌, ◌∙◌, ◌≡◌, ◌≤ℤ◌, ◌≤◌, AreClusters, Bool, ClockTask, Compressed, DeviceId}
+use Rattle.world_law.proofs.Words.{Emits, Happening, HasDone, HasSent, HasTaskBy, Integrating, IsAtCorrection, IsLeft, IsStill, Joining, Judgement, List, Node}
+use Rattle.world_law.proofs.Words.{Off, Reaches, Scenario, Sends, Some, State, Synchronised, Units, adjustment_before, and_parts, ap, arith, both_ways}
+use Rattle.world_law.proofs.Words.{cases_Bool, changed_at, correcting, correction_value, doing, earlier, emitting, false, has_cleared, inl, inr, int_lt, ints}
+use Rattle.world_law.proofs.Words.{is_broken, is_integration_cycle, is_timed, is_turned_on_at, local_at_change, never_both, next_cycle, observation_window}
+use Rattle.world_law.proofs.Words.{point_in, pos, recorded_cycle, refl, sending, state_before, subst, sym, true, value_of, ℕ, ℤ}
+use Rattle.std.proofs.{Common.Contains, lemmas.Bool.and_from}
+use Rattle.run_law.specs.machines.Tasks.{IsDeedOf, IsUndone}
+use Rattle.tte_lemmas.proofs.Integers.{int_le-from, int_le-is, int_lt-is}
+use Rattle.world_law.proofs.devices.{OwnRecords.{adjustment_still, change_still, state_still}, Passes.{cleared_still, local_still, next_still, not_turned_on}}
 
 -- nothing moves the device from the time on, up to another: no record, and no event
 pub record IsUnmoved (s : Scenario) (hs : List Happening) (device : DeviceId) (t later : ℕ) : Type 0 where

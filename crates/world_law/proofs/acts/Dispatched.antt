@@ -1,28 +1,11 @@
 -- A dispatch is told apart from other losses by its cause, and where a device has not acted no record to come tells of one.
-use Rattle.std.proofs.Common.{◌≡◌, ◌⊎◌, ℕ, ◌+◌, ◌<◌, Bool, true, false, if◌then◌else◌, List, [], ◌∷◌, ◌++◌, Option, Some, None, filter, inl, inr, refl, sym, ap, subst, ◌∙◌, arith}
-use Rattle.std.proofs.lemmas.Bool.{cases_Bool}
-use Rattle.net_plan.specs.declared.ids.DeviceId.{DeviceId}
-use Rattle.net_plan.specs.declared.ids.LinkId.{LinkId}
-use Rattle.net_plan.specs.declared.ids.VlId.{VlId}
-use Rattle.run_law.proofs.law.FirstDeliveries.{last_in}
-use Rattle.run_law.proofs.law.FirstPlaces.{by_number, in_filter, numbered_front}
-use Rattle.run_law.proofs.runs.Places.{chain, parted}
-use Rattle.run_law.specs.control.Losses.{IsSendLost}
-use Rattle.run_law.specs.declared.note.NoteBody.TheVariants as kinds
-use Rattle.run_law.specs.declared.note.NoteBody.{NoteBody}
-use Rattle.run_law.specs.records.Happenings.{Happening, earlier, numbered, time_of}
-use Rattle.run_law.specs.records.Order.{IsBefore, IsIn}
-use Rattle.run_law.specs.records.Ranks.{members_in, place_of}
-use Rattle.run_law.specs.runs.DueRecords.{IsDue}
-use Rattle.run_law.specs.runs.Runs.{IsFounded}
-use Rattle.run_law.specs.scenario.Scenarios.{Scenario}
-use Rattle.run_law.specs.scenario.Ways.{is_cut, way_from}
-use Rattle.run_law.specs.timed.Dispatching.{Dispatches, is_accepted}
+use Rattle.world_law.proofs.Words.{if◌then◌else◌, ◌++◌, ◌+◌, ◌<◌, ◌∙◌, ◌∷◌, ◌≡◌, ◌⊎◌, AreSettled, Bool, DeviceId, Dispatches, Happening, IsBefore, IsDue}
+use Rattle.world_law.proofs.Words.{IsFounded, IsIn, IsOwnSource, IsSendLost, LinkId, List, None, NoteBody, Scenario, Some, VlId, [], act_place, ap, arith}
+use Rattle.world_law.proofs.Words.{by_number, cases_Bool, chain, dispatch_body, earlier, filter, in_filter, inl, inr, is_accepted, is_cut, last_in, members_in}
+use Rattle.world_law.proofs.Words.{numbered, parted, place_of, plain_body, refl, subst, sym, time_of, way_from, ℕ}
+use Rattle.run_law.proofs.law.FirstPlaces.{numbered_front}
 use Rattle.world_law.proofs.runs.Agreement.{in_earlier}
-use Rattle.world_law.specs.device.Plain.{plain_body}
-use Rattle.world_law.specs.device.Recorded.{dispatch_body}
-use Rattle.world_law.specs.source.Sources.{IsOwnSource}
-use Rattle.world_law.specs.world.World.{AreSettled, act_place}
+use Rattle.run_law.specs.declared.note.NoteBody.TheVariants as kinds
 
 pub same_some : (x y : Happening) → Some x ≡ Some y → x ≡ y
 same_some x y e = cc

@@ -1,63 +1,23 @@
 -- Where nothing that a world has under way is before a place, and nothing to come, no act of a device that is not worked off
 -- is before it.
-use Rattle.std.proofs.Common.{◌≡◌, ℕ, ◌≤◌, ◌<◌, pos, Bool, true, false, if◌then◌else◌, List, [], ◌∷◌, ◌++◌, append_assoc, filter_map, length, map, Some, None, inl, inr, refl, sym, ap, subst, ◌∙◌, arith}
-use Rattle.std.specs.List.{after_last}
-use Rattle.std.specs.Option.{option_map_or}
-use Rattle.std.proofs.lemmas.Bool.{cases_Bool, cases_lt}
-use Rattle.std.proofs.lemmas.Int.{ints}
-use Rattle.std.proofs.lemmas.List.{append-nil}
-use Rattle.std.proofs.lemmas.Option.{slice_get_within}
-use Rattle.std.specs.Prelude.{nat_lt}
-use Rattle.compression.specs.Clusters.{AreClusters, Point}
-use Rattle.compression.specs.declared.compressed.Compressed.{Compressed}
-use Rattle.net_plan.specs.Places.{device_at}
-use Rattle.net_plan.specs.declared.ids.DeviceId.{DeviceId}
-use Rattle.net_plan.specs.declared.network.Network.{Network}
-use Rattle.net_plan.specs.declared.tables.Device.{Device}
+use Rattle.world_law.proofs.Words.{if◌then◌else◌, ◌++◌, ◌<◌, ◌∙◌, ◌∷◌, ◌≡◌, ◌≤◌, AreClusters, AreOfNetwork, Bool, Compressed, Device, DeviceId, Emits}
+use Rattle.world_law.proofs.Words.{Happening, HasDone, HasDoneFrom, HasSent, HasTaskBy, HaveBefallen, Integrating, IsActing, IsBefore, IsHeld, IsIn, IsKept}
+use Rattle.world_law.proofs.Words.{IsLeft, Judgement, List, Network, Node, None, Note, NoteBody, Off, Point, Scenario, Some, Stands, State, Synchronised, World}
+use Rattle.world_law.proofs.Words.{[], act_place, after_last, ap, append-nil, append_assoc, arith, cases_Bool, cases_lt, chain, changed_at, device_at, earlier}
+use Rattle.world_law.proofs.Words.{emitting, ends_stretch, false, filter_map, frames_taken, happenings, hidden, in_filter, in_left, in_parts, in_right, inl}
+use Rattle.world_law.proofs.Words.{inr, ints, is_broken, is_turned_on_at, is_turning, length, map, moves, nat_lt, never_both, next_cycle, next_point}
+use Rattle.world_law.proofs.Words.{observation_window, option_map_or, place_of, point_by, point_in, points_of, pos, rank, reading_for, refl, slice_get_within}
+use Rattle.world_law.proofs.Words.{state_after, state_before, state_with, subst, sym, time_of, true, ℕ}
 use Rattle.net_plan.specs.declared.tables.Role.{Role}
-use Rattle.run_law.proofs.law.FirstPlaces.{in_filter}
-use Rattle.run_law.proofs.runs.Places.{chain, in_left, in_parts, in_right}
-use Rattle.run_law.specs.control.Collections.{ends_stretch, point_by, points_of, observation_window}
-use Rattle.run_law.specs.control.Corrections.{next_cycle}
-use Rattle.run_law.specs.control.Emissions.{Emits}
-use Rattle.run_law.specs.declared.judgement.Judgement.{Judgement}
-use Rattle.run_law.specs.declared.judgement.Why.TheVariants.{On}
-use Rattle.run_law.specs.declared.note.Note.{Note}
-use Rattle.run_law.specs.declared.note.NoteBody.TheVariants as notes
-use Rattle.run_law.specs.declared.note.NoteBody.{NoteBody}
-use Rattle.run_law.specs.device.LocalClocks.{changed_at}
-use Rattle.run_law.specs.device.States.{state_after, state_before, state_with}
-use Rattle.run_law.specs.machines.Nodes.{Node}
-use Rattle.run_law.specs.machines.Tasks.{emitting, reading_for}
-use Rattle.run_law.specs.records.Happenings.{Happening, earlier, happenings, time_of}
-use Rattle.run_law.specs.records.Order.{IsBefore, IsIn}
-use Rattle.run_law.specs.records.Ranks.{place_of, rank}
-use Rattle.run_law.specs.scenario.Devices.{has_role, start_of}
-use Rattle.run_law.specs.scenario.Scenarios.{Scenario, is_broken, is_turned_on_at}
-use Rattle.sync_state.specs.Standing.{next_point, point_in, state_at_start}
-use Rattle.sync_state.specs.declared.state.State.TheVariants.{Integrating, Off, Synchronised}
-use Rattle.sync_state.specs.declared.state.State.{State}
-use Rattle.tte_lemmas.proofs.Integers.{never_both}
-use Rattle.world_law.proofs.acts.Acting.{IsUnmoved, correcting_task, sending_task}
-use Rattle.world_law.proofs.devices.Deeds.{rests}
-use Rattle.world_law.proofs.devices.OwnRecords.{keeps_state}
-use Rattle.world_law.proofs.devices.Resting.{IsPast, IsWorked, are_past, at_rest}
-use Rattle.world_law.proofs.devices.TurnedOn.{IsQuiet, quiet_rest}
-use Rattle.world_law.proofs.giving.Given.{no_later_breaks}
-use Rattle.world_law.proofs.lists.Lists.{behind_no, map_none}
-use Rattle.world_law.proofs.lists.Orders.{cases_int}
-use Rattle.world_law.proofs.putting.StandsOn.{in_mapped}
-use Rattle.world_law.proofs.rows.Dispatching.{IsLawful, dispatching_task, lawful}
-use Rattle.world_law.proofs.runs.Foremost.{NoActBefore, acting_task, none_but_acts, not_on_after}
+use Rattle.run_law.specs.{declared.judgement.Why.TheVariants.On, scenario.Devices.{has_role, start_of}}
+use Rattle.sync_state.specs.Standing.{state_at_start}
+use Rattle.world_law.proofs.{acts.Acting.{IsUnmoved, correcting_task, sending_task}, devices.{Deeds.rests, OwnRecords.keeps_state}}
+use Rattle.world_law.proofs.{devices.{Resting.{IsPast, IsWorked, are_past, at_rest}, TurnedOn.{IsQuiet, quiet_rest}}, giving.Given.no_later_breaks}
+use Rattle.world_law.proofs.{lists.{Lists.{behind_no, map_none}, Orders.cases_int}, putting.{PutShown.hidden_rank, StandsOn.in_mapped}}
+use Rattle.world_law.proofs.{rows.Dispatching.{IsLawful, dispatching_task, lawful}, runs.Foremost.{NoActBefore, acting_task, none_but_acts, not_on_after}}
 use Rattle.world_law.proofs.runs.SourcesBack.{dispatches_back, earlier_still, of_high_rank, reaches_back, standing_in, up_back}
-use Rattle.world_law.specs.device.Deeds.{HasDoneFrom}
-use Rattle.world_law.specs.device.Left.{HasDone, HasSent, HasTaskBy, IsLeft}
-use Rattle.world_law.specs.device.Own.{moves}
-use Rattle.world_law.specs.device.Takings.{frames_taken}
-use Rattle.world_law.specs.source.Sources.{IsActing}
 use Rattle.world_law.specs.world.Moves.{NothingBefore, NothingComesBefore}
-use Rattle.world_law.specs.world.World.{AreOfNetwork, HaveBefallen, IsHeld, IsKept, Stands, World, act_place, hidden, is_turning}
-use Rattle.world_law.proofs.putting.PutShown.{hidden_rank}
+use Rattle.run_law.specs.declared.note.NoteBody.TheVariants as notes
 
 -- ---- records behind the acts of their instant, which leave the device at rest, do not change its points
 

@@ -1,13 +1,7 @@
 -- A machine may act when its clock comes to what is due, and is ready again then.
-use Rattle.std.proofs.Common.{◌≡◌, ◌≤◌, ap, arith}
-use Rattle.net_plan.specs.declared.ids.DeviceId.{DeviceId}
-use Rattle.net_plan.specs.declared.network.Network.{Network}
-use Rattle.run_law.specs.machines.Calls.{order_of_phase}
-use Rattle.run_law.specs.machines.Answers.{IsActOf}
-use Rattle.run_law.specs.machines.Nodes.{Node, Phase, acting, arriving, ripening, turning_on}
+use Rattle.world_law.proofs.Words.{◌≡◌, ◌≤◌, Act, DeviceId, IsActOf, Moment, Network, Node, acting, ap, arith}
+use Rattle.run_law.specs.machines.{Calls.order_of_phase, Nodes.{Phase, arriving, ripening, turning_on}}
 use Rattle.run_law.specs.declared.steps.Act.TheVariants as acts
-use Rattle.run_law.specs.declared.steps.Act.{Act}
-use Rattle.run_law.specs.declared.steps.Moment.{Moment}
 
 pub acting_last : (phase : Phase) → order_of_phase phase ≤ 3
 acting_last turning_on = omega arith

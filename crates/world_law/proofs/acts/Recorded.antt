@@ -1,41 +1,15 @@
 -- What the records of an instant tell of the acts of a device, while other records are put in and given.
-use Rattle.std.proofs.Common.{◌≡◌, ◌⊎◌, ℕ, ◌+◌, ◌*◌, ◌≤◌, ℤ, pos, append_assoc, if◌then◌else◌, ◌-ℤ◌, ◌≤ℤ◌, Bool, true, false, ◌==◌, List, [], ◌∷◌, ◌++◌, Option, Contains, inl, inr, refl, sym, ap, subst, ◌∙◌, arith}
-use Rattle.std.specs.Option.{option_map_or}
-use Rattle.std.proofs.lemmas.Bool.{both_ways}
-use Rattle.std.proofs.lemmas.Int.{ints}
-use Rattle.compression.specs.Clusters.{AreClusters, Point}
-use Rattle.compression.specs.declared.compressed.Compressed.{Compressed}
+use Rattle.world_law.proofs.Words.{if◌then◌else◌, ◌*◌, ◌++◌, ◌+◌, ◌-ℤ◌, ◌==◌, ◌∙◌, ◌∷◌, ◌≡◌, ◌≤ℤ◌, ◌≤◌, ◌⊎◌, AreClusters, Bool, ClockTask, Compressed, DeviceId}
+use Rattle.world_law.proofs.Words.{Dispatches, Happening, HasDoneFrom, IsIn, IsLeft, Judgement, LinkId, List, Node, NoteBody, Option, Point, Row, RowId}
+use Rattle.world_law.proofs.Words.{Scenario, Units, VlId, [], adjustment_before, amount, ap, append_assoc, arith, bears_on, both_ways, changed_at}
+use Rattle.world_law.proofs.Words.{dispatch_body, dispatching, earlier, false, in_left, in_parts, in_right, inl, inr, ints, is_cut, never_both}
+use Rattle.world_law.proofs.Words.{observation_window, option_map_or, plain, plain_body, plains, pos, rank, refl, sending, subst, sym, time_of, true, value_of}
+use Rattle.world_law.proofs.Words.{way_from, ℕ, ℤ}
+use Rattle.std.proofs.Common.{Contains}
 use Rattle.net_plan.proofs.SameIds.{self}
-use Rattle.net_plan.specs.declared.ids.DeviceId.{DeviceId}
-use Rattle.net_plan.specs.declared.ids.LinkId.{LinkId}
-use Rattle.net_plan.specs.declared.ids.RowId.{RowId}
-use Rattle.net_plan.specs.declared.ids.VlId.{VlId}
-use Rattle.net_plan.specs.declared.tables.Row.{Row}
-use Rattle.run_law.proofs.runs.Places.{in_left, in_parts, in_right}
-use Rattle.run_law.specs.control.Collections.{observation_window}
-use Rattle.run_law.specs.declared.judgement.Judgement.{Judgement}
+use Rattle.world_law.proofs.{acts.Acted.waiting_alike, runs.SourcesBack.{dispatches_same, earlier_still, reaches_back, up_back}}
+use Rattle.world_law.specs.device.{Deeds.HasSentFrom, Recorded.{AreRecorded, IsShown}}
 use Rattle.run_law.specs.declared.note.NoteBody.TheVariants as kinds
-use Rattle.run_law.specs.declared.note.NoteBody.{NoteBody}
-use Rattle.run_law.specs.device.LocalClocks.{changed_at}
-use Rattle.run_law.specs.device.States.{adjustment_before}
-use Rattle.run_law.specs.machines.Nodes.{ClockTask, Node, dispatching, sending}
-use Rattle.run_law.specs.machines.Tasks.{value_of}
-use Rattle.run_law.specs.records.Happenings.{Happening, earlier, time_of}
-use Rattle.run_law.specs.records.Order.{IsIn}
-use Rattle.run_law.specs.records.Ranks.{rank}
-use Rattle.run_law.specs.scenario.Scenarios.{Scenario}
-use Rattle.run_law.specs.scenario.Ways.{is_cut, way_from}
-use Rattle.run_law.specs.timed.Dispatching.{Dispatches}
-use Rattle.tte_lemmas.proofs.Integers.{never_both}
-use Rattle.tte_units.specs.Amount.{amount}
-use Rattle.tte_units.specs.declared.units.Units.{Units}
-use Rattle.world_law.proofs.acts.Acted.{waiting_alike}
-use Rattle.world_law.proofs.runs.SourcesBack.{dispatches_same, earlier_still, reaches_back, up_back}
-use Rattle.world_law.specs.device.Deeds.{HasDoneFrom, HasSentFrom}
-use Rattle.world_law.specs.device.Left.{IsLeft}
-use Rattle.world_law.specs.device.Own.{bears_on}
-use Rattle.world_law.specs.device.Plain.{plain, plain_body, plains}
-use Rattle.world_law.specs.device.Recorded.{AreRecorded, IsShown, dispatch_body}
 
 -- nothing is done at the instant yet
 pub first_recorded : (s : Scenario) (js coming : List Happening) (now : ℕ) (device : DeviceId) (node : Node) → IsLeft s js device now node

@@ -1,18 +1,8 @@
 -- An event that does not turn a device on, and does not break it, leaves it as it was.
-use Rattle.std.proofs.Common.{◌≡◌, ℕ, ◌≤◌, Bool, true, false, if◌then◌else◌, List, refl, sym, ap, ◌∙◌, arith}
-use Rattle.net_plan.specs.declared.event.Event.{Event}
-use Rattle.net_plan.specs.declared.ids.DeviceId.{DeviceId}
-use Rattle.net_plan.specs.declared.network.Network.{Network}
-use Rattle.run_law.specs.records.Happenings.{Happening, earlier, time_of}
+use Rattle.world_law.proofs.Words.{if◌then◌else◌, ◌∙◌, ◌≡◌, ◌≤◌, Agree, Bool, DeviceId, Event, Happening, Integrating, IsIn, IsLeft, List, Network, Node, ap}
+use Rattle.world_law.proofs.Words.{arith, earlier, false, is_broken, is_timed, is_turned_on_at, refl, scenario, state_after, sym, time_of, true, ℕ}
 use Rattle.run_law.specs.machines.Answers.{node_turned_on}
-use Rattle.run_law.specs.machines.Nodes.{Node}
-use Rattle.run_law.specs.records.Order.{IsIn}
-use Rattle.run_law.specs.scenario.Scenarios.{is_broken, is_turned_on_at}
-use Rattle.run_law.specs.device.States.{state_after}
-use Rattle.sync_state.specs.declared.state.State.TheVariants.{Integrating}
-use Rattle.world_law.proofs.runs.Agreement.{heard_same, local_same, next_same}
-use Rattle.world_law.specs.device.Left.{IsCounted, IsLeft, is_timed}
-use Rattle.world_law.specs.source.Agreeing.{Agree, scenario}
+use Rattle.world_law.{proofs.runs.Agreement.{heard_same, local_same, next_same}, specs.device.Left.IsCounted}
 
 -- the clocks read the same up to the time
 abbrev pub ReadAlike : (DeviceId → ℕ → ℕ) → (DeviceId → ℕ → ℕ) → ℕ → Type 0

@@ -1,36 +1,20 @@
 -- A device stands by the records that bear on it, wherever others stand between them.
-use Rattle.std.proofs.Common.{◌≡◌, IfSome, ℕ, ◌+◌, ◌-◌, ◌≤◌, pos, ◌+ℤ◌, int_lt, int_le, Bool, true, false, not, ◌&&◌, ◌||◌, ◌==◌, if◌then◌else◌, List, [], ◌∷◌, ◌++◌, Option, Some, None, filter, filter_map, fold, option_map, inl, inr, refl, sym, ap, subst, ◌∙◌, append_assoc}
-use Rattle.std.specs.Prelude.{nat_lt}
-use Rattle.std.specs.List.{after_last, cons_option, last_or}
-use Rattle.std.specs.Option.{option_map_or}
-use Rattle.std.proofs.lemmas.Bool.{and_right, cases_Bool}
-use Rattle.std.proofs.lemmas.List.{append-nil}
-use Rattle.std.proofs.lemmas.List.Elements.{filter-append}
+use Rattle.world_law.proofs.Words.{if◌then◌else◌, ◌&&◌, ◌++◌, ◌+ℤ◌, ◌+◌, ◌-◌, ◌==◌, ◌||◌, ◌∙◌, ◌∷◌, ◌≡◌, ◌≤◌, Bool, DeviceId, Happening, IfSome, Integrating}
+use Rattle.world_law.proofs.Words.{IsLeft, List, Network, Node, None, NoteBody, Option, Scenario, Some, Units, [], adjustment_before, adjustment_with}
+use Rattle.world_law.proofs.Words.{after_last, and_right, ap, append-nil, append_assoc, bears_on, borne, cases_Bool, changed_at, changes_adjustment}
+use Rattle.world_law.proofs.Words.{cons_option, correction_value, cycle_after, cycle_in, earlier, ends_stretch, false, filter, filter-append, filter_map, fold}
+use Rattle.world_law.proofs.Words.{has_cleared, heard_since, hearing_by, inl, inr, int_le, int_lt, integration_cycle, is_joined_by, is_turned_on_at, last_or}
+use Rattle.world_law.proofs.Words.{members_in, moves, nat_lt, not, option_map, option_map_or, point_by, points_of, pos, recorded_cycle, refl, same_kept}
+use Rattle.world_law.proofs.Words.{state_after, state_with, subst, sym, time_of, true, ℕ}
 use Rattle.compression.specs.Clusters.{point_at}
 use Rattle.membership.specs.Hearing.{Hearing}
-use Rattle.net_plan.specs.declared.ids.DeviceId.{DeviceId}
-use Rattle.net_plan.specs.declared.network.Network.{Network}
-use Rattle.run_law.proofs.records.Order.{same_kept}
-use Rattle.run_law.specs.device.LocalClocks.{changed_at, changes_adjustment}
-use Rattle.run_law.specs.control.Collections.{ends_stretch, master_of, point_by, points_of}
-use Rattle.run_law.specs.control.Corrections.{correction_value, cycle_after, has_cleared, heard_by, hearing_by, heard_since, integration_cycle, recorded_cycle}
-use Rattle.run_law.specs.scenario.Devices.{channel_of, channel_of_link}
-use Rattle.run_law.specs.records.Happenings.{Happening, earlier, time_of}
-use Rattle.run_law.specs.machines.Nodes.{Node}
-use Rattle.run_law.specs.records.Ranks.{members_in}
-use Rattle.run_law.specs.scenario.Scenarios.{Scenario, is_turned_on_at}
-use Rattle.run_law.specs.device.States.{adjustment_before, adjustment_with, cycle_in, is_joined_by, state_after, state_with}
+use Rattle.run_law.specs.{control.{Collections.master_of, Corrections.heard_by}, scenario.Devices.{channel_of, channel_of_link}}
+use Rattle.world_law.proofs.devices.OwnRecords.{changes_no_other, filter_own, fold_own, joins_no_other, keeps_adjustment, keeps_cycle, keeps_integration}
+use Rattle.world_law.{proofs.{devices.OwnRecords.{keeps_state, own_no}, lists.Lists.{behind_no, behind_yes, filter_no, filter_yes}}, specs.device.Own.own}
+use Rattle.world_law.specs.device.Told.{since_at}
 use Rattle.run_law.specs.declared.judgement.Judgement.TheVariants as judgements
 use Rattle.run_law.specs.declared.judgement.Why.TheVariants as whys
 use Rattle.run_law.specs.declared.note.NoteBody.TheVariants as notes
-use Rattle.run_law.specs.declared.note.NoteBody.{NoteBody}
-use Rattle.sync_state.specs.declared.state.State.TheVariants.{Integrating}
-use Rattle.tte_units.specs.declared.units.Units.{Units}
-use Rattle.world_law.proofs.devices.OwnRecords.{changes_no_other, joins_no_other, filter_own, fold_own, keeps_adjustment, keeps_cycle, keeps_integration, keeps_state, own_no}
-use Rattle.world_law.proofs.lists.Lists.{behind_no, behind_yes, filter_no, filter_yes}
-use Rattle.world_law.specs.device.Left.{IsLeft}
-use Rattle.world_law.specs.device.Own.{bears_on, borne, moves, own}
-use Rattle.world_law.specs.device.Told.{since_at}
 
 -- ---- one record
 

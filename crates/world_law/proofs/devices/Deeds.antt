@@ -1,12 +1,5 @@
 -- What a device has done, while time passes and while it acts.
-use Rattle.std.proofs.Common.{◌≡◌, ℕ, List, arith}
-use Rattle.net_plan.specs.declared.ids.DeviceId.{DeviceId}
-use Rattle.run_law.specs.device.LocalClocks.{changed_at}
-use Rattle.run_law.specs.records.Happenings.{Happening}
-use Rattle.run_law.specs.machines.Nodes.{Node}
-use Rattle.run_law.specs.scenario.Scenarios.{Scenario}
-use Rattle.world_law.specs.device.Deeds.{HasDoneFrom}
-use Rattle.world_law.specs.device.Left.{HasDone}
+use Rattle.world_law.proofs.Words.{◌≡◌, DeviceId, Happening, HasDone, HasDoneFrom, List, Node, Scenario, arith, changed_at, ℕ}
 
 -- and so it stands at the next time, where the records show the same last change
 pub rests : (s : Scenario) (hs : List Happening) (device : DeviceId) (t changed : ℕ) (node : Node) → HasDoneFrom s.network (s.reading device) device node

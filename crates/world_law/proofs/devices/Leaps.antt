@@ -1,5 +1,5 @@
 -- A clock that keeps the clock laws makes no leap.
-use Rattle.std.proofs.Common.{◌≡◌, ℕ, ◌+◌, ◌-◌, ◌*◌, ◌^◌, ◌≤◌, ◌<◌, subst, arith}
+use Rattle.world_law.proofs.Words.{◌*◌, ◌+◌, ◌-◌, ◌<◌, ◌^◌, ◌≡◌, ◌≤◌, arith, subst, ℕ}
 use Rattle.std.specs.Int.{abs_diff}
 use Rattle.drift_clock.specs.ClockLaws.{KeepsClockLaws}
 

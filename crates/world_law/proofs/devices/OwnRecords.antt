@@ -1,22 +1,12 @@
 -- A record that does not bear on a device leaves it as it was.
-use Rattle.std.proofs.Common.{◌≡◌, ℕ, ◌+◌, ◌≤◌, ◌<◌, Bool, true, false, if◌then◌else◌, List, [], ◌∷◌, ◌++◌, nat_lt, Option, Some, None, filter, fold, inl, inr, refl, sym, ap, ◌∙◌, arith}
-use Rattle.std.specs.List.{last_or}
-use Rattle.std.specs.Option.{option_map_or}
-use Rattle.std.proofs.lemmas.Bool.{cases_lt, cases_Bool, le-ltb, lt-ltb}
-use Rattle.net_plan.specs.declared.ids.DeviceId.{DeviceId}
-use Rattle.run_law.specs.device.LocalClocks.{changed_at, changes_adjustment}
-use Rattle.run_law.specs.control.Corrections.{cycle_after, integration_cycle, recorded_cycle}
-use Rattle.run_law.specs.records.Happenings.{Happening, earlier, time_of}
-use Rattle.run_law.specs.scenario.Scenarios.{Scenario}
-use Rattle.run_law.specs.device.States.{adjustment_before, adjustment_with, cycle_in, is_joined_by, joined_adjustment, state_after, state_with}
+use Rattle.world_law.proofs.Words.{if◌then◌else◌, ◌++◌, ◌+◌, ◌<◌, ◌∙◌, ◌∷◌, ◌≡◌, ◌≤◌, Bool, DeviceId, Happening, IsStill, Joining, List, None, NoteBody, Option}
+use Rattle.world_law.proofs.Words.{Scenario, Some, State, Units, [], adjustment_before, adjustment_with, ap, arith, cases_Bool, cases_lt, changed_at}
+use Rattle.world_law.proofs.Words.{changes_adjustment, cycle_after, cycle_in, earlier, false, filter, fold, inl, inr, integration_cycle, is_joined_by, last_or}
+use Rattle.world_law.proofs.Words.{le-ltb, lt-ltb, moves, nat_lt, option_map_or, recorded_cycle, refl, state_after, state_with, sym, time_of, true, ℕ}
+use Rattle.run_law.specs.device.States.{joined_adjustment}
+use Rattle.world_law.{proofs.lists.Lists.filter_no, specs.device.Own.own}
 use Rattle.run_law.specs.declared.judgement.Judgement.TheVariants as judgements
 use Rattle.run_law.specs.declared.note.NoteBody.TheVariants as notes
-use Rattle.run_law.specs.declared.note.NoteBody.{NoteBody}
-use Rattle.sync_state.specs.declared.state.State.TheVariants.{Joining}
-use Rattle.sync_state.specs.declared.state.State.{State}
-use Rattle.tte_units.specs.declared.units.Units.{Units}
-use Rattle.world_law.proofs.lists.Lists.{filter_no}
-use Rattle.world_law.specs.device.Own.{IsStill, moves, own}
 
 -- ---- one record
 

@@ -1,23 +1,13 @@
 -- Time passes at a device that no record moves.
-use Rattle.std.proofs.Common.{true, ◌≡◌, IfSome, ℕ, ◌+◌, ◌-◌, ◌≤◌, pos, ◌+ℤ◌, Bool, false, not, ◌&&◌, ◌||◌, ◌==◌, if◌then◌else◌, int_lt, int_le, List, filter, filter_map, Option, inl, inr, sym, ap, subst, ◌∙◌, arith}
-use Rattle.std.specs.Prelude.{nat_lt}
-use Rattle.std.specs.List.{after_last}
-use Rattle.std.specs.Option.{option_map_or}
-use Rattle.std.proofs.lemmas.Bool.{cases_lt, le-ltb, lt-ltb}
+use Rattle.world_law.proofs.Words.{if◌then◌else◌, ◌&&◌, ◌+ℤ◌, ◌+◌, ◌-◌, ◌==◌, ◌||◌, ◌∙◌, ◌≡◌, ◌≤◌, Bool, DeviceId, Happening, IfSome, Integrating, IsLeft}
+use Rattle.world_law.proofs.Words.{IsStill, List, Node, Option, Scenario, Units, adjustment_before, after_last, ap, arith, cases_lt, changed_at}
+use Rattle.world_law.proofs.Words.{changes_adjustment, correction_value, earlier, false, filter, filter_map, has_cleared, heard_since, hearing_by, inl, inr}
+use Rattle.world_law.proofs.Words.{int_le, int_lt, integration_cycle, is_broken, is_integration_cycle, is_timed, is_turned_on_at, le-ltb, local_at_change}
+use Rattle.world_law.proofs.Words.{lt-ltb, nat_lt, next_cycle, not, option_map_or, pos, recorded_cycle, same_kept, state_after, state_before, subst, sym}
+use Rattle.world_law.proofs.Words.{time_of, true, ℕ}
 use Rattle.membership.specs.Hearing.{Hearing}
-use Rattle.net_plan.specs.declared.ids.DeviceId.{DeviceId}
-use Rattle.run_law.proofs.records.Order.{after_same, same_kept}
-use Rattle.run_law.specs.device.LocalClocks.{changed_at, changes_adjustment, local_at_change}
-use Rattle.run_law.specs.control.Corrections.{correction_value, has_cleared, hearing_by, heard_since, integration_cycle, is_integration_cycle, next_cycle, recorded_cycle}
-use Rattle.run_law.specs.records.Happenings.{Happening, earlier, time_of}
-use Rattle.run_law.specs.machines.Nodes.{Node}
-use Rattle.run_law.specs.scenario.Scenarios.{Scenario, is_broken, is_turned_on_at}
-use Rattle.run_law.specs.device.States.{adjustment_before, state_after, state_before}
-use Rattle.sync_state.specs.declared.state.State.TheVariants.{Integrating}
-use Rattle.tte_units.specs.declared.units.Units.{Units}
+use Rattle.run_law.proofs.records.Order.{after_same}
 use Rattle.world_law.proofs.devices.OwnRecords.{adjustment_still, change_still, changes_no_other, cycle_still, integration_still, state_still}
-use Rattle.world_law.specs.device.Left.{IsLeft, is_timed}
-use Rattle.world_law.specs.device.Own.{IsStill}
 
 -- has a joiner cleared by the time, where its last adjustment came at `changed`?
 abbrev cleared_as : Scenario → DeviceId → Bool → ℕ → ℕ → Units → ℕ → Bool

@@ -1,29 +1,14 @@
 -- Where a device stands does not rest on the numbers of the records, nor on the causes of changes of state.
-use Rattle.std.proofs.Common.{◌≡◌, IfSome, ℕ, ◌+◌, ◌-◌, ◌≤◌, pos, ◌+ℤ◌, int_lt, int_le, Bool, true, false, not, ◌&&◌, ◌||◌, ◌==◌, if◌then◌else◌, List, [], ◌∷◌, ◌++◌, Option, Some, None, filter, filter_map, fold, inl, inr, refl, sym, ap, subst, ◌∙◌}
-use Rattle.std.specs.Prelude.{nat_lt}
-use Rattle.std.specs.List.{after_last, cons_option, last_or}
-use Rattle.std.specs.Option.{option_map_or}
-use Rattle.std.proofs.lemmas.Bool.{cases_Bool}
+use Rattle.world_law.proofs.Words.{if◌then◌else◌, ◌&&◌, ◌++◌, ◌+ℤ◌, ◌+◌, ◌-◌, ◌==◌, ◌||◌, ◌∙◌, ◌∷◌, ◌≡◌, ◌≤◌, Bool, DeviceId, Happening, IfSome, Integrating}
+use Rattle.world_law.proofs.Words.{IsLeft, List, Network, Node, None, NoteBody, Option, Scenario, Some, State, Units, [], adjustment_after, adjustment_before}
+use Rattle.world_law.proofs.Words.{adjustment_with, after_last, ap, cases_Bool, changed_at, changes_adjustment, cons_option, correction_value, cycle_after}
+use Rattle.world_law.proofs.Words.{cycle_in, earlier, ends_stretch, false, filter, filter_map, fold, has_cleared, heard_since, hearing_by, inl, inr, int_le}
+use Rattle.world_law.proofs.Words.{int_lt, integration_cycle, is_joined_by, is_turned_on_at, last_or, nat_lt, not, option_map_or, plain, plain_body, plains}
+use Rattle.world_law.proofs.Words.{point_by, points_of, pos, recorded_cycle, refl, state_after, state_with, subst, sym, time_of, true, ℕ}
 use Rattle.std.proofs.lemmas.List.{map_push}
-use Rattle.net_plan.specs.declared.ids.DeviceId.{DeviceId}
-use Rattle.net_plan.specs.declared.network.Network.{Network}
-use Rattle.run_law.specs.control.Collections.{ends_stretch, point_by, points_of}
-use Rattle.run_law.specs.control.Corrections.{correction_value, cycle_after, has_cleared, hearing_by, heard_since, integration_cycle, recorded_cycle}
+use Rattle.world_law.proofs.{devices.Borne.by_last, lists.Lists.{behind_no, behind_yes}}
 use Rattle.run_law.specs.declared.judgement.Why.TheVariants as whys
 use Rattle.run_law.specs.declared.note.NoteBody.TheVariants as notes
-use Rattle.run_law.specs.declared.note.NoteBody.{NoteBody}
-use Rattle.run_law.specs.device.LocalClocks.{changed_at, changes_adjustment}
-use Rattle.run_law.specs.device.States.{adjustment_after, adjustment_before, adjustment_with, cycle_in, is_joined_by, state_after, state_with}
-use Rattle.run_law.specs.machines.Nodes.{Node}
-use Rattle.run_law.specs.records.Happenings.{Happening, earlier, time_of}
-use Rattle.run_law.specs.scenario.Scenarios.{Scenario, is_turned_on_at}
-use Rattle.sync_state.specs.declared.state.State.TheVariants.{Integrating}
-use Rattle.sync_state.specs.declared.state.State.{State}
-use Rattle.tte_units.specs.declared.units.Units.{Units}
-use Rattle.world_law.proofs.devices.Borne.{by_last}
-use Rattle.world_law.proofs.lists.Lists.{behind_no, behind_yes}
-use Rattle.world_law.specs.device.Left.{IsLeft}
-use Rattle.world_law.specs.device.Plain.{plain, plain_body, plains}
 
 -- ---- one body
 

@@ -1,32 +1,12 @@
 -- A device that has nothing due at the present instant, where nothing is to come: it rests from this instant on, or from the
 -- next.
-use Rattle.std.proofs.Common.{◌≡◌, ◌⊎◌, ℕ, ◌+◌, ◌≤◌, ◌<◌, pos, ◌<ℤ◌, ◌≤ℤ◌, Bool, true, false, List, [], ◌∷◌, ◌++◌, inl, inr, refl, sym, ap, subst, ◌∙◌, arith}
-use Rattle.std.proofs.lemmas.Bool.{cases_Bool, cases_lt}
-use Rattle.std.proofs.lemmas.Int.{ints}
-use Rattle.std.proofs.lemmas.List.{append-nil}
-use Rattle.net_plan.specs.declared.ids.DeviceId.{DeviceId}
-use Rattle.net_plan.specs.declared.network.Network.{Network}
+use Rattle.world_law.proofs.Words.{◌++◌, ◌+◌, ◌<ℤ◌, ◌<◌, ◌∙◌, ◌∷◌, ◌≡◌, ◌≤ℤ◌, ◌≤◌, DeviceId, Happening, HasDone, HasDoneFrom, HasSent, HaveBefallen, IsBefore}
+use Rattle.world_law.proofs.Words.{IsDue, IsFounded, IsIn, IsKept, IsLeft, IsOfThisTime, IsPending, IsTurnedOnBy, List, Network, Node, Note, Scenario, Stands}
+use Rattle.world_law.proofs.Words.{Task, World, [], ap, append-nil, arith, cases_Bool, cases_lt, changed_at, doing, emitting, false, happenings, in_right, inl}
+use Rattle.world_law.proofs.Words.{inr, ints, is_turned_on_at, key, members_in, moves, place_of, pos, rank, reading_for, refl, subst, sym, time_of, true, ℕ}
 use Rattle.run_law.proofs.records.Order.{time_before}
-use Rattle.run_law.proofs.runs.Places.{in_left, in_right}
-use Rattle.run_law.specs.device.LocalClocks.{changed_at}
-use Rattle.run_law.specs.records.Happenings.{Happening, happenings, time_of}
-use Rattle.run_law.specs.machines.Nodes.{Node}
-use Rattle.run_law.specs.records.Order.{IsBefore, IsIn}
-use Rattle.run_law.specs.records.Ranks.{key, members_in, place_of, rank}
-use Rattle.run_law.specs.records.Causes.{IsOfThisTime}
-use Rattle.run_law.specs.runs.DueRecords.{IsDue}
-use Rattle.run_law.specs.runs.Runs.{IsFounded}
-use Rattle.run_law.specs.scenario.Scenarios.{Scenario, is_turned_on_at}
-use Rattle.run_law.specs.machines.Tasks.{IsPending, Task, doing, emitting, reading_for}
-use Rattle.run_law.specs.declared.note.Note.{Note}
-use Rattle.world_law.proofs.devices.Deeds.{rests}
-use Rattle.world_law.proofs.devices.TurnedOn.{IsInTime, IsQuietInstant, change_quiet, left_after_on, quiet_rest}
-use Rattle.world_law.proofs.giving.Given.{no_later_breaks}
+use Rattle.world_law.proofs.{devices.{Deeds.rests, TurnedOn.{IsInTime, IsQuietInstant, change_quiet, left_after_on, quiet_rest}}, giving.Given.no_later_breaks}
 use Rattle.world_law.proofs.runs.Foremost.{not_on_after, unmoved_by}
-use Rattle.world_law.specs.device.Deeds.{HasDoneFrom}
-use Rattle.world_law.specs.device.Left.{HasDone, HasSent, IsLeft}
-use Rattle.world_law.specs.device.Own.{moves}
-use Rattle.world_law.specs.world.World.{HaveBefallen, IsTurnedOnBy, IsKept, Stands, World}
 
 -- it rests from this time on
 pub record Rests (s : Scenario) (hs : List Happening) (device : DeviceId) (now : ℕ) (node : Node) : Type 0 where

@@ -1,23 +1,10 @@
 -- What the records say of a device's state and adjustment is what its machine shows, whether or not it has acted.
-use Rattle.std.proofs.Common.{◌≡◌, ℕ, ◌+◌, ◌≤◌, Bool, if◌then◌else◌, List, [], ◌∷◌, ◌++◌, inl, inr, refl, sym, ap, subst, ◌∙◌, arith}
-use Rattle.std.proofs.lemmas.Bool.{cases_Bool}
-use Rattle.net_plan.specs.declared.ids.DeviceId.{DeviceId}
-use Rattle.net_plan.specs.declared.network.Network.{Network}
-use Rattle.run_law.proofs.runs.Places.{in_parts}
-use Rattle.run_law.specs.records.Happenings.{Happening, earlier, happenings, time_of, up_to}
-use Rattle.run_law.specs.machines.Nodes.{Node}
-use Rattle.run_law.specs.records.Order.{IsIn}
-use Rattle.run_law.specs.scenario.Scenarios.{Scenario, is_turned_on_at}
-use Rattle.run_law.specs.device.States.{adjustment_after, adjustment_before, state_after, state_before}
-use Rattle.run_law.specs.declared.note.Note.{Note}
-use Rattle.sync_state.specs.declared.state.State.TheVariants.{Integrating}
-use Rattle.sync_state.specs.declared.state.State.{State}
-use Rattle.world_law.proofs.devices.OwnRecords.{state_still}
-use Rattle.world_law.proofs.devices.Passes.{not_turned_on}
-use Rattle.world_law.proofs.devices.Resting.{IsPast, IsWorked, are_past}
+use Rattle.world_law.proofs.Words.{if◌then◌else◌, ◌++◌, ◌+◌, ◌∙◌, ◌∷◌, ◌≡◌, ◌≤◌, Bool, DeviceId, Happening, HaveBefallen, Integrating, IsHeld, IsIn, IsKept}
+use Rattle.world_law.proofs.Words.{List, Network, Node, Note, Scenario, Stands, State, World, [], adjustment_after, adjustment_before, ap, arith, cases_Bool}
+use Rattle.world_law.proofs.Words.{earlier, happenings, in_parts, inl, inr, is_turned_on_at, refl, state_after, state_before, subst, sym, time_of, up_to, ℕ}
+use Rattle.world_law.proofs.devices.{OwnRecords.state_still, Passes.not_turned_on, Resting.{IsPast, IsWorked, are_past}}
 use Rattle.world_law.proofs.devices.TurnedOn.{IsInTime, IsQuietInstant, adjustment_quiet, next_is_up_to, on_state, quiet_rest}
 use Rattle.world_law.proofs.runs.Foremost.{not_on_after, unmoved_by}
-use Rattle.world_law.specs.world.World.{HaveBefallen, IsHeld, IsKept, Stands, World}
 
 -- records of an instant stand behind those that are no later
 in_time_more : (now : ℕ) (hs coming : List Happening) → IsInTime hs → ((h : Happening) → IsIn h hs → time_of h ≤ now)

@@ -1,33 +1,16 @@
 -- A device that was turned on at an instant, and has done nothing at it, stands right after it as one that looks for the
 -- common time.
-use Rattle.std.proofs.Common.{◌≡◌, ◌⊎◌, ℕ, ◌+◌, ◌≤◌, ◌<◌, pos, ◌+ℤ◌, Bool, true, false, List, [], ◌∷◌, ◌++◌, filter, fold, if◌then◌else◌, Option, Some, None, IfSome, inl, inr, refl, sym, ap, subst, ◌∙◌, arith}
-use Rattle.std.specs.Prelude.{nat_le, nat_lt}
-use Rattle.std.specs.List.{last_or}
-use Rattle.std.specs.Option.{option_map_or}
-use Rattle.std.proofs.lemmas.Bool.{cases_lt}
-use Rattle.net_plan.specs.declared.ids.DeviceId.{DeviceId}
-use Rattle.run_law.proofs.records.Happenings.{fold_parts}
-use Rattle.run_law.proofs.runs.Places.{in_right, parted}
-use Rattle.run_law.specs.device.LocalClocks.{changed_at, changes_adjustment, local_at_change}
-use Rattle.run_law.specs.control.Corrections.{cycle_after, integration_cycle, recorded_cycle}
-use Rattle.run_law.specs.scenario.Devices.{start_of}
-use Rattle.run_law.specs.records.Happenings.{Happening, earlier, time_of, up_to}
-use Rattle.run_law.specs.machines.Nodes.{Node}
-use Rattle.run_law.specs.records.Order.{IsIn}
-use Rattle.run_law.specs.scenario.Scenarios.{Scenario, is_broken, is_turned_on_at}
-use Rattle.run_law.specs.device.States.{adjustment_before, adjustment_with, cycle_in, is_joined_by, state_after, state_with}
-use Rattle.run_law.specs.declared.judgement.Why.TheVariants.{On}
-use Rattle.run_law.specs.declared.note.NoteBody.TheVariants as notes
-use Rattle.run_law.specs.declared.note.NoteBody.{NoteBody}
+use Rattle.world_law.proofs.Words.{if◌then◌else◌, ◌++◌, ◌+ℤ◌, ◌+◌, ◌<◌, ◌∙◌, ◌∷◌, ◌≡◌, ◌≤◌, ◌⊎◌, Bool, DeviceId, Happening, IfSome, Integrating, IsAtRest, IsIn}
+use Rattle.world_law.proofs.Words.{IsLeft, IsTurnedOnBy, List, Node, None, NoteBody, Option, Scenario, Some, State, Units, [], adjustment_before}
+use Rattle.world_law.proofs.Words.{adjustment_with, ap, arith, cases_lt, changed_at, changes_adjustment, cycle_after, cycle_in, earlier, false, filter, fold}
+use Rattle.world_law.proofs.Words.{in_right, inl, inr, integration_cycle, is_broken, is_joined_by, is_timed, is_turned_on_at, is_turning, last_or}
+use Rattle.world_law.proofs.Words.{local_at_change, moves, nat_le, nat_lt, option_map_or, parted, pos, recorded_cycle, refl, state_after, state_with, subst}
+use Rattle.world_law.proofs.Words.{sym, time_of, true, up_to, ℕ}
+use Rattle.run_law.{proofs.records.Happenings.fold_parts, specs.{declared.judgement.Why.TheVariants.On, scenario.Devices.start_of}}
 use Rattle.sync_state.specs.Standing.{state_at_start}
-use Rattle.sync_state.specs.declared.state.State.TheVariants.{Integrating}
-use Rattle.sync_state.specs.declared.state.State.{State}
-use Rattle.tte_units.specs.declared.units.Units.{Units}
 use Rattle.world_law.proofs.devices.OwnRecords.{changes_no_other, earlier_no, earlier_yes, joins_no_other, keeps_adjustment, keeps_cycle, keeps_state}
 use Rattle.world_law.proofs.devices.Passes.{not_turned_on}
-use Rattle.world_law.specs.device.Left.{IsLeft, is_timed}
-use Rattle.world_law.specs.device.Own.{moves}
-use Rattle.world_law.specs.world.World.{IsAtRest, IsTurnedOnBy, is_turning}
+use Rattle.run_law.specs.declared.note.NoteBody.TheVariants as notes
 
 -- each record stands behind those of earlier times
 abbrev pub IsInTime : List Happening → Type 0

@@ -1,50 +1,20 @@
 -- A frame that comes up from below is that of one master, where octets are sent by end systems alone.
-use Rattle.std.proofs.Common.{◌≡◌, ◌⊎◌, IsSomeAnd, ℕ, zero, suc, ◌^◌, ◌≤◌, Bool, true, false, not, ◌&&◌, ◌==◌, if◌then◌else◌, List, [], ◌∷◌, ◌++◌, length, slice_get, Option, Some, None, Ok, option_and_then, option_map, inl, inr, refl, sym, ap, subst, ◌∙◌, arith}
-use Rattle.std.specs.Prelude.{is_some, unwrap_or}
-use Rattle.std.specs.Option.{option_map_or}
-use Rattle.std.proofs.lemmas.Bool.{both_ways, cases_Bool, eq-eqb, eqb-true}
-use Rattle.std.proofs.lemmas.List.{length-append}
-use Rattle.net_plan.proofs.Shape.{rules_give_trees}
-use Rattle.net_plan.proofs.TableFacts.{no_path}
-use Rattle.net_plan.specs.Paths.{IsUplink}
-use Rattle.net_plan.specs.Places.{device_at, link_at, is_end_system, is_master, IsDeviceOf, IsSwitchOf}
-use Rattle.net_plan.specs.Ranges.{IsDeviceInRange, IsInRange}
-use Rattle.net_plan.specs.declared.event.Event.{Event}
-use Rattle.net_plan.specs.declared.event.What.TheVariants.{Send}
-use Rattle.net_plan.specs.declared.ids.DeviceId.{DeviceId}
-use Rattle.net_plan.specs.declared.ids.LinkId.{LinkId}
-use Rattle.net_plan.specs.declared.network.Network.{Network}
-use Rattle.net_plan.specs.declared.tables.Device.{Device}
-use Rattle.net_plan.specs.declared.tables.Link.{Link}
-use Rattle.net_plan.specs.declared.tables.Way.{Way}
-use Rattle.net_plan.specs.declared.tables.Way.TheVariants.{Up, Down}
+use Rattle.world_law.proofs.Words.{if◌then◌else◌, ◌&&◌, ◌++◌, ◌==◌, ◌^◌, ◌∙◌, ◌∷◌, ◌≡◌, ◌≤◌, ◌⊎◌, Bool, Device, DeviceId, Down, Event, Gives, Happening}
+use Rattle.world_law.proofs.Words.{IsCaused, IsDue, IsFounded, IsIn, IsInRange, KeepsRules, Launch, Link, LinkId, List, Network, None, NoteBody, Ok, Option}
+use Rattle.world_law.proofs.Words.{Pcf, Scenario, Send, Some, Up, Way, [], ap, arith, both_ways, cases_Bool, control, device_at, eq-eqb, eqb-true, false}
+use Rattle.world_law.proofs.Words.{founded_at, frame_by, inl, inr, is_cut, is_end, launched, length, length-append, link_at, not, option_and_then, option_map}
+use Rattle.world_law.proofs.Words.{option_map_or, place_of, refl, signal_of, slice_get, standpoint, subst, suc, sym, target_by, time_of, true, way_from}
+use Rattle.world_law.proofs.Words.{with_clock, zero, ℕ}
+use Rattle.std.{proofs.Common.IsSomeAnd, specs.Prelude.{is_some, unwrap_or}}
+use Rattle.net_plan.{proofs.{Shape.rules_give_trees, TableFacts.no_path}, specs.{Paths.IsUplink, Places.{IsDeviceOf, IsSwitchOf, is_end_system, is_master}}}
+use Rattle.net_plan.specs.Ranges.{IsDeviceInRange}
 use Rattle.pcf_values.specs.declared.members.Members.{Members}
-use Rattle.pcf_values.specs.declared.pcf.Pcf.{Pcf}
-use Rattle.run_law.proofs.law.FirstPlaces.{founded_at, front_founded, numbered_in}
-use Rattle.run_law.specs.control.Arrivals.{are_others, is_of_other_member}
-use Rattle.run_law.specs.control.Leaving.{Gives}
-use Rattle.run_law.specs.control.Wires.{Launch, control, launched, signal_of}
-use Rattle.run_law.specs.declared.note.NoteBody.{NoteBody}
+use Rattle.run_law.{proofs.law.FirstPlaces.{front_founded, numbered_in}, specs.control.Arrivals.{are_others, is_of_other_member}}
+use Rattle.run_law.specs.{machines.Calls.{IsOfMaster, IsOneMaster}, scenario.Devices.{IsParentOf, has_role, is_parent_of, member_of}}
+use Rattle.schedule_tables.{proofs.Margins.shape_rules, specs.declared.rule.Rule.TheVariants.Joints}
+use Rattle.tte_lemmas.proofs.{Lists.in_all, Options.{at_known, closed, opened}}
+use Rattle.world_law.{proofs.{frames.Proper.{has_come, is_sound, launch_signal, not_control, received}, giving.Given.some_same}, specs.world.World.IsFromEnd}
 use Rattle.run_law.specs.declared.note.NoteBody.TheVariants as kinds
-use Rattle.run_law.specs.device.Standpoints.{standpoint}
-use Rattle.run_law.specs.machines.Calls.{IsOfMaster, IsOneMaster}
-use Rattle.run_law.specs.records.Happenings.{Happening, frame_by, time_of, with_clock}
-use Rattle.run_law.specs.records.Order.{IsIn}
-use Rattle.run_law.specs.records.Ranks.{place_of}
-use Rattle.run_law.specs.runs.DueRecords.{IsCaused, IsDue}
-use Rattle.run_law.specs.runs.Runs.{IsFounded}
-use Rattle.run_law.specs.scenario.Devices.{IsParentOf, has_role, is_end, is_parent_of, member_of}
-use Rattle.run_law.specs.scenario.Scenarios.{Scenario}
-use Rattle.run_law.specs.scenario.Ways.{is_cut, way_from}
-use Rattle.schedule_tables.proofs.Margins.{shape_rules}
-use Rattle.schedule_tables.specs.Entries.{target_by}
-use Rattle.schedule_tables.specs.Rules.{KeepsRules}
-use Rattle.schedule_tables.specs.declared.rule.Rule.TheVariants.{Joints}
-use Rattle.tte_lemmas.proofs.Lists.{in_all}
-use Rattle.tte_lemmas.proofs.Options.{at_known, closed, opened}
-use Rattle.world_law.proofs.giving.Given.{some_same}
-use Rattle.world_law.specs.world.World.{IsFromEnd}
-use Rattle.world_law.proofs.frames.Proper.{has_come, is_sound, launch_signal, not_control, received}
 
 -- octets are sent by end systems alone
 abbrev pub AreSentByEnds : Scenario → Type 0

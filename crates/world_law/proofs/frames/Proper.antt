@@ -1,44 +1,20 @@
 -- A frame that waits is one that the network has: its `arrived` record was due.
-use Rattle.std.proofs.Common.{◌≡◌, IsSomeAnd, ℕ, ◌≤◌, Bool, true, false, not, ◌&&◌, ◌==◌, nat_lt, if◌then◌else◌, List, [], ◌∷◌, ◌++◌, length, Option, Some, None, Ok, Err, option_map, option_and_then, inl, inr, refl, sym, ap, subst, ◌∙◌}
-use Rattle.std.proofs.lemmas.Bool.{cases_lt, eqb-true, lt-ltb, not-false}
-use Rattle.net_plan.specs.Places.{link_at}
-use Rattle.net_plan.specs.declared.event.What.TheVariants.{Send}
-use Rattle.net_plan.specs.declared.ids.DeviceId.{DeviceId}
-use Rattle.net_plan.specs.declared.ids.LinkId.{LinkId}
-use Rattle.net_plan.specs.declared.network.Network.{Network}
-use Rattle.net_plan.specs.declared.tables.Link.{Link}
-use Rattle.net_plan.specs.declared.tables.Way.{Way}
-use Rattle.net_plan.specs.declared.tables.Way.TheVariants.{Up, Down}
-use Rattle.pcf_codec.specs.Decoding.{decoded}
-use Rattle.pcf_codec.specs.EtherType.{pcf_type}
-use Rattle.pcf_codec.specs.Fields.{field}
-use Rattle.pcf_values.specs.declared.pcf.Pcf.{Pcf}
-use Rattle.pcf_values.specs.declared.pcf.PcfKind.{PcfKind}
-use Rattle.pcf_values.specs.declared.pcf.PcfKind.TheVariants.{Integration}
-use Rattle.run_law.proofs.law.FirstPlaces.{founded_at, numbered_in, numbered_within}
-use Rattle.run_law.specs.control.Arrivals.{clock_on_arrival, frame_fault, frame_or_fault, frame_taken, is_cold_start, is_gate_shut, is_of_other_domain, is_of_other_member, point_on_arrival}
-use Rattle.run_law.specs.control.Wires.{Arrives, Launch, Signal, control, launched, signal_of, timed}
-use Rattle.run_law.specs.declared.judgement.Reason.{Reason}
+use Rattle.world_law.proofs.Words.{if◌then◌else◌, ◌&&◌, ◌++◌, ◌==◌, ◌∙◌, ◌∷◌, ◌≡◌, ◌≤◌, Arrival, Arrives, ArrivesAs, Bool, DeviceId, Down, Happening}
+use Rattle.world_law.proofs.Words.{IsArrivedRecord, IsCaused, IsDue, IsFounded, IsIn, Launch, Link, LinkId, List, Network, None, NoteBody, Ok, Option, Pcf}
+use Rattle.world_law.proofs.Words.{Reason, Scenario, Send, Signal, Some, Standpoint, Units, Up, Way, [], amount, ap, arrival_of, cases_lt, control, eqb-true}
+use Rattle.world_law.proofs.Words.{false, founded_at, frame_by, inl, inr, is_cut, launched, length, link_at, lt-ltb, nat_lt, not, numbered, option_and_then}
+use Rattle.world_law.proofs.Words.{option_map, place_of, refl, signal_of, standpoint, subst, sym, target_by, time_of, timed, timed_arrival, true, way_from}
+use Rattle.world_law.proofs.Words.{with_clock, ℕ}
+use Rattle.std.proofs.{Common.{Err, IsSomeAnd}, lemmas.Bool.not-false}
+use Rattle.pcf_codec.specs.{Decoding.decoded, EtherType.pcf_type, Fields.field}
+use Rattle.pcf_values.specs.declared.pcf.PcfKind.{PcfKind, TheVariants.Integration}
+use Rattle.run_law.proofs.law.FirstPlaces.{numbered_in}
+use Rattle.run_law.specs.control.Arrivals.{clock_on_arrival, frame_fault, frame_or_fault, frame_taken, is_cold_start, is_gate_shut, is_of_other_domain}
+use Rattle.run_law.specs.{control.Arrivals.{is_of_other_member, point_on_arrival}, device.Standpoints.first_reason, machines.Calls.IsLinkAt}
+use Rattle.run_law.specs.{records.Happenings.frame_in, scenario.Ways.receiver_of, timed.Arrivals.{entry_arrival, octets_or_fault, row_fault, taken_or_fault}}
 use Rattle.run_law.specs.declared.judgement.Reason.TheVariants as reasons
-use Rattle.run_law.specs.declared.note.NoteBody.{NoteBody}
 use Rattle.run_law.specs.declared.note.NoteBody.TheVariants as kinds
-use Rattle.run_law.specs.declared.steps.Arrival.{Arrival}
 use Rattle.run_law.specs.declared.steps.Arrival.TheVariants as arrivals
-use Rattle.run_law.specs.device.Standpoints.{Standpoint, first_reason, standpoint}
-use Rattle.run_law.specs.machines.Calls.{IsLinkAt}
-use Rattle.run_law.specs.records.Happenings.{Happening, frame_by, frame_in, numbered, time_of, with_clock}
-use Rattle.run_law.specs.records.Order.{IsIn}
-use Rattle.run_law.specs.records.Ranks.{place_of}
-use Rattle.run_law.specs.runs.DueRecords.{IsArrivedRecord, IsCaused, IsDue}
-use Rattle.run_law.specs.runs.Runs.{IsFounded}
-use Rattle.run_law.specs.scenario.Devices.{IsParentOf}
-use Rattle.run_law.specs.scenario.Scenarios.{Scenario}
-use Rattle.run_law.specs.scenario.Ways.{is_cut, receiver_of, way_from}
-use Rattle.run_law.specs.timed.Arrivals.{entry_arrival, octets_or_fault, row_fault, taken_by, taken_or_fault, timed_arrival}
-use Rattle.run_law.specs.timed.Receptions.{ArrivesAs, arrival_of}
-use Rattle.schedule_tables.specs.Entries.{target_by}
-use Rattle.tte_units.specs.Amount.{amount}
-use Rattle.tte_units.specs.declared.units.Units.{Units}
 
 -- ---- what waits or is passed on
 

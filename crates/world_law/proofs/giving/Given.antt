@@ -1,52 +1,22 @@
 -- The first of what is to come is given: the world stands again.
-use Rattle.std.proofs.Common.{◌≡◌, ℕ, suc, ◌+◌, ◌≤◌, ◌<◌, Bool, true, false, List, [], ◌∷◌, ◌++◌, length, map, slice_get, Option, Some, append_assoc, inl, inr, refl, sym, ap, subst, ◌∙◌, arith}
-use Rattle.std.specs.Prelude.{nat_le}
-use Rattle.std.specs.List.{list_any}
-use Rattle.std.proofs.lemmas.Bool.{cases_Bool, le-leb}
-use Rattle.std.proofs.lemmas.Int.{ints}
-use Rattle.std.proofs.lemmas.List.{append-nil, length_push}
-use Rattle.std.proofs.lemmas.Option.{slice_get_cases}
-use Rattle.net_plan.specs.Places.{device_at}
-use Rattle.net_plan.specs.declared.event.Event.{Event}
-use Rattle.net_plan.specs.declared.ids.DeviceId.{DeviceId}
-use Rattle.net_plan.specs.declared.ids.LinkId.{LinkId}
-use Rattle.net_plan.specs.declared.network.Network.{Network}
-use Rattle.net_plan.specs.declared.tables.Device.{Device}
-use Rattle.pcf_values.specs.declared.pcf.Pcf.{Pcf}
-use Rattle.run_law.proofs.law.FirstPlaces.{numbered_next}
-use Rattle.run_law.proofs.records.Order.{same_kept}
-use Rattle.run_law.proofs.runs.NetworkRuns.{one_more}
-use Rattle.run_law.proofs.runs.Places.{before_behind, before_later, before_next_time, chain, in_left, never_self, nothing_between}
-use Rattle.run_law.specs.control.Permanence.{IsPermanent}
-use Rattle.run_law.specs.declared.note.Note.{Note}
-use Rattle.run_law.specs.declared.note.NoteBody.TheVariants as kinds
-use Rattle.run_law.specs.declared.note.NoteBody.{NoteBody}
-use Rattle.run_law.specs.device.LocalClocks.{changed_at}
-use Rattle.run_law.specs.device.States.{adjustment_after, state_after}
-use Rattle.run_law.specs.machines.Nodes.{Node}
-use Rattle.run_law.specs.records.Happenings.{Happening, earlier, happening, happenings, numbered, time_of, up_to}
-use Rattle.run_law.specs.records.Order.{IsBefore, IsIn, behind}
-use Rattle.run_law.specs.records.Ranks.{key, members_in, place_of, rank}
-use Rattle.run_law.specs.runs.DueRecords.{IsCaused, IsDue, IsEventRecord, IsScenarioRun}
-use Rattle.run_law.specs.scenario.Hypothesis.{breaks_at}
-use Rattle.run_law.specs.scenario.Scenarios.{Scenario, events_up_to, is_broken}
-use Rattle.sync_state.specs.declared.state.State.TheVariants.{Off}
-use Rattle.tte_units.specs.Amount.{amount, units_of}
-use Rattle.tte_units.specs.declared.units.Units.{Units}
-use Rattle.world_law.proofs.acts.Recorded.{recorded_given}
-use Rattle.world_law.proofs.giving.GivenParts.{IsGiving, settled_then, up_to_place, worked_by_then}
-use Rattle.world_law.proofs.giving.Naming.{IsFollowing, named_right, shown_as}
-use Rattle.world_law.proofs.giving.Storing.{stored_then}
+use Rattle.world_law.proofs.Words.{◌++◌, ◌+◌, ◌<◌, ◌∙◌, ◌∷◌, ◌≡◌, ◌≤◌, AreAtPorts, AreOfNetwork, AreOnWires, AreSettled, AreWaiting, AtPort, Bool, Device}
+use Rattle.world_law.proofs.Words.{DeviceId, Event, Happening, HasDoneFrom, HaveBefallen, IsBefore, IsCaused, IsDue, IsEventRecord, IsHeld, IsIn, IsKept}
+use Rattle.world_law.proofs.Words.{IsLeft, IsScenarioRun, IsSource, IsTurnedOnBy, LinkId, List, Network, NoSourceBefore, Node, Note, NoteBody, Off, OnWire}
+use Rattle.world_law.proofs.Words.{Option, Pcf, Scenario, Some, Units, Waiting, [], act_place, adjustment_after, amount, ap, append-nil, append_assoc, arith}
+use Rattle.world_law.proofs.Words.{before_next_time, behind, cases_Bool, changed_at, clock_place, device_at, earlier, false, frames_taken, happening}
+use Rattle.world_law.proofs.Words.{happenings, hidden, hidden_body, inl, inr, ints, is_broken, key, length, list_any, map, members_in, nat_le, never_self}
+use Rattle.world_law.proofs.Words.{none_yet, numbered, place_of, port_place, rank, refl, ripe_place, same_kept, slice_get, state_after, subst, suc, sym}
+use Rattle.world_law.proofs.Words.{time_of, true, units_of, up_to, wire_place, ℕ}
+use Rattle.std.proofs.lemmas.{Bool.le-leb, List.length_push, Option.slice_get_cases}
+use Rattle.run_law.{proofs.{law.FirstPlaces.numbered_next, runs.NetworkRuns.one_more}, specs.{control.Permanence.IsPermanent, scenario.Hypothesis.breaks_at}}
+use Rattle.run_law.specs.scenario.Scenarios.{events_up_to}
+use Rattle.world_law.proofs.{acts.Recorded.recorded_given, giving.GivenParts.{IsGiving, settled_then, up_to_place, worked_by_then}}
+use Rattle.world_law.proofs.giving.{Naming.{IsFollowing, named_right, shown_as}, Storing.stored_then}
 use Rattle.world_law.proofs.runs.Firsts.{arriving_more, departing_more, numbered_more, numbered_still}
-use Rattle.world_law.proofs.runs.SourcesBack.{acting_back, arrives_later, gives_rank, no_higher}
-use Rattle.world_law.proofs.runs.Worlds.{first_settled_is_next, length_is}
-use Rattle.world_law.specs.device.Deeds.{HasDoneFrom}
-use Rattle.world_law.specs.device.Left.{IsLeft}
-use Rattle.world_law.specs.device.Takings.{frames_taken}
-use Rattle.world_law.specs.source.First.{NoSourceBefore}
-use Rattle.world_law.specs.source.Sources.{IsSource}
+use Rattle.world_law.proofs.runs.{SourcesBack.{acting_back, arrives_later, gives_rank, no_higher}, Worlds.{first_settled_is_next, length_is}}
 use Rattle.world_law.specs.world.Moves.{AreAwaited, AreGiven, ArePut, AreTaken, GivenStep, named}
-use Rattle.world_law.specs.world.World.{AreAtPorts, AreOfNetwork, AreOnWires, AreSettled, AreStored, AreUntold, AreWaiting, AtPort, Befell, IsTurnedOnBy, HaveBefallen, IsActedUpTo, IsAwaitedFor, IsHeld, IsJustTold, IsKept, OnWire, Waiting, act_place, clock_place, hidden, hidden_body, none_yet, note_of, port_place, ripe_place, wire_place}
+use Rattle.world_law.specs.world.World.{AreStored, AreUntold, Befell, IsActedUpTo, IsAwaitedFor, IsJustTold, note_of}
+use Rattle.run_law.specs.declared.note.NoteBody.TheVariants as kinds
 
 -- ---- events so far
 

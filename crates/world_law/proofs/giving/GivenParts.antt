@@ -1,19 +1,11 @@
 -- The first of what is to come is given: what is worked off, and what is settled then.
-use Rattle.std.proofs.Common.{◌≡◌, ◌⊎◌, ℕ, suc, ◌≤◌, true, List, [], ◌∷◌, ◌++◌, length, append_assoc, inl, inr, refl, sym, ap, subst, ◌∙◌, arith}
-use Rattle.net_plan.specs.declared.ids.DeviceId.{DeviceId}
-use Rattle.run_law.proofs.runs.Places.{before_behind, before_later, before_or_not, chain, either_way, in_left, never_self, nothing_between}
-use Rattle.run_law.specs.records.Happenings.{Happening, time_of}
-use Rattle.run_law.specs.records.Order.{AllBefore, IsBefore, IsIn, behind}
-use Rattle.run_law.specs.records.Ranks.{key, members_in, place_of, rank}
-use Rattle.run_law.specs.runs.DueRecords.{IsDue}
-use Rattle.run_law.specs.scenario.Scenarios.{Scenario}
+use Rattle.world_law.proofs.Words.{◌++◌, ◌∙◌, ◌∷◌, ◌≡◌, ◌≤◌, ◌⊎◌, AllBefore, AreSettled, DeviceId, Happening, IsBefore, IsDue, IsForward, IsIn, IsSource}
+use Rattle.world_law.proofs.Words.{IsWorkedOff, List, NoSourceBefore, NoteBody, Scenario, [], act_place, ap, append_assoc, arith, before_behind, before_later}
+use Rattle.world_law.proofs.Words.{before_or_not, behind, chain, either_way, in_left, inl, inr, is_at_source, key, length, members_in, never_self, place_of}
+use Rattle.world_law.proofs.Words.{rank, refl, subst, suc, sym, time_of, true, ℕ}
+use Rattle.run_law.proofs.runs.Places.{nothing_between}
+use Rattle.world_law.{proofs.runs.{SourcesBack.source_back, Worlds.first_before}, specs.world.World.IsTakenUp}
 use Rattle.run_law.specs.declared.note.NoteBody.TheVariants as notes
-use Rattle.run_law.specs.declared.note.NoteBody.{NoteBody}
-use Rattle.world_law.proofs.runs.SourcesBack.{source_back}
-use Rattle.world_law.proofs.runs.Worlds.{first_before}
-use Rattle.world_law.specs.source.First.{NoSourceBefore}
-use Rattle.world_law.specs.source.Sources.{IsSource}
-use Rattle.world_law.specs.world.World.{AreSettled, IsForward, IsTakenUp, IsWorkedOff, act_place, is_at_source}
 
 -- what is before the place just behind another is not behind that one
 pub up_to_place : (w p : List ℕ) → IsBefore w (behind p) → (w ≡ p) ⊎ IsBefore w p

@@ -1,41 +1,21 @@
 -- What follows a record has its number once it is given.
-use Rattle.std.proofs.Common.{◌≡◌, ◌⊎◌, ℕ, ℤ, zero, suc, ◌+◌, ◌-◌, ◌^◌, ◌≤◌, ◌<◌, pos, Bool, true, false, ◌&&◌, ◌||◌, ◌==◌, if◌then◌else◌, List, [], ◌∷◌, ◌++◌, length, map, filter, slice_get, Option, Some, option_and_then, inl, inr, refl, sym, ap, subst, ◌∙◌, arith}
-use Rattle.std.specs.Prelude.{nat_lt}
-use Rattle.std.specs.List.{list_any}
-use Rattle.std.specs.Option.{option_map_or}
-use Rattle.std.proofs.lemmas.Bool.{MatchBool-at_false, MatchBool-at_true, and_right, cases_Bool, eq-eqb, eqb-true, false_from_ne_true, le-ltb, lt-ltb}
+use Rattle.world_law.proofs.Words.{if◌then◌else◌, ◌&&◌, ◌++◌, ◌+◌, ◌<◌, ◌==◌, ◌||◌, ◌∙◌, ◌∷◌, ◌≡◌, ◌≤◌, ◌⊎◌, Bool, ChangesState, DeviceId, Happening, IsBefore}
+use Rattle.world_law.proofs.Words.{IsCaused, IsDue, IsIn, Joining, List, Network, NoteBody, Option, Pcf, Scenario, Some, State, Units, Why, []}
+use Rattle.world_law.proofs.Words.{adjustment_at_hearing, amount, and_right, ap, arith, before_permanence, cases_Bool, eq-eqb, eqb-true, false}
+use Rattle.world_law.proofs.Words.{false_from_ne_true, filter, frame_by, has_joined_at, heard_as, hidden, hidden_body, in_right, inl, inr, is_before}
+use Rattle.world_law.proofs.Words.{is_joined_by, key, le-ltb, length, list_any, lt-ltb, map, members_in, nat_lt, never_self, none_yet, numbered}
+use Rattle.world_law.proofs.Words.{numbered_within, observation_window, option_and_then, option_map_or, parted, place_of, plan_of, points_of, rank, refl}
+use Rattle.world_law.proofs.Words.{state_at_hearing, state_before, subst, suc, sym, time_of, true, zero, ℕ}
+use Rattle.std.proofs.lemmas.Bool.{MatchBool-at_false, MatchBool-at_true}
 use Rattle.compression.specs.Clusters.{point_at}
 use Rattle.net_plan.proofs.SameIds.{alike}
-use Rattle.net_plan.specs.declared.ids.DeviceId.{DeviceId}
-use Rattle.net_plan.specs.declared.network.Network.{Network}
-use Rattle.pcf_values.specs.declared.pcf.Pcf.{Pcf}
-use Rattle.run_law.proofs.control.Verdicts.{collected_not}
-use Rattle.run_law.proofs.law.FirstPlaces.{numbered_within}
-use Rattle.run_law.proofs.records.Order.{before_is}
-use Rattle.run_law.proofs.runs.Places.{in_right, never_self, parted}
-use Rattle.run_law.specs.control.Collections.{master_of, points_of, observation_window}
-use Rattle.run_law.specs.scenario.Devices.{is_cm, plan_of}
-use Rattle.run_law.specs.records.Happenings.{Happening, frame_by, frame_from, numbered, time_of}
-use Rattle.run_law.specs.control.Hearing.{heard_as, heard_by_schedule}
-use Rattle.run_law.specs.records.Order.{IsBefore, IsIn, is_before}
-use Rattle.run_law.specs.control.Permanence.{before_permanence, ripe_as}
-use Rattle.run_law.specs.records.Ranks.{key, members_in, place_of, rank}
-use Rattle.run_law.specs.device.StateChanges.{ChangesState}
-use Rattle.run_law.specs.runs.DueRecords.{IsCaused, IsDue}
-use Rattle.run_law.specs.scenario.Scenarios.{Scenario}
-use Rattle.run_law.specs.device.States.{adjustment_at_hearing, has_joined_at, is_joined_by, state_at_hearing, state_before}
+use Rattle.run_law.{proofs.{control.Verdicts.collected_not, records.Order.before_is}, specs.control.{Collections.master_of, Hearing.heard_by_schedule}}
+use Rattle.run_law.specs.{control.Permanence.ripe_as, records.Happenings.frame_from, scenario.Devices.is_cm}
+use Rattle.world_law.specs.world.Moves.{follows, is_corrected, named, named_body}
 use Rattle.run_law.specs.declared.judgement.Judgement.TheVariants as judgements
 use Rattle.run_law.specs.declared.judgement.Why.TheVariants as whys
-use Rattle.run_law.specs.declared.judgement.Why.{Why}
 use Rattle.run_law.specs.declared.note.NoteBody.TheVariants as notes
-use Rattle.run_law.specs.declared.note.NoteBody.{NoteBody}
 use Rattle.run_law.specs.declared.steps.Ripe.TheVariants as ripe
-use Rattle.sync_state.specs.declared.state.State.TheVariants.{Joining}
-use Rattle.sync_state.specs.declared.state.State.{State}
-use Rattle.tte_units.specs.Amount.{amount}
-use Rattle.tte_units.specs.declared.units.Units.{Units}
-use Rattle.world_law.specs.world.Moves.{follows, is_corrected, named, named_body}
-use Rattle.world_law.specs.world.World.{hidden, hidden_body, none_yet}
 
 -- ---- a device is told the time but once at an instant
 

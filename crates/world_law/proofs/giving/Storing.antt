@@ -1,16 +1,8 @@
 -- What switches hold, once one more record is given.
-use Rattle.std.proofs.Common.{◌≡◌, ℕ, Bool, true, false, if◌then◌else◌, List, [], ◌∷◌, ◌++◌, filter, Option, Some, None, inl, inr, refl, sym, ap, ◌∙◌}
-use Rattle.std.specs.List.{last_or}
-use Rattle.std.proofs.lemmas.Bool.{cases_Bool}
-use Rattle.std.proofs.lemmas.List.Elements.{filter-append}
-use Rattle.net_plan.specs.declared.ids.DeviceId.{DeviceId}
-use Rattle.net_plan.specs.declared.ids.VlId.{VlId}
-use Rattle.run_law.specs.records.Happenings.{Happening}
-use Rattle.run_law.specs.records.Order.{IsIn}
-use Rattle.run_law.specs.timed.Dispatching.{is_accepted}
+use Rattle.world_law.proofs.Words.{if◌then◌else◌, ◌++◌, ◌∙◌, ◌∷◌, ◌≡◌, Bool, DeviceId, Happening, IsIn, List, None, Option, Some, VlId, [], ap, cases_Bool}
+use Rattle.world_law.proofs.Words.{false, filter, filter-append, inl, inr, is_accepted, last_or, refl, sym, true, ℕ}
 use Rattle.tte_lemmas.proofs.Lists.{last_more}
-use Rattle.world_law.specs.world.Moves.{AreTaken}
-use Rattle.world_law.specs.world.World.{AreStored, IsStored, Stored, last_taking}
+use Rattle.world_law.specs.world.{Moves.AreTaken, World.{AreStored, IsStored, Stored, last_taking}}
 
 last_one : {X : Type 0} (b : Bool) (o : Option X) (x : X) → last_or o (if b then x ∷ [] else []) ≡ (if b then Some x else o)
 last_one true o x = refl

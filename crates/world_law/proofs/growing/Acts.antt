@@ -1,41 +1,17 @@
 -- What a device does at one moment is not much.
-use Rattle.std.proofs.Common.{◌≡◌, ◌⊎◌, ℕ, ◌+◌, ◌≤◌, ◌<◌, ℤ, pos, ◌+ℤ◌, ◌<ℤ◌, ◌≤ℤ◌, Bool, true, false, ◌==◌, if◌then◌else◌, List, [], ◌∷◌, ◌++◌, length, inl, inr, refl, sym, ap, subst, ◌∙◌, arith}
-use Rattle.std.specs.Prelude.{All}
-use Rattle.std.specs.List.{AllByRecursion, IsDistinct}
-use Rattle.std.proofs.lemmas.Bool.{cases_lt, ne_eqb}
-use Rattle.std.proofs.lemmas.Int.{ints}
-use Rattle.compression.specs.Clusters.{AreClusters, Point}
-use Rattle.compression.specs.declared.compressed.Compressed.{Compressed}
-use Rattle.net_plan.specs.Ranges.{IsInRange}
-use Rattle.net_plan.specs.declared.ids.DeviceId.{DeviceId}
-use Rattle.net_plan.specs.declared.network.Network.{Network}
-use Rattle.membership.specs.Summary.{Summary}
-use Rattle.run_law.proofs.runs.Places.{chain, never_self}
-use Rattle.run_law.proofs.silent.Due.{no_cluster}
-use Rattle.run_law.specs.control.Collections.{observation_window}
-use Rattle.run_law.specs.machines.Answers.{IsActOf, after_correction, after_emission, called, own_hearing}
-use Rattle.run_law.specs.machines.Calls.{MayCall}
-use Rattle.run_law.specs.machines.Nodes.{Node, acting, correcting, dispatching, sending}
-use Rattle.run_law.specs.machines.Tasks.{IsFirstTask, IsPending, Task, doing, emitting, order_of, reading_for}
-use Rattle.run_law.specs.records.Order.{IsBefore, IsIn}
-use Rattle.run_law.specs.scenario.Devices.{plan_of}
-use Rattle.run_law.specs.device.States.{is_synchronised}
-use Rattle.run_law.specs.declared.steps.Act.TheVariants as acts
-use Rattle.run_law.specs.declared.steps.Act.{Act}
-use Rattle.run_law.specs.declared.steps.Moment.{Moment}
-use Rattle.run_law.specs.declared.steps.Ripe.{Ripe}
+use Rattle.world_law.proofs.Words.{if◌then◌else◌, ◌++◌, ◌+ℤ◌, ◌+◌, ◌<ℤ◌, ◌<◌, ◌==◌, ◌∙◌, ◌∷◌, ◌≡◌, ◌≤ℤ◌, ◌≤◌, ◌⊎◌, Act, AllByRecursion, AreClusters}
+use Rattle.world_law.proofs.Words.{AsyncClique, Bool, Cleared, Compressed, Corrected, DeviceId, IsActOf, IsBefore, IsFromZero, IsIn, IsInRange, IsPending}
+use Rattle.world_law.proofs.Words.{KeepsRules, List, MayCall, Moment, Network, Node, Point, Ripe, Summary, SyncClique, Task, Verdict, [], acting}
+use Rattle.world_law.proofs.Words.{after_correction, after_emission, amount, ap, arith, called, cases_lt, chain, correcting, dispatching, doing, emitting}
+use Rattle.world_law.proofs.Words.{false, inl, inr, ints, length, never_self, no_cluster, observation_window, own_hearing, plan_of, pos, reading_for, refl}
+use Rattle.world_law.proofs.Words.{sending, subst, sym, true, ℕ, ℤ}
+use Rattle.std.{proofs.lemmas.Bool.ne_eqb, specs.{List.IsDistinct, Prelude.All}}
+use Rattle.run_law.specs.{device.States.is_synchronised, machines.Tasks.{IsFirstTask, order_of}}
 use Rattle.schedule_tables.specs.Dispatches.{dispatch_order}
-use Rattle.schedule_tables.specs.Rules.{KeepsRules}
-use Rattle.sync_state.specs.declared.answers.Verdict.TheVariants.{AsyncClique, Cleared, Corrected, SyncClique}
-use Rattle.sync_state.specs.declared.answers.Verdict.{Verdict}
-use Rattle.tte_units.specs.Amount.{amount}
-use Rattle.world_law.proofs.acts.Acted.{acted, heard_so}
-use Rattle.world_law.proofs.acts.Ready.{acting_last, last_is}
-use Rattle.world_law.proofs.growing.Few.{few_are_emitted}
-use Rattle.world_law.proofs.growing.FewRows.{IsRowOf, few_rows, row_of}
-use Rattle.world_law.proofs.growing.Growing.{acts_grow, nothing_behind_correction, nothing_sent_behind_sending, wide}
-use Rattle.world_law.proofs.growing.Openings.{from_zero}
-use Rattle.world_law.specs.device.Growing.{ActsAreFew, AreActs, AreRising, IsDueFrame, IsFromZero}
+use Rattle.world_law.proofs.{acts.{Acted.{acted, heard_so}, Ready.{acting_last, last_is}}, growing.{Few.few_are_emitted, FewRows.{IsRowOf, few_rows, row_of}}}
+use Rattle.world_law.proofs.growing.{Growing.{acts_grow, nothing_behind_correction, nothing_sent_behind_sending, wide}, Openings.from_zero}
+use Rattle.world_law.specs.device.Growing.{ActsAreFew, AreActs, AreRising, IsDueFrame}
+use Rattle.run_law.specs.declared.steps.Act.TheVariants as acts
 
 -- ---- each act where the device may act
 

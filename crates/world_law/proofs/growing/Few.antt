@@ -1,19 +1,9 @@
 -- At most two frames are due at once and have not waited for as long as the precision.
-use Rattle.std.proofs.Common.{◌≡◌, ℤ, pos, ◌+ℤ◌, ◌*ℤ◌, ◌≤ℤ◌, ◌<ℤ◌, List, [], ◌∷◌, Contains, inl, inr, refl, ap, subst, arith}
-use Rattle.std.proofs.lemmas.Int.{ints}
-use Rattle.compression.specs.Clusters.{Cluster}
-use Rattle.compression.specs.Emission.{emission}
-use Rattle.compression.specs.Middle.{middle_of, relative}
-use Rattle.compression.specs.declared.compressed.Compressed.{Compressed}
-use Rattle.compression.proofs.Standing.{AreClusters-unique}
-use Rattle.net_plan.specs.Ranges.{IsInRange}
-use Rattle.net_plan.specs.declared.network.Network.{Network}
-use Rattle.run_law.specs.control.Collections.{observation_window}
-use Rattle.run_law.specs.machines.Nodes.{Node}
-use Rattle.tte_units.specs.Amount.{amount}
-use Rattle.world_law.proofs.growing.Growing.{whole_precision}
-use Rattle.world_law.proofs.growing.Spans.{IsSpan, opens_behind, span_of}
-use Rattle.world_law.specs.device.Growing.{FewAreEmitted, IsDueFrame}
+use Rattle.world_law.proofs.Words.{◌+ℤ◌, ◌<ℤ◌, ◌∷◌, ◌≡◌, ◌≤ℤ◌, Cluster, Compressed, IsInRange, List, Network, Node, [], amount, ap, arith, inl, inr, ints}
+use Rattle.world_law.proofs.Words.{observation_window, pos, refl, subst, ℤ}
+use Rattle.std.proofs.Common.{◌*ℤ◌, Contains}
+use Rattle.compression.{proofs.Standing.AreClusters-unique, specs.{Emission.emission, Middle.{middle_of, relative}}}
+use Rattle.world_law.{proofs.growing.{Growing.whole_precision, Spans.{IsSpan, opens_behind, span_of}}, specs.device.Growing.{FewAreEmitted, IsDueFrame}}
 
 -- the emission of a cluster lies from its opening to its end, and two windows and the time to calculate
 record IsSentBy (ow calc : ℤ) (c : Cluster) (at : ℤ) : Type 0 where

@@ -1,20 +1,10 @@
 -- Different rows that leave one device are at most 256.
-use Rattle.std.proofs.Common.{◌≡◌, ℕ, zero, suc, ◌+◌, ◌≤◌, Bool, true, false, ◌==◌, if◌then◌else◌, List, [], ◌∷◌, length, filter, Option, Some, slice_get, inl, inr, refl, sym, ap, subst, ◌∙◌, arith}
-use Rattle.std.specs.Cmp.{IsEquivalence}
-use Rattle.std.specs.List.{AllByRecursion, IsDistinct, count_by, list_any}
-use Rattle.std.specs.Option.{option_map_or}
-use Rattle.std.proofs.lemmas.Bool.{cases_Bool, cases_eq, eq-eqb, eqb-true, ne_eqb, or_cases, or_left, or_right}
-use Rattle.std.proofs.lemmas.List.Sums.{length-filter}
-use Rattle.std.proofs.lemmas.Map.Made.{length-le_from_is_member}
-use Rattle.net_plan.specs.declared.ids.DeviceId.{DeviceId}
-use Rattle.net_plan.specs.declared.network.Network.{Network}
-use Rattle.net_plan.specs.declared.tables.Link.{Link}
-use Rattle.net_plan.specs.declared.tables.Row.{Row}
-use Rattle.schedule_tables.specs.Entries.{IsEntry, source_by, source_of}
-use Rattle.schedule_tables.specs.Rules.{KeepsRules}
-use Rattle.schedule_tables.specs.Schedule.{leaves}
-use Rattle.schedule_tables.specs.declared.entry.Entry.{Entry}
-use Rattle.schedule_tables.specs.declared.rule.Rule.TheVariants.{RowsOfDevice}
+use Rattle.world_law.proofs.Words.{if◌then◌else◌, ◌+◌, ◌==◌, ◌∙◌, ◌∷◌, ◌≡◌, ◌≤◌, AllByRecursion, Bool, DeviceId, Entry, IsEntry, KeepsRules, Link, List}
+use Rattle.world_law.proofs.Words.{Network, Option, Row, Some, [], ap, arith, cases_Bool, eq-eqb, eqb-true, false, filter, inl, inr, length, list_any}
+use Rattle.world_law.proofs.Words.{option_map_or, refl, slice_get, source_of, subst, suc, sym, true, zero, ℕ}
+use Rattle.std.proofs.lemmas.{Bool.{cases_eq, ne_eqb, or_cases, or_left, or_right}, List.Sums.length-filter, Map.Made.length-le_from_is_member}
+use Rattle.std.specs.{Cmp.IsEquivalence, List.{IsDistinct, count_by}}
+use Rattle.schedule_tables.specs.{Entries.source_by, Schedule.leaves, declared.rule.Rule.TheVariants.RowsOfDevice}
 
 abbrev eqn : ℕ → ℕ → Bool
 eqn a b = a == b

@@ -1,50 +1,19 @@
 -- Where a device has acted, each task that is still due at the moment stands behind what it did.
-use Rattle.std.proofs.Common.{◌≡◌, ◌⊎◌, ℕ, ◌+◌, ◌≤◌, ◌<◌, ℤ, pos, ◌+ℤ◌, ◌-ℤ◌, ◌<ℤ◌, ◌≤ℤ◌, List, [], ◌∷◌, ◌++◌, Option, Some, Contains, inl, inr, refl, sym, ap, subst, ◌∙◌, arith}
-use Rattle.std.specs.Option.{option_map_or}
-use Rattle.std.proofs.lemmas.Bool.{cases_lt, cases_order}
-use Rattle.std.proofs.lemmas.Int.{ints}
-use Rattle.std.proofs.lemmas.List.Elements.{Contains-append_right}
-use Rattle.compression.specs.declared.compressed.Compressed.{Compressed}
+use Rattle.world_law.proofs.Words.{◌++◌, ◌+ℤ◌, ◌+◌, ◌-ℤ◌, ◌<ℤ◌, ◌<◌, ◌∙◌, ◌∷◌, ◌≡◌, ◌≤ℤ◌, ◌≤◌, ◌⊎◌, Act, AsyncClique, Cleared, ClockTask, Compressed, Corrected}
+use Rattle.world_law.proofs.Words.{DeviceId, Entry, IsActOf, IsBefore, IsEntry, IsFromZero, IsInRange, IsPending, KeepsRules, List, MayCall, Moment, Network}
+use Rattle.world_law.proofs.Words.{Node, Option, Pcf, Ripe, Row, RowId, Some, Summary, SyncClique, Task, Verdict, [], acting, after_correction, after_emission}
+use Rattle.world_law.proofs.Words.{amount, ap, arith, called, cases_lt, cases_order, correcting, correction_value, dispatching, doing, either_way, emitting}
+use Rattle.world_law.proofs.Words.{inl, inr, ints, next_point, no_cluster, observation_window, option_map_or, own_hearing, plan_of, pos, reading_for, refl}
+use Rattle.world_law.proofs.Words.{sending, subst, sym, value_of, ℕ, ℤ}
+use Rattle.std.proofs.{Common.Contains, lemmas.List.Elements.Contains-append_right}
 use Rattle.compression.proofs.Elements.{in_head}
-use Rattle.membership.specs.Summary.{Summary}
-use Rattle.net_plan.specs.Ranges.{IsInRange}
-use Rattle.net_plan.specs.declared.ids.DeviceId.{DeviceId}
-use Rattle.net_plan.specs.declared.ids.RowId.{RowId}
-use Rattle.net_plan.specs.declared.network.Network.{Network}
-use Rattle.net_plan.specs.declared.tables.Row.{Row}
-use Rattle.pcf_values.specs.declared.pcf.Pcf.{Pcf}
-use Rattle.run_law.proofs.runs.Places.{either_way}
-use Rattle.run_law.proofs.silent.Due.{no_cluster}
-use Rattle.run_law.specs.control.Collections.{observation_window}
-use Rattle.run_law.specs.control.Corrections.{correction_value}
-use Rattle.run_law.specs.machines.Answers.{IsActOf, after_correction, after_emission, called, own_hearing, with_done}
-use Rattle.run_law.specs.machines.Calls.{MayCall}
-use Rattle.run_law.specs.machines.Nodes.{ClockTask, Node, acting, correcting, dispatching, sending}
-use Rattle.run_law.specs.machines.Tasks.{IsFirstTask, IsPending, Task, doing, emitting, order_of, reading_for, value_of}
-use Rattle.run_law.specs.records.Order.{IsBefore}
-use Rattle.run_law.specs.scenario.Devices.{plan_of}
-use Rattle.run_law.specs.declared.steps.Act.TheVariants as acts
-use Rattle.run_law.specs.declared.steps.Act.{Act}
-use Rattle.run_law.specs.declared.steps.Moment.{Moment}
-use Rattle.run_law.specs.declared.steps.Ripe.{Ripe}
-use Rattle.schedule_tables.specs.Dispatches.{dispatch_order}
-use Rattle.schedule_tables.specs.Entries.{IsEntry}
-use Rattle.schedule_tables.specs.Rules.{KeepsRules}
-use Rattle.schedule_tables.specs.declared.entry.Entry.{Entry}
-use Rattle.schedule_tables.specs.declared.rule.Rule.TheVariants.{ScheduleStart}
+use Rattle.run_law.specs.machines.{Answers.with_done, Tasks.{IsFirstTask, order_of}}
+use Rattle.schedule_tables.specs.{Dispatches.dispatch_order, declared.rule.Rule.TheVariants.ScheduleStart}
 use Rattle.sync_state.proofs.StateFacts.{integrating_point}
-use Rattle.sync_state.specs.Standing.{next_point}
-use Rattle.sync_state.specs.declared.answers.Verdict.TheVariants.{AsyncClique, Cleared, Corrected, SyncClique}
-use Rattle.sync_state.specs.declared.answers.Verdict.{Verdict}
-use Rattle.tte_lemmas.proofs.Integers.{whole as natural}
-use Rattle.tte_lemmas.proofs.Options.{same_next}
-use Rattle.tte_units.specs.Amount.{amount}
-use Rattle.world_law.proofs.acts.Acted.{acted, heard_so}
-use Rattle.world_law.proofs.growing.Openings.{from_zero, one_waiting}
-use Rattle.world_law.proofs.rows.Apart.{apart_so, precise, row_apart}
-use Rattle.world_law.proofs.rows.AtHand.{value_is}
-use Rattle.world_law.proofs.rows.Reached.{ShowsAt, cycles_apart}
-use Rattle.world_law.specs.device.Growing.{ActsGrow, IsFromZero, order_of_act}
+use Rattle.tte_lemmas.proofs.{Integers.whole as natural, Options.same_next}
+use Rattle.world_law.proofs.{acts.Acted.{acted, heard_so}, growing.Openings.{from_zero, one_waiting}, rows.Apart.{apart_so, precise, row_apart}}
+use Rattle.world_law.{proofs.rows.{AtHand.value_is, Reached.{ShowsAt, cycles_apart}}, specs.device.Growing.{ActsGrow, order_of_act}}
+use Rattle.run_law.specs.declared.steps.Act.TheVariants as acts
 
 -- ---- the precision
 

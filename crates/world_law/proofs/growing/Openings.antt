@@ -1,22 +1,11 @@
 -- The clusters of a list of points open at different readings.
-use Rattle.std.proofs.Common.{◌≡◌, ℤ, pos, negsuc, ◌≤ℤ◌, ◌<ℤ◌, List, [], ◌∷◌, Contains, inl, inr, sym, ap, subst, ◌∙◌, arith}
-use Rattle.std.specs.List.{AllByRecursion}
-use Rattle.std.proofs.lemmas.Int.{ints}
-use Rattle.std.proofs.lemmas.List.Elements.{recursion_from_All}
-use Rattle.compression.specs.Clusters.{AreClusters, Cluster, Point, beyond}
-use Rattle.compression.specs.Emission.{compressed}
-use Rattle.compression.specs.declared.compressed.Compressed.{Compressed}
-use Rattle.compression.proofs.Elements.{all_at, beyond-all, in_cases, in_none}
-use Rattle.compression.proofs.Standing.{AreClusters-unique}
-use Rattle.compression.proofs.Times.{first_end, open_beyond}
-use Rattle.net_plan.specs.declared.ids.DeviceId.{DeviceId}
-use Rattle.net_plan.specs.declared.network.Network.{Network}
-use Rattle.run_law.specs.control.Collections.{observation_window}
-use Rattle.run_law.specs.machines.Nodes.{Node}
+use Rattle.world_law.proofs.Words.{◌<ℤ◌, ◌∙◌, ◌∷◌, ◌≡◌, ◌≤ℤ◌, AllByRecursion, AreClusters, Cluster, Compressed, DeviceId, IsFromZero, List, Network, Node}
+use Rattle.world_law.proofs.Words.{Point, [], amount, ap, arith, inl, inr, ints, negsuc, observation_window, pos, subst, sym, ℤ}
+use Rattle.std.proofs.{Common.Contains, lemmas.List.Elements.recursion_from_All}
+use Rattle.compression.proofs.{Elements.{all_at, beyond-all, in_cases, in_none}, Standing.AreClusters-unique, Times.{first_end, open_beyond}}
+use Rattle.compression.specs.{Clusters.beyond, Emission.compressed}
 use Rattle.run_law.specs.machines.Tasks.{IsWaiting}
 use Rattle.tte_lemmas.proofs.Integers.{whole}
-use Rattle.tte_units.specs.Amount.{amount}
-use Rattle.world_law.specs.device.Growing.{IsFromZero}
 
 -- two clusters that open at the same reading are one
 pub one_opening : (ow : ℤ) (ps : List Point) (cs : List Cluster) → pos 0 ≤ℤ ow → AreClusters ow ps cs → (c d : Cluster) → Contains cs c → Contains cs d

@@ -1,19 +1,11 @@
 -- How far a cluster reaches, and how far its frame's emission lies behind its opening.
-use Rattle.std.proofs.Common.{◌≡◌, ℕ, ℤ, pos, ◌+ℤ◌, ◌-ℤ◌, ◌*ℤ◌, ◌≤ℤ◌, ◌<ℤ◌, true, false, ◌&&◌, List, [], ◌∷◌, Contains, map, inl, inr, sym, ap, subst, ◌∙◌, arith}
-use Rattle.std.specs.Prelude.{◌==◌, int_le}
-use Rattle.std.specs.List.{AllByRecursion}
-use Rattle.std.proofs.lemmas.Bool.{and_parts, cases_Bool}
-use Rattle.std.proofs.lemmas.Int.{ints}
-use Rattle.compression.proofs.ClusterFacts.{ends_soon}
-use Rattle.compression.specs.Clusters.{AreClusters, Cluster, Point, beyond, cluster_of, end_of, firsts, has_master, of_cycle_within}
-use Rattle.compression.specs.Middle.{last_but_one, middle_of, relative}
-use Rattle.compression.proofs.Elements.{all_at, beyond-all, in_cases, in_none}
-use Rattle.compression.proofs.Firsts.{counts, firsts-start}
-use Rattle.compression.proofs.Growth.{end_of-least}
-use Rattle.compression.proofs.Held.{held-start}
-use Rattle.compression.proofs.Times.{first_end, open_beyond}
-use Rattle.tte_units.proofs.Means.{mean_of-floor}
-use Rattle.tte_units.specs.Mean.{IsMean, mean_of}
+use Rattle.world_law.proofs.Words.{◌&&◌, ◌+ℤ◌, ◌-ℤ◌, ◌<ℤ◌, ◌==◌, ◌∙◌, ◌∷◌, ◌≡◌, ◌≤ℤ◌, AllByRecursion, AreClusters, Cluster, List, Point, [], and_parts, ap}
+use Rattle.world_law.proofs.Words.{arith, cases_Bool, false, inl, inr, int_le, ints, map, pos, subst, sym, true, ℕ, ℤ}
+use Rattle.std.proofs.Common.{◌*ℤ◌, Contains}
+use Rattle.compression.proofs.{ClusterFacts.ends_soon, Elements.{all_at, beyond-all, in_cases, in_none}, Firsts.{counts, firsts-start}, Growth.end_of-least}
+use Rattle.compression.proofs.{Held.held-start, Times.{first_end, open_beyond}}
+use Rattle.compression.specs.{Clusters.{beyond, cluster_of, end_of, firsts, has_master, of_cycle_within}, Middle.{last_but_one, middle_of, relative}}
+use Rattle.tte_units.{proofs.Means.mean_of-floor, specs.Mean.{IsMean, mean_of}}
 
 -- ---- the middle of numbers that lie from 0 to a bound
 

@@ -1,9 +1,8 @@
 -- Lists with one more at the end.
-use Rattle.std.proofs.Common.{◌≡◌, ℕ, ◌+◌, ◌-◌, Bool, true, false, cond, not, if◌then◌else◌, List, [], ◌∷◌, ◌++◌, length, drop, filter, filter_map, Option, None, ap, ◌∙◌, arith}
-use Rattle.std.specs.List.{after_last, cons_option, prefix_len, suffix_len}
-use Rattle.std.proofs.lemmas.List.{append-nil, drop_all, drop-append-le, length_push, reverse-append}
-use Rattle.std.proofs.lemmas.List.Elements.{filter-append, filter_map-append}
-use Rattle.std.proofs.lemmas.List.Sums.{suffix_len-le-length}
+use Rattle.world_law.proofs.Words.{if◌then◌else◌, ◌++◌, ◌+◌, ◌-◌, ◌∙◌, ◌∷◌, ◌≡◌, Bool, List, None, Option, [], after_last, ap, append-nil, arith, cons_option}
+use Rattle.world_law.proofs.Words.{false, filter, filter-append, filter_map, length, not, true, ℕ}
+use Rattle.std.proofs.{Common.{cond, drop}, lemmas.List.{drop-append-le, drop_all, length_push, reverse-append, Elements.filter_map-append}}
+use Rattle.std.{proofs.lemmas.List.Sums.suffix_len-le-length, specs.List.{prefix_len, suffix_len}}
 
 pub filter_yes : {X : Type 0} (p : X → Bool) (xs : List X) (x : X) → p x ≡ true → filter p (xs ++ x ∷ []) ≡ filter p xs ++ x ∷ []
 filter_yes p xs x e = filter-append p xs (x ∷ []) ∙ ap (λ (b : Bool). filter p xs ++ (if b then x ∷ [] else [])) e

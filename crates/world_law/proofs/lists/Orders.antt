@@ -1,7 +1,5 @@
 -- Numbers and places are ordered.
-use Rattle.std.proofs.Common.{◌⊎◌, ℤ, pos, negsuc, ◌<ℤ◌, ◌≤ℤ◌, inl, inr, arith}
-use Rattle.std.proofs.lemmas.Bool.{cases_lt}
-use Rattle.std.proofs.lemmas.Int.{ints}
+use Rattle.world_law.proofs.Words.{◌<ℤ◌, ◌≤ℤ◌, ◌⊎◌, arith, cases_lt, inl, inr, ints, negsuc, pos, ℤ}
 
 -- one of two numbers is less, or it is not
 pub cases_int : (a b : ℤ) → (a <ℤ b) ⊎ (b ≤ℤ a)

@@ -1,41 +1,13 @@
 -- What is due late at an instant is due by any records that agree with those before it in what bears on it.
-use Rattle.std.proofs.Common.{◌≡◌, ℕ, ◌≤◌, not, ◌&&◌, ◌==◌, if◌then◌else◌, List, [], ◌∷◌, Option, option_map, option_and_then, inl, inr, refl, sym, ap, ◌∙◌, arith}
-use Rattle.std.specs.Option.{option_map_or}
-use Rattle.net_plan.specs.declared.event.What.TheVariants.{Send}
-use Rattle.net_plan.specs.declared.ids.DeviceId.{DeviceId}
-use Rattle.net_plan.specs.declared.ids.LinkId.{LinkId}
-use Rattle.net_plan.specs.declared.ids.VlId.{VlId}
-use Rattle.net_plan.specs.declared.network.Network.{Network}
-use Rattle.pcf_values.specs.declared.pcf.Pcf.{Pcf}
-use Rattle.run_law.specs.control.Arrivals.{control_arrival}
-use Rattle.run_law.specs.control.Leaving.{Departs, Departure}
-use Rattle.run_law.specs.control.Losses.{IsDropped, IsLost, IsSendLost}
-use Rattle.run_law.specs.control.Permanence.{BecomesPermanent, before_permanence}
-use Rattle.run_law.specs.control.Wires.{Signal, control, timed}
-use Rattle.run_law.specs.declared.judgement.Reason.{Reason}
-use Rattle.run_law.specs.declared.note.Note.{Note}
+use Rattle.world_law.proofs.Words.{if◌then◌else◌, ◌&&◌, ◌==◌, ◌∙◌, ◌∷◌, ◌≡◌, ◌≤◌, Arrival, ArrivesAs, BecomesPermanent, Departs, Departure, DeviceId, Happening}
+use Rattle.world_law.proofs.Words.{Integrating, IsCaused, IsDropped, IsLost, IsOwnSource, IsSendLost, LinkId, List, Network, Note, NoteBody, Option, Pcf}
+use Rattle.world_law.proofs.Words.{Reason, Ripe, Scenario, Send, Signal, Standpoint, Units, VlId, [], adjustment_after, amount, ap, arith, arrival_of}
+use Rattle.world_law.proofs.Words.{before_permanence, cause_of, control, control_arrival, earlier, frame_by, happening, inl, inr, is_broken, is_turned_on_at}
+use Rattle.world_law.proofs.Words.{last_taken, not, numbered, option_and_then, option_map, option_map_or, plains, rank, refl, state_after, sym, timed}
+use Rattle.world_law.proofs.Words.{timed_arrival, up_to, with_clock, ℕ}
+use Rattle.run_law.specs.{device.States.is_off, records.{Frames.tt_frame, Happenings.octets_by}}
+use Rattle.world_law.proofs.{giving.Given.same_permanent, putting.Renumbers.{judged_alike, timed_by}, runs.SourcesBack.dispatches_back}
 use Rattle.run_law.specs.declared.note.NoteBody.TheVariants as notes
-use Rattle.run_law.specs.declared.note.NoteBody.{NoteBody}
-use Rattle.run_law.specs.declared.steps.Arrival.{Arrival}
-use Rattle.run_law.specs.declared.steps.Ripe.{Ripe}
-use Rattle.run_law.specs.device.Standpoints.{Standpoint}
-use Rattle.run_law.specs.device.States.{adjustment_after, is_off, state_after}
-use Rattle.run_law.specs.records.Causes.{cause_of}
-use Rattle.run_law.specs.records.Frames.{tt_frame}
-use Rattle.run_law.specs.records.Happenings.{Happening, earlier, frame_by, happening, numbered, octets_by, up_to, with_clock}
-use Rattle.run_law.specs.records.Ranks.{rank}
-use Rattle.run_law.specs.runs.DueRecords.{IsCaused}
-use Rattle.run_law.specs.scenario.Scenarios.{Scenario, is_broken, is_turned_on_at}
-use Rattle.run_law.specs.timed.Arrivals.{timed_arrival}
-use Rattle.run_law.specs.timed.Receptions.{ArrivesAs, arrival_of, last_taken}
-use Rattle.sync_state.specs.declared.state.State.TheVariants.{Integrating}
-use Rattle.tte_units.specs.Amount.{amount}
-use Rattle.tte_units.specs.declared.units.Units.{Units}
-use Rattle.world_law.proofs.giving.Given.{same_permanent}
-use Rattle.world_law.proofs.putting.Renumbers.{judged_alike, timed_by}
-use Rattle.world_law.proofs.runs.SourcesBack.{dispatches_back}
-use Rattle.world_law.specs.device.Plain.{plains}
-use Rattle.world_law.specs.source.Sources.{IsOwnSource}
 
 -- the records agree at the time: in those given, so many, in those of earlier times, in what was taken, in what judges a
 -- frame that is permanent, and in where they leave each device

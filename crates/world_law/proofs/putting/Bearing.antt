@@ -1,32 +1,15 @@
 -- A device on which a record does not bear stands with it as without it.
-use Rattle.std.proofs.Common.{pos, ◌+ℤ◌, ◌≡◌, ◌⊎◌, ℕ, ◌≤◌, false, if◌then◌else◌, List, ◌∷◌, ◌++◌, length, map, append_assoc, inl, inr, refl, sym, ap, subst, ◌∙◌}
-use Rattle.std.specs.Prelude.{nat_le, nat_lt}
-use Rattle.net_plan.specs.declared.ids.DeviceId.{DeviceId}
-use Rattle.net_plan.specs.declared.network.Network.{Network}
-use Rattle.run_law.proofs.runs.Places.{in_left, in_parts, in_right}
-use Rattle.run_law.specs.declared.note.NoteBody.{NoteBody}
-use Rattle.run_law.specs.device.LocalClocks.{changed_at, local_before}
-use Rattle.run_law.specs.device.States.{adjustment_after, adjustment_with, cycle_in, state_after, state_before, state_with}
-use Rattle.run_law.specs.machines.Nodes.{Node, TakenFrame}
-use Rattle.run_law.specs.records.Happenings.{Happening, earlier, time_of, up_to}
-use Rattle.run_law.specs.records.Order.{IsIn}
-use Rattle.run_law.specs.scenario.Scenarios.{Scenario, is_turned_on_at}
-use Rattle.sync_state.specs.declared.state.State.TheVariants.{Integrating}
-use Rattle.sync_state.specs.declared.state.State.{State}
-use Rattle.tte_units.specs.declared.units.Units.{Units}
-use Rattle.world_law.proofs.acts.Recorded.{is_sending, recorded_put}
-use Rattle.world_law.proofs.devices.Borne.{left_alike, moves_no_other, tell_alike}
+use Rattle.world_law.proofs.Words.{if◌then◌else◌, ◌++◌, ◌+ℤ◌, ◌∙◌, ◌∷◌, ◌≡◌, ◌≤◌, ◌⊎◌, AreOfNetwork, DeviceId, Happening, HasDoneFrom, HasTurnedOn, Integrating}
+use Rattle.world_law.proofs.Words.{IsAtRest, IsHeld, IsIn, IsKept, IsLeft, List, Network, Node, NoteBody, Scenario, State, TakenFrame, Units, adjustment_after}
+use Rattle.world_law.proofs.Words.{adjustment_with, ap, append_assoc, bears_on, borne, changed_at, cycle_in, earlier, false, frames_taken, in_left, in_parts}
+use Rattle.world_law.proofs.Words.{in_right, inl, inr, is_turned_on_at, is_turning, length, local_before, map, moves, nat_le, nat_lt, pos, refl, state_after}
+use Rattle.world_law.proofs.Words.{state_before, state_with, subst, sym, taken_by, time_of, up_to, ℕ}
+use Rattle.world_law.proofs.{acts.Recorded.{is_sending, recorded_put}, devices.Borne.{left_alike, moves_no_other, tell_alike}}
 use Rattle.world_law.proofs.devices.OwnRecords.{keeps_adjustment, keeps_state}
 use Rattle.world_law.proofs.devices.Plains.{adjustments_plain, changes_at_plain, earlier_plain, states_plain, told_by_others}
 use Rattle.world_law.proofs.putting.Bumped.{bump_behind, in_placed, placed, placed_in, raised, raised_moves, raised_turning}
-use Rattle.world_law.proofs.putting.Idle.{drop_one, fold_skip, up_to_plain}
-use Rattle.world_law.proofs.putting.NearPut.{plains_placed}
+use Rattle.world_law.proofs.putting.{Idle.{drop_one, fold_skip, up_to_plain}, NearPut.plains_placed}
 use Rattle.world_law.proofs.rows.Takings.{IsNoTaking, frames_plain, taken_parts, taken_same}
-use Rattle.world_law.specs.device.Deeds.{HasDoneFrom}
-use Rattle.world_law.specs.device.Left.{IsLeft}
-use Rattle.world_law.specs.device.Own.{bears_on, borne, moves}
-use Rattle.world_law.specs.device.Takings.{frames_taken, taken_by}
-use Rattle.world_law.specs.world.World.{AreOfNetwork, HasTurnedOn, IsAtRest, IsHeld, IsKept, is_turning}
 
 -- ---- by lists
 

@@ -1,29 +1,12 @@
 -- A record is put in: those behind it have the next number, and so have causes that stand behind it.
-use Rattle.std.proofs.Common.{◌≡◌, ◌⊎◌, ℕ, zero, suc, ◌+◌, ◌-◌, ◌≤◌, ◌<◌, Bool, if◌then◌else◌, List, [], ◌∷◌, ◌++◌, length, map, Some, slice_get, option_map, inl, inr, refl, sym, ap, subst, ◌∙◌, arith}
-use Rattle.std.specs.Prelude.{nat_lt}
-use Rattle.std.proofs.lemmas.Bool.{cases_lt, cases_order, le-ltb, lt-ltb}
-use Rattle.std.proofs.lemmas.List.{length-append, length-map}
+use Rattle.world_law.proofs.Words.{if◌then◌else◌, ◌++◌, ◌+◌, ◌-◌, ◌<◌, ◌∙◌, ◌∷◌, ◌≡◌, ◌≤◌, ◌⊎◌, Bool, ChangesState, DeviceId, Happening, IsBefore, IsCaused}
+use Rattle.world_law.proofs.Words.{IsDue, IsIn, List, NoteBody, Scenario, Some, State, Why, [], amount, ap, arith, cases_lt, cases_order, cause_of, chain}
+use Rattle.world_law.proofs.Words.{either_way, hidden, hidden_body, inl, inr, is_at_source, is_joined_by, is_turning, key, le-ltb, length, length-append}
+use Rattle.world_law.proofs.Words.{length-map, lt-ltb, map, members_in, moves, nat_lt, never_self, numbered, numbered_within, option_map, place_of, plain, rank}
+use Rattle.world_law.proofs.Words.{refl, slice_get, subst, suc, sym, time_of, zero, ℕ}
 use Rattle.std.proofs.lemmas.Option.{slice_get-map}
-use Rattle.net_plan.specs.declared.ids.DeviceId.{DeviceId}
-use Rattle.run_law.proofs.law.FirstPlaces.{numbered_within}
-use Rattle.run_law.proofs.runs.Places.{chain, either_way, never_self}
-use Rattle.run_law.specs.records.Causes.{cause_of}
-use Rattle.run_law.specs.records.Happenings.{Happening, numbered, time_of}
-use Rattle.run_law.specs.records.Order.{IsBefore, IsIn}
-use Rattle.run_law.specs.records.Ranks.{key, members_in, place_of, rank}
-use Rattle.run_law.specs.runs.DueRecords.{IsCaused, IsDue}
-use Rattle.run_law.specs.scenario.Scenarios.{Scenario}
-use Rattle.run_law.specs.device.StateChanges.{ChangesState}
-use Rattle.run_law.specs.device.States.{is_joined_by}
-use Rattle.run_law.specs.declared.judgement.Why.{Why}
 use Rattle.run_law.specs.declared.judgement.Why.TheVariants as whys
 use Rattle.run_law.specs.declared.note.NoteBody.TheVariants as notes
-use Rattle.run_law.specs.declared.note.NoteBody.{NoteBody}
-use Rattle.sync_state.specs.declared.state.State.{State}
-use Rattle.tte_units.specs.Amount.{amount}
-use Rattle.world_law.specs.device.Own.{bears_on, moves}
-use Rattle.world_law.specs.device.Plain.{plain, plains}
-use Rattle.world_law.specs.world.World.{hidden, hidden_body, is_at_source, is_turning}
 
 -- ---- numbers
 
@@ -108,10 +91,6 @@ pub lowered_rank : (n : ℕ) (body : NoteBody) → rank (lowered n body) ≡ ran
 lowered_rank n (notes.State device state cause why) = refl
 lowered_rank n other = refl
 
-pub lowered_same : (n : ℕ) (body : NoteBody) → (rank body ≡ 7 → ⊥) → lowered n body ≡ body
-lowered_same n (notes.State device state cause why) other = absurd (other refl)
-lowered_same n body other = refl
-
 pub raised_same : (n : ℕ) (body : NoteBody) → (rank body ≡ 7 → ⊥) → raised n body ≡ body
 raised_same n (notes.State device state cause why) other = absurd (other refl)
 raised_same n body other = refl
@@ -132,10 +111,6 @@ raised_plain n y =
 pub raised_joins : (n : ℕ) (device : DeviceId) (body : NoteBody) → is_joined_by device (raised n body) ≡ is_joined_by device body
 raised_joins n device (notes.State other state cause why) = refl
 raised_joins n device other = refl
-
-pub raised_bears : (n : ℕ) (device : DeviceId) (body : NoteBody) → bears_on device (raised n body) ≡ bears_on device body
-raised_bears n device (notes.State other state cause why) = refl
-raised_bears n device other = refl
 
 pub raised_moves : (n : ℕ) (device : DeviceId) (body : NoteBody) → moves device (raised n body) ≡ moves device body
 raised_moves n device (notes.State other state cause why) = refl
@@ -266,10 +241,6 @@ bump_back n y z b =
       | inr (inr gt) ↦ absurd (never_self (place_of (bump_behind n z)) (chain (place_of (bump_behind n z)) (place_of (bump_behind n y))
           (place_of (bump_behind n z)) (bump_mono n z y gt) b))
     ]
-
--- one that stands before, or that is put in, keeps its place
-pub bump_place : (n : ℕ) (y : Happening) → cause_of y.note.body ≤ n → place_of (bump_behind n y) ≡ place_of y
-bump_place n y le = ap (λ (b : NoteBody). time_of y ∷ rank b ∷ key (members_in y) b) (raised_low n y.note.body le)
 
 -- where a record stands as it was without the one that is put in
 pub lowered_place : (n number : ℕ) (y : Happening) → (rank y.note.body ≡ 7 → cause_of y.note.body ≡ n + 1 → ⊥)

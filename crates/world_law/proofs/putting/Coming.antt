@@ -1,22 +1,11 @@
 -- The cursor comes to the source that comes first, and stays there: a device acts at it, and has more to do.
-use Rattle.std.proofs.Common.{◌≡◌, ℕ, ◌+◌, ◌<◌, Bool, true, false, List, [], ◌∷◌, ◌++◌, length, map, slice_get, Some, inl, inr, refl, sym, ap, subst, ◌∙◌, arith}
-use Rattle.net_plan.specs.declared.ids.DeviceId.{DeviceId}
-use Rattle.net_plan.specs.declared.network.Network.{Network}
-use Rattle.pcf_values.specs.declared.pcf.Pcf.{Pcf}
-use Rattle.run_law.proofs.runs.Places.{before_later, before_next_time, before_or_not}
-use Rattle.run_law.specs.declared.note.Note.{Note}
-use Rattle.run_law.specs.machines.Nodes.{Node}
-use Rattle.run_law.specs.records.Happenings.{Happening, happenings}
-use Rattle.run_law.specs.records.Order.{IsBefore}
-use Rattle.run_law.specs.scenario.Scenarios.{Scenario}
-use Rattle.tte_units.specs.Amount.{amount}
-use Rattle.world_law.proofs.giving.Given.{some_same}
-use Rattle.world_law.proofs.putting.Moving.{IsMoving, out_moves}
-use Rattle.world_law.proofs.putting.StandsOn.{source_told}
-use Rattle.world_law.proofs.runs.SourcesBack.{no_higher}
-use Rattle.world_law.specs.source.Sources.{IsSource}
+use Rattle.world_law.proofs.Words.{◌++◌, ◌+◌, ◌<◌, ◌∙◌, ◌∷◌, ◌≡◌, AreAtPorts, AreOfNetwork, AreOnWires, AreSettled, AreWaiting, AtPort, Bool, DeviceId}
+use Rattle.world_law.proofs.Words.{Happening, HasTurnedOn, IsBefore, IsHeld, IsKept, IsSource, List, Network, Node, Note, OnWire, Pcf, Scenario, Some, Stands}
+use Rattle.world_law.proofs.Words.{Waiting, World, [], act_place, amount, ap, arith, before_later, before_next_time, before_or_not, clock_place, false}
+use Rattle.world_law.proofs.Words.{happenings, hidden, inl, inr, length, map, none_yet, port_place, refl, ripe_place, slice_get, subst, sym, true, wire_place}
+use Rattle.world_law.proofs.Words.{ℕ}
+use Rattle.world_law.proofs.{giving.Given.some_same, putting.{Moving.{IsMoving, out_moves}, StandsOn.source_told}, runs.SourcesBack.no_higher}
 use Rattle.world_law.specs.world.Moves.{StandsBehind}
-use Rattle.world_law.specs.world.World.{AreAtPorts, AreOfNetwork, AreOnWires, AreSettled, AreWaiting, AtPort, HasTurnedOn, IsHeld, IsKept, OnWire, Stands, Waiting, World, act_place, clock_place, hidden, none_yet, port_place, ripe_place, wire_place}
 
 -- what is before the cursor stays so
 pub comes : (s : Scenario) (hs coming : List Happening) (mark cursor : List ℕ) (now r : ℕ) (more : List ℕ) → IsMoving s hs coming mark cursor now r more
@@ -194,9 +183,3 @@ stands_at reading stands s world notes old device machines settled coming m show
     )
 
 -- ---- a frame that waits is permanent
-
--- the numbers of the place are those of the frame
-record IsOneWaiting (f e : Waiting) : Type 0 where
-  devices : f.device ≡ e.device
-  links : f.link ≡ e.link
-  causes : f.cause ≡ e.cause

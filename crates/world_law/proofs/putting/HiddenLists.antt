@@ -1,13 +1,8 @@
 -- What is settled as it is shown, and a record that is put in.
-use Rattle.std.proofs.Common.{◌≡◌, ℕ, suc, ◌+◌, ◌≤◌, List, [], ◌∷◌, ◌++◌, length, map, refl, sym, ap, ◌∙◌, arith}
-use Rattle.std.proofs.lemmas.List.{length-append, length-map}
-use Rattle.run_law.specs.records.Happenings.{Happening, time_of}
-use Rattle.run_law.specs.records.Ranks.{key, members_in, place_of, rank}
+use Rattle.world_law.proofs.Words.{◌++◌, ◌+◌, ◌∙◌, ◌∷◌, ◌≡◌, ◌≤◌, Happening, List, NoteBody, [], ap, arith, hidden, hidden_body, key, length, length-append}
+use Rattle.world_law.proofs.Words.{length-map, map, members_in, place_of, rank, refl, suc, sym, time_of, ℕ}
+use Rattle.world_law.proofs.putting.{Idle.bump, Putting.put_list}
 use Rattle.run_law.specs.declared.note.NoteBody.TheVariants as kinds
-use Rattle.run_law.specs.declared.note.NoteBody.{NoteBody}
-use Rattle.world_law.proofs.putting.Idle.{bump}
-use Rattle.world_law.proofs.putting.Putting.{put_list}
-use Rattle.world_law.specs.world.World.{hidden, hidden_body}
 
 pub split_hidden : (given : ℕ) (coming front back : List Happening) → map (hidden given) coming ≡ front ++ back → (f : List Happening) × (b : List Happening)
     × (coming ≡ f ++ b) × (front ≡ map (hidden given) f) × (back ≡ map (hidden given) b)

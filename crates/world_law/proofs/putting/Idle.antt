@@ -1,35 +1,14 @@
 -- A record that bears on nothing else is put in among those of its instant.
-use Rattle.std.proofs.Common.{◌≡◌, ℕ, zero, suc, ◌+◌, ◌≤◌, ◌<◌, Bool, true, false, ◌&&◌, ◌||◌, ◌==◌, if◌then◌else◌, List, [], ◌∷◌, ◌++◌, length, map, filter, fold, slice_get, None, option_and_then, inl, inr, refl, sym, ap, ◌∙◌, arith}
-use Rattle.std.specs.Prelude.{nat_lt, nat_le}
-use Rattle.std.specs.List.{last_or}
-use Rattle.std.proofs.lemmas.Bool.{false_from_ne_true, eqb-true, le-ltb, and_right}
-use Rattle.std.proofs.lemmas.List.Elements.{filter-append}
-use Rattle.net_plan.specs.declared.ids.DeviceId.{DeviceId}
-use Rattle.net_plan.specs.declared.ids.LinkId.{LinkId}
-use Rattle.net_plan.specs.declared.ids.VlId.{VlId}
-use Rattle.pcf_values.specs.declared.pcf.Pcf.{Pcf}
-use Rattle.run_law.specs.device.LocalClocks.{changed_at}
-use Rattle.run_law.specs.records.Happenings.{Happening, earlier, numbered, time_of, up_to}
-use Rattle.run_law.specs.machines.Nodes.{Node}
-use Rattle.run_law.specs.records.Order.{IsIn, is_before}
-use Rattle.run_law.specs.control.Permanence.{before_permanence}
-use Rattle.run_law.specs.records.Ranks.{key, members_in, place_of, rank}
-use Rattle.run_law.specs.timed.Receptions.{is_taken_before, last_taken, taken_cycle}
-use Rattle.run_law.specs.scenario.Scenarios.{Scenario}
-use Rattle.run_law.specs.device.States.{adjustment_after, adjustment_with, cycle_in, state_after, state_with}
-use Rattle.run_law.specs.declared.note.NoteBody.TheVariants as notes
-use Rattle.run_law.specs.declared.note.NoteBody.{NoteBody}
-use Rattle.sync_state.specs.declared.state.State.{State}
-use Rattle.tte_units.specs.Amount.{amount}
-use Rattle.tte_units.specs.declared.units.Units.{Units}
+use Rattle.world_law.proofs.Words.{if◌then◌else◌, ◌&&◌, ◌++◌, ◌+◌, ◌<◌, ◌==◌, ◌||◌, ◌∙◌, ◌∷◌, ◌≡◌, ◌≤◌, Bool, DeviceId, Happening, IsIn, IsLeft, LinkId, List}
+use Rattle.world_law.proofs.Words.{Node, None, NoteBody, Pcf, Scenario, State, Units, VlId, [], adjustment_after, adjustment_with, amount, and_right, ap, arith}
+use Rattle.world_law.proofs.Words.{bears_on, before_permanence, borne, changed_at, cycle_in, earlier, eqb-true, false, false_from_ne_true, filter}
+use Rattle.world_law.proofs.Words.{filter-append, fold, inl, inr, is_before, is_taken_before, key, last_or, last_taken, le-ltb, length, map, members_in, nat_le}
+use Rattle.world_law.proofs.Words.{nat_lt, numbered, option_and_then, place_of, plain, plains, rank, refl, slice_get, state_after, state_with, suc, sym}
+use Rattle.world_law.proofs.Words.{taken_cycle, time_of, true, up_to, zero, ℕ}
 use Rattle.world_law.proofs.devices.Borne.{left_alike, tell_alike}
 use Rattle.world_law.proofs.devices.Plains.{adjustments_plain, changes_at_plain, earlier_plain, filter_plain, plains_parts, states_plain, told_by_others}
-use Rattle.world_law.proofs.putting.Alike.{AreAlike}
-use Rattle.world_law.proofs.putting.Renumbers.{last_taken_plain}
-use Rattle.world_law.proofs.runs.SourcesBack.{earlier_still}
-use Rattle.world_law.specs.device.Left.{IsLeft}
-use Rattle.world_law.specs.device.Own.{bears_on, borne}
-use Rattle.world_law.specs.device.Plain.{plain, plains, renumbered}
+use Rattle.world_law.{proofs.{putting.{Alike.AreAlike, Renumbers.last_taken_plain}, runs.SourcesBack.earlier_still}, specs.device.Plain.renumbered}
+use Rattle.run_law.specs.declared.note.NoteBody.TheVariants as notes
 
 -- the record with the next number, as one has come before it
 abbrev pub bump : Happening → Happening

@@ -1,23 +1,10 @@
 -- The cursor goes by a source of the present instant.
-use Rattle.std.proofs.Common.{◌≡◌, false, ◌⊎◌, ℕ, List, [], ◌∷◌, ◌++◌, inl, inr, refl, sym, ap, subst, ◌∙◌}
-use Rattle.std.proofs.lemmas.List.{append-nil}
-use Rattle.net_plan.specs.declared.ids.DeviceId.{DeviceId}
-use Rattle.net_plan.specs.declared.network.Network.{Network}
-use Rattle.pcf_values.specs.declared.pcf.Pcf.{Pcf}
-use Rattle.run_law.proofs.runs.Places.{before_behind, before_later, before_or_not, chain, either_way, in_left}
-use Rattle.run_law.specs.machines.Nodes.{Node}
-use Rattle.run_law.specs.records.Happenings.{Happening, time_of}
-use Rattle.run_law.specs.records.Order.{AllBefore, IsBefore, IsIn, NoneBefore, behind}
-use Rattle.run_law.specs.records.Ranks.{members_in, place_of}
-use Rattle.run_law.specs.runs.DueRecords.{IsDue}
-use Rattle.run_law.specs.scenario.Scenarios.{Scenario}
-use Rattle.tte_units.specs.Amount.{amount}
-use Rattle.world_law.proofs.giving.GivenParts.{taken_on, up_to_place}
-use Rattle.world_law.proofs.runs.SourcesBack.{source_back}
-use Rattle.world_law.specs.source.First.{NoSourceBefore}
-use Rattle.world_law.specs.source.Sources.{IsOwnSource, IsSource}
-use Rattle.world_law.specs.world.Moves.{IsWithout}
-use Rattle.world_law.specs.world.World.{AreAtPorts, AreOnWires, AreSettled, AreWaiting, AtPort, HasTurnedOn, IsForward, IsHeld, IsKept, IsOut, OnWire, Waiting, act_place, port_place, ripe_place, wire_place}
+use Rattle.world_law.proofs.Words.{◌++◌, ◌∙◌, ◌∷◌, ◌≡◌, ◌⊎◌, AllBefore, AreAtPorts, AreOnWires, AreSettled, AreWaiting, AtPort, DeviceId, Happening}
+use Rattle.world_law.proofs.Words.{HasTurnedOn, IsBefore, IsDue, IsForward, IsHeld, IsIn, IsKept, IsOwnSource, IsSource, List, Network, NoSourceBefore, Node}
+use Rattle.world_law.proofs.Words.{NoneBefore, OnWire, Pcf, Scenario, Waiting, [], act_place, amount, ap, append-nil, before_behind, before_later}
+use Rattle.world_law.proofs.Words.{before_or_not, behind, chain, either_way, false, in_left, inl, inr, members_in, place_of, port_place, refl, ripe_place}
+use Rattle.world_law.proofs.Words.{subst, sym, time_of, wire_place, ℕ}
+use Rattle.world_law.{proofs.{giving.GivenParts.{taken_on, up_to_place}, runs.SourcesBack.source_back}, specs.world.{Moves.IsWithout, World.IsOut}}
 
 -- what a step that works off the source at this place of the instant starts from
 pub record IsMoving (s : Scenario) (hs coming : List Happening) (mark cursor : List ℕ) (now r : ℕ) (more : List ℕ) : Type 0 where

@@ -1,65 +1,23 @@
 -- What is due by one of two lists of records that tell the same up to a source is due by the other.
-use Rattle.std.proofs.Common.{◌≡◌, ◌⊎◌, ℕ, suc, ◌+◌, ◌-◌, ◌≤◌, ◌<◌, ◌+ℤ◌, Bool, true, false, not, ◌==◌, if◌then◌else◌, List, [], ◌∷◌, ◌++◌, length, filter, Option, Some, None, option_map, inl, inr, refl, sym, ap, subst, ◌∙◌, arith}
-use Rattle.std.specs.List.{last_or}
-use Rattle.std.proofs.lemmas.Bool.{cases_lt, cases_order, eq-eqb}
-use Rattle.compression.specs.Clusters.{AreClusters, Point}
-use Rattle.compression.specs.declared.compressed.Compressed.{Compressed}
+use Rattle.world_law.proofs.Words.{if◌then◌else◌, ◌++◌, ◌+ℤ◌, ◌+◌, ◌-◌, ◌<◌, ◌==◌, ◌∙◌, ◌∷◌, ◌≡◌, ◌≤◌, ◌⊎◌, AreClusters, Arrival, ArrivesAs, BecomesPermanent}
+use Rattle.world_law.proofs.Words.{Bool, ChangesState, ComesToCorrection, Compressed, Departs, Departure, DeviceId, Dispatches, Emits, Happening, Integrating}
+use Rattle.world_law.proofs.Words.{IsActing, IsBefore, IsCaused, IsDropped, IsDue, IsForward, IsFounded, IsIn, IsLost, IsOfThisTime, IsOwnSource, IsSendLost}
+use Rattle.world_law.proofs.Words.{IsSource, Joining, Judgement, LinkId, List, Network, None, Note, NoteBody, Option, Pcf, Point, Reason, Ripe, Scenario}
+use Rattle.world_law.proofs.Words.{Signal, Some, Standing, State, Units, Verdict, VlId, Why, [], adjustment_after, adjustment_at_hearing, amount, ap, arith}
+use Rattle.world_law.proofs.Words.{arrival_of, bears_on, before_permanence, by_number, cases_lt, cases_order, cause_of, chain, control, control_arrival}
+use Rattle.world_law.proofs.Words.{earlier, eq-eqb, false, filter, frame_by, heard_as, heard_since, in_filter, inl, inr, is_accepted, is_at_source}
+use Rattle.world_law.proofs.Words.{is_joined_by, is_turned_on_at, last_in, last_or, last_taken, length, members_in, next_point, not, numbered, numbered_within}
+use Rattle.world_law.proofs.Words.{observation_window, option_map, place_of, plan_of, points_of, rank, refl, state_after, state_at_hearing, subst, suc, sym}
+use Rattle.world_law.proofs.Words.{time_of, timed, timed_arrival, true, ℕ}
 use Rattle.membership.specs.Summary.{Summarizes}
-use Rattle.net_plan.specs.declared.ids.DeviceId.{DeviceId}
-use Rattle.net_plan.specs.declared.ids.LinkId.{LinkId}
-use Rattle.net_plan.specs.declared.ids.VlId.{VlId}
-use Rattle.net_plan.specs.declared.network.Network.{Network}
-use Rattle.pcf_values.specs.declared.pcf.Pcf.{Pcf}
-use Rattle.run_law.proofs.law.FirstDeliveries.{last_in}
-use Rattle.run_law.proofs.law.FirstPlaces.{by_number, in_filter, numbered_within}
-use Rattle.run_law.proofs.runs.Places.{chain}
-use Rattle.run_law.specs.control.Arrivals.{control_arrival}
-use Rattle.run_law.specs.control.Collections.{observation_window, points_of}
-use Rattle.run_law.specs.control.Corrections.{ComesToCorrection, heard_since, standing_before}
-use Rattle.run_law.specs.control.Emissions.{Emits}
-use Rattle.run_law.specs.control.Hearing.{heard_as}
-use Rattle.run_law.specs.control.Leaving.{Departs, Departure}
-use Rattle.run_law.specs.control.Losses.{IsDropped, IsLost, IsSendLost}
-use Rattle.run_law.specs.control.Permanence.{BecomesPermanent, IsJudgedBy, before_permanence}
-use Rattle.run_law.specs.control.Wires.{Signal, control, timed}
-use Rattle.run_law.specs.declared.judgement.Judgement.{Judgement}
-use Rattle.run_law.specs.declared.judgement.Reason.{Reason}
-use Rattle.run_law.specs.declared.judgement.Why.TheVariants as whys
-use Rattle.run_law.specs.declared.judgement.Why.{Why}
-use Rattle.run_law.specs.declared.note.Note.{Note}
-use Rattle.run_law.specs.declared.note.NoteBody.TheVariants as notes
-use Rattle.run_law.specs.declared.note.NoteBody.{NoteBody}
-use Rattle.run_law.specs.declared.steps.Arrival.{Arrival}
-use Rattle.run_law.specs.declared.steps.Ripe.{Ripe}
-use Rattle.run_law.specs.device.StateChanges.{ChangesState}
-use Rattle.run_law.specs.device.States.{adjustment_after, adjustment_at_hearing, is_joined_by, state_after, state_at_hearing}
-use Rattle.run_law.specs.records.Causes.{IsOfThisTime, cause_of}
-use Rattle.run_law.specs.records.Happenings.{Happening, earlier, frame_by, numbered, octets_by, time_of}
-use Rattle.run_law.specs.records.Order.{IsBefore, IsIn}
-use Rattle.run_law.specs.records.Ranks.{members_in, place_of, rank}
-use Rattle.run_law.specs.runs.DueRecords.{IsCaused, IsDue}
-use Rattle.run_law.specs.runs.Runs.{IsFounded}
-use Rattle.run_law.specs.scenario.Devices.{plan_of}
-use Rattle.run_law.specs.scenario.Scenarios.{Scenario, is_turned_on_at}
-use Rattle.run_law.specs.timed.Arrivals.{timed_arrival}
-use Rattle.run_law.specs.timed.Dispatching.{Dispatches, is_accepted}
-use Rattle.run_law.specs.timed.Receptions.{ArrivesAs, arrival_of, last_taken}
-use Rattle.sync_state.specs.Standing.{Standing, next_point}
+use Rattle.run_law.specs.{control.{Corrections.standing_before, Permanence.IsJudgedBy}, records.Happenings.octets_by}
 use Rattle.sync_state.specs.Verdicts.{HasVerdict}
-use Rattle.sync_state.specs.declared.answers.Verdict.{Verdict}
-use Rattle.sync_state.specs.declared.state.State.TheVariants.{Integrating, Joining}
-use Rattle.sync_state.specs.declared.state.State.{State}
-use Rattle.tte_units.specs.Amount.{amount}
-use Rattle.tte_units.specs.declared.units.Units.{Units}
-use Rattle.world_law.proofs.giving.Given.{same_permanent}
-use Rattle.world_law.proofs.putting.Alike.{frame_alike, octets_alike, standpoint_in}
-use Rattle.world_law.proofs.putting.Bumped.{bump_behind, down_high, down_low, down_number, lower_behind, lowered, raised, raised_joins, raised_low, raised_rank, raised_same, up_high, up_low, up_number}
-use Rattle.world_law.proofs.putting.PutIn.{at_place, late_source}
-use Rattle.world_law.proofs.putting.Renumbers.{timed_by}
+use Rattle.world_law.proofs.{giving.Given.same_permanent, putting.Alike.{frame_alike, octets_alike, standpoint_in}}
+use Rattle.world_law.proofs.putting.Bumped.{bump_behind, down_high, down_low, down_number, lower_behind, lowered, raised, raised_joins, raised_low, raised_rank}
+use Rattle.world_law.proofs.putting.{Bumped.{raised_same, up_high, up_low, up_number}, PutIn.{at_place, late_source}, Renumbers.timed_by}
 use Rattle.world_law.proofs.runs.SourcesBack.{arrives_later, dispatches_back, earlier_still, gives_rank, numbered_parts, reaches_back, standing_in, up_back}
-use Rattle.world_law.specs.device.Own.{bears_on}
-use Rattle.world_law.specs.source.Sources.{IsActing, IsOwnSource, IsSource}
-use Rattle.world_law.specs.world.World.{IsForward, is_at_source}
+use Rattle.run_law.specs.declared.judgement.Why.TheVariants as whys
+use Rattle.run_law.specs.declared.note.NoteBody.TheVariants as notes
 
 -- ---- kinds of records
 

@@ -1,34 +1,15 @@
 -- The records with one more at its place among them tell the same up to its source.
-use Rattle.std.proofs.Common.{◌≡◌, ◌⊎◌, ℕ, suc, ◌≤◌, Bool, false, ◌&&◌, ◌||◌, ◌==◌, if◌then◌else◌, List, [], ◌∷◌, ◌++◌, length, map, filter, None, option_and_then, inl, inr, refl, sym, ap, subst, ◌∙◌, arith}
-use Rattle.std.specs.Prelude.{nat_lt}
-use Rattle.std.specs.List.{last_or, list_any}
-use Rattle.std.proofs.lemmas.Bool.{and_right, cases_order, eqb-true, false_from_ne_true, le-ltb}
-use Rattle.std.proofs.lemmas.List.{length-append, length-map}
-use Rattle.std.proofs.lemmas.List.Elements.{filter-append}
-use Rattle.net_plan.specs.declared.ids.DeviceId.{DeviceId}
-use Rattle.net_plan.specs.declared.ids.LinkId.{LinkId}
-use Rattle.net_plan.specs.declared.ids.VlId.{VlId}
-use Rattle.run_law.proofs.runs.Places.{chain}
-use Rattle.run_law.specs.control.Collections.{points_of}
-use Rattle.run_law.specs.control.Corrections.{heard_since}
-use Rattle.run_law.specs.device.States.{adjustment_at_hearing, adjustment_with, cycle_in, has_joined_at, is_joined_by, state_after, state_at_hearing, state_before}
-use Rattle.run_law.specs.records.Happenings.{Happening, earlier, time_of}
-use Rattle.run_law.specs.records.Order.{IsBefore, IsIn, is_before}
-use Rattle.run_law.specs.records.Ranks.{place_of}
-use Rattle.run_law.specs.scenario.Scenarios.{Scenario, is_turned_on_at}
-use Rattle.run_law.specs.timed.Receptions.{is_taken_before, last_taken, taken_cycle}
-use Rattle.sync_state.specs.declared.state.State.TheVariants.{Integrating, Joining}
-use Rattle.tte_units.specs.Amount.{amount}
-use Rattle.world_law.proofs.devices.Borne.{heard_alike, moves_no_other, points_alike}
-use Rattle.world_law.proofs.devices.OwnRecords.{joins_no_other, keeps_adjustment}
+use Rattle.world_law.proofs.Words.{if◌then◌else◌, ◌&&◌, ◌++◌, ◌==◌, ◌||◌, ◌∙◌, ◌∷◌, ◌≡◌, ◌≤◌, ◌⊎◌, Bool, DeviceId, Happening, Integrating, IsBefore, IsIn}
+use Rattle.world_law.proofs.Words.{Joining, LinkId, List, None, Scenario, VlId, [], adjustment_at_hearing, adjustment_with, amount, and_right, ap, arith}
+use Rattle.world_law.proofs.Words.{bears_on, borne, cases_order, chain, cycle_in, earlier, eqb-true, false, false_from_ne_true, filter, filter-append}
+use Rattle.world_law.proofs.Words.{has_joined_at, heard_since, inl, inr, is_before, is_joined_by, is_taken_before, is_turned_on_at, last_or, last_taken, le-ltb}
+use Rattle.world_law.proofs.Words.{length, length-append, length-map, list_any, map, nat_lt, option_and_then, place_of, plain, plains, points_of, refl}
+use Rattle.world_law.proofs.Words.{state_after, state_at_hearing, state_before, subst, suc, sym, taken_cycle, time_of, ℕ}
+use Rattle.world_law.proofs.devices.{Borne.{heard_alike, moves_no_other, points_alike}, OwnRecords.{joins_no_other, keeps_adjustment}}
 use Rattle.world_law.proofs.devices.Plains.{heard_plain, plains_parts, points_plain}
-use Rattle.world_law.proofs.putting.Bumped.{bump_behind, bump_mono, in_placed, numbered_beyond, raised_plain}
-use Rattle.world_law.proofs.putting.Idle.{drop_one, fold_skip, numbered_prefix}
-use Rattle.world_law.proofs.putting.Near.{AreTwo, HearsAlike}
-use Rattle.world_law.proofs.putting.Renumbers.{hearing_adjustment_plain, hearing_state_plain, last_taken_plain}
+use Rattle.world_law.proofs.putting.{Bumped.{bump_behind, bump_mono, in_placed, numbered_beyond, raised_plain}, Idle.{drop_one, fold_skip, numbered_prefix}}
+use Rattle.world_law.proofs.putting.{Near.{AreTwo, HearsAlike}, Renumbers.{hearing_adjustment_plain, hearing_state_plain, last_taken_plain}}
 use Rattle.world_law.proofs.runs.SourcesBack.{earlier_still}
-use Rattle.world_law.specs.device.Own.{bears_on, borne}
-use Rattle.world_law.specs.device.Plain.{plain, plains}
 
 -- a place that is not before another is not by the test
 pub not_is : (p q : List ℕ) → (IsBefore p q → ⊥) → is_before p q ≡ false

@@ -1,33 +1,16 @@
 -- What is to come with a record put in at its place, whichever source of the instant it comes from.
-use Rattle.std.proofs.Common.{◌≡◌, ◌⊎◌, ℕ, ◌+◌, ◌≤◌, true, false, List, [], ◌∷◌, ◌++◌, length, map, append_assoc, inl, inr, refl, sym, ap, subst, ◌∙◌, arith}
-use Rattle.std.proofs.lemmas.Bool.{cases_Bool, eqb-true}
-use Rattle.std.proofs.lemmas.List.{length-append}
-use Rattle.std.proofs.lemmas.Bool.{cases_order}
-use Rattle.net_plan.specs.declared.ids.DeviceId.{DeviceId}
-use Rattle.net_plan.specs.declared.ids.LinkId.{LinkId}
-use Rattle.net_plan.specs.declared.ids.VlId.{VlId}
-use Rattle.run_law.proofs.runs.Places.{before_behind, before_later, chain, either_way, in_left, in_parts, in_right, never_self}
+use Rattle.world_law.proofs.Words.{◌++◌, ◌+◌, ◌∙◌, ◌∷◌, ◌≡◌, ◌≤◌, ◌⊎◌, AllBefore, AreSettled, DeviceId, Happening, IsBefore, IsDue, IsForward, IsFounded, IsIn}
+use Rattle.world_law.proofs.Words.{IsOwnSource, IsSource, LinkId, List, NoneBefore, NoteBody, Scenario, VlId, [], act_place, ap, append_assoc, arith, bears_on}
+use Rattle.world_law.proofs.Words.{before_behind, before_later, behind, cases_Bool, cases_order, cause_of, chain, either_way, eqb-true, false, in_left}
+use Rattle.world_law.proofs.Words.{in_parts, in_right, inl, inr, is_at_source, is_taken_before, key, length, length-append, map, members_in, never_self}
+use Rattle.world_law.proofs.Words.{place_of, rank, refl, subst, sym, time_of, true, ℕ}
+use Rattle.world_law.proofs.giving.GivenParts.{taken_on, up_to_place}
+use Rattle.world_law.proofs.putting.Bumped.{bump_back, bump_behind, bump_equal, bump_mono, due_low, first_placed, in_placed, lower_behind, lowered}
+use Rattle.world_law.proofs.putting.{Bumped.{lowered_place, placed, placed_in, raised_source, split_placed}, Moving.{IsAllOfIt, IsMoving, worked_or_here}}
+use Rattle.world_law.proofs.putting.Near.{AreFrom, AreTwo, IsAsideOf, due_down, due_up, hears, is_follower, known_near, own_down, own_source, own_up}
+use Rattle.world_law.proofs.{putting.{NearPut.{IsPlaced, two_placed}, PutIn.{own_time, split_three, split_two}}, runs.SourcesBack.{at_least, no_higher}}
 use Rattle.run_law.specs.declared.judgement.Why.TheVariants as whys
 use Rattle.run_law.specs.declared.note.NoteBody.TheVariants as notes
-use Rattle.run_law.specs.declared.note.NoteBody.{NoteBody}
-use Rattle.run_law.specs.records.Causes.{cause_of}
-use Rattle.run_law.specs.records.Happenings.{Happening, time_of}
-use Rattle.run_law.specs.records.Order.{AllBefore, IsBefore, IsIn, NoneBefore, behind}
-use Rattle.run_law.specs.records.Ranks.{key, members_in, place_of, rank}
-use Rattle.run_law.specs.runs.DueRecords.{IsDue}
-use Rattle.run_law.specs.runs.Runs.{IsFounded}
-use Rattle.run_law.specs.scenario.Scenarios.{Scenario}
-use Rattle.run_law.specs.timed.Receptions.{is_taken_before}
-use Rattle.world_law.proofs.giving.GivenParts.{taken_on, up_to_place}
-use Rattle.world_law.proofs.putting.Bumped.{bump_back, bump_behind, bump_equal, bump_mono, due_low, first_placed, in_placed, lower_behind, lowered, lowered_place, placed, placed_in, raised_source, split_placed}
-use Rattle.world_law.proofs.putting.Moving.{IsAllOfIt, IsMoving, worked_or_here}
-use Rattle.world_law.proofs.putting.Near.{AreFrom, AreTwo, IsAsideOf, due_down, due_up, hears, is_follower, known_near, own_down, own_source, own_up}
-use Rattle.world_law.proofs.putting.NearPut.{IsPlaced, two_placed}
-use Rattle.world_law.proofs.putting.PutIn.{own_time, split_three, split_two}
-use Rattle.world_law.proofs.runs.SourcesBack.{at_least, no_higher}
-use Rattle.world_law.specs.device.Own.{bears_on}
-use Rattle.world_law.specs.source.Sources.{IsOwnSource, IsSource}
-use Rattle.world_law.specs.world.World.{AreSettled, IsForward, act_place, is_at_source}
 
 -- ---- own sources
 
@@ -52,10 +35,6 @@ hears_source s js t m device other p e o = absurd cc
 
 pub at_or_behind : (at q : List ℕ) → (IsBefore q at → ⊥) → (at ≡ q) ⊎ IsBefore at q
 at_or_behind at q not = elim (either_way at q) [ inl lt ↦ inr lt | inr (inl e) ↦ inl e | inr (inr gt) ↦ absurd (not gt) ]
-
--- what is before something not behind the source is not behind it either
-not_over : (at p q : List ℕ) → (IsBefore at q → ⊥) → IsBefore p q → IsBefore at p → ⊥
-not_over at p q not lt b = not (chain at p q b lt)
 
 -- ---- what is to come, up to a source
 

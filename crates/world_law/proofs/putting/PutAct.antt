@@ -1,35 +1,13 @@
 -- A device acts: what is to come with its records.
-use Rattle.std.proofs.Common.{◌≡◌, ◌⊎◌, ℕ, suc, ◌+◌, ◌≤◌, ◌<◌, true, List, [], ◌∷◌, ◌++◌, length, Some, append_assoc, inl, inr, refl, sym, ap, subst, ◌∙◌, arith}
-use Rattle.net_plan.specs.declared.ids.DeviceId.{DeviceId}
-use Rattle.run_law.proofs.law.FirstPlaces.{numbered_within}
-use Rattle.run_law.proofs.runs.Determined.{due_is_determined}
-use Rattle.run_law.proofs.runs.Places.{in_left, in_right, never_self, parted}
-use Rattle.run_law.specs.declared.judgement.Why.{Why}
+use Rattle.world_law.proofs.Words.{◌++◌, ◌+◌, ◌<◌, ◌∙◌, ◌∷◌, ◌≡◌, ◌≤◌, ◌⊎◌, AllBefore, ChangesState, DeviceId, Happening, IsActing, IsBefore, IsCaused, IsDue}
+use Rattle.world_law.proofs.Words.{IsFounded, IsIn, IsOfThisTime, IsOwnSource, IsSource, List, NoneBefore, NoteBody, Scenario, Some, State, Units, Why, []}
+use Rattle.world_law.proofs.Words.{act_place, amount, ap, append_assoc, arith, in_left, in_right, inl, inr, is_joined_by, key, length, members_in, never_self}
+use Rattle.world_law.proofs.Words.{numbered, numbered_within, parted, place_of, rank, refl, subst, suc, sym, true, units_of, ℕ}
+use Rattle.run_law.{proofs.runs.Determined.due_is_determined, specs.records.Causes.device_of}
+use Rattle.world_law.proofs.putting.{Bumped.AsState, Moving.IsMoving, Near.hears, Placing.before_it, PutOne.{IsOne, at_number}}
+use Rattle.world_law.proofs.{putting.{PutShown.{IsShownPair, due_of, record_of}, PutTwo.IsPair}, runs.SourcesBack.{at_least, numbered_parts}}
 use Rattle.run_law.specs.declared.judgement.Why.TheVariants as whys
 use Rattle.run_law.specs.declared.note.NoteBody.TheVariants as notes
-use Rattle.run_law.specs.declared.note.NoteBody.{NoteBody}
-use Rattle.run_law.specs.device.StateChanges.{ChangesState}
-use Rattle.run_law.specs.device.States.{is_joined_by}
-use Rattle.run_law.specs.records.Causes.{IsOfThisTime, device_of}
-use Rattle.run_law.specs.records.Happenings.{Happening, numbered}
-use Rattle.run_law.specs.records.Order.{AllBefore, IsBefore, IsIn, NoneBefore}
-use Rattle.run_law.specs.records.Ranks.{key, members_in, place_of, rank}
-use Rattle.run_law.specs.runs.DueRecords.{IsCaused, IsDue}
-use Rattle.run_law.specs.runs.Runs.{IsFounded}
-use Rattle.run_law.specs.scenario.Scenarios.{Scenario}
-use Rattle.sync_state.specs.declared.state.State.{State}
-use Rattle.tte_units.specs.Amount.{amount, units_of}
-use Rattle.tte_units.specs.declared.units.Units.{Units}
-use Rattle.world_law.proofs.putting.Bumped.{AsState}
-use Rattle.world_law.proofs.putting.Moving.{IsMoving}
-use Rattle.world_law.proofs.putting.Near.{hears}
-use Rattle.world_law.proofs.putting.Placing.{before_it}
-use Rattle.world_law.proofs.putting.PutOne.{IsOne, at_number}
-use Rattle.world_law.proofs.putting.PutShown.{IsShownPair, due_of, record_of}
-use Rattle.world_law.proofs.putting.PutTwo.{IsPair}
-use Rattle.world_law.proofs.runs.SourcesBack.{at_least, numbered_parts}
-use Rattle.world_law.specs.source.Sources.{IsActing, IsOwnSource, IsSource}
-use Rattle.world_law.specs.world.World.{act_place}
 
 -- ---- no record stands before its own source
 

@@ -1,33 +1,11 @@
 -- A record that bears on nothing else is put in: what is settled then.
-use Rattle.std.proofs.Common.{◌≡◌, ◌⊎◌, ℕ, ◌≤◌, List, [], ◌∷◌, ◌++◌, length, map, filter, Some, None, inl, inr, refl, sym, ap, subst, ◌∙◌, arith}
-use Rattle.std.specs.List.{last_or}
-use Rattle.net_plan.specs.declared.ids.DeviceId.{DeviceId}
-use Rattle.net_plan.specs.declared.ids.LinkId.{LinkId}
-use Rattle.net_plan.specs.declared.ids.VlId.{VlId}
-use Rattle.run_law.proofs.law.FirstDeliveries.{last_in}
-use Rattle.run_law.proofs.law.FirstPlaces.{by_number, in_filter, numbered_within}
-use Rattle.run_law.specs.records.Causes.{cause_of}
-use Rattle.run_law.specs.timed.Dispatching.{Dispatches, is_accepted}
-use Rattle.run_law.specs.records.Happenings.{Happening, earlier, time_of}
-use Rattle.run_law.specs.control.Leaving.{Departs, Departure}
-use Rattle.run_law.specs.records.Order.{IsIn}
-use Rattle.run_law.specs.records.Ranks.{place_of, rank}
-use Rattle.run_law.specs.timed.Receptions.{ArrivesAs}
-use Rattle.run_law.specs.control.Losses.{IsDropped, IsLost}
-use Rattle.run_law.specs.runs.DueRecords.{IsCaused, IsDue}
-use Rattle.run_law.specs.runs.Runs.{IsFounded}
-use Rattle.run_law.specs.scenario.Scenarios.{Scenario}
-use Rattle.run_law.specs.declared.judgement.Reason.{Reason}
+use Rattle.world_law.proofs.Words.{◌++◌, ◌∙◌, ◌∷◌, ◌≡◌, ◌≤◌, ◌⊎◌, Arrival, ArrivesAs, Departs, Departure, DeviceId, Dispatches, Happening, IsActing, IsCaused}
+use Rattle.world_law.proofs.Words.{IsDropped, IsDue, IsForward, IsFounded, IsIn, IsLost, IsOwnSource, IsSource, LinkId, List, None, NoteBody, Reason, Scenario}
+use Rattle.world_law.proofs.Words.{Some, Units, VlId, [], amount, ap, arith, by_number, cause_of, earlier, filter, in_filter, inl, inr, is_accepted, last_in}
+use Rattle.world_law.proofs.Words.{last_or, length, map, numbered_within, place_of, rank, refl, subst, sym, time_of, ℕ}
+use Rattle.world_law.proofs.{putting.Idle.bump, runs.SourcesBack.{arrives_later, earlier_still, gives_rank, numbered_parts}}
 use Rattle.run_law.specs.declared.judgement.Why.TheVariants as whys
 use Rattle.run_law.specs.declared.note.NoteBody.TheVariants as notes
-use Rattle.run_law.specs.declared.note.NoteBody.{NoteBody}
-use Rattle.run_law.specs.declared.steps.Arrival.{Arrival}
-use Rattle.tte_units.specs.Amount.{amount}
-use Rattle.tte_units.specs.declared.units.Units.{Units}
-use Rattle.world_law.proofs.putting.Idle.{bump}
-use Rattle.world_law.proofs.runs.SourcesBack.{arrives_later, earlier_still, gives_rank, numbered_parts}
-use Rattle.world_law.specs.source.Sources.{IsActing, IsOwnSource, IsSource}
-use Rattle.world_law.specs.world.World.{IsForward}
 
 -- ---- lists
 

@@ -1,40 +1,20 @@
 -- A source of the instant is worked off: its record is put in, or its record and the change of state that follows it.
-use Rattle.std.proofs.Common.{◌≡◌, ◌⊎◌, ℕ, suc, ◌+◌, ◌≤◌, Bool, true, false, ◌&&◌, ◌||◌, ◌==◌, if◌then◌else◌, List, [], ◌∷◌, ◌++◌, map, Some, append_assoc, inl, inr, refl, sym, ap, subst, ◌∙◌, arith}
-use Rattle.std.specs.Prelude.{nat_lt}
-use Rattle.std.proofs.lemmas.Bool.{and_left, and_right, cases_Bool, cases_lt, cases_order, eqb-true, false_from_ne_true, le-ltb}
-use Rattle.net_plan.specs.declared.ids.DeviceId.{DeviceId}
-use Rattle.net_plan.specs.declared.ids.LinkId.{LinkId}
-use Rattle.net_plan.specs.declared.ids.VlId.{VlId}
-use Rattle.net_plan.specs.declared.event.What.{What}
-use Rattle.run_law.proofs.runs.Places.{before_behind, chain, never_self}
-use Rattle.run_law.specs.declared.judgement.Judgement.TheVariants as judgements
-use Rattle.run_law.specs.declared.judgement.Why.{Why}
-use Rattle.run_law.specs.declared.judgement.Why.TheVariants as whys
-use Rattle.run_law.specs.declared.note.NoteBody.TheVariants as notes
-use Rattle.run_law.specs.declared.note.NoteBody.{NoteBody}
-use Rattle.run_law.specs.device.StateChanges.{ChangesState}
-use Rattle.run_law.specs.device.States.{is_joined_by, state_after, state_before}
-use Rattle.run_law.specs.records.Causes.{cause_of}
-use Rattle.run_law.specs.records.Happenings.{Happening, numbered, time_of}
-use Rattle.run_law.specs.records.Order.{AllBefore, IsBefore, IsIn, NoneBefore, behind}
-use Rattle.run_law.specs.records.Ranks.{members_in, place_of, rank}
-use Rattle.run_law.specs.runs.DueRecords.{IsCaused, IsDue}
-use Rattle.run_law.specs.runs.Runs.{IsFounded}
-use Rattle.run_law.specs.scenario.Scenarios.{Scenario, is_turned_on_at}
-use Rattle.run_law.specs.timed.Receptions.{comes_before, is_taken_before}
-use Rattle.sync_state.specs.declared.state.State.{State}
-use Rattle.sync_state.specs.declared.state.State.TheVariants.{Integrating, Joining}
+use Rattle.world_law.proofs.Words.{if◌then◌else◌, ◌&&◌, ◌++◌, ◌+◌, ◌==◌, ◌||◌, ◌∙◌, ◌∷◌, ◌≡◌, ◌≤◌, ◌⊎◌, AllBefore, AreSettled, Bool, ChangesState, DeviceId}
+use Rattle.world_law.proofs.Words.{Happening, Integrating, IsBefore, IsCaused, IsDue, IsFounded, IsIn, IsOwnSource, IsSource, Joining, LinkId, List, NoneBefore}
+use Rattle.world_law.proofs.Words.{NoteBody, Scenario, Some, State, Units, VlId, What, Why, [], act_place, and_right, ap, append_assoc, arith, bears_on}
+use Rattle.world_law.proofs.Words.{before_behind, behind, cases_Bool, cases_lt, cases_order, cause_of, eqb-true, false, false_from_ne_true, inl, inr}
+use Rattle.world_law.proofs.Words.{is_at_source, is_joined_by, is_taken_before, is_turned_on_at, le-ltb, map, members_in, nat_lt, never_self, numbered}
+use Rattle.world_law.proofs.Words.{place_of, rank, refl, state_after, state_before, subst, suc, sym, time_of, true, ℕ}
+use Rattle.std.proofs.lemmas.Bool.{and_left}
+use Rattle.run_law.specs.timed.Receptions.{comes_before}
 use Rattle.tte_lemmas.proofs.Naturals.{unequal}
-use Rattle.tte_units.specs.declared.units.Units.{Units}
-use Rattle.world_law.proofs.giving.Given.{some_same}
-use Rattle.world_law.proofs.putting.Bumped.{AsState, bump_behind, numbered_here, placed, seven}
-use Rattle.world_law.proofs.putting.Moving.{IsAllOfIt, IsMoving, stays}
+use Rattle.world_law.proofs.{giving.Given.some_same, putting.{Bumped.{AsState, bump_behind, numbered_here, seven}, Moving.{IsAllOfIt, IsMoving, stays}}}
 use Rattle.world_law.proofs.putting.Near.{hears}
 use Rattle.world_law.proofs.putting.Placing.{IsCarried, IsPlacing, IsWell, before_it, hears_source, placed_well, put_at, settled_at, settled_by, well_of}
 use Rattle.world_law.proofs.runs.SourcesBack.{earlier_still}
-use Rattle.world_law.specs.device.Own.{bears_on}
-use Rattle.world_law.specs.source.Sources.{IsOwnSource, IsSource}
-use Rattle.world_law.specs.world.World.{AreSettled, act_place, is_at_source}
+use Rattle.run_law.specs.declared.judgement.Judgement.TheVariants as judgements
+use Rattle.run_law.specs.declared.judgement.Why.TheVariants as whys
+use Rattle.run_law.specs.declared.note.NoteBody.TheVariants as notes
 
 -- ---- what a record of this source tells
 

@@ -1,33 +1,13 @@
 -- What is shown of what is to come, and where a record is put in among what is shown.
-use Rattle.std.proofs.Common.{◌≡◌, ℕ, suc, ◌+◌, ◌≤◌, ◌<◌, Bool, if◌then◌else◌, List, [], ◌∷◌, ◌++◌, length, map, inl, inr, refl, sym, ap, subst, ◌∙◌, arith}
-use Rattle.std.specs.Prelude.{nat_lt}
-use Rattle.std.proofs.lemmas.Bool.{cases_lt, le-ltb, lt-ltb}
-use Rattle.std.proofs.lemmas.Int.{ints}
-use Rattle.std.proofs.lemmas.List.{length-append}
-use Rattle.net_plan.specs.declared.ids.DeviceId.{DeviceId}
-use Rattle.net_plan.specs.declared.network.Network.{Network}
-use Rattle.run_law.specs.declared.judgement.Why.{Why}
-use Rattle.run_law.specs.declared.note.Note.{Note}
-use Rattle.run_law.specs.declared.note.NoteBody.TheVariants as notes
-use Rattle.run_law.specs.declared.note.NoteBody.{NoteBody}
-use Rattle.run_law.specs.records.Causes.{cause_of}
-use Rattle.run_law.specs.records.Happenings.{Happening, happening, numbered, time_of}
-use Rattle.run_law.specs.records.Order.{AllBefore, IsBefore, IsIn, NoneBefore}
-use Rattle.run_law.specs.records.Ranks.{key, members_in, place_of, rank}
-use Rattle.run_law.specs.runs.DueRecords.{IsCaused, IsDue}
-use Rattle.run_law.specs.scenario.Scenarios.{Scenario}
-use Rattle.sync_state.specs.declared.state.State.{State}
-use Rattle.tte_units.specs.Amount.{units_of}
+use Rattle.world_law.proofs.Words.{if◌then◌else◌, ◌++◌, ◌+◌, ◌<◌, ◌∙◌, ◌∷◌, ◌≡◌, ◌≤◌, AllBefore, Bool, DeviceId, Happening, IsBefore, IsCaused, IsDue, IsIn}
+use Rattle.world_law.proofs.Words.{List, Network, NoneBefore, Note, NoteBody, Scenario, State, Why, [], ap, arith, cases_lt, cause_of, happening, hidden}
+use Rattle.world_law.proofs.Words.{hidden_body, in_left, in_parts, in_right, inl, inr, ints, key, le-ltb, length, length-append, lt-ltb, map, members_in}
+use Rattle.world_law.proofs.Words.{nat_lt, none_yet, numbered, place_of, rank, refl, subst, suc, sym, time_of, units_of, ℕ}
 use Rattle.world_law.proofs.putting.Alike.{happening_alike}
 use Rattle.world_law.proofs.putting.Bumped.{AsState, bump_behind, in_placed, placed_hidden, places_up, raised, raised_rank, seven, up_low, up_number}
-use Rattle.world_law.proofs.putting.PutIn.{split_two}
-use Rattle.run_law.proofs.runs.Places.{in_left, in_parts, in_right}
-use Rattle.world_law.proofs.putting.HiddenLists.{map_parts, split_hidden}
-use Rattle.world_law.proofs.putting.Idle.{numbered_prefix}
-use Rattle.world_law.proofs.putting.Placing.{before_it, put_at}
-use Rattle.world_law.proofs.putting.StandsOn.{in_mapped}
-use Rattle.world_law.specs.world.Moves.{ArePutIn, IsPutIn, settled_as}
-use Rattle.world_law.specs.world.World.{hidden, hidden_body, none_yet}
+use Rattle.world_law.proofs.putting.{HiddenLists.{map_parts, split_hidden}, Idle.numbered_prefix, Placing.{before_it, put_at}, PutIn.split_two}
+use Rattle.world_law.{proofs.putting.StandsOn.in_mapped, specs.world.Moves.{ArePutIn, IsPutIn, settled_as}}
+use Rattle.run_law.specs.declared.note.NoteBody.TheVariants as notes
 
 -- ---- what is hidden keeps its place towards a record whose cause is given
 

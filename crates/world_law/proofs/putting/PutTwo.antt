@@ -1,36 +1,19 @@
 -- A record and the change of state that follows it are put in.
-use Rattle.std.proofs.Common.{◌≡◌, ◌⊎◌, ℕ, suc, ◌+◌, ◌≤◌, ◌<◌, true, false, ◌==◌, List, [], ◌∷◌, ◌++◌, map, Some, append_assoc, inl, inr, refl, sym, ap, subst, ◌∙◌, arith}
-use Rattle.std.proofs.lemmas.Bool.{cases_lt, eqb-true, false_from_ne_true}
+use Rattle.world_law.proofs.Words.{◌++◌, ◌+◌, ◌<◌, ◌==◌, ◌∙◌, ◌∷◌, ◌≡◌, ◌≤◌, ◌⊎◌, AllBefore, AreSettled, ChangesState, DeviceId, Happening, IsBefore, IsCaused}
+use Rattle.world_law.proofs.Words.{IsDue, IsIn, IsOwnSource, IsSource, List, NoneBefore, NoteBody, Scenario, Some, State, Why, [], act_place, amount, ap}
+use Rattle.world_law.proofs.Words.{append_assoc, arith, bears_on, before_behind, behind, cases_lt, cause_of, eqb-true, false, false_from_ne_true, in_left}
+use Rattle.world_law.proofs.Words.{in_parts, in_right, inl, inr, is_at_source, is_joined_by, is_taken_before, key, map, members_in, never_self, numbered}
+use Rattle.world_law.proofs.Words.{parted, place_of, rank, refl, subst, suc, sym, time_of, true, ℕ}
 use Rattle.net_plan.proofs.SameIds.{one_device}
-use Rattle.net_plan.specs.declared.ids.DeviceId.{DeviceId}
-use Rattle.run_law.proofs.law.FirstPlaces.{numbered_front}
-use Rattle.run_law.proofs.runs.Places.{before_behind, in_left, in_parts, in_right, never_self, parted}
-use Rattle.run_law.specs.declared.judgement.Judgement.TheVariants as judgements
-use Rattle.run_law.specs.declared.judgement.Why.{Why}
-use Rattle.run_law.specs.declared.judgement.Why.TheVariants as whys
-use Rattle.run_law.specs.declared.note.NoteBody.TheVariants as notes
-use Rattle.run_law.specs.declared.note.NoteBody.{NoteBody}
-use Rattle.run_law.specs.device.StateChanges.{ChangesState}
-use Rattle.run_law.specs.device.States.{is_joined_by}
-use Rattle.run_law.specs.records.Causes.{cause_of, device_of}
-use Rattle.run_law.specs.records.Happenings.{Happening, numbered, time_of}
-use Rattle.run_law.specs.records.Order.{AllBefore, IsBefore, IsIn, NoneBefore, behind}
-use Rattle.run_law.specs.records.Ranks.{key, members_in, place_of, rank}
-use Rattle.run_law.specs.runs.DueRecords.{IsCaused, IsDue}
-use Rattle.run_law.specs.scenario.Scenarios.{Scenario}
-use Rattle.run_law.specs.timed.Receptions.{is_taken_before}
-use Rattle.sync_state.specs.declared.state.State.{State}
-use Rattle.tte_units.specs.Amount.{amount}
+use Rattle.run_law.{proofs.law.FirstPlaces.numbered_front, specs.records.Causes.device_of}
 use Rattle.world_law.proofs.giving.Given.{some_same}
-use Rattle.world_law.proofs.putting.Bumped.{AsState, bump_behind, down_high, down_low, down_number, in_placed, lower_behind, lowered_rank, placed, raised_source, seven}
-use Rattle.world_law.proofs.putting.Idle.{numbered_prefix}
-use Rattle.world_law.proofs.putting.Moving.{IsAllOfIt, stays}
-use Rattle.world_law.proofs.putting.Near.{hears}
+use Rattle.world_law.proofs.putting.Bumped.{bump_behind, down_high, down_low, down_number, in_placed, lowered_rank, raised_source, seven}
+use Rattle.world_law.proofs.putting.{Idle.numbered_prefix, Moving.{IsAllOfIt, stays}, Near.hears}
 use Rattle.world_law.proofs.putting.Placing.{IsCarried, IsPlacing, IsWell, before_it, hears_source, placed_well, put_at, settled_by, well_of}
 use Rattle.world_law.proofs.putting.PutOne.{Follows, IsOne, at_number, due_follows, placing_one, source_raised, unmarked, worked_then}
-use Rattle.world_law.specs.device.Own.{bears_on}
-use Rattle.world_law.specs.source.Sources.{IsOwnSource, IsSource}
-use Rattle.world_law.specs.world.World.{AreSettled, act_place, is_at_source}
+use Rattle.run_law.specs.declared.judgement.Judgement.TheVariants as judgements
+use Rattle.run_law.specs.declared.judgement.Why.TheVariants as whys
+use Rattle.run_law.specs.declared.note.NoteBody.TheVariants as notes
 
 -- ---- whom the follower is of
 

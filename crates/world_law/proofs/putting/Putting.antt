@@ -1,39 +1,17 @@
 -- What is settled once a record that bears on nothing else is put in, and the cursor goes by its source.
-use Rattle.std.proofs.Common.{◌≡◌, ◌⊎◌, ℕ, suc, ◌+◌, ◌≤◌, true, List, [], ◌∷◌, ◌++◌, if◌then◌else◌, length, map, append_assoc, inl, inr, refl, sym, ap, subst, ◌∙◌, arith}
-use Rattle.std.proofs.lemmas.List.{length-append, length-map}
-use Rattle.net_plan.specs.declared.ids.DeviceId.{DeviceId}
-use Rattle.net_plan.specs.declared.network.Network.{Network}
-use Rattle.run_law.proofs.runs.Places.{before_behind, chain, either_way, in_left, in_parts, in_right, never_self}
-use Rattle.run_law.specs.declared.note.NoteBody.{NoteBody}
-use Rattle.run_law.specs.device.LocalClocks.{changed_at}
-use Rattle.run_law.specs.device.States.{adjustment_after, state_after, state_before}
-use Rattle.run_law.specs.machines.Nodes.{Node}
-use Rattle.run_law.specs.records.Causes.{cause_of}
-use Rattle.run_law.specs.records.Happenings.{Happening, earlier, time_of, up_to}
-use Rattle.run_law.specs.records.Order.{AllBefore, IsBefore, IsIn, NoneBefore, behind}
-use Rattle.run_law.specs.records.Ranks.{key, members_in, place_of, rank}
-use Rattle.run_law.specs.runs.DueRecords.{IsDue}
-use Rattle.run_law.specs.runs.Runs.{IsFounded}
-use Rattle.run_law.specs.scenario.Scenarios.{Scenario, is_turned_on_at}
-use Rattle.sync_state.specs.declared.state.State.TheVariants.{Integrating}
-use Rattle.sync_state.specs.declared.state.State.{State}
-use Rattle.world_law.proofs.acts.Recorded.{DispatchesNone, recorded_put}
-use Rattle.world_law.proofs.devices.Borne.{moves_no_other}
-use Rattle.world_law.proofs.giving.GivenParts.{taken_on, up_to_place}
+use Rattle.world_law.proofs.Words.{if◌then◌else◌, ◌++◌, ◌+◌, ◌∙◌, ◌∷◌, ◌≡◌, ◌≤◌, ◌⊎◌, AllBefore, AreOfNetwork, AreSettled, DeviceId, Happening, HasDoneFrom}
+use Rattle.world_law.proofs.Words.{HasTurnedOn, Integrating, IsActing, IsAtRest, IsBefore, IsDue, IsFounded, IsHeld, IsIn, IsKept, IsLeft, IsOwnSource}
+use Rattle.world_law.proofs.Words.{IsSource, IsWorkedOff, List, Network, Node, NoneBefore, NoteBody, Scenario, State, [], act_place, adjustment_after, ap}
+use Rattle.world_law.proofs.Words.{append_assoc, arith, bears_on, before_behind, behind, cause_of, chain, changed_at, earlier, either_way, frames_taken}
+use Rattle.world_law.proofs.Words.{in_left, in_parts, in_right, inl, inr, is_at_source, is_turned_on_at, is_turning, key, length, length-append, length-map}
+use Rattle.world_law.proofs.Words.{map, members_in, moves, never_self, place_of, rank, refl, state_after, state_before, subst, suc, sym, time_of, true, up_to}
+use Rattle.world_law.proofs.Words.{ℕ}
+use Rattle.world_law.proofs.{acts.Recorded.{DispatchesNone, recorded_put}, devices.Borne.moves_no_other, giving.GivenParts.{taken_on, up_to_place}}
 use Rattle.world_law.proofs.putting.Alike.{AreAlike, alike_back, caused_alike, happening_alike, own_alike}
-use Rattle.world_law.proofs.putting.Idle.{plains_put, IsIdle, IsPut, adjusted_put, alike_put, bump, bumped_in, changed_put, earlier_state_put, idle_bears, idle_rank, in_bumped, left_put, stated_put}
-use Rattle.world_law.proofs.putting.Moving.{IsMoving, stays, worked_or_here}
-use Rattle.world_law.proofs.putting.PutIn.{known_cause, late_source, own_time, split_bumped, first_bumped, split_three, split_two}
-use Rattle.world_law.proofs.rows.Takings.{frames_idle}
-use Rattle.world_law.proofs.runs.SourcesBack.{dispatches_back, earlier_still, at_least, no_higher}
-use Rattle.world_law.specs.device.Deeds.{HasDoneFrom}
-use Rattle.world_law.specs.device.Left.{IsLeft}
-use Rattle.world_law.specs.device.Own.{bears_on, moves}
-use Rattle.world_law.specs.device.Plain.{renumbered}
-use Rattle.world_law.specs.device.Takings.{frames_taken}
-use Rattle.world_law.specs.source.Sources.{IsActing, IsOwnSource, IsSource}
-use Rattle.world_law.specs.world.World.{AreOfNetwork, AreSettled, HasTurnedOn, IsAtRest, IsHeld, IsKept, IsTakenUp, IsWorkedOff, act_place, is_at_source, is_turning}
-use Rattle.world_law.proofs.putting.Placing.{at_or_behind}
+use Rattle.world_law.proofs.putting.Idle.{IsIdle, IsPut, adjusted_put, alike_put, bump, bumped_in, changed_put, earlier_state_put, idle_bears, idle_rank}
+use Rattle.world_law.proofs.putting.{Idle.{in_bumped, left_put, plains_put, stated_put}, Moving.{IsMoving, stays, worked_or_here}, Placing.at_or_behind}
+use Rattle.world_law.proofs.{putting.PutIn.{first_bumped, known_cause, late_source, own_time, split_bumped, split_three, split_two}, rows.Takings.frames_idle}
+use Rattle.world_law.{proofs.runs.SourcesBack.{at_least, dispatches_back, earlier_still, no_higher}, specs.{device.Plain.renumbered, world.World.IsTakenUp}}
 
 -- what a step that puts in a record starts from: the record is due at its place among those to come, and whatever comes
 -- from the source is at that place

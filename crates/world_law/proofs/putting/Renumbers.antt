@@ -1,28 +1,12 @@
 -- What is due at the time of a record does not rest on its number.
-use Rattle.std.proofs.Common.{◌≡◌, ℕ, Bool, ◌&&◌, ◌||◌, ◌==◌, if◌then◌else◌, List, [], ◌∷◌, Option, Some, None, filter, option_and_then, refl, sym, ap, subst, ◌∙◌}
-use Rattle.std.specs.Prelude.{nat_lt}
-use Rattle.std.specs.List.{last_or, list_any}
-use Rattle.compression.specs.Clusters.{Point}
-use Rattle.net_plan.specs.declared.ids.DeviceId.{DeviceId}
-use Rattle.net_plan.specs.declared.ids.LinkId.{LinkId}
-use Rattle.net_plan.specs.declared.ids.VlId.{VlId}
-use Rattle.pcf_values.specs.declared.pcf.Pcf.{Pcf}
-use Rattle.run_law.specs.control.Collections.{points_of}
-use Rattle.run_law.specs.records.Happenings.{Happening, earlier, time_of}
+use Rattle.world_law.proofs.Words.{if◌then◌else◌, ◌&&◌, ◌==◌, ◌||◌, ◌∙◌, ◌∷◌, ◌≡◌, Bool, DeviceId, Happening, Integrating, Joining, LinkId, List, None}
+use Rattle.world_law.proofs.Words.{NoteBody, Option, Pcf, Point, Ripe, Scenario, Some, Standpoint, State, Units, VlId, [], adjustment_after}
+use Rattle.world_law.proofs.Words.{adjustment_at_hearing, ap, earlier, filter, has_joined_at, is_joined_by, is_taken_before, is_turned_on_at, last_or}
+use Rattle.world_law.proofs.Words.{last_taken, list_any, nat_lt, option_and_then, plain, plain_body, plains, points_of, refl, state_after, state_at_hearing}
+use Rattle.world_law.proofs.Words.{state_before, subst, sym, taken_cycle, time_of, timed_arrival, ℕ}
 use Rattle.run_law.specs.control.Permanence.{IsJudgedBy, IsPermanenceOutcome}
-use Rattle.run_law.specs.timed.Receptions.{is_taken_before, last_taken, taken_cycle}
-use Rattle.run_law.specs.scenario.Scenarios.{Scenario, is_turned_on_at}
-use Rattle.run_law.specs.device.Standpoints.{Standpoint}
-use Rattle.run_law.specs.device.States.{adjustment_after, adjustment_at_hearing, has_joined_at, is_joined_by, state_after, state_at_hearing, state_before}
-use Rattle.run_law.specs.timed.Arrivals.{timed_arrival}
-use Rattle.run_law.specs.declared.note.NoteBody.TheVariants as notes
-use Rattle.run_law.specs.declared.note.NoteBody.{NoteBody}
-use Rattle.run_law.specs.declared.steps.Ripe.{Ripe}
-use Rattle.sync_state.specs.declared.state.State.TheVariants.{Integrating, Joining}
-use Rattle.sync_state.specs.declared.state.State.{State}
-use Rattle.tte_units.specs.declared.units.Units.{Units}
 use Rattle.world_law.proofs.devices.Plains.{adjustments_plain, earlier_plain, filter_plain, joined_plain, points_plain, states_plain}
-use Rattle.world_law.specs.device.Plain.{plain, plain_body, plains}
+use Rattle.run_law.specs.declared.note.NoteBody.TheVariants as notes
 
 -- ---- what was taken, and what was heard at this time
 

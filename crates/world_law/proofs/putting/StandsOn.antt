@@ -1,24 +1,13 @@
 -- The source that comes first is worked off: the world stands behind it.
-use Rattle.std.proofs.Common.{◌≡◌, ◌↔◌, ℕ, ◌+◌, ◌<◌, Bool, true, false, List, [], ◌∷◌, ◌++◌, length, map, slice_get, Some, inl, inr, sym, ap, subst, ◌∙◌, arith}
-use Rattle.std.proofs.lemmas.Bool.{cases_Bool}
-use Rattle.net_plan.specs.declared.ids.DeviceId.{DeviceId}
-use Rattle.net_plan.specs.declared.network.Network.{Network}
-use Rattle.run_law.proofs.runs.Places.{before_behind, before_next_time, chain, never_self}
-use Rattle.run_law.specs.records.Happenings.{Happening, happenings, time_of}
-use Rattle.run_law.specs.machines.Nodes.{Node}
-use Rattle.run_law.specs.records.Order.{IsBefore, IsIn, behind}
-use Rattle.run_law.specs.records.Ranks.{key, members_in, place_of, rank}
-use Rattle.run_law.specs.scenario.Scenarios.{Scenario}
-use Rattle.run_law.specs.declared.note.Note.{Note}
+use Rattle.world_law.proofs.Words.{◌++◌, ◌+◌, ◌<◌, ◌∙◌, ◌∷◌, ◌≡◌, AreAtPorts, AreOfNetwork, AreOnWires, AreSettled, AreWaiting, AtPort, Bool, DeviceId}
+use Rattle.world_law.proofs.Words.{Happening, IsBefore, IsHeld, IsIn, IsSource, List, Network, NoSourceBefore, Node, Note, NoteBody, OnWire, Scenario, Some}
+use Rattle.world_law.proofs.Words.{Stands, Waiting, World, [], ap, arith, before_behind, before_next_time, behind, cases_Bool, chain, clock_place, false}
+use Rattle.world_law.proofs.Words.{happenings, hidden, hidden_body, inl, inr, key, length, map, members_in, never_self, none_yet, place_of, rank, slice_get}
+use Rattle.world_law.proofs.Words.{subst, sym, time_of, true, ℕ}
+use Rattle.std.proofs.Common.{◌↔◌}
+use Rattle.world_law.proofs.{giving.GivenParts.up_to_place, putting.Moving.{IsMoving, stays}, runs.SourcesBack.no_higher}
+use Rattle.world_law.specs.world.{Moves.{ComesFirst, StandsBehind}, World.AreUntold}
 use Rattle.run_law.specs.declared.note.NoteBody.TheVariants as kinds
-use Rattle.run_law.specs.declared.note.NoteBody.{NoteBody}
-use Rattle.world_law.proofs.giving.GivenParts.{up_to_place}
-use Rattle.world_law.proofs.putting.Moving.{IsMoving, stays}
-use Rattle.world_law.proofs.runs.SourcesBack.{no_higher}
-use Rattle.world_law.specs.source.First.{NoSourceBefore}
-use Rattle.world_law.specs.source.Sources.{IsSource}
-use Rattle.world_law.specs.world.Moves.{ComesFirst, StandsBehind}
-use Rattle.world_law.specs.world.World.{AreAtPorts, AreOfNetwork, AreOnWires, AreSettled, AreUntold, AreWaiting, AtPort, IsHeld, OnWire, Stands, Waiting, World, clock_place, hidden, hidden_body, none_yet}
 
 -- ---- what is hidden keeps its rank
 

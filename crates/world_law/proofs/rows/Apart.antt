@@ -1,29 +1,10 @@
 -- A device comes to no row's value where it comes to a correction point, or to the beginning of a cycle.
-use Rattle.std.proofs.Common.{◌≡◌, ℕ, ◌+◌, ◌*◌, ◌≤◌, ℤ, pos, ◌≤ℤ◌, List, inl, inr, sym, subst, arith}
-use Rattle.std.proofs.lemmas.Bool.{cases_lt}
-use Rattle.std.proofs.lemmas.Int.{ints}
-use Rattle.net_plan.specs.Ranges.{IsInRange}
-use Rattle.net_plan.specs.declared.ids.DeviceId.{DeviceId}
-use Rattle.net_plan.specs.declared.ids.LinkId.{LinkId}
-use Rattle.net_plan.specs.declared.ids.VlId.{VlId}
-use Rattle.net_plan.specs.declared.network.Network.{Network}
-use Rattle.net_plan.specs.declared.tables.Link.{Link}
-use Rattle.run_law.specs.device.LocalClocks.{Reaches, local_before}
-use Rattle.run_law.specs.records.Happenings.{Happening}
-use Rattle.run_law.specs.scenario.Scenarios.{Scenario}
-use Rattle.run_law.specs.timed.Dispatching.{Dispatches, Sends}
-use Rattle.schedule_tables.proofs.Entries.{begun_below}
-use Rattle.schedule_tables.specs.Delays.{pcf_port_time}
-use Rattle.schedule_tables.specs.Entries.{IsEntry}
-use Rattle.schedule_tables.specs.Rules.{KeepsRules}
-use Rattle.schedule_tables.specs.declared.entry.Entry.{Entry}
-use Rattle.schedule_tables.specs.declared.rule.Rule.TheVariants.{ScheduleStart}
-use Rattle.tte_lemmas.proofs.Integers.{whole as not_negative}
-use Rattle.tte_lemmas.proofs.Lists.{in_all}
-use Rattle.tte_units.specs.Amount.{amount}
+use Rattle.world_law.proofs.Words.{◌*◌, ◌+◌, ◌≡◌, ◌≤ℤ◌, ◌≤◌, DeviceId, Dispatches, Entry, Happening, IsAtCorrection, IsEntry, IsInRange, IsSteady, KeepsRules}
+use Rattle.world_law.proofs.Words.{Link, LinkId, List, Network, Reaches, Scenario, Sends, VlId, amount, arith, cases_lt, inl, inr, ints, local_before, pos}
+use Rattle.world_law.proofs.Words.{subst, sym, ℕ, ℤ}
+use Rattle.schedule_tables.{proofs.Entries.begun_below, specs.{Delays.pcf_port_time, declared.rule.Rule.TheVariants.ScheduleStart}}
+use Rattle.tte_lemmas.proofs.{Integers.whole as not_negative, Lists.in_all}
 use Rattle.world_law.proofs.rows.Reached.{ShowsAt, cycles_apart, row_ends, shows_at}
-use Rattle.world_law.specs.device.Ready.{IsSteady}
-use Rattle.world_law.specs.source.Sources.{IsAtCorrection}
 
 -- ---- where a row's offset lies in the cycle
 

@@ -1,41 +1,16 @@
 -- What the node has of a row's frame when its clock reaches the row's value is what the records say that it has at hand.
-use Rattle.std.proofs.Common.{◌≡◌, ◌⊎◌, ℕ, ◌+◌, ◌*◌, ◌≤◌, ◌<◌, ℤ, pos, ◌<ℤ◌, Bool, true, false, ◌&&◌, ◌==◌, if◌then◌else◌, List, [], ◌∷◌, ◌++◌, filter, Option, Some, None, inl, inr, refl, sym, ap, subst, ◌∙◌, arith}
-use Rattle.std.specs.List.{last_or}
-use Rattle.std.specs.Option.{IsSomeAnd, option_map_or}
-use Rattle.std.specs.Prelude.{nat_lt}
-use Rattle.std.proofs.lemmas.Bool.{and_parts, cases_Bool, cases_eq, cases_lt, eqb-true, lt-ltb}
-use Rattle.std.proofs.lemmas.List.Elements.{filter-append}
-use Rattle.net_plan.specs.Ranges.{IsInRange}
-use Rattle.net_plan.specs.declared.ids.DeviceId.{DeviceId}
-use Rattle.net_plan.specs.declared.ids.RowId.{RowId}
-use Rattle.net_plan.specs.declared.ids.VlId.{VlId}
-use Rattle.net_plan.specs.declared.network.Network.{Network}
-use Rattle.net_plan.specs.declared.tables.Row.{Row}
-use Rattle.run_law.proofs.law.FirstDeliveries.{last_in}
-use Rattle.run_law.proofs.law.FirstPlaces.{in_filter}
-use Rattle.run_law.specs.device.LocalClocks.{Reaches, local_before}
-use Rattle.run_law.specs.machines.Nodes.{Node, TakenFrame, dispatching, last_taken_frame}
-use Rattle.run_law.specs.machines.Tasks.{HasFrame, value_of}
-use Rattle.run_law.specs.records.Happenings.{Happening, earlier, time_of}
-use Rattle.run_law.specs.records.Order.{IsIn}
-use Rattle.run_law.specs.records.Ranks.{place_of}
-use Rattle.run_law.specs.runs.DueRecords.{IsDue}
-use Rattle.run_law.specs.runs.Runs.{IsFounded}
-use Rattle.run_law.specs.scenario.Devices.{is_end}
-use Rattle.run_law.specs.scenario.Scenarios.{Scenario}
-use Rattle.run_law.specs.timed.Dispatching.{HasAccepted, HasAtHand, is_accepted, last_accepted}
-use Rattle.run_law.specs.declared.note.NoteBody.TheVariants as notes
-use Rattle.run_law.specs.declared.note.NoteBody.{NoteBody}
-use Rattle.schedule_tables.specs.Entries.{IsEntry, source_of}
-use Rattle.schedule_tables.specs.Rules.{KeepsRules}
+use Rattle.world_law.proofs.Words.{if◌then◌else◌, ◌&&◌, ◌*◌, ◌++◌, ◌+◌, ◌<ℤ◌, ◌<◌, ◌==◌, ◌∙◌, ◌∷◌, ◌≡◌, ◌≤◌, ◌⊎◌, Bool, DeviceId, Entry, Happening, HasAtHand}
+use Rattle.world_law.proofs.Words.{IsDue, IsEntry, IsFounded, IsIn, IsInRange, IsSteady, KeepsRules, List, Network, Node, None, NoteBody, Option, Reaches, Row}
+use Rattle.world_law.proofs.Words.{RowId, Scenario, Some, TakenFrame, VlId, [], amount, and_parts, ap, arith, cases_Bool, cases_lt, dispatching, earlier}
+use Rattle.world_law.proofs.Words.{eqb-true, false, filter, filter-append, frames_taken, in_filter, inl, inr, is_accepted, is_end, last_in, last_or}
+use Rattle.world_law.proofs.Words.{local_before, lt-ltb, nat_lt, option_map_or, place_of, pos, refl, source_of, subst, sym, taken_by, time_of, true, value_of}
+use Rattle.world_law.proofs.Words.{ℕ, ℤ}
+use Rattle.std.{proofs.lemmas.Bool.cases_eq, specs.Option.IsSomeAnd}
+use Rattle.run_law.specs.{machines.{Nodes.last_taken_frame, Tasks.HasFrame}, timed.Dispatching.{HasAccepted, last_accepted}}
 use Rattle.schedule_tables.specs.Windows.{OccursIn}
-use Rattle.schedule_tables.specs.declared.entry.Entry.{Entry}
-use Rattle.tte_lemmas.proofs.Bools.{turned}
-use Rattle.tte_lemmas.proofs.Lists.{last_if, last_more}
-use Rattle.tte_units.specs.Amount.{amount}
-use Rattle.world_law.proofs.rows.Reached.{IsForwarded, accepted_at, below_value, delivered_at, none_at_value}
-use Rattle.world_law.specs.device.Ready.{IsSteady}
-use Rattle.world_law.specs.device.Takings.{frames_taken, taken_by, taken_in}
+use Rattle.tte_lemmas.proofs.{Bools.turned, Lists.{last_if, last_more}}
+use Rattle.world_law.{proofs.rows.Reached.{IsForwarded, accepted_at, below_value, delivered_at, none_at_value}, specs.device.Takings.taken_in}
+use Rattle.run_law.specs.declared.note.NoteBody.TheVariants as notes
 
 -- ---- the last frame that a switch took is that of the last record that says so
 

@@ -1,35 +1,11 @@
 -- A dispatch is a task of the device's node whose reading is reached.
-use Rattle.std.proofs.Common.{◌≡◌, ℕ, ◌+◌, ◌*◌, ◌≤◌, ℤ, pos, List, ◌∷◌, ◌++◌, inl, inr, refl, sym, subst, ◌∙◌}
-use Rattle.net_plan.specs.Ranges.{IsInRange}
-use Rattle.net_plan.specs.declared.ids.DeviceId.{DeviceId}
-use Rattle.net_plan.specs.declared.ids.LinkId.{LinkId}
-use Rattle.net_plan.specs.declared.ids.RowId.{RowId}
-use Rattle.net_plan.specs.declared.ids.VlId.{VlId}
-use Rattle.net_plan.specs.declared.network.Network.{Network}
-use Rattle.run_law.proofs.runs.Places.{before_later, in_parts, in_right}
-use Rattle.run_law.specs.device.LocalClocks.{Reaches}
-use Rattle.run_law.specs.machines.Nodes.{Node, dispatching}
-use Rattle.run_law.specs.machines.Tasks.{HasFrame, doing, value_of}
-use Rattle.run_law.specs.records.Happenings.{Happening, happenings, time_of}
-use Rattle.run_law.specs.records.Order.{AllBefore, IsIn}
-use Rattle.run_law.specs.records.Ranks.{place_of}
-use Rattle.run_law.specs.runs.DueRecords.{IsDue}
-use Rattle.run_law.specs.runs.Runs.{IsFounded}
-use Rattle.run_law.specs.scenario.Scenarios.{Scenario}
-use Rattle.run_law.specs.timed.Dispatching.{Dispatches, HasAtHand, IsUp}
-use Rattle.run_law.specs.declared.note.Note.{Note}
-use Rattle.schedule_tables.specs.Rules.{KeepsRules}
-use Rattle.sync_state.specs.declared.state.State.TheVariants.{Synchronised}
-use Rattle.tte_units.specs.Amount.{amount}
-use Rattle.world_law.proofs.acts.Acting.{IsUnmoved, comes_so, undone_so}
-use Rattle.world_law.proofs.devices.OwnRecords.{state_still}
-use Rattle.world_law.proofs.devices.Passes.{not_turned_on}
-use Rattle.world_law.proofs.putting.PutIn.{split_two}
+use Rattle.world_law.proofs.Words.{◌*◌, ◌++◌, ◌+◌, ◌∙◌, ◌∷◌, ◌≡◌, ◌≤◌, AllBefore, AreSettled, DeviceId, Dispatches, Happening, HasAtHand, HasDone, HasTaskBy}
+use Rattle.world_law.proofs.Words.{IsDue, IsFounded, IsIn, IsInRange, IsLeft, IsSteady, KeepsRules, LinkId, List, Network, Node, Note, Reaches, RowId, Scenario}
+use Rattle.world_law.proofs.Words.{Stands, Synchronised, VlId, World, amount, before_later, dispatching, doing, frames_taken, happenings, in_parts, in_right}
+use Rattle.world_law.proofs.Words.{inl, inr, place_of, pos, refl, subst, sym, time_of, value_of, ℕ, ℤ}
+use Rattle.run_law.specs.{machines.Tasks.HasFrame, timed.Dispatching.IsUp}
+use Rattle.world_law.proofs.{acts.Acting.{IsUnmoved, comes_so, undone_so}, devices.{OwnRecords.state_still, Passes.not_turned_on}, putting.PutIn.split_two}
 use Rattle.world_law.proofs.rows.AtHand.{IsReaching, at_hand, has_frame, value_is}
-use Rattle.world_law.specs.device.Ready.{IsSteady}
-use Rattle.world_law.specs.device.Left.{HasDone, HasTaskBy, IsLeft}
-use Rattle.world_law.specs.device.Takings.{frames_taken}
-use Rattle.world_law.specs.world.World.{AreSettled, Stands, World}
 
 -- ---- the records given and those to come
 

@@ -1,47 +1,22 @@
 -- What a device found of a time-triggered frame that it took: a row of its virtual link enters the device, the cycle of its
 -- clock was one from 1 on, and the place in the cycle was not behind the row's window.
-use Rattle.std.proofs.Common.{◌≡◌, ℕ, ◌+◌, ◌*◌, ◌/◌, ◌%◌, ◌≤◌, ◌<◌, ℤ, pos, negsuc, ◌≤ℤ◌, int_lt, Bool, true, false, not, ◌&&◌, ◌||◌, List, length, Option, Some, None, nat_le, slice_get, inl, inr, refl, sym, ap, subst, ◌∙◌, arith}
-use Rattle.std.specs.Int.{int_div_euclid, int_rem_euclid}
-use Rattle.std.specs.Option.{option_map_or}
-use Rattle.std.specs.Prelude.{◌==◌, Result, Ok, Err, option_map, option_and_then, if◌then◌else◌}
-use Rattle.std.proofs.Math.Nat.{div-add-mod, mod-lt}
-use Rattle.std.proofs.lemmas.Bool.{and_parts, cases_Bool, eq-eqb, eqb-true, leb-true, not-false, or_parts}
-use Rattle.std.proofs.lemmas.Option.{slice_get_within}
+use Rattle.world_law.proofs.Words.{if◌then◌else◌, ◌&&◌, ◌*◌, ◌+◌, ◌<◌, ◌==◌, ◌||◌, ◌∙◌, ◌≡◌, ◌≤ℤ◌, ◌≤◌, Arrival, ArrivesAs, Bool, DeviceId, Down, Entry}
+use Rattle.world_law.proofs.Words.{Happening, IsEntry, Link, LinkId, List, Network, None, Ok, Option, Pcf, Reason, Row, Scenario, Signal, Some, Standpoint}
+use Rattle.world_law.proofs.Words.{Units, Up, VlId, Way, and_parts, ap, arith, arrival_of, cases_Bool, control, control_arrival, eq-eqb, eqb-true, false, inl}
+use Rattle.world_law.proofs.Words.{inr, int_lt, is_end, last_taken, length, link_at, local_before, nat_le, negsuc, not, option_and_then, option_map}
+use Rattle.world_law.proofs.Words.{option_map_or, pos, refl, slice_get, slice_get_within, standpoint, subst, sym, target_by, timed, timed_arrival, true, ℕ, ℤ}
+use Rattle.std.proofs.{Common.{◌%◌, ◌/◌}, Math.Nat.{div-add-mod, mod-lt}, lemmas.Bool.{leb-true, not-false, or_parts}}
+use Rattle.std.specs.{Int.{int_div_euclid, int_rem_euclid}, Prelude.{Err, Result}}
 use Rattle.net_plan.proofs.SameIds.{one_link}
-use Rattle.net_plan.specs.Places.{link_at}
-use Rattle.net_plan.specs.declared.ids.DeviceId.{DeviceId}
-use Rattle.net_plan.specs.declared.ids.LinkId.{LinkId}
-use Rattle.net_plan.specs.declared.ids.VlId.{VlId}
-use Rattle.net_plan.specs.declared.network.Network.{Network}
-use Rattle.net_plan.specs.declared.tables.Link.{Link}
-use Rattle.net_plan.specs.declared.tables.Row.{Row}
-use Rattle.net_plan.specs.declared.tables.Way.TheVariants.{Up, Down}
-use Rattle.net_plan.specs.declared.tables.Way.{Way}
-use Rattle.pcf_codec.specs.Fields.{field}
-use Rattle.pcf_codec.specs.declared.refusal.PcfRefusal.{PcfRefusal}
-use Rattle.pcf_values.specs.declared.pcf.Pcf.{Pcf}
-use Rattle.run_law.proofs.control.Verdicts.{none_first}
-use Rattle.run_law.proofs.scenario.Ways.{one_way}
-use Rattle.run_law.specs.control.Arrivals.{control_arrival, frame_fault, frame_or_fault}
-use Rattle.run_law.specs.control.Wires.{Signal, control, timed}
-use Rattle.run_law.specs.declared.judgement.Reason.{Reason}
-use Rattle.run_law.specs.declared.steps.Arrival.TheVariants as arrivals
-use Rattle.run_law.specs.declared.steps.Arrival.{Arrival}
-use Rattle.run_law.specs.device.LocalClocks.{local_before}
-use Rattle.run_law.specs.device.Standpoints.{Standpoint, clock_of, cycle_at, natural, offset_in_cycle, standpoint}
-use Rattle.run_law.specs.records.Happenings.{Happening}
-use Rattle.run_law.specs.scenario.Devices.{is_end, is_parent_of, is_relay}
-use Rattle.run_law.specs.scenario.Scenarios.{Scenario}
+use Rattle.pcf_codec.specs.{Fields.field, declared.refusal.PcfRefusal.PcfRefusal}
+use Rattle.run_law.{proofs.{control.Verdicts.none_first, scenario.Ways.one_way}, specs.control.Arrivals.{frame_fault, frame_or_fault}}
+use Rattle.run_law.specs.{device.Standpoints.{clock_of, cycle_at, natural, offset_in_cycle}, scenario.Devices.{is_parent_of, is_relay}}
 use Rattle.run_law.specs.scenario.Ways.{is_way, is_way_of, receiver_of, way_to}
-use Rattle.run_law.specs.timed.Arrivals.{entry_arrival, entry_entering, entry_of, is_row_with, occurs_in, octets_fault, octets_or_fault, row_entering, row_fault, taken_or_fault, timed_arrival}
-use Rattle.run_law.specs.timed.Receptions.{ArrivesAs, arrival_of, last_taken}
-use Rattle.schedule_tables.proofs.Entries.{entry_by}
-use Rattle.schedule_tables.specs.Entries.{IsEntry, target_by, target_of}
-use Rattle.schedule_tables.specs.Windows.{window_end, window_of}
-use Rattle.schedule_tables.specs.declared.entry.Entry.{Entry}
-use Rattle.tte_lemmas.proofs.Integers.{not_less}
-use Rattle.tte_lemmas.proofs.Lists.{find_at}
-use Rattle.tte_units.specs.declared.units.Units.{Units}
+use Rattle.run_law.specs.timed.Arrivals.{entry_arrival, entry_entering, entry_of, is_row_with, occurs_in, octets_fault, octets_or_fault, row_entering}
+use Rattle.run_law.specs.timed.Arrivals.{row_fault, taken_or_fault}
+use Rattle.schedule_tables.{proofs.Entries.entry_by, specs.{Entries.target_of, Windows.{window_end, window_of}}}
+use Rattle.tte_lemmas.proofs.{Integers.not_less, Lists.find_at}
+use Rattle.run_law.specs.declared.steps.Arrival.TheVariants as arrivals
 
 -- a row of the virtual link enters the device, whose clock stood in the cycle, and not behind the row's window
 pub record IsTakenAt (network : Network) (device : DeviceId) (vl : VlId) (cycle : ℕ) (clock : ℤ) : Type 0 where

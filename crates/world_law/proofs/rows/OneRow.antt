@@ -1,43 +1,15 @@
 -- At one instant a device dispatches one row by a link, and what tells of its dispatch is one record.
-use Rattle.std.proofs.Common.{◌≡◌, ℕ, ◌+◌, ◌*◌, ◌^◌, ◌≤◌, ◌<◌, ℤ, pos, Bool, true, false, if◌then◌else◌, List, Option, Some, None, IsSomeAnd, inl, inr, refl, sym, ap, subst, ◌∙◌, arith}
-use Rattle.std.specs.Option.{option_map_or}
-use Rattle.std.proofs.lemmas.Bool.{both_ways, cases_lt}
-use Rattle.std.proofs.lemmas.Int.{ints}
-use Rattle.net_plan.specs.Places.{device_at, is_end_system, link_at}
-use Rattle.net_plan.specs.declared.ids.DeviceId.{DeviceId}
-use Rattle.net_plan.specs.declared.ids.LinkId.{LinkId}
-use Rattle.net_plan.specs.declared.ids.VlId.{VlId}
-use Rattle.net_plan.specs.declared.network.Network.{Network}
-use Rattle.net_plan.specs.declared.tables.Device.{Device}
-use Rattle.net_plan.specs.declared.tables.Link.{Link}
-use Rattle.net_plan.specs.declared.tables.Way.TheVariants.{Down, Up}
-use Rattle.net_plan.specs.declared.tables.Way.{Way}
-use Rattle.run_law.specs.declared.note.NoteBody.TheVariants as kinds
-use Rattle.run_law.specs.declared.note.NoteBody.{NoteBody}
-use Rattle.run_law.specs.device.LocalClocks.{local_before}
-use Rattle.run_law.specs.records.Happenings.{Happening}
-use Rattle.run_law.specs.scenario.Devices.{is_end}
-use Rattle.run_law.specs.scenario.Scenarios.{Scenario}
-use Rattle.run_law.specs.scenario.Ways.{is_cut, way_from}
-use Rattle.run_law.specs.timed.Dispatching.{Dispatches, HasAtHand}
-use Rattle.schedule_tables.proofs.Entries.{occur_together}
-use Rattle.schedule_tables.proofs.EntryLemmas.{one_entry}
-use Rattle.schedule_tables.specs.Entries.{IsEntry, source_by}
-use Rattle.schedule_tables.specs.Rules.{KeepsRules}
-use Rattle.schedule_tables.specs.Schedule.{IsClearBefore}
-use Rattle.schedule_tables.specs.Windows.{port_time}
-use Rattle.schedule_tables.specs.declared.entry.Entry.{Entry}
+use Rattle.world_law.proofs.Words.{if◌then◌else◌, ◌*◌, ◌+◌, ◌<◌, ◌^◌, ◌∙◌, ◌≡◌, ◌≤◌, Bool, Device, DeviceId, Dispatches, Down, Entry, Happening, HasAtHand}
+use Rattle.world_law.proofs.Words.{IsEntry, IsSteady, KeepsRules, Link, LinkId, List, Network, None, NoteBody, Option, Scenario, Some, Up, VlId, Way, amount}
+use Rattle.world_law.proofs.Words.{ap, arith, both_ways, cases_lt, device_at, dispatch_body, false, inl, inr, ints, is_cut, is_end, link_at, local_before}
+use Rattle.world_law.proofs.Words.{option_map_or, pos, refl, subst, sym, true, way_from, ℕ, ℤ}
+use Rattle.std.proofs.Common.{IsSomeAnd}
+use Rattle.net_plan.specs.Places.{is_end_system}
+use Rattle.schedule_tables.{proofs.{Entries.occur_together, EntryLemmas.one_entry}, specs.{Entries.source_by, Schedule.IsClearBefore}}
 use Rattle.schedule_tables.specs.declared.rule.Rule.TheVariants.{Periods, Senders, Spacing}
-use Rattle.tte_units.specs.Amount.{amount}
-use Rattle.tte_units.specs.OctetTime.{octet_time}
-use Rattle.tte_units.specs.declared.speed.Speed.TheVariants.{Gbit1, Mbit100}
-use Rattle.tte_units.specs.declared.speed.Speed.{Speed}
-use Rattle.world_law.proofs.frames.Masters.{ends_differ}
-use Rattle.world_law.proofs.rows.Apart.{precise, row_apart}
-use Rattle.world_law.proofs.rows.Dispatching.{IsLawful}
-use Rattle.world_law.proofs.rows.Reached.{ShowsAt, cycles_apart, shows_at}
-use Rattle.world_law.specs.device.Ready.{IsSteady}
-use Rattle.world_law.specs.device.Recorded.{dispatch_body}
+use Rattle.tte_units.specs.{OctetTime.octet_time, declared.speed.Speed.{Speed, TheVariants.{Gbit1, Mbit100}}}
+use Rattle.world_law.proofs.{frames.Masters.ends_differ, rows.{Apart.{precise, row_apart}, Dispatching.IsLawful, Reached.{ShowsAt, cycles_apart, shows_at}}}
+use Rattle.run_law.specs.declared.note.NoteBody.TheVariants as kinds
 
 -- ---- two rows of one link are far apart
 

@@ -1,37 +1,14 @@
 -- A device's clock reaches a value: what it shows then, and what it has taken by then.
-use Rattle.std.proofs.Common.{◌≡◌, ℕ, suc, ◌+◌, ◌-◌, ◌*◌, ◌≤◌, ◌<◌, ℤ, pos, ◌+ℤ◌, ◌-ℤ◌, ◌≤ℤ◌, ◌<ℤ◌, true, List, ◌∷◌, inl, inr, sym, ap, subst, ◌∙◌, arith}
-use Rattle.std.proofs.Math.Nat.{mul-le-mul_right}
-use Rattle.std.specs.Int.{int_div_euclid, int_rem_euclid}
-use Rattle.std.proofs.lemmas.Bool.{cases_lt}
-use Rattle.std.proofs.lemmas.Int.{ints}
-use Rattle.net_plan.specs.Ranges.{IsInRange}
-use Rattle.net_plan.specs.declared.ids.DeviceId.{DeviceId}
-use Rattle.net_plan.specs.declared.ids.VlId.{VlId}
-use Rattle.net_plan.specs.declared.network.Network.{Network}
-use Rattle.run_law.proofs.law.FirstPlaces.{IsFoundedAt, founded_at}
-use Rattle.run_law.specs.device.LocalClocks.{Reaches, changed_at, local_before}
-use Rattle.run_law.specs.device.Standpoints.{natural, offset_in_cycle}
-use Rattle.run_law.specs.device.States.{adjustment_after, adjustment_before}
-use Rattle.run_law.specs.records.Happenings.{Happening, earlier, time_of}
-use Rattle.run_law.specs.records.Order.{IsIn}
-use Rattle.run_law.specs.records.Ranks.{place_of}
-use Rattle.run_law.specs.runs.DueRecords.{IsCaused, IsDue}
-use Rattle.run_law.specs.runs.Runs.{IsFounded}
-use Rattle.run_law.specs.scenario.Devices.{is_end}
-use Rattle.run_law.specs.scenario.Scenarios.{Scenario}
+use Rattle.world_law.proofs.Words.{◌*◌, ◌+ℤ◌, ◌+◌, ◌-ℤ◌, ◌-◌, ◌<ℤ◌, ◌<◌, ◌∙◌, ◌∷◌, ◌≡◌, ◌≤ℤ◌, ◌≤◌, DeviceId, Entry, Happening, IsCaused, IsDue, IsEntry}
+use Rattle.world_law.proofs.Words.{IsFounded, IsIn, IsInRange, IsSteady, KeepsRules, List, Network, Reaches, Scenario, VlId, adjustment_after}
+use Rattle.world_law.proofs.Words.{adjustment_before, amount, ap, arith, cases_lt, changed_at, earlier, founded_at, inl, inr, ints, is_end, local_before}
+use Rattle.world_law.proofs.Words.{place_of, pos, source_of, subst, suc, sym, time_of, true, ℕ, ℤ}
+use Rattle.std.{proofs.Math.Nat.mul-le-mul_right, specs.Int.{int_div_euclid, int_rem_euclid}}
+use Rattle.run_law.{proofs.law.FirstPlaces.IsFoundedAt, specs.device.Standpoints.{natural, offset_in_cycle}}
+use Rattle.schedule_tables.specs.{Windows.window_end, declared.rule.Rule.TheVariants.{Forwarding, WindowEnds}}
+use Rattle.tte_lemmas.proofs.{Integers.whole as not_negative, Naturals.same_heads}
+use Rattle.world_law.proofs.{devices.Resting.in_time_of, rows.Entered.{IsTakenAt, delivered_end, taken_at, value_in}, runs.SourcesBack.earlier_still}
 use Rattle.run_law.specs.declared.note.NoteBody.TheVariants as notes
-use Rattle.schedule_tables.specs.Entries.{IsEntry, source_of}
-use Rattle.schedule_tables.specs.Rules.{KeepsRules}
-use Rattle.schedule_tables.specs.Windows.{window_end}
-use Rattle.schedule_tables.specs.declared.entry.Entry.{Entry}
-use Rattle.schedule_tables.specs.declared.rule.Rule.TheVariants.{Forwarding, WindowEnds}
-use Rattle.tte_lemmas.proofs.Integers.{whole as not_negative}
-use Rattle.tte_lemmas.proofs.Naturals.{same_heads}
-use Rattle.tte_units.specs.Amount.{amount}
-use Rattle.world_law.proofs.devices.Resting.{in_time_of}
-use Rattle.world_law.proofs.rows.Entered.{IsTakenAt, delivered_end, taken_at, value_in}
-use Rattle.world_law.proofs.runs.SourcesBack.{earlier_still}
-use Rattle.world_law.specs.device.Ready.{IsSteady}
 
 -- ---- what the clock shows where it reaches a value
 

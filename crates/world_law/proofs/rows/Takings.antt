@@ -1,24 +1,11 @@
 -- What a device took by the records stays, whatever other records come, and however they are numbered.
-use Rattle.std.proofs.Common.{◌≡◌, ℕ, ℤ, ◌≤◌, pos, ◌+ℤ◌, List, [], ◌∷◌, ◌++◌, map, inl, inr, refl, sym, ap, ◌∙◌, arith}
-use Rattle.std.specs.Prelude.{nat_lt}
-use Rattle.std.proofs.lemmas.Bool.{le-ltb}
+use Rattle.world_law.proofs.Words.{◌++◌, ◌+ℤ◌, ◌∙◌, ◌∷◌, ◌≡◌, ◌≤◌, DeviceId, Happening, IsIn, List, NoteBody, Scenario, TakenFrame, Units, [], adjustment_after}
+use Rattle.world_law.proofs.Words.{adjustment_before, ap, append-nil, arith, earlier, frames_taken, in_parts, inl, inr, le-ltb, local_before, map, nat_lt}
+use Rattle.world_law.proofs.Words.{plain_body, plains, pos, refl, sym, taken_by, time_of, ℕ, ℤ}
 use Rattle.std.proofs.lemmas.Grind.{flat_map-append}
-use Rattle.std.proofs.lemmas.List.{append-nil}
-use Rattle.net_plan.specs.declared.ids.DeviceId.{DeviceId}
-use Rattle.run_law.proofs.runs.Places.{in_parts}
-use Rattle.run_law.specs.device.LocalClocks.{local_before}
-use Rattle.run_law.specs.device.States.{adjustment_after, adjustment_before}
-use Rattle.run_law.specs.machines.Nodes.{TakenFrame}
-use Rattle.run_law.specs.records.Happenings.{Happening, earlier, time_of}
-use Rattle.run_law.specs.records.Order.{IsIn}
-use Rattle.run_law.specs.scenario.Scenarios.{Scenario}
+use Rattle.world_law.proofs.{devices.Plains.{adjustments_plain, earlier_plain}, putting.Idle.{IsIdle, adjusted_earlier_put, bump, drop_one, plains_put}}
+use Rattle.world_law.specs.device.Takings.{taken_in}
 use Rattle.run_law.specs.declared.note.NoteBody.TheVariants as notes
-use Rattle.run_law.specs.declared.note.NoteBody.{NoteBody}
-use Rattle.tte_units.specs.declared.units.Units.{Units}
-use Rattle.world_law.proofs.devices.Plains.{adjustments_plain, earlier_plain}
-use Rattle.world_law.proofs.putting.Idle.{IsIdle, adjusted_earlier_put, bump, drop_one, plains_put}
-use Rattle.world_law.specs.device.Plain.{plain_body, plains}
-use Rattle.world_law.specs.device.Takings.{frames_taken, taken_by, taken_in}
 
 -- by the record the device takes no frame
 abbrev pub IsNoTaking : DeviceId → NoteBody → Type 0
@@ -175,13 +162,3 @@ frames_alike s r hs device now adjusted reads sooner =
     ∙ ap (λ (u : Units). pos (r.reading device (time_of h)) +ℤ u.0) (adjusted (time_of h)))
 
 -- ---- any record put in, with those behind it renumbered
-
--- that they are does not count
-pub frames_bumped : (s : Scenario) (ps b : List Happening) (w : Happening) (device : DeviceId)
-    → frames_taken s (ps ++ w ∷ map bump b) device ≡ frames_taken s (ps ++ w ∷ b) device
-frames_bumped s ps b w device = frames_by_others s (ps ++ w ∷ map bump b) (ps ++ w ∷ b) device (plains_put ps b w)
-
--- a record by which the device takes none, put in at its place among others that are no later
-pub frames_unmoved : (s : Scenario) (ps b : List Happening) (w : Happening) (device : DeviceId) → IsNoTaking device w.note.body
-    → ((h : Happening) → IsIn h (ps ++ b) → time_of h ≤ time_of w) → frames_taken s (ps ++ w ∷ map bump b) device ≡ frames_taken s (ps ++ b) device
-frames_unmoved s ps b w device none sooner = frames_bumped s ps b w device ∙ frames_put s ps b w device none sooner

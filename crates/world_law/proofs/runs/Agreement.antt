@@ -1,33 +1,15 @@
 -- What is due at a time is so in each scenario that agrees up to then.
-use Rattle.std.proofs.Common.{◌≡◌, ℕ, ◌+◌, ◌-◌, ◌≤◌, ◌<◌, ℤ, pos, ◌+ℤ◌, ◌<ℤ◌, ◌≤ℤ◌, Bool, true, false, not, ◌&&◌, ◌||◌, ◌==◌, if◌then◌else◌, int_lt, int_le, List, [], ◌∷◌, Option, Some, None, filter, filter_map, IfSome, inl, inr, refl, sym, ap, subst, ◌∙◌, arith}
-use Rattle.std.specs.Prelude.{nat_lt, nat_le}
-use Rattle.std.specs.List.{list_any, after_last, last_or}
-use Rattle.std.specs.Option.{option_map_or, unwrap_or}
-use Rattle.std.proofs.lemmas.Bool.{and_parts, both_ways, cases_Bool, cases_lt, eqb-true, false_from_ne_true, le-leb, le-ltb, lt-ltb}
-use Rattle.std.proofs.lemmas.Int.{ints}
-use Rattle.drift_clock.specs.Reach.{IsReach}
+use Rattle.world_law.proofs.Words.{if◌then◌else◌, ◌&&◌, ◌+ℤ◌, ◌+◌, ◌-◌, ◌<ℤ◌, ◌<◌, ◌==◌, ◌||◌, ◌∙◌, ◌∷◌, ◌≡◌, ◌≤ℤ◌, ◌≤◌, Agree, Bool, ComesToCorrection}
+use Rattle.world_law.proofs.Words.{DeviceId, Event, Happening, IfSome, Integrating, IsIn, IsReach, List, Network, None, Option, Reaches, Sends, Some, Standing}
+use Rattle.world_law.proofs.Words.{State, Verdict, What, [], adjustment_before, after_last, amount, and_parts, ap, arith, both_ways, cases_Bool, cases_lt}
+use Rattle.world_law.proofs.Words.{changed_at, changes_adjustment, correction_value, earlier, eqb-true, false, false_from_ne_true, filter, filter_map}
+use Rattle.world_law.proofs.Words.{has_cleared, heard_since, hearing_by, in_filter, inl, inr, int_le, int_lt, ints, is_broken, is_integration_cycle}
+use Rattle.world_law.proofs.Words.{is_turned_on_at, last_or, le-ltb, list_any, local_at_change, lt-ltb, nat_le, nat_lt, next_cycle, next_point, not}
+use Rattle.world_law.proofs.Words.{option_map_or, pos, recorded_cycle, refl, same_kept, scenario, state_after, state_before, subst, sym, time_of, true, ℕ, ℤ}
+use Rattle.std.{proofs.lemmas.Bool.le-leb, specs.Option.unwrap_or}
 use Rattle.membership.specs.Summary.{Summarizes}
-use Rattle.net_plan.specs.declared.event.Event.{Event}
-use Rattle.net_plan.specs.declared.event.What.{What}
-use Rattle.net_plan.specs.declared.ids.DeviceId.{DeviceId}
-use Rattle.net_plan.specs.declared.network.Network.{Network}
-use Rattle.run_law.proofs.law.FirstPlaces.{in_filter}
-use Rattle.run_law.proofs.records.Order.{in_drop, same_kept}
-use Rattle.run_law.specs.control.Corrections.{ComesToCorrection, correction_value, has_cleared, hearing_by, heard_since, is_integration_cycle, next_cycle, recorded_cycle, standing_before}
-use Rattle.run_law.specs.device.LocalClocks.{Reaches, changed_at, changes_adjustment, local_at_change}
-use Rattle.run_law.specs.device.States.{adjustment_before, state_after, state_before}
-use Rattle.run_law.specs.records.Happenings.{Happening, earlier, time_of}
-use Rattle.run_law.specs.records.Order.{IsIn}
-use Rattle.run_law.specs.scenario.Hypothesis.{breaks_at}
-use Rattle.run_law.specs.scenario.Scenarios.{is_broken, is_turned_on_at, last_set, turns_on}
-use Rattle.run_law.specs.timed.Dispatching.{Sends}
-use Rattle.sync_state.specs.Standing.{Standing, next_point}
+use Rattle.run_law.{proofs.records.Order.in_drop, specs.{control.Corrections.standing_before, scenario.{Hypothesis.breaks_at, Scenarios.{last_set, turns_on}}}}
 use Rattle.sync_state.specs.Verdicts.{HasVerdict}
-use Rattle.sync_state.specs.declared.answers.Verdict.{Verdict}
-use Rattle.sync_state.specs.declared.state.State.TheVariants.{Integrating}
-use Rattle.sync_state.specs.declared.state.State.{State}
-use Rattle.tte_units.specs.Amount.{amount}
-use Rattle.world_law.specs.source.Agreeing.{Agree, scenario}
 
 -- ---- the events
 

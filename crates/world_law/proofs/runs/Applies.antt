@@ -1,33 +1,15 @@
 -- A run goes on by the record of an event.
-use Rattle.std.proofs.Common.{◌≡◌, ◌⊎◌, ℕ, ◌+◌, ◌≤◌, ◌<◌, List, [], ◌∷◌, ◌++◌, length, inl, inr, refl, sym, ap, subst, ◌∙◌, arith}
-use Rattle.std.proofs.lemmas.Bool.{cases_lt}
-use Rattle.std.proofs.lemmas.List.{length-map}
+use Rattle.world_law.proofs.Words.{◌++◌, ◌+◌, ◌<◌, ◌∙◌, ◌∷◌, ◌≡◌, ◌≤◌, ◌⊎◌, Agree, AllBefore, DeviceId, Event, Happening, IsBefore, IsCaused, IsDue}
+use Rattle.world_law.proofs.Words.{IsEventRecord, IsIn, IsScenarioRun, List, Network, Note, NoteBody, Scenario, Units, What, [], amount, ap, arith, behind}
+use Rattle.world_law.proofs.Words.{cases_lt, happening, happenings, in_front, in_right, inl, inr, key, length, length-map, members_in, never_self, parted}
+use Rattle.world_law.proofs.Words.{place_of, rank, refl, scenario, slice_get_within, subst, sym, time_of, ℕ}
 use Rattle.std.proofs.lemmas.List.Elements.{Contains-push_cases}
-use Rattle.std.proofs.lemmas.Option.{slice_get_within}
-use Rattle.net_plan.specs.declared.event.Event.{Event}
-use Rattle.net_plan.specs.declared.event.What.{What}
-use Rattle.net_plan.specs.declared.ids.DeviceId.{DeviceId}
-use Rattle.net_plan.specs.declared.network.Network.{Network}
-use Rattle.run_law.proofs.law.FirstPlaces.{at_length, in_front}
-use Rattle.run_law.proofs.records.Order.{time_before}
-use Rattle.run_law.proofs.runs.Grow.{grow}
-use Rattle.run_law.proofs.runs.NetworkRuns.{one_more, same_notes}
-use Rattle.run_law.proofs.runs.Places.{in_right, never_self, parted}
-use Rattle.run_law.specs.records.Happenings.{Happening, happening, happenings, time_of}
-use Rattle.run_law.specs.records.Order.{AllBefore, IsBefore, IsIn, behind}
-use Rattle.run_law.specs.records.Ranks.{key, members_in, place_of, rank}
-use Rattle.run_law.specs.runs.DueRecords.{EndsAt, IsCaused, IsDue, IsEventRecord, IsScenarioRun}
-use Rattle.run_law.specs.runs.Runs.{IsRun}
-use Rattle.run_law.specs.scenario.Scenarios.{Scenario}
-use Rattle.run_law.specs.declared.note.Note.{Note}
-use Rattle.run_law.specs.declared.note.NoteBody.TheVariants as notes
-use Rattle.run_law.specs.declared.note.NoteBody.{NoteBody}
+use Rattle.run_law.proofs.{law.FirstPlaces.at_length, records.Order.time_before, runs.{Grow.grow, NetworkRuns.{one_more, same_notes}}}
+use Rattle.run_law.specs.runs.{DueRecords.EndsAt, Runs.IsRun}
 use Rattle.tte_lemmas.proofs.Lists.{pushed}
-use Rattle.tte_units.specs.Amount.{amount}
-use Rattle.tte_units.specs.declared.units.Units.{Units}
 use Rattle.world_law.proofs.runs.SameCauses.{AreUpTo, IsOwn, caused_same}
-use Rattle.world_law.specs.source.Agreeing.{Agree, scenario}
 use Rattle.world_law.specs.source.Applying.{IsEventBody, MayBefall, RunGoesOnByEvent, note_of_event, place_of_event}
+use Rattle.run_law.specs.declared.note.NoteBody.TheVariants as notes
 
 pub agree_back : (n : Network) (f g : DeviceId → ℕ → ℕ) (events more : List Event) (t : ℕ) → Agree n f g events more t → Agree n g f more events t
 agree_back n f g events more t a = record { reads = λ device x le. sym (a.reads device x le); befell = λ u le. sym (a.befell u le) }

@@ -1,15 +1,7 @@
 -- Where no source and nothing settled is before a place, nothing that is due is.
-use Rattle.std.proofs.Common.{◌≡◌, ◌⊎◌, ℕ, zero, suc, ◌+◌, List, [], ◌∷◌, ◌++◌, length, Some, inl, inr, sym, subst, arith}
-use Rattle.net_plan.specs.declared.ids.DeviceId.{DeviceId}
-use Rattle.net_plan.specs.declared.ids.LinkId.{LinkId}
-use Rattle.run_law.proofs.law.FirstPlaces.{in_front}
-use Rattle.run_law.proofs.runs.Places.{chain}
-use Rattle.run_law.specs.records.Happenings.{Happening, numbered, time_of}
-use Rattle.run_law.specs.control.Leaving.{Gives}
-use Rattle.run_law.specs.records.Order.{IsBefore}
-use Rattle.run_law.specs.scenario.Scenarios.{Scenario}
-use Rattle.run_law.specs.control.Wires.{Arrives, Signal}
-use Rattle.run_law.specs.scenario.Ways.{hold_at, way_from}
+use Rattle.world_law.proofs.Words.{◌++◌, ◌+◌, ◌∷◌, ◌≡◌, ◌⊎◌, Arrives, DeviceId, Gives, Happening, IsBefore, LinkId, List, Scenario, Signal, Some, [], arith}
+use Rattle.world_law.proofs.Words.{chain, in_front, inl, inr, length, numbered, subst, suc, sym, time_of, way_from, zero, ℕ}
+use Rattle.run_law.specs.scenario.Ways.{hold_at}
 use Rattle.tte_lemmas.proofs.Lists.{pushed}
 use Rattle.world_law.specs.source.Sources.{IsArriving, IsDeparting}
 

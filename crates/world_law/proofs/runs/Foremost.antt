@@ -1,35 +1,14 @@
 -- Where nothing that a world has under way is before a place, no source that is not worked off is, but for acts.
-use Rattle.std.proofs.Common.{◌≡◌, ℕ, ◌+◌, ◌≤◌, ◌<◌, pos, Bool, true, false, ◌&&◌, ◌||◌, ◌==◌, List, [], ◌∷◌, inl, inr, refl, sym, ap, subst, ◌∙◌, arith}
+use Rattle.world_law.proofs.Words.{◌&&◌, ◌+◌, ◌<◌, ◌==◌, ◌||◌, ◌∙◌, ◌∷◌, ◌≡◌, ◌≤◌, Bool, DeviceId, Dispatches, Happening, HasDone, HasSent, HasTaskBy}
+use Rattle.world_law.proofs.Words.{HaveBefallen, IsActing, IsAtRest, IsBefore, IsIn, IsLeft, IsReach, IsSource, LinkId, List, Network, Node, Note, NoteBody}
+use Rattle.world_law.proofs.Words.{Scenario, Stands, Units, VlId, Waiting, World, [], act_place, amount, ap, arith, cases_Bool, cases_lt, chain, clock_place}
+use Rattle.world_law.proofs.Words.{eqb-true, false, false_from_ne_true, happenings, inl, inr, is_turned_on_at, list_any, moves, place_of, pos, refl, ripe_place}
+use Rattle.world_law.proofs.Words.{slice_get_within, subst, sym, time_of, true, ℕ}
 use Rattle.std.specs.Prelude.{unsigned_abs}
-use Rattle.std.proofs.lemmas.Bool.{cases_Bool, cases_lt, eqb-true, false_from_ne_true}
-use Rattle.std.proofs.lemmas.Option.{slice_get_within}
-use Rattle.std.specs.List.{list_any}
 use Rattle.drift_clock.proofs.Reaches.{one_reach}
-use Rattle.drift_clock.specs.Reach.{IsReach}
-use Rattle.net_plan.specs.declared.ids.DeviceId.{DeviceId}
-use Rattle.net_plan.specs.declared.ids.LinkId.{LinkId}
-use Rattle.net_plan.specs.declared.ids.VlId.{VlId}
-use Rattle.net_plan.specs.declared.network.Network.{Network}
-use Rattle.run_law.proofs.law.FirstPlaces.{numbered_in}
-use Rattle.run_law.proofs.runs.Places.{chain}
-use Rattle.run_law.specs.timed.Dispatching.{Dispatches}
-use Rattle.run_law.specs.records.Happenings.{Happening, happenings, time_of}
-use Rattle.run_law.specs.machines.Nodes.{Node}
-use Rattle.run_law.specs.records.Order.{IsBefore, IsIn}
-use Rattle.run_law.specs.records.Ranks.{place_of}
-use Rattle.run_law.specs.scenario.Scenarios.{is_turned_on_at, turns_on, Scenario}
-use Rattle.run_law.specs.declared.note.Note.{Note}
-use Rattle.run_law.specs.declared.note.NoteBody.{NoteBody}
-use Rattle.tte_units.specs.Amount.{amount}
-use Rattle.tte_units.specs.declared.units.Units.{Units}
-use Rattle.world_law.proofs.acts.Acting.{IsUnmoved, correcting_task, emitting_task, sending_task}
-use Rattle.world_law.proofs.giving.Given.{in_get, no_later_breaks, some_same}
-use Rattle.world_law.proofs.runs.SourcesBack.{arrives_later}
-use Rattle.world_law.specs.device.Left.{HasDone, HasSent, HasTaskBy, IsLeft}
-use Rattle.world_law.specs.device.Own.{moves}
-use Rattle.world_law.specs.source.Sources.{IsRipening, IsActing, IsSource}
-use Rattle.world_law.specs.world.Moves.{NothingBefore}
-use Rattle.world_law.specs.world.World.{IsWaitingFor, Stands, Waiting, World, ripe_place, act_place, clock_place, HaveBefallen, IsAtRest}
+use Rattle.run_law.{proofs.law.FirstPlaces.numbered_in, specs.scenario.Scenarios.turns_on}
+use Rattle.world_law.proofs.{acts.Acting.{IsUnmoved, correcting_task, emitting_task, sending_task}, giving.Given.{in_get, no_later_breaks, some_same}}
+use Rattle.world_law.{proofs.runs.SourcesBack.arrives_later, specs.{source.Sources.IsRipening, world.{Moves.NothingBefore, World.IsWaitingFor}}}
 
 -- no act that is not worked off is before the place
 abbrev pub NoActBefore : Scenario → List Happening → List ℕ → List ℕ → Type 0

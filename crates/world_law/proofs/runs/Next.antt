@@ -1,8 +1,6 @@
 -- What is next in a run: the first of what is due behind all of it.
-use Rattle.std.proofs.Common.{◌≡◌, ℕ, List, [], ◌∷◌, ◌++◌, inl, inr, refl, sym, subst, ◌∙◌}
-use Rattle.std.proofs.lemmas.List.{append-nil}
-use Rattle.run_law.proofs.runs.Places.{before_later, before_or_not, in_right}
-use Rattle.run_law.specs.records.Order.{AllBefore, IsBefore, IsIn, NoneBefore}
+use Rattle.world_law.proofs.Words.{◌++◌, ◌∙◌, ◌∷◌, ◌≡◌, AllBefore, IsBefore, IsIn, List, NoneBefore, [], append-nil, before_later, before_or_not, in_right, inl}
+use Rattle.world_law.proofs.Words.{inr, refl, subst, sym, ℕ}
 use Rattle.run_law.specs.runs.Runs.{IsNextOf, IsRun, NothingDueUpTo}
 use Rattle.world_law.specs.source.Next.{NoneDueBefore}
 

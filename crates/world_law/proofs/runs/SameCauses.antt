@@ -1,52 +1,17 @@
 -- What causes a record at a time causes it in each scenario that agrees up to then.
-use Rattle.std.proofs.Common.{◌≡◌, ℕ, ◌+◌, ◌-◌, ◌≤◌, pos, Bool, false, not, ◌&&◌, if◌then◌else◌, List, Option, Some, None, inl, inr, refl, sym, ap, subst, ◌∙◌}
-use Rattle.std.specs.Prelude.{nat_lt}
-use Rattle.compression.specs.declared.compressed.Compressed.{Compressed}
-use Rattle.net_plan.specs.declared.event.Event.{Event}
-use Rattle.net_plan.specs.declared.event.What.TheVariants.{Send}
-use Rattle.net_plan.specs.declared.ids.DeviceId.{DeviceId}
-use Rattle.net_plan.specs.declared.ids.LinkId.{LinkId}
-use Rattle.net_plan.specs.declared.ids.VlId.{VlId}
-use Rattle.net_plan.specs.declared.network.Network.{Network}
-use Rattle.net_plan.specs.declared.tables.Way.TheVariants.{Up}
-use Rattle.net_plan.specs.declared.tables.Way.{Way}
-use Rattle.pcf_values.specs.declared.pcf.Pcf.{Pcf}
-use Rattle.run_law.proofs.records.Happenings.{numbered_in}
-use Rattle.run_law.specs.control.Collections.{points_of, observation_window}
-use Rattle.run_law.specs.control.Arrivals.{control_arrival}
-use Rattle.run_law.specs.scenario.Devices.{plan_of}
-use Rattle.run_law.specs.timed.Dispatching.{Dispatches}
-use Rattle.run_law.specs.control.Emissions.{Emits}
-use Rattle.run_law.specs.records.Happenings.{Happening, numbered, time_of}
-use Rattle.run_law.specs.control.Hearing.{heard_as}
-use Rattle.run_law.specs.control.Leaving.{Departs, Departure, departure, leaves, on_cut_way, too_old}
-use Rattle.run_law.specs.records.Order.{IsIn}
-use Rattle.run_law.specs.control.Permanence.{IsPermanenceOutcome, BecomesPermanent, before_permanence}
-use Rattle.run_law.specs.timed.Receptions.{ArrivesAs, arrival_of, last_taken}
-use Rattle.run_law.specs.control.Losses.{IsDropped, IsLost}
-use Rattle.run_law.specs.device.StateChanges.{ChangesState}
-use Rattle.run_law.specs.runs.DueRecords.{IsArrivedRecord, IsCaused}
-use Rattle.run_law.specs.scenario.Scenarios.{is_broken}
-use Rattle.run_law.specs.device.Standpoints.{Standpoint, standpoint}
-use Rattle.run_law.specs.device.States.{adjustment_at_hearing, adjustment_before, has_joined_at, is_off, state_at_hearing, state_before}
-use Rattle.run_law.specs.timed.Arrivals.{timed_arrival}
-use Rattle.run_law.specs.control.Wires.{Arrives, Launch, Signal, control, launched, signal_of, time_on_port, timed}
-use Rattle.run_law.specs.scenario.Ways.{cut_set, delay_at, hold_at, hold_set, is_cut, way_from, wire_of, wire_set}
-use Rattle.run_law.specs.declared.judgement.Judgement.{Judgement}
-use Rattle.run_law.specs.declared.judgement.Reason.{Reason}
-use Rattle.run_law.specs.declared.judgement.Why.TheVariants as whys
-use Rattle.run_law.specs.declared.judgement.Why.{Why}
-use Rattle.run_law.specs.declared.note.NoteBody.TheVariants as notes
-use Rattle.run_law.specs.declared.note.NoteBody.{NoteBody}
-use Rattle.run_law.specs.declared.steps.Arrival.{Arrival}
-use Rattle.run_law.specs.declared.steps.Ripe.{Ripe}
-use Rattle.sync_state.specs.declared.state.State.TheVariants.{Joining}
-use Rattle.sync_state.specs.declared.state.State.{State}
+use Rattle.world_law.proofs.Words.{if◌then◌else◌, ◌&&◌, ◌+◌, ◌-◌, ◌∙◌, ◌≡◌, ◌≤◌, Agree, Arrival, Arrives, ArrivesAs, BecomesPermanent, Bool, ChangesState}
+use Rattle.world_law.proofs.Words.{Compressed, Departs, Departure, DeviceId, Dispatches, Emits, Event, Happening, IsArrivedRecord, IsCaused, IsDropped, IsIn}
+use Rattle.world_law.proofs.Words.{IsLost, Joining, Judgement, Launch, LinkId, List, Network, None, NoteBody, Option, Pcf, Reason, Ripe, Send, Signal, Some}
+use Rattle.world_law.proofs.Words.{Standpoint, State, Units, Up, VlId, Way, Why, adjustment_at_hearing, adjustment_before, amount, ap, arrival_of}
+use Rattle.world_law.proofs.Words.{before_permanence, control, control_arrival, false, has_joined_at, heard_as, inl, inr, is_broken, is_cut, last_taken}
+use Rattle.world_law.proofs.Words.{launched, nat_lt, not, numbered, observation_window, plan_of, points_of, pos, refl, scenario, signal_of, standpoint}
+use Rattle.world_law.proofs.Words.{state_at_hearing, state_before, subst, sym, time_of, timed, timed_arrival, way_from, ℕ}
+use Rattle.run_law.{proofs.records.Happenings.numbered_in, specs.control.{Leaving.{departure, leaves, on_cut_way, too_old}, Permanence.IsPermanenceOutcome}}
+use Rattle.run_law.specs.{control.Wires.time_on_port, device.States.is_off, scenario.Ways.{cut_set, delay_at, hold_at, hold_set, wire_of, wire_set}}
 use Rattle.transparent_clock.specs.Points.{point_of}
-use Rattle.tte_units.specs.Amount.{amount}
-use Rattle.tte_units.specs.declared.units.Units.{Units}
 use Rattle.world_law.proofs.runs.Agreement.{broken_same, comes_same, reach_same, reaches_same, sends_same, setting_same, state_same}
-use Rattle.world_law.specs.source.Agreeing.{Agree, scenario}
+use Rattle.run_law.specs.declared.judgement.Why.TheVariants as whys
+use Rattle.run_law.specs.declared.note.NoteBody.TheVariants as notes
 
 -- no record of the list is later than the time
 abbrev pub AreUpTo : ℕ → List Happening → Type 0

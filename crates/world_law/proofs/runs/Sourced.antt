@@ -1,33 +1,12 @@
 -- Each record that is due has a source.
-use Rattle.std.proofs.Common.{◌≡◌, ◌⊎◌, ℕ, List, [], ◌∷◌, Option, Some, option_and_then, inl, inr, refl, sym, ap, ◌∙◌, arith}
-use Rattle.std.specs.Option.{option_map_or}
-use Rattle.net_plan.specs.declared.ids.DeviceId.{DeviceId}
-use Rattle.net_plan.specs.declared.ids.LinkId.{LinkId}
-use Rattle.net_plan.specs.declared.network.Network.{Network}
-use Rattle.pcf_values.specs.declared.pcf.Pcf.{Pcf}
-use Rattle.run_law.specs.control.Corrections.{ComesToCorrection}
-use Rattle.run_law.specs.control.Leaving.{Departs, Departure}
-use Rattle.run_law.specs.control.Losses.{IsDropped, IsLost}
-use Rattle.run_law.specs.control.Permanence.{BecomesPermanent}
-use Rattle.run_law.specs.declared.judgement.Reason.{Reason}
+use Rattle.world_law.proofs.Words.{◌∙◌, ◌∷◌, ◌≡◌, ◌⊎◌, Arrival, ArrivesAs, BecomesPermanent, ChangesState, ComesToCorrection, Departs, Departure, DeviceId}
+use Rattle.world_law.proofs.Words.{Happening, IsActing, IsArrivedRecord, IsAtCorrection, IsBefore, IsCaused, IsDropped, IsDue, IsLost, IsOwnSource, IsSource}
+use Rattle.world_law.proofs.Words.{LinkId, List, Network, NoteBody, Option, Pcf, Reason, Ripe, Scenario, Some, State, Units, Verdict, Why, [], amount, ap}
+use Rattle.world_law.proofs.Words.{arith, frame_by, inl, inr, key, members_in, option_and_then, option_map_or, rank, refl, sym, ℕ}
+use Rattle.run_law.specs.records.Happenings.{frame_from}
+use Rattle.world_law.specs.source.Sources.{IsArriving, IsDeparting, IsRipening, IsSourced}
 use Rattle.run_law.specs.declared.judgement.Why.TheVariants as whys
-use Rattle.run_law.specs.declared.judgement.Why.{Why}
 use Rattle.run_law.specs.declared.note.NoteBody.TheVariants as notes
-use Rattle.run_law.specs.declared.note.NoteBody.{NoteBody}
-use Rattle.run_law.specs.declared.steps.Arrival.{Arrival}
-use Rattle.run_law.specs.declared.steps.Ripe.{Ripe}
-use Rattle.run_law.specs.device.StateChanges.{ChangesState}
-use Rattle.run_law.specs.records.Happenings.{Happening, frame_by, frame_from}
-use Rattle.run_law.specs.records.Order.{IsBefore}
-use Rattle.run_law.specs.records.Ranks.{key, members_in, rank}
-use Rattle.run_law.specs.runs.DueRecords.{IsArrivedRecord, IsCaused, IsDue}
-use Rattle.run_law.specs.scenario.Scenarios.{Scenario}
-use Rattle.run_law.specs.timed.Receptions.{ArrivesAs}
-use Rattle.sync_state.specs.declared.answers.Verdict.{Verdict}
-use Rattle.sync_state.specs.declared.state.State.{State}
-use Rattle.tte_units.specs.Amount.{amount}
-use Rattle.tte_units.specs.declared.units.Units.{Units}
-use Rattle.world_law.specs.source.Sources.{IsActing, IsOwnSource, IsAtCorrection, IsArriving, IsDeparting, IsRipening, IsSource, IsSourced}
 
 -- a source of the time at this place or before
 abbrev IsSourcedAt : Scenario → List Happening → ℕ → ℕ → NoteBody → List ℕ → Type 0

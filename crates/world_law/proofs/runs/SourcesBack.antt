@@ -1,40 +1,14 @@
 -- What is to come brings no source that is not behind it.
-use Rattle.std.proofs.Common.{◌≡◌, ◌⊎◌, ℕ, zero, suc, ◌≤◌, ◌<◌, pos, ℤ, ◌<ℤ◌, ◌-ℤ◌, if◌then◌else◌, List, [], ◌∷◌, ◌++◌, Some, None, slice_get, filter, append_assoc, inl, inr, refl, sym, ap, subst, ◌∙◌, arith}
-use Rattle.std.specs.Prelude.{nat_lt, unsigned_abs}
-use Rattle.std.specs.List.{after_last, last_or}
-use Rattle.std.proofs.lemmas.List.{append-nil}
-use Rattle.std.proofs.lemmas.List.Elements.{filter-append}
-use Rattle.std.proofs.lemmas.Int.{ints}
-use Rattle.std.proofs.lemmas.Bool.{cases_Bool, cases_lt}
-use Rattle.compression.specs.Clusters.{AreClusters, Point}
-use Rattle.drift_clock.specs.Reach.{IsReach}
-use Rattle.net_plan.specs.declared.ids.DeviceId.{DeviceId}
-use Rattle.net_plan.specs.declared.ids.LinkId.{LinkId}
-use Rattle.net_plan.specs.declared.network.Network.{Network}
-use Rattle.run_law.proofs.silent.Due.{no_cluster}
-use Rattle.run_law.specs.control.Collections.{ends_stretch, point_by, points_of, observation_window}
-use Rattle.run_law.specs.control.Corrections.{integration_cycle}
-use Rattle.run_law.specs.control.Emissions.{Emits}
-use Rattle.run_law.specs.control.Hearing.{heard_as}
-use Rattle.run_law.specs.control.Leaving.{Gives}
-use Rattle.run_law.specs.control.Wires.{Arrives, Signal}
+use Rattle.world_law.proofs.Words.{if◌then◌else◌, ◌++◌, ◌-ℤ◌, ◌<ℤ◌, ◌<◌, ◌∙◌, ◌∷◌, ◌≡◌, ◌≤◌, ◌⊎◌, AreClusters, Arrives, DeviceId, Dispatches, Emits, Gives}
+use Rattle.world_law.proofs.Words.{Happening, Integrating, IsActing, IsBefore, IsForward, IsIn, IsReach, IsSource, LinkId, List, Network, None, NoneBefore}
+use Rattle.world_law.proofs.Words.{NoteBody, Point, Reaches, Scenario, Signal, Some, Standing, Synchronised, [], adjustment_after, adjustment_at_hearing}
+use Rattle.world_law.proofs.Words.{after_last, ap, append-nil, append_assoc, arith, cases_Bool, cases_lt, earlier, ends_stretch, filter, filter-append}
+use Rattle.world_law.proofs.Words.{heard_as, inl, inr, integration_cycle, ints, is_accepted, is_turned_on_at, last_or, nat_lt, next_point, no_cluster, numbered}
+use Rattle.world_law.proofs.Words.{observation_window, place_of, plan_of, point_by, points_of, pos, rank, refl, slice_get, state_after, state_at_hearing, subst}
+use Rattle.world_law.proofs.Words.{suc, sym, time_of, zero, ℕ, ℤ}
+use Rattle.run_law.specs.timed.Dispatching.{IsUp}
+use Rattle.world_law.{proofs.{devices.OwnRecords.earlier_no, lists.Lists.{behind_no, behind_yes, map_none}}, specs.device.Told.{change_in, local_in, next_in}}
 use Rattle.run_law.specs.declared.note.NoteBody.TheVariants as notes
-use Rattle.run_law.specs.declared.note.NoteBody.{NoteBody}
-use Rattle.run_law.specs.device.LocalClocks.{Reaches}
-use Rattle.run_law.specs.device.States.{adjustment_after, adjustment_at_hearing, state_after, state_at_hearing}
-use Rattle.run_law.specs.records.Happenings.{Happening, earlier, numbered, time_of}
-use Rattle.run_law.specs.records.Order.{IsBefore, IsIn, NoneBefore}
-use Rattle.run_law.specs.records.Ranks.{place_of, rank}
-use Rattle.run_law.specs.scenario.Devices.{plan_of}
-use Rattle.run_law.specs.scenario.Scenarios.{Scenario, is_turned_on_at}
-use Rattle.run_law.specs.timed.Dispatching.{Dispatches, IsUp, is_accepted}
-use Rattle.sync_state.specs.Standing.{Standing, next_point}
-use Rattle.sync_state.specs.declared.state.State.TheVariants.{Integrating, Synchronised}
-use Rattle.world_law.proofs.devices.OwnRecords.{earlier_no}
-use Rattle.world_law.proofs.lists.Lists.{behind_no, behind_yes, map_none}
-use Rattle.world_law.specs.device.Told.{change_in, local_in, next_in}
-use Rattle.world_law.specs.source.Sources.{IsActing, IsSource}
-use Rattle.world_law.specs.world.World.{IsForward}
 
 -- ---- lists
 

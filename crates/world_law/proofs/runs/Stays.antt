@@ -1,23 +1,11 @@
 -- A run up to the record of an event is the same under this event and those behind it.
-use Rattle.std.proofs.Common.{◌≡◌, ◌⊎◌, ℕ, zero, suc, ◌+◌, ◌-◌, ◌≤◌, ◌<◌, List, [], ◌∷◌, ◌++◌, length, Some, slice_get, inl, inr, refl, sym, ap, subst, arith}
-use Rattle.std.proofs.lemmas.List.Elements.{Contains-append_cases}
-use Rattle.std.specs.List.{Contains}
-use Rattle.net_plan.specs.declared.event.Event.{Event}
+use Rattle.world_law.proofs.Words.{◌++◌, ◌+◌, ◌-◌, ◌<◌, ◌∷◌, ◌≡◌, ◌≤◌, ◌⊎◌, AllBefore, DeviceId, Event, Happening, IsBefore, IsCaused, IsDue, IsEventRecord}
+use Rattle.world_law.proofs.Words.{IsIn, List, Network, Some, Units, What, [], amount, ap, arith, happenings, in_front, in_right, inl, inr, key, length}
+use Rattle.world_law.proofs.Words.{members_in, place_of, rank, refl, scenario, slice_get, subst, suc, sym, time_of, zero, ℕ}
+use Rattle.std.{proofs.lemmas.List.Elements.Contains-append_cases, specs.List.Contains}
 use Rattle.net_plan.specs.declared.event.What.TheVariants.{End}
-use Rattle.net_plan.specs.declared.event.What.{What}
-use Rattle.net_plan.specs.declared.ids.DeviceId.{DeviceId}
-use Rattle.net_plan.specs.declared.network.Network.{Network}
-use Rattle.run_law.proofs.law.FirstPlaces.{in_front}
-use Rattle.run_law.proofs.runs.Places.{in_right}
-use Rattle.run_law.specs.records.Happenings.{Happening, happenings, time_of}
-use Rattle.run_law.specs.records.Order.{AllBefore, IsBefore, IsIn}
-use Rattle.run_law.specs.records.Ranks.{key, members_in, place_of, rank}
-use Rattle.run_law.specs.runs.DueRecords.{EndsAt, IsCaused, IsDue, IsEventRecord}
-use Rattle.tte_units.specs.Amount.{amount}
-use Rattle.tte_units.specs.declared.units.Units.{Units}
-use Rattle.world_law.proofs.runs.Applies.{agree_back, clock_cause, earlier_by_rank, event_cause, event_place, kinds, up_to_it}
-use Rattle.world_law.proofs.runs.SameCauses.{caused_same}
-use Rattle.world_law.specs.source.Agreeing.{scenario}
+use Rattle.run_law.specs.runs.DueRecords.{EndsAt}
+use Rattle.world_law.proofs.runs.{Applies.{agree_back, clock_cause, earlier_by_rank, event_cause, event_place, kinds, up_to_it}, SameCauses.caused_same}
 use Rattle.world_law.specs.source.Applying.{MayFollow, RunStaysUnderMore, place_of_event}
 
 -- what stands in two lists behind each other stands in one of them

@@ -1,21 +1,10 @@
 -- What a world gives next is the next record of the run.
-use Rattle.std.proofs.Common.{◌≡◌, ℕ, ◌+◌, List, [], ◌∷◌, ◌++◌, length, inl, inr, refl, sym, ap, subst, ◌∙◌}
-use Rattle.std.proofs.lemmas.List.{append-nil, length-map}
-use Rattle.run_law.proofs.runs.Grow.{move_mark}
-use Rattle.run_law.proofs.runs.NetworkRuns.{run_goes_on, same_notes}
-use Rattle.run_law.proofs.runs.Places.{before_or_not, chain, never_self, parted}
-use Rattle.run_law.specs.records.Happenings.{Happening, happening, happenings}
-use Rattle.run_law.specs.records.Order.{IsBefore, IsIn, behind}
-use Rattle.run_law.specs.records.Ranks.{place_of}
-use Rattle.run_law.specs.runs.DueRecords.{IsDue, IsScenarioRun}
-use Rattle.run_law.specs.scenario.Scenarios.{Scenario}
-use Rattle.run_law.specs.declared.note.Note.{Note}
-use Rattle.world_law.proofs.runs.Firsts.{source_before}
-use Rattle.world_law.proofs.runs.Next.{is_next, none_due}
-use Rattle.world_law.proofs.runs.Sourced.{sourced}
-use Rattle.world_law.specs.source.First.{NoSourceBefore}
-use Rattle.world_law.specs.source.Next.{NoneDueBefore}
-use Rattle.world_law.specs.world.World.{AreSettled, FirstSettledIsNext, IsWorkedOff, NothingSettledIsAll, note_of}
+use Rattle.world_law.proofs.Words.{◌++◌, ◌+◌, ◌∙◌, ◌∷◌, ◌≡◌, AreSettled, Happening, IsBefore, IsDue, IsIn, IsScenarioRun, IsWorkedOff, List, NoSourceBefore}
+use Rattle.world_law.proofs.Words.{Note, Scenario, [], ap, append-nil, before_or_not, behind, chain, happening, happenings, inl, inr, length, length-map}
+use Rattle.world_law.proofs.Words.{never_self, parted, place_of, refl, subst, sym, ℕ}
+use Rattle.run_law.proofs.runs.{Grow.move_mark, NetworkRuns.{run_goes_on, same_notes}}
+use Rattle.world_law.{proofs.runs.{Firsts.source_before, Next.{is_next, none_due}, Sourced.sourced}, specs.source.Next.NoneDueBefore}
+use Rattle.world_law.specs.world.World.{FirstSettledIsNext, NothingSettledIsAll, note_of}
 
 pub length_is : (s : Scenario) (ns : List Note) → length ns ≡ length (happenings s.network ns)
 length_is s ns = ap length (sym (same_notes s.network ns)) ∙ length-map (happenings s.network ns) (λ h. h.note)

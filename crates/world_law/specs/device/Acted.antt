@@ -1,10 +1,7 @@
 -- What an act leaves of a device's tasks.
-use Rattle.std.specs.Prelude.{◌≡◌, ◌⊎◌, ◌<ℤ◌}
-use Rattle.net_plan.specs.declared.ids.DeviceId.{DeviceId}
-use Rattle.net_plan.specs.declared.network.Network.{Network}
-use Rattle.run_law.specs.machines.Nodes.{Node}
-use Rattle.run_law.specs.machines.Tasks.{IsPending, Task, reading_for}
-use Rattle.run_law.specs.declared.steps.Moment.{Moment}
+use Rattle.std.specs.Prelude.{◌<ℤ◌, ◌≡◌, ◌⊎◌}
+use Rattle.net_plan.specs.declared.{ids.DeviceId.DeviceId, network.Network.Network}
+use Rattle.run_law.specs.{declared.steps.Moment.Moment, machines.{Nodes.Node, Tasks.{IsPending, Task, reading_for}}}
 
 -- the device had the task before too, at the same reading; or it is one for a later reading
 abbrev pub IsCarried : Network → DeviceId → Node → Node → Moment → Task → Type 0

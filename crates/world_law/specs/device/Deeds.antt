@@ -1,12 +1,9 @@
 -- What a device has done, while it acts.
-use Rattle.std.specs.Prelude.{ℕ, ◌≤◌, ◌<◌, pos, ◌-ℤ◌, ◌<ℤ◌, ◌≤ℤ◌}
-use Rattle.std.specs.List.{Contains}
+use Rattle.std.specs.{List.Contains, Prelude.{◌-ℤ◌, ◌<ℤ◌, ◌<◌, ◌≤ℤ◌, ◌≤◌, pos, ℕ}}
 use Rattle.compression.specs.declared.compressed.Compressed.{Compressed}
-use Rattle.net_plan.specs.declared.ids.DeviceId.{DeviceId}
-use Rattle.net_plan.specs.declared.network.Network.{Network}
-use Rattle.run_law.specs.machines.Nodes.{ClockTask, Node}
+use Rattle.net_plan.specs.declared.{ids.DeviceId.DeviceId, network.Network.Network}
+use Rattle.run_law.specs.machines.{Nodes.{ClockTask, Node}, Tasks.{IsUndone, IsWaiting, value_of}}
 use Rattle.run_law.specs.scenario.Scenarios.{Scenario}
-use Rattle.run_law.specs.machines.Tasks.{IsUndone, IsWaiting, value_of}
 
 -- the adjustment changed last at `changed`. What the device has still to do its clock had not come to before `low`, and
 -- what it has done its clock had come to before `high`

@@ -1,25 +1,15 @@
 -- What a device does at one moment comes in its order, and is not much.
-use Rattle.std.specs.Prelude.{◌≡◌, ℕ, ◌≤◌, ℤ, pos, ◌≤ℤ◌, ◌<ℤ◌, ◌+ℤ◌, true, List, [], ◌∷◌, length, All}
-use Rattle.std.specs.List.{Contains}
-use Rattle.compression.specs.Clusters.{AreClusters, Cluster}
-use Rattle.compression.specs.Emission.{compressed}
+use Rattle.std.specs.{List.Contains, Prelude.{◌+ℤ◌, ◌<ℤ◌, ◌∷◌, ◌≡◌, ◌≤ℤ◌, ◌≤◌, All, List, [], length, pos, true, ℕ, ℤ}}
+use Rattle.compression.specs.{Clusters.{AreClusters, Cluster}, Emission.compressed}
 use Rattle.compression.specs.declared.compressed.Compressed.{Compressed}
-use Rattle.net_plan.specs.Ranges.{IsInRange}
-use Rattle.net_plan.specs.declared.ids.DeviceId.{DeviceId}
-use Rattle.net_plan.specs.declared.network.Network.{Network}
-use Rattle.run_law.specs.control.Collections.{observation_window}
-use Rattle.run_law.specs.machines.Answers.{IsActOf}
-use Rattle.run_law.specs.machines.Calls.{MayCall}
-use Rattle.run_law.specs.machines.Nodes.{Node, acting}
-use Rattle.run_law.specs.machines.Tasks.{IsPending, Task, order_of, reading_for}
-use Rattle.run_law.specs.records.Order.{IsBefore, IsIn}
+use Rattle.net_plan.specs.{Ranges.IsInRange, declared.{ids.DeviceId.DeviceId, network.Network.Network}}
+use Rattle.run_law.specs.{control.Collections.observation_window, declared.steps.{Act.Act, Moment.Moment}}
+use Rattle.run_law.specs.machines.{Answers.IsActOf, Calls.MayCall, Nodes.{Node, acting}}
+use Rattle.run_law.specs.{machines.Tasks.{IsPending, Task, order_of, reading_for}, records.Order.{IsBefore, IsIn}}
 use Rattle.run_law.specs.scenario.Devices.{is_cm}
-use Rattle.run_law.specs.declared.steps.Act.TheVariants as acts
-use Rattle.run_law.specs.declared.steps.Act.{Act}
-use Rattle.run_law.specs.declared.steps.Moment.{Moment}
-use Rattle.schedule_tables.specs.Dispatches.{dispatch_order}
-use Rattle.schedule_tables.specs.Rules.{KeepsRules}
+use Rattle.schedule_tables.specs.{Dispatches.dispatch_order, Rules.KeepsRules}
 use Rattle.tte_units.specs.Amount.{amount}
+use Rattle.run_law.specs.declared.steps.Act.TheVariants as acts
 
 -- the place of an act among those of one moment: that of the task that it does
 abbrev pub order_of_act : Network → Act → List ℕ

@@ -1,20 +1,16 @@
 -- How the records before a time leave a device: its node is a function of the scenario and the records, but for what is
 -- of no use in its state.
-use Rattle.std.specs.Prelude.{◌≡◌, ℕ, ◌≤◌, ◌<◌, pos, ◌-ℤ◌, ◌<ℤ◌, ◌≤ℤ◌, Bool, true, false, List, IfSome}
-use Rattle.std.specs.List.{Contains}
+use Rattle.std.specs.{List.Contains, Prelude.{◌-ℤ◌, ◌<ℤ◌, ◌<◌, ◌≡◌, ◌≤ℤ◌, ◌≤◌, Bool, IfSome, List, false, pos, true, ℕ}}
 use Rattle.compression.specs.declared.compressed.Compressed.{Compressed}
 use Rattle.net_plan.specs.declared.ids.DeviceId.{DeviceId}
-use Rattle.run_law.specs.device.LocalClocks.{changed_at, local_at_change}
 use Rattle.run_law.specs.control.Collections.{points_of}
 use Rattle.run_law.specs.control.Corrections.{heard_since, integration_cycle, next_cycle, recorded_cycle}
-use Rattle.run_law.specs.scenario.Devices.{is_cm, plan_of}
-use Rattle.run_law.specs.records.Happenings.{Happening, earlier}
+use Rattle.run_law.specs.device.{LocalClocks.{changed_at, local_at_change}, States.{adjustment_before, state_before}}
 use Rattle.run_law.specs.machines.Nodes.{ClockTask, Node}
-use Rattle.run_law.specs.scenario.Scenarios.{Scenario, is_broken}
-use Rattle.run_law.specs.device.States.{adjustment_before, state_before}
 use Rattle.run_law.specs.machines.Tasks.{IsPending, IsUndone, IsWaiting, Task, reading_for, value_of}
-use Rattle.sync_state.specs.declared.state.State.TheVariants.{Joining, Synchronised}
-use Rattle.sync_state.specs.declared.state.State.{State}
+use Rattle.run_law.specs.{records.Happenings.{Happening, earlier}, scenario.Devices.{is_cm, plan_of}}
+use Rattle.run_law.specs.scenario.Scenarios.{Scenario, is_broken}
+use Rattle.sync_state.specs.declared.state.State.{State, TheVariants.{Joining, Synchronised}}
 
 -- has a device in this state a next correction point?
 abbrev pub is_timed : State → Bool

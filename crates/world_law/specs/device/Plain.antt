@@ -1,8 +1,7 @@
 -- Records without their numbers, and changes of state without their causes: all that a device's standing reads.
-use Rattle.std.specs.Prelude.{ℕ, List, map}
-use Rattle.run_law.specs.records.Happenings.{Happening}
+use Rattle.std.specs.Prelude.{List, map, ℕ}
+use Rattle.run_law.specs.{declared.note.NoteBody.NoteBody, records.Happenings.Happening}
 use Rattle.run_law.specs.declared.note.NoteBody.TheVariants as notes
-use Rattle.run_law.specs.declared.note.NoteBody.{NoteBody}
 
 -- what a record says, without the cause of a change of state
 abbrev pub plain_body : NoteBody → NoteBody

@@ -1,27 +1,16 @@
 -- What the records of an instant tell of the acts of a device.
-use Rattle.std.specs.Prelude.{◌≡◌, ℕ, ◌<◌, ◌≤◌, pos, ◌≤ℤ◌, List, if◌then◌else◌}
-use Rattle.std.specs.List.{Contains}
-use Rattle.compression.specs.Clusters.{AreClusters, Cluster}
-use Rattle.compression.specs.Emission.{compressed}
+use Rattle.std.specs.{List.Contains, Prelude.{if◌then◌else◌, ◌<◌, ◌≡◌, ◌≤ℤ◌, ◌≤◌, List, pos, ℕ}}
+use Rattle.compression.specs.{Clusters.{AreClusters, Cluster}, Emission.compressed}
 use Rattle.compression.specs.declared.compressed.Compressed.{Compressed}
 use Rattle.drift_clock.specs.Reach.{IsReach}
-use Rattle.net_plan.specs.declared.ids.DeviceId.{DeviceId}
-use Rattle.net_plan.specs.declared.ids.LinkId.{LinkId}
-use Rattle.net_plan.specs.declared.ids.VlId.{VlId}
-use Rattle.net_plan.specs.declared.network.Network.{Network}
-use Rattle.run_law.specs.control.Collections.{observation_window}
-use Rattle.run_law.specs.declared.judgement.Judgement.{Judgement}
-use Rattle.run_law.specs.declared.note.NoteBody.TheVariants as notes
-use Rattle.run_law.specs.declared.note.NoteBody.{NoteBody}
-use Rattle.run_law.specs.machines.Nodes.{Node, correcting, dispatching, sending}
-use Rattle.run_law.specs.machines.Tasks.{IsWaiting}
-use Rattle.run_law.specs.records.Happenings.{Happening, time_of}
-use Rattle.run_law.specs.records.Order.{IsIn}
-use Rattle.run_law.specs.scenario.Scenarios.{Scenario}
-use Rattle.run_law.specs.scenario.Ways.{is_cut, way_from}
-use Rattle.run_law.specs.timed.Dispatching.{Dispatches, Sends}
+use Rattle.net_plan.specs.declared.{ids.{DeviceId.DeviceId, LinkId.LinkId, VlId.VlId}, network.Network.Network}
+use Rattle.run_law.specs.{control.Collections.observation_window, declared.judgement.Judgement.Judgement}
+use Rattle.run_law.specs.{declared.note.NoteBody.NoteBody, machines.Nodes.{Node, correcting, dispatching, sending}}
+use Rattle.run_law.specs.{machines.Tasks.IsWaiting, records.{Happenings.{Happening, time_of}, Order.IsIn}}
+use Rattle.run_law.specs.{scenario.{Scenarios.Scenario, Ways.{is_cut, way_from}}, timed.Dispatching.{Dispatches, Sends}}
 use Rattle.tte_units.specs.Amount.{amount}
 use Rattle.world_law.specs.device.Plain.{plain_body}
+use Rattle.run_law.specs.declared.note.NoteBody.TheVariants as notes
 
 -- a record of this body at the time, but for the cause of a change of state
 pub record IsShown (js : List Happening) (now : ℕ) (body : NoteBody) : Type 0 where

@@ -1,13 +1,9 @@
 -- The time-triggered frames that a device took, by the records.
-use Rattle.std.specs.Prelude.{ℕ, ℤ, List, [], ◌∷◌, ◌==◌, if◌then◌else◌}
-use Rattle.std.specs.List.{flat_map}
+use Rattle.std.specs.{List.flat_map, Prelude.{if◌then◌else◌, ◌==◌, ◌∷◌, List, [], ℕ, ℤ}}
 use Rattle.net_plan.specs.declared.ids.DeviceId.{DeviceId}
-use Rattle.run_law.specs.device.LocalClocks.{local_before}
-use Rattle.run_law.specs.records.Happenings.{Happening, time_of}
-use Rattle.run_law.specs.machines.Nodes.{TakenFrame}
-use Rattle.run_law.specs.scenario.Scenarios.{Scenario}
+use Rattle.run_law.specs.{declared.note.NoteBody.NoteBody, device.LocalClocks.local_before, machines.Nodes.TakenFrame}
+use Rattle.run_law.specs.{records.Happenings.{Happening, time_of}, scenario.Scenarios.Scenario}
 use Rattle.run_law.specs.declared.note.NoteBody.TheVariants as notes
-use Rattle.run_law.specs.declared.note.NoteBody.{NoteBody}
 
 -- the frame that the device took by a record, while its local clock showed this, if it took one by it
 abbrev pub taken_in : DeviceId → ℤ → NoteBody → List TakenFrame

@@ -1,13 +1,11 @@
 -- What the records before a time, a list of them, tell of a device: each is a function of the scenario and the list.
-use Rattle.std.specs.Prelude.{ℕ, ◌+◌, ◌-◌, ℤ, pos, ◌+ℤ◌, int_lt, int_le, nat_lt, Bool, ◌&&◌, List, filter, None, if◌then◌else◌}
-use Rattle.std.specs.List.{after_last, last_or}
-use Rattle.std.specs.Option.{option_map_or}
+use Rattle.std.specs.{List.{after_last, last_or}, Option.option_map_or}
+use Rattle.std.specs.Prelude.{if◌then◌else◌, ◌&&◌, ◌+ℤ◌, ◌+◌, ◌-◌, Bool, List, None, filter, int_le, int_lt, nat_lt}
+use Rattle.std.specs.Prelude.{pos, ℕ, ℤ}
 use Rattle.net_plan.specs.declared.ids.DeviceId.{DeviceId}
-use Rattle.run_law.specs.device.LocalClocks.{changes_adjustment}
 use Rattle.run_law.specs.control.Corrections.{correction_value, is_integration_cycle, recorded_cycle}
-use Rattle.run_law.specs.records.Happenings.{Happening, time_of}
-use Rattle.run_law.specs.scenario.Scenarios.{Scenario}
-use Rattle.run_law.specs.device.States.{adjustment_after}
+use Rattle.run_law.specs.device.{LocalClocks.changes_adjustment, States.adjustment_after}
+use Rattle.run_law.specs.{records.Happenings.{Happening, time_of}, scenario.Scenarios.Scenario}
 
 -- when its adjustment changed last, by the records before a time
 abbrev pub change_in : DeviceId → List Happening → ℕ

@@ -1,8 +1,6 @@
 -- Scenarios that agree up to a time: of one network, with the same readings and the same events up to then.
-use Rattle.std.specs.Prelude.{◌≡◌, ℕ, ◌≤◌, List}
-use Rattle.net_plan.specs.declared.event.Event.{Event}
-use Rattle.net_plan.specs.declared.ids.DeviceId.{DeviceId}
-use Rattle.net_plan.specs.declared.network.Network.{Network}
+use Rattle.std.specs.Prelude.{◌≡◌, ◌≤◌, List, ℕ}
+use Rattle.net_plan.specs.declared.{event.Event.Event, ids.DeviceId.DeviceId, network.Network.Network}
 use Rattle.run_law.specs.scenario.Scenarios.{Scenario, events_up_to}
 
 -- the scenario of the network with these readings and these events

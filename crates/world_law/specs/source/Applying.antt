@@ -1,17 +1,12 @@
 -- How a run goes on by an event.
-use Rattle.std.specs.Prelude.{◌≡◌, ◌⊎◌, ℕ, ◌+◌, ◌≤◌, ◌<◌, pos, ◌≤ℤ◌, List, [], ◌∷◌, ◌++◌, length, slice_get, Some}
-use Rattle.net_plan.specs.declared.event.Event.{Event}
-use Rattle.net_plan.specs.declared.ids.DeviceId.{DeviceId}
-use Rattle.net_plan.specs.declared.network.Network.{Network}
-use Rattle.run_law.specs.records.Happenings.{Happening, happenings, time_of}
-use Rattle.run_law.specs.records.Order.{IsBefore, IsIn, behind}
+use Rattle.std.specs.Prelude.{◌++◌, ◌+◌, ◌<◌, ◌∷◌, ◌≡◌, ◌≤ℤ◌, ◌≤◌, ◌⊎◌, List, Some, [], length, pos, slice_get, ℕ}
+use Rattle.net_plan.specs.declared.{event.Event.Event, ids.DeviceId.DeviceId, network.Network.Network}
+use Rattle.run_law.specs.declared.note.{Note.Note, NoteBody.NoteBody}
+use Rattle.run_law.specs.records.{Happenings.{Happening, happenings, time_of}, Order.{IsBefore, IsIn, behind}}
 use Rattle.run_law.specs.runs.DueRecords.{EndsAt, IsScenarioRun}
-use Rattle.run_law.specs.declared.note.Note.{Note}
-use Rattle.run_law.specs.declared.note.NoteBody.TheVariants as notes
-use Rattle.run_law.specs.declared.note.NoteBody.{NoteBody}
-use Rattle.tte_units.specs.Amount.{amount}
-use Rattle.tte_units.specs.declared.units.Units.{Units}
+use Rattle.tte_units.specs.{Amount.amount, declared.units.Units.Units}
 use Rattle.world_law.specs.source.Agreeing.{Agree, scenario}
+use Rattle.run_law.specs.declared.note.NoteBody.TheVariants as notes
 
 -- the record of an event
 abbrev pub IsEventBody : NoteBody → Type 0

@@ -1,8 +1,6 @@
 -- What comes first of what is under way.
-use Rattle.std.specs.Prelude.{ℕ, List}
-use Rattle.run_law.specs.records.Happenings.{Happening}
-use Rattle.run_law.specs.records.Order.{IsBefore}
-use Rattle.run_law.specs.scenario.Scenarios.{Scenario}
+use Rattle.std.specs.Prelude.{List, ℕ}
+use Rattle.run_law.specs.{records.{Happenings.Happening, Order.IsBefore}, scenario.Scenarios.Scenario}
 use Rattle.world_law.specs.source.Sources.{IsSource}
 
 -- a source that is not worked off, that is, not before the mark, is not before the place

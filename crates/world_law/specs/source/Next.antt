@@ -1,5 +1,5 @@
 -- What is due behind a run.
-use Rattle.std.specs.Prelude.{ℕ, List}
+use Rattle.std.specs.Prelude.{List, ℕ}
 use Rattle.run_law.specs.records.Order.{IsBefore}
 
 -- given all of the list, nothing that is due and not before the mark is before the place

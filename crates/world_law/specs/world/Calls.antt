@@ -1,19 +1,12 @@
 -- What a call of a machine is told, what it ensures, and how its world keeps it.
-use Rattle.std.specs.Prelude.{◌≡◌, ℕ, List, slice_get, Some}
-use Rattle.net_plan.specs.declared.ids.DeviceId.{DeviceId}
-use Rattle.net_plan.specs.declared.ids.LinkId.{LinkId}
-use Rattle.net_plan.specs.declared.network.Network.{Network}
-use Rattle.run_law.specs.machines.Nodes.{Node, acting, arriving}
+use Rattle.std.specs.Prelude.{◌≡◌, List, Some, slice_get, ℕ}
+use Rattle.net_plan.specs.declared.{ids.{DeviceId.DeviceId, LinkId.LinkId}, network.Network.Network}
+use Rattle.run_law.specs.{control.Wires.signal_of, declared.steps.{Act.Act, Arrival.Arrival, Moment.Moment}}
+use Rattle.run_law.specs.machines.Answers.{IsActOf, after_arrival, arrival_at, called}
+use Rattle.run_law.specs.machines.{Calls.{HasDue, MayArrive, MayCall}, Nodes.{Node, acting, arriving}}
 use Rattle.run_law.specs.scenario.Scenarios.{Scenario}
 use Rattle.sync_state.specs.declared.state.State.{State}
-use Rattle.tte_units.specs.Amount.{units_of}
-use Rattle.tte_units.specs.declared.units.Units.{Units}
-use Rattle.run_law.specs.machines.Calls.{HasDue, MayCall, MayArrive}
-use Rattle.run_law.specs.machines.Answers.{IsActOf, after_arrival, arrival_at, called}
-use Rattle.run_law.specs.declared.steps.Act.{Act}
-use Rattle.run_law.specs.declared.steps.Moment.{Moment}
-use Rattle.run_law.specs.control.Wires.{signal_of}
-use Rattle.run_law.specs.declared.steps.Arrival.{Arrival}
+use Rattle.tte_units.specs.{Amount.units_of, declared.units.Units.Units}
 
 -- a device's moment at the time
 abbrev pub moment_of : Scenario → DeviceId → ℕ → Moment

@@ -1,28 +1,20 @@
 -- What the steps of a world are made of: a record is given, and what a source comes to is put in among others.
-use Rattle.std.specs.Prelude.{◌≡◌, ◌⊎◌, ◌↔◌, ℕ, ◌+◌, ◌≤◌, ◌<◌, pos, ◌≤ℤ◌, List, [], ◌∷◌, ◌++◌, length, map, slice_get, Some, Bool, true, false, ◌&&◌, ◌==◌, if◌then◌else◌}
-use Rattle.net_plan.specs.declared.ids.DeviceId.{DeviceId}
-use Rattle.net_plan.specs.declared.ids.LinkId.{LinkId}
-use Rattle.net_plan.specs.declared.ids.VlId.{VlId}
-use Rattle.net_plan.specs.declared.network.Network.{Network}
+use Rattle.std.specs.Prelude.{if◌then◌else◌, ◌&&◌, ◌++◌, ◌+◌, ◌<◌, ◌==◌, ◌↔◌, ◌∷◌, ◌≡◌, ◌≤ℤ◌, ◌≤◌, ◌⊎◌, Bool, List}
+use Rattle.std.specs.Prelude.{Some, [], false, length, map, pos, slice_get, true, ℕ}
+use Rattle.net_plan.specs.declared.{ids.{DeviceId.DeviceId, LinkId.LinkId, VlId.VlId}, network.Network.Network}
+use Rattle.run_law.specs.{control.{Leaving.Gives, Wires.{Arrives, Signal}}, declared.judgement.Why.Why}
+use Rattle.run_law.specs.{declared.note.{Note.Note, NoteBody.NoteBody}, device.States.is_joined_by}
+use Rattle.run_law.specs.machines.{Nodes.{Node, acting}, Tasks.{IsPending, Task, reading_for}}
 use Rattle.run_law.specs.records.Happenings.{Happening, happening, happenings, time_of}
-use Rattle.run_law.specs.control.Leaving.{Gives}
-use Rattle.run_law.specs.machines.Nodes.{Node, acting}
-use Rattle.run_law.specs.records.Order.{AllBefore, IsBefore, IsIn, NoneBefore, behind}
-use Rattle.run_law.specs.records.Ranks.{place_of}
-use Rattle.run_law.specs.scenario.Scenarios.{Scenario, is_broken}
-use Rattle.run_law.specs.device.States.{is_joined_by}
-use Rattle.run_law.specs.machines.Tasks.{IsPending, Task, reading_for}
-use Rattle.run_law.specs.control.Wires.{Arrives, Signal}
-use Rattle.run_law.specs.scenario.Ways.{hold_at, way_from}
-use Rattle.run_law.specs.declared.judgement.Why.TheVariants as whys
-use Rattle.run_law.specs.declared.judgement.Why.{Why}
-use Rattle.run_law.specs.declared.note.Note.{Note}
-use Rattle.run_law.specs.declared.note.NoteBody.TheVariants as kinds
-use Rattle.run_law.specs.declared.note.NoteBody.{NoteBody}
+use Rattle.run_law.specs.records.{Order.{AllBefore, IsBefore, IsIn, NoneBefore, behind}, Ranks.place_of}
+use Rattle.run_law.specs.scenario.{Scenarios.{Scenario, is_broken}, Ways.{hold_at, way_from}}
 use Rattle.run_law.specs.timed.Dispatching.{is_accepted}
 use Rattle.tte_units.specs.Amount.{units_of}
 use Rattle.world_law.specs.source.First.{NoSourceBefore}
-use Rattle.world_law.specs.world.World.{AtPort, IsAwaitedFor, IsGivenBy, OnWire, Stands, Stored, Waiting, World, act_place, clock_place, none_yet, note_of, port_place, ripe_place, wire_place}
+use Rattle.world_law.specs.world.World.{AtPort, IsAwaitedFor, IsGivenBy, OnWire, Stands, Stored, Waiting, World}
+use Rattle.world_law.specs.world.World.{act_place, clock_place, none_yet, note_of, port_place, ripe_place, wire_place}
+use Rattle.run_law.specs.declared.judgement.Why.TheVariants as whys
+use Rattle.run_law.specs.declared.note.NoteBody.TheVariants as kinds
 
 -- ---- what a record launches
 

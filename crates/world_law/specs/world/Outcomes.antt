@@ -1,22 +1,16 @@
 -- What comes of an arrival, an act, a departure or an event.
-use Rattle.std.specs.Prelude.{ℕ, List, [], ◌∷◌, Bool, true, false, not, ◌&&◌, ◌==◌, if◌then◌else◌}
-use Rattle.net_plan.specs.declared.event.What.TheVariants as events
-use Rattle.net_plan.specs.declared.event.What.{What}
-use Rattle.net_plan.specs.declared.ids.DeviceId.{DeviceId}
-use Rattle.net_plan.specs.declared.ids.LinkId.{LinkId}
+use Rattle.std.specs.Prelude.{if◌then◌else◌, ◌&&◌, ◌==◌, ◌∷◌, Bool, List, [], false, not, true, ℕ}
+use Rattle.net_plan.specs.declared.{event.What.What, ids.{DeviceId.DeviceId, LinkId.LinkId}}
 use Rattle.run_law.specs.control.Leaving.{Departure, leaves, on_cut_way, too_old}
-use Rattle.run_law.specs.machines.Answers.{node_turned_on}
-use Rattle.run_law.specs.machines.Nodes.{Node}
-use Rattle.run_law.specs.declared.judgement.Reason.TheVariants as reasons
-use Rattle.run_law.specs.declared.note.NoteBody.TheVariants as kinds
-use Rattle.run_law.specs.declared.note.NoteBody.{NoteBody}
+use Rattle.run_law.specs.declared.{judgement.Judgement.Judgement, note.NoteBody.NoteBody, steps.Arrival.Arrival}
+use Rattle.run_law.specs.{declared.steps.Ripe.Ripe, machines.{Answers.node_turned_on, Nodes.Node}}
 use Rattle.sync_state.specs.declared.state.State.TheVariants.{Off}
 use Rattle.world_law.specs.world.World.{AtPort, Befell, has_outcome}
-use Rattle.run_law.specs.declared.judgement.Judgement.{Judgement}
+use Rattle.net_plan.specs.declared.event.What.TheVariants as events
+use Rattle.run_law.specs.declared.judgement.Reason.TheVariants as reasons
+use Rattle.run_law.specs.declared.note.NoteBody.TheVariants as kinds
 use Rattle.run_law.specs.declared.judgement.Judgement.TheVariants as judgements
-use Rattle.run_law.specs.declared.steps.Ripe.{Ripe}
 use Rattle.run_law.specs.declared.steps.Ripe.TheVariants as ripe
-use Rattle.run_law.specs.declared.steps.Arrival.{Arrival}
 use Rattle.run_law.specs.declared.steps.Arrival.TheVariants as arrivals
 
 -- what becomes of a frame that arrives, as a record: one that waits or is passed on is an arrival

@@ -1,50 +1,33 @@
 -- What a world keeps, and where the events applied to it and the records that it gave leave it.
-use Rattle.std.specs.Prelude.{◌≡◌, ◌⊎◌, ◌↔◌, ℕ, ◌+◌, ◌-◌, ◌^◌, ◌≤◌, ◌<◌, pos, ◌≤ℤ◌, List, [], ◌∷◌, ◌++◌, ◌==◌, length, map, slice_get, Some, IsSomeAnd, Bool, true, false, nat_lt, if◌then◌else◌, filter, Option, None}
 use Rattle.std.specs.List.{last_or}
-use Rattle.net_plan.specs.declared.event.Event.{Event}
-use Rattle.net_plan.specs.declared.event.What.TheVariants as events
-use Rattle.net_plan.specs.declared.event.What.{What}
-use Rattle.net_plan.specs.declared.ids.DeviceId.{DeviceId}
-use Rattle.net_plan.specs.declared.ids.LinkId.{LinkId}
-use Rattle.net_plan.specs.declared.ids.VlId.{VlId}
-use Rattle.net_plan.specs.Places.{link_at}
-use Rattle.net_plan.specs.Ranges.{IsInRange}
-use Rattle.net_plan.specs.declared.network.Network.{Network}
-use Rattle.schedule_tables.specs.Rules.{KeepsRules}
-use Rattle.net_plan.specs.declared.tables.Way.TheVariants.{Up, Down}
-use Rattle.net_plan.specs.declared.tables.Way.{Way}
+use Rattle.std.specs.Prelude.{if◌then◌else◌, ◌++◌, ◌+◌, ◌-◌, ◌<◌, ◌==◌, ◌^◌, ◌↔◌, ◌∷◌, ◌≡◌, ◌≤ℤ◌, ◌≤◌, ◌⊎◌, Bool}
+use Rattle.std.specs.Prelude.{IsSomeAnd, List, None, Option, Some, [], false, filter, length, map, nat_lt, pos}
+use Rattle.std.specs.Prelude.{slice_get, true, ℕ}
+use Rattle.net_plan.specs.{Places.link_at, Ranges.IsInRange, declared.event.{Event.Event, What.What}}
+use Rattle.net_plan.specs.declared.{ids.{DeviceId.DeviceId, LinkId.LinkId, VlId.VlId}, network.Network.Network}
+use Rattle.net_plan.specs.declared.tables.Way.{Way, TheVariants.{Down, Up}}
 use Rattle.pcf_values.specs.declared.pcf.Pcf.{Pcf}
-use Rattle.run_law.specs.device.LocalClocks.{changed_at}
-use Rattle.run_law.specs.scenario.Devices.{is_cm, is_end}
-use Rattle.run_law.specs.records.Happenings.{Happening, earlier, happenings, numbered, time_of, up_to}
-use Rattle.run_law.specs.control.Leaving.{Gives}
-use Rattle.run_law.specs.machines.Nodes.{Node, Phase, turning_on, arriving, ripening, acting}
-use Rattle.run_law.specs.records.Order.{AllBefore, IsBefore, IsIn, NoneBefore, behind}
-use Rattle.run_law.specs.control.Permanence.{waits_for}
-use Rattle.run_law.specs.records.Ranks.{members_in, place_of}
+use Rattle.run_law.specs.control.{Leaving.Gives, Permanence.waits_for, Wires.{Arrives, Signal}}
+use Rattle.run_law.specs.declared.{judgement.Why.TheVariants.On, note.{Note.Note, NoteBody.NoteBody}}
+use Rattle.run_law.specs.device.{LocalClocks.changed_at, States.{adjustment_after, state_after, state_before}}
+use Rattle.run_law.specs.machines.Nodes.{Node, Phase, acting, arriving, ripening, turning_on}
 use Rattle.run_law.specs.records.Causes.{IsOfThisTime}
-use Rattle.run_law.specs.runs.DueRecords.{EndsAt, IsDue, IsScenarioRun}
+use Rattle.run_law.specs.records.Happenings.{Happening, earlier, happenings, numbered, time_of, up_to}
+use Rattle.run_law.specs.records.{Order.{AllBefore, IsBefore, IsIn, NoneBefore, behind}, Ranks.{members_in, place_of}}
+use Rattle.run_law.specs.{runs.DueRecords.{EndsAt, IsDue, IsScenarioRun}, scenario.Devices.{is_cm, is_end}}
 use Rattle.run_law.specs.scenario.Scenarios.{Scenario, is_broken, is_turned_on_at}
-use Rattle.run_law.specs.device.States.{adjustment_after, state_after, state_before}
-use Rattle.run_law.specs.control.Wires.{Arrives, Signal}
 use Rattle.run_law.specs.scenario.Ways.{delay_at, hold_at, is_cut, receiver_of, way_from}
-use Rattle.run_law.specs.declared.judgement.Why.TheVariants.{On}
-use Rattle.run_law.specs.declared.note.Note.{Note}
-use Rattle.run_law.specs.declared.note.NoteBody.TheVariants as notes
-use Rattle.run_law.specs.declared.note.NoteBody.{NoteBody}
 use Rattle.run_law.specs.timed.Dispatching.{is_accepted}
+use Rattle.schedule_tables.specs.Rules.{KeepsRules}
 use Rattle.sync_state.specs.declared.state.State.TheVariants.{Integrating, Off}
 use Rattle.transparent_clock.specs.Points.{point_of}
-use Rattle.tte_units.specs.Amount.{amount}
-use Rattle.tte_units.specs.declared.units.Units.{Units}
-use Rattle.world_law.specs.device.Ready.{IsReadyAt, IsSteady}
-use Rattle.world_law.specs.device.Deeds.{HasDoneFrom, HasSentFrom}
-use Rattle.world_law.specs.device.Left.{HasTaskBy, IsLeft}
-use Rattle.world_law.specs.device.Own.{moves}
-use Rattle.world_law.specs.device.Recorded.{AreRecorded, HasCleared}
-use Rattle.world_law.specs.device.Takings.{frames_taken}
-use Rattle.world_law.specs.source.First.{NoSourceBefore}
+use Rattle.tte_units.specs.{Amount.amount, declared.units.Units.Units}
+use Rattle.world_law.specs.device.{Deeds.{HasDoneFrom, HasSentFrom}, Left.{HasTaskBy, IsLeft}, Own.moves}
+use Rattle.world_law.specs.device.{Ready.{IsReadyAt, IsSteady}, Recorded.{AreRecorded, HasCleared}}
+use Rattle.world_law.specs.{device.Takings.frames_taken, source.First.NoSourceBefore}
 use Rattle.world_law.specs.source.Sources.{IsActing, IsArriving, IsDeparting, IsOwnSource, IsRipening, IsSource}
+use Rattle.net_plan.specs.declared.event.What.TheVariants as events
+use Rattle.run_law.specs.declared.note.NoteBody.TheVariants as notes
 
 -- what is on a wire: when it arrives, where, by which link, the record that put it there, and what it is
 pub record OnWire : Type 0 where

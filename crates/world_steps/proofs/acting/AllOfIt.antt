@@ -1,48 +1,19 @@
 -- All that is due from the acts of a device is among the records to come, once it has nothing more to do at the instant.
-use Rattle.std.proofs.Common.{◌≡◌, ◌⊎◌, ℕ, ◌≤◌, pos, ◌<ℤ◌, ◌≤ℤ◌, Bool, if◌then◌else◌, List, [], ◌∷◌, ◌++◌, option_to_list, Option, None, inl, inr, refl, sym, ap, subst, ◌∙◌, arith}
-use Rattle.std.proofs.lemmas.Bool.{cases_lt}
-use Rattle.std.proofs.lemmas.List.Elements.{filter_map-append}
-use Rattle.compression.specs.declared.compressed.Compressed.{Compressed}
+use Rattle.world_steps.proofs.Words.{if◌then◌else◌, ◌++◌, ◌<ℤ◌, ◌∙◌, ◌∷◌, ◌≡◌, ◌≤ℤ◌, ◌≤◌, ◌⊎◌, AllBefore, AreRecorded, AsyncClique, Bool, Cleared, ComesTo}
+use Rattle.world_steps.proofs.Words.{ComesToCorrection, Compressed, Corrected, DeviceId, Dispatches, Happening, HasCleared, Hearing, IsAllOfIt, IsBefore, IsIn}
+use Rattle.world_steps.proofs.Words.{IsPending, IsShown, LinkId, List, Node, None, NoteBody, Option, RowId, Scenario, Summary, SyncClique, Verdict, VlId, []}
+use Rattle.world_steps.proofs.Words.{act_place, ap, arith, cases_lt, correcting, dispatch_body, dispatching, doing, emitting, filter_map-append, heard_since}
+use Rattle.world_steps.proofs.Words.{hearing_by, in_left, in_right, inl, inr, key, members_in, never_both, option_to_list, place_of, plain, plains}
+use Rattle.world_steps.proofs.Words.{plains_parts, points_of, points_same, pos, quiet_rest, rank, rank_plain, reading_for, refl, sending, standing_before}
+use Rattle.world_steps.proofs.Words.{subst, sym, time_of, ℕ}
 use Rattle.membership.proofs.OneSummary.{one_summary}
-use Rattle.membership.specs.Hearing.{Hearing}
-use Rattle.membership.specs.Summary.{Summary}
-use Rattle.net_plan.specs.declared.ids.DeviceId.{DeviceId}
-use Rattle.net_plan.specs.declared.ids.LinkId.{LinkId}
-use Rattle.net_plan.specs.declared.ids.RowId.{RowId}
-use Rattle.net_plan.specs.declared.ids.VlId.{VlId}
-use Rattle.run_law.proofs.runs.Places.{in_left, in_right}
-use Rattle.run_law.specs.control.Collections.{points_of}
-use Rattle.run_law.specs.control.Corrections.{ComesToCorrection, hearing_by, heard_since, standing_before}
+use Rattle.sync_state.{proofs.LawLemmas.one_verdict, specs.Verdicts.HasVerdict}
+use Rattle.world_law.proofs.devices.Plains.{heard_plain}
+use Rattle.world_steps.proofs.acting.Complete.{IsActCause, act_cause, corrects_or, emitted_or, found_dispatched, found_emitted, found_sent, sent_or}
+use Rattle.world_steps.proofs.acting.{Emitting.none_heard, GoesOn.{IsPutAs, body_plain, one_of, put_now, shown_still, time_plain}, Over.IsIdleNow}
+use Rattle.world_steps.proofs.acting.{Stays.{heard_by_these, heard_more, heard_put}, Work.{IsAtWork, comes}}
 use Rattle.run_law.specs.declared.judgement.Why.TheVariants as whys
 use Rattle.run_law.specs.declared.note.NoteBody.TheVariants as kinds
-use Rattle.run_law.specs.declared.note.NoteBody.{NoteBody}
-use Rattle.run_law.specs.machines.Answers.{ComesTo}
-use Rattle.run_law.specs.machines.Nodes.{Node, correcting, dispatching, sending}
-use Rattle.run_law.specs.machines.Tasks.{IsPending, doing, emitting, reading_for}
-use Rattle.run_law.specs.records.Happenings.{Happening, time_of}
-use Rattle.run_law.specs.records.Order.{AllBefore, IsBefore, IsIn}
-use Rattle.run_law.specs.records.Ranks.{key, members_in, place_of, rank}
-use Rattle.run_law.specs.scenario.Scenarios.{Scenario}
-use Rattle.run_law.specs.timed.Dispatching.{Dispatches}
-use Rattle.sync_state.proofs.LawLemmas.{one_verdict}
-use Rattle.sync_state.specs.Verdicts.{HasVerdict}
-use Rattle.sync_state.specs.declared.answers.Verdict.TheVariants.{AsyncClique, Cleared, Corrected, SyncClique}
-use Rattle.sync_state.specs.declared.answers.Verdict.{Verdict}
-use Rattle.tte_lemmas.proofs.Integers.{never_both}
-use Rattle.world_steps.proofs.acting.Complete.{IsActCause, act_cause, corrects_or, emitted_or, found_dispatched, found_emitted, found_sent, sent_or}
-use Rattle.world_steps.proofs.acting.Emitting.{none_heard}
-use Rattle.world_steps.proofs.acting.GoesOn.{IsPutAs, body_plain, one_of, put_now, shown_still, time_plain}
-use Rattle.world_steps.proofs.acting.Over.{IsIdleNow}
-use Rattle.world_steps.proofs.acting.Stays.{heard_by_these, heard_more, heard_put}
-use Rattle.world_steps.proofs.acting.Work.{IsAtWork, comes}
-use Rattle.world_law.proofs.acts.NoActs.{points_same}
-use Rattle.world_law.proofs.acts.Recorded.{rank_plain}
-use Rattle.world_law.proofs.devices.Plains.{heard_plain, plains_parts}
-use Rattle.world_law.proofs.devices.TurnedOn.{quiet_rest}
-use Rattle.world_law.proofs.putting.Moving.{IsAllOfIt}
-use Rattle.world_law.specs.device.Plain.{plain, plains}
-use Rattle.world_law.specs.device.Recorded.{AreRecorded, HasCleared, IsShown, dispatch_body}
-use Rattle.world_law.specs.world.World.{act_place}
 
 -- no row of it is dispatched at the instant
 abbrev pub NoneDispatched : Scenario → List Happening → ℕ → DeviceId → Type 0
@@ -269,11 +240,6 @@ point_cause s hs coming new front back now device node cycle heard verdict y w r
 
 -- ---- with one record put in, of a rank behind the frames that are heard
 
-hearing_plain : (s : Scenario) (device : DeviceId) (z y : Happening) → plain z ≡ plain y → 5 ≤ rank y.note.body
-    → hearing_by s.network device z z.note.body ≡ None
-hearing_plain s device z y e late =
-    late_none s device z z.note.body (subst (λ (n : ℕ). 5 ≤ n) (sym (rank_plain y.note.body) ∙ ap rank (sym (body_plain z y e)) ∙ rank_plain z.note.body) late)
-
 heard_parts : (s : Scenario) (device : DeviceId) (xs ys : List Happening) → heard_by_these s device (xs ++ ys) ≡ heard_by_these s device xs
     ++ heard_by_these s device ys
 heard_parts s device xs ys = filter_map-append (λ h. hearing_by s.network device h h.note.body) xs ys
@@ -322,7 +288,8 @@ all_point s hs coming new now device node cycle heard verdict w r p g out rows b
           let at = w.of_now x.0 x.1 in
           let rest = w.still x.0 (in_right x.0 hs coming x.1) at.0 in
           let ranks : rank z.note.body ≡ rank x.0.note.body = sym (rank_plain z.note.body) ∙ ap rank (body_plain z x.0 x.2) ∙ rank_plain x.0.note.body in (
-            quiet_rest s device now z.note.body (Rattle.world_steps.proofs.acting.GoesOn.rest_alike s device now z.note.body x.0.note.body (body_plain z x.0 x.2)
+            quiet_rest s device now z.note.body (Rattle.world_steps.proofs.acting.GoesOn.rest_alike s device now z.note.body x.0.note.body
+                (body_plain z x.0 x.2)
                 rest),
             let four_up = at.1 in omega (arith, four_up, ranks),
           )

@@ -1,44 +1,19 @@
 -- A joiner that comes to the correction point of the cycle by whose frame it joined clears what it has heard.
-use Rattle.std.proofs.Common.{◌≡◌, ◌⊎◌, IfSome, ℕ, ◌+◌, ◌-◌, ◌≤◌, ◌<◌, ℤ, pos, ◌+ℤ◌, ◌-ℤ◌, ◌<ℤ◌, ◌≤ℤ◌, int_lt, int_le, Bool, true, false, not, ◌&&◌, ◌||◌, ◌==◌, if◌then◌else◌, List, [], ◌∷◌, ◌++◌, filter, filter_map, Option, Some, inl, inr, refl, sym, ap, subst, ◌∙◌, arith}
-use Rattle.std.specs.Prelude.{nat_lt}
-use Rattle.std.specs.List.{after_last}
-use Rattle.std.specs.Option.{option_map_or}
-use Rattle.std.proofs.lemmas.Bool.{and_from, and_right, cases_Bool, cases_lt, eq-eqb}
-use Rattle.std.proofs.lemmas.Int.{ints}
-use Rattle.std.proofs.lemmas.List.Elements.{Contains-push_cases}
+use Rattle.world_steps.proofs.Words.{if◌then◌else◌, ◌&&◌, ◌++◌, ◌+ℤ◌, ◌+◌, ◌-ℤ◌, ◌-◌, ◌<ℤ◌, ◌<◌, ◌==◌, ◌||◌, ◌∙◌, ◌∷◌, ◌≡◌, ◌≤ℤ◌, ◌≤◌, ◌⊎◌, Bool, Cleared}
+use Rattle.world_steps.proofs.Words.{ClockTask, Compressed, Contains-push_cases, DeviceId, Happening, HasCleared, IfSome, IsIn, IsLeft, IsUndone, IsWaiting}
+use Rattle.world_steps.proofs.Words.{Joining, List, Moment, Node, Option, Scenario, Some, Summary, Synchronised, Units, [], acting, adjustment_before}
+use Rattle.world_steps.proofs.Words.{after_last, amount, and_right, ap, arith, behind_no, behind_yes, by_last, called, cases_Bool, cases_lt, change_still}
+use Rattle.world_steps.proofs.Words.{changed_at, changes_adjustment, correcting, correction_value, dispatching, doing, earlier, eq-eqb, false, filter}
+use Rattle.world_steps.proofs.Words.{filter_map, has_cleared, hearing_by, in_left, inl, inr, int_le, int_lt, integration_cycle, ints, is_broken}
+use Rattle.world_steps.proofs.Words.{is_integration_cycle, is_timed, is_turned_on_at, nat_lt, none_kept, not, not_turned_on, option_map_or, point_number, pos}
+use Rattle.world_steps.proofs.Words.{reading_for, recorded_cycle, refl, sending, subst, sym, time_of, true, value_of, waiting_alike, ℕ, ℤ}
+use Rattle.std.proofs.lemmas.Bool.{and_from}
 use Rattle.compression.proofs.Held.{int_le-false}
-use Rattle.compression.specs.declared.compressed.Compressed.{Compressed}
-use Rattle.membership.specs.Summary.{Summary}
-use Rattle.net_plan.specs.declared.ids.DeviceId.{DeviceId}
-use Rattle.run_law.proofs.law.FirstPlaces.{none_kept}
-use Rattle.run_law.proofs.runs.Places.{in_left}
-use Rattle.run_law.specs.control.Corrections.{correction_value, has_cleared, hearing_by, integration_cycle, is_integration_cycle, next_cycle, recorded_cycle}
-use Rattle.run_law.specs.declared.steps.Moment.{Moment}
-use Rattle.run_law.specs.device.LocalClocks.{changed_at, changes_adjustment, local_at_change}
-use Rattle.run_law.specs.device.States.{adjustment_before}
-use Rattle.run_law.specs.machines.Answers.{after_correction, called}
-use Rattle.run_law.specs.machines.Nodes.{ClockTask, Node, acting, correcting, dispatching, sending}
-use Rattle.run_law.specs.machines.Tasks.{IsUndone, IsWaiting, doing, reading_for, value_of}
-use Rattle.run_law.specs.records.Happenings.{Happening, earlier, time_of}
-use Rattle.run_law.specs.records.Order.{IsIn}
-use Rattle.run_law.specs.scenario.Scenarios.{Scenario, is_broken, is_turned_on_at}
+use Rattle.run_law.specs.{control.Corrections.next_cycle, device.LocalClocks.local_at_change, machines.Answers.after_correction}
 use Rattle.sync_state.specs.Standing.{IsAtIntegration}
-use Rattle.sync_state.specs.declared.answers.Verdict.TheVariants.{Cleared}
-use Rattle.sync_state.specs.declared.state.State.TheVariants.{Joining, Synchronised}
 use Rattle.tte_lemmas.proofs.Integers.{int_le-from, int_lt-from}
-use Rattle.tte_units.specs.Amount.{amount}
-use Rattle.tte_units.specs.declared.units.Units.{Units}
-use Rattle.world_steps.proofs.acting.Correcting.{base_then, still_now}
-use Rattle.world_steps.proofs.acting.Over.{IsOver}
-use Rattle.world_steps.proofs.acting.Work.{IsAtWork}
-use Rattle.world_law.proofs.acts.Acted.{next_turn, waiting_alike}
-use Rattle.world_law.proofs.acts.Acting.{point_number}
-use Rattle.world_law.proofs.devices.Borne.{by_last}
-use Rattle.world_law.proofs.devices.OwnRecords.{change_still, cycle_still}
-use Rattle.world_law.proofs.devices.Passes.{cleared_still, not_turned_on}
-use Rattle.world_law.proofs.lists.Lists.{behind_no, behind_yes}
-use Rattle.world_law.specs.device.Left.{IsLeft, is_timed}
-use Rattle.world_law.specs.device.Recorded.{HasCleared}
+use Rattle.world_law.proofs.{acts.Acted.next_turn, devices.{OwnRecords.cycle_still, Passes.cleared_still}}
+use Rattle.world_steps.proofs.acting.{Correcting.{base_then, still_now}, Over.IsOver, Work.IsAtWork}
 
 pub in_behind : (p : Happening → Bool) (js : List Happening) (h : Happening) → IsIn h (after_last p js) → IsIn h js
 in_behind p js =

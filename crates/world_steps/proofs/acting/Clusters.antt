@@ -1,21 +1,12 @@
 -- The clusters of a list of points are one list, and each opens behind those before it.
-use Rattle.std.proofs.Common.{nat_le, ◌≡◌, ℤ, pos, ◌+ℤ◌, ◌*ℤ◌, ◌<ℤ◌, ◌≤ℤ◌, int_lt, Bool, true, false, if◌then◌else◌, List, [], ◌∷◌, length, inl, inr, refl, sym, ap, subst, ◌∙◌, arith}
-use Rattle.std.proofs.lemmas.Bool.{both_ways, cases_Bool}
-use Rattle.std.proofs.lemmas.Int.{ints}
-use Rattle.compression.proofs.Held.{int_lt-false}
-use Rattle.compression.proofs.Standing.{AreClusters-unique}
-use Rattle.compression.specs.Clusters.{AreClusters, Cluster, Point, beyond, end_of, firsts, of_cycle_within}
+use Rattle.world_steps.proofs.Words.{if◌then◌else◌, ◌+ℤ◌, ◌<ℤ◌, ◌∙◌, ◌∷◌, ◌≡◌, ◌≤ℤ◌, AreClusters, Bool, Compressed, IsFrameOf, IsIn, List, Network, Node, Point}
+use Rattle.world_steps.proofs.Words.{[], amount, ap, arith, both_ways, cases_Bool, cases_int, false, inl, inr, int_lt, ints, length, nat_le, observation_window}
+use Rattle.world_steps.proofs.Words.{pos, refl, subst, sym, true, ℤ}
+use Rattle.std.proofs.Common.{◌*ℤ◌}
+use Rattle.compression.{proofs.{Held.int_lt-false, Standing.AreClusters-unique}, specs.Clusters.{Cluster, beyond, end_of, firsts, of_cycle_within}}
 use Rattle.compression.specs.Emission.{compressed}
-use Rattle.compression.specs.declared.compressed.Compressed.{Compressed}
-use Rattle.net_plan.specs.declared.network.Network.{Network}
 use Rattle.run_law.proofs.records.Order.{contained}
-use Rattle.run_law.specs.control.Collections.{observation_window}
-use Rattle.run_law.specs.machines.Nodes.{Node}
-use Rattle.run_law.specs.records.Order.{IsIn}
 use Rattle.tte_lemmas.proofs.Integers.{same_number}
-use Rattle.tte_units.specs.Amount.{amount}
-use Rattle.world_law.proofs.lists.Orders.{cases_int}
-use Rattle.world_law.specs.device.Recorded.{IsFrameOf}
 
 -- ---- each opens behind those before it
 

@@ -1,47 +1,19 @@
 -- All that is due of a device that has acted is among the records to come.
-use Rattle.std.proofs.Common.{◌≡◌, ◌⊎◌, ℕ, ◌≤◌, ℤ, pos, negsuc, ◌-ℤ◌, ◌<ℤ◌, ◌≤ℤ◌, Bool, true, false, if◌then◌else◌, List, [], ◌∷◌, ◌++◌, Some, Contains, inl, inr, sym, ap, subst, ◌∙◌, arith}
-use Rattle.std.proofs.lemmas.Bool.{cases_Bool, cases_eq}
-use Rattle.std.proofs.lemmas.Int.{ints}
-use Rattle.std.proofs.lemmas.List.Elements.{Contains-append_left, Contains-push, Contains-push_cases}
-use Rattle.compression.specs.Clusters.{AreClusters, Point}
-use Rattle.compression.specs.declared.compressed.Compressed.{Compressed}
-use Rattle.net_plan.proofs.SameIds.{same_device}
-use Rattle.net_plan.specs.declared.ids.DeviceId.{DeviceId}
-use Rattle.net_plan.specs.declared.ids.LinkId.{LinkId}
-use Rattle.net_plan.specs.declared.ids.VlId.{VlId}
-use Rattle.run_law.proofs.runs.Places.{in_parts}
-use Rattle.run_law.specs.control.Collections.{observation_window, points_of}
-use Rattle.run_law.specs.control.Corrections.{ComesToCorrection, correction_value, standing_before}
-use Rattle.run_law.specs.control.Emissions.{Emits}
-use Rattle.run_law.specs.declared.judgement.Judgement.{Judgement}
+use Rattle.world_steps.proofs.Words.{if◌then◌else◌, ◌++◌, ◌-ℤ◌, ◌<ℤ◌, ◌∙◌, ◌∷◌, ◌≡◌, ◌≤ℤ◌, ◌≤◌, ◌⊎◌, AllBefore, AreClusters, AreRecorded, AsyncClique, Bool}
+use Rattle.world_steps.proofs.Words.{ClockTask, ComesToCorrection, Compressed, Contains-append_left, Contains-push, Contains-push_cases, DeviceId, Dispatches}
+use Rattle.world_steps.proofs.Words.{Emits, Happening, HasCleared, Integrating, IsBefore, IsCaused, IsIn, IsOwnSource, IsPending, IsShown, Judgement, LinkId}
+use Rattle.world_steps.proofs.Words.{List, Node, NoteBody, Point, Scenario, Some, SyncClique, Units, VlId, [], act_place, amount, ap, arith, by_last}
+use Rattle.world_steps.proofs.Words.{cases_Bool, cases_eq, correcting, correction_value, dispatch_body, dispatching, doing, emitting, false, in_parts, inl, inr}
+use Rattle.world_steps.proofs.Words.{ints, is_cut, is_timed, members_in, none_in, observation_window, place_of, point_number, points_of, pos, rank}
+use Rattle.world_steps.proofs.Words.{reaches_back, reading_for, same_device, sending, standing_before, subst, sym, time_of, true, up_back, value_of, way_from}
+use Rattle.world_steps.proofs.Words.{ℕ, ℤ}
+use Rattle.std.proofs.Common.{Contains, negsuc}
+use Rattle.run_law.specs.{runs.DueRecords.IsCorrectedRecord, timed.Dispatching.Sends}
+use Rattle.sync_state.specs.Standing.{next_point}
+use Rattle.world_law.{proofs.{acts.Dispatched.{plain_lost, plain_tt}, runs.SourcesBack.standing_in}, specs.source.Sources.IsAtCorrection}
+use Rattle.world_steps.proofs.acting.{Starts.{plain_compressed, plain_sent}, Work.{IsAtWork, all_earlier, same_standing}}
 use Rattle.run_law.specs.declared.judgement.Why.TheVariants as whys
 use Rattle.run_law.specs.declared.note.NoteBody.TheVariants as kinds
-use Rattle.run_law.specs.declared.note.NoteBody.{NoteBody}
-use Rattle.run_law.specs.machines.Nodes.{ClockTask, Node, correcting, dispatching, sending}
-use Rattle.run_law.specs.machines.Tasks.{IsPending, doing, emitting, reading_for, value_of}
-use Rattle.run_law.specs.records.Happenings.{Happening, time_of}
-use Rattle.run_law.specs.records.Order.{AllBefore, IsBefore, IsIn}
-use Rattle.run_law.specs.records.Ranks.{members_in, place_of, rank}
-use Rattle.run_law.specs.runs.DueRecords.{IsCaused, IsCorrectedRecord}
-use Rattle.run_law.specs.scenario.Scenarios.{Scenario}
-use Rattle.run_law.specs.scenario.Ways.{is_cut, way_from}
-use Rattle.run_law.specs.timed.Dispatching.{Dispatches, Sends}
-use Rattle.sync_state.specs.Standing.{next_point}
-use Rattle.sync_state.specs.declared.answers.Verdict.TheVariants.{AsyncClique, SyncClique}
-use Rattle.sync_state.specs.declared.state.State.TheVariants.{Integrating}
-use Rattle.tte_lemmas.proofs.Lists.{none_in}
-use Rattle.tte_units.specs.Amount.{amount}
-use Rattle.tte_units.specs.declared.units.Units.{Units}
-use Rattle.world_steps.proofs.acting.Starts.{plain_compressed, plain_sent}
-use Rattle.world_steps.proofs.acting.Work.{IsAtWork, all_earlier, same_standing}
-use Rattle.world_law.proofs.acts.Acting.{point_number}
-use Rattle.world_law.proofs.acts.Dispatched.{plain_lost, plain_tt}
-use Rattle.world_law.proofs.devices.Borne.{by_last}
-use Rattle.world_law.proofs.runs.SourcesBack.{reaches_back, standing_in, up_back}
-use Rattle.world_law.specs.device.Left.{is_timed}
-use Rattle.world_law.specs.device.Recorded.{AreRecorded, HasCleared, IsShown, dispatch_body}
-use Rattle.world_law.specs.source.Sources.{IsAtCorrection, IsOwnSource}
-use Rattle.world_law.specs.world.World.{act_place}
 
 -- ---- a list has a thing or not
 

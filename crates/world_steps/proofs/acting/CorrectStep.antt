@@ -1,25 +1,9 @@
 -- The step by which a device comes to its correction point, whatever it comes to: the instant is over for it.
-use Rattle.std.proofs.Common.{◌≡◌, ℕ, false, true, List, ap, ◌∙◌}
-use Rattle.net_plan.specs.declared.ids.DeviceId.{DeviceId}
-use Rattle.net_plan.specs.declared.network.Network.{Network}
-use Rattle.run_law.specs.declared.note.Note.{Note}
-use Rattle.run_law.specs.machines.Nodes.{Node}
-use Rattle.run_law.specs.records.Happenings.{Happening}
-use Rattle.run_law.specs.records.Order.{behind}
-use Rattle.run_law.specs.scenario.Scenarios.{Scenario}
-use Rattle.sync_state.specs.declared.answers.Verdict.TheVariants.{AsyncClique, Cleared, Corrected, SyncClique}
-use Rattle.sync_state.specs.declared.answers.Verdict.{Verdict}
-use Rattle.sync_state.specs.declared.state.State.TheVariants.{Integrating, Joining, Off, Synchronised}
-use Rattle.sync_state.specs.declared.state.State.{State}
-use Rattle.tte_units.specs.declared.units.Units.{Units}
+use Rattle.world_steps.proofs.Words.{◌∙◌, ◌≡◌, AsyncClique, Cleared, Corrected, DeviceId, Happening, Integrating, Joining, List, Network, Node, Note, Off}
+use Rattle.world_steps.proofs.Words.{Scenario, Stands, StandsBehind, State, SyncClique, Synchronised, Units, Verdict, World, act_place, ap, behind, false}
+use Rattle.world_steps.proofs.Words.{is_timed, point_number, true, ℕ}
 use Rattle.world_steps.proofs.acting.CorrectSteps.{IsCorrecting, alone_goes_by, cleared_goes_by, corrected_goes_by, outnumbered_goes_by}
-use Rattle.world_steps.proofs.acting.FirstStep.{first_goes_by}
-use Rattle.world_steps.proofs.acting.Kept.{may_act_now}
-use Rattle.world_steps.proofs.acting.Stage.{stage_of}
-use Rattle.world_law.proofs.acts.Acting.{point_number}
-use Rattle.world_law.specs.device.Left.{is_timed}
-use Rattle.world_law.specs.world.Moves.{StandsBehind}
-use Rattle.world_law.specs.world.World.{Stands, World, act_place}
+use Rattle.world_steps.proofs.acting.{FirstStep.first_goes_by, Kept.may_act_now, Stage.stage_of}
 
 -- it had a next correction point
 was_timed : {C M : Type 0} (reading : C → ℕ → ℕ) (stands : M → Network → DeviceId → Node → Type 0) (s : Scenario) (world : World C M) (notes : List Note)

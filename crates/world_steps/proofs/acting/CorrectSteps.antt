@@ -1,56 +1,23 @@
 -- The steps by which a device comes to its correction point.
-use Rattle.std.proofs.Common.{◌≡◌, ℕ, ◌+◌, ◌≤◌, ◌<◌, ◌+ℤ◌, true, false, if◌then◌else◌, List, [], ◌∷◌, ◌++◌, length, map, slice_get, Some, inl, inr, refl, sym, ap, subst, ◌∙◌, arith}
-use Rattle.std.proofs.lemmas.Bool.{cases_eq}
-use Rattle.membership.specs.Summary.{Summary}
-use Rattle.net_plan.specs.declared.ids.DeviceId.{DeviceId}
-use Rattle.net_plan.specs.declared.network.Network.{Network}
-use Rattle.run_law.proofs.runs.Places.{in_right}
-use Rattle.run_law.specs.control.Collections.{ends_stretch}
-use Rattle.run_law.specs.declared.judgement.Why.TheVariants as whys
-use Rattle.run_law.specs.declared.judgement.Why.{Why}
-use Rattle.run_law.specs.declared.note.Note.{Note}
-use Rattle.run_law.specs.declared.note.NoteBody.TheVariants as kinds
-use Rattle.run_law.specs.declared.note.NoteBody.{NoteBody}
-use Rattle.run_law.specs.declared.steps.Act.TheVariants as acts
-use Rattle.run_law.specs.device.States.{state_after}
-use Rattle.run_law.specs.machines.Answers.{after_correction, called, with_clique}
-use Rattle.run_law.specs.machines.Nodes.{Node, acting, correcting}
-use Rattle.run_law.specs.machines.Tasks.{doing}
-use Rattle.run_law.specs.records.Happenings.{Happening, happenings}
-use Rattle.run_law.specs.records.Order.{IsBefore, IsIn, behind}
-use Rattle.run_law.specs.records.Ranks.{place_of, rank}
-use Rattle.run_law.specs.scenario.Scenarios.{Scenario, is_turned_on_at}
-use Rattle.sync_state.specs.Calls.{adjustment_by, state_by}
-use Rattle.sync_state.specs.declared.answers.Verdict.TheVariants.{AsyncClique, Cleared, Corrected, SyncClique}
-use Rattle.sync_state.specs.declared.answers.Verdict.{Verdict}
-use Rattle.sync_state.specs.declared.state.State.TheVariants.{Integrating, Joining, Synchronised}
-use Rattle.sync_state.specs.declared.state.State.{State}
-use Rattle.tte_lemmas.proofs.Lists.{none_in}
-use Rattle.tte_units.specs.declared.units.Units.{Units}
-use Rattle.world_steps.proofs.acting.AllOfIt.{HasOutcome, IsAtPoint, all_point, grown_none, grown_one}
-use Rattle.world_steps.proofs.acting.Clearing.{cleared_more, cleared_over}
-use Rattle.world_steps.proofs.acting.Correcting.{clique_over, corrected_over}
-use Rattle.world_steps.proofs.acting.Kept.{IsBare, bare_act, kept_over, may_act_now, ready_after}
-use Rattle.world_steps.proofs.acting.Moves.{IsCorrectedSo}
-use Rattle.world_steps.proofs.acting.Over.{IsOver}
+use Rattle.world_steps.proofs.Words.{if◌then◌else◌, ◌++◌, ◌+ℤ◌, ◌+◌, ◌<◌, ◌∙◌, ◌∷◌, ◌≡◌, ◌≤◌, ArePutIn, AsyncClique, Cleared, ComesFirst, Corrected, DeviceId}
+use Rattle.world_steps.proofs.Words.{Happening, HasActed, HasCleared, Integrating, IsBefore, IsDueNow, IsHeld, IsIn, IsNoTaking, IsReadyAt, IsSet, IsShownPut}
+use Rattle.world_steps.proofs.Words.{IsUnfollowed, Joining, List, Network, Node, Note, NoteBody, Scenario, Some, Stands, StandsBehind, State, Summary}
+use Rattle.world_steps.proofs.Words.{SyncClique, Synchronised, Units, Verdict, Why, World, [], act_place, acting, adjustment_by, all_without, ap, arith}
+use Rattle.world_steps.proofs.Words.{before_it, behind, called, cases_eq, correcting, doing, earlier_still, ends_stretch, false, happenings, held_moves, hidden}
+use Rattle.world_steps.proofs.Words.{in_right, inl, inr, is_turned_on_at, length, length_is, map, moment_of, none_in, none_yet, one_shown, place_of}
+use Rattle.world_steps.proofs.Words.{point_number, port_place, ports_move, put_at, rank, record_of, refl, slice_get, stands_on, state_after, state_by, subst}
+use Rattle.world_steps.proofs.Words.{sym, told_wires, true, turned_moves, waiting_moves, wire_place, wires_move, with_clique, ℕ}
+use Rattle.run_law.specs.machines.Answers.{after_correction}
+use Rattle.world_law.{proofs.putting.{Moving.settled_moves, PutOne.corrected_unfollowed, StandsOn.shown_still}, specs.world.Calls.IsStateOf}
+use Rattle.world_steps.proofs.acting.{AllOfIt.{HasOutcome, IsAtPoint, all_point, grown_none, grown_one}, Clearing.{cleared_more, cleared_over}}
+use Rattle.world_steps.proofs.acting.{Correcting.{clique_over, corrected_over}, Kept.{IsBare, bare_act, kept_over, may_act_now, ready_after}}
+use Rattle.world_steps.proofs.acting.{Moves.IsCorrectedSo, Over.IsOver}
 use Rattle.world_steps.proofs.acting.Points.{IsClique, at_point, clique_record, corrected_record, no_frames, none_at_point, not_on}
-use Rattle.world_steps.proofs.acting.Sending.{as_put, room_for, taken_then, turned_then}
-use Rattle.world_steps.proofs.acting.Stage.{IsActRecord, Stage, one_goes_by, others_so, stage_of}
-use Rattle.world_law.proofs.acts.Acting.{point_number}
-use Rattle.world_law.proofs.putting.Moving.{all_without, held_moves, ports_move, settled_moves, turned_moves, waiting_moves, wires_move}
-use Rattle.world_law.proofs.putting.Placing.{before_it, put_at}
-use Rattle.world_law.proofs.putting.PutOne.{IsUnfollowed, corrected_unfollowed}
-use Rattle.world_law.proofs.putting.PutShown.{IsShownPut, one_shown, record_of}
-use Rattle.world_law.proofs.putting.StandsOn.{shown_still, stands_on, told_wires}
-use Rattle.world_law.proofs.rows.Takings.{IsNoTaking}
-use Rattle.world_law.proofs.runs.SourcesBack.{earlier_still}
-use Rattle.world_law.proofs.runs.Worlds.{length_is}
-use Rattle.world_law.specs.device.Ready.{IsReadyAt}
-use Rattle.world_law.specs.device.Recorded.{HasCleared}
-use Rattle.world_law.specs.world.Calls.{HasActed, IsDueNow, IsSet, moment_of, IsStateOf}
+use Rattle.world_steps.proofs.acting.{Sending.{as_put, room_for, taken_then, turned_then}, Stage.{IsActRecord, Stage, one_goes_by, others_so, stage_of}}
 use Rattle.world_steps.specs.Acting.{correction_bodies}
-use Rattle.world_law.specs.world.Moves.{ArePutIn, ComesFirst, StandsBehind}
-use Rattle.world_law.specs.world.World.{IsHeld, Stands, World, act_place, hidden, none_yet, port_place, wire_place}
+use Rattle.run_law.specs.declared.judgement.Why.TheVariants as whys
+use Rattle.run_law.specs.declared.note.NoteBody.TheVariants as kinds
+use Rattle.run_law.specs.declared.steps.Act.TheVariants as acts
 
 -- what a step starts from by which the device comes to its correction point
 pub record IsCorrecting {C M : Type 0} (reading : C → ℕ → ℕ) (stands : M → Network → DeviceId → Node → Type 0) (s : Scenario) (world : World C M)

@@ -1,53 +1,22 @@
 -- A device that has come to its correction point: the instant is over for it.
-use Rattle.std.proofs.Common.{◌≡◌, ℕ, ◌+◌, ◌≤◌, ◌<◌, ℤ, pos, ◌+ℤ◌, ◌-ℤ◌, ◌<ℤ◌, ◌≤ℤ◌, Bool, true, false, if◌then◌else◌, List, [], ◌∷◌, ◌++◌, append_assoc, filter, None, Contains, inl, inr, refl, sym, ap, subst, ◌∙◌, arith}
-use Rattle.std.proofs.lemmas.Bool.{both_ways, cases_Bool, cases_lt}
-use Rattle.std.proofs.lemmas.List.{append-nil}
-use Rattle.std.proofs.lemmas.List.Elements.{filter-append}
-use Rattle.compression.specs.Clusters.{AreClusters}
-use Rattle.compression.specs.declared.compressed.Compressed.{Compressed}
-use Rattle.membership.specs.Summary.{Summary}
-use Rattle.net_plan.specs.declared.ids.DeviceId.{DeviceId}
-use Rattle.net_plan.specs.declared.network.Network.{Network}
-use Rattle.run_law.proofs.law.FirstPlaces.{none_kept}
-use Rattle.run_law.proofs.runs.Places.{in_left, in_right}
-use Rattle.run_law.proofs.silent.Due.{no_cluster}
-use Rattle.run_law.specs.control.Collections.{ends_stretch, observation_window}
-use Rattle.run_law.specs.control.Corrections.{recorded_cycle, integration_cycle}
-use Rattle.run_law.specs.declared.judgement.Why.TheVariants as whys
-use Rattle.run_law.specs.declared.judgement.Why.{Why}
-use Rattle.run_law.specs.declared.note.NoteBody.TheVariants as kinds
-use Rattle.run_law.specs.declared.note.NoteBody.{NoteBody}
-use Rattle.run_law.specs.declared.steps.Moment.{Moment}
-use Rattle.run_law.specs.device.LocalClocks.{changed_at}
-use Rattle.run_law.specs.device.States.{is_synchronised}
-use Rattle.run_law.specs.machines.Answers.{called, with_clique, with_corrected}
-use Rattle.run_law.specs.machines.Nodes.{ClockTask, Node, acting, correcting, dispatching, sending}
-use Rattle.run_law.specs.machines.Tasks.{IsDeedOf, IsWaiting, value_of}
-use Rattle.run_law.specs.records.Happenings.{Happening, earlier, time_of}
-use Rattle.run_law.specs.records.Order.{IsIn, NoneBefore}
-use Rattle.run_law.specs.records.Ranks.{place_of, rank}
-use Rattle.run_law.specs.scenario.Devices.{is_cm}
-use Rattle.run_law.specs.scenario.Scenarios.{Scenario, is_broken, is_turned_on_at}
+use Rattle.world_steps.proofs.Words.{if◌then◌else◌, ◌++◌, ◌+ℤ◌, ◌+◌, ◌-ℤ◌, ◌<ℤ◌, ◌<◌, ◌∙◌, ◌∷◌, ◌≡◌, ◌≤ℤ◌, ◌≤◌, AreClusters, Bool, ClockTask, Compressed}
+use Rattle.world_steps.proofs.Words.{DeviceId, Happening, HasDoneFrom, HasSentFrom, Integrating, IsDeedOf, IsIn, IsLeft, IsWaiting, Joining, List, Moment}
+use Rattle.world_steps.proofs.Words.{Network, Node, None, NoneBefore, NoteBody, Scenario, Summary, Synchronised, Units, Verdict, Why, [], acting, adjustment_by}
+use Rattle.world_steps.proofs.Words.{ap, append-nil, append_assoc, arith, bears_on, called, cases_lt, change_still, changed_at, correcting, dispatching}
+use Rattle.world_steps.proofs.Words.{earlier, ends_stretch, false, filter, filter-append, in_left, in_right, inl, inr, is_broken, is_cm, is_synchronised}
+use Rattle.world_steps.proofs.Words.{is_turned_on_at, moves, no_cluster, none_in, none_kept, not_turned_on, observation_window, place_of, plains, plains_parts}
+use Rattle.world_steps.proofs.Words.{pos, rank, recorded_cycle, refl, sending, state_by, subst, sym, time_of, told_by_others, true, value_of, with_clique, ℕ, ℤ}
+use Rattle.std.proofs.Common.{Contains}
+use Rattle.run_law.specs.machines.Answers.{with_corrected}
 use Rattle.sync_state.proofs.StateFacts.{no_longer, no_point}
-use Rattle.sync_state.specs.Calls.{adjustment_by, state_by}
-use Rattle.sync_state.specs.declared.answers.Verdict.{Verdict}
-use Rattle.sync_state.specs.declared.state.State.TheVariants.{Integrating, Joining, Synchronised}
 use Rattle.tte_lemmas.proofs.Integers.{ahead_yet}
-use Rattle.tte_lemmas.proofs.Lists.{none_in}
-use Rattle.tte_units.specs.declared.units.Units.{Units}
-use Rattle.world_steps.proofs.acting.GoesOn.{IsPutAs}
-use Rattle.world_steps.proofs.acting.Moves.{IsBase, IsCorrectedSo, changed_by, cliques, corrects, joiner_corrects, one_earlier}
-use Rattle.world_steps.proofs.acting.Over.{IsOver}
+use Rattle.world_law.proofs.devices.{Borne.{left_alike, tell_alike}, OwnRecords.{adjustment_still, cycle_still, integration_still, state_still}}
+use Rattle.world_law.proofs.{devices.{Passes.{local_still, started_still}, Plains.changes_at_plain}, runs.Foremost.unmoved_by}
+use Rattle.world_law.specs.device.Own.{IsStill, borne}
+use Rattle.world_steps.proofs.acting.{GoesOn.IsPutAs, Moves.{IsBase, IsCorrectedSo, changed_by, cliques, corrects, joiner_corrects, one_earlier}, Over.IsOver}
 use Rattle.world_steps.proofs.acting.Work.{IsAtWork}
-use Rattle.world_law.proofs.devices.Borne.{tell_alike, left_alike}
-use Rattle.world_law.proofs.devices.OwnRecords.{adjustment_still, change_still, cycle_still, integration_still, state_still}
-use Rattle.world_law.proofs.devices.Passes.{local_still, not_turned_on, started_still}
-use Rattle.world_law.proofs.devices.Plains.{changes_at_plain, plains_parts, told_by_others}
-use Rattle.world_law.proofs.runs.Foremost.{unmoved_by}
-use Rattle.world_law.specs.device.Deeds.{HasDoneFrom, HasSentFrom}
-use Rattle.world_law.specs.device.Left.{IsLeft}
-use Rattle.world_law.specs.device.Own.{IsStill, bears_on, borne, moves}
-use Rattle.world_law.specs.device.Plain.{plains}
+use Rattle.run_law.specs.declared.judgement.Why.TheVariants as whys
+use Rattle.run_law.specs.declared.note.NoteBody.TheVariants as kinds
 
 -- ---- where it stands at the next unit of time, without the record
 

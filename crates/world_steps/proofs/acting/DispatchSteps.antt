@@ -1,37 +1,15 @@
 -- The steps by which a device dispatches a row's frame.
-use Rattle.std.proofs.Common.{◌≡◌, ℕ, ◌<◌, pos, ◌<ℤ◌, true, false, List, [], ◌∷◌, ◌++◌, length, map, slice_get, Some, inl, inr, refl, sym, ap, subst, ◌∙◌, arith}
-use Rattle.net_plan.specs.declared.ids.DeviceId.{DeviceId}
-use Rattle.net_plan.specs.declared.ids.RowId.{RowId}
-use Rattle.net_plan.specs.declared.network.Network.{Network}
-use Rattle.run_law.proofs.runs.Places.{before_behind, chain}
-use Rattle.run_law.specs.declared.note.Note.{Note}
-use Rattle.run_law.specs.declared.steps.Act.TheVariants as acts
-use Rattle.run_law.specs.machines.Nodes.{Node}
-use Rattle.run_law.specs.machines.Tasks.{IsPending, Task, reading_for}
-use Rattle.run_law.specs.records.Happenings.{Happening, happenings}
-use Rattle.run_law.specs.records.Order.{IsBefore, behind}
-use Rattle.run_law.specs.scenario.Scenarios.{Scenario, is_turned_on_at}
-use Rattle.run_law.specs.timed.Dispatching.{HasAtHand}
+use Rattle.world_steps.proofs.Words.{◌++◌, ◌<ℤ◌, ◌<◌, ◌∙◌, ◌∷◌, ◌≡◌, ArePutIn, ComesFirst, DeviceId, Entry, Happening, HasActed, HasAtHand, HasTaskBy}
+use Rattle.world_steps.proofs.Words.{HasTurnedOn, IsBefore, IsDueNow, IsPending, IsSet, IsShownPut, List, Network, Node, Note, RowId, Scenario, Some, Stands}
+use Rattle.world_steps.proofs.Words.{StandsBehind, Task, World, [], act_place, ap, arith, before_behind, behind, chain, dispatch_body, dispatch_late, false}
+use Rattle.world_steps.proofs.Words.{happenings, hidden, inl, inr, is_turned_on_at, length, length_is, map, moment_of, one_shown, pos, put_at, reading_for}
+use Rattle.world_steps.proofs.Words.{record_of, refl, slice_get, subst, sym, true, turned_comes, turned_moves, ℕ}
 use Rattle.schedule_tables.specs.Entries.{IsEntry}
-use Rattle.schedule_tables.specs.declared.entry.Entry.{Entry}
-use Rattle.world_steps.proofs.acting.AllOfIt.{all_idle}
-use Rattle.world_steps.proofs.acting.Dispatches.{told_dispatches}
+use Rattle.world_steps.proofs.acting.{AllOfIt.all_idle, Dispatches.told_dispatches}
 use Rattle.world_steps.proofs.acting.Dispatching.{dispatch_cause, dispatching_record, hand_within, has_dispatched_it}
-use Rattle.world_steps.proofs.acting.Kept.{bare_act, kept_at_work, kept_over, may_act_now}
-use Rattle.world_steps.proofs.acting.Over.{is_over}
-use Rattle.world_steps.proofs.acting.Sending.{as_put, calm_then, room_for, turned_then}
+use Rattle.world_steps.proofs.acting.{Kept.{bare_act, kept_at_work, kept_over, may_act_now}, Over.is_over, Sending.{as_put, calm_then, room_for, turned_then}}
 use Rattle.world_steps.proofs.acting.Stage.{Stage, lawful_then, one_goes_by, one_stays, stage_of}
-use Rattle.world_law.proofs.acts.Recorded.{dispatch_late}
-use Rattle.world_law.proofs.putting.Coming.{turned_comes}
-use Rattle.world_law.proofs.putting.Moving.{turned_moves}
-use Rattle.world_law.proofs.putting.Placing.{put_at}
-use Rattle.world_law.proofs.putting.PutShown.{IsShownPut, one_shown, record_of}
-use Rattle.world_law.proofs.runs.Worlds.{length_is}
-use Rattle.world_law.specs.device.Left.{HasTaskBy}
-use Rattle.world_law.specs.device.Recorded.{dispatch_body}
-use Rattle.world_law.specs.world.Calls.{HasActed, IsDueNow, IsSet, moment_of}
-use Rattle.world_law.specs.world.Moves.{ArePutIn, ComesFirst, StandsBehind}
-use Rattle.world_law.specs.world.World.{HasTurnedOn, Stands, World, act_place, hidden}
+use Rattle.run_law.specs.declared.steps.Act.TheVariants as acts
 
 -- what a step starts from by which the device dispatches a row
 pub record IsDispatching {C M : Type 0} (reading : C → ℕ → ℕ) (stands : M → Network → DeviceId → Node → Type 0) (s : Scenario) (world : World C M)

@@ -1,23 +1,9 @@
 -- Each row that a device at work dispatches at the instant is still to be dispatched, or told.
-use Rattle.std.proofs.Common.{◌≡◌, ◌⊎◌, ℕ, ℤ, pos, ◌-ℤ◌, ◌<ℤ◌, ◌≤ℤ◌, List, ◌++◌, inl, inr, sym, ap, subst, ◌∙◌}
-use Rattle.std.proofs.lemmas.Bool.{cases_eq}
-use Rattle.net_plan.specs.declared.ids.DeviceId.{DeviceId}
-use Rattle.net_plan.specs.declared.ids.RowId.{RowId}
-use Rattle.run_law.specs.device.LocalClocks.{Reaches}
-use Rattle.run_law.specs.machines.Nodes.{ClockTask, Node, correcting, dispatching, sending}
-use Rattle.run_law.specs.machines.Tasks.{value_of}
-use Rattle.run_law.specs.records.Happenings.{Happening}
-use Rattle.run_law.specs.scenario.Scenarios.{Scenario}
-use Rattle.run_law.specs.timed.Dispatching.{Dispatches}
-use Rattle.tte_units.specs.declared.units.Units.{Units}
-use Rattle.world_steps.proofs.acting.AllOfIt.{DispatchesTold}
-use Rattle.world_steps.proofs.acting.Complete.{contains_or}
-use Rattle.world_steps.proofs.acting.Work.{IsAtWork, all_earlier}
-use Rattle.world_law.proofs.rows.AtHand.{has_frame, value_is}
-use Rattle.world_law.proofs.rows.Dispatching.{IsLawful}
-use Rattle.world_law.proofs.runs.SourcesBack.{dispatches_back}
-use Rattle.world_law.specs.device.Recorded.{AreRecorded}
-use Rattle.world_law.specs.device.Takings.{frames_taken}
+use Rattle.world_steps.proofs.Words.{◌++◌, ◌-ℤ◌, ◌<ℤ◌, ◌∙◌, ◌≡◌, ◌≤ℤ◌, ◌⊎◌, AreRecorded, ClockTask, DeviceId, Dispatches, Happening, IsLawful, List, Node}
+use Rattle.world_steps.proofs.Words.{Reaches, RowId, Scenario, Units, ap, cases_eq, correcting, dispatches_back, dispatching, frames_taken, inl, inr, pos}
+use Rattle.world_steps.proofs.Words.{sending, subst, sym, value_is, value_of, ℕ, ℤ}
+use Rattle.world_law.proofs.rows.AtHand.{has_frame}
+use Rattle.world_steps.proofs.acting.{AllOfIt.DispatchesTold, Complete.contains_or, Work.{IsAtWork, all_earlier}}
 
 same_dispatch : (row : RowId) (cycle : ℕ) (d : ClockTask) → (d ≡ dispatching row cycle) ⊎ (d ≡ dispatching row cycle → ⊥)
 same_dispatch row cycle (dispatching other n) = elim (cases_eq other.0 row.0) [

@@ -1,63 +1,23 @@
 -- A device dispatches a row's frame: its record, and how the device stands then.
-use Rattle.std.proofs.Common.{◌≡◌, ℕ, ◌+◌, ◌*◌, ◌≤◌, ℤ, pos, ◌≤ℤ◌, Bool, true, false, if◌then◌else◌, List, [], ◌∷◌, ◌++◌, length, filter, nat_lt, Option, None, option_to_list, Contains, inl, inr, refl, sym, ap, subst, ◌∙◌, arith}
-use Rattle.std.proofs.lemmas.Bool.{cases_lt, ne_eqb}
-use Rattle.std.proofs.lemmas.List.{append-nil}
-use Rattle.std.proofs.lemmas.List.Elements.{Contains-append_left, Contains-push, Contains-push_cases}
-use Rattle.membership.specs.Hearing.{Hearing}
-use Rattle.net_plan.proofs.SameIds.{same_device, same_link, same_vl}
-use Rattle.net_plan.specs.declared.ids.DeviceId.{DeviceId}
-use Rattle.net_plan.specs.declared.ids.LinkId.{LinkId}
-use Rattle.net_plan.specs.declared.ids.RowId.{RowId}
-use Rattle.net_plan.specs.declared.ids.VlId.{VlId}
-use Rattle.net_plan.specs.declared.network.Network.{Network}
-use Rattle.run_law.proofs.law.FirstDeliveries.{last_in}
-use Rattle.run_law.proofs.law.FirstPlaces.{by_number, in_filter, numbered_within}
-use Rattle.run_law.proofs.runs.Places.{in_left, in_right}
-use Rattle.run_law.proofs.timed.Rows.{at_hand_by}
-use Rattle.run_law.specs.control.Corrections.{hearing_by}
-use Rattle.run_law.specs.declared.note.NoteBody.TheVariants as kinds
-use Rattle.run_law.specs.declared.note.NoteBody.{NoteBody}
-use Rattle.run_law.specs.declared.steps.Act.TheVariants as acts
-use Rattle.run_law.specs.declared.steps.Moment.{Moment}
-use Rattle.run_law.specs.device.LocalClocks.{Reaches, changed_at}
-use Rattle.run_law.specs.machines.Answers.{IsActOf, called, with_done}
-use Rattle.run_law.specs.machines.Nodes.{Node, acting, correcting, dispatching, sending}
-use Rattle.run_law.specs.machines.Tasks.{IsFirstTask, IsPending, doing, reading_for}
-use Rattle.run_law.specs.records.Causes.{cause_of}
-use Rattle.run_law.specs.records.Happenings.{Happening, earlier, time_of}
-use Rattle.run_law.specs.records.Order.{IsIn, NoneBefore}
-use Rattle.run_law.specs.records.Ranks.{key, members_in, place_of, rank}
-use Rattle.run_law.specs.runs.DueRecords.{IsDue}
-use Rattle.run_law.specs.runs.Runs.{IsFounded}
-use Rattle.run_law.specs.scenario.Scenarios.{Scenario}
-use Rattle.run_law.specs.scenario.Ways.{is_cut, way_from}
-use Rattle.run_law.specs.timed.Dispatching.{Dispatches, HasAtHand, is_accepted}
-use Rattle.schedule_tables.proofs.EntryLemmas.{one_entry}
-use Rattle.schedule_tables.specs.Entries.{IsEntry, source_of}
-use Rattle.schedule_tables.specs.Windows.{OccursIn}
-use Rattle.schedule_tables.specs.declared.entry.Entry.{Entry}
-use Rattle.tte_units.specs.Amount.{amount}
-use Rattle.world_steps.proofs.acting.GoesOn.{IsPutAs, body_plain, does, earlier_put, goes_on, left_on, one_of, put_now, sent_alike, shown_now, shown_still}
-use Rattle.world_steps.proofs.acting.Kept.{may_act_now, ready_after}
-use Rattle.world_steps.proofs.acting.Sending.{HasSentIt, as_put, nothing_aside, taken_then}
-use Rattle.world_steps.proofs.acting.Stage.{IsActRecord, Stage}
-use Rattle.world_steps.proofs.acting.Work.{IsAtWork, all_earlier, reaches}
-use Rattle.world_law.proofs.acts.Acted.{waiting_alike}
-use Rattle.world_law.proofs.acts.Recorded.{dispatch_late}
-use Rattle.world_law.proofs.putting.Placing.{put_at}
-use Rattle.world_law.proofs.putting.PutOne.{last_unfollowed}
-use Rattle.world_law.proofs.putting.PutShown.{record_of}
-use Rattle.world_law.proofs.rows.AtHand.{value_is}
-use Rattle.world_law.proofs.rows.Dispatching.{IsLawful}
+use Rattle.world_steps.proofs.Words.{if◌then◌else◌, ◌++◌, ◌+◌, ◌∙◌, ◌∷◌, ◌≡◌, ◌≤ℤ◌, ◌≤◌, AreRecorded, Bool, Contains-append_left, Contains-push}
+use Rattle.world_steps.proofs.Words.{Contains-push_cases, DeviceId, Dispatches, Entry, Happening, HasAtHand, HasCleared, Hearing, IsActOf, IsActing, IsDue}
+use Rattle.world_steps.proofs.Words.{IsFirstTask, IsFounded, IsIn, IsLawful, IsPending, IsReadyAt, LinkId, List, Moment, Network, Node, None, NoneBefore}
+use Rattle.world_steps.proofs.Words.{NoteBody, Option, Reaches, RowId, Scenario, VlId, [], acting, amount, ap, append-nil, arith, by_number, called, cases_lt}
+use Rattle.world_steps.proofs.Words.{cause_of, changed_at, changed_before, correcting, dispatch_body, dispatch_late, dispatches_same, dispatching, doing}
+use Rattle.world_steps.proofs.Words.{earlier, false, filter, hearing_by, in_left, in_right, inl, inr, is_accepted, is_cut, key, last_in, last_unfollowed}
+use Rattle.world_steps.proofs.Words.{length, members_in, moment_of, moves, nat_lt, ne_eqb, numbered_within, option_to_list, place_of, plain_body, pos, put_at}
+use Rattle.world_steps.proofs.Words.{rank, reaches_back, reading_for, record_of, refl, same_device, sending, subst, sym, time_of, true, up_back, value_is}
+use Rattle.world_steps.proofs.Words.{waiting_alike, way_from, with_done, ℕ, ℤ}
+use Rattle.std.proofs.Common.{◌*◌, Contains}
+use Rattle.net_plan.proofs.SameIds.{same_link, same_vl}
+use Rattle.run_law.proofs.{law.FirstPlaces.in_filter, timed.Rows.at_hand_by}
+use Rattle.schedule_tables.{proofs.EntryLemmas.one_entry, specs.{Entries.{IsEntry, source_of}, Windows.OccursIn}}
 use Rattle.world_law.proofs.rows.OneRow.{one_told, told_alike}
-use Rattle.world_law.proofs.runs.Agreement.{changed_before}
-use Rattle.world_law.proofs.runs.SourcesBack.{dispatches_back, dispatches_same, reaches_back, up_back}
-use Rattle.world_law.specs.device.Ready.{IsReadyAt}
-use Rattle.world_law.specs.device.Own.{moves}
-use Rattle.world_law.specs.device.Plain.{plain_body}
-use Rattle.world_law.specs.device.Recorded.{AreRecorded, HasCleared, dispatch_body}
-use Rattle.world_law.specs.source.Sources.{IsActing}
-use Rattle.world_law.specs.world.Calls.{moment_of}
+use Rattle.world_steps.proofs.acting.GoesOn.{IsPutAs, body_plain, does, earlier_put, goes_on, left_on, one_of, put_now, sent_alike, shown_now, shown_still}
+use Rattle.world_steps.proofs.acting.{Kept.{may_act_now, ready_after}, Sending.{HasSentIt, as_put, nothing_aside, taken_then}, Stage.{IsActRecord, Stage}}
+use Rattle.world_steps.proofs.acting.Work.{IsAtWork, all_earlier, reaches}
+use Rattle.run_law.specs.declared.note.NoteBody.TheVariants as kinds
+use Rattle.run_law.specs.declared.steps.Act.TheVariants as acts
 
 -- ---- it is a dispatch
 

@@ -1,57 +1,26 @@
 -- The steps by which a compression master emits the frame of a collection, and does not join by it. That no frame was
 -- permanent there at a point before 0 is a premise here.
-use Rattle.std.proofs.Common.{◌≡◌, ◌⊎◌, ℕ, ◌+◌, ◌≤◌, ◌<◌, ℤ, pos, ◌<ℤ◌, ◌≤ℤ◌, Bool, true, false, ◌==◌, List, [], ◌∷◌, ◌++◌, length, map, slice_get, Option, Some, None, Contains, inl, inr, refl, sym, ap, subst, ◌∙◌, arith}
-use Rattle.std.proofs.lemmas.Bool.{cases_lt, ne_eqb, eq-eqb}
-use Rattle.compression.specs.Clusters.{Point}
-use Rattle.compression.specs.declared.compressed.Compressed.{Compressed}
-use Rattle.net_plan.specs.declared.ids.DeviceId.{DeviceId}
-use Rattle.net_plan.specs.declared.network.Network.{Network}
-use Rattle.run_law.proofs.runs.Places.{before_behind, chain, in_right}
-use Rattle.run_law.specs.control.Corrections.{hearing_by}
-use Rattle.run_law.specs.control.Permanence.{ripe_as}
+use Rattle.world_steps.proofs.Words.{◌++◌, ◌+◌, ◌<ℤ◌, ◌<◌, ◌==◌, ◌∙◌, ◌∷◌, ◌≡◌, ◌≤ℤ◌, ◌≤◌, ArePutIn, AreRecorded, Bool, ComesFirst, Compressed, DeviceId}
+use Rattle.world_steps.proofs.Words.{Happening, HasActed, HasTaskBy, HasTurnedOn, IsActOf, IsActing, IsBefore, IsDueNow, IsFirstTask, IsFrameOf, IsIn}
+use Rattle.world_steps.proofs.Words.{IsPending, IsSet, IsShownPut, Judgement, List, Network, Node, None, NoneBefore, Note, NoteBody, Option, Point, Ripe}
+use Rattle.world_steps.proofs.Words.{Scenario, Some, Stands, StandsBehind, Task, World, [], act_place, acting, amount, ap, arith, before_behind, behind, called}
+use Rattle.world_steps.proofs.Words.{cases_lt, chain, correcting, due_of, emitting, false, happenings, hearing_by, hears, hidden, in_right, inl, inr, is_last}
+use Rattle.world_steps.proofs.Words.{is_turned_on_at, key, last_unfollowed, length, length_is, map, members_in, moment_of, ne_eqb, one_shown, place_of}
+use Rattle.world_steps.proofs.Words.{plain_body, pos, put_at, rank, reading_for, record_of, refl, ripe_as, slice_get, subst, sym, time_of, true, turned_comes}
+use Rattle.world_steps.proofs.Words.{turned_moves, ℕ, ℤ}
+use Rattle.std.proofs.Common.{Contains}
+use Rattle.run_law.specs.{machines.Answers.after_emission, records.Ranks.sign}
+use Rattle.world_law.{proofs.putting.PutAct.{least_of_own, there_already}, specs.world.Outcomes.judged_as}
+use Rattle.world_steps.proofs.acting.{AllOfIt.all_idle, Clusters.one_frame, Dispatches.told_dispatches}
+use Rattle.world_steps.proofs.acting.Emitting.{IsEmitted, StaysBy, emits_on, emitted_recorded, is_emitted, node_emitted}
+use Rattle.world_steps.proofs.acting.{FromZero.{permanent_from_zero, points_from_zero}, Kept.{bare_act, kept_at_work, kept_over, may_act_now, ready_after}}
+use Rattle.world_steps.proofs.acting.{Over.is_over, Sending.{HasSentIt, as_put, calm_then, nothing_aside, room_for, taken_then, turned_then}}
+use Rattle.world_steps.proofs.acting.{Stage.{IsActRecord, Stage, lawful_then, one_goes_by, one_stays, stage_of}, Work.{emits, own_judgement}}
+use Rattle.world_steps.specs.Acting.{joining_bodies}
 use Rattle.run_law.specs.declared.judgement.Judgement.TheVariants as judgements
-use Rattle.run_law.specs.declared.judgement.Judgement.{Judgement}
-use Rattle.run_law.specs.declared.note.Note.{Note}
 use Rattle.run_law.specs.declared.note.NoteBody.TheVariants as kinds
-use Rattle.run_law.specs.declared.note.NoteBody.{NoteBody}
 use Rattle.run_law.specs.declared.steps.Act.TheVariants as acts
 use Rattle.run_law.specs.declared.steps.Ripe.TheVariants as ripe
-use Rattle.run_law.specs.declared.steps.Ripe.{Ripe}
-use Rattle.run_law.specs.machines.Answers.{IsActOf, after_emission, called}
-use Rattle.run_law.specs.machines.Nodes.{Node, acting, correcting}
-use Rattle.run_law.specs.machines.Tasks.{IsFirstTask, IsPending, Task, emitting, reading_for}
-use Rattle.run_law.specs.records.Happenings.{Happening, happenings, time_of}
-use Rattle.run_law.specs.records.Order.{IsBefore, IsIn, NoneBefore, behind}
-use Rattle.run_law.specs.records.Ranks.{key, members_in, place_of, rank, sign}
-use Rattle.run_law.specs.scenario.Scenarios.{Scenario, is_turned_on_at}
-use Rattle.tte_units.specs.Amount.{amount}
-use Rattle.world_steps.proofs.acting.AllOfIt.{all_idle}
-use Rattle.world_steps.proofs.acting.Clusters.{one_frame}
-use Rattle.world_steps.proofs.acting.Dispatches.{told_dispatches}
-use Rattle.world_steps.proofs.acting.Emitting.{IsEmitted, StaysBy, emits_on, emitted_recorded, is_emitted, node_emitted}
-use Rattle.world_steps.proofs.acting.FromZero.{permanent_from_zero, points_from_zero}
-use Rattle.world_steps.proofs.acting.Kept.{bare_act, kept_at_work, kept_over, may_act_now, ready_after}
-use Rattle.world_steps.proofs.acting.Over.{is_over}
-use Rattle.world_steps.proofs.acting.Sending.{HasSentIt, as_put, calm_then, nothing_aside, room_for, taken_then, turned_then}
-use Rattle.world_steps.proofs.acting.Stage.{IsActRecord, Stage, lawful_then, one_goes_by, one_stays, stage_of}
-use Rattle.world_steps.proofs.acting.Work.{emits, own_judgement}
-use Rattle.world_law.proofs.putting.Coming.{turned_comes}
-use Rattle.world_law.proofs.putting.Moving.{turned_moves}
-use Rattle.world_law.proofs.putting.Near.{hears}
-use Rattle.world_law.proofs.putting.Placing.{put_at}
-use Rattle.world_law.proofs.putting.PutAct.{least_of_own, there_already}
-use Rattle.world_law.proofs.putting.PutOne.{is_last, last_unfollowed}
-use Rattle.world_law.proofs.putting.PutShown.{IsShownPut, due_of, one_shown, record_of}
-use Rattle.world_law.proofs.runs.Worlds.{length_is}
-use Rattle.world_law.specs.device.Left.{HasTaskBy}
-use Rattle.world_law.specs.device.Plain.{plain_body}
-use Rattle.world_law.specs.device.Recorded.{AreRecorded, IsFrameOf}
-use Rattle.world_law.specs.source.Sources.{IsActing}
-use Rattle.world_law.specs.world.Calls.{HasActed, IsDueNow, IsSet, moment_of}
-use Rattle.world_steps.specs.Acting.{joining_bodies}
-use Rattle.world_law.specs.world.Outcomes.{judged_as}
-use Rattle.world_law.specs.world.Moves.{ArePutIn, ComesFirst, StandsBehind}
-use Rattle.world_law.specs.world.World.{HasTurnedOn, Stands, World, act_place, hidden}
 
 -- ---- judgements
 

@@ -1,51 +1,17 @@
 -- A compression master that has emitted, and has not joined by its own frame, is at work still.
-use Rattle.std.proofs.Common.{◌≡◌, ◌⊎◌, ℕ, ◌+◌, ◌≤◌, ℤ, pos, ◌<ℤ◌, ◌≤ℤ◌, Bool, true, false, if◌then◌else◌, List, [], ◌∷◌, ◌++◌, filter_map, Option, Some, None, option_to_list, option_map, Contains, inl, inr, refl, sym, ap, subst, ◌∙◌, arith}
-use Rattle.std.specs.Option.{option_map_or}
-use Rattle.std.specs.List.{cons_option}
-use Rattle.std.proofs.lemmas.Bool.{cases_lt}
-use Rattle.std.proofs.lemmas.List.{append-nil}
-use Rattle.std.proofs.lemmas.List.Elements.{Contains-append_left, Contains-push, Contains-push_cases}
-use Rattle.compression.specs.Clusters.{AreClusters}
-use Rattle.compression.specs.declared.compressed.Compressed.{Compressed}
-use Rattle.membership.specs.Hearing.{Hearing}
-use Rattle.net_plan.proofs.SameIds.{self}
-use Rattle.net_plan.specs.declared.ids.DeviceId.{DeviceId}
-use Rattle.net_plan.specs.declared.ids.RowId.{RowId}
-use Rattle.net_plan.specs.declared.network.Network.{Network}
-use Rattle.pcf_values.specs.declared.channel.Channel.{Channel}
-use Rattle.pcf_values.specs.declared.members.Members.{Members}
-use Rattle.pcf_values.specs.declared.pcf.Pcf.{Pcf}
-use Rattle.run_law.specs.control.Collections.{observation_window}
-use Rattle.run_law.specs.control.Corrections.{hearing_by}
-use Rattle.run_law.specs.control.Permanence.{ripe_as}
-use Rattle.run_law.specs.declared.judgement.Judgement.TheVariants as judgements
-use Rattle.run_law.specs.declared.judgement.Judgement.{Judgement}
-use Rattle.run_law.specs.declared.note.NoteBody.TheVariants as kinds
-use Rattle.run_law.specs.declared.note.NoteBody.{NoteBody}
-use Rattle.run_law.specs.declared.steps.Moment.{Moment}
-use Rattle.run_law.specs.device.LocalClocks.{changed_at}
-use Rattle.run_law.specs.machines.Answers.{after_emission, called, hearings}
-use Rattle.run_law.specs.machines.Nodes.{Node, acting, dispatching, sending}
-use Rattle.run_law.specs.machines.Tasks.{IsFirstTask, emitting, value_of}
-use Rattle.run_law.specs.records.Frames.{integration_frame}
-use Rattle.run_law.specs.records.Happenings.{Happening}
-use Rattle.run_law.specs.records.Order.{IsIn}
-use Rattle.run_law.specs.records.Ranks.{rank}
-use Rattle.run_law.specs.scenario.Devices.{channel_of}
-use Rattle.run_law.specs.scenario.Scenarios.{Scenario}
-use Rattle.tte_units.specs.Amount.{amount}
-use Rattle.tte_units.specs.declared.units.Units.{Units}
+use Rattle.world_steps.proofs.Words.{if◌then◌else◌, ◌++◌, ◌+◌, ◌<ℤ◌, ◌∙◌, ◌∷◌, ◌≡◌, ◌≤ℤ◌, ◌≤◌, AreClusters, AreRecorded, Bool, Channel, Compressed}
+use Rattle.world_steps.proofs.Words.{Contains-append_left, Contains-push, Contains-push_cases, DeviceId, Happening, HasDoneFrom, Hearing, IsAlike, IsFirstTask}
+use Rattle.world_steps.proofs.Words.{IsFrameOf, IsIn, IsReadyAt, Judgement, List, Members, Moment, Network, Node, None, NoteBody, Option, Pcf, RowId, Scenario}
+use Rattle.world_steps.proofs.Words.{Some, Units, [], acting, amount, ap, append-nil, arith, called, cases_lt, changed_at, cons_option, dispatch_body}
+use Rattle.world_steps.proofs.Words.{dispatch_late, dispatches_same, dispatching, emitting, false, hearing_by, inl, inr, moves, observation_window, option_map}
+use Rattle.world_steps.proofs.Words.{option_map_or, option_to_list, plain_body, pos, rank, reaches_back, refl, ripe_as, self, sending, subst, sym, true}
+use Rattle.world_steps.proofs.Words.{undone_alike, up_back, value_of, waiting_alike, ℕ, ℤ}
+use Rattle.std.proofs.Common.{Contains}
+use Rattle.run_law.specs.{machines.Answers.{after_emission, hearings}, records.Frames.integration_frame, scenario.Devices.channel_of}
 use Rattle.world_steps.proofs.acting.GoesOn.{IsPutAs, body_plain, earlier_put, goes_on, left_on, one_of, put_now, shown_now, shown_still}
-use Rattle.world_steps.proofs.acting.Stays.{IsSameBut, heard_by_these}
-use Rattle.world_steps.proofs.acting.Work.{IsAtWork}
-use Rattle.world_law.proofs.acts.Acted.{IsAlike, undone_alike, waiting_alike}
-use Rattle.world_law.proofs.acts.Recorded.{dispatch_late}
-use Rattle.world_law.proofs.runs.SourcesBack.{dispatches_same, reaches_back, up_back}
-use Rattle.world_law.specs.device.Ready.{IsReadyAt}
-use Rattle.world_law.specs.device.Deeds.{HasDoneFrom}
-use Rattle.world_law.specs.device.Own.{moves}
-use Rattle.world_law.specs.device.Plain.{plain_body}
-use Rattle.world_law.specs.device.Recorded.{AreRecorded, IsFrameOf, dispatch_body}
+use Rattle.world_steps.proofs.acting.{Stays.{IsSameBut, heard_by_these}, Work.IsAtWork}
+use Rattle.run_law.specs.declared.judgement.Judgement.TheVariants as judgements
+use Rattle.run_law.specs.declared.note.NoteBody.TheVariants as kinds
 
 -- ---- what it hears of its own frame
 

@@ -1,64 +1,23 @@
 -- The step by which a joiner has its first correction, and has the common time from then on.
-use Rattle.std.proofs.Common.{◌≡◌, ◌⊎◌, ℕ, ◌+◌, ◌≤◌, ◌<◌, ◌+ℤ◌, if◌then◌else◌, true, false, List, [], ◌∷◌, ◌++◌, append_assoc, length, map, slice_get, Some, inl, inr, refl, sym, ap, subst, ◌∙◌, arith}
-use Rattle.std.proofs.lemmas.Bool.{both_ways, cases_eq, ne_eqb}
-use Rattle.std.proofs.lemmas.List.{length-append}
-use Rattle.net_plan.specs.declared.ids.DeviceId.{DeviceId}
-use Rattle.net_plan.specs.declared.network.Network.{Network}
-use Rattle.run_law.proofs.runs.Places.{in_left, in_parts, in_right}
-use Rattle.run_law.specs.declared.judgement.Why.TheVariants as whys
-use Rattle.run_law.specs.declared.note.Note.{Note}
-use Rattle.run_law.specs.declared.note.NoteBody.TheVariants as kinds
-use Rattle.run_law.specs.declared.note.NoteBody.{NoteBody}
-use Rattle.run_law.specs.declared.steps.Act.TheVariants as acts
-use Rattle.run_law.specs.device.StateChanges.{ChangesState}
-use Rattle.run_law.specs.device.States.{is_joined_by, state_after}
-use Rattle.run_law.specs.machines.Nodes.{Node, correcting}
-use Rattle.run_law.specs.records.Causes.{IsOfThisTime, device_of}
-use Rattle.run_law.specs.records.Happenings.{Happening, happenings, time_of}
-use Rattle.run_law.specs.records.Order.{IsBefore, IsIn, NoneBefore, behind}
-use Rattle.run_law.specs.records.Ranks.{place_of, rank}
-use Rattle.run_law.specs.runs.DueRecords.{IsCaused}
-use Rattle.run_law.specs.scenario.Scenarios.{Scenario, is_turned_on_at}
-use Rattle.sync_state.specs.declared.answers.Verdict.TheVariants.{Corrected}
-use Rattle.sync_state.specs.declared.state.State.TheVariants.{Integrating, Joining, Synchronised}
-use Rattle.sync_state.specs.declared.state.State.{State}
-use Rattle.tte_lemmas.proofs.Lists.{none_in}
-use Rattle.tte_units.specs.Amount.{units_of}
-use Rattle.tte_units.specs.declared.units.Units.{Units}
-use Rattle.world_steps.proofs.acting.AllOfIt.{IsGrown, all_point, grown_more, grown_one}
-use Rattle.world_steps.proofs.acting.CorrectSteps.{IsCorrecting}
-use Rattle.world_steps.proofs.acting.Correcting.{joiner_over}
-use Rattle.world_steps.proofs.acting.Kept.{bare_act, frames_put, kept_over, may_act_now, ready_after}
-use Rattle.world_steps.proofs.acting.Moves.{IsCorrectedSo}
-use Rattle.world_steps.proofs.acting.Over.{IsOver}
+use Rattle.world_steps.proofs.Words.{if◌then◌else◌, ◌++◌, ◌+ℤ◌, ◌+◌, ◌<◌, ◌∙◌, ◌∷◌, ◌≡◌, ◌≤◌, ◌⊎◌, AreOfNetwork, ChangesState, Corrected, DeviceId, Happening}
+use Rattle.world_steps.proofs.Words.{HasCleared, Integrating, IsActing, IsAllOfIt, IsBefore, IsCaused, IsHeld, IsIn, IsKept, IsNoTaking, IsOfThisTime}
+use Rattle.world_steps.proofs.Words.{IsOwnSource, IsSet, Joining, List, Network, Node, NoneBefore, Note, NoteBody, Scenario, Some, Stands, StandsBehind, State}
+use Rattle.world_steps.proofs.Words.{Synchronised, Units, World, [], act_place, all_without, ap, append_assoc, arith, bears_on, before_it, behind, both_ways}
+use Rattle.world_steps.proofs.Words.{bump_behind, cases_eq, correcting, false, frames_taken, happenings, hears, held_aside, held_moves, hidden, in_left}
+use Rattle.world_steps.proofs.Words.{in_parts, in_right, inl, inr, is_at_source, is_joined_by, is_sending, is_turned_on_at, known_aside, length, length-append}
+use Rattle.world_steps.proofs.Words.{length_is, map, moment_of, moves, moves_no_other, ne_eqb, none_in, none_yet, place_of, placed_length, plain, plains}
+use Rattle.world_steps.proofs.Words.{plains_placed, point_number, port_place, ports_move, put_at, raised, rank, record_of, refl, slice_get, stands_on}
+use Rattle.world_steps.proofs.Words.{state_after, subst, sym, time_of, told_wires, true, two_shown, units_of, waiting_moves, wire_place, wires_move, ℕ}
+use Rattle.run_law.specs.records.Causes.{device_of}
+use Rattle.world_law.proofs.putting.{Bearing.frames_aside, Bumped.{in_placed, split_placed}, NearPut.plains_bumped}
+use Rattle.world_law.proofs.putting.{PutAct.{IsActSo, act_pair, causes_of_device}, PutIn.split_two, PutShown.IsShownPair, PutTwo.two_by, StandsOn.shown_still}
+use Rattle.world_steps.proofs.acting.{AllOfIt.{IsGrown, all_point, grown_more, grown_one}, CorrectSteps.IsCorrecting, Correcting.joiner_over}
+use Rattle.world_steps.proofs.acting.{Kept.{bare_act, frames_put, kept_over, may_act_now, ready_after}, Moves.IsCorrectedSo, Over.IsOver}
 use Rattle.world_steps.proofs.acting.Points.{aside_of, at_point, corrected_cause, no_frames, none_at_point, not_moved, not_on}
-use Rattle.world_steps.proofs.acting.Sending.{as_put, room_for, taken_then}
-use Rattle.world_steps.proofs.acting.Stage.{Stage, no_row_of, others_so, stage_of}
-use Rattle.world_steps.proofs.acting.Work.{all_earlier, at_correction}
-use Rattle.world_law.proofs.acts.Acting.{point_number}
-use Rattle.world_law.proofs.acts.Recorded.{is_sending}
-use Rattle.world_law.proofs.devices.Borne.{moves_no_other}
-use Rattle.world_law.proofs.putting.Bearing.{frames_aside, held_aside, known_aside}
-use Rattle.world_law.proofs.putting.Bumped.{bump_behind, in_placed, placed_length, raised, split_placed}
-use Rattle.world_law.proofs.putting.Moving.{all_without, held_moves, ports_move, waiting_moves, wires_move, IsAllOfIt}
-use Rattle.world_law.proofs.putting.Near.{hears}
-use Rattle.world_law.proofs.putting.NearPut.{plains_bumped, plains_placed}
-use Rattle.world_law.proofs.putting.Placing.{before_it, put_at}
-use Rattle.world_law.proofs.putting.PutAct.{IsActSo, act_pair, causes_of_device}
-use Rattle.world_law.proofs.putting.PutIn.{split_two}
-use Rattle.world_law.proofs.putting.PutShown.{IsShownPair, record_of, two_shown}
-use Rattle.world_law.proofs.putting.PutTwo.{two_by}
-use Rattle.world_law.proofs.putting.StandsOn.{shown_still, stands_on, told_wires}
-use Rattle.world_law.proofs.rows.Takings.{IsNoTaking}
-use Rattle.world_law.proofs.runs.Worlds.{length_is}
-use Rattle.world_law.specs.device.Own.{bears_on, moves}
-use Rattle.world_law.specs.device.Plain.{plain, plains}
-use Rattle.world_law.specs.device.Recorded.{HasCleared}
-use Rattle.world_law.specs.device.Takings.{frames_taken}
-use Rattle.world_law.specs.source.Sources.{IsActing, IsOwnSource}
-use Rattle.world_law.specs.world.Calls.{IsSet, moment_of}
-use Rattle.world_law.specs.world.Moves.{StandsBehind}
-use Rattle.world_law.specs.world.World.{IsKept, AreOfNetwork, IsHeld, Stands, World, act_place, hidden, is_at_source, none_yet, port_place, wire_place}
+use Rattle.world_steps.proofs.acting.{Sending.{as_put, room_for, taken_then}, Stage.{Stage, no_row_of, others_so, stage_of}, Work.{all_earlier, at_correction}}
+use Rattle.run_law.specs.declared.judgement.Why.TheVariants as whys
+use Rattle.run_law.specs.declared.note.NoteBody.TheVariants as kinds
+use Rattle.run_law.specs.declared.steps.Act.TheVariants as acts
 
 -- ---- lists
 

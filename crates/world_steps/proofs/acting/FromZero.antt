@@ -1,31 +1,10 @@
 -- The points of a compression master are those of frames that were permanent there: none is before 0 where none of those is.
-use Rattle.std.proofs.Common.{◌≡◌, ℕ, ◌≤◌, ℤ, pos, ◌≤ℤ◌, Bool, true, ◌==◌, if◌then◌else◌, List, [], ◌∷◌, ◌++◌, filter_map, Option, Some, None, inl, inr, refl, sym, ap, subst, ◌∙◌, arith}
-use Rattle.std.specs.List.{after_last, cons_option}
-use Rattle.std.proofs.lemmas.Bool.{cases_Bool, eqb-true}
-use Rattle.compression.specs.Clusters.{Point, point_at}
-use Rattle.net_plan.specs.Ranges.{IsInRange}
-use Rattle.net_plan.specs.declared.ids.DeviceId.{DeviceId}
-use Rattle.net_plan.specs.declared.ids.LinkId.{LinkId}
-use Rattle.run_law.proofs.law.FirstPlaces.{founded_at}
-use Rattle.run_law.proofs.runs.Places.{in_parts}
-use Rattle.run_law.specs.control.Collections.{ends_stretch, master_of, point_by, points_of}
-use Rattle.run_law.specs.declared.judgement.Judgement.{Judgement}
+use Rattle.world_steps.proofs.Words.{if◌then◌else◌, ◌++◌, ◌==◌, ◌∙◌, ◌∷◌, ◌≡◌, ◌≤ℤ◌, ◌≤◌, Bool, DeviceId, Happening, IsCaused, IsDue, IsFounded, IsIn}
+use Rattle.world_steps.proofs.Words.{IsInRange, Judgement, LinkId, List, Node, None, NoteBody, Option, Point, Scenario, Some, Units, [], after_last, amount, ap}
+use Rattle.world_steps.proofs.Words.{arith, cases_Bool, cons_option, cycle_in, ends_stretch, eqb-true, filter_map, founded_at, in_parts, inl, inr, is_cm}
+use Rattle.world_steps.proofs.Words.{master_of, members_in, place_of, point_at, point_by, points_of, pos, rank, refl, subst, sym, true, ℕ, ℤ}
+use Rattle.world_steps.proofs.{acting.{Clearing.in_behind, Work.IsAtWork}, growing.FromZero.permanent_natural}
 use Rattle.run_law.specs.declared.note.NoteBody.TheVariants as kinds
-use Rattle.run_law.specs.declared.note.NoteBody.{NoteBody}
-use Rattle.run_law.specs.device.States.{cycle_in}
-use Rattle.run_law.specs.machines.Nodes.{Node}
-use Rattle.run_law.specs.records.Happenings.{Happening}
-use Rattle.run_law.specs.records.Order.{IsIn}
-use Rattle.run_law.specs.records.Ranks.{members_in, place_of, rank}
-use Rattle.run_law.specs.runs.DueRecords.{IsCaused, IsDue}
-use Rattle.run_law.specs.runs.Runs.{IsFounded}
-use Rattle.run_law.specs.scenario.Devices.{is_cm}
-use Rattle.run_law.specs.scenario.Scenarios.{Scenario}
-use Rattle.tte_units.specs.Amount.{amount}
-use Rattle.tte_units.specs.declared.units.Units.{Units}
-use Rattle.world_steps.proofs.acting.Clearing.{in_behind}
-use Rattle.world_steps.proofs.acting.Work.{IsAtWork}
-use Rattle.world_steps.proofs.growing.FromZero.{permanent_natural}
 
 -- no frame that was permanent at the device was so at a point before 0
 abbrev pub PermanentFromZero : List Happening → DeviceId → Type 0

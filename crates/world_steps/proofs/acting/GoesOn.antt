@@ -1,38 +1,15 @@
 -- A device that has acted, and has more to do at the instant, is at work still.
-use Rattle.std.proofs.Common.{◌≡◌, ◌⊎◌, ℕ, ◌+◌, ◌≤◌, pos, ◌-ℤ◌, ◌≤ℤ◌, false, List, [], ◌∷◌, ◌++◌, Option, None, option_to_list, Contains, inl, inr, refl, sym, ap, subst, ◌∙◌, arith}
-use Rattle.std.proofs.lemmas.List.{append-nil}
-use Rattle.std.proofs.lemmas.List.Elements.{Contains-append_left, Contains-push, Contains-push_cases}
-use Rattle.membership.specs.Hearing.{Hearing}
-use Rattle.net_plan.specs.declared.ids.DeviceId.{DeviceId}
-use Rattle.net_plan.specs.declared.ids.RowId.{RowId}
-use Rattle.net_plan.specs.declared.network.Network.{Network}
-use Rattle.run_law.proofs.runs.Places.{in_left, in_parts, in_right}
-use Rattle.run_law.specs.control.Corrections.{hearing_by, heard_since}
+use Rattle.world_steps.proofs.Words.{◌++◌, ◌+◌, ◌-ℤ◌, ◌∙◌, ◌∷◌, ◌≡◌, ◌≤ℤ◌, ◌≤◌, ◌⊎◌, AreRecorded, ClockTask, Contains-append_left, Contains-push}
+use Rattle.world_steps.proofs.Words.{Contains-push_cases, DeviceId, Happening, HasDoneFrom, HasSentFrom, Hearing, IsAtRest, IsIn, IsLeft, IsReadyAt, IsShown}
+use Rattle.world_steps.proofs.Words.{List, Moment, Network, Node, None, NoteBody, Option, RowId, Scenario, [], acting, ap, append-nil, arith, called}
+use Rattle.world_steps.proofs.Words.{changed_at, changed_before, dispatch_body, dispatch_late, dispatches_same, dispatching, doing, earlier, false, heard_since}
+use Rattle.world_steps.proofs.Words.{hearing_by, in_left, in_parts, in_right, inl, inr, is_turning, moves, option_to_list, plain, plain_body, plains}
+use Rattle.world_steps.proofs.Words.{plains_parts, pos, rank, rank_plain, reaches_back, reading_for, refl, sending, subst, sym, time_of, told_by_others}
+use Rattle.world_steps.proofs.Words.{undone_alike, up_back, value_of, waiting_alike, with_done, ℕ}
+use Rattle.std.proofs.Common.{Contains}
+use Rattle.world_law.proofs.acts.Acted.{done_more}
+use Rattle.world_steps.proofs.acting.{Stays.{IsSameBut, heard_by_these, heard_put, in_plains, left_now, points_put}, Work.{IsAtWork, all_earlier}}
 use Rattle.run_law.specs.declared.note.NoteBody.TheVariants as kinds
-use Rattle.run_law.specs.declared.note.NoteBody.{NoteBody}
-use Rattle.run_law.specs.declared.steps.Moment.{Moment}
-use Rattle.run_law.specs.device.LocalClocks.{changed_at}
-use Rattle.run_law.specs.machines.Answers.{called, with_done}
-use Rattle.run_law.specs.machines.Nodes.{ClockTask, Node, acting, dispatching, sending}
-use Rattle.run_law.specs.machines.Tasks.{doing, reading_for, value_of}
-use Rattle.run_law.specs.records.Happenings.{Happening, earlier, time_of}
-use Rattle.run_law.specs.records.Order.{IsIn}
-use Rattle.run_law.specs.records.Ranks.{rank}
-use Rattle.run_law.specs.scenario.Scenarios.{Scenario}
-use Rattle.world_steps.proofs.acting.Stays.{IsSameBut, heard_by_these, heard_put, in_plains, left_now, points_put}
-use Rattle.world_steps.proofs.acting.Work.{IsAtWork, all_earlier}
-use Rattle.world_law.proofs.acts.Acted.{done_more, undone_alike, waiting_alike}
-use Rattle.world_law.proofs.acts.Recorded.{dispatch_late, rank_plain}
-use Rattle.world_law.proofs.devices.Plains.{plains_parts, told_by_others}
-use Rattle.world_law.proofs.runs.Agreement.{changed_before}
-use Rattle.world_law.proofs.runs.SourcesBack.{dispatches_same, reaches_back, up_back}
-use Rattle.world_law.specs.device.Ready.{IsReadyAt}
-use Rattle.world_law.specs.device.Deeds.{HasDoneFrom, HasSentFrom}
-use Rattle.world_law.specs.device.Left.{IsLeft}
-use Rattle.world_law.specs.device.Own.{moves}
-use Rattle.world_law.specs.device.Plain.{plain, plain_body, plains}
-use Rattle.world_law.specs.device.Recorded.{AreRecorded, IsShown, dispatch_body}
-use Rattle.world_law.specs.world.World.{IsAtRest, is_turning}
 
 -- ---- bodies without causes of changes of state
 

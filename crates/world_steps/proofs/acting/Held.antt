@@ -1,29 +1,14 @@
 -- A frame that a switch dispatches is stored: it is that of the last record by which the switch took one.
-use Rattle.std.proofs.Common.{◌≡◌, ℕ, zero, suc, ◌+◌, ◌*◌, ◌≤◌, ℤ, pos, ◌≤ℤ◌, Bool, List, [], ◌++◌, filter, Option, Some, None, inl, inr, sym, ap, subst, ◌∙◌, arith}
-use Rattle.std.specs.List.{last_or}
-use Rattle.std.specs.Option.{option_map_or}
-use Rattle.net_plan.specs.declared.ids.DeviceId.{DeviceId}
-use Rattle.net_plan.specs.declared.ids.RowId.{RowId}
-use Rattle.net_plan.specs.declared.ids.VlId.{VlId}
-use Rattle.net_plan.specs.declared.network.Network.{Network}
-use Rattle.run_law.proofs.law.FirstDeliveries.{last_in}
-use Rattle.run_law.proofs.law.FirstPlaces.{by_number, in_filter}
-use Rattle.run_law.proofs.runs.Places.{in_left}
-use Rattle.run_law.specs.device.LocalClocks.{Reaches}
-use Rattle.run_law.specs.machines.Nodes.{Node, dispatching}
-use Rattle.run_law.specs.machines.Tasks.{HasFrame, IsPending, doing, reading_for}
-use Rattle.run_law.specs.records.Happenings.{Happening, earlier, numbered, octets_from}
-use Rattle.run_law.specs.records.Order.{IsIn}
-use Rattle.run_law.specs.scenario.Scenarios.{Scenario}
-use Rattle.run_law.specs.timed.Dispatching.{HasAccepted, HasAtHand, is_accepted, last_accepted}
-use Rattle.schedule_tables.specs.declared.entry.Entry.{Entry}
-use Rattle.tte_units.specs.Amount.{amount}
-use Rattle.world_steps.proofs.acting.Stage.{Stage}
-use Rattle.world_steps.proofs.acting.Work.{reaches}
-use Rattle.world_law.proofs.rows.AtHand.{IsReaching, at_hand, filter_earlier, taken_sooner, value_is}
-use Rattle.world_law.proofs.rows.Reached.{IsForwarded}
-use Rattle.world_law.proofs.runs.SourcesBack.{earlier_still}
+use Rattle.world_steps.proofs.Words.{◌++◌, ◌+◌, ◌∙◌, ◌≡◌, ◌≤ℤ◌, ◌≤◌, Bool, DeviceId, Entry, Happening, HasAtHand, IsIn, IsPending, List, Network, Node, None}
+use Rattle.world_steps.proofs.Words.{Option, Reaches, RowId, Scenario, Some, VlId, [], amount, ap, arith, by_number, dispatching, doing, earlier, earlier_still}
+use Rattle.world_steps.proofs.Words.{filter, in_left, inl, inr, is_accepted, last_in, last_or, numbered, option_map_or, pos, reading_for, subst, suc, sym}
+use Rattle.world_steps.proofs.Words.{value_is, zero, ℕ, ℤ}
+use Rattle.std.proofs.Common.{◌*◌}
+use Rattle.run_law.{proofs.law.FirstPlaces.in_filter, specs.{machines.Tasks.HasFrame, records.Happenings.octets_from}}
+use Rattle.run_law.specs.timed.Dispatching.{HasAccepted, last_accepted}
+use Rattle.world_law.proofs.rows.{AtHand.{IsReaching, at_hand, filter_earlier, taken_sooner}, Reached.IsForwarded}
 use Rattle.world_law.specs.world.World.{AreStored, Stored, last_taking}
+use Rattle.world_steps.proofs.acting.{Stage.Stage, Work.reaches}
 
 -- the switch holds the frame of the entry's virtual link, and it is at hand by the record of its number
 pub record IsHeldFrame (s : Scenario) (hs : List Happening) (stored : List Stored) (now : ℕ) (device : DeviceId) (entry : Entry) (cycle : ℕ) : Type 0 where

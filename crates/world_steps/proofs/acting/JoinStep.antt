@@ -1,45 +1,19 @@
 -- A compression master that emits a frame by which it joins: what bears on it, and that all that is due of it is there.
-use Rattle.std.proofs.Common.{◌≡◌, ◌⊎◌, ℕ, ◌+◌, ◌≤◌, ◌<◌, pos, ◌+ℤ◌, ◌<ℤ◌, ◌≤ℤ◌, if◌then◌else◌, true, false, ◌==◌, List, [], ◌∷◌, ◌++◌, append_assoc, length, map, slice_get, Option, Contains, inl, inr, refl, sym, ap, subst, ◌∙◌, arith}
-use Rattle.std.proofs.lemmas.Bool.{both_ways, cases_lt, eqb-true}
-use Rattle.compression.specs.Clusters.{AreClusters, Point}
-use Rattle.compression.specs.declared.compressed.Compressed.{Compressed}
-use Rattle.net_plan.specs.declared.ids.DeviceId.{DeviceId}
-use Rattle.run_law.proofs.runs.Places.{chain, either_way, in_left, in_parts, in_right, never_self, parted}
-use Rattle.run_law.proofs.silent.Due.{no_cluster}
-use Rattle.run_law.specs.control.Collections.{ends_stretch, observation_window, point_by, points_of}
-use Rattle.run_law.specs.control.Emissions.{Emits}
-use Rattle.run_law.specs.control.Permanence.{ripe_as}
+use Rattle.world_steps.proofs.Words.{if◌then◌else◌, ◌++◌, ◌+◌, ◌<◌, ◌∙◌, ◌∷◌, ◌≡◌, ◌≤ℤ◌, ◌≤◌, ◌⊎◌, AllBefore, AreClusters, AreRecorded, AsState, Compressed}
+use Rattle.world_steps.proofs.Words.{DeviceId, Emits, Happening, Integrating, IsAllOfIt, IsAtRest, IsBefore, IsIn, IsPending, IsShown, Judgement, List, Node}
+use Rattle.world_steps.proofs.Words.{NoneBefore, NoteBody, Point, Scenario, [], act_place, amount, ap, append_assoc, arith, bears_on, both_ways, cases_lt}
+use Rattle.world_steps.proofs.Words.{chain, either_way, emitting, ends_stretch, eqb-true, false, in_left, in_parts, in_right, inl, inr, is_turned_on_at, key}
+use Rattle.world_steps.proofs.Words.{members_in, never_self, no_cluster, observation_window, parted, place_of, plain, plain_body, point_by, points_of}
+use Rattle.world_steps.proofs.Words.{points_same, pos, quiet_rest, rank, refl, ripe_as, state_after, state_before, subst, sym, time_of, true, ℕ}
+use Rattle.run_law.specs.records.Ranks.{sign}
+use Rattle.sync_state.proofs.StateFacts.{no_longer, no_point as no_next}
+use Rattle.world_law.proofs.devices.TurnedOn.{IsQuiet}
+use Rattle.world_steps.proofs.acting.{AllOfIt.not_less, Complete.{IsActCause, act_cause, emitted_or, found_emitted}, EmitSteps.emission_body}
+use Rattle.world_steps.proofs.acting.{GoesOn.{body_plain, rest_alike, time_plain}, JoinsBy.ChangesIt, Starts.plain_compressed, Work.{IsAtWork, all_earlier}}
 use Rattle.run_law.specs.declared.judgement.Judgement.TheVariants as judgements
-use Rattle.run_law.specs.declared.judgement.Judgement.{Judgement}
 use Rattle.run_law.specs.declared.judgement.Why.TheVariants as whys
 use Rattle.run_law.specs.declared.note.NoteBody.TheVariants as kinds
-use Rattle.run_law.specs.declared.note.NoteBody.{NoteBody}
 use Rattle.run_law.specs.declared.steps.Ripe.TheVariants as ripe
-use Rattle.run_law.specs.device.States.{state_after, state_before}
-use Rattle.run_law.specs.machines.Nodes.{Node}
-use Rattle.run_law.specs.machines.Tasks.{IsPending, emitting}
-use Rattle.run_law.specs.records.Happenings.{Happening, time_of}
-use Rattle.run_law.specs.records.Order.{AllBefore, IsBefore, IsIn, NoneBefore}
-use Rattle.run_law.specs.records.Ranks.{sign, key, members_in, place_of, rank}
-use Rattle.run_law.specs.scenario.Scenarios.{Scenario, is_turned_on_at}
-use Rattle.sync_state.proofs.StateFacts.{no_longer, no_point as no_next}
-use Rattle.sync_state.specs.declared.state.State.TheVariants.{Integrating}
-use Rattle.tte_units.specs.Amount.{amount}
-use Rattle.world_steps.proofs.acting.AllOfIt.{not_less}
-use Rattle.world_steps.proofs.acting.Complete.{IsActCause, act_cause, emitted_or, found_emitted}
-use Rattle.world_steps.proofs.acting.EmitSteps.{emission_body}
-use Rattle.world_steps.proofs.acting.GoesOn.{body_plain, rest_alike, time_plain}
-use Rattle.world_steps.proofs.acting.JoinsBy.{ChangesIt}
-use Rattle.world_steps.proofs.acting.Starts.{plain_compressed}
-use Rattle.world_steps.proofs.acting.Work.{IsAtWork, all_earlier}
-use Rattle.world_law.proofs.acts.NoActs.{points_same}
-use Rattle.world_law.proofs.devices.TurnedOn.{IsQuiet, quiet_rest}
-use Rattle.world_law.proofs.putting.Bumped.{AsState}
-use Rattle.world_law.proofs.putting.Moving.{IsAllOfIt}
-use Rattle.world_law.specs.device.Own.{bears_on}
-use Rattle.world_law.specs.device.Plain.{plain, plain_body}
-use Rattle.world_law.specs.device.Recorded.{AreRecorded, IsShown}
-use Rattle.world_law.specs.world.World.{act_place, IsAtRest}
 
 -- ---- who joins, was looking for the common time
 

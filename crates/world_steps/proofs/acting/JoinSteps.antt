@@ -1,64 +1,26 @@
 -- A compression master emits a frame that tells it the time itself, and the cursor goes by. That no frame was permanent there at a
 -- point before 0 is a premise here.
-use Rattle.std.proofs.Common.{◌≡◌, ◌⊎◌, ℕ, ◌+◌, ◌≤◌, ◌<◌, true, false, List, [], ◌∷◌, ◌++◌, length, map, slice_get, Some, inl, inr, refl, sym, ap, subst, ◌∙◌, arith}
-use Rattle.std.proofs.lemmas.Bool.{both_ways, cases_Bool, cases_lt, eq-eqb, ne_eqb}
-use Rattle.std.proofs.lemmas.List.{length-append}
-use Rattle.compression.specs.declared.compressed.Compressed.{Compressed}
-use Rattle.net_plan.specs.declared.ids.DeviceId.{DeviceId}
-use Rattle.net_plan.specs.declared.network.Network.{Network}
+use Rattle.world_steps.proofs.Words.{◌++◌, ◌+◌, ◌<◌, ◌∙◌, ◌∷◌, ◌≡◌, ◌≤◌, ◌⊎◌, ArePutIn, AsState, ComesFirst, Compressed, DeviceId, Emits, Happening, HasActed}
+use Rattle.world_steps.proofs.Words.{HasCleared, HasTurnedOn, Integrating, IsActing, IsAtRest, IsBefore, IsDueNow, IsIn, IsSet, IsShown, Joining, Judgement}
+use Rattle.world_steps.proofs.Words.{List, Network, Node, Note, NoteBody, Scenario, Some, Stands, StandsBehind, World, [], act_place, ap, arith, bears_on}
+use Rattle.world_steps.proofs.Words.{before_it, behind, both_ways, bump_behind, cases_Bool, cases_lt, correcting, earlier, emitting, eq-eqb, false}
+use Rattle.world_steps.proofs.Words.{frames_taken, happenings, hidden, in_left, in_parts, in_right, inl, inr, is_joined_by, is_turned_on_at, key, length}
+use Rattle.world_steps.proofs.Words.{length-append, length_is, map, members_in, moment_of, ne_eqb, none_in, none_yet, observation_window, place_of, plain}
+use Rattle.world_steps.proofs.Words.{plains_placed, plan_of, put_at, quiet_rest, rank, rank_plain, record_of, refl, slice_get, state_after, subst, sym, time_of}
+use Rattle.world_steps.proofs.Words.{true, turned_aside, turned_moves, two_shown, ℕ}
 use Rattle.run_law.proofs.control.Verdicts.{heard_integrates}
-use Rattle.run_law.proofs.runs.Places.{in_left, in_parts, in_right}
-use Rattle.run_law.specs.control.Collections.{observation_window}
-use Rattle.run_law.specs.control.Emissions.{Emits}
+use Rattle.world_law.proofs.{devices.TurnedOn.quiet_joins, putting.{Bumped.{placed_in, up_low}, PutAct.causes_of_device, PutShown.IsShownPair}}
+use Rattle.world_steps.proofs.acting.{EmitSteps.{emission_body, is_last_frame, is_only_frame, own_frame}, Emitting.node_emitted}
+use Rattle.world_steps.proofs.acting.{FirstStep.{pair_parts, pair_plains, two_go_by}, FromZero.{permanent_from_zero, points_from_zero}}
+use Rattle.world_steps.proofs.acting.{GoesOn.{body_plain, earlier_put, put_now, time_plain}, JoinStep.{IsJoinedBy, all_joined, bears_so, joins_so}}
+use Rattle.world_steps.proofs.acting.{JoinsBy.{ChangesIt, joined_over}, Kept.{bare_act, frames_put, kept_over, may_act_now, ready_after}, Over.IsOver}
+use Rattle.world_steps.proofs.acting.{Sending.{as_put, nothing_aside, room_for, taken_then}, Stage.{Stage, stage_of}, Stays.in_plains}
+use Rattle.world_steps.proofs.acting.Work.{all_earlier, emits, own_judgement}
 use Rattle.run_law.specs.declared.judgement.Judgement.TheVariants as judgements
-use Rattle.run_law.specs.declared.judgement.Judgement.{Judgement}
 use Rattle.run_law.specs.declared.judgement.Why.TheVariants as whys
-use Rattle.run_law.specs.declared.note.Note.{Note}
 use Rattle.run_law.specs.declared.note.NoteBody.TheVariants as kinds
-use Rattle.run_law.specs.declared.note.NoteBody.{NoteBody}
 use Rattle.run_law.specs.declared.steps.Act.TheVariants as acts
 use Rattle.run_law.specs.declared.steps.Ripe.TheVariants as ripe
-use Rattle.run_law.specs.device.States.{is_joined_by, state_after}
-use Rattle.run_law.specs.machines.Nodes.{Node, correcting}
-use Rattle.run_law.specs.machines.Tasks.{emitting}
-use Rattle.run_law.specs.records.Happenings.{Happening, earlier, happenings, time_of}
-use Rattle.run_law.specs.records.Order.{IsBefore, IsIn, behind}
-use Rattle.run_law.specs.records.Ranks.{key, members_in, place_of, rank}
-use Rattle.run_law.specs.scenario.Devices.{plan_of}
-use Rattle.run_law.specs.scenario.Scenarios.{Scenario, is_turned_on_at}
-use Rattle.sync_state.specs.declared.state.State.TheVariants.{Integrating, Joining}
-use Rattle.tte_lemmas.proofs.Lists.{none_in}
-use Rattle.world_law.proofs.acts.Recorded.{rank_plain}
-use Rattle.world_steps.proofs.acting.EmitSteps.{emission_body, is_last_frame, is_only_frame, own_frame}
-use Rattle.world_steps.proofs.acting.Emitting.{node_emitted}
-use Rattle.world_steps.proofs.acting.FirstStep.{pair_parts, pair_plains, two_go_by}
-use Rattle.world_steps.proofs.acting.FromZero.{permanent_from_zero, points_from_zero}
-use Rattle.world_steps.proofs.acting.GoesOn.{body_plain, earlier_put, put_now, time_plain}
-use Rattle.world_steps.proofs.acting.JoinStep.{IsJoinedBy, all_joined, bears_so, joins_so}
-use Rattle.world_steps.proofs.acting.JoinsBy.{ChangesIt, joined_over}
-use Rattle.world_steps.proofs.acting.Kept.{bare_act, frames_put, kept_over, may_act_now, ready_after}
-use Rattle.world_steps.proofs.acting.Over.{IsOver}
-use Rattle.world_steps.proofs.acting.Sending.{as_put, nothing_aside, room_for, taken_then}
-use Rattle.world_steps.proofs.acting.Stage.{Stage, stage_of}
-use Rattle.world_steps.proofs.acting.Stays.{in_plains}
-use Rattle.world_steps.proofs.acting.Work.{all_earlier, emits, own_judgement}
-use Rattle.world_law.proofs.devices.TurnedOn.{quiet_joins, quiet_rest}
-use Rattle.world_law.proofs.putting.Bearing.{turned_aside}
-use Rattle.world_law.proofs.putting.Bumped.{AsState, bump_behind, placed, placed_in, up_low}
-use Rattle.world_law.proofs.putting.Moving.{turned_moves}
-use Rattle.world_law.proofs.putting.NearPut.{plains_placed}
-use Rattle.world_law.proofs.putting.Placing.{before_it, put_at}
-use Rattle.world_law.proofs.putting.PutAct.{causes_of_device}
-use Rattle.world_law.proofs.putting.PutShown.{IsShownPair, record_of, two_shown}
-use Rattle.world_law.proofs.runs.Worlds.{length_is}
-use Rattle.world_law.specs.device.Own.{bears_on}
-use Rattle.world_law.specs.device.Plain.{plain, plain_body}
-use Rattle.world_law.specs.device.Recorded.{HasCleared, IsShown}
-use Rattle.world_law.specs.device.Takings.{frames_taken}
-use Rattle.world_law.specs.source.Sources.{IsActing}
-use Rattle.world_law.specs.world.Calls.{HasActed, IsDueNow, IsSet, moment_of}
-use Rattle.world_law.specs.world.Moves.{ArePutIn, ComesFirst, StandsBehind}
-use Rattle.world_law.specs.world.World.{HasTurnedOn, IsAtRest, Stands, World, act_place, hidden, none_yet}
 
 -- what a step starts from by which the master joins
 pub record IsJoining {C M : Type 0} (reading : C → ℕ → ℕ) (stands : M → Network → DeviceId → Node → Type 0) (s : Scenario) (world : World C M)

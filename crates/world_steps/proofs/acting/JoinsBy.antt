@@ -1,40 +1,15 @@
 -- A compression master that its own frame has told the time: the instant is over for it.
-use Rattle.std.proofs.Common.{◌≡◌, ℕ, ◌+◌, ◌≤◌, ◌<◌, ℤ, pos, ◌-ℤ◌, ◌<ℤ◌, Bool, true, false, if◌then◌else◌, List, [], ◌∷◌, ◌++◌, append_assoc, filter, Some, inl, inr, refl, sym, ap, subst, ◌∙◌, arith}
-use Rattle.std.proofs.lemmas.Bool.{cases_Bool}
-use Rattle.std.proofs.lemmas.Int.{ints}
-use Rattle.std.proofs.lemmas.List.{append-nil}
-use Rattle.std.proofs.lemmas.List.Elements.{filter-append}
-use Rattle.compression.specs.declared.compressed.Compressed.{Compressed}
-use Rattle.net_plan.proofs.SameIds.{self}
-use Rattle.net_plan.specs.declared.ids.DeviceId.{DeviceId}
-use Rattle.run_law.proofs.law.FirstPlaces.{in_filter, none_kept}
-use Rattle.run_law.proofs.silent.Due.{no_cluster}
-use Rattle.run_law.specs.control.Collections.{observation_window}
+use Rattle.world_steps.proofs.Words.{if◌then◌else◌, ◌++◌, ◌+◌, ◌-ℤ◌, ◌<ℤ◌, ◌<◌, ◌∙◌, ◌∷◌, ◌≡◌, ◌≤◌, Bool, Compressed, DeviceId, Happening, IsIn, IsLeft}
+use Rattle.world_steps.proofs.Words.{Joining, List, Moment, Node, Scenario, Some, State, Why, [], acting, ap, append-nil, append_assoc, arith, bears_on}
+use Rattle.world_steps.proofs.Words.{by_last, called, cases_Bool, false, filter, filter-append, inl, inr, ints, is_broken, is_turned_on_at, no_cluster, none_in}
+use Rattle.world_steps.proofs.Words.{none_kept, observation_window, plains, plan_of, pos, refl, self, subst, sym, time_of, true, value_of, with_joined, ℕ, ℤ}
+use Rattle.run_law.{proofs.law.FirstPlaces.in_filter, specs.records.Frames.integration_frame}
+use Rattle.world_law.{proofs.acts.Acted.beyond_it, specs.device.{Left.IsCounted, Own.borne}}
+use Rattle.world_steps.proofs.acting.{Correcting.{behind_given, left_called, moved_in, one_in}, Emitting.node_emitted}
+use Rattle.world_steps.proofs.acting.{Moves.{change_counts, change_leaves, joins}, Over.IsOver}
 use Rattle.run_law.specs.declared.judgement.Judgement.TheVariants as judgements
 use Rattle.run_law.specs.declared.judgement.Why.TheVariants as whys
-use Rattle.run_law.specs.declared.judgement.Why.{Why}
 use Rattle.run_law.specs.declared.note.NoteBody.TheVariants as kinds
-use Rattle.run_law.specs.declared.steps.Moment.{Moment}
-use Rattle.run_law.specs.machines.Answers.{called, with_joined}
-use Rattle.run_law.specs.machines.Nodes.{Node, acting}
-use Rattle.run_law.specs.machines.Tasks.{value_of}
-use Rattle.run_law.specs.records.Frames.{integration_frame}
-use Rattle.run_law.specs.records.Happenings.{Happening, time_of}
-use Rattle.run_law.specs.records.Order.{IsIn}
-use Rattle.run_law.specs.scenario.Devices.{plan_of}
-use Rattle.run_law.specs.scenario.Scenarios.{Scenario, is_broken, is_turned_on_at}
-use Rattle.sync_state.specs.declared.state.State.TheVariants.{Joining}
-use Rattle.sync_state.specs.declared.state.State.{State}
-use Rattle.tte_lemmas.proofs.Lists.{none_in}
-use Rattle.world_steps.proofs.acting.Correcting.{behind_given, left_called, moved_in, one_in}
-use Rattle.world_steps.proofs.acting.Emitting.{node_emitted}
-use Rattle.world_steps.proofs.acting.Moves.{change_counts, change_leaves, joins}
-use Rattle.world_steps.proofs.acting.Over.{IsOver}
-use Rattle.world_law.proofs.acts.Acted.{beyond_it}
-use Rattle.world_law.proofs.devices.Borne.{by_last}
-use Rattle.world_law.specs.device.Left.{IsCounted, IsLeft}
-use Rattle.world_law.specs.device.Own.{bears_on, borne}
-use Rattle.world_law.specs.device.Plain.{plains}
 
 -- the record changes the device's state
 pub record ChangesIt (device : DeviceId) (u : ℕ) (h : Happening) : Type 0 where

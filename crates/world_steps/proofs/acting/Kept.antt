@@ -1,41 +1,14 @@
 -- A device that has acted is kept, as its new node says.
-use Rattle.std.proofs.Common.{◌≡◌, ℕ, ◌+◌, ◌^◌, ◌≤◌, ◌<◌, ℤ, pos, ◌+ℤ◌, ◌<ℤ◌, ◌≤ℤ◌, Bool, true, false, if◌then◌else◌, List, [], ◌∷◌, ◌++◌, append_assoc, map, unsigned_abs, inl, inr, refl, sym, ap, subst, ◌∙◌, arith}
-use Rattle.std.specs.Prelude.{nat_lt}
-use Rattle.std.proofs.lemmas.Bool.{both_ways, le-ltb}
-use Rattle.std.proofs.lemmas.Int.{ints}
-use Rattle.net_plan.specs.declared.ids.DeviceId.{DeviceId}
-use Rattle.net_plan.specs.declared.network.Network.{Network}
-use Rattle.run_law.proofs.runs.Places.{before_behind, chain, never_self}
+use Rattle.world_steps.proofs.Words.{if◌then◌else◌, ◌++◌, ◌+ℤ◌, ◌+◌, ◌<ℤ◌, ◌<◌, ◌^◌, ◌∙◌, ◌∷◌, ◌≡◌, ◌≤ℤ◌, ◌≤◌, Act, AreRecorded, AsyncClique, Bool, Cleared}
+use Rattle.world_steps.proofs.Words.{Corrected, DeviceId, Happening, HasCleared, HasTaskBy, HasTurnedOn, IsActOf, IsBefore, IsIn, IsKept, IsNoTaking, IsReadyAt}
+use Rattle.world_steps.proofs.Words.{IsSteady, List, MayCall, Moment, Network, Node, Scenario, SyncClique, TakenFrame, [], act_place, acting, adjustment_after}
+use Rattle.world_steps.proofs.Words.{amount, ap, append_assoc, arith, before_behind, behind, both_ways, bump_behind, chain, earlier, false, frames_taken, inl}
+use Rattle.world_steps.proofs.Words.{inr, ints, is_broken, is_cm, is_synchronised, is_turned_on_at, le-ltb, local_before, map, moment_of, nat_lt, never_self}
+use Rattle.world_steps.proofs.Words.{placed, plains, pos, reading_for, refl, subst, sym, time_of, true, unsigned_abs, whole, ℕ, ℤ}
+use Rattle.world_law.proofs.{acts.{Acted.acted, Ready.acting_last}, putting.Idle.drop_one, rows.Takings.{frames_plain, taken_parts, taken_same}}
+use Rattle.world_law.specs.device.Takings.{taken_by}
+use Rattle.world_steps.proofs.acting.{Over.IsOver, Work.IsAtWork}
 use Rattle.run_law.specs.declared.steps.Act.TheVariants as acts
-use Rattle.run_law.specs.declared.steps.Act.{Act}
-use Rattle.run_law.specs.declared.steps.Moment.{Moment}
-use Rattle.run_law.specs.device.LocalClocks.{local_before}
-use Rattle.run_law.specs.device.States.{adjustment_after, is_synchronised}
-use Rattle.run_law.specs.machines.Answers.{IsActOf}
-use Rattle.run_law.specs.machines.Calls.{MayCall}
-use Rattle.run_law.specs.machines.Nodes.{Node, TakenFrame, acting}
-use Rattle.run_law.specs.machines.Tasks.{reading_for}
-use Rattle.run_law.specs.records.Happenings.{Happening, earlier, time_of}
-use Rattle.run_law.specs.records.Order.{IsBefore, IsIn, behind}
-use Rattle.run_law.specs.scenario.Devices.{is_cm}
-use Rattle.run_law.specs.scenario.Scenarios.{Scenario, is_broken, is_turned_on_at}
-use Rattle.sync_state.specs.declared.answers.Verdict.TheVariants.{AsyncClique, Cleared, Corrected, SyncClique}
-use Rattle.tte_lemmas.proofs.Integers.{whole}
-use Rattle.tte_units.specs.Amount.{amount}
-use Rattle.world_steps.proofs.acting.Over.{IsOver}
-use Rattle.world_steps.proofs.acting.Work.{IsAtWork}
-use Rattle.world_law.proofs.acts.Acted.{acted}
-use Rattle.world_law.proofs.acts.Ready.{acting_last}
-use Rattle.world_law.proofs.putting.Bumped.{bump_behind, placed}
-use Rattle.world_law.proofs.putting.Idle.{drop_one}
-use Rattle.world_law.proofs.rows.Takings.{IsNoTaking, frames_plain, taken_parts, taken_same}
-use Rattle.world_law.specs.device.Ready.{IsReadyAt, IsSteady}
-use Rattle.world_law.specs.device.Left.{HasTaskBy}
-use Rattle.world_law.specs.device.Plain.{plains}
-use Rattle.world_law.specs.device.Recorded.{AreRecorded, HasCleared}
-use Rattle.world_law.specs.device.Takings.{frames_taken, taken_by}
-use Rattle.world_law.specs.world.Calls.{moment_of}
-use Rattle.world_law.specs.world.World.{HasTurnedOn, IsKept, act_place}
 
 -- ---- it may be called, and is ready again
 

@@ -1,39 +1,14 @@
 -- A device acts, and nothing more is due of it at the instant: the cursor goes by.
-use Rattle.std.proofs.Common.{◌≡◌, ℕ, ◌<◌, pos, ◌<ℤ◌, ◌≤ℤ◌, Bool, true, false, List, [], ◌∷◌, Option, Some, None, refl, sym, ap, subst, ◌∙◌}
-use Rattle.std.specs.Prelude.{nat_le, ◌&&◌}
+use Rattle.world_steps.proofs.Words.{◌&&◌, ◌<ℤ◌, ◌<◌, Act, ArePutIn, DeviceId, Happening, HasActed, Integrating, IsPending, IsSet, Joining, List, Members}
+use Rattle.world_steps.proofs.Words.{Network, Node, Note, NoteBody, Off, Ripe, Scenario, Stands, StandsBehind, State, SyncPlan, Synchronised, Task, World}
+use Rattle.world_steps.proofs.Words.{act_place, behind, false, happenings, heard_as, moment_of, nat_le, observation_window, plan_of, pos, reading_for, ripe_as}
+use Rattle.world_steps.proofs.Words.{subst, sym, true, ℕ}
 use Rattle.membership.specs.Members.{count_of}
-use Rattle.net_plan.specs.declared.ids.DeviceId.{DeviceId}
-use Rattle.net_plan.specs.declared.network.Network.{Network}
-use Rattle.pcf_values.specs.declared.members.Members.{Members}
-use Rattle.run_law.specs.control.Collections.{observation_window}
-use Rattle.run_law.specs.control.Hearing.{heard_as, heard_by_schedule, heard_enough, is_in_schedule, last_cycle}
-use Rattle.run_law.specs.control.Permanence.{ripe_as}
-use Rattle.run_law.specs.declared.note.Note.{Note}
-use Rattle.run_law.specs.declared.note.NoteBody.{NoteBody}
+use Rattle.run_law.specs.control.Hearing.{heard_by_schedule, heard_enough, is_in_schedule, last_cycle}
+use Rattle.world_steps.proofs.acting.{CorrectStep.correct_goes_by, DispatchSteps.dispatch_goes_by, EmitSteps.emit_goes_by, JoinSteps.join_goes_by}
+use Rattle.world_steps.{proofs.acting.{Kept.may_act_now, SendSteps.send_goes_by, Stage.stage_of}, specs.Acting.{Acts, AreActBodies, LastActedStep}}
 use Rattle.run_law.specs.declared.steps.Act.TheVariants as acts
-use Rattle.run_law.specs.declared.steps.Act.{Act}
 use Rattle.run_law.specs.declared.steps.Ripe.TheVariants as ripe
-use Rattle.run_law.specs.declared.steps.Ripe.{Ripe}
-use Rattle.run_law.specs.machines.Nodes.{Node}
-use Rattle.run_law.specs.machines.Tasks.{IsPending, Task, reading_for}
-use Rattle.run_law.specs.records.Happenings.{Happening, happenings}
-use Rattle.run_law.specs.records.Order.{behind}
-use Rattle.run_law.specs.scenario.Devices.{plan_of}
-use Rattle.run_law.specs.scenario.Scenarios.{Scenario}
-use Rattle.sync_state.specs.declared.plan.SyncPlan.{SyncPlan}
-use Rattle.sync_state.specs.declared.state.State.TheVariants.{Integrating, Joining, Off, Synchronised}
-use Rattle.sync_state.specs.declared.state.State.{State}
-use Rattle.world_steps.proofs.acting.CorrectStep.{correct_goes_by}
-use Rattle.world_steps.proofs.acting.DispatchSteps.{dispatch_goes_by}
-use Rattle.world_steps.proofs.acting.EmitSteps.{emit_goes_by}
-use Rattle.world_steps.proofs.acting.JoinSteps.{join_goes_by}
-use Rattle.world_steps.proofs.acting.Kept.{may_act_now}
-use Rattle.world_steps.proofs.acting.SendSteps.{send_goes_by}
-use Rattle.world_steps.proofs.acting.Stage.{stage_of}
-use Rattle.world_steps.specs.Acting.{Acts, AreActBodies, LastActedStep}
-use Rattle.world_law.specs.world.Calls.{HasActed, IsSet, moment_of}
-use Rattle.world_law.specs.world.Moves.{ArePutIn, StandsBehind}
-use Rattle.world_law.specs.world.World.{Stands, World, act_place}
 
 -- ---- a master hears its own frame as one of four things
 

@@ -1,48 +1,21 @@
 -- How a device stands at the next unit of time behind a record of the instant that moves it.
-use Rattle.std.proofs.Common.{◌≡◌, IfSome, ℕ, ◌+◌, ◌-◌, ◌≤◌, ◌<◌, ℤ, pos, ◌+ℤ◌, int_lt, int_le, Bool, true, false, not, ◌&&◌, ◌||◌, ◌==◌, if◌then◌else◌, List, [], ◌∷◌, ◌++◌, Option, Some, None, filter, filter_map, fold, refl, sym, ap, subst, ◌∙◌, arith}
-use Rattle.std.specs.Prelude.{nat_lt}
-use Rattle.std.specs.List.{after_last, last_or}
-use Rattle.std.specs.Option.{option_map_or}
-use Rattle.std.proofs.lemmas.Bool.{and_right, both_ways, lt-ltb, ne_eqb}
-use Rattle.std.proofs.lemmas.List.{append-nil}
-use Rattle.std.proofs.lemmas.List.Elements.{filter-append}
-use Rattle.std.proofs.lemmas.List.Sums.{fold-append}
-use Rattle.membership.specs.Hearing.{Hearing}
-use Rattle.membership.specs.Summary.{Summary}
-use Rattle.net_plan.proofs.SameIds.{self}
-use Rattle.net_plan.specs.declared.ids.DeviceId.{DeviceId}
-use Rattle.pcf_values.specs.declared.members.Members.{Members}
-use Rattle.pcf_values.specs.declared.pcf.Pcf.{Pcf}
-use Rattle.run_law.proofs.records.Order.{same_kept}
-use Rattle.run_law.proofs.runs.Determined.{same_units}
-use Rattle.run_law.specs.control.Collections.{ends_stretch, point_by, points_of}
-use Rattle.run_law.specs.control.Corrections.{correction_value, cycle_after, hearing_by, heard_since, integration_cycle, is_integration_cycle, recorded_cycle}
-use Rattle.run_law.specs.declared.judgement.Judgement.TheVariants.{Integrates}
-use Rattle.run_law.specs.declared.judgement.Why.TheVariants as whys
-use Rattle.run_law.specs.declared.judgement.Why.{Why}
-use Rattle.run_law.specs.declared.note.NoteBody.TheVariants as notes
-use Rattle.run_law.specs.declared.note.NoteBody.{NoteBody}
-use Rattle.run_law.specs.declared.steps.Moment.{Moment}
-use Rattle.run_law.specs.device.LocalClocks.{changes_adjustment, local_at_change}
-use Rattle.run_law.specs.device.States.{adjustment_after, adjustment_with, cycle_in, is_joined_by, is_synchronised, joined_adjustment, state_after, state_with}
-use Rattle.run_law.specs.machines.Answers.{with_clique, with_corrected, with_joined}
-use Rattle.run_law.specs.machines.Nodes.{Node}
-use Rattle.run_law.specs.records.Happenings.{Happening, earlier, time_of}
-use Rattle.run_law.specs.scenario.Devices.{is_cm, plan_of}
-use Rattle.run_law.specs.scenario.Scenarios.{Scenario, is_broken, is_turned_on_at}
-use Rattle.sync_state.specs.Calls.{adjustment_by, state_by}
+use Rattle.world_steps.proofs.Words.{if◌then◌else◌, ◌&&◌, ◌++◌, ◌+ℤ◌, ◌+◌, ◌-◌, ◌<◌, ◌==◌, ◌||◌, ◌∙◌, ◌∷◌, ◌≡◌, ◌≤◌, Bool, DeviceId, Happening, Hearing, IfSome}
+use Rattle.world_steps.proofs.Words.{Integrating, IsLeft, Joining, List, Members, Moment, Node, None, NoteBody, Option, Pcf, Scenario, Some, State, Summary}
+use Rattle.world_steps.proofs.Words.{SyncPlan, Synchronised, Units, Verdict, Why, [], adjustment_after, adjustment_by, adjustment_with, after_last, and_right}
+use Rattle.world_steps.proofs.Words.{ap, append-nil, arith, behind_no, behind_yes, both_ways, changes_adjustment, cleared_in, correction_value, cycle_after}
+use Rattle.world_steps.proofs.Words.{cycle_in, earlier, ends_stretch, false, filter, filter-append, filter_map, filter_no, filter_yes, fold, fold-append}
+use Rattle.world_steps.proofs.Words.{heard_since, hearing_by, int_le, int_lt, integration_cycle, is_broken, is_cm, is_integration_cycle, is_joined_by}
+use Rattle.world_steps.proofs.Words.{is_synchronised, is_timed, is_turned_on_at, last_or, local_in, lt-ltb, nat_lt, ne_eqb, next_in, not, not_turned_on}
+use Rattle.world_steps.proofs.Words.{option_map_or, plan_of, point_by, points_of, pos, recorded_cycle, refl, same_kept, self, since_at, state_after, state_by}
+use Rattle.world_steps.proofs.Words.{state_with, subst, sym, time_of, true, with_clique, with_joined, ℕ, ℤ}
+use Rattle.run_law.{proofs.runs.Determined.same_units, specs.{declared.judgement.Judgement.TheVariants.Integrates, device.LocalClocks.local_at_change}}
+use Rattle.run_law.specs.{device.States.joined_adjustment, machines.Answers.with_corrected}
 use Rattle.sync_state.specs.Integration.{joined_by}
-use Rattle.sync_state.specs.declared.answers.Verdict.{Verdict}
-use Rattle.sync_state.specs.declared.plan.SyncPlan.{SyncPlan}
-use Rattle.sync_state.specs.declared.state.State.TheVariants.{Integrating, Joining, Synchronised}
-use Rattle.sync_state.specs.declared.state.State.{State}
 use Rattle.tte_lemmas.proofs.Lists.{last_pushed}
-use Rattle.tte_units.specs.declared.units.Units.{Units}
-use Rattle.world_law.proofs.devices.Passes.{not_turned_on}
-use Rattle.world_law.proofs.lists.Lists.{behind_no, behind_yes, filter_no, filter_yes, map_none}
-use Rattle.world_law.specs.device.Left.{IsCounted, IsLeft, is_timed}
-use Rattle.world_law.specs.device.Told.{change_in, cleared_in, local_in, next_in, since_at}
+use Rattle.world_law.{proofs.lists.Lists.map_none, specs.device.{Left.IsCounted, Told.change_in}}
 use Rattle.world_steps.proofs.ripening.Judged.{not_yet}
+use Rattle.run_law.specs.declared.judgement.Why.TheVariants as whys
+use Rattle.run_law.specs.declared.note.NoteBody.TheVariants as notes
 
 fold_more : {A B : Type 0} (f : B → A → B) (a : B) (xs : List A) (x : A) → fold f a (xs ++ x ∷ []) ≡ f (fold f a xs) x
 fold_more f a xs x = fold-append f a xs (x ∷ [])

@@ -1,25 +1,11 @@
 -- A device at work that has nothing more to do at the instant: the instant is over for it.
-use Rattle.std.proofs.Common.{◌≡◌, ◌⊎◌, ℕ, ◌+◌, ◌-◌, ◌≤◌, pos, ◌<ℤ◌, ◌≤ℤ◌, true, false, List, [], ◌∷◌, ◌++◌, inl, inr, refl, sym, ap, subst, ◌∙◌, arith}
-use Rattle.std.proofs.lemmas.Bool.{cases_Bool, cases_lt}
-use Rattle.net_plan.specs.declared.ids.DeviceId.{DeviceId}
-use Rattle.run_law.proofs.runs.Places.{in_parts, in_right}
-use Rattle.run_law.specs.control.Corrections.{has_cleared}
-use Rattle.run_law.specs.device.LocalClocks.{changed_at}
-use Rattle.run_law.specs.machines.Nodes.{Node}
-use Rattle.run_law.specs.machines.Tasks.{IsPending, Task, doing, emitting, reading_for}
-use Rattle.run_law.specs.records.Happenings.{Happening, time_of}
-use Rattle.run_law.specs.records.Order.{IsIn}
-use Rattle.run_law.specs.scenario.Scenarios.{Scenario, is_broken, is_turned_on_at}
-use Rattle.tte_lemmas.proofs.Integers.{never_both}
+use Rattle.world_steps.proofs.Words.{◌++◌, ◌+◌, ◌-◌, ◌<ℤ◌, ◌∙◌, ◌∷◌, ◌≡◌, ◌≤ℤ◌, ◌≤◌, ◌⊎◌, DeviceId, Happening, HasCleared, HasDoneFrom, HasSentFrom, IsIn}
+use Rattle.world_steps.proofs.Words.{IsLeft, IsPending, IsTurnedOnBy, List, Node, Scenario, Task, [], ap, arith, cases_Bool, cases_lt, changed_at, doing}
+use Rattle.world_steps.proofs.Words.{emitting, false, has_cleared, in_parts, in_right, inl, inr, is_broken, is_turned_on_at, never_both, point_number, pos}
+use Rattle.world_steps.proofs.Words.{quiet_rest, reading_for, refl, subst, sym, time_of, true, ℕ}
+use Rattle.world_law.proofs.{acts.Acting.{IsUnmoved, cleared_on, had_come_by}, devices.Passes.passes_if}
+use Rattle.world_law.proofs.{devices.TurnedOn.{IsInTime, IsQuietInstant, change_quiet, left_after_on}, runs.Foremost.unmoved_by}
 use Rattle.world_steps.proofs.acting.Work.{IsAtWork}
-use Rattle.world_law.proofs.acts.Acting.{IsUnmoved, cleared_on, had_come_by, point_number}
-use Rattle.world_law.proofs.devices.Passes.{passes_if}
-use Rattle.world_law.proofs.devices.TurnedOn.{IsInTime, IsQuietInstant, change_quiet, left_after_on, quiet_rest}
-use Rattle.world_law.proofs.runs.Foremost.{unmoved_by}
-use Rattle.world_law.specs.device.Deeds.{HasDoneFrom, HasSentFrom}
-use Rattle.world_law.specs.device.Left.{IsLeft}
-use Rattle.world_law.specs.device.Recorded.{HasCleared}
-use Rattle.world_law.specs.world.World.{IsTurnedOnBy}
 
 -- what is known of the next unit of time: no event is of it, and the records are in the order of their times
 pub record IsCalm (s : Scenario) (hs zs : List Happening) (now : ℕ) (device : DeviceId) : Type 0 where

@@ -1,50 +1,17 @@
 -- A device comes to its correction point: what its record is.
-use Rattle.std.proofs.Common.{◌≡◌, ◌⊎◌, ℕ, ◌≤◌, pos, ◌+ℤ◌, ◌<ℤ◌, ◌≤ℤ◌, Bool, true, false, if◌then◌else◌, List, [], ◌∷◌, ◌++◌, inl, inr, refl, sym, ap, ◌∙◌, arith}
-use Rattle.std.proofs.lemmas.Bool.{both_ways, cases_Bool, eq-eqb, ne_eqb}
-use Rattle.std.proofs.lemmas.List.{append-nil}
-use Rattle.compression.specs.declared.compressed.Compressed.{Compressed}
-use Rattle.membership.specs.Hearing.{Hearing}
-use Rattle.membership.specs.Summary.{Summary}
-use Rattle.net_plan.specs.Ranges.{IsInRange}
-use Rattle.net_plan.specs.declared.ids.DeviceId.{DeviceId}
-use Rattle.net_plan.specs.declared.network.Network.{Network}
-use Rattle.run_law.proofs.runs.Places.{in_left, in_right}
-use Rattle.run_law.specs.control.Corrections.{ComesToCorrection, heard_since}
-use Rattle.run_law.specs.declared.judgement.Why.TheVariants as whys
-use Rattle.run_law.specs.declared.judgement.Why.{Why}
-use Rattle.run_law.specs.declared.note.NoteBody.TheVariants as kinds
-use Rattle.run_law.specs.declared.note.NoteBody.{NoteBody}
-use Rattle.run_law.specs.device.States.{adjustment_after, adjustment_before, state_after}
-use Rattle.run_law.specs.machines.Answers.{ComesTo}
-use Rattle.run_law.specs.machines.Nodes.{Node, correcting, sending}
-use Rattle.run_law.specs.machines.Tasks.{IsFirstTask, IsPending, IsWaiting, doing, emitting, reading_for}
-use Rattle.run_law.specs.records.Happenings.{Happening, earlier, time_of}
-use Rattle.run_law.specs.records.Order.{IsIn, NoneBefore}
-use Rattle.run_law.specs.records.Ranks.{key, members_in, place_of, rank}
+use Rattle.world_steps.proofs.Words.{if◌then◌else◌, ◌++◌, ◌+ℤ◌, ◌<ℤ◌, ◌∙◌, ◌∷◌, ◌≡◌, ◌≤ℤ◌, ◌≤◌, AsyncClique, Bool, Cleared, ComesTo, Compressed, Corrected}
+use Rattle.world_steps.proofs.Words.{DeviceId, Happening, Hearing, Integrating, IsActing, IsAtRest, IsFirstTask, IsIn, IsInRange, IsPending, IsSteady}
+use Rattle.world_steps.proofs.Words.{IsUnfollowed, IsWaiting, KeepsRules, List, Network, Node, NoneBefore, NoteBody, Scenario, State, Summary, SyncClique}
+use Rattle.world_steps.proofs.Words.{Units, Verdict, Why, [], adjustment_after, adjustment_before, amount, ap, append-nil, arith, both_ways, cases_Bool}
+use Rattle.world_steps.proofs.Words.{cases_int, correcting, doing, earlier, emitting, eq-eqb, false, heard_since, in_left, in_right, inl, inr, is_timed}
+use Rattle.world_steps.proofs.Words.{is_turned_on_at, is_turning, key, last_unfollowed, members_in, moves, ne_eqb, place_of, pos, rank, reading_for, record_of}
+use Rattle.world_steps.proofs.Words.{refl, sending, state_after, sym, time_of, true, ℕ}
 use Rattle.run_law.specs.runs.DueRecords.{IsCorrectedRecord}
-use Rattle.run_law.specs.scenario.Scenarios.{Scenario, is_turned_on_at}
-use Rattle.schedule_tables.specs.Rules.{KeepsRules}
-use Rattle.sync_state.specs.declared.answers.Verdict.TheVariants.{AsyncClique, Cleared, Corrected, SyncClique}
-use Rattle.sync_state.specs.declared.answers.Verdict.{Verdict}
-use Rattle.sync_state.specs.declared.state.State.TheVariants.{Integrating, Joining, Off, Synchronised}
-use Rattle.sync_state.specs.declared.state.State.{State}
-use Rattle.tte_units.specs.Amount.{amount}
-use Rattle.tte_units.specs.declared.units.Units.{Units}
-use Rattle.world_steps.proofs.acting.AllOfIt.{IsAtPoint, NoneDispatched, late_none, no_less}
-use Rattle.world_steps.proofs.acting.Emitting.{none_heard}
-use Rattle.world_steps.proofs.acting.Sending.{nothing_aside}
-use Rattle.world_steps.proofs.acting.Stage.{IsActRecord, Stage}
-use Rattle.world_steps.proofs.acting.Stays.{heard_by_these, heard_more}
-use Rattle.world_steps.proofs.acting.Work.{IsAtWork, all_earlier, at_correction, comes}
-use Rattle.world_law.proofs.lists.Orders.{cases_int}
-use Rattle.world_law.proofs.putting.PutOne.{IsUnfollowed, last_unfollowed}
-use Rattle.world_law.proofs.putting.PutShown.{record_of}
 use Rattle.world_law.proofs.rows.Apart.{no_row_at_correction}
-use Rattle.world_law.specs.device.Ready.{IsSteady}
-use Rattle.world_law.specs.device.Left.{is_timed}
-use Rattle.world_law.specs.device.Own.{moves}
-use Rattle.world_law.specs.source.Sources.{IsActing}
-use Rattle.world_law.specs.world.World.{IsAtRest, is_turning}
+use Rattle.world_steps.proofs.acting.{AllOfIt.{IsAtPoint, NoneDispatched, late_none, no_less}, Emitting.none_heard, Sending.nothing_aside}
+use Rattle.world_steps.proofs.acting.{Stage.{IsActRecord, Stage}, Stays.{heard_by_these, heard_more}, Work.{IsAtWork, all_earlier, at_correction, comes}}
+use Rattle.run_law.specs.declared.judgement.Why.TheVariants as whys
+use Rattle.run_law.specs.declared.note.NoteBody.TheVariants as kinds
 
 -- ---- it is the first of what is due
 
@@ -69,12 +36,6 @@ at_point s device now node cycle heard verdict first to = record {
 pub no_frames : (s : Scenario) (device : DeviceId) (now : ℕ) (node : Node) (cycle : ℕ) (heard : Summary) (verdict : Verdict) → node.broken ≡ false
     → IsAtPoint s device now node cycle heard verdict → (c : Compressed) → IsWaiting s.network device node c → pos (s.reading device now) <ℤ c.at.0
 no_frames s device now node cycle heard verdict sound p c w = p.no_frame c (sound, w)
-
-pub timed_cases : (x : State) → is_timed x ≡ true → (x ≡ Joining) ⊎ (x ≡ Synchronised)
-timed_cases Joining e = inl refl
-timed_cases Synchronised e = inr refl
-timed_cases Off e = absurd cc
-timed_cases Integrating e = absurd cc
 
 -- it was not turned on at the instant
 pub not_on : (s : Scenario) (hs coming : List Happening) (now : ℕ) (device : DeviceId) (node : Node) → IsAtWork s hs coming now device node

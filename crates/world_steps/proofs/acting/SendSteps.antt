@@ -1,37 +1,15 @@
 -- The steps by which a device sends the frame of a cycle.
-use Rattle.std.proofs.Common.{◌≡◌, ℕ, ◌<◌, pos, ◌<ℤ◌, ◌≤ℤ◌, true, false, List, [], ◌∷◌, ◌++◌, length, map, slice_get, Some, inl, inr, refl, sym, ap, subst, ◌∙◌, arith}
-use Rattle.net_plan.specs.Ranges.{IsInRange}
-use Rattle.net_plan.specs.declared.ids.DeviceId.{DeviceId}
-use Rattle.net_plan.specs.declared.network.Network.{Network}
-use Rattle.pcf_values.specs.declared.pcf.Pcf.{Pcf}
-use Rattle.run_law.proofs.runs.Places.{before_behind, chain}
-use Rattle.run_law.specs.declared.note.Note.{Note}
+use Rattle.world_steps.proofs.Words.{◌++◌, ◌<ℤ◌, ◌<◌, ◌∙◌, ◌∷◌, ◌≡◌, ◌≤ℤ◌, ArePutIn, ComesFirst, DeviceId, Happening, HasActed, HasTaskBy, HasTurnedOn}
+use Rattle.world_steps.proofs.Words.{IsBefore, IsDueNow, IsInRange, IsPending, IsSet, IsShownPut, IsSteady, KeepsRules, List, Network, Node, Note, Pcf}
+use Rattle.world_steps.proofs.Words.{Scenario, Some, Stands, StandsBehind, Task, World, [], act_place, amount, ap, arith, before_behind, behind, chain, doing}
+use Rattle.world_steps.proofs.Words.{false, happenings, hidden, inl, inr, is_turned_on_at, length, length_is, map, moment_of, one_shown, pos, put_at}
+use Rattle.world_steps.proofs.Words.{reading_for, record_of, refl, sending, slice_get, subst, sym, true, turned_comes, turned_moves, ℕ}
+use Rattle.world_law.proofs.rows.Apart.{no_row_at_sending}
+use Rattle.world_steps.proofs.acting.{AllOfIt.{NoneDispatched, all_idle, none_told}, Kept.{bare_act, kept_at_work, kept_over, may_act_now}, Over.is_over}
+use Rattle.world_steps.proofs.acting.Sending.{as_put, calm_then, has_sent_it, room_for, sending_record, turned_then}
+use Rattle.world_steps.proofs.acting.{Stage.{Stage, one_goes_by, one_stays, stage_of}, Work.{IsAtWork, sends}}
 use Rattle.run_law.specs.declared.note.NoteBody.TheVariants as kinds
 use Rattle.run_law.specs.declared.steps.Act.TheVariants as acts
-use Rattle.run_law.specs.machines.Nodes.{Node, sending}
-use Rattle.run_law.specs.machines.Tasks.{IsPending, Task, doing, reading_for}
-use Rattle.run_law.specs.records.Happenings.{Happening, happenings}
-use Rattle.run_law.specs.records.Order.{IsBefore, behind}
-use Rattle.run_law.specs.scenario.Scenarios.{Scenario, is_turned_on_at}
-use Rattle.schedule_tables.specs.Rules.{KeepsRules}
-use Rattle.tte_units.specs.Amount.{amount}
-use Rattle.world_steps.proofs.acting.AllOfIt.{NoneDispatched, all_idle, none_told}
-use Rattle.world_steps.proofs.acting.Kept.{bare_act, kept_at_work, kept_over, may_act_now}
-use Rattle.world_steps.proofs.acting.Over.{is_over}
-use Rattle.world_steps.proofs.acting.Sending.{as_put, calm_then, has_sent_it, room_for, sending_record, turned_then}
-use Rattle.world_steps.proofs.acting.Stage.{Stage, one_goes_by, one_stays, stage_of}
-use Rattle.world_steps.proofs.acting.Work.{IsAtWork, sends}
-use Rattle.world_law.proofs.putting.Coming.{turned_comes}
-use Rattle.world_law.proofs.putting.Moving.{turned_moves}
-use Rattle.world_law.proofs.putting.Placing.{put_at}
-use Rattle.world_law.proofs.putting.PutShown.{IsShownPut, one_shown, record_of}
-use Rattle.world_law.proofs.rows.Apart.{no_row_at_sending}
-use Rattle.world_law.proofs.runs.Worlds.{length_is}
-use Rattle.world_law.specs.device.Ready.{IsSteady}
-use Rattle.world_law.specs.device.Left.{HasTaskBy}
-use Rattle.world_law.specs.world.Calls.{HasActed, IsDueNow, IsSet, moment_of}
-use Rattle.world_law.specs.world.Moves.{ArePutIn, ComesFirst, StandsBehind}
-use Rattle.world_law.specs.world.World.{HasTurnedOn, Stands, World, act_place, hidden}
 
 -- what a step starts from by which the device sends
 pub record IsSending {C M : Type 0} (reading : C → ℕ → ℕ) (stands : M → Network → DeviceId → Node → Type 0) (s : Scenario) (world : World C M)

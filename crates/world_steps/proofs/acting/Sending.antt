@@ -1,45 +1,15 @@
 -- A device sends the frame of a cycle.
-use Rattle.std.proofs.Common.{◌≡◌, ℕ, ◌+◌, ◌≤◌, ◌<◌, pos, ◌≤ℤ◌, true, false, List, [], ◌∷◌, ◌++◌, length, inl, inr, refl, sym, ap, subst, ◌∙◌, arith}
-use Rattle.std.proofs.lemmas.Bool.{both_ways, cases_lt, ne_eqb}
-use Rattle.std.proofs.lemmas.List.{length-map}
-use Rattle.std.proofs.lemmas.List.Elements.{Contains-push_cases}
-use Rattle.net_plan.specs.declared.ids.DeviceId.{DeviceId}
-use Rattle.net_plan.specs.declared.network.Network.{Network}
-use Rattle.pcf_values.specs.declared.pcf.Pcf.{Pcf}
-use Rattle.run_law.proofs.runs.Places.{in_left, in_right}
+use Rattle.world_steps.proofs.Words.{◌++◌, ◌+◌, ◌<◌, ◌∙◌, ◌∷◌, ◌≡◌, ◌≤ℤ◌, ◌≤◌, AreRecorded, ComesFirst, Contains-push_cases, DeviceId, Happening, HasCleared}
+use Rattle.world_steps.proofs.Words.{HasTurnedOn, Integrating, IsActOf, IsActing, IsAtRest, IsBefore, IsFirstTask, IsNoTaking, IsPending, IsReadyAt, List}
+use Rattle.world_steps.proofs.Words.{Network, Node, NoneBefore, Note, NoteBody, Pcf, Scenario, Stands, World, [], acting, ap, arith, before_it, both_ways}
+use Rattle.world_steps.proofs.Words.{called, cases_lt, correcting, doing, false, frames_taken, hears, hidden, in_left, in_right, inl, inr, is_turned_on_at, key}
+use Rattle.world_steps.proofs.Words.{last_unfollowed, length, length-map, members_in, moment_of, ne_eqb, none_yet, place_of, plains_placed, pos, put_at, rank}
+use Rattle.world_steps.proofs.Words.{reading_for, record_of, refl, sending, state_after, subst, sym, time_of, true, turned_aside, with_done, ℕ}
+use Rattle.world_steps.proofs.acting.{GoesOn.{IsPutAs, earlier_put, sends_on, sent_recorded}, Kept.{frames_put, may_act_now, ready_after}, Over.IsCalm}
+use Rattle.world_steps.proofs.acting.{Stage.{IsActRecord, Stage}, Work.{IsAtWork, sends}}
 use Rattle.run_law.specs.declared.judgement.Why.TheVariants as whys
-use Rattle.run_law.specs.declared.note.Note.{Note}
 use Rattle.run_law.specs.declared.note.NoteBody.TheVariants as kinds
-use Rattle.run_law.specs.declared.note.NoteBody.{NoteBody}
 use Rattle.run_law.specs.declared.steps.Act.TheVariants as acts
-use Rattle.run_law.specs.device.States.{state_after}
-use Rattle.run_law.specs.machines.Answers.{IsActOf, called, with_done}
-use Rattle.run_law.specs.machines.Nodes.{Node, acting, correcting, sending}
-use Rattle.run_law.specs.machines.Tasks.{IsFirstTask, IsPending, doing, reading_for}
-use Rattle.run_law.specs.records.Happenings.{Happening, time_of}
-use Rattle.run_law.specs.records.Order.{IsBefore, NoneBefore}
-use Rattle.run_law.specs.records.Ranks.{key, members_in, place_of, rank}
-use Rattle.run_law.specs.scenario.Scenarios.{Scenario, is_turned_on_at}
-use Rattle.sync_state.specs.declared.state.State.TheVariants.{Integrating}
-use Rattle.world_steps.proofs.acting.GoesOn.{IsPutAs, earlier_put, sends_on, sent_recorded}
-use Rattle.world_steps.proofs.acting.Kept.{frames_put, may_act_now, ready_after}
-use Rattle.world_steps.proofs.acting.Over.{IsCalm}
-use Rattle.world_steps.proofs.acting.Stage.{IsActRecord, Stage}
-use Rattle.world_steps.proofs.acting.Work.{IsAtWork, sends}
-use Rattle.world_law.proofs.putting.Bearing.{turned_aside}
-use Rattle.world_law.proofs.putting.Near.{hears}
-use Rattle.world_law.proofs.putting.NearPut.{plains_placed}
-use Rattle.world_law.proofs.putting.Placing.{before_it, put_at}
-use Rattle.world_law.proofs.putting.PutOne.{last_unfollowed}
-use Rattle.world_law.proofs.putting.PutShown.{record_of}
-use Rattle.world_law.proofs.rows.Takings.{IsNoTaking}
-use Rattle.world_law.specs.device.Ready.{IsReadyAt}
-use Rattle.world_law.specs.device.Recorded.{AreRecorded, HasCleared}
-use Rattle.world_law.specs.device.Takings.{frames_taken}
-use Rattle.world_law.specs.source.Sources.{IsActing}
-use Rattle.world_law.specs.world.Calls.{moment_of}
-use Rattle.world_law.specs.world.Moves.{ComesFirst}
-use Rattle.world_law.specs.world.World.{HasTurnedOn, IsAtRest, Stands, World, hidden, none_yet}
 
 -- ---- what is behind its record
 
@@ -78,11 +48,6 @@ sent_at t u m d cycle (kinds.Dropped other link cause reason) e = absurd (let ba
 sent_at t u m d cycle (kinds.Clock other reading adjustment state) e = absurd (let bad : ◌≡◌ {A = ℕ} 5 14 = cc in omega (arith, bad))
 
 -- ---- a record put in
-
--- a node that has acted, and took nothing
-pub record IsAfter (node after : Node) : Type 0 where
-  pub taken : after.taken ≡ node.taken
-  pub phase : after.phase ≡ acting
 
 pub as_put : (hs front back : List Happening) (now : ℕ) (w : Happening) → time_of w ≡ now → 4 ≤ rank w.note.body
     → IsPutAs now front back (put_at hs front w back) w

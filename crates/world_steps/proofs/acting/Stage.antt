@@ -1,53 +1,19 @@
 -- A device acts at the source that comes first: how all stands then, and how the world stands with its record put in.
-use Rattle.std.proofs.Common.{◌≡◌, ℕ, ◌+◌, ◌^◌, ◌≤◌, ◌<◌, pos, ◌≤ℤ◌, true, false, List, [], ◌∷◌, ◌++◌, length, map, slice_get, Some, inl, inr, refl, sym, ap, subst, ◌∙◌, arith}
-use Rattle.std.proofs.lemmas.Bool.{cases_eq, cases_lt}
-use Rattle.std.proofs.lemmas.Int.{ints}
+use Rattle.world_steps.proofs.Words.{◌++◌, ◌+◌, ◌<◌, ◌^◌, ◌∙◌, ◌∷◌, ◌≡◌, ◌≤ℤ◌, ◌≤◌, AllBefore, AreOfNetwork, AreRecorded, ComesFirst, DeviceId, Happening}
+use Rattle.world_steps.proofs.Words.{HasCleared, HasTaskBy, HasTurnedOn, IsActing, IsAllOfIt, IsBefore, IsCaused, IsDue, IsDueNow, IsFounded, IsHeld, IsIn}
+use Rattle.world_steps.proofs.Words.{IsKept, IsLawful, IsMoving, IsNoTaking, IsOne, IsOwnSource, IsSet, IsShownPut, IsSource, IsSteady, IsUnfollowed, List}
+use Rattle.world_steps.proofs.Words.{Network, Node, NoneBefore, Note, NoteBody, Scenario, Some, Stands, StandsBehind, World, [], act_place, all_without, amount}
+use Rattle.world_steps.proofs.Words.{ap, are_past, arith, bears_on, before_it, before_later, behind, cases_eq, cases_lt, comes_first, due_of, false}
+use Rattle.world_steps.proofs.Words.{frames_taken, happenings, hears, held_aside, held_moves, hidden, in_mapped, in_parts, inl, inr, ints, is_at_source}
+use Rattle.world_steps.proofs.Words.{is_sending, is_turned_on_at, known_aside, length, map, members_in, moment_of, moves, moves_no_other, natural}
+use Rattle.world_steps.proofs.Words.{no_later_breaks, none_yet, not_on_after, one_by, place_of, placed_length, port_place, ports_move, pos, put_at, rank}
+use Rattle.world_steps.proofs.Words.{record_of, refl, slice_get, stands_on, subst, sym, time_of, told_wires, true, units_of, waiting_moves, wire_place}
+use Rattle.world_steps.proofs.Words.{wires_move, ℕ}
 use Rattle.std.proofs.lemmas.Option.{same_Some}
-use Rattle.net_plan.specs.declared.ids.DeviceId.{DeviceId}
-use Rattle.net_plan.specs.declared.network.Network.{Network}
-use Rattle.run_law.proofs.runs.Places.{before_later, in_parts}
-use Rattle.run_law.specs.declared.note.Note.{Note}
-use Rattle.run_law.specs.declared.note.NoteBody.{NoteBody}
-use Rattle.run_law.specs.machines.Nodes.{Node}
-use Rattle.run_law.specs.records.Happenings.{Happening, happenings, time_of}
-use Rattle.run_law.specs.records.Order.{AllBefore, IsBefore, IsIn, NoneBefore, behind}
-use Rattle.run_law.specs.records.Ranks.{members_in, place_of, rank}
-use Rattle.run_law.specs.runs.DueRecords.{IsCaused, IsDue}
-use Rattle.run_law.specs.runs.Runs.{IsFounded}
-use Rattle.run_law.specs.scenario.Scenarios.{Scenario, is_turned_on_at}
 use Rattle.schedule_tables.specs.declared.rule.Rule.TheVariants.{ScheduleStart}
-use Rattle.tte_lemmas.proofs.Integers.{whole as natural}
-use Rattle.tte_units.specs.Amount.{amount, units_of}
-use Rattle.world_steps.proofs.acting.Kept.{IsBare, may_act_now}
-use Rattle.world_steps.proofs.acting.Over.{IsCalm}
-use Rattle.world_steps.proofs.acting.Starts.{acts_wait, at_work, up_now}
-use Rattle.world_steps.proofs.acting.Work.{IsAtWork}
-use Rattle.world_law.proofs.acts.Recorded.{is_sending}
-use Rattle.world_law.proofs.devices.Borne.{moves_no_other}
-use Rattle.world_law.proofs.devices.Resting.{are_past}
-use Rattle.world_law.proofs.giving.Given.{no_later_breaks}
-use Rattle.world_law.proofs.putting.Bearing.{frames_aside, held_aside, known_aside}
-use Rattle.world_law.proofs.putting.Bumped.{placed_length}
-use Rattle.world_law.proofs.putting.Coming.{held_comes, stands_at}
-use Rattle.world_law.proofs.putting.Moving.{IsAllOfIt, IsMoving, all_without, held_moves, ports_move, waiting_moves, wires_move}
-use Rattle.world_law.proofs.putting.Near.{hears}
-use Rattle.world_law.proofs.putting.Placing.{before_it, put_at}
-use Rattle.world_law.proofs.putting.PutOne.{IsOne, IsUnfollowed, one_at, one_by}
-use Rattle.world_law.proofs.putting.PutShown.{IsShownPut, due_of, hidden_rank, record_of}
-use Rattle.world_law.proofs.putting.StandsOn.{comes_first, in_mapped, shown_still, source_told, stands_on, told_wires}
-use Rattle.world_law.proofs.rows.Dispatching.{IsLawful, lawful, whole_founded}
-use Rattle.world_law.proofs.rows.Takings.{IsNoTaking}
-use Rattle.world_law.proofs.runs.Foremost.{not_on_after}
-use Rattle.world_steps.proofs.steps.Passed.{no_task}
-use Rattle.world_law.specs.device.Ready.{IsSteady}
-use Rattle.world_law.specs.device.Left.{HasTaskBy}
-use Rattle.world_law.specs.device.Own.{bears_on, moves}
-use Rattle.world_law.specs.device.Recorded.{AreRecorded, HasCleared}
-use Rattle.world_law.specs.device.Takings.{frames_taken}
-use Rattle.world_law.specs.source.Sources.{IsActing, IsOwnSource, IsSource}
-use Rattle.world_law.specs.world.Calls.{IsDueNow, IsSet, moment_of}
-use Rattle.world_law.specs.world.Moves.{ComesFirst, StandsBehind}
-use Rattle.world_law.specs.world.World.{AreOfNetwork, HasTurnedOn, IsHeld, IsKept, Stands, World, act_place, hidden, is_at_source, none_yet, port_place, wire_place}
+use Rattle.world_law.proofs.putting.{Bearing.frames_aside, Coming.{held_comes, stands_at}, PutOne.one_at, PutShown.hidden_rank}
+use Rattle.world_law.proofs.{putting.StandsOn.{shown_still, source_told}, rows.Dispatching.{lawful, whole_founded}}
+use Rattle.world_steps.proofs.{acting.{Kept.{IsBare, may_act_now}, Over.IsCalm, Starts.{acts_wait, at_work, up_now}, Work.IsAtWork}, steps.Passed.no_task}
 
 -- a device that has something due at the source that comes first
 pub record Stage {M : Type 0} (stands : M → Network → DeviceId → Node → Type 0) (s : Scenario) (hs coming : List Happening) (mark cursor : List ℕ) (now : ℕ)

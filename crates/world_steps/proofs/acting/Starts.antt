@@ -1,31 +1,13 @@
 -- A device that is kept and has something due at the present instant is at work.
-use Rattle.std.proofs.Common.{◌≡◌, ◌⊎◌, ℕ, ◌+◌, ◌≤◌, pos, ◌≤ℤ◌, List, [], ◌∷◌, ◌++◌, filter, None, inl, inr, refl, sym, ap, subst, ◌∙◌, arith}
-use Rattle.std.proofs.lemmas.List.{append-nil}
-use Rattle.compression.specs.declared.compressed.Compressed.{Compressed}
-use Rattle.net_plan.specs.declared.ids.DeviceId.{DeviceId}
-use Rattle.net_plan.specs.declared.network.Network.{Network}
+use Rattle.world_steps.proofs.Words.{◌++◌, ◌+◌, ◌∙◌, ◌∷◌, ◌≡◌, ◌≤ℤ◌, ◌≤◌, ◌⊎◌, AreSettled, Compressed, DeviceId, Happening, HasDoneFrom, HasSentFrom, HasTaskBy}
+use Rattle.world_steps.proofs.Words.{IsActing, IsBefore, IsIn, IsKept, IsLawful, IsLeft, IsOwnSource, IsPending, Judgement, List, Network, Node, None, NoteBody}
+use Rattle.world_steps.proofs.Words.{Scenario, Task, [], act_place, ap, append-nil, arith, changed_at, changes_adjustment, correcting, dispatches_back}
+use Rattle.world_steps.proofs.Words.{dispatching, doing, earlier, earlier_still, emitting, filter, frames_taken, inl, inr, members_in, parted, plain_body, pos}
+use Rattle.world_steps.proofs.Words.{rank, reading_for, refl, sending, subst, sym, time_of, ℕ}
 use Rattle.run_law.proofs.law.FirstPlaces.{in_filter}
-use Rattle.run_law.proofs.runs.Places.{parted}
-use Rattle.run_law.specs.declared.judgement.Judgement.{Judgement}
-use Rattle.run_law.specs.declared.note.NoteBody.TheVariants as kinds
-use Rattle.run_law.specs.declared.note.NoteBody.{NoteBody}
-use Rattle.run_law.specs.device.LocalClocks.{changed_at, changes_adjustment}
-use Rattle.run_law.specs.machines.Nodes.{Node, correcting, dispatching, sending}
-use Rattle.run_law.specs.machines.Tasks.{IsPending, Task, doing, emitting, reading_for}
-use Rattle.run_law.specs.records.Happenings.{Happening, earlier, time_of}
-use Rattle.run_law.specs.records.Order.{IsBefore, IsIn}
-use Rattle.run_law.specs.records.Ranks.{members_in, rank}
-use Rattle.run_law.specs.scenario.Scenarios.{Scenario}
+use Rattle.world_law.proofs.{rows.Dispatching.dispatches_so, runs.Agreement.{in_earlier, last_within}}
 use Rattle.world_steps.proofs.acting.Work.{IsAtWork, at_correction, emits, not_over, own_judgement, reaches, sends}
-use Rattle.world_law.proofs.rows.Dispatching.{IsLawful, dispatches_so}
-use Rattle.world_law.proofs.runs.Agreement.{in_earlier, last_within}
-use Rattle.world_law.proofs.runs.SourcesBack.{dispatches_back, earlier_still}
-use Rattle.world_law.specs.device.Deeds.{HasDoneFrom, HasSentFrom}
-use Rattle.world_law.specs.device.Left.{HasTaskBy, IsLeft}
-use Rattle.world_law.specs.device.Plain.{plain_body}
-use Rattle.world_law.specs.device.Takings.{frames_taken}
-use Rattle.world_law.specs.source.Sources.{IsActing, IsOwnSource}
-use Rattle.world_law.specs.world.World.{AreSettled, IsKept, act_place}
+use Rattle.run_law.specs.declared.note.NoteBody.TheVariants as kinds
 
 -- the last change before the next unit of time is not after this one
 pub changed_soon : (hs : List Happening) (device : DeviceId) (now : ℕ) → changed_at hs device (now + 1) ≤ now

@@ -1,42 +1,14 @@
 -- A device acts, and more is due of it at the instant: the cursor stays.
-use Rattle.std.proofs.Common.{◌≡◌, ◌⊎◌, ℕ, ◌+◌, ◌≤◌, ◌<◌, pos, Bool, true, false, List, [], ◌∷◌, ◌++◌, Option, Some, None, inl, inr, refl, sym, ap, subst, ◌∙◌, arith}
-use Rattle.compression.specs.declared.compressed.Compressed.{Compressed}
-use Rattle.net_plan.specs.declared.ids.DeviceId.{DeviceId}
-use Rattle.net_plan.specs.declared.network.Network.{Network}
-use Rattle.run_law.proofs.silent.Due.{no_cluster}
-use Rattle.run_law.specs.control.Collections.{observation_window}
-use Rattle.run_law.specs.declared.note.Note.{Note}
-use Rattle.run_law.specs.declared.note.NoteBody.{NoteBody}
-use Rattle.run_law.specs.declared.steps.Act.TheVariants as acts
-use Rattle.run_law.specs.declared.steps.Act.{Act}
-use Rattle.run_law.specs.declared.steps.Ripe.TheVariants as ripe
-use Rattle.run_law.specs.declared.steps.Ripe.{Ripe}
-use Rattle.run_law.specs.machines.Nodes.{Node, correcting}
-use Rattle.run_law.specs.machines.Tasks.{IsPending, Task, doing, emitting, reading_for}
-use Rattle.run_law.specs.records.Happenings.{Happening, happenings}
-use Rattle.run_law.specs.scenario.Scenarios.{Scenario}
-use Rattle.sync_state.specs.declared.answers.Verdict.TheVariants.{AsyncClique, Cleared, Corrected, SyncClique}
-use Rattle.sync_state.specs.declared.answers.Verdict.{Verdict}
-use Rattle.tte_lemmas.proofs.Integers.{never_both}
-use Rattle.world_steps.proofs.acting.Clearing.{cleared_over}
-use Rattle.world_steps.proofs.acting.Correcting.{corrected_sent, corrects_it, no_deed}
-use Rattle.world_steps.proofs.acting.DispatchSteps.{dispatch_stays}
-use Rattle.world_steps.proofs.acting.EmitSteps.{emit_stays}
-use Rattle.world_steps.proofs.acting.Kept.{may_act_now}
-use Rattle.world_steps.proofs.acting.LastSteps.{heard_by_it}
-use Rattle.world_steps.proofs.acting.Points.{at_point, no_frames, not_on}
-use Rattle.world_steps.proofs.acting.SendSteps.{send_stays}
-use Rattle.world_steps.proofs.acting.Stage.{stage_of}
-use Rattle.world_steps.proofs.acting.Starts.{changed_soon}
-use Rattle.world_steps.proofs.acting.Work.{not_over}
+use Rattle.world_steps.proofs.Words.{◌++◌, ◌+◌, ◌≡◌, ◌≤◌, Act, ArePutIn, AsyncClique, Cleared, Compressed, Corrected, DeviceId, Happening, HasActed}
+use Rattle.world_steps.proofs.Words.{HasDoneFrom, HasSentFrom, HasTaskBy, IsDueNow, IsSet, List, Network, Node, Note, NoteBody, Ripe, Scenario, Stands}
+use Rattle.world_steps.proofs.Words.{StandsBehind, SyncClique, Verdict, World, act_place, arith, correcting, doing, emitting, false, happenings, moment_of}
+use Rattle.world_steps.proofs.Words.{never_both, no_cluster, observation_window, point_number, pos, refl, subst, ℕ}
 use Rattle.world_law.proofs.acts.Acted.{beyond_it}
-use Rattle.world_law.proofs.acts.Acting.{point_number}
-use Rattle.world_law.specs.device.Deeds.{HasDoneFrom, HasSentFrom}
-use Rattle.world_law.specs.device.Left.{HasTaskBy}
-use Rattle.world_steps.specs.Acting.{ActedStep, Acts, AreActBodies}
-use Rattle.world_law.specs.world.Calls.{HasActed, IsDueNow, IsSet, moment_of}
-use Rattle.world_law.specs.world.Moves.{ArePutIn, StandsBehind}
-use Rattle.world_law.specs.world.World.{Stands, World, act_place}
+use Rattle.world_steps.proofs.acting.{Clearing.cleared_over, Correcting.{corrected_sent, corrects_it, no_deed}, DispatchSteps.dispatch_stays}
+use Rattle.world_steps.proofs.acting.{EmitSteps.emit_stays, Kept.may_act_now, LastSteps.heard_by_it, Points.{at_point, no_frames, not_on}, SendSteps.send_stays}
+use Rattle.world_steps.{proofs.acting.{Stage.stage_of, Starts.changed_soon, Work.not_over}, specs.Acting.{ActedStep, Acts, AreActBodies}}
+use Rattle.run_law.specs.declared.steps.Act.TheVariants as acts
+use Rattle.run_law.specs.declared.steps.Ripe.TheVariants as ripe
 
 -- ---- behind a correction point, and behind a frame by which it joins, nothing more is due
 

@@ -1,34 +1,13 @@
 -- Records of the present instant that do not move a device leave it as it was before the instant, but for what it has heard.
-use Rattle.std.proofs.Common.{◌≡◌, ◌⊎◌, IfSome, ℕ, ◌≤◌, Bool, true, false, not, ◌&&◌, ◌||◌, if◌then◌else◌, List, [], ◌∷◌, ◌++◌, append_assoc, filter, filter_map, map, Option, Some, None, option_to_list, inl, inr, refl, sym, ap, subst, ◌∙◌, arith}
-use Rattle.std.specs.Prelude.{nat_lt}
-use Rattle.std.specs.List.{cons_option}
-use Rattle.std.proofs.lemmas.Bool.{le-ltb}
-use Rattle.std.proofs.lemmas.List.{append-nil}
-use Rattle.std.proofs.lemmas.List.Elements.{filter_map-append}
-use Rattle.membership.specs.Hearing.{Hearing}
-use Rattle.net_plan.specs.declared.ids.DeviceId.{DeviceId}
-use Rattle.run_law.proofs.runs.Places.{in_left, in_parts, in_right}
-use Rattle.run_law.specs.control.Collections.{points_of}
-use Rattle.run_law.specs.control.Corrections.{hearing_by, heard_since, integration_cycle, recorded_cycle}
-use Rattle.run_law.specs.device.LocalClocks.{changes_adjustment}
-use Rattle.run_law.specs.device.States.{adjustment_after, state_after}
-use Rattle.run_law.specs.machines.Nodes.{Node}
-use Rattle.run_law.specs.records.Happenings.{Happening, earlier, time_of}
-use Rattle.run_law.specs.records.Order.{IsIn}
-use Rattle.run_law.specs.records.Ranks.{rank}
-use Rattle.run_law.specs.scenario.Scenarios.{Scenario, is_turned_on_at}
-use Rattle.sync_state.specs.declared.state.State.TheVariants.{Integrating}
+use Rattle.world_steps.proofs.Words.{if◌then◌else◌, ◌&&◌, ◌++◌, ◌||◌, ◌∙◌, ◌∷◌, ◌≡◌, ◌≤◌, ◌⊎◌, Bool, DeviceId, Happening, Hearing, IfSome, Integrating}
+use Rattle.world_steps.proofs.Words.{IsAtRest, IsIn, IsLeft, List, Node, None, Option, Scenario, Some, [], adjustment_after, ap, append-nil, append_assoc}
+use Rattle.world_steps.proofs.Words.{arith, behind_no, by_last, changes_adjustment, cleared_in, cons_option, earlier, false, filter, filter_map}
+use Rattle.world_steps.proofs.Words.{filter_map-append, filter_yes, heard_since, hearing_by, in_left, in_mapped, in_parts, in_right, inl, inr}
+use Rattle.world_steps.proofs.Words.{integration_cycle, is_timed, is_turned_on_at, le-ltb, local_in, map, nat_lt, next_in, not, option_to_list, plain, plains}
+use Rattle.world_steps.proofs.Words.{points_of, points_same, quiet_rest, rank, recorded_cycle, refl, same_before, since_at, state_after, subst, sym, time_of}
+use Rattle.world_steps.proofs.Words.{true, ℕ}
 use Rattle.tte_lemmas.proofs.Bools.{kept_flag}
-use Rattle.world_law.proofs.acts.NoActs.{points_same}
-use Rattle.world_law.proofs.devices.Borne.{by_last}
-use Rattle.world_law.proofs.devices.OwnRecords.{same_before}
-use Rattle.world_law.proofs.devices.TurnedOn.{IsQuiet, quiet_rest}
-use Rattle.world_law.proofs.lists.Lists.{behind_no, filter_yes}
-use Rattle.world_law.proofs.putting.StandsOn.{in_mapped}
-use Rattle.world_law.specs.device.Left.{IsLeft, is_timed}
-use Rattle.world_law.specs.device.Plain.{plain, plains}
-use Rattle.world_law.specs.device.Told.{cleared_in, local_in, next_in, since_at}
-use Rattle.world_law.specs.world.World.{IsAtRest}
+use Rattle.world_law.proofs.devices.TurnedOn.{IsQuiet}
 
 -- ---- lists that differ in their numbers
 
@@ -46,10 +25,6 @@ in_plains xs ys x same i = out_mapped plain ys (plain x) (subst (λ (l : List Ha
 -- what the device hears by these records
 abbrev pub heard_by_these : Scenario → DeviceId → List Happening → List Hearing
 heard_by_these s device zs = filter_map (λ h. hearing_by s.network device h h.note.body) zs
-
-heard_in : Scenario → DeviceId → List Happening → ℕ → List Happening → List Hearing
-heard_in s device w t since =
-    filter_map (λ h. hearing_by s.network device h h.note.body) (filter (λ h. not (cleared_in s device w t) || cleared_in s device w (time_of h)) since)
 
 maps_on : {X Y : Type 0} (f : X → Option Y) (xs : List X) (x : X) → filter_map f (xs ++ x ∷ []) ≡ filter_map f xs ++ filter_map f (x ∷ [])
 maps_on f xs x = filter_map-append f xs (x ∷ [])

@@ -1,51 +1,17 @@
 -- A device that has something due at the present instant: how it stands before it acts, and what is due then.
-use Rattle.std.proofs.Common.{◌≡◌, ℕ, ◌+◌, ◌≤◌, ℤ, pos, ◌-ℤ◌, ◌<ℤ◌, ◌≤ℤ◌, Bool, true, false, ◌&&◌, ◌||◌, ◌==◌, if◌then◌else◌, List, [], ◌∷◌, ◌++◌, append_assoc, Option, Some, inl, inr, refl, sym, ap, subst, ◌∙◌, arith}
-use Rattle.std.specs.Prelude.{nat_lt}
-use Rattle.std.specs.List.{list_any}
-use Rattle.std.proofs.lemmas.Bool.{and_right, cases_lt, eq-eqb, lt-ltb, or_left}
-use Rattle.std.proofs.lemmas.Int.{ints}
-use Rattle.compression.specs.Clusters.{AreClusters, Point}
-use Rattle.compression.specs.declared.compressed.Compressed.{Compressed}
-use Rattle.membership.specs.Summary.{Summary, Summarizes}
-use Rattle.net_plan.specs.declared.ids.DeviceId.{DeviceId}
-use Rattle.net_plan.specs.declared.network.Network.{Network}
-use Rattle.run_law.proofs.records.Order.{same_kept}
-use Rattle.run_law.proofs.runs.Places.{in_left, in_right}
-use Rattle.run_law.specs.control.Collections.{observation_window, points_of}
-use Rattle.run_law.specs.control.Corrections.{ComesToCorrection, heard_since, next_cycle, standing_before}
-use Rattle.run_law.specs.control.Emissions.{Emits}
-use Rattle.run_law.specs.control.Hearing.{heard_as}
-use Rattle.run_law.specs.declared.judgement.Judgement.{Judgement}
-use Rattle.run_law.specs.device.LocalClocks.{Reaches, changed_at}
-use Rattle.run_law.specs.device.States.{adjustment_after, adjustment_at_hearing, adjustment_before, has_joined_at, is_joined_by, state_after, state_at_hearing, state_before}
-use Rattle.run_law.specs.machines.Answers.{ComesTo}
-use Rattle.run_law.specs.machines.Nodes.{ClockTask, Node, correcting, sending}
-use Rattle.run_law.specs.machines.Tasks.{IsPending, IsUndone, doing, emitting, reading_for, value_of}
-use Rattle.run_law.specs.records.Happenings.{Happening, earlier, time_of}
-use Rattle.run_law.specs.records.Order.{IsIn}
-use Rattle.run_law.specs.records.Ranks.{rank}
-use Rattle.run_law.specs.scenario.Devices.{plan_of}
-use Rattle.run_law.specs.scenario.Scenarios.{Scenario, is_broken, is_turned_on_at}
-use Rattle.run_law.specs.timed.Dispatching.{Sends}
-use Rattle.sync_state.specs.Standing.{Standing, next_point}
-use Rattle.sync_state.specs.Verdicts.{HasVerdict}
-use Rattle.sync_state.specs.declared.answers.Verdict.{Verdict}
-use Rattle.sync_state.specs.declared.plan.SyncPlan.{SyncPlan}
-use Rattle.sync_state.specs.declared.state.State.TheVariants.{Integrating, Joining}
-use Rattle.sync_state.specs.declared.state.State.{State}
-use Rattle.tte_lemmas.proofs.Bools.{or_none}
-use Rattle.tte_lemmas.proofs.Integers.{never_both}
-use Rattle.tte_units.specs.declared.units.Units.{Units}
-use Rattle.world_law.proofs.acts.Acting.{point_number}
-use Rattle.world_law.proofs.acts.NoActs.{points_same}
-use Rattle.world_law.proofs.devices.TurnedOn.{quiet_joins, quiet_rest}
-use Rattle.world_law.proofs.runs.Agreement.{changed_before}
-use Rattle.world_law.proofs.runs.SourcesBack.{earlier_still, reaches_back, standing_in, up_back}
-use Rattle.world_law.specs.device.Ready.{IsReadyAt}
-use Rattle.world_law.specs.device.Deeds.{HasDoneFrom, HasSentFrom}
-use Rattle.world_law.specs.device.Left.{HasTaskBy, IsLeft, is_timed}
-use Rattle.world_law.specs.source.Sources.{IsAtCorrection}
-use Rattle.world_law.specs.world.World.{IsAtRest}
+use Rattle.world_steps.proofs.Words.{if◌then◌else◌, ◌&&◌, ◌++◌, ◌+◌, ◌-ℤ◌, ◌<ℤ◌, ◌==◌, ◌||◌, ◌∙◌, ◌∷◌, ◌≡◌, ◌≤ℤ◌, ◌≤◌, AreClusters, Bool, ClockTask, ComesTo}
+use Rattle.world_steps.proofs.Words.{ComesToCorrection, Compressed, DeviceId, Emits, Happening, HasDoneFrom, HasSentFrom, HasTaskBy, Integrating, IsAtRest}
+use Rattle.world_steps.proofs.Words.{IsIn, IsLeft, IsPending, IsReadyAt, IsUndone, Joining, Judgement, List, Network, Node, Option, Point, Reaches, Scenario}
+use Rattle.world_steps.proofs.Words.{Some, State, Summary, SyncPlan, Units, Verdict, [], adjustment_after, adjustment_at_hearing, adjustment_before, and_right}
+use Rattle.world_steps.proofs.Words.{ap, append_assoc, arith, cases_lt, changed_at, changed_before, correcting, doing, earlier, earlier_still, emitting, false}
+use Rattle.world_steps.proofs.Words.{has_joined_at, heard_as, heard_since, in_left, in_right, inl, inr, ints, is_broken, is_joined_by, is_timed}
+use Rattle.world_steps.proofs.Words.{is_turned_on_at, list_any, lt-ltb, nat_lt, never_both, observation_window, or_left, or_none, plan_of, point_number}
+use Rattle.world_steps.proofs.Words.{points_of, points_same, pos, quiet_rest, rank, reaches_back, reading_for, refl, same_kept, sending, standing_before}
+use Rattle.world_steps.proofs.Words.{state_after, state_at_hearing, state_before, subst, sym, time_of, true, up_back, value_of, ℕ, ℤ}
+use Rattle.membership.specs.Summary.{Summarizes}
+use Rattle.run_law.specs.{control.Corrections.next_cycle, timed.Dispatching.Sends}
+use Rattle.sync_state.specs.{Standing.{Standing, next_point}, Verdicts.HasVerdict}
+use Rattle.world_law.{proofs.{devices.TurnedOn.quiet_joins, runs.SourcesBack.standing_in}, specs.source.Sources.IsAtCorrection}
 
 -- how a device stands that acts at the instant and has not come to a correction at it, nor joined
 pub record IsAtWork (s : Scenario) (hs coming : List Happening) (now : ℕ) (device : DeviceId) (node : Node) : Type 0 where

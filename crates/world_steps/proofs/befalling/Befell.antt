@@ -1,33 +1,18 @@
 -- What the events of an instant leave is settled, before all else of it: the world stands behind them.
-use Rattle.std.proofs.Common.{◌≡◌, ℕ, ◌+◌, Bool, true, false, if◌then◌else◌, List, [], ◌∷◌, ◌++◌, length, inl, inr, refl, sym, ap, subst, ◌∙◌, arith}
-use Rattle.std.proofs.lemmas.Bool.{eq-eqb}
+use Rattle.world_steps.proofs.Words.{if◌then◌else◌, ◌++◌, ◌+◌, ◌∙◌, ◌∷◌, ◌≡◌, AreOfNetwork, AreOnWires, AreUntold, Befell, Bool, DeviceId, Happening}
+use Rattle.world_steps.proofs.Words.{Integrating, IsBefore, IsHeld, IsIn, IsTurnedOnBy, List, Network, Node, NoteBody, Scenario, What, [], amount, ap, arith}
+use Rattle.world_steps.proofs.Words.{before_behind, behind, bodies_of, clock_place, eq-eqb, false, happenings, has_outcome, inl, inr, is_broken}
+use Rattle.world_steps.proofs.Words.{is_turned_on_at, length, place_of, refl, settled_as, subst, sym, true, ℕ}
+use Rattle.run_law.proofs.runs.Places.{before_next_time}
+use Rattle.world_law.proofs.runs.Applies.{same_length}
+use Rattle.world_steps.proofs.befalling.{Bodies.{IsOutcome, all_bodies, all_rising, few_all, flat_in}, Devices.{AreToldOf, held_told, known_told}}
+use Rattle.world_steps.proofs.befalling.Filled.{IsFilled, all_long, all_new, filled_all, in_on, number_on, on_length, shown_all}
+use Rattle.world_steps.proofs.befalling.{Settles.{IsSettling, in_coming, settled_told}, Told.{on_by_event, recorded}}
+use Rattle.world_steps.proofs.{befalling.UnderWay.{IsTelling, goes_on, ports_told, waiting_told, wires_told}, steps.Applied.no_coming}
+use Rattle.world_steps.{proofs.steps.AppliedParts.before_others, specs.Befalling.{BefellStep, befell_bodies}}
 use Rattle.net_plan.specs.declared.event.What.TheVariants as events
-use Rattle.net_plan.specs.declared.event.What.{What}
-use Rattle.net_plan.specs.declared.ids.DeviceId.{DeviceId}
-use Rattle.net_plan.specs.declared.network.Network.{Network}
-use Rattle.run_law.proofs.runs.Places.{before_behind, before_next_time}
 use Rattle.run_law.specs.declared.judgement.Why.TheVariants as whys
 use Rattle.run_law.specs.declared.note.NoteBody.TheVariants as notes
-use Rattle.run_law.specs.declared.note.NoteBody.{NoteBody}
-use Rattle.run_law.specs.machines.Nodes.{Node}
-use Rattle.run_law.specs.records.Happenings.{Happening, happenings}
-use Rattle.run_law.specs.records.Order.{IsBefore, IsIn, behind}
-use Rattle.run_law.specs.records.Ranks.{place_of}
-use Rattle.run_law.specs.scenario.Scenarios.{Scenario, is_broken, is_turned_on_at}
-use Rattle.sync_state.specs.declared.state.State.TheVariants.{Integrating}
-use Rattle.tte_units.specs.Amount.{amount}
-use Rattle.world_steps.proofs.befalling.Bodies.{IsOutcome, all_bodies, all_rising, few_all, flat_in}
-use Rattle.world_steps.proofs.befalling.Devices.{AreToldOf, held_told, known_told}
-use Rattle.world_steps.proofs.befalling.Filled.{IsFilled, all_long, all_new, filled_all, in_on, number_on, on_length, shown_all}
-use Rattle.world_steps.proofs.befalling.Settles.{IsSettling, in_coming, settled_told}
-use Rattle.world_steps.proofs.befalling.Told.{on_by_event, recorded}
-use Rattle.world_steps.proofs.befalling.UnderWay.{IsTelling, goes_on, ports_told, waiting_told, wires_told}
-use Rattle.world_law.proofs.runs.Applies.{same_length}
-use Rattle.world_steps.proofs.steps.Applied.{no_coming}
-use Rattle.world_steps.proofs.steps.AppliedParts.{before_others}
-use Rattle.world_steps.specs.Befalling.{BefellStep, befell_bodies, bodies_of}
-use Rattle.world_law.specs.world.Moves.{settled_as}
-use Rattle.world_law.specs.world.World.{AreOfNetwork, AreOnWires, AreUntold, Befell, IsHeld, IsTurnedOnBy, clock_place, has_outcome}
 
 has_out : (s : Scenario) (now number : ℕ) (what : What) (b : NoteBody) → IsIn b (bodies_of s now number what) → has_outcome what ≡ true
 has_out s now number (events.On device) b i = refl

@@ -1,28 +1,13 @@
 -- What comes of events, as records: those of their bodies, in their order.
-use Rattle.std.proofs.Common.{◌≡◌, ℕ, ◌≤◌, ◌<◌, Bool, true, false, if◌then◌else◌, List, [], ◌∷◌, ◌++◌, length, Option, Some, None, flat_map, inl, inr, refl, sym, ap, subst, arith}
-use Rattle.std.specs.Option.{option_map_or}
-use Rattle.std.proofs.lemmas.List.{length-append}
-use Rattle.net_plan.specs.Places.{link_at}
+use Rattle.world_steps.proofs.Words.{if◌then◌else◌, ◌++◌, ◌<◌, ◌∷◌, ◌≡◌, ◌≤◌, Befell, Bool, DeviceId, Happening, Integrating, IsIn, IsOfThisTime, IsSendLost}
+use Rattle.world_steps.proofs.Words.{Link, LinkId, List, None, NoteBody, On, Option, Scenario, Some, Up, What, [], ap, arith, bodies_of, cause_of, false}
+use Rattle.world_steps.proofs.Words.{in_left, in_parts, in_right, inl, inr, is_broken, is_cut, length, length-append, link_at, option_map_or, refl, subst, sym}
+use Rattle.world_steps.proofs.Words.{true, ℕ}
+use Rattle.std.proofs.Common.{flat_map}
+use Rattle.world_law.specs.world.World.{AreInOrder}
+use Rattle.world_steps.{proofs.befalling.Calm.is_calm, specs.Befalling.befell_bodies}
 use Rattle.net_plan.specs.declared.event.What.TheVariants as events
-use Rattle.net_plan.specs.declared.event.What.{What}
-use Rattle.net_plan.specs.declared.ids.DeviceId.{DeviceId}
-use Rattle.net_plan.specs.declared.ids.LinkId.{LinkId}
-use Rattle.net_plan.specs.declared.tables.Link.{Link}
-use Rattle.net_plan.specs.declared.tables.Way.TheVariants.{Up}
-use Rattle.run_law.proofs.runs.Places.{in_left, in_parts, in_right}
-use Rattle.run_law.specs.control.Losses.{IsSendLost}
-use Rattle.run_law.specs.declared.judgement.Why.TheVariants.{On}
 use Rattle.run_law.specs.declared.note.NoteBody.TheVariants as notes
-use Rattle.run_law.specs.declared.note.NoteBody.{NoteBody}
-use Rattle.run_law.specs.records.Causes.{IsOfThisTime, cause_of}
-use Rattle.run_law.specs.records.Happenings.{Happening}
-use Rattle.run_law.specs.records.Order.{IsIn}
-use Rattle.run_law.specs.scenario.Scenarios.{Scenario, is_broken}
-use Rattle.run_law.specs.scenario.Ways.{is_cut}
-use Rattle.sync_state.specs.declared.state.State.TheVariants.{Integrating}
-use Rattle.world_steps.proofs.befalling.Calm.{is_calm}
-use Rattle.world_steps.specs.Befalling.{befell_bodies, bodies_of}
-use Rattle.world_law.specs.world.World.{AreInOrder, Befell}
 
 -- this comes of an event of the instant: a sound device is turned on, or what is sent meets a cut way
 pub data IsOutcome (s : Scenario) (hs : List Happening) (now : ℕ) : NoteBody → Type 0 where

@@ -1,31 +1,12 @@
 -- The record of what comes of an event leaves a device as it was, but for its state.
-use Rattle.std.proofs.Common.{◌≡◌, ℕ, ◌≤◌, Bool, true, false, not, ◌||◌, ◌&&◌, if◌then◌else◌, List, [], ◌∷◌, ◌++◌, Option, None, IfSome, filter, filter_map, fold, inl, inr, refl, sym, ap, subst, ◌∙◌, append_assoc}
-use Rattle.std.specs.Prelude.{nat_le, nat_lt}
-use Rattle.std.specs.List.{after_last}
-use Rattle.std.proofs.lemmas.Bool.{cases_Bool}
-use Rattle.std.proofs.lemmas.List.{append-nil}
-use Rattle.std.proofs.lemmas.List.Sums.{fold-append}
-use Rattle.net_plan.specs.declared.ids.DeviceId.{DeviceId}
-use Rattle.net_plan.specs.declared.network.Network.{Network}
-use Rattle.run_law.specs.control.Collections.{ends_stretch, point_by, points_of}
-use Rattle.run_law.specs.control.Corrections.{heard_since, hearing_by, integration_cycle, recorded_cycle}
-use Rattle.run_law.specs.declared.judgement.Why.TheVariants.{On}
+use Rattle.world_steps.proofs.Words.{if◌then◌else◌, ◌&&◌, ◌++◌, ◌||◌, ◌∙◌, ◌∷◌, ◌≡◌, ◌≤◌, Bool, DeviceId, Happening, IfSome, Integrating, IsIn, IsLeft, List}
+use Rattle.world_steps.proofs.Words.{Network, Node, None, NoteBody, On, Option, Scenario, State, Units, [], adjustment_after, adjustment_with, after_last, ap}
+use Rattle.world_steps.proofs.Words.{append-nil, append_assoc, behind_no, cases_Bool, changes_adjustment, cleared_in, cycle_in, earlier, ends_stretch, false}
+use Rattle.world_steps.proofs.Words.{filter, filter_map, filter_no, filter_yes, fold, fold-append, heard_since, hearing_by, inl, inr, integration_cycle}
+use Rattle.world_steps.proofs.Words.{is_joined_by, is_turned_on_at, keeps_adjustment, local_in, moves, nat_le, nat_lt, next_in, not, point_by, points_of}
+use Rattle.world_steps.proofs.Words.{recorded_cycle, refl, same_before, state_after, state_with, subst, sym, time_of, true, up_to, ℕ}
+use Rattle.world_law.proofs.{devices.OwnRecords.keeps_state, lists.Lists.map_none}
 use Rattle.run_law.specs.declared.note.NoteBody.TheVariants as notes
-use Rattle.run_law.specs.declared.note.NoteBody.{NoteBody}
-use Rattle.run_law.specs.device.LocalClocks.{changes_adjustment}
-use Rattle.run_law.specs.device.States.{adjustment_after, adjustment_with, cycle_in, is_joined_by, state_after, state_with}
-use Rattle.run_law.specs.machines.Nodes.{Node}
-use Rattle.run_law.specs.records.Happenings.{Happening, earlier, time_of, up_to}
-use Rattle.run_law.specs.records.Order.{IsIn}
-use Rattle.run_law.specs.scenario.Scenarios.{Scenario, is_turned_on_at}
-use Rattle.sync_state.specs.declared.state.State.TheVariants.{Integrating}
-use Rattle.sync_state.specs.declared.state.State.{State}
-use Rattle.tte_units.specs.declared.units.Units.{Units}
-use Rattle.world_law.proofs.devices.OwnRecords.{keeps_adjustment, keeps_state, same_before}
-use Rattle.world_law.proofs.lists.Lists.{behind_no, filter_no, filter_yes, map_none}
-use Rattle.world_law.specs.device.Left.{IsLeft}
-use Rattle.world_law.specs.device.Own.{moves}
-use Rattle.world_law.specs.device.Told.{cleared_in, local_in, next_in}
 
 -- is it the record that a device was turned on, or that what was sent met a cut way?
 abbrev pub is_calm : NoteBody → Bool

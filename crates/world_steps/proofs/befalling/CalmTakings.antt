@@ -1,16 +1,9 @@
 -- Such records take no frame of the schedule.
-use Rattle.std.proofs.Common.{◌≡◌, ℕ, ℤ, ◌≤◌, true, List, [], ◌∷◌, ◌++◌, flat_map, inl, inr, refl, ap, ◌∙◌, ◌+ℤ◌, pos, arith}
-use Rattle.net_plan.specs.declared.ids.DeviceId.{DeviceId}
-use Rattle.run_law.specs.declared.note.NoteBody.TheVariants as notes
-use Rattle.run_law.specs.declared.note.NoteBody.{NoteBody}
-use Rattle.run_law.specs.device.LocalClocks.{local_before}
-use Rattle.run_law.specs.device.States.{adjustment_after}
-use Rattle.run_law.specs.records.Happenings.{Happening, time_of}
-use Rattle.run_law.specs.records.Order.{IsIn}
-use Rattle.run_law.specs.scenario.Scenarios.{Scenario}
+use Rattle.world_steps.proofs.Words.{◌++◌, ◌+ℤ◌, ◌∙◌, ◌∷◌, ◌≡◌, ◌≤◌, DeviceId, Happening, IsIn, List, NoteBody, Scenario, [], adjustment_after, ap, arith}
+use Rattle.world_steps.proofs.Words.{earlier_still, frames_taken, inl, inr, local_before, pos, refl, taken_in, time_of, true, ℕ, ℤ}
+use Rattle.std.proofs.Common.{flat_map}
 use Rattle.world_steps.proofs.befalling.Calm.{is_calm}
-use Rattle.world_law.proofs.runs.SourcesBack.{earlier_still}
-use Rattle.world_law.specs.device.Takings.{frames_taken, taken_in}
+use Rattle.run_law.specs.declared.note.NoteBody.TheVariants as notes
 
 calm_takes : (device : DeviceId) (at : ℤ) (body : NoteBody) → is_calm body ≡ true → taken_in device at body ≡ []
 calm_takes device at (notes.Lost other link cause) e = refl

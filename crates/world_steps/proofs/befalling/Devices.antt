@@ -1,48 +1,16 @@
 -- Each device when the outcomes of the events of an instant are settled.
-use Rattle.std.proofs.Common.{◌≡◌, ℕ, ◌≤◌, true, false, ◌==◌, List, [], ◌∷◌, ◌++◌, None, filter, inl, inr, refl, sym, ap, subst, ◌∙◌, arith}
-use Rattle.std.specs.List.{last_or}
-use Rattle.std.specs.Option.{option_map_or}
-use Rattle.std.proofs.lemmas.Bool.{cases_Bool}
-use Rattle.std.proofs.lemmas.List.{append-nil}
-use Rattle.compression.specs.declared.compressed.Compressed.{Compressed}
+use Rattle.world_steps.proofs.Words.{◌++◌, ◌==◌, ◌∙◌, ◌∷◌, ◌≡◌, ◌≤◌, AreOfNetwork, Befell, Compressed, DeviceId, Dispatches, Happening, HasDoneFrom}
+use Rattle.world_steps.proofs.Words.{HasSentFrom, IsAtRest, IsBefore, IsDue, IsFounded, IsHeld, IsIn, IsKept, IsLeft, IsOfThisTime, IsSendLost, IsTurnedOnBy}
+use Rattle.world_steps.proofs.Words.{Judgement, LinkId, List, Network, Node, None, NoteBody, Scenario, VlId, [], act_place, adjustment_after, ap, append-nil}
+use Rattle.world_steps.proofs.Words.{arith, behind, cases_Bool, cause_of, changed_at, changes_adjustment, dispatch_body, dispatches_back, earlier}
+use Rattle.world_steps.proofs.Words.{earlier_still, false, filter, frames_taken, in_parts, in_right, inl, inr, is_broken, is_turned_on_at, last_or, moves}
+use Rattle.world_steps.proofs.Words.{never_self, numbered_in, option_map_or, place_of, plain_body, refl, state_after, subst, sym, time_of, true, up_to, ℕ}
 use Rattle.net_plan.proofs.SameIds.{alike}
+use Rattle.world_law.proofs.acts.{Dispatched.{dispatch_told, send_apart}, Recorded.first_recorded}
+use Rattle.world_steps.proofs.befalling.{Bodies.{IsOutcome, calm_outcome}, Calm.{adjustment_unmoved, left_all_calm, state_unmoved}, CalmTakings.taken_calm}
+use Rattle.world_steps.proofs.befalling.{Told.{event_due, on_by_record}, UnderWay.{IsTelling, goes_on}}
 use Rattle.net_plan.specs.declared.event.What.TheVariants as events
-use Rattle.net_plan.specs.declared.ids.DeviceId.{DeviceId}
-use Rattle.net_plan.specs.declared.ids.LinkId.{LinkId}
-use Rattle.net_plan.specs.declared.ids.VlId.{VlId}
-use Rattle.net_plan.specs.declared.network.Network.{Network}
-use Rattle.run_law.proofs.law.FirstPlaces.{numbered_in}
-use Rattle.run_law.proofs.runs.Places.{in_parts, in_right, never_self}
-use Rattle.run_law.specs.control.Losses.{IsSendLost}
-use Rattle.run_law.specs.declared.judgement.Judgement.{Judgement}
 use Rattle.run_law.specs.declared.note.NoteBody.TheVariants as kinds
-use Rattle.run_law.specs.declared.note.NoteBody.{NoteBody}
-use Rattle.run_law.specs.device.LocalClocks.{changed_at, changes_adjustment}
-use Rattle.run_law.specs.device.States.{adjustment_after, state_after}
-use Rattle.run_law.specs.machines.Nodes.{Node}
-use Rattle.run_law.specs.records.Causes.{IsOfThisTime, cause_of}
-use Rattle.run_law.specs.records.Happenings.{Happening, earlier, time_of, up_to}
-use Rattle.run_law.specs.records.Order.{IsBefore, IsIn, behind}
-use Rattle.run_law.specs.records.Ranks.{place_of}
-use Rattle.run_law.specs.runs.DueRecords.{IsDue}
-use Rattle.run_law.specs.runs.Runs.{IsFounded}
-use Rattle.run_law.specs.scenario.Scenarios.{Scenario, is_broken, is_turned_on_at}
-use Rattle.run_law.specs.timed.Dispatching.{Dispatches}
-use Rattle.world_law.proofs.acts.Dispatched.{dispatch_told, send_apart}
-use Rattle.world_law.proofs.acts.Recorded.{first_recorded}
-use Rattle.world_steps.proofs.befalling.Bodies.{IsOutcome, calm_outcome}
-use Rattle.world_steps.proofs.befalling.Calm.{adjustment_unmoved, left_all_calm, state_unmoved}
-use Rattle.world_steps.proofs.befalling.CalmTakings.{taken_calm}
-use Rattle.world_steps.proofs.befalling.Told.{event_due, on_by_record}
-use Rattle.world_steps.proofs.befalling.UnderWay.{IsTelling, goes_on}
-use Rattle.world_law.proofs.runs.SourcesBack.{dispatches_back, earlier_still}
-use Rattle.world_law.specs.device.Deeds.{HasDoneFrom, HasSentFrom}
-use Rattle.world_law.specs.device.Left.{IsLeft}
-use Rattle.world_law.specs.device.Own.{moves}
-use Rattle.world_law.specs.device.Plain.{plain_body}
-use Rattle.world_law.specs.device.Recorded.{dispatch_body}
-use Rattle.world_law.specs.device.Takings.{frames_taken}
-use Rattle.world_law.specs.world.World.{AreOfNetwork, Befell, IsAtRest, IsHeld, IsKept, IsTurnedOnBy, act_place}
 
 -- what is to come, and where a sound device is turned on, its record
 pub record AreToldOf (s : Scenario) (hs coming : List Happening) (cursor : List ℕ) (now : ℕ) (befell : List Befell) : Type 0 where

@@ -1,23 +1,11 @@
 -- The outcomes of events are put in at their places: the list that is settled then, and with its numbers.
-use Rattle.std.proofs.Common.{◌≡◌, ◌⊎◌, ℕ, suc, ◌+◌, ◌<◌, if◌then◌else◌, Bool, List, [], ◌∷◌, ◌++◌, length, map, inl, inr, refl, sym, ap, subst, ◌∙◌, arith, append_assoc}
-use Rattle.std.proofs.lemmas.Bool.{le-ltb}
-use Rattle.std.proofs.lemmas.List.{length-append}
-use Rattle.run_law.proofs.law.FirstPlaces.{numbered_within}
-use Rattle.run_law.proofs.runs.Places.{either_way, in_left, in_parts, in_right}
-use Rattle.run_law.specs.declared.judgement.Why.TheVariants.{On}
-use Rattle.run_law.specs.declared.note.NoteBody.TheVariants as notes
-use Rattle.run_law.specs.declared.note.NoteBody.{NoteBody}
-use Rattle.run_law.specs.records.Causes.{cause_of}
-use Rattle.run_law.specs.records.Happenings.{Happening}
-use Rattle.run_law.specs.records.Order.{AllBefore, IsBefore, IsIn}
-use Rattle.run_law.specs.records.Ranks.{place_of}
-use Rattle.run_law.specs.scenario.Scenarios.{Scenario}
-use Rattle.sync_state.specs.declared.state.State.TheVariants.{Integrating}
+use Rattle.world_steps.proofs.Words.{if◌then◌else◌, ◌++◌, ◌+◌, ◌<◌, ◌∙◌, ◌∷◌, ◌≡◌, ◌⊎◌, AllBefore, ArePutIn, Bool, Happening, Integrating, IsBefore, IsIn}
+use Rattle.world_steps.proofs.Words.{IsPutIn, List, NoteBody, On, Scenario, [], ap, append_assoc, arith, cause_of, either_way, hidden, hidden_body, in_left}
+use Rattle.world_steps.proofs.Words.{in_parts, in_right, inl, inr, le-ltb, length, length-append, map, none_yet, numbered_within, place_of, refl, settled_as}
+use Rattle.world_steps.proofs.Words.{subst, suc, sym, ℕ}
+use Rattle.world_law.{proofs.putting.PutIn.split_three, specs.device.Plain.renumbered}
 use Rattle.world_steps.proofs.befalling.Bodies.{AreRising, IsOutcome}
-use Rattle.world_law.proofs.putting.PutIn.{split_three}
-use Rattle.world_law.specs.device.Plain.{renumbered}
-use Rattle.world_law.specs.world.Moves.{ArePutIn, IsPutIn, settled_as}
-use Rattle.world_law.specs.world.World.{hidden, hidden_body, none_yet}
+use Rattle.run_law.specs.declared.note.NoteBody.TheVariants as notes
 
 -- the record is one of an outcome
 pub record IsOne (s : Scenario) (hs : List Happening) (now : ℕ) (z : Happening) : Type 0 where

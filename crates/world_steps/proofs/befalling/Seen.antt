@@ -1,33 +1,13 @@
 -- What code sees of the pending events: what each puts on wires, one after the other.
-use Rattle.std.proofs.Common.{◌≡◌, ◌⊎◌, ◌↔◌, ℕ, ◌+◌, ◌<◌, Bool, true, false, if◌then◌else◌, List, [], ◌∷◌, ◌++◌, length, Option, Some, None, inl, inr, refl, sym, ap, subst, ◌∙◌}
-use Rattle.std.specs.Prelude.{option_map}
-use Rattle.std.specs.Option.{option_map_or}
-use Rattle.std.proofs.lemmas.Bool.{cases_lt}
-use Rattle.net_plan.specs.Places.{link_at}
-use Rattle.net_plan.specs.declared.event.What.TheVariants as events
-use Rattle.net_plan.specs.declared.event.What.{What}
-use Rattle.net_plan.specs.declared.ids.DeviceId.{DeviceId}
-use Rattle.net_plan.specs.declared.ids.LinkId.{LinkId}
-use Rattle.net_plan.specs.declared.network.Network.{Network}
-use Rattle.net_plan.specs.declared.tables.Link.{Link}
-use Rattle.net_plan.specs.declared.tables.Way.TheVariants.{Up}
-use Rattle.net_plan.specs.declared.tables.Way.{Way}
-use Rattle.run_law.proofs.law.FirstPlaces.{numbered_in}
-use Rattle.run_law.specs.control.Wires.{Arrives, Launch, Signal, launched, signal_of, time_on_port}
-use Rattle.run_law.specs.declared.note.Note.{Note}
-use Rattle.run_law.specs.declared.note.NoteBody.TheVariants as kinds
-use Rattle.run_law.specs.declared.note.NoteBody.{NoteBody}
-use Rattle.run_law.specs.machines.Nodes.{Node}
-use Rattle.run_law.specs.records.Causes.{IsOfThisTime}
-use Rattle.run_law.specs.records.Happenings.{Happening, happenings, numbered, time_of}
-use Rattle.run_law.specs.records.Order.{IsIn}
-use Rattle.run_law.specs.scenario.Scenarios.{Scenario}
-use Rattle.run_law.specs.scenario.Ways.{delay_at, is_cut, receiver_of}
-use Rattle.schedule_tables.specs.Entries.{target_by}
+use Rattle.world_steps.proofs.Words.{if◌then◌else◌, ◌++◌, ◌+◌, ◌<◌, ◌↔◌, ◌∙◌, ◌∷◌, ◌≡◌, ◌⊎◌, ArePutIn, Arrives, Befell, Bool, DeviceId, Happening, IsIn}
+use Rattle.world_steps.proofs.Words.{IsOfThisTime, Launch, Link, LinkId, List, Network, Node, None, Note, NoteBody, OnWire, Option, Scenario, Signal, Some}
+use Rattle.world_steps.proofs.Words.{Stands, Up, Way, What, World, [], ap, cases_lt, false, happenings, inl, inr, is_cut, launched, length, link_at}
+use Rattle.world_steps.proofs.Words.{numbered_in, option_map, option_map_or, refl, signal_of, subst, sym, target_by, time_of, true, wire_place, ℕ}
+use Rattle.run_law.specs.{control.Wires.time_on_port, scenario.Ways.{delay_at, receiver_of}}
+use Rattle.world_law.specs.world.Moves.{ArePut}
 use Rattle.world_steps.proofs.befalling.Told.{event_due, on_by_record}
-use Rattle.world_steps.specs.Befalling.{ArePutBy}
-use Rattle.world_law.specs.world.Moves.{ArePut, ArePutIn}
-use Rattle.world_law.specs.world.World.{Befell, OnWire, Stands, World, wire_place}
+use Rattle.net_plan.specs.declared.event.What.TheVariants as events
+use Rattle.run_law.specs.declared.note.NoteBody.TheVariants as kinds
 
 -- ---- each device that is turned on is one of the network
 
@@ -153,13 +133,6 @@ put_event s hs now number line what h old new it is with_it = record {
 }
 
 -- ---- one more, as at a step of a loop
-
-pub put_by_more : (s : Scenario) (hs : List Happening) (befell : List Befell) (e : Befell) (h : Happening) (old mid new : List OnWire)
-    → ArePutBy s hs befell old mid → numbered hs e.number ≡ Some h → ArePut s h e.number mid new → ArePutBy s hs (befell ++ e ∷ []) old new
-put_by_more s hs [] e h old mid new put there more =
-    (new, h, there, subst (λ (l : List OnWire). ArePut s h e.number l new) put more, refl)
-put_by_more s hs (f ∷ befell) e h old mid new (next, g, first, one, later) there more =
-    (next, g, first, one, put_by_more s hs befell e h next mid new later there more)
 
 pub put_in_more : (network : Network) (hs : List Happening) (now : ℕ) (bodies more : List NoteBody) (old mid new : List Happening)
     → ArePutIn network hs now bodies old mid → ArePutIn network hs now more mid new → ArePutIn network hs now (bodies ++ more) old new

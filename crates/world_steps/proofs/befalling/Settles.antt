@@ -1,46 +1,16 @@
 -- The outcomes of the events of an instant are all that is due by them.
-use Rattle.std.proofs.Common.{◌≡◌, ◌⊎◌, ℕ, suc, ◌+◌, ◌≤◌, Bool, true, false, if◌then◌else◌, List, [], ◌∷◌, ◌++◌, length, Option, Some, inl, inr, refl, sym, ap, subst, ◌∙◌, arith}
-use Rattle.std.specs.Option.{option_map_or}
-use Rattle.std.proofs.lemmas.Int.{ints}
-use Rattle.std.proofs.lemmas.List.{length-append}
+use Rattle.world_steps.proofs.Words.{if◌then◌else◌, ◌++◌, ◌+◌, ◌∙◌, ◌∷◌, ◌≡◌, ◌≤◌, ◌⊎◌, AreSettled, Befell, Bool, DeviceId, Happening, HaveBefallen}
+use Rattle.world_steps.proofs.Words.{Integrating, IsBefore, IsCaused, IsDue, IsEventBody, IsIn, IsOfThisTime, IsOwnSource, IsRun, IsSendLost, IsSource, Link}
+use Rattle.world_steps.proofs.Words.{LinkId, List, NoteBody, Option, Scenario, Some, Units, Up, What, [], amount, ap, arith, before_behind, behind, bodies_of}
+use Rattle.world_steps.proofs.Words.{chain, false, in_left, in_right, inl, inr, ints, is_at_source, is_broken, is_cut, is_joined_by, key, length, length-append}
+use Rattle.world_steps.proofs.Words.{members_in, numbered_front, numbered_in, numbered_parts, option_map_or, own_time, place_of, rank, refl, settled_as, subst}
+use Rattle.world_steps.proofs.Words.{suc, sym, time_of, true, ℕ}
+use Rattle.world_law.{proofs.runs.Applies.{event_cause, event_place}, specs.{device.Plain.renumbered, world.World.{IsTakenUp, IsWorkedOff}}}
+use Rattle.world_steps.proofs.befalling.{Bodies.{IsOutcome, calm_outcome}, Calm.{calm_joins, is_calm}}
+use Rattle.world_steps.proofs.{befalling.{Filled.{IsFilled, in_on, number_on, on_in, on_length, on_split}, UnderWay.IsTelling}, steps.AppliedParts.own_event}
 use Rattle.net_plan.specs.declared.event.What.TheVariants as events
-use Rattle.net_plan.specs.declared.event.What.{What}
-use Rattle.net_plan.specs.declared.ids.DeviceId.{DeviceId}
-use Rattle.net_plan.specs.declared.ids.LinkId.{LinkId}
-use Rattle.net_plan.specs.declared.tables.Link.{Link}
-use Rattle.net_plan.specs.declared.tables.Way.TheVariants.{Up}
-use Rattle.run_law.proofs.law.FirstPlaces.{numbered_front, numbered_in}
-use Rattle.run_law.proofs.runs.Places.{before_behind, chain, in_left, in_right}
-use Rattle.run_law.specs.control.Losses.{IsSendLost}
 use Rattle.run_law.specs.declared.judgement.Why.TheVariants as whys
 use Rattle.run_law.specs.declared.note.NoteBody.TheVariants as notes
-use Rattle.run_law.specs.declared.note.NoteBody.{NoteBody}
-use Rattle.run_law.specs.device.States.{is_joined_by}
-use Rattle.run_law.specs.records.Causes.{IsOfThisTime}
-use Rattle.run_law.specs.records.Happenings.{Happening, time_of}
-use Rattle.run_law.specs.records.Order.{IsBefore, IsIn, behind}
-use Rattle.run_law.specs.records.Ranks.{key, members_in, place_of, rank}
-use Rattle.run_law.specs.runs.DueRecords.{IsCaused, IsDue}
-use Rattle.run_law.specs.runs.Runs.{IsRun}
-use Rattle.run_law.specs.scenario.Scenarios.{Scenario, is_broken}
-use Rattle.run_law.specs.scenario.Ways.{is_cut}
-use Rattle.sync_state.specs.declared.state.State.TheVariants.{Integrating}
-use Rattle.tte_units.specs.Amount.{amount}
-use Rattle.tte_units.specs.declared.units.Units.{Units}
-use Rattle.world_steps.proofs.befalling.Bodies.{IsOutcome, calm_outcome}
-use Rattle.world_steps.proofs.befalling.Calm.{calm_joins, is_calm}
-use Rattle.world_steps.proofs.befalling.Filled.{IsFilled, in_on, number_on, on_in, on_length, on_split}
-use Rattle.world_steps.proofs.befalling.UnderWay.{IsTelling}
-use Rattle.world_law.proofs.putting.PutIn.{own_time}
-use Rattle.world_law.proofs.runs.Applies.{event_cause, event_place}
-use Rattle.world_law.proofs.runs.SourcesBack.{numbered_parts}
-use Rattle.world_steps.proofs.steps.AppliedParts.{own_event}
-use Rattle.world_law.specs.device.Plain.{renumbered}
-use Rattle.world_law.specs.source.Applying.{IsEventBody}
-use Rattle.world_law.specs.source.Sources.{IsOwnSource, IsSource}
-use Rattle.world_steps.specs.Befalling.{bodies_of}
-use Rattle.world_law.specs.world.Moves.{settled_as}
-use Rattle.world_law.specs.world.World.{AreSettled, Befell, HaveBefallen, IsTakenUp, IsWorkedOff, is_at_source}
 
 -- what the step starts from, and the records that are settled
 pub record IsSettling (s : Scenario) (hs : List Happening) (mark cursor : List ℕ) (now : ℕ) (befell : List Befell) (settled : List Happening) : Type 0 where

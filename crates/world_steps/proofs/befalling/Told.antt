@@ -1,25 +1,11 @@
 -- The events of a run and their records.
-use Rattle.std.proofs.Common.{◌≡◌, ℕ, suc, ◌+◌, pos, ◌≤ℤ◌, Bool, true, ◌&&◌, ◌||◌, ◌==◌, List, [], ◌∷◌, length, Some, slice_get, inl, inr, refl, sym, ap, subst, ◌∙◌}
-use Rattle.std.specs.List.{list_any}
-use Rattle.std.proofs.lemmas.Bool.{and_parts, cases_Bool, eq-eqb, eqb-true}
-use Rattle.net_plan.specs.declared.event.Event.{Event}
+use Rattle.world_steps.proofs.Words.{◌&&◌, ◌+◌, ◌==◌, ◌||◌, ◌∙◌, ◌∷◌, ◌≡◌, ◌≤ℤ◌, Bool, DeviceId, Event, Happening, IsBefore, IsCaused, IsDue, IsFounded, IsIn}
+use Rattle.world_steps.proofs.Words.{IsRun, List, Note, NoteBody, Scenario, Some, Units, What, [], amount, and_parts, ap, by_number, cases_Bool, eq-eqb}
+use Rattle.world_steps.proofs.Words.{eqb-true, founded_at, happening, inl, inr, is_turned_on_at, length, list_any, numbered, place_of, pos, refl, slice_get}
+use Rattle.world_steps.proofs.Words.{subst, suc, sym, true, turns_on, ℕ}
+use Rattle.run_law.{proofs.{law.FirstPlaces.{due_is_there, in_at, split}, records.Order.in_any, scenario.Devices.on_by}, specs.runs.DueRecords.IsEventRecord}
 use Rattle.net_plan.specs.declared.event.What.TheVariants as events
-use Rattle.net_plan.specs.declared.event.What.{What}
-use Rattle.net_plan.specs.declared.ids.DeviceId.{DeviceId}
-use Rattle.run_law.proofs.law.FirstPlaces.{by_number, due_is_there, founded_at, in_at, split}
-use Rattle.run_law.proofs.records.Order.{in_any}
-use Rattle.run_law.proofs.scenario.Devices.{on_by}
-use Rattle.run_law.specs.declared.note.Note.{Note}
 use Rattle.run_law.specs.declared.note.NoteBody.TheVariants as notes
-use Rattle.run_law.specs.declared.note.NoteBody.{NoteBody}
-use Rattle.run_law.specs.records.Happenings.{Happening, happening, numbered}
-use Rattle.run_law.specs.records.Order.{IsBefore, IsIn}
-use Rattle.run_law.specs.records.Ranks.{place_of}
-use Rattle.run_law.specs.runs.DueRecords.{IsCaused, IsDue, IsEventRecord}
-use Rattle.run_law.specs.runs.Runs.{IsFounded, IsRun}
-use Rattle.run_law.specs.scenario.Scenarios.{Scenario, is_turned_on_at, turns_on}
-use Rattle.tte_units.specs.Amount.{amount}
-use Rattle.tte_units.specs.declared.units.Units.{Units}
 
 -- ---- a test of a list
 

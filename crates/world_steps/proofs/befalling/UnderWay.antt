@@ -1,22 +1,12 @@
 -- What the events of an instant put on wires, and what else is under way when their outcomes are settled.
-use Rattle.std.proofs.Common.{◌≡◌, ◌⊎◌, ℕ, ◌≤◌, ◌<◌, true, false, List, [], ◌∷◌, Some, inl, inr, refl, sym, ap, subst, ◌∙◌, arith}
-use Rattle.net_plan.specs.declared.event.What.TheVariants as events
-use Rattle.net_plan.specs.declared.event.What.{What}
-use Rattle.net_plan.specs.declared.ids.DeviceId.{DeviceId}
-use Rattle.net_plan.specs.declared.ids.LinkId.{LinkId}
-use Rattle.run_law.proofs.law.FirstPlaces.{numbered_in}
-use Rattle.run_law.proofs.runs.Places.{chain, before_behind}
-use Rattle.run_law.specs.control.Wires.{Arrives, Signal, launched}
-use Rattle.run_law.specs.declared.note.NoteBody.TheVariants as notes
-use Rattle.run_law.specs.declared.note.NoteBody.{NoteBody}
-use Rattle.run_law.specs.records.Happenings.{Happening, numbered, time_of}
-use Rattle.run_law.specs.records.Order.{IsBefore, IsIn, behind}
-use Rattle.run_law.specs.scenario.Scenarios.{Scenario}
-use Rattle.world_law.proofs.giving.Given.{some_same}
-use Rattle.world_law.proofs.runs.SourcesBack.{arrives_later}
-use Rattle.world_law.specs.source.Applying.{IsEventBody}
+use Rattle.world_steps.proofs.Words.{◌<◌, ◌∙◌, ◌∷◌, ◌≡◌, ◌≤◌, ◌⊎◌, AreAtPorts, AreOnWires, AreUntold, AreWaiting, Arrives, AtPort, Befell, DeviceId, Happening}
+use Rattle.world_steps.proofs.Words.{IsBefore, IsEventBody, IsIn, LinkId, List, NoteBody, OnWire, Scenario, Signal, Some, Waiting, What, [], ap, arith}
+use Rattle.world_steps.proofs.Words.{before_behind, behind, chain, false, has_outcome, inl, inr, launched, numbered, numbered_in, refl, ripe_place, some_same}
+use Rattle.world_steps.proofs.Words.{subst, sym, time_of, true, wire_place, ℕ}
+use Rattle.world_law.{proofs.runs.SourcesBack.arrives_later, specs.world.World.IsForward}
 use Rattle.world_steps.specs.Befalling.{ArePutBy}
-use Rattle.world_law.specs.world.World.{AreAtPorts, AreOnWires, AreUntold, AreWaiting, AtPort, Befell, IsForward, OnWire, Waiting, has_outcome, ripe_place, wire_place}
+use Rattle.net_plan.specs.declared.event.What.TheVariants as events
+use Rattle.run_law.specs.declared.note.NoteBody.TheVariants as notes
 
 -- where the events of the instant are to be told: nothing else of it is worked off, and what is before it is
 pub record IsTelling (hs : List Happening) (cursor : List ℕ) (now : ℕ) (befell : List Befell) : Type 0 where

@@ -1,53 +1,20 @@
 -- No point that a compression master has collected lies before reading 0.
-use Rattle.std.proofs.Common.{◌≡◌, ℕ, ◌≤◌, pos, ◌≤ℤ◌, Bool, true, false, not, ◌==◌, if◌then◌else◌, List, [], ◌∷◌, ◌++◌, length, Option, Some, None, Result, Ok, Err, inl, inr, refl, sym, subst, arith}
-use Rattle.std.specs.Prelude.{All, IfSome, filter_map, nat_lt}
-use Rattle.std.specs.List.{AllByRecursion, after_last, cons_option}
-use Rattle.std.proofs.lemmas.Bool.{ltb-false}
-use Rattle.std.proofs.lemmas.Int.{ints}
-use Rattle.std.proofs.lemmas.List.Elements.{All-from_recursion}
-use Rattle.compression.specs.Clusters.{Point, point_at}
-use Rattle.net_plan.specs.Ranges.{IsInRange}
-use Rattle.net_plan.specs.declared.ids.DeviceId.{DeviceId}
-use Rattle.net_plan.specs.declared.ids.LinkId.{LinkId}
-use Rattle.net_plan.specs.declared.ids.VlId.{VlId}
-use Rattle.net_plan.specs.declared.network.Network.{Network}
-use Rattle.net_plan.specs.declared.tables.Way.TheVariants.{Down, Up}
-use Rattle.pcf_codec.specs.Fields.{field}
-use Rattle.pcf_codec.specs.declared.refusal.PcfRefusal.{PcfRefusal}
-use Rattle.pcf_values.specs.declared.pcf.Pcf.{Pcf}
-use Rattle.run_law.proofs.law.FirstPlaces.{founded_at, numbered_in}
+use Rattle.world_steps.proofs.Words.{if◌then◌else◌, ◌++◌, ◌==◌, ◌∷◌, ◌≡◌, ◌≤ℤ◌, ◌≤◌, AllByRecursion, Arrival, Bool, DeviceId, Down, Entry, Happening, IfSome}
+use Rattle.world_steps.proofs.Words.{IsArrivedRecord, IsCaused, IsDue, IsFounded, IsIn, IsInRange, IsKept, IsLawful, IsPermanent, LinkId, List, Network, Node}
+use Rattle.world_steps.proofs.Words.{None, NoteBody, Option, Pcf, PcfRefusal, Point, Reason, Result, Scenario, Signal, Some, Standpoint, Units, Up, VlId, []}
+use Rattle.world_steps.proofs.Words.{after_last, amount, arith, arrival_of, cons_option, control, control_arrival, cycle_in, ends_stretch, false, field}
+use Rattle.world_steps.proofs.Words.{filter_map, founded_at, frame_fault, frame_or_fault, inl, inr, ints, is_end, is_parent_of, is_relay, last_taken, length}
+use Rattle.world_steps.proofs.Words.{master_of, members_in, nat_lt, natural, not, numbered_in, octets_fault, octets_or_fault, place_of, point_at, point_by}
+use Rattle.world_steps.proofs.Words.{point_of, points_of, pos, refl, standpoint, subst, sym, time_of, timed, true, ℕ}
+use Rattle.std.{proofs.{Common.{Err, Ok}, lemmas.{Bool.ltb-false, List.Elements.All-from_recursion}}, specs.Prelude.All}
 use Rattle.run_law.proofs.records.Order.{in_drop}
-use Rattle.run_law.specs.control.Arrivals.{clock_on_arrival, control_arrival, frame_fault, frame_or_fault, is_cold_start, is_gate_shut, is_of_other_domain, is_of_other_member, point_on_arrival}
-use Rattle.run_law.specs.control.Collections.{ends_stretch, master_of, point_by, points_of}
-use Rattle.run_law.specs.control.Permanence.{IsPermanent}
-use Rattle.run_law.specs.control.Wires.{Signal, control, timed}
+use Rattle.run_law.specs.control.Arrivals.{clock_on_arrival, is_cold_start, is_gate_shut, is_of_other_domain, is_of_other_member, point_on_arrival}
+use Rattle.run_law.specs.{device.Standpoints.{clock_of, cycle_at}, records.Happenings.with_clock}
+use Rattle.run_law.specs.timed.Arrivals.{entry_arrival, entry_entering, row_fault, taken_or_fault}
+use Rattle.world_law.{proofs.frames.Proper.no_reason, specs.device.Growing.IsFromZero}
 use Rattle.run_law.specs.declared.judgement.Reason.TheVariants as reasons
-use Rattle.run_law.specs.declared.judgement.Reason.{Reason}
 use Rattle.run_law.specs.declared.note.NoteBody.TheVariants as notes
-use Rattle.run_law.specs.declared.note.NoteBody.{NoteBody}
 use Rattle.run_law.specs.declared.steps.Arrival.TheVariants as arrivals
-use Rattle.run_law.specs.declared.steps.Arrival.{Arrival}
-use Rattle.run_law.specs.device.Standpoints.{Standpoint, clock_of, cycle_at, standpoint}
-use Rattle.run_law.specs.device.States.{cycle_in}
-use Rattle.run_law.specs.machines.Nodes.{Node}
-use Rattle.run_law.specs.records.Happenings.{Happening, time_of, with_clock}
-use Rattle.run_law.specs.records.Order.{IsIn}
-use Rattle.run_law.specs.records.Ranks.{members_in, place_of}
-use Rattle.run_law.specs.runs.DueRecords.{IsArrivedRecord, IsCaused, IsDue}
-use Rattle.run_law.specs.runs.Runs.{IsFounded}
-use Rattle.run_law.specs.scenario.Devices.{is_end, is_parent_of, is_relay}
-use Rattle.run_law.specs.scenario.Scenarios.{Scenario}
-use Rattle.run_law.specs.timed.Arrivals.{entry_arrival, entry_entering, octets_fault, octets_or_fault, row_fault, taken_or_fault}
-use Rattle.run_law.specs.timed.Receptions.{arrival_of, last_taken}
-use Rattle.schedule_tables.specs.declared.entry.Entry.{Entry}
-use Rattle.transparent_clock.specs.Points.{point_of}
-use Rattle.tte_lemmas.proofs.Integers.{whole as natural}
-use Rattle.tte_units.specs.Amount.{amount}
-use Rattle.tte_units.specs.declared.units.Units.{Units}
-use Rattle.world_law.proofs.frames.Proper.{no_reason}
-use Rattle.world_law.proofs.rows.Dispatching.{IsLawful}
-use Rattle.world_law.specs.device.Growing.{IsFromZero}
-use Rattle.world_law.specs.world.World.{IsKept}
 
 -- ---- the clock of a frame that is taken is at most dmax
 

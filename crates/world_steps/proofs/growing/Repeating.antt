@@ -1,35 +1,14 @@
 -- A machine acts several times at one moment, and comes to an end.
-use Rattle.std.proofs.Common.{◌≡◌, ℕ, ◌+◌, ◌≤◌, ◌^◌, List, [], ◌∷◌, ◌++◌, length, inl, inr, refl, sym, subst, ◌∙◌, arith}
-use Rattle.std.proofs.lemmas.Bool.{cases_lt}
-use Rattle.std.proofs.lemmas.List.{length-append}
-use Rattle.net_plan.specs.declared.ids.DeviceId.{DeviceId}
-use Rattle.net_plan.specs.declared.network.Network.{Network}
-use Rattle.run_law.proofs.runs.Places.{chain}
-use Rattle.run_law.specs.machines.Calls.{MayCall}
-use Rattle.run_law.specs.machines.Nodes.{Node, Phase, acting, arriving, ripening, turning_on}
-use Rattle.run_law.specs.records.Happenings.{happenings}
-use Rattle.run_law.specs.records.Order.{IsBefore}
-use Rattle.run_law.specs.scenario.Scenarios.{Scenario}
-use Rattle.run_law.specs.declared.note.NoteBody.{NoteBody}
+use Rattle.world_steps.proofs.Words.{◌++◌, ◌+◌, ◌^◌, ◌∙◌, ◌∷◌, ◌≡◌, ◌≤◌, DeviceId, IsBefore, IsHeld, IsReadyAt, IsSteady, Joining, List, MayCall, Network, Node}
+use Rattle.world_steps.proofs.Words.{NoteBody, Phase, Ripe, Scenario, State, Units, Verdict, [], acting, amount, arith, arriving, cases_lt, chain, happenings}
+use Rattle.world_steps.proofs.Words.{inl, inr, length, length-append, moment_of, rank_of_call, refl, ripening, subst, sym, ℕ}
+use Rattle.run_law.specs.machines.Nodes.{turning_on}
+use Rattle.world_law.proofs.{growing.Acts.{acts_are_few, may_act_then, one_more_act}, rows.Dispatching.lawful}
+use Rattle.world_steps.proofs.{growing.FromZero.kept_from_zero, hearing.Calling.may_call, steps.Passed.no_task}
+use Rattle.world_steps.specs.{Acting.{correction_bodies, first_bodies, joining_bodies}, Repeating.{ActsAddUp, ActsAreBounded, ActsBringFew, NoActYet}}
 use Rattle.run_law.specs.declared.steps.Act.TheVariants as acts
 use Rattle.run_law.specs.declared.steps.Ripe.TheVariants as ripe
-use Rattle.run_law.specs.declared.steps.Ripe.{Ripe}
 use Rattle.sync_state.specs.declared.answers.Verdict.TheVariants as verdicts
-use Rattle.sync_state.specs.declared.answers.Verdict.{Verdict}
-use Rattle.sync_state.specs.declared.state.State.{State}
-use Rattle.sync_state.specs.declared.state.State.TheVariants.{Joining}
-use Rattle.tte_units.specs.declared.units.Units.{Units}
-use Rattle.tte_units.specs.Amount.{amount}
-use Rattle.world_law.proofs.growing.Acts.{acts_are_few, may_act_then, one_more_act}
-use Rattle.world_steps.proofs.growing.FromZero.{kept_from_zero}
-use Rattle.world_steps.proofs.hearing.Calling.{may_call}
-use Rattle.world_law.proofs.rows.Dispatching.{lawful}
-use Rattle.world_law.specs.device.Ready.{IsReadyAt, IsSteady}
-use Rattle.world_steps.specs.Acting.{correction_bodies, first_bodies, joining_bodies}
-use Rattle.world_law.specs.world.Calls.{moment_of}
-use Rattle.world_steps.specs.Repeating.{ActsAddUp, ActsAreBounded, ActsBringFew, NoActYet}
-use Rattle.world_law.specs.world.World.{IsHeld, rank_of_call}
-use Rattle.world_steps.proofs.steps.Passed.{no_task}
 
 pub no_act_yet : {M : Type 0} (stands : M → Network → DeviceId → Node → Type 0) → NoActYet stands
 no_act_yet stands network device moment machine node is may = ([], node, refl, refl, is)

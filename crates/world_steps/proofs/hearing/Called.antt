@@ -1,21 +1,8 @@
 -- A device that is called, and takes nothing by it, is kept as before.
-use Rattle.std.proofs.Common.{◌≡◌, ℕ, ℤ, pos, ◌+ℤ◌, ◌<ℤ◌, ◌≤ℤ◌, List, [], ◌∷◌, ◌++◌, inl, inr, refl, sym, subst, arith}
-use Rattle.std.proofs.lemmas.Int.{ints}
-use Rattle.net_plan.specs.declared.ids.DeviceId.{DeviceId}
-use Rattle.net_plan.specs.declared.network.Network.{Network}
-use Rattle.run_law.specs.declared.steps.Moment.{Moment}
-use Rattle.run_law.specs.machines.Answers.{called}
-use Rattle.run_law.specs.machines.Nodes.{Node, Phase}
-use Rattle.run_law.specs.machines.Tasks.{IsPending, Task, doing, emitting, reading_for}
-use Rattle.run_law.specs.records.Happenings.{Happening}
-use Rattle.run_law.specs.records.Order.{IsBefore}
-use Rattle.run_law.specs.scenario.Scenarios.{Scenario}
-use Rattle.world_law.proofs.acts.Acted.{IsAlike, undone_alike, waiting_alike}
+use Rattle.world_steps.proofs.Words.{◌++◌, ◌+ℤ◌, ◌<ℤ◌, ◌∷◌, ◌≡◌, ◌≤ℤ◌, DeviceId, Happening, HasTaskBy, IsAlike, IsBefore, IsKept, IsOut, IsPending, IsReadyAt}
+use Rattle.world_steps.proofs.Words.{List, Moment, Network, Node, Phase, Scenario, Task, [], arith, called, doing, emitting, inl, inr, ints, moment_of, pos}
+use Rattle.world_steps.proofs.Words.{rank_of_call, reading_for, refl, subst, sym, undone_alike, waiting_alike, ℕ, ℤ}
 use Rattle.world_law.proofs.acts.Recorded.{recorded_alike}
-use Rattle.world_law.specs.device.Ready.{IsReadyAt}
-use Rattle.world_law.specs.device.Left.{HasTaskBy}
-use Rattle.world_law.specs.world.Calls.{moment_of}
-use Rattle.world_law.specs.world.World.{IsKept, IsOut, rank_of_call}
 use Rattle.world_steps.proofs.ripening.Called.{left_called}
 
 -- the called device, and the device before the call, are alike

@@ -1,18 +1,9 @@
 -- A device that a world keeps may be called, sound or broken, as its source comes.
-use Rattle.std.proofs.Common.{◌≡◌, ℕ, ◌+◌, ◌^◌, ◌≤◌, ◌<◌, ℤ, pos, ◌<ℤ◌, List, ◌∷◌, inl, inr, refl, sym, ap, subst, arith}
-use Rattle.std.proofs.lemmas.Bool.{cases_lt}
-use Rattle.std.proofs.lemmas.Int.{ints}
-use Rattle.net_plan.specs.declared.ids.DeviceId.{DeviceId}
-use Rattle.run_law.specs.machines.Calls.{MayCall, order_of_phase}
-use Rattle.run_law.specs.machines.Nodes.{Node, Phase, acting, arriving, ripening, turning_on}
-use Rattle.run_law.specs.machines.Tasks.{reading_for}
-use Rattle.run_law.specs.records.Order.{IsBefore}
-use Rattle.run_law.specs.scenario.Scenarios.{Scenario}
-use Rattle.tte_lemmas.proofs.Integers.{whole}
-use Rattle.tte_units.specs.Amount.{amount}
-use Rattle.world_law.specs.device.Ready.{IsReadyAt, IsSteady}
-use Rattle.world_law.specs.world.Calls.{moment_of}
-use Rattle.world_law.specs.world.World.{IsCalledBy, rank_of_call}
+use Rattle.world_steps.proofs.Words.{◌+◌, ◌<ℤ◌, ◌<◌, ◌^◌, ◌∷◌, ◌≡◌, ◌≤◌, DeviceId, IsBefore, IsReadyAt, IsSteady, List, MayCall, Node, Phase, Scenario, acting}
+use Rattle.world_steps.proofs.Words.{amount, ap, arith, arriving, cases_lt, inl, inr, ints, moment_of, pos, rank_of_call, reading_for, refl, ripening, subst}
+use Rattle.world_steps.proofs.Words.{sym, whole, ℕ, ℤ}
+use Rattle.run_law.specs.machines.{Calls.order_of_phase, Nodes.turning_on}
+use Rattle.world_law.specs.world.World.{IsCalledBy}
 
 pub ranked_so : (phase : Phase) → rank_of_call phase ≡ order_of_phase phase + 1
 ranked_so turning_on = refl

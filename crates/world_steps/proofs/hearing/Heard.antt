@@ -1,44 +1,15 @@
 -- A frame arrives at its device: it is judged as the records say, and each device is kept behind it.
-use Rattle.std.proofs.Common.{◌≡◌, ℕ, ◌+◌, ◌≤◌, ◌^◌, ℤ, pos, ◌≤ℤ◌, Bool, false, ◌==◌, if◌then◌else◌, List, [], ◌∷◌, ◌++◌, inl, inr, refl, sym, ap, subst, ◌∙◌, arith}
-use Rattle.std.proofs.lemmas.Bool.{eq-eqb}
-use Rattle.net_plan.specs.declared.ids.DeviceId.{DeviceId}
-use Rattle.net_plan.specs.declared.ids.LinkId.{LinkId}
-use Rattle.net_plan.specs.declared.ids.VlId.{VlId}
-use Rattle.net_plan.specs.declared.network.Network.{Network}
-use Rattle.run_law.proofs.runs.Places.{chain, in_parts, in_right}
-use Rattle.run_law.specs.control.Wires.{Signal, signal_of}
+use Rattle.world_steps.proofs.Words.{if◌then◌else◌, ◌++◌, ◌+◌, ◌==◌, ◌^◌, ◌∙◌, ◌∷◌, ◌≡◌, ◌≤ℤ◌, ◌≤◌, Arrival, Bool, DeviceId, Happening, IsBefore, IsHeld}
+use Rattle.world_steps.proofs.Words.{IsKept, IsMoving, IsNoTaking, IsOut, IsSteady, LinkId, List, Network, Node, OnWire, Scenario, Signal, TakenFrame, VlId, []}
+use Rattle.world_steps.proofs.Words.{act_place, amount, ap, arith, arrival_at, arrival_body, arrival_of, arriving, bears_on, behind, called, chain, eq-eqb}
+use Rattle.world_steps.proofs.Words.{false, held_aside, in_parts, in_right, inl, inr, is_end, is_sending, moment_of, place_of, placed, pos, rank, refl}
+use Rattle.world_steps.proofs.Words.{signal_of, subst, sym, taken_in, time_of, ℕ, ℤ}
+use Rattle.run_law.specs.machines.{Answers.after_arrival, Calls.MayArrive}
+use Rattle.world_law.{proofs.putting.Moving.kept_moves, specs.world.Calls.HasHeard}
+use Rattle.world_steps.proofs.hearing.{Called.{After, kept_by, kept_called, out_called}, Calling.may_call, Judging.{broken_drops, out_drops}}
+use Rattle.world_steps.proofs.hearing.{Putting.IsReceiving, Quiet.{IsQuiet, IsTakingBy, frames_aside, kept_taking}, Ranked.{accepted_high, delivered_high}}
+use Rattle.world_steps.proofs.hearing.{Receptions.placed_at, Timed.{IsAfterGiven, given_by_now, kept_judges, no_taking}, Took.took}
 use Rattle.run_law.specs.declared.steps.Arrival.TheVariants as arrivals
-use Rattle.run_law.specs.declared.steps.Arrival.{Arrival}
-use Rattle.run_law.specs.machines.Answers.{after_arrival, arrival_at, called}
-use Rattle.run_law.specs.machines.Calls.{MayArrive}
-use Rattle.run_law.specs.machines.Nodes.{Node, TakenFrame, arriving}
-use Rattle.run_law.specs.records.Happenings.{Happening, time_of}
-use Rattle.run_law.specs.records.Order.{IsBefore, behind}
-use Rattle.run_law.specs.records.Ranks.{place_of, rank}
-use Rattle.run_law.specs.scenario.Devices.{is_end}
-use Rattle.run_law.specs.scenario.Scenarios.{Scenario}
-use Rattle.run_law.specs.timed.Receptions.{arrival_of}
-use Rattle.tte_units.specs.Amount.{amount}
-use Rattle.world_law.proofs.acts.Recorded.{is_sending}
-use Rattle.world_steps.proofs.hearing.Called.{After, kept_by, kept_called, out_called}
-use Rattle.world_steps.proofs.hearing.Calling.{may_call}
-use Rattle.world_steps.proofs.hearing.Judging.{broken_drops, out_drops}
-use Rattle.world_steps.proofs.hearing.Putting.{IsReceiving}
-use Rattle.world_steps.proofs.hearing.Quiet.{IsQuiet, IsTakingBy, frames_aside, kept_taking}
-use Rattle.world_steps.proofs.hearing.Ranked.{accepted_high, delivered_high}
-use Rattle.world_steps.proofs.hearing.Receptions.{placed_at}
-use Rattle.world_steps.proofs.hearing.Timed.{IsAfterGiven, given_by_now, kept_judges, no_taking}
-use Rattle.world_steps.proofs.hearing.Took.{took}
-use Rattle.world_law.proofs.putting.Bearing.{held_aside}
-use Rattle.world_law.proofs.putting.Bumped.{placed}
-use Rattle.world_law.proofs.putting.Moving.{IsMoving, kept_moves}
-use Rattle.world_law.proofs.rows.Takings.{IsNoTaking}
-use Rattle.world_law.specs.device.Ready.{IsSteady}
-use Rattle.world_law.specs.device.Own.{bears_on}
-use Rattle.world_law.specs.device.Takings.{taken_in}
-use Rattle.world_law.specs.world.Calls.{HasHeard, moment_of}
-use Rattle.world_law.specs.world.Outcomes.{arrival_body}
-use Rattle.world_law.specs.world.World.{IsHeld, IsKept, IsOut, OnWire, act_place}
 
 -- ---- the devices
 

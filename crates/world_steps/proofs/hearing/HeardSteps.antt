@@ -1,38 +1,14 @@
 -- A frame on a wire arrives, and its device's machine hears it.
-use Rattle.std.proofs.Common.{◌≡◌, ℕ, true, false, ◌==◌, List, [], ◌∷◌, ◌++◌, Some, length, map, slice_get, inl, inr, refl, sym, ap, subst, ◌∙◌}
-use Rattle.std.proofs.lemmas.Bool.{cases_Bool, eq-eqb, eqb-true}
-use Rattle.net_plan.proofs.SameIds.{same_device}
-use Rattle.net_plan.specs.declared.ids.DeviceId.{DeviceId}
-use Rattle.net_plan.specs.declared.ids.LinkId.{LinkId}
-use Rattle.net_plan.specs.declared.network.Network.{Network}
-use Rattle.run_law.proofs.runs.Places.{chain, never_self}
-use Rattle.run_law.specs.declared.steps.Arrival.TheVariants as arrivals
-use Rattle.run_law.specs.declared.steps.Arrival.{Arrival}
-use Rattle.run_law.specs.machines.Nodes.{Node}
-use Rattle.run_law.specs.records.Happenings.{Happening, happenings}
-use Rattle.run_law.specs.records.Order.{IsBefore, behind}
-use Rattle.run_law.specs.records.Ranks.{place_of}
-use Rattle.run_law.specs.scenario.Scenarios.{Scenario}
-use Rattle.run_law.specs.timed.Receptions.{arrival_of}
-use Rattle.world_law.proofs.devices.Borne.{moves_no_other}
-use Rattle.world_law.proofs.giving.Given.{some_same}
+use Rattle.world_steps.proofs.Words.{◌++◌, ◌==◌, ◌∙◌, ◌∷◌, ◌≡◌, AreOfNetwork, ArePutIn, AreSettled, Arrival, DeviceId, Happening, IsAllOfIt, IsBefore, IsHeld}
+use Rattle.world_steps.proofs.Words.{IsOne, LinkId, List, Network, Node, OnWire, Scenario, Some, [], ap, arrival_body, arrival_of, behind, cases_Bool, chain}
+use Rattle.world_steps.proofs.Words.{eq-eqb, eqb-true, false, happenings, held_aside, held_moves, hidden, inl, inr, is_at_source, is_last, known_aside}
+use Rattle.world_steps.proofs.Words.{last_unfollowed, length, map, moves_no_other, never_self, one_by, place_of, placed, refl, same_device, slice_get}
+use Rattle.world_steps.proofs.Words.{some_same, subst, sym, taken_in, true, ℕ}
 use Rattle.world_steps.proofs.hearing.Heard.{IsHearingIt, four_not, held_answers, held_there, others_take, quiet_for}
-use Rattle.world_steps.proofs.hearing.Hearing.{arriving_first, heard_behind, heard_put}
-use Rattle.world_steps.proofs.hearing.Putting.{IsReceiving}
-use Rattle.world_steps.proofs.hearing.Quiet.{frames_aside}
-use Rattle.world_steps.proofs.hearing.Ranked.{rank_is}
-use Rattle.world_steps.proofs.hearing.Receptions.{body_ranks, device_there, placed_at}
-use Rattle.world_steps.proofs.hearing.Settling.{all_of_arrival, put_known}
-use Rattle.world_steps.proofs.hearing.Timed.{IsAfterGiven, heard_as_all}
-use Rattle.world_law.proofs.putting.Bearing.{held_aside, known_aside}
-use Rattle.world_law.proofs.putting.Bumped.{placed}
-use Rattle.world_law.proofs.putting.Moving.{IsAllOfIt, held_moves}
-use Rattle.world_law.proofs.putting.PutOne.{IsOne, is_last, last_unfollowed, one_by}
-use Rattle.world_law.specs.device.Takings.{taken_in}
-use Rattle.world_steps.specs.Arriving.{HeardStep}
-use Rattle.world_law.specs.world.Outcomes.{arrival_body}
-use Rattle.world_law.specs.world.Moves.{ArePutIn}
-use Rattle.world_law.specs.world.World.{AreOfNetwork, AreSettled, IsHeld, OnWire, hidden, is_at_source}
+use Rattle.world_steps.proofs.hearing.{Hearing.{arriving_first, heard_behind, heard_put}, Putting.IsReceiving, Quiet.frames_aside, Ranked.rank_is}
+use Rattle.world_steps.proofs.hearing.{Receptions.{body_ranks, device_there, placed_at}, Settling.{all_of_arrival, put_known}}
+use Rattle.world_steps.{proofs.hearing.Timed.{IsAfterGiven, heard_as_all}, specs.Arriving.HeardStep}
+use Rattle.run_law.specs.declared.steps.Arrival.TheVariants as arrivals
 
 -- ---- what is settled then
 

@@ -1,27 +1,11 @@
 -- A frame arrives: the world stands behind it, where its devices do.
-use Rattle.std.proofs.Common.{◌≡◌, ℕ, ◌+◌, ◌<◌, false, List, [], ◌∷◌, ◌++◌, Some, length, map, slice_get, inl, inr, refl, sym, ap, subst, ◌∙◌, arith}
-use Rattle.std.proofs.lemmas.List.{length-map}
-use Rattle.net_plan.specs.declared.ids.DeviceId.{DeviceId}
-use Rattle.net_plan.specs.declared.network.Network.{Network}
-use Rattle.world_law.proofs.runs.Worlds.{length_is}
-use Rattle.run_law.specs.declared.note.Note.{Note}
-use Rattle.run_law.specs.declared.steps.Arrival.{Arrival}
-use Rattle.run_law.specs.machines.Nodes.{Node}
-use Rattle.run_law.specs.records.Happenings.{Happening, happenings}
-use Rattle.run_law.specs.records.Order.{IsBefore, IsIn, behind}
-use Rattle.run_law.specs.records.Ranks.{rank}
-use Rattle.run_law.specs.scenario.Scenarios.{Scenario}
-use Rattle.run_law.specs.timed.Receptions.{arrival_of}
+use Rattle.world_steps.proofs.Words.{◌++◌, ◌+◌, ◌<◌, ◌∙◌, ◌∷◌, ◌≡◌, AreOfNetwork, ArePutIn, AreSettled, Arrival, ComesFirst, DeviceId, Happening, IsBefore}
+use Rattle.world_steps.proofs.Words.{IsHeld, IsIn, IsMoving, IsPutIn, IsWithout, List, Network, Node, Note, OnWire, Scenario, Some, Stands, StandsBehind, World}
+use Rattle.world_steps.proofs.Words.{[], all_without, ap, arith, arrival_body, arrival_of, behind, comes_first, false, happenings, hidden, inr, length}
+use Rattle.world_steps.proofs.Words.{length-map, length_is, map, port_place, ports_move, rank, refl, settled_as, slice_get, stands_on, subst, sym, told_wires}
+use Rattle.world_steps.proofs.Words.{waiting_moves, wire_place, wires_move, ℕ}
+use Rattle.world_law.proofs.putting.StandsOn.{shown_still}
 use Rattle.world_steps.proofs.hearing.Putting.{IsHeardAs, IsReceived, least_rank, received}
-use Rattle.world_law.proofs.putting.Moving.{IsMoving, all_without, ports_move, waiting_moves, wires_move}
-use Rattle.world_law.proofs.putting.StandsOn.{comes_first, shown_still, stands_on, told_wires}
-use Rattle.world_law.specs.world.Outcomes.{arrival_body}
-use Rattle.world_law.specs.world.Moves.{ArePutIn, ComesFirst, IsPutIn, IsWithout, StandsBehind, settled_as}
-use Rattle.world_law.specs.world.World.{AreOfNetwork, AreSettled, IsHeld, OnWire, Stands, World, hidden, port_place, wire_place}
-
--- where it arrives
-abbrev pub more_of : OnWire → List ℕ
-more_of e = e.device.0 ∷ e.link.0 ∷ e.cause ∷ []
 
 wire_at : (e : OnWire) (now : ℕ) → e.at ≡ now → wire_place e ≡ now ∷ 2 ∷ e.device.0 ∷ e.link.0 ∷ e.cause ∷ []
 wire_at e now at = ap (λ (t : ℕ). t ∷ 2 ∷ e.device.0 ∷ e.link.0 ∷ e.cause ∷ []) at

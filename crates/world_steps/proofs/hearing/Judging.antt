@@ -1,34 +1,12 @@
 -- A device judges a frame that arrives as the records say.
-use Rattle.std.proofs.Common.{◌≡◌, ℕ, Bool, true, false, not, ◌&&◌, ◌==◌, nat_lt, List, [], ◌∷◌, Option, Some, None, Result, Ok, Err, if◌then◌else◌, pos, unsigned_abs, refl, ap, ◌∙◌}
-use Rattle.net_plan.specs.declared.ids.DeviceId.{DeviceId}
-use Rattle.net_plan.specs.declared.ids.LinkId.{LinkId}
-use Rattle.net_plan.specs.declared.ids.VlId.{VlId}
-use Rattle.net_plan.specs.declared.network.Network.{Network}
+use Rattle.world_steps.proofs.Words.{◌&&◌, ◌==◌, ◌∙◌, ◌∷◌, ◌≡◌, Bool, DeviceId, Happening, IsLeft, LinkId, List, Moment, Network, Node, Option, Pcf, PcfRefusal}
+use Rattle.world_steps.proofs.Words.{Reason, Result, Scenario, Signal, Some, Standpoint, State, Units, VlId, [], amount, ap, arrival_at, arrival_of, control}
+use Rattle.world_steps.proofs.Words.{control_arrival, false, field, is_broken, is_off, is_synchronised, last_taken, last_taken_by, nat_lt, not, octets_fault}
+use Rattle.world_steps.proofs.Words.{octets_or_fault, pos, refl, standpoint, state_before, timed, timed_arrival, true, unsigned_abs, ℕ}
 use Rattle.pcf_codec.specs.EtherType.{least_type}
-use Rattle.pcf_codec.specs.Fields.{field}
-use Rattle.pcf_codec.specs.declared.refusal.PcfRefusal.{PcfRefusal}
-use Rattle.pcf_values.specs.declared.pcf.Pcf.{Pcf}
-use Rattle.run_law.proofs.law.FirstBroken.{off_control}
-use Rattle.run_law.specs.control.Arrivals.{control_arrival, frame_fault, frame_or_fault}
-use Rattle.run_law.specs.control.Wires.{Signal, control, timed}
+use Rattle.run_law.{proofs.law.FirstBroken.off_control, specs.{device.Standpoints.first_reason, machines.Nodes.standpoint_at}}
 use Rattle.run_law.specs.declared.judgement.Reason.TheVariants as reasons
-use Rattle.run_law.specs.declared.judgement.Reason.{Reason}
 use Rattle.run_law.specs.declared.steps.Arrival.TheVariants as arrivals
-use Rattle.run_law.specs.declared.steps.Arrival.{Arrival}
-use Rattle.run_law.specs.declared.steps.Moment.{Moment}
-use Rattle.run_law.specs.device.Standpoints.{Standpoint, first_reason, standpoint}
-use Rattle.run_law.specs.device.States.{is_off, is_synchronised, state_before}
-use Rattle.run_law.specs.machines.Answers.{after_arrival, arrival_at}
-use Rattle.run_law.specs.machines.Nodes.{Node, last_taken_by, standpoint_at}
-use Rattle.run_law.specs.records.Happenings.{Happening}
-use Rattle.run_law.specs.scenario.Devices.{is_parent_of, is_relay}
-use Rattle.run_law.specs.scenario.Scenarios.{Scenario, is_broken}
-use Rattle.run_law.specs.timed.Arrivals.{octets_fault, octets_or_fault, timed_arrival}
-use Rattle.run_law.specs.timed.Receptions.{arrival_of, last_taken}
-use Rattle.sync_state.specs.declared.state.State.{State}
-use Rattle.tte_units.specs.Amount.{amount}
-use Rattle.tte_units.specs.declared.units.Units.{Units}
-use Rattle.world_law.specs.device.Left.{IsLeft}
 
 -- ---- where the device stands
 
@@ -95,21 +73,3 @@ out_drops network device node moment link (timed octets) e =
     timed_off network device link (standpoint_at node moment) octets (last_taken_by node) (no_part (not (is_off node.standing.state)) node.broken e)
 
 -- ---- a control frame leaves the node as it is
-
-taken_leaves : (network : Network) (device : DeviceId) (link : LinkId) (node : Node) (moment : Moment) (frame : Pcf) (point : Units) (a b : Bool)
-    → (up : Arrival) (down : Arrival) (waits : Arrival) → after_arrival node moment up ≡ node → after_arrival node moment down ≡ node
-    → after_arrival node moment waits ≡ node → after_arrival node moment (if a then (if b then up else down) else waits) ≡ node
-taken_leaves network device link node moment frame point true true up down waits x y z = x
-taken_leaves network device link node moment frame point true false up down waits x y z = y
-taken_leaves network device link node moment frame point false b up down waits x y z = z
-
-fault_leaves : (network : Network) (device : DeviceId) (link : LinkId) (node : Node) (moment : Moment) (p : Standpoint) (frame : Pcf) (fault : Option Reason)
-    → after_arrival node moment (frame_or_fault network device link p frame fault) ≡ node
-fault_leaves network device link node moment p frame (Some reason) = refl
-fault_leaves network device link node moment p frame None =
-    taken_leaves network device link node moment frame (record { 0 = pos 0 }) (is_relay network device) (is_parent_of network device link) _ _ _ refl refl refl
-
-pub control_leaves : (network : Network) (device : DeviceId) (link : LinkId) (node : Node) (moment : Moment) (p : Standpoint) (frame : Result Pcf PcfRefusal)
-    → after_arrival node moment (control_arrival network device link p frame) ≡ node
-control_leaves network device link node moment p (Err refusal) = refl
-control_leaves network device link node moment p (Ok frame) = fault_leaves network device link node moment p frame (frame_fault network device link p frame)

@@ -1,29 +1,11 @@
 -- What is to come where a frame arrives: it is shown as it is, and comes from no source that is not worked off.
-use Rattle.std.proofs.Common.{◌≡◌, ◌⊎◌, ℕ, ◌≤◌, ◌<◌, Bool, true, false, if◌then◌else◌, List, ◌∷◌, ◌++◌, length, inl, inr, refl, sym, ap, subst, ◌∙◌, arith}
-use Rattle.std.specs.Prelude.{nat_lt}
-use Rattle.std.proofs.lemmas.Bool.{le-ltb}
-use Rattle.net_plan.specs.declared.ids.DeviceId.{DeviceId}
-use Rattle.run_law.proofs.law.FirstPlaces.{numbered_within}
-use Rattle.run_law.proofs.runs.Places.{chain, in_left, parted}
+use Rattle.world_steps.proofs.Words.{if◌then◌else◌, ◌++◌, ◌<◌, ◌∙◌, ◌∷◌, ◌≡◌, ◌≤◌, ◌⊎◌, Bool, ChangesState, DeviceId, Happening, IsBefore, IsIn, IsMoving}
+use Rattle.world_steps.proofs.Words.{IsOfThisTime, IsOwnSource, List, NoteBody, Scenario, State, Why, amount, ap, arith, at_least, chain, false, hidden}
+use Rattle.world_steps.proofs.Words.{hidden_body, in_left, inl, inr, is_joined_by, key, le-ltb, length, members_in, nat_lt, none_yet, numbered_parts}
+use Rattle.world_steps.proofs.Words.{numbered_within, parted, place_of, rank, refl, second, subst, sym, time_of, true, ℕ}
 use Rattle.run_law.specs.declared.judgement.Judgement.TheVariants as judgements
 use Rattle.run_law.specs.declared.judgement.Why.TheVariants as whys
-use Rattle.run_law.specs.declared.judgement.Why.{Why}
 use Rattle.run_law.specs.declared.note.NoteBody.TheVariants as kinds
-use Rattle.run_law.specs.declared.note.NoteBody.{NoteBody}
-use Rattle.run_law.specs.device.StateChanges.{ChangesState}
-use Rattle.run_law.specs.device.States.{is_joined_by}
-use Rattle.run_law.specs.records.Causes.{IsOfThisTime}
-use Rattle.run_law.specs.records.Happenings.{Happening, time_of}
-use Rattle.run_law.specs.records.Order.{IsBefore, IsIn}
-use Rattle.run_law.specs.records.Ranks.{key, members_in, place_of, rank}
-use Rattle.run_law.specs.scenario.Scenarios.{Scenario}
-use Rattle.sync_state.specs.declared.state.State.{State}
-use Rattle.tte_units.specs.Amount.{amount}
-use Rattle.world_law.proofs.giving.GivenParts.{second}
-use Rattle.world_law.proofs.putting.Moving.{IsMoving}
-use Rattle.world_law.proofs.runs.SourcesBack.{at_least, numbered_parts}
-use Rattle.world_law.specs.source.Sources.{IsOwnSource}
-use Rattle.world_law.specs.world.World.{hidden, hidden_body, none_yet}
 
 -- ---- no record to come is from the place of the arrival on
 
@@ -62,9 +44,6 @@ corrected_from : (s : Scenario) (device : DeviceId) (cycle : ℕ) (by adjustment
     → (w ≡ now ∷ 2 ∷ more) ⊎ IsBefore (now ∷ 2 ∷ more) w
 corrected_from s device cycle by adjustment body is now t m more js w e o =
     higher now t 4 more _ w e (omega arith) (subst (λ (b : NoteBody). IsOwnSource s js t m b w) is o)
-
-cause_given : (hs zs : List Happening) (t cause : ℕ) (h : Happening) → IsOfThisTime hs t cause h → cause ≤ length hs
-cause_given hs zs t cause h it = let lt = numbered_within hs cause h it.there in omega (arith, lt)
 
 cause_known : (hs zs : List Happening) (t cause : ℕ) (h : Happening) → IsOfThisTime (hs ++ zs) t cause h → (IsIn h zs → ⊥) → cause ≤ length hs
 cause_known hs zs t cause h it none = elim (numbered_parts hs zs h cause it.there) [

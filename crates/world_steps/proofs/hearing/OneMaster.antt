@@ -1,58 +1,25 @@
 -- A control frame that comes up from a switch, and one that a switch takes from below, is of one master.
-use Rattle.std.proofs.Common.{◌≡◌, ℕ, zero, suc, ◌+◌, ◌≤◌, ◌^◌, Bool, true, false, not, ◌&&◌, ◌==◌, if◌then◌else◌, List, [], ◌∷◌, length, Option, Some, None, Result, Ok, Err, IsSomeAnd, slice_get, option_map, option_and_then, inl, inr, refl, sym, ap, subst, ◌∙◌, arith}
-use Rattle.std.specs.Prelude.{nat_lt}
-use Rattle.std.specs.Option.{option_map_or}
-use Rattle.tte_units.specs.Amount.{amount}
-use Rattle.std.proofs.lemmas.Bool.{cases_Bool, eq-eqb, eqb-true}
-use Rattle.net_plan.proofs.Shape.{rules_give_trees}
-use Rattle.net_plan.specs.Paths.{IsPath, IsTree, IsUplink}
-use Rattle.net_plan.specs.Places.{IsCmOf, IsRoleOf, device_at, is_end_system, link_at}
-use Rattle.net_plan.specs.Rules.{IsChildOf}
-use Rattle.net_plan.specs.declared.event.Event.{Event}
-use Rattle.net_plan.specs.declared.event.What.TheVariants as events
-use Rattle.net_plan.specs.declared.ids.DeviceId.{DeviceId}
-use Rattle.net_plan.specs.declared.ids.LinkId.{LinkId}
-use Rattle.net_plan.specs.declared.network.Network.{Network}
-use Rattle.net_plan.specs.declared.tables.Device.{Device}
-use Rattle.net_plan.specs.declared.tables.Link.{Link}
-use Rattle.net_plan.specs.declared.tables.Role.TheVariants.{Cm, Relay}
-use Rattle.net_plan.specs.declared.tables.Way.TheVariants.{Down, Up}
-use Rattle.net_plan.specs.declared.tables.Way.{Way}
-use Rattle.pcf_codec.specs.declared.refusal.PcfRefusal.{PcfRefusal}
-use Rattle.pcf_values.specs.declared.channel.Channel.{Channel}
-use Rattle.pcf_values.specs.declared.members.Members.{Members}
-use Rattle.pcf_values.specs.declared.pcf.Pcf.{Pcf}
-use Rattle.run_law.proofs.law.FirstPlaces.{founded_at, number_is, numbered_front, numbered_in, numbered_within}
-use Rattle.run_law.proofs.runs.Places.{in_left}
-use Rattle.run_law.proofs.scenario.Devices.{master_end}
-use Rattle.run_law.specs.control.Arrivals.{are_others, clock_on_arrival, frame_fault, frame_or_fault, is_cold_start, is_gate_shut, is_of_other_domain, is_of_other_member}
-use Rattle.run_law.specs.control.Leaving.{Gives}
-use Rattle.run_law.specs.control.Wires.{Arrives, Launch, Signal, control, launched, signal_of, timed}
-use Rattle.run_law.specs.declared.judgement.Reason.TheVariants as reasons
-use Rattle.run_law.specs.declared.judgement.Reason.{Reason}
-use Rattle.run_law.specs.declared.note.NoteBody.TheVariants as kinds
-use Rattle.run_law.specs.declared.note.NoteBody.{NoteBody}
-use Rattle.run_law.specs.declared.steps.Arrival.{Arrival}
-use Rattle.run_law.specs.device.Standpoints.{Standpoint, standpoint}
-use Rattle.run_law.specs.machines.Calls.{IsFromSwitch, IsLinkAt, IsOfMaster, IsOneMaster, MayArrive}
-use Rattle.run_law.specs.records.Happenings.{Happening, frame_by, frame_in, numbered, time_of, with_clock}
-use Rattle.run_law.specs.records.Order.{IsIn}
-use Rattle.run_law.specs.records.Ranks.{place_of, rank}
-use Rattle.run_law.specs.runs.DueRecords.{IsArrivedRecord, IsCaused, IsDue}
-use Rattle.run_law.specs.runs.Runs.{IsFounded}
-use Rattle.run_law.specs.scenario.Devices.{IsParentOf, is_end, is_parent_of, member_of}
-use Rattle.run_law.specs.scenario.Scenarios.{Scenario}
-use Rattle.run_law.specs.scenario.Ways.{is_cut, receiver_of, way_from}
-use Rattle.run_law.specs.timed.Receptions.{ArrivesAs, arrival_of}
-use Rattle.schedule_tables.proofs.Margins.{shape_rules}
-use Rattle.schedule_tables.specs.Entries.{target_by}
-use Rattle.schedule_tables.specs.Rules.{KeepsRules}
-use Rattle.schedule_tables.specs.declared.rule.Rule.TheVariants.{Joints}
+use Rattle.world_steps.proofs.Words.{if◌then◌else◌, ◌&&◌, ◌+◌, ◌==◌, ◌^◌, ◌∙◌, ◌∷◌, ◌≡◌, ◌≤◌, Arrival, Arrives, Bool, Channel, DeviceId, Down, Event, Gives}
+use Rattle.world_steps.proofs.Words.{Happening, IsArrivedRecord, IsCaused, IsDue, IsFounded, IsIn, IsOfMaster, IsOnWire, IsParentOf, KeepsRules, Launch, Link}
+use Rattle.world_steps.proofs.Words.{LinkId, List, Members, Network, None, NoteBody, OnWire, Option, Pcf, PcfRefusal, Reason, Result, Scenario, Signal, Some}
+use Rattle.world_steps.proofs.Words.{Standpoint, Up, Way, [], amount, ap, arith, arrival_body, arrival_of, cases_Bool, control, eq-eqb, eqb-true, false}
+use Rattle.world_steps.proofs.Words.{founded_at, frame_fault, frame_or_fault, in_left, inl, inr, is_cut, is_end, is_parent_of, launched, length, link_at}
+use Rattle.world_steps.proofs.Words.{nat_lt, not, numbered, numbered_front, numbered_in, numbered_within, option_and_then, option_map, option_map_or, place_of}
+use Rattle.world_steps.proofs.Words.{rank, refl, signal_of, slice_get, standpoint, subst, suc, sym, target_by, time_of, timed, true, way_from, zero, ℕ}
+use Rattle.std.proofs.Common.{Err, IsSomeAnd, Ok}
+use Rattle.net_plan.{proofs.Shape.rules_give_trees, specs.{Paths.{IsPath, IsTree, IsUplink}, Places.{IsCmOf, IsRoleOf, device_at, is_end_system}}}
+use Rattle.net_plan.specs.{Rules.IsChildOf, declared.tables.{Device.Device, Role.TheVariants.{Cm, Relay}}}
+use Rattle.run_law.proofs.{law.FirstPlaces.number_is, scenario.Devices.master_end}
+use Rattle.run_law.specs.control.Arrivals.{are_others, clock_on_arrival, is_cold_start, is_gate_shut, is_of_other_domain, is_of_other_member}
+use Rattle.run_law.specs.{machines.Calls.{IsFromSwitch, IsLinkAt, IsOneMaster, MayArrive}, records.Happenings.{frame_by, frame_in, with_clock}}
+use Rattle.run_law.specs.{scenario.{Devices.member_of, Ways.receiver_of}, timed.Receptions.ArrivesAs}
+use Rattle.schedule_tables.{proofs.Margins.shape_rules, specs.declared.rule.Rule.TheVariants.Joints}
 use Rattle.tte_lemmas.proofs.Options.{closed, opened as at_some}
 use Rattle.world_law.proofs.frames.Proper.{no_reason}
 use Rattle.world_steps.proofs.hearing.Ranked.{rank_is}
-use Rattle.world_law.specs.world.Outcomes.{arrival_body}
-use Rattle.world_law.specs.world.World.{IsOnWire, OnWire}
+use Rattle.net_plan.specs.declared.event.What.TheVariants as events
+use Rattle.run_law.specs.declared.judgement.Reason.TheVariants as reasons
+use Rattle.run_law.specs.declared.note.NoteBody.TheVariants as kinds
 
 -- ---- options
 
@@ -403,14 +370,6 @@ pub one_master : (s : Scenario) (hs : List Happening) → KeepsRules s.network �
     → IsFromSwitch s.network device link → IsOneMaster s.network frame.members
 one_master s hs rules sends founded cause putting device link t frame there arrives from =
     all_up s hs rules sends founded cause cause putting device link t frame (omega arith) there arrives from
-
--- and what it takes by a link from below is of one master, that of the link where this is its lower end
-pub master_below : (s : Scenario) (hs : List Happening) → KeepsRules s.network → SendsAreOfEnds s → IsFounded place_of (IsDue s) hs
-    → (device : DeviceId) (t : ℕ)
-    (link : LinkId) (cause : ℕ) → (a : IsArrivalOf s hs device t link cause) → IsParentOf s.network device link
-    → IsOfMaster s.network device link a.frame.members
-master_below s hs rules sends founded device t link cause a parent =
-    from_below s hs cause (all_up s hs rules sends founded cause) device t link cause (omega arith) a parent
 
 -- ---- what is on a wire may arrive
 

@@ -1,36 +1,12 @@
 -- The record of an arrival is put in among those to come.
-use Rattle.std.proofs.Common.{◌≡◌, ◌⊎◌, ℕ, ◌+◌, ◌≤◌, true, if◌then◌else◌, List, [], ◌∷◌, ◌++◌, length, map, inl, inr, refl, sym, ap, subst, ◌∙◌, arith}
-use Rattle.std.proofs.lemmas.Bool.{both_ways}
-use Rattle.std.proofs.lemmas.Int.{ints}
-use Rattle.net_plan.specs.declared.ids.DeviceId.{DeviceId}
-use Rattle.net_plan.specs.declared.network.Network.{Network}
-use Rattle.run_law.proofs.runs.Places.{before_behind, in_left, in_right}
-use Rattle.run_law.specs.control.Wires.{Signal, control, timed}
-use Rattle.run_law.specs.declared.note.Note.{Note}
-use Rattle.run_law.specs.declared.note.NoteBody.{NoteBody}
-use Rattle.run_law.specs.declared.steps.Arrival.{Arrival}
-use Rattle.run_law.specs.records.Causes.{cause_of}
-use Rattle.run_law.specs.records.Happenings.{Happening, happening, numbered, time_of}
-use Rattle.run_law.specs.records.Order.{AllBefore, IsBefore, IsIn, NoneBefore, behind}
-use Rattle.run_law.specs.records.Ranks.{members_in, place_of, rank}
-use Rattle.run_law.specs.runs.DueRecords.{IsDue}
-use Rattle.run_law.specs.runs.Runs.{IsFounded}
-use Rattle.run_law.specs.scenario.Devices.{is_end}
-use Rattle.run_law.specs.scenario.Scenarios.{Scenario}
-use Rattle.run_law.specs.timed.Receptions.{arrival_of}
-use Rattle.tte_units.specs.Amount.{units_of}
+use Rattle.world_steps.proofs.Words.{if◌then◌else◌, ◌++◌, ◌+◌, ◌∙◌, ◌∷◌, ◌≡◌, ◌≤◌, ◌⊎◌, AllBefore, Arrival, DeviceId, Happening, IsBefore, IsDue, IsFounded}
+use Rattle.world_steps.proofs.Words.{IsIn, IsMoving, IsOnWire, IsOwnSource, IsPutIn, IsSource, List, Network, NoneBefore, Note, NoteBody, OnWire, Scenario}
+use Rattle.world_steps.proofs.Words.{Signal, [], ap, arith, arrival_body, arrival_of, before_behind, behind, both_ways, bump, cause_of, control, happening}
+use Rattle.world_steps.proofs.Words.{hidden, in_left, in_mapped, in_right, inl, inr, ints, is_at_source, is_end, length, map, members_in, numbered}
+use Rattle.world_steps.proofs.Words.{numbered_prefix, place_of, put_list, rank, refl, settled_as, subst, sym, time_of, timed, true, units_of, ℕ}
+use Rattle.world_law.proofs.putting.{Alike.happening_alike, HiddenLists.{bumped_hidden, map_parts, put_length, split_hidden}}
 use Rattle.world_steps.proofs.hearing.Known.{never_from, shown_place}
 use Rattle.world_steps.proofs.hearing.Receptions.{arrives_now, body_cause, body_caused, body_key, body_own, body_ranks, body_shown, few_cause, own_there}
-use Rattle.world_law.proofs.putting.Alike.{happening_alike}
-use Rattle.world_law.proofs.putting.HiddenLists.{bumped_hidden, map_parts, put_length, split_hidden}
-use Rattle.world_law.proofs.putting.Idle.{bump, numbered_prefix}
-use Rattle.world_law.proofs.putting.Moving.{IsMoving}
-use Rattle.world_law.proofs.putting.Putting.{put_list}
-use Rattle.world_law.proofs.putting.StandsOn.{in_mapped}
-use Rattle.world_law.specs.source.Sources.{IsOwnSource, IsSource}
-use Rattle.world_law.specs.world.Outcomes.{arrival_body}
-use Rattle.world_law.specs.world.Moves.{IsPutIn, settled_as}
-use Rattle.world_law.specs.world.World.{IsOnWire, OnWire, hidden, is_at_source}
 
 -- ---- how it is judged
 

@@ -1,30 +1,13 @@
 -- A record that bears on no device is put in among those of its instant: what each device took, and the device that took a frame by it.
-use Rattle.std.proofs.Common.{◌≡◌, ℕ, ◌≤◌, ℤ, pos, ◌+ℤ◌, ◌≤ℤ◌, false, List, [], ◌∷◌, ◌++◌, map, append_assoc, inl, inr, refl, sym, ap, subst, ◌∙◌}
-use Rattle.net_plan.specs.declared.ids.DeviceId.{DeviceId}
-use Rattle.net_plan.specs.declared.ids.VlId.{VlId}
-use Rattle.net_plan.specs.declared.network.Network.{Network}
-use Rattle.run_law.specs.device.LocalClocks.{changed_at, local_before}
-use Rattle.run_law.specs.machines.Nodes.{Node, TakenFrame, local_at}
-use Rattle.run_law.specs.records.Happenings.{Happening, time_of}
-use Rattle.run_law.specs.records.Order.{IsBefore, IsIn}
-use Rattle.run_law.specs.scenario.Scenarios.{Scenario}
-use Rattle.tte_units.specs.Amount.{amount}
-use Rattle.tte_units.specs.declared.units.Units.{Units}
-use Rattle.world_law.proofs.acts.Recorded.{is_sending, recorded_alike, recorded_put}
-use Rattle.world_law.proofs.devices.Borne.{moves_no_other}
-use Rattle.world_steps.proofs.hearing.Called.{After}
-use Rattle.world_steps.proofs.hearing.Took.{done_took, left_took, ready_took, sent_took, took}
-use Rattle.world_law.proofs.putting.Bearing.{before_aside, changed_aside, earlier_aside, left_aside, still_aside, turned_aside}
-use Rattle.world_law.proofs.putting.Bumped.{bump_behind, placed}
-use Rattle.world_law.proofs.putting.NearPut.{plains_placed}
-use Rattle.world_law.proofs.rows.Takings.{IsNoTaking, frames_by_others, frames_put, frames_with}
-use Rattle.world_law.specs.device.Ready.{IsSteady}
-use Rattle.world_law.specs.device.Deeds.{HasDoneFrom}
-use Rattle.world_law.specs.device.Left.{IsLeft}
-use Rattle.world_law.specs.device.Own.{bears_on}
-use Rattle.world_law.specs.device.Takings.{frames_taken, taken_in}
-use Rattle.world_law.specs.world.Calls.{moment_of}
-use Rattle.world_law.specs.world.World.{IsKept}
+use Rattle.world_steps.proofs.Words.{◌++◌, ◌+ℤ◌, ◌∙◌, ◌∷◌, ◌≡◌, ◌≤ℤ◌, ◌≤◌, DeviceId, Happening, HasDoneFrom, IsBefore, IsIn, IsKept, IsLeft, IsNoTaking}
+use Rattle.world_steps.proofs.Words.{IsSteady, List, Network, Node, Scenario, TakenFrame, Units, VlId, [], amount, ap, append_assoc, bears_on, bump_behind}
+use Rattle.world_steps.proofs.Words.{changed_at, false, frames_taken, inl, inr, is_sending, local_before, map, moment_of, moves_no_other, placed, plains_placed}
+use Rattle.world_steps.proofs.Words.{pos, refl, subst, sym, taken_in, time_of, turned_aside, ℕ, ℤ}
+use Rattle.run_law.specs.machines.Nodes.{local_at}
+use Rattle.world_law.proofs.acts.Recorded.{recorded_alike, recorded_put}
+use Rattle.world_law.proofs.putting.Bearing.{before_aside, changed_aside, earlier_aside, left_aside, still_aside}
+use Rattle.world_law.proofs.rows.Takings.{frames_by_others, frames_put, frames_with}
+use Rattle.world_steps.proofs.hearing.{Called.After, Took.{done_took, left_took, ready_took, sent_took, took}}
 
 -- ---- what the device took by the others
 

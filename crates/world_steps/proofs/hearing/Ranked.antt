@@ -1,31 +1,12 @@
 -- What becomes of a frame stands at least at the place of its kind, and what becomes of a control frame does not hang on records of its instant.
-use Rattle.std.proofs.Common.{◌≡◌, ℕ, ◌≤◌, Bool, true, false, not, ◌&&◌, if◌then◌else◌, List, ◌++◌, Option, Some, None, ap, subst, arith}
-use Rattle.net_plan.specs.declared.ids.DeviceId.{DeviceId}
-use Rattle.net_plan.specs.declared.ids.LinkId.{LinkId}
-use Rattle.net_plan.specs.declared.ids.VlId.{VlId}
-use Rattle.net_plan.specs.declared.network.Network.{Network}
-use Rattle.pcf_codec.specs.declared.refusal.PcfRefusal.{PcfRefusal}
-use Rattle.pcf_values.specs.declared.pcf.Pcf.{Pcf}
-use Rattle.run_law.specs.control.Arrivals.{control_arrival, frame_fault, frame_or_fault}
-use Rattle.run_law.specs.control.Wires.{Signal, control, timed}
-use Rattle.run_law.specs.declared.judgement.Reason.{Reason}
-use Rattle.run_law.specs.declared.steps.Arrival.TheVariants as arrivals
-use Rattle.run_law.specs.declared.steps.Arrival.{Arrival}
-use Rattle.run_law.specs.device.Standpoints.{Standpoint, clock_of, cycle_at, standpoint}
-use Rattle.run_law.specs.device.States.{adjustment_after, is_off, state_after}
-use Rattle.run_law.specs.records.Happenings.{Happening, time_of}
-use Rattle.run_law.specs.records.Order.{IsIn}
-use Rattle.run_law.specs.records.Ranks.{rank}
-use Rattle.run_law.specs.scenario.Devices.{is_end, is_parent_of, is_relay}
-use Rattle.run_law.specs.scenario.Scenarios.{Scenario, is_broken, is_turned_on_at}
-use Rattle.run_law.specs.timed.Arrivals.{entry_arrival, entry_entering, octets_fault, octets_or_fault, row_fault, taken_or_fault}
-use Rattle.run_law.specs.timed.Receptions.{arrival_of, last_taken}
-use Rattle.pcf_codec.specs.Fields.{field}
-use Rattle.schedule_tables.specs.declared.entry.Entry.{Entry}
-use Rattle.sync_state.specs.declared.state.State.TheVariants.{Integrating}
+use Rattle.world_steps.proofs.Words.{if◌then◌else◌, ◌&&◌, ◌++◌, ◌≡◌, ◌≤◌, Arrival, Bool, DeviceId, Entry, Happening, Integrating, IsIn, LinkId, List, Network}
+use Rattle.world_steps.proofs.Words.{None, Option, Pcf, PcfRefusal, Reason, Scenario, Signal, Some, Standpoint, VlId, adjustment_after, ap, arith, arrival_body}
+use Rattle.world_steps.proofs.Words.{arrival_of, control, control_arrival, earlier_still, false, field, frame_fault, frame_or_fault, is_broken, is_end, is_off}
+use Rattle.world_steps.proofs.Words.{is_parent_of, is_relay, is_turned_on_at, last_taken, not, octets_fault, octets_or_fault, rank, standpoint, state_after}
+use Rattle.world_steps.proofs.Words.{subst, time_of, timed, true, ℕ}
+use Rattle.run_law.specs.{device.Standpoints.{clock_of, cycle_at}, timed.Arrivals.{entry_arrival, entry_entering, row_fault, taken_or_fault}}
 use Rattle.world_steps.proofs.hearing.Putting.{least_rank}
-use Rattle.world_law.proofs.runs.SourcesBack.{earlier_still}
-use Rattle.world_law.specs.world.Outcomes.{arrival_body}
+use Rattle.run_law.specs.declared.steps.Arrival.TheVariants as arrivals
 
 -- ---- ranks
 

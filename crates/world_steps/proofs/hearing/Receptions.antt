@@ -1,37 +1,14 @@
 -- What becomes of a frame that arrives: the one record of it.
-use Rattle.std.proofs.Common.{◌≡◌, ◌⊎◌, ℕ, ◌≤◌, ◌<◌, true, false, List, [], ◌∷◌, ◌++◌, length, Option, Some, None, pos, inl, inr, refl, sym, ap, subst, ◌∙◌, arith}
-use Rattle.net_plan.specs.Places.{link_at}
-use Rattle.net_plan.specs.Ranges.{IsInRange, IsLinkInRange}
-use Rattle.net_plan.specs.declared.ids.DeviceId.{DeviceId}
-use Rattle.net_plan.specs.declared.ids.LinkId.{LinkId}
-use Rattle.net_plan.specs.declared.network.Network.{Network}
-use Rattle.net_plan.specs.declared.tables.Link.{Link}
-use Rattle.net_plan.specs.declared.tables.Way.TheVariants.{Up, Down}
-use Rattle.net_plan.specs.declared.tables.Way.{Way}
-use Rattle.run_law.proofs.law.FirstPlaces.{numbered_within}
-use Rattle.run_law.proofs.runs.SameSteps.{same_arrival}
-use Rattle.run_law.specs.control.Wires.{Signal}
+use Rattle.world_steps.proofs.Words.{◌++◌, ◌<◌, ◌∙◌, ◌∷◌, ◌≡◌, ◌≤◌, ◌⊎◌, Arrival, DeviceId, Down, Happening, IsArrivedRecord, IsBefore, IsCaused, IsInRange}
+use Rattle.world_steps.proofs.Words.{IsOnWire, IsOwnSource, Link, LinkId, List, Network, None, NoteBody, OnWire, Option, Scenario, Some, Units, Up, Way, []}
+use Rattle.world_steps.proofs.Words.{amount, ap, arith, arrival_body, arrival_of, cause_of, false, hidden_body, inl, inr, is_at_source, key, length, link_at}
+use Rattle.world_steps.proofs.Words.{members_in, numbered_prefix, numbered_within, place_of, pos, rank, refl, second, subst, sym, target_by, time_of, true, ℕ}
+use Rattle.net_plan.specs.Ranges.{IsLinkInRange}
+use Rattle.run_law.{proofs.runs.SameSteps.same_arrival, specs.timed.Receptions.ArrivesAs}
+use Rattle.tte_lemmas.proofs.Lists.{in_all}
 use Rattle.run_law.specs.declared.judgement.Why.TheVariants as whys
 use Rattle.run_law.specs.declared.note.NoteBody.TheVariants as kinds
-use Rattle.run_law.specs.declared.note.NoteBody.{NoteBody}
 use Rattle.run_law.specs.declared.steps.Arrival.TheVariants as arrivals
-use Rattle.run_law.specs.declared.steps.Arrival.{Arrival}
-use Rattle.run_law.specs.records.Causes.{cause_of}
-use Rattle.run_law.specs.records.Happenings.{Happening, time_of}
-use Rattle.run_law.specs.records.Order.{IsBefore}
-use Rattle.run_law.specs.records.Ranks.{key, members_in, place_of, rank}
-use Rattle.run_law.specs.runs.DueRecords.{IsArrivedRecord, IsCaused}
-use Rattle.run_law.specs.scenario.Scenarios.{Scenario}
-use Rattle.run_law.specs.timed.Receptions.{ArrivesAs, arrival_of}
-use Rattle.schedule_tables.specs.Entries.{target_by}
-use Rattle.tte_lemmas.proofs.Lists.{in_all}
-use Rattle.tte_units.specs.Amount.{amount}
-use Rattle.tte_units.specs.declared.units.Units.{Units}
-use Rattle.world_law.proofs.giving.GivenParts.{second}
-use Rattle.world_law.proofs.putting.Idle.{numbered_prefix}
-use Rattle.world_law.specs.source.Sources.{IsOwnSource}
-use Rattle.world_law.specs.world.Outcomes.{arrival_body}
-use Rattle.world_law.specs.world.World.{IsOnWire, OnWire, hidden_body, is_at_source}
 
 -- ---- the body of the record
 

@@ -1,40 +1,17 @@
 -- The record of an arrival is put in, and the cursor goes by it: what is to come is settled.
-use Rattle.std.proofs.Common.{◌≡◌, ℕ, ◌+◌, ◌≤◌, false, ◌&&◌, ◌||◌, ◌==◌, List, [], ◌∷◌, ◌++◌, length, map, None, option_and_then, append_assoc, inl, inr, refl, sym, ap, subst, ◌∙◌, arith}
-use Rattle.std.specs.Prelude.{nat_lt}
-use Rattle.std.specs.List.{last_or}
-use Rattle.std.proofs.lemmas.Bool.{and_right, le-ltb, or_from}
-use Rattle.std.proofs.lemmas.List.{length-append}
-use Rattle.net_plan.specs.declared.ids.DeviceId.{DeviceId}
-use Rattle.net_plan.specs.declared.ids.LinkId.{LinkId}
-use Rattle.net_plan.specs.declared.ids.VlId.{VlId}
-use Rattle.run_law.proofs.runs.Places.{in_left, in_parts, in_right, parted}
+use Rattle.world_steps.proofs.Words.{◌&&◌, ◌++◌, ◌+◌, ◌==◌, ◌||◌, ◌∙◌, ◌∷◌, ◌≡◌, ◌≤◌, Arrival, DeviceId, Happening, IsAllOfIt, IsCaused, IsIn, IsMoving, LinkId}
+use Rattle.world_steps.proofs.Words.{List, None, NoneBefore, NoteBody, OnWire, Scenario, Signal, Standpoint, VlId, [], amount, and_right, ap, append_assoc}
+use Rattle.world_steps.proofs.Words.{arith, arrival_body, arrival_of, bump, bump_behind, comes_before, control, false, in_left, in_parts, in_right, inl, inr}
+use Rattle.world_steps.proofs.Words.{is_taken_before, last_or, last_taken, le-ltb, length, length-append, map, members_in, nat_lt, option_and_then, parted}
+use Rattle.world_steps.proofs.Words.{place_of, put_list, raised, rank, refl, standpoint, subst, sym, taken_cycle, time_of, timed, timed_arrival, ℕ}
+use Rattle.std.proofs.lemmas.Bool.{or_from}
 use Rattle.run_law.proofs.runs.SameSteps.{same_arrival}
-use Rattle.run_law.specs.control.Wires.{Signal, control, timed}
-use Rattle.run_law.specs.declared.note.NoteBody.TheVariants as kinds
-use Rattle.run_law.specs.declared.note.NoteBody.{NoteBody}
-use Rattle.run_law.specs.declared.steps.Arrival.TheVariants as arrivals
-use Rattle.run_law.specs.declared.steps.Arrival.{Arrival}
-use Rattle.run_law.specs.device.Standpoints.{Standpoint, standpoint}
-use Rattle.run_law.specs.records.Happenings.{Happening, time_of}
-use Rattle.run_law.specs.records.Order.{IsIn, NoneBefore}
-use Rattle.run_law.specs.records.Ranks.{members_in, place_of, rank}
-use Rattle.run_law.specs.runs.DueRecords.{IsCaused}
-use Rattle.run_law.specs.scenario.Scenarios.{Scenario}
-use Rattle.run_law.specs.timed.Arrivals.{timed_arrival}
-use Rattle.run_law.specs.timed.Receptions.{arrival_of, comes_before, is_taken_before, last_taken, taken_cycle}
-use Rattle.tte_units.specs.Amount.{amount}
-use Rattle.world_steps.proofs.hearing.Known.{state_known}
-use Rattle.world_steps.proofs.hearing.Putting.{IsReceiving, least_rank}
-use Rattle.world_steps.proofs.hearing.Ranked.{control_still, rank_is, standpoint_still}
-use Rattle.world_steps.proofs.hearing.Receptions.{arrives_now, comes_as, outcome_at, placed_at}
-use Rattle.world_law.proofs.putting.Bumped.{bump_behind, raised, up_low}
-use Rattle.world_law.proofs.putting.Idle.{bump, bumped_in, drop_one, in_bumped, plains_put}
-use Rattle.world_law.proofs.putting.Moving.{IsAllOfIt, IsMoving}
-use Rattle.world_law.proofs.putting.PutIn.{split_bumped, split_two}
-use Rattle.world_law.proofs.putting.Putting.{put_list}
+use Rattle.world_law.proofs.putting.{Bumped.up_low, Idle.{bumped_in, drop_one, in_bumped, plains_put}, PutIn.{split_bumped, split_two}}
 use Rattle.world_law.proofs.putting.Renumbers.{last_taken_plain, timed_by}
-use Rattle.world_law.specs.world.Outcomes.{arrival_body}
-use Rattle.world_law.specs.world.World.{OnWire}
+use Rattle.world_steps.proofs.hearing.{Known.state_known, Putting.{IsReceiving, least_rank}, Ranked.{control_still, rank_is, standpoint_still}}
+use Rattle.world_steps.proofs.hearing.Receptions.{arrives_now, comes_as, outcome_at, placed_at}
+use Rattle.run_law.specs.declared.note.NoteBody.TheVariants as kinds
+use Rattle.run_law.specs.declared.steps.Arrival.TheVariants as arrivals
 
 -- ---- the record itself does not count for its own arrival
 

@@ -1,22 +1,12 @@
 -- What a device took last, by its node and by the records.
-use Rattle.std.proofs.Common.{◌≡◌, ◌⊎◌, ℕ, ℤ, ◌<◌, Bool, true, false, ◌&&◌, ◌||◌, ◌==◌, if◌then◌else◌, List, [], ◌∷◌, filter, Option, Some, None, option_map, option_and_then, inl, inr, refl, sym, ap, ◌∙◌}
-use Rattle.std.specs.Prelude.{nat_lt}
-use Rattle.std.specs.List.{last_or}
-use Rattle.std.proofs.lemmas.Bool.{eq-eqb, eqb-true, lt-ltb, or_left, or_right}
-use Rattle.std.proofs.lemmas.List.Elements.{filter-append}
-use Rattle.net_plan.specs.declared.ids.DeviceId.{DeviceId}
-use Rattle.net_plan.specs.declared.ids.LinkId.{LinkId}
-use Rattle.net_plan.specs.declared.ids.VlId.{VlId}
+use Rattle.world_steps.proofs.Words.{if◌then◌else◌, ◌&&◌, ◌<◌, ◌==◌, ◌||◌, ◌∙◌, ◌∷◌, ◌≡◌, ◌⊎◌, Bool, DeviceId, Happening, IsIn, LinkId, List, Node, None}
+use Rattle.world_steps.proofs.Words.{NoteBody, Option, Scenario, Some, TakenFrame, VlId, [], ap, comes_before, eq-eqb, eqb-true, false, filter, filter-append}
+use Rattle.world_steps.proofs.Words.{frames_taken, inl, inr, is_taken_before, last_or, last_taken, last_taken_by, lt-ltb, nat_lt, option_and_then, option_map}
+use Rattle.world_steps.proofs.Words.{or_left, refl, sym, taken_cycle, taken_in, time_of, true, ℕ, ℤ}
+use Rattle.std.proofs.lemmas.Bool.{or_right}
+use Rattle.tte_lemmas.proofs.{Lists.{last_if, last_more}, Naturals.flips}
+use Rattle.world_law.specs.device.Takings.{taken_by}
 use Rattle.run_law.specs.declared.note.NoteBody.TheVariants as notes
-use Rattle.run_law.specs.declared.note.NoteBody.{NoteBody}
-use Rattle.run_law.specs.machines.Nodes.{Node, TakenFrame, last_taken_by}
-use Rattle.run_law.specs.records.Happenings.{Happening, time_of}
-use Rattle.run_law.specs.records.Order.{IsIn}
-use Rattle.run_law.specs.scenario.Scenarios.{Scenario}
-use Rattle.run_law.specs.timed.Receptions.{comes_before, is_taken_before, last_taken, taken_cycle}
-use Rattle.tte_lemmas.proofs.Lists.{last_if, last_more}
-use Rattle.tte_lemmas.proofs.Naturals.{flips}
-use Rattle.world_law.specs.device.Takings.{frames_taken, taken_by, taken_in}
 
 -- did the device take a frame of the virtual link by the record?
 abbrev pub is_taking : DeviceId → VlId → NoteBody → Bool

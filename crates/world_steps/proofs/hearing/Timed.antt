@@ -1,44 +1,15 @@
 -- A time-triggered frame that arrives is judged by what its device took before.
-use Rattle.std.proofs.Common.{◌≡◌, ◌⊎◌, ℕ, ◌+◌, ◌≤◌, ◌<◌, Bool, true, false, ◌&&◌, ◌||◌, ◌==◌, if◌then◌else◌, List, [], ◌∷◌, ◌++◌, filter, None, option_and_then, append_assoc, inl, inr, refl, sym, ap, subst, ◌∙◌, arith}
-use Rattle.std.specs.Prelude.{nat_lt}
-use Rattle.std.specs.List.{last_or}
-use Rattle.std.proofs.lemmas.Bool.{cases_Bool, cases_lt, eqb-true}
-use Rattle.std.proofs.lemmas.List.{append-nil}
-use Rattle.std.proofs.lemmas.List.Elements.{filter-append}
-use Rattle.net_plan.specs.declared.ids.DeviceId.{DeviceId}
-use Rattle.net_plan.specs.declared.ids.LinkId.{LinkId}
-use Rattle.net_plan.specs.declared.ids.VlId.{VlId}
-use Rattle.net_plan.specs.declared.network.Network.{Network}
-use Rattle.run_law.proofs.runs.Places.{before_later, chain, earlier_time, in_left, in_parts, in_right, parted}
-use Rattle.run_law.specs.control.Wires.{Signal, control, timed}
+use Rattle.world_steps.proofs.Words.{if◌then◌else◌, ◌&&◌, ◌++◌, ◌+◌, ◌<◌, ◌==◌, ◌||◌, ◌∙◌, ◌∷◌, ◌≡◌, ◌≤◌, ◌⊎◌, AllBefore, Bool, DeviceId, Happening, IsBefore}
+use Rattle.world_steps.proofs.Words.{IsCaused, IsIn, IsKept, IsLeft, IsMoving, IsNoTaking, IsOwnSource, LinkId, List, Network, Node, None, NoneBefore, NoteBody}
+use Rattle.world_steps.proofs.Words.{OnWire, Scenario, Signal, Standpoint, VlId, [], ap, append-nil, append_assoc, arith, arrival_at, arrival_of, before_later}
+use Rattle.world_steps.proofs.Words.{cases_Bool, cases_lt, chain, comes_before, control, eqb-true, false, filter, filter-append, in_left, in_parts, in_right}
+use Rattle.world_steps.proofs.Words.{inl, inr, is_end, is_taken_before, key, last_or, last_taken, last_taken_by, members_in, moment_of, nat_lt, option_and_then}
+use Rattle.world_steps.proofs.Words.{parted, place_of, rank, refl, second, standpoint, subst, sym, taken_cycle, time_of, timed, timed_arrival, true, ℕ}
+use Rattle.run_law.proofs.runs.Places.{earlier_time}
+use Rattle.world_law.proofs.{putting.{NearPut.filter_none, Renumbers.timed_by}, rows.Entered.delivered_end}
+use Rattle.world_steps.proofs.hearing.{Called.not_yet_acted, Judging.{control_judged, same_standpoint}, Putting.{IsHeardAs, least_rank}}
+use Rattle.world_steps.proofs.hearing.{Ranked.{control_still, standpoint_still}, Takings.{IsBefore2, IsSooner, taken_last, taking_is}}
 use Rattle.run_law.specs.declared.note.NoteBody.TheVariants as notes
-use Rattle.run_law.specs.declared.note.NoteBody.{NoteBody}
-use Rattle.run_law.specs.device.Standpoints.{Standpoint, standpoint}
-use Rattle.run_law.specs.machines.Answers.{arrival_at}
-use Rattle.run_law.specs.machines.Nodes.{Node, last_taken_by}
-use Rattle.run_law.specs.records.Happenings.{Happening, time_of}
-use Rattle.run_law.specs.records.Order.{AllBefore, IsBefore, IsIn, NoneBefore}
-use Rattle.run_law.specs.records.Ranks.{key, members_in, place_of, rank}
-use Rattle.run_law.specs.runs.DueRecords.{IsCaused}
-use Rattle.run_law.specs.scenario.Devices.{is_end}
-use Rattle.run_law.specs.scenario.Scenarios.{Scenario}
-use Rattle.run_law.specs.timed.Arrivals.{timed_arrival}
-use Rattle.run_law.specs.timed.Receptions.{arrival_of, comes_before, is_taken_before, last_taken, taken_cycle}
-use Rattle.world_law.proofs.giving.GivenParts.{second}
-use Rattle.world_steps.proofs.hearing.Judging.{control_judged, same_standpoint}
-use Rattle.world_steps.proofs.hearing.Called.{not_yet_acted}
-use Rattle.world_steps.proofs.hearing.Putting.{IsHeardAs, least_rank}
-use Rattle.world_steps.proofs.hearing.Ranked.{control_still, standpoint_still}
-use Rattle.world_steps.proofs.hearing.Takings.{IsBefore2, IsSooner, taken_last, taking_is}
-use Rattle.world_law.proofs.putting.Moving.{IsMoving}
-use Rattle.world_law.proofs.putting.NearPut.{filter_none}
-use Rattle.world_law.proofs.putting.Renumbers.{timed_by}
-use Rattle.world_law.proofs.rows.Entered.{delivered_end}
-use Rattle.world_law.proofs.rows.Takings.{IsNoTaking}
-use Rattle.world_law.specs.device.Left.{IsLeft}
-use Rattle.world_law.specs.source.Sources.{IsOwnSource}
-use Rattle.world_law.specs.world.Calls.{moment_of}
-use Rattle.world_law.specs.world.World.{IsKept, OnWire}
 
 -- ---- what the device took comes before the arrival
 

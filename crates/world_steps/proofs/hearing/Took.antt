@@ -1,25 +1,12 @@
 -- A device that took a frame has the tasks that it had, and such as are for later readings.
-use Rattle.std.proofs.Common.{◌≡◌, ◌⊎◌, ℕ, ℤ, pos, ◌+ℤ◌, ◌<ℤ◌, ◌≤ℤ◌, Bool, true, false, ◌==◌, if◌then◌else◌, List, [], ◌∷◌, ◌++◌, filter, Option, Some, None, IsSomeAnd, inl, inr, refl, sym, ap, subst, ◌∙◌, arith}
-use Rattle.std.specs.List.{last_or}
-use Rattle.std.proofs.lemmas.Bool.{cases_Bool}
-use Rattle.std.proofs.lemmas.Int.{ints}
-use Rattle.std.proofs.lemmas.List.Elements.{filter-append}
-use Rattle.net_plan.specs.declared.ids.DeviceId.{DeviceId}
-use Rattle.net_plan.specs.declared.ids.VlId.{VlId}
-use Rattle.net_plan.specs.declared.network.Network.{Network}
-use Rattle.run_law.specs.declared.steps.Moment.{Moment}
-use Rattle.run_law.specs.machines.Answers.{called, with_taken}
-use Rattle.run_law.specs.machines.Nodes.{ClockTask, Node, TakenFrame, arriving, correcting, dispatching, last_taken_frame, local_at, sending}
-use Rattle.run_law.specs.machines.Tasks.{IsDeedOf, IsPending, IsUndone, IsWaiting, Task, doing, emitting, reading_for, value_of}
-use Rattle.run_law.specs.records.Happenings.{Happening}
-use Rattle.run_law.specs.scenario.Scenarios.{Scenario}
-use Rattle.tte_lemmas.proofs.Integers.{ahead_yet}
-use Rattle.tte_lemmas.proofs.Lists.{last_kept, last_pushed}
-use Rattle.tte_units.specs.Amount.{amount}
-use Rattle.world_law.specs.device.Ready.{IsReadyAt, IsSteady}
-use Rattle.world_law.specs.device.Deeds.{HasDoneFrom, HasSentFrom}
-use Rattle.world_law.specs.device.Left.{IsLeft}
-use Rattle.world_law.specs.world.Calls.{moment_of}
+use Rattle.world_steps.proofs.Words.{if◌then◌else◌, ◌++◌, ◌+ℤ◌, ◌<ℤ◌, ◌==◌, ◌∙◌, ◌∷◌, ◌≡◌, ◌≤ℤ◌, ◌⊎◌, Bool, ClockTask, DeviceId, Happening, HasDoneFrom}
+use Rattle.world_steps.proofs.Words.{HasSentFrom, IsDeedOf, IsLeft, IsPending, IsReadyAt, IsSteady, IsUndone, IsWaiting, List, Moment, Network, Node, None}
+use Rattle.world_steps.proofs.Words.{Option, Scenario, Some, TakenFrame, Task, VlId, [], amount, ap, arith, arriving, called, cases_Bool, correcting}
+use Rattle.world_steps.proofs.Words.{dispatching, doing, emitting, false, filter, filter-append, inl, inr, ints, last_or, moment_of, pos, reading_for, refl}
+use Rattle.world_steps.proofs.Words.{sending, subst, sym, true, value_of, ℕ, ℤ}
+use Rattle.std.proofs.Common.{IsSomeAnd}
+use Rattle.run_law.specs.machines.{Answers.with_taken, Nodes.{last_taken_frame, local_at}}
+use Rattle.tte_lemmas.proofs.{Integers.ahead_yet, Lists.{last_kept, last_pushed}}
 
 -- the device that took a frame by the call
 abbrev pub took : Moment → VlId → ℕ → Node → Node
@@ -38,7 +25,8 @@ last_took node moment vl own cycle b e =
     by : (b : Bool) → last_or None (filter (λ (taking : TakenFrame). taking.vl.0 == own.0) node.taken
         ++ (if b then record { vl = vl; cycle = cycle; at = local_at node moment } ∷ [] else []))
         ≡ (if b then Some (record { vl = vl; cycle = cycle; at = local_at node moment }) else last_taken_frame node own)
-    by true = last_pushed None (filter (λ (taking : TakenFrame). taking.vl.0 == own.0) node.taken) (record { vl = vl; cycle = cycle; at = local_at node moment })
+    by true = last_pushed None (filter (λ (taking : TakenFrame). taking.vl.0 == own.0) node.taken)
+        (record { vl = vl; cycle = cycle; at = local_at node moment })
     by false = last_kept None (filter (λ (taking : TakenFrame). taking.vl.0 == own.0) node.taken)
 
 -- a deed of it was one before, or is for a later reading

@@ -1,58 +1,25 @@
 -- The machine answers, and its device is kept, whatever becomes of the frame.
-use Rattle.std.proofs.Common.{◌≡◌, ◌⊎◌, ℕ, ◌+◌, ◌≤◌, pos, ◌≤ℤ◌, Bool, true, false, if◌then◌else◌, List, [], ◌∷◌, ◌++◌, length, map, Contains, Some, inl, inr, refl, sym, ap, subst, ◌∙◌, append_assoc, arith}
-use Rattle.std.proofs.lemmas.Bool.{both_ways, cases_Bool, eq-eqb, eqb-true}
-use Rattle.compression.specs.Clusters.{Point}
-use Rattle.compression.specs.declared.compressed.Compressed.{Compressed}
-use Rattle.net_plan.specs.declared.ids.DeviceId.{DeviceId}
-use Rattle.net_plan.specs.declared.network.Network.{Network}
-use Rattle.run_law.proofs.device.States.{joined_or}
-use Rattle.run_law.proofs.runs.Places.{in_left, in_parts, in_right, parted}
-use Rattle.run_law.specs.control.Permanence.{ripe_as}
+use Rattle.world_steps.proofs.Words.{if◌then◌else◌, ◌++◌, ◌+◌, ◌∙◌, ◌∷◌, ◌≡◌, ◌≤ℤ◌, ◌≤◌, ◌⊎◌, AllBefore, AsState, Bool, Compressed, DeviceId, Happening}
+use Rattle.world_steps.proofs.Words.{HasSentFrom, HasTurnedOn, IsBefore, IsIn, IsKept, IsLeft, IsNoTaking, IsOfMaster, IsParentOf, IsPermanenceOutcomeAt}
+use Rattle.world_steps.proofs.Words.{Joining, Judgement, List, MayCall, Network, Node, NoneBefore, NoteBody, Point, Reason, Ripe, Scenario, Some, State}
+use Rattle.world_steps.proofs.Words.{Waiting, [], after_permanence, all_up_to, ap, append_assoc, arith, before_it, behind, both_ways, bump_behind, called}
+use Rattle.world_steps.proofs.Words.{cases_Bool, channel_of_link, earlier, eq-eqb, eqb-true, false, frames_taken, has_joined_at, in_left, in_parts, in_right}
+use Rattle.world_steps.proofs.Words.{inl, inr, is_broken, is_cm, is_off, key, length, map, members_in, moment_of, next_is_up_to, no_higher, no_later_breaks}
+use Rattle.world_steps.proofs.Words.{parted, place_of, placed, pos, put_at, raised, rank, refl, ripe_as, ripening, state_after, state_before, state_with, subst}
+use Rattle.world_steps.proofs.Words.{sym, taken_in, time_of, true, turned_aside, ℕ}
+use Rattle.std.proofs.Common.{Contains}
+use Rattle.run_law.{proofs.device.States.joined_or, specs.machines.Calls.{IsHearing, MayRipen}}
+use Rattle.world_law.proofs.{frames.Proper.{link_of, received}, putting.Bumped.{in_placed, raised_low, raised_rank}}
+use Rattle.world_steps.proofs.{hearing.Quiet.frames_placed, ripening.{Awake.{still_on, stirs, was_on}, Called.left_called, Calling.may_call}}
+use Rattle.world_steps.proofs.ripening.{Coming.{IsLateKind, all_late, late_mere, state_cause}, Grown.IsByRole, Joined.{IsJoin, kept_joined, was_looking}}
+use Rattle.world_steps.proofs.ripening.{Judged.{Hears, IsKindOf, hears_before, hears_told, outcome_kind}, JustTold.{all_high, ends_in}}
+use Rattle.world_steps.proofs.ripening.{Kept.{IsNoOwnAct, carried_by_role, carried_called, is_yet, kept_next, next_aside, next_by_role}, Merely.IsMere}
+use Rattle.world_steps.proofs.ripening.Ripens.{IsRipe, come_of, emitted_no_later, may_ripen, points_no_later, ripe_more, sooner_of, sound_of}
+use Rattle.world_steps.specs.Ripening.{HasRipened}
 use Rattle.run_law.specs.declared.judgement.Judgement.TheVariants as judgements
-use Rattle.run_law.specs.declared.judgement.Judgement.{Judgement}
-use Rattle.run_law.specs.declared.judgement.Reason.{Reason}
 use Rattle.run_law.specs.declared.judgement.Why.TheVariants as whys
 use Rattle.run_law.specs.declared.note.NoteBody.TheVariants as kinds
-use Rattle.run_law.specs.declared.note.NoteBody.{NoteBody}
 use Rattle.run_law.specs.declared.steps.Ripe.TheVariants as ripe
-use Rattle.run_law.specs.declared.steps.Ripe.{Ripe}
-use Rattle.run_law.specs.device.States.{has_joined_at, is_off, state_after, state_before, state_with}
-use Rattle.run_law.specs.machines.Answers.{IsPermanenceOutcomeAt, after_permanence, called}
-use Rattle.run_law.specs.machines.Calls.{IsHearing, IsOfMaster, MayCall, MayRipen}
-use Rattle.run_law.specs.machines.Nodes.{Node, ripening}
-use Rattle.run_law.specs.records.Happenings.{Happening, earlier, time_of}
-use Rattle.run_law.specs.records.Order.{AllBefore, IsBefore, IsIn, NoneBefore, behind}
-use Rattle.run_law.specs.records.Ranks.{key, members_in, place_of, rank}
-use Rattle.run_law.specs.scenario.Devices.{IsParentOf, channel_of_link, is_cm}
-use Rattle.run_law.specs.scenario.Scenarios.{Scenario, is_broken}
-use Rattle.sync_state.specs.declared.state.State.TheVariants.{Joining}
-use Rattle.sync_state.specs.declared.state.State.{State}
-use Rattle.world_law.proofs.devices.TurnedOn.{all_up_to, next_is_up_to}
-use Rattle.world_law.proofs.giving.Given.{no_later_breaks}
-use Rattle.world_steps.proofs.hearing.Quiet.{frames_placed}
-use Rattle.world_law.proofs.putting.Bearing.{turned_aside}
-use Rattle.world_law.proofs.putting.Bumped.{AsState, bump_behind, in_placed, placed, raised, raised_low, raised_rank}
-use Rattle.world_law.proofs.putting.Placing.{before_it, put_at}
-use Rattle.world_steps.proofs.ripening.Awake.{still_on, stirs, was_on}
-use Rattle.world_steps.proofs.ripening.Called.{left_called}
-use Rattle.world_steps.proofs.ripening.Calling.{may_call}
-use Rattle.world_steps.proofs.ripening.Coming.{IsLateKind, all_late, late_mere, state_cause}
-use Rattle.world_steps.proofs.ripening.Grown.{IsByRole}
-use Rattle.world_steps.proofs.ripening.Joined.{IsJoin, kept_joined, was_looking}
-use Rattle.world_steps.proofs.ripening.Judged.{Hears, IsKindOf, hears_before, hears_told, outcome_kind}
-use Rattle.world_steps.proofs.ripening.JustTold.{all_high, ends_in}
-use Rattle.world_steps.proofs.ripening.Kept.{IsNoOwnAct, carried_by_role, carried_called, is_yet, kept_next, next_aside, next_by_role}
-use Rattle.world_steps.proofs.ripening.Merely.{IsMere}
-use Rattle.world_law.proofs.frames.Proper.{link_of, received}
-use Rattle.world_steps.proofs.ripening.Ripens.{sooner_of, IsRipe, come_of, emitted_no_later, may_ripen, points_no_later, ripe_more, sound_of}
-use Rattle.world_law.proofs.rows.Takings.{IsNoTaking}
-use Rattle.world_law.proofs.runs.SourcesBack.{no_higher}
-use Rattle.world_law.specs.device.Deeds.{HasSentFrom}
-use Rattle.world_law.specs.device.Left.{IsLeft}
-use Rattle.world_law.specs.device.Takings.{frames_taken, taken_in}
-use Rattle.world_law.specs.world.Calls.{moment_of}
-use Rattle.world_steps.specs.Ripening.{HasRipened}
-use Rattle.world_law.specs.world.World.{HasTurnedOn, IsKept, Waiting}
 
 -- ---- the machine answers
 

@@ -1,19 +1,8 @@
 -- The machine of the device at which a frame is permanent may be asked what becomes of it.
-use Rattle.std.proofs.Common.{◌≡◌, ℕ, ◌<◌, pos, ◌≤ℤ◌, List, length, Some, slice_get, inl, inr}
-use Rattle.std.proofs.lemmas.Bool.{both_ways}
-use Rattle.net_plan.specs.declared.ids.DeviceId.{DeviceId}
-use Rattle.net_plan.specs.declared.network.Network.{Network}
-use Rattle.run_law.proofs.law.FirstPlaces.{numbered_in}
-use Rattle.run_law.specs.declared.note.Note.{Note}
-use Rattle.run_law.specs.machines.Nodes.{Node}
-use Rattle.run_law.specs.records.Happenings.{happenings}
-use Rattle.run_law.specs.records.Order.{IsIn}
-use Rattle.run_law.specs.scenario.Scenarios.{Scenario, is_broken}
-use Rattle.world_steps.proofs.ripening.Answered.{IsAsked, may_be_asked}
+use Rattle.world_steps.proofs.Words.{◌<◌, ◌≡◌, ◌≤ℤ◌, ComesFirst, DeviceId, IsIn, List, Network, Node, Note, Scenario, Some, Stands, Waiting, World, both_ways}
+use Rattle.world_steps.proofs.Words.{happenings, inl, inr, is_broken, length, numbered_in, pos, ripe_place, slice_get, ℕ}
 use Rattle.world_law.proofs.frames.Masters.{of_master}
-use Rattle.world_steps.proofs.ripening.RipenedSteps.{in_network, ripening_first}
-use Rattle.world_law.specs.world.Moves.{ComesFirst}
-use Rattle.world_law.specs.world.World.{Stands, Waiting, World, ripe_place}
+use Rattle.world_steps.proofs.ripening.{Answered.{IsAsked, may_be_asked}, RipenedSteps.{in_network, ripening_first}}
 
 -- the machine stands for its device, and may be asked
 pub record MayAsk {C M : Type 0} (stands : M → Network → DeviceId → Node → Type 0) (s : Scenario) (world : World C M) (notes : List Note)

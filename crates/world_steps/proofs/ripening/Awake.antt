@@ -1,32 +1,14 @@
 -- A device that took part once is on from then on.
-use Rattle.std.proofs.Common.{◌≡◌, ◌⊎◌, ℕ, ◌+◌, ◌≤◌, ◌<◌, Bool, true, false, ◌&&◌, ◌==◌, if◌then◌else◌, List, [], ◌∷◌, length, fold, inl, inr, refl, sym, ap, subst, ◌∙◌, arith}
-use Rattle.std.proofs.lemmas.Bool.{both_ways, cases_Bool, cases_lt, eq-eqb, eqb-true, and_parts}
-use Rattle.net_plan.specs.declared.event.What.{What}
-use Rattle.net_plan.specs.declared.ids.DeviceId.{DeviceId}
-use Rattle.run_law.proofs.law.FirstPlaces.{by_number, due_is_there, front_founded, in_front_of, split}
-use Rattle.run_law.proofs.records.Happenings.{from_earlier, is_earlier}
-use Rattle.run_law.proofs.records.Order.{any_in}
+use Rattle.world_steps.proofs.Words.{if◌then◌else◌, ◌&&◌, ◌+◌, ◌<◌, ◌==◌, ◌∙◌, ◌∷◌, ◌≡◌, ◌≤◌, ◌⊎◌, Bool, ChangesState, DeviceId, Happening, HaveBefallen}
+use Rattle.world_steps.proofs.Words.{Integrating, IsBefore, IsCaused, IsDue, IsFounded, IsIn, IsRun, Joining, List, Note, NoteBody, Scenario, State, Units}
+use Rattle.world_steps.proofs.Words.{What, Why, [], amount, and_parts, any_in, ap, arith, both_ways, by_number, cases_Bool, cases_lt, earlier, eq-eqb, eqb-true}
+use Rattle.world_steps.proofs.Words.{false, fold, happening, inl, inr, is_broken, is_joined_by, is_off, is_turned_on_at, length, not_turned_on, place_of, refl}
+use Rattle.world_steps.proofs.Words.{state_after, state_before, state_with, subst, sym, time_of, true, turns_on, ℕ}
+use Rattle.run_law.proofs.{law.FirstPlaces.{due_is_there, front_founded, in_front_of, split}, records.Happenings.{from_earlier, is_earlier}}
 use Rattle.run_law.proofs.scenario.Devices.{on_by}
-use Rattle.run_law.specs.declared.judgement.Why.{Why}
-use Rattle.run_law.specs.declared.judgement.Why.TheVariants as whys
-use Rattle.run_law.specs.declared.note.Note.{Note}
-use Rattle.run_law.specs.declared.note.NoteBody.{NoteBody}
-use Rattle.run_law.specs.declared.note.NoteBody.TheVariants as kinds
-use Rattle.run_law.specs.device.StateChanges.{ChangesState}
-use Rattle.run_law.specs.device.States.{is_joined_by, is_off, state_after, state_before, state_with}
-use Rattle.run_law.specs.records.Happenings.{Happening, earlier, happening, time_of}
-use Rattle.run_law.specs.records.Order.{IsBefore, IsIn}
-use Rattle.run_law.specs.records.Ranks.{place_of}
-use Rattle.run_law.specs.runs.DueRecords.{IsCaused, IsDue}
-use Rattle.run_law.specs.runs.Runs.{IsFounded, IsRun}
-use Rattle.run_law.specs.scenario.Scenarios.{Scenario, is_broken, is_turned_on_at, turns_on}
-use Rattle.sync_state.specs.declared.state.State.{State}
-use Rattle.sync_state.specs.declared.state.State.TheVariants.{Integrating, Joining}
-use Rattle.tte_units.specs.Amount.{amount}
-use Rattle.tte_units.specs.declared.units.Units.{Units}
-use Rattle.world_law.proofs.devices.Passes.{not_turned_on}
 use Rattle.world_law.proofs.giving.Given.{in_get}
-use Rattle.world_law.specs.world.World.{HaveBefallen}
+use Rattle.run_law.specs.declared.judgement.Why.TheVariants as whys
+use Rattle.run_law.specs.declared.note.NoteBody.TheVariants as kinds
 
 -- ---- no record turns a device off
 

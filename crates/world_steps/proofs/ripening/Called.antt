@@ -1,12 +1,5 @@
 -- A device that is called stands as the records leave it, as it stood before.
-use Rattle.std.proofs.Common.{ℕ, List}
-use Rattle.net_plan.specs.declared.ids.DeviceId.{DeviceId}
-use Rattle.run_law.specs.machines.Answers.{called}
-use Rattle.run_law.specs.machines.Nodes.{Node, Phase}
-use Rattle.run_law.specs.records.Happenings.{Happening}
-use Rattle.run_law.specs.scenario.Scenarios.{Scenario}
-use Rattle.run_law.specs.declared.steps.Moment.{Moment}
-use Rattle.world_law.specs.device.Left.{IsLeft}
+use Rattle.world_steps.proofs.Words.{DeviceId, Happening, IsLeft, List, Moment, Node, Phase, Scenario, called, ℕ}
 
 -- only its last call is another
 pub left_called : (s : Scenario) (hs : List Happening) (device : DeviceId) (t : ℕ) (node : Node) (moment : Moment) (phase : Phase) → IsLeft s hs device t node

@@ -1,20 +1,8 @@
 -- A device that a world keeps may be called, as its source comes.
-use Rattle.std.proofs.Common.{◌≡◌, ℕ, ◌^◌, ◌≤◌, ◌<◌, ℤ, pos, ◌<ℤ◌, List, ◌∷◌, inl, inr, refl, sym, ap, subst, arith}
-use Rattle.std.proofs.lemmas.Bool.{cases_lt}
-use Rattle.std.proofs.lemmas.Int.{ints}
-use Rattle.net_plan.specs.declared.ids.DeviceId.{DeviceId}
-use Rattle.net_plan.specs.declared.network.Network.{Network}
-use Rattle.run_law.specs.machines.Calls.{MayCall, order_of_phase}
-use Rattle.run_law.specs.records.Happenings.{Happening}
-use Rattle.run_law.specs.machines.Nodes.{Node, Phase}
-use Rattle.run_law.specs.records.Order.{IsBefore}
-use Rattle.run_law.specs.scenario.Scenarios.{Scenario}
-use Rattle.run_law.specs.machines.Tasks.{reading_for}
-use Rattle.tte_lemmas.proofs.Integers.{whole}
-use Rattle.tte_units.specs.Amount.{amount}
-use Rattle.world_law.specs.device.Ready.{IsSteady}
-use Rattle.world_law.specs.world.Calls.{moment_of}
-use Rattle.world_law.specs.world.World.{IsKept, rank_of_call}
+use Rattle.world_steps.proofs.Words.{◌<ℤ◌, ◌<◌, ◌^◌, ◌∷◌, ◌≡◌, ◌≤◌, DeviceId, Happening, IsBefore, IsKept, IsSteady, List, MayCall, Network, Node, Phase}
+use Rattle.world_steps.proofs.Words.{Scenario, amount, ap, arith, cases_lt, inl, inr, ints, moment_of, pos, rank_of_call, reading_for, refl, subst, sym, whole}
+use Rattle.world_steps.proofs.Words.{ℕ, ℤ}
+use Rattle.run_law.specs.machines.Calls.{order_of_phase}
 use Rattle.world_steps.proofs.hearing.Calling.{ranked_so}
 
 pub may_call : {M : Type 0} (stands : M → Network → DeviceId → Node → Type 0) (s : Scenario) (hs coming : List Happening) (cursor : List ℕ) (now : ℕ)

@@ -1,22 +1,14 @@
 -- A further point brings no emission that is before it.
-use Rattle.std.proofs.Common.{◌≡◌, ◌⊎◌, inl, inr, ℕ, zero, suc, ◌≤◌, ℤ, pos, ◌+ℤ◌, ◌-ℤ◌, ◌*ℤ◌, ◌≤ℤ◌, ◌<ℤ◌, List, [], ◌∷◌, ◌++◌, length, map, filter, refl, sym, ap, subst, ◌∙◌, arith}
-use Rattle.std.specs.Prelude.{Contains, int_le, int_lt, Bool, true, false, ◌&&◌, ◌==◌, if◌then◌else◌}
-use Rattle.std.specs.List.{AllByRecursion}
-use Rattle.std.proofs.lemmas.Int.{ints}
-use Rattle.std.proofs.lemmas.Bool.{cases_Bool, le-leb}
-use Rattle.std.proofs.lemmas.List.Elements.{filter-append}
-use Rattle.std.proofs.lemmas.List.Sums.{fold-append}
-use Rattle.std.proofs.lemmas.List.{length-append}
-use Rattle.compression.proofs.Elements.{all-filter, in_cases, in_filter, in_none, length-beyond}
-use Rattle.compression.proofs.Firsts.{counts}
+use Rattle.world_steps.proofs.Words.{if◌then◌else◌, ◌&&◌, ◌++◌, ◌+ℤ◌, ◌-ℤ◌, ◌<ℤ◌, ◌==◌, ◌∙◌, ◌∷◌, ◌≡◌, ◌≤ℤ◌, ◌≤◌, ◌⊎◌, AllByRecursion, AreClusters, Bool, List}
+use Rattle.world_steps.proofs.Words.{Point, [], ap, arith, cases_int, false, filter, filter-append, fold-append, inl, inr, int_le, int_lt, ints, length}
+use Rattle.world_steps.proofs.Words.{length-append, map, pos, refl, subst, suc, sym, true, zero, ℕ, ℤ}
+use Rattle.std.{proofs.Common.◌*ℤ◌, specs.Prelude.Contains}
+use Rattle.compression.proofs.{Elements.{all-filter, in_cases, in_filter, in_none, length-beyond}, Firsts.counts}
 use Rattle.compression.proofs.Growth.{cluster_of-beyond, counted, end_of-least, end_of-most, end_of-one, end_of-two, window_end}
 use Rattle.compression.proofs.Held.{beyond-push_out, held-start, int_lt-false}
-use Rattle.compression.specs.Clusters.{AreClusters, Cluster, Point, beyond, cluster_of, end_of, firsts, of_cycle_within, with_first}
-use Rattle.compression.specs.Emission.{emission}
+use Rattle.compression.specs.{Clusters.{Cluster, beyond, cluster_of, end_of, firsts, of_cycle_within, with_first}, Emission.emission}
 use Rattle.compression.specs.Middle.{last_but_one, middle_of, relative}
-use Rattle.tte_units.proofs.Means.{mean_of-floor}
-use Rattle.tte_units.specs.Mean.{IsMean}
-use Rattle.world_law.proofs.lists.Orders.{cases_int}
+use Rattle.tte_units.{proofs.Means.mean_of-floor, specs.Mean.IsMean}
 
 -- ---- middles are not before the first point
 

@@ -1,28 +1,12 @@
 -- What is to come where the first frame that waits is permanent.
-use Rattle.std.proofs.Common.{◌≡◌, ◌⊎◌, ℕ, ◌+◌, ◌≤◌, ◌<◌, Bool, true, false, List, [], ◌∷◌, ◌++◌, Some, inl, inr, refl, sym, ap, subst, ◌∙◌, arith}
-use Rattle.net_plan.specs.declared.ids.DeviceId.{DeviceId}
-use Rattle.run_law.proofs.law.FirstPlaces.{numbered_in, numbered_within}
-use Rattle.run_law.proofs.runs.Places.{before_later, in_left, parted}
-use Rattle.run_law.specs.control.Collections.{ends_stretch}
-use Rattle.run_law.specs.declared.judgement.Why.{Why}
-use Rattle.run_law.specs.declared.judgement.Why.TheVariants as whys
-use Rattle.run_law.specs.declared.note.NoteBody.{NoteBody}
-use Rattle.run_law.specs.declared.note.NoteBody.TheVariants as kinds
-use Rattle.run_law.specs.device.StateChanges.{ChangesState}
-use Rattle.run_law.specs.records.Causes.{IsOfThisTime}
-use Rattle.run_law.specs.records.Happenings.{Happening, time_of}
-use Rattle.run_law.specs.records.Order.{IsBefore, IsIn}
-use Rattle.run_law.specs.records.Ranks.{key, members_in, place_of, rank}
-use Rattle.run_law.specs.runs.DueRecords.{IsCaused}
-use Rattle.run_law.specs.scenario.Scenarios.{Scenario}
-use Rattle.sync_state.specs.declared.state.State.{State}
-use Rattle.tte_units.specs.Amount.{amount}
+use Rattle.world_steps.proofs.Words.{◌++◌, ◌+◌, ◌∙◌, ◌∷◌, ◌≡◌, ◌≤◌, ChangesState, DeviceId, Happening, IsAtRest, IsBefore, IsCaused, IsIn, IsMoving}
+use Rattle.world_steps.proofs.Words.{IsOfThisTime, IsOwnSource, List, NoteBody, Scenario, State, Why, [], amount, ap, arith, before_later, ends_stretch, false}
+use Rattle.world_steps.proofs.Words.{inl, inr, key, members_in, no_higher, numbered_in, numbered_parts, numbered_within, place_of, rank, refl, subst, sym}
+use Rattle.world_steps.proofs.Words.{time_of, true, ℕ}
 use Rattle.world_law.proofs.acts.NoActs.{turning_stretch}
-use Rattle.world_law.proofs.putting.Moving.{IsMoving}
 use Rattle.world_steps.proofs.ripening.Merely.{IsMere, mere_joins}
-use Rattle.world_law.proofs.runs.SourcesBack.{no_higher, numbered_parts}
-use Rattle.world_law.specs.source.Sources.{IsOwnSource}
-use Rattle.world_law.specs.world.World.{IsAtRest}
+use Rattle.run_law.specs.declared.judgement.Why.TheVariants as whys
+use Rattle.run_law.specs.declared.note.NoteBody.TheVariants as kinds
 
 -- no frame is permanent by it, nothing compressed and nothing corrected; a state is that of an event or of a frame
 abbrev pub IsLateKind : NoteBody → Type 0

@@ -1,44 +1,16 @@
 -- A device after a frame that is permanent and tells it no time stands as the records leave it, with that of the frame put in.
-use Rattle.std.proofs.Common.{◌≡◌, IfSome, ℕ, ◌+◌, ◌≤◌, pos, ◌+ℤ◌, Bool, true, false, not, ◌&&◌, ◌||◌, ◌==◌, if◌then◌else◌, List, [], ◌∷◌, ◌++◌, Option, Some, None, filter, filter_map, option_map, option_to_list, refl, sym, ap, subst, ◌∙◌, append_assoc}
-use Rattle.std.specs.Prelude.{nat_lt}
-use Rattle.std.specs.List.{after_last}
-use Rattle.std.specs.Option.{option_map_or}
-use Rattle.std.proofs.lemmas.Bool.{le-ltb}
-use Rattle.std.proofs.lemmas.List.{append-nil}
-use Rattle.std.proofs.lemmas.List.Elements.{filter-append}
-use Rattle.compression.specs.Clusters.{Point, point_at}
-use Rattle.membership.specs.Hearing.{Hearing}
-use Rattle.net_plan.proofs.SameIds.{self}
-use Rattle.net_plan.specs.declared.ids.DeviceId.{DeviceId}
-use Rattle.net_plan.specs.declared.ids.LinkId.{LinkId}
-use Rattle.net_plan.specs.declared.network.Network.{Network}
-use Rattle.pcf_values.specs.declared.channel.Channel.{Channel}
-use Rattle.pcf_values.specs.declared.pcf.Pcf.{Pcf}
-use Rattle.run_law.proofs.records.Order.{after_more, same_kept}
-use Rattle.run_law.specs.device.LocalClocks.{changed_at, changes_adjustment}
-use Rattle.run_law.specs.control.Collections.{ends_stretch, master_of, point_by, points_of}
-use Rattle.run_law.specs.control.Corrections.{has_cleared, heard_by, hearing_by, heard_since, recorded_cycle}
-use Rattle.run_law.specs.scenario.Devices.{channel_of_link, is_cm}
-use Rattle.run_law.specs.records.Happenings.{Happening, earlier, time_of}
-use Rattle.run_law.specs.records.Order.{IsIn}
-use Rattle.run_law.specs.records.Ranks.{members_in}
-use Rattle.run_law.specs.machines.Answers.{after_permanence, called, hearings}
-use Rattle.run_law.specs.machines.Nodes.{Node, Phase}
-use Rattle.run_law.specs.scenario.Scenarios.{Scenario, is_turned_on_at}
-use Rattle.run_law.specs.device.States.{adjustment_before, cycle_in}
-use Rattle.run_law.specs.declared.judgement.Judgement.TheVariants as judgements
-use Rattle.run_law.specs.declared.judgement.Judgement.{Judgement}
-use Rattle.run_law.specs.declared.note.NoteBody.TheVariants as kinds
-use Rattle.run_law.specs.declared.note.NoteBody.{NoteBody}
-use Rattle.run_law.specs.declared.steps.Moment.{Moment}
-use Rattle.run_law.specs.control.Permanence.{ripe_as}
-use Rattle.sync_state.specs.declared.state.State.TheVariants.{Integrating}
-use Rattle.tte_units.specs.declared.units.Units.{Units}
+use Rattle.world_steps.proofs.Words.{if◌then◌else◌, ◌&&◌, ◌++◌, ◌+ℤ◌, ◌+◌, ◌==◌, ◌||◌, ◌∙◌, ◌∷◌, ◌≡◌, ◌≤◌, Bool, Channel, DeviceId, Happening, Hearing, IfSome}
+use Rattle.world_steps.proofs.Words.{Integrating, IsIn, IsLeft, Judgement, LinkId, List, Moment, Network, Node, None, NoteBody, Option, Pcf, Phase, Point}
+use Rattle.world_steps.proofs.Words.{Scenario, Some, Units, [], adjustment_before, after_last, after_more, after_permanence, ap, append-nil, append_assoc}
+use Rattle.world_steps.proofs.Words.{called, changed_at, changes_adjustment, channel_of_link, cycle_in, earlier, ends_stretch, false, filter, filter-append}
+use Rattle.world_steps.proofs.Words.{filter_map, has_cleared, heard_since, hearing_by, is_cm, is_timed, is_turned_on_at, master_of, members_in, moves, nat_lt}
+use Rattle.world_steps.proofs.Words.{not, option_map, option_map_or, option_to_list, point_at, point_by, points_of, pos, recorded_cycle, refl, ripe_as}
+use Rattle.world_steps.proofs.Words.{same_kept, self, since_at, subst, sym, time_of, true, ℕ}
+use Rattle.run_law.specs.{control.Corrections.heard_by, machines.Answers.hearings}
 use Rattle.world_law.proofs.devices.Borne.{cleared_alike, tell_owned}
 use Rattle.world_steps.proofs.ripening.Merely.{IsMere, maps_one, maps_rest, mere_changes, mere_hears, mere_point, own_skip}
-use Rattle.world_law.specs.device.Left.{IsLeft, is_timed}
-use Rattle.world_law.specs.device.Own.{moves}
-use Rattle.world_law.specs.device.Told.{since_at}
+use Rattle.run_law.specs.declared.judgement.Judgement.TheVariants as judgements
+use Rattle.run_law.specs.declared.note.NoteBody.TheVariants as kinds
 
 -- the device hears what the record has, or nothing
 abbrev pub heard_more : Network → DeviceId → Happening → Node → List Hearing

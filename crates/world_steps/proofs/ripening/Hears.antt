@@ -1,23 +1,10 @@
 -- What is heard at a time counts as before it, where no frame has told the device the time at it.
-use Rattle.std.proofs.Common.{◌≡◌, ℕ, ◌≤◌, Bool, true, false, ◌&&◌, ◌||◌, ◌==◌, if◌then◌else◌, List, [], ◌∷◌, MatchBool, inl, inr, sym, ap, subst, ◌∙◌, arith}
-use Rattle.std.specs.Prelude.{nat_lt}
-use Rattle.std.specs.List.{list_any}
-use Rattle.std.proofs.lemmas.Bool.{MatchBool-at_false, cases_Bool, cases_lt, eq-eqb, lt-ltb, or_left, or_parts}
-use Rattle.compression.specs.Clusters.{Point}
-use Rattle.net_plan.specs.declared.ids.DeviceId.{DeviceId}
-use Rattle.net_plan.specs.declared.network.Network.{Network}
-use Rattle.pcf_values.specs.declared.pcf.Pcf.{Pcf}
-use Rattle.run_law.proofs.records.Order.{same_kept}
-use Rattle.run_law.specs.scenario.Devices.{is_cm}
-use Rattle.run_law.specs.records.Happenings.{Happening, time_of}
-use Rattle.run_law.specs.records.Order.{IsIn}
+use Rattle.world_steps.proofs.Words.{if◌then◌else◌, ◌&&◌, ◌==◌, ◌||◌, ◌∙◌, ◌∷◌, ◌≡◌, ◌≤◌, Bool, DeviceId, Happening, IsIn, Joining, List, Network, Pcf, Point}
+use Rattle.world_steps.proofs.Words.{Ripe, Scenario, State, [], adjustment_after, adjustment_at_hearing, adjustment_before, ap, arith, cases_Bool, cases_lt}
+use Rattle.world_steps.proofs.Words.{eq-eqb, false, has_joined_at, inl, inr, is_cm, is_joined_by, list_any, lt-ltb, nat_lt, or_left, or_none, same_kept}
+use Rattle.world_steps.proofs.Words.{state_at_hearing, state_before, subst, sym, time_of, true, ℕ}
+use Rattle.std.proofs.{Common.MatchBool, lemmas.Bool.{MatchBool-at_false, or_parts}}
 use Rattle.run_law.specs.control.Permanence.{IsPermanenceOutcome}
-use Rattle.run_law.specs.scenario.Scenarios.{Scenario}
-use Rattle.run_law.specs.device.States.{adjustment_after, adjustment_at_hearing, adjustment_before, has_joined_at, is_joined_by, state_at_hearing, state_before}
-use Rattle.run_law.specs.declared.steps.Ripe.{Ripe}
-use Rattle.sync_state.specs.declared.state.State.{State}
-use Rattle.sync_state.specs.declared.state.State.TheVariants.{Joining}
-use Rattle.tte_lemmas.proofs.Bools.{or_none}
 
 -- ---- lists and places
 

@@ -1,51 +1,22 @@
 -- The device that a frame tells the time is kept.
-use Rattle.std.proofs.Common.{◌≡◌, ◌⊎◌, IfSome, ℕ, ◌+◌, ◌-◌, ◌≤◌, ◌<◌, ℤ, pos, ◌+ℤ◌, ◌-ℤ◌, ◌<ℤ◌, ◌≤ℤ◌, int_lt, int_le, Bool, true, false, not, ◌&&◌, ◌||◌, nat_lt, if◌then◌else◌, List, [], ◌∷◌, ◌++◌, length, map, filter, filter_map, fold, Option, Some, None, inl, inr, refl, sym, ap, subst, ◌∙◌, append_assoc, arith}
-use Rattle.std.specs.List.{after_last, last_or}
-use Rattle.std.specs.Option.{option_map_or}
-use Rattle.std.proofs.lemmas.Bool.{and_right, both_ways, lt-ltb}
-use Rattle.std.proofs.lemmas.Int.{ints}
-use Rattle.std.proofs.lemmas.List.Sums.{fold-append}
-use Rattle.net_plan.proofs.SameIds.{self}
-use Rattle.net_plan.specs.declared.ids.DeviceId.{DeviceId}
-use Rattle.net_plan.specs.declared.ids.LinkId.{LinkId}
-use Rattle.net_plan.specs.declared.network.Network.{Network}
-use Rattle.pcf_values.specs.declared.pcf.Pcf.{Pcf}
-use Rattle.run_law.proofs.control.Verdicts.{looking_ripe}
-use Rattle.run_law.proofs.runs.Places.{before_behind, chain}
-use Rattle.run_law.specs.control.Collections.{observation_window}
-use Rattle.run_law.specs.control.Corrections.{correction_value, cycle_after, has_cleared, hearing_by, heard_since, integration_cycle, is_integration_cycle, recorded_cycle}
-use Rattle.run_law.specs.declared.judgement.Judgement.TheVariants.{Integrates}
-use Rattle.run_law.specs.declared.note.NoteBody.TheVariants as kinds
-use Rattle.run_law.specs.declared.steps.Moment.{Moment}
-use Rattle.run_law.specs.declared.steps.Ripe.TheVariants as ripe
-use Rattle.run_law.specs.device.LocalClocks.{changed_at, changes_adjustment}
-use Rattle.run_law.specs.device.States.{adjustment_after, adjustment_with, cycle_in, has_joined_at, is_joined_by, joined_adjustment, state_after, state_before}
-use Rattle.run_law.specs.machines.Answers.{called, with_joined}
-use Rattle.run_law.specs.machines.Nodes.{Node, Phase, correcting, ripening}
-use Rattle.run_law.specs.machines.Tasks.{IsPending, Task, doing, emitting, reading_for, value_of}
-use Rattle.run_law.specs.records.Happenings.{Happening, earlier, time_of}
-use Rattle.run_law.specs.records.Order.{IsIn, behind}
-use Rattle.run_law.specs.scenario.Devices.{is_cm, plan_of}
-use Rattle.run_law.specs.scenario.Scenarios.{Scenario, is_broken, is_turned_on_at}
+use Rattle.world_steps.proofs.Words.{if◌then◌else◌, ◌&&◌, ◌++◌, ◌+ℤ◌, ◌+◌, ◌-ℤ◌, ◌-◌, ◌<ℤ◌, ◌<◌, ◌||◌, ◌∙◌, ◌∷◌, ◌≡◌, ◌≤ℤ◌, ◌≤◌, ◌⊎◌, Bool, DeviceId, Happening}
+use Rattle.world_steps.proofs.Words.{HasTurnedOn, IfSome, Integrating, IsIn, IsKept, IsLeft, IsPending, Joining, LinkId, List, Moment, Network, Node, None}
+use Rattle.world_steps.proofs.Words.{Option, Pcf, Phase, Scenario, Some, State, SyncPlan, Task, Units, Waiting, [], adjustment_after, adjustment_with}
+use Rattle.world_steps.proofs.Words.{after_last, and_right, ap, append_assoc, arith, before_behind, behind, both_ways, called, chain, changed_at}
+use Rattle.world_steps.proofs.Words.{changes_adjustment, cleared_in, correcting, correction_value, cycle_after, cycle_in, doing, earlier, earlier_still}
+use Rattle.world_steps.proofs.Words.{emitting, false, filter, filter_map, fold, fold-append, frames_taken, has_cleared, has_joined_at, heard_since, hearing_by}
+use Rattle.world_steps.proofs.Words.{inl, inr, int_le, int_lt, integration_cycle, ints, is_broken, is_cm, is_integration_cycle, is_joined_by, is_turned_on_at}
+use Rattle.world_steps.proofs.Words.{last_or, local_in, lt-ltb, moment_of, nat_lt, next_in, no_later_breaks, none_in, not, not_on_after, not_turned_on}
+use Rattle.world_steps.proofs.Words.{observation_window, option_map_or, plan_of, pos, reading_for, recorded_cycle, refl, ripening, self, state_after}
+use Rattle.world_steps.proofs.Words.{state_before, subst, sym, time_of, true, value_of, with_joined, ℕ, ℤ}
+use Rattle.run_law.{proofs.control.Verdicts.looking_ripe, specs.{declared.judgement.Judgement.TheVariants.Integrates, device.States.joined_adjustment}}
 use Rattle.sync_state.specs.Integration.{joined_by}
-use Rattle.sync_state.specs.declared.plan.SyncPlan.{SyncPlan}
-use Rattle.sync_state.specs.declared.state.State.TheVariants.{Integrating, Joining}
-use Rattle.sync_state.specs.declared.state.State.{State}
-use Rattle.tte_lemmas.proofs.Lists.{none_in}
-use Rattle.tte_units.specs.declared.units.Units.{Units}
-use Rattle.world_law.proofs.devices.Passes.{not_turned_on}
-use Rattle.world_law.proofs.giving.Given.{no_later_breaks}
-use Rattle.world_steps.proofs.ripening.Judged.{Hears, last_behind, not_yet}
-use Rattle.world_steps.proofs.ripening.Kept.{before_place, turned_on}
-use Rattle.world_steps.proofs.ripening.Merely.{IsMere, behind_it, filter_rest, fold_rest, maps_rest, mere_adjustment, mere_changes, mere_cycle, mere_hears, mere_joins}
-use Rattle.world_steps.proofs.ripening.Ripens.{IsRipe, ripe_more}
-use Rattle.world_law.proofs.runs.Foremost.{not_on_after}
-use Rattle.world_law.proofs.runs.SourcesBack.{earlier_still}
-use Rattle.world_law.specs.device.Left.{IsLeft}
-use Rattle.world_law.specs.device.Takings.{frames_taken}
-use Rattle.world_law.specs.device.Told.{change_in, cleared_in, local_in, next_in}
-use Rattle.world_law.specs.world.Calls.{moment_of}
-use Rattle.world_law.specs.world.World.{HasTurnedOn, IsKept, Waiting}
+use Rattle.world_law.specs.device.Told.{change_in}
+use Rattle.world_steps.proofs.ripening.{Judged.{Hears, last_behind, not_yet}, Kept.{before_place, turned_on}}
+use Rattle.world_steps.proofs.ripening.Merely.{IsMere, behind_it, filter_rest, fold_rest, maps_rest, mere_adjustment, mere_changes, mere_cycle, mere_hears}
+use Rattle.world_steps.proofs.ripening.{Merely.mere_joins, Ripens.{IsRipe, ripe_more}}
+use Rattle.run_law.specs.declared.note.NoteBody.TheVariants as kinds
+use Rattle.run_law.specs.declared.steps.Ripe.TheVariants as ripe
 
 -- the record tells the device the time at this instant, and what stands behind it says nothing to the device but of its
 -- state, which is that of a joiner

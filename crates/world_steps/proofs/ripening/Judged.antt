@@ -1,54 +1,26 @@
 -- What a device's machine makes of a frame that is permanent is what the records given say.
-use Rattle.std.proofs.Common.{◌≡◌, ℕ, ◌+◌, ◌-◌, ℤ, pos, ◌+ℤ◌, int_lt, int_le, Bool, true, false, ◌&&◌, ◌==◌, if◌then◌else◌, List, [], ◌∷◌, ◌++◌, Option, Some, None, MatchBool, filter, filter_map, inl, inr, refl, sym, ap, subst, ◌∙◌, arith}
-use Rattle.std.specs.List.{after_last, last_or}
-use Rattle.std.specs.Option.{option_map_or}
-use Rattle.std.proofs.lemmas.Bool.{MatchBool-at_false, MatchBool-at_true, and_parts, and_right, both_ways, cases_Bool, eq-eqb, eqb-true}
-use Rattle.std.proofs.lemmas.List.{append-nil}
-use Rattle.std.proofs.lemmas.List.Elements.{filter-append}
-use Rattle.compression.specs.Clusters.{Point, point_at}
+use Rattle.world_steps.proofs.Words.{if◌then◌else◌, ◌&&◌, ◌++◌, ◌+ℤ◌, ◌+◌, ◌-◌, ◌==◌, ◌∙◌, ◌∷◌, ◌≡◌, Bool, DeviceId, Happening, Integrating, IsAtRest, IsBefore}
+use Rattle.world_steps.proofs.Words.{IsIn, IsLeft, IsPermanenceOutcomeAt, Joining, List, Members, Network, Node, None, Off, Option, Pcf, Point, Reason, Ripe}
+use Rattle.world_steps.proofs.Words.{Scenario, Some, State, SyncPlan, Synchronised, Units, Waiting, [], adjustment_after, adjustment_at_hearing}
+use Rattle.world_steps.proofs.Words.{adjustment_before, after_last, after_more, all_up_to, amount, and_parts, and_right, any_in, ap, append-nil, arith}
+use Rattle.world_steps.proofs.Words.{before_later, both_ways, cases_Bool, changed_at, changes_adjustment, correction_value, earlier, earlier_still}
+use Rattle.world_steps.proofs.Words.{ends_stretch, eqb-true, false, filter, filter-append, filter_map, has_cleared, has_joined_at, heard_as, in_left, in_parts}
+use Rattle.world_steps.proofs.Words.{in_right, inl, inr, int_le, int_lt, is_cm, is_integration_cycle, is_joined_by, is_timed, is_turned_on_at, last_or}
+use Rattle.world_steps.proofs.Words.{master_of, next_is_up_to, none_kept, not_on_after, not_turned_on, numbered_front, observation_window, option_map_or}
+use Rattle.world_steps.proofs.Words.{parted, place_of, plan_of, point_at, point_by, points_of, pos, quiet_rest, recorded_cycle, refl, ripe_as, state_after}
+use Rattle.world_steps.proofs.Words.{state_at_hearing, state_before, subst, sym, time_of, true, ℕ, ℤ}
+use Rattle.std.proofs.Common.{MatchBool}
 use Rattle.compression.specs.declared.taken.Taken.{Taken}
-use Rattle.compression.specs.declared.taken.Taken.TheVariants as takens
-use Rattle.net_plan.specs.declared.ids.DeviceId.{DeviceId}
-use Rattle.net_plan.specs.declared.network.Network.{Network}
-use Rattle.pcf_values.specs.declared.members.Members.{Members}
-use Rattle.pcf_values.specs.declared.pcf.Pcf.{Pcf}
-use Rattle.run_law.proofs.law.FirstPlaces.{in_filter, none_kept, numbered_front}
-use Rattle.run_law.proofs.records.Order.{after_more, all_kept, any_in, before_is, none_any}
-use Rattle.run_law.proofs.runs.Places.{before_later, in_left, in_parts, in_right, parted}
-use Rattle.run_law.specs.control.Collections.{ends_stretch, master_of, observation_window, point_by, point_fault, points_of, ripe_by_role}
-use Rattle.run_law.specs.control.Corrections.{correction_value, has_cleared, is_integration_cycle, recorded_cycle}
-use Rattle.run_law.specs.control.Hearing.{heard_as, heard_by_schedule, heard_enough}
-use Rattle.run_law.specs.control.Permanence.{BecomesPermanent, IsCollectedOrDropped, IsJudgedBy, IsPermanenceOutcome, before_permanence, ripe_as}
-use Rattle.run_law.specs.declared.judgement.Reason.{Reason}
-use Rattle.run_law.specs.declared.steps.Ripe.TheVariants as ripe
-use Rattle.run_law.specs.declared.steps.Ripe.{Ripe}
-use Rattle.run_law.specs.device.LocalClocks.{changed_at, changes_adjustment}
-use Rattle.run_law.specs.device.States.{adjustment_after, adjustment_at_hearing, adjustment_before, has_joined_at, is_joined_by, state_after, state_at_hearing, state_before}
-use Rattle.run_law.specs.machines.Answers.{IsPermanenceOutcomeAt}
-use Rattle.run_law.specs.machines.Nodes.{Node}
-use Rattle.run_law.specs.records.Happenings.{Happening, earlier, time_of}
-use Rattle.run_law.specs.records.Order.{IsBefore, IsIn, is_before}
-use Rattle.run_law.specs.records.Ranks.{place_of}
-use Rattle.run_law.specs.scenario.Devices.{is_cm, plan_of}
-use Rattle.run_law.specs.scenario.Scenarios.{Scenario, is_turned_on_at}
-use Rattle.sync_state.specs.declared.plan.SyncPlan.{SyncPlan}
-use Rattle.sync_state.specs.declared.state.State.{State}
-use Rattle.sync_state.specs.declared.state.State.TheVariants.{Integrating, Joining, Off, Synchronised}
-use Rattle.tte_units.specs.Amount.{amount}
-use Rattle.tte_units.specs.declared.units.Units.{Units}
-use Rattle.world_law.proofs.devices.Passes.{not_turned_on}
-use Rattle.world_law.proofs.devices.Resting.{in_time_of}
-use Rattle.world_law.proofs.devices.TurnedOn.{all_up_to, next_is_up_to, quiet_changes, quiet_rest}
-use Rattle.world_law.proofs.putting.NearPut.{not_is}
-use Rattle.world_steps.proofs.ripening.Coming.{IsLateKind, all_late, late_mere, rest_ends}
-use Rattle.world_steps.proofs.ripening.Hears.{by_role, not_joined, not_joined_yet}
-use Rattle.world_steps.proofs.ripening.JustTold.{IsTold, adjustment_now, state_now}
-use Rattle.world_steps.proofs.ripening.Merely.{filter_rest, maps_rest, mere_changes, mere_point}
+use Rattle.run_law.{proofs.{law.FirstPlaces.in_filter, records.Order.{all_kept, before_is, none_any}}, specs.control.Collections.{point_fault, ripe_by_role}}
+use Rattle.run_law.specs.control.Hearing.{heard_by_schedule, heard_enough}
+use Rattle.run_law.specs.control.Permanence.{BecomesPermanent, IsCollectedOrDropped, IsJudgedBy, IsPermanenceOutcome, before_permanence}
+use Rattle.run_law.specs.records.Order.{is_before}
+use Rattle.world_law.proofs.{devices.Resting.in_time_of, putting.NearPut.not_is}
+use Rattle.world_steps.proofs.ripening.{Coming.{IsLateKind, all_late, late_mere, rest_ends}, Hears.{by_role, not_joined, not_joined_yet}}
+use Rattle.world_steps.proofs.ripening.{JustTold.{IsTold, adjustment_now, state_now}, Merely.{filter_rest, maps_rest, mere_changes, mere_point}}
 use Rattle.world_steps.proofs.ripening.Ripens.{IsRipe, reach_now, ripe_more}
-use Rattle.world_law.proofs.runs.Foremost.{not_on_after}
-use Rattle.world_law.proofs.runs.SourcesBack.{earlier_still}
-use Rattle.world_law.specs.device.Left.{IsLeft, is_timed}
-use Rattle.world_law.specs.world.World.{IsAtRest, Waiting}
+use Rattle.compression.specs.declared.taken.Taken.TheVariants as takens
+use Rattle.run_law.specs.declared.steps.Ripe.TheVariants as ripe
 
 -- ---- places as tests
 

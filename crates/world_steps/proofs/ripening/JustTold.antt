@@ -1,45 +1,20 @@
 -- A device that a frame has told the time at this very time stands as it hears further frames of the time.
-use Rattle.std.proofs.Common.{◌≡◌, ◌⊎◌, ℕ, ◌+◌, ◌≤◌, ◌<◌, Bool, true, false, ◌&&◌, ◌||◌, ◌==◌, nat_lt, if◌then◌else◌, List, [], ◌∷◌, ◌++◌, length, Some, filter, fold, inl, inr, refl, sym, ap, subst, ◌∙◌, append_assoc, arith}
-use Rattle.std.proofs.lemmas.Bool.{and_parts, both_ways, cases_Bool, cases_lt, eq-eqb, eqb-true, le-ltb, lt-ltb, ne_eqb, or_parts}
-use Rattle.std.proofs.lemmas.Int.{ints}
-use Rattle.std.proofs.lemmas.List.Sums.{fold-append}
-use Rattle.net_plan.proofs.SameIds.{same_device}
-use Rattle.net_plan.specs.declared.ids.DeviceId.{DeviceId}
-use Rattle.run_law.proofs.law.FirstPlaces.{by_number, founded_at, none_kept, number_is, numbered_front, numbered_in, numbered_within}
-use Rattle.run_law.proofs.records.Order.{any_in}
-use Rattle.run_law.proofs.runs.Places.{before_later, before_or_not, chain, in_left, in_right, parted}
-use Rattle.run_law.specs.declared.judgement.Why.{Why}
+use Rattle.world_steps.proofs.Words.{if◌then◌else◌, ◌&&◌, ◌++◌, ◌+◌, ◌<◌, ◌==◌, ◌||◌, ◌∙◌, ◌∷◌, ◌≡◌, ◌≤◌, ◌⊎◌, AllBefore, Bool, DeviceId, Happening}
+use Rattle.world_steps.proofs.Words.{Integrating, IsBefore, IsCaused, IsDue, IsFounded, IsIn, IsMoving, IsOfThisTime, IsSource, IsTurnedOnBy, Joining, List}
+use Rattle.world_steps.proofs.Words.{NoneBefore, Note, NoteBody, Scenario, Some, State, Units, Waiting, Why, [], adjustment_after, adjustment_at_hearing}
+use Rattle.world_steps.proofs.Words.{adjustment_with, amount, and_parts, any_in, ap, append_assoc, arith, before_later, both_ways, by_number, cases_Bool}
+use Rattle.world_steps.proofs.Words.{cases_lt, chain, cycle_in, earlier, earlier_still, eq-eqb, eqb-true, false, filter, fold, fold-append, founded_at}
+use Rattle.world_steps.proofs.Words.{happening, has_joined_at, in_left, in_right, inl, inr, ints, is_joined_by, is_turned_on_at, is_turning, keeps_adjustment}
+use Rattle.world_steps.proofs.Words.{key, le-ltb, length, lt-ltb, members_in, moves, nat_lt, ne_eqb, no_higher, none_kept, not_turned_on, numbered}
+use Rattle.world_steps.proofs.Words.{numbered_front, numbered_in, numbered_parts, numbered_within, parted, place_of, rank, refl, same_device, some_same}
+use Rattle.world_steps.proofs.Words.{state_after, state_at_hearing, state_before, state_with, subst, sym, time_of, true, units_of, ℕ}
+use Rattle.std.proofs.lemmas.Bool.{or_parts}
+use Rattle.run_law.proofs.{law.FirstPlaces.number_is, runs.Places.before_or_not}
+use Rattle.world_law.{proofs.devices.{OwnRecords.earlier_yes, Resting.in_time_of, TurnedOn.{IsInTime, looking_on, turning_state}}, specs.world.World.IsJustTold}
+use Rattle.world_steps.proofs.ripening.{Awake.{stirs, was_on}, Coming.{IsLateKind, all_late, given_low, late_mere}, Hears.none_of}
+use Rattle.world_steps.proofs.ripening.{Merely.{fold_rest, mere_adjustment, mere_joins}, Ripens.{IsRipe, ripe_more}}
 use Rattle.run_law.specs.declared.judgement.Why.TheVariants as whys
-use Rattle.run_law.specs.declared.note.Note.{Note}
-use Rattle.run_law.specs.declared.note.NoteBody.{NoteBody}
 use Rattle.run_law.specs.declared.note.NoteBody.TheVariants as kinds
-use Rattle.run_law.specs.device.States.{adjustment_after, adjustment_at_hearing, adjustment_with, cycle_in, has_joined_at, is_joined_by, state_after, state_at_hearing, state_before, state_with}
-use Rattle.run_law.specs.records.Causes.{IsOfThisTime}
-use Rattle.run_law.specs.records.Happenings.{Happening, earlier, happening, numbered, time_of}
-use Rattle.run_law.specs.records.Order.{AllBefore, IsBefore, IsIn, NoneBefore}
-use Rattle.run_law.specs.records.Ranks.{key, members_in, place_of, rank}
-use Rattle.run_law.specs.runs.DueRecords.{IsCaused, IsDue}
-use Rattle.run_law.specs.runs.Runs.{IsFounded}
-use Rattle.run_law.specs.scenario.Scenarios.{Scenario, is_turned_on_at}
-use Rattle.sync_state.specs.declared.state.State.{State}
-use Rattle.sync_state.specs.declared.state.State.TheVariants.{Integrating, Joining}
-use Rattle.tte_units.specs.Amount.{amount, units_of}
-use Rattle.tte_units.specs.declared.units.Units.{Units}
-use Rattle.world_law.proofs.devices.OwnRecords.{earlier_no, earlier_yes, keeps_adjustment}
-use Rattle.world_law.proofs.devices.Passes.{not_turned_on}
-use Rattle.world_law.proofs.devices.Resting.{in_time_of}
-use Rattle.world_law.proofs.devices.TurnedOn.{IsInTime, looking_on, turning_state}
-use Rattle.world_law.proofs.giving.Given.{some_same}
-use Rattle.world_law.proofs.putting.Moving.{IsMoving}
-use Rattle.world_steps.proofs.ripening.Awake.{stirs, was_on}
-use Rattle.world_steps.proofs.ripening.Coming.{IsLateKind, all_late, given_low, late_mere}
-use Rattle.world_steps.proofs.ripening.Hears.{none_of}
-use Rattle.world_steps.proofs.ripening.Merely.{fold_rest, mere_adjustment, mere_joins}
-use Rattle.world_steps.proofs.ripening.Ripens.{IsRipe, ripe_more}
-use Rattle.world_law.proofs.runs.SourcesBack.{earlier_still, no_higher, numbered_parts}
-use Rattle.world_law.specs.device.Own.{moves}
-use Rattle.world_law.specs.source.Sources.{IsSource}
-use Rattle.world_law.specs.world.World.{IsJustTold, IsTurnedOnBy, Waiting, is_turning}
 
 -- what is known of such a device
 pub record IsTold (s : Scenario) (hs coming : List Happening) (mark cursor : List ℕ) (now : ℕ) (e : Waiting) : Type 0 where

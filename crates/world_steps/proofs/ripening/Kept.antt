@@ -1,65 +1,26 @@
 -- The device of a frame that is permanent, and tells it no time, is kept.
-use Rattle.std.proofs.Common.{◌≡◌, ◌⊎◌, ℕ, ◌+◌, ◌≤◌, ◌<◌, ℤ, pos, ◌+ℤ◌, ◌-ℤ◌, ◌<ℤ◌, ◌≤ℤ◌, Bool, true, false, not, ◌||◌, if◌then◌else◌, List, [], ◌∷◌, ◌++◌, length, map, Contains, inl, inr, refl, sym, ap, subst, ◌∙◌, arith}
-use Rattle.std.specs.List.{AllByRecursion}
-use Rattle.std.proofs.lemmas.Bool.{both_ways}
-use Rattle.std.proofs.lemmas.Int.{ints}
+use Rattle.world_steps.proofs.Words.{if◌then◌else◌, ◌++◌, ◌+ℤ◌, ◌+◌, ◌-ℤ◌, ◌<ℤ◌, ◌<◌, ◌||◌, ◌∙◌, ◌∷◌, ◌≡◌, ◌≤ℤ◌, ◌≤◌, ◌⊎◌, AllByRecursion, AreClusters, Bool}
+use Rattle.world_steps.proofs.Words.{ClockTask, Compressed, DeviceId, Happening, HasDoneFrom, HasSentFrom, HasTurnedOn, IsAlike, IsAtRest, IsBefore, IsIn}
+use Rattle.world_steps.proofs.Words.{IsKept, IsLeft, IsMoving, IsNoTaking, IsPending, IsSource, IsWaiting, Judgement, List, Network, Node, NoteBody, Point}
+use Rattle.world_steps.proofs.Words.{Scenario, Task, Units, Waiting, [], act_place, after_permanence, amount, ap, arith, before_behind, behind, both_ways}
+use Rattle.world_steps.proofs.Words.{called, chain, changed_at, changes_adjustment, channel_of_link, correcting, dispatch_body, dispatches_back, doing, earlier}
+use Rattle.world_steps.proofs.Words.{earlier_still, emitting, false, frames_taken, has_cleared, inl, inr, ints, is_cm, is_joined_by, is_timed, is_turned_on_at}
+use Rattle.world_steps.proofs.Words.{length, master_of, moment_of, moves, natural, not, observation_window, placed, plain_body, plains_placed, point_at, pos}
+use Rattle.world_steps.proofs.Words.{raised, rank, reading_for, refl, ripe_as, ripening, state_after, state_before, subst, sym, taken_in, time_of}
+use Rattle.world_steps.proofs.Words.{told_by_others, true, turned_aside, undone_alike, value_of, waiting_alike, ℕ, ℤ}
+use Rattle.std.proofs.Common.{Contains}
 use Rattle.compression.proofs.Times.{one_list_of_clusters}
-use Rattle.compression.specs.Clusters.{AreClusters, Point, point_at}
-use Rattle.compression.specs.declared.compressed.Compressed.{Compressed}
-use Rattle.net_plan.specs.declared.ids.DeviceId.{DeviceId}
-use Rattle.net_plan.specs.declared.network.Network.{Network}
-use Rattle.run_law.proofs.runs.Places.{before_behind, chain}
-use Rattle.run_law.specs.control.Collections.{master_of, observation_window}
-use Rattle.run_law.specs.control.Corrections.{has_cleared}
-use Rattle.run_law.specs.control.Permanence.{ripe_as}
-use Rattle.run_law.specs.declared.judgement.Judgement.TheVariants as judgements
-use Rattle.run_law.specs.declared.judgement.Judgement.{Judgement}
-use Rattle.run_law.specs.declared.note.NoteBody.TheVariants as kinds
-use Rattle.run_law.specs.declared.note.NoteBody.{NoteBody}
-use Rattle.run_law.specs.device.LocalClocks.{changed_at, changes_adjustment}
-use Rattle.run_law.specs.device.States.{is_joined_by, state_after, state_before}
-use Rattle.run_law.specs.machines.Answers.{after_permanence, called}
-use Rattle.run_law.specs.machines.Nodes.{ClockTask, Node, correcting, ripening}
-use Rattle.run_law.specs.machines.Tasks.{IsPending, IsWaiting, Task, doing, emitting, reading_for, value_of}
-use Rattle.run_law.specs.records.Happenings.{Happening, earlier, time_of}
-use Rattle.run_law.specs.records.Order.{IsBefore, IsIn, behind}
-use Rattle.run_law.specs.records.Ranks.{rank}
-use Rattle.run_law.specs.scenario.Devices.{channel_of_link, is_cm}
-use Rattle.run_law.specs.scenario.Scenarios.{Scenario, is_turned_on_at}
 use Rattle.sync_state.specs.Standing.{Standing}
-use Rattle.tte_lemmas.proofs.Integers.{whole as natural}
-use Rattle.tte_units.specs.Amount.{amount}
-use Rattle.tte_units.specs.declared.units.Units.{Units}
-use Rattle.world_steps.proofs.acting.Starts.{none_of_it, plain_compressed, plain_sent}
-use Rattle.world_law.proofs.acts.Acted.{IsAlike, undone_alike, waiting_alike}
-use Rattle.world_law.proofs.acts.Dispatched.{dispatch_told, no_dispatch_told}
-use Rattle.world_law.proofs.acts.Recorded.{first_recorded}
-use Rattle.world_law.proofs.devices.Borne.{tell_owned}
-use Rattle.world_law.proofs.devices.Plains.{changes_at_plain, told_by_others}
-use Rattle.world_steps.proofs.hearing.Quiet.{frames_placed}
-use Rattle.world_law.proofs.putting.Bearing.{before_aside, changed_aside, earlier_aside, left_aside, placed_back, still_aside, turned_aside}
-use Rattle.world_law.proofs.putting.Bumped.{bump_behind, placed, raised}
-use Rattle.world_law.proofs.putting.Moving.{IsMoving, stays, worked_or_here}
-use Rattle.world_law.proofs.putting.NearPut.{plains_placed}
-use Rattle.world_steps.proofs.ripening.Clustered.{old_or_open, open_later}
-use Rattle.world_steps.proofs.ripening.Coming.{all_late, late_mere, rest_ends}
-use Rattle.world_steps.proofs.ripening.Grown.{IsByRole, IsFirst, IsSame, is_grown, left_grown, points_by_role, points_not, same_by_role}
-use Rattle.world_steps.proofs.ripening.Judged.{Hears, cleared_told}
-use Rattle.world_steps.proofs.ripening.JustTold.{IsTold}
-use Rattle.world_steps.proofs.ripening.Merely.{own_skip}
-use Rattle.world_steps.proofs.ripening.Ripens.{sooner_of, IsRipe, in_time, not_beyond, ripe_more}
+use Rattle.world_law.proofs.{acts.{Dispatched.{dispatch_told, no_dispatch_told}, Recorded.first_recorded}, devices.{Borne.tell_owned, Plains.changes_at_plain}}
+use Rattle.world_law.proofs.putting.{Bearing.{before_aside, changed_aside, earlier_aside, left_aside, placed_back, still_aside}, Moving.{stays, worked_or_here}}
 use Rattle.world_law.proofs.rows.Dispatching.{whole_founded}
-use Rattle.world_law.proofs.rows.Takings.{IsNoTaking}
-use Rattle.world_law.proofs.runs.SourcesBack.{dispatches_back, earlier_still}
-use Rattle.world_law.specs.device.Deeds.{HasDoneFrom, HasSentFrom}
-use Rattle.world_law.specs.device.Left.{IsLeft, is_timed}
-use Rattle.world_law.specs.device.Own.{moves}
-use Rattle.world_law.specs.device.Plain.{plain_body}
-use Rattle.world_law.specs.device.Recorded.{dispatch_body}
-use Rattle.world_law.specs.device.Takings.{frames_taken, taken_in}
-use Rattle.world_law.specs.source.Sources.{IsSource}
-use Rattle.world_law.specs.world.Calls.{moment_of}
-use Rattle.world_law.specs.world.World.{HasTurnedOn, IsAtRest, IsKept, Waiting, act_place}
+use Rattle.world_steps.proofs.{acting.Starts.{none_of_it, plain_compressed, plain_sent}, hearing.Quiet.frames_placed}
+use Rattle.world_steps.proofs.ripening.{Clustered.{old_or_open, open_later}, Coming.{all_late, late_mere, rest_ends}}
+use Rattle.world_steps.proofs.ripening.Grown.{IsByRole, IsFirst, IsSame, is_grown, left_grown, points_by_role, points_not, same_by_role}
+use Rattle.world_steps.proofs.ripening.{Judged.{Hears, cleared_told}, JustTold.IsTold, Merely.own_skip}
+use Rattle.world_steps.proofs.ripening.Ripens.{IsRipe, in_time, not_beyond, ripe_more, sooner_of}
+use Rattle.run_law.specs.declared.judgement.Judgement.TheVariants as judgements
+use Rattle.run_law.specs.declared.note.NoteBody.TheVariants as kinds
 
 -- ---- where it stands before the call
 

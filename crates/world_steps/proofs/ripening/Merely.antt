@@ -1,26 +1,11 @@
 -- Records that do not bear on a device, but for what they say of its state.
-use Rattle.std.proofs.Common.{◌≡◌, ℕ, Bool, true, false, if◌then◌else◌, List, [], ◌∷◌, ◌++◌, Option, Some, None, filter, filter_map, fold, option_to_list, inl, inr, refl, sym, ap, ◌∙◌, append_assoc}
-use Rattle.std.specs.Prelude.{nat_lt}
-use Rattle.std.specs.List.{after_last, cons_option}
-use Rattle.std.proofs.lemmas.Bool.{cases_lt}
-use Rattle.std.proofs.lemmas.List.Elements.{filter_map-append}
-use Rattle.net_plan.specs.declared.ids.DeviceId.{DeviceId}
-use Rattle.net_plan.specs.declared.network.Network.{Network}
-use Rattle.run_law.proofs.records.Order.{after_more}
-use Rattle.run_law.specs.device.LocalClocks.{changes_adjustment}
-use Rattle.run_law.specs.control.Collections.{point_by}
-use Rattle.run_law.specs.control.Corrections.{cycle_after, hearing_by}
-use Rattle.run_law.specs.records.Happenings.{Happening, earlier, time_of}
-use Rattle.run_law.specs.records.Order.{IsIn}
-use Rattle.run_law.specs.scenario.Scenarios.{Scenario}
-use Rattle.run_law.specs.device.States.{adjustment_with, is_joined_by}
+use Rattle.world_steps.proofs.Words.{if◌then◌else◌, ◌++◌, ◌∙◌, ◌∷◌, ◌≡◌, Bool, DeviceId, Happening, IsIn, List, Network, None, NoteBody, Option, Scenario, Some}
+use Rattle.world_steps.proofs.Words.{Units, [], adjustment_with, after_last, after_more, ap, append_assoc, bears_on, behind_yes, cases_lt, changes_adjustment}
+use Rattle.world_steps.proofs.Words.{cons_option, cycle_after, earlier, false, filter, filter_map, filter_map-append, fold, hearing_by, inl, inr, is_joined_by}
+use Rattle.world_steps.proofs.Words.{keeps_adjustment, moves, moves_no_other, nat_lt, option_to_list, point_by, refl, sym, time_of, true, ℕ}
+use Rattle.world_law.proofs.devices.Borne.{gives_no_point, hears_nothing}
+use Rattle.world_law.{proofs.devices.OwnRecords.{changes_no_other, earlier_no, earlier_yes, joins_no_other, keeps_cycle, own_no}, specs.device.Own.own}
 use Rattle.run_law.specs.declared.note.NoteBody.TheVariants as kinds
-use Rattle.run_law.specs.declared.note.NoteBody.{NoteBody}
-use Rattle.tte_units.specs.declared.units.Units.{Units}
-use Rattle.world_law.proofs.devices.Borne.{gives_no_point, hears_nothing, moves_no_other}
-use Rattle.world_law.proofs.devices.OwnRecords.{changes_no_other, joins_no_other, keeps_adjustment, keeps_cycle, own_no, earlier_yes, earlier_no}
-use Rattle.world_law.proofs.lists.Lists.{behind_yes}
-use Rattle.world_law.specs.device.Own.{bears_on, moves, own}
 
 -- the record does not bear on the device, or it is of a state
 abbrev pub IsMere : DeviceId → NoteBody → Type 0

@@ -1,36 +1,13 @@
 -- What comes of the source of a frame that is permanent: one record, at its place.
-use Rattle.std.proofs.Common.{◌≡◌, ◌⊎◌, ℕ, ◌<◌, List, [], ◌∷◌, ◌++◌, inl, inr, refl, sym, ap, subst, ◌∙◌, arith}
-use Rattle.net_plan.specs.declared.ids.DeviceId.{DeviceId}
-use Rattle.net_plan.specs.declared.ids.LinkId.{LinkId}
-use Rattle.pcf_values.specs.declared.pcf.Pcf.{Pcf}
-use Rattle.run_law.proofs.control.Verdicts.{never_dropped}
-use Rattle.run_law.proofs.law.FirstPlaces.{numbered_front}
-use Rattle.run_law.proofs.runs.Places.{before_later, in_left, parted}
-use Rattle.run_law.proofs.runs.SameSteps.{no_launch, same_ripening}
-use Rattle.run_law.specs.control.Permanence.{BecomesPermanent, IsPermanent, ripe_as}
-use Rattle.run_law.specs.declared.judgement.Judgement.{Judgement}
-use Rattle.run_law.specs.declared.judgement.Reason.{Reason}
+use Rattle.world_steps.proofs.Words.{◌++◌, ◌<◌, ◌∙◌, ◌∷◌, ◌≡◌, ◌⊎◌, DeviceId, Happening, IsAllOfIt, IsBefore, IsCaused, IsIn, IsOwnSource}
+use Rattle.world_steps.proofs.Words.{IsPermanenceOutcomeAt, IsPermanent, Judgement, LinkId, List, Node, NoteBody, Pcf, Reason, Ripe, Scenario, Units, Waiting}
+use Rattle.world_steps.proofs.Words.{[], act_place, amount, ap, arith, before_later, in_left, inl, inr, key, members_in, no_higher, numbered_front, parted}
+use Rattle.world_steps.proofs.Words.{place_of, rank, refl, ripe_as, some_same, subst, sym, time_of, ℕ}
+use Rattle.run_law.{proofs.{control.Verdicts.never_dropped, runs.SameSteps.{no_launch, same_ripening}}, specs.control.Permanence.BecomesPermanent}
+use Rattle.world_steps.proofs.ripening.{Judged.{Hears, becomes_now}, Ripens.{IsRipe, ripe_more}}
 use Rattle.run_law.specs.declared.judgement.Why.TheVariants as whys
-use Rattle.run_law.specs.declared.note.NoteBody.{NoteBody}
 use Rattle.run_law.specs.declared.note.NoteBody.TheVariants as kinds
-use Rattle.run_law.specs.declared.steps.Ripe.{Ripe}
 use Rattle.run_law.specs.declared.steps.Ripe.TheVariants as ripe
-use Rattle.run_law.specs.machines.Answers.{IsPermanenceOutcomeAt}
-use Rattle.run_law.specs.machines.Nodes.{Node}
-use Rattle.run_law.specs.records.Happenings.{Happening, time_of}
-use Rattle.run_law.specs.records.Order.{IsBefore, IsIn}
-use Rattle.run_law.specs.records.Ranks.{key, members_in, place_of, rank}
-use Rattle.run_law.specs.runs.DueRecords.{IsCaused}
-use Rattle.run_law.specs.scenario.Scenarios.{Scenario}
-use Rattle.tte_units.specs.Amount.{amount}
-use Rattle.tte_units.specs.declared.units.Units.{Units}
-use Rattle.world_law.proofs.giving.Given.{some_same}
-use Rattle.world_law.proofs.putting.Moving.{IsAllOfIt}
-use Rattle.world_steps.proofs.ripening.Judged.{Hears, becomes_now}
-use Rattle.world_steps.proofs.ripening.Ripens.{IsRipe, ripe_more}
-use Rattle.world_law.proofs.runs.SourcesBack.{no_higher}
-use Rattle.world_law.specs.source.Sources.{IsOwnSource}
-use Rattle.world_law.specs.world.World.{Waiting, act_place}
 
 -- ---- the kinds of record that have such a source
 

@@ -1,73 +1,31 @@
 -- A frame that waits is permanent.
-use Rattle.std.proofs.Common.{◌≡◌, ◌⊎◌, ◌↔◌, ℕ, ◌+◌, ◌≤◌, ◌<◌, pos, ◌≤ℤ◌, Bool, true, false, List, [], ◌∷◌, ◌++◌, length, map, get_or, Option, Some, None, slice_get, inl, inr, refl, sym, ap, subst, ◌∙◌, append_assoc, arith}
-use Rattle.std.proofs.lemmas.Bool.{both_ways, cases_Bool, eq-eqb, eqb-true, ne_eqb}
-use Rattle.std.proofs.lemmas.List.{append-nil, length-append, length-map}
-use Rattle.net_plan.proofs.SameIds.{same_device}
-use Rattle.net_plan.specs.Ranges.{IsInRange, IsLinkInRange}
-use Rattle.net_plan.specs.declared.ids.DeviceId.{DeviceId}
-use Rattle.net_plan.specs.declared.ids.LinkId.{LinkId}
-use Rattle.net_plan.specs.declared.network.Network.{Network}
-use Rattle.net_plan.specs.declared.tables.Way.TheVariants.{Up, Down}
-use Rattle.net_plan.specs.declared.tables.Way.{Way}
-use Rattle.pcf_values.specs.declared.pcf.Pcf.{Pcf}
-use Rattle.run_law.proofs.law.FirstPlaces.{numbered_front, numbered_in, numbered_next, numbered_within}
-use Rattle.run_law.proofs.runs.Determined.{same_units}
-use Rattle.run_law.proofs.runs.Places.{before_behind, in_left, in_right}
-use Rattle.run_law.specs.control.Permanence.{IsPermanent, ripe_as}
-use Rattle.run_law.specs.declared.judgement.Judgement.TheVariants as judgements
-use Rattle.run_law.specs.declared.judgement.Judgement.{Judgement}
-use Rattle.run_law.specs.declared.judgement.Reason.{Reason}
-use Rattle.run_law.specs.declared.judgement.Why.TheVariants as whys
-use Rattle.run_law.specs.declared.note.Note.{Note}
-use Rattle.run_law.specs.declared.note.NoteBody.TheVariants as kinds
-use Rattle.run_law.specs.declared.note.NoteBody.{NoteBody}
-use Rattle.run_law.specs.declared.steps.Ripe.TheVariants as ripe
-use Rattle.run_law.specs.declared.steps.Ripe.{Ripe}
-use Rattle.run_law.specs.device.States.{is_joined_by}
-use Rattle.run_law.specs.machines.Calls.{IsOfMaster}
-use Rattle.run_law.specs.machines.Nodes.{Node}
-use Rattle.run_law.specs.records.Happenings.{Happening, frame_from, happenings, numbered, time_of}
-use Rattle.run_law.specs.records.Order.{AllBefore, IsBefore, IsIn, NoneBefore, behind}
-use Rattle.run_law.specs.records.Ranks.{key, members_in, place_of, rank}
-use Rattle.run_law.specs.runs.DueRecords.{IsDue}
-use Rattle.run_law.specs.runs.Runs.{IsFounded}
-use Rattle.run_law.specs.scenario.Devices.{IsParentOf, is_cm}
-use Rattle.run_law.specs.scenario.Scenarios.{Scenario, is_broken}
-use Rattle.sync_state.specs.declared.state.State.TheVariants.{Joining}
+use Rattle.world_steps.proofs.Words.{◌++◌, ◌+◌, ◌<◌, ◌∙◌, ◌∷◌, ◌≡◌, ◌≤ℤ◌, ◌≤◌, ◌⊎◌, AllBefore, AreOfNetwork, ArePutIn, AreSettled, AreWaiting, Bool, ComesFirst}
+use Rattle.world_steps.proofs.Words.{DeviceId, Down, Happening, IsBefore, IsDue, IsFounded, IsHeld, IsIn, IsInRange, IsKept, IsOfMaster, IsOne, IsParentOf}
+use Rattle.world_steps.proofs.Words.{IsPermanent, IsSet, IsSource, IsWaitingFor, IsWithout, Joining, Judgement, LinkId, List, Network, Node, NoneBefore, Note}
+use Rattle.world_steps.proofs.Words.{NoteBody, Option, Pcf, Reason, Ripe, Scenario, Some, Stands, StandsBehind, Units, Up, Waiting, Way, World, [], all_without}
+use Rattle.world_steps.proofs.Words.{amount, ap, append-nil, are_past, arith, bears_on, before_behind, before_it, behind, both_ways, bump_behind, cases_Bool}
+use Rattle.world_steps.proofs.Words.{comes_first, due_of, eq-eqb, eqb-true, false, happenings, held_aside, held_moves, hidden, in_left, in_right, inl, inr}
+use Rattle.world_steps.proofs.Words.{is_broken, is_cm, is_joined_by, is_last, key, known_aside, last_unfollowed, length, length-append, length-map, length_is}
+use Rattle.world_steps.proofs.Words.{map, members_in, moment_of, moves_no_other, ne_eqb, none_yet, numbered, numbered_front, numbered_in, numbered_within}
+use Rattle.world_steps.proofs.Words.{one_by, one_shown, place_of, placed, placed_length, port_place, ports_move, pos, put_at, rank, record_of, refl, ripe_as}
+use Rattle.world_steps.proofs.Words.{ripe_place, same_device, slice_get, some_same, stands_on, subst, sym, time_of, told_wires, true, two_shown, wire_place}
+use Rattle.world_steps.proofs.Words.{wires_move, ℕ}
+use Rattle.net_plan.specs.Ranges.{IsLinkInRange}
+use Rattle.run_law.{proofs.{law.FirstPlaces.numbered_next, runs.Determined.same_units}, specs.records.Happenings.frame_from}
 use Rattle.tte_lemmas.proofs.Lists.{in_all}
-use Rattle.tte_units.specs.Amount.{amount}
-use Rattle.tte_units.specs.declared.units.Units.{Units}
-use Rattle.world_law.proofs.devices.Borne.{moves_no_other}
-use Rattle.world_law.proofs.devices.Resting.{are_past}
-use Rattle.world_law.proofs.giving.Given.{some_same}
+use Rattle.world_law.proofs.{frames.{Masters.of_master, Proper.{IsReceiver, received}}, putting.{Moving.{stays, worked_or_here}, PutTwo.{IsPair, two_by}}}
+use Rattle.world_law.{proofs.putting.StandsOn.shown_still, specs.source.Sources.IsRipening}
 use Rattle.world_steps.proofs.hearing.Quiet.{frames_placed}
-use Rattle.world_law.proofs.putting.Bearing.{held_aside, known_aside}
-use Rattle.world_law.proofs.putting.Bumped.{bump_behind, placed, placed_length}
-use Rattle.world_law.proofs.putting.Moving.{all_without, held_moves, ports_move, stays, wires_move, worked_or_here}
-use Rattle.world_law.proofs.putting.Placing.{before_it, put_at}
-use Rattle.world_law.proofs.putting.PutOne.{IsOne, last_unfollowed, one_by, is_last}
-use Rattle.world_law.proofs.putting.PutShown.{due_of, one_shown, record_of, two_shown}
-use Rattle.world_law.proofs.putting.PutTwo.{IsPair, two_by}
-use Rattle.world_law.proofs.putting.StandsOn.{comes_first, shown_still, stands_on, told_wires}
 use Rattle.world_steps.proofs.ripening.Answered.{answered, dropped_kept, high_now, joined_kept, not_before_high, placed_high, quiet_kept, sole}
-use Rattle.world_steps.proofs.ripening.Grown.{IsByRole}
-use Rattle.world_steps.proofs.ripening.Judged.{IsKindOf, becomes_now, outcome_kind}
-use Rattle.world_law.proofs.frames.Masters.{of_master}
-use Rattle.world_steps.proofs.ripening.Outcomes.{drop_fresh, dropped_all, permanent_all}
-use Rattle.world_law.proofs.frames.Proper.{IsReceiver, received}
-use Rattle.world_steps.proofs.ripening.Ripens.{sooner_of, IsRipe, come_of, permanent_at, reach_by, reach_now, ripe_more, ripening_at}
-use Rattle.world_law.proofs.runs.Worlds.{length_is}
-use Rattle.world_law.specs.device.Own.{bears_on}
-use Rattle.world_law.specs.source.Sources.{IsRipening, IsSource}
-use Rattle.world_law.specs.world.Calls.{IsSet, moment_of}
+use Rattle.world_steps.proofs.ripening.{Grown.IsByRole, Judged.{IsKindOf, becomes_now, outcome_kind}, Outcomes.{drop_fresh, dropped_all, permanent_all}}
+use Rattle.world_steps.proofs.ripening.Ripens.{IsRipe, come_of, permanent_at, reach_by, reach_now, ripe_more, ripening_at, sooner_of}
 use Rattle.world_steps.specs.Ripening.{HasRipened, RipenedStep, ripe_bodies}
-use Rattle.world_law.specs.world.Moves.{ArePutIn, ComesFirst, IsWithout, StandsBehind}
-use Rattle.world_law.specs.world.World.{AreOfNetwork, AreSettled, AreWaiting, IsHeld, IsKept, IsWaitingFor, Stands, Waiting, World, hidden, none_yet, port_place, ripe_place, wire_place}
+use Rattle.run_law.specs.declared.judgement.Judgement.TheVariants as judgements
+use Rattle.run_law.specs.declared.judgement.Why.TheVariants as whys
+use Rattle.run_law.specs.declared.note.NoteBody.TheVariants as kinds
+use Rattle.run_law.specs.declared.steps.Ripe.TheVariants as ripe
 
 -- ---- the source is first
-
-other_rank : (now k : ℕ) (ws more : List ℕ) → (3 ≡ k → ⊥) → now ∷ k ∷ ws ≡ now ∷ 3 ∷ more → ⊥
-other_rank now k ws more other e = other (let f : 3 ≡ k = cc in f)
 
 pub ripening_first : {C M : Type 0} (reading : C → ℕ → ℕ) (stands : M → Network → DeviceId → Node → Type 0) (s : Scenario) (world : World C M)
     (notes : List Note) (e : Waiting)
@@ -475,10 +433,6 @@ joined_parts n w back (g ∷ f2) back2 e some =
     let first : w ≡ g = cc in
     let rest : map (bump_behind n) back ≡ f2 ++ back2 = cc in
     (f2, ap (λ (h : Happening). h ∷ f2) (sym first), rest)
-
-no_front : (front : List Happening) (p : List ℕ) → ((f : Happening) → IsIn f front → IsBefore (place_of f) p → ⊥) → AllBefore place_of front p → front ≡ []
-no_front [] p after before = refl
-no_front (f ∷ front) p after before = absurd (after f (inl refl) (before f (inl refl)))
 
 joined_step : {C M : Type 0} (reading : C → ℕ → ℕ) (stands : M → Network → DeviceId → Node → Type 0) (s : Scenario) (world : World C M) (notes : List Note)
     (e : Waiting)

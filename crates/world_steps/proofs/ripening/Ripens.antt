@@ -1,47 +1,17 @@
 -- The first frame that waits, whose point its device's reading has come to, is permanent at this very time, and may be so.
-use Rattle.std.proofs.Common.{◌≡◌, ℕ, zero, suc, ◌+◌, ◌-◌, ◌^◌, ◌≤◌, ◌<◌, ℤ, pos, negsuc, ◌+ℤ◌, ◌<ℤ◌, ◌≤ℤ◌, Bool, false, List, [], ◌∷◌, ◌++◌, get_or, Contains, Some, None, unsigned_abs, inl, inr, refl, sym, ap, subst, ◌∙◌, arith}
-use Rattle.std.specs.List.{after_last}
-use Rattle.std.proofs.lemmas.Bool.{cases_Bool, cases_lt, eqb-true}
-use Rattle.std.proofs.lemmas.Int.{ints}
-use Rattle.compression.specs.Clusters.{Point, point_at}
-use Rattle.compression.specs.declared.compressed.Compressed.{Compressed}
+use Rattle.world_steps.proofs.Words.{◌++◌, ◌+ℤ◌, ◌+◌, ◌-◌, ◌<ℤ◌, ◌<◌, ◌^◌, ◌∙◌, ◌∷◌, ◌≡◌, ◌≤ℤ◌, ◌≤◌, Bool, Compressed, DeviceId, Happening, HasSentFrom}
+use Rattle.world_steps.proofs.Words.{HaveBefallen, IsBefore, IsCaused, IsDue, IsIn, IsInRange, IsMoving, IsOfMaster, IsParentOf, IsPermanent, IsReadyAt, IsRun}
+use Rattle.world_steps.proofs.Words.{IsSource, IsSteady, IsWaitingFor, List, Node, None, NoteBody, Point, Scenario, Some, Units, Waiting, [], after_last}
+use Rattle.world_steps.proofs.Words.{amount, ap, arith, before_later, cases_Bool, cases_int, cases_lt, cycle_in, ends_stretch, eqb-true, false, founded_at}
+use Rattle.world_steps.proofs.Words.{in_parts, inl, inr, ints, is_broken, key, master_of, members_in, moment_of, natural, numbered_in, place_of, point_at}
+use Rattle.world_steps.proofs.Words.{point_by, point_of, points_of, pos, refl, ripe_place, same_device, standpoint, subst, suc, sym, time_of, unsigned_abs}
+use Rattle.world_steps.proofs.Words.{zero, ℕ, ℤ}
+use Rattle.std.proofs.Common.{Contains, get_or, negsuc}
 use Rattle.drift_clock.specs.Reach.{IsReach}
-use Rattle.net_plan.proofs.SameIds.{same_device}
-use Rattle.net_plan.specs.Ranges.{IsInRange}
-use Rattle.net_plan.specs.declared.ids.DeviceId.{DeviceId}
-use Rattle.run_law.proofs.law.FirstPlaces.{founded_at, numbered_in}
-use Rattle.run_law.proofs.records.Order.{all_of, given_of}
-use Rattle.run_law.proofs.runs.Places.{before_later, in_parts}
-use Rattle.run_law.proofs.scenario.Devices.{correct_before}
-use Rattle.run_law.specs.control.Collections.{ends_stretch, master_of, point_by, points_of}
-use Rattle.run_law.specs.control.Permanence.{IsPermanent}
-use Rattle.run_law.specs.declared.note.NoteBody.{NoteBody}
-use Rattle.run_law.specs.declared.note.NoteBody.TheVariants as kinds
-use Rattle.run_law.specs.device.Standpoints.{standpoint}
-use Rattle.run_law.specs.device.States.{cycle_in}
-use Rattle.run_law.specs.machines.Calls.{IsOfMaster, MayRipen}
-use Rattle.run_law.specs.machines.Nodes.{Node}
-use Rattle.run_law.specs.records.Happenings.{Happening, time_of}
-use Rattle.run_law.specs.records.Order.{IsBefore, IsIn}
-use Rattle.run_law.specs.records.Ranks.{key, members_in, place_of}
-use Rattle.run_law.specs.runs.DueRecords.{IsCaused, IsDue}
-use Rattle.run_law.specs.runs.Runs.{IsRun}
-use Rattle.run_law.specs.scenario.Devices.{IsParentOf}
-use Rattle.run_law.specs.scenario.Scenarios.{Scenario, is_broken}
-use Rattle.transparent_clock.specs.Points.{point_of}
-use Rattle.tte_lemmas.proofs.Integers.{whole as natural}
-use Rattle.tte_units.specs.Amount.{amount}
-use Rattle.tte_units.specs.declared.units.Units.{Units}
-use Rattle.world_law.proofs.lists.Orders.{cases_int}
-use Rattle.world_law.proofs.putting.Moving.{IsMoving}
+use Rattle.run_law.{proofs.{records.Order.{all_of, given_of}, scenario.Devices.correct_before}, specs.machines.Calls.MayRipen}
+use Rattle.world_law.{proofs.frames.Proper.{HasCome, IsSound, has_come, is_sound, link_of, received}, specs.source.{First.NoSourceBefore, Sources.IsRipening}}
 use Rattle.world_steps.proofs.ripening.Coming.{IsLateKind}
-use Rattle.world_law.proofs.frames.Proper.{HasCome, IsSound, has_come, is_sound, link_of, received}
-use Rattle.world_law.specs.device.Ready.{IsReadyAt, IsSteady}
-use Rattle.world_law.specs.device.Deeds.{HasSentFrom}
-use Rattle.world_law.specs.source.First.{NoSourceBefore}
-use Rattle.world_law.specs.source.Sources.{IsRipening, IsSource}
-use Rattle.world_law.specs.world.Calls.{moment_of}
-use Rattle.world_law.specs.world.World.{HaveBefallen, IsWaitingFor, Waiting, ripe_place}
+use Rattle.run_law.specs.declared.note.NoteBody.TheVariants as kinds
 
 -- where it stands among those of the time
 abbrev pub ripe_more : Waiting → List ℕ
@@ -196,11 +166,6 @@ pub reach_now : (s : Scenario) (hs coming : List Happening) (mark cursor : List 
     → IsReach (s.reading e.device) (pos (time_of r.it.arrival)) e.point.0 (pos now)
 reach_now s hs coming mark cursor now e r =
     reach_by s hs cursor now e r.it r.moving.first r.later r.sound (r.past r.it.arrival (numbered_in hs e.cause r.it.arrival r.it.there)) r.reached
-
--- so it is permanent now
-abbrev pub ripens_now : (s : Scenario) (hs coming : List Happening) (mark cursor : List ℕ) (now : ℕ) (e : Waiting) → IsRipe s hs coming mark cursor now e
-    → IsPermanent s hs e.device now e.link e.cause e.frame e.point
-ripens_now s hs coming mark cursor now e r = permanent_at s hs e now r.it (reach_now s hs coming mark cursor now e r) r.sound
 
 -- before now its reading had not gone beyond its point
 pub not_beyond : (s : Scenario) (hs coming : List Happening) (mark cursor : List ℕ) (now : ℕ) (e : Waiting) (r : IsRipe s hs coming mark cursor now e) (x : ℕ)

@@ -1,43 +1,22 @@
 -- An event befalls before all else of its instant: the world stands again.
-use Rattle.std.proofs.Common.{◌≡◌, ◌⊎◌, ◌↔◌, ℕ, ◌+◌, ◌≤◌, ◌<◌, pos, ◌≤ℤ◌, Bool, true, false, ◌||◌, ◌&&◌, ◌==◌, if◌then◌else◌, List, [], ◌∷◌, ◌++◌, length, map, slice_get, Some, inl, inr, refl, sym, ap, subst, ◌∙◌, arith}
-use Rattle.std.specs.Prelude.{unsigned_abs}
-use Rattle.std.specs.List.{Contains}
-use Rattle.std.proofs.lemmas.Bool.{cases_Bool, cases_lt}
-use Rattle.std.proofs.lemmas.Int.{ints}
-use Rattle.std.proofs.lemmas.List.{append-nil, length_push}
-use Rattle.std.proofs.lemmas.List.Elements.{Contains-push, Contains-push_cases}
-use Rattle.std.proofs.lemmas.Option.{slice_get_within}
-use Rattle.net_plan.specs.declared.event.Event.{Event}
-use Rattle.net_plan.specs.declared.ids.LinkId.{LinkId}
-use Rattle.net_plan.specs.declared.event.What.TheVariants as events
-use Rattle.net_plan.specs.declared.event.What.{What}
-use Rattle.net_plan.specs.declared.ids.DeviceId.{DeviceId}
-use Rattle.net_plan.specs.declared.network.Network.{Network}
-use Rattle.run_law.proofs.law.FirstPlaces.{numbered_next, numbered_within}
-use Rattle.run_law.proofs.runs.NetworkRuns.{one_more}
-use Rattle.run_law.proofs.runs.Places.{before_behind, before_next_time, before_of_time, chain, in_left, in_parts, in_right, never_self}
-use Rattle.run_law.specs.records.Happenings.{Happening, happening, happenings, time_of}
-use Rattle.run_law.specs.machines.Nodes.{Node}
-use Rattle.run_law.specs.records.Order.{IsBefore, IsIn, behind}
-use Rattle.run_law.specs.records.Ranks.{place_of}
+use Rattle.world_steps.proofs.Words.{if◌then◌else◌, ◌&&◌, ◌++◌, ◌+◌, ◌<◌, ◌==◌, ◌||◌, ◌↔◌, ◌∙◌, ◌∷◌, ◌≡◌, ◌≤ℤ◌, ◌≤◌, ◌⊎◌, AreAtPorts, AreOfNetwork, AreOnWires}
+use Rattle.world_steps.proofs.Words.{AreSettled, AreUntold, AreWaiting, Befell, Bool, Contains-push, Contains-push_cases, DeviceId, Event, Happening, IsBefore}
+use Rattle.world_steps.proofs.Words.{IsEventBody, IsHeld, IsIn, IsOnWire, LinkId, List, Network, Node, OnWire, Scenario, Some, Units, What, World, [], amount}
+use Rattle.world_steps.proofs.Words.{ap, append-nil, arith, before_behind, behind, cases_Bool, chain, clock_place, false, happening, happenings, has_outcome}
+use Rattle.world_steps.proofs.Words.{hidden, in_left, in_parts, in_right, inl, inr, ints, length, map, never_self, numbered_within, place_of, pos, refl}
+use Rattle.world_steps.proofs.Words.{scenario, slice_get, some_same, subst, sym, time_of, true, turns_on, unsigned_abs, ℕ}
+use Rattle.std.{proofs.lemmas.{List.length_push, Option.slice_get_within}, specs.List.Contains}
+use Rattle.run_law.proofs.{law.FirstPlaces.numbered_next, runs.{NetworkRuns.one_more, Places.{before_next_time, before_of_time}}}
 use Rattle.run_law.specs.runs.DueRecords.{EndsAt, IsScenarioRun}
-use Rattle.run_law.specs.scenario.Scenarios.{Scenario, turns_on}
-use Rattle.run_law.specs.declared.note.NoteBody.TheVariants as kinds
 use Rattle.tte_lemmas.proofs.Lists.{pushed as get_more}
-use Rattle.tte_units.specs.Amount.{amount}
-use Rattle.tte_units.specs.declared.units.Units.{Units}
-use Rattle.world_law.proofs.giving.Given.{some_same}
-use Rattle.world_law.proofs.giving.GivenParts.{up_to_place}
-use Rattle.world_law.proofs.runs.Applies.{line_before, run_goes_on_by_event, same_length}
-use Rattle.world_law.proofs.runs.Firsts.{numbered_more, numbered_still}
+use Rattle.world_law.proofs.{giving.{GivenParts.up_to_place, Storing.stored_still}, runs.Applies.{line_before, run_goes_on_by_event, same_length}}
+use Rattle.world_law.{proofs.runs.Firsts.{numbered_more, numbered_still}, specs.source.Applying.{MayBefall, note_of_event, place_of_event}}
+use Rattle.world_law.specs.world.{Outcomes.{also_befell, ends_world}, World.{AreInOrder, AreStored, IsFromEnd}}
 use Rattle.world_steps.proofs.steps.AppliedDevices.{IsApplying, event_moves, held_apply, off_before}
-use Rattle.world_law.proofs.giving.Storing.{stored_still}
 use Rattle.world_steps.proofs.steps.AppliedParts.{IsBefalling, agree_before, before_others, nothing_due, ports_apply, turned_more, waiting_apply, wires_apply}
-use Rattle.world_law.specs.source.Agreeing.{scenario}
-use Rattle.world_law.specs.source.Applying.{IsEventBody, MayBefall, note_of_event, place_of_event}
 use Rattle.world_steps.specs.Steps.{AppliedStep, FitsWorld}
-use Rattle.world_law.specs.world.Outcomes.{also_befell, ends_world}
-use Rattle.world_law.specs.world.World.{AreAtPorts, AreInOrder, AreOfNetwork, AreOnWires, AreSettled, AreStored, AreUntold, AreWaiting, Befell, IsFromEnd, IsHeld, IsOnWire, OnWire, World, clock_place, has_outcome, hidden}
+use Rattle.net_plan.specs.declared.event.What.TheVariants as events
+use Rattle.run_law.specs.declared.note.NoteBody.TheVariants as kinds
 
 -- ---- the end
 

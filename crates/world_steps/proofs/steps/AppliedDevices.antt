@@ -1,53 +1,20 @@
 -- An event befalls before all else of its instant: each device then.
-use Rattle.std.proofs.Common.{◌≡◌, ◌⊎◌, ℕ, ℤ, ◌+◌, ◌-ℤ◌, ◌≤◌, ◌<◌, pos, ◌<ℤ◌, ◌≤ℤ◌, Bool, true, false, ◌&&◌, ◌||◌, ◌==◌, if◌then◌else◌, not, List, [], ◌∷◌, ◌++◌, ◌+ℤ◌, filter, fold, length, slice_get, None, Some, inl, inr, refl, sym, ap, subst, ◌∙◌, arith}
-use Rattle.std.specs.List.{Contains, last_or}
-use Rattle.std.specs.Option.{option_map_or}
-use Rattle.std.proofs.lemmas.Bool.{and_from, and_right, cases_Bool, eq-eqb, eqb-true}
-use Rattle.std.proofs.lemmas.Int.{ints}
-use Rattle.std.proofs.lemmas.List.{append-nil}
-use Rattle.compression.specs.declared.compressed.Compressed.{Compressed}
-use Rattle.net_plan.specs.declared.event.Event.{Event}
+use Rattle.world_steps.proofs.Words.{if◌then◌else◌, ◌&&◌, ◌++◌, ◌+ℤ◌, ◌+◌, ◌-ℤ◌, ◌<ℤ◌, ◌<◌, ◌==◌, ◌||◌, ◌∙◌, ◌∷◌, ◌≡◌, ◌≤ℤ◌, ◌≤◌, ◌⊎◌, Bool, ClockTask}
+use Rattle.world_steps.proofs.Words.{Compressed, DeviceId, Event, Happening, HasDoneFrom, HasSentFrom, Integrating, IsBefore, IsDeedOf, IsEventBody, IsHeld}
+use Rattle.world_steps.proofs.Words.{IsIn, IsKept, IsLeft, IsNoTaking, IsOut, IsPending, IsReadyAt, IsUndone, IsWaiting, List, Network, Node, None, NoteBody}
+use Rattle.world_steps.proofs.Words.{Off, Scenario, Some, State, Synchronised, Task, Units, What, World, [], act_place, adjustment_after, adjustment_with}
+use Rattle.world_steps.proofs.Words.{amount, and_right, ap, append-nil, arith, bears_on, cases_Bool, changed_at, changes_adjustment, correcting, cycle_in}
+use Rattle.world_steps.proofs.Words.{dispatching, doing, earlier, emitting, eq-eqb, eqb-true, false, filter, fold, frames_taken, in_parts, inl, inr, ints}
+use Rattle.world_steps.proofs.Words.{is_broken, is_timed, is_turned_on_at, last_or, length, moves, never_self, next_is_up_to, not, not_turned_on, numbered}
+use Rattle.world_steps.proofs.Words.{option_map_or, pos, rank_of_call, reading_for, refl, same_before, scenario, sending, slice_get, state_after, state_with}
+use Rattle.world_steps.proofs.Words.{subst, sym, time_of, true, turns_on, up_to, value_of, waiting_alike, whole, ℕ, ℤ}
+use Rattle.std.{proofs.lemmas.Bool.and_from, specs.List.Contains}
+use Rattle.run_law.specs.{machines.Answers.node_turned_on, scenario.Hypothesis.breaks_at}
+use Rattle.world_law.proofs.{acts.Recorded.none_recorded, devices.{Befalls.{is_turned_on, stands_still}, Borne.other_comes, TurnedOn.fold_still}}
+use Rattle.world_law.{proofs.rows.Takings.{frames_alike, frames_end}, specs.world.{Outcomes.befallen_node, World.IsCalledBy}}
+use Rattle.world_steps.{proofs.steps.{AppliedParts.{broken_more, turned_more}, Passed.no_task}, specs.Steps.FitsWorld}
 use Rattle.net_plan.specs.declared.event.What.TheVariants as events
-use Rattle.net_plan.specs.declared.event.What.{What}
-use Rattle.net_plan.specs.declared.ids.DeviceId.{DeviceId}
-use Rattle.net_plan.specs.declared.network.Network.{Network}
-use Rattle.run_law.proofs.runs.Places.{in_parts, never_self}
 use Rattle.run_law.specs.declared.note.NoteBody.TheVariants as notes
-use Rattle.run_law.specs.declared.note.NoteBody.{NoteBody}
-use Rattle.run_law.specs.device.LocalClocks.{changed_at, changes_adjustment}
-use Rattle.run_law.specs.device.States.{adjustment_after, adjustment_with, cycle_in, state_after, state_with}
-use Rattle.run_law.specs.machines.Answers.{node_turned_on}
-use Rattle.run_law.specs.machines.Nodes.{ClockTask, Node, sending, correcting, dispatching}
-use Rattle.run_law.specs.machines.Tasks.{IsDeedOf, IsPending, IsUndone, IsWaiting, Task, doing, emitting, reading_for, value_of}
-use Rattle.run_law.specs.records.Happenings.{Happening, earlier, numbered, time_of, up_to}
-use Rattle.run_law.specs.records.Order.{IsBefore, IsIn}
-use Rattle.run_law.specs.scenario.Hypothesis.{breaks_at}
-use Rattle.run_law.specs.scenario.Scenarios.{Scenario, is_broken, is_turned_on_at, turns_on}
-use Rattle.sync_state.specs.declared.state.State.TheVariants.{Integrating, Off, Synchronised}
-use Rattle.sync_state.specs.declared.state.State.{State}
-use Rattle.tte_lemmas.proofs.Integers.{whole}
-use Rattle.tte_units.specs.Amount.{amount}
-use Rattle.tte_units.specs.declared.units.Units.{Units}
-use Rattle.world_law.proofs.acts.Acted.{waiting_alike}
-use Rattle.world_law.proofs.acts.Recorded.{none_recorded}
-use Rattle.world_law.proofs.devices.Befalls.{is_turned_on, stands_still}
-use Rattle.world_law.proofs.devices.Borne.{other_comes}
-use Rattle.world_law.proofs.devices.OwnRecords.{same_before}
-use Rattle.world_law.proofs.devices.Passes.{not_turned_on}
-use Rattle.world_law.proofs.devices.TurnedOn.{fold_still, next_is_up_to}
-use Rattle.world_law.proofs.rows.Takings.{IsNoTaking, frames_alike, frames_end}
-use Rattle.world_steps.proofs.steps.AppliedParts.{broken_more, turned_more}
-use Rattle.world_steps.proofs.steps.Passed.{no_task}
-use Rattle.world_law.specs.device.Ready.{IsReadyAt}
-use Rattle.world_law.specs.device.Deeds.{HasDoneFrom, HasSentFrom}
-use Rattle.world_law.specs.device.Left.{IsLeft, is_timed}
-use Rattle.world_law.specs.device.Own.{bears_on, moves}
-use Rattle.world_law.specs.device.Takings.{frames_taken}
-use Rattle.world_law.specs.source.Agreeing.{scenario}
-use Rattle.world_law.specs.source.Applying.{IsEventBody}
-use Rattle.world_steps.specs.Steps.{FitsWorld}
-use Rattle.world_law.specs.world.Outcomes.{befallen_node}
-use Rattle.world_law.specs.world.World.{IsCalledBy, IsHeld, IsKept, IsOut, World, act_place, rank_of_call}
 
 -- ---- what an event makes of a node
 

@@ -1,42 +1,17 @@
 -- An event befalls before all else of its instant: what is under way then, and what is due.
-use Rattle.std.proofs.Common.{◌≡◌, ◌⊎◌, ◌↔◌, ℕ, ◌+◌, ◌≤◌, ◌<◌, pos, Bool, true, false, ◌||◌, ◌&&◌, ◌==◌, List, [], ◌∷◌, ◌++◌, length, Some, inl, inr, refl, sym, ap, subst, ◌∙◌, arith}
-use Rattle.std.specs.Prelude.{nat_le}
-use Rattle.std.proofs.lemmas.Bool.{cases_lt, le-leb, lt-leb}
-use Rattle.std.proofs.lemmas.Int.{ints}
-use Rattle.std.proofs.lemmas.Option.{slice_get_within}
-use Rattle.std.specs.List.{list_any}
-use Rattle.net_plan.specs.declared.event.Event.{Event}
-use Rattle.net_plan.specs.declared.ids.DeviceId.{DeviceId}
-use Rattle.net_plan.specs.declared.ids.LinkId.{LinkId}
-use Rattle.net_plan.specs.declared.network.Network.{Network}
-use Rattle.run_law.proofs.law.FirstPlaces.{numbered_in}
-use Rattle.run_law.specs.records.Happenings.{Happening, numbered, time_of}
-use Rattle.run_law.specs.scenario.Hypothesis.{breaks_at}
-use Rattle.run_law.specs.control.Leaving.{Gives}
-use Rattle.run_law.specs.records.Order.{IsBefore, IsIn, behind}
-use Rattle.run_law.specs.control.Permanence.{IsPermanent}
-use Rattle.run_law.specs.records.Ranks.{members_in, place_of, rank}
-use Rattle.run_law.specs.runs.DueRecords.{IsCaused}
-use Rattle.run_law.specs.scenario.Scenarios.{Scenario, events_up_to, is_broken, is_turned_on_at, turns_on}
-use Rattle.run_law.specs.scenario.Ways.{way_from}
+use Rattle.world_steps.proofs.Words.{◌&&◌, ◌++◌, ◌+◌, ◌<◌, ◌==◌, ◌||◌, ◌↔◌, ◌∙◌, ◌∷◌, ◌≡◌, ◌≤◌, ◌⊎◌, AreAtPorts, AreOnWires, AreSettled, AreWaiting, AtPort}
+use Rattle.world_steps.proofs.Words.{Bool, DeviceId, Event, Gives, Happening, IsBefore, IsCaused, IsEventBody, IsIn, IsOnWire, IsOwnSource, IsPermanent}
+use Rattle.world_steps.proofs.Words.{IsWaitingFor, LinkId, List, Network, NoteBody, OnWire, Scenario, Some, Units, Waiting, [], amount, ap, arith, behind}
+use Rattle.world_steps.proofs.Words.{cases_lt, false, filter_no, filter_yes, inl, inr, ints, is_broken, is_turned_on_at, length, list_any, members_in, nat_le}
+use Rattle.world_steps.proofs.Words.{numbered, numbered_in, or_none, own_time, place_of, point_of, port_place, pos, rank, refl, ripe_place, scenario, subst}
+use Rattle.world_steps.proofs.Words.{sym, time_of, true, turns_on, way_from, wire_place, ℕ}
+use Rattle.std.proofs.lemmas.{Bool.{le-leb, lt-leb}, Option.slice_get_within}
+use Rattle.run_law.specs.scenario.{Hypothesis.breaks_at, Scenarios.events_up_to}
+use Rattle.tte_lemmas.proofs.Lists.{pushed}
+use Rattle.world_law.proofs.runs.{Agreement.{broken_same, reach_same}, Applies.{agree_back, event_cause, event_place}, Firsts.{numbered_more, numbered_still}}
+use Rattle.world_law.{proofs.runs.SameCauses.{arrives_same, hold_same}, specs.{source.Agreeing.Agree, world.World.IsForward}}
 use Rattle.run_law.specs.declared.judgement.Why.TheVariants as whys
 use Rattle.run_law.specs.declared.note.NoteBody.TheVariants as notes
-use Rattle.run_law.specs.declared.note.NoteBody.{NoteBody}
-use Rattle.transparent_clock.specs.Points.{point_of}
-use Rattle.tte_lemmas.proofs.Bools.{or_none}
-use Rattle.tte_lemmas.proofs.Lists.{pushed}
-use Rattle.tte_units.specs.Amount.{amount}
-use Rattle.tte_units.specs.declared.units.Units.{Units}
-use Rattle.world_law.proofs.lists.Lists.{filter_no, filter_yes}
-use Rattle.world_law.proofs.putting.PutIn.{own_time}
-use Rattle.world_law.proofs.runs.Agreement.{broken_same, reach_same}
-use Rattle.world_law.proofs.runs.Applies.{agree_back, event_cause, event_place}
-use Rattle.world_law.proofs.runs.Firsts.{numbered_more, numbered_still}
-use Rattle.world_law.proofs.runs.SameCauses.{arrives_same, hold_same}
-use Rattle.world_law.specs.source.Agreeing.{Agree, scenario}
-use Rattle.world_law.specs.source.Applying.{IsEventBody}
-use Rattle.world_law.specs.source.Sources.{IsOwnSource}
-use Rattle.world_law.specs.world.World.{AreAtPorts, AreOnWires, AreSettled, AreWaiting, AtPort, IsForward, IsOnWire, IsWaitingFor, OnWire, Waiting, port_place, ripe_place, wire_place}
 
 -- what the step starts from
 pub record IsBefalling (network : Network) (f g : DeviceId → ℕ → ℕ) (past : List Event) (event : Event) (hs : List Happening) (mark cursor : List ℕ) (now : ℕ)

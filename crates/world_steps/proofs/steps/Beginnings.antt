@@ -1,30 +1,11 @@
 -- A fresh world stands for the run of no records under no events.
-use Rattle.std.proofs.Common.{◌≡◌, ℕ, ℤ, ◌+◌, ◌^◌, ◌≤◌, pos, ◌+ℤ◌, ◌-ℤ◌, ◌≤ℤ◌, ◌<ℤ◌, true, false, List, [], ◌∷◌, ◌++◌, inl, inr, refl, sym, ap, subst, ◌∙◌, arith}
-use Rattle.std.proofs.lemmas.Int.{ints}
-use Rattle.net_plan.specs.declared.ids.DeviceId.{DeviceId}
-use Rattle.net_plan.specs.declared.network.Network.{Network}
-use Rattle.run_law.proofs.records.Happenings.{none_numbered}
-use Rattle.run_law.proofs.runs.Grow.{empty_run}
-use Rattle.run_law.proofs.runs.Places.{before_later_time, chain}
-use Rattle.run_law.proofs.silent.Due.{no_cluster}
-use Rattle.run_law.specs.control.Collections.{observation_window}
-use Rattle.run_law.specs.machines.Nodes.{Node, begun_node, dispatching, correcting, sending}
-use Rattle.run_law.specs.machines.Tasks.{IsPending, Task, doing, emitting, reading_for, value_of}
-use Rattle.run_law.specs.records.Happenings.{Happening}
-use Rattle.run_law.specs.records.Order.{IsBefore, IsIn}
-use Rattle.run_law.specs.records.Ranks.{place_of}
-use Rattle.run_law.specs.runs.DueRecords.{IsDue}
-use Rattle.run_law.specs.scenario.Devices.{start_of}
-use Rattle.run_law.specs.scenario.Scenarios.{Scenario}
+use Rattle.world_steps.proofs.Words.{◌++◌, ◌+ℤ◌, ◌+◌, ◌-ℤ◌, ◌<ℤ◌, ◌^◌, ◌∙◌, ◌∷◌, ◌≡◌, ◌≤ℤ◌, ◌≤◌, DeviceId, Happening, IsBefore, IsDue, IsIn, IsKept, IsLeft}
+use Rattle.world_steps.proofs.Words.{IsPending, IsSource, List, Network, Node, Scenario, Task, Units, [], amount, ap, arith, chain, correcting, dispatching}
+use Rattle.world_steps.proofs.Words.{doing, emitting, false, inl, inr, ints, no_cluster, none_in, observation_window, place_of, pos, reading_for, refl}
+use Rattle.world_steps.proofs.Words.{scenario, sending, subst, sym, true, value_of, ℕ, ℤ}
+use Rattle.run_law.{proofs.{records.Happenings.none_numbered, runs.Grow.empty_run}, specs.{machines.Nodes.begun_node, scenario.Devices.start_of}}
 use Rattle.sync_state.specs.Standing.{adjustment_at_start}
-use Rattle.tte_lemmas.proofs.Lists.{none_in}
-use Rattle.tte_units.specs.Amount.{amount}
-use Rattle.tte_units.specs.declared.units.Units.{Units}
-use Rattle.world_law.specs.device.Left.{IsLeft}
-use Rattle.world_law.specs.source.Agreeing.{scenario}
-use Rattle.world_law.specs.source.Sources.{IsSource}
 use Rattle.world_steps.specs.Steps.{Begun}
-use Rattle.world_law.specs.world.World.{IsKept}
 
 -- nothing of the run is before the first source
 low_rank : (t k : ℕ) (ws : List ℕ) → 1 ≤ k → IsBefore (t ∷ k ∷ ws) (0 ∷ 1 ∷ []) → ⊥

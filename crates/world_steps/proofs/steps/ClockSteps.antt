@@ -1,33 +1,15 @@
 -- The clock of a device is shown at the end.
-use Rattle.std.proofs.Common.{◌≡◌, ◌↔◌, ℕ, ◌+◌, ◌≤◌, ◌<◌, true, List, [], ◌∷◌, ◌++◌, length, map, inl, inr, refl, sym, ap, subst, ◌∙◌, arith}
-use Rattle.std.proofs.lemmas.Bool.{cases_lt}
-use Rattle.std.proofs.lemmas.Int.{ints}
-use Rattle.net_plan.specs.declared.ids.DeviceId.{DeviceId}
-use Rattle.net_plan.specs.declared.network.Network.{Network}
-use Rattle.run_law.proofs.runs.Places.{before_behind, chain, either_way}
-use Rattle.run_law.specs.declared.judgement.Why.TheVariants as whys
-use Rattle.run_law.specs.declared.note.Note.{Note}
-use Rattle.run_law.specs.declared.note.NoteBody.TheVariants as kinds
-use Rattle.run_law.specs.declared.note.NoteBody.{NoteBody}
-use Rattle.run_law.specs.device.States.{adjustment_after, state_after}
-use Rattle.run_law.specs.machines.Nodes.{Node}
-use Rattle.run_law.specs.records.Happenings.{Happening, happening, happenings, time_of, up_to}
-use Rattle.run_law.specs.records.Order.{IsBefore, behind}
-use Rattle.run_law.specs.records.Ranks.{key, members_in, place_of, rank}
-use Rattle.run_law.specs.runs.DueRecords.{IsDue}
-use Rattle.run_law.specs.scenario.Scenarios.{Scenario}
-use Rattle.tte_units.specs.Amount.{units_of}
-use Rattle.world_law.proofs.devices.Shown.{all_past, held_shows}
-use Rattle.world_law.proofs.giving.Given.{device_in, some_same}
-use Rattle.world_law.proofs.giving.GivenParts.{up_to_place}
-use Rattle.world_law.proofs.putting.Moving.{IsMoving, all_without, held_moves, ports_move, waiting_moves, wires_move}
-use Rattle.world_law.proofs.putting.Putting.{IsPutting, held_put, known_put, put_list, settled_put}
-use Rattle.world_law.proofs.putting.StandsOn.{comes_first, source_told, stands_on, told_wires}
-use Rattle.world_law.proofs.runs.SourcesBack.{at_least}
-use Rattle.world_law.specs.source.Sources.{IsOwnSource, IsSource}
-use Rattle.world_law.specs.world.Moves.{ArePutIn, settled_as}
+use Rattle.world_steps.proofs.Words.{◌++◌, ◌+◌, ◌<◌, ◌↔◌, ◌∙◌, ◌∷◌, ◌≡◌, ◌≤◌, AreOfNetwork, ArePutIn, DeviceId, Happening, IsBefore, IsDue, IsHeld, IsMoving}
+use Rattle.world_steps.proofs.Words.{IsOwnSource, IsSource, List, Network, Node, Note, NoteBody, Scenario, [], act_place, adjustment_after, all_without, ap}
+use Rattle.world_steps.proofs.Words.{arith, at_least, before_behind, behind, cases_lt, chain, clock_place, comes_first, either_way, happening, happenings}
+use Rattle.world_steps.proofs.Words.{held_moves, hidden, inl, inr, ints, is_at_source, key, length, map, members_in, place_of, port_place, ports_move, put_list}
+use Rattle.world_steps.proofs.Words.{rank, refl, settled_as, some_same, stands_on, state_after, subst, sym, time_of, told_wires, true, units_of, up_to}
+use Rattle.world_steps.proofs.Words.{waiting_moves, wire_place, wires_move, ℕ}
+use Rattle.world_law.proofs.{devices.Shown.{all_past, held_shows}, giving.{Given.device_in, GivenParts.up_to_place}}
+use Rattle.world_law.proofs.putting.{Putting.{IsPutting, held_put, known_put, settled_put}, StandsOn.source_told}
 use Rattle.world_steps.specs.Steps.{ClockStep}
-use Rattle.world_law.specs.world.World.{AreOfNetwork, IsHeld, act_place, clock_place, hidden, is_at_source, port_place, wire_place}
+use Rattle.run_law.specs.declared.judgement.Why.TheVariants as whys
+use Rattle.run_law.specs.declared.note.NoteBody.TheVariants as kinds
 
 no_rank : {t now : ℕ} {ws more : List ℕ} (k r : ℕ) → now ∷ r ∷ more ≡ t ∷ k ∷ ws → (k ≡ r → ⊥) → ⊥
 no_rank k r e other = let same : k ≡ r = cc in other same

@@ -1,35 +1,15 @@
 -- A frame at a port leaves.
-use Rattle.std.proofs.Common.{◌≡◌, ◌⊎◌, ℕ, ◌+◌, ◌≤◌, ◌<◌, Bool, true, false, if◌then◌else◌, List, [], ◌∷◌, ◌++◌, length, map, inl, inr, refl, sym, ap, subst, ◌∙◌, arith, append_assoc}
-use Rattle.std.proofs.lemmas.Bool.{cases_Bool, both_ways}
-use Rattle.std.proofs.lemmas.Int.{ints}
-use Rattle.std.proofs.lemmas.List.{length-map}
-use Rattle.net_plan.specs.declared.ids.DeviceId.{DeviceId}
-use Rattle.net_plan.specs.declared.network.Network.{Network}
-use Rattle.run_law.proofs.runs.Places.{before_behind, chain, in_left, in_right, parted}
-use Rattle.run_law.specs.declared.note.Note.{Note}
-use Rattle.run_law.specs.declared.note.NoteBody.{NoteBody}
-use Rattle.run_law.specs.machines.Nodes.{Node}
-use Rattle.run_law.specs.records.Causes.{cause_of}
-use Rattle.run_law.specs.records.Happenings.{Happening, happening, happenings, numbered, time_of}
-use Rattle.run_law.specs.records.Order.{AllBefore, IsBefore, IsIn, NoneBefore, behind}
-use Rattle.run_law.specs.records.Ranks.{members_in, place_of, rank}
-use Rattle.run_law.specs.runs.DueRecords.{IsDue}
-use Rattle.run_law.specs.scenario.Scenarios.{Scenario, is_broken}
-use Rattle.tte_units.specs.Amount.{units_of}
-use Rattle.world_law.proofs.giving.GivenParts.{second}
-use Rattle.world_law.proofs.putting.Alike.{happening_alike}
-use Rattle.world_law.proofs.putting.HiddenLists.{bumped_hidden, late_place, map_parts, put_length, split_hidden}
-use Rattle.world_law.proofs.putting.Idle.{bump, numbered_prefix}
-use Rattle.world_law.proofs.putting.Moving.{IsMoving, all_without, held_moves, ports_move, settled_moves, waiting_moves, wires_move}
-use Rattle.world_law.proofs.putting.Putting.{IsPutting, held_put, known_put, put_list, settled_put}
-use Rattle.world_law.proofs.putting.StandsOn.{comes_first, in_mapped, shown_still, stands_on, told_wires}
-use Rattle.world_law.proofs.runs.SourcesBack.{at_least}
-use Rattle.world_steps.proofs.steps.Outcomes.{body_cause, body_caused, body_idle, body_key, body_own, body_ranks, body_shown, departs_now, few_cause, nothing_of_broken, outcome_at, own_there}
-use Rattle.world_law.specs.source.Sources.{IsSource}
-use Rattle.world_law.specs.world.Moves.{ArePutIn, ComesFirst, IsWithout, StandsBehind, settled_as}
-use Rattle.world_steps.specs.Steps.{LeftStep, departure_now}
-use Rattle.world_law.specs.world.Outcomes.{departure_body}
-use Rattle.world_law.specs.world.World.{AreOfNetwork, AreSettled, AtPort, IsHeld, Stands, World, act_place, hidden, is_at_source, none_yet, port_place, wire_place}
+use Rattle.world_steps.proofs.Words.{if◌then◌else◌, ◌++◌, ◌+◌, ◌<◌, ◌∙◌, ◌∷◌, ◌≡◌, ◌≤◌, ◌⊎◌, AllBefore, AreOfNetwork, ArePutIn, AreSettled, AtPort, Bool}
+use Rattle.world_steps.proofs.Words.{ComesFirst, DeviceId, Happening, IsBefore, IsDue, IsHeld, IsIn, IsMoving, IsSource, IsWithout, List, Network, Node}
+use Rattle.world_steps.proofs.Words.{NoneBefore, Note, NoteBody, Scenario, Stands, StandsBehind, World, [], act_place, all_without, ap, append_assoc, arith}
+use Rattle.world_steps.proofs.Words.{at_least, before_behind, behind, both_ways, bump, cases_Bool, cause_of, chain, comes_first, false, happening, happenings}
+use Rattle.world_steps.proofs.Words.{held_moves, hidden, in_left, in_mapped, in_right, inl, inr, ints, is_at_source, is_broken, length, length-map, map}
+use Rattle.world_steps.proofs.Words.{members_in, none_yet, numbered, numbered_prefix, parted, place_of, port_place, ports_move, put_list, rank, refl, second}
+use Rattle.world_steps.proofs.Words.{settled_as, stands_on, subst, sym, time_of, told_wires, true, units_of, waiting_moves, wire_place, wires_move, ℕ}
+use Rattle.world_law.proofs.putting.{Alike.happening_alike, HiddenLists.{bumped_hidden, late_place, map_parts, put_length, split_hidden}, Moving.settled_moves}
+use Rattle.world_law.{proofs.putting.{Putting.{IsPutting, held_put, known_put, settled_put}, StandsOn.shown_still}, specs.world.Outcomes.departure_body}
+use Rattle.world_steps.proofs.steps.Outcomes.{body_cause, body_caused, body_idle, body_key, body_own, body_ranks, body_shown, departs_now, few_cause}
+use Rattle.world_steps.{proofs.steps.Outcomes.{nothing_of_broken, outcome_at, own_there}, specs.Steps.{LeftStep, departure_now}}
 
 -- ---- the source is first
 

@@ -1,38 +1,15 @@
 -- What becomes of a frame that leaves: the one record of it.
-use Rattle.std.proofs.Common.{◌≡◌, ◌⊎◌, ℕ, ◌+◌, ◌-◌, ◌≤◌, ◌<◌, Bool, true, false, not, ◌||◌, if◌then◌else◌, nat_lt, List, [], ◌∷◌, ◌++◌, length, filter, Some, None, inl, inr, refl, sym, ap, subst, ◌∙◌, arith}
-use Rattle.std.specs.List.{last_or}
-use Rattle.net_plan.specs.Places.{link_at}
-use Rattle.net_plan.specs.declared.ids.DeviceId.{DeviceId}
-use Rattle.net_plan.specs.declared.ids.LinkId.{LinkId}
-use Rattle.pcf_values.specs.declared.pcf.Pcf.{Pcf}
-use Rattle.run_law.proofs.law.FirstDeliveries.{last_in}
-use Rattle.run_law.proofs.law.FirstPlaces.{by_number, in_filter, numbered_within}
-use Rattle.run_law.specs.records.Causes.{cause_of}
-use Rattle.run_law.specs.scenario.Devices.{is_parent_of, is_relay}
-use Rattle.run_law.specs.timed.Dispatching.{Dispatches, is_accepted}
-use Rattle.run_law.specs.records.Happenings.{Happening, earlier, numbered, time_of}
-use Rattle.run_law.specs.control.Leaving.{Departs, Departure, Gives, departure, leaves, on_cut_way, too_old}
+use Rattle.world_steps.proofs.Words.{if◌then◌else◌, ◌++◌, ◌+◌, ◌-◌, ◌<◌, ◌||◌, ◌∙◌, ◌∷◌, ◌≡◌, ◌≤◌, ◌⊎◌, AtPort, Bool, DeviceId, Dispatches, Gives, Happening}
+use Rattle.world_steps.proofs.Words.{IsCaused, IsDue, IsFounded, IsOwnSource, Launch, LinkId, List, None, NoteBody, Pcf, Scenario, Some, Units, [], amount, ap}
+use Rattle.world_steps.proofs.Words.{arith, by_number, cause_of, earlier, earlier_still, false, filter, hidden_body, inl, inr, is_accepted, is_at_source}
+use Rattle.world_steps.proofs.Words.{is_broken, is_cut, is_parent_of, is_relay, key, last_in, last_or, launched, length, link_at, nat_lt, not, numbered}
+use Rattle.world_steps.proofs.Words.{numbered_prefix, numbered_within, place_of, rank, refl, second, some_same, subst, sym, time_of, true, way_from, ℕ}
+use Rattle.run_law.{proofs.law.FirstPlaces.in_filter, specs.control.Leaving.{Departs, Departure, departure, leaves, on_cut_way, too_old}}
 use Rattle.run_law.specs.control.Permanence.{waits_for}
-use Rattle.run_law.specs.records.Ranks.{key, place_of, rank}
-use Rattle.run_law.specs.runs.DueRecords.{IsCaused, IsDue}
-use Rattle.run_law.specs.runs.Runs.{IsFounded}
-use Rattle.run_law.specs.scenario.Scenarios.{Scenario, is_broken}
-use Rattle.run_law.specs.control.Wires.{Launch, launched}
-use Rattle.run_law.specs.scenario.Ways.{is_cut, way_from}
+use Rattle.world_law.{proofs.{frames.Masters.parent_true, putting.Idle.IsIdle}, specs.world.{Outcomes.departure_body, World.IsAtPort}}
+use Rattle.world_steps.specs.Steps.{departure_now}
 use Rattle.run_law.specs.declared.judgement.Why.TheVariants as whys
 use Rattle.run_law.specs.declared.note.NoteBody.TheVariants as kinds
-use Rattle.run_law.specs.declared.note.NoteBody.{NoteBody}
-use Rattle.tte_units.specs.Amount.{amount}
-use Rattle.tte_units.specs.declared.units.Units.{Units}
-use Rattle.world_law.proofs.frames.Masters.{parent_true}
-use Rattle.world_law.proofs.giving.Given.{some_same}
-use Rattle.world_law.proofs.giving.GivenParts.{second}
-use Rattle.world_law.proofs.putting.Idle.{IsIdle, numbered_prefix}
-use Rattle.world_law.proofs.runs.SourcesBack.{earlier_still}
-use Rattle.world_law.specs.source.Sources.{IsOwnSource}
-use Rattle.world_law.specs.world.Outcomes.{departure_body}
-use Rattle.world_steps.specs.Steps.{departure_now}
-use Rattle.world_law.specs.world.World.{AtPort, IsAtPort, hidden_body, is_at_source}
 
 -- ---- the body of the record
 

@@ -1,51 +1,17 @@
 -- Time passes where nothing is to come.
-use Rattle.std.proofs.Common.{◌≡◌, ℕ, ◌+◌, ◌^◌, ◌≤◌, ◌<◌, pos, ◌≤ℤ◌, ◌<ℤ◌, ℤ, ◌-◌, true, false, List, [], ◌∷◌, ◌++◌, length, map, filter_map, slice_get, Some, None, inl, inr, refl, sym, ap, subst, ◌∙◌, arith}
-use Rattle.std.proofs.lemmas.Bool.{cases_Bool, cases_lt}
-use Rattle.std.proofs.lemmas.List.{append-nil}
-use Rattle.std.specs.List.{last_or}
+use Rattle.world_steps.proofs.Words.{◌++◌, ◌+◌, ◌-◌, ◌<ℤ◌, ◌<◌, ◌^◌, ◌∙◌, ◌∷◌, ◌≡◌, ◌≤ℤ◌, ◌≤◌, AreOfNetwork, AreSettled, DeviceId, Down, Event, Happening}
+use Rattle.world_steps.proofs.Words.{HasDoneFrom, HaveBefallen, IsBefore, IsHeld, IsIn, IsKept, IsLeft, IsOut, IsPending, IsReadyAt, IsSteady, LinkId, List}
+use Rattle.world_steps.proofs.Words.{Network, Node, None, Note, Scenario, Some, Stands, StandsBehind, Task, Up, Way, World, [], act_place, adjustment_after}
+use Rattle.world_steps.proofs.Words.{all_up_to, amount, ap, append-nil, are_past, arith, cases_Bool, cases_int, cases_lt, change_still, changed_at, doing}
+use Rattle.world_steps.proofs.Words.{emitting, false, filter_map, happenings, has_cleared, hidden, inl, inr, ints, last_or, length, map, members_in, natural}
+use Rattle.world_steps.proofs.Words.{no_later_breaks, not_on_after, numbered_in, own_time, pos, reading_for, refl, ripe_place, slice_get, state_after, subst}
+use Rattle.world_steps.proofs.Words.{sym, time_of, true, up_to, ℕ, ℤ}
 use Rattle.std.specs.Option.{unwrap_or}
-use Rattle.std.proofs.lemmas.Int.{ints}
-use Rattle.net_plan.specs.declared.event.Event.{Event}
-use Rattle.net_plan.specs.declared.ids.DeviceId.{DeviceId}
-use Rattle.net_plan.specs.declared.ids.LinkId.{LinkId}
-use Rattle.net_plan.specs.declared.network.Network.{Network}
-use Rattle.net_plan.specs.declared.tables.Way.TheVariants.{Up, Down}
-use Rattle.net_plan.specs.declared.tables.Way.{Way}
-use Rattle.run_law.proofs.law.FirstPlaces.{numbered_in}
-use Rattle.run_law.proofs.runs.Places.{before_later_time, before_of_time, earlier_time}
-use Rattle.run_law.specs.control.Corrections.{has_cleared}
-use Rattle.run_law.specs.declared.note.Note.{Note}
-use Rattle.run_law.specs.device.LocalClocks.{changed_at}
-use Rattle.run_law.specs.device.States.{adjustment_after, state_after}
-use Rattle.run_law.specs.machines.Nodes.{Node}
-use Rattle.run_law.specs.machines.Tasks.{IsPending, Task, doing, emitting, reading_for}
-use Rattle.run_law.specs.records.Happenings.{Happening, happenings, time_of, up_to}
-use Rattle.run_law.specs.records.Order.{IsBefore, IsIn}
-use Rattle.run_law.specs.records.Ranks.{members_in}
-use Rattle.run_law.specs.scenario.Scenarios.{Scenario}
-use Rattle.run_law.specs.scenario.Ways.{cut_set, hold_set, wire_of, wire_set}
-use Rattle.tte_lemmas.proofs.Integers.{whole as natural}
-use Rattle.tte_units.specs.Amount.{amount}
-use Rattle.world_law.proofs.acts.Acting.{IsUnmoved, cleared_on, had_come_before}
-use Rattle.world_law.proofs.acts.NoActs.{nothing_comes_before}
-use Rattle.world_law.proofs.acts.Recorded.{none_recorded}
-use Rattle.world_law.proofs.devices.OwnRecords.{change_still}
-use Rattle.world_law.proofs.devices.Passes.{passes_if}
-use Rattle.world_law.proofs.devices.Resting.{IsPast, IsWorked, are_past, at_rest}
-use Rattle.world_law.proofs.devices.TurnedOn.{all_up_to}
-use Rattle.world_law.proofs.giving.Given.{no_later_breaks, no_later_events}
-use Rattle.world_law.proofs.lists.Orders.{cases_int}
-use Rattle.world_law.proofs.putting.PutIn.{own_time}
-use Rattle.world_law.proofs.runs.Foremost.{not_on_after}
-use Rattle.world_law.proofs.runs.Worlds.{nothing_settled_is_all}
-use Rattle.world_law.specs.device.Ready.{IsReadyAt, IsSteady}
-use Rattle.world_law.specs.device.Deeds.{HasDoneFrom}
-use Rattle.world_law.specs.device.Left.{IsLeft}
-use Rattle.world_law.specs.device.Own.{IsStill}
-use Rattle.world_law.specs.source.First.{NoSourceBefore}
-use Rattle.world_law.specs.world.Moves.{NothingBefore, StandsBehind}
+use Rattle.run_law.{proofs.runs.Places.{before_later_time, before_of_time, earlier_time}, specs.scenario.Ways.{cut_set, hold_set, wire_of, wire_set}}
+use Rattle.world_law.proofs.acts.{Acting.{IsUnmoved, cleared_on, had_come_before}, NoActs.nothing_comes_before, Recorded.none_recorded}
+use Rattle.world_law.proofs.{devices.{Passes.passes_if, Resting.{IsPast, IsWorked, at_rest}}, giving.Given.no_later_events, runs.Worlds.nothing_settled_is_all}
+use Rattle.world_law.specs.{device.Own.IsStill, source.First.NoSourceBefore, world.{Moves.NothingBefore, World.{WayNow, way_now}}}
 use Rattle.world_steps.specs.Steps.{PassedStep}
-use Rattle.world_law.specs.world.World.{AreOfNetwork, AreSettled, act_place, ripe_place, HaveBefallen, IsHeld, IsKept, IsOut, Stands, WayNow, World, hidden, way_now}
 
 -- no way changes without an event
 ways_stay : (s : Scenario) (mark : List ℕ) (now t : ℕ) (link : LinkId) (way : Way) → HaveBefallen s mark now → now ≤ t

@@ -1,9 +1,5 @@
-use Rattle.std.proofs.Common.{◌∙◌, sym, ap, rules}
-use Rattle.std.specs.Int.{w128}
-use Rattle.std.proofs.lemmas.Int.{to_z-of_z}
-use Rattle.std.proofs.lemmas.Bool.{false≢true}
-use Rattle.device_rules.proofs.Verdicts.{corrects, none_qualifies, some_qualifies}
-use Rattle.device_rules.specs.Answers.{in_units, standing_of, unit}
+use Rattle.std.{proofs.{Common.{◌∙◌, ap, rules, sym}, lemmas.{Bool.false≢true, Int.to_z-of_z}}, specs.Int.w128}
+use Rattle.device_rules.{proofs.Verdicts.{corrects, none_qualifies, some_qualifies}, specs.Answers.{in_units, standing_of, unit}}
 use Rattle.device_rules.proofs.correcting.verdict.Goals as goal
 
 pub returns-then-is_at_integration : goal.returns-then-is_at_integration

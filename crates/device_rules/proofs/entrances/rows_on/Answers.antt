@@ -1,9 +1,8 @@
-use Rattle.std.proofs.Common.{List, take, subst, sym, ap, length, arith}
+use Rattle.std.proofs.Common.{List, ap, arith, length, subst, sym, take}
 use Rattle.net_plan.specs.declared.tables.Row.{Row}
-use Rattle.device_rules.proofs.KeptRows.{have_entries}
-use Rattle.device_rules.proofs.entrances.rows_on.Goals as goal
-use Rattle.device_rules.specs.Entering.{AreRows}
 use Rattle.tte_lemmas.proofs.Lists.{take_all, take_more}
+use Rattle.device_rules.{proofs.KeptRows.have_entries, specs.Entering.AreRows}
+use Rattle.device_rules.proofs.entrances.rows_on.Goals as goal
 
 pub loop-place-preserved : goal.loop-place-preserved
 loop-place-preserved c =

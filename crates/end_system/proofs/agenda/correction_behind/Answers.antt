@@ -1,8 +1,6 @@
-use Rattle.std.proofs.Common.{◌≡◌, pos, ◌-ℤ◌, sym, subst, ◌∙◌, arith}
-use Rattle.std.proofs.lemmas.Int.{ints}
+use Rattle.end_system.proofs.Words.{◌-ℤ◌, ◌∙◌, ◌≡◌, Units, arith, ints, pos, subst, sym}
 use Rattle.end_system.proofs.Values.{next_correction, passed_correction}
 use Rattle.end_system.proofs.agenda.correction_behind.Goals as goal
-use Rattle.tte_units.specs.declared.units.Units.{Units}
 
 pub returns-then-local-value : goal.returns-then-local-value
 returns-then-local-value c = λ network device is.

@@ -1,4 +1,4 @@
-use Rattle.std.proofs.Common.{sym, ◌∙◌}
+use Rattle.end_system.proofs.Words.{◌∙◌, sym}
 use Rattle.end_system.proofs.Values.{in_sync}
 use Rattle.end_system.proofs.agenda.dispatch_from.Goals as goal
 

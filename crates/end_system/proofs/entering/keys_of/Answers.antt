@@ -1,9 +1,7 @@
-use Rattle.std.proofs.Common.{length, ap, sym, ◌+◌, ◌∙◌, arith, refl}
-use Rattle.end_system.proofs.EnteringLemmas.{keys_all, keys_pushed, keys_skip}
-use Rattle.end_system.proofs.KeyOrder.{keys_in_order}
+use Rattle.end_system.proofs.Words.{◌+◌, ◌∙◌, Row, ap, arith, length, refl, sym}
+use Rattle.end_system.proofs.{EnteringLemmas.{keys_all, keys_pushed, keys_skip}, KeyOrder.keys_in_order}
+use Rattle.end_system.proofs.entering.keys_of.Goals.{else-enters, then-enters+in_ok-push}
 use Rattle.end_system.proofs.entering.keys_of.Goals as goal
-use Rattle.end_system.proofs.entering.keys_of.Goals.{then-enters+in_ok-push, else-enters}
-use Rattle.net_plan.specs.declared.tables.Row.{Row}
 
 pub loop-place-preserved : goal.loop-place-preserved
 loop-place-preserved c =

@@ -1,8 +1,6 @@
-use Rattle.std.proofs.Common.{◌≡◌, ◌*◌, ◌+◌, ℕ, ap, ◌∙◌, arith}
-use Rattle.net_plan.proofs.InRange.{amount_most}
+use Rattle.end_system.proofs.Words.{◌*◌, ◌+◌, ◌∙◌, ◌≡◌, amount, amount_most, ap, arith, ℕ}
 use Rattle.end_system.proofs.RowSearch.{block_fits}
 use Rattle.end_system.proofs.rows.dispatch_of.Goals as goal
-use Rattle.tte_units.specs.Amount.{amount}
 
 pub overflow_mul-value : goal.overflow_mul-value
 overflow_mul-value c =

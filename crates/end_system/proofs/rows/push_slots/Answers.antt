@@ -1,7 +1,7 @@
-use Rattle.std.proofs.Common.{◌+◌, ◌*◌, sym, ◌∙◌, arith}
+use Rattle.end_system.proofs.Words.{◌*◌, ◌+◌, ◌∙◌, arith, sym}
 use Rattle.end_system.proofs.SlotLemmas.{it_sends, slots_pushed, slots_skip, slots_upto}
+use Rattle.end_system.proofs.rows.push_slots.Goals.{else-residue-entry, then-residue-entry+in_ok-push}
 use Rattle.end_system.proofs.rows.push_slots.Goals as goal
-use Rattle.end_system.proofs.rows.push_slots.Goals.{then-residue-entry+in_ok-push, else-residue-entry}
 
 pub loop-residue-preserved : goal.loop-residue-preserved
 loop-residue-preserved c =

@@ -1,7 +1,5 @@
-use Rattle.std.proofs.Common.{[], ap, sym, ◌∙◌}
-use Rattle.std.specs.Option.{option_map_or}
-use Rattle.frame_trace.proofs.Numbered.{held_at, octets_at}
-use Rattle.frame_trace.specs.Keeping.{came, kept_octets}
+use Rattle.std.{proofs.Common.{◌∙◌, [], ap, sym}, specs.Option.option_map_or}
+use Rattle.frame_trace.{proofs.Numbered.{held_at, octets_at}, specs.Keeping.{came, kept_octets}}
 use Rattle.frame_trace.proofs.keeping.came_from.Goals as goal
 
 pub returns-in-Some-clause-held : goal.returns-in-Some-clause-held

@@ -1,7 +1,5 @@
-use Rattle.std.proofs.Common.{ap, ◌∙◌}
-use Rattle.std.specs.Prelude.{option_and_then}
-use Rattle.frame_trace.proofs.Numbered.{frame_at}
-use Rattle.frame_trace.specs.Keeping.{kept_frame}
+use Rattle.std.{proofs.Common.{◌∙◌, ap}, specs.Prelude.option_and_then}
+use Rattle.frame_trace.{proofs.Numbered.frame_at, specs.Keeping.kept_frame}
 use Rattle.frame_trace.proofs.keeping.frame_from.Goals as goal
 
 pub returns-in-Some : goal.returns-in-Some

@@ -1,5 +1,4 @@
-use Rattle.std.proofs.Common.{rules, ◌≡◌, ℕ, List, ◌++◌, length, drop, replicate, ap, ◌∙◌}
-use Rattle.std.proofs.lemmas.List.{drop-replicate}
+use Rattle.std.proofs.{Common.{◌++◌, ◌∙◌, ◌≡◌, List, ap, drop, length, replicate, rules, ℕ}, lemmas.List.drop-replicate}
 use Rattle.made_frames.proofs.timed.fill.Goals as goal
 
 pub returns : goal.returns

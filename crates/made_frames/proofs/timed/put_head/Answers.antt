@@ -1,4 +1,4 @@
-use Rattle.std.proofs.Common.{rules, ◌≡◌, ◌-◌, ℕ, List, ◌++◌, drop, length, replicate, ap, sym, ◌∙◌}
+use Rattle.std.proofs.Common.{◌++◌, ◌-◌, ◌∙◌, ◌≡◌, List, ap, drop, length, replicate, rules, sym, ℕ}
 use Rattle.made_frames.proofs.timed.put_head.Goals as goal
 
 pub returns : goal.returns

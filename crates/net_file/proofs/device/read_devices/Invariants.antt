@@ -1,5 +1,4 @@
-use Rattle.std.proofs.Common.{◌≡◌, ◌<◌, ◌^◌, [], drop, length}
-use Rattle.std.specs.List.{All}
+use Rattle.std.{proofs.Common.{◌<◌, ◌^◌, ◌≡◌, [], drop, length}, specs.List.All}
 use Rattle.net_plan.specs.Ranges.{IsDeviceInRange}
 use Rattle.toml.specs.View.{items_view}
 use Rattle.net_file.specs.Schema.{device_of, each}

@@ -1,6 +1,5 @@
 use Rattle.std.proofs.Common.{rules}
-use Rattle.net_file.proofs.Tops.{one_or_two, grain_within}
-use Rattle.net_file.specs.Schema.{document_of}
+use Rattle.net_file.{proofs.Tops.{grain_within, one_or_two}, specs.Schema.document_of}
 use Rattle.net_file.proofs.document.read_document.Goals as goal
 
 pub returns-in_err-nothing_else-clause-value : goal.returns-in_err-nothing_else-clause-value

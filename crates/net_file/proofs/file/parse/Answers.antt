@@ -1,7 +1,5 @@
-use Rattle.std.proofs.Common.{◌≡◌, Some, subst, ◌∙◌, rules, List, ℕ}
-use Rattle.toml.specs.Parse.{parse_document}
-use Rattle.toml.specs.View.{table_view}
-use Rattle.toml.specs.declared.value.Value.{the_lemmas}
+use Rattle.std.proofs.Common.{◌∙◌, ◌≡◌, List, Some, rules, subst, ℕ}
+use Rattle.toml.specs.{Parse.parse_document, View.table_view, declared.value.Value.the_lemmas}
 use Rattle.net_file.proofs.Documents.{is_parsed}
 use Rattle.net_file.proofs.file.parse.Goals as goal
 

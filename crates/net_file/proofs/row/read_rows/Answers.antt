@@ -1,8 +1,6 @@
 use Rattle.std.proofs.Common.{length}
-use Rattle.net_plan.specs.declared.tables.Link.{Link}
-use Rattle.net_plan.specs.declared.tables.VirtualLink.{VirtualLink}
-use Rattle.net_file.specs.Numbering.{numbering}
-use Rattle.net_file.proofs.Numbers.{names_below}
+use Rattle.net_plan.specs.declared.tables.{Link.Link, VirtualLink.VirtualLink}
+use Rattle.net_file.{proofs.Numbers.names_below, specs.Numbering.numbering}
 use Rattle.net_file.proofs.row.read_rows.Goals as goal
 
 pub returns-clause-in_range : goal.returns-clause-in_range

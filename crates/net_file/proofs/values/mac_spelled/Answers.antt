@@ -1,4 +1,4 @@
-use Rattle.std.proofs.Common.{◌<◌, ℕ, get_or, arith}
+use Rattle.std.proofs.Common.{◌<◌, arith, get_or, ℕ}
 use Rattle.byteorder.specs.Numbers.{big_from-lt}
 use Rattle.net_file.proofs.values.mac_spelled.Goals as goal
 

@@ -1,6 +1,4 @@
-use Rattle.std.proofs.Common.{◌≡◌, ◌++◌, [], ◌∷◌, rules, arith}
-use Rattle.std.proofs.lemmas.Grind.{common_steps}
-use Rattle.std.proofs.lemmas.List.Elements.{All-push, All-same}
+use Rattle.std.proofs.{Common.{◌++◌, ◌∷◌, ◌≡◌, [], arith, rules}, lemmas.{Grind.common_steps, List.Elements.{All-push, All-same}}}
 use Rattle.net_plan.specs.Ranges.{IsVlInRange}
 use Rattle.net_file.proofs.vl.read_numbered.Goals as goal
 

@@ -1,10 +1,7 @@
-use Rattle.std.proofs.Common.{◌≡◌, ◌<◌, ◌^◌, [], drop, length}
-use Rattle.std.specs.List.{All}
-use Rattle.net_plan.specs.Ranges.{IsVlInRange}
-use Rattle.net_plan.specs.declared.network.Network.{Network}
+use Rattle.std.{proofs.Common.{◌<◌, ◌^◌, ◌≡◌, [], drop, length}, specs.List.All}
+use Rattle.net_plan.specs.{Ranges.IsVlInRange, declared.network.Network.Network}
 use Rattle.toml.specs.View.{items_view}
-use Rattle.net_file.specs.Numbering.{numbering, IsBelow}
-use Rattle.net_file.specs.Schema.{vl_of, each}
+use Rattle.net_file.specs.{Numbering.{IsBelow, numbering}, Schema.{each, vl_of}}
 use Rattle.net_file.proofs.vl.read_numbered.Given as goal
 
 abbrev pub invariant-tables : goal.invariant-tables

@@ -1,5 +1,4 @@
-use Rattle.pcap_form.proofs.Heads.{finds_head}
-use Rattle.pcap_form.proofs.Packets.{finds_packets}
+use Rattle.pcap_form.proofs.{Heads.finds_head, Packets.finds_packets}
 use Rattle.pcap_form.proofs.laws.reading_law.Goals as goal
 
 pub returns-clause-head : goal.returns-clause-head

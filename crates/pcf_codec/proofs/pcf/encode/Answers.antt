@@ -1,9 +1,6 @@
-use Rattle.std.proofs.Common.{◌≡◌, ℕ, List, sym, subst, slice_index, Ok, arith}
-use Rattle.pcf_codec.specs.Spelling.{Spells, IsPadding}
-use Rattle.pcf_codec.specs.Decoding.{decoded}
-use Rattle.pcf_codec.specs.Encoded.{encoded}
-use Rattle.pcf_codec.proofs.Encoding.{writes, Fits, spells, padding}
-use Rattle.pcf_codec.proofs.Outcomes.{spelt_read}
+use Rattle.std.proofs.Common.{◌≡◌, List, Ok, arith, slice_index, subst, sym, ℕ}
+use Rattle.pcf_codec.{proofs.{Encoding.{Fits, padding, spells, writes}, Outcomes.spelt_read}, specs.{Decoding.decoded, Encoded.encoded}}
+use Rattle.pcf_codec.specs.Spelling.{IsPadding, Spells}
 use Rattle.pcf_codec.proofs.pcf.encode.Goals as goal
 
 pub returns : goal.returns

@@ -1,6 +1,4 @@
-use Rattle.std.proofs.Common.{arith}
-use Rattle.std.proofs.lemmas.Grind.{common_steps}
-use Rattle.std.specs.Prelude.{decimal}
+use Rattle.std.{proofs.{Common.arith, lemmas.Grind.common_steps}, specs.Prelude.decimal}
 use Rattle.report_text.proofs.Lines.{event_joined}
 use Rattle.report_text.proofs.kinds.push_event.Goals as goal
 

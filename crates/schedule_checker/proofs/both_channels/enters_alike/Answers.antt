@@ -1,6 +1,4 @@
-use Rattle.std.proofs.Common.{rules}
-use Rattle.std.specs.Cmp.{booleans_Decides}
-use Rattle.std.proofs.lemmas.Bool.Decides.{Decides-like}
+use Rattle.std.{proofs.{Common.rules, lemmas.Bool.Decides.Decides-like}, specs.Cmp.booleans_Decides}
 use Rattle.net_plan.specs.Places.{IsEndSystem}
 use Rattle.schedule_checker.proofs.RouteLemmas.{alike, alike_back}
 use Rattle.schedule_checker.proofs.both_channels.enters_alike.Goals as goal

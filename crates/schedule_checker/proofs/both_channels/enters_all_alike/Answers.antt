@@ -1,8 +1,6 @@
-use Rattle.std.proofs.Common.{rules, tests}
-use Rattle.std.proofs.lemmas.Iterator.{cases_from_all, YieldsList-from_slice}
+use Rattle.std.proofs.{Common.{rules, tests}, lemmas.Iterator.{YieldsList-from_slice, cases_from_all}}
 use Rattle.schedule_tables.specs.declared.entry.Entry.{Entry}
-use Rattle.schedule_checker.proofs.RouteLemmas.{TargetIsAlike, enters_all_alike}
-use Rattle.schedule_checker.proofs.Selection.{all_decides}
+use Rattle.schedule_checker.proofs.{RouteLemmas.{TargetIsAlike, enters_all_alike}, Selection.all_decides}
 use Rattle.schedule_checker.proofs.both_channels.enters_all_alike.Goals as goal
 
 pub returns : goal.returns

@@ -1,8 +1,6 @@
-use Rattle.std.proofs.Common.{rules, tests}
-use Rattle.std.proofs.lemmas.Iterator.{cases_from_any, YieldsList-from_slice}
+use Rattle.std.proofs.{Common.{rules, tests}, lemmas.Iterator.{YieldsList-from_slice, cases_from_any}}
 use Rattle.schedule_tables.specs.declared.entry.Entry.{Entry}
-use Rattle.schedule_checker.proofs.RouteLemmas.{EntersEnd, enters_end_system}
-use Rattle.schedule_checker.proofs.Selection.{any_decides}
+use Rattle.schedule_checker.proofs.{RouteLemmas.{EntersEnd, enters_end_system}, Selection.any_decides}
 use Rattle.schedule_checker.proofs.both_channels.enters_end_system.Goals as goal
 
 pub returns : goal.returns

@@ -1,11 +1,7 @@
-use Rattle.std.proofs.Common.{◌≡◌, Some, get_or, sym, ◌∙◌}
-use Rattle.std.specs.Prelude.{slice_get}
-use Rattle.std.proofs.lemmas.Bool.{false≢true}
-use Rattle.std.proofs.lemmas.Option.{slice_get-get_or}
-use Rattle.schedule_checker.specs.Routes.{LeavesOnBoth, EntersEndSystem}
-use Rattle.schedule_checker.proofs.RouteLemmas.{both_channels}
+use Rattle.std.{proofs.{Common.{◌∙◌, ◌≡◌, Some, get_or, sym}, lemmas.{Bool.false≢true, Option.slice_get-get_or}}, specs.Prelude.slice_get}
+use Rattle.schedule_checker.proofs.{RouteLemmas.both_channels, both_channels.goes_by_both_channels.Goals.{else-leaves_on_both, then-leaves_on_both}}
+use Rattle.schedule_checker.specs.Routes.{EntersEndSystem, LeavesOnBoth}
 use Rattle.schedule_checker.proofs.both_channels.goes_by_both_channels.Goals as goal
-use Rattle.schedule_checker.proofs.both_channels.goes_by_both_channels.Goals.{then-leaves_on_both, else-leaves_on_both}
 
 pub returns-then-enters_end_system : goal.returns-then-enters_end_system
 returns-then-enters_end_system c =

@@ -1,8 +1,6 @@
-use Rattle.std.proofs.Common.{rules, tests}
-use Rattle.std.proofs.lemmas.Iterator.{cases_from_any, YieldsList-from_slice}
+use Rattle.std.proofs.{Common.{rules, tests}, lemmas.Iterator.{YieldsList-from_slice, cases_from_any}}
 use Rattle.schedule_tables.specs.declared.entry.Entry.{Entry}
-use Rattle.schedule_checker.proofs.RouteLemmas.{Leaves, leaves_on}
-use Rattle.schedule_checker.proofs.Selection.{any_decides}
+use Rattle.schedule_checker.proofs.{RouteLemmas.{Leaves, leaves_on}, Selection.any_decides}
 use Rattle.schedule_checker.proofs.both_channels.leaves.Goals as goal
 
 pub returns : goal.returns

@@ -1,5 +1,4 @@
-use Rattle.schedule_checker.proofs.EntryPlaces.{entry_of_rest, earlier_ranges}
-use Rattle.schedule_checker.proofs.PortLemmas.{stands_apart}
+use Rattle.schedule_checker.proofs.{EntryPlaces.{earlier_ranges, entry_of_rest}, PortLemmas.stands_apart}
 use Rattle.schedule_checker.proofs.ports.stands_apart.Goals as goal
 
 pub stands_apart_from-requires-clause-earlier : goal.stands_apart_from-requires-clause-earlier

@@ -1,7 +1,6 @@
-use Rattle.std.proofs.Common.{rules, arith, ◌≡◌, ◌≢◌}
+use Rattle.std.proofs.Common.{◌≡◌, ◌≢◌, arith, rules}
 use Rattle.schedule_tables.specs.Entries.{target_of}
-use Rattle.schedule_checker.proofs.EntryPlaces.{entry_of_rest}
-use Rattle.schedule_checker.proofs.RouteLemmas.{enters_anew, enters_anew_back}
+use Rattle.schedule_checker.proofs.{EntryPlaces.entry_of_rest, RouteLemmas.{enters_anew, enters_anew_back}}
 use Rattle.schedule_checker.proofs.routes.enters_anew.Goals as goal
 
 pub returns-then-ne : goal.returns-then-ne

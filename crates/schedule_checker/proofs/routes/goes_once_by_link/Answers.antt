@@ -1,6 +1,5 @@
-use Rattle.std.proofs.Common.{◌≡◌, take, drop}
-use Rattle.schedule_checker.proofs.RouteLemmas.{goes_once}
-use Rattle.schedule_checker.proofs.Selection.{head_of_rest}
+use Rattle.std.proofs.Common.{◌≡◌, drop, take}
+use Rattle.schedule_checker.proofs.{RouteLemmas.goes_once, Selection.head_of_rest}
 use Rattle.schedule_checker.proofs.routes.goes_once_by_link.Goals as goal
 
 pub returns : goal.returns

@@ -1,10 +1,7 @@
-use Rattle.std.proofs.Common.{rules, tests, ℕ}
+use Rattle.std.proofs.{Common.{rules, tests, ℕ}, lemmas.Iterator.{YieldsList-from_slice, cases_from_any, Consumers.YieldsList-from_enumerate}}
 use Rattle.std.specs.List.{enumerate_from}
-use Rattle.std.proofs.lemmas.Iterator.{cases_from_any, YieldsList-from_slice}
-use Rattle.std.proofs.lemmas.Iterator.Consumers.{YieldsList-from_enumerate}
 use Rattle.schedule_tables.specs.declared.entry.Entry.{Entry}
-use Rattle.schedule_checker.proofs.RouteLemmas.{EntersElsewhere, entered_elsewhere}
-use Rattle.schedule_checker.proofs.Selection.{any_decides}
+use Rattle.schedule_checker.proofs.{RouteLemmas.{EntersElsewhere, entered_elsewhere}, Selection.any_decides}
 use Rattle.schedule_checker.proofs.routes.is_entered_elsewhere.Goals as goal
 
 pub returns : goal.returns

@@ -1,4 +1,4 @@
-use Rattle.std.proofs.Common.{◌≡◌, ◌≤◌, ◌*◌, ◌^◌, length, take}
+use Rattle.std.proofs.Common.{◌*◌, ◌^◌, ◌≡◌, ◌≤◌, length, take}
 use Rattle.schedule_tables.specs.Delays.{delay_on}
 use Rattle.schedule_checker.proofs.timing.delay_on.Given as goal
 

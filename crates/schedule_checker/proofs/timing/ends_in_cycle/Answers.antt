@@ -1,10 +1,6 @@
-use Rattle.std.proofs.Common.{◌≡◌, ap, ◌∙◌, arith}
-use Rattle.std.specs.Prelude.{unsigned_abs}
-use Rattle.std.proofs.lemmas.Bool.{leb-true, le-leb}
-use Rattle.schedule_tables.specs.Windows.{window_end}
-use Rattle.schedule_tables.specs.declared.window.Window.{Window}
-use Rattle.schedule_checker.proofs.EntryPlaces.{entry_read}
-use Rattle.schedule_checker.proofs.WindowLemmas.{ends_from_entry}
+use Rattle.std.{proofs.{Common.{◌∙◌, ◌≡◌, ap, arith}, lemmas.Bool.{le-leb, leb-true}}, specs.Prelude.unsigned_abs}
+use Rattle.schedule_tables.specs.{Windows.window_end, declared.window.Window.Window}
+use Rattle.schedule_checker.proofs.{EntryPlaces.entry_read, WindowLemmas.ends_from_entry}
 use Rattle.schedule_checker.proofs.timing.ends_in_cycle.Goals as goal
 
 pub window_of-window-requires-clause-entry : goal.window_of-window-requires-clause-entry

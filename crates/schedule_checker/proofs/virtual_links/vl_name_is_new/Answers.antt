@@ -1,5 +1,4 @@
-use Rattle.std.proofs.Common.{rules, tests, ◌≡◌, ◌≢◌}
-use Rattle.std.proofs.lemmas.Iterator.{cases_from_all, YieldsList-from_slice, YieldsList-from_take}
+use Rattle.std.proofs.{Common.{◌≡◌, ◌≢◌, rules, tests}, lemmas.Iterator.{YieldsList-from_slice, YieldsList-from_take, cases_from_all}}
 use Rattle.net_plan.specs.declared.tables.VirtualLink.{VirtualLink}
 use Rattle.schedule_checker.proofs.EarlierLemmas.{new_from_all}
 use Rattle.schedule_checker.proofs.virtual_links.vl_name_is_new.Goals as goal

@@ -1,8 +1,6 @@
-use Rattle.std.proofs.Common.{inl, inr, refl, sym, subst}
-use Rattle.net_plan.specs.Belonging.{IsOfNetwork}
-use Rattle.net_plan.specs.declared.event.Event.{Event}
-use Rattle.storm.proofs.Belongings.{some_device}
-use Rattle.storm.proofs.Within.{knows_broken}
+use Rattle.std.proofs.Common.{inl, inr, refl, subst, sym}
+use Rattle.net_plan.specs.{Belonging.IsOfNetwork, declared.event.Event.Event}
+use Rattle.storm.proofs.{Belongings.some_device, Within.knows_broken}
 use Rattle.storm.proofs.chosen.chosen_event.Goals as goal
 
 pub returns-in-Ok-clause-value : goal.returns-in-Ok-clause-value

@@ -1,11 +1,7 @@
 use Rattle.std.proofs.Common.{inl, inr, refl}
+use Rattle.storm.proofs.{Belongings.{some_device, some_link, some_master}, Drawing.{drawn_by, hold_drawn, match_some, wire_drawn}, Masters.master_within}
+use Rattle.storm.specs.{Events.IsDrawn, Striking.SendsForged, declared.draw.Choice.TheVariants.{Hold, Strike, Wire}}
 use Rattle.net_plan.specs.declared.event.What.TheVariants as kinds
-use Rattle.storm.specs.Events.{IsDrawn}
-use Rattle.storm.specs.Striking.{SendsForged}
-use Rattle.storm.specs.declared.draw.Choice.TheVariants.{Wire, Hold, Strike}
-use Rattle.storm.proofs.Belongings.{some_device, some_link, some_master}
-use Rattle.storm.proofs.Drawing.{drawn_by, hold_drawn, match_some, wire_drawn}
-use Rattle.storm.proofs.Masters.{master_within}
 use Rattle.storm.proofs.chosen.drawn.Goals as goal
 
 pub device-device-requires-clause-some : goal.device-device-requires-clause-some

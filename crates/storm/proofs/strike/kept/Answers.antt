@@ -1,5 +1,4 @@
-use Rattle.std.proofs.Common.{ℕ, List, ap, arith}
-use Rattle.std.specs.Prelude.{slice_index}
+use Rattle.std.{proofs.Common.{List, ap, arith, ℕ}, specs.Prelude.slice_index}
 use Rattle.storm.proofs.strike.kept.Goals as goal
 
 pub returns-clause-bytes : goal.returns-clause-bytes

@@ -1,10 +1,8 @@
-use Rattle.std.proofs.Common.{◌≡◌, ◌∙◌, ℕ, ◌+◌, ◌∷◌, ◌++◌, List, [], Option, Some, None, ap, length, subst, sym, slice_set, unwrap_or}
-use Rattle.std.proofs.lemmas.Option.{slice_get-get_or}
+use Rattle.switch_ports.proofs.Words.{◌++◌, ◌+◌, ◌∙◌, ◌∷◌, ◌≡◌, AreLeaving, Departure, List, None, Option, Some, [], ap, length, slice_get-get_or, slice_set}
+use Rattle.switch_ports.proofs.Words.{subst, sym, unwrap_or, ℕ}
 use Rattle.net_plan.proofs.SameIds.{same_device}
 use Rattle.switch_ports.proofs.RowOrder.{row_kept}
 use Rattle.switch_ports.proofs.departures.add_row.Goals as goal
-use Rattle.switch_ports.specs.Leaving.{AreLeaving}
-use Rattle.switch_ports.specs.declared.departures.Departure.{Departure}
 
 pub returns : goal.returns
 returns c network is are =

@@ -1,11 +1,8 @@
-use Rattle.std.proofs.Common.{◌≡◌, ◌∙◌, true, false, Some, sym, subst}
+use Rattle.switch_ports.proofs.Words.{◌∙◌, ◌≡◌, EnteringRow, Some, entrance_cmp, false, subst, sym, true}
 use Rattle.std.specs.BTreeMap.{Updates}
-use Rattle.switch_ports.proofs.Entrances.{row_kept, row_skipped}
-use Rattle.switch_ports.proofs.intake.add_row.Goals as goal
-use Rattle.switch_ports.specs.Intakes.{entrance_cmp, entrance_of}
-use Rattle.switch_ports.specs.declared.intake.EnteringRow.{EnteringRow}
-use Rattle.switch_ports.specs.declared.intake.Entrance.{Entrance}
 use Rattle.tte_lemmas.proofs.Options.{none_at, some_by}
+use Rattle.switch_ports.{proofs.Entrances.{row_kept, row_skipped}, specs.{Intakes.entrance_of, declared.intake.Entrance.Entrance}}
+use Rattle.switch_ports.proofs.intake.add_row.Goals as goal
 
 pub returns-then-not-is_way_to : goal.returns-then-not-is_way_to
 returns-then-not-is_way_to c device earlier place site is have are =

@@ -1,9 +1,7 @@
-use Rattle.std.proofs.Common.{List, take, subst, sym, ap, length, arith}
-use Rattle.net_plan.specs.declared.tables.Row.{Row}
+use Rattle.switch_ports.proofs.Words.{AreEntrances, List, Row, ap, arith, length, subst, sym, take}
+use Rattle.tte_lemmas.proofs.Lists.{take_all, take_more}
 use Rattle.switch_ports.proofs.Entrances.{have_entries}
 use Rattle.switch_ports.proofs.intake.entrances.Goals as goal
-use Rattle.switch_ports.specs.Intakes.{AreEntrances}
-use Rattle.tte_lemmas.proofs.Lists.{take_all, take_more}
 
 pub loop-place-preserved : goal.loop-place-preserved
 loop-place-preserved c device site =

@@ -1,4 +1,4 @@
-use Rattle.std.proofs.Common.{◌≡◌, map, take, None}
+use Rattle.switch_ports.proofs.Words.{◌≡◌, None, map, take}
 use Rattle.switch_ports.proofs.intake.none_taken.Given as goal
 
 abbrev pub invariant-loop : goal.invariant-loop

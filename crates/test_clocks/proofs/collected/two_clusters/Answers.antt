@@ -1,6 +1,4 @@
-use Rattle.std.proofs.Common.{◌≤ℤ◌, pos, List, [], ◌∷◌, ◌++◌, arith}
-use Rattle.std.proofs.lemmas.Int.{ints}
-use Rattle.std.proofs.lemmas.List.Elements.{All-from_recursion}
+use Rattle.std.proofs.{Common.{◌++◌, ◌∷◌, ◌≤ℤ◌, List, [], arith, pos}, lemmas.{Int.ints, List.Elements.All-from_recursion}}
 use Rattle.compression.specs.Clusters.{Point, point_at}
 use Rattle.test_clocks.proofs.collected.two_clusters.Goals as goal
 

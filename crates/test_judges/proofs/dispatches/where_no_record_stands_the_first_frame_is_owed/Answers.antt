@@ -1,7 +1,7 @@
 use Rattle.std.proofs.Common.{[], refl}
-use Rattle.event_history.specs.Readings.{scenario_under}
+use Rattle.audit_devices.specs.Showing.{IsSteady}
+use Rattle.audit_events.specs.Readings.{scenario_under}
 use Rattle.net_plan.specs.declared.ids.DeviceId.{DeviceId}
-use Rattle.record_history.specs.Showing.{IsSteady}
 use Rattle.test_judges.proofs.dispatches.where_no_record_stands_the_first_frame_is_owed.Goals as goal
 
 pub first_undispatched-requires-clause-known : goal.first_undispatched-requires-clause-known

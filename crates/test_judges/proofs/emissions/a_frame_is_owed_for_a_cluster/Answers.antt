@@ -1,7 +1,6 @@
-use Rattle.std.proofs.Common.{pos, ◌≤ℤ◌, [], ◌∷◌, refl, sym}
-use Rattle.std.proofs.lemmas.List.Elements.{All-nil}
+use Rattle.std.proofs.{Common.{◌∷◌, ◌≤ℤ◌, [], pos, refl, sym}, lemmas.List.Elements.All-nil}
+use Rattle.audit_unpaid_emissions.proofs.Examples.{one_permanent}
 use Rattle.compression.specs.Clusters.{Point}
-use Rattle.emission_debts.proofs.Examples.{one_permanent}
 use Rattle.test_judges.proofs.emissions.a_frame_is_owed_for_a_cluster.Goals as goal
 
 pub first_unemitted-requires-clause-kept : goal.first_unemitted-requires-clause-kept

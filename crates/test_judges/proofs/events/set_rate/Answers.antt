@@ -1,6 +1,6 @@
 use Rattle.std.proofs.Common.{[], refl}
+use Rattle.audit_events.proofs.OneRate.{rate_within}
 use Rattle.net_plan.specs.declared.ids.DeviceId.{DeviceId}
-use Rattle.event_history.proofs.OneRate.{rate_within}
 use Rattle.test_judges.proofs.events.set_rate.Goals as goal
 
 pub add-requires-clause-within : goal.add-requires-clause-within

@@ -1,10 +1,6 @@
-use Rattle.std.proofs.Common.{◌≡◌, ◌++◌, ◌∷◌, [], List, length, sym, ap, ◌∙◌, subst, arith}
-use Rattle.std.specs.List.{All}
-use Rattle.net_plan.specs.Ranges.{IsDeviceInRange, IsLinkInRange, IsVlInRange, IsRowInRange}
-use Rattle.net_plan.specs.declared.tables.Device.{Device}
-use Rattle.net_plan.specs.declared.tables.Link.{Link}
-use Rattle.net_plan.specs.declared.ids.DeviceId.{DeviceId}
-use Rattle.net_plan.proofs.Chain.{chain_is_tree, all_two, all_three}
+use Rattle.std.{proofs.Common.{◌++◌, ◌∙◌, ◌∷◌, ◌≡◌, List, [], ap, arith, length, subst, sym}, specs.List.All}
+use Rattle.net_plan.{proofs.Chain.{all_three, all_two, chain_is_tree}, specs.Ranges.{IsDeviceInRange, IsLinkInRange, IsRowInRange, IsVlInRange}}
+use Rattle.net_plan.specs.declared.{ids.DeviceId.DeviceId, tables.{Device.Device, Link.Link}}
 use Rattle.test_networks.proofs.plan.chain.Goals as goal
 
 pub returns-clause-range : goal.returns-clause-range

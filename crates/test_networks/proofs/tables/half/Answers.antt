@@ -1,5 +1,4 @@
-use Rattle.std.proofs.Common.{arith, refl, inl}
-use Rattle.std.proofs.lemmas.Int.{ints}
+use Rattle.std.proofs.{Common.{arith, inl, refl}, lemmas.Int.ints}
 use Rattle.test_networks.proofs.tables.half.Goals as goal
 
 pub returns-clause-range : goal.returns-clause-range

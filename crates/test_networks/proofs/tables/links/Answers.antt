@@ -1,6 +1,4 @@
-use Rattle.std.proofs.Common.{arith}
-use Rattle.std.specs.List.{All}
-use Rattle.std.proofs.lemmas.List.Elements.{All-nil, All-push}
+use Rattle.std.{proofs.{Common.arith, lemmas.List.Elements.{All-nil, All-push}}, specs.List.All}
 use Rattle.net_plan.specs.Ranges.{IsLinkInRange}
 use Rattle.test_networks.proofs.tables.links.Goals as goal
 

@@ -1,9 +1,5 @@
-use Rattle.std.proofs.Common.{◌≡◌, ◌++◌, ◌∷◌, [], List, length, sym, ap, ◌∙◌, subst, arith}
-use Rattle.std.specs.List.{All}
-use Rattle.std.proofs.lemmas.List.Elements.{All-cons, All-nil}
-use Rattle.net_plan.specs.Ranges.{IsDeviceInRange, IsLinkInRange, IsVlInRange, IsRowInRange}
-use Rattle.net_plan.specs.declared.tables.Device.{Device}
-use Rattle.net_plan.specs.declared.tables.Link.{Link}
+use Rattle.std.{proofs.{Common.{◌++◌, ◌∙◌, ◌∷◌, ◌≡◌, List, [], ap, arith, length, subst, sym}, lemmas.List.Elements.{All-cons, All-nil}}, specs.List.All}
+use Rattle.net_plan.specs.{Ranges.{IsDeviceInRange, IsLinkInRange, IsRowInRange, IsVlInRange}, declared.tables.{Device.Device, Link.Link}}
 use Rattle.test_traces.proofs.text.network.Goals as goal
 
 pub returns : goal.returns

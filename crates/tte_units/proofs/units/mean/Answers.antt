@@ -1,6 +1,5 @@
-use Rattle.std.proofs.Common.{◌≡◌, ℤ, rules, sym, subst}
-use Rattle.tte_units.specs.Mean.{mean_of, IsMean}
-use Rattle.tte_units.proofs.Means.{mean_of-floor}
+use Rattle.std.proofs.Common.{◌≡◌, rules, subst, sym, ℤ}
+use Rattle.tte_units.{proofs.Means.mean_of-floor, specs.Mean.{IsMean, mean_of}}
 use Rattle.tte_units.proofs.units.mean.Goals as goal
 
 pub returns-clause-floor : goal.returns-clause-floor

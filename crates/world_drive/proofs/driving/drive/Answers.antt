@@ -1,7 +1,6 @@
-use Rattle.std.proofs.Common.{refl, arith}
-use Rattle.world_drive.proofs.Ending.{asked_end, begun, cut_at_end, cut_at_event, drives_all, drives_on, drives_so_far, driving_first, given_end, given_one, in_range, may_meet, puts_then, seen_then, sees_then, comes_next}
-use Rattle.world_drive.proofs.More.{puts_more}
-use Rattle.world_drive.specs.Observing.{start_by}
+use Rattle.world_drive.proofs.Words.{arith, refl}
+use Rattle.world_drive.proofs.Ending.{asked_end, begun, comes_next, cut_at_end, cut_at_event, drives_all, drives_on, drives_so_far, driving_first, given_end}
+use Rattle.world_drive.{proofs.{Ending.{given_one, in_range, may_meet, puts_then, seen_then, sees_then}, More.puts_more}, specs.Observing.start_by}
 use Rattle.world_drive.proofs.driving.drive.Goals as goal
 
 pub events-init : goal.events-init
@@ -13,7 +12,8 @@ pub overflow_add-line : goal.overflow_add-line
 overflow_add-line g c =
     let d = c.events.invariant in
     let network = c.args.network.now in
-    let n = given_one g.E.Events.gave g.E.Events.ended g.E.Events.stopped g.E.Events.left network c.args.from.now c.args.source.now d.events c.in-Ok-Some.field-0
+    let n = given_one g.E.Events.gave g.E.Events.ended g.E.Events.stopped g.E.Events.left network c.args.from.now c.args.source.now d.events
+    c.in-Ok-Some.field-0
     c.in-Ok-Some.event c.next_event.new.from c.events.source c.next_event.new.self c.events.out c.next_event.new.out c.in-Ok-Some.field-0-is
     (c.in-Ok-Some.ensures.gives network c.args.from.now c.args.source.now d.events d.gave) in
     let own = d.number in let room = n.0.number in omega (arith, own, room)
@@ -22,10 +22,12 @@ pub see_event-requires-clause-may : goal.see_event-requires-clause-may
 see_event-requires-clause-may g c =
     let d = c.events.invariant in
     let network = c.args.network.now in
-    let n = given_one g.E.Events.gave g.E.Events.ended g.E.Events.stopped g.E.Events.left network c.args.from.now c.args.source.now d.events c.in-Ok-Some.field-0
+    let n = given_one g.E.Events.gave g.E.Events.ended g.E.Events.stopped g.E.Events.left network c.args.from.now c.args.source.now d.events
+    c.in-Ok-Some.field-0
     c.in-Ok-Some.event c.next_event.new.from c.events.source c.next_event.new.self c.events.out c.next_event.new.out c.in-Ok-Some.field-0-is
     (c.in-Ok-Some.ensures.gives network c.args.from.now c.args.source.now d.events d.gave) in
-    may_meet g.K.Sink g.E.Events.gave g.O.Observer.sees c.args.network.now c.args.from.now c.args.source.now c.args.observer.now c.events.from c.events.source c.events.world
+    may_meet g.K.Sink g.E.Events.gave g.O.Observer.sees c.args.network.now c.args.from.now c.args.source.now c.args.observer.now c.events.from c.events.source
+    c.events.world
     c.events.observer c.events.time c.events.line c.args.out.now c.events.out c.events.invariant
     c.next_event.new.out c.next_event.ensures.nothing_put c.in-Ok-Some.ensures.quiet c.in-Ok-Some.event n.0 _ refl
 
@@ -33,7 +35,8 @@ pub events-smaller : goal.events-smaller
 events-smaller g c =
     let d = c.events.invariant in
     let network = c.args.network.now in
-    let n = given_one g.E.Events.gave g.E.Events.ended g.E.Events.stopped g.E.Events.left network c.args.from.now c.args.source.now d.events c.in-Ok-Some.field-0
+    let n = given_one g.E.Events.gave g.E.Events.ended g.E.Events.stopped g.E.Events.left network c.args.from.now c.args.source.now d.events
+    c.in-Ok-Some.field-0
     c.in-Ok-Some.event c.next_event.new.from c.events.source c.next_event.new.self c.events.out c.next_event.new.out c.in-Ok-Some.field-0-is
     (c.in-Ok-Some.ensures.gives network c.args.from.now c.args.source.now d.events d.gave) in
     n.1
@@ -42,21 +45,28 @@ pub events-preserved : goal.events-preserved
 events-preserved g c =
     let d = c.events.invariant in
     let network = c.args.network.now in
-    let n = given_one g.E.Events.gave g.E.Events.ended g.E.Events.stopped g.E.Events.left network c.args.from.now c.args.source.now d.events c.in-Ok-Some.field-0
+    let n = given_one g.E.Events.gave g.E.Events.ended g.E.Events.stopped g.E.Events.left network c.args.from.now c.args.source.now d.events
+    c.in-Ok-Some.field-0
     c.in-Ok-Some.event c.next_event.new.from c.events.source c.next_event.new.self c.events.out c.next_event.new.out c.in-Ok-Some.field-0-is
     (c.in-Ok-Some.ensures.gives network c.args.from.now c.args.source.now d.events d.gave) in
-    drives_on g.K.Sink g.E.Events.gave g.O.Observer.sees c.args.network.now c.args.from.now c.args.source.now c.args.observer.now c.events.from c.events.source c.events.world
+    drives_on g.K.Sink g.E.Events.gave g.O.Observer.sees c.args.network.now c.args.from.now c.args.source.now c.args.observer.now c.events.from c.events.source
+    c.events.world
     c.events.observer c.events.time c.events.line c.args.out.now c.events.out c.events.invariant
-    c.next_event.new.out c.next_event.ensures.nothing_put c.in-Ok-Some.ensures.quiet c.in-Ok-Some.event n.0 c.next_event.new.from c.next_event.new.self c.see_event.new.world c.see_event.new.observer _ c.see_event.new.out refl n.2
+    c.next_event.new.out c.next_event.ensures.nothing_put c.in-Ok-Some.ensures.quiet c.in-Ok-Some.event n.0 c.next_event.new.from c.next_event.new.self
+    c.see_event.new.world c.see_event.new.observer _ c.see_event.new.out refl n.2
     (c.in-Ok.ensures.sees d.events d.notes (start_by g.K.Sink c.args.out.now c.args.observer.now)
-    (comes_next g.K.Sink g.E.Events.gave g.O.Observer.sees c.args.network.now c.args.from.now c.args.source.now c.args.observer.now c.events.from c.events.source c.events.world
+    (comes_next g.K.Sink g.E.Events.gave g.O.Observer.sees c.args.network.now c.args.from.now c.args.source.now c.args.observer.now c.events.from
+    c.events.source c.events.world
     c.events.observer c.events.time c.events.line c.args.out.now c.events.out c.events.invariant
     c.next_event.new.out c.next_event.ensures.nothing_put c.in-Ok-Some.ensures.quiet c.in-Ok-Some.event n.0)
-    (sees_then g.K.Sink g.E.Events.gave g.O.Observer.sees c.args.network.now c.args.from.now c.args.source.now c.args.observer.now c.events.from c.events.source c.events.world
+    (sees_then g.K.Sink g.E.Events.gave g.O.Observer.sees c.args.network.now c.args.from.now c.args.source.now c.args.observer.now c.events.from c.events.source
+    c.events.world
     c.events.observer c.events.time c.events.line c.args.out.now c.events.out c.events.invariant
     c.next_event.new.out c.next_event.ensures.nothing_put))
     c.in-Ok.ensures.reached
-    (puts_more g.K.Sink (tt {0}) c.args.out.now c.next_event.new.out c.see_event.new.out (puts_then g.K.Sink g.E.Events.gave g.O.Observer.sees c.args.network.now c.args.from.now c.args.source.now c.args.observer.now c.events.from c.events.source c.events.world
+    (puts_more g.K.Sink (tt {0}) c.args.out.now c.next_event.new.out c.see_event.new.out
+    (puts_then g.K.Sink g.E.Events.gave g.O.Observer.sees c.args.network.now c.args.from.now c.args.source.now c.args.observer.now c.events.from
+    c.events.source c.events.world
     c.events.observer c.events.time c.events.line c.args.out.now c.events.out c.events.invariant
     c.next_event.new.out c.next_event.ensures.nothing_put c.in-Ok-Some.ensures.quiet) c.in-Ok.ensures.puts)
 
@@ -64,34 +74,42 @@ pub returns-in-Err-see_event : goal.returns-in-Err-see_event
 returns-in-Err-see_event g c =
     let d = c.events.invariant in
     let network = c.args.network.now in
-    let n = given_one g.E.Events.gave g.E.Events.ended g.E.Events.stopped g.E.Events.left network c.args.from.now c.args.source.now d.events c.in-Ok-Some.field-0
+    let n = given_one g.E.Events.gave g.E.Events.ended g.E.Events.stopped g.E.Events.left network c.args.from.now c.args.source.now d.events
+    c.in-Ok-Some.field-0
     c.in-Ok-Some.event c.next_event.new.from c.events.source c.next_event.new.self c.events.out c.next_event.new.out c.in-Ok-Some.field-0-is
     (c.in-Ok-Some.ensures.gives network c.args.from.now c.args.source.now d.events d.gave) in
-    cut_at_event g.K.Sink g.E.Events.gave g.O.Observer.sees c.args.network.now c.args.from.now c.args.source.now c.args.observer.now c.events.from c.events.source c.events.world
+    cut_at_event g.K.Sink g.E.Events.gave g.O.Observer.sees c.args.network.now c.args.from.now c.args.source.now c.args.observer.now c.events.from
+    c.events.source c.events.world
     c.events.observer c.events.time c.events.line c.args.out.now c.events.out c.events.invariant
-    c.next_event.new.out c.next_event.ensures.nothing_put c.in-Ok-Some.ensures.quiet c.in-Ok-Some.event n.0 g.E.Events.ended g.O.Observer.stops c.in-Err-see_event.cut c.next_event.new.from c.next_event.new.self c.see_event.new.out n.2
+    c.next_event.new.out c.next_event.ensures.nothing_put c.in-Ok-Some.ensures.quiet c.in-Ok-Some.event n.0 g.E.Events.ended g.O.Observer.stops
+    c.in-Err-see_event.cut c.next_event.new.from c.next_event.new.self c.see_event.new.out n.2
     (c.in-Err-see_event.ensures.sees d.events d.notes (start_by g.K.Sink c.args.out.now c.args.observer.now)
-    (comes_next g.K.Sink g.E.Events.gave g.O.Observer.sees c.args.network.now c.args.from.now c.args.source.now c.args.observer.now c.events.from c.events.source c.events.world
+    (comes_next g.K.Sink g.E.Events.gave g.O.Observer.sees c.args.network.now c.args.from.now c.args.source.now c.args.observer.now c.events.from
+    c.events.source c.events.world
     c.events.observer c.events.time c.events.line c.args.out.now c.events.out c.events.invariant
     c.next_event.new.out c.next_event.ensures.nothing_put c.in-Ok-Some.ensures.quiet c.in-Ok-Some.event n.0)
-    (sees_then g.K.Sink g.E.Events.gave g.O.Observer.sees c.args.network.now c.args.from.now c.args.source.now c.args.observer.now c.events.from c.events.source c.events.world
+    (sees_then g.K.Sink g.E.Events.gave g.O.Observer.sees c.args.network.now c.args.from.now c.args.source.now c.args.observer.now c.events.from c.events.source
+    c.events.world
     c.events.observer c.events.time c.events.line c.args.out.now c.events.out c.events.invariant
     c.next_event.new.out c.next_event.ensures.nothing_put))
     c.in-Err-see_event.ensures.puts
 
 pub next_unit-requires-clause-begun : goal.next_unit-requires-clause-begun
 next_unit-requires-clause-begun g c =
-    begun g.K.Sink g.E.Events.gave g.O.Observer.sees c.args.network.now c.args.from.now c.args.source.now c.args.observer.now c.events.from c.events.source c.events.world
+    begun g.K.Sink g.E.Events.gave g.O.Observer.sees c.args.network.now c.args.from.now c.args.source.now c.args.observer.now c.events.from c.events.source
+    c.events.world
     c.events.observer c.events.time c.events.line c.args.out.now c.events.out c.events.invariant
 
 pub next_unit-requires-clause-limit : goal.next_unit-requires-clause-limit
 next_unit-requires-clause-limit g c =
-    in_range g.K.Sink g.E.Events.gave g.O.Observer.sees c.args.network.now c.args.from.now c.args.source.now c.args.observer.now c.events.from c.events.source c.events.world
+    in_range g.K.Sink g.E.Events.gave g.O.Observer.sees c.args.network.now c.args.from.now c.args.source.now c.args.observer.now c.events.from c.events.source
+    c.events.world
     c.events.observer c.events.time c.events.line c.args.out.now c.events.out c.events.invariant
 
 pub see_until-requires-clause-seen : goal.see_until-requires-clause-seen
 see_until-requires-clause-seen g c =
-    seen_then g.K.Sink g.E.Events.gave g.O.Observer.sees c.args.network.now c.args.from.now c.args.source.now c.args.observer.now c.events.from c.events.source c.events.world
+    seen_then g.K.Sink g.E.Events.gave g.O.Observer.sees c.args.network.now c.args.from.now c.args.source.now c.args.observer.now c.events.from c.events.source
+    c.events.world
     c.events.observer c.events.time c.events.line c.args.out.now c.events.out c.events.invariant
     c.next_event.new.out c.next_event.ensures.nothing_put
 
@@ -99,10 +117,12 @@ pub see_until-requires-clause-asked : goal.see_until-requires-clause-asked
 see_until-requires-clause-asked g c =
     let d = c.events.invariant in
     let network = c.args.network.now in
-    let n = given_end g.E.Events.gave g.E.Events.ended g.E.Events.stopped g.E.Events.left network c.args.from.now c.args.source.now d.events c.in-Ok-None.field-0
+    let n = given_end g.E.Events.gave g.E.Events.ended g.E.Events.stopped g.E.Events.left network c.args.from.now c.args.source.now d.events
+    c.in-Ok-None.field-0
     c.next_event.new.from c.events.source c.next_event.new.self c.events.out c.next_event.new.out c.in-Ok-None.field-0-is
     (c.in-Ok-None.ensures.gives network c.args.from.now c.args.source.now d.events d.gave) in
-    asked_end g.K.Sink g.E.Events.gave g.O.Observer.sees c.args.network.now c.args.from.now c.args.source.now c.args.observer.now c.events.from c.events.source c.events.world
+    asked_end g.K.Sink g.E.Events.gave g.O.Observer.sees c.args.network.now c.args.from.now c.args.source.now c.args.observer.now c.events.from c.events.source
+    c.events.world
     c.events.observer c.events.time c.events.line c.args.out.now c.events.out c.events.invariant
     c.next_event.new.out c.next_event.ensures.nothing_put c.in-Ok-None.ensures.quiet n.0 c.next_unit.result c.next_unit.ensures
 
@@ -110,14 +130,18 @@ pub returns-in-Ok-see_until : goal.returns-in-Ok-see_until
 returns-in-Ok-see_until g c =
     let d = c.events.invariant in
     let network = c.args.network.now in
-    let n = given_end g.E.Events.gave g.E.Events.ended g.E.Events.stopped g.E.Events.left network c.args.from.now c.args.source.now d.events c.in-Ok-None.field-0
+    let n = given_end g.E.Events.gave g.E.Events.ended g.E.Events.stopped g.E.Events.left network c.args.from.now c.args.source.now d.events
+    c.in-Ok-None.field-0
     c.next_event.new.from c.events.source c.next_event.new.self c.events.out c.next_event.new.out c.in-Ok-None.field-0-is
     (c.in-Ok-None.ensures.gives network c.args.from.now c.args.source.now d.events d.gave) in
-    drives_all g.K.Sink g.E.Events.gave g.O.Observer.sees c.args.network.now c.args.from.now c.args.source.now c.args.observer.now c.events.from c.events.source c.events.world
+    drives_all g.K.Sink g.E.Events.gave g.O.Observer.sees c.args.network.now c.args.from.now c.args.source.now c.args.observer.now c.events.from c.events.source
+    c.events.world
     c.events.observer c.events.time c.events.line c.args.out.now c.events.out c.events.invariant
-    c.next_event.new.out c.next_event.ensures.nothing_put c.in-Ok-None.ensures.quiet n.0 c.next_unit.result c.next_unit.ensures g.E.Events.ended c.next_event.new.from c.next_event.new.self c.see_until.new.world c.see_until.new.observer c.see_until.new.out n.1
+    c.next_event.new.out c.next_event.ensures.nothing_put c.in-Ok-None.ensures.quiet n.0 c.next_unit.result c.next_unit.ensures g.E.Events.ended
+    c.next_event.new.from c.next_event.new.self c.see_until.new.world c.see_until.new.observer c.see_until.new.out n.1
     (c.in-Ok-see_until.ensures.sees d.events d.notes (start_by g.K.Sink c.args.out.now c.args.observer.now) d.stands
-    (sees_then g.K.Sink g.E.Events.gave g.O.Observer.sees c.args.network.now c.args.from.now c.args.source.now c.args.observer.now c.events.from c.events.source c.events.world
+    (sees_then g.K.Sink g.E.Events.gave g.O.Observer.sees c.args.network.now c.args.from.now c.args.source.now c.args.observer.now c.events.from c.events.source
+    c.events.world
     c.events.observer c.events.time c.events.line c.args.out.now c.events.out c.events.invariant
     c.next_event.new.out c.next_event.ensures.nothing_put))
     c.in-Ok-see_until.ensures.puts
@@ -126,21 +150,26 @@ pub returns-in-Err-see_until : goal.returns-in-Err-see_until
 returns-in-Err-see_until g c =
     let d = c.events.invariant in
     let network = c.args.network.now in
-    let n = given_end g.E.Events.gave g.E.Events.ended g.E.Events.stopped g.E.Events.left network c.args.from.now c.args.source.now d.events c.in-Ok-None.field-0
+    let n = given_end g.E.Events.gave g.E.Events.ended g.E.Events.stopped g.E.Events.left network c.args.from.now c.args.source.now d.events
+    c.in-Ok-None.field-0
     c.next_event.new.from c.events.source c.next_event.new.self c.events.out c.next_event.new.out c.in-Ok-None.field-0-is
     (c.in-Ok-None.ensures.gives network c.args.from.now c.args.source.now d.events d.gave) in
-    cut_at_end g.K.Sink g.E.Events.gave g.O.Observer.sees c.args.network.now c.args.from.now c.args.source.now c.args.observer.now c.events.from c.events.source c.events.world
+    cut_at_end g.K.Sink g.E.Events.gave g.O.Observer.sees c.args.network.now c.args.from.now c.args.source.now c.args.observer.now c.events.from c.events.source
+    c.events.world
     c.events.observer c.events.time c.events.line c.args.out.now c.events.out c.events.invariant
-    c.next_event.new.out c.next_event.ensures.nothing_put c.in-Ok-None.ensures.quiet n.0 c.next_unit.result c.next_unit.ensures g.E.Events.ended g.O.Observer.stops c.in-Err-see_until.cut c.next_event.new.from c.next_event.new.self c.see_until.new.out n.1
+    c.next_event.new.out c.next_event.ensures.nothing_put c.in-Ok-None.ensures.quiet n.0 c.next_unit.result c.next_unit.ensures g.E.Events.ended
+    g.O.Observer.stops c.in-Err-see_until.cut c.next_event.new.from c.next_event.new.self c.see_until.new.out n.1
     (c.in-Err-see_until.ensures.sees d.events d.notes (start_by g.K.Sink c.args.out.now c.args.observer.now) d.stands
-    (sees_then g.K.Sink g.E.Events.gave g.O.Observer.sees c.args.network.now c.args.from.now c.args.source.now c.args.observer.now c.events.from c.events.source c.events.world
+    (sees_then g.K.Sink g.E.Events.gave g.O.Observer.sees c.args.network.now c.args.from.now c.args.source.now c.args.observer.now c.events.from c.events.source
+    c.events.world
     c.events.observer c.events.time c.events.line c.args.out.now c.events.out c.events.invariant
     c.next_event.new.out c.next_event.ensures.nothing_put))
     c.in-Err-see_until.ensures.puts
 
 pub returns-in-Err : goal.returns-in-Err
 returns-in-Err g c =
-    drives_so_far g.K.Sink g.E.Events.gave g.O.Observer.sees c.args.network.now c.args.from.now c.args.source.now c.args.observer.now c.events.from c.events.source c.events.world
+    drives_so_far g.K.Sink g.E.Events.gave g.O.Observer.sees c.args.network.now c.args.from.now c.args.source.now c.args.observer.now c.events.from
+    c.events.source c.events.world
     c.events.observer c.events.time c.events.line c.args.out.now c.events.out c.events.invariant
     c.next_event.new.out c.next_event.ensures.nothing_put g.E.Events.stopped c.in-Err.stop c.next_event.new.from c.next_event.new.self
     (c.in-Err.ensures.gives c.args.network.now c.args.from.now c.args.source.now c.events.invariant.events c.events.invariant.gave)

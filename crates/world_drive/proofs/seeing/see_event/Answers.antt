@@ -1,9 +1,7 @@
-use Rattle.std.proofs.Common.{◌++◌, ◌∷◌, [], None}
+use Rattle.world_drive.proofs.Words.{◌++◌, ◌∷◌, CutsAtEvent, None, SeesEvent, [], told_by}
 use Rattle.world_drive.proofs.Instants.{match_on, on_ok}
 use Rattle.world_drive.proofs.Meeting.{asked_for, befell, come_after, cut_at, cut_before, cut_event, line_next, may_befall, open_now, same_number, seen_event}
 use Rattle.world_drive.proofs.More.{puts_memory, puts_on, puts_so_far}
-use Rattle.world_drive.specs.Observing.{told_by}
-use Rattle.world_drive.specs.Seeing.{CutsAtEvent, SeesEvent}
 use Rattle.world_drive.proofs.seeing.see_event.Goals as goal
 
 pub see_until-requires-clause-seen : goal.see_until-requires-clause-seen
@@ -25,7 +23,8 @@ returns-in-Err-clause-puts g c = c.in-Err.ensures.puts
 pub befall-requires-clause-line : goal.befall-requires-clause-line
 befall-requires-clause-line g c =
     let m = c.requires.may in
-    line_next c.args.network.now c.args.world.now m.events m.notes c.args.event.now m.next g.O.Observer.sees c.see_until.new.world c.see_until.new.observer m.old
+    line_next c.args.network.now c.args.world.now m.events m.notes c.args.event.now m.next g.O.Observer.sees c.see_until.new.world c.see_until.new.observer
+    m.old
     (told_by g.K.Sink c.see_until.new.out) (c.in-Ok.ensures.sees m.events m.notes m.old m.next.stands m.sees) c.in-Ok.ensures.reached c.args.line m.number
 
 pub befall-requires-clause-now : goal.befall-requires-clause-now
@@ -37,7 +36,8 @@ befall-requires-clause-now g c =
 pub befall-requires-clause-within : goal.befall-requires-clause-within
 befall-requires-clause-within g c =
     let m = c.requires.may in
-    may_befall c.args.network.now c.args.world.now m.events m.notes c.args.event.now m.next g.O.Observer.sees c.see_until.new.world c.see_until.new.observer m.old
+    may_befall c.args.network.now c.args.world.now m.events m.notes c.args.event.now m.next g.O.Observer.sees c.see_until.new.world c.see_until.new.observer
+    m.old
     (told_by g.K.Sink c.see_until.new.out) (c.in-Ok.ensures.sees m.events m.notes m.old m.next.stands m.sees) c.in-Ok.ensures.reached
 
 pub befall-requires-clause-hold : goal.befall-requires-clause-hold
@@ -85,7 +85,8 @@ returns-in-Ok-befall-clause-sees g c events notes old n b =
     match_on c.event.result (λ _. see network (events ++ event ∷ []) (ns ++ note ∷ []) None old new c.event.new.self)
     (λ _. SeesEvent see network events notes event after c.event.new.self old new)
     (λ cut. stop network (events ++ event ∷ []) (ns ++ note ∷ []) cut old new) (λ cut. CutsAtEvent stop network events notes event cut old new)
-    (λ _ sees. seen_event network world events notes event n see next seen old put s reached after note line number stands run is still c.event.new.self new sees)
+    (λ _ sees. seen_event network world events notes event n see next seen old put s reached after note line number stands run is still c.event.new.self new
+    sees)
     (λ cut stops. cut_event network world events notes event n see next seen old put s reached after note line number stands run is still stop cut new stops)
     (c.event.ensures.goes events ns old
     (befell network world events notes event n see next seen old put s reached after note line number stands run is still) s.sees)
@@ -103,7 +104,8 @@ returns-in-Ok-befall-clause-reached g c =
 
 pub returns-in-Ok-befall-clause-puts : goal.returns-in-Ok-befall-clause-puts
 returns-in-Ok-befall-clause-puts g c =
-    puts_on g.K.Sink c.event.result c.args.out.now c.see_until.new.out c.event.new.out (puts_so_far g.K.Sink (tt {0}) c.args.out.now c.see_until.new.out c.in-Ok.ensures.puts)
+    puts_on g.K.Sink c.event.result c.args.out.now c.see_until.new.out c.event.new.out
+    (puts_so_far g.K.Sink (tt {0}) c.args.out.now c.see_until.new.out c.in-Ok.ensures.puts)
     c.event.ensures.puts
 
 pub returns-in-Err-befall-clause-sees : goal.returns-in-Err-befall-clause-sees
@@ -115,4 +117,5 @@ returns-in-Err-befall-clause-sees g c events notes old n b =
     g.O.Observer.stops _ (g.met.O.Observer.cut network events (notes ++ s.more) None old put c.see_until.new.observer s.sees)
 
 pub returns-in-Err-befall-clause-puts : goal.returns-in-Err-befall-clause-puts
-returns-in-Err-befall-clause-puts g c = puts_memory g.K.Sink c.args.out.now c.see_until.new.out (puts_so_far g.K.Sink (tt {0}) c.args.out.now c.see_until.new.out c.in-Ok.ensures.puts)
+returns-in-Err-befall-clause-puts g c = puts_memory g.K.Sink c.args.out.now c.see_until.new.out
+    (puts_so_far g.K.Sink (tt {0}) c.args.out.now c.see_until.new.out c.in-Ok.ensures.puts)

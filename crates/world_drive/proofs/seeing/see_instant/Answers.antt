@@ -1,13 +1,7 @@
-use Rattle.std.proofs.Common.{◌+◌, ◌<◌, ◌++◌, ◌∷◌, [], Some, None, inr, refl, ◌∙◌, arith}
-use Rattle.std.proofs.lemmas.Int.{ints}
-use Rattle.drift_world.specs.Running.{left_of}
-use Rattle.exact_runs.proofs.Given.{if_some}
-use Rattle.run_law.specs.declared.note.Note.{Note as NoteValue}
-use Rattle.tte_units.specs.Amount.{amount}
+use Rattle.world_drive.proofs.Words.{◌++◌, ◌+◌, ◌<◌, ◌∙◌, ◌∷◌, CutsBefore, IsPast, None, NoteValue, Some, [], amount, arith, if_some, inr, ints, left_of, refl}
+use Rattle.world_drive.proofs.Words.{told_by}
 use Rattle.world_drive.proofs.Instants.{amount_now, complete_past, given_in, instant_over, match_on, on_ok}
-use Rattle.world_drive.proofs.More.{cut_here, cut_one, puts_cut, puts_more, puts_none, puts_on, seen_none, seen_one}
-use Rattle.world_drive.specs.Observing.{told_by}
-use Rattle.world_drive.specs.Seeing.{CutsBefore, IsPast, SeesInstant}
+use Rattle.world_drive.{proofs.More.{cut_here, cut_one, puts_cut, puts_more, puts_none, puts_on, seen_none, seen_one}, specs.Seeing.SeesInstant}
 use Rattle.world_drive.proofs.seeing.see_instant.Goals as goal
 
 pub notes-init : goal.notes-init
@@ -51,7 +45,8 @@ record-requires-clause-may g c =
       instant = Some (amount c.args.time);
       old = u.old;
       given = given_in network u.events (u.notes ++ h.more) c.in-Ok-Some.note c.args.time c.next_unit.result c.args.world.now c.notes.world
-          c.next_given.new.self c.in-Ok-Some.field-0 c.in-Ok-Some.field-0-is h.stands (c.in-Ok-Some.ensures.stands network u.events (u.notes ++ h.more) h.stands)
+          c.next_given.new.self c.in-Ok-Some.field-0 c.in-Ok-Some.field-0-is h.stands
+          (c.in-Ok-Some.ensures.stands network u.events (u.notes ++ h.more) h.stands)
           c.in-Ok-Some.ensures.before u.at.now c.notes.invariant.now c.next_unit.ensures;
       sees = h.sees;
     }
@@ -158,7 +153,8 @@ returns-in-Ok-None-clause-past g c =
     on_ok c.instant.result (IsPast c.args.world.now c.next_given.new.self) over.past
 
 pub returns-in-Ok-None-clause-puts : goal.returns-in-Ok-None-clause-puts
-returns-in-Ok-None-clause-puts g c = puts_on g.K.Sink c.instant.result c.args.out.now c.notes.out c.instant.new.out c.notes.invariant.puts c.instant.ensures.puts
+returns-in-Ok-None-clause-puts g c = puts_on g.K.Sink c.instant.result c.args.out.now c.notes.out c.instant.new.out c.notes.invariant.puts
+    c.instant.ensures.puts
 
 pub returns-in-Err-clause-sees : goal.returns-in-Err-clause-sees
 returns-in-Err-clause-sees g c events notes old a b =

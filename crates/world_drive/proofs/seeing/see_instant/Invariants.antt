@@ -1,11 +1,6 @@
-use Rattle.std.proofs.Common.{◌≡◌, ◌+◌, List, Some}
-use Rattle.drift_world.specs.Running.{left_of}
+use Rattle.world_drive.proofs.Words.{◌+◌, ◌≡◌, IsUnderwayAt, List, NoteValue, Some, Start, amount, left_of, told_by}
 use Rattle.net_plan.specs.declared.event.Event.{Event as EventValue}
-use Rattle.run_law.specs.declared.note.Note.{Note as NoteValue}
-use Rattle.tte_units.specs.Amount.{amount}
 use Rattle.world_drive.proofs.More.{HasSeenMore, PutsSoFar}
-use Rattle.world_drive.specs.Observing.{Start, told_by}
-use Rattle.world_drive.specs.Seeing.{IsUnderwayAt}
 use Rattle.world_drive.proofs.seeing.see_instant.Given as goal
 
 abbrev pub invariant-notes : goal.invariant-notes

@@ -1,20 +1,12 @@
-use Rattle.std.proofs.Common.{◌≡◌, ◌+◌, ◌<◌, ◌++◌, ◌∷◌, [], Bool, List, Some, None, inl, inr, refl, sym, ap, ◌∙◌, subst, arith}
-use Rattle.std.proofs.lemmas.Int.{ints}
-use Rattle.drift_clock.specs.Segment.{fresh_segment, segment_reading, stepped_segment}
-use Rattle.drift_world.specs.Running.{Reaches, left_of}
-use Rattle.exact_runs.proofs.Given.{given_none, if_none, if_some, is_before}
-use Rattle.exact_runs.proofs.Worlds.{below_amount, go_on}
-use Rattle.exact_runs.specs.Worlds.{StandsExact}
-use Rattle.run_law.specs.declared.note.Note.{Note as NoteValue}
+use Rattle.world_drive.proofs.Words.{◌++◌, ◌+◌, ◌<◌, ◌∙◌, ◌∷◌, ◌≡◌, IsUnderwayAt, List, None, NoteValue, Reaches, Some, StandsExact, Units, [], amount, ap}
+use Rattle.world_drive.proofs.Words.{arith, fresh_segment, go_on, if_some, inl, inr, ints, left_of, refl, segment_reading, stepped_segment, subst, sym, told_by}
+use Rattle.std.proofs.Common.{Bool}
 use Rattle.safe_runs.specs.Headline.{IsSafeFront}
-use Rattle.tte_units.specs.Amount.{amount}
+use Rattle.world_exact.proofs.{Given.{given_none, if_none, is_before}, Worlds.below_amount}
 use Rattle.world_drive.proofs.Instants.{given_before, underway_now}
 use Rattle.world_drive.proofs.More.{cut_here, cut_in_instant, cut_one, puts_cut, puts_more, puts_none, puts_well, seen_instant, seen_none, seen_one, seen_until}
-use Rattle.world_drive.proofs.Placed.{end_stays, fewer}
-use Rattle.world_drive.proofs.Ways.{asked_limit, asked_still, past_near, past_order, room_now, way_reached}
-use Rattle.tte_units.specs.declared.units.Units.{Units}
-use Rattle.world_drive.specs.Observing.{instant_of, told_by}
-use Rattle.world_drive.specs.Seeing.{IsUnderwayAt}
+use Rattle.world_drive.proofs.{Placed.{end_stays, fewer}, Ways.{asked_limit, asked_still, past_near, past_order, room_now, way_reached}}
+use Rattle.world_drive.specs.Observing.{instant_of}
 use Rattle.world_drive.proofs.seeing.see_until.Goals as goal
 
 pub notes-init : goal.notes-init
@@ -47,7 +39,8 @@ record-requires-clause-may g c =
       notes = u.notes ++ h.more;
       instant = None;
       old = u.old;
-      given = given_before network u.events (u.notes ++ h.more) c.in-Ok-Some.note c.args.until c.next_given.new.self c.in-Ok-Some.field-0 c.in-Ok-Some.field-0-is
+      given = given_before network u.events (u.notes ++ h.more) c.in-Ok-Some.note c.args.until c.next_given.new.self c.in-Ok-Some.field-0
+          c.in-Ok-Some.field-0-is
           (c.in-Ok-Some.ensures.stands network u.events (u.notes ++ h.more) h.stands) c.in-Ok-Some.ensures.before;
       sees = h.sees;
     }
@@ -168,7 +161,8 @@ notes-preserved-in-Ok g c =
     (c.in-Ok-Some.ensures.stands network u.events ns own.stands) c.in-Ok-Some.ensures.before in
     let past = c.see_instant.new.world in
     let on = c.in-Ok.ensures.past in
-    let others : (ms : List NoteValue) × StandsExact network past u.events ms = (let events = u.events in let notes = u.notes in let old = u.old in let a = u.stands in let b = u.sees in
+    let others : (ms : List NoteValue) × StandsExact network past u.events ms =
+    (let events = u.events in let notes = u.notes in let old = u.old in let a = u.stands in let b = u.sees in
     let h = c.notes.invariant.sees events notes old a b in
     let given = given_before network events (notes ++ h.more) note until next c.in-Ok-Some.field-0 c.in-Ok-Some.field-0-is
     (c.in-Ok-Some.ensures.stands network events (notes ++ h.more) h.stands) c.in-Ok-Some.ensures.before in
@@ -191,7 +185,8 @@ notes-preserved-in-Ok g c =
           c.notes.invariant.asked in
           let at = subst (λ (u : Units). IsUnderwayAt network next events ((notes ++ h.more) ++ note ∷ []) u) (sym time_is)
           (underway_now network next events (notes ++ h.more) note given.stands given.at (c.in-Ok-true.ensures.asks c.in-Ok-true.field-0-test) room) in
-          let saw = subst (λ (u : Units). see network events ((notes ++ h.more) ++ note ∷ []) (Some (amount u)) old (told_by sink c.record.new.out) c.record.new.self)
+          let saw = subst (λ (u : Units). see network events ((notes ++ h.more) ++ note
+          ∷ []) (Some (amount u)) old (told_by sink c.record.new.out) c.record.new.self)
           (sym time_is) (subst (λ (asks : Bool). see network events ((notes ++ h.more) ++ note ∷ []) (instant_of None asks note.time) old
           (told_by sink c.record.new.out) c.record.new.self) c.in-Ok-true.field-0-test
           (c.in-Ok-true.ensures.goes events (notes ++ h.more) None old given h.sees)) in

@@ -1,13 +1,6 @@
-use Rattle.std.proofs.Common.{◌≡◌, false, List, None}
-use Rattle.drift_world.specs.Running.{left_of}
-use Rattle.exact_runs.specs.Worlds.{StandsExact}
+use Rattle.world_drive.proofs.Words.{◌≡◌, IsAsked, List, None, NoteValue, StandsExact, Start, amount, false, left_of, told_by}
 use Rattle.net_plan.specs.declared.event.Event.{Event as EventValue}
-use Rattle.run_law.specs.declared.note.Note.{Note as NoteValue}
-use Rattle.tte_units.specs.Amount.{amount}
-use Rattle.world_drive.proofs.More.{HasSeenMore, PutsSoFar}
-use Rattle.world_drive.proofs.Ways.{IsNearing}
-use Rattle.world_drive.specs.Observing.{Start, told_by}
-use Rattle.world_drive.specs.Seeing.{IsAsked}
+use Rattle.world_drive.proofs.{More.{HasSeenMore, PutsSoFar}, Ways.IsNearing}
 use Rattle.world_drive.proofs.seeing.see_until.Given as goal
 
 abbrev pub invariant-notes : goal.invariant-notes

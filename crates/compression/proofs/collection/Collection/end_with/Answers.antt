@@ -1,5 +1,4 @@
-use Rattle.std.proofs.Common.{◌≡◌, ◌∙◌, ap, sym, ◌+ℤ◌, ◌≤ℤ◌, arith}
-use Rattle.std.proofs.lemmas.Int.{ints}
+use Rattle.std.proofs.{Common.{◌+ℤ◌, ◌∙◌, ◌≡◌, ◌≤ℤ◌, ap, arith, sym}, lemmas.Int.ints}
 use Rattle.compression.proofs.Collections.{joined_end-first}
 use Rattle.compression.proofs.collection.Collection.end_with.Goals as goal
 

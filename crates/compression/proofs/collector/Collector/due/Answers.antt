@@ -1,7 +1,5 @@
-use Rattle.std.proofs.Common.{arith}
-use Rattle.std.proofs.lemmas.Int.{ints}
-use Rattle.compression.specs.Collecting.{Collecting}
-use Rattle.compression.proofs.Emitting.{IsLeast-first}
+use Rattle.std.proofs.{Common.arith, lemmas.Int.ints}
+use Rattle.compression.{proofs.Emitting.IsLeast-first, specs.Collecting.Collecting}
 use Rattle.compression.proofs.collector.Collector.due.Goals as goal
 
 pub emission-requires-clause-time : goal.emission-requires-clause-time

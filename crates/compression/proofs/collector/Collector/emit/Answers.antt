@@ -1,10 +1,6 @@
-use Rattle.std.proofs.Common.{◌≡◌, ◌≤ℤ◌, ap, sym, subst, arith, to_z, of_z, w64}
-use Rattle.std.proofs.lemmas.Int.{ints}
-use Rattle.compression.specs.Emission.{emission}
-use Rattle.compression.specs.Collecting.{Collecting}
-use Rattle.compression.specs.Stands.{StandsForPoints}
-use Rattle.compression.specs.declared.compressed.Compressed.{Compressed}
-use Rattle.compression.proofs.Emitting.{IsLeast-first, IsSound-emitted, Stands-emitted}
+use Rattle.std.proofs.{Common.{◌≡◌, ◌≤ℤ◌, ap, arith, of_z, subst, sym, to_z, w64}, lemmas.Int.ints}
+use Rattle.compression.{proofs.Emitting.{IsLeast-first, IsSound-emitted, Stands-emitted}, specs.{Collecting.Collecting, Emission.emission}}
+use Rattle.compression.specs.{Stands.StandsForPoints, declared.compressed.Compressed.Compressed}
 use Rattle.compression.proofs.collector.Collector.emit.Goals as goal
 
 pub invariant_of-self : goal.invariant_of-self

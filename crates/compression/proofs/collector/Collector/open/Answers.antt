@@ -1,8 +1,6 @@
-use Rattle.std.proofs.Common.{◌≡◌, ◌∙◌, List, [], ◌∷◌, ◌++◌, length, ap, sym, subst, arith}
-use Rattle.compression.specs.Clusters.{Point, Cluster}
-use Rattle.compression.specs.Collecting.{Collecting, with_opened}
+use Rattle.std.proofs.Common.{◌++◌, ◌∙◌, ◌∷◌, ◌≡◌, List, [], ap, arith, length, subst, sym}
+use Rattle.compression.{proofs.Sound.{IsSound-opened, length-push, room_to_open}, specs.{Clusters.{Cluster, Point}, Collecting.{Collecting, with_opened}}}
 use Rattle.compression.specs.Row.{IsSound}
-use Rattle.compression.proofs.Sound.{IsSound-opened, length-push, room_to_open}
 use Rattle.compression.proofs.collector.Collector.open.Goals as goal
 
 pub push-requires : goal.push-requires

@@ -1,12 +1,7 @@
-use Rattle.std.proofs.Common.{◌≡◌, ◌≢◌, ◌⊎◌, ◌∙◌, List, ap, sym, refl, rules, subst, inl, inr}
-use Rattle.compression.specs.Clusters.{Point, Cluster, point_at}
-use Rattle.compression.specs.Collecting.{Collecting, with_opened, with_joined}
-use Rattle.compression.specs.Row.{IsSound}
-use Rattle.compression.specs.Role.{role}
-use Rattle.compression.specs.Stands.{StandsForPoints}
-use Rattle.compression.specs.declared.taken.Taken.{Taken}
-use Rattle.compression.specs.declared.taken.Taken.TheVariants.{Opened, Joined, Repeat, OtherCycle}
-use Rattle.compression.proofs.Taking.{able, last_is_joined, role-whole, IsSound-takes, Stands-role_opened, Stands-role_joined, Stands-role_ignored}
+use Rattle.std.proofs.Common.{◌∙◌, ◌≡◌, ◌≢◌, ◌⊎◌, List, ap, inl, inr, refl, rules, subst, sym}
+use Rattle.compression.proofs.Taking.{IsSound-takes, Stands-role_ignored, Stands-role_joined, Stands-role_opened, able, last_is_joined, role-whole}
+use Rattle.compression.specs.{Clusters.{Cluster, Point, point_at}, Collecting.{Collecting, with_joined, with_opened}, Role.role, Row.IsSound}
+use Rattle.compression.specs.{Stands.StandsForPoints, declared.taken.Taken.{Taken, TheVariants.{Joined, Opened, OtherCycle, Repeat}}}
 use Rattle.compression.proofs.collector.Collector.point.Goals as goal
 
 pub offer-taken-requires-clause-last : goal.offer-taken-requires-clause-last

@@ -1,7 +1,5 @@
-use Rattle.std.proofs.Common.{◌≡◌, ◌∙◌, ap, sym, Some, None, arith}
-use Rattle.std.proofs.lemmas.Int.{to_z-of_z}
-use Rattle.std.specs.List.{last_or}
-use Rattle.compression.proofs.Ascents.{slice_get-last, MayFollow-last}
+use Rattle.std.{proofs.{Common.{◌∙◌, ◌≡◌, None, Some, ap, arith, sym}, lemmas.Int.to_z-of_z}, specs.List.last_or}
+use Rattle.compression.proofs.Ascents.{MayFollow-last, slice_get-last}
 use Rattle.compression.proofs.points.Points.may_end_in.Goals as goal
 
 pub returns-in-Some : goal.returns-in-Some

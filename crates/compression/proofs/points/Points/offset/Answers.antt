@@ -1,7 +1,5 @@
-use Rattle.std.proofs.Common.{rules, ◌∙◌, refl, subst, pos, FitsSigned, w64, slice_index_or}
-use Rattle.std.proofs.lemmas.Int.{to_z-of_z}
-use Rattle.compression.specs.Ascent.{IsAscending}
-use Rattle.compression.proofs.Ascents.{offset_at-within, offset_fits}
+use Rattle.std.proofs.{Common.{◌∙◌, FitsSigned, pos, refl, rules, slice_index_or, subst, w64}, lemmas.Int.to_z-of_z}
+use Rattle.compression.{proofs.Ascents.{offset_at-within, offset_fits}, specs.Ascent.IsAscending}
 use Rattle.compression.proofs.points.Points.offset.Goals as goal
 
 pub overflow_sub-result : goal.overflow_sub-result

@@ -1,10 +1,5 @@
-use Rattle.std.proofs.Common.{◌≡◌, ◌≤ℤ◌, ◌<ℤ◌, ◌∙◌, ap, refl, sym, arith, Some, None}
-use Rattle.std.proofs.lemmas.Int.{ints}
-use Rattle.std.specs.List.{last_or}
-use Rattle.compression.specs.Clusters.{Point}
-use Rattle.compression.specs.Role.{role_in}
-use Rattle.compression.proofs.Ascents.{last_or-read}
-use Rattle.compression.proofs.Roles.{open_at-in, open_at-beyond}
+use Rattle.std.{proofs.{Common.{◌<ℤ◌, ◌∙◌, ◌≡◌, ◌≤ℤ◌, None, Some, ap, arith, refl, sym}, lemmas.Int.ints}, specs.List.last_or}
+use Rattle.compression.{proofs.{Ascents.last_or-read, Roles.{open_at-beyond, open_at-in}}, specs.{Clusters.Point, Role.role_in}}
 use Rattle.compression.proofs.waiting.Waiting.offer.Goals as goal
 
 pub returns-then-end-reading-clause-role : goal.returns-then-end-reading-clause-role

@@ -1,8 +1,6 @@
-use Rattle.std.proofs.Common.{ℤ, ◌+ℤ◌, [], ap, subst, ◌∙◌}
+use Rattle.end_system.proofs.Words.{◌+ℤ◌, ◌∙◌, IsAgenda, Units, [], ap, subst, ℤ}
 use Rattle.end_system.proofs.TimedFrames.{above, local_range}
 use Rattle.end_system.proofs.end_system.EndSystem.agenda_anew.Goals as goal
-use Rattle.end_system.specs.Agendas.{IsAgenda}
-use Rattle.tte_units.specs.declared.units.Units.{Units}
 
 pub local_at-local-requires-clause-low : goal.local_at-local-requires-clause-low
 local_at-local-requires-clause-low c = above c.args.self.now.last.reading.0 c.requires.begun

@@ -1,11 +1,8 @@
-use Rattle.std.proofs.Common.{refl, sym, subst}
+use Rattle.end_system.proofs.Words.{HasVerdict, IsCorrection, Standing, refl, subst, sym}
 use Rattle.end_system.proofs.Advance.{low_at, not_fallen}
 use Rattle.end_system.proofs.Correct.{at_point, below_range, corrects, near_a, near_b, number_after, number_bound, number_fits, still_small}
 use Rattle.end_system.proofs.Tasks.{first_is_correction}
 use Rattle.end_system.proofs.end_system.EndSystem.correct.Goals as goal
-use Rattle.end_system.specs.Agendas.{IsCorrection}
-use Rattle.sync_state.specs.Standing.{Standing}
-use Rattle.sync_state.specs.Verdicts.{HasVerdict}
 
 pub at_correction-verdict-requires : goal.at_correction-verdict-requires
 at_correction-verdict-requires c =

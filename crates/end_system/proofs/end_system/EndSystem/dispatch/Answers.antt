@@ -1,10 +1,7 @@
-use Rattle.std.proofs.Common.{refl, sym, ap, subst, ◌∙◌}
-use Rattle.end_system.proofs.Advance.{correction_stays, dispatch_in_range, no_correcting_row, no_sending_row, number_stays, not_fallen, sending_stays, slot_there, small_same}
-use Rattle.end_system.proofs.Tasks.{first_is_dispatch}
+use Rattle.end_system.proofs.Words.{◌∙◌, IsDispatch, Standing, ap, dispatching, next_point, refl, subst, sym}
+use Rattle.end_system.proofs.Advance.{correction_stays, dispatch_in_range, no_correcting_row, no_sending_row, not_fallen, number_stays, sending_stays}
+use Rattle.end_system.proofs.{Advance.{slot_there, small_same}, Tasks.first_is_dispatch}
 use Rattle.end_system.proofs.end_system.EndSystem.dispatch.Goals as goal
-use Rattle.end_system.specs.Agendas.{IsDispatch}
-use Rattle.run_law.specs.machines.Nodes.{dispatching}
-use Rattle.sync_state.specs.Standing.{Standing, next_point}
 
 pub next_behind-self-requires : goal.next_behind-self-requires
 next_behind-self-requires c =

@@ -1,15 +1,9 @@
-use Rattle.std.proofs.Common.{ap, arith, subst, sym, ◌∙◌, Result}
-use Rattle.end_system.proofs.Advance.{not_fallen}
-use Rattle.end_system.proofs.Arrive.{control_at, control_still}
-use Rattle.end_system.proofs.Ripe.{stands_later}
+use Rattle.end_system.proofs.Words.{◌∙◌, Node, Pcf, StandsAsEnd, ap, arith, arriving, called, subst, sym}
+use Rattle.std.proofs.Common.{Result}
+use Rattle.pcf_codec.specs.{Decoding.decoded, declared.refusal.PcfRefusal.PcfRefusal}
+use Rattle.run_law.specs.machines.Answers.{after_arrival}
+use Rattle.end_system.{proofs.{Advance.not_fallen, Arrive.{control_at, control_still}, Ripe.stands_later}, specs.Controls.arrival_of}
 use Rattle.end_system.proofs.end_system.EndSystem.hear_control.Goals as goal
-use Rattle.end_system.specs.Controls.{arrival_of}
-use Rattle.end_system.specs.Standing.{StandsAsEnd}
-use Rattle.pcf_codec.specs.Decoding.{decoded}
-use Rattle.pcf_codec.specs.declared.refusal.PcfRefusal.{PcfRefusal}
-use Rattle.pcf_values.specs.declared.pcf.Pcf.{Pcf}
-use Rattle.run_law.specs.machines.Answers.{after_arrival, called}
-use Rattle.run_law.specs.machines.Nodes.{Node, arriving}
 
 pub decode-requires : goal.decode-requires
 decode-requires c = omega (arith, c.requires.4.1.most)

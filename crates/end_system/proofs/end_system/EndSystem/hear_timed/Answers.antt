@@ -1,11 +1,9 @@
-use Rattle.std.proofs.Common.{ℕ, ◌+ℤ◌, [], ◌∷◌, ◌++◌, length, Some, None, Ok, Err, refl, sym, ap, subst, ◌∙◌}
-use Rattle.end_system.proofs.Advance.{not_fallen}
-use Rattle.end_system.proofs.Ripe.{small_now, stands_later}
-use Rattle.end_system.proofs.TimedFrames.{clock_is, fault_arrival, local_range, stands_with}
-use Rattle.end_system.proofs.end_system.EndSystem.hear_timed.Goals as goal
+use Rattle.end_system.proofs.Words.{◌++◌, ◌+ℤ◌, ◌∙◌, ◌∷◌, None, Some, Units, [], ap, arriving, length, refl, standpoint_at, subst, sym, ℕ}
+use Rattle.std.proofs.Common.{Err, Ok}
+use Rattle.run_law.specs.machines.Nodes.{local_at}
+use Rattle.end_system.proofs.{Advance.not_fallen, Ripe.{small_now, stands_later}, TimedFrames.{clock_is, fault_arrival, local_range, stands_with}}
 use Rattle.end_system.specs.EnteringRows.{IsTakenSo}
-use Rattle.run_law.specs.machines.Nodes.{arriving, local_at, standpoint_at}
-use Rattle.tte_units.specs.declared.units.Units.{Units}
+use Rattle.end_system.proofs.end_system.EndSystem.hear_timed.Goals as goal
 
 pub returns-in-Some : goal.returns-in-Some
 returns-in-Some c = λ network device node stands may arrives on. (

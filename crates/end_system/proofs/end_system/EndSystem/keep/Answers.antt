@@ -1,9 +1,7 @@
-use Rattle.std.proofs.Common.{List, ◌++◌, ◌∷◌, [], subst}
+use Rattle.end_system.proofs.Words.{◌++◌, ◌∷◌, Channel, List, Summarizes, [], subst}
+use Rattle.membership.specs.{Hearing.Hearing, Summary.Hears}
 use Rattle.end_system.proofs.Ripe.{heard_frame_of, keeps}
 use Rattle.end_system.proofs.end_system.EndSystem.keep.Goals as goal
-use Rattle.membership.specs.Hearing.{Hearing}
-use Rattle.membership.specs.Summary.{Hears, Summarizes}
-use Rattle.pcf_values.specs.declared.channel.Channel.{Channel}
 
 pub returns : goal.returns
 returns c = λ network device node stands may ripens as_heard.

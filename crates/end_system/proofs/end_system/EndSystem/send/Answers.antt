@@ -1,11 +1,7 @@
-use Rattle.std.proofs.Common.{refl, ap, subst, ◌∙◌}
-use Rattle.end_system.proofs.Advance.{correction_stays, dispatch_stays, low_at, no_correcting, no_dispatching, number_stays, not_fallen, sending_in_range, sending_next}
-use Rattle.end_system.proofs.Tasks.{first_is_sending}
+use Rattle.end_system.proofs.Words.{◌∙◌, IsSending, Pcf, ap, next_point, refl, sending, subst}
+use Rattle.end_system.proofs.Advance.{correction_stays, dispatch_stays, low_at, no_correcting, no_dispatching, not_fallen, number_stays, sending_in_range}
+use Rattle.end_system.proofs.{Advance.sending_next, Tasks.first_is_sending}
 use Rattle.end_system.proofs.end_system.EndSystem.send.Goals as goal
-use Rattle.end_system.specs.Agendas.{IsSending}
-use Rattle.pcf_values.specs.declared.pcf.Pcf.{Pcf}
-use Rattle.run_law.specs.machines.Nodes.{sending}
-use Rattle.sync_state.specs.Standing.{next_point}
 
 pub in_next_cycle-requires : goal.in_next_cycle-requires
 in_next_cycle-requires c =

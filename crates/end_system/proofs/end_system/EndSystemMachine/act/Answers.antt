@@ -1,7 +1,6 @@
-use Rattle.std.proofs.Common.{Some, ap, subst, ◌∙◌}
-use Rattle.end_system.proofs.Tasks.{none_is_due}
+use Rattle.end_system.proofs.Words.{◌∙◌, Some, ap, subst}
+use Rattle.end_system.{proofs.Tasks.none_is_due, specs.Agendas.IsFirstDue}
 use Rattle.end_system.proofs.end_system.EndSystemMachine.act.Goals as goal
-use Rattle.end_system.specs.Agendas.{IsFirstDue}
 
 pub send-requires : goal.send-requires
 send-requires c = (

@@ -1,9 +1,7 @@
-use Rattle.std.proofs.Common.{sym, ap, arith, ◌∙◌}
-use Rattle.end_system.proofs.Arrive.{is_control, is_timed, off_arrival}
-use Rattle.end_system.proofs.Ripe.{is_on, stands_later}
+use Rattle.end_system.proofs.Words.{◌∙◌, ap, arith, sym}
+use Rattle.run_law.specs.{control.Wires.{Signal, signal_of}, machines.Answers.arrival_at}
+use Rattle.end_system.proofs.{Arrive.{is_control, is_timed, off_arrival}, Ripe.{is_on, stands_later}}
 use Rattle.end_system.proofs.end_system.EndSystemMachine.hear.Goals as goal
-use Rattle.run_law.specs.control.Wires.{Signal, signal_of}
-use Rattle.run_law.specs.machines.Answers.{arrival_at}
 
 pub is_pcf-requires : goal.is_pcf-requires
 is_pcf-requires c = let a = c.requires.4.arrives c.requires.3.own.linked in omega (arith, a.most)

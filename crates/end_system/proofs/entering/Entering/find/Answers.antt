@@ -1,19 +1,9 @@
-use Rattle.std.proofs.Common.{◌≡◌, ℕ, ◌<◌, ◌≤◌, length, List, Some, is_lt, ap, refl, sym, ◌∙◌, subst, rules, of_calls}
-use Rattle.std.proofs.lemmas.Bool.{eqb-true, eqb-false}
-use Rattle.std.proofs.lemmas.Fn.{always_returns_same}
-use Rattle.std.proofs.lemmas.Option.{slice_get_read, slice_get_within}
-use Rattle.std.specs.List.Sorted.{IsPartitionedBy}
-use Rattle.std.specs.Prelude.{option_map, slice_get}
-use Rattle.end_system.proofs.EnteringLemmas.{KeyEnds, found_entry, found_none, key_order, known_row, none_else, none_past}
-use Rattle.end_system.proofs.KeyOrder.{key_cmp}
-use Rattle.end_system.proofs.Search.{parted}
+use Rattle.end_system.proofs.Words.{◌<◌, ◌∙◌, ◌≡◌, ◌≤◌, EnteringRow, IsPartitionedBy, Key, List, Some, ap, eqb-true, in_all, is_lt, length, one, refl, row_by}
+use Rattle.end_system.proofs.Words.{slice_get, slice_get_read, slice_get_within, subst, sym, ℕ}
+use Rattle.std.{proofs.{Common.{of_calls, rules}, lemmas.{Bool.eqb-false, Fn.always_returns_same}}, specs.Prelude.option_map}
+use Rattle.end_system.proofs.{EnteringLemmas.{KeyEnds, found_entry, found_none, key_order, known_row, none_else, none_past}, KeyOrder.key_cmp, Search.parted}
+use Rattle.end_system.{proofs.entering.Entering.find.Goals.{else-eq-via-else-eq, else-eq-via-then-eq+else-key-id}, specs.EnteringRows.{IsKeyOf, numbers_of}}
 use Rattle.end_system.proofs.entering.Entering.find.Goals as goal
-use Rattle.end_system.proofs.entering.Entering.find.Goals.{else-eq-via-then-eq+else-key-id, else-eq-via-else-eq}
-use Rattle.end_system.specs.EnteringRows.{IsKeyOf, numbers_of, row_by}
-use Rattle.end_system.specs.declared.entering.EnteringRow.{EnteringRow}
-use Rattle.end_system.specs.declared.entering.Key.{Key}
-use Rattle.tte_lemmas.proofs.Lists.{in_all}
-use Rattle.tte_lemmas.proofs.Options.{one}
 
 pub returns-then-key-id-clause-known : goal.returns-then-key-id-clause-known
 returns-then-key-id-clause-known c =

@@ -1,9 +1,7 @@
-use Rattle.std.proofs.Common.{◌<◌, length, ap, refl, sym, ◌∙◌}
-use Rattle.std.proofs.lemmas.Option.{slice_get_read}
-use Rattle.end_system.proofs.Takings.{accepted, dropped, judged_at, last_is, last_kept, none_is, repeated}
+use Rattle.end_system.proofs.Words.{◌<◌, ◌∙◌, ap, entry_entering, length, refl, slice_get_read, sym}
+use Rattle.run_law.specs.timed.Arrivals.{entry_arrival, is_taken_in}
+use Rattle.end_system.{proofs.Takings.{accepted, dropped, judged_at, last_is, last_kept, none_is, repeated}, specs.EnteringRows.last_by}
 use Rattle.end_system.proofs.entering.Entering.take.Goals as goal
-use Rattle.end_system.specs.EnteringRows.{last_by}
-use Rattle.run_law.specs.timed.Arrivals.{entry_arrival, entry_entering, is_taken_in}
 
 pub returns-in-None : goal.returns-in-None
 returns-in-None c = λ n d at taken is of are clock.

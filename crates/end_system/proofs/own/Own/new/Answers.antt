@@ -1,8 +1,7 @@
-use Rattle.std.proofs.Common.{refl}
+use Rattle.end_system.proofs.Words.{A, B, refl}
+use Rattle.schedule_tables.specs.declared.rule.Rule.TheVariants.{Connections}
 use Rattle.end_system.proofs.OwnLemmas.{is_own}
 use Rattle.end_system.proofs.own.Own.new.Goals as goal
-use Rattle.pcf_values.specs.declared.channel.Channel.TheVariants.{A, B}
-use Rattle.schedule_tables.specs.declared.rule.Rule.TheVariants.{Connections}
 
 pub uplink_of-requires-clause-one : goal.uplink_of-requires-clause-one
 uplink_of-requires-clause-one c = let one = (c.requires.rules Connections c.args.device.0).ends c.requires.end A in (one.0, one.1)

@@ -1,16 +1,9 @@
-use Rattle.std.proofs.Common.{◌≡◌, ◌≤◌, length, List, Some, is_lt, ap, arith, refl, sym, subst, ◌∙◌, rules, of_calls}
-use Rattle.std.specs.Prelude.{slice_get}
-use Rattle.std.specs.List.Sorted.{IsPartitionedBy}
-use Rattle.std.proofs.lemmas.Fn.{always_returns_same}
-use Rattle.std.proofs.lemmas.Option.{slice_get_read}
-use Rattle.end_system.proofs.KeyOrder.{slot_cmp}
-use Rattle.end_system.proofs.RowSearch.{SlotEnds, few_cycles, first_here, first_later, next_block, slot_at, slot_offset, slot_order}
-use Rattle.end_system.proofs.Search.{parted}
-use Rattle.end_system.proofs.Values.{at_least}
+use Rattle.end_system.proofs.Words.{◌∙◌, ◌≡◌, ◌≤◌, IsPartitionedBy, List, Slot, Some, amount_most, ap, arith, is_lt, key_of, length, refl, slice_get}
+use Rattle.end_system.proofs.Words.{slice_get_read, subst, sym}
+use Rattle.std.proofs.{Common.{of_calls, rules}, lemmas.Fn.always_returns_same}
+use Rattle.end_system.proofs.{KeyOrder.slot_cmp, RowSearch.{SlotEnds, few_cycles, first_here, first_later, next_block, slot_at, slot_offset, slot_order}}
+use Rattle.end_system.proofs.{Search.parted, Values.at_least}
 use Rattle.end_system.proofs.rows.Rows.first_from.Goals as goal
-use Rattle.end_system.specs.RowSlots.{key_of}
-use Rattle.end_system.specs.declared.rows.Slot.{Slot}
-use Rattle.net_plan.proofs.InRange.{amount_most}
 
 pub overflow_add-first : goal.overflow_add-first
 overflow_add-first c = let h = few_cycles c.args.first _ c.requires.first (at_least _ _ _ c.requires.range.cycle) in omega (arith, h)

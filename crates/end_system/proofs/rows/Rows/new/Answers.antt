@@ -1,8 +1,6 @@
-use Rattle.std.proofs.Common.{ap, length, ◌*◌, arith}
-use Rattle.end_system.proofs.KeyOrder.{slots_in_order}
-use Rattle.end_system.proofs.SlotLemmas.{slots_all}
+use Rattle.end_system.proofs.Words.{◌*◌, Row, ap, arith, length}
+use Rattle.end_system.proofs.{KeyOrder.slots_in_order, SlotLemmas.slots_all}
 use Rattle.end_system.proofs.rows.Rows.new.Goals as goal
-use Rattle.net_plan.specs.declared.tables.Row.{Row}
 
 pub returns : goal.returns
 returns c =

@@ -1,4 +1,4 @@
-use Rattle.std.proofs.Common.{refl}
+use Rattle.end_system.proofs.Words.{refl}
 use Rattle.end_system.proofs.RowNext.{next_next}
 use Rattle.end_system.proofs.rows.Rows.next_behind.Goals as goal
 

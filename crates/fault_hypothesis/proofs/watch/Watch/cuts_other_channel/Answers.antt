@@ -1,4 +1,4 @@
-use Rattle.std.proofs.Common.{◌≡◌, ◌↔◌, ◌∙◌, subst, Some}
+use Rattle.std.proofs.Common.{◌↔◌, ◌∙◌, ◌≡◌, Some, subst}
 use Rattle.net_plan.specs.declared.network.Network.{Network}
 use Rattle.pcf_values.specs.declared.channel.Channel.{Channel}
 use Rattle.run_law.specs.scenario.Faults.{IsLinkOf}

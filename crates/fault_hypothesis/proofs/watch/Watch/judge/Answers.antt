@@ -1,7 +1,5 @@
-use Rattle.std.proofs.Common.{◌<◌, inl, inr, subst, sym, arith}
-use Rattle.std.specs.List.{slice_index_or}
-use Rattle.run_law.specs.scenario.Hypothesis.{Violates, condition_number}
-use Rattle.run_law.specs.declared.outside.Outside.TheVariants.{Order}
+use Rattle.std.{proofs.Common.{◌<◌, arith, inl, inr, subst, sym}, specs.List.slice_index_or}
+use Rattle.run_law.specs.{declared.outside.Outside.TheVariants.Order, scenario.Hypothesis.{Violates, condition_number}}
 use Rattle.fault_hypothesis.proofs.Ordering.{conditions, number_at_least, number_at_most, number_of_place, up_to_place}
 use Rattle.fault_hypothesis.proofs.watch.Watch.judge.Goals as goal
 

@@ -1,10 +1,7 @@
 use Rattle.std.proofs.Common.{◌≤◌, List}
+use Rattle.net_plan.specs.{Belonging.IsOfNetwork, declared.{event.Event.Event, network.Network.Network}}
+use Rattle.run_law.specs.{declared.outside.Outside.Outside, scenario.Hypothesis.{Violates, condition_number}}
 use Rattle.fault_hypothesis.specs.Watching.{Watches}
-use Rattle.net_plan.specs.declared.event.Event.{Event}
-use Rattle.net_plan.specs.declared.network.Network.{Network}
-use Rattle.run_law.specs.scenario.Hypothesis.{Violates, condition_number}
-use Rattle.run_law.specs.declared.outside.Outside.{Outside}
-use Rattle.net_plan.specs.Belonging.{IsOfNetwork}
 use Rattle.fault_hypothesis.proofs.watch.Watch.judge.Given as goal
 
 -- the event breaks none of the conditions so far

@@ -1,13 +1,9 @@
-use Rattle.std.proofs.Common.{◌≡◌, ◌↔◌, ◌∙◌, refl, subst, Some, true, ap, sym, arith, length, length-set}
-use Rattle.net_plan.specs.declared.network.Network.{Network}
+use Rattle.std.proofs.Common.{◌↔◌, ◌∙◌, ◌≡◌, Some, ap, arith, length, length-set, refl, subst, sym, true}
+use Rattle.net_plan.specs.{Belonging.IsOfNetwork, declared.network.Network.Network}
 use Rattle.pcf_values.specs.declared.channel.Channel.{Channel}
-use Rattle.run_law.specs.scenario.Faults.{IsLinkOf}
-use Rattle.schedule_tables.specs.Rules.{KeepsRules}
-use Rattle.schedule_tables.specs.declared.rule.Rule.TheVariants.{Limits}
-use Rattle.net_plan.specs.Belonging.{IsOfNetwork}
-use Rattle.run_law.proofs.scenario.Devices.{all_within}
-use Rattle.fault_hypothesis.proofs.Cuts.{faulty_cut, faulty_stays, faulty_uncut}
-use Rattle.fault_hypothesis.proofs.Keeping.{all_of_network, broken_breaks, broken_stays, on_stays, on_turns}
+use Rattle.run_law.{proofs.scenario.Devices.all_within, specs.scenario.Faults.IsLinkOf}
+use Rattle.schedule_tables.specs.{Rules.KeepsRules, declared.rule.Rule.TheVariants.Limits}
+use Rattle.fault_hypothesis.proofs.{Cuts.{faulty_cut, faulty_stays, faulty_uncut}, Keeping.{all_of_network, broken_breaks, broken_stays, on_stays, on_turns}}
 use Rattle.fault_hypothesis.proofs.watch.Watch.keep.Goals as goal
 
 -- a cut, where no channel was faulty

@@ -1,8 +1,7 @@
-use Rattle.std.proofs.Common.{refl, arith}
+use Rattle.std.proofs.Common.{arith, refl}
 use Rattle.run_law.specs.scenario.Faults.{Breaks}
 use Rattle.tte_lemmas.proofs.Lists.{any_none, none_stands}
-use Rattle.fault_hypothesis.proofs.Cuts.{faulty_begins}
-use Rattle.fault_hypothesis.proofs.Keeping.{none_on}
+use Rattle.fault_hypothesis.proofs.{Cuts.faulty_begins, Keeping.none_on}
 use Rattle.fault_hypothesis.proofs.watch.Watch.new.Goals as goal
 
 pub returns : goal.returns

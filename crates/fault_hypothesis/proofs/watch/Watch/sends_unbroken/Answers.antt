@@ -1,6 +1,5 @@
 use Rattle.std.proofs.Common.{◌∙◌, ap, sym}
-use Rattle.net_plan.specs.Places.{link_at}
-use Rattle.net_plan.specs.declared.network.Network.{Network}
+use Rattle.net_plan.specs.{Places.link_at, declared.network.Network.Network}
 use Rattle.fault_hypothesis.proofs.Judging.{sends_by}
 use Rattle.fault_hypothesis.proofs.watch.Watch.sends_unbroken.Goals as goal
 

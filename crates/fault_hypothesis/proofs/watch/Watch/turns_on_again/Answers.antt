@@ -1,12 +1,9 @@
-use Rattle.std.proofs.Common.{◌≡◌, ◌∙◌, Bool, true, false, inl, inr, subst, sym}
-use Rattle.net_plan.specs.declared.event.What.{What}
-use Rattle.net_plan.specs.declared.event.What.TheVariants as whats
-use Rattle.net_plan.specs.declared.ids.DeviceId.{DeviceId}
-use Rattle.net_plan.specs.declared.network.Network.{Network}
+use Rattle.std.proofs.Common.{◌∙◌, ◌≡◌, Bool, false, inl, inr, subst, sym, true}
+use Rattle.net_plan.specs.{Belonging.IsOfNetwork, declared.{event.What.What, ids.DeviceId.DeviceId, network.Network.Network}}
 use Rattle.run_law.specs.scenario.Faults.{BeginsOn, IsBroken, IsTurnedOn}
-use Rattle.net_plan.specs.Belonging.{IsOfNetwork}
+use Rattle.fault_hypothesis.proofs.watch.Watch.turns_on_again.Goals.{else-begins_on, then-begins_on}
+use Rattle.net_plan.specs.declared.event.What.TheVariants as whats
 use Rattle.fault_hypothesis.proofs.watch.Watch.turns_on_again.Goals as goal
-use Rattle.fault_hypothesis.proofs.watch.Watch.turns_on_again.Goals.{then-begins_on, else-begins_on}
 
 same_device : (what : What) (one other : DeviceId) → what ≡ whats.On one → what ≡ whats.On other → one ≡ other
 same_device what one other a b = cc

@@ -1,14 +1,9 @@
-use Rattle.std.proofs.Common.{◌≡◌, List, [], ◌∷◌, ◌++◌, refl, subst, sym}
-use Rattle.std.specs.List.{All}
-use Rattle.std.specs.Prelude.{map}
-use Rattle.std.proofs.lemmas.Slice.{pushed}
+use Rattle.std.{proofs.{Common.{◌++◌, ◌∷◌, ◌≡◌, List, [], refl, subst, sym}, lemmas.Slice.pushed}, specs.{List.All, Prelude.map}}
 use Rattle.net_plan.specs.declared.network.Network.{Network}
 use Rattle.run_law.specs.records.Happenings.{Happening}
-use Rattle.frame_trace.proofs.Further.{after_push, not_pushed, one_more_held, the_trace, trace_grows, trace_more}
-use Rattle.frame_trace.proofs.Growing.{all_grow}
-use Rattle.frame_trace.specs.Keeping.{IsHeld, Keeps, traced, traced_by, view_of, views_of}
+use Rattle.frame_trace.proofs.{Further.{after_push, not_pushed, one_more_held, the_trace, trace_grows, trace_more}, Growing.all_grow}
+use Rattle.frame_trace.{proofs.trace.FrameTrace.note.Goals.{in-Err-push, in-Ok-push}, specs.Keeping.{IsHeld, Keeps, traced, traced_by, view_of, views_of}}
 use Rattle.frame_trace.specs.declared.kept.Kept.{Kept}
-use Rattle.frame_trace.proofs.trace.FrameTrace.note.Goals.{in-Ok-push, in-Err-push}
 use Rattle.frame_trace.proofs.trace.FrameTrace.note.Goals as goal
 
 pub returns-in-Err-clause-as_it_was : goal.returns-in-Err-clause-as_it_was

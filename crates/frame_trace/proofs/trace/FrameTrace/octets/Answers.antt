@@ -1,9 +1,6 @@
-use Rattle.std.proofs.Common.{◌≡◌, ℕ, List, Some, None, ap, subst, ◌∙◌}
-use Rattle.std.specs.Prelude.{option_and_then}
+use Rattle.std.{proofs.Common.{◌∙◌, ◌≡◌, List, None, Some, ap, subst, ℕ}, specs.Prelude.option_and_then}
 use Rattle.net_plan.specs.declared.network.Network.{Network}
-use Rattle.frame_trace.proofs.Further.{trace_shows}
-use Rattle.frame_trace.specs.Keeping.{at_number, kept_shown}
-use Rattle.frame_trace.specs.declared.kept.Kept.{Kept}
+use Rattle.frame_trace.{proofs.Further.trace_shows, specs.{Keeping.{at_number, kept_shown}, declared.kept.Kept.Kept}}
 use Rattle.frame_trace.proofs.trace.FrameTrace.octets.Goals as goal
 
 pub returns-in-Some : goal.returns-in-Some

@@ -1,7 +1,5 @@
-use Rattle.std.proofs.Common.{◌≡◌, ◌≤◌, List, length, Some, slice_get, subst}
-use Rattle.std.proofs.lemmas.Option.{slice_get_past}
-use Rattle.net_plan.specs.Ranges.{IsVlInRange}
-use Rattle.net_plan.specs.declared.tables.VirtualLink.{VirtualLink}
+use Rattle.std.proofs.{Common.{◌≡◌, ◌≤◌, List, Some, length, slice_get, subst}, lemmas.Option.slice_get_past}
+use Rattle.net_plan.specs.{Ranges.IsVlInRange, declared.tables.VirtualLink.VirtualLink}
 use Rattle.tte_lemmas.proofs.Lists.{in_all}
 use Rattle.made_frames.proofs.Made.{found_at, made_found, made_none, zeros_behind}
 use Rattle.made_frames.proofs.timed.MadeFrame.write.Goals as goal

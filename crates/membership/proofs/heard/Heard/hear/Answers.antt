@@ -1,9 +1,6 @@
-use Rattle.std.proofs.Common.{[], ◌∷◌, ◌++◌, Some, sym, subst}
-use Rattle.pcf_values.specs.declared.channel.Channel.TheVariants.{A, B}
-use Rattle.pcf_values.specs.declared.members.Members.{Members}
-use Rattle.membership.specs.Hearing.{Hearing}
-use Rattle.membership.specs.Summary.{Summary, Summarizes}
-use Rattle.membership.proofs.SummaryLemmas.{hears_outside, hears_on_a, hears_on_b, same_hearing}
+use Rattle.std.proofs.Common.{◌++◌, ◌∷◌, Some, [], subst, sym}
+use Rattle.pcf_values.specs.declared.{channel.Channel.TheVariants.{A, B}, members.Members.Members}
+use Rattle.membership.{proofs.SummaryLemmas.{hears_on_a, hears_on_b, hears_outside, same_hearing}, specs.{Hearing.Hearing, Summary.{Summarizes, Summary}}}
 use Rattle.membership.proofs.heard.Heard.hear.Goals as goal
 
 pub returns-then-not-within-clause-heard : goal.returns-then-not-within-clause-heard

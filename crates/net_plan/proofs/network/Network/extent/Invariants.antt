@@ -1,4 +1,4 @@
-use Rattle.std.proofs.Common.{◌≡◌, ◌≤◌, ◌*◌, ◌^◌, length, take}
+use Rattle.std.proofs.Common.{◌*◌, ◌^◌, ◌≡◌, ◌≤◌, length, take}
 use Rattle.net_plan.specs.Bounds.{jitter_on}
 use Rattle.net_plan.proofs.network.Network.extent.Given as goal
 

@@ -1,7 +1,5 @@
-use Rattle.std.proofs.Common.{rules, length}
-use Rattle.net_plan.specs.Bounds.{jitter_on}
-use Rattle.net_plan.specs.declared.ids.LinkId.{LinkId}
-use Rattle.net_plan.proofs.Greatest.{greatest_from_path}
+use Rattle.std.proofs.Common.{length, rules}
+use Rattle.net_plan.{proofs.Greatest.greatest_from_path, specs.{Bounds.jitter_on, declared.ids.LinkId.LinkId}}
 use Rattle.net_plan.proofs.network.Network.extent_from.Goals as goal
 
 pub returns-then-is_device_of-clause-jitter : goal.returns-then-is_device_of-clause-jitter

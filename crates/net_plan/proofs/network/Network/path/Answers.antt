@@ -1,11 +1,8 @@
-use Rattle.std.proofs.Common.{◌≡◌, ◌≤◌, ◌∷◌, [], ◌++◌, Some, length, List, get_or, sym, ap, ◌∙◌, subst, append_assoc, append-nil}
-use Rattle.std.proofs.lemmas.Option.{slice_get_within, slice_get-get_or}
-use Rattle.net_plan.specs.Paths.{IsUplink, IsPath}
-use Rattle.net_plan.specs.Places.{IsSwitchOf, link_at}
-use Rattle.net_plan.specs.declared.tables.Link.{Link}
-use Rattle.net_plan.specs.declared.ids.LinkId.{LinkId as LinkIdValue}
+use Rattle.std.proofs.Common.{◌++◌, ◌∙◌, ◌∷◌, ◌≡◌, ◌≤◌, List, Some, [], ap, append-nil, append_assoc, get_or, length, subst, sym}
+use Rattle.std.proofs.lemmas.Option.{slice_get-get_or, slice_get_within}
 use Rattle.tte_lemmas.proofs.Options.{opened}
-use Rattle.net_plan.proofs.Trees.{followed, ended}
+use Rattle.net_plan.{proofs.Trees.{ended, followed}, specs.{Paths.{IsPath, IsUplink}, Places.{IsSwitchOf, link_at}, declared.ids.LinkId.LinkId as LinkIdValue}}
+use Rattle.net_plan.specs.declared.tables.Link.{Link}
 use Rattle.net_plan.proofs.network.Network.path.Goals as goal
 
 pub loop-link-preserved : goal.loop-link-preserved

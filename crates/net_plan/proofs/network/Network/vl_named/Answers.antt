@@ -1,7 +1,5 @@
-use Rattle.std.proofs.Common.{rules, tests, ◌≡◌, ◌≢◌, subst}
-use Rattle.std.proofs.lemmas.Iterator.{IsFirst-from_position, YieldsList-from_slice}
-use Rattle.net_plan.specs.declared.tables.VirtualLink.{VirtualLink}
-use Rattle.net_plan.proofs.Bearing.{IsSearched, bearer_found, no_bearer}
+use Rattle.std.proofs.{Common.{◌≡◌, ◌≢◌, rules, subst, tests}, lemmas.Iterator.{IsFirst-from_position, YieldsList-from_slice}}
+use Rattle.net_plan.{proofs.Bearing.{IsSearched, bearer_found, no_bearer}, specs.declared.tables.VirtualLink.VirtualLink}
 use Rattle.net_plan.proofs.network.Network.vl_named.Goals as goal
 
 pub returns-in_err-place-clause-none : goal.returns-in_err-place-clause-none

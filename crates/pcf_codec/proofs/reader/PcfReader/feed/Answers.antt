@@ -1,7 +1,5 @@
-use Rattle.std.proofs.Common.{◌≡◌, ◌+◌, ◌++◌, take, sym, subst, arith}
-use Rattle.std.proofs.lemmas.Grind.{common_steps}
-use Rattle.pcf_codec.specs.Reading.{Reading, holding, waiting, refused, taken_of, fed, Reads}
-use Rattle.pcf_codec.proofs.Sequences.{feeds}
+use Rattle.std.proofs.{Common.{◌++◌, ◌+◌, ◌≡◌, arith, subst, sym, take}, lemmas.Grind.common_steps}
+use Rattle.pcf_codec.{proofs.Sequences.feeds, specs.Reading.{Reading, Reads, fed, holding, refused, taken_of, waiting}}
 use Rattle.pcf_codec.proofs.reader.PcfReader.feed.Goals as goal
 
 pub returns-then-held-count-lt-PCF_LENGTH-clause-stands : goal.returns-then-held-count-lt-PCF_LENGTH-clause-stands

@@ -1,11 +1,6 @@
-use Rattle.std.proofs.Common.{rules, tests, is_some, ◌∙◌, Bool}
-use Rattle.std.specs.List.{count_by}
-use Rattle.std.proofs.lemmas.Iterator.{YieldsList-from_slice}
-use Rattle.std.proofs.lemmas.Iterator.Consumers.{count_from_yields_List, YieldsList-from_filter}
-use Rattle.std.proofs.lemmas.List.Sums.{length-filter}
-use Rattle.net_plan.specs.Places.{is_master}
-use Rattle.net_plan.specs.Rules.{masters}
-use Rattle.net_plan.specs.declared.tables.Device.{Device}
+use Rattle.std.proofs.{Common.{◌∙◌, Bool, is_some, rules, tests}, lemmas.Iterator.YieldsList-from_slice}
+use Rattle.std.{proofs.lemmas.{Iterator.Consumers.{YieldsList-from_filter, count_from_yields_List}, List.Sums.length-filter}, specs.List.count_by}
+use Rattle.net_plan.specs.{Places.is_master, Rules.masters, declared.tables.Device.Device}
 use Rattle.schedule_checker.proofs.ShapeTests.{decides_at_most}
 use Rattle.schedule_checker.proofs.shape.masters.enough_begin_on.Goals as goal
 

@@ -1,13 +1,10 @@
-use Rattle.std.proofs.Common.{◌≡◌, ◌≢◌, Bool, length, List, Some, refl, sym, subst, ◌∙◌}
+use Rattle.std.proofs.{Common.{◌∙◌, ◌≡◌, ◌≢◌, Bool, List, Some, length, refl, subst, sym}, lemmas.{Bool.false≢true, Option.slice_get_read}}
 use Rattle.std.specs.List.{filter, slice_get}
-use Rattle.std.proofs.lemmas.Bool.{false≢true}
-use Rattle.std.proofs.lemmas.Option.{slice_get_read}
-use Rattle.net_plan.specs.Places.{is_master}
-use Rattle.net_plan.specs.Rules.{MembersDiffer}
-use Rattle.net_plan.specs.declared.tables.Device.{Device}
-use Rattle.schedule_checker.proofs.ShapePairs.{AtPairs, before_from_pairs, pairs_more, filter_pairs, pairs_from_filter}
+use Rattle.net_plan.specs.{Places.is_master, Rules.MembersDiffer, declared.tables.Device.Device}
+use Rattle.schedule_checker.proofs.ShapePairs.{AtPairs, before_from_pairs, filter_pairs, pairs_from_filter, pairs_more}
+use Rattle.schedule_checker.proofs.shape.masters.members_differ.Goals.{else-is_master_device-via-else-is_master_device}
+use Rattle.schedule_checker.proofs.shape.masters.members_differ.Goals.{else-is_master_device-via-then-is_master_device+else-not-member_is_new}
 use Rattle.schedule_checker.proofs.shape.masters.members_differ.Goals as goal
-use Rattle.schedule_checker.proofs.shape.masters.members_differ.Goals.{else-is_master_device-via-then-is_master_device+else-not-member_is_new, else-is_master_device-via-else-is_master_device}
 
 abbrev master : Device → Bool
 master d = is_master d.role

@@ -1,9 +1,6 @@
-use Rattle.std.proofs.Common.{◌≡◌, ◌≢◌, Some, List, get_or, ap, sym, ◌∙◌}
-use Rattle.std.proofs.lemmas.Bool.{false≢true}
-use Rattle.std.proofs.lemmas.Option.{slice_get-get_or}
-use Rattle.net_plan.specs.Places.{link_at, IsCmOf}
-use Rattle.net_plan.specs.declared.tables.Link.{Link}
-use Rattle.schedule_checker.proofs.ShapePaths.{leads_by, leads_on, leads_nowhere, uplink_within}
+use Rattle.std.proofs.{Common.{◌∙◌, ◌≡◌, ◌≢◌, List, Some, ap, get_or, sym}, lemmas.{Bool.false≢true, Option.slice_get-get_or}}
+use Rattle.net_plan.specs.{Places.{IsCmOf, link_at}, declared.tables.Link.Link}
+use Rattle.schedule_checker.proofs.ShapePaths.{leads_by, leads_nowhere, leads_on, uplink_within}
 use Rattle.schedule_checker.proofs.shape.trees.+leads_to_cm.Goals as goal
 
 pub returns-in-Some : goal.returns-in-Some

@@ -1,12 +1,7 @@
-use Rattle.std.proofs.Common.{rules, tests, ◌≡◌, ℕ, Some, refl}
-use Rattle.std.proofs.lemmas.Bool.Decides.{same_from_decides}
-use Rattle.std.proofs.lemmas.Iterator.{YieldsList-from_slice}
-use Rattle.std.proofs.lemmas.Iterator.Consumers.{count_from_yields_List, YieldsList-from_filter}
-use Rattle.net_plan.specs.declared.ids.DeviceId.{DeviceId}
-use Rattle.net_plan.specs.declared.tables.Device.{Device}
-use Rattle.net_plan.specs.declared.tables.Role.TheVariants.{Cm}
-use Rattle.schedule_checker.proofs.ShapeLists.{decides_one}
-use Rattle.schedule_checker.proofs.ShapeTests.{cm_test, decides_cm}
+use Rattle.std.proofs.{Common.{◌≡◌, Some, refl, rules, tests, ℕ}, lemmas.{Bool.Decides.same_from_decides, Iterator.YieldsList-from_slice}}
+use Rattle.std.proofs.lemmas.Iterator.Consumers.{YieldsList-from_filter, count_from_yields_List}
+use Rattle.net_plan.specs.declared.{ids.DeviceId.DeviceId, tables.{Device.Device, Role.TheVariants.Cm}}
+use Rattle.schedule_checker.proofs.{ShapeLists.decides_one, ShapeTests.{cm_test, decides_cm}}
 use Rattle.schedule_checker.proofs.shape.trees.has_one_cm_of.Goals as goal
 
 pub returns : goal.returns

@@ -1,12 +1,7 @@
-use Rattle.std.proofs.Common.{rules, tests, ◌≡◌, ℕ, refl}
-use Rattle.std.proofs.lemmas.Bool.Decides.{same_from_decides}
-use Rattle.std.proofs.lemmas.Iterator.{YieldsList-from_slice}
-use Rattle.std.proofs.lemmas.Iterator.Consumers.{count_from_yields_List, YieldsList-from_filter}
-use Rattle.net_plan.specs.Places.{IsSwitchOf}
-use Rattle.net_plan.specs.declared.ids.LinkId.{LinkId}
-use Rattle.net_plan.specs.declared.tables.Link.{Link}
-use Rattle.schedule_checker.proofs.ShapeLists.{decides_one}
-use Rattle.schedule_checker.proofs.ShapeTests.{uplink_test, decides_uplink}
+use Rattle.std.proofs.{Common.{◌≡◌, refl, rules, tests, ℕ}, lemmas.{Bool.Decides.same_from_decides, Iterator.YieldsList-from_slice}}
+use Rattle.std.proofs.lemmas.Iterator.Consumers.{YieldsList-from_filter, count_from_yields_List}
+use Rattle.net_plan.specs.{Places.IsSwitchOf, declared.{ids.LinkId.LinkId, tables.Link.Link}}
+use Rattle.schedule_checker.proofs.{ShapeLists.decides_one, ShapeTests.{decides_uplink, uplink_test}}
 use Rattle.schedule_checker.proofs.shape.trees.has_one_uplink.Goals as goal
 
 pub returns : goal.returns

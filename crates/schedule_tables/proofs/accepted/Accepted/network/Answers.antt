@@ -1,6 +1,5 @@
 use Rattle.std.proofs.Common.{subst}
-use Rattle.net_plan.specs.Paths.{IsTree}
-use Rattle.net_plan.specs.declared.network.Network.{Network}
+use Rattle.net_plan.specs.{Paths.IsTree, declared.network.Network.Network}
 use Rattle.schedule_tables.proofs.Margins.{shape_rules}
 use Rattle.schedule_tables.proofs.accepted.Accepted.network.Goals as goal
 

@@ -1,7 +1,5 @@
 use Rattle.std.proofs.Common.{length}
-use Rattle.schedule_tables.specs.Slots.{AreSlotsOf}
-use Rattle.schedule_tables.specs.TablesOf.{AreTimedRows}
-use Rattle.schedule_tables.specs.declared.rule.Rule.TheVariants.{Periods}
+use Rattle.schedule_tables.specs.{Slots.AreSlotsOf, TablesOf.AreTimedRows, declared.rule.Rule.TheVariants.Periods}
 use Rattle.schedule_tables.proofs.tables.Tables.build.Goals as goal
 
 pub returns : goal.returns

@@ -1,9 +1,7 @@
-use Rattle.std.proofs.Common.{length, arith}
-use Rattle.schedule_tables.proofs.NextLemmas.{IsPlaceOfRow, some_place, no_place, is_next_row, has_no_next_row}
-use Rattle.schedule_tables.specs.Slots.{AreSlotsOf}
-use Rattle.schedule_tables.specs.TablesOf.{AreTimedRows}
+use Rattle.std.proofs.Common.{arith, length}
+use Rattle.schedule_tables.proofs.NextLemmas.{IsPlaceOfRow, has_no_next_row, is_next_row, no_place, some_place}
+use Rattle.schedule_tables.{proofs.tables.Tables.next_row.Goals.{in-None, in-Some+in_ok-get-in-Some}, specs.{Slots.AreSlotsOf, TablesOf.AreTimedRows}}
 use Rattle.schedule_tables.proofs.tables.Tables.next_row.Goals as goal
-use Rattle.schedule_tables.proofs.tables.Tables.next_row.Goals.{in-Some+in_ok-get-in-Some, in-None}
 
 pub returns-clause-next : goal.returns-clause-next
 returns-clause-next c n tables =

@@ -1,4 +1,4 @@
-use Rattle.std.proofs.Common.{◌∙◌, sym}
+use Rattle.switch_ports.proofs.Words.{◌∙◌, sym}
 use Rattle.switch_ports.proofs.Trees.{knows_next, leaves_set, set_long}
 use Rattle.switch_ports.proofs.departures.Departures.close.Goals as goal
 

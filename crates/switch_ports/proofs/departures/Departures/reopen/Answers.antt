@@ -1,4 +1,4 @@
-use Rattle.std.proofs.Common.{◌≡◌, ◌∙◌, ◌<◌, length, sym, arith}
+use Rattle.switch_ports.proofs.Words.{◌<◌, ◌∙◌, ◌≡◌, arith, length, sym}
 use Rattle.switch_ports.proofs.Trees.{knows_next}
 use Rattle.switch_ports.proofs.departures.Departures.reopen.Goals as goal
 

@@ -1,10 +1,6 @@
-use Rattle.std.proofs.Common.{◌∙◌, ℕ, Option, ap, subst, sym}
-use Rattle.switch_ports.proofs.Trees.{knows_next, mine_held, other_same, own_row, taking_on}
+use Rattle.switch_ports.proofs.Words.{◌∙◌, Departure, IsTakingAt, Option, amount, ap, subst, sym, with_taking, ℕ}
+use Rattle.switch_ports.{proofs.Trees.{knows_next, mine_held, other_same, own_row, taking_on}, specs.Departing.Sets}
 use Rattle.switch_ports.proofs.departures.Departures.take.Goals as goal
-use Rattle.switch_ports.specs.Departing.{IsTakingAt, Sets}
-use Rattle.switch_ports.specs.Leaving.{with_taking}
-use Rattle.switch_ports.specs.declared.departures.Departure.{Departure}
-use Rattle.tte_units.specs.Amount.{amount}
 
 pub rows-preserved : goal.rows-preserved
 rows-preserved c =

@@ -1,30 +1,13 @@
-use Rattle.std.proofs.Common.{◌≡◌, ◌∙◌, ℕ, ◌+ℤ◌, ◌≤ℤ◌, ◌<ℤ◌, Option, Some, ap, sym, refl, subst}
+use Rattle.switch_ports.proofs.Words.{◌+ℤ◌, ◌<ℤ◌, ◌∙◌, ◌≡◌, ◌≤ℤ◌, A, B, Channel, Option, Pcf, Some, Standing, StandsAs, acting, after_permanence, ap, called}
+use Rattle.switch_ports.proofs.Words.{correction_value, emissions, emitting, heard_as, next_point, observation_window, plan_of, refl, ripe_as, subst, sym, ℕ}
 use Rattle.std.proofs.lemmas.Option.{none-some}
-use Rattle.compression.specs.Collecting.{emissions}
-use Rattle.pcf_values.specs.declared.channel.Channel.TheVariants.{A, B}
-use Rattle.pcf_values.specs.declared.channel.Channel.{Channel}
-use Rattle.pcf_values.specs.declared.pcf.Pcf.{Pcf}
-use Rattle.run_law.specs.control.Collections.{observation_window}
-use Rattle.run_law.specs.control.Corrections.{correction_value}
-use Rattle.run_law.specs.control.Hearing.{heard_as}
-use Rattle.run_law.specs.control.Permanence.{ripe_as}
-use Rattle.run_law.specs.machines.Answers.{after_permanence, called}
-use Rattle.run_law.specs.machines.Nodes.{acting}
-use Rattle.run_law.specs.machines.Tasks.{emitting}
 use Rattle.run_law.specs.records.Frames.{integration_frame}
-use Rattle.run_law.specs.scenario.Devices.{plan_of}
-use Rattle.switch_ports.proofs.CorrectedStands.{corrects_stands}
-use Rattle.switch_ports.proofs.CorrectionPoints.{is_near, number_within, some_due, timed_next}
-use Rattle.switch_ports.proofs.DispatchStands.{dispatch_acts, next_inside}
-use Rattle.switch_ports.proofs.Emissions.{first_emission, may_before, reached_by, sent_stands, with_sent}
-use Rattle.switch_ports.proofs.FirstActs.{EmitsNone, first_correction, its_next, value_reached}
-use Rattle.switch_ports.proofs.HeardKinds.{heard_so, heard_stands}
-use Rattle.switch_ports.proofs.Hearings.{IsComing, is_point}
-use Rattle.switch_ports.proofs.Ranges.{site_in_range}
-use Rattle.switch_ports.proofs.machine.SwitchMachine.act.Goals as goal
-use Rattle.switch_ports.specs.Standing.{StandsAs}
-use Rattle.sync_state.specs.Standing.{Standing, next_point}
 use Rattle.sync_state.specs.Verdicts.{HasVerdict}
+use Rattle.switch_ports.proofs.{CorrectedStands.corrects_stands, CorrectionPoints.{is_near, number_within, some_due, timed_next}}
+use Rattle.switch_ports.proofs.{DispatchStands.{dispatch_acts, next_inside}, Emissions.{first_emission, may_before, reached_by, sent_stands, with_sent}}
+use Rattle.switch_ports.proofs.{FirstActs.{EmitsNone, first_correction, its_next, value_reached}, HeardKinds.{heard_so, heard_stands}}
+use Rattle.switch_ports.proofs.{Hearings.{IsComing, is_point}, Ranges.site_in_range}
+use Rattle.switch_ports.proofs.machine.SwitchMachine.act.Goals as goal
 
 pub hear_frame-heard-requires-clause-site : goal.hear_frame-heard-requires-clause-site
 hear_frame-heard-requires-clause-site c = let r = c.requires in site_in_range r.0 r.1 c.args.self.now.site r.3.accepted.range r.3.site

@@ -1,8 +1,7 @@
-use Rattle.std.proofs.Common.{◌∙◌, ap, subst, sym}
+use Rattle.switch_ports.proofs.Words.{◌∙◌, ap, subst, sym}
 use Rattle.run_law.specs.machines.Tasks.{IsDueReading}
-use Rattle.switch_ports.proofs.Pending.{is_due}
+use Rattle.switch_ports.{proofs.Pending.is_due, specs.Due.least_of}
 use Rattle.switch_ports.proofs.machine.SwitchMachine.due.Goals as goal
-use Rattle.switch_ports.specs.Due.{least_of}
 
 pub returns : goal.returns
 returns c network device node st =

@@ -1,16 +1,9 @@
-use Rattle.std.proofs.Common.{ℕ, ◌≤◌, ◌≡◌, ◌∙◌, arith, sym, refl, ap, subst}
+use Rattle.switch_ports.proofs.Words.{◌∙◌, ◌≡◌, ◌≤◌, Node, StandsAs, Switch, after_arrival, ap, arith, called, refl, subst, sym, ℕ}
 use Rattle.pcf_codec.specs.Decoding.{decoded}
-use Rattle.run_law.specs.control.Arrivals.{control_arrival}
-use Rattle.run_law.specs.control.Wires.{signal_of, control, timed}
-use Rattle.run_law.specs.device.Standpoints.{Standpoint as Point}
-use Rattle.run_law.specs.machines.Answers.{after_arrival, arrival_at, called}
-use Rattle.run_law.specs.machines.Nodes.{Node, arriving, last_taken_by, standpoint_at}
-use Rattle.run_law.specs.timed.Arrivals.{timed_arrival}
-use Rattle.switch_ports.proofs.Standings.{alive, called_stands, control_none, is_no_type, is_type, point_same}
-use Rattle.switch_ports.proofs.Takings.{arrival_stands, is_whole}
+use Rattle.run_law.specs.{control.{Arrivals.control_arrival, Wires.{control, signal_of, timed}}, device.Standpoints.Standpoint as Point}
+use Rattle.run_law.specs.{machines.{Answers.arrival_at, Nodes.{arriving, last_taken_by, standpoint_at}}, timed.Arrivals.timed_arrival}
+use Rattle.switch_ports.proofs.{Standings.{alive, called_stands, control_none, is_no_type, is_type, point_same}, Takings.{arrival_stands, is_whole}}
 use Rattle.switch_ports.proofs.machine.SwitchMachine.hear.Goals as goal
-use Rattle.switch_ports.specs.Standing.{StandsAs}
-use Rattle.switch_ports.specs.declared.switch.Switch.{Switch}
 
 enough : {n : ℕ} → 60 ≤ n → 14 ≤ n
 enough h = omega (arith, h)

@@ -1,38 +1,16 @@
-use Rattle.std.proofs.lemmas.Int.{ints}
-use Rattle.std.proofs.Common.{ℕ, ℤ, pos, ◌≤ℤ◌, ◌⊎◌, inl, inr, arith, ◌≡◌, ◌∙◌, true, false, not, ap, sym, refl, subst}
-use Rattle.std.specs.Prelude.{Option, Bool, MatchBool}
+use Rattle.switch_ports.proofs.Words.{◌∙◌, ◌≡◌, ◌≤ℤ◌, ◌⊎◌, Bool, Channel, DeviceId, LinkId, Moment, Network, Node, Option, Pcf, Port, Reason, Standing}
+use Rattle.switch_ports.proofs.Words.{StandsAs, State, Switch, Units, after_permanence, ap, arith, called, false, inl, inr, ints, is_cm, master_of, pos, refl}
+use Rattle.switch_ports.proofs.Words.{subst, sym, true, ℕ, ℤ}
+use Rattle.std.{proofs.Common.not, specs.Prelude.MatchBool}
 use Rattle.compression.specs.Clusters.{point_at}
-use Rattle.net_plan.specs.declared.ids.DeviceId.{DeviceId}
-use Rattle.net_plan.specs.declared.ids.LinkId.{LinkId}
-use Rattle.net_plan.specs.declared.network.Network.{Network}
-use Rattle.pcf_values.specs.declared.channel.Channel.{Channel}
-use Rattle.pcf_values.specs.declared.pcf.Pcf.{Pcf}
-use Rattle.run_law.specs.control.Collections.{master_of, point_fault}
-use Rattle.run_law.specs.control.Permanence.{IsCollectedOrDropped}
-use Rattle.run_law.specs.declared.judgement.Reason.{Reason}
-use Rattle.run_law.specs.declared.steps.Moment.{Moment}
-use Rattle.run_law.specs.declared.steps.Ripe.TheVariants as ripe
-use Rattle.run_law.specs.device.States.{is_off}
-use Rattle.run_law.specs.machines.Answers.{after_permanence, called}
-use Rattle.run_law.specs.machines.Calls.{MayRipen, MayTake}
-use Rattle.run_law.specs.machines.Nodes.{Node, ripening}
-use Rattle.run_law.specs.scenario.Devices.{channel_of_link, is_cm}
-use Rattle.switch_ports.proofs.CmLinks.{cm_linked, not_child}
-use Rattle.switch_ports.proofs.Collected.{collected_stands, taken_so}
-use Rattle.switch_ports.proofs.HeardKinds.{heard_so, heard_stands}
-use Rattle.switch_ports.proofs.Hearings.{IsComing}
-use Rattle.switch_ports.proofs.MasterBits.{IsBit, all_later, has_room, is_bit, master_small}
-use Rattle.switch_ports.proofs.Ranges.{site_in_range}
-use Rattle.switch_ports.proofs.Sites.{channel_same}
-use Rattle.switch_ports.proofs.Standings.{alive, called_stands}
-use Rattle.switch_ports.proofs.machine.SwitchMachine.ripen.Goals as goal
-use Rattle.switch_ports.specs.Standing.{StandsAs}
-use Rattle.switch_ports.specs.declared.site.Port.{Port}
-use Rattle.switch_ports.specs.declared.switch.Switch.{Switch}
-use Rattle.sync_state.specs.Standing.{Standing}
-use Rattle.sync_state.specs.declared.state.State.{State}
+use Rattle.run_law.specs.{control.{Collections.point_fault, Permanence.IsCollectedOrDropped}, device.States.is_off, machines.Calls.{MayRipen, MayTake}}
+use Rattle.run_law.specs.{machines.Nodes.ripening, scenario.Devices.channel_of_link}
 use Rattle.tte_units.specs.Reading.{least_reading}
-use Rattle.tte_units.specs.declared.units.Units.{Units}
+use Rattle.switch_ports.proofs.{CmLinks.{cm_linked, not_child}, Collected.{collected_stands, taken_so}, HeardKinds.{heard_so, heard_stands}, Hearings.IsComing}
+use Rattle.switch_ports.proofs.{MasterBits.{IsBit, all_later, has_room, is_bit, master_small}, Ranges.site_in_range, Sites.channel_same}
+use Rattle.switch_ports.proofs.Standings.{alive, called_stands}
+use Rattle.run_law.specs.declared.steps.Ripe.TheVariants as ripe
+use Rattle.switch_ports.proofs.machine.SwitchMachine.ripen.Goals as goal
 
 not_cm : (b : Bool) (P Q : Type 0) → b ≡ false → Q → MatchBool b P Q
 not_cm false P Q e q = q

@@ -1,7 +1,5 @@
-use Rattle.std.proofs.Common.{◌∙◌, ◌&&◌, ℤ, inl, inr, ap}
-use Rattle.std.specs.Prelude.{nat_le}
-use Rattle.run_law.specs.control.Hearing.{heard_by_schedule, is_in_schedule, last_cycle}
-use Rattle.run_law.specs.control.Permanence.{ripe_as}
+use Rattle.switch_ports.proofs.Words.{◌&&◌, ◌∙◌, ap, inl, inr, last_cycle, nat_le, ripe_as, ℤ}
+use Rattle.run_law.specs.control.Hearing.{heard_by_schedule, is_in_schedule}
 use Rattle.switch_ports.proofs.site.Site.hearing.Goals as goal
 
 pub returns-in-Joining : goal.returns-in-Joining

@@ -1,12 +1,7 @@
-use Rattle.std.proofs.Common.{◌≡◌, ◌∙◌, ◌+◌, ◌*◌, ℤ, pos, ◌+ℤ◌, ap, sym}
+use Rattle.switch_ports.proofs.Words.{◌*◌, ◌+ℤ◌, ◌+◌, ◌∙◌, ◌≡◌, SyncPlan, Units, amount, ap, clock_of, pos, standpoint_of, sym, ℤ}
 use Rattle.std.specs.Int.{int_rem_euclid}
-use Rattle.run_law.specs.device.Standpoints.{clock_of}
 use Rattle.switch_ports.proofs.Faults.{shut_is}
 use Rattle.switch_ports.proofs.site.Site.is_gate_shut.Goals as goal
-use Rattle.switch_ports.specs.Standpoints.{standpoint_of}
-use Rattle.sync_state.specs.declared.plan.SyncPlan.{SyncPlan}
-use Rattle.tte_units.specs.Amount.{amount}
-use Rattle.tte_units.specs.declared.units.Units.{Units}
 
 pub returns : goal.returns
 returns c network device range site =

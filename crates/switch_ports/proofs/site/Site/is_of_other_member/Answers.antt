@@ -1,8 +1,6 @@
-use Rattle.std.proofs.Common.{◌∙◌, ap}
-use Rattle.switch_ports.proofs.Sites.{member_same}
+use Rattle.switch_ports.proofs.Words.{◌∙◌, Port, ap}
+use Rattle.switch_ports.{proofs.Sites.member_same, specs.Sites.is_other_member}
 use Rattle.switch_ports.proofs.site.Site.is_of_other_member.Goals as goal
-use Rattle.switch_ports.specs.Sites.{is_other_member}
-use Rattle.switch_ports.specs.declared.site.Port.{Port}
 
 pub returns : goal.returns
 returns c network device site =

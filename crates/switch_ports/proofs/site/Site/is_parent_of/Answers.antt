@@ -1,8 +1,6 @@
-use Rattle.std.proofs.Common.{◌∙◌, ap}
-use Rattle.switch_ports.proofs.Sites.{parent_same}
+use Rattle.switch_ports.proofs.Words.{◌∙◌, Port, ap}
+use Rattle.switch_ports.{proofs.Sites.parent_same, specs.Sites.is_below}
 use Rattle.switch_ports.proofs.site.Site.is_parent_of.Goals as goal
-use Rattle.switch_ports.specs.Sites.{is_below}
-use Rattle.switch_ports.specs.declared.site.Port.{Port}
 
 pub returns : goal.returns
 returns c network device site =

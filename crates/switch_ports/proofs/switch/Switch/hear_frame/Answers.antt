@@ -1,4 +1,4 @@
-use Rattle.std.proofs.Common.{◌∙◌, sym}
+use Rattle.switch_ports.proofs.Words.{◌∙◌, sym}
 use Rattle.switch_ports.proofs.Joinings.{integrates_so}
 use Rattle.switch_ports.proofs.switch.Switch.hear_frame.Goals as goal
 

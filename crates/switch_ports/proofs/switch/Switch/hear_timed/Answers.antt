@@ -1,11 +1,7 @@
-use Rattle.std.proofs.Common.{◌≡◌, ◌∙◌, ℕ, ◌+ℤ◌, ℤ, None, length, refl, sym, ap}
-use Rattle.net_plan.proofs.InRange.{its_amount}
-use Rattle.run_law.specs.device.Standpoints.{clock_of}
+use Rattle.switch_ports.proofs.Words.{◌+ℤ◌, ◌∙◌, ◌≡◌, None, SyncPlan, ap, clock_of, its_amount, length, refl, standpoint_of, sym, ℕ, ℤ}
 use Rattle.run_law.specs.timed.Arrivals.{entry_arrival, entry_entering, octets_fault, octets_or_fault}
 use Rattle.switch_ports.proofs.Takings.{judged, not_accepted}
 use Rattle.switch_ports.proofs.switch.Switch.hear_timed.Goals as goal
-use Rattle.switch_ports.specs.Standpoints.{standpoint_of}
-use Rattle.sync_state.specs.declared.plan.SyncPlan.{SyncPlan}
 
 pub returns-in-Accepted-clause-is : goal.returns-in-Accepted-clause-is
 returns-in-Accepted-clause-is c network device last range site rows same =

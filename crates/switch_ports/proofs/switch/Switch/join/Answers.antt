@@ -1,10 +1,6 @@
-use Rattle.std.proofs.Common.{◌≡◌, ◌∙◌, Option, Some, ap, sym, refl}
+use Rattle.switch_ports.proofs.Words.{◌∙◌, ◌≡◌, Option, Some, Standing, after, ap, correction_at, refl, sym}
+use Rattle.sync_state.specs.{Calls.heard_frame, Integration.joined_by, declared.answers.Joined.Joined}
 use Rattle.switch_ports.proofs.switch.Switch.join.Goals as goal
-use Rattle.switch_ports.specs.Corrections.{correction_at}
-use Rattle.sync_state.specs.Calls.{after, heard_frame}
-use Rattle.sync_state.specs.Integration.{joined_by}
-use Rattle.sync_state.specs.Standing.{Standing}
-use Rattle.sync_state.specs.declared.answers.Joined.{Joined}
 
 pub returns : goal.returns
 returns c i =

@@ -1,17 +1,8 @@
-use Rattle.std.proofs.Common.{◌≡◌, ◌∙◌, ap, subst, []}
-use Rattle.std.specs.Prelude.{IfSome, Option, ◌^◌}
-use Rattle.net_plan.specs.Ranges.{IsWithin}
-use Rattle.net_plan.specs.declared.network.Network.{Network}
+use Rattle.switch_ports.proofs.Words.{◌^◌, ◌∙◌, ◌≡◌, HasTaken, IfSome, IsBegun, IsSiteOf, IsWithin, Network, Option, Units, [], ap, subst}
 use Rattle.run_law.specs.scenario.Devices.{start_of}
-use Rattle.switch_ports.proofs.Beginning.{begun_stands}
-use Rattle.switch_ports.proofs.Ranges.{calc_short, site_in_range}
-use Rattle.switch_ports.proofs.Takings.{taken_none}
-use Rattle.switch_ports.proofs.switch.Switch.new.Goals as goal
-use Rattle.switch_ports.specs.Departing.{IsBegun}
-use Rattle.switch_ports.specs.Sites.{IsSiteOf}
-use Rattle.switch_ports.specs.Standing.{HasTaken}
 use Rattle.sync_state.specs.Standing.{begun}
-use Rattle.tte_units.specs.declared.units.Units.{Units}
+use Rattle.switch_ports.proofs.{Beginning.begun_stands, Ranges.{calc_short, site_in_range}, Takings.taken_none}
+use Rattle.switch_ports.proofs.switch.Switch.new.Goals as goal
 
 pub new-collector-requires-clause-short : goal.new-collector-requires-clause-short
 new-collector-requires-clause-short c =

@@ -1,6 +1,6 @@
-use Rattle.std.proofs.Common.{◌≡◌}
-use Rattle.switch_ports.proofs.tournament.Tournament.put.Given as goal
+use Rattle.switch_ports.proofs.Words.{◌≡◌}
 use Rattle.switch_ports.specs.Tournaments.{IsClimbing}
+use Rattle.switch_ports.proofs.tournament.Tournament.put.Given as goal
 
 abbrev pub invariant-up : goal.invariant-up
 invariant-up l =

@@ -1,8 +1,5 @@
 use Rattle.std.proofs.Common.{IsSome, ap}
-use Rattle.sync_state.specs.Standing.{Standing, next_point}
-use Rattle.sync_state.specs.Calls.{reached_point}
-use Rattle.sync_state.proofs.CallLemmas.{one_more}
-use Rattle.sync_state.proofs.VerdictLemmas.{small_after, some_there}
+use Rattle.sync_state.{proofs.{CallLemmas.one_more, VerdictLemmas.{small_after, some_there}}, specs.{Calls.reached_point, Standing.{Standing, next_point}}}
 use Rattle.sync_state.proofs.sync.Sync.at_correction.Goals as goal
 
 pub returns-clause-value : goal.returns-clause-value

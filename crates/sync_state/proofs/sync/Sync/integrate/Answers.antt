@@ -1,8 +1,5 @@
-use Rattle.std.proofs.Common.{[], ◌∷◌, ◌++◌, Option, Some, None, refl, sym, ap, subst}
-use Rattle.sync_state.specs.declared.answers.Joined.{Joined}
-use Rattle.sync_state.specs.Standing.{Standing}
-use Rattle.sync_state.specs.Calls.{Call, heard_frame, after, StandsAfter}
-use Rattle.sync_state.proofs.CallLemmas.{one_more}
+use Rattle.std.proofs.Common.{◌++◌, ◌∷◌, None, Option, Some, [], ap, refl, subst, sym}
+use Rattle.sync_state.{proofs.CallLemmas.one_more, specs.{Calls.{Call, StandsAfter, after, heard_frame}, Standing.Standing, declared.answers.Joined.Joined}}
 use Rattle.sync_state.proofs.sync.Sync.integrate.Goals as goal
 
 pub returns-in_err-joined-clause-calls : goal.returns-in_err-joined-clause-calls

@@ -1,8 +1,5 @@
-use Rattle.std.proofs.Common.{◌≡◌, None, [], sym, subst, arith}
-use Rattle.std.proofs.lemmas.Grind.{common_steps}
-use Rattle.sync_state.specs.Standing.{Standing, begun}
-use Rattle.sync_state.specs.Calls.{StandsAfter}
-use Rattle.sync_state.proofs.CallLemmas.{stands_at_start}
+use Rattle.std.proofs.{Common.{◌≡◌, None, [], arith, subst, sym}, lemmas.Grind.common_steps}
+use Rattle.sync_state.{proofs.CallLemmas.stands_at_start, specs.{Calls.StandsAfter, Standing.{Standing, begun}}}
 use Rattle.sync_state.proofs.sync.Sync.new.Goals as goal
 
 pub returns-clause-calls : goal.returns-clause-calls

@@ -1,8 +1,7 @@
 use Rattle.std.proofs.Common.{◌≡◌, Some}
-use Rattle.pcf_values.specs.declared.channel.Channel.TheVariants.{A, B}
 use Rattle.clock_correction.specs.Correction.{correction_of}
-use Rattle.sync_state.specs.Verdicts.{deviation_on}
-use Rattle.sync_state.proofs.VerdictLemmas.{corrected_small}
+use Rattle.pcf_values.specs.declared.channel.Channel.TheVariants.{A, B}
+use Rattle.sync_state.{proofs.VerdictLemmas.corrected_small, specs.Verdicts.deviation_on}
 use Rattle.sync_state.proofs.sync.Sync.verdict.Goals as goal
 
 pub returns-in-Some-2-clause-small : goal.returns-in-Some-2-clause-small

@@ -1,6 +1,4 @@
-use Rattle.std.proofs.Common.{arith}
-use Rattle.std.proofs.Math.Bool.{and_assoc}
-use Rattle.std.proofs.lemmas.Grind.{common_steps}
+use Rattle.std.proofs.{Common.arith, Math.Bool.and_assoc, lemmas.Grind.common_steps}
 use Rattle.sync_state.proofs.sync.SyncPartialEq.eq.Goals as goal
 
 pub returns : goal.returns

@@ -1,9 +1,5 @@
-use Rattle.std.proofs.Common.{arith, List, length, ap, sym, subst, refl, inl}
-use Rattle.std.specs.List.{All}
-use Rattle.std.proofs.lemmas.Int.{ints}
-use Rattle.std.proofs.lemmas.List.Elements.{All-nil}
-use Rattle.net_plan.specs.Ranges.{IsRowInRange}
-use Rattle.net_plan.specs.declared.tables.Row.{Row}
+use Rattle.std.{proofs.{Common.{List, ap, arith, inl, length, refl, subst, sym}, lemmas.{Int.ints, List.Elements.All-nil}}, specs.List.All}
+use Rattle.net_plan.specs.{Ranges.IsRowInRange, declared.tables.Row.Row}
 use Rattle.test_reports.proofs.text.network.half.Goals as goal
 
 pub returns-clause-range : goal.returns-clause-range

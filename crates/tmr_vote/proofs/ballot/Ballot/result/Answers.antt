@@ -1,7 +1,6 @@
-use Rattle.std.proofs.Common.{◌≡◌, ◌∙◌, true, false, Some, inl, inr, subst, sym}
-use Rattle.tmr_vote.proofs.Votes.{denied, vote_first, vote_second}
+use Rattle.std.proofs.Common.{◌∙◌, ◌≡◌, Some, false, inl, inr, subst, sym, true}
+use Rattle.tmr_vote.proofs.{Votes.{denied, vote_first, vote_second}, ballot.Ballot.result.Goals.{else-equals, then-equals}}
 use Rattle.tmr_vote.specs.Vote.{AreEqual, IsVote, Votes}
-use Rattle.tmr_vote.proofs.ballot.Ballot.result.Goals.{then-equals, else-equals}
 use Rattle.tmr_vote.proofs.ballot.Ballot.result.Goals as goal
 
 pub returns-then-equals-2-clause-means : goal.returns-then-equals-2-clause-means

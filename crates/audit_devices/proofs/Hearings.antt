@@ -1,0 +1,85 @@
+-- What is shown with one more record by which the device hears a frame.
+use Rattle.audit_devices.proofs.Words.{if◌then◌else◌, ◌++◌, ◌+ℤ◌, ◌-◌, ◌<◌, ◌==◌, ◌∙◌, ◌∷◌, ◌≡◌, ◌≤◌, Bool, DeviceId, Effect, Happening, Hearing, Hears}
+use Rattle.audit_devices.proofs.Words.{IsInRange, List, NoneLater, Option, Scenario, Shown, Shows, Summarizes, Summary, Units, [], ap, arith, cases_lt}
+use Rattle.audit_devices.proofs.Words.{cons_option, effect_of, false, filter_map, heard_at, heard_by_then, hearing_by, inl, inr, points_by, pos, refl, silence}
+use Rattle.audit_devices.proofs.Words.{subst, sym, time_of, true, ℕ}
+use Rattle.std.proofs.lemmas.List.{append-nil}
+use Rattle.tte_lemmas.proofs.Naturals.{eqb_same, goes_on}
+use Rattle.audit_devices.proofs.Points.{points_mono}
+use Rattle.audit_devices.proofs.Steps.{TellsAs, adjustment_on, cycle_on, front_later, heard_on, integrated_on, joined_on, kept_where, not_joined, one_later}
+use Rattle.audit_devices.{proofs.Steps.{state_on, told, unchanged}, specs.Showing.IsSteady}
+
+-- it is heard where so many points have come
+heard_there : (s : Scenario) (hs : List Happening) (device : DeviceId) (h : Happening) (shown : Shown) (hearing : Hearing) (points : ℕ)
+    → TellsAs s device h (Hears hearing.channel hearing.frame hearing.within)
+    → points ≡ points_by s.network shown (s.reading device (time_of h - 1))
+    → heard_at s (hs ++ h ∷ []) device shown points ≡ heard_at s hs device shown points ++ hearing ∷ []
+heard_there s hs device h shown hearing points t is =
+    let f : Happening → Option Hearing = λ x. hearing_by s.network device x x.note.body in
+    let kept : kept_where s device shown points h ≡ true = ap (λ (n : ℕ). points == n) (sym is) ∙ eqb_same points in
+    heard_on s hs device h shown points t.changes_is
+    ∙ ap (λ (b : Bool). heard_at s hs device shown points ++ filter_map f (if b then h ∷ [] else [])) kept
+    ∙ ap (λ (o : Option Hearing). heard_at s hs device shown points ++ cons_option o []) t.hears_is
+
+-- and nowhere else
+heard_else : (s : Scenario) (hs : List Happening) (device : DeviceId) (h : Happening) (shown : Shown) (hearing : Hearing) (points more : ℕ)
+    → TellsAs s device h (Hears hearing.channel hearing.frame hearing.within)
+    → points ≡ points_by s.network shown (s.reading device (time_of h - 1)) → points < more
+    → heard_at s (hs ++ h ∷ []) device shown more ≡ heard_at s hs device shown more
+heard_else s hs device h shown hearing points more t is lt =
+    let f : Happening → Option Hearing = λ x. hearing_by s.network device x x.note.body in
+    let kept : kept_where s device shown more h ≡ false = ap (λ (n : ℕ). more == n) (sym is) ∙ goes_on more points lt in
+    heard_on s hs device h shown more t.changes_is
+    ∙ ap (λ (b : Bool). heard_at s hs device shown more ++ filter_map f (if b then h ∷ [] else [])) kept
+    ∙ append-nil (heard_at s hs device shown more)
+
+-- what is kept of what was heard where so many points had come
+pub kept_then : (s : Scenario) (hs : List Happening) (device : DeviceId) (shown : Shown) (points : ℕ) → Shows s hs device shown → shown.come ≤ points
+    → Summarizes silence [] → Summarizes (heard_by_then shown points) (heard_at s hs device shown points)
+kept_then s hs device shown points sh from none =
+    elim (cases_lt shown.come points) [
+      | inl lt ↦
+          subst (λ (b : Bool). Summarizes (if b then shown.heard else silence) (heard_at s hs device shown points)) (sym (goes_on points shown.come lt))
+          (subst (Summarizes silence) (sym (sh.no_more points lt)) none)
+      | inr ge ↦
+          let e : shown.come ≡ points = omega (arith, from, ge) in
+          subst (λ (n : ℕ). Summarizes (if n == shown.come then shown.heard else silence) (heard_at s hs device shown n)) e
+          (subst (λ (b : Bool). Summarizes (if b then shown.heard else silence) (heard_at s hs device shown shown.come)) (sym (eqb_same shown.come)) sh.heard)
+    ]
+
+-- what is shown of a device that has heard one more frame
+abbrev pub heard_to : Shown → ℕ → Summary → Shown
+heard_to shown points heard = record shown { heard = heard; come = points }
+
+pub heard_one : (s : Scenario) (hs : List Happening) (device : DeviceId) (h : Happening) (shown : Shown) (hearing : Hearing) (points : ℕ) (heard : Summary)
+    → effect_of s.network device h ≡ Hears hearing.channel hearing.frame hearing.within
+    → points ≡ points_by s.network shown (s.reading device (time_of h - 1)) → IsInRange s.network → IsSteady s device → NoneLater (time_of h) hs
+    → Summarizes silence [] → ((before : List Hearing) → Summarizes (heard_by_then shown points) before → Summarizes heard (before ++ hearing ∷ []))
+    → Shows s hs device shown → Shows s (hs ++ h ∷ []) device (heard_to shown points heard)
+heard_one s hs device h shown hearing points heard is number range steady late none hears sh =
+    let e : Effect = Hears hearing.channel hearing.frame hearing.within in
+    let t = told s device h e is in
+    let from : shown.come ≤ points = omega (arith, sh.come (time_of h) late, number) in
+    let before = kept_then s hs device shown points sh from none in
+    record {
+      state = sh.state ∙ state_on s hs device h e t;
+      adjustment = sh.adjustment ∙ ap (λ (u : Units). u.0) (adjustment_on s hs device h e t);
+      cycle = sh.cycle ∙ cycle_on s hs device h e t;
+      integrated = sh.integrated ∙ integrated_on s hs device h e t;
+      changed = sh.changed ∙ unchanged hs device h t.changes_is;
+      at_change = sh.at_change ∙ ap (λ (c : ℕ). pos (s.reading device c) +ℤ shown.adjustment) (unchanged hs device h t.changes_is);
+      joined = sh.joined ∙ joined_on s hs device h e t;
+      joined_at = λ u later. not_joined s hs device h e u t refl ∙ sh.joined_at u (front_later u hs h later);
+      heard =
+          subst (Summarizes heard) (sym (heard_there s hs device h shown hearing points t number))
+          (hears (heard_at s hs device shown points) before);
+      no_more = λ more lt. heard_else s hs device h shown hearing points more t number lt ∙ sh.no_more more (omega (arith, from, lt));
+      come = λ u later.
+          let after = one_later u hs h later in
+          omega (
+            arith,
+            number,
+            points_mono s.network shown (s.reading device (time_of h - 1)) (s.reading device (u - 1)) range
+                (steady.never_falls (time_of h - 1) (u - 1) (omega (arith, after))),
+          );
+    }

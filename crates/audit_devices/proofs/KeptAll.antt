@@ -1,0 +1,107 @@
+-- What is kept of all devices goes on by one more record.
+use Rattle.audit_devices.proofs.Words.{◌++◌, ◌<◌, ◌==◌, ◌∙◌, ◌∷◌, ◌≡◌, ◌⊎◌, Carried, DeviceId, Entry, Happening, History, IsFresh, IsIn, Keeps, List, Mark}
+use Rattle.audit_devices.proofs.Words.{Network, None, NoteBody, Scenario, Shown, Shows, Some, [], ap, arith, carried_by, filter, got_within, inl, inr}
+use Rattle.audit_devices.proofs.Words.{is_before, is_mark_before, last_or, length, mark_of, members_in, nat_lt, option_map_or, place_of, records_before, refl}
+use Rattle.audit_devices.proofs.Words.{slice_get, slice_set, subject_of, subst, suc, sym, time_of, true, zero, ℕ}
+use Rattle.std.{proofs.{Common.{Err, Ok, Result}, lemmas.Bool.cases_order}, specs.Prelude.{OnOk, is_ok}}
+use Rattle.run_law.{proofs.records.Order.same_kept, specs.records.Happenings.earlier}
+use Rattle.tte_lemmas.proofs.{Bools.no_more, Lists.{set_other, set_same}}
+use Rattle.audit_devices.{proofs.Kept.{kept_still, nothing_of}, specs.{Following.IsMet, Keeping.KeepsAll, Marks.mark_at, Showing.IsSteady}}
+use Rattle.audit_devices.specs.declared.shown.Readings.{Readings}
+
+-- ---- what holds where a call was not cut short
+
+pub on_ok : {A E : Type 0} (r : Result A E) (P : Type 0) → (is_ok r ≡ true → P) → OnOk r P
+on_ok (Ok x) P holds = holds refl
+on_ok (Err e) P holds = tt
+
+pub also_on_ok : {A E : Type 0} (r : Result A E) (P Q : Type 0) → (P → Q) → OnOk r P → OnOk r Q
+also_on_ok (Ok x) P Q also holds = also holds
+also_on_ok (Err e) P Q also holds = tt
+
+-- ---- the step
+
+pub all_still : (s : Scenario) (hs : List Happening) (h : Happening) (body : NoteBody) (histories : List History) → h.note.body ≡ body
+    → ((device : DeviceId) → device.0 < length histories → subject_of body ≡ Some device → ⊥) → KeepsAll s hs histories
+    → KeepsAll s (hs ++ h ∷ []) histories
+all_still s hs h body histories is none keeps device history there =
+    kept_still s hs device h history
+    (nothing_of s.network device (carried_by h) h.note.body
+    (λ e. none device (got_within histories device.0 history there) (sym (ap subject_of is) ∙ e))) (keeps device history there)
+
+pub all_on : (s : Scenario) (hs : List Happening) (h : Happening) (d : DeviceId) (new : History) (histories : List History)
+    → subject_of h.note.body ≡ Some d → d.0 < length histories → Keeps s (hs ++ h ∷ []) d new → KeepsAll s hs histories
+    → KeepsAll s (hs ++ h ∷ []) (slice_set histories d.0 new)
+all_on s hs h d new histories subject within kept keeps device history there =
+    elim (cases_order d.0 device.0) [
+      | inl same ↦
+          let mk : ℕ → DeviceId = λ n. record { 0 = n } in
+          let one : d ≡ device = ap mk same in
+          let found : Some new ≡ Some history =
+          sym (set_same histories d.0 new within) ∙ ap (slice_get (slice_set histories d.0 new)) same ∙ there in
+          let is : new ≡ history = cc in
+          subst (λ (x : DeviceId). Keeps s (hs ++ h ∷ []) x history) one (subst (Keeps s (hs ++ h ∷ []) d) is kept)
+      | inr (inl lt) ↦ other (λ e. absurd (omega (arith, e, lt)))
+      | inr (inr gt) ↦ other (λ e. absurd (omega (arith, e, gt)))
+    ]
+  where
+    other : (d.0 ≡ device.0 → ⊥) → Keeps s (hs ++ h ∷ []) device history
+    other not =
+        kept_still s hs device h history
+        (nothing_of s.network device (carried_by h) h.note.body
+        (λ e. let one : Some d ≡ Some device = sym subject ∙ e in let is : d ≡ device = cc in not (ap (λ (x : DeviceId). x.0) is)))
+        (keeps device history (sym (set_other histories d.0 device.0 new not) ∙ there))
+
+-- ---- the mark of what is met
+
+pub mark_met : (s : Scenario) (d : DeviceId) (h : Happening) (t : ℕ) (body : NoteBody) (carried : Carried) (readings : Readings)
+    → IsMet s d h t body carried readings → mark_at t carried.members.0 body ≡ mark_of h
+mark_met s d h t body carried readings met =
+    ap (λ (n : ℕ). mark_at n carried.members.0 body) met.time
+    ∙ ap (λ (c : Carried). mark_at (time_of h) c.members.0 body) met.frame
+    ∙ ap (mark_at (time_of h) (members_in h)) (sym met.body_is)
+
+-- ---- before a time
+
+pub earlier_are : (t : ℕ) (hs : List Happening) → records_before (t ∷ []) hs ≡ earlier t hs
+earlier_are t hs =
+    same_kept (λ h. is_before (place_of h) (t ∷ [])) (λ h. nat_lt (time_of h) t) hs (λ h i. no_more (nat_lt (time_of h) t) (time_of h == t))
+
+-- ---- at first
+
+abbrev shown_last : Shown → List Entry → Shown
+shown_last first es = option_map_or (λ e. e.shown) (last_or None es) first
+
+abbrev shown_then : Mark → Shown → List Entry → Shown
+shown_then mark first es = shown_last first (filter (λ e. is_mark_before e.mark mark) es)
+
+pub kept_first : (s : Scenario) (network : Network) (d : DeviceId) (history : History) → s.network ≡ network → IsSteady s d → IsFresh network d history
+    → Keeps s [] d history
+kept_first s network d history is steady fresh =
+    let shows = fresh.shows s is steady in
+    record {
+      latest = subst (Shows s [] d) (sym (ap (shown_last history.first) fresh.none)) shows;
+      before = λ place mark of. subst (Shows s [] d) (sym (ap (shown_then mark history.first) fresh.none)) shows;
+      marks = λ e i. absurd (subst (IsIn e) fresh.none i);
+      order = λ mark i j x le lt. absurd (omega (arith, lt, ap length fresh.none));
+    }
+
+-- one more history that is fresh
+pub fresh_more : (network : Network) (xs : List History) (x : History)
+    → ((d : DeviceId) (history : History) → slice_get xs d.0 ≡ Some history → IsFresh network d history)
+    → IsFresh network (record { 0 = length xs }) x → (d : DeviceId) (history : History) → slice_get (xs ++ x ∷ []) d.0 ≡ Some history
+    → IsFresh network d history
+fresh_more network xs x old new d history there =
+    elim (which xs d.0 there) [
+      | inl e ↦ old d history e
+      | inr both ↦
+          let mk : ℕ → DeviceId = λ n. record { 0 = n } in
+          let one : mk (length xs) ≡ d = ap mk (sym both.0) in
+          subst (IsFresh network d) both.1 (subst (λ (y : DeviceId). IsFresh network y x) one new)
+    ]
+  where
+    which : (ys : List History) (i : ℕ) → slice_get (ys ++ x ∷ []) i ≡ Some history → (slice_get ys i ≡ Some history) ⊎ ((i ≡ length ys) × (x ≡ history))
+    which [] zero e = let is : x ≡ history = cc in inr (refl, is)
+    which [] (suc i) e = absurd cc
+    which (y ∷ ys) zero e = inl e
+    which (y ∷ ys) (suc i) e = elim (which ys i e) [ inl f ↦ inl f | inr both ↦ inr (omega (arith, both.0), both.1) ]

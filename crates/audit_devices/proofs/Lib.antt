@@ -1,0 +1,13 @@
+pub mod Tells
+pub mod Steps
+pub mod Points
+pub mod Hearings
+pub mod Follows
+pub mod MarkOrder
+pub mod Partitions
+pub mod Kept
+pub mod KeptAll
+pub mod Reading
+pub mod Takes
+pub mod Lasting
+pub mod Words

@@ -1,0 +1,98 @@
+-- More correction points have come where a clock shows more.
+use Rattle.audit_devices.proofs.Words.{if◌then◌else◌, ◌&&◌, ◌+ℤ◌, ◌+◌, ◌<◌, ◌∙◌, ◌≡◌, ◌≤◌, Bool, IsInRange, Network, Shown, ap, arith, false, points_by, pos}
+use Rattle.audit_devices.proofs.Words.{refl, subst, sym, true, ℕ, ℤ}
+use Rattle.std.{proofs.{Common.{◌/◌, div-mul-le_self, negsuc}, lemmas.{Int.ints, Nat.le-div}}, specs.Int.int_div_euclid}
+use Rattle.std.specs.Prelude.{◌-ℤ◌, ◌<ℤ◌, ◌≤ℤ◌, int_le, int_lt}
+use Rattle.run_law.specs.{control.Corrections.correction_value, device.Standpoints.natural}
+use Rattle.tte_lemmas.proofs.{Bools.none_shorter, Integers.{int_le-false, int_le-from, int_le-is, int_lt-from, not_below}}
+use Rattle.audit_devices.specs.Showing.{points_from}
+
+-- a number that is not negative
+whole : (z : ℤ) → pos 0 ≤ℤ z → (n : ℕ) × (z ≡ pos n)
+whole (pos n) le = (n, refl)
+whole (negsuc n) le = absurd (omega (arith, ints, le))
+
+quotients : (a b n : ℕ) → 0 < n → a ≤ b → a / n ≤ b / n
+quotients a b n some le = le-div (a / n) b n some (omega (arith, div-mul-le_self a n, le))
+
+-- the quotient does not fall
+quotient_on : (a b c : ℤ) → pos 0 <ℤ c → pos 0 ≤ℤ a → a ≤ℤ b → natural (int_div_euclid a c) ≤ natural (int_div_euclid b c)
+quotient_on a b c some low le =
+    let x = whole a low in
+    let y = whole b (omega (arith, ints, low, le)) in
+    let z = whole c (omega (arith, ints, some)) in
+    let fine : x.0 ≤ y.0 = omega (arith, ints, sym x.1, sym y.1, le) in
+    let more : 0 < z.0 = omega (arith, ints, sym z.1, some) in
+    let left : natural (int_div_euclid a c) ≡ x.0 / z.0 =
+    ap (λ (u : ℤ). natural (int_div_euclid u c)) x.1 ∙ ap (λ (u : ℤ). natural (int_div_euclid (pos x.0) u)) z.1 in
+    let right : natural (int_div_euclid b c) ≡ y.0 / z.0 =
+    ap (λ (u : ℤ). natural (int_div_euclid u c)) y.1 ∙ ap (λ (u : ℤ). natural (int_div_euclid (pos y.0) u)) z.1 in
+    omega (arith, left, right, quotients x.0 y.0 z.0 more fine)
+
+come_on : (p q r : Bool) (m n : ℕ) → (q ≡ true → r ≡ true) → (q ≡ true → m ≤ n) → (if p && q then m + 1 else 0) ≤ (if p && r then n + 1 else 0)
+come_on false q r m n more le = omega arith
+come_on true false r m n more le = omega arith
+come_on true true true m n more le = omega (arith, le refl)
+come_on true true false m n more le = absurd (cc (more refl))
+
+points_on : (network : Network) (cycle : ℕ) (at_change a b : ℤ) → IsInRange network → a ≤ℤ b
+    → points_from network cycle at_change a ≤ points_from network cycle at_change b
+points_on network cycle at_change a b range le =
+    let first : ℤ = correction_value network cycle in
+    come_on (int_lt at_change first) (int_le first a) (int_le first b) (natural (int_div_euclid (a -ℤ first) network.cycle.0))
+    (natural (int_div_euclid (b -ℤ first) network.cycle.0)) (λ e. int_le-from first b (omega (arith, ints, int_le-is first a e, le)))
+    (λ e. quotient_on (a -ℤ first) (b -ℤ first) network.cycle.0 (omega (arith, ints, range.cycle.least)) (omega (arith, ints, int_le-is first a e))
+    (omega (arith, ints, le)))
+
+pub points_mono : (network : Network) (shown : Shown) (a b : ℕ) → IsInRange network → a ≤ b → points_by network shown a ≤ points_by network shown b
+points_mono network shown a b range le =
+    points_on network shown.cycle shown.at_change (pos a +ℤ shown.adjustment) (pos b +ℤ shown.adjustment) range (omega (arith, ints, le))
+
+-- ---- how the count is found
+
+counted : (p q : Bool) (n m : ℕ) → p ≡ true → q ≡ true → n ≡ m → n + 1 ≡ (if p && q then m + 1 else 0)
+counted true true n m a b e = ap (λ (k : ℕ). k + 1) e
+counted true false n m a b e = absurd cc
+counted false q n m a b e = absurd cc
+
+not_counted : (p q : Bool) (m : ℕ) → (p && q) ≡ false → 0 ≡ (if p && q then m + 1 else 0)
+not_counted p q m e = sym (ap (λ (b : Bool). if b then m + 1 else 0) e)
+
+-- where the clock was below the first correction point's value, and is not now
+pub then_comes : (network : Network) (shown : Shown) (before first n r : ℕ) → pos first ≡ correction_value network shown.cycle
+    → shown.at_change <ℤ pos first → pos first ≤ℤ (pos before +ℤ shown.adjustment) → pos n ≡ ((pos before +ℤ shown.adjustment) -ℤ pos first)
+    → r ≡ natural (int_div_euclid (pos n) network.cycle.0) → r + 1 ≡ points_by network shown before
+then_comes network shown before first n r is below reached apart value =
+    let v : ℤ = correction_value network shown.cycle in
+    let local : ℤ = pos before +ℤ shown.adjustment in
+    counted (int_lt shown.at_change v) (int_le v local) r (natural (int_div_euclid (local -ℤ v) network.cycle.0))
+    (subst (λ (z : ℤ). int_lt shown.at_change z ≡ true) is (int_lt-from shown.at_change (pos first) below))
+    (subst (λ (z : ℤ). int_le z local ≡ true) is (int_le-from (pos first) local reached))
+    (value
+    ∙ ap (λ (z : ℤ). natural (int_div_euclid z network.cycle.0)) apart
+    ∙ ap (λ (z : ℤ). natural (int_div_euclid (local -ℤ z) network.cycle.0)) is)
+
+-- where it has passed that value at the change
+pub has_passed : (network : Network) (shown : Shown) (before first : ℕ) → pos first ≡ correction_value network shown.cycle
+    → pos first ≤ℤ shown.at_change → 0 ≡ points_by network shown before
+has_passed network shown before first is passed =
+    let v : ℤ = correction_value network shown.cycle in
+    let local : ℤ = pos before +ℤ shown.adjustment in
+    let no = subst (λ (z : ℤ). int_lt shown.at_change z ≡ false) is (not_below shown.at_change (pos first) passed) in
+    not_counted (int_lt shown.at_change v) (int_le v local) (natural (int_div_euclid (local -ℤ v) network.cycle.0))
+    (ap (λ (b : Bool). b && int_le v local) no)
+
+-- where it has not come to it
+pub not_come : (network : Network) (shown : Shown) (before first : ℕ) → pos first ≡ correction_value network shown.cycle
+    → (pos before +ℤ shown.adjustment) <ℤ pos first → 0 ≡ points_by network shown before
+not_come network shown before first is below =
+    let v : ℤ = correction_value network shown.cycle in
+    let local : ℤ = pos before +ℤ shown.adjustment in
+    let no = subst (λ (z : ℤ). int_le z local ≡ false) is (int_le-false (pos first) local below) in
+    not_counted (int_lt shown.at_change v) (int_le v local) (natural (int_div_euclid (local -ℤ v) network.cycle.0))
+    (ap (λ (b : Bool). int_lt shown.at_change v && b) no ∙ none_shorter (int_lt shown.at_change v))
+
+-- ---- what tests tell
+
+pub le_denied : (a b : ℤ) → int_le a b ≡ false → b <ℤ a
+le_denied a b e = grind (arith, ints)

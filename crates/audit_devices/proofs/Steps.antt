@@ -1,0 +1,247 @@
+-- What the records show of a device, with one more record.
+use Rattle.audit_devices.proofs.Words.{if◌then◌else◌, ◌&&◌, ◌++◌, ◌+ℤ◌, ◌+◌, ◌-◌, ◌<◌, ◌==◌, ◌||◌, ◌∙◌, ◌∷◌, ◌≡◌, ◌≤◌, Bool, Corrects, DeviceId, Effect}
+use Rattle.audit_devices.proofs.Words.{Happening, Hearing, IsIn, Joins, List, None, NoneLater, Nothing, Option, Scenario, Shown, Shows, Some, Summarizes, Turns}
+use Rattle.audit_devices.proofs.Words.{Units, [], ap, arith, cases_lt, changes_adjustment, cons_option, effect_of, false, filter, filter_map, heard_at}
+use Rattle.audit_devices.proofs.Words.{hearing_by, inl, inr, is_joined_by, last_or, ne_eqb, option_map_or, points_by, pos, refl, silence, subst, sym, time_of}
+use Rattle.audit_devices.proofs.Words.{true, ℕ, ℤ}
+use Rattle.std.proofs.lemmas.{Bool.eq-eqb, List.{append-nil, Elements.{filter-append, filter_map-append}, Folds.list_any-append, Sums.fold-append}}
+use Rattle.std.specs.List.{after_last}
+use Rattle.run_law.proofs.{records.Order.after_more, runs.Places.{in_left, in_right}}
+use Rattle.run_law.specs.control.Corrections.{cycle_after, integration_cycle, recorded_cycle}
+use Rattle.run_law.specs.device.States.{adjustment_after, adjustment_with, cycle_in, has_joined_at, joined_adjustment, state_after, state_with}
+use Rattle.sync_state.specs.declared.state.State.{State}
+use Rattle.tte_lemmas.proofs.{Bools.no_more as none_more, Lists.{after_one, filter_off, filter_on, last_pushed}}
+use Rattle.audit_devices.{proofs.Tells.{Tells, adjustment_by, cycle_by, joins_by, state_by, tells}, specs.Following.{changed_to, joined_to}}
+use Rattle.audit_devices.specs.Showing.{last_change, last_joining}
+
+-- the records, and one more
+abbrev pub with_one : List Happening → Happening → List Happening
+with_one hs h = hs ++ h ∷ []
+
+-- what the record tells, where its effect is this
+abbrev pub TellsAs : Scenario → DeviceId → Happening → Effect → Type 0
+TellsAs s device h e =
+    Tells s device (cycle_in h) (λ old. state_with device old h.note.body) (λ old. adjustment_with s device (cycle_in h) old h.note.body)
+    (λ next. cycle_after device next h h.note.body) (is_joined_by device h.note.body) (changes_adjustment device h.note.body)
+    (hearing_by s.network device h h.note.body) e
+
+pub told : (s : Scenario) (device : DeviceId) (h : Happening) (e : Effect) → effect_of s.network device h ≡ e → TellsAs s device h e
+told s device h e is = subst (TellsAs s device h) is (tells s device h h.note.body)
+
+-- ---- one more record, by what it tells
+
+pub state_on : (s : Scenario) (hs : List Happening) (device : DeviceId) (h : Happening) (e : Effect) → TellsAs s device h e
+    → state_by (state_after s hs device) e ≡ state_after s (with_one hs h) device
+state_on s hs device h e t = sym (t.state_is (state_after s hs device)) ∙ sym (fold-append _ _ hs (h ∷ []))
+
+pub adjustment_on : (s : Scenario) (hs : List Happening) (device : DeviceId) (h : Happening) (e : Effect) → TellsAs s device h e
+    → adjustment_by s device (adjustment_after s hs device) e ≡ adjustment_after s (with_one hs h) device
+adjustment_on s hs device h e t = sym (t.adjustment_is (adjustment_after s hs device)) ∙ sym (fold-append _ _ hs (h ∷ []))
+
+pub cycle_on : (s : Scenario) (hs : List Happening) (device : DeviceId) (h : Happening) (e : Effect) → TellsAs s device h e
+    → cycle_by (recorded_cycle hs device) e ≡ recorded_cycle (with_one hs h) device
+cycle_on s hs device h e t = sym (t.cycle_is (recorded_cycle hs device)) ∙ sym (fold-append _ _ hs (h ∷ []))
+
+pub integrated_on : (s : Scenario) (hs : List Happening) (device : DeviceId) (h : Happening) (e : Effect) → TellsAs s device h e
+    → (if joins_by e then Some (cycle_in h) else integration_cycle hs device) ≡ integration_cycle (with_one hs h) device
+integrated_on s hs device h e t =
+    ap (λ (b : Bool). if b then Some (cycle_in h) else integration_cycle hs device) (sym t.joins_is) ∙ sym (fold-append _ _ hs (h ∷ []))
+
+pub joined_on : (s : Scenario) (hs : List Happening) (device : DeviceId) (h : Happening) (e : Effect) → TellsAs s device h e
+    → (if joins_by e then Some (time_of h) else last_joining hs device) ≡ last_joining (with_one hs h) device
+joined_on s hs device h e t =
+    ap (λ (b : Bool). if b then Some (time_of h) else last_joining hs device) (sym t.joins_is) ∙ sym (fold-append _ _ hs (h ∷ []))
+
+changed_at_once : (hs : List Happening) (device : DeviceId) (h : Happening) → changes_adjustment device h.note.body ≡ true
+    → time_of h ≡ last_change (with_one hs h) device
+changed_at_once hs device h is =
+    let test : Happening → Bool = λ x. changes_adjustment device x.note.body in
+    let last : Option Happening → ℕ = λ o. option_map_or time_of o 0 in
+    sym (ap (λ (xs : List Happening). last (last_or None xs)) (filter_on test hs h is) ∙ ap last (last_pushed None (filter test hs) h))
+
+pub unchanged : (hs : List Happening) (device : DeviceId) (h : Happening) → changes_adjustment device h.note.body ≡ false
+    → last_change hs device ≡ last_change (with_one hs h) device
+unchanged hs device h is =
+    let test : Happening → Bool = λ x. changes_adjustment device x.note.body in
+    sym (ap (λ (xs : List Happening). option_map_or time_of (last_or None xs) 0) (filter_off test hs h is))
+
+-- what is heard where a record of no change is added
+abbrev pub kept_where : Scenario → DeviceId → Shown → ℕ → Happening → Bool
+kept_where s device shown points h = points == points_by s.network shown (s.reading device (time_of h - 1))
+
+pub heard_on : (s : Scenario) (hs : List Happening) (device : DeviceId) (h : Happening) (shown : Shown) (points : ℕ)
+    → changes_adjustment device h.note.body ≡ false → heard_at s (with_one hs h) device shown points
+    ≡ heard_at s hs device shown points
+    ++ filter_map (λ x. hearing_by s.network device x x.note.body) (if kept_where s device shown points h then h ∷ [] else [])
+heard_on s hs device h shown points same =
+    let test : Happening → Bool = λ x. changes_adjustment device x.note.body in
+    let f : Happening → Option Hearing = λ x. hearing_by s.network device x x.note.body in
+    let kept : Happening → Bool = kept_where s device shown points in
+    let grown = after_more test hs (h ∷ []) (λ y i. elim i [ inl e ↦ ap test e ∙ same | inr none ↦ absurd none ]) in
+    ap (λ (xs : List Happening). filter_map f (filter kept xs)) grown
+    ∙ ap (filter_map f) (filter-append kept (after_last test hs) (h ∷ []))
+    ∙ filter_map-append f (filter kept (after_last test hs)) (filter kept (h ∷ []))
+
+-- nothing more is heard by a record that tells nothing heard
+heard_same : (s : Scenario) (hs : List Happening) (device : DeviceId) (h : Happening) (shown : Shown) (points : ℕ)
+    → changes_adjustment device h.note.body ≡ false → hearing_by s.network device h h.note.body ≡ None
+    → heard_at s (with_one hs h) device shown points ≡ heard_at s hs device shown points
+heard_same s hs device h shown points same none =
+    let f : Happening → Option Hearing = λ x. hearing_by s.network device x x.note.body in
+    heard_on s hs device h shown points same
+    ∙ ap (λ (xs : List Hearing). heard_at s hs device shown points ++ xs) (nothing (kept_where s device shown points h))
+    ∙ append-nil (heard_at s hs device shown points)
+  where
+    nothing : (b : Bool) → filter_map (λ (x : Happening). hearing_by s.network device x x.note.body) (if b then h ∷ [] else []) ≡ []
+    nothing true = ap (λ (o : Option Hearing). cons_option o []) none
+    nothing false = refl
+
+-- nothing is heard since a change
+heard_none : (s : Scenario) (hs : List Happening) (device : DeviceId) (h : Happening) (shown : Shown) (points : ℕ)
+    → changes_adjustment device h.note.body ≡ true → heard_at s (with_one hs h) device shown points ≡ []
+heard_none s hs device h shown points is =
+    let test : Happening → Bool = λ x. changes_adjustment device x.note.body in
+    let f : Happening → Option Hearing = λ x. hearing_by s.network device x x.note.body in
+    ap (λ (xs : List Happening). filter_map f (filter (kept_where s device shown points) xs)) (after_one test hs h is)
+
+has_joined_on : (s : Scenario) (hs : List Happening) (device : DeviceId) (h : Happening) (e : Effect) (t : ℕ) → TellsAs s device h e
+    → has_joined_at (with_one hs h) device t ≡ (has_joined_at hs device t || (time_of h == t && joins_by e))
+has_joined_on s hs device h e t told =
+    list_any-append (λ x. time_of x == t && is_joined_by device x.note.body) hs (h ∷ [])
+    ∙ ap (λ (b : Bool). has_joined_at hs device t || b) (last (time_of h == t && is_joined_by device h.note.body))
+    ∙ ap (λ (b : Bool). has_joined_at hs device t || (time_of h == t && b)) told.joins_is
+  where
+    last : (b : Bool) → (b || false) ≡ b
+    last true = refl
+    last false = refl
+
+-- no frame tells it the time at this time by a record that tells it of none
+pub not_joined : (s : Scenario) (hs : List Happening) (device : DeviceId) (h : Happening) (e : Effect) (t : ℕ) → TellsAs s device h e
+    → joins_by e ≡ false → has_joined_at (with_one hs h) device t ≡ has_joined_at hs device t
+not_joined s hs device h e t told none =
+    has_joined_on s hs device h e t told
+    ∙ ap (λ (b : Bool). has_joined_at hs device t || (time_of h == t && b)) none
+    ∙ none_more (has_joined_at hs device t) (time_of h == t)
+
+none_earlier : (hs : List Happening) (device : DeviceId) (t : ℕ) → ((x : Happening) → IsIn x hs → time_of x < t) → has_joined_at hs device t ≡ false
+none_earlier [] device t each = refl
+none_earlier (x ∷ hs) device t each =
+    ap (λ (b : Bool). (b && is_joined_by device x.note.body) || has_joined_at hs device t)
+    (ne_eqb (time_of x) t (λ e. absurd (omega (arith, e, each x (inl refl)))))
+    ∙ none_earlier hs device t (λ y i. each y (inr i))
+
+-- at the time of a record by which one does, it is that of the last that does
+joined_last : (s : Scenario) (hs : List Happening) (device : DeviceId) (h : Happening) (e : Effect) (t : ℕ) → TellsAs s device h e
+    → joins_by e ≡ true → NoneLater (time_of h) hs → time_of h ≤ t → has_joined_at (with_one hs h) device t ≡ (time_of h == t)
+joined_last s hs device h e t told joins late le =
+    has_joined_on s hs device h e t told
+    ∙ ap (λ (b : Bool). has_joined_at hs device t || (time_of h == t && b)) joins
+    ∙ elim (cases_lt (time_of h) t) [
+      | inl lt ↦
+          ap (λ (b : Bool). b || (time_of h == t && true)) (none_earlier hs device t (λ x i. omega (arith, lt, late x i)))
+          ∙ whole (time_of h == t)
+      | inr ge ↦
+          let here : (time_of h == t) ≡ true = eq-eqb (time_of h) t (omega (arith, le, ge)) in
+          ap (λ (b : Bool). has_joined_at hs device t || (b && true)) here ∙ always (has_joined_at hs device t) ∙ sym here
+    ]
+  where
+    whole : (b : Bool) → (b && true) ≡ b
+    whole true = refl
+    whole false = refl
+
+    always : (b : Bool) → (b || true) ≡ true
+    always true = refl
+    always false = refl
+
+pub front_later : (t : ℕ) (hs : List Happening) (h : Happening) → NoneLater t (with_one hs h) → NoneLater t hs
+front_later t hs h later x i = later x (in_left x hs (h ∷ []) i)
+
+pub one_later : (t : ℕ) (hs : List Happening) (h : Happening) → NoneLater t (with_one hs h) → time_of h ≤ t
+one_later t hs h later = later h (in_right h hs (h ∷ []) (inl refl))
+
+-- ---- the steps
+
+-- a record that shows nothing, or a state, of the device
+pub turned : (s : Scenario) (hs : List Happening) (device : DeviceId) (h : Happening) (shown : Shown) (state : State)
+    → effect_of s.network device h ≡ Turns state → Shows s hs device shown → Shows s (hs ++ h ∷ []) device (record shown { state = state })
+turned s hs device h shown state is sh =
+    let t = told s device h (Turns state) is in
+    record {
+      state = state_on s hs device h (Turns state) t;
+      adjustment = sh.adjustment ∙ ap (λ (u : Units). u.0) (adjustment_on s hs device h (Turns state) t);
+      cycle = sh.cycle ∙ cycle_on s hs device h (Turns state) t;
+      integrated = sh.integrated ∙ integrated_on s hs device h (Turns state) t;
+      changed = sh.changed ∙ unchanged hs device h t.changes_is;
+      at_change = sh.at_change ∙ ap (λ (c : ℕ). pos (s.reading device c) +ℤ shown.adjustment) (unchanged hs device h t.changes_is);
+      joined = sh.joined ∙ joined_on s hs device h (Turns state) t;
+      joined_at = λ u later. not_joined s hs device h (Turns state) u t refl ∙ sh.joined_at u (front_later u hs h later);
+      heard = subst (Summarizes shown.heard) (sym (heard_same s hs device h shown shown.come t.changes_is t.hears_is)) sh.heard;
+      no_more = λ points more. heard_same s hs device h shown points t.changes_is t.hears_is ∙ sh.no_more points more;
+      come = λ u later. sh.come u (front_later u hs h later);
+    }
+
+pub quiet : (s : Scenario) (hs : List Happening) (device : DeviceId) (h : Happening) (shown : Shown) → effect_of s.network device h ≡ Nothing
+    → Shows s hs device shown → Shows s (hs ++ h ∷ []) device shown
+quiet s hs device h shown is sh =
+    let t = told s device h Nothing is in
+    record {
+      state = sh.state ∙ state_on s hs device h Nothing t;
+      adjustment = sh.adjustment ∙ ap (λ (u : Units). u.0) (adjustment_on s hs device h Nothing t);
+      cycle = sh.cycle ∙ cycle_on s hs device h Nothing t;
+      integrated = sh.integrated ∙ integrated_on s hs device h Nothing t;
+      changed = sh.changed ∙ unchanged hs device h t.changes_is;
+      at_change = sh.at_change ∙ ap (λ (c : ℕ). pos (s.reading device c) +ℤ shown.adjustment) (unchanged hs device h t.changes_is);
+      joined = sh.joined ∙ joined_on s hs device h Nothing t;
+      joined_at = λ u later. not_joined s hs device h Nothing u t refl ∙ sh.joined_at u (front_later u hs h later);
+      heard = subst (Summarizes shown.heard) (sym (heard_same s hs device h shown shown.come t.changes_is t.hears_is)) sh.heard;
+      no_more = λ points more. heard_same s hs device h shown points t.changes_is t.hears_is ∙ sh.no_more points more;
+      come = λ u later. sh.come u (front_later u hs h later);
+    }
+
+pub corrected : (s : Scenario) (hs : List Happening) (device : DeviceId) (h : Happening) (shown : Shown) (cycle : ℕ) (adjustment : Units) (t reading : ℕ)
+    → effect_of s.network device h ≡ Corrects cycle adjustment → t ≡ time_of h → reading ≡ s.reading device (time_of h)
+    → Summarizes silence [] → Shows s hs device shown
+    → Shows s (hs ++ h ∷ []) device (changed_to shown adjustment.0 (cycle + 1) t reading)
+corrected s hs device h shown cycle adjustment time reading is at reads none sh =
+    let t = told s device h (Corrects cycle adjustment) is in
+    let new = changed_to shown adjustment.0 (cycle + 1) time reading in
+    let last = changed_at_once hs device h t.changes_is in
+    record {
+      state = sh.state ∙ state_on s hs device h (Corrects cycle adjustment) t;
+      adjustment = ap (λ (u : Units). u.0) (adjustment_on s hs device h (Corrects cycle adjustment) t);
+      cycle = cycle_on s hs device h (Corrects cycle adjustment) t;
+      integrated = sh.integrated ∙ integrated_on s hs device h (Corrects cycle adjustment) t;
+      changed = at ∙ last;
+      at_change = ap (λ (r : ℕ). pos r +ℤ adjustment.0) (reads ∙ ap (s.reading device) last);
+      joined = sh.joined ∙ joined_on s hs device h (Corrects cycle adjustment) t;
+      joined_at = λ u later.
+          not_joined s hs device h (Corrects cycle adjustment) u t refl ∙ sh.joined_at u (front_later u hs h later);
+      heard = subst (Summarizes silence) (sym (heard_none s hs device h new 0 t.changes_is)) none;
+      no_more = λ points more. heard_none s hs device h new points t.changes_is;
+      come = λ u later. omega arith;
+    }
+
+pub joined : (s : Scenario) (hs : List Happening) (device : DeviceId) (h : Happening) (shown : Shown) (cycle own : ℕ) (point : Units) (t reading : ℕ)
+    → effect_of s.network device h ≡ Joins cycle own point → NoneLater (time_of h) hs → t ≡ time_of h → reading ≡ s.reading device (time_of h)
+    → Summarizes silence [] → Shows s hs device shown
+    → Shows s (hs ++ h ∷ []) device (joined_to shown (joined_adjustment s device own point).0 cycle t reading)
+joined s hs device h shown cycle own point time reading is late at reads none sh =
+    let e : Effect = Joins cycle own point in
+    let t = told s device h e is in
+    let adjustment : ℤ = (joined_adjustment s device own point).0 in
+    let new = joined_to shown adjustment cycle time reading in
+    let last = changed_at_once hs device h t.changes_is in
+    record {
+      state = state_on s hs device h e t;
+      adjustment = ap (λ (u : Units). u.0) (adjustment_on s hs device h e t);
+      cycle = cycle_on s hs device h e t;
+      integrated = ap (λ (n : ℕ). Some n) t.frame_is ∙ integrated_on s hs device h e t;
+      changed = at ∙ last;
+      at_change = ap (λ (r : ℕ). pos r +ℤ adjustment) (reads ∙ ap (s.reading device) last);
+      joined = ap (λ (n : ℕ). Some n) at ∙ joined_on s hs device h e t;
+      joined_at = λ u later.
+          joined_last s hs device h e u t refl late (one_later u hs h later) ∙ ap (λ (n : ℕ). n == u) (sym at);
+      heard = subst (Summarizes silence) (sym (heard_none s hs device h new 0 t.changes_is)) none;
+      no_more = λ points more. heard_none s hs device h new points t.changes_is;
+      come = λ u later. omega arith;
+    }

@@ -1,0 +1,21 @@
+use Rattle.audit_devices.proofs.Words.{◌∙◌, ◌∷◌, Happening, List, Mark, Shows, [], ap, got_at, records_before, subst, sym}
+use Rattle.audit_devices.{proofs.{KeptAll.earlier_are, MarkOrder.time_mark}, specs.{Keeping.shown_before, Lasting.mark_of_time}}
+use Rattle.audit_devices.proofs.standings.Standings.after_time.Goals as goal
+
+pub returns-clause-later : goal.returns-clause-later
+returns-clause-later c s hs stands =
+    let device = c.args.device in
+    let keeps = stands device c.index-history.result.now
+    (got_at c.args.self.now.histories.items device.0 c.index-history.result.now c.requires.device c.index-history.ensures) in
+    c.next_after.ensures.later keeps.order
+
+pub returns-clause-shows : goal.returns-clause-shows
+returns-clause-shows c s hs stands t lt le =
+    let device = c.args.device in
+    let history = c.index-history.result.now in
+    let keeps = stands device history (got_at c.args.self.now.histories.items device.0 history c.requires.device c.index-history.ensures) in
+    let shown = c.before-2.ensures keeps.order
+    ∙ ap (λ (m : Mark). shown_before m history) c.at_time.ensures.value
+    ∙ sym (c.next_after.ensures.lasts keeps.order t lt le) in
+    subst (λ (xs : List Happening). Shows s xs device c.before-2.result.now) (earlier_are t hs)
+    (subst (Shows s (records_before (t ∷ []) hs) device) (sym shown) (keeps.before (t ∷ []) (mark_of_time t) (time_mark device t)))

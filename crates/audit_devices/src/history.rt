@@ -1,0 +1,108 @@
+ghost use Rattle.std.specs.Prelude.{◌≡◌, ◌∷◌, ◌++◌, ◌<◌, [], List, is_ok, if◌then◌else◌, IfSome, OnOk};
+ghost use Rattle.net_plan.specs.Ranges.{IsInRange};
+
+use crate::{Carried, Mark, Readings, Shown};
+use net_plan::{DeviceId, Network};
+use run_law::NoteBody;
+use std::alloc::{AllocError, Global};
+
+/// What the records up to that of the mark show of a device.
+#[derive(Clone, Copy, Debug)]
+pub(crate) struct Entry {
+    pub(crate) mark: Mark,
+    pub(crate) shown: Shown,
+}
+
+/// What is shown of a device: at first, and from each of its records on.
+#[derive(Debug, Drop)]
+pub(crate) struct History {
+    first: Shown,
+    entries: Vec<Entry>,
+}
+
+impl History {
+    ghost use Rattle.run_law.specs.records.{Causes.device_of, Happenings.Happening, Order.AllBefore, Ranks.place_of};
+    ghost use Rattle.run_law.specs.scenario.Scenarios.{Scenario};
+    ghost use Rattle.audit_devices.specs.{Following.IsMet, Keeping.{IsInOrder, Keeps, latest_of, shown_before}};
+    ghost use Rattle.audit_devices.specs.Lasting.{Lasts};
+
+    /// Nothing but what is shown at first.
+    pub(crate) fn new(alloc: Global, first: Shown) -> History
+        ensures first { result.first ≡ first }
+        ensures none { result.entries.items ≡ [] }
+    {
+        History {
+            first,
+            entries: Vec::new(alloc),
+        }
+    }
+
+    /// From this mark on this is shown.
+    pub(crate) fn push(&mut self, mark: Mark, shown: Shown) -> Result<(), AllocError>
+        ensures first { self.new.first ≡ self.old.first }
+        ensures entries { self.new.entries.items ≡ (if is_ok result
+            then self.old.entries.items ++ record { mark = mark; shown = shown } ∷ [] else self.old.entries.items) }
+    {
+        self.entries.push(Entry { mark, shown })?;
+        Ok(())
+    }
+
+    /// Goes on by a record of the device, which stands behind all so far.
+    pub(crate) fn take(
+        &mut self,
+        network: &Network,
+        device: DeviceId,
+        time: u64,
+        body: &NoteBody,
+        carried: Carried,
+        readings: Readings,
+    ) -> Result<(), AllocError>
+        requires { IsInRange network.now }
+        ensures { (s : Scenario) (hs : List Happening) (h : Happening) → s.network ≡ network.now
+            → IsMet s device h time body.now carried readings → device_of h.note.body ≡ Some device
+            → AllBefore place_of hs (place_of h) → Keeps s hs device self.old
+            → OnOk result (Keeps s (hs ++ h ∷ []) device self.new) }
+    {
+        let shown = self
+            .latest()
+            .after(network, device, time, body, carried, readings);
+        self.push(Mark::of(time, carried.members, body), shown)
+    }
+
+    /// What was shown last.
+    pub(crate) fn latest(&self) -> &Shown
+        ensures { result.now ≡ latest_of self.now }
+    {
+        match self.entries.last() {
+            Some(entry) => &entry.shown,
+            None => &self.first,
+        }
+    }
+
+    /// What was shown last before the mark.
+    pub(crate) fn before(&self, mark: &Mark) -> &Shown
+        ensures { IsInOrder self.now → result.now ≡ shown_before mark.now self.now }
+    {
+        let point = self
+            .entries
+            .partition_point(|entry| entry.mark.is_before(mark));
+        let (front, _) = self.entries.split_at(point);
+        match front.last() {
+            Some(entry) => &entry.shown,
+            None => &self.first,
+        }
+    }
+    /// The time of the first entry that is later than this time. Up to then the same is shown.
+    pub(crate) fn next_after(&self, time: u64) -> Option<u64>
+        ensures later { IsInOrder self.now → IfSome result (λ next. time < next) }
+        ensures lasts { IsInOrder self.now → Lasts self.now time result }
+    {
+        let point = self
+            .entries
+            .partition_point(|entry| entry.mark.time() <= time);
+        match self.entries.get(point) {
+            Some(entry) => Some(entry.mark.time()),
+            None => None,
+        }
+    }
+}

@@ -1,0 +1,50 @@
+-- What arrives by a passage.
+use Rattle.audit_sweep.proofs.Words.{◌≡◌, Arrival, ArrivesAs, DeviceId, Happening, LinkId, List, None, Option, Scenario, Some, inl, inr, numbered, one, pos}
+use Rattle.audit_sweep.proofs.Words.{subst, ℕ}
+use Rattle.audit_wires.specs.{Receptions.IsArriving, declared.putting.OnWire.OnWire}
+use Rattle.net_plan.specs.declared.tables.Way.TheVariants.{Up}
+use Rattle.run_law.{proofs.runs.SameSteps.same_arrival, specs.{control.Wires.Arrives, runs.DueRecords.IsArrivedRecord}}
+use Rattle.audit_sweep.specs.{Passing.{IsComing, TakesWith}, declared.passage.Passage.Passage}
+use Rattle.run_law.specs.declared.steps.Arrival.TheVariants as arrivals
+
+pub coming : (s : Scenario) (hs : List Happening) (passage : Passage) (h : Happening) (result : Option OnWire) → numbered hs passage.cause ≡ Some h
+    → IsArriving s h passage.device passage.link passage.time result → IsComing s hs passage result
+coming s hs passage h None there none =
+    λ is x. none x.signal
+    (subst (λ (g : Happening). Arrives s g passage.device passage.link passage.time x.signal)
+    (one (numbered hs passage.cause) x.putting h x.there there) x.arrives)
+coming s hs passage h (Some what) there some = record { putting = h; there = there; signal = some.0; arrives = some.1; is = some.2 }
+
+-- what is taken with a clock has a record of its arrival
+pub taken : (s : Scenario) (hs : List Happening) (device : DeviceId) (t : ℕ) (link : LinkId) (cause clock : ℕ) (is : Arrival)
+    → ArrivesAs s hs device t link cause is → TakesWith clock is → IsArrivedRecord s hs device t link cause clock
+taken s hs device t link cause clock (arrivals.Waits frame point) x shows =
+    record { frame = frame; point = point; way = Up; taken = inl x; shows = shows }
+taken s hs device t link cause clock (arrivals.Passes frame way) x shows =
+    record { frame = frame; point = record { 0 = pos 0 }; way = way; taken = inr (inl x); shows = shows }
+taken s hs device t link cause clock (arrivals.PassesAndWaits frame way point) x shows =
+    record { frame = frame; point = point; way = way; taken = inr (inr x); shows = shows }
+taken s hs device t link cause clock (arrivals.Dropped reason) x shows = absurd shows
+taken s hs device t link cause clock (arrivals.Accepted vl cycle) x shows = absurd shows
+taken s hs device t link cause clock (arrivals.Delivered vl cycle) x shows = absurd shows
+
+-- and what has one was taken so
+pub takes : (s : Scenario) (hs : List Happening) (device : DeviceId) (t : ℕ) (link : LinkId) (cause clock : ℕ) (is : Arrival)
+    → ArrivesAs s hs device t link cause is → IsArrivedRecord s hs device t link cause clock → TakesWith clock is
+takes s hs device t link cause clock is x y =
+    elim y.taken [
+      | inl w ↦ by (arrivals.Waits y.frame y.point) w y.shows
+      | inr r ↦ elim r [ inl p ↦ by (arrivals.Passes y.frame y.way) p y.shows | inr b ↦ by (arrivals.PassesAndWaits y.frame y.way y.point) b y.shows ]
+    ]
+  where
+    by : (a : Arrival) → ArrivesAs s hs device t link cause a → TakesWith clock a → TakesWith clock is
+    by a z shows = subst (TakesWith clock) (same_arrival s hs t device link cause a is z x) shows
+
+-- something becomes of what has a record of its arrival
+pub comes : (s : Scenario) (hs : List Happening) (device : DeviceId) (t : ℕ) (link : LinkId) (cause clock : ℕ)
+    → IsArrivedRecord s hs device t link cause clock → (is : Arrival) × ArrivesAs s hs device t link cause is
+comes s hs device t link cause clock y =
+    elim y.taken [
+      | inl w ↦ (arrivals.Waits y.frame y.point, w)
+      | inr r ↦ elim r [ inl p ↦ (arrivals.Passes y.frame y.way, p) | inr b ↦ (arrivals.PassesAndWaits y.frame y.way y.point, b) ]
+    ]

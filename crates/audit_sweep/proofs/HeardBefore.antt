@@ -1,0 +1,61 @@
+-- Records that stand before a hearing.
+use Rattle.audit_sweep.proofs.Words.{if◌then◌else◌, ◌&&◌, ◌==◌, ◌∙◌, ◌∷◌, ◌≡◌, ◌≤◌, Bool, DeviceId, Happening, IsHeardBefore, List, NoneLater, NoteBody, [], ap}
+use Rattle.audit_sweep.proofs.Words.{arith, earlier, inl, inr, key, members_in, place_of, rank, refl, sym, time_of, true, ℕ}
+use Rattle.std.{proofs.{Common.{◌<◌, filter}, lemmas.Bool.{cases_Bool, false_from_ne_true, or_left}}, specs.Prelude.nat_lt}
+use Rattle.audit_devices.specs.Reading.{OnlyJoined}
+use Rattle.audit_law.proofs.Correcting.{time_before}
+use Rattle.run_law.proofs.{records.Order.{has_passed, is_there, time_before as rank_first}, runs.Places.earlier_time}
+use Rattle.run_law.specs.{device.{LocalClocks.changes_adjustment, States.is_joined_by}, records.Order.{IsBefore, is_before}}
+use Rattle.run_law.specs.declared.note.NoteBody.TheVariants as notes
+
+rank_before : (u r t q : ℕ) (ks ls : List ℕ) → u ≡ t → IsBefore (u ∷ r ∷ ks) (t ∷ q ∷ ls) → r ≤ q
+rank_before u r t q ks ls e (inl lt) = absurd (omega (arith, lt, e))
+rank_before u r t q ks ls e (inr b) = rank_first r q ks ls b.1
+
+pub rank_below : (u r t q : ℕ) (ks : List ℕ) → u ≡ t → IsBefore (u ∷ r ∷ ks) (t ∷ q ∷ []) → r < q
+rank_below u r t q ks e (inl lt) = absurd (omega (arith, lt, e))
+rank_below u r t q ks e (inr b) = earlier_time r q ks b.1
+
+pub none_later : (t : ℕ) (judged : List Happening) → IsHeardBefore t judged → NoneLater t judged
+none_later t judged b h i = time_before (time_of h) (rank h.note.body) t b.rank (key (members_in h) h.note.body) b.rest (b.before h i)
+
+pub joins_only : (device : DeviceId) (body : NoteBody) → rank body < 6 → is_joined_by device body ≡ changes_adjustment device body
+joins_only device (notes.Corrected other cycle by adjustment) low = absurd (omega (arith, low))
+joins_only device body low = refl
+
+pub only_joined : (t : ℕ) (judged : List Happening) (device : DeviceId) → IsHeardBefore t judged → OnlyJoined judged device t
+only_joined t judged device b h i at =
+    let le = rank_before (time_of h) (rank h.note.body) t b.rank (key (members_in h) h.note.body) b.rest at (b.before h i) in
+    let low = b.low in
+    joins_only device h.note.body (omega (arith, le, low))
+
+twice : {X : Type 0} (p q : X → Bool) (xs : List X) → ((x : X) → q x ≡ true → p x ≡ true) → filter q (filter p xs) ≡ filter q xs
+twice p q [] more = refl
+twice {X} p q (x ∷ xs) more =
+    elim (cases_Bool (p x)) [
+      | inl held ↦
+          ap (λ (b : Bool). filter q (if b then x ∷ filter p xs else filter p xs)) held
+          ∙ ap (λ (t : List X). if q x then x ∷ t else t) (twice p q xs more)
+      | inr lacks ↦
+          ap (λ (b : Bool). filter q (if b then x ∷ filter p xs else filter p xs)) lacks
+          ∙ twice p q xs more
+          ∙ sym (ap (λ (b : Bool). if b then x ∷ filter q xs else filter q xs)
+          (false_from_ne_true (q x) (λ e. let held = more x e in let not_held = lacks in cc)))
+    ]
+
+-- what is earlier than a place's time is before the place
+pub earlier_before : (t r : ℕ) (rest : List ℕ) (hs : List Happening)
+    → earlier t (filter (λ h. is_before (place_of h) (t ∷ r ∷ rest)) hs) ≡ earlier t hs
+earlier_before t r rest hs =
+    twice (λ (h : Happening). is_before (place_of h) (t ∷ r ∷ rest)) (λ (h : Happening). nat_lt (time_of h) t) hs
+    (λ h e. or_left (nat_lt (time_of h) t)
+    (time_of h == t && is_before (rank h.note.body ∷ key (members_in h) h.note.body) (r ∷ rest)) e)
+
+pub heard_before : (t r : ℕ) (rest : List ℕ) (hs : List Happening) → r < 6
+    → IsHeardBefore t (filter (λ h. is_before (place_of h) (t ∷ r ∷ rest)) hs)
+heard_before t r rest hs low = record {
+  rank = r;
+  rest = rest;
+  low = low;
+  before = λ h i. is_there (place_of h) (t ∷ r ∷ rest) (has_passed (λ (g : Happening). is_before (place_of g) (t ∷ r ∷ rest)) hs h i);
+}

@@ -1,0 +1,15 @@
+pub mod MoreRecords
+pub mod NamedDevices
+pub mod StandingBehind
+pub mod SomeSwept
+pub mod StandingPoints
+pub mod Comings
+pub mod Departures
+pub mod PermanentFrames
+pub mod HeardBefore
+pub mod Joinings
+pub mod HeardPoints
+pub mod Takers
+pub mod NextRecords
+pub mod Lacks
+pub mod Words

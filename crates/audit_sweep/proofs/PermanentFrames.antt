@@ -1,0 +1,54 @@
+-- What is kept of frames that wait to be permanent.
+use Rattle.audit_sweep.proofs.Words.{if◌then◌else◌, ◌&&◌, ◌==◌, ◌∙◌, ◌≡◌, Bool, DeviceId, LinkId, None, NoteBody, Some, ap, kept_of, refl, sym, true, ℕ}
+use Rattle.std.proofs.lemmas.Bool.{and_from, and_parts, eq-eqb, eqb-true}
+use Rattle.audit_records.specs.Keeping.{kept_of_event}
+use Rattle.net_plan.{proofs.SameIds.{same_device, same_link}, specs.declared.event.What.What}
+use Rattle.tte_lemmas.proofs.Bools.{picked}
+use Rattle.audit_sweep.specs.Ripenings.{waiting_clock}
+use Rattle.net_plan.specs.declared.event.What.TheVariants as events
+use Rattle.run_law.specs.declared.note.NoteBody.TheVariants as notes
+
+no_event : (device : DeviceId) (link : LinkId) (clock : ℕ) (what : What) → waiting_clock device link (kept_of_event what) ≡ Some clock → ⊥
+no_event device link clock (events.On other) e = cc
+no_event device link clock (events.Send by octets) e = cc
+no_event device link clock (events.Rate other rate) e = cc
+no_event device link clock (events.Wire by way delay) e = cc
+no_event device link clock (events.Hold by way delay) e = cc
+no_event device link clock (events.Cut by way) e = cc
+no_event device link clock (events.Heal by way) e = cc
+no_event device link clock (events.Break other) e = cc
+no_event device link clock events.End e = cc
+
+-- a record of which a clock is kept is of an arrival there
+pub from_arrival : (device : DeviceId) (link : LinkId) (clock : ℕ) (body : NoteBody) → waiting_clock device link (kept_of body) ≡ Some clock
+    → (from : ℕ) × (body ≡ notes.Arrived device link from clock)
+from_arrival device link clock (notes.Event line what) e = absurd (no_event device link clock what e)
+from_arrival device link clock (notes.Arrived other by from shown) e =
+    let p = picked (device.0 == other.0 && link.0 == by.0) shown clock e in
+    let both = and_parts (device.0 == other.0) (link.0 == by.0) p.0 in
+    let d = same_device device other (eqb-true device.0 other.0 both.0) in
+    let l = same_link link by (eqb-true link.0 by.0 both.1) in (
+      from,
+      ap (λ (x : DeviceId). notes.Arrived x by from shown) (sym d) ∙ ap (λ (x : LinkId). notes.Arrived device x from shown) (sym l)
+          ∙ ap (λ (n : ℕ). notes.Arrived device link from n) p.1,
+    )
+from_arrival device link clock (notes.Permanent other by from point verdict) e = absurd cc
+from_arrival device link clock (notes.Compressed other opened at cycle members verdict) e = absurd cc
+from_arrival device link clock (notes.Sent other cycle) e = absurd cc
+from_arrival device link clock (notes.Corrected other cycle gain adjustment) e = absurd cc
+from_arrival device link clock (notes.State other state from why) e = absurd cc
+from_arrival device link clock (notes.Left other by from shown) e = absurd cc
+from_arrival device link clock (notes.Lost other by from) e = absurd cc
+from_arrival device link clock (notes.TtSent other by from vl cycle) e = absurd cc
+from_arrival device link clock (notes.Accepted other by from vl cycle) e = absurd cc
+from_arrival device link clock (notes.Delivered other by from vl cycle) e = absurd cc
+from_arrival device link clock (notes.Dropped other by from reason) e = absurd cc
+from_arrival device link clock (notes.Clock other shown adjustment state) e = absurd cc
+
+-- and of such a record it is kept
+pub arrived_clock : (device : DeviceId) (link : LinkId) (from clock : ℕ)
+    → waiting_clock device link (kept_of (notes.Arrived device link from clock)) ≡ Some clock
+arrived_clock device link from clock =
+    let yes : (device.0 == device.0 && link.0 == link.0) ≡ true =
+    and_from (device.0 == device.0) (link.0 == link.0) (eq-eqb device.0 device.0 refl) (eq-eqb link.0 link.0 refl) in
+    ap (λ (b : Bool). if b then Some clock else None) yes

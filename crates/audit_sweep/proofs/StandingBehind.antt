@@ -1,0 +1,22 @@
+-- A record that stands behind others.
+use Rattle.audit_sweep.proofs.Words.{DeviceId, Happening, IsHeardBefore, Judgement, List, NoneLater, NoteBody, Units, amount, arith, key, members_in, rank}
+use Rattle.audit_sweep.proofs.Words.{time_of, ℕ}
+use Rattle.audit_law.proofs.Correcting.{time_before}
+use Rattle.pcf_values.specs.declared.members.Members.{Members}
+use Rattle.audit_sweep.specs.Judging.{StandsBehind}
+use Rattle.run_law.specs.declared.note.NoteBody.TheVariants as notes
+
+-- none of them is later
+pub none_later_behind : (hs : List Happening) (time : Units) (body : NoteBody) → StandsBehind hs time body → NoneLater (amount time) hs
+none_later_behind hs time body b h i =
+    time_before (time_of h) (rank h.note.body) (amount time) (rank body) (key (members_in h) h.note.body) (key b.members body) (b.before h i)
+
+-- they are those by which an emission is heard
+pub heard_behind : (hs : List Happening) (time : Units) (device : DeviceId) (opened at : Units) (cycle : ℕ) (members : Members) (verdict : Judgement)
+    → StandsBehind hs time (notes.Compressed device opened at cycle members verdict) → IsHeardBefore (amount time) hs
+heard_behind hs time device opened at cycle members verdict b = record {
+  rank = 4;
+  rest = key b.members (notes.Compressed device opened at cycle members verdict);
+  low = omega arith;
+  before = b.before;
+}

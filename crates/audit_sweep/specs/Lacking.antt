@@ -1,0 +1,15 @@
+-- What the records of a report lack.
+use Rattle.std.specs.Prelude.{◌+◌, ◌∷◌, List, MatchOption, Option, [], ℕ}
+use Rattle.audit_law.specs.{DebtLaws.IsFirstDebt, Debts.IsPaid, DueRecords.IsDue, Findings.LacksNothing, Owed.Pays}
+use Rattle.audit_law.specs.TracedEvents.{OwesEvent}
+use Rattle.run_law.specs.{records.{Happenings.Happening, Ranks.place_of}, scenario.Scenarios.Scenario}
+use Rattle.audit_law.specs.Owed as debts
+
+-- each event up to the time has its record
+abbrev pub AreEventsTold : Scenario → List Happening → ℕ → Type 0
+AreEventsTold s hs until = (line : ℕ) → OwesEvent s until line → IsPaid hs (Pays s) (debts.event line)
+
+-- this is the first time up to this one at which a record is lacking; none where nothing is
+abbrev pub TellsFirstLack : Scenario → List Happening → ℕ → Option ℕ → Type 0
+TellsFirstLack s hs until result =
+    MatchOption result (LacksNothing place_of (IsDue s) ((until + 1) ∷ []) hs) (IsFirstDebt s hs until)

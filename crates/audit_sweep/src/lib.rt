@@ -1,0 +1,20 @@
+//! The records of a report, judged one after the other: each is due or not, given those before it.
+#![tactic(auto)]
+
+mod arriving;
+mod changing;
+mod clocks;
+mod dispatching;
+mod ending;
+mod hearing;
+mod judging;
+mod known;
+mod lacking;
+mod leaving;
+mod passage;
+mod ripening;
+mod standing;
+mod sweep;
+
+pub use audit_records::OutOfMemory;
+pub use sweep::Sweep;

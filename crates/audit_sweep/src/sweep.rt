@@ -1,0 +1,169 @@
+//! The records of a report, taken one after the other, as long as each is sound given those before it.
+
+ghost use Rattle.std.specs.Option.{option_map_or};
+ghost use Rattle.std.specs.Prelude.{◌++◌, ◌+◌, ◌^◌, ◌↔◌, ◌∷◌, ◌≡◌, ◌≤ℤ◌, ◌≤◌, IfOk, IfSome, IsTrue, List, MatchBool};
+ghost use Rattle.std.specs.Prelude.{MatchOption, OnOk, [], length, pos};
+ghost use Rattle.audit_events.specs.Remembering.{Remembers};
+ghost use Rattle.audit_records.specs.Keeping.{records_of};
+ghost use Rattle.audit_unpaid.specs.Payments.{ArePayments};
+ghost use Rattle.net_plan.specs.{Ranges.IsInRange, declared.event.Event.Event};
+ghost use Rattle.net_plan.specs.declared.network.Network.{Network as NetworkValue};
+ghost use Rattle.report_text.specs.Ranges.{IsBodyOf};
+ghost use Rattle.run_law.specs.{records.{Happenings.{Happening, happening}, Ranks.place_of}, runs.DueRecords.EndsAt};
+ghost use Rattle.tte_units.specs.{Amount.amount, declared.units.Units.Units as UnitsValue};
+ghost use Rattle.audit_sweep.specs.Judging.{Befalls, IsJudgeable};
+ghost use Rattle.audit_sweep.specs.Sweeping.{IsPlacedSoundly, IsSoundUpTo, IsSwept, SweepsSome};
+
+use crate::judging::is_due;
+use crate::known::Known;
+use audit_events::EventHistory;
+use audit_places::{Place, Places};
+use audit_records::OutOfMemory;
+use audit_unpaid::Payments;
+use net_plan::Network;
+use pcf_values::Pcf;
+use run_law::Note;
+use std::alloc::Global;
+use tte_units::Units;
+
+/// The records of a report, as far as they have come: each is sound given those before it.
+#[derive(Drop)]
+pub struct Sweep<'a> {
+    pub(crate) alloc: Global,
+    pub(crate) network: &'a Network,
+    pub(crate) known: Known,
+    pub(crate) places: Places,
+    pub(crate) payments: Payments,
+}
+
+impl<'a> Sweep<'a> {
+    /// No records, under the events of which this is the history, which end at the time.
+    ///
+    /// Fails when memory runs out.
+    pub fn new(
+        alloc: Global,
+        network: &'a Network,
+        events: EventHistory,
+        end: Units,
+    ) -> Result<Sweep<'a>, OutOfMemory>
+        requires range { IsInRange network.now }
+        requires timely { amount end ≤ 2 ^ 60 }
+        ensures { IfOk result (λ sweep. (befallen : List Event) → Remembers network.now befallen events
+            → ((time : UnitsValue) → (time ≡ end) ↔ EndsAt befallen time)
+            → IsSwept network.now befallen end [] sweep) }
+    {
+        let known = match Known::new(alloc, network, events, end) {
+            Ok(known) => known,
+            Err(_) => return Err(OutOfMemory),
+        };
+        Ok(Sweep {
+            alloc,
+            network,
+            known,
+            places: Places::new(alloc),
+            payments: Payments::new(alloc),
+        })
+    }
+
+    /// Takes the next record, where it is sound given those before it. Where it is not, or memory runs out, the sweep
+    /// is over.
+    ///
+    /// Fails when memory runs out.
+    pub fn take(&mut self, note: &Note) -> Result<bool, OutOfMemory>
+        requires swept { SweepsSome self.old }
+        requires named { IsBodyOf self.old.network.now note.now.body }
+        ensures { (network : NetworkValue) (befallen : List Event) (end : UnitsValue) (hs : List Happening)
+            → IsSwept network befallen end hs self.old → Befalls befallen note.now.time note.now.body
+            → IfOk result (λ sound. MatchBool sound
+            (IsSwept network befallen end (hs ++ happening network hs note.now ∷ []) self.new)
+            (IsSoundUpTo network befallen end hs note.now → ⊥)) }
+    {
+        let place = match self.sound_place(note) {
+            Some(place) => place,
+            None => return Ok(false),
+        };
+        match self.push(note, place) {
+            Ok(()) => Ok(true),
+            Err(_) => Err(OutOfMemory),
+        }
+    }
+
+    // The place of the record, if it is sound given those before it.
+    fn sound_place(&self, note: &Note) -> Option<Place>
+        requires swept { SweepsSome self.now }
+        requires named { IsBodyOf self.now.network.now note.now.body }
+        ensures judgeable { IfSome result
+            (λ place. IsJudgeable self.now.network.now note.now.time note.now.body) }
+        ensures sound { (befallen : List Event) (end : UnitsValue) (hs : List Happening)
+            → IsSwept self.now.network.now befallen end hs self.now → Befalls befallen note.now.time note.now.body
+            → MatchOption result (IsSoundUpTo self.now.network.now befallen end hs note.now → ⊥)
+            (IsPlacedSoundly self.now.network.now befallen end hs note.now) }
+    {
+        if !self.is_next(note.number) {
+            return None;
+        }
+        if !self.is_timely(note.time) {
+            return None;
+        }
+        let place = self.place_of(note);
+        if !self.places.are_before(&place) {
+            return None;
+        }
+        if is_due(&self.known, self.network, note) {
+            Some(place)
+        } else {
+            None
+        }
+    }
+    // Goes on by the record, which is sound given those before it and stands at the place.
+    fn push(&mut self, note: &Note, place: Place) -> Result<(), OutOfMemory>
+        requires swept { SweepsSome self.old }
+        requires judgeable { IsJudgeable self.old.network.now note.now.time note.now.body }
+        ensures { (befallen : List Event) (end : UnitsValue) (hs : List Happening)
+            → IsSwept self.old.network.now befallen end hs self.old
+            → IsPlacedSoundly self.old.network.now befallen end hs note.now place
+            → OnOk result (IsSwept self.old.network.now befallen end
+            (hs ++ happening self.old.network.now hs note.now ∷ []) self.new) }
+    {
+        self.known.push(self.alloc, self.network, note)?;
+        self.payments.push(&note.body)?;
+        self.places.push(place)?;
+        Ok(())
+    }
+
+    // Is this the number of the next record?
+    fn is_next(&self, number: u64) -> bool
+        ensures { (hs : List Happening) → ArePayments hs self.now.payments → IsTrue result ↔ (number ≡ length hs + 1) }
+    {
+        number != 0 && number - 1 == self.payments.count() as u64
+    }
+
+    // Is the time from 0 up to the end?
+    fn is_timely(&self, time: Units) -> bool
+        ensures { IsTrue result ↔ ((pos 0 ≤ℤ time.0) × (amount time ≤ amount self.now.known.end)) }
+    {
+        0 <= time.0 && time.0.unsigned_abs() <= self.known.end.0.unsigned_abs()
+    }
+
+    // Where the record stands in the order of the report.
+    fn place_of(&self, note: &Note) -> Place
+        requires range { IsInRange self.now.network.now }
+        requires begun { pos 0 ≤ℤ note.now.time.0 }
+        ensures { (hs : List Happening) → self.now.known.records ≡ records_of hs
+            → result ≡ place_of (happening self.now.network.now hs note.now) }
+    {
+        let time = note.time.amount();
+        let kept = self.known.records.make(self.network, time, &note.body);
+        Place::of(time, members_in(kept.frame), &note.body)
+    }
+}
+
+/// The members of the frame, or 0.
+fn members_in(frame: Option<Pcf>) -> u32
+    ensures { result ≡ option_map_or (λ frame. frame.members.0) frame 0 }
+{
+    match frame {
+        Some(frame) => frame.members.0,
+        None => 0,
+    }
+}

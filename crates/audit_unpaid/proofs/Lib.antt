@@ -1,0 +1,11 @@
+pub mod Marks
+pub mod Payers
+pub mod Firsts
+pub mod PaidArrivals
+pub mod PaidLosses
+pub mod PaidChanges
+pub mod PaidPermanences
+pub mod ClockDebts
+pub mod Among
+pub mod DepartureDebts
+pub mod Words

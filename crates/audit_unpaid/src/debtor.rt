@@ -1,0 +1,20 @@
+use crate::Payments;
+use audit_devices::Standings;
+use audit_events::EventHistory;
+use audit_places::Places;
+use audit_records::KeptRecords;
+use net_plan::Network;
+
+/// The records of a report, each due given those before it, which owe further ones up to a time; and what is known of
+/// them.
+#[derive(Clone, Copy)]
+pub struct Debtor<'a> {
+    pub network: &'a Network,
+    pub history: &'a EventHistory,
+    pub records: &'a KeptRecords,
+    pub standings: &'a Standings,
+    pub places: &'a Places,
+    pub payments: &'a Payments,
+    /// The world time, in units of 2^-16 ns.
+    pub until: u64,
+}

@@ -1,0 +1,33 @@
+-- What three or more proof files of this crate name of other crates and of specs/, passed on from one place. Declares nothing.
+pub use Rattle.std.proofs.Common.{if◌then◌else◌, ◌%◌, ◌&&◌, ◌*◌, ◌++◌, ◌+ℤ◌, ◌+◌, ◌-ℤ◌, ◌<ℤ◌, ◌<◌, ◌==◌, ◌^◌, ◌∙◌, ◌∷◌, ◌≡◌, ◌≤ℤ◌, ◌≤◌, Bool, IfSome, IsSomeAnd}
+pub use Rattle.std.proofs.Common.{List, None, Option, Some, [], ap, arith, false, inl, inr, is_lt, length, neg_ℤ, not, pos, refl, subst, suc, sym, true, zero}
+pub use Rattle.std.proofs.Common.{ℕ, ℤ, ⊎_elim}
+pub use Rattle.std.proofs.Math.Nat.{mul-le-mul_left, mul-le-mul_right}
+pub use Rattle.std.proofs.lemmas.{Bool.{and_parts, cases_Bool, eqb-true, false≢true}, Int.ints, List.Elements.Contains-append_left}
+pub use Rattle.std.proofs.lemmas.Option.{slice_get_read, slice_get_within}
+pub use Rattle.std.specs.{List.{AllPairs, Contains}, Option.option_map_or, Prelude.{option_and_then, slice_get}}
+pub use Rattle.std.specs.List.Sorted.{IsPartitionedBy}
+pub use Rattle.clock_correction.specs.Deviation.{IsSmall}
+pub use Rattle.membership.specs.Summary.{Summarizes, Summary}
+pub use Rattle.net_plan.proofs.InRange.{amount_most}
+pub use Rattle.net_plan.specs.{Places.link_at, Ranges.IsInRange}
+pub use Rattle.net_plan.specs.declared.{ids.{DeviceId.DeviceId, LinkId.LinkId, RowId.RowId}, network.Network.Network, tables.{Link.Link, Row.Row}}
+pub use Rattle.pcf_values.specs.declared.{channel.Channel.{Channel, TheVariants.{A, B}}, pcf.Pcf.Pcf}
+pub use Rattle.run_law.specs.declared.{judgement.Reason.Reason, steps.Moment.Moment}
+pub use Rattle.run_law.specs.device.{Standpoints.{Standpoint, first_reason}, States.is_off}
+pub use Rattle.run_law.specs.machines.{Answers.called, Calls.MayCall, Nodes.{ClockTask, Node, arriving, correcting, dispatching, sending, standpoint_at}}
+pub use Rattle.run_law.specs.machines.Tasks.{value_of}
+pub use Rattle.run_law.specs.scenario.Devices.{is_end}
+pub use Rattle.run_law.specs.timed.Arrivals.{entry_entering}
+pub use Rattle.schedule_tables.proofs.OrderLemmas.{below_itself}
+pub use Rattle.schedule_tables.specs.{Dispatches.IsBelow, Margins.expected_offset}
+pub use Rattle.schedule_tables.specs.declared.entry.Entry.{Entry}
+pub use Rattle.sync_state.specs.{Standing.{Standing, next_point}, Verdicts.HasVerdict}
+pub use Rattle.sync_state.specs.declared.{plan.SyncPlan.SyncPlan, state.State.TheVariants.Synchronised}
+pub use Rattle.tte_lemmas.proofs.{Integers.from_zero, Lists.in_all, Options.one}
+pub use Rattle.tte_units.specs.Amount.{amount}
+pub use Rattle.tte_units.specs.declared.units.Units.{Units}
+pub use Rattle.end_system.specs.{Agendas.{IsAgenda, IsCorrection, IsDispatch, IsSending}, EnteringRows.row_by, Owns.{IsOwnOf, end_plan}}
+pub use Rattle.end_system.specs.{RowSlots.{AreInOrder, AreRowsOf, AreSlotsBelow, IsAtSlot, IsSlotOf, key_of}, Standing.{AreHeardSo, HasNumber, StandsAsEnd}}
+pub use Rattle.end_system.specs.declared.{agenda.{Agenda.Agenda, Appointment.Appointment}, end_system.EndSystem.EndSystem, entering.Entering.Entering}
+pub use Rattle.end_system.specs.declared.{entering.{EnteringRow.EnteringRow, Key.Key}, own.Own.Own, rows.{Dispatch.Dispatch, Rows.Rows, Slot.Slot}}

@@ -1,5 +1,0 @@
-use Rattle.event_history.proofs.Beginning.{remembers_none}
-use Rattle.event_history.proofs.history.EventHistory.new.Goals as goal
-
-pub returns : goal.returns
-returns c = remembers_none c.args.network.now _ c.requires c.in_ok-ways.ensures c.in_ok-devices.ensures.0 c.in_ok-devices.ensures.1

@@ -1,9 +1,0 @@
-use Rattle.std.proofs.Common.{FitsSigned, rules, to_z-of_z, ◌∙◌}
-use Rattle.std.specs.Int.{w128}
-use Rattle.record_history.proofs.Reading.{hearing_adjustment}
-use Rattle.record_history.proofs.shown.Shown.adjustment_at_hearing.Goals as goal
-
-pub returns : goal.returns
-returns c s hs device t late only sh =
-    let fits : FitsSigned w128 c.adjustment.result = search rules in
-    to_z-of_z fits ∙ c.adjustment.ensures.value ∙ hearing_adjustment s hs device c.args.self.now t late only sh

@@ -1,8 +1,0 @@
-use Rattle.membership.proofs.SummaryLemmas.{silence_summarizes}
-use Rattle.record_history.proofs.Follows.{follows}
-use Rattle.record_history.proofs.shown.Shown.after.Goals as goal
-
-pub returns : goal.returns
-returns c =
-    follows c.args.network.now c.args.device c.args.time c.args.body.now c.args.carried c.args.readings c.args.self.now c.follow.new.self
-    c.effect_of-effect.result c.requires silence_summarizes c.effect_of-effect.ensures c.follow.ensures

@@ -1,7 +1,0 @@
-use Rattle.std.proofs.Common.{sym, subst}
-use Rattle.membership.specs.Summary.{Summarizes, Summary}
-use Rattle.record_history.proofs.shown.Shown.hear.Goals as goal
-
-pub returns-clause-heard : goal.returns-clause-heard
-returns-clause-heard c before kept =
-    c.hear.ensures.heard before (subst (λ (kept : Summary). Summarizes kept before) (sym c.heard_by-heard.ensures) kept)

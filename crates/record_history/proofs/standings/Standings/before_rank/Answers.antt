@@ -1,6 +1,0 @@
-use Rattle.std.proofs.Common.{◌∷◌, []}
-use Rattle.record_history.proofs.standings.Standings.before_rank.Goals as goal
-
-pub returns : goal.returns
-returns c s hs stands =
-    c.before-2.ensures s hs (c.args.time ∷ c.args.rank ∷ []) stands (c.at_rank.ensures.place c.args.device)

@@ -1,0 +1,77 @@
+-- What is in a list, and in another with the same elements.
+use Rattle.std.proofs.Common.{◌<◌, ◌==◌, ◌∙◌, ◌∷◌, ◌≡◌, ◌≢◌, List, None, Option, Some, [], ap, arith, false, get_or, inl, inr, is_some, length, map, refl}
+use Rattle.std.proofs.{Common.{subst, suc, sym, true, zero, ℕ}, lemmas.Bool.{both_ways, eqb-false, ne_eqb}}
+use Rattle.std.proofs.lemmas.List.Sorted.{Contains-permutation, IsPermutation-map, IsPermutation-refl, IsPermutation-sym, length_permutation}
+use Rattle.std.specs.{List.{AllByRecursion, cons_option, filter_map, Sorted.IsPermutation}, Option.unwrap_or}
+use Rattle.run_law.{proofs.records.Order.contains, specs.records.Order.IsIn}
+
+pub in_contained : {X : Type 0} (xs : List X) (k : ℕ) (x : X) → k < length xs → get_or xs k x ≡ x → IsIn x xs
+in_contained [] k x lt e = absurd (omega (arith, lt))
+in_contained (y ∷ xs) zero x lt e = inl (sym e)
+in_contained (y ∷ xs) (suc k) x lt e = inr (in_contained xs k x (omega (arith, lt)) e)
+
+-- what is in a list is in one with the same elements
+pub in_permuted : {X : Type 0} (xs ys : List X) (x : X) → IsPermutation xs ys → IsIn x xs → IsIn x ys
+in_permuted xs ys x same there = let c = Contains-permutation xs ys x same (contains xs x there) in in_contained ys c.0 x c.1 c.2
+
+pub all_in : {X : Type 0} (P : X → Type 0) (xs : List X) → AllByRecursion P xs → (x : X) → IsIn x xs → P x
+all_in P [] all x there = absurd there
+all_in P (y ∷ xs) all x (inl e) = subst P (sym e) all.0
+all_in P (y ∷ xs) all x (inr rest) = all_in P xs all.1 x rest
+
+-- ---- what a function gives of each
+
+some_is : {Y : Type 0} (o : Option Y) (d : Y) → is_some o ≡ true → o ≡ Some (unwrap_or o d)
+some_is None d some = absurd (both_ways false refl some)
+some_is (Some y) d some = refl
+
+as_map : {X Y : Type 0} (h : X → Option Y) (d : Y) (xs : List X) → ((x : X) → IsIn x xs → is_some (h x) ≡ true)
+    → filter_map h xs ≡ map (λ x. unwrap_or (h x) d) xs
+as_map h d [] some = refl
+as_map h d (x ∷ xs) some =
+    ap (λ o. cons_option o (filter_map h xs)) (some_is (h x) d (some x (inl refl)))
+    ∙ ap (λ ys. unwrap_or (h x) d ∷ ys) (as_map h d xs (λ y there. some y (inr there)))
+
+by_default : {X Y : Type 0} (h : X → Option Y) (xs ys : List X) → IsPermutation xs ys → ((x : X) → IsIn x xs → is_some (h x) ≡ true) → Y
+    → IsPermutation (filter_map h xs) (filter_map h ys)
+by_default h xs ys same some d =
+    let here = as_map h d xs some in
+    let there = as_map h d ys (λ y inside. some y (in_permuted ys xs y (IsPermutation-sym xs ys same) inside)) in
+    subst (λ l. IsPermutation l (filter_map h ys)) (sym here)
+    (subst (λ l. IsPermutation (map (λ x. unwrap_or (h x) d) xs) l) (sym there) (IsPermutation-map (λ x. unwrap_or (h x) d) xs ys same))
+
+from_first : {X Y : Type 0} (h : X → Option Y) (xs ys : List X) (o : Option Y) → is_some o ≡ true → (Y → IsPermutation (filter_map h xs) (filter_map h ys))
+    → IsPermutation (filter_map h xs) (filter_map h ys)
+from_first h xs ys None some by = absurd (both_ways false refl some)
+from_first h xs ys (Some y) some by = by y
+
+-- of the same elements it gives the same
+pub permuted_map : {X Y : Type 0} (h : X → Option Y) (xs ys : List X) → IsPermutation xs ys → ((x : X) → IsIn x xs → is_some (h x) ≡ true)
+    → IsPermutation (filter_map h xs) (filter_map h ys)
+permuted_map h [] [] same some = IsPermutation-refl []
+permuted_map h [] (y ∷ ys) same some = absurd (omega (arith, length_permutation [] (y ∷ ys) same))
+permuted_map h (x ∷ xs) ys same some = from_first h (x ∷ xs) ys (h x) (some x (inl refl)) (by_default h (x ∷ xs) ys same some)
+
+pub length_map : {X Y : Type 0} (h : X → Option Y) (xs : List X) → ((x : X) → IsIn x xs → is_some (h x) ≡ true) → length (filter_map h xs) ≡ length xs
+length_map h [] some = refl
+length_map h (x ∷ xs) some = cons_length (h x) (filter_map h xs) (some x (inl refl)) ∙ ap (λ (n : ℕ). suc n) (length_map h xs (λ y there. some y (inr there)))
+  where
+    cons_length : {Y : Type 0} (o : Option Y) (ys : List Y) → is_some o ≡ true → length (cons_option o ys) ≡ suc (length ys)
+    cons_length None ys some = absurd (both_ways false refl some)
+    cons_length (Some y) ys some = refl
+
+pub same_map : {X Y : Type 0} (g h : X → Option Y) (xs : List X) → ((x : X) → IsIn x xs → g x ≡ h x) → filter_map g xs ≡ filter_map h xs
+same_map g h [] same = refl
+same_map g h (x ∷ xs) same = ap (λ o. cons_option o (filter_map g xs)) (same x (inl refl))
+    ∙ ap (cons_option (h x)) (same_map g h xs (λ y there. same y (inr there)))
+
+-- ---- numbers that differ
+
+pub all_apart : {X : Type 0} (f : X → ℕ) (k : ℕ) (xs : List X) → ((x : X) → IsIn x xs → f x ≢ k) → AllByRecursion (λ y. (k == y) ≡ false) (map f xs)
+all_apart f k [] apart = tt
+all_apart f k (x ∷ xs) apart = (ne_eqb k (f x) (λ e. apart x (inl refl) (sym e)), all_apart f k xs (λ y there. apart y (inr there)))
+
+pub each_apart : {X : Type 0} (f : X → ℕ) (k : ℕ) (xs : List X) → AllByRecursion (λ y. (k == y) ≡ false) (map f xs) → (x : X) → IsIn x xs → f x ≢ k
+each_apart f k [] all x there = absurd there
+each_apart f k (y ∷ xs) all x (inl e) = λ same. eqb-false k (f y) all.0 (sym same ∙ ap f e)
+each_apart f k (y ∷ xs) all x (inr rest) = each_apart f k xs all.1 x rest
