@@ -1,42 +1,16 @@
 -- The conditions in the order in which they are judged.
-use Rattle.std.proofs.{Common.{◌+◌, ◌-◌, ◌<◌, ◌∙◌, ◌∷◌, ◌≡◌, ◌≤◌, ◌⊎◌, List, [], ap, arith, inl, inr, refl, suc, sym, zero, ℕ}, lemmas.Bool.cases_order}
+use Rattle.std.proofs.{Common.{◌+◌, ◌-◌, ◌<◌, ◌∙◌, ◌∷◌, ◌≡◌, ◌≤◌, ◌⊎◌, List, [], ap, arith, inl, inr, refl, suc, sym, zero, ℕ}, lemmas.Bool.{cases_lt, cases_order}}
 use Rattle.std.specs.List.{slice_index_or}
 use Rattle.run_law.specs.declared.outside.Outside.{Outside}
 use Rattle.run_law.specs.declared.outside.Outside.TheVariants.{Channel, Hold, Late, NotBroken, NotMaster, NotOff, Order, Rate, SecondBreak, TooFewMasters, Wire}
-use Rattle.run_law.specs.scenario.Hypothesis.{condition_number}
+use Rattle.net_plan.specs.declared.{event.Event.Event, network.Network.Network}
+use Rattle.run_law.specs.scenario.Hypothesis.{Violates, condition_number}
+use Rattle.fault_hypothesis.specs.Own.{behind_own, first_own}
 
 -- the conditions, by their numbers
 abbrev pub conditions : List Outside
 conditions =
     Order ∷ Late ∷ Rate ∷ Wire ∷ Hold ∷ Channel ∷ NotMaster ∷ SecondBreak ∷ TooFewMasters ∷ NotBroken ∷ NotOff ∷ []
-
--- the numbers begin with 1
-pub number_at_least : (condition : Outside) → 1 ≤ condition_number condition
-number_at_least Order = omega arith
-number_at_least Late = omega arith
-number_at_least Rate = omega arith
-number_at_least Wire = omega arith
-number_at_least Hold = omega arith
-number_at_least Channel = omega arith
-number_at_least NotMaster = omega arith
-number_at_least SecondBreak = omega arith
-number_at_least TooFewMasters = omega arith
-number_at_least NotBroken = omega arith
-number_at_least NotOff = omega arith
-
--- the last is 11
-pub number_at_most : (condition : Outside) → condition_number condition ≤ 11
-number_at_most Order = omega arith
-number_at_most Late = omega arith
-number_at_most Rate = omega arith
-number_at_most Wire = omega arith
-number_at_most Hold = omega arith
-number_at_most Channel = omega arith
-number_at_most NotMaster = omega arith
-number_at_most SecondBreak = omega arith
-number_at_most TooFewMasters = omega arith
-number_at_most NotBroken = omega arith
-number_at_most NotOff = omega arith
 
 -- each condition stands at the place below its number
 pub stands_by_number : (condition other : Outside) → slice_index_or conditions (condition_number condition - 1) other ≡ condition
@@ -77,4 +51,53 @@ up_to_place place other earlier low =
           inr (ap (λ (k : ℕ). slice_index_or conditions k other) (sym here) ∙ stands_by_number earlier other)
       | inr (inl less) ↦ inl (omega (arith, less))
       | inr (inr more) ↦ absurd (omega (arith, more, low))
+    ]
+
+-- but for the first two, a condition that an event breaks is one of its own
+pub own_violated : (network : Network) (before : List Event) (event : Event) (condition : Outside) → 2 < condition_number condition
+    → Violates network before event condition → (first_own event.what < condition_number condition) × (condition_number condition ≤ behind_own event.what)
+own_violated network before event Order above v = absurd (omega (arith, above))
+own_violated network before event Late above v = absurd (omega (arith, above))
+own_violated network before event Rate above v = rw v.what (omega arith, omega arith)
+own_violated network before event Wire above v = rw v.what (omega arith, omega arith)
+own_violated network before event Hold above v = rw v.what (omega arith, omega arith)
+own_violated network before event Channel above v = rw v.what (omega arith, omega arith)
+own_violated network before event NotMaster above v = rw v.breaks (omega arith, omega arith)
+own_violated network before event SecondBreak above v = rw v.breaks (omega arith, omega arith)
+own_violated network before event TooFewMasters above v = rw v.breaks (omega arith, omega arith)
+own_violated network before event NotBroken above v = rw v.what (omega arith, omega arith)
+own_violated network before event NotOff above v = rw v.what (omega arith, omega arith)
+
+-- what holds of the first two holds of all up to them
+pub first_two : (P : Outside → Type 0) → P Order → P Late → (condition : Outside) → condition_number condition ≤ 2 → P condition
+first_two P first second Order low = first
+first_two P first second Late low = second
+first_two P first second Rate low = absurd (omega (arith, low))
+first_two P first second Wire low = absurd (omega (arith, low))
+first_two P first second Hold low = absurd (omega (arith, low))
+first_two P first second Channel low = absurd (omega (arith, low))
+first_two P first second NotMaster low = absurd (omega (arith, low))
+first_two P first second SecondBreak low = absurd (omega (arith, low))
+first_two P first second TooFewMasters low = absurd (omega (arith, low))
+first_two P first second NotBroken low = absurd (omega (arith, low))
+first_two P first second NotOff low = absurd (omega (arith, low))
+
+-- an event that breaks neither of them breaks none before its own
+pub none_before : (network : Network) (before : List Event) (event : Event) → (Violates network before event Order → ⊥)
+    → (Violates network before event Late → ⊥) → (condition : Outside) → condition_number condition ≤ first_own event.what
+    → Violates network before event condition → ⊥
+none_before network before event early late condition low v =
+    elim (cases_lt 2 (condition_number condition)) [
+      | inl above ↦ let own = own_violated network before event condition above v in absurd (omega (arith, low, own.0))
+      | inr upto ↦ first_two (λ (c : Outside). Violates network before event c → ⊥) early late condition (omega (arith, upto)) v
+    ]
+
+-- an event that breaks none up to a place behind its own breaks none
+pub none_behind : (network : Network) (before : List Event) (event : Event) (place : ℕ) → 2 ≤ place → behind_own event.what ≤ place
+    → ((condition : Outside) → condition_number condition ≤ place → Violates network before event condition → ⊥) → (condition : Outside)
+    → Violates network before event condition → ⊥
+none_behind network before event place least behind none condition v =
+    elim (cases_lt place (condition_number condition)) [
+      | inl above ↦ let own = own_violated network before event condition (omega (arith, above, least)) v in absurd (omega (arith, above, behind, own.1))
+      | inr upto ↦ none condition (omega (arith, upto)) v
     ]

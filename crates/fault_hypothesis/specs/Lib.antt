@@ -1,2 +1,3 @@
 pub mod SoundMasters
 pub mod Watching
+pub mod Own

@@ -1,9 +1,9 @@
-ghost use Rattle.std.specs.Prelude.{◌++◌, ◌↔◌, ◌∷◌, ◌≡◌, List, MatchResult, OnErr, Some, [], slice_set, true};
+ghost use Rattle.std.specs.Prelude.{◌++◌, ◌↔◌, ◌∷◌, ◌≡◌, ◌≤◌, List, MatchResult, OnErr, Some, [], slice_set, true};
 ghost use Rattle.net_plan.specs.{Belonging.IsOfNetwork, declared.event.Event.Event as EventValue};
 ghost use Rattle.net_plan.specs.declared.{ids.DeviceId.DeviceId as DeviceIdValue, network.Network.Network};
 ghost use Rattle.pcf_values.specs.declared.channel.Channel.{Channel as ChannelValue};
 ghost use Rattle.run_law.specs.scenario.{Faults.{IsBroken, IsFaulty}, Hypothesis.{IsOutsideBy, IsWithinHypothesis}};
-ghost use Rattle.fault_hypothesis.specs.Watching.{Watches};
+ghost use Rattle.fault_hypothesis.specs.{Own.{behind_own, first_own}, Watching.Watches};
 
 use crate::Outside;
 use crate::places::{channel_of, off_channel};
@@ -66,10 +66,20 @@ impl<'a> Watch<'a> {
             (λ _. IsWithinHypothesis network admitted event.now)
             (λ condition. IsOutsideBy network admitted event.now condition) }
     {
-        'conditions: for condition in &CONDITIONS {
-            if self.violates(event, *condition) {
-                return Err(*condition);
+        if self.violates(event, Outside::Order) {
+            return Err(Outside::Order);
+        }
+        if self.violates(event, Outside::Late) {
+            return Err(Outside::Late);
+        }
+        let Own { first, behind } = own_of(&event.what);
+        let mut place = first;
+        'conditions: while place < behind {
+            let condition = CONDITIONS[place];
+            if self.violates(event, condition) {
+                return Err(condition);
             }
+            place += 1;
         }
         Ok(())
     }
@@ -127,6 +137,55 @@ impl<'a> Watch<'a> {
             → (channel : ChannelValue) → (result ≡ Some channel) ↔ IsFaulty network admitted channel }
     {
         self.faulty
+    }
+}
+
+// The places of the conditions that only events of one kind can break.
+struct Own {
+    first: usize,
+    behind: usize,
+}
+
+// The conditions that only such an event can break. They stand one behind the other.
+fn own_of(what: &What) -> Own
+    ensures first { result.first ≡ first_own what.now }
+    ensures behind { result.behind ≡ behind_own what.now }
+    ensures least { 2 ≤ result.first }
+    ensures most { result.behind ≤ 11 }
+{
+    match what {
+        What::Rate(_, _) => Own {
+            first: 2,
+            behind: 3,
+        },
+        What::Wire(_, _, _) => Own {
+            first: 3,
+            behind: 4,
+        },
+        What::Hold(_, _, _) => Own {
+            first: 4,
+            behind: 5,
+        },
+        What::Cut(_, _) => Own {
+            first: 5,
+            behind: 6,
+        },
+        What::Break(_) => Own {
+            first: 6,
+            behind: 9,
+        },
+        What::Send(_, _) => Own {
+            first: 9,
+            behind: 10,
+        },
+        What::On(_) => Own {
+            first: 10,
+            behind: 11,
+        },
+        What::Heal(_, _) | What::End => Own {
+            first: 11,
+            behind: 11,
+        },
     }
 }
 

@@ -17,7 +17,8 @@ use trace_text::push_what;
 use tte_io::LineText;
 use tte_units::Units;
 
-fn push_event(line: &mut LineText, network: &Network, of_trace: u64, what: &What)
+// Adds what the record of an event says.
+pub(crate) fn push_event(line: &mut LineText, network: &Network, of_trace: u64, what: &What)
     requires in_range { IsInRange network.now }
     requires of_network { IsOfNetwork network.now what.now }
     requires room { length line.old + longest_body ≤ line_limit }

@@ -10,4 +10,4 @@ mod writing;
 
 pub use laws::one_report;
 pub use words::{judgement_text, state_text, why_text};
-pub use writing::{make_note_line, write, write_in};
+pub use writing::{make_event_line, make_note_line, write, write_in};

@@ -1,13 +1,28 @@
-ghost use Rattle.std.specs.{Io.KnownBytes.Appends, Prelude.{◌≡◌, ◌≤◌, MatchResult, OnErr, OnOk}};
-ghost use Rattle.net_plan.specs.Ranges.{IsInRange};
+ghost use Rattle.std.specs.{Fmt.signed_decimal, Io.KnownBytes.Appends};
+ghost use Rattle.std.specs.Prelude.{◌++◌, ◌≡◌, ◌≤◌, MatchResult, OnErr, OnOk, codes, decimal, length};
+ghost use Rattle.net_plan.specs.{Belonging.IsOfNetwork, Ranges.IsInRange};
+ghost use Rattle.run_law.specs.declared.note.NoteBody.TheVariants as bodies;
 ghost use Rattle.tte_io.specs.{Faults.{Rose, next_count}, Told.AppendsFront};
 ghost use Rattle.report_text.specs.{NoteLine.note_line, Ranges.IsNoteOf};
 
 use crate::fields::push_units;
-use crate::kinds::push_body;
-use net_plan::Network;
+use crate::kinds::{push_body, push_event};
+use net_plan::{Event, Network};
 use run_law::Note;
 use tte_io::{LineText, Sink, SinkFailed};
+use tte_units::Units;
+
+// Begins a record's line: its number, its time and the space behind it.
+fn begin_line(line: &mut LineText, number: u64, time: Units)
+    ensures text { line.new ≡ decimal number ++ codes " " ++ signed_decimal time.0 ++ codes " " }
+    ensures short { length line.new ≤ 43 }
+{
+    line.clear();
+    line.push_decimal(number);
+    line.push(" ");
+    push_units(line, time);
+    line.push(" ");
+}
 
 /// Makes a record's line, ended by LF: its number, its time, and what it says.
 ///
@@ -17,12 +32,29 @@ pub fn make_note_line(line: &mut LineText, network: &Network, note: &Note)
     requires of_network { IsNoteOf network.now note.now }
     ensures { line.new ≡ note_line network.now note.now }
 {
-    line.clear();
-    line.push_decimal(note.number);
-    line.push(" ");
-    push_units(line, note.time);
-    line.push(" ");
+    begin_line(line, note.number, note.time);
     push_body(line, network, &note.body);
+    line.push("\n");
+}
+
+/// Makes the line, ended by LF, of the record of an event, which stands in this line of its trace.
+///
+/// The network is in its ranges, and the event's device and link are its own.
+#[tactic(auto, unfolding(crate::specs::NoteLine::body_text))]
+pub fn make_event_line(
+    line: &mut LineText,
+    network: &Network,
+    number: u64,
+    of_trace: u64,
+    event: &Event,
+)
+    requires in_range { IsInRange network.now }
+    requires of_network { IsOfNetwork network.now event.now.what }
+    ensures { line.new ≡ note_line network.now
+        (record { number = number; time = event.now.time; body = bodies.Event of_trace event.now.what }) }
+{
+    begin_line(line, number, event.time);
+    push_event(line, network, of_trace, &event.what);
     line.push("\n");
 }
 

@@ -1,4 +1,5 @@
 use crate::worked::{WORKED, with_edits};
+use net_plan::{Event, What};
 use run_law::Outside;
 use schedule_tables::Accepted;
 use std::alloc::Global;
@@ -8,6 +9,7 @@ use trace_text::LineRefusal;
 use tte_forms::{NoNetwork, accept};
 use tte_io::{MemorySink, MemorySource, OutOfMemory};
 use tte_traces::{Trace, TraceFault, TraceStop};
+use tte_units::Units;
 
 // What a trace gave: how many events, and why it stopped, if it did not end.
 type Given = (u32, Option<TraceStop>);
@@ -22,10 +24,14 @@ fn network(rt: &impl Abort, alloc: Global, text: &str) -> Result<Accepted, Fail>
 
 // Takes events until the trace ends or stops.
 fn given(trace: &mut Trace, source: &mut MemorySource, out: &mut MemorySink) -> Given {
+    let mut event = Event {
+        time: Units(0),
+        what: What::End,
+    };
     for _ in 0..100 {
-        match trace.next_event(source, out) {
-            Ok(Some(_)) => {}
-            Ok(None) => return (trace.lines(), None),
+        match trace.next_event(source, &mut event, out) {
+            Ok(true) => {}
+            Ok(false) => return (trace.lines(), None),
             Err(stop) => return (trace.lines(), Some(stop)),
         }
     }

@@ -60,6 +60,11 @@ abbrev pub outcome : {A : Type 0} → Read (A × Words) → Read A
 outcome (Ok step) = Ok step.0
 outcome (Err fault) = Err fault
 
+-- what a call reads that puts it in the place of another
+abbrev pub read_in : {A : Type 0} → Read (Unit {0}) → A → Read A
+read_in (Ok _) x = Ok x
+read_in (Err fault) x = Err fault
+
 -- the result of a call is what the reading gives, and the call leaves these words
 abbrev pub Reads : {A : Type 0} → Read (A × Words) → Read A → Words → Type 0
 Reads reading (Ok x) left = reading ≡ Ok (x, left)

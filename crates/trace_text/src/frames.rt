@@ -32,15 +32,22 @@ fn fault(text: &[u8]) -> LineRefusal
     }
 }
 
-/// The value of a hexadecimal digit of either case, and 16 for an octet that is none.
+/// The value of a hexadecimal digit of either case, and 16 for an octet that is none. Differences that wrap around
+/// choose without a branch.
 fn digit_value(digit: u8) -> u8
     ensures { result ≡ digit_number digit }
 {
-    match digit {
-        b'A'..=b'F' => digit - b'A' + 10,
-        b'a'..=b'f' => digit - b'a' + 10,
-        b'0'..=b'9' => digit - b'0',
-        _ => 16,
+    let number = digit.wrapping_sub(b'0');
+    let capital = digit.wrapping_sub(b'A');
+    let letter = digit.wrapping_sub(b'a');
+    if number < 10 {
+        number
+    } else if capital < 6 {
+        capital + 10
+    } else if letter < 6 {
+        letter + 10
+    } else {
+        16
     }
 }
 

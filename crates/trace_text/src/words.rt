@@ -133,7 +133,8 @@ impl<'a> Words<'a> {
         way_spelled(text).ok_or(LineRefusal::Form)
     }
 
-    /// The octets of a frame.
+    /// The octets of a frame. They need room, which is cleared at each call, so that other words do without.
+    #[inline(never)]
     #[tactic(auto, unfolding(crate::specs::WordReading::octets))]
     pub(crate) fn octets(&mut self) -> Result<Octets, LineRefusal>
         ensures value { Reads (octets self.old) result self.new }

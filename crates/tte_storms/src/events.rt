@@ -59,10 +59,13 @@ impl<'a, K: Sink> Events<(), K, ()> for StormEvents<'a> {
 
     ghost left = { λ it. left_of it };
 
-    fn next_event(&mut self, _from: &mut (), _out: &mut K) -> Result<Option<Event>, ()> {
+    fn next_event(&mut self, _from: &mut (), event: &mut Event, _out: &mut K) -> Result<bool, ()> {
         match self.next() {
-            Some(event) => Ok(Some(event)),
-            None => Ok(None),
+            Some(next) => {
+                *event = next;
+                Ok(true)
+            }
+            None => Ok(false),
         }
     }
 }

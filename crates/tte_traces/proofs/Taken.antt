@@ -2,12 +2,12 @@
 use Rattle.tte_traces.proofs.Words.{◌++◌, ◌<◌, ◌^◌, ◌∙◌, ◌∷◌, ◌≡◌, ◌≢◌, AreAdmitted, Err, Event, ForOctets, GaveEvents, IfSome, List, Network, None, Ok, Option}
 use Rattle.tte_traces.proofs.Words.{ReadsOn, Result, Rose, Some, TakesFew, Trace, TraceStop, What, [], ap, arith, behind_lines, length, length-append, refl}
 use Rattle.tte_traces.proofs.Words.{shown_by, subst, sym, ℕ}
-use Rattle.std.proofs.Common.{◌-◌}
+use Rattle.std.{proofs.Common.{◌-◌, Bool, false, true}, specs.Prelude.IfErr}
 use Rattle.drift_world.specs.Running.{HoldsATime}
 use Rattle.trace_text.specs.Ranges.{IsWhatInRange}
 use Rattle.tte_forms.specs.{Faults.{PutFailed, ReadFailed}, Putting.IsPassedOn}
-use Rattle.world_drive.specs.Sources.{GivesNext, MayGive}
-use Rattle.tte_traces.specs.{Following.{Follows, GivesEvent, GoesOn, Reads, ReadsMore, TakesNext}, Taking.{EndedBehind, IsStopAt, StoppedBehind}}
+use Rattle.world_drive.specs.Sources.{GivesNext, MayGive, given_in}
+use Rattle.tte_traces.specs.{Following.{Follows, GivesEvent, GoesOn, IsRefused, Reads, ReadsMore, TakesNext}, Taking.{EndedBehind, IsStopAt, StoppedBehind}}
 use Rattle.tte_traces.specs.declared.fault.TraceStop.TheVariants.{Fault, ReadFault, WriteFault}
 use Rattle.net_plan.specs.declared.event.What.TheVariants as kinds
 use Rattle.tte_io.specs.declared.ends.Sink as sinks
@@ -48,6 +48,18 @@ fewer_lines network events event old new follows gives =
     let few = gives.follows.number in
     let long = length-append events (event ∷ []) in
     omega (arith, own, more, few, long)
+
+-- a call that answers no event for a cause stopped for it
+pub stop_given : (result : Result Bool TraceStop) (event : Event) (stop : TraceStop) → given_in result event ≡ Err stop → result ≡ Err stop
+stop_given (Ok true) event stop is = absurd cc
+stop_given (Ok false) event stop is = absurd cc
+stop_given (Err cause) event stop is = let same : cause ≡ stop = cc in ap Err same
+
+-- a call that is refused answers no event
+pub refused_given : (result : Result Bool TraceStop) (event : Event) → IfErr result IsRefused → IfErr (given_in result event) IsRefused
+refused_given (Ok true) event refused = refused
+refused_given (Ok false) event refused = refused
+refused_given (Err cause) event refused = refused
 
 -- the first of two lists with one more at the end
 front_same : {X : Type 0} (xs ys : List X) (x y : X) → xs ++ x ∷ [] ≡ ys ++ y ∷ [] → length ys ≡ length xs

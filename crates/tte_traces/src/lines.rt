@@ -4,6 +4,7 @@ ghost use Rattle.net_plan.specs.{Belonging.IsOfNetwork, Ranges.IsInRange, declar
 ghost use Rattle.net_plan.specs.declared.network.Network.{Network as NetworkValue};
 ghost use Rattle.trace_text.specs.Ranges.{IsEventInRange};
 ghost use Rattle.tte_forms.specs.{Faults.{PutFailed, ReadFailed}, Putting.{IsPassedOn, Over, PutsNone, shown_by}};
+ghost use Rattle.world_drive.specs.Sources.{given_in};
 ghost use Rattle.tte_traces.specs.Following.{Follows, GoesOn, IsFound, IsRefused, JudgesSo, Reads, TakesNext};
 ghost use Rattle.tte_traces.specs.Lines.{HasEvent, IsAdmitted, IsFault, IsOpen};
 ghost use Rattle.tte_traces.specs.Taking.{EndedBehind, GaveEvents, StoppedBehind};
@@ -13,7 +14,7 @@ use crate::reading::next_line;
 use fault_hypothesis::Watch;
 use net_plan::{Event, Network, What};
 use schedule_tables::Accepted;
-use trace_text::line;
+use trace_text::line_in;
 use tte_io::{LineReader, LineTaken, Sink, Source};
 use world_drive::Events;
 
@@ -60,20 +61,21 @@ impl<'a> Trace<'a> {
         self.lines
     }
 
-    /// The event of the next line, or None where the trace has ended. Before a read it passes on all
-    /// that was put.
+    /// Puts the event of the next line in the place of another, and answers whether there is one: where the trace has
+    /// ended there is none. Before a read it passes on all that was put.
     ///
     /// After a failed read, and where passing on failed, the next call goes on where this one
     /// stopped. After a fault of the trace no call is to follow.
     pub fn next_event<B: Source, K: Sink>(
         &mut self,
         source: &mut B,
+        event: &mut Event,
         out: &mut K,
-    ) -> Result<Option<Event>, TraceStop>
+    ) -> Result<bool, TraceStop>
         ensures follows { (network : NetworkValue) (events : List EventValue) → Follows network events self.old
-            → GoesOn network events result self.new }
+            → GoesOn network events (given_in result event.new) self.new }
 
-        ensures takes { TakesNext self.old (B.left source.old) result self.new (B.left source.new) }
+        ensures takes { TakesNext self.old (B.left source.old) (given_in result event.new) self.new (B.left source.new) }
 
         ensures never_falls { B.faults source.old ≤ B.faults source.new }
         ensures unchanged { result ≢ Err TraceStop.ReadFault → B.faults source.new ≡ B.faults source.old }
@@ -85,29 +87,31 @@ impl<'a> Trace<'a> {
         ensures unpassed { result ≡ Err TraceStop.WriteFault → PutFailed K.Sink out.old out.new }
     {
         match next_line(&mut self.reader, source, out) {
-            Ok(found) => self.judge(found),
+            Ok(found) => self.judge(found, event),
             Err(stop) => Err(stop),
         }
     }
 
-    /// The event of what was found, or None at the end of a trace that has ended.
-    fn judge(&mut self, found: LineTaken) -> Result<Option<Event>, TraceStop>
+    /// Puts the event of what was found in the place of another, and answers whether there is one: at the end of a
+    /// trace that has ended there is none.
+    fn judge(&mut self, found: LineTaken, event: &mut Event) -> Result<bool, TraceStop>
         requires { found ≡ LineTaken.Whole → IsSome self.old.reader.text }
         ensures judged { (network : NetworkValue) (events : List EventValue) (rest : List ℕ)
             → Follows network events self.old → IsFound rest found self.old.reader
-            → JudgesSo network events rest result self.new }
+            → JudgesSo network events rest (given_in result event.new) self.new }
         ensures refused { IfErr result IsRefused }
-        ensures of_network { IfOk result (λ event. IfSome event (λ e. IsOfNetwork self.old.accepted.now e.what)) }
-        ensures range { IfOk result (λ event. IfSome event IsEventInRange) }
+        ensures of_network { IfOk (given_in result event.new)
+            (λ event. IfSome event (λ e. IsOfNetwork self.old.accepted.now e.what)) }
+        ensures range { IfOk (given_in result event.new) (λ event. IfSome event IsEventInRange) }
         ensures reader { self.new.reader ≡ self.old.reader }
     {
         match found {
-            LineTaken::Whole => self.take_line(),
+            LineTaken::Whole => self.take_line(event),
             LineTaken::Long => match self.fault_of_line() {
                 Some(fault) => Err(TraceStop::Fault(fault)),
                 None => Err(TraceStop::Fault(TraceFault::Long)),
             },
-            LineTaken::End if self.ended => Ok(None),
+            LineTaken::End if self.ended => Ok(false),
             LineTaken::End => Err(TraceStop::Fault(TraceFault::Missing)),
         }
     }
@@ -128,15 +132,16 @@ impl<'a> Trace<'a> {
         }
     }
 
-    /// The event of the line that was read, which is admitted.
-    fn take_line(&mut self) -> Result<Option<Event>, TraceStop>
+    /// Puts the event of the line that was read in the place of another. It is admitted.
+    fn take_line(&mut self, event: &mut Event) -> Result<bool, TraceStop>
         requires { IsSome self.old.reader.text }
         ensures judged { (network : NetworkValue) (events : List EventValue) (rest : List ℕ)
             → Follows network events self.old → IsFound rest LineTaken.Whole self.old.reader
-            → JudgesSo network events rest result self.new }
+            → JudgesSo network events rest (given_in result event.new) self.new }
         ensures refused { IfErr result IsRefused }
-        ensures of_network { IfOk result (λ event. IfSome event (λ e. IsOfNetwork self.old.accepted.now e.what)) }
-        ensures range { IfOk result (λ event. IfSome event IsEventInRange) }
+        ensures of_network { IfOk (given_in result event.new)
+            (λ event. IfSome event (λ e. IsOfNetwork self.old.accepted.now e.what)) }
+        ensures range { IfOk (given_in result event.new) (λ event. IfSome event IsEventInRange) }
         ensures reader { self.new.reader ≡ self.old.reader }
     {
         match self.fault_of_line() {
@@ -144,17 +149,17 @@ impl<'a> Trace<'a> {
             None => (),
         }
         let network = self.accepted.network();
-        let event = match line(network, self.reader.text()) {
-            Ok(event) => event,
+        match line_in(network, self.reader.text(), event) {
+            Ok(()) => (),
             Err(refusal) => return Err(TraceStop::Fault(TraceFault::Line(refusal))),
         };
-        match self.watch.admit(&event) {
+        match self.watch.admit(event) {
             Ok(()) => (),
             Err(outside) => return Err(TraceStop::Fault(TraceFault::Event(outside))),
         }
         self.lines += 1;
         self.ended = matches!(event.what, What::End);
-        Ok(Some(event))
+        Ok(true)
     }
 }
 
@@ -168,7 +173,12 @@ impl<'a, B: Source, K: Sink> Events<B, K, TraceStop> for Trace<'a> {
 
     ghost left = { λ it. 2 ^ 32 - it.lines };
 
-    fn next_event(&mut self, from: &mut B, out: &mut K) -> Result<Option<Event>, TraceStop> {
-        self.next_event(from, out)
+    fn next_event(
+        &mut self,
+        from: &mut B,
+        event: &mut Event,
+        out: &mut K,
+    ) -> Result<bool, TraceStop> {
+        self.next_event(from, event, out)
     }
 }

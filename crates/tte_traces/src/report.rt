@@ -6,7 +6,7 @@ ghost use Rattle.tte_traces.specs.Report.{PutsReport, StopsReport};
 
 use drift_world::{EventNote, Given};
 use net_plan::{Event, Network};
-use report_text::write_in;
+use report_text::{make_event_line, write_in};
 use run_law::Note;
 use tte_io::{LineText, Sink};
 use tte_units::Units;
@@ -42,6 +42,29 @@ fn put_note<K: Sink>(
     }
 }
 
+/// Puts the line of the record of an event.
+fn put_event<K: Sink>(
+    text: &mut LineText,
+    network: &Network,
+    note: &EventNote<'_>,
+    out: &mut K,
+) -> Result<(), Cut>
+    requires in_range { IsInRange network.now }
+    requires of_network { IsNoteOf network.now note.now }
+    ensures all { OnOk result (Appends (K.written out.old) (K.written out.new) (note_line network.now note.now)
+        × (K.faults out.new ≡ K.faults out.old)) }
+    ensures front { OnErr result (AppendsFront (K.written out.old) (K.written out.new) (note_line network.now note.now)
+        × Rose (K.faults out.old) (K.faults out.new)) }
+    ensures counted { K.puts out.new ≡ next_count (K.puts out.old) }
+    ensures cut { IfErr result (λ cut. cut ≡ Cut.WriteFault) }
+{
+    make_event_line(text, network, note.number, note.line, note.event);
+    match out.put(text.as_slice()) {
+        Ok(()) => Ok(()),
+        Err(_) => Err(Cut::WriteFault),
+    }
+}
+
 impl<K: Sink> Observer<K> for Report {
     ghost sees = { λ network events notes instant old put it. PutsReport network notes old.told put };
 
@@ -70,7 +93,7 @@ impl<K: Sink> Observer<K> for Report {
         note: &EventNote<'_>,
         out: &mut K,
     ) -> Result<(), Cut> {
-        put_note(&mut self.text, network, &note.note(), out)
+        put_event(&mut self.text, network, note, out)
     }
 
     /// The end of an instant was not asked for.

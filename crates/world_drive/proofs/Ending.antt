@@ -1,32 +1,32 @@
 -- A drive goes on, or ends.
 use Rattle.world_drive.proofs.Words.{◌++◌, ◌+ℤ◌, ◌+◌, ◌<◌, ◌^◌, ◌∙◌, ◌∷◌, ◌≡◌, ◌≤ℤ◌, AreEarlier, AreRecordsBefore, AreRecordsSoFar, Cut, CutsAtEvent}
-use Rattle.world_drive.proofs.Words.{CutsBefore, Err, Event, ExactWorld, IsAsked, List, MayGive, Network, None, Note, Ok, Option, Sees, SeesEvent, SeesUntil}
+use Rattle.world_drive.proofs.Words.{CutsBefore, Err, Event, ExactWorld, IsAsked, List, MayGive, Network, None, Note, Ok, Sees, SeesEvent, SeesUntil}
 use Rattle.world_drive.proofs.Words.{Some, StandsExact, Stops, Told, Units, [], amount, ap, arith, ints, last_is, last_time, length, pos, refl, subst, sym}
 use Rattle.world_drive.proofs.Words.{told_by, true, units_of, ℕ}
-use Rattle.std.proofs.Common.{length-append}
+use Rattle.std.proofs.Common.{Bool, false, length-append}
 use Rattle.tte_io.specs.declared.ends.Sink.{Ghosts}
 use Rattle.world_exact.{proofs.{Events.ended_at, Given.amount_after}, specs.{Records.{AreAllRecords, HaveEnded}, Worlds.IsReached}}
 use Rattle.world_drive.proofs.{Earlier.{records_none, up_to_end}, More.{PutsSoFar, fails_on, puts_none}}
 use Rattle.world_drive.specs.{Driving.{DrivesAll, DrivesCut, DrivesSoFar, HasSeenSoFar}, Observing.{Grows, PutsFurther, start_by}}
-use Rattle.world_drive.specs.{Seeing.{ComesNext, HasSeen, MayMeet}, Sources.{Gave, GivesNext, Stopped}}
+use Rattle.world_drive.specs.{Seeing.{ComesNext, HasSeen, MayMeet}, Sources.{Gave, GivesNext, Stopped, given_in}}
 
 -- ---- what a source gave
 
 pub given_one : {B S K E : Type 0} (gave ended : Gave B E) (stopped : Stopped B S K E) (left : E
     → ℕ) (network : Network) (first : B) (origin : E) (events : List Event)
-    (o : Option Event) (event : Event) (from : B) (old new : E) (before after : K) → o ≡ Some event
-    → GivesNext gave ended stopped left network first origin events (Ok o) from old new before after
+    (more : Bool) (event : Event) (from : B) (old new : E) (before after : K) → more ≡ true
+    → GivesNext gave ended stopped left network first origin events (given_in (Ok more) event) from old new before after
     → MayGive network events event × (left new < left old) × gave network first origin (events ++ event ∷ []) from new
-given_one gave ended stopped left network first origin events o event from old new before after is p =
-    subst (λ (q : Option Event). GivesNext gave ended stopped left network first origin events (Ok q) from old new before after) is p
+given_one gave ended stopped left network first origin events more event from old new before after is p =
+    subst (λ (q : Bool). GivesNext gave ended stopped left network first origin events (given_in (Ok q) event) from old new before after) is p
 
 pub given_end : {B S K E : Type 0} (gave ended : Gave B E) (stopped : Stopped B S K E) (left : E
     → ℕ) (network : Network) (first : B) (origin : E) (events : List Event)
-    (o : Option Event) (from : B) (old new : E) (before after : K) → o ≡ None
-    → GivesNext gave ended stopped left network first origin events (Ok o) from old new before after
+    (more : Bool) (event : Event) (from : B) (old new : E) (before after : K) → more ≡ false
+    → GivesNext gave ended stopped left network first origin events (given_in (Ok more) event) from old new before after
     → HaveEnded events × ended network first origin events from new
-given_end gave ended stopped left network first origin events o from old new before after is p =
-    subst (λ (q : Option Event). GivesNext gave ended stopped left network first origin events (Ok q) from old new before after) is p
+given_end gave ended stopped left network first origin events more event from old new before after is p =
+    subst (λ (q : Bool). GivesNext gave ended stopped left network first origin events (given_in (Ok q) event) from old new before after) is p
 
 -- ---- a drive goes on
 

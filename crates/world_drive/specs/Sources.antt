@@ -1,6 +1,6 @@
 -- Where the events of a run come from.
-use Rattle.std.specs.Prelude.{◌++◌, ◌+◌, ◌<◌, ◌^◌, ◌∷◌, ◌≤ℤ◌, Err, List, None, Ok, Option, Result, Some, [], length}
-use Rattle.std.specs.Prelude.{pos, ℕ}
+use Rattle.std.specs.Prelude.{◌++◌, ◌+◌, ◌<◌, ◌^◌, ◌∷◌, ◌≤ℤ◌, Bool, Err, List, None, Ok, Option, Result, Some, [], false}
+use Rattle.std.specs.Prelude.{length, pos, true, ℕ}
 use Rattle.drift_world.specs.Running.{HoldsATime}
 use Rattle.net_plan.specs.{Belonging.IsOfNetwork, declared.{event.Event.Event, network.Network.Network}}
 use Rattle.run_law.specs.scenario.Hypothesis.{IsWithinHypothesis}
@@ -21,6 +21,12 @@ Gave B E = Network → B → E → List Event → B → E → Type 0
 
 abbrev pub Stopped : Type 0 → Type 0 → Type 0 → Type 0 → Type 1
 Stopped B S K E = Network → B → E → List Event → S → B → E → K → K → Type 0
+
+-- what a call gives that answers whether there is an event, which is then put in the place of another
+abbrev pub given_in : {S : Type 0} → Result Bool S → Event → Result (Option Event) S
+given_in (Ok true) event = Ok (Some event)
+given_in (Ok false) event = Ok None
+given_in (Err stop) event = Err stop
 
 -- the source gives one more event; or the end was given; or it stops
 abbrev pub GivesNext : {B S K E : Type 0} → Gave B E → Gave B E → Stopped B S K E → (E → ℕ) → Network → B → E

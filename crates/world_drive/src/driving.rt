@@ -6,7 +6,7 @@ ghost use Rattle.world_drive.specs.{Driving.Drives, Observing.{start_by, told_by
 use crate::observing::{Cut, Observer};
 use crate::seeing::{next_unit, see_event, see_until};
 use crate::sources::Events;
-use net_plan::Network;
+use net_plan::{Event, Network, What};
 use tte_io::Sink;
 use tte_units::Units;
 use world_exact::ExactWorld;
@@ -41,18 +41,23 @@ pub fn drive<B, K: Sink, S, E: Events<B, K, S>, O: Observer<K>>(
     ensures { Drives K.Sink E.gave E.ended E.stopped O.sees O.stops network.now from.old source.old result
         from.new source.new world.new observer.old observer.new out.old out.new }
 {
+    // An event is large: each is put in the place of the one before.
+    let mut event = Event {
+        time: Units(0),
+        what: What::End,
+    };
     let mut time = Units(0);
     let mut line: u64 = 0;
     'events: loop {
-        match source.next_event(from, out) {
-            Ok(Some(event)) => {
+        match source.next_event(from, &mut event, out) {
+            Ok(true) => {
                 line += 1;
                 match see_event(world, network, line, &event, observer, out) {
                     Ok(()) => time = event.time,
                     Err(cut) => return Drove::Cut(cut),
                 }
             }
-            Ok(None) => {
+            Ok(false) => {
                 return match see_until(world, network, next_unit(time), observer, out) {
                     Ok(()) => Drove::All,
                     Err(cut) => Drove::Cut(cut),

@@ -1,6 +1,6 @@
 ghost use Rattle.std.specs.Prelude.{◌≡◌, List, OnOk, ℕ};
 ghost use Rattle.net_plan.specs.declared.{event.Event.Event as EventValue, network.Network.Network as NetworkValue};
-ghost use Rattle.world_drive.specs.{Observing.told_by, Sources.GivesNext};
+ghost use Rattle.world_drive.specs.{Observing.told_by, Sources.{GivesNext, given_in}};
 
 use net_plan::Event;
 use tte_io::Sink;
@@ -20,12 +20,13 @@ pub trait Events<B, K: Sink, S>: Drop {
     /// How many events may still come.
     ghost left: { Self → ℕ };
 
-    /// The next event, or None behind the end. What was put may be passed on.
-    fn next_event(&mut self, from: &mut B, out: &mut K) -> Result<Option<Event>, S>
+    /// Puts the next event in the place of another, and answers whether there is one: behind the end there is none.
+    /// What was put may be passed on.
+    fn next_event(&mut self, from: &mut B, event: &mut Event, out: &mut K) -> Result<bool, S>
         ensures gives { (network : NetworkValue) (first : B) (origin : Self) (events : List EventValue)
             → gave network first origin events from.old self.old
-            → GivesNext gave ended stopped left network first origin events result from.new self.old self.new out.old
-            out.new }
+            → GivesNext gave ended stopped left network first origin events (given_in result event.new) from.new
+            self.old self.new out.old out.new }
         ensures nothing_put { told_by K.Sink out.new ≡ told_by K.Sink out.old }
         ensures quiet { OnOk result (K.faults out.new ≡ K.faults out.old) };
 }

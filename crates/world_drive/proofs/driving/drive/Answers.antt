@@ -13,9 +13,9 @@ overflow_add-line g c =
     let d = c.events.invariant in
     let network = c.args.network.now in
     let n = given_one g.E.Events.gave g.E.Events.ended g.E.Events.stopped g.E.Events.left network c.args.from.now c.args.source.now d.events
-    c.in-Ok-Some.field-0
-    c.in-Ok-Some.event c.next_event.new.from c.events.source c.next_event.new.self c.events.out c.next_event.new.out c.in-Ok-Some.field-0-is
-    (c.in-Ok-Some.ensures.gives network c.args.from.now c.args.source.now d.events d.gave) in
+    c.in-Ok-true.field-0
+    c.next_event.new.event c.next_event.new.from c.events.source c.next_event.new.self c.events.out c.next_event.new.out c.in-Ok-true.field-0-test
+    (c.in-Ok-true.ensures.gives network c.args.from.now c.args.source.now d.events d.gave) in
     let own = d.number in let room = n.0.number in omega (arith, own, room)
 
 pub see_event-requires-clause-may : goal.see_event-requires-clause-may
@@ -23,22 +23,22 @@ see_event-requires-clause-may g c =
     let d = c.events.invariant in
     let network = c.args.network.now in
     let n = given_one g.E.Events.gave g.E.Events.ended g.E.Events.stopped g.E.Events.left network c.args.from.now c.args.source.now d.events
-    c.in-Ok-Some.field-0
-    c.in-Ok-Some.event c.next_event.new.from c.events.source c.next_event.new.self c.events.out c.next_event.new.out c.in-Ok-Some.field-0-is
-    (c.in-Ok-Some.ensures.gives network c.args.from.now c.args.source.now d.events d.gave) in
+    c.in-Ok-true.field-0
+    c.next_event.new.event c.next_event.new.from c.events.source c.next_event.new.self c.events.out c.next_event.new.out c.in-Ok-true.field-0-test
+    (c.in-Ok-true.ensures.gives network c.args.from.now c.args.source.now d.events d.gave) in
     may_meet g.K.Sink g.E.Events.gave g.O.Observer.sees c.args.network.now c.args.from.now c.args.source.now c.args.observer.now c.events.from c.events.source
     c.events.world
     c.events.observer c.events.time c.events.line c.args.out.now c.events.out c.events.invariant
-    c.next_event.new.out c.next_event.ensures.nothing_put c.in-Ok-Some.ensures.quiet c.in-Ok-Some.event n.0 _ refl
+    c.next_event.new.out c.next_event.ensures.nothing_put c.in-Ok-true.ensures.quiet c.next_event.new.event n.0 _ refl
 
 pub events-smaller : goal.events-smaller
 events-smaller g c =
     let d = c.events.invariant in
     let network = c.args.network.now in
     let n = given_one g.E.Events.gave g.E.Events.ended g.E.Events.stopped g.E.Events.left network c.args.from.now c.args.source.now d.events
-    c.in-Ok-Some.field-0
-    c.in-Ok-Some.event c.next_event.new.from c.events.source c.next_event.new.self c.events.out c.next_event.new.out c.in-Ok-Some.field-0-is
-    (c.in-Ok-Some.ensures.gives network c.args.from.now c.args.source.now d.events d.gave) in
+    c.in-Ok-true.field-0
+    c.next_event.new.event c.next_event.new.from c.events.source c.next_event.new.self c.events.out c.next_event.new.out c.in-Ok-true.field-0-test
+    (c.in-Ok-true.ensures.gives network c.args.from.now c.args.source.now d.events d.gave) in
     n.1
 
 pub events-preserved : goal.events-preserved
@@ -46,19 +46,19 @@ events-preserved g c =
     let d = c.events.invariant in
     let network = c.args.network.now in
     let n = given_one g.E.Events.gave g.E.Events.ended g.E.Events.stopped g.E.Events.left network c.args.from.now c.args.source.now d.events
-    c.in-Ok-Some.field-0
-    c.in-Ok-Some.event c.next_event.new.from c.events.source c.next_event.new.self c.events.out c.next_event.new.out c.in-Ok-Some.field-0-is
-    (c.in-Ok-Some.ensures.gives network c.args.from.now c.args.source.now d.events d.gave) in
+    c.in-Ok-true.field-0
+    c.next_event.new.event c.next_event.new.from c.events.source c.next_event.new.self c.events.out c.next_event.new.out c.in-Ok-true.field-0-test
+    (c.in-Ok-true.ensures.gives network c.args.from.now c.args.source.now d.events d.gave) in
     drives_on g.K.Sink g.E.Events.gave g.O.Observer.sees c.args.network.now c.args.from.now c.args.source.now c.args.observer.now c.events.from c.events.source
     c.events.world
     c.events.observer c.events.time c.events.line c.args.out.now c.events.out c.events.invariant
-    c.next_event.new.out c.next_event.ensures.nothing_put c.in-Ok-Some.ensures.quiet c.in-Ok-Some.event n.0 c.next_event.new.from c.next_event.new.self
+    c.next_event.new.out c.next_event.ensures.nothing_put c.in-Ok-true.ensures.quiet c.next_event.new.event n.0 c.next_event.new.from c.next_event.new.self
     c.see_event.new.world c.see_event.new.observer _ c.see_event.new.out refl n.2
     (c.in-Ok.ensures.sees d.events d.notes (start_by g.K.Sink c.args.out.now c.args.observer.now)
     (comes_next g.K.Sink g.E.Events.gave g.O.Observer.sees c.args.network.now c.args.from.now c.args.source.now c.args.observer.now c.events.from
     c.events.source c.events.world
     c.events.observer c.events.time c.events.line c.args.out.now c.events.out c.events.invariant
-    c.next_event.new.out c.next_event.ensures.nothing_put c.in-Ok-Some.ensures.quiet c.in-Ok-Some.event n.0)
+    c.next_event.new.out c.next_event.ensures.nothing_put c.in-Ok-true.ensures.quiet c.next_event.new.event n.0)
     (sees_then g.K.Sink g.E.Events.gave g.O.Observer.sees c.args.network.now c.args.from.now c.args.source.now c.args.observer.now c.events.from c.events.source
     c.events.world
     c.events.observer c.events.time c.events.line c.args.out.now c.events.out c.events.invariant
@@ -68,26 +68,26 @@ events-preserved g c =
     (puts_then g.K.Sink g.E.Events.gave g.O.Observer.sees c.args.network.now c.args.from.now c.args.source.now c.args.observer.now c.events.from
     c.events.source c.events.world
     c.events.observer c.events.time c.events.line c.args.out.now c.events.out c.events.invariant
-    c.next_event.new.out c.next_event.ensures.nothing_put c.in-Ok-Some.ensures.quiet) c.in-Ok.ensures.puts)
+    c.next_event.new.out c.next_event.ensures.nothing_put c.in-Ok-true.ensures.quiet) c.in-Ok.ensures.puts)
 
 pub returns-in-Err-see_event : goal.returns-in-Err-see_event
 returns-in-Err-see_event g c =
     let d = c.events.invariant in
     let network = c.args.network.now in
     let n = given_one g.E.Events.gave g.E.Events.ended g.E.Events.stopped g.E.Events.left network c.args.from.now c.args.source.now d.events
-    c.in-Ok-Some.field-0
-    c.in-Ok-Some.event c.next_event.new.from c.events.source c.next_event.new.self c.events.out c.next_event.new.out c.in-Ok-Some.field-0-is
-    (c.in-Ok-Some.ensures.gives network c.args.from.now c.args.source.now d.events d.gave) in
+    c.in-Ok-true.field-0
+    c.next_event.new.event c.next_event.new.from c.events.source c.next_event.new.self c.events.out c.next_event.new.out c.in-Ok-true.field-0-test
+    (c.in-Ok-true.ensures.gives network c.args.from.now c.args.source.now d.events d.gave) in
     cut_at_event g.K.Sink g.E.Events.gave g.O.Observer.sees c.args.network.now c.args.from.now c.args.source.now c.args.observer.now c.events.from
     c.events.source c.events.world
     c.events.observer c.events.time c.events.line c.args.out.now c.events.out c.events.invariant
-    c.next_event.new.out c.next_event.ensures.nothing_put c.in-Ok-Some.ensures.quiet c.in-Ok-Some.event n.0 g.E.Events.ended g.O.Observer.stops
+    c.next_event.new.out c.next_event.ensures.nothing_put c.in-Ok-true.ensures.quiet c.next_event.new.event n.0 g.E.Events.ended g.O.Observer.stops
     c.in-Err-see_event.cut c.next_event.new.from c.next_event.new.self c.see_event.new.out n.2
     (c.in-Err-see_event.ensures.sees d.events d.notes (start_by g.K.Sink c.args.out.now c.args.observer.now)
     (comes_next g.K.Sink g.E.Events.gave g.O.Observer.sees c.args.network.now c.args.from.now c.args.source.now c.args.observer.now c.events.from
     c.events.source c.events.world
     c.events.observer c.events.time c.events.line c.args.out.now c.events.out c.events.invariant
-    c.next_event.new.out c.next_event.ensures.nothing_put c.in-Ok-Some.ensures.quiet c.in-Ok-Some.event n.0)
+    c.next_event.new.out c.next_event.ensures.nothing_put c.in-Ok-true.ensures.quiet c.next_event.new.event n.0)
     (sees_then g.K.Sink g.E.Events.gave g.O.Observer.sees c.args.network.now c.args.from.now c.args.source.now c.args.observer.now c.events.from c.events.source
     c.events.world
     c.events.observer c.events.time c.events.line c.args.out.now c.events.out c.events.invariant
@@ -118,26 +118,26 @@ see_until-requires-clause-asked g c =
     let d = c.events.invariant in
     let network = c.args.network.now in
     let n = given_end g.E.Events.gave g.E.Events.ended g.E.Events.stopped g.E.Events.left network c.args.from.now c.args.source.now d.events
-    c.in-Ok-None.field-0
-    c.next_event.new.from c.events.source c.next_event.new.self c.events.out c.next_event.new.out c.in-Ok-None.field-0-is
-    (c.in-Ok-None.ensures.gives network c.args.from.now c.args.source.now d.events d.gave) in
+    c.in-Ok-false.field-0 c.next_event.new.event
+    c.next_event.new.from c.events.source c.next_event.new.self c.events.out c.next_event.new.out c.in-Ok-false.field-0-test
+    (c.in-Ok-false.ensures.gives network c.args.from.now c.args.source.now d.events d.gave) in
     asked_end g.K.Sink g.E.Events.gave g.O.Observer.sees c.args.network.now c.args.from.now c.args.source.now c.args.observer.now c.events.from c.events.source
     c.events.world
     c.events.observer c.events.time c.events.line c.args.out.now c.events.out c.events.invariant
-    c.next_event.new.out c.next_event.ensures.nothing_put c.in-Ok-None.ensures.quiet n.0 c.next_unit.result c.next_unit.ensures
+    c.next_event.new.out c.next_event.ensures.nothing_put c.in-Ok-false.ensures.quiet n.0 c.next_unit.result c.next_unit.ensures
 
 pub returns-in-Ok-see_until : goal.returns-in-Ok-see_until
 returns-in-Ok-see_until g c =
     let d = c.events.invariant in
     let network = c.args.network.now in
     let n = given_end g.E.Events.gave g.E.Events.ended g.E.Events.stopped g.E.Events.left network c.args.from.now c.args.source.now d.events
-    c.in-Ok-None.field-0
-    c.next_event.new.from c.events.source c.next_event.new.self c.events.out c.next_event.new.out c.in-Ok-None.field-0-is
-    (c.in-Ok-None.ensures.gives network c.args.from.now c.args.source.now d.events d.gave) in
+    c.in-Ok-false.field-0 c.next_event.new.event
+    c.next_event.new.from c.events.source c.next_event.new.self c.events.out c.next_event.new.out c.in-Ok-false.field-0-test
+    (c.in-Ok-false.ensures.gives network c.args.from.now c.args.source.now d.events d.gave) in
     drives_all g.K.Sink g.E.Events.gave g.O.Observer.sees c.args.network.now c.args.from.now c.args.source.now c.args.observer.now c.events.from c.events.source
     c.events.world
     c.events.observer c.events.time c.events.line c.args.out.now c.events.out c.events.invariant
-    c.next_event.new.out c.next_event.ensures.nothing_put c.in-Ok-None.ensures.quiet n.0 c.next_unit.result c.next_unit.ensures g.E.Events.ended
+    c.next_event.new.out c.next_event.ensures.nothing_put c.in-Ok-false.ensures.quiet n.0 c.next_unit.result c.next_unit.ensures g.E.Events.ended
     c.next_event.new.from c.next_event.new.self c.see_until.new.world c.see_until.new.observer c.see_until.new.out n.1
     (c.in-Ok-see_until.ensures.sees d.events d.notes (start_by g.K.Sink c.args.out.now c.args.observer.now) d.stands
     (sees_then g.K.Sink g.E.Events.gave g.O.Observer.sees c.args.network.now c.args.from.now c.args.source.now c.args.observer.now c.events.from c.events.source
@@ -151,13 +151,13 @@ returns-in-Err-see_until g c =
     let d = c.events.invariant in
     let network = c.args.network.now in
     let n = given_end g.E.Events.gave g.E.Events.ended g.E.Events.stopped g.E.Events.left network c.args.from.now c.args.source.now d.events
-    c.in-Ok-None.field-0
-    c.next_event.new.from c.events.source c.next_event.new.self c.events.out c.next_event.new.out c.in-Ok-None.field-0-is
-    (c.in-Ok-None.ensures.gives network c.args.from.now c.args.source.now d.events d.gave) in
+    c.in-Ok-false.field-0 c.next_event.new.event
+    c.next_event.new.from c.events.source c.next_event.new.self c.events.out c.next_event.new.out c.in-Ok-false.field-0-test
+    (c.in-Ok-false.ensures.gives network c.args.from.now c.args.source.now d.events d.gave) in
     cut_at_end g.K.Sink g.E.Events.gave g.O.Observer.sees c.args.network.now c.args.from.now c.args.source.now c.args.observer.now c.events.from c.events.source
     c.events.world
     c.events.observer c.events.time c.events.line c.args.out.now c.events.out c.events.invariant
-    c.next_event.new.out c.next_event.ensures.nothing_put c.in-Ok-None.ensures.quiet n.0 c.next_unit.result c.next_unit.ensures g.E.Events.ended
+    c.next_event.new.out c.next_event.ensures.nothing_put c.in-Ok-false.ensures.quiet n.0 c.next_unit.result c.next_unit.ensures g.E.Events.ended
     g.O.Observer.stops c.in-Err-see_until.cut c.next_event.new.from c.next_event.new.self c.see_until.new.out n.1
     (c.in-Err-see_until.ensures.sees d.events d.notes (start_by g.K.Sink c.args.out.now c.args.observer.now) d.stands
     (sees_then g.K.Sink g.E.Events.gave g.O.Observer.sees c.args.network.now c.args.from.now c.args.source.now c.args.observer.now c.events.from c.events.source

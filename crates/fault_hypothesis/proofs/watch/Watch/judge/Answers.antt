@@ -1,31 +1,55 @@
 use Rattle.std.{proofs.Common.{◌<◌, arith, inl, inr, subst, sym}, specs.List.slice_index_or}
-use Rattle.run_law.specs.{declared.outside.Outside.TheVariants.Order, scenario.Hypothesis.{Violates, condition_number}}
-use Rattle.fault_hypothesis.proofs.Ordering.{conditions, number_at_least, number_at_most, number_of_place, up_to_place}
+use Rattle.run_law.specs.{declared.outside.Outside.{Outside, TheVariants.Order}, scenario.Hypothesis.{Violates, condition_number}}
+use Rattle.fault_hypothesis.proofs.Ordering.{conditions, first_two, none_before, none_behind, number_of_place, up_to_place}
 use Rattle.fault_hypothesis.proofs.watch.Watch.judge.Goals as goal
 
-pub conditions-init : goal.conditions-init
-conditions-init c = λ network admitted w of_network earlier low v. omega (arith, low, number_at_least earlier)
-
-pub returns-then-violates : goal.returns-then-violates
-returns-then-violates c = λ network admitted w of_network. record {
-  violates = (c.violates.ensures network admitted w of_network).0 c.if-violates.true;
+pub returns-then-violates-2 : goal.returns-then-violates-2
+returns-then-violates-2 c = λ network admitted w of_network. record {
+  violates = (c.violates-2.ensures network admitted w of_network).0 c.if-violates-2.true;
   first = λ earlier below v.
-      let lower : condition_number earlier < condition_number (slice_index_or conditions c.conditions.condition-index Order) = below in
-      c.conditions.invariant network admitted w of_network earlier
-      (omega (arith, lower, number_of_place c.conditions.condition-index Order c.conditions-test.true)) v;
+      first_two (λ (e : Outside). condition_number e < 2 → Violates network admitted c.args.event.now e → ⊥)
+      (λ low early. let yes = (c.violates.ensures network admitted w of_network).1 early in let no = c.if-violates.false in absurd cc)
+      (λ low late. absurd (omega (arith, low)))
+      earlier (omega (arith, below)) below v;
+}
+
+pub conditions-init : goal.conditions-init
+conditions-init c = record {
+  behind = c.own_of-first.ensures.behind;
+  least = c.own_of-first.ensures.least;
+  most = c.own_of-first.ensures.most;
+  none = λ network admitted w of_network earlier low v.
+      none_before network admitted c.args.event.now
+      (λ early. let yes = (c.violates.ensures network admitted w of_network).1 early in let no = c.if-violates.false in absurd cc)
+      (λ late. let yes = (c.violates-2.ensures network admitted w of_network).1 late in let no = c.if-violates-2.false in absurd cc)
+      earlier (omega (arith, low, c.own_of-first.ensures.first)) v;
+}
+
+pub returns-then-violates-3 : goal.returns-then-violates-3
+returns-then-violates-3 c = λ network admitted w of_network. record {
+  violates = (c.violates-in-conditions.ensures network admitted w of_network).0 c.if-violates-3.true;
+  first = λ earlier below v.
+      let lower : condition_number earlier < condition_number (slice_index_or conditions c.conditions.place Order) = below in
+      let within : c.conditions.place < 11 = omega (arith, c.conditions-test.true, c.conditions.invariant.most) in
+      c.conditions.invariant.none network admitted w of_network earlier (omega (arith, lower, number_of_place c.conditions.place Order within)) v;
 }
 
 pub conditions-preserved : goal.conditions-preserved
-conditions-preserved c = λ network admitted w of_network earlier low v.
-    elim (up_to_place c.conditions.condition-index Order earlier low) [
-      | inl lower ↦ c.conditions.invariant network admitted w of_network earlier lower v
-      | inr here ↦
-          let yes = (c.violates.ensures network admitted w of_network).1 (subst (Violates network admitted c.args.event.now) (sym here) v) in
-          let no = c.if-violates.false in
-          absurd cc
-    ]
+conditions-preserved c = record {
+  behind = c.conditions.invariant.behind;
+  least = omega (arith, c.conditions.invariant.least);
+  most = c.conditions.invariant.most;
+  none = λ network admitted w of_network earlier low v.
+      elim (up_to_place c.conditions.place Order earlier low) [
+        | inl lower ↦ c.conditions.invariant.none network admitted w of_network earlier lower v
+        | inr here ↦
+            let yes = (c.violates-in-conditions.ensures network admitted w of_network).1 (subst (Violates network admitted c.args.event.now) (sym here) v) in
+            let no = c.if-violates-3.false in
+            absurd cc
+      ];
+}
 
 pub returns : goal.returns
-returns c = λ network admitted w of_network condition v.
-    c.conditions.invariant network admitted w of_network condition
-    (omega (arith, c.conditions-test.false, number_at_most condition)) v
+returns c = λ network admitted w of_network.
+    none_behind network admitted c.args.event.now c.conditions.place c.conditions.invariant.least
+    (omega (arith, c.conditions-test.false, c.conditions.invariant.behind)) (c.conditions.invariant.none network admitted w of_network)

@@ -16,13 +16,13 @@ returns-in-Err-clause-judged c network events rest f found =
 pub returns-in-Err-admit-clause-judged : goal.returns-in-Err-admit-clause-judged
 returns-in-Err-admit-clause-judged c network events rest f found =
     let over = c.network-network.ensures.value ∙ f.over in
-    let has : HasEvent network events rest c.in-Ok.event = record {
+    let has : HasEvent network events rest c.line_in.new.event = record {
       is_open = c.in-None.ensures.fault network events rest f found.0;
       short = found.1;
-      read = event_as network _ _ c.text.result.now _ (Ok c.in-Ok.event) c.in-Ok.ensures.value over c.text.ensures found.2;
+      read = event_as network _ _ c.text.result.now _ (Ok c.line_in.new.event) c.in-Ok.ensures.value over c.text.ensures found.2;
     } in
-    let of_network = subst (λ (n : Network). IsOfNetwork n c.in-Ok.event.what) over c.in-Ok.ensures.of_network in (
-      (c.in-Ok.event, has, c.in-Err-admit.ensures.judged network events f.watch of_network),
+    let of_network = subst (λ (n : Network). IsOfNetwork n c.line_in.new.event.what) over c.in-Ok.ensures.of_network in (
+      (c.line_in.new.event, has, c.in-Err-admit.ensures.judged network events f.watch of_network),
       record {
         over = f.over;
         watch = subst (λ (w : Watch). Watches network w events) (sym c.in-Err-admit.ensures.unchanged) f.watch;
@@ -35,17 +35,17 @@ returns-in-Err-admit-clause-judged c network events rest f found =
 pub returns-clause-judged : goal.returns-clause-judged
 returns-clause-judged c network events rest f found =
     let over = c.network-network.ensures.value ∙ f.over in
-    let has : HasEvent network events rest c.in-Ok.event = record {
+    let has : HasEvent network events rest c.line_in.new.event = record {
       is_open = c.in-None.ensures.fault network events rest f found.0;
       short = found.1;
-      read = event_as network _ _ c.text.result.now _ (Ok c.in-Ok.event) c.in-Ok.ensures.value over c.text.ensures found.2;
+      read = event_as network _ _ c.text.result.now _ (Ok c.line_in.new.event) c.in-Ok.ensures.value over c.text.ensures found.2;
     } in
-    let of_network = subst (λ (n : Network). IsOfNetwork n c.in-Ok.event.what) over c.in-Ok.ensures.of_network in
+    let of_network = subst (λ (n : Network). IsOfNetwork n c.line_in.new.event.what) over c.in-Ok.ensures.of_network in
     let admitted = c.in-Ok-admit.ensures.judged network events f.watch of_network in
-    let ends : (c.match-matches.self ≡ true) ↔ (c.in-Ok.event.what ≡ End) = elim c.match-matches.branch [
+    let ends : (c.match-matches.self ≡ true) ↔ (c.line_in.new.event.what ≡ End) = elim c.match-matches.branch [
       | in-End w ↦ (λ t. w.in-End.is, λ e. w.self-is)
       | in_default w ↦ (λ t. absurd cc, λ e. absurd (w.in_default.not-End e))
     ] in (
       record { has = has; within = admitted.0 },
-      more_followed network events c.in-Ok.event c.args.self.now _ f has.is_open.number refl admitted.1 refl has.is_open.unended ends,
+      more_followed network events c.line_in.new.event c.args.self.now _ f has.is_open.number refl admitted.1 refl has.is_open.unended ends,
     )
