@@ -2,3 +2,4 @@ pub mod Numbers
 pub mod Documents
 pub mod Tops
 pub mod FirstBearers
+pub mod TextMoves

@@ -4,3 +4,4 @@ pub mod Values
 pub mod Reading
 pub mod Schema
 pub mod Numbering
+pub mod TextPlaces

@@ -13,6 +13,7 @@ mod reader;
 mod refusal;
 mod row;
 mod spots;
+mod text_place;
 mod values;
 mod vl;
 
@@ -21,3 +22,4 @@ pub use keys::KeyName;
 pub use law::names_law;
 pub use refusal::FileRefusal;
 pub use spots::{Spot, TableName};
+pub use text_place::{TextPlace, find_fault};

@@ -6,6 +6,7 @@ use std::alloc::Global;
 use std::env;
 use std::io::ErrorKind;
 use std::process::ExitCode;
+use tte_forms::find_fault_in;
 use tte_io::{LazyFile, OutOfMemory, PathText, StdSink};
 use tte_run::{Status, Words, tte};
 
@@ -45,10 +46,26 @@ fn run(rt: &HostRuntime, alloc: Global) -> Result<Status, OutOfMemory> {
         };
         let _told = eprintln!(rt; "tte: cannot read {unread}");
     }
+    if status == Status::NetworkRefused {
+        explain_text(rt, alloc, network);
+    }
     if words.get(0) == Some("wire") {
         explain_wire(rt, status);
     }
     Ok(status)
+}
+
+/// Says on standard error where a network's file is found to be no TOML document, if it is none.
+fn explain_text(rt: &HostRuntime, alloc: Global, path: &str) {
+    let Ok(same) = PathText::new(alloc, path) else {
+        return;
+    };
+    let mut again = LazyFile::new(rt, same);
+    if let Some(place) = find_fault_in(alloc, &mut again) {
+        let line = place.line;
+        let column = place.column;
+        let _told = eprintln!(rt; "tte: {path} is no TOML: line {line}, column {column}");
+    }
 }
 
 /// Says on standard error why `wire` ended so, which puts no line for any refusal.

@@ -5,6 +5,7 @@ ghost use Rattle.tte_forms.specs.{Putting.{Over, PutsNone}, frames.Answer.file_l
 ghost use Rattle.tte_forms.specs.networks.Accepting.{MeansAccepted, MeansNetwork};
 ghost use Rattle.tte_forms.specs.networks.NoNetworks.{IsNoNetwork, IsUnread, no_network_answer};
 
+pub(crate) mod fault_place;
 pub(crate) mod network_line;
 
 use crate::Status;

@@ -11,6 +11,7 @@ mod status;
 mod word;
 mod words;
 
+pub use accepting::fault_place::find_fault_in;
 pub use accepting::network_line::make_rule_line;
 pub use accepting::{NoNetwork, accept, put_no_network, read_unjudged};
 pub use checking::check_network;
