@@ -6,6 +6,7 @@ ghost use Rattle.run_law.specs.declared.note.Note.{Note as NoteValue};
 ghost use Rattle.tte_audit.specs.{Answers.{IsAudited, IsRefusedBy}, LineSwept.IsLineSwept, Named.IsNamed};
 ghost use Rattle.tte_audit.specs.{Report.IsNextLine, Telling.IsReadOf};
 
+use crate::hints::NameHints;
 use crate::lines::{numbered_record, plain_record};
 use crate::named::keep_names_apart;
 use crate::{AuditRefusal, ReportEvents, read_events};
@@ -52,10 +53,11 @@ fn audit_records(
         Ok(sweep) => sweep,
         Err(_) => return Err(AuditRefusal::OutOfMemory),
     };
+    let hints = NameHints::of(network);
     let mut rest = report;
     let mut records = 0;
     'records: while !rest.is_empty() {
-        match take_line(&mut sweep, network, records + 1, rest) {
+        match take_line(&mut sweep, network, &hints, records + 1, rest) {
             Ok(left) => {
                 records += 1;
                 rest = left;
@@ -73,6 +75,7 @@ fn audit_records(
 fn take_line<'r>(
     sweep: &mut Sweep,
     network: &Network,
+    hints: &NameHints,
     number: u64,
     octets: &'r [u8],
 ) -> Result<&'r [u8], AuditRefusal>
@@ -81,7 +84,7 @@ fn take_line<'r>(
     requires same { sweep.old.network.now ≡ network.now }
     ensures { IsLineSwept network.now number sweep.old sweep.new octets.now result }
 {
-    match plain_record(network, number, octets) {
+    match plain_record(network, hints, number, octets) {
         Some(taken) => {
             let note = Note {
                 number: taken.read.number,

@@ -3,13 +3,15 @@ ghost use Rattle.std.specs.Prelude.{◌++◌, ◌<◌, ◌^◌, ◌↔◌, ◌�
 ghost use Rattle.std.specs.{Prelude.{slice_index, take}, Str.Parse.{AllDigits, digits_value}};
 ghost use Rattle.report_text.specs.Ranges.{IsCount, IsShortCount, IsSignedUnits};
 
+use crate::hints::NameHints;
 use std::marker::Model;
 use tte_units::Units;
 
-/// What is left of a line, which is read from the left.
+/// What is left of a line, which is read from the left, and where the names in it most likely stand.
 #[derive(Drop)]
 pub(crate) struct Cursor<'a> {
     left: &'a [u8],
+    hints: Option<&'a NameHints>,
 }
 
 impl<'a> Model for Cursor<'a> {
@@ -22,10 +24,10 @@ impl<'a> Model for Cursor<'a> {
 
 impl<'a> Cursor<'a> {
     /// All of the line.
-    pub(crate) fn of(line: &'a [u8]) -> Cursor<'a>
+    pub(crate) fn of(line: &'a [u8], hints: Option<&'a NameHints>) -> Cursor<'a>
         ensures { result ≡ line.now }
     {
-        Cursor { left: line }
+        Cursor { left: line, hints }
     }
 
     /// What is left.
@@ -33,6 +35,30 @@ impl<'a> Cursor<'a> {
         ensures { result.now ≡ self.now }
     {
         self.left
+    }
+
+    /// The likely number of the device of this name.
+    pub(crate) fn likely_device(&self, name: &[u8]) -> usize {
+        match self.hints {
+            Some(hints) => hints.device(name),
+            None => 0,
+        }
+    }
+
+    /// The likely number of the link of this name.
+    pub(crate) fn likely_link(&self, name: &[u8]) -> usize {
+        match self.hints {
+            Some(hints) => hints.link(name),
+            None => 0,
+        }
+    }
+
+    /// The likely number of the virtual link of this name.
+    pub(crate) fn likely_vl(&self, name: &[u8]) -> usize {
+        match self.hints {
+            Some(hints) => hints.vl(name),
+            None => 0,
+        }
     }
 
     // Takes so many octets.

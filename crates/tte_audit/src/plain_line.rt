@@ -3,6 +3,7 @@ ghost use Rattle.net_plan.specs.Ranges.{IsInRange};
 ghost use Rattle.tte_audit.specs.{Plain.plain_note, Report.IsTextOf};
 
 use crate::cursor::Cursor;
+use crate::hints::NameHints;
 use crate::plain::Plain;
 use crate::plain_bodies::take_plain;
 use net_plan::Network;
@@ -19,11 +20,11 @@ pub struct PlainRecord {
 /// The record whose line, without its LF, the text is, where it is one without an event. Some such lines are not
 /// read: those with a number of more than 19 digits.
 #[tactic(auto, unfolding(report_text::specs::NoteLine::body_text))]
-pub fn plain_line(network: &Network, text: &[u8]) -> Option<PlainRecord>
+pub fn plain_line(network: &Network, hints: Option<&NameHints>, text: &[u8]) -> Option<PlainRecord>
     requires { IsInRange network.now }
     ensures { IfSome result (λ r. IsTextOf network.now (plain_note r) text.now) }
 {
-    let mut cursor = Cursor::of(text);
+    let mut cursor = Cursor::of(text, hints);
     let number = cursor.count()?;
     cursor.fixed(" ")?;
     let time = cursor.units()?;

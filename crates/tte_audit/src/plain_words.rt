@@ -31,7 +31,7 @@ pub(crate) fn take_device(network: &Network, cursor: &mut Cursor) -> Option<Devi
     ensures text { IfSome result (λ d. cursor.old ≡ device_name network.now d ++ cursor.new) }
 {
     let word = cursor.word();
-    let found = device_of_name(network, word)?;
+    let found = device_of_name(network, cursor.likely_device(word), word)?;
     Some(found)
 }
 
@@ -42,7 +42,7 @@ pub(crate) fn take_link(network: &Network, cursor: &mut Cursor) -> Option<LinkId
     ensures text { IfSome result (λ l. cursor.old ≡ link_name network.now l ++ cursor.new) }
 {
     let word = cursor.word();
-    let found = link_of_name(network, word)?;
+    let found = link_of_name(network, cursor.likely_link(word), word)?;
     Some(found)
 }
 
@@ -53,7 +53,7 @@ pub(crate) fn take_vl(network: &Network, cursor: &mut Cursor) -> Option<VlId>
     ensures text { IfSome result (λ v. cursor.old ≡ vl_name network.now v ++ cursor.new) }
 {
     let word = cursor.word();
-    let found = vl_of_name(network, word)?;
+    let found = vl_of_name(network, cursor.likely_vl(word), word)?;
     Some(found)
 }
 

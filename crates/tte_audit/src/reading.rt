@@ -114,7 +114,7 @@ pub fn note_line(network: &Network, text: &[u8]) -> Option<Note>
         ((note : NoteValue) → IsTextOf network.now note text.now → ⊥)
         (λ note. IsTextOf network.now note text.now) }
 {
-    match plain_line(network, text) {
+    match plain_line(network, None, text) {
         Some(read) => Some(Note {
             number: read.number,
             time: read.time,
