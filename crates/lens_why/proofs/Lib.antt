@@ -1,0 +1,9 @@
+pub mod Comings
+pub mod Chains
+pub mod Rows
+pub mod Windows
+pub mod Holding
+pub mod Notes
+pub mod Putting
+pub mod Telling
+pub mod Whole
