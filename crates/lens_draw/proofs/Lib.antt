@@ -1,0 +1,4 @@
+pub mod Parts
+pub mod Marking
+pub mod Titles
+pub mod Runs

@@ -1,0 +1,23 @@
+-- The titles of the marks are the lines of the records in the span.
+use Rattle.std.proofs.Common.{◌≡◌, Bool, true, false, List, [], ◌∷◌, refl}
+use Rattle.lens_draw.specs.Laws.{HaveTitles}
+use Rattle.lens_draw.specs.Picture.{mark_lines}
+use Rattle.lens_picture.specs.Laws.{shown}
+use Rattle.lens_picture.specs.Layout.{holds, moved}
+use Rattle.lens_picture.specs.Marking.{counted, sign_text}
+use Rattle.lens_picture.specs.Sketching.{moment}
+use Rattle.lens_picture.specs.declared.layout.Pen.{Pen}
+use Rattle.lens_picture.specs.declared.layout.Span.{Span}
+use Rattle.net_plan.specs.declared.network.Network.{Network}
+use Rattle.run_law.specs.declared.note.Note.{Note}
+
+pub titles_are : (network : Network) (span : Span) (pen : Pen) (notes : List Note) → HaveTitles network (mark_lines network span pen notes) (shown span notes)
+titles_are network span pen [] = tt
+titles_are network span pen (note ∷ notes) = titles_at (holds span (moment note)) refl (λ p. titles_are network span p notes)
+  where
+    titles_at : (b : Bool) → holds span (moment note) ≡ b → ((p : Pen) → HaveTitles network (mark_lines network span p notes) (shown span notes))
+        → HaveTitles network (mark_lines network span pen (note ∷ notes)) (shown span (note ∷ notes))
+    titles_at true h rest =
+        let here = counted (moved pen (moment note)) note.body in
+        rw h ((sign_text network here note.body, refl), rest here)
+    titles_at false h rest = rw h (rest pen)

@@ -1,0 +1,74 @@
+-- The lines of a picture.
+use Rattle.std.specs.Prelude.{ℕ, zero, suc, ◌+◌, nat_lt, Bool, true, false, if◌then◌else◌, List, [], ◌∷◌, ◌++◌, Option, Some, None, flat_map, length}
+use Rattle.lens_draw.specs.Signs.{close_line, sign_line}
+use Rattle.lens_draw.specs.declared.putting.Layer.{Layer}
+use Rattle.lens_draw.specs.declared.putting.Layer.TheVariants.{Opening, Shared, Caption, Lanes, Marks}
+use Rattle.lens_draw.specs.declared.putting.TheConstants.{LAYERS}
+use Rattle.lens_picture.specs.Elements.{element_line}
+use Rattle.lens_picture.specs.Layers.{on_lane, on_mark, opening_of}
+use Rattle.lens_picture.specs.Layout.{holds, moved, pen_at}
+use Rattle.lens_picture.specs.Marking.{counted, mark_line}
+use Rattle.lens_picture.specs.Plan.{Plan}
+use Rattle.lens_picture.specs.Sketching.{moment, plan_of}
+use Rattle.lens_picture.specs.declared.element.Element.{Element}
+use Rattle.lens_picture.specs.declared.element.Element.TheVariants as elements
+use Rattle.lens_picture.specs.declared.layer.LaneLayer.{LaneLayer}
+use Rattle.lens_picture.specs.declared.layer.MarkLayer.{MarkLayer}
+use Rattle.lens_picture.specs.declared.layout.Pen.{Pen}
+use Rattle.lens_picture.specs.declared.layout.Span.{Span}
+use Rattle.net_plan.specs.declared.network.Network.{Network}
+use Rattle.run_law.specs.declared.note.Note.{Note}
+
+-- the line of something that is drawn, if there is anything
+abbrev pub some_line : Network → Option Element → List (List ℕ)
+some_line network (Some element) = element_line network element ∷ []
+some_line network None = []
+
+-- the lines of so many places, from this one on
+abbrev pub lines_from : (ℕ → List (List ℕ)) → ℕ → ℕ → List (List ℕ)
+lines_from lines_at place zero = []
+lines_from lines_at place (suc n) = lines_at place ++ lines_from lines_at (place + 1) n
+
+-- something of each device
+abbrev pub lanes_lines : Network → Plan → LaneLayer → List (List ℕ)
+lanes_lines network plan layer = lines_from (λ place. some_line network (on_lane layer network plan place)) 0 (length network.device)
+
+-- something of each record that is drawn
+abbrev pub marks_lines : Network → Plan → MarkLayer → List (List ℕ)
+marks_lines network plan layer = flat_map (λ mark. some_line network (on_mark layer network plan mark)) plan.marks
+
+-- a part of the picture
+abbrev pub layer_lines : Network → Plan → Layer → List (List ℕ)
+layer_lines network plan Opening = element_line network (opening_of network plan) ∷ []
+layer_lines network plan (Shared sign) = sign_line sign ∷ []
+layer_lines network plan Caption = element_line network (elements.Caption plan.span) ∷ []
+layer_lines network plan (Lanes layer) = lanes_lines network plan layer
+layer_lines network plan (Marks layer) = marks_lines network plan layer
+
+-- all that is below the marks
+abbrev pub front_lines : Network → Plan → List (List ℕ)
+front_lines network plan = flat_map (λ layer. layer_lines network plan layer) LAYERS
+
+-- the mark of a record, with the pen there, if the record is in the span
+abbrev pub marks_of : Network → Span → Pen → Note → List (List ℕ)
+marks_of network span pen note = if holds span (moment note) then mark_line network pen note ∷ [] else []
+
+-- the pen at a record of the span, and else where it was
+abbrev pub pen_behind : Span → Pen → Note → Pen
+pen_behind span pen note = if holds span (moment note) then counted (moved pen (moment note)) note.body else pen
+
+-- the marks of records, one after another
+abbrev pub mark_lines : Network → Span → Pen → List Note → List (List ℕ)
+mark_lines network span pen [] = []
+mark_lines network span pen (note ∷ notes) =
+    let here = pen_behind span pen note in
+    marks_of network span here note ++ mark_lines network span here notes
+
+-- the marks and the end of the picture
+abbrev pub back_lines : Network → Span → Pen → List Note → List (List ℕ)
+back_lines network span pen notes = mark_lines network span pen notes ++ close_line ∷ []
+
+-- the picture of a part of a run
+abbrev pub picture_lines : Network → Span → List Note → List (List ℕ)
+picture_lines network span notes =
+    front_lines network (plan_of network span notes) ++ back_lines network span (pen_at span.from) notes

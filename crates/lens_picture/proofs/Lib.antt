@@ -1,0 +1,4 @@
+pub mod ShortNotes
+pub mod Order
+pub mod Arrows
+pub mod Painting

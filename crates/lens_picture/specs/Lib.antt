@@ -1,0 +1,13 @@
+pub mod Layout
+pub mod Marks
+pub mod Lanes
+pub mod Bodies
+pub mod Numbers
+pub mod Elements
+pub mod Glyphs
+pub mod Labels
+pub mod Plan
+pub mod Sketching
+pub mod Layers
+pub mod Marking
+pub mod Laws

@@ -1,0 +1,9 @@
+//! Tests of pictures of reports: what is drawn, and where.
+#![tactic(auto)]
+
+#[cfg(test)]
+mod drawn;
+#[cfg(test)]
+mod refused;
+#[cfg(test)]
+mod worked;
