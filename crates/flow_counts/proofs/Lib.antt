@@ -1,0 +1,11 @@
+pub mod Orders
+pub mod Tallies
+pub mod Fated
+pub mod Counts
+pub mod FlowParts
+pub mod Ends
+pub mod Leasts
+pub mod Sums
+pub mod SeenMore
+pub mod Telling
+pub mod OneTold

@@ -1,0 +1,5 @@
+pub mod Missing
+pub mod AllTold
+pub mod Listed
+pub mod Reading
+pub mod OneAnswer

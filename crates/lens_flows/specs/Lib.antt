@@ -1,0 +1,5 @@
+pub mod Lines
+pub mod Answer
+pub mod Writing
+pub mod Seeing
+pub mod Laws
