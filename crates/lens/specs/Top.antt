@@ -1,37 +1,74 @@
 -- What the program `lens` answers.
-use Rattle.std.specs.Prelude.{◌≡◌, ◌≢◌, List, None, Option, Some, codes, ℕ}
+use Rattle.std.specs.Prelude.{◌++◌, ◌≡◌, ◌≢◌, ◌⊎◌, List, None, Option, Some, [], codes, ℕ}
+use Rattle.lens_draw.specs.Answer.{IsDrawAnswer}
 use Rattle.lens_events.specs.Answer.{IsEventsAnswer}
-use Rattle.lens_forms.specs.{Forms.form_of, declared.form.Form.{Form, TheVariants.{Events, Least, Slack, SlackOf}}}
+use Rattle.lens_flows.specs.Answer.{IsFlowsAnswer}
+use Rattle.lens_forms.specs.{Forms.form_of, declared.form.Form.{Form, TheVariants.{Draw, Events, Flows, Least, Slack, SlackOf, Why}}}
 use Rattle.lens_least.specs.Answer.{IsLeastAnswer}
 use Rattle.lens_slack.specs.Answer.{IsSlackAnswer, IsSlackAnswerOf}
+use Rattle.lens_why.specs.Answer.{IsWhyAnswer}
 use Rattle.tte_forms.specs.{Answering.{Answer, ForOctets, Gives, GivesAnswer, line_answer}, Putting.Shown}
 use Rattle.tte_forms.specs.{declared.status.Status.{Status, TheVariants.Usage}, networks.Accepting.IsNetworkAnswer}
+use Rattle.tte_reports.specs.Reports.{IsReportAnswer}
+
+-- the line for words of no form
+abbrev pub usage_line : List ℕ
+usage_line =
+    codes "usage: lens slack NETWORK [RULE] | least NETWORK | why NETWORK REPORT N | "
+    ++ codes "draw NETWORK REPORT [FROM TO] | flows NETWORK REPORT | events NETWORK SEED CYCLES\n"
 
 -- the answer for words of no form: the usage line
 abbrev pub usage_answer : Answer
-usage_answer = line_answer Usage (codes "usage: lens slack NETWORK [RULE] | least NETWORK | events NETWORK SEED CYCLES\n")
+usage_answer = line_answer Usage usage_line
 
--- an answer for a form and the octets of its network file
-abbrev pub IsFormAnswer : Form → List ℕ → Answer → Type 0
-IsFormAnswer Slack octets a = IsSlackAnswer octets a
-IsFormAnswer (SlackOf rule) octets a = IsSlackAnswerOf rule octets a
-IsFormAnswer Least octets a = IsLeastAnswer octets a
-IsFormAnswer (Events seed cycles) octets a = IsNetworkAnswer (IsEventsAnswer seed cycles) octets a
+-- an answer for a form and the octets of its files, of which only `why`, `draw` and `flows` have a second
+abbrev pub IsFormAnswer : Form → List ℕ → List ℕ → Answer → Type 0
+IsFormAnswer Slack octets report a = IsSlackAnswer octets a
+IsFormAnswer (SlackOf rule) octets report a = IsSlackAnswerOf rule octets a
+IsFormAnswer Least octets report a = IsLeastAnswer octets a
+IsFormAnswer (Why number) octets report a = IsNetworkAnswer (IsReportAnswer (IsWhyAnswer number) report) octets a
+IsFormAnswer (Draw from to) octets report a =
+    IsNetworkAnswer (IsReportAnswer (IsDrawAnswer (record { from = from; to = to })) report) octets a
+IsFormAnswer Flows octets report a = IsNetworkAnswer (IsReportAnswer IsFlowsAnswer report) octets a
+IsFormAnswer (Events seed cycles) octets report a = IsNetworkAnswer (IsEventsAnswer seed cycles) octets a
 
--- an answer for the words and the octets of the network file
-abbrev pub IsAnswerBy : Option Form → List ℕ → Answer → Type 0
-IsAnswerBy None octets a = a ≡ usage_answer
-IsAnswerBy (Some form) octets a = IsFormAnswer form octets a
+-- an answer for the words and the octets of the files
+abbrev pub IsAnswerBy : Option Form → List ℕ → List ℕ → Answer → Type 0
+IsAnswerBy None octets report a = a ≡ usage_answer
+IsAnswerBy (Some form) octets report a = IsFormAnswer form octets report a
 
--- the words and the octets of the file have one answer
+-- the words and the octets of the files have one answer
 abbrev pub AnswerIsOne : Type 0
 AnswerIsOne =
-    (words : List (List ℕ)) (octets : List ℕ) (a b : Answer)
-    → IsAnswerBy (form_of words) octets a → IsAnswerBy (form_of words) octets b → a ≡ b
+    (words : List (List ℕ)) (octets report : List ℕ) (a b : Answer)
+    → IsAnswerBy (form_of words) octets report a → IsAnswerBy (form_of words) octets report b → a ≡ b
+
+-- the fact holds for the octets of the second file, if the form has one
+abbrev pub ForSecond : Form → Option (List ℕ) → (List ℕ → Type 0) → Type 0
+ForSecond (Why number) left P = ForOctets left P
+ForSecond (Draw from to) left P = ForOctets left P
+ForSecond Flows left P = ForOctets left P
+ForSecond other left P = P []
 
 -- words of no form are answered by usage, and no others are; to those of a form its answer was given, for the octets of
--- the file
-abbrev pub AnswersWords : Option Form → Option (List ℕ) → Status → Shown → Shown → Type 0
-AnswersWords None left status old new = Gives usage_answer status old new
-AnswersWords (Some form) left status old new =
-    (status ≢ Usage) × ForOctets left (λ octets. GivesAnswer (IsFormAnswer form octets) status old new)
+-- the files
+abbrev pub AnswersWords : Option Form → Option (List ℕ) → Option (List ℕ) → Status → Shown → Shown → Type 0
+AnswersWords None first second status old new = Gives usage_answer status old new
+AnswersWords (Some form) first second status old new =
+    (status ≢ Usage)
+    × ForOctets first (λ octets.
+    ForSecond form second (λ report. GivesAnswer (IsFormAnswer form octets report) status old new))
+
+-- a read failed, and nothing was put: of the first file, and then the second was not read, or of the second
+abbrev pub FailsToRead : Option Form → Type 0 → Type 0 → Type 0 → Type 0 → Type 0
+FailsToRead (Some (Why number)) InFirst InSecond Unput Unread = (InFirst × Unput × Unread) ⊎ (InSecond × Unput)
+FailsToRead (Some (Draw from to)) InFirst InSecond Unput Unread = (InFirst × Unput × Unread) ⊎ (InSecond × Unput)
+FailsToRead (Some Flows) InFirst InSecond Unput Unread = (InFirst × Unput × Unread) ⊎ (InSecond × Unput)
+FailsToRead other InFirst InSecond Unput Unread = InFirst × Unput × Unread
+
+-- only `why`, `draw` and `flows` read a second file
+abbrev pub LeavesSecond : Option Form → Type 0 → Type 0
+LeavesSecond (Some (Why number)) Unread = Unit {0}
+LeavesSecond (Some (Draw from to)) Unread = Unit {0}
+LeavesSecond (Some Flows) Unread = Unit {0}
+LeavesSecond other Unread = Unread

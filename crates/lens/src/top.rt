@@ -1,38 +1,51 @@
 ghost use Rattle.std.specs.Prelude.{◌≡◌};
 ghost use Rattle.lens_forms.specs.Forms.{form_of};
 ghost use Rattle.tte_forms.specs.{Answering.Gives, Faults.{HasCause, IsWanted, PutFailed, ReadFailed}, Putting.Over};
-ghost use Rattle.lens.specs.Top.{AnswerIsOne, AnswersWords, usage_answer};
+ghost use Rattle.lens.specs.Top.{AnswerIsOne, AnswersWords, FailsToRead, LeavesSecond, usage_answer};
 
+use lens_draw::draw_report;
 use lens_events::storm_events;
+use lens_flows::flows;
 use lens_forms::{Form, read_form};
 use lens_least::least_of_network;
+use lens_picture::Span;
 use lens_slack::{slack_of_network, slack_of_rule};
+use lens_why::why_record;
 use schedule_checker::refusal_is_one;
 use std::alloc::Global;
 use tte_forms::{Status, Words, put_last};
 use tte_io::{Sink, Source};
 
-const USAGE: &str =
-    "usage: lens slack NETWORK [RULE] | least NETWORK | events NETWORK SEED CYCLES\n";
+const USAGE: &str = "usage: lens slack NETWORK [RULE] | least NETWORK | why NETWORK REPORT N | \
+                     draw NETWORK REPORT [FROM TO] | flows NETWORK REPORT | events NETWORK SEED CYCLES\n";
 
-/// All that the program does: it answers the words, with `network` as the file that word 2 names, and writes to `out`.
-pub fn lens<A: Source, K: Sink>(
+/// All that the program does: it answers the words, with `first` as the file that word 2 names and
+/// `second` as the one that word 3 of `why`, `draw` or `flows` names, and writes to `out`.
+pub fn lens<A: Source, B: Source, K: Sink>(
     alloc: Global,
     words: &Words,
-    network: &mut A,
+    first: &mut A,
+    second: &mut B,
     out: &mut K,
 ) -> Status
     ensures general { Over K.Sink out.old out.new
-        (AnswersWords (form_of words.now) (A.left network.old) result) }
-    // Where the source failed, nothing was written.
-    ensures faults { HasCause result (ReadFailed A.Source network.old network.new × (out.new ≡ out.old))
+        (AnswersWords (form_of words.now) (A.left first.old) (B.left second.old) result) }
+    // Where a source failed, nothing was written.
+    ensures faults { HasCause result
+        (FailsToRead (form_of words.now)
+        (ReadFailed A.Source first.old first.new) (ReadFailed B.Source second.old second.new)
+        (out.new ≡ out.old) (second.new ≡ second.old))
         (PutFailed K.Sink out.old out.new) }
+    ensures second { LeavesSecond (form_of words.now) (second.new ≡ second.old) }
 {
     match read_form(words) {
-        Some(Form::Slack) => slack_of_network(alloc, network, out),
-        Some(Form::SlackOf(rule)) => slack_of_rule(alloc, network, rule, out),
-        Some(Form::Least) => least_of_network(alloc, network, out),
-        Some(Form::Events { seed, cycles }) => storm_events(alloc, network, seed, cycles, out),
+        Some(Form::Slack) => slack_of_network(alloc, first, out),
+        Some(Form::SlackOf(rule)) => slack_of_rule(alloc, first, rule, out),
+        Some(Form::Least) => least_of_network(alloc, first, out),
+        Some(Form::Why { number }) => why_record(alloc, first, second, number, out),
+        Some(Form::Draw { from, to }) => draw_report(alloc, first, second, Span { from, to }, out),
+        Some(Form::Flows) => flows(alloc, first, second, out),
+        Some(Form::Events { seed, cycles }) => storm_events(alloc, first, seed, cycles, out),
         None => put_usage(out),
     }
 }
@@ -44,7 +57,7 @@ fn put_usage<K: Sink>(out: &mut K) -> Status
     put_last(USAGE.as_bytes(), Status::Usage, out)
 }
 
-/// The words and the octets of the file have one answer.
+/// The words and the octets of the files have one answer.
 pub fn answer_law()
     ensures { AnswerIsOne }
 {

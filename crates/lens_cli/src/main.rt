@@ -6,6 +6,7 @@ use std::alloc::Global;
 use std::env;
 use std::io::ErrorKind;
 use std::process::ExitCode;
+use tte_forms::find_fault_in;
 use tte_io::{LazyFile, OutOfMemory, PathText, StdSink};
 
 /// No form has as many words.
@@ -27,17 +28,40 @@ fn words(rt: &HostRuntime, alloc: Global) -> Result<Words, OutOfMemory> {
     Ok(words)
 }
 
-/// Answers the words over a real file and standard output. A file that can't be read is named on standard error.
+/// Answers the words over real files and standard output. A file that can't be read is named on standard error.
 fn run(rt: &HostRuntime, alloc: Global) -> Result<Status, OutOfMemory> {
     let words = words(rt, alloc)?;
-    let path = words.get(1).unwrap_or("");
-    let mut network = LazyFile::new(rt, PathText::new(alloc, path)?);
+    let network = words.get(1).unwrap_or("");
+    let report = words.get(2).unwrap_or("");
+    let mut first = LazyFile::new(rt, PathText::new(alloc, network)?);
+    let mut second = LazyFile::new(rt, PathText::new(alloc, report)?);
     let mut out = StdSink::new(rt);
-    let status = lens(alloc, &words, &mut network, &mut out);
+    let status = lens(alloc, &words, &mut first, &mut second, &mut out);
     if status == Status::ReadFault {
-        let _told = eprintln!(rt; "lens: cannot read {path}");
+        let unread = if first.fault_count() > 0 {
+            network
+        } else {
+            report
+        };
+        let _told = eprintln!(rt; "lens: cannot read {unread}");
+    }
+    if status == Status::NetworkRefused {
+        explain_text(rt, alloc, network);
     }
     Ok(status)
+}
+
+/// Says on standard error where a network's file is found to be no TOML document, if it is none.
+fn explain_text(rt: &HostRuntime, alloc: Global, path: &str) {
+    let Ok(same) = PathText::new(alloc, path) else {
+        return;
+    };
+    let mut again = LazyFile::new(rt, same);
+    if let Some(place) = find_fault_in(alloc, &mut again) {
+        let line = place.line;
+        let column = place.column;
+        let _told = eprintln!(rt; "lens: {path} is no TOML: line {line}, column {column}");
+    }
 }
 
 /// Says on standard error what a status means that puts no line; a file that can't be read is named before.
@@ -45,7 +69,9 @@ fn explain(rt: &HostRuntime, status: Status) {
     let meaning = match status {
         Status::WriteFault => "cannot write to standard output",
         Status::OutOfMemory => "out of memory",
-        Status::TooLong => "more than is read: 262144 octets",
+        Status::TooLong => {
+            "more than is read: 262144 octets, or 16777216 of a report; or a picture of more than 65536 pixels"
+        }
         Status::ReadFault
         | Status::Done
         | Status::Usage

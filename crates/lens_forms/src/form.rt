@@ -1,6 +1,8 @@
-ghost use Rattle.std.specs.Prelude.{◌≡◌, IfSome};
-ghost use Rattle.lens_forms.specs.Forms.{IsFormInRange, IsInequality, events_form, form_of, inequality_spelled};
-ghost use Rattle.lens_forms.specs.Forms.{network_form, slack_of_form};
+ghost use Rattle.std.specs.Prelude.{◌≡◌, ◌≤◌, IfSome};
+ghost use Rattle.lens_forms.specs.Forms.{IsFormInRange, IsInequality, draw_form, events_form, five_words_form};
+ghost use Rattle.lens_forms.specs.Forms.{form_of, four_words_form};
+ghost use Rattle.lens_forms.specs.Forms.{inequality_spelled, network_form, number_spelled, slack_of_form};
+ghost use Rattle.lens_forms.specs.Forms.{three_words_form, why_form};
 
 use schedule_tables::Rule;
 use tte_forms::{Words, cycles_spelled, number_up_to};
@@ -14,6 +16,19 @@ pub enum Form {
     SlackOf(Rule),
     /// `least NETWORK`.
     Least,
+    /// `why NETWORK REPORT N`.
+    Why {
+        /// At least 1.
+        number: u64,
+    },
+    /// `draw NETWORK REPORT FROM TO`, and `draw NETWORK REPORT` from the least time to the greatest.
+    Draw {
+        from: u64,
+        /// No earlier than `from`.
+        to: u64,
+    },
+    /// `flows NETWORK REPORT`.
+    Flows,
     /// `events NETWORK SEED CYCLES`.
     Events {
         seed: u64,
@@ -52,29 +67,97 @@ fn inequality_spelled(text: &str) -> Option<Rule>
     }
 }
 
-/// The form of a command with a network and a rule.
-fn slack_of_form(command: &str, rule: &str) -> Option<Form>
-    ensures form { result ≡ slack_of_form command.now rule.now }
+/// The form of a network and a rule.
+fn slack_of_form(rule: &str) -> Option<Form>
+    ensures form { result ≡ slack_of_form rule.now }
     ensures range { IfSome result IsFormInRange }
 {
-    if command != "slack" {
-        return None;
-    }
     let rule = inequality_spelled(rule)?;
     Some(Form::SlackOf(rule))
 }
 
-/// The form of the events of a storm.
-fn events_form(command: &str, seed: &str, cycles: &str) -> Option<Form>
-    ensures form { result ≡ events_form command.now seed.now cycles.now }
+/// The form of a command with three words, by its first and its last.
+fn three_words_form(command: &str, third: &str) -> Option<Form>
+    ensures form { result ≡ three_words_form command.now third.now }
     ensures range { IfSome result IsFormInRange }
 {
-    if command != "events" {
-        return None;
+    match command {
+        "slack" => slack_of_form(third),
+        "draw" => Some(Form::Draw {
+            from: 0,
+            to: u64::MAX,
+        }),
+        "flows" => Some(Form::Flows),
+        _ => None,
     }
+}
+
+/// The number of a record, if the text is the decimal of one that is not 0, without leading zeros.
+fn number_spelled(text: &str) -> Option<u64>
+    ensures value { result ≡ number_spelled text.now }
+    ensures least { IfSome result (λ n. 1 ≤ n) }
+{
+    match number_up_to(u64::MAX, text)? {
+        0 => None,
+        number => Some(number),
+    }
+}
+
+/// The form of a record of a report.
+fn why_form(number: &str) -> Option<Form>
+    ensures form { result ≡ why_form number.now }
+    ensures range { IfSome result IsFormInRange }
+{
+    let number = number_spelled(number)?;
+    Some(Form::Why { number })
+}
+
+/// The form of the events of a storm.
+fn events_form(seed: &str, cycles: &str) -> Option<Form>
+    ensures form { result ≡ events_form seed.now cycles.now }
+    ensures range { IfSome result IsFormInRange }
+{
     let seed = number_up_to(u64::MAX, seed)?;
     let cycles = cycles_spelled(cycles)?;
     Some(Form::Events { seed, cycles })
+}
+
+/// The form of a command with four words, by its first and its last two.
+fn four_words_form(command: &str, third: &str, last: &str) -> Option<Form>
+    ensures form { result ≡ four_words_form command.now third.now last.now }
+    ensures range { IfSome result IsFormInRange }
+{
+    match command {
+        "why" => why_form(last),
+        "events" => events_form(third, last),
+        _ => None,
+    }
+}
+
+/// The form of a part of a run.
+fn draw_form(from: &str, to: &str) -> Option<Form>
+    ensures form { result ≡ draw_form from.now to.now }
+    ensures range { IfSome result IsFormInRange }
+{
+    let from = number_up_to(u64::MAX, from)?;
+    let to = number_up_to(u64::MAX, to)?;
+    if from <= to {
+        Some(Form::Draw { from, to })
+    } else {
+        None
+    }
+}
+
+/// The form of a command with five words, by its first and its last two.
+fn five_words_form(command: &str, fourth: &str, last: &str) -> Option<Form>
+    ensures form { result ≡ five_words_form command.now fourth.now last.now }
+    ensures range { IfSome result IsFormInRange }
+{
+    if command == "draw" {
+        draw_form(fourth, last)
+    } else {
+        None
+    }
 }
 
 /// The form of the words, if they have one.
@@ -85,8 +168,9 @@ pub fn read_form(words: &Words) -> Option<Form>
     let command = words.get(0)?;
     match words.len() {
         2 => network_form(command),
-        3 => slack_of_form(command, words.get(2)?),
-        4 => events_form(command, words.get(2)?, words.get(3)?),
+        3 => three_words_form(command, words.get(2)?),
+        4 => four_words_form(command, words.get(2)?, words.get(3)?),
+        5 => five_words_form(command, words.get(3)?, words.get(4)?),
         _ => None,
     }
 }

@@ -4,7 +4,7 @@ use std::process::Abort;
 use std::test::Fail;
 use tte_io::{MemorySink, MemorySource, OutOfMemory};
 
-// One case of the program: its words, its file, the reads and puts that fail, and what it answers.
+// One case of the program with one file: its words, the file, the reads and puts that fail, and what it answers.
 #[derive(Clone, Copy)]
 pub(super) struct Case<'a> {
     pub(super) words: &'a [&'a str],
@@ -28,8 +28,10 @@ pub(super) fn words_of(alloc: Global, texts: &[&str]) -> Result<Words, OutOfMemo
 pub(super) fn try_case(rt: &impl Abort, alloc: Global, case: &Case<'_>) -> Result<(), Fail> {
     let words = words_of(alloc, case.words)?;
     let mut network = MemorySource::new(alloc, case.octets, 17, case.failing_reads)?;
+    // A form with one file reads no second: its first read fails.
+    let mut unread = MemorySource::new(alloc, &[], 17, &[1])?;
     let mut out = MemorySink::new(alloc, 4096, case.failing_puts)?;
-    let status = lens(alloc, &words, &mut network, &mut out);
+    let status = lens(alloc, &words, &mut network, &mut unread, &mut out);
     // Where memory is wanting a front of the text was written. It is not where there is enough.
     if status == Status::OutOfMemory {
         assert!(rt; case.text.as_bytes().starts_with(out.written()));

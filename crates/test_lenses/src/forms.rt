@@ -5,7 +5,7 @@ use schedule_tables::Rule;
 use std::test::Fail;
 
 const USAGE: &str =
-    "usage: lens slack NETWORK [RULE] | least NETWORK | events NETWORK SEED CYCLES\n";
+    "usage: lens slack NETWORK [RULE] | least NETWORK | why NETWORK REPORT N | draw NETWORK REPORT [FROM TO] | flows NETWORK REPORT | events NETWORK SEED CYCLES\n";
 
 const NO_FORMS: &[&[&str]] = &[
     &[],
@@ -24,6 +24,19 @@ const NO_FORMS: &[&[&str]] = &[
     &["slack", "a", ""],
     &["slack", "a", "8", "9"],
     &["Slack", "a"],
+    &["why"],
+    &["why", "a"],
+    &["why", "a", "b"],
+    &["why", "a", "b", "1", "2"],
+    &["why", "a", "1", "b"],
+    &["Why", "a", "b", "1"],
+    // There is no record 0, and numbers have at most 64 bits.
+    &["why", "a", "b", "0"],
+    &["why", "a", "b", "18446744073709551616"],
+    &["why", "a", "b", "01"],
+    &["why", "a", "b", "+1"],
+    &["why", "a", "b", " 1"],
+    &["why", "a", "b", ""],
     &["events", "a"],
     &["events", "a", "1"],
     &["events", "a", "1", "2", "3"],
@@ -102,6 +115,18 @@ fn words_of_slack_are_read(rt: HostRuntime) -> Result<(), Fail> {
 fn words_of_least_are_read(rt: HostRuntime) -> Result<(), Fail> {
     let words = words_of(rt.alloc(), &["least", "a"])?;
     assert!(rt; read_form(&words) == Some(Form::Least));
+    Ok(())
+}
+
+// Numbers of records.
+const NUMBERS: &[(&str, u64)] = &[("1", 1), ("98", 98), ("18446744073709551615", u64::MAX)];
+
+#[test]
+fn words_of_why_are_read(rt: HostRuntime) -> Result<(), Fail> {
+    for (text, number) in NUMBERS {
+        let words = words_of(rt.alloc(), &["why", "a", "b", text])?;
+        assert!(rt; read_form(&words) == Some(Form::Why { number: *number }));
+    }
     Ok(())
 }
 

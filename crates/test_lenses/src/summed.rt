@@ -23,8 +23,9 @@ fn try_events(
     }
     let words = words_of(alloc, words)?;
     let mut network = SteadySource::new(alloc, WORKED.as_bytes())?;
+    let mut unread = SteadySource::new(alloc, &[])?;
     let mut trace = MemorySink::new(alloc, ROOM, &[])?;
-    let status = lens(alloc, &words, &mut network, &mut trace);
+    let status = lens(alloc, &words, &mut network, &mut unread, &mut trace);
     assert_eq!(rt; status, Status::Done);
 
     let mut network = SteadySource::new(alloc, WORKED.as_bytes())?;
