@@ -19,6 +19,9 @@ _tte_forms=(
 _lens_forms=(
     'slack NETWORK [RULE]'
     'least NETWORK'
+    'why NETWORK REPORT N'
+    'draw NETWORK REPORT [FROM TO]'
+    'flows NETWORK REPORT'
     'events NETWORK SEED CYCLES'
 )
 
