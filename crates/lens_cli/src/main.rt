@@ -57,7 +57,7 @@ fn explain_text(rt: &HostRuntime, alloc: Global, path: &str) {
         return;
     };
     let mut again = LazyFile::new(rt, same);
-    if let Some(place) = find_fault_in(alloc, &mut again) {
+    if let Ok(Some(place)) = find_fault_in(alloc, &mut again) {
         let line = place.line;
         let column = place.column;
         let _told = eprintln!(rt; "lens: {path} is no TOML: line {line}, column {column}");

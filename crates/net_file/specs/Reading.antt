@@ -5,7 +5,8 @@ use Rattle.std.specs.Prelude.{ℤ}
 use Rattle.toml.specs.Data.{Data, Items, Members, as_array, as_integer, as_str, as_table, get, item, member, no_items}
 use Rattle.toml.specs.Data.{no_members}
 use Rattle.tte_units.specs.{Amount.units_of, declared.units.Units.Units}
-use Rattle.net_file.specs.{KeyTexts.key_text, Numbering.Numbering, Steps.{◌>>=◌, Read, where_there}, Values.number_within}
+use Rattle.net_file.specs.{KeyTexts.key_text, Numbering.Numbering, Steps.{◌>>=◌, Read, where_there}}
+use Rattle.net_file.specs.{Values.number_within}
 use Rattle.net_file.specs.declared.keys.KeyName.{KeyName}
 use Rattle.net_file.specs.declared.refusal.FileRefusal.TheVariants.{Kind, Missing, Name, Range, Unknown}
 use Rattle.net_file.specs.declared.spots.{Place.Place, Spot.Spot}

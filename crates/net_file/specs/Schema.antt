@@ -1,6 +1,7 @@
 -- The tables of a network file: the keys of each in their order, and what each may hold.
 use Rattle.std.specs.Option.{unwrap_or}
-use Rattle.std.specs.Prelude.{if◌then◌else◌, ◌++◌, ◌^◌, ◌∷◌, Err, List, None, Ok, Option, Some, [], length, not, ℕ}
+use Rattle.std.specs.Prelude.{if◌then◌else◌, ◌++◌, ◌^◌, ◌∷◌, ◌≡◌, Err, IsUtf8, List, None, Ok, Option, Some, [], length}
+use Rattle.std.specs.Prelude.{not, ℕ}
 use Rattle.std.specs.Str.{is_utf8}
 use Rattle.net_plan.specs.{Bearers.{device_names, link_names, vl_names}, Places.{is_end_system, is_master}}
 use Rattle.net_plan.specs.declared.{network.Network.Network, tables.{Device.Device, Link.Link, Role.Role, Row.Row}}
@@ -198,6 +199,10 @@ network_in (Some entries) = network_of (table entries)
 -- the document that a text is, where it is one
 abbrev pub parsed : List ℕ → Option Members
 parsed text = if is_utf8 text then parse_document text else None
+
+-- the text is UTF-8, and no document
+abbrev pub IsNoDocument : List ℕ → Type 0
+IsNoDocument text = IsUtf8 text × (parse_document text ≡ None)
 
 -- the network that a text means, or the first fault of the text; this is the grammar of a network file:
 -- what the definitions of this file say, in their order, is what a file means, and nothing stands above it

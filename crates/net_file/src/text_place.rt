@@ -1,6 +1,8 @@
-ghost use Rattle.std.specs.Prelude.{◌+◌, ◌<◌, ◌^◌, ◌≡◌, ◌≤◌, IfSome, None, length, take, ℕ};
-ghost use Rattle.net_file.specs.{Schema.parsed, TextPlaces.{place_after, place_behind, text_start}};
+ghost use Rattle.std.specs.Prelude.{◌+◌, ◌<◌, ◌^◌, ◌≡◌, ◌≢◌, ◌≤◌, ◌↔◌, IfErr, IfOk, IfSome, None, length, take, ℕ};
+ghost use Rattle.net_file.specs.{Schema.IsNoDocument, TextPlaces.{place_after, place_behind, text_start}};
+ghost use Rattle.net_file.specs.declared.refusal.FileRefusal.TheVariants.{OutOfMemory};
 
+use crate::FileRefusal;
 use std::alloc::Global;
 
 /// Where in a text something stands.
@@ -52,18 +54,25 @@ fn place_behind_text(text: &[u8]) -> TextPlace
     place
 }
 
-/// Where a text is found to be no TOML document, or None where it is one, is no UTF-8, or memory runs out.
+/// Where a text is found to be no TOML document; None where it is one, and where it is no UTF-8.
 ///
 /// The text has at most 262,144 octets. The place is that at which the reader of TOML gives up: its clause ties it to
-/// the text, and to no rule of the grammar.
-pub fn find_fault(alloc: Global, text: &[u8]) -> Option<TextPlace>
+/// the text, and to no rule of the grammar. The error is that memory ran out.
+pub fn find_fault(alloc: Global, text: &[u8]) -> Result<Option<TextPlace>, FileRefusal>
     requires { length text.now ≤ 262144 }
-    ensures fault { IfSome result (λ _. parsed text.now ≡ None) }
-    ensures place { IfSome result (λ place. (count : ℕ) × (count ≤ length text.now)
-        × (place ≡ place_behind (take count text.now) text_start)) }
+    ensures found { IfOk result (λ found. (found ≢ None) ↔ IsNoDocument text.now) }
+    ensures place { IfOk result (λ found. IfSome found (λ place. (count : ℕ) × (count ≤ length text.now)
+        × (place ≡ place_behind (take count text.now) text_start))) }
+    ensures err { IfErr result (λ e. e ≡ OutOfMemory) }
 {
-    let document = std::str::from_utf8(text).ok()?;
-    let error = toml::table_from_str(alloc, document).err()?;
-    let span = error.span()?;
-    Some(place_behind_text(&text[..span.start]))
+    let Ok(document) = std::str::from_utf8(text) else {
+        return Ok(None);
+    };
+    let Err(error) = toml::table_from_str(alloc, document) else {
+        return Ok(None);
+    };
+    match error.span() {
+        Some(span) => Ok(Some(place_behind_text(&text[..span.start]))),
+        None => Err(FileRefusal::OutOfMemory),
+    }
 }
