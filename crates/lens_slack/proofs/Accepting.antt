@@ -48,17 +48,17 @@ none_short (Some f) others met none = let same = count_enough f others met in om
 
 -- ---- what steps without a short finding and without a broken rule say
 
-abbrev Holds : Network → Step → Type 0
+abbrev pub Holds : Network → Step → Type 0
 Holds network (Judged rule) = IsKept (plan_rule rule) network
 Holds network (Measured measure) = (f : Finding) → IsTightestOf network measure (Some f) → IsEnough f
 Holds network (Listed measure) = Unit {0}
 
-abbrev AllHold : Network → List Step → Type 0
+abbrev pub AllHold : Network → List Step → Type 0
 AllHold network [] = Unit {0}
 AllHold network (step ∷ steps) = Holds network step × AllHold network steps
 
 module _ (network : Network) (tree : IsTree network) where
-  measure_holds : (measure : Measure) (o : Option Finding) → IsTightestOf network measure o → IsMet o → Holds network (Measured measure)
+  pub measure_holds : (measure : Measure) (o : Option Finding) → IsTightestOf network measure o → IsMet o → Holds network (Measured measure)
   measure_holds measure o is met f tightest = subst IsMet (one_of network tree measure o (Some f) is tightest) met
 
   steps_hold : (steps : List Step) (fs : List Finding) → AreOf network steps fs Whole → shorts_of fs ≡ 0 → AllHold network steps
@@ -122,7 +122,7 @@ each network shape h met Forwarding = met Forwarding tt
 each network shape h met RowsOfDevice = h.1.1.1.1.1.1.1.1.1.1.1.1.1.1.1.1.1.0
 
 -- all rules are kept where those of the shape are, and all steps hold
-rules_kept : (network : Network) → KeepsBelow 8 network → AllHold network all_steps → KeepsRules network
+pub rules_kept : (network : Network) → KeepsBelow 8 network → AllHold network all_steps → KeepsRules network
 rules_kept network shape h =
     let tree = tree_of rules_give_trees network shape in
     let met : (rule : Rule) → IsInequality rule → IsKept rule network =

@@ -9,6 +9,7 @@ pub mod Taken
 pub mod Writable
 pub mod Files
 pub mod Accepting
+pub mod FirstShort
 pub mod Refusing
 pub mod OneSlack
 pub mod Named

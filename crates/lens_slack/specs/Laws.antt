@@ -1,14 +1,13 @@
 -- What `slack` has to do with the rules and with `check`.
-use Rattle.std.specs.Prelude.{◌<◌, ◌↔◌, ◌≡◌, Some, ℕ}
+use Rattle.std.specs.{List.All, Prelude.{◌++◌, ◌<◌, ◌↔◌, ◌∷◌, ◌≡◌, List, ℕ}}
 use Rattle.lens_forms.specs.Forms.{IsInequality}
 use Rattle.net_plan.specs.{Ranges.IsInRange, declared.network.Network.Network}
-use Rattle.schedule_tables.specs.{Numbers.number_of, Rules.{IsFirstBroken, IsKept, IsKeptAt, KeepsRules}}
+use Rattle.schedule_tables.specs.Rules.{IsFirstBroken, IsKept, IsKeptAt, KeepsRules}
 use Rattle.schedule_tables.specs.declared.rule.Rule.{Rule}
 use Rattle.tte_forms.specs.{Answering.Answer, declared.status.Status.TheVariants.Done}
-use Rattle.lens_slack.specs.{Answer.IsSlackOf, Bounds.IsBoundAt, Lines.spot_index}
-use Rattle.lens_slack.specs.{Spots.{IsSpotAt, IsTightestOf, rule_of, spot_at, spots_of}, Steps.all_steps}
-use Rattle.lens_slack.specs.{Tightest.{IsEnough, IsTightestAt}, declared.spot.{Finding.Finding, Measure.Measure}}
-use Rattle.lens_slack.specs.declared.spot.Spot.{Spot}
+use Rattle.lens_slack.specs.{Answer.IsSlackOf, Bounds.IsBoundAt, Finds.IsFoundIn, Lines.{spot_index, spot_rule}}
+use Rattle.lens_slack.specs.{Spots.IsSpotAt, Steps.{all_steps, rule_steps}, Tightest.IsEnough}
+use Rattle.lens_slack.specs.declared.{measuring.Ending.Ending, spot.Finding.Finding, spot.Spot.Spot}
 
 -- a rule that is an inequality is kept at a place exactly where at each of its spots there the network has what is
 -- wanted
@@ -28,27 +27,20 @@ SlackAccepts =
 abbrev pub KeepsOthers : Network → Type 0
 KeepsOthers network = (rule : Rule) → ¬ IsInequality rule → IsKept rule network
 
--- the finding is the tightest of its measure, it is short, and so is none of a measure of an earlier rule
-pub record IsFirstShort (network : Network) (measure : Measure) (f : Finding) : Type 0 where
-  pub tightest : IsTightestOf network measure (Some f)
+-- the finding is the first of these that is short
+pub record IsFirstShort (fs : List Finding) (f : Finding) : Type 0 where
+  pub front : List Finding
+  pub behind : List Finding
+  pub is : fs ≡ front ++ f ∷ behind
+  pub enough : All IsEnough front
   pub short : f.has < f.wants
-  pub first : (earlier : Measure) (g : Finding) → number_of (rule_of earlier) < number_of (rule_of measure)
-      → IsTightestOf network earlier (Some g) → IsEnough g
 
--- the spot is one of the measure's, it is short, and so is none that is looked at before it
-pub record IsFirstShortSpot (network : Network) (measure : Measure) (f : Finding) : Type 0 where
-  pub number : ℕ
-  pub within : number < spots_of measure network
-  pub tightest : IsTightestAt network (spot_at measure number) (Some f)
-  pub short : f.has < f.wants
-  pub first : (n : ℕ) (g : Finding) → n < number → IsTightestAt network (spot_at measure n) (Some g) → IsEnough g
-
--- where the other rules are kept, the first measure that is short is of the rule that `check` refuses, and its first
--- spot that is short is at the place that `check` tells
+-- where the other rules are kept and one is broken, the answer has a line that is short, and the first one is of the
+-- rule that `check` refuses; and of the lines of this rule alone the first is at the place that `check` tells
 pub record SlackRefuses : Type 0 where
-  pub rule : (network : Network) (rule : Rule) (place : ℕ) (measure : Measure) (f : Finding)
-      → KeepsOthers network → IsFirstBroken network rule place → IsFirstShort network measure f
-      → rule_of measure ≡ rule
-  pub place : (network : Network) (rule : Rule) (place : ℕ) (measure : Measure) (f : Finding)
-      → KeepsOthers network → IsFirstBroken network rule place → rule_of measure ≡ rule
-      → IsFirstShortSpot network measure f → spot_index f.spot ≡ place
+  pub rule : (network : Network) (rule : Rule) (place : ℕ) (fs : List Finding) (end : Ending)
+      → KeepsOthers network → IsFirstBroken network rule place → IsFoundIn network all_steps fs end
+      → (f : Finding) × IsFirstShort fs f × (spot_rule f.spot ≡ rule)
+  pub place : (network : Network) (rule : Rule) (place : ℕ) (fs : List Finding) (end : Ending)
+      → KeepsOthers network → IsFirstBroken network rule place → IsFoundIn network (rule_steps rule) fs end
+      → (f : Finding) × IsFirstShort fs f × (spot_rule f.spot ≡ rule) × (spot_index f.spot ≡ place)
