@@ -5,6 +5,7 @@ pub mod Agreements
 pub mod Alike
 pub mod Applies
 pub mod Arrivals
+pub mod AtOnce
 pub mod Awaits
 pub mod BefallenLaws
 pub mod Beginnings
@@ -18,6 +19,7 @@ pub mod Forwards
 pub mod Freshness
 pub mod Gave
 pub mod Givings
+pub mod Halves
 pub mod Hears
 pub mod HiddenCauses
 pub mod Laters
@@ -29,6 +31,7 @@ pub mod MayGive
 pub mod Nearings
 pub mod Offs
 pub mod Onwards
+pub mod OwnPlaces
 pub mod Puts
 pub mod Retries
 pub mod Ripenings

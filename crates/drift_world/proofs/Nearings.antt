@@ -247,29 +247,6 @@ settled_less network old new was is most same =
     ap (λ (t : State _ _). length network.device - t.shown) same in
     inl (omega (arith, none, one, waiting, shown, most))
 
--- what is first on a wire arrives
-pub arrived_less : {C M : Type 0} (network : Network) (old mid new : State C M)
-    → mid ≡ record old { machines = mid.machines; under_way = mid.under_way; settled = mid.settled; made = mid.made; early = false }
-    → length old.under_way.entries ≡ length mid.under_way.entries + 1 → new ≡ record mid { timers = new.timers } → IsLess network old new
-arrived_less network old mid new acted shorter same =
-    let sum = ap (λ (t : State _ _). burden network t) acted in
-    rekeyed_less network old mid new (omega (arith, sum, shorter)) same
-
--- a frame that waits is judged
-pub ripened_less : {C M : Type 0} (network : Network) (old mid new : State C M)
-    → mid ≡ record old { early = false; machines = mid.machines; waiting = mid.waiting; settled = mid.settled }
-    → length old.waiting.items ≡ length mid.waiting.items + 1 → new ≡ record mid { timers = new.timers } → IsLess network old new
-ripened_less network old mid new acted shorter same =
-    let sum = ap (λ (t : State _ _). burden network t) acted in
-    rekeyed_less network old mid new (omega (arith, sum, shorter)) same
-
--- the frame that is first at a port leaves
-pub departed_less : {C M : Type 0} (network : Network) (old new : State C M)
-    → new ≡ record old { early = false; under_way = new.under_way; settled = new.settled }
-    → length old.under_way.entries ≡ length new.under_way.entries + 1 → IsLess network old new
-departed_less network old new acted shorter =
-    let sum = ap (λ (t : State _ _). burden network t) acted in inl (omega (arith, sum, shorter))
-
 -- a clock is shown
 pub shown_less : {C M : Type 0} (network : Network) (old new : State C M)
     → new ≡ record old { early = false; settled = new.settled; shown = old.shown + 1 } → old.shown < length network.device → IsLess network old new
@@ -290,7 +267,7 @@ on_both (Err e) P Q R p q f = tt
 -- what nears a state with more room nears the state before it
 pub nears_then : {C M : Type 0} (E : Type 0) (network : Network) (until : ℕ) (old mid new : State C M) (result : Result Turn E)
     → mid ≡ record old { settled = mid.settled } → IfOk result (Nears network until mid new) → IfOk result (Nears network until old new)
-nears_then E network until old mid new (Ok (Gives note)) same nears = tt
+nears_then E network until old mid new (Ok Gives) same nears = tt
 nears_then E network until old mid new (Ok Ends) same nears = tt
 nears_then E network until old mid new (Ok GoesOn) same nears =
     subst (λ (n : ℕ). distance network until new < n) (ap (λ (t : State _ _). distance network until t) same) nears

@@ -167,7 +167,7 @@ module _ (s : Scenario) (network : Network) (now : ℕ) (hs : List Happening) (w
       (subst (λ (l : List Settled). IsPutAt (ripe_record w (ripe.Dropped reason)) old l a.at) (sym a.more) a.first) order refl
 
 -- none of them needs octets
-record_fits : (w : Waits) (result : Ripe) → have_octets (ripe_record w result)
+pub record_fits : (w : Waits) (result : Ripe) → have_octets (ripe_record w result)
 record_fits w ripe.Opened = tt
 record_fits w ripe.Joined = tt
 record_fits w ripe.Repeat = tt
@@ -188,13 +188,6 @@ octets_fit w result old new a all =
     (all_put have_octets (ripe_record w result) old a.mid a.at a.first (record_fits w result) all)
 
 -- ---- so the state stands behind it
-
--- wherever the old state stood and this came first, the new one stands behind it
-abbrev pub StandsAfter : {C M : Type 0} → (C → ℕ → ℕ) → (M → Network → DeviceId → Node → Type 0) → Network → State C M → State C M → Waits → Type 0
-StandsAfter reading stands network old new w =
-    (s : Scenario) (notes : List Note) (was : Stands reading (keeps stands) s (world_of network old) notes)
-    → ComesFirst reading (keeps stands) s (world_of network old) notes was (ripe_place old.time (waiting_as w))
-    → StandsBehind reading (keeps stands) s (world_of network new) notes (behind (ripe_place old.time (waiting_as w)))
 
 pub ripened : {C M : Type 0} (reading : C → ℕ → ℕ) (stands : M → Network → DeviceId → Node → Type 0) (network : Network) (state : State C M)
     (w : Waits) (new : List Waits) (machine after : Kept M) (result : Ripe) (settled : List Settled)

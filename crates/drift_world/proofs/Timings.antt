@@ -109,7 +109,7 @@ module _ {C M : Type 0} (reading : C → ℕ → ℕ) (stands : M → Network �
   pub rekeyed_by : (device : DeviceId) (old mid new : State C M) → AreTimed reading stands network old → device.0 < length network.device
       → ((i : ℕ) → (i ≡ device.0 → ⊥) → slice_get mid.clocks.items i ≡ slice_get old.clocks.items i)
       → ((i : ℕ) → (i ≡ device.0 → ⊥) → slice_get mid.machines.items i ≡ slice_get old.machines.items i)
-      → ((w : Waits) → (w.device.0 ≡ device.0 → ⊥) → IsIn w mid.waiting.items ↔ IsIn w old.waiting.items)
+      → ((w : Waits) → (w.device.0 ≡ device.0 → ⊥) → w.device.0 < length network.device → IsIn w mid.waiting.items ↔ IsIn w old.waiting.items)
       → mid.time ≡ old.time → mid.timers ≡ old.timers
       → new ≡ record mid { timers = new.timers }
       → IsTimed reading stands network new.timers new device
@@ -127,7 +127,8 @@ module _ {C M : Type 0} (reading : C → ℕ → ℕ) (stands : M → Network �
               still_timed reading stands network old new other (are.each other there)
               (ap (λ (s : State C M). slice_get s.clocks.items other.0) same ∙ clocks other.0 ne)
               (ap (λ (s : State C M). slice_get s.machines.items other.0) same ∙ machines other.0 ne)
-              (λ w at. subst (λ (s : State C M). IsIn w s.waiting.items ↔ IsIn w old.waiting.items) (sym same) (waiting w (λ e. ne (sym at ∙ e))))
+              (λ w at. subst (λ (s : State C M). IsIn w s.waiting.items ↔ IsIn w old.waiting.items) (sym same)
+              (waiting w (λ e. ne (sym at ∙ e)) (omega (arith, at, there))))
               (let now = ap (λ (s : State C M). s.time) same in omega (arith, now, time))
               (others other.0 ne (λ e. omega (arith, e, there)) ∙ ap (λ (l : List ℕ). slice_get l other.0) timers)
               (others (length network.device + other.0) (λ e. omega (arith, e, of_it)) (λ e. ne (omega (arith, e)))
@@ -149,8 +150,8 @@ module _ {C M : Type 0} (reading : C → ℕ → ℕ) (stands : M → Network �
       → (All (λ (time : ℕ). mid.time ≤ time) mid.timers → All (λ (time : ℕ). new.time ≤ time) new.timers)
       → AreTimed reading stands network new
   rekeyed device old mid new are of_it changes timers same own sized others later =
-      rekeyed_by device old mid new are of_it (λ i ne. ap (λ (c : _). slice_get c.items i) changes.clocks) changes.machines changes.waiting changes.time
-      timers same own sized others later
+      rekeyed_by device old mid new are of_it (λ i ne. ap (λ (c : _). slice_get c.items i) changes.clocks) changes.machines
+      (λ w ne lt. changes.waiting w ne) changes.time timers same own sized others later
 
   -- a step that leaves what timers are for as it was
   pub unmoved : (old new : State C M) → AreTimed reading stands network old → new.clocks ≡ old.clocks → new.machines.items ≡ old.machines.items

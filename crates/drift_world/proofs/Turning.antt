@@ -109,21 +109,27 @@ module _ {C M : Type 0} (last_step : C → ℕ) (reading : C → ℕ → ℕ) (s
     first = comes_first state source well.running.s well.running.notes well.sound room foremost first now well.running.is;
   }
 
-  -- nothing comes before the first that is settled, where it is ahead of all that is under way
-  pub gives_first : (state : State C M) (source : Source) (z : Settled) (others : List Settled) (s : Scenario) (notes : List Note)
-      → IsSound last_step network state → IsForemost reading stands network state source
-      → state.settled.items ≡ z ∷ others → IsAhead (own_numbers source) z
-      → (old : Stands reading (keeps stands) s (world_of network state) notes)
-      → NoSourceBefore s (happenings s.network notes) old.cursor (place_of (settled_at network state.time z))
-  gives_first state source z others s notes sound foremost whole ahead old =
+  -- nothing that is under way is before a record that is ahead of the first source
+  pub nothing_ahead : (state : State C M) (source : Source) (z : Settled) → IsForemost reading stands network state source → IsAhead (own_numbers source) z
+      → HasNothingBefore reading stands network state (place_of (settled_at network state.time z))
+  nothing_ahead state source z foremost ahead =
       let w = source_place state.time source in
       let p = place_of (settled_at network state.time z) in
       let before = ahead_before reading stands network state source z foremost.there ahead in
+      sooner_too reading stands network state w p foremost.nothing (λ b. never_self p (chain p w p before b))
+
+  -- nothing comes before the first that is settled, where nothing that is under way is before it
+  pub first_gives : (state : State C M) (z : Settled) (others : List Settled) (s : Scenario) (notes : List Note)
+      → IsSound last_step network state → HasNothingBefore reading stands network state (place_of (settled_at network state.time z))
+      → state.settled.items ≡ z ∷ others
+      → (old : Stands reading (keeps stands) s (world_of network state) notes)
+      → NoSourceBefore s (happenings s.network notes) old.cursor (place_of (settled_at network state.time z))
+  first_gives state z others s notes sound nothing whole old =
+      let p = place_of (settled_at network state.time z) in
       let after = none_sooner network state.time state.settled.items p (settled_in_order reading (keeps stands) s (world_of network state) notes old)
       (λ x rest is. λ b. never_self p (subst (λ (y : Settled). IsBefore (place_of (settled_at network state.time y)) p) (first_is x rest is) b)) in
       nothing_comes_before reading (keeps stands) s (world_of network state) notes p old after
-      (of_world last_step reading stands s network state notes old sound.sized p sound.under_way
-      (sooner_too reading stands network state w p foremost.nothing (λ b. never_self p (chain p w p before b))))
+      (of_world last_step reading stands s network state notes old sound.sized p sound.under_way nothing)
     where
       first_is : (x : Settled) (rest : List Settled) → state.settled.items ≡ x ∷ rest → x ≡ z
       first_is x rest is = let e : x ∷ rest ≡ z ∷ others = sym is ∙ whole in cc
@@ -293,11 +299,11 @@ now_so (Clock device) not = tt
 now_so (Later time) not = not time refl
 
 -- where time passes, no record is given
-pub none_given : {C M : Type 0} (E : Type 0) (old new : State C M) (until : ℕ) (turn : Turn) → PassSays old new until turn
-    → given_in {E = E} (Ok turn) ≡ []
-none_given E old new until (Gives note) says = absurd says
-none_given E old new until Ends says = refl
-none_given E old new until GoesOn says = refl
+pub none_given : {C M : Type 0} (E : Type 0) (old new : State C M) (until : ℕ) (note : Note) (turn : Turn) → PassSays old new until turn
+    → given_in {E = E} (Ok turn) note ≡ []
+none_given E old new until note Gives says = absurd says
+none_given E old new until note Ends says = refl
+none_given E old new until note GoesOn says = refl
 
 -- where nothing is given, the records are the same
 pub same_records : {C M : Type 0} (reading : C → ℕ → ℕ) (stands : M → Network → DeviceId → Node → Type 0) (s : Scenario) (world : World C M)
@@ -321,12 +327,12 @@ after_then old mid new first second = record {
 }
 
 -- what a turn says of the state before it, it says of one with as many records given
-pub says_then : {C M : Type 0} (E : Type 0) (old mid new : State C M) (until : ℕ) (result : Result Turn E) → mid.given ≡ old.given
-    → mid.ended ≡ old.ended → IfOk result (TurnSays mid new until) → IfOk result (TurnSays old new until)
-says_then E old mid new until (Ok (Gives note)) given ended says = (says.0, says.1, says.2 ∙ ap (λ (n : ℕ). n + 1) given)
-says_then E old mid new until (Ok GoesOn) given ended says = (says.0, says.1 ∙ given)
-says_then E old mid new until (Ok Ends) given ended says = λ is limit. says (ended ∙ is) limit
-says_then E old mid new until (Err e) given ended says = tt
+pub says_then : {C M : Type 0} (E : Type 0) (old mid new : State C M) (until : ℕ) (note : Note) (result : Result Turn E) → mid.given ≡ old.given
+    → mid.ended ≡ old.ended → IfOk result (TurnSays mid new until note) → IfOk result (TurnSays old new until note)
+says_then E old mid new until note (Ok Gives) given ended says = (says.0, says.1, says.2 ∙ ap (λ (n : ℕ). n + 1) given)
+says_then E old mid new until note (Ok GoesOn) given ended says = (says.0, says.1 ∙ given)
+says_then E old mid new until note (Ok Ends) given ended says = λ is limit. says (ended ∙ is) limit
+says_then E old mid new until note (Err e) given ended says = tt
 
 -- where it fails, the present time is that of the state before it
 pub err_then : {C M : Type 0} {T : Type 0} (E : Type 0) (old mid new : State C M) (result : Result T E) → mid.time ≡ old.time

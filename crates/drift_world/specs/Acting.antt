@@ -1,9 +1,11 @@
 -- What a device has to do, and where its acts lead.
-use Rattle.std.specs.Prelude.{◌<ℤ◌, ◌≡◌, ◌⊎◌, Bool, List, Some, false, pos, slice_get, true, ℕ}
+use Rattle.std.specs.Prelude.{◌<ℤ◌, ◌≡◌, ◌⊎◌, Bool, List, Option, Some, false, pos, slice_get, true, ℕ}
 use Rattle.net_plan.specs.declared.{ids.DeviceId.DeviceId, network.Network.Network}
-use Rattle.run_law.specs.{declared.note.Note.Note, machines.{Nodes.Node, Tasks.{IsPending, Task, reading_for}}}
+use Rattle.run_law.specs.declared.note.Note.{Note}
+use Rattle.run_law.specs.machines.{Nodes.Node, Tasks.{IsDueReading, IsPending, Task, reading_for}}
 use Rattle.run_law.specs.records.{Happenings.Happening, Order.{IsBefore, IsIn, behind}, Ranks.place_of}
 use Rattle.run_law.specs.scenario.Scenarios.{Scenario}
+use Rattle.tte_units.specs.declared.units.Units.{Units}
 use Rattle.world_law.specs.world.{Calls.{IsDueNow, moment_of}, World.{Stands, act_place}}
 use Rattle.world_state.specs.{Keeping.keeps, declared.kept.Kept.Kept}
 use Rattle.drift_world.specs.{Views.world_of, declared.state.State.State}
@@ -22,6 +24,14 @@ abbrev pub IsIdle : {M : Type 0} → (M → Network → DeviceId → Node → Ty
 IsIdle stands s now device machine =
     (node : Node) (task : Task) → keeps stands machine s.network device node → IsPending s.network device node task
     → pos (s.reading device now) <ℤ reading_for s.network node task
+
+-- the device acts by itself at this reading next, or never
+abbrev pub IsNextDue : {C M : Type 0} → (M → Network → DeviceId → Node → Type 0) → State C M → DeviceId → Option Units
+    → Type 0
+IsNextDue stands state device due =
+    (machine : Kept _) (network : Network) (d : DeviceId) (node : Node)
+    → slice_get state.machines.items device.0 ≡ Some machine → keeps stands machine network d node
+    → IsDueReading network d node due
 
 -- where an act leaves the cursor, if more is due or not
 abbrev pub act_cursor : Bool → ℕ → DeviceId → List ℕ

@@ -1,8 +1,13 @@
 -- The frame of a record is given out.
-use Rattle.std.specs.Prelude.{◌+◌, ◌<◌, ◌^◌, ◌≡◌, ◌≤◌, IfNone, IfSome, None, Option, Some, length, slice_get, ℕ}
+use Rattle.std.specs.Prelude.{◌+◌, ◌<◌, ◌^◌, ◌≡◌, ◌≤◌, IfNone, IfSome, List, None, Option, Some, [], length}
+use Rattle.std.specs.Prelude.{slice_get, ℕ}
 use Rattle.net_plan.specs.declared.{ids.DeviceId.DeviceId, network.Network.Network}
 use Rattle.pcf_values.specs.declared.pcf.Pcf.{Pcf}
-use Rattle.run_law.specs.declared.note.NoteBody.{NoteBody}
+use Rattle.run_law.specs.declared.note.{Note.Note, NoteBody.NoteBody}
+use Rattle.run_law.specs.{machines.Nodes.Node, scenario.Scenarios.Scenario}
+use Rattle.world_law.specs.world.World.{Stands}
+use Rattle.world_state.specs.{Keeping.keeps, declared.contents.Settled.Settled}
+use Rattle.drift_world.specs.Views.{with_first}
 use Rattle.world_state.specs.{Frames.IsOneMore, Giving.{ArePutTo, awaited_by, giver_of}, declared.giving.Giving.Giving}
 use Rattle.drift_world.specs.declared.state.State.{State}
 
@@ -39,3 +44,11 @@ pub record IsGivenOut {C M : Type 0} (reading : C → ℕ
 abbrev pub AreLow : {C M : Type 0} → (C → ℕ → ℕ) → State C M → Type 0
 AreLow {C} reading state =
     (k : ℕ) (clock : C) → slice_get state.clocks.items k ≡ Some clock → reading clock state.time ≤ 2 ^ 60 + 2 ^ 51
+
+-- some scenario and records leave the state where it stands, if this record is settled, and it alone
+pub record IsRunningWith {C M : Type 0} (reading : C → ℕ → ℕ) (stands : M → Network → DeviceId → Node
+    → Type 0) (network : Network) (state : State C M)
+    (first : Settled) : Type 0 where
+  pub s : Scenario
+  pub notes : List Note
+  pub is : Stands reading (keeps stands) s (with_first network state first []) notes

@@ -37,7 +37,7 @@ distance network until state = ((until - state.time) + burden network state) * (
 -- a turn that goes on comes nearer to the time
 abbrev pub Nears : {C M : Type 0} → Network → ℕ → State C M → State C M → Turn → Type 0
 Nears network until old new GoesOn = distance network until new < distance network until old
-Nears network until old new (Gives note) = Unit {0}
+Nears network until old new Gives = Unit {0}
 Nears network until old new Ends = Unit {0}
 
 -- in each scenario whose clocks, ways and broken devices the state shows, the device has nothing to do now

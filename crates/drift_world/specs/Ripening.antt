@@ -1,7 +1,7 @@
 -- The first of the frames that wait at a device.
 use Rattle.std.specs.Prelude.{◌≡◌, ◌≤ℤ◌, Some, pos, slice_get, ℕ}
 use Rattle.net_plan.specs.declared.ids.DeviceId.{DeviceId}
-use Rattle.run_law.specs.records.Order.{IsBefore, IsIn}
+use Rattle.run_law.specs.{declared.steps.Ripe.{Ripe, TheVariants.{Dropped, Integrates}}, records.Order.{IsBefore, IsIn}}
 use Rattle.world_law.specs.world.World.{ripe_place}
 use Rattle.world_state.specs.{Frames.first_of, Views.waiting_as, declared.contents.Waits.Waits}
 use Rattle.drift_world.specs.declared.state.State.{State}
@@ -17,3 +17,9 @@ pub record IsFirstRipe {C M : Type 0} (reading : C → ℕ
   pub reached : one.point.0 ≤ℤ pos (reading clock state.time)
   pub none : (w : Waits) → IsIn w state.waiting.items → w.device ≡ device → w.point.0 ≤ℤ pos (reading clock state.time)
       → IsBefore (ripe_place state.time (waiting_as w)) (ripe_place state.time (waiting_as one)) → ⊥
+
+-- what becomes of it has one record, which is how it is judged
+abbrev pub IsJudged : Ripe → Type 0
+IsJudged Integrates = ⊥
+IsJudged (Dropped reason) = ⊥
+IsJudged other = Unit {0}

@@ -1,6 +1,7 @@
 -- The run that a world gives: where the events applied to it, and the records that it gave, leave it.
-use Rattle.std.specs.Prelude.{◌-◌, ◌<ℤ◌, ◌<◌, ◌^◌, ◌∷◌, ◌≡◌, ◌≤ℤ◌, ◌≤◌, ◌⊎◌, All, Err, IfNone, List, MatchResult, Ok}
-use Rattle.std.specs.Prelude.{Option, Result, Some, [], false, length, option_to_list, pos, slice_get, true, ℕ, ℤ}
+use Rattle.std.specs.Prelude.{◌-◌, ◌<ℤ◌, ◌<◌, ◌^◌, ◌∷◌, ◌≡◌, ◌≤ℤ◌, ◌≤◌, ◌⊎◌, All, Bool, Err, IfNone, List, MatchResult}
+use Rattle.std.specs.Prelude.{None, Ok, Option, Result, Some, [], false, length, option_to_list, pos, slice_get, true}
+use Rattle.std.specs.Prelude.{ℕ, ℤ}
 use Rattle.net_plan.specs.{Belonging.IsOfNetwork, declared.event.{Event.Event, What.{What, TheVariants.Hold}}}
 use Rattle.net_plan.specs.declared.{ids.DeviceId.DeviceId, network.Network.Network}
 use Rattle.run_law.specs.declared.note.{Note.Note, NoteBody.TheVariants.Event as Befalls}
@@ -52,6 +53,16 @@ event_note number line event = record { number = number; time = event.time; body
 -- behind the records of the events of a time, which have the rank 1
 abbrev pub behind_events : ℕ → List ℕ
 behind_events time = time ∷ 2 ∷ []
+
+-- the record that was put here, if one was given
+abbrev pub option_given : Bool → Note → Option Note
+option_given true note = Some note
+option_given false note = None
+
+-- the next record, where one was put here
+abbrev pub next_of : {E : Type 0} → Result Bool E → Note → Result (Option Note) E
+next_of (Ok given) note = Ok (option_given given note)
+next_of (Err e) note = Err e
 
 -- the record that was given, if one was
 abbrev pub given_by : {E : Type 0} → Result (Option Note) E → List Note

@@ -52,6 +52,27 @@ pub record ActsAt {C M : Type 0} (reading : C → ℕ → ℕ) (stands : M → N
   pub one : time < never → (node : Node) → keeps stands machine network device node
       → (task : Task) × IsPending network device node task × (reading_for network node task ≤ℤ pos (reading clock time))
 
+-- the timer of the device for the frames that wait at it is right
+pub record IsRipeTimed {C M : Type 0} (reading : C → ℕ → ℕ) (timers : List ℕ) (state : State C M)
+    (device : DeviceId) : Type 0 where
+  pub clock : C
+  pub of_clock : slice_get state.clocks.items device.0 ≡ Some clock
+  pub ripe : ℕ
+  pub of_ripe : slice_get timers device.0 ≡ Some ripe
+  pub ripens : IsRipeAt reading clock state.waiting.items device.0 state.time ripe
+
+-- its timer for what it does by itself is right
+pub record IsActTimed {C M : Type 0} (reading : C → ℕ → ℕ) (stands : M → Network → DeviceId → Node
+    → Type 0) (network : Network) (timers : List ℕ)
+    (state : State C M) (device : DeviceId) : Type 0 where
+  pub clock : C
+  pub of_clock : slice_get state.clocks.items device.0 ≡ Some clock
+  pub machine : Kept M
+  pub of_machine : slice_get state.machines.items device.0 ≡ Some machine
+  pub act : ℕ
+  pub of_act : slice_get timers (length network.device + device.0) ≡ Some act
+  pub acts : ActsAt reading stands network clock machine device state.time act
+
 -- the timers of the device are right: one for the frames that wait at it, and one for what it does by itself
 pub record IsTimed {C M : Type 0} (reading : C → ℕ → ℕ) (stands : M → Network → DeviceId → Node
     → Type 0) (network : Network) (timers : List ℕ)

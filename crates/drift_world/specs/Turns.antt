@@ -10,6 +10,7 @@ use Rattle.world_queue.specs.{Places.{IsFirst, numbers_of}, declared.Place.Place
 use Rattle.world_state.specs.{Frames.first_of, Keeping.keeps, Places.own_place, Views.waiting_as}
 use Rattle.world_state.specs.declared.{contents.{Settled.Settled, Waits.Waits}, kept.Kept.Kept}
 use Rattle.world_timers.specs.declared.Due.{Due}
+use Rattle.drift_world.specs.Nearing.{IsLess}
 use Rattle.drift_world.specs.{Sourcing.{HasNothingBefore, IsRipePlace, due_place}, Views.world_of, Wells.IsWell}
 use Rattle.drift_world.specs.declared.{next.Turn.{Turn, TheVariants.{Ends, Gives, GoesOn}}, source.Source.Source}
 use Rattle.drift_world.specs.declared.source.Source.TheVariants.{Act, Arrival, Clock, Departure, Events, Later}
@@ -99,6 +100,16 @@ own_numbers (Departure place) = Some (place.rank ∷ place.device ∷ place.link
 own_numbers (Clock device) = Some (14 ∷ device.0 ∷ [])
 own_numbers (Later time) = None
 
+-- the first of them: more than that of any record, where it is not of the present instant
+abbrev pub rank_in_order : Source → ℕ
+rank_in_order Events = 2
+rank_in_order (Arrival place) = place.rank
+rank_in_order (Ripening w) = 3
+rank_in_order (Act device) = 4
+rank_in_order (Departure place) = place.rank
+rank_in_order (Clock device) = 14
+rank_in_order (Later time) = 15
+
 -- the record is before these numbers, if there are such
 abbrev pub IsAhead : Option (List ℕ) → Settled → Type 0
 IsAhead None z = Unit {0}
@@ -130,12 +141,12 @@ pub record IsForemost {C M : Type 0} (reading : C → ℕ → ℕ) (stands : M �
 
 -- ---- what a turn leaves
 
--- the record that a turn gave, if it gave one
-abbrev pub given_in : {E : Type 0} → Result Turn E → List Note
-given_in (Ok (Gives note)) = note ∷ []
-given_in (Ok Ends) = []
-given_in (Ok GoesOn) = []
-given_in (Err e) = []
+-- the record that a turn gave, if it gave this one
+abbrev pub given_in : {E : Type 0} → Result Turn E → Note → List Note
+given_in (Ok Gives) note = note ∷ []
+given_in (Ok Ends) note = []
+given_in (Ok GoesOn) note = []
+given_in (Err e) note = []
 
 -- the clocks are as they were, no time is taken back, and the end has come only if it had
 pub record IsAfter {C M : Type 0} (old new : State C M) : Type 0 where
@@ -150,14 +161,14 @@ pub record HasCome {C M : Type 0} (new : State C M) (until : ℕ) : Type 0 where
 
 -- what the answer of a turn says, besides where it stands: the record given is before the time; where it goes on, the
 -- present is; and where it ends, and the end has not come, the world has come to the time
-abbrev pub TurnSays : {C M : Type 0} → State C M → State C M → ℕ → Turn → Type 0
-TurnSays old new until (Gives note) = (note.time ≡ units_of new.time) × (new.time < until) × (new.given ≡ old.given + 1)
-TurnSays old new until GoesOn = (new.time < until) × (new.given ≡ old.given)
-TurnSays old new until Ends = old.ended ≡ false → until ≤ 2 ^ 60 → HasCome new until
+abbrev pub TurnSays : {C M : Type 0} → State C M → State C M → ℕ → Note → Turn → Type 0
+TurnSays old new until note Gives = (note.time ≡ units_of new.time) × (new.time < until) × (new.given ≡ old.given + 1)
+TurnSays old new until note GoesOn = (new.time < until) × (new.given ≡ old.given)
+TurnSays old new until note Ends = old.ended ≡ false → until ≤ 2 ^ 60 → HasCome new until
 
 -- what it says, where time passes
 abbrev pub PassSays : {C M : Type 0} → State C M → State C M → ℕ → Turn → Type 0
-PassSays old new until (Gives note) = ⊥
+PassSays old new until Gives = ⊥
 PassSays old new until GoesOn = (new.time < until) × (new.given ≡ old.given)
 PassSays old new until Ends = old.ended ≡ false → until ≤ 2 ^ 60 → HasCome new until
 
@@ -178,6 +189,19 @@ pub record IsStep {C M : Type 0} (last_step : C → ℕ) (reading : C → ℕ �
   pub given : new.given ≡ old.given
 
 -- a record of the present instant is given
-abbrev pub GivesAt : {C M : Type 0} → State C M → State C M → Turn → Type 0
-GivesAt old new (Gives note) = (note.time ≡ units_of new.time) × (new.time ≡ old.time) × (new.given ≡ old.given + 1)
-GivesAt old new other = ⊥
+abbrev pub GivesAt : {C M : Type 0} → State C M → State C M → Note → Turn → Type 0
+GivesAt old new note Gives = (note.time ≡ units_of new.time) × (new.time ≡ old.time) × (new.given ≡ old.given + 1)
+GivesAt old new note other = ⊥
+
+-- what a turn says that works a source off: it gives a record of the present instant, or there is less to work off
+abbrev pub WorkSays : {C M : Type 0} → Network → State C M → State C M → Note → Turn → Type 0
+WorkSays network old new note Gives = GivesAt old new note Gives
+WorkSays network old new note GoesOn = (new.time ≡ old.time) × (new.given ≡ old.given) × IsLess network old new
+WorkSays network old new note Ends = ⊥
+
+-- nothing of the present instant that is to come stands before a place of a lower rank
+abbrev pub IsNextRank : {C M : Type 0} → (C → ℕ → ℕ) → (M → Network → DeviceId → Node → Type 0) → Network → State C M
+    → ℕ → Type 0
+IsNextRank reading stands network state next =
+    (rank : ℕ) (rest : List ℕ) → rank < next
+    → HasNothingBefore reading stands network state (state.time ∷ rank ∷ rest)

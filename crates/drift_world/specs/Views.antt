@@ -30,6 +30,12 @@ world_of network s = record {
   shown = s.shown;
 }
 
+-- the world in which these records are settled
+abbrev pub with_settled : {C M : Type 0} → Network → State C M → List Settled → World C (Kept M)
+with_settled network state settled = record (world_of network state) {
+  settled = map (settled_at network state.time) settled;
+}
+
 -- the world whose first settled record is this
 abbrev pub with_first : {C M : Type 0} → Network → State C M → Settled → List Settled → World C (Kept M)
 with_first network state first rest = record (world_of network state) {

@@ -9,7 +9,8 @@ ghost use Rattle.world_law.specs.world.{Calls.{HasActed, IsDueNow, moment_of}, M
 ghost use Rattle.world_law.specs.world.World.{Stands, act_place};
 ghost use Rattle.world_state.specs.{Acting.{AreOutcomes, HasItsRow, IsDispatched}, Keeping.keeps};
 ghost use Rattle.world_state.specs.declared.kept.Kept.{Kept as KeptValue};
-ghost use Rattle.drift_world.specs.{Acting.{IsDueAt, IsIdle, SettlesFrom, act_cursor}, Nearing.IsIdleAt, Showing.IsOf};
+ghost use Rattle.drift_world.specs.{Acting.{IsDueAt, IsIdle, IsNextDue, SettlesFrom, act_cursor}, Nearing.IsIdleAt};
+ghost use Rattle.drift_world.specs.Showing.{IsOf};
 ghost use Rattle.drift_world.specs.{Sound.{IsSized, IsSound}, Stepping.{ChangesOnly, IsAt}, Views.world_of};
 
 use crate::state::State;
@@ -32,6 +33,15 @@ fn taken(room: &mut Vec<u8>) -> Vec<u8>
 {
     let alloc = *room.allocator();
     replace(room, Vec::new(alloc))
+}
+
+/// What a device has to do after an act.
+#[derive(Clone, Copy)]
+struct ToDo {
+    /// Is more due at the instant?
+    more: bool,
+    /// The reading at which it acts next, if it does.
+    due: Option<Units>,
 }
 
 /// Is the reading that is due, if there is one, reached?
@@ -110,23 +120,31 @@ impl<C: Clock, M: Machine + Drop> State<C, M> {
         }
     }
 
-    /// Is something due for the device at the present instant?
-    fn is_due(&self, network: &Network, device: DeviceId) -> bool
+    /// What the device has to do, now and next, at this moment.
+    fn left_to_do(&self, network: &Network, device: DeviceId, moment: Moment) -> ToDo
         requires sized { IsSized C.last_step network.now self.now }
         requires there { device.0 < length network.now.device }
-        ensures yes { result ≡ true → (s : Scenario) (machine : KeptValue M) → IsOf C.reading s network.now self.now
+        requires moment { (s : Scenario) → IsOf C.reading s network.now self.now
+            → moment ≡ moment_of s device self.now.time }
+        ensures next { IsNextDue M.stands self.now device result.due }
+        ensures yes { result.more ≡ true → (s : Scenario) (machine : KeptValue M)
+            → IsOf C.reading s network.now self.now
             → slice_get self.now.machines.items device.0 ≡ Some machine
             → IsDueNow (keeps M.stands) s.network device (moment_of s device self.now.time) machine }
-        ensures no { result ≡ false → (s : Scenario) (machine : KeptValue M) → IsOf C.reading s network.now self.now
+        ensures no { result.more ≡ false → (s : Scenario) (machine : KeptValue M)
+            → IsOf C.reading s network.now self.now
             → slice_get self.now.machines.items device.0 ≡ Some machine
             → IsIdle M.stands s self.now.time device machine }
     {
-        let moment = self.moment_at(network, device);
-        is_reached(self.machines[device.0 as usize].due(), moment.reading)
+        let due = self.machines[device.0 as usize].due();
+        ToDo {
+            more: is_reached(due, moment.reading),
+            due,
+        }
     }
 
-    /// The device does the first of all that is due. Is more due at the instant?
-    fn act_once(&mut self, network: &Network, device: DeviceId) -> bool
+    /// The device does the first of all that is due. What has it to do then?
+    fn act_once(&mut self, network: &Network, device: DeviceId) -> ToDo
         requires sound { IsSound C.last_step network.now self.old }
         requires range { IsInRange network.now }
         requires there { device.0 < length network.now.device }
@@ -149,9 +167,10 @@ impl<C: Clock, M: Machine + Drop> State<C, M> {
             → ComesFirst C.reading (keeps M.stands) s (world_of network.now self.old) notes old
             (act_place self.old.time device)
             → StandsBehind C.reading (keeps M.stands) s (world_of network.now self.new) notes
-            (act_cursor result self.old.time device) }
-        ensures due { result ≡ true → IsDueAt C.reading M.stands network.now self.new device }
-        ensures idle { result ≡ false → IsIdleAt C.reading M.stands network.now self.new device }
+            (act_cursor result.more self.old.time device) }
+        ensures next { IsNextDue M.stands self.new device result.due }
+        ensures due { result.more ≡ true → IsDueAt C.reading M.stands network.now self.new device }
+        ensures idle { result.more ≡ false → IsIdleAt C.reading M.stands network.now self.new device }
         ensures acted { (s : Scenario) (notes : List Note) (machine : KeptValue M)
             → Stands C.reading (keeps M.stands) s (world_of network.now self.old) notes
             → slice_get self.old.machines.items device.0 ≡ Some machine
@@ -162,7 +181,10 @@ impl<C: Clock, M: Machine + Drop> State<C, M> {
         let moment = self.moment_at(network, device);
         let was = self.machines[index].shown();
         let Some(act) = self.machines[index].act(moment) else {
-            return false;
+            return ToDo {
+                more: false,
+                due: None,
+            };
         };
         let is = self.machines[index].shown();
         let mut room = taken(&mut self.spare);
@@ -170,7 +192,7 @@ impl<C: Clock, M: Machine + Drop> State<C, M> {
         self.spare = room;
         put_both(&mut self.settled, outcomes);
         self.early = false;
-        self.is_due(network, device)
+        self.left_to_do(network, device, moment)
     }
 
     /// Makes place for two more records, for which there are numbers, and takes memory for the octets of a frame.
@@ -190,19 +212,23 @@ impl<C: Clock, M: Machine + Drop> State<C, M> {
         if self.settled.len() as u64 >= most - self.given {
             return Err(OutOfMemory);
         }
-        if self.spare.reserve(MOST_OCTETS).is_err() {
+        if self.spare.capacity() < MOST_OCTETS && self.spare.reserve(MOST_OCTETS).is_err() {
             return Err(OutOfMemory);
         }
-        if self.settled.reserve(2).is_err() {
+        if self.settled.capacity() - self.settled.len() < 2 && self.settled.reserve(2).is_err() {
             return Err(OutOfMemory);
         }
         Ok(())
     }
 
-    /// The device does all that is due at the present instant.
+    /// The device does all that is due at the present instant. The reading at which it acts next is answered.
     ///
     /// On an error it may have done some of it, and more is due.
-    pub fn act_first(&mut self, network: &Network, device: DeviceId) -> Result<(), OutOfMemory>
+    pub fn act_first(
+        &mut self,
+        network: &Network,
+        device: DeviceId,
+    ) -> Result<Option<Units>, OutOfMemory>
         requires sound { IsSound C.last_step network.now self.old }
         requires range { IsInRange network.now }
         requires there { device.0 < length network.now.device }
@@ -228,6 +254,7 @@ impl<C: Clock, M: Machine + Drop> State<C, M> {
             (act_place self.old.time device)
             → OnErr result (Stands C.reading (keeps M.stands) s (world_of network.now self.new) notes) }
         ensures idle { OnOk result (IsIdleAt C.reading M.stands network.now self.new device) }
+        ensures next { IfOk result (IsNextDue M.stands self.new device) }
     {
         let mut acts: u32 = 0;
         'acts: loop {
@@ -235,8 +262,9 @@ impl<C: Clock, M: Machine + Drop> State<C, M> {
                 Ok(()) => (),
                 Err(_) => return Err(OutOfMemory),
             }
-            if !self.act_once(network, device) {
-                return Ok(());
+            let left = self.act_once(network, device);
+            if !left.more {
+                return Ok(left.due);
             }
             acts += 1;
         }

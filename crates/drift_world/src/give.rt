@@ -156,7 +156,7 @@ impl<C: Clock, M: Machine + Drop> State<C, M> {
     }
 
     /// Gives the first settled record, which was taken out, its number, and launches what it does.
-    fn give_first(&mut self, network: &Network, first: Settled) -> Given
+    pub fn give_first(&mut self, network: &Network, first: Settled, note: &mut Given)
         requires sound { IsSound C.last_step network.now self.old }
         requires range { IsInRange network.now }
         requires may { MayBeGiven network.now first.body first.frame first.octets }
@@ -165,7 +165,7 @@ impl<C: Clock, M: Machine + Drop> State<C, M> {
         requires capacity { IfSome (waiter_of first.body) (λ d. 0 < room_of self.old.waiting d.0) }
         requires place { IfSome (spot_of first.body) (HasPlace self.old.stored) }
         requires low { AreLow C.reading self.old }
-        ensures note { result ≡ record {
+        ensures note { note.new ≡ record {
           number = self.old.given + 1;
           time = units_of self.old.time;
           body = first.body;
@@ -184,7 +184,7 @@ impl<C: Clock, M: Machine + Drop> State<C, M> {
             → NoSourceBefore s (happenings s.network notes) old.cursor (place_of z)
             → StandsBehind C.reading (keeps M.stands) s (world_of network.now self.new) (notes ++ note_of notes z ∷ [])
             (behind (place_of z)) }
-        ensures arrived { ArrivedAt (length network.now.device) result.body }
+        ensures arrived { ArrivedAt (length network.now.device) note.new.body }
         ensures others { ChangesOnly (changed_device first.body) self.old self.new }
     {
         let number = self.given + 1;
@@ -197,11 +197,9 @@ impl<C: Clock, M: Machine + Drop> State<C, M> {
         } = first;
         self.launch_octets(network, &body, frame, octets, number);
         self.given = number;
-        Given {
-            number,
-            time: Units::from_amount(self.time),
-            body,
-        }
+        note.number = number;
+        note.time = Units::from_amount(self.time);
+        note.body = body;
     }
 
     /// The device at which the frame of the first settled record may wait.
@@ -229,7 +227,7 @@ impl<C: Clock, M: Machine + Drop> State<C, M> {
     /// The first record that is settled is given, with the next number: what it launches is under way, or waits.
     ///
     /// On an error nothing has changed.
-    pub fn give(&mut self, network: &Network) -> Result<Given, OutOfMemory>
+    pub fn give(&mut self, network: &Network, note: &mut Given) -> Result<(), OutOfMemory>
         requires sound { IsSound C.last_step network.now self.old }
         requires range { IsInRange network.now }
         requires some { 0 < length self.old.settled.items }
@@ -247,13 +245,13 @@ impl<C: Clock, M: Machine + Drop> State<C, M> {
             → (old : Stands C.reading (keeps M.stands) s (world_of network.now self.old) notes)
             → NoSourceBefore s (happenings s.network notes) old.cursor
             (place_of (settled_at network.now self.old.time first))
-            → IfOk result (λ note. (note ≡ note_of notes (settled_at network.now self.old.time first))
-            × StandsBehind C.reading (keeps M.stands) s (world_of network.now self.new) (notes ++ note ∷ [])
+            → OnOk result ((note.new ≡ note_of notes (settled_at network.now self.old.time first))
+            × StandsBehind C.reading (keeps M.stands) s (world_of network.now self.new) (notes ++ note.new ∷ [])
             (behind (place_of (settled_at network.now self.old.time first)))) }
         ensures err { OnErr result (world_of network.now self.new ≡ world_of network.now self.old) }
         ensures given { OnOk result (self.new.given ≡ self.old.given + 1) }
-        ensures arrived { IfOk result (λ note. ArrivedAt (length network.now.device) note.body) }
-        ensures others { IfOk result (λ note. ChangesOnly (changed_device note.body) self.old self.new) }
+        ensures arrived { OnOk result (ArrivedAt (length network.now.device) note.new.body) }
+        ensures others { OnOk result (ChangesOnly (changed_device note.new.body) self.old self.new) }
         ensures unmoved { OnErr result ((n : ℕ) → ChangesOnly n self.old self.new) }
     {
         let device = self.first_waiter();
@@ -269,6 +267,7 @@ impl<C: Clock, M: Machine + Drop> State<C, M> {
             return Err(error);
         }
         let first = self.settled.pop_front().unwrap();
-        Ok(self.give_first(network, first))
+        self.give_first(network, first, note);
+        Ok(())
     }
 }

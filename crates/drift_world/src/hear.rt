@@ -1,10 +1,13 @@
-ghost use Rattle.std.specs.{Prelude.{◌+◌, ◌<◌, ◌≡◌, List, false, length}, VecDeque.{deque_capacity, deque_len}};
+ghost use Rattle.std.specs.Prelude.{◌+◌, ◌<◌, ◌≡◌, List, false, length, ℕ};
 ghost use Rattle.net_plan.specs.Ranges.{IsInRange};
 ghost use Rattle.run_law.specs.{declared.note.Note.Note, records.Order.behind, scenario.Scenarios.Scenario};
 ghost use Rattle.world_law.specs.world.{Moves.{ComesFirst, StandsBehind}, World.Stands};
 ghost use Rattle.world_queue.specs.Places.{IsFirst, numbers_of};
-ghost use Rattle.world_state.specs.{Hearing.arrived, Keeping.keeps};
-ghost use Rattle.drift_world.specs.{Sound.IsSound, Stepping.{ChangesOnly, IsAt}, Views.world_of};
+ghost use Rattle.run_law.specs.records.Ranks.{place_of, rank};
+ghost use Rattle.world_state.specs.{Giving.{HasItsOctets, changed_device}, Hearing.arrived, Keeping.keeps};
+ghost use Rattle.world_state.specs.{Places.IsPutAt, Views.settled_at};
+ghost use Rattle.world_state.specs.declared.contents.Settled.{Settled as SettledValue};
+ghost use Rattle.drift_world.specs.{Sound.IsSound, Stepping.{ChangesOnly, IsAt}, Views.{with_settled, world_of}};
 
 use crate::state::State;
 use drift_clock::Clock;
@@ -12,12 +15,13 @@ use net_plan::{LinkId, Network};
 use run_law::{Machine, Moment};
 use tte_units::Units;
 use world_queue::Place;
+use world_state::contents::Settled;
 use world_state::hearing::{arrived, hear_signal, take_wire};
-use world_state::settled::put_in;
 
 impl<C: Clock, M: Machine + Drop> State<C, M> {
-    /// What is on a wire and the first of all that is under way arrives: its device hears it.
-    pub fn hear_first(&mut self, network: &Network, place: Place)
+    /// What is on a wire and the first of all that is under way arrives: its device hears it. The record of it is
+    /// answered, which is to be put in among what is settled.
+    pub fn hear_wire(&mut self, network: &Network, place: Place) -> Settled
         requires sound { IsSound C.last_step network.now self.old }
         requires range { IsInRange network.now }
         requires first { IsFirst self.old.under_way.entries place }
@@ -25,23 +29,25 @@ impl<C: Clock, M: Machine + Drop> State<C, M> {
         requires device { place.device < length network.now.device }
         requires link { place.link < length network.now.link }
         requires at { place.at ≡ self.old.time }
-        requires room { deque_len self.old.settled < deque_capacity self.old.settled }
         requires comes { IsAt C.reading M.stands network.now self.old (numbers_of place) }
         ensures sound { IsSound C.last_step network.now self.new }
-        ensures stands { (s : Scenario) (notes : List Note)
+        ensures octets { HasItsOctets result.body result.octets }
+        ensures own { rank result.body ≡ 2
+            → place_of (settled_at network.now self.old.time result) ≡ numbers_of place }
+        ensures device { rank result.body ≡ 2 → changed_device result.body ≡ place.device }
+        ensures stands { (s : Scenario) (notes : List Note) (settled : List SettledValue) (index : ℕ)
             → (old : Stands C.reading (keeps M.stands) s (world_of network.now self.old) notes)
             → ComesFirst C.reading (keeps M.stands) s (world_of network.now self.old) notes old (numbers_of place)
-            → StandsBehind C.reading (keeps M.stands) s (world_of network.now self.new) notes
+            → IsPutAt result self.old.settled.items settled index
+            → StandsBehind C.reading (keeps M.stands) s (with_settled network.now self.new settled) notes
             (behind (numbers_of place)) }
         ensures others { ChangesOnly place.device self.old self.new }
         ensures same { self.new ≡ record self.old {
           machines = self.new.machines;
           under_way = self.new.under_way;
-          settled = self.new.settled;
           made = self.new.made;
           early = false;
         } }
-        ensures given { self.new.given ≡ self.old.given }
         ensures shorter { length self.old.under_way.entries ≡ length self.new.under_way.entries + 1 }
     {
         let signal = take_wire(&mut self.under_way, place);
@@ -55,6 +61,6 @@ impl<C: Clock, M: Machine + Drop> State<C, M> {
         let machine = &mut self.machines[index];
         let arrival = hear_signal(machine, network, moment, link, &signal, &mut self.made);
         self.early = false;
-        put_in(&mut self.settled, arrived(place, &arrival, signal));
+        arrived(place, &arrival, signal)
     }
 }

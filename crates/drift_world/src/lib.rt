@@ -2,7 +2,9 @@
 #![tactic(auto)]
 
 mod act;
+mod alone;
 mod applying;
+mod at_once;
 mod befalling;
 mod begin;
 mod give;

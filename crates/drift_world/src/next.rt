@@ -1,49 +1,68 @@
-ghost use Rattle.std.specs.Prelude.{◌*◌, ◌++◌, ◌+◌, ◌<ℤ◌, ◌<◌, ◌^◌, ◌∷◌, ◌≡◌, ◌≤◌, IfNone, IfOk, IfSome, IsTrue, List};
-ghost use Rattle.std.specs.Prelude.{OnErr, OnOk, Some, [], false, length, pos, true};
+ghost use Rattle.std.specs.Prelude.{◌*◌, ◌++◌, ◌+◌, ◌<ℤ◌, ◌<◌, ◌^◌, ◌↔◌, ◌∷◌, ◌≡◌, ◌≤◌, IfNone, IfOk, IfSome};
+ghost use Rattle.std.specs.Prelude.{IsTrue, List, OnErr, OnOk, Some, [], false, length, pos, true};
 ghost use Rattle.net_plan.specs.Ranges.{IsInRange};
 ghost use Rattle.run_law.specs.{declared.note.Note.Note as NoteOf, runs.DueRecords.IsScenarioRun};
 ghost use Rattle.run_law.specs.scenario.Scenarios.{Scenario};
+ghost use Rattle.drift_world.specs.Turns.{IsAhead, own_numbers};
 
-use crate::source::{Source, own_numbers};
+use crate::source::{Source, own_numbers, rank_in_order};
 use crate::state::State;
 use drift_clock::Clock;
 use net_plan::Network;
 use run_law::Machine;
 use world_state::OutOfMemory;
 use world_state::bodies::{Body, Given, Kind};
-use world_state::settled::is_before;
+use world_state::contents::Settled;
+use world_state::settled::{is_before_in_all, rank_of};
 
 /// The last time of a run.
 const LAST: u64 = 1 << 60;
 
 /// What one turn of a world comes to.
-#[derive(Drop)]
+#[derive(Clone, Copy)]
 pub enum Turn {
     /// A record is given.
-    Gives(Given),
+    Gives,
     /// None is due before the time.
     Ends,
     /// Something is worked off, or time passes.
     GoesOn,
 }
 
+/// Is the record ahead of the source, as all numbers of their places tell?
+#[inline(never)]
+fn is_ahead_in_all(first: &Settled, source: &Source) -> bool
+    ensures { IsTrue result ↔ IsAhead (own_numbers source.now) first.now }
+{
+    match own_numbers(source) {
+        Some(place) => is_before_in_all(first, place.as_slice()),
+        None => true,
+    }
+}
+
 impl<C: Clock, M: Machine + Drop> State<C, M> {
-    ghost use Rattle.run_law.specs.records.{Order.IsBefore, Ranks.place_of};
+    ghost use Rattle.run_law.specs.records.Ranks.{place_of};
     ghost use Rattle.tte_units.specs.Amount.{units_of};
     ghost use Rattle.world_law.specs.world.World.{Stands};
     ghost use Rattle.world_state.specs.{Giving.{ArrivedAt, changed_device}, Keeping.keeps, Views.settled_at};
-    ghost use Rattle.drift_world.specs.{Nearing.{IsLess, Nears}, Running.given_by, Sound.IsSized};
+    ghost use Rattle.drift_world.specs.{Nearing.Nears, Running.{given_by, next_of}, Sound.IsSized};
     ghost use Rattle.drift_world.specs.{Sourcing.{AreTimed, HasNothingBefore}, Stepping.{ChangesOnly, IsRunning}};
-    ghost use Rattle.drift_world.specs.Turns.{GivesAt, HasCome, HasRoom, IsAfter, IsForemost, IsNow, IsStep, IsThere};
-    ghost use Rattle.drift_world.specs.Turns.{IsWhole, IsWithin, PassSays, SettledFirst, SourceFirst, TurnSays};
-    ghost use Rattle.drift_world.specs.{Turns.{given_in, source_place}, Views.world_of, Wells.IsWell};
+    ghost use Rattle.drift_world.specs.Turns.{GivesAt, HasCome, HasRoom, IsAfter, IsWhole, PassSays, SettledFirst};
+    ghost use Rattle.drift_world.specs.Turns.{SourceFirst, TurnSays, given_in};
+    ghost use Rattle.drift_world.specs.{Views.world_of, Wells.IsWell};
+    ghost use Rattle.world_state.specs.declared.contents.Settled.{Settled as SettledValue};
     ghost use Rattle.drift_world.specs.declared.state.State.{State as StateOf};
 
-    /// The next record before a time, if one is due before it.
+    /// Puts the next record before a time in the place of another, if one is due before it: is one?
     ///
     /// Each turn that goes on comes nearer to the time: time passes, or there is less to work off at the instant.
     /// On an error it is not the time yet.
-    pub fn next(&mut self, network: &Network, until: u64) -> Result<Option<Given>, OutOfMemory>
+    pub fn next(
+        &mut self,
+        network: &Network,
+        until: u64,
+        note: &mut Given,
+    ) -> Result<bool, OutOfMemory>
         requires range { IsInRange network.now }
         requires well { IsWell C.last_step C.reading M.stands network.now self.old }
         requires limit { until ≤ 2 ^ 60 + 1 }
@@ -53,21 +72,22 @@ impl<C: Clock, M: Machine + Drop> State<C, M> {
         ensures after { IsAfter self.old self.new }
         ensures stands { (s : Scenario) (notes : List NoteOf)
             → Stands C.reading (keeps M.stands) s (world_of network.now self.old) notes
-            → Stands C.reading (keeps M.stands) s (world_of network.now self.new) (notes ++ given_by result) }
+            → Stands C.reading (keeps M.stands) s (world_of network.now self.new) (notes
+            ++ given_by (next_of result note.new)) }
         ensures complete { (s : Scenario) (notes : List NoteOf)
             → Stands C.reading (keeps M.stands) s (world_of network.now self.old) notes
-            → IfOk result (λ next. IfNone next (IsScenarioRun s (until ∷ []) notes)) }
-        ensures reached { IfOk result (λ next.
-            IfNone next (self.old.ended ≡ false → until ≤ 2 ^ 60 → HasCome self.new until)) }
-        ensures before { IfOk result (λ next.
-            IfSome next (λ note. (note.time ≡ units_of self.new.time) × (note.time.0 <ℤ pos until))) }
-        ensures given { IfOk result (λ next. IfSome next (λ _. self.new.given ≡ self.old.given + 1)) }
+            → IfOk result (λ more. more ≡ false → IsScenarioRun s (until ∷ []) notes) }
+        ensures reached { IfOk result (λ more.
+            more ≡ false → (self.old.ended ≡ false → until ≤ 2 ^ 60 → HasCome self.new until)) }
+        ensures before { IfOk result (λ more.
+            more ≡ true → (note.new.time ≡ units_of self.new.time) × (note.new.time.0 <ℤ pos until)) }
+        ensures given { IfOk result (λ more. more ≡ true → self.new.given ≡ self.old.given + 1) }
         ensures err { OnErr result (self.new.time < until) }
     {
         'turns: loop {
-            match self.turn(network, until) {
-                Ok(Turn::Gives(given)) => return Ok(Some(given)),
-                Ok(Turn::Ends) => return Ok(None),
+            match self.turn(network, until, note) {
+                Ok(Turn::Gives) => return Ok(true),
+                Ok(Turn::Ends) => return Ok(false),
                 Ok(Turn::GoesOn) => {}
                 Err(error) => return Err(error),
             }
@@ -75,7 +95,7 @@ impl<C: Clock, M: Machine + Drop> State<C, M> {
     }
 
     /// One turn: what is settled first is given, or what comes first is worked off, or time passes.
-    fn turn(&mut self, network: &Network, until: u64) -> Result<Turn, OutOfMemory>
+    fn turn(&mut self, network: &Network, until: u64, note: &mut Given) -> Result<Turn, OutOfMemory>
         requires range { IsInRange network.now }
         requires well { IsWell C.last_step C.reading M.stands network.now self.old }
         requires limit { until ≤ 2 ^ 60 + 1 }
@@ -85,22 +105,27 @@ impl<C: Clock, M: Machine + Drop> State<C, M> {
         ensures after { IsAfter self.old self.new }
         ensures stands { (s : Scenario) (notes : List NoteOf)
             → Stands C.reading (keeps M.stands) s (world_of network.now self.old) notes
-            → Stands C.reading (keeps M.stands) s (world_of network.now self.new) (notes ++ given_in result) }
+            → Stands C.reading (keeps M.stands) s (world_of network.now self.new) (notes ++ given_in result note.new) }
         ensures whole { (s : Scenario) (notes : List NoteOf)
             → Stands C.reading (keeps M.stands) s (world_of network.now self.old) notes
             → IfOk result (λ turn. IsWhole s notes until turn) }
-        ensures says { IfOk result (λ turn. TurnSays self.old self.new until turn) }
+        ensures says { IfOk result (λ turn. TurnSays self.old self.new until note.new turn) }
         ensures nears { IfOk result (λ turn. Nears network.now until self.old self.new turn) }
         ensures err { OnErr result (self.new.time ≡ self.old.time) }
     {
         if let Err(error) = self.make_places() {
             return Err(error);
         }
-        self.take_turn(network, until)
+        self.take_turn(network, until, note)
     }
 
     /// A turn, for which there is room.
-    fn take_turn(&mut self, network: &Network, until: u64) -> Result<Turn, OutOfMemory>
+    fn take_turn(
+        &mut self,
+        network: &Network,
+        until: u64,
+        note: &mut Given,
+    ) -> Result<Turn, OutOfMemory>
         requires range { IsInRange network.now }
         requires well { IsWell C.last_step C.reading M.stands network.now self.old }
         requires limit { until ≤ 2 ^ 60 + 1 }
@@ -111,25 +136,22 @@ impl<C: Clock, M: Machine + Drop> State<C, M> {
         ensures after { IsAfter self.old self.new }
         ensures stands { (s : Scenario) (notes : List NoteOf)
             → Stands C.reading (keeps M.stands) s (world_of network.now self.old) notes
-            → Stands C.reading (keeps M.stands) s (world_of network.now self.new) (notes ++ given_in result) }
+            → Stands C.reading (keeps M.stands) s (world_of network.now self.new) (notes ++ given_in result note.new) }
         ensures whole { (s : Scenario) (notes : List NoteOf)
             → Stands C.reading (keeps M.stands) s (world_of network.now self.old) notes
             → IfOk result (λ turn. IsWhole s notes until turn) }
-        ensures says { IfOk result (λ turn. TurnSays self.old self.new until turn) }
+        ensures says { IfOk result (λ turn. TurnSays self.old self.new until note.new turn) }
         ensures nears { IfOk result (λ turn. Nears network.now until self.old self.new turn) }
         ensures err { OnErr result (self.new.time ≡ self.old.time) }
     {
         let source = self.first_source(network, until);
         if self.has_first(&source) {
-            return self.give_next(network, source);
+            return self.give_next(network, note);
         }
         if let Source::Later(time) = source {
             return Ok(self.pass_on(network, time, until));
         }
-        match self.work_off(network, source) {
-            Ok(()) => Ok(Turn::GoesOn),
-            Err(error) => Err(error),
-        }
+        self.work_turn(network, source, note)
     }
 
     /// Takes room for two more records that are settled, for which there are numbers.
@@ -142,7 +164,9 @@ impl<C: Clock, M: Machine + Drop> State<C, M> {
         if self.given >= (u64::MAX - 2).saturating_sub(coming) {
             return Err(OutOfMemory);
         }
-        self.settled.reserve(2)?;
+        if self.settled.capacity() - self.settled.len() < 2 && self.settled.reserve(2).is_err() {
+            return Err(OutOfMemory);
+        }
         Ok(())
     }
 
@@ -154,30 +178,35 @@ impl<C: Clock, M: Machine + Drop> State<C, M> {
         let Some(first) = self.settled.front() else {
             return false;
         };
-        match own_numbers(source) {
-            Some(place) => is_before(first, place.as_slice()),
-            None => true,
+        let rank = rank_of(first);
+        let other = rank_in_order(source);
+        if rank == other {
+            is_ahead_in_all(first, source)
+        } else {
+            rank < other
         }
     }
 
-    /// The first that is settled is given.
-    fn give_next(&mut self, network: &Network, source: Source) -> Result<Turn, OutOfMemory>
+    /// The first that is settled is given, before which nothing is to come.
+    pub fn give_next(&mut self, network: &Network, note: &mut Given) -> Result<Turn, OutOfMemory>
         requires range { IsInRange network.now }
         requires well { IsWell C.last_step C.reading M.stands network.now self.old }
-        requires foremost { IsForemost C.reading M.stands network.now self.old source }
-        requires first { SettledFirst self.old.settled.items source }
+        requires some { 0 < length self.old.settled.items }
+        requires nothing { (first : SettledValue) (others : List SettledValue)
+            → self.old.settled.items ≡ first ∷ others → HasNothingBefore C.reading M.stands network.now self.old
+            (place_of (settled_at network.now self.old.time first)) }
         ensures well { IsWell C.last_step C.reading M.stands network.now self.new }
         ensures after { IsAfter self.old self.new }
         ensures stands { (s : Scenario) (notes : List NoteOf)
             → Stands C.reading (keeps M.stands) s (world_of network.now self.old) notes
-            → Stands C.reading (keeps M.stands) s (world_of network.now self.new) (notes ++ given_in result) }
-        ensures says { IfOk result (λ turn. GivesAt self.old self.new turn) }
+            → Stands C.reading (keeps M.stands) s (world_of network.now self.new) (notes ++ given_in result note.new) }
+        ensures says { IfOk result (λ turn. GivesAt self.old self.new note.new turn) }
         ensures err { OnErr result (self.new.time ≡ self.old.time) }
     {
-        match self.give(network) {
-            Ok(note) => {
+        match self.give(network, note) {
+            Ok(()) => {
                 self.rekey_after(network, note.body());
-                Ok(Turn::Gives(note))
+                Ok(Turn::Gives)
             }
             Err(error) => Err(error),
         }
@@ -192,11 +221,12 @@ impl<C: Clock, M: Machine + Drop> State<C, M> {
         requires arrived { ArrivedAt (length network.now.device) body.now }
         ensures same { self.new ≡ record self.old { timers = self.new.timers } }
         ensures timed { (before : StateOf C M) → AreTimed C.reading M.stands network.now before
-            → ChangesOnly (changed_device body.now) before self.old → self.old.timers ≡ before.timers
+            → ChangesOnly (changed_device body.now) before self.old → self.old.machines ≡ before.machines
+            → self.old.timers ≡ before.timers
             → AreTimed C.reading M.stands network.now self.new }
     {
         if let Kind::Arrived { device, .. } = &body.kind {
-            self.rekey(network, device.0);
+            self.rekey_ripe(network, device.0);
         }
     }
 
@@ -229,40 +259,6 @@ impl<C: Clock, M: Machine + Drop> State<C, M> {
             Turn::GoesOn
         } else {
             Turn::Ends
-        }
-    }
-
-    /// The source of the present instant that comes first is worked off.
-    fn work_off(&mut self, network: &Network, source: Source) -> Result<(), OutOfMemory>
-        requires range { IsInRange network.now }
-        requires well { IsWell C.last_step C.reading M.stands network.now self.old }
-        requires room { HasRoom self.old }
-        requires foremost { IsForemost C.reading M.stands network.now self.old source }
-        requires first { SourceFirst self.old.settled.items source }
-        requires present { IsNow source }
-        ensures step { IsStep C.last_step C.reading M.stands network.now self.old self.new }
-        ensures less { OnOk result (IsLess network.now self.old self.new) }
-    {
-        match source {
-            Source::Events => self.settle(network),
-            Source::Arrival(place) => {
-                self.arrive(network, place);
-                Ok(())
-            }
-            Source::Ripening(one) => {
-                self.ripen(network, one);
-                Ok(())
-            }
-            Source::Act(device) => self.act(network, device),
-            Source::Departure(place) => {
-                self.depart(network, place);
-                Ok(())
-            }
-            Source::Clock(device) => {
-                self.show(network, device);
-                Ok(())
-            }
-            Source::Later(_) => Ok(()),
         }
     }
 }

@@ -1,5 +1,6 @@
-ghost use Rattle.std.specs.Prelude.{◌+◌, ◌<◌, ◌≡◌, ◌≤ℤ◌, ◌≤◌, List, Some, false, is_some, length, pos, slice_get, true};
-ghost use Rattle.std.specs.VecDeque.{deque_capacity, deque_len};
+ghost use Rattle.std.specs.Prelude.{◌+◌, ◌↔◌, ◌≡◌, ◌≤ℤ◌, IsTrue, List, Some, false, is_some, length, pos, slice_get};
+ghost use Rattle.std.specs.Prelude.{true};
+ghost use Rattle.drift_world.specs.Ripening.{IsJudged};
 ghost use Rattle.net_plan.specs.Ranges.{IsInRange};
 ghost use Rattle.run_law.specs.{declared.note.Note.Note, records.Order.behind, scenario.Scenarios.Scenario};
 ghost use Rattle.world_state.specs.{Frames.first_of, Keeping.keeps, declared.contents.Waits.Waits as WaitsValue};
@@ -7,42 +8,60 @@ ghost use Rattle.world_state.specs.{Frames.first_of, Keeping.keeps, declared.con
 use crate::state::State;
 use drift_clock::Clock;
 use net_plan::{DeviceId, Network};
-use run_law::{Machine, Moment};
+use run_law::{Machine, Moment, Ripe};
 use tte_units::Units;
-use world_state::ripening::settle_ripe;
+use world_state::contents::Waits;
+
+/// A frame that is permanent, and what becomes of it.
+#[derive(Clone, Copy)]
+pub struct Ripened {
+    pub waits: Waits,
+    pub ripe: Ripe,
+}
+
+/// Is its only record how it is judged?
+pub fn is_judged(ripe: Ripe) -> bool
+    ensures { IsTrue result ↔ IsJudged ripe }
+{
+    match ripe {
+        Ripe::Opened | Ripe::Joined | Ripe::Repeat | Ripe::Within | Ripe::Outside | Ripe::Ignored =>
+            true,
+        Ripe::Integrates | Ripe::Dropped(_) => false,
+    }
+}
 
 impl<C: Clock, M: Machine + Drop> State<C, M> {
     ghost use Rattle.world_law.specs.world.{Moves.{ComesFirst, StandsBehind}, World.{Stands, ripe_place}};
     ghost use Rattle.world_state.specs.Views.{waiting_as};
-    ghost use Rattle.drift_world.specs.{Sound.{IsSized, IsSound}, Stepping.{ChangesOnly, IsAt}, Views.world_of};
+    ghost use Rattle.world_state.specs.{Ripening.AreSettledSo, declared.contents.Settled.Settled as SettledValue};
+    ghost use Rattle.drift_world.specs.{Sound.IsSound, Stepping.{ChangesOnly, IsAt}, Views.{with_settled, world_of}};
 
-    /// The first frame that waits at the device is permanent: the first of all that is to come.
-    pub fn ripen_first(&mut self, network: &Network, device: DeviceId)
+    /// The first frame that waits at the device is permanent: the first of all that is to come. It is answered, with
+    /// what becomes of it, whose records are to be put in among what is settled.
+    pub fn ripen_waits(&mut self, network: &Network, device: DeviceId) -> Ripened
         requires sound { IsSound C.last_step network.now self.old }
         requires range { IsInRange network.now }
         requires there { is_some (first_of self.old.waiting device.0) ≡ true }
         requires reached { (w : WaitsValue) (clock : C) → first_of self.old.waiting device.0 ≡ Some w
             → slice_get self.old.clocks.items w.device.0 ≡ Some clock
             → w.point.0 ≤ℤ pos (C.reading clock self.old.time) }
-        requires room { deque_len self.old.settled + 2 ≤ deque_capacity self.old.settled }
         requires comes { (w : WaitsValue) → first_of self.old.waiting device.0 ≡ Some w
             → IsAt C.reading M.stands network.now self.old (ripe_place self.old.time (waiting_as w)) }
         ensures sound { IsSound C.last_step network.now self.new }
-        ensures stands { (w : WaitsValue) → first_of self.old.waiting device.0 ≡ Some w
-            → (s : Scenario) (notes : List Note)
+        ensures is { first_of self.old.waiting device.0 ≡ Some result.waits }
+        ensures stands { (s : Scenario) (notes : List Note) (settled : List SettledValue)
             → (old : Stands C.reading (keeps M.stands) s (world_of network.now self.old) notes)
             → ComesFirst C.reading (keeps M.stands) s (world_of network.now self.old) notes old
-            (ripe_place self.old.time (waiting_as w))
-            → StandsBehind C.reading (keeps M.stands) s (world_of network.now self.new) notes
-            (behind (ripe_place self.old.time (waiting_as w))) }
+            (ripe_place self.old.time (waiting_as result.waits))
+            → AreSettledSo result.waits result.ripe self.old.settled.items settled
+            → StandsBehind C.reading (keeps M.stands) s (with_settled network.now self.new settled) notes
+            (behind (ripe_place self.old.time (waiting_as result.waits))) }
         ensures same { self.new ≡ record self.old {
           early = false;
           machines = self.new.machines;
           waiting = self.new.waiting;
-          settled = self.new.settled;
         } }
-        ensures others { (w : WaitsValue) → first_of self.old.waiting device.0 ≡ Some w
-            → ChangesOnly w.device.0 self.old self.new }
+        ensures others { ChangesOnly result.waits.device.0 self.old self.new }
         ensures shorter { length self.old.waiting.items ≡ length self.new.waiting.items + 1 }
     {
         let waits = self.waiting.take_first(device);
@@ -58,6 +77,6 @@ impl<C: Clock, M: Machine + Drop> State<C, M> {
             waits.point,
         );
         self.early = false;
-        settle_ripe(&mut self.settled, &waits, ripe);
+        Ripened { waits, ripe }
     }
 }

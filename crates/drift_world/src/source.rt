@@ -1,6 +1,6 @@
 ghost use Rattle.std.specs.{Option.option_map, Prelude.{◌+◌, ◌<◌, ◌^◌, ◌≡◌, ◌≤◌, IfNone, IfSome, Option, Some, ℕ}};
 ghost use Rattle.world_timers.specs.Times.{IsFirst as IsFirstDue};
-ghost use Rattle.drift_world.specs.Turns.{own_numbers};
+ghost use Rattle.drift_world.specs.Turns.{own_numbers, rank_in_order};
 
 use crate::state::State;
 use arrayvec::ArrayVec;
@@ -78,6 +78,20 @@ fn least_of(place: Option<Place>, due: Option<Due>, time: u64) -> u64
     match due {
         Some(due) => least.min(due.time),
         None => least,
+    }
+}
+
+/// The first number of its place behind the time: more than that of any record, where it is not of the present instant.
+pub fn rank_in_order(source: &Source) -> u64
+    ensures { result ≡ rank_in_order source.now }
+{
+    match source {
+        Source::Events => 2,
+        Source::Arrival(place) | Source::Departure(place) => u64::from(place.rank),
+        Source::Ripening(_) => 3,
+        Source::Act(_) => 4,
+        Source::Clock(_) => 14,
+        Source::Later(_) => 15,
     }
 }
 

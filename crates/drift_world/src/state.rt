@@ -24,7 +24,7 @@ use world_state::event_notes::EventNote;
 use world_state::frames::Frames;
 use world_state::kept::Kept;
 use world_state::leaving::{departed, is_parent, take_port};
-use world_state::settled::{put_in, put_some};
+use world_state::settled::put_in;
 use world_state::shelves::Shelves;
 use world_timers::Timers;
 
@@ -72,7 +72,7 @@ pub struct State<C: Clock, M: Machine + Drop> {
 impl<C: Clock, M: Machine + Drop> State<C, M> {
     ghost use Rattle.net_plan.specs.{Belonging.IsOfNetwork, declared.event.Event.Event as EventValue};
     ghost use Rattle.net_plan.specs.declared.ids.DeviceId.{DeviceId as DeviceOf};
-    ghost use Rattle.run_law.specs.records.{Happenings.happenings, Order.IsIn, Ranks.place_of};
+    ghost use Rattle.run_law.specs.records.{Happenings.happenings, Order.IsIn, Ranks.{place_of, rank}};
     ghost use Rattle.run_law.specs.scenario.Devices.{is_parent_of};
     ghost use Rattle.sync_state.specs.declared.state.State.{State as DeviceState};
     ghost use Rattle.tte_units.specs.{Amount.{amount, units_of}, declared.rates.Ppb.Ppb};
@@ -82,12 +82,15 @@ impl<C: Clock, M: Machine + Drop> State<C, M> {
     ghost use Rattle.world_state.specs.Applying.{IsElsewhere, IsShown, SetsShort, clock_after};
     ghost use Rattle.world_state.specs.Giving.{CameBy, HasItsOctets, IsPutOn, IsYoung, MayBeGiven, giver_of};
     ghost use Rattle.world_state.specs.{Giving.wire_entry, Keeping.keeps, Leaving.{departure_in, port_entry}};
+    ghost use Rattle.world_state.specs.{Giving.changed_device, Places.{IsSomePut, own_place}};
     ghost use Rattle.world_state.specs.{Sound.{AreBelow, AreUnderWay}, Views.settled_at};
+    ghost use Rattle.world_state.specs.declared.contents.Settled.{Settled as SettledValue};
     ghost use Rattle.world_state.specs.declared.contents.Waits.{Waits as WaitsValue};
     ghost use Rattle.world_state.specs.declared.giving.Giving.{Giving as GivingValue};
     ghost use Rattle.world_steps.specs.Steps.{FitsWorld};
     ghost use Rattle.drift_world.specs.{Following.Follows, Giving.{IsGivenOut, IsGiver}, Showing.IsOf};
-    ghost use Rattle.drift_world.specs.{Sound.{IsSized, IsSound}, Stepping.ChangesOnly, Views.{with_first, world_of}};
+    ghost use Rattle.drift_world.specs.{Sound.{IsSized, IsSound}, Stepping.ChangesOnly};
+    ghost use Rattle.drift_world.specs.Views.{with_first, with_settled, world_of};
 
     /// Time passes, where nothing is under way before.
     pub fn pass_to(&mut self, time: u64)
@@ -181,6 +184,9 @@ impl<C: Clock, M: Machine + Drop> State<C, M> {
         requires device { place.device < length network.now.device }
         requires link { place.link < length network.now.link }
         ensures octets { IfSome result (λ z. HasItsOctets z.body z.octets) }
+        ensures own { IfSome result (λ z. rank z.body ≡ 8
+            → own_place z ≡ 8 ∷ place.device ∷ place.link ∷ place.cause ∷ []) }
+        ensures none { IfSome result (λ z. changed_device z.body ≡ 2 ^ 32) }
         ensures is { (s : Scenario) → IsOf C.reading s network.now self.now
             → result ≡ departure_in s self.now.time (port_entry place frame given) }
     {
@@ -192,34 +198,34 @@ impl<C: Clock, M: Machine + Drop> State<C, M> {
         Some(departed(network, reading, way.cut, place, frame, given))
     }
 
-    /// The frame at a port that is the first of all leaves.
-    pub fn leave_first(&mut self, network: &Network, place: Place)
+    /// The frame at a port that is the first of all leaves. The record of it is answered, which is to be put in among
+    /// what is settled; of a broken device there is none.
+    pub fn leave_port(&mut self, network: &Network, place: Place) -> Option<Settled>
         requires sound { IsSound C.last_step network.now self.old }
         requires range { IsInRange network.now }
         requires first { IsFirst self.old.under_way.entries place }
         requires port { place.rank ≡ 8 }
         requires device { place.device < length network.now.device }
         requires link { place.link < length network.now.link }
-        requires room { deque_len self.old.settled < deque_capacity self.old.settled }
+        requires at { place.at ≡ self.old.time }
         ensures sound { IsSound C.last_step network.now self.new }
-        ensures stands { (s : Scenario) (notes : List Note)
+        ensures octets { IfSome result (λ z. HasItsOctets z.body z.octets) }
+        ensures own { IfSome result (λ z. rank z.body ≡ 8
+            → place_of (settled_at network.now self.old.time z) ≡ numbers_of place) }
+        ensures none { IfSome result (λ z. changed_device z.body ≡ 2 ^ 32) }
+        ensures stands { (s : Scenario) (notes : List Note) (settled : List SettledValue)
             → (old : Stands C.reading (keeps M.stands) s (world_of network.now self.old) notes)
-            → place.at ≡ self.old.time
             → ComesFirst C.reading (keeps M.stands) s (world_of network.now self.old) notes old (numbers_of place)
-            → StandsBehind C.reading (keeps M.stands) s (world_of network.now self.new) notes
+            → IsSomePut result self.old.settled.items settled
+            → StandsBehind C.reading (keeps M.stands) s (with_settled network.now self.new settled) notes
             (behind (numbers_of place)) }
         ensures others { (n : ℕ) → ChangesOnly n self.old self.new }
-        ensures same { self.new ≡ record self.old {
-          early = false;
-          under_way = self.new.under_way;
-          settled = self.new.settled;
-        } }
+        ensures same { self.new ≡ record self.old { early = false; under_way = self.new.under_way } }
         ensures shorter { length self.old.under_way.entries ≡ length self.new.under_way.entries + 1 }
     {
         let (frame, given) = take_port(&mut self.under_way, place);
         self.early = false;
-        let record = self.departure(network, place, frame, given);
-        put_some(&mut self.settled, record);
+        self.departure(network, place, frame, given)
     }
 
     /// The state of the device that is turned on, as its machine shows it, where that is what befalls the network.

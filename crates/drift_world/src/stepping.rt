@@ -5,9 +5,7 @@ use crate::state::State;
 use drift_clock::Clock;
 use net_plan::{DeviceId, Network};
 use run_law::Machine;
-use world_queue::Place;
 use world_state::OutOfMemory;
-use world_state::contents::Waits;
 
 impl<C: Clock, M: Machine + Drop> State<C, M> {
     ghost use Rattle.drift_world.specs.{Nearing.IsLess, Turns.{HasRoom, IsForemost, IsStep, SourceFirst}, Wells.IsWell};
@@ -26,34 +24,6 @@ impl<C: Clock, M: Machine + Drop> State<C, M> {
         self.settle_befallen(network)
     }
 
-    /// What is first on a wire arrives.
-    pub fn arrive(&mut self, network: &Network, place: Place)
-        requires range { IsInRange network.now }
-        requires well { IsWell C.last_step C.reading M.stands network.now self.old }
-        requires room { HasRoom self.old }
-        requires foremost { IsForemost C.reading M.stands network.now self.old (Source.Arrival place) }
-        requires first { SourceFirst self.old.settled.items (Source.Arrival place) }
-        ensures step { IsStep C.last_step C.reading M.stands network.now self.old self.new }
-        ensures less { IsLess network.now self.old self.new }
-    {
-        self.hear_first(network, place);
-        self.rekey(network, place.device);
-    }
-
-    /// The frame that is the first that is permanent is judged.
-    pub fn ripen(&mut self, network: &Network, one: Waits)
-        requires range { IsInRange network.now }
-        requires well { IsWell C.last_step C.reading M.stands network.now self.old }
-        requires room { HasRoom self.old }
-        requires foremost { IsForemost C.reading M.stands network.now self.old (Source.Ripening one) }
-        requires first { SourceFirst self.old.settled.items (Source.Ripening one) }
-        ensures step { IsStep C.last_step C.reading M.stands network.now self.old self.new }
-        ensures less { IsLess network.now self.old self.new }
-    {
-        self.ripen_first(network, one.device);
-        self.rekey(network, one.device.0);
-    }
-
     /// The device does what is due.
     pub fn act(&mut self, network: &Network, device: DeviceId) -> Result<(), OutOfMemory>
         requires range { IsInRange network.now }
@@ -64,22 +34,16 @@ impl<C: Clock, M: Machine + Drop> State<C, M> {
         ensures step { IsStep C.last_step C.reading M.stands network.now self.old self.new }
         ensures less { OnOk result (IsLess network.now self.old self.new) }
     {
-        let done = self.act_first(network, device);
-        self.rekey(network, device.0);
-        done
-    }
-
-    /// The frame that is first at a port leaves.
-    pub fn depart(&mut self, network: &Network, place: Place)
-        requires range { IsInRange network.now }
-        requires well { IsWell C.last_step C.reading M.stands network.now self.old }
-        requires room { HasRoom self.old }
-        requires foremost { IsForemost C.reading M.stands network.now self.old (Source.Departure place) }
-        requires first { SourceFirst self.old.settled.items (Source.Departure place) }
-        ensures step { IsStep C.last_step C.reading M.stands network.now self.old self.new }
-        ensures less { IsLess network.now self.old self.new }
-    {
-        self.leave_first(network, place);
+        match self.act_first(network, device) {
+            Ok(due) => {
+                self.rekey_act_at(network, device.0, due);
+                Ok(())
+            }
+            Err(error) => {
+                self.rekey_act(network, device.0);
+                Err(error)
+            }
+        }
     }
 
     /// The clock of the device is shown.

@@ -5,10 +5,71 @@ use crate::state::State;
 use drift_clock::Clock;
 use net_plan::Network;
 use run_law::Machine;
+use tte_units::Units;
 use world_state::timing::{least_point, time_for};
 
 impl<C: Clock, M: Machine + Drop> State<C, M> {
-    ghost use Rattle.drift_world.specs.{Sound.IsSized, Sourcing.AreTimed, Stepping.{IsRunning, IsTimed}};
+    ghost use Rattle.drift_world.specs.{Acting.IsNextDue, Sound.IsSized, Sourcing.AreTimed};
+    ghost use Rattle.drift_world.specs.Stepping.{IsActTimed, IsRipeTimed, IsRunning, IsTimed};
+
+    /// Sets the timer of a device for the frames that wait at it.
+    pub fn rekey_ripe(&mut self, network: &Network, device: u32)
+        requires sized { IsSized C.last_step network.now self.old }
+        requires there { device < length network.now.device }
+        requires slots { length self.old.timers ≡ 2 * length network.now.device }
+        requires running { IsRunning C.reading M.stands network.now self.old }
+        ensures same { self.new ≡ record self.old { timers = self.new.timers } }
+        ensures timed { IsRipeTimed C.reading self.new.timers self.new (record { 0 = device }) }
+        ensures sized { length self.new.timers ≡ length self.old.timers }
+        ensures others { (slot : ℕ) → (slot ≡ device → ⊥)
+            → slice_get self.new.timers slot ≡ slice_get self.old.timers slot }
+        ensures later { All (λ (time : ℕ). self.old.time ≤ time) self.old.timers
+            → All (λ (time : ℕ). self.new.time ≤ time) self.new.timers }
+    {
+        let index = device as usize;
+        let point = least_point(&self.waiting, device);
+        let ripe = time_for(&self.clocks[index], self.time, point);
+        self.timers.set(index, ripe);
+    }
+
+    /// Sets the timer of a device for what it does by itself: at this reading, or never.
+    pub fn rekey_act_at(&mut self, network: &Network, device: u32, due: Option<Units>)
+        requires sized { IsSized C.last_step network.now self.old }
+        requires there { device < length network.now.device }
+        requires slots { length self.old.timers ≡ 2 * length network.now.device }
+        requires running { IsRunning C.reading M.stands network.now self.old }
+        requires due { IsNextDue M.stands self.old (record { 0 = device }) due }
+        ensures same { self.new ≡ record self.old { timers = self.new.timers } }
+        ensures timed { IsActTimed C.reading M.stands network.now self.new.timers self.new (record { 0 = device }) }
+        ensures sized { length self.new.timers ≡ length self.old.timers }
+        ensures others { (slot : ℕ) → (slot ≡ length network.now.device + device → ⊥)
+            → slice_get self.new.timers slot ≡ slice_get self.old.timers slot }
+        ensures later { All (λ (time : ℕ). self.old.time ≤ time) self.old.timers
+            → All (λ (time : ℕ). self.new.time ≤ time) self.new.timers }
+    {
+        let index = device as usize;
+        let act = time_for(&self.clocks[index], self.time, due);
+        let devices = network.device.as_slice().len();
+        self.timers.set(devices + index, act);
+    }
+
+    /// Sets the timer of a device for what it does by itself, at the reading that its machine tells.
+    pub fn rekey_act(&mut self, network: &Network, device: u32)
+        requires sized { IsSized C.last_step network.now self.old }
+        requires there { device < length network.now.device }
+        requires slots { length self.old.timers ≡ 2 * length network.now.device }
+        requires running { IsRunning C.reading M.stands network.now self.old }
+        ensures same { self.new ≡ record self.old { timers = self.new.timers } }
+        ensures timed { IsActTimed C.reading M.stands network.now self.new.timers self.new (record { 0 = device }) }
+        ensures sized { length self.new.timers ≡ length self.old.timers }
+        ensures others { (slot : ℕ) → (slot ≡ length network.now.device + device → ⊥)
+            → slice_get self.new.timers slot ≡ slice_get self.old.timers slot }
+        ensures later { All (λ (time : ℕ). self.old.time ≤ time) self.old.timers
+            → All (λ (time : ℕ). self.new.time ≤ time) self.new.timers }
+    {
+        let due = self.machines[device as usize].due();
+        self.rekey_act_at(network, device, due);
+    }
 
     /// Sets the timers of a device: for the frames that wait at it, and for what it does by itself.
     pub fn rekey(&mut self, network: &Network, device: u32)
@@ -24,14 +85,8 @@ impl<C: Clock, M: Machine + Drop> State<C, M> {
         ensures later { All (λ (time : ℕ). self.old.time ≤ time) self.old.timers
             → All (λ (time : ℕ). self.new.time ≤ time) self.new.timers }
     {
-        let index = device as usize;
-        let point = least_point(&self.waiting, device);
-        let ripe = time_for(&self.clocks[index], self.time, point);
-        let due = self.machines[index].due();
-        let act = time_for(&self.clocks[index], self.time, due);
-        let devices = network.device.as_slice().len();
-        self.timers.set(index, ripe);
-        self.timers.set(devices + index, act);
+        self.rekey_ripe(network, device);
+        self.rekey_act(network, device);
     }
 
     /// Sets the timers of all devices, where none is past.

@@ -1,5 +1,5 @@
 ghost use Rattle.std.specs.Prelude.{◌++◌, ◌+◌, ◌<ℤ◌, ◌<◌, ◌^◌, ◌∷◌, ◌≡◌, ◌≤ℤ◌, IfNone, IfOk, IfSome, List, MatchResult};
-ghost use Rattle.std.specs.Prelude.{OnErr, [], length, pos, true};
+ghost use Rattle.std.specs.Prelude.{OnErr, [], false, length, pos, true};
 ghost use Rattle.net_plan.specs.declared.{event.Event.Event as EventValue, network.Network.Network};
 ghost use Rattle.run_law.specs.{declared.note.Note.Note as NoteValue, records.Happenings.happenings};
 ghost use Rattle.run_law.specs.{runs.DueRecords.IsRunOf, scenario.Hypothesis.IsWithinHypothesis};
@@ -21,17 +21,6 @@ use tte_units::Units;
 use world_state::OutOfMemory;
 use world_state::bodies::Given;
 use world_state::event_notes::EventNote;
-
-/// The record that is given, if one is.
-fn noted(next: Result<Option<Given>, OutOfMemory>) -> Result<Option<Note>, OutOfMemory>
-    ensures { result ≡ next }
-{
-    match next {
-        Ok(Some(given)) => Ok(Some(given.note())),
-        Ok(None) => Ok(None),
-        Err(error) => Err(error),
-    }
-}
 
 /// A network as it runs: events are applied to it, and it gives the records of its run.
 #[derive(Drop)]
@@ -60,7 +49,7 @@ impl<'a, C: Clock, M: Machine + Drop> World<'a, C, M> {
     ghost use Rattle.drift_world.specs.Locals.{AreSmall, IsComplete, IsLocalClock, IsLocalClockBefore, IsLocalValue};
     ghost use Rattle.drift_world.specs.Locals.{IsWide, MayShow, MayShowAt, MayShowBefore};
     ghost use Rattle.drift_world.specs.Running.{ComesUpTo, HoldsATime, IsOpenTo, MayBefall, StandsUnder, behind_events};
-    ghost use Rattle.drift_world.specs.Running.{event_note, given_by, left_of, reading_of};
+    ghost use Rattle.drift_world.specs.Running.{event_note, given_by, left_of, next_of, reading_of};
 
     /// The world of a network at time 0: nothing has befallen it, and its machines have just begun.
     pub fn begin(
@@ -141,7 +130,8 @@ impl<'a, C: Clock, M: Machine + Drop> World<'a, C, M> {
         ensures at { IfOk result (λ _. IsAtTime self.new event.now.time) }
         ensures err { OnErr result (MayApplyAgain self.old self.new event.now.time) }
     {
-        match self.next_given(event.time) {
+        let mut given = Given::none();
+        match self.next_given(event.time, &mut given) {
             Ok(_) => {}
             Err(error) => return Err(error),
         }
@@ -151,34 +141,37 @@ impl<'a, C: Clock, M: Machine + Drop> World<'a, C, M> {
         }
     }
 
-    /// The next record before a time, which is at most 2^60 + 1. It is None exactly where none is due before it: then
-    /// the records given are the run up to the time, and in the first 2^20 cycles this run is safe.
+    /// Puts the next record before a time, which is at most 2^60 + 1, in the place of another: is there one? There is
+    /// none exactly where none is due before it: then the records given are the run up to the time, and in the first
+    /// 2^20 cycles this run is safe.
     ///
-    /// Where it is None, and the end has not come, the world comes to this time. After the end the time is at most the
-    /// one behind it. On an error no record is lost: those to come are the same. The world may have worked ahead, but
-    /// is before the time still, and may be asked again.
+    /// Where there is none, and the end has not come, the world comes to this time. After the end the time is at most
+    /// the one behind it. On an error no record is lost: those to come are the same. The world may have worked ahead,
+    /// but is before the time still, and may be asked again.
     ///
-    /// The answer is small, and seen as the record that it stands for.
-    pub fn next_given(&mut self, until: Units) -> Result<Option<Given>, OutOfMemory>
+    /// What is put is small, and seen as the record that it stands for.
+    pub fn next_given(&mut self, until: Units, note: &mut Given) -> Result<bool, OutOfMemory>
         requires limit { until.0 ≤ℤ pos (2 ^ 60 + 1) }
         requires ended { self.old.ended ≡ true → until.0 ≤ℤ pos (self.old.now + 1) }
         ensures stands { (network : Network) (events : List EventValue) (notes : List NoteValue)
             → StandsUnder C.fresh C.after_step C.reading M.stands network self.old events notes
-            → StandsUnder C.fresh C.after_step C.reading M.stands network self.new events (notes ++ given_by result) }
+            → StandsUnder C.fresh C.after_step C.reading M.stands network self.new events (notes
+            ++ given_by (next_of result note.new)) }
         ensures complete { (network : Network) (events : List EventValue) (notes : List NoteValue)
             → StandsUnder C.fresh C.after_step C.reading M.stands network self.old events notes
             → pos self.old.now <ℤ until.0
-            → IfOk result (λ next. IfNone next
-            (IsSafeFront C.fresh C.after_step C.reading network events (amount until) notes)) }
-        ensures reached { ComesUpTo self.old self.new until result }
-        ensures before { IfOk result (λ next.
-            IfSome next (λ note. (note.time ≡ units_of self.new.now) × (note.time.0 <ℤ until.0))) }
-        ensures fewer { IfOk result (λ next. IfSome next (λ _. left_of self.new < left_of self.old)) }
+            → IfOk result (λ more. more ≡ false
+            → IsSafeFront C.fresh C.after_step C.reading network events (amount until) notes) }
+        ensures reached { ComesUpTo self.old self.new until (next_of result note.new) }
+        ensures before { IfOk result (λ more. more ≡ true
+            → (note.new.time ≡ units_of self.new.now) × (note.new.time.0 <ℤ until.0)) }
+        ensures fewer { IfOk result (λ more. more ≡ true → left_of self.new < left_of self.old) }
     {
         if until.0 <= Units::from_amount(self.state.time).0 {
-            return Ok(None);
+            return Ok(false);
         }
-        self.state.next(self.accepted.network(), until.amount())
+        self.state
+            .next(self.accepted.network(), until.amount(), note)
     }
 
     /// The time up to which records are asked for: after the end it is at most the one behind it.
@@ -218,7 +211,12 @@ impl<'a, C: Clock, M: Machine + Drop> World<'a, C, M> {
         ensures fewer { IfOk result (λ next. IfSome next (λ _. left_of self.new < left_of self.old)) }
     {
         let time = self.bounded(until);
-        noted(self.next_given(time))
+        let mut given = Given::none();
+        match self.next_given(time, &mut given) {
+            Ok(true) => Ok(Some(given.note())),
+            Ok(false) => Ok(None),
+            Err(error) => Err(error),
+        }
     }
 
     /// A device's local clock at a time: its reading and its adjustment by all records up to the time, in units of

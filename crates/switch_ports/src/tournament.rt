@@ -43,6 +43,10 @@ impl Tournament {
         ensures { Puts self.old place dispatch self.new }
     {
         let mut node = self.count + place;
+        // Most rows have nothing to dispatch when all are looked at anew.
+        if dispatch.is_none() && self.nodes[node].is_none() {
+            return;
+        }
         self.nodes[node] = dispatch;
         'up: while 1 < node {
             node /= 2;

@@ -1,9 +1,10 @@
 -- The instant whose end is asked for.
 use Rattle.world_drive.proofs.Words.{◌++◌, ◌+ℤ◌, ◌+◌, ◌<ℤ◌, ◌<◌, ◌^◌, ◌∙◌, ◌∷◌, ◌≡◌, AreRecordsBefore, Err, Event, ExactWorld, Happening, IsPast, IsUnderwayAt}
-use Rattle.world_drive.proofs.Words.{List, Network, None, Note, Ok, Option, Reaches, Some, StandsExact, Units, [], amount, ap, append-nil, append_assoc, arith}
-use Rattle.world_drive.proofs.Words.{false, fresh_segment, happenings, if_some, inl, inr, ints, pos, refl, segment_reading, stepped_segment, subst, sym}
+use Rattle.world_drive.proofs.Words.{List, Network, None, Note, Ok, Reaches, Some, StandsExact, Units, [], amount, ap, append-nil, append_assoc, arith}
+use Rattle.world_drive.proofs.Words.{false, fresh_segment, happenings, inl, inr, ints, pos, refl, segment_reading, stepped_segment, subst, sym, true}
 use Rattle.world_drive.proofs.Words.{units_of, unsigned_abs, ℕ}
-use Rattle.std.{proofs.Common.Result, specs.Prelude.{IfNone, IfSome, MatchResult, OnOk, option_to_list}}
+use Rattle.std.{proofs.Common.{Bool, Result}, specs.Prelude.{IfNone, MatchResult, OnOk, option_to_list}}
+use Rattle.drift_world.specs.Running.{option_given}
 use Rattle.run_law.{proofs.{records.Order.index_of, runs.{NetworkRuns.one_more, Places.{in_left, in_right}}}, specs.records.{Order.IsIn, Ranks.rank}}
 use Rattle.safe_runs.specs.Headline.{IsSafeFront}
 use Rattle.world_exact.proofs.Given.{amount_after, given_none, given_some, if_none, is_before}
@@ -55,29 +56,29 @@ complete_past network events notes more time world next at stands gone all =
 
 -- ---- the record that a world gave
 
-pub given_before : (network : Network) (events : List Event) (notes : List Note) (note : Note) (until : Units) (next : ExactWorld) (o : Option Note)
-    → o ≡ Some note
-    → StandsExact network next events (notes ++ option_to_list o) → IfSome o (λ n. (n.time ≡ units_of next.now) × (n.time.0 <ℤ until.0))
-    → IsGiven network next None events notes note
-given_before network events notes note until next o is stands before = record {
-  stands = given_some network events notes next o note is stands;
-  at = (if_some o note (λ (n : Note). (n.time ≡ units_of next.now) × (n.time.0 <ℤ until.0)) is before).0;
+pub given_before : (network : Network) (events : List Event) (notes : List Note) (note : Note) (until : Units) (next : ExactWorld) (given : Bool)
+    → given ≡ true → StandsExact network next events (notes ++ option_to_list (option_given given note))
+    → (given ≡ true → (note.time ≡ units_of next.now) × (note.time.0 <ℤ until.0)) → IsGiven network next None events notes note
+given_before network events notes note until next given is stands before = record {
+  stands = given_some network events notes next given note is stands;
+  at = (before is).0;
   here = tt {0};
 }
 
 -- within an instant it is of the same time
 pub given_in : (network : Network) (events : List Event) (notes : List Note) (note : Note) (time until : Units) (from world next : ExactWorld)
-    (o : Option Note) → o ≡ Some note → StandsExact network world events notes → StandsExact network next events (notes ++ option_to_list o)
-    → IfSome o (λ n. (n.time ≡ units_of next.now) × (n.time.0 <ℤ until.0)) → time.0 ≡ pos from.now → world.now ≡ from.now → until.0 ≡ time.0 +ℤ pos 1
-    → IsGiven network next (Some (amount time)) events notes note
-given_in network events notes note time until from world next o is a stands before now same after =
-    let b = given_some network events notes next o note is stands in
-    let at = if_some o note (λ (n : Note). (n.time ≡ units_of next.now) × (n.time.0 <ℤ until.0)) is before in
-    let lt = is_before o note next.now until.0 is before in
+    (given : Bool) → given ≡ true → StandsExact network world events notes
+    → StandsExact network next events (notes ++ option_to_list (option_given given note))
+    → (given ≡ true → (note.time ≡ units_of next.now) × (note.time.0 <ℤ until.0)) → time.0 ≡ pos from.now → world.now ≡ from.now
+    → until.0 ≡ time.0 +ℤ pos 1 → IsGiven network next (Some (amount time)) events notes note
+given_in network events notes note time until from world next given is a stands before now same after =
+    let b = given_some network events notes next given note is stands in
+    let at = before is in
     record {
       stands = b;
       at = at.0;
-      here = stays_now network events notes note world next until a b at.0 lt (omega (arith, ints, now, same, after)) ∙ same ∙ sym (amount_now from time now);
+      here = stays_now network events notes note world next until a b at.0 (is_before note next.now until.0 at) (omega (arith, ints, now, same, after)) ∙ same
+          ∙ sym (amount_now from time now);
     }
 
 -- ---- where no more is given
@@ -92,23 +93,24 @@ past_from : (from world next : ExactWorld) → world.now ≡ from.now → IsPast
 past_from from world next same (inl on) = let now = on.0 in inl (omega (arith, same, now), on.1)
 past_from from world next same (inr here) = inr (here.0, here.1 ∙ same)
 
-pub instant_over : (network : Network) (events : List Event) (notes more : List Note) (time until : Units) (from world next : ExactWorld) (o : Option Note)
-    → o ≡ None → IsUnderwayAt network from events notes time → StandsExact network world events (notes ++ more) → world.now ≡ from.now
-    → until.0 ≡ time.0 +ℤ pos 1 → StandsExact network next events ((notes ++ more) ++ option_to_list o)
-    → (pos world.now <ℤ until.0 → IfNone o (IsSafeFront fresh_segment stepped_segment segment_reading network events (amount until) (notes ++ more)))
-    → IfNone o (Reaches world next until) → InstantOver network events (notes ++ more) time from next
-instant_over network events notes more time until from world next o is at a same after b complete reached =
+pub instant_over : (network : Network) (events : List Event) (notes more : List Note) (time until : Units) (from world next : ExactWorld) (given : Bool)
+    (note : Note)
+    → given ≡ false → IsUnderwayAt network from events notes time → StandsExact network world events (notes ++ more) → world.now ≡ from.now
+    → until.0 ≡ time.0 +ℤ pos 1 → StandsExact network next events ((notes ++ more) ++ option_to_list (option_given given note))
+    → (pos world.now <ℤ until.0 → given ≡ false → IsSafeFront fresh_segment stepped_segment segment_reading network events (amount until) (notes ++ more))
+    → IfNone (option_given given note) (Reaches world next until) → InstantOver network events (notes ++ more) time from next
+instant_over network events notes more time until from world next given note is at a same after b complete reached =
     let now = at.now in
-    let own = subst (StandsExact network next events) (append-nil (notes ++ more)) (given_none network events (notes ++ more) next o is b) in
+    let own = subst (StandsExact network next events) (append-nil (notes ++ more)) (given_none network events (notes ++ more) next given note is b) in
     let limit : world.ended ≡ false → world.now < 2 ^ 60 = λ open_.
     (let early = at.limit (unended_before network events notes (notes ++ more) from world at.stands a open_) in omega (arith, early, same)) in
     let behind : until.0 ≡ pos world.now +ℤ pos 1 = omega (arith, ints, now, same, after) in
-    let all = if_none o (IsSafeFront fresh_segment stepped_segment segment_reading network events (amount until) (notes ++ more)) is
-    (complete (omega (arith, ints, behind))) in
+    let all = complete (omega (arith, ints, behind)) is in
     record {
       stands = own;
       past = past_from from world next same
-          (past_is network until world next events (notes ++ more) (notes ++ more) a own behind limit (if_none o (Reaches world next until) is reached));
+          (past_is network until world next events (notes ++ more) (notes
+          ++ more) a own behind limit (if_none given note (Reaches world next until) is reached));
       all =
           subst (λ (n : ℕ). AreRecordsBefore network events (n ∷ []) (notes ++ more))
           (amount_after time until (omega (arith, ints, now)) after) all.run;

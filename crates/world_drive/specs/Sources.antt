@@ -1,5 +1,6 @@
 -- Where the events of a run come from.
-use Rattle.std.specs.Prelude.{◌++◌, ◌+◌, ◌<◌, ◌^◌, ◌∷◌, ◌≤ℤ◌, Bool, Err, List, None, Ok, Option, Result, Some, [], false}
+use Rattle.std.specs.Prelude.{◌++◌, ◌+◌, ◌<◌, ◌^◌, ◌∷◌, ◌≤ℤ◌, Bool, Err, List, None, Ok, Option, Result, Some, []}
+use Rattle.std.specs.Prelude.{false}
 use Rattle.std.specs.Prelude.{length, pos, true, ℕ}
 use Rattle.drift_world.specs.Running.{HoldsATime}
 use Rattle.net_plan.specs.{Belonging.IsOfNetwork, declared.{event.Event.Event, network.Network.Network}}

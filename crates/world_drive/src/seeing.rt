@@ -9,6 +9,7 @@ ghost use Rattle.world_drive.specs.Seeing.{ComesNext, CutsAtEvent, CutsBefore, H
 ghost use Rattle.world_drive.specs.Seeing.{IsPast, IsUnderwayAt, MayMeet, SeesEvent, SeesInstant, SeesUntil};
 
 use crate::observing::{Cut, Observer};
+use drift_world::Given;
 use net_plan::{Event, Network};
 use tte_io::Sink;
 use tte_units::Units;
@@ -42,13 +43,14 @@ fn see_instant<K: Sink, O: Observer<K>>(
     ensures past { OnOk result (IsPast world.old world.new) }
     ensures puts { PutsFurther K.Sink result out.old out.new }
 {
+    let mut note = Given::none();
     'notes: loop {
-        match world.next_given(next_unit(time)) {
-            Ok(Some(note)) => match observer.record(world, network, &note, out) {
+        match world.next_given(next_unit(time), &mut note) {
+            Ok(true) => match observer.record(world, network, &note, out) {
                 Ok(_) => (),
                 Err(cut) => return Err(cut),
             },
-            Ok(None) => return observer.instant(world, network, time, out),
+            Ok(false) => return observer.instant(world, network, time, out),
             Err(_) => return Err(Cut::OutOfMemory),
         }
     }
@@ -74,9 +76,10 @@ pub(crate) fn see_until<K: Sink, O: Observer<K>>(
     ensures reached { OnOk result (Reaches world.old world.new until) }
     ensures puts { PutsFurther K.Sink result out.old out.new }
 {
+    let mut note = Given::none();
     'notes: loop {
-        match world.next_given(until) {
-            Ok(Some(note)) => match observer.record(world, network, &note, out) {
+        match world.next_given(until, &mut note) {
+            Ok(true) => match observer.record(world, network, &note, out) {
                 Ok(false) => (),
                 Ok(true) => match see_instant(world, network, note.time, observer, out) {
                     Ok(()) => (),
@@ -84,7 +87,7 @@ pub(crate) fn see_until<K: Sink, O: Observer<K>>(
                 },
                 Err(cut) => return Err(cut),
             },
-            Ok(None) => return Ok(()),
+            Ok(false) => return Ok(()),
             Err(_) => return Err(Cut::OutOfMemory),
         }
     }

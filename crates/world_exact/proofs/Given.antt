@@ -1,34 +1,36 @@
 -- A world that gave one more record, or none.
-use Rattle.std.proofs.Common.{◌++◌, ◌+ℤ◌, ◌+◌, ◌<ℤ◌, ◌∙◌, ◌∷◌, ◌≡◌, ◌≤ℤ◌, List, None, Option, Some, [], ap, arith, negsuc, pos, refl, subst, true, unsigned_abs}
+use Rattle.std.proofs.Common.{◌++◌, ◌+ℤ◌, ◌+◌, ◌<ℤ◌, ◌∙◌, ◌∷◌, ◌≡◌, ◌≤ℤ◌, Bool, List, Option, Some, [], ap, arith, false, negsuc, pos, refl, subst, true}
+use Rattle.std.proofs.Common.{unsigned_abs}
 use Rattle.std.{proofs.{Common.{ℕ, ℤ}, lemmas.Int.ints}, specs.Prelude.{IfNone, IfSome, option_to_list}}
+use Rattle.drift_world.specs.Running.{option_given}
 use Rattle.net_plan.specs.declared.{event.Event.Event, network.Network.Network}
 use Rattle.run_law.specs.declared.note.Note.{Note}
 use Rattle.tte_units.specs.{Amount.{amount, units_of}, declared.units.Units.Units}
 use Rattle.world_exact.{proofs.Worlds.go_on, specs.Worlds.{ExactWorld, StandsExact}}
 
--- what holds of the value of an option, or of none
+-- what holds of the value of an option
 pub if_some : {X : Type 0} (o : Option X) (x : X) (P : X → Type 0) → o ≡ Some x → IfSome o P → P x
 if_some {X} o x P e m = let R : Option X → Type 0 = λ p. IfSome p P in subst R e m
 
-pub if_none : {X : Type 0} (o : Option X) (P : Type 0) → o ≡ None → IfNone o P → P
-if_none {X} o P e m = let R : Option X → Type 0 = λ p. IfNone p P in subst R e m
+-- what holds where no record was given
+pub if_none : (given : Bool) (note : Note) (P : Type 0) → given ≡ false → IfNone (option_given given note) P → P
+if_none given note P e m = subst (λ (b : Bool). IfNone (option_given b note) P) e m
 
 -- a record was given
-pub given_some : (network : Network) (events : List Event) (notes : List Note) (world : ExactWorld) (o : Option Note) (note : Note) → o ≡ Some note
-    → StandsExact network world events (notes ++ option_to_list o) → StandsExact network world events (notes ++ note ∷ [])
-given_some network events notes world o note is stands = subst (λ (p : Option Note). StandsExact network world events (notes ++ option_to_list p)) is stands
+pub given_some : (network : Network) (events : List Event) (notes : List Note) (world : ExactWorld) (given : Bool) (note : Note) → given ≡ true
+    → StandsExact network world events (notes ++ option_to_list (option_given given note)) → StandsExact network world events (notes ++ note ∷ [])
+given_some network events notes world given note is stands =
+    subst (λ (b : Bool). StandsExact network world events (notes ++ option_to_list (option_given b note))) is stands
 
 -- or none was
-pub given_none : (network : Network) (events : List Event) (notes : List Note) (world : ExactWorld) (o : Option Note) → o ≡ None
-    → StandsExact network world events (notes ++ option_to_list o) → StandsExact network world events (notes ++ [])
-given_none network events notes world o is stands = subst (λ (p : Option Note). StandsExact network world events (notes ++ option_to_list p)) is stands
+pub given_none : (network : Network) (events : List Event) (notes : List Note) (world : ExactWorld) (given : Bool) (note : Note) → given ≡ false
+    → StandsExact network world events (notes ++ option_to_list (option_given given note)) → StandsExact network world events (notes ++ [])
+given_none network events notes world given note is stands =
+    subst (λ (b : Bool). StandsExact network world events (notes ++ option_to_list (option_given b note))) is stands
 
 -- it is of a time that is not reached
-pub is_before : (o : Option Note) (note : Note) (now : ℕ) (until : ℤ) → o ≡ Some note
-    → IfSome o (λ n. (n.time ≡ units_of now) × (n.time.0 <ℤ until)) → pos now <ℤ until
-is_before o note now until is before =
-    let at = if_some o note (λ (n : Note). (n.time ≡ units_of now) × (n.time.0 <ℤ until)) is before in
-    subst (λ (t : Units). t.0 <ℤ until) at.0 at.1
+pub is_before : (note : Note) (now : ℕ) (until : ℤ) → (note.time ≡ units_of now) × (note.time.0 <ℤ until) → pos now <ℤ until
+is_before note now until before = subst (λ (t : Units). t.0 <ℤ until) before.0 before.1
 
 -- after the end the time stays
 pub still_ended : (network : Network) (until : Units) (world next : ExactWorld) (events : List Event) (notes others : List Note)

@@ -1,7 +1,7 @@
 ghost use Rattle.std.specs.Prelude.{◌≡◌};
 ghost use Rattle.world_state.specs.Bodies.{body_of};
 
-use net_plan::{DeviceId, LinkId, VlId};
+use net_plan::{DeviceId, LinkId, VlId, What};
 use pcf_values::Members;
 use run_law::{Judgement, Note, NoteBody, Reason, Why};
 use std::marker::Model;
@@ -144,9 +144,9 @@ impl Model for Given {
     ghost view = { λ g. record { number = g.number; time = g.time; body = g.body } };
 }
 
-/// The body of its record.
-fn body_of(kind: Kind) -> NoteBody
-    ensures { result ≡ body_of kind }
+/// Puts the body of its record in the place of another. A body has room for an event, so that none is moved.
+fn put_body(kind: Kind, body: &mut NoteBody)
+    ensures { body.new ≡ body_of kind }
 {
     match kind {
         Kind::Arrived {
@@ -154,7 +154,7 @@ fn body_of(kind: Kind) -> NoteBody
             link,
             cause,
             clock,
-        } => NoteBody::Arrived {
+        } => *body = NoteBody::Arrived {
             device,
             link,
             cause,
@@ -166,7 +166,7 @@ fn body_of(kind: Kind) -> NoteBody
             cause,
             point,
             verdict,
-        } => NoteBody::Permanent {
+        } => *body = NoteBody::Permanent {
             device,
             link,
             cause,
@@ -180,7 +180,7 @@ fn body_of(kind: Kind) -> NoteBody
             cycle,
             members,
             verdict,
-        } => NoteBody::Compressed {
+        } => *body = NoteBody::Compressed {
             device,
             opened,
             at,
@@ -188,13 +188,13 @@ fn body_of(kind: Kind) -> NoteBody
             members,
             verdict,
         },
-        Kind::Sent { device, cycle } => NoteBody::Sent { device, cycle },
+        Kind::Sent { device, cycle } => *body = NoteBody::Sent { device, cycle },
         Kind::Corrected {
             device,
             cycle,
             by,
             adjustment,
-        } => NoteBody::Corrected {
+        } => *body = NoteBody::Corrected {
             device,
             cycle,
             by,
@@ -205,7 +205,7 @@ fn body_of(kind: Kind) -> NoteBody
             state,
             cause,
             why,
-        } => NoteBody::State {
+        } => *body = NoteBody::State {
             device,
             state,
             cause,
@@ -216,7 +216,7 @@ fn body_of(kind: Kind) -> NoteBody
             link,
             cause,
             clock,
-        } => NoteBody::Left {
+        } => *body = NoteBody::Left {
             device,
             link,
             cause,
@@ -226,7 +226,7 @@ fn body_of(kind: Kind) -> NoteBody
             device,
             link,
             cause,
-        } => NoteBody::Lost {
+        } => *body = NoteBody::Lost {
             device,
             link,
             cause,
@@ -237,7 +237,7 @@ fn body_of(kind: Kind) -> NoteBody
             cause,
             vl,
             cycle,
-        } => NoteBody::TtSent {
+        } => *body = NoteBody::TtSent {
             device,
             link,
             cause,
@@ -250,7 +250,7 @@ fn body_of(kind: Kind) -> NoteBody
             cause,
             vl,
             cycle,
-        } => NoteBody::Accepted {
+        } => *body = NoteBody::Accepted {
             device,
             link,
             cause,
@@ -263,7 +263,7 @@ fn body_of(kind: Kind) -> NoteBody
             cause,
             vl,
             cycle,
-        } => NoteBody::Delivered {
+        } => *body = NoteBody::Delivered {
             device,
             link,
             cause,
@@ -275,7 +275,7 @@ fn body_of(kind: Kind) -> NoteBody
             link,
             cause,
             reason,
-        } => NoteBody::Dropped {
+        } => *body = NoteBody::Dropped {
             device,
             link,
             cause,
@@ -286,7 +286,7 @@ fn body_of(kind: Kind) -> NoteBody
             reading,
             adjustment,
             state,
-        } => NoteBody::Clock {
+        } => *body = NoteBody::Clock {
             device,
             reading,
             adjustment,
@@ -296,6 +296,23 @@ fn body_of(kind: Kind) -> NoteBody
 }
 
 impl Given {
+    /// No record that was given: one may be put in its place.
+    pub fn none() -> Given
+        ensures { result.number ≡ 0 }
+    {
+        Given {
+            number: 0,
+            time: Units(0),
+            body: Body {
+                kind: Kind::Lost {
+                    device: DeviceId(0),
+                    link: LinkId(0),
+                    cause: 0,
+                },
+            },
+        }
+    }
+
     /// What it says.
     pub fn body(&self) -> &Body
         ensures { result.now ≡ self.now.body }
@@ -303,14 +320,28 @@ impl Given {
         &self.body
     }
 
+    /// Puts the record in the place of another.
+    pub fn note_in(&self, note: &mut Note)
+        ensures { note.new ≡ self.now }
+    {
+        note.number = self.number;
+        note.time = self.time;
+        put_body(self.body.kind, &mut note.body);
+    }
+
     /// The record.
     pub fn note(&self) -> Note
         ensures { result ≡ self.now }
     {
-        Note {
+        let mut note = Note {
             number: self.number,
             time: self.time,
-            body: body_of(self.body.kind),
-        }
+            body: NoteBody::Event {
+                line: 0,
+                what: What::End,
+            },
+        };
+        self.note_in(&mut note);
+        note
     }
 }

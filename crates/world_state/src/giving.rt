@@ -225,7 +225,10 @@ pub fn make_room(
     ensures capacity { OnOk result (IfSome waiter (λ d. 0 < room_of waiting.new d.0)) }
     ensures place { OnOk result (IfSome taker (HasPlace stored.new)) }
 {
-    under_way.reserve(network.link.as_slice().len() + 1)?;
+    let more = network.link.as_slice().len() + 1;
+    if under_way.room() < more && under_way.reserve(more).is_err() {
+        return Err(OutOfMemory);
+    }
     if let Some(device) = waiter {
         waiting.reserve(device)?;
     }

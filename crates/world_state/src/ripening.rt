@@ -75,7 +75,7 @@ fn dropped(waits: &Waits, reason: Reason) -> Settled
 }
 
 /// The record of a frame that was permanent.
-fn record_of(waits: &Waits, ripe: Ripe) -> Settled
+pub fn record_of(waits: &Waits, ripe: Ripe) -> Settled
     ensures { result ≡ ripe_record waits.now ripe }
 {
     match ripe {

@@ -1,4 +1,4 @@
-use Rattle.world_drive.proofs.Words.{◌++◌, ◌+◌, ◌<◌, ◌∙◌, ◌∷◌, CutsBefore, IsPast, None, NoteValue, Some, [], amount, arith, if_some, inr, ints, left_of, refl}
+use Rattle.world_drive.proofs.Words.{◌++◌, ◌+◌, ◌∙◌, ◌∷◌, CutsBefore, IsPast, None, Some, [], amount, arith, inr, ints, refl}
 use Rattle.world_drive.proofs.Words.{told_by}
 use Rattle.world_drive.proofs.Instants.{amount_now, complete_past, given_in, instant_over, match_on, on_ok}
 use Rattle.world_drive.{proofs.More.{cut_here, cut_one, puts_cut, puts_more, puts_none, puts_on, seen_none, seen_one}, specs.Seeing.SeesInstant}
@@ -44,17 +44,16 @@ record-requires-clause-may g c =
       notes = u.notes ++ h.more;
       instant = Some (amount c.args.time);
       old = u.old;
-      given = given_in network u.events (u.notes ++ h.more) c.in-Ok-Some.note c.args.time c.next_unit.result c.args.world.now c.notes.world
-          c.next_given.new.self c.in-Ok-Some.field-0 c.in-Ok-Some.field-0-is h.stands
-          (c.in-Ok-Some.ensures.stands network u.events (u.notes ++ h.more) h.stands)
-          c.in-Ok-Some.ensures.before u.at.now c.notes.invariant.now c.next_unit.ensures;
+      given = given_in network u.events (u.notes ++ h.more) c.next_given.new.note c.args.time c.next_unit.result c.args.world.now c.notes.world
+          c.next_given.new.self c.in-Ok-true.field-0 c.in-Ok-true.field-0-test h.stands
+          (c.in-Ok-true.ensures.stands network u.events (u.notes ++ h.more) h.stands)
+          c.in-Ok-true.ensures.before u.at.now c.notes.invariant.now c.next_unit.ensures;
       sees = h.sees;
     }
 
 pub notes-smaller : goal.notes-smaller
 notes-smaller g c =
-    if_some c.in-Ok-Some.field-0 c.in-Ok-Some.note (λ (n : NoteValue). left_of c.next_given.new.self < left_of c.notes.world) c.in-Ok-Some.field-0-is
-    c.in-Ok-Some.ensures.fewer
+    c.in-Ok-true.ensures.fewer c.in-Ok-true.field-0-test
 
 pub notes-preserved : goal.notes-preserved
 notes-preserved g c =
@@ -64,18 +63,18 @@ notes-preserved g c =
     let sink = g.K.Sink in
     let u = c.requires.seen in
     let own = c.notes.invariant.sees u.events u.notes u.old u.at u.sees in
-    let first = given_in network u.events (u.notes ++ own.more) c.in-Ok-Some.note time c.next_unit.result c.args.world.now c.notes.world next
-    c.in-Ok-Some.field-0 c.in-Ok-Some.field-0-is own.stands (c.in-Ok-Some.ensures.stands network u.events (u.notes ++ own.more) own.stands)
-    c.in-Ok-Some.ensures.before u.at.now c.notes.invariant.now c.next_unit.ensures in
+    let first = given_in network u.events (u.notes ++ own.more) c.next_given.new.note time c.next_unit.result c.args.world.now c.notes.world next
+    c.in-Ok-true.field-0 c.in-Ok-true.field-0-test own.stands (c.in-Ok-true.ensures.stands network u.events (u.notes ++ own.more) own.stands)
+    c.in-Ok-true.ensures.before u.at.now c.notes.invariant.now c.next_unit.ensures in
     let here = first.here in
     record {
       sees = λ events notes old a b.
           let h = c.notes.invariant.sees events notes old a b in
-          let given = given_in network events (notes ++ h.more) c.in-Ok-Some.note time c.next_unit.result c.args.world.now c.notes.world next
-          c.in-Ok-Some.field-0 c.in-Ok-Some.field-0-is h.stands (c.in-Ok-Some.ensures.stands network events (notes ++ h.more) h.stands)
-          c.in-Ok-Some.ensures.before a.now c.notes.invariant.now c.next_unit.ensures in
+          let given = given_in network events (notes ++ h.more) c.next_given.new.note time c.next_unit.result c.args.world.now c.notes.world next
+          c.in-Ok-true.field-0 c.in-Ok-true.field-0-test h.stands (c.in-Ok-true.ensures.stands network events (notes ++ h.more) h.stands)
+          c.in-Ok-true.ensures.before a.now c.notes.invariant.now c.next_unit.ensures in
           seen_one g.O.Observer.sees network events notes (Some (amount time)) (amount time + 1) c.notes.world c.notes.observer old (told_by sink c.notes.out) h
-          c.in-Ok-Some.note next (omega (arith, here)) given.stands c.record.new.self (told_by sink c.record.new.out)
+          c.next_given.new.note next (omega (arith, here)) given.stands c.record.new.self (told_by sink c.record.new.out)
           (c.in-Ok.ensures.goes events (notes ++ h.more) (Some (amount time)) old given h.sees);
       now = here ∙ amount_now c.args.world.now time u.at.now;
       puts = puts_more sink c.in-Ok.field-0 c.args.out.now c.notes.out c.record.new.out c.notes.invariant.puts c.in-Ok.ensures.puts;
@@ -88,12 +87,12 @@ returns-in-Err-record-clause-sees g c events notes old a b =
     let next = c.next_given.new.self in
     let sink = g.K.Sink in
     let h = c.notes.invariant.sees events notes old a b in
-    let given = given_in network events (notes ++ h.more) c.in-Ok-Some.note time c.next_unit.result c.args.world.now c.notes.world next
-    c.in-Ok-Some.field-0 c.in-Ok-Some.field-0-is h.stands (c.in-Ok-Some.ensures.stands network events (notes ++ h.more) h.stands)
-    c.in-Ok-Some.ensures.before a.now c.notes.invariant.now c.next_unit.ensures in
+    let given = given_in network events (notes ++ h.more) c.next_given.new.note time c.next_unit.result c.args.world.now c.notes.world next
+    c.in-Ok-true.field-0 c.in-Ok-true.field-0-test h.stands (c.in-Ok-true.ensures.stands network events (notes ++ h.more) h.stands)
+    c.in-Ok-true.ensures.before a.now c.notes.invariant.now c.next_unit.ensures in
     let here = given.here in
     cut_one g.O.Observer.sees network events notes (Some (amount time)) (amount time + 1) c.notes.world c.notes.observer old (told_by sink c.notes.out) h
-    c.in-Ok-Some.note next (omega (arith, here)) given.stands g.O.Observer.stops c.in-Err-record.cut (told_by sink c.record.new.out)
+    c.next_given.new.note next (omega (arith, here)) given.stands g.O.Observer.stops c.in-Err-record.cut (told_by sink c.record.new.out)
     (c.in-Err-record.ensures.goes events (notes ++ h.more) (Some (amount time)) old given h.sees)
 
 pub returns-in-Err-record-clause-puts : goal.returns-in-Err-record-clause-puts
@@ -108,9 +107,9 @@ instant-requires-clause-may g c =
     let limit = u.at.stands.is.limit in
     let h = c.notes.invariant.sees u.events u.notes u.old u.at u.sees in
     let over = instant_over network u.events u.notes h.more c.args.time c.next_unit.result c.args.world.now c.notes.world c.next_given.new.self
-    c.in-Ok-None.field-0 c.in-Ok-None.field-0-is u.at h.stands c.notes.invariant.now c.next_unit.ensures
-    (c.in-Ok-None.ensures.stands network u.events (u.notes ++ h.more) h.stands)
-    (c.in-Ok-None.ensures.complete network u.events (u.notes ++ h.more) h.stands) c.in-Ok-None.ensures.reached in
+    c.in-Ok-false.field-0 c.next_given.new.note c.in-Ok-false.field-0-test u.at h.stands c.notes.invariant.now c.next_unit.ensures
+    (c.in-Ok-false.ensures.stands network u.events (u.notes ++ h.more) h.stands)
+    (c.in-Ok-false.ensures.complete network u.events (u.notes ++ h.more) h.stands) c.in-Ok-false.ensures.reached in
     record {
       begun = omega (arith, ints, now);
       limit = omega (arith, ints, now, limit);
@@ -121,8 +120,8 @@ instant-requires-clause-may g c =
       sees = h.sees;
     }
 
-pub returns-in-Ok-None-clause-sees : goal.returns-in-Ok-None-clause-sees
-returns-in-Ok-None-clause-sees g c events notes old a b =
+pub returns-in-Ok-false-clause-sees : goal.returns-in-Ok-false-clause-sees
+returns-in-Ok-false-clause-sees g c events notes old a b =
     let network = c.args.network.now in
     let time = c.args.time in
     let next = c.next_given.new.self in
@@ -132,8 +131,8 @@ returns-in-Ok-None-clause-sees g c events notes old a b =
     let h = c.notes.invariant.sees events notes old a b in
     let ns = notes ++ h.more in
     let over = instant_over network events notes h.more time c.next_unit.result c.args.world.now c.notes.world next
-    c.in-Ok-None.field-0 c.in-Ok-None.field-0-is a h.stands c.notes.invariant.now c.next_unit.ensures
-    (c.in-Ok-None.ensures.stands network events ns h.stands) (c.in-Ok-None.ensures.complete network events ns h.stands) c.in-Ok-None.ensures.reached in
+    c.in-Ok-false.field-0 c.next_given.new.note c.in-Ok-false.field-0-test a h.stands c.notes.invariant.now c.next_unit.ensures
+    (c.in-Ok-false.ensures.stands network events ns h.stands) (c.in-Ok-false.ensures.complete network events ns h.stands) c.in-Ok-false.ensures.reached in
     match_on c.instant.result (λ _. see network events ns None old put c.instant.new.self)
     (λ _. SeesInstant see network events notes time next c.instant.new.self old put)
     (λ cut. stop network events ns cut old put) (λ cut. CutsBefore stop network events notes (amount time + 1) cut old put)
@@ -141,19 +140,19 @@ returns-in-Ok-None-clause-sees g c events notes old a b =
     (λ cut stops. record { more = h.more; earlier = inr ((amount time + 1) ∷ [], λ p before. before, over.all); stops = stops })
     (c.instant.ensures.goes events ns old (complete_past network events notes h.more time c.args.world.now next a over.stands over.past over.all) h.sees)
 
-pub returns-in-Ok-None-clause-past : goal.returns-in-Ok-None-clause-past
-returns-in-Ok-None-clause-past g c =
+pub returns-in-Ok-false-clause-past : goal.returns-in-Ok-false-clause-past
+returns-in-Ok-false-clause-past g c =
     let network = c.args.network.now in
     let u = c.requires.seen in
     let h = c.notes.invariant.sees u.events u.notes u.old u.at u.sees in
     let over = instant_over network u.events u.notes h.more c.args.time c.next_unit.result c.args.world.now c.notes.world c.next_given.new.self
-    c.in-Ok-None.field-0 c.in-Ok-None.field-0-is u.at h.stands c.notes.invariant.now c.next_unit.ensures
-    (c.in-Ok-None.ensures.stands network u.events (u.notes ++ h.more) h.stands)
-    (c.in-Ok-None.ensures.complete network u.events (u.notes ++ h.more) h.stands) c.in-Ok-None.ensures.reached in
+    c.in-Ok-false.field-0 c.next_given.new.note c.in-Ok-false.field-0-test u.at h.stands c.notes.invariant.now c.next_unit.ensures
+    (c.in-Ok-false.ensures.stands network u.events (u.notes ++ h.more) h.stands)
+    (c.in-Ok-false.ensures.complete network u.events (u.notes ++ h.more) h.stands) c.in-Ok-false.ensures.reached in
     on_ok c.instant.result (IsPast c.args.world.now c.next_given.new.self) over.past
 
-pub returns-in-Ok-None-clause-puts : goal.returns-in-Ok-None-clause-puts
-returns-in-Ok-None-clause-puts g c = puts_on g.K.Sink c.instant.result c.args.out.now c.notes.out c.instant.new.out c.notes.invariant.puts
+pub returns-in-Ok-false-clause-puts : goal.returns-in-Ok-false-clause-puts
+returns-in-Ok-false-clause-puts g c = puts_on g.K.Sink c.instant.result c.args.out.now c.notes.out c.instant.new.out c.notes.invariant.puts
     c.instant.ensures.puts
 
 pub returns-in-Err-clause-sees : goal.returns-in-Err-clause-sees

@@ -1,7 +1,6 @@
-use Rattle.world_drive.proofs.Words.{◌++◌, ◌+◌, ◌<◌, ◌∙◌, ◌∷◌, ◌≡◌, IsUnderwayAt, List, None, NoteValue, Reaches, Some, StandsExact, Units, [], amount, ap}
-use Rattle.world_drive.proofs.Words.{arith, fresh_segment, go_on, if_some, inl, inr, ints, left_of, refl, segment_reading, stepped_segment, subst, sym, told_by}
+use Rattle.world_drive.proofs.Words.{◌++◌, ◌+◌, ◌∙◌, ◌∷◌, ◌≡◌, IsUnderwayAt, List, None, NoteValue, Reaches, Some, StandsExact, Units, [], amount, ap}
+use Rattle.world_drive.proofs.Words.{arith, go_on, inl, inr, ints, refl, subst, sym, told_by}
 use Rattle.std.proofs.Common.{Bool}
-use Rattle.safe_runs.specs.Headline.{IsSafeFront}
 use Rattle.world_exact.proofs.{Given.{given_none, if_none, is_before}, Worlds.below_amount}
 use Rattle.world_drive.proofs.Instants.{given_before, underway_now}
 use Rattle.world_drive.proofs.More.{cut_here, cut_in_instant, cut_one, puts_cut, puts_more, puts_none, puts_well, seen_instant, seen_none, seen_one, seen_until}
@@ -39,9 +38,9 @@ record-requires-clause-may g c =
       notes = u.notes ++ h.more;
       instant = None;
       old = u.old;
-      given = given_before network u.events (u.notes ++ h.more) c.in-Ok-Some.note c.args.until c.next_given.new.self c.in-Ok-Some.field-0
-          c.in-Ok-Some.field-0-is
-          (c.in-Ok-Some.ensures.stands network u.events (u.notes ++ h.more) h.stands) c.in-Ok-Some.ensures.before;
+      given = given_before network u.events (u.notes ++ h.more) c.next_given.new.note c.args.until c.next_given.new.self c.in-Ok-true.field-0
+          c.in-Ok-true.field-0-test
+          (c.in-Ok-true.ensures.stands network u.events (u.notes ++ h.more) h.stands) c.in-Ok-true.ensures.before;
       sees = h.sees;
     }
 
@@ -51,16 +50,16 @@ see_instant-requires-clause-seen g c =
     let until = c.args.until in
     let sink = g.K.Sink in
     let see = g.O.Observer.sees in
-    let note = c.in-Ok-Some.note in
+    let note = c.next_given.new.note in
     let world = c.notes.world in
     let next = c.next_given.new.self in
     let time = c.note.inside.time in
     let time_is : time ≡ note.time = ap (λ (n : NoteValue). n.time) c.note.view_is in
-    let before = is_before c.in-Ok-Some.field-0 note next.now until.0 c.in-Ok-Some.field-0-is c.in-Ok-Some.ensures.before in
+    let before = is_before note next.now until.0 (c.in-Ok-true.ensures.before c.in-Ok-true.field-0-test) in
     let u = c.requires.seen in
     let h = c.notes.invariant.sees u.events u.notes u.old u.stands u.sees in
-    let given = given_before network u.events (u.notes ++ h.more) note until next c.in-Ok-Some.field-0 c.in-Ok-Some.field-0-is
-    (c.in-Ok-Some.ensures.stands network u.events (u.notes ++ h.more) h.stands) c.in-Ok-Some.ensures.before in
+    let given = given_before network u.events (u.notes ++ h.more) note until next c.in-Ok-true.field-0 c.in-Ok-true.field-0-test
+    (c.in-Ok-true.ensures.stands network u.events (u.notes ++ h.more) h.stands) c.in-Ok-true.ensures.before in
     let room = room_now network until world next u.events (u.notes ++ h.more) ((u.notes ++ h.more) ++ note ∷ []) h.stands given.stands before
     c.notes.invariant.asked in
     record {
@@ -68,18 +67,18 @@ see_instant-requires-clause-seen g c =
       notes = (u.notes ++ h.more) ++ note ∷ [];
       old = u.old;
       at = subst (λ (u_ : Units). IsUnderwayAt network next u.events ((u.notes ++ h.more) ++ note ∷ []) u_) (sym time_is)
-          (underway_now network next u.events (u.notes ++ h.more) note given.stands given.at (c.in-Ok-true.ensures.asks c.in-Ok-true.field-0-test) room);
+          (underway_now network next u.events (u.notes ++ h.more) note given.stands given.at (c.in-Ok-true-record.ensures.asks c.in-Ok-true-record.field-0-test)
+          room);
       sees = subst (λ (u_ : Units). see network u.events ((u.notes ++ h.more) ++ note ∷ []) (Some (amount u_)) u.old (told_by sink c.record.new.out)
           c.record.new.self) (sym time_is)
           (subst (λ (asks : Bool). see network u.events ((u.notes ++ h.more) ++ note ∷ []) (instant_of None asks note.time) u.old
-          (told_by sink c.record.new.out) c.record.new.self) c.in-Ok-true.field-0-test
-          (c.in-Ok-true.ensures.goes u.events (u.notes ++ h.more) None u.old given h.sees));
+          (told_by sink c.record.new.out) c.record.new.self) c.in-Ok-true-record.field-0-test
+          (c.in-Ok-true-record.ensures.goes u.events (u.notes ++ h.more) None u.old given h.sees));
     }
 
 pub notes-smaller : goal.notes-smaller
 notes-smaller g c =
-    if_some c.in-Ok-Some.field-0 c.in-Ok-Some.note (λ (n : NoteValue). left_of c.next_given.new.self < left_of c.notes.world) c.in-Ok-Some.field-0-is
-    c.in-Ok-Some.ensures.fewer
+    c.in-Ok-true.ensures.fewer c.in-Ok-true.field-0-test
 
 pub notes-preserved : goal.notes-preserved
 notes-preserved g c =
@@ -87,28 +86,28 @@ notes-preserved g c =
     let until = c.args.until in
     let sink = g.K.Sink in
     let see = g.O.Observer.sees in
-    let note = c.in-Ok-Some.note in
+    let note = c.next_given.new.note in
     let world = c.notes.world in
     let next = c.next_given.new.self in
-    let before = is_before c.in-Ok-Some.field-0 note next.now until.0 c.in-Ok-Some.field-0-is c.in-Ok-Some.ensures.before in
+    let before = is_before note next.now until.0 (c.in-Ok-true.ensures.before c.in-Ok-true.field-0-test) in
     let u = c.requires.seen in
     let own = c.notes.invariant.sees u.events u.notes u.old u.stands u.sees in
     let ns = u.notes ++ own.more in
-    let first = given_before network u.events ns note until next c.in-Ok-Some.field-0 c.in-Ok-Some.field-0-is
-    (c.in-Ok-Some.ensures.stands network u.events ns own.stands) c.in-Ok-Some.ensures.before in
+    let first = given_before network u.events ns note until next c.in-Ok-true.field-0 c.in-Ok-true.field-0-test
+    (c.in-Ok-true.ensures.stands network u.events ns own.stands) c.in-Ok-true.ensures.before in
     record {
       sees = λ events notes old a b.
           let h = c.notes.invariant.sees events notes old a b in
-          let given = given_before network events (notes ++ h.more) note until next c.in-Ok-Some.field-0 c.in-Ok-Some.field-0-is
-          (c.in-Ok-Some.ensures.stands network events (notes ++ h.more) h.stands) c.in-Ok-Some.ensures.before in
+          let given = given_before network events (notes ++ h.more) note until next c.in-Ok-true.field-0 c.in-Ok-true.field-0-test
+          (c.in-Ok-true.ensures.stands network events (notes ++ h.more) h.stands) c.in-Ok-true.ensures.before in
           let saw = subst (λ (asks : Bool). see network events ((notes ++ h.more) ++ note ∷ []) (instant_of None asks note.time) old
-          (told_by sink c.record.new.out) c.record.new.self) c.in-Ok-false.field-0-test
-          (c.in-Ok-false.ensures.goes events (notes ++ h.more) None old given h.sees) in
+          (told_by sink c.record.new.out) c.record.new.self) c.in-Ok-false-record.field-0-test
+          (c.in-Ok-false-record.ensures.goes events (notes ++ h.more) None old given h.sees) in
           seen_one see network events notes None (amount until) world c.notes.observer old (told_by sink c.notes.out) h note next
           (below_amount next.now until.0 before) given.stands c.record.new.self (told_by sink c.record.new.out) saw;
       asked = asked_still network until world next u.events ns (ns ++ note ∷ []) own.stands first.stands (omega (arith, ints, before)) c.notes.invariant.asked;
       way = λ open_. inr (inl before);
-      puts = puts_more sink c.in-Ok-false.field-0 c.args.out.now c.notes.out c.record.new.out c.notes.invariant.puts c.in-Ok-false.ensures.puts;
+      puts = puts_more sink c.in-Ok-false-record.field-0 c.args.out.now c.notes.out c.record.new.out c.notes.invariant.puts c.in-Ok-false-record.ensures.puts;
     }
 
 pub notes-smaller-in-Ok : goal.notes-smaller-in-Ok
@@ -117,28 +116,28 @@ notes-smaller-in-Ok g c =
     let until = c.args.until in
     let sink = g.K.Sink in
     let see = g.O.Observer.sees in
-    let note = c.in-Ok-Some.note in
+    let note = c.next_given.new.note in
     let world = c.notes.world in
     let next = c.next_given.new.self in
     let time = c.note.inside.time in
     let time_is : time ≡ note.time = ap (λ (n : NoteValue). n.time) c.note.view_is in
-    let before = is_before c.in-Ok-Some.field-0 note next.now until.0 c.in-Ok-Some.field-0-is c.in-Ok-Some.ensures.before in
+    let before = is_before note next.now until.0 (c.in-Ok-true.ensures.before c.in-Ok-true.field-0-test) in
     let events = c.requires.seen.events in
     let notes = c.requires.seen.notes in
     let old = c.requires.seen.old in
     let a = c.requires.seen.stands in
     let b = c.requires.seen.sees in
     let h = c.notes.invariant.sees events notes old a b in
-    let given = given_before network events (notes ++ h.more) note until next c.in-Ok-Some.field-0 c.in-Ok-Some.field-0-is
-    (c.in-Ok-Some.ensures.stands network events (notes ++ h.more) h.stands) c.in-Ok-Some.ensures.before in
+    let given = given_before network events (notes ++ h.more) note until next c.in-Ok-true.field-0 c.in-Ok-true.field-0-test
+    (c.in-Ok-true.ensures.stands network events (notes ++ h.more) h.stands) c.in-Ok-true.ensures.before in
     let room = room_now network until world next events (notes ++ h.more) ((notes ++ h.more) ++ note ∷ []) h.stands given.stands before
     c.notes.invariant.asked in
     let at = subst (λ (u : Units). IsUnderwayAt network next events ((notes ++ h.more) ++ note ∷ []) u) (sym time_is)
-    (underway_now network next events (notes ++ h.more) note given.stands given.at (c.in-Ok-true.ensures.asks c.in-Ok-true.field-0-test) room) in
+    (underway_now network next events (notes ++ h.more) note given.stands given.at (c.in-Ok-true-record.ensures.asks c.in-Ok-true-record.field-0-test) room) in
     let saw = subst (λ (u : Units). see network events ((notes ++ h.more) ++ note ∷ []) (Some (amount u)) old (told_by sink c.record.new.out) c.record.new.self)
     (sym time_is) (subst (λ (asks : Bool). see network events ((notes ++ h.more) ++ note ∷ []) (instant_of None asks note.time) old
-    (told_by sink c.record.new.out) c.record.new.self) c.in-Ok-true.field-0-test
-    (c.in-Ok-true.ensures.goes events (notes ++ h.more) None old given h.sees)) in
+    (told_by sink c.record.new.out) c.record.new.self) c.in-Ok-true-record.field-0-test
+    (c.in-Ok-true-record.ensures.goes events (notes ++ h.more) None old given h.sees)) in
     let s = c.in-Ok.ensures.sees events ((notes ++ h.more) ++ note ∷ []) old at saw in
     fewer network events events (notes ++ h.more) s.more note world c.see_instant.new.world h.stands s.stands
 
@@ -148,48 +147,49 @@ notes-preserved-in-Ok g c =
     let until = c.args.until in
     let sink = g.K.Sink in
     let see = g.O.Observer.sees in
-    let note = c.in-Ok-Some.note in
+    let note = c.next_given.new.note in
     let world = c.notes.world in
     let next = c.next_given.new.self in
     let time = c.note.inside.time in
     let time_is : time ≡ note.time = ap (λ (n : NoteValue). n.time) c.note.view_is in
-    let before = is_before c.in-Ok-Some.field-0 note next.now until.0 c.in-Ok-Some.field-0-is c.in-Ok-Some.ensures.before in
+    let before = is_before note next.now until.0 (c.in-Ok-true.ensures.before c.in-Ok-true.field-0-test) in
     let u = c.requires.seen in
     let own = c.notes.invariant.sees u.events u.notes u.old u.stands u.sees in
     let ns = u.notes ++ own.more in
-    let first = given_before network u.events ns note until next c.in-Ok-Some.field-0 c.in-Ok-Some.field-0-is
-    (c.in-Ok-Some.ensures.stands network u.events ns own.stands) c.in-Ok-Some.ensures.before in
+    let first = given_before network u.events ns note until next c.in-Ok-true.field-0 c.in-Ok-true.field-0-test
+    (c.in-Ok-true.ensures.stands network u.events ns own.stands) c.in-Ok-true.ensures.before in
     let past = c.see_instant.new.world in
     let on = c.in-Ok.ensures.past in
     let others : (ms : List NoteValue) × StandsExact network past u.events ms =
     (let events = u.events in let notes = u.notes in let old = u.old in let a = u.stands in let b = u.sees in
     let h = c.notes.invariant.sees events notes old a b in
-    let given = given_before network events (notes ++ h.more) note until next c.in-Ok-Some.field-0 c.in-Ok-Some.field-0-is
-    (c.in-Ok-Some.ensures.stands network events (notes ++ h.more) h.stands) c.in-Ok-Some.ensures.before in
+    let given = given_before network events (notes ++ h.more) note until next c.in-Ok-true.field-0 c.in-Ok-true.field-0-test
+    (c.in-Ok-true.ensures.stands network events (notes ++ h.more) h.stands) c.in-Ok-true.ensures.before in
     let room = room_now network until world next events (notes ++ h.more) ((notes ++ h.more) ++ note ∷ []) h.stands given.stands before
     c.notes.invariant.asked in
     let at = subst (λ (u : Units). IsUnderwayAt network next events ((notes ++ h.more) ++ note ∷ []) u) (sym time_is)
-    (underway_now network next events (notes ++ h.more) note given.stands given.at (c.in-Ok-true.ensures.asks c.in-Ok-true.field-0-test) room) in
+    (underway_now network next events (notes ++ h.more) note given.stands given.at (c.in-Ok-true-record.ensures.asks c.in-Ok-true-record.field-0-test) room) in
     let saw = subst (λ (u : Units). see network events ((notes ++ h.more) ++ note ∷ []) (Some (amount u)) old (told_by sink c.record.new.out) c.record.new.self)
     (sym time_is) (subst (λ (asks : Bool). see network events ((notes ++ h.more) ++ note ∷ []) (instant_of None asks note.time) old
-    (told_by sink c.record.new.out) c.record.new.self) c.in-Ok-true.field-0-test
-    (c.in-Ok-true.ensures.goes events (notes ++ h.more) None old given h.sees)) in
+    (told_by sink c.record.new.out) c.record.new.self) c.in-Ok-true-record.field-0-test
+    (c.in-Ok-true-record.ensures.goes events (notes ++ h.more) None old given h.sees)) in
     let s = c.in-Ok.ensures.sees events ((notes ++ h.more) ++ note ∷ []) old at saw in
     (((notes ++ h.more) ++ note ∷ []) ++ s.more, s.stands)) in
     record {
       sees = λ events notes old a b.
           let h = c.notes.invariant.sees events notes old a b in
-          let given = given_before network events (notes ++ h.more) note until next c.in-Ok-Some.field-0 c.in-Ok-Some.field-0-is
-          (c.in-Ok-Some.ensures.stands network events (notes ++ h.more) h.stands) c.in-Ok-Some.ensures.before in
+          let given = given_before network events (notes ++ h.more) note until next c.in-Ok-true.field-0 c.in-Ok-true.field-0-test
+          (c.in-Ok-true.ensures.stands network events (notes ++ h.more) h.stands) c.in-Ok-true.ensures.before in
           let room = room_now network until world next events (notes ++ h.more) ((notes ++ h.more) ++ note ∷ []) h.stands given.stands before
           c.notes.invariant.asked in
           let at = subst (λ (u : Units). IsUnderwayAt network next events ((notes ++ h.more) ++ note ∷ []) u) (sym time_is)
-          (underway_now network next events (notes ++ h.more) note given.stands given.at (c.in-Ok-true.ensures.asks c.in-Ok-true.field-0-test) room) in
+          (underway_now network next events (notes ++ h.more) note given.stands given.at (c.in-Ok-true-record.ensures.asks c.in-Ok-true-record.field-0-test)
+          room) in
           let saw = subst (λ (u : Units). see network events ((notes ++ h.more) ++ note
           ∷ []) (Some (amount u)) old (told_by sink c.record.new.out) c.record.new.self)
           (sym time_is) (subst (λ (asks : Bool). see network events ((notes ++ h.more) ++ note ∷ []) (instant_of None asks note.time) old
-          (told_by sink c.record.new.out) c.record.new.self) c.in-Ok-true.field-0-test
-          (c.in-Ok-true.ensures.goes events (notes ++ h.more) None old given h.sees)) in
+          (told_by sink c.record.new.out) c.record.new.self) c.in-Ok-true-record.field-0-test
+          (c.in-Ok-true-record.ensures.goes events (notes ++ h.more) None old given h.sees)) in
           let s = c.in-Ok.ensures.sees events ((notes ++ h.more) ++ note ∷ []) old at saw in
           let same = ap amount (time_is ∙ given.at) in
           let below = below_amount next.now until.0 before in
@@ -200,7 +200,7 @@ notes-preserved-in-Ok g c =
           past_near c.args.world.now next past until before
           ((go_on network c.args.world.now past u.events u.notes others.0 u.stands others.1).unended open_) on;
       puts = puts_more sink (tt {0}) c.args.out.now c.record.new.out c.see_instant.new.out
-          (puts_more sink c.in-Ok-true.field-0 c.args.out.now c.notes.out c.record.new.out c.notes.invariant.puts c.in-Ok-true.ensures.puts)
+          (puts_more sink c.in-Ok-true-record.field-0 c.args.out.now c.notes.out c.record.new.out c.notes.invariant.puts c.in-Ok-true-record.ensures.puts)
           c.in-Ok.ensures.puts;
     }
 
@@ -210,23 +210,23 @@ returns-in-Err-see_instant-clause-sees g c events notes old a b =
     let until = c.args.until in
     let sink = g.K.Sink in
     let see = g.O.Observer.sees in
-    let note = c.in-Ok-Some.note in
+    let note = c.next_given.new.note in
     let world = c.notes.world in
     let next = c.next_given.new.self in
     let time = c.note.inside.time in
     let time_is : time ≡ note.time = ap (λ (n : NoteValue). n.time) c.note.view_is in
-    let before = is_before c.in-Ok-Some.field-0 note next.now until.0 c.in-Ok-Some.field-0-is c.in-Ok-Some.ensures.before in
+    let before = is_before note next.now until.0 (c.in-Ok-true.ensures.before c.in-Ok-true.field-0-test) in
     let h = c.notes.invariant.sees events notes old a b in
-    let given = given_before network events (notes ++ h.more) note until next c.in-Ok-Some.field-0 c.in-Ok-Some.field-0-is
-    (c.in-Ok-Some.ensures.stands network events (notes ++ h.more) h.stands) c.in-Ok-Some.ensures.before in
+    let given = given_before network events (notes ++ h.more) note until next c.in-Ok-true.field-0 c.in-Ok-true.field-0-test
+    (c.in-Ok-true.ensures.stands network events (notes ++ h.more) h.stands) c.in-Ok-true.ensures.before in
     let room = room_now network until world next events (notes ++ h.more) ((notes ++ h.more) ++ note ∷ []) h.stands given.stands before
     c.notes.invariant.asked in
     let at = subst (λ (u : Units). IsUnderwayAt network next events ((notes ++ h.more) ++ note ∷ []) u) (sym time_is)
-    (underway_now network next events (notes ++ h.more) note given.stands given.at (c.in-Ok-true.ensures.asks c.in-Ok-true.field-0-test) room) in
+    (underway_now network next events (notes ++ h.more) note given.stands given.at (c.in-Ok-true-record.ensures.asks c.in-Ok-true-record.field-0-test) room) in
     let saw = subst (λ (u : Units). see network events ((notes ++ h.more) ++ note ∷ []) (Some (amount u)) old (told_by sink c.record.new.out) c.record.new.self)
     (sym time_is) (subst (λ (asks : Bool). see network events ((notes ++ h.more) ++ note ∷ []) (instant_of None asks note.time) old
-    (told_by sink c.record.new.out) c.record.new.self) c.in-Ok-true.field-0-test
-    (c.in-Ok-true.ensures.goes events (notes ++ h.more) None old given h.sees)) in
+    (told_by sink c.record.new.out) c.record.new.self) c.in-Ok-true-record.field-0-test
+    (c.in-Ok-true-record.ensures.goes events (notes ++ h.more) None old given h.sees)) in
     let k = c.in-Err-see_instant.ensures.sees events ((notes ++ h.more) ++ note ∷ []) old at saw in
     let same = ap amount (time_is ∙ given.at) in
     let below = below_amount next.now until.0 before in
@@ -237,7 +237,7 @@ pub returns-in-Err-see_instant-clause-puts : goal.returns-in-Err-see_instant-cla
 returns-in-Err-see_instant-clause-puts g c =
     let sink = g.K.Sink in
     puts_cut sink c.in-Err-see_instant.cut c.args.out.now c.record.new.out c.see_instant.new.out
-    (puts_more sink c.in-Ok-true.field-0 c.args.out.now c.notes.out c.record.new.out c.notes.invariant.puts c.in-Ok-true.ensures.puts)
+    (puts_more sink c.in-Ok-true-record.field-0 c.args.out.now c.notes.out c.record.new.out c.notes.invariant.puts c.in-Ok-true-record.ensures.puts)
     c.in-Err-see_instant.ensures.puts
 
 pub returns-in-Err-record-clause-sees : goal.returns-in-Err-record-clause-sees
@@ -246,13 +246,13 @@ returns-in-Err-record-clause-sees g c events notes old a b =
     let until = c.args.until in
     let sink = g.K.Sink in
     let see = g.O.Observer.sees in
-    let note = c.in-Ok-Some.note in
+    let note = c.next_given.new.note in
     let world = c.notes.world in
     let next = c.next_given.new.self in
-    let before = is_before c.in-Ok-Some.field-0 note next.now until.0 c.in-Ok-Some.field-0-is c.in-Ok-Some.ensures.before in
+    let before = is_before note next.now until.0 (c.in-Ok-true.ensures.before c.in-Ok-true.field-0-test) in
     let h = c.notes.invariant.sees events notes old a b in
-    let given = given_before network events (notes ++ h.more) note until next c.in-Ok-Some.field-0 c.in-Ok-Some.field-0-is
-    (c.in-Ok-Some.ensures.stands network events (notes ++ h.more) h.stands) c.in-Ok-Some.ensures.before in
+    let given = given_before network events (notes ++ h.more) note until next c.in-Ok-true.field-0 c.in-Ok-true.field-0-test
+    (c.in-Ok-true.ensures.stands network events (notes ++ h.more) h.stands) c.in-Ok-true.ensures.before in
     cut_one see network events notes None (amount until) world c.notes.observer old (told_by sink c.notes.out) h note next
     (below_amount next.now until.0 before) given.stands g.O.Observer.stops c.in-Err-record.cut (told_by sink c.record.new.out)
     (c.in-Err-record.ensures.goes events (notes ++ h.more) None old given h.sees)
@@ -261,31 +261,31 @@ pub returns-in-Err-record-clause-puts : goal.returns-in-Err-record-clause-puts
 returns-in-Err-record-clause-puts g c =
     puts_cut g.K.Sink c.in-Err-record.cut c.args.out.now c.notes.out c.record.new.out c.notes.invariant.puts c.in-Err-record.ensures.puts
 
-pub returns-in-Ok-None-clause-sees : goal.returns-in-Ok-None-clause-sees
-returns-in-Ok-None-clause-sees g c events notes old a b =
+pub returns-in-Ok-false-clause-sees : goal.returns-in-Ok-false-clause-sees
+returns-in-Ok-false-clause-sees g c events notes old a b =
     let network = c.args.network.now in
     let until = c.args.until in
     let next = c.next_given.new.self in
     let h = c.notes.invariant.sees events notes old a b in
     let ns = notes ++ h.more in
     seen_until g.O.Observer.sees network events notes until c.args.world.now c.notes.world next c.notes.observer old (told_by g.K.Sink c.notes.out) h
-    (given_none network events ns next c.in-Ok-None.field-0 c.in-Ok-None.field-0-is (c.in-Ok-None.ensures.stands network events ns h.stands))
+    (given_none network events ns next c.in-Ok-false.field-0 c.next_given.new.note c.in-Ok-false.field-0-test
+    (c.in-Ok-false.ensures.stands network events ns h.stands))
     (λ ended lt.
     let same = (end_stays network c.args.world.now c.notes.world events notes ns a h.stands ended).1 in
-    (if_none c.in-Ok-None.field-0 (IsSafeFront fresh_segment stepped_segment segment_reading network events (amount until) ns) c.in-Ok-None.field-0-is
-    (c.in-Ok-None.ensures.complete network events ns h.stands (omega (arith, ints, same, lt)))).run)
+    (c.in-Ok-false.ensures.complete network events ns h.stands (omega (arith, ints, same, lt)) c.in-Ok-false.field-0-test).run)
 
-pub returns-in-Ok-None-clause-reached : goal.returns-in-Ok-None-clause-reached
-returns-in-Ok-None-clause-reached g c =
+pub returns-in-Ok-false-clause-reached : goal.returns-in-Ok-false-clause-reached
+returns-in-Ok-false-clause-reached g c =
     let network = c.args.network.now in
     let next = c.next_given.new.self in
     let u = c.requires.seen in
     let h = c.notes.invariant.sees u.events u.notes u.old u.stands u.sees in
     way_reached network c.args.until c.args.world.now c.notes.world next u.events u.notes (u.notes ++ h.more) u.stands h.stands c.notes.invariant.way
-    (if_none c.in-Ok-None.field-0 (Reaches c.notes.world next c.args.until) c.in-Ok-None.field-0-is c.in-Ok-None.ensures.reached)
+    (if_none c.in-Ok-false.field-0 c.next_given.new.note (Reaches c.notes.world next c.args.until) c.in-Ok-false.field-0-test c.in-Ok-false.ensures.reached)
 
-pub returns-in-Ok-None-clause-puts : goal.returns-in-Ok-None-clause-puts
-returns-in-Ok-None-clause-puts g c = puts_well g.K.Sink (tt {0}) c.args.out.now c.notes.out c.notes.invariant.puts
+pub returns-in-Ok-false-clause-puts : goal.returns-in-Ok-false-clause-puts
+returns-in-Ok-false-clause-puts g c = puts_well g.K.Sink (tt {0}) c.args.out.now c.notes.out c.notes.invariant.puts
 
 pub returns-in-Err-clause-sees : goal.returns-in-Err-clause-sees
 returns-in-Err-clause-sees g c events notes old a b =

@@ -1,4 +1,5 @@
 use Rattle.drift_world.proofs.Words.{◌≡◌, ap, arith, length, subst}
+use Rattle.std.proofs.lemmas.Bool.{not-false, not-true}
 use Rattle.drift_world.{proofs.ActTurns.{IsActed, all_acted, comes_at, turn_begun, turn_on, turn_with}, specs.declared.state.State.State}
 use Rattle.drift_world.proofs.state.State.act_first.Goals as goal
 
@@ -16,18 +17,18 @@ returns-in-Err-clause-err g c = λ s notes old first.
     ((turn_with g.C.Clock.last_step g.C.Clock.reading g.M.Machine.stands c.args.network.now c.args.device c.args.self.now c.acts.self c.reserve_two.new.self
     c.acts.acts c.reserve_two.ensures.same c.reserve_two.ensures.items c.acts.invariant).still s notes old first).new
 
-pub act_once-requires-clause-sound : goal.act_once-requires-clause-sound
-act_once-requires-clause-sound g c =
+pub act_once-left-requires-clause-sound : goal.act_once-left-requires-clause-sound
+act_once-left-requires-clause-sound g c =
     (turn_with g.C.Clock.last_step g.C.Clock.reading g.M.Machine.stands c.args.network.now c.args.device c.args.self.now c.acts.self c.reserve_two.new.self
     c.acts.acts c.reserve_two.ensures.same c.reserve_two.ensures.items c.acts.invariant).sound
 
-pub act_once-requires-clause-due : goal.act_once-requires-clause-due
-act_once-requires-clause-due g c =
+pub act_once-left-requires-clause-due : goal.act_once-left-requires-clause-due
+act_once-left-requires-clause-due g c =
     (turn_with g.C.Clock.last_step g.C.Clock.reading g.M.Machine.stands c.args.network.now c.args.device c.args.self.now c.acts.self c.reserve_two.new.self
     c.acts.acts c.reserve_two.ensures.same c.reserve_two.ensures.items c.acts.invariant).due
 
-pub act_once-requires-clause-comes : goal.act_once-requires-clause-comes
-act_once-requires-clause-comes g c =
+pub act_once-left-requires-clause-comes : goal.act_once-left-requires-clause-comes
+act_once-left-requires-clause-comes g c =
     let reserved = c.reserve_two.ensures in
     let given : c.reserve_two.new.self.given ≡ c.acts.self.given = ap (λ (x : State _ _). x.given) reserved.same in
     let long : length c.reserve_two.new.self.settled.items ≡ length c.acts.self.settled.items = ap length reserved.items in
@@ -37,8 +38,8 @@ act_once-requires-clause-comes g c =
     comes_at g.C.Clock.last_step g.C.Clock.reading g.M.Machine.stands c.args.network.now c.args.device c.args.self.now c.reserve_two.new.self c.acts.acts turn
     (omega (arith, given, long, numbers)) c.requires.comes
 
-pub returns-then-not-act_once-clause-stands : goal.returns-then-not-act_once-clause-stands
-returns-then-not-act_once-clause-stands g c = λ s notes old first.
+pub returns-then-not-left-clause-stands : goal.returns-then-not-left-clause-stands
+returns-then-not-left-clause-stands g c = λ s notes old first.
     let reserved = c.reserve_two.ensures in
     let given : c.reserve_two.new.self.given ≡ c.acts.self.given = ap (λ (x : State _ _). x.given) reserved.same in
     let long : length c.reserve_two.new.self.settled.items ≡ length c.acts.self.settled.items = ap length reserved.items in
@@ -49,8 +50,8 @@ returns-then-not-act_once-clause-stands g c = λ s notes old first.
     let network = c.args.network.now in
     let turn = turn_with last_step reading stands network c.args.device c.args.self.now c.acts.self c.reserve_two.new.self c.acts.acts reserved.same
     reserved.items c.acts.invariant in
-    let once = c.act_once.ensures in
-    let acted : IsActed last_step reading stands network c.args.device c.reserve_two.new.self c.act_once.new.self c.act_once.result = record {
+    let once = c.act_once-left.ensures in
+    let acted : IsActed last_step reading stands network c.args.device c.reserve_two.new.self c.act_once-left.new.self c.act_once-left.result.more = record {
       sound = once.sound;
       same = once.same;
       machines = once.machines;
@@ -59,9 +60,11 @@ returns-then-not-act_once-clause-stands g c = λ s notes old first.
       due = once.due;
       acted = once.acted;
     } in
-    all_acted last_step reading stands network c.args.device c.args.self.now c.reserve_two.new.self c.act_once.new.self c.acts.acts turn
+    all_acted last_step reading stands network c.args.device c.args.self.now c.reserve_two.new.self c.act_once-left.new.self c.acts.acts turn
     (omega (arith, given, long, numbers))
-    (subst (IsActed last_step reading stands network c.args.device c.reserve_two.new.self c.act_once.new.self) c.if-not-act_once.true acted) s notes old first
+    (subst (IsActed last_step reading stands network c.args.device c.reserve_two.new.self c.act_once-left.new.self)
+    (not-true c.act_once-left.result.more c.if-not-left.true) acted)
+    s notes old first
 
 pub acts-preserved : goal.acts-preserved
 acts-preserved g c =
@@ -75,8 +78,8 @@ acts-preserved g c =
     let network = c.args.network.now in
     let turn = turn_with last_step reading stands network c.args.device c.args.self.now c.acts.self c.reserve_two.new.self c.acts.acts reserved.same
     reserved.items c.acts.invariant in
-    let once = c.act_once.ensures in
-    let acted : IsActed last_step reading stands network c.args.device c.reserve_two.new.self c.act_once.new.self c.act_once.result = record {
+    let once = c.act_once-left.ensures in
+    let acted : IsActed last_step reading stands network c.args.device c.reserve_two.new.self c.act_once-left.new.self c.act_once-left.result.more = record {
       sound = once.sound;
       same = once.same;
       machines = once.machines;
@@ -85,8 +88,10 @@ acts-preserved g c =
       due = once.due;
       acted = once.acted;
     } in
-    turn_on last_step reading stands network c.args.device c.args.self.now c.reserve_two.new.self c.act_once.new.self c.acts.acts turn
+    turn_on last_step reading stands network c.args.device c.args.self.now c.reserve_two.new.self c.act_once-left.new.self c.acts.acts turn
     (omega (arith, given, long, numbers))
-    (subst (IsActed last_step reading stands network c.args.device c.reserve_two.new.self c.act_once.new.self) c.if-not-act_once.false acted) c.requires.there
+    (subst (IsActed last_step reading stands network c.args.device c.reserve_two.new.self c.act_once-left.new.self)
+    (not-false c.act_once-left.result.more c.if-not-left.false) acted)
+    c.requires.there
     c.requires.due
     c.requires.comes

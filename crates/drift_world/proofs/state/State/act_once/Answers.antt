@@ -158,7 +158,7 @@ returns-clause-stands g c = λ s notes old first.
     c.index-2.result.now refl (omega (arith, lt, many, longer)) c.index-2.ensures) set.there in
     acted_once K.reading stands network w device machine lt read c.requires.due after c.shown-was.result.state c.shown-is.result.state
     c.shown-was.result.adjustment c.shown-is.result.adjustment c.in-Some.act
-    c.outcomes_of-outcomes.result put.0 c.put_both.new.settled.items _ c.is_due.result set put.1 put.2 s notes old first
+    c.outcomes_of-outcomes.result put.0 c.put_both.new.settled.items _ c.left_to_do.result.more set put.1 put.2 s notes old first
     (subst (λ (m : Moment). HasActed (keeps stands) s.network device m c.in-Some.act machine after) (c.moment_at-moment.ensures s of)
     (c.in-Some.ensures.acted s.network device))
     (subst (λ (m : Kept _). IsStateOf (keeps stands) s.network device m c.shown-was.result.state c.shown-was.result.adjustment) same
@@ -166,8 +166,8 @@ returns-clause-stands g c = λ s notes old first.
     (subst (λ (m : Kept _). IsStateOf (keeps stands) s.network device m c.shown-is.result.state c.shown-is.result.adjustment) now_is
     (c.shown-is.ensures s.network device))
     (c.outcomes_of-outcomes.ensures s (record { same = of.same; clocks = of.clocks; broken = of.broken; ways = of.ways }))
-    (λ more. c.is_due.ensures.yes more s after (record { same = of.same; clocks = of.clocks; broken = of.broken; ways = of.ways }) set.there)
-    (λ none. c.is_due.ensures.no none s after (record { same = of.same; clocks = of.clocks; broken = of.broken; ways = of.ways }) set.there)
+    (λ more. c.left_to_do.ensures.yes more s after (record { same = of.same; clocks = of.clocks; broken = of.broken; ways = of.ways }) set.there)
+    (λ none. c.left_to_do.ensures.no none s after (record { same = of.same; clocks = of.clocks; broken = of.broken; ways = of.ways }) set.there)
 
 pub returns-clause-acted : goal.returns-clause-acted
 returns-clause-acted g c = λ s notes machine old there.
@@ -193,6 +193,18 @@ returns-clause-acted g c = λ s notes machine old there.
 
 pub returns-in_default-clause-idle : goal.returns-in_default-clause-idle
 returns-in_default-clause-idle g c =
+    let w = c.args.self.now in
+    let lt = c.requires.there in
+    let many = c.requires.sound.sized.machines in
+    absurd (never_broken g.C.Clock.reading g.M.Machine.stands c.args.network.now w c.args.device c.index_mut.result.now lt
+    (slice_get_read w.machines.items (length w.machines.items) c.args.device.0 c.index_mut.result.now refl (omega (arith, lt, many)) c.index_mut.ensures.value)
+    c.requires.due c.requires.comes c.in_default.ensures.none)
+
+pub left_to_do-requires-clause-moment : goal.left_to_do-requires-clause-moment
+left_to_do-requires-clause-moment g c = λ s of. c.moment_at-moment.ensures s (record { same = of.same; clocks = of.clocks; broken = of.broken; ways = of.ways })
+
+pub returns-in_default-clause-next : goal.returns-in_default-clause-next
+returns-in_default-clause-next g c =
     let w = c.args.self.now in
     let lt = c.requires.there in
     let many = c.requires.sound.sized.machines in

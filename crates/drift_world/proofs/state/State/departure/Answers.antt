@@ -1,9 +1,9 @@
 use Rattle.drift_world.proofs.Words.{if◌then◌else◌, ◌<◌, ◌∙◌, ◌≡◌, DeviceId, LinkId, Network, Some, WayNow, ap, arith, is_parent_of, length, slice_get_read}
-use Rattle.drift_world.proofs.Words.{subst, sym}
+use Rattle.drift_world.proofs.Words.{◌^◌, ◌∷◌, Settled, [], changed_device, own_place, rank, subst, sym}
 use Rattle.std.specs.List.{slice_get}
 use Rattle.world_law.proofs.giving.Given.{some_same}
 use Rattle.world_state.specs.Leaving.{port_entry}
-use Rattle.drift_world.proofs.{Fits.{have_octets, left_octets}, Showings.{departure_is, way_by}}
+use Rattle.drift_world.proofs.{OwnPlaces.{departed_none, departed_own}, Fits.{have_octets, left_octets}, Showings.{departure_is, way_by}}
 use Rattle.drift_world.proofs.state.State.departure.Goals as goal
 
 pub returns-clause-octets : goal.returns-clause-octets
@@ -11,6 +11,18 @@ returns-clause-octets g c =
     let network = c.args.network.now in
     subst have_octets (sym c.departed.ensures)
     (left_octets network c.reading_of-reading.result c.way_from-way.result.cut (port_entry c.args.place c.args.frame c.args.given))
+
+pub returns-clause-own : goal.returns-clause-own
+returns-clause-own g c =
+    let network = c.args.network.now in
+    subst (λ (z : Settled). rank z.body ≡ 8 → own_place z ≡ 8 ∷ c.args.place.device ∷ c.args.place.link ∷ c.args.place.cause ∷ []) (sym c.departed.ensures)
+    (departed_own network c.reading_of-reading.result c.way_from-way.result.cut (port_entry c.args.place c.args.frame c.args.given))
+
+pub returns-clause-none : goal.returns-clause-none
+returns-clause-none g c =
+    let network = c.args.network.now in
+    subst (λ (z : Settled). changed_device z.body ≡ 2 ^ 32) (sym c.departed.ensures)
+    (departed_none network c.reading_of-reading.result c.way_from-way.result.cut (port_entry c.args.place c.args.frame c.args.given))
 
 pub returns-clause-is : goal.returns-clause-is
 returns-clause-is g c = λ s of.

@@ -68,7 +68,7 @@ returns-clause-stands g c = λ s notes other rest is.
     let network = c.args.network.now in
     let room = c.make_room.ensures in
     let first = c.unwrap-first.result in
-    let note = c.give_first.result in
+    let note = c.give_first.new.note in
     let new = c.give_first.new.self in
     let whole : w.settled.items ≡ first ∷ c.pop_front.new.self.items = c.pop_front.ensures.items
     ∙ ap (λ o. option_to_list o ++ c.pop_front.new.self.items) c.unwrap-first.ensures in

@@ -1,32 +1,42 @@
 use Rattle.drift_world.proofs.Words.{◌++◌, ◌∙◌, ◌∷◌, ChangesOnly, IsSound, Note, NoteBody, Stands, World, [], ap, changed_device, keeps, subst, sym, units_of}
-use Rattle.drift_world.proofs.Words.{world_of}
-use Rattle.drift_world.{proofs.{Timings.unchanged, Turning.{gives_first, runs_on, sound_so}}, specs.declared.state.State.State}
+use Rattle.drift_world.proofs.Words.{◌<◌, ◌≡◌, List, Settled, arith, length, refl, world_of}
+use Rattle.drift_world.{proofs.{Timings.unchanged, Turning.{first_gives, runs_on, sound_so}}, specs.declared.state.State.State}
 use Rattle.drift_world.proofs.state.State.give_next.Goals as goal
+
+-- something is settled
+record IsFirstOf (settled : List Settled) : Type 0 where
+  first : Settled
+  others : List Settled
+  whole : settled ≡ first ∷ others
+
+some_first : (settled : List Settled) → 0 < length settled → IsFirstOf settled
+some_first [] lt = absurd (omega (arith, lt))
+some_first (z ∷ zs) lt = record { first = z; others = zs; whole = refl }
 
 pub rekey_after-requires-clause-running : goal.rekey_after-requires-clause-running
 rekey_after-requires-clause-running g c =
     let w = c.args.self.now in
     let r = c.requires in
-    let f = r.first in
+    let f = some_first w.settled.items r.some in
     let run = r.well.running in
     record {
       s = run.s;
-      notes = run.notes ++ c.in-Ok.note ∷ [];
+      notes = run.notes ++ c.give.new.note ∷ [];
       is = (c.in-Ok.ensures.stands run.s run.notes f.first f.others f.whole run.is
-          (gives_first g.C.Clock.last_step g.C.Clock.reading g.M.Machine.stands c.args.network.now w c.args.source f.first f.others run.s run.notes r.well.sound
-          r.foremost f.whole f.ahead run.is)).1.0;
+          (first_gives g.C.Clock.last_step g.C.Clock.reading g.M.Machine.stands c.args.network.now w f.first f.others run.s run.notes r.well.sound
+          (r.nothing f.first f.others f.whole) f.whole run.is)).1.0;
     }
 
 pub returns-in-Ok-clause-stands : goal.returns-in-Ok-clause-stands
 returns-in-Ok-clause-stands g c = λ s notes old.
     let w = c.args.self.now in
     let r = c.requires in
-    let f = r.first in
-    subst (λ (t : State _ _). Stands g.C.Clock.reading (keeps g.M.Machine.stands) s (world_of c.args.network.now t) (notes ++ c.in-Ok.note ∷ []))
+    let f = some_first w.settled.items r.some in
+    subst (λ (t : State _ _). Stands g.C.Clock.reading (keeps g.M.Machine.stands) s (world_of c.args.network.now t) (notes ++ c.give.new.note ∷ []))
     (sym c.rekey_after.ensures.same)
     (c.in-Ok.ensures.stands s notes f.first f.others f.whole old
-    (gives_first g.C.Clock.last_step g.C.Clock.reading g.M.Machine.stands c.args.network.now w c.args.source f.first f.others s notes r.well.sound r.foremost
-    f.whole f.ahead old)).1.0
+    (first_gives g.C.Clock.last_step g.C.Clock.reading g.M.Machine.stands c.args.network.now w f.first f.others s notes r.well.sound
+    (r.nothing f.first f.others f.whole) f.whole old)).1.0
 
 pub returns-in-Ok-clause-well : goal.returns-in-Ok-clause-well
 returns-in-Ok-clause-well g c =
@@ -38,23 +48,23 @@ returns-in-Ok-clause-well g c =
     record {
       sound = subst (IsSound g.C.Clock.last_step c.args.network.now) (sym c.rekey_after.ensures.same)
           (sound_so g.C.Clock.last_step g.C.Clock.reading g.M.Machine.stands c.args.network.now mid new.timers E.sound);
-      running = record { s = run.s; notes = run.notes ++ c.in-Ok.note ∷ []; is = returns-in-Ok-clause-stands g c run.s run.notes run.is };
+      running = record { s = run.s; notes = run.notes ++ c.give.new.note ∷ []; is = returns-in-Ok-clause-stands g c run.s run.notes run.is };
       timed = c.rekey_after.ensures.timed c.args.self.now r.well.timed
           (subst (λ (b : NoteBody). ChangesOnly (changed_device b) c.args.self.now mid) (sym c.body.ensures) E.others)
-          (ap (λ (t : State _ _). t.timers) E.same);
+          (ap (λ (t : State _ _). t.machines) E.same) (ap (λ (t : State _ _). t.timers) E.same);
     }
 
 pub returns-in-Ok-clause-says : goal.returns-in-Ok-clause-says
 returns-in-Ok-clause-says g c =
     let w = c.args.self.now in
     let r = c.requires in
-    let f = r.first in
+    let f = some_first w.settled.items r.some in
     let run = r.well.running in
     let E = c.in-Ok.ensures in
     let same = c.rekey_after.ensures.same in
     let note = (E.stands run.s run.notes f.first f.others f.whole run.is
-    (gives_first g.C.Clock.last_step g.C.Clock.reading g.M.Machine.stands c.args.network.now w c.args.source f.first f.others run.s run.notes r.well.sound
-    r.foremost f.whole f.ahead run.is)).0 in
+    (first_gives g.C.Clock.last_step g.C.Clock.reading g.M.Machine.stands c.args.network.now w f.first f.others run.s run.notes r.well.sound
+    (r.nothing f.first f.others f.whole) f.whole run.is)).0 in
     let time = ap (λ (t : State _ _). t.time) same ∙ ap (λ (t : State _ _). t.time) E.same in
     (ap (λ (n : Note). n.time) note ∙ ap units_of (sym time), time, ap (λ (t : State _ _). t.given) same ∙ E.given)
 

@@ -31,12 +31,12 @@ returns-in-Ok-Gives-clause-after g c = after_then c.args.self.now c.turns.self c
 pub returns-in-Ok-Gives-clause-stands : goal.returns-in-Ok-Gives-clause-stands
 returns-in-Ok-Gives-clause-stands g c = λ s notes is.
     subst (λ (t : Turn). Stands g.C.Clock.reading (keeps g.M.Machine.stands) s (world_of c.args.network.now c.turn.new.self) (notes
-    ++ given_in {E = OutOfMemory} (Ok t))) c.in-Ok-Gives.field-0-is
+    ++ given_in {E = OutOfMemory} (Ok t) c.turn.new.note)) c.in-Ok-Gives.field-0-is
     (c.in-Ok-Gives.ensures.stands s notes (c.turns.invariant.still s notes is))
 
 pub returns-in-Ok-Gives-clause-given : goal.returns-in-Ok-Gives-clause-given
-returns-in-Ok-Gives-clause-given g c =
-    (subst (TurnSays c.turns.self c.turn.new.self c.args.until) c.in-Ok-Gives.field-0-is c.in-Ok-Gives.ensures.says).2
+returns-in-Ok-Gives-clause-given g c = λ some.
+    (subst (TurnSays c.turns.self c.turn.new.self c.args.until c.turn.new.note) c.in-Ok-Gives.field-0-is c.in-Ok-Gives.ensures.says).2
     ∙ ap (λ (n : ℕ). n + 1) c.turns.invariant.given
 
 pub returns-in-Ok-Ends-clause-after : goal.returns-in-Ok-Ends-clause-after
@@ -45,16 +45,17 @@ returns-in-Ok-Ends-clause-after g c = after_then c.args.self.now c.turns.self c.
 pub returns-in-Ok-Ends-clause-stands : goal.returns-in-Ok-Ends-clause-stands
 returns-in-Ok-Ends-clause-stands g c = λ s notes is.
     subst (λ (t : Turn). Stands g.C.Clock.reading (keeps g.M.Machine.stands) s (world_of c.args.network.now c.turn.new.self) (notes
-    ++ given_in {E = OutOfMemory} (Ok t))) c.in-Ok-Ends.field-0-is
+    ++ given_in {E = OutOfMemory} (Ok t) c.turn.new.note)) c.in-Ok-Ends.field-0-is
     (c.in-Ok-Ends.ensures.stands s notes (c.turns.invariant.still s notes is))
 
 pub returns-in-Ok-Ends-clause-complete : goal.returns-in-Ok-Ends-clause-complete
-returns-in-Ok-Ends-clause-complete g c = λ s notes is.
+returns-in-Ok-Ends-clause-complete g c = λ s notes is none.
     subst (IsWhole s notes c.args.until) c.in-Ok-Ends.field-0-is (c.in-Ok-Ends.ensures.whole s notes (c.turns.invariant.still s notes is))
 
 pub returns-in-Ok-Ends-clause-reached : goal.returns-in-Ok-Ends-clause-reached
-returns-in-Ok-Ends-clause-reached g c = λ is limit.
-    subst (TurnSays c.turns.self c.turn.new.self c.args.until) c.in-Ok-Ends.field-0-is c.in-Ok-Ends.ensures.says (c.turns.invariant.after.ended ∙ is) limit
+returns-in-Ok-Ends-clause-reached g c = λ none is limit.
+    subst (TurnSays c.turns.self c.turn.new.self c.args.until c.turn.new.note) c.in-Ok-Ends.field-0-is c.in-Ok-Ends.ensures.says (c.turns.invariant.after.ended
+    ∙ is) limit
 
 pub returns-in-Err-clause-after : goal.returns-in-Err-clause-after
 returns-in-Err-clause-after g c = after_then c.args.self.now c.turns.self c.turn.new.self c.turns.invariant.after c.turn.ensures.after
@@ -72,9 +73,9 @@ pub turns-preserved : goal.turns-preserved
 turns-preserved g c =
     let before = c.turns.invariant in
     let turn = c.in-Ok-GoesOn.ensures in
-    let says = subst (TurnSays c.turns.self c.turn.new.self c.args.until) c.in-Ok-GoesOn.field-0-is turn.says in
-    let none : given_in {E = OutOfMemory} (Ok c.in-Ok-GoesOn.field-0) ≡ [] =
-    ap (λ (t : Turn). given_in {E = OutOfMemory} (Ok t)) c.in-Ok-GoesOn.field-0-is in
+    let says = subst (TurnSays c.turns.self c.turn.new.self c.args.until c.turn.new.note) c.in-Ok-GoesOn.field-0-is turn.says in
+    let none : given_in {E = OutOfMemory} (Ok c.in-Ok-GoesOn.field-0) c.turn.new.note ≡ [] =
+    ap (λ (t : Turn). given_in {E = OutOfMemory} (Ok t) c.turn.new.note) c.in-Ok-GoesOn.field-0-is in
     record {
       well = turn.well;
       after = after_then c.args.self.now c.turns.self c.turn.new.self before.after turn.after;

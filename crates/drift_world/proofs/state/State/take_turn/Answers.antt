@@ -1,6 +1,20 @@
-use Rattle.drift_world.proofs.Words.{OutOfMemory, SourceFirst, [], arith, keeps, refl, subst, world_of}
-use Rattle.drift_world.proofs.{Nearings.less_nears, Turning.{none_given, none_settled, now_so, same_records}}
+use Rattle.drift_world.proofs.Words.{◌∙◌, ◌∷◌, ◌≡◌, HasNothingBefore, OutOfMemory, Settled, SourceFirst, keeps, place_of, refl, settled_at, subst}
+use Rattle.drift_world.proofs.Words.{sym, world_of}
+use Rattle.drift_world.proofs.{AtOnce.{work_nears, work_says, work_whole}, Turning.{none_given, none_settled, nothing_ahead, now_so, same_records}}
 use Rattle.drift_world.proofs.state.State.take_turn.Goals as goal
+
+pub give_next-requires-clause-nothing : goal.give_next-requires-clause-nothing
+give_next-requires-clause-nothing g c = λ first others whole.
+    let K = g.C.Clock in
+    let S = g.M.Machine.stands in
+    let network = c.args.network.now in
+    let w = c.args.self.now in
+    let source = c.first_source-source in
+    let f = c.if-has_first.ensures.yes refl in
+    let same : f.first ≡ first = let e : f.first ∷ f.others ≡ first ∷ others = sym f.whole ∙ whole in cc in
+    subst (λ (z : Settled). HasNothingBefore K.reading S network w (place_of (settled_at network w.time z))) same
+    (nothing_ahead K.last_step K.reading S network w source.result f.first
+    (record { there = source.ensures.there; nothing = source.ensures.nothing }) f.ahead)
 
 pub pass_on-requires-clause-empty : goal.pass_on-requires-clause-empty
 pass_on-requires-clause-empty g c =
@@ -10,10 +24,11 @@ pass_on-requires-clause-empty g c =
 pub returns-in-Later-clause-stands : goal.returns-in-Later-clause-stands
 returns-in-Later-clause-stands g c = λ s notes old.
     same_records g.C.Clock.reading (keeps g.M.Machine.stands) s (world_of c.args.network.now c.pass_on.new.self) notes _
-    (none_given OutOfMemory c.args.self.now c.pass_on.new.self c.args.until c.pass_on.result c.pass_on.ensures.says) (c.pass_on.ensures.stands s notes old)
+    (none_given OutOfMemory c.args.self.now c.pass_on.new.self c.args.until c.args.note.now c.pass_on.result c.pass_on.ensures.says)
+    (c.pass_on.ensures.stands s notes old)
 
-pub work_off-requires : goal.work_off-requires
-work_off-requires g c =
+pub work_turn-requires : goal.work_turn-requires
+work_turn-requires g c =
     let r = c.requires in
     let source = c.first_source-source in
     record {
@@ -25,34 +40,21 @@ work_off-requires g c =
       present = now_so source.result c.in_default.not-Later;
     }
 
-pub returns-in-Ok : goal.returns-in-Ok
-returns-in-Ok g c =
-    let r = c.requires in
-    let step = c.work_off.ensures.step in
-    let time = step.time in
-    let early = r.open in
+pub returns : goal.returns
+returns g c =
+    let K = g.C.Clock in
+    let S = g.M.Machine.stands in
+    let network = c.args.network.now in
+    let old = c.args.self.now in
+    let new = c.work_turn.new.self in
+    let turn = c.work_turn.ensures in
     record {
-      well = step.well;
-      after = step.after;
-      stands = λ s notes old. same_records g.C.Clock.reading (keeps g.M.Machine.stands) s (world_of c.args.network.now c.work_off.new.self) notes [] refl
-          (step.still s notes old);
-      whole = λ s notes old. tt;
-      says = (omega (arith, time, early), step.given);
-      nears = less_nears g.C.Clock.last_step g.C.Clock.reading g.M.Machine.stands c.args.network.now c.args.until c.args.self.now c.work_off.new.self step.well
-          step.time c.in-Ok.ensures.less;
-      err = tt;
-    }
-
-pub returns-in-Err : goal.returns-in-Err
-returns-in-Err g c =
-    let step = c.work_off.ensures.step in
-    record {
-      well = step.well;
-      after = step.after;
-      stands = λ s notes old. same_records g.C.Clock.reading (keeps g.M.Machine.stands) s (world_of c.args.network.now c.work_off.new.self) notes [] refl
-          (step.still s notes old);
-      whole = λ s notes old. tt;
-      says = tt;
-      nears = tt;
-      err = step.time;
+      well = turn.well;
+      after = turn.after;
+      stands = turn.stands;
+      whole = λ s notes is. work_whole K.last_step K.reading S network OutOfMemory old new s notes c.args.until c.work_turn.new.note c.work_turn.result
+          turn.says;
+      says = work_says K.last_step K.reading S network OutOfMemory old new c.args.until c.work_turn.new.note c.work_turn.result c.requires.open turn.says;
+      nears = work_nears K.last_step K.reading S network OutOfMemory old new c.args.until c.work_turn.new.note c.work_turn.result turn.well turn.says;
+      err = turn.err;
     }

@@ -46,7 +46,8 @@ returns g c =
       after = after_then c.args.self.now c.make_places.new.self c.take_turn.new.self step.after turn.after;
       stands = λ s notes is. turn.stands s notes (step.still s notes is);
       whole = λ s notes is. turn.whole s notes (step.still s notes is);
-      says = says_then OutOfMemory c.args.self.now c.make_places.new.self c.take_turn.new.self c.args.until c.take_turn.result step.given step.after.ended
+      says = says_then OutOfMemory c.args.self.now c.make_places.new.self c.take_turn.new.self c.args.until c.take_turn.new.note c.take_turn.result step.given
+          step.after.ended
           turn.says;
       nears = nears_then OutOfMemory c.args.network.now c.args.until c.args.self.now c.make_places.new.self c.take_turn.new.self c.take_turn.result
           made.same turn.nears;

@@ -1,9 +1,9 @@
-use Rattle.drift_world.proofs.Words.{◌++◌, ◌∙◌, ◌∷◌, ◌≡◌, ComesUpTo, Err, IfNone, IfOk, IsLawful, IsRunOf, IsScenarioRun, Kept, List, Network, None, Note, Ok}
-use Rattle.drift_world.proofs.Words.{Option, Result, Scenario, Some, Stands, StandsUnder, World, [], amount, ap, arith, begins_at_zero, given_by, ints, keeps}
+use Rattle.drift_world.proofs.Words.{◌++◌, ◌∙◌, ◌∷◌, ◌≡◌, Bool, ComesUpTo, Err, IfOk, IsLawful, IsRunOf, IsScenarioRun, Kept, List, Network, Note, Ok, false}
+use Rattle.drift_world.proofs.Words.{Result, Scenario, Stands, StandsUnder, World, [], amount, ap, arith, begins_at_zero, given_by, ints, keeps}
 use Rattle.drift_world.proofs.Words.{keeps_clock_laws, reading_of, scenario, subst, sym, world_of, ℕ}
 use Rattle.std.proofs.Common.{slice_get}
 use Rattle.safe_runs.{proofs.Clocked.before, specs.{Headline.IsSafeFront, Under.IsUnder}}
-use Rattle.drift_world.proofs.Retries.{comes_up_to}
+use Rattle.drift_world.{proofs.Retries.comes_up_to, specs.Running.next_of}
 use Rattle.drift_world.proofs.world.World.next_given.Given as given
 use Rattle.drift_world.proofs.world.World.next_given.Goals as goal
 
@@ -12,7 +12,7 @@ viewed : (g : given.Over) (c : goal.After-next g) → world_of c.network.result.
 viewed g c = ap (λ (n : Network). world_of n c.self.inside.state) c.network.ensures.value ∙ c.self.view_is
 
 pub returns-then-until-from_amount-clause-complete : goal.returns-then-until-from_amount-clause-complete
-returns-then-until-from_amount-clause-complete g c = λ network events notes under lt.
+returns-then-until-from_amount-clause-complete g c = λ network events notes under lt none.
     let now = ap (λ (w : World _ (Kept _)). w.now) c.self.view_is in
     let test = c.if-until-from_amount.true in
     let is = c.from_amount.ensures.whole in
@@ -25,7 +25,8 @@ returns-clause-stands g c = λ network events notes under.
     let s = scenario network (reading_of K.fresh K.after_step K.reading network events) events in
     let old = subst (λ (w : World _ (Kept _)). StandsUnder K.fresh K.after_step K.reading S network w events notes) (sym (viewed g c)) under in
     record {
-      is = subst (λ (n : Network). Stands K.reading (keeps S) s (world_of n c.next.new.self) (notes ++ given_by c.next.result)) c.network.ensures.value
+      is = subst (λ (n : Network). Stands K.reading (keeps S) s (world_of n c.next.new.self) (notes ++ given_by (next_of c.next.result c.next.new.note)))
+          c.network.ensures.value
           (c.next.ensures.stands s notes old.is);
       clocks = λ device there. ap (λ (k : _). slice_get k.items device.0) c.next.ensures.after.clocks ∙ old.clocks device there;
       of_network = old.of_network;
@@ -45,9 +46,8 @@ lawful g = record {
 }
 
 -- what holds where there is no more
-where_none : {T E : Type 0} (P Q : Type 0) (r : Result (Option T) E) → (P → Q) → IfOk r (λ next. IfNone next P) → IfOk r (λ next. IfNone next Q)
-where_none P Q (Ok None) step it = step it
-where_none P Q (Ok (Some x)) step it = it
+where_none : {E : Type 0} (P Q : Type 0) (r : Result Bool E) → (P → Q) → IfOk r (λ more. more ≡ false → P) → IfOk r (λ more. more ≡ false → Q)
+where_none P Q (Ok more) step it = λ none. step (it none)
 where_none P Q (Err e) step it = it
 
 pub returns-clause-complete : goal.returns-clause-complete
@@ -57,7 +57,7 @@ returns-clause-complete g c = λ network events notes under lt.
     let f = reading_of K.fresh K.after_step K.reading network events in
     let s = scenario network f events in
     let old = subst (λ (w : World _ (Kept _)). StandsUnder K.fresh K.after_step K.reading S network w events notes) (sym (viewed g c)) under in
-    let whole = subst (λ (t : ℕ). IfOk c.next.result (λ next. IfNone next (IsScenarioRun s (t ∷ []) notes))) c.amount.ensures.value
+    let whole = subst (λ (t : ℕ). IfOk c.next.result (λ more. more ≡ false → IsScenarioRun s (t ∷ []) notes)) c.amount.ensures.value
     (c.next.ensures.complete s notes old.is) in
     let admitted : IsUnder network events = record {
       range = under.is.range;
@@ -80,7 +80,7 @@ returns-clause-reached g c =
     let state = c.self.inside.state in
     let new = c.next.new.self in
     let Steps = λ (n : Network). (s : Scenario) (notes : List Note) → Stands K.reading (keeps S) s (world_of n state) notes
-    → Stands K.reading (keeps S) s (world_of n new) (notes ++ given_by c.next.result) in
-    subst (λ (w : World _ (Kept _)). ComesUpTo w (world_of own new) c.args.until c.next.result) c.self.view_is
-    (comes_up_to K.reading S own state new _ c.next.result c.args.until c.amount.result c.amount.ensures.whole c.next.ensures.after
+    → Stands K.reading (keeps S) s (world_of n new) (notes ++ given_by (next_of c.next.result c.next.new.note)) in
+    subst (λ (w : World _ (Kept _)). ComesUpTo w (world_of own new) c.args.until (next_of c.next.result c.next.new.note)) c.self.view_is
+    (comes_up_to K.reading S own state new _ c.next.result c.next.new.note c.args.until c.amount.result c.amount.ensures.whole c.next.ensures.after
     c.self.invariant.running (subst Steps c.network.ensures.value c.next.ensures.stands) c.next.ensures.reached c.next.ensures.err)

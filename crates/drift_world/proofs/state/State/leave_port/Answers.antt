@@ -5,9 +5,9 @@ use Rattle.std.specs.List.{filter_map}
 use Rattle.world_queue.specs.declared.Entry.{Entry}
 use Rattle.world_state.{proofs.UnderWays.{ports_without, sound_without, wires_stay}, specs.Leaving.port_entry}
 use Rattle.world_steps.{proofs.steps.LeftSteps.left_step, specs.Steps.departure_now}
-use Rattle.drift_world.proofs.{Alike.with_wires, Fits.{all_put_some, below_without, have_octets, if_some}, HiddenCauses.settled_in_order}
-use Rattle.drift_world.proofs.{Puts.{departed_is, frame_of_port, some_put_in}, Showings.shows_of}
-use Rattle.drift_world.proofs.state.State.leave_first.Goals as goal
+use Rattle.drift_world.proofs.{Alike.with_wires, Fits.{below_without}, HiddenCauses.settled_in_order}
+use Rattle.drift_world.proofs.{OwnPlaces.left_own, Puts.{departed_is, frame_of_port, some_put_in}, Showings.shows_of}
+use Rattle.drift_world.proofs.state.State.leave_port.Goals as goal
 
 pub returns-clause-sound : goal.returns-clause-sound
 returns-clause-sound g c =
@@ -30,8 +30,7 @@ returns-clause-sound g c =
       fit = record {
         ups = fit.ups;
         downs = fit.downs;
-        octets = all_put_some have_octets c.departure-record.result w.settled.items c.put_some.new.settled.items c.put_some.ensures.is
-            (if_some have_octets c.departure-record.result c.departure-record.ensures.octets) fit.octets;
+        octets = fit.octets;
         below = below_without (w.given + 1) w.under_way.entries c.take_port-frame.new.under_way.entries _ c.take_port-frame.ensures fit.below;
         waits_below = fit.waits_below;
         apart = fit.apart;
@@ -39,7 +38,8 @@ returns-clause-sound g c =
     }
 
 pub returns-clause-stands : goal.returns-clause-stands
-returns-clause-stands g c = λ s notes old now_is first.
+returns-clause-stands g c = λ s notes settled old first was.
+    let now_is = c.requires.at in
     let w = c.args.self.now in
     let K = g.C.Clock in
     let stands = keeps g.M.Machine.stands in
@@ -55,19 +55,19 @@ returns-clause-stands g c = λ s notes old now_is first.
     let there = is_given at_port w.under_way.entries taken e (in_permuted _ _ taken (IsPermutation-sym _ _ took.ensures) (inl refl)) refl in
     let given = frame_of_port s hs e (old.ports.real e there).0 in
     let of = shows_of K.reading stands s network w notes old in
-    let put = subst (λ (o : Option Settled). IsSomePut o w.settled.items c.put_some.new.settled.items)
-    (c.departure-record.ensures.is s (record { same = of.same; clocks = of.clocks; broken = of.broken; ways = of.ways })) c.put_some.ensures.is in
+    let put = subst (λ (o : Option Settled). IsSomePut o w.settled.items settled)
+    (c.departure.ensures.is s (record { same = of.same; clocks = of.clocks; broken = of.broken; ways = of.ways })) was in
     let step = left_step K.reading stands s world notes e (filter_map at_port took.new.under_way.entries)
-    (map (settled_at network w.time) c.put_some.new.settled.items) old there now_is
+    (map (settled_at network w.time) settled) old there now_is
     (subst (ComesFirst K.reading stands s world notes old) numbers first)
     (ports_without network w.under_way.entries took.new.under_way.entries taken c.requires.sound.under_way took.ensures e refl)
-    (some_put_in s.network network w.time hs (departure_body e (departure_now s e w.time)) _ w.settled.items c.put_some.new.settled.items
+    (some_put_in s.network network w.time hs (departure_body e (departure_now s e w.time)) _ w.settled.items settled
     (is_broken s e.device w.time) put
     (settled_in_order K.reading stands s world notes old) (departed_is s.network network w.time hs e (departure_now s e w.time) given)) in
     let after : World _ _ = record world {
       ports = filter_map at_port took.new.under_way.entries;
       early = false;
-      settled = map (settled_at network w.time) c.put_some.new.settled.items;
+      settled = map (settled_at network w.time) settled;
     } in
     with_wires K.reading stands s after notes (filter_map (on_wire network) took.new.under_way.entries) (behind (numbers_of place))
     (wires_stay network w.under_way.entries took.new.under_way.entries taken c.requires.sound.under_way took.ensures refl)
@@ -75,3 +75,8 @@ returns-clause-stands g c = λ s notes old now_is first.
 
 pub returns-clause-shorter : goal.returns-clause-shorter
 returns-clause-shorter g c = let same = length_permutation _ _ c.take_port-frame.ensures in omega (arith, same)
+
+pub returns-clause-own : goal.returns-clause-own
+returns-clause-own g c =
+    let w = c.args.self.now in
+    left_own c.args.network.now w.time c.args.place c.departure.result c.requires.at c.requires.port c.departure.ensures.own

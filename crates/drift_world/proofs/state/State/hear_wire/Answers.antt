@@ -4,8 +4,10 @@ use Rattle.std.proofs.Common.{set}
 use Rattle.tte_lemmas.proofs.Lists.{set_aside, set_same}
 use Rattle.world_law.proofs.giving.Given.{some_same}
 use Rattle.world_state.proofs.UnderWays.{sound_without}
-use Rattle.drift_world.proofs.{Fits.{all_put, below_without, have_octets}, Hears.{as_sent, heard_octets, heard_stands, may_come, moment_is}}
-use Rattle.drift_world.proofs.state.State.hear_first.Goals as goal
+use Rattle.drift_world.proofs.Words.{◌≡◌, changed_device, numbers_of, place_of, rank, settled_at}
+use Rattle.drift_world.proofs.{OwnPlaces.{arrived_device, arrived_own}, Fits.{below_without, have_octets}}
+use Rattle.drift_world.proofs.Hears.{as_sent, heard_octets, heard_stands, may_come, moment_is}
+use Rattle.drift_world.proofs.state.State.hear_wire.Goals as goal
 
 pub hear_signal-arrival-requires-clause-may : goal.hear_signal-arrival-requires-clause-may
 hear_signal-arrival-requires-clause-may g c =
@@ -41,27 +43,6 @@ returns-clause-sound g c =
     let z = c.requires.sound.sized in
     let fit = c.requires.sound.fit in
     let took = c.take_wire-signal in
-    let put = c.put_in.ensures.is in
-    let at = c.requires.comes in
-    let device : DeviceId = record { 0 = c.args.place.device } in
-    let within = c.requires.device in
-    let clocks = z.clocks in
-    let machines = z.machines in
-    let held = w.clocks.ok.0 in
-    let kept = w.machines.ok.0 in
-    let there : device.0 < length at.s.network.device = subst (λ (n : Network). device.0 < length n.device) at.is.same within in
-    let own = at.is.clocks device there in
-    let heard = c.hear_signal-arrival in
-    let octets = heard_octets g.C.Clock.reading (keeps g.M.Machine.stands) at.s c.args.network.now w at.notes at.is c.args.place took.result
-    took.new.under_way.entries took.ensures c.requires.wire c.requires.at c.index_mut-machine.result.now
-    (record { time = c.from_amount-time.result; reading = c.read.result })
-    (slice_get_read w.machines.items w.machines.len device.0 c.index_mut-machine.result.now w.machines.ok.0 (omega (arith, machines, within, kept))
-    c.index_mut-machine.ensures.value)
-    (moment_is g.C.Clock.reading at.s w.time device own.0 c.index.result.now c.from_amount-time.result c.read.result
-    (some_same _ _ _ own.1
-    (slice_get_read w.clocks.items w.clocks.len device.0 c.index.result.now w.clocks.ok.0 (omega (arith, clocks, within, held)) c.index.ensures))
-    own.2 c.from_amount-time.ensures.value c.read.ensures)
-    heard.new.kept heard.ensures.0 heard.result heard.ensures.1 heard.ensures.2 in
     record {
       sized = record {
         clocks = z.clocks;
@@ -77,16 +58,54 @@ returns-clause-sound g c =
       fit = record {
         ups = fit.ups;
         downs = fit.downs;
-        octets = all_put have_octets c.arrived.result w.settled.items c.put_in.new.settled.items put.0 put.1
-            (subst have_octets (sym c.arrived.ensures) octets) fit.octets;
+        octets = fit.octets;
         below = below_without (w.given + 1) w.under_way.entries took.new.under_way.entries _ took.ensures fit.below;
         waits_below = fit.waits_below;
         apart = fit.apart;
       };
     }
 
+pub returns-clause-octets : goal.returns-clause-octets
+returns-clause-octets g c =
+    let w = c.args.self.now in
+    let took = c.take_wire-signal in
+    let at = c.requires.comes in
+    let device : DeviceId = record { 0 = c.args.place.device } in
+    let within = c.requires.device in
+    let clocks = c.requires.sound.sized.clocks in
+    let machines = c.requires.sound.sized.machines in
+    let held = w.clocks.ok.0 in
+    let kept = w.machines.ok.0 in
+    let there : device.0 < length at.s.network.device = subst (λ (n : Network). device.0 < length n.device) at.is.same within in
+    let own = at.is.clocks device there in
+    let heard = c.hear_signal-arrival in
+    let octets = heard_octets g.C.Clock.reading (keeps g.M.Machine.stands) at.s c.args.network.now w at.notes at.is c.args.place took.result
+    took.new.under_way.entries took.ensures c.requires.wire c.requires.at c.index_mut-machine.result.now
+    (record { time = c.from_amount-time.result; reading = c.read.result })
+    (slice_get_read w.machines.items w.machines.len device.0 c.index_mut-machine.result.now w.machines.ok.0 (omega (arith, machines, within, kept))
+    c.index_mut-machine.ensures.value)
+    (moment_is g.C.Clock.reading at.s w.time device own.0 c.index.result.now c.from_amount-time.result c.read.result
+    (some_same _ _ _ own.1
+    (slice_get_read w.clocks.items w.clocks.len device.0 c.index.result.now w.clocks.ok.0 (omega (arith, clocks, within, held)) c.index.ensures))
+    own.2 c.from_amount-time.ensures.value c.read.ensures)
+    heard.new.kept heard.ensures.0 heard.result heard.ensures.1 heard.ensures.2 in
+    subst have_octets (sym c.arrived.ensures) octets
+
+pub returns-clause-own : goal.returns-clause-own
+returns-clause-own g c = λ two.
+    let w = c.args.self.now in
+    let network = c.args.network.now in
+    let z = c.arrived.ensures in
+    subst (λ (r : Settled). rank r.body ≡ 2 → place_of (settled_at network w.time r) ≡ numbers_of c.args.place) (sym z)
+    (arrived_own network w.time c.args.place c.hear_signal-arrival.result c.take_wire-signal.result c.requires.at c.requires.wire) two
+
+pub returns-clause-device : goal.returns-clause-device
+returns-clause-device g c = λ two.
+    subst (λ (r : Settled). rank r.body ≡ 2 → changed_device r.body ≡ c.args.place.device) (sym c.arrived.ensures)
+    (arrived_device c.args.place c.hear_signal-arrival.result c.take_wire-signal.result) two
+
 pub returns-clause-stands : goal.returns-clause-stands
-returns-clause-stands g c = λ s notes old first.
+returns-clause-stands g c = λ s notes settled index old first put.
     let w = c.args.self.now in
     let device : DeviceId = record { 0 = c.args.place.device } in
     let within = c.requires.device in
@@ -98,7 +117,6 @@ returns-clause-stands g c = λ s notes old first.
     let own = old.clocks device there in
     let took = c.take_wire-signal in
     let heard = c.hear_signal-arrival in
-    let put = c.put_in.ensures.is in
     heard_stands g.C.Clock.reading (keeps g.M.Machine.stands) s c.args.network.now w notes old c.args.place took.result took.new.under_way.entries took.ensures
     c.requires.wire c.requires.at c.index_mut-machine.result.now (record { time = c.from_amount-time.result; reading = c.read.result })
     (slice_get_read w.machines.items w.machines.len device.0 c.index_mut-machine.result.now w.machines.ok.0 (omega (arith, machines, within, kept))
@@ -107,13 +125,13 @@ returns-clause-stands g c = λ s notes old first.
     (some_same _ _ _ own.1
     (slice_get_read w.clocks.items w.clocks.len device.0 c.index.result.now w.clocks.ok.0 (omega (arith, clocks, within, held)) c.index.ensures))
     own.2 c.from_amount-time.ensures.value c.read.ensures)
-    heard.new.kept heard.ensures.0 heard.result (set w.machines.items device.0 heard.new.kept) c.put_in.new.settled.items put.0
+    heard.new.kept heard.ensures.0 heard.result (set w.machines.items device.0 heard.new.kept) settled index
     c.requires.sound.under_way first heard.ensures.1 heard.ensures.2
     (record {
       there = set_same w.machines.items device.0 heard.new.kept (omega (arith, machines, within, kept));
       same = λ i apart. set_aside w.machines.items device.0 i heard.new.kept apart;
     })
-    (subst (λ (z : Settled). IsPutAt z w.settled.items c.put_in.new.settled.items put.0) c.arrived.ensures put.1)
+    (subst (λ (z : Settled). IsPutAt z w.settled.items settled index) c.arrived.ensures put)
 
 pub returns-clause-others : goal.returns-clause-others
 returns-clause-others g c = record {

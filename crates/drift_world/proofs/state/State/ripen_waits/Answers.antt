@@ -1,12 +1,9 @@
-use Rattle.drift_world.proofs.Words.{◌+◌, ◌∙◌, Moment, Waits, ap, arith, false, is_set, keeps, length, length-set, length_permutation, refl, slice_get_read}
+use Rattle.drift_world.proofs.Words.{◌+◌, ◌∙◌, Moment, arith, is_set, keeps, length, length-set, length_permutation, refl, slice_get_read}
 use Rattle.drift_world.proofs.Words.{subst}
-use Rattle.std.specs.Vec.{with_item}
-use Rattle.world_law.proofs.giving.Given.{some_same}
 use Rattle.world_state.proofs.Swaps.{was_there}
 use Rattle.world_steps.specs.Ripening.{HasRipened}
-use Rattle.drift_world.proofs.Ripenings.{StandsAfter, asked, below_taken, device_in, low, moment_by, moment_is, octets_fit, others_wait, ripened, still_apart}
-use Rattle.drift_world.specs.declared.state.State.{State}
-use Rattle.drift_world.proofs.state.State.ripen_first.Goals as goal
+use Rattle.drift_world.proofs.Ripenings.{asked, below_taken, device_in, low, moment_by, moment_is, others_wait, ripened, still_apart}
+use Rattle.drift_world.proofs.state.State.ripen_waits.Goals as goal
 
 pub reading_of-reading-requires-clause-there : goal.reading_of-reading-requires-clause-there
 reading_of-reading-requires-clause-there g c =
@@ -87,7 +84,7 @@ returns-clause-sound g c =
       fit = record {
         ups = fit.ups;
         downs = fit.downs;
-        octets = octets_fit one c.ripen-ripe.result w.settled.items c.settle_ripe.new.settled.items c.settle_ripe.ensures fit.octets;
+        octets = fit.octets;
         below = fit.below;
         waits_below = below_taken (w.given + 1) one w.waiting.items c.take_first-waits.new.self.items t fit.waits_below;
         apart = still_apart one w.waiting.items c.take_first-waits.new.self.items t fit.apart;
@@ -95,7 +92,7 @@ returns-clause-sound g c =
     }
 
 pub returns-clause-stands : goal.returns-clause-stands
-returns-clause-stands g c = λ v at.
+returns-clause-stands g c = λ s notes settled old first put.
     let w = c.args.self.now in
     let one = c.take_first-waits.result in
     let K = g.C.Clock in
@@ -108,28 +105,20 @@ returns-clause-stands g c = λ v at.
     let lt = device_in K.reading M.stands network w one inside (λ clock own. c.requires.reached one clock is own) came.s came.notes came.is in
     let many = c.requires.sound.sized.machines in
     let own = c.reading_of-reading.ensures in
-    let moment = moment_by c.from_amount.result c.from_amount-2.result in
-    let after : State _ _ = record w {
-      machines = with_item w.machines one.device.0 c.ripen-ripe.new.self;
-      waiting = c.take_first-waits.new.self;
-      early = false;
-      settled = c.settle_ripe.new.settled;
-    } in
-    subst (StandsAfter K.reading M.stands network w after) (some_same one v _ is at) (λ s notes old first.
     ripened K.reading M.stands network w one c.take_first-waits.new.self.items c.index_mut.result.now c.ripen-ripe.new.self
-    c.ripen-ripe.result c.settle_ripe.new.settled.items t c.requires.sound.fit.apart (λ clock own.
+    c.ripen-ripe.result settled t c.requires.sound.fit.apart (λ clock own.
     c.requires.reached one clock is own) (omega (arith, lt, many))
     (slice_get_read w.machines.items (length w.machines.items) one.device.0 c.index_mut.result.now refl (omega (arith, lt, many)) c.index_mut.ensures.value)
-    c.settle_ripe.ensures s notes old first
+    put s notes old first
     (subst (λ (m : Moment). HasRipened (keeps M.stands) s.network one.device m one.link one.frame one.point c.ripen-ripe.result c.index_mut.result.now
     c.ripen-ripe.new.self)
     (moment_is K.reading M.stands network w one inside (λ clock own.
     c.requires.reached one clock is own) s notes old own.0 own.1 c.reading_of-reading.result own.2 c.from_amount.result
     c.from_amount-2.result c.from_amount.ensures.value c.from_amount-2.ensures.value)
-    (λ node. c.ripen-ripe.ensures s.network one.device node)))
+    (λ node. c.ripen-ripe.ensures s.network one.device node))
 
 pub returns-clause-others : goal.returns-clause-others
-returns-clause-others g c = λ v at.
+returns-clause-others g c =
     let w = c.args.self.now in
     let one = c.take_first-waits.result in
     let network = c.args.network.now in
@@ -139,15 +128,13 @@ returns-clause-others g c = λ v at.
     let came = c.requires.comes one is in
     let lt = device_in g.C.Clock.reading g.M.Machine.stands network w one inside (λ clock own. c.requires.reached one clock is own) came.s came.notes came.is in
     let many = c.requires.sound.sized.machines in
-    let same = some_same one v _ is at in
     let set = is_set w.machines.items one.device.0 c.ripen-ripe.new.self (omega (arith, lt, many)) in
     record {
       clocks = refl;
       time = refl;
       ended = refl;
-      machines = λ i ne. set.same i (λ e. ne (e ∙ ap (λ (x : Waits). x.device.0) same));
-      waiting = λ x ne. others_wait one w.waiting.items c.take_first-waits.new.self.items t x
-          (λ e. ne (e ∙ ap (λ (y : Waits). y.device.0) same));
+      machines = set.same;
+      waiting = others_wait one w.waiting.items c.take_first-waits.new.self.items t;
     }
 
 pub returns-clause-shorter : goal.returns-clause-shorter

@@ -1,0 +1,100 @@
+-- What is given at once: nothing of its instant stands before it.
+use Rattle.drift_world.proofs.Words.{◌+◌, ◌-◌, ◌<◌, ◌∙◌, ◌∷◌, ◌≡◌, ◌≤◌, ◌⊎◌, AreFirsts, AreTimed, AreUnderWay, Due, Err, IfOk, IfSome, IsBefore, IsFirst}
+use Rattle.drift_world.proofs.Words.{IsRunning, IsWell, List, Network, Node, None, Note, Ok, Option, Place, Result, Scenario, Some, Turn, [], ap, arith}
+use Rattle.drift_world.proofs.Words.{cases_lt, inl, inr, length, numbers_of, subst, true, ℕ}
+use Rattle.net_plan.specs.declared.ids.DeviceId.{DeviceId}
+use Rattle.world_timers.specs.Times.{IsFirst as IsFirstDue}
+use Rattle.drift_world.proofs.{Foremost.{first_later, higher, not_earlier, of_run}, Nearings.less_nears}
+use Rattle.drift_world.proofs.Sources.{due_time, nothing_before, slot_high, slot_low}
+use Rattle.drift_world.specs.{Nearing.Nears, Sourcing.{IsRipePlace, due_place}, Turns.{GivesAt, IsNextRank, IsWhole, TurnSays, WorkSays}}
+use Rattle.drift_world.specs.declared.{next.Turn.TheVariants.{Ends, Gives, GoesOn}, state.State.State}
+
+-- what stands at a time and a rank is not before a place of this time and a lower rank
+aside_by_rank : (t now high rank : ℕ) (rest more : List ℕ) → now ≤ t → (t ≡ now → rank < high) → IsBefore (t ∷ high ∷ rest) (now ∷ rank ∷ more) → ⊥
+aside_by_rank t now high rank rest more le lt = not_earlier t now (high ∷ rest) (rank ∷ more) le (λ e. higher high rank rest more (lt e))
+
+module _ {C M : Type 0} (last_step : C → ℕ) (reading : C → ℕ → ℕ) (stands : M → Network → DeviceId → Node → Type 0) (network : Network) where
+  -- the first that is under way is not before it
+  port_aside : (state : State C M) (place : Option Place) (port rank : ℕ) (rest : List ℕ) → IsRunning reading stands network state
+      → AreUnderWay network state.under_way.entries → rank < port → IfSome place (λ p. IsFirst state.under_way.entries p)
+      → IfSome place (λ p. p.at ≡ state.time → port ≤ p.rank)
+      → IfSome place (λ p. IsBefore (numbers_of p) (state.time ∷ rank ∷ rest) → ⊥)
+  port_aside state None port rank rest running under_way lt first is = tt
+  port_aside state (Some p) port rank rest running under_way lt first is =
+      aside_by_rank p.at state.time p.rank rank (p.device ∷ p.link ∷ p.cause ∷ []) rest
+      (first_later reading stands network state running under_way p first) (λ e. let le = is e in omega (arith, le, lt))
+
+  -- nor what the first timer is for
+  slot_aside : (state : State C M) (due : Option Due) (slot rank : ℕ) (rest : List ℕ) → AreTimed reading stands network state → rank < slot
+      → IfSome due (λ d. IsFirstDue state.timers d)
+      → IfSome due (λ d. d.time ≡ state.time → d.slot < length network.device → slot ≤ 3)
+      → IfSome due (λ d. d.time ≡ state.time → length network.device ≤ d.slot → slot ≤ 4)
+      → IfSome due (λ d. (IsBefore (due_place (length network.device) d) (state.time ∷ rank ∷ rest) → ⊥)
+      ⊎ IsRipePlace reading network state d (state.time ∷ rank ∷ rest))
+  slot_aside state None slot rank rest are lt first waits acts = tt
+  slot_aside state (Some d) slot rank rest are lt first waits acts =
+      let later = due_time reading stands network state d are first in
+      inl (elim (cases_lt d.slot (length network.device)) [
+        | inl low ↦ λ b.
+            aside_by_rank d.time state.time 3 rank (d.slot ∷ []) rest later (λ e. let le = waits e low in omega (arith, le, lt))
+            (subst (λ (q : List ℕ). IsBefore q (state.time ∷ rank ∷ rest)) (slot_low (length network.device) d low) b)
+        | inr high ↦ λ b.
+            aside_by_rank d.time state.time 4 rank ((d.slot - length network.device) ∷ []) rest later
+            (λ e. let le = acts e high in omega (arith, le, lt))
+            (subst (λ (q : List ℕ). IsBefore q (state.time ∷ rank ∷ rest)) (slot_high (length network.device) d high) b)
+      ])
+
+  -- the ranks of the first of both queues, and of what is in none, tell what is to come of the instant
+  pub ranks_tell : (state : State C M) (place : Option Place) (due : Option Due) (port slot other next : ℕ) → IsWell last_step reading stands network state
+      → AreFirsts state place due
+      → IfSome place (λ p. p.at ≡ state.time → port ≤ p.rank)
+      → IfSome due (λ d. d.time ≡ state.time → d.slot < length network.device → slot ≤ 3)
+      → IfSome due (λ d. d.time ≡ state.time → length network.device ≤ d.slot → slot ≤ 4)
+      → (state.pending ≡ true → other ≤ 2) → (state.ended ≡ true → state.shown < length network.device → other ≤ 14)
+      → next ≤ port → next ≤ slot → next ≤ other → IsNextRank reading stands network state next
+  ranks_tell state place due port slot other next well firsts of_port waits acts befell clocks by_port by_slot by_other = λ rank rest lt.
+      nothing_before last_step reading stands network state place due (state.time ∷ rank ∷ rest) well.sound.sized well.timed firsts
+      (record {
+        in_time = of_run state.time (rank ∷ rest) well.sound.sized.limit;
+        under_way = port_aside state place port rank rest well.running well.sound.under_way (omega (arith, lt, by_port)) firsts.some_place of_port;
+        timers = slot_aside state due slot rank rest well.timed (omega (arith, lt, by_slot)) firsts.some_due waits acts;
+        befell = λ is.
+            let le = befell is in aside_by_rank state.time state.time 2 rank [] rest (omega arith) (λ e. omega (arith, le, lt, by_other));
+        clocks = λ is more.
+            let le = clocks is more in
+            aside_by_rank state.time state.time 14 rank (state.shown ∷ []) rest (omega arith) (λ e. omega (arith, le, lt, by_other));
+      })
+
+  -- ---- what a turn says that works a source off
+
+  -- what it gives after a step, it gives after the state before
+  pub gives_then : (E : Type 0) (old mid new : State C M) (note : Note) (result : Result Turn E) → mid.time ≡ old.time → mid.given ≡ old.given
+      → IfOk result (GivesAt mid new note) → IfOk result (WorkSays network old new note)
+  gives_then E old mid new note (Ok Gives) time given says = (says.0, says.1 ∙ time, says.2 ∙ ap (λ (n : ℕ). n + 1) given)
+  gives_then E old mid new note (Ok GoesOn) time given says = absurd says
+  gives_then E old mid new note (Ok Ends) time given says = absurd says
+  gives_then E old mid new note (Err e) time given says = tt
+
+  -- it does not end
+  pub work_whole : (E : Type 0) (old new : State C M) (s : Scenario) (notes : List Note) (until : ℕ) (note : Note) (result : Result Turn E)
+      → IfOk result (WorkSays network old new note) → IfOk result (λ turn. IsWhole s notes until turn)
+  work_whole E old new s notes until note (Ok Gives) says = tt
+  work_whole E old new s notes until note (Ok GoesOn) says = tt
+  work_whole E old new s notes until note (Ok Ends) says = absurd says
+  work_whole E old new s notes until note (Err e) says = tt
+
+  -- it says what a turn says
+  pub work_says : (E : Type 0) (old new : State C M) (until : ℕ) (note : Note) (result : Result Turn E) → old.time < until
+      → IfOk result (WorkSays network old new note) → IfOk result (TurnSays old new until note)
+  work_says E old new until note (Ok Gives) early says = let time = says.1 in (says.0, omega (arith, time, early), says.2)
+  work_says E old new until note (Ok GoesOn) early says = let time = says.0 in (omega (arith, time, early), says.1)
+  work_says E old new until note (Ok Ends) early says = absurd says
+  work_says E old new until note (Err e) early says = tt
+
+  -- where it goes on, it comes nearer
+  pub work_nears : (E : Type 0) (old new : State C M) (until : ℕ) (note : Note) (result : Result Turn E) → IsWell last_step reading stands network new
+      → IfOk result (WorkSays network old new note) → IfOk result (Nears network until old new)
+  work_nears E old new until note (Ok Gives) well says = tt
+  work_nears E old new until note (Ok GoesOn) well says = less_nears last_step reading stands network until old new well says.0 says.2
+  work_nears E old new until note (Ok Ends) well says = absurd says
+  work_nears E old new until note (Err e) well says = tt

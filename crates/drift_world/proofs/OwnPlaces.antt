@@ -1,0 +1,165 @@
+-- A record alone: it stands at the place of its source, and is given with nothing else settled.
+use Rattle.drift_world.proofs.Words.{◌^◌, ◌∙◌, ◌∷◌, ◌≡◌, AtPort, Bool, ChangesOnly, Happening, IfSome, IsBefore, IsPutAt, List, Network, None}
+use Rattle.drift_world.proofs.Words.{NoSourceBefore, Option, Place, Scenario, Settled, Some, Waits, [], ap, arith, behind, chain, changed_device}
+use Rattle.drift_world.proofs.Words.{departure_body, map, numbers_of, on_wire, option_map_or, own_place, place_of, rank, refl, ripe_place, settled_at}
+use Rattle.drift_world.proofs.Words.{Content, Holding, Kept, World, at_port, stored_as, subst, sym, waiting_as, with_first, world_of, ℕ}
+use Rattle.std.specs.{List.insert, Prelude.filter_map}
+use Rattle.world_queue.specs.declared.Entry.{Entry}
+use Rattle.run_law.proofs.runs.Places.{before_behind}
+use Rattle.run_law.specs.{control.Leaving.{Departure, leaves, on_cut_way, too_old}, declared.steps.{Arrival.Arrival, Ripe.Ripe}, records.Ranks.key}
+use Rattle.world_state.specs.Ripening.{AreSettledSo, ripe_record}
+use Rattle.drift_world.specs.Ripening.{IsJudged}
+use Rattle.world_state.specs.{Hearing.arrived, Leaving.{departed, departure_by}, declared.contents.Signal.Signal as SignalSent}
+use Rattle.drift_world.specs.declared.state.State.{State}
+use Rattle.run_law.specs.declared.steps.Arrival.TheVariants as arrivals
+use Rattle.run_law.specs.declared.steps.Ripe.TheVariants as ripe
+
+-- ---- the place of a record
+
+arrived_at : (now : ℕ) (place : Place) → place.at ≡ now → place.rank ≡ 2
+    → now ∷ 2 ∷ place.device ∷ place.link ∷ place.cause ∷ [] ≡ numbers_of place
+arrived_at now place at two =
+    ap (λ (t : ℕ). t ∷ 2 ∷ place.device ∷ place.link ∷ place.cause ∷ []) (sym at)
+    ∙ ap (λ (r : ℕ). place.at ∷ r ∷ place.device ∷ place.link ∷ place.cause ∷ []) (sym two)
+
+-- the record of a control frame that arrived stands at the place of what arrived
+pub arrived_own : (network : Network) (now : ℕ) (place : Place) (is : Arrival) (signal : SignalSent) → place.at ≡ now → place.rank ≡ 2
+    → rank (arrived place is signal).body ≡ 2 → place_of (settled_at network now (arrived place is signal)) ≡ numbers_of place
+arrived_own network now place (arrivals.Dropped reason) signal at two e = absurd (omega (arith, e))
+arrived_own network now place (arrivals.Waits frame point) signal at two e = arrived_at now place at two
+arrived_own network now place (arrivals.Passes frame way) signal at two e = arrived_at now place at two
+arrived_own network now place (arrivals.PassesAndWaits frame way point) signal at two e = arrived_at now place at two
+arrived_own network now place (arrivals.Accepted vl cycle) signal at two e = absurd (omega (arith, e))
+arrived_own network now place (arrivals.Delivered vl cycle) signal at two e = absurd (omega (arith, e))
+
+pub arrived_device : (place : Place) (is : Arrival) (signal : SignalSent) → rank (arrived place is signal).body ≡ 2
+    → changed_device (arrived place is signal).body ≡ place.device
+arrived_device place (arrivals.Dropped reason) signal e = absurd (omega (arith, e))
+arrived_device place (arrivals.Waits frame point) signal e = refl
+arrived_device place (arrivals.Passes frame way) signal e = refl
+arrived_device place (arrivals.PassesAndWaits frame way point) signal e = refl
+arrived_device place (arrivals.Accepted vl cycle) signal e = absurd (omega (arith, e))
+arrived_device place (arrivals.Delivered vl cycle) signal e = absurd (omega (arith, e))
+
+-- so does that of a frame that left
+pub departed_own : (network : Network) (reading : ℕ) (cut : Bool) (e : AtPort) → rank (departed network reading cut e).body ≡ 8
+    → own_place (departed network reading cut e) ≡ 8 ∷ e.device.0 ∷ e.link.0 ∷ e.cause ∷ []
+departed_own network reading cut e =
+    by (departure_by network reading cut e) (option_map_or (λ frame. frame.members.0) (departed network reading cut e).frame 0)
+  where
+    by : (d : Departure) (members : ℕ) → rank (departure_body e d) ≡ 8
+        → rank (departure_body e d) ∷ key members (departure_body e d) ≡ 8 ∷ e.device.0 ∷ e.link.0 ∷ e.cause ∷ []
+    by (leaves clock) members is = refl
+    by too_old members is = absurd (omega (arith, is))
+    by on_cut_way members is = absurd (omega (arith, is))
+
+pub departed_none : (network : Network) (reading : ℕ) (cut : Bool) (e : AtPort) → changed_device (departed network reading cut e).body ≡ 2 ^ 32
+departed_none network reading cut e = by (departure_by network reading cut e)
+  where
+    by : (d : Departure) → changed_device (departure_body e d) ≡ 2 ^ 32
+    by (leaves clock) = refl
+    by too_old = refl
+    by on_cut_way = refl
+
+pub left_own : (network : Network) (now : ℕ) (place : Place) (one : Option Settled) → place.at ≡ now → place.rank ≡ 8
+    → IfSome one (λ z. rank z.body ≡ 8 → own_place z ≡ 8 ∷ place.device ∷ place.link ∷ place.cause ∷ [])
+    → IfSome one (λ z. rank z.body ≡ 8 → place_of (settled_at network now z) ≡ numbers_of place)
+left_own network now place None at eight is = tt
+left_own network now place (Some z) at eight is = λ own.
+    ap (λ (l : List ℕ). now ∷ l) (is own)
+    ∙ ap (λ (t : ℕ). t ∷ 8 ∷ place.device ∷ place.link ∷ place.cause ∷ []) (sym at)
+    ∙ ap (λ (r : ℕ). place.at ∷ r ∷ place.device ∷ place.link ∷ place.cause ∷ []) (sym eight)
+
+-- so does that of a frame that is judged
+pub judged_own : (network : Network) (now : ℕ) (w : Waits) (is : Ripe) → IsJudged is
+    → place_of (settled_at network now (ripe_record w is)) ≡ ripe_place now (waiting_as w)
+judged_own network now w ripe.Opened judged = refl
+judged_own network now w ripe.Joined judged = refl
+judged_own network now w ripe.Repeat judged = refl
+judged_own network now w ripe.Within judged = refl
+judged_own network now w ripe.Outside judged = refl
+judged_own network now w ripe.Ignored judged = refl
+judged_own network now w ripe.Integrates judged = absurd judged
+judged_own network now w (ripe.Dropped reason) judged = absurd judged
+
+pub judged_far : (w : Waits) (is : Ripe) → changed_device (ripe_record w is).body ≡ 2 ^ 32
+judged_far w ripe.Opened = refl
+judged_far w ripe.Joined = refl
+judged_far w ripe.Repeat = refl
+judged_far w ripe.Within = refl
+judged_far w ripe.Outside = refl
+judged_far w ripe.Ignored = refl
+judged_far w ripe.Integrates = refl
+judged_far w (ripe.Dropped reason) = refl
+
+-- ---- it is given
+
+-- a record alone is put in
+pub put_alone : (z : Settled) (settled : List Settled) → settled ≡ [] → IsPutAt z settled (z ∷ []) 0
+put_alone z settled none =
+    subst (λ (l : List Settled). IsPutAt z l (z ∷ []) 0) (sym none)
+    (record { within = omega arith; is = refl; behind = λ k d is. absurd (omega (arith, is)); none = λ k d le lt. absurd (omega (arith, lt)) })
+
+-- it alone, where a frame is judged
+pub judged_alone : (w : Waits) (is : Ripe) (settled : List Settled) → IsJudged is → settled ≡ []
+    → AreSettledSo w is settled (ripe_record w is ∷ [])
+judged_alone w ripe.Opened settled judged none = record { mid = _; at = 0; first = put_alone _ settled none; more = refl }
+judged_alone w ripe.Joined settled judged none = record { mid = _; at = 0; first = put_alone _ settled none; more = refl }
+judged_alone w ripe.Repeat settled judged none = record { mid = _; at = 0; first = put_alone _ settled none; more = refl }
+judged_alone w ripe.Within settled judged none = record { mid = _; at = 0; first = put_alone _ settled none; more = refl }
+judged_alone w ripe.Outside settled judged none = record { mid = _; at = 0; first = put_alone _ settled none; more = refl }
+judged_alone w ripe.Ignored settled judged none = record { mid = _; at = 0; first = put_alone _ settled none; more = refl }
+judged_alone w ripe.Integrates settled judged none = absurd judged
+judged_alone w (ripe.Dropped reason) settled judged none = absurd judged
+
+pub put_on_none : (z : Settled) (settled new : List Settled) (at : ℕ) → settled ≡ [] → IsPutAt z settled new at → new ≡ z ∷ []
+put_on_none z settled new at none put =
+    let own = subst (λ (l : List Settled). IsPutAt z l new at) none put in
+    let within = own.within in
+    let zero : at ≡ 0 = omega (arith, within) in
+    own.is ∙ ap (λ (n : ℕ). insert [] n z) zero
+
+-- the world of a state in which it alone is settled, elsewhere in memory
+pub lone_world : {C M : Type 0} (network : Network) (old new : State C M) (first : Settled) (rest : List Settled)
+    → new.under_way.entries ≡ old.under_way.entries → new.waiting.items ≡ old.waiting.items → new.stored.items ≡ old.stored.items → rest ≡ []
+    → new ≡ record old { under_way = new.under_way; waiting = new.waiting; stored = new.stored; settled = new.settled }
+    → with_first network new first rest ≡ with_first network old first []
+lone_world {C} {M} network old new first rest entries waiting stored none same =
+    let make = λ (es : List (Entry Content)) (ws : List Waits) (hs : List Holding) (zs : List Settled).
+    let w : World C (Kept M) = record (world_of network old) {
+      wires = filter_map (on_wire network) es;
+      ports = filter_map at_port es;
+      waiting = map waiting_as ws;
+      stored = map (stored_as network) hs;
+      settled = settled_at network old.time first ∷ map (settled_at network old.time) zs;
+    } in w in
+    ap (λ (q : State C M). with_first network q first rest) same
+    ∙ ap (λ (es : List (Entry Content)). make es new.waiting.items new.stored.items rest) entries
+    ∙ ap (λ (ws : List Waits). make old.under_way.entries ws new.stored.items rest) waiting
+    ∙ ap (λ (hs : List Holding). make old.under_way.entries old.waiting.items hs rest) stored
+    ∙ ap (λ (zs : List Settled). make old.under_way.entries old.waiting.items old.stored.items zs) none
+
+pub settled_alone : {C M : Type 0} (network : Network) (old new : State C M) (first : Settled)
+    → new.under_way.entries ≡ old.under_way.entries → new.waiting.items ≡ old.waiting.items → new.stored.items ≡ old.stored.items
+    → new.settled.items ≡ first ∷ []
+    → new ≡ record old { under_way = new.under_way; waiting = new.waiting; stored = new.stored; settled = new.settled }
+    → world_of network new ≡ with_first network old first []
+settled_alone {C} {M} network old new first entries waiting stored settled same =
+    ap (λ (zs : List Settled). let w : World C (Kept M) = record (world_of network new) { settled = map (settled_at network new.time) zs } in w) settled
+    ∙ lone_world network old new first [] entries waiting stored refl same
+
+-- no source that is not worked off stands before the place that was worked off last
+pub none_before_last : (s : Scenario) (hs : List Happening) (cursor p q : List ℕ) → cursor ≡ behind p → q ≡ p → NoSourceBefore s hs cursor q
+none_before_last s hs cursor p q at same = λ w source not b.
+    not (subst (IsBefore w) (sym at) (chain w p (behind p) (subst (IsBefore w) same b) (before_behind p)))
+
+-- what changes one device changes no other by another step of it
+pub changes_both : {C M : Type 0} (device : ℕ) (old mid new : State C M) → ChangesOnly device old mid → ChangesOnly device mid new
+    → ChangesOnly device old new
+changes_both device old mid new a b = record {
+  clocks = b.clocks ∙ a.clocks;
+  time = b.time ∙ a.time;
+  ended = b.ended ∙ a.ended;
+  machines = λ i apart. b.machines i apart ∙ a.machines i apart;
+  waiting = λ w apart. (λ i. (a.waiting w apart).0 ((b.waiting w apart).0 i), λ i. (b.waiting w apart).1 ((a.waiting w apart).1 i));
+}

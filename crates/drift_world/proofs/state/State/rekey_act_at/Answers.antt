@@ -1,0 +1,61 @@
+use Rattle.drift_world.proofs.Words.{◌+◌, ◌<◌, ◌∙◌, ◌≡◌, ◌≤◌, DeviceId, List, Network, ap, arith, length, slice_get_read, slice_set, subst, sym, ℕ}
+use Rattle.std.proofs.{Common.{All, slice_get}, lemmas.List.Elements.All-set}
+use Rattle.tte_lemmas.proofs.Lists.{set_aside, set_same}
+use Rattle.world_law.proofs.giving.Given.{some_same}
+use Rattle.world_state.specs.Timing.{IsTimeFor}
+use Rattle.drift_world.proofs.{Timings.{IsLow, acts_timed, not_past}, state.State.rekey_act_at.Given.Over}
+use Rattle.drift_world.proofs.state.State.rekey_act_at.Goals as goal
+
+-- the slots, as they are set
+timers_are : (g : Over) (c : goal.After-set g)
+    → c.set.new.self ≡ slice_set c.args.self.now.timers (length c.args.network.now.device + c.args.device) c.time_for-act.result
+timers_are g c =
+    c.set.ensures
+    ∙ ap (λ (n : ℕ). slice_set c.args.self.now.timers (n + c.args.device) c.time_for-act.result) (ap length c.as_slice-devices.ensures)
+
+pub returns-clause-timed : goal.returns-clause-timed
+returns-clause-timed g c =
+    let w = c.args.self.now in
+    let K = g.C.Clock in
+    let network = c.args.network.now in
+    let there = c.requires.there in
+    let slots = c.requires.slots in
+    let clocks = c.requires.sized.clocks in
+    let held = w.clocks.ok.0 in
+    let device : DeviceId = record { 0 = c.args.device } in
+    let s = c.requires.running.s in
+    let old = c.requires.running.is in
+    let of_it : c.args.device < length s.network.device = subst (λ (n : Network). c.args.device < length n.device) old.same there in
+    let own = old.clocks device of_it in
+    let has = old.devices device of_it in
+    let clock = own.0 in
+    let same : clock ≡ c.index.result.now = some_same _ _ _ own.1
+    (slice_get_read w.clocks.items w.clocks.len c.args.device c.index.result.now w.clocks.ok.0 (omega (arith, clocks, there, held)) c.index.ensures) in
+    let low : IsLow K.reading clock w.time = λ u from most.
+    let least = (old.steady device).low u most in let reads = own.2 u from in omega (arith, least, reads) in
+    record {
+      clock = clock;
+      of_clock = own.1;
+      machine = has.0;
+      of_machine = has.1;
+      act = c.time_for-act.result;
+      of_act = ap (λ (l : List ℕ). slice_get l (length network.device + c.args.device)) (timers_are g c)
+          ∙ set_same w.timers (length network.device + c.args.device) c.time_for-act.result (omega (arith, slots, there));
+      acts = acts_timed K.reading g.M.Machine.stands network clock has.0 device w.time c.args.due c.time_for-act.result low
+          (λ node is. c.requires.due has.0 network device node has.1 is)
+          (subst (λ k. IsTimeFor K.reading k w.time c.args.due c.time_for-act.result) (sym same) c.time_for-act.ensures);
+    }
+
+pub returns-clause-others : goal.returns-clause-others
+returns-clause-others g c = λ slot apart.
+    ap (λ (l : List ℕ). slice_get l slot) (timers_are g c)
+    ∙ set_aside c.args.self.now.timers (length c.args.network.now.device + c.args.device) slot c.time_for-act.result apart
+
+pub returns-clause-later : goal.returns-clause-later
+returns-clause-later g c = λ all.
+    let w = c.args.self.now in
+    let K = g.C.Clock in
+    let limit = c.requires.sized.limit in
+    subst (λ (l : List ℕ). All (λ (time : ℕ). w.time ≤ time) l) (sym (timers_are g c))
+    (All-set (λ (time : ℕ). w.time ≤ time) w.timers (length c.args.network.now.device + c.args.device) c.time_for-act.result
+    (not_past K.reading c.index.result.now w.time c.args.due c.time_for-act.result limit c.time_for-act.ensures) all)

@@ -1,0 +1,50 @@
+use Rattle.drift_world.proofs.Words.{◌<◌, ◌∙◌, ◌≡◌, ◌≤◌, DeviceId, Network, ap, arith, length, slice_get_read, subst, sym, ℕ}
+use Rattle.std.proofs.{Common.{All, List, slice_get}, lemmas.List.Elements.All-set}
+use Rattle.tte_lemmas.proofs.Lists.{set_aside, set_same}
+use Rattle.world_law.proofs.giving.Given.{some_same}
+use Rattle.world_state.specs.Timing.{IsLeastPoint, IsTimeFor}
+use Rattle.drift_world.proofs.Timings.{IsLow, not_past, ripe_timed}
+use Rattle.drift_world.proofs.state.State.rekey_ripe.Goals as goal
+
+pub returns-clause-timed : goal.returns-clause-timed
+returns-clause-timed g c =
+    let w = c.args.self.now in
+    let K = g.C.Clock in
+    let network = c.args.network.now in
+    let there = c.requires.there in
+    let slots = c.requires.slots in
+    let clocks = c.requires.sized.clocks in
+    let held = w.clocks.ok.0 in
+    let device : DeviceId = record { 0 = c.args.device } in
+    let s = c.requires.running.s in
+    let old = c.requires.running.is in
+    let of_it : c.args.device < length s.network.device = subst (λ (n : Network). c.args.device < length n.device) old.same there in
+    let own = old.clocks device of_it in
+    let clock = own.0 in
+    let same : clock ≡ c.index.result.now = some_same _ _ _ own.1
+    (slice_get_read w.clocks.items w.clocks.len c.args.device c.index.result.now w.clocks.ok.0 (omega (arith, clocks, there, held)) c.index.ensures) in
+    let low : IsLow K.reading clock w.time = λ u from most.
+    let least = (old.steady device).low u most in let reads = own.2 u from in omega (arith, least, reads) in
+    let point : IsLeastPoint w.waiting.items c.args.device c.least_point-point.result = c.least_point-point.ensures in
+    record {
+      clock = clock;
+      of_clock = own.1;
+      ripe = c.time_for-ripe.result;
+      of_ripe = ap (λ (l : List ℕ). slice_get l c.args.device) c.set.ensures
+          ∙ set_same w.timers c.args.device c.time_for-ripe.result (omega (arith, slots, there));
+      ripens = ripe_timed K.reading clock w.waiting.items c.args.device w.time c.least_point-point.result c.time_for-ripe.result low point
+          (subst (λ k. IsTimeFor K.reading k w.time c.least_point-point.result c.time_for-ripe.result) (sym same) c.time_for-ripe.ensures);
+    }
+
+pub returns-clause-others : goal.returns-clause-others
+returns-clause-others g c = λ slot ne.
+    ap (λ (l : List ℕ). slice_get l slot) c.set.ensures ∙ set_aside c.args.self.now.timers c.args.device slot c.time_for-ripe.result ne
+
+pub returns-clause-later : goal.returns-clause-later
+returns-clause-later g c = λ all.
+    let w = c.args.self.now in
+    let K = g.C.Clock in
+    let limit = c.requires.sized.limit in
+    subst (λ (l : List ℕ). All (λ (time : ℕ). w.time ≤ time) l) (sym c.set.ensures)
+    (All-set (λ (time : ℕ). w.time ≤ time) w.timers c.args.device c.time_for-ripe.result
+    (not_past K.reading c.index.result.now w.time c.least_point-point.result c.time_for-ripe.result limit c.time_for-ripe.ensures) all)

@@ -1,0 +1,181 @@
+ghost use Rattle.std.specs.Prelude.{◌++◌, ◌+◌, ◌<◌, ◌↔◌, ◌≡◌, IfOk, IsTrue, List, OnErr, []};
+ghost use Rattle.net_plan.specs.Ranges.{IsInRange};
+ghost use Rattle.run_law.specs.{declared.note.Note.Note as NoteOf, scenario.Scenarios.Scenario};
+ghost use Rattle.run_law.specs.records.{Happenings.happenings, Ranks.place_of};
+ghost use Rattle.world_law.specs.{source.First.NoSourceBefore, world.World.Stands};
+
+use crate::next::Turn;
+use crate::ripen::is_judged;
+use crate::source::{ARRIVING, LEAVING};
+use crate::state::State;
+use drift_clock::Clock;
+use net_plan::Network;
+use run_law::Machine;
+use world_queue::Place;
+use world_state::OutOfMemory;
+use world_state::bodies::Given;
+use world_state::contents::{Settled, Waits};
+use world_state::giving::make_room;
+use world_state::ripening::{record_of, settle_ripe};
+use world_state::settled::{put_in, rank_of};
+use world_state::storing::taker;
+use world_state::waiting::waiter;
+
+impl<C: Clock, M: Machine + Drop> State<C, M> {
+    ghost use Rattle.world_state.specs.{Giving.{HasItsOctets, changed_device}, Keeping.keeps, Views.settled_at};
+    ghost use Rattle.drift_world.specs.{Giving.IsRunningWith, Sound.IsSound, Stepping.ChangesOnly, Wells.IsWell};
+    ghost use Rattle.drift_world.specs.Turns.{GivesAt, HasRoom, IsAfter, IsForemost, SourceFirst, WorkSays, given_in};
+    ghost use Rattle.drift_world.specs.{Views.{with_first, world_of}, declared.source.Source.Source as SourceOf};
+
+    /// Is nothing settled?
+    fn has_none_settled(&self) -> bool
+        ensures { IsTrue result ↔ (self.now.settled.items ≡ []) }
+    {
+        self.settled.is_empty()
+    }
+
+    /// The record, which is put in nowhere, is given: nothing is settled, and nothing to come stands before it. On an
+    /// error it is put in among what is settled.
+    fn give_alone(
+        &mut self,
+        network: &Network,
+        first: Settled,
+        note: &mut Given,
+    ) -> Result<Turn, OutOfMemory>
+        requires sound { IsSound C.last_step network.now self.old }
+        requires range { IsInRange network.now }
+        requires room { HasRoom self.old }
+        requires empty { self.old.settled.items ≡ [] }
+        requires octets { HasItsOctets first.body first.octets }
+        requires running { IsRunningWith C.reading M.stands network.now self.old first }
+        ensures sound { IsSound C.last_step network.now self.new }
+        ensures same { self.new ≡ record self.old {
+          under_way = self.new.under_way;
+          waiting = self.new.waiting;
+          stored = self.new.stored;
+          settled = self.new.settled;
+          given = self.new.given;
+        } }
+        ensures stands { let z = settled_at network.now self.old.time first in (s : Scenario) (notes : List NoteOf)
+            → (old : Stands C.reading (keeps M.stands) s (with_first network.now self.old first []) notes)
+            → NoSourceBefore s (happenings s.network notes) old.cursor (place_of z)
+            → Stands C.reading (keeps M.stands) s (world_of network.now self.new) (notes ++ given_in result note.new) }
+        ensures says { IfOk result (GivesAt self.old self.new note.new) }
+        ensures others { ChangesOnly (changed_device first.body) self.old self.new }
+    {
+        let device = waiter(&first.body);
+        let spot = taker(&first.body);
+        if let Err(error) = make_room(
+            &mut self.under_way,
+            &mut self.waiting,
+            &mut self.stored,
+            network,
+            device,
+            spot,
+        ) {
+            put_in(&mut self.settled, first);
+            return Err(error);
+        }
+        self.give_first(network, first, note);
+        Ok(Turn::Gives)
+    }
+
+    /// What is first on a wire arrives. Where nothing is settled, and it is a control frame that its device takes, its
+    /// record is given at once: it stands at the place of the source.
+    pub fn arrival_turn(
+        &mut self,
+        network: &Network,
+        place: Place,
+        note: &mut Given,
+    ) -> Result<Turn, OutOfMemory>
+        requires range { IsInRange network.now }
+        requires well { IsWell C.last_step C.reading M.stands network.now self.old }
+        requires room { HasRoom self.old }
+        requires foremost { IsForemost C.reading M.stands network.now self.old (SourceOf.Arrival place) }
+        requires first { SourceFirst self.old.settled.items (SourceOf.Arrival place) }
+        ensures well { IsWell C.last_step C.reading M.stands network.now self.new }
+        ensures after { IsAfter self.old self.new }
+        ensures stands { (s : Scenario) (notes : List NoteOf)
+            → Stands C.reading (keeps M.stands) s (world_of network.now self.old) notes
+            → Stands C.reading (keeps M.stands) s (world_of network.now self.new) (notes ++ given_in result note.new) }
+        ensures says { IfOk result (WorkSays network.now self.old self.new note.new) }
+        ensures err { OnErr result (self.new.time ≡ self.old.time) }
+    {
+        let alone = self.has_none_settled();
+        let record = self.hear_wire(network, place);
+        if alone && rank_of(&record) == u64::from(ARRIVING) {
+            let turn = self.give_alone(network, record, note);
+            self.rekey(network, place.device);
+            return turn;
+        }
+        put_in(&mut self.settled, record);
+        self.rekey_act(network, place.device);
+        Ok(Turn::GoesOn)
+    }
+
+    /// The frame that is first at a port leaves. Where nothing is settled, and it goes on its wire, its record is given
+    /// at once: it stands at the place of the source.
+    pub fn departure_turn(
+        &mut self,
+        network: &Network,
+        place: Place,
+        note: &mut Given,
+    ) -> Result<Turn, OutOfMemory>
+        requires range { IsInRange network.now }
+        requires well { IsWell C.last_step C.reading M.stands network.now self.old }
+        requires room { HasRoom self.old }
+        requires foremost { IsForemost C.reading M.stands network.now self.old (SourceOf.Departure place) }
+        requires first { SourceFirst self.old.settled.items (SourceOf.Departure place) }
+        ensures well { IsWell C.last_step C.reading M.stands network.now self.new }
+        ensures after { IsAfter self.old self.new }
+        ensures stands { (s : Scenario) (notes : List NoteOf)
+            → Stands C.reading (keeps M.stands) s (world_of network.now self.old) notes
+            → Stands C.reading (keeps M.stands) s (world_of network.now self.new) (notes ++ given_in result note.new) }
+        ensures says { IfOk result (WorkSays network.now self.old self.new note.new) }
+        ensures err { OnErr result (self.new.time ≡ self.old.time) }
+    {
+        let alone = self.has_none_settled();
+        let Some(record) = self.leave_port(network, place) else {
+            return Ok(Turn::GoesOn);
+        };
+        if alone && rank_of(&record) == u64::from(LEAVING) {
+            return self.give_alone(network, record, note);
+        }
+        put_in(&mut self.settled, record);
+        Ok(Turn::GoesOn)
+    }
+
+    /// The frame that is the first that is permanent is judged. Where nothing is settled, and its only record is how it
+    /// is judged, this is given at once: it stands at the place of the source.
+    pub fn ripening_turn(
+        &mut self,
+        network: &Network,
+        one: Waits,
+        note: &mut Given,
+    ) -> Result<Turn, OutOfMemory>
+        requires range { IsInRange network.now }
+        requires well { IsWell C.last_step C.reading M.stands network.now self.old }
+        requires room { HasRoom self.old }
+        requires foremost { IsForemost C.reading M.stands network.now self.old (SourceOf.Ripening one) }
+        requires first { SourceFirst self.old.settled.items (SourceOf.Ripening one) }
+        ensures well { IsWell C.last_step C.reading M.stands network.now self.new }
+        ensures after { IsAfter self.old self.new }
+        ensures stands { (s : Scenario) (notes : List NoteOf)
+            → Stands C.reading (keeps M.stands) s (world_of network.now self.old) notes
+            → Stands C.reading (keeps M.stands) s (world_of network.now self.new) (notes ++ given_in result note.new) }
+        ensures says { IfOk result (WorkSays network.now self.old self.new note.new) }
+        ensures err { OnErr result (self.new.time ≡ self.old.time) }
+    {
+        let alone = self.has_none_settled();
+        let ripened = self.ripen_waits(network, one.device);
+        if alone && is_judged(ripened.ripe) {
+            let record = record_of(&ripened.waits, ripened.ripe);
+            let turn = self.give_alone(network, record, note);
+            self.rekey(network, one.device.0);
+            return turn;
+        }
+        settle_ripe(&mut self.settled, &ripened.waits, ripened.ripe);
+        self.rekey(network, one.device.0);
+        Ok(Turn::GoesOn)
+    }
+}
