@@ -47,12 +47,23 @@ fn what_behind(
         }
         EventWord::On => *what = What::On(words.device(network)?),
         EventWord::Break => *what = What::Break(words.device(network)?),
-        EventWord::Send => {
-            let link = words.link(network)?;
-            *what = What::Send(link, words.octets()?);
-        }
+        EventWord::Send => return send_behind(network, words, what),
         EventWord::End => *what = What::End,
     }
+    Ok(())
+}
+
+// Reads what a broken master sends. Its octets are large, so the other events are read without room for them.
+#[inline(never)]
+#[tactic(auto, unfolding(crate::specs::EventReading::what_behind))]
+fn send_behind(network: &Network, words: &mut Words, what: &mut What) -> Result<(), LineRefusal>
+    requires { IsInRange network.now }
+    ensures value { Reads (what_behind network.now EventWord.Send words.old) (read_in result what.new) words.new }
+    ensures of_network { OnOk result (IsOfNetwork network.now what.new) }
+    ensures range { OnOk result (IsWhatInRange what.new) }
+{
+    let link = words.link(network)?;
+    *what = What::Send(link, words.octets()?);
     Ok(())
 }
 

@@ -75,7 +75,8 @@ impl<'a> Trace<'a> {
         ensures follows { (network : NetworkValue) (events : List EventValue) → Follows network events self.old
             → GoesOn network events (given_in result event.new) self.new }
 
-        ensures takes { TakesNext self.old (B.left source.old) (given_in result event.new) self.new (B.left source.new) }
+        ensures takes { TakesNext self.old (B.left source.old) (given_in result event.new) self.new
+            (B.left source.new) }
 
         ensures never_falls { B.faults source.old ≤ B.faults source.new }
         ensures unchanged { result ≢ Err TraceStop.ReadFault → B.faults source.new ≡ B.faults source.old }

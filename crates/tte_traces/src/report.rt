@@ -5,9 +5,9 @@ ghost use Rattle.tte_io.specs.{Faults.{Rose, next_count}, Told.AppendsFront};
 ghost use Rattle.tte_traces.specs.Report.{PutsReport, StopsReport};
 
 use drift_world::{EventNote, Given};
-use net_plan::{Event, Network};
+use net_plan::{Event, Network, What};
 use report_text::{make_event_line, write_in};
-use run_law::Note;
+use run_law::{Note, NoteBody};
 use tte_io::{LineText, Sink};
 use tte_units::Units;
 use world_drive::{Cut, Observer};
@@ -17,7 +17,26 @@ use world_exact::ExactWorld;
 #[derive(Drop)]
 pub(crate) struct Report {
     /// Where the lines are made, one after the other.
-    pub(crate) text: LineText,
+    text: LineText,
+    /// The record whose line was made last, or any.
+    note: Note,
+}
+
+impl Report {
+    /// A report without lines.
+    pub(crate) fn new() -> Report {
+        Report {
+            text: LineText::new(),
+            note: Note {
+                number: 0,
+                time: Units(0),
+                body: NoteBody::Event {
+                    line: 0,
+                    what: What::End,
+                },
+            },
+        }
+    }
 }
 
 /// Puts the line of a record.
@@ -79,7 +98,8 @@ impl<K: Sink> Observer<K> for Report {
         note: &Given,
         out: &mut K,
     ) -> Result<bool, Cut> {
-        match put_note(&mut self.text, network, &note.note(), out) {
+        note.note_in(&mut self.note);
+        match put_note(&mut self.text, network, &self.note, out) {
             Ok(()) => Ok(false),
             Err(cut) => Err(cut),
         }

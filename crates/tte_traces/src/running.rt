@@ -9,7 +9,7 @@ use crate::report::Report;
 use schedule_tables::Accepted;
 use std::alloc::Global;
 use tte_forms::{Status, accept, put_no_network};
-use tte_io::{LineText, Sink, Source};
+use tte_io::{Sink, Source};
 
 /// Runs the network of the first file under the trace of the second. It takes the trace line by
 /// line, and writes each record as soon as it is known.
@@ -50,8 +50,6 @@ fn run_network<B: Source, K: Sink>(
     ensures statuses { IsRunStatus result }
     ensures cause { HasCause result (ReadFailed B.Source second.old second.new) (PutFailed K.Sink out.old out.new) }
 {
-    let mut report = Report {
-        text: LineText::new(),
-    };
+    let mut report = Report::new();
     follow_trace(alloc, accepted, second, &mut report, out)
 }

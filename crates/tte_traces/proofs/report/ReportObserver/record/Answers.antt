@@ -5,12 +5,12 @@ use Rattle.tte_traces.proofs.report.ReportObserver.record.Goals as goal
 pub put_note-requires-clause-of_network : goal.put_note-requires-clause-of_network
 put_note-requires-clause-of_network g c =
     let m = c.requires.may in
-    subst (IsNoteOf c.args.network.now) (sym c.note.ensures)
+    subst (IsNoteOf c.args.network.now) (sym c.note_in.ensures)
     (own_note c.args.network.now m.events m.notes c.args.note.now c.args._world.now m.given.stands)
 
 pub returns-in-Ok-clause-goes : goal.returns-in-Ok-clause-goes
 returns-in-Ok-clause-goes g c events notes instant old given seen =
-    let n = subst (λ (m : Note). PutsNote {T = Unit {0}} g.K.Sink c.args.network.now m (Ok (tt {0})) c.args.out.now c.put_note.new.out) c.note.ensures (record {
+    let n = subst (λ (m : Note). PutsNote {T = Unit {0}} g.K.Sink c.args.network.now m (Ok (tt {0})) c.args.out.now c.put_note.new.out) c.note_in.ensures (record {
       all = c.in-Ok.ensures.all;
       front = c.in-Ok.ensures.front;
       counted = c.in-Ok.ensures.counted;
@@ -20,17 +20,17 @@ returns-in-Ok-clause-goes g c events notes instant old given seen =
 
 pub returns-in-Ok-clause-puts : goal.returns-in-Ok-clause-puts
 returns-in-Ok-clause-puts g c =
-    let n : PutsNote {T = Unit {0}} g.K.Sink c.args.network.now c.note.result (Ok (tt {0})) c.args.out.now c.put_note.new.out = record {
+    let n : PutsNote {T = Unit {0}} g.K.Sink c.args.network.now c.note_in.new.note (Ok (tt {0})) c.args.out.now c.put_note.new.out = record {
       all = c.in-Ok.ensures.all;
       front = c.in-Ok.ensures.front;
       counted = c.in-Ok.ensures.counted;
       cut = c.in-Ok.ensures.cut;
     } in
-    further_ok g.K.Sink c.args.network.now c.note.result (tt {0}) _ c.args.out.now c.put_note.new.out n
+    further_ok g.K.Sink c.args.network.now c.note_in.new.note (tt {0}) _ c.args.out.now c.put_note.new.out n
 
 pub returns-in-Err-clause-goes : goal.returns-in-Err-clause-goes
 returns-in-Err-clause-goes g c events notes instant old given seen =
-    let n = subst (λ (m : Note). PutsNote {T = Unit {0}} g.K.Sink c.args.network.now m (Err c.in-Err.cut) c.args.out.now c.put_note.new.out) c.note.ensures
+    let n = subst (λ (m : Note). PutsNote {T = Unit {0}} g.K.Sink c.args.network.now m (Err c.in-Err.cut) c.args.out.now c.put_note.new.out) c.note_in.ensures
     (record {
       all = c.in-Err.ensures.all;
       front = c.in-Err.ensures.front;
@@ -41,10 +41,10 @@ returns-in-Err-clause-goes g c events notes instant old given seen =
 
 pub returns-in-Err-clause-puts : goal.returns-in-Err-clause-puts
 returns-in-Err-clause-puts g c =
-    let n : PutsNote {T = Unit {0}} g.K.Sink c.args.network.now c.note.result (Err c.in-Err.cut) c.args.out.now c.put_note.new.out = record {
+    let n : PutsNote {T = Unit {0}} g.K.Sink c.args.network.now c.note_in.new.note (Err c.in-Err.cut) c.args.out.now c.put_note.new.out = record {
       all = c.in-Err.ensures.all;
       front = c.in-Err.ensures.front;
       counted = c.in-Err.ensures.counted;
       cut = c.in-Err.ensures.cut;
     } in
-    further_err g.K.Sink c.args.network.now c.note.result c.in-Err.cut c.args.out.now c.put_note.new.out n
+    further_err g.K.Sink c.args.network.now c.note_in.new.note c.in-Err.cut c.args.out.now c.put_note.new.out n
