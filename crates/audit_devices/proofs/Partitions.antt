@@ -1,6 +1,7 @@
 -- Lists whose elements that pass a test are the first.
 use Rattle.audit_devices.proofs.Words.{if◌then◌else◌, ◌++◌, ◌<◌, ◌∙◌, ◌∷◌, ◌≡◌, ◌≤◌, Bool, IsIn, IsPartitionPoint, IsPartitionedBy, List, [], ap, arith}
 use Rattle.audit_devices.proofs.Words.{cases_lt, false, filter, inl, inr, length, length-append, refl, suc, sym, take, true, zero, ℕ}
+use Rattle.audit_devices.proofs.Words.{◌⊎◌, Option, Some, last_or, subst}
 use Rattle.std.proofs.{Common.get_or, Math.{ListN.get_or-append, Seq.get_or-append_seam}}
 
 pub in_index : {X : Type 0} (xs : List X) (i : ℕ) (d : X) → i < length xs → IsIn (get_or xs i d) xs
@@ -47,3 +48,20 @@ parted_on {X} p xs x old all i j d le lt passes =
                 ap (λ (k : ℕ). p (get_or (xs ++ x ∷ []) k d)) same ∙ passes
           ]
     ]
+
+either : (b : Bool) → (b ≡ true) ⊎ (b ≡ false)
+either true = inl refl
+either false = inr refl
+
+-- the last element, where it passes, is the last of those that pass
+pub last_kept : {X : Type 0} (p : X → Bool) (xs : List X) (o q : Option X) (e : X) → (o ≡ Some e → q ≡ Some e) → p e ≡ true → last_or o xs ≡ Some e
+    → last_or q (filter p xs) ≡ Some e
+last_kept p [] o q e from passes last = from last
+last_kept {X} p (x ∷ xs) o q e from passes last = elim (either (p x)) [
+  | inl passed ↦
+      subst (λ (b : Bool). last_or q (if b then x ∷ filter p xs else filter p xs) ≡ Some e) (sym passed)
+      (last_kept p xs (Some x) (Some x) e (λ same. same) passes last)
+  | inr failed ↦
+      subst (λ (b : Bool). last_or q (if b then x ∷ filter p xs else filter p xs) ≡ Some e) (sym failed)
+      (last_kept p xs (Some x) q e (λ same. absurd cc) passes last)
+]

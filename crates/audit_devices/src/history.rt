@@ -83,6 +83,19 @@ impl History {
     pub(crate) fn before(&self, mark: &Mark) -> &Shown
         ensures { IsInOrder self.now → result.now ≡ shown_before mark.now self.now }
     {
+        // Mostly the record that comes next asks, and all are before it.
+        if let Some(last) = self.entries.last() {
+            if last.mark.is_before(mark) {
+                return &last.shown;
+            }
+        }
+        self.sought_before(mark)
+    }
+
+    /// The same, where it may be any.
+    fn sought_before(&self, mark: &Mark) -> &Shown
+        ensures { IsInOrder self.now → result.now ≡ shown_before mark.now self.now }
+    {
         let point = self
             .entries
             .partition_point(|entry| entry.mark.is_before(mark));
@@ -92,6 +105,7 @@ impl History {
             None => &self.first,
         }
     }
+
     /// The time of the first entry that is later than this time. Up to then the same is shown.
     pub(crate) fn next_after(&self, time: u64) -> Option<u64>
         ensures later { IsInOrder self.now → IfSome result (λ next. time < next) }

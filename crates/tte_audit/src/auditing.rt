@@ -9,6 +9,7 @@ ghost use Rattle.tte_audit.specs.{Report.IsNextLine, Telling.IsReadOf};
 use crate::hints::NameHints;
 use crate::lines::{numbered_record, plain_record};
 use crate::named::keep_names_apart;
+use crate::plain_line::no_record;
 use crate::{AuditRefusal, ReportEvents, read_events};
 use audit_sweep::Sweep;
 use net_plan::Network;
@@ -56,8 +57,9 @@ fn audit_records(
     let hints = NameHints::of(network);
     let mut rest = report;
     let mut records = 0;
+    let mut note = no_record();
     'records: while !rest.is_empty() {
-        match take_line(&mut sweep, network, &hints, records + 1, rest) {
+        match take_line(&mut sweep, network, &hints, records + 1, rest, &mut note) {
             Ok(left) => {
                 records += 1;
                 rest = left;
@@ -71,13 +73,14 @@ fn audit_records(
     }
 }
 
-// Takes the record of this number, whose line comes first, and answers what is left.
+// Takes the record of this number, whose line comes first, and answers what is left. It is put in the place of another.
 fn take_line<'r>(
     sweep: &mut Sweep,
     network: &Network,
     hints: &NameHints,
     number: u64,
     octets: &'r [u8],
+    note: &mut Note,
 ) -> Result<&'r [u8], AuditRefusal>
     requires named { IsNamed network.now }
     requires swept { SweepsSome sweep.old }
@@ -86,12 +89,8 @@ fn take_line<'r>(
 {
     match plain_record(network, hints, number, octets) {
         Some(taken) => {
-            let note = Note {
-                number: taken.read.number,
-                time: taken.read.time,
-                body: taken.read.plain.body(),
-            };
-            judge(sweep, &note, taken.left)
+            taken.read.note_in(note);
+            judge(sweep, note, taken.left)
         }
         None => take_other(sweep, network, number, octets),
     }

@@ -94,9 +94,9 @@ pub enum Plain {
 }
 
 impl Plain {
-    /// What the record says.
-    pub fn body(self) -> NoteBody
-        ensures { result ≡ plain_body self }
+    /// Puts what the record says in the place of another. That has room for an event, so that none is moved.
+    pub fn body_in(self, body: &mut NoteBody)
+        ensures { body.new ≡ plain_body self }
     {
         match self {
             Plain::Arrived {
@@ -104,7 +104,7 @@ impl Plain {
                 link,
                 cause,
                 clock,
-            } => NoteBody::Arrived {
+            } => *body = NoteBody::Arrived {
                 device,
                 link,
                 cause,
@@ -116,7 +116,7 @@ impl Plain {
                 cause,
                 point,
                 verdict,
-            } => NoteBody::Permanent {
+            } => *body = NoteBody::Permanent {
                 device,
                 link,
                 cause,
@@ -130,7 +130,7 @@ impl Plain {
                 cycle,
                 members,
                 verdict,
-            } => NoteBody::Compressed {
+            } => *body = NoteBody::Compressed {
                 device,
                 opened,
                 at,
@@ -138,13 +138,13 @@ impl Plain {
                 members,
                 verdict,
             },
-            Plain::Sent { device, cycle } => NoteBody::Sent { device, cycle },
+            Plain::Sent { device, cycle } => *body = NoteBody::Sent { device, cycle },
             Plain::Corrected {
                 device,
                 cycle,
                 by,
                 adjustment,
-            } => NoteBody::Corrected {
+            } => *body = NoteBody::Corrected {
                 device,
                 cycle,
                 by,
@@ -155,7 +155,7 @@ impl Plain {
                 state,
                 cause,
                 why,
-            } => NoteBody::State {
+            } => *body = NoteBody::State {
                 device,
                 state,
                 cause,
@@ -166,7 +166,7 @@ impl Plain {
                 link,
                 cause,
                 clock,
-            } => NoteBody::Left {
+            } => *body = NoteBody::Left {
                 device,
                 link,
                 cause,
@@ -176,7 +176,7 @@ impl Plain {
                 device,
                 link,
                 cause,
-            } => NoteBody::Lost {
+            } => *body = NoteBody::Lost {
                 device,
                 link,
                 cause,
@@ -187,7 +187,7 @@ impl Plain {
                 cause,
                 vl,
                 cycle,
-            } => NoteBody::TtSent {
+            } => *body = NoteBody::TtSent {
                 device,
                 link,
                 cause,
@@ -200,7 +200,7 @@ impl Plain {
                 cause,
                 vl,
                 cycle,
-            } => NoteBody::Accepted {
+            } => *body = NoteBody::Accepted {
                 device,
                 link,
                 cause,
@@ -213,7 +213,7 @@ impl Plain {
                 cause,
                 vl,
                 cycle,
-            } => NoteBody::Delivered {
+            } => *body = NoteBody::Delivered {
                 device,
                 link,
                 cause,
@@ -225,7 +225,7 @@ impl Plain {
                 link,
                 cause,
                 reason,
-            } => NoteBody::Dropped {
+            } => *body = NoteBody::Dropped {
                 device,
                 link,
                 cause,
@@ -236,7 +236,7 @@ impl Plain {
                 reading,
                 adjustment,
                 state,
-            } => NoteBody::Clock {
+            } => *body = NoteBody::Clock {
                 device,
                 reading,
                 adjustment,

@@ -115,11 +115,7 @@ pub fn note_line(network: &Network, text: &[u8]) -> Option<Note>
         (λ note. IsTextOf network.now note text.now) }
 {
     match plain_line(network, None, text) {
-        Some(read) => Some(Note {
-            number: read.number,
-            time: read.time,
-            body: read.plain.body(),
-        }),
+        Some(read) => Some(read.note()),
         None => compared_line(network, text),
     }
 }
