@@ -72,4 +72,4 @@ held_is s hs h note giving device link cause clock result from is told =
     said
     ∙ ap (λ (t : ℕ). Held t (clock - clock_given g.note.body)) held
     ∙ ap (λ (m : ℕ). Held (hold_at s link (way_from s.network device link) (time_of g)) m) by.1.measured
-    ∙ sym (ap (λ (b : NoteBody). ground_by s hs (time_of h) b) body ∙ ap (held_ground s device link (time_of h)) by.1.there)
+    ∙ sym (ap (λ (b : NoteBody). ground_by s hs h b) body ∙ ap (held_ground s device link (time_of h)) by.1.there)

@@ -4,8 +4,8 @@ use Rattle.std.proofs.{Common.{length-append, refl, subst, suc, sym, zero, ℕ},
 use Rattle.std.specs.{List.concat, Prelude.{option_map, slice_get}}
 use Rattle.net_plan.specs.declared.network.Network.{Network}
 use Rattle.report_text.specs.{NoteLine.{note_line, note_text, report_of}, Ranges.IsNoteOf}
-use Rattle.run_law.{proofs.{law.FirstPlaces.{at_length, number_is}, runs.NetworkRuns.same_notes}, specs.declared.note.Note.Note}
-use Rattle.run_law.specs.{records.{Happenings.{Happening, happenings, numbered}, Ranks.place_of}, runs.{DueRecords.IsDue, Runs.IsFounded}}
+use Rattle.run_law.{proofs.{law.FirstPlaces.{at_length, in_at, number_is}, runs.NetworkRuns.same_notes}, specs.declared.note.Note.Note}
+use Rattle.run_law.specs.{records.{Happenings.{Happening, happenings, numbered}, Order.IsIn, Ranks.place_of}, runs.{DueRecords.IsDue, Runs.IsFounded}}
 use Rattle.tte_audit.specs.{Named.IsNamed, Report.scenario_of}
 use Rattle.tte_lemmas.proofs.{Lists.in_all, Options.mapped}
 use Rattle.tte_reports.{proofs.Reports.one_notes, specs.{Reports.{AreLeft, IsReportOf}, declared.records.Records.Records}}
@@ -30,6 +30,11 @@ happening_at network notes n note there = mapped (λ (h : Happening). h.note) (n
 none_mapped : {X Y : Type 0} (f : X → Y) (o : Option X) → option_map f o ≡ None → o ≡ None
 none_mapped f None e = refl
 none_mapped f (Some x) e = absurd cc
+
+-- it is one of them
+pub note_in : (notes : List Note) (n : ℕ) (note : Note) → note_at notes n ≡ Some note → IsIn note notes
+note_in notes zero note there = absurd cc
+note_in notes (suc k) note there = in_at notes k note there
 
 -- where there is no record there is none with its frame
 pub none_there : (network : Network) (notes : List Note) (n : ℕ) → note_at notes n ≡ None → numbered (happenings network notes) n ≡ None
@@ -80,6 +85,12 @@ begun network octets number records notes end of left = record {
     some_or_none zero = inl refl
     some_or_none (suc n) = inr (omega arith)
 
+-- then none has come
+pub begun_none : (network : Network) (octets : List ℕ) (number : ℕ) (records : Records) (notes : List Note) (end : Units)
+    (of : IsReportOf network octets notes end) (left : AreLeft network records notes) → (begun network octets number records notes end of left).gone ≡ []
+unfolding begun
+begun_none network octets number records notes end of left = refl
+
 module _ (network : Network) (octets : List ℕ) (number : ℕ) (records : Records) (count : ℕ) (u : IsUnderWay network octets number records count) where
   module _ (note : Note) (behind : List Note) (parts : u.rest ≡ note ∷ behind) where
     whole_at : u.notes ≡ u.gone ++ note ∷ behind
@@ -121,6 +132,12 @@ module _ (network : Network) (octets : List ℕ) (number : ℕ) (records : Recor
         less_again : (n m g l : ℕ) → n ≡ g + 1 → l ≡ g + 1 → g < m → (n ≡ m → ⊥) → l < m
         less_again n m g l a b c not =
             elim (cases_lt l m) [ inl lt ↦ lt | inr ge ↦ absurd (not (omega (arith, a, b, c, ge))) ]
+
+    -- then it has come
+    pub next_gone : (after : Records) (left : AreLeft network after behind) (not : note.number ≡ number → ⊥)
+        → (next_missed after left not).gone ≡ u.gone ++ note ∷ []
+    unfolding next_missed
+    next_gone after left not = refl
 
     -- the octets that are left are fewer
     pub fewer : (after : Records) → AreLeft network after behind → length after.rest.now < length records.rest.now

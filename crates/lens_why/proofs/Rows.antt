@@ -1,7 +1,10 @@
 -- The first row that passes a test, and that it is the only one.
 use Rattle.std.proofs.Common.{◌&&◌, ◌<◌, ◌==◌, ◌∙◌, ◌∷◌, ◌≡◌, Bool, List, None, Option, Some, [], ap, arith, false, get_or, length, refl, sym, true, ℕ}
-use Rattle.std.proofs.lemmas.{Bool.{eqb-true, false_from_ne_true}, Grind.common_steps, List.Sums.position_or_len_is}
-use Rattle.std.{proofs.lemmas.Option.{get_or_from_slice_get, slice_get-get_or}, specs.List.{AllWithin, HoldsAt, position, position_or_len}}
+use Rattle.std.proofs.Common.{cond, inl, inr}
+use Rattle.std.proofs.lemmas.{Bool.{cases_Bool, eqb-true, false_from_ne_true, ltb-false}, Grind.common_steps, List.{Folds.find_at, Sums.position_or_len_is}}
+use Rattle.std.proofs.lemmas.Option.{get_or_from_slice_get, slice_get-get_or, slice_get_past}
+use Rattle.std.specs.List.{AllWithin, HoldsAt, find, position, position_or_len}
+use Rattle.std.specs.Prelude.{nat_lt, option_and_then, slice_get}
 use Rattle.std.specs.Option.{MatchOption}
 use Rattle.net_plan.specs.declared.{ids.{LinkId.LinkId, VlId.VlId}, network.Network.Network, tables.Row.Row}
 use Rattle.schedule_tables.specs.{Entries.IsEntry, Rules.KeepsRules, declared.{entry.Entry.Entry, rule.Rule.TheVariants.LinksOnce}}
@@ -22,6 +25,16 @@ searched {X} p (x ∷ xs) (Some i) h =
     let at : position_or_len p (x ∷ xs) ≡ i = position_or_len_is p (x ∷ xs) i x (omega (arith, h.0)) (λ k lt. h.2 k x (omega arith) lt) (λ lt. h.1 x) in
     let inside = h.0 in
     grind (arith, common_steps)
+
+-- what is found stands at that place
+pub found_at : {X : Type 0} (p : X → Bool) (xs : List X) → find p xs ≡ option_and_then (slice_get xs) (position p xs)
+found_at {X} p xs =
+    let n = position_or_len p xs in
+    let by : Bool → Option X = λ b. option_and_then (slice_get xs) (cond b (Some n) None) in
+    elim (cases_Bool (nat_lt n (length xs))) [
+      | inl less ↦ find_at p xs ∙ sym (ap by less)
+      | inr more ↦ find_at p xs ∙ slice_get_past xs n (ltb-false n (length xs) more) ∙ sym (ap by more)
+    ]
 
 -- ---- rows of one virtual link and link
 

@@ -9,8 +9,9 @@ use Rattle.tte_forms.specs.{Putting.{PutFails, PutsLines, Shown}, declared.statu
 use Rattle.tte_reports.{proofs.Reports.{one_end, one_notes}, specs.Reports.IsReportOf}
 use Rattle.tte_traces.proofs.Given.{PutFails-more}
 use Rattle.tte_units.specs.declared.units.Units.{Units}
+use Rattle.lens_past.{proofs.Following.timely_in, specs.Pasts.IsTimely}
 use Rattle.lens_why.proofs.{Chains.{Along, along_both, along_more, along_there, none_at_zero, whole_of}, Comings.{IsNoneOrThere, comes_from_earlier}}
-use Rattle.lens_why.{proofs.Notes.{founded_of, happening_at, none_there, note_numbered, number_of}, specs.Answer.{IsWhyAnswer, chain_answer}}
+use Rattle.lens_why.{proofs.Notes.{founded_of, happening_at, none_there, note_in, note_numbered, number_of}, specs.Answer.{IsWhyAnswer, chain_answer}}
 use Rattle.lens_why.specs.{Grounds.ground_of, Lines.{chain_lines, record_lines, told_lines}, Records.{ComesFrom, IsRecordOf, note_at}}
 use Rattle.lens_why.specs.declared.ground.Ground.{Ground}
 
@@ -93,6 +94,10 @@ module _ (network : Network) (octets : List ℕ) (first note : Note) (old now : 
   -- it is there by its number
   there_at : note_at t.notes t.at ≡ Some note
   there_at = sym (note_numbered network t.notes t.at) ∙ ap (option_map (λ (h : Happening). h.note)) t.here ∙ ap Some t.is
+
+  -- it is of a time that clocks have
+  pub timely : IsTimely network note
+  timely = timely_in network octets t.notes t.end t.of note (note_in t.notes t.at note there_at)
 
   -- it is one of the report
   pub record_of : IsRecordOf network octets note

@@ -1,13 +1,19 @@
 -- What holds of the chains that `why` tells.
-use Rattle.std.specs.Prelude.{◌++◌, ◌<◌, ◌∷◌, ◌≡◌, List, Some, ℕ}
+use Rattle.std.specs.Prelude.{◌++◌, ◌<◌, ◌∷◌, ◌≡◌, ◌≤ℤ◌, ◌⊎◌, List, None, Option, Some, [], ℕ, ℤ}
+use Rattle.audit_law.specs.CorrectionPoints.{IsPointOf}
 use Rattle.net_plan.specs.declared.{ids.{DeviceId.DeviceId, LinkId.LinkId, VlId.VlId}, network.Network.Network}
 use Rattle.run_law.specs.{declared.note.Note.Note, law.FirstLaws.IsBeginning, records.Causes.last_from}
-use Rattle.run_law.specs.records.Happenings.{Happening, happenings}
+use Rattle.run_law.specs.records.{Happenings.{Happening, happenings, numbered}, Order.IsIn}
 use Rattle.schedule_tables.specs.{Entries.IsEntry, Rules.KeepsRules, declared.entry.Entry.Entry}
+use Rattle.traffic_law.specs.Taken.{SaysTaken}
+use Rattle.tte_audit.specs.Report.{scenario_of}
 use Rattle.tte_forms.specs.Answering.{Answer}
 use Rattle.tte_reports.specs.Reports.{IsReportOf}
 use Rattle.tte_units.specs.declared.units.Units.{Units}
-use Rattle.lens_why.specs.{Answer.IsWhyAnswer, Chain.IsWholeChain, Grounds.row_of}
+use Rattle.lens_why.specs.{Answer.IsWhyAnswer, Chain.IsWholeChain, Grounds.{ground_of, row_of}}
+use Rattle.lens_why.specs.declared.ground.{Best.Best, Ground.Ground, Told.Told}
+use Rattle.lens_why.specs.declared.ground.Ground.TheVariants.{Clique, Corrected, CutBy, Middle, Taken, Unsynchronised}
+use Rattle.lens_why.specs.declared.ground.Ground.TheVariants.{Window}
 use Rattle.run_law.specs.declared.note.NoteBody.TheVariants as notes
 
 -- each record of a chain stands earlier in the report than the one that comes from it
@@ -42,3 +48,68 @@ abbrev pub RowIsOne : Type 0
 RowIsOne =
     (network : Network) (place : ℕ) (entry : Entry) → KeepsRules network → IsEntry network place entry
     → row_of network entry.row.vl entry.row.link ≡ Some place
+
+-- what is told is a position and a window, and the position lies in the window, whose two ends belong to it
+pub record IsInWindow (said : Ground) : Type 0 where
+  pub position : ℤ
+  pub from : Units
+  pub to : Units
+  pub is : said ≡ Window position from to
+  pub not_before : from.0 ≤ℤ position
+  pub not_behind : position ≤ℤ to.0
+
+-- so it is with each record of a report, in a network that keeps the rules, by which a frame is taken
+abbrev pub TakenInWindows : Type 0
+TakenInWindows =
+    (network : Network) (octets : List ℕ) (ns : List Note) (end : Units) (number : ℕ) (h : Happening)
+    (device : DeviceId) (link : LinkId) (cause : ℕ) (vl : VlId) (cycle : ℕ) → KeepsRules network
+    → IsReportOf network octets ns end → numbered (happenings network ns) number ≡ Some h
+    → SaysTaken h.note.body device link cause vl cycle
+    → IsInWindow (ground_of (scenario_of network ns) (happenings network ns) h)
+
+-- the record that told what a channel says, if it says something
+abbrev pub best_number : Option Best → List ℕ
+best_number None = []
+best_number (Some best) = best.number ∷ []
+
+-- the record that told the best frame of a channel, if there is one
+abbrev pub told_number : Option Told → List ℕ
+told_number None = []
+told_number (Some told) = told.number ∷ []
+
+-- the records that a ground names, by their numbers
+abbrev pub named_in : Ground → List ℕ
+named_in (Corrected a b) = best_number a ++ best_number b
+named_in (Clique a b outside threshold) = told_number a ++ told_number b
+named_in (CutBy number) = number ∷ []
+named_in (Middle number middle) = number ∷ []
+named_in (Taken cycle number) = number ∷ []
+named_in (Unsynchronised state number) = number ∷ []
+named_in other = []
+
+-- the number is 0, which is that of no record, or that of one that stands earlier than this
+abbrev pub IsEarlier : List Happening → Happening → ℕ → Type 0
+IsEarlier hs h n = (n ≡ 0) ⊎ ((g : Happening) × (numbered hs n ≡ Some g) × (n < h.note.number))
+
+-- the records that a ground says told the best frames of channels, by their numbers
+abbrev pub told_in : Ground → List ℕ
+told_in (Corrected a b) = best_number a ++ best_number b
+told_in (Clique a b outside threshold) = told_number a ++ told_number b
+told_in other = []
+
+-- each of these is there, and stands earlier in the report, where the record is of a device's correction or clique
+abbrev pub BestAreThere : Type 0
+BestAreThere =
+    (network : Network) (octets : List ℕ) (ns : List Note) (end : Units) (number : ℕ) (h : Happening)
+    (device : DeviceId) (n : ℕ) → IsReportOf network octets ns end → numbered (happenings network ns) number ≡ Some h
+    → IsPointOf device h.note.body
+    → IsIn n (told_in (ground_of (scenario_of network ns) (happenings network ns) h))
+    → (g : Happening) × (numbered (happenings network ns) n ≡ Some g) × (n < h.note.number)
+
+-- each record that the ground of a record of a report names stands earlier in the report
+abbrev pub NamesEarlier : Type 0
+NamesEarlier =
+    (network : Network) (octets : List ℕ) (ns : List Note) (end : Units) (number : ℕ) (h : Happening) (n : ℕ)
+    → IsReportOf network octets ns end → numbered (happenings network ns) number ≡ Some h
+    → IsIn n (named_in (ground_of (scenario_of network ns) (happenings network ns) h))
+    → IsEarlier (happenings network ns) h n

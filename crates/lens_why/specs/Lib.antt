@@ -1,4 +1,7 @@
 pub mod Chain
+pub mod Seeking
+pub mod Corrections
+pub mod Collections
 pub mod Grounds
 pub mod Lines
 pub mod Answer

@@ -7,11 +7,13 @@ ghost use Rattle.tte_forms.specs.{Faults.{HasCause, IsWanted, PutFailed, ReadFai
 ghost use Rattle.tte_forms.specs.networks.Accepting.{IsNetworkAnswer};
 ghost use Rattle.tte_reports.specs.Reports.{IsReportAnswer, IsReportOf};
 ghost use Rattle.tte_units.specs.declared.units.Units.{Units as UnitsValue};
-ghost use Rattle.lens_why.specs.{Answer.{IsWhyAnswer, IsWhyStatus}, Records.{IsRecordOf, IsSomeReport}};
+ghost use Rattle.lens_past.specs.Pasts.{IsSomeReport, ShowsAll};
+ghost use Rattle.lens_why.specs.{Answer.{IsWhyAnswer, IsWhyStatus}, Records.IsRecordOf};
 
 use crate::causes::{giving, record_at};
 use crate::ground::ground_of;
 use crate::lines::{make_refused_line, put_record};
+use lens_past::{KnownReport, read_known};
 use net_plan::Network;
 use run_law::Note;
 use schedule_tables::Accepted;
@@ -19,7 +21,7 @@ use std::alloc::Global;
 use tte_audit::keep_names_apart;
 use tte_forms::{Status, accept, end_with, put_last, put_no_network};
 use tte_io::{LineText, Sink, Source};
-use tte_reports::{AuditedReport, put_no_report, read_report};
+use tte_reports::put_no_report;
 
 /// Tells of the report of the second file, over the network of the first, the record of the number and what bore on
 /// it, and so on by causes to a record without one. The report is audited first, so what is told is of the run.
@@ -64,24 +66,25 @@ fn why_in_file<B: Source, K: Sink>(
         (PutFailed K.Sink out.old out.new) }
 {
     keep_names_apart(accepted);
-    match read_report(alloc, accepted, second) {
-        Ok(report) => put_why(&report, accepted.network(), number, out),
+    match read_known(alloc, accepted, second) {
+        Ok(known) => put_why(&known, accepted.network(), number, out),
         Err(cause) => put_no_report(cause, out),
     }
 }
 
 /// Puts the chain of the record of the number, or that there is none.
-fn put_why<K: Sink>(report: &AuditedReport, network: &Network, number: u64, out: &mut K) -> Status
+fn put_why<K: Sink>(known: &KnownReport, network: &Network, number: u64, out: &mut K) -> Status
     requires named { IsNamed network.now }
-    requires report { IsSomeReport network.now report.now.octets }
+    requires report { IsSomeReport network.now known.now.report.octets }
+    requires past { ShowsAll network.now known.now }
     ensures gives { Over K.Sink out.old out.new (λ old new. (notes : List NoteValue) (end : UnitsValue)
-        → IsReportOf network.now report.now.octets notes end
+        → IsReportOf network.now known.now.report.octets notes end
         → GivesAnswer (IsWhyAnswer number network.now notes end) result old new) }
     ensures statuses { IsWhyStatus result }
     ensures cause { HasCause result ⊥ (PutFailed K.Sink out.old out.new) }
 {
-    match record_at(report, network, number) {
-        Ok(first) => put_chain(report, network, first, out),
+    match record_at(&known.report, network, number) {
+        Ok(first) => put_chain(known, network, first, out),
         Err(count) => {
             let mut line = LineText::new();
             make_refused_line(&mut line, number, count);
@@ -91,20 +94,21 @@ fn put_why<K: Sink>(report: &AuditedReport, network: &Network, number: u64, out:
 }
 
 /// Puts the lines of the record, of its cause, of its cause's cause and so on.
-fn put_chain<K: Sink>(report: &AuditedReport, network: &Network, first: Note, out: &mut K) -> Status
+fn put_chain<K: Sink>(known: &KnownReport, network: &Network, first: Note, out: &mut K) -> Status
     requires named { IsNamed network.now }
-    requires record { IsRecordOf network.now report.now.octets first }
+    requires record { IsRecordOf network.now known.now.report.octets first }
     requires of_network { IsNoteOf network.now first }
+    requires past { ShowsAll network.now known.now }
     ensures gives { Over K.Sink out.old out.new (λ old new. (notes : List NoteValue) (end : UnitsValue)
-        → IsReportOf network.now report.now.octets notes end
+        → IsReportOf network.now known.now.report.octets notes end
         → GivesAnswer (IsWhyAnswer first.number network.now notes end) result old new) }
     ensures status { IsWanted Status.Done result (PutFailed K.Sink out.old out.new) }
 {
     let mut line = LineText::new();
     let mut note = first;
     'records: loop {
-        let cause = giving(report, network, &note);
-        let ground = ground_of(network, &note, &cause);
+        let cause = giving(&known.report, network, &note);
+        let ground = ground_of(known, network, &note, &cause);
         match put_record(&mut line, network, &note, ground, out) {
             Ok(()) => (),
             Err(_) => return Status::WriteFault,

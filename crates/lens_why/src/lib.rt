@@ -3,10 +3,15 @@
 
 mod answering;
 mod causes;
+mod collecting;
+mod correcting;
+mod dropping;
 mod ground;
 mod laws;
 mod lines;
+mod seeking;
 
 pub use answering::why_record;
-pub use ground::Ground;
-pub use laws::{row_law, why_law};
+pub use collecting::Collection;
+pub use ground::{Best, Ground, Told};
+pub use laws::{best_law, collections_law, middles_law, names_law, row_law, why_law, windows_law};

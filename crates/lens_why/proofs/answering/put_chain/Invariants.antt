@@ -6,7 +6,7 @@ use Rattle.lens_why.proofs.answering.put_chain.Given as goal
 
 abbrev pub invariant-records : goal.invariant-records
 invariant-records g l = record {
-  told : IsToldTo l.network l.report.octets l.initial.note l.note (shown_by g.K.Sink l.fn.out) (shown_by g.K.Sink l.out);
+  told : IsToldTo l.network l.known.report.octets l.initial.note l.note (shown_by g.K.Sink l.fn.out) (shown_by g.K.Sink l.out);
   of_network : IsNoteOf l.network l.note;
   quiet : g.K.Sink.faults l.out ≡ g.K.Sink.faults l.fn.out;
 }

@@ -11,7 +11,7 @@ put_chain-requires-clause-record g c =
 pub returns-in-Ok-clause-gives : goal.returns-in-Ok-clause-gives
 returns-in-Ok-clause-gives g c notes end of =
     let shown = shown_by g.K.Sink in
-    let number = number_of c.args.network.now c.args.report.now.octets notes end of c.args.number c.in-Ok.first (c.in-Ok.ensures.found notes end of) in
+    let number = number_of c.args.network.now c.args.known.now.report.octets notes end of c.args.number c.in-Ok.first (c.in-Ok.ensures.found notes end of) in
     subst (λ (n : ℕ). GivesAnswer (IsWhyAnswer n c.args.network.now notes end) c.put_chain.result (shown c.args.out.now) (shown c.put_chain.new.out)) number
     (c.put_chain.ensures.gives notes end of)
 

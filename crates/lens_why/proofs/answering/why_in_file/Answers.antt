@@ -5,7 +5,8 @@ use Rattle.tte_audit.specs.Named.{IsNamed}
 use Rattle.tte_forms.specs.{Answering.GivesAnswer, Putting.{Shown, shown_by}, declared.status.Status.Status}
 use Rattle.tte_reports.{proofs.Reports.{no_report_answered, report_given, report_there}, specs.Reports.IsReportOf}
 use Rattle.tte_units.specs.declared.units.Units.{Units}
-use Rattle.lens_why.specs.{Answer.IsWhyAnswer, Records.IsSomeReport}
+use Rattle.lens_past.specs.Pasts.{IsSomeReport, ShowsAll}
+use Rattle.lens_why.specs.Answer.{IsWhyAnswer}
 use Rattle.lens_why.proofs.answering.why_in_file.Goals as goal
 
 -- for any records that the octets are the report of, an answer was given
@@ -24,13 +25,17 @@ put_why-requires-clause-named g c = subst IsNamed (sym c.network.ensures.value) 
 
 pub put_why-requires-clause-report : goal.put_why-requires-clause-report
 put_why-requires-clause-report g c =
-    subst (λ (n : Network). IsSomeReport n c.in-Ok.report.octets) (sym c.network.ensures.value)
-    (report_there c.args.accepted.now (g.B.Source.left c.args.second.now) c.in-Ok.report.octets c.in-Ok.ensures.judged)
+    subst (λ (n : Network). IsSomeReport n c.in-Ok.known.report.octets) (sym c.network.ensures.value)
+    (report_there c.args.accepted.now (g.B.Source.left c.args.second.now) c.in-Ok.known.report.octets c.in-Ok.ensures.judged)
+
+pub put_why-requires-clause-past : goal.put_why-requires-clause-past
+put_why-requires-clause-past g c =
+    subst (λ (n : Network). ShowsAll n c.in-Ok.known) (sym c.network.ensures.value) c.in-Ok.ensures.past
 
 pub returns-in-Ok-clause-gives : goal.returns-in-Ok-clause-gives
 returns-in-Ok-clause-gives g c =
     let shown = shown_by g.K.Sink in
-    report_given (IsWhyAnswer c.args.number) c.args.accepted.now (g.B.Source.left c.args.second.now) c.in-Ok.report.octets c.put_why.result
+    report_given (IsWhyAnswer c.args.number) c.args.accepted.now (g.B.Source.left c.args.second.now) c.in-Ok.known.report.octets c.put_why.result
     (shown c.args.out.now) (shown c.put_why.new.out) c.in-Ok.ensures.judged
-    (subst (λ (n : Network). PutsWhy c.args.number n c.in-Ok.report.octets c.put_why.result (shown c.args.out.now) (shown c.put_why.new.out))
+    (subst (λ (n : Network). PutsWhy c.args.number n c.in-Ok.known.report.octets c.put_why.result (shown c.args.out.now) (shown c.put_why.new.out))
     c.network.ensures.value c.put_why.ensures.gives)
