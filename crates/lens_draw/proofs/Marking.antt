@@ -1,17 +1,20 @@
 -- The marks of records put one after another.
-use Rattle.std.proofs.Common.{◌≡◌, ℕ, ◌+◌, ◌<◌, Bool, true, false, List, [], ◌∷◌, ◌++◌, length, length-append, append_assoc, refl, sym, ap, subst, ◌∙◌, inl, inr, arith}
-use Rattle.std.specs.Prelude.{All, codes, if◌then◌else◌}
+use Rattle.std.proofs.Common.{◌≡◌, ℕ, ◌+◌, ◌<◌, Bool, true, false, List, [], ◌∷◌, ◌++◌, length, length-append, append_assoc, refl, sym, ap, subst, ◌∙◌, inl}
+use Rattle.std.proofs.Common.{inr, arith}
+use Rattle.std.specs.Prelude.{All, codes, fold, if◌then◌else◌}
 use Rattle.std.specs.List.{concat}
 use Rattle.std.proofs.lemmas.List.{append-nil}
 use Rattle.std.proofs.lemmas.List.Elements.{All-head}
 use Rattle.lens_draw.proofs.Parts.{fails_before, fails_between}
 use Rattle.lens_draw.specs.Answer.{back_answer, draw_answer, fitting_answer}
-use Rattle.lens_draw.specs.Picture.{back_lines, front_lines, mark_lines, marks_of, pen_behind, picture_lines}
+use Rattle.lens_draw.specs.Picture.{back_lines, front_lines, mark_lines, marks_of, pen_behind, picture_lines, windows_of}
+use Rattle.lens_picture.specs.declared.window.Came.{Came}
 use Rattle.lens_draw.specs.Signs.{close_line}
 use Rattle.lens_picture.proofs.Painting.{span_behind}
+use Rattle.lens_picture.specs.Clocks.{Clocks, clocks_in, clocks_with}
 use Rattle.lens_picture.specs.Layout.{pen_at}
 use Rattle.lens_picture.specs.Plan.{Plan}
-use Rattle.lens_picture.specs.Sketching.{begun, fits, moment, plan_behind, plan_of, took}
+use Rattle.lens_picture.specs.Sketching.{begun, fits, plan_behind, plan_of, took}
 use Rattle.lens_picture.specs.declared.layout.Pen.{Pen}
 use Rattle.lens_picture.specs.declared.layout.Span.{Span}
 use Rattle.net_plan.specs.declared.network.Network.{Network}
@@ -61,6 +64,27 @@ pub sketched_all : (network : Network) (begin : Plan) (notes : List Note) (recor
     (h : IsSketched network begin notes records plan) → h.rest ≡ [] → plan ≡ plan_behind network begin notes
 sketched_all network begin notes records plan h none = sym (h.whole ∙ ap (plan_behind network plan) none)
 
+-- ---- the clocks
+
+-- these records are left, and what all tell of clocks is what they tell behind this
+pub record AreHeard (network : Network) (span : Span) (notes : List Note) (records : Records) (clocks : Clocks) : Type 0 where
+  pub rest : List Note
+  pub left : AreLeft network records rest
+  pub whole : clocks_in span notes ≡ fold (clocks_with span) clocks rest
+
+pub heard_more : (network : Network) (span : Span) (notes : List Note) (records after : Records) (clocks : Clocks) (note : Note) (rest : List Note)
+    (h : AreHeard network span notes records clocks) → h.rest ≡ note ∷ rest → AreLeft network after rest
+    → AreHeard network span notes after (clocks_with span clocks note)
+heard_more network span notes records after clocks note rest h next left = record {
+  rest = rest;
+  left = left;
+  whole = h.whole ∙ ap (fold (clocks_with span) clocks) next;
+}
+
+pub heard_all : (network : Network) (span : Span) (notes : List Note) (records : Records) (clocks : Clocks)
+    (h : AreHeard network span notes records clocks) → h.rest ≡ [] → clocks ≡ clocks_in span notes
+heard_all network span notes records clocks h none = sym (h.whole ∙ ap (fold (clocks_with span) clocks) none)
+
 -- ---- the marks
 
 -- the marks of the first records were put, those of these are to come, where the pen is
@@ -81,7 +105,8 @@ marked_first network span notes records pen s left begins = record {
   whole = ap (λ (p : Pen). mark_lines network span p notes) (sym begins);
 }
 
-module _ (network : Network) (span : Span) (notes : List Note) (records : Records) (pen : Pen) (old now : Shown) (h : IsMarked network span notes records pen old now) where
+module _ (network : Network) (span : Span) (notes : List Note) (records : Records) (pen : Pen) (old now : Shown)
+    (h : IsMarked network span notes records pen old now) where
   -- the lines that are to come begin with those of the next record
   next_lines : (note : Note) (rest : List Note) (here : Pen) → h.rest ≡ note ∷ rest → here ≡ pen_behind span pen note
       → mark_lines network span (pen_at span.from) notes ≡ h.done ++ (marks_of network span here note ++ mark_lines network span here rest)
@@ -146,28 +171,33 @@ wide_answer network span notes plan status old new same wide ends =
     ap (λ (b : Bool). if b then record { status = Done; lines = picture_lines network span notes } else too_long_answer) (ap fits (sym same) ∙ wide) in
     subst (λ (a : Answer). Gives a status old new) (sym answer) (Ends-gives [] TooLong status old old new (PutsLines-none old) ends)
 
-pub fit_answer : (network : Network) (span : Span) (notes : List Note) (plan : Plan) (status : Status) (old new : Shown) → plan ≡ plan_of network span notes
-    → fits plan ≡ true → Gives (fitting_answer network plan notes) status old new → Gives (draw_answer network span notes) status old new
-fit_answer network span notes plan status old new same fit gives =
+pub fit_answer : (network : Network) (span : Span) (notes : List Note) (plan : Plan) (windows : List Came) (clocks : Clocks) (status : Status) (old new : Shown)
+    → plan ≡ plan_of network span notes → windows ≡ windows_of network span notes → clocks ≡ clocks_in span notes → fits plan ≡ true
+    → Gives (fitting_answer network plan windows clocks notes) status old new → Gives (draw_answer network span notes) status old new
+fit_answer network span notes plan windows clocks status old new same came told fit gives =
     let of_span : plan.span ≡ span = ap (λ (p : Plan). p.span) same ∙ span_behind network (begun network span) notes in
-    let lines : front_lines network plan ++ back_lines network plan.span (pen_at plan.span.from) notes ≡ picture_lines network span notes =
-    ap (λ (s : Span). front_lines network plan ++ back_lines network s (pen_at s.from) notes) of_span
-    ∙ ap (λ (p : Plan). front_lines network p ++ back_lines network span (pen_at span.from) notes) same in
-    let answer : draw_answer network span notes ≡ fitting_answer network plan notes =
+    let lines : front_lines network plan windows clocks ++ back_lines network plan.span (pen_at plan.span.from) notes ≡ picture_lines network span notes =
+    ap (λ (s : Span). front_lines network plan windows clocks ++ back_lines network s (pen_at s.from) notes) of_span
+    ∙ ap (λ (p : Plan). front_lines network p windows clocks ++ back_lines network span (pen_at span.from) notes) same
+    ∙ ap (λ (w : List Came). front_lines network (plan_of network span notes) w clocks ++ back_lines network span (pen_at span.from) notes) came
+    ∙ ap (λ (c : Clocks). front_lines network (plan_of network span notes) (windows_of network span notes) c
+    ++ back_lines network span (pen_at span.from) notes) told in
+    let answer : draw_answer network span notes ≡ fitting_answer network plan windows clocks notes =
     ap (λ (b : Bool). if b then record { status = Done; lines = picture_lines network span notes } else too_long_answer) (ap fits (sym same) ∙ fit)
     ∙ ap (λ (ls : List (List ℕ)). let a : Answer = record { status = Done; lines = ls } in a) (sym lines) in
     subst (λ (a : Answer). Gives a status old new) (sym answer) gives
 
 -- the put of a line below the marks failed
-pub front_fails : (network : Network) (plan : Plan) (notes : List Note) (old new : Shown) → PutFails (front_lines network plan) old new
-    → Gives (fitting_answer network plan notes) WriteFault old new
-front_fails network plan notes old new fails =
-    inr (inl (refl, inl (fails_before (front_lines network plan) (back_lines network plan.span (pen_at plan.span.from) notes) old new fails)))
+pub front_fails : (network : Network) (plan : Plan) (windows : List Came) (clocks : Clocks) (notes : List Note) (old new : Shown)
+    → PutFails (front_lines network plan windows clocks) old new → Gives (fitting_answer network plan windows clocks notes) WriteFault old new
+front_fails network plan windows clocks notes old new fails =
+    inr (inl (refl, inl (fails_before (front_lines network plan windows clocks) (back_lines network plan.span (pen_at plan.span.from) notes) old new fails)))
 
 -- the lines below the marks were put, and then those from the marks on
-pub front_given : (network : Network) (plan : Plan) (notes : List Note) (span : Span) (status : Status) (old now new : Shown) → span ≡ plan.span
-    → PutsLines (front_lines network plan) old now → Gives (back_answer network span (pen_at span.from) notes) status now new
-    → Gives (fitting_answer network plan notes) status old new
-front_given network plan notes span status old now new same puts gives =
-    Gives-behind (front_lines network plan) (back_answer network plan.span (pen_at plan.span.from) notes) status old now new puts
+pub front_given : (network : Network) (plan : Plan) (windows : List Came) (clocks : Clocks) (notes : List Note) (span : Span) (status : Status)
+    (old now new : Shown)
+    → span ≡ plan.span → PutsLines (front_lines network plan windows clocks) old now
+    → Gives (back_answer network span (pen_at span.from) notes) status now new → Gives (fitting_answer network plan windows clocks notes) status old new
+front_given network plan windows clocks notes span status old now new same puts gives =
+    Gives-behind (front_lines network plan windows clocks) (back_answer network plan.span (pen_at plan.span.from) notes) status old now new puts
     (subst (λ (s : Span). Gives (back_answer network s (pen_at s.from) notes) status now new) same gives)

@@ -1,5 +1,6 @@
 -- The picture of a part of the run of a report shows it.
-use Rattle.std.proofs.Common.{◌≡◌, ℕ, zero, suc, ◌+◌, ◌<◌, ◌≤◌, true, List, [], ◌∷◌, ◌++◌, length, length-append, append_assoc, refl, sym, ap, subst, ◌∙◌, inl, inr, ◌⊎◌, arith}
+use Rattle.std.proofs.Common.{◌≡◌, ℕ, ◌+◌, ◌≤◌, true, List, [], ◌∷◌, ◌++◌, length, length-append, append_assoc, refl, sym, subst, ◌∙◌, inl}
+use Rattle.std.proofs.Common.{inr, ◌⊎◌, arith}
 use Rattle.std.specs.Prelude.{fold, map, take}
 use Rattle.lens_draw.proofs.Titles.{titles_are}
 use Rattle.lens_draw.specs.Answer.{IsDrawAnswer}
@@ -47,7 +48,7 @@ numbers_from notes front (note ∷ rest) whole numbered =
 -- ---- the times never fall
 
 -- of two records the first of which stands before the other
-no_later : (a b : Happening) → IsBefore (place_of a) (place_of b) → time_of a ≤ time_of b
+pub no_later : (a b : Happening) → IsBefore (place_of a) (place_of b) → time_of a ≤ time_of b
 no_later a b (inl less) = omega (arith, less)
 no_later a b (inr same) = let time = same.0 in omega (arith, time)
 

@@ -1,8 +1,9 @@
 -- What `draw` answers for a report.
-use Rattle.std.specs.Prelude.{◌≡◌, ℕ, Bool, ◌++◌, if◌then◌else◌, List}
+use Rattle.std.specs.Prelude.{◌≡◌, ◌++◌, if◌then◌else◌, List}
 use Rattle.lens_draw.specs.Picture.{back_lines, front_lines, picture_lines}
+use Rattle.lens_picture.specs.Clocks.{Clocks}
 use Rattle.lens_picture.specs.Layout.{pen_at}
-use Rattle.lens_picture.specs.Plan.{Plan}
+use Rattle.lens_picture.specs.{Plan.Plan, declared.window.Came.Came}
 use Rattle.lens_picture.specs.Sketching.{fits, plan_of}
 use Rattle.lens_picture.specs.declared.layout.Pen.{Pen}
 use Rattle.lens_picture.specs.declared.layout.Span.{Span}
@@ -17,11 +18,11 @@ use Rattle.tte_units.specs.declared.units.Units.{Units}
 abbrev pub back_answer : Network → Span → Pen → List Note → Answer
 back_answer network span pen notes = record { status = Done; lines = back_lines network span pen notes }
 
--- the picture of this plan, with the marks of these records, as an answer
-abbrev pub fitting_answer : Network → Plan → List Note → Answer
-fitting_answer network plan notes = record {
+-- the picture of this plan, these windows and these clocks, with the marks of these records, as an answer
+abbrev pub fitting_answer : Network → Plan → List Came → Clocks → List Note → Answer
+fitting_answer network plan windows clocks notes = record {
   status = Done;
-  lines = front_lines network plan ++ back_lines network plan.span (pen_at plan.span.from) notes;
+  lines = front_lines network plan windows clocks ++ back_lines network plan.span (pen_at plan.span.from) notes;
 }
 
 -- the answer for the records of a report: their picture, where it is not too wide

@@ -18,10 +18,10 @@ HaveTitles network (line ∷ lines) (note ∷ notes) =
     ((rest : List ℕ) × (line ≡ head_text network note ++ rest)) × HaveTitles network lines notes
 HaveTitles network lines notes = ⊥
 
--- what the picture of a part of a run shows: the titles of the marks are the lines of the records there, in their order;
--- where it fits, earlier instants stand further to the left; there is a mark for each record, and an arrow exactly where
--- there is a cause at another device; and from each mark on, a lane's ground is what the records up to there leave the
--- device in
+-- what the picture of a part of a run shows: the titles of the marks are the lines of the records there, in their
+-- order; where it fits, earlier instants stand further to the left; there is a mark for each record, and an arrow
+-- exactly where there is a cause at another device; and from each mark on, a lane's ground is what the records up to
+-- there leave the device in
 pub record ShowsRun (network : Network) (span : Span) (notes : List Note) : Type 0 where
   pub titles : HaveTitles network (mark_lines network span (pen_at span.from) notes) (shown span notes)
   pub order : fits (plan_of network span notes) ≡ true → AreApart (plan_of network span notes).marks

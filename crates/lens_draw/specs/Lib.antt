@@ -3,3 +3,7 @@ pub mod Signs
 pub mod Picture
 pub mod Answer
 pub mod Laws
+pub mod ClockLaws
+pub mod ReadingLaws
+pub mod Asking
+pub mod WindowLaws

@@ -2,7 +2,8 @@
 use Rattle.std.specs.Prelude.{ℕ, List}
 use Rattle.lens_draw.specs.declared.signs.Sign.{Sign}
 use Rattle.lens_draw.specs.declared.signs.Sign.TheVariants.{Style, Arrows, Shapes, Backdrop, Heading, MarkKey, WayKey}
-use Rattle.lens_draw.specs.declared.signs.TheConstants.{ARROWS, BACKDROP, CLOSE, HEADING, MARK_KEY, SHAPES, STYLE, WAY_KEY}
+use Rattle.lens_draw.specs.declared.signs.TheConstants.{ARROWS, BACKDROP, CLOSE, HEADING, MARK_KEY, SHAPES, STYLE}
+use Rattle.lens_draw.specs.declared.signs.TheConstants.{WAY_KEY}
 
 -- the line of a sign
 unfoldable pub sign_line : Sign → List ℕ

@@ -1,6 +1,9 @@
 ghost use Rattle.std.specs.Prelude.{◌≡◌, ◌⊎◌, IfOk, List};
 ghost use Rattle.lens_draw.specs.Answer.{IsDrawAnswer, draw_answer, fitting_answer};
 ghost use Rattle.lens_picture.specs.declared.layout.Span.{Span as SpanValue};
+ghost use Rattle.lens_draw.specs.Picture.{windows_of};
+ghost use Rattle.lens_past.specs.Pasts.{IsSomeReport, ShowsAll};
+ghost use Rattle.lens_picture.specs.Clocks.{clocks_in};
 ghost use Rattle.lens_picture.specs.Sketching.{plan_of};
 ghost use Rattle.net_plan.specs.Ranges.{IsInRange};
 ghost use Rattle.run_law.specs.declared.note.Note.{Note as NoteValue};
@@ -15,17 +18,19 @@ ghost use Rattle.tte_units.specs.declared.units.Units.{Units as UnitsValue};
 
 use crate::marks::put_back;
 use crate::putting::put_front;
-use lens_picture::{Sketch, Span};
+use crate::windows::windows_of;
+use lens_past::{KnownReport, read_known};
+use lens_picture::{Came, Clocks, Sketch, Span};
 use net_plan::Network;
 use schedule_tables::Accepted;
 use std::alloc::Global;
 use tte_audit::keep_names_apart;
 use tte_forms::{Status, accept, end_with, put_no_network};
 use tte_io::{LineText, OutOfMemory, Sink, Source};
-use tte_reports::{AuditedReport, Records, put_no_report, read_report};
+use tte_reports::{Records, put_no_report};
 
-/// Draws a part of the run of a finished report: the records whose times lie in the span, as a picture in SVG. The report
-/// is the second file, over the network of the first, and is audited before anything is put.
+/// Draws a part of the run of a finished report: the records whose times lie in the span, as a picture in SVG. The
+/// report is the second file, over the network of the first, and is audited before anything is put.
 ///
 /// The titles of the marks are the lines of the report's records there, so nothing of it is lost.
 pub fn draw_report<A: Source, B: Source, K: Sink>(
@@ -66,31 +71,46 @@ fn draw_file<B: Source, K: Sink>(
         (PutFailed K.Sink out.old out.new) }
 {
     keep_names_apart(accepted);
-    match read_report(alloc, accepted, second) {
-        Ok(report) => draw_audited(alloc, accepted.network(), &report, span, out),
+    match read_known(alloc, accepted, second) {
+        Ok(known) => draw_known(alloc, accepted.network(), &known, span, out),
         Err(cause) => put_no_report(cause, out),
     }
 }
 
 /// Draws a part of the run of an audited report.
-fn draw_audited<K: Sink>(
+fn draw_known<K: Sink>(
     alloc: Global,
     network: &Network,
-    report: &AuditedReport,
+    known: &KnownReport,
     span: Span,
     out: &mut K,
 ) -> Status
     requires named { IsNamed network.now }
-    requires report { (notes : List NoteValue) × (end : UnitsValue)
-        × IsReportOf network.now report.now.octets notes end }
+    requires report { IsSomeReport network.now known.now.report.octets }
+    requires past { ShowsAll network.now known.now }
     ensures gives { Over K.Sink out.old out.new (λ old new. (notes : List NoteValue) (end : UnitsValue)
-        → IsReportOf network.now report.now.octets notes end
+        → IsReportOf network.now known.now.report.octets notes end
         → GivesAnswer (IsDrawAnswer span network.now notes end) result old new) }
     ensures statuses { IsAuditStatus result }
     ensures cause { HasCause result ⊥ (PutFailed K.Sink out.old out.new) }
 {
-    match sketch_of(alloc, network, span, report.records()) {
-        Ok(sketch) => put_sketch(network, &sketch, report.records(), out),
+    let sketch = match sketch_of(alloc, network, span, known.report.records()) {
+        Ok(sketch) => sketch,
+        Err(_) => return Status::OutOfMemory,
+    };
+    let windows = match windows_of(alloc, network, &known.past, &sketch) {
+        Ok(windows) => windows,
+        Err(_) => return Status::OutOfMemory,
+    };
+    match clocks_of(alloc, network, span, known.report.records()) {
+        Ok(clocks) => put_sketch(
+            network,
+            &sketch,
+            &windows,
+            &clocks,
+            known.report.records(),
+            out,
+        ),
         Err(_) => Status::OutOfMemory,
     }
 }
@@ -124,10 +144,38 @@ fn sketch_of(
     }
 }
 
+/// Reads the records once, and keeps what those in the span tell of clocks.
+fn clocks_of(
+    alloc: Global,
+    network: &Network,
+    span: Span,
+    first: Records<'_>,
+) -> Result<Clocks, OutOfMemory>
+    requires range { IsInRange network.now }
+    requires named { IsNamed network.now }
+    requires left { (notes : List NoteValue) × AreLeft network.now first notes }
+    ensures { (notes : List NoteValue) → AreLeft network.now first.entry notes
+        → IfOk result (λ clocks. clocks ≡ clocks_in span notes) }
+{
+    let mut records = first;
+    let mut clocks = Clocks::new(alloc);
+    'records: loop {
+        match records.next(network) {
+            Some(note) => match clocks.take(span, &note) {
+                Ok(()) => (),
+                Err(_) => return Err(OutOfMemory),
+            },
+            None => return Ok(clocks),
+        }
+    }
+}
+
 /// Puts the picture of a sketch, with the marks of the records, which are read again.
 fn put_sketch<K: Sink>(
     network: &Network,
     sketch: &Sketch,
+    windows: &[Came],
+    clocks: &Clocks,
     records: Records<'_>,
     out: &mut K,
 ) -> Status
@@ -136,12 +184,13 @@ fn put_sketch<K: Sink>(
     requires left { (notes : List NoteValue) × AreLeft network.now records notes }
     ensures gives { Over K.Sink out.old out.new (λ old new. (notes : List NoteValue) (span : SpanValue)
         → AreLeft network.now records.entry notes → sketch.now ≡ plan_of network.now span notes
+        → windows.now ≡ windows_of network.now span notes → clocks.now ≡ clocks_in span notes
         → Gives (draw_answer network.now span notes) result old new) }
     ensures statuses { IsAuditStatus result }
     ensures cause { HasCause result ⊥ (PutFailed K.Sink out.old out.new) }
 {
     if sketch.fits() {
-        put_fitting(network, sketch, records, out)
+        put_fitting(network, sketch, windows, clocks, records, out)
     } else {
         end_with(Status::TooLong, out)
     }
@@ -151,6 +200,8 @@ fn put_sketch<K: Sink>(
 fn put_fitting<K: Sink>(
     network: &Network,
     sketch: &Sketch,
+    windows: &[Came],
+    clocks: &Clocks,
     records: Records<'_>,
     out: &mut K,
 ) -> Status
@@ -158,12 +209,13 @@ fn put_fitting<K: Sink>(
     requires named { IsNamed network.now }
     requires left { (notes : List NoteValue) × AreLeft network.now records notes }
     ensures gives { Over K.Sink out.old out.new (λ old new. (notes : List NoteValue)
-        → AreLeft network.now records.entry notes → Gives (fitting_answer network.now sketch.now notes) result old new) }
+        → AreLeft network.now records.entry notes
+        → Gives (fitting_answer network.now sketch.now windows.now clocks.now notes) result old new) }
     ensures statuses { IsAuditStatus result }
     ensures cause { HasCause result ⊥ (PutFailed K.Sink out.old out.new) }
 {
     let mut line = LineText::new();
-    match put_front(network, sketch, &mut line, out) {
+    match put_front(network, sketch, windows, clocks, &mut line, out) {
         Ok(()) => (),
         Err(_) => return Status::WriteFault,
     }

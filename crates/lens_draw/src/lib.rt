@@ -6,6 +6,7 @@ mod laws;
 mod marks;
 mod putting;
 mod signs;
+mod windows;
 
 pub use drawing::draw_report;
-pub use laws::picture_law;
+pub use laws::{clocks_law, picture_law, reading_law, windows_law};

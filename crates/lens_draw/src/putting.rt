@@ -1,6 +1,7 @@
 //! The lines below the marks.
 ghost use Rattle.std.specs.Prelude.{◌≡◌, ◌<◌, ◌∷◌, [], IfSome, MatchResult, length};
-ghost use Rattle.lens_draw.specs.Picture.{front_lines, lanes_lines, layer_lines, marks_lines, some_line};
+ghost use Rattle.lens_draw.specs.Picture.{front_lines, gauges_lines, lanes_lines, layer_lines, marks_lines, some_line};
+ghost use Rattle.lens_draw.specs.Picture.{windows_lines};
 ghost use Rattle.lens_draw.specs.Signs.{sign_line};
 ghost use Rattle.lens_draw.specs.Putting.{Draws};
 ghost use Rattle.lens_picture.specs.Elements.{HasNames};
@@ -10,7 +11,8 @@ ghost use Rattle.tte_forms.specs.Putting.{Over};
 
 use crate::signs::Sign;
 use lens_picture::{
-    Element, LaneLayer, MarkLayer, Sketch, make_element_line, on_lane, on_mark, opening_of,
+    Came, Clocks, Element, LaneLayer, MarkLayer, Pen, Sketch, gauge_of, make_element_line, on_lane,
+    on_mark, opening_of, spread_of,
 };
 use net_plan::Network;
 use tte_io::{LineText, Sink, SinkFailed};
@@ -28,10 +30,16 @@ pub(crate) enum Layer {
     Lanes(LaneLayer),
     /// Something of each record that is drawn.
     Marks(MarkLayer),
+    /// Where in their windows frames came.
+    Windows,
+    /// The clocks at the end of the run.
+    Gauges,
+    /// How far they are apart.
+    Spread,
 }
 
 /// The parts below the marks, in their order.
-pub(crate) const LAYERS: [Layer; 15] = [
+pub(crate) const LAYERS: [Layer; 18] = [
     Layer::Opening,
     Layer::Shared(Sign::Style),
     Layer::Shared(Sign::Arrows),
@@ -47,6 +55,9 @@ pub(crate) const LAYERS: [Layer; 15] = [
     Layer::Lanes(LaneLayer::Rails),
     Layer::Marks(MarkLayer::Waits),
     Layer::Marks(MarkLayer::Ways),
+    Layer::Windows,
+    Layer::Gauges,
+    Layer::Spread,
 ];
 
 /// Puts the line of something that is drawn, if there is anything.
@@ -127,16 +138,65 @@ fn put_marks<K: Sink>(
     Ok(())
 }
 
+/// Puts where in its window each of these frames came.
+fn put_windows<K: Sink>(
+    network: &Network,
+    windows: &[Came],
+    line: &mut LineText,
+    out: &mut K,
+) -> Result<(), SinkFailed>
+    requires { IsInRange network.now }
+    ensures draws { Over K.Sink out.old out.new (Draws (windows_lines network.now windows.now) result) }
+    ensures faults { MatchResult result (λ _. K.faults out.new ≡ K.faults out.old)
+        (λ _. PutFailed K.Sink out.old out.new) }
+{
+    'frames: for came in windows {
+        let element = Element::Window(came.place, came.tick);
+        match put_some(network, Some(element), line, out) {
+            Ok(()) => (),
+            Err(cause) => return Err(cause),
+        }
+    }
+    Ok(())
+}
+
+/// Puts each clock that is told, where the last instant is that of the pen.
+fn put_gauges<K: Sink>(
+    network: &Network,
+    pen: Pen,
+    clocks: &Clocks,
+    line: &mut LineText,
+    out: &mut K,
+) -> Result<(), SinkFailed>
+    requires { IsInRange network.now }
+    ensures draws { Over K.Sink out.old out.new (Draws (gauges_lines network.now pen clocks.now) result) }
+    ensures faults { MatchResult result (λ _. K.faults out.new ≡ K.faults out.old)
+        (λ _. PutFailed K.Sink out.old out.new) }
+{
+    let told = clocks.told();
+    'clocks: for clock in told {
+        let element = gauge_of(network, pen, clocks, *clock);
+        match put_some(network, element, line, out) {
+            Ok(()) => (),
+            Err(cause) => return Err(cause),
+        }
+    }
+    Ok(())
+}
+
 /// Puts a part of the picture.
 fn put_layer<K: Sink>(
     network: &Network,
     sketch: &Sketch,
+    windows: &[Came],
+    clocks: &Clocks,
     layer: Layer,
     line: &mut LineText,
     out: &mut K,
 ) -> Result<(), SinkFailed>
     requires { IsInRange network.now }
-    ensures draws { Over K.Sink out.old out.new (Draws (layer_lines network.now sketch.now layer) result) }
+    ensures draws { Over K.Sink out.old out.new
+        (Draws (layer_lines network.now sketch.now windows.now clocks.now layer) result) }
     ensures faults { MatchResult result (λ _. K.faults out.new ≡ K.faults out.old)
         (λ _. PutFailed K.Sink out.old out.new) }
 {
@@ -146,6 +206,9 @@ fn put_layer<K: Sink>(
         Layer::Caption => put_some(network, Some(Element::Caption(sketch.span())), line, out),
         Layer::Lanes(layer) => put_lanes(network, sketch, layer, line, out),
         Layer::Marks(layer) => put_marks(network, sketch, layer, line, out),
+        Layer::Windows => put_windows(network, windows, line, out),
+        Layer::Gauges => put_gauges(network, sketch.pen(), clocks, line, out),
+        Layer::Spread => put_some(network, spread_of(network, clocks), line, out),
     }
 }
 
@@ -153,16 +216,19 @@ fn put_layer<K: Sink>(
 pub(crate) fn put_front<K: Sink>(
     network: &Network,
     sketch: &Sketch,
+    windows: &[Came],
+    clocks: &Clocks,
     line: &mut LineText,
     out: &mut K,
 ) -> Result<(), SinkFailed>
     requires { IsInRange network.now }
-    ensures draws { Over K.Sink out.old out.new (Draws (front_lines network.now sketch.now) result) }
+    ensures draws { Over K.Sink out.old out.new
+        (Draws (front_lines network.now sketch.now windows.now clocks.now) result) }
     ensures faults { MatchResult result (λ _. K.faults out.new ≡ K.faults out.old)
         (λ _. PutFailed K.Sink out.old out.new) }
 {
     'layers: for layer in &LAYERS {
-        match put_layer(network, sketch, *layer, line, out) {
+        match put_layer(network, sketch, windows, clocks, *layer, line, out) {
             Ok(()) => (),
             Err(cause) => return Err(cause),
         }

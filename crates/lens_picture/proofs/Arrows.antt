@@ -1,5 +1,6 @@
 -- There is a mark for each record of the span, and an arrow exactly where there is a cause.
-use Rattle.std.proofs.Common.{◌≡◌, ◌≢◌, ℕ, zero, suc, ◌+◌, ◌-◌, ◌<◌, ◌≤◌, Bool, true, false, List, [], ◌∷◌, ◌++◌, length, length-append, append_assoc, refl, sym, ap, subst, ◌∙◌, inl, inr, ◌⊎◌, arith}
+use Rattle.std.proofs.Common.{◌≡◌, ◌≢◌, ℕ, zero, suc, ◌+◌, ◌-◌, ◌<◌, ◌≤◌, Bool, true, false, List, [], ◌∷◌, ◌++◌, length, length-append, append_assoc, refl}
+use Rattle.std.proofs.Common.{sym, ap, subst, ◌∙◌, inl, inr, ◌⊎◌, arith}
 use Rattle.std.specs.Prelude.{◌==◌, nat_lt, if◌then◌else◌, Option, Some, None, option_and_then, slice_get}
 use Rattle.std.proofs.lemmas.Bool.{eq-eqb, eqb-true, le-ltb, ltb-false, ltb-true}
 use Rattle.std.proofs.lemmas.List.{append-nil}
@@ -63,7 +64,7 @@ shown_at : (span : Span) (note : Note) (notes : List Note) (side : Side) → sid
 shown_at span note notes side e = ap (λ (s : Side). if is_within s then note ∷ shown span notes else shown span notes) e
 
 mark_is : (network : Network) (plan : Plan) (note : Note) → IsMarkOf network (mark_of network plan (moved plan.pen (moment note)) note) note
-mark_is network plan note = record { number = refl; time = refl; device = refl; cause = refl }
+mark_is network plan note = record { number = refl; time = refl; device = refl; cause = refl; look = refl }
 
 taken_at : (network : Network) (plan after : Plan) (note : Note) (notes : List Note) (side : Side) → side_of plan.span (moment note) ≡ side
     → AreTaken network (took_at side network plan note) after notes → AreTaken network plan after (note ∷ notes)
@@ -272,5 +273,6 @@ arrows_are_causes network span notes numbers falls =
     let taken = taken_all network (begun network span) notes in (
       subst (λ (ms : List Mark). AreMarksOf network ms (shown span notes)) (sym taken.whole) taken.marks,
       has_arrows (plan_of network span notes)
-          (follows_all network (begun network span) notes 1 0 (omega arith) numbers falls (record { first = 1; follow = tt; begins = omega arith; reaches = inl refl })),
+          (follows_all network (begun network span) notes 1 0 (omega arith) numbers falls
+          (record { first = 1; follow = tt; begins = omega arith; reaches = inl refl })),
     )

@@ -2,3 +2,7 @@ pub mod ShortNotes
 pub mod Order
 pub mod Arrows
 pub mod Painting
+pub mod Plain
+pub mod Folds
+pub mod Rows
+pub mod Windows

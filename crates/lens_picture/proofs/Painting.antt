@@ -137,7 +137,8 @@ in_span Before e = absurd cc
 in_span Within e = refl
 in_span Behind e = absurd cc
 
-module _ (network : Network) (span : Span) (front rest : List Note) (note : Note) (falls : NeverFall 0 (front ++ note ∷ rest)) (held : holds span (moment note) ≡ true) where
+module _ (network : Network) (span : Span) (front rest : List Note) (note : Note) (falls : NeverFall 0 (front ++ note ∷ rest)) (held : holds span (moment note)
+    ≡ true) where
   abbrev here : Plan
   here = plan_of network span (front ++ note ∷ [])
 

@@ -5,7 +5,7 @@ use Rattle.lens_picture.specs.declared.mark.Ground.TheVariants.{Broken}
 use Rattle.lens_picture.specs.declared.mark.Hue.{Hue}
 use Rattle.lens_picture.specs.declared.mark.Hue.TheVariants.{Control, Summary, Stream, Forged}
 use Rattle.lens_picture.specs.declared.mark.Look.{Look}
-use Rattle.lens_picture.specs.declared.mark.Look.TheVariants.{Plain, Waited, Gone, Turned}
+use Rattle.lens_picture.specs.declared.mark.Look.TheVariants.{Plain, Waited, Gone, Turned, Taken}
 use Rattle.net_plan.specs.Places.{link_at}
 use Rattle.net_plan.specs.declared.event.What.{What}
 use Rattle.net_plan.specs.declared.event.What.TheVariants.{Rate, Wire, Hold, Cut, Heal, On, Break, Send, End}
@@ -13,7 +13,9 @@ use Rattle.net_plan.specs.declared.ids.DeviceId.{DeviceId}
 use Rattle.net_plan.specs.declared.ids.LinkId.{LinkId}
 use Rattle.net_plan.specs.declared.network.Network.{Network}
 use Rattle.run_law.specs.declared.note.NoteBody.{NoteBody}
-use Rattle.run_law.specs.declared.note.NoteBody.TheVariants.{Event, Arrived, Permanent, Compressed, Sent, Corrected, State, Left, Lost, TtSent, Accepted, Delivered, Dropped, Clock}
+use Rattle.run_law.specs.declared.note.NoteBody.TheVariants.{Event, Arrived, Permanent, Compressed, Sent, Corrected}
+use Rattle.run_law.specs.declared.note.NoteBody.TheVariants.{State, Left, Lost, TtSent, Accepted, Delivered, Dropped}
+use Rattle.run_law.specs.declared.note.NoteBody.TheVariants.{Clock}
 
 -- the first device
 abbrev pub first_device : DeviceId
@@ -66,11 +68,13 @@ own_hue (Accepted device link cause vl cycle) = Stream
 own_hue (Delivered device link cause vl cycle) = Stream
 own_hue body = Control
 
--- what it draws besides its mark: how long a frame waited that is permanent, that a frame ends that is dropped, and a
--- lane's ground where the device's state changes
+-- what it draws besides its mark: how long a frame waited that is permanent, that a frame ends that is dropped, a
+-- lane's ground where the device's state changes, and where in its window a scheduled frame came that is taken
 abbrev pub look_of : NoteBody → Look
 look_of (Event line what) = struck_look what
 look_of (Permanent device link cause point verdict) = Waited
 look_of (Dropped device link cause reason) = Gone
 look_of (State device state cause why) = Turned (ground_of state)
+look_of (Accepted device link cause vl cycle) = Taken link vl
+look_of (Delivered device link cause vl cycle) = Taken link vl
 look_of body = Plain

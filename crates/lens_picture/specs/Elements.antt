@@ -1,5 +1,6 @@
 -- The lines of what is drawn besides the marks.
-use Rattle.std.specs.Prelude.{ℕ, ◌++◌, ◌==◌, if◌then◌else◌, Bool, true, false, ⊤, List, [], Option, Some, None, codes, decimal}
+use Rattle.std.specs.Prelude.{ℕ, ◌++◌, ◌==◌, if◌then◌else◌, Bool, true, false, ⊤, List, [], Option, Some, None, codes}
+use Rattle.std.specs.Prelude.{decimal}
 use Rattle.std.specs.Option.{option_map_or}
 use Rattle.lens_picture.specs.Layout.{last_time}
 use Rattle.lens_picture.specs.Marks.{ground_text, hue_text}
@@ -7,7 +8,8 @@ use Rattle.lens_picture.specs.Numbers.{micros_text}
 use Rattle.lens_picture.specs.declared.element.Band.{Band}
 use Rattle.lens_picture.specs.declared.element.Band.TheVariants.{Ground, Wait}
 use Rattle.lens_picture.specs.declared.element.Element.{Element}
-use Rattle.lens_picture.specs.declared.element.Element.TheVariants.{Opening, Caption, Bar, Rail, Tick, Way}
+use Rattle.lens_picture.specs.declared.element.Element.TheVariants.{Opening, Caption, Bar, Rail, Tick, Way, Gauge}
+use Rattle.lens_picture.specs.declared.element.Element.TheVariants.{Spread, Window}
 use Rattle.lens_picture.specs.declared.element.Point.{Point}
 use Rattle.lens_picture.specs.declared.layout.Span.{Span}
 use Rattle.lens_picture.specs.declared.mark.Hue.{Hue}
@@ -52,7 +54,8 @@ role_text network device = option_map_or (λ d. kind_text d.role d.channel) (dev
 
 -- the name of a device beside its lane
 unfoldable pub name_part : Network → DeviceId → List ℕ
-name_part network device = codes "<text class=\"name\" x=\"132\" y=\"3\">" ++ device_name network device ++ codes "</text>"
+name_part network device =
+    codes "<text class=\"name\" x=\"132\" y=\"3\">" ++ device_name network device ++ codes "</text>"
 
 -- what it is, below its name
 unfoldable pub role_part : Network → DeviceId → List ℕ
@@ -106,6 +109,36 @@ way_line hue gone from to =
     codes "<path class=\"way " ++ hue_text hue ++ gone_text gone ++ codes "\" d=\"M" ++ point_text from ++ codes " L"
     ++ point_text to ++ codes "\"/>\n"
 
+-- a clock beside the last mark of its lane: a bar, and how many nanoseconds it lies beyond the least
+unfoldable pub gauge_line : Point → ℕ → ℕ → List ℕ
+gauge_line point width nanos =
+    codes "<g transform=\"translate(" ++ point_text point
+    ++ codes ")\"><path class=\"frame\" d=\"M10 0 h50\"/><path class=\"clock\" d=\"M10 0 h" ++ decimal width
+    ++ codes "\"/><text class=\"key\" x=\"66\" y=\"-4\">" ++ decimal nanos ++ codes " ns</text></g>\n"
+
+-- how far the clocks are apart, as a bar
+unfoldable pub spread_bar : ℕ → ℕ → List ℕ
+spread_bar y width =
+    codes "<g transform=\"translate(12 " ++ decimal y
+    ++ codes ")\"><path class=\"frame\" d=\"M0 12 h120\"/><path class=\"clock\" d=\"M0 12 h" ++ decimal width
+    ++ codes "\"/>"
+
+-- and in words, with how far they may be
+unfoldable pub spread_words : ℕ → ℕ → List ℕ
+spread_words apart most =
+    codes "<text class=\"key\" y=\"28\">clocks " ++ decimal apart
+    ++ codes " ns apart,</text><text class=\"key\" y=\"41\">" ++ decimal most ++ codes " ns at most</text></g>\n"
+
+abbrev pub spread_line : ℕ → ℕ → ℕ → ℕ → List ℕ
+spread_line y width apart most = spread_bar y width ++ spread_words apart most
+
+-- the box of a window round a mark, with a tick where in the window the frame came
+unfoldable pub window_line : Point → ℕ → List ℕ
+window_line point tick =
+    codes "<g class=\"window\"><path d=\"M" ++ point_text point
+    ++ codes " m-12 -8 h24 v16 h-24 z\"/><path class=\"came\" d=\"M" ++ point_text point ++ codes " m-12 -8 m"
+    ++ decimal tick ++ codes " 0 v16\"/></g>\n"
+
 -- the line of something that is drawn
 abbrev pub element_line : Network → Element → List ℕ
 element_line network (Opening width height) = opening_line width height
@@ -114,6 +147,9 @@ element_line network (Bar band point to) = bar_line band point to
 element_line network (Rail device y to) = rail_line network device y to
 element_line network (Tick point time) = tick_line point time
 element_line network (Way hue gone from to) = way_line hue gone from to
+element_line network (Gauge point width nanos) = gauge_line point width nanos
+element_line network (Spread y width apart most) = spread_line y width apart most
+element_line network (Window point tick) = window_line point tick
 
 -- the device that it names is the network's
 abbrev pub HasNames : Network → Element → Type 0

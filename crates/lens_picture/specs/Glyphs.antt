@@ -3,7 +3,9 @@ use Rattle.std.specs.Prelude.{ℕ, List, codes}
 use Rattle.run_law.specs.declared.judgement.Judgement.{Judgement}
 use Rattle.run_law.specs.declared.judgement.Judgement.TheVariants as judgements
 use Rattle.run_law.specs.declared.note.NoteBody.{NoteBody}
-use Rattle.run_law.specs.declared.note.NoteBody.TheVariants.{Event, Arrived, Permanent, Compressed, Sent, Corrected, State, Left, Lost, TtSent, Accepted, Delivered, Dropped, Clock}
+use Rattle.run_law.specs.declared.note.NoteBody.TheVariants.{Event, Arrived, Permanent, Compressed, Sent, Corrected}
+use Rattle.run_law.specs.declared.note.NoteBody.TheVariants.{State, Left, Lost, TtSent, Accepted, Delivered, Dropped}
+use Rattle.run_law.specs.declared.note.NoteBody.TheVariants.{Clock}
 
 -- of a frame that is permanent
 abbrev pub verdict_glyph : Judgement → List ℕ
@@ -13,7 +15,8 @@ verdict_glyph judgements.Within = codes "<use xlink:href=\"#within\"/><text clas
 verdict_glyph judgements.Outside = codes "<use xlink:href=\"#outside\"/><text class=\"label outside\" x=\"4\" y=\"-8\">"
 verdict_glyph judgements.Repeat = codes "<use xlink:href=\"#ignored\"/><text class=\"label\" x=\"4\" y=\"-8\">"
 verdict_glyph judgements.Ignored = codes "<use xlink:href=\"#ignored\"/><text class=\"label\" x=\"4\" y=\"-8\">"
-verdict_glyph judgements.Integrates = codes "<use xlink:href=\"#integrates\"/><text class=\"label corrected\" x=\"4\" y=\"-8\">"
+verdict_glyph judgements.Integrates =
+    codes "<use xlink:href=\"#integrates\"/><text class=\"label corrected\" x=\"4\" y=\"16\">"
 
 -- of a record
 abbrev pub glyph_text : NoteBody → List ℕ
@@ -28,7 +31,8 @@ glyph_text (Compressed device opened at cycle members verdict) =
 glyph_text (Sent device cycle) = codes "<use xlink:href=\"#sent\"/><text class=\"label\">"
 glyph_text (Corrected device cycle by adjustment) =
     codes "<use xlink:href=\"#corrected\"/><text class=\"label corrected\" x=\"6\" y=\"16\">"
-glyph_text (State device state cause why) = codes "<use xlink:href=\"#state\"/><text class=\"label state\" x=\"5\" y=\"-12\">"
+glyph_text (State device state cause why) =
+    codes "<use xlink:href=\"#state\"/><text class=\"label state\" x=\"5\" y=\"-12\">"
 glyph_text (Lost device link cause) = codes "<use xlink:href=\"#lost\"/><text class=\"label lost\" x=\"13\" y=\"14\">"
 glyph_text (TtSent device link cause vl cycle) = codes "<use xlink:href=\"#ttsent\"/><text class=\"label\">"
 glyph_text (Accepted device link cause vl cycle) = codes "<use xlink:href=\"#accepted\"/><text class=\"label\">"

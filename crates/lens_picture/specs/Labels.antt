@@ -16,7 +16,8 @@ use Rattle.run_law.specs.declared.judgement.Reason.{Reason}
 use Rattle.run_law.specs.declared.judgement.Reason.TheVariants as reasons
 use Rattle.run_law.specs.declared.judgement.Why.{Why}
 use Rattle.run_law.specs.declared.note.NoteBody.{NoteBody}
-use Rattle.run_law.specs.declared.note.NoteBody.TheVariants.{Event, Permanent, Compressed, Corrected, State, Lost, Delivered, Dropped}
+use Rattle.run_law.specs.declared.note.NoteBody.TheVariants.{Event, Permanent, Compressed, Corrected, State, Lost}
+use Rattle.run_law.specs.declared.note.NoteBody.TheVariants.{Delivered, Dropped}
 use Rattle.sync_state.specs.declared.state.State as states
 use Rattle.trace_text.specs.EventWords.{way_text}
 

@@ -1,5 +1,6 @@
 -- What holds of pictures.
-use Rattle.std.specs.Prelude.{◌≡◌, ◌≢◌, ℕ, ◌+◌, ◌<◌, ◌≤◌, true, List, [], ◌∷◌, ◌++◌, All, Some, filter, fold, length, map, slice_get, take}
+use Rattle.std.specs.Prelude.{◌≡◌, ◌≢◌, ℕ, ◌+◌, ◌<◌, ◌≤◌, true, List, [], ◌∷◌, ◌++◌, All, Some, filter, fold, length}
+use Rattle.std.specs.Prelude.{map, slice_get, take}
 use Rattle.lens_picture.specs.Bodies.{look_of, scene_of}
 use Rattle.lens_picture.specs.Lanes.{start_of}
 use Rattle.lens_picture.specs.Layers.{is_gone, point_of, way_of}
@@ -39,12 +40,13 @@ KeepsOrder =
 abbrev pub shown : Span → List Note → List Note
 shown span notes = filter (λ note. holds span (moment note)) notes
 
--- the mark tells of the record its number, its time, its device and its cause
+-- the mark tells of the record its number, its time, its device, its cause and what it draws
 pub record IsMarkOf (network : Network) (mark : Mark) (note : Note) : Type 0 where
   pub number : mark.number ≡ note.number
   pub time : mark.time ≡ moment note
   pub device : mark.device ≡ scene_of network note.body
   pub cause : mark.cause ≡ cause_of note.body
+  pub look : mark.look ≡ look_of note.body
 
 -- there is one for each of these records, in their order
 abbrev pub AreMarksOf : Network → List Mark → List Note → Type 0
@@ -75,8 +77,8 @@ pub record HasArrows (plan : Plan) : Type 0 where
       → (place : ℕ) × (cause : Mark) × (slice_get plan.marks place ≡ Some cause) × ComesAcross mark cause
       × (element ≡ arrow cause mark)
 
--- in a picture of records whose numbers follow each other and whose times never fall, there is a mark for each record in
--- the span, and an arrow exactly where there is a cause
+-- in a picture of records whose numbers follow each other and whose times never fall, there is a mark for each record
+-- in the span, and an arrow exactly where there is a cause
 abbrev pub ArrowsAreCauses : Type 0
 ArrowsAreCauses =
     (network : Network) (span : Span) (notes : List Note) → NumbersFollow 1 notes → NeverFall 0 notes

@@ -1,5 +1,6 @@
 -- The layers of a picture below its marks.
-use Rattle.std.specs.Prelude.{ℕ, ◌+◌, ◌==◌, Bool, true, false, if◌then◌else◌, Option, Some, None, slice_get, option_and_then, option_map}
+use Rattle.std.specs.Prelude.{ℕ, ◌+◌, ◌==◌, Bool, true, false, if◌then◌else◌, Option, Some, None, slice_get}
+use Rattle.std.specs.Prelude.{option_and_then, option_map}
 use Rattle.lens_picture.specs.Lanes.{bottom_of, y_of}
 use Rattle.lens_picture.specs.Layout.{right_of, width_of}
 use Rattle.lens_picture.specs.Plan.{Plan}
@@ -29,8 +30,8 @@ device_of place = record { 0 = place }
 -- what is drawn of the device at this place: its lane's ground where the picture begins, or its name and its lane
 abbrev pub on_lane : LaneLayer → Network → Plan → ℕ → Option Element
 on_lane Grounds network plan place =
-    option_map (λ shade. Bar (Ground shade) (record { x = 140; y = y_of network (device_of place) }) (right_of plan.pen))
-    (slice_get plan.grounds place)
+    let start : Point = record { x = 140; y = y_of network (device_of place) } in
+    option_map (λ shade. Bar (Ground shade) start (right_of plan.pen)) (slice_get plan.grounds place)
 on_lane Rails network plan place =
     Some (Rail (device_of place) (y_of network (device_of place)) (right_of plan.pen))
 
@@ -53,7 +54,8 @@ tick_of network mark =
 
 -- how long the frame waited that is permanent with the mark
 abbrev pub wait_to : Look → Plan → Mark → Option Element
-wait_to Waited plan mark = option_map (λ cause. Bar (Wait mark.hue) (point_of cause) mark.x) (mark_at plan.marks mark.cause)
+wait_to Waited plan mark =
+    option_map (λ cause. Bar (Wait mark.hue) (point_of cause) mark.x) (mark_at plan.marks mark.cause)
 wait_to look plan mark = None
 
 abbrev pub wait_of : Plan → Mark → Option Element

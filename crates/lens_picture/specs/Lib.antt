@@ -8,6 +8,8 @@ pub mod Glyphs
 pub mod Labels
 pub mod Plan
 pub mod Sketching
+pub mod Clocks
 pub mod Layers
+pub mod Windows
 pub mod Marking
 pub mod Laws

@@ -1,5 +1,5 @@
 -- The line of a record's mark.
-use Rattle.std.specs.Prelude.{ℕ, ◌-◌, ◌*◌, ◌++◌, List, codes, decimal, min}
+use Rattle.std.specs.Prelude.{ℕ, ◌-◌, ◌*◌, ◌++◌, ◌==◌, ◌||◌, ◌≡◌, All, Bool, List, codes, decimal, min, not, true}
 use Rattle.lens_picture.specs.Bodies.{scene_of}
 use Rattle.lens_picture.specs.Glyphs.{glyph_text}
 use Rattle.lens_picture.specs.Labels.{label_text}
@@ -16,12 +16,21 @@ use Rattle.run_law.specs.declared.note.NoteBody.TheVariants.{Event}
 abbrev pub title_room : ℕ
 title_room = 3500
 
+-- is the character one that SVG reads as no more than itself? It is neither `<` nor `&`
+abbrev pub is_plain : ℕ → Bool
+is_plain c = not (c == 60 || c == 38)
+
+-- each character of the text is
+abbrev pub IsPlain : List ℕ → Type 0
+IsPlain text = All (λ c. is_plain c ≡ true) text
+
 -- the pen with one event more above it, if the record is one
 abbrev pub counted : Pen → NoteBody → Pen
 counted pen (Event line what) = record pen { row = next_row pen.row }
 counted pen body = pen
 
--- how far down the mark of a record is: that of an event is above the lanes, in its row; another's is on its device's lane
+-- how far down the mark of a record is: that of an event is above the lanes, in its row; another's is on its device's
+-- lane
 abbrev pub height_of : Network → ℕ → NoteBody → ℕ
 height_of network row (Event line what) = 127 - 11 * min row 4
 height_of network row body = y_of network (scene_of network body)

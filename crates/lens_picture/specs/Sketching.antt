@@ -1,5 +1,6 @@
 -- How the plan of a picture grows record by record.
-use Rattle.std.specs.Prelude.{ℕ, ◌-◌, nat_le, nat_lt, Bool, if◌then◌else◌, List, [], ◌∷◌, ◌++◌, Option, None, map, length, slice_get, slice_set, option_and_then, unsigned_abs}
+use Rattle.std.specs.Prelude.{ℕ, ◌-◌, nat_le, nat_lt, Bool, if◌then◌else◌, List, [], ◌∷◌, ◌++◌, Option, None, map}
+use Rattle.std.specs.Prelude.{length, slice_get, slice_set, option_and_then, unsigned_abs}
 use Rattle.std.specs.Option.{option_map_or}
 use Rattle.lens_picture.specs.Bodies.{look_of, own_hue, scene_of}
 use Rattle.lens_picture.specs.Lanes.{start_of, y_of}

@@ -125,6 +125,9 @@ pub(crate) fn look_of(body: &NoteBody) -> Look
         NoteBody::Permanent { .. } => Look::Waited,
         NoteBody::Dropped { .. } => Look::Gone,
         NoteBody::State { state, .. } => Look::Turned(ground_of(*state)),
+        NoteBody::Accepted { link, vl, .. } | NoteBody::Delivered { link, vl, .. } => {
+            Look::Taken(*link, *vl)
+        }
         NoteBody::Arrived { .. }
         | NoteBody::Compressed { .. }
         | NoteBody::Sent { .. }
@@ -132,8 +135,6 @@ pub(crate) fn look_of(body: &NoteBody) -> Look
         | NoteBody::Left { .. }
         | NoteBody::Lost { .. }
         | NoteBody::TtSent { .. }
-        | NoteBody::Accepted { .. }
-        | NoteBody::Delivered { .. }
         | NoteBody::Clock { .. } => Look::Plain,
     }
 }

@@ -1,6 +1,9 @@
 //! What is drawn besides the marks, each as a line.
 ghost use Rattle.std.specs.Prelude.{◌≡◌, ◌≤◌, ◌+◌, ◌++◌, length};
-ghost use Rattle.lens_picture.specs.Elements.{HasNames, band_text, bar_line, caption_line, element_line, gone_text, kind_text, name_part, opening_line, point_text, rail_line, role_part, role_text, role_word, tick_line, until_text, way_line};
+ghost use Rattle.lens_picture.specs.Elements.{HasNames, band_text, bar_line, caption_line, element_line, gauge_line};
+ghost use Rattle.lens_picture.specs.Elements.{gone_text, kind_text, name_part, opening_line, point_text, rail_line};
+ghost use Rattle.lens_picture.specs.Elements.{role_part, role_text, role_word, spread_bar, spread_line, spread_words};
+ghost use Rattle.lens_picture.specs.Elements.{tick_line, until_text, way_line, window_line};
 ghost use Rattle.net_plan.specs.Belonging.{HasDevice, device_name};
 ghost use Rattle.net_plan.specs.Ranges.{IsInRange};
 ghost use Rattle.tte_io.specs.Line.{line_limit};
@@ -42,6 +45,13 @@ pub enum Element {
     Tick(Point, u64),
     /// A frame's way from one mark to another, and whether it ends there.
     Way(Hue, bool, Point, Point),
+    /// A clock: the last mark of its lane, how long its bar is, and how many nanoseconds it lies beyond the least.
+    Gauge(Point, u64, u64),
+    /// How far down the lanes end, how long the bar is, how many nanoseconds the clocks are apart, and how many they
+    /// may be.
+    Spread(u64, u64, u64, u64),
+    /// The window of a frame that was taken: its mark, and how far the tick stands in the box.
+    Window(Point, u64),
 }
 
 /// Adds a place: at most 41 octets.
@@ -267,6 +277,68 @@ fn make_caption(line: &mut LineText, span: Span)
     line.push(". Gaps are drawn shortened.</text>\n");
 }
 
+#[tactic(auto, unfolding(crate::specs::Elements::gauge_line))]
+fn make_gauge(line: &mut LineText, point: Point, width: u64, nanos: u64)
+    ensures { line.new ≡ gauge_line point width nanos }
+{
+    line.clear();
+    line.push("<g transform=\"translate(");
+    push_point(line, point);
+    line.push(")\"><path class=\"frame\" d=\"M10 0 h50\"/><path class=\"clock\" d=\"M10 0 h");
+    line.push_decimal(width);
+    line.push("\"/><text class=\"key\" x=\"66\" y=\"-4\">");
+    line.push_decimal(nanos);
+    line.push(" ns</text></g>\n");
+}
+
+/// Makes the bar of how far the clocks are apart: at most 200 octets.
+#[tactic(auto, unfolding(crate::specs::Elements::spread_bar))]
+fn make_spread_bar(line: &mut LineText, y: u64, width: u64)
+    ensures text { line.new ≡ spread_bar y width }
+    ensures short { length line.new ≤ 200 }
+{
+    line.clear();
+    line.push("<g transform=\"translate(12 ");
+    line.push_decimal(y);
+    line.push(")\"><path class=\"frame\" d=\"M0 12 h120\"/><path class=\"clock\" d=\"M0 12 h");
+    line.push_decimal(width);
+    line.push("\"/>");
+}
+
+/// Adds how far the clocks are apart, and how far they may be.
+#[tactic(auto, unfolding(crate::specs::Elements::spread_words))]
+fn push_spread(line: &mut LineText, apart: u64, most: u64)
+    requires { length line.old + 200 ≤ line_limit }
+    ensures { line.new ≡ line.old ++ spread_words apart most }
+{
+    line.push("<text class=\"key\" y=\"28\">clocks ");
+    line.push_decimal(apart);
+    line.push(" ns apart,</text><text class=\"key\" y=\"41\">");
+    line.push_decimal(most);
+    line.push(" ns at most</text></g>\n");
+}
+
+fn make_spread(line: &mut LineText, y: u64, width: u64, apart: u64, most: u64)
+    ensures { line.new ≡ spread_line y width apart most }
+{
+    make_spread_bar(line, y, width);
+    push_spread(line, apart, most);
+}
+
+#[tactic(auto, unfolding(crate::specs::Elements::window_line))]
+fn make_window(line: &mut LineText, point: Point, tick: u64)
+    ensures { line.new ≡ window_line point tick }
+{
+    line.clear();
+    line.push("<g class=\"window\"><path d=\"M");
+    push_point(line, point);
+    line.push(" m-12 -8 h24 v16 h-24 z\"/><path class=\"came\" d=\"M");
+    push_point(line, point);
+    line.push(" m-12 -8 m");
+    line.push_decimal(tick);
+    line.push(" 0 v16\"/></g>\n");
+}
+
 /// Makes the line of something that is drawn, ended by LF.
 pub fn make_element_line(line: &mut LineText, network: &Network, element: Element)
     requires range { IsInRange network.now }
@@ -280,5 +352,8 @@ pub fn make_element_line(line: &mut LineText, network: &Network, element: Elemen
         Element::Rail(device, y, to) => make_rail(line, network, device, y, to),
         Element::Tick(point, time) => make_tick(line, point, time),
         Element::Way(hue, gone, from, to) => make_way(line, hue, gone, from, to),
+        Element::Gauge(point, width, nanos) => make_gauge(line, point, width, nanos),
+        Element::Spread(y, width, apart, most) => make_spread(line, y, width, apart, most),
+        Element::Window(point, tick) => make_window(line, point, tick),
     }
 }

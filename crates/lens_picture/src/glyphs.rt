@@ -18,7 +18,7 @@ fn verdict_glyph(verdict: Judgement) -> &'static str
         Judgement::Repeat | Judgement::Ignored =>
             "<use xlink:href=\"#ignored\"/><text class=\"label\" x=\"4\" y=\"-8\">",
         Judgement::Integrates =>
-            "<use xlink:href=\"#integrates\"/><text class=\"label corrected\" x=\"4\" y=\"-8\">",
+            "<use xlink:href=\"#integrates\"/><text class=\"label corrected\" x=\"4\" y=\"16\">",
     }
 }
 

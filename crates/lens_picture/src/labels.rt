@@ -1,6 +1,7 @@
 //! The label of a record's mark.
 ghost use Rattle.std.specs.Prelude.{◌≡◌, ◌≤◌, ◌+◌, ◌++◌, length};
-ghost use Rattle.lens_picture.specs.Labels.{collection_label, label_text, reason_label, state_label, stream_label, strike_label, verdict_label, way_label};
+ghost use Rattle.lens_picture.specs.Labels.{collection_label, label_text, reason_label, state_label, stream_label};
+ghost use Rattle.lens_picture.specs.Labels.{strike_label, verdict_label, way_label};
 ghost use Rattle.net_plan.specs.Belonging.{HasDevice, HasLink, HasVl, IsOfNetwork, device_name};
 ghost use Rattle.net_plan.specs.Ranges.{IsInRange};
 ghost use Rattle.report_text.specs.Ranges.{IsBodyOf};

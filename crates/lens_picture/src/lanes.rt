@@ -1,6 +1,6 @@
 //! Where a device's lane is: the switches of channel a above, then the end systems, and those of channel b below.
-ghost use Rattle.std.specs.Prelude.{◌≡◌, ◌≤◌, ◌*◌, length};
-ghost use Rattle.lens_picture.specs.Lanes.{above, beside, lane_of, rank_in, rank_of, start_of, y_of};
+ghost use Rattle.std.specs.Prelude.{◌≡◌, ◌≤◌, ◌*◌, ◌^◌, length};
+ghost use Rattle.lens_picture.specs.Lanes.{above, beside, bottom_of, lane_of, rank_in, rank_of, start_of, y_of};
 ghost use Rattle.net_plan.specs.Ranges.{IsInRange};
 
 use crate::Ground;
@@ -71,6 +71,15 @@ pub(crate) fn y_of(network: &Network, device: DeviceId) -> u64
     ensures { result ≡ y_of network.now device }
 {
     152 + 40 * lane_of(network, device)
+}
+
+/// How far down the lanes end.
+pub(crate) fn bottom_of(network: &Network) -> u64
+    requires { IsInRange network.now }
+    ensures value { result ≡ bottom_of network.now }
+    ensures few { result ≤ 2 ^ 40 }
+{
+    132 + 40 * network.device.as_slice().len() as u64
 }
 
 /// The ground of the device's lane where a run begins.

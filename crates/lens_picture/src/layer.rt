@@ -5,7 +5,7 @@ ghost use Rattle.lens_picture.specs.Layers.{is_gone, on_lane, on_mark, opening_o
 ghost use Rattle.net_plan.specs.Ranges.{IsInRange};
 
 use crate::element::{Band, Element, Point};
-use crate::lanes::y_of;
+use crate::lanes::{bottom_of, y_of};
 use crate::{Look, Mark, Sketch};
 use net_plan::{DeviceId, Network};
 
@@ -36,8 +36,7 @@ pub fn opening_of(network: &Network, sketch: &Sketch) -> Element
     requires { IsInRange network.now }
     ensures { result ≡ opening_of network.now sketch.now }
 {
-    let height = 202 + 40 * network.device.as_slice().len() as u64;
-    Element::Opening(sketch.pen().right() + 20, height)
+    Element::Opening(sketch.pen().right() + 20, bottom_of(network) + 70)
 }
 
 /// What is drawn of the device at this place.
@@ -77,7 +76,7 @@ fn turn_of(sketch: &Sketch, mark: &Mark) -> Option<Element>
             },
             sketch.pen().right(),
         )),
-        Look::Plain | Look::Waited | Look::Gone => None,
+        Look::Plain | Look::Waited | Look::Gone | Look::Taken(_, _) => None,
     }
 }
 
@@ -86,9 +85,12 @@ fn tick_of(network: &Network, mark: &Mark) -> Option<Element>
     requires { IsInRange network.now }
     ensures { result ≡ tick_of network.now mark.now }
 {
-    let y = 132 + 40 * network.device.as_slice().len() as u64;
     if mark.first {
-        Some(Element::Tick(Point { x: mark.x, y }, mark.time))
+        let place = Point {
+            x: mark.x,
+            y: bottom_of(network),
+        };
+        Some(Element::Tick(place, mark.time))
     } else {
         None
     }
@@ -110,7 +112,7 @@ fn wait_of(sketch: &Sketch, mark: &Mark) -> Option<Element>
             )),
             None => None,
         },
-        Look::Plain | Look::Gone | Look::Turned(_) => None,
+        Look::Plain | Look::Gone | Look::Turned(_) | Look::Taken(_, _) => None,
     }
 }
 
@@ -120,7 +122,7 @@ fn is_gone(look: Look) -> bool
 {
     match look {
         Look::Gone => true,
-        Look::Plain | Look::Waited | Look::Turned(_) => false,
+        Look::Plain | Look::Waited | Look::Turned(_) | Look::Taken(_, _) => false,
     }
 }
 

@@ -2,6 +2,7 @@
 #![tactic(auto)]
 
 mod bodies;
+mod clock;
 mod element;
 mod glyphs;
 mod labels;
@@ -13,7 +14,9 @@ mod mark;
 mod marking;
 mod numbers;
 mod sketch;
+mod window;
 
+pub use clock::{Clocks, Ends, Told, gauge_of, spread_of};
 pub use element::{Band, Element, Point, make_element_line};
 pub use laws::{arrows_law, lanes_law, order_law};
 pub use layer::{LaneLayer, MarkLayer, on_lane, on_mark, opening_of};
@@ -21,3 +24,4 @@ pub use layout::{Pen, Span};
 pub use mark::{Ground, Hue, Look, Mark};
 pub use marking::make_mark_line;
 pub use sketch::Sketch;
+pub use window::{Came, came_of};

@@ -2,7 +2,7 @@
 ghost use Rattle.std.specs.Prelude.{◌≡◌, ◌≤◌, length};
 ghost use Rattle.lens_picture.specs.Marks.{ground_of, ground_text, hue_text};
 
-use net_plan::DeviceId;
+use net_plan::{DeviceId, LinkId, VlId};
 use sync_state::State;
 
 /// What a frame's arrow tells of it.
@@ -39,6 +39,8 @@ pub enum Look {
     Gone,
     /// The lane's ground from here on.
     Turned(Ground),
+    /// Where in its window the frame of the virtual link came that is taken here from the link.
+    Taken(LinkId, VlId),
 }
 
 /// A record that is drawn.

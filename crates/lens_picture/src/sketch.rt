@@ -104,7 +104,7 @@ impl Sketch {
                     self.grounds[place] = ground;
                 }
             }
-            Look::Plain | Look::Waited | Look::Gone => (),
+            Look::Plain | Look::Waited | Look::Gone | Look::Taken(_, _) => (),
         }
     }
 
@@ -185,7 +185,8 @@ impl Sketch {
         self.span
     }
 
-    pub(crate) fn pen(&self) -> Pen
+    /// The pen at the last instant that is drawn.
+    pub fn pen(&self) -> Pen
         ensures value { result ≡ self.now.pen }
         ensures within { result.x ≤ widest }
     {

@@ -1,4 +1,4 @@
-use Rattle.std.proofs.Common.{◌≡◌, List, ap, refl, sym, subst, ◌∙◌}
+use Rattle.std.proofs.Common.{List, ap, sym, subst}
 use Rattle.lens_draw.proofs.Marking.{IsSketched, left_less, sketched_all, sketched_more}
 use Rattle.lens_picture.specs.Plan.{Plan}
 use Rattle.lens_picture.specs.Sketching.{begun, plan_behind}

@@ -1,4 +1,4 @@
-use Rattle.std.proofs.Common.{◌≡◌, ◌≤◌, ℕ, List, length}
+use Rattle.std.proofs.Common.{◌≡◌, ◌≤◌, List, length}
 use Rattle.lens_draw.proofs.Marking.{IsMarked}
 use Rattle.lens_picture.specs.Layout.{widest}
 use Rattle.run_law.specs.declared.note.Note.{Note}

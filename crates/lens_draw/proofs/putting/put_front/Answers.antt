@@ -10,7 +10,8 @@ layers-preserved g c =
     let shown = shown_by g.K.Sink in
     record {
       puts =
-          flat_more (λ layer. layer_lines c.args.network.now c.args.sketch.now layer) LAYERS c.layers.layer-index _ (shown c.args.out.now)
+          flat_more (λ layer. layer_lines c.args.network.now c.args.sketch.now c.args.windows.now c.args.clocks.now layer) LAYERS c.layers.layer-index _
+          (shown c.args.out.now)
           (shown c.layers.out) (shown c.put_layer.new.out) c.layers-test.true c.layers.invariant.puts c.in-Ok.ensures.draws;
       quiet = c.in-Ok.ensures.faults ∙ c.layers.invariant.quiet;
     }
@@ -18,5 +19,6 @@ layers-preserved g c =
 pub returns-in-Err-clause-draws : goal.returns-in-Err-clause-draws
 returns-in-Err-clause-draws g c =
     let shown = shown_by g.K.Sink in
-    flat_fails (λ layer. layer_lines c.args.network.now c.args.sketch.now layer) LAYERS c.layers.layer-index _ (shown c.args.out.now)
+    flat_fails (λ layer. layer_lines c.args.network.now c.args.sketch.now c.args.windows.now c.args.clocks.now layer) LAYERS c.layers.layer-index _
+    (shown c.args.out.now)
     (shown c.layers.out) (shown c.put_layer.new.out) c.layers-test.true c.layers.invariant.puts c.in-Err.ensures.draws

@@ -7,7 +7,7 @@ use Rattle.lens_draw.proofs.putting.put_front.Given as goal
 
 abbrev pub invariant-layers : goal.invariant-layers
 invariant-layers g l = record {
-  puts : PutsLines (flat_map (λ layer. layer_lines l.network l.sketch layer) (take l.layer-index LAYERS))
+  puts : PutsLines (flat_map (λ layer. layer_lines l.network l.sketch l.windows l.clocks layer) (take l.layer-index LAYERS))
       (shown_by g.K.Sink l.fn.out) (shown_by g.K.Sink l.out);
   quiet : g.K.Sink.faults l.out ≡ g.K.Sink.faults l.fn.out;
 }

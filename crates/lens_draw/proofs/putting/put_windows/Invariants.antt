@@ -1,0 +1,13 @@
+use Rattle.std.proofs.Common.{◌≡◌, take}
+use Rattle.std.specs.Prelude.{flat_map}
+use Rattle.lens_draw.specs.Picture.{some_line}
+use Rattle.lens_picture.specs.Windows.{box_of}
+use Rattle.tte_forms.specs.Putting.{PutsLines, shown_by}
+use Rattle.lens_draw.proofs.putting.put_windows.Given as goal
+
+abbrev pub invariant-frames : goal.invariant-frames
+invariant-frames g l = record {
+  puts : PutsLines (flat_map (λ came. some_line l.network (box_of came)) (take l.came-index l.windows))
+      (shown_by g.K.Sink l.fn.out) (shown_by g.K.Sink l.out);
+  quiet : g.K.Sink.faults l.out ≡ g.K.Sink.faults l.fn.out;
+}
