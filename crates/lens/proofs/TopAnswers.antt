@@ -4,8 +4,9 @@ use Rattle.lens_draw.specs.Answer.{IsDrawAnswer}
 use Rattle.lens_events.specs.Answer.{IsEventsAnswer, event_lines}
 use Rattle.lens_flows.{proofs.OneAnswer.flows_answer_one, specs.Answer.IsFlowsAnswer}
 use Rattle.lens_forms.{proofs.FormLemmas.form_in_range, specs.{Forms.{IsFormInRange, form_of}, declared.form.Form.Form}}
-use Rattle.lens_forms.specs.declared.form.Form.TheVariants.{Draw, Events, Flows, Least, Slack, SlackOf, Why}
+use Rattle.lens_forms.specs.declared.form.Form.TheVariants.{Draw, DrawWhole, Events, Flows, Least, Slack, SlackOf, Why}
 use Rattle.lens_least.{proofs.OneLeast.least_one, specs.Answer.IsLeastOf}
+use Rattle.lens_overview.specs.Answer.{IsOverviewAnswer}
 use Rattle.lens_slack.{proofs.OneSlack.{octets_one, slack_one}, specs.{Answer.IsSlackOf, Steps.{all_steps, rule_steps}}}
 use Rattle.lens_why.proofs.Whole.{why_one}
 use Rattle.net_plan.specs.declared.{event.Event.Event, network.Network.Network}
@@ -41,6 +42,8 @@ answer_one one (Some Slack) range octets report a b p q = octets_one (IsSlackOf 
 answer_one one (Some (SlackOf rule)) range octets report a b p q = octets_one (IsSlackOf (rule_steps rule)) (slack_one (rule_steps rule)) octets a b p q
 answer_one one (Some Least) range octets report a b p q = octets_one IsLeastOf least_one octets a b p q
 answer_one one (Some (Why number)) range octets report a b p q = why_one one number octets report a b p q
+answer_one one (Some DrawWhole) range octets report a b p q =
+    report_one one IsOverviewAnswer (λ network text notes end x y rules of i j. i ∙ sym j) octets report a b p q
 answer_one one (Some (Draw from to)) range octets report a b p q =
     report_one one (IsDrawAnswer (record { from = from; to = to })) (λ network text notes end x y rules of i j. i ∙ sym j) octets report a b p q
 answer_one one (Some Flows) range octets report a b p q = report_one one IsFlowsAnswer flows_answer_one octets report a b p q

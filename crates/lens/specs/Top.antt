@@ -3,8 +3,11 @@ use Rattle.std.specs.Prelude.{◌++◌, ◌≡◌, ◌≢◌, ◌⊎◌, List, N
 use Rattle.lens_draw.specs.Answer.{IsDrawAnswer}
 use Rattle.lens_events.specs.Answer.{IsEventsAnswer}
 use Rattle.lens_flows.specs.Answer.{IsFlowsAnswer}
-use Rattle.lens_forms.specs.{Forms.form_of, declared.form.Form.{Form, TheVariants.{Draw, Events, Flows, Least, Slack, SlackOf, Why}}}
+use Rattle.lens_forms.specs.{Forms.form_of}
+use Rattle.lens_forms.specs.declared.form.Form.{Form}
+use Rattle.lens_forms.specs.declared.form.Form.TheVariants.{Draw, DrawWhole, Events, Flows, Least, Slack, SlackOf, Why}
 use Rattle.lens_least.specs.Answer.{IsLeastAnswer}
+use Rattle.lens_overview.specs.Answer.{IsOverviewAnswer}
 use Rattle.lens_slack.specs.Answer.{IsSlackAnswer, IsSlackAnswerOf}
 use Rattle.lens_why.specs.Answer.{IsWhyAnswer}
 use Rattle.tte_forms.specs.{Answering.{Answer, ForOctets, Gives, GivesAnswer, line_answer}, Putting.Shown}
@@ -27,6 +30,7 @@ IsFormAnswer Slack octets report a = IsSlackAnswer octets a
 IsFormAnswer (SlackOf rule) octets report a = IsSlackAnswerOf rule octets a
 IsFormAnswer Least octets report a = IsLeastAnswer octets a
 IsFormAnswer (Why number) octets report a = IsNetworkAnswer (IsReportAnswer (IsWhyAnswer number) report) octets a
+IsFormAnswer DrawWhole octets report a = IsNetworkAnswer (IsReportAnswer IsOverviewAnswer report) octets a
 IsFormAnswer (Draw from to) octets report a =
     IsNetworkAnswer (IsReportAnswer (IsDrawAnswer (record { from = from; to = to })) report) octets a
 IsFormAnswer Flows octets report a = IsNetworkAnswer (IsReportAnswer IsFlowsAnswer report) octets a
@@ -46,6 +50,7 @@ AnswerIsOne =
 -- the fact holds for the octets of the second file, if the form has one
 abbrev pub ForSecond : Form → Option (List ℕ) → (List ℕ → Type 0) → Type 0
 ForSecond (Why number) left P = ForOctets left P
+ForSecond DrawWhole left P = ForOctets left P
 ForSecond (Draw from to) left P = ForOctets left P
 ForSecond Flows left P = ForOctets left P
 ForSecond other left P = P []
@@ -62,6 +67,7 @@ AnswersWords (Some form) first second status old new =
 -- a read failed, and nothing was put: of the first file, and then the second was not read, or of the second
 abbrev pub FailsToRead : Option Form → Type 0 → Type 0 → Type 0 → Type 0 → Type 0
 FailsToRead (Some (Why number)) InFirst InSecond Unput Unread = (InFirst × Unput × Unread) ⊎ (InSecond × Unput)
+FailsToRead (Some DrawWhole) InFirst InSecond Unput Unread = (InFirst × Unput × Unread) ⊎ (InSecond × Unput)
 FailsToRead (Some (Draw from to)) InFirst InSecond Unput Unread = (InFirst × Unput × Unread) ⊎ (InSecond × Unput)
 FailsToRead (Some Flows) InFirst InSecond Unput Unread = (InFirst × Unput × Unread) ⊎ (InSecond × Unput)
 FailsToRead other InFirst InSecond Unput Unread = InFirst × Unput × Unread
@@ -69,6 +75,7 @@ FailsToRead other InFirst InSecond Unput Unread = InFirst × Unput × Unread
 -- only `why`, `draw` and `flows` read a second file
 abbrev pub LeavesSecond : Option Form → Type 0 → Type 0
 LeavesSecond (Some (Why number)) Unread = Unit {0}
+LeavesSecond (Some DrawWhole) Unread = Unit {0}
 LeavesSecond (Some (Draw from to)) Unread = Unit {0}
 LeavesSecond (Some Flows) Unread = Unit {0}
 LeavesSecond other Unread = Unread

@@ -8,6 +8,7 @@ use lens_events::storm_events;
 use lens_flows::flows;
 use lens_forms::{Form, read_form};
 use lens_least::least_of_network;
+use lens_overview::draw_whole;
 use lens_picture::Span;
 use lens_slack::{slack_of_network, slack_of_rule};
 use lens_why::why_record;
@@ -43,6 +44,7 @@ pub fn lens<A: Source, B: Source, K: Sink>(
         Some(Form::SlackOf(rule)) => slack_of_rule(alloc, first, rule, out),
         Some(Form::Least) => least_of_network(alloc, first, out),
         Some(Form::Why { number }) => why_record(alloc, first, second, number, out),
+        Some(Form::DrawWhole) => draw_whole(alloc, first, second, out),
         Some(Form::Draw { from, to }) => draw_report(alloc, first, second, Span { from, to }, out),
         Some(Form::Flows) => flows(alloc, first, second, out),
         Some(Form::Events { seed, cycles }) => storm_events(alloc, first, seed, cycles, out),

@@ -8,7 +8,8 @@ use Rattle.tte_forms.proofs.FormLemmas.{form_in_range as storm_in_range}
 use Rattle.tte_forms.specs.Forms.{IsFormInRange as IsStormInRange, cycles_spelled, form_of as storm_form_of, if_some, seed_spelled, storm_form}
 use Rattle.tte_forms.specs.declared.form.Form.TheVariants.{Storm}
 use Rattle.lens_forms.specs.Forms.{IsFormInRange, IsInequality, events_form, form_of, four_words_form, greatest_number, inequality_spelled, network_form}
-use Rattle.lens_forms.specs.{Forms.{draw_form, five_words_form, part_form, slack_of_form, three_words_form, why_form}, declared.form.Form.{Form, TheVariants.{Draw, Events, Flows, Least, Slack, SlackOf, Why}}}
+use Rattle.lens_forms.specs.Forms.{draw_form, five_words_form, part_form, slack_of_form, three_words_form, why_form}
+use Rattle.lens_forms.specs.declared.form.Form.{Form, TheVariants.{Draw, DrawWhole, Events, Flows, Least, Slack, SlackOf, Why}}
 
 pub no_words : (words : List (List ℕ)) → length words ≤ 0 → None ≡ form_of words
 unfolding form_of
@@ -128,9 +129,9 @@ slack_of_by None is = tt
 slack_of_by (Some rule) is = is
 
 three_words_by : (slack draw flows : Bool) (of : Option Form) → IfSome of IsFormInRange
-    → IfSome (if slack then of else if draw then Some (Draw 0 greatest_number) else if flows then Some Flows else None) IsFormInRange
+    → IfSome (if slack then of else if draw then Some DrawWhole else if flows then Some Flows else None) IsFormInRange
 three_words_by true draw flows of h = h
-three_words_by false true flows of h = omega arith
+three_words_by false true flows of h = tt
 three_words_by false false true of h = tt
 three_words_by false false false of h = tt
 

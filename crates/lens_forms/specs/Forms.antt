@@ -1,12 +1,14 @@
 -- The forms of the words of `lens`.
 use Rattle.std.specs.Option.{option_and_then, option_map}
-use Rattle.std.specs.{Prelude.{if◌then◌else◌, ◌-◌, ◌^◌, ◌∷◌, ◌≤◌, List, None, Option, Some, [], codes, nat_le, ℕ}, Str.bytes_eq}
+use Rattle.std.specs.{Prelude.{if◌then◌else◌, ◌-◌, ◌^◌, ◌∷◌, ◌≤◌, List, None, Option, Some, [], codes, nat_le, ℕ}}
+use Rattle.std.specs.{Str.bytes_eq}
 use Rattle.schedule_tables.specs.declared.rule.Rule.{Rule}
 use Rattle.schedule_tables.specs.declared.rule.Rule.TheVariants.{Correction, Delays, Forwarding, Precision}
 use Rattle.schedule_tables.specs.declared.rule.Rule.TheVariants.{ScheduleStart, Settling, Spacing, WindowEnds}
 use Rattle.trace_text.specs.Numbers.{number_up_to}
 use Rattle.tte_forms.specs.Forms.{cycles_spelled, if_some, most_cycles, seed_spelled}
-use Rattle.lens_forms.specs.declared.form.Form.{Form, TheVariants.{Draw, Events, Flows, Least, Slack, SlackOf, Why}}
+use Rattle.lens_forms.specs.declared.form.Form.{Form}
+use Rattle.lens_forms.specs.declared.form.Form.TheVariants.{Draw, DrawWhole, Events, Flows, Least, Slack, SlackOf, Why}
 
 -- a network alone: `slack NETWORK` and `least NETWORK`
 abbrev pub network_form : List ℕ → Option Form
@@ -40,7 +42,7 @@ greatest_number = 2 ^ 64 - 1
 abbrev pub three_words_form : List ℕ → List ℕ → Option Form
 three_words_form command third =
     if bytes_eq command (codes "slack") then slack_of_form third
-    else if bytes_eq command (codes "draw") then Some (Draw 0 greatest_number)
+    else if bytes_eq command (codes "draw") then Some DrawWhole
     else if bytes_eq command (codes "flows") then Some Flows
     else None
 
@@ -71,7 +73,8 @@ part_form from to = if nat_le from to then Some (Draw from to) else None
 -- a part of a run, by its two times: `draw NETWORK REPORT FROM TO`
 abbrev pub draw_form : List ℕ → List ℕ → Option Form
 draw_form from to =
-    option_and_then (λ f. option_and_then (part_form f) (number_up_to greatest_number to)) (number_up_to greatest_number from)
+    option_and_then (λ f. option_and_then (part_form f) (number_up_to greatest_number to))
+    (number_up_to greatest_number from)
 
 -- a command with five words
 abbrev pub five_words_form : List ℕ → List ℕ → List ℕ → Option Form
@@ -95,6 +98,7 @@ IsFormInRange Slack = Unit {0}
 IsFormInRange (SlackOf rule) = IsInequality rule
 IsFormInRange Least = Unit {0}
 IsFormInRange (Why number) = 1 ≤ number
+IsFormInRange DrawWhole = Unit {0}
 IsFormInRange (Draw from to) = from ≤ to
 IsFormInRange Flows = Unit {0}
 IsFormInRange (Events seed cycles) = (1 ≤ cycles) × (cycles ≤ most_cycles)

@@ -21,7 +21,9 @@ pub enum Form {
         /// At least 1.
         number: u64,
     },
-    /// `draw NETWORK REPORT FROM TO`, and `draw NETWORK REPORT` from the least time to the greatest.
+    /// `draw NETWORK REPORT`.
+    DrawWhole,
+    /// `draw NETWORK REPORT FROM TO`.
     Draw {
         from: u64,
         /// No earlier than `from`.
@@ -83,10 +85,7 @@ fn three_words_form(command: &str, third: &str) -> Option<Form>
 {
     match command {
         "slack" => slack_of_form(third),
-        "draw" => Some(Form::Draw {
-            from: 0,
-            to: u64::MAX,
-        }),
+        "draw" => Some(Form::DrawWhole),
         "flows" => Some(Form::Flows),
         _ => None,
     }

@@ -130,6 +130,20 @@ fn words_of_why_are_read(rt: HostRuntime) -> Result<(), Fail> {
     Ok(())
 }
 
+// Without times the whole run is drawn, and with two the part between them.
+#[test]
+fn words_of_draw_are_read(rt: HostRuntime) -> Result<(), Fail> {
+    let words = words_of(rt.alloc(), &["draw", "a", "b"])?;
+    assert!(rt; read_form(&words) == Some(Form::DrawWhole));
+    let words = words_of(rt.alloc(), &["draw", "a", "b", "0", "18446744073709551615"])?;
+    let part = Form::Draw {
+        from: 0,
+        to: u64::MAX,
+    };
+    assert!(rt; read_form(&words) == Some(part));
+    Ok(())
+}
+
 #[test]
 fn words_of_events_are_read(rt: HostRuntime) -> Result<(), Fail> {
     for (texts, seed, cycles) in EVENTS {

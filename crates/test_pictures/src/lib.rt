@@ -2,8 +2,14 @@
 #![tactic(auto)]
 
 #[cfg(test)]
+mod clocks;
+#[cfg(test)]
 mod drawn;
 #[cfg(test)]
+mod overviews;
+#[cfg(test)]
 mod refused;
+#[cfg(test)]
+mod windows;
 #[cfg(test)]
 mod worked;

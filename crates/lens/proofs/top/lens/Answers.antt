@@ -1,5 +1,5 @@
 use Rattle.std.proofs.Common.{◌≡◌, None, Some, rules}
-use Rattle.lens_forms.specs.{Forms.form_of, declared.form.Form.TheVariants.{Draw, Events, Flows, Least, Slack, SlackOf, Why}}
+use Rattle.lens_forms.specs.{Forms.form_of, declared.form.Form.TheVariants.{Draw, DrawWhole, Events, Flows, Least, Slack, SlackOf, Why}}
 use Rattle.lens_why.specs.Answer.{IsWhyStatus}
 use Rattle.tte_forms.{proofs.Facts.no_usage, specs.{Putting.shown_by, networks.Checking.IsCheckStatus}}
 use Rattle.tte_reports.specs.Answer.{IsAuditStatus}
@@ -41,6 +41,15 @@ returns-in-Some-Why-clause-general g c =
     let shown = shown_by g.K.Sink in
     words_as form first second c.why_record.result (shown c.args.out.now) (shown c.why_record.new.out)
     (no_usage IsWhyStatus c.why_record.result (λ none. none) c.why_record.ensures.statuses, c.why_record.ensures.general)
+
+pub returns-in-Some-DrawWhole-clause-general : goal.returns-in-Some-DrawWhole-clause-general
+returns-in-Some-DrawWhole-clause-general g c =
+    let form : Some DrawWhole ≡ form_of c.args.words.now = search rules in
+    let first = g.A.Source.left c.args.first.now in
+    let second = g.B.Source.left c.args.second.now in
+    let shown = shown_by g.K.Sink in
+    words_as form first second c.draw_whole.result (shown c.args.out.now) (shown c.draw_whole.new.out)
+    (no_usage IsAuditStatus c.draw_whole.result (λ none. none) c.draw_whole.ensures.statuses, c.draw_whole.ensures.general)
 
 pub returns-in-Some-Draw-clause-general : goal.returns-in-Some-Draw-clause-general
 returns-in-Some-Draw-clause-general g c =

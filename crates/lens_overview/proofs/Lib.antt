@@ -1,0 +1,14 @@
+pub mod Members
+pub mod SameShades
+pub mod Ribbons
+pub mod Cells
+pub mod Persisting
+pub mod Counting
+pub mod Narrow
+pub mod Columns
+pub mod Falls
+pub mod Shows
+pub mod Laying
+pub mod Lines
+pub mod Joins
+pub mod Swept

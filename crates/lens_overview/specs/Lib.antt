@@ -1,0 +1,13 @@
+pub mod Rows
+pub mod Shades
+pub mod Changes
+pub mod Grids
+pub mod Strips
+pub mod Putting
+pub mod Boards
+pub mod Pieces
+pub mod Signs
+pub mod Sweeps
+pub mod Overview
+pub mod Answer
+pub mod Laws
