@@ -1,5 +1,6 @@
 -- The conditions in the order in which they are judged.
-use Rattle.std.proofs.{Common.{◌+◌, ◌-◌, ◌<◌, ◌∙◌, ◌∷◌, ◌≡◌, ◌≤◌, ◌⊎◌, List, [], ap, arith, inl, inr, refl, suc, sym, zero, ℕ}, lemmas.Bool.{cases_lt, cases_order}}
+use Rattle.std.proofs.{Common.{◌+◌, ◌-◌, ◌<◌, ◌∙◌, ◌∷◌, ◌≡◌, ◌≤◌, ◌⊎◌, List, [], ap, arith, inl, inr, refl, suc, sym, zero, ℕ}}
+use Rattle.std.proofs.lemmas.Bool.{cases_lt, cases_order}
 use Rattle.std.specs.List.{slice_index_or}
 use Rattle.run_law.specs.declared.outside.Outside.{Outside}
 use Rattle.run_law.specs.declared.outside.Outside.TheVariants.{Channel, Hold, Late, NotBroken, NotMaster, NotOff, Order, Rate, SecondBreak, TooFewMasters, Wire}

@@ -1,5 +1,6 @@
 -- The deliveries of a flow.
-use Rattle.std.specs.Prelude.{if◌then◌else◌, ◌≡◌, ◌⊎◌, ◌<◌, ℕ, ◌+◌, Bool, true, false, ◌&&◌, ◌==◌, List, filter, filter_map, length, Option, Some, None}
+use Rattle.std.specs.Prelude.{if◌then◌else◌, ◌≡◌, ◌⊎◌, ◌<◌, ℕ, ◌+◌, Bool, true, false, ◌&&◌, ◌==◌, List, filter}
+use Rattle.std.specs.Prelude.{filter_map, length, Option, Some, None}
 use Rattle.flow_counts.specs.Nearest.{IsInsideSome, TellsLeast, nearer, place_at}
 use Rattle.flow_counts.specs.declared.deliveries.{Deliveries.Deliveries, Delivery.Delivery}
 use Rattle.flow_counts.specs.declared.nearest.Nearest.{Nearest}

@@ -1,7 +1,8 @@
 //! The deliveries of a flow.
 
 ghost use Rattle.std.specs.Prelude.{◌≡◌, ◌<◌, ◌^◌, ◌≤◌, All, List};
-ghost use Rattle.flow_counts.specs.Deliveries.{AreDeliveries, IsBelow, IsOneMore, delivery_by, is_channel, is_of, is_on};
+ghost use Rattle.flow_counts.specs.Deliveries.{AreDeliveries, IsBelow, IsOneMore, delivery_by, is_channel, is_of};
+ghost use Rattle.flow_counts.specs.Deliveries.{is_on};
 ghost use Rattle.flow_counts.specs.Deliveries.{one_if};
 ghost use Rattle.flow_judge.specs.{Courses.{IsCourse, IsFit, IsSomeCourse, scenario_of}, Flows.IsFlow};
 ghost use Rattle.net_plan.specs.declared.event.Event.{Event};

@@ -51,7 +51,8 @@ pub none_begun : (s : Scenario) (hs : List Happening) (device : DeviceId) (shown
 none_begun s hs device shown series after until before are shows last none t lt early one =
     none t (one.0 - 1) lt early (begins_crosses s hs device shown series t one.0 are (shows t lt (omega (arith, early, last))) one.1)
 
-pub first_begun : (s : Scenario) (hs : List Happening) (device : DeviceId) (shown : Shown) (series : Series) (after until : ℕ) (crossed : Crossed) (begun : Begun)
+pub first_begun : (s : Scenario) (hs : List Happening) (device : DeviceId) (shown : Shown) (series : Series) (after until : ℕ) (crossed : Crossed)
+    (begun : Begun)
     → ReadsOn (s.reading device) → AreBeginnings s series → ShowsWithin s hs device after until shown
     → IsNextCrossing (s.reading device) shown series after until crossed → begun.time ≡ crossed.time → begun.cycle ≡ crossed.number + 1
     → IsFirstBegun s hs device after until begun

@@ -17,7 +17,8 @@ abbrev pub BeginsOne : Scenario → List Happening → DeviceId → ℕ → Type
 BeginsOne s hs device t = (cycle : ℕ) × BeginsCycle s hs device t cycle
 
 -- this is the first that it begins later than `after`, up to `until`
-pub record IsFirstBegun (s : Scenario) (hs : List Happening) (device : DeviceId) (after until : ℕ) (begun : Begun) : Type 0
+pub record IsFirstBegun (s : Scenario) (hs : List Happening) (device : DeviceId) (after until : ℕ) (begun : Begun)
+    : Type 0
   where
     pub first : IsFirstTime (BeginsOne s hs device) after until begun.time
     pub begins : BeginsCycle s hs device begun.time begun.cycle

@@ -36,12 +36,14 @@ pub record ReachesInStep (s : Scenario) (hs : List Happening) (device : DeviceId
   pub synchronised : state_after s (up_to t hs) device ≡ Synchronised
 
 -- it did so before this time, for the place in the cycle
-pub record HasComeInStep (s : Scenario) (hs : List Happening) (device : DeviceId) (cycle place before : ℕ) : Type 0 where
+pub record HasComeInStep (s : Scenario) (hs : List Happening) (device : DeviceId) (cycle place before : ℕ)
+    : Type 0 where
   pub time : ℕ
   pub early : time < before
   pub reaches : ReachesInStep s hs device cycle place time
 
--- where the row at the place is one of the virtual link that leaves the sender, the sender's clock came to its offset so
+-- where the row at the place is one of the virtual link that leaves the sender, so the sender's clock came to its
+-- offset
 abbrev pub IsRowSent : Scenario → List Happening → Flow → ℕ → ℕ → ℕ → Type 0
 IsRowSent s hs flow cycle to place =
     (entry : Entry) → IsEntry s.network place entry → entry.row.vl ≡ flow.vl → source_of entry ≡ flow.of_vl.sender
@@ -64,8 +66,8 @@ IsReady s hs until flow cycle from =
     (t : ℕ) → from ≤ t → t ≤ until → ((to : ℕ) → Ends s hs until flow cycle from to → t ≤ to)
     → IsInStep s hs flow.device t
 
--- what becomes of it: it is owed; or the receiver is not ready; or it is, but the run ends first; or it is ready and comes
--- to the end, and so it lies with the sender
+-- what becomes of it: it is owed; or the receiver is not ready; or it is, but the run ends first; or it is ready and
+-- comes to the end, and so it lies with the sender
 abbrev pub HasFate : Scenario → List Happening → ℕ → Flow → ℕ → ℕ → Fate → Type 0
 HasFate s hs until flow cycle from fates.Owed = IsOwedFrom s hs until flow cycle from
 HasFate s hs until flow cycle from fates.Receiver = IsReady s hs until flow cycle from → ⊥

@@ -7,8 +7,8 @@ use Rattle.net_plan.specs.declared.network.Network.{Network}
 use Rattle.run_law.specs.law.Safety.{IsRowInto, IsWindowEnd}
 use Rattle.schedule_tables.specs.declared.entry.Entry.{Entry}
 
--- the virtual link of the flow stands at its place; a row of it leads into the device, which is an end system; and so far
--- into the cycle the last of its windows there ends
+-- the virtual link of the flow stands at its place; a row of it leads into the device, which is an end system; and so
+-- far into the cycle the last of its windows there ends
 pub record IsFlow (network : Network) (flow : Flow) : Type 0 where
   pub there : slice_get network.vl flow.vl.0 ≡ Some flow.of_vl
   pub end_system : IsEndSystem network flow.device

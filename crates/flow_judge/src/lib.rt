@@ -1,5 +1,5 @@
-//! Whether the delivery of a virtual link's frame to a receiver is owed in a cycle of a run, and if not, why. It is judged
-//! by what the events have set and by what the records show of the devices.
+//! Whether the delivery of a virtual link's frame to a receiver is owed in a cycle of a run, and if not, why. It is
+//! judged by what the events have set and by what the records show of the devices.
 #![tactic(auto)]
 
 mod beginning;

@@ -21,8 +21,8 @@ use audit_unpaid_clocks::end_of;
 use net_plan::{DeviceId, Network};
 
 impl Course<'_> {
-    // The first time later than `after`, up to `until`, at which the device's clock reaches the place of the cycle. `until`
-    // is at most 2^60.
+    // The first time later than `after`, up to `until`, at which the device's clock reaches the place of the cycle.
+    // `until` is at most 2^60.
     pub(crate) fn first_reached(
         &self,
         device: DeviceId,

@@ -14,8 +14,8 @@ use net_plan::{DeviceId, RowId};
 use schedule_tables::{entries_law, entry_of};
 
 impl Course<'_> {
-    // Did the sender's clock come to each of its offsets in the cycle before this time, where it was synchronised, and is it
-    // correct then? The time is at most 2^60.
+    // Did the sender's clock come to each of its offsets in the cycle before this time, where it was synchronised, and
+    // is it correct then? The time is at most 2^60.
     pub(crate) fn is_sent(&self, flow: &Flow, cycle: u64, before: u64) -> bool
         requires fit { IsFit self.now }
         requires known { IsSomeCourse self.now }
@@ -36,8 +36,8 @@ impl Course<'_> {
         true
     }
 
-    // Did the sender's clock come to the offset of the row in the cycle before this time, where it was synchronised, if the
-    // row is one of the virtual link that leaves the sender?
+    // Did the sender's clock come to the offset of the row in the cycle before this time, where it was synchronised, if
+    // the row is one of the virtual link that leaves the sender?
     fn is_row_sent(&self, flow: &Flow, row: RowId, cycle: u64, before: u64) -> bool
         requires fit { IsFit self.now }
         requires known { IsSomeCourse self.now }

@@ -53,7 +53,8 @@ note_in : (network : Network) (before rest : List Note) (note : Note)
 note_in network before rest note =
     let h = happening network (happenings network before) note in
     let on = happenings_on network (before ++ note ∷ []) rest in
-    let whole = ap (happenings network) (sym (append_assoc before (note ∷ []) rest)) ∙ on.1 ∙ ap (λ (hs : List Happening). hs ++ on.0) (one_more network before note) in
+    let whole = ap (happenings network) (sym (append_assoc before (note ∷ []) rest)) ∙ on.1
+    ∙ ap (λ (hs : List Happening). hs ++ on.0) (one_more network before note) in
     subst (λ (hs : List Happening). IsIn h hs) (sym whole)
     (in_left h (happenings network before ++ h ∷ []) on.0 (in_right h (happenings network before) (h ∷ []) (inl refl)))
 

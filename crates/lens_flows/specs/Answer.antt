@@ -29,7 +29,8 @@ pub record IsMissingAt (s : Scenario) (hs : List Happening) (until : ℕ) (flow 
 -- this is told of all flows of the network, in their order, for these records, which tell this end
 pub record AreAllTold (network : Network) (ns : List Note) (end : Units) (told : List FlowTold) : Type 0 where
   pub are : AreFlows network (map (λ one. one.flow) told)
-  pub each : All (IsTold (scenario_under network (events_of ns)) (happenings network ns) (amount end) (deliveries_of ns)) told
+  pub each : All (IsTold (scenario_under network (events_of ns)) (happenings network ns) (amount end)
+      (deliveries_of ns)) told
 
 -- the lines of what was told, where nothing is missing
 abbrev pub told_answer : Network → List FlowTold → Answer

@@ -1,6 +1,7 @@
 -- The line of a flow.
 --
---     flow VL to DEVICE owed N delivered N by a N by b N missing N not owed receiver N sender N end N nearest early E late L
+--     flow VL to DEVICE owed N delivered N by a N by b N missing N
+--         not owed receiver N sender N end N nearest early E late L
 --
 -- Behind `nearest` stands `none` where no frame is delivered within its window.
 use Rattle.std.specs.Prelude.{ℕ, List, ◌++◌, codes, decimal, Option, Some, None}
@@ -17,8 +18,8 @@ count_words word n = codes " " ++ (word ++ (codes " " ++ decimal n))
 unfoldable pub flow_words : Network → Flow → List ℕ
 flow_words network flow = codes "flow " ++ (vl_name network flow.vl ++ (codes " to " ++ device_name network flow.device))
 
--- in how many cycles delivery is owed, how many frames are delivered, and how many on each channel, and how many that are
--- owed are not delivered
+-- in how many cycles delivery is owed, how many frames are delivered, and how many on each channel, and how many that
+-- are owed are not delivered
 unfoldable pub delivered_words : FlowTold → ℕ → List ℕ
 delivered_words t missing =
     count_words (codes "owed") t.fates.owed

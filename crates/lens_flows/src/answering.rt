@@ -18,9 +18,9 @@ use tte_forms::{Status, accept, end_with, put_no_network};
 use tte_io::{LineText, Sink, Source};
 use tte_reports::{AuditedReport, put_no_report, read_report};
 
-/// Tells of each flow of the network of the first file what the report of the second shows: in how many cycles delivery is
-/// owed, how many frames are delivered and on which channel, how many are missing, in how many cycles none is owed and
-/// by which premise, and how near deliveries came to the ends of their windows.
+/// Tells of each flow of the network of the first file what the report of the second shows: in how many cycles delivery
+/// is owed, how many frames are delivered and on which channel, how many are missing, in how many cycles none is owed
+/// and by which premise, and how near deliveries came to the ends of their windows.
 ///
 /// The second file is read only where the network is accepted, and is audited before anything is put. `flows_law` says
 /// that none is missing.

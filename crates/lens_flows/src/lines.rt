@@ -1,7 +1,8 @@
 //! The line of a flow.
 
 ghost use Rattle.std.specs.Prelude.{◌++◌, ◌+◌, ◌≡◌, ◌≤◌, length};
-ghost use Rattle.lens_flows.specs.Lines.{count_words, delivered_words, flow_line, flow_words, nearest_words, unowed_words};
+ghost use Rattle.lens_flows.specs.Lines.{count_words, delivered_words, flow_line, flow_words, nearest_words};
+ghost use Rattle.lens_flows.specs.Lines.{unowed_words};
 ghost use Rattle.lens_flows.specs.Writing.{IsWritable};
 ghost use Rattle.net_plan.specs.{Belonging.{HasDevice, HasVl}, Ranges.IsInRange};
 

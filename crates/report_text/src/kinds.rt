@@ -22,7 +22,8 @@ pub(crate) fn push_event(line: &mut LineText, network: &Network, of_trace: u64, 
     requires in_range { IsInRange network.now }
     requires of_network { IsOfNetwork network.now what.now }
     requires room { length line.old + longest_body ≤ line_limit }
-    ensures text { line.new ≡ line.old ++ join_with_byte space (body_words network.now (bodies.Event of_trace what.now)) }
+    ensures text { line.new ≡ line.old
+        ++ join_with_byte space (body_words network.now (bodies.Event of_trace what.now)) }
     ensures grows { length line.new ≤ length line.old + longest_body }
 {
     line.push("event ");

@@ -72,7 +72,8 @@ pub fn write_in<K: Sink>(
     requires of_network { IsNoteOf network.now note.now }
 
     ensures all { OnOk result (Appends (K.written out.old) (K.written out.new) (note_line network.now note.now)) }
-    ensures front { OnErr result (AppendsFront (K.written out.old) (K.written out.new) (note_line network.now note.now)) }
+    ensures front { OnErr result
+        (AppendsFront (K.written out.old) (K.written out.new) (note_line network.now note.now)) }
     ensures counted { K.puts out.new ≡ next_count (K.puts out.old) }
 
     ensures never_falls { K.faults out.old ≤ K.faults out.new }

@@ -72,7 +72,22 @@ drops_by count = record {
 same_drops : (f g : List ℕ → ℕ) → ((word : List ℕ) → f word ≡ g word) → drops_by f ≡ drops_by g
 unfolding drops_by
 same_drops f g same =
-    rw (same (codes "off"), same (codes "refused"), same (codes "coldstart"), same (codes "domain"), same (codes "member"), same (codes "old"), same (codes "gate"), same (codes "cycle"), same (codes "unsynchronised"), same (codes "unknown"), same (codes "length"), same (codes "early"), same (codes "late"), same (codes "repeat")) refl
+    rw (
+      same (codes "off"),
+      same (codes "refused"),
+      same (codes "coldstart"),
+      same (codes "domain"),
+      same (codes "member"),
+      same (codes "old"),
+      same (codes "gate"),
+      same (codes "cycle"),
+      same (codes "unsynchronised"),
+      same (codes "unknown"),
+      same (codes "length"),
+      same (codes "early"),
+      same (codes "late"),
+      same (codes "repeat"),
+    ) refl
 
 -- the drops go on
 drops_grow : (notes : List Note) (note : Note) → drops_of (notes ++ note ∷ []) ≡ drops_with note.body (drops_of notes)
@@ -96,7 +111,16 @@ counts_by all count drops = record {
 same_counts : (n m : ℕ) (f g : List ℕ → ℕ) (d e : Drops) → n ≡ m → ((word : List ℕ) → f word ≡ g word) → d ≡ e → counts_by n f d ≡ counts_by m g e
 unfolding counts_by
 same_counts n m f g d e all same drops =
-    rw (all, drops, same (codes "compressed"), same (codes "corrected"), same (codes "lost"), same (codes "ttsent"), same (codes "accepted"), same (codes "delivered")) refl
+    rw (
+      all,
+      drops,
+      same (codes "compressed"),
+      same (codes "corrected"),
+      same (codes "lost"),
+      same (codes "ttsent"),
+      same (codes "accepted"),
+      same (codes "delivered"),
+    ) refl
 
 -- the counts go on
 pub counts_grow : (notes : List Note) (note : Note) → counts_of (notes ++ note ∷ []) ≡ counts_with note.body (counts_of notes)

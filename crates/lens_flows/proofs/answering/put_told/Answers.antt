@@ -13,7 +13,8 @@ flows-preserved g c =
     let all = c.args.told.now in
     let n = c.flows.one-index in
     let line_of = λ (one : FlowTold). flow_line c.args.network.now one 0 in
-    let next = next_line c.args.network.now all _ n c.as_slice.result.now c.flows-test.true (c.as_slice.ensures ∙ c.make_flow_line.ensures ∙ ap line_of c.one-item.is) in
+    let next = next_line c.args.network.now all _ n c.as_slice.result.now c.flows-test.true (c.as_slice.ensures ∙ c.make_flow_line.ensures
+    ∙ ap line_of c.one-item.is) in
     let lines = ap (λ (ts : List FlowTold). map line_of ts) next.front ∙ map-append line_of (take n all) (next.one ∷ []) in
     let whole =
     subst (λ (bytes : List ℕ). Appends (g.K.Sink.written c.flows.out) (g.K.Sink.written c.put.new.self) bytes) next.line c.in-Ok.ensures.all in
@@ -41,7 +42,8 @@ returns-in-Err-clause-gives g c =
     let all = c.args.told.now in
     let n = c.flows.one-index in
     let line_of = λ (one : FlowTold). flow_line c.args.network.now one 0 in
-    let next = next_line c.args.network.now all _ n c.as_slice.result.now c.flows-test.true (c.as_slice.ensures ∙ c.make_flow_line.ensures ∙ ap line_of c.one-item.is) in
+    let next = next_line c.args.network.now all _ n c.as_slice.result.now c.flows-test.true (c.as_slice.ensures ∙ c.make_flow_line.ensures
+    ∙ ap line_of c.one-item.is) in
     let rest = drop (n + 1) all in
     let split : all ≡ take n all ++ next.one ∷ rest = sym (take-append-drop n all) ∙ ap (λ (ts : List FlowTold). take n all ++ ts) next.rest in
     let lines : map line_of all ≡ map line_of (take n all) ++ line_of next.one ∷ map line_of rest =

@@ -36,7 +36,8 @@ returns-then-is_some c befallen hs known =
     let shows : ShowsWithin s hs device from c.end_of-end.result c.after_time-next.result.0.now =
     subst (λ (n : ℕ). ShowsWithin s hs device from n c.after_time-next.result.0.now) (sym ends)
     (shows_within s hs device from until c.after_time-next.result.1 c.after_time-next.result.0.now (c.after_time-next.ensures.shows s hs known.stands)) in
-    tells_behind (ReachesPlace s hs device c.args.cycle c.args.place) c.args.after from c.end_of-end.result until c.first_within-reached.result c.stretches.invariant.0
+    tells_behind (ReachesPlace s hs device c.args.cycle c.args.place) c.args.after from c.end_of-end.result until c.first_within-reached.result
+    c.stretches.invariant.0
     (omega (arith, near, ends)) (sym c.is_some.ensures ∙ c.if-is_some.true) (c.stretches.invariant.1 befallen hs known)
     (c.first_within-reached.ensures befallen hs known shows)
 

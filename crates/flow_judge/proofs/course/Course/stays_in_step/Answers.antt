@@ -52,7 +52,8 @@ stretches-smaller c =
     let s = scenario_of c.args.self.now known.0 in
     let le = c.stretches-test.true in
     let ends = c.end_of-after.ensures in
-    let later = end_later c.after_time-next.result.1 (c.args.to + 1) c.stretches.after (omega (arith, le)) (c.after_time-next.ensures.later s known.1 known.2.stands) in
+    let later = end_later c.after_time-next.result.1 (c.args.to + 1) c.stretches.after (omega (arith, le))
+    (c.after_time-next.ensures.later s known.1 known.2.stands) in
     omega (arith, le, ends, later)
 
 pub stretches-preserved : goal.stretches-preserved
@@ -73,7 +74,8 @@ stretches-preserved c =
           subst (λ (n : ℕ). ShowsWithin s hs device c.stretches.after n c.after_time-next.result.0.now) (sym ends)
           (shows_within s hs device c.stretches.after (c.args.to + 1) c.after_time-next.result.1 c.after_time-next.result.0.now
           (c.after_time-next.ensures.shows s hs known.stands)) in
-          stays_on s hs device c.args.from c.stretches.after c.end_of-after.result c.after_time-next.result.0.now (c.stretches.invariant.2 befallen hs known) shows
+          stays_on s hs device c.args.from c.stretches.after c.end_of-after.result c.after_time-next.result.0.now (c.stretches.invariant.2 befallen hs known)
+          shows
           (search rules),
     )
 
