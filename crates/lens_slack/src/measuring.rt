@@ -12,7 +12,7 @@ use crate::tightest::tighter_of;
 use crate::{Finding, Measure, Spot};
 use net_plan::{DeviceId, Network, RowId, rules_give_trees};
 use pcf_values::Channel;
-use schedule_checker::{Plan, PlanRule, broken_plan, judge_shape};
+use schedule_checker::{Plan, PlanRule, broken_plan, groups_of, judge_shape};
 use schedule_tables::{Rule, entries_of};
 use std::alloc::Global;
 use tte_io::OutOfMemory;
@@ -56,9 +56,14 @@ pub(crate) fn slack_of(
         Ok(entries) => entries,
         Err(_) => return Err(OutOfMemory),
     };
+    let groups = match groups_of(alloc, &entries) {
+        Ok(groups) => groups,
+        Err(_) => return Err(OutOfMemory),
+    };
     let plan = Plan {
         network,
         entries: &entries,
+        groups: &groups,
         beta: network.beta(),
     };
     take_steps(alloc, &plan, steps)

@@ -14,3 +14,5 @@ pub mod EntryPlaces
 pub mod PortLemmas
 pub mod RouteLemmas
 pub mod Selection
+pub mod SomePlaces
+pub mod Grouping

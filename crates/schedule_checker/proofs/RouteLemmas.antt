@@ -1,54 +1,44 @@
 -- What holds of a network's entries, said of its virtual links.
-use Rattle.std.proofs.Common.{◌<◌, ◌∙◌, ◌≡◌, ◌≢◌, ◌⊎◌, Bool, List, Some, arith, false, inl, inr, refl, subst, sym, take, true, ℕ, ⊎_elim}
-use Rattle.std.{proofs.lemmas.Bool.Decides.Decides-like, specs.{Bool.Decides, List.{All, enumerate_from, slice_get}}}
+use Rattle.std.proofs.Common.{◌<◌, ◌∙◌, ◌≡◌, ◌≢◌, ◌⊎◌, Bool, List, Some, false, inl, inr, refl, subst, sym, take, true, ℕ, ⊎_elim}
+use Rattle.std.{proofs.lemmas.Bool.Decides.Decides-like, specs.{Bool.Decides, List.{All, slice_get}}}
 use Rattle.net_plan.specs.{Places.IsEndSystem, declared.{ids.{DeviceId.DeviceId, VlId.VlId}, network.Network.Network, tables.Row.Row}}
 use Rattle.net_plan.specs.declared.tables.VirtualLink.{VirtualLink}
 use Rattle.pcf_values.specs.declared.channel.Channel.{Channel, TheVariants.{A, B}}
 use Rattle.schedule_tables.specs.Entries.{AreEntries, EntryIsOne, IsEntry, IsOnChannel, source_of, target_of}
 use Rattle.schedule_tables.specs.Schedule.{EntersAnew, EntersOn, GoesByBothChannels, GoesOnceByLink, HasSource, IsSwitch, LeavesOn}
 use Rattle.schedule_tables.specs.declared.entry.Entry.{Entry}
-use Rattle.schedule_checker.proofs.EntryPlaces.{all_of_earlier, earlier_of_all, stands_at}
-use Rattle.schedule_checker.proofs.Selection.{Each, Holds, all_of_below, below_of_all, from_enumerate, into_enumerate}
-use Rattle.schedule_checker.specs.Routes.{EntersAgain, EntersAlike, EntersAllAlike, EntersEndSystem, IsEnteredElsewhere, LeavesOnBoth, ShareChannel}
+use Rattle.tte_lemmas.proofs.Options.{some_same}
+use Rattle.schedule_checker.proofs.{EntryPlaces.{all_of_earlier, earlier_of_all, entry_at, stands_at}, SomePlaces.HoldsBy}
+use Rattle.schedule_checker.proofs.Selection.{Each, Holds}
+use Rattle.schedule_checker.specs.Routes.{EntersAgain, EntersAlike, EntersAllAlike, EntersEndSystem, EntersSource, GoesElsewhere, IsEnteredElsewhere}
+use Rattle.schedule_checker.specs.Routes.{IsEntering, IsEnteringEnd, IsLeaving, LeavesOnBoth, ShareChannel, TargetIsAlike}
 use Rattle.schedule_tables.specs.Schedule
 
 -- ---- a virtual link goes once by a link
 
-abbrev pub IsOtherThan : Row → Row → Type 0
-IsOtherThan row other = row.vl ≡ other.vl → row.link ≢ other.link
-
-pub goes_once : (n : Network) (place : ℕ) (front : List Row) (row : Row) (r : Bool) → slice_get n.row place ≡ Some row → front ≡ take place n.row
-    → Decides r (All (IsOtherThan row) front) → Decides r (GoesOnceByLink n place)
-goes_once n place front row r at cut =
+pub goes_once : (n : Network) (es : List Entry) (place : ℕ) (e : Entry) (r : Bool) → AreEntries n es → EntryIsOne → IsEntry n place e
+    → Decides r (All (GoesElsewhere e) (take place es)) → Decides r (GoesOnceByLink n place)
+goes_once n es place e r are one at =
     Decides-like r
-    (λ all k earlier here below is was. let same : row ≡ here = cc in subst (λ (x : Row). IsOtherThan x earlier) same
-    (below_of_all (IsOtherThan row) n.row place (subst (λ (xs : List Row). All (IsOtherThan row) xs) cut all) k earlier below is))
-    (λ kept. subst (λ (xs : List Row). All (IsOtherThan row) xs) (sym cut)
-    (all_of_below (IsOtherThan row) n.row place (λ k earlier below is. kept k earlier row below is at)))
+    (λ all k earlier here below was is.
+    let found = entry_at n es are k earlier was in
+    let apart : GoesElsewhere e found.0 = earlier_of_all n es (take place es) place (GoesElsewhere e) are one refl all k found.0 below found.1 in
+    let same : e.row ≡ here = some_same e.row here (slice_get n.row place) at.row is in
+    subst (λ (x : Row). x.vl ≡ earlier.vl → x.link ≢ earlier.link) same
+    (subst (λ (y : Row). e.row.vl ≡ y.vl → e.row.link ≢ y.link) found.2 apart))
+    (λ kept. all_of_earlier n es (take place es) place (GoesElsewhere e) are refl (λ k earlier below was. kept k earlier.row e.row below was.row at.row))
 
 -- ---- rows of a virtual link on a channel
 
--- the entry is of the virtual link, on the channel, and leaves the device
-abbrev pub Leaves : Network → VlId → Channel → DeviceId → Entry → Type 0
-Leaves n vl channel device e = (e.row.vl ≡ vl) × (source_of e ≡ device) × IsOnChannel n channel e
-
--- the entry is of the virtual link, on the channel, and enters the device
-abbrev pub Enters : Network → VlId → Channel → DeviceId → Entry → Type 0
-Enters n vl channel device e = (e.row.vl ≡ vl) × (target_of e ≡ device) × IsOnChannel n channel e
-
--- the entry is of the virtual link and enters an end system on a channel
-abbrev pub EntersEnd : Network → VlId → Entry → Type 0
-EntersEnd n vl e = (e.row.vl ≡ vl) × IsEndSystem n (target_of e) × (IsOnChannel n A e ⊎ IsOnChannel n B e)
-
 pub leaves_on : (n : Network) (es : List Entry) (vl : VlId) (channel : Channel) (device : DeviceId) (r : Bool) → AreEntries n es → EntryIsOne
-    → Decides r (Holds (Leaves n vl channel device) es) → Decides r (LeavesOn n vl channel device)
+    → Decides r (Holds (IsLeaving n vl channel device) es) → Decides r (LeavesOn n vl channel device)
 leaves_on n es vl channel device r are one =
     Decides-like r
     (λ some. record { place = some.0; entry = some.1; is = are.each some.0 some.1 some.2; same_vl = some.3.0; on_channel = some.3.2; source = some.3.1 })
     (λ l. (l.place, l.entry, stands_at n es are one l.place l.entry l.is, (l.same_vl, l.source, l.on_channel)))
 
 pub enters_on : (n : Network) (es : List Entry) (vl : VlId) (channel : Channel) (device : DeviceId) (r : Bool) → AreEntries n es → EntryIsOne
-    → Decides r (Holds (Enters n vl channel device) es) → Decides r (EntersOn n vl channel device)
+    → Decides r (Holds (IsEntering n vl channel device) es) → Decides r (EntersOn n vl channel device)
 enters_on n es vl channel device r are one =
     Decides-like r
     (λ some. record { place = some.0; entry = some.1; is = are.each some.0 some.1 some.2; same_vl = some.3.0; on_channel = some.3.2; target = some.3.1 })
@@ -63,7 +53,7 @@ on_either : (n : Network) (e : Entry) (channel : Channel) → IsOnChannel n chan
 on_either n e A h = inl h
 on_either n e B h = inr h
 
-pub enters_end_system : (n : Network) (es : List Entry) (vl : VlId) (r : Bool) → AreEntries n es → EntryIsOne → Decides r (Holds (EntersEnd n vl) es)
+pub enters_end_system : (n : Network) (es : List Entry) (vl : VlId) (r : Bool) → AreEntries n es → EntryIsOne → Decides r (Holds (IsEnteringEnd n vl) es)
     → Decides r (EntersEndSystem n vl)
 enters_end_system n es vl r are one =
     Decides-like r
@@ -89,10 +79,6 @@ enters_end_system n es vl r are one =
     ))
 
 -- ---- the same end systems on both channels
-
--- the device that an entry of the virtual link enters is entered alike
-abbrev pub TargetIsAlike : Network → VlId → Entry → Type 0
-TargetIsAlike n vl e = e.row.vl ≡ vl → EntersAlike n vl (target_of e)
 
 pub enters_all_alike : (n : Network) (es : List Entry) (vl : VlId) (r : Bool) → AreEntries n es → EntryIsOne → Decides r (Each (TargetIsAlike n vl) es)
     → Decides r (EntersAllAlike n vl)
@@ -136,30 +122,16 @@ both_channels n place vl at leaves enters alike = record {
 
 -- ---- sources
 
--- the second entry, at this place, is not at the place of the first, of its virtual link, and enters its source
-abbrev pub EntersElsewhere : ℕ → Entry → ℕ × Entry → Type 0
-EntersElsewhere place e p = (p.0 ≢ place) × (p.1.row.vl ≡ e.row.vl) × (target_of p.1 ≡ source_of e)
+-- the other, which stands elsewhere, enters the entry's source
+abbrev pub EntersFrom : ℕ → Entry → ℕ → Entry → Type 0
+EntersFrom place e at other = (at ≢ place) × EntersSource e other
 
-pub entered_elsewhere : (es : List Entry) (place : ℕ) (e : Entry) (r : Bool) → Decides r (Holds (EntersElsewhere place e) (enumerate_from 0 es))
+pub entered_elsewhere : (es : List Entry) (place : ℕ) (e : Entry) (r : Bool) → Decides r (HoldsBy (EntersFrom place e) es)
     → Decides r (IsEnteredElsewhere es place e)
 entered_elsewhere es place e r =
     Decides-like r
-    (λ some. let found = from_enumerate es 0 some.0 some.1 some.2 in
-    record {
-      at = some.1.0;
-      other = some.1.1;
-      there = subst (λ (i : ℕ). slice_get es i ≡ Some some.1.1) (omega (arith, found.0)) found.1;
-      elsewhere = some.3.0;
-      same_vl = some.3.1;
-      target = some.3.2;
-    })
-    (λ h. (
-      h.at,
-      (h.at, h.other),
-      subst (λ (i : ℕ). slice_get (enumerate_from 0 es) h.at ≡ Some (i, h.other)) (omega arith)
-          (into_enumerate es 0 h.at h.other h.there),
-      (h.elsewhere, h.same_vl, h.target),
-    ))
+    (λ some. record { at = some.0; other = some.1; there = some.2; elsewhere = some.3.0; same_vl = some.3.1.0; target = some.3.1.1 })
+    (λ h. (h.at, h.other, h.there, (h.elsewhere, (h.same_vl, h.target))))
 
 -- the entry's source, if it is no sender, is a switch that another entry of the virtual link enters
 abbrev pub IsFed : Network → List Entry → ℕ → Entry → Type 0

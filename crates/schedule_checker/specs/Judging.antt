@@ -8,6 +8,7 @@ use Rattle.schedule_tables.specs.declared.rule.Rule.TheVariants.{Limits, LinksDi
 use Rattle.schedule_tables.specs.declared.rule.Rule.TheVariants.{Precision, RowsOfDevice, ScheduleStart, Senders}
 use Rattle.schedule_tables.specs.declared.rule.Rule.TheVariants.{Settling, Sources, Spacing, Targets, VlIdsDiffer}
 use Rattle.schedule_tables.specs.declared.rule.Rule.TheVariants.{VlNamesDiffer, WindowEnds}
+use Rattle.schedule_checker.specs.Groups.{AreGroups}
 use Rattle.schedule_checker.specs.declared.{judge.Plan.Plan, parts.{PlanRule.PlanRule, ShapeRule.ShapeRule}}
 use Rattle.schedule_checker.specs.declared.parts.PlanRule.TheVariants as plans
 use Rattle.schedule_checker.specs.declared.parts.ShapeRule.TheVariants as shapes
@@ -75,10 +76,11 @@ pub record BreaksAt (network : Network) (rule : Rule) (place : ℕ) : Type 0 whe
   pub places : (k : ℕ) → k < place → IsKeptAt rule network k
   pub broken : ¬ IsKeptAt rule network place
 
--- what the rules behind those of the shape speak of: the trees that these leave, the entries of the rows,
--- and beta
+-- what the rules behind those of the shape speak of: the trees that these leave, the entries of the rows in
+-- their groups, and beta
 pub record IsPlan (plan : Plan) : Type 0 where
   pub range : IsInRange plan.network.now
   pub tree : IsTree plan.network.now
   pub entries : AreEntries plan.network.now plan.entries.now
+  pub groups : AreGroups plan.entries.now plan.groups.now
   pub beta : IsBeta plan.network.now plan.beta.0

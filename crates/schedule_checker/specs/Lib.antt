@@ -1,3 +1,4 @@
+pub mod Groups
 pub mod Ports
 pub mod Refusals
 pub mod Judging

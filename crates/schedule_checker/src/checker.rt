@@ -3,6 +3,7 @@ ghost use Rattle.net_plan.specs.Ranges.{IsInRange};
 ghost use Rattle.schedule_tables.specs.{Numbers.number_of, Rules.KeepsRules};
 ghost use Rattle.schedule_checker.specs.Refusals.{IsUnfitBy};
 
+use crate::groups::groups_of;
 use crate::judge::{Broken, Plan, judge_plan, judge_shape};
 use crate::{RuleBroken, Unfit};
 use net_plan::{Network, rules_give_trees};
@@ -39,9 +40,14 @@ fn judge(alloc: Global, network: &Network) -> Result<(), Unfit>
         Ok(entries) => entries,
         Err(_) => return Err(Unfit::OutOfMemory),
     };
+    let groups = match groups_of(alloc, &entries) {
+        Ok(groups) => groups,
+        Err(_) => return Err(Unfit::OutOfMemory),
+    };
     let plan = Plan {
         network,
         entries: &entries,
+        groups: &groups,
         beta: network.beta(),
     };
     match judge_plan(&plan) {

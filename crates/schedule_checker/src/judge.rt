@@ -4,6 +4,7 @@ ghost use Rattle.schedule_checker.specs.Judging.{BreaksAt, IsPlan, places_of, pl
 ghost use Rattle.schedule_tables.specs.Numbers.{number_of};
 ghost use Rattle.schedule_tables.specs.Rules.{IsFirstBroken, IsKept, IsKeptAt, KeepsBelow, KeepsRules};
 
+use crate::groups::Groups;
 use crate::kept::{keeps_plan_rule, keeps_shape_rule};
 use crate::parts::{PlanRule, ShapeRule};
 use crate::places::places_of;
@@ -23,6 +24,7 @@ pub struct Broken {
 pub struct Plan<'a> {
     pub network: &'a Network,
     pub entries: &'a [Entry],
+    pub groups: &'a Groups,
     pub beta: Units,
 }
 

@@ -44,6 +44,7 @@ pub(crate) fn keeps_plan_rule(rule: PlanRule, plan: &Plan<'_>, place: u32) -> bo
     let Plan {
         network,
         entries,
+        groups,
         beta,
     } = *plan;
     match rule {
@@ -57,12 +58,12 @@ pub(crate) fn keeps_plan_rule(rule: PlanRule, plan: &Plan<'_>, place: u32) -> bo
         PlanRule::VlIdsDiffer => vl_id_is_new(network, place),
         PlanRule::Periods => has_period(network, place),
         PlanRule::Senders => has_end_system_as_sender(network, place),
-        PlanRule::LinksOnce => goes_once_by_link(network, place),
-        PlanRule::Sources => has_source(network, entries, place),
-        PlanRule::Targets => enters_anew(network, entries, place),
-        PlanRule::Spacing => stands_apart(network, entries, place),
-        PlanRule::BothChannels => goes_by_both_channels(network, entries, place),
-        PlanRule::Forwarding => comes_in_time(network, entries, place),
+        PlanRule::LinksOnce => goes_once_by_link(network, entries, groups, place),
+        PlanRule::Sources => has_source(network, entries, groups, place),
+        PlanRule::Targets => enters_anew(network, entries, groups, place),
+        PlanRule::Spacing => stands_apart(network, entries, groups, place),
+        PlanRule::BothChannels => goes_by_both_channels(network, entries, groups, place),
+        PlanRule::Forwarding => comes_in_time(network, entries, groups, place),
         PlanRule::RowsOfDevice => has_few_rows(network, entries, place),
     }
 }

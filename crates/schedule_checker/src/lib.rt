@@ -3,6 +3,7 @@
 
 mod both_channels;
 mod checker;
+mod groups;
 mod judge;
 mod kept;
 mod laws;
@@ -17,6 +18,7 @@ mod timing;
 mod virtual_links;
 
 pub use checker::check;
+pub use groups::{Groups, groups_of};
 pub use judge::{Broken, Plan, broken_plan, judge_shape};
 pub use laws::refusal_is_one;
 pub use parts::PlanRule;

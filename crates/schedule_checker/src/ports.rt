@@ -1,12 +1,14 @@
 //! The rules of when a device sends its rows.
-ghost use Rattle.std.specs.Prelude.{◌+◌, ◌<◌, ◌^◌, ◌↔◌, ◌≡◌, ◌≤◌, All, IsTrue, length, ℕ};
+ghost use Rattle.std.specs.Prelude.{◌+◌, ◌<◌, ◌^◌, ◌↔◌, ◌≡◌, ◌≤◌, All, IfSome, IsTrue, length, slice_get, take};
 ghost use Rattle.net_plan.specs.{Bounds.gamma_of, Ranges.{IsInRange, IsWithin}};
 ghost use Rattle.net_plan.specs.declared.network.Network.{Network as NetworkValue};
 ghost use Rattle.schedule_tables.specs.Entries.{AreEntries, IsEntryInRange};
 ghost use Rattle.schedule_tables.specs.{Schedule.{Coincide, ComesInTime, HasFewRows, StandsApart}, Windows.port_time};
 ghost use Rattle.tte_units.specs.Amount.{amount};
+ghost use Rattle.schedule_checker.specs.Groups.{AreGroups, HasRowsBy, HasRowsOf};
 ghost use Rattle.schedule_checker.specs.Ports.{AreApart, ComesBehind};
 
+use crate::groups::Groups;
 use net_plan::{DeviceId, Network, VirtualLink};
 use schedule_tables::{Entry, entries_law, window_of};
 
@@ -15,26 +17,52 @@ const MOST_ROWS: usize = 256;
 
 /// Do the row and each earlier one of its link and way that occurs in one cycle with it stand
 /// apart by a port time and gamma?
-pub(crate) fn stands_apart(network: &Network, entries: &[Entry], place: u32) -> bool
+pub(crate) fn stands_apart(
+    network: &Network,
+    entries: &[Entry],
+    groups: &Groups,
+    place: u32,
+) -> bool
     requires range { IsInRange network.now }
     requires place { place < length network.now.row }
     requires entries { AreEntries network.now entries.now }
+    requires groups { AreGroups entries.now groups.now }
     ensures { IsTrue result ↔ StandsApart network.now place }
 {
     entries_law();
-    let (earlier, rest) = entries.split_at(place as usize);
-    stands_apart_from(network, earlier, &rest[0])
+    let entry = &entries[place as usize];
+    let kin = groups.by_link(entry.row.link);
+    stands_apart_from(network, entries, kin, place as usize, entry)
 }
 
-/// Are the entry and each earlier one apart?
-fn stands_apart_from(network: &Network, earlier: &[Entry], entry: &Entry) -> bool
+/// Are the entry, which is at the place, and each earlier one apart?
+fn stands_apart_from(
+    network: &Network,
+    entries: &[Entry],
+    kin: &[usize],
+    place: usize,
+    entry: &Entry,
+) -> bool
     requires range { IsInRange network.now }
-    requires earlier { All (IsEntryInRange network.now) earlier.now }
+    requires entries { All (IsEntryInRange network.now) entries.now }
+    requires kin { HasRowsBy entries.now entry.now.row.link kin.now }
     requires entry { IsEntryInRange network.now entry.now }
-    ensures { IsTrue result ↔ All (λ other. AreApart network.now other entry.now) earlier.now }
+    ensures { IsTrue result ↔ All (λ other. AreApart network.now other entry.now) (take place entries.now) }
 {
-    let gamma = network.gamma().amount();
-    earlier.iter().all(|other| are_apart(gamma, other, entry))
+    kin.iter().all(|at| place <= *at || is_apart(network, entries, *at, entry))
+}
+
+/// Is the entry at the place apart from this one?
+fn is_apart(network: &Network, entries: &[Entry], at: usize, entry: &Entry) -> bool
+    requires range { IsInRange network.now }
+    requires entries { All (IsEntryInRange network.now) entries.now }
+    requires entry { IsEntryInRange network.now entry.now }
+    ensures { IsTrue result ↔ IfSome (slice_get entries.now at) (λ other. AreApart network.now other entry.now) }
+{
+    match entries.get(at) {
+        Some(other) => are_apart(network.gamma().amount(), other, entry),
+        None => true,
+    }
 }
 
 /// Are two entries of one link and way, whose virtual links occur in one cycle, clear of one another?
@@ -81,10 +109,16 @@ fn is_clear_before(gamma: u64, entry: &Entry, other: &Entry) -> bool
 
 /// Does the row come when the schedule has begun, if it leaves its sender, and otherwise behind
 /// the window of its virtual link's row that enters its source?
-pub(crate) fn comes_in_time(network: &Network, entries: &[Entry], place: u32) -> bool
+pub(crate) fn comes_in_time(
+    network: &Network,
+    entries: &[Entry],
+    groups: &Groups,
+    place: u32,
+) -> bool
     requires range { IsInRange network.now }
     requires place { place < length network.now.row }
     requires entries { AreEntries network.now entries.now }
+    requires groups { AreGroups entries.now groups.now }
     ensures { IsTrue result ↔ ComesInTime network.now place }
 {
     entries_law();
@@ -92,20 +126,34 @@ pub(crate) fn comes_in_time(network: &Network, entries: &[Entry], place: u32) ->
     if entry.source() == entry.vl.sender {
         network.tt_start <= entry.row.offset
     } else {
-        comes_behind_all(network, entries, entry)
+        comes_behind_all(network, entries, groups.of_vl(entry.row.vl), entry)
     }
 }
 
 /// Does the entry come behind the window of each of its virtual link that enters its source?
-fn comes_behind_all(network: &Network, entries: &[Entry], entry: &Entry) -> bool
+fn comes_behind_all(network: &Network, entries: &[Entry], kin: &[usize], entry: &Entry) -> bool
     requires range { IsInRange network.now }
     requires entries { All (IsEntryInRange network.now) entries.now }
+    requires kin { HasRowsOf entries.now entry.now.row.vl kin.now }
     requires entry { IsEntryInRange network.now entry.now }
     ensures { IsTrue result ↔ All (λ entering. ComesBehind network.now entering entry.now) entries.now }
 {
-    entries
-        .iter()
-        .all(|entering| comes_behind(network, entering, entry))
+    kin.iter().all(|at| is_behind(network, entries, *at, entry))
+}
+
+/// Does the entry come behind the window of the one at the place, if that is of its virtual link and
+/// enters its source?
+fn is_behind(network: &Network, entries: &[Entry], at: usize, entry: &Entry) -> bool
+    requires range { IsInRange network.now }
+    requires entries { All (IsEntryInRange network.now) entries.now }
+    requires entry { IsEntryInRange network.now entry.now }
+    ensures { IsTrue result ↔ IfSome (slice_get entries.now at)
+        (λ entering. ComesBehind network.now entering entry.now) }
+{
+    match entries.get(at) {
+        Some(entering) => comes_behind(network, entering, entry),
+        None => true,
+    }
 }
 
 /// Does the entry come behind the window of the other, if that is of its virtual link and enters

@@ -1,6 +1,7 @@
-use Rattle.std.{proofs.Common.List, specs.Prelude.{All, Err, IfOk, Ok, Result}}
+use Rattle.std.{proofs.Common.{◌∙◌, List, subst, sym}, specs.Prelude.{All, Err, IfOk, Ok, Result}}
 use Rattle.net_plan.specs.declared.network.Network.{Network}
-use Rattle.schedule_checker.proofs.Trees.{tree_of}
+use Rattle.schedule_checker.{proofs.Trees.tree_of, specs.Groups.AreGroups}
+use Rattle.schedule_tables.specs.declared.entry.Entry.{Entry}
 use Rattle.tte_io.specs.declared.memory.OutOfMemory.{OutOfMemory}
 use Rattle.lens_slack.{proofs.Writable.are_writable, specs.{Finds.AreOf, Writing.IsWritable, declared.{measuring.Slack.Slack, step.Step.Step}}}
 use Rattle.lens_slack.proofs.measuring.slack_of.Goals as goal
@@ -12,7 +13,9 @@ pub take_steps-requires : goal.take_steps-requires
 take_steps-requires c = record {
   range = c.requires;
   tree = tree_of c.rules_give_trees.ensures c.args.network.now c.in-Ok.ensures.kept;
-  entries = rw c.deref.ensures.value c.in-Ok-entries_of.ensures;
+  entries = rw c.deref-2.ensures.value c.in-Ok-entries_of.ensures;
+  groups = subst (λ (es : List Entry). AreGroups es c.in-Ok-groups_of.groups) (c.deref.ensures.value ∙ sym c.deref-2.ensures.value)
+      c.in-Ok-groups_of.ensures;
   beta = c.beta.ensures;
 }
 

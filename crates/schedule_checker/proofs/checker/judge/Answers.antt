@@ -1,4 +1,6 @@
-use Rattle.schedule_checker.proofs.Trees.{tree_of}
+use Rattle.std.proofs.Common.{◌∙◌, List, subst, sym}
+use Rattle.schedule_tables.specs.declared.entry.Entry.{Entry}
+use Rattle.schedule_checker.{proofs.Trees.tree_of, specs.Groups.AreGroups}
 use Rattle.schedule_checker.proofs.checker.judge.Goals as goal
 
 pub beta-requires-clause-tree : goal.beta-requires-clause-tree
@@ -8,6 +10,8 @@ pub judge_plan-requires-clause-plan : goal.judge_plan-requires-clause-plan
 judge_plan-requires-clause-plan c = record {
   range = c.requires;
   tree = tree_of c.rules_give_trees.ensures c.args.network.now c.in-Ok.ensures.kept;
-  entries = rw c.deref.ensures.value c.in-Ok-entries_of.ensures;
+  entries = rw c.deref-2.ensures.value c.in-Ok-entries_of.ensures;
+  groups = subst (λ (es : List Entry). AreGroups es c.in-Ok-groups_of.groups) (c.deref.ensures.value ∙ sym c.deref-2.ensures.value)
+      c.in-Ok-groups_of.ensures;
   beta = c.beta.ensures;
 }

@@ -1,12 +1,10 @@
-use Rattle.std.proofs.Common.{◌≡◌, drop, take}
-use Rattle.schedule_checker.proofs.{RouteLemmas.goes_once, Selection.head_of_rest}
+use Rattle.schedule_checker.proofs.{EntryPlaces.entry_read, RouteLemmas.goes_once}
 use Rattle.schedule_checker.proofs.routes.goes_once_by_link.Goals as goal
 
 pub returns : goal.returns
 returns c =
     let n = c.args.network.now in
-    let place = c.args.place in
-    let front : c.split_at.result.0.now ≡ take place n.row = cc in
-    let rest : c.split_at.result.1.now ≡ drop place n.row = cc in
-    goes_once n place c.split_at.result.0.now _ c.is_new_by_link.result (head_of_rest n.row c.split_at.result.1.now place _ rest c.requires.place) front
-    c.is_new_by_link.ensures
+    let es = c.args.entries.now in
+    let e = c.index-entries-place.result in
+    goes_once n es c.args.place e c.is_new_by_link.result c.requires.entries c.entries_law.ensures.one
+    (entry_read n es c.args.place e c.requires.entries c.requires.place c.index-entries-place.is) c.is_new_by_link.ensures

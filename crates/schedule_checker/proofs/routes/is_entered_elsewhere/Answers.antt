@@ -1,14 +1,17 @@
-use Rattle.std.proofs.{Common.{rules, tests, ℕ}, lemmas.Iterator.{YieldsList-from_slice, cases_from_any, Consumers.YieldsList-from_enumerate}}
-use Rattle.std.specs.List.{enumerate_from}
-use Rattle.schedule_tables.specs.declared.entry.Entry.{Entry}
-use Rattle.schedule_checker.proofs.{RouteLemmas.{EntersElsewhere, entered_elsewhere}, Selection.any_decides}
+use Rattle.std.proofs.{Common.{◌≢◌, rules, tests, ℕ}, lemmas.Iterator.{YieldsList-from_slice, cases_from_any}}
+use Rattle.std.specs.Prelude.{IsSomeAnd, slice_get}
+use Rattle.schedule_checker.proofs.{RouteLemmas.entered_elsewhere, Selection.any_decides, SomePlaces.some_by}
+use Rattle.schedule_checker.specs.Routes.{EntersSource}
 use Rattle.schedule_checker.proofs.routes.is_entered_elsewhere.Goals as goal
 
 pub returns : goal.returns
 returns c =
     let es = c.args.entries.now in
-    let P = EntersElsewhere c.args.place c.args.entry.now in
-    let run = cases_from_any _ _ c.any.result P (λ (p : ℕ × Entry). ¬ P p) c.any.ensures.ran
-    (YieldsList-from_enumerate (YieldsList-from_slice es (cc)) c.enumerate.ensures.count) (λ x q k. search (rules, tests))
+    let e = c.args.entry.now in
+    let places = c.args.kin.now in
+    let Other : ℕ → Type 0 = λ (k : ℕ). k ≢ c.args.place in
+    let At : ℕ → Type 0 = λ (k : ℕ). Other k × IsSomeAnd (slice_get es k) (EntersSource e) in
+    let run = cases_from_any _ _ c.any.result At (λ (k : ℕ). ¬ At k) c.any.ensures.ran (YieldsList-from_slice places cc) (λ x q k. search (rules, tests))
     (λ x q k. search (rules, tests)) in
-    entered_elsewhere es c.args.place c.args.entry.now c.any.result (any_decides P c.any.result (enumerate_from 0 es) run)
+    entered_elsewhere es c.args.place e c.any.result
+    (some_by Other (EntersSource e) es places c.any.result (λ k x at is. c.requires.kin.all k x at is.0) (any_decides At c.any.result places run))

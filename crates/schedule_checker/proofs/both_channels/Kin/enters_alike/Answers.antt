@@ -1,13 +1,14 @@
 use Rattle.std.{proofs.{Common.rules, lemmas.Bool.Decides.Decides-like}, specs.Cmp.booleans_Decides}
 use Rattle.net_plan.specs.Places.{IsEndSystem}
 use Rattle.schedule_checker.proofs.RouteLemmas.{alike, alike_back}
-use Rattle.schedule_checker.proofs.both_channels.enters_alike.Goals as goal
+use Rattle.schedule_checker.proofs.both_channels.Kin.enters_alike.Goals as goal
 
 pub returns-else-not-is_end_system : goal.returns-else-not-is_end_system
 returns-else-not-is_end_system c =
-    let n = c.args.network.now in
+    let n = c.args.self.now.network.now in
+    let vl = c.args.self.now.vl in
     let a = c.enters.result in
     let b = c.enters-else-not-is_end_system.result in
     let end : IsEndSystem n c.args.device = search rules in
-    Decides-like _ (alike n c.args.vl c.args.device a b c.enters.ensures c.enters-else-not-is_end_system.ensures)
-    (alike_back n c.args.vl c.args.device a b c.enters.ensures c.enters-else-not-is_end_system.ensures end) (booleans_Decides a b)
+    Decides-like _ (alike n vl c.args.device a b c.enters.ensures c.enters-else-not-is_end_system.ensures)
+    (alike_back n vl c.args.device a b c.enters.ensures c.enters-else-not-is_end_system.ensures end) (booleans_Decides a b)

@@ -1,0 +1,18 @@
+use Rattle.std.proofs.{Common.{rules, tests, ℕ}, lemmas.Iterator.{YieldsList-from_slice, cases_from_any}}
+use Rattle.std.specs.Prelude.{IsSomeAnd, slice_get}
+use Rattle.schedule_checker.proofs.{RouteLemmas.enters_on, Selection.any_decides, SomePlaces.some_there}
+use Rattle.schedule_checker.specs.Routes.{IsEntering}
+use Rattle.schedule_checker.proofs.both_channels.Kin.enters.Goals as goal
+
+pub returns : goal.returns
+returns c =
+    let kin = c.args.self.now in
+    let n = kin.network.now in
+    let es = kin.entries.now in
+    let places = kin.places.now in
+    let P = IsEntering n kin.vl c.args.channel c.args.device in
+    let At : ℕ → Type 0 = λ (k : ℕ). IsSomeAnd (slice_get es k) P in
+    let run = cases_from_any _ _ c.any.result At (λ (k : ℕ). ¬ At k) c.any.ensures.ran (YieldsList-from_slice places cc) (λ x q k. search (rules, tests))
+    (λ x q k. search (rules, tests)) in
+    enters_on n es kin.vl c.args.channel c.args.device c.any.result c.requires.entries c.entries_law.ensures.one
+    (some_there P es places c.any.result (λ k e at is. c.requires.places.all k e at is.0) (any_decides At c.any.result places run))

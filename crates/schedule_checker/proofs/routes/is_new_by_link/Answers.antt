@@ -1,0 +1,17 @@
+use Rattle.std.proofs.{Common.{◌<◌, rules, sym, tests, ℕ}, lemmas.Iterator.{YieldsList-from_slice, cases_from_all}}
+use Rattle.std.specs.Prelude.{IfSome, slice_get}
+use Rattle.schedule_checker.proofs.{Selection.all_decides, SomePlaces.all_before}
+use Rattle.schedule_checker.specs.Routes.{GoesElsewhere}
+use Rattle.schedule_checker.proofs.routes.is_new_by_link.Goals as goal
+
+pub returns : goal.returns
+returns c =
+    let es = c.args.entries.now in
+    let e = c.args.entry.now in
+    let places = c.args.kin.now in
+    let P = GoesElsewhere e in
+    let At : ℕ → Type 0 = λ (k : ℕ). k < c.args.place → IfSome (slice_get es k) P in
+    let run = cases_from_all _ _ c.all.result At (λ (k : ℕ). ¬ At k) c.all.ensures.ran (YieldsList-from_slice places cc) (λ x q k. search (rules, tests))
+    (λ x q k. search (rules, tests)) in
+    all_before P es places c.args.place c.all.result (λ k x at is same. is (c.requires.kin.all k x at (sym same)) same)
+    (all_decides At c.all.result places run)
