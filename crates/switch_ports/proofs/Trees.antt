@@ -1,11 +1,11 @@
 -- Trees that have the first of many dispatches.
-use Rattle.switch_ports.proofs.Words.{◌*◌, ◌+◌, ◌<◌, ◌==◌, ◌∙◌, ◌∷◌, ◌≡◌, ◌≤◌, ◌⊎◌, AreChained, AreLeaves, Departure, Departures, Dispatch, IfSome, IsTakingAt}
+use Rattle.switch_ports.proofs.Words.{◌*◌, ◌+◌, ◌<◌, ◌==◌, ◌∙◌, ◌∷◌, ◌≡◌, ◌≤◌, ◌⊎◌, AreChained, AreLeaves, Changes, Departure, Departures, Dispatch, IfSome, IsTakingAt}
 use Rattle.switch_ports.proofs.Words.{KnowsNext, List, None, Option, Precedes, Some, [], ap, arith, cases_Bool, eqb-true, false, get_or, held_by, inl, inr}
 use Rattle.switch_ports.proofs.Words.{int_lt, ints, length, nat_le, refl, slice_set, subst, suc, sym, true, with_taking, zero, ℕ, ℤ}
-use Rattle.std.proofs.{Common.{◌-◌, ◌/◌, ◌≢◌, get_or-set_other, get_or-set_same}, Math.ListN.get_or-eq_default, lemmas.List.{get_or_default, length-set}}
-use Rattle.std.{proofs.lemmas.List.Elements.Contains-get_or, specs.Prelude.{nat_eq, nat_lt}}
-use Rattle.switch_ports.{proofs.EachRow.{before_itself, precedes_on}, specs.Departing.{Sets, bound_of}}
-use Rattle.switch_ports.specs.{Leaving.{IsEarlier, IsFirstOf, IsLast, dispatch_by, with_held}, Tournaments.{IsClimbing, IsTree, Puts, node_at}}
+use Rattle.std.proofs.{Common.{◌-◌, ◌/◌, ◌≢◌, Global, Vec, get_or-set_other, get_or-set_same}, Math.ListN.get_or-eq_default, lemmas.List.{get_or_default, length-set}}
+use Rattle.std.{proofs.lemmas.{Bool.eq-eqb, List.Elements.Contains-get_or}, specs.Prelude.{nat_eq, nat_lt}}
+use Rattle.switch_ports.{proofs.EachRow.{before_itself, precedes_on}, specs.Departing.{IsReopeningAt, Sets, Tells, bound_of}}
+use Rattle.switch_ports.specs.{Leaving.{IsEarlier, IsFirstOf, IsLast, closed, dispatch_by, with_held}, Tournaments.{IsClimbing, IsTree, Puts, node_at}}
 use Rattle.switch_ports.specs.declared.{departures.Taking.Taking, tournament.Tournament.Tournament}
 
 -- ---- a leaf is put
@@ -220,6 +220,47 @@ set_other : (adjustment : ℤ) (place k : ℕ) (d e : Departure) (old new : Depa
 set_other adjustment place k d e old new h apart =
     ap (λ (ds : List Departure). get_or ds k e) h.rows ∙ get_or-set_other old.rows.items place k d e apart
 
+-- a row that is put, and of which the tree is told
+pub tells_sets : (adjustment : ℤ) (place : ℕ) (d : Departure) (old mid new : Departures) → place < length old.rows.items
+    → mid.rows.items ≡ slice_set old.rows.items place d → mid.lasts ≡ old.lasts → mid.tree ≡ old.tree → Tells adjustment place mid new
+    → Sets adjustment place d old new
+tells_sets adjustment place d old mid new lt rows lasts tree h =
+    let same : get_or mid.rows.items place d ≡ d = ap (λ (ds : List Departure). get_or ds place d) rows ∙ get_or-set_same old.rows.items place d d lt in
+    record {
+      rows = ap (λ (v : Vec Departure Global). v.items) h.rows ∙ rows;
+      lasts = h.lasts ∙ lasts;
+      tree = subst (λ (t : Tournament). Puts t place (dispatch_by adjustment d) new.tree) tree
+          (subst (λ (e : Departure). Puts mid.tree place (dispatch_by adjustment e) new.tree) same (h.tree d));
+    }
+
+-- the row whose dispatch has come awaits none
+pub closes : (adjustment : ℤ) (place : ℕ) (d : Departure) (old new : Departures) → AreChained old.rows.items old.lasts.items → place < length old.rows.items
+    → d ≡ get_or old.rows.items place d → Sets adjustment place (record d { awaited = None }) old new → Changes (closed place) old new
+closes adjustment place d old new chained inside is sets = record {
+  rows = record {
+    count = set_long adjustment place _ old new sets;
+    each = λ k e lt. elim (cases_Bool (nat_eq k place)) [
+      | inl y ↦
+          let same : k ≡ place = grind (arith, y) in
+          let own : (d.of.place == place) ≡ true = eq-eqb d.of.place place (ap (λ (x : Departure). x.of.place) is ∙ chained.places place d inside) in
+          let here : closed place d ≡ record d { awaited = None } = rw own refl in
+          let was : get_or old.rows.items place e ≡ d = get_or_default old.rows.items place e d inside ∙ sym is in
+          subst (λ n. get_or new.rows.items n e ≡ closed place (get_or old.rows.items n e)) (sym same)
+          (set_here adjustment place _ e old new sets inside ∙ sym here ∙ ap (closed place) (sym was))
+      | inr n ↦
+          let apart : k ≢ place = grind (arith, n) in
+          let other : ((get_or old.rows.items k e).of.place == place) ≡ false = rw (chained.places k e lt) n in
+          set_other adjustment place k _ e old new sets apart ∙ sym (kept_open place (get_or old.rows.items k e) other)
+    ];
+  };
+  lasts = sets.lasts;
+  tree = sets.tree.tree;
+  count = sets.tree.count;
+}
+  where
+    kept_open : (place : ℕ) (d : Departure) → (d.of.place == place) ≡ false → closed place d ≡ d
+    kept_open place d n = rw n refl
+
 -- the leaf of the row at the place, and those of the others
 leaf_here : (adjustment : ℤ) (place : ℕ) (d e : Departure) (old new : Departures) → Sets adjustment place d old new → old.tree.count ≡ length old.rows.items
     → place < length old.rows.items
@@ -250,6 +291,51 @@ leaves_set adjustment place d old new h count inside leaves k e lt = elim (cases
       let lt' : k < length old.rows.items = subst (λ n. k < n) (set_long adjustment place d old new h) lt in
       leaf_other adjustment place k d e old new h count apart lt' (leaves k e lt')
 ]
+
+-- ---- the rows from the first one up
+
+-- one more is done
+pub reopening_on : (f : Departure → Departure) (place : ℕ) (adjustment : ℤ) (d : Departure) (old mid new : Departures)
+    → old.tree.count ≡ length old.rows.items → place < length old.rows.items → IsReopeningAt f place adjustment old mid
+    → d ≡ get_or mid.rows.items place d → Sets adjustment place (f d) mid new → IsReopeningAt f (place + 1) adjustment old new
+reopening_on f place adjustment d old mid new count inside h is sets = record {
+  rows = record {
+    count = set_long adjustment place _ mid new sets ∙ h.rows.count;
+    done = λ k e less lt. elim (cases_Bool (nat_eq k place)) [
+      | inl y ↦
+          let same : k ≡ place = grind (arith, y) in
+          let was : d ≡ get_or old.rows.items place e =
+          is ∙ get_or_default mid.rows.items place d e mid_inside ∙ h.rows.rest place e (omega arith) inside in
+          subst (λ n. get_or new.rows.items n e ≡ f (get_or old.rows.items n e)) (sym same)
+          (set_here adjustment place _ e mid new sets mid_inside ∙ ap f was)
+      | inr n ↦
+          let apart : k ≢ place = grind (arith, n) in
+          set_other adjustment place k _ e mid new sets apart ∙ h.rows.done k e (omega (arith, less, apart)) lt
+    ];
+    rest = λ k e from lt.
+        let apart : k ≢ place = omega (arith, from) in
+        set_other adjustment place k _ e mid new sets apart ∙ h.rows.rest k e (omega (arith, from)) lt;
+  };
+  lasts = sets.lasts ∙ h.lasts;
+  tree = sets.tree.tree;
+  count = sets.tree.count ∙ h.count;
+  leaves = λ k e less lt. elim (cases_Bool (nat_eq k place)) [
+    | inl y ↦
+        let same : k ≡ place = grind (arith, y) in
+        subst (λ n. node_at new.tree.nodes.items (length new.rows.items + n) ≡ dispatch_by adjustment (get_or new.rows.items n e)) (sym same)
+        (leaf_here adjustment place _ e mid new sets mid_count mid_inside)
+    | inr n ↦
+        let apart : k ≢ place = grind (arith, n) in
+        let there : k < length mid.rows.items = subst (λ n. k < n) (set_long adjustment place _ mid new sets) lt in
+        leaf_other adjustment place k _ e mid new sets mid_count apart there (h.leaves k e (omega (arith, less, apart)) there)
+  ];
+}
+  where
+    mid_inside : place < length mid.rows.items
+    mid_inside = subst (λ n. place < n) (sym h.rows.count) inside
+
+    mid_count : mid.tree.count ≡ length mid.rows.items
+    mid_count = h.count ∙ count ∙ sym h.rows.count
 
 -- ---- the rows of a virtual link, from the last one down
 

@@ -38,6 +38,12 @@ pub record KnowsNext (adjustment : ℤ) (departures : Departures) : Type 0 where
   pub leaves : AreLeaves adjustment departures.rows.items departures.tree.nodes.items
   pub first : IsFirstOf adjustment departures.rows.items departures.next
 
+-- the tree has what the row at the place has still to dispatch
+pub record Tells (adjustment : ℤ) (place : ℕ) (old new : Departures) : Type 0 where
+  pub rows : new.rows ≡ old.rows
+  pub lasts : new.lasts ≡ old.lasts
+  pub tree : (d : Departure) → Puts old.tree place (dispatch_by adjustment (slice_index_or old.rows.items place d)) new.tree
+
 -- one departure is another
 pub record Sets (adjustment : ℤ) (place : ℕ) (departure : Departure) (old new : Departures) : Type 0 where
   pub rows : new.rows.items ≡ slice_set old.rows.items place departure

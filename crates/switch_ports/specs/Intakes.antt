@@ -1,13 +1,13 @@
 -- Which time-triggered frames a switch takes.
-use Rattle.std.specs.{BTreeMap.{BTreeMap, get}, Int.int_div_euclid, List.All, Ordering.{nat_cmp, ordering_then}}
+use Rattle.std.specs.{BTreeMap.{BTreeMap, get}, Int.int_div_euclid, List.All, Option.option_map_or, Ordering.{nat_cmp, ordering_then}}
 use Rattle.std.specs.Prelude.{◌%◌, ◌&&◌, ◌*◌, ◌<◌, ◌==◌, ◌^◌, ◌||◌, ◌∷◌, ◌≡◌, ◌≤◌, Bool, IfSome, IsSome, List, None}
-use Rattle.std.specs.Prelude.{Option, Some, [], find, int_lt, length, nat_le, not, option_and_then, option_map}
+use Rattle.std.specs.Prelude.{Option, Some, [], false, find, int_lt, length, nat_le, not, option_and_then, option_map}
 use Rattle.std.specs.{Prelude.{slice_get, unwrap_or, ℕ, ℤ}, declared.cmp.Ordering.Ordering}
-use Rattle.net_plan.specs.declared.{ids.{DeviceId.DeviceId, VlId.VlId}, network.Network.Network, tables.Row.Row}
+use Rattle.net_plan.specs.{Places.link_at, declared.{ids.{DeviceId.DeviceId, VlId.VlId}, network.Network.Network, tables.Row.Row}}
 use Rattle.run_law.specs.declared.{judgement.Reason.Reason, steps.Arrival.Arrival}
 use Rattle.run_law.specs.{device.Standpoints.{first_reason, natural}, scenario.Ways.{is_way, is_way_of, way_to}}
 use Rattle.run_law.specs.timed.Arrivals.{entry_of, is_row_with, is_taken_in}
-use Rattle.schedule_tables.specs.{Windows.window_of, declared.entry.Entry.Entry}
+use Rattle.schedule_tables.specs.{Entries.target_by, Windows.window_of, declared.entry.Entry.Entry}
 use Rattle.switch_ports.specs.declared.intake.{EnteringRow.EnteringRow, Entrance.Entrance, Intake.Intake}
 use Rattle.run_law.specs.declared.judgement.Reason.TheVariants as reasons
 use Rattle.run_law.specs.declared.steps.Arrival.TheVariants as arrivals
@@ -30,16 +30,25 @@ entrance_cmp a b = ordering_then (nat_cmp a.link.0 b.link.0) (nat_cmp a.id b.id)
 abbrev pub entrance_of : Entry → Entrance
 entrance_of entry = record { link = entry.row.link; id = entry.vl.id }
 
--- does a frame on the row's way come to the device, where this is at its link?
+-- is the row's way the one on which the device receives by its link, where it is at this?
+abbrev pub is_way_in : Network → DeviceId → Row → Bool
+is_way_in network device row = is_way (way_to network device row.link) row.way
+
+-- is the device the one that a frame on the row's way of its link enters?
+abbrev pub is_target : Network → DeviceId → Row → Bool
+is_target network device row = option_map_or (λ link. (target_by row.way link).0 == device.0) (link_at network row.link) false
+
+-- does a frame of the row come to the device?
 abbrev pub comes_to : Network → DeviceId → Row → Bool
-comes_to network device row = is_way (way_to network device row.link) row.way
+comes_to network device row = is_target network device row && is_way_in network device row
 
 -- the first of these rows by which a frame enters the device by the entrance
 abbrev pub first_entering : Network → DeviceId → List Row → Entrance → Option Entry
 first_entering network device rows entrance =
     option_and_then (entry_of network)
-    (find (λ row. is_way_of entrance.link (way_to network device entrance.link) row.link row.way
-    && is_row_with network entrance.id row) rows)
+    (find (λ row. is_target network device row
+    && (is_way_of entrance.link (way_to network device entrance.link) row.link row.way
+    && is_row_with network entrance.id row)) rows)
 
 -- the map has what is kept of the first of these rows, for each entrance
 abbrev pub AreEntrances : Network → DeviceId → List Row → BTreeMap Entrance EnteringRow → Type 0

@@ -1,12 +1,13 @@
 //! The rows that leave a switch, and the frames that they have still to dispatch.
 
 ghost use Rattle.std.specs.Prelude.{◌*◌, ◌+◌, ◌-ℤ◌, ◌<◌, ◌^◌, ◌↔◌, ◌≡◌, ◌≤ℤ◌, ◌≤◌, All, IfOk, IsTrue, None, OnOk};
-ghost use Rattle.std.specs.Prelude.{length, map, option_map, pos};
+ghost use Rattle.std.specs.Prelude.{length, map, option_map, pos, slice_index_or};
 ghost use Rattle.clock_correction.specs.Deviation.{IsSmall};
 ghost use Rattle.net_plan.specs.{Ranges.{IsInRange, IsWithin}, declared.network.Network.Network as NetworkValue};
 ghost use Rattle.schedule_tables.specs.Entries.{IsEntry, IsEntryInRange, source_of};
 ghost use Rattle.tte_units.specs.Amount.{amount};
-ghost use Rattle.switch_ports.specs.Departing.{Changes, IsBegun, IsReady, KnowsNext, Sets};
+ghost use Rattle.switch_ports.specs.Departing.{Changes, IsBegun, IsReady, KnowsNext, Tells};
+ghost use Rattle.switch_ports.specs.declared.departures.Departure.{Departure as DepartureValue};
 ghost use Rattle.switch_ports.specs.Leaving.{AreLeaving, IsEarlier, IsFit, IsTakingFit, Precedes, awaited_of, closed};
 ghost use Rattle.switch_ports.specs.Leaving.{dispatch_by, fresh_row, held_by, is_dispatch_in, place_in, reopened};
 ghost use Rattle.switch_ports.specs.{Leaving.{value_in, with_held, with_taking}, Tournaments.{AreLeaves, IsTree}};
@@ -123,10 +124,10 @@ impl Departures {
     {
         let mut at = self.last_of(taking.vl);
         'rows: while let Some(place) = at {
-            let mut departure = self.rows[place];
+            let departure = &mut self.rows[place];
             at = departure.of.before;
             departure.take(length, &taking, changed);
-            self.set(place, departure, adjustment);
+            self.tell(place, adjustment);
         }
         self.next = self.tree.first();
     }
@@ -139,9 +140,8 @@ impl Departures {
         ensures next { KnowsNext adjustment.0 self.new }
     {
         for place in 0..self.rows.len() {
-            let mut departure = self.rows[place];
-            departure.reopen(changed);
-            self.set(place, departure, adjustment);
+            self.rows[place].reopen(changed);
+            self.tell(place, adjustment);
         }
         self.next = self.tree.first();
     }
@@ -155,9 +155,8 @@ impl Departures {
         ensures next { AreLeaves adjustment.0 self.old.rows.items self.old.tree.nodes.items
             → KnowsNext adjustment.0 self.new }
     {
-        let mut departure = self.rows[place];
-        departure.awaited = None;
-        self.set(place, departure, adjustment);
+        self.rows[place].awaited = None;
+        self.tell(place, adjustment);
         self.next = self.tree.first();
     }
 
@@ -188,17 +187,17 @@ impl Departures {
         }
     }
 
-    /// Puts the departure at the place.
-    fn set(&mut self, place: usize, departure: Departure, adjustment: Units)
+    /// Tells the tree what the row at the place has still to dispatch.
+    fn tell(&mut self, place: usize, adjustment: Units)
         requires place { place < length self.old.rows.items }
-        requires fit { IsFit departure }
+        requires fit { (d : DepartureValue) → IsFit (slice_index_or self.old.rows.items place d) }
         requires small { IsSmall adjustment.0 }
         requires tree { IsTree self.old.tree }
         requires count { self.old.tree.count ≡ length self.old.rows.items }
-        ensures { Sets adjustment.0 place departure self.old self.new }
+        ensures { Tells adjustment.0 place self.old self.new }
     {
-        self.rows[place] = departure;
-        self.tree.put(place, departure.dispatch(adjustment));
+        let dispatch = self.rows[place].dispatch(adjustment);
+        self.tree.put(place, dispatch);
     }
 }
 
@@ -293,6 +292,17 @@ impl Dispatch {
             self.row.0 < other.row.0
         }
     }
+
+    /// Is it the other?
+    fn is(&self, other: &Dispatch) -> bool
+        ensures { IsTrue result ↔ (self.now ≡ other.now) }
+    {
+        self.at.0 == other.at.0
+            && self.row.0 == other.row.0
+            && self.link.0 == other.link.0
+            && self.cycle == other.cycle
+            && self.place == other.place
+    }
 }
 
 /// No row of any virtual link has been found.
@@ -370,13 +380,26 @@ fn reading_of(value: Units, adjustment: Units) -> Units
     Units(value.0 - adjustment.0)
 }
 
-/// The earlier of two dispatches that may be there.
-pub fn earlier(a: Option<Dispatch>, b: Option<Dispatch>) -> Option<Dispatch>
-    ensures { IsEarlier a b result }
+/// Is there the first dispatch, and does it come before the other, if that is there?
+pub fn comes_first(first: &Option<Dispatch>, other: &Option<Dispatch>) -> bool
+    ensures yes { IsTrue result → IsEarlier other.now first.now first.now }
+    ensures no { (IsTrue result → ⊥) → IsEarlier other.now first.now other.now }
+{
+    match (first, other) {
+        (Some(first), Some(other)) => first.precedes(other),
+        (Some(_), None) => true,
+        (None, _) => false,
+    }
+}
+
+/// Are the two one dispatch, or is neither there?
+pub(crate) fn is_same(a: &Option<Dispatch>, b: &Option<Dispatch>) -> bool
+    ensures { IsTrue result ↔ (a.now ≡ b.now) }
 {
     match (a, b) {
-        (Some(a), Some(b)) if b.precedes(&a) => Some(b),
-        (Some(a), Some(_) | None) => Some(a),
-        (None, b) => b,
+        (Some(a), Some(b)) => a.is(b),
+        (None, None) => true,
+        (Some(_), None) => false,
+        (None, Some(_)) => false,
     }
 }

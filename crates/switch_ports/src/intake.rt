@@ -7,11 +7,11 @@ ghost use Rattle.run_law.specs.timed.Arrivals.{is_taken_in};
 ghost use Rattle.schedule_tables.specs.Entries.{IsEntry, IsEntryInRange};
 ghost use Rattle.tte_units.specs.Amount.{amount};
 ghost use Rattle.switch_ports.specs.Intakes.{AreEntrances, HaveEntries, IsCycleFit, IsTakenSo, IsWhole, Takes};
-ghost use Rattle.switch_ports.specs.Intakes.{comes_to, cycle_of, entering_by, entrance_cmp, entrance_of, fault_of};
+ghost use Rattle.switch_ports.specs.Intakes.{comes_to, cycle_of, entering_by, entrance_cmp, entrance_of, fault_of, is_way_in};
 ghost use Rattle.switch_ports.specs.{Intakes.{last_in, row_arrival}, Sites.IsSiteOf, Standpoints.IsSiteInRange};
 
 use crate::Site;
-use net_plan::{LinkId, Network, RowId, VlId, Way};
+use net_plan::{DeviceId, LinkId, Network, RowId, VlId, Way};
 use run_law::{Arrival, Reason};
 use schedule_tables::{Entry, OutOfMemory, Window, entry_of, window_of};
 use std::alloc::{AllocError, Global};
@@ -50,13 +50,18 @@ impl Intake {
     /// The rows by which frames come to the switch, which has taken none.
     ///
     /// Fails when memory runs out.
-    pub(crate) fn new(alloc: Global, network: &Network, site: &Site) -> Result<Intake, OutOfMemory>
-        requires { IsInRange network.now }
+    pub(crate) fn new(
+        alloc: Global,
+        network: &Network,
+        device: DeviceId,
+        site: &Site,
+    ) -> Result<Intake, OutOfMemory>
+        requires range { IsInRange network.now }
+        requires site { IsSiteOf network.now device site.now }
         ensures taken { IfOk result (λ intake. intake.taken.items ≡ map (λ vl. None) network.now.vl) }
-        ensures rows { (device : DeviceIdValue) → IsSiteOf network.now device site.now
-            → IfOk result (λ intake. AreEntrances network.now device network.now.row intake.rows) }
+        ensures rows { IfOk result (λ intake. AreEntrances network.now device network.now.row intake.rows) }
     {
-        let rows = entrances(alloc, network, site)?;
+        let rows = entrances(alloc, network, device, site)?;
         let taken = none_taken(alloc, network)?;
         Ok(Intake { rows, taken })
     }
@@ -178,16 +183,17 @@ fn cycle_of(local: Units, length: Units) -> u32
 fn entrances(
     alloc: Global,
     network: &Network,
+    device: DeviceId,
     site: &Site,
 ) -> Result<BTreeMap<Entrance, EnteringRow>, OutOfMemory>
-    requires { IsInRange network.now }
-    ensures { (device : DeviceIdValue) → IsSiteOf network.now device site.now
-        → IfOk result (AreEntrances network.now device network.now.row) }
+    requires range { IsInRange network.now }
+    requires site { IsSiteOf network.now device site.now }
+    ensures { IfOk result (AreEntrances network.now device network.now.row) }
 {
     let mut rows = BTreeMap::new(alloc);
     for place in 0..network.row.as_slice().len() {
         let entry = entry_of(network, RowId(place as u32));
-        add_row(&mut rows, network, site, &entry)?;
+        add_row(&mut rows, network, device, site, &entry)?;
     }
     Ok(rows)
 }
@@ -196,18 +202,19 @@ fn entrances(
 fn add_row(
     rows: &mut BTreeMap<Entrance, EnteringRow>,
     network: &Network,
+    device: DeviceId,
     site: &Site,
     entry: &Entry,
 ) -> Result<(), OutOfMemory>
     requires range { IsInRange network.now }
+    requires site { IsSiteOf network.now device site.now }
     requires entry { IsEntryInRange network.now entry.now }
-    ensures { (device : DeviceIdValue) (earlier : List Row) (place : ℕ) → IsSiteOf network.now device site.now
-        → IsEntry network.now place entry.now → HaveEntries network.now earlier
+    ensures { (earlier : List Row) (place : ℕ) → IsEntry network.now place entry.now → HaveEntries network.now earlier
         → AreEntrances network.now device earlier rows.old
         → OnOk result (AreEntrances network.now device (earlier ++ entry.now.row ∷ []) rows.new) }
 {
     let entrance = entrance_of(entry);
-    if !site.is_way_to(entry) {
+    if !site.is_entered_by(device, entry) {
         return Ok(());
     }
     if rows.contains_key(&entrance) {
@@ -220,10 +227,18 @@ fn add_row(
 }
 
 impl Site {
-    /// Does a frame on the entry's way come to the switch, where this is at its link?
+    /// Does a frame of the entry come to the switch, which is the device?
+    fn is_entered_by(&self, device: DeviceId, entry: &Entry) -> bool
+        ensures { (network : NetworkValue) (place : ℕ) → IsSiteOf network device self.now
+            → IsEntry network place entry.now → result ≡ comes_to network device entry.now.row }
+    {
+        entry.target().0 == device.0 && self.is_way_to(entry)
+    }
+
+    /// Is the entry's way the one on which the switch receives by its link, where it is at this?
     fn is_way_to(&self, entry: &Entry) -> bool
         ensures { (network : NetworkValue) (device : DeviceIdValue) → IsSiteOf network device self.now
-            → result ≡ comes_to network device entry.now.row }
+            → result ≡ is_way_in network device entry.now.row }
     {
         match entry.row.way {
             Way::Up => self.is_parent_of(entry.row.link),

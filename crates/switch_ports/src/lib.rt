@@ -17,7 +17,7 @@ mod switch;
 mod timed;
 mod tournament;
 
-pub use departures::{Departure, Dispatch, Held, LeavingRow, Taking, earlier};
+pub use departures::{Departure, Dispatch, Held, LeavingRow, Taking, comes_first};
 pub use intake::EnteringRow;
 pub use site::{Peer, Port, Site};
 pub use standpoint::Standpoint;

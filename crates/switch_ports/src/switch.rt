@@ -55,7 +55,7 @@ impl Switch {
     {
         let network = accepted.network();
         let site = Site::new(alloc, network, device)?;
-        let intake = Intake::new(alloc, network, &site)?;
+        let intake = Intake::new(alloc, network, device, &site)?;
         let departures = Departures::new(alloc, network, device)?;
         let sync = Sync::new(site.plan, start_of(network, device));
         let collector = Collector::new(site.precision, site.calc);

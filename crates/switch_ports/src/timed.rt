@@ -4,6 +4,7 @@ ghost use Rattle.std.specs.Prelude.{◌+◌, ◌≡◌, ◌≤◌, All, None, Op
 ghost use Rattle.net_plan.specs.{Ranges.IsInRange, declared.ids.{DeviceId.DeviceId, VlId.VlId}};
 ghost use Rattle.net_plan.specs.declared.network.Network.{Network};
 ghost use Rattle.pcf_codec.specs.Fields.{field};
+ghost use Rattle.run_law.specs.machines.Calls.{IsLinkAt};
 ghost use Rattle.run_law.specs.timed.Arrivals.{octets_fault, timed_arrival};
 ghost use Rattle.sync_state.specs.declared.state.State.TheVariants.{Synchronised};
 ghost use Rattle.tte_units.specs.Amount.{amount};
@@ -34,7 +35,7 @@ impl Switch {
             at.now result self.new.departures }
         ensures is { (network : Network) (device : DeviceId) (last : VlId → Option ℕ) → IsInRange network
             → IsSiteOf network device self.old.site
-            → AreEntrances network device network.row self.old.intake.rows
+            → AreEntrances network device network.row self.old.intake.rows → IsLinkAt network device link
             → ((vl : VlId) → last_in self.old.intake.taken.items vl ≡ last vl)
             → result ≡ timed_arrival network device link (standpoint_of at.now) octets.now last }
     {

@@ -1,10 +1,11 @@
 //! Which of many dispatches comes first, told anew in few steps when one of them changes.
 
-ghost use Rattle.std.specs.Prelude.{◌≡◌, ◌<◌, IfOk, length, None, ℕ};
+ghost use Rattle.std.specs.Prelude.{◌*◌, ◌+◌, ◌≡◌, ◌<◌, IfOk, length, None, ℕ};
+ghost use Rattle.switch_ports.specs.Leaving.{IsEarlier};
 ghost use Rattle.switch_ports.specs.Tournaments.{IsClimbing, IsTree, Puts, node_at};
 ghost use Rattle.switch_ports.specs.declared.departures.Dispatch.{Dispatch as DispatchValue};
 
-use crate::departures::{Departure, Dispatch, earlier};
+use crate::departures::{Departure, Dispatch, comes_first, is_same};
 use std::alloc::{AllocError, Global};
 
 /// A tree over the dispatches that rows have still to make, a leaf for each row. The node k has the
@@ -50,8 +51,26 @@ impl Tournament {
         self.nodes[node] = dispatch;
         'up: while 1 < node {
             node /= 2;
-            let first = earlier(self.nodes[2 * node], self.nodes[2 * node + 1]);
-            self.nodes[node] = first;
+            let first = self.first_below(node);
+            if is_same(&self.nodes[node], &self.nodes[first]) {
+                return;
+            }
+            self.nodes[node] = self.nodes[first];
+        }
+    }
+
+    /// Which of the two nodes below this one has the earlier dispatch.
+    fn first_below(&self, node: usize) -> usize
+        requires { 2 * node + 1 < length self.now.nodes.items }
+        ensures within { result < length self.now.nodes.items }
+        ensures earlier { IsEarlier (node_at self.now.nodes.items (2 * node))
+            (node_at self.now.nodes.items (2 * node + 1)) (node_at self.now.nodes.items result) }
+    {
+        let left = 2 * node;
+        if comes_first(&self.nodes[left + 1], &self.nodes[left]) {
+            left + 1
+        } else {
+            left
         }
     }
 

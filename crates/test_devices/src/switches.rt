@@ -10,7 +10,7 @@ use std::alloc::{AllocError, Global};
 use std::test::Fail;
 use switch_ports::{
     Departure, Dispatch, EnteringRow, Held, LeavingRow, Peer, Port, Site, Standpoint, Taking,
-    Tournament, earlier,
+    Tournament, comes_first,
 };
 use sync_state::{State, SyncPlan};
 use tte_units::Units;
@@ -235,9 +235,9 @@ fn dispatches_come_by_readings_links_and_rows(rt: HostRuntime) -> Result<(), Fai
     };
     assert!(rt; sooner.precedes(&next) && left.precedes(&next) && above.precedes(&next));
     assert!(rt; !next.precedes(&next) && !next.precedes(&sooner));
-    assert!(rt; earlier(Some(next), Some(left)) == Some(left));
-    assert!(rt; earlier(Some(left), Some(next)) == Some(left));
-    assert!(rt; earlier(None, Some(next)) == Some(next));
+    assert!(rt; comes_first(&Some(left), &Some(next)) && !comes_first(&Some(next), &Some(left)));
+    assert!(rt; !comes_first(&Some(next), &Some(next)) && !comes_first(&None, &None));
+    assert!(rt; comes_first(&Some(next), &None) && !comes_first(&None, &Some(next)));
     Ok(())
 }
 

@@ -4,20 +4,20 @@ use Rattle.tte_lemmas.proofs.Options.{none_at, some_by}
 use Rattle.switch_ports.{proofs.Entrances.{row_kept, row_skipped}, specs.{Intakes.entrance_of, declared.intake.Entrance.Entrance}}
 use Rattle.switch_ports.proofs.intake.add_row.Goals as goal
 
-pub returns-then-not-is_way_to : goal.returns-then-not-is_way_to
-returns-then-not-is_way_to c device earlier place site is have are =
-    row_skipped c.args.network.now device earlier place c.args.entry.now c.args.rows.now is have are
-    (λ comes. let never : true ≡ false = sym comes ∙ sym (c.is_way_to.ensures c.args.network.now device site) ∙ c.if-not-is_way_to.true in absurd cc)
+pub returns-then-not-is_entered_by : goal.returns-then-not-is_entered_by
+returns-then-not-is_entered_by c earlier place is have are =
+    row_skipped c.args.network.now c.args.device earlier place c.args.entry.now c.args.rows.now is have are
+    (λ comes. let never : true ≡ false = sym comes ∙ sym (c.is_entered_by.ensures c.args.network.now place c.requires.site is) ∙ c.if-not-is_entered_by.true in absurd cc)
 
 pub returns-then-contains_key : goal.returns-then-contains_key
-returns-then-contains_key c device earlier place site is have are =
-    row_skipped c.args.network.now device earlier place c.args.entry.now c.args.rows.now is have are
+returns-then-contains_key c earlier place is have are =
+    row_skipped c.args.network.now c.args.device earlier place c.args.entry.now c.args.rows.now is have are
     (λ comes. some_by _ (rw (sym c.entrance_of-entrance.ensures) (sym c.contains_key.ensures ∙ c.if-contains_key.true)))
 
 pub returns-in-Ok : goal.returns-in-Ok
-returns-in-Ok c device earlier place site is have are =
-    row_kept c.args.network.now device earlier place c.args.entry.now c.args.rows.now c.insert.new.self is have are
-    (sym (c.is_way_to.ensures c.args.network.now device site) ∙ c.if-not-is_way_to.false)
+returns-in-Ok c earlier place is have are =
+    row_kept c.args.network.now c.args.device earlier place c.args.entry.now c.args.rows.now c.insert.new.self is have are
+    (sym (c.is_entered_by.ensures c.args.network.now place c.requires.site is) ∙ c.if-not-is_entered_by.false)
     (none_at _ (rw (sym c.entrance_of-entrance.ensures) (sym c.contains_key.ensures ∙ c.if-contains_key.false)))
     (subst (λ (row : EnteringRow). Updates entrance_cmp c.args.rows.now c.insert.new.self (entrance_of c.args.entry.now) (Some row)) c.entering_row.ensures
     (subst (λ (key : Entrance). Updates entrance_cmp c.args.rows.now c.insert.new.self key (Some c.entering_row.result)) c.entrance_of-entrance.ensures

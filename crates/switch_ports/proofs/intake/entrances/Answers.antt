@@ -4,18 +4,20 @@ use Rattle.switch_ports.proofs.Entrances.{have_entries}
 use Rattle.switch_ports.proofs.intake.entrances.Goals as goal
 
 pub loop-place-preserved : goal.loop-place-preserved
-loop-place-preserved c device site =
+loop-place-preserved c =
     let network = c.args.network.now in
+    let device = c.args.device in
     let is = c.entry_of-entry.ensures.is in
     subst (λ (rows : List Row). AreEntrances network device rows c.add_row.new.rows)
     (sym (take_more network.row c.loop-place.place _ c.entry_of-entry.result.row (omega arith) is.row))
-    (c.in_ok-add_row.ensures device (take c.loop-place.place network.row) c.loop-place.place site is (have_entries network c.loop-place.place c.requires)
-    (c.loop-place.invariant device site))
+    (c.in_ok-add_row.ensures (take c.loop-place.place network.row) c.loop-place.place is (have_entries network c.loop-place.place c.requires.range)
+    c.loop-place.invariant)
 
 pub returns : goal.returns
-returns c device site =
+returns c =
     let network = c.args.network.now in
+    let device = c.args.device in
     subst (λ (rows : List Row). AreEntrances network device rows c.loop-place.rows)
     (take_all network.row c.loop-place.place
     (let h = c.loop-place-test.false in let e = ap (λ (rows : List Row). length rows) c.as_slice-place-end.ensures in omega (arith, h, e)))
-    (c.loop-place.invariant device site)
+    c.loop-place.invariant

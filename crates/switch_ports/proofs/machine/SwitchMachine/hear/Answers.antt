@@ -44,7 +44,7 @@ returns-else-is_pcf c network device node st may arrives =
     let at = point_same c.args.self.now network device node c.args.moment c.standpoint-at.result st c.standpoint-at.ensures.state
     c.standpoint-at.ensures.reading c.standpoint-at.ensures.adjustment in
     let heard = c.hear_timed.ensures in
-    let is = heard.is network device (last_taken_by node) st.accepted.range st.site st.intake.rows st.intake.last
+    let is = heard.is network device (last_taken_by node) st.accepted.range st.site st.intake.rows arrives.at st.intake.last
     ∙ ap (λ (p : Point). timed_arrival network device c.args.link p octets (last_taken_by node)) at in
     let signal : signal_of octets ≡ timed octets =
     rw (is_no_type octets (λ e. let f = c.is_pcf.ensures.1 (enough arrives.least, e) in let g = c.if-is_pcf.false in cc)) refl in (

@@ -22,7 +22,7 @@ returns c =
     let is = subst (λ (n : Network). IsSiteOf n c.args.device c.in_ok-site.site) e.value c.in_ok-site.ensures in
     let start : c.start_of.result ≡ start_of c.args.accepted.now c.args.device = c.start_of.ensures.value
     ∙ ap (λ (n : Network). start_of n c.args.device) e.value in
-    let taken = taken_none c.network-network.result.now c.args.device c.in_ok-intake.intake (c.in_ok-intake.ensures.rows c.args.device c.in_ok-site.ensures)
+    let taken = taken_none c.network-network.result.now c.args.device c.in_ok-intake.intake c.in_ok-intake.ensures.rows
     c.in_ok-intake.ensures.taken in
     begun_stands _ c.args.accepted.now c.args.device (record { range = e.range; rules = e.rules }) is
     (subst (λ (n : Network). HasTaken n c.args.device c.in_ok-intake.intake []) e.value taken)
