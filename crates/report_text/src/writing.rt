@@ -6,8 +6,10 @@ ghost use Rattle.tte_io.specs.{Faults.{Rose, next_count}, Told.AppendsFront};
 ghost use Rattle.report_text.specs.{NoteLine.note_line, Ranges.IsNoteOf};
 
 use crate::fields::push_units;
-use crate::kinds::{push_body, push_event};
+use crate::kinds::{push_body, push_event, push_plain};
+use crate::times::TimeText;
 use net_plan::{Event, Network};
+use plain_notes::Given;
 use run_law::Note;
 use tte_io::{LineText, Sink, SinkFailed};
 use tte_units::Units;
@@ -34,6 +36,25 @@ pub fn make_note_line(line: &mut LineText, network: &Network, note: &Note)
 {
     begin_line(line, note.number, note.time);
     push_body(line, network, &note.body);
+    line.push("\n");
+}
+
+/// Makes the line of a record of no event, ended by LF: its number, its time, and what it says. Its time's text is kept
+/// for the next record.
+///
+/// The network is in its ranges, and the record's devices, links and virtual links are its own.
+pub fn make_plain_line(line: &mut LineText, times: &mut TimeText, network: &Network, note: &Given)
+    requires in_range { IsInRange network.now }
+    requires of_network { IsNoteOf network.now note.now }
+    ensures { line.new ≡ note_line network.now note.now }
+{
+    line.clear();
+    line.push_decimal(note.number);
+    line.push(" ");
+    times.push_in(line, note.time);
+    line.push(" ");
+    let body = &note.body;
+    push_plain(line, network, &body.kind);
     line.push("\n");
 }
 

@@ -4,10 +4,10 @@ ghost use Rattle.report_text.specs.{NoteLine.note_line, Ranges.IsNoteOf};
 ghost use Rattle.tte_io.specs.{Faults.{Rose, next_count}, Told.AppendsFront};
 ghost use Rattle.tte_traces.specs.Report.{PutsReport, StopsReport};
 
-use drift_world::{EventNote, Given};
-use net_plan::{Event, Network, What};
-use report_text::{make_event_line, write_in};
-use run_law::{Note, NoteBody};
+use drift_world::EventNote;
+use net_plan::{Event, Network};
+use plain_notes::Given;
+use report_text::{TimeText, make_event_line, make_plain_line};
 use tte_io::{LineText, Sink};
 use tte_units::Units;
 use world_drive::{Cut, Observer};
@@ -18,8 +18,8 @@ use world_exact::ExactWorld;
 pub(crate) struct Report {
     /// Where the lines are made, one after the other.
     text: LineText,
-    /// The record whose line was made last, or any.
-    note: Note,
+    /// The text of the last record's time.
+    times: TimeText,
 }
 
 impl Report {
@@ -27,23 +27,17 @@ impl Report {
     pub(crate) fn new() -> Report {
         Report {
             text: LineText::new(),
-            note: Note {
-                number: 0,
-                time: Units(0),
-                body: NoteBody::Event {
-                    line: 0,
-                    what: What::End,
-                },
-            },
+            times: TimeText::new(),
         }
     }
 }
 
-/// Puts the line of a record.
+/// Puts the line of a record of no event.
 fn put_note<K: Sink>(
     text: &mut LineText,
+    times: &mut TimeText,
     network: &Network,
-    note: &Note,
+    note: &Given,
     out: &mut K,
 ) -> Result<(), Cut>
     requires in_range { IsInRange network.now }
@@ -55,7 +49,8 @@ fn put_note<K: Sink>(
     ensures counted { K.puts out.new ≡ next_count (K.puts out.old) }
     ensures cut { IfErr result (λ cut. cut ≡ Cut.WriteFault) }
 {
-    match write_in(text, network, note, out) {
+    make_plain_line(text, times, network, note);
+    match out.put(text.as_slice()) {
         Ok(()) => Ok(()),
         Err(_) => Err(Cut::WriteFault),
     }
@@ -98,8 +93,7 @@ impl<K: Sink> Observer<K> for Report {
         note: &Given,
         out: &mut K,
     ) -> Result<bool, Cut> {
-        note.note_in(&mut self.note);
-        match put_note(&mut self.text, network, &self.note, out) {
+        match put_note(&mut self.text, &mut self.times, network, note, out) {
             Ok(()) => Ok(false),
             Err(cut) => Err(cut),
         }
