@@ -9,6 +9,7 @@ pub mod AtOnce
 pub mod Awaits
 pub mod BefallenLaws
 pub mod Beginnings
+pub mod Dues
 pub mod Elsewhere
 pub mod EventRuns
 pub mod FirstSettled

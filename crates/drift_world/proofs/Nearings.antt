@@ -8,7 +8,8 @@ use Rattle.run_law.specs.machines.Tasks.{IsPending}
 use Rattle.world_law.proofs.giving.Given.{some_same}
 use Rattle.world_queue.specs.declared.Entry.{Entry}
 use Rattle.world_state.specs.Befalling.{AreSettledBy, entry_of}
-use Rattle.drift_world.{proofs.{Foremost.node_of, Showings.shows_of}, specs.{Nearing.{IsIdleAt, IsLess, Nears, acting, burden, come, distance}, Turns.IsActive}}
+use Rattle.drift_world.{proofs.{Foremost.node_of, Showings.shows_of}, specs.Turns.IsActive}
+use Rattle.drift_world.specs.Nearing.{IsIdleAt, IsLess, IsNoFarther, Nears, acting, burden, come, distance}
 use Rattle.drift_world.specs.declared.{next.Turn.TheVariants.{Ends, Gives, GoesOn}, state.State.State}
 
 -- ---- times that have come
@@ -272,3 +273,18 @@ nears_then E network until old mid new (Ok Ends) same nears = tt
 nears_then E network until old mid new (Ok GoesOn) same nears =
     subst (λ (n : ℕ). distance network until new < n) (ap (λ (t : State _ _). distance network until t) same) nears
 nears_then E network until old mid new (Err e) same nears = tt
+
+-- a turn of a state that is no farther than another
+pub no_farther : {C M : Type 0} (network : Network) (until : ℕ) (old new : State C M) (turn : Turn) → Nears network until old new turn
+    → IsNoFarther network until old new turn
+no_farther network until old new Gives nears = tt
+no_farther network until old new Ends nears = tt
+no_farther network until old new GoesOn nears = let lt : distance network until new < distance network until old = nears in omega (arith, lt)
+
+pub nears_behind : {C M : Type 0} (E : Type 0) (network : Network) (until : ℕ) (old mid new : State C M) (result : Result Turn E)
+    → distance network until mid ≤ distance network until old → IfOk result (Nears network until mid new) → IfOk result (Nears network until old new)
+nears_behind E network until old mid new (Ok Gives) le nears = tt
+nears_behind E network until old mid new (Ok Ends) le nears = tt
+nears_behind E network until old mid new (Ok GoesOn) le nears =
+    let lt : distance network until new < distance network until mid = nears in omega (arith, le, lt)
+nears_behind E network until old mid new (Err e) le nears = tt

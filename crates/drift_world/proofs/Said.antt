@@ -1,7 +1,8 @@
 -- What a settled record says, and the body of its record.
 use Rattle.drift_world.proofs.Words.{◌^◌, ◌≡◌, DeviceId, LinkId, changed_device, refl, ℕ}
-use Rattle.world_state.specs.{Bodies.body_of, declared.bodies.Kind.Kind}
-use Rattle.world_state.specs.declared.bodies.Kind.TheVariants as said
+use Rattle.plain_notes.specs.Bodies.{body_of}
+use Rattle.plain_notes.specs.declared.bodies.Kind.{Kind}
+use Rattle.plain_notes.specs.declared.bodies.Kind.TheVariants as said
 
 -- by what is not an arrival no frame begins to wait
 pub far_kind : (kind : Kind) → ((device : DeviceId) (link : LinkId) (cause clock : ℕ) → kind ≡ said.Arrived device link cause clock → ⊥)

@@ -1,5 +1,6 @@
 -- A turn of a world: what comes first, and what the steps keep.
-use Rattle.drift_world.proofs.Words.{◌++◌, ◌+◌, ◌<◌, ◌^◌, ◌↔◌, ◌∙◌, ◌∷◌, ◌≡◌, ◌≤◌, AreSettled, AreTimed, ChangesOnly, ComesFirst, DeviceId, Err, Happening}
+use Rattle.drift_world.proofs.Words.{◌++◌, ◌+◌, ◌<◌, ◌^◌, ◌↔◌, ◌∙◌, ◌∷◌, ◌≡◌, ◌≤◌, AreFirsts, AreSettled, AreTimed, ChangesOnly, ComesFirst, DeviceId, Due}
+use Rattle.drift_world.proofs.Words.{Err, Happening, Place}
 use Rattle.drift_world.proofs.Words.{HasItsOctets, HasNothingBefore, IfOk, IsAt, IsBefore, IsIn, IsRunning, IsScenarioRun, IsSound, IsTimed, IsWell, List}
 use Rattle.drift_world.proofs.Words.{Network, NoSourceBefore, Node, Note, Ok, OnErr, OnOk, Option, Result, Scenario, Settled, Some, SourceFirst, Stands, Turn}
 use Rattle.drift_world.proofs.Words.{World, [], ap, append-nil, arith, chain, happenings, inl, inr, keeps, length, length-map, map, never_self, own_place}
@@ -316,6 +317,27 @@ same_records reading stands s world notes more none is =
 pub either_end : {A E : Type 0} (result : Result A E) (P Q R : Type 0) → OnOk result P → OnErr result Q → (P → R) → (Q → R) → R
 either_end (Ok a) P Q R ok err f g = f ok
 either_end (Err e) P Q R ok err f g = g err
+
+-- where nothing is settled, a source comes first of it
+pub empty_first : (settled : List Settled) (source : Source) → settled ≡ [] → SourceFirst settled source
+empty_first settled source empty first others whole ahead = let e : first ∷ others ≡ [] = sym whole ∙ empty in absurd cc
+
+-- where a turn fails, it is not the time yet
+pub err_open : {C M : Type 0} (E : Type 0) (old new : State C M) (result : Result Turn E) (until : ℕ) → old.time < until
+    → OnErr result (new.time ≡ old.time) → OnErr result (new.time < until)
+err_open E old new (Ok t) until early same = tt
+err_open E old new (Err e) until early same = omega (arith, early, same)
+
+-- where time passes, what is first stays so, and the room is as it was
+pub firsts_passed : {C M : Type 0} (old new : State C M) (place : Option Place) (due : Option Due)
+    → new ≡ record old { time = new.time; early = new.early } → AreFirsts old place due → AreFirsts new place due
+firsts_passed old new place due same are =
+    subst (λ (t : State _ _). AreFirsts t place due) (sym same)
+    (record { some_place = are.some_place; no_place = are.no_place; some_due = are.some_due; no_due = are.no_due })
+
+pub room_passed : {C M : Type 0} (old new : State C M) → new ≡ record old { time = new.time; early = new.early } → HasRoom old → HasRoom new
+room_passed old new same room =
+    subst (λ (t : State _ _). HasRoom t) (sym same) (record { places = room.places; numbers = room.numbers })
 
 -- ---- one turn after the other
 

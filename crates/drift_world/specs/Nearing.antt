@@ -1,6 +1,6 @@
 -- How a world comes nearer to a time, turn by turn.
-use Rattle.std.specs.Prelude.{if◌then◌else◌, ◌*◌, ◌+◌, ◌-◌, ◌<◌, ◌∷◌, ◌≡◌, ◌⊎◌, List, Some, [], drop, length, nat_lt}
-use Rattle.std.specs.Prelude.{slice_get, ℕ}
+use Rattle.std.specs.Prelude.{if◌then◌else◌, ◌*◌, ◌+◌, ◌-◌, ◌<◌, ◌∷◌, ◌≡◌, ◌≤◌, ◌⊎◌, List, Some, [], drop, length}
+use Rattle.std.specs.Prelude.{nat_lt, slice_get, ℕ}
 use Rattle.net_plan.specs.declared.{ids.DeviceId.DeviceId, network.Network.Network}
 use Rattle.run_law.specs.{machines.Nodes.Node, scenario.Scenarios.Scenario}
 use Rattle.world_state.specs.declared.kept.Kept.{Kept}
@@ -39,6 +39,12 @@ abbrev pub Nears : {C M : Type 0} → Network → ℕ → State C M → State C 
 Nears network until old new GoesOn = distance network until new < distance network until old
 Nears network until old new Gives = Unit {0}
 Nears network until old new Ends = Unit {0}
+
+-- one where time may pass, and that goes on, does not go away from it
+abbrev pub IsNoFarther : {C M : Type 0} → Network → ℕ → State C M → State C M → Turn → Type 0
+IsNoFarther network until old new GoesOn = distance network until new ≤ distance network until old
+IsNoFarther network until old new Gives = Unit {0}
+IsNoFarther network until old new Ends = Unit {0}
 
 -- in each scenario whose clocks, ways and broken devices the state shows, the device has nothing to do now
 abbrev pub IsIdleAt : {C M : Type 0} → (C → ℕ → ℕ) → (M → Network → DeviceId → Node → Type 0) → Network → State C M

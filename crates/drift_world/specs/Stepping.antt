@@ -1,8 +1,10 @@
 -- Where a state stands, and what a step of it leaves.
-use Rattle.std.specs.Prelude.{◌+◌, ◌<◌, ◌^◌, ◌↔◌, ◌≡◌, ◌≤ℤ◌, ◌≤◌, List, Some, length, pos, slice_get, ℕ}
+use Rattle.std.specs.Prelude.{◌+◌, ◌<◌, ◌^◌, ◌↔◌, ◌≡◌, ◌≤ℤ◌, ◌≤◌, IfSome, IsSomeAnd, List, Option, Some}
+use Rattle.std.specs.Prelude.{length, pos, slice_get, ℕ}
 use Rattle.net_plan.specs.declared.{ids.DeviceId.DeviceId, network.Network.Network}
 use Rattle.run_law.specs.{declared.note.Note.Note, machines.{Nodes.Node, Tasks.{IsPending, Task, reading_for}}}
 use Rattle.run_law.specs.{records.Order.IsIn, scenario.Scenarios.Scenario}
+use Rattle.tte_units.specs.declared.units.Units.{Units}
 use Rattle.world_law.specs.world.{Moves.ComesFirst, World.Stands}
 use Rattle.world_state.specs.{Keeping.keeps, declared.{contents.Waits.Waits, kept.Kept.Kept}}
 use Rattle.world_timers.specs.Times.{never}
@@ -87,3 +89,15 @@ pub record IsTimed {C M : Type 0} (reading : C → ℕ → ℕ) (stands : M → 
   pub act : ℕ
   pub of_act : slice_get timers (length network.device + device.0) ≡ Some act
   pub acts : ActsAt reading stands network clock machine device state.time act
+
+-- the timer of the device is right for a machine that acts by itself at this reading next, or never
+pub record IsDueBy {C : Type 0} (reading : C → ℕ → ℕ) (clock : C) (due : Option Units) (now time : ℕ) : Type 0 where
+  pub none : IfSome due (λ at. (u : ℕ) → now ≤ u → u ≤ 2 ^ 60 → at.0 ≤ℤ pos (reading clock u) → time ≤ u)
+  pub one : time < never → IsSomeAnd due (λ at. at.0 ≤ℤ pos (reading clock time))
+
+-- and so is that of the state
+abbrev pub IsDueTimed : {C M : Type 0} → (C → ℕ → ℕ) → Network → State C M → ℕ → Option Units → Type 0
+IsDueTimed reading network state device due =
+    (clock : _) (time : ℕ)
+    → slice_get state.clocks.items device ≡ Some clock
+    → slice_get state.timers (length network.device + device) ≡ Some time → IsDueBy reading clock due state.time time

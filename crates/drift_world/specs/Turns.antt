@@ -132,6 +132,12 @@ pub record HasRoom {C M : Type 0} (state : State C M) : Type 0 where
   pub places : deque_len state.settled + 2 ≤ deque_capacity state.settled
   pub numbers : state.given + length state.settled.items + 2 < 2 ^ 64 - 1
 
+-- nothing is settled, no events are to be settled, and the end has not come
+pub record IsCalm {C M : Type 0} (state : State C M) : Type 0 where
+  pub pending : state.pending ≡ false
+  pub ended : state.ended ≡ false
+  pub empty : state.settled.items ≡ []
+
 -- the source comes first of all that is under way
 pub record IsForemost {C M : Type 0} (reading : C → ℕ → ℕ) (stands : M → Network → DeviceId → Node
     → Type 0) (network : Network) (state : State C M)

@@ -93,6 +93,7 @@ impl<C: Clock, M: Machine + Drop> State<C, M> {
     }
 
     /// The records of an act of the device that was in this state, and has this adjustment then.
+    #[inline(always)]
     fn outcomes_of(
         &self,
         network: &Network,
@@ -144,6 +145,7 @@ impl<C: Clock, M: Machine + Drop> State<C, M> {
     }
 
     /// The device does the first of all that is due. What has it to do then?
+    #[inline(always)]
     fn act_once(&mut self, network: &Network, device: DeviceId) -> ToDo
         requires sound { IsSound C.last_step network.now self.old }
         requires range { IsInRange network.now }

@@ -10,10 +10,10 @@ use crate::source::{ARRIVING, LEAVING};
 use crate::state::State;
 use drift_clock::Clock;
 use net_plan::Network;
+use plain_notes::Given;
 use run_law::Machine;
 use world_queue::Place;
 use world_state::OutOfMemory;
-use world_state::bodies::Given;
 use world_state::contents::{Settled, Waits};
 use world_state::giving::make_room;
 use world_state::ripening::{record_of, settle_ripe};
@@ -28,7 +28,7 @@ impl<C: Clock, M: Machine + Drop> State<C, M> {
     ghost use Rattle.drift_world.specs.{Views.{with_first, world_of}, declared.source.Source.Source as SourceOf};
 
     /// Is nothing settled?
-    fn has_none_settled(&self) -> bool
+    pub fn has_none_settled(&self) -> bool
         ensures { IsTrue result ↔ (self.now.settled.items ≡ []) }
     {
         self.settled.is_empty()
@@ -36,6 +36,7 @@ impl<C: Clock, M: Machine + Drop> State<C, M> {
 
     /// The record, which is put in nowhere, is given: nothing is settled, and nothing to come stands before it. On an
     /// error it is put in among what is settled.
+    #[inline(always)]
     fn give_alone(
         &mut self,
         network: &Network,
@@ -82,6 +83,7 @@ impl<C: Clock, M: Machine + Drop> State<C, M> {
 
     /// What is first on a wire arrives. Where nothing is settled, and it is a control frame that its device takes, its
     /// record is given at once: it stands at the place of the source.
+    #[inline(always)]
     pub fn arrival_turn(
         &mut self,
         network: &Network,
@@ -102,19 +104,21 @@ impl<C: Clock, M: Machine + Drop> State<C, M> {
         ensures err { OnErr result (self.new.time ≡ self.old.time) }
     {
         let alone = self.has_none_settled();
+        let before = self.machines[place.device as usize].due();
         let record = self.hear_wire(network, place);
         if alone && rank_of(&record) == u64::from(ARRIVING) {
             let turn = self.give_alone(network, record, note);
-            self.rekey(network, place.device);
+            self.rekey_from(network, place.device, before);
             return turn;
         }
         put_in(&mut self.settled, record);
-        self.rekey_act(network, place.device);
+        self.rekey_act_from(network, place.device, before);
         Ok(Turn::GoesOn)
     }
 
     /// The frame that is first at a port leaves. Where nothing is settled, and it goes on its wire, its record is given
     /// at once: it stands at the place of the source.
+    #[inline(always)]
     pub fn departure_turn(
         &mut self,
         network: &Network,
@@ -147,6 +151,7 @@ impl<C: Clock, M: Machine + Drop> State<C, M> {
 
     /// The frame that is the first that is permanent is judged. Where nothing is settled, and its only record is how it
     /// is judged, this is given at once: it stands at the place of the source.
+    #[inline(always)]
     pub fn ripening_turn(
         &mut self,
         network: &Network,
@@ -167,15 +172,16 @@ impl<C: Clock, M: Machine + Drop> State<C, M> {
         ensures err { OnErr result (self.new.time ≡ self.old.time) }
     {
         let alone = self.has_none_settled();
+        let before = self.machines[one.device.0 as usize].due();
         let ripened = self.ripen_waits(network, one.device);
         if alone && is_judged(ripened.ripe) {
             let record = record_of(&ripened.waits, ripened.ripe);
             let turn = self.give_alone(network, record, note);
-            self.rekey(network, one.device.0);
+            self.rekey_from(network, one.device.0, before);
             return turn;
         }
         settle_ripe(&mut self.settled, &ripened.waits, ripened.ripe);
-        self.rekey(network, one.device.0);
+        self.rekey_from(network, one.device.0, before);
         Ok(Turn::GoesOn)
     }
 }

@@ -7,10 +7,10 @@ use crate::source::Source;
 use crate::state::State;
 use drift_clock::Clock;
 use net_plan::{DeviceId, Network};
+use plain_notes::Given;
 use run_law::Machine;
 use world_queue::Place;
 use world_state::OutOfMemory;
-use world_state::bodies::Given;
 use world_state::settled::rank_of;
 use world_timers::Due;
 
@@ -71,6 +71,7 @@ impl<C: Clock, M: Machine + Drop> State<C, M> {
 
     /// The source of the present instant that comes first is worked off. Where what it comes to stands before all that
     /// is to come of the instant, it is given at once.
+    #[inline(always)]
     pub fn work_turn(
         &mut self,
         network: &Network,
@@ -112,6 +113,7 @@ impl<C: Clock, M: Machine + Drop> State<C, M> {
 
     /// The device does what is due. Where the first that is settled then stands before all that is to come of the
     /// instant, it is given at once.
+    #[inline(always)]
     fn acting_turn(
         &mut self,
         network: &Network,
@@ -141,7 +143,7 @@ impl<C: Clock, M: Machine + Drop> State<C, M> {
     }
 
     /// Does the first that is settled stand before all that is to come of the instant, as the ranks tell?
-    fn is_first_next(&self, network: &Network) -> bool
+    pub fn is_first_next(&self, network: &Network) -> bool
         requires well { IsWell C.last_step C.reading M.stands network.now self.now }
         ensures some { result ≡ true → 0 < length self.now.settled.items }
         ensures nothing { result ≡ true → (first : SettledValue) (others : List SettledValue)

@@ -7,10 +7,10 @@ use crate::state::State;
 use drift_clock::Clock;
 use net_plan::{DeviceId, Network};
 use pcf_values::Pcf;
+use plain_notes::{Body, Given, Kind};
 use run_law::Machine;
 use tte_units::Units;
 use world_state::OutOfMemory;
-use world_state::bodies::{Body, Given, Kind};
 use world_state::contents::{Settled, Spot, Timed};
 use world_state::giving::{Giving, give_frame, make_room};
 use world_state::naming::name_followers;
@@ -33,6 +33,7 @@ impl<C: Clock, M: Machine + Drop> State<C, M> {
     ghost use Rattle.drift_world.specs.{Stepping.{ChangesOnly, IsRunning}, Views.{with_first, world_of}};
 
     /// The frame of a record that its device gives to links, or waits for.
+    #[inline(always)]
     fn giving_by(
         &self,
         network: &Network,
@@ -62,6 +63,7 @@ impl<C: Clock, M: Machine + Drop> State<C, M> {
     }
 
     /// Puts on a wire what a record puts there.
+    #[inline(always)]
     fn launch_wire(
         &mut self,
         network: &Network,
@@ -94,6 +96,7 @@ impl<C: Clock, M: Machine + Drop> State<C, M> {
     }
 
     /// Gives the frame of a record to ports and has it wait, as its device does.
+    #[inline(always)]
     fn launch_frame(&mut self, network: &Network, body: &Body, frame: Option<Pcf>, number: u64)
         requires sized { IsSized C.last_step network.now self.old }
         requires range { IsInRange network.now }
@@ -124,6 +127,7 @@ impl<C: Clock, M: Machine + Drop> State<C, M> {
     }
 
     /// Puts on a wire what a record puts there, or stores what a switch took by it.
+    #[inline(always)]
     fn launch_octets(
         &mut self,
         network: &Network,
@@ -156,6 +160,7 @@ impl<C: Clock, M: Machine + Drop> State<C, M> {
     }
 
     /// Gives the first settled record, which was taken out, its number, and launches what it does.
+    #[inline(always)]
     pub fn give_first(&mut self, network: &Network, first: Settled, note: &mut Given)
         requires sound { IsSound C.last_step network.now self.old }
         requires range { IsInRange network.now }

@@ -21,6 +21,7 @@ use world_state::hearing::{arrived, hear_signal, take_wire};
 impl<C: Clock, M: Machine + Drop> State<C, M> {
     /// What is on a wire and the first of all that is under way arrives: its device hears it. The record of it is
     /// answered, which is to be put in among what is settled.
+    #[inline(always)]
     pub fn hear_wire(&mut self, network: &Network, place: Place) -> Settled
         requires sound { IsSound C.last_step network.now self.old }
         requires range { IsInRange network.now }

@@ -20,4 +20,4 @@ mod timing;
 mod world;
 
 pub use world::World;
-pub use world_state::{EventNote, Given, OutOfMemory};
+pub use world_state::{EventNote, OutOfMemory};

@@ -5,15 +5,17 @@ ghost use Rattle.run_law.specs.{declared.note.Note.Note as NoteOf, runs.DueRecor
 ghost use Rattle.run_law.specs.scenario.Scenarios.{Scenario};
 ghost use Rattle.drift_world.specs.Turns.{IsAhead, own_numbers};
 
-use crate::source::{Source, own_numbers, rank_in_order};
+use crate::source::{Source, least_of, own_numbers, rank_in_order};
 use crate::state::State;
 use drift_clock::Clock;
 use net_plan::Network;
+use plain_notes::{Body, Given, Kind};
 use run_law::Machine;
+use world_queue::Place;
 use world_state::OutOfMemory;
-use world_state::bodies::{Body, Given, Kind};
 use world_state::contents::Settled;
 use world_state::settled::{is_before_in_all, rank_of};
+use world_timers::Due;
 
 /// The last time of a run.
 const LAST: u64 = 1 << 60;
@@ -45,10 +47,11 @@ impl<C: Clock, M: Machine + Drop> State<C, M> {
     ghost use Rattle.tte_units.specs.Amount.{units_of};
     ghost use Rattle.world_law.specs.world.World.{Stands};
     ghost use Rattle.world_state.specs.{Giving.{ArrivedAt, changed_device}, Keeping.keeps, Views.settled_at};
-    ghost use Rattle.drift_world.specs.{Nearing.Nears, Running.{given_by, next_of}, Sound.IsSized};
-    ghost use Rattle.drift_world.specs.{Sourcing.{AreTimed, HasNothingBefore}, Stepping.{ChangesOnly, IsRunning}};
-    ghost use Rattle.drift_world.specs.Turns.{GivesAt, HasCome, HasRoom, IsAfter, IsWhole, PassSays, SettledFirst};
-    ghost use Rattle.drift_world.specs.Turns.{SourceFirst, TurnSays, given_in};
+    ghost use Rattle.drift_world.specs.{Nearing.{IsNoFarther, Nears}, Running.{given_by, next_of}, Sound.IsSized};
+    ghost use Rattle.drift_world.specs.{Sourcing.{AreFirsts, AreTimed, HasNothingBefore}, Stepping.ChangesOnly};
+    ghost use Rattle.drift_world.specs.Stepping.{IsRunning};
+    ghost use Rattle.drift_world.specs.Turns.{GivesAt, HasCome, HasRoom, IsAfter, IsCalm, IsWhole, PassSays};
+    ghost use Rattle.drift_world.specs.Turns.{SettledFirst, SourceFirst, TurnSays, given_in};
     ghost use Rattle.drift_world.specs.{Views.world_of, Wells.IsWell};
     ghost use Rattle.world_state.specs.declared.contents.Settled.{Settled as SettledValue};
     ghost use Rattle.drift_world.specs.declared.state.State.{State as StateOf};
@@ -111,7 +114,7 @@ impl<C: Clock, M: Machine + Drop> State<C, M> {
             → IfOk result (λ turn. IsWhole s notes until turn) }
         ensures says { IfOk result (λ turn. TurnSays self.old self.new until note.new turn) }
         ensures nears { IfOk result (λ turn. Nears network.now until self.old self.new turn) }
-        ensures err { OnErr result (self.new.time ≡ self.old.time) }
+        ensures err { OnErr result (self.new.time < until) }
     {
         if let Err(error) = self.make_places() {
             return Err(error);
@@ -142,12 +145,128 @@ impl<C: Clock, M: Machine + Drop> State<C, M> {
             → IfOk result (λ turn. IsWhole s notes until turn) }
         ensures says { IfOk result (λ turn. TurnSays self.old self.new until note.new turn) }
         ensures nears { IfOk result (λ turn. Nears network.now until self.old self.new turn) }
+        ensures err { OnErr result (self.new.time < until) }
+    {
+        if self.is_calm() {
+            return self.quick_turn(network, until, note);
+        }
+        if self.is_first_next(network) {
+            return self.give_next(network, note);
+        }
+        self.full_turn(network, until, note)
+    }
+
+    /// Is nothing settled or pending, and has the end not come?
+    fn is_calm(&self) -> bool
+        ensures { IsTrue result → IsCalm self.now }
+    {
+        !self.pending && !self.ended && self.has_none_settled()
+    }
+
+    /// A turn, whatever is settled or to come.
+    #[inline(never)]
+    fn full_turn(
+        &mut self,
+        network: &Network,
+        until: u64,
+        note: &mut Given,
+    ) -> Result<Turn, OutOfMemory>
+        requires range { IsInRange network.now }
+        requires well { IsWell C.last_step C.reading M.stands network.now self.old }
+        requires limit { until ≤ 2 ^ 60 + 1 }
+        requires open { self.old.time < until }
+        requires ended { self.old.ended ≡ true → until ≤ self.old.time + 1 }
+        requires room { HasRoom self.old }
+        ensures well { IsWell C.last_step C.reading M.stands network.now self.new }
+        ensures after { IsAfter self.old self.new }
+        ensures stands { (s : Scenario) (notes : List NoteOf)
+            → Stands C.reading (keeps M.stands) s (world_of network.now self.old) notes
+            → Stands C.reading (keeps M.stands) s (world_of network.now self.new) (notes ++ given_in result note.new) }
+        ensures whole { (s : Scenario) (notes : List NoteOf)
+            → Stands C.reading (keeps M.stands) s (world_of network.now self.old) notes
+            → IfOk result (λ turn. IsWhole s notes until turn) }
+        ensures says { IfOk result (λ turn. TurnSays self.old self.new until note.new turn) }
+        ensures nears { IfOk result (λ turn. Nears network.now until self.old self.new turn) }
         ensures err { OnErr result (self.new.time ≡ self.old.time) }
     {
         let source = self.first_source(network, until);
         if self.has_first(&source) {
             return self.give_next(network, note);
         }
+        if let Source::Later(time) = source {
+            return Ok(self.pass_on(network, time, until));
+        }
+        self.work_turn(network, source, note)
+    }
+
+    /// A turn where nothing is settled or pending, and the end has not come: time passes up to what comes first, and
+    /// this is worked off. Both queues are looked at once.
+    #[inline(always)]
+    fn quick_turn(
+        &mut self,
+        network: &Network,
+        until: u64,
+        note: &mut Given,
+    ) -> Result<Turn, OutOfMemory>
+        requires range { IsInRange network.now }
+        requires well { IsWell C.last_step C.reading M.stands network.now self.old }
+        requires limit { until ≤ 2 ^ 60 + 1 }
+        requires open { self.old.time < until }
+        requires ended { self.old.ended ≡ true → until ≤ self.old.time + 1 }
+        requires room { HasRoom self.old }
+        requires calm { IsCalm self.old }
+        ensures well { IsWell C.last_step C.reading M.stands network.now self.new }
+        ensures after { IsAfter self.old self.new }
+        ensures stands { (s : Scenario) (notes : List NoteOf)
+            → Stands C.reading (keeps M.stands) s (world_of network.now self.old) notes
+            → Stands C.reading (keeps M.stands) s (world_of network.now self.new) (notes ++ given_in result note.new) }
+        ensures whole { (s : Scenario) (notes : List NoteOf)
+            → Stands C.reading (keeps M.stands) s (world_of network.now self.old) notes
+            → IfOk result (λ turn. IsWhole s notes until turn) }
+        ensures says { IfOk result (λ turn. TurnSays self.old self.new until note.new turn) }
+        ensures nears { IfOk result (λ turn. Nears network.now until self.old self.new turn) }
+        ensures err { OnErr result (self.new.time < until) }
+    {
+        let place = self.under_way.first();
+        let due = self.timers.first();
+        let time = least_of(place, due, until);
+        match self.pass_up(network, time, until) {
+            Turn::GoesOn => self.source_turn(network, until, place, due, note),
+            turn => Ok(turn),
+        }
+    }
+
+    /// What comes first of all that is under way is worked off, or time passes: nothing is settled.
+    #[inline(always)]
+    fn source_turn(
+        &mut self,
+        network: &Network,
+        until: u64,
+        place: Option<Place>,
+        due: Option<Due>,
+        note: &mut Given,
+    ) -> Result<Turn, OutOfMemory>
+        requires range { IsInRange network.now }
+        requires well { IsWell C.last_step C.reading M.stands network.now self.old }
+        requires limit { until ≤ 2 ^ 60 + 1 }
+        requires open { self.old.time < until }
+        requires ended { self.old.ended ≡ true → until ≤ self.old.time + 1 }
+        requires room { HasRoom self.old }
+        requires empty { self.old.settled.items ≡ [] }
+        requires firsts { AreFirsts self.old place due }
+        ensures well { IsWell C.last_step C.reading M.stands network.now self.new }
+        ensures after { IsAfter self.old self.new }
+        ensures stands { (s : Scenario) (notes : List NoteOf)
+            → Stands C.reading (keeps M.stands) s (world_of network.now self.old) notes
+            → Stands C.reading (keeps M.stands) s (world_of network.now self.new) (notes ++ given_in result note.new) }
+        ensures whole { (s : Scenario) (notes : List NoteOf)
+            → Stands C.reading (keeps M.stands) s (world_of network.now self.old) notes
+            → IfOk result (λ turn. IsWhole s notes until turn) }
+        ensures says { IfOk result (λ turn. TurnSays self.old self.new until note.new turn) }
+        ensures nears { IfOk result (λ turn. Nears network.now until self.old self.new turn) }
+        ensures err { OnErr result (self.new.time ≡ self.old.time) }
+    {
+        let source = self.source_by(network, until, place, due);
         if let Source::Later(time) = source {
             return Ok(self.pass_on(network, time, until));
         }
@@ -230,6 +349,36 @@ impl<C: Clock, M: Machine + Drop> State<C, M> {
         }
     }
 
+    /// Time passes, as nothing is under way before this time, if it is later.
+    #[inline(always)]
+    fn pass_up(&mut self, network: &Network, time: u64, until: u64) -> Turn
+        requires range { IsInRange network.now }
+        requires well { IsWell C.last_step C.reading M.stands network.now self.old }
+        requires limit { until ≤ 2 ^ 60 + 1 }
+        requires open { self.old.time < until }
+        requires within { time ≤ until }
+        requires ended { self.old.ended ≡ true → until ≤ self.old.time + 1 }
+        requires nothing { HasNothingBefore C.reading M.stands network.now self.old (time ∷ []) }
+        requires empty { self.old.settled.items ≡ [] }
+        ensures well { IsWell C.last_step C.reading M.stands network.now self.new }
+        ensures after { IsAfter self.old self.new }
+        ensures stands { (s : Scenario) (notes : List NoteOf)
+            → Stands C.reading (keeps M.stands) s (world_of network.now self.old) notes
+            → Stands C.reading (keeps M.stands) s (world_of network.now self.new) notes }
+        ensures whole { (s : Scenario) (notes : List NoteOf)
+            → Stands C.reading (keeps M.stands) s (world_of network.now self.old) notes
+            → IsWhole s notes until result }
+        ensures says { PassSays self.old self.new until result }
+        ensures nearer { IsNoFarther network.now until self.old self.new result }
+        ensures same { self.new ≡ record self.old { time = self.new.time; early = self.new.early } }
+    {
+        if self.time < time {
+            self.pass_on(network, time, until)
+        } else {
+            Turn::GoesOn
+        }
+    }
+
     /// Time passes, as nothing is under way before this time.
     fn pass_on(&mut self, network: &Network, time: u64, until: u64) -> Turn
         requires range { IsInRange network.now }
@@ -250,6 +399,7 @@ impl<C: Clock, M: Machine + Drop> State<C, M> {
             → IsWhole s notes until result }
         ensures says { PassSays self.old self.new until result }
         ensures nears { Nears network.now until self.old self.new result }
+        ensures same { self.new ≡ record self.old { time = self.new.time; early = self.new.early } }
     {
         if self.ended || time > LAST {
             return Turn::Ends;

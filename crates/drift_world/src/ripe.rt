@@ -14,6 +14,7 @@ impl<C: Clock, M: Machine + Drop> State<C, M> {
     ghost use Rattle.drift_world.specs.Sound.{IsSized};
 
     /// Of the frames that wait at the device and to whose points its clock has come, the first that is permanent.
+    #[inline(always)]
     pub fn ripe_frame(&self, network: &Network, device: DeviceId) -> Option<Waits>
         requires sized { IsSized C.last_step network.now self.now }
         requires there { device.0 < length network.now.device }

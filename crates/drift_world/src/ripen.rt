@@ -38,6 +38,7 @@ impl<C: Clock, M: Machine + Drop> State<C, M> {
 
     /// The first frame that waits at the device is permanent: the first of all that is to come. It is answered, with
     /// what becomes of it, whose records are to be put in among what is settled.
+    #[inline(always)]
     pub fn ripen_waits(&mut self, network: &Network, device: DeviceId) -> Ripened
         requires sound { IsSound C.last_step network.now self.old }
         requires range { IsInRange network.now }

@@ -64,7 +64,7 @@ fn slot_at(due: Option<Due>, time: u64) -> Option<usize>
 }
 
 /// The least of the times of a place, of a timer and of this one.
-fn least_of(place: Option<Place>, due: Option<Due>, time: u64) -> u64
+pub fn least_of(place: Option<Place>, due: Option<Due>, time: u64) -> u64
     ensures within { result ≤ time }
     ensures place { IfSome place (λ p. result ≤ p.at) }
     ensures due { IfSome due (λ d. result ≤ d.time) }
@@ -122,7 +122,7 @@ pub fn own_numbers(source: &Source) -> Option<ArrayVec<u64, MOST>>
 }
 
 impl<C: Clock, M: Machine + Drop> State<C, M> {
-    ghost use Rattle.drift_world.specs.Sourcing.{HasNothingBefore};
+    ghost use Rattle.drift_world.specs.Sourcing.{AreFirsts, HasNothingBefore};
     ghost use Rattle.drift_world.specs.{Turns.{IsSlotPlace, IsThere, IsWithin, source_place}, Wells.IsWell};
 
     /// What comes first of all that is under way before a time.
@@ -136,6 +136,26 @@ impl<C: Clock, M: Machine + Drop> State<C, M> {
     {
         let place = self.under_way.first();
         let due = self.timers.first();
+        self.source_by(network, until, place, due)
+    }
+
+    /// The same, where the place of the first that is under way and the first timer are known.
+    #[inline(always)]
+    pub fn source_by(
+        &self,
+        network: &Network,
+        until: u64,
+        place: Option<Place>,
+        due: Option<Due>,
+    ) -> Source
+        requires well { IsWell C.last_step C.reading M.stands network.now self.now }
+        requires limit { until ≤ 2 ^ 60 + 1 }
+        requires open { self.now.time < until }
+        requires firsts { AreFirsts self.now place due }
+        ensures there { IsThere C.reading M.stands network.now self.now result }
+        ensures within { IsWithin until result }
+        ensures nothing { HasNothingBefore C.reading M.stands network.now self.now (source_place self.now.time result) }
+    {
         if self.pending {
             return Source::Events;
         }
@@ -155,6 +175,7 @@ impl<C: Clock, M: Machine + Drop> State<C, M> {
     }
 
     /// The source of a slot that is due now: the first of the frames that wait at its device, or the device's act.
+    #[inline(always)]
     fn source_of_slot(&self, network: &Network, slot: usize) -> Source
         requires well { IsWell C.last_step C.reading M.stands network.now self.now }
         requires due { IsFirstDue self.now.timers (record { time = self.now.time; slot = slot }) }

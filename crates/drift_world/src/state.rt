@@ -9,6 +9,7 @@ use drift_clock::Clock;
 use made_frames::MadeFrame;
 use net_plan::{DeviceId, Event, LinkId, Network, Way, What};
 use pcf_values::Pcf;
+use plain_notes::{Body, Kind};
 use run_law::{Machine, NoteBody};
 use std::collections::VecDeque;
 use sync_state::State as DeviceState;
@@ -18,7 +19,6 @@ use world_state::OutOfMemory;
 use world_state::applying::{
     befall_machines, breaks_on, drop_waiting, ends, keep_befallen, set_broken, set_rate, set_way,
 };
-use world_state::bodies::{Body, Kind};
 use world_state::contents::{Befallen, Content, Settled, WayState};
 use world_state::event_notes::EventNote;
 use world_state::frames::Frames;
@@ -178,6 +178,7 @@ impl<C: Clock, M: Machine + Drop> State<C, M> {
     }
 
     /// The record of a frame at a port that leaves; of a broken device there is none.
+    #[inline(always)]
     fn departure(&self, network: &Network, place: Place, frame: Pcf, given: u64) -> Option<Settled>
         requires sized { IsSized C.last_step network.now self.now }
         requires range { IsInRange network.now }
@@ -200,6 +201,7 @@ impl<C: Clock, M: Machine + Drop> State<C, M> {
 
     /// The frame at a port that is the first of all leaves. The record of it is answered, which is to be put in among
     /// what is settled; of a broken device there is none.
+    #[inline(always)]
     pub fn leave_port(&mut self, network: &Network, place: Place) -> Option<Settled>
         requires sound { IsSound C.last_step network.now self.old }
         requires range { IsInRange network.now }

@@ -25,6 +25,7 @@ impl<C: Clock, M: Machine + Drop> State<C, M> {
     }
 
     /// The device does what is due.
+    #[inline(always)]
     pub fn act(&mut self, network: &Network, device: DeviceId) -> Result<(), OutOfMemory>
         requires range { IsInRange network.now }
         requires well { IsWell C.last_step C.reading M.stands network.now self.old }

@@ -1,4 +1,4 @@
-ghost use Rattle.std.specs.Prelude.{◌≡◌, ℕ, ◌+◌, ◌*◌, ◌≤◌, ◌<◌, All, length, slice_get};
+ghost use Rattle.std.specs.Prelude.{◌≡◌, ℕ, ◌+◌, ◌*◌, ◌≤◌, ◌<◌, All, IsTrue, length, slice_get};
 ghost use Rattle.net_plan.specs.Ranges.{IsInRange};
 
 use crate::state::State;
@@ -8,11 +8,19 @@ use run_law::Machine;
 use tte_units::Units;
 use world_state::timing::{least_point, time_for};
 
+/// Are two readings, if there are such, the same?
+fn is_same(one: Option<Units>, other: Option<Units>) -> bool
+    ensures { IsTrue result → one ≡ other }
+{
+    one == other
+}
+
 impl<C: Clock, M: Machine + Drop> State<C, M> {
     ghost use Rattle.drift_world.specs.{Acting.IsNextDue, Sound.IsSized, Sourcing.AreTimed};
-    ghost use Rattle.drift_world.specs.Stepping.{IsActTimed, IsRipeTimed, IsRunning, IsTimed};
+    ghost use Rattle.drift_world.specs.Stepping.{IsActTimed, IsDueTimed, IsRipeTimed, IsRunning, IsTimed};
 
     /// Sets the timer of a device for the frames that wait at it.
+    #[inline(always)]
     pub fn rekey_ripe(&mut self, network: &Network, device: u32)
         requires sized { IsSized C.last_step network.now self.old }
         requires there { device < length network.now.device }
@@ -33,6 +41,7 @@ impl<C: Clock, M: Machine + Drop> State<C, M> {
     }
 
     /// Sets the timer of a device for what it does by itself: at this reading, or never.
+    #[inline(always)]
     pub fn rekey_act_at(&mut self, network: &Network, device: u32, due: Option<Units>)
         requires sized { IsSized C.last_step network.now self.old }
         requires there { device < length network.now.device }
@@ -54,6 +63,7 @@ impl<C: Clock, M: Machine + Drop> State<C, M> {
     }
 
     /// Sets the timer of a device for what it does by itself, at the reading that its machine tells.
+    #[inline(always)]
     pub fn rekey_act(&mut self, network: &Network, device: u32)
         requires sized { IsSized C.last_step network.now self.old }
         requires there { device < length network.now.device }
@@ -72,6 +82,7 @@ impl<C: Clock, M: Machine + Drop> State<C, M> {
     }
 
     /// Sets the timers of a device: for the frames that wait at it, and for what it does by itself.
+    #[inline(always)]
     pub fn rekey(&mut self, network: &Network, device: u32)
         requires sized { IsSized C.last_step network.now self.old }
         requires there { device < length network.now.device }
@@ -87,6 +98,51 @@ impl<C: Clock, M: Machine + Drop> State<C, M> {
     {
         self.rekey_ripe(network, device);
         self.rekey_act(network, device);
+    }
+
+    /// Sets the timer of a device for what it does by itself, if the reading that its machine tells is not this, for
+    /// which the timer is right.
+    #[inline(always)]
+    pub fn rekey_act_from(&mut self, network: &Network, device: u32, before: Option<Units>)
+        requires sized { IsSized C.last_step network.now self.old }
+        requires there { device < length network.now.device }
+        requires slots { length self.old.timers ≡ 2 * length network.now.device }
+        requires running { IsRunning C.reading M.stands network.now self.old }
+        requires before { IsDueTimed C.reading network.now self.old device before }
+        ensures same { self.new ≡ record self.old { timers = self.new.timers } }
+        ensures timed { IsActTimed C.reading M.stands network.now self.new.timers self.new (record { 0 = device }) }
+        ensures sized { length self.new.timers ≡ length self.old.timers }
+        ensures others { (slot : ℕ) → (slot ≡ length network.now.device + device → ⊥)
+            → slice_get self.new.timers slot ≡ slice_get self.old.timers slot }
+        ensures later { All (λ (time : ℕ). self.old.time ≤ time) self.old.timers
+            → All (λ (time : ℕ). self.new.time ≤ time) self.new.timers }
+    {
+        let due = self.machines[device as usize].due();
+        if is_same(due, before) {
+            return;
+        }
+        self.rekey_act_at(network, device, due);
+    }
+
+    /// Sets the timers of a device: for the frames that wait at it, and for what it does by itself, if the reading that
+    /// its machine tells is not this, for which the timer is right.
+    #[inline(always)]
+    pub fn rekey_from(&mut self, network: &Network, device: u32, before: Option<Units>)
+        requires sized { IsSized C.last_step network.now self.old }
+        requires there { device < length network.now.device }
+        requires slots { length self.old.timers ≡ 2 * length network.now.device }
+        requires running { IsRunning C.reading M.stands network.now self.old }
+        requires before { IsDueTimed C.reading network.now self.old device before }
+        ensures same { self.new ≡ record self.old { timers = self.new.timers } }
+        ensures timed { IsTimed C.reading M.stands network.now self.new.timers self.new (record { 0 = device }) }
+        ensures sized { length self.new.timers ≡ length self.old.timers }
+        ensures others { (slot : ℕ) → (slot ≡ device → ⊥) → (slot ≡ length network.now.device + device → ⊥)
+            → slice_get self.new.timers slot ≡ slice_get self.old.timers slot }
+        ensures later { All (λ (time : ℕ). self.old.time ≤ time) self.old.timers
+            → All (λ (time : ℕ). self.new.time ≤ time) self.new.timers }
+    {
+        self.rekey_ripe(network, device);
+        self.rekey_act_from(network, device, before);
     }
 
     /// Sets the timers of all devices, where none is past.

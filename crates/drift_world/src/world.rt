@@ -13,13 +13,13 @@ use crate::local::local_of;
 use crate::state::State;
 use drift_clock::Clock;
 use net_plan::{DeviceId, Event};
+use plain_notes::Given;
 use run_law::{Machine, Note};
 use schedule_tables::Accepted;
 use std::alloc::Global;
 use std::marker::Model;
 use tte_units::Units;
 use world_state::OutOfMemory;
-use world_state::bodies::Given;
 use world_state::event_notes::EventNote;
 
 /// A network as it runs: events are applied to it, and it gives the records of its run.

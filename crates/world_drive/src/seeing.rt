@@ -9,8 +9,8 @@ ghost use Rattle.world_drive.specs.Seeing.{ComesNext, CutsAtEvent, CutsBefore, H
 ghost use Rattle.world_drive.specs.Seeing.{IsPast, IsUnderwayAt, MayMeet, SeesEvent, SeesInstant, SeesUntil};
 
 use crate::observing::{Cut, Observer};
-use drift_world::Given;
 use net_plan::{Event, Network};
+use plain_notes::Given;
 use tte_io::Sink;
 use tte_units::Units;
 use world_exact::ExactWorld;

@@ -1,11 +1,29 @@
--- A frame is given to one link more.
-use Rattle.std.proofs.{Common.{◌+◌, ◌∙◌, ◌∷◌, ◌≡◌, List, ap, arith, get_or, inl, inr, subst, sym, ℕ}, lemmas.{Bool.cases_lt, List.Sorted.IsPermutation-sym}}
+-- A frame is given to links, one after the other.
+use Rattle.std.proofs.Common.{◌+◌, ◌∙◌, ◌∷◌, ◌≡◌, List, ap, arith, get_or, inl, inr, subst, sym, ℕ}
+use Rattle.std.proofs.lemmas.{Bool.{both_ways, cases_lt}, List.Sorted.IsPermutation-sym}
+use Rattle.std.specs.Prelude.{false}
 use Rattle.std.specs.List.Sorted.{IsPermutation}
-use Rattle.net_plan.{proofs.SameIds.link_is, specs.declared.network.Network.Network}
+use Rattle.net_plan.{proofs.SameIds.link_is, specs.declared.{ids.{DeviceId.DeviceId, LinkId.LinkId}, network.Network.Network}}
 use Rattle.run_law.specs.{control.Leaving.Gives, declared.note.NoteBody.NoteBody, records.Order.IsIn}
 use Rattle.world_queue.{proofs.Bags.in_permuted, specs.{Places.numbers_of, declared.Entry.Entry}}
-use Rattle.world_state.specs.{Giving.{ArePutTo, entry_at_port, place_at_port}, Sound.AreBelow, declared.contents.{Content.Content, WayState.WayState}}
-use Rattle.world_state.specs.declared.giving.Giving.{Giving}
+use Rattle.world_state.specs.{Giving.{ArePutTo, IsGivenBy, entry_at_port, place_at_port}, Sound.AreBelow}
+use Rattle.world_state.specs.declared.contents.{Content.Content, WayState.WayState}
+use Rattle.world_state.specs.declared.giving.{Ends.Ends, Giving.Giving}
+
+-- where it is given to none, nothing is put to ports
+pub nothing_put : (n : ℕ) (network : Network) (ups downs : List WayState) (body : NoteBody) (giving : Giving) (old : List (Entry Content))
+    → ((link : LinkId) → Gives network body giving.device link → ⊥) → ArePutTo n network ups downs body giving old old
+nothing_put n network ups downs body giving old none = record {
+  real = λ e there. inl there;
+  kept = λ e there. there;
+  all = λ link lt gives. absurd (none link gives);
+}
+
+-- one that is given to no link by its ends
+pub no_link : (network : Network) (ends : Ends) (device : DeviceId) (link : LinkId) → ends.up ≡ false → ends.down ≡ false
+    → IsGivenBy network ends device link → ⊥
+no_link network ends device link up down (inl own) = both_ways ends.up up own.0
+no_link network ends device link up down (inr own) = both_ways ends.down down own.0
 
 module _ (network : Network) (ups downs : List WayState) (body : NoteBody) (giving : Giving) (i : ℕ) (old mid : List (Entry Content))
     (are : ArePutTo i network ups downs body giving old mid) where

@@ -1,17 +1,19 @@
 -- Frames that are given to links.
 use Rattle.std.specs.{List.Sorted.IsPermutation, Option.option_map_or}
 use Rattle.std.specs.Prelude.{if◌then◌else◌, ◌&&◌, ◌+◌, ◌<◌, ◌^◌, ◌∷◌, ◌≡◌, ◌≤◌, ◌⊎◌, Bool, List, None, Option, Some}
-use Rattle.std.specs.Prelude.{length, not, option_and_then, option_map, pos, slice_get, ℕ}
-use Rattle.net_plan.specs.declared.{ids.{DeviceId.DeviceId, LinkId.LinkId}, network.Network.Network}
+use Rattle.std.specs.Prelude.{length, not, option_and_then, option_map, pos, slice_get, true, ℕ}
+use Rattle.net_plan.specs.{Rules.IsChildOf, declared.{ids.{DeviceId.DeviceId, LinkId.LinkId}, network.Network.Network}}
 use Rattle.pcf_values.specs.declared.pcf.Pcf.{Pcf}
 use Rattle.run_law.specs.control.{Leaving.Gives, Permanence.waits_for, Wires.{time_on_port, timed}}
-use Rattle.run_law.specs.{declared.note.NoteBody.NoteBody, records.Order.IsIn, scenario.Devices.is_parent_of}
+use Rattle.run_law.specs.{declared.note.NoteBody.NoteBody, records.Order.IsIn}
+use Rattle.run_law.specs.scenario.Devices.{IsParentOf, is_parent_of}
 use Rattle.run_law.specs.scenario.Ways.{receiver_of, way_from}
 use Rattle.transparent_clock.specs.Points.{point_of}
 use Rattle.tte_units.specs.Amount.{amount}
 use Rattle.world_queue.specs.declared.{Entry.Entry, Place.Place}
 use Rattle.world_state.specs.{Views.octets_of, declared.contents.Content.{Content, TheVariants.{Port, Wire}}}
-use Rattle.world_state.specs.declared.{contents.{Timed.Timed, Waits.Waits, WayState.WayState}, giving.Giving.Giving}
+use Rattle.world_state.specs.declared.{contents.{Timed.Timed, Waits.Waits, WayState.WayState}, giving.Ends.Ends}
+use Rattle.world_state.specs.declared.giving.Giving.{Giving}
 use Rattle.world_state.specs.declared.contents.Signal.TheVariants as signals
 use Rattle.run_law.specs.declared.note.NoteBody.TheVariants as kinds
 
@@ -24,6 +26,11 @@ CameBy n other = Unit {0}
 abbrev pub hold_by : Network → List WayState → List WayState → DeviceId → LinkId → ℕ
 hold_by network ups downs device link =
     option_map_or (λ w. w.hold) (slice_get (if is_parent_of network device link then downs else ups) link.0) 0
+
+-- what is given so goes to the link, of which the device is the child or the parent
+abbrev pub IsGivenBy : Network → Ends → DeviceId → LinkId → Type 0
+IsGivenBy network ends device link =
+    ((ends.up ≡ true) × IsChildOf network device link) ⊎ ((ends.down ≡ true) × IsParentOf network device link)
 
 -- where it is at the port
 abbrev pub place_at_port : Network → List WayState → List WayState → Giving → LinkId → Place

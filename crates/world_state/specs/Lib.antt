@@ -2,7 +2,6 @@ pub mod Acting
 pub mod Applying
 pub mod Befalling
 pub mod Beginning
-pub mod Bodies
 pub mod Frames
 pub mod Giving
 pub mod Happenings

@@ -1,17 +1,17 @@
 ghost use Rattle.std.specs.Prelude.{◌≡◌, [], ◌+◌, ◌<◌, ◌≤◌, ◌^◌, All, length, OnOk};
 ghost use Rattle.std.specs.VecDeque.{deque_capacity, deque_len};
 ghost use Rattle.run_law.specs.control.Wires.{signal_of, time_on_port};
-ghost use Rattle.world_state.specs.Bodies.{body_of};
+ghost use Rattle.plain_notes.specs.Bodies.{body_of};
 ghost use Rattle.world_state.specs.Befalling.{AreSettledBy, bare, entry_of, lost_on, record_of, sent_up, turned_on};
 
 use crate::OutOfMemory;
-use crate::bodies::{Body, Kind};
 use crate::contents::{Befallen, Content, Settled, Signal, WayState};
 use crate::packets::{Happened, Happening, Packet};
 use crate::sending::{frame_time, put_on};
 use crate::settled::put_some;
 use net_plan::{DeviceId, Link, LinkId, Network};
 use pcf_codec::is_pcf;
+use plain_notes::{Body, Kind};
 use run_law::Why;
 use std::collections::VecDeque;
 use std::mem::replace;

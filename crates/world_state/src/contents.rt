@@ -1,7 +1,7 @@
-use crate::bodies::Body;
 use crate::packets::{Happened, Packet};
 use net_plan::{DeviceId, LinkId, VlId};
 use pcf_values::Pcf;
+use plain_notes::Body;
 use tte_units::Units;
 
 /// How a way of a link is at present. Times are in units of 2^-16 ns.

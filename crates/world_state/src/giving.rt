@@ -1,19 +1,21 @@
-ghost use Rattle.std.specs.Prelude.{◌+◌, ◌<◌, ◌^◌, ◌↔◌, ◌≡◌, ◌≤◌, All, IfNone, IfSome, IsTrue, OnOk, Some, length};
-ghost use Rattle.net_plan.specs.{Ranges.IsInRange, Rules.IsChildOf};
+ghost use Rattle.std.specs.Prelude.{◌+◌, ◌<◌, ◌^◌, ◌↔◌, ◌≡◌, ◌≤◌, All, IfNone, IfSome, IsTrue, OnOk};
+ghost use Rattle.std.specs.Prelude.{Some, false, length};
+ghost use Rattle.net_plan.specs.{Ranges.IsInRange, Rules.IsChildOf, declared.ids.LinkId.LinkId as LinkOf};
 ghost use Rattle.run_law.specs.{control.Leaving.{Gives, Passes}, scenario.Devices.{IsParentOf, is_relay}};
 ghost use Rattle.tte_units.specs.Amount.{amount};
 ghost use Rattle.world_state.specs.Frames.{IsOneMore, room_of, waiter_of};
-ghost use Rattle.world_state.specs.{Giving.{ArePutTo, CameBy, IsYoung, awaited_by, place_at_port}, Shelves.HasPlace};
+ghost use Rattle.world_state.specs.Giving.{ArePutTo, CameBy, IsGivenBy, IsYoung, awaited_by, place_at_port};
+ghost use Rattle.world_state.specs.Shelves.{HasPlace};
 ghost use Rattle.world_state.specs.Sound.{AreBelow, AreUnderWay};
 
 use crate::OutOfMemory;
-use crate::bodies::{Body, Kind};
 use crate::contents::{Content, Spot, WayState};
 use crate::frames::Frames;
 use crate::shelves::Shelves;
 use crate::waiting::{awaited, wait_for};
 use net_plan::{DeviceId, LinkId, Network, Role};
 use pcf_values::Pcf;
+use plain_notes::{Body, Kind};
 use world_queue::{Place, UnderWay};
 
 /// Does the link lead from the device up to its parent?
@@ -42,35 +44,68 @@ pub fn is_a_relay(network: &Network, device: DeviceId) -> bool
     }
 }
 
-/// Does the relay pass on by the link what came by another?
-fn passes(network: &Network, device: DeviceId, by: LinkId, link: LinkId) -> bool
-    requires by { by.0 < length network.now.link }
-    requires link { link.0 < length network.now.link }
-    ensures { IsTrue result ↔ Passes network.now device by link }
-{
-    is_a_relay(network, device)
-        && ((is_above(network, device, by) && is_child(network, device, link))
-            || (is_child(network, device, by) && is_above(network, device, link)))
+/// To which of its links a device gives a frame: to those that lead up to its parents, and to those that lead down from
+/// it?
+#[derive(Clone, Copy)]
+pub struct Ends {
+    /// To those of which it is the child.
+    pub up: bool,
+    /// To those of which it is the parent.
+    pub down: bool,
 }
 
-/// Does the device give the frame of the record to the link?
-pub fn gives(network: &Network, body: &Body, device: DeviceId, link: LinkId) -> bool
-    requires link { link.0 < length network.now.link }
+/// Are both so?
+fn both(one: bool, other: bool) -> bool
+    ensures { IsTrue result ↔ (IsTrue one × IsTrue other) }
+{
+    one && other
+}
+
+/// To which of its links the device gives the frame of the record.
+fn ends_of(network: &Network, body: &Body, device: DeviceId) -> Ends
     requires by { CameBy (length network.now.link) body.now }
-    ensures { IsTrue result ↔ Gives network.now body.now device link }
+    ensures { (link : LinkOf) → Gives network.now body.now device link ↔ IsGivenBy network.now result device link }
 {
     match &body.kind {
-        Kind::Sent { device: master, .. } => {
-            device == *master && is_child(network, device, link)
-        }
-        Kind::Compressed { device: cm, .. } => device == *cm && is_above(network, device, link),
+        Kind::Sent { device: master, .. } => Ends {
+            up: device == *master,
+            down: false,
+        },
+        Kind::Compressed { device: cm, .. } => Ends {
+            up: false,
+            down: device == *cm,
+        },
         Kind::Arrived {
             device: relay,
             link: by,
             ..
-        } => device == *relay && passes(network, device, *by, link),
-        _ => false,
+        } => {
+            let passes = both(device == *relay, is_a_relay(network, device));
+            Ends {
+                up: both(passes, is_above(network, device, *by)),
+                down: both(passes, is_child(network, device, *by)),
+            }
+        }
+        _ => Ends {
+            up: false,
+            down: false,
+        },
     }
+}
+
+/// Is it given to none?
+fn gives_none(ends: Ends) -> bool
+    ensures { IsTrue result → (ends.up ≡ false) × (ends.down ≡ false) }
+{
+    !ends.up && !ends.down
+}
+
+/// Is a frame that the device gives so given to the link?
+fn is_given(network: &Network, ends: Ends, device: DeviceId, link: LinkId) -> bool
+    requires link { link.0 < length network.now.link }
+    ensures { IsTrue result ↔ IsGivenBy network.now ends device link }
+{
+    (is_child(network, device, link) && ends.up) || (is_above(network, device, link) && ends.down)
 }
 
 /// A frame that a device gives to links: when, by which record, and what its clock reads.
@@ -151,9 +186,13 @@ pub fn put_ports(
     ensures put { ArePutTo (length network.now.link) network.now ups.now downs.now body.now giving.now
         under_way.old.entries under_way.new.entries }
 {
+    let ends = ends_of(network, body, giving.device);
+    if gives_none(ends) {
+        return;
+    }
     for index in 0..network.link.as_slice().len() {
         let link = LinkId(index as u32);
-        if gives(network, body, giving.device, link) {
+        if is_given(network, ends, giving.device, link) {
             let place = port_place(network, ups, downs, giving, link);
             under_way.put(place, content_of(giving));
         }
@@ -161,6 +200,7 @@ pub fn put_ports(
 }
 
 /// Gives a frame to the links to which its device gives it, or has it wait, where there is one.
+#[inline(always)]
 pub fn give_frame(
     under_way: &mut UnderWay<Content>,
     waiting: &mut Frames,
@@ -209,6 +249,7 @@ pub fn give_frame(
 }
 
 /// Takes room for what a record may launch, and a switch take by it.
+#[inline(always)]
 pub fn make_room(
     under_way: &mut UnderWay<Content>,
     waiting: &mut Frames,

@@ -1,12 +1,12 @@
 ghost use Rattle.std.specs.Prelude.{◌≡◌, ◌≤◌, ◌<◌, ◌-◌, Some, vec_capacity};
 ghost use Rattle.world_state.specs.Acting.{IsHand, IsHeldIn, dispatched_by};
 
-use crate::bodies::{Body, Kind};
 use crate::contents::{Settled, Spot, Timed};
 use crate::outcomes::bare;
 use crate::packets::Packet;
 use crate::shelves::Shelves;
 use net_plan::DeviceId;
+use plain_notes::{Body, Kind};
 use schedule_tables::Entry;
 
 /// The frame of a row that a device has at hand, and the number of the record by which a switch took it, or 0 at its

@@ -4,21 +4,22 @@ ghost use Rattle.net_plan.specs.declared.network.Network.{Network as NetworkValu
 ghost use Rattle.run_law.specs.{control.Wires.{signal_of, timed}, machines.Calls.StandsFor};
 ghost use Rattle.world_law.specs.world.{Calls.HasHeard, Outcomes.arrival_body};
 ghost use Rattle.world_queue.specs.Places.{IsFirst};
-ghost use Rattle.world_state.specs.Bodies.{body_of};
+ghost use Rattle.plain_notes.specs.Bodies.{body_of};
 ghost use Rattle.world_state.specs.Hearing.{AreOctetsOf, IsAsSent, MayCome, arrived, frame_kept, octets_kept, timed_in};
 ghost use Rattle.world_state.specs.{Keeping.keeps, Sound.{AreUnderWay, rank_of}, Views.{octets_of, signal_as}};
 
-use crate::bodies::{Body, Kind};
 use crate::contents::{Content, Settled, Signal, Timed};
 use crate::kept::Kept;
 use made_frames::MadeFrame;
 use net_plan::{DeviceId, LinkId, Network};
 use pcf_codec::{PCF_LENGTH, encode};
 use pcf_values::Pcf;
+use plain_notes::{Body, Kind};
 use run_law::{Arrival, Machine, Moment};
 use world_queue::{Place, UnderWay};
 
 /// Takes out what is on a wire and the first of all that is under way.
+#[inline(always)]
 pub fn take_wire(under_way: &mut UnderWay<Content>, place: Place) -> Signal
     requires first { IsFirst under_way.old.entries place }
     requires sound { (network : NetworkValue) × AreUnderWay network under_way.old.entries }
@@ -69,6 +70,7 @@ fn hear_timed<M: Machine + Drop>(
 }
 
 /// What becomes of what is on a wire, at the device that it comes to.
+#[inline(always)]
 pub fn hear_signal<M: Machine + Drop>(
     kept: &mut Kept<M>,
     network: &Network,
@@ -172,6 +174,7 @@ fn octets_for(arrival: &Arrival, signal: Signal) -> Option<Timed>
 }
 
 /// The record of what becomes of what was on the wire.
+#[inline(always)]
 pub fn arrived(place: Place, arrival: &Arrival, signal: Signal) -> Settled
     ensures { result ≡ arrived place arrival.now signal }
 {

@@ -2,17 +2,19 @@ ghost use Rattle.std.specs.Prelude.{◌<◌, ◌∷◌, ◌≡◌, IsPermutation
 ghost use Rattle.net_plan.specs.{Ranges.IsInRange, declared.network.Network.Network as NetworkValue};
 ghost use Rattle.run_law.specs.{records.Happenings.with_clock, scenario.Devices.is_parent_of};
 ghost use Rattle.world_queue.specs.Places.{IsFirst};
-ghost use Rattle.world_state.specs.{Bodies.body_of, Leaving.{departed, port_entry}, Sound.{AreUnderWay, rank_of}};
+ghost use Rattle.world_state.specs.{Leaving.{departed, port_entry}, Sound.{AreUnderWay, rank_of}};
+ghost use Rattle.plain_notes.specs.Bodies.{body_of};
 
-use crate::bodies::{Body, Kind};
 use crate::contents::{Content, Settled};
 use net_plan::{DeviceId, LinkId, Network};
 use pcf_values::Pcf;
+use plain_notes::{Body, Kind};
 use run_law::Reason;
 use world_queue::{Place, UnderWay};
 
 /// Takes the frame out that is at a port, and the first of all that is under way; and what its device's clock read
 /// when it gave the frame to the link.
+#[inline(always)]
 pub fn take_port(under_way: &mut UnderWay<Content>, place: Place) -> (Pcf, u64)
     requires first { IsFirst under_way.old.entries place }
     requires sound { (network : NetworkValue) × AreUnderWay network under_way.old.entries }
@@ -38,6 +40,7 @@ fn port_of(content: Content) -> (Pcf, u64)
 }
 
 /// The record of a frame at a port that leaves.
+#[inline(always)]
 pub fn departed(
     network: &Network,
     reading: u64,

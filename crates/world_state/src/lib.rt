@@ -3,7 +3,6 @@
 
 pub mod applying;
 pub mod befalling;
-pub mod bodies;
 pub mod contents;
 pub mod event_notes;
 pub mod frames;
@@ -26,6 +25,5 @@ pub mod storing;
 pub mod timing;
 pub mod waiting;
 
-pub use bodies::Given;
 pub use event_notes::EventNote;
 pub use memory::OutOfMemory;

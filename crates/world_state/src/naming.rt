@@ -3,9 +3,9 @@ ghost use Rattle.run_law.specs.device.States.{is_joined_by};
 ghost use Rattle.world_state.specs.Naming.{LeadsNowhere, named_settled};
 ghost use Rattle.world_law.specs.world.Moves.{follows};
 
-use crate::bodies::{Body, Kind};
 use crate::contents::Settled;
 use net_plan::DeviceId;
+use plain_notes::{Body, Kind};
 use run_law::{Judgement, Why};
 use std::collections::VecDeque;
 
@@ -76,6 +76,7 @@ fn name(one: &mut Settled, number: u64, first: &Body)
 }
 
 /// Gives each that follows the first record its number as its cause.
+#[inline(always)]
 pub fn name_followers(settled: &mut VecDeque<Settled>, number: u64, first: &Body)
     ensures { settled.new.items ≡ map (named_settled number first.now) settled.old.items }
 {

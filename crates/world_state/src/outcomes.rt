@@ -2,10 +2,10 @@ ghost use Rattle.std.specs.{Prelude.{◌+◌, ◌-◌, ◌<◌, ◌≡◌, ◌�
 ghost use Rattle.net_plan.specs.declared.network.Network.{Network};
 ghost use Rattle.world_law.specs.world.Outcomes.{judged_as};
 ghost use Rattle.world_state.specs.Acting.{bare, clique_by, corrected_by, emitted_by, first_by, framed, joined_by};
-ghost use Rattle.world_state.specs.{Acting.sent_by, Bodies.body_of, Places.IsSomePut};
+ghost use Rattle.world_state.specs.{Acting.sent_by, Places.IsSomePut};
+ghost use Rattle.plain_notes.specs.Bodies.{body_of};
 ghost use Rattle.world_state.specs.declared.contents.Settled.{Settled as SettledValue};
 
-use crate::bodies::{Body, Kind};
 use crate::contents::Settled;
 use crate::naming::NONE_YET;
 use crate::settled::put_some;
@@ -13,6 +13,7 @@ use compression::Compressed;
 use made_frames::integration_frame;
 use net_plan::{DeviceId, Network};
 use pcf_values::Pcf;
+use plain_notes::{Body, Kind};
 use run_law::{Judgement, Ripe, Why};
 use std::collections::VecDeque;
 use sync_state::{State, Verdict};
@@ -50,6 +51,7 @@ fn framed(kind: Kind, frame: Pcf) -> Settled
 }
 
 /// The record of a master's frame.
+#[inline(always)]
 pub fn sent(device: DeviceId, frame: Pcf) -> Outcomes
     ensures { result ≡ sent_by device frame }
 {
@@ -94,6 +96,7 @@ fn joined(device: DeviceId, heard: Ripe) -> Option<Settled>
 }
 
 /// The records of the frame of a collection.
+#[inline(always)]
 pub fn emitted(network: &Network, device: DeviceId, sent: Compressed, heard: Ripe) -> Outcomes
     ensures { result ≡ emitted_by network.now device sent heard }
 {
@@ -143,6 +146,7 @@ fn clique(device: DeviceId, why: Why) -> Outcomes
 }
 
 /// The records of a correction point of a device that was in this state, and has this adjustment then.
+#[inline(always)]
 pub fn corrected(
     device: DeviceId,
     was: State,
@@ -172,6 +176,7 @@ pub fn corrected(
 }
 
 /// Puts the records of an act in at their places.
+#[inline(always)]
 pub fn put_both(settled: &mut VecDeque<Settled>, outcomes: Outcomes)
     requires { deque_len settled.old + 2 ≤ deque_capacity settled.old }
     ensures { (mid : List SettledValue) × IsSomePut outcomes.first settled.old.items mid

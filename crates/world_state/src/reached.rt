@@ -13,6 +13,7 @@ fn is_reached(waits: &Waits, device: DeviceId, reading: u64) -> bool
 }
 
 /// The first of the frames that wait at the device and are reached.
+#[inline(always)]
 pub fn first_reached(waiting: &Frames, device: DeviceId, reading: u64) -> Option<Waits>
     ensures { IsFirstReached waiting.now device reading result }
 {

@@ -5,12 +5,12 @@ ghost use Rattle.run_law.specs.machines.Calls.{IsHearing, MayCall, MayRipen, May
 ghost use Rattle.run_law.specs.{machines.Nodes.{Node, ripening}, scenario.Devices.channel_of_link};
 ghost use Rattle.world_state.specs.{Keeping.keeps, Ripening.{AreSettledSo, joined_record, judged_so, ripe_record}};
 
-use crate::bodies::{Body, Kind};
 use crate::contents::{Settled, Waits};
 use crate::kept::Kept;
 use crate::settled::{put_in, put_some};
 use net_plan::{DeviceId, LinkId};
 use pcf_values::Pcf;
+use plain_notes::{Body, Kind};
 use run_law::{Judgement, Machine, Moment, Reason, Ripe, Why};
 use std::collections::VecDeque;
 use sync_state::State as DeviceState;
@@ -75,6 +75,7 @@ fn dropped(waits: &Waits, reason: Reason) -> Settled
 }
 
 /// The record of a frame that was permanent.
+#[inline(always)]
 pub fn record_of(waits: &Waits, ripe: Ripe) -> Settled
     ensures { result ≡ ripe_record waits.now ripe }
 {

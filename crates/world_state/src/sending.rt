@@ -3,11 +3,11 @@ ghost use Rattle.net_plan.specs.Ranges.{IsInRange};
 ghost use Rattle.run_law.specs.control.Wires.{time_on_port, timed};
 ghost use Rattle.world_state.specs.{Giving.{IsPutOn, place_on_wire, wire_entry}, Views.octets_of};
 
-use crate::bodies::{Body, Kind};
 use crate::contents::{Content, Signal, Timed, WayState};
 use crate::leaving::is_parent;
 use net_plan::{DeviceId, LinkId, Network};
 use pcf_values::Pcf;
+use plain_notes::{Body, Kind};
 use tte_units::octets;
 use world_queue::{Entry, Place, UnderWay};
 
@@ -64,6 +64,7 @@ pub struct Sending {
 }
 
 /// Where what is sent on a link arrives.
+#[inline(always)]
 fn wire_place(
     network: &Network,
     ups: &[WayState],
@@ -103,6 +104,7 @@ fn wire_place(
 }
 
 /// What a record puts on a wire.
+#[inline(always)]
 pub fn sent_by(
     network: &Network,
     ups: &[WayState],
@@ -157,6 +159,7 @@ pub fn sent_by(
 }
 
 /// Puts it under way, where there is one.
+#[inline(always)]
 pub fn put_on(under_way: &mut UnderWay<Content>, entry: Option<Entry<Content>>)
     requires { 0 < under_way.old.room }
     ensures room { under_way.old.room ≤ under_way.new.room + 1 }

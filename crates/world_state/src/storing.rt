@@ -1,11 +1,12 @@
 ghost use Rattle.std.specs.Prelude.{◌≡◌};
 ghost use Rattle.world_state.specs.{Shelves.{HasPlace, spot_of}, Storing.IsStoredFor};
 
-use crate::bodies::{Body, Kind};
 use crate::contents::{Holding, Spot, Timed};
 use crate::shelves::Shelves;
+use plain_notes::{Body, Kind};
 
 /// The switch holds the octets that it took by the record of this number, if there are any.
+#[inline(always)]
 pub fn store(stored: &mut Shelves, spot: Spot, octets: Option<Timed>, number: u64)
     requires { HasPlace stored.old spot }
     ensures { IsStoredFor spot.device spot.vl octets number stored.old.items stored.new.items }

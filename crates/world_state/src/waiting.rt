@@ -5,13 +5,13 @@ ghost use Rattle.run_law.specs.control.Permanence.{waits_for};
 ghost use Rattle.world_state.specs.Giving.{CameBy, IsYoung, awaited_by, giver_of};
 ghost use Rattle.world_state.specs.Frames.{IsOneMore, room_of, waiter_of};
 
-use crate::bodies::{Body, Kind};
 use crate::contents::Waits;
 use crate::frames::Frames;
 use crate::giving::is_a_relay;
 use crate::leaving::is_parent;
 use net_plan::{DeviceId, LinkId, Network};
 use pcf_values::Pcf;
+use plain_notes::{Body, Kind};
 use transparent_clock::permanence;
 use tte_units::Units;
 
@@ -24,6 +24,7 @@ fn does_wait(network: &Network, device: DeviceId, link: LinkId) -> bool
 }
 
 /// What waits by a record, where its device is broken or not and its clock reads this.
+#[inline(always)]
 pub fn awaited(
     network: &Network,
     broken: bool,
@@ -64,6 +65,7 @@ pub fn awaited(
 }
 
 /// The device that gives the frame of a record to links, or waits for it.
+#[inline(always)]
 pub fn giver(body: &Body) -> Option<DeviceId>
     ensures { result ≡ giver_of body.now }
 {
@@ -86,6 +88,7 @@ pub fn waiter(body: &Body) -> Option<DeviceId>
 }
 
 /// It waits, where there is one.
+#[inline(always)]
 pub fn wait_for(waiting: &mut Frames, one: Option<Waits>)
     requires room { IfSome one (λ w. 0 < room_of waiting.old w.device.0) }
     requires begun { IfSome one (λ w. pos 0 ≤ℤ w.point.0) }

@@ -1,6 +1,7 @@
-use Rattle.std.{proofs.{Common.{◌+◌, ◌∙◌, ◌∷◌, ap, arith, refl, rules, subst, sym}, lemmas.Bool.both_ways}, specs.List.Sorted.IsPermutation}
+use Rattle.std.{proofs.{Common.{◌+◌, ◌∙◌, ◌∷◌, ap, arith, length, refl, rules, subst, sym}, lemmas.Bool.both_ways}, specs.List.Sorted.IsPermutation}
 use Rattle.world_queue.specs.declared.{Entry.Entry, Place.Place}
-use Rattle.world_state.proofs.{PutTo.{apart_from, more_put, none_put}, UnderWays.sound_with, giving.put_ports.Goals.{else-gives, then-gives}}
+use Rattle.world_state.proofs.{PutTo.{apart_from, more_put, no_link, none_put, nothing_put}, UnderWays.sound_with}
+use Rattle.world_state.proofs.giving.put_ports.Goals.{else-is_given, then-is_given}
 use Rattle.world_state.specs.{Giving.{ArePutTo, entry_at_port, place_at_port}, Sound.AreUnderWay, declared.contents.Content.Content}
 use Rattle.world_state.proofs.giving.put_ports.Goals as goal
 
@@ -13,8 +14,8 @@ loop-index-preserved c =
     let room = c.loop-index.invariant.0 in
     let are = c.loop-index.invariant.1 in
     let sound = c.loop-index.invariant.2 in
-    elim c.if-gives.branch [
-      | then-gives w ↦
+    elim c.if-is_given.branch [
+      | then-is_given w ↦
           let place = w.port_place-place.ensures in
           let content = w.content_of.ensures in
           let entry : Entry Content = record { place = w.port_place-place.result; content = w.content_of.result } in
@@ -26,19 +27,26 @@ loop-index-preserved c =
             omega (arith, room, more, then_room),
             subst (λ q. ArePutTo (i + 1) a.network.now a.ups.now a.downs.now a.body.now a.giving.now old q.entries) (sym w.under_way-is)
                 (more_put a.network.now a.ups.now a.downs.now a.body.now a.giving.now i old mid are w.put.new.self.entries entry is
-                (c.gives.ensures.0 w.if-gives.true) w.put.ensures.entries),
+                ((c.ends_of-ends.ensures (record { 0 = i })).1 (c.is_given.ensures.0 w.if-is_given.true)) w.put.ensures.entries),
             λ below was.
                 subst (λ q. AreUnderWay a.network.now q.entries) (sym w.under_way-is)
                 (sound_with a.network.now mid w.put.new.self.entries (entry_at_port a.network.now a.ups.now a.downs.now a.giving.now (record { 0 = i }))
                 (sound below was) (subst (λ x. IsPermutation (x ∷ mid) w.put.new.self.entries) is w.put.ensures.entries) refl c.requires.device (search rules)
                 (apart_from a.network.now a.ups.now a.downs.now a.body.now a.giving.now i old mid are below)),
           )
-      | else-gives w ↦
+      | else-is_given w ↦
           let then_room = ap (λ q. q.room) w.under_way-is in (
             omega (arith, room, then_room),
             subst (λ q. ArePutTo (i + 1) a.network.now a.ups.now a.downs.now a.body.now a.giving.now old q.entries) (sym w.under_way-is)
                 (none_put a.network.now a.ups.now a.downs.now a.body.now a.giving.now i old mid are
-                (λ given. both_ways _ w.if-gives.false (c.gives.ensures.1 given))),
+                (λ given. both_ways _ w.if-is_given.false (c.is_given.ensures.1 ((c.ends_of-ends.ensures (record { 0 = i })).0 given)))),
             λ below was. subst (λ q. AreUnderWay a.network.now q.entries) (sym w.under_way-is) (sound below was),
           )
     ]
+
+pub returns-then-gives_none-clause-put : goal.returns-then-gives_none-clause-put
+returns-then-gives_none-clause-put c =
+    let a = c.args in
+    let none = c.gives_none.ensures c.if-gives_none.true in
+    nothing_put (length a.network.now.link) a.network.now a.ups.now a.downs.now a.body.now a.giving.now a.under_way.now.entries
+    (λ link given. no_link a.network.now c.ends_of-ends.result a.giving.now.device link none.0 none.1 ((c.ends_of-ends.ensures link).0 given))

@@ -1,6 +1,9 @@
 use Rattle.drift_world.proofs.Words.{◌++◌, ◌∙◌, ◌∷◌, ◌≡◌, ChangesOnly, DeviceId, IsPutAt, IsSound, List, Note, Scenario, Settled, Stands, [], ap, arith}
 use Rattle.drift_world.proofs.Words.{happenings, keeps, numbers_of, place_of, rank, refl, settled_at, subst, sym, world_of, ℕ}
+use Rattle.drift_world.proofs.Words.{Kept, Node, slice_get_read}
 use Rattle.std.proofs.Common.{slice_get}
+use Rattle.world_law.proofs.giving.Given.{some_same}
+use Rattle.drift_world.proofs.Dues.{due_stays}
 use Rattle.drift_world.proofs.{Fits.{all_put, have_octets}, Gave.sound_same, Halves.{both_halves, ripe_half, ripe_stays}, Timings.rekeyed}
 use Rattle.drift_world.proofs.OwnPlaces.{changes_both, none_before_last, put_alone}
 use Rattle.drift_world.proofs.Turning.{comes_first, is_at, rekeyed_step, runs_on, same_records, sound_so}
@@ -33,8 +36,8 @@ give_alone-turn-requires-clause-running g c =
     let run = r.well.running in
     record { s = run.s; notes = run.notes; is = (heard run.s run.notes run.is).0 }
 
-pub rekey-requires-clause-running : goal.rekey-requires-clause-running
-rekey-requires-clause-running g c =
+pub rekey_from-requires-clause-running : goal.rekey_from-requires-clause-running
+rekey_from-requires-clause-running g c =
     let w = c.args.self.now in
     let K = g.C.Clock in
     let S = g.M.Machine.stands in
@@ -100,7 +103,7 @@ returns-then-rank_of-from-clause-stands g c =
     (none_before_last s (happenings s.network notes) h.0.cursor (numbers_of place) (place_of (settled_at network mid.time one)) h.1 at_place) in
     λ s notes old.
     subst (λ (t : State _ _). Stands K.reading (keeps S) s (world_of network t) (notes ++ given_in c.give_alone-turn.result c.give_alone-turn.new.note))
-    (sym c.rekey.ensures.same)
+    (sym c.rekey_from.ensures.same)
     (given s notes old)
 
 pub returns-then-rank_of-from-clause-well : goal.returns-then-rank_of-from-clause-well
@@ -135,8 +138,8 @@ returns-then-rank_of-from-clause-well g c =
     give.stands s notes h.0
     (none_before_last s (happenings s.network notes) h.0.cursor (numbers_of place) (place_of (settled_at network mid.time one)) h.1 at_place) in
     let run = r.well.running in
-    let keyed = c.rekey.ensures in
-    let new = c.rekey.new.self in
+    let keyed = c.rekey_from.ensures in
+    let new = c.rekey_from.new.self in
     let device : DeviceId = record { 0 = place.device } in
     let changes : ChangesOnly place.device w gave =
     changes_both place.device w mid gave hear.others (subst (λ (d : ℕ). ChangesOnly d mid gave) (hear.device two) give.others) in
@@ -154,8 +157,8 @@ returns-then-rank_of-from-clause-well g c =
           keyed.same keyed.timed keyed.sized keyed.others keyed.later;
     }
 
-pub rekey_act-requires-clause-running : goal.rekey_act-requires-clause-running
-rekey_act-requires-clause-running g c =
+pub rekey_act_from-requires-clause-running : goal.rekey_act_from-requires-clause-running
+rekey_act_from-requires-clause-running g c =
     let w = c.args.self.now in
     let K = g.C.Clock in
     let S = g.M.Machine.stands in
@@ -196,8 +199,8 @@ returns-clause-well g c =
     let own = subst (λ (l : List Settled). IsPutAt one l c.put_in.new.settled.items put.0) was put.1 in
     let still = λ (s : Scenario) (notes : List Note) (old : Stands K.reading (keeps S) s (world_of network w) notes).
     (hear.stands s notes c.put_in.new.settled.items put.0 old (comes s notes old) own).0 in
-    let keyed = c.rekey_act.ensures in
-    let new = c.rekey_act.new.self in
+    let keyed = c.rekey_act_from.ensures in
+    let new = c.rekey_act_from.new.self in
     let device : DeviceId = record { 0 = place.device } in
     let o = hear.others in
     let timers : mid.timers ≡ w.timers = ap (λ (t : State _ _). t.timers) hear.same in
@@ -236,8 +239,8 @@ returns-clause-stands g c =
     let own = subst (λ (l : List Settled). IsPutAt one l c.put_in.new.settled.items put.0) was put.1 in
     let still = λ (s : Scenario) (notes : List Note) (old : Stands K.reading (keeps S) s (world_of network w) notes).
     (hear.stands s notes c.put_in.new.settled.items put.0 old (comes s notes old) own).0 in
-    let keyed = c.rekey_act.ensures in
-    let new = c.rekey_act.new.self in
+    let keyed = c.rekey_act_from.ensures in
+    let new = c.rekey_act_from.new.self in
     let device : DeviceId = record { 0 = place.device } in
     let o = hear.others in
     let timers : mid.timers ≡ w.timers = ap (λ (t : State _ _). t.timers) hear.same in
@@ -255,3 +258,49 @@ returns-clause-stands g c =
     there (record { clocks = o.clocks; time = o.time; ended = o.ended; machines = o.machines; waiting = o.waiting }) timers
     (ap (λ (t : State _ _). t.given) hear.same) still keyed.same timed keyed.sized (λ slot ne apart. keyed.others slot apart) keyed.later in
     λ s notes old. same_records K.reading (keeps S) s (world_of network new) notes [] refl (step.still s notes old)
+
+pub rekey_from-requires-clause-before : goal.rekey_from-requires-clause-before
+rekey_from-requires-clause-before g c =
+    let w = c.args.self.now in
+    let K = g.C.Clock in
+    let S = g.M.Machine.stands in
+    let network = c.args.network.now in
+    let r = c.requires in
+    let there = r.foremost.there.device in
+    let machines = r.well.sound.sized.machines in
+    let kept = w.machines.ok.0 in
+    let hear = c.hear_wire-record.ensures in
+    let give = c.give_alone-turn.ensures in
+    let new = c.give_alone-turn.new.self in
+    let device : DeviceId = record { 0 = c.args.place.device } in
+    due_stays K.reading S network K.last_step w new device c.due-before.result r.well there
+    (λ (machine : Kept _) (node : Node) at is.
+    let same = some_same _ _ _ at
+    (slice_get_read w.machines.items w.machines.len device.0 c.index.result.now w.machines.ok.0 (omega (arith, machines, there, kept))
+    c.index.ensures) in
+    c.due-before.ensures network device node (subst (λ (m : Kept _). keeps S m network device node) same is))
+    (ap (λ (t : State _ _). t.clocks) give.same ∙ ap (λ (t : State _ _). t.clocks) hear.same)
+    (ap (λ (t : State _ _). t.time) give.same ∙ ap (λ (t : State _ _). t.time) hear.same)
+    (ap (λ (t : State _ _). t.timers) give.same ∙ ap (λ (t : State _ _). t.timers) hear.same)
+
+pub rekey_act_from-requires-clause-before : goal.rekey_act_from-requires-clause-before
+rekey_act_from-requires-clause-before g c =
+    let w = c.args.self.now in
+    let K = g.C.Clock in
+    let S = g.M.Machine.stands in
+    let network = c.args.network.now in
+    let r = c.requires in
+    let there = r.foremost.there.device in
+    let machines = r.well.sound.sized.machines in
+    let kept = w.machines.ok.0 in
+    let hear = c.hear_wire-record.ensures in
+    let mid = c.hear_wire-record.new.self in
+    let new : State _ _ = record mid { settled = c.put_in.new.settled } in
+    let device : DeviceId = record { 0 = c.args.place.device } in
+    due_stays K.reading S network K.last_step w new device c.due-before.result r.well there
+    (λ (machine : Kept _) (node : Node) at is.
+    let same = some_same _ _ _ at
+    (slice_get_read w.machines.items w.machines.len device.0 c.index.result.now w.machines.ok.0 (omega (arith, machines, there, kept))
+    c.index.ensures) in
+    c.due-before.ensures network device node (subst (λ (m : Kept _). keeps S m network device node) same is))
+    (ap (λ (t : State _ _). t.clocks) hear.same) (ap (λ (t : State _ _). t.time) hear.same) (ap (λ (t : State _ _). t.timers) hear.same)

@@ -64,10 +64,7 @@ pub returns-in-Err-clause-stands : goal.returns-in-Err-clause-stands
 returns-in-Err-clause-stands g c = λ s notes is. c.in-Err.ensures.stands s notes (c.turns.invariant.still s notes is)
 
 pub returns-in-Err-clause-err : goal.returns-in-Err-clause-err
-returns-in-Err-clause-err g c =
-    let same = c.in-Err.ensures.err in
-    let early = c.turns.invariant.early in
-    omega (arith, same, early)
+returns-in-Err-clause-err g c = c.in-Err.ensures.err
 
 pub turns-preserved : goal.turns-preserved
 turns-preserved g c =

@@ -1,7 +1,7 @@
 use Rattle.drift_world.proofs.Words.{◌+◌, ◌^◌, ◌∙◌, ◌≡◌, ArrivedAt, ChangesOnly, List, NoteBody, ap, arith, changed_device, length, refl, subst}
 use Rattle.drift_world.proofs.Words.{sym, ℕ}
 use Rattle.std.proofs.Common.{slice_get}
-use Rattle.world_state.specs.Bodies.{body_of}
+use Rattle.plain_notes.specs.Bodies.{body_of}
 use Rattle.drift_world.{proofs.{Halves.{act_half, act_stays, both_halves}, Said.far_kind, Timings.{aside, rekeyed}}, specs.declared.state.State.State}
 use Rattle.drift_world.proofs.state.State.rekey_after.Goals as goal
 

@@ -1,7 +1,9 @@
 use Rattle.drift_world.proofs.Words.{◌++◌, ◌∙◌, ◌∷◌, ◌≡◌, ◌≤ℤ◌, ChangesOnly, ComesFirst, DeviceId, IsAt, IsSound, List, Note, Scenario, Settled, Stands}
 use Rattle.drift_world.proofs.Words.{Waits, [], ap, arith, changed_device, happenings, keeps, place_of, pos, refl, ripe_place, settled_at, subst, sym}
 use Rattle.drift_world.proofs.Words.{waiting_as, world_of, ℕ}
+use Rattle.drift_world.proofs.Words.{Kept, Node, slice_get_read}
 use Rattle.std.proofs.Common.{is_some, slice_get}
+use Rattle.drift_world.proofs.Dues.{due_stays}
 use Rattle.world_law.proofs.giving.Given.{some_same}
 use Rattle.world_state.specs.Ripening.{AreSettledSo}
 use Rattle.drift_world.proofs.{Fits.have_octets, Gave.sound_same, Ripenings.{octets_fit, record_fits}, Timings.rekeyed_by}
@@ -61,8 +63,8 @@ give_alone-turn-requires-clause-running g c =
     let run = r.well.running in
     record { s = run.s; notes = run.notes; is = (heard run.s run.notes run.is).0 }
 
-pub rekey-requires-clause-running : goal.rekey-requires-clause-running
-rekey-requires-clause-running g c =
+pub rekey_from-requires-clause-running : goal.rekey_from-requires-clause-running
+rekey_from-requires-clause-running g c =
     let w = c.args.self.now in
     let K = g.C.Clock in
     let S = g.M.Machine.stands in
@@ -136,7 +138,7 @@ returns-then-is_judged-clause-stands g c =
     (none_before_last s (happenings s.network notes) h.0.cursor place (place_of (settled_at network mid.time one)) h.1 at_place) in
     λ s notes old.
     subst (λ (t : State _ _). Stands K.reading (keeps S) s (world_of network t) (notes ++ given_in c.give_alone-turn.result c.give_alone-turn.new.note))
-    (sym c.rekey.ensures.same)
+    (sym c.rekey_from.ensures.same)
     (given s notes old)
 
 pub returns-then-is_judged-clause-well : goal.returns-then-is_judged-clause-well
@@ -175,8 +177,8 @@ returns-then-is_judged-clause-well g c =
     give.stands s notes h.0
     (none_before_last s (happenings s.network notes) h.0.cursor place (place_of (settled_at network mid.time one)) h.1 at_place) in
     let run = r.well.running in
-    let keyed = c.rekey.ensures in
-    let new = c.rekey.new.self in
+    let keyed = c.rekey_from.ensures in
+    let new = c.rekey_from.new.self in
     let device : DeviceId = record { 0 = c.args.one.device.0 } in
     let far = ap (λ (x : Settled). changed_device x.body) one_is ∙ judged_far got.waits got.ripe in
     let few = r.range.few_devices in
@@ -201,8 +203,8 @@ returns-then-is_judged-clause-well g c =
           keyed.same keyed.timed keyed.sized keyed.others keyed.later;
     }
 
-pub rekey-requires-2-clause-running : goal.rekey-requires-2-clause-running
-rekey-requires-2-clause-running g c =
+pub rekey_from-requires-2-clause-running : goal.rekey_from-requires-2-clause-running
+rekey_from-requires-2-clause-running g c =
     let w = c.args.self.now in
     let K = g.C.Clock in
     let S = g.M.Machine.stands in
@@ -249,8 +251,8 @@ returns-clause-well g c =
     let own = subst (λ (l : List Settled). AreSettledSo got.waits got.ripe l c.settle_ripe.new.settled.items) was put in
     let still = λ (s : Scenario) (notes : List Note) (old : Stands K.reading (keeps S) s (world_of network w) notes).
     (rip.stands s notes c.settle_ripe.new.settled.items old (comes s notes old) own).0 in
-    let keyed = c.rekey-2.ensures in
-    let new = c.rekey-2.new.self in
+    let keyed = c.rekey_from-2.ensures in
+    let new = c.rekey_from-2.new.self in
     let o = changes in
     let step : IsStep K.last_step K.reading S network w new =
     rekeyed_step K.last_step K.reading S network c.args.one.device.0 w after new r.well
@@ -283,8 +285,8 @@ returns-clause-stands g c =
     let own = subst (λ (l : List Settled). AreSettledSo got.waits got.ripe l c.settle_ripe.new.settled.items) was put in
     let still = λ (s : Scenario) (notes : List Note) (old : Stands K.reading (keeps S) s (world_of network w) notes).
     (rip.stands s notes c.settle_ripe.new.settled.items old (comes s notes old) own).0 in
-    let keyed = c.rekey-2.ensures in
-    let new = c.rekey-2.new.self in
+    let keyed = c.rekey_from-2.ensures in
+    let new = c.rekey_from-2.new.self in
     let o = changes in
     let step : IsStep K.last_step K.reading S network w new =
     rekeyed_step K.last_step K.reading S network c.args.one.device.0 w after new r.well
@@ -293,3 +295,49 @@ returns-clause-stands g c =
     it.of (record { clocks = o.clocks; time = o.time; ended = o.ended; machines = o.machines; waiting = o.waiting })
     (ap (λ (t : State _ _). t.timers) rip.same) (ap (λ (t : State _ _). t.given) rip.same) still keyed.same keyed.timed keyed.sized keyed.others keyed.later in
     λ s notes old. same_records K.reading (keeps S) s (world_of network new) notes [] refl (step.still s notes old)
+
+pub rekey_from-requires-clause-before : goal.rekey_from-requires-clause-before
+rekey_from-requires-clause-before g c =
+    let w = c.args.self.now in
+    let K = g.C.Clock in
+    let S = g.M.Machine.stands in
+    let network = c.args.network.now in
+    let r = c.requires in
+    let there = r.foremost.there.of in
+    let machines = r.well.sound.sized.machines in
+    let kept = w.machines.ok.0 in
+    let rip = c.ripen_waits-ripened.ensures in
+    let give = c.give_alone-turn.ensures in
+    let new = c.give_alone-turn.new.self in
+    let device : DeviceId = record { 0 = c.args.one.device.0 } in
+    due_stays K.reading S network K.last_step w new device c.due-before.result r.well there
+    (λ (machine : Kept _) (node : Node) at is.
+    let same = some_same _ _ _ at
+    (slice_get_read w.machines.items w.machines.len device.0 c.index.result.now w.machines.ok.0 (omega (arith, machines, there, kept))
+    c.index.ensures) in
+    c.due-before.ensures network device node (subst (λ (m : Kept _). keeps S m network device node) same is))
+    (ap (λ (t : State _ _). t.clocks) give.same ∙ ap (λ (t : State _ _). t.clocks) rip.same)
+    (ap (λ (t : State _ _). t.time) give.same ∙ ap (λ (t : State _ _). t.time) rip.same)
+    (ap (λ (t : State _ _). t.timers) give.same ∙ ap (λ (t : State _ _). t.timers) rip.same)
+
+pub rekey_from-requires-2-clause-before : goal.rekey_from-requires-2-clause-before
+rekey_from-requires-2-clause-before g c =
+    let w = c.args.self.now in
+    let K = g.C.Clock in
+    let S = g.M.Machine.stands in
+    let network = c.args.network.now in
+    let r = c.requires in
+    let there = r.foremost.there.of in
+    let machines = r.well.sound.sized.machines in
+    let kept = w.machines.ok.0 in
+    let rip = c.ripen_waits-ripened.ensures in
+    let mid = c.ripen_waits-ripened.new.self in
+    let new : State _ _ = record mid { settled = c.settle_ripe.new.settled } in
+    let device : DeviceId = record { 0 = c.args.one.device.0 } in
+    due_stays K.reading S network K.last_step w new device c.due-before.result r.well there
+    (λ (machine : Kept _) (node : Node) at is.
+    let same = some_same _ _ _ at
+    (slice_get_read w.machines.items w.machines.len device.0 c.index.result.now w.machines.ok.0 (omega (arith, machines, there, kept))
+    c.index.ensures) in
+    c.due-before.ensures network device node (subst (λ (m : Kept _). keeps S m network device node) same is))
+    (ap (λ (t : State _ _). t.clocks) rip.same) (ap (λ (t : State _ _). t.time) rip.same) (ap (λ (t : State _ _). t.timers) rip.same)

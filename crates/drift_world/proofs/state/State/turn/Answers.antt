@@ -1,5 +1,5 @@
 use Rattle.drift_world.proofs.Words.{◌∙◌, OutOfMemory, [], arith, keeps, refl, sym, world_of}
-use Rattle.drift_world.proofs.{Nearings.nears_then, Turning.{after_then, err_then, roomier, same_records, says_then}}
+use Rattle.drift_world.proofs.{Nearings.nears_then, Turning.{after_then, roomier, same_records, says_then}}
 use Rattle.drift_world.proofs.state.State.turn.Goals as goal
 
 pub returns-in-Err : goal.returns-in-Err
@@ -15,7 +15,7 @@ returns-in-Err g c =
       whole = λ s notes is. tt;
       says = tt;
       nears = tt;
-      err = step.time;
+      err = let time = step.time in let early = c.requires.«open» in omega (arith, time, early);
     }
 
 pub take_turn-requires : goal.take_turn-requires
@@ -51,5 +51,5 @@ returns g c =
           turn.says;
       nears = nears_then OutOfMemory c.args.network.now c.args.until c.args.self.now c.make_places.new.self c.take_turn.new.self c.take_turn.result
           made.same turn.nears;
-      err = err_then OutOfMemory c.args.self.now c.make_places.new.self c.take_turn.new.self c.take_turn.result step.time turn.err;
+      err = turn.err;
     }

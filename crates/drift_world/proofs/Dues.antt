@@ -1,0 +1,64 @@
+-- A timer that is right for the reading at which a machine acts next.
+use Rattle.drift_world.proofs.Words.{◌+◌, ◌<◌, ◌∙◌, ◌≡◌, DeviceId, IsWell, Kept, List, Network, Node, None, Option, Some, ap, arith, ints, keeps}
+use Rattle.drift_world.proofs.Words.{length, subst, sym, ℕ}
+use Rattle.std.proofs.Common.{slice_get}
+use Rattle.run_law.specs.machines.Tasks.{IsDueReading}
+use Rattle.tte_units.specs.declared.units.Units.{Units}
+use Rattle.world_law.proofs.giving.Given.{some_same}
+use Rattle.drift_world.{proofs.Foremost.node_of, specs.{Stepping.{ActsAt, IsDueBy, IsDueTimed}, declared.state.State.State}}
+
+module _ {C M : Type 0} (reading : C → ℕ → ℕ) (stands : M → Network → DeviceId → Node → Type 0) (network : Network) where
+  -- one that is right for the machine is right for the reading
+  pub due_by : (clock : C) (machine : Kept M) (device : DeviceId) (now time : ℕ) (due : Option Units) (node : Node)
+      → keeps stands machine network device node → IsDueReading network device node due → ActsAt reading stands network clock machine device now time
+      → IsDueBy reading clock due now time
+  due_by clock machine device now time None node kept least acts = record {
+    none = tt;
+    one = λ lt. let task = acts.one lt node kept in least task.0 task.1;
+  }
+  due_by clock machine device now time (Some at) node kept least acts = record {
+    none = λ u from most reached.
+        let first = least.0 in
+        let reads = first.2 in
+        acts.none node first.0 kept first.1 u from most (omega (arith, ints, reads, reached));
+    one = λ lt.
+        let task = acts.one lt node kept in
+        let le = least.1 task.0 task.1 in
+        let reads = task.2 in
+        omega (arith, ints, le, reads);
+  }
+
+  -- and the other way about
+  pub acts_by : (clock : C) (machine : Kept M) (device : DeviceId) (now time : ℕ) (due : Option Units)
+      → ((node : Node) → keeps stands machine network device node → IsDueReading network device node due) → IsDueBy reading clock due now time
+      → ActsAt reading stands network clock machine device now time
+  acts_by clock machine device now time None least by = record {
+    none = λ node task kept pending u from most reached. absurd (least node kept task pending);
+    one = λ lt. absurd (by.one lt);
+  }
+  acts_by clock machine device now time (Some at) least by = record {
+    none = λ node task kept pending u from most reached.
+        let le = (least node kept).1 task pending in by.none u from most (omega (arith, ints, le, reached));
+    one = λ lt node kept.
+        let first = (least node kept).0 in
+        let e = first.2 in
+        let reads = by.one lt in
+        (first.0, first.1, omega (arith, ints, e, reads));
+  }
+
+  -- it stays right for the reading where clocks, timers and time do, whatever becomes of the machine
+  pub due_stays : (last_step : C → ℕ) (old new : State C M) (device : DeviceId) (due : Option Units) → IsWell last_step reading stands network old
+      → device.0 < length network.device
+      → ((machine : Kept M) (node : Node) → slice_get old.machines.items device.0 ≡ Some machine → keeps stands machine network device node
+      → IsDueReading network device node due)
+      → new.clocks ≡ old.clocks → new.time ≡ old.time → new.timers ≡ old.timers → IsDueTimed reading network new device.0 due
+  due_stays last_step old new device due well of_it least clocks now timers clock time own at =
+      let timed = well.timed.each device of_it in
+      let clock_is : timed.clock ≡ clock = some_same _ _ _ timed.of_clock (sym (ap (λ (c : _). slice_get c.items device.0) clocks) ∙ own) in
+      let time_is : timed.act ≡ time =
+      some_same _ _ _ timed.of_act (sym (ap (λ (l : List ℕ). slice_get l (length network.device + device.0)) timers) ∙ at) in
+      let node = node_of reading stands network old well.running device timed.machine of_it timed.of_machine in
+      let by = due_by timed.clock timed.machine device old.time timed.act due node.0 node.1 (least timed.machine node.0 timed.of_machine node.1) timed.acts in
+      subst (λ (n : ℕ). IsDueBy reading clock due n time) (sym now)
+      (subst (λ (t : ℕ). IsDueBy reading clock due old.time t) time_is
+      (subst (λ (k : C). IsDueBy reading k due old.time timed.act) clock_is by))
