@@ -1,5 +1,6 @@
-ghost use Rattle.std.specs.Prelude.{◌≡◌};
+ghost use Rattle.std.specs.Prelude.{◌↔◌, ◌≡◌, IsTrue};
 ghost use Rattle.audit_devices.specs.Effects.{effect_by, heard_on, judged_as};
+ghost use Rattle.audit_devices.specs.declared.effect.Effect.TheVariants.{Nothing};
 ghost use Rattle.run_law.specs.scenario.Devices.{channel_of, channel_of_link};
 
 use membership::HeardFrame;
@@ -120,6 +121,18 @@ pub(crate) fn effect_of(
     } else {
         Effect::Nothing
     }
+}
+
+/// Does a record of this body, whose frame says this, show nothing of the device?
+pub(crate) fn shows_nothing(
+    network: &Network,
+    device: DeviceId,
+    carried: Carried,
+    body: &NoteBody,
+) -> bool
+    ensures { IsTrue result ↔ (effect_by network.now device carried body.now ≡ Nothing) }
+{
+    matches!(effect_of(network, device, carried, body), Effect::Nothing)
 }
 
 /// What a judgement of a frame on the channel shows of the device that judged it as one of the cycle `own`.

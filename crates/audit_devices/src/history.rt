@@ -1,6 +1,7 @@
 ghost use Rattle.std.specs.Prelude.{◌≡◌, ◌∷◌, ◌++◌, ◌<◌, [], List, is_ok, if◌then◌else◌, IfSome, OnOk};
 ghost use Rattle.net_plan.specs.Ranges.{IsInRange};
 
+use crate::effect::shows_nothing;
 use crate::{Carried, Mark, Readings, Shown};
 use net_plan::{DeviceId, Network};
 use run_law::NoteBody;
@@ -63,6 +64,9 @@ impl History {
             → AllBefore place_of hs (place_of h) → Keeps s hs device self.old
             → OnOk result (Keeps s (hs ++ h ∷ []) device self.new) }
     {
+        if shows_nothing(network, device, carried, body) {
+            return Ok(());
+        }
         let shown = self
             .latest()
             .after(network, device, time, body, carried, readings);

@@ -136,6 +136,12 @@ impl Mark {
     pub fn is_before(&self, other: &Mark) -> bool
         ensures { result ≡ is_mark_before self.now other.now }
     {
+        if self.time != other.time {
+            return self.time < other.time;
+        }
+        if self.rank != other.rank {
+            return self.rank < other.rank;
+        }
         let fifth = precedes(
             self.fifth,
             other.fifth,
@@ -146,13 +152,11 @@ impl Mark {
             other.third,
             precedes(self.fourth, other.fourth, fifth),
         );
-        let first = precedes(
+        precedes(
             self.first,
             other.first,
             precedes(self.second, other.second, third),
-        );
-        let rank = precedes(u64::from(self.rank), u64::from(other.rank), first);
-        precedes(self.time, other.time, rank)
+        )
     }
 
     /// The mark of a record that a link and a cause tell apart.

@@ -1,2 +1,3 @@
-pub mod Compared
+pub mod Padded
 pub mod Rows
+pub mod Same

@@ -1,6 +1,7 @@
 //! The places of records in the order of a report, and whether a record stands at one.
 #![tactic(auto)]
 
+mod numbers;
 mod place;
 mod places;
 

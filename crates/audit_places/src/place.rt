@@ -6,29 +6,27 @@ ghost use Rattle.sync_state.specs.declared.state.State.{State};
 ghost use Rattle.tte_units.specs.declared.units.Units.{Units as UnitsValue};
 ghost use Rattle.run_law.specs.declared.note.NoteBody.TheVariants as notes;
 
+use crate::numbers::Numbers;
 use net_plan::{DeviceId, LinkId, VlId};
 use run_law::NoteBody;
 use std::marker::Model;
 use tte_units::Units;
 
-/// The most numbers of a place.
-const MOST: usize = 9;
-
 /// Where a record stands in the order of a report: its time, the rank of its kind, and numbers of its own.
 #[derive(Debug, Drop)]
 pub struct Place {
-    numbers: [u64; MOST],
-    len: usize,
+    numbers: Numbers,
 }
 
 impl Model for Place {
-    ghost use Rattle.std.specs.Prelude.{ℕ, List, ◌≤◌, take};
+    ghost use Rattle.std.specs.Prelude.{ℕ, List, take};
+    ghost use Rattle.audit_places.specs.Placing.{IsPadded, numbers_of};
 
     ghost Value = { List ℕ };
 
-    ghost view = { λ p. take p.len p.numbers };
+    ghost view = { λ p. take p.numbers.count (numbers_of p.numbers) };
 
-    ghost invariant = { λ p. p.len ≤ 9 };
+    ghost invariant = { λ p. IsPadded p.numbers.count (numbers_of p.numbers) };
 }
 
 impl Place {
@@ -37,8 +35,7 @@ impl Place {
         ensures { result ≡ time ∷ [] }
     {
         Place {
-            numbers: [time, 0, 0, 0, 0, 0, 0, 0, 0],
-            len: 1,
+            numbers: Numbers::with(1, time, 0, 0),
         }
     }
 
@@ -47,8 +44,7 @@ impl Place {
         ensures { result ≡ time ∷ rank ∷ [] }
     {
         Place {
-            numbers: [time, u64::from(rank), 0, 0, 0, 0, 0, 0, 0],
-            len: 2,
+            numbers: Numbers::with(2, time, rank, 0),
         }
     }
 
@@ -135,18 +131,13 @@ impl Place {
             → result ≡ place_at time members (notes.Permanent device link cause point verdict) }
     {
         Place {
-            numbers: [
-                time,
-                3,
-                u64::from(device.0),
-                point.0.unsigned_abs(),
-                u64::from(members),
-                u64::from(link.0),
-                cause,
-                0,
-                0,
-            ],
-            len: 7,
+            numbers: Numbers {
+                second: point.0.unsigned_abs(),
+                third: u64::from(members),
+                fourth: link.0,
+                fifth: cause,
+                ..Numbers::with(7, time, 3, u64::from(device.0))
+            },
         }
     }
 
@@ -163,18 +154,15 @@ impl Place {
             → result ≡ place_at time of_frame (notes.Compressed device opened at cycle of_masters verdict) }
     {
         Place {
-            numbers: [
-                time,
-                4,
-                u64::from(device.0),
-                opened.0.unsigned_abs(),
-                at.0.unsigned_abs(),
-                u64::from(cycle),
-                members,
-                sign(opened),
-                sign(at),
-            ],
-            len: 9,
+            numbers: Numbers {
+                second: opened.0.unsigned_abs(),
+                third: at.0.unsigned_abs(),
+                fourth: cycle,
+                fifth: members,
+                sixth: sign(opened),
+                seventh: sign(at),
+                ..Numbers::with(9, time, 4, u64::from(device.0))
+            },
         }
     }
 
@@ -220,18 +208,13 @@ impl Place {
         ensures { (members : ℕ) → result ≡ place_at time members (notes.TtSent device link cause vl cycle) }
     {
         Place {
-            numbers: [
-                time,
-                10,
-                u64::from(device.0),
-                u64::from(link.0),
-                cause,
-                u64::from(vl.0),
-                cycle,
-                0,
-                0,
-            ],
-            len: 7,
+            numbers: Numbers {
+                second: u64::from(link.0),
+                third: cause,
+                fourth: vl.0,
+                fifth: cycle,
+                ..Numbers::with(7, time, 10, u64::from(device.0))
+            },
         }
     }
 
@@ -239,18 +222,11 @@ impl Place {
         ensures { result ≡ time ∷ rank ∷ device.0 ∷ link.0 ∷ cause ∷ [] }
     {
         Place {
-            numbers: [
-                time,
-                u64::from(rank),
-                u64::from(device.0),
-                u64::from(link.0),
-                cause,
-                0,
-                0,
-                0,
-                0,
-            ],
-            len: 5,
+            numbers: Numbers {
+                second: u64::from(link.0),
+                third: cause,
+                ..Numbers::with(5, time, rank, u64::from(device.0))
+            },
         }
     }
 
@@ -258,18 +234,10 @@ impl Place {
         ensures { result ≡ time ∷ rank ∷ device.0 ∷ second ∷ [] }
     {
         Place {
-            numbers: [
-                time,
-                u64::from(rank),
-                u64::from(device.0),
+            numbers: Numbers {
                 second,
-                0,
-                0,
-                0,
-                0,
-                0,
-            ],
-            len: 4,
+                ..Numbers::with(4, time, rank, u64::from(device.0))
+            },
         }
     }
 
@@ -277,8 +245,7 @@ impl Place {
         ensures { result ≡ time ∷ rank ∷ first ∷ [] }
     {
         Place {
-            numbers: [time, u64::from(rank), first, 0, 0, 0, 0, 0, 0],
-            len: 3,
+            numbers: Numbers::with(3, time, rank, first),
         }
     }
 
@@ -286,25 +253,19 @@ impl Place {
     pub fn is_before(&self, other: &Place) -> bool
         ensures { result ≡ is_before self.now other.now }
     {
-        self.as_slice() < other.as_slice()
+        self.numbers.are_before(&other.numbers)
     }
 
     /// Is it the other?
     pub fn is_same(&self, other: &Place) -> bool
         ensures { IsTrue result ↔ (self.now ≡ other.now) }
     {
-        self.as_slice() == other.as_slice()
-    }
-
-    fn as_slice(&self) -> &[u64]
-        ensures { result.now ≡ self.now }
-    {
-        &self.numbers[..self.len]
+        !self.is_before(other) && !other.is_before(self)
     }
 }
 
 /// 1 for a number below 0, and else 0.
-fn sign(units: Units) -> u64
+fn sign(units: Units) -> u8
     ensures { result ≡ sign units.0 }
 {
     if units.0 < 0 { 1 } else { 0 }

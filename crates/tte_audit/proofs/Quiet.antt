@@ -1,12 +1,12 @@
 -- Records without an event.
 use Rattle.tte_audit.proofs.Words.{◌++◌, ◌+◌, ◌∷◌, ◌≡◌, AreTold, Bool, Event, Follows, List, MayCome, Network, Note, NoteBody, Units, [], events_of, false}
 use Rattle.tte_audit.proofs.Words.{is_some, refl, subst, sym, true, with_event}
-use Rattle.tte_audit.{proofs.Telling.{fault_stays, followed, goes_on}, specs.{Plain.plain_body, Report.HasNoEvent, declared.passes.Told.Told}}
-use Rattle.tte_audit.specs.declared.plain.Plain.{Plain}
+use Rattle.tte_audit.{proofs.Telling.{fault_stays, followed, goes_on}, specs.{Report.HasNoEvent, declared.passes.Told.Told}}
+use Rattle.plain_notes.specs.{Bodies.body_of, declared.bodies.Kind.Kind}
 use Rattle.run_law.specs.declared.note.NoteBody.TheVariants as bodies
-use Rattle.tte_audit.specs.declared.plain.Plain.TheVariants as plain
+use Rattle.plain_notes.specs.declared.bodies.Kind.TheVariants as plain
 
-pub plain_quiet : (p : Plain) → HasNoEvent (plain_body p)
+pub plain_quiet : (kind : Kind) → HasNoEvent (body_of kind)
 plain_quiet (plain.Arrived device link cause clock) = tt
 plain_quiet (plain.Permanent device link cause point verdict) = tt
 plain_quiet (plain.Compressed device opened at cycle members verdict) = tt
@@ -22,11 +22,11 @@ plain_quiet (plain.Dropped device link cause reason) = tt
 plain_quiet (plain.Clock device reading adjustment state) = tt
 
 -- it may come, and adds no event
-record GoesBy (network : Network) (befallen : List Event) (time : Units) (body : NoteBody) : Type 0 where
-  may : MayCome network befallen time body
-  same : with_event befallen time body ≡ befallen
+pub record GoesBy (network : Network) (befallen : List Event) (time : Units) (body : NoteBody) : Type 0 where
+  pub may : MayCome network befallen time body
+  pub same : with_event befallen time body ≡ befallen
 
-goes_by : (network : Network) (befallen : List Event) (time : Units) (body : NoteBody) → HasNoEvent body → GoesBy network befallen time body
+pub goes_by : (network : Network) (befallen : List Event) (time : Units) (body : NoteBody) → HasNoEvent body → GoesBy network befallen time body
 goes_by network befallen time (bodies.Event line what) h = absurd h
 goes_by network befallen time (bodies.Arrived device link cause clock) h = record { may = tt; same = refl }
 goes_by network befallen time (bodies.Permanent device link cause point verdict) h = record { may = tt; same = refl }

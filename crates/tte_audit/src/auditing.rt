@@ -9,10 +9,11 @@ ghost use Rattle.tte_audit.specs.{Report.IsNextLine, Telling.IsReadOf};
 use crate::hints::NameHints;
 use crate::lines::{numbered_record, plain_record};
 use crate::named::keep_names_apart;
-use crate::plain_line::no_record;
+use crate::swift::audited;
 use crate::{AuditRefusal, ReportEvents, read_events};
 use audit_sweep::Sweep;
 use net_plan::Network;
+use plain_notes::no_record;
 use run_law::Note;
 use schedule_tables::Accepted;
 use std::alloc::Global;
@@ -30,6 +31,9 @@ pub fn audit(alloc: Global, accepted: &Accepted, report: &[u8]) -> Result<u64, A
         (λ refusal. IsRefusedBy accepted.now report.now refusal) }
 {
     keep_names_apart(accepted);
+    if let Some(records) = audited(alloc, accepted, report) {
+        return Ok(records);
+    }
     match read_events(alloc, accepted, report) {
         Ok(read) => audit_records(alloc, accepted.network(), report, read),
         Err(refusal) => Err(refusal),
@@ -98,7 +102,7 @@ fn take_line<'r>(
 
 // The same, for any record.
 #[inline(never)]
-fn take_other<'r>(
+pub(crate) fn take_other<'r>(
     sweep: &mut Sweep,
     network: &Network,
     number: u64,
@@ -116,7 +120,11 @@ fn take_other<'r>(
 }
 
 // Takes the record, behind which this is left.
-fn judge<'r>(sweep: &mut Sweep, note: &Note, left: &'r [u8]) -> Result<&'r [u8], AuditRefusal>
+pub(crate) fn judge<'r>(
+    sweep: &mut Sweep,
+    note: &Note,
+    left: &'r [u8],
+) -> Result<&'r [u8], AuditRefusal>
     requires swept { SweepsSome sweep.old }
     requires named { IsBodyOf sweep.old.network.now note.now.body }
     ensures { (network : NetworkValue) (number : ℕ) (octets : List ℕ)

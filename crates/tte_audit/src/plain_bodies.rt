@@ -2,18 +2,19 @@
 
 ghost use Rattle.std.specs.{List.join_with_byte, Prelude.{◌++◌, ◌∷◌, ◌≡◌, IfSome, [], codes, decimal}};
 ghost use Rattle.net_plan.specs.{Belonging.HasVl, Ranges.IsInRange};
+ghost use Rattle.plain_notes.specs.Bodies.{body_of};
 ghost use Rattle.report_text.specs.NoteLine.{body_words, passage_words, stream_words};
 ghost use Rattle.report_text.specs.Ranges.{HasPassage, IsBodyInRange, IsBodyOf, IsCount, IsShortCount};
 ghost use Rattle.trace_text.specs.Steps.{space};
-ghost use Rattle.tte_audit.specs.{Plain.plain_body, Spellings.kind_text};
+ghost use Rattle.tte_audit.specs.Spellings.{kind_text};
 
 use crate::cursor::Cursor;
 use crate::enums::{judgement as judgement_word, state as state_word, why as why_word};
-use crate::kind::Kind;
-use crate::plain::Plain;
+use crate::kind;
 use crate::plain_words::{take_device, take_kind, take_link, take_members, take_state, take_vl};
 use crate::reasons::one_word_reason;
 use net_plan::{DeviceId, LinkId, Network, VlId};
+use plain_notes::Kind;
 
 // Where a frame is and what it comes from.
 #[derive(Clone, Copy)]
@@ -65,17 +66,17 @@ fn take_stream(network: &Network, cursor: &mut Cursor) -> Option<Stream>
     Some(Stream { vl, cycle })
 }
 
-fn arrived(network: &Network, cursor: &mut Cursor) -> Option<Plain>
+fn arrived(network: &Network, cursor: &mut Cursor) -> Option<Kind>
     requires { IsInRange network.now }
-    ensures of_network { IfSome result (λ p. IsBodyOf network.now (plain_body p)) }
-    ensures range { IfSome result (λ p. IsBodyInRange (plain_body p)) }
+    ensures of_network { IfSome result (λ p. IsBodyOf network.now (body_of p)) }
+    ensures range { IfSome result (λ p. IsBodyInRange (body_of p)) }
     ensures text { IfSome result (λ p. codes "arrived " ++ cursor.old
-        ≡ join_with_byte space (body_words network.now (plain_body p))) }
+        ≡ join_with_byte space (body_words network.now (body_of p))) }
 {
     let stop = take_stop(network, cursor)?;
     cursor.fixed(" clock ")?;
     let clock = cursor.last_count()?;
-    Some(Plain::Arrived {
+    Some(Kind::Arrived {
         device: stop.device,
         link: stop.link,
         cause: stop.cause,
@@ -83,17 +84,17 @@ fn arrived(network: &Network, cursor: &mut Cursor) -> Option<Plain>
     })
 }
 
-fn left(network: &Network, cursor: &mut Cursor) -> Option<Plain>
+fn left(network: &Network, cursor: &mut Cursor) -> Option<Kind>
     requires { IsInRange network.now }
-    ensures of_network { IfSome result (λ p. IsBodyOf network.now (plain_body p)) }
-    ensures range { IfSome result (λ p. IsBodyInRange (plain_body p)) }
+    ensures of_network { IfSome result (λ p. IsBodyOf network.now (body_of p)) }
+    ensures range { IfSome result (λ p. IsBodyInRange (body_of p)) }
     ensures text { IfSome result (λ p. codes "left " ++ cursor.old
-        ≡ join_with_byte space (body_words network.now (plain_body p))) }
+        ≡ join_with_byte space (body_words network.now (body_of p))) }
 {
     let stop = take_stop(network, cursor)?;
     cursor.fixed(" clock ")?;
     let clock = cursor.last_count()?;
-    Some(Plain::Left {
+    Some(Kind::Left {
         device: stop.device,
         link: stop.link,
         cause: stop.cause,
@@ -101,19 +102,19 @@ fn left(network: &Network, cursor: &mut Cursor) -> Option<Plain>
     })
 }
 
-fn permanent(network: &Network, cursor: &mut Cursor) -> Option<Plain>
+fn permanent(network: &Network, cursor: &mut Cursor) -> Option<Kind>
     requires { IsInRange network.now }
-    ensures of_network { IfSome result (λ p. IsBodyOf network.now (plain_body p)) }
-    ensures range { IfSome result (λ p. IsBodyInRange (plain_body p)) }
+    ensures of_network { IfSome result (λ p. IsBodyOf network.now (body_of p)) }
+    ensures range { IfSome result (λ p. IsBodyInRange (body_of p)) }
     ensures text { IfSome result (λ p. codes "permanent " ++ cursor.old
-        ≡ join_with_byte space (body_words network.now (plain_body p))) }
+        ≡ join_with_byte space (body_words network.now (body_of p))) }
 {
     let stop = take_stop(network, cursor)?;
     cursor.fixed(" point ")?;
     let point = cursor.units()?;
     cursor.fixed(" ")?;
     let verdict = judgement_word(cursor.last())?;
-    Some(Plain::Permanent {
+    Some(Kind::Permanent {
         device: stop.device,
         link: stop.link,
         cause: stop.cause,
@@ -122,12 +123,12 @@ fn permanent(network: &Network, cursor: &mut Cursor) -> Option<Plain>
     })
 }
 
-fn compressed(network: &Network, cursor: &mut Cursor) -> Option<Plain>
+fn compressed(network: &Network, cursor: &mut Cursor) -> Option<Kind>
     requires { IsInRange network.now }
-    ensures of_network { IfSome result (λ p. IsBodyOf network.now (plain_body p)) }
-    ensures range { IfSome result (λ p. IsBodyInRange (plain_body p)) }
+    ensures of_network { IfSome result (λ p. IsBodyOf network.now (body_of p)) }
+    ensures range { IfSome result (λ p. IsBodyInRange (body_of p)) }
     ensures text { IfSome result (λ p. codes "compressed " ++ cursor.old
-        ≡ join_with_byte space (body_words network.now (plain_body p))) }
+        ≡ join_with_byte space (body_words network.now (body_of p))) }
 {
     let device = take_device(network, cursor)?;
     cursor.fixed(" opened ")?;
@@ -140,7 +141,7 @@ fn compressed(network: &Network, cursor: &mut Cursor) -> Option<Plain>
     let members = take_members(cursor)?;
     cursor.fixed(" ")?;
     let verdict = judgement_word(cursor.last())?;
-    Some(Plain::Compressed {
+    Some(Kind::Compressed {
         device,
         opened,
         at,
@@ -150,25 +151,25 @@ fn compressed(network: &Network, cursor: &mut Cursor) -> Option<Plain>
     })
 }
 
-fn sent(network: &Network, cursor: &mut Cursor) -> Option<Plain>
+fn sent(network: &Network, cursor: &mut Cursor) -> Option<Kind>
     requires { IsInRange network.now }
-    ensures of_network { IfSome result (λ p. IsBodyOf network.now (plain_body p)) }
-    ensures range { IfSome result (λ p. IsBodyInRange (plain_body p)) }
+    ensures of_network { IfSome result (λ p. IsBodyOf network.now (body_of p)) }
+    ensures range { IfSome result (λ p. IsBodyInRange (body_of p)) }
     ensures text { IfSome result (λ p. codes "sent " ++ cursor.old
-        ≡ join_with_byte space (body_words network.now (plain_body p))) }
+        ≡ join_with_byte space (body_words network.now (body_of p))) }
 {
     let device = take_device(network, cursor)?;
     cursor.fixed(" cycle ")?;
     let cycle = cursor.last_short()?;
-    Some(Plain::Sent { device, cycle })
+    Some(Kind::Sent { device, cycle })
 }
 
-fn corrected(network: &Network, cursor: &mut Cursor) -> Option<Plain>
+fn corrected(network: &Network, cursor: &mut Cursor) -> Option<Kind>
     requires { IsInRange network.now }
-    ensures of_network { IfSome result (λ p. IsBodyOf network.now (plain_body p)) }
-    ensures range { IfSome result (λ p. IsBodyInRange (plain_body p)) }
+    ensures of_network { IfSome result (λ p. IsBodyOf network.now (body_of p)) }
+    ensures range { IfSome result (λ p. IsBodyInRange (body_of p)) }
     ensures text { IfSome result (λ p. codes "corrected " ++ cursor.old
-        ≡ join_with_byte space (body_words network.now (plain_body p))) }
+        ≡ join_with_byte space (body_words network.now (body_of p))) }
 {
     let device = take_device(network, cursor)?;
     cursor.fixed(" cycle ")?;
@@ -177,7 +178,7 @@ fn corrected(network: &Network, cursor: &mut Cursor) -> Option<Plain>
     let by = cursor.units()?;
     cursor.fixed(" adj ")?;
     let adjustment = cursor.last_units()?;
-    Some(Plain::Corrected {
+    Some(Kind::Corrected {
         device,
         cycle,
         by,
@@ -185,12 +186,12 @@ fn corrected(network: &Network, cursor: &mut Cursor) -> Option<Plain>
     })
 }
 
-fn changed(network: &Network, cursor: &mut Cursor) -> Option<Plain>
+fn changed(network: &Network, cursor: &mut Cursor) -> Option<Kind>
     requires { IsInRange network.now }
-    ensures of_network { IfSome result (λ p. IsBodyOf network.now (plain_body p)) }
-    ensures range { IfSome result (λ p. IsBodyInRange (plain_body p)) }
+    ensures of_network { IfSome result (λ p. IsBodyOf network.now (body_of p)) }
+    ensures range { IfSome result (λ p. IsBodyInRange (body_of p)) }
     ensures text { IfSome result (λ p. codes "state " ++ cursor.old
-        ≡ join_with_byte space (body_words network.now (plain_body p))) }
+        ≡ join_with_byte space (body_words network.now (body_of p))) }
 {
     let device = take_device(network, cursor)?;
     cursor.fixed(" ")?;
@@ -199,7 +200,7 @@ fn changed(network: &Network, cursor: &mut Cursor) -> Option<Plain>
     let cause = cursor.count()?;
     cursor.fixed(" ")?;
     let why = why_word(cursor.last())?;
-    Some(Plain::State {
+    Some(Kind::State {
         device,
         state,
         cause,
@@ -207,35 +208,35 @@ fn changed(network: &Network, cursor: &mut Cursor) -> Option<Plain>
     })
 }
 
-fn lost(network: &Network, cursor: &mut Cursor) -> Option<Plain>
+fn lost(network: &Network, cursor: &mut Cursor) -> Option<Kind>
     requires { IsInRange network.now }
-    ensures of_network { IfSome result (λ p. IsBodyOf network.now (plain_body p)) }
-    ensures range { IfSome result (λ p. IsBodyInRange (plain_body p)) }
+    ensures of_network { IfSome result (λ p. IsBodyOf network.now (body_of p)) }
+    ensures range { IfSome result (λ p. IsBodyInRange (body_of p)) }
     ensures text { IfSome result (λ p. codes "lost " ++ cursor.old
-        ≡ join_with_byte space (body_words network.now (plain_body p))) }
+        ≡ join_with_byte space (body_words network.now (body_of p))) }
 {
     let device = take_device(network, cursor)?;
     cursor.fixed(" ")?;
     let link = take_link(network, cursor)?;
     cursor.fixed(" ")?;
     let cause = cursor.last_count()?;
-    Some(Plain::Lost {
+    Some(Kind::Lost {
         device,
         link,
         cause,
     })
 }
 
-fn ttsent(network: &Network, cursor: &mut Cursor) -> Option<Plain>
+fn ttsent(network: &Network, cursor: &mut Cursor) -> Option<Kind>
     requires { IsInRange network.now }
-    ensures of_network { IfSome result (λ p. IsBodyOf network.now (plain_body p)) }
-    ensures range { IfSome result (λ p. IsBodyInRange (plain_body p)) }
+    ensures of_network { IfSome result (λ p. IsBodyOf network.now (body_of p)) }
+    ensures range { IfSome result (λ p. IsBodyInRange (body_of p)) }
     ensures text { IfSome result (λ p. codes "ttsent " ++ cursor.old
-        ≡ join_with_byte space (body_words network.now (plain_body p))) }
+        ≡ join_with_byte space (body_words network.now (body_of p))) }
 {
     let stop = take_stop(network, cursor)?;
     let stream = take_stream(network, cursor)?;
-    Some(Plain::TtSent {
+    Some(Kind::TtSent {
         device: stop.device,
         link: stop.link,
         cause: stop.cause,
@@ -244,16 +245,16 @@ fn ttsent(network: &Network, cursor: &mut Cursor) -> Option<Plain>
     })
 }
 
-fn accepted(network: &Network, cursor: &mut Cursor) -> Option<Plain>
+fn accepted(network: &Network, cursor: &mut Cursor) -> Option<Kind>
     requires { IsInRange network.now }
-    ensures of_network { IfSome result (λ p. IsBodyOf network.now (plain_body p)) }
-    ensures range { IfSome result (λ p. IsBodyInRange (plain_body p)) }
+    ensures of_network { IfSome result (λ p. IsBodyOf network.now (body_of p)) }
+    ensures range { IfSome result (λ p. IsBodyInRange (body_of p)) }
     ensures text { IfSome result (λ p. codes "accepted " ++ cursor.old
-        ≡ join_with_byte space (body_words network.now (plain_body p))) }
+        ≡ join_with_byte space (body_words network.now (body_of p))) }
 {
     let stop = take_stop(network, cursor)?;
     let stream = take_stream(network, cursor)?;
-    Some(Plain::Accepted {
+    Some(Kind::Accepted {
         device: stop.device,
         link: stop.link,
         cause: stop.cause,
@@ -262,16 +263,16 @@ fn accepted(network: &Network, cursor: &mut Cursor) -> Option<Plain>
     })
 }
 
-fn delivered(network: &Network, cursor: &mut Cursor) -> Option<Plain>
+fn delivered(network: &Network, cursor: &mut Cursor) -> Option<Kind>
     requires { IsInRange network.now }
-    ensures of_network { IfSome result (λ p. IsBodyOf network.now (plain_body p)) }
-    ensures range { IfSome result (λ p. IsBodyInRange (plain_body p)) }
+    ensures of_network { IfSome result (λ p. IsBodyOf network.now (body_of p)) }
+    ensures range { IfSome result (λ p. IsBodyInRange (body_of p)) }
     ensures text { IfSome result (λ p. codes "delivered " ++ cursor.old
-        ≡ join_with_byte space (body_words network.now (plain_body p))) }
+        ≡ join_with_byte space (body_words network.now (body_of p))) }
 {
     let stop = take_stop(network, cursor)?;
     let stream = take_stream(network, cursor)?;
-    Some(Plain::Delivered {
+    Some(Kind::Delivered {
         device: stop.device,
         link: stop.link,
         cause: stop.cause,
@@ -280,17 +281,17 @@ fn delivered(network: &Network, cursor: &mut Cursor) -> Option<Plain>
     })
 }
 
-fn dropped(network: &Network, cursor: &mut Cursor) -> Option<Plain>
+fn dropped(network: &Network, cursor: &mut Cursor) -> Option<Kind>
     requires { IsInRange network.now }
-    ensures of_network { IfSome result (λ p. IsBodyOf network.now (plain_body p)) }
-    ensures range { IfSome result (λ p. IsBodyInRange (plain_body p)) }
+    ensures of_network { IfSome result (λ p. IsBodyOf network.now (body_of p)) }
+    ensures range { IfSome result (λ p. IsBodyInRange (body_of p)) }
     ensures text { IfSome result (λ p. codes "dropped " ++ cursor.old
-        ≡ join_with_byte space (body_words network.now (plain_body p))) }
+        ≡ join_with_byte space (body_words network.now (body_of p))) }
 {
     let stop = take_stop(network, cursor)?;
     cursor.fixed(" ")?;
     let reason = one_word_reason(cursor.last())?;
-    Some(Plain::Dropped {
+    Some(Kind::Dropped {
         device: stop.device,
         link: stop.link,
         cause: stop.cause,
@@ -298,12 +299,12 @@ fn dropped(network: &Network, cursor: &mut Cursor) -> Option<Plain>
     })
 }
 
-fn clock(network: &Network, cursor: &mut Cursor) -> Option<Plain>
+fn clock(network: &Network, cursor: &mut Cursor) -> Option<Kind>
     requires { IsInRange network.now }
-    ensures of_network { IfSome result (λ p. IsBodyOf network.now (plain_body p)) }
-    ensures range { IfSome result (λ p. IsBodyInRange (plain_body p)) }
+    ensures of_network { IfSome result (λ p. IsBodyOf network.now (body_of p)) }
+    ensures range { IfSome result (λ p. IsBodyInRange (body_of p)) }
     ensures text { IfSome result (λ p. codes "clock " ++ cursor.old
-        ≡ join_with_byte space (body_words network.now (plain_body p))) }
+        ≡ join_with_byte space (body_words network.now (body_of p))) }
 {
     let device = take_device(network, cursor)?;
     cursor.fixed(" reading ")?;
@@ -312,7 +313,7 @@ fn clock(network: &Network, cursor: &mut Cursor) -> Option<Plain>
     let adjustment = cursor.units()?;
     cursor.fixed(" state ")?;
     let state = state_word(cursor.last())?;
-    Some(Plain::Clock {
+    Some(Kind::Clock {
         device,
         reading,
         adjustment,
@@ -321,38 +322,38 @@ fn clock(network: &Network, cursor: &mut Cursor) -> Option<Plain>
 }
 
 // What a record of the kind says. Those of events are not read here.
-fn plain_of(network: &Network, kind: Kind, cursor: &mut Cursor) -> Option<Plain>
+fn plain_of(network: &Network, word: kind::Kind, cursor: &mut Cursor) -> Option<Kind>
     requires { IsInRange network.now }
-    ensures of_network { IfSome result (λ p. IsBodyOf network.now (plain_body p)) }
-    ensures range { IfSome result (λ p. IsBodyInRange (plain_body p)) }
-    ensures text { IfSome result (λ p. kind_text kind ++ codes " " ++ cursor.old
-        ≡ join_with_byte space (body_words network.now (plain_body p))) }
+    ensures of_network { IfSome result (λ p. IsBodyOf network.now (body_of p)) }
+    ensures range { IfSome result (λ p. IsBodyInRange (body_of p)) }
+    ensures text { IfSome result (λ p. kind_text word ++ codes " " ++ cursor.old
+        ≡ join_with_byte space (body_words network.now (body_of p))) }
 {
-    match kind {
-        Kind::Event => None,
-        Kind::Arrived => arrived(network, cursor),
-        Kind::Permanent => permanent(network, cursor),
-        Kind::Compressed => compressed(network, cursor),
-        Kind::Sent => sent(network, cursor),
-        Kind::Corrected => corrected(network, cursor),
-        Kind::State => changed(network, cursor),
-        Kind::Left => left(network, cursor),
-        Kind::Lost => lost(network, cursor),
-        Kind::TtSent => ttsent(network, cursor),
-        Kind::Accepted => accepted(network, cursor),
-        Kind::Delivered => delivered(network, cursor),
-        Kind::Dropped => dropped(network, cursor),
-        Kind::Clock => clock(network, cursor),
+    match word {
+        kind::Kind::Event => None,
+        kind::Kind::Arrived => arrived(network, cursor),
+        kind::Kind::Permanent => permanent(network, cursor),
+        kind::Kind::Compressed => compressed(network, cursor),
+        kind::Kind::Sent => sent(network, cursor),
+        kind::Kind::Corrected => corrected(network, cursor),
+        kind::Kind::State => changed(network, cursor),
+        kind::Kind::Left => left(network, cursor),
+        kind::Kind::Lost => lost(network, cursor),
+        kind::Kind::TtSent => ttsent(network, cursor),
+        kind::Kind::Accepted => accepted(network, cursor),
+        kind::Kind::Delivered => delivered(network, cursor),
+        kind::Kind::Dropped => dropped(network, cursor),
+        kind::Kind::Clock => clock(network, cursor),
     }
 }
 
 /// What a record says that is of no event.
-pub(crate) fn take_plain(network: &Network, cursor: &mut Cursor) -> Option<Plain>
+pub(crate) fn take_plain(network: &Network, cursor: &mut Cursor) -> Option<Kind>
     requires { IsInRange network.now }
-    ensures of_network { IfSome result (λ p. IsBodyOf network.now (plain_body p)) }
-    ensures range { IfSome result (λ p. IsBodyInRange (plain_body p)) }
+    ensures of_network { IfSome result (λ p. IsBodyOf network.now (body_of p)) }
+    ensures range { IfSome result (λ p. IsBodyInRange (body_of p)) }
     ensures text { IfSome result (λ p. cursor.old
-        ≡ join_with_byte space (body_words network.now (plain_body p))) }
+        ≡ join_with_byte space (body_words network.now (body_of p))) }
 {
     let kind = take_kind(cursor)?;
     cursor.fixed(" ")?;

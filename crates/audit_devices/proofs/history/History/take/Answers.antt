@@ -1,5 +1,6 @@
-use Rattle.audit_devices.proofs.Words.{if◌then◌else◌, ◌++◌, ◌∙◌, ◌∷◌, Bool, Entry, Keeps, Mark, Shows, [], ap, subst, sym}
-use Rattle.audit_devices.proofs.{Kept.{kept_on, none_later}, KeptAll.{mark_met, on_ok}}
+use Rattle.audit_devices.proofs.Words.{if◌then◌else◌, ◌++◌, ◌∙◌, ◌∷◌, ◌≡◌, Bool, Carried, Entry, Keeps, Mark, Network, Nothing, Shows, [], ap, carried_by}
+use Rattle.audit_devices.proofs.Words.{effect_by, effect_of, subst, sym}
+use Rattle.audit_devices.proofs.{Kept.{kept_on, kept_still, none_later}, KeptAll.{mark_met, on_ok}}
 use Rattle.audit_devices.proofs.history.History.take.Goals as goal
 
 pub returns : goal.returns
@@ -17,3 +18,15 @@ returns c s hs h is met of all keeps =
     ∙ ap (λ (b : Bool). if b then old.entries.items ++ entry c.of.result ∷ [] else old.entries.items) ok
     ∙ ap (λ (m : Mark). old.entries.items ++ entry m ∷ []) mark in
     kept_on s hs device h old new shown all of c.push.ensures.first items shows keeps)
+
+pub returns-then-shows_nothing : goal.returns-then-shows_nothing
+returns-then-shows_nothing c s hs h is met of all keeps =
+    let device = c.args.device in
+    let network = c.args.network.now in
+    let carried = c.args.carried in
+    let nothing : effect_of s.network device h ≡ Nothing =
+    ap (λ (n : Network). effect_by n device (carried_by h) h.note.body) is
+    ∙ ap (λ (x : Carried). effect_by network device x h.note.body) (sym met.frame)
+    ∙ ap (effect_by network device carried) met.body_is
+    ∙ c.shows_nothing.ensures.0 c.if-shows_nothing.true in
+    kept_still s hs device h c.args.self.now nothing keeps
