@@ -4,7 +4,7 @@ use Rattle.std.proofs.Common.{inl, inr, pos, refl, subst, sym, ◌∙◌, ◌⊎
 use Rattle.std.specs.Prelude.{◌+ℤ◌, ◌-ℤ◌, if◌then◌else◌, nat_lt, option_and_then, option_map, unsigned_abs}
 use Rattle.std.proofs.lemmas.{Bool.Decides.nat_tests, Int.ints, List.{Elements.filter-append, append-nil}}
 use Rattle.tte_lemmas.proofs.Integers.{not_below}
-use Rattle.lens_draw.proofs.{Asking.{in_shown, struck_other}, Clocks.{has_happening, share_is}, Runs.{no_later, pictures_show_runs}}
+use Rattle.lens_draw.proofs.{Asking.{in_shown, struck_other}, Clocks.{has_happening, share_is}, Falls.{no_later}, Runs.{pictures_show_runs}}
 use Rattle.lens_draw.specs.{Picture.clocks_of, WindowLaws.{PicturesShowWindows, ShowsWindow}}
 use Rattle.lens_picture.proofs.{Rows.row_is_one, Windows.window_is}
 use Rattle.lens_picture.specs.{Bodies.{look_of, scene_of}, Clocks.share, Laws.{AreMarksOf, IsMarkOf, shown}, Sketching.{moment, plan_of}}

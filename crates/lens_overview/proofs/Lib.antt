@@ -6,7 +6,6 @@ pub mod Persisting
 pub mod Counting
 pub mod Narrow
 pub mod Columns
-pub mod Falls
 pub mod Shows
 pub mod Laying
 pub mod Lines

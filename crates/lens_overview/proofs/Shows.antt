@@ -1,9 +1,9 @@
 -- The overview of a report shows its run.
 use Rattle.std.proofs.Common.{◌≡◌, ℕ, zero, suc, ◌+◌, ◌*◌, ◌/◌, ◌<◌, ◌≤◌, ◌^◌, false, List, [], ◌∷◌, refl, sym, ap, subst, ◌∙◌, inl, inr, arith}
+use Rattle.lens_draw.proofs.Falls.{never_fall}
 use Rattle.lens_overview.proofs.Cells.{ArePlaced, cells_from, cells_future}
 use Rattle.lens_overview.proofs.Columns.{AreUpTo, column_most, lies_within, placed, rises, up_to_greatest, within}
 use Rattle.lens_overview.proofs.Counting.{delivers_seen, seen_delivers, shaded_fades}
-use Rattle.lens_overview.proofs.Falls.{never_fall}
 use Rattle.lens_overview.proofs.Narrow.{order_of, pitch_least, step_some}
 use Rattle.lens_overview.proofs.Persisting.{lane_lasts, lasting_cells, passage_lasts}
 use Rattle.lens_overview.proofs.Ribbons.{Agrees, Good, Rises, future, sweep_each, sweep_only}

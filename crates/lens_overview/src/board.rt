@@ -3,14 +3,13 @@ ghost use Rattle.std.specs.Prelude.{◌≡◌, ◌≤◌, ◌<◌, ◌+◌, ◌*
 ghost use Rattle.lens_overview.specs.Boards.{IsLaid, Lays, flow_at, flow_rows, is_end, is_received, lane_at, lane_rows};
 ghost use Rattle.lens_overview.specs.Boards.{lanes_in, part_rows, passage_rows, passages_at, rows_of};
 ghost use Rattle.lens_overview.specs.Putting.{listed};
-ghost use Rattle.lens_picture.specs.Lanes.{rank_in};
 ghost use Rattle.net_plan.specs.Ranges.{IsInRange};
 
 use crate::row::height_of;
 use crate::strip::fresh;
 use crate::{Group, Kind, Row, Strip};
-use net_plan::{DeviceId, LinkId, Network, Role, Way};
-use pcf_values::Channel;
+use lens_picture::rank_in;
+use net_plan::{DeviceId, LinkId, Network, Way};
 use std::alloc::Global;
 use tte_io::OutOfMemory;
 
@@ -66,19 +65,6 @@ const LOSSES: [Kind; 15] = [
     Kind::Repeat,
     Kind::Refused,
 ];
-
-/// Which group of lanes a device of this role and channel is in, from the top.
-fn rank_in(channel: Option<Channel>, role: Role) -> u64
-    ensures { result ≡ rank_in channel role }
-{
-    match (channel, role) {
-        (Some(Channel::A), Role::Cm) => 0,
-        (Some(Channel::A), Role::Relay | Role::Master | Role::Client) => 1,
-        (None, Role::Cm | Role::Relay | Role::Master | Role::Client) => 2,
-        (Some(Channel::B), Role::Relay | Role::Master | Role::Client) => 3,
-        (Some(Channel::B), Role::Cm) => 4,
-    }
-}
 
 /// The row of the device at this place, if it is in the group of lanes.
 fn lane_at(network: &Network, rank: u64, place: usize) -> Option<Row>

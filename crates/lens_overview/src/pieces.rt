@@ -2,7 +2,6 @@
 ghost use Rattle.std.specs.Prelude.{◌≡◌, ◌≤◌, ◌+◌, ◌++◌, codes, length};
 ghost use Rattle.lens_overview.specs.Pieces.{caption_line, class_part, cycles_part, label_line, mark_line, name_part};
 ghost use Rattle.lens_overview.specs.Pieces.{rail_part, ribbon_line, row_text, shade_part, stroke_part, title_part};
-ghost use Rattle.lens_picture.specs.Numbers.{micros_text};
 ghost use Rattle.net_plan.specs.Belonging.{device_name, link_name, vl_name};
 ghost use Rattle.net_plan.specs.Ranges.{IsInRange};
 ghost use Rattle.tte_io.specs.Line.{line_limit};
@@ -11,6 +10,7 @@ ghost use Rattle.trace_text.specs.EventWords.{way_text};
 use crate::row::{group_word, kind_word, row_word};
 use crate::shade::shade_word;
 use crate::{Grid, Pen, Ribbon, Row};
+use lens_picture::push_micros;
 use net_plan::{DeviceId, LinkId, Network, VlId};
 use trace_text::way_text;
 use tte_io::LineText;
@@ -74,21 +74,6 @@ fn push_row_text(line: &mut LineText, network: &Network, row: Row)
             push_link(line, network, link);
         }
     }
-}
-
-/// Adds a time in microseconds, with three digits behind the point: at most 81 octets.
-#[tactic(auto, unfolding(lens_picture::specs::Numbers::micros_text))]
-fn push_micros(line: &mut LineText, time: u64)
-    requires { length line.old + 81 ≤ line_limit }
-    ensures text { line.new ≡ line.old ++ micros_text time }
-    ensures grows { length line.new ≤ length line.old + 81 }
-{
-    let nanos = time / 65_536;
-    line.push_decimal(nanos / 1_000);
-    line.push(".");
-    line.push_decimal(nanos / 100 % 10);
-    line.push_decimal(nanos / 10 % 10);
-    line.push_decimal(nanos % 10);
 }
 
 /// Makes the line that says how many columns there are, and how long each is.

@@ -7,8 +7,8 @@ use crate::Ground;
 use net_plan::{Device, DeviceId, Network, Role};
 use pcf_values::Channel;
 
-/// Which group of lanes a device of this role and channel is in, from the top.
-fn rank_in(channel: Option<Channel>, role: Role) -> u64
+/// Which group of lanes a device of this role and channel is in, from the top: 0 to 4.
+pub fn rank_in(channel: Option<Channel>, role: Role) -> u64
     ensures { result ≡ rank_in channel role }
 {
     match (channel, role) {

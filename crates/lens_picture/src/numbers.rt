@@ -8,7 +8,7 @@ use tte_units::Units;
 
 /// Adds a time in microseconds, with three digits behind the point: at most 81 octets.
 #[tactic(auto, unfolding(crate::specs::Numbers::micros_text))]
-pub(crate) fn push_micros(line: &mut LineText, time: u64)
+pub fn push_micros(line: &mut LineText, time: u64)
     requires { length line.old + 81 ≤ line_limit }
     ensures text { line.new ≡ line.old ++ micros_text time }
     ensures grows { length line.new ≤ length line.old + 81 }

@@ -17,7 +17,7 @@ use Rattle.tte_reports.specs.Reports.{IsReportOf}
 use Rattle.tte_units.specs.declared.units.Units.{Units}
 
 -- of two records the first of which stands before the other
-no_later : (a b : Happening) → IsBefore (place_of a) (place_of b) → time_of a ≤ time_of b
+pub no_later : (a b : Happening) → IsBefore (place_of a) (place_of b) → time_of a ≤ time_of b
 no_later a b (inl less) = omega (arith, less)
 no_later a b (inr same) = let time = same.0 in omega (arith, time)
 
