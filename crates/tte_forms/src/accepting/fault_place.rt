@@ -1,8 +1,8 @@
-ghost use Rattle.std.specs.Prelude.{◌≡◌, ◌≢◌, ◌↔◌, Err, IfErr, IfOk, None};
+ghost use Rattle.std.specs.Prelude.{◌≡◌, ◌≢◌, ◌≤◌, ◌↔◌, Err, IfOk, IfSome, None, length, take, ℕ};
+ghost use Rattle.net_file.specs.TextPlaces.{place_behind, text_start};
 ghost use Rattle.net_file.specs.Schema.{IsNoDocument};
-ghost use Rattle.tte_forms.specs.{Answering.ForOctets, Faults.ReadFailed, networks.NoNetworks.IsUnread};
+ghost use Rattle.tte_forms.specs.{Answering.ForOctets, Faults.ReadFailed, networks.Accepting.IsTooLong};
 
-use crate::NoNetwork;
 use crate::accepting::LIMIT;
 use net_file::{TextPlace, find_fault};
 use std::alloc::Global;
@@ -10,20 +10,19 @@ use tte_io::{ReadAll, Source, read_all};
 
 /// Where a network's file is found to be no TOML document; None where it is one, and where it is no UTF-8.
 ///
-/// The error says why the file was not read whole; it is no refusal of its text.
+/// The error says why the file was not read whole.
 pub fn find_fault_in<A: Source>(
     alloc: Global,
     source: &mut A,
-) -> Result<Option<TextPlace>, NoNetwork>
+) -> Result<Option<TextPlace>, ReadAll>
     ensures found { IfOk result (λ found. ForOctets (A.left source.old)
         (λ octets. (found ≢ None) ↔ IsNoDocument octets)) }
-    ensures none { IfErr result (λ cause. ForOctets (A.left source.old) (λ octets. IsUnread octets cause)) }
-    ensures failed { result ≡ Err NoNetwork.ReadFault → ReadFailed A.Source source.old source.new }
+    ensures place { IfOk result (λ found. ForOctets (A.left source.old)
+        (λ octets. IfSome found (λ place. (count : ℕ) × (count ≤ length octets)
+        × (place ≡ place_behind (take count octets) text_start)))) }
+    ensures long { result ≡ Err ReadAll.TooLong → ForOctets (A.left source.old) IsTooLong }
+    ensures failed { result ≡ Err ReadAll.Fault → ReadFailed A.Source source.old source.new }
 {
-    match read_all(alloc, source, LIMIT) {
-        Ok(octets) => find_fault(alloc, octets.as_slice()).map_err(|_| NoNetwork::OutOfMemory),
-        Err(ReadAll::Fault) => Err(NoNetwork::ReadFault),
-        Err(ReadAll::TooLong) => Err(NoNetwork::TooLong),
-        Err(ReadAll::OutOfMemory) => Err(NoNetwork::OutOfMemory),
-    }
+    let octets = read_all(alloc, source, LIMIT)?;
+    find_fault(alloc, octets.as_slice()).map_err(|_| ReadAll::OutOfMemory)
 }
