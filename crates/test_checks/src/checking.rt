@@ -39,7 +39,8 @@ const NEAR_THE_WORKED_ONE: &[(&[Edit<'_>], &str)] = &[
     (
         &[
             (
-                " {name=\"m1_b\", child=\"m1\", parent=\"rb\", wire=32768000, jitter=1310720, hold=1310720000, speed=100},\n",
+                " {name=\"m1_b\", child=\"m1\", parent=\"rb\", wire=32768000, jitter=1310720, hold=1310720000, \
+                    speed=100},\n",
                 "",
             ),
             (

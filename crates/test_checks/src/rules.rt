@@ -47,7 +47,8 @@ const FURTHER_RELAY: Edit<'_> = (
 
 const ITS_LINK: Edit<'_> = (
     "]\nvl = [\n",
-    " {name=\"rx_ca\", child=\"rx\", parent=\"ca\", wire=32768000, jitter=1310720, hold=1310720000, speed=100},\n]\nvl = [\n",
+    " {name=\"rx_ca\", child=\"rx\", parent=\"ca\", wire=32768000, jitter=1310720, hold=1310720000, \
+        speed=100},\n]\nvl = [\n",
 );
 
 const ROW_OF_NO_SOURCE: Edit<'_> = (
@@ -63,7 +64,8 @@ const FIRST_ROW_AGAIN: Edit<'_> = (
 
 // The virtual link enters no end system.
 const WITHOUT_RECEIVERS: Edit<'_> = (
-    " {vl=\"v1\", link=\"c1_a\", way=\"down\", offset=28180480000},\n {vl=\"v1\", link=\"c1_b\", way=\"down\", offset=28180480000},\n",
+    " {vl=\"v1\", link=\"c1_a\", way=\"down\", offset=28180480000},\n {vl=\"v1\", link=\"c1_b\", way=\"down\", \
+        offset=28180480000},\n",
     "",
 );
 
@@ -185,13 +187,15 @@ const SHAPES: &[(&[Edit<'_>], &str)] = &[
     (
         &[(
             "]\nvl = [\n",
-            " {name=\"m1_m2\", child=\"m1\", parent=\"m2\", wire=32768000, jitter=1310720, hold=1310720000, speed=100},\n]\nvl = [\n",
+            " {name=\"m1_m2\", child=\"m1\", parent=\"m2\", wire=32768000, jitter=1310720, hold=1310720000, \
+                speed=100},\n]\nvl = [\n",
         )],
         "rule 5 index 12",
     ),
     (
         &[(
-            " {name=\"m3_b\", child=\"m3\", parent=\"rb\", wire=32768000, jitter=1310720, hold=1310720000, speed=100},\n",
+            " {name=\"m3_b\", child=\"m3\", parent=\"rb\", wire=32768000, jitter=1310720, hold=1310720000, \
+                speed=100},\n",
             "",
         )],
         "rule 6 index 2",

@@ -5,7 +5,8 @@ use schedule_tables::Rule;
 use std::test::Fail;
 
 const USAGE: &str =
-    "usage: lens slack NETWORK [RULE] | least NETWORK | why NETWORK REPORT N | draw NETWORK REPORT [FROM TO] | flows NETWORK REPORT | events NETWORK SEED CYCLES\n";
+    "usage: lens slack NETWORK [RULE] | least NETWORK | why NETWORK REPORT N | draw NETWORK REPORT [FROM TO] | flows \
+        NETWORK REPORT | events NETWORK SEED CYCLES\n";
 
 const NO_FORMS: &[&[&str]] = &[
     &[],

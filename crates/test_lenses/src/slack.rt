@@ -17,7 +17,9 @@ const SECOND_VL: Edit<'_> = (
 
 const SECOND_ROWS: Edit<'_> = (
     "\"c1_b\", way=\"down\", offset=28180480000},\n",
-    "\"c1_b\", way=\"down\", offset=28180480000},\n {vl=\"v2\", link=\"m1_a\", way=\"up\", offset=26999000000},\n {vl=\"v2\", link=\"m1_b\", way=\"up\", offset=26998000000},\n {vl=\"v2\", link=\"c1_a\", way=\"down\", offset=28600000000},\n {vl=\"v2\", link=\"c1_b\", way=\"down\", offset=28700000000},\n",
+    "\"c1_b\", way=\"down\", offset=28180480000},\n {vl=\"v2\", link=\"m1_a\", way=\"up\", offset=26999000000},\n \
+        {vl=\"v2\", link=\"m1_b\", way=\"up\", offset=26998000000},\n {vl=\"v2\", link=\"c1_a\", way=\"down\", \
+        offset=28600000000},\n {vl=\"v2\", link=\"c1_b\", way=\"down\", offset=28700000000},\n",
 );
 
 // What each rule leaves of the worked network. The numbers were worked out apart from the program.

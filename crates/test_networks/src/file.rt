@@ -6,10 +6,16 @@ use std::process::Abort;
 use tte_units::{Speed, Units};
 
 const TOP: &str =
-    "version = 1\ncycle = 131072000000\nrho = 50000\ndmax = 3276800000\ncalc = 65536000\nsettled = 345000000\nprecision = 1048576000\ncorrection = 18350080000\ntt_start = 26542080000\nsync_threshold = 3\npriority = 0\ndomain = 0\npcf_destination = \"030000000001\"\nmarker = \"03040506\"\n";
+    "version = 1\ncycle = 131072000000\nrho = 50000\ndmax = 3276800000\ncalc = 65536000\nsettled = \
+        345000000\nprecision = 1048576000\ncorrection = 18350080000\ntt_start = 26542080000\nsync_threshold = \
+        3\npriority = 0\ndomain = 0\npcf_destination = \"030000000001\"\nmarker = \"03040506\"\n";
 
 const LISTS: &str =
-    "device = [\n {name=\"m1\", role=\"master\", mac=\"020000000011\", member=0, start=0},\n {name=\"c1\", role=\"client\", mac=\"020000000015\", start=0},\n {name=\"ra\", role=\"relay\", mac=\"020000000021\", channel=\"a\"},\n]\nlink = [\n {name=\"m1_a\", child=\"m1\", parent=\"ra\", wire=32768000, jitter=1310720, hold=1310720000, speed=100},\n]\nvl = [\n {name=\"v1\", id=1, length=60, ethertype=2048, sender=\"m1\", period=1, phase=0},\n]\nrow = [\n {vl=\"v1\", link=\"m1_a\", way=\"up\", offset=26542080000},\n]\n";
+    "device = [\n {name=\"m1\", role=\"master\", mac=\"020000000011\", member=0, start=0},\n {name=\"c1\", \
+        role=\"client\", mac=\"020000000015\", start=0},\n {name=\"ra\", role=\"relay\", mac=\"020000000021\", \
+        channel=\"a\"},\n]\nlink = [\n {name=\"m1_a\", child=\"m1\", parent=\"ra\", wire=32768000, jitter=1310720, \
+        hold=1310720000, speed=100},\n]\nvl = [\n {name=\"v1\", id=1, length=60, ethertype=2048, sender=\"m1\", \
+        period=1, phase=0},\n]\nrow = [\n {vl=\"v1\", link=\"m1_a\", way=\"up\", offset=26542080000},\n]\n";
 
 fn spot(table: TableName, index: u32, key: KeyName) -> Spot {
     Spot { table, index, key }

@@ -71,64 +71,121 @@ fn count_strokes(text: &str) -> u32 {
 
 // All lines but the shared ones of the overview of a calm cycle, by another program that works each cell out alone.
 const WHOLE: &[&str] = &[
-    "<svg xmlns=\"http://www.w3.org/2000/svg\" xmlns:xlink=\"http://www.w3.org/1999/xlink\" width=\"960\" height=\"745\" viewBox=\"0 0 960 745\">",
-    "<text class=\"note\" x=\"12\" y=\"42\">2 columns of 2000.000 us. Numbers are cycles. The thicker a stroke, the more events or frames.</text>",
+    "<svg xmlns=\"http://www.w3.org/2000/svg\" xmlns:xlink=\"http://www.w3.org/1999/xlink\" width=\"960\" \
+        height=\"745\" viewBox=\"0 0 960 745\">",
+    "<text class=\"note\" x=\"12\" y=\"42\">2 columns of 2000.000 us. Numbers are cycles. The thicker a stroke, the \
+        more events or frames.</text>",
     "<g><path class=\"tick\" d=\"M200 68 V725\"/><text class=\"time\" x=\"200\" y=\"64\">0</text></g>",
-    "<g transform=\"translate(0,82)\"><path class=\"rail event\" d=\"M200 0 H320\"/><text class=\"name event\" x=\"192\" y=\"3\">events</text></g>",
-    "<g transform=\"translate(0,104)\"><path class=\"rail title\" d=\"M200 0 H320\"/><text class=\"name title\" x=\"192\" y=\"3\">states</text></g>",
-    "<g transform=\"translate(0,119)\"><path class=\"rail lane\" d=\"M200 0 H320\"/><text class=\"name lane\" x=\"192\" y=\"3\">ca</text></g>",
-    "<g transform=\"translate(0,134)\"><path class=\"rail lane\" d=\"M200 0 H320\"/><text class=\"name lane\" x=\"192\" y=\"3\">ra</text></g>",
-    "<g transform=\"translate(0,149)\"><path class=\"rail lane\" d=\"M200 0 H320\"/><text class=\"name lane\" x=\"192\" y=\"3\">m1</text></g>",
-    "<g transform=\"translate(0,164)\"><path class=\"rail lane\" d=\"M200 0 H320\"/><text class=\"name lane\" x=\"192\" y=\"3\">m2</text></g>",
-    "<g transform=\"translate(0,179)\"><path class=\"rail lane\" d=\"M200 0 H320\"/><text class=\"name lane\" x=\"192\" y=\"3\">m3</text></g>",
-    "<g transform=\"translate(0,194)\"><path class=\"rail lane\" d=\"M200 0 H320\"/><text class=\"name lane\" x=\"192\" y=\"3\">m4</text></g>",
-    "<g transform=\"translate(0,209)\"><path class=\"rail lane\" d=\"M200 0 H320\"/><text class=\"name lane\" x=\"192\" y=\"3\">c1</text></g>",
-    "<g transform=\"translate(0,224)\"><path class=\"rail lane\" d=\"M200 0 H320\"/><text class=\"name lane\" x=\"192\" y=\"3\">rb</text></g>",
-    "<g transform=\"translate(0,239)\"><path class=\"rail lane\" d=\"M200 0 H320\"/><text class=\"name lane\" x=\"192\" y=\"3\">cb</text></g>",
-    "<g transform=\"translate(0,261)\"><path class=\"rail title\" d=\"M200 0 H320\"/><text class=\"name title\" x=\"192\" y=\"3\">cut ways</text></g>",
-    "<g transform=\"translate(0,270)\"><path class=\"rail passage\" d=\"M200 0 H320\"/><text class=\"name passage\" x=\"192\" y=\"3\">m1_a up</text></g>",
-    "<g transform=\"translate(0,279)\"><path class=\"rail passage\" d=\"M200 0 H320\"/><text class=\"name passage\" x=\"192\" y=\"3\">m1_a down</text></g>",
-    "<g transform=\"translate(0,288)\"><path class=\"rail passage\" d=\"M200 0 H320\"/><text class=\"name passage\" x=\"192\" y=\"3\">m2_a up</text></g>",
-    "<g transform=\"translate(0,297)\"><path class=\"rail passage\" d=\"M200 0 H320\"/><text class=\"name passage\" x=\"192\" y=\"3\">m2_a down</text></g>",
-    "<g transform=\"translate(0,306)\"><path class=\"rail passage\" d=\"M200 0 H320\"/><text class=\"name passage\" x=\"192\" y=\"3\">m3_a up</text></g>",
-    "<g transform=\"translate(0,315)\"><path class=\"rail passage\" d=\"M200 0 H320\"/><text class=\"name passage\" x=\"192\" y=\"3\">m3_a down</text></g>",
-    "<g transform=\"translate(0,324)\"><path class=\"rail passage\" d=\"M200 0 H320\"/><text class=\"name passage\" x=\"192\" y=\"3\">m4_a up</text></g>",
-    "<g transform=\"translate(0,333)\"><path class=\"rail passage\" d=\"M200 0 H320\"/><text class=\"name passage\" x=\"192\" y=\"3\">m4_a down</text></g>",
-    "<g transform=\"translate(0,342)\"><path class=\"rail passage\" d=\"M200 0 H320\"/><text class=\"name passage\" x=\"192\" y=\"3\">c1_a up</text></g>",
-    "<g transform=\"translate(0,351)\"><path class=\"rail passage\" d=\"M200 0 H320\"/><text class=\"name passage\" x=\"192\" y=\"3\">c1_a down</text></g>",
-    "<g transform=\"translate(0,360)\"><path class=\"rail passage\" d=\"M200 0 H320\"/><text class=\"name passage\" x=\"192\" y=\"3\">ra_ca up</text></g>",
-    "<g transform=\"translate(0,369)\"><path class=\"rail passage\" d=\"M200 0 H320\"/><text class=\"name passage\" x=\"192\" y=\"3\">ra_ca down</text></g>",
-    "<g transform=\"translate(0,378)\"><path class=\"rail passage\" d=\"M200 0 H320\"/><text class=\"name passage\" x=\"192\" y=\"3\">m1_b up</text></g>",
-    "<g transform=\"translate(0,387)\"><path class=\"rail passage\" d=\"M200 0 H320\"/><text class=\"name passage\" x=\"192\" y=\"3\">m1_b down</text></g>",
-    "<g transform=\"translate(0,396)\"><path class=\"rail passage\" d=\"M200 0 H320\"/><text class=\"name passage\" x=\"192\" y=\"3\">m2_b up</text></g>",
-    "<g transform=\"translate(0,405)\"><path class=\"rail passage\" d=\"M200 0 H320\"/><text class=\"name passage\" x=\"192\" y=\"3\">m2_b down</text></g>",
-    "<g transform=\"translate(0,414)\"><path class=\"rail passage\" d=\"M200 0 H320\"/><text class=\"name passage\" x=\"192\" y=\"3\">m3_b up</text></g>",
-    "<g transform=\"translate(0,423)\"><path class=\"rail passage\" d=\"M200 0 H320\"/><text class=\"name passage\" x=\"192\" y=\"3\">m3_b down</text></g>",
-    "<g transform=\"translate(0,432)\"><path class=\"rail passage\" d=\"M200 0 H320\"/><text class=\"name passage\" x=\"192\" y=\"3\">m4_b up</text></g>",
-    "<g transform=\"translate(0,441)\"><path class=\"rail passage\" d=\"M200 0 H320\"/><text class=\"name passage\" x=\"192\" y=\"3\">m4_b down</text></g>",
-    "<g transform=\"translate(0,450)\"><path class=\"rail passage\" d=\"M200 0 H320\"/><text class=\"name passage\" x=\"192\" y=\"3\">c1_b up</text></g>",
-    "<g transform=\"translate(0,459)\"><path class=\"rail passage\" d=\"M200 0 H320\"/><text class=\"name passage\" x=\"192\" y=\"3\">c1_b down</text></g>",
-    "<g transform=\"translate(0,468)\"><path class=\"rail passage\" d=\"M200 0 H320\"/><text class=\"name passage\" x=\"192\" y=\"3\">rb_cb up</text></g>",
-    "<g transform=\"translate(0,477)\"><path class=\"rail passage\" d=\"M200 0 H320\"/><text class=\"name passage\" x=\"192\" y=\"3\">rb_cb down</text></g>",
-    "<g transform=\"translate(0,499)\"><path class=\"rail title\" d=\"M200 0 H320\"/><text class=\"name title\" x=\"192\" y=\"3\">delivered</text></g>",
-    "<g transform=\"translate(0,511)\"><path class=\"rail flow\" d=\"M200 0 H320\"/><text class=\"name flow\" x=\"192\" y=\"3\">v1 c1_a</text></g>",
-    "<g transform=\"translate(0,523)\"><path class=\"rail flow\" d=\"M200 0 H320\"/><text class=\"name flow\" x=\"192\" y=\"3\">v1 c1_b</text></g>",
-    "<g transform=\"translate(0,545)\"><path class=\"rail title\" d=\"M200 0 H320\"/><text class=\"name title\" x=\"192\" y=\"3\">dropped</text></g>",
-    "<g transform=\"translate(0,557)\"><path class=\"rail dropped\" d=\"M200 0 H320\"/><text class=\"name dropped\" x=\"192\" y=\"3\">lost</text></g>",
-    "<g transform=\"translate(0,569)\"><path class=\"rail dropped\" d=\"M200 0 H320\"/><text class=\"name dropped\" x=\"192\" y=\"3\">off</text></g>",
-    "<g transform=\"translate(0,581)\"><path class=\"rail dropped\" d=\"M200 0 H320\"/><text class=\"name dropped\" x=\"192\" y=\"3\">coldstart</text></g>",
-    "<g transform=\"translate(0,593)\"><path class=\"rail dropped\" d=\"M200 0 H320\"/><text class=\"name dropped\" x=\"192\" y=\"3\">domain</text></g>",
-    "<g transform=\"translate(0,605)\"><path class=\"rail dropped\" d=\"M200 0 H320\"/><text class=\"name dropped\" x=\"192\" y=\"3\">member</text></g>",
-    "<g transform=\"translate(0,617)\"><path class=\"rail dropped\" d=\"M200 0 H320\"/><text class=\"name dropped\" x=\"192\" y=\"3\">old</text></g>",
-    "<g transform=\"translate(0,629)\"><path class=\"rail dropped\" d=\"M200 0 H320\"/><text class=\"name dropped\" x=\"192\" y=\"3\">gate</text></g>",
-    "<g transform=\"translate(0,641)\"><path class=\"rail dropped\" d=\"M200 0 H320\"/><text class=\"name dropped\" x=\"192\" y=\"3\">cycle</text></g>",
-    "<g transform=\"translate(0,653)\"><path class=\"rail dropped\" d=\"M200 0 H320\"/><text class=\"name dropped\" x=\"192\" y=\"3\">unsynchronised</text></g>",
-    "<g transform=\"translate(0,665)\"><path class=\"rail dropped\" d=\"M200 0 H320\"/><text class=\"name dropped\" x=\"192\" y=\"3\">unknown</text></g>",
-    "<g transform=\"translate(0,677)\"><path class=\"rail dropped\" d=\"M200 0 H320\"/><text class=\"name dropped\" x=\"192\" y=\"3\">length</text></g>",
-    "<g transform=\"translate(0,689)\"><path class=\"rail dropped\" d=\"M200 0 H320\"/><text class=\"name dropped\" x=\"192\" y=\"3\">early</text></g>",
-    "<g transform=\"translate(0,701)\"><path class=\"rail dropped\" d=\"M200 0 H320\"/><text class=\"name dropped\" x=\"192\" y=\"3\">late</text></g>",
-    "<g transform=\"translate(0,713)\"><path class=\"rail dropped\" d=\"M200 0 H320\"/><text class=\"name dropped\" x=\"192\" y=\"3\">repeat</text></g>",
-    "<g transform=\"translate(0,725)\"><path class=\"rail dropped\" d=\"M200 0 H320\"/><text class=\"name dropped\" x=\"192\" y=\"3\">refused</text></g>",
+    "<g transform=\"translate(0,82)\"><path class=\"rail event\" d=\"M200 0 H320\"/><text class=\"name event\" \
+        x=\"192\" y=\"3\">events</text></g>",
+    "<g transform=\"translate(0,104)\"><path class=\"rail title\" d=\"M200 0 H320\"/><text class=\"name title\" \
+        x=\"192\" y=\"3\">states</text></g>",
+    "<g transform=\"translate(0,119)\"><path class=\"rail lane\" d=\"M200 0 H320\"/><text class=\"name lane\" \
+        x=\"192\" y=\"3\">ca</text></g>",
+    "<g transform=\"translate(0,134)\"><path class=\"rail lane\" d=\"M200 0 H320\"/><text class=\"name lane\" \
+        x=\"192\" y=\"3\">ra</text></g>",
+    "<g transform=\"translate(0,149)\"><path class=\"rail lane\" d=\"M200 0 H320\"/><text class=\"name lane\" \
+        x=\"192\" y=\"3\">m1</text></g>",
+    "<g transform=\"translate(0,164)\"><path class=\"rail lane\" d=\"M200 0 H320\"/><text class=\"name lane\" \
+        x=\"192\" y=\"3\">m2</text></g>",
+    "<g transform=\"translate(0,179)\"><path class=\"rail lane\" d=\"M200 0 H320\"/><text class=\"name lane\" \
+        x=\"192\" y=\"3\">m3</text></g>",
+    "<g transform=\"translate(0,194)\"><path class=\"rail lane\" d=\"M200 0 H320\"/><text class=\"name lane\" \
+        x=\"192\" y=\"3\">m4</text></g>",
+    "<g transform=\"translate(0,209)\"><path class=\"rail lane\" d=\"M200 0 H320\"/><text class=\"name lane\" \
+        x=\"192\" y=\"3\">c1</text></g>",
+    "<g transform=\"translate(0,224)\"><path class=\"rail lane\" d=\"M200 0 H320\"/><text class=\"name lane\" \
+        x=\"192\" y=\"3\">rb</text></g>",
+    "<g transform=\"translate(0,239)\"><path class=\"rail lane\" d=\"M200 0 H320\"/><text class=\"name lane\" \
+        x=\"192\" y=\"3\">cb</text></g>",
+    "<g transform=\"translate(0,261)\"><path class=\"rail title\" d=\"M200 0 H320\"/><text class=\"name title\" \
+        x=\"192\" y=\"3\">cut ways</text></g>",
+    "<g transform=\"translate(0,270)\"><path class=\"rail passage\" d=\"M200 0 H320\"/><text class=\"name passage\" \
+        x=\"192\" y=\"3\">m1_a up</text></g>",
+    "<g transform=\"translate(0,279)\"><path class=\"rail passage\" d=\"M200 0 H320\"/><text class=\"name passage\" \
+        x=\"192\" y=\"3\">m1_a down</text></g>",
+    "<g transform=\"translate(0,288)\"><path class=\"rail passage\" d=\"M200 0 H320\"/><text class=\"name passage\" \
+        x=\"192\" y=\"3\">m2_a up</text></g>",
+    "<g transform=\"translate(0,297)\"><path class=\"rail passage\" d=\"M200 0 H320\"/><text class=\"name passage\" \
+        x=\"192\" y=\"3\">m2_a down</text></g>",
+    "<g transform=\"translate(0,306)\"><path class=\"rail passage\" d=\"M200 0 H320\"/><text class=\"name passage\" \
+        x=\"192\" y=\"3\">m3_a up</text></g>",
+    "<g transform=\"translate(0,315)\"><path class=\"rail passage\" d=\"M200 0 H320\"/><text class=\"name passage\" \
+        x=\"192\" y=\"3\">m3_a down</text></g>",
+    "<g transform=\"translate(0,324)\"><path class=\"rail passage\" d=\"M200 0 H320\"/><text class=\"name passage\" \
+        x=\"192\" y=\"3\">m4_a up</text></g>",
+    "<g transform=\"translate(0,333)\"><path class=\"rail passage\" d=\"M200 0 H320\"/><text class=\"name passage\" \
+        x=\"192\" y=\"3\">m4_a down</text></g>",
+    "<g transform=\"translate(0,342)\"><path class=\"rail passage\" d=\"M200 0 H320\"/><text class=\"name passage\" \
+        x=\"192\" y=\"3\">c1_a up</text></g>",
+    "<g transform=\"translate(0,351)\"><path class=\"rail passage\" d=\"M200 0 H320\"/><text class=\"name passage\" \
+        x=\"192\" y=\"3\">c1_a down</text></g>",
+    "<g transform=\"translate(0,360)\"><path class=\"rail passage\" d=\"M200 0 H320\"/><text class=\"name passage\" \
+        x=\"192\" y=\"3\">ra_ca up</text></g>",
+    "<g transform=\"translate(0,369)\"><path class=\"rail passage\" d=\"M200 0 H320\"/><text class=\"name passage\" \
+        x=\"192\" y=\"3\">ra_ca down</text></g>",
+    "<g transform=\"translate(0,378)\"><path class=\"rail passage\" d=\"M200 0 H320\"/><text class=\"name passage\" \
+        x=\"192\" y=\"3\">m1_b up</text></g>",
+    "<g transform=\"translate(0,387)\"><path class=\"rail passage\" d=\"M200 0 H320\"/><text class=\"name passage\" \
+        x=\"192\" y=\"3\">m1_b down</text></g>",
+    "<g transform=\"translate(0,396)\"><path class=\"rail passage\" d=\"M200 0 H320\"/><text class=\"name passage\" \
+        x=\"192\" y=\"3\">m2_b up</text></g>",
+    "<g transform=\"translate(0,405)\"><path class=\"rail passage\" d=\"M200 0 H320\"/><text class=\"name passage\" \
+        x=\"192\" y=\"3\">m2_b down</text></g>",
+    "<g transform=\"translate(0,414)\"><path class=\"rail passage\" d=\"M200 0 H320\"/><text class=\"name passage\" \
+        x=\"192\" y=\"3\">m3_b up</text></g>",
+    "<g transform=\"translate(0,423)\"><path class=\"rail passage\" d=\"M200 0 H320\"/><text class=\"name passage\" \
+        x=\"192\" y=\"3\">m3_b down</text></g>",
+    "<g transform=\"translate(0,432)\"><path class=\"rail passage\" d=\"M200 0 H320\"/><text class=\"name passage\" \
+        x=\"192\" y=\"3\">m4_b up</text></g>",
+    "<g transform=\"translate(0,441)\"><path class=\"rail passage\" d=\"M200 0 H320\"/><text class=\"name passage\" \
+        x=\"192\" y=\"3\">m4_b down</text></g>",
+    "<g transform=\"translate(0,450)\"><path class=\"rail passage\" d=\"M200 0 H320\"/><text class=\"name passage\" \
+        x=\"192\" y=\"3\">c1_b up</text></g>",
+    "<g transform=\"translate(0,459)\"><path class=\"rail passage\" d=\"M200 0 H320\"/><text class=\"name passage\" \
+        x=\"192\" y=\"3\">c1_b down</text></g>",
+    "<g transform=\"translate(0,468)\"><path class=\"rail passage\" d=\"M200 0 H320\"/><text class=\"name passage\" \
+        x=\"192\" y=\"3\">rb_cb up</text></g>",
+    "<g transform=\"translate(0,477)\"><path class=\"rail passage\" d=\"M200 0 H320\"/><text class=\"name passage\" \
+        x=\"192\" y=\"3\">rb_cb down</text></g>",
+    "<g transform=\"translate(0,499)\"><path class=\"rail title\" d=\"M200 0 H320\"/><text class=\"name title\" \
+        x=\"192\" y=\"3\">delivered</text></g>",
+    "<g transform=\"translate(0,511)\"><path class=\"rail flow\" d=\"M200 0 H320\"/><text class=\"name flow\" \
+        x=\"192\" y=\"3\">v1 c1_a</text></g>",
+    "<g transform=\"translate(0,523)\"><path class=\"rail flow\" d=\"M200 0 H320\"/><text class=\"name flow\" \
+        x=\"192\" y=\"3\">v1 c1_b</text></g>",
+    "<g transform=\"translate(0,545)\"><path class=\"rail title\" d=\"M200 0 H320\"/><text class=\"name title\" \
+        x=\"192\" y=\"3\">dropped</text></g>",
+    "<g transform=\"translate(0,557)\"><path class=\"rail dropped\" d=\"M200 0 H320\"/><text class=\"name dropped\" \
+        x=\"192\" y=\"3\">lost</text></g>",
+    "<g transform=\"translate(0,569)\"><path class=\"rail dropped\" d=\"M200 0 H320\"/><text class=\"name dropped\" \
+        x=\"192\" y=\"3\">off</text></g>",
+    "<g transform=\"translate(0,581)\"><path class=\"rail dropped\" d=\"M200 0 H320\"/><text class=\"name dropped\" \
+        x=\"192\" y=\"3\">coldstart</text></g>",
+    "<g transform=\"translate(0,593)\"><path class=\"rail dropped\" d=\"M200 0 H320\"/><text class=\"name dropped\" \
+        x=\"192\" y=\"3\">domain</text></g>",
+    "<g transform=\"translate(0,605)\"><path class=\"rail dropped\" d=\"M200 0 H320\"/><text class=\"name dropped\" \
+        x=\"192\" y=\"3\">member</text></g>",
+    "<g transform=\"translate(0,617)\"><path class=\"rail dropped\" d=\"M200 0 H320\"/><text class=\"name dropped\" \
+        x=\"192\" y=\"3\">old</text></g>",
+    "<g transform=\"translate(0,629)\"><path class=\"rail dropped\" d=\"M200 0 H320\"/><text class=\"name dropped\" \
+        x=\"192\" y=\"3\">gate</text></g>",
+    "<g transform=\"translate(0,641)\"><path class=\"rail dropped\" d=\"M200 0 H320\"/><text class=\"name dropped\" \
+        x=\"192\" y=\"3\">cycle</text></g>",
+    "<g transform=\"translate(0,653)\"><path class=\"rail dropped\" d=\"M200 0 H320\"/><text class=\"name dropped\" \
+        x=\"192\" y=\"3\">unsynchronised</text></g>",
+    "<g transform=\"translate(0,665)\"><path class=\"rail dropped\" d=\"M200 0 H320\"/><text class=\"name dropped\" \
+        x=\"192\" y=\"3\">unknown</text></g>",
+    "<g transform=\"translate(0,677)\"><path class=\"rail dropped\" d=\"M200 0 H320\"/><text class=\"name dropped\" \
+        x=\"192\" y=\"3\">length</text></g>",
+    "<g transform=\"translate(0,689)\"><path class=\"rail dropped\" d=\"M200 0 H320\"/><text class=\"name dropped\" \
+        x=\"192\" y=\"3\">early</text></g>",
+    "<g transform=\"translate(0,701)\"><path class=\"rail dropped\" d=\"M200 0 H320\"/><text class=\"name dropped\" \
+        x=\"192\" y=\"3\">late</text></g>",
+    "<g transform=\"translate(0,713)\"><path class=\"rail dropped\" d=\"M200 0 H320\"/><text class=\"name dropped\" \
+        x=\"192\" y=\"3\">repeat</text></g>",
+    "<g transform=\"translate(0,725)\"><path class=\"rail dropped\" d=\"M200 0 H320\"/><text class=\"name dropped\" \
+        x=\"192\" y=\"3\">refused</text></g>",
     "<path class=\"event one\" d=\"M260 82 H320\"><title>events one from cycle 1 until 2</title></path>",
     "<path class=\"lane synchronised\" d=\"M200 119 H320\"><title>ca synchronised from cycle 0 until 2</title></path>",
     "<path class=\"lane synchronised\" d=\"M200 134 H320\"><title>ra synchronised from cycle 0 until 2</title></path>",
@@ -344,8 +401,10 @@ const DEAD: &str = "1 131072000000 sent m1 cycle 1
 
 // What its overview shows, by the other program.
 const SEEN: &[&str] = &[
-    "<svg xmlns=\"http://www.w3.org/2000/svg\" xmlns:xlink=\"http://www.w3.org/1999/xlink\" width=\"960\" height=\"745\" viewBox=\"0 0 960 745\">",
-    "<text class=\"note\" x=\"12\" y=\"42\">3 columns of 2000.000 us. Numbers are cycles. The thicker a stroke, the more events or frames.</text>",
+    "<svg xmlns=\"http://www.w3.org/2000/svg\" xmlns:xlink=\"http://www.w3.org/1999/xlink\" width=\"960\" \
+        height=\"745\" viewBox=\"0 0 960 745\">",
+    "<text class=\"note\" x=\"12\" y=\"42\">3 columns of 2000.000 us. Numbers are cycles. The thicker a stroke, the \
+        more events or frames.</text>",
     "<path class=\"lane synchronised\" d=\"M200 194 H260\"><title>m4 synchronised from cycle 0 until 1</title></path>",
     "<path class=\"passage cut\" d=\"M260 270 H320\"><title>m1_a up cut from cycle 1 until 2</title></path>",
     "<path class=\"flow one\" d=\"M260 523 H320\"><title>v1 c1_b one from cycle 1 until 2</title></path>",

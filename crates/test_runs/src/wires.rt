@@ -139,7 +139,8 @@ fn no_link_has_the_name(rt: HostRuntime) -> Result<(), Fail> {
 fn a_later_line_of_the_instant_cuts_what_was_sent(rt: HostRuntime) -> Result<(), Fail> {
     let alloc = rt.alloc();
     let sent =
-        "abababababababababababababababababababababababababababababababababababababababababababababababababababababababababababab";
+        "ababababababababababababababababababababababababababababababababababababababababababababababababababa\
+            bababababababababab";
     let front = format!(in alloc; "0 break m4\n65536000 send m4_a {sent}\n")?;
     let whole = format!(in alloc; "{}131072000 end\n", front.as_str())?;
     let cut = format!(in alloc; "{}65536000 cut m4_a up\n131072000 end\n", front.as_str())?;
