@@ -2,14 +2,15 @@
 
 ghost use Rattle.std.specs.Option.{option_map_or};
 ghost use Rattle.std.specs.Prelude.{◌++◌, ◌+◌, ◌^◌, ◌↔◌, ◌∷◌, ◌≡◌, ◌≤ℤ◌, ◌≤◌, IfOk, IfSome, IsTrue, List, MatchBool};
-ghost use Rattle.std.specs.Prelude.{MatchOption, OnOk, [], length, pos};
+ghost use Rattle.std.specs.Prelude.{MatchOption, OnOk, [], length, pos, ℕ};
 ghost use Rattle.audit_events.specs.Remembering.{Remembers};
 ghost use Rattle.audit_records.specs.Keeping.{records_of};
 ghost use Rattle.audit_unpaid.specs.Payments.{ArePayments};
 ghost use Rattle.net_plan.specs.{Ranges.IsInRange, declared.event.Event.Event};
 ghost use Rattle.net_plan.specs.declared.network.Network.{Network as NetworkValue};
 ghost use Rattle.report_text.specs.Ranges.{IsBodyOf};
-ghost use Rattle.run_law.specs.{records.{Happenings.{Happening, happening}, Ranks.place_of}, runs.DueRecords.EndsAt};
+ghost use Rattle.run_law.specs.records.{Happenings.{Happening, frame_by, frame_from, happening}, Ranks.{place_at, place_of}};
+ghost use Rattle.run_law.specs.runs.DueRecords.{EndsAt};
 ghost use Rattle.tte_units.specs.{Amount.amount, declared.units.Units.Units as UnitsValue};
 ghost use Rattle.audit_sweep.specs.Judging.{Befalls, IsJudgeable};
 ghost use Rattle.audit_sweep.specs.Sweeping.{IsPlacedSoundly, IsSoundUpTo, IsSwept, SweepsSome};
@@ -22,7 +23,7 @@ use audit_records::OutOfMemory;
 use audit_unpaid::Payments;
 use net_plan::Network;
 use pcf_values::Pcf;
-use run_law::Note;
+use run_law::{Note, NoteBody};
 use std::alloc::Global;
 use tte_units::Units;
 
@@ -153,14 +154,48 @@ impl<'a> Sweep<'a> {
             → result ≡ place_of (happening self.now.network.now hs note.now) }
     {
         let time = note.time.amount();
-        let kept = self.known.records.make(self.network, time, &note.body);
-        Place::of(time, members_in(kept.frame), &note.body)
+        Place::of(time, self.members_of(&note.body), &note.body)
+    }
+
+    // The members by which a record that says this has its place: those of the frame of a permanence.
+    fn members_of(&self, body: &NoteBody) -> u32
+        ensures { (hs : List Happening) (time : ℕ) → self.now.known.records ≡ records_of hs
+            → place_at time result body.now ≡ place_at time
+            (option_map_or (λ frame. frame.members.0) (frame_by self.now.network.now hs body.now) 0) body.now }
+    {
+        match body {
+            NoteBody::Permanent { cause, .. } => self.members_from(*cause),
+            NoteBody::Event { .. }
+            | NoteBody::Arrived { .. }
+            | NoteBody::Compressed { .. }
+            | NoteBody::Sent { .. }
+            | NoteBody::Corrected { .. }
+            | NoteBody::State { .. }
+            | NoteBody::Left { .. }
+            | NoteBody::Lost { .. }
+            | NoteBody::TtSent { .. }
+            | NoteBody::Accepted { .. }
+            | NoteBody::Delivered { .. }
+            | NoteBody::Dropped { .. }
+            | NoteBody::Clock { .. } => 0,
+        }
+    }
+
+    // The members of the frame of the record of this number, or 0.
+    fn members_from(&self, number: u64) -> u32
+        ensures { (hs : List Happening) → self.now.known.records ≡ records_of hs
+            → result ≡ option_map_or (λ frame. frame.members.0) (frame_from hs number) 0 }
+    {
+        match self.known.records.get(number) {
+            Some(kept) => members_in(&kept.frame),
+            None => 0,
+        }
     }
 }
 
 /// The members of the frame, or 0.
-fn members_in(frame: Option<Pcf>) -> u32
-    ensures { result ≡ option_map_or (λ frame. frame.members.0) frame 0 }
+fn members_in(frame: &Option<Pcf>) -> u32
+    ensures { result ≡ option_map_or (λ frame. frame.members.0) frame.now 0 }
 {
     match frame {
         Some(frame) => frame.members.0,

@@ -6,8 +6,9 @@ ghost use Rattle.tte_stamps.specs.StampLines.{line_at, line_stamps, lines_by};
 ghost use Rattle.tte_stamps.specs.Stamping.{IsAtLine, MayStamp, PutsAll, PutsStamps, StopsStamps, stops_here};
 
 use crate::stamp_line::make_stamp_line;
-use drift_world::{EventNote, Given};
+use drift_world::EventNote;
 use net_plan::{DeviceId, Event, Network};
+use plain_notes::Given;
 use sparse_time::Granule;
 use tte_io::{LineText, Sink};
 use tte_units::Units;

@@ -2,8 +2,9 @@
 
 ghost use Rattle.tte_votes.specs.Voting.{SeesVotes, StopsVotes, stops_here};
 
-use drift_world::{EventNote, Given};
+use drift_world::EventNote;
 use net_plan::{Event, Network};
+use plain_notes::Given;
 use tte_io::Sink;
 use tte_units::Units;
 use vote_ballots::KeptVotes;

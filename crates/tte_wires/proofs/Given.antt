@@ -8,7 +8,7 @@ use Rattle.world_drive.specs.declared.observing.Cut.TheVariants.{WriteFault}
 use Rattle.world_exact.specs.Worlds.{StandsExact}
 use Rattle.tte_wires.{proofs.Seen.{flush_failed, flushed, record_seen, record_stops}, specs.Packets.is_carried}
 use Rattle.run_law.specs.declared.note.NoteBody.TheVariants as notes
-use Rattle.world_state.specs.declared.bodies.Kind.TheVariants as kinds
+use Rattle.plain_notes.specs.declared.bodies.Kind.TheVariants as kinds
 
 -- a way carries it exactly where its device sends there
 pub carried_is : (s : Scenario) (link : LinkId) (way : Way) (t : ℕ) (body : NoteBody) → 1 < rank body

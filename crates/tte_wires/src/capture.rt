@@ -9,9 +9,10 @@ ghost use Rattle.tte_wires.specs.Seeing.{IsTimely, PassesTo, PutsAll, SeesWay, S
 ghost use Rattle.tte_wires.specs.Seeing.{sent_packets};
 
 use crate::frames::{is_sent_on, is_way_of, put_frames, put_signal};
-use drift_world::{EventNote, Given};
+use drift_world::EventNote;
 use made_frames::MadeFrame;
 use net_plan::{Event, LinkId, Network, Way, What};
+use plain_notes::Given;
 use std::alloc::Global;
 use tte_io::Sink;
 use tte_units::Units;
