@@ -1,3 +1,4 @@
+pub mod events_lemmas
 pub mod Tells
 pub mod Steps
 pub mod Points
@@ -11,3 +12,7 @@ pub mod Reading
 pub mod Takes
 pub mod Lasting
 pub mod Words
+pub mod collections_lemmas
+pub mod stretches_lemmas
+pub mod clocks_lemmas
+pub mod permanence_lemmas

@@ -1,3 +1,4 @@
+pub mod events
 pub mod Effects
 pub mod Following
 pub mod Keeping
@@ -7,3 +8,7 @@ pub mod Reading
 pub mod Showing
 pub mod Taking
 pub mod Takings
+pub mod collections
+pub mod stretches
+pub mod clocks
+pub mod permanence

@@ -1,12 +1,17 @@
 //! What the records of a report so far show of each device, at any place of their order.
 #![tactic(auto)]
 
+pub mod clocks;
+pub mod collections;
 mod effect;
+pub mod events;
 mod expected;
 mod history;
 mod mark;
+pub mod permanence;
 mod shown;
 mod standings;
+pub mod stretches;
 mod subject;
 mod taking;
 mod takings;

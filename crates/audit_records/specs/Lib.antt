@@ -1,1 +1,4 @@
+pub mod places
 pub mod Keeping
+pub mod wires
+pub mod dispatches

@@ -1,7 +1,7 @@
 -- What arrives by a passage.
 use Rattle.audit_sweep.proofs.Words.{◌≡◌, Arrival, ArrivesAs, DeviceId, Happening, LinkId, List, None, Option, Scenario, Some, inl, inr, numbered, one, pos}
 use Rattle.audit_sweep.proofs.Words.{subst, ℕ}
-use Rattle.audit_wires.specs.{Receptions.IsArriving, declared.putting.OnWire.OnWire}
+use Rattle.audit_records.specs.{wires.Receptions.IsArriving, declared.wires.putting.OnWire.OnWire}
 use Rattle.net_plan.specs.declared.tables.Way.TheVariants.{Up}
 use Rattle.run_law.{proofs.runs.SameSteps.same_arrival, specs.{control.Wires.Arrives, runs.DueRecords.IsArrivedRecord}}
 use Rattle.audit_sweep.specs.{Passing.{IsComing, TakesWith}, declared.passage.Passage.Passage}

@@ -3,7 +3,7 @@ use Rattle.audit_sweep.proofs.Words.{if◌then◌else◌, ◌∙◌, ◌≡◌, 
 use Rattle.audit_sweep.proofs.Words.{amount, ap, earlier, key, place_of, points_of, refl, state_before, subst, sym, time_of, true, ℕ}
 use Rattle.std.proofs.lemmas.Bool.{eqb-true}
 use Rattle.audit_law.{proofs.{Debts.due_in, Owing.earlier_in}, specs.Debts.IsDueIn}
-use Rattle.audit_unpaid_clocks.proofs.Fronts.{looking}
+use Rattle.audit_unpaid.proofs.points_lemmas.Fronts.{looking}
 use Rattle.net_plan.proofs.SameIds.{same_device}
 use Rattle.run_law.{proofs.control.Verdicts.heard_integrates, specs.control.{Collections.observation_window, Permanence.before_permanence}}
 use Rattle.run_law.specs.{device.States.{adjustment_at_hearing, is_joined_by, state_after, state_at_hearing}, scenario.Devices.plan_of}

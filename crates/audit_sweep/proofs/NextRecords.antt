@@ -3,10 +3,10 @@ use Rattle.audit_sweep.proofs.Words.{◌++◌, ◌∙◌, ◌∷◌, ◌≡◌, 
 use Rattle.audit_sweep.proofs.Words.{[], amount, ap, happening, inl, inr, numbered, refl, subst, sym, ℕ}
 use Rattle.std.proofs.{Common.{◌⊎◌, suc, zero}, lemmas.List.map-append}
 use Rattle.audit_devices.specs.{Effects.subject_of, Showing.IsSteady}
-use Rattle.audit_events.specs.Readings.{ReadsOn}
+use Rattle.audit_devices.specs.events.Readings.{ReadsOn}
 use Rattle.audit_records.specs.Keeping.{record_of, records_of}
-use Rattle.audit_stretches.proofs.Arriving.{arrived_young}
-use Rattle.audit_wires.specs.Signals.{ShowsByCause}
+use Rattle.audit_devices.proofs.stretches_lemmas.Arriving.{arrived_young}
+use Rattle.audit_records.specs.wires.Signals.{ShowsByCause}
 use Rattle.net_plan.specs.Belonging.{HasDevice}
 use Rattle.run_law.{proofs.records.Happenings.none_numbered, specs.declared.note.Note.Note}
 use Rattle.tte_lemmas.proofs.Lists.{pushed}

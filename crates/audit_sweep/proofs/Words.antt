@@ -3,7 +3,7 @@ pub use Rattle.std.proofs.Common.{if◌then◌else◌, ◌++◌, ◌+◌, ◌∙
 pub use Rattle.std.proofs.Common.{true, ℕ}
 pub use Rattle.std.specs.Prelude.{◌&&◌, ◌==◌}
 pub use Rattle.audit_devices.specs.Showing.{NoneLater}
-pub use Rattle.audit_events.specs.Readings.{clock_reading, scenario_under}
+pub use Rattle.audit_devices.specs.events.Readings.{clock_reading, scenario_under}
 pub use Rattle.audit_law.proofs.Sound.{founded_of_sound}
 pub use Rattle.audit_law.specs.DueRecords.{IsCaused, IsDue}
 pub use Rattle.audit_records.specs.Keeping.{kept_of}

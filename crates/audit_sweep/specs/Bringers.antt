@@ -1,6 +1,6 @@
 -- What a record of which this is kept is to the state of a device.
 use Rattle.std.specs.Prelude.{if◌then◌else◌, ◌&&◌, ◌==◌}
-use Rattle.audit_clocks.specs.declared.changing.Bringer.{Bringer, TheVariants.{Corrects, Joins, Other, TurnsOn}}
+use Rattle.audit_devices.specs.declared.clocks.changing.Bringer.{Bringer, TheVariants.{Corrects, Joins, Other, TurnsOn}}
 use Rattle.audit_records.specs.declared.kept.Kept.{Kept}
 use Rattle.net_plan.specs.declared.ids.DeviceId.{DeviceId}
 use Rattle.audit_records.specs.declared.kept.Kept.TheVariants as kepts

@@ -1,7 +1,8 @@
 -- What records say of what comes from other records.
 use Rattle.std.specs.Prelude.{◌^◌, ◌≡◌, ◌≤◌, List, MatchOption, Option, Some, ℕ}
-use Rattle.audit_wires.specs.{Entrances.judged_as, Signals.on_wire_of, declared.entering.Judged.Judged}
-use Rattle.audit_wires.specs.declared.putting.OnWire.{OnWire}
+use Rattle.audit_records.specs.{wires.Entrances.judged_as, wires.Signals.on_wire_of}
+use Rattle.audit_records.specs.{declared.wires.entering.Judged.Judged}
+use Rattle.audit_records.specs.declared.wires.putting.OnWire.{OnWire}
 use Rattle.net_plan.specs.{Belonging.HasDevice, declared.network.Network.Network}
 use Rattle.run_law.specs.{control.Wires.{Arrives, Signal}, declared.steps.Arrival.Arrival}
 use Rattle.run_law.specs.{records.Happenings.{Happening, numbered}, scenario.Scenarios.Scenario}

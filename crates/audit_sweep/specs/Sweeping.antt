@@ -1,8 +1,8 @@
 -- The records of a report that were taken.
 use Rattle.std.specs.Prelude.{◌+◌, ◌^◌, ◌∷◌, ◌≡◌, ◌≤◌, List, Some, [], ℕ}
-use Rattle.audit_events.specs.Readings.{scenario_under}
+use Rattle.audit_devices.specs.events.Readings.{scenario_under}
 use Rattle.audit_law.specs.{DueRecords.IsDue, Findings.{AreSound, IsSound}}
-use Rattle.audit_places.specs.Placing.{ArePlacesOf}
+use Rattle.audit_records.specs.places.Placing.{ArePlacesOf}
 use Rattle.audit_unpaid.specs.{Debtors.device_named, Payments.ArePayments}
 use Rattle.net_plan.specs.{Belonging.HasDevice, Ranges.IsInRange, declared.{event.Event.Event, ids.DeviceId.DeviceId}}
 use Rattle.net_plan.specs.declared.network.Network.{Network}

@@ -1,9 +1,9 @@
 //! What clocks come to: what masters send, corrections, changes of state, and the clocks at the end.
 
 ghost use Rattle.std.specs.Prelude.{◌-◌, ◌^◌, ◌↔◌, ◌≡◌, ◌≤ℤ◌, ◌≤◌, IsTrue, List, pos};
-ghost use Rattle.audit_clocks.specs.Points.{IsHeard};
+ghost use Rattle.audit_devices.specs.clocks.Points.{IsHeard};
 ghost use Rattle.audit_devices.specs.Showing.{NoneLater};
-ghost use Rattle.audit_events.specs.Readings.{scenario_under};
+ghost use Rattle.audit_devices.specs.events.Readings.{scenario_under};
 ghost use Rattle.audit_law.specs.DueRecords.{IsCorrectedRecord, IsDue};
 ghost use Rattle.net_plan.specs.{Belonging.HasDevice, Ranges.IsInRange, declared.event.Event.Event};
 ghost use Rattle.net_plan.specs.declared.network.Network.{Network as NetworkValue};
@@ -13,7 +13,7 @@ ghost use Rattle.tte_units.specs.Amount.{amount};
 ghost use Rattle.audit_sweep.specs.Knowing.{IsKnown, KnowsSome};
 
 use crate::known::Known;
-use audit_clocks::{Correction, EndClock, Moment, corrects, sends, shows_clock};
+use audit_devices::clocks::{Correction, EndClock, Moment, corrects, sends, shows_clock};
 use membership::Heard;
 use net_plan::{DeviceId, Network};
 use tte_units::Units;

@@ -2,8 +2,8 @@
 
 ghost use Rattle.std.specs.Prelude.{◌<◌, ◌^◌, ◌↔◌, ◌∷◌, ◌≡◌, ◌≤◌, IsTrue, List, ℕ};
 ghost use Rattle.audit_devices.specs.Showing.{NoneLater, Shows};
-ghost use Rattle.audit_events.specs.Readings.{scenario_under};
-ghost use Rattle.audit_permanence.specs.Hearers.{IsHearer};
+ghost use Rattle.audit_devices.specs.events.Readings.{scenario_under};
+ghost use Rattle.audit_devices.specs.permanence.Hearers.{IsHearer};
 ghost use Rattle.device_rules.specs.Widths.{IsWide};
 ghost use Rattle.net_plan.specs.{Belonging.HasDevice, Ranges.IsInRange, declared.event.Event.Event};
 ghost use Rattle.run_law.specs.control.Emissions.{Emits};
@@ -17,9 +17,9 @@ ghost use Rattle.audit_sweep.specs.Passing.{IsPassable};
 use crate::known::Known;
 use crate::passage::Passage;
 use crate::ripening::{PermanentFrame, permanent_frame};
-use audit_clocks::Moment;
 use audit_devices::Shown;
-use audit_permanence::Hearer;
+use audit_devices::clocks::Moment;
+use audit_devices::permanence::Hearer;
 use compression::Compressed;
 use net_plan::{DeviceId, Network};
 use run_law::{Judgement, Reason, Ripe};

@@ -1,7 +1,7 @@
 //! Whether a record is due, given those before it.
 
 ghost use Rattle.std.specs.Prelude.{◌+◌, ◌↔◌, ◌≡◌, ◌≤ℤ◌, IsTrue, List, length, pos};
-ghost use Rattle.audit_events.specs.Readings.{scenario_under};
+ghost use Rattle.audit_devices.specs.events.Readings.{scenario_under};
 ghost use Rattle.audit_law.specs.DueRecords.{IsCaused, IsDue};
 ghost use Rattle.net_plan.specs.{Ranges.IsInRange, declared.event.Event.Event};
 ghost use Rattle.run_law.specs.records.{Happenings.{Happening, happening}, Order.AllBefore, Ranks.place_of};
@@ -18,7 +18,7 @@ use crate::hearing::{becomes_permanent, emits};
 use crate::known::Known;
 use crate::leaving::departs;
 use crate::passage::Passage;
-use audit_clocks::{Correction, EndClock, StateChange};
+use audit_devices::clocks::{Correction, EndClock, StateChange};
 use compression::Compressed;
 use device_rules::{Departed, TimedArrival};
 use net_plan::{DeviceId, LinkId, Network};

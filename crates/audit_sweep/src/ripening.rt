@@ -1,7 +1,7 @@
 //! What becomes of control frames that are permanent.
 
 ghost use Rattle.std.specs.Prelude.{◌-◌, ◌^◌, ◌↔◌, ◌≡◌, ◌≤◌, IsTrue, List, pos, ℕ};
-ghost use Rattle.audit_events.specs.Readings.{clock_reading, scenario_under};
+ghost use Rattle.audit_devices.specs.events.Readings.{clock_reading, scenario_under};
 ghost use Rattle.drift_clock.specs.Reach.{IsReach};
 ghost use Rattle.net_plan.specs.{Belonging.HasDevice, Ranges.IsInRange, declared.event.Event.Event};
 ghost use Rattle.run_law.specs.{control.Permanence.waits_for, records.Happenings.Happening};
@@ -12,7 +12,7 @@ ghost use Rattle.audit_sweep.specs.Ripenings.{IsPermanentOrNone, IsPointReached,
 
 use crate::known::Known;
 use crate::passage::Passage;
-use audit_events::reading_law;
+use audit_devices::events::reading_law;
 use audit_records::Kept;
 use device_rules::{is_parent_of, is_relay};
 use net_plan::{DeviceId, LinkId, Network};

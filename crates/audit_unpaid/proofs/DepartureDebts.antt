@@ -3,9 +3,9 @@ use Rattle.audit_unpaid.proofs.Words.{◌↔◌, ◌∙◌, ◌≡◌, DeviceId,
 use Rattle.audit_unpaid.proofs.Words.{Some, ap, device_named, numbered, numbered_in, place_of, refl, same_some, subst, sym, time_of, true, ℕ}
 use Rattle.audit_law.proofs.Departing.{departs_in_whole, departure_law, one_giver}
 use Rattle.audit_law.specs.Departures.{IsDueByLeaving, OwesDeparture, TellsDeparture, leaves_at, leaving_record}
-use Rattle.audit_places.specs.Placing.{HasRecordAt}
+use Rattle.audit_records.specs.places.Placing.{HasRecordAt}
 use Rattle.audit_records.specs.Keeping.{kept_of, record_of}
-use Rattle.audit_wires.{proofs.LeavingTimes.giver_is, specs.Departings.giver}
+use Rattle.audit_records.{proofs.wires_lemmas.LeavingTimes.giver_is, specs.wires.Departings.giver}
 use Rattle.net_plan.specs.{Belonging.HasDevice, declared.network.Network.Network}
 use Rattle.run_law.{proofs.runs.SameSteps.same_departure, specs.control.Leaving.{Departs, Departure, Gives, departure, leaves, on_cut_way, too_old}}
 use Rattle.run_law.specs.{records.Ranks.{members_in, place_at}, scenario.Devices.is_relay}

@@ -9,3 +9,6 @@ pub mod ClockDebts
 pub mod Among
 pub mod DepartureDebts
 pub mod Words
+pub mod points_lemmas
+pub mod dispatches_lemmas
+pub mod emissions_lemmas

@@ -3,8 +3,8 @@ use Rattle.audit_unpaid.proofs.Words.{◌↔◌, ◌∙◌, ◌≡◌, Happening
 use Rattle.audit_unpaid.proofs.Words.{sym, time_of, ℕ}
 use Rattle.audit_law.proofs.{AllOwed.same_time, Debts.{due_by_part, due_in, one_due}, Determined.due_is_determined, Numbered.founded_at}
 use Rattle.audit_law.specs.{DebtLaws.AreOwed, Debts.{IsDueIn, IsPartOf}}
-use Rattle.audit_places.specs.Placing.{HasRecordAt}
-use Rattle.audit_wires.specs.Signals.{ShowsByCause}
+use Rattle.audit_records.specs.places.Placing.{HasRecordAt}
+use Rattle.audit_records.specs.wires.Signals.{ShowsByCause}
 
 -- a debt falls due at one time, however it is owed
 pub one_time : {O : Type 0} (s : Scenario) (hs : List Happening) (until : ℕ) (IsDueSo : List Happening → Happening → Type 0) (IsOwed : O → Type 0)

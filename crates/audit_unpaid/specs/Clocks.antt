@@ -1,6 +1,6 @@
 -- The clocks at the end of the events.
 use Rattle.std.specs.Prelude.{◌∷◌, ◌≡◌, List, MatchOption, Option, [], ℕ}
-use Rattle.audit_places.specs.Placing.{HasRecordAt}
+use Rattle.audit_records.specs.places.Placing.{HasRecordAt}
 use Rattle.net_plan.specs.{Belonging.HasDevice, declared.{event.Event.Event, ids.DeviceId.DeviceId}}
 use Rattle.net_plan.specs.declared.network.Network.{Network}
 use Rattle.run_law.specs.{records.Happenings.Happening, runs.DueRecords.EndsAt}

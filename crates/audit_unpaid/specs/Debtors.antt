@@ -1,9 +1,9 @@
 -- What is known of the records that owe.
 use Rattle.std.specs.Prelude.{◌≡◌, List, Option, Some, length}
 use Rattle.audit_devices.specs.Keeping.{Stands, device_count}
-use Rattle.audit_events.specs.{Readings.scenario_under, Remembering.Remembers}
+use Rattle.audit_devices.specs.events.{Readings.scenario_under, Remembering.Remembers}
 use Rattle.audit_law.specs.DueRecords.{IsDue}
-use Rattle.audit_places.specs.Placing.{ArePlacesOf}
+use Rattle.audit_records.specs.places.Placing.{ArePlacesOf}
 use Rattle.audit_records.specs.Keeping.{records_of}
 use Rattle.net_plan.specs.{Belonging.HasDevice, declared.event.{Event.Event, What.TheVariants.On}}
 use Rattle.net_plan.specs.declared.ids.DeviceId.{DeviceId}

@@ -5,3 +5,6 @@ pub mod Changing
 pub mod Waiting
 pub mod Clocks
 pub mod Leavings
+pub mod points
+pub mod dispatches
+pub mod emissions

@@ -9,7 +9,7 @@ ghost use Rattle.audit_law.specs.Owed as debts;
 
 use crate::Debtor;
 use crate::earliest::earlier_of;
-use audit_wires::arrival_due;
+use audit_records::wires::arrival_due;
 
 impl Debtor<'_> {
     /// The first time at which a frame arrives of which no record tells what became. It is None exactly where one tells

@@ -2,7 +2,7 @@
 
 ghost use Rattle.std.specs.Prelude.{◌↔◌, ◌∷◌, ◌≡◌, IsTrue, List, [], ℕ};
 ghost use Rattle.audit_law.specs.FirstDebts.{TellsFirst};
-ghost use Rattle.audit_places.specs.Placing.{ArePlacesOf, HasRecordAt};
+ghost use Rattle.audit_records.specs.places.Placing.{ArePlacesOf, HasRecordAt};
 ghost use Rattle.net_plan.specs.{Ranges.IsInRange, declared.event.Event.Event};
 ghost use Rattle.net_plan.specs.declared.ids.DeviceId.{DeviceId as DeviceIdValue};
 ghost use Rattle.run_law.specs.records.Happenings.{Happening};
@@ -10,7 +10,7 @@ ghost use Rattle.audit_unpaid.specs.{Clocks.{IsOnlyEnd, IsUntold}, Debtors.{AreK
 ghost use Rattle.audit_law.specs.Owed as debts;
 
 use crate::Debtor;
-use audit_places::Place;
+use audit_records::places::Place;
 use net_plan::DeviceId;
 use run_law::NoteBody;
 use sync_state::State;

@@ -1,8 +1,8 @@
 use crate::Payments;
 use audit_devices::Standings;
-use audit_events::EventHistory;
-use audit_places::Places;
+use audit_devices::events::EventHistory;
 use audit_records::KeptRecords;
+use audit_records::places::Places;
 use net_plan::Network;
 
 /// The records of a report, each due given those before it, which owe further ones up to a time; and what is known of

@@ -1,9 +1,9 @@
 //! The first leaving of which no record tells.
 
 ghost use Rattle.std.specs.Prelude.{◌^◌, ◌↔◌, ◌≡◌, ◌≤◌, IsTrue, List, Some, ℕ};
-ghost use Rattle.audit_events.specs.Remembering.{RemembersSome};
+ghost use Rattle.audit_devices.specs.events.Remembering.{RemembersSome};
 ghost use Rattle.audit_law.specs.FirstDebts.{TellsFirst};
-ghost use Rattle.audit_places.specs.Placing.{ArePlacesOf, HasRecordAt};
+ghost use Rattle.audit_records.specs.places.Placing.{ArePlacesOf, HasRecordAt};
 ghost use Rattle.audit_records.specs.Keeping.{record_of};
 ghost use Rattle.device_rules.specs.Answers.{departure_as};
 ghost use Rattle.net_plan.specs.{Ranges.IsInRange, declared.{event.Event.Event, ids.LinkId.LinkId as LinkIdValue}};
@@ -14,9 +14,9 @@ ghost use Rattle.audit_law.specs.Owed as debts;
 
 use crate::Debtor;
 use crate::earliest::earlier_of;
-use audit_places::Place;
+use audit_records::places::Place;
+use audit_records::wires::{Leaving, departure, departure_due};
 use audit_records::{Kept, KeptRecord};
-use audit_wires::{Leaving, departure, departure_due};
 use device_rules::{Departed, is_relay};
 use net_plan::{LinkId, Network};
 use run_law::{NoteBody, Reason};

@@ -6,11 +6,14 @@ mod changes;
 mod clocks;
 mod debtor;
 mod departures;
+pub mod dispatches;
 mod earliest;
+pub mod emissions;
 mod losses;
 mod paid;
 mod payments;
 mod permanences;
+pub mod points;
 
 pub use debtor::Debtor;
 pub use paid::Paid;

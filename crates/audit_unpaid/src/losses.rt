@@ -9,7 +9,7 @@ ghost use Rattle.audit_law.specs.Owed as debts;
 
 use crate::Debtor;
 use crate::earliest::earlier_of;
-use audit_wires::loss_due;
+use audit_records::wires::loss_due;
 
 impl Debtor<'_> {
     /// The first time at which the octets of a `send` event are lost of which no record tells it. It is None exactly

@@ -1,7 +1,7 @@
 //! The first frame that is permanent of which no record tells.
 
 ghost use Rattle.std.specs.Prelude.{◌^◌, ◌≡◌, ◌≤◌, List, Some, pos, ℕ};
-ghost use Rattle.audit_events.specs.Remembering.{Remembers, RemembersSome};
+ghost use Rattle.audit_devices.specs.events.Remembering.{Remembers, RemembersSome};
 ghost use Rattle.audit_law.specs.FirstDebts.{TellsFirst};
 ghost use Rattle.audit_records.specs.Keeping.{record_of};
 ghost use Rattle.net_plan.specs.{Belonging.HasDevice, Ranges.IsInRange, declared.event.Event.Event};

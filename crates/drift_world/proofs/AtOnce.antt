@@ -3,7 +3,7 @@ use Rattle.drift_world.proofs.Words.{◌+◌, ◌-◌, ◌<◌, ◌∙◌, ◌�
 use Rattle.drift_world.proofs.Words.{IsRunning, IsWell, List, Network, Node, None, Note, Ok, Option, Place, Result, Scenario, Some, Turn, [], ap, arith}
 use Rattle.drift_world.proofs.Words.{cases_lt, inl, inr, length, numbers_of, subst, true, ℕ}
 use Rattle.net_plan.specs.declared.ids.DeviceId.{DeviceId}
-use Rattle.world_timers.specs.Times.{IsFirst as IsFirstDue}
+use Rattle.world_state.specs.timers.Times.{IsFirst as IsFirstDue}
 use Rattle.drift_world.proofs.{Foremost.{first_later, higher, not_earlier, of_run}, Nearings.less_nears}
 use Rattle.drift_world.proofs.Sources.{due_time, nothing_before, slot_high, slot_low}
 use Rattle.drift_world.specs.{Nearing.Nears, Sourcing.{IsRipePlace, due_place}, Turns.{GivesAt, IsNextRank, IsWhole, TurnSays, WorkSays}}

@@ -9,7 +9,7 @@ use Rattle.drift_world.proofs.Words.{way_as, way_now, wire_at, world_of, ℕ}
 use Rattle.std.{proofs.Common.{All, option_and_then, option_map, slice_get}, specs.List.filter_map}
 use Rattle.run_law.{proofs.law.FirstPlaces.numbered_within, specs.records.Causes.IsOfThisTime}
 use Rattle.world_law.proofs.runs.Worlds.{length_is}
-use Rattle.world_queue.specs.declared.Entry.{Entry}
+use Rattle.world_state.specs.declared.queue.Entry.{Entry}
 use Rattle.world_state.{proofs.Befallings.{IsFreshOf, ports_settled}, specs.Befalling.{AreSettledBy, bare, entry_of, lost_on, record_of, sent_up, turned_on}}
 use Rattle.world_steps.proofs.{befalling.{Befell.befell_step, Seen.{on_within, put_event, put_in_more, sent_on, wires_of}}, steps.Applied.no_coming}
 use Rattle.world_steps.specs.Befalling.{ArePutBy, befell_bodies, bodies_of}

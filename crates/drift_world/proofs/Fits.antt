@@ -3,7 +3,7 @@ use Rattle.drift_world.proofs.Words.{◌∷◌, ◌≡◌, AreBelow, AtPort, Boo
 use Rattle.drift_world.proofs.Words.{List, Network, None, Option, Settled, Some, arith, departure_body, in_permuted, inr, refl, subst, sym, ℕ}
 use Rattle.std.proofs.{Common.All, lemmas.Grind.elements}
 use Rattle.run_law.specs.control.Leaving.{Departure, leaves, on_cut_way, too_old}
-use Rattle.world_queue.specs.declared.Entry.{Entry}
+use Rattle.world_state.specs.declared.queue.Entry.{Entry}
 use Rattle.world_state.specs.Leaving.{departed, departure_by}
 
 abbrev pub have_octets : Settled → Type 0

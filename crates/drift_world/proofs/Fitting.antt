@@ -6,7 +6,7 @@ use Rattle.std.proofs.{Common.nat_eq, lemmas.{List.Elements.All-filter, Map.Keys
 use Rattle.std.specs.{List.IsDistinct, Prelude.{All, slice_get}}
 use Rattle.run_law.{proofs.records.Order.all_of, specs.scenario.Ways.is_way_of}
 use Rattle.tte_lemmas.proofs.Naturals.{flips}
-use Rattle.world_queue.proofs.Bags.{all_apart, each_apart}
+use Rattle.world_state.proofs.queue_lemmas.Bags.{all_apart, each_apart}
 use Rattle.world_state.specs.Applying.{SetsShort, way_after}
 use Rattle.drift_world.proofs.Beginnings.{found}
 use Rattle.net_plan.specs.declared.event.What.TheVariants as events

@@ -6,9 +6,9 @@ use Rattle.drift_world.proofs.Words.{is_given, keeps, length, never, never_self,
 use Rattle.drift_world.proofs.Words.{wire_at, wire_place, ℕ}
 use Rattle.std.proofs.Common.{All, get_or, slice_get}
 use Rattle.world_law.specs.world.World.{port_place}
-use Rattle.world_queue.specs.declared.Entry.{Entry}
+use Rattle.world_state.specs.declared.queue.Entry.{Entry}
 use Rattle.world_state.specs.Views.{port_at}
-use Rattle.world_timers.specs.Times.{IsFirst as IsFirstDue}
+use Rattle.world_state.specs.timers.Times.{IsFirst as IsFirstDue}
 use Rattle.drift_world.{proofs.Sources.{due_time, slot_high, slot_low}, specs.{Sourcing.{IsRipePlace, due_place}, declared.state.State.State}}
 
 -- ---- places of one time, or of a later one

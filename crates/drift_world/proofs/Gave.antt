@@ -9,7 +9,7 @@ use Rattle.drift_world.proofs.Words.{world_of, ℕ}
 use Rattle.std.{proofs.{Common.slice_get, lemmas.List.Elements.{All-map, All-weaker}}, specs.{Option.option_map, Prelude.{All, filter_map}}}
 use Rattle.run_law.specs.{control.Permanence.waits_for, declared.note.NoteBody.TheVariants.{Clock, Corrected, Event, Sent}}
 use Rattle.world_law.specs.world.Moves.{named_body}
-use Rattle.world_queue.specs.declared.Entry.{Entry}
+use Rattle.world_state.specs.declared.queue.Entry.{Entry}
 use Rattle.world_state.{proofs.UnderWays.sound_with, specs.{Frames.IsOneMore, Giving.{awaited_by, control_on_wire, place_on_wire, timed_on_wire, waits_from}}}
 use Rattle.world_steps.proofs.hearing.Receptions.{receiver_in}
 use Rattle.drift_world.{proofs.{Fitting.{apart_more, below_one_more}, Sendings.link_within}, specs.declared.state.State.State}

@@ -7,7 +7,7 @@ use Rattle.drift_world.proofs.Words.{settled_at, stored_as, subst, sym, waiting_
 use Rattle.std.specs.{List.filter_map, Option.option_map}
 use Rattle.run_law.specs.declared.note.NoteBody.TheVariants.{Clock, Corrected, Event, Sent}
 use Rattle.world_law.{proofs.giving.Given.given_step, specs.world.Moves.named}
-use Rattle.world_queue.specs.declared.Entry.{Entry}
+use Rattle.world_state.specs.declared.queue.Entry.{Entry}
 use Rattle.world_state.{proofs.Apart.{given_then, ports_kept, put_from, wires_kept}, specs.Giving.{MayBeGiven, control_on_wire, timed_on_wire}}
 use Rattle.drift_world.{proofs.{FirstSettled.first_is, Launches.given_out, Sendings.puts, Storings.taken_by}, specs.declared.state.State.State}
 

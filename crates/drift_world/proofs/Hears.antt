@@ -10,7 +10,7 @@ use Rattle.pcf_codec.specs.{Decoding.decoded, EtherType.pcf_type, declared.refus
 use Rattle.run_law.{proofs.runs.Determined.same_units, specs.{control.Arrivals.clock_on_arrival, declared.steps.Arrival.Arrival, machines.Answers.arrival_at}}
 use Rattle.run_law.specs.machines.{Calls.{MayArrive, MayCall}, Nodes.{arriving, last_taken_by, standpoint_at}}
 use Rattle.world_law.{proofs.giving.Given.some_same, specs.world.{Calls.{HasHeard, IsSet}, Outcomes.arrival_body, World.IsClockOf}}
-use Rattle.world_queue.specs.declared.Entry.{Entry}
+use Rattle.world_state.specs.declared.queue.Entry.{Entry}
 use Rattle.world_state.proofs.UnderWays.{ports_stay, wires_without}
 use Rattle.world_state.specs.Hearing.{AreOctetsOf, IsAsSent, MayCome, arrived, frame_kept, octets_kept, timed_in}
 use Rattle.world_state.specs.declared.contents.Signal.{Signal as SignalSent}

@@ -8,7 +8,7 @@ use Rattle.std.{proofs.Common.{Bor, option_map}, specs.Option.option_copied}
 use Rattle.net_plan.specs.declared.event.Event.{Event}
 use Rattle.tte_lemmas.proofs.Lists.{some_at}
 use Rattle.world_law.{proofs.giving.Given.some_same, specs.source.Sources.IsArriving}
-use Rattle.world_queue.specs.Finding.{HoldsAt, HoldsNoneAt}
+use Rattle.world_state.specs.queue.Finding.{HoldsAt, HoldsNoneAt}
 use Rattle.world_state.specs.declared.contents.Signal.{Signal as Sent}
 use Rattle.drift_world.specs.{Wires.{IsOfNow, IsOnOwnLink, on_wire_in, put_by}, declared.state.State.State}
 

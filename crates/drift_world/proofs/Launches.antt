@@ -9,7 +9,7 @@ use Rattle.std.specs.List.{filter_map, slice_get}
 use Rattle.run_law.specs.{control.Leaving.Gives, declared.note.NoteBody.TheVariants.{Clock, Corrected, Event, Sent}, scenario.Ways.hold_at}
 use Rattle.tte_lemmas.proofs.Options.{mapped}
 use Rattle.world_law.specs.world.{Moves.{AreAwaited, AreGiven}, World.{IsGivenBy, port_place}}
-use Rattle.world_queue.specs.declared.Entry.{Entry}
+use Rattle.world_state.specs.declared.queue.Entry.{Entry}
 use Rattle.world_state.specs.Giving.{ArePutTo, HasItsFrame, entry_at_port, giver_of, hold_by}
 use Rattle.drift_world.{proofs.Awaits.{awaits, none_awaited}, specs.{Giving.IsGiver, declared.state.State.State}}
 

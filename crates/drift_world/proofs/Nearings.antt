@@ -6,7 +6,7 @@ use Rattle.drift_world.proofs.Words.{nat_lt, pos, reading_for, refl, slice_get_w
 use Rattle.std.proofs.{Common.{drop, slice_get}, Math.Nat.mul-le-mul_right, lemmas.List.length-drop}
 use Rattle.run_law.specs.machines.Tasks.{IsPending}
 use Rattle.world_law.proofs.giving.Given.{some_same}
-use Rattle.world_queue.specs.declared.Entry.{Entry}
+use Rattle.world_state.specs.declared.queue.Entry.{Entry}
 use Rattle.world_state.specs.Befalling.{AreSettledBy, entry_of}
 use Rattle.drift_world.{proofs.{Foremost.node_of, Showings.shows_of}, specs.Turns.IsActive}
 use Rattle.drift_world.specs.Nearing.{IsIdleAt, IsLess, IsNoFarther, Nears, acting, burden, come, distance}

@@ -4,7 +4,7 @@ use Rattle.drift_world.proofs.Words.{NoSourceBefore, Option, Place, Scenario, Se
 use Rattle.drift_world.proofs.Words.{departure_body, map, numbers_of, on_wire, option_map_or, own_place, place_of, rank, refl, ripe_place, settled_at}
 use Rattle.drift_world.proofs.Words.{Content, Holding, Kept, World, at_port, stored_as, subst, sym, waiting_as, with_first, world_of, ℕ}
 use Rattle.std.specs.{List.insert, Prelude.filter_map}
-use Rattle.world_queue.specs.declared.Entry.{Entry}
+use Rattle.world_state.specs.declared.queue.Entry.{Entry}
 use Rattle.run_law.proofs.runs.Places.{before_behind}
 use Rattle.run_law.specs.{control.Leaving.{Departure, leaves, on_cut_way, too_old}, declared.steps.{Arrival.Arrival, Ripe.Ripe}, records.Ranks.key}
 use Rattle.world_state.specs.Ripening.{AreSettledSo, ripe_record}

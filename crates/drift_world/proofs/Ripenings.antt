@@ -9,7 +9,7 @@ use Rattle.std.specs.Option.{option_and_then}
 use Rattle.run_law.{proofs.records.Order.all_of, specs.{declared.{judgement.Judgement.Judgement, steps.Ripe.Ripe}, machines.Calls.MayTake}}
 use Rattle.tte_lemmas.proofs.Naturals.{flips}
 use Rattle.world_law.{proofs.giving.Given.some_same, specs.world.Moves.IsWithout}
-use Rattle.world_queue.proofs.Bags.{each_apart}
+use Rattle.world_state.proofs.queue_lemmas.Bags.{each_apart}
 use Rattle.world_state.{proofs.Swaps.{from_map, stayed, stays, was_there}, specs.Ripening.{AreSettledSo, joined_record, judged_so, ripe_record}}
 use Rattle.world_steps.{proofs.ripening.{Asking.may_ask, RipenedSteps.{ripened_step, waits_within}}, specs.Ripening.{HasRipened, ripe_bodies}}
 use Rattle.drift_world.proofs.{Fits.{all_put, all_put_some, have_octets}, Fitting.cause_of, HiddenCauses.{InOrder, settled_in_order}}

@@ -8,7 +8,7 @@ use Rattle.drift_world.proofs.Words.{way_from, wire_entry, ℕ}
 use Rattle.std.specs.{List.{filter_map, slice_get}, Option.option_map}
 use Rattle.run_law.specs.declared.note.NoteBody.TheVariants.{Clock, Corrected, Event, Sent}
 use Rattle.world_law.specs.world.Moves.{ArePut}
-use Rattle.world_queue.specs.declared.Entry.{Entry}
+use Rattle.world_state.specs.declared.queue.Entry.{Entry}
 use Rattle.world_state.specs.declared.contents.Signal.{Signal as SignalSent}
 use Rattle.drift_world.proofs.Launches.{delay_is}
 use Rattle.world_state.specs.declared.contents.Signal.TheVariants as signals

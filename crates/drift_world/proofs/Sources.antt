@@ -9,10 +9,10 @@ use Rattle.std.proofs.Common.{All, slice_get}
 use Rattle.run_law.{proofs.runs.Places.before_later, specs.machines.Tasks.{IsPending, Task}}
 use Rattle.tte_lemmas.proofs.Options.{some_same}
 use Rattle.world_law.{proofs.frames.Proper.{IsReceiver, received}, specs.world.{Moves.NothingBefore, World.IsWaitingFor}}
-use Rattle.world_queue.specs.declared.Entry.{Entry}
+use Rattle.world_state.specs.declared.queue.Entry.{Entry}
 use Rattle.world_state.proofs.UnderWays.{port_numbers, wire_numbers}
 use Rattle.world_steps.proofs.ripening.Ripens.{come_of}
-use Rattle.world_timers.specs.Times.{IsFirst as IsFirstDue}
+use Rattle.world_state.specs.timers.Times.{IsFirst as IsFirstDue}
 use Rattle.drift_world.specs.{Sourcing.{IsRipePlace, due_place}, declared.state.State.State}
 
 -- what is not before the first is not before a place that the first is not before

@@ -4,7 +4,7 @@ use Rattle.drift_world.proofs.Words.{arith, ints, pos, rate_steps, reading_of, s
 use Rattle.std.{proofs.Math.Nat.mul-le-mul_right, specs.Int.abs_diff}
 use Rattle.drift_clock.specs.ClockLaws.{AlwaysBeginsAtZero, AlwaysKeepsClockLaws, KeepsClockLaws}
 use Rattle.net_plan.{proofs.{Beta.beta_exists, Shape.rules_give_trees}, specs.{Bounds.{IsBeta, beta_at}, declared.event.Event.Event}}
-use Rattle.safe_runs.proofs.Histories.{history}
+use Rattle.traffic_law.proofs.safety_lemmas.Histories.{history}
 use Rattle.schedule_tables.{proofs.Margins.shape_rules, specs.declared.rule.Rule.TheVariants.Precision}
 use Rattle.world_law.{proofs.devices.Leaps.no_leap, specs.device.Ready.IsSteady}
 

@@ -37,9 +37,9 @@ pub use Rattle.world_law.specs.source.{Agreeing.scenario, First.NoSourceBefore}
 pub use Rattle.world_law.specs.world.{Calls.{HasActed, IsDueNow, moment_of}, Moves.{ArePutIn, ComesFirst, StandsBehind, settled_as}, Outcomes.departure_body}
 pub use Rattle.world_law.specs.world.World.{AreSettled, AreWays, AtPort, IsHeld, OnWire, Stands, Waiting, WayNow, World, act_place, hidden, hidden_body}
 pub use Rattle.world_law.specs.world.World.{none_yet, note_of, ripe_place, way_now, wire_place}
-pub use Rattle.world_queue.proofs.Bags.{in_permuted}
-pub use Rattle.world_queue.specs.Places.{IsFirst, numbers_of}
-pub use Rattle.world_queue.specs.declared.Place.{Place}
+pub use Rattle.world_state.proofs.queue_lemmas.Bags.{in_permuted}
+pub use Rattle.world_state.specs.queue.Places.{IsFirst, numbers_of}
+pub use Rattle.world_state.specs.declared.queue.Place.{Place}
 pub use Rattle.world_state.proofs.{Befallings.is_mapped, Swaps.is_set}
 pub use Rattle.world_state.specs.{Applying.clock_after, Giving.{ArrivedAt, HasItsOctets, IsPutOn, changed_device, delay_by, wire_entry}, Keeping.keeps}
 pub use Rattle.world_state.specs.{Naming.named_settled, Places.{IsPutAt, IsSomePut, own_place}, Sound.{AreBelow, AreUnderWay, IsShort, rank_of}}
@@ -49,8 +49,8 @@ pub use Rattle.world_state.specs.declared.contents.{Befallen.Befallen, Content.{
 pub use Rattle.world_state.specs.declared.{contents.{Timed.Timed, Waits.Waits, WayState.WayState}, giving.Giving.Giving, kept.Kept.Kept}
 pub use Rattle.world_state.specs.declared.memory.OutOfMemory.{OutOfMemory}
 pub use Rattle.world_steps.specs.Steps.{FitsWorld}
-pub use Rattle.world_timers.specs.Times.{never}
-pub use Rattle.world_timers.specs.declared.Due.{Due}
+pub use Rattle.world_state.specs.timers.Times.{never}
+pub use Rattle.world_state.specs.declared.timers.Due.{Due}
 pub use Rattle.drift_world.specs.{Giving.IsGivenOut, Locals.{IsComplete, IsLocalClockBefore, Shows, local_shown}}
 pub use Rattle.drift_world.specs.{Running.{ComesUpTo, StandsUnder, behind_events, given_by, reading_of}, Showing.IsOf, Sound.{AreApart, IsSized, IsSound}}
 pub use Rattle.drift_world.specs.{Sourcing.{AreFirsts, AreNotBefore, AreTimed, HasNothingBefore}, Stepping.{ChangesOnly, IsAt, IsRunning, IsTimed}}

@@ -10,7 +10,7 @@ use Rattle.run_law.specs.scenario.Hypothesis.{AreWithinHypothesis, IsWithinHypot
 use Rattle.tte_units.specs.declared.units.Units.{Units}
 use Rattle.world_law.specs.{source.Agreeing.scenario, world.World.{Stands, World}}
 use Rattle.world_state.specs.{Keeping.keeps, declared.kept.Kept.Kept}
-pub use Rattle.safe_runs.specs.Under.{clock_of, last_time, reading_of}
+pub use Rattle.traffic_law.specs.safety.Under.{clock_of, last_time, reading_of}
 
 -- the events are the network's, their times are none below 0, and each is within the fault hypothesis; the records
 -- given are those of the run under them, and each part of the world is as these events and records leave it

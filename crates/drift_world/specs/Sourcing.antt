@@ -4,10 +4,10 @@ use Rattle.std.specs.Prelude.{List, Option, Some, [], length, nat_lt, pos, slice
 use Rattle.net_plan.specs.declared.{ids.DeviceId.DeviceId, network.Network.Network}
 use Rattle.run_law.specs.{machines.{Nodes.Node, Tasks.{IsPending, Task, reading_for}}, records.Order.{IsBefore, IsIn}}
 use Rattle.world_law.specs.world.World.{act_place, ripe_place}
-use Rattle.world_queue.specs.{Places.{IsFirst, numbers_of}, declared.{Entry.Entry, Place.Place}}
+use Rattle.world_state.specs.{queue.Places.{IsFirst, numbers_of}, declared.queue.{Entry.Entry, Place.Place}}
 use Rattle.world_state.specs.{Keeping.keeps, Views.waiting_as, declared.contents.{Content.Content, Waits.Waits}}
 use Rattle.world_state.specs.declared.kept.Kept.{Kept}
-use Rattle.world_timers.specs.{Times.{IsFirst as IsFirstDue, never}, declared.Due.Due}
+use Rattle.world_state.specs.{timers.Times.{IsFirst as IsFirstDue, never}, declared.timers.Due.Due}
 use Rattle.drift_world.specs.{Stepping.IsTimed, declared.state.State.State}
 
 -- the timers of all devices are right, and none is past

@@ -7,7 +7,7 @@ use Rattle.run_law.specs.{records.Order.IsIn, scenario.Scenarios.Scenario}
 use Rattle.tte_units.specs.declared.units.Units.{Units}
 use Rattle.world_law.specs.world.{Moves.ComesFirst, World.Stands}
 use Rattle.world_state.specs.{Keeping.keeps, declared.{contents.Waits.Waits, kept.Kept.Kept}}
-use Rattle.world_timers.specs.Times.{never}
+use Rattle.world_state.specs.timers.Times.{never}
 use Rattle.drift_world.specs.{Views.world_of, declared.state.State.State}
 
 -- some scenario and records leave the state where it stands

@@ -6,10 +6,10 @@ use Rattle.run_law.specs.{declared.note.Note.Note, machines.{Calls.HasDue, Nodes
 use Rattle.run_law.specs.{runs.DueRecords.IsScenarioRun, scenario.Scenarios.Scenario}
 use Rattle.tte_units.specs.Amount.{amount, units_of}
 use Rattle.world_law.specs.world.World.{Stands, act_place, clock_place, ripe_place}
-use Rattle.world_queue.specs.{Places.{IsFirst, numbers_of}, declared.Place.Place}
+use Rattle.world_state.specs.{queue.Places.{IsFirst, numbers_of}, declared.queue.Place.Place}
 use Rattle.world_state.specs.{Frames.first_of, Keeping.keeps, Places.own_place, Views.waiting_as}
 use Rattle.world_state.specs.declared.{contents.{Settled.Settled, Waits.Waits}, kept.Kept.Kept}
-use Rattle.world_timers.specs.declared.Due.{Due}
+use Rattle.world_state.specs.declared.timers.Due.{Due}
 use Rattle.drift_world.specs.Nearing.{IsLess}
 use Rattle.drift_world.specs.{Sourcing.{HasNothingBefore, IsRipePlace, due_place}, Views.world_of, Wells.IsWell}
 use Rattle.drift_world.specs.declared.{next.Turn.{Turn, TheVariants.{Ends, Gives, GoesOn}}, source.Source.Source}

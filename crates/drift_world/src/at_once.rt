@@ -9,10 +9,10 @@ use drift_clock::Clock;
 use net_plan::{DeviceId, Network};
 use plain_notes::Given;
 use run_law::Machine;
-use world_queue::Place;
 use world_state::OutOfMemory;
+use world_state::queue::Place;
 use world_state::settled::rank_of;
-use world_timers::Due;
+use world_state::timers::Due;
 
 /// More than the rank of any record.
 const NO_RANK: u64 = 15;

@@ -9,13 +9,13 @@ use net_plan::Network;
 use run_law::Machine;
 use std::alloc::Global;
 use std::collections::VecDeque;
-use world_queue::UnderWay;
 use world_state::OutOfMemory;
 use world_state::frames::Frames;
 use world_state::fresh::{first_ways, fresh_clocks, none_broken};
 use world_state::kept::all_kept;
+use world_state::queue::UnderWay;
 use world_state::shelves::Shelves;
-use world_timers::Timers;
+use world_state::timers::Timers;
 
 /// The state of a network at time 0.
 pub fn fresh_state<C: Clock, M: Machine + Drop>(

@@ -2,7 +2,7 @@ ghost use Rattle.std.specs.Prelude.{◌+◌, ◌<◌, ◌≡◌, List, false, le
 ghost use Rattle.net_plan.specs.Ranges.{IsInRange};
 ghost use Rattle.run_law.specs.{declared.note.Note.Note, records.Order.behind, scenario.Scenarios.Scenario};
 ghost use Rattle.world_law.specs.world.{Moves.{ComesFirst, StandsBehind}, World.Stands};
-ghost use Rattle.world_queue.specs.Places.{IsFirst, numbers_of};
+ghost use Rattle.world_state.specs.queue.Places.{IsFirst, numbers_of};
 ghost use Rattle.run_law.specs.records.Ranks.{place_of, rank};
 ghost use Rattle.world_state.specs.{Giving.{HasItsOctets, changed_device}, Hearing.arrived, Keeping.keeps};
 ghost use Rattle.world_state.specs.{Places.IsPutAt, Views.settled_at};
@@ -14,9 +14,9 @@ use drift_clock::Clock;
 use net_plan::{LinkId, Network};
 use run_law::{Machine, Moment};
 use tte_units::Units;
-use world_queue::Place;
 use world_state::contents::Settled;
 use world_state::hearing::{arrived, hear_signal, take_wire};
+use world_state::queue::Place;
 
 impl<C: Clock, M: Machine + Drop> State<C, M> {
     /// What is on a wire and the first of all that is under way arrives: its device hears it. The record of it is

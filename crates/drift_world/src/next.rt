@@ -11,11 +11,11 @@ use drift_clock::Clock;
 use net_plan::Network;
 use plain_notes::{Body, Given, Kind};
 use run_law::Machine;
-use world_queue::Place;
 use world_state::OutOfMemory;
 use world_state::contents::Settled;
+use world_state::queue::Place;
 use world_state::settled::{is_before_in_all, rank_of};
-use world_timers::Due;
+use world_state::timers::Due;
 
 /// The last time of a run.
 const LAST: u64 = 1 << 60;

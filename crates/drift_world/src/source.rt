@@ -1,5 +1,5 @@
 ghost use Rattle.std.specs.{Option.option_map, Prelude.{◌+◌, ◌<◌, ◌^◌, ◌≡◌, ◌≤◌, IfNone, IfSome, Option, Some, ℕ}};
-ghost use Rattle.world_timers.specs.Times.{IsFirst as IsFirstDue};
+ghost use Rattle.world_state.specs.timers.Times.{IsFirst as IsFirstDue};
 ghost use Rattle.drift_world.specs.Turns.{own_numbers, rank_in_order};
 
 use crate::state::State;
@@ -7,10 +7,10 @@ use arrayvec::ArrayVec;
 use drift_clock::Clock;
 use net_plan::{DeviceId, Network};
 use run_law::Machine;
-use world_queue::Place;
 use world_state::contents::Waits;
+use world_state::queue::Place;
 use world_state::settled::{MOST, numbers};
-use world_timers::Due;
+use world_state::timers::Due;
 
 /// The rank of what arrives, among all of one instant.
 pub const ARRIVING: u8 = 2;

@@ -3,7 +3,7 @@ ghost use Rattle.std.specs.Prelude.{OnErr, OnOk, Option, Some, [], false, length
 ghost use Rattle.std.specs.{Prelude.ℕ, VecDeque.{deque_capacity, deque_len}};
 ghost use Rattle.net_plan.specs.{Ranges.IsInRange, declared.network.Network.Network};
 ghost use Rattle.run_law.specs.{declared.note.Note.Note, records.Order.behind, scenario.Scenarios.Scenario};
-ghost use Rattle.world_queue.specs.Places.{IsFirst, numbers_of};
+ghost use Rattle.world_state.specs.queue.Places.{IsFirst, numbers_of};
 
 use drift_clock::Clock;
 use made_frames::MadeFrame;
@@ -14,7 +14,6 @@ use run_law::{Machine, NoteBody};
 use std::collections::VecDeque;
 use sync_state::State as DeviceState;
 use tte_units::Units;
-use world_queue::{Place, UnderWay};
 use world_state::OutOfMemory;
 use world_state::applying::{
     befall_machines, breaks_on, drop_waiting, ends, keep_befallen, set_broken, set_rate, set_way,
@@ -24,9 +23,10 @@ use world_state::event_notes::EventNote;
 use world_state::frames::Frames;
 use world_state::kept::Kept;
 use world_state::leaving::{departed, is_parent, take_port};
+use world_state::queue::{Place, UnderWay};
 use world_state::settled::put_in;
 use world_state::shelves::Shelves;
-use world_timers::Timers;
+use world_state::timers::Timers;
 
 /// The parts of a world that change.
 #[derive(Drop)]

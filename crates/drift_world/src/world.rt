@@ -43,7 +43,7 @@ impl<'a, C: Clock, M: Machine + Drop> Model for World<'a, C, M> {
 }
 
 impl<'a, C: Clock, M: Machine + Drop> World<'a, C, M> {
-    ghost use Rattle.safe_runs.specs.Headline.{IsSafeFront};
+    ghost use Rattle.traffic_law.specs.safety.Headline.{IsSafeFront};
     ghost use Rattle.drift_world.specs.Beginning.{AreFresh};
     ghost use Rattle.drift_world.specs.Later.{ComesBehind, IsAtTime, IsOpenFrom, MayApply, MayApplyAgain, bounded};
     ghost use Rattle.drift_world.specs.Locals.{AreSmall, IsComplete, IsLocalClock, IsLocalClockBefore, IsLocalValue};

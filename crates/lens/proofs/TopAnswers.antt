@@ -3,10 +3,10 @@ use Rattle.std.{proofs.Common.{◌∙◌, ◌≡◌, ◌≤◌, List, None, Some
 use Rattle.lens_draw.specs.Answer.{IsDrawAnswer}
 use Rattle.lens_events.specs.Answer.{IsEventsAnswer, event_lines}
 use Rattle.lens_flows.{proofs.OneAnswer.flows_answer_one, specs.Answer.IsFlowsAnswer}
-use Rattle.lens_forms.{proofs.FormLemmas.form_in_range, specs.{Forms.{IsFormInRange, form_of}, declared.form.Form.Form}}
-use Rattle.lens_forms.specs.declared.form.Form.TheVariants.{Draw, DrawWhole, Events, Flows, Least, Slack, SlackOf, Why}
-use Rattle.lens_least.{proofs.OneLeast.least_one, specs.Answer.IsLeastOf}
-use Rattle.lens_overview.specs.Answer.{IsOverviewAnswer}
+use Rattle.lens_slack.{proofs.forms_lemmas.FormLemmas.form_in_range, specs.{forms.Forms.{IsFormInRange, form_of}, declared.forms.form.Form.Form}}
+use Rattle.lens_slack.specs.declared.forms.form.Form.TheVariants.{Draw, DrawWhole, Events, Flows, Least, Slack, SlackOf, Why}
+use Rattle.lens_slack.{proofs.least_lemmas.OneLeast.least_one, specs.least.Answer.IsLeastOf}
+use Rattle.lens_draw.specs.overview.Answer.{IsOverviewAnswer}
 use Rattle.lens_slack.{proofs.OneSlack.{octets_one, slack_one}, specs.{Answer.IsSlackOf, Steps.{all_steps, rule_steps}}}
 use Rattle.lens_why.proofs.Whole.{why_one}
 use Rattle.net_plan.specs.declared.{event.Event.Event, network.Network.Network}

@@ -3,11 +3,12 @@ use Rattle.std.specs.Prelude.{◌++◌, ◌≡◌, ◌≢◌, ◌⊎◌, List, N
 use Rattle.lens_draw.specs.Answer.{IsDrawAnswer}
 use Rattle.lens_events.specs.Answer.{IsEventsAnswer}
 use Rattle.lens_flows.specs.Answer.{IsFlowsAnswer}
-use Rattle.lens_forms.specs.{Forms.form_of}
-use Rattle.lens_forms.specs.declared.form.Form.{Form}
-use Rattle.lens_forms.specs.declared.form.Form.TheVariants.{Draw, DrawWhole, Events, Flows, Least, Slack, SlackOf, Why}
-use Rattle.lens_least.specs.Answer.{IsLeastAnswer}
-use Rattle.lens_overview.specs.Answer.{IsOverviewAnswer}
+use Rattle.lens_slack.specs.forms.{Forms.form_of}
+use Rattle.lens_slack.specs.declared.forms.form.Form.{Form}
+use Rattle.lens_slack.specs.declared.forms.form.Form.TheVariants.{Draw, DrawWhole, Events, Flows, Least, Slack, SlackOf}
+use Rattle.lens_slack.specs.declared.forms.form.Form.TheVariants.{Why}
+use Rattle.lens_slack.specs.least.Answer.{IsLeastAnswer}
+use Rattle.lens_draw.specs.overview.Answer.{IsOverviewAnswer}
 use Rattle.lens_slack.specs.Answer.{IsSlackAnswer, IsSlackAnswerOf}
 use Rattle.lens_why.specs.Answer.{IsWhyAnswer}
 use Rattle.tte_forms.specs.{Answering.{Answer, ForOctets, Gives, GivesAnswer, line_answer}, Putting.Shown}

@@ -4,7 +4,7 @@
 mod top;
 
 pub use lens_events::{events_answers_exist, storm_events, storm_report_law};
-pub use lens_least::{least_law, least_of_network};
+pub use lens_slack::least::{least_law, least_of_network};
 pub use lens_slack::{slack_law, slack_of_network, slack_of_rule};
 pub use lens_why::{row_law, why_law, why_record};
 pub use top::{answer_law, lens};

@@ -5,9 +5,9 @@ use Rattle.std.specs.{List.cons_option, Prelude.{All, filter_map, if◌then◌el
 use Rattle.std.proofs.lemmas.List.{Elements.{All-cons, All-nil, filter_map-append}, take_more}
 use Rattle.lens_draw.proofs.Runs.{pictures_show_runs}
 use Rattle.lens_draw.specs.Asking.{IsAskable}
-use Rattle.lens_past.{proofs.Following.timely_in, specs.Pasts.IsTimely}
-use Rattle.lens_picture.specs.{Bodies.{look_of, scene_of, struck_look}, Laws.{AreMarksOf, IsMarkOf, shown}, Layout.holds, Sketching.{moment, plan_of}}
-use Rattle.lens_picture.specs.declared.{layout.Span.Span, mark.{Look.TheVariants.Taken, Mark.Mark}}
+use Rattle.lens_why.{proofs.past_lemmas.Following.timely_in, specs.past.Pasts.IsTimely}
+use Rattle.lens_draw.specs.svg.{Bodies.{look_of, scene_of, struck_look}, Laws.{AreMarksOf, IsMarkOf, shown}, Layout.holds, Sketching.{moment, plan_of}}
+use Rattle.lens_draw.specs.declared.svg.{layout.Span.Span, mark.{Look.TheVariants.Taken, Mark.Mark}}
 use Rattle.net_plan.specs.declared.{ids.{LinkId.LinkId, VlId.VlId}, network.Network.Network}
 use Rattle.net_plan.specs.Belonging.{HasDevice}
 use Rattle.net_plan.specs.declared.event.What.{What}

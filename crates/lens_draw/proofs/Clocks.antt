@@ -5,11 +5,11 @@ use Rattle.std.specs.{List.{cons_option, list_any}, Option.option_map_or, Prelud
 use Rattle.std.proofs.{Math.Nat.{div-le_of_le-mul, mul_comm, mul-div_cancel, mul-le-mul_left}}
 use Rattle.std.proofs.{lemmas.{Bool.Decides.nat_tests, Int.ints, List.{Elements.filter-append, Sums.fold-append}}}
 use Rattle.lens_draw.specs.ClockLaws.{IsShown, IsTrueBar, PicturesShowClocks, ShowsClock, ShowsClocks}
-use Rattle.lens_picture.specs.Clocks.{Clocks, apart_of, broken_by, clocks_in, clocks_with, ends_of, ends_with, is_among, local_of, no_clocks, share}
-use Rattle.lens_picture.specs.Clocks.{told_by, told_in, with_one}
-use Rattle.lens_picture.specs.Layout.{holds}
-use Rattle.lens_picture.specs.Sketching.{moment}
-use Rattle.lens_picture.specs.declared.{clock.{Ends.Ends, Told.Told}, layout.Span.Span}
+use Rattle.lens_draw.specs.svg.Clocks.{Clocks, apart_of, broken_by, clocks_in, clocks_with, ends_of, ends_with, is_among, local_of, no_clocks, share}
+use Rattle.lens_draw.specs.svg.Clocks.{told_by, told_in, with_one}
+use Rattle.lens_draw.specs.svg.Layout.{holds}
+use Rattle.lens_draw.specs.svg.Sketching.{moment}
+use Rattle.lens_draw.specs.declared.svg.{clock.{Ends.Ends, Told.Told}, layout.Span.Span}
 use Rattle.net_plan.specs.declared.event.{Event.Event, What.What}
 use Rattle.net_plan.specs.declared.event.What.TheVariants as events
 use Rattle.net_plan.specs.declared.{ids.DeviceId.DeviceId, network.Network.Network}

@@ -6,10 +6,10 @@ use Rattle.std.proofs.lemmas.{Bool.Decides.nat_tests, Int.ints, List.{Elements.f
 use Rattle.tte_lemmas.proofs.Integers.{not_below}
 use Rattle.lens_draw.proofs.{Asking.{in_shown, struck_other}, Clocks.{has_happening, share_is}, Falls.{no_later}, Runs.{pictures_show_runs}}
 use Rattle.lens_draw.specs.{Picture.clocks_of, WindowLaws.{PicturesShowWindows, ShowsWindow}}
-use Rattle.lens_picture.proofs.{Rows.row_is_one, Windows.window_is}
-use Rattle.lens_picture.specs.{Bodies.{look_of, scene_of}, Clocks.share, Laws.{AreMarksOf, IsMarkOf, shown}, Sketching.{moment, plan_of}}
-use Rattle.lens_picture.specs.Windows.{came_at, came_by, came_of, row_of, tick_in, window_at, window_by}
-use Rattle.lens_picture.specs.declared.{layout.Span.Span, mark.{Look.{TheVariants.Taken}, Mark.Mark}}
+use Rattle.lens_draw.proofs.svg_lemmas.{Rows.row_is_one, Windows.window_is}
+use Rattle.lens_draw.specs.svg.{Bodies.{look_of, scene_of}, Clocks.share, Laws.{AreMarksOf, IsMarkOf, shown}, Sketching.{moment, plan_of}}
+use Rattle.lens_draw.specs.svg.Windows.{came_at, came_by, came_of, row_of, tick_in, window_at, window_by}
+use Rattle.lens_draw.specs.declared.svg.{layout.Span.Span, mark.{Look.{TheVariants.Taken}, Mark.Mark}}
 use Rattle.net_plan.specs.declared.{ids.{DeviceId.DeviceId, LinkId.LinkId, VlId.VlId}, network.Network.Network}
 use Rattle.net_plan.specs.Ranges.{IsInRange}
 use Rattle.run_law.proofs.runs.{NetworkRuns.same_notes, Places.{in_right, parted}}

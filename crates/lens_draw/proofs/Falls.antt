@@ -1,7 +1,7 @@
 -- The times of the records of a report never fall.
 use Rattle.std.proofs.Common.{◌≡◌, ℕ, ◌≤◌, List, [], ◌∷◌, ◌++◌, append_assoc, refl, sym, subst, ◌∙◌, inl, inr, ◌⊎◌, arith}
 use Rattle.std.specs.Prelude.{map}
-use Rattle.lens_picture.specs.Laws.{NeverFall}
+use Rattle.lens_draw.specs.svg.Laws.{NeverFall}
 use Rattle.net_plan.specs.declared.network.Network.{Network}
 use Rattle.run_law.proofs.runs.NetworkRuns.{same_notes}
 use Rattle.run_law.proofs.runs.Places.{in_right}

@@ -1,3 +1,4 @@
+pub mod svg_lemmas
 pub mod Parts
 pub mod Marking
 pub mod Titles
@@ -7,3 +8,4 @@ pub mod Clocks
 pub mod Reading
 pub mod Asking
 pub mod Coming
+pub mod overview_lemmas

@@ -8,15 +8,15 @@ use Rattle.std.proofs.lemmas.List.Elements.{All-head}
 use Rattle.lens_draw.proofs.Parts.{fails_before, fails_between}
 use Rattle.lens_draw.specs.Answer.{back_answer, draw_answer, fitting_answer}
 use Rattle.lens_draw.specs.Picture.{back_lines, front_lines, mark_lines, marks_of, pen_behind, picture_lines, windows_of}
-use Rattle.lens_picture.specs.declared.window.Came.{Came}
+use Rattle.lens_draw.specs.declared.svg.window.Came.{Came}
 use Rattle.lens_draw.specs.Signs.{close_line}
-use Rattle.lens_picture.proofs.Painting.{span_behind}
-use Rattle.lens_picture.specs.Clocks.{Clocks, clocks_in, clocks_with}
-use Rattle.lens_picture.specs.Layout.{pen_at}
-use Rattle.lens_picture.specs.Plan.{Plan}
-use Rattle.lens_picture.specs.Sketching.{begun, fits, plan_behind, plan_of, took}
-use Rattle.lens_picture.specs.declared.layout.Pen.{Pen}
-use Rattle.lens_picture.specs.declared.layout.Span.{Span}
+use Rattle.lens_draw.proofs.svg_lemmas.Painting.{span_behind}
+use Rattle.lens_draw.specs.svg.Clocks.{Clocks, clocks_in, clocks_with}
+use Rattle.lens_draw.specs.svg.Layout.{pen_at}
+use Rattle.lens_draw.specs.svg.Plan.{Plan}
+use Rattle.lens_draw.specs.svg.Sketching.{begun, fits, plan_behind, plan_of, took}
+use Rattle.lens_draw.specs.declared.svg.layout.Pen.{Pen}
+use Rattle.lens_draw.specs.declared.svg.layout.Span.{Span}
 use Rattle.net_plan.specs.declared.network.Network.{Network}
 use Rattle.report_text.specs.NoteLine.{note_line, note_text, report_of}
 use Rattle.report_text.specs.Ranges.{IsNoteInRange, IsNoteOf}

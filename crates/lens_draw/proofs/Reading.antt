@@ -11,15 +11,15 @@ use Rattle.lens_draw.specs.Signs.{close_line, sign_line}
 use Rattle.lens_draw.specs.declared.putting.{Layer.Layer, TheConstants.LAYERS}
 use Rattle.lens_draw.specs.declared.putting.Layer.TheVariants as layers
 use Rattle.lens_draw.specs.declared.signs.Sign.{Sign, TheVariants.{Arrows, Backdrop, Heading, MarkKey, Shapes, Style, WayKey}}
-use Rattle.lens_picture.proofs.Plain.{note_plain}
-use Rattle.lens_picture.specs.{Clocks.{Clocks, clocks_in, gauge_of, spread_of}, Laws.shown, Plan.Plan, Sketching.{moment, plan_of}}
-use Rattle.lens_picture.specs.Elements.{bar_line, caption_line, element_line, gauge_line, opening_line, rail_line, spread_bar, tick_line}
-use Rattle.lens_picture.specs.{Elements.{way_line, window_line}, Windows.box_of, declared.window.Came.Came}
-use Rattle.lens_picture.specs.Layers.{on_lane, on_mark, opening_of}
-use Rattle.lens_picture.specs.Layout.{holds, pen_at}
-use Rattle.lens_picture.specs.Marking.{IsPlain, head_text, is_plain}
-use Rattle.lens_picture.specs.declared.element.Element.{Element, TheVariants.{Bar, Caption, Gauge, Opening, Rail, Spread, Tick, Way, Window}}
-use Rattle.lens_picture.specs.declared.layout.Span.{Span}
+use Rattle.lens_draw.proofs.svg_lemmas.Plain.{note_plain}
+use Rattle.lens_draw.specs.svg.{Clocks.{Clocks, clocks_in, gauge_of, spread_of}, Laws.shown, Plan.Plan, Sketching.{moment, plan_of}}
+use Rattle.lens_draw.specs.svg.Elements.{bar_line, caption_line, element_line, gauge_line, opening_line, rail_line, spread_bar, tick_line}
+use Rattle.lens_draw.specs.{svg.Elements.{way_line, window_line}, svg.Windows.box_of, declared.svg.window.Came.Came}
+use Rattle.lens_draw.specs.svg.Layers.{on_lane, on_mark, opening_of}
+use Rattle.lens_draw.specs.svg.Layout.{holds, pen_at}
+use Rattle.lens_draw.specs.svg.Marking.{IsPlain, head_text, is_plain}
+use Rattle.lens_draw.specs.declared.svg.element.Element.{Element, TheVariants.{Bar, Caption, Gauge, Opening, Rail, Spread, Tick, Way, Window}}
+use Rattle.lens_draw.specs.declared.svg.layout.Span.{Span}
 use Rattle.net_plan.specs.{Ranges.IsInRange, declared.network.Network.Network}
 use Rattle.report_text.proofs.Splits.{NonePasses, split_once}
 use Rattle.report_text.specs.{NoteLine.note_text, Ranges.{IsNoteInRange, IsNoteOf}}

@@ -5,13 +5,13 @@ use Rattle.std.specs.Prelude.{fold, take}
 use Rattle.lens_draw.proofs.{Falls.{never_fall}, Titles.{titles_are}}
 use Rattle.lens_draw.specs.Answer.{IsDrawAnswer}
 use Rattle.lens_draw.specs.Laws.{PicturesShowRuns, ShowsRun}
-use Rattle.lens_picture.proofs.Arrows.{arrows_are_causes}
-use Rattle.lens_picture.proofs.Order.{keeps_order}
-use Rattle.lens_picture.proofs.Painting.{lanes_are_states}
-use Rattle.lens_picture.specs.Laws.{NeverFall, NumbersFollow, grounds_after, painted_with, shown}
-use Rattle.lens_picture.specs.Layout.{holds, pen_at}
-use Rattle.lens_picture.specs.Sketching.{moment, plan_of}
-use Rattle.lens_picture.specs.declared.layout.Span.{Span}
+use Rattle.lens_draw.proofs.svg_lemmas.Arrows.{arrows_are_causes}
+use Rattle.lens_draw.proofs.svg_lemmas.Order.{keeps_order}
+use Rattle.lens_draw.proofs.svg_lemmas.Painting.{lanes_are_states}
+use Rattle.lens_draw.specs.svg.Laws.{NeverFall, NumbersFollow, grounds_after, painted_with, shown}
+use Rattle.lens_draw.specs.svg.Layout.{holds, pen_at}
+use Rattle.lens_draw.specs.svg.Sketching.{moment, plan_of}
+use Rattle.lens_draw.specs.declared.svg.layout.Span.{Span}
 use Rattle.net_plan.specs.declared.network.Network.{Network}
 use Rattle.run_law.specs.declared.note.Note.{Note}
 use Rattle.schedule_checker.specs.Refusals.{RefusalIsOne}

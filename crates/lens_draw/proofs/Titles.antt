@@ -2,12 +2,12 @@
 use Rattle.std.proofs.Common.{◌≡◌, Bool, true, false, List, [], ◌∷◌, refl}
 use Rattle.lens_draw.specs.Laws.{HaveTitles}
 use Rattle.lens_draw.specs.Picture.{mark_lines}
-use Rattle.lens_picture.specs.Laws.{shown}
-use Rattle.lens_picture.specs.Layout.{holds, moved}
-use Rattle.lens_picture.specs.Marking.{counted, sign_text}
-use Rattle.lens_picture.specs.Sketching.{moment}
-use Rattle.lens_picture.specs.declared.layout.Pen.{Pen}
-use Rattle.lens_picture.specs.declared.layout.Span.{Span}
+use Rattle.lens_draw.specs.svg.Laws.{shown}
+use Rattle.lens_draw.specs.svg.Layout.{holds, moved}
+use Rattle.lens_draw.specs.svg.Marking.{counted, sign_text}
+use Rattle.lens_draw.specs.svg.Sketching.{moment}
+use Rattle.lens_draw.specs.declared.svg.layout.Pen.{Pen}
+use Rattle.lens_draw.specs.declared.svg.layout.Span.{Span}
 use Rattle.net_plan.specs.declared.network.Network.{Network}
 use Rattle.run_law.specs.declared.note.Note.{Note}
 

@@ -1,12 +1,12 @@
 -- What `draw` answers for a report.
 use Rattle.std.specs.Prelude.{◌≡◌, ◌++◌, if◌then◌else◌, List}
 use Rattle.lens_draw.specs.Picture.{back_lines, front_lines, picture_lines}
-use Rattle.lens_picture.specs.Clocks.{Clocks}
-use Rattle.lens_picture.specs.Layout.{pen_at}
-use Rattle.lens_picture.specs.{Plan.Plan, declared.window.Came.Came}
-use Rattle.lens_picture.specs.Sketching.{fits, plan_of}
-use Rattle.lens_picture.specs.declared.layout.Pen.{Pen}
-use Rattle.lens_picture.specs.declared.layout.Span.{Span}
+use Rattle.lens_draw.specs.svg.Clocks.{Clocks}
+use Rattle.lens_draw.specs.svg.Layout.{pen_at}
+use Rattle.lens_draw.specs.{svg.Plan.Plan, declared.svg.window.Came.Came}
+use Rattle.lens_draw.specs.svg.Sketching.{fits, plan_of}
+use Rattle.lens_draw.specs.declared.svg.layout.Pen.{Pen}
+use Rattle.lens_draw.specs.declared.svg.layout.Span.{Span}
 use Rattle.net_plan.specs.declared.network.Network.{Network}
 use Rattle.run_law.specs.declared.note.Note.{Note}
 use Rattle.tte_forms.specs.Answering.{Answer}

@@ -1,8 +1,8 @@
 -- What holds of the clocks in the picture of a report.
 use Rattle.std.specs.Prelude.{◌≡◌, ℕ, ◌*◌, ◌/◌, ◌≤◌, false, List, Some}
-use Rattle.lens_picture.specs.Clocks.{Clocks, apart_of, clocks_in, ends_of, is_among, local_of, share}
-use Rattle.lens_picture.specs.declared.clock.{Ends.Ends, Told.Told}
-use Rattle.lens_picture.specs.declared.layout.Span.{Span}
+use Rattle.lens_draw.specs.svg.Clocks.{Clocks, apart_of, clocks_in, ends_of, is_among, local_of, share}
+use Rattle.lens_draw.specs.declared.svg.clock.{Ends.Ends, Told.Told}
+use Rattle.lens_draw.specs.declared.svg.layout.Span.{Span}
 use Rattle.net_plan.specs.declared.network.Network.{Network}
 use Rattle.run_law.specs.declared.note.Note.{Note}
 use Rattle.run_law.specs.{device.LocalClocks.local, law.Safety.IsInStep}

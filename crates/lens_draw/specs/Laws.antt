@@ -1,11 +1,11 @@
 -- What holds of the picture of a report.
 use Rattle.std.specs.Prelude.{◌≡◌, ℕ, true, List, [], ◌∷◌, ◌++◌, fold, length, take}
 use Rattle.lens_draw.specs.Picture.{mark_lines}
-use Rattle.lens_picture.specs.Laws.{AreApart, AreMarksOf, HasArrows, grounds_after, painted_with, shown}
-use Rattle.lens_picture.specs.Layout.{holds, pen_at}
-use Rattle.lens_picture.specs.Marking.{head_text}
-use Rattle.lens_picture.specs.Sketching.{fits, moment, plan_of}
-use Rattle.lens_picture.specs.declared.layout.Span.{Span}
+use Rattle.lens_draw.specs.svg.Laws.{AreApart, AreMarksOf, HasArrows, grounds_after, painted_with, shown}
+use Rattle.lens_draw.specs.svg.Layout.{holds, pen_at}
+use Rattle.lens_draw.specs.svg.Marking.{head_text}
+use Rattle.lens_draw.specs.svg.Sketching.{fits, moment, plan_of}
+use Rattle.lens_draw.specs.declared.svg.layout.Span.{Span}
 use Rattle.net_plan.specs.declared.network.Network.{Network}
 use Rattle.run_law.specs.declared.note.Note.{Note}
 use Rattle.tte_reports.specs.Reports.{IsReportOf}

@@ -1,3 +1,4 @@
+pub mod svg
 pub mod Putting
 pub mod Signs
 pub mod Picture
@@ -7,3 +8,4 @@ pub mod ClockLaws
 pub mod ReadingLaws
 pub mod Asking
 pub mod WindowLaws
+pub mod overview

@@ -6,25 +6,25 @@ use Rattle.lens_draw.specs.declared.putting.Layer.{Layer}
 use Rattle.lens_draw.specs.declared.putting.Layer.TheVariants.{Opening, Shared, Caption, Lanes, Marks, Gauges, Spread}
 use Rattle.lens_draw.specs.declared.putting.Layer.TheVariants.{Windows}
 use Rattle.lens_draw.specs.declared.putting.TheConstants.{LAYERS}
-use Rattle.lens_picture.specs.Clocks.{Clocks, clocks_in, gauge_of, spread_of}
-use Rattle.lens_picture.specs.Elements.{element_line}
-use Rattle.lens_picture.specs.Layers.{on_lane, on_mark, opening_of}
-use Rattle.lens_picture.specs.Layout.{holds, moved, pen_at}
-use Rattle.lens_picture.specs.Marking.{counted, mark_line}
-use Rattle.lens_picture.specs.Plan.{Plan}
-use Rattle.lens_picture.specs.Sketching.{moment, plan_of}
-use Rattle.lens_picture.specs.declared.element.Element.{Element}
-use Rattle.lens_picture.specs.declared.element.Element.TheVariants as elements
-use Rattle.lens_picture.specs.declared.layer.LaneLayer.{LaneLayer}
-use Rattle.lens_picture.specs.declared.layer.MarkLayer.{MarkLayer}
-use Rattle.lens_picture.specs.declared.layout.Pen.{Pen}
-use Rattle.lens_picture.specs.declared.layout.Span.{Span}
+use Rattle.lens_draw.specs.svg.Clocks.{Clocks, clocks_in, gauge_of, spread_of}
+use Rattle.lens_draw.specs.svg.Elements.{element_line}
+use Rattle.lens_draw.specs.svg.Layers.{on_lane, on_mark, opening_of}
+use Rattle.lens_draw.specs.svg.Layout.{holds, moved, pen_at}
+use Rattle.lens_draw.specs.svg.Marking.{counted, mark_line}
+use Rattle.lens_draw.specs.svg.Plan.{Plan}
+use Rattle.lens_draw.specs.svg.Sketching.{moment, plan_of}
+use Rattle.lens_draw.specs.declared.svg.element.Element.{Element}
+use Rattle.lens_draw.specs.declared.svg.element.Element.TheVariants as elements
+use Rattle.lens_draw.specs.declared.svg.layer.LaneLayer.{LaneLayer}
+use Rattle.lens_draw.specs.declared.svg.layer.MarkLayer.{MarkLayer}
+use Rattle.lens_draw.specs.declared.svg.layout.Pen.{Pen}
+use Rattle.lens_draw.specs.declared.svg.layout.Span.{Span}
 use Rattle.net_plan.specs.declared.network.Network.{Network}
 use Rattle.net_plan.specs.declared.ids.DeviceId.{DeviceId}
 use Rattle.run_law.specs.{declared.note.Note.Note, records.Happenings.happenings}
 use Rattle.tte_audit.specs.Report.{scenario_of}
-use Rattle.lens_past.specs.Pasts.{clock_at}
-use Rattle.lens_picture.specs.{Windows.{box_of, windows_in}, declared.window.Came.Came}
+use Rattle.lens_why.specs.past.Pasts.{clock_at}
+use Rattle.lens_draw.specs.{svg.Windows.{box_of, windows_in}, declared.svg.window.Came.Came}
 
 -- the line of something that is drawn, if there is anything
 abbrev pub some_line : Network → Option Element → List (List ℕ)

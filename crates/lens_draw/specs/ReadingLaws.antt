@@ -1,8 +1,8 @@
 -- What can be read from the picture of a report.
 use Rattle.std.specs.Prelude.{◌≡◌, ℕ, All, List, map}
 use Rattle.lens_draw.specs.Picture.{picture_lines}
-use Rattle.lens_picture.specs.{Laws.shown, Marking.IsPlain}
-use Rattle.lens_picture.specs.declared.layout.Span.{Span}
+use Rattle.lens_draw.specs.svg.{Laws.shown, Marking.IsPlain}
+use Rattle.lens_draw.specs.declared.svg.layout.Span.{Span}
 use Rattle.net_plan.specs.declared.network.Network.{Network}
 use Rattle.report_text.specs.NoteLine.{note_text}
 use Rattle.run_law.specs.declared.note.Note.{Note}

@@ -1,8 +1,8 @@
 -- What holds of the windows in the picture of a report.
 use Rattle.std.specs.Prelude.{ℕ, ℤ, ◌≡◌, ◌*◌, ◌/◌, ◌-ℤ◌, ◌≤ℤ◌, ◌≤◌, List, Option, Some, unsigned_abs}
 use Rattle.lens_draw.specs.Picture.{clocks_of}
-use Rattle.lens_picture.specs.{Sketching.plan_of, Windows.{came_of, window_by}}
-use Rattle.lens_picture.specs.declared.{layout.Span.Span, mark.{Look.TheVariants.Taken, Mark.Mark}, window.Came.Came}
+use Rattle.lens_draw.specs.svg.{Sketching.plan_of, Windows.{came_of, window_by}}
+use Rattle.lens_draw.specs.declared.svg.{layout.Span.Span, mark.{Look.TheVariants.Taken, Mark.Mark}, window.Came.Came}
 use Rattle.net_plan.specs.declared.{ids.{LinkId.LinkId, VlId.VlId}, network.Network.Network}
 use Rattle.run_law.specs.{declared.note.Note.Note, device.Standpoints.offset_in_cycle, records.Order.IsIn}
 use Rattle.schedule_tables.specs.{Rules.KeepsRules, declared.window.Window.Window}

@@ -1,10 +1,10 @@
 ghost use Rattle.std.specs.Prelude.{◌≡◌, ◌⊎◌, IfOk, List};
 ghost use Rattle.lens_draw.specs.Answer.{IsDrawAnswer, draw_answer, fitting_answer};
-ghost use Rattle.lens_picture.specs.declared.layout.Span.{Span as SpanValue};
+ghost use Rattle.lens_draw.specs.declared.svg.layout.Span.{Span as SpanValue};
 ghost use Rattle.lens_draw.specs.Picture.{windows_of};
-ghost use Rattle.lens_past.specs.Pasts.{IsSomeReport, ShowsAll};
-ghost use Rattle.lens_picture.specs.Clocks.{clocks_in};
-ghost use Rattle.lens_picture.specs.Sketching.{plan_of};
+ghost use Rattle.lens_why.specs.past.Pasts.{IsSomeReport, ShowsAll};
+ghost use Rattle.lens_draw.specs.svg.Clocks.{clocks_in};
+ghost use Rattle.lens_draw.specs.svg.Sketching.{plan_of};
 ghost use Rattle.net_plan.specs.Ranges.{IsInRange};
 ghost use Rattle.run_law.specs.declared.note.Note.{Note as NoteValue};
 ghost use Rattle.tte_audit.specs.Named.{IsNamed};
@@ -18,9 +18,9 @@ ghost use Rattle.tte_units.specs.declared.units.Units.{Units as UnitsValue};
 
 use crate::marks::put_back;
 use crate::putting::put_front;
+use crate::svg::{Came, Clocks, Sketch, Span};
 use crate::windows::windows_of;
-use lens_past::{KnownReport, read_known};
-use lens_picture::{Came, Clocks, Sketch, Span};
+use lens_why::past::{KnownReport, read_known};
 use net_plan::Network;
 use schedule_tables::Accepted;
 use std::alloc::Global;

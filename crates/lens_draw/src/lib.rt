@@ -4,8 +4,10 @@
 mod drawing;
 mod laws;
 mod marks;
+pub mod overview;
 mod putting;
 mod signs;
+pub mod svg;
 mod windows;
 
 pub use drawing::draw_report;

@@ -3,7 +3,7 @@ ghost use Rattle.std.specs.Prelude.{◌≡◌, ◌≤◌, List, MatchResult};
 ghost use Rattle.lens_draw.specs.Answer.{back_answer};
 ghost use Rattle.lens_draw.specs.Picture.{marks_of, pen_behind};
 ghost use Rattle.lens_draw.specs.Putting.{Draws};
-ghost use Rattle.lens_picture.specs.Layout.{pen_at, widest};
+ghost use Rattle.lens_draw.specs.svg.Layout.{pen_at, widest};
 ghost use Rattle.net_plan.specs.Ranges.{IsInRange};
 ghost use Rattle.report_text.specs.Ranges.{IsNoteInRange, IsNoteOf};
 ghost use Rattle.run_law.specs.declared.note.Note.{Note as NoteValue};
@@ -15,7 +15,7 @@ ghost use Rattle.tte_reports.specs.Answer.{IsAuditStatus};
 ghost use Rattle.tte_reports.specs.Reports.{AreLeft};
 
 use crate::signs::CLOSE;
-use lens_picture::{Pen, Span, make_mark_line};
+use crate::svg::{Pen, Span, make_mark_line};
 use net_plan::Network;
 use run_law::Note;
 use tte_forms::{Status, put_last};

@@ -4,13 +4,13 @@ ghost use Rattle.lens_draw.specs.Picture.{front_lines, gauges_lines, lanes_lines
 ghost use Rattle.lens_draw.specs.Picture.{windows_lines};
 ghost use Rattle.lens_draw.specs.Signs.{sign_line};
 ghost use Rattle.lens_draw.specs.Putting.{Draws};
-ghost use Rattle.lens_picture.specs.Elements.{HasNames};
+ghost use Rattle.lens_draw.specs.svg.Elements.{HasNames};
 ghost use Rattle.net_plan.specs.Ranges.{IsInRange};
 ghost use Rattle.tte_forms.specs.Faults.{PutFailed};
 ghost use Rattle.tte_forms.specs.Putting.{Over};
 
 use crate::signs::Sign;
-use lens_picture::{
+use crate::svg::{
     Came, Clocks, Element, LaneLayer, MarkLayer, Pen, Sketch, gauge_of, make_element_line, on_lane,
     on_mark, opening_of, spread_of,
 };

@@ -1,14 +1,14 @@
 //! Where in their windows the frames came that are taken in a part of a run.
 ghost use Rattle.std.specs.Prelude.{◌≡◌, All, IfOk, List};
-ghost use Rattle.audit_events.specs.Readings.{scenario_under};
+ghost use Rattle.audit_devices.specs.events.Readings.{scenario_under};
 ghost use Rattle.lens_draw.specs.Asking.{IsAskable};
-ghost use Rattle.lens_past.specs.Pasts.{IsPast, IsSomePast, clock_at};
-ghost use Rattle.lens_picture.specs.Windows.{came_of, windows_in};
+ghost use Rattle.lens_why.specs.past.Pasts.{IsPast, IsSomePast, clock_at};
+ghost use Rattle.lens_draw.specs.svg.Windows.{came_of, windows_in};
 ghost use Rattle.net_plan.specs.{Ranges.IsInRange, declared.event.Event.Event};
 ghost use Rattle.run_law.specs.records.Happenings.{Happening};
 
-use lens_past::Past;
-use lens_picture::{Came, Look, Mark, Sketch, came_of};
+use crate::svg::{Came, Look, Mark, Sketch, came_of};
+use lens_why::past::Past;
 use net_plan::Network;
 use std::alloc::Global;
 use tte_io::OutOfMemory;

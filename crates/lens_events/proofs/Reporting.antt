@@ -11,7 +11,7 @@ use Rattle.tte_forms.specs.{Answering.Answer, declared.status.Status.TheVariants
 use Rattle.tte_io.{proofs.FirstLine.{behind_line-append, first_line-append}, specs.Line.{behind_line, first_line, lf, line_limit}}
 use Rattle.tte_storms.proofs.{Drawn.{all_ended, none_ended}, Existing.{IsStormy, storm_behind}}
 use Rattle.tte_traces.{proofs.Answers.trace_answer_one, specs.{Answer.{IsRunAnswer, report_lines}, Lines.{AreAdmitted, behind_lines}}}
-use Rattle.world_exact.specs.Records.{AreAllRecords, HaveEnded}
+use Rattle.world_drive.specs.exact.Records.{AreAllRecords, HaveEnded}
 use Rattle.lens_events.{proofs.{EventTexts.event_unbroken, Ranged.storm_ranged, ShortTexts.event_short}, specs.Answer.event_lines}
 use Rattle.lens_events.specs.Laws.{EventsAnswersExist, StormReport}
 

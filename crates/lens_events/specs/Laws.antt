@@ -5,12 +5,12 @@ use Rattle.report_text.specs.NoteLine.{report_of}
 use Rattle.run_law.specs.declared.note.Note.{Note}
 use Rattle.schedule_tables.specs.Rules.{KeepsRules}
 use Rattle.storm.specs.Events.{IsStorm}
-use Rattle.storm_summary.specs.{Counting.counts_of, Lines.summary_lines}
+use Rattle.tte_storms.specs.summary.{Counting.counts_of, Lines.summary_lines}
 use Rattle.tte_forms.specs.{Answering.Answer, declared.status.Status.TheVariants.Done}
 use Rattle.tte_storms.specs.{Answer.{IsStormAnswer, IsWidest}, Laws.FitsFrames}
 use Rattle.tte_traces.specs.Answer.{IsRunAnswer}
 use Rattle.tte_units.specs.declared.units.Units.{Units}
-use Rattle.world_exact.specs.Records.{AreAllRecords}
+use Rattle.world_drive.specs.exact.Records.{AreAllRecords}
 use Rattle.lens_events.specs.Answer.{IsEventsAnswer}
 
 -- the report and the summary are of one run, that of the network under the events of the storm, up to its end: the

@@ -2,13 +2,13 @@
 use Rattle.std.proofs.Common.{◌≡◌, ℕ, List, [], ◌∷◌, map, inl, inr, refl, ap, sym, subst, ◌∙◌}
 use Rattle.std.proofs.lemmas.Option.{slice_get_within}
 use Rattle.std.specs.Prelude.{All}
-use Rattle.audit_events.specs.Readings.{scenario_under}
-use Rattle.flow_counts.specs.{Deliveries.deliveries_of, FlowLists.AreFlows, Told.AreToldOf}
-use Rattle.flow_counts.specs.declared.deliveries.Delivery.{Delivery}
-use Rattle.flow_counts.specs.declared.told.FlowTold.{FlowTold}
-use Rattle.flow_judge.proofs.Rows.{receiver_there}
-use Rattle.flow_judge.specs.Flows.{IsFlow}
-use Rattle.flow_judge.specs.declared.flow.Flow.{Flow}
+use Rattle.audit_devices.specs.events.Readings.{scenario_under}
+use Rattle.lens_flows.specs.counts.{Deliveries.deliveries_of, FlowLists.AreFlows, Told.AreToldOf}
+use Rattle.lens_flows.specs.declared.counts.deliveries.Delivery.{Delivery}
+use Rattle.lens_flows.specs.declared.counts.told.FlowTold.{FlowTold}
+use Rattle.lens_flows.proofs.judge_lemmas.Rows.{receiver_there}
+use Rattle.lens_flows.specs.judge.Flows.{IsFlow}
+use Rattle.lens_flows.specs.declared.judge.flow.Flow.{Flow}
 use Rattle.lens_flows.proofs.Missing.{missing_none}
 use Rattle.lens_flows.specs.Answer.{AreAllTold, IsFlowsAnswer, told_answer}
 use Rattle.lens_flows.specs.Writing.{IsWritable}

@@ -1,3 +1,5 @@
+pub mod judge_lemmas
+pub mod counts_lemmas
 pub mod Missing
 pub mod AllTold
 pub mod Listed

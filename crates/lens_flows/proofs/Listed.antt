@@ -1,6 +1,6 @@
 -- The line of the next flow.
 use Rattle.std.proofs.{Common.{◌++◌, ◌+◌, ◌<◌, ◌∷◌, ◌≡◌, List, [], drop, get_or, length, take, ℕ}, lemmas.List.{drop_more, take_more}}
-use Rattle.flow_counts.specs.declared.told.FlowTold.{FlowTold}
+use Rattle.lens_flows.specs.declared.counts.told.FlowTold.{FlowTold}
 use Rattle.lens_flows.specs.Lines.{flow_line}
 use Rattle.net_plan.specs.declared.network.Network.{Network}
 

@@ -1,10 +1,10 @@
 -- Nothing that is owed is missing.
 use Rattle.std.proofs.Common.{◌≡◌, ◌<◌, ℕ, List, [], ◌∷◌, inl, refl}
-use Rattle.audit_events.specs.Readings.{scenario_under}
-use Rattle.flow_counts.proofs.Orders.{all_none}
-use Rattle.flow_counts.specs.Ordered.{AreTimes, IsCountOf}
-use Rattle.flow_counts.specs.declared.told.FlowTold.{FlowTold}
-use Rattle.flow_judge.specs.declared.flow.Flow.{Flow}
+use Rattle.audit_devices.specs.events.Readings.{scenario_under}
+use Rattle.lens_flows.proofs.counts_lemmas.Orders.{all_none}
+use Rattle.lens_flows.specs.counts.Ordered.{AreTimes, IsCountOf}
+use Rattle.lens_flows.specs.declared.counts.told.FlowTold.{FlowTold}
+use Rattle.lens_flows.specs.declared.judge.flow.Flow.{Flow}
 use Rattle.lens_flows.specs.Answer.{IsMissing, IsMissingAt}
 use Rattle.lens_flows.specs.Laws.{NoneIsMissing}
 use Rattle.net_plan.specs.declared.network.Network.{Network}

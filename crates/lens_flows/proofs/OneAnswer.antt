@@ -1,9 +1,9 @@
 -- The answer for a report is one.
 use Rattle.std.proofs.Common.{◌≡◌, ℕ, List, [], ◌∷◌, map, inl, inr, refl, sym, ap, subst, ◌∙◌}
-use Rattle.audit_events.specs.Readings.{scenario_under}
-use Rattle.flow_counts.proofs.OneTold.{all_told_one, count_one, flows_one}
-use Rattle.flow_counts.specs.Deliveries.{deliveries_of}
-use Rattle.flow_counts.specs.declared.told.FlowTold.{FlowTold}
+use Rattle.audit_devices.specs.events.Readings.{scenario_under}
+use Rattle.lens_flows.proofs.counts_lemmas.OneTold.{all_told_one, count_one, flows_one}
+use Rattle.lens_flows.specs.counts.Deliveries.{deliveries_of}
+use Rattle.lens_flows.specs.declared.counts.told.FlowTold.{FlowTold}
 use Rattle.lens_flows.specs.Answer.{IsFlowsAnswer, IsMissingAt}
 use Rattle.lens_flows.specs.Lines.{flow_line}
 use Rattle.net_plan.specs.declared.network.Network.{Network}

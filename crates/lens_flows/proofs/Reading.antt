@@ -4,11 +4,11 @@ use Rattle.std.proofs.lemmas.List.{append-nil, length-append}
 use Rattle.std.proofs.lemmas.List.Elements.{All-head}
 use Rattle.std.specs.List.{concat}
 use Rattle.std.specs.Prelude.{All, Option, Some, filter_map}
-use Rattle.audit_events.specs.Remembering.{Remembers}
-use Rattle.flow_counts.specs.Deliveries.{deliveries_of, delivery_by}
-use Rattle.flow_counts.specs.Seen.{HasSeen}
-use Rattle.flow_counts.specs.declared.deliveries.Delivery.{Delivery}
-use Rattle.flow_counts.specs.declared.seen.Seen.{Seen}
+use Rattle.audit_devices.specs.events.Remembering.{Remembers}
+use Rattle.lens_flows.specs.counts.Deliveries.{deliveries_of, delivery_by}
+use Rattle.lens_flows.specs.counts.Seen.{HasSeen}
+use Rattle.lens_flows.specs.declared.counts.deliveries.Delivery.{Delivery}
+use Rattle.lens_flows.specs.declared.counts.seen.Seen.{Seen}
 use Rattle.lens_flows.specs.Seeing.{IsReadBy, IsSeenSoFar}
 use Rattle.net_plan.specs.declared.network.Network.{Network}
 use Rattle.report_text.specs.NoteLine.{note_line, note_text, report_of}

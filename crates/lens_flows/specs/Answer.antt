@@ -1,10 +1,10 @@
 -- What `flows` answers for the records of a report.
 use Rattle.std.specs.Prelude.{◌≡◌, ℕ, List, All, map}
-use Rattle.audit_events.specs.Readings.{scenario_under}
-use Rattle.flow_counts.specs.{Deliveries.deliveries_of, FlowLists.AreFlows, Ordered.IsCountOf, Told.IsTold}
-use Rattle.flow_counts.specs.declared.told.FlowTold.{FlowTold}
-use Rattle.flow_judge.specs.Fates.{IsOwedFrom}
-use Rattle.flow_judge.specs.declared.flow.Flow.{Flow}
+use Rattle.audit_devices.specs.events.Readings.{scenario_under}
+use Rattle.lens_flows.specs.counts.{Deliveries.deliveries_of, FlowLists.AreFlows, Ordered.IsCountOf, Told.IsTold}
+use Rattle.lens_flows.specs.declared.counts.told.FlowTold.{FlowTold}
+use Rattle.lens_flows.specs.judge.Fates.{IsOwedFrom}
+use Rattle.lens_flows.specs.declared.judge.flow.Flow.{Flow}
 use Rattle.lens_flows.specs.Lines.{flow_line}
 use Rattle.net_plan.specs.declared.{ids.LinkId.LinkId, network.Network.Network}
 use Rattle.run_law.specs.declared.note.Note.{Note}

@@ -1,6 +1,6 @@
 -- What holds of the answer.
 use Rattle.std.specs.Prelude.{◌≡◌, ℕ, List}
-use Rattle.flow_counts.specs.declared.told.FlowTold.{FlowTold}
+use Rattle.lens_flows.specs.declared.counts.told.FlowTold.{FlowTold}
 use Rattle.lens_flows.specs.Answer.{IsFlowsAnswer}
 use Rattle.net_plan.specs.declared.network.Network.{Network}
 use Rattle.run_law.specs.declared.note.Note.{Note}

@@ -1,3 +1,5 @@
+pub mod judge
+pub mod counts
 pub mod Lines
 pub mod Answer
 pub mod Writing

@@ -5,8 +5,9 @@
 --
 -- Behind `nearest` stands `none` where no frame is delivered within its window.
 use Rattle.std.specs.Prelude.{ℕ, List, ◌++◌, codes, decimal, Option, Some, None}
-use Rattle.flow_counts.specs.declared.{counting.FateCounts.FateCounts, nearest.Nearest.Nearest, told.FlowTold.FlowTold}
-use Rattle.flow_judge.specs.declared.flow.Flow.{Flow}
+use Rattle.lens_flows.specs.declared.counts.{counting.FateCounts.FateCounts, nearest.Nearest.Nearest}
+use Rattle.lens_flows.specs.declared.counts.{told.FlowTold.FlowTold}
+use Rattle.lens_flows.specs.declared.judge.flow.Flow.{Flow}
 use Rattle.net_plan.specs.Belonging.{device_name, vl_name}
 use Rattle.net_plan.specs.declared.network.Network.{Network}
 

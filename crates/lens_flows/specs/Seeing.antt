@@ -1,8 +1,8 @@
 -- What was read of a report.
 use Rattle.std.specs.Prelude.{◌≡◌, ◌++◌, List, ℕ}
-use Rattle.audit_events.specs.Remembering.{Remembers}
-use Rattle.flow_counts.specs.Seen.{HasSeen}
-use Rattle.flow_counts.specs.declared.seen.Seen.{Seen}
+use Rattle.audit_devices.specs.events.Remembering.{Remembers}
+use Rattle.lens_flows.specs.counts.Seen.{HasSeen}
+use Rattle.lens_flows.specs.declared.counts.seen.Seen.{Seen}
 use Rattle.net_plan.specs.declared.network.Network.{Network}
 use Rattle.run_law.specs.declared.note.Note.{Note}
 use Rattle.tte_audit.specs.{Report.events_of, declared.passes.ReportEvents.ReportEvents}

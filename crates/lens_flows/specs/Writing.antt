@@ -1,5 +1,5 @@
 -- Which flows have a line: those that name what the network has.
-use Rattle.flow_counts.specs.declared.told.FlowTold.{FlowTold}
+use Rattle.lens_flows.specs.declared.counts.told.FlowTold.{FlowTold}
 use Rattle.net_plan.specs.Belonging.{HasDevice, HasVl}
 use Rattle.net_plan.specs.declared.network.Network.{Network}
 

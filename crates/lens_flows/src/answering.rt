@@ -8,9 +8,9 @@ ghost use Rattle.tte_forms.specs.networks.Accepting.{IsNetworkAnswer};
 ghost use Rattle.tte_reports.specs.{Answer.IsAuditStatus, Reports.{IsReportAnswer, IsReportOf}};
 ghost use Rattle.tte_units.specs.declared.units.Units.{Units as UnitsValue};
 
+use crate::counts::FlowTold;
 use crate::lines::make_flow_line;
 use crate::seeing::flows_told;
-use flow_counts::FlowTold;
 use net_plan::Network;
 use schedule_tables::Accepted;
 use std::alloc::Global;

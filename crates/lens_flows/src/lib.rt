@@ -2,6 +2,8 @@
 #![tactic(auto)]
 
 mod answering;
+pub mod counts;
+pub mod judge;
 mod laws;
 mod lines;
 mod seeing;

@@ -6,8 +6,8 @@ ghost use Rattle.lens_flows.specs.Lines.{unowed_words};
 ghost use Rattle.lens_flows.specs.Writing.{IsWritable};
 ghost use Rattle.net_plan.specs.{Belonging.{HasDevice, HasVl}, Ranges.IsInRange};
 
-use flow_counts::{FateCounts, FlowTold, Nearest};
-use flow_judge::Flow;
+use crate::counts::{FateCounts, FlowTold, Nearest};
+use crate::judge::Flow;
 use net_plan::Network;
 use tte_io::LineText;
 

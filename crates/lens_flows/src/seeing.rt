@@ -1,7 +1,7 @@
 //! What the records of a report show of the flows.
 
 ghost use Rattle.std.specs.Prelude.{◌≡◌, IfOk, List};
-ghost use Rattle.flow_counts.specs.Seen.{HasSeen};
+ghost use Rattle.lens_flows.specs.counts.Seen.{HasSeen};
 ghost use Rattle.lens_flows.specs.Answer.{AreAllTold};
 ghost use Rattle.lens_flows.specs.Seeing.{IsSomeReport, TellsEvents};
 ghost use Rattle.net_plan.specs.Ranges.{IsInRange};
@@ -10,9 +10,9 @@ ghost use Rattle.tte_audit.specs.{Named.IsNamed, Report.events_of};
 ghost use Rattle.tte_reports.specs.Reports.{IsReportOf};
 ghost use Rattle.tte_units.specs.declared.units.Units.{Units as UnitsValue};
 
-use audit_events::EventHistory;
-use flow_counts::{FlowTold, OutOfMemory, Seen, flows_of, tell_all};
-use flow_judge::Course;
+use crate::counts::{FlowTold, OutOfMemory, Seen, flows_of, tell_all};
+use crate::judge::Course;
+use audit_devices::events::EventHistory;
 use net_plan::Network;
 use schedule_tables::Accepted;
 use std::alloc::Global;

@@ -2,7 +2,7 @@
 use Rattle.std.proofs.Common.{◌++◌, ◌+◌, ◌<◌, ◌∙◌, ◌∷◌, ◌≡◌, Bool, List, None, Option, Some, [], ap, arith, false, inl, inr, refl, subst, suc, sym, true, zero}
 use Rattle.std.proofs.{Common.ℕ, lemmas.{Bool.{cases_lt, eq-eqb, eqb-true, le-ltb, lt-ltb}, List.Sums.{sum_by-append, sum_by-cons}}}
 use Rattle.std.specs.Prelude.{if◌then◌else◌, ◌==◌, cond}
-use Rattle.lens_forms.specs.Forms.{IsInequality}
+use Rattle.lens_slack.specs.forms.Forms.{IsInequality}
 use Rattle.net_plan.{proofs.Shape.rules_give_trees, specs.{Paths.IsTree, declared.network.Network.Network}}
 use Rattle.schedule_checker.{proofs.Trees.tree_of, specs.Judging.plan_rule}
 use Rattle.schedule_tables.specs.{Rules.{IsKept, IsKeptAt, KeepsBelow, KeepsRules}, declared.rule.Rule.Rule}

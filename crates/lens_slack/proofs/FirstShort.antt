@@ -2,7 +2,7 @@
 use Rattle.std.proofs.Common.{◌++◌, ◌+◌, ◌<◌, ◌∙◌, ◌∷◌, ◌≡◌, ◌≤◌, ◌⊎◌, List, None, Option, Some, [], ap, arith, inl, inr, refl, subst, suc, sym, zero, ℕ}
 use Rattle.std.proofs.lemmas.{Bool.cases_lt, List.{append_assoc, Elements.{All-append, All-cons, All-nil}}}
 use Rattle.std.specs.List.{All}
-use Rattle.lens_forms.specs.Forms.{IsInequality}
+use Rattle.lens_slack.specs.forms.Forms.{IsInequality}
 use Rattle.net_plan.specs.{Paths.IsTree, declared.network.Network.Network}
 use Rattle.schedule_checker.specs.{Judging.plan_rule, declared.parts.PlanRule.PlanRule}
 use Rattle.schedule_tables.specs.{Numbers.number_of, declared.rule.Rule.Rule}

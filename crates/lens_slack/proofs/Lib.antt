@@ -1,3 +1,4 @@
+pub mod forms_lemmas
 pub mod Deciding
 pub mod Keeping
 pub mod Numbered
@@ -14,3 +15,4 @@ pub mod Refusing
 pub mod OneSlack
 pub mod Named
 pub mod Listed
+pub mod least_lemmas

@@ -1,7 +1,7 @@
 -- The first measure that is short is of the rule that `check` refuses, and its first spot is at the place that is told.
 use Rattle.std.{proofs.{Common.{List, refl, ◌*◌, ◌+◌, ◌<◌, ◌∙◌, ◌≡◌, ◌≤◌, ◌⊎◌, Some, ap, arith, inl, inr, subst, sym, ℕ}, lemmas.Bool.cases_lt}}
 use Rattle.std.{specs.Prelude.◌/◌}
-use Rattle.lens_forms.specs.Forms.{IsInequality}
+use Rattle.lens_slack.specs.forms.Forms.{IsInequality}
 use Rattle.net_plan.{proofs.Shape.rules_give_trees, specs.{Paths.IsTree, declared.network.Network.Network}}
 use Rattle.pcf_values.specs.declared.channel.Channel.TheVariants.{A, B}
 use Rattle.schedule_checker.proofs.{OneRefusal.same_rule, Trees.tree_of}

@@ -1,6 +1,6 @@
 -- What `slack` has to do with the rules and with `check`.
 use Rattle.std.specs.{List.All, Prelude.{◌++◌, ◌<◌, ◌↔◌, ◌∷◌, ◌≡◌, List, ℕ}}
-use Rattle.lens_forms.specs.Forms.{IsInequality}
+use Rattle.lens_slack.specs.forms.Forms.{IsInequality}
 use Rattle.net_plan.specs.{Ranges.IsInRange, declared.network.Network.Network}
 use Rattle.schedule_tables.specs.Rules.{IsFirstBroken, IsKept, IsKeptAt, KeepsRules}
 use Rattle.schedule_tables.specs.declared.rule.Rule.{Rule}

@@ -1,3 +1,4 @@
+pub mod forms
 pub mod Bounds
 pub mod Tightest
 pub mod Keeping
@@ -9,3 +10,4 @@ pub mod Finds
 pub mod Answer
 pub mod Taking
 pub mod Laws
+pub mod least

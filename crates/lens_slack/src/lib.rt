@@ -2,7 +2,9 @@
 #![tactic(auto)]
 
 mod bounds;
+pub mod forms;
 mod laws;
+pub mod least;
 mod lines;
 mod measuring;
 mod slacking;

@@ -1,5 +1,5 @@
 ghost use Rattle.std.specs.Prelude.{◌≡◌, ◌≢◌, All, List};
-ghost use Rattle.lens_forms.specs.Forms.{IsInequality};
+ghost use Rattle.lens_slack.specs.forms.Forms.{IsInequality};
 ghost use Rattle.net_plan.specs.Ranges.{IsInRange};
 ghost use Rattle.tte_forms.specs.Answering.{AnswersOne, Gives, GivesAnswer};
 ghost use Rattle.tte_forms.specs.{Faults.{HasCause, IsWanted, PutFailed, ReadFailed}, Putting.Over};

@@ -7,7 +7,7 @@ use Rattle.audit_devices.specs.{Keeping.records_before, Showing.IsAfter}
 use Rattle.audit_law.{proofs.Correcting.time_before, specs.CorrectionNumbers.{standing_at}}
 use Rattle.audit_law.specs.DueRecords as audits
 use Rattle.audit_sweep.proofs.{HeardBefore.rank_below, HeardPoints.unchanged_before}
-use Rattle.lens_past.specs.Pasts.{before_corrections}
+use Rattle.lens_why.specs.past.Pasts.{before_corrections}
 use Rattle.membership.proofs.{OneSummary.one_summary, SummaryLemmas.{hears_on_a, hears_on_b, hears_outside, silence_summarizes}}
 use Rattle.membership.specs.{BestFrame.{IsBehind, IsBetterOf}, Hearing.Hearing, Members.count_of, Summary.{Summarizes, Summary, best_on}}
 use Rattle.membership.specs.declared.frame.HeardFrame.{HeardFrame}

@@ -5,7 +5,7 @@ use Rattle.std.specs.{List.{after_last, last_or}, Option.option_map_or, Prelude.
 use Rattle.audit_devices.specs.Keeping.{records_before}
 use Rattle.audit_law.specs.{CorrectionNumbers.{heard_since_point, points_come}, CorrectionPoints.IsPointOf}
 use Rattle.run_law.specs.device.LocalClocks.{changes_adjustment}
-use Rattle.lens_past.specs.Pasts.{before_corrections}
+use Rattle.lens_why.specs.past.Pasts.{before_corrections}
 use Rattle.membership.specs.{BestFrame.{IsBest, IsBestOf}, Hearing.{Hearing, within_on}, Members.count_of, Summary.{Summary, best_on}}
 use Rattle.membership.specs.declared.frame.HeardFrame.{HeardFrame}
 use Rattle.net_plan.specs.declared.{ids.DeviceId.DeviceId, network.Network.Network}

@@ -3,7 +3,7 @@ use Rattle.std.proofs.Common.{◌++◌, ◌∙◌, ◌∷◌, ◌≡◌, ◌≤�
 use Rattle.std.proofs.lemmas.{List.{Elements.filter_map-append, Sums.fold_push, append-nil}}
 use Rattle.std.specs.{List.{AllByRecursion, after_last, cons_option, last_or}, Prelude.{filter_map, fold, option_map}}
 use Rattle.audit_devices.specs.{Effects.carried_by, Keeping.records_before, declared.effect.Carried.Carried}
-use Rattle.audit_collections.proofs.Stepping.{AreBefore, are-ignored, are-joined, are-opened}
+use Rattle.audit_devices.proofs.collections_lemmas.Stepping.{AreBefore, are-ignored, are-joined, are-opened}
 use Rattle.compression.proofs.{Elements.{Ordered, Ordered-from}, Rows.last_split, Sound.open_at-some, Standing.AreClusters-unique, Taking.role_in-joined}
 use Rattle.compression.specs.{Clusters.{AreClusters, Cluster, Point}, Collection.{joined, opening}, Role.{open_at, role}}
 use Rattle.compression.specs.declared.taken.Taken.{Taken, TheVariants.{Joined, Opened, OtherCycle, Repeat}}

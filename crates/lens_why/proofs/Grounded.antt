@@ -1,6 +1,6 @@
 -- The ground of a record, by what the record says.
 use Rattle.std.proofs.Common.{◌∙◌, ◌≡◌, List, Option, Some, ap, subst, sym, ℕ, ℤ}
-use Rattle.lens_past.specs.{Pasts.{IsSomePast, IsSomeReport, ShowsAll}, declared.reading.KnownReport.KnownReport}
+use Rattle.lens_why.specs.{past.Pasts.{IsSomePast, IsSomeReport, ShowsAll}, declared.past.reading.KnownReport.KnownReport}
 use Rattle.net_plan.specs.declared.{ids.DeviceId.DeviceId, network.Network.Network}
 use Rattle.run_law.proofs.law.FirstPlaces.{number_is}
 use Rattle.run_law.specs.{declared.note.{Note.Note, NoteBody.NoteBody}, records.Happenings.{Happening, happenings, numbered, time_of}}

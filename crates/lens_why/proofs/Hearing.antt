@@ -2,7 +2,7 @@
 use Rattle.std.proofs.Common.{if◌then◌else◌, ◌+ℤ◌, ◌-ℤ◌, ◌∙◌, ◌≡◌, Bool, List, Option, ap, arith, false, sym, true, ℕ, ℤ}
 use Rattle.std.proofs.lemmas.Int.{ints}
 use Rattle.audit_devices.specs.{Effects.carried_by, Keeping.records_before, declared.effect.Carried.Carried}
-use Rattle.lens_past.specs.{Pasts.permanence_place, declared.past.Permanence.Permanence}
+use Rattle.lens_why.specs.{past.Pasts.permanence_place, declared.past.past.Permanence.Permanence}
 use Rattle.net_plan.specs.declared.{ids.DeviceId.DeviceId}
 use Rattle.run_law.specs.declared.{judgement.Judgement.Judgement, note.{Note.Note, NoteBody.NoteBody}}
 use Rattle.run_law.specs.{device.States.{adjustment_at_hearing, cycle_in}, records.Happenings.{Happening}}

@@ -1,3 +1,4 @@
+pub mod past_lemmas
 pub mod Pieces
 pub mod Comings
 pub mod Chains

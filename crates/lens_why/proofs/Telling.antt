@@ -9,7 +9,7 @@ use Rattle.tte_forms.specs.{Putting.{PutFails, PutsLines, Shown}, declared.statu
 use Rattle.tte_reports.{proofs.Reports.{one_end, one_notes}, specs.Reports.IsReportOf}
 use Rattle.tte_traces.proofs.Given.{PutFails-more}
 use Rattle.tte_units.specs.declared.units.Units.{Units}
-use Rattle.lens_past.{proofs.Following.timely_in, specs.Pasts.IsTimely}
+use Rattle.lens_why.{proofs.past_lemmas.Following.timely_in, specs.past.Pasts.IsTimely}
 use Rattle.lens_why.proofs.{Chains.{Along, along_both, along_more, along_there, none_at_zero, whole_of}, Comings.{IsNoneOrThere, comes_from_earlier}}
 use Rattle.lens_why.{proofs.Notes.{founded_of, happening_at, none_there, note_in, note_numbered, number_of}, specs.Answer.{IsWhyAnswer, chain_answer}}
 use Rattle.lens_why.specs.{Grounds.ground_of, Lines.{chain_lines, record_lines, told_lines}, Records.{ComesFrom, IsRecordOf, note_at}}

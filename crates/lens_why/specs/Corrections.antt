@@ -5,7 +5,7 @@ use Rattle.std.specs.Prelude.{nat_le, nat_lt, option_and_then, option_map, true,
 use Rattle.audit_devices.specs.Keeping.{records_before}
 use Rattle.audit_law.specs.CorrectionNumbers.{heard_since_point}
 use Rattle.clock_correction.specs.Deviation.{deviation_of}
-use Rattle.lens_past.specs.Pasts.{before_corrections}
+use Rattle.lens_why.specs.past.Pasts.{before_corrections}
 use Rattle.membership.specs.{Hearing.Hearing, Members.{count_of, union}, Summary.{Summary, best_on, silence}}
 use Rattle.membership.specs.declared.frame.HeardFrame.{HeardFrame}
 use Rattle.net_plan.specs.declared.{ids.DeviceId.DeviceId, network.Network.Network}

@@ -1,3 +1,4 @@
+pub mod past
 pub mod Chain
 pub mod Seeking
 pub mod Corrections

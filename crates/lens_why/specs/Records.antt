@@ -1,7 +1,7 @@
 -- The records of a report by their numbers.
 use Rattle.std.specs.Prelude.{◌≡◌, List, MatchResult, None, Option, Result, Some, length, option_map, slice_get, suc}
 use Rattle.std.specs.Prelude.{zero, ℕ}
-use Rattle.lens_past.specs.declared.past.Permanence.{Permanence}
+use Rattle.lens_why.specs.declared.past.past.Permanence.{Permanence}
 use Rattle.net_plan.specs.declared.{ids.DeviceId.DeviceId, network.Network.Network}
 use Rattle.run_law.specs.declared.{judgement.{Judgement.Judgement, Why.Why}, note.{Note.Note, NoteBody.NoteBody}}
 use Rattle.run_law.specs.records.Causes.{cause_of}

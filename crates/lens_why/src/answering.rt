@@ -7,13 +7,13 @@ ghost use Rattle.tte_forms.specs.{Faults.{HasCause, IsWanted, PutFailed, ReadFai
 ghost use Rattle.tte_forms.specs.networks.Accepting.{IsNetworkAnswer};
 ghost use Rattle.tte_reports.specs.Reports.{IsReportAnswer, IsReportOf};
 ghost use Rattle.tte_units.specs.declared.units.Units.{Units as UnitsValue};
-ghost use Rattle.lens_past.specs.Pasts.{IsSomeReport, ShowsAll};
+ghost use Rattle.lens_why.specs.past.Pasts.{IsSomeReport, ShowsAll};
 ghost use Rattle.lens_why.specs.{Answer.{IsWhyAnswer, IsWhyStatus}, Records.IsRecordOf};
 
 use crate::causes::{giving, record_at};
 use crate::ground::ground_of;
 use crate::lines::{make_refused_line, put_record};
-use lens_past::{KnownReport, read_known};
+use crate::past::{KnownReport, read_known};
 use net_plan::Network;
 use run_law::Note;
 use schedule_tables::Accepted;

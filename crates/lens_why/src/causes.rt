@@ -5,7 +5,7 @@ ghost use Rattle.run_law.specs.{declared.note.Note.Note as NoteValue, records.Ca
 ghost use Rattle.tte_audit.specs.Named.{IsNamed};
 ghost use Rattle.tte_reports.specs.Reports.{IsReportOf};
 ghost use Rattle.tte_units.specs.declared.units.Units.{Units as UnitsValue};
-ghost use Rattle.lens_past.specs.Pasts.{IsSomeReport};
+ghost use Rattle.lens_why.specs.past.Pasts.{IsSomeReport};
 ghost use Rattle.lens_why.specs.Records.{IsFound, IsRecordOf, note_at};
 
 use net_plan::Network;

@@ -1,7 +1,7 @@
 //! What a correction of a device's clock comes from, or a state by a clique.
 ghost use Rattle.std.specs.Prelude.{◌^◌, ◌≡◌, ◌≤◌, List, option_and_then, true};
 ghost use Rattle.device_rules.specs.Widths.{IsWide};
-ghost use Rattle.lens_past.specs.Pasts.{IsSomeReport, ShowsAll};
+ghost use Rattle.lens_why.specs.past.Pasts.{IsSomeReport, ShowsAll};
 ghost use Rattle.net_plan.specs.{Belonging.HasDevice, Ranges.IsInRange};
 ghost use Rattle.run_law.specs.declared.{judgement.Why.Why, note.Note.Note as NoteValue};
 ghost use Rattle.run_law.specs.records.Happenings.{Happening, happenings};
@@ -12,9 +12,9 @@ ghost use Rattle.lens_why.specs.Corrections.{clique_ground, corrected_ground, is
 ghost use Rattle.lens_why.specs.Records.{IsCorrection, IsState, IsThere};
 
 use crate::ground::{Best, Ground, Told, beyond, magnitude};
+use crate::past::KnownReport;
 use crate::seeking::{Sought, last_before};
 use device_rules::joined_adjustment;
-use lens_past::KnownReport;
 use membership::{Heard, HeardFrame, count};
 use net_plan::{DeviceId, Network};
 use pcf_values::Channel;

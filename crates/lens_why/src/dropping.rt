@@ -2,9 +2,9 @@
 ghost use Rattle.std.specs.Option.{option_map_or};
 ghost use Rattle.std.specs.Prelude.{◌&&◌, ◌*◌, ◌+ℤ◌, ◌+◌, ◌<◌, ◌^◌, ◌≡◌, ◌≤◌, IfSome, List, Some, length, pos};
 ghost use Rattle.std.specs.Prelude.{position};
-ghost use Rattle.audit_events.specs.Readings.{scenario_under};
+ghost use Rattle.audit_devices.specs.events.Readings.{scenario_under};
 ghost use Rattle.device_rules.specs.Widths.{IsLocal};
-ghost use Rattle.lens_past.specs.Pasts.{IsPast, IsSomePast, IsSomeReport, ShowsAll};
+ghost use Rattle.lens_why.specs.past.Pasts.{IsPast, IsSomePast, IsSomeReport, ShowsAll};
 ghost use Rattle.net_plan.specs.{Belonging.HasDevice, Ranges.IsInRange, declared.event.Event.Event};
 ghost use Rattle.net_plan.specs.declared.network.Network.{Network as NetworkValue};
 ghost use Rattle.run_law.specs.declared.note.Note.{Note as NoteValue};
@@ -20,9 +20,9 @@ ghost use Rattle.lens_why.specs.Grounds.{length_ground, repeat_ground, unknown_g
 ghost use Rattle.lens_why.specs.Records.{IsThere};
 
 use crate::ground::{Ground, magnitude, place_in_cycle, position_at};
+use crate::past::{KnownReport, Past};
 use crate::seeking::{Coming, Sought, last_before};
 use device_rules::{is_relay, way_to};
-use lens_past::{KnownReport, Past};
 use net_plan::{DeviceId, LinkId, Network, Row, RowId, Way};
 use run_law::Reason;
 use schedule_tables::{Entry, entry_of, window_of};

@@ -1,9 +1,9 @@
 ghost use Rattle.std.specs.Prelude.{◌*◌, ◌+ℤ◌, ◌+◌, ◌-ℤ◌, ◌-◌, ◌<◌, ◌^◌, ◌≡◌, ◌≤◌, IfSome, List, None, Option, Some};
 ghost use Rattle.std.specs.Prelude.{length};
 ghost use Rattle.std.specs.Prelude.{option_map};
-ghost use Rattle.audit_events.specs.Readings.{scenario_under};
+ghost use Rattle.audit_devices.specs.events.Readings.{scenario_under};
 ghost use Rattle.device_rules.specs.Widths.{IsWide};
-ghost use Rattle.lens_past.specs.Pasts.{IsPast, IsSomePast, IsSomeReport, IsTimely, ShowsAll};
+ghost use Rattle.lens_why.specs.past.Pasts.{IsPast, IsSomePast, IsSomeReport, IsTimely, ShowsAll};
 ghost use Rattle.net_plan.specs.{Belonging.HasDevice, Ranges.IsInRange, declared.event.Event.Event};
 ghost use Rattle.run_law.specs.declared.{judgement.Judgement.Judgement as JudgementValue, note.Note.Note as NoteValue};
 ghost use Rattle.run_law.specs.records.Happenings.{Happening, numbered};
@@ -23,9 +23,9 @@ ghost use Rattle.lens_why.specs.Records.{ComesFrom, IsPermanence, IsState, IsThe
 use crate::collecting::{Collection, collected, sent_for};
 use crate::correcting::{clique, corrected};
 use crate::dropping::{Passage, dropped};
+use crate::past::{KnownReport, Past, Permanence};
 use crate::seeking::{Sought, last_before};
 use device_rules::{is_parent_of, joined_adjustment};
-use lens_past::{KnownReport, Past, Permanence};
 use net_plan::{DeviceId, LinkId, Network, RowId, VlId, Way};
 use pcf_values::Members;
 use run_law::{Judgement, Note, NoteBody, Why};

@@ -9,6 +9,7 @@ mod dropping;
 mod ground;
 mod laws;
 mod lines;
+pub mod past;
 mod seeking;
 
 pub use answering::why_record;

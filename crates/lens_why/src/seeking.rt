@@ -1,7 +1,7 @@
 //! The last record before another one by which something came about.
 ghost use Rattle.std.specs.Prelude.{if◌then◌else◌, ◌≡◌, List, Some, option_map, true};
 ghost use Rattle.audit_devices.specs.Effects.{carried_by};
-ghost use Rattle.lens_past.specs.Pasts.{IsPast, IsSomeReport, ShowsAll};
+ghost use Rattle.lens_why.specs.past.Pasts.{IsPast, IsSomeReport, ShowsAll};
 ghost use Rattle.net_plan.specs.declared.{event.Event.Event as EventValue, network.Network.Network as NetworkValue};
 ghost use Rattle.run_law.specs.control.Corrections.{heard_by, hearing_by};
 ghost use Rattle.run_law.specs.{declared.note.Note.Note as NoteValue, scenario.Devices.{channel_of, channel_of_link}};
@@ -16,8 +16,8 @@ ghost use Rattle.run_law.specs.timed.Receptions.{comes_before, is_taken_before};
 ghost use Rattle.lens_why.specs.Seeking.{is_channel, is_frame, is_hearing_of, is_sought, last_sought, opens, turns};
 
 use crate::ground::magnitude;
+use crate::past::{KnownReport, Past};
 use audit_devices::Carried;
-use lens_past::{KnownReport, Past};
 use membership::HeardFrame;
 use net_plan::{DeviceId, LinkId, Network, VlId, Way, What};
 use pcf_values::Channel;

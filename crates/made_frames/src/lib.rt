@@ -3,6 +3,7 @@
 
 mod control;
 mod timed;
+pub mod traced;
 
 pub use control::{dispatched_frame, integration_frame, member_of};
 pub use timed::MadeFrame;

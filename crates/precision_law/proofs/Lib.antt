@@ -11,3 +11,4 @@ pub mod block
 pub mod emission
 pub mod verdict
 pub mod law
+pub mod falls_lemmas

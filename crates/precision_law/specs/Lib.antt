@@ -18,3 +18,4 @@ pub mod SoundEmissions
 pub mod Dispatches
 pub mod IdealClocks
 pub mod Joined
+pub mod falls

@@ -1,6 +1,7 @@
 //! How near to one another the clocks of a network stay, in each run within the fault hypothesis.
 #![tactic(auto)]
 
+pub mod falls;
 mod laws;
 
 pub use laws::{

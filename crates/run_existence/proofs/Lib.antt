@@ -3,3 +3,4 @@ pub mod Times
 pub mod bounds
 pub mod decisions
 pub mod Existence
+pub mod worked_lemmas

@@ -6,5 +6,6 @@
 #![tactic(auto)]
 
 mod laws;
+pub mod worked;
 
 pub use laws::{runs_exist, runs_exist_to_each_mark};

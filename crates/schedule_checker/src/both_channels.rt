@@ -3,7 +3,8 @@ ghost use Rattle.std.specs.Prelude.{◌<◌, ◌↔◌, IfSome, IsSomeAnd, IsTru
 ghost use Rattle.net_plan.specs.Ranges.{IsInRange};
 ghost use Rattle.schedule_tables.specs.{Entries.AreEntries, Schedule.{EntersOn, GoesByBothChannels, LeavesOn}};
 ghost use Rattle.schedule_checker.specs.Groups.{AreGroups, AreKin};
-ghost use Rattle.schedule_checker.specs.Routes.{EntersAlike, EntersAllAlike, EntersEndSystem, IsEntering, IsEnteringEnd};
+ghost use Rattle.schedule_checker.specs.Routes.{EntersAlike, EntersAllAlike, EntersEndSystem, IsEntering};
+ghost use Rattle.schedule_checker.specs.Routes.{IsEnteringEnd};
 ghost use Rattle.schedule_checker.specs.Routes.{IsLeaving, LeavesOnBoth, TargetIsAlike};
 
 use crate::groups::Groups;

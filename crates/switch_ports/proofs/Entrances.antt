@@ -5,9 +5,12 @@ use Rattle.switch_ports.proofs.Words.{refl, slice_get, subst, sym, take, true, �
 use Rattle.std.proofs.{Common.{cond, if◌then◌else◌, inl, inr, ⊎_elim}, lemmas.{Bool.{and_parts, eq-eqb, false≢true}, Cmp.ranked, List.Elements.All-take}}
 use Rattle.std.specs.{BTreeMap.{BTreeMap, Updates, get}, Ordering.{is_eq, nat_cmp}, Prelude.{IsSome, find}}
 use Rattle.net_plan.proofs.{SameIds.same_link, TableFacts.id_by}
-use Rattle.run_law.{proofs.timed.Rows.{entry_at, has_entry}, specs.{machines.Calls.IsLinkAt, scenario.{Devices.is_parent_of, Ways.{is_way, is_way_of, way_to}}, timed.Arrivals.{entry_entering, entry_of, is_row_with}}}
-use Rattle.tte_lemmas.proofs.{Lists.{find_new, find_of, find_skips}, Naturals.{cmp_equal, cmp_same, eqb_same}, Options.{at_known, no_entry, opened, some_or_none}}
-use Rattle.switch_ports.specs.{Intakes.{HaveEntries, comes_to, entering_by, entrance_of, first_entering, is_target, is_way_in}, declared.intake.Entrance.Entrance}
+use Rattle.run_law.proofs.timed.Rows.{entry_at, has_entry}
+use Rattle.run_law.specs.{machines.Calls.IsLinkAt, scenario.{Devices.is_parent_of, Ways.{is_way, is_way_of, way_to}}, timed.Arrivals.{entry_entering, entry_of, is_row_with}}
+use Rattle.tte_lemmas.proofs.{Lists.{find_new, find_of, find_skips}, Naturals.{cmp_equal, cmp_same, eqb_same}}
+use Rattle.tte_lemmas.proofs.Options.{at_known, no_entry, opened, some_or_none}
+use Rattle.switch_ports.specs.Intakes.{HaveEntries, comes_to, entering_by, entrance_of, first_entering, is_target, is_way_in}
+use Rattle.switch_ports.specs.{declared.intake.Entrance.Entrance}
 use Rattle.std.specs.Option.{option_map_or}
 use Rattle.net_plan.specs.{Places.link_at, declared.tables.{Link.Link, Way.{Way, TheVariants.{Down, Up}}}}
 use Rattle.schedule_tables.specs.Entries.{target_by, target_of}

@@ -1,9 +1,11 @@
 -- Which time-triggered frames a switch takes.
-use Rattle.std.specs.{BTreeMap.{BTreeMap, get}, Int.int_div_euclid, List.All, Option.option_map_or, Ordering.{nat_cmp, ordering_then}}
+use Rattle.std.specs.{BTreeMap.{BTreeMap, get}, Int.int_div_euclid, List.All, Option.option_map_or}
+use Rattle.std.specs.Ordering.{nat_cmp, ordering_then}
 use Rattle.std.specs.Prelude.{◌%◌, ◌&&◌, ◌*◌, ◌<◌, ◌==◌, ◌^◌, ◌||◌, ◌∷◌, ◌≡◌, ◌≤◌, Bool, IfSome, IsSome, List, None}
 use Rattle.std.specs.Prelude.{Option, Some, [], false, find, int_lt, length, nat_le, not, option_and_then, option_map}
 use Rattle.std.specs.{Prelude.{slice_get, unwrap_or, ℕ, ℤ}, declared.cmp.Ordering.Ordering}
-use Rattle.net_plan.specs.{Places.link_at, declared.{ids.{DeviceId.DeviceId, VlId.VlId}, network.Network.Network, tables.Row.Row}}
+use Rattle.net_plan.specs.{Places.link_at}
+use Rattle.net_plan.specs.declared.{ids.{DeviceId.DeviceId, VlId.VlId}, network.Network.Network, tables.Row.Row}
 use Rattle.run_law.specs.declared.{judgement.Reason.Reason, steps.Arrival.Arrival}
 use Rattle.run_law.specs.{device.Standpoints.{first_reason, natural}, scenario.Ways.{is_way, is_way_of, way_to}}
 use Rattle.run_law.specs.timed.Arrivals.{entry_of, is_row_with, is_taken_in}

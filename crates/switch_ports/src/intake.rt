@@ -7,7 +7,8 @@ ghost use Rattle.run_law.specs.timed.Arrivals.{is_taken_in};
 ghost use Rattle.schedule_tables.specs.Entries.{IsEntry, IsEntryInRange};
 ghost use Rattle.tte_units.specs.Amount.{amount};
 ghost use Rattle.switch_ports.specs.Intakes.{AreEntrances, HaveEntries, IsCycleFit, IsTakenSo, IsWhole, Takes};
-ghost use Rattle.switch_ports.specs.Intakes.{comes_to, cycle_of, entering_by, entrance_cmp, entrance_of, fault_of, is_way_in};
+ghost use Rattle.switch_ports.specs.Intakes.{comes_to, cycle_of, entering_by, entrance_cmp, entrance_of, fault_of};
+ghost use Rattle.switch_ports.specs.Intakes.{is_way_in};
 ghost use Rattle.switch_ports.specs.{Intakes.{last_in, row_arrival}, Sites.IsSiteOf, Standpoints.IsSiteInRange};
 
 use crate::Site;

@@ -1,13 +1,7 @@
-//! Tests of audits: the reading of a record's line, and the answers over whole reports.
+//! Tests of audits, and of what they stand on.
 #![tactic(auto)]
 
 #[cfg(test)]
 mod audits;
 #[cfg(test)]
-mod records_read;
-#[cfg(test)]
-mod reports;
-#[cfg(test)]
-mod worked;
-#[cfg(test)]
-mod wrong_lines;
+mod judges;

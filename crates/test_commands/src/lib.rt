@@ -1,15 +1,11 @@
-//! Tests of the commands, over the whole program: what is no form, and what `show`, `audit` and `storm` answer.
+//! Tests of the commands of `tte` over one file, over the whole program.
 #![tactic(auto)]
 
 #[cfg(test)]
-mod auditing;
+mod captures;
 #[cfg(test)]
-mod cases;
+mod checks;
 #[cfg(test)]
-mod showing;
-#[cfg(test)]
-mod storming;
-#[cfg(test)]
-mod words;
+mod forms;
 #[cfg(test)]
 mod worked;

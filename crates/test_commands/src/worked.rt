@@ -69,3 +69,17 @@ pub(super) fn edited(
     assert!(rt; !back.contains(old), "twice: {old}");
     Ok(format!(in alloc; "{front}{new}{back}")?)
 }
+
+/// The text with these edits, one after another.
+pub(super) fn with_edits(
+    rt: &impl Abort,
+    alloc: Global,
+    text: &str,
+    edits: &[Edit<'_>],
+) -> Result<String, Fail> {
+    let mut text = String::from_str(alloc, text)?;
+    for (old, new) in edits {
+        text = edited(rt, alloc, text.as_str(), old, new)?;
+    }
+    Ok(text)
+}

@@ -1,11 +1,7 @@
-//! Tests of devices: the laws of runs, the rules, end systems and switches.
+//! Tests of devices: what keeps their common time, their rules, end systems and switches.
 #![tactic(auto)]
 
 #[cfg(test)]
-mod ends;
+mod clocks;
 #[cfg(test)]
-mod rules;
-#[cfg(test)]
-mod runs;
-#[cfg(test)]
-mod switches;
+mod devices;

@@ -1,22 +1,11 @@
-//! Tests of the program `lens`: what is no form, what rules leave and want of networks, the least numbers that they
-//! admit, chains of records, the events of storms, and the run over them.
+//! Tests of the program `lens`.
 #![tactic(auto)]
 
 #[cfg(test)]
-mod cases;
+mod flows;
 #[cfg(test)]
-mod chains;
+mod lenses;
 #[cfg(test)]
-mod eventful;
-#[cfg(test)]
-mod forms;
-#[cfg(test)]
-mod least;
-#[cfg(test)]
-mod slack;
-#[cfg(test)]
-mod summed;
-#[cfg(test)]
-mod traces;
+mod pictures;
 #[cfg(test)]
 mod worked;

@@ -1,17 +1,11 @@
-//! Tests of `run`, over the whole program: what a trace gives, the report of its run, and what cuts it short.
+//! Tests of the commands of `tte` that follow a run, over the whole program.
 #![tactic(auto)]
 
 #[cfg(test)]
-mod calm;
+mod runs;
 #[cfg(test)]
-mod cut_short;
-#[cfg(test)]
-mod running;
-#[cfg(test)]
-mod tracing;
+mod stamps;
 #[cfg(test)]
 mod votes;
-#[cfg(test)]
-mod wires;
 #[cfg(test)]
 mod worked;

@@ -1,13 +1,7 @@
-//! Tests of the lowest crates: units, values, the codec of control frames, and where octets come from and go.
+//! Tests of values, of their codec, and of networks: the plan, its file and its tables.
 #![tactic(auto)]
 
 #[cfg(test)]
-mod codec;
+mod networks;
 #[cfg(test)]
-mod edge;
-#[cfg(test)]
-mod frame_values;
-#[cfg(test)]
-mod octets;
-#[cfg(test)]
-mod units;
+mod values;

@@ -6,7 +6,7 @@ use std::process::Abort;
 use std::test::Fail;
 use sync_state::State;
 use tte_units::Units;
-use world_machines::{DeviceMachine, machines_of};
+use world_drive::machines::{DeviceMachine, machines_of};
 
 /// Four masters and two clients below one switch of each channel. The second client begins off.
 const NETWORK: &str = "version = 1

@@ -1,5 +1,5 @@
 use std::test::Fail;
-use world_queue::{Place, UnderWay};
+use world_state::queue::{Place, UnderWay};
 
 fn place(at: u64, rank: u8, device: u32, link: u32, cause: u64) -> Place {
     Place {

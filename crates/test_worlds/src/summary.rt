@@ -2,9 +2,9 @@ use net_plan::{DeviceId, LinkId, VlId};
 use pcf_values::Members;
 use run_law::{Judgement, Note, NoteBody, Reason, Why};
 use std::test::Fail;
-use storm_summary::{Counts, Drops, LINES, Summary, Tally};
 use sync_state::State;
 use tte_io::LineText;
+use tte_storms::summary::{Counts, Drops, LINES, Summary, Tally};
 use tte_units::Units;
 
 const DEVICE: DeviceId = DeviceId(3);

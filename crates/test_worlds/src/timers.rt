@@ -1,5 +1,5 @@
 use std::test::Fail;
-use world_timers::{Due, NEVER, Timers};
+use world_state::timers::{Due, NEVER, Timers};
 
 #[test]
 fn the_least_time_is_first(rt: HostRuntime) -> Result<(), Fail> {

@@ -5,3 +5,4 @@ pub mod spans
 pub mod faults
 pub mod ports
 pub mod delivery
+pub mod safety_lemmas

@@ -9,3 +9,4 @@ pub mod Coming
 pub mod Delivered
 pub mod Bringing
 pub mod Ports
+pub mod safety

@@ -3,5 +3,6 @@
 #![tactic(auto)]
 
 mod laws;
+pub mod safety;
 
 pub use laws::{owed_frames_come, ports_stay_apart, runs_are_safe};

@@ -1,5 +1,6 @@
 -- The events of a report are found before its records are read.
-use Rattle.tte_audit.proofs.Words.{◌++◌, ◌+◌, ◌∙◌, ◌∷◌, ◌≡◌, ◌≤◌, AreEventsRight, BeginsWithRecord, Follows, List, MayCome, Network, Note, [], ap, arith, events_of}
+use Rattle.tte_audit.proofs.Words.{◌++◌, ◌+◌, ◌∙◌, ◌∷◌, ◌≡◌, ◌≤◌, AreEventsRight, BeginsWithRecord, Follows, List, MayCome, Network, Note, [], ap, arith}
+use Rattle.tte_audit.proofs.Words.{events_of}
 use Rattle.tte_audit.proofs.Words.{Event, length, length-append, note_text, refl, subst, sym, with_event, ℕ}
 use Rattle.report_text.proofs.SameReports.{same_note}
 use Rattle.tte_audit.proofs.{EventsRead.{events_on, right_none, right_on}, Meet.apart_of, Parts.{line_of, one_text}}

@@ -1,6 +1,8 @@
 -- A report of which the events were found is swept line by line.
-use Rattle.tte_audit.proofs.Words.{◌++◌, ◌+◌, ◌∙◌, ◌∷◌, ◌≡◌, ◌≤◌, ◌⊎◌, AreEventsRight, BeginsWith, BeginsWithRecord, EndWith, Event, List, MayCome, Network, Note, NoteBody, Units}
-use Rattle.tte_audit.proofs.Words.{[], ap, append-nil, append_assoc, arith, events_of, happenings, inl, inr, length, length-append, refl, subst, sym, with_event, ℕ}
+use Rattle.tte_audit.proofs.Words.{◌++◌, ◌+◌, ◌∙◌, ◌∷◌, ◌≡◌, ◌≤◌, ◌⊎◌, AreEventsRight, BeginsWith, BeginsWithRecord, EndWith, Event, List, MayCome, Network}
+use Rattle.tte_audit.proofs.Words.{Note, NoteBody, Units}
+use Rattle.tte_audit.proofs.Words.{[], ap, append-nil, append_assoc, arith, events_of, happenings, inl, inr, length, length-append, refl, subst, sym}
+use Rattle.tte_audit.proofs.Words.{with_event, ℕ}
 use Rattle.audit_sweep.specs.{Judging.Befalls, Sweeping.IsSwept, declared.sweep.Sweep.Sweep}
 use Rattle.tte_audit.proofs.{EventsRead.{events_on, right_none, right_on}, Parts.{begins_more, begins_none}, Quiet.goes_by, Seeking.{one_end, one_record}}
 use Rattle.tte_audit.proofs.UnderWay.{befalls_there, swept_on}

@@ -2,7 +2,7 @@
 use Rattle.std.specs.Borrow.{Bor}
 use Rattle.std.specs.Prelude.{◌++◌, ◌+◌, ◌∷◌, ◌≡◌, ◌⊎◌, Err, IfOk, List, MatchOption, MatchResult, Ok, Result, []}
 use Rattle.std.specs.Prelude.{length, ℕ}
-use Rattle.audit_events.specs.Remembering.{Remembers}
+use Rattle.audit_devices.specs.events.Remembering.{Remembers}
 use Rattle.net_plan.specs.declared.network.Network.{Network}
 use Rattle.report_text.specs.Ranges.{IsNoteOf}
 use Rattle.run_law.specs.declared.note.Note.{Note}

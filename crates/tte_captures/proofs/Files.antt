@@ -1,7 +1,8 @@
 -- The answer of `capture` for a source.
 use Rattle.std.proofs.{Common.{◌<◌, ◌≡◌, ◌≤◌, Err, List, Ok, [], inl, inr, length, refl, subst, sym, ℕ}, lemmas.Bool.{cases_lt, le-ltb, lt-ltb}}
 use Rattle.std.specs.Prelude.{IfSome, Option}
-use Rattle.pcap_form.specs.{Layout.head_length, Reading.opened, declared.{capture.CaptureHead.CaptureHead, refusal.CaptureRefusal.TheVariants.Header}}
+use Rattle.tte_captures.specs.{pcap.Layout.head_length, pcap.Reading.opened}
+use Rattle.tte_captures.specs.declared.pcap.{capture.CaptureHead.CaptureHead, refusal.CaptureRefusal.TheVariants.Header}
 use Rattle.tte_forms.{proofs.{Octets.{for_read, for_too_many}, Puts.{Ends-gives, PutsLines-none}}, specs.Answering.{Answer, Answers, Ends, Gives}}
 use Rattle.tte_forms.specs.{Putting.Shown, declared.status.Status.{Status, TheVariants.TooLong}}
 use Rattle.tte_captures.specs.Answer.{capture_answer, capture_limit, opened_answer}

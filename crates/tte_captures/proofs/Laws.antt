@@ -2,9 +2,10 @@
 use Rattle.std.proofs.Common.{◌*◌, ◌++◌, ◌+◌, ◌-◌, ◌<◌, ◌∙◌, ◌∷◌, ◌≡◌, ◌≤◌, Bool, Err, List, Ok, [], ap, arith, false, inl, inr, length, refl, suc, true, zero}
 use Rattle.std.{proofs.{Common.ℕ, lemmas.{Bool.{and_parts, Decides.nat_tests}, List.append-nil}}, specs.Fmt.decimal}
 use Rattle.std.specs.Prelude.{◌==◌, None, Option, Result, Some, codes, nat_le}
-use Rattle.pcap_form.{proofs.{Heads.finds_head, Packets.{finds_packets, packet_stands}}, specs.Layout.{IsHead, IsPacket, head_length}}
-use Rattle.pcap_form.specs.{Reading.{opened, packet_at}, ReadingLaw.{HasHeadFault, HasPacketFault}, declared.capture.{CaptureHead.CaptureHead, Packet.Packet}}
-use Rattle.pcap_form.specs.declared.refusal.CaptureRefusal.{CaptureRefusal}
+use Rattle.tte_captures.{proofs.pcap_lemmas.{Heads.finds_head, Packets.{finds_packets, packet_stands}}, specs.pcap.Layout.{IsHead, IsPacket, head_length}}
+use Rattle.tte_captures.specs.{pcap.Reading.{opened, packet_at}, pcap.ReadingLaw.{HasHeadFault, HasPacketFault}}
+use Rattle.tte_captures.specs.declared.pcap.capture.{CaptureHead.CaptureHead, Packet.Packet}
+use Rattle.tte_captures.specs.declared.pcap.refusal.CaptureRefusal.{CaptureRefusal}
 use Rattle.pcf_codec.{proofs.Outcomes.is_spelling, specs.{Decoding.decoded, EtherType.{HasPcfType, pcf_type}, Fields.field}}
 use Rattle.pcf_codec.specs.declared.refusal.PcfRefusal.{PcfRefusal}
 use Rattle.pcf_values.specs.declared.pcf.Pcf.{Pcf}
@@ -14,7 +15,7 @@ use Rattle.tte_captures.proofs.{Files.capture_answer-fits, Packets.{answer_behin
 use Rattle.tte_captures.specs.Answer.{capture_answer, found_answer, opened_answer, packets_answer}
 use Rattle.tte_captures.specs.CaptureLine.{has_pcf_type, head_refusal_line, no_frame_words, packet_line, packet_refusal_line, words_of}
 use Rattle.tte_captures.specs.Law.{HasPackets, IsFile, IsJudged, ShowsOctets, ShowsPackets, StandFrom, packet_lines, refused_behind, whole_answer}
-use Rattle.pcap_form.specs.declared.refusal.CaptureRefusal.TheVariants as reasons
+use Rattle.tte_captures.specs.declared.pcap.refusal.CaptureRefusal.TheVariants as reasons
 
 -- ---- octets
 

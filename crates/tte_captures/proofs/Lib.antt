@@ -1,3 +1,5 @@
+pub mod pcap_lemmas
 pub mod Packets
 pub mod Files
 pub mod Laws
+pub mod wires_lemmas

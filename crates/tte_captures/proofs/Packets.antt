@@ -1,8 +1,8 @@
 -- The answer for the packets of a capture, packet by packet.
 use Rattle.std.proofs.Common.{◌++◌, ◌+◌, ◌-◌, ◌<◌, ◌∙◌, ◌∷◌, ◌≡◌, ◌≤◌, Err, List, Ok, Result, [], ap, append_assoc, arith, inl, inr, length, refl, subst, suc}
 use Rattle.std.{proofs.{Common.{sym, ℕ}, lemmas.List.append-nil}, specs.{Io.KnownBytes.Appends, Prelude.{None, Option, Some}}}
-use Rattle.pcap_form.specs.{Layout.{head_length, stamp_length}, Reading.packet_at, declared.capture.{CaptureHead.CaptureHead, Packet.Packet}}
-use Rattle.pcap_form.specs.declared.refusal.CaptureRefusal.{CaptureRefusal}
+use Rattle.tte_captures.specs.{pcap.Layout.{head_length, stamp_length}, pcap.Reading.packet_at, declared.pcap.capture.{CaptureHead.CaptureHead, Packet.Packet}}
+use Rattle.tte_captures.specs.declared.pcap.refusal.CaptureRefusal.{CaptureRefusal}
 use Rattle.tte_forms.proofs.{Puts.{Ends-gives, PutsLines-fails, PutsLines-more, PutsLines-none}, frames.Frames.{Gives-behind, behind}}
 use Rattle.tte_forms.specs.{Answering.{Answer, Ends, Gives, line_answer}, Putting.{PutsLines, Shown}, declared.status.Status.Status}
 use Rattle.tte_forms.specs.declared.status.Status.TheVariants.{CaptureRefused, Done, WriteFault}

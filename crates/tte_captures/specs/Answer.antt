@@ -1,8 +1,9 @@
 -- What `capture` answers for the octets of a file.
 use Rattle.std.specs.Prelude.{if◌then◌else◌, ◌+◌, Err, List, None, Ok, Option, Result, Some, [], length, nat_lt, suc}
 use Rattle.std.specs.Prelude.{zero, ℕ}
-use Rattle.pcap_form.specs.{Layout.head_length, Reading.{opened, packet_at}, declared.capture.CaptureHead.CaptureHead}
-use Rattle.pcap_form.specs.declared.{capture.Packet.Packet, refusal.CaptureRefusal.CaptureRefusal}
+use Rattle.tte_captures.specs.{pcap.Layout.head_length, pcap.Reading.{opened, packet_at}}
+use Rattle.tte_captures.specs.{declared.pcap.capture.CaptureHead.CaptureHead}
+use Rattle.tte_captures.specs.declared.pcap.{capture.Packet.Packet, refusal.CaptureRefusal.CaptureRefusal}
 use Rattle.tte_forms.specs.{Answering.{Answer, line_answer, with_line}, declared.status.Status.Status}
 use Rattle.tte_forms.specs.declared.status.Status.TheVariants.{AuditRefused, CaptureRefused, Done, FrameRefused}
 use Rattle.tte_forms.specs.declared.status.Status.TheVariants.{GranuleRefused, NameRefused, NetworkRefused}

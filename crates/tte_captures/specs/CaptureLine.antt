@@ -2,11 +2,11 @@
 use Rattle.std.specs.Fmt.{decimal}
 use Rattle.std.specs.Prelude.{if◌then◌else◌, ◌&&◌, ◌++◌, ◌==◌, Bool, Err, List, Ok, Result, codes, length, nat_le}
 use Rattle.std.specs.Prelude.{slice_range, ℕ}
-use Rattle.pcap_form.specs.declared.{capture.Packet.Packet, refusal.CaptureRefusal.CaptureRefusal}
+use Rattle.tte_captures.specs.declared.pcap.{capture.Packet.Packet, refusal.CaptureRefusal.CaptureRefusal}
 use Rattle.pcf_codec.specs.{Decoding.decoded, EtherType.pcf_type, Fields.field, declared.refusal.PcfRefusal.PcfRefusal}
 use Rattle.pcf_values.specs.declared.pcf.Pcf.{Pcf}
 use Rattle.tte_forms.specs.frames.FrameLine.{frame_words, refusal_text}
-use Rattle.pcap_form.specs.declared.refusal.CaptureRefusal.TheVariants as reasons
+use Rattle.tte_captures.specs.declared.pcap.refusal.CaptureRefusal.TheVariants as reasons
 
 -- whether octets count as a control frame: they reach to the EtherType, and it is that of one
 abbrev pub has_pcf_type : List ℕ → Bool

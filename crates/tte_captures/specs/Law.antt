@@ -1,9 +1,9 @@
 -- What the answer of `capture` has to do with the packets that stand in a file.
 use Rattle.std.specs.{Fmt.decimal, Prelude.{◌++◌, ◌+◌, ◌∷◌, ◌≡◌, ◌≤◌, ◌⊎◌, List, [], codes, length, ℕ}}
-use Rattle.pcap_form.specs.Layout.{IsHead, IsPacket, head_length}
-use Rattle.pcap_form.specs.ReadingLaw.{AreOctets, HasHeadFault, HasPacketFault}
-use Rattle.pcap_form.specs.declared.capture.{CaptureHead.CaptureHead, Packet.Packet}
-use Rattle.pcap_form.specs.declared.refusal.CaptureRefusal.{CaptureRefusal}
+use Rattle.tte_captures.specs.pcap.Layout.{IsHead, IsPacket, head_length}
+use Rattle.tte_captures.specs.pcap.ReadingLaw.{AreOctets, HasHeadFault, HasPacketFault}
+use Rattle.tte_captures.specs.declared.pcap.capture.{CaptureHead.CaptureHead, Packet.Packet}
+use Rattle.tte_captures.specs.declared.pcap.refusal.CaptureRefusal.{CaptureRefusal}
 use Rattle.pcf_codec.specs.{EtherType.HasPcfType, Faults.IsFirstFault, Spelling.Spells}
 use Rattle.pcf_codec.specs.declared.refusal.PcfRefusal.{PcfRefusal}
 use Rattle.pcf_values.specs.declared.pcf.Pcf.{Pcf}

@@ -3,7 +3,7 @@ ghost use Rattle.pcf_codec.specs.Decoding.{decoded};
 ghost use Rattle.tte_captures.specs.CaptureLine.{captured_octets, head_refusal_line, no_frame_words, octets_words};
 ghost use Rattle.tte_captures.specs.CaptureLine.{packet_line, packet_refusal_line, reason_text};
 
-use pcap_form::{CaptureRefusal, Packet};
+use crate::pcap::{CaptureRefusal, Packet};
 use pcf_codec::{PcfRefusal, decode, is_pcf};
 use tte_forms::{push_frame, push_refusal};
 use tte_io::LineText;

@@ -1,11 +1,11 @@
 ghost use Rattle.std.specs.Prelude.{◌≡◌, ◌≢◌, ◌≤◌, length};
-ghost use Rattle.pcap_form.specs.{Layout.head_length, Reading.opened};
+ghost use Rattle.tte_captures.specs.pcap.{Layout.head_length, Reading.opened};
 ghost use Rattle.tte_forms.specs.{Answering.{Answers, Gives}, Faults.{HasCause, PutFailed, ReadFailed}, Putting.Over};
 ghost use Rattle.tte_captures.specs.Answer.{IsCaptureStatus, capture_answer, capture_limit, opened_answer};
 ghost use Rattle.tte_captures.specs.{Answer.packets_answer, Law.{ShowsOctets, ShowsPackets}};
 
 use crate::capture_line::{make_head_refusal_line, make_packet_line, make_packet_refusal_line};
-use pcap_form::{CaptureHead, next_packet, open_capture};
+use crate::pcap::{CaptureHead, next_packet, open_capture};
 use std::alloc::Global;
 use tte_forms::{Status, end_with, put_last};
 use tte_io::{LineText, ReadAll, Sink, Source, read_all};

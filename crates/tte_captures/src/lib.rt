@@ -3,5 +3,7 @@
 
 mod capture_line;
 mod capturing;
+pub mod pcap;
+pub mod wires;
 
 pub use capturing::{capture_file, capture_law};

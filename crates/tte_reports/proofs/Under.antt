@@ -5,7 +5,7 @@ use Rattle.net_plan.specs.{Belonging.IsOfNetwork, declared.{event.{Event.Event, 
 use Rattle.net_plan.specs.declared.{network.Network.Network, tables.Way.Way}
 use Rattle.report_text.specs.Ranges.{IsBodyInRange, IsBodyOf, IsNoteInRange, IsNoteOf}
 use Rattle.run_law.specs.{declared.note.{Note.Note, NoteBody.NoteBody}, law.FirstLaws.IsEventInRange, records.Order.IsIn, runs.DueRecords.EndsAt}
-use Rattle.safe_runs.specs.Under.{IsUnder}
+use Rattle.traffic_law.specs.safety.Under.{IsUnder}
 use Rattle.schedule_tables.specs.Rules.{KeepsRules}
 use Rattle.trace_text.specs.Ranges.{IsTime, IsWhatInRange}
 use Rattle.tte_audit.{proofs.Clocked.{clocked, within}, specs.{Named.IsNamed, Report.{EndWith, IsOfEvents, event_by, events_of}}}

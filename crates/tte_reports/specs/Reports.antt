@@ -1,6 +1,6 @@
 -- The octets of a file as the report of a run, and what a command over a report answers.
 use Rattle.std.specs.{List.concat, Prelude.{◌<◌, ◌≡◌, ◌≤◌, ◌⊎◌, List, length, ℕ}}
-use Rattle.audit_events.specs.Readings.{clock_reading}
+use Rattle.audit_devices.specs.events.Readings.{clock_reading}
 use Rattle.net_plan.specs.{Ranges.IsInRange, declared.network.Network.Network}
 use Rattle.report_text.specs.{Laws.AreOfNetwork, NoteLine.report_of}
 use Rattle.run_law.specs.{declared.note.Note.Note, runs.DueRecords.IsRunOf}

@@ -4,7 +4,7 @@ use Rattle.drift_clock.specs.Segment.{fresh_segment, segment_reading, stepped_se
 use Rattle.net_plan.specs.declared.network.Network.{Network}
 use Rattle.report_text.specs.NoteLine.{report_of}
 use Rattle.run_law.specs.declared.note.Note.{Note}
-use Rattle.safe_runs.specs.Headline.{IsWholeRun}
+use Rattle.traffic_law.specs.safety.Headline.{IsWholeRun}
 use Rattle.tte_audit.specs.Report.{IsOfEvents, events_of}
 use Rattle.tte_forms.specs.{Answering.ForOctets, declared.status.Status.{Status, TheVariants.Done}}
 use Rattle.tte_forms.specs.networks.Accepting.{MeansAccepted}

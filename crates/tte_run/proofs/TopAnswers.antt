@@ -15,7 +15,7 @@ use Rattle.tte_storms.{proofs.OneAnswer.storm_one, specs.Answer.IsStormAnswer}
 use Rattle.tte_traces.proofs.{Answers.IsAllAdmitted, Completes.{run_one, run_whole}}
 use Rattle.tte_units.specs.declared.units.Units.{Units}
 use Rattle.tte_votes.{proofs.Completes.{vote_one, vote_whole}, specs.Answer.the_names}
-use Rattle.tte_wires.specs.Answer.{IsWireAnswer, IsWireNetworkAnswer}
+use Rattle.tte_captures.specs.wires.Answer.{IsWireAnswer, IsWireNetworkAnswer}
 use Rattle.tte_run.{proofs.WireAnswers.{wire_done, wire_one}, specs.{SecondFiles.{ForSecond, report_file, trace_file}, Top.{AnswerIsOne, IsFormAnswer}}}
 use Rattle.tte_run.specs.Whole.{Completes, MeansRun}
 

@@ -2,7 +2,7 @@
 use Rattle.std.proofs.Common.{◌∙◌, ◌≡◌, ◌≤◌, List, ap, arith, inl, inr, length, refl, subst, sym, ℕ}
 use Rattle.drift_world.specs.Running.{behind_events, last_time}
 use Rattle.net_plan.specs.{Bearers.link_names, declared.{event.Event.Event, ids.LinkId.LinkId, network.Network.Network, tables.Way.Way}}
-use Rattle.pcap_form.specs.Writing.{head_octets}
+use Rattle.tte_captures.specs.pcap.Writing.{head_octets}
 use Rattle.run_law.{proofs.runs.NetworkRuns.run_is_one, specs.declared.note.Note.Note}
 use Rattle.trace_text.proofs.Bearing.{place_found}
 use Rattle.tte_forms.{proofs.networks.Answers.accepted_alone, specs.{Answering.{Answer, with_line}, declared.status.Status.TheVariants.Done}}
@@ -11,9 +11,9 @@ use Rattle.tte_forms.specs.networks.NetworkLine.{file_reason, rule_reason}
 use Rattle.tte_traces.{proofs.{Admitted.stopped_one, Answers.whole_is, Faults.{end_has_no_fault, fault_one}}, specs.{Along.IsAllAdmitted, Answer.IsTraceAnswer}}
 use Rattle.tte_traces.specs.{FaultLine.fault_status, Lines.{AreAdmitted, behind_lines}, declared.fault.TraceFault.TraceFault}
 use Rattle.tte_units.specs.Amount.{amount}
-use Rattle.tte_wires.proofs.Fronts.{all_whole, either_stops}
-use Rattle.tte_wires.specs.Answer.{EndsEither, IsCapture, IsHeaded, IsNamed, IsWireAnswer, IsWireNetworkAnswer, silent_answer, way_lines}
-use Rattle.world_exact.specs.Records.{clock_reading}
+use Rattle.tte_captures.proofs.wires_lemmas.Fronts.{all_whole, either_stops}
+use Rattle.tte_captures.specs.wires.Answer.{EndsEither, IsCapture, IsHeaded, IsNamed, IsWireAnswer, IsWireNetworkAnswer, silent_answer, way_lines}
+use Rattle.world_drive.specs.exact.Records.{clock_reading}
 use Rattle.tte_run.specs.Whole.{MeansRun}
 
 -- ---- the packets of a way

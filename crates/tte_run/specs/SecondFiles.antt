@@ -6,7 +6,7 @@ use Rattle.tte_forms.specs.declared.status.Status.TheVariants.{GranuleRefused}
 use Rattle.tte_stamps.specs.Answer.{StampStops, StampTakesLittle}
 use Rattle.tte_traces.specs.Streaming.{RunStops, RunTakesLittle}
 use Rattle.tte_votes.specs.Streaming.{IsOfRun, VoteStops, VoteTakesLittle}
-use Rattle.tte_wires.specs.Streaming.{WireStops, WireTakesLittle}
+use Rattle.tte_captures.specs.wires.Streaming.{WireStops, WireTakesLittle}
 
 -- what the second file is, if there is one
 pub data Second : Type 0 where

@@ -11,7 +11,7 @@ use Rattle.tte_stamps.specs.{Answer.IsStampAnswer, Safely.StampsSafely}
 use Rattle.tte_storms.specs.{Answer.IsStormAnswer, Safely.SummarisesSafely}
 use Rattle.tte_traces.specs.{Answer.IsRunAnswer, Safely.WritesSafely}
 use Rattle.tte_votes.specs.{Answer.{IsVoteAnswer, the_names}, Safely.VotesSafely}
-use Rattle.tte_wires.specs.{Answer.{IsWireAnswer, IsWireNetworkAnswer}, Safely.WiresSafely}
+use Rattle.tte_captures.specs.wires.{Answer.{IsWireAnswer, IsWireNetworkAnswer}, Safely.WiresSafely}
 use Rattle.tte_run.specs.SecondFiles.{ForSecond, second_of}
 
 -- the line for words of no form

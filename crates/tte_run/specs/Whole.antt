@@ -1,10 +1,11 @@
 -- What input is valid for each form; it is answered to its end.
 use Rattle.std.specs.Prelude.{◌≡◌, ◌≤◌, IfSome, List, None, Option, Some, [], length, true, ℕ}
 use Rattle.net_plan.specs.declared.{event.Event.Event, ids.LinkId.LinkId, network.Network.Network}
-use Rattle.pcap_form.specs.{Layout.{IsHead, head_length}, declared.capture.{CaptureHead.CaptureHead, Packet.Packet}}
+use Rattle.tte_captures.specs.pcap.Layout.{IsHead, head_length}
+use Rattle.tte_captures.specs.declared.pcap.capture.{CaptureHead.CaptureHead, Packet.Packet}
 use Rattle.pcf_codec.specs.Sequence.{SpellsAll}
 use Rattle.pcf_values.specs.declared.pcf.Pcf.{Pcf}
-use Rattle.sparse_time.specs.Granules.{least_granule}
+use Rattle.tte_stamps.specs.granules.Granules.{least_granule}
 use Rattle.tte_audit.specs.Answers.{IsAudited}
 use Rattle.tte_captures.specs.Law.{IsFile, StandFrom}
 use Rattle.tte_forms.specs.{Answering.IsDone, declared.form.Form.Form}
@@ -14,9 +15,9 @@ use Rattle.tte_reports.specs.Answer.{report_limit}
 use Rattle.tte_traces.specs.Lines.{AreAdmitted, behind_lines}
 use Rattle.tte_units.specs.{Amount.amount, declared.units.Units.Units}
 use Rattle.tte_votes.specs.Answer.{AreNamed, MayThey, Names, the_names}
-use Rattle.tte_wires.specs.Answer.{IsNamed}
-use Rattle.vote_law.specs.declared.voters.Voters.{Voters}
-use Rattle.world_exact.specs.Records.{HaveEnded}
+use Rattle.tte_captures.specs.wires.Answer.{IsNamed}
+use Rattle.tte_votes.specs.declared.law.voters.Voters.{Voters}
+use Rattle.world_drive.specs.exact.Records.{HaveEnded}
 
 -- a file that spells a sequence is shown to its end
 abbrev pub ShowsWhole : List ℕ → Status → Type 0

@@ -10,13 +10,13 @@ use net_plan::beta_is_unique;
 use schedule_checker::refusal_is_one;
 use std::alloc::Global;
 use tte_captures::capture_file;
+use tte_captures::wires::wire_trace;
 use tte_forms::{Form, Status, Words, check_network, put_last, read_form, show};
 use tte_io::{Sink, Source};
 use tte_stamps::stamp_trace;
 use tte_storms::storm_run;
 use tte_traces::run_trace;
 use tte_votes::vote_trace;
-use tte_wires::wire_trace;
 
 const USAGE: &str =
     "usage: tte show FILE | check NETWORK | run NETWORK TRACE | storm NETWORK SEED CYCLES | \

@@ -6,7 +6,7 @@ use Rattle.drift_world.specs.Running.{behind_events}
 use Rattle.run_law.proofs.runs.NetworkRuns.{run_is_one}
 use Rattle.tte_traces.{proofs.Admitted.events_admitted, specs.Along.{IsShortAt, PutsAlong}}
 use Rattle.world_drive.specs.Observing.{Sees, Stops, Told}
-use Rattle.world_exact.specs.Records.{AreAllRecords}
+use Rattle.world_drive.specs.exact.Records.{AreAllRecords}
 use Rattle.tte_stamps.proofs.{Beginning.stamps_begin, Ordered.admitted_up_to_last, SameRecords.up_to_mark, Staying.stamps_stay}
 use Rattle.tte_stamps.specs.Stamping.{PutsStamps, StopsStamps}
 

@@ -3,7 +3,7 @@ use Rattle.tte_stamps.proofs.Words.{◌++◌, ◌+◌, ◌∙◌, ◌∷◌, ◌
 use Rattle.net_plan.specs.declared.event.What.{What}
 use Rattle.run_law.specs.declared.note.NoteBody.{NoteBody, TheVariants.Event as Befalls}
 use Rattle.world_drive.specs.Observing.{Befell}
-use Rattle.world_exact.specs.Worlds.{StandsExact}
+use Rattle.world_drive.specs.exact.Worlds.{StandsExact}
 use Rattle.tte_stamps.specs.Stamping.{MayStamp}
 
 same_line : (a b : ℕ) (what other : What) → ◌≡◌ {A = NoteBody} (Befalls a what) (Befalls b other) → a ≡ b

@@ -1,3 +1,4 @@
+pub mod granules_lemmas
 pub mod SameRecords
 pub mod SameStamps
 pub mod Staying

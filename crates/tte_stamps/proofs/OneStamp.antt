@@ -4,7 +4,7 @@ use Rattle.tte_stamps.proofs.Words.{PutsLines-none, Some, [], ap, append-nil, ap
 use Rattle.tte_stamps.proofs.Words.{length, line_at, lines_by_first, shown_as, stamp_line, stamp_of, subst, suc, sym, told_by, unsigned_abs, zero, ℕ, ℤ}
 use Rattle.std.{proofs.Common.length-append, specs.{Io.KnownBytes.Appends, Prelude.{option_map, option_to_list}}}
 use Rattle.drift_world.specs.Locals.{IsLocalClockBefore}
-use Rattle.sparse_time.{proofs.Stamped.of_locals, specs.{Lines.Line, Stamps.IsShownAt}}
+use Rattle.tte_stamps.{proofs.granules_lemmas.Stamped.of_locals, specs.granules.{Lines.Line, Stamps.IsShownAt}}
 use Rattle.tte_forms.{proofs.Puts.{PutFails-behind, PutsLines-append, PutsLines-fails, PutsLines-more}, specs.Putting.PutFails}
 use Rattle.tte_io.specs.{Faults.next_count, Told.AppendsFront, declared.ends.Sink.Ghosts}
 use Rattle.tte_traces.proofs.Given.{PutFails-more}

@@ -4,9 +4,9 @@ use Rattle.tte_stamps.proofs.Words.{append_assoc, arith, inl, inr, last_time, po
 use Rattle.std.{proofs.lemmas.List.Elements.All-contains, specs.List.All}
 use Rattle.run_law.{proofs.{records.Order.contains, runs.Places.{in_parts, in_right, parted}}, specs.law.FirstLaws.IsEventInRange}
 use Rattle.run_law.specs.scenario.Hypothesis.{AreWithinHypothesis}
-use Rattle.sparse_time.proofs.Traces.{behind_later}
+use Rattle.tte_stamps.proofs.granules_lemmas.Traces.{behind_later}
 use Rattle.tte_traces.proofs.EventOrder.{last_before, last_of, not_earlier}
-use Rattle.world_exact.proofs.Events.{last_is, last_or_none}
+use Rattle.world_drive.proofs.exact_lemmas.Events.{last_is, last_or_none}
 use Rattle.tte_stamps.proofs.Staying.{AreUpToLast, FollowOn, MayFollow}
 
 -- ---- of events within the hypothesis

@@ -4,7 +4,7 @@ use Rattle.tte_stamps.proofs.Words.{PutsLines, ReadFault, Shown, Status, Units, 
 use Rattle.tte_stamps.proofs.Words.{least_granule, refl, stamp_lines, subst, sym, ℕ}
 use Rattle.drift_clock.{proofs.ExactSegments.exact_laws, specs.Segment.{fresh_segment, segment_reading, stepped_segment}}
 use Rattle.net_plan.specs.Ranges.{IsInRange}
-use Rattle.safe_runs.proofs.Clocked.{ended, so_far}
+use Rattle.traffic_law.proofs.safety_lemmas.Clocked.{ended, so_far}
 use Rattle.tte_forms.proofs.{Octets.{for_all, for_more}, OneAnswers.{fails_given, one_of, some_given}, networks.Refused.{refusal_fails, refusal_some}}
 use Rattle.tte_forms.specs.{Answering.{ForOctets, Gives, GivesOne}, Putting.{PutsSo, PutsSome, WriteFails}, declared.accepting.NoNetwork.NoNetwork}
 use Rattle.tte_forms.specs.declared.status.Status.TheVariants.{AuditRefused, CaptureRefused, Done, FrameRefused, NameRefused, NetworkRefused, NumberRefused}
@@ -13,7 +13,7 @@ use Rattle.tte_forms.specs.networks.NoNetworks.{IsNoNetwork, no_network_answer}
 use Rattle.tte_traces.proofs.{Existing.trace_answers_exist, NoRun.{IsOfNoRun, given_none, none_long}}
 use Rattle.tte_traces.proofs.{Safely.{IsOfTrace, done_is, long_is, not_done, outside_is, refused_is, status_of}, Texts.{admitted_under, begins_run}}
 use Rattle.tte_traces.specs.{Answer.{AnswersAll, AnswersFault}, FaultLine.fault_status}
-use Rattle.world_exact.proofs.Clocks.{exact_begins}
+use Rattle.world_drive.proofs.exact_lemmas.Clocks.{exact_begins}
 use Rattle.tte_stamps.{proofs.{SameRecords.up_to_mark, Telling.stamps_tell}, specs.Answer.StampEnds}
 use Rattle.tte_stamps.specs.Safely.{IsSafeStamps, IsStampedRun, IsStampedToFault, PutsStampsSafely, StampsSafely}
 

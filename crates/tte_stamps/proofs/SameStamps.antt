@@ -5,7 +5,7 @@ use Rattle.tte_stamps.proofs.Words.{stamp_of, stamps_behind, suc, sym, zero, ℕ
 use Rattle.std.{proofs.Common.{if◌then◌else◌, ◌&&◌, ◌+ℤ◌, not}, specs.Prelude.{option_map, option_to_list}}
 use Rattle.run_law.specs.{device.States.{adjustment_after, is_synchronised, state_after}, records.Happenings.{Happening, earlier}}
 use Rattle.run_law.specs.scenario.Scenarios.{is_broken, is_turned_on_at}
-use Rattle.sparse_time.specs.{Lines.scenario_at, Stamps.stamp_at}
+use Rattle.tte_stamps.specs.granules.{Lines.scenario_at, Stamps.stamp_at}
 use Rattle.sync_state.specs.declared.state.State.TheVariants.{Integrating}
 use Rattle.tte_stamps.specs.StampLines.{lines_by}
 

@@ -7,7 +7,7 @@ use Rattle.run_law.proofs.{runs.Places.{in_left, in_right}, scenario.Devices.wit
 use Rattle.tte_forms.{proofs.Puts.{PutFails-behind, PutsLines-append}, specs.Putting.PutFails}
 use Rattle.tte_io.specs.declared.ends.Sink.{Ghosts}
 use Rattle.world_drive.{proofs.Earlier.records_none, specs.{Observing.{Befell, Told}, declared.observing.Cut.{Cut, TheVariants.{OutOfMemory, WriteFault}}}}
-use Rattle.world_exact.proofs.Events.{last_is, last_or_none}
+use Rattle.world_drive.proofs.exact_lemmas.Events.{last_is, last_or_none}
 use Rattle.tte_stamps.proofs.{Ordered.{begun, hypothesis_up_to_last}, SameRecords.up_to_mark, Staying.{AreUpToLast, MayFollow, stamps_stay}}
 use Rattle.tte_stamps.specs.Stamping.{PutsAll, PutsStamps, StopsStamps}
 

@@ -3,7 +3,7 @@ use Rattle.tte_stamps.proofs.Words.{◌++◌, ◌+◌, ◌∙◌, ◌∷◌, ◌
 use Rattle.tte_stamps.proofs.Words.{amount, ap, append-nil, clock_reading, happenings, last_time, length, stamp_lines, stamps_behind, subst, sym, ℕ}
 use Rattle.tte_traces.proofs.Lasting.{lasts_under}
 use Rattle.world_drive.proofs.Earlier.{no_further, so_far_at}
-use Rattle.world_exact.specs.Records.{HaveEnded}
+use Rattle.world_drive.specs.exact.Records.{HaveEnded}
 use Rattle.tte_stamps.proofs.{SameRecords.{IsUpTo, same_before, up_to_mark}, SameStamps.{AreSameAt, same_behind, stamps_parts}}
 
 -- no event is later than the last

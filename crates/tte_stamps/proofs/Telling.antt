@@ -4,10 +4,10 @@ use Rattle.tte_stamps.proofs.Words.{admitted_in_order, amount, ap, append-nil, a
 use Rattle.tte_stamps.proofs.Words.{line_at, refl, subst, suc, sym, ℕ}
 use Rattle.drift_clock.{proofs.ExactSegments.{exact_laws, exact_steps}, specs.Segment.{fresh_segment, segment_count, segment_reading, stepped_segment}}
 use Rattle.drift_world.proofs.Agreements.{reads_same}
-use Rattle.safe_runs.{proofs.Lawful.lawful, specs.Under.{IsUnder, scenario_of}}
-use Rattle.sparse_time.{proofs.Order.{agree, tell_order}, specs.{Laws.IsRunInGranules, Lines.IsLineOf}}
+use Rattle.traffic_law.{proofs.safety_lemmas.Lawful.lawful, specs.safety.Under.{IsUnder, scenario_of}}
+use Rattle.tte_stamps.{proofs.granules_lemmas.Order.{agree, tell_order}, specs.granules.{Laws.IsRunInGranules, Lines.IsLineOf}}
 use Rattle.tte_traces.proofs.EventOrder.{last_of, not_earlier}
-use Rattle.world_exact.proofs.Clocks.{exact_begins}
+use Rattle.world_drive.proofs.exact_lemmas.Clocks.{exact_begins}
 use Rattle.tte_stamps.{proofs.SameRecords.{IsUpTo, up_to_mark}, specs.Safely.StampsTell}
 
 -- up to a time a clock reads what it read before further events, which are not earlier

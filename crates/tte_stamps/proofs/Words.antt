@@ -8,7 +8,7 @@ pub use Rattle.net_plan.specs.declared.{event.Event.Event, ids.DeviceId.DeviceId
 pub use Rattle.run_law.specs.declared.note.Note.{Note}
 pub use Rattle.run_law.specs.records.{Happenings.happenings, Order.IsIn}
 pub use Rattle.run_law.specs.scenario.Scenarios.{Scenario}
-pub use Rattle.sparse_time.specs.Granules.{least_granule, stamp_of}
+pub use Rattle.tte_stamps.specs.granules.Granules.{least_granule, stamp_of}
 pub use Rattle.tte_forms.proofs.Puts.{PutsLines-none}
 pub use Rattle.tte_forms.specs.{Answering.Answer, Putting.{PutsLines, Shown}}
 pub use Rattle.tte_forms.specs.declared.status.Status.{Status, TheVariants.{GranuleRefused, ReadFault}}
@@ -18,6 +18,6 @@ pub use Rattle.tte_traces.specs.{Answer.IsTraceAnswer, Lines.AreAdmitted, Report
 pub use Rattle.tte_units.specs.Amount.{amount}
 pub use Rattle.tte_units.specs.declared.units.Units.{Units}
 pub use Rattle.world_drive.specs.Observing.{told_by}
-pub use Rattle.world_exact.specs.{Records.{AreRecordsBefore, AreRecordsSoFar, clock_reading}, Worlds.ExactWorld}
+pub use Rattle.world_drive.specs.exact.{Records.{AreRecordsBefore, AreRecordsSoFar, clock_reading}, Worlds.ExactWorld}
 pub use Rattle.tte_stamps.specs.Answer.{IsStampAnswer, granule_answer}
 pub use Rattle.tte_stamps.specs.{StampLines.{line_at, line_stamps, lines_by_first, stamp_line, stamp_lines, stamps_behind}, Stamping.IsAtLine}

@@ -1,7 +1,7 @@
 -- What `stamp` answers for the octets of a network file and of a trace, and a granule.
 use Rattle.std.specs.Prelude.{◌++◌, ◌<◌, ◌≡◌, ◌≢◌, ◌≤◌, ◌⊎◌, List, Option, codes, decimal, ℕ}
 use Rattle.net_plan.specs.declared.network.Network.{Network}
-use Rattle.sparse_time.specs.Granules.{least_granule}
+use Rattle.tte_stamps.specs.granules.Granules.{least_granule}
 use Rattle.tte_forms.specs.{Answering.{Answer, Gives, line_answer}, Putting.Shown, declared.status.Status.Status}
 use Rattle.tte_forms.specs.declared.status.Status.TheVariants.{AuditRefused, CaptureRefused, Done, FrameRefused}
 use Rattle.tte_forms.specs.declared.status.Status.TheVariants.{GranuleRefused, NameRefused, NetworkRefused}

@@ -1,3 +1,4 @@
+pub mod granules
 pub mod StampLines
 pub mod Answer
 pub mod Safely

@@ -4,8 +4,8 @@ use Rattle.drift_clock.specs.Segment.{fresh_segment, segment_reading, stepped_se
 use Rattle.drift_world.specs.Running.{last_time}
 use Rattle.net_plan.specs.declared.{event.Event.Event, ids.DeviceId.DeviceId, network.Network.Network}
 use Rattle.run_law.specs.declared.note.Note.{Note}
-use Rattle.safe_runs.specs.Headline.{IsRunBefore, IsWholeRun}
-use Rattle.sparse_time.specs.Stamps.{stamp_at}
+use Rattle.traffic_law.specs.safety.Headline.{IsRunBefore, IsWholeRun}
+use Rattle.tte_stamps.specs.granules.Stamps.{stamp_at}
 use Rattle.tte_forms.specs.{Answering.ForOctets, Putting.{PutsLines, PutsSo, PutsSome, Shown, WriteFails}}
 use Rattle.tte_forms.specs.declared.status.Status.{Status}
 use Rattle.tte_forms.specs.declared.status.Status.TheVariants.{Done, OutOfMemory, OutsideHypothesis, ReadFault, TooLong}

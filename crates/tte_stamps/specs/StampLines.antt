@@ -4,10 +4,10 @@ use Rattle.std.specs.Prelude.{◌++◌, ◌∷◌, List, [], codes, decimal, len
 use Rattle.net_plan.specs.{Belonging.device_name, declared.{event.Event.Event, ids.DeviceId.DeviceId}}
 use Rattle.net_plan.specs.declared.network.Network.{Network}
 use Rattle.run_law.specs.{declared.note.Note.Note, records.Happenings.happenings}
-use Rattle.sparse_time.specs.{Lines.Line, Stamps.stamp_at}
+use Rattle.tte_stamps.specs.granules.{Lines.Line, Stamps.stamp_at}
 use Rattle.tte_traces.specs.Answer.{LinesOf}
 use Rattle.tte_units.specs.Amount.{amount}
-use Rattle.world_exact.specs.Records.{clock_reading}
+use Rattle.world_drive.specs.exact.Records.{clock_reading}
 
 -- the line of a stamp, by the device of this name at the trace's line of this number
 abbrev pub stamp_line : ℕ → List ℕ → ℤ → List ℕ

@@ -8,8 +8,8 @@ use Rattle.tte_forms.specs.Putting.{PutFails, PutsLines}
 use Rattle.tte_io.specs.declared.ends.Sink.{Ghosts}
 use Rattle.tte_traces.specs.Report.{StopsLines, shown_as}
 use Rattle.world_drive.specs.{Observing.{Told, told_by}, declared.observing.Cut.{Cut, TheVariants.OutOfMemory}}
-use Rattle.world_exact.specs.{Records.AreRecordsSoFar, Worlds.{ExactWorld, IsReached, StandsExact}}
-use Rattle.world_machines.specs.Standing.{StandsAsDevice}
+use Rattle.world_drive.specs.exact.{Records.AreRecordsSoFar, Worlds.{ExactWorld, IsReached, StandsExact}}
+use Rattle.world_drive.specs.machines.Standing.{StandsAsDevice}
 use Rattle.tte_stamps.specs.StampLines.{stamp_lines}
 
 -- the world stands right behind the event of the trace's line of this number

@@ -1,6 +1,7 @@
 //! Stamps of the lines of a trace: by each correct synchronised device, in granules of the common time.
 #![tactic(auto)]
 
+pub mod granules;
 mod refused_granule;
 mod stamp_line;
 mod stamper;

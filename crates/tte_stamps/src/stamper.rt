@@ -5,15 +5,15 @@ ghost use Rattle.world_drive.specs.Observing.{PutsFurther};
 ghost use Rattle.tte_stamps.specs.StampLines.{line_at, line_stamps, lines_by};
 ghost use Rattle.tte_stamps.specs.Stamping.{IsAtLine, MayStamp, PutsAll, PutsStamps, StopsStamps, stops_here};
 
+use crate::granules::Granule;
 use crate::stamp_line::make_stamp_line;
 use drift_world::EventNote;
 use net_plan::{DeviceId, Event, Network};
 use plain_notes::Given;
-use sparse_time::Granule;
 use tte_io::{LineText, Sink};
 use tte_units::Units;
+use world_drive::exact::ExactWorld;
 use world_drive::{Cut, Observer};
-use world_exact::ExactWorld;
 
 /// Puts the stamps of each line of a trace, as soon as its event befell the world.
 #[derive(Drop)]

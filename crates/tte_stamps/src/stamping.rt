@@ -4,10 +4,10 @@ ghost use Rattle.tte_forms.specs.{Putting.Over, networks.Accepting.IsNetworkAnsw
 ghost use Rattle.tte_stamps.specs.Answer.{IsStampAnswer, IsStampStatus, StampEnds, StampStops, StampTakesLittle};
 ghost use Rattle.tte_stamps.specs.Safely.{StampsSafely};
 
+use crate::granules::{Granule, least};
 use crate::refused_granule::put_refused_granule;
 use crate::stamper::Stamper;
 use schedule_tables::Accepted;
-use sparse_time::{Granule, least};
 use std::alloc::Global;
 use tte_forms::{Status, accept, put_no_network};
 use tte_io::{LineText, Sink, Source};

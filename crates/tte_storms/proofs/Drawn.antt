@@ -9,7 +9,7 @@ use Rattle.storm.{proofs.{Ends.end_is_behind, Storms.{no_events, none_later, one
 use Rattle.storm.specs.Progress.{Progress}
 use Rattle.trace_text.specs.Ranges.{IsEventInRange, IsWhatInRange}
 use Rattle.world_drive.specs.{Observing.Told, Sources.MayGive}
-use Rattle.world_exact.{proofs.Events.{last_or_none, parted}, specs.{Records.{AreAllRecords, HaveEnded}, Worlds.{ExactWorld, StandsExact}}}
+use Rattle.world_drive.{proofs.exact_lemmas.Events.{last_or_none, parted}, specs.exact.{Records.{AreAllRecords, HaveEnded}, Worlds.{ExactWorld, StandsExact}}}
 use Rattle.tte_storms.specs.{Counts.IsSeen, Storms.{HasStormed, IsStormTo}, declared.{counting.Seen.Seen, events.StormEvents.StormEvents}}
 use Rattle.net_plan.specs.declared.event.What.TheVariants as kinds
 

@@ -4,7 +4,7 @@ use Rattle.net_plan.specs.declared.{event.{Event.Event, What.TheVariants.End}, n
 use Rattle.run_law.specs.runs.DueRecords.{EndsAt}
 use Rattle.storm.{proofs.{Ends.end_is_behind, Storms.storm_time}, specs.Events.{AreStormEvents, time_of}}
 use Rattle.tte_units.specs.declared.units.Units.{Units}
-use Rattle.world_exact.proofs.Events.{parted}
+use Rattle.world_drive.proofs.exact_lemmas.Events.{parted}
 
 -- a storm ends behind all its steps
 pub storm_ends : (network : Network) (seed cycles : ℕ) (events : List Event) (time : Units) → AreStormEvents network seed cycles events → EndsAt events time

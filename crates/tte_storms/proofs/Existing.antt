@@ -18,11 +18,11 @@ use Rattle.storm.proofs.{Storms.{more_events, no_events, storms_within, time_in_
 use Rattle.storm.specs.Choosing.{channel_of, choice_of, device_of, hold_of, link_of, rate_of, way_of, wire_of}
 use Rattle.storm.specs.Events.{AreStormEvents, IsChosen, IsDrawn, IsEventOf, IsStorm, substitute, time_of}
 use Rattle.storm.specs.{Striking.{IsLastMaster, IsMaster, SendsForged, Strikes, forged}, Words.draw_at}
-use Rattle.storm_summary.specs.{Counting.counts_of, Lines.summary_lines}
+use Rattle.tte_storms.specs.summary.{Counting.counts_of, Lines.summary_lines}
 use Rattle.tte_forms.specs.declared.status.Status.TheVariants.{Done}
 use Rattle.tte_lemmas.proofs.{Lists.{in_all, some_at}, Naturals.byte_at_small}
 use Rattle.tte_units.specs.{Amount.amount, declared.units.Units.Units}
-use Rattle.world_exact.{proofs.Events.ended_at, specs.Records.{AreAllRecords, HaveEnded, clock_reading}}
+use Rattle.world_drive.{proofs.exact_lemmas.Events.ended_at, specs.exact.Records.{AreAllRecords, HaveEnded, clock_reading}}
 use Rattle.tte_storms.{proofs.Widest.greatest_spread, specs.{Answer.exact_scenario, Laws.{FitsFrames, StormAnswersExist}}}
 use Rattle.net_plan.specs.declared.event.What.TheVariants as kinds
 

@@ -8,7 +8,7 @@ use Rattle.net_plan.specs.{Belonging.HasDevice, declared.{event.Event.Event, ids
 use Rattle.run_law.{proofs.runs.Places.{in_left, in_parts, in_right}, specs.device.{LocalClocks.local, States.{adjustment_after, state_after}}}
 use Rattle.run_law.specs.{law.Safety.IsInStep, records.{Happenings.{Happening, time_of, up_to}, Order.IsIn}, scenario.Hypothesis.breaks_at}
 use Rattle.run_law.specs.scenario.Scenarios.{Scenario, events_up_to, is_broken}
-use Rattle.storm_summary.specs.Spread.{AreApart, AreSeenApart, IsCorrection, IsGreatestSpread}
+use Rattle.tte_storms.specs.summary.Spread.{AreApart, AreSeenApart, IsCorrection, IsGreatestSpread}
 use Rattle.tte_units.specs.{Amount.amount, declared.units.Units.Units}
 use Rattle.tte_storms.specs.{Answer.exact_scenario, Spreads.IsSpreadAt}
 

@@ -1,3 +1,4 @@
+pub mod summary_lemmas
 pub mod Ends
 pub mod OneAnswer
 pub mod Lasting

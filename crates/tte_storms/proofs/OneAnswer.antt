@@ -5,11 +5,11 @@ use Rattle.run_law.{proofs.runs.NetworkRuns.run_is_one, specs.{declared.note.Not
 use Rattle.schedule_checker.specs.Refusals.{RefusalIsOne}
 use Rattle.schedule_tables.specs.Rules.{KeepsRules}
 use Rattle.storm.{proofs.OneStorm.one_storm, specs.Events.IsStorm}
-use Rattle.storm_summary.{proofs.Spreads.spread_is_one, specs.{Counting.counts_of, Lines.summary_lines}}
+use Rattle.tte_storms.{proofs.summary_lemmas.Spreads.spread_is_one, specs.summary.{Counting.counts_of, Lines.summary_lines}}
 use Rattle.tte_forms.{proofs.networks.Answers.network_answer_one, specs.{Answering.Answer, declared.status.Status.TheVariants.Done}}
 use Rattle.tte_forms.specs.networks.Accepting.{IsNetworkAnswer}
 use Rattle.tte_units.specs.{Amount.amount, declared.units.Units.Units}
-use Rattle.world_exact.specs.Records.{AreAllRecords, AreRecordsBefore, clock_reading}
+use Rattle.world_drive.specs.exact.Records.{AreAllRecords, AreRecordsBefore, clock_reading}
 use Rattle.tte_storms.{proofs.Ends.storm_ends, specs.Answer.{IsStormAnswer, IsWidest, exact_scenario}}
 
 -- the records of a storm's run, up to its end, are one list

@@ -1,7 +1,7 @@
 -- What `storm` writes is the summary of a run that is safe.
 use Rattle.std.proofs.Common.{◌≡◌, List, Option, [], ap, inl, inr, refl, ℕ}
 use Rattle.net_plan.specs.declared.network.Network.{Network}
-use Rattle.storm_summary.specs.{Lines.lines_of, declared.summary.Summary.Summary}
+use Rattle.tte_storms.specs.{summary.Lines.lines_of, declared.summary.summary.Summary.Summary}
 use Rattle.tte_forms.proofs.{Octets.for_more, OneAnswers.{fails_given, none_put, some_given}, Puts.{PutsLines-none, PutsLines-still}}
 use Rattle.tte_forms.{proofs.networks.Refused.{of_no_network, refusal_fails, refusal_some, some_text}, specs.Answering.{ForOctets, Gives}}
 use Rattle.tte_forms.specs.{Putting.{PutsLines, PutsSo, PutsSome, Shown, WriteFails}, declared.{accepting.NoNetwork.NoNetwork, status.Status.Status}}

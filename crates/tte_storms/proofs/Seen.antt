@@ -4,10 +4,10 @@ use Rattle.std.proofs.Common.{length, length-append, refl, subst, sym, true, uns
 use Rattle.net_plan.specs.declared.{event.Event.Event, network.Network.Network}
 use Rattle.run_law.{proofs.runs.{NetworkRuns.one_more, Places.{in_left, in_parts}}, specs.declared.note.{Note.Note, NoteBody.NoteBody}}
 use Rattle.run_law.specs.records.{Happenings.{Happening, happenings, time_of}, Order.{IsBefore, IsIn}, Ranks.rank}
-use Rattle.storm_summary.specs.{Counting.counts_of, Spread.{IsCorrection, IsGreatestSpread}, declared.counts.Counts.Counts}
+use Rattle.tte_storms.specs.{summary.Counting.counts_of, summary.Spread.{IsCorrection, IsGreatestSpread}, declared.summary.counts.Counts.Counts}
 use Rattle.tte_units.specs.{Amount.amount, declared.units.Units.Units}
 use Rattle.world_drive.{proofs.Placed.{given_behind, given_from, last_of}, specs.Observing.{Befell, IsCompleteExact, IsGiven, Told, instant_of}}
-use Rattle.world_exact.specs.Worlds.{ExactWorld, StandsExact}
+use Rattle.world_drive.specs.exact.Worlds.{ExactWorld, StandsExact}
 use Rattle.tte_storms.{proofs.Lasting.{alike_event, alike_more, spread_grows, spread_stays}, specs.Answer.exact_scenario}
 use Rattle.tte_storms.specs.{Counts.{ArePastCorrections, IsOpenAt, IsSeen, IsSpreadSoFar, corrects}, Spreads.IsSpreadAt, declared.counting.Seen.Seen}
 use Rattle.run_law.specs.declared.note.NoteBody.TheVariants as kinds

@@ -5,17 +5,18 @@ use Rattle.std.specs.{Io.KnownBytes.Appends, Prelude.slice_get}
 use Rattle.drift_clock.{proofs.ExactSegments.exact_laws, specs.Segment.{fresh_segment, segment_reading, stepped_segment}}
 use Rattle.net_plan.specs.{Ranges.IsInRange, declared.network.Network.Network}
 use Rattle.run_law.specs.{device.LocalClocks.local, records.{Happenings.{Happening, happenings, time_of}, Order.IsIn}, scenario.Scenarios.Scenario}
-use Rattle.safe_runs.{proofs.Clocked.ended, specs.{Headline.IsWholeRun, Under.IsUnder}}
+use Rattle.traffic_law.{proofs.safety_lemmas.Clocked.ended, specs.safety.{Headline.IsWholeRun, Under.IsUnder}}
 use Rattle.schedule_tables.specs.Rules.{KeepsRules}
 use Rattle.storm.proofs.Storms.{storms_within}
-use Rattle.storm_summary.{proofs.Spreads.within_precision, specs.{Counting.counts_of, Lines.lines_of, Spread.IsGreatestSpread, declared.counts.Counts.Counts}}
-use Rattle.storm_summary.specs.declared.summary.Summary.{Summary}
+use Rattle.tte_storms.{proofs.summary_lemmas.Spreads.within_precision}
+use Rattle.tte_storms.specs.{summary.Counting.counts_of, summary.Lines.lines_of, summary.Spread.IsGreatestSpread, declared.summary.counts.Counts.Counts}
+use Rattle.tte_storms.specs.declared.summary.summary.Summary.{Summary}
 use Rattle.tte_forms.proofs.{Puts.{Ends-gives, PutsLines-fails, PutsLines-more}, networks.Answers.answered_accepted}
 use Rattle.tte_forms.specs.{Answering.{AnswersOne, Ends, ForOctets, Gives, GivesAnswer}, Putting.{PutsLines, Shown, WriteFails}, declared.status.Status.Status}
 use Rattle.tte_forms.specs.{declared.status.Status.TheVariants.{Done, WriteFault}, networks.Accepting.{IsNetworkAnswer, MeansAccepted}}
 use Rattle.tte_io.specs.{Faults.next_count, Told.AppendsFront}
 use Rattle.tte_units.specs.{Amount.amount, declared.units.Units.Units}
-use Rattle.world_exact.proofs.Clocks.{exact_begins}
+use Rattle.world_drive.proofs.exact_lemmas.Clocks.{exact_begins}
 use Rattle.tte_storms.specs.{Answer.{IsStormAnswer, exact_scenario}, Storms.{EndsStorm, HasStormed, Summarises}, declared.counting.Seen.Seen}
 
 -- so many of the lines were put

@@ -5,7 +5,7 @@ use Rattle.run_existence.proofs.decisions.Values.{is_synchronised}
 use Rattle.run_law.{proofs.scenario.Decisions.{IsDecided, decided_and, decided_by, decided_false}, specs.declared.note.NoteBody.NoteBody}
 use Rattle.run_law.specs.{device.{LocalClocks.local, States.state_after}, law.Safety.IsInStep, records.{Happenings.{Happening, time_of, up_to}, Order.IsIn}}
 use Rattle.run_law.specs.scenario.Scenarios.{Scenario, is_broken}
-use Rattle.storm_summary.specs.Spread.{AreApart, AreSeenApart, IsCorrection, IsGreatestSpread}
+use Rattle.tte_storms.specs.summary.Spread.{AreApart, AreSeenApart, IsCorrection, IsGreatestSpread}
 use Rattle.tte_units.specs.declared.units.Units.{Units}
 use Rattle.tte_storms.proofs.Most.{HasMost, most_among, most_below, most_of_none, most_of_one, most_of_same}
 use Rattle.run_law.specs.declared.note.NoteBody.TheVariants as notes

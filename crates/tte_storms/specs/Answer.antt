@@ -3,12 +3,12 @@ use Rattle.std.specs.Prelude.{◌≡◌, List, ℕ}
 use Rattle.drift_clock.specs.Segment.{fresh_segment, segment_reading, stepped_segment}
 use Rattle.net_plan.specs.declared.{event.Event.Event, network.Network.Network}
 use Rattle.run_law.specs.{declared.note.Note.Note, records.Happenings.happenings, scenario.Scenarios.Scenario}
-use Rattle.safe_runs.specs.Under.{scenario_of}
+use Rattle.traffic_law.specs.safety.Under.{scenario_of}
 use Rattle.storm.specs.Events.{IsStorm}
-use Rattle.storm_summary.specs.{Counting.counts_of, Lines.summary_lines, Spread.IsGreatestSpread}
+use Rattle.tte_storms.specs.summary.{Counting.counts_of, Lines.summary_lines, Spread.IsGreatestSpread}
 use Rattle.tte_forms.specs.{Answering.Answer, declared.status.Status.TheVariants.Done}
 use Rattle.tte_units.specs.declared.units.Units.{Units}
-use Rattle.world_exact.specs.Records.{AreAllRecords}
+use Rattle.world_drive.specs.exact.Records.{AreAllRecords}
 
 -- the network under the events, with exact clocks
 abbrev pub exact_scenario : Network → List Event → Scenario

@@ -3,10 +3,10 @@ use Rattle.std.specs.Prelude.{◌++◌, ◌<◌, ◌∷◌, ◌≡◌, Bool, Lis
 use Rattle.net_plan.specs.declared.{event.Event.Event, network.Network.Network}
 use Rattle.run_law.specs.declared.note.{Note.Note, NoteBody.NoteBody}
 use Rattle.run_law.specs.records.{Happenings.{Happening, happenings, time_of}, Order.IsIn}
-use Rattle.storm_summary.specs.{Counting.counts_of, Spread.IsCorrection}
+use Rattle.tte_storms.specs.summary.{Counting.counts_of, Spread.IsCorrection}
 use Rattle.tte_units.specs.{Amount.amount, declared.units.Units.Units}
 use Rattle.world_drive.specs.Observing.{Told}
-use Rattle.world_exact.specs.Worlds.{ExactWorld, StandsExact}
+use Rattle.world_drive.specs.exact.Worlds.{ExactWorld, StandsExact}
 use Rattle.tte_storms.specs.{Answer.IsWidest, declared.counting.Seen.Seen}
 use Rattle.run_law.specs.declared.note.NoteBody.TheVariants as kinds
 

@@ -1,3 +1,4 @@
+pub mod summary
 pub mod Answer
 pub mod Safely
 pub mod Spreads

@@ -3,9 +3,9 @@ use Rattle.std.specs.Prelude.{◌≡◌, ◌≤ℤ◌, ◌⊎◌, List, Option, 
 use Rattle.drift_clock.specs.Segment.{fresh_segment, segment_reading, stepped_segment}
 use Rattle.net_plan.specs.declared.{event.Event.Event, network.Network.Network}
 use Rattle.run_law.specs.declared.note.Note.{Note}
-use Rattle.safe_runs.specs.Headline.{IsWholeRun}
+use Rattle.traffic_law.specs.safety.Headline.{IsWholeRun}
 use Rattle.storm.specs.Events.{IsStorm}
-use Rattle.storm_summary.specs.{Counting.counts_of, Lines.summary_lines}
+use Rattle.tte_storms.specs.summary.{Counting.counts_of, Lines.summary_lines}
 use Rattle.tte_forms.specs.{Answering.ForOctets, Putting.{PutsLines, PutsSo, PutsSome, Shown, WriteFails}}
 use Rattle.tte_forms.specs.declared.status.Status.{Status, TheVariants.{Done, OutOfMemory, ReadFault, WriteFault}}
 use Rattle.tte_forms.specs.networks.{Accepting.MeansAccepted, NetworkLine.IsRefusalText}

@@ -5,9 +5,9 @@ use Rattle.drift_world.specs.Locals.{MayShow}
 use Rattle.net_plan.specs.declared.ids.DeviceId.{DeviceId}
 use Rattle.run_law.specs.{device.LocalClocks.local, law.Safety.IsInStep, records.Happenings.Happening}
 use Rattle.run_law.specs.scenario.Scenarios.{Scenario}
-use Rattle.storm_summary.specs.Spread.{AreApart}
-use Rattle.world_exact.specs.Worlds.{ExactWorld}
-use Rattle.world_machines.specs.Standing.{StandsAsDevice}
+use Rattle.tte_storms.specs.summary.Spread.{AreApart}
+use Rattle.world_drive.specs.exact.Worlds.{ExactWorld}
+use Rattle.world_drive.specs.machines.Standing.{StandsAsDevice}
 use Rattle.tte_storms.specs.declared.spreads.Ends.{Ends}
 
 -- the world of the program stands for some events and records, which are all up to the time

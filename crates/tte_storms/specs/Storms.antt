@@ -5,14 +5,15 @@ use Rattle.drift_clock.specs.Segment.{fresh_segment, segment_reading, stepped_se
 use Rattle.fault_hypothesis.specs.Watching.{Watches}
 use Rattle.net_plan.specs.{Belonging.IsOfNetwork, declared.{event.Event.Event, network.Network.Network}}
 use Rattle.run_law.specs.{declared.note.Note.Note, law.FirstLaws.IsEventInRange}
-use Rattle.safe_runs.specs.Headline.{IsWholeRun}
+use Rattle.traffic_law.specs.safety.Headline.{IsWholeRun}
 use Rattle.storm.specs.Events.{AreStormEvents, IsStorm}
-use Rattle.storm_summary.specs.{Counting.counts_of, Lines.lines_of, declared.summary.Summary.Summary}
+use Rattle.tte_storms.specs.{summary.Counting.counts_of, summary.Lines.lines_of}
+use Rattle.tte_storms.specs.{declared.summary.summary.Summary.Summary}
 use Rattle.tte_forms.specs.{Answering.Gives, Putting.{PutsNone, Shown}, declared.status.Status.Status}
 use Rattle.tte_forms.specs.declared.status.Status.TheVariants.{Done, OutOfMemory}
 use Rattle.tte_units.specs.declared.units.Units.{Units}
 use Rattle.world_drive.specs.Sources.{MayGive}
-use Rattle.world_exact.specs.Records.{AreAllRecords, HaveEnded}
+use Rattle.world_drive.specs.exact.Records.{AreAllRecords, HaveEnded}
 use Rattle.tte_storms.specs.{Answer.IsWidest, declared.{counting.Seen.Seen, events.StormEvents.StormEvents}}
 
 -- these events, the first of the storm, were given and admitted

@@ -1,18 +1,18 @@
 ghost use Rattle.std.specs.Prelude.{◌≡◌, refl};
-ghost use Rattle.storm_summary.specs.Counting.{counted_as, counts_of};
+ghost use Rattle.tte_storms.specs.summary.Counting.{counted_as, counts_of};
 ghost use Rattle.tte_storms.specs.Counts.{IsSeen, corrects};
 ghost use Rattle.plain_notes.specs.Bodies.{body_of};
 ghost use Rattle.world_drive.specs.declared.observing.Cut.{Cut as CutValue};
 
 use crate::spreads::spread_at;
+use crate::summary::{Counted, Tally};
 use drift_world::EventNote;
 use net_plan::{Event, Network};
 use plain_notes::{Given, Kind};
-use storm_summary::{Counted, Tally};
 use tte_io::Sink;
 use tte_units::Units;
+use world_drive::exact::ExactWorld;
 use world_drive::{Cut, Observer};
-use world_exact::ExactWorld;
 
 /// What was seen of a run. It puts nothing.
 #[derive(Drop)]

@@ -6,6 +6,7 @@ mod events;
 mod laws;
 mod spreads;
 mod storming;
+pub mod summary;
 mod summing;
 
 pub use events::StormEvents;

@@ -8,7 +8,7 @@ ghost use Rattle.tte_storms.specs.{Answer.exact_scenario, Spreads.{IsSpreadAt, M
 
 use net_plan::{DeviceId, Network};
 use tte_units::Units;
-use world_exact::ExactWorld;
+use world_drive::exact::ExactWorld;
 
 /// The least and the greatest of some local clocks, in units of 2^-16 ns.
 #[derive(Clone, Copy)]

@@ -1,15 +1,15 @@
 ghost use Rattle.std.specs.Prelude.{◌≡◌, ◌≤◌, IfOk, OnOk};
 ghost use Rattle.net_plan.specs.Ranges.{IsInRange};
-ghost use Rattle.storm_summary.specs.Lines.{lines_of};
+ghost use Rattle.tte_storms.specs.summary.Lines.{lines_of};
 ghost use Rattle.tte_forms.specs.{Answering.Gives, Faults.{IsWanted, PutFailed}, Putting.{Over, PutsNone}};
 ghost use Rattle.tte_storms.specs.Storms.{HasStormed, Summarises};
 
 use crate::counting::Seen;
 use crate::events::StormEvents;
+use crate::summary::{LINES, Summary, Tally};
 use drift_world::OutOfMemory;
 use schedule_tables::Accepted;
 use std::alloc::Global;
-use storm_summary::{LINES, Summary, Tally};
 use tte_forms::{Status, end_with};
 use tte_io::{LineText, Sink};
 use tte_units::Units;

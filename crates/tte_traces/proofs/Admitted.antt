@@ -6,7 +6,7 @@ use Rattle.run_law.specs.{declared.outside.Outside.TheVariants.Order, scenario.H
 use Rattle.trace_text.proofs.ReadTimes.{event_time}
 use Rattle.tte_lemmas.proofs.Lists.{fronts, none_before}
 use Rattle.world_drive.proofs.Order.{not_less, sizes}
-use Rattle.world_exact.proofs.Events.{last_is, parted}
+use Rattle.world_drive.proofs.exact_lemmas.Events.{last_is, parted}
 use Rattle.tte_traces.proofs.{EventOrder.{AreInOrder, IsInOrder}, Faults.one_event}
 
 -- ---- no events

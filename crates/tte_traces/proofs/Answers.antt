@@ -3,7 +3,7 @@ use Rattle.tte_traces.proofs.Words.{◌++◌, ◌+◌, ◌∙◌, ◌∷◌, ◌
 use Rattle.tte_traces.proofs.Words.{AreRecordsSoFar, Done, EndsAt, Event, IsFault, IsTraceAnswer, LinesOf, List, Network, Note, TraceFault, Units, [], amount}
 use Rattle.tte_traces.proofs.Words.{ap, behind_events, behind_lines, clock_reading, fault_lines, fault_status, inl, inr, last_time, length, subst, sym, ℕ}
 use Rattle.run_law.proofs.runs.NetworkRuns.{run_is_one}
-use Rattle.world_exact.proofs.Events.{ended_at}
+use Rattle.world_drive.proofs.exact_lemmas.Events.{ended_at}
 use Rattle.tte_traces.proofs.{Admitted.{IsStopped, admitted_in_order, stopped_one}, Faults.{end_has_no_fault, fault_one, fault_stops}}
 pub use Rattle.tte_traces.specs.Along.{BeginWith, IsAllAdmitted}
 

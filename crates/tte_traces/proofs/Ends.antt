@@ -8,7 +8,7 @@ use Rattle.tte_forms.{proofs.Puts.PutsLines-still, specs.{Answering.Ends, Faults
 use Rattle.tte_forms.specs.declared.status.Status.TheVariants.{OutOfMemory, ReadFault, WriteFault}
 use Rattle.world_drive.specs.{Driving.{DrivesAll, DrivesCut, DrivesSoFar, HasSeenSoFar, IsCutAt}, Observing.{Sees, Stops, Told, told_by}}
 use Rattle.world_drive.specs.declared.observing.Cut.{Cut}
-use Rattle.world_exact.{proofs.Given.if_some, specs.Worlds.ExactWorld}
+use Rattle.world_drive.{proofs.exact_lemmas.Given.if_some, specs.exact.Worlds.ExactWorld}
 use Rattle.tte_traces.proofs.{Admitted.events_admitted, Answers.IsAllAdmitted, Given.{faulty_given, front_failed, front_given, whole_failed, whole_given}}
 use Rattle.tte_traces.{proofs.{Streams.{for_trace, writes_answer, writes_none, writes_nothing}, Taken.gave_some}, specs.Along.{IsShortAt, PutsAlong}}
 use Rattle.tte_traces.specs.{Report.{StopsLines, shown_as}, Streaming.{ForTrace, StopsBehindLines, TakesLittle, WritesSome}}

@@ -3,7 +3,7 @@ use Rattle.tte_traces.proofs.Words.{◌++◌, ◌+◌, ◌∷◌, ◌≡◌, Ans
 use Rattle.tte_traces.proofs.Words.{IsInRange, IsTraceAnswer, LinesOf, List, Network, Note, TraceFault, [], amount, behind_events, behind_lines, clock_reading}
 use Rattle.tte_traces.proofs.Words.{fault_lines, fault_status, inl, inr, last_time, length, refl, report_lines, ℕ}
 use Rattle.run_existence.proofs.Existence.{runs_exist_to_each_mark}
-use Rattle.world_exact.proofs.Events.{ended_at}
+use Rattle.world_drive.proofs.exact_lemmas.Events.{ended_at}
 use Rattle.tte_traces.{proofs.Splits.split, specs.Laws.RunAnswersExist}
 
 -- ---- records

@@ -6,7 +6,7 @@ use Rattle.report_text.specs.NoteLine.{note_line}
 use Rattle.tte_forms.proofs.Puts.{PutsLines-fails, PutsLines-more}
 use Rattle.tte_io.specs.{Faults.next_count, Told.AppendsFront, declared.ends.Sink.Ghosts}
 use Rattle.world_drive.specs.{Observing.{PutsFurther, Told, told_by}, declared.observing.Cut.{Cut, TheVariants.{OutOfMemory, WriteFault}}}
-use Rattle.world_exact.specs.Worlds.{ExactWorld, StandsExact}
+use Rattle.world_drive.specs.exact.Worlds.{ExactWorld, StandsExact}
 use Rattle.world_law.specs.source.Agreeing.{scenario}
 use Rattle.tte_traces.{proofs.OwnNotes.note_of, specs.Report.{PutsReport, StopsReport, shown_as}}
 

@@ -5,9 +5,9 @@ use Rattle.tte_traces.proofs.Words.{inl, inr, last_time, length, refl, report_li
 use Rattle.std.{proofs.lemmas.List.Elements.{All-cons, All-nil}, specs.List.All}
 use Rattle.drift_clock.{proofs.ExactSegments.exact_laws, specs.Segment.{fresh_segment, segment_reading, stepped_segment}}
 use Rattle.run_law.{proofs.runs.{NetworkRuns.earlier_run_is_front, Places.before_next_time}, specs.law.FirstLaws.IsEventInRange}
-use Rattle.safe_runs.{proofs.{Clocked.{ended, own, so_far}, Times.last_in_time}, specs.Under.IsUnder}
+use Rattle.traffic_law.{proofs.safety_lemmas.{Clocked.{ended, own, so_far}, Times.last_in_time}, specs.safety.Under.IsUnder}
 use Rattle.trace_text.proofs.ReadOfNetwork.{read_of_network}
-use Rattle.world_exact.proofs.Clocks.{exact_begins}
+use Rattle.world_drive.proofs.exact_lemmas.Clocks.{exact_begins}
 use Rattle.tte_traces.{proofs.{EventRanges.event_in_range, Existing.records_before}, specs.Safely.{BeginsRunTo, IsReportToFault, IsSafeText, IsWholeReport}}
 
 -- ---- what the laws on runs ask

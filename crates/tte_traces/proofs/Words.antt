@@ -18,7 +18,7 @@ pub use Rattle.tte_io.specs.{Faults.Rose, Line.first_line, ReaderState.{LineRead
 pub use Rattle.tte_io.specs.declared.lines.LineTaken.{LineTaken}
 pub use Rattle.tte_units.specs.Amount.{amount}
 pub use Rattle.tte_units.specs.declared.units.Units.{Units}
-pub use Rattle.world_exact.specs.Records.{AreAllRecords, AreRecordsBefore, AreRecordsSoFar, HaveEnded, clock_reading}
+pub use Rattle.world_drive.specs.exact.Records.{AreAllRecords, AreRecordsBefore, AreRecordsSoFar, HaveEnded, clock_reading}
 pub use Rattle.tte_traces.specs.{Along.IsFrontOf, Answer.{AnswersAll, AnswersFault, IsRunAnswer, IsTraceAnswer, LinesOf, report_lines}, Ending.RunEnds}
 pub use Rattle.tte_traces.specs.{FaultLine.{fault_lines, fault_status}, Following.{ReadsOn, TakesFew}, Lines.{AreAdmitted, IsAdmitted, IsFault, behind_lines}}
 pub use Rattle.tte_traces.specs.{Refusing.fault_answer, Taking.GaveEvents}

@@ -8,7 +8,7 @@ use Rattle.tte_forms.specs.declared.status.Status.TheVariants.{AuditRefused, Cap
 use Rattle.tte_forms.specs.declared.status.Status.TheVariants.{GranuleRefused, NameRefused, NetworkRefused}
 use Rattle.tte_forms.specs.declared.status.Status.TheVariants.{NumberRefused, OutOfMemory, OutsideHypothesis, ReadFault}
 use Rattle.tte_forms.specs.declared.status.Status.TheVariants.{TooLong, TraceRefused, Usage, VoteRefused, WriteFault}
-use Rattle.world_exact.specs.Records.{AreAllRecords, AreRecordsSoFar, HaveEnded}
+use Rattle.world_drive.specs.exact.Records.{AreAllRecords, AreRecordsSoFar, HaveEnded}
 use Rattle.tte_traces.specs.{FaultLine.{fault_lines, fault_status}, Lines.{AreAdmitted, IsFault, behind_lines}}
 use Rattle.tte_traces.specs.declared.fault.TraceFault.{TraceFault}
 

@@ -7,7 +7,7 @@ use Rattle.run_law.specs.scenario.Hypothesis.{IsWithinHypothesis}
 use Rattle.trace_text.specs.Ranges.{IsEventInRange}
 use Rattle.tte_io.specs.{Line.{IsUnbroken, ahead_limit, first_line, line_limit}, ReaderState.{LineReaderState, pending}}
 use Rattle.tte_io.specs.declared.lines.LineTaken.{LineTaken}
-use Rattle.world_exact.specs.Records.{HaveEnded}
+use Rattle.world_drive.specs.exact.Records.{HaveEnded}
 use Rattle.tte_traces.specs.Lines.{AreAdmitted, IsAdmitted, IsFault, StandWhole, behind_lines}
 use Rattle.tte_traces.specs.declared.{fault.{TraceFault.TraceFault, TraceStop.TraceStop}, lines.Trace.Trace}
 use Rattle.tte_io.specs.declared.lines.LineTaken.TheVariants as found

@@ -4,7 +4,7 @@ use Rattle.net_plan.specs.declared.{event.Event.Event, network.Network.Network}
 use Rattle.run_law.specs.scenario.Hypothesis.{IsOutsideBy, IsWithinHypothesis}
 use Rattle.trace_text.specs.EventReading.{event_read}
 use Rattle.tte_io.specs.Line.{behind_line, first_line, lf, line_limit}
-use Rattle.world_exact.specs.Records.{HaveEnded}
+use Rattle.world_drive.specs.exact.Records.{HaveEnded}
 use Rattle.tte_traces.specs.declared.fault.TraceFault.{TraceFault}
 use Rattle.tte_traces.specs.declared.fault.TraceFault.TheVariants as faults
 

@@ -5,14 +5,14 @@ use Rattle.drift_world.specs.Running.{last_time}
 use Rattle.net_plan.specs.declared.{event.Event.Event, network.Network.Network}
 use Rattle.report_text.specs.NoteLine.{report_of}
 use Rattle.run_law.specs.{declared.note.Note.Note, records.Happenings.happenings}
-use Rattle.safe_runs.specs.{Headline.{GoesWell, IsRunBefore, IsWholeRun}, Under.scenario_of}
+use Rattle.traffic_law.specs.safety.{Headline.{GoesWell, IsRunBefore, IsWholeRun}, Under.scenario_of}
 use Rattle.tte_forms.specs.{Answering.ForOctets, Putting.{PutsLines, PutsSo, PutsSome, Shown, WriteFails}}
 use Rattle.tte_forms.specs.declared.status.Status.{Status}
 use Rattle.tte_forms.specs.declared.status.Status.TheVariants.{Done, OutOfMemory, OutsideHypothesis, ReadFault, TooLong}
 use Rattle.tte_forms.specs.declared.status.Status.TheVariants.{TraceRefused, WriteFault}
 use Rattle.tte_forms.specs.networks.{Accepting.MeansAccepted, NetworkLine.IsRefusalText}
 use Rattle.tte_units.specs.Amount.{amount}
-use Rattle.world_exact.specs.Records.{AreRecordsBefore}
+use Rattle.world_drive.specs.exact.Records.{AreRecordsBefore}
 use Rattle.tte_traces.specs.{FaultLine.fault_lines, Lines.{AreAdmitted, IsFault, behind_lines}}
 use Rattle.tte_traces.specs.declared.fault.TraceFault.{TraceFault}
 

@@ -5,7 +5,7 @@ use Rattle.run_law.specs.declared.note.Note.{Note}
 use Rattle.tte_forms.specs.{Answering.ForOctets, Putting.{IsPassedOn, PutsLines, Shown}}
 use Rattle.tte_forms.specs.networks.Accepting.{MeansAccepted}
 use Rattle.tte_io.specs.Line.{IsUnbroken}
-use Rattle.world_exact.specs.Records.{AreRecordsSoFar}
+use Rattle.world_drive.specs.exact.Records.{AreRecordsSoFar}
 use Rattle.tte_traces.specs.{Answer.{LinesOf, report_lines}, Following.TakesFew}
 use Rattle.tte_traces.specs.Lines.{AreAdmitted, StandWhole, behind_lines}
 

@@ -1,7 +1,7 @@
 ghost use Rattle.std.specs.Prelude.{◌≡◌, None, [], true};
 ghost use Rattle.tte_forms.specs.{Faults.{HasCause, PutFailed, ReadFailed}, Putting.Over};
 ghost use Rattle.world_drive.specs.Observing.{start_by, told_by};
-ghost use Rattle.world_exact.specs.Worlds.{StandsExact};
+ghost use Rattle.world_drive.specs.exact.Worlds.{StandsExact};
 ghost use Rattle.tte_traces.specs.{Along.PutsAlong, Answer.{IsRunStatus, IsTraceAnswer, LinesOf}, Ending.RunEnds};
 
 use crate::fault::TraceStop;
@@ -11,8 +11,8 @@ use schedule_tables::Accepted;
 use std::alloc::Global;
 use tte_forms::{Status, end_with};
 use tte_io::{LineText, Sink, Source};
+use world_drive::exact::ExactWorld;
 use world_drive::{Cut, Drove, Observer, begin_world, drive};
-use world_exact::ExactWorld;
 
 /// Runs an accepted network under a trace, which is taken line by line, to its end, or to where that is cut short. An
 /// observer sees the run and puts its lines. Behind them the line of the trace's fault is put, if it has one.

@@ -10,8 +10,8 @@ use plain_notes::Given;
 use report_text::{TimeText, make_event_line, make_plain_line};
 use tte_io::{LineText, Sink};
 use tte_units::Units;
+use world_drive::exact::ExactWorld;
 use world_drive::{Cut, Observer};
-use world_exact::ExactWorld;
 
 /// Puts a line for each record of a run.
 #[derive(Drop)]

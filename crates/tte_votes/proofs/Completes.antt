@@ -9,7 +9,7 @@ use Rattle.trace_text.proofs.Bearing.{place_found}
 use Rattle.tte_forms.{proofs.{OneAnswers.answered_done, networks.Answers.{accepted_alone, network_answer_one}}, specs.Answering.{IsDone, line_answer}}
 use Rattle.tte_forms.specs.networks.Accepting.{IsNetworkAnswer}
 use Rattle.tte_traces.{proofs.{Answers.trace_answer_one, Given.all_done}, specs.Along.IsAllAdmitted}
-use Rattle.vote_law.specs.Voting.{are_matches}
+use Rattle.tte_votes.specs.law.Voting.{are_matches}
 use Rattle.tte_votes.specs.Answer.{IsFirstUnknown, IsNamed, IsUnknown, IsVoteRefusal, IsVoting, name_line}
 
 -- ---- the names

@@ -8,7 +8,7 @@ use Rattle.tte_traces.proofs.{Ends.{for_stopped, little_at, little_so_far, puts_
 use Rattle.tte_traces.specs.{Along.IsAllAdmitted, Lines.{AreAdmitted, IsFault, behind_lines}, Report.shown_as, Taking.IsStopAt}
 use Rattle.tte_traces.specs.declared.{fault.{TraceFault.TraceFault, TraceStop.TraceStop}, lines.Trace.Trace}
 use Rattle.world_drive.specs.{Driving.{DrivesAll, DrivesSoFar}, Observing.{Told, told_by}}
-use Rattle.world_exact.specs.{Records.{AreAllRecords, AreRecordsSoFar}, Worlds.ExactWorld}
+use Rattle.world_drive.specs.exact.{Records.{AreAllRecords, AreRecordsSoFar}, Worlds.ExactWorld}
 use Rattle.tte_votes.{proofs.Along.{IsOwn, vote_sees, vote_stops, votes_along}, specs.declared.voter.Voter.Voter}
 use Rattle.tte_io.specs.declared.ends.Sink as sinks
 use Rattle.tte_io.specs.declared.ends.Source as sources

@@ -1,3 +1,6 @@
+pub mod tmr_lemmas
+pub mod law_lemmas
+pub mod ballots_lemmas
 pub mod Places
 pub mod Loops
 pub mod Told

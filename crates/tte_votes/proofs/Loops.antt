@@ -8,8 +8,8 @@ use Rattle.run_law.{proofs.{records.Happenings.as_many, runs.NetworkRuns.one_mor
 use Rattle.tte_forms.{proofs.Puts.{PutFails-behind, PutsLines-append, PutsLines-fails, PutsLines-more}, specs.Putting.PutFails}
 use Rattle.tte_io.specs.{Faults.next_count, Told.AppendsFront, declared.ends.Sink.Ghosts}
 use Rattle.tte_traces.proofs.Given.{PutFails-more}
-use Rattle.vote_ballots.specs.{Keeping.{AreOpenFrom, IsNext}, declared.votes.KeptVotes.KeptVotes}
-use Rattle.world_exact.specs.Worlds.{ExactWorld, StandsExact}
+use Rattle.tte_votes.specs.{ballots.Keeping.{AreOpenFrom, IsNext}, declared.ballots.votes.KeptVotes.KeptVotes}
+use Rattle.world_drive.specs.exact.Worlds.{ExactWorld, StandsExact}
 use Rattle.tte_votes.{proofs.Places.{lines_all, lines_front, lines_given, lines_none, lines_open, lines_to}, specs.Putting.PutsAll}
 use Rattle.tte_votes.specs.VoteLines.{is_cast, lines_before, vote_line}
 

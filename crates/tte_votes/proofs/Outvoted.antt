@@ -3,13 +3,14 @@ use Rattle.tte_votes.proofs.Words.{◌++◌, ◌+◌, ◌<◌, ◌^◌, ◌∙�
 use Rattle.tte_votes.proofs.Words.{Voters, Votes, [], ap, append-nil, ballot_of, false, happenings, inl, inr, length, refl, sym, true, vote_lines, voted, ℕ}
 use Rattle.std.{proofs.{Common.{append_assoc, cond, find}, lemmas.Option.slice_get_within}, specs.Prelude.{option_and_then, option_map}}
 use Rattle.drift_clock.specs.Segment.{fresh_segment, segment_reading, stepped_segment}
-use Rattle.frame_trace.specs.RecordOctets.{record_octets}
+use Rattle.made_frames.specs.traced.RecordOctets.{record_octets}
 use Rattle.net_plan.specs.{Places.{device_at, is_end_system}, declared.tables.Device.Device}
 use Rattle.run_law.{proofs.runs.{NetworkRuns.one_more, Places.in_left}, specs.{declared.note.NoteBody.NoteBody, law.Safety.{FramesAreDelivered, IsOwed}}}
 use Rattle.run_law.specs.{records.{Happenings.happening, Order.IsIn}, scenario.Scenarios.Scenario}
-use Rattle.safe_runs.specs.{Headline.IsEventOf, Under.scenario_of}
+use Rattle.traffic_law.specs.safety.{Headline.IsEventOf, Under.scenario_of}
 use Rattle.tte_lemmas.proofs.Options.{opened}
-use Rattle.vote_law.{proofs.Outvoted.two_outvote_the_third, specs.{Ballots.{is_delivery, payload_in, payload_taken}, Outvoting.{AreTwoOwed, sent_payload}}}
+use Rattle.tte_votes.{proofs.law_lemmas.Outvoted.two_outvote_the_third}
+use Rattle.tte_votes.specs.law.{Ballots.{is_delivery, payload_in, payload_taken}, Outvoting.{AreTwoOwed, sent_payload}}
 use Rattle.tte_votes.{proofs.Told.in_lines, specs.Safely.TwoOutvote}
 
 -- ---- records of events add no vote

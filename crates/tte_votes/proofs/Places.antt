@@ -2,8 +2,8 @@
 use Rattle.tte_votes.proofs.Words.{if◌then◌else◌, ◌++◌, ◌+◌, ◌<◌, ◌^◌, ◌∙◌, ◌≡◌, ◌≤◌, Bool, DeviceId, Happening, List, Network, Note, Voters, Votes, [], ap}
 use Rattle.tte_votes.proofs.Words.{append-nil, arith, ballot_of, false, happenings, inl, inr, key_of, length, lines_at, refl, sym, true, ℕ}
 use Rattle.std.proofs.{Common.{◌%◌, ◌*◌, ◌-◌, ◌/◌, append_assoc, nat_lt, suc, zero}, lemmas.Bool.{cases_lt, false_from_ne_true, lt-ltb, ltb-true}}
-use Rattle.tmr_vote.specs.Vote.{no_votes}
-use Rattle.vote_ballots.specs.{Keeping.{AreOpenFrom, IsNext}, declared.votes.KeptVotes.KeptVotes}
+use Rattle.tte_votes.specs.tmr.Vote.{no_votes}
+use Rattle.tte_votes.specs.{ballots.Keeping.{AreOpenFrom, IsNext}, declared.ballots.votes.KeptVotes.KeptVotes}
 use Rattle.tte_votes.specs.VoteLines.{ballot_lines, lines_before, lines_by_first}
 
 abbrev pub the_device : ℕ → DeviceId

@@ -5,7 +5,7 @@ use Rattle.tte_votes.proofs.Words.{WriteFault, [], ap, append-nil, fault_lines, 
 use Rattle.drift_clock.{proofs.ExactSegments.exact_laws, specs.Segment.{fresh_segment, segment_reading, stepped_segment}}
 use Rattle.drift_world.specs.Running.{last_time}
 use Rattle.net_plan.specs.Ranges.{IsInRange}
-use Rattle.safe_runs.proofs.Clocked.{ended, so_far}
+use Rattle.traffic_law.proofs.safety_lemmas.Clocked.{ended, so_far}
 use Rattle.tte_forms.proofs.{OneAnswers.{fails_given, none_put, some_given}, Puts.PutsLines-still, networks.Refused.{refusal_fails, refusal_some, some_text}}
 use Rattle.tte_forms.specs.{Answering.ForOctets, Putting.{PutsNone, PutsSo, PutsSome, WriteFails}, declared.accepting.NoNetwork.NoNetwork}
 use Rattle.tte_forms.specs.declared.status.Status.TheVariants.{AuditRefused, CaptureRefused, FrameRefused, GranuleRefused, NetworkRefused, NumberRefused}
@@ -14,7 +14,7 @@ use Rattle.tte_forms.specs.networks.NoNetworks.{IsNoNetwork, no_network_answer}
 use Rattle.tte_traces.{proofs.{NoRun.{given_none, none_long}, Safely.not_done, Texts.admitted_under}, specs.Answer.{AnswersAll, AnswersFault}}
 use Rattle.tte_traces.specs.Lines.{AreAdmitted}
 use Rattle.tte_units.specs.Amount.{amount}
-use Rattle.world_exact.proofs.Clocks.{exact_begins}
+use Rattle.world_drive.proofs.exact_lemmas.Clocks.{exact_begins}
 use Rattle.tte_votes.{proofs.Outvoted.{outvoted, outvoted_before}, specs.Answer.IsVoteRefusal}
 use Rattle.tte_votes.specs.Safely.{IsSafeVotes, IsVoteRefusalText, IsVotedRun, IsVotedToFault, PutsVotesSafely, TwoOutvote, VotesSafely}
 

@@ -6,13 +6,13 @@ pub use Rattle.std.specs.Prelude.{if◌then◌else◌}
 pub use Rattle.net_plan.specs.declared.{event.Event.Event, ids.{DeviceId.DeviceId, VlId.VlId}, network.Network.Network, tables.VirtualLink.VirtualLink}
 pub use Rattle.run_law.specs.declared.note.Note.{Note}
 pub use Rattle.run_law.specs.records.Happenings.{Happening, happenings}
-pub use Rattle.tmr_vote.specs.Vote.{Votes, voted}
+pub use Rattle.tte_votes.specs.tmr.Vote.{Votes, voted}
 pub use Rattle.tte_forms.proofs.{Octets.{for_all, for_more}, Puts.PutsLines-none}
 pub use Rattle.tte_forms.specs.{Answering.{Answer, Gives, GivesAnswer, GivesOne}, Putting.{PutsLines, Shown, shown_by}}
 pub use Rattle.tte_forms.specs.declared.status.Status.{Status, TheVariants.{Done, NameRefused, OutOfMemory, ReadFault, VoteRefused, WriteFault}}
 pub use Rattle.tte_forms.specs.networks.Accepting.{MeansAccepted}
 pub use Rattle.tte_traces.specs.{Answer.IsTraceAnswer, FaultLine.{fault_lines, fault_status}}
-pub use Rattle.vote_ballots.specs.Keeping.{HoldsVotes, key_of}
-pub use Rattle.vote_law.specs.Ballots.{ballot_of}
-pub use Rattle.vote_law.specs.declared.voters.Voters.{Voters}
+pub use Rattle.tte_votes.specs.ballots.Keeping.{HoldsVotes, key_of}
+pub use Rattle.tte_votes.specs.law.Ballots.{ballot_of}
+pub use Rattle.tte_votes.specs.declared.law.voters.Voters.{Voters}
 pub use Rattle.tte_votes.specs.{Answer.{AreNamed, IsVoteAnswer, MayThey, Names}, Ending.VotesEnd, Streaming.no_lines, VoteLines.{lines_at, vote_lines}}

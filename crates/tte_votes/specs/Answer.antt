@@ -8,7 +8,7 @@ use Rattle.tte_forms.specs.declared.status.Status.TheVariants.{GranuleRefused, N
 use Rattle.tte_forms.specs.declared.status.Status.TheVariants.{NumberRefused, OutOfMemory, OutsideHypothesis, ReadFault}
 use Rattle.tte_forms.specs.declared.status.Status.TheVariants.{TooLong, TraceRefused, Usage, VoteRefused, WriteFault}
 use Rattle.tte_traces.specs.Answer.{IsTraceAnswer}
-use Rattle.vote_law.specs.{Voting.MayVote, declared.voters.Voters.Voters}
+use Rattle.tte_votes.specs.{law.Voting.MayVote, declared.law.voters.Voters.Voters}
 use Rattle.tte_votes.specs.VoteLines.{vote_lines}
 
 -- three words, which are to name virtual links

@@ -4,7 +4,7 @@ use Rattle.net_plan.specs.declared.network.Network.{Network}
 use Rattle.tte_forms.specs.{Answering.{Answer, Gives}, Putting.Shown, declared.status.Status.Status}
 use Rattle.tte_forms.specs.declared.status.Status.TheVariants.{ReadFault}
 use Rattle.tte_traces.specs.{Answer.IsTraceAnswer, Ending.RunEnds}
-use Rattle.vote_law.specs.declared.voters.Voters.{Voters}
+use Rattle.tte_votes.specs.declared.law.voters.Voters.{Voters}
 use Rattle.tte_votes.specs.{Answer.{AreNamed, IsVoteRefusal, MayThey, Names}, Streaming.{IsOfRun, no_lines}}
 use Rattle.tte_votes.specs.VoteLines.{vote_lines}
 

@@ -1,3 +1,6 @@
+pub mod tmr
+pub mod law
+pub mod ballots
 pub mod VoteLines
 pub mod Answer
 pub mod Streaming

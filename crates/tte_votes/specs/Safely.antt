@@ -5,8 +5,8 @@ use Rattle.drift_world.specs.Running.{last_time}
 use Rattle.net_plan.specs.{Belonging.device_name, declared.{event.Event.Event, ids.DeviceId.DeviceId}}
 use Rattle.net_plan.specs.declared.{network.Network.Network, tables.VirtualLink.VirtualLink}
 use Rattle.run_law.specs.{declared.note.Note.Note, records.{Happenings.happenings, Order.IsIn}}
-use Rattle.safe_runs.specs.{Headline.{IsRunBefore, IsWholeRun}, Under.scenario_of}
-use Rattle.tmr_vote.specs.Vote.{voted}
+use Rattle.traffic_law.specs.safety.{Headline.{IsRunBefore, IsWholeRun}, Under.scenario_of}
+use Rattle.tte_votes.specs.tmr.Vote.{voted}
 use Rattle.tte_forms.specs.{Answering.ForOctets, Putting.{PutsLines, PutsSo, PutsSome, Shown, WriteFails}}
 use Rattle.tte_forms.specs.declared.status.Status.{Status}
 use Rattle.tte_forms.specs.declared.status.Status.TheVariants.{Done, OutOfMemory, OutsideHypothesis, ReadFault, TooLong}
@@ -15,8 +15,8 @@ use Rattle.tte_forms.specs.networks.{Accepting.MeansAccepted, NetworkLine.IsRefu
 use Rattle.tte_traces.specs.{FaultLine.fault_lines, Lines.{AreAdmitted, IsFault, behind_lines}}
 use Rattle.tte_traces.specs.declared.fault.TraceFault.{TraceFault}
 use Rattle.tte_units.specs.Amount.{amount}
-use Rattle.vote_law.specs.{Ballots.ballot_of, Outvoting.{AreTwoOwed, sent_payload}, Voting.MayVote}
-use Rattle.vote_law.specs.declared.voters.Voters.{Voters}
+use Rattle.tte_votes.specs.law.{Ballots.ballot_of, Outvoting.{AreTwoOwed, sent_payload}, Voting.MayVote}
+use Rattle.tte_votes.specs.declared.law.voters.Voters.{Voters}
 use Rattle.tte_votes.specs.Answer.{AreNamed, MayThey, Names, name_line, vote_refused}
 use Rattle.tte_votes.specs.VoteLines.{vote_line, vote_lines}
 

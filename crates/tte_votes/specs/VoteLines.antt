@@ -4,9 +4,9 @@ use Rattle.std.specs.Prelude.{is_some, length, nat_lt, suc, zero, ℕ}
 use Rattle.hex.specs.Hex.{encode_lower}
 use Rattle.net_plan.specs.{Belonging.device_name, declared.{ids.DeviceId.DeviceId, network.Network.Network}}
 use Rattle.run_law.specs.records.Happenings.{Happening, happenings}
-use Rattle.tmr_vote.specs.Vote.{Votes, voted}
+use Rattle.tte_votes.specs.tmr.Vote.{Votes, voted}
 use Rattle.tte_traces.specs.Answer.{LinesOf}
-use Rattle.vote_law.specs.{Ballots.ballot_of, declared.voters.Voters.Voters}
+use Rattle.tte_votes.specs.{law.Ballots.ballot_of, declared.law.voters.Voters.Voters}
 
 -- the value that was voted, in hexadecimal, or that there is none
 abbrev pub value_text : Option (List ℕ) → List ℕ

@@ -2,7 +2,7 @@
 use Rattle.std.specs.Prelude.{◌≡◌, List}
 use Rattle.net_plan.specs.declared.network.Network.{Network}
 use Rattle.run_law.specs.declared.note.Note.{Note}
-use Rattle.vote_ballots.specs.Keeping.{HoldsVotes}
+use Rattle.tte_votes.specs.ballots.Keeping.{HoldsVotes}
 use Rattle.world_drive.specs.Observing.{Start, Told}
 use Rattle.tte_votes.specs.declared.voter.Voter.{Voter}
 

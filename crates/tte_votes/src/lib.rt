@@ -1,9 +1,12 @@
 //! Votes of three virtual links at every receiver, over the run of a network under a trace.
 #![tactic(auto)]
 
+pub mod ballots;
+pub mod law;
 mod naming;
 mod putting;
 mod refused;
+pub mod tmr;
 mod vote_line;
 mod voter;
 mod voting;

@@ -1,10 +1,10 @@
 ghost use Rattle.std.specs.Prelude.{◌≡◌, ◌<◌, length, MatchResult};
 ghost use Rattle.net_plan.specs.Ranges.{IsInRange};
-ghost use Rattle.vote_law.specs.Voting.{are_matches, is_match};
+ghost use Rattle.tte_votes.specs.law.Voting.{are_matches, is_match};
 ghost use Rattle.tte_votes.specs.Answer.{AreNamed, IsFirstUnknown, MayThey, the_names};
 
+use crate::law::Voters;
 use net_plan::{Network, VirtualLink};
-use vote_law::Voters;
 
 /// The three virtual links that the words name, or the first place, from 1, whose word names none.
 pub(crate) fn voters_named(

@@ -5,17 +5,17 @@ ghost use Rattle.net_plan.specs.Ranges.{IsInRange};
 ghost use Rattle.run_law.specs.declared.note.Note.{Note as NoteValue};
 ghost use Rattle.tte_forms.specs.{Answering.Gives, Faults.{IsWanted, PutFailed}, Putting.Over};
 ghost use Rattle.tte_traces.specs.FaultLine.{fault_lines, fault_status};
-ghost use Rattle.vote_ballots.specs.Keeping.{HoldsVotes};
-ghost use Rattle.vote_law.specs.declared.voters.Voters.{Voters as VotersValue};
+ghost use Rattle.tte_votes.specs.ballots.Keeping.{HoldsVotes};
+ghost use Rattle.tte_votes.specs.declared.law.voters.Voters.{Voters as VotersValue};
 ghost use Rattle.tte_votes.specs.{Putting.{FailsSo, PutsAll}, VoteLines.{is_cast, lines_at, vote_lines}};
 
+use crate::ballots::KeptVotes;
+use crate::tmr::Ballot;
 use crate::vote_line::{make_vote_line, voted};
 use net_plan::{DeviceId, Network};
-use tmr_vote::Ballot;
 use tte_forms::{Status, end_with};
 use tte_io::{LineText, Sink, SinkFailed};
 use tte_traces::{TraceFault, put_fault};
-use vote_ballots::KeptVotes;
 
 /// Is a seat of the ballot cast?
 fn is_cast(ballot: &Ballot) -> bool

@@ -1,8 +1,8 @@
 ghost use Rattle.std.specs.Prelude.{◌≡◌, ◌≤◌, ◌+◌, ◌++◌, codes, length, IfSome, option_map};
-ghost use Rattle.tmr_vote.specs.Vote.{voted};
+ghost use Rattle.tte_votes.specs.tmr.Vote.{voted};
 ghost use Rattle.tte_votes.specs.VoteLines.{value_text, vote_line};
 
-use tmr_vote::Ballot;
+use crate::tmr::Ballot;
 use tte_io::LineText;
 
 /// Adds the value that was voted: at most 3,000 digits.

@@ -2,14 +2,14 @@
 
 ghost use Rattle.tte_votes.specs.Voting.{SeesVotes, StopsVotes, stops_here};
 
+use crate::ballots::KeptVotes;
 use drift_world::EventNote;
 use net_plan::{Event, Network};
 use plain_notes::Given;
 use tte_io::Sink;
 use tte_units::Units;
-use vote_ballots::KeptVotes;
+use world_drive::exact::ExactWorld;
 use world_drive::{Cut, Observer};
-use world_exact::ExactWorld;
 
 /// Takes the deliveries of a run.
 #[derive(Drop)]

@@ -4,11 +4,13 @@ ghost use Rattle.tte_forms.specs.{Answering.{ForOctets, GivesAnswer}, Faults.{Ha
 ghost use Rattle.tte_forms.specs.{Putting.Over, networks.Accepting.IsNetworkAnswer};
 ghost use Rattle.tte_traces.specs.Answer.{IsRunStatus};
 ghost use Rattle.world_drive.specs.Observing.{start_by, told_by};
-ghost use Rattle.world_exact.specs.Worlds.{StandsExact};
+ghost use Rattle.world_drive.specs.exact.Worlds.{StandsExact};
 ghost use Rattle.tte_votes.specs.{Answer.{IsVoteAnswer, IsVoteStatus, the_names}, Ending.{VoteEnds, VotesEnd}};
 ghost use Rattle.tte_votes.specs.{Safely.VotesSafely, Streaming.{IsOfRun, VoteStops, VoteTakesLittle}};
 ghost use Rattle.tte_votes.specs.Voting.{SeesVotes};
 
+use crate::ballots::KeptVotes;
+use crate::law::Voters;
 use crate::naming::{may_vote, voters_named};
 use crate::putting::{end_at_fault, end_votes};
 use crate::refused::{put_refused_name, put_refused_vote};
@@ -18,10 +20,8 @@ use std::alloc::Global;
 use tte_forms::{Status, accept, end_with, put_no_network};
 use tte_io::{Sink, Source};
 use tte_traces::{Trace, TraceStop};
-use vote_ballots::KeptVotes;
-use vote_law::Voters;
+use world_drive::exact::ExactWorld;
 use world_drive::{Cut, Drove, begin_world, drive};
-use world_exact::ExactWorld;
 
 /// Runs the network of the first file under the trace of the second, and votes the payloads of the virtual links of
 /// these three names at each receiver, cycle by cycle. The votes are put at the end. A word that names no virtual link,

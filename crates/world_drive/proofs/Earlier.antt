@@ -7,7 +7,7 @@ use Rattle.drift_world.specs.Running.{behind_events}
 use Rattle.run_law.{proofs.runs.{Grow.empty_run, Places.{before_later_time, before_next_time, before_of_time, parted}}, specs.declared.note.NoteBody.NoteBody}
 use Rattle.run_law.specs.{declared.note.NoteBody.TheVariants.Event as Befalls, records.{Order.{IsBefore, IsIn}, Ranks.{key, members_in, place_of, rank}}}
 use Rattle.run_law.specs.{runs.DueRecords.{IsCaused, IsDue}, scenario.Scenarios.Scenario}
-use Rattle.world_exact.specs.Records.{clock_reading}
+use Rattle.world_drive.specs.exact.Records.{clock_reading}
 use Rattle.world_law.{proofs.runs.Applies.{event_cause, event_place, kinds}, specs.source.Agreeing.scenario}
 use Rattle.world_drive.{proofs.Order.{in_order, sizes}, specs.{Driving.IsUpToEnd, Seeing.IsOnTheWay}}
 

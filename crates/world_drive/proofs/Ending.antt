@@ -5,7 +5,7 @@ use Rattle.world_drive.proofs.Words.{Some, StandsExact, Stops, Told, Units, [], 
 use Rattle.world_drive.proofs.Words.{told_by, true, units_of, ℕ}
 use Rattle.std.proofs.Common.{Bool, false, length-append}
 use Rattle.tte_io.specs.declared.ends.Sink.{Ghosts}
-use Rattle.world_exact.{proofs.{Events.ended_at, Given.amount_after}, specs.{Records.{AreAllRecords, HaveEnded}, Worlds.IsReached}}
+use Rattle.world_drive.{proofs.exact_lemmas.{Events.ended_at, Given.amount_after}, specs.exact.{Records.{AreAllRecords, HaveEnded}, Worlds.IsReached}}
 use Rattle.world_drive.proofs.{Earlier.{records_none, up_to_end}, More.{PutsSoFar, fails_on, puts_none}}
 use Rattle.world_drive.specs.{Driving.{DrivesAll, DrivesCut, DrivesSoFar, HasSeenSoFar}, Observing.{Grows, PutsFurther, start_by}}
 use Rattle.world_drive.specs.{Seeing.{ComesNext, HasSeen, MayMeet}, Sources.{Gave, GivesNext, Stopped, given_in}}

@@ -6,8 +6,8 @@ use Rattle.world_drive.proofs.Words.{units_of, unsigned_abs, ℕ}
 use Rattle.std.{proofs.Common.{Bool, Result}, specs.Prelude.{IfNone, MatchResult, OnOk, option_to_list}}
 use Rattle.drift_world.specs.Running.{option_given}
 use Rattle.run_law.{proofs.{records.Order.index_of, runs.{NetworkRuns.one_more, Places.{in_left, in_right}}}, specs.records.{Order.IsIn, Ranks.rank}}
-use Rattle.safe_runs.specs.Headline.{IsSafeFront}
-use Rattle.world_exact.proofs.Given.{amount_after, given_none, given_some, if_none, is_before}
+use Rattle.traffic_law.specs.safety.Headline.{IsSafeFront}
+use Rattle.world_drive.proofs.exact_lemmas.Given.{amount_after, given_none, given_some, if_none, is_before}
 use Rattle.world_drive.{proofs.{Placed.{last_of, stays_now, unended_before}, Ways.past_is}, specs.Observing.{IsCompleteExact, IsGiven}}
 
 -- a record stays among those that follow

@@ -1,3 +1,6 @@
+pub mod machines_lemmas
+pub mod exact_lemmas
+pub mod devices_lemmas
 pub mod Placed
 pub mod Order
 pub mod Earlier

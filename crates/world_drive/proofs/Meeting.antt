@@ -7,8 +7,8 @@ use Rattle.std.proofs.lemmas.Bool.{false_from_ne_true}
 use Rattle.drift_world.specs.Running.{HasReached, IsOpenTo, MayBefall, behind_events, event_note}
 use Rattle.net_plan.specs.Belonging.{IsOfNetwork}
 use Rattle.run_law.specs.scenario.Hypothesis.{IsWithinHypothesis}
-use Rattle.world_exact.specs.Worlds.{IsReached}
-use Rattle.world_machines.specs.Standing.{StandsAsDevice}
+use Rattle.world_drive.specs.exact.Worlds.{IsReached}
+use Rattle.world_drive.specs.machines.Standing.{StandsAsDevice}
 use Rattle.world_drive.{proofs.{Earlier.on_the_way, Order.{have_ended, in_order}}, specs.{Observing.Befell, Seeing.ComesNext}}
 
 module _ (network : Network) (world : ExactWorld) (events : List Event) (notes : List Note) (event : Event)

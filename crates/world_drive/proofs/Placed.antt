@@ -5,7 +5,7 @@ use Rattle.world_drive.proofs.Words.{true, units_of, ℕ}
 use Rattle.std.proofs.{Common.length-append, lemmas.Bool.cases_Bool}
 use Rattle.run_law.{proofs.runs.{NetworkRuns.one_more, Places.never_self}, specs.records.{Happenings.happening, Order.IsBefore, Ranks.place_of}}
 use Rattle.run_law.specs.{runs.DueRecords.IsScenarioRun, scenario.Scenarios.Scenario}
-use Rattle.world_exact.specs.Records.{clock_reading}
+use Rattle.world_drive.specs.exact.Records.{clock_reading}
 use Rattle.world_law.specs.source.Agreeing.{scenario}
 
 -- the last record with its frame

@@ -9,8 +9,8 @@ pub use Rattle.run_law.specs.declared.note.Note.{Note, Note as NoteValue}
 pub use Rattle.run_law.specs.records.Happenings.{Happening, happenings}
 pub use Rattle.tte_units.specs.Amount.{amount, units_of}
 pub use Rattle.tte_units.specs.declared.units.Units.{Units}
-pub use Rattle.world_exact.proofs.{Events.last_is, Given.if_some, Worlds.go_on}
-pub use Rattle.world_exact.specs.{Records.{AreRecordsBefore, AreRecordsSoFar}, Worlds.{ExactWorld, StandsExact}}
+pub use Rattle.world_drive.proofs.exact_lemmas.{Events.last_is, Given.if_some, Worlds.go_on}
+pub use Rattle.world_drive.specs.exact.{Records.{AreRecordsBefore, AreRecordsSoFar}, Worlds.{ExactWorld, StandsExact}}
 pub use Rattle.world_drive.specs.Observing.{Sees, Start, Stops, Told, told_by}
 pub use Rattle.world_drive.specs.{Seeing.{AreEarlier, CutsAtEvent, CutsBefore, IsAsked, IsPast, IsUnderwayAt, SeesEvent, SeesUntil}, Sources.MayGive}
 pub use Rattle.world_drive.specs.declared.observing.Cut.{Cut}

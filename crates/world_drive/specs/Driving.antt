@@ -5,8 +5,8 @@ use Rattle.net_plan.specs.declared.{event.Event.Event, network.Network.Network}
 use Rattle.run_law.specs.{declared.note.Note.Note, records.Order.IsBefore}
 use Rattle.tte_io.specs.declared.ends.Sink.{Ghosts}
 use Rattle.tte_units.specs.Amount.{amount}
-use Rattle.world_exact.specs.Records.{AreAllRecords, AreRecordsBefore, AreRecordsSoFar, HaveEnded}
-use Rattle.world_exact.specs.Worlds.{ExactWorld, StandsExact}
+use Rattle.world_drive.specs.exact.Records.{AreAllRecords, AreRecordsBefore, AreRecordsSoFar, HaveEnded}
+use Rattle.world_drive.specs.exact.Worlds.{ExactWorld, StandsExact}
 use Rattle.world_drive.specs.{Observing.{FailsBy, Grows, Sees, Stops, Told, start_by, told_by}, Seeing.HasBefallen}
 use Rattle.world_drive.specs.{Sources.{Gave, Stopped}, declared.{driving.Drove.Drove, observing.Cut.Cut}}
 use Rattle.world_drive.specs.declared.driving.Drove.TheVariants as ends

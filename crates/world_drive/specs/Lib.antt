@@ -1,3 +1,6 @@
+pub mod machines
+pub mod exact
+pub mod devices
 pub mod Sources
 pub mod Observing
 pub mod Seeing

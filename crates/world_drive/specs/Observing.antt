@@ -10,8 +10,8 @@ use Rattle.net_plan.specs.declared.{event.Event.Event, network.Network.Network}
 use Rattle.run_law.specs.declared.note.Note.{Note}
 use Rattle.tte_io.specs.{Faults.Rose, declared.ends.Sink.Ghosts}
 use Rattle.tte_units.specs.{Amount.{amount, units_of}, declared.units.Units.Units}
-use Rattle.world_exact.specs.{Records.AreRecordsSoFar, Worlds.{ExactWorld, IsReached, StandsExact}}
-use Rattle.world_machines.specs.Standing.{StandsAsDevice}
+use Rattle.world_drive.specs.exact.{Records.AreRecordsSoFar, Worlds.{ExactWorld, IsReached, StandsExact}}
+use Rattle.world_drive.specs.machines.Standing.{StandsAsDevice}
 use Rattle.world_drive.specs.{Sources.MayGive, declared.observing.Cut.{Cut, TheVariants.{OutOfMemory, WriteFault}}}
 
 -- ---- what was put

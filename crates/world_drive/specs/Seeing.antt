@@ -6,7 +6,8 @@ use Rattle.net_plan.specs.declared.{event.Event.Event, network.Network.Network}
 use Rattle.run_law.specs.{declared.note.Note.Note, records.{Happenings.{Happening, happenings}, Order.{IsBefore, IsIn}}}
 use Rattle.run_law.specs.records.Ranks.{place_of}
 use Rattle.tte_units.specs.{Amount.amount, declared.units.Units.Units}
-use Rattle.world_exact.specs.{Records.{AreRecordsBefore, AreRecordsSoFar}, Worlds.{ExactWorld, IsReached, StandsExact}}
+use Rattle.world_drive.specs.exact.Records.{AreRecordsBefore, AreRecordsSoFar}
+use Rattle.world_drive.specs.exact.Worlds.{ExactWorld, IsReached, StandsExact}
 use Rattle.world_law.specs.source.Applying.{place_of_event}
 use Rattle.world_drive.specs.{Observing.{Sees, Start, Stops, Told}, Sources.MayGive, declared.observing.Cut.Cut}
 

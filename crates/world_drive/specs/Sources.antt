@@ -5,7 +5,7 @@ use Rattle.std.specs.Prelude.{length, pos, true, ℕ}
 use Rattle.drift_world.specs.Running.{HoldsATime}
 use Rattle.net_plan.specs.{Belonging.IsOfNetwork, declared.{event.Event.Event, network.Network.Network}}
 use Rattle.run_law.specs.scenario.Hypothesis.{IsWithinHypothesis}
-use Rattle.world_exact.specs.Records.{HaveEnded}
+use Rattle.world_drive.specs.exact.Records.{HaveEnded}
 
 -- the event may befall the network after these, of which none is the end
 pub record MayGive (network : Network) (events : List Event) (event : Event) : Type 0 where

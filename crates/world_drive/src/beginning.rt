@@ -1,11 +1,11 @@
 ghost use Rattle.std.specs.Prelude.{◌≡◌, true, [], IfOk};
-ghost use Rattle.world_exact.specs.Worlds.{StandsExact};
+ghost use Rattle.world_drive.specs.exact.Worlds.{StandsExact};
 
+use crate::exact::ExactWorld;
+use crate::machines::machines_of;
 use drift_world::{OutOfMemory, World};
 use schedule_tables::Accepted;
 use std::alloc::Global;
-use world_exact::ExactWorld;
-use world_machines::machines_of;
 
 /// The world of a network at time 0, which nothing has befallen.
 ///

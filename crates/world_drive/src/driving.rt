@@ -1,15 +1,15 @@
 ghost use Rattle.std.specs.Prelude.{◌≡◌, None, [], true};
 ghost use Rattle.net_plan.specs.Ranges.{IsInRange};
-ghost use Rattle.world_exact.specs.Worlds.{StandsExact};
+ghost use Rattle.world_drive.specs.exact.Worlds.{StandsExact};
 ghost use Rattle.world_drive.specs.{Driving.Drives, Observing.{start_by, told_by}};
 
+use crate::exact::ExactWorld;
 use crate::observing::{Cut, Observer};
 use crate::seeing::{next_unit, see_event, see_until};
 use crate::sources::Events;
 use net_plan::{Event, Network, What};
 use tte_io::Sink;
 use tte_units::Units;
-use world_exact::ExactWorld;
 
 /// How a drive ended.
 #[derive(Drop)]

@@ -3,7 +3,10 @@
 #![tactic(auto)]
 
 mod beginning;
+pub mod devices;
 mod driving;
+pub mod exact;
+pub mod machines;
 mod observing;
 mod seeing;
 mod sources;

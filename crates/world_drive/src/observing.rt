@@ -7,12 +7,12 @@ ghost use Rattle.world_drive.specs.Observing.{Befell, IsCompleteExact, IsGiven, 
 ghost use Rattle.world_drive.specs.Observing.{PutsFurther, Start, Told, instant_of, told_by};
 ghost use Rattle.world_drive.specs.declared.observing.Cut.{Cut as CutValue};
 
+use crate::exact::ExactWorld;
 use drift_world::EventNote;
 use net_plan::{Event, Network};
 use plain_notes::Given;
 use tte_io::Sink;
 use tte_units::Units;
-use world_exact::ExactWorld;
 
 /// Why a drive is cut short.
 #[derive(Clone, Copy, Debug, PartialEq, Eq)]

@@ -3,17 +3,17 @@ ghost use Rattle.drift_world.specs.Running.{Reaches};
 ghost use Rattle.net_plan.specs.{Ranges.IsInRange, declared.event.Event.Event as EventValue};
 ghost use Rattle.run_law.specs.declared.note.Note.{Note as NoteValue};
 ghost use Rattle.tte_units.specs.Amount.{amount};
-ghost use Rattle.world_exact.specs.Worlds.{IsReached, StandsExact};
+ghost use Rattle.world_drive.specs.exact.Worlds.{IsReached, StandsExact};
 ghost use Rattle.world_drive.specs.Observing.{PutsFurther, Start, told_by};
 ghost use Rattle.world_drive.specs.Seeing.{ComesNext, CutsAtEvent, CutsBefore, HasSeen, HasSeenInstant, IsAsked};
 ghost use Rattle.world_drive.specs.Seeing.{IsPast, IsUnderwayAt, MayMeet, SeesEvent, SeesInstant, SeesUntil};
 
+use crate::exact::ExactWorld;
 use crate::observing::{Cut, Observer};
 use net_plan::{Event, Network};
 use plain_notes::Given;
 use tte_io::Sink;
 use tte_units::Units;
-use world_exact::ExactWorld;
 
 /// The time after.
 pub(crate) fn next_unit(time: Units) -> Units

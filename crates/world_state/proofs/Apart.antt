@@ -5,7 +5,7 @@ use Rattle.net_plan.specs.declared.network.Network.{Network}
 use Rattle.run_law.{proofs.records.Order.{given_of, is_given}, specs.{declared.note.NoteBody.NoteBody, records.{Happenings.Happening, Order.IsIn}}}
 use Rattle.run_law.specs.scenario.Scenarios.{Scenario}
 use Rattle.world_law.specs.world.{Moves.{AreGiven, ArePut}, World.{AtPort, OnWire}}
-use Rattle.world_queue.{proofs.Bags.in_permuted, specs.declared.Entry.Entry}
+use Rattle.world_state.{proofs.queue_lemmas.Bags.in_permuted, specs.declared.queue.Entry.Entry}
 use Rattle.world_state.specs.{Giving.{ArePutTo, IsPutOn}, Views.{at_port, on_wire}, declared.contents.{Content.Content, WayState.WayState}}
 use Rattle.world_state.specs.declared.giving.Giving.{Giving}
 

@@ -7,7 +7,7 @@ use Rattle.net_plan.specs.declared.tables.Link.{Link}
 use Rattle.run_law.specs.{control.Wires.{signal_of, time_on_port}, records.Order.IsIn}
 use Rattle.tte_lemmas.proofs.Lists.{in_all}
 use Rattle.world_law.specs.world.World.{AreInOrder, AtPort}
-use Rattle.world_queue.{proofs.Bags.in_permuted, specs.declared.Entry.Entry}
+use Rattle.world_state.{proofs.queue_lemmas.Bags.in_permuted, specs.declared.queue.Entry.Entry}
 use Rattle.world_state.{proofs.{Apart.ports_kept, UnderWays.sound_with}, specs.{Befalling.{AreSettledBy, entry_of, record_of, sent_up}, Giving.IsPutOn}}
 use Rattle.world_state.specs.{Places.IsSomePut, Sound.{AreBelow, AreUnderWay, rank_of}, Views.{at_port, befell_as}, declared.contents.Befallen.Befallen}
 use Rattle.world_state.specs.declared.contents.{Content.{Content, TheVariants.Wire}, Settled.Settled, WayState.WayState}

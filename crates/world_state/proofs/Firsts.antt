@@ -1,7 +1,7 @@
 -- Of what is under way one place is first.
 use Rattle.std.{proofs.Common.{◌∙◌, ◌∷◌, ◌≡◌, List, ap, get_or, inl, inr, subst, sym, ℕ}, specs.List.Sorted.IsPermutation}
 use Rattle.run_law.{proofs.runs.Places.either_way, specs.records.Order.IsBefore}
-use Rattle.world_queue.specs.{Places.{IsFirst, numbers_of}, declared.{Entry.Entry, Place.Place}}
+use Rattle.world_state.specs.{queue.Places.{IsFirst, numbers_of}, declared.queue.{Entry.Entry, Place.Place}}
 
 -- a place is known by its numbers
 pub by_numbers : (p q : Place) → numbers_of p ≡ numbers_of q → p ≡ q

@@ -1,3 +1,5 @@
+pub mod queue_lemmas
+pub mod timers_lemmas
 pub mod Acts
 pub mod Apart
 pub mod Befallings

@@ -5,7 +5,7 @@ use Rattle.std.specs.Prelude.{false}
 use Rattle.std.specs.List.Sorted.{IsPermutation}
 use Rattle.net_plan.{proofs.SameIds.link_is, specs.declared.{ids.{DeviceId.DeviceId, LinkId.LinkId}, network.Network.Network}}
 use Rattle.run_law.specs.{control.Leaving.Gives, declared.note.NoteBody.NoteBody, records.Order.IsIn}
-use Rattle.world_queue.{proofs.Bags.in_permuted, specs.{Places.numbers_of, declared.Entry.Entry}}
+use Rattle.world_state.{proofs.queue_lemmas.Bags.in_permuted, specs.{queue.Places.numbers_of, declared.queue.Entry.Entry}}
 use Rattle.world_state.specs.{Giving.{ArePutTo, IsGivenBy, entry_at_port, place_at_port}, Sound.AreBelow}
 use Rattle.world_state.specs.declared.contents.{Content.Content, WayState.WayState}
 use Rattle.world_state.specs.declared.giving.{Ends.Ends, Giving.Giving}

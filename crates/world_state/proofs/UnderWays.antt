@@ -7,7 +7,7 @@ use Rattle.net_plan.specs.declared.network.Network.{Network}
 use Rattle.run_law.{proofs.records.Order.{given_of, is_given}, specs.records.Order.IsIn}
 use Rattle.tte_lemmas.proofs.Lists.{differ}
 use Rattle.world_law.specs.world.{Moves.IsWithout, World.{AtPort, OnWire, port_place, wire_place}}
-use Rattle.world_queue.{proofs.Bags.in_permuted, specs.{Places.numbers_of, declared.{Entry.Entry, Place.Place}}}
+use Rattle.world_state.{proofs.queue_lemmas.Bags.in_permuted, specs.{queue.Places.numbers_of, declared.queue.{Entry.Entry, Place.Place}}}
 use Rattle.world_state.specs.{Sound.{AreUnderWay, rank_of}, Views.{at_port, on_wire, port_at, wire_at}, declared.contents.Content.Content}
 use Rattle.world_state.specs.declared.contents.Content.TheVariants.{Port, Wire}
 

@@ -5,7 +5,7 @@ use Rattle.net_plan.specs.{Places.link_at, declared.{event.What.What, ids.{Devic
 use Rattle.net_plan.specs.declared.{network.Network.Network, tables.Link.Link}
 use Rattle.run_law.specs.{control.Wires.{signal_of, time_on_port}, declared.note.NoteBody.NoteBody}
 use Rattle.sync_state.specs.declared.state.State.TheVariants.{Integrating}
-use Rattle.world_queue.specs.declared.Entry.{Entry}
+use Rattle.world_state.specs.declared.queue.Entry.{Entry}
 use Rattle.world_state.specs.{Giving.IsPutOn, Places.IsSomePut, declared.contents.{Befallen.Befallen, Content.Content}}
 use Rattle.world_state.specs.declared.contents.{Content.TheVariants.Wire, Settled.Settled, WayState.WayState}
 use Rattle.net_plan.specs.declared.event.What.TheVariants as events

@@ -5,7 +5,7 @@ use Rattle.std.specs.Prelude.{option_map, pos, slice_get, ℕ}
 use Rattle.net_plan.specs.declared.ids.DeviceId.{DeviceId}
 use Rattle.run_law.specs.{declared.note.NoteBody.NoteBody, records.Order.{IsBefore, IsIn}}
 use Rattle.tte_units.specs.Amount.{amount}
-use Rattle.world_queue.specs.{Places.first_entry, Queues.Queue, declared.{Entry.Entry, Place.Place}}
+use Rattle.world_state.specs.{queue.Places.first_entry, queue.Queues.Queue, declared.queue.{Entry.Entry, Place.Place}}
 use Rattle.world_state.specs.{Ripening.ripe_numbers, declared.contents.Waits.Waits}
 use Rattle.run_law.specs.declared.note.NoteBody.TheVariants as kinds
 

@@ -10,7 +10,7 @@ use Rattle.run_law.specs.scenario.Devices.{IsParentOf, is_parent_of}
 use Rattle.run_law.specs.scenario.Ways.{receiver_of, way_from}
 use Rattle.transparent_clock.specs.Points.{point_of}
 use Rattle.tte_units.specs.Amount.{amount}
-use Rattle.world_queue.specs.declared.{Entry.Entry, Place.Place}
+use Rattle.world_state.specs.declared.queue.{Entry.Entry, Place.Place}
 use Rattle.world_state.specs.{Views.octets_of, declared.contents.Content.{Content, TheVariants.{Port, Wire}}}
 use Rattle.world_state.specs.declared.{contents.{Timed.Timed, Waits.Waits, WayState.WayState}, giving.Ends.Ends}
 use Rattle.world_state.specs.declared.giving.Giving.{Giving}

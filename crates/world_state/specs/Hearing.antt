@@ -5,7 +5,7 @@ use Rattle.pcf_values.specs.declared.pcf.Pcf.{Pcf}
 use Rattle.run_law.specs.{control.Wires.{Signal, signal_of, timed}, declared.steps.{Arrival.Arrival, Moment.Moment}}
 use Rattle.run_law.specs.machines.{Calls.{HasLink, MayArrive, MayCall}, Nodes.{Node, arriving}}
 use Rattle.world_law.specs.world.Outcomes.{arrival_body}
-use Rattle.world_queue.specs.declared.Place.{Place}
+use Rattle.world_state.specs.declared.queue.Place.{Place}
 use Rattle.world_state.specs.{Views.octets_of, declared.contents.{Settled.Settled, Signal.Signal as SignalSent}}
 use Rattle.world_state.specs.declared.contents.Timed.{Timed, TheVariants.Sent}
 use Rattle.run_law.specs.declared.steps.Arrival.TheVariants as arrivals

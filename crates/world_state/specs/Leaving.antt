@@ -6,7 +6,7 @@ use Rattle.run_law.specs.{control.Leaving.{Departure, leaves, on_cut_way, too_ol
 use Rattle.run_law.specs.scenario.{Scenarios.{Scenario, is_broken}, Ways.{is_cut, way_from}}
 use Rattle.tte_units.specs.Amount.{amount}
 use Rattle.world_law.specs.world.{Outcomes.departure_body, World.AtPort}
-use Rattle.world_queue.specs.declared.Place.{Place}
+use Rattle.world_state.specs.declared.queue.Place.{Place}
 use Rattle.world_state.specs.declared.contents.Settled.{Settled}
 
 -- what is at the port

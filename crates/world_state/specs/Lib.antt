@@ -1,3 +1,5 @@
+pub mod queue
+pub mod timers
 pub mod Acting
 pub mod Applying
 pub mod Befalling

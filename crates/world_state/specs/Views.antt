@@ -5,7 +5,7 @@ use Rattle.run_law.specs.{control.Wires.{Signal, control, signal_of, timed}, rec
 use Rattle.run_law.specs.records.Happenings.{Happening}
 use Rattle.tte_units.specs.Amount.{units_of}
 use Rattle.world_law.specs.world.World.{AtPort, Befell, OnWire, Stored, Waiting, WayNow}
-use Rattle.world_queue.specs.declared.{Entry.Entry, Place.Place}
+use Rattle.world_state.specs.declared.queue.{Entry.Entry, Place.Place}
 use Rattle.world_state.specs.declared.contents.{Befallen.Befallen, Content.{Content, TheVariants.{Port, Wire}}}
 use Rattle.world_state.specs.declared.contents.{Holding.Holding, Settled.Settled, Signal.Signal as Sent, Timed.Timed}
 use Rattle.world_state.specs.declared.contents.{Waits.Waits, WayState.WayState}

@@ -7,6 +7,7 @@ ghost use Rattle.world_state.specs.Befalling.{AreSettledBy, bare, entry_of, lost
 use crate::OutOfMemory;
 use crate::contents::{Befallen, Content, Settled, Signal, WayState};
 use crate::packets::{Happened, Happening, Packet};
+use crate::queue::{Entry, Place, UnderWay};
 use crate::sending::{frame_time, put_on};
 use crate::settled::put_some;
 use net_plan::{DeviceId, Link, LinkId, Network};
@@ -15,7 +16,6 @@ use plain_notes::{Body, Kind};
 use run_law::Why;
 use std::collections::VecDeque;
 use std::mem::replace;
-use world_queue::{Entry, Place, UnderWay};
 
 /// How long octets are on their port.
 fn port_time(network: &Network, link: LinkId, given: &[u8]) -> u64

@@ -4,10 +4,10 @@ ghost use Rattle.run_law.specs.scenario.Hypothesis.{breaks_at};
 ghost use Rattle.world_state.specs.Frames.{IsFirstAt, NoneAt, first_of, queue_place, room_of};
 
 use crate::contents::Waits;
+use crate::queue::{Place, UnderWay};
 use net_plan::DeviceId;
 use std::alloc::{AllocError, Global};
 use std::marker::Model;
-use world_queue::{Place, UnderWay};
 
 /// The frames that wait for their permanence: those of each device in a queue of its own, in the order in which they
 /// are permanent.

@@ -11,12 +11,12 @@ ghost use Rattle.world_state.specs.Sound.{AreBelow, AreUnderWay};
 use crate::OutOfMemory;
 use crate::contents::{Content, Spot, WayState};
 use crate::frames::Frames;
+use crate::queue::{Place, UnderWay};
 use crate::shelves::Shelves;
 use crate::waiting::{awaited, wait_for};
 use net_plan::{DeviceId, LinkId, Network, Role};
 use pcf_values::Pcf;
 use plain_notes::{Body, Kind};
-use world_queue::{Place, UnderWay};
 
 /// Does the link lead from the device up to its parent?
 fn is_child(network: &Network, device: DeviceId, link: LinkId) -> bool

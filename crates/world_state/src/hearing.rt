@@ -3,20 +3,20 @@ ghost use Rattle.net_plan.specs.{Ranges.IsInRange, declared.ids.DeviceId.DeviceI
 ghost use Rattle.net_plan.specs.declared.network.Network.{Network as NetworkValue};
 ghost use Rattle.run_law.specs.{control.Wires.{signal_of, timed}, machines.Calls.StandsFor};
 ghost use Rattle.world_law.specs.world.{Calls.HasHeard, Outcomes.arrival_body};
-ghost use Rattle.world_queue.specs.Places.{IsFirst};
+ghost use Rattle.world_state.specs.queue.Places.{IsFirst};
 ghost use Rattle.plain_notes.specs.Bodies.{body_of};
 ghost use Rattle.world_state.specs.Hearing.{AreOctetsOf, IsAsSent, MayCome, arrived, frame_kept, octets_kept, timed_in};
 ghost use Rattle.world_state.specs.{Keeping.keeps, Sound.{AreUnderWay, rank_of}, Views.{octets_of, signal_as}};
 
 use crate::contents::{Content, Settled, Signal, Timed};
 use crate::kept::Kept;
+use crate::queue::{Place, UnderWay};
 use made_frames::MadeFrame;
 use net_plan::{DeviceId, LinkId, Network};
 use pcf_codec::{PCF_LENGTH, encode};
 use pcf_values::Pcf;
 use plain_notes::{Body, Kind};
 use run_law::{Arrival, Machine, Moment};
-use world_queue::{Place, UnderWay};
 
 /// Takes out what is on a wire and the first of all that is under way.
 #[inline(always)]

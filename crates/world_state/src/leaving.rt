@@ -1,16 +1,16 @@
 ghost use Rattle.std.specs.Prelude.{◌<◌, ◌∷◌, ◌≡◌, IsPermutation, None, length};
 ghost use Rattle.net_plan.specs.{Ranges.IsInRange, declared.network.Network.Network as NetworkValue};
 ghost use Rattle.run_law.specs.{records.Happenings.with_clock, scenario.Devices.is_parent_of};
-ghost use Rattle.world_queue.specs.Places.{IsFirst};
+ghost use Rattle.world_state.specs.queue.Places.{IsFirst};
 ghost use Rattle.world_state.specs.{Leaving.{departed, port_entry}, Sound.{AreUnderWay, rank_of}};
 ghost use Rattle.plain_notes.specs.Bodies.{body_of};
 
 use crate::contents::{Content, Settled};
+use crate::queue::{Place, UnderWay};
 use net_plan::{DeviceId, LinkId, Network};
 use pcf_values::Pcf;
 use plain_notes::{Body, Kind};
 use run_law::Reason;
-use world_queue::{Place, UnderWay};
 
 /// Takes the frame out that is at a port, and the first of all that is under way; and what its device's clock read
 /// when it gave the frame to the link.

@@ -16,12 +16,14 @@ mod memory;
 pub mod naming;
 pub mod outcomes;
 pub mod packets;
+pub mod queue;
 pub mod reached;
 pub mod ripening;
 pub mod sending;
 pub mod settled;
 pub mod shelves;
 pub mod storing;
+pub mod timers;
 pub mod timing;
 pub mod waiting;
 

@@ -5,11 +5,11 @@ ghost use Rattle.world_state.specs.{Giving.{IsPutOn, place_on_wire, wire_entry},
 
 use crate::contents::{Content, Signal, Timed, WayState};
 use crate::leaving::is_parent;
+use crate::queue::{Entry, Place, UnderWay};
 use net_plan::{DeviceId, LinkId, Network};
 use pcf_values::Pcf;
 use plain_notes::{Body, Kind};
 use tte_units::octets;
-use world_queue::{Entry, Place, UnderWay};
 
 /// How many octets a frame of the schedule has.
 fn octet_count(network: &Network, timed: &Timed) -> u32

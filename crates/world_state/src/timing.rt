@@ -2,10 +2,10 @@ ghost use Rattle.std.specs.Prelude.{◌≤◌, ◌^◌};
 ghost use Rattle.world_state.specs.Timing.{IsLeastPoint, IsTimeFor};
 
 use crate::frames::Frames;
+use crate::timers::NEVER;
 use drift_clock::Clock;
 use net_plan::DeviceId;
 use tte_units::Units;
-use world_timers::NEVER;
 
 /// More than any clock reads in a run.
 const GREATEST: Units = Units(1 << 61);

@@ -11,10 +11,7 @@ use tte_io::{ReadAll, Source, read_all};
 /// Where a network's file is found to be no TOML document; None where it is one, and where it is no UTF-8.
 ///
 /// The error says why the file was not read whole.
-pub fn find_fault_in<A: Source>(
-    alloc: Global,
-    source: &mut A,
-) -> Result<Option<TextPlace>, ReadAll>
+pub fn find_fault_in<A: Source>(alloc: Global, source: &mut A) -> Result<Option<TextPlace>, ReadAll>
     ensures found { IfOk result (λ found. ForOctets (A.left source.old)
         (λ octets. (found ≢ None) ↔ IsNoDocument octets)) }
     ensures place { IfOk result (λ found. ForOctets (A.left source.old)

@@ -1,5 +1,5 @@
 use Rattle.audit_sweep.proofs.Words.{◌≡◌, DeviceId, Network, arith, key, points_of, refl, scenario_under, subst, sym, true}
-use Rattle.audit_stretches.specs.Points.{HasPoints}
+use Rattle.audit_devices.specs.stretches.Points.{HasPoints}
 use Rattle.run_law.specs.{control.Permanence.{IsJudgedBy, before_permanence}, declared.judgement.Judgement.TheVariants.Ignored}
 use Rattle.run_law.specs.{declared.note.NoteBody.TheVariants.Permanent, scenario.Devices.is_cm}
 use Rattle.audit_sweep.proofs.HeardBefore.{earlier_before, heard_before}

@@ -1,5 +1,5 @@
 use Rattle.std.proofs.Common.{◌≡◌, None, Some, rules}
-use Rattle.lens_forms.specs.{Forms.form_of, declared.form.Form.TheVariants.{Draw, DrawWhole, Events, Flows, Least, Slack, SlackOf, Why}}
+use Rattle.lens_slack.specs.{forms.Forms.form_of, declared.forms.form.Form.TheVariants.{Draw, DrawWhole, Events, Flows, Least, Slack, SlackOf, Why}}
 use Rattle.lens_why.specs.Answer.{IsWhyStatus}
 use Rattle.tte_forms.{proofs.Facts.no_usage, specs.{Putting.shown_by, networks.Checking.IsCheckStatus}}
 use Rattle.tte_reports.specs.Answer.{IsAuditStatus}

@@ -1,6 +1,6 @@
 use Rattle.std.proofs.Common.{List, ap, sym, subst}
 use Rattle.lens_draw.proofs.Marking.{AreHeard, heard_all, heard_more, left_less}
-use Rattle.lens_picture.specs.Clocks.{Clocks, clocks_with}
+use Rattle.lens_draw.specs.svg.Clocks.{Clocks, clocks_with}
 use Rattle.std.specs.Prelude.{fold}
 use Rattle.run_law.specs.declared.note.Note.{Note}
 use Rattle.tte_reports.specs.Reports.{AreLeft}

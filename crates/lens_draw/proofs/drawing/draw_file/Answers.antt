@@ -5,9 +5,9 @@ use Rattle.tte_audit.specs.Named.{IsNamed}
 use Rattle.tte_forms.specs.{Answering.GivesAnswer, Putting.{Shown, shown_by}, declared.status.Status.Status}
 use Rattle.tte_reports.{proofs.Reports.{no_report_answered, report_given, report_there}, specs.Reports.IsReportOf}
 use Rattle.tte_units.specs.declared.units.Units.{Units}
-use Rattle.lens_past.specs.Pasts.{IsSomeReport, ShowsAll}
+use Rattle.lens_why.specs.past.Pasts.{IsSomeReport, ShowsAll}
 use Rattle.lens_draw.specs.Answer.{IsDrawAnswer}
-use Rattle.lens_picture.specs.declared.layout.Span.{Span}
+use Rattle.lens_draw.specs.declared.svg.layout.Span.{Span}
 use Rattle.lens_draw.proofs.drawing.draw_file.Goals as goal
 
 -- for any records that the octets are the report of, an answer was given

@@ -2,7 +2,7 @@ use Rattle.std.proofs.Common.{◌∙◌, ap, inl, refl, subst, sym}
 use Rattle.std.specs.Prelude.{All}
 use Rattle.lens_draw.proofs.Asking.{report_askable}
 use Rattle.lens_draw.specs.{Answer.draw_answer, Asking.IsAskable, Picture.clocks_of}
-use Rattle.lens_picture.specs.{Plan.Plan, Windows.windows_in}
+use Rattle.lens_draw.specs.svg.{Plan.Plan, Windows.windows_in}
 use Rattle.run_law.specs.records.Happenings.{happenings}
 use Rattle.tte_audit.specs.Report.{events_of}
 use Rattle.lens_draw.proofs.drawing.draw_known.Goals as goal

@@ -1,7 +1,7 @@
 use Rattle.std.proofs.Common.{List, ap, sym, subst}
 use Rattle.lens_draw.proofs.Marking.{IsSketched, left_less, sketched_all, sketched_more}
-use Rattle.lens_picture.specs.Plan.{Plan}
-use Rattle.lens_picture.specs.Sketching.{begun, plan_behind}
+use Rattle.lens_draw.specs.svg.Plan.{Plan}
+use Rattle.lens_draw.specs.svg.Sketching.{begun, plan_behind}
 use Rattle.run_law.specs.declared.note.Note.{Note}
 use Rattle.tte_reports.specs.Reports.{AreLeft}
 use Rattle.lens_draw.proofs.drawing.sketch_of.Goals as goal

@@ -1,6 +1,6 @@
 use Rattle.std.proofs.Common.{List, length}
 use Rattle.lens_draw.proofs.Marking.{IsSketched}
-use Rattle.lens_picture.specs.Sketching.{begun}
+use Rattle.lens_draw.specs.svg.Sketching.{begun}
 use Rattle.run_law.specs.declared.note.Note.{Note}
 use Rattle.tte_reports.specs.Reports.{AreLeft}
 use Rattle.lens_draw.proofs.drawing.sketch_of.Given as goal

@@ -1,6 +1,6 @@
 use Rattle.std.proofs.Common.{◌≡◌, ◌≤◌, List, length}
 use Rattle.lens_draw.proofs.Marking.{IsMarked}
-use Rattle.lens_picture.specs.Layout.{widest}
+use Rattle.lens_draw.specs.svg.Layout.{widest}
 use Rattle.run_law.specs.declared.note.Note.{Note}
 use Rattle.tte_forms.specs.Putting.{shown_by}
 use Rattle.tte_reports.specs.Reports.{AreLeft}

@@ -4,9 +4,9 @@ use Rattle.std.specs.Prelude.{if◌then◌else◌, unsigned_abs}
 use Rattle.lens_draw.proofs.Parts.{draws_one}
 use Rattle.lens_draw.specs.Picture.{marks_of}
 use Rattle.lens_draw.specs.Putting.{Draws}
-use Rattle.lens_picture.specs.Layout.{holds}
-use Rattle.lens_picture.specs.Marking.{mark_line}
-use Rattle.lens_picture.specs.Sketching.{moment}
+use Rattle.lens_draw.specs.svg.Layout.{holds}
+use Rattle.lens_draw.specs.svg.Marking.{mark_line}
+use Rattle.lens_draw.specs.svg.Sketching.{moment}
 use Rattle.tte_forms.specs.Putting.{shown_by}
 use Rattle.lens_draw.proofs.marks.put_mark.Goals as goal
 

@@ -2,8 +2,8 @@ use Rattle.std.proofs.Common.{◌∙◌, subst}
 use Rattle.std.specs.Prelude.{Option}
 use Rattle.lens_draw.proofs.Parts.{listed_fails, listed_more}
 use Rattle.lens_draw.specs.Picture.{some_line}
-use Rattle.lens_picture.specs.Clocks.{gauge_of}
-use Rattle.lens_picture.specs.declared.element.Element.{Element}
+use Rattle.lens_draw.specs.svg.Clocks.{gauge_of}
+use Rattle.lens_draw.specs.declared.svg.element.Element.{Element}
 use Rattle.tte_forms.specs.Putting.{PutFails, PutsLines, shown_by}
 use Rattle.lens_draw.proofs.putting.put_gauges.Goals as goal
 

@@ -1,7 +1,7 @@
 use Rattle.std.proofs.Common.{◌≡◌, take}
 use Rattle.std.specs.Prelude.{flat_map}
 use Rattle.lens_draw.specs.Picture.{some_line}
-use Rattle.lens_picture.specs.Clocks.{gauge_of}
+use Rattle.lens_draw.specs.svg.Clocks.{gauge_of}
 use Rattle.tte_forms.specs.Putting.{PutsLines, shown_by}
 use Rattle.lens_draw.proofs.putting.put_gauges.Given as goal
 

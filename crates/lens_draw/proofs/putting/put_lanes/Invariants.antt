@@ -1,6 +1,6 @@
 use Rattle.std.proofs.Common.{◌≡◌}
 use Rattle.lens_draw.specs.Picture.{lines_from, some_line}
-use Rattle.lens_picture.specs.Layers.{on_lane}
+use Rattle.lens_draw.specs.svg.Layers.{on_lane}
 use Rattle.tte_forms.specs.Putting.{PutsLines, shown_by}
 use Rattle.lens_draw.proofs.putting.put_lanes.Given as goal
 

@@ -1,7 +1,7 @@
 use Rattle.std.proofs.Common.{◌≡◌, take}
 use Rattle.std.specs.Prelude.{flat_map}
 use Rattle.lens_draw.specs.Picture.{some_line}
-use Rattle.lens_picture.specs.Layers.{on_mark}
+use Rattle.lens_draw.specs.svg.Layers.{on_mark}
 use Rattle.tte_forms.specs.Putting.{PutsLines, shown_by}
 use Rattle.lens_draw.proofs.putting.put_marks.Given as goal
 

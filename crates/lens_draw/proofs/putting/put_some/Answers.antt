@@ -3,8 +3,8 @@ use Rattle.std.specs.Prelude.{Option}
 use Rattle.lens_draw.proofs.Parts.{draws_one}
 use Rattle.lens_draw.specs.Picture.{some_line}
 use Rattle.lens_draw.specs.Putting.{Draws}
-use Rattle.lens_picture.specs.Elements.{element_line}
-use Rattle.lens_picture.specs.declared.element.Element.{Element}
+use Rattle.lens_draw.specs.svg.Elements.{element_line}
+use Rattle.lens_draw.specs.declared.svg.element.Element.{Element}
 use Rattle.tte_forms.specs.Putting.{shown_by}
 use Rattle.lens_draw.proofs.putting.put_some.Goals as goal
 

@@ -1,7 +1,7 @@
 use Rattle.std.proofs.Common.{◌∙◌}
 use Rattle.lens_draw.proofs.Parts.{flat_fails, flat_more}
 use Rattle.lens_draw.specs.Picture.{some_line}
-use Rattle.lens_picture.specs.Windows.{box_of}
+use Rattle.lens_draw.specs.svg.Windows.{box_of}
 use Rattle.tte_forms.specs.Putting.{shown_by}
 use Rattle.lens_draw.proofs.putting.put_windows.Goals as goal
 

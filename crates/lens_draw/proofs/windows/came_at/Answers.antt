@@ -1,5 +1,5 @@
 use Rattle.std.{proofs.{Common.{◌∙◌, ap, rules, ℤ}, lemmas.Int.to_z-of_z}, specs.Int.w128}
-use Rattle.lens_picture.specs.Windows.{came_of}
+use Rattle.lens_draw.specs.svg.Windows.{came_of}
 use Rattle.lens_draw.proofs.windows.came_at.Goals as goal
 
 pub returns-in-Taken : goal.returns-in-Taken

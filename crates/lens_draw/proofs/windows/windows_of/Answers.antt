@@ -1,12 +1,12 @@
 use Rattle.std.proofs.{Common.{◌∙◌, ◌++◌, ◌≤◌, Global, List, Option, Vec, [], ap, length, subst, sym}, lemmas.List.append-nil}
 use Rattle.std.specs.{List.cons_option, Prelude.All}
-use Rattle.audit_events.specs.Readings.{scenario_under}
+use Rattle.audit_devices.specs.events.Readings.{scenario_under}
 use Rattle.lens_draw.proofs.Asking.{with_next}
 use Rattle.lens_draw.specs.Asking.{IsAskable}
-use Rattle.lens_past.specs.Pasts.{clock_at}
+use Rattle.lens_why.specs.past.Pasts.{clock_at}
 use Rattle.lens_draw.proofs.Parts.{take_all}
-use Rattle.lens_picture.specs.Windows.{came_of, windows_in}
-use Rattle.lens_picture.specs.declared.{mark.Mark.Mark, window.Came.Came}
+use Rattle.lens_draw.specs.svg.Windows.{came_of, windows_in}
+use Rattle.lens_draw.specs.declared.svg.{mark.Mark.Mark, window.Came.Came}
 use Rattle.lens_draw.proofs.windows.windows_of.Goals as goal
 use Rattle.lens_draw.proofs.windows.windows_of.Goals.{in-Some+in-Ok, in_default}
 

@@ -1,7 +1,7 @@
 use Rattle.std.proofs.Common.{◌≡◌, List, take}
-use Rattle.audit_events.specs.Readings.{scenario_under}
-use Rattle.lens_past.specs.Pasts.{IsPast, clock_at}
-use Rattle.lens_picture.specs.Windows.{windows_in}
+use Rattle.audit_devices.specs.events.Readings.{scenario_under}
+use Rattle.lens_why.specs.past.Pasts.{IsPast, clock_at}
+use Rattle.lens_draw.specs.svg.Windows.{windows_in}
 use Rattle.net_plan.specs.declared.event.Event.{Event}
 use Rattle.run_law.specs.records.Happenings.{Happening}
 use Rattle.lens_draw.proofs.windows.windows_of.Given as goal

@@ -1,6 +1,6 @@
 use Rattle.std.proofs.Common.{◌≡◌, List, inl, inr, refl, sym, subst, ◌∙◌}
 use Rattle.std.specs.Prelude.{All}
-use Rattle.flow_counts.specs.declared.told.FlowTold.{FlowTold}
+use Rattle.lens_flows.specs.declared.counts.told.FlowTold.{FlowTold}
 use Rattle.lens_flows.proofs.AllTold.{answer_there, writable_all}
 use Rattle.lens_flows.specs.Answer.{told_answer}
 use Rattle.lens_flows.specs.Writing.{IsWritable}

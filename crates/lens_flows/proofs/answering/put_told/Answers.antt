@@ -3,7 +3,7 @@ use Rattle.std.{proofs.{Math.Seq.take-length, lemmas.List.{map-append, take-appe
 use Rattle.tte_forms.{proofs.Puts.{Ends-gives, PutsLines-fails, PutsLines-more}, specs.Putting.{PutFails, PutsLines, shown_by}}
 use Rattle.tte_forms.specs.declared.status.Status.TheVariants.{Done}
 use Rattle.tte_io.specs.Told.{AppendsFront}
-use Rattle.flow_counts.specs.declared.told.FlowTold.{FlowTold}
+use Rattle.lens_flows.specs.declared.counts.told.FlowTold.{FlowTold}
 use Rattle.lens_flows.{proofs.Listed.next_line, specs.Lines.flow_line}
 use Rattle.lens_flows.proofs.answering.put_told.Goals as goal
 

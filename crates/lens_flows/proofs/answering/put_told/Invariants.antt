@@ -1,5 +1,5 @@
 use Rattle.std.proofs.Common.{◌≡◌, map, take}
-use Rattle.flow_counts.specs.declared.told.FlowTold.{FlowTold}
+use Rattle.lens_flows.specs.declared.counts.told.FlowTold.{FlowTold}
 use Rattle.lens_flows.specs.Lines.{flow_line}
 use Rattle.tte_forms.specs.Putting.{PutsLines, shown_by}
 use Rattle.lens_flows.proofs.answering.put_told.Given as goal

@@ -2,8 +2,8 @@ use Rattle.std.proofs.Common.{◌≡◌, ◌≤◌, ◌^◌, ℤ, List, ap, sym,
 use Rattle.std.proofs.lemmas.Int.{to_z-of_z}
 use Rattle.std.specs.Int.{w64}
 use Rattle.std.specs.Prelude.{All, unsigned_abs}
-use Rattle.flow_counts.specs.FlowLists.{AreFlows}
-use Rattle.flow_counts.specs.declared.deliveries.Delivery.{Delivery}
+use Rattle.lens_flows.specs.counts.FlowLists.{AreFlows}
+use Rattle.lens_flows.specs.declared.counts.deliveries.Delivery.{Delivery}
 use Rattle.lens_flows.proofs.AllTold.{all_told, flows_each}
 use Rattle.lens_flows.proofs.Reading.{deliveries_soon, end_soon}
 use Rattle.run_law.specs.records.Happenings.{happenings}

@@ -5,7 +5,7 @@ use Rattle.tte_audit.specs.Named.{IsNamed}
 use Rattle.tte_forms.specs.{Answering.GivesAnswer, Putting.{Shown, shown_by}, declared.status.Status.Status}
 use Rattle.tte_reports.{proofs.Reports.{no_report_answered, report_given, report_there}, specs.Reports.IsReportOf}
 use Rattle.tte_units.specs.declared.units.Units.{Units}
-use Rattle.lens_past.specs.Pasts.{IsSomeReport, ShowsAll}
+use Rattle.lens_why.specs.past.Pasts.{IsSomeReport, ShowsAll}
 use Rattle.lens_why.specs.Answer.{IsWhyAnswer}
 use Rattle.lens_why.proofs.answering.why_in_file.Goals as goal
 

@@ -1,6 +1,6 @@
 use Rattle.std.proofs.Common.{◌∙◌, ◌≡◌, ap, refl, subst, sym, ℕ}
 use Rattle.audit_devices.specs.Showing.{IsAfter}
-use Rattle.lens_past.specs.Pasts.{before_corrections}
+use Rattle.lens_why.specs.past.Pasts.{before_corrections}
 use Rattle.run_law.specs.records.Happenings.{happenings, time_of}
 use Rattle.tte_audit.specs.Report.{events_of, scenario_of}
 use Rattle.tte_units.specs.{Amount.amount, declared.units.Units.Units}

@@ -1,6 +1,6 @@
 use Rattle.std.{proofs.{Common.{◌∙◌, ◌≡◌, ap, of_z, rules, subst, sym, to_z, ℕ, ℤ}, lemmas.Int.to_z-of_z}, specs.{Int.w128, Prelude.option_and_then}}
 use Rattle.audit_devices.specs.Showing.{IsAfter}
-use Rattle.lens_past.specs.Pasts.{before_corrections}
+use Rattle.lens_why.specs.past.Pasts.{before_corrections}
 use Rattle.pcf_values.specs.declared.channel.Channel.TheVariants.{A, B}
 use Rattle.run_law.specs.records.Happenings.{happenings, time_of}
 use Rattle.tte_audit.specs.Report.{events_of, scenario_of}

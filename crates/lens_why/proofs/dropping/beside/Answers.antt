@@ -1,6 +1,6 @@
 use Rattle.std.proofs.Common.{◌∙◌, Option, ap, subst, sym}
 use Rattle.std.specs.Prelude.{IfSome}
-use Rattle.audit_events.specs.Readings.{scenario_under}
+use Rattle.audit_devices.specs.events.Readings.{scenario_under}
 use Rattle.schedule_tables.specs.{Entries.IsEntryInRange, declared.entry.Entry.Entry}
 use Rattle.tte_units.specs.Amount.{amount}
 use Rattle.lens_why.specs.Grounds.{beside_ground}

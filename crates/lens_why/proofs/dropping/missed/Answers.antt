@@ -1,5 +1,5 @@
 use Rattle.std.{proofs.{Common.{◌∙◌, ap, of_z, rules, to_z, ℕ, ℤ}, lemmas.Int.to_z-of_z}, specs.Int.w128}
-use Rattle.audit_events.specs.Readings.{scenario_under}
+use Rattle.audit_devices.specs.events.Readings.{scenario_under}
 use Rattle.schedule_tables.specs.declared.window.Window.{Window as Places}
 use Rattle.tte_units.specs.Amount.{amount}
 use Rattle.lens_why.specs.{Grounds.{cycle_before, position_at}, declared.ground.Ground.TheVariants.Missed}

@@ -1,6 +1,6 @@
 use Rattle.std.{proofs.{Common.{if◌then◌else◌, ◌*◌, ◌+ℤ◌, ◌+◌, ◌∙◌, Bool, ap, pos, rules, sym, ℕ, ℤ}, lemmas.Int.to_z-of_z}, specs.Int.w128}
-use Rattle.audit_events.specs.Readings.{scenario_under}
-use Rattle.lens_past.specs.Pasts.{clock_at}
+use Rattle.audit_devices.specs.events.Readings.{scenario_under}
+use Rattle.lens_why.specs.past.Pasts.{clock_at}
 use Rattle.run_law.specs.device.Standpoints.{offset_in_cycle}
 use Rattle.tte_units.specs.Amount.{amount}
 use Rattle.lens_why.specs.declared.ground.Ground.{Ground, TheVariants.{Gate, Untold}}

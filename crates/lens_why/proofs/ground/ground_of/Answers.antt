@@ -1,5 +1,5 @@
 use Rattle.std.proofs.Common.{◌∙◌, ap, refl, subst, sym, ℤ}
-use Rattle.lens_past.specs.declared.past.Permanence.{Permanence}
+use Rattle.lens_why.specs.declared.past.past.Permanence.{Permanence}
 use Rattle.report_text.specs.Ranges.{IsBodyOf}
 use Rattle.run_law.specs.{declared.note.{Note.Note, NoteBody.NoteBody}, records.Happenings.happenings}
 use Rattle.tte_audit.specs.Report.{events_of, scenario_of}

@@ -1,5 +1,5 @@
 use Rattle.std.{proofs.{Common.{◌∙◌, ap, rules, ℤ}, lemmas.Int.to_z-of_z}, specs.Int.w128}
-use Rattle.audit_events.specs.Readings.{scenario_under}
+use Rattle.audit_devices.specs.events.Readings.{scenario_under}
 use Rattle.lens_why.proofs.Hearing.{scheduled_is}
 use Rattle.lens_why.specs.Grounds.{heard_ground}
 use Rattle.lens_why.proofs.ground.scheduled.Goals as goal

@@ -1,5 +1,5 @@
 use Rattle.std.proofs.Common.{◌∙◌, Err, List, ap, subst, ℕ}
-use Rattle.pcap_form.specs.Reading.{opened}
+use Rattle.tte_captures.specs.pcap.Reading.{opened}
 use Rattle.tte_forms.specs.{Answering.Gives, Putting.shown_by}
 use Rattle.tte_captures.{proofs.Files.{answers-long, answers-read}, specs.Answer.opened_answer}
 use Rattle.tte_captures.proofs.capturing.capture_file.Goals as goal

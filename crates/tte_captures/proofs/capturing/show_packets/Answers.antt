@@ -1,6 +1,7 @@
 use Rattle.std.{proofs.Common.{◌+◌, ◌∙◌, ◌≡◌, ◌≤◌, Err, List, Ok, ap, arith, refl, subst, sym, ℕ}, specs.Io.KnownBytes.Appends}
 use Rattle.std.specs.Prelude.{IfSome, None, Option, Result, Some}
-use Rattle.pcap_form.specs.{Layout.{IsPacket, stamp_length}, Reading.packet_at, declared.{capture.Packet.Packet, refusal.CaptureRefusal.CaptureRefusal}}
+use Rattle.tte_captures.specs.{pcap.Layout.{IsPacket, stamp_length}, pcap.Reading.packet_at}
+use Rattle.tte_captures.specs.declared.pcap.{capture.Packet.Packet, refusal.CaptureRefusal.CaptureRefusal}
 use Rattle.tte_forms.specs.{Answering.{Gives, line_answer}, Putting.shown_by, declared.status.Status.TheVariants.CaptureRefused}
 use Rattle.tte_io.specs.Told.{AppendsFront}
 use Rattle.tte_captures.proofs.Packets.{IsShown-all, IsShown-fails, IsShown-more, IsShown-none, IsShown-refused}

@@ -8,7 +8,7 @@ use Rattle.tte_reports.specs.Answer.{IsAuditStatus}
 use Rattle.tte_stamps.specs.Answer.{IsStampStatus}
 use Rattle.tte_traces.specs.Answer.{IsRunStatus}
 use Rattle.tte_votes.specs.Answer.{IsVoteAnswer, IsVoteStatus, the_names}
-use Rattle.tte_wires.specs.{Answer.{IsWireAnswer, IsWireNetworkAnswer, IsWireStatus}, Streaming.WireStops}
+use Rattle.tte_captures.specs.wires.{Answer.{IsWireAnswer, IsWireNetworkAnswer, IsWireStatus}, Streaming.WireStops}
 use Rattle.tte_run.proofs.TopAnswers.{as_one, completes-audit, completes-capture, completes-check, completes-run, completes-show, completes-stamp}
 use Rattle.tte_run.{proofs.TopAnswers.{completes-storm, completes-vote, completes-wire}, specs.SecondFiles.{FailsToRead, FormStops, second_of}}
 use Rattle.tte_run.specs.{Top.AnswersWords, Whole.Completes}

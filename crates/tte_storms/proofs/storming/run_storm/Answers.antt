@@ -1,5 +1,5 @@
 use Rattle.std.proofs.Common.{[], inl}
-use Rattle.storm_summary.specs.Lines.{lines_of}
+use Rattle.tte_storms.specs.summary.Lines.{lines_of}
 use Rattle.tte_forms.{proofs.{Puts.{PutsLines-none, PutsLines-still}, frames.Frames.Gives-behind}, specs.Putting.shown_by}
 use Rattle.tte_forms.specs.declared.status.Status.TheVariants.{Done}
 use Rattle.tte_storms.proofs.storming.run_storm.Goals as goal

@@ -1,5 +1,5 @@
 use Rattle.std.proofs.Common.{◌∙◌, Some, ap, arith, sym}
-use Rattle.storm_summary.specs.Lines.{lines_of}
+use Rattle.tte_storms.specs.summary.Lines.{lines_of}
 use Rattle.tte_forms.specs.Putting.{shown_by}
 use Rattle.tte_storms.proofs.Summed.{lines_all, lines_fail, lines_more}
 use Rattle.tte_storms.proofs.summing.put_summary.Goals as goal

@@ -1,5 +1,5 @@
 use Rattle.tte_votes.proofs.Words.{◌+◌, ◌∙◌, arith, key_of, refl, shown_by}
-use Rattle.vote_ballots.proofs.First.{held_from_first}
+use Rattle.tte_votes.proofs.ballots_lemmas.First.{held_from_first}
 use Rattle.tte_votes.proofs.Loops.{next_within, puts_all, puts_fail, puts_first, puts_next}
 use Rattle.tte_votes.proofs.putting.put_votes.Goals as goal
 

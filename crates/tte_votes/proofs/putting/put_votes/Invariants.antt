@@ -1,7 +1,7 @@
 use Rattle.tte_votes.proofs.Words.{◌^◌, ◌≡◌, ◌≤◌, HoldsVotes, List, PutsLines, happenings, shown_by, ℕ}
 use Rattle.run_law.specs.declared.note.Note.{Note as NoteValue}
-use Rattle.vote_ballots.specs.Keeping.{HoldsFrom, kept_count}
-use Rattle.vote_law.specs.declared.voters.Voters.{Voters as VotersValue}
+use Rattle.tte_votes.specs.ballots.Keeping.{HoldsFrom, kept_count}
+use Rattle.tte_votes.specs.declared.law.voters.Voters.{Voters as VotersValue}
 use Rattle.tte_votes.proofs.Places.{lines_to}
 use Rattle.tte_votes.proofs.putting.put_votes.Given as goal
 

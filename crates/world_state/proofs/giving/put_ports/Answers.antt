@@ -1,5 +1,5 @@
 use Rattle.std.{proofs.{Common.{◌+◌, ◌∙◌, ◌∷◌, ap, arith, length, refl, rules, subst, sym}, lemmas.Bool.both_ways}, specs.List.Sorted.IsPermutation}
-use Rattle.world_queue.specs.declared.{Entry.Entry, Place.Place}
+use Rattle.world_state.specs.declared.queue.{Entry.Entry, Place.Place}
 use Rattle.world_state.proofs.{PutTo.{apart_from, more_put, no_link, none_put, nothing_put}, UnderWays.sound_with}
 use Rattle.world_state.proofs.giving.put_ports.Goals.{else-is_given, then-is_given}
 use Rattle.world_state.specs.{Giving.{ArePutTo, entry_at_port, place_at_port}, Sound.AreUnderWay, declared.contents.Content.Content}

@@ -1,5 +1,5 @@
 use Rattle.std.proofs.{Common.{◌∙◌, ap, inl, refl, sym}, lemmas.List.Sorted.IsPermutation-sym}
-use Rattle.world_queue.{proofs.Bags.in_permuted, specs.declared.Place.Place}
+use Rattle.world_state.{proofs.queue_lemmas.Bags.in_permuted, specs.declared.queue.Place.Place}
 use Rattle.world_state.proofs.Firsts.{in_words, one_first}
 use Rattle.world_state.proofs.hearing.take_wire.Goals as goal
 

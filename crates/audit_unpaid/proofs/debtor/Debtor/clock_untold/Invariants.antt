@@ -1,5 +1,5 @@
 use Rattle.audit_unpaid.proofs.Words.{◌<◌, DeviceId, Happening, HasClockAt, List}
-use Rattle.audit_places.specs.Placing.{ArePlacesOf}
+use Rattle.audit_records.specs.places.Placing.{ArePlacesOf}
 use Rattle.audit_unpaid.proofs.debtor.Debtor.clock_untold.Given as goal
 
 -- the clocks of the devices so far are told

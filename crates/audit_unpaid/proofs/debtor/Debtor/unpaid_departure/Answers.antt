@@ -1,6 +1,6 @@
 use Rattle.audit_unpaid.proofs.Words.{◌+◌, ◌<◌, ◌∙◌, ◌≡◌, Happening, KeptRecord, LinkId, Option, Some, TellsFirstAmong, ap, arith, both_ways, inl, inr, length}
 use Rattle.audit_unpaid.proofs.Words.{numbered, same_some, scenario_of, subst, sym, ℕ}
-use Rattle.audit_wires.proofs.Givers.{given_within}
+use Rattle.audit_records.proofs.wires_lemmas.Givers.{given_within}
 use Rattle.run_law.specs.control.Leaving.{Gives}
 use Rattle.tte_lemmas.proofs.Naturals.{below_next}
 use Rattle.audit_unpaid.{proofs.{Among.{first_of_both, first_of_more, first_of_one}, DepartureDebts.{gives_may, same_pair}}, specs.Leavings.may_give}

@@ -1,6 +1,6 @@
 use Rattle.std.proofs.Common.{◌++◌, ◌∷◌, [], ap, refl, sym}
 use Rattle.run_law.specs.declared.note.Note.{Note}
-use Rattle.storm_summary.specs.Counting.{counted_as}
+use Rattle.tte_storms.specs.summary.Counting.{counted_as}
 use Rattle.world_drive.specs.Observing.{told_by}
 use Rattle.tte_storms.proofs.Seen.{room_for, seen_event}
 use Rattle.tte_storms.proofs.counting.SeenObserver.event.Goals as goal

@@ -1,5 +1,5 @@
 use Rattle.std.proofs.Common.{◌∙◌, ap, refl}
-use Rattle.storm_summary.specs.Counting.{counted_as}
+use Rattle.tte_storms.specs.summary.Counting.{counted_as}
 use Rattle.world_drive.specs.Observing.{told_by}
 use Rattle.tte_storms.{proofs.Seen.{behind_events, room_for, seen_record}, specs.Counts.corrects}
 use Rattle.tte_storms.proofs.counting.SeenObserver.record.Goals as goal

@@ -1,0 +1,74 @@
+-- The correction point that comes to a device.
+use Rattle.std.{proofs.Common.{◌∙◌, ◌≡◌, List, Option, Some, ap, refl, subst, sym, ℕ}, specs.Prelude.{◌↔◌, false}}
+use Rattle.audit_law.{proofs.Determined.same_verdict, specs.CorrectionNumbers.{ComesToPoint, next_number, standing_at}}
+use Rattle.device_rules.specs.Answers.{verdict_as}
+use Rattle.membership.specs.Summary.{Summary}
+use Rattle.net_plan.specs.declared.ids.DeviceId.{DeviceId}
+use Rattle.run_law.specs.{control.Corrections.correction_value, device.LocalClocks.Reaches, records.Happenings.Happening}
+use Rattle.run_law.specs.scenario.Scenarios.{Scenario, is_broken}
+use Rattle.sync_state.{proofs.StateFacts.number_in, specs.{Standing.{Standing, next_point}, Verdicts.HasVerdict, declared.answers.Verdict.Verdict}}
+use Rattle.sync_state.specs.declared.{plan.SyncPlan.SyncPlan, state.State.State}
+use Rattle.tte_units.specs.declared.units.Units.{Units}
+use Rattle.audit_devices.specs.{clocks.Points.{ComesTo, HasPoint, IsHeard}, declared.clocks.correcting.Point.Point}
+
+-- what one list has at a time, it has there
+some_same : (m n : ℕ) (o : Option ℕ) → o ≡ Some m → o ≡ Some n → m ≡ n
+some_same m n o a b = let same : Some m ≡ Some n = sym a ∙ b in cc
+
+pub point_is : (s : Scenario) (hs : List Happening) (device : DeviceId) (t c cycle : ℕ) → Some c ≡ next_point (standing_at s hs device t)
+    → is_broken s device t ≡ false → Reaches s hs device (correction_value s.network c) t → (Some c ≡ Some cycle) ↔ HasPoint s hs device t cycle
+point_is s hs device t c cycle next correct reached = (
+  λ same.
+      let one : c ≡ cycle = cc in
+      record {
+        next = sym next ∙ same;
+        reached = subst (λ (n : ℕ). Reaches s hs device (correction_value s.network n) t) one reached;
+        correct = correct;
+      },
+  λ p. next ∙ p.next,
+)
+
+-- the clock does not reach the point's value
+pub none_reached : (s : Scenario) (hs : List Happening) (device : DeviceId) (t c cycle : ℕ) → Some c ≡ next_point (standing_at s hs device t)
+    → (Reaches s hs device (correction_value s.network c) t → ⊥) → HasPoint s hs device t cycle → ⊥
+none_reached s hs device t c cycle next short p =
+    let one : cycle ≡ c = some_same cycle c (next_point (standing_at s hs device t)) p.next (sym next) in
+    short (subst (λ (n : ℕ). Reaches s hs device (correction_value s.network n) t) one p.reached)
+
+pub number_is : (s : Scenario) (hs : List Happening) (device : DeviceId) (t c : ℕ) → HasPoint s hs device t c → c ≡ next_number s hs device t
+number_is s hs device t c p = number_in (standing_at s hs device t).state (next_number s hs device t) c p.next
+
+-- the fields of a standing
+pub same_standing : (a b : Standing) → a.plan ≡ b.plan → a.state ≡ b.state → a.adjustment ≡ b.adjustment → a.number ≡ b.number
+    → a.integrated ≡ b.integrated → a ≡ b
+same_standing a b plans states adjustments numbers joined =
+    ap (λ (p : SyncPlan). let u : Standing = record { plan = p; state = a.state; adjustment = a.adjustment; number = a.number; integrated = a.integrated } in
+    u) plans
+    ∙ ap (λ (x : State). let u : Standing = record { plan = b.plan; state = x; adjustment = a.adjustment; number = a.number; integrated = a.integrated } in
+    u) states
+    ∙ ap (λ (x : Units). let u : Standing = record { plan = b.plan; state = b.state; adjustment = x; number = a.number; integrated = a.integrated } in
+    u) adjustments
+    ∙ ap (λ (n : ℕ). let u : Standing = record { plan = b.plan; state = b.state; adjustment = b.adjustment; number = n; integrated = a.integrated } in
+    u) numbers
+    ∙ ap (λ (o : Option ℕ). let u : Standing = record { plan = b.plan; state = b.state; adjustment = b.adjustment; number = b.number; integrated = o } in
+    u) joined
+
+-- the point comes to this, and to nothing else
+pub point_comes : (s : Scenario) (hs : List Happening) (device : DeviceId) (t c cycle : ℕ) (heard : Summary) (found verdict : Verdict)
+    → HasPoint s hs device t c → IsHeard s hs device t heard → HasVerdict (standing_at s hs device t) heard found
+    → (((c ≡ cycle) × (found ≡ verdict)) ↔ ComesToPoint s hs device t cycle verdict)
+point_comes s hs device t c cycle heard found verdict p hears comes =
+    let made : ComesToPoint s hs device t c found =
+    record { next = p.next; reached = p.reached; correct = p.correct; summary = heard; heard = hears c p.next; comes = comes } in (
+      λ same. subst (λ (n : ℕ). ComesToPoint s hs device t n verdict) same.0
+          (subst (λ (v : Verdict). ComesToPoint s hs device t c v) same.1 made),
+      λ q. (some_same c cycle (next_point (standing_at s hs device t)) p.next q.next, same_verdict s hs t device c cycle found verdict made q),
+    )
+
+-- what comes to a point has one
+pub has_point : (s : Scenario) (hs : List Happening) (device : DeviceId) (t cycle : ℕ) (verdict : Verdict) → ComesToPoint s hs device t cycle verdict
+    → HasPoint s hs device t cycle
+has_point s hs device t cycle verdict q = record { next = q.next; reached = q.reached; correct = q.correct }
+
+pub comes_so : (o : Option Point) (p : Point) (v : Verdict) → o ≡ Some p → verdict_as p.verdict ≡ v → (cycle : ℕ) × ComesTo o cycle v
+comes_so o p v is comes = (p.cycle, subst (λ (x : Option Point). ComesTo x p.cycle v) (sym is) (refl, comes))

@@ -1,0 +1,80 @@
+-- When a clock reaches a value, by its readings now and a unit of time before.
+use Rattle.std.proofs.Common.{if◌then◌else◌, ◌-◌, ◌∷◌, ◌≡◌, ◌≤◌, Bool, List, None, Option, Some, [], arith, false, filter, pos, refl, subst, suc, true, zero, ℕ}
+use Rattle.std.{proofs.{Common.ℤ, lemmas.{Bool.ltb-true, Int.ints}}, specs.{List.last_or, Option.option_map_or, Prelude.{◌+ℤ◌, ◌-ℤ◌, ◌<ℤ◌, ◌≤ℤ◌, nat_lt}}}
+use Rattle.audit_devices.specs.{Showing.{IsReading, IsSteady, Shown, Shows}, declared.shown.Readings.Readings}
+use Rattle.net_plan.specs.declared.ids.DeviceId.{DeviceId}
+use Rattle.run_law.specs.{device.LocalClocks.{Reaches, changed_at, changes_adjustment}, records.Happenings.{Happening, earlier, time_of}}
+use Rattle.run_law.specs.scenario.Scenarios.{Scenario}
+use Rattle.audit_devices.specs.clocks.Crossing.{HasCrossed}
+
+-- the last of what is earlier lies before the time
+last_early : (p : Happening → Bool) (t : ℕ) (o : Option Happening) (hs : List Happening) → option_map_or time_of o 0 ≤ t - 1
+    → option_map_or time_of (last_or o (filter p (filter (λ h. nat_lt (time_of h) t) hs))) 0 ≤ t - 1
+last_early p t o [] le = le
+last_early p t o (h ∷ hs) le =
+    elim (nat_lt (time_of h) t) as (λ b. nat_lt (time_of h) t ≡ b
+    → option_map_or time_of (last_or o (filter p (if b then h ∷ filter (λ x. nat_lt (time_of x) t) hs else filter (λ x. nat_lt (time_of x) t) hs))) 0 ≤ t - 1) [
+      | true ↦ λ e. elim (p h) as (λ b. option_map_or time_of (last_or o (if b then h ∷ filter p (filter (λ x. nat_lt (time_of x) t) hs)
+          else filter p (filter (λ x. nat_lt (time_of x) t) hs))) 0 ≤ t - 1) [
+            | true ↦ last_early p t (Some h) hs (let lt = ltb-true (time_of h) t e in omega (arith, lt))
+            | false ↦ last_early p t o hs le
+          ]
+      | false ↦ λ e. last_early p t o hs le
+    ] refl
+
+pub changed_early : (hs : List Happening) (device : DeviceId) (t : ℕ) → changed_at hs device t ≤ t - 1
+changed_early hs device t = last_early (λ h. changes_adjustment device h.note.body) t None hs (omega arith)
+
+pub come_reaches : (s : Scenario) (hs : List Happening) (device : DeviceId) (v : ℤ) (t : ℕ) (shown : Shown) (readings : Readings)
+    → IsReading s device t readings → IsSteady s device → Shows s (earlier t hs) device shown
+    → HasCrossed shown.at_change (pos readings.before +ℤ shown.adjustment) (pos readings.now +ℤ shown.adjustment) v → Reaches s hs device v t
+come_reaches s hs device v t shown readings reads steady sh come =
+    let changed = come.changed in
+    let before = come.below in
+    let now = come.reached in
+    let at = sh.at_change in
+    let adjusted = sh.adjustment in
+    let read = reads.now in
+    let read_before = reads.before in
+    let early = changed_early hs device t in
+    record {
+      below = omega (arith, ints, changed, at, adjusted);
+      reach = record {
+        from_on = omega (arith, ints, early);
+        reached = omega (arith, ints, now, adjusted, read);
+        not_before = λ x after lt.
+            let up = steady.never_falls x (t - 1) (omega (arith, ints, lt)) in
+            omega (arith, ints, up, before, adjusted, read_before);
+      };
+    }
+
+-- readings that are not yet there
+short_before : (reading : ℕ → ℕ) (c t : ℕ) (v : ℤ) → c ≤ t - 1 → pos (reading c) <ℤ v → ((x : ℕ) → pos c ≤ℤ pos x → pos x <ℤ pos t → pos (reading x) <ℤ v)
+    → pos (reading (t - 1)) <ℤ v
+short_before reading c zero v early below short = let same : c ≡ 0 = omega (arith, early) in subst (λ (n : ℕ). pos (reading n) <ℤ v) same below
+short_before reading c (suc n) v early below short =
+    let same : n ≡ suc n - 1 = omega arith in
+    subst (λ (x : ℕ). pos (reading x) <ℤ v) same (short n (omega (arith, ints, early)) (omega (arith, ints)))
+
+pub reaches_come : (s : Scenario) (hs : List Happening) (device : DeviceId) (v : ℤ) (t : ℕ) (shown : Shown) (readings : Readings)
+    → IsReading s device t readings → Shows s (earlier t hs) device shown → Reaches s hs device v t
+    → HasCrossed shown.at_change (pos readings.before +ℤ shown.adjustment) (pos readings.now +ℤ shown.adjustment) v
+reaches_come s hs device v t shown readings reads sh r =
+    let below = r.below in
+    let now = r.reach.reached in
+    let at = sh.at_change in
+    let adjusted = sh.adjustment in
+    let read = reads.now in
+    let read_before = reads.before in
+    let before = short_before (s.reading device) (changed_at hs device t) t (v -ℤ shown.adjustment) (changed_early hs device t)
+    (omega (arith, ints, below, adjusted)) (λ x after lt. let short = r.reach.not_before x after lt in omega (arith, ints, short, adjusted)) in
+    record {
+      changed = omega (arith, ints, below, at, adjusted);
+      below = omega (arith, ints, before, read_before);
+      reached = omega (arith, ints, now, adjusted, read);
+    }
+
+pub same_crossing : (a b n v a1 b1 n1 v1 : ℤ) → a ≡ a1 → b ≡ b1 → n ≡ n1 → v ≡ v1 → HasCrossed a b n v → HasCrossed a1 b1 n1 v1
+same_crossing a b n v a1 b1 n1 v1 p q r w crossed =
+    subst (λ (x : ℤ). HasCrossed x b1 n1 v1) p (subst (λ (x : ℤ).
+    HasCrossed a x n1 v1) q (subst (λ (x : ℤ). HasCrossed a b x v1) r (subst (λ (x : ℤ). HasCrossed a b n x) w crossed)))

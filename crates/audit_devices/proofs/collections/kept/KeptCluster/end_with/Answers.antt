@@ -1,0 +1,13 @@
+use Rattle.std.proofs.{Common.{◌+ℤ◌, ◌∙◌, ◌≤ℤ◌, arith, sym}, lemmas.Int.{ints, to_z-of_z}}
+use Rattle.compression.proofs.Collections.{joined_end-first}
+use Rattle.audit_devices.specs.collections.Kept.{cluster_kept}
+use Rattle.audit_devices.proofs.collections.kept.KeptCluster.end_with.Goals as goal
+
+pub overflow_add-result : goal.overflow_add-result
+overflow_add-result c = grind (arith, ints, to_z-of_z)
+
+pub returns-then-from-opened : goal.returns-then-from-opened
+returns-then-from-opened c =
+    λ counted.
+    let first : c.args.reading ≤ℤ (c.args.self.now.opened +ℤ c.args.ow) = omega (arith, ints, c.if-from-opened.true) in
+    omega (arith, ints) ∙ sym (joined_end-first c.args.ow (cluster_kept counted c.args.self.now) c.args.reading first)

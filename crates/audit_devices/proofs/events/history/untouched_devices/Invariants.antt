@@ -1,0 +1,8 @@
+use Rattle.std.{proofs.Common.{◌≡◌, length}, specs.List.All}
+use Rattle.tte_units.specs.Amount.{amount}
+use Rattle.audit_devices.specs.events.Beginnings.{IsUntouchedDevice}
+use Rattle.audit_devices.proofs.events.history.untouched_devices.Given as goal
+
+abbrev pub invariant-loop-device : goal.invariant-loop-device
+invariant-loop-device l =
+    (length l.devices.items ≡ l._device) × All (IsUntouchedDevice (amount l.network.grain)) l.devices.items

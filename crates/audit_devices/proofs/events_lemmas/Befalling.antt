@@ -1,0 +1,150 @@
+-- Events within the hypothesis come in the order of time, and set slow rates.
+use Rattle.std.proofs.Common.{if◌then◌else◌, ◌++◌, ◌==◌, ◌^◌, ◌∙◌, ◌∷◌, ◌≡◌, ◌≤ℤ◌, ◌≤◌, List, None, Option, Some, [], append_assoc, arith, false, inl, inr, pos}
+use Rattle.std.{proofs.{Common.{refl, subst, suc, sym, true, unsigned_abs, ℕ}, lemmas.{Bool.cases_lt, Int.ints}}, specs.List.cons_option}
+use Rattle.drift_clock.specs.RateSteps.{RateStep}
+use Rattle.net_plan.specs.{Ranges.IsInRange, declared.{event.{Event.Event, What.What}, ids.DeviceId.DeviceId, network.Network.Network}}
+use Rattle.run_law.{proofs.scenario.Devices.in_turn, specs.scenario.{Hypothesis.{AreWithinHypothesis, IsWithinHypothesis}, Rates.{rate_steps, step_by}}}
+use Rattle.tte_units.specs.Amount.{amount}
+use Rattle.audit_devices.{proofs.events_lemmas.Clocking.{StepsFrom, StepsUpTo, steps_sooner}, specs.events.Readings.HaveBegun}
+use Rattle.net_plan.specs.declared.event.What.TheVariants as events
+use Rattle.run_law.specs.declared.outside.Outside.TheVariants as outside
+
+-- ---- one event
+
+-- a rate that this sets is of a magnitude of at most rho
+abbrev IsSlow : ℕ → What → Type 0
+IsSlow rho (events.Rate device rate) = unsigned_abs rate.0 ≤ rho
+IsSlow rho other = Unit {0}
+
+slow_event : (network : Network) (before : List Event) (event : Event) → IsWithinHypothesis network before event → IsSlow network.rho event.what
+slow_event network before event within = of event.what refl
+  where
+    of : (what : What) → event.what ≡ what → IsSlow network.rho what
+    of (events.Rate device rate) same = elim (cases_lt network.rho (unsigned_abs rate.0)) [
+      | inl fast ↦ absurd (within outside.Rate (record { device = device; rate = rate; what = same; fast = fast }))
+      | inr slow ↦ slow
+    ]
+    of (events.Wire link way delay) same = tt
+    of (events.Hold link way delay) same = tt
+    of (events.Cut link way) same = tt
+    of (events.Heal link way) same = tt
+    of (events.On other) same = tt
+    of (events.Break other) same = tt
+    of (events.Send link octets) same = tt
+    of events.End same = tt
+
+pub slow_what : (network : Network) (before : List Event) (event : Event) (what : What) → event.what ≡ what
+    → IsWithinHypothesis network before event → IsSlow network.rho what
+slow_what network before event what same within = subst (IsSlow network.rho) same (slow_event network before event within)
+
+pub soon : (network : Network) (before : List Event) (event : Event) → IsInRange network → IsWithinHypothesis network before event
+    → pos 0 ≤ℤ event.time.0 → amount event.time ≤ 2 ^ 60
+soon network before event range within begun = elim (cases_lt (2 ^ 60) (amount event.time)) [
+  | inl late ↦
+      let low = range.cycle.least in
+      let high = range.cycle.most in
+      let cycle : amount network.cycle ≤ 2 ^ 40 = omega (arith, ints, low, high) in
+      absurd (within outside.Late (omega (arith, ints, late, cycle, begun)))
+  | inr le ↦ le
+]
+
+-- ---- the events in their order
+
+-- events in the order of time, from a time on and up to 2^60, each of which sets no fast rate
+abbrev pub AreEventsFrom : ℕ → ℕ → List Event → Type 0
+AreEventsFrom rho least [] = Unit {0}
+AreEventsFrom rho least (e ∷ es) =
+    (least ≤ amount e.time) × (amount e.time ≤ 2 ^ 60) × IsSlow rho e.what × AreEventsFrom rho (amount e.time) es
+
+begun_in : (front : List Event) (e : Event) (rest : List Event) → HaveBegun (front ++ e ∷ rest) → pos 0 ≤ℤ e.time.0
+begun_in [] e rest begun = begun 0 e (omega arith)
+begun_in (x ∷ front) e rest begun = begun_in front e rest (λ k d lt. begun (suc k) d (omega (arith, lt)))
+
+begun_at : (all front : List Event) (e : Event) (rest : List Event) → all ≡ front ++ e ∷ rest → HaveBegun all → pos 0 ≤ℤ e.time.0
+begun_at all front e rest same begun = begun_in front e rest (subst HaveBegun same begun)
+
+in_order_behind : (network : Network) (all front rest : List Event) (last : Event) → IsInRange network → all ≡ (front ++ last ∷ []) ++ rest
+    → AreWithinHypothesis network all → HaveBegun all → AreEventsFrom network.rho (amount last.time) rest
+in_order_behind network all front [] last range same within begun = tt
+in_order_behind network all front (e ∷ rest) last range same within begun =
+    let here = within (front ++ last ∷ []) rest e same in
+    let at_last = begun_at all front last (e ∷ rest) (same ∙ append_assoc front (last ∷ []) (e ∷ rest)) begun in
+    let at_e = begun_at all (front ++ last ∷ []) e rest same begun in (
+      in_turn network front last e here at_last at_e,
+      soon network (front ++ last ∷ []) e range here at_e,
+      slow_event network (front ++ last ∷ []) e here,
+      in_order_behind network all (front ++ last ∷ []) rest e range (same ∙ sym (append_assoc (front ++ last ∷ []) (e ∷ []) rest)) within begun,
+    )
+
+pub events_from : (network : Network) (all : List Event) → IsInRange network → AreWithinHypothesis network all → HaveBegun all
+    → AreEventsFrom network.rho 0 all
+events_from network [] range within begun = tt
+events_from network (e ∷ es) range within begun =
+    let here = within [] es e refl in (
+      omega arith,
+      soon network [] e range here (begun_in [] e es begun),
+      slow_event network [] e here,
+      in_order_behind network (e ∷ es) [] es e range refl within begun,
+    )
+
+-- ---- their steps
+
+-- the step is of this time, and its rate of at most rho
+record IsStepAt (rho time : ℕ) (step : RateStep) : Type 0 where
+  pub at : step.at ≡ time
+  pub slow : unsigned_abs step.rate ≤ rho
+
+-- what holds of the value, where there is one
+abbrev Holds : {X : Type 0} → Option X → (X → Type 0) → Type 0
+Holds None P = Unit {0}
+Holds (Some x) P = P x
+
+step_is : (rho : ℕ) (device : DeviceId) (time : ℕ) (what : What) → IsSlow rho what → Holds (step_by device time what) (IsStepAt rho time)
+step_is rho device time (events.Rate other rate) slow =
+    elim (device.0 == other.0) as (λ b. Holds (if b then Some (let s : RateStep = record { at = time; rate = rate.0 } in s) else None) (IsStepAt rho time)) [
+      | true ↦ record { at = refl; slow = slow }
+      | false ↦ tt
+    ]
+step_is rho device time (events.Wire link way delay) slow = tt
+step_is rho device time (events.Hold link way delay) slow = tt
+step_is rho device time (events.Cut link way) slow = tt
+step_is rho device time (events.Heal link way) slow = tt
+step_is rho device time (events.On other) slow = tt
+step_is rho device time (events.Break other) slow = tt
+step_is rho device time (events.Send link octets) slow = tt
+step_is rho device time events.End slow = tt
+
+more_steps : (rho least time : ℕ) (o : Option RateStep) (steps : List RateStep) → least ≤ time → time ≤ 2 ^ 60 → Holds o (IsStepAt rho time)
+    → StepsFrom rho time steps → StepsFrom rho least (cons_option o steps)
+more_steps rho least time None steps le most here h = steps_sooner rho least time steps le h
+more_steps rho least time (Some step) steps le most here h = (
+  omega (arith, le, here.at),
+  omega (arith, most, here.at),
+  here.slow,
+  steps_sooner rho step.at time steps (omega (arith, here.at)) h,
+)
+
+pub steps_from : (rho least : ℕ) (all : List Event) (device : DeviceId) → AreEventsFrom rho least all → StepsFrom rho least (rate_steps all device)
+steps_from rho least [] device h = tt
+steps_from rho least (e ∷ es) device h =
+    more_steps rho least (amount e.time) (step_by device (amount e.time) e.what) (rate_steps es device) h.0 h.1
+    (step_is rho device (amount e.time) e.what h.2) (steps_from rho (amount e.time) es device h.3)
+
+-- ---- an event behind them
+
+last_later : (rho least : ℕ) (all : List Event) (event : Event) → AreEventsFrom rho least (all ++ event ∷ []) → least ≤ amount event.time
+last_later rho least [] event h = h.0
+last_later rho least (e ∷ es) event h = let behind = last_later rho (amount e.time) es event h.3 in omega (arith, behind, h.0)
+
+one_more : (rho bound time : ℕ) (o : Option RateStep) (steps : List RateStep) → time ≤ bound → Holds o (IsStepAt rho time) → StepsUpTo bound steps
+    → StepsUpTo bound (cons_option o steps)
+one_more rho bound time None steps le here h = h
+one_more rho bound time (Some step) steps le here h = (omega (arith, le, here.at), h)
+
+pub steps_up_to : (rho least : ℕ) (all : List Event) (event : Event) (device : DeviceId) → AreEventsFrom rho least (all ++ event ∷ [])
+    → StepsUpTo (amount event.time) (rate_steps all device)
+steps_up_to rho least [] event device h = tt
+steps_up_to rho least (e ∷ es) event device h =
+    one_more rho (amount event.time) (amount e.time) (step_by device (amount e.time) e.what) (rate_steps es device)
+    (last_later rho (amount e.time) es event h.3) (step_is rho device (amount e.time) e.what h.2)
+    (steps_up_to rho (amount e.time) es event device h.3)

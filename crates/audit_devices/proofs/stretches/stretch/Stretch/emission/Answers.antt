@@ -1,0 +1,10 @@
+use Rattle.std.{proofs.Common.{◌∙◌, List, ap}, specs.Prelude.slice_get}
+use Rattle.audit_devices.specs.declared.collections.emitted.Emitted.{Emitted}
+use Rattle.audit_devices.proofs.stretches_lemmas.Clustering.{emissions_same}
+use Rattle.audit_devices.proofs.stretches.stretch.Stretch.emission.Goals as goal
+
+pub returns : goal.returns
+returns c network points clusters has are =
+    c.emission.ensures
+    ∙ ap (λ (es : List Emitted). slice_get es c.args.place)
+    (emissions_same network points clusters c.args.self.now.collections.now c.args.self.now.gathering has are)

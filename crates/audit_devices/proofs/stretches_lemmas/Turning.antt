@@ -1,0 +1,118 @@
+-- What one more record makes of the points of a stretch.
+use Rattle.std.proofs.Common.{if◌then◌else◌, ◌++◌, ◌∙◌, ◌∷◌, ◌≡◌, Bool, List, None, Option, Some, [], ap, false, inl, inr, refl, sym, true}
+use Rattle.std.{proofs.lemmas.{Bool.eq-eqb, List.Elements.filter_map-append}, specs.{List.{after_last, cons_option}, Prelude.{◌==◌, filter_map}}}
+use Rattle.compression.specs.Clusters.{Point, point_at}
+use Rattle.net_plan.{proofs.SameIds.other_device, specs.declared.ids.DeviceId.DeviceId}
+use Rattle.run_law.{proofs.records.Order.after_more, specs.control.Collections.{ends_stretch, master_of, point_by, points_of}}
+use Rattle.run_law.specs.{declared.{judgement.{Judgement.Judgement, Why.TheVariants.On}, note.NoteBody.NoteBody}, device.States.cycle_in}
+use Rattle.run_law.specs.records.{Causes.device_of, Happenings.Happening, Order.IsIn, Ranks.members_in}
+use Rattle.tte_lemmas.proofs.Lists.{after_one}
+use Rattle.tte_units.specs.declared.units.Units.{Units}
+use Rattle.audit_devices.specs.stretches.Changes.{change_by, collector_in, permanence_change}
+use Rattle.audit_devices.specs.declared.stretches.change.Change.{Change, TheVariants.{Ends, Gives}}
+use Rattle.run_law.specs.declared.judgement.Judgement.TheVariants as judgements
+use Rattle.run_law.specs.declared.note.NoteBody.TheVariants as notes
+
+-- ---- what a record does
+
+same_id : (d other : DeviceId) → Some other ≡ Some d → (d.0 == other.0) ≡ true
+same_id d other e = let one : other ≡ d = cc in eq-eqb d.0 other.0 (sym (ap (λ (x : DeviceId). x.0) one))
+
+pub ended : (d : DeviceId) (body : NoteBody) → change_by body ≡ Some Ends → collector_in body ≡ Some d → ends_stretch d body ≡ true
+ended d (notes.Permanent other link cause point judgements.Integrates) c e = same_id d other e
+ended d (notes.Permanent other link cause point verdict) c e = absurd cc
+ended d (notes.Compressed other opened at cycle members judgements.Integrates) c e = same_id d other e
+ended d (notes.Compressed other opened at cycle members verdict) c e = absurd cc
+ended d (notes.State other state cause On) c e = absurd cc
+ended d (notes.State other state cause why) c e = same_id d other e
+ended d body c e = absurd cc
+
+pub given_goes_on : (d : DeviceId) (body : NoteBody) (p : Units) → change_by body ≡ Some (Gives p) → ends_stretch d body ≡ false
+given_goes_on d (notes.Permanent other link cause point judgements.Integrates) p c = absurd cc
+given_goes_on d (notes.Permanent other link cause point verdict) p c = refl
+given_goes_on d (notes.Compressed other opened at cycle members judgements.Integrates) p c = absurd cc
+given_goes_on d (notes.Compressed other opened at cycle members verdict) p c = absurd cc
+given_goes_on d (notes.State other state cause On) p c = absurd cc
+given_goes_on d (notes.State other state cause why) p c = absurd cc
+given_goes_on d body p c = absurd cc
+
+given_same : (point p : Units) (verdict : Judgement) → Some (permanence_change point verdict) ≡ Some (Gives p) → point ≡ p
+given_same point p judgements.Integrates e = absurd cc
+given_same point p verdict e = cc
+
+abbrev point_in : Happening → Units → Point
+point_in h p = point_at p.0 (master_of (members_in h)) (cycle_in h)
+
+pub given_point : (d : DeviceId) (h : Happening) (body : NoteBody) (p : Units) → change_by body ≡ Some (Gives p) → collector_in body ≡ Some d
+    → point_by d h body ≡ Some (point_at p.0 (master_of (members_in h)) (cycle_in h))
+given_point d h (notes.Permanent other link cause point verdict) p c e =
+    ap (λ (b : Bool). if b then Some (point_in h point) else None) (same_id d other e)
+    ∙ ap (λ (q : Units). Some (point_in h q)) (given_same point p verdict c)
+given_point d h (notes.Compressed other opened at cycle members judgements.Integrates) p c e = absurd cc
+given_point d h (notes.Compressed other opened at cycle members verdict) p c e = absurd cc
+given_point d h (notes.State other state cause On) p c e = absurd cc
+given_point d h (notes.State other state cause why) p c e = absurd cc
+given_point d h body p c e = absurd cc
+
+-- no change of the device's collections
+abbrev pub IsQuiet : DeviceId → NoteBody → Type 0
+IsQuiet d body = (c : Change) → change_by body ≡ Some c → collector_in body ≡ Some d → ⊥
+
+quiet_goes_on : (d : DeviceId) (body : NoteBody) → IsQuiet d body → ends_stretch d body ≡ false
+quiet_goes_on d (notes.Permanent other link cause point judgements.Integrates) not = other_device d other (not Ends refl)
+quiet_goes_on d (notes.Permanent other link cause point verdict) not = refl
+quiet_goes_on d (notes.Compressed other opened at cycle members judgements.Integrates) not = other_device d other (not Ends refl)
+quiet_goes_on d (notes.Compressed other opened at cycle members verdict) not = refl
+quiet_goes_on d (notes.State other state cause On) not = refl
+quiet_goes_on d (notes.State other state cause why) not = other_device d other (not Ends refl)
+quiet_goes_on d body not = refl
+
+quiet_point : (d : DeviceId) (h : Happening) (body : NoteBody) → IsQuiet d body → point_by d h body ≡ None
+quiet_point d h (notes.Permanent other link cause point verdict) not =
+    ap (λ (b : Bool). if b then Some (point_in h point) else None) (other_device d other (not (permanence_change point verdict) refl))
+quiet_point d h body not = refl
+
+pub of_collector : (body : NoteBody) (d : DeviceId) → collector_in body ≡ Some d → device_of body ≡ Some d
+of_collector (notes.Permanent other link cause point verdict) d is = is
+of_collector (notes.Compressed other opened at cycle members verdict) d is = is
+of_collector (notes.State other state cause why) d is = is
+of_collector body d is = absurd cc
+
+-- ---- the points
+
+one_more : (f : Happening → Option Point) (hs : List Happening) (h : Happening) → filter_map f (hs ++ h ∷ []) ≡ filter_map f hs ++ cons_option (f h) []
+one_more f hs h = filter_map-append f hs (h ∷ [])
+
+no_end : (d : DeviceId) (h : Happening) → ends_stretch d h.note.body ≡ false → (y : Happening) → IsIn y (h ∷ []) → ends_stretch d y.note.body ≡ false
+no_end d h e y (inl s) = ap (λ (x : Happening). ends_stretch d x.note.body) s ∙ e
+no_end d h e y (inr i) = absurd i
+
+went_on : (hs : List Happening) (h : Happening) (d : DeviceId) → ends_stretch d h.note.body ≡ false
+    → points_of (hs ++ h ∷ []) d ≡ points_of hs d ++ cons_option (point_by d h h.note.body) []
+went_on hs h d on =
+    let ends : Happening → Bool = λ x. ends_stretch d x.note.body in
+    let f : Happening → Option Point = λ x. point_by d x x.note.body in
+    ap (filter_map f) (after_more ends hs (h ∷ []) (no_end d h on)) ∙ one_more f (after_last ends hs) h
+
+append_none : (ps : List Point) → ps ++ [] ≡ ps
+append_none [] = refl
+append_none (p ∷ ps) = ap (λ (t : List Point). p ∷ t) (append_none ps)
+
+pub points_quiet : (hs : List Happening) (h : Happening) (d : DeviceId) → IsQuiet d h.note.body → points_of (hs ++ h ∷ []) d ≡ points_of hs d
+points_quiet hs h d quiet =
+    went_on hs h d (quiet_goes_on d h.note.body quiet)
+    ∙ ap (λ (o : Option Point). points_of hs d ++ cons_option o []) (quiet_point d h h.note.body quiet)
+    ∙ append_none (points_of hs d)
+
+pub points_ended : (hs : List Happening) (h : Happening) (d : DeviceId) → change_by h.note.body ≡ Some Ends → collector_in h.note.body ≡ Some d
+    → points_of (hs ++ h ∷ []) d ≡ []
+points_ended hs h d change of =
+    let ends : Happening → Bool = λ x. ends_stretch d x.note.body in
+    let f : Happening → Option Point = λ x. point_by d x x.note.body in
+    ap (filter_map f) (after_one ends hs h (ended d h.note.body change of))
+
+pub points_given : (hs : List Happening) (h : Happening) (d : DeviceId) (p : Units) → change_by h.note.body ≡ Some (Gives p)
+    → collector_in h.note.body ≡ Some d → points_of (hs ++ h ∷ []) d ≡ points_of hs d ++ point_at p.0 (master_of (members_in h)) (cycle_in h) ∷ []
+points_given hs h d p change of =
+    went_on hs h d (given_goes_on d h.note.body p change)
+    ∙ ap (λ (o : Option Point). points_of hs d ++ cons_option o []) (given_point d h h.note.body p change of)

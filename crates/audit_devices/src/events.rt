@@ -1,0 +1,13 @@
+//! What the events of a report have set, for any time: the wire delays, holds and cuts of the ways, the rates of the
+//! clocks and so their readings, what is broken and what is turned on.
+
+mod clocks;
+mod history;
+mod laws;
+mod memory;
+mod settings;
+
+pub use history::EventHistory;
+pub use laws::reading_law;
+pub use memory::OutOfMemory;
+pub use settings::{Change, Settings};

@@ -1,8 +1,0 @@
-use Rattle.std.proofs.Common.{◌≤◌, Global, List, Vec, length, subst}
-use Rattle.audit_dispatches.{proofs.RowsOn.past_all, specs.declared.leaving.LeavingRow.LeavingRow}
-use Rattle.audit_dispatches.proofs.exits.Exits.on.Goals as goal
-
-pub returns-in-None : goal.returns-in-None
-returns-in-None c network are =
-    past_all network c.args.self.now c.args.link
-    (subst (λ (xs : List (Vec LeavingRow Global)). length xs ≤ c.args.link.0) c.as_slice.ensures.value c.in-None.ensures.lookup.3) are

@@ -1,8 +1,0 @@
-use Rattle.std.{proofs.Common.{◌≡◌, length}, specs.List.All}
-use Rattle.tte_units.specs.Amount.{amount}
-use Rattle.audit_events.specs.Beginnings.{IsUntouchedDevice}
-use Rattle.audit_events.proofs.history.untouched_devices.Given as goal
-
-abbrev pub invariant-loop-device : goal.invariant-loop-device
-invariant-loop-device l =
-    (length l.devices.items ≡ l._device) × All (IsUntouchedDevice (amount l.network.grain)) l.devices.items

@@ -1,9 +1,0 @@
-//! The places of records in the order of a report, and whether a record stands at one.
-#![tactic(auto)]
-
-mod numbers;
-mod place;
-mod places;
-
-pub use place::Place;
-pub use places::Places;

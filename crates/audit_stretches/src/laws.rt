@@ -1,7 +1,0 @@
-ghost use Rattle.audit_stretches.specs.Rising.{RisingLaw};
-
-/// In a list of records that are due one after the other in an audit, where no clock ever falls, the frames that are
-/// permanent at a compression master give their points in order.
-pub fn points_rise()
-    ensures { RisingLaw }
-{}

@@ -1,0 +1,101 @@
+ghost use Rattle.std.specs.Prelude.{◌<◌, ◌↔◌, ◌≡◌, IsTrue, List, false, pos, true};
+ghost use Rattle.audit_devices.specs.events.{Readings.scenario_under, Remembering.Remembers};
+ghost use Rattle.audit_law.specs.DueRecords.{IsDue};
+ghost use Rattle.audit_records.specs.places.Placing.{ArePlacesOf};
+ghost use Rattle.audit_devices.specs.stretches.Standing.{Stands, device_count};
+ghost use Rattle.drift_clock.specs.Reach.{IsReach};
+ghost use Rattle.net_plan.specs.{Belonging.HasDevice, declared.{event.Event.Event, network.Network.Network}};
+ghost use Rattle.run_law.specs.{records.{Happenings.Happening, Ranks.place_of}, runs.Runs.IsFounded};
+ghost use Rattle.run_law.specs.scenario.{Devices.is_cm, Scenarios.Scenario};
+ghost use Rattle.audit_unpaid.specs.emissions.Emissions.{IsShort, IsTold, Owes, sent_of};
+ghost use Rattle.audit_unpaid.specs.emissions.Kept.{IsKept, IsKeptOfMaster};
+
+use audit_devices::Mark;
+use audit_devices::collections::Emitted;
+use audit_devices::events::EventHistory;
+use audit_devices::stretches::StretchHistory;
+use audit_records::places::{Place, Places};
+use net_plan::DeviceId;
+use tte_units::Units;
+
+/// Does the compression master send this at the time at which its clock first reaches the reading, and says no record
+/// so?
+pub(crate) fn is_unemitted(
+    events: &EventHistory,
+    stretches: &StretchHistory,
+    places: &Places,
+    device: DeviceId,
+    emitted: &Emitted,
+    time: u64,
+) -> bool
+    requires device { device.0 < device_count stretches.now }
+    requires kept { IsKeptOfMaster device stretches.now }
+    requires short { IsShort emitted.now.at }
+    ensures unemitted { (network : Network) (befallen : List Event) (hs : List Happening)
+        → IsKept network befallen hs events.now stretches.now places.now
+        → IsFounded place_of (IsDue (scenario_under network befallen)) hs → HasDevice network device
+        → is_cm network device ≡ true
+        → IsReach ((scenario_under network befallen).reading device) (pos 0) emitted.now.at (pos time) → IsTrue result
+        → Owes (scenario_under network befallen) hs device (sent_of emitted.now) time
+        × (IsTold (scenario_under network befallen) hs device (sent_of emitted.now) → ⊥) }
+    ensures told { (network : Network) (befallen : List Event) (hs : List Happening)
+        → IsKept network befallen hs events.now stretches.now places.now
+        → IsFounded place_of (IsDue (scenario_under network befallen)) hs → HasDevice network device
+        → is_cm network device ≡ true
+        → IsReach ((scenario_under network befallen).reading device) (pos 0) emitted.now.at (pos time) → result ≡ false
+        → Owes (scenario_under network befallen) hs device (sent_of emitted.now) time
+        → IsTold (scenario_under network befallen) hs device (sent_of emitted.now) }
+{
+    if is_told(places, device, emitted, time) {
+        false
+    } else {
+        is_owed(events, stretches, device, emitted, time)
+    }
+}
+
+/// Says a record that the device sends this, which it can at the time alone?
+fn is_told(places: &Places, device: DeviceId, emitted: &Emitted, time: u64) -> bool
+    requires short { IsShort emitted.now.at }
+    ensures { (s : Scenario) (hs : List Happening) → ArePlacesOf hs places.now → IsFounded place_of (IsDue s) hs
+        → IsReach (s.reading device) (pos 0) emitted.now.at (pos time)
+        → IsTrue result ↔ IsTold s hs device (sent_of emitted.now) }
+{
+    let opened = Units(emitted.opened);
+    let at = reading_of(emitted.at);
+    let place = Place::of_emission(time, device, opened, at, emitted.cycle, emitted.members);
+    places.has(&place)
+}
+
+/// Does the compression master send this at the time at which its clock first reaches the reading?
+fn is_owed(
+    events: &EventHistory,
+    stretches: &StretchHistory,
+    device: DeviceId,
+    emitted: &Emitted,
+    time: u64,
+) -> bool
+    requires device { device.0 < device_count stretches.now }
+    requires kept { IsKeptOfMaster device stretches.now }
+    requires short { IsShort emitted.now.at }
+    ensures { (network : Network) (befallen : List Event) (hs : List Happening)
+        → Remembers network befallen events.now → Stands network hs stretches.now → HasDevice network device
+        → is_cm network device ≡ true
+        → IsReach ((scenario_under network befallen).reading device) (pos 0) emitted.now.at (pos time)
+        → IsTrue result ↔ Owes (scenario_under network befallen) hs device (sent_of emitted.now) time }
+{
+    if events.is_broken(device, time) {
+        return false;
+    }
+    let opened = Units(emitted.opened);
+    let at = reading_of(emitted.at);
+    let mark = Mark::of_emission(time, opened, at, emitted.cycle, emitted.members);
+    stretches.before(device, &mark).emits(emitted)
+}
+
+/// The reading as units.
+fn reading_of(at: i128) -> Units
+    requires { IsShort at }
+    ensures { result.0 ≡ at }
+{
+    Units(at as i64)
+}

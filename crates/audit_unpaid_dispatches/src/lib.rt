@@ -1,9 +1,0 @@
-//! The first time at which a report owes the record of a dispatch, that a row's frame of a cycle was put on its link or
-//! lost on a cut way, and has none.
-#![tactic(auto)]
-
-mod debtor;
-mod finding;
-mod lacking;
-
-pub use debtor::RowDebtor;

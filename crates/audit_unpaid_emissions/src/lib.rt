@@ -1,8 +1,0 @@
-//! The first time at which a compression master owes the frame of a cluster and a report has no record of it.
-#![tactic(auto)]
-
-mod earliest;
-mod emitting;
-mod first;
-
-pub use first::first_unemitted;

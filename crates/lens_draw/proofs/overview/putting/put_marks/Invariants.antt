@@ -1,0 +1,12 @@
+use Rattle.std.proofs.Common.{◌≡◌, ◌*◌, ◌∷◌, []}
+use Rattle.lens_draw.specs.Picture.{lines_from}
+use Rattle.lens_draw.specs.overview.Grids.{pen_at}
+use Rattle.lens_draw.specs.overview.Pieces.{mark_line}
+use Rattle.tte_forms.specs.Putting.{PutsLines, shown_by}
+use Rattle.lens_draw.proofs.overview.putting.put_marks.Given as goal
+
+abbrev pub invariant-marks : goal.invariant-marks
+invariant-marks g l = record {
+  puts : PutsLines (lines_from (λ n. mark_line (pen_at l.grid (10 * n)) l.bottom ∷ []) 0 l.tenth) (shown_by g.K.Sink l.fn.out) (shown_by g.K.Sink l.out);
+  quiet : g.K.Sink.faults l.out ≡ g.K.Sink.faults l.fn.out;
+}

@@ -1,0 +1,46 @@
+-- Shades of one code are one.
+use Rattle.std.proofs.Common.{◌≡◌, ℕ, true, refl, sym, ap, ◌∙◌, arith}
+use Rattle.std.specs.Prelude.{◌==◌, if◌then◌else◌}
+use Rattle.std.proofs.lemmas.Bool.Decides.{nat_tests}
+use Rattle.lens_draw.specs.overview.Shades.{cleared, code_of, is_same}
+use Rattle.lens_draw.specs.declared.overview.shade.Shade.{Shade}
+use Rattle.lens_draw.specs.declared.overview.shade.Shade.TheVariants.{Blank, Off, Integrating, Joining, Synchronised, Broken, Cut, One, Two, Three, Many}
+
+-- the shade of a code
+shade_at : ℕ → Shade
+shade_at n =
+    if n == 0 then Blank else if n == 1 then Off else if n == 2 then Integrating else if n == 3 then Joining
+    else if n == 4 then Synchronised else if n == 5 then Broken else if n == 6 then Cut else if n == 7 then One
+    else if n == 8 then Two else if n == 9 then Three else Many
+
+back : (shade : Shade) → shade_at (code_of shade) ≡ shade
+unfolding shade_at
+back Blank = refl
+back Off = refl
+back Integrating = refl
+back Joining = refl
+back Synchronised = refl
+back Broken = refl
+back Cut = refl
+back One = refl
+back Two = refl
+back Three = refl
+back Many = refl
+
+pub same_shade : (a b : Shade) → is_same a b ≡ true → a ≡ b
+same_shade a b same =
+    let codes : code_of a ≡ code_of b = grind (arith, nat_tests, same) in
+    sym (back a) ∙ ap shade_at codes ∙ back b
+
+pub cleared_twice : (shade : Shade) → cleared (cleared shade) ≡ cleared shade
+cleared_twice Blank = refl
+cleared_twice Off = refl
+cleared_twice Integrating = refl
+cleared_twice Joining = refl
+cleared_twice Synchronised = refl
+cleared_twice Broken = refl
+cleared_twice Cut = refl
+cleared_twice One = refl
+cleared_twice Two = refl
+cleared_twice Three = refl
+cleared_twice Many = refl

@@ -1,0 +1,16 @@
+//! The flows of a network, and what a report shows of each: how many cycles have which fate, how many frames were
+//! delivered and on which channel, and how near they came to the ends of their windows.
+
+mod counting;
+mod deliveries;
+mod flows;
+mod nearest;
+mod seen;
+mod told;
+
+pub use counting::FateCounts;
+pub use deliveries::{Deliveries, Delivery};
+pub use flows::flows_of;
+pub use nearest::Nearest;
+pub use seen::{OutOfMemory, Seen};
+pub use told::{FlowTold, tell_all};

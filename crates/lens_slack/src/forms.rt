@@ -1,0 +1,5 @@
+//! The words of the program `lens` and their forms.
+
+mod form;
+
+pub use form::{Form, read_form};

@@ -1,0 +1,169 @@
+-- What a clock shows is at most the precision above what any clock shows later.
+use Rattle.precision_law.proofs.{law.Whole.{blocks_known, near}, records.RunViews.IsViewWith}
+use Rattle.precision_law.proofs.words.Blocks.{block_ends, corrections_go_on, follows_before, not_integrating, timed_of, up_to_is, view_of, view_with}
+use Rattle.precision_law.proofs.words.Clocks.{one_channel_is_sound, one_more, room}
+use Rattle.precision_law.proofs.words.Laws.{BlocksCover, BlocksGoSo, Hull, IsInBlock, IsView, Stands, View, hull_of, start_hull}
+use Rattle.precision_law.proofs.words.Plans.{Channel, DeviceId, IsBeta, Synchronised, beta_at, beta_exists, rules_give_trees, shape_rules}
+use Rattle.precision_law.proofs.words.Runs.{Happening, Scenario, adjustment_after, earlier, happenings, is_broken, is_turned_on_at, same_some, state_after}
+use Rattle.precision_law.proofs.words.Std.{◌*◌, ◌+ℤ◌, ◌+◌, ◌-◌, ◌<◌, ◌∙◌, ◌≡◌, ◌≤ℤ◌, ◌≤◌, ◌⊎◌, List, Some, ap, arith, cases_lt, false, inl, inr, ints}
+use Rattle.precision_law.proofs.words.Std.{mul-le-mul_right, pos, refl, subst, suc, sym, zero, ℕ, ℤ}
+use Rattle.precision_law.proofs.falls_lemmas.Views.{AreNearIn, AreViews, IsShown, first_of, in_network, is_shown, least_shown, most_shown, near_hulls}
+use Rattle.precision_law.proofs.falls_lemmas.Views.{no_later_hull, second_of}
+use Rattle.precision_law.specs.falls.Laws.{ClocksDoNotFallBack, ShowsInStep}
+
+-- the hull of an earlier cycle is not behind itself either
+ordered_before : (v : View) (k : ℕ) (stands : Stands v k) (j : ℕ) (hull : Hull) → IsView v → j ≤ k → hull_of v j ≡ Some hull → hull.least ≤ℤ hull.greatest
+ordered_before v k stands zero hull view le is =
+    let same : start_hull v.sizes ≡ hull = same_some (hull_of v zero) (start_hull v.sizes) hull refl is in
+    omega (arith, ints, ap (λ (z : Hull). z.least) same, ap (λ (z : Hull). z.greatest) same)
+ordered_before v k stands (suc i) hull view le is =
+    let prior = stands.narrow i (omega (arith, le)) in (follows_before v i prior.0 hull view prior.1 is).ordered
+
+module _ (cover : BlocksCover) (goes : BlocksGoSo) (s : Scenario) (hs : List Happening) (path x y until : ℕ)
+    (near_in : AreNearIn s hs until) (most : y ≤ until) (two : AreViews s hs path x y) where
+  -- in the block of one cycle
+  same_block : (n : ℕ) (shown later : ℤ) → IsShown (first_of two) n x shown → IsShown (second_of two) n y later
+      → shown ≤ℤ (later +ℤ pos (first_of two).sizes.precision)
+  same_block n shown later one other =
+      let v = first_of two in
+      let w = second_of two in
+      let le = two.le in
+      let space = room v two.a.is in
+      let before = one.block.before in
+      let after = other.block.before in
+      let close = near_hulls cover goes s hs path x y until near_in most two n before.hull after.hull before.is_hull after.is_hull in
+      let more = one_more n v.sizes.cycle in
+      elim one.how [
+        | inl old ↦
+            elim other.how [
+              | inl too ↦ omega (arith, ints, old.most, too.least, close, space, le)
+              | inr new ↦ (let follows = follows_before w n after.hull new.hull two.b.is after.is_hull new.is_hull in
+                  omega (arith, ints, old.most, new.shows.least, close, space, le, more, follows.most))
+            ]
+        | inr set ↦
+            elim other.how [
+              | inl too ↦ (let follows = follows_before v n before.hull set.hull two.a.is before.is_hull set.is_hull in
+                  omega (arith, ints, set.shows.most, too.least, close, space, le, more, follows.least))
+              | inr new ↦ (let both = near_hulls cover goes s hs path x y until near_in most two (suc n) set.hull new.hull set.is_hull new.is_hull in
+                  omega (arith, ints, set.shows.most, new.shows.least, both, space, le))
+            ]
+      ]
+
+  -- the block of the later time is not an earlier one
+  not_back : (j n : ℕ) (block : IsInBlock (first_of two) (suc j) x) (later : IsInBlock (second_of two) n y) → n ≤ j → n < j ⊎ (n ≡ j) → ⊥
+  not_back j n block later le (inl lt) =
+      let v = first_of two in
+      let w = second_of two in
+      let order = two.le in
+      let space = room v two.a.is in
+      let before = block.before in
+      let here = before.narrow n (omega (arith, le)) in
+      let next = before.narrow (suc n) (omega (arith, lt)) in
+      let there = before.narrow j (omega arith) in
+      let close = near_hulls cover goes s hs path x y until near_in most two n here.0 later.before.hull here.1 later.before.is_hull in
+      let follows = follows_before v n here.0 next.0 two.a.is here.1 next.1 in
+      let gap : suc n + (j - suc n) ≡ j = omega (arith, lt) in
+      let low = corrections_go_on v (suc j) (suc n) (j - suc n) before next.0 there.0 two.a.is (omega (arith, lt)) next.1
+      (subst (λ (z : ℕ). hull_of v z ≡ Some there.0) (sym gap) there.1) in
+      let begins = block_ends v j before.next there.0 there.1 before.is_over in
+      let ends = block_ends w n later.next later.before.hull later.before.is_hull later.is_over in
+      let ordered = ordered_before v (suc j) before j there.0 two.a.is (omega arith) there.1 in
+      omega (arith, ints, close, follows.least, low, begins, ends, ordered, order, space, block.from, later.to)
+  not_back j n block later le (inr same) =
+      let v = first_of two in
+      let w = second_of two in
+      let order = two.le in
+      let before = block.before in
+      let there = before.narrow j (omega arith) in
+      let begins = block_ends v j before.next there.0 there.1 before.is_over in
+      let ends = block_ends w n later.next later.before.hull later.before.is_hull later.is_over in
+      let ordered = ordered_before v (suc j) before j there.0 two.a.is (omega arith) there.1 in
+      let from = block.from in
+      let none = no_later_hull cover goes s hs path x y until near_in most two n there.0 later.before.hull
+      (subst (λ (z : ℕ). hull_of v z ≡ Some there.0) (sym same) there.1) later.before.is_hull ordered (omega (arith, ints, begins, from)) in
+      omega (arith, ints, none, begins, ends, order, from, later.to)
+
+  -- in blocks of any two cycles
+  falls : (k n : ℕ) (shown later : ℤ) → IsShown (first_of two) k x shown → IsShown (second_of two) n y later
+      → shown ≤ℤ (later +ℤ pos (first_of two).sizes.precision)
+  falls k n shown later one other =
+      elim (cases_lt n k) [
+        | inl lt ↦ absurd (back k shown one lt)
+        | inr ge ↦
+            elim (cases_lt k n) [
+              | inl lt ↦ ahead n later other lt
+              | inr le ↦
+                  let same : n ≡ k = omega (arith, ge, le) in
+                  same_block k shown later one (subst (λ (z : ℕ). IsShown (second_of two) z y later) same other)
+            ]
+      ]
+    where
+      back : (k : ℕ) (shown : ℤ) → IsShown (first_of two) k x shown → n < k → ⊥
+      back zero shown one lt = omega (arith, lt)
+      back (suc j) shown one lt = not_back j n one.block other.block (omega (arith, lt)) (elim (cases_lt n j) [
+        | inl less ↦ inl less
+        | inr ge ↦ inr (omega (arith, ge, lt))
+      ])
+
+      ahead : (n : ℕ) (later : ℤ) → IsShown (second_of two) n y later → k < n → shown ≤ℤ (later +ℤ pos (first_of two).sizes.precision)
+      ahead zero later other lt = absurd (omega (arith, lt))
+      ahead (suc m) later other lt =
+          let v = first_of two in
+          let a = most_shown v k x shown two.a.is one in
+          let b = least_shown (second_of two) m y later two.b.is other in
+          let product : suc k * v.sizes.cycle ≤ suc m * v.sizes.cycle = mul-le-mul_right v.sizes.cycle (omega (arith, lt)) in
+          omega (arith, ints, a, b, product)
+
+-- ---- in a run
+
+-- a clock that shows this, in a block of the view
+record IsBlockOf (v : View) (t : ℕ) (shown : ℤ) : Type 0 where
+  pub n : ℕ
+  pub is : IsShown v n t shown
+
+left_in : (s : Scenario) (hs : List Happening) (t u : ℕ) (channel : Channel) (path : ℕ) (device : DeviceId) → (at : IsViewWith s hs t channel path) → t ≤ u
+    → u ≤ t + 1 → is_broken s device t ≡ false → state_after s (earlier u hs) device ≡ Synchronised
+    → IsBlockOf (view_of s t channel path at.cut.front) t (pos (s.reading device t) +ℤ (adjustment_after s (earlier u hs) device).0)
+left_in s hs t u channel path device at from to correct synchronised =
+    let v = view_of s t channel path at.cut.front in
+    let block = blocks_known.cover v t at.is (omega arith) in
+    let same = sym (at.cut.early u to) in
+    let timed = timed_of _ (subst (λ (gs : List Happening). state_after s gs device ≡ Synchronised) same synchronised) in
+    record {
+      n = block.0;
+      is =
+          subst (λ (gs : List Happening). IsShown v block.0 t (pos (s.reading device t) +ℤ (adjustment_after s gs device).0)) (sym same)
+          (is_shown blocks_known.goes v block.0 t u device block.1 at.is from to (record { good = correct; timed = timed }));
+    }
+
+shown_in : (s : Scenario) (hs : List Happening) (t : ℕ) (channel : Channel) (path : ℕ) (device : DeviceId) (shown : ℤ) → (at : IsViewWith s hs t channel path)
+    → ShowsInStep s hs device t shown → IsBlockOf (view_of s t channel path at.cut.front) t shown
+shown_in s hs t channel path device shown at (inl after) =
+    let same = up_to_is t hs in
+    let v = view_of s t channel path at.cut.front in
+    let left = subst (λ (gs : List Happening). state_after s gs device ≡ Synchronised) same after.0.synchronised in
+    subst (IsBlockOf v t) (ap (λ (gs : List Happening). pos (s.reading device t) +ℤ (adjustment_after s gs device).0) (sym same) ∙ sym after.1)
+    (left_in s hs t (t + 1) channel path device at (omega arith) (omega arith) after.0.correct left)
+shown_in s hs t channel path device shown at (inr before) =
+    let v = view_of s t channel path at.cut.front in
+    subst (IsBlockOf v t) (sym before.1) (left_in s hs t t channel path device at (omega arith) (omega arith) before.0.correct
+    (not_integrating (is_turned_on_at s device t) (state_after s (earlier t hs) device) before.0.synchronised))
+
+pub never_fall : ClocksDoNotFallBack
+never_fall s mark ns until up x y d e shown later le most one other =
+    let n = s.network in
+    let hs = happenings n ns in
+    let beta = (beta_exists n (rules_give_trees n (shape_rules n up.lawful.rules))).1 in
+    let path = beta_at n beta.jitter beta.links in
+    let is_beta = subst (IsBeta n) beta.value beta in
+    let c = one_channel_is_sound s x up.lawful in
+    let f = one_channel_is_sound s y up.lawful in
+    let a = view_with s mark ns until x c.0 path up is_beta (omega (arith, le, most)) c.1 in
+    let b = view_with s mark ns until y f.0 path up is_beta most f.1 in
+    let two : AreViews s hs path x y = record { c = c.0; d = f.0; a = a; b = b; le = le } in
+    let first = shown_in s hs x c.0 path d shown a one in
+    let second = shown_in s hs y f.0 path e later b other in
+    let v = view_of s x c.0 path a.cut.front in
+    let fall = falls blocks_known.cover blocks_known.goes s hs path x y until (near s mark ns until up) most two first.n second.n
+    shown later first.is second.is in
+    in_network v shown later a.is fall

@@ -1,0 +1,10 @@
+//! Tests of what an audit stands on: histories, judges and the finders of missing records.
+
+mod clocks;
+mod dispatches;
+mod emissions;
+mod events;
+mod networks;
+mod records;
+mod schedules;
+mod unpaid;

@@ -1,0 +1,38 @@
+use crate::judges::networks::MASTER;
+use audit_devices::Shown;
+use audit_devices::clocks::{
+    Moment, Point, Sending, coming_cycle, coming_point, next_sending, reaches, sends,
+};
+use audit_devices::events::EventHistory;
+use device_rules::PointVerdict;
+use membership::Heard;
+use net_file::read_network;
+use net_plan::DeviceId;
+use std::test::Fail;
+
+#[test]
+fn a_lone_master_sends_and_then_loses_the_time(rt: HostRuntime) -> Result<(), Fail> {
+    assert!(rt; MASTER.len() <= 262_144);
+    let network = read_network(rt.alloc(), MASTER.as_bytes())?;
+    let events = EventHistory::new(rt.alloc(), &network)?;
+    let device = DeviceId(0);
+    let shown = Shown::new(&network, device);
+    let sending = Sending {
+        cycle: 1,
+        time: 131_072_000_000,
+    };
+    assert!(rt; next_sending(&network, &events, device, &shown, 0, 1 << 40) == Some(sending));
+    let moment = Moment::of(&events, device, sending.time);
+    assert!(rt; reaches(&shown, moment.readings, 131_072_000_000));
+    assert!(rt; sends(&network, device, &shown, moment, 1));
+    assert!(rt; !sends(&network, device, &shown, moment, 2));
+    assert!(rt; coming_cycle(&network, &shown, moment) == None);
+    let later = Moment::of(&events, device, 149_422_080_000);
+    assert!(rt; coming_cycle(&network, &shown, later) == Some(1));
+    let alone = Point {
+        cycle: 1,
+        verdict: PointVerdict::SyncClique,
+    };
+    assert!(rt; coming_point(&network, device, &shown, later, &Heard::new()) == Some(alone));
+    Ok(())
+}

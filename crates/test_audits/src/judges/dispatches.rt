@@ -1,0 +1,36 @@
+use crate::judges::networks::SENDER;
+use audit_devices::events::{EventHistory, reading_law};
+use audit_devices::{Standings, Takings};
+use audit_records::dispatches::Exits;
+use audit_records::places::Places;
+use audit_unpaid::dispatches::RowDebtor;
+use net_file::read_network;
+use std::test::Fail;
+
+#[test]
+fn where_no_record_stands_the_first_frame_is_owed(rt: HostRuntime) -> Result<(), Fail> {
+    assert!(rt; SENDER.len() <= 262_144);
+    let network = read_network(rt.alloc(), SENDER.as_bytes())?;
+    let events = EventHistory::new(rt.alloc(), &network)?;
+    let exits = Exits::new(rt.alloc(), &network)?;
+    let standings = Standings::new(rt.alloc(), &network)?;
+    let takings = Takings::new(rt.alloc(), &network)?;
+    let places = Places::new(rt.alloc());
+    reading_law();
+    let debtor = RowDebtor {
+        network: &network,
+        events: &events,
+        exits: &exits,
+        standings: &standings,
+        takings: &takings,
+        places: &places,
+        until: 157_614_080_000,
+    };
+    assert!(rt; debtor.first_undispatched() == Some(157_614_080_000));
+    let before = RowDebtor {
+        until: 157_614_079_999,
+        ..debtor
+    };
+    assert!(rt; before.first_undispatched().is_none());
+    Ok(())
+}

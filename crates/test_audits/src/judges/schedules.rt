@@ -1,0 +1,55 @@
+use crate::judges::networks::SENDER;
+use audit_devices::events::EventHistory;
+use audit_devices::{Shown, Takings};
+use audit_records::dispatches::{
+    At, Dispatch, Exits, Loss, loses_dispatch, sends_some, sends_timed,
+};
+use net_file::read_network;
+use net_plan::{DeviceId, LinkId, VlId};
+use std::test::Fail;
+
+#[test]
+fn a_sender_dispatches_its_frame(rt: HostRuntime) -> Result<(), Fail> {
+    assert!(rt; SENDER.len() <= 262_144);
+    let network = read_network(rt.alloc(), SENDER.as_bytes())?;
+    assert!(rt; !network.device.as_slice().is_empty());
+    let events = EventHistory::new(rt.alloc(), &network)?;
+    let exits = Exits::new(rt.alloc(), &network)?;
+    let takings = Takings::new(rt.alloc(), &network)?;
+    let device = DeviceId(0);
+    let shown = Shown::new(&network, device);
+    let at = At {
+        device,
+        time: 157_614_080_000,
+    };
+    let dispatch = Dispatch {
+        link: LinkId(0),
+        cause: 0,
+        vl: VlId(0),
+        cycle: 1,
+    };
+    assert!(rt; sends_timed(&network, &events, &exits, &takings, &shown, at, &dispatch));
+    let other = Dispatch {
+        cycle: 2,
+        ..dispatch
+    };
+    assert!(rt; !sends_timed(&network, &events, &exits, &takings, &shown, at, &other));
+    assert!(rt;
+        sends_some(
+            &network,
+            &events,
+            &exits,
+            device,
+            &shown,
+            LinkId(0),
+            at.time
+        )
+    );
+    let loss = Loss {
+        link: LinkId(0),
+        cause: 0,
+        kept: None,
+    };
+    assert!(rt; !loses_dispatch(&network, &events, &exits, &takings, &shown, at, &loss));
+    Ok(())
+}

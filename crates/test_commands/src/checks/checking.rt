@@ -1,0 +1,167 @@
+use crate::checks::cases::{Check, try_check};
+use crate::checks::grown::{EIGHT_RELAYS, MORE_LINKS, MORE_MASTERS, WITHOUT_THE_LAST};
+use crate::checks::verdicts::{
+    ACCEPTED, accepted, accepted_with_each, checked, refused, refused_with_each,
+};
+use crate::worked::{Edit, WORKED, with_edits};
+use std::alloc::Global;
+use std::test::Fail;
+use tte_run::Status;
+
+// How many octets a file has at most.
+const LIMIT: usize = 262_144;
+
+const VERSION_2: Edit<'_> = ("version = 1", "version = 2");
+
+// A grain of 4096, and what `check` writes for the worked network with it.
+const IN_GRAINS: Edit<'_> = ("rho = 50000", "rho = 50000\ngrain = 4096");
+
+const ACCEPTED_IN_GRAINS: &str = "accepted beta 3407872 gamma 26230784\n";
+
+// Edits of the worked network with which it is accepted.
+const LIKE_THE_WORKED_ONE: &[&[Edit<'_>]] = &[
+    &[VERSION_2, MORE_MASTERS, MORE_LINKS],
+    &[
+        VERSION_2,
+        MORE_MASTERS,
+        MORE_LINKS,
+        ("sync_threshold = 3", "sync_threshold = 5"),
+    ],
+];
+
+// Edits with which it is refused.
+const NEAR_THE_WORKED_ONE: &[(&[Edit<'_>], &str)] = &[
+    (&[("dmax = 3276800000\n", "")], "missing top 0 dmax"),
+    (
+        &[("\"ra\", role=\"relay\"", "\"ra\", role=\"cm\"")],
+        "rule 4 index 0",
+    ),
+    (
+        &[
+            (
+                " {name=\"m1_b\", child=\"m1\", parent=\"rb\", wire=32768000, jitter=1310720, hold=1310720000, \
+                    speed=100},\n",
+                "",
+            ),
+            (
+                " {vl=\"v1\", link=\"m1_b\", way=\"up\", offset=26542080000},\n",
+                "",
+            ),
+        ],
+        "rule 6 index 0",
+    ),
+    (&[("version = 1\n", "version = 3\n")], "range top 0 version"),
+    (
+        &[IN_GRAINS, ("settled = 345000000", "settled = 342196223")],
+        "rule 9 index 0",
+    ),
+    (
+        &[("rho = 50000", "rho = 50000\ngrain = 65536")],
+        "rule 9 index 0",
+    ),
+    (
+        &[("rho = 50000", "rho = 50000\ngrain = 1048577")],
+        "range top 0 grain",
+    ),
+    (&[MORE_MASTERS, MORE_LINKS], "rule 7 index 0"),
+    (
+        &[
+            VERSION_2,
+            MORE_MASTERS,
+            MORE_LINKS,
+            ("sync_threshold = 3", "sync_threshold = 6"),
+        ],
+        "rule 7 index 2",
+    ),
+];
+
+#[test]
+fn the_worked_network_and_its_like(rt: HostRuntime) -> Result<(), Fail> {
+    let alloc = rt.alloc();
+    accepted(&rt, alloc, WORKED)?;
+    let (silent, _) = WORKED.split_once("vl = [\n").expect(&rt, "virtual links");
+    accepted(&rt, alloc, silent)?;
+    accepted_with_each(&rt, alloc, LIKE_THE_WORKED_ONE)?;
+    refused_with_each(&rt, alloc, NEAR_THE_WORKED_ONE)
+}
+
+#[test]
+fn grains_count(rt: HostRuntime) -> Result<(), Fail> {
+    let alloc = rt.alloc();
+    for settled in ["settled = 345000000", "settled = 342196224"] {
+        let edits = [IN_GRAINS, ("settled = 345000000", settled)];
+        let network = with_edits(&rt, alloc, WORKED, &edits)?;
+        checked(
+            &rt,
+            alloc,
+            network.as_str(),
+            ACCEPTED_IN_GRAINS,
+            Status::Done,
+        )?;
+    }
+    Ok(())
+}
+
+#[test]
+fn paths_end_after_eight_links(rt: HostRuntime) -> Result<(), Fail> {
+    let alloc = rt.alloc();
+    let nine = with_edits(&rt, alloc, WORKED, &EIGHT_RELAYS)?;
+    refused(&rt, alloc, nine.as_str(), "rule 6 index 0")?;
+    let eight = with_edits(&rt, alloc, nine.as_str(), &WITHOUT_THE_LAST)?;
+    refused(&rt, alloc, eight.as_str(), "rule 8 index 0")
+}
+
+// The worked network with a comment behind it, of so many octets in all.
+fn commented(alloc: Global, length: usize) -> Result<String, Fail> {
+    let comment = "#".repeat(alloc, length.saturating_sub(WORKED.len()))?;
+    Ok(format!(in alloc; "{WORKED}{comment}")?)
+}
+
+#[test]
+fn a_file_at_the_limit_is_checked(rt: HostRuntime) -> Result<(), Fail> {
+    let alloc = rt.alloc();
+    let longest = commented(alloc, LIMIT)?;
+    accepted(&rt, alloc, longest.as_str())?;
+    let longer = commented(alloc, LIMIT + 1)?;
+    checked(&rt, alloc, longer.as_str(), "", Status::TooLong)
+}
+
+#[test]
+fn failing_reads_end_the_check(rt: HostRuntime) -> Result<(), Fail> {
+    let alloc = rt.alloc();
+    for read in 1..=20 {
+        let check = Check {
+            octets: WORKED.as_bytes(),
+            failing_reads: &[read],
+            failing_puts: &[],
+            text: "",
+            status: Status::ReadFault,
+        };
+        try_check(&rt, alloc, &check)?;
+    }
+    Ok(())
+}
+
+// Networks, the put that fails, what is written and the status. There is one put.
+const PUTS: &[(&str, u32, &str, Status)] = &[
+    (WORKED, 1, "", Status::WriteFault),
+    ("=", 1, "", Status::WriteFault),
+    (WORKED, 2, ACCEPTED, Status::Done),
+    ("=", 2, "refused network toml\n", Status::NetworkRefused),
+];
+
+#[test]
+fn failing_puts_end_the_check(rt: HostRuntime) -> Result<(), Fail> {
+    let alloc = rt.alloc();
+    for (network, put, text, status) in PUTS {
+        let check = Check {
+            octets: network.as_bytes(),
+            failing_reads: &[],
+            failing_puts: &[*put],
+            text,
+            status: *status,
+        };
+        try_check(&rt, alloc, &check)?;
+    }
+    Ok(())
+}

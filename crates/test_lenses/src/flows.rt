@@ -1,0 +1,5 @@
+//! Tests of what `lens flows` tells of reports.
+
+mod cases;
+mod counted;
+mod refused;

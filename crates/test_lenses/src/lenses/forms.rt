@@ -1,0 +1,159 @@
+use crate::lenses::cases::{Case, try_case, words_of};
+use lens::Status;
+use lens_slack::forms::{Form, read_form};
+use schedule_tables::Rule;
+use std::test::Fail;
+
+const USAGE: &str =
+    "usage: lens slack NETWORK [RULE] | least NETWORK | why NETWORK REPORT N | draw NETWORK REPORT [FROM TO] | flows \
+        NETWORK REPORT | events NETWORK SEED CYCLES\n";
+
+const NO_FORMS: &[&[&str]] = &[
+    &[],
+    &["events"],
+    &["slack"],
+    &["least"],
+    &["least", "a", "8"],
+    &["Least", "a"],
+    // Rules that are no inequalities, and what is no rule.
+    &["slack", "a", "7"],
+    &["slack", "a", "14"],
+    &["slack", "a", "22"],
+    &["slack", "a", "24"],
+    &["slack", "a", "08"],
+    &["slack", "a", "8 "],
+    &["slack", "a", ""],
+    &["slack", "a", "8", "9"],
+    &["Slack", "a"],
+    &["why"],
+    &["why", "a"],
+    &["why", "a", "b"],
+    &["why", "a", "b", "1", "2"],
+    &["why", "a", "1", "b"],
+    &["Why", "a", "b", "1"],
+    // There is no record 0, and numbers have at most 64 bits.
+    &["why", "a", "b", "0"],
+    &["why", "a", "b", "18446744073709551616"],
+    &["why", "a", "b", "01"],
+    &["why", "a", "b", "+1"],
+    &["why", "a", "b", " 1"],
+    &["why", "a", "b", ""],
+    &["events", "a"],
+    &["events", "a", "1"],
+    &["events", "a", "1", "2", "3"],
+    &["Events", "a", "1", "2"],
+    &["storm", "a", "1", "2"],
+    // Cycles below 1 and above 100,000, and one that is 1 in 32 bits.
+    &["events", "a", "1", "0"],
+    &["events", "a", "1", "100001"],
+    &["events", "a", "1", "4294967297"],
+    // Seeds of 65 and more bits.
+    &["events", "a", "18446744073709551616", "1"],
+    &["events", "a", "184467440737095516150", "1"],
+    // Leading zeros, signs, and what is no decimal number.
+    &["events", "a", "01", "1"],
+    &["events", "a", "1", "01"],
+    &["events", "a", "+1", "1"],
+    &["events", "a", "-1", "1"],
+    &["events", "a", "", "1"],
+    &["events", "a", "1", ""],
+    &["events", "a", "1 ", "1"],
+    &["events", "a", "one", "1"],
+];
+
+// The words of storms' events, with their seeds and cycles.
+const EVENTS: &[(&[&str], u64, u32)] = &[
+    (&["events", "a", "0", "1"], 0, 1),
+    (&["events", "a", "42", "100"], 42, 100),
+    (
+        &["events", "", "18446744073709551615", "100000"],
+        u64::MAX,
+        100_000,
+    ),
+];
+
+#[test]
+fn words_of_no_form_are_answered_by_the_usage(rt: HostRuntime) -> Result<(), Fail> {
+    let alloc = rt.alloc();
+    for words in NO_FORMS {
+        let case = Case {
+            words,
+            octets: &[],
+            failing_reads: &[],
+            failing_puts: &[],
+            text: USAGE,
+            status: Status::Usage,
+        };
+        try_case(&rt, alloc, &case)?;
+    }
+    Ok(())
+}
+
+// The inequalities by their numbers.
+const INEQUALITIES: &[(&str, Rule)] = &[
+    ("8", Rule::Delays),
+    ("9", Rule::Settling),
+    ("10", Rule::Precision),
+    ("11", Rule::Correction),
+    ("12", Rule::ScheduleStart),
+    ("13", Rule::WindowEnds),
+    ("21", Rule::Spacing),
+    ("23", Rule::Forwarding),
+];
+
+#[test]
+fn words_of_slack_are_read(rt: HostRuntime) -> Result<(), Fail> {
+    let words = words_of(rt.alloc(), &["slack", "a"])?;
+    assert!(rt; read_form(&words) == Some(Form::Slack));
+    for (number, rule) in INEQUALITIES {
+        let words = words_of(rt.alloc(), &["slack", "a", number])?;
+        assert!(rt; read_form(&words) == Some(Form::SlackOf(*rule)));
+    }
+    Ok(())
+}
+
+#[test]
+fn words_of_least_are_read(rt: HostRuntime) -> Result<(), Fail> {
+    let words = words_of(rt.alloc(), &["least", "a"])?;
+    assert!(rt; read_form(&words) == Some(Form::Least));
+    Ok(())
+}
+
+// Numbers of records.
+const NUMBERS: &[(&str, u64)] = &[("1", 1), ("98", 98), ("18446744073709551615", u64::MAX)];
+
+#[test]
+fn words_of_why_are_read(rt: HostRuntime) -> Result<(), Fail> {
+    for (text, number) in NUMBERS {
+        let words = words_of(rt.alloc(), &["why", "a", "b", text])?;
+        assert!(rt; read_form(&words) == Some(Form::Why { number: *number }));
+    }
+    Ok(())
+}
+
+// Without times the whole run is drawn, and with two the part between them.
+#[test]
+fn words_of_draw_are_read(rt: HostRuntime) -> Result<(), Fail> {
+    let words = words_of(rt.alloc(), &["draw", "a", "b"])?;
+    assert!(rt; read_form(&words) == Some(Form::DrawWhole));
+    let words = words_of(rt.alloc(), &["draw", "a", "b", "0", "18446744073709551615"])?;
+    let part = Form::Draw {
+        from: 0,
+        to: u64::MAX,
+    };
+    assert!(rt; read_form(&words) == Some(part));
+    Ok(())
+}
+
+#[test]
+fn words_of_events_are_read(rt: HostRuntime) -> Result<(), Fail> {
+    for (texts, seed, cycles) in EVENTS {
+        let words = words_of(rt.alloc(), texts)?;
+        let wanted = Form::Events {
+            seed: *seed,
+            cycles: *cycles,
+        };
+        assert!(rt; read_form(&words) == Some(wanted));
+    }
+    Ok(())
+}

@@ -1,0 +1,8 @@
+//! Tests of pictures of reports: what is drawn, and where.
+
+mod calm;
+mod clocks;
+mod drawn;
+mod overviews;
+mod refused;
+mod windows;

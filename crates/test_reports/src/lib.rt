@@ -1,5 +1,0 @@
-//! Tests of the text of reports.
-#![tactic(auto)]
-
-#[cfg(test)]
-mod text;

@@ -1,0 +1,5 @@
+//! Tests of sparse global time: the granules of the worked network, and stamps in them.
+
+mod granules;
+mod stamping;
+mod worked;

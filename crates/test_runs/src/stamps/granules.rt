@@ -1,0 +1,57 @@
+use crate::stamps::worked::worked;
+use precision_law::falls::{clocks_do_not_fall_back, corrections_are_small};
+use std::test::Fail;
+use tte_stamps::granules::{Granule, least, stamps_agree, stamps_are_of_locals, stamps_tell_order};
+use tte_units::Units;
+
+// Four times the precision, worked out by hand.
+const LEAST: i64 = 4_194_304_000;
+
+#[test]
+fn a_granule_is_not_below_the_least(rt: HostRuntime) -> Result<(), Fail> {
+    let accepted = worked(&rt, rt.alloc())?;
+    assert!(rt; least(&accepted) == Units(LEAST));
+    for (units, want) in [
+        (LEAST - 1, false),
+        (LEAST, true),
+        (LEAST + 1, true),
+        (1 << 60, true),
+        (1, false),
+        (0, false),
+        (-LEAST, false),
+    ] {
+        assert!(rt; Granule::new(&accepted, Units(units)).is_some() == want);
+    }
+    Ok(())
+}
+
+// The quotients are another program's, rounded down.
+#[test]
+fn a_stamp_is_rounded_down(rt: HostRuntime) -> Result<(), Fail> {
+    clocks_do_not_fall_back();
+    corrections_are_small();
+    stamps_are_of_locals();
+    stamps_agree();
+    stamps_tell_order();
+    let accepted = worked(&rt, rt.alloc())?;
+    let fine = Granule::new(&accepted, Units(LEAST)).expect(&rt, "a granule");
+    for (local, want) in [
+        (0, 0),
+        (4_194_303_999, 0),
+        (4_194_304_000, 1),
+        (4_194_513_714, 1),
+        (12_583_541_145, 3),
+        (-1, -1),
+        (-4_194_304_000, -1),
+        (-4_194_304_001, -2),
+        (i64::MIN, -2_199_023_256),
+        (i64::MAX, 2_199_023_255),
+    ] {
+        assert!(rt; fine.stamp(Units(local)) == want);
+    }
+    let coarse = Granule::new(&accepted, Units(1 << 60)).expect(&rt, "a granule");
+    for (local, want) in [(1 << 60, 1), ((1 << 60) - 1, 0), (-1, -1), (i64::MIN, -8)] {
+        assert!(rt; coarse.stamp(Units(local)) == want);
+    }
+    Ok(())
+}

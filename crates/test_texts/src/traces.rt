@@ -1,0 +1,4 @@
+//! Tests of traces: their text, and the hypothesis that their events keep.
+
+mod hypothesis;
+mod text;

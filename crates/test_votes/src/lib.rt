@@ -1,5 +1,0 @@
-//! Tests of ballots.
-#![tactic(auto)]
-
-#[cfg(test)]
-mod ballots;

@@ -1,0 +1,79 @@
+-- The run up to behind the events of a time is one that goes just up to before the time, and then records of events.
+use Rattle.std.proofs.{Common.{◌*◌, ◌++◌, ◌+◌, ◌-◌, ◌<◌, ◌^◌, ◌∙◌, ◌∷◌, ◌≡◌, ◌≤◌, List, [], ap, arith, inl, inr, refl, subst, sym, ℕ}, lemmas.List.map-append}
+use Rattle.net_plan.specs.declared.event.What.{What}
+use Rattle.precision_law.proofs.records.Cutting.{cut_run}
+use Rattle.run_law.proofs.{law.FirstPlaces.{IsSplit, split}, runs.{NetworkRuns.same_notes, Places.{before_of_time, in_right, parted}}}
+use Rattle.run_law.specs.{declared.note.{Note.Note, NoteBody.NoteBody}, law.FirstLaws.IsLawful, records.Happenings.{Happening, happenings, time_of}}
+use Rattle.run_law.specs.{records.{Order.{IsBefore, IsIn}, Ranks.{key, members_in, place_of, rank}}, runs.{DueRecords.{IsDue, IsScenarioRun}, Runs.IsRun}}
+use Rattle.run_law.specs.scenario.Scenarios.{Scenario}
+use Rattle.tte_units.{proofs.Amounts.units_are, specs.Amount.amount}
+use Rattle.traffic_law.{proofs.safety_lemmas.{Going.{goes_well, well_earlier}, Told.{note_in, notes_of, told}}, specs.safety.Headline.{GoesWell, IsEventOf}}
+use Rattle.run_law.specs.declared.note.NoteBody.TheVariants as notes
+
+-- ---- what is behind the front
+
+-- a record of the lowest rank is that of an event
+lowest : (body : NoteBody) → rank body < 2 → (line : ℕ) × (what : What) × (body ≡ notes.Event line what)
+lowest (notes.Event line what) lt = (line, what, refl)
+lowest (notes.Arrived device link cause clock) lt = absurd (omega (arith, lt))
+lowest (notes.Permanent device link cause point verdict) lt = absurd (omega (arith, lt))
+lowest (notes.Compressed device opened at cycle members verdict) lt = absurd (omega (arith, lt))
+lowest (notes.Sent device cycle) lt = absurd (omega (arith, lt))
+lowest (notes.Corrected device cycle by adjustment) lt = absurd (omega (arith, lt))
+lowest (notes.State device state cause why) lt = absurd (omega (arith, lt))
+lowest (notes.Left device link cause clock) lt = absurd (omega (arith, lt))
+lowest (notes.Lost device link cause) lt = absurd (omega (arith, lt))
+lowest (notes.TtSent device link cause vl cycle) lt = absurd (omega (arith, lt))
+lowest (notes.Accepted device link cause vl cycle) lt = absurd (omega (arith, lt))
+lowest (notes.Delivered device link cause vl cycle) lt = absurd (omega (arith, lt))
+lowest (notes.Dropped device link cause reason) lt = absurd (omega (arith, lt))
+lowest (notes.Clock device reading adjustment state) lt = absurd (omega (arith, lt))
+
+-- a place that is not before a time, but before the place behind its events, is of this time and of the lowest rank
+between : (at kind time : ℕ) (rest : List ℕ) → (IsBefore (at ∷ kind ∷ rest) (time ∷ []) → ⊥) → IsBefore (at ∷ kind ∷ rest) (time ∷ 2 ∷ [])
+    → (at ≡ time) × (kind < 2)
+between at kind time rest not (inl lt) = absurd (not (inl lt))
+between at kind time rest not (inr (same, inl lt)) = (same, lt)
+between at kind time rest not (inr (same, inr none)) = absurd none.1
+
+event_of : (s : Scenario) (hs : List Happening) (time : ℕ) (at : IsSplit place_of hs (time ∷ [])) → IsRun place_of (IsDue s) (time ∷ 2 ∷ []) hs
+    → (h : Happening) → IsIn h at.rest → IsEventOf time h.note
+event_of s hs time at run h i =
+    let there : IsIn h hs = subst (IsIn h) (sym at.whole) (in_right h at.front at.rest i) in
+    let parts = parted h hs there in
+    let due = (run.founded parts.0 parts.1 h parts.2).1 in
+    let place = between (time_of h) (rank h.note.body) time (key (members_in h) h.note.body) (at.none h i) (run.within h there) in
+    let event = lowest h.note.body place.1 in
+    record { line = event.0; what = event.1; is = event.2; at = units_are h.note.time time due.begun place.0 }
+
+-- ---- the front
+
+-- a run up to before a time goes well up to each earlier time
+pub goes_well_before : (s : Scenario) (ns : List Note) (time : ℕ) → IsLawful s → time ≤ 2 ^ 20 * amount s.network.cycle + 1
+    → IsScenarioRun s (time ∷ []) ns
+    → (until : ℕ) → until < time → GoesWell s (happenings s.network ns) until
+goes_well_before s ns time lawful short run until early =
+    let next : time ≡ (time - 1) + 1 = omega (arith, early) in
+    let well = goes_well s ns (time - 1) lawful (omega (arith, short)) (subst (λ (n : ℕ). IsScenarioRun s (n ∷ []) ns) next run) in
+    well_earlier s (happenings s.network ns) until (time - 1) (omega (arith, early)) well
+
+-- the records before the time, and those behind
+pub record IsParted (s : Scenario) (time : ℕ) (ns : List Note) : Type 0 where
+  pub front : List Note
+  pub rest : List Note
+  pub parts : ns ≡ front ++ rest
+  pub run : IsScenarioRun s (time ∷ []) front
+  pub only_events : (note : Note) → IsIn note rest → IsEventOf time note
+
+pub part : (s : Scenario) (time : ℕ) (ns : List Note) → IsScenarioRun s (time ∷ 2 ∷ []) ns → IsParted s time ns
+part s time ns run =
+    let hs = happenings s.network ns in
+    let at = split place_of (IsDue s) hs (time ∷ []) run.founded in
+    let cut = cut_run place_of (IsDue s) (time ∷ 2 ∷ []) (time ∷ []) hs at (λ q before. before_of_time q time (2 ∷ []) before) run in
+    record {
+      front = notes_of at.front;
+      rest = notes_of at.rest;
+      parts = sym (same_notes s.network ns) ∙ ap notes_of at.whole ∙ map-append (λ (h : Happening). h.note) at.front at.rest;
+      run = subst (IsRun place_of (IsDue s) (time ∷ [])) (sym (told s at.front cut.founded)) cut;
+      only_events = λ note i. let it = note_in at.rest note i in subst (IsEventOf time) (sym it.2) (event_of s hs time at run it.0 it.1);
+    }

@@ -1,0 +1,24 @@
+-- Machines that have just begun, one more at a time.
+use Rattle.std.{proofs.Common.{◌++◌, ◌∙◌, ◌∷◌, ◌≡◌, List, Some, [], length, subst, sym, ℕ, ⊎_elim}, specs.Prelude.slice_get}
+use Rattle.net_plan.specs.declared.{ids.DeviceId.DeviceId, network.Network.Network}
+use Rattle.run_law.specs.machines.Nodes.{begun_node}
+use Rattle.tte_lemmas.proofs.Lists.{pushed}
+use Rattle.world_drive.specs.{machines.Standing.StandsAsDevice, declared.machines.device_machine.DeviceMachine.DeviceMachine}
+
+-- the machine stands for the device at the place, which has just begun
+abbrev pub HasBegun : Network → ℕ → DeviceMachine → Type 0
+HasBegun network place machine = StandsAsDevice machine network (record { 0 = place }) (begun_node network (record { 0 = place }))
+
+-- each machine does, at its own place
+abbrev pub HaveBegun : Network → List DeviceMachine → Type 0
+HaveBegun network machines = (device : DeviceId) (machine : DeviceMachine) → slice_get machines device.0 ≡ Some machine
+    → StandsAsDevice machine network device (begun_node network device)
+
+pub begun_pushed : (network : Network) (machines : List DeviceMachine) (last : DeviceMachine) (count : ℕ) → length machines ≡ count
+    → HasBegun network count last → HaveBegun network machines → HaveBegun network (machines ++ last ∷ [])
+begun_pushed network machines last count len is each device machine h =
+    ⊎_elim
+    (λ (g : slice_get machines device.0 ≡ Some machine). each device machine g)
+    (λ (g : (device.0 ≡ length machines) × (last ≡ machine)).
+    subst (λ (place : ℕ). HasBegun network place machine) (sym (g.0 ∙ len)) (subst (λ (x : DeviceMachine). HasBegun network count x) g.1 is))
+    (pushed machines last machine device.0 h)

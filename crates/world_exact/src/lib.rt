@@ -1,6 +1,0 @@
-//! The program's world, whose clocks are exact: where it stands with the events and the records of a run.
-#![tactic(auto)]
-
-mod exact_world;
-
-pub use exact_world::ExactWorld;

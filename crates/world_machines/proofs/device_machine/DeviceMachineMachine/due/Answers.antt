@@ -1,7 +1,0 @@
-use Rattle.world_machines.proofs.device_machine.DeviceMachineMachine.due.Goals as goal
-
-pub returns-in-EndSystem : goal.returns-in-EndSystem
-returns-in-EndSystem c = rw c.in-EndSystem.is c.due.ensures
-
-pub returns-in-Switch : goal.returns-in-Switch
-returns-in-Switch c = rw c.in-Switch.is c.due-in-Switch.ensures

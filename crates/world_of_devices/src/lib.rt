@@ -1,7 +1,0 @@
-//! A network's world, whose devices have the machines of their roles.
-#![tactic(auto)]
-
-mod world;
-
-pub use drift_world::OutOfMemory;
-pub use world::World;

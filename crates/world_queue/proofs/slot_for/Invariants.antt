@@ -1,6 +1,0 @@
-use Rattle.std.proofs.Common.{take}
-use Rattle.world_queue.specs.Finding.{NoSlotFor}
-use Rattle.world_queue.proofs.slot_for.Given as goal
-
-abbrev pub invariant-places : goal.invariant-places
-invariant-places l = NoSlotFor (take l.slotted-index l.fn.places) l.fn.rank l.fn.cause
