@@ -6,6 +6,4 @@ mod flows;
 #[cfg(test)]
 mod lenses;
 #[cfg(test)]
-mod pictures;
-#[cfg(test)]
 mod worked;

@@ -1,5 +1,5 @@
-use crate::pictures::calm::CALM;
-use crate::pictures::drawn::{drawn, has_lines, text_of};
+use crate::drawn::{drawn, has_lines, text_of};
+use crate::worked::CALM;
 use lens_draw::svg::Span;
 use std::test::Fail;
 

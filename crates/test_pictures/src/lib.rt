@@ -1,8 +1,15 @@
 //! Tests of pictures of reports: what is drawn, and where.
+#![tactic(auto)]
 
-mod calm;
+#[cfg(test)]
 mod clocks;
+#[cfg(test)]
 mod drawn;
+#[cfg(test)]
 mod overviews;
+#[cfg(test)]
 mod refused;
+#[cfg(test)]
 mod windows;
+#[cfg(test)]
+mod worked;

@@ -1,5 +1,4 @@
-use crate::pictures::calm::CALM;
-use crate::worked::WORKED;
+use crate::worked::{CALM, WORKED};
 use lens_draw::draw_report;
 use lens_draw::svg::Span;
 use std::alloc::Global;

@@ -1,5 +1,4 @@
-use crate::pictures::calm::CALM;
-use crate::worked::WORKED;
+use crate::worked::{CALM, WORKED};
 use lens_draw::overview::draw_whole;
 use std::alloc::Global;
 use std::process::Abort;
