@@ -1,4 +1,5 @@
 -- What follows a record is what the records with it show.
+use Rattle.std.proofs.Common.{arith}
 use Rattle.audit_devices.proofs.Words.{◌++◌, ◌∙◌, ◌∷◌, ◌≡◌, Carried, Corrects, DeviceId, Effect, Happening, Hears, IsInRange, Joins, List, Network, NoneLater}
 use Rattle.audit_devices.proofs.Words.{NoteBody, Nothing, Scenario, Shown, Shows, Summarizes, Turns, [], ap, carried_by, effect_by, effect_of, points_by}
 use Rattle.audit_devices.proofs.Words.{silence, subst, sym, time_of, ℕ}
@@ -28,9 +29,7 @@ by_effect s hs device h t body carried readings old new (Hears channel frame wit
 effect_met : (network : Network) (device : DeviceId) (s : Scenario) (h : Happening) (t : ℕ) (body : NoteBody) (carried : Carried) (readings : Readings)
     → s.network ≡ network → IsMet s device h t body carried readings → effect_of s.network device h ≡ effect_by network device carried body
 effect_met network device s h t body carried readings of met =
-    ap (λ (n : Network). effect_by n device (carried_by h) h.note.body) of
-    ∙ ap (λ (c : Carried). effect_by network device c h.note.body) (sym met.frame)
-    ∙ ap (λ (b : NoteBody). effect_by network device carried b) met.body_is
+    grind (arith, effect_by, carried_by)
 
 -- what follows a record is what the records with it show
 pub follows : (network : Network) (device : DeviceId) (t : ℕ) (body : NoteBody) (carried : Carried) (readings : Readings) (old new : Shown) (e : Effect)

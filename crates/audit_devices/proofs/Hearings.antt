@@ -1,8 +1,8 @@
 -- What is shown with one more record by which the device hears a frame.
 use Rattle.audit_devices.proofs.Words.{if◌then◌else◌, ◌++◌, ◌+ℤ◌, ◌-◌, ◌<◌, ◌==◌, ◌∙◌, ◌∷◌, ◌≡◌, ◌≤◌, Bool, DeviceId, Effect, Happening, Hearing, Hears}
-use Rattle.audit_devices.proofs.Words.{IsInRange, List, NoneLater, Option, Scenario, Shown, Shows, Summarizes, Summary, Units, [], ap, arith, cases_lt}
-use Rattle.audit_devices.proofs.Words.{cons_option, effect_of, false, filter_map, heard_at, heard_by_then, hearing_by, inl, inr, points_by, pos, refl, silence}
-use Rattle.audit_devices.proofs.Words.{subst, sym, time_of, true, ℕ}
+use Rattle.audit_devices.proofs.Words.{IsInRange, List, NoneLater, Scenario, Shown, Shows, Summarizes, Summary, Units, [], ap, arith, cases_lt}
+use Rattle.audit_devices.proofs.Words.{cons_option, effect_of, filter_map, heard_at, heard_by_then, hearing_by, inl, inr, points_by, pos, refl, silence}
+use Rattle.audit_devices.proofs.Words.{subst, sym, time_of, ℕ}
 use Rattle.std.proofs.lemmas.List.{append-nil}
 use Rattle.tte_lemmas.proofs.Naturals.{eqb_same, goes_on}
 use Rattle.audit_devices.proofs.Points.{points_mono}
@@ -15,11 +15,7 @@ heard_there : (s : Scenario) (hs : List Happening) (device : DeviceId) (h : Happ
     → points ≡ points_by s.network shown (s.reading device (time_of h - 1))
     → heard_at s (hs ++ h ∷ []) device shown points ≡ heard_at s hs device shown points ++ hearing ∷ []
 heard_there s hs device h shown hearing points t is =
-    let f : Happening → Option Hearing = λ x. hearing_by s.network device x x.note.body in
-    let kept : kept_where s device shown points h ≡ true = ap (λ (n : ℕ). points == n) (sym is) ∙ eqb_same points in
-    heard_on s hs device h shown points t.changes_is
-    ∙ ap (λ (b : Bool). heard_at s hs device shown points ++ filter_map f (if b then h ∷ [] else [])) kept
-    ∙ ap (λ (o : Option Hearing). heard_at s hs device shown points ++ cons_option o []) t.hears_is
+    grind (arith, hearing_by, kept_where, eqb_same, heard_on, heard_at, filter_map, cons_option)
 
 -- and nowhere else
 heard_else : (s : Scenario) (hs : List Happening) (device : DeviceId) (h : Happening) (shown : Shown) (hearing : Hearing) (points more : ℕ)
@@ -27,11 +23,7 @@ heard_else : (s : Scenario) (hs : List Happening) (device : DeviceId) (h : Happe
     → points ≡ points_by s.network shown (s.reading device (time_of h - 1)) → points < more
     → heard_at s (hs ++ h ∷ []) device shown more ≡ heard_at s hs device shown more
 heard_else s hs device h shown hearing points more t is lt =
-    let f : Happening → Option Hearing = λ x. hearing_by s.network device x x.note.body in
-    let kept : kept_where s device shown more h ≡ false = ap (λ (n : ℕ). more == n) (sym is) ∙ goes_on more points lt in
-    heard_on s hs device h shown more t.changes_is
-    ∙ ap (λ (b : Bool). heard_at s hs device shown more ++ filter_map f (if b then h ∷ [] else [])) kept
-    ∙ append-nil (heard_at s hs device shown more)
+    grind (arith, hearing_by, kept_where, goes_on, heard_on, heard_at, filter_map, append-nil)
 
 -- what is kept of what was heard where so many points had come
 pub kept_then : (s : Scenario) (hs : List Happening) (device : DeviceId) (shown : Shown) (points : ℕ) → Shows s hs device shown → shown.come ≤ points

@@ -1,13 +1,12 @@
 -- What is kept goes on by one more record.
 use Rattle.audit_devices.proofs.Words.{if◌then◌else◌, ◌++◌, ◌==◌, ◌∙◌, ◌∷◌, ◌≡◌, ◌≤◌, ◌⊎◌, Bool, Carried, DeviceId, Effect, Entry, Happening, History, IsIn}
-use Rattle.audit_devices.proofs.Words.{IsPartitionedBy, Keeps, List, Mark, Network, None, NoneLater, NoteBody, Nothing, Option, Scenario, Shown, Shows, Some}
-use Rattle.audit_devices.proofs.Words.{[], ap, arith, effect_by, effect_of, false, filter, inl, inr, is_before, is_mark_before, last_or, mark_of, members_in}
+use Rattle.audit_devices.proofs.Words.{IsPartitionedBy, Keeps, List, Network, None, NoneLater, NoteBody, Nothing, Option, Scenario, Shown, Shows, Some}
+use Rattle.audit_devices.proofs.Words.{[], ap, arith, effect_by, effect_of, false, filter, inl, inr, is_before, last_or, members_in}
 use Rattle.audit_devices.proofs.Words.{ne_eqb, option_map_or, place_of, records_before, refl, subject_of, subst, sym, time_of, true, ℕ}
-use Rattle.run_law.{proofs.{records.Order.{all_kept, before_is, is_there}, runs.Places.{chain, in_left, in_parts, in_right}}, specs.records.Causes.device_of}
+use Rattle.run_law.proofs.{records.Order.{all_kept, before_is, is_there}, runs.Places.{chain, in_left, in_parts, in_right}}
 use Rattle.run_law.specs.records.{Order.{AllBefore, IsBefore}, Ranks.{key, rank}}
 use Rattle.tte_lemmas.proofs.Lists.{filter_off, filter_on, last_pushed}
-use Rattle.audit_devices.{proofs.{MarkOrder.marks_compare, Partitions.parted_on, Steps.quiet}, specs.Keeping.{IsOfRecord, latest_of, shown_before}}
-use Rattle.audit_devices.specs.Marks.{IsMarkOf, numbers_of}
+use Rattle.audit_devices.{proofs.{Partitions.parted_on, Steps.quiet}, specs.Keeping.{IsOfRecord, latest_of, shown_before}}
 use Rattle.run_law.specs.declared.note.NoteBody.TheVariants as notes
 
 -- ---- the test of places
@@ -38,32 +37,23 @@ nothing_of network d carried (notes.Corrected other cycle by adjustment) not = a
 nothing_of network d carried (notes.State other state cause why) not = apart d other _ not
 nothing_of network d carried body not = refl
 
-pub of_subject : (body : NoteBody) (d : DeviceId) → subject_of body ≡ Some d → device_of body ≡ Some d
-of_subject (notes.Permanent other link cause point verdict) d is = is
-of_subject (notes.Compressed other opened at cycle members verdict) d is = is
-of_subject (notes.Corrected other cycle by adjustment) d is = is
-of_subject (notes.State other state cause why) d is = is
-of_subject body d is = absurd cc
-
 -- a device that the record shows nothing of
 pub kept_still : (s : Scenario) (hs : List Happening) (d : DeviceId) (h : Happening) (history : History) → effect_of s.network d h ≡ Nothing
     → Keeps s hs d history → Keeps s (hs ++ h ∷ []) d history
 kept_still s hs d h history nothing keeps = record {
   latest = quiet s hs d h (latest_of history) nothing keeps.latest;
-  before = λ place mark of. by_place place mark (keeps.before place mark of) (is_before (place_of h) place) refl;
-  marks = λ e i.
-      let old = keeps.marks e i in
-      record { h = old.h; there = in_left old.h hs (h ∷ []) old.there; of_device = old.of_device; mark = old.mark };
+  before = λ place. by_place place (keeps.before place) (is_before (place_of h) place) refl;
+  places = λ e i. let old = keeps.places e i in record { h = old.h; there = in_left old.h hs (h ∷ []) old.there; place = old.place };
   order = keeps.order;
 }
   where
-    by_place : (place : List ℕ) (mark : Mark) → Shows s (records_before place hs) d (shown_before mark history) → (b : Bool)
-        → is_before (place_of h) place ≡ b → Shows s (records_before place (hs ++ h ∷ [])) d (shown_before mark history)
-    by_place place mark old true e =
-        subst (λ (xs : List Happening). Shows s xs d (shown_before mark history)) (sym (filter_on (λ x. is_before (place_of x) place) hs h e))
-        (quiet s (records_before place hs) d h (shown_before mark history) nothing old)
-    by_place place mark old false e =
-        subst (λ (xs : List Happening). Shows s xs d (shown_before mark history)) (sym (filter_off (λ x. is_before (place_of x) place) hs h e)) old
+    by_place : (place : List ℕ) → Shows s (records_before place hs) d (shown_before place history) → (b : Bool)
+        → is_before (place_of h) place ≡ b → Shows s (records_before place (hs ++ h ∷ [])) d (shown_before place history)
+    by_place place old true e =
+        subst (λ (xs : List Happening). Shows s xs d (shown_before place history)) (sym (filter_on (λ x. is_before (place_of x) place) hs h e))
+        (quiet s (records_before place hs) d h (shown_before place history) nothing old)
+    by_place place old false e =
+        subst (λ (xs : List Happening). Shows s xs d (shown_before place history)) (sym (filter_off (λ x. is_before (place_of x) place) hs h e)) old
 
 -- ---- a device that it shows something of
 
@@ -71,61 +61,58 @@ abbrev shown_of : Shown → List Entry → Shown
 shown_of first es = option_map_or (λ e. e.shown) (last_or None es) first
 
 abbrev entry_of : Happening → Shown → Entry
-entry_of h shown = record { mark = mark_of h; shown = shown }
+entry_of h shown = record { place = place_of h; shown = shown }
 
 pub kept_on : (s : Scenario) (hs : List Happening) (d : DeviceId) (h : Happening) (old new : History) (shown : Shown)
-    → AllBefore place_of hs (place_of h) → device_of h.note.body ≡ Some d → new.first ≡ old.first
-    → new.entries.items ≡ old.entries.items ++ record { mark = mark_of h; shown = shown } ∷ []
+    → AllBefore place_of hs (place_of h) → new.first ≡ old.first
+    → new.entries.items ≡ old.entries.items ++ record { place = place_of h; shown = shown } ∷ []
     → Shows s (hs ++ h ∷ []) d shown → Keeps s hs d old → Keeps s (hs ++ h ∷ []) d new
-kept_on s hs d h old new shown all of first items shows keeps = record {
+kept_on s hs d h old new shown all first items shows keeps = record {
   latest = subst (Shows s (hs ++ h ∷ []) d) (sym (ap (shown_of new.first) items ∙ newest (old.entries.items))) shows;
-  before = λ place mark is. by_place place mark is (is_before (place_of h) place) refl;
-  marks = λ e i. by_entry e (in_parts e old.entries.items (entry_of h shown ∷ []) (subst (IsIn e) items i));
-  order = λ mark.
-      let test : Entry → Bool = λ e. is_mark_before e.mark mark in
-      subst (IsPartitionedBy test) (sym items) (parted_on test old.entries.items (entry_of h shown) (keeps.order mark) (ordered mark));
+  before = λ place. by_place place (is_before (place_of h) place) refl;
+  places = λ e i. by_entry e (in_parts e old.entries.items (entry_of h shown ∷ []) (subst (IsIn e) items i));
+  order = λ place.
+      let test : Entry → Bool = λ e. is_before e.place place in
+      subst (IsPartitionedBy test) (sym items) (parted_on test old.entries.items (entry_of h shown) (keeps.order place) (ordered place));
 }
   where
     newest : (es : List Entry) → shown_of new.first (es ++ entry_of h shown ∷ []) ≡ shown
     newest es = ap (λ (o : Option Entry). option_map_or (λ (e : Entry). e.shown) o new.first) (last_pushed None es (entry_of h shown))
 
-    by_place : (place : List ℕ) (mark : Mark) → IsMarkOf d mark place → (b : Bool) → is_before (place_of h) place ≡ b
-        → Shows s (records_before place (hs ++ h ∷ [])) d (shown_before mark new)
-    by_place place mark is true e =
-        let test : Entry → Bool = λ x. is_mark_before x.mark mark in
+    by_place : (place : List ℕ) → (b : Bool) → is_before (place_of h) place ≡ b
+        → Shows s (records_before place (hs ++ h ∷ [])) d (shown_before place new)
+    by_place place true e =
+        let test : Entry → Bool = λ x. is_before x.place place in
         let records : Happening → Bool = λ x. is_before (place_of x) place in
         let whole = filter_on records hs h e
         ∙ ap (λ (xs : List Happening). xs ++ h ∷ []) (all_kept records hs (λ x i.
         test_chain (place_of x) (place_of h) place (before_is (place_of x) (place_of h) (all x i)) e)) in
         let last = ap (λ (xs : List Entry). shown_of new.first (filter test xs)) items
-        ∙ ap (shown_of new.first) (filter_on test old.entries.items (entry_of h shown) (is h of ∙ e))
+        ∙ ap (shown_of new.first) (filter_on test old.entries.items (entry_of h shown) e)
         ∙ newest (filter test old.entries.items) in
-        subst (λ (xs : List Happening). Shows s xs d (shown_before mark new)) (sym whole) (subst (Shows s (hs ++ h ∷ []) d) (sym last) shows)
-    by_place place mark is false e =
-        let test : Entry → Bool = λ x. is_mark_before x.mark mark in
+        subst (λ (xs : List Happening). Shows s xs d (shown_before place new)) (sym whole) (subst (Shows s (hs ++ h ∷ []) d) (sym last) shows)
+    by_place place false e =
+        let test : Entry → Bool = λ x. is_before x.place place in
         let records : Happening → Bool = λ x. is_before (place_of x) place in
         let last = ap (λ (xs : List Entry). shown_of new.first (filter test xs)) items
-        ∙ ap (shown_of new.first) (filter_off test old.entries.items (entry_of h shown) (is h of ∙ e))
+        ∙ ap (shown_of new.first) (filter_off test old.entries.items (entry_of h shown) e)
         ∙ ap (λ (x : Shown). shown_of x (filter test old.entries.items)) first in
-        subst (λ (xs : List Happening). Shows s xs d (shown_before mark new)) (sym (filter_off records hs h e))
-        (subst (Shows s (records_before place hs) d) (sym last) (keeps.before place mark is))
+        subst (λ (xs : List Happening). Shows s xs d (shown_before place new)) (sym (filter_off records hs h e))
+        (subst (Shows s (records_before place hs) d) (sym last) (keeps.before place))
 
-    by_entry : (e : Entry) → IsIn e old.entries.items ⊎ IsIn e (entry_of h shown ∷ []) → IsOfRecord (hs ++ h ∷ []) d e
+    by_entry : (e : Entry) → IsIn e old.entries.items ⊎ IsIn e (entry_of h shown ∷ []) → IsOfRecord (hs ++ h ∷ []) e
     by_entry e (inl there) =
-        let r = keeps.marks e there in
-        record { h = r.h; there = in_left r.h hs (h ∷ []) r.there; of_device = r.of_device; mark = r.mark }
+        let r = keeps.places e there in
+        record { h = r.h; there = in_left r.h hs (h ∷ []) r.there; place = r.place }
     by_entry e (inr (inl same)) = record {
       h = h;
       there = in_right h hs (h ∷ []) (inl refl);
-      of_device = of;
-      mark = ap (λ (x : Entry). x.mark) same;
+      place = ap (λ (x : Entry). x.place) same;
     }
     by_entry e (inr (inr none)) = absurd none
 
-    ordered : (mark : Mark) → is_mark_before (mark_of h) mark ≡ true → (y : Entry) → IsIn y old.entries.items → is_mark_before y.mark mark ≡ true
-    ordered mark passes y i =
-        let r = keeps.marks y i in
-        let first : is_mark_before (mark_of r.h) (mark_of h) ≡ true =
-        marks_compare d (time_of r.h) (members_in r.h) (time_of h) (members_in h) r.h.note.body h.note.body r.of_device of
-        ∙ before_is (place_of r.h) (place_of h) (all r.h r.there) in
-        ap (λ (m : Mark). is_mark_before m mark) r.mark ∙ test_chain (numbers_of (mark_of r.h)) (numbers_of (mark_of h)) (numbers_of mark) first passes
+    ordered : (place : List ℕ) → is_before (place_of h) place ≡ true → (y : Entry) → IsIn y old.entries.items → is_before y.place place ≡ true
+    ordered place passes y i =
+        let r = keeps.places y i in
+        ap (λ (p : List ℕ). is_before p place) r.place
+        ∙ test_chain (place_of r.h) (place_of h) place (before_is (place_of r.h) (place_of h) (all r.h r.there)) passes

@@ -1,12 +1,12 @@
 -- What is kept of all devices goes on by one more record.
-use Rattle.audit_devices.proofs.Words.{◌++◌, ◌<◌, ◌==◌, ◌∙◌, ◌∷◌, ◌≡◌, ◌⊎◌, Carried, DeviceId, Entry, Happening, History, IsFresh, IsIn, Keeps, List, Mark}
-use Rattle.audit_devices.proofs.Words.{Network, None, NoteBody, Scenario, Shown, Shows, Some, [], ap, arith, carried_by, filter, got_within, inl, inr}
-use Rattle.audit_devices.proofs.Words.{is_before, is_mark_before, last_or, length, mark_of, members_in, nat_lt, option_map_or, place_of, records_before, refl}
+use Rattle.audit_devices.proofs.Words.{◌++◌, ◌<◌, ◌==◌, ◌∙◌, ◌∷◌, ◌≡◌, ◌⊎◌, Carried, DeviceId, Entry, Happening, History, IsFresh, Keeps, List}
+use Rattle.audit_devices.proofs.Words.{Network, None, NoteBody, Scenario, Shown, Some, [], ap, arith, carried_by, filter, got_within, inl, inr}
+use Rattle.audit_devices.proofs.Words.{is_before, last_or, length, members_in, nat_lt, option_map_or, place_at, place_of, records_before, refl}
 use Rattle.audit_devices.proofs.Words.{slice_get, slice_set, subject_of, subst, suc, sym, time_of, true, zero, ℕ}
 use Rattle.std.{proofs.{Common.{Err, Ok, Result}, lemmas.Bool.cases_order}, specs.Prelude.{OnOk, is_ok}}
 use Rattle.run_law.{proofs.records.Order.same_kept, specs.records.Happenings.earlier}
 use Rattle.tte_lemmas.proofs.{Bools.no_more, Lists.{set_other, set_same}}
-use Rattle.audit_devices.{proofs.Kept.{kept_still, nothing_of}, specs.{Following.IsMet, Keeping.KeepsAll, Marks.mark_at, Showing.IsSteady}}
+use Rattle.audit_devices.{proofs.Kept.{kept_still, nothing_of}, specs.{Following.IsMet, Keeping.KeepsAll, Showing.IsSteady}}
 use Rattle.audit_devices.specs.declared.shown.Readings.{Readings}
 
 -- ---- what holds where a call was not cut short
@@ -52,14 +52,12 @@ all_on s hs h d new histories subject within kept keeps device history there =
         (λ e. let one : Some d ≡ Some device = sym subject ∙ e in let is : d ≡ device = cc in not (ap (λ (x : DeviceId). x.0) is)))
         (keeps device history (sym (set_other histories d.0 device.0 new not) ∙ there))
 
--- ---- the mark of what is met
+-- ---- the place of what is met
 
-pub mark_met : (s : Scenario) (d : DeviceId) (h : Happening) (t : ℕ) (body : NoteBody) (carried : Carried) (readings : Readings)
-    → IsMet s d h t body carried readings → mark_at t carried.members.0 body ≡ mark_of h
-mark_met s d h t body carried readings met =
-    ap (λ (n : ℕ). mark_at n carried.members.0 body) met.time
-    ∙ ap (λ (c : Carried). mark_at (time_of h) c.members.0 body) met.frame
-    ∙ ap (mark_at (time_of h) (members_in h)) (sym met.body_is)
+pub place_met : (s : Scenario) (d : DeviceId) (h : Happening) (t : ℕ) (body : NoteBody) (carried : Carried) (readings : Readings)
+    → IsMet s d h t body carried readings → place_at t carried.members.0 body ≡ place_of h
+place_met s d h t body carried readings met =
+    grind (arith, place_at, time_of, members_in)
 
 -- ---- before a time
 
@@ -72,19 +70,13 @@ earlier_are t hs =
 abbrev shown_last : Shown → List Entry → Shown
 shown_last first es = option_map_or (λ e. e.shown) (last_or None es) first
 
-abbrev shown_then : Mark → Shown → List Entry → Shown
-shown_then mark first es = shown_last first (filter (λ e. is_mark_before e.mark mark) es)
+abbrev shown_then : List ℕ → Shown → List Entry → Shown
+shown_then place first es = shown_last first (filter (λ e. is_before e.place place) es)
 
 pub kept_first : (s : Scenario) (network : Network) (d : DeviceId) (history : History) → s.network ≡ network → IsSteady s d → IsFresh network d history
     → Keeps s [] d history
 kept_first s network d history is steady fresh =
-    let shows = fresh.shows s is steady in
-    record {
-      latest = subst (Shows s [] d) (sym (ap (shown_last history.first) fresh.none)) shows;
-      before = λ place mark of. subst (Shows s [] d) (sym (ap (shown_then mark history.first) fresh.none)) shows;
-      marks = λ e i. absurd (subst (IsIn e) fresh.none i);
-      order = λ mark i j x le lt. absurd (omega (arith, lt, ap length fresh.none));
-    }
+    grind (arith, length)
 
 -- one more history that is fresh
 pub fresh_more : (network : Network) (xs : List History) (x : History)

@@ -4,7 +4,6 @@ pub mod Steps
 pub mod Points
 pub mod Hearings
 pub mod Follows
-pub mod MarkOrder
 pub mod Partitions
 pub mod Kept
 pub mod KeptAll

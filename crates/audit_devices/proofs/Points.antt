@@ -18,16 +18,7 @@ quotients a b n some le = le-div (a / n) b n some (omega (arith, div-mul-le_self
 -- the quotient does not fall
 quotient_on : (a b c : ℤ) → pos 0 <ℤ c → pos 0 ≤ℤ a → a ≤ℤ b → natural (int_div_euclid a c) ≤ natural (int_div_euclid b c)
 quotient_on a b c some low le =
-    let x = whole a low in
-    let y = whole b (omega (arith, ints, low, le)) in
-    let z = whole c (omega (arith, ints, some)) in
-    let fine : x.0 ≤ y.0 = omega (arith, ints, sym x.1, sym y.1, le) in
-    let more : 0 < z.0 = omega (arith, ints, sym z.1, some) in
-    let left : natural (int_div_euclid a c) ≡ x.0 / z.0 =
-    ap (λ (u : ℤ). natural (int_div_euclid u c)) x.1 ∙ ap (λ (u : ℤ). natural (int_div_euclid (pos x.0) u)) z.1 in
-    let right : natural (int_div_euclid b c) ≡ y.0 / z.0 =
-    ap (λ (u : ℤ). natural (int_div_euclid u c)) y.1 ∙ ap (λ (u : ℤ). natural (int_div_euclid (pos y.0) u)) z.1 in
-    omega (arith, left, right, quotients x.0 y.0 z.0 more fine)
+    grind (arith, whole, ints, quotients)
 
 come_on : (p q r : Bool) (m n : ℕ) → (q ≡ true → r ≡ true) → (q ≡ true → m ≤ n) → (if p && q then m + 1 else 0) ≤ (if p && r then n + 1 else 0)
 come_on false q r m n more le = omega arith
@@ -63,24 +54,13 @@ pub then_comes : (network : Network) (shown : Shown) (before first n r : ℕ) �
     → shown.at_change <ℤ pos first → pos first ≤ℤ (pos before +ℤ shown.adjustment) → pos n ≡ ((pos before +ℤ shown.adjustment) -ℤ pos first)
     → r ≡ natural (int_div_euclid (pos n) network.cycle.0) → r + 1 ≡ points_by network shown before
 then_comes network shown before first n r is below reached apart value =
-    let v : ℤ = correction_value network shown.cycle in
-    let local : ℤ = pos before +ℤ shown.adjustment in
-    counted (int_lt shown.at_change v) (int_le v local) r (natural (int_div_euclid (local -ℤ v) network.cycle.0))
-    (subst (λ (z : ℤ). int_lt shown.at_change z ≡ true) is (int_lt-from shown.at_change (pos first) below))
-    (subst (λ (z : ℤ). int_le z local ≡ true) is (int_le-from (pos first) local reached))
-    (value
-    ∙ ap (λ (z : ℤ). natural (int_div_euclid z network.cycle.0)) apart
-    ∙ ap (λ (z : ℤ). natural (int_div_euclid (local -ℤ z) network.cycle.0)) is)
+    grind (arith, counted, int_lt-from, int_le-from)
 
 -- where it has passed that value at the change
 pub has_passed : (network : Network) (shown : Shown) (before first : ℕ) → pos first ≡ correction_value network shown.cycle
     → pos first ≤ℤ shown.at_change → 0 ≡ points_by network shown before
 has_passed network shown before first is passed =
-    let v : ℤ = correction_value network shown.cycle in
-    let local : ℤ = pos before +ℤ shown.adjustment in
-    let no = subst (λ (z : ℤ). int_lt shown.at_change z ≡ false) is (not_below shown.at_change (pos first) passed) in
-    not_counted (int_lt shown.at_change v) (int_le v local) (natural (int_div_euclid (local -ℤ v) network.cycle.0))
-    (ap (λ (b : Bool). b && int_le v local) no)
+    grind (arith, not_below, not_counted)
 
 -- where it has not come to it
 pub not_come : (network : Network) (shown : Shown) (before first : ℕ) → pos first ≡ correction_value network shown.cycle

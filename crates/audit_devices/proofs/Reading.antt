@@ -1,14 +1,14 @@
 -- What is read of what is shown: the correction points that have come, and what was heard since the last.
-use Rattle.audit_devices.proofs.Words.{if◌then◌else◌, ◌&&◌, ◌+ℤ◌, ◌+◌, ◌-◌, ◌==◌, ◌||◌, ◌∙◌, ◌∷◌, ◌≡◌, Bool, Corrects, DeviceId, Effect, Happening, Hearing}
-use Rattle.audit_devices.proofs.Words.{Hears, IsIn, Joins, List, None, NoneLater, Nothing, Option, Scenario, Shown, Shows, Summarizes, Turns, Units, [], ap}
+use Rattle.audit_devices.proofs.Words.{if◌then◌else◌, ◌&&◌, ◌+ℤ◌, ◌+◌, ◌-◌, ◌||◌, ◌∙◌, ◌∷◌, ◌≡◌, Bool, Corrects, DeviceId, Effect, Happening}
+use Rattle.audit_devices.proofs.Words.{Hears, IsIn, Joins, List, None, NoneLater, Nothing, Scenario, Shown, Shows, Summarizes, Turns, Units, [], ap}
 use Rattle.audit_devices.proofs.Words.{arith, changes_adjustment, effect_of, false, filter, filter_map, heard_at, heard_by_then, hearing_by, inl, inr}
 use Rattle.audit_devices.proofs.Words.{is_joined_by, last_or, nat_lt, option_map_or, points_by, pos, refl, subst, sym, time_of, true, ℕ, ℤ}
-use Rattle.std.{proofs.lemmas.Bool.ltb-false, specs.{List.after_last, Prelude.fold}}
+use Rattle.std.{proofs.lemmas.Bool.ltb-false, specs.Prelude.fold}
 use Rattle.audit_law.specs.CorrectionNumbers.{heard_since_point, next_number, points_come}
 use Rattle.membership.proofs.SummaryLemmas.{silence_summarizes}
 use Rattle.run_law.{proofs.records.Order.{after_same, same_kept}, specs.control.Corrections.recorded_cycle}
 use Rattle.run_law.specs.{device.States.{adjustment_after, adjustment_at_hearing}, records.Happenings.earlier}
-use Rattle.audit_devices.{proofs.{Hearings.kept_then, Tells.{adjustment_by, changes_by, cycle_by, tells}}, specs.Showing.{IsAfter, last_change, points_from}}
+use Rattle.audit_devices.{proofs.{Hearings.kept_then, Tells.{adjustment_by, changes_by, cycle_by, tells}}, specs.Showing.{IsAfter, last_change}}
 
 -- the records show this of the device's adjustment and of its correction points
 pub record ShowsPoints (s : Scenario) (es : List Happening) (device : DeviceId) (shown : Shown) : Type 0 where
@@ -20,13 +20,7 @@ pub record ShowsPoints (s : Scenario) (es : List Happening) (device : DeviceId) 
 pub points_are : (s : Scenario) (hs : List Happening) (device : DeviceId) (shown : Shown) (t by : ℕ) → ShowsPoints s (earlier t hs) device shown
     → points_come s hs device t by ≡ points_by s.network shown (s.reading device (by - 1))
 points_are s hs device shown t by is =
-    let es = earlier t hs in
-    let seen : ℕ → ℤ → ℤ → ℕ = λ cycle changed adjustment. points_from s.network cycle changed (pos (s.reading device (by - 1)) +ℤ adjustment) in
-    let adjustment : ℤ = (adjustment_after s es device).0 in
-    let changed : ℤ = pos (s.reading device (last_change es device)) in
-    sym (ap (λ (n : ℕ). seen n shown.at_change shown.adjustment) is.cycle
-    ∙ ap (λ (z : ℤ). seen (recorded_cycle es device) z shown.adjustment) is.at_change
-    ∙ ap (λ (z : ℤ). seen (recorded_cycle es device) (changed +ℤ z) z) is.adjustment)
+    grind arith
 
 pub points_shown : (s : Scenario) (hs : List Happening) (device : DeviceId) (shown : Shown) → Shows s hs device shown → ShowsPoints s hs device shown
 points_shown s hs device shown sh = record { adjustment = sh.adjustment; cycle = sh.cycle; at_change = sh.at_change }
@@ -78,49 +72,31 @@ still_then hs device t after h i late = after.unchanged h i (omega (arith, ltb-f
 pub points_earlier : (s : Scenario) (hs : List Happening) (device : DeviceId) (shown : Shown) (t : ℕ) → IsAfter hs device t → Shows s hs device shown
     → ShowsPoints s (earlier t hs) device shown
 points_earlier s hs device shown t after sh =
-    let test : Happening → Bool = λ h. nat_lt (time_of h) t in
-    let last = filter_through (λ (h : Happening). changes_adjustment device h.note.body) test hs (still_then hs device t after) in
-    let change : last_change (earlier t hs) device ≡ last_change hs device =
-    ap (λ (xs : List Happening). option_map_or time_of (last_or None xs) 0) last in
-    let adjustments : adjustment_after s (earlier t hs) device ≡ adjustment_after s hs device =
-    fold_through _ test _ hs
-    (λ h i late old.
-    let t' = tells s device h h.note.body in
-    t'.adjustment_is old ∙ adjustment_still s device (effect_of s.network device h) old (sym t'.changes_is ∙ still_then hs device t after h i late)) in
-    let cycles : recorded_cycle (earlier t hs) device ≡ recorded_cycle hs device =
-    fold_through _ test _ hs
-    (λ h i late next.
-    let t' = tells s device h h.note.body in
-    t'.cycle_is next ∙ cycle_still (effect_of s.network device h) next (sym t'.changes_is ∙ still_then hs device t after h i late)) in
-    record {
-      adjustment = sh.adjustment ∙ ap (λ (u : Units). u.0) (sym adjustments);
-      cycle = sh.cycle ∙ sym cycles;
-      at_change = sh.at_change ∙ ap (λ (n : ℕ). pos (s.reading device n) +ℤ shown.adjustment) (sym change);
-    }
+    grind (
+      arith,
+      nat_lt,
+      time_of,
+      filter_through,
+      changes_adjustment,
+      still_then,
+      option_map_or,
+      last_or,
+      fold_through,
+      tells,
+      adjustment_still,
+      effect_of,
+      cycle_still,
+    )
 
 since_same : (hs : List Happening) (device : DeviceId) (t : ℕ) → IsAfter hs device t → (h : Happening) → IsIn h hs
     → (nat_lt (time_of h) t && changes_adjustment device h.note.body) ≡ changes_adjustment device h.note.body
-since_same hs device t after h i = by_test (nat_lt (time_of h) t) refl
-  where
-    by_test : (b : Bool) → nat_lt (time_of h) t ≡ b → (b && changes_adjustment device h.note.body) ≡ changes_adjustment device h.note.body
-    by_test true e = refl
-    by_test false e = sym (still_then hs device t after h i e)
+since_same hs device t after h i = grind (arith, nat_lt, time_of, changes_adjustment, still_then)
 
 -- what was heard since the last correction point is what was heard where so many have come
 pub heard_are : (s : Scenario) (hs : List Happening) (device : DeviceId) (shown : Shown) (t : ℕ) → IsAfter hs device t → Shows s hs device shown
     → heard_since_point s hs device t ≡ heard_at s hs device shown (points_by s.network shown (s.reading device (t - 1)))
 heard_are s hs device shown t after sh =
-    let is = points_earlier s hs device shown t after sh in
-    let f : Happening → Option Hearing = λ h. hearing_by s.network device h h.note.body in
-    let changes : Happening → Bool = λ h. changes_adjustment device h.note.body in
-    let come : ℕ → ℕ = λ by. points_come s hs device t by in
-    let seen : ℕ → ℕ = λ by. points_by s.network shown (s.reading device (by - 1)) in
-    ap (λ (xs : List Happening). filter_map f (filter (λ h. come t == come (time_of h)) xs))
-    (after_same (λ h. nat_lt (time_of h) t && changes h) changes hs (since_same hs device t after))
-    ∙ ap (filter_map f)
-    (same_kept (λ h. come t == come (time_of h)) (λ h. seen t == seen (time_of h)) (after_last changes hs)
-    (λ h i. ap (λ (n : ℕ). n == come (time_of h)) (points_are s hs device shown t t is)
-    ∙ ap (λ (n : ℕ). seen t == n) (points_are s hs device shown t (time_of h) is)))
+    grind (arith, points_earlier, hearing_by, changes_adjustment, points_by, filter_map, filter, time_of, after_same, nat_lt, since_same, same_kept, points_are)
 
 pub heard_since_is : (s : Scenario) (hs : List Happening) (device : DeviceId) (shown : Shown) (t : ℕ) → IsAfter hs device t → Shows s hs device shown
     → Summarizes (heard_by_then shown (points_by s.network shown (s.reading device (t - 1)))) (heard_since_point s hs device t)
@@ -132,9 +108,7 @@ heard_since_is s hs device shown t after sh =
 pub number_is : (s : Scenario) (hs : List Happening) (device : DeviceId) (shown : Shown) (t : ℕ) → Shows s (earlier t hs) device shown
     → shown.cycle + points_by s.network shown (s.reading device (t - 1)) ≡ next_number s hs device t
 number_is s hs device shown t sh =
-    ap (λ (n : ℕ). n + points_by s.network shown (s.reading device (t - 1))) sh.cycle
-    ∙ ap (λ (n : ℕ). recorded_cycle (earlier t hs) device + n)
-    (sym (points_are s hs device shown t t (points_shown s (earlier t hs) device shown sh)))
+    grind (arith, points_by, points_are, points_shown)
 
 -- ---- when a frame is heard
 

@@ -1,11 +1,10 @@
 -- What the records show of a device, with one more record.
 use Rattle.audit_devices.proofs.Words.{if◌then◌else◌, ◌&&◌, ◌++◌, ◌+ℤ◌, ◌+◌, ◌-◌, ◌<◌, ◌==◌, ◌||◌, ◌∙◌, ◌∷◌, ◌≡◌, ◌≤◌, Bool, Corrects, DeviceId, Effect}
-use Rattle.audit_devices.proofs.Words.{Happening, Hearing, IsIn, Joins, List, None, NoneLater, Nothing, Option, Scenario, Shown, Shows, Some, Summarizes, Turns}
+use Rattle.audit_devices.proofs.Words.{Happening, IsIn, Joins, List, None, NoneLater, Nothing, Scenario, Shown, Shows, Some, Summarizes, Turns}
 use Rattle.audit_devices.proofs.Words.{Units, [], ap, arith, cases_lt, changes_adjustment, cons_option, effect_of, false, filter, filter_map, heard_at}
 use Rattle.audit_devices.proofs.Words.{hearing_by, inl, inr, is_joined_by, last_or, ne_eqb, option_map_or, points_by, pos, refl, silence, subst, sym, time_of}
 use Rattle.audit_devices.proofs.Words.{true, ℕ, ℤ}
 use Rattle.std.proofs.lemmas.{Bool.eq-eqb, List.{append-nil, Elements.{filter-append, filter_map-append}, Folds.list_any-append, Sums.fold-append}}
-use Rattle.std.specs.List.{after_last}
 use Rattle.run_law.proofs.{records.Order.after_more, runs.Places.{in_left, in_right}}
 use Rattle.run_law.specs.control.Corrections.{cycle_after, integration_cycle, recorded_cycle}
 use Rattle.run_law.specs.device.States.{adjustment_after, adjustment_with, cycle_in, has_joined_at, joined_adjustment, state_after, state_with}
@@ -55,9 +54,7 @@ joined_on s hs device h e t =
 changed_at_once : (hs : List Happening) (device : DeviceId) (h : Happening) → changes_adjustment device h.note.body ≡ true
     → time_of h ≡ last_change (with_one hs h) device
 changed_at_once hs device h is =
-    let test : Happening → Bool = λ x. changes_adjustment device x.note.body in
-    let last : Option Happening → ℕ = λ o. option_map_or time_of o 0 in
-    sym (ap (λ (xs : List Happening). last (last_or None xs)) (filter_on test hs h is) ∙ ap last (last_pushed None (filter test hs) h))
+    grind (arith, changes_adjustment, option_map_or, time_of, last_or, filter_on, last_pushed, filter)
 
 pub unchanged : (hs : List Happening) (device : DeviceId) (h : Happening) → changes_adjustment device h.note.body ≡ false
     → last_change hs device ≡ last_change (with_one hs h) device
@@ -74,46 +71,25 @@ pub heard_on : (s : Scenario) (hs : List Happening) (device : DeviceId) (h : Hap
     ≡ heard_at s hs device shown points
     ++ filter_map (λ x. hearing_by s.network device x x.note.body) (if kept_where s device shown points h then h ∷ [] else [])
 heard_on s hs device h shown points same =
-    let test : Happening → Bool = λ x. changes_adjustment device x.note.body in
-    let f : Happening → Option Hearing = λ x. hearing_by s.network device x x.note.body in
-    let kept : Happening → Bool = kept_where s device shown points in
-    let grown = after_more test hs (h ∷ []) (λ y i. elim i [ inl e ↦ ap test e ∙ same | inr none ↦ absurd none ]) in
-    ap (λ (xs : List Happening). filter_map f (filter kept xs)) grown
-    ∙ ap (filter_map f) (filter-append kept (after_last test hs) (h ∷ []))
-    ∙ filter_map-append f (filter kept (after_last test hs)) (filter kept (h ∷ []))
+    grind (arith, changes_adjustment, hearing_by, after_more, filter_map, filter, filter-append, filter_map-append)
 
 -- nothing more is heard by a record that tells nothing heard
 heard_same : (s : Scenario) (hs : List Happening) (device : DeviceId) (h : Happening) (shown : Shown) (points : ℕ)
     → changes_adjustment device h.note.body ≡ false → hearing_by s.network device h h.note.body ≡ None
     → heard_at s (with_one hs h) device shown points ≡ heard_at s hs device shown points
 heard_same s hs device h shown points same none =
-    let f : Happening → Option Hearing = λ x. hearing_by s.network device x x.note.body in
-    heard_on s hs device h shown points same
-    ∙ ap (λ (xs : List Hearing). heard_at s hs device shown points ++ xs) (nothing (kept_where s device shown points h))
-    ∙ append-nil (heard_at s hs device shown points)
-  where
-    nothing : (b : Bool) → filter_map (λ (x : Happening). hearing_by s.network device x x.note.body) (if b then h ∷ [] else []) ≡ []
-    nothing true = ap (λ (o : Option Hearing). cons_option o []) none
-    nothing false = refl
+    grind (arith, hearing_by, heard_on, heard_at, append-nil, filter_map, cons_option)
 
 -- nothing is heard since a change
 heard_none : (s : Scenario) (hs : List Happening) (device : DeviceId) (h : Happening) (shown : Shown) (points : ℕ)
     → changes_adjustment device h.note.body ≡ true → heard_at s (with_one hs h) device shown points ≡ []
 heard_none s hs device h shown points is =
-    let test : Happening → Bool = λ x. changes_adjustment device x.note.body in
-    let f : Happening → Option Hearing = λ x. hearing_by s.network device x x.note.body in
-    ap (λ (xs : List Happening). filter_map f (filter (kept_where s device shown points) xs)) (after_one test hs h is)
+    grind (arith, changes_adjustment, hearing_by, filter_map, filter, after_one)
 
 has_joined_on : (s : Scenario) (hs : List Happening) (device : DeviceId) (h : Happening) (e : Effect) (t : ℕ) → TellsAs s device h e
     → has_joined_at (with_one hs h) device t ≡ (has_joined_at hs device t || (time_of h == t && joins_by e))
 has_joined_on s hs device h e t told =
-    list_any-append (λ x. time_of x == t && is_joined_by device x.note.body) hs (h ∷ [])
-    ∙ ap (λ (b : Bool). has_joined_at hs device t || b) (last (time_of h == t && is_joined_by device h.note.body))
-    ∙ ap (λ (b : Bool). has_joined_at hs device t || (time_of h == t && b)) told.joins_is
-  where
-    last : (b : Bool) → (b || false) ≡ b
-    last true = refl
-    last false = refl
+    grind (arith, list_any-append, time_of, is_joined_by)
 
 -- no frame tells it the time at this time by a record that tells it of none
 pub not_joined : (s : Scenario) (hs : List Happening) (device : DeviceId) (h : Happening) (e : Effect) (t : ℕ) → TellsAs s device h e
@@ -126,9 +102,7 @@ not_joined s hs device h e t told none =
 none_earlier : (hs : List Happening) (device : DeviceId) (t : ℕ) → ((x : Happening) → IsIn x hs → time_of x < t) → has_joined_at hs device t ≡ false
 none_earlier [] device t each = refl
 none_earlier (x ∷ hs) device t each =
-    ap (λ (b : Bool). (b && is_joined_by device x.note.body) || has_joined_at hs device t)
-    (ne_eqb (time_of x) t (λ e. absurd (omega (arith, e, each x (inl refl)))))
-    ∙ none_earlier hs device t (λ y i. each y (inr i))
+    grind (arith, is_joined_by, ne_eqb, time_of, (none_earlier hs device t (λ y i. each y (inr i))))
 
 -- at the time of a record by which one does, it is that of the last that does
 joined_last : (s : Scenario) (hs : List Happening) (device : DeviceId) (h : Happening) (e : Effect) (t : ℕ) → TellsAs s device h e

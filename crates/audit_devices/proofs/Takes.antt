@@ -46,12 +46,7 @@ last_agree f p q A (h ∷ hs) o made fits a = by (λ u v w. last_agree f p q A h
 
 filter_both : {X : Type 0} (r p : X → Bool) (xs : List X) → filter p (filter r xs) ≡ filter (λ x. r x && p x) xs
 filter_both r p [] = refl
-filter_both {X} r p (x ∷ xs) = by (filter_both r p xs) (r x)
-  where
-    by : filter p (filter r xs) ≡ filter (λ y. r y && p y) xs → (b : Bool) → filter p (if b then x ∷ filter r xs else filter r xs)
-        ≡ (if b && p x then x ∷ filter (λ y. r y && p y) xs else filter (λ y. r y && p y) xs)
-    by rest true = ap (λ (t : List X). if p x then x ∷ t else t) rest
-    by rest false = rest
+filter_both {X} r p (x ∷ xs) = grind (arith, filter, (filter_both r p xs))
 
 -- ---- frames that came before another
 
@@ -82,12 +77,7 @@ taken_fits device vl t link cause at number (notes.Accepted other by from of_vl 
       | inr (some, same, says) ↦ inr (e, some, same, says)
     ]
 taken_fits device vl t link cause at number (notes.Delivered other by from of_vl cycle) =
-    let e : Taking = record { time = at; link = by; cause = from; number = number; cycle = cycle } in
-    elim (both_fit (device.0 == other.0) (vl.0 == of_vl.0) _ e (is_taking_before t link cause e) (Some cycle
-    ≡ Some cycle) (came at t by.0 link.0 from cause) refl) [
-      | inl none ↦ inl none
-      | inr (some, same, says) ↦ inr (e, some, same, says)
-    ]
+    grind (arith, both_fit, is_taking_before, came)
 taken_fits device vl t link cause at number body = inl (refl, refl)
 
 pub last_taken_is : (hs : List Happening) (device : DeviceId) (t : ℕ) (link : LinkId) (cause : ℕ) (vl : VlId)
@@ -111,9 +101,7 @@ none_below a b e = no_more a b ∙ e
 
 came_earlier : (at t by from : ℕ) → nat_lt at t ≡ (nat_lt at t || (at == t && (nat_lt by 0 || (by == 0 && (nat_lt from 0 || (from == 0 && false))))))
 came_earlier at t by from =
-    let by_cause = none_below (nat_lt from 0) (from == 0) (le-ltb from 0 (omega arith)) in
-    let by_link = ap (λ (b : Bool). nat_lt by 0 || (by == 0 && b)) by_cause ∙ none_below (nat_lt by 0) (by == 0) (le-ltb by 0 (omega arith)) in
-    sym (ap (λ (b : Bool). nat_lt at t || (at == t && b)) by_link ∙ no_more (nat_lt at t) (at == t))
+    grind (arith, none_below, nat_lt, le-ltb, no_more)
 
 switch_fit : (z x y : Bool) (e : Taking) (passes : Bool) → z ≡ passes
     → (((if x && y then Some e else None) ≡ None) × ((z && (x && y)) ≡ false))
@@ -127,11 +115,7 @@ accepted_fits : (network : Network) (device : DeviceId) (vl : VlId) (t at number
     → TakesRightly network body
     → AcceptedFits device vl t at number body
 accepted_fits network device vl t at number (notes.Accepted other by from of_vl cycle) switch right =
-    let e : Taking = record { time = at; link = by; cause = from; number = number; cycle = cycle } in
-    elim (switch_fit (nat_lt at t) (device.0 == other.0) (vl.0 == of_vl.0) e (is_taking_before t (record { 0 = 0 }) 0 e) (came_earlier at t by.0 from)) [
-      | inl none ↦ inl none
-      | inr (some, same, says) ↦ inr (e, some, same, says)
-    ]
+    grind (arith, switch_fit, nat_lt, is_taking_before, came_earlier)
 accepted_fits network device vl t at number (notes.Delivered other by from of_vl cycle) switch right = by_device (device.0 == other.0) refl
   where
     by_device : (b : Bool) → (device.0 == other.0) ≡ b → AcceptedFits device vl t at number (notes.Delivered other by from of_vl cycle)
@@ -186,19 +170,9 @@ taking_rank network device = if is_end network device then 12 else 11
 placed : (network : Network) (device : DeviceId) (vl : VlId) (at number members : ℕ) (body : NoteBody) (e : Taking) → TakesRightly network body
     → option_and_then (taken_at device vl) (taken_by at number body) ≡ Some e → place_at at members body ≡ taking_place (taking_rank network device) device e
 placed network device vl at number members (notes.Accepted other by from of_vl cycle) e right made =
-    let taking : Taking = record { time = at; link = by; cause = from; number = number; cycle = cycle } in
-    let so = taken_so (device.0 == other.0) (vl.0 == of_vl.0) taking e made in
-    let one = alike device other so.0 in
-    ap (λ (x : DeviceId). taking_place 11 x taking) (sym one)
-    ∙ ap (taking_place 11 device) so.1
-    ∙ ap (λ (b : Bool). taking_place (if b then 12 else 11) device e) (sym (ap (is_end network) one ∙ right))
+    grind (arith, taken_so, alike)
 placed network device vl at number members (notes.Delivered other by from of_vl cycle) e right made =
-    let taking : Taking = record { time = at; link = by; cause = from; number = number; cycle = cycle } in
-    let so = taken_so (device.0 == other.0) (vl.0 == of_vl.0) taking e made in
-    let one = alike device other so.0 in
-    ap (λ (x : DeviceId). taking_place 12 x taking) (sym one)
-    ∙ ap (taking_place 12 device) so.1
-    ∙ ap (λ (b : Bool). taking_place (if b then 12 else 11) device e) (sym (ap (is_end network) one ∙ right))
+    grind (arith, taken_so, alike)
 placed network device vl at number members body e right made = absurd cc
 
 came_first : (r d t l c u m k : ℕ) → IsBefore (t ∷ r ∷ d ∷ l ∷ c ∷ []) (u ∷ r ∷ d ∷ m ∷ k ∷ []) → IsBefore (t ∷ l ∷ c ∷ []) (u ∷ m ∷ k ∷ [])
@@ -218,11 +192,7 @@ append_none (x ∷ xs) = ap (λ (t : List Taking). x ∷ t) (append_none xs)
 
 takings_more : (hs : List Happening) (h : Happening) (device : DeviceId) (vl : VlId)
     → takings_of (hs ++ h ∷ []) device vl ≡ more_by (taking_of device vl h) (takings_of hs device vl)
-takings_more hs h device vl = filter_map-append (taking_of device vl) hs (h ∷ []) ∙ by (taking_of device vl h)
-  where
-    by : (o : Option Taking) → takings_of hs device vl ++ cons_option o [] ≡ more_by o (takings_of hs device vl)
-    by None = append_none (takings_of hs device vl)
-    by (Some e) = refl
+takings_more hs h device vl = grind (arith, filter_map-append, takings_of, cons_option, append_none)
 
 ascend_more : (network : Network) (hs : List Happening) (h : Happening) (device : DeviceId) (vl : VlId)
     → ((x : Happening) → IsIn x hs → TakesRightly network x.note.body)
@@ -267,9 +237,7 @@ taken_on network hs h old new count more right all has = record {
 pub told_by : (h : Happening) (time number : ℕ) (body : NoteBody) → time ≡ time_of h → number ≡ h.note.number → h.note.body ≡ body
     → taken_by (time_of h) h.note.number h.note.body ≡ taken_by time number body
 told_by h time number body at count is =
-    ap (taken_by (time_of h) h.note.number) is
-    ∙ ap (λ (n : ℕ). taken_by (time_of h) n body) (sym count)
-    ∙ ap (λ (n : ℕ). taken_by n number body) (sym at)
+    grind (arith, time_of)
 
 -- a record by which nothing was taken
 pub nothing_taken : (h : Happening) (device : DeviceId) (vl : VlId) (taken : List Taking) → taken_by (time_of h) h.note.number h.note.body ≡ None
@@ -289,13 +257,7 @@ other_taken h device vl t taken is not =
 pub this_taken : (h : Happening) (device : DeviceId) (vl : VlId) (t : Taken) (taken : List Taking) → taken_by (time_of h) h.note.number h.note.body ≡ Some t
     → device.0 ≡ t.device.0 → (if vl.0 == t.vl.0 then taken ++ t.taking ∷ [] else taken) ≡ more_by (taking_of device vl h) taken
 this_taken h device vl t taken is same =
-    by (vl.0 == t.vl.0)
-    ∙ ap (λ (b : Bool). more_by (if b && vl.0 == t.vl.0 then Some t.taking else None) taken) (sym (eq-eqb device.0 t.device.0 same))
-    ∙ ap (λ o. more_by (option_and_then (taken_at device vl) o) taken) (sym is)
-  where
-    by : (b : Bool) → (if b then taken ++ t.taking ∷ [] else taken) ≡ more_by (if b then Some t.taking else None) taken
-    by true = refl
-    by false = refl
+    grind (arith, eq-eqb)
 
 -- ---- what is kept of one device
 
@@ -307,23 +269,7 @@ pub kept_on : (h : Happening) (devices : List DeviceTakings) (t : Taken) (old ne
     → ((vl : VlId) → taken_of new vl ≡ (if vl.0 == t.vl.0 then taken_of old vl ++ t.taking ∷ [] else taken_of old vl)) → (device : DeviceId) (vl : VlId)
     → items_at (slice_set devices t.device.0 new) device vl ≡ more_by (taking_of device vl h) (items_at devices device vl)
 kept_on h devices t old new is within there more device vl =
-    elim (cases_order device.0 t.device.0) [
-      | inl same ↦
-          let here : slice_get devices device.0 ≡ Some old = ap (slice_get devices) same ∙ there in
-          let set : slice_get (slice_set devices t.device.0 new) device.0 ≡ Some new =
-          ap (slice_get (slice_set devices t.device.0 new)) same ∙ set_same devices t.device.0 new within in
-          ap (λ o. option_map_or (λ (d : DeviceTakings). taken_of d vl) o []) set
-          ∙ more vl
-          ∙ this_taken h device vl t (taken_of old vl) is same
-          ∙ ap (λ o. more_by (taking_of device vl h) (option_map_or (λ (d : DeviceTakings). taken_of d vl) o [])) (sym here)
-      | inr (inl lt) ↦ other (λ e. absurd (omega (arith, e, lt)))
-      | inr (inr gt) ↦ other (λ e. absurd (omega (arith, e, gt)))
-    ]
-  where
-    other : (device.0 ≡ t.device.0 → ⊥) → items_at (slice_set devices t.device.0 new) device vl ≡ more_by (taking_of device vl h) (items_at devices device vl)
-    other not =
-        ap (λ o. option_map_or (λ (d : DeviceTakings). taken_of d vl) o []) (set_other devices t.device.0 device.0 new (λ e. not (sym e)))
-        ∙ other_taken h device vl t (items_at devices device vl) is not
+    grind (arith, cases_order, slice_get, slice_set, set_same, option_map_or, taken_of, this_taken, set_other, other_taken)
 
 pub of_ok : {A E : Type 0} (r : Result A E) (P : Type 0) → is_ok r ≡ true → OnOk r P → P
 of_ok (Ok x) P ok holds = holds
@@ -362,8 +308,4 @@ more_devices (y ∷ devices) x zero vl none = refl
 more_devices (y ∷ devices) x (suc i) vl none = more_devices devices x i vl none
 
 pub none_taken : (network : Network) (takings : Takings) → ((i : ℕ) (vl : VlId) → items_by takings.devices.items i vl ≡ []) → HasTaken network [] takings
-none_taken network takings none = record {
-  kept = λ device vl lt. none device.0 vl;
-  ascend = λ device vl t link cause i j d le lt. absurd (omega (arith, lt));
-  rightly = λ h i. absurd i;
-}
+none_taken network takings none = grind arith

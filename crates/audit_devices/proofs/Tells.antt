@@ -1,7 +1,8 @@
 -- What a record tells of a device is told by its effect.
+use Rattle.std.proofs.Common.{arith}
 use Rattle.audit_devices.proofs.Words.{if◌then◌else◌, ◌+◌, ◌==◌, ◌≡◌, Bool, Corrects, DeviceId, Effect, Happening, Hearing, Hears, Joins, None, NoteBody}
 use Rattle.audit_devices.proofs.Words.{Nothing, Option, Scenario, Some, Turns, Units, carried_by, changes_adjustment, effect_by, false, hearing_by}
-use Rattle.audit_devices.proofs.Words.{is_joined_by, option_map, refl, true, ℕ}
+use Rattle.audit_devices.proofs.Words.{is_joined_by, option_map, true, ℕ}
 use Rattle.pcf_values.specs.declared.channel.Channel.{Channel}
 use Rattle.run_law.specs.{control.Corrections.{cycle_after, heard_by}, declared.judgement.Judgement.TheVariants.{Integrates, Outside, Within}}
 use Rattle.run_law.specs.{device.States.{adjustment_with, cycle_in, joined_adjustment, state_with}, scenario.Devices.{channel_of, channel_of_link}}
@@ -54,15 +55,7 @@ pub record Tells (s : Scenario) (device : DeviceId) (frame : ℕ) (state : State
   pub frame_is : frame_by frame e ≡ frame
 
 quiet : (s : Scenario) (device : DeviceId) (frame : ℕ) → Tells s device frame (λ old. old) (λ old. old) (λ next. next) false false None Nothing
-quiet s device frame = record {
-  state_is = λ old. refl;
-  adjustment_is = λ old. refl;
-  cycle_is = λ next. refl;
-  joins_is = refl;
-  changes_is = refl;
-  hears_is = refl;
-  frame_is = refl;
-}
+quiet s device frame = grind arith
 
 quiet_if : (s : Scenario) (device : DeviceId) (frame : ℕ) (b : Bool)
     → Tells s device frame (λ old. old) (λ old. old) (λ next. next) false false None (if b then Nothing else Nothing)
@@ -72,58 +65,26 @@ quiet_if s device frame false = quiet s device frame
 integrates : (s : Scenario) (device : DeviceId) (b : Bool) (cycle own : ℕ) (point : Units)
     → Tells s device cycle (λ old. if b then Joining else old) (λ old. if b then joined_adjustment s device own point else old)
     (λ next. if b then cycle else next) b b None (if b then Joins cycle own point else Nothing)
-integrates s device true cycle own point = record {
-  state_is = λ old. refl;
-  adjustment_is = λ old. refl;
-  cycle_is = λ next. refl;
-  joins_is = refl;
-  changes_is = refl;
-  hears_is = refl;
-  frame_is = refl;
-}
+integrates s device true cycle own point = grind arith
 integrates s device false cycle own point = quiet s device cycle
 
 hears : (s : Scenario) (device : DeviceId) (b : Bool) (h : Happening) (channel : Option Channel) (point : Units) (within : Bool)
     → Tells s device (cycle_in h) (λ old. old) (λ old. old) (λ next. next) false false
     (if b then option_map (λ on. heard_by on h point within) channel else None)
     (if b then heard_on channel (carried_by h) point within else Nothing)
-hears s device true h (Some channel) point within = record {
-  state_is = λ old. refl;
-  adjustment_is = λ old. refl;
-  cycle_is = λ next. refl;
-  joins_is = refl;
-  changes_is = refl;
-  hears_is = refl;
-  frame_is = refl;
-}
+hears s device true h (Some channel) point within = grind arith
 hears s device true h None point within = quiet s device (cycle_in h)
 hears s device false h channel point within = quiet s device (cycle_in h)
 
 corrects : (s : Scenario) (device : DeviceId) (frame : ℕ) (b : Bool) (cycle : ℕ) (adjustment : Units)
     → Tells s device frame (λ old. old) (λ old. if b then adjustment else old) (λ next. if b then cycle + 1 else next) false b None
     (if b then Corrects cycle adjustment else Nothing)
-corrects s device frame true cycle adjustment = record {
-  state_is = λ old. refl;
-  adjustment_is = λ old. refl;
-  cycle_is = λ next. refl;
-  joins_is = refl;
-  changes_is = refl;
-  hears_is = refl;
-  frame_is = refl;
-}
+corrects s device frame true cycle adjustment = grind arith
 corrects s device frame false cycle adjustment = quiet s device frame
 
 turns : (s : Scenario) (device : DeviceId) (frame : ℕ) (b : Bool) (state : State)
     → Tells s device frame (λ old. if b then state else old) (λ old. old) (λ next. next) false false None (if b then Turns state else Nothing)
-turns s device frame true state = record {
-  state_is = λ old. refl;
-  adjustment_is = λ old. refl;
-  cycle_is = λ next. refl;
-  joins_is = refl;
-  changes_is = refl;
-  hears_is = refl;
-  frame_is = refl;
-}
+turns s device frame true state = grind arith
 turns s device frame false state = quiet s device frame
 
 -- what a record of this body tells of the device

@@ -16,8 +16,8 @@ pub use Rattle.run_law.specs.records.{Happenings.{Happening, time_of}, Order.{Is
 pub use Rattle.run_law.specs.scenario.Scenarios.{Scenario}
 pub use Rattle.tte_lemmas.proofs.Lists.{got_at, got_within}
 pub use Rattle.tte_units.specs.declared.units.Units.{Units}
-pub use Rattle.audit_devices.specs.{Effects.{carried_by, effect_by, effect_of, subject_of}, Keeping.{IsFresh, Keeps, records_before}}
-pub use Rattle.audit_devices.specs.{Marks.{is_mark_before, mark_of}, Showing.{NoneLater, Shown, Shows, heard_at, heard_by_then, points_by}}
+pub use Rattle.audit_devices.specs.{Effects.{carried_by, effect_by, effect_of, subject_of}, Keeping.{IsFresh, Keeps, records_before, time_at}}
+pub use Rattle.audit_devices.specs.Showing.{NoneLater, Shown, Shows, heard_at, heard_by_then, points_by}
 pub use Rattle.audit_devices.specs.{Taking.{AscendAll, is_taking_before, takings_of}, Takings.taken_of}
 pub use Rattle.audit_devices.specs.declared.effect.{Carried.Carried, Effect.{Effect, TheVariants.{Corrects, Hears, Joins, Nothing, Turns}}}
-pub use Rattle.audit_devices.specs.declared.{history.{Entry.Entry, History.History}, mark.Mark.Mark, taking.Taking.Taking, takings.DeviceTakings.DeviceTakings}
+pub use Rattle.audit_devices.specs.declared.{history.{Entry.Entry, History.History}, taking.Taking.Taking, takings.DeviceTakings.DeviceTakings}

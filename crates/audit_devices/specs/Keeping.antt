@@ -1,45 +1,47 @@
 -- What is kept of the records of a device, for any place.
 use Rattle.std.specs.{List.{last_or, Sorted.IsPartitionedBy}, Option.option_map_or}
-use Rattle.std.specs.Prelude.{◌≡◌, List, None, Some, [], filter, length, slice_get, ℕ}
+use Rattle.std.specs.Prelude.{◌≡◌, List, None, Some, [], filter, get_or, length, slice_get, ℕ}
 use Rattle.net_plan.specs.declared.{ids.DeviceId.DeviceId, network.Network.Network}
-use Rattle.run_law.specs.{declared.note.NoteBody.NoteBody, records.{Causes.device_of, Happenings.Happening}}
+use Rattle.run_law.specs.{declared.note.NoteBody.NoteBody, records.Happenings.Happening}
 use Rattle.run_law.specs.{records.{Order.{IsIn, is_before}, Ranks.place_of}, scenario.Scenarios.Scenario}
-use Rattle.audit_devices.specs.{Effects.subject_of, Following.IsMet, Marks.{IsMarkOf, is_mark_before, mark_of}}
+use Rattle.audit_devices.specs.{Effects.subject_of, Following.IsMet}
 use Rattle.audit_devices.specs.{Showing.{IsSteady, Shown, Shows}, declared.effect.Carried.Carried}
-use Rattle.audit_devices.specs.declared.{history.{Entry.Entry, History.History}, mark.Mark.Mark}
+use Rattle.audit_devices.specs.declared.history.{Entry.Entry, History.History}
 use Rattle.audit_devices.specs.declared.{shown.Readings.Readings, standings.Standings.Standings}
 
 -- what was shown last, or at first
 abbrev pub latest_of : History → Shown
 latest_of history = option_map_or (λ e. e.shown) (last_or None history.entries.items) history.first
 
--- what was shown last before a mark, or at first
-abbrev pub shown_before : Mark → History → Shown
-shown_before mark history =
-    option_map_or (λ e. e.shown) (last_or None (filter (λ e. is_mark_before e.mark mark) history.entries.items))
+-- the time of a place
+abbrev pub time_at : List ℕ → ℕ
+time_at place = get_or place 0 0
+
+-- what was shown last before a place, or at first
+abbrev pub shown_before : List ℕ → History → Shown
+shown_before place history =
+    option_map_or (λ e. e.shown) (last_or None (filter (λ e. is_before e.place place) history.entries.items))
     history.first
 
--- the entry is at the mark of one of the device's records
-pub record IsOfRecord (hs : List Happening) (device : DeviceId) (e : Entry) : Type 0 where
+-- the entry is at the place of one of the records
+pub record IsOfRecord (hs : List Happening) (e : Entry) : Type 0 where
   pub h : Happening
   pub there : IsIn h hs
-  pub of_device : device_of h.note.body ≡ Some device
-  pub mark : e.mark ≡ mark_of h
+  pub place : e.place ≡ place_of h
 
--- those of the entries that are before a mark are the first
+-- those of the entries that are before a place are the first
 abbrev pub IsInOrder : History → Type 0
-IsInOrder history = (mark : Mark) → IsPartitionedBy (λ e. is_mark_before e.mark mark) history.entries.items
+IsInOrder history = (place : List ℕ) → IsPartitionedBy (λ e. is_before e.place place) history.entries.items
 
 -- the records before a place
 abbrev pub records_before : List ℕ → List Happening → List Happening
 records_before place hs = filter (λ h. is_before (place_of h) place) hs
 
--- what the records before any place show of the device is what was shown last before its mark
+-- what the records before any place show of the device is what was shown last before it
 pub record Keeps (s : Scenario) (hs : List Happening) (device : DeviceId) (history : History) : Type 0 where
   pub latest : Shows s hs device (latest_of history)
-  pub before : (place : List ℕ) (mark : Mark) → IsMarkOf device mark place
-      → Shows s (records_before place hs) device (shown_before mark history)
-  pub marks : (e : Entry) → IsIn e history.entries.items → IsOfRecord hs device e
+  pub before : (place : List ℕ) → Shows s (records_before place hs) device (shown_before place history)
+  pub places : (e : Entry) → IsIn e history.entries.items → IsOfRecord hs e
   pub order : IsInOrder history
 
 -- what these records show of each device is kept

@@ -1,24 +1,20 @@
 -- How long the same is shown of a device.
-use Rattle.std.specs.Prelude.{◌+◌, ◌<◌, ◌≡◌, ◌≤◌, List, None, Option, Some, ℕ, ⊤}
+use Rattle.std.specs.Prelude.{◌+◌, ◌<◌, ◌∷◌, ◌≡◌, ◌≤◌, List, None, Option, Some, [], ℕ, ⊤}
 use Rattle.net_plan.specs.declared.ids.DeviceId.{DeviceId}
 use Rattle.run_law.specs.{records.Happenings.{Happening, earlier}, scenario.Scenarios.Scenario}
-use Rattle.audit_devices.specs.{Keeping.shown_before, Marks.mark_with, Showing.{Shown, Shows}}
-use Rattle.audit_devices.specs.declared.{history.History.History, mark.Mark.Mark}
+use Rattle.audit_devices.specs.{Keeping.shown_before, Showing.{Shown, Shows}}
+use Rattle.audit_devices.specs.declared.history.History.{History}
 
 -- the time is no later than the next one, if there is one
 abbrev pub IsUpTo : Option ℕ → ℕ → Type 0
 IsUpTo None t = ⊤
 IsUpTo (Some next) t = t ≤ next
 
--- before all records of the time
-abbrev pub mark_of_time : ℕ → Mark
-mark_of_time t = mark_with t 0 0 0 0 0 0 0
-
 -- at each time later than this, up to the next one, the same is shown
 abbrev pub Lasts : History → ℕ → Option ℕ → Type 0
 Lasts history time next =
     (t : ℕ) → time < t → IsUpTo next t
-    → shown_before (mark_of_time t) history ≡ shown_before (mark_of_time (time + 1)) history
+    → shown_before (t ∷ []) history ≡ shown_before ((time + 1) ∷ []) history
 
 -- at each time later than this, up to the next one, the records of earlier times show this of the device
 abbrev pub ShowsUpTo : Scenario → List Happening → DeviceId → ℕ → Option ℕ → Shown → Type 0

@@ -3,7 +3,6 @@ pub mod Effects
 pub mod Following
 pub mod Keeping
 pub mod Lasting
-pub mod Marks
 pub mod Reading
 pub mod Showing
 pub mod Taking

@@ -2,15 +2,16 @@ ghost use Rattle.std.specs.Prelude.{◌≡◌, ◌∷◌, ◌++◌, ◌<◌, [],
 ghost use Rattle.net_plan.specs.Ranges.{IsInRange};
 
 use crate::effect::shows_nothing;
-use crate::{Carried, Mark, Readings, Shown};
+use crate::{Carried, Readings, Shown};
 use net_plan::{DeviceId, Network};
+use plain_notes::Place;
 use run_law::NoteBody;
 use std::alloc::{AllocError, Global};
 
-/// What the records up to that of the mark show of a device.
-#[derive(Clone, Copy, Debug)]
+/// What the records up to that of the place show of a device.
+#[derive(Debug, Drop)]
 pub(crate) struct Entry {
-    pub(crate) mark: Mark,
+    pub(crate) place: Place,
     pub(crate) shown: Shown,
 }
 
@@ -22,7 +23,7 @@ pub(crate) struct History {
 }
 
 impl History {
-    ghost use Rattle.run_law.specs.records.{Causes.device_of, Happenings.Happening, Order.AllBefore, Ranks.place_of};
+    ghost use Rattle.run_law.specs.records.{Happenings.Happening, Order.AllBefore, Ranks.place_of};
     ghost use Rattle.run_law.specs.scenario.Scenarios.{Scenario};
     ghost use Rattle.audit_devices.specs.{Following.IsMet, Keeping.{IsInOrder, Keeps, latest_of, shown_before}};
     ghost use Rattle.audit_devices.specs.Lasting.{Lasts};
@@ -38,13 +39,13 @@ impl History {
         }
     }
 
-    /// From this mark on this is shown.
-    pub(crate) fn push(&mut self, mark: Mark, shown: Shown) -> Result<(), AllocError>
+    /// From this place on this is shown.
+    pub(crate) fn push(&mut self, place: Place, shown: Shown) -> Result<(), AllocError>
         ensures first { self.new.first ≡ self.old.first }
         ensures entries { self.new.entries.items ≡ (if is_ok result
-            then self.old.entries.items ++ record { mark = mark; shown = shown } ∷ [] else self.old.entries.items) }
+            then self.old.entries.items ++ record { place = place; shown = shown } ∷ [] else self.old.entries.items) }
     {
-        self.entries.push(Entry { mark, shown })?;
+        self.entries.push(Entry { place, shown })?;
         Ok(())
     }
 
@@ -60,8 +61,8 @@ impl History {
     ) -> Result<(), AllocError>
         requires { IsInRange network.now }
         ensures { (s : Scenario) (hs : List Happening) (h : Happening) → s.network ≡ network.now
-            → IsMet s device h time body.now carried readings → device_of h.note.body ≡ Some device
-            → AllBefore place_of hs (place_of h) → Keeps s hs device self.old
+            → IsMet s device h time body.now carried readings → AllBefore place_of hs (place_of h)
+            → Keeps s hs device self.old
             → OnOk result (Keeps s (hs ++ h ∷ []) device self.new) }
     {
         if shows_nothing(network, device, carried, body) {
@@ -70,7 +71,7 @@ impl History {
         let shown = self
             .latest()
             .after(network, device, time, body, carried, readings);
-        self.push(Mark::of(time, carried.members, body), shown)
+        self.push(Place::of(time, carried.members.0, body), shown)
     }
 
     /// What was shown last.
@@ -83,26 +84,26 @@ impl History {
         }
     }
 
-    /// What was shown last before the mark.
-    pub(crate) fn before(&self, mark: &Mark) -> &Shown
-        ensures { IsInOrder self.now → result.now ≡ shown_before mark.now self.now }
+    /// What was shown last before the place.
+    pub(crate) fn before(&self, place: &Place) -> &Shown
+        ensures { IsInOrder self.now → result.now ≡ shown_before place.now self.now }
     {
         // Mostly the record that comes next asks, and all are before it.
         if let Some(last) = self.entries.last() {
-            if last.mark.is_before(mark) {
+            if last.place.is_before(place) {
                 return &last.shown;
             }
         }
-        self.sought_before(mark)
+        self.sought_before(place)
     }
 
     /// The same, where it may be any.
-    fn sought_before(&self, mark: &Mark) -> &Shown
-        ensures { IsInOrder self.now → result.now ≡ shown_before mark.now self.now }
+    fn sought_before(&self, place: &Place) -> &Shown
+        ensures { IsInOrder self.now → result.now ≡ shown_before place.now self.now }
     {
         let point = self
             .entries
-            .partition_point(|entry| entry.mark.is_before(mark));
+            .partition_point(|entry| entry.place.is_before(place));
         let (front, _) = self.entries.split_at(point);
         match front.last() {
             Some(entry) => &entry.shown,
@@ -117,9 +118,9 @@ impl History {
     {
         let point = self
             .entries
-            .partition_point(|entry| entry.mark.time() <= time);
+            .partition_point(|entry| entry.place.time() <= time);
         match self.entries.get(point) {
-            Some(entry) => Some(entry.mark.time()),
+            Some(entry) => Some(entry.place.time()),
             None => None,
         }
     }

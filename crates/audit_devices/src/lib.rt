@@ -7,7 +7,6 @@ mod effect;
 pub mod events;
 mod expected;
 mod history;
-mod mark;
 pub mod permanence;
 mod shown;
 mod standings;
@@ -17,7 +16,6 @@ mod taking;
 mod takings;
 
 pub use effect::Carried;
-pub use mark::Mark;
 pub use shown::{Readings, Shown};
 pub use standings::Standings;
 pub use taking::Taking;

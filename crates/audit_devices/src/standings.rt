@@ -3,9 +3,10 @@ ghost use Rattle.net_plan.specs.Ranges.{IsInRange};
 
 use crate::history::History;
 use crate::subject::subject_of;
-use crate::{Carried, Mark, Readings, Shown};
+use crate::{Carried, Readings, Shown};
 use net_plan::{DeviceId, LinkId, Network};
 use pcf_values::Members;
+use plain_notes::{Place, Rank};
 use run_law::NoteBody;
 use std::alloc::{AllocError, Global};
 use tte_units::Units;
@@ -22,7 +23,8 @@ impl Standings {
     ghost use Rattle.run_law.specs.records.{Happenings.{Happening, earlier}, Order.AllBefore};
     ghost use Rattle.run_law.specs.{records.Ranks.{place_at, place_of}, scenario.Scenarios.Scenario};
     ghost use Rattle.audit_devices.specs.{Keeping.{IsSeen, Stands, device_count, records_before}, Lasting.ShowsUpTo};
-    ghost use Rattle.audit_devices.specs.{Marks.IsMarkOf, Showing.{IsSteady, Shows}};
+    ghost use Rattle.audit_devices.specs.Showing.{IsSteady, Shows};
+    ghost use Rattle.plain_notes.specs.Places.{number_of};
 
     /// What no record shows.
     pub fn new(alloc: Global, network: &Network) -> Result<Standings, AllocError>
@@ -72,13 +74,13 @@ impl Standings {
         self.histories[device.0 as usize].latest()
     }
 
-    /// What the records before a place of the order show of the device, whose mark this is.
-    pub fn before(&self, device: DeviceId, mark: &Mark) -> &Shown
+    /// What the records before a place show of the device.
+    pub fn before(&self, device: DeviceId, place: &Place) -> &Shown
         requires { device.0 < device_count self.now }
-        ensures { (s : Scenario) (hs : List Happening) (place : List ℕ) → Stands s hs self.now
-            → IsMarkOf device mark.now place → Shows s (records_before place hs) device result.now }
+        ensures { (s : Scenario) (hs : List Happening) → Stands s hs self.now
+            → Shows s (records_before place.now hs) device result.now }
     {
-        self.histories[device.0 as usize].before(mark)
+        self.histories[device.0 as usize].before(place)
     }
 
     /// What the records of earlier times show of the device.
@@ -87,7 +89,7 @@ impl Standings {
         ensures { (s : Scenario) (hs : List Happening) → Stands s hs self.now
             → Shows s (earlier time hs) device result.now }
     {
-        self.before(device, &Mark::at_time(time))
+        self.before(device, &Place::of_time(time))
     }
 
     /// What the records of earlier times show of the device at the times later than this one, up to that of the next
@@ -102,18 +104,18 @@ impl Standings {
     {
         let history = &self.histories[device.0 as usize];
         (
-            history.before(&Mark::at_time(time + 1)),
+            history.before(&Place::of_time(time + 1)),
             history.next_after(time),
         )
     }
 
     /// What the records show of the device that are of earlier times, or of this one and of a lower rank.
-    pub fn before_rank(&self, device: DeviceId, time: u64, rank: u8) -> &Shown
+    pub fn before_rank(&self, device: DeviceId, time: u64, rank: Rank) -> &Shown
         requires { device.0 < device_count self.now }
         ensures { (s : Scenario) (hs : List Happening) → Stands s hs self.now
-            → Shows s (records_before (time ∷ rank ∷ []) hs) device result.now }
+            → Shows s (records_before (time ∷ number_of rank ∷ []) hs) device result.now }
     {
-        self.before(device, &Mark::at_rank(time, rank))
+        self.before(device, &Place::of_rank(time, rank))
     }
 
     /// What the records before the place of a permanence show of its device.
@@ -133,7 +135,7 @@ impl Standings {
     {
         self.before(
             device,
-            &Mark::of_permanence(time, members, link, cause, point),
+            &Place::of_permanence(time, device, point, members.0, link, cause),
         )
     }
 }

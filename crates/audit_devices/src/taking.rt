@@ -1,7 +1,6 @@
-ghost use Rattle.std.specs.Prelude.{◌≡◌, ◌∷◌, []};
+ghost use Rattle.std.specs.Prelude.{◌&&◌, ◌==◌, ◌||◌, ◌≡◌, ◌∷◌, [], nat_lt};
 ghost use Rattle.audit_devices.specs.Taking.{is_taking_before, taken_by};
 
-use crate::mark::precedes;
 use net_plan::{DeviceId, LinkId, VlId};
 use run_law::NoteBody;
 
@@ -79,4 +78,11 @@ pub(crate) fn taken_by(time: u64, number: u64, body: &NoteBody) -> Option<Taken>
         | NoteBody::Dropped { .. }
         | NoteBody::Clock { .. } => None,
     }
+}
+
+/// Whether the number is below the other, or is the other where the rest is before the other's.
+fn precedes(number: u64, other: u64, rest: bool) -> bool
+    ensures { result ≡ (nat_lt number other || (number == other && rest)) }
+{
+    number < other || (number == other && rest)
 }

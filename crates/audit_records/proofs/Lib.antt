@@ -1,4 +1,4 @@
-pub mod places_lemmas
+pub mod AscendingPlaces
 pub mod Numbered
 pub mod Bodies
 pub mod wires_lemmas

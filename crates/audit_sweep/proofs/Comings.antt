@@ -24,9 +24,7 @@ taken s hs device t link cause clock (arrivals.Passes frame way) x shows =
     record { frame = frame; point = record { 0 = pos 0 }; way = way; taken = inr (inl x); shows = shows }
 taken s hs device t link cause clock (arrivals.PassesAndWaits frame way point) x shows =
     record { frame = frame; point = point; way = way; taken = inr (inr x); shows = shows }
-taken s hs device t link cause clock (arrivals.Dropped reason) x shows = absurd shows
-taken s hs device t link cause clock (arrivals.Accepted vl cycle) x shows = absurd shows
-taken s hs device t link cause clock (arrivals.Delivered vl cycle) x shows = absurd shows
+taken s hs device t link cause clock other x shows = absurd shows
 
 -- and what has one was taken so
 pub takes : (s : Scenario) (hs : List Happening) (device : DeviceId) (t : ℕ) (link : LinkId) (cause clock : ℕ) (is : Arrival)

@@ -1,7 +1,7 @@
 -- Records that stand before a hearing.
-use Rattle.audit_sweep.proofs.Words.{if◌then◌else◌, ◌&&◌, ◌==◌, ◌∙◌, ◌∷◌, ◌≡◌, ◌≤◌, Bool, DeviceId, Happening, IsHeardBefore, List, NoneLater, NoteBody, [], ap}
-use Rattle.audit_sweep.proofs.Words.{arith, earlier, inl, inr, key, members_in, place_of, rank, refl, sym, time_of, true, ℕ}
-use Rattle.std.{proofs.{Common.{◌<◌, filter}, lemmas.Bool.{cases_Bool, false_from_ne_true, or_left}}, specs.Prelude.nat_lt}
+use Rattle.audit_sweep.proofs.Words.{◌∷◌, ◌≡◌, ◌≤◌, DeviceId, Happening, IsHeardBefore, List, NoneLater, NoteBody, []}
+use Rattle.audit_sweep.proofs.Words.{arith, inl, inr, key, members_in, place_of, rank, refl, time_of, ℕ}
+use Rattle.std.proofs.Common.{◌<◌, filter}
 use Rattle.audit_devices.specs.Reading.{OnlyJoined}
 use Rattle.audit_law.proofs.Correcting.{time_before}
 use Rattle.run_law.proofs.{records.Order.{has_passed, is_there, time_before as rank_first}, runs.Places.earlier_time}
@@ -28,28 +28,6 @@ only_joined t judged device b h i at =
     let le = rank_before (time_of h) (rank h.note.body) t b.rank (key (members_in h) h.note.body) b.rest at (b.before h i) in
     let low = b.low in
     joins_only device h.note.body (omega (arith, le, low))
-
-twice : {X : Type 0} (p q : X → Bool) (xs : List X) → ((x : X) → q x ≡ true → p x ≡ true) → filter q (filter p xs) ≡ filter q xs
-twice p q [] more = refl
-twice {X} p q (x ∷ xs) more =
-    elim (cases_Bool (p x)) [
-      | inl held ↦
-          ap (λ (b : Bool). filter q (if b then x ∷ filter p xs else filter p xs)) held
-          ∙ ap (λ (t : List X). if q x then x ∷ t else t) (twice p q xs more)
-      | inr lacks ↦
-          ap (λ (b : Bool). filter q (if b then x ∷ filter p xs else filter p xs)) lacks
-          ∙ twice p q xs more
-          ∙ sym (ap (λ (b : Bool). if b then x ∷ filter q xs else filter q xs)
-          (false_from_ne_true (q x) (λ e. let held = more x e in let not_held = lacks in cc)))
-    ]
-
--- what is earlier than a place's time is before the place
-pub earlier_before : (t r : ℕ) (rest : List ℕ) (hs : List Happening)
-    → earlier t (filter (λ h. is_before (place_of h) (t ∷ r ∷ rest)) hs) ≡ earlier t hs
-earlier_before t r rest hs =
-    twice (λ (h : Happening). is_before (place_of h) (t ∷ r ∷ rest)) (λ (h : Happening). nat_lt (time_of h) t) hs
-    (λ h e. or_left (nat_lt (time_of h) t)
-    (time_of h == t && is_before (rank h.note.body ∷ key (members_in h) h.note.body) (r ∷ rest)) e)
 
 pub heard_before : (t r : ℕ) (rest : List ℕ) (hs : List Happening) → r < 6
     → IsHeardBefore t (filter (λ h. is_before (place_of h) (t ∷ r ∷ rest)) hs)

@@ -5,7 +5,7 @@ use Rattle.std.proofs.{Common.{◌⊎◌, suc, zero}, lemmas.List.map-append}
 use Rattle.audit_devices.specs.{Effects.subject_of, Showing.IsSteady}
 use Rattle.audit_devices.specs.events.Readings.{ReadsOn}
 use Rattle.audit_records.specs.Keeping.{record_of, records_of}
-use Rattle.audit_devices.proofs.stretches_lemmas.Arriving.{arrived_young}
+use Rattle.run_law.proofs.control.Arrived.{arrived_young}
 use Rattle.audit_records.specs.wires.Signals.{ShowsByCause}
 use Rattle.net_plan.specs.Belonging.{HasDevice}
 use Rattle.run_law.{proofs.records.Happenings.none_numbered, specs.declared.note.Note.Note}

@@ -10,14 +10,7 @@ use Rattle.run_law.specs.declared.note.NoteBody.TheVariants as notes
 
 no_event : (device : DeviceId) (link : LinkId) (clock : ℕ) (what : What) → waiting_clock device link (kept_of_event what) ≡ Some clock → ⊥
 no_event device link clock (events.On other) e = cc
-no_event device link clock (events.Send by octets) e = cc
-no_event device link clock (events.Rate other rate) e = cc
-no_event device link clock (events.Wire by way delay) e = cc
-no_event device link clock (events.Hold by way delay) e = cc
-no_event device link clock (events.Cut by way) e = cc
-no_event device link clock (events.Heal by way) e = cc
-no_event device link clock (events.Break other) e = cc
-no_event device link clock events.End e = cc
+no_event device link clock other e = cc
 
 -- a record of which a clock is kept is of an arrival there
 pub from_arrival : (device : DeviceId) (link : LinkId) (clock : ℕ) (body : NoteBody) → waiting_clock device link (kept_of body) ≡ Some clock
@@ -32,18 +25,7 @@ from_arrival device link clock (notes.Arrived other by from shown) e =
       ap (λ (x : DeviceId). notes.Arrived x by from shown) (sym d) ∙ ap (λ (x : LinkId). notes.Arrived device x from shown) (sym l)
           ∙ ap (λ (n : ℕ). notes.Arrived device link from n) p.1,
     )
-from_arrival device link clock (notes.Permanent other by from point verdict) e = absurd cc
-from_arrival device link clock (notes.Compressed other opened at cycle members verdict) e = absurd cc
-from_arrival device link clock (notes.Sent other cycle) e = absurd cc
-from_arrival device link clock (notes.Corrected other cycle gain adjustment) e = absurd cc
-from_arrival device link clock (notes.State other state from why) e = absurd cc
-from_arrival device link clock (notes.Left other by from shown) e = absurd cc
-from_arrival device link clock (notes.Lost other by from) e = absurd cc
-from_arrival device link clock (notes.TtSent other by from vl cycle) e = absurd cc
-from_arrival device link clock (notes.Accepted other by from vl cycle) e = absurd cc
-from_arrival device link clock (notes.Delivered other by from vl cycle) e = absurd cc
-from_arrival device link clock (notes.Dropped other by from reason) e = absurd cc
-from_arrival device link clock (notes.Clock other shown adjustment state) e = absurd cc
+from_arrival device link clock rest e = absurd cc
 
 -- and of such a record it is kept
 pub arrived_clock : (device : DeviceId) (link : LinkId) (from clock : ℕ)

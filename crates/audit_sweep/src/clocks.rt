@@ -16,6 +16,7 @@ use crate::known::Known;
 use audit_devices::clocks::{Correction, EndClock, Moment, corrects, sends, shows_clock};
 use membership::Heard;
 use net_plan::{DeviceId, Network};
+use plain_notes::Rank;
 use tte_units::Units;
 
 /// Does the master send the control frame of the cycle at the time?
@@ -78,7 +79,7 @@ pub(crate) fn heard(
 {
     known
         .standings
-        .before_rank(device, time, 6)
+        .before_rank(device, time, Rank::Corrected)
         .heard_since(network, before)
 }
 

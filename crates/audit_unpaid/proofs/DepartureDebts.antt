@@ -1,23 +1,17 @@
 -- The leavings that are owed, and what pays them.
 use Rattle.audit_unpaid.proofs.Words.{◌↔◌, ◌∙◌, ◌≡◌, DeviceId, Happening, IsDue, IsFounded, IsIn, IsPaid, KeptRecord, LinkId, List, NoteBody, Pays, Scenario}
-use Rattle.audit_unpaid.proofs.Words.{Some, ap, device_named, numbered, numbered_in, place_of, refl, same_some, subst, sym, time_of, true, ℕ}
-use Rattle.audit_law.proofs.Departing.{departs_in_whole, departure_law, one_giver}
+use Rattle.audit_unpaid.proofs.Words.{Some, ap, device_named, numbered, numbered_in, place_of, refl, subst, sym, time_of, true, ℕ}
+use Rattle.audit_law.proofs.Departing.{departs_in_whole, departure_law, record_place, same_place}
 use Rattle.audit_law.specs.Departures.{IsDueByLeaving, OwesDeparture, TellsDeparture, leaves_at, leaving_record}
 use Rattle.audit_records.specs.places.Placing.{HasRecordAt}
 use Rattle.audit_records.specs.Keeping.{kept_of, record_of}
 use Rattle.audit_records.{proofs.wires_lemmas.LeavingTimes.giver_is, specs.wires.Departings.giver}
 use Rattle.net_plan.specs.{Belonging.HasDevice, declared.network.Network.Network}
-use Rattle.run_law.{proofs.runs.SameSteps.same_departure, specs.control.Leaving.{Departs, Departure, Gives, departure, leaves, on_cut_way, too_old}}
+use Rattle.run_law.specs.control.Leaving.{Departs, Departure, Gives, departure, leaves, on_cut_way, too_old}
 use Rattle.run_law.specs.{records.Ranks.{members_in, place_at}, scenario.Devices.is_relay}
 use Rattle.audit_unpaid.{proofs.Payers.{one_time, paid_at_place}, specs.Leavings.{leaving_place, may_give}}
 use Rattle.audit_law.specs.Owed as debts
 use Rattle.run_law.specs.declared.note.NoteBody.TheVariants as notes
-
-record_place : (t m : ℕ) (device : DeviceId) (link : LinkId) (cause : ℕ) (d : Departure)
-    → place_at t m (leaving_record device link cause d) ≡ leaving_place t device link cause d
-record_place t m device link cause (leaves clock) = refl
-record_place t m device link cause on_cut_way = refl
-record_place t m device link cause too_old = refl
 
 tells_so : (device : DeviceId) (link by : LinkId) (cause from : ℕ) (d : Departure) → TellsDeparture cause link (leaving_record device by from d)
     → (by ≡ link) × (from ≡ cause)
@@ -53,29 +47,6 @@ owed_departs s hs until cause link o = record {
   correct = o.correct;
   becomes = refl;
 }
-
--- where two leavings of one frame by one link stand
-same_place : (s : Scenario) (hs : List Happening) (t u : ℕ) (device other : DeviceId) (link by : LinkId) (cause from : ℕ) (d e : Departure)
-    → cause ≡ from → link ≡ by
-    → Departs s hs device t link cause d → Departs s hs other u by from e → leaving_place t device link cause d ≡ leaving_place u other by from e
-same_place s hs t u device other link by cause from d e causes links a b =
-    let there = subst (λ (k : LinkId). Departs s hs other u k cause e) (sym links) (subst (λ (n : ℕ). Departs s hs other u by n e) (sym causes) b) in
-    let one : there.giving ≡ a.giving = same_some (numbered hs cause) there.giving a.giving there.there a.there in
-    let devices : device ≡ other = one_giver s.network a.giving.note.body device other link a.gives
-    (subst (λ (h : Happening). Gives s.network h.note.body other link) one there.gives) in
-    let times : t ≡ u =
-    a.held
-    ∙ ap (λ (x : DeviceId). leaves_at s x link a.giving) devices
-    ∙ ap (λ (h : Happening). leaves_at s other link h) (sym one)
-    ∙ sym there.held in
-    let moved = subst (λ (k : DeviceId). Departs s hs k t link cause e) (sym devices)
-    (subst (λ (n : ℕ). Departs s hs other n link cause e) (sym times) there) in
-    let outcomes : d ≡ e = same_departure s hs t device link cause d e a moved in
-    ap (λ (o : Departure). leaving_place t device link cause o) outcomes
-    ∙ ap (λ (n : ℕ). leaving_place n device link cause e) times
-    ∙ ap (λ (k : DeviceId). leaving_place u k link cause e) devices
-    ∙ ap (λ (k : LinkId). leaving_place u other k cause e) links
-    ∙ ap (λ (n : ℕ). leaving_place u other by n e) causes
 
 -- a leaving that is owed is paid exactly where a record stands at its place
 pub departure_paid : (s : Scenario) (hs : List Happening) (until cause : ℕ) (link : LinkId) (device : DeviceId) (t : ℕ) (d : Departure)

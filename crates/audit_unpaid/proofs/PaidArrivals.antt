@@ -25,11 +25,7 @@ tells other cause of = absurd of
 
 recorded_cause : (device : _) (link : _) (cause : ℕ) (is : Arrival) → cause_of (arrival_record device link cause is) ≡ cause
 recorded_cause device link cause (arrivals.Dropped reason) = refl
-recorded_cause device link cause (arrivals.Waits frame point) = refl
-recorded_cause device link cause (arrivals.Passes frame way) = refl
-recorded_cause device link cause (arrivals.PassesAndWaits frame way point) = refl
-recorded_cause device link cause (arrivals.Accepted vl cycle) = refl
-recorded_cause device link cause (arrivals.Delivered vl cycle) = refl
+recorded_cause device link cause other = refl
 
 -- what is marked is paid
 pub arrival_paid : (s : Scenario) (hs : List Happening) (cause : ℕ) → IsMarked (λ (p : Paid). p.arrival) hs cause → IsPaid hs (Pays s) (debts.arrival cause)

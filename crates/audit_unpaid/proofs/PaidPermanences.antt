@@ -36,13 +36,7 @@ tells other cause of = absurd of
 
 recorded_cause : (device : DeviceId) (link : LinkId) (cause : ℕ) (point : Units) (is : Ripe) → cause_of (permanence_record device link cause point is) ≡ cause
 recorded_cause device link cause point ripe.Opened = refl
-recorded_cause device link cause point ripe.Joined = refl
-recorded_cause device link cause point ripe.Repeat = refl
-recorded_cause device link cause point ripe.Within = refl
-recorded_cause device link cause point ripe.Outside = refl
-recorded_cause device link cause point ripe.Integrates = refl
-recorded_cause device link cause point ripe.Ignored = refl
-recorded_cause device link cause point (ripe.Dropped reason) = refl
+recorded_cause device link cause point other = refl
 
 -- what is marked is paid
 pub permanence_paid : (s : Scenario) (hs : List Happening) (cause : ℕ) → IsMarked (λ (p : Paid). p.permanence) hs cause

@@ -10,8 +10,8 @@ ghost use Rattle.audit_unpaid.specs.{Clocks.{IsOnlyEnd, IsUntold}, Debtors.{AreK
 ghost use Rattle.audit_law.specs.Owed as debts;
 
 use crate::Debtor;
-use audit_records::places::Place;
 use net_plan::DeviceId;
+use plain_notes::Place;
 use run_law::NoteBody;
 use sync_state::State;
 use tte_units::Units;

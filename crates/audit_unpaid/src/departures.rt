@@ -14,11 +14,11 @@ ghost use Rattle.audit_law.specs.Owed as debts;
 
 use crate::Debtor;
 use crate::earliest::earlier_of;
-use audit_records::places::Place;
 use audit_records::wires::{Leaving, departure, departure_due};
 use audit_records::{Kept, KeptRecord};
 use device_rules::{Departed, is_relay};
 use net_plan::{LinkId, Network};
+use plain_notes::Place;
 use run_law::{NoteBody, Reason};
 
 impl Debtor<'_> {

@@ -1,4 +1,5 @@
 -- The correction point that comes to a device.
+use Rattle.std.proofs.Common.{arith}
 use Rattle.std.{proofs.Common.{◌∙◌, ◌≡◌, List, Option, Some, ap, refl, subst, sym, ℕ}, specs.Prelude.{◌↔◌, false}}
 use Rattle.audit_law.{proofs.Determined.same_verdict, specs.CorrectionNumbers.{ComesToPoint, next_number, standing_at}}
 use Rattle.device_rules.specs.Answers.{verdict_as}
@@ -7,8 +8,6 @@ use Rattle.net_plan.specs.declared.ids.DeviceId.{DeviceId}
 use Rattle.run_law.specs.{control.Corrections.correction_value, device.LocalClocks.Reaches, records.Happenings.Happening}
 use Rattle.run_law.specs.scenario.Scenarios.{Scenario, is_broken}
 use Rattle.sync_state.{proofs.StateFacts.number_in, specs.{Standing.{Standing, next_point}, Verdicts.HasVerdict, declared.answers.Verdict.Verdict}}
-use Rattle.sync_state.specs.declared.{plan.SyncPlan.SyncPlan, state.State.State}
-use Rattle.tte_units.specs.declared.units.Units.{Units}
 use Rattle.audit_devices.specs.{clocks.Points.{ComesTo, HasPoint, IsHeard}, declared.clocks.correcting.Point.Point}
 
 -- what one list has at a time, it has there
@@ -17,16 +16,7 @@ some_same m n o a b = let same : Some m ≡ Some n = sym a ∙ b in cc
 
 pub point_is : (s : Scenario) (hs : List Happening) (device : DeviceId) (t c cycle : ℕ) → Some c ≡ next_point (standing_at s hs device t)
     → is_broken s device t ≡ false → Reaches s hs device (correction_value s.network c) t → (Some c ≡ Some cycle) ↔ HasPoint s hs device t cycle
-point_is s hs device t c cycle next correct reached = (
-  λ same.
-      let one : c ≡ cycle = cc in
-      record {
-        next = sym next ∙ same;
-        reached = subst (λ (n : ℕ). Reaches s hs device (correction_value s.network n) t) one reached;
-        correct = correct;
-      },
-  λ p. next ∙ p.next,
-)
+point_is s hs device t c cycle next correct reached = grind arith
 
 -- the clock does not reach the point's value
 pub none_reached : (s : Scenario) (hs : List Happening) (device : DeviceId) (t c cycle : ℕ) → Some c ≡ next_point (standing_at s hs device t)
@@ -42,16 +32,7 @@ number_is s hs device t c p = number_in (standing_at s hs device t).state (next_
 pub same_standing : (a b : Standing) → a.plan ≡ b.plan → a.state ≡ b.state → a.adjustment ≡ b.adjustment → a.number ≡ b.number
     → a.integrated ≡ b.integrated → a ≡ b
 same_standing a b plans states adjustments numbers joined =
-    ap (λ (p : SyncPlan). let u : Standing = record { plan = p; state = a.state; adjustment = a.adjustment; number = a.number; integrated = a.integrated } in
-    u) plans
-    ∙ ap (λ (x : State). let u : Standing = record { plan = b.plan; state = x; adjustment = a.adjustment; number = a.number; integrated = a.integrated } in
-    u) states
-    ∙ ap (λ (x : Units). let u : Standing = record { plan = b.plan; state = b.state; adjustment = x; number = a.number; integrated = a.integrated } in
-    u) adjustments
-    ∙ ap (λ (n : ℕ). let u : Standing = record { plan = b.plan; state = b.state; adjustment = b.adjustment; number = n; integrated = a.integrated } in
-    u) numbers
-    ∙ ap (λ (o : Option ℕ). let u : Standing = record { plan = b.plan; state = b.state; adjustment = b.adjustment; number = b.number; integrated = o } in
-    u) joined
+    grind arith
 
 -- the point comes to this, and to nothing else
 pub point_comes : (s : Scenario) (hs : List Happening) (device : DeviceId) (t c cycle : ℕ) (heard : Summary) (found verdict : Verdict)

@@ -87,13 +87,7 @@ next_crossed reading shown series after until number passed sought time on is be
 pub quotient_behind : (series : Series) (passed : ℤ) (d : ℕ) → 1 ≤ series.step → pos d ≡ (passed -ℤ series.first)
     → IsBehind series passed (d / series.step + 1)
 quotient_behind series passed d some is =
-    let q = d / series.step in
-    let e : q * series.step + d % series.step ≡ d = div-add-mod' d series.step in
-    let small : d % series.step < series.step = mod_below d series.step some in
-    record {
-      behind = omega (arith, ints, e, small, is);
-      least = λ n lt. let less = div_below d series.step n some (omega (arith, ints, lt, is)) in omega (arith, less);
-    }
+    grind (arith, div-add-mod', mod_below, ints, div_below)
 
 pub quotient_near : (series : Series) (passed : ℤ) (d : ℕ) → pos d ≡ (passed -ℤ series.first)
     → value_in series (d / series.step + 1) ≤ℤ (passed +ℤ pos series.step)

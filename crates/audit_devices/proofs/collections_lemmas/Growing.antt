@@ -58,10 +58,7 @@ kept-same old new row grows has =
     ∙ ap (λ (ks : List KeptCluster). ks ++ row.last ∷ []) (part-same old.closed grows.later row.from row.count has.closed)
 
 pub has-grown : (old new : History) (row : Row) → Grows old new → HasRow old row → HasRow new row
-has-grown old new row grows has = record {
-  closed = rw (grows.closed, length-append old.closed grows.later) (omega (arith, has.closed));
-  last = subst (λ (xs : List ℤ). IsCounted xs row.last) (sym grows.counted) (counted-grown old.counted grows.later_points row.last has.last);
-}
+has-grown old new row grows has = grind (arith, length-append, counted-grown)
 
 -- the clusters of a gathering stay
 pub clusters-grown : (old new : History) (g : Gathering) → Grows old new → All (IsCounted old.counted) old.closed → IsHeld old g
@@ -89,7 +86,4 @@ gathers-grown old new grows all g points is =
     }
 
 pub has-ends : (h : History) (row : Row) → EndsWith h row → HasRow h row
-has-ends h row ends = record {
-  closed = omega (arith, ends.closed);
-  last = record { some = ends.some; within = omega (arith, ends.counted) };
-}
+has-ends h row ends = grind arith

@@ -76,9 +76,6 @@ all-emissions h P ks each =
     over (k ∷ ks) all = (all.0, over ks all.1)
 
 pub contains-at : {X : Type 0} (xs : List X) (i : ℕ) (x : X) → slice_get xs i ≡ Some x → Contains xs x
-contains-at [] i x at = absurd (none at)
-  where
-    none : slice_get [] i ≡ Some x → ⊥
-    none e = cc
+contains-at [] i x at = grind arith
 contains-at (y ∷ ys) zero x at = let same : y ≡ x = cc in subst (λ (z : _). Contains (y ∷ ys) z) same (in_head y ys)
 contains-at (y ∷ ys) (suc i) x at = in_tail y x ys (contains-at ys i x at)

@@ -54,10 +54,7 @@ at-last P (k ∷ ks) c all = at-last P ks c all.1
 
 -- so kept clusters rise
 pub rising : (counted : List ℤ) (ks : List KeptCluster) → AreSpaced (map (cluster_kept counted) ks) → IsRising ks
-rising counted [] apart i j c d before at also = absurd (none also)
-  where
-    none : slice_get [] j ≡ Some d → ⊥
-    none e = cc
+rising counted [] apart i j c d before at also = grind arith
 rising counted (k ∷ ks) apart zero zero c d before at also = absurd (omega (arith, before))
 rising counted (k ∷ ks) apart zero (suc j) c d before at also =
     let first : k ≡ c = cc in

@@ -1,7 +1,7 @@
 -- What a point does to the clusters that a gathering stands for.
 use Rattle.std.proofs.Common.{◌*ℤ◌, ◌++◌, ◌+ℤ◌, ◌<ℤ◌, ◌∙◌, ◌∷◌, ◌≡◌, ◌≢◌, ◌≤ℤ◌, ◌⊎◌, List, None, Option, Some, [], ap, arith, false, inl, inr, map, pos, refl}
 use Rattle.std.proofs.{Common.{subst, sym, true, ℤ}, lemmas.{Bool.cases_Bool, Int.ints, List.{map-append, Elements.recursion_from_All}}}
-use Rattle.std.specs.{List.{AllByRecursion, last_or}, Prelude.{All, IfSome, int_le, int_lt}}
+use Rattle.std.specs.{List.{AllByRecursion, last_or}, Prelude.{All, IfSome, int_lt}}
 use Rattle.compression.proofs.{Growth.{AreClusters-opened, AreClusters-within, Grows as Takes}, Rows.{last_or-none, last_split}, Sound.open_at-some}
 use Rattle.compression.{proofs.{Standing.ended_later, Taking.{role_in-ignored, role_in-joined, role_in-opened}}, specs.Clusters.{AreClusters, Cluster, Point}}
 use Rattle.compression.specs.{Collection.{joined, joined_end, opening}, Role.{has_point_of, open_at, role}}
@@ -65,10 +65,7 @@ true_is_false e = cc
 
 longer-joined : (ow : ℤ) (c : Cluster) (reading : ℤ) → c.end ≤ℤ (c.opened +ℤ (pos 2 *ℤ ow)) → c.end ≤ℤ joined_end ow c reading
 longer-joined ow c reading most =
-    elim (cases_Bool (int_le reading (c.opened +ℤ ow))) [
-      | inl inside ↦ rw inside most
-      | inr outside ↦ rw outside (omega (arith, ints))
-    ]
+    grind (arith, cases_Bool, ints)
 
 pub are-joined : (ow : ℤ) (ps : List Point) (front : List Cluster) (c : Cluster) (p : Point) → pos 0 ≤ℤ ow → AreClusters ow ps (front ++ c ∷ [])
     → AreBefore ps p.reading → Joined ≡ role (front ++ c ∷ []) p → AreClusters ow (ps ++ p ∷ []) (front ++ joined ow c p.reading p.master ∷ [])
@@ -177,8 +174,4 @@ gathers-joins old new g r p some all grows joins is points gathers past =
 -- one with a point that does not count
 pub gathers-ignored : (h : History) (g : Gathering) (p : Point) → pos 0 ≤ℤ h.ow → (role (clusters_in h g) p ≡ Repeat) ⊎ (role (clusters_in h g) p ≡ OtherCycle)
     → (points : List Point) → Gathers h g points → All (λ q. q.reading ≤ℤ p.reading) points → Gathers h g (points ++ p ∷ [])
-gathers-ignored h g p some is points gathers past = record {
-  held = gathers.held;
-  are = are-ignored h.ow points (clusters_in h g) p some gathers.are
-      (recursion_from_All (λ (q : Point). q.reading ≤ℤ p.reading) points past) is;
-}
+gathers-ignored h g p some is points gathers past = grind (arith, are-ignored, recursion_from_All)

@@ -1,41 +1,15 @@
 -- Events within the hypothesis come in the order of time, and set slow rates.
-use Rattle.std.proofs.Common.{if◌then◌else◌, ◌++◌, ◌==◌, ◌^◌, ◌∙◌, ◌∷◌, ◌≡◌, ◌≤ℤ◌, ◌≤◌, List, None, Option, Some, [], append_assoc, arith, false, inl, inr, pos}
-use Rattle.std.{proofs.{Common.{refl, subst, suc, sym, true, unsigned_abs, ℕ}, lemmas.{Bool.cases_lt, Int.ints}}, specs.List.cons_option}
+use Rattle.std.proofs.Common.{◌++◌, ◌^◌, ◌∙◌, ◌∷◌, ◌≡◌, ◌≤ℤ◌, ◌≤◌, List, None, Option, Some, [], append_assoc, arith, inl, inr, pos}
+use Rattle.std.{proofs.{Common.{refl, subst, suc, sym, ℕ}, lemmas.{Bool.cases_lt, Int.ints}}, specs.List.cons_option}
 use Rattle.drift_clock.specs.RateSteps.{RateStep}
-use Rattle.net_plan.specs.{Ranges.IsInRange, declared.{event.{Event.Event, What.What}, ids.DeviceId.DeviceId, network.Network.Network}}
+use Rattle.net_plan.specs.{Ranges.IsInRange, declared.{event.Event.Event, ids.DeviceId.DeviceId, network.Network.Network}}
 use Rattle.run_law.{proofs.scenario.Devices.in_turn, specs.scenario.{Hypothesis.{AreWithinHypothesis, IsWithinHypothesis}, Rates.{rate_steps, step_by}}}
 use Rattle.tte_units.specs.Amount.{amount}
 use Rattle.audit_devices.{proofs.events_lemmas.Clocking.{StepsFrom, StepsUpTo, steps_sooner}, specs.events.Readings.HaveBegun}
-use Rattle.net_plan.specs.declared.event.What.TheVariants as events
 use Rattle.run_law.specs.declared.outside.Outside.TheVariants as outside
+use Rattle.run_law.proofs.scenario.Rated.{Holds, IsSlow, IsStepAt, slow_event, step_is}
 
 -- ---- one event
-
--- a rate that this sets is of a magnitude of at most rho
-abbrev IsSlow : ℕ → What → Type 0
-IsSlow rho (events.Rate device rate) = unsigned_abs rate.0 ≤ rho
-IsSlow rho other = Unit {0}
-
-slow_event : (network : Network) (before : List Event) (event : Event) → IsWithinHypothesis network before event → IsSlow network.rho event.what
-slow_event network before event within = of event.what refl
-  where
-    of : (what : What) → event.what ≡ what → IsSlow network.rho what
-    of (events.Rate device rate) same = elim (cases_lt network.rho (unsigned_abs rate.0)) [
-      | inl fast ↦ absurd (within outside.Rate (record { device = device; rate = rate; what = same; fast = fast }))
-      | inr slow ↦ slow
-    ]
-    of (events.Wire link way delay) same = tt
-    of (events.Hold link way delay) same = tt
-    of (events.Cut link way) same = tt
-    of (events.Heal link way) same = tt
-    of (events.On other) same = tt
-    of (events.Break other) same = tt
-    of (events.Send link octets) same = tt
-    of events.End same = tt
-
-pub slow_what : (network : Network) (before : List Event) (event : Event) (what : What) → event.what ≡ what
-    → IsWithinHypothesis network before event → IsSlow network.rho what
-slow_what network before event what same within = subst (IsSlow network.rho) same (slow_event network before event within)
 
 pub soon : (network : Network) (before : List Event) (event : Event) → IsInRange network → IsWithinHypothesis network before event
     → pos 0 ≤ℤ event.time.0 → amount event.time ≤ 2 ^ 60
@@ -89,40 +63,10 @@ events_from network (e ∷ es) range within begun =
 
 -- ---- their steps
 
--- the step is of this time, and its rate of at most rho
-record IsStepAt (rho time : ℕ) (step : RateStep) : Type 0 where
-  pub at : step.at ≡ time
-  pub slow : unsigned_abs step.rate ≤ rho
-
--- what holds of the value, where there is one
-abbrev Holds : {X : Type 0} → Option X → (X → Type 0) → Type 0
-Holds None P = Unit {0}
-Holds (Some x) P = P x
-
-step_is : (rho : ℕ) (device : DeviceId) (time : ℕ) (what : What) → IsSlow rho what → Holds (step_by device time what) (IsStepAt rho time)
-step_is rho device time (events.Rate other rate) slow =
-    elim (device.0 == other.0) as (λ b. Holds (if b then Some (let s : RateStep = record { at = time; rate = rate.0 } in s) else None) (IsStepAt rho time)) [
-      | true ↦ record { at = refl; slow = slow }
-      | false ↦ tt
-    ]
-step_is rho device time (events.Wire link way delay) slow = tt
-step_is rho device time (events.Hold link way delay) slow = tt
-step_is rho device time (events.Cut link way) slow = tt
-step_is rho device time (events.Heal link way) slow = tt
-step_is rho device time (events.On other) slow = tt
-step_is rho device time (events.Break other) slow = tt
-step_is rho device time (events.Send link octets) slow = tt
-step_is rho device time events.End slow = tt
-
 more_steps : (rho least time : ℕ) (o : Option RateStep) (steps : List RateStep) → least ≤ time → time ≤ 2 ^ 60 → Holds o (IsStepAt rho time)
     → StepsFrom rho time steps → StepsFrom rho least (cons_option o steps)
 more_steps rho least time None steps le most here h = steps_sooner rho least time steps le h
-more_steps rho least time (Some step) steps le most here h = (
-  omega (arith, le, here.at),
-  omega (arith, most, here.at),
-  here.slow,
-  steps_sooner rho step.at time steps (omega (arith, here.at)) h,
-)
+more_steps rho least time (Some step) steps le most here h = grind (arith, steps_sooner)
 
 pub steps_from : (rho least : ℕ) (all : List Event) (device : DeviceId) → AreEventsFrom rho least all → StepsFrom rho least (rate_steps all device)
 steps_from rho least [] device h = tt
@@ -145,6 +89,4 @@ pub steps_up_to : (rho least : ℕ) (all : List Event) (event : Event) (device :
     → StepsUpTo (amount event.time) (rate_steps all device)
 steps_up_to rho least [] event device h = tt
 steps_up_to rho least (e ∷ es) event device h =
-    one_more rho (amount event.time) (amount e.time) (step_by device (amount e.time) e.what) (rate_steps es device)
-    (last_later rho (amount e.time) es event h.3) (step_is rho device (amount e.time) e.what h.2)
-    (steps_up_to rho (amount e.time) es event device h.3)
+    grind (arith, one_more, last_later, step_is, (steps_up_to rho (amount e.time) es event device h.3))

@@ -1,5 +1,5 @@
 -- A history of no event.
-use Rattle.std.proofs.Common.{◌*◌, ◌++◌, ◌+◌, ◌∷◌, ◌≡◌, List, Option, Some, [], ap, arith, false, length, refl, subst, suc, sym, zero, ℕ}
+use Rattle.std.proofs.Common.{◌*◌, ◌++◌, ◌+◌, ◌∷◌, ◌≡◌, List, Option, Some, [], ap, arith, false, length, refl, subst, suc, zero, ℕ}
 use Rattle.std.{proofs.lemmas.Option.{get_or_from_slice_get, slice_get_within}, specs.{List.All, Option.option_map_or, Prelude.slice_get}}
 use Rattle.net_plan.specs.{Ranges.IsInRange, declared.{event.What.What, ids.{DeviceId.DeviceId, LinkId.LinkId}, network.Network.Network, tables.Link.Link}}
 use Rattle.net_plan.specs.declared.tables.Way.{Way, TheVariants.{Down, Up}}
@@ -7,7 +7,7 @@ use Rattle.run_law.specs.scenario.Ways.{cut_set, hold_set, wire_of, wire_set}
 use Rattle.tte_lemmas.proofs.Lists.{none_before}
 use Rattle.tte_units.specs.Amount.{amount}
 use Rattle.audit_devices.specs.events.Beginnings.{AreWaysOf, IsUntouched, IsUntouchedDevice, IsUntouchedWay}
-use Rattle.audit_devices.specs.events.{Remembering.{Remembers, TellsDevice, TellsWay, has_come, is_at, way_place}, Settings.IsSetBy}
+use Rattle.audit_devices.specs.events.{Remembering.{Remembers, TellsDevice, TellsWay, way_place}, Settings.IsSetBy}
 use Rattle.audit_devices.specs.declared.events.history.{DeviceHistory.DeviceHistory, EventHistory.EventHistory, WayHistory.WayHistory}
 use Rattle.audit_devices.specs.declared.events.{settings.Settings.Settings}
 
@@ -38,14 +38,8 @@ way_there [] [] n way told h at = absurd cc
 way_there [] (w ∷ ways) n way told h at = absurd h
 way_there (l ∷ links) [] n way told h at = absurd h
 way_there (l ∷ links) (w ∷ []) n way told h at = absurd h
-way_there (l ∷ links) (u ∷ d ∷ ways) zero Up told h at = subst (IsUntouchedWay (amount l.wire)) (one u told at) h.0
-  where
-    one : (x y : WayHistory) → Some x ≡ Some y → x ≡ y
-    one x y e = cc
-way_there (l ∷ links) (u ∷ d ∷ ways) zero Down told h at = subst (IsUntouchedWay (amount l.wire)) (one d told at) h.1
-  where
-    one : (x y : WayHistory) → Some x ≡ Some y → x ≡ y
-    one x y e = cc
+way_there (l ∷ links) (u ∷ d ∷ ways) zero Up told h at = grind arith
+way_there (l ∷ links) (u ∷ d ∷ ways) zero Down told h at = grind arith
 way_there (l ∷ links) (u ∷ d ∷ ways) (suc n) Up told h at =
     let below : 2 * suc n ≡ suc (suc (2 * n)) = omega arith in
     way_there links ways n Up told h.2 (subst (λ k. slice_get (u ∷ d ∷ ways) k ≡ Some told) below at)
@@ -71,19 +65,12 @@ untouched_tells network ways are link way told at =
 
 pub untouched_device : (network : Network) (device : DeviceId) (told : DeviceHistory) → IsUntouchedDevice (amount network.grain) told
     → TellsDevice network [] device told
-untouched_device network device told h = record {
-  fresh = h.clock.first;
-  clock = h.clock.none;
-  broken = λ t. sym (ap (λ o. has_come o t) h.broken);
-  turned_on = λ t. sym (ap (λ o. is_at o t) h.turned_on);
-}
+untouched_device network device told h = grind arith
 
 pub all_untouched : (network : Network) (devices : List DeviceHistory) → All (IsUntouchedDevice (amount network.grain)) devices
     → (device : DeviceId) (told : DeviceHistory) → slice_get devices device.0 ≡ Some told → TellsDevice network [] device told
 all_untouched network devices all device told at =
-    untouched_device network device told
-    (subst (IsUntouchedDevice (amount network.grain)) (get_or_from_slice_get devices device.0 told told at)
-    (all device.0 told (slice_get_within devices device.0 told at)))
+    grind (arith, untouched_device, get_or_from_slice_get, slice_get_within)
 
 pub remembers_none : (network : Network) (history : EventHistory) → IsInRange network → AreWaysOf network.link history.ways.items
     → length history.devices.items ≡ length network.device → All (IsUntouchedDevice (amount network.grain)) history.devices.items

@@ -129,15 +129,7 @@ broken_more : (network : Network) (all : List Event) (event : Event) (device : D
     → is_broken (scenario_under network (all ++ event ∷ [])) device t
     ≡ (is_broken (scenario_under network all) device t || (nat_le (amount event.time) t && breaks_at device.0 event.what))
 broken_more network all event device t =
-    let p = λ (e : Event). nat_le (amount e.time) t in
-    let b = λ (e : Event). breaks_at device.0 e.what in
-    ap (list_any b) (filter-append p all (event ∷ []))
-    ∙ list_any-append b (filter p all) (filter p (event ∷ []))
-    ∙ ap (λ x. list_any b (filter p all) || x) (one (p event))
-  where
-    one : (q : Bool) → list_any (λ e. breaks_at device.0 e.what) (if q then event ∷ [] else []) ≡ (q && breaks_at device.0 event.what)
-    one true = or_none (breaks_at device.0 event.what)
-    one false = refl
+    grind (arith, nat_le, filter-append, list_any-append, or_none)
 
 -- whether one more event turns the device on then
 turned_more : (network : Network) (all : List Event) (event : Event) (device : DeviceId) (t : ℕ)
@@ -236,27 +228,11 @@ pub remembers_more : (network : Network) (all : List Event) (event : Event) (old
     → length new.ways.items ≡ length old.ways.items → AreWaysTold network (all ++ event ∷ []) new.ways.items
     → length new.devices.items ≡ length old.devices.items → AreDevicesTold network (all ++ event ∷ []) new.devices.items
     → Remembers network (all ++ event ∷ []) new
-remembers_more network all event old new h may begun many_ways ways many_devices devices = record {
-  range = h.range;
-  within = all_within network all event h.within may.within;
-  begun = begun_more all event h.begun begun;
-  ways_count = many_ways ∙ h.ways_count;
-  ways = ways;
-  devices_count = many_devices ∙ h.devices_count;
-  devices = devices;
-}
+remembers_more network all event old new h may begun many_ways ways many_devices devices = grind (arith, all_within, begun_more)
 
 -- or to remember the same
 pub remembers_same : (network : Network) (all : List Event) (old new : EventHistory) → Remembers network all old
     → length new.ways.items ≡ length old.ways.items → AreWaysTold network all new.ways.items
     → length new.devices.items ≡ length old.devices.items → AreDevicesTold network all new.devices.items
     → Remembers network all new
-remembers_same network all old new h many_ways ways many_devices devices = record {
-  range = h.range;
-  within = h.within;
-  begun = h.begun;
-  ways_count = many_ways ∙ h.ways_count;
-  ways = ways;
-  devices_count = many_devices ∙ h.devices_count;
-  devices = devices;
-}
+remembers_same network all old new h many_ways ways many_devices devices = grind arith

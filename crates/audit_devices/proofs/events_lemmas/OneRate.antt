@@ -1,5 +1,5 @@
 -- A slow rate at time 0 is within the hypothesis.
-use Rattle.std.proofs.{Common.{◌<◌, ◌∙◌, ◌≡◌, ◌≤◌, [], arith, pos, subst, sym, unsigned_abs}, lemmas.Int.ints}
+use Rattle.std.proofs.{Common.{◌≡◌, ◌≤◌, [], arith, pos, unsigned_abs}, lemmas.Int.ints}
 use Rattle.net_plan.specs.declared.{event.Event.Event, ids.DeviceId.DeviceId, network.Network.Network}
 use Rattle.run_law.specs.scenario.Hypothesis.{IsWithinHypothesis}
 use Rattle.tte_lemmas.proofs.Lists.{none_before}
@@ -15,9 +15,7 @@ pub rate_within : (network : Network) (event : Event) (device : DeviceId) (rate 
 rate_within network event device rate begins is slow outside.Order v = none_before v.front [] v.last v.order
 rate_within network event device rate begins is slow outside.Late v = omega (arith, ints, v, begins)
 rate_within network event device rate begins is slow outside.Rate v =
-    let same = rate_of device v.device rate v.rate (sym is ∙ v.what) in
-    let fast = subst (λ (r : Ppb). network.rho < unsigned_abs r.0) (sym same) v.fast in
-    omega (arith, fast, slow)
+    grind (arith, rate_of, unsigned_abs)
 rate_within network event device rate begins is slow outside.Wire v = let what = v.what in absurd cc
 rate_within network event device rate begins is slow outside.Hold v = let what = v.what in absurd cc
 rate_within network event device rate begins is slow outside.Channel v = let what = v.what in absurd cc

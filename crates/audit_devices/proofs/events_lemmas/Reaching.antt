@@ -137,11 +137,7 @@ pub search_ends : (initial : Segment) (changes : List (Change Segment)) (from : 
     (later : List (Change Segment)) (result : Option ℕ) → IsSearched initial changes from goal until clock start later
     → ((x : ℕ) → x ≤ until → value_at clock later x ≡ clock) → IsFirstReach (segment_reading clock) start goal until result
     → IsFirstReach (clocks_reading initial changes) from goal until result
-search_ends initial changes from goal until clock start later None s stays none = λ x after before.
-    elim (cases_lt x start) [
-      | inl lt ↦ s.short x after lt
-      | inr ge ↦ subst (λ v. pos (segment_reading v x) <ℤ goal) (sym (s.same x ge ∙ stays x before)) (none x ge before)
-    ]
+search_ends initial changes from goal until clock start later None s stays none = grind (arith, cases_lt)
 search_ends initial changes from goal until clock start later (Some time) s stays found = (
   search_finds initial changes from goal until clock start later time s
       (λ x le. stays x (let last = found.1 in omega (arith, le, last))) found.0,
@@ -165,30 +161,8 @@ pub reach_of_value : (r s : ℕ → ℕ) (from : ℕ) (value goal : ℤ) (until 
     → IsFirstReach r from goal until result → IsFirstReach s from value until result
 reach_of_value r s from value goal until None same (inl low) none = λ x after before.
     let short = none x after before in absurd (omega (arith, ints, short, low.1))
-reach_of_value r s from value goal until None same (inr is) none = λ x after before.
-    let short = none x after before in
-    let here = same x in
-    omega (arith, ints, short, here, is)
+reach_of_value r s from value goal until None same (inr is) none = grind (arith, ints)
 reach_of_value r s from value goal until (Some time) same (inl low) found =
-    let reach = found.0 in (
-      record {
-        from_on = reach.from_on;
-        reached = omega (arith, ints, low.0);
-        not_before = λ x after before. let short = reach.not_before x after before in absurd (omega (arith, ints, short, low.1));
-      },
-      found.1,
-    )
+    grind (arith, ints)
 reach_of_value r s from value goal until (Some time) same (inr is) found =
-    let reach = found.0 in
-    let there = same time in
-    let enough = reach.reached in (
-      record {
-        from_on = reach.from_on;
-        reached = omega (arith, ints, enough, there, is);
-        not_before = λ x after before.
-            let short = reach.not_before x after before in
-            let here = same x in
-            omega (arith, ints, short, here, is);
-      },
-      found.1,
-    )
+    grind (arith, ints)

@@ -1,5 +1,5 @@
 -- The value of a setting at a time.
-use Rattle.std.proofs.Common.{if◌then◌else◌, ◌++◌, ◌+◌, ◌-◌, ◌<◌, ◌∙◌, ◌∷◌, ◌≡◌, ◌≤◌, Bool, List, None, Option, Some, [], ap, arith, false, length, nat_le}
+use Rattle.std.proofs.Common.{if◌then◌else◌, ◌++◌, ◌+◌, ◌-◌, ◌<◌, ◌∙◌, ◌∷◌, ◌≡◌, ◌≤◌, List, None, Option, Some, [], ap, arith, false, length, nat_le}
 use Rattle.std.proofs.{Common.{nat_lt, refl, suc, sym, true, zero, ℕ}, lemmas.{Bool.{le-leb, leb-false, leb-true, lt-leb}, List.Elements.filter_map-append}}
 use Rattle.std.specs.List.{AllWithin, cons_option, last_or, Sorted.{IsNonDecreasingBy, IsPartitionPoint, IsPartitionedBy}}
 use Rattle.std.specs.Prelude.{drop, filter, filter_map, option_map, slice_index_or, unwrap_or}
@@ -15,17 +15,12 @@ use Rattle.audit_devices.specs.declared.events.settings.{Change.Change, Settings
 pub parted : {V : Type 0} (changes : List (Change V)) (time : ℕ) → IsNonDecreasingBy (λ c. c.from) changes
     → IsPartitionedBy (λ c. nat_le c.from time) changes
 parted changes time order i j d le within last =
-    let low = order i j d le within in
-    let high = leb-true (slice_index_or changes j d).from time last in
-    le-leb (slice_index_or changes i d).from time (omega (arith, low, high))
+    grind (arith, leb-true, le-leb)
 
 pub part_at : {V : Type 0} (changes : List (Change V)) (time place : ℕ)
     → IsPartitionPoint (λ c. nat_le c.from time ≡ true) (λ c. nat_le c.from time ≡ false) changes place
     → IsPartitionPoint (λ c. c.from ≤ time) (λ c. time < c.from) changes place
-part_at changes time place h = (
-  λ k d low high. leb-true (slice_index_or changes k d).from time (h.0 k d low high),
-  λ k d low high. leb-false (slice_index_or changes k d).from time (h.1 k d low high),
-)
+part_at changes time place h = grind (arith, leb-true, leb-false)
 
 -- the place before one that is not the first
 pub next_of : (count : ℕ) → (count ≡ 0 → ⊥) → count ≡ (count - 1) + 1
@@ -90,11 +85,7 @@ later_found (c ∷ cs) time (suc k) h =
 one_change : {V : Type 0} (t time : ℕ) (v : V) (m : Option V) (cs : List (Change V))
     → value_at v (cons_option (option_map (change_to time) m) cs) t ≡ value_at (if nat_le time t then unwrap_or m v else v) cs t
 one_change t time v (Some w) cs = refl
-one_change t time v None cs = ap (λ x. value_at x cs t) (sym (same (nat_le time t)))
-  where
-    same : (b : Bool) → (if b then v else v) ≡ v
-    same true = refl
-    same false = refl
+one_change t time v None cs = grind (arith, nat_le)
 
 -- the last value set, where `o` was set before
 last_from : {V : Type 0} (setting : What → Option V) (initial : V) (t : ℕ) (events : List Event) (o : Option V)

@@ -3,12 +3,11 @@ use Rattle.std.proofs.Common.{◌++◌, ◌<◌, ◌∙◌, ◌∷◌, ◌≡◌
 use Rattle.std.{proofs.{Common.{subst, suc, sym, true, zero, ℕ}, lemmas.Bool.cases_order}, specs.List.{last_or, Sorted.IsPartitionedBy}}
 use Rattle.std.specs.Prelude.{IfSome, slice_set}
 use Rattle.audit_devices.specs.{collections.Gathered.Gathers, collections.Kept.History, declared.collections.gathering.Gathering.Gathering}
-use Rattle.audit_devices.{proofs.{Kept.test_chain, MarkOrder.marks_compare, Partitions.parted_on}, specs.{Effects.carried_by, Keeping.records_before}}
-use Rattle.audit_devices.specs.{Marks.{IsMarkOf, is_mark_before, mark_of, numbers_of}, declared.mark.Mark.Mark}
+use Rattle.audit_devices.{proofs.{Kept.test_chain, Partitions.parted_on}, specs.{Effects.carried_by, Keeping.records_before}}
 use Rattle.compression.specs.Clusters.{Point}
 use Rattle.net_plan.specs.declared.{ids.DeviceId.DeviceId, network.Network.Network}
 use Rattle.run_law.{proofs.{records.Order.{all_kept, before_is}, runs.Places.{in_left, in_parts, in_right}}, specs.control.Collections.points_of}
-use Rattle.run_law.specs.records.{Causes.device_of, Happenings.{Happening, time_of}, Order.{AllBefore, IsIn, is_before}, Ranks.{members_in, place_of}}
+use Rattle.run_law.specs.records.{Happenings.Happening, Order.{AllBefore, IsIn, is_before}, Ranks.place_of}
 use Rattle.run_law.specs.scenario.Devices.{is_cm}
 use Rattle.tte_lemmas.proofs.Lists.{filter_off, filter_on, got_within, last_pushed, set_other, set_same}
 use Rattle.audit_devices.proofs.stretches_lemmas.Turning.{IsQuiet, points_ended, points_given, points_quiet}
@@ -31,29 +30,27 @@ kept_still network hs d h kept quiet keeps = record {
   ow = keeps.ow;
   calc = keeps.calc;
   latest = subst (Gathers kept.collections kept.latest) (sym (points_quiet hs h d quiet)) keeps.latest;
-  before = λ place mark of. by_place place mark (keeps.before place mark of) (is_before (place_of h) place) refl;
-  marks = λ e i.
-      let old = keeps.marks e i in
-      record { h = old.h; there = in_left old.h hs (h ∷ []) old.there; of_device = old.of_device; mark = old.mark };
+  before = λ place. by_place place (keeps.before place) (is_before (place_of h) place) refl;
+  places = λ e i. let old = keeps.places e i in record { h = old.h; there = in_left old.h hs (h ∷ []) old.there; place = old.place };
   order = keeps.order;
   each = keeps.each;
 }
   where
-    by_place : (place : List ℕ) (mark : Mark) → StandsFor kept.collections (entry_before mark kept.entries) (points_of (records_before place hs) d)
+    by_place : (place : List ℕ) → StandsFor kept.collections (entry_before place kept.entries) (points_of (records_before place hs) d)
         → (b : Bool) → is_before (place_of h) place ≡ b
-        → StandsFor kept.collections (entry_before mark kept.entries) (points_of (records_before place (hs ++ h ∷ [])) d)
-    by_place place mark old true e =
-        subst (StandsFor kept.collections (entry_before mark kept.entries))
+        → StandsFor kept.collections (entry_before place kept.entries) (points_of (records_before place (hs ++ h ∷ [])) d)
+    by_place place old true e =
+        subst (StandsFor kept.collections (entry_before place kept.entries))
         (sym (ap (λ (xs : List Happening). points_of xs d) (filter_on (λ x. is_before (place_of x) place) hs h e)
         ∙ points_quiet (records_before place hs) h d quiet)) old
-    by_place place mark old false e =
-        subst (StandsFor kept.collections (entry_before mark kept.entries))
+    by_place place old false e =
+        subst (StandsFor kept.collections (entry_before place kept.entries))
         (sym (ap (λ (xs : List Happening). points_of xs d) (filter_off (λ x. is_before (place_of x) place) hs h e))) old
 
 -- ---- a device whose collections it changes
 
 abbrev entry_of : Happening → Gathering → Entry
-entry_of h g = record { mark = mark_of h; gathering = g }
+entry_of h g = record { place = place_of h; gathering = g }
 
 -- what the new collections stand for
 pub record GoesOn (hs : List Happening) (d : DeviceId) (h : Happening) (old new : Stretches) (g : Gathering) : Type 0 where
@@ -62,7 +59,7 @@ pub record GoesOn (hs : List Happening) (d : DeviceId) (h : Happening) (old new 
   pub latest : new.latest ≡ g
   pub gathers : Gathers new.collections g (points_of (hs ++ h ∷ []) d)
   pub kept : (other : Gathering) (points : List Point) → Gathers old.collections other points → Gathers new.collections other points
-  pub entries : new.entries ≡ old.entries ++ record { mark = mark_of h; gathering = g } ∷ []
+  pub entries : new.entries ≡ old.entries ++ record { place = place_of h; gathering = g } ∷ []
 
 still_for : (old new : History) → ((other : Gathering) (points : List Point) → Gathers old other points → Gathers new other points)
     → (e : Option Entry) (points : List Point) → StandsFor old e points → StandsFor new e points
@@ -70,52 +67,51 @@ still_for old new kept None points stands = stands
 still_for old new kept (Some e) points stands = kept e.gathering points stands
 
 pub kept_on : (network : Network) (hs : List Happening) (d : DeviceId) (h : Happening) (old new : Stretches) (g : Gathering)
-    → AllBefore place_of hs (place_of h) → device_of h.note.body ≡ Some d → GoesOn hs d h old new g → Keeps network hs d old
+    → AllBefore place_of hs (place_of h) → GoesOn hs d h old new g → Keeps network hs d old
     → Keeps network (hs ++ h ∷ []) d new
-kept_on network hs d h old new g all of goes keeps = record {
+kept_on network hs d h old new g all goes keeps = record {
   ow = goes.ow ∙ keeps.ow;
   calc = goes.calc ∙ keeps.calc;
   latest = subst (λ (x : Gathering). Gathers new.collections x (points_of (hs ++ h ∷ []) d)) (sym goes.latest) goes.gathers;
-  before = λ place mark is. by_place place mark is (is_before (place_of h) place) refl;
-  marks = λ e i. by_entry e (in_parts e old.entries (entry_of h g ∷ []) (subst (IsIn e) goes.entries i));
-  order = λ mark.
-      let test : Entry → Bool = λ e. is_mark_before e.mark mark in
-      subst (IsPartitionedBy test) (sym goes.entries) (parted_on test old.entries (entry_of h g) (keeps.order mark) (ordered mark));
+  before = λ place. by_place place (is_before (place_of h) place) refl;
+  places = λ e i. by_entry e (in_parts e old.entries (entry_of h g ∷ []) (subst (IsIn e) goes.entries i));
+  order = λ place.
+      let test : Entry → Bool = λ e. is_before e.place place in
+      subst (IsPartitionedBy test) (sym goes.entries) (parted_on test old.entries (entry_of h g) (keeps.order place) (ordered place));
   each = λ e i. stands_still e (in_parts e old.entries (entry_of h g ∷ []) (subst (IsIn e) goes.entries i));
 }
   where
-    by_place : (place : List ℕ) (mark : Mark) → IsMarkOf d mark place → (b : Bool) → is_before (place_of h) place ≡ b
-        → StandsFor new.collections (entry_before mark new.entries) (points_of (records_before place (hs ++ h ∷ [])) d)
-    by_place place mark is true e =
-        let test : Entry → Bool = λ x. is_mark_before x.mark mark in
+    by_place : (place : List ℕ) → (b : Bool) → is_before (place_of h) place ≡ b
+        → StandsFor new.collections (entry_before place new.entries) (points_of (records_before place (hs ++ h ∷ [])) d)
+    by_place place true e =
+        let test : Entry → Bool = λ x. is_before x.place place in
         let records : Happening → Bool = λ x. is_before (place_of x) place in
         let whole = filter_on records hs h e
         ∙ ap (λ (xs : List Happening). xs ++ h ∷ []) (all_kept records hs (λ x i.
         test_chain (place_of x) (place_of h) place (before_is (place_of x) (place_of h) (all x i)) e)) in
-        let last : entry_before mark new.entries ≡ Some (entry_of h g) = ap (entry_before mark) goes.entries
-        ∙ ap (λ (xs : List Entry). last_or None xs) (filter_on test old.entries (entry_of h g) (is h of ∙ e))
+        let last : entry_before place new.entries ≡ Some (entry_of h g) = ap (entry_before place) goes.entries
+        ∙ ap (λ (xs : List Entry). last_or None xs) (filter_on test old.entries (entry_of h g) e)
         ∙ last_pushed None (filter test old.entries) (entry_of h g) in
         subst (λ (o : Option Entry). StandsFor new.collections o (points_of (records_before place (hs ++ h ∷ [])) d)) (sym last)
         (subst (λ (xs : List Happening). Gathers new.collections g (points_of xs d)) (sym whole) goes.gathers)
-    by_place place mark is false e =
-        let test : Entry → Bool = λ x. is_mark_before x.mark mark in
+    by_place place false e =
+        let test : Entry → Bool = λ x. is_before x.place place in
         let records : Happening → Bool = λ x. is_before (place_of x) place in
-        let last : entry_before mark new.entries ≡ entry_before mark old.entries = ap (entry_before mark) goes.entries
-        ∙ ap (λ (xs : List Entry). last_or None xs) (filter_off test old.entries (entry_of h g) (is h of ∙ e)) in
+        let last : entry_before place new.entries ≡ entry_before place old.entries = ap (entry_before place) goes.entries
+        ∙ ap (λ (xs : List Entry). last_or None xs) (filter_off test old.entries (entry_of h g) e) in
         subst (λ (o : Option Entry). StandsFor new.collections o (points_of (records_before place (hs ++ h ∷ [])) d)) (sym last)
-        (subst (λ (xs : List Happening). StandsFor new.collections (entry_before mark old.entries) (points_of xs d)) (sym (filter_off records hs h e))
-        (still_for old.collections new.collections goes.kept (entry_before mark old.entries) (points_of (records_before place hs) d)
-        (keeps.before place mark is)))
+        (subst (λ (xs : List Happening). StandsFor new.collections (entry_before place old.entries) (points_of xs d)) (sym (filter_off records hs h e))
+        (still_for old.collections new.collections goes.kept (entry_before place old.entries) (points_of (records_before place hs) d)
+        (keeps.before place)))
 
-    by_entry : (e : Entry) → IsIn e old.entries ⊎ IsIn e (entry_of h g ∷ []) → IsOfRecord (hs ++ h ∷ []) d e
+    by_entry : (e : Entry) → IsIn e old.entries ⊎ IsIn e (entry_of h g ∷ []) → IsOfRecord (hs ++ h ∷ []) e
     by_entry e (inl there) =
-        let r = keeps.marks e there in
-        record { h = r.h; there = in_left r.h hs (h ∷ []) r.there; of_device = r.of_device; mark = r.mark }
+        let r = keeps.places e there in
+        record { h = r.h; there = in_left r.h hs (h ∷ []) r.there; place = r.place }
     by_entry e (inr (inl same)) = record {
       h = h;
       there = in_right h hs (h ∷ []) (inl refl);
-      of_device = of;
-      mark = ap (λ (x : Entry). x.mark) same;
+      place = ap (λ (x : Entry). x.place) same;
     }
     by_entry e (inr (inr none)) = absurd none
 
@@ -124,13 +120,11 @@ kept_on network hs d h old new g all of goes keeps = record {
     stands_still e (inr (inl same)) = subst (StandsForSome new.collections) (sym same) (points_of (hs ++ h ∷ []) d, goes.gathers)
     stands_still e (inr (inr none)) = absurd none
 
-    ordered : (mark : Mark) → is_mark_before (mark_of h) mark ≡ true → (y : Entry) → IsIn y old.entries → is_mark_before y.mark mark ≡ true
-    ordered mark passes y i =
-        let r = keeps.marks y i in
-        let first : is_mark_before (mark_of r.h) (mark_of h) ≡ true =
-        marks_compare d (time_of r.h) (members_in r.h) (time_of h) (members_in h) r.h.note.body h.note.body r.of_device of
-        ∙ before_is (place_of r.h) (place_of h) (all r.h r.there) in
-        ap (λ (m : Mark). is_mark_before m mark) r.mark ∙ test_chain (numbers_of (mark_of r.h)) (numbers_of (mark_of h)) (numbers_of mark) first passes
+    ordered : (place : List ℕ) → is_before (place_of h) place ≡ true → (y : Entry) → IsIn y old.entries → is_before y.place place ≡ true
+    ordered place passes y i =
+        let r = keeps.places y i in
+        ap (λ (p : List ℕ). is_before p place) r.place
+        ∙ test_chain (place_of r.h) (place_of h) place (before_is (place_of r.h) (place_of h) (all r.h r.there)) passes
 
 -- ---- all devices
 

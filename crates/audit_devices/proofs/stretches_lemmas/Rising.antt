@@ -1,31 +1,28 @@
 -- The points of a compression master come in order.
 use Rattle.std.proofs.Common.{if◌then◌else◌, ◌++◌, ◌+ℤ◌, ◌-ℤ◌, ◌<ℤ◌, ◌<◌, ◌∙◌, ◌∷◌, ◌≡◌, ◌≤ℤ◌, ◌≤◌, ◌⊎◌, All, Bool, List, None, Option, Some, [], ap, arith}
 use Rattle.std.proofs.{Common.{false, inl, inr, negsuc, pos, refl, subst, sym, true, unsigned_abs, ℕ, ℤ}, lemmas.{Bool.{cases_lt, eqb-true}, Int.ints}}
-use Rattle.std.{proofs.lemmas.List.Elements.{All-cons, All-nil}, specs.{List.{after_last, cons_option}, Prelude.{◌==◌, IfSome, filter_map}}}
+use Rattle.std.{proofs.lemmas.List.Elements.{All-cons, All-nil}, specs.{List.after_last, Prelude.{◌==◌, IfSome, filter_map}}}
 use Rattle.audit_law.specs.DueRecords.{IsCaused, IsDue}
 use Rattle.compression.specs.Clusters.{Point, point_at}
 use Rattle.net_plan.specs.{Ranges.IsInRange, declared.ids.{DeviceId.DeviceId, LinkId.LinkId}}
-use Rattle.run_law.proofs.{records.{Happenings.numbered_in, Order.{in_drop, place_order}}, runs.Places.parted}
+use Rattle.run_law.proofs.{records.Order.{in_drop, place_order}, runs.Places.parted}
 use Rattle.run_law.specs.control.{Collections.{ends_stretch, master_of, point_by, points_of}, Permanence.{BecomesPermanent, IsPermanent, ripe_as}}
 use Rattle.run_law.specs.{declared.{judgement.{Judgement.Judgement, Why.TheVariants.On}, note.NoteBody.NoteBody}, device.States.cycle_in}
 use Rattle.run_law.specs.records.{Happenings.{Happening, time_of}, Order.{AllBefore, IsBefore, IsIn}, Ranks.{members_in, place_at, place_of}}
 use Rattle.run_law.specs.{runs.Runs.IsFounded, scenario.Scenarios.Scenario}
 use Rattle.tte_units.specs.{Amount.amount, declared.units.Units.Units}
-use Rattle.audit_devices.{proofs.stretches_lemmas.Arriving.arrived_young}
+use Rattle.run_law.proofs.control.Arrived.{arrived_young}
 use Rattle.audit_devices.specs.stretches.{Changes.{change_by, collector_in}, Points.MayBring, Rising.{NeverFall, RisingLaw}}
 use Rattle.run_law.specs.declared.judgement.Judgement.TheVariants as judgements
 use Rattle.run_law.specs.declared.note.NoteBody.TheVariants as notes
+use Rattle.run_law.proofs.law.FirstPlaces.{numbered_in}
 
 -- ---- lists
 
 all_given : (P : Point → Type 0) (f : Happening → Option Point) (xs : List Happening) → ((x : Happening) → IsIn x xs → IfSome (f x) P)
     → All P (filter_map f xs)
 all_given P f [] each = All-nil P
-all_given P f (x ∷ xs) each = by_point (f x) (each x (inl refl)) (filter_map f xs) (all_given P f xs (λ y i. each y (inr i)))
-  where
-    by_point : (o : Option Point) → IfSome o P → (ps : List Point) → All P ps → All P (cons_option o ps)
-    by_point None is ps rest = rest
-    by_point (Some p) is ps rest = All-cons P p ps is rest
+all_given P f (x ∷ xs) each = grind (arith, All-cons, (all_given P f xs (λ y i. each y (inr i))))
 
 -- ---- one point
 
@@ -46,12 +43,7 @@ at_arrival s hs device t link cause frame point range founded p =
 -- ---- two points of one device
 
 amounts : (p q : Units) → pos 0 ≤ℤ p.0 → pos 0 ≤ℤ q.0 → amount p ≤ amount q → p.0 ≤ℤ q.0
-amounts p q a b le = by p.0 q.0 a b le
-  where
-    by : (x y : ℤ) → pos 0 ≤ℤ x → pos 0 ≤ℤ y → unsigned_abs x ≤ unsigned_abs y → x ≤ℤ y
-    by (pos m) (pos n) a b le = omega (arith, ints, le)
-    by (negsuc m) y a b le = absurd (omega (arith, ints, a))
-    by (pos m) (negsuc n) a b le = absurd (omega (arith, ints, b))
+amounts p q a b le = grind (arith, unsigned_abs, ints)
 
 -- a permanence that is due, and its point
 record IsRipe (s : Scenario) (hs : List Happening) (device : DeviceId) (t : ℕ) (point : Units) : Type 0 where

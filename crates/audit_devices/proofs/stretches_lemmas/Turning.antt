@@ -1,11 +1,12 @@
 -- What one more record makes of the points of a stretch.
+use Rattle.std.proofs.Common.{arith}
 use Rattle.std.proofs.Common.{if◌then◌else◌, ◌++◌, ◌∙◌, ◌∷◌, ◌≡◌, Bool, List, None, Option, Some, [], ap, false, inl, inr, refl, sym, true}
-use Rattle.std.{proofs.lemmas.{Bool.eq-eqb, List.Elements.filter_map-append}, specs.{List.{after_last, cons_option}, Prelude.{◌==◌, filter_map}}}
+use Rattle.std.{proofs.lemmas.{Bool.eq-eqb, List.Elements.filter_map-append}, specs.{List.cons_option, Prelude.{◌==◌, filter_map}}}
 use Rattle.compression.specs.Clusters.{Point, point_at}
 use Rattle.net_plan.{proofs.SameIds.other_device, specs.declared.ids.DeviceId.DeviceId}
 use Rattle.run_law.{proofs.records.Order.after_more, specs.control.Collections.{ends_stretch, master_of, point_by, points_of}}
 use Rattle.run_law.specs.{declared.{judgement.{Judgement.Judgement, Why.TheVariants.On}, note.NoteBody.NoteBody}, device.States.cycle_in}
-use Rattle.run_law.specs.records.{Causes.device_of, Happenings.Happening, Order.IsIn, Ranks.members_in}
+use Rattle.run_law.specs.records.{Happenings.Happening, Order.IsIn, Ranks.members_in}
 use Rattle.tte_lemmas.proofs.Lists.{after_one}
 use Rattle.tte_units.specs.declared.units.Units.{Units}
 use Rattle.audit_devices.specs.stretches.Changes.{change_by, collector_in, permanence_change}
@@ -72,12 +73,6 @@ quiet_point d h (notes.Permanent other link cause point verdict) not =
     ap (λ (b : Bool). if b then Some (point_in h point) else None) (other_device d other (not (permanence_change point verdict) refl))
 quiet_point d h body not = refl
 
-pub of_collector : (body : NoteBody) (d : DeviceId) → collector_in body ≡ Some d → device_of body ≡ Some d
-of_collector (notes.Permanent other link cause point verdict) d is = is
-of_collector (notes.Compressed other opened at cycle members verdict) d is = is
-of_collector (notes.State other state cause why) d is = is
-of_collector body d is = absurd cc
-
 -- ---- the points
 
 one_more : (f : Happening → Option Point) (hs : List Happening) (h : Happening) → filter_map f (hs ++ h ∷ []) ≡ filter_map f hs ++ cons_option (f h) []
@@ -90,9 +85,7 @@ no_end d h e y (inr i) = absurd i
 went_on : (hs : List Happening) (h : Happening) (d : DeviceId) → ends_stretch d h.note.body ≡ false
     → points_of (hs ++ h ∷ []) d ≡ points_of hs d ++ cons_option (point_by d h h.note.body) []
 went_on hs h d on =
-    let ends : Happening → Bool = λ x. ends_stretch d x.note.body in
-    let f : Happening → Option Point = λ x. point_by d x x.note.body in
-    ap (filter_map f) (after_more ends hs (h ∷ []) (no_end d h on)) ∙ one_more f (after_last ends hs) h
+    grind (arith, after_more, no_end, one_more)
 
 append_none : (ps : List Point) → ps ++ [] ≡ ps
 append_none [] = refl
@@ -100,16 +93,12 @@ append_none (p ∷ ps) = ap (λ (t : List Point). p ∷ t) (append_none ps)
 
 pub points_quiet : (hs : List Happening) (h : Happening) (d : DeviceId) → IsQuiet d h.note.body → points_of (hs ++ h ∷ []) d ≡ points_of hs d
 points_quiet hs h d quiet =
-    went_on hs h d (quiet_goes_on d h.note.body quiet)
-    ∙ ap (λ (o : Option Point). points_of hs d ++ cons_option o []) (quiet_point d h h.note.body quiet)
-    ∙ append_none (points_of hs d)
+    grind (arith, went_on, quiet_goes_on, quiet_point, append_none)
 
 pub points_ended : (hs : List Happening) (h : Happening) (d : DeviceId) → change_by h.note.body ≡ Some Ends → collector_in h.note.body ≡ Some d
     → points_of (hs ++ h ∷ []) d ≡ []
 points_ended hs h d change of =
-    let ends : Happening → Bool = λ x. ends_stretch d x.note.body in
-    let f : Happening → Option Point = λ x. point_by d x x.note.body in
-    ap (filter_map f) (after_one ends hs h (ended d h.note.body change of))
+    grind (arith, after_one, ended)
 
 pub points_given : (hs : List Happening) (h : Happening) (d : DeviceId) (p : Units) → change_by h.note.body ≡ Some (Gives p)
     → collector_in h.note.body ≡ Some d → points_of (hs ++ h ∷ []) d ≡ points_of hs d ++ point_at p.0 (master_of (members_in h)) (cycle_in h) ∷ []

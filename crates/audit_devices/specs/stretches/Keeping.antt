@@ -3,12 +3,12 @@ use Rattle.std.specs.List.{last_or, Sorted.IsPartitionedBy}
 use Rattle.std.specs.Prelude.{◌≡◌, List, None, Option, Some, [], filter, pos, slice_get, true, ℕ}
 use Rattle.audit_devices.specs.{collections.Gathered.Gathers, collections.Kept.History}
 use Rattle.audit_devices.specs.{declared.collections.gathering.Gathering.Gathering}
-use Rattle.audit_devices.specs.{Effects.carried_by, Keeping.records_before, Marks.{IsMarkOf, is_mark_before, mark_of}}
-use Rattle.audit_devices.specs.declared.{effect.Carried.Carried, mark.Mark.Mark}
+use Rattle.audit_devices.specs.{Effects.carried_by, Keeping.records_before}
+use Rattle.audit_devices.specs.declared.effect.Carried.{Carried}
 use Rattle.compression.specs.Clusters.{Point}
 use Rattle.net_plan.specs.declared.{ids.DeviceId.DeviceId, network.Network.Network}
 use Rattle.run_law.specs.{control.Collections.{observation_window, points_of}, declared.note.NoteBody.NoteBody}
-use Rattle.run_law.specs.records.{Causes.device_of, Happenings.{Happening, time_of}, Order.IsIn}
+use Rattle.run_law.specs.records.{Happenings.{Happening, time_of}, Order.{IsIn, is_before}, Ranks.place_of}
 use Rattle.run_law.specs.scenario.Devices.{is_cm}
 use Rattle.tte_units.specs.Amount.{amount}
 use Rattle.audit_devices.specs.declared.stretches.kept.Entry.{Entry}
@@ -19,9 +19,9 @@ pub record Stretches : Type 0 where
   pub latest : Gathering
   pub entries : List Entry
 
--- the last of the entries before a mark
-abbrev pub entry_before : Mark → List Entry → Option Entry
-entry_before mark entries = last_or None (filter (λ e. is_mark_before e.mark mark) entries)
+-- the last of the entries before a place
+abbrev pub entry_before : List ℕ → List Entry → Option Entry
+entry_before place entries = last_or None (filter (λ e. is_before e.place place) entries)
 
 -- the entry's gathering stands for these points, and no entry for none
 abbrev pub StandsFor : History → Option Entry → List Point → Type 0
@@ -32,25 +32,24 @@ StandsFor collections (Some e) points = Gathers collections e.gathering points
 abbrev pub StandsForSome : History → Entry → Type 0
 StandsForSome collections e = (points : List Point) × Gathers collections e.gathering points
 
--- the entry is at the mark of one of the device's records
-pub record IsOfRecord (hs : List Happening) (device : DeviceId) (e : Entry) : Type 0 where
+-- the entry is at the place of one of the records
+pub record IsOfRecord (hs : List Happening) (e : Entry) : Type 0 where
   pub h : Happening
   pub there : IsIn h hs
-  pub of_device : device_of h.note.body ≡ Some device
-  pub mark : e.mark ≡ mark_of h
+  pub place : e.place ≡ place_of h
 
--- those of the entries that are before a mark are the first
+-- those of the entries that are before a place are the first
 abbrev pub IsInOrder : List Entry → Type 0
-IsInOrder entries = (mark : Mark) → IsPartitionedBy (λ e. is_mark_before e.mark mark) entries
+IsInOrder entries = (place : List ℕ) → IsPartitionedBy (λ e. is_before e.place place) entries
 
 -- the device's stretch before any place is kept
 pub record Keeps (network : Network) (hs : List Happening) (device : DeviceId) (kept : Stretches) : Type 0 where
   pub ow : kept.collections.ow ≡ observation_window network
   pub calc : kept.collections.calc ≡ pos (amount network.calc)
   pub latest : Gathers kept.collections kept.latest (points_of hs device)
-  pub before : (place : List ℕ) (mark : Mark) → IsMarkOf device mark place
-      → StandsFor kept.collections (entry_before mark kept.entries) (points_of (records_before place hs) device)
-  pub marks : (e : Entry) → IsIn e kept.entries → IsOfRecord hs device e
+  pub before : (place : List ℕ)
+      → StandsFor kept.collections (entry_before place kept.entries) (points_of (records_before place hs) device)
+  pub places : (e : Entry) → IsIn e kept.entries → IsOfRecord hs e
   pub order : IsInOrder kept.entries
   pub each : (e : Entry) → IsIn e kept.entries → StandsForSome kept.collections e
 

@@ -1,6 +1,7 @@
 -- What the history of a network's stretches keeps.
 use Rattle.std.specs.Prelude.{◌≡◌, List, Option, length, slice_get, ℕ}
-use Rattle.audit_devices.specs.{collections.Kept.History, declared.collections.gathering.Gathering.Gathering}
+use Rattle.audit_devices.specs.{Keeping.time_at, collections.Kept.History}
+use Rattle.audit_devices.specs.{declared.collections.gathering.Gathering.Gathering}
 use Rattle.net_plan.specs.declared.{ids.DeviceId.DeviceId, network.Network.Network}
 use Rattle.run_law.specs.records.Happenings.{Happening}
 use Rattle.audit_devices.specs.stretches.Keeping.{KeepsAll, Stretches}
@@ -22,6 +23,6 @@ kept_of history device = slice_get history.kept.items device.0
 -- this is the stretch behind the entry's record, and the record's time
 pub record IsBehind (kept : Stretches) (e : Entry) (time : ℕ) (collections : History) (gathering : Gathering)
     : Type 0 where
-  pub time_is : time ≡ e.mark.time
+  pub time_is : time ≡ time_at e.place
   pub collections_are : collections ≡ kept.collections
   pub gathering_is : gathering ≡ e.gathering

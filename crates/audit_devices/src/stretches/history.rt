@@ -1,5 +1,5 @@
 ghost use Rattle.std.specs.Prelude.{◌++◌, ◌<◌, ◌∷◌, ◌≡◌, IfOk, List, OnOk, Some, [], length, slice_get, true};
-ghost use Rattle.audit_devices.specs.{Keeping.records_before, Marks.IsMarkOf};
+ghost use Rattle.audit_devices.specs.Keeping.{records_before};
 ghost use Rattle.net_plan.specs.Ranges.{IsInRange};
 ghost use Rattle.run_law.specs.control.{Collections.points_of, Permanence.before_permanence};
 ghost use Rattle.run_law.specs.records.{Happenings.Happening, Order.AllBefore, Ranks.place_of};
@@ -9,13 +9,14 @@ ghost use Rattle.audit_devices.specs.stretches.Standing.{IsBehind, Stands, devic
 ghost use Rattle.audit_devices.specs.{declared.stretches.kept.Entry.Entry};
 ghost use Rattle.net_plan.specs.declared.network.Network as networks;
 
+use crate::Carried;
 use crate::stretches::Stretch;
 use crate::stretches::change::{change_by, collector_in};
 use crate::stretches::kept::Kept;
-use crate::{Carried, Mark};
 use device_rules::is_cm;
 use net_plan::{DeviceId, LinkId, Network};
 use pcf_values::Pcf;
+use plain_notes::Place;
 use run_law::NoteBody;
 use std::alloc::{AllocError, Global};
 use tte_units::Units;
@@ -63,20 +64,20 @@ impl StretchHistory {
         if index >= self.kept.len() || !is_cm(network, device) {
             return Ok(());
         }
-        self.kept[index].take(Mark::of(time, carried.members, body), change, carried)
+        self.kept[index].take(Place::of(time, carried.members.0, body), change, carried)
     }
 
-    /// The stretch of a compression master before a place of the order, whose mark this is.
-    pub fn before(&self, device: DeviceId, mark: &Mark) -> Stretch<'_>
+    /// The stretch of a compression master before a place.
+    pub fn before(&self, device: DeviceId, place: &Place) -> Stretch<'_>
         requires { device.0 < device_count self.now }
-        ensures { (network : networks.Network) (hs : List Happening) (place : List _) → Stands network hs self.now
-            → is_cm network device ≡ true → IsMarkOf device mark.now place
-            → HasPoints network (points_of (records_before place hs) device) result.collections.now result.gathering }
+        ensures { (network : networks.Network) (hs : List Happening) → Stands network hs self.now
+            → is_cm network device ≡ true
+            → HasPoints network (points_of (records_before place.now hs) device) result.collections.now result.gathering }
     {
         let kept = &self.kept[device.0 as usize];
         Stretch {
             collections: &kept.collections,
-            gathering: kept.before(mark),
+            gathering: kept.before(place),
         }
     }
 
@@ -98,7 +99,7 @@ impl StretchHistory {
     {
         self.before(
             device,
-            &Mark::of_permanence(time, frame.members, link, cause, point),
+            &Place::of_permanence(time, device, point, frame.members.0, link, cause),
         )
     }
 
@@ -124,7 +125,7 @@ impl StretchHistory {
             collections: &kept.collections,
             gathering: entry.gathering,
         };
-        (entry.mark.time(), stretch)
+        (entry.place.time(), stretch)
     }
 
     /// The stretch of a compression master behind all records so far.

@@ -1,6 +1,6 @@
 ghost use Rattle.std.specs.Prelude.{◌++◌, ◌∷◌, ◌≡◌, ◌≤ℤ◌, IfOk, List, OnOk, Some, [], pos};
 ghost use Rattle.audit_devices.specs.collections.Gathered.{Gathers, IsLatest};
-ghost use Rattle.audit_devices.specs.{Effects.carried_by, Keeping.records_before, Marks.{IsMarkOf, mark_of}};
+ghost use Rattle.audit_devices.specs.{Effects.carried_by, Keeping.records_before};
 ghost use Rattle.compression.specs.Clusters.{Point};
 ghost use Rattle.net_plan.specs.{Ranges.IsInRange, declared.ids.DeviceId.DeviceId};
 ghost use Rattle.run_law.specs.{control.Collections.points_of, records.{Happenings.Happening, Order.AllBefore}};
@@ -9,17 +9,18 @@ ghost use Rattle.audit_devices.specs.stretches.{Changes.{change_by, collector_in
 ghost use Rattle.audit_devices.specs.stretches.Points.{HasPoints, MayBring, points_with};
 ghost use Rattle.net_plan.specs.declared.network.Network as networks;
 
+use crate::Carried;
 use crate::collections::{CollectionHistory, Gathering};
 use crate::stretches::change::Change;
-use crate::{Carried, Mark};
 use net_plan::Network;
+use plain_notes::Place;
 use std::alloc::{AllocError, Global};
 use std::marker::Model;
 
-/// The gathering from a mark on.
-#[derive(Clone, Copy, Debug)]
+/// The gathering from a place on.
+#[derive(Debug, Drop)]
 pub(crate) struct Entry {
-    pub(crate) mark: Mark,
+    pub(crate) place: Place,
     pub(crate) gathering: Gathering,
 }
 
@@ -60,17 +61,17 @@ impl Kept {
     /// Goes on by a record of the device, which stands behind all so far.
     pub(crate) fn take(
         &mut self,
-        mark: Mark,
+        place: Place,
         change: Change,
         carried: Carried,
     ) -> Result<(), AllocError>
         ensures { (network : networks.Network) (hs : List Happening) (h : Happening) (device : DeviceId)
-            → collector_in h.note.body ≡ Some device → change_by h.note.body ≡ Some change → mark ≡ mark_of h
+            → collector_in h.note.body ≡ Some device → change_by h.note.body ≡ Some change → place ≡ place_of h
             → carried ≡ carried_by h → AllBefore place_of hs (place_of h) → MayBring (points_of hs device) change
             → Keeps network hs device self.old → OnOk result (Keeps network (hs ++ h ∷ []) device self.new) }
     {
         let gathering = self.next(change, carried)?;
-        self.entries.push(Entry { mark, gathering })?;
+        self.entries.push(Entry { place, gathering })?;
         self.latest = gathering;
         Ok(())
     }
@@ -100,15 +101,15 @@ impl Kept {
         }
     }
 
-    /// The gathering of the stretch before a mark.
-    pub(crate) fn before(&self, mark: &Mark) -> Gathering
-        ensures { (network : networks.Network) (hs : List Happening) (device : DeviceId) (place : List _)
-            → Keeps network hs device self.now → IsMarkOf device mark.now place
-            → HasPoints network (points_of (records_before place hs) device) self.now.collections result }
+    /// The gathering of the stretch before a place.
+    pub(crate) fn before(&self, place: &Place) -> Gathering
+        ensures { (network : networks.Network) (hs : List Happening) (device : DeviceId)
+            → Keeps network hs device self.now
+            → HasPoints network (points_of (records_before place.now hs) device) self.now.collections result }
     {
         let count = self
             .entries
-            .partition_point(|entry| entry.mark.is_before(mark));
+            .partition_point(|entry| entry.place.is_before(place));
         let (front, _) = self.entries.split_at(count);
         match front.last() {
             Some(entry) => entry.gathering,

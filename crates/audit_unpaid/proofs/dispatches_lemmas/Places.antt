@@ -37,11 +37,7 @@ lost_at u m n t k d l (notes.Lost device link cause) e =
           ∙ ap (λ (x : ℕ). notes.Lost d (link_by x) cause) links
           ∙ ap (λ (x : ℕ). notes.Lost d l x) causes,
     )
-lost_at u m n t k d l (notes.TtSent device link cause vl cycle) e = absurd cc
-lost_at u m n t k d l (notes.Accepted device link cause vl cycle) e = absurd cc
-lost_at u m n t k d l (notes.Delivered device link cause vl cycle) e = absurd cc
-lost_at u m n t k d l (notes.Dropped device link cause reason) e = absurd cc
-lost_at u m n t k d l (notes.Clock device reading adjustment state) e = absurd cc
+lost_at u m n t k d l other e = absurd cc
 
 -- what stands at the place of a dispatch is it
 sent_at : (u m n t k c : ℕ) (d : DeviceId) (l : LinkId) (v : VlId) (body : NoteBody) → place_at u m body ≡ place_at t n (notes.TtSent d l k v c)
@@ -69,10 +65,7 @@ sent_at u m n t k c d l v (notes.TtSent device link cause vl cycle) e =
           ∙ ap (λ (x : ℕ). notes.TtSent d l k (vl_by x) cycle) vls
           ∙ ap (λ (x : ℕ). notes.TtSent d l k v x) cycles,
     )
-sent_at u m n t k c d l v (notes.Accepted device link cause vl cycle) e = absurd cc
-sent_at u m n t k c d l v (notes.Delivered device link cause vl cycle) e = absurd cc
-sent_at u m n t k c d l v (notes.Dropped device link cause reason) e = absurd cc
-sent_at u m n t k c d l v (notes.Clock device reading adjustment state) e = absurd cc
+sent_at u m n t k c d l v other e = absurd cc
 
 -- what stands at the place of either is that one
 record_at : (cut : Bool) (u m n : ℕ) (o : Dispatch) (body : NoteBody) → place_at u m body ≡ place_at o.time n (dispatch_record o cut)

@@ -12,20 +12,21 @@ use Rattle.audit_devices.specs.declared.stretches.{history.StretchHistory.Stretc
 use Rattle.compression.specs.{Clusters.{AreClusters, Cluster, Point}, declared.compressed.Compressed.Compressed}
 use Rattle.drift_clock.specs.Reach.{IsReach}
 use Rattle.net_plan.{proofs.SameIds.same_device, specs.declared.{ids.DeviceId.DeviceId, network.Network.Network, tables.Device.Device}}
-use Rattle.run_law.{proofs.records.Order.got_in, specs.{control.Collections.observation_window, records.Happenings.Happening}}
+use Rattle.run_law.specs.{control.Collections.observation_window, records.Happenings.Happening}
 use Rattle.run_law.specs.scenario.{Devices.{is_cm, is_cm_role}, Scenarios.Scenario}
 use Rattle.tte_lemmas.proofs.{Lists.some_at, Naturals.below_next}
 use Rattle.audit_unpaid.proofs.emissions_lemmas.{Ascending.opens_before, Joining.{HasParts, first_as, first_of_both, first_of_none}}
 use Rattle.audit_unpaid.proofs.emissions_lemmas.Owing.{are_in, owed_within}
 use Rattle.audit_unpaid.specs.emissions.{Emissions.{IsShort, IsTold, OwesAmong, OwesAt, OwesBehind, OwesWithin}, Firsts.TellsFirstOf}
 use Rattle.audit_law.specs.Owed as debts
+use Rattle.run_law.proofs.law.FirstPlaces.{in_at}
 
 -- ---- the stretch behind an entry
 
 pub entry_points : (network : Network) (hs : List Happening) (d : DeviceId) (kept : Stretches) (e : Entry) (place : ℕ) → Keeps network hs d kept
     → slice_get kept.entries place ≡ Some e → (points : List Point) × HasPoints network points kept.collections e.gathering
 entry_points network hs d kept e place keeps there =
-    let some = keeps.each e (got_in kept.entries place e there) in
+    let some = keeps.each e (in_at kept.entries place e there) in
     (some.0, record { ow = keeps.ow; calc = keeps.calc; gathers = some.1 })
 
 pub stretch_points : (network : Network) (points : List Point) (kept : Stretches) (e : Entry) (time : ℕ) (collections : History) (g : Gathering)

@@ -2,23 +2,23 @@
 use Rattle.std.proofs.Common.{◌∙◌, ◌∷◌, ◌≡◌, ◌≤◌, Bool, List, None, Option, Some, [], ap, arith, false, filter, inl, inr, length, map, pos, refl, slice_get}
 use Rattle.std.{proofs.Common.{subst, suc, sym, true, zero, ℕ, ℤ}, specs.{List.last_or, Prelude.Contains}}
 use Rattle.audit_devices.{proofs.collections_lemmas.Sending.in_map}
-use Rattle.audit_devices.specs.{collections.Kept.{History, as_emitted, clusters_in, emitted}, declared.collections.emitted.Emitted.Emitted}
+use Rattle.audit_devices.specs.{Keeping.time_at, collections.Kept.{History, as_emitted, clusters_in, emitted}, declared.collections.emitted.Emitted.Emitted}
 use Rattle.audit_devices.specs.declared.collections.gathering.Gathering.{Gathering}
-use Rattle.audit_devices.{proofs.MarkOrder.mark_of_record, specs.{Marks.{is_mark_before, mark_at, numbers_of}, declared.mark.Mark.Mark}}
-use Rattle.audit_law.specs.Emitted.{before_place, emission_place, emission_record}
+use Rattle.audit_law.specs.Emitted.{before_place, emission_place}
 use Rattle.audit_devices.specs.{stretches.Keeping.{Keeps, StandsFor, Stretches, entry_before}, stretches.Points.{HasPoints, emissions_for}}
 use Rattle.audit_devices.specs.{declared.stretches.kept.Entry.Entry}
 use Rattle.compression.proofs.{ClusterFacts.no_cluster, Elements.{in_cases, in_head, in_none, in_tail}, Standing.AreClusters-unique}
 use Rattle.compression.specs.{Clusters.{AreClusters, Cluster, Point}, declared.compressed.Compressed.Compressed}
 use Rattle.drift_clock.specs.Reach.{IsReach}
 use Rattle.net_plan.specs.declared.{ids.DeviceId.DeviceId, network.Network.Network}
-use Rattle.run_law.{proofs.records.Order.{has_passed, in_whole, index_of, is_there}, specs.control.Collections.{observation_window, points_of}}
-use Rattle.run_law.specs.{control.{Emissions.Emits, Hearing.heard_as}, declared.judgement.Judgement.TheVariants.Ignored}
-use Rattle.run_law.specs.{device.States.{adjustment_at_hearing, state_at_hearing}, records.{Happenings.Happening, Order.{IsBefore, IsIn}}}
+use Rattle.run_law.{proofs.records.Order.{has_passed, index_of, is_there}, specs.control.Collections.{observation_window, points_of}}
+use Rattle.run_law.specs.{control.{Emissions.Emits, Hearing.heard_as}}
+use Rattle.run_law.specs.{device.States.{adjustment_at_hearing, state_at_hearing}, records.{Happenings.Happening, Order.{IsBefore, IsIn, is_before}}}
 use Rattle.run_law.specs.scenario.{Devices.{is_cm, plan_of}, Scenarios.{Scenario, is_broken}}
 use Rattle.tte_lemmas.proofs.Lists.{got_within}
 use Rattle.tte_units.specs.Amount.{amount}
 use Rattle.audit_unpaid.specs.emissions.Emissions.{Owes, OwesAt, OwesBehind, OwesWithin, sent_of}
+use Rattle.run_law.proofs.law.FirstPlaces.{in_filter}
 
 -- ---- lists
 
@@ -40,36 +40,35 @@ last_in (x ∷ xs) last e = last_there x xs last e
 
 -- ---- what is owed
 
-no_later : (m n : Mark) → IsBefore (numbers_of m) (numbers_of n) → m.time ≤ n.time
-no_later m n (inl lt) = omega (arith, lt)
-no_later m n (inr e) = omega (arith, e.0)
+no_later : (p q : List ℕ) → IsBefore p q → time_at p ≤ time_at q
+no_later p [] b = absurd b
+no_later [] (y ∷ ys) b = omega arith
+no_later (x ∷ xs) (y ∷ ys) (inl lt) = omega (arith, lt)
+no_later (x ∷ xs) (y ∷ ys) (inr e) = omega (arith, e.0)
 
 -- what is owed is of a cluster of an entry whose record is no later
 pub owed_within : (s : Scenario) (hs : List Happening) (until : ℕ) (d : DeviceId) (kept : Stretches) (sent : Compressed) (t : ℕ)
     → Keeps s.network hs d kept → OwesAt s hs until d sent t → OwesWithin s hs until d kept.collections kept.entries (length kept.entries) sent t
 owed_within s hs until d kept sent t keeps owed =
-    by (entry_before mark kept.entries) refl (keeps.before place mark (mark_of_record d t 0 (emission_record d sent Ignored) refl))
+    by (entry_before place kept.entries) refl (keeps.before place)
   where
     place : List ℕ
     place = emission_place t d sent
 
-    mark : Mark
-    mark = mark_at t 0 (emission_record d sent Ignored)
-
     test : Entry → Bool
-    test e = is_mark_before e.mark mark
+    test e = is_before e.place place
 
     emits : Emits s (before_place hs place) d t sent owed.owes.verdict
     emits = owed.owes.emits
 
-    by : (o : Option Entry) → entry_before mark kept.entries ≡ o → StandsFor kept.collections o (points_of (before_place hs place) d)
+    by : (o : Option Entry) → entry_before place kept.entries ≡ o → StandsFor kept.collections o (points_of (before_place hs place) d)
         → OwesWithin s hs until d kept.collections kept.entries (length kept.entries) sent t
     by None is stands =
         absurd (no_cluster (observation_window s.network) (points_of (before_place hs place) d) emits.clusters emits.cluster stands emits.are emits.there)
     by (Some e) is gathers =
         let passes = last_in (filter test kept.entries) e is in
-        let at = index_of e kept.entries (in_whole test kept.entries e passes) in
-        let before = is_there (numbers_of e.mark) (numbers_of mark) (has_passed test kept.entries e passes) in
+        let at = index_of e kept.entries (in_filter test kept.entries e passes) in
+        let before = is_there e.place place (has_passed test kept.entries e passes) in
         let clusters : emits.clusters ≡ clusters_in kept.collections e.gathering =
         AreClusters-unique (observation_window s.network) (points_of (before_place hs place) d) emits.clusters (clusters_in kept.collections e.gathering)
         emits.are
@@ -84,7 +83,7 @@ owed_within s hs until d kept sent t keeps owed =
           place = found.0;
           behind = omega arith;
           there = found.1 ∙ ap Some (sym same);
-          begun = no_later e.mark mark before;
+          begun = no_later e.place place before;
         } in
         record { index = at.0; e = e; below = got_within kept.entries at.0 e at.1; there = at.1; owed = behind }
 

@@ -42,16 +42,7 @@ told_at u m t d sent (notes.Compressed other opened at cycle members verdict) e 
       cycles,
       same_members members sent.members masters,
     )
-told_at u m t d sent (notes.Sent device cycle) e = absurd cc
-told_at u m t d sent (notes.Corrected device cycle by adjustment) e = absurd cc
-told_at u m t d sent (notes.State device state cause why) e = absurd cc
-told_at u m t d sent (notes.Left device link cause clock) e = absurd cc
-told_at u m t d sent (notes.Lost device link cause) e = absurd cc
-told_at u m t d sent (notes.TtSent device link cause vl cycle) e = absurd cc
-told_at u m t d sent (notes.Accepted device link cause vl cycle) e = absurd cc
-told_at u m t d sent (notes.Delivered device link cause vl cycle) e = absurd cc
-told_at u m t d sent (notes.Dropped device link cause reason) e = absurd cc
-told_at u m t d sent (notes.Clock device reading adjustment state) e = absurd cc
+told_at u m t d sent other e = absurd cc
 
 pub told_there : (s : Scenario) (hs : List Happening) (d : DeviceId) (t : ℕ) (sent : Compressed) → HasRecordAt hs (emission_place t d sent)
     → IsTold s hs d sent

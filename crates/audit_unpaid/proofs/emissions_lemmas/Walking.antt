@@ -2,7 +2,7 @@
 use Rattle.std.proofs.Common.{◌+◌, ◌<ℤ◌, ◌<◌, ◌∙◌, ◌∷◌, ◌≡◌, ◌≤ℤ◌, ◌≤◌, List, None, Option, Some, [], ap, arith, inl, inr, length, pos, refl, slice_get, subst}
 use Rattle.std.proofs.{Common.{suc, sym, zero, ℕ}, lemmas.{Bool.cases_lt, Int.ints}}
 use Rattle.audit_devices.specs.{collections.Gathered.Gathers, collections.Kept.{History, as_emitted, emissions_in}}
-use Rattle.audit_devices.specs.{declared.collections.emitted.Emitted.Emitted}
+use Rattle.audit_devices.specs.{Keeping.time_at, declared.collections.emitted.Emitted.Emitted}
 use Rattle.audit_law.specs.FirstDebts.{earlier_of}
 use Rattle.audit_devices.specs.declared.stretches.kept.Entry.{Entry}
 use Rattle.compression.specs.{Clusters.Point, declared.compressed.Compressed.Compressed}
@@ -50,7 +50,7 @@ none_more (Some t) = refl
 -- the cluster is owed and not paid
 pub walk_unpaid : (s : Scenario) (hs : List Happening) (until : ℕ) (d : DeviceId) (collections : History) (e : Entry) (k : ℕ) (a : Emitted) (time : ℕ)
     (r : Option ℕ) → slice_get (emissions_in collections e.gathering) k ≡ Some a → IsReach (s.reading d) (pos 0) a.at (pos time) → time ≤ until
-    → e.mark.time ≤ time → Owes s hs d (sent_of a) time → (IsTold s hs d (sent_of a) → ⊥)
+    → time_at e.place ≤ time → Owes s hs d (sent_of a) time → (IsTold s hs d (sent_of a) → ⊥)
     → TellsFirstOf (OwesBehind s hs until d collections e (k + 1)) (IsTold s hs d) r
     → TellsFirstOf (OwesBehind s hs until d collections e k) (IsTold s hs d) (earlier_of r (Some time))
 walk_unpaid s hs until d collections e k a time r is reach timely begun owes unpaid told =
@@ -102,7 +102,7 @@ walk_unreached s hs until d collections e k a r is low told =
 -- where the cluster is owed before the entry's record, those before it are too
 pub walk_begun : (s : Scenario) (hs : List Happening) (until : ℕ) (d : DeviceId) (collections : History) (e : Entry) (points : List Point) (k : ℕ)
     (a : Emitted) (time : ℕ) (r : Option ℕ) → pos 0 ≤ℤ collections.ow → Gathers collections e.gathering points
-    → slice_get (emissions_in collections e.gathering) k ≡ Some a → IsReach (s.reading d) (pos 0) a.at (pos time) → time < e.mark.time
+    → slice_get (emissions_in collections e.gathering) k ≡ Some a → IsReach (s.reading d) (pos 0) a.at (pos time) → time < time_at e.place
     → TellsFirstOf (OwesBehind s hs until d collections e (k + 1)) (IsTold s hs d) r
     → TellsFirstOf (OwesBehind s hs until d collections e 0) (IsTold s hs d) r
 walk_begun s hs until d collections e points k a time r some gathers is reach early told =

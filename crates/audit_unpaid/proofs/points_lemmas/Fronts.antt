@@ -1,94 +1,24 @@
 -- A correction point, judged by the records up to its time and by those of a lower rank than corrections.
 use Rattle.audit_unpaid.proofs.points_lemmas.Words.{◌+◌, ◌<◌, ◌∙◌, ◌∷◌, ◌≡◌, DeviceId, Happening, Integrating, IsDue, IsFounded, List, NoteBody, Scenario}
 use Rattle.audit_unpaid.proofs.points_lemmas.Words.{Shown}
-use Rattle.audit_unpaid.proofs.points_lemmas.Words.{Shows, Some, State, Units, Verdict, [], ap, arith, earlier, false, false≢true, inl, inr, is_turned_on_at}
-use Rattle.audit_unpaid.proofs.points_lemmas.Words.{members_in, place_of, refl, state_after, subst, sym, time_of, true, up_to, ℕ, ℤ}
-use Rattle.std.proofs.{Common.{if◌then◌else◌, ◌++◌, Bool, filter}, lemmas.{Bool.{eqb-true, ltb-true}, List.{append-nil, Elements.filter-append}}}
-use Rattle.std.specs.Prelude.{◌↔◌, MatchBool, nat_lt}
+use Rattle.audit_unpaid.proofs.points_lemmas.Words.{Shows, Some, Verdict, [], ap, arith, earlier, false, inl, inr}
+use Rattle.audit_unpaid.proofs.points_lemmas.Words.{members_in, place_of, refl, subst, sym, time_of, true, up_to, ℕ}
+use Rattle.std.proofs.{Common.{◌++◌, Bool, filter}, lemmas.List.{append-nil, Elements.filter-append}}
+use Rattle.std.specs.Prelude.{◌↔◌}
 use Rattle.audit_devices.specs.clocks.Points.{IsHeard}
 use Rattle.audit_devices.specs.{Keeping.records_before, Showing.IsAfter}
 use Rattle.audit_law.proofs.{Correcting.{comes_by, late_earlier, late_heard, late_part, time_before}, Numbered.founded_at}
-use Rattle.audit_law.specs.{CorrectionNumbers.{ComesToPoint, heard_since_point, standing_at}, DueRecords.IsCaused}
-use Rattle.compression.specs.Clusters.{Point}
+use Rattle.audit_law.specs.CorrectionNumbers.{ComesToPoint, heard_since_point, standing_at}
 use Rattle.membership.specs.Summary.{Summarizes, Summary}
-use Rattle.net_plan.specs.declared.network.Network.{Network}
-use Rattle.pcf_values.specs.declared.{members.Members.Members, pcf.Pcf.Pcf}
-use Rattle.run_law.proofs.{control.Verdicts.{collected_not, looking_ripe}, law.FirstPlaces.{IsSplit, none_kept, same_earlier}}
+use Rattle.run_law.proofs.law.FirstPlaces.{IsSplit, none_kept, same_earlier}
 use Rattle.run_law.proofs.{records.Order.{all_kept, before_is, is_there}, runs.{Lacking.behind_first, Places.{chain, in_left, never_self}}}
-use Rattle.run_law.specs.control.{Collections.observation_window, Hearing.heard_as, Permanence.{IsPermanenceOutcome, before_permanence, ripe_as}}
-use Rattle.run_law.specs.{declared.{judgement.Judgement.TheVariants.{Ignored, Integrates}, steps.Ripe.Ripe}, device.LocalClocks.changes_adjustment}
-use Rattle.run_law.specs.{device.States.{has_joined_at, is_joined_by, state_at_hearing, state_before}, records.Order.{IsBefore, IsIn, is_before}}
-use Rattle.run_law.specs.{records.Ranks.{key, rank}, scenario.Devices.{is_cm, plan_of}}
-use Rattle.sync_state.{proofs.StateFacts.{before_hearing, no_point}, specs.{Standing.next_point, declared.plan.SyncPlan.SyncPlan}}
-use Rattle.tte_units.specs.Amount.{amount}
+use Rattle.run_law.specs.{device.LocalClocks.changes_adjustment}
+use Rattle.run_law.specs.{device.States.{is_joined_by, state_before}, records.Order.{IsBefore, IsIn, is_before}}
+use Rattle.run_law.specs.records.Ranks.{key, rank}
+use Rattle.sync_state.{proofs.StateFacts.no_point, specs.Standing.next_point}
 use Rattle.run_law.specs.declared.note.NoteBody.TheVariants as notes
-use Rattle.run_law.specs.declared.steps.Ripe.TheVariants as ripe
-
--- ---- a frame tells the time to a device that looks for it
-
-looking_by : (b : Bool) (P : Type 0) (plan : SyncPlan) (precision : ℤ) (state : State) (adjustment point : ℤ) (cycle : ℕ) (members : Members) → (P → ⊥)
-    → MatchBool b P (ripe.Integrates ≡ ripe_as (heard_as plan precision state adjustment point cycle members)) → state ≡ Integrating
-looking_by true P plan precision state adjustment point cycle members not so = absurd (not so)
-looking_by false P plan precision state adjustment point cycle members not so = looking_ripe plan precision state adjustment point cycle members so
-
-pub looking : (n : Network) (device : DeviceId) (state : State) (adjustment : ℤ) (points : List Point) (frame : Pcf) (point : ℤ)
-    → IsPermanenceOutcome n device state adjustment points frame point ripe.Integrates → state ≡ Integrating
-looking n device state adjustment points frame point so =
-    looking_by (is_cm n device) _ (plan_of n device) (observation_window n) state adjustment point frame.cycle frame.members
-    (λ c. collected_not n points _ _ c) so
-
--- a place of the time is behind what is earlier
-earlier_more : (t : ℕ) (more : List ℕ) (h : Happening) (hs : List Happening) → earlier t (filter (λ x. is_before (place_of x) (t ∷ more)) hs) ≡ earlier t hs
-    → (b : Bool) → nat_lt (time_of h) t ≡ b → (c : Bool) → is_before (place_of h) (t ∷ more) ≡ c
-    → earlier t (filter (λ x. is_before (place_of x) (t ∷ more)) (h ∷ hs)) ≡ earlier t (h ∷ hs)
-earlier_more t more h hs old true e true kept =
-    let rest = filter (λ x. is_before (place_of x) (t ∷ more)) hs in
-    ap (λ (b : Bool). earlier t (if b then h ∷ rest else rest)) kept
-    ∙ ap (λ (b : Bool). if b then h ∷ earlier t rest else earlier t rest) e
-    ∙ ap (λ (gs : List Happening). h ∷ gs) old
-    ∙ ap (λ (b : Bool). if b then h ∷ earlier t hs else earlier t hs) (sym e)
-earlier_more t more h hs old true e false kept =
-    absurd (false≢true (sym kept ∙ before_is (place_of h) (t ∷ more) (inl (ltb-true (time_of h) t e))))
-earlier_more t more h hs old false e true kept =
-    let rest = filter (λ x. is_before (place_of x) (t ∷ more)) hs in
-    ap (λ (b : Bool). earlier t (if b then h ∷ rest else rest)) kept
-    ∙ ap (λ (b : Bool). if b then h ∷ earlier t rest else earlier t rest) e
-    ∙ old
-    ∙ ap (λ (b : Bool). if b then h ∷ earlier t hs else earlier t hs) (sym e)
-earlier_more t more h hs old false e false kept =
-    let rest = filter (λ x. is_before (place_of x) (t ∷ more)) hs in
-    ap (λ (b : Bool). earlier t (if b then h ∷ rest else rest)) kept
-    ∙ old
-    ∙ ap (λ (b : Bool). if b then h ∷ earlier t hs else earlier t hs) (sym e)
-
-earlier_before : (hs : List Happening) (t : ℕ) (more : List ℕ) → earlier t (filter (λ h. is_before (place_of h) (t ∷ more)) hs) ≡ earlier t hs
-earlier_before [] t more = refl
-earlier_before (h ∷ hs) t more =
-    earlier_more t more h hs (earlier_before hs t more) (nat_lt (time_of h) t) refl (is_before (place_of h) (t ∷ more)) refl
-
-state_by : (s : Scenario) (gs hs : List Happening) (device : DeviceId) (t : ℕ) → earlier t gs ≡ earlier t hs
-    → state_before s gs device t ≡ state_before s hs device t
-state_by s gs hs device t same = ap (λ (es : List Happening). if is_turned_on_at s device t then Integrating else state_after s es device) same
-
-pub joins_looking : (s : Scenario) (ps : List Happening) (time : Units) (device : DeviceId) (body : NoteBody) → is_joined_by device body ≡ true
-    → IsCaused s ps time body → state_before s ps device (amount time) ≡ Integrating
-joins_looking s ps time device (notes.Permanent other link cause point Integrates) joined caused =
-    let same : other ≡ device = ap (λ (n : ℕ). let d : DeviceId = record { 0 = n } in d) (sym (eqb-true device.0 other.0 joined)) in
-    let t = amount time in
-    let judged = before_permanence ps other t link cause caused.frame point in
-    let looks = looking s.network other (state_at_hearing s judged other t) _ _ caused.frame point.0 caused.becomes in
-    let before = before_hearing (has_joined_at judged other t) (state_before s judged other t) looks in
-    let there = sym (state_by s judged ps other t (earlier_before ps t (3 ∷ key caused.frame.members.0 (notes.Permanent other link cause point Ignored))))
-    ∙ before in
-    subst (λ (d : DeviceId). state_before s ps d t ≡ Integrating) same there
-joins_looking s ps time device (notes.Compressed other opened at cycle members Integrates) joined caused =
-    let same : other ≡ device = ap (λ (n : ℕ). let d : DeviceId = record { 0 = n } in d) (sym (eqb-true device.0 other.0 joined)) in
-    let t = amount time in
-    let looks = looking_ripe (plan_of s.network other) (observation_window s.network) (state_at_hearing s ps other t) _ at.0 cycle members
-    (ap ripe_as caused.heard) in
-    subst (λ (d : DeviceId). state_before s ps d t ≡ Integrating) same
-    (before_hearing (has_joined_at ps other t) (state_before s ps other t) looks)
-joins_looking s ps time device other joined caused = absurd cc
+use Rattle.run_law.proofs.control.Joined.{state_by}
+use Rattle.audit_law.proofs.Determined.{joins_looking}
 
 -- ---- the records of a lower rank than corrections
 

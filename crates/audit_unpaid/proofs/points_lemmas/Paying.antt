@@ -16,15 +16,7 @@ sent_at u m n t c d (notes.Sent other cycle) e =
     let same : other.0 ≡ d.0 = cc in
     let cycles : cycle ≡ c = cc in
     (time, ap (λ (x : DeviceId). notes.Sent x cycle) (same_device other d same) ∙ ap (λ (k : ℕ). notes.Sent d k) cycles)
-sent_at u m n t c d (notes.Corrected device cycle by adjustment) e = absurd cc
-sent_at u m n t c d (notes.State device state cause why) e = absurd cc
-sent_at u m n t c d (notes.Left device link cause clock) e = absurd cc
-sent_at u m n t c d (notes.Lost device link cause) e = absurd cc
-sent_at u m n t c d (notes.TtSent device link cause vl cycle) e = absurd cc
-sent_at u m n t c d (notes.Accepted device link cause vl cycle) e = absurd cc
-sent_at u m n t c d (notes.Delivered device link cause vl cycle) e = absurd cc
-sent_at u m n t c d (notes.Dropped device link cause reason) e = absurd cc
-sent_at u m n t c d (notes.Clock device reading adjustment state) e = absurd cc
+sent_at u m n t c d other e = absurd cc
 
 pub sent_there : (s : Scenario) (hs : List Happening) (d : DeviceId) (t c : ℕ) (place : List ℕ) → place ≡ place_at t 0 (notes.Sent d c)
     → HasRecordAt hs place → IsSent s hs d t c

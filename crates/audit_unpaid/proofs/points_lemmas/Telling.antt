@@ -35,14 +35,7 @@ correction_at u m t d (notes.Corrected other cycle by adjustment) e =
     let time : u ≡ t = cc in
     let same : other.0 ≡ d.0 = cc in
     (time, same_device other d same)
-correction_at u m t d (notes.State device state cause why) e = absurd cc
-correction_at u m t d (notes.Left device link cause clock) e = absurd cc
-correction_at u m t d (notes.Lost device link cause) e = absurd cc
-correction_at u m t d (notes.TtSent device link cause vl cycle) e = absurd cc
-correction_at u m t d (notes.Accepted device link cause vl cycle) e = absurd cc
-correction_at u m t d (notes.Delivered device link cause vl cycle) e = absurd cc
-correction_at u m t d (notes.Dropped device link cause reason) e = absurd cc
-correction_at u m t d (notes.Clock device reading adjustment state) e = absurd cc
+correction_at u m t d other e = absurd cc
 
 by_why : (d other : DeviceId) (state : State) (cause : ℕ) (why : Why) → other ≡ d → (why ≡ whys.SyncClique) ⊎ (why ≡ whys.AsyncClique)
     → IsPointOf d (notes.State other state cause why)
@@ -63,13 +56,7 @@ clique_at s ps time u m t d (notes.State other state cause why) c e =
     let same : other.0 ≡ d.0 = cc in
     let none : cause ≡ 0 = cc in
     (at, by_why d other state cause why (same_device other d same) (without_cause s ps other _ cause state why none c))
-clique_at s ps time u m t d (notes.Left device link cause clock) c e = absurd cc
-clique_at s ps time u m t d (notes.Lost device link cause) c e = absurd cc
-clique_at s ps time u m t d (notes.TtSent device link cause vl cycle) c e = absurd cc
-clique_at s ps time u m t d (notes.Accepted device link cause vl cycle) c e = absurd cc
-clique_at s ps time u m t d (notes.Delivered device link cause vl cycle) c e = absurd cc
-clique_at s ps time u m t d (notes.Dropped device link cause reason) c e = absurd cc
-clique_at s ps time u m t d (notes.Clock device reading adjustment state) c e = absurd cc
+clique_at s ps time u m t d other c e = absurd cc
 
 pub corrected_there : (s : Scenario) (hs : List Happening) (d : DeviceId) (t c : ℕ) (place : List ℕ) → place ≡ t ∷ 6 ∷ d.0 ∷ []
     → HasRecordAt hs place → IsTold s hs d t c

@@ -1,7 +1,7 @@
 -- What compression masters owe, and the records that say that it was sent.
 use Rattle.std.specs.Prelude.{◌<ℤ◌, ◌<◌, ◌^◌, ◌≡◌, ◌≤ℤ◌, ◌≤◌, List, Some, neg_ℤ, pos, slice_get, ℕ, ℤ}
 use Rattle.audit_devices.specs.collections.Kept.{History, as_emitted, emissions_in}
-use Rattle.audit_devices.specs.{declared.collections.emitted.Emitted.Emitted}
+use Rattle.audit_devices.specs.{Keeping.time_at, declared.collections.emitted.Emitted.Emitted}
 use Rattle.audit_law.specs.{Debts.IsPaid, Emitted.{before_place, emission_place}, Owed.Pays}
 use Rattle.audit_devices.specs.declared.stretches.kept.Entry.{Entry}
 use Rattle.compression.specs.declared.compressed.Compressed.{Compressed}
@@ -43,7 +43,7 @@ pub record OwesBehind (s : Scenario) (hs : List Happening) (until : ℕ) (device
   pub place : ℕ
   pub behind : from ≤ place
   pub there : slice_get (emissions_in collections e.gathering) place ≡ Some (as_emitted sent)
-  pub begun : e.mark.time ≤ time
+  pub begun : time_at e.place ≤ time
 
 -- and this is of one of the first entries, so many of them
 pub record OwesWithin (s : Scenario) (hs : List Happening) (until : ℕ) (device : DeviceId) (collections : History)

@@ -14,8 +14,8 @@ use crate::dispatches::debtor::Frame;
 use audit_devices::clocks::{Crossed, Moment, is_up};
 use audit_devices::{Shown, Taking};
 use audit_records::dispatches::{At, LeavingRow, is_at_hand, is_cut};
-use audit_records::places::Place;
 use net_plan::LinkId;
+use plain_notes::Place;
 
 impl RowDebtor<'_> {
     // Is the row's device synchronised and correct where its clock comes to this one of the values at which the row's

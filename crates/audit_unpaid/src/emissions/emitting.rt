@@ -1,6 +1,6 @@
 ghost use Rattle.std.specs.Prelude.{◌<◌, ◌↔◌, ◌≡◌, IsTrue, List, false, pos, true};
 ghost use Rattle.audit_devices.specs.events.{Readings.scenario_under, Remembering.Remembers};
-ghost use Rattle.audit_law.specs.DueRecords.{IsDue};
+ghost use Rattle.audit_law.specs.{DueRecords.IsDue, Emitted.emission_place};
 ghost use Rattle.audit_records.specs.places.Placing.{ArePlacesOf};
 ghost use Rattle.audit_devices.specs.stretches.Standing.{Stands, device_count};
 ghost use Rattle.drift_clock.specs.Reach.{IsReach};
@@ -10,12 +10,12 @@ ghost use Rattle.run_law.specs.scenario.{Devices.is_cm, Scenarios.Scenario};
 ghost use Rattle.audit_unpaid.specs.emissions.Emissions.{IsShort, IsTold, Owes, sent_of};
 ghost use Rattle.audit_unpaid.specs.emissions.Kept.{IsKept, IsKeptOfMaster};
 
-use audit_devices::Mark;
 use audit_devices::collections::Emitted;
 use audit_devices::events::EventHistory;
 use audit_devices::stretches::StretchHistory;
-use audit_records::places::{Place, Places};
+use audit_records::places::Places;
 use net_plan::DeviceId;
+use plain_notes::Place;
 use tte_units::Units;
 
 /// Does the compression master send this at the time at which its clock first reaches the reading, and says no record
@@ -60,10 +60,7 @@ fn is_told(places: &Places, device: DeviceId, emitted: &Emitted, time: u64) -> b
         → IsReach (s.reading device) (pos 0) emitted.now.at (pos time)
         → IsTrue result ↔ IsTold s hs device (sent_of emitted.now) }
 {
-    let opened = Units(emitted.opened);
-    let at = reading_of(emitted.at);
-    let place = Place::of_emission(time, device, opened, at, emitted.cycle, emitted.members);
-    places.has(&place)
+    places.has(&place_of(device, emitted, time))
 }
 
 /// Does the compression master send this at the time at which its clock first reaches the reading?
@@ -86,10 +83,18 @@ fn is_owed(
     if events.is_broken(device, time) {
         return false;
     }
+    let place = place_of(device, emitted, time);
+    stretches.before(device, &place).emits(emitted)
+}
+
+/// The place of the record that the device sends this at the time.
+fn place_of(device: DeviceId, emitted: &Emitted, time: u64) -> Place
+    requires { IsShort emitted.now.at }
+    ensures { result ≡ emission_place time device (sent_of emitted.now) }
+{
     let opened = Units(emitted.opened);
     let at = reading_of(emitted.at);
-    let mark = Mark::of_emission(time, opened, at, emitted.cycle, emitted.members);
-    stretches.before(device, &mark).emits(emitted)
+    Place::of_emission(time, device, opened, at, emitted.cycle, emitted.members)
 }
 
 /// The reading as units.

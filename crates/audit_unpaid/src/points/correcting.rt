@@ -17,12 +17,10 @@ use crate::points::first::{earlier, end_of};
 use audit_devices::clocks::{Moment, Point, Series, coming_point, next_crossing};
 use audit_devices::events::EventHistory;
 use audit_devices::{Shown, Standings};
-use audit_records::places::{Place, Places};
+use audit_records::places::Places;
 use device_rules::{PointVerdict, correction_value};
 use net_plan::{DeviceId, Network};
-
-/// The rank of corrections: what is heard up to a correction point has a lower one.
-const CORRECTED: u8 = 6;
+use plain_notes::{Place, Rank};
 
 /// The first time up to `until` at which a device of the network has a correction point, not only to clear, and no
 /// record tells what it came to. `until` is at most 2^60; the records are founded, and of devices of the network.
@@ -172,7 +170,7 @@ fn is_untold(
 {
     let moment = Moment::of(events, device, time);
     let heard = standings
-        .before_rank(device, time, CORRECTED)
+        .before_rank(device, time, Rank::Corrected)
         .heard_since(network, moment.readings.before);
     if is_owed(coming_point(network, device, shown, moment, &heard)) {
         !is_told(places, device, time)

@@ -15,8 +15,9 @@ use crate::points::first::{earlier, end_of};
 use audit_devices::clocks::{Crossed, Moment, beginnings, is_master, is_up, next_crossing};
 use audit_devices::events::{EventHistory, reading_law};
 use audit_devices::{Shown, Standings};
-use audit_records::places::{Place, Places};
+use audit_records::places::Places;
 use net_plan::{DeviceId, Network};
+use plain_notes::Place;
 use sync_state::State;
 
 /// The first time up to `until` at which a master sends and no record says so. `until` is at most 2^60.

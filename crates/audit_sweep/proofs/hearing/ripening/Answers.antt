@@ -1,9 +1,10 @@
-use Rattle.audit_sweep.proofs.Words.{◌≡◌, DeviceId, Network, arith, key, points_of, refl, scenario_under, subst, sym, true}
+use Rattle.audit_sweep.proofs.Words.{DeviceId, Network, arith, key, points_of, refl, scenario_under, subst, sym, true, ◌∷◌, ◌≡◌}
 use Rattle.audit_devices.specs.stretches.Points.{HasPoints}
 use Rattle.run_law.specs.{control.Permanence.{IsJudgedBy, before_permanence}, declared.judgement.Judgement.TheVariants.Ignored}
 use Rattle.run_law.specs.{declared.note.NoteBody.TheVariants.Permanent, scenario.Devices.is_cm}
-use Rattle.audit_sweep.proofs.HeardBefore.{earlier_before, heard_before}
+use Rattle.audit_sweep.proofs.HeardBefore.{heard_before}
 use Rattle.audit_sweep.proofs.hearing.ripening.Goals as goal
+use Rattle.run_law.proofs.control.Joined.{earlier_before}
 
 pub returns : goal.returns
 returns c befallen hs k =
@@ -12,7 +13,7 @@ returns c befallen hs k =
     let f = c.args.permanent.now in
     let judged = before_permanence hs p.device p.time p.link p.cause f.frame f.point in
     let rest = key f.frame.members.0 (Permanent p.device p.link p.cause f.point Ignored) in
-    let hearer = c.hearer.ensures.is befallen hs judged k (heard_before p.time 3 rest hs (omega arith)) (earlier_before p.time 3 rest hs)
+    let hearer = c.hearer.ensures.is befallen hs judged k (heard_before p.time 3 rest hs (omega arith)) (earlier_before hs p.time (3 ∷ rest))
     (c.before_permanence-shown.ensures s hs Ignored k.standings) in
     let base = c.before_permanence-stretch.ensures c.args.network.now hs k.stretches in
     let stretch = c.before_permanence-stretch.result in

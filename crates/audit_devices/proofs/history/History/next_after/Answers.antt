@@ -1,5 +1,5 @@
 use Rattle.audit_devices.proofs.Words.{◌∙◌, ◌≡◌, ◌≤◌, Bool, Entry, IsPartitionPoint, IsPartitionedBy, List, None, Some, always_returns_same, ap, arith, false}
-use Rattle.audit_devices.proofs.Words.{got_at, got_within, length, nat_lt, of_calls, rules, slice_get, subst, sym, true, ℕ}
+use Rattle.audit_devices.proofs.Words.{got_at, got_within, length, nat_lt, of_calls, rules, slice_get, subst, sym, time_at, true, ℕ}
 use Rattle.std.{proofs.lemmas.Bool.ltb-true, specs.Prelude.nat_le}
 use Rattle.audit_devices.proofs.Lasting.{lasting, later_at, ordered_by}
 use Rattle.audit_devices.proofs.history.History.next_after.Goals as goal
@@ -9,7 +9,7 @@ returns-in-Some-clause-later c order =
     let items = c.args.self.now.entries.items in
     let point = c.partition_point-point.result in
     let time = c.args.time in
-    let test : Entry → Bool = λ e. nat_le e.mark.time time in
+    let test : Entry → Bool = λ e. nat_le (time_at e.place) time in
     let parts : IsPartitionPoint (λ e. test e ≡ true) (λ e. test e ≡ false) items point =
     subst (λ (xs : List Entry). IsPartitionPoint (λ e. test e ≡ true) (λ e. test e ≡ false) xs point) c.deref.ensures.value
     (c.partition_point-point.ensures.partitioned test (always_returns_same _ _ _ (λ a r f k. search (rules, of_calls)))
@@ -26,7 +26,7 @@ returns-in-Some-clause-lasts c order t lt le =
     let items = c.args.self.now.entries.items in
     let point = c.partition_point-point.result in
     let time = c.args.time in
-    let test : Entry → Bool = λ e. nat_le e.mark.time time in
+    let test : Entry → Bool = λ e. nat_le (time_at e.place) time in
     let bound : point ≤ length items = subst (λ (xs : List Entry). point ≤ length xs) c.deref.ensures.value c.partition_point-point.ensures.bound in
     let parts : IsPartitionPoint (λ e. test e ≡ true) (λ e. test e ≡ false) items point =
     subst (λ (xs : List Entry). IsPartitionPoint (λ e. test e ≡ true) (λ e. test e ≡ false) xs point) c.deref.ensures.value
@@ -40,7 +40,7 @@ returns-in-Some-clause-lasts c order t lt le =
     (λ u e up is.
     let same : Some e ≡ Some c.in-Some.entry.now = sym is ∙ found in
     let one : e ≡ c.in-Some.entry.now = cc in
-    let times = ap (λ (x : Entry). x.mark.time) one in
+    let times = ap (λ (x : Entry). time_at x.place) one in
     omega (arith, up, times, c.time.ensures))
     (λ e is. later_at items time point e parts is) t lt le
 
@@ -49,7 +49,7 @@ returns-in-None-clause-lasts c order t lt le =
     let items = c.args.self.now.entries.items in
     let point = c.partition_point-point.result in
     let time = c.args.time in
-    let test : Entry → Bool = λ e. nat_le e.mark.time time in
+    let test : Entry → Bool = λ e. nat_le (time_at e.place) time in
     let bound : point ≤ length items = subst (λ (xs : List Entry). point ≤ length xs) c.deref.ensures.value c.partition_point-point.ensures.bound in
     let parts : IsPartitionPoint (λ e. test e ≡ true) (λ e. test e ≡ false) items point =
     subst (λ (xs : List Entry). IsPartitionPoint (λ e. test e ≡ true) (λ e. test e ≡ false) xs point) c.deref.ensures.value

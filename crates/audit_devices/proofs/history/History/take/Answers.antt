@@ -1,26 +1,26 @@
-use Rattle.audit_devices.proofs.Words.{if◌then◌else◌, ◌++◌, ◌∙◌, ◌∷◌, ◌≡◌, Bool, Carried, Entry, Keeps, Mark, Network, Nothing, Shows, [], ap, carried_by}
-use Rattle.audit_devices.proofs.Words.{effect_by, effect_of, subst, sym}
-use Rattle.audit_devices.proofs.{Kept.{kept_on, kept_still, none_later}, KeptAll.{mark_met, on_ok}}
+use Rattle.audit_devices.proofs.Words.{if◌then◌else◌, ◌++◌, ◌∙◌, ◌∷◌, ◌≡◌, Bool, Carried, Entry, Keeps, List, Network, Nothing, Shows, [], ap, carried_by}
+use Rattle.audit_devices.proofs.Words.{effect_by, effect_of, subst, sym, ℕ}
+use Rattle.audit_devices.proofs.{Kept.{kept_on, kept_still, none_later}, KeptAll.{on_ok, place_met}}
 use Rattle.audit_devices.proofs.history.History.take.Goals as goal
 
 pub returns : goal.returns
-returns c s hs h is met of all keeps =
+returns c s hs h is met all keeps =
     let device = c.args.device in
     let old = c.args.self.now in
     let new = c.push.new.self in
     let shown = c.after-shown.result in
-    let entry : Mark → Entry = λ m. record { mark = m; shown = shown } in
+    let entry : List ℕ → Entry = λ p. record { place = p; shown = shown } in
     let shows = c.after-shown.ensures s hs h is met (none_later hs h all) (subst (Shows s hs device) (sym c.latest.ensures) keeps.latest) in
-    let mark = c.of.ensures ∙ mark_met s device h c.args.time c.args.body.now c.args.carried c.args.readings met in
+    let place = c.of.ensures ∙ place_met s device h c.args.time c.args.body.now c.args.carried c.args.readings met in
     on_ok c.push.result (Keeps s (hs ++ h ∷ []) device new)
     (λ ok.
     let items = c.push.ensures.entries
     ∙ ap (λ (b : Bool). if b then old.entries.items ++ entry c.of.result ∷ [] else old.entries.items) ok
-    ∙ ap (λ (m : Mark). old.entries.items ++ entry m ∷ []) mark in
-    kept_on s hs device h old new shown all of c.push.ensures.first items shows keeps)
+    ∙ ap (λ (p : List ℕ). old.entries.items ++ entry p ∷ []) place in
+    kept_on s hs device h old new shown all c.push.ensures.first items shows keeps)
 
 pub returns-then-shows_nothing : goal.returns-then-shows_nothing
-returns-then-shows_nothing c s hs h is met of all keeps =
+returns-then-shows_nothing c s hs h is met all keeps =
     let device = c.args.device in
     let network = c.args.network.now in
     let carried = c.args.carried in

@@ -1,5 +1,5 @@
-use Rattle.audit_devices.proofs.Words.{◌∙◌, ◌∷◌, Happening, List, Mark, Shows, [], ap, got_at, records_before, subst, sym}
-use Rattle.audit_devices.{proofs.{KeptAll.earlier_are, MarkOrder.time_mark}, specs.{Keeping.shown_before, Lasting.mark_of_time}}
+use Rattle.audit_devices.proofs.Words.{◌∙◌, ◌∷◌, Happening, List, Shows, [], ap, got_at, records_before, subst, sym, ℕ}
+use Rattle.audit_devices.{proofs.KeptAll.earlier_are, specs.Keeping.shown_before}
 use Rattle.audit_devices.proofs.standings.Standings.after_time.Goals as goal
 
 pub returns-clause-later : goal.returns-clause-later
@@ -15,7 +15,7 @@ returns-clause-shows c s hs stands t lt le =
     let history = c.index-history.result.now in
     let keeps = stands device history (got_at c.args.self.now.histories.items device.0 history c.requires.device c.index-history.ensures) in
     let shown = c.before-2.ensures keeps.order
-    ∙ ap (λ (m : Mark). shown_before m history) c.at_time.ensures.value
+    ∙ ap (λ (p : List ℕ). shown_before p history) c.of_time.ensures
     ∙ sym (c.next_after.ensures.lasts keeps.order t lt le) in
     subst (λ (xs : List Happening). Shows s xs device c.before-2.result.now) (earlier_are t hs)
-    (subst (Shows s (records_before (t ∷ []) hs) device) (sym shown) (keeps.before (t ∷ []) (mark_of_time t) (time_mark device t)))
+    (subst (Shows s (records_before (t ∷ []) hs) device) (sym shown) (keeps.before (t ∷ [])))

@@ -1,6 +1,6 @@
-use Rattle.audit_devices.proofs.Words.{◌∷◌, []}
+use Rattle.audit_devices.proofs.Words.{List, Shows, records_before, subst, ℕ}
 use Rattle.audit_devices.proofs.standings.Standings.before_rank.Goals as goal
 
 pub returns : goal.returns
 returns c s hs stands =
-    c.before-2.ensures s hs (c.args.time ∷ c.args.rank ∷ []) stands (c.at_rank.ensures.place c.args.device)
+    subst (λ (p : List ℕ). Shows s (records_before p hs) c.args.device c.before-2.result.now) c.of_rank.ensures (c.before-2.ensures s hs stands)

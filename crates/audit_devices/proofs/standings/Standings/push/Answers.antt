@@ -1,5 +1,5 @@
 use Rattle.audit_devices.proofs.Words.{◌++◌, ◌<◌, ◌∙◌, ◌∷◌, ◌≡◌, DeviceId, Keeps, Some, [], ap, arith, got_at, length, rules, slice_set, subject_of, sym}
-use Rattle.audit_devices.{proofs.{Kept.of_subject, KeptAll.{all_on, all_still, also_on_ok}}, specs.Keeping.KeepsAll}
+use Rattle.audit_devices.{proofs.KeptAll.{all_on, all_still, also_on_ok}, specs.Keeping.KeepsAll}
 use Rattle.audit_devices.proofs.standings.Standings.push.Goals as goal
 
 pub returns-in_default-clause-stands : goal.returns-in_default-clause-stands
@@ -29,4 +29,4 @@ returns-clause-stands c s hs h is seen all stands =
     let keeps = stands here c.index_mut.result.now (got_at items here.0 c.index_mut.result.now within c.index_mut.ensures.value) in
     also_on_ok c.take.result (Keeps s (hs ++ h ∷ []) here new) (KeepsAll s (hs ++ h ∷ []) (slice_set items here.0 new))
     (λ kept. all_on s hs h here new items subject within kept stands)
-    (c.take.ensures s hs h is (seen.met here (sym c.in-Some.ensures)) (of_subject h.note.body here subject) all keeps)
+    (c.take.ensures s hs h is (seen.met here (sym c.in-Some.ensures)) all keeps)

@@ -1,7 +1,8 @@
 use Rattle.std.{proofs.Common.{◌^◌, ◌≤◌, arith, refl, subst, sym}, specs.List.All}
-use Rattle.audit_devices.{proofs.events_lemmas.{Adding.nothing_set, Befalling.{slow_what, soon}, Looking.devices_ready}, specs.events.Beginnings.IsReadyFor}
+use Rattle.audit_devices.{proofs.events_lemmas.{Adding.nothing_set, Befalling.soon, Looking.devices_ready}, specs.events.Beginnings.IsReadyFor}
 use Rattle.net_plan.specs.declared.event.What.TheVariants as events
 use Rattle.audit_devices.proofs.events.history.EventHistory.keep.Goals as goal
+use Rattle.run_law.proofs.scenario.Rated.{slow_what}
 
 pub set_rate-requires-clause-slow : goal.set_rate-requires-clause-slow
 set_rate-requires-clause-slow c =

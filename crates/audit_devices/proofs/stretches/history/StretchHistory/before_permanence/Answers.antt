@@ -1,7 +1,10 @@
-use Rattle.run_law.specs.{declared.{judgement.Judgement.TheVariants.Ignored, note.NoteBody.TheVariants.Permanent}, records.Ranks.place_at}
+use Rattle.std.proofs.Common.{List, subst, ℕ}
+use Rattle.run_law.specs.{control.Collections.points_of, declared.judgement.Judgement.TheVariants.Ignored}
+use Rattle.audit_devices.specs.{Keeping.records_before, stretches.Points.HasPoints}
 use Rattle.audit_devices.proofs.stretches.history.StretchHistory.before_permanence.Goals as goal
 
 pub returns : goal.returns
 returns c network hs stands cm =
-    let place = place_at c.args.time c.args.frame.now.members.0 (Permanent c.args.device c.args.link c.args.cause c.args.point Ignored) in
-    c.before-2.ensures network hs place stands cm (c.of_permanence.ensures.place c.args.device Ignored)
+    subst (λ (p : List ℕ).
+    HasPoints network (points_of (records_before p hs) c.args.device) c.before-2.result.collections.now c.before-2.result.gathering)
+    (c.of_permanence.ensures Ignored) (c.before-2.ensures network hs stands cm)

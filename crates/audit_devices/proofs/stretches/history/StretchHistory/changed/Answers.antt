@@ -1,6 +1,6 @@
 use Rattle.std.proofs.Common.{◌<◌, ◌∙◌, ◌≡◌, Some, ap, arith, length, slice_get, sym}
 use Rattle.tte_lemmas.proofs.Lists.{got_at}
-use Rattle.audit_devices.specs.{stretches.Keeping.Stretches, declared.stretches.kept.Entry.Entry}
+use Rattle.audit_devices.specs.{Keeping.time_at, stretches.Keeping.Stretches, declared.stretches.kept.Entry.Entry}
 use Rattle.audit_devices.proofs.stretches.history.StretchHistory.changed.Goals as goal
 
 pub index-entry-requires : goal.index-entry-requires
@@ -23,7 +23,7 @@ returns c kept e is there =
     let entry : c.index-entry.result.now ≡ e =
     some_is c.index-entry.result.now e (sym found ∙ ap (λ (k : Stretches). slice_get k.entries c.args.place) whole ∙ there) in
     record {
-      time_is = c.time.ensures ∙ ap (λ (x : Entry). x.mark.time) entry;
+      time_is = c.time.ensures ∙ ap (λ (x : Entry). time_at x.place) entry;
       collections_are = ap (λ (k : Stretches). k.collections) whole;
       gathering_is = ap (λ (x : Entry). x.gathering) entry;
     }

@@ -1,7 +1,7 @@
 use Rattle.std.{proofs.Common.{◌++◌, ◌<◌, ◌∙◌, ◌∷◌, ◌≡◌, Some, [], ap, arith, false, length, rules, sym, true}, specs.Prelude.slice_set}
-use Rattle.audit_devices.{proofs.KeptAll.also_on_ok, specs.{Effects.carried_by, Marks.mark_at, declared.effect.Carried.Carried}}
+use Rattle.audit_devices.{proofs.KeptAll.also_on_ok, specs.{Effects.carried_by, declared.effect.Carried.Carried}}
 use Rattle.net_plan.specs.declared.ids.DeviceId.{DeviceId}
-use Rattle.run_law.specs.{records.Happenings.time_of, scenario.Devices.is_cm}
+use Rattle.run_law.specs.{records.{Happenings.time_of, Ranks.place_at}, scenario.Devices.is_cm}
 use Rattle.tte_lemmas.proofs.Lists.{got_at}
 use Rattle.audit_devices.proofs.stretches_lemmas.Keeping.{all_on, all_still, may_bring}
 use Rattle.audit_devices.proofs.stretches.history.StretchHistory.push.Goals.{then-index-len-via-else-index-len+then-not-is_cm}
@@ -44,9 +44,9 @@ returns-clause-stands c hs h is all may stands =
     let changes : change_by h.note.body ≡ Some change = ap change_by is.body_is ∙ sym c.change_by.ensures ∙ c.in-Some.is in
     let cm : is_cm network here ≡ true = sym c.if-not-is_cm.ensures in
     let keeps = stands here c.index_mut.result.now (got_at items here.0 c.index_mut.result.now within c.index_mut.ensures.value) cm in
-    let mark = c.of.ensures ∙ ap (λ n. mark_at n c.args.carried.members.0 c.args.body.now) is.time
-    ∙ ap (λ (x : Carried). mark_at (time_of h) x.members.0 c.args.body.now) is.frame
-    ∙ ap (λ b. mark_at (time_of h) (carried_by h).members.0 b) (sym is.body_is) in
+    let place = c.of.ensures ∙ ap (λ n. place_at n c.args.carried.members.0 c.args.body.now) is.time
+    ∙ ap (λ (x : Carried). place_at (time_of h) x.members.0 c.args.body.now) is.frame
+    ∙ ap (λ b. place_at (time_of h) (carried_by h).members.0 b) (sym is.body_is) in
     also_on_ok c.take.result (Keeps network (hs ++ h ∷ []) here new) (KeepsAll network (hs ++ h ∷ []) (slice_set items here.0 new))
     (λ kept. all_on network hs h here new items of within kept stands)
-    (c.take.ensures network hs h here of changes mark is.frame all (may_bring hs h here change changes (may here of cm)) keeps)
+    (c.take.ensures network hs h here of changes place is.frame all (may_bring hs h here change changes (may here of cm)) keeps)

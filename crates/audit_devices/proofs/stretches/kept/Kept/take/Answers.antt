@@ -1,14 +1,13 @@
-use Rattle.std.proofs.Common.{◌++◌, ◌∙◌, ◌∷◌, ◌≡◌, List, [], ap, refl, subst, sym}
+use Rattle.std.proofs.Common.{◌++◌, ◌∙◌, ◌∷◌, ◌≡◌, List, [], ap, refl, subst, sym, ℕ}
 use Rattle.audit_devices.specs.collections.{Gathered.Gathers, Kept.History}
-use Rattle.audit_devices.specs.declared.mark.Mark.{Mark}
 use Rattle.run_law.specs.control.Collections.{points_of}
-use Rattle.audit_devices.proofs.stretches_lemmas.{Keeping.{GoesOn, kept_on, points_then}, Turning.of_collector}
+use Rattle.audit_devices.proofs.stretches_lemmas.Keeping.{GoesOn, kept_on, points_then}
 use Rattle.audit_devices.specs.stretches.{Keeping.Stretches, Points.points_with}
 use Rattle.audit_devices.specs.declared.stretches.kept.Entry.{Entry}
 use Rattle.audit_devices.proofs.stretches.kept.Kept.take.Goals as goal
 
 pub returns : goal.returns
-returns c network hs h device of is mark_is carried_is all may keeps =
+returns c network hs h device of is place_is carried_is all may keeps =
     let old = c.args.self.now in
     let middle : Stretches = c.next.new.self in
     let g = c.in_ok-gathering.gathering in
@@ -18,7 +17,7 @@ returns c network hs h device of is mark_is carried_is all may keeps =
     let were : c.self.inside.entries.items ≡ middle.entries = ap (λ (k : Stretches). k.entries) c.self.view_is in
     let points : points_of (hs ++ h ∷ []) device ≡ points_with (points_of hs device) c.args.change c.args.carried =
     points_then hs h device c.args.change is of ∙ ap (points_with (points_of hs device) c.args.change) (sym carried_is) in
-    let entry : Mark → Entry = λ m. record { mark = m; gathering = g } in
+    let entry : List ℕ → Entry = λ p. record { place = p; gathering = g } in
     let goes : GoesOn hs device h old new g = record {
       ow = ap (λ (x : History). x.ow) same ∙ told.same.0;
       calc = ap (λ (x : History). x.calc) same ∙ told.same.1;
@@ -26,7 +25,7 @@ returns c network hs h device of is mark_is carried_is all may keeps =
       gathers = subst (λ (x : History). Gathers x g (points_of (hs ++ h ∷ []) device)) (sym same)
           (subst (Gathers middle.collections g) (sym points) (told.gathers (points_of hs device) keeps.latest may));
       kept = λ other ps was. subst (λ (x : History). Gathers x other ps) (sym same) (told.kept other ps was);
-      entries = c.in_ok-push.ensures.items ∙ ap (λ (xs : List Entry). xs ++ entry c.args.mark ∷ []) (were ∙ told.entries)
-          ∙ ap (λ (m : Mark). old.entries ++ entry m ∷ []) mark_is;
+      entries = c.in_ok-push.ensures.items ∙ ap (λ (xs : List Entry). xs ++ entry c.args.place ∷ []) (were ∙ told.entries)
+          ∙ ap (λ (p : List ℕ). old.entries ++ entry p ∷ []) place_is;
     } in
-    kept_on network hs device h old new g all (of_collector h.note.body device of) goes keeps
+    kept_on network hs device h old new g all goes keeps

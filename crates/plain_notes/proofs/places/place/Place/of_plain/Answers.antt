@@ -1,7 +1,7 @@
 use Rattle.std.proofs.Common.{◌∙◌, ap, rules, ℕ}
 use Rattle.run_law.specs.records.Ranks.{place_at}
 use Rattle.run_law.specs.declared.note.NoteBody.TheVariants as notes
-use Rattle.audit_records.proofs.places.place.Place.of.Goals as goal
+use Rattle.plain_notes.proofs.places.place.Place.of_plain.Goals as goal
 
 pub returns-in-Permanent : goal.returns-in-Permanent
 returns-in-Permanent c = rw c.in-Permanent.is (c.of_permanence.ensures c.in-Permanent.verdict)

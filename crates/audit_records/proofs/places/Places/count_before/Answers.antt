@@ -1,8 +1,8 @@
 use Rattle.std.proofs.{Common.{◌∙◌, ◌≡◌, List, false, of_calls, rules, subst, sym, true, ℕ}, lemmas.Fn.always_returns_same}
 use Rattle.std.specs.List.Sorted.{IsPartitionPoint, IsPartitionedBy}
 use Rattle.run_law.specs.records.Order.{is_before}
-use Rattle.audit_records.proofs.places_lemmas.Rows.{parted}
-use Rattle.audit_records.proofs.places.places.Places.count_before.Goals as goal
+use Rattle.audit_records.proofs.AscendingPlaces.{parted}
+use Rattle.audit_records.proofs.places.Places.count_before.Goals as goal
 
 pub returns-clause-part : goal.returns-clause-part
 returns-clause-part c order =

@@ -1,7 +1,7 @@
 use Rattle.std.proofs.Common.{◌∙◌, List, ap, refl, sym, take, ℕ}
 use Rattle.run_law.specs.records.Order.{is_before}
-use Rattle.audit_records.{proofs.places_lemmas.Padded.padded, specs.places.Placing.numbers_of}
-use Rattle.audit_records.proofs.places.place.Place.is_before.Goals as goal
+use Rattle.plain_notes.{proofs.Padded.padded, specs.Places.numbers_of}
+use Rattle.plain_notes.proofs.places.place.Place.is_before.Goals as goal
 
 pub returns : goal.returns
 returns c =

@@ -1,12 +1,16 @@
-ghost use Rattle.std.specs.Prelude.{◌↔◌, ◌∷◌, ◌≡◌, IsTrue, [], ℕ};
+ghost use Rattle.std.specs.Prelude.{◌↔◌, ◌∷◌, ◌≡◌, IsTrue, [], get_or, ℕ};
 ghost use Rattle.pcf_values.specs.declared.members.Members.{Members as MembersValue};
 ghost use Rattle.run_law.specs.{declared.judgement.{Judgement.Judgement, Why.Why}, records.Order.is_before};
 ghost use Rattle.run_law.specs.records.Ranks.{place_at, sign};
 ghost use Rattle.sync_state.specs.declared.state.State.{State};
 ghost use Rattle.tte_units.specs.declared.units.Units.{Units as UnitsValue};
 ghost use Rattle.run_law.specs.declared.note.NoteBody.TheVariants as notes;
+ghost use Rattle.plain_notes.specs.{Bodies.body_of, Places.number_of};
 
+use crate::apart::Said;
+use crate::bodies::Kind;
 use crate::places::numbers::Numbers;
+use crate::places::rank::Rank;
 use net_plan::{DeviceId, LinkId, VlId};
 use run_law::NoteBody;
 use std::marker::Model;
@@ -20,7 +24,7 @@ pub struct Place {
 
 impl Model for Place {
     ghost use Rattle.std.specs.Prelude.{ℕ, List, take};
-    ghost use Rattle.audit_records.specs.places.Placing.{IsPadded, numbers_of};
+    ghost use Rattle.plain_notes.specs.Places.{IsPadded, numbers_of};
 
     ghost Value = { List ℕ };
 
@@ -40,11 +44,31 @@ impl Place {
     }
 
     /// Before all records of the time and this rank or a higher one.
-    pub fn of_rank(time: u64, rank: u8) -> Place
-        ensures { result ≡ time ∷ rank ∷ [] }
+    pub fn of_rank(time: u64, rank: Rank) -> Place
+        ensures { result ≡ time ∷ number_of rank ∷ [] }
     {
         Place {
-            numbers: Numbers::with(2, time, rank, 0),
+            numbers: Numbers::with(2, time, rank.number(), 0),
+        }
+    }
+
+    /// Before all records of the time and this rank that are of the device or of one behind it.
+    pub fn of_device(time: u64, rank: Rank, device: DeviceId) -> Place
+        ensures { result ≡ time ∷ number_of rank ∷ device.0 ∷ [] }
+    {
+        Place::by_one(time, rank, u64::from(device.0))
+    }
+
+    /// That of the record of this rank that the device, its link and a cause tell apart.
+    pub fn of_cause(time: u64, rank: Rank, device: DeviceId, link: LinkId, cause: u64) -> Place
+        ensures { result ≡ time ∷ number_of rank ∷ device.0 ∷ link.0 ∷ cause ∷ [] }
+    {
+        Place {
+            numbers: Numbers {
+                second: u64::from(link.0),
+                third: cause,
+                ..Numbers::with(5, time, rank.number(), u64::from(device.0))
+            },
         }
     }
 
@@ -52,22 +76,61 @@ impl Place {
     pub fn of(time: u64, members: u32, body: &NoteBody) -> Place
         ensures { result ≡ place_at time members body.now }
     {
-        match body {
-            NoteBody::Event { line, .. } => Place::by_one(time, 1, *line),
-            NoteBody::Arrived {
+        match Said::of(body) {
+            Said::Event { line, .. } => Place::by_one(time, Rank::Event, line),
+            Said::Plain(kind) => Place::of_plain(time, members, &kind),
+        }
+    }
+
+    /// That of a record of the time that says this of no event; `members` are those of its frame, or 0.
+    pub fn of_plain(time: u64, members: u32, kind: &Kind) -> Place
+        ensures { result ≡ place_at time members (body_of kind.now) }
+    {
+        let rank = Rank::of_plain(kind);
+        match kind {
+            Kind::Arrived {
                 device,
                 link,
                 cause,
                 ..
-            } => Place::by_cause(time, 2, *device, *link, *cause),
-            NoteBody::Permanent {
+            }
+            | Kind::Left {
+                device,
+                link,
+                cause,
+                ..
+            }
+            | Kind::Lost {
+                device,
+                link,
+                cause,
+            }
+            | Kind::Accepted {
+                device,
+                link,
+                cause,
+                ..
+            }
+            | Kind::Delivered {
+                device,
+                link,
+                cause,
+                ..
+            }
+            | Kind::Dropped {
+                device,
+                link,
+                cause,
+                ..
+            } => Place::of_cause(time, rank, *device, *link, *cause),
+            Kind::Permanent {
                 device,
                 link,
                 cause,
                 point,
                 ..
             } => { Place::of_permanence(time, *device, *point, members, *link, *cause) }
-            NoteBody::Compressed {
+            Kind::Compressed {
                 device,
                 opened,
                 at,
@@ -75,46 +138,18 @@ impl Place {
                 members,
                 ..
             } => { Place::of_emission(time, *device, *opened, *at, *cycle, u64::from(members.0)) }
-            NoteBody::Sent { device, cycle } => Place::by_two(time, 5, *device, u64::from(*cycle)),
-            NoteBody::Corrected { device, .. } => Place::by_one(time, 6, u64::from(device.0)),
-            NoteBody::State { device, cause, .. } => Place::by_two(time, 7, *device, *cause),
-            NoteBody::Left {
-                device,
-                link,
-                cause,
-                ..
-            } => Place::by_cause(time, 8, *device, *link, *cause),
-            NoteBody::Lost {
-                device,
-                link,
-                cause,
-            } => Place::by_cause(time, 9, *device, *link, *cause),
-            NoteBody::TtSent {
+            Kind::Sent { device, cycle } => Place::by_two(time, rank, *device, u64::from(*cycle)),
+            Kind::State { device, cause, .. } => Place::by_two(time, rank, *device, *cause),
+            Kind::TtSent {
                 device,
                 link,
                 cause,
                 vl,
                 cycle,
             } => { Place::of_dispatch(time, *device, *link, *cause, *vl, u64::from(*cycle)) }
-            NoteBody::Accepted {
-                device,
-                link,
-                cause,
-                ..
-            } => Place::by_cause(time, 11, *device, *link, *cause),
-            NoteBody::Delivered {
-                device,
-                link,
-                cause,
-                ..
-            } => Place::by_cause(time, 12, *device, *link, *cause),
-            NoteBody::Dropped {
-                device,
-                link,
-                cause,
-                ..
-            } => Place::by_cause(time, 13, *device, *link, *cause),
-            NoteBody::Clock { device, .. } => Place::by_one(time, 14, u64::from(device.0)),
+            Kind::Corrected { device, .. } | Kind::Clock { device, .. } => {
+                Place::of_device(time, rank, *device)
+            }
         }
     }
 
@@ -136,7 +171,7 @@ impl Place {
                 third: u64::from(members),
                 fourth: link.0,
                 fifth: cause,
-                ..Numbers::with(7, time, 3, u64::from(device.0))
+                ..Numbers::with(7, time, Rank::Permanent.number(), u64::from(device.0))
             },
         }
     }
@@ -161,7 +196,7 @@ impl Place {
                 fifth: members,
                 sixth: sign(opened),
                 seventh: sign(at),
-                ..Numbers::with(9, time, 4, u64::from(device.0))
+                ..Numbers::with(9, time, Rank::Compressed.number(), u64::from(device.0))
             },
         }
     }
@@ -170,7 +205,7 @@ impl Place {
     pub fn of_sending(time: u64, device: DeviceId, cycle: u64) -> Place
         ensures { (members : ℕ) → result ≡ place_at time members (notes.Sent device cycle) }
     {
-        Place::by_two(time, 5, device, cycle)
+        Place::by_two(time, Rank::Sent, device, cycle)
     }
 
     /// That of the record of a correction of the device's clock.
@@ -178,7 +213,7 @@ impl Place {
         ensures { (members cycle : ℕ) (by adjustment : UnitsValue)
             → result ≡ place_at time members (notes.Corrected device cycle by adjustment) }
     {
-        Place::by_one(time, 6, u64::from(device.0))
+        Place::of_device(time, Rank::Corrected, device)
     }
 
     /// That of the record of a change of the device's state that comes from no record.
@@ -186,14 +221,14 @@ impl Place {
         ensures { (members : ℕ) (state : State) (why : Why)
             → result ≡ place_at time members (notes.State device state 0 why) }
     {
-        Place::by_two(time, 7, device, 0)
+        Place::by_two(time, Rank::State, device, 0)
     }
 
     /// That of the record that a frame is lost on the device's way on the link.
     pub fn of_loss(time: u64, device: DeviceId, link: LinkId, cause: u64) -> Place
         ensures { (members : ℕ) → result ≡ place_at time members (notes.Lost device link cause) }
     {
-        Place::by_cause(time, 9, device, link, cause)
+        Place::of_cause(time, Rank::Lost, device, link, cause)
     }
 
     /// That of the record that the device dispatches a row's frame of the cycle on the link.
@@ -213,40 +248,35 @@ impl Place {
                 third: cause,
                 fourth: vl.0,
                 fifth: cycle,
-                ..Numbers::with(7, time, 10, u64::from(device.0))
+                ..Numbers::with(7, time, Rank::TtSent.number(), u64::from(device.0))
             },
         }
     }
 
-    fn by_cause(time: u64, rank: u8, device: DeviceId, link: LinkId, cause: u64) -> Place
-        ensures { result ≡ time ∷ rank ∷ device.0 ∷ link.0 ∷ cause ∷ [] }
-    {
-        Place {
-            numbers: Numbers {
-                second: u64::from(link.0),
-                third: cause,
-                ..Numbers::with(5, time, rank, u64::from(device.0))
-            },
-        }
-    }
-
-    fn by_two(time: u64, rank: u8, device: DeviceId, second: u64) -> Place
-        ensures { result ≡ time ∷ rank ∷ device.0 ∷ second ∷ [] }
+    fn by_two(time: u64, rank: Rank, device: DeviceId, second: u64) -> Place
+        ensures { result ≡ time ∷ number_of rank ∷ device.0 ∷ second ∷ [] }
     {
         Place {
             numbers: Numbers {
                 second,
-                ..Numbers::with(4, time, rank, u64::from(device.0))
+                ..Numbers::with(4, time, rank.number(), u64::from(device.0))
             },
         }
     }
 
-    fn by_one(time: u64, rank: u8, first: u64) -> Place
-        ensures { result ≡ time ∷ rank ∷ first ∷ [] }
+    fn by_one(time: u64, rank: Rank, first: u64) -> Place
+        ensures { result ≡ time ∷ number_of rank ∷ first ∷ [] }
     {
         Place {
-            numbers: Numbers::with(3, time, rank, first),
+            numbers: Numbers::with(3, time, rank.number(), first),
         }
+    }
+
+    /// The time of the records there.
+    pub fn time(&self) -> u64
+        ensures { result ≡ get_or self.now 0 0 }
+    {
+        self.numbers.time
     }
 
     /// Is it before the other?

@@ -1,6 +1,6 @@
 use Rattle.std.proofs.Common.{◌∙◌, ap, not, sym}
-use Rattle.audit_records.proofs.places_lemmas.Same.{itself, neither, not_true}
-use Rattle.audit_records.proofs.places.place.Place.is_same.Goals as goal
+use Rattle.plain_notes.proofs.Same.{itself, neither, not_true}
+use Rattle.plain_notes.proofs.places.place.Place.is_same.Goals as goal
 
 pub returns-then-not-is_before : goal.returns-then-not-is_before
 returns-then-not-is_before c =

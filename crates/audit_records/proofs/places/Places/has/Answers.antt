@@ -1,8 +1,9 @@
 use Rattle.std.{proofs.{Common.{◌∙◌, ◌≡◌, ◌≤◌, List, Some, ap, arith, length, subst, sym, ℕ}, lemmas.Bool.{ltb-false, ltb-true}}, specs.Prelude.slice_get}
-use Rattle.run_law.{proofs.records.Order.got_in, specs.records.{Order.IsIn, Ranks.place_of}}
+use Rattle.run_law.specs.records.{Order.IsIn, Ranks.place_of}
 use Rattle.tte_lemmas.proofs.Lists.{got_at, got_within}
-use Rattle.audit_records.proofs.places_lemmas.Rows.{found_at, in_map, of_map}
-use Rattle.audit_records.proofs.places.places.Places.has.Goals as goal
+use Rattle.run_law.proofs.law.FirstPlaces.{in_at}
+use Rattle.audit_records.proofs.AscendingPlaces.{found_at, in_map, of_map}
+use Rattle.audit_records.proofs.places.Places.has.Goals as goal
 
 pub returns-in-Some : goal.returns-in-Some
 returns-in-Some c = λ hs are.
@@ -16,7 +17,7 @@ returns-in-Some c = λ hs are.
     ∙ got_at c.deref.result.now k found (ltb-true k (length c.deref.result.now) (sym c.in-Some.ensures.lookup.0)) c.in-Some.ensures.lookup.1 in (
       λ is.
           of_map p hs (subst (λ (xs : List (List ℕ)). IsIn p xs) are.same
-          (subst (λ (q : List ℕ). IsIn q items) (c.is_same.ensures.0 is) (got_in items k found got))),
+          (subst (λ (q : List ℕ). IsIn q items) (c.is_same.ensures.0 is) (in_at items k found got))),
       λ has.
           let there : IsIn p items =
           subst (λ (q : List ℕ). IsIn q items) has.2 (subst (λ (xs : List (List ℕ)). IsIn (place_of has.0) xs) (sym are.same) (in_map has.0 hs has.1)) in

@@ -1,8 +1,8 @@
 -- Lists of numbers with zeros behind them compare as the lists do.
-use Rattle.std.proofs.Common.{◌∙◌, ◌∷◌, ◌≡◌, ◌≤◌, Bool, List, [], ap, arith, false, length, refl, suc, sym, take, true, zero, ℕ}
+use Rattle.std.proofs.Common.{◌∙◌, ◌∷◌, ◌≡◌, ◌≤◌, Bool, List, [], ap, arith, false, get_or, length, refl, suc, sym, take, true, zero, ℕ}
 use Rattle.std.{proofs.lemmas.Bool.{le-ltb, lt-ltb, ne_eqb}, specs.Prelude.{◌&&◌, ◌==◌, ◌||◌, drop, nat_lt}}
 use Rattle.run_law.specs.records.Order.{is_before}
-use Rattle.audit_records.specs.places.Placing.{AreZero, before_then}
+use Rattle.plain_notes.specs.Places.{AreZero, before_then}
 
 -- zeros are before what is not only zeros, and then the rest counts
 zeros_first : (xs ys : List ℕ) → length xs ≡ length ys → AreZero xs → before_then xs ys true ≡ true
@@ -40,3 +40,8 @@ padded (suc n) (suc m) (x ∷ xs) [] e nl ml zx zy = absurd (omega (arith, ml))
 padded (suc n) (suc m) (x ∷ xs) (y ∷ ys) e nl ml zx zy =
     ap (λ (b : Bool). nat_lt x y || (x == y && b)) (padded n m xs ys (omega (arith, e)) (omega (arith, nl)) (omega (arith, ml)) zx zy
     ∙ ap (before_then xs ys) (more n m))
+
+-- the first of them is the first of all, or zero
+pub first : (n x : ℕ) (xs : List ℕ) → AreZero (drop n (x ∷ xs)) → x ≡ get_or (take n (x ∷ xs)) 0 0
+first zero x xs z = z.0
+first (suc n) x xs z = refl

@@ -1,7 +1,7 @@
 use Rattle.std.proofs.{Common.{◌++◌, ◌∙◌, ◌∷◌, List, [], ap, map, subst, sym, ℕ}, lemmas.List.map-append}
 use Rattle.run_law.specs.records.{Order.{IsBefore, IsIn}, Ranks.place_of}
-use Rattle.audit_records.{proofs.places_lemmas.Rows.{ascends_on, of_map}, specs.places.Placing.AreAscending}
-use Rattle.audit_records.proofs.places.places.Places.push.Goals as goal
+use Rattle.audit_records.{proofs.AscendingPlaces.{ascends_on, of_map}, specs.places.Placing.AreAscending}
+use Rattle.audit_records.proofs.places.Places.push.Goals as goal
 
 pub returns-clause-added : goal.returns-clause-added
 returns-clause-added c = λ hs h are at all.

@@ -1,5 +1,5 @@
 ghost use Rattle.std.specs.Prelude.{◌&&◌, ◌==◌, ◌||◌, ◌≡◌, nat_lt};
-ghost use Rattle.audit_records.specs.places.Placing.{before_then, numbers_of, numbers_with};
+ghost use Rattle.plain_notes.specs.Places.{before_then, numbers_of, numbers_with};
 
 /// The numbers of a place, from the left, and how many they are; those behind them are 0.
 #[derive(Debug, Drop)]
@@ -37,7 +37,8 @@ impl Numbers {
 
     /// Whether they are before the others, or are the others where these are fewer.
     pub(crate) fn are_before(&self, other: &Numbers) -> bool
-        ensures { result ≡ before_then (numbers_of self.now) (numbers_of other.now) (nat_lt self.now.count other.now.count) }
+        ensures { result ≡ before_then (numbers_of self.now) (numbers_of other.now)
+            (nat_lt self.now.count other.now.count) }
     {
         if self.time != other.time {
             return self.time < other.time;

@@ -1,3 +1,2 @@
 pub mod Padded
-pub mod Rows
 pub mod Same

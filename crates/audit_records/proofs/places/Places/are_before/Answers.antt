@@ -1,8 +1,8 @@
 use Rattle.std.{proofs.Common.{◌∙◌, ◌≡◌, List, None, Some, ap, refl, subst, sym, ℕ}, specs.List.last_or}
 use Rattle.compression.proofs.Ascents.{slice_get-last}
 use Rattle.run_law.{proofs.records.Order.{before_is, is_there}, specs.records.{Order.{IsBefore, IsIn}, Ranks.place_of}}
-use Rattle.audit_records.proofs.places_lemmas.Rows.{all_by_last, in_map, last_in, none_last, of_map}
-use Rattle.audit_records.proofs.places.places.Places.are_before.Goals as goal
+use Rattle.audit_records.proofs.AscendingPlaces.{all_by_last, in_map, last_in, none_last, of_map}
+use Rattle.audit_records.proofs.places.Places.are_before.Goals as goal
 
 pub returns-in-Some : goal.returns-in-Some
 returns-in-Some c = λ hs are.
