@@ -1,22 +1,51 @@
 -- The row by which a frame enters a device.
-use Rattle.std.{proofs.{Common.{◌∙◌, ◌≡◌, List, None, Option, Some, ap, length, refl, slice_get, subst, sym, ℕ}, lemmas.Option.same_Some}, specs.BTreeMap.get}
-use Rattle.std.specs.Prelude.{option_and_then, option_map}
+use Rattle.std.proofs.Common.{◌&&◌, ◌==◌, ◌∙◌, ◌∷◌, ◌≡◌, Bool, List, None, Option, Some, [], ap, cond, false, if◌then◌else◌, inl, inr, length, refl, slice_get}
+use Rattle.std.proofs.{Common.{subst, sym, true, ℕ}, lemmas.{Bool.{eq-eqb, eqb-true, false≢true}, Option.same_Some}}
+use Rattle.std.specs.{BTreeMap.get, Option.option_map_or, Prelude.{find, option_and_then, option_map}}
+use Rattle.net_plan.{proofs.SameIds.same_link, specs.Places.link_at}
 use Rattle.net_plan.specs.{Ranges.{IsInRange, IsVlInRange}, declared.{ids.{DeviceId.DeviceId, LinkId.LinkId, VlId.VlId}, network.Network.Network}}
 use Rattle.net_plan.specs.declared.tables.{Link.Link, Row.Row, VirtualLink.VirtualLink, Way.{Way, TheVariants.{Down, Up}}}
-use Rattle.run_law.specs.{device.Standpoints.Standpoint, scenario.Ways.way_to}
-use Rattle.run_law.specs.timed.Arrivals.{entry_arrival, entry_entering, entry_of, octets_fault, octets_or_fault, row_fault, taken_or_fault, timed_arrival}
+use Rattle.run_law.specs.{device.Standpoints.Standpoint, machines.Calls.IsLinkAt, scenario.{Devices.is_parent_of, Ways.{is_way, is_way_of, way_to}}}
+use Rattle.run_law.specs.timed.Arrivals.{entry_arrival, is_row_with, entry_entering, entry_of, octets_fault, octets_or_fault, row_fault, taken_or_fault}
+use Rattle.run_law.specs.timed.Arrivals.{timed_arrival}
 use Rattle.schedule_tables.specs.declared.entry.Entry.{Entry}
-use Rattle.tte_lemmas.proofs.Lists.{in_all}
-use Rattle.device_rules.specs.{Entering.{AreEntrances, HasPeriod, entering_by, entrance_cmp, first_entering}, Headings.{heading_fault, heading_of}}
+use Rattle.tte_lemmas.proofs.{Lists.in_all, Options.opened}
+use Rattle.device_rules.proofs.KeptRows.{made}
+use Rattle.device_rules.specs.Entering.{AreEntrances, HasPeriod, comes_by, entering_by, entrance_cmp, first_entering, is_of}
+use Rattle.device_rules.specs.Headings.{heading_fault, heading_of}
 use Rattle.device_rules.specs.declared.{entrances.{EnteringRow.EnteringRow, Entrance.Entrance, Entrances.Entrances}, heading.Heading.Heading}
+use Rattle.device_rules.specs.declared.entrances.Which.{Which, TheVariants.{Into, On}}
 use Rattle.run_law.specs.declared.judgement.Reason.TheVariants as reasons
 use Rattle.run_law.specs.declared.steps.Arrival.TheVariants as arrivals
 
 -- ---- the row that is kept
 
+find_alike : (f g : Row → Bool) (rows : List Row) → ((row : Row) → f row ≡ g row) → find f rows ≡ find g rows
+find_alike f g [] same = refl
+find_alike f g (row ∷ rows) same =
+    ap (λ (b : Bool). cond b (Some row) (find f rows)) (same row) ∙ ap (λ (o : Option Row). cond (g row) (Some row) o) (find_alike f g rows same)
+
+-- the row by which a frame with the id comes on the way of the link
+abbrev entering_on : Network → LinkId → ℕ → Way → Option Entry
+entering_on network link id way =
+    option_and_then (entry_of network) (find (λ row. is_way_of link way row.link row.way && is_row_with network id row) network.row)
+
+-- where rows are alike to those of a way of the link, the same one is the first
+alike : (network : Network) (which : Which) (link : LinkId) (id : ℕ) (way : Way)
+    → ((row : Row) → (link.0 == row.link.0) ≡ true → is_of network which row ≡ is_way way row.way)
+    → first_entering network which network.row (made link id) ≡ entering_on network link id way
+alike network which link id way same =
+    ap (option_and_then (entry_of network))
+    (find_alike _ _ network.row (λ row. gated (is_of network which row) (link.0 == row.link.0) (is_way way row.way) (is_row_with network id row) (same row)))
+  where
+    gated : (e b v w : Bool) → (b ≡ true → e ≡ v) → (e && (b && w)) ≡ ((b && v) && w)
+    gated e true v w h = rw (h refl) refl
+    gated true false v w h = refl
+    gated false false v w h = refl
+
 row_found : (network : Network) (entrances : Entrances) (way : Way) (e : Entrance) (o : Option EnteringRow) → AreEntrances network entrances
     → (way ≡ Up → o ≡ get entrance_cmp entrances.up e) → (way ≡ Down → o ≡ get entrance_cmp entrances.down e)
-    → o ≡ option_map (entering_by network) (first_entering network way network.row e)
+    → o ≡ option_map (entering_by network) (first_entering network (On way) network.row e)
 row_found network entrances Up e o are up down = up refl ∙ are.up e
 row_found network entrances Down e o are up down = down refl ∙ are.down e
 
@@ -28,14 +57,48 @@ pub found_is : (network : Network) (entrances : Entrances) (device : DeviceId) (
     → o ≡ option_map (entering_by network) (entry_entering network device link id)
 found_is network entrances device link id way o are is up down =
     row_found network entrances way (record { link = link; id = id }) o are up down
-    ∙ ap (λ (w : Way). option_map (entering_by network) (first_entering network w network.row (record { link = link; id = id }))) is
+    ∙ ap (option_map (entering_by network)) (alike network (On way) link id way (λ row e. refl))
+    ∙ ap (λ (w : Way). option_map (entering_by network) (entering_on network link id w)) is
 
-some_mapped : (network : Network) (o : Option Entry) (row : EnteringRow) → option_map (entering_by network) o ≡ Some row
+-- a row comes to the device by a link of its own on the way on which it receives
+comes_same : (parent : Bool) (l : Link) (device : DeviceId) (way : Way) → (l.parent.0 == device.0) ≡ parent
+    → (parent ≡ false → (l.child.0 == device.0) ≡ true)
+    → comes_by way l device ≡ is_way (if parent then Up else Down) way
+comes_same true l device Up is child = is
+comes_same true l device Down is child = rw is refl
+comes_same false l device Up is child = is
+comes_same false l device Down is child = rw (is, child refl) refl
+
+link_of : (network : Network) (device : DeviceId) (link : LinkId) → IsLinkAt network device link
+    → (l : Link) × (link_at network link ≡ Some l) × ((l.parent.0 == device.0) ≡ false → (l.child.0 == device.0) ≡ true)
+link_of network device link is = elim is [
+  | inl child ↦
+      let o = opened (λ l. l.child ≡ device) (link_at network link) child in
+      (o.0, o.1, λ none. eq-eqb o.0.child.0 device.0 (ap (λ (d : DeviceId). d.0) o.2))
+  | inr above ↦
+      let o = opened (λ l. l.parent ≡ device) (link_at network link) above in
+      (o.0, o.1, λ none. absurd (false≢true (sym none ∙ eq-eqb o.0.parent.0 device.0 (ap (λ (d : DeviceId). d.0) o.2))))
+]
+
+-- the row by which a frame enters the device by one of its links
+pub entered_at : (network : Network) (device : DeviceId) (link : LinkId) (id : ℕ) → IsLinkAt network device link
+    → first_entering network (Into device) network.row (made link id) ≡ entry_entering network device link id
+entered_at network device link id is =
+    let l = link_of network device link is in
+    alike network (Into device) link id (way_to network device link) (λ row e.
+    let same : link ≡ row.link = same_link link row.link (eqb-true link.0 row.link.0 e) in
+    ap (λ (o : Option Link). option_map_or (λ x. comes_by row.way x device) o false)
+    (subst (λ (k : LinkId). link_at network k ≡ Some l.0) same l.1)
+    ∙ comes_same (is_parent_of network device link) l.0 device row.way
+    (sym (ap (λ (o : Option Link). option_map_or (λ x. x.parent.0 == device.0) o false) l.1))
+    (λ none. l.2 (sym (ap (λ (o : Option Link). option_map_or (λ x. x.parent.0 == device.0) o false) l.1) ∙ none)))
+
+pub some_mapped : (network : Network) (o : Option Entry) (row : EnteringRow) → option_map (entering_by network) o ≡ Some row
     → (entry : Entry) × (o ≡ Some entry) × (row ≡ entering_by network entry)
 some_mapped network None row e = absurd cc
 some_mapped network (Some entry) row e = (entry, refl, sym (same_Some _ _ e))
 
-none_mapped : (network : Network) (o : Option Entry) → option_map (entering_by network) o ≡ None → o ≡ None
+pub none_mapped : (network : Network) (o : Option Entry) → option_map (entering_by network) o ≡ None → o ≡ None
 none_mapped network None e = refl
 none_mapped network (Some entry) e = absurd cc
 
@@ -62,19 +125,19 @@ has_period network device link id row range e =
 
 -- ---- what becomes of the frame
 
-by_entry : (network : Network) (device : DeviceId) (link : LinkId) (at : Standpoint) (octets : List ℕ) (heading : Heading) (o : Option Entry)
-    (last : VlId → Option ℕ) → heading_of octets ≡ heading → heading_fault network at heading ≡ None
+pub by_entry : (network : Network) (device : DeviceId) (link : LinkId) (at : Standpoint) (octets : List ℕ) (heading : Heading) (o : Option Entry)
+    (last : VlId → Option ℕ) → heading_of octets ≡ heading → heading_fault at.takes_part at.state network.marker heading ≡ None
     → entry_entering network device link heading.id ≡ o
     → timed_arrival network device link at octets last ≡ entry_arrival network device at (length octets) last o
 by_entry network device link at octets heading o last is none there =
-    let fault : octets_fault network at octets ≡ None = ap (heading_fault network at) is ∙ none in
+    let fault : octets_fault network at octets ≡ None = ap (heading_fault at.takes_part at.state network.marker) is ∙ none in
     ap (octets_or_fault network device link at octets last) fault
     ∙ ap (λ (h : Heading). entry_arrival network device at (length octets) last (entry_entering network device link h.id)) is
     ∙ ap (entry_arrival network device at (length octets) last) there
 
 -- a frame that enters by a row is judged by it
 pub entered : (network : Network) (device : DeviceId) (link : LinkId) (at : Standpoint) (octets : List ℕ) (heading : Heading) (row : EnteringRow)
-    → heading_of octets ≡ heading → heading_fault network at heading ≡ None
+    → heading_of octets ≡ heading → heading_fault at.takes_part at.state network.marker heading ≡ None
     → option_map (entering_by network) (entry_entering network device link heading.id) ≡ Some row
     → (entry : Entry) × (row ≡ entering_by network entry)
     × ((last : VlId → Option ℕ) → timed_arrival network device link at octets last
@@ -89,7 +152,7 @@ entered network device link at octets heading row is none e =
 
 -- a frame that enters by no row is unknown
 pub unknown : (network : Network) (device : DeviceId) (link : LinkId) (at : Standpoint) (octets : List ℕ) (heading : Heading)
-    → heading_of octets ≡ heading → heading_fault network at heading ≡ None
+    → heading_of octets ≡ heading → heading_fault at.takes_part at.state network.marker heading ≡ None
     → option_map (entering_by network) (entry_entering network device link heading.id) ≡ None
     → (last : VlId → Option ℕ) → timed_arrival network device link at octets last ≡ arrivals.Dropped reasons.Unknown
 unknown network device link at octets heading is none e last =

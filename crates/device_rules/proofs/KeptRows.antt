@@ -3,39 +3,39 @@ use Rattle.std.proofs.Common.{◌&&◌, ◌++◌, ◌==◌, ◌∙◌, ◌∷◌
 use Rattle.std.proofs.{Common.⊎_elim, lemmas.{Bool.{and_parts, cases_Bool, eqb-true, false≢true}, Cmp.ranked, List.Elements.All-take}}
 use Rattle.std.specs.{BTreeMap.{BTreeMap, Updates, get}, Ordering.{is_eq, nat_cmp}, Prelude.{IsSome, find, option_and_then, option_map, slice_get}}
 use Rattle.net_plan.{proofs.{SameIds.same_link, TableFacts.id_by}, specs.{Ranges.IsInRange, declared.{ids.LinkId.LinkId, network.Network.Network}}}
-use Rattle.net_plan.specs.declared.tables.{Row.Row, Way.Way}
-use Rattle.run_law.{proofs.timed.Rows.{entry_at, has_entry}, specs.{scenario.Ways.{is_way, is_way_of}, timed.Arrivals.{entry_of, is_row_with}}}
+use Rattle.net_plan.specs.declared.tables.Row.{Row}
+use Rattle.run_law.{proofs.timed.Rows.{entry_at, has_entry}, specs.timed.Arrivals.{entry_of, is_row_with}}
 use Rattle.schedule_tables.specs.{Entries.IsEntry, declared.entry.Entry.Entry}
 use Rattle.tte_lemmas.proofs.{Lists.{find_new, find_of, find_skips}, Naturals.{cmp_equal, cmp_same, eqb_same}, Options.{no_entry, some_or_none}}
-use Rattle.device_rules.specs.Entering.{AreRows, HaveEntries, entering_by, entrance_cmp, entrance_of, first_entering}
-use Rattle.device_rules.specs.declared.entrances.{EnteringRow.EnteringRow, Entrance.Entrance}
+use Rattle.device_rules.specs.Entering.{AreRows, HaveEntries, entering_by, entrance_cmp, entrance_of, first_entering, is_by, is_of}
+use Rattle.device_rules.specs.declared.entrances.{EnteringRow.EnteringRow, Entrance.Entrance, Which.Which}
 
 -- ---- entrances
 
--- does a frame of the row enter by the entrance?
-abbrev pub enters : Network → Way → Entrance → Row → Bool
-enters network way e row = is_way_of e.link way row.link row.way && is_row_with network e.id row
+-- is the row one of these, and do its frames come by the entrance?
+abbrev pub enters : Network → Which → Entrance → Row → Bool
+enters network which e row = is_of network which row && is_by network e row
 
 -- an entrance by its parts
-abbrev made : LinkId → ℕ → Entrance
+abbrev pub made : LinkId → ℕ → Entrance
 made link id = record { link = link; id = id }
 
 -- a frame of the entry's row enters by its own entrance alone
-entrance_is : (network : Network) (way : Way) (place : ℕ) (entry : Entry) (e : Entrance) → IsEntry network place entry
-    → enters network way e entry.row ≡ true → (e ≡ entrance_of entry) × (is_way way entry.row.way ≡ true)
-entrance_is network way place entry e is t =
-    let a = and_parts (is_way_of e.link way entry.row.link entry.row.way) (is_row_with network e.id entry.row) t in
-    let b = and_parts (e.link.0 == entry.row.link.0) (is_way way entry.row.way) a.0 in
+entrance_is : (network : Network) (which : Which) (place : ℕ) (entry : Entry) (e : Entrance) → IsEntry network place entry
+    → enters network which e entry.row ≡ true → (e ≡ entrance_of entry) × (is_of network which entry.row ≡ true)
+entrance_is network which place entry e is t =
+    let a = and_parts (is_of network which entry.row) (is_by network e entry.row) t in
+    let b = and_parts (e.link.0 == entry.row.link.0) (is_row_with network e.id entry.row) a.1 in
     let link : e.link ≡ entry.row.link = same_link e.link entry.row.link (eqb-true e.link.0 entry.row.link.0 b.0) in
-    let id : entry.vl.id ≡ e.id = eqb-true entry.vl.id e.id (sym (id_by (slice_get network.vl entry.row.vl.0) entry.vl e.id is.vl) ∙ a.1) in (
+    let id : entry.vl.id ≡ e.id = eqb-true entry.vl.id e.id (sym (id_by (slice_get network.vl entry.row.vl.0) entry.vl e.id is.vl) ∙ b.1) in (
       ap (λ (l : LinkId). made l e.id) link ∙ ap (λ (n : ℕ). made entry.row.link n) (sym id),
-      b.1,
+      a.0,
     )
 
-enters_own : (network : Network) (way : Way) (place : ℕ) (entry : Entry) → IsEntry network place entry → is_way way entry.row.way ≡ true
-    → enters network way (entrance_of entry) entry.row ≡ true
-enters_own network way place entry is comes =
-    rw (eqb_same entry.row.link.0) (rw comes (id_by (slice_get network.vl entry.row.vl.0) entry.vl entry.vl.id is.vl ∙ eqb_same entry.vl.id))
+enters_own : (network : Network) (which : Which) (place : ℕ) (entry : Entry) → IsEntry network place entry → is_of network which entry.row ≡ true
+    → enters network which (entrance_of entry) entry.row ≡ true
+enters_own network which place entry is comes =
+    rw comes (rw (eqb_same entry.row.link.0) (id_by (slice_get network.vl entry.row.vl.0) entry.vl entry.vl.id is.vl ∙ eqb_same entry.vl.id))
 
 same_entrance : (a b : Entrance) → is_eq (entrance_cmp a b) ≡ true → a ≡ b
 same_entrance a b e =
@@ -55,51 +55,51 @@ no_kept network None some e = absurd cc
 no_kept network (Some x) some e = cc
 
 -- where no row is kept for an entrance, none was found
-none_found : (network : Network) (way : Way) (rows : List Row) (e : Entrance) → HaveEntries network rows
-    → option_map (entering_by network) (first_entering network way rows e) ≡ None → find (enters network way e) rows ≡ None
-none_found network way rows e have none = ⊎_elim
-    (λ (s : (y : Row) × (find (enters network way e) rows ≡ Some y)).
-    let some = find_of (λ row. IsSome (entry_of network row)) (enters network way e) rows s.0 have s.1 in
+none_found : (network : Network) (which : Which) (rows : List Row) (e : Entrance) → HaveEntries network rows
+    → option_map (entering_by network) (first_entering network which rows e) ≡ None → find (enters network which e) rows ≡ None
+none_found network which rows e have none = ⊎_elim
+    (λ (s : (y : Row) × (find (enters network which e) rows ≡ Some y)).
+    let some = find_of (λ row. IsSome (entry_of network row)) (enters network which e) rows s.0 have s.1 in
     absurd (no_kept network (entry_of network s.0) some
     (subst (λ (o : Option Row). option_map (entering_by network) (option_and_then (entry_of network) o) ≡ None) s.1 none)))
-    (λ (n : find (enters network way e) rows ≡ None). n)
-    (some_or_none (find (enters network way e) rows))
+    (λ (n : find (enters network which e) rows ≡ None). n)
+    (some_or_none (find (enters network which e) rows))
 
 -- ---- one row more
 
--- a row that is not kept: it is one of the other way, or an earlier one stands for its entrance
-pub row_skipped : (network : Network) (way : Way) (rows : List Row) (place : ℕ) (entry : Entry) (kept : BTreeMap Entrance EnteringRow)
-    → IsEntry network place entry → HaveEntries network rows → AreRows network way rows kept
-    → (is_way way entry.row.way ≡ true → IsSome (get entrance_cmp kept (entrance_of entry))) → AreRows network way (rows ++ entry.row ∷ [])
+-- a row that is not kept: it is none of these, or an earlier one stands for its entrance
+pub row_skipped : (network : Network) (which : Which) (rows : List Row) (place : ℕ) (entry : Entry) (kept : BTreeMap Entrance EnteringRow)
+    → IsEntry network place entry → HaveEntries network rows → AreRows network which rows kept
+    → (is_of network which entry.row ≡ true → IsSome (get entrance_cmp kept (entrance_of entry))) → AreRows network which (rows ++ entry.row ∷ [])
     kept
-row_skipped network way rows place entry kept is have are stands e =
+row_skipped network which rows place entry kept is have are stands e =
     are e ∙ ap (λ (o : Option Row). option_map (entering_by network) (option_and_then (entry_of network) o))
-    (sym (find_skips (enters network way e) rows entry.row (λ t none.
-    let own = entrance_is network way place entry e is t in
+    (sym (find_skips (enters network which e) rows entry.row (λ t none.
+    let own = entrance_is network which place entry e is t in
     let absent : get entrance_cmp kept e ≡ None = are e ∙ ap (λ (o : Option Row). option_map (entering_by network) (option_and_then (entry_of network) o)) none
     in
     no_entry (get entrance_cmp kept e) (subst (λ (x : Entrance). IsSome (get entrance_cmp kept x)) (sym own.0) (stands own.1)) absent)))
 
 -- a row that is kept, the first for its entrance
-pub row_kept : (network : Network) (way : Way) (rows : List Row) (place : ℕ) (entry : Entry) (old new : BTreeMap Entrance EnteringRow)
-    → IsEntry network place entry → HaveEntries network rows → AreRows network way rows old
-    → is_way way entry.row.way ≡ true → get entrance_cmp old (entrance_of entry) ≡ None → Updates entrance_cmp old new (entrance_of entry)
-    (Some (entering_by network entry)) → AreRows network way (rows ++ entry.row ∷ []) new
-row_kept network way rows place entry old new is have are comes absent up e = ⊎_elim
+pub row_kept : (network : Network) (which : Which) (rows : List Row) (place : ℕ) (entry : Entry) (old new : BTreeMap Entrance EnteringRow)
+    → IsEntry network place entry → HaveEntries network rows → AreRows network which rows old
+    → is_of network which entry.row ≡ true → get entrance_cmp old (entrance_of entry) ≡ None → Updates entrance_cmp old new (entrance_of entry)
+    (Some (entering_by network entry)) → AreRows network which (rows ++ entry.row ∷ []) new
+row_kept network which rows place entry old new is have are comes absent up e = ⊎_elim
     (λ (y : is_eq (entrance_cmp (entrance_of entry) e) ≡ true).
     let same = same_entrance (entrance_of entry) e y in
     up.0 e ∙ ap (λ (b : Bool). cond b (Some (entering_by network entry)) (get entrance_cmp old e)) y
-    ∙ subst (λ (x : Entrance). Some (entering_by network entry) ≡ option_map (entering_by network) (first_entering network way (rows ++ entry.row ∷ []) x))
+    ∙ subst (λ (x : Entrance). Some (entering_by network entry) ≡ option_map (entering_by network) (first_entering network which (rows ++ entry.row ∷ []) x))
     same
     (sym (ap (λ (o : Option Row). option_map (entering_by network) (option_and_then (entry_of network) o))
-    (find_new (enters network way (entrance_of entry)) rows entry.row (enters_own network way place entry is comes)
-    (none_found network way rows (entrance_of entry) have (sym (are (entrance_of entry)) ∙ absent)))
+    (find_new (enters network which (entrance_of entry)) rows entry.row (enters_own network which place entry is comes)
+    (none_found network which rows (entrance_of entry) have (sym (are (entrance_of entry)) ∙ absent)))
     ∙ ap (option_map (entering_by network)) (entry_at network place entry is))))
     (λ (n : is_eq (entrance_cmp (entrance_of entry) e) ≡ false).
     up.0 e ∙ ap (λ (b : Bool). cond b (Some (entering_by network entry)) (get entrance_cmp old e)) n
     ∙ are e ∙ ap (λ (o : Option Row). option_map (entering_by network) (option_and_then (entry_of network) o))
-    (sym (find_skips (enters network way e) rows entry.row (λ t none.
-    let own = entrance_is network way place entry e is t in
+    (sym (find_skips (enters network which e) rows entry.row (λ t none.
+    let own = entrance_is network which place entry e is t in
     false≢true (sym n ∙ subst (λ (x : Entrance). is_eq (entrance_cmp x e) ≡ true) own.0 (cmp_itself e))))))
     (cases_Bool (is_eq (entrance_cmp (entrance_of entry) e)))
 

@@ -3,3 +3,4 @@ pub mod Places
 pub mod Verdicts
 pub mod KeptRows
 pub mod Entered
+pub mod Takings

@@ -1,15 +1,17 @@
 -- The rows by which time-triggered frames enter devices.
-use Rattle.std.specs.{BTreeMap.{BTreeMap, get}, List.All, Ordering.{nat_cmp, ordering_then}}
-use Rattle.std.specs.Prelude.{◌%◌, ◌&&◌, ◌==◌, ◌||◌, ◌∷◌, ◌≡◌, ◌≤◌, Err, IsSome, List, Ok, Option, Result, [], find}
-use Rattle.std.specs.Prelude.{int_lt, length, nat_le, not, option_and_then, option_map, ℕ, ℤ}
+use Rattle.std.specs.{BTreeMap.{BTreeMap, get}, List.All, Option.option_map_or, Ordering.{nat_cmp, ordering_then}}
+use Rattle.std.specs.Prelude.{◌%◌, ◌&&◌, ◌==◌, ◌||◌, ◌∷◌, ◌≡◌, ◌≤◌, Bool, Err, IsSome, List, Ok, Option, Result, []}
+use Rattle.std.specs.Prelude.{false}
+use Rattle.std.specs.Prelude.{find, int_lt, length, nat_le, not, option_and_then, option_map, ℕ, ℤ}
 use Rattle.std.specs.declared.cmp.Ordering.{Ordering}
 use Rattle.net_plan.specs.declared.{ids.{DeviceId.DeviceId, LinkId.LinkId, VlId.VlId}, network.Network.Network}
-use Rattle.net_plan.specs.declared.tables.{Row.Row, Way.{Way, TheVariants.{Down, Up}}}
+use Rattle.net_plan.specs.{Places.link_at, declared.tables.{Link.Link, Row.Row, Way.{Way, TheVariants.{Down, Up}}}}
 use Rattle.run_law.specs.{declared.judgement.Reason.Reason, device.Standpoints.{Standpoint, first_reason}}
-use Rattle.run_law.specs.scenario.Ways.{is_way_of}
+use Rattle.run_law.specs.scenario.Ways.{is_way}
 use Rattle.run_law.specs.timed.Arrivals.{entry_of, is_row_with, is_taken_in, row_fault, taken_or_fault, timed_arrival}
 use Rattle.schedule_tables.specs.{Windows.window_of, declared.entry.Entry.Entry}
 use Rattle.device_rules.specs.declared.entrances.{EnteringRow.EnteringRow, Entrance.Entrance, Entrances.Entrances}
+use Rattle.device_rules.specs.declared.entrances.Which.{Which, TheVariants.{Into, On}}
 use Rattle.run_law.specs.declared.judgement.Reason.TheVariants as reasons
 use Rattle.run_law.specs.declared.steps.Arrival.TheVariants as arrivals
 
@@ -31,22 +33,35 @@ entrance_cmp a b = ordering_then (nat_cmp a.link.0 b.link.0) (nat_cmp a.id b.id)
 abbrev pub entrance_of : Entry → Entrance
 entrance_of entry = record { link = entry.row.link; id = entry.vl.id }
 
--- the first of these rows by which a frame on this way enters by the entrance
-abbrev pub first_entering : Network → Way → List Row → Entrance → Option Entry
-first_entering network way rows entrance =
-    option_and_then (entry_of network)
-    (find (λ row. is_way_of entrance.link way row.link row.way && is_row_with network entrance.id row) rows)
+-- does what goes this way of the link come to the device?
+abbrev pub comes_by : Way → Link → DeviceId → Bool
+comes_by Up link device = link.parent.0 == device.0
+comes_by Down link device = not (link.parent.0 == device.0) && link.child.0 == device.0
 
--- the map has what is kept of the first of these rows, for each entrance of this way
-abbrev pub AreRows : Network → Way → List Row → BTreeMap Entrance EnteringRow → Type 0
-AreRows network way rows kept =
+-- is the row one of these?
+abbrev pub is_of : Network → Which → Row → Bool
+is_of network (On way) row = is_way way row.way
+is_of network (Into device) row = option_map_or (λ link. comes_by row.way link device) (link_at network row.link) false
+
+-- do the frames of the row come by the entrance?
+abbrev pub is_by : Network → Entrance → Row → Bool
+is_by network entrance row = entrance.link.0 == row.link.0 && is_row_with network entrance.id row
+
+-- the first of these rows whose frames come by the entrance
+abbrev pub first_entering : Network → Which → List Row → Entrance → Option Entry
+first_entering network which rows entrance =
+    option_and_then (entry_of network) (find (λ row. is_of network which row && is_by network entrance row) rows)
+
+-- the map has what is kept of the first of these rows, for each entrance
+abbrev pub AreRows : Network → Which → List Row → BTreeMap Entrance EnteringRow → Type 0
+AreRows network which rows kept =
     (entrance : Entrance) → get entrance_cmp kept entrance
-    ≡ option_map (entering_by network) (first_entering network way rows entrance)
+    ≡ option_map (entering_by network) (first_entering network which rows entrance)
 
 -- these are the rows of the network by which frames enter, on both ways of each link
 pub record AreEntrances (network : Network) (entrances : Entrances) : Type 0 where
-  pub up : AreRows network Up network.row entrances.up
-  pub down : AreRows network Down network.row entrances.down
+  pub up : AreRows network (On Up) network.row entrances.up
+  pub down : AreRows network (On Down) network.row entrances.down
 
 -- each of these rows has an entry
 abbrev pub HaveEntries : Network → List Row → Type 0

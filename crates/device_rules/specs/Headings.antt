@@ -1,9 +1,8 @@
 -- What a judgement reads of the octets of a time-triggered frame.
-use Rattle.std.specs.Prelude.{◌==◌, ◌∷◌, List, Option, [], length, nat_lt, not, ℕ}
-use Rattle.net_plan.specs.declared.network.Network.{Network}
+use Rattle.std.specs.Prelude.{◌==◌, ◌∷◌, Bool, List, Option, [], length, nat_lt, not, ℕ}
 use Rattle.pcf_codec.specs.{EtherType.least_type, Fields.field}
-use Rattle.run_law.specs.{declared.judgement.Reason.Reason, device.Standpoints.{Standpoint, first_reason}}
-use Rattle.run_law.specs.device.States.{is_synchronised}
+use Rattle.run_law.specs.{declared.judgement.Reason.Reason, device.{Standpoints.first_reason, States.is_synchronised}}
+use Rattle.sync_state.specs.declared.state.State.{State}
 use Rattle.device_rules.specs.declared.heading.Heading.{Heading}
 use Rattle.run_law.specs.declared.judgement.Reason.TheVariants as reasons
 
@@ -16,12 +15,13 @@ heading_of octets = record {
   ethertype = field 12 2 octets;
 }
 
--- why a frame of this heading is dropped before its row is looked for, if it is: the first reason in this order
-abbrev pub heading_fault : Network → Standpoint → Heading → Option Reason
-heading_fault network at heading =
+-- why a device that takes part or not, in this state, in a network of this marker, drops a frame of this heading before
+-- its row is looked for, if it does: the first reason in this order
+abbrev pub heading_fault : Bool → State → ℕ → Heading → Option Reason
+heading_fault takes_part state marker heading =
     first_reason (
-    (not at.takes_part, reasons.Off)
+    (not takes_part, reasons.Off)
     ∷ (nat_lt heading.ethertype least_type, reasons.RefusedEtherType)
-    ∷ (not (is_synchronised at.state), reasons.Unsynchronised)
-    ∷ (not (heading.marker == network.marker), reasons.Unknown)
+    ∷ (not (is_synchronised state), reasons.Unsynchronised)
+    ∷ (not (heading.marker == marker), reasons.Unknown)
     ∷ [])

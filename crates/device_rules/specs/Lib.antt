@@ -3,3 +3,4 @@ pub mod Answers
 pub mod Arriving
 pub mod Headings
 pub mod Entering
+pub mod Intakes

@@ -145,7 +145,7 @@ fn young_clock(network: &Network, link: LinkId, frame: &Pcf) -> Option<u64>
 }
 
 /// Only integration frames are used.
-fn is_cold_start(kind: PcfKind) -> bool
+pub fn is_cold_start(kind: PcfKind) -> bool
     ensures { result ≡ is_cold_start kind }
 {
     match kind {
@@ -239,7 +239,7 @@ fn is_below(a: i128, b: i128) -> bool
 }
 
 /// Why octets that the decoder refuses are dropped.
-fn refused(refusal: PcfRefusal) -> Reason
+pub fn refused(refusal: PcfRefusal) -> Reason
     ensures { result ≡ refused refusal }
 {
     match refusal {

@@ -1,15 +1,16 @@
 //! The rows by which time-triggered frames enter devices.
 
 ghost use Rattle.std.specs.{BTreeMap.get, Prelude.{◌++◌, ◌∷◌, ◌≡◌, IfOk, IfSome, List, OnOk, [], ℕ}};
-ghost use Rattle.net_plan.specs.{Ranges.IsInRange, declared.tables.{Row.Row, Way.TheVariants.{Down, Up}}};
+ghost use Rattle.net_plan.specs.{Ranges.IsInRange, declared.network.Network.Network as NetworkValue};
+ghost use Rattle.net_plan.specs.declared.tables.{Row.Row, Way.TheVariants.{Down, Up}};
 ghost use Rattle.run_law.specs.scenario.Ways.{is_way};
 ghost use Rattle.schedule_tables.specs.Entries.{IsEntry, IsEntryInRange};
-ghost use Rattle.device_rules.specs.Entering.{AreEntrances, AreRows, HasPeriod, HaveEntries, IsEnteredSo, entering_by};
-ghost use Rattle.device_rules.specs.{Entering.{entrance_cmp, entrance_of}, Headings.heading_of};
+ghost use Rattle.device_rules.specs.Entering.{AreEntrances, AreRows, HasPeriod, HaveEntries, IsEnteredSo, comes_by};
+ghost use Rattle.device_rules.specs.{Entering.{entering_by, entrance_cmp, entrance_of, is_of}, Headings.heading_of};
 
 use crate::network::way_to;
 use crate::{Heading, Standpoint};
-use net_plan::{DeviceId, LinkId, Network, RowId, VlId, Way};
+use net_plan::{DeviceId, Link, LinkId, Network, RowId, VlId, Way};
 use run_law::Reason;
 use schedule_tables::{Entry, OutOfMemory, Window, entry_of, window_of};
 use std::alloc::Global;
@@ -18,21 +19,30 @@ use std::collections::BTreeMap;
 /// A row by which frames of a virtual link enter a device, as far as they are judged by it.
 #[derive(Clone, Copy, Debug, PartialEq, Eq)]
 pub struct EnteringRow {
-    pub(crate) vl: VlId,
+    pub vl: VlId,
     /// How many octets the frames have.
-    pub(crate) length: u16,
+    pub length: u16,
     /// The virtual link occurs in the cycles of this phase modulo the period.
-    pub(crate) period: u32,
-    pub(crate) phase: u32,
+    pub period: u32,
+    pub phase: u32,
     /// Where in the device's cycle the frames may arrive.
-    pub(crate) window: Window,
+    pub window: Window,
 }
 
 /// The link by which a frame comes, and the id of its virtual link in the frame.
 #[derive(Clone, Copy, Debug, PartialEq, Eq, PartialOrd, Ord, Drop)]
-struct Entrance {
-    link: LinkId,
-    id: u16,
+pub(crate) struct Entrance {
+    pub(crate) link: LinkId,
+    pub(crate) id: u16,
+}
+
+/// Which rows are kept.
+#[derive(Clone, Copy)]
+pub(crate) enum Which {
+    /// Those of a way.
+    On(Way),
+    /// Those by which frames enter a device.
+    Into(DeviceId),
 }
 
 /// The rows of a network by which time-triggered frames enter devices.
@@ -50,8 +60,8 @@ impl Entrances {
         requires { IsInRange network.now }
         ensures { IfOk result (AreEntrances network.now) }
     {
-        let up = rows_on(alloc, network, Way::Up)?;
-        let down = rows_on(alloc, network, Way::Down)?;
+        let up = rows_of(alloc, network, Which::On(Way::Up))?;
+        let down = rows_of(alloc, network, Which::On(Way::Down))?;
         Ok(Entrances { up, down })
     }
 
@@ -70,7 +80,7 @@ impl Entrances {
         ensures is { (octets : List ℕ) → heading_of octets ≡ heading.now
             → IsEnteredSo network.now device link at.now octets result }
     {
-        if let Some(reason) = heading.fault(network, at) {
+        if let Some(reason) = heading.fault(at.takes_part(), at.state(), network.marker) {
             return Err(reason);
         }
         let entrance = Entrance {
@@ -95,38 +105,38 @@ impl Entrances {
     }
 }
 
-/// The rows by which frames on the way enter.
-fn rows_on(
+/// These rows of the network. The first one stands for each entrance.
+pub(crate) fn rows_of(
     alloc: Global,
     network: &Network,
-    way: Way,
+    which: Which,
 ) -> Result<BTreeMap<Entrance, EnteringRow>, OutOfMemory>
     requires { IsInRange network.now }
-    ensures { IfOk result (AreRows network.now way network.now.row) }
+    ensures { IfOk result (AreRows network.now which network.now.row) }
 {
     let mut rows = BTreeMap::new(alloc);
     for place in 0..network.row.as_slice().len() {
         let entry = entry_of(network, RowId(place as u32));
-        add_row(&mut rows, network, way, &entry)?;
+        add_row(&mut rows, network, which, &entry)?;
     }
     Ok(rows)
 }
 
-/// Keeps a further row, where it is one of the way and no earlier one stands for its entrance.
+/// Keeps a further row, where it is one of these and no earlier one stands for its entrance.
 fn add_row(
     rows: &mut BTreeMap<Entrance, EnteringRow>,
     network: &Network,
-    way: Way,
+    which: Which,
     entry: &Entry,
 ) -> Result<(), OutOfMemory>
     requires range { IsInRange network.now }
     requires entry { IsEntryInRange network.now entry.now }
     ensures { (earlier : List Row) (place : ℕ) → IsEntry network.now place entry.now
-        → HaveEntries network.now earlier → AreRows network.now way earlier rows.old
-        → OnOk result (AreRows network.now way (earlier ++ entry.now.row ∷ []) rows.new) }
+        → HaveEntries network.now earlier → AreRows network.now which earlier rows.old
+        → OnOk result (AreRows network.now which (earlier ++ entry.now.row ∷ []) rows.new) }
 {
     let entrance = entrance_of(entry);
-    if !is_way(way, entry.row.way) {
+    if !is_of(which, entry) {
         return Ok(());
     }
     if rows.contains_key(&entrance) {
@@ -135,6 +145,27 @@ fn add_row(
     match rows.insert(entrance, entering_row(network, entry)) {
         Ok(_) => Ok(()),
         Err(_) => Err(OutOfMemory),
+    }
+}
+
+/// Is the entry's row one of these?
+fn is_of(which: Which, entry: &Entry) -> bool
+    ensures { (network : NetworkValue) (place : ℕ) → IsEntry network place entry.now
+        → result ≡ is_of network which entry.now.row }
+{
+    match which {
+        Which::On(way) => is_way(way, entry.row.way),
+        Which::Into(device) => comes_by(entry.row.way, &entry.link, device),
+    }
+}
+
+/// Does what goes this way of the link come to the device?
+fn comes_by(way: Way, link: &Link, device: DeviceId) -> bool
+    ensures { result ≡ comes_by way link.now device }
+{
+    match way {
+        Way::Up => link.parent.0 == device.0,
+        Way::Down => link.parent.0 != device.0 && link.child.0 == device.0,
     }
 }
 

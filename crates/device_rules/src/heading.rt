@@ -1,15 +1,17 @@
 //! The headings of time-triggered frames.
 
-ghost use Rattle.std.specs.Prelude.{◌≡◌, ◌≤◌, ◌<◌, ◌+◌, ℕ, length};
+ghost use Rattle.std.specs.Prelude.{◌≡◌, ◌≤◌, ◌<◌, ◌+◌, None, ℕ, length};
 ghost use Rattle.device_rules.specs.Headings.{heading_fault, heading_of};
 ghost use Rattle.net_plan.specs.Ranges.{IsInRange};
 ghost use Rattle.pcf_codec.specs.Fields.{field};
 ghost use Rattle.run_law.specs.records.Frames.{tt_frame};
+ghost use Rattle.sync_state.specs.declared.state.State.TheVariants.{Synchronised};
 
-use crate::Standpoint;
+use crate::standpoint::is_synchronised;
 use byteorder::{BigEndian, ByteOrder};
 use net_plan::{Network, VlId};
 use run_law::Reason;
+use sync_state::State;
 
 /// The least EtherType; a smaller number in its place is a length (IEEE 802.3).
 const LEAST_TYPE: u16 = 0x0600;
@@ -54,17 +56,19 @@ impl Heading {
         }
     }
 
-    /// Why a frame of this heading is dropped before its row is looked for, if it is: the first reason in this order.
-    pub(crate) fn fault(&self, network: &Network, at: &Standpoint) -> Option<Reason>
-        ensures { result ≡ heading_fault network.now at.now self.now }
+    /// Why a device that takes part or not, in this state, in a network of this marker, drops a frame of this heading
+    /// before its row is looked for, if it does: the first reason in this order.
+    pub fn fault(&self, takes_part: bool, state: State, marker: u32) -> Option<Reason>
+        ensures is { result ≡ heading_fault takes_part state marker self.now }
+        ensures synchronised { result ≡ None → state ≡ Synchronised }
     {
-        if !at.takes_part() {
+        if !takes_part {
             Some(Reason::Off)
         } else if self.ethertype < LEAST_TYPE {
             Some(Reason::RefusedEtherType)
-        } else if !at.is_synchronised() {
+        } else if !is_synchronised(state) {
             Some(Reason::Unsynchronised)
-        } else if self.marker != network.marker {
+        } else if self.marker != marker {
             Some(Reason::Unknown)
         } else {
             None

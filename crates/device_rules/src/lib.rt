@@ -1,6 +1,7 @@
 //! The rules of operation (SAE AS6802) as functions of the network and of where a device stands: what becomes of frames
 //! that arrive, how compressed frames are heard, what a compression master collects, how frames leave, and what a
-//! correction point comes to. They keep nothing, and take any numbers that a report may have.
+//! correction point comes to. They take any numbers that a report may have. Only an `Intake` keeps something: which
+//! time-triggered frames a device took last.
 #![tactic(auto)]
 
 mod arriving;
@@ -9,17 +10,19 @@ mod correcting;
 mod entrances;
 mod heading;
 mod hearing;
+mod intake;
 mod leaving;
 mod network;
 mod standpoint;
 mod timed;
 
-pub use arriving::control_arrival;
+pub use arriving::{control_arrival, is_cold_start, refused};
 pub use collecting::point_fault;
 pub use correcting::{PointStanding, PointVerdict, correction_value, joined_adjustment, verdict};
 pub use entrances::{EnteringRow, Entrances};
 pub use heading::Heading;
 pub use hearing::heard_as;
+pub use intake::Intake;
 pub use leaving::{Departed, departure};
 pub use network::{is_cm, is_end, is_parent_of, is_relay, way_to};
 pub use standpoint::Standpoint;

@@ -66,6 +66,13 @@ impl Standpoint {
         self.takes_part
     }
 
+    /// The state of its synchronisation.
+    pub(crate) fn state(&self) -> State
+        ensures { result ≡ self.now.state }
+    {
+        self.state
+    }
+
     /// What its clock reads.
     pub(crate) fn reading(&self) -> u64
         ensures { result ≡ self.now.reading }

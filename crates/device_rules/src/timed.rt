@@ -55,7 +55,7 @@ impl EnteringRow {
 
     /// Why a frame of so many octets is dropped, in this cycle and at this place of it, if it is: the first reason in
     /// this order.
-    fn fault(&self, length: usize, cycle: u64, place: i128, last: Option<u32>) -> Option<Reason>
+    pub fn fault(&self, length: usize, cycle: u64, place: i128, last: Option<u32>) -> Option<Reason>
         requires { HasPeriod self.now }
         ensures { result ≡ fault_of self.now length cycle place last }
     {

@@ -5,7 +5,7 @@ use Rattle.end_system.proofs.Words.{IsSomeAnd, List, MayCall, Moment, Network, N
 use Rattle.end_system.proofs.Words.{Synchronised, Units, [], amount, ap, arith, called, correcting, end_plan, from_zero, inl, inr, ints, mul-le-mul_right}
 use Rattle.end_system.proofs.Words.{next_point, pos, refl, subst, sym, value_of, ℕ, ℤ}
 use Rattle.membership.specs.Summary.{silence}
-use Rattle.run_law.{proofs.silent.Due.point_is, specs.{control.Corrections.correction_value, machines.{Answers.after_correction, Nodes.acting}}}
+use Rattle.run_law.{proofs.control.Points.point_is, specs.{control.Corrections.correction_value, machines.{Answers.after_correction, Nodes.acting}}}
 use Rattle.sync_state.{proofs.StateFacts.{no_longer, point_up_to}, specs.{Calls.{adjustment_by, after, reached_point}, Standing.{IsAtIntegration, point_in}}}
 use Rattle.sync_state.specs.{Verdicts.{IfCorrected, IsNear}, declared.answers.Verdict.{Verdict, TheVariants.{AsyncClique, Cleared, Corrected, SyncClique}}}
 use Rattle.sync_state.specs.declared.state.State.{State, TheVariants.{Integrating, Joining, Off}}

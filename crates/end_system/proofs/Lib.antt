@@ -6,12 +6,7 @@ pub mod Ripe
 pub mod Values
 pub mod Arrive
 pub mod TimedFrames
-pub mod KeyOrder
-pub mod Search
-pub mod SlotLemmas
 pub mod RowSearch
 pub mod RowNext
 pub mod OwnLemmas
-pub mod EnteringLemmas
-pub mod Takings
 pub mod Words

@@ -1,33 +1,34 @@
 -- The dispatch that comes next, among the slots of a device.
 use Rattle.end_system.proofs.Words.{◌%◌, ◌*◌, ◌++◌, ◌+◌, ◌-ℤ◌, ◌<ℤ◌, ◌<◌, ◌^◌, ◌∙◌, ◌∷◌, ◌≡◌, ◌≤ℤ◌, ◌≤◌, AreRowsOf, ClockTask, Contains, DeviceId, Dispatch}
-use Rattle.end_system.proofs.Words.{IsAtSlot, IsBelow, IsDispatch, IsOwnOf, IsSlotOf, LinkId, List, Network, None, Option, Own, Row, RowId, Rows, Slot, Some}
-use Rattle.end_system.proofs.Words.{Standing, SyncPlan, Synchronised, Units, [], amount, ap, arith, dispatching, inl, inr, ints, key_of, mul-le-mul_right}
-use Rattle.end_system.proofs.Words.{option_map_or, pos, refl, subst, suc, sym, value_of, zero, ℕ, ℤ}
-use Rattle.std.proofs.{Common.{◌-◌, ◌/◌}, Math.Nat.{div-add-mod, mod-lt}, lemmas.List.Elements.All-contains}
+use Rattle.end_system.proofs.Words.{IsAtSlot, IsBelow, IsDispatch, IsOwnOf, IsSlotOf, List, Network, None, Option, Own, Row, RowId, Rows, SentBy, Slot, Some}
+use Rattle.end_system.proofs.Words.{Standing, SyncPlan, Synchronised, Units, [], amount, ap, arith, dispatching, inl, inr, ints, mul-le-mul_right}
+use Rattle.end_system.proofs.Words.{numbers_of, option_map_or, pos, refl, subst, suc, sym, turn_of, value_of, zero, ℕ, ℤ}
+use Rattle.std.proofs.{Common.{◌-◌, ◌/◌}, Math.Nat.{div-add-mod, mod-lt}}
 use Rattle.run_law.specs.machines.Tasks.{offset_of}
-use Rattle.schedule_tables.{proofs.OrderLemmas.{below_one_way, same_or_below}, specs.Dispatches.dispatch_order}
+use Rattle.schedule_tables.proofs.NextLemmas.{place_is as row_place_is}
+use Rattle.schedule_tables.proofs.{OrderLemmas.{below_more, below_one_way, not_below_more, same_or_below}}
+use Rattle.schedule_tables.specs.{Dispatches.dispatch_order, Slots.place_by, declared.slot.Place.Place}
 use Rattle.tte_lemmas.proofs.{Lists.{none_in, period_divides}, Naturals.cases_of}
-use Rattle.end_system.{proofs.{Advance.{done_now, done_still, was_done}, Tasks.later_value, Values.at_least}, specs.Deeds.{IsSooner, Leaves}}
-use Rattle.end_system.specs.RowSlots.{IsFirstFrom, IsNextFrom, IsSlotIn, numbers_of}
+use Rattle.end_system.{proofs.{Advance.{done_now, done_still, was_done}, RowSearch.is_of, Tasks.later_value, Values.at_least}, specs.Deeds.{IsSooner, Leaves}}
+use Rattle.end_system.specs.RowSlots.{IsFirstFrom, IsNextFrom, IsSlotIn}
 
 -- ---- slots, and rows that leave in a cycle
 
 -- the slot of a row that leaves in the cycle
 abbrev slot_of : (network : Network) (device : DeviceId) (row : RowId) (cycle : ℕ) → Leaves network device row cycle → Slot
-slot_of network device row cycle h = record { residue = cycle % 64; offset = amount h.entry.row.offset; link = h.entry.row.link; row = row }
+slot_of network device row cycle h = record { device = device; residue = cycle % 64; place = place_by h.entry row }
 
 residue_small : (cycle : ℕ) → cycle % 64 < 64
 residue_small cycle = omega arith
 
 is_slot : (network : Network) (device : DeviceId) (own : Own) (row : RowId) (cycle : ℕ) → IsOwnOf network device own → (h : Leaves network device row cycle)
-    → IsSlotOf network device (slot_of network device row cycle h)
+    → IsSlotOf network (SentBy device) (slot_of network device row cycle h)
 is_slot network device own row cycle is h = record {
   entry = h.entry;
   is = h.is;
-  offset = refl;
-  link = refl;
-  leaves = h.leaves;
-  sender = h.sender;
+  place = refl;
+  source = h.leaves;
+  among = (h.leaves, h.sender);
   residue = residue_small cycle;
   in_phase = period_divides cycle h.entry.vl.period (is.periods h.entry.row.vl.0 h.entry.vl h.is.vl).0 ∙ h.occurs.in_phase;
 }
@@ -36,41 +37,42 @@ is_slot network device own row cycle is h = record {
 slot_in : (network : Network) (device : DeviceId) (own : Own) (rows : Rows) (row : RowId) (cycle : ℕ) → IsOwnOf network device own
     → AreRowsOf network device rows → (h : Leaves network device row cycle) → IsSlotIn rows (slot_of network device row cycle h) cycle
 slot_in network device own rows row cycle is are h =
-    record { there = are.complete (slot_of network device row cycle h) (is_slot network device own row cycle is h); residue = refl }
+    record { there = are.slots.complete (slot_of network device row cycle h) (is_slot network device own row cycle is h); residue = refl }
 
 -- the slot's row leaves in each cycle of its residue
-leaves : (network : Network) (device : DeviceId) (own : Own) (slot : Slot) (cycle : ℕ) → IsOwnOf network device own → IsSlotOf network device slot
-    → slot.residue ≡ cycle % 64 → 1 ≤ cycle → Leaves network device slot.row cycle
+leaves : (network : Network) (device : DeviceId) (own : Own) (slot : Slot) (cycle : ℕ) → IsOwnOf network device own → IsSlotOf network (SentBy device) slot
+    → slot.residue ≡ cycle % 64 → 1 ≤ cycle → Leaves network device slot.place.row cycle
 leaves network device own slot cycle is of residue begun = record {
   entry = of.entry;
   is = of.is;
-  leaves = of.leaves;
+  leaves = of.among.0;
   occurs = record {
     begun = begun;
     in_phase =
         sym (period_divides cycle of.entry.vl.period (is.periods of.entry.row.vl.0 of.entry.vl of.is.vl).0)
         ∙ (ap (λ (n : ℕ). n % of.entry.vl.period) (sym residue) ∙ of.in_phase);
   };
-  sender = of.sender;
+  sender = of.among.1;
 }
 
 -- the row's place is that of its slot
-place_is : (network : Network) (device : DeviceId) (slot : Slot) → IsSlotOf network device slot → dispatch_order network slot.row ≡ numbers_of slot
-place_is network device slot of =
-    ap (λ (o : Option Row). option_map_or (λ (r : Row). amount r.offset ∷ r.link.0 ∷ slot.row.0 ∷ []) o []) of.is.row
-    ∙ (ap (λ (n : ℕ). n ∷ of.entry.row.link.0 ∷ slot.row.0 ∷ []) (sym of.offset) ∙ ap (λ (l : LinkId). slot.offset ∷ l.0 ∷ slot.row.0 ∷ []) (sym of.link))
+place_is : (network : Network) (device : DeviceId) (slot : Slot) → IsSlotOf network (SentBy device) slot
+    → dispatch_order network slot.place.row ≡ numbers_of slot.place
+place_is network device slot of = row_place_is network slot.place.row of.entry of.is ∙ ap numbers_of (sym of.place)
 
-offset_is : (network : Network) (device : DeviceId) (slot : Slot) → IsSlotOf network device slot → offset_of network slot.row ≡ slot.offset
-offset_is network device slot of = ap (λ (o : Option Row). option_map_or (λ (r : Row). amount r.offset) o 0) of.is.row ∙ sym of.offset
+offset_is : (network : Network) (device : DeviceId) (slot : Slot) → IsSlotOf network (SentBy device) slot
+    → offset_of network slot.place.row ≡ slot.place.offset
+offset_is network device slot of =
+    ap (λ (o : Option Row). option_map_or (λ (r : Row). amount r.offset) o 0) of.is.row ∙ ap (λ (p : Place). p.offset) (sym of.place)
 
 length_is : (network : Network) (device : DeviceId) (own : Own) → IsOwnOf network device own → amount own.plan.cycle_length ≡ amount network.cycle
 length_is network device own is = ap (λ (p : SyncPlan). amount p.cycle_length) is.plan
 
 -- the slot's place lies well before the cycle's end
-short : (network : Network) (device : DeviceId) (own : Own) (slot : Slot) → IsOwnOf network device own → IsSlotOf network device slot
-    → slot.offset + 4 * amount network.precision ≤ amount own.plan.cycle_length
+short : (network : Network) (device : DeviceId) (own : Own) (slot : Slot) → IsOwnOf network device own → IsSlotOf network (SentBy device) slot
+    → slot.place.offset + 4 * amount network.precision ≤ amount own.plan.cycle_length
 short network device own slot is of =
-    let h = is.early slot.row (slot.residue + 64) (leaves network device own slot (slot.residue + 64) is of (again slot.residue of.residue)
+    let h = is.early slot.place.row (slot.residue + 64) (leaves network device own slot (slot.residue + 64) is of (again slot.residue of.residue)
     (later slot.residue)) in
     omega (arith, h, offset_is network device slot of, length_is network device own is)
   where
@@ -82,13 +84,13 @@ short network device own slot is of =
 
 -- where the dispatch is one of the slots', at the reading of the search
 is_at : (network : Network) (device : DeviceId) (own : Own) (rows : Rows) (s : Standing) (adjustment : Units) (first : ℕ) (bound : Slot) (next : Dispatch)
-    → IsOwnOf network device own → IsSlotOf network device next.slot → s.adjustment ≡ adjustment
-    → IsNextFrom own rows adjustment.0 first bound next → next.at.0 ≡ (value_of network (dispatching next.slot.row next.cycle) -ℤ s.adjustment.0)
+    → IsOwnOf network device own → IsSlotOf network (SentBy device) next.slot → s.adjustment ≡ adjustment
+    → IsNextFrom own rows adjustment.0 first bound next → next.at.0 ≡ (value_of network (dispatching next.slot.place.row next.cycle) -ℤ s.adjustment.0)
 is_at network device own rows s adjustment first bound next is of same found =
     found.at
-    ∙ (ap (λ (n : ℕ). pos (next.cycle * n + next.slot.offset) -ℤ adjustment.0) (length_is network device own is)
+    ∙ (ap (λ (n : ℕ). pos (next.cycle * n + next.slot.place.offset) -ℤ adjustment.0) (length_is network device own is)
     ∙ (ap (λ (n : ℕ). pos (next.cycle * amount network.cycle + n) -ℤ adjustment.0) (sym (offset_is network device next.slot of))
-    ∙ ap (λ (u : Units). value_of network (dispatching next.slot.row next.cycle) -ℤ u.0) (sym same)))
+    ∙ ap (λ (u : Units). value_of network (dispatching next.slot.place.row next.cycle) -ℤ u.0) (sym same)))
 
 -- ---- the first behind a local value
 
@@ -153,7 +155,7 @@ pub record IsBehind (own : Own) (local : ℤ) (value first : ℕ) (bound : Slot)
   pub least : local ≤ℤ pos value
   pub next : (n : ℕ) → amount own.plan.cycle_length ≤ n → local <ℤ pos n → value < n
   pub first_is : first ≡ value / amount own.plan.cycle_length - value / amount own.plan.cycle_length % 64
-  pub bound_is : key_of bound ≡ (value / amount own.plan.cycle_length % 64) ∷ (value % amount own.plan.cycle_length + 1) ∷ 0 ∷ 0 ∷ []
+  pub bound_is : turn_of bound ≡ (value / amount own.plan.cycle_length % 64) ∷ (value % amount own.plan.cycle_length + 1) ∷ 0 ∷ 0 ∷ []
 
 at_least_one : (n c : ℕ) → 1 ≤ n → c ≤ n * c
 at_least_one n c h = let e : 1 * c ≤ n * c = mul-le-mul_right c h in omega (arith, e)
@@ -167,31 +169,34 @@ pub first_is_next : (network : Network) (device : DeviceId) (own : Own) (rows : 
     → IsDispatch network device s local [] (Some next)
 first_is_next network device own rows s adjustment local value first bound next is are same synchronised some behind found =
     let c = amount own.plan.cycle_length in
-    let of : IsSlotOf network device next.slot = All-contains (IsSlotOf network device) rows.slots.items next.slot are.sound found.slot.there in
+    let of = is_of network device rows next.slot are found.slot.there in
     let close = short network device own next.slot is of in
-    let ahead : value < next.cycle * c + next.slot.offset =
-    ahead_of value c first (value / c) next.cycle next.slot.offset next.slot.link.0 next.slot.row.0 behind.some refl behind.first_is found.from.reached
+    let ahead : value < next.cycle * c + next.slot.place.offset =
+    ahead_of value c first (value / c) next.cycle next.slot.place.offset next.slot.place.link.0 next.slot.place.row.0 behind.some refl behind.first_is
+    found.from.reached
     (λ within below. found.from.behind within
-    (subst (λ (k : List ℕ). IsBelow (key_of next.slot) k) (sym behind.bound_is)
-    (same_key next.slot.residue (next.cycle % 64) (numbers_of next.slot) ((value / c % 64) ∷ (value % c + 1) ∷ 0 ∷ 0 ∷ []) found.slot.residue below))) in
-    let start : 1 ≤ next.cycle = begun value c next.cycle next.slot.offset (amount network.precision) behind.silent ahead close some in (
+    (subst (λ (k : List ℕ). IsBelow (turn_of next.slot) k) (sym behind.bound_is)
+    (same_key next.slot.residue (next.cycle % 64) (numbers_of next.slot.place) ((value / c % 64) ∷ (value % c + 1) ∷ 0 ∷ 0 ∷ []) found.slot.residue below))) in
+    let start : 1 ≤ next.cycle = begun value c next.cycle next.slot.place.offset (amount network.precision) behind.silent ahead close some in (
       synchronised,
       record {
         leaves = leaves network device own next.slot next.cycle is of found.slot.residue start;
-        ahead = subst (λ (n : ℕ). local <ℤ pos (next.cycle * n + offset_of network next.slot.row)) (length_is network device own is)
-            (subst (λ (n : ℕ). local <ℤ pos (next.cycle * c + n)) (sym (offset_is network device next.slot of)) (up_to_value local value _ behind.least ahead));
+        ahead = subst (λ (n : ℕ). local <ℤ pos (next.cycle * n + offset_of network next.slot.place.row)) (length_is network device own is)
+            (subst (λ (n : ℕ). local <ℤ pos (next.cycle * c + n)) (sym (offset_is network device next.slot of))
+            (up_to_value local value _ behind.least ahead));
         done_before = λ other n there. absurd (none_in (dispatching other n) there);
         rest = λ other n h later sooner.
             let slot = slot_of network device other n h in
             let one = is_slot network device own other n is h in
-            let low = below_offset slot.offset (amount network.precision) c (short network device own slot is one) some in
-            let there : value < n * c + slot.offset = behind.next _ (most n c slot.offset h.occurs.begun)
-            (subst (λ (k : ℕ). local <ℤ pos (n * k + slot.offset)) (sym (length_is network device own is))
+            let low = below_offset slot.place.offset (amount network.precision) c (short network device own slot is one) some in
+            let there : value < n * c + slot.place.offset = behind.next _ (most n c slot.place.offset h.occurs.begun)
+            (subst (λ (k : ℕ). local <ℤ pos (n * k + slot.place.offset)) (sym (length_is network device own is))
             (subst (λ (k : ℕ). local <ℤ pos (n * amount network.cycle + k)) (offset_is network device slot one) later)) in
-            let from = from_value value c first (value / c) n slot.offset slot.link.0 slot.row.0 behind.some refl behind.first_is there low in
+            let from = from_value value c first (value / c) n slot.place.offset slot.place.link.0 slot.place.row.0 behind.some refl behind.first_is
+            there low in
             absurd (found.least slot n (slot_in network device own rows other n is are h)
-            (record { reached = from.0; behind = λ within below. from.1 within (subst (λ (k : List ℕ). IsBelow (key_of slot) k) behind.bound_is below) })
-            (subst (λ (xs : List ℕ). IsBelow (n ∷ xs) (next.cycle ∷ numbers_of next.slot)) (place_is network device slot one)
+            (record { reached = from.0; behind = λ within below. from.1 within (subst (λ (k : List ℕ). IsBelow (turn_of slot) k) behind.bound_is below) })
+            (subst (λ (xs : List ℕ). IsBelow (n ∷ xs) (next.cycle ∷ numbers_of next.slot.place)) (place_is network device slot one)
             (subst (λ (xs : List ℕ). IsBelow (n ∷ dispatch_order network other) (next.cycle ∷ xs)) (place_is network device next.slot of) sooner)));
       },
       is_at network device own rows s adjustment first bound next is of same found,
@@ -201,13 +206,6 @@ first_is_next network device own rows s adjustment local value first bound next 
     most n c offset h = let e = at_least_one n c h in omega (arith, e)
 
 -- ---- the one after another
-
--- three numbers below three of which the last is one more
-below_more : (a b c x y z : ℕ) → IsBelow (a ∷ b ∷ c ∷ []) (x ∷ y ∷ (z + 1) ∷ []) → IsBelow (x ∷ y ∷ z ∷ []) (a ∷ b ∷ c ∷ []) → ⊥
-below_more a b c x y z h k = grind (arith, h, k)
-
-not_below_more : (a b c x y z : ℕ) → (IsBelow (a ∷ b ∷ c ∷ []) (x ∷ y ∷ (z + 1) ∷ []) → ⊥) → IsBelow (x ∷ y ∷ z ∷ []) (a ∷ b ∷ c ∷ [])
-not_below_more a b c x y z h = grind (arith, h)
 
 -- what comes after a slot in a cycle is not below the slot with the next row, and what is not comes after it
 after_from : (first m n r q a b c x y z : ℕ) → first ≡ m - m % 64 → q ≡ m % 64 → r ≡ n % 64 → IsBelow (m ∷ x ∷ y ∷ z ∷ []) (n ∷ a ∷ b ∷ c ∷ [])
@@ -253,7 +251,7 @@ trans_below (x ∷ xs) (y ∷ ys) (z ∷ zs) h k =
 -- the bound behind a dispatch
 pub record IsAfter (last : Dispatch) (first : ℕ) (bound : Slot) : Type 0 where
   pub first_is : first ≡ last.cycle - last.cycle % 64
-  pub bound_is : key_of bound ≡ last.slot.residue ∷ last.slot.offset ∷ last.slot.link.0 ∷ (last.slot.row.0 + 1) ∷ []
+  pub bound_is : turn_of bound ≡ last.slot.residue ∷ last.slot.place.offset ∷ last.slot.place.link.0 ∷ (last.slot.place.row.0 + 1) ∷ []
 
 later_cycle : (m n : ℕ) (xs ys : List ℕ) → 1 ≤ m → IsBelow (m ∷ xs) (n ∷ ys) → 1 ≤ n
 later_cycle m n xs ys some (inl less) = omega (arith, less, some)
@@ -285,47 +283,50 @@ pub next_is_next : (network : Network) (device : DeviceId) (own : Own) (rows : R
     (last : Dispatch) (first : ℕ) (bound : Slot) (next : Dispatch) → IsOwnOf network device own → AreRowsOf network device rows
     → s.adjustment ≡ adjustment → IsAtSlot rows last → IsDispatch network device s changed done (Some last) → IsAfter last first bound
     → IsNextFrom own rows adjustment.0 first bound next
-    → IsDispatch network device s changed (done ++ dispatching last.slot.row last.cycle ∷ []) (Some next)
+    → IsDispatch network device s changed (done ++ dispatching last.slot.place.row last.cycle ∷ []) (Some next)
 next_is_next network device own rows s changed done adjustment last first bound next is are same at was after found =
-    let deed = dispatching last.slot.row last.cycle in
-    let of : IsSlotOf network device next.slot = All-contains (IsSlotOf network device) rows.slots.items next.slot are.sound found.slot.there in
-    let before : IsSlotOf network device last.slot = All-contains (IsSlotOf network device) rows.slots.items last.slot are.sound at.there in
-    let above : IsBelow (last.cycle ∷ numbers_of last.slot) (next.cycle ∷ numbers_of next.slot) =
-    from_after first last.cycle next.cycle next.slot.residue last.slot.residue _ _ _ _ _ last.slot.row.0 after.first_is at.residue found.slot.residue
+    let deed = dispatching last.slot.place.row last.cycle in
+    let of = is_of network device rows next.slot are found.slot.there in
+    let before = is_of network device rows last.slot are at.there in
+    let above : IsBelow (last.cycle ∷ numbers_of last.slot.place) (next.cycle ∷ numbers_of next.slot.place) =
+    from_after first last.cycle next.cycle next.slot.residue last.slot.residue _ _ _ _ _ last.slot.place.row.0 after.first_is at.residue found.slot.residue
     found.from.reached
-    (λ within below. found.from.behind within (subst (λ (k : List ℕ). IsBelow (key_of next.slot) k) (sym after.bound_is) below)) in
-    let start : 1 ≤ next.cycle = later_cycle last.cycle next.cycle (numbers_of last.slot) (numbers_of next.slot) was.1.leaves.occurs.begun above in
+    (λ within below. found.from.behind within (subst (λ (k : List ℕ). IsBelow (turn_of next.slot) k) (sym after.bound_is) below)) in
+    let start : 1 ≤ next.cycle = later_cycle last.cycle next.cycle (numbers_of last.slot.place) (numbers_of next.slot.place) was.1.leaves.occurs.begun above in
     let it = leaves network device own next.slot next.cycle is of found.slot.residue start in
-    let sooner : IsSooner network last.slot.row last.cycle next.slot.row next.cycle =
-    subst (λ (xs : List ℕ). IsBelow (last.cycle ∷ xs) (next.cycle ∷ dispatch_order network next.slot.row)) (sym (place_is network device last.slot before))
-    (subst (λ (xs : List ℕ). IsBelow (last.cycle ∷ numbers_of last.slot) (next.cycle ∷ xs)) (sym (place_is network device next.slot of)) above) in (
+    let sooner : IsSooner network last.slot.place.row last.cycle next.slot.place.row next.cycle =
+    subst (λ (xs : List ℕ). IsBelow (last.cycle ∷ xs) (next.cycle ∷ dispatch_order network next.slot.place.row))
+    (sym (place_is network device last.slot before))
+    (subst (λ (xs : List ℕ). IsBelow (last.cycle ∷ numbers_of last.slot.place) (next.cycle ∷ xs)) (sym (place_is network device next.slot of)) above) in (
       was.0,
       record {
         leaves = it;
         ahead =
-            below_through changed _ _ was.1.ahead (later_value network device own next.slot.row last.slot.row next.cycle last.cycle is it was.1.leaves
-            (λ back. below_one_way (last.cycle ∷ dispatch_order network last.slot.row) (next.cycle ∷ dispatch_order network next.slot.row) sooner back));
+            below_through changed _ _ was.1.ahead
+            (later_value network device own next.slot.place.row last.slot.place.row next.cycle last.cycle is it was.1.leaves
+            (λ back. below_one_way (last.cycle ∷ dispatch_order network last.slot.place.row)
+            (next.cycle ∷ dispatch_order network next.slot.place.row) sooner back));
         done_before = λ other n there. elim (was_done done deed (dispatching other n) there) [
-          | inl earlier ↦ trans_below (n ∷ dispatch_order network other) (last.cycle ∷ dispatch_order network last.slot.row)
-              (next.cycle ∷ dispatch_order network next.slot.row) (was.1.done_before other n earlier) sooner
-          | inr now ↦ sooner_by network other n last.slot.row last.cycle next.slot.row next.cycle now sooner
+          | inl earlier ↦ trans_below (n ∷ dispatch_order network other) (last.cycle ∷ dispatch_order network last.slot.place.row)
+              (next.cycle ∷ dispatch_order network next.slot.place.row) (was.1.done_before other n earlier) sooner
+          | inr now ↦ sooner_by network other n last.slot.place.row last.cycle next.slot.place.row next.cycle now sooner
         ];
         rest = λ other n h later lt.
             let slot = slot_of network device other n h in
             let one = is_slot network device own other n is h in
-            let low : IsBelow (n ∷ numbers_of slot) (next.cycle ∷ numbers_of next.slot) =
-            subst (λ (xs : List ℕ). IsBelow (n ∷ xs) (next.cycle ∷ numbers_of next.slot)) (place_is network device slot one)
+            let low : IsBelow (n ∷ numbers_of slot.place) (next.cycle ∷ numbers_of next.slot.place) =
+            subst (λ (xs : List ℕ). IsBelow (n ∷ xs) (next.cycle ∷ numbers_of next.slot.place)) (place_is network device slot one)
             (subst (λ (xs : List ℕ). IsBelow (n ∷ dispatch_order network other) (next.cycle ∷ xs)) (place_is network device next.slot of) lt) in
-            let not_after : IsBelow (last.cycle ∷ numbers_of last.slot) (n ∷ numbers_of slot) → ⊥ = λ behind.
-            let from = after_from first last.cycle n slot.residue last.slot.residue _ _ _ _ _ last.slot.row.0 after.first_is at.residue refl behind in
+            let not_after : IsBelow (last.cycle ∷ numbers_of last.slot.place) (n ∷ numbers_of slot.place) → ⊥ = λ behind.
+            let from = after_from first last.cycle n slot.residue last.slot.residue _ _ _ _ _ last.slot.place.row.0 after.first_is at.residue refl behind in
             found.least slot n (slot_in network device own rows other n is are h)
-            (record { reached = from.0; behind = λ within below. from.1 within (subst (λ (k : List ℕ). IsBelow (key_of slot) k) after.bound_is below) }) low
+            (record { reached = from.0; behind = λ within below. from.1 within (subst (λ (k : List ℕ). IsBelow (turn_of slot) k) after.bound_is below) }) low
             in
-            elim (same_or_below (n ∷ numbers_of slot) (last.cycle ∷ numbers_of last.slot) refl not_after) [
-              | inl equal ↦ let e = same_four equal in done_same done other n last.slot.row last.cycle e.1 e.0
+            elim (same_or_below (n ∷ numbers_of slot.place) (last.cycle ∷ numbers_of last.slot.place) refl not_after) [
+              | inl equal ↦ let e = same_four equal in done_same done other n last.slot.place.row last.cycle e.1 e.0
               | inr less ↦ done_still done deed (dispatching other n) (was.1.rest other n h later
-                  (subst (λ (xs : List ℕ). IsBelow (n ∷ xs) (last.cycle ∷ dispatch_order network last.slot.row)) (sym (place_is network device slot one))
-                  (subst (λ (xs : List ℕ). IsBelow (n ∷ numbers_of slot) (last.cycle ∷ xs)) (sym (place_is network device last.slot before)) less)))
+                  (subst (λ (xs : List ℕ). IsBelow (n ∷ xs) (last.cycle ∷ dispatch_order network last.slot.place.row)) (sym (place_is network device slot one))
+                  (subst (λ (xs : List ℕ). IsBelow (n ∷ numbers_of slot.place) (last.cycle ∷ xs)) (sym (place_is network device last.slot before)) less)))
             ];
       },
       is_at network device own rows s adjustment first bound next is of same found,
@@ -333,7 +334,8 @@ next_is_next network device own rows s changed done adjustment last first bound 
 
 -- ---- an answer of the search
 
-no_rows : (network : Network) (device : DeviceId) (own : Own) (rows : Rows) → IsOwnOf network device own → AreRowsOf network device rows → rows.slots.items ≡ []
+no_rows : (network : Network) (device : DeviceId) (own : Own) (rows : Rows) → IsOwnOf network device own → AreRowsOf network device rows
+    → rows.slots.items ≡ []
     → (row : RowId) (cycle : ℕ) → Leaves network device row cycle → ⊥
 no_rows network device own rows is are none row cycle h =
     let there = (slot_in network device own rows row cycle is are h).there in
@@ -352,7 +354,7 @@ pub next_next : (network : Network) (device : DeviceId) (own : Own) (rows : Rows
     (last : Dispatch) (first : ℕ) (bound : Slot) (o : Option Dispatch) → IsOwnOf network device own → AreRowsOf network device rows
     → s.adjustment ≡ adjustment → IsAtSlot rows last → IsDispatch network device s changed done (Some last) → IsAfter last first bound
     → IsFirstFrom own rows adjustment.0 first bound o
-    → IsDispatch network device s changed (done ++ dispatching last.slot.row last.cycle ∷ []) o
+    → IsDispatch network device s changed (done ++ dispatching last.slot.place.row last.cycle ∷ []) o
 next_next network device own rows s changed done adjustment last first bound None is are same at was after found =
     λ sync row cycle h. no_rows network device own rows is are found row cycle h
 next_next network device own rows s changed done adjustment last first bound (Some next) is are same at was after found =

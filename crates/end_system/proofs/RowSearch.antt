@@ -1,31 +1,42 @@
 -- The first dispatch of a device that comes no earlier than a bound.
-use Rattle.end_system.proofs.Words.{◌%◌, ◌*◌, ◌+◌, ◌-ℤ◌, ◌<◌, ◌^◌, ◌∷◌, ◌≡◌, ◌≤◌, AreInOrder, AreRowsOf, Contains, DeviceId, Dispatch, IsBelow, IsInRange}
-use Rattle.end_system.proofs.Words.{IsSlotOf, List, Network, Own, Rows, Slot, Some, amount, amount_most, arith, in_all, inl, inr, key_of, length}
-use Rattle.end_system.proofs.Words.{mul-le-mul_left, pos, refl, slice_get, slice_get_within, subst, sym, ℕ, ℤ, ⊎_elim}
-use Rattle.std.proofs.lemmas.{Bool.cases_lt, Option.get_or_from_slice_get}
-use Rattle.schedule_tables.proofs.EntryLemmas.{in_range}
-use Rattle.end_system.proofs.{KeyOrder.{slot_cmp, slot_compares}, Search.{Ends, IsOrder, no_earlier, not_before, not_below}}
-use Rattle.end_system.specs.RowSlots.{IsNextFrom, numbers_of}
+use Rattle.end_system.proofs.Words.{◌%◌, ◌*◌, ◌+◌, ◌-ℤ◌, ◌<◌, ◌^◌, ◌∙◌, ◌∷◌, ◌≡◌, ◌≤◌, AreRowsOf, Contains, DeviceId, Dispatch, IsBelow, IsInRange}
+use Rattle.end_system.proofs.Words.{IsSlotOf, List, Network, Own, Rows, SentBy, Slot, Some, amount, amount_most, ap, arith, in_all, inl, inr, key_of}
+use Rattle.end_system.proofs.Words.{mul-le-mul_left, numbers_of, pos, refl, slice_get, slice_get_within, subst, sym, turn_of, ℕ, ℤ, ⊎_elim}
+use Rattle.std.proofs.lemmas.{Bool.cases_lt, List.Elements.All-contains, Option.get_or_from_slice_get}
+use Rattle.schedule_tables.{proofs.{EntryLemmas.in_range, Search.no_earlier}, specs.{Slots.{AreBelow, IsFirstSlot}, declared.slot.Place.Place}}
+use Rattle.end_system.specs.RowSlots.{IsNextFrom}
 
--- where the search for the bound ends
-abbrev pub SlotEnds : List Slot → Slot → ℕ → Type 0
-SlotEnds slots bound place = Ends slot_cmp slots bound place
+-- each slot is of the device's rows
+pub is_of : (network : Network) (device : DeviceId) (rows : Rows) (slot : Slot) → AreRowsOf network device rows → Contains rows.slots.items slot
+    → IsSlotOf network (SentBy device) slot
+is_of network device rows slot are there = All-contains (IsSlotOf network (SentBy device)) rows.slots.items slot are.slots.sound there
 
-pub slot_order : IsOrder key_of slot_cmp
-slot_order = record { compares = slot_compares; as_many = λ s t. refl }
+-- and names it
+pub device_is : (network : Network) (device : DeviceId) (rows : Rows) (slot : Slot) → AreRowsOf network device rows → Contains rows.slots.items slot
+    → slot.device ≡ rows.device
+device_is network device rows slot are there =
+    let is = is_of network device rows slot are there in
+    sym is.source ∙ is.among.0 ∙ sym are.owner
+
+-- slots of one device are compared by their turns
+by_turns : (s t : Slot) → s.device ≡ t.device → IsBelow (key_of s) (key_of t) → IsBelow (turn_of s) (turn_of t)
+by_turns s t same (inl less) = let e = ap (λ (d : DeviceId). d.0) same in absurd (omega (arith, e, less))
+by_turns s t same (inr (_, below)) = below
+
+by_keys : (s t : Slot) → s.device ≡ t.device → IsBelow (turn_of s) (turn_of t) → IsBelow (key_of s) (key_of t)
+by_keys s t same below = inr (ap (λ (d : DeviceId). d.0) same, below)
 
 -- the numbers of a cycle and of a slot in it, in 64 cycles
 in_block : (first n c r q : ℕ) → first % 64 ≡ 0 → c ≡ first + q → q < 64 → r ≡ n % 64 → first ≤ n → n ≤ c → (n < c → r < q) × (n ≡ c → r ≡ q)
 in_block first n c r q a b d e f g = (λ h. omega arith, λ h. omega arith)
 
--- the slot at the place comes first in the 64 cycles
-pub least_here : (slots : List Slot) → AreInOrder slots → (first place : ℕ) (s : Slot) → first % 64 ≡ 0 → slice_get slots place ≡ Some s → s.residue < 64
-    → (t : Slot) (n : ℕ) (has : Contains slots t) → t.residue ≡ n % 64 → first ≤ n → (n < first + 64 → place ≤ has.0)
-    → IsBelow (n ∷ numbers_of t) ((first + s.residue) ∷ numbers_of s) → ⊥
-least_here slots order first place s whole at small t n has residue from there below =
-    let le : n ≤ first + s.residue = up_to n (first + s.residue) (numbers_of t) (numbers_of s) below in
+-- what has no earlier turn comes no earlier in the 64 cycles
+least_here : (first : ℕ) (s t : Slot) (n : ℕ) → first % 64 ≡ 0 → s.residue < 64 → t.residue ≡ n % 64 → first ≤ n
+    → (n < first + 64 → IsBelow (turn_of t) (turn_of s) → ⊥) → IsBelow (n ∷ numbers_of t.place) ((first + s.residue) ∷ numbers_of s.place) → ⊥
+least_here first s t n whole small residue from later below =
+    let le : n ≤ first + s.residue = up_to n (first + s.residue) (numbers_of t.place) (numbers_of s.place) below in
     let block = in_block first n (first + s.residue) t.residue s.residue whole refl small residue from le in
-    no_earlier key_of slots order place s at t has (there (omega (arith, le, small)))
+    later (omega (arith, le, small))
     (elim below [
       | inl lt ↦ inl (block.0 lt)
       | inr (same, more) ↦ inr (block.1 same, more)
@@ -35,46 +46,48 @@ least_here slots order first place s whole at small t n has residue from there b
     up_to n c xs ys (inl lt) = omega (arith, lt)
     up_to n c xs ys (inr (same, more)) = omega (arith, same)
 
--- the search's answer, where a slot stands at its end
-pub first_here : (own : Own) (rows : Rows) (adjustment : ℤ) (first place : ℕ) (bound : Slot) (next : Dispatch) → AreInOrder rows.slots.items
-    → SlotEnds rows.slots.items bound place → first % 64 ≡ 0 → slice_get rows.slots.items place ≡ Some next.slot
+-- the search's answer, where a slot is not below the bound
+pub first_here : (network : Network) (device : DeviceId) (own : Own) (rows : Rows) (adjustment : ℤ) (first : ℕ) (bound : Slot) (next : Dispatch)
+    → AreRowsOf network device rows → bound.device ≡ rows.device → IsFirstSlot rows.slots.items bound next.slot → first % 64 ≡ 0
     → next.slot.residue < 64 → next.cycle ≡ first + next.slot.residue
-    → next.at.0 ≡ (pos (next.cycle * amount own.plan.cycle_length + next.slot.offset) -ℤ adjustment) → IsNextFrom own rows adjustment first bound next
-first_here own rows adjustment first place bound next order ends whole at small cycle time = record {
-  slot = record {
-    there = (place, slice_get_within rows.slots.items place next.slot at, get_or_from_slice_get rows.slots.items place next.slot next.slot at);
-    residue = omega (arith, small, cycle, whole);
-  };
-  from = record { reached = omega (arith, cycle); behind = λ lt. not_below key_of slot_cmp slot_order rows.slots.items bound place ends next.slot at };
-  least = λ slot n is from below.
-      least_here rows.slots.items order first place next.slot whole at small slot n is.there is.residue from.reached
-      (λ lt. not_before key_of slot_cmp slot_order rows.slots.items bound place ends slot is.there (from.behind lt))
-      (subst (λ (k : ℕ). IsBelow (n ∷ numbers_of slot) (k ∷ numbers_of next.slot)) cycle below);
-  at = time;
-}
+    → next.at.0 ≡ (pos (next.cycle * amount own.plan.cycle_length + next.slot.place.offset) -ℤ adjustment) → IsNextFrom own rows adjustment first bound next
+first_here network device own rows adjustment first bound next are same found whole small cycle time =
+    let of = device_is network device rows next.slot are found.there in
+    record {
+      slot = record { there = found.there; residue = omega (arith, small, cycle, whole) };
+      from = record { reached = omega (arith, cycle); behind = λ lt below. found.from (by_keys next.slot bound (of ∙ sym same) below) };
+      least = λ slot n is from below.
+          let it = device_is network device rows slot are is.there in
+          least_here first next.slot slot n whole small is.residue from.reached
+          (λ lt low. found.first slot is.there (λ under. from.behind lt (by_turns slot bound (it ∙ sym same) under))
+          (by_keys slot next.slot (it ∙ sym of) low))
+          (subst (λ (k : ℕ). IsBelow (n ∷ numbers_of slot.place) (k ∷ numbers_of next.slot.place)) cycle below);
+      at = time;
+    }
 
--- the search's answer, where no slot stands at its end
-pub first_later : (own : Own) (rows : Rows) (adjustment : ℤ) (first place : ℕ) (bound : Slot) (next : Dispatch) → AreInOrder rows.slots.items
-    → SlotEnds rows.slots.items bound place → first % 64 ≡ 0 → length rows.slots.items ≤ place → slice_get rows.slots.items 0 ≡ Some next.slot
-    → next.slot.residue < 64 → next.cycle ≡ first + 64 + next.slot.residue
-    → next.at.0 ≡ (pos (next.cycle * amount own.plan.cycle_length + next.slot.offset) -ℤ adjustment) → IsNextFrom own rows adjustment first bound next
-first_later own rows adjustment first place bound next order ends whole past at small cycle time = record {
-  slot = record {
-    there = (0, slice_get_within rows.slots.items 0 next.slot at, get_or_from_slice_get rows.slots.items 0 next.slot next.slot at);
-    residue = omega (arith, small, cycle, whole);
-  };
-  from = record { reached = omega (arith, cycle); behind = λ lt. absurd (omega (arith, lt, cycle)) };
-  least = λ slot n is from below.
-      least_here rows.slots.items order (first + 64) 0 next.slot (omega (arith, whole)) at small slot n is.there is.residue
-      (⊎_elim
-      (λ (lt : n < first + 64). let e = not_before key_of slot_cmp slot_order rows.slots.items bound place ends slot is.there (from.behind lt) in let w =
-      is.there.1 in absurd (omega (arith, e, w, past)))
-      (λ (le : first + 64 ≤ n). le)
-      (cases_lt n (first + 64)))
-      (λ lt. omega arith)
-      (subst (λ (k : ℕ). IsBelow (n ∷ numbers_of slot) (k ∷ numbers_of next.slot)) cycle below);
-  at = time;
-}
+-- the search's answer, where all slots are below the bound
+pub first_later : (network : Network) (device : DeviceId) (own : Own) (rows : Rows) (adjustment : ℤ) (first : ℕ) (bound : Slot) (next : Dispatch)
+    → AreRowsOf network device rows → bound.device ≡ rows.device → AreBelow rows.slots.items bound → first % 64 ≡ 0
+    → slice_get rows.slots.items 0 ≡ Some next.slot → next.slot.residue < 64 → next.cycle ≡ first + 64 + next.slot.residue
+    → next.at.0 ≡ (pos (next.cycle * amount own.plan.cycle_length + next.slot.place.offset) -ℤ adjustment) → IsNextFrom own rows adjustment first bound next
+first_later network device own rows adjustment first bound next are same none whole at small cycle time =
+    let there : Contains rows.slots.items next.slot =
+    (0, slice_get_within rows.slots.items 0 next.slot at, get_or_from_slice_get rows.slots.items 0 next.slot next.slot at) in
+    let of = device_is network device rows next.slot are there in
+    record {
+      slot = record { there = there; residue = omega (arith, small, cycle, whole) };
+      from = record { reached = omega (arith, cycle); behind = λ lt. absurd (omega (arith, lt, cycle)) };
+      least = λ slot n is from below.
+          let it = device_is network device rows slot are is.there in
+          least_here (first + 64) next.slot slot n (omega (arith, whole)) small is.residue
+          (⊎_elim
+          (λ (lt : n < first + 64). absurd (none slot is.there (λ under. from.behind lt (by_turns slot bound (it ∙ sym same) under))))
+          (λ (le : first + 64 ≤ n). le)
+          (cases_lt n (first + 64)))
+          (λ lt low. no_earlier key_of rows.slots.items are.slots.order 0 next.slot at slot is.there (omega arith) (by_keys slot next.slot (it ∙ sym of) low))
+          (subst (λ (k : ℕ). IsBelow (n ∷ numbers_of slot.place) (k ∷ numbers_of next.slot.place)) cycle below);
+      at = time;
+    }
 
 -- ---- numbers
 
@@ -89,12 +102,13 @@ pub few_cycles : (first c : ℕ) → first * c ≤ 2 ^ 62 → 2 ^ 32 ≤ c → f
 few_cycles first c h long = let k : first * 2 ^ 32 ≤ first * c = mul-le-mul_left first long in omega (arith, h, k)
 
 -- a slot's place lies in its range
-pub slot_offset : (network : Network) (device : DeviceId) (slot : Slot) → IsInRange network → IsSlotOf network device slot → slot.offset ≤ 2 ^ 40
+pub slot_offset : (network : Network) (device : DeviceId) (slot : Slot) → IsInRange network → IsSlotOf network (SentBy device) slot
+    → slot.place.offset ≤ 2 ^ 40
 slot_offset network device slot range is =
-    let in_range = in_range network slot.row.0 is.entry range is.is in
-    subst (λ (n : ℕ). n ≤ 2 ^ 40) (sym is.offset) (amount_most 0 (2 ^ 40) is.entry.row.offset in_range.row.offset)
+    let in_range = in_range network slot.place.row.0 is.entry range is.is in
+    subst (λ (p : Place). p.offset ≤ 2 ^ 40) (sym is.place) (amount_most 0 (2 ^ 40) is.entry.row.offset in_range.row.offset)
 
 -- what is known of a slot at a place
 pub slot_at : (network : Network) (device : DeviceId) (rows : Rows) (place : ℕ) (slot : Slot) → AreRowsOf network device rows
-    → slice_get rows.slots.items place ≡ Some slot → IsSlotOf network device slot
-slot_at network device rows place slot are at = in_all (IsSlotOf network device) rows.slots.items place slot are.sound at
+    → slice_get rows.slots.items place ≡ Some slot → IsSlotOf network (SentBy device) slot
+slot_at network device rows place slot are at = in_all (IsSlotOf network (SentBy device)) rows.slots.items place slot are.slots.sound at

@@ -123,7 +123,7 @@ pub dispatch_some : (network : Network) (device : DeviceId) (own : Own) (s : Sta
 dispatch_some network device own s changed done None row cycle own_is is h = is h.own.0 row cycle h.own.1
 dispatch_some network device own s changed done (Some next) row cycle own_is is h =
     reading_up_to _ _ next.at.0 s.adjustment.0 is.2
-    (later_value network device own row next.slot.row cycle next.cycle own_is h.own.1 is.1.leaves
+    (later_value network device own row next.slot.place.row cycle next.cycle own_is h.own.1 is.1.leaves
     (λ sooner. h.not_yet (is.1.rest row cycle h.own.1 h.ahead sooner)))
 
 -- ---- the least reading
@@ -179,13 +179,13 @@ correction_ahead network device s changed done next is =
     record { own = is.0.point; ahead = is.0.ahead; not_yet = λ there. none_less next.cycle (is.0.done_before next.cycle there) }
 
 pub dispatch_ahead : (network : Network) (device : DeviceId) (s : Standing) (changed : ℤ) (done : List ClockTask) (next : Dispatch)
-    → IsDispatch network device s changed done (Some next) → IsAhead network device s changed done (dispatching next.slot.row next.cycle)
+    → IsDispatch network device s changed done (Some next) → IsAhead network device s changed done (dispatching next.slot.place.row next.cycle)
 dispatch_ahead network device s changed done next is =
     record {
       own = (is.0, is.1.leaves);
       ahead = is.1.ahead;
-      not_yet = λ there. not_sooner_itself network next.slot.row next.cycle
-          (is.1.done_before next.slot.row next.cycle there);
+      not_yet = λ there. not_sooner_itself network next.slot.place.row next.cycle
+          (is.1.done_before next.slot.place.row next.cycle there);
     }
 
 -- some deed is ahead, and comes at the reading
@@ -209,7 +209,7 @@ dispatch_there : (network : Network) (device : DeviceId) (s : Standing) (changed
     → IsDispatch network device s changed done o → IsSomeAnd o (λ next. next.at ≡ at) → IsSomeDeed network device s changed done at
 dispatch_there network device s changed done None at is h = absurd h
 dispatch_there network device s changed done (Some next) at is h =
-    (dispatching next.slot.row next.cycle, dispatch_ahead network device s changed done next is, sym is.2 ∙ ap (λ (u : Units). u.0) h)
+    (dispatching next.slot.place.row next.cycle, dispatch_ahead network device s changed done next is, sym is.2 ∙ ap (λ (u : Units). u.0) h)
 
 some_there : (network : Network) (device : DeviceId) (s : Standing) (changed : ℤ) (done : List ClockTask) (agenda : Agenda) (at : Units)
     → IsAgenda network device s changed done agenda → HasReading agenda at → IsSomeDeed network device s changed done at
@@ -343,9 +343,9 @@ precision_some network device own is = some_whole network.precision.0 is.in_rang
 dispatch_first : (network : Network) (device : DeviceId) (own : Own) (node : Node) (agenda : Agenda) (reading : ℤ) (next : Dispatch) (other : Task)
     → IsOwnOf network device own → IsAgenda network device node.standing node.changed node.done agenda → NoSendingDue agenda reading
     → IfSome agenda.correction (λ is. reading <ℤ is.at.0) → IsDispatch network device node.standing node.changed node.done (Some next)
-    → reading <ℤ (reading_for network node (doing (dispatching next.slot.row next.cycle)) +ℤ network.precision.0)
+    → reading <ℤ (reading_for network node (doing (dispatching next.slot.place.row next.cycle)) +ℤ network.precision.0)
     → IsAheadTask network device node other → reading_for network node other ≤ℤ reading
-    → IsBefore (order_of network other) (3 ∷ dispatch_order network next.slot.row) → ⊥
+    → IsBefore (order_of network other) (3 ∷ dispatch_order network next.slot.place.row) → ⊥
 dispatch_first network device own node agenda reading next (emitting sent) is a none nocor here soon h there before = h
 dispatch_first network device own node agenda reading next (doing (sending cycle)) is a none nocor here soon h there before =
     no_sending network device node agenda reading cycle a none h there
@@ -353,14 +353,15 @@ dispatch_first network device own node agenda reading next (doing (correcting cy
     no_correction network device node agenda reading cycle a nocor h there
 dispatch_first network device own node agenda reading next (doing (dispatching row cycle)) is a none nocor here soon h there (inl lt) = omega arith
 dispatch_first network device own node agenda reading next (doing (dispatching row cycle)) is a none nocor here soon h there (inr (e, before)) =
-    let below : IsBelow (dispatch_order network row) (dispatch_order network next.slot.row) = before_below _ _ _ _ _ _ _ _
-    (place_is network device row cycle h.own.1) (place_is network device next.slot.row next.cycle here.1.leaves) before in
+    let below : IsBelow (dispatch_order network row) (dispatch_order network next.slot.place.row) = before_below _ _ _ _ _ _ _ _
+    (place_is network device row cycle h.own.1) (place_is network device next.slot.place.row next.cycle here.1.leaves) before in
     elim (cases_of cycle next.cycle) [
       | inl less ↦ h.not_yet (here.1.rest row cycle h.own.1 h.ahead (inl less))
       | inr (inl same) ↦ h.not_yet (here.1.rest row cycle h.own.1 h.ahead (inr (same, below)))
       | inr (inr more) ↦ far_behind (amount network.cycle) cycle next.cycle _ _ (amount network.precision) reading node.standing.adjustment.0 more
-          (is.early next.slot.row next.cycle here.1.leaves) (precision_some network device own is)
-          (subst (λ (p : ℤ). reading <ℤ (reading_for network node (doing (dispatching next.slot.row next.cycle)) +ℤ p)) (precision_of network device own is)
+          (is.early next.slot.place.row next.cycle here.1.leaves) (precision_some network device own is)
+          (subst (λ (p : ℤ). reading <ℤ (reading_for network node (doing (dispatching next.slot.place.row next.cycle)) +ℤ p))
+          (precision_of network device own is)
           soon) there
     ]
 
@@ -369,18 +370,18 @@ pub first_is_dispatch : (network : Network) (device : DeviceId) (own : Own) (nod
     → IsOwnOf network device own → node.broken ≡ false → IsAgenda network device node.standing node.changed node.done agenda
     → MayCall network device node moment acting
     → IsFirstDue agenda moment.reading.0 (Some (dues.Dispatch next)) → IsFirstTask network device node moment.reading.0
-    (doing (dispatching next.slot.row next.cycle))
+    (doing (dispatching next.slot.place.row next.cycle))
 first_is_dispatch network device own node agenda moment next is sound a may due =
     let here : IsDispatch network device node.standing node.changed node.done (Some next) = subst
     (IsDispatch network device node.standing node.changed node.done) due.2 a.dispatch in
-    let pending = pending_task network device node (dispatching next.slot.row next.cycle) sound
+    let pending = pending_task network device node (dispatching next.slot.place.row next.cycle) sound
     (dispatch_ahead network device node.standing node.changed node.done next here) in
     record {
       pending = pending;
       due = at_up_to _ _ moment.reading.0 here.2 due.3;
       first =
           λ other p there before. dispatch_first network device own node agenda moment.reading.0 next other is a due.0 due.1 here
-          (may.in_time (doing (dispatching next.slot.row next.cycle)) pending) (ahead_task network device node own other is p) there before;
+          (may.in_time (doing (dispatching next.slot.place.row next.cycle)) pending) (ahead_task network device node own other is p) there before;
     }
 
 -- nothing is due where the agenda has nothing due

@@ -18,16 +18,17 @@ pub use Rattle.run_law.specs.device.{Standpoints.{Standpoint, first_reason}, Sta
 pub use Rattle.run_law.specs.machines.{Answers.called, Calls.MayCall, Nodes.{ClockTask, Node, arriving, correcting, dispatching, sending, standpoint_at}}
 pub use Rattle.run_law.specs.machines.Tasks.{value_of}
 pub use Rattle.run_law.specs.scenario.Devices.{is_end}
-pub use Rattle.run_law.specs.timed.Arrivals.{entry_entering}
 pub use Rattle.schedule_tables.proofs.OrderLemmas.{below_itself}
 pub use Rattle.schedule_tables.specs.{Dispatches.IsBelow, Margins.expected_offset}
-pub use Rattle.schedule_tables.specs.declared.entry.Entry.{Entry}
+pub use Rattle.schedule_tables.specs.Slots.{AreInOrder, IsSlotOf, key_of, numbers_of}
+pub use Rattle.schedule_tables.specs.declared.{entry.Entry.Entry, slot.{Slot.Slot, Whose.TheVariants.SentBy}}
 pub use Rattle.sync_state.specs.{Standing.{Standing, next_point}, Verdicts.HasVerdict}
 pub use Rattle.sync_state.specs.declared.{plan.SyncPlan.SyncPlan, state.State.TheVariants.Synchronised}
-pub use Rattle.tte_lemmas.proofs.{Integers.from_zero, Lists.in_all, Options.one}
+pub use Rattle.tte_lemmas.proofs.{Integers.from_zero, Lists.in_all}
 pub use Rattle.tte_units.specs.Amount.{amount}
 pub use Rattle.tte_units.specs.declared.units.Units.{Units}
-pub use Rattle.end_system.specs.{Agendas.{IsAgenda, IsCorrection, IsDispatch, IsSending}, EnteringRows.row_by, Owns.{IsOwnOf, end_plan}}
-pub use Rattle.end_system.specs.{RowSlots.{AreInOrder, AreRowsOf, AreSlotsBelow, IsAtSlot, IsSlotOf, key_of}, Standing.{AreHeardSo, HasNumber, StandsAsEnd}}
-pub use Rattle.end_system.specs.declared.{agenda.{Agenda.Agenda, Appointment.Appointment}, end_system.EndSystem.EndSystem, entering.Entering.Entering}
-pub use Rattle.end_system.specs.declared.{entering.{EnteringRow.EnteringRow, Key.Key}, own.Own.Own, rows.{Dispatch.Dispatch, Rows.Rows, Slot.Slot}}
+pub use Rattle.device_rules.specs.{Intakes.HasTaken, declared.intake.Intake.Intake}
+pub use Rattle.end_system.specs.{Agendas.{IsAgenda, IsCorrection, IsDispatch, IsSending}, Owns.{IsOwnOf, end_plan}}
+pub use Rattle.end_system.specs.{RowSlots.{AreRowsOf, IsAtSlot, turn_of}, Standing.{AreHeardSo, HasNumber, StandsAsEnd}}
+pub use Rattle.end_system.specs.declared.{agenda.{Agenda.Agenda, Appointment.Appointment}, end_system.EndSystem.EndSystem}
+pub use Rattle.end_system.specs.declared.{own.Own.Own, rows.{Dispatch.Dispatch, Rows.Rows}}

@@ -36,8 +36,8 @@ abbrev pub IsDispatch : Network → DeviceId → Standing → ℤ → List Clock
 IsDispatch network device s changed done None = s.state ≡ Synchronised → (row : RowId) (cycle : ℕ)
     → Leaves network device row cycle → ⊥
 IsDispatch network device s changed done (Some next) =
-    (s.state ≡ Synchronised) × IsNextDispatch network device changed done next.slot.row next.cycle
-    × IsAt network s (dispatching next.slot.row next.cycle) next.at
+    (s.state ≡ Synchronised) × IsNextDispatch network device changed done next.slot.place.row next.cycle
+    × IsAt network s (dispatching next.slot.place.row next.cycle) next.at
 
 -- it holds what an end system does next by itself
 pub record IsAgenda (network : Network) (device : DeviceId) (s : Standing) (changed : ℤ) (done : List ClockTask)

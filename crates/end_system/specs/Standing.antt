@@ -6,7 +6,8 @@ use Rattle.net_plan.specs.declared.{ids.DeviceId.DeviceId, network.Network.Netwo
 use Rattle.run_law.specs.{control.{Collections.observation_window, Corrections.correction_value}, machines.Nodes.Node}
 use Rattle.run_law.specs.scenario.Devices.{plan_of}
 use Rattle.sync_state.specs.{Plan.expected_at, Standing.{Standing, next_point}}
-use Rattle.end_system.specs.{Agendas.IsAgenda, EnteringRows.AreEntering, Owns.IsOwnOf, RowSlots.{AreRowsOf, IsAtSlot}}
+use Rattle.device_rules.specs.Intakes.{HasTaken}
+use Rattle.end_system.specs.{Agendas.IsAgenda, Owns.IsOwnOf, RowSlots.{AreRowsOf, IsAtSlot}}
 use Rattle.end_system.specs.declared.end_system.EndSystem.{EndSystem}
 
 -- the frame was heard within its time, with this adjustment, and at a reading in the range of runs
@@ -48,6 +49,6 @@ pub record StandsAsEnd (e : EndSystem) (network : Network) (device : DeviceId) (
   pub joined : IfSome node.standing.integrated (λ cycle. cycle ≤ 2 ^ 20 + 2 ^ 17)
   pub number : IfSome (next_point node.standing) (HasNumber network node.standing e.heard node.last.reading.0)
   pub rows : AreRowsOf network device e.rows
-  pub entering : AreEntering network device node.taken e.entering
+  pub entering : HasTaken network device e.entering node.taken
   pub slot : IfSome e.agenda.dispatch (IsAtSlot e.rows)
   pub agenda : IsAgenda network device node.standing node.changed node.done e.agenda

@@ -2,13 +2,14 @@
 
 ghost use Rattle.std.specs.Prelude.{◌&&◌, ◌+ℤ◌, ◌+◌, ◌^◌, ◌≡◌, ◌≤ℤ◌, ◌≤◌, nat_le, neg_ℤ, pos};
 ghost use Rattle.clock_correction.specs.Deviation.{IsSmall};
-ghost use Rattle.run_law.specs.control.{Arrivals.refused, Hearing.{heard_by_schedule, is_in_schedule, last_cycle}};
+ghost use Rattle.run_law.specs.control.Hearing.{heard_by_schedule, is_in_schedule, last_cycle};
 ghost use Rattle.run_law.specs.control.Permanence.{ripe_as};
 ghost use Rattle.sync_state.specs.declared.state.State.TheVariants.{Off};
 ghost use Rattle.tte_units.specs.Amount.{amount};
 ghost use Rattle.end_system.specs.{Controls.{arrival_of, frame_arrival_of, heard_by}, Owns.HasOwnRange};
 
 use crate::own::Own;
+use device_rules::refused;
 use membership::count;
 use net_plan::LinkId;
 use pcf_codec::PcfRefusal;
@@ -52,18 +53,6 @@ fn frame_arrival(own: &Own, reading: Units, link: LinkId, mut frame: Pcf) -> Arr
             Arrival::Waits(frame, permanence(reading, clock, own.dmax))
         }
         None => Arrival::Dropped(Reason::Old),
-    }
-}
-
-/// Why octets that the decoder refuses are dropped.
-fn refused(refusal: PcfRefusal) -> Reason
-    ensures { result ≡ refused refusal }
-{
-    match refusal {
-        PcfRefusal::Length(count) => Reason::RefusedLength(count),
-        PcfRefusal::EtherType => Reason::RefusedEtherType,
-        PcfRefusal::Reserved(offset) => Reason::RefusedReserved(offset),
-        PcfRefusal::Kind(octet) => Reason::RefusedKind(octet),
     }
 }
 

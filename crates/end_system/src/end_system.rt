@@ -11,10 +11,9 @@ ghost use Rattle.end_system.specs.{Standing.StandsAsEnd, declared.agenda.Due.Due
 use crate::OutOfMemory;
 use crate::agenda::{Agenda, Appointment, Due, agenda_from, in_next_cycle};
 use crate::control::{arrival, heard_as, local_at};
-use crate::entering::Entering;
 use crate::own::Own;
 use crate::rows::{Dispatch, Rows};
-use crate::timed::{head_fault, two_octets};
+use device_rules::{Heading, Intake};
 use membership::{Heard, HeardFrame};
 use net_plan::{DeviceId, LinkId, Network};
 use pcf_codec::{decode, is_pcf};
@@ -33,7 +32,7 @@ pub struct EndSystem {
     heard: Heard,
     agenda: Agenda,
     rows: Rows,
-    entering: Entering,
+    entering: Intake,
     /// When it was called last.
     last: Moment,
 }
@@ -54,7 +53,10 @@ impl EndSystem {
         let own = Own::new(network, device);
         let sync = Sync::new(own.plan, start_of(network, device));
         let rows = Rows::new(alloc, network, device)?;
-        let entering = Entering::new(alloc, network, device)?;
+        let entering = match Intake::new(alloc, network, device) {
+            Ok(entering) => entering,
+            Err(_) => return Err(OutOfMemory),
+        };
         Ok(EndSystem {
             own,
             sync,
@@ -130,7 +132,7 @@ impl EndSystem {
         self.agenda.dispatch = self
             .rows
             .next_behind(&self.own, self.sync.adjustment(), dispatch);
-        Act::Dispatch(dispatch.slot.row, dispatch.cycle)
+        Act::Dispatch(dispatch.slot.place.row, dispatch.cycle)
     }
 
     /// What comes next, now that the clock has been set.
@@ -160,11 +162,13 @@ impl EndSystem {
         ensures { HearsTimed self.old moment link octets.now result self.new }
     {
         self.last = moment;
-        if let Some(reason) = head_fault(&self.own, &self.sync, octets) {
+        let heading = Heading::of(octets);
+        if let Some(reason) = heading.fault(true, self.sync.state(), self.own.marker) {
             return Arrival::Dropped(reason);
         }
         let local = local_at(moment.reading, self.sync.adjustment());
-        match self.entering.take(&self.own, link, two_octets(octets, 4), octets.len(), local) {
+        let length = self.own.plan.cycle_length;
+        match self.entering.take(length, link, &heading, local) {
             Ok((vl, cycle)) => Arrival::Delivered(vl, cycle),
             Err(reason) => Arrival::Dropped(reason),
         }

@@ -1,39 +1,26 @@
 ghost use Rattle.std.specs.Prelude.{◌%◌, ◌*◌, ◌++◌, ◌+◌, ◌-ℤ◌, ◌<ℤ◌, ◌<◌, ◌^◌, ◌∷◌, ◌≡◌, ◌≤ℤ◌, ◌≤◌, IfOk, IfSome, List};
 ghost use Rattle.std.specs.Prelude.{OnOk, Some, [], length, pos, ℕ, ℤ};
 ghost use Rattle.clock_correction.specs.Deviation.{IsSmall};
-ghost use Rattle.net_plan.specs.{Ranges.{IsInRange, IsWithin}, declared.ids.DeviceId.DeviceId as DeviceIdValue};
+ghost use Rattle.net_plan.specs.{Ranges.IsInRange, declared.ids.DeviceId.DeviceId as DeviceIdValue};
 ghost use Rattle.net_plan.specs.declared.network.Network.{Network as NetworkValue};
 ghost use Rattle.run_law.specs.machines.Nodes.{ClockTask, dispatching};
 ghost use Rattle.sync_state.specs.{Standing.Standing, declared.state.State.TheVariants.Synchronised};
 ghost use Rattle.tte_units.specs.Amount.{amount};
 ghost use Rattle.end_system.specs.{Agendas.{IsDispatch, IsLocal}, Owns.{HasOwnRange, IsOwnOf}};
-ghost use Rattle.end_system.specs.RowSlots.{AreRowsOf, AreSlotsBelow, AreSomeRows, IsAtSlot, IsFirstFrom, is_sent_by};
+ghost use Rattle.end_system.specs.RowSlots.{AreRowsOf, AreSomeRows, IsAtSlot, IsFirstFrom};
 
 use crate::OutOfMemory;
 use crate::agenda::reading_at;
 use crate::own::Own;
 use net_plan::{DeviceId, LinkId, Network, RowId};
-use schedule_tables::{Entry, entry_of};
-use std::alloc::{AllocError, Global};
+use schedule_tables::{Place, RESIDUES, Slot, Whose, first_slot, slots_of};
+use std::alloc::Global;
 use tte_units::Units;
-
-/// The greatest period of a virtual link. Each period divides it, so that a cycle's residue, its remainder by this
-/// number, tells which virtual links occur in the cycle.
-const RESIDUES: u32 = 64;
-
-/// The dispatch of a row in the cycles of a residue, in order of residue, offset, link and row.
-#[derive(Clone, Copy, PartialEq, Eq, PartialOrd, Ord)]
-pub struct Slot {
-    pub residue: u32,
-    /// The row's place in the cycle, up to 2^40 units of 2^-16 ns.
-    pub offset: u64,
-    pub link: LinkId,
-    pub row: RowId,
-}
 
 /// The rows that a device dispatches.
 #[derive(Drop)]
 pub struct Rows {
+    device: DeviceId,
     /// A slot for each row and residue in which the row's virtual link occurs, in ascending order.
     slots: Vec<Slot>,
 }
@@ -53,12 +40,8 @@ impl Rows {
         requires { IsInRange network.now }
         ensures { IfOk result (AreRowsOf network.now device) }
     {
-        let mut slots = Vec::new(alloc);
-        for place in 0..network.row.as_slice().len() {
-            push_slots(&mut slots, network, device, RowId(place as u32))?;
-        }
-        slots.sort()?;
-        Ok(Rows { slots })
+        let slots = slots_of(alloc, network, Whose::SentBy(device))?;
+        Ok(Rows { device, slots })
     }
 
     /// The first dispatch at a local value behind this one.
@@ -76,10 +59,13 @@ impl Rows {
         let value = value_behind(own, local);
         let cycle = (value / length) as u32;
         let bound = Slot {
+            device: self.device,
             residue: cycle % RESIDUES,
-            offset: value % length + 1,
-            link: LinkId(0),
-            row: RowId(0),
+            place: Place {
+                offset: value % length + 1,
+                link: LinkId(0),
+                row: RowId(0),
+            },
         };
         self.first_from(own, adjustment, cycle - cycle % RESIDUES, bound)
     }
@@ -95,10 +81,10 @@ impl Rows {
         ensures next { (network : NetworkValue) (device : DeviceIdValue) (s : Standing) (changed : ℤ)
             (done : List ClockTask) → IsOwnOf network device own.now → AreRowsOf network device self.now
             → s.adjustment ≡ adjustment → IsDispatch network device s changed done (Some last)
-            → IsDispatch network device s changed (done ++ dispatching last.slot.row last.cycle ∷ []) result }
+            → IsDispatch network device s changed (done ++ dispatching last.slot.place.row last.cycle ∷ []) result }
     {
         let mut bound = last.slot;
-        bound.row = RowId(last.slot.row.0 + 1);
+        bound.place.row = RowId(last.slot.place.row.0 + 1);
         self.first_from(own, adjustment, last.cycle - last.cycle % RESIDUES, bound)
     }
 
@@ -110,11 +96,11 @@ impl Rows {
         requires small { IsSmall adjustment.0 }
         requires whole { first % 64 ≡ 0 }
         requires first { first * amount own.now.plan.cycle_length ≤ 2 ^ 62 }
+        requires same { bound.device ≡ self.now.device }
         ensures { IsFirstFrom own.now self.now adjustment.0 first bound result }
     {
-        let place = self.slots.partition_point(|slot| *slot < bound);
-        match self.slots.get(place) {
-            Some(slot) => Some(dispatch_of(own, adjustment, first, *slot)),
+        match first_slot(&self.slots, bound) {
+            Some(slot) => Some(dispatch_of(own, adjustment, first, slot)),
             None => {
                 let slot = self.slots.get(0)?;
                 Some(dispatch_of(own, adjustment, first + RESIDUES, *slot))
@@ -128,15 +114,15 @@ fn dispatch_of(own: &Own, adjustment: Units, first: u32, slot: Slot) -> Dispatch
     requires range { HasOwnRange own.now }
     requires small { IsSmall adjustment.0 }
     requires residue { slot.residue < 64 }
-    requires offset { slot.offset ≤ 2 ^ 40 }
+    requires offset { slot.place.offset ≤ 2 ^ 40 }
     requires first { first * amount own.now.plan.cycle_length ≤ 2 ^ 62 + 2 ^ 46 }
     ensures slot { result.slot ≡ slot }
     ensures cycle { result.cycle ≡ first + result.slot.residue }
-    ensures at { result.at.0 ≡ (pos (result.cycle * amount own.now.plan.cycle_length + result.slot.offset)
+    ensures at { result.at.0 ≡ (pos (result.cycle * amount own.now.plan.cycle_length + result.slot.place.offset)
         -ℤ adjustment.0) }
 {
     let cycle = first + slot.residue;
-    let value = u64::from(cycle) * own.plan.cycle_length.amount() + slot.offset;
+    let value = u64::from(cycle) * own.plan.cycle_length.amount() + slot.place.offset;
     Dispatch {
         slot,
         cycle,
@@ -159,41 +145,4 @@ fn value_behind(own: &Own, local: Units) -> u64
     } else {
         local.amount()
     }
-}
-
-/// Adds the slots of a row, if the device sends its frames.
-fn push_slots(
-    slots: &mut Vec<Slot>,
-    network: &Network,
-    device: DeviceId,
-    row: RowId,
-) -> Result<(), AllocError>
-    requires range { IsInRange network.now }
-    requires there { row.0 < length network.now.row }
-    requires before { AreSlotsBelow network.now device (row.0 * 64) slots.old.items }
-    ensures { OnOk result (AreSlotsBelow network.now device (row.0 * 64 + 64) slots.new.items) }
-{
-    let entry = entry_of(network, row);
-    if !is_sent_by(&entry, device) {
-        return Ok(());
-    }
-    for residue in 0..RESIDUES {
-        if residue % entry.vl.period == entry.vl.phase {
-            let slot = Slot {
-                residue,
-                offset: entry.row.offset.amount(),
-                link: entry.row.link,
-                row,
-            };
-            slots.push(slot)?;
-        }
-    }
-    Ok(())
-}
-
-/// Whether the entry's frames leave the device that sends them first.
-fn is_sent_by(entry: &Entry, device: DeviceId) -> bool
-    ensures { result ≡ is_sent_by entry.now device }
-{
-    entry.source() == device && entry.vl.sender == device
 }

@@ -15,18 +15,11 @@ pub entry_by : (o : Option VirtualLink) (p : Option Link) (row : Row) (entry : E
 entry_by None p row entry e = absurd cc
 entry_by (Some vl) None row entry e = absurd cc
 entry_by (Some vl) (Some link) row entry e =
-    let same : _ ≡ entry = some_same e in
-    (ap (λ (x : Entry). Some x.vl) same, ap (λ (x : Entry). Some x.link) same, ap (λ (x : Entry). x.row) same)
-  where
-    some_same : {x : Entry} → Some x ≡ Some entry → x ≡ entry
-    some_same e = cc
+    grind arith
 
 -- two ids are one device's or not
 pub same_or_other : (d e : DeviceId) → (d ≡ e) ⊎ (d ≢ e)
-same_or_other d e = elim (cases_eq d.0 e.0) [
-  | inl same ↦ inl (ap (λ (n : ℕ). let x : DeviceId = record { 0 = n } in x) same)
-  | inr other ↦ inr (λ same. other (ap (λ (x : DeviceId). x.0) same))
-]
+same_or_other d e = grind (arith, cases_eq)
 
 -- by the offset: a row that leaves its sender is in the schedule, and any other comes behind one that enters its source
 pub begun_below : (network : Network) (bound place : ℕ) (entry : Entry) → KeepsRules network → IsEntry network place entry → amount entry.row.offset < bound
@@ -82,6 +75,4 @@ periods_agree n p q one two =
 pub occur_together : (one two : VirtualLink) (cycle : ℕ) → Contains (1 ∷ 2 ∷ 4 ∷ 8 ∷ 16 ∷ 32 ∷ 64 ∷ []) one.period
     → Contains (1 ∷ 2 ∷ 4 ∷ 8 ∷ 16 ∷ 32 ∷ 64 ∷ []) two.period → OccursIn one cycle → OccursIn two cycle → Coincide one two
 occur_together one two cycle first second here there =
-    ap (λ (x : ℕ). x % min one.period two.period) (sym here.in_phase)
-    ∙ periods_agree cycle one.period two.period first second
-    ∙ ap (λ (x : ℕ). x % min one.period two.period) there.in_phase
+    grind (arith, min, periods_agree)

@@ -1,5 +1,6 @@
 -- The entries of rows.
-use Rattle.std.{proofs.Common.{◌++◌, ◌∙◌, ◌∷◌, ◌≡◌, List, Some, [], ap, length, subst, sym, ℕ, ⊎_elim}, specs.Prelude.slice_get}
+use Rattle.std.proofs.Common.{arith}
+use Rattle.std.{proofs.Common.{◌++◌, ◌∙◌, ◌∷◌, ◌≡◌, List, Some, [], length, subst, sym, ℕ, ⊎_elim}, specs.Prelude.slice_get}
 use Rattle.net_plan.specs.{Ranges.{IsLinkInRange, IsRowInRange, IsVlInRange}, declared.{network.Network.Network, tables.{Link.Link, Row.Row}}}
 use Rattle.net_plan.specs.declared.tables.VirtualLink.{VirtualLink}
 use Rattle.tte_lemmas.proofs.{Lists.{in_all, pushed}, Options.one}
@@ -17,10 +18,7 @@ entry r v l = record { row = r; vl = v; link = l }
 
 pub one_entry : EntryIsOne
 one_entry n i e f a b =
-    let r = one (slice_get n.row i) e.row f.row a.row b.row in
-    let v = one (slice_get n.vl e.row.vl.0) e.vl f.vl a.vl (subst (λ (x : Row). slice_get n.vl x.vl.0 ≡ Some f.vl) (sym r) b.vl) in
-    let l = one (slice_get n.link e.row.link.0) e.link f.link a.link (subst (λ (x : Row). slice_get n.link x.link.0 ≡ Some f.link) (sym r) b.link) in
-    ap (λ x. entry x e.vl e.link) r ∙ ap (λ x. entry f.row x e.link) v ∙ ap (λ x. entry f.row f.vl x) l
+    grind (arith, one)
 
 pub entry_pushed : (n : Network) (entries : List Entry) (e : Entry) (count : ℕ) → length entries ≡ count → IsEntry n count e
     → ((place : ℕ) (entry : Entry) → slice_get entries place ≡ Some entry → IsEntry n place entry)

@@ -3,6 +3,6 @@ pub mod Margins
 pub mod RowLemmas
 pub mod SlotLemmas
 pub mod OrderLemmas
-pub mod SearchLemmas
+pub mod Search
 pub mod NextLemmas
 pub mod Entries

@@ -23,15 +23,7 @@ halved a b e = omega (arith, e)
 
 drift_room : (n : Network) → IsInRange n → DriftHasRoom n
 drift_room n range =
-    let g = (amount_within 1 1048576 n.grain range.grain).0 in
-    let e : 2 * n.rho * (2 * amount n.cycle) ≡ 2 * (2 * n.rho * amount n.cycle) = omega arith in
-    let h = halved (2 * n.rho * amount n.cycle) (2 * n.rho * (2 * amount n.cycle)) e in
-    record {
-      grain = g;
-      two_drifts = omega (arith, g, h);
-      two_readings = omega (arith, g, h);
-      four_readings = omega (arith, g, h);
-    }
+    grind (arith, amount_within, halved)
 
 precision_room : (n : Network) (beta : ℕ) → IsInRange n → DriftHasRoom n → PrecisionFits n → IsBeta n (pos beta) → PrecisionHasRoom n beta
 precision_room n beta range drift fits is =
@@ -53,14 +45,7 @@ settled_room n beta drift settle is =
     }
 
 errors_small : (n : Network) (beta : ℕ) → ErrorsAreSmall n beta
-errors_small n beta = record {
-  paths = omega arith;
-  drifts = omega arith;
-  readings = omega arith;
-  bases = omega arith;
-  clocks = omega arith;
-  two_clocks = omega arith;
-}
+errors_small n beta = grind arith
 
 All-from_places : {X : Type 0} (P : X → Type 0) (xs : List X) → ((i : ℕ) (x : X) → slice_get xs i ≡ Some x → P x) → All P xs
 All-from_places P xs h = λ k d below. h k (get_or xs k d) (slice_get-get_or xs k d below)
@@ -81,21 +66,11 @@ shape_rules n keeps = record {
 last_frame : (n : Network) → CorrectionFits n → ScheduleFits n
     → All (λ link. amount n.correction + amount n.dmax + 8 * amount n.precision + pcf_port_time link ≤ amount n.cycle) n.link
 last_frame n correction schedule =
-    All-weaker
-    (λ link. amount n.correction + amount n.dmax + 4 * amount n.precision + pcf_port_time link ≤ amount n.tt_start)
-    (λ link. amount n.correction + amount n.dmax + 8 * amount n.precision + pcf_port_time link ≤ amount n.cycle)
-    (λ link h. omega (arith, h, schedule.ends)) n.link schedule.begins
+    grind (arith, All-weaker)
 
 cycle_room : (n : Network) (beta : ℕ) (link : Link) → DriftHasRoom n → PrecisionFits n → PrecisionHasRoom n beta → CorrectionFits n → ScheduleFits n
     → amount n.correction + amount n.dmax + 4 * amount n.precision + pcf_port_time link ≤ amount n.tt_start → CycleHasRoom n beta
-cycle_room n beta link drift fits precision correction schedule first = record {
-  correction = omega (arith, correction);
-  last_frame = last_frame n correction schedule;
-  eighteen_precisions = omega (arith, correction, schedule.ends, first);
-  many_errors = omega (arith, correction, schedule.ends, first, precision.eight_errors);
-  eighteen_starts = omega (arith, correction, schedule.ends, first, precision.eight_errors);
-  next_correction = omega (arith, schedule.ends, first, precision.eight_errors);
-}
+cycle_room n beta link drift fits precision correction schedule first = grind (arith, last_frame)
 
 -- an element that a filter keeps
 kept : {X : Type 0} (p : X → Bool) (xs : List X) → 1 ≤ length (filter p xs) → (i : ℕ) × (x : X) × (slice_get xs i ≡ Some x) × (p x ≡ true)

@@ -1,48 +1,58 @@
 -- The first slot behind a row's place is that of the next row.
-use Rattle.std.proofs.Common.{◌%◌, ◌<◌, ◌∙◌, ◌∷◌, ◌≡◌, ◌≤◌, List, None, Option, Some, [], ap, arith, get_or, inl, inr, length, refl, sym, ℕ, ⊎_elim}
+use Rattle.std.proofs.Common.{◌%◌, ◌+◌, ◌<◌, ◌∙◌, ◌∷◌, ◌≡◌, ◌≤◌, List, None, Option, Some, [], ap, arith, get_or, inl, inr, length, refl, subst, sym, ℕ, ⊎_elim}
 use Rattle.std.{proofs.lemmas.{List.Elements.All-contains, Option.slice_get_read}, specs.Option.option_map_or}
 use Rattle.net_plan.specs.declared.{ids.{DeviceId.DeviceId, RowId.RowId}, network.Network.Network, tables.Row.Row}
-use Rattle.tte_lemmas.proofs.Lists.{period_divides}
+use Rattle.tte_lemmas.proofs.{Lists.period_divides, Naturals.cases_of}
 use Rattle.tte_units.specs.Amount.{amount}
-use Rattle.schedule_tables.{proofs.OrderLemmas.same_or_below, specs.Dispatches.{ComesBehind, HasNoNextRow, IsBelow, IsDispatched, IsNextRow, dispatch_order}}
-use Rattle.schedule_tables.specs.{Entries.IsEntry, Schedule.HasPeriod}
-use Rattle.schedule_tables.specs.{Slots.{AreSlotsOf, Follows, HasNoNextSlot, IsBehind, IsNextSlot, IsSlotOf, numbers_of, place_by}, TablesOf.AreTimedRows}
-use Rattle.schedule_tables.specs.declared.{entry.Entry.Entry, slot.{Place.Place, Slot.Slot}, tables.TimedRow.TimedRow}
+use Rattle.schedule_tables.proofs.OrderLemmas.{below_more, not_below_more, same_or_below}
+use Rattle.schedule_tables.specs.{Dispatches.{ComesBehind, HasNoNextRow, IsBelow, IsDispatched, IsNextRow, dispatch_order}, Entries.IsEntry, Schedule.HasPeriod}
+use Rattle.schedule_tables.specs.{Slots.{AreBelow, AreSlotsOf, IsFirstSlot, IsSlotOf, key_of, numbers_of, place_by}, TablesOf.AreTimedRows}
+use Rattle.schedule_tables.specs.declared.{entry.Entry.Entry, slot.{Place.Place, Slot.Slot, Whose.TheVariants.Whole}, tables.TimedRow.TimedRow}
 
 -- a row's place by its entry
-place_is : (n : Network) (row : RowId) (e : Entry) → IsEntry n row.0 e → dispatch_order n row ≡ numbers_of (place_by e row)
+pub place_is : (n : Network) (row : RowId) (e : Entry) → IsEntry n row.0 e → dispatch_order n row ≡ numbers_of (place_by e row)
 place_is n row e is = ap (λ (o : Option Row). option_map_or (λ r. amount r.offset ∷ r.link.0 ∷ row.0 ∷ []) o []) is.row
 
--- the place is that of the row, if there is one
-abbrev pub IsPlaceOfRow : Network → Option RowId → Option Place → Type 0
-IsPlaceOfRow n None None = Unit {0}
-IsPlaceOfRow n None (Some place) = ⊥
-IsPlaceOfRow n (Some row) None = ⊥
-IsPlaceOfRow n (Some row) (Some place) = dispatch_order n row ≡ numbers_of place
+-- nothing is below the first place
+below_first : (a b c : ℕ) → IsBelow (a ∷ b ∷ c ∷ []) (0 ∷ 0 ∷ 0 ∷ []) → ⊥
+below_first a b c h = grind (arith, h)
 
-pub no_place : (n : Network) (after : Option RowId) (place : Option Place) → after ≡ None → place ≡ None → IsPlaceOfRow n after place
-no_place n after place none nowhere = rw (none, nowhere) tt
+-- the place is behind that of the row, or the first where there is no row
+abbrev pub IsBoundOf : Network → Option RowId → Place → Type 0
+IsBoundOf n None place = numbers_of place ≡ 0 ∷ 0 ∷ 0 ∷ []
+IsBoundOf n (Some row) place = (e : Entry) × (dispatch_order n row ≡ numbers_of (place_by e row))
+    × (numbers_of place ≡ amount e.row.offset ∷ e.row.link.0 ∷ (row.0 + 1) ∷ [])
 
-pub some_place : (n : Network) (rows : List TimedRow) (after : Option RowId) (place : Option Place) (row : RowId) (timed : TimedRow)
-    → AreTimedRows n (length n.row) rows → after ≡ Some row → place ≡ Some timed.place
-    → row.0 < length rows → timed ≡ get_or rows row.0 timed → IsPlaceOfRow n after place
-some_place n rows after place row timed are some there within found =
+pub no_row : (n : Network) (after : Option RowId) (place : Place) → after ≡ None → numbers_of place ≡ 0 ∷ 0 ∷ 0 ∷ [] → IsBoundOf n after place
+no_row n after place none first = rw none first
+
+pub some_row : (n : Network) (rows : List TimedRow) (after : Option RowId) (place : Place) (row : RowId) (timed : TimedRow)
+    → AreTimedRows n (length n.row) rows → after ≡ Some row → place ≡ timed.behind
+    → row.0 < length rows → timed ≡ get_or rows row.0 timed → IsBoundOf n after place
+some_row n rows after place row timed are some there within found =
     let t = are.each row.0 timed (slice_get_read rows (length rows) row.0 timed refl within found) in
-    rw (some, there) (place_is n row t.entry t.is ∙ ap numbers_of (sym t.place_is))
+    rw some (t.entry, place_is n row t.entry t.is, ap numbers_of (there ∙ t.behind))
 
--- places that are behind are those of rows behind
-comes_behind : (n : Network) (after : Option RowId) (place : Option Place) (it : Place) (row : RowId) → IsPlaceOfRow n after place
-    → dispatch_order n row ≡ numbers_of it → IsBehind place it → ComesBehind n after row
-comes_behind n None place it row of at behind = tt
-comes_behind n (Some other) None it row of at behind = absurd of
-comes_behind n (Some other) (Some place) it row of at behind = rw (of, at) behind
+-- what is not below the bound comes behind the row
+comes_behind : (n : Network) (after : Option RowId) (place it : Place) (row : RowId) → IsBoundOf n after place
+    → dispatch_order n row ≡ numbers_of it → (IsBelow (numbers_of it) (numbers_of place) → ⊥) → ComesBehind n after row
+comes_behind n None place it row of at from = tt
+comes_behind n (Some other) place it row (e, is, behind) at from =
+    rw (is, at) (not_below_more it.offset it.link.0 it.row.0 (amount e.row.offset) e.row.link.0 other.0
+    (λ below. from (subst (λ (xs : List ℕ). IsBelow (numbers_of it) xs) (sym behind) below)))
 
-is_behind : (n : Network) (after : Option RowId) (place : Option Place) (it : Place) (row : RowId) → IsPlaceOfRow n after place
-    → dispatch_order n row ≡ numbers_of it → ComesBehind n after row → IsBehind place it
-is_behind n None None it row of at behind = tt
-is_behind n None (Some place) it row of at behind = absurd of
-is_behind n (Some other) None it row of at behind = absurd of
-is_behind n (Some other) (Some place) it row of at behind = rw (of, at) at behind
+-- what comes behind the row is not below the bound
+not_below : (n : Network) (after : Option RowId) (place it : Place) (row : RowId) → IsBoundOf n after place
+    → dispatch_order n row ≡ numbers_of it → ComesBehind n after row → IsBelow (numbers_of it) (numbers_of place) → ⊥
+not_below n None place it row of at behind below =
+    below_first it.offset it.link.0 it.row.0 (subst (λ (xs : List ℕ). IsBelow (numbers_of it) xs) of below)
+not_below n (Some other) place it row (e, is, more) at behind below =
+    below_more it.offset it.link.0 it.row.0 (amount e.row.offset) e.row.link.0 other.0
+    (subst (λ (xs : List ℕ). IsBelow (numbers_of it) xs) more below)
+    (subst (λ (xs : List ℕ). IsBelow xs (numbers_of it)) is (subst (λ (xs : List ℕ). IsBelow (dispatch_order n other) xs) at behind))
+
+abbrev device_id : ℕ → DeviceId
+device_id n = record { 0 = n }
 
 abbrev row_id : ℕ → RowId
 row_id n = record { 0 = n }
@@ -56,60 +66,88 @@ abbrev slot_of : (n : Network) (device : DeviceId) (cycle : ℕ) (row : RowId) �
 slot_of n device cycle row is = record { device = device; residue = cycle % 64; place = place_by is.entry row }
 
 is_slot : (n : Network) (device : DeviceId) (cycle : ℕ) (row : RowId) (is : IsDispatched n device cycle row) → ((k : ℕ) → HasPeriod n k)
-    → IsSlotOf n (slot_of n device cycle row is)
+    → IsSlotOf n Whole (slot_of n device cycle row is)
 is_slot n device cycle row is periods = record {
   entry = is.entry;
   is = is.is;
   place = refl;
   source = is.source;
+  among = tt;
   residue = omega arith;
   in_phase = period_divides cycle is.entry.vl.period (periods is.entry.row.vl.0 is.entry.vl is.is.vl).0 ∙ is.occurs.in_phase;
 }
 
-follows : (n : Network) (device : DeviceId) (cycle : ℕ) (after : Option RowId) (place : Option Place) (row : RowId) (is : IsDispatched n device cycle row)
-    → IsPlaceOfRow n after place → ComesBehind n after row
-    → Follows device (cycle % 64) place (slot_of n device cycle row is)
-follows n device cycle after place row is of behind = record {
-  same_device = refl;
-  same_residue = refl;
-  behind = is_behind n after place (place_by is.entry row) row of (place_is n row is.entry is.is) behind;
-}
+-- the bound of the search
+abbrev pub bound_of : DeviceId → ℕ → Place → Slot
+bound_of device cycle place = record { device = device; residue = cycle % 64; place = place }
+
+-- the slot of a row that is dispatched behind the other is not below it
+not_low : (n : Network) (device : DeviceId) (cycle : ℕ) (after : Option RowId) (place : Place) (row : RowId) (is : IsDispatched n device cycle row)
+    → IsBoundOf n after place → ComesBehind n after row → IsBelow (key_of (slot_of n device cycle row is)) (key_of (bound_of device cycle place)) → ⊥
+not_low n device cycle after place row is of behind below =
+    elim below [
+      | inl less ↦ omega (arith, less)
+      | inr (_, inl less) ↦ omega (arith, less)
+      | inr (_, inr (_, low)) ↦ not_below n after place (place_by is.entry row) row of (place_is n row is.entry is.is) behind low
+    ]
 
 -- the next slot is that of the next row
-pub is_next_row : (n : Network) (device : DeviceId) (cycle : ℕ) (after : Option RowId) (place : Option Place) (slots : List Slot) (s : Slot) → 1 ≤ cycle
-    → AreSlotsOf n slots → ((k : ℕ) → HasPeriod n k)
-    → IsPlaceOfRow n after place → IsNextSlot slots device (cycle % 64) place s → IsNextRow n device cycle after s.place.row
-is_next_row n device cycle after place slots s begun are periods of next =
-    let is = All-contains (IsSlotOf n) slots s are.sound next.there in
+pub is_next_row : (n : Network) (device : DeviceId) (cycle : ℕ) (after : Option RowId) (place : Place) (slots : List Slot) (s : Slot) → 1 ≤ cycle
+    → AreSlotsOf n slots → ((k : ℕ) → HasPeriod n k) → IsBoundOf n after place → s.device.0 ≡ device.0 → s.residue ≡ cycle % 64
+    → IsFirstSlot slots (bound_of device cycle place) s → IsNextRow n device cycle after s.place.row
+is_next_row n device cycle after place slots s begun are periods of same_device same_residue next =
+    let is = All-contains (IsSlotOf n Whole) slots s are.sound next.there in
     let place_of_s : dispatch_order n s.place.row ≡ numbers_of s.place = place_is n s.place.row is.entry is.is ∙ ap numbers_of (sym is.place) in
     record {
       dispatched = record {
         entry = is.entry;
         is = is.is;
-        source = is.source ∙ next.follows.same_device;
+        source = is.source ∙ ap device_id same_device;
         occurs = record {
           begun = begun;
           in_phase =
               sym (period_divides cycle is.entry.vl.period (periods is.entry.row.vl.0 is.entry.vl is.is.vl).0)
-              ∙ ap (λ (x : ℕ). x % is.entry.vl.period) (sym next.follows.same_residue) ∙ is.in_phase;
+              ∙ ap (λ (x : ℕ). x % is.entry.vl.period) (sym same_residue) ∙ is.in_phase;
         };
       };
-      behind = comes_behind n after place s.place s.place.row of place_of_s next.follows.behind;
+      behind = comes_behind n after place s.place s.place.row of place_of_s (λ below. next.from (inr (same_device, inr (same_residue, below))));
       first = λ later other after_it.
           let t = slot_of n device cycle later other in
           let place_of_t : dispatch_order n later ≡ numbers_of t.place = place_is n later other.entry other.is in
-          let out = next.first t (are.complete t (is_slot n device cycle later other periods)) (follows n device cycle after place later other of after_it) in
+          let out = next.first t (are.complete t (is_slot n device cycle later other periods)) (not_low n device cycle after place later other of after_it) in
           ⊎_elim
           (λ (e : numbers_of s.place ≡ numbers_of t.place). inl (ap row_id (last_same e)))
           (λ (l : IsBelow (numbers_of s.place) (numbers_of t.place)). inr (rw (place_of_s, place_of_t) l))
           (same_or_below (numbers_of s.place) (numbers_of t.place) refl
-          (λ l. out (inr (ap (λ (d : DeviceId). d.0) (sym next.follows.same_device), inr (sym next.follows.same_residue, l)))));
+          (λ l. out (inr (sym same_device, inr (sym same_residue, l)))));
     }
 
--- where there is no next slot, there is no next row
-pub has_no_next_row : (n : Network) (device : DeviceId) (cycle : ℕ) (after : Option RowId) (place : Option Place) (slots : List Slot) → AreSlotsOf n slots
+-- where there is no such slot, there is no next row
+pub has_no_next_row : (n : Network) (device : DeviceId) (cycle : ℕ) (after : Option RowId) (place : Place) (slots : List Slot) → AreSlotsOf n slots
     → ((k : ℕ) → HasPeriod n k)
-    → IsPlaceOfRow n after place → HasNoNextSlot slots device (cycle % 64) place → HasNoNextRow n device cycle after
+    → IsBoundOf n after place → AreBelow slots (bound_of device cycle place) → HasNoNextRow n device cycle after
 has_no_next_row n device cycle after place slots are periods of none row is behind =
+    none (slot_of n device cycle row is) (are.complete _ (is_slot n device cycle row is periods)) (not_low n device cycle after place row is of behind)
+
+-- what is not below a bound, and of another device or residue, stands above all of these
+beyond : (a b d r : ℕ) (xs ys zs : List ℕ) → (IsBelow (a ∷ b ∷ xs) (d ∷ r ∷ ys) → ⊥) → (a ≡ d → b ≡ r → ⊥) → IsBelow (d ∷ r ∷ zs) (a ∷ b ∷ xs)
+beyond a b d r xs ys zs from other =
+    elim (cases_of a d) [
+      | inl less ↦ absurd (from (inl less))
+      | inr (inl same) ↦ elim (cases_of b r) [
+        | inl less ↦ absurd (from (inr (same, inl less)))
+        | inr (inl equal) ↦ absurd (other same equal)
+        | inr (inr more) ↦ inr (sym same, inl more)
+      ]
+      | inr (inr more) ↦ inl more
+    ]
+
+-- where the slot is of another device or residue, there is no next row
+pub is_no_next_row : (n : Network) (device : DeviceId) (cycle : ℕ) (after : Option RowId) (place : Place) (slots : List Slot) (s : Slot) → AreSlotsOf n slots
+    → ((k : ℕ) → HasPeriod n k)
+    → IsBoundOf n after place → (s.device.0 ≡ device.0 → s.residue ≡ cycle % 64 → ⊥) → IsFirstSlot slots (bound_of device cycle place) s
+    → HasNoNextRow n device cycle after
+is_no_next_row n device cycle after place slots s are periods of other next row is behind =
     let t = slot_of n device cycle row is in
-    none t (are.complete t (is_slot n device cycle row is periods)) (follows n device cycle after place row is of behind)
+    next.first t (are.complete t (is_slot n device cycle row is periods)) (not_low n device cycle after place row is of behind)
+    (beyond s.device.0 s.residue device.0 (cycle % 64) (numbers_of s.place) (numbers_of place) (numbers_of t.place) next.from other)

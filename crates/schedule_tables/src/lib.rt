@@ -16,5 +16,6 @@ pub use entry::{Entry, entries_of, entry_of};
 pub use laws::{entries_law, margins_law};
 pub use memory::OutOfMemory;
 pub use rule::Rule;
+pub use slot::{Place, RESIDUES, Slot, Whose, first_slot, slots_of};
 pub use tables::Tables;
 pub use window::{Window, window_of};

@@ -20,7 +20,6 @@ pub mod Emissions
 pub mod MasterBits
 pub mod CmLinks
 pub mod Collected
-pub mod Entrances
 pub mod Takings
 pub mod EachRow
 pub mod RowOrder

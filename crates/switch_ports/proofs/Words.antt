@@ -33,11 +33,11 @@ pub use Rattle.sync_state.specs.declared.{plan.SyncPlan.SyncPlan, state.State.{S
 pub use Rattle.tte_lemmas.proofs.{Integers.{further, never_less, through}, Lists.in_all}
 pub use Rattle.tte_units.specs.Amount.{amount}
 pub use Rattle.tte_units.specs.declared.units.Units.{Units}
+pub use Rattle.device_rules.specs.{Intakes.HasTaken, declared.intake.Intake.Intake}
 pub use Rattle.switch_ports.specs.Corrections.{correction_at, reading_of}
 pub use Rattle.switch_ports.specs.Departing.{Awaits, AwaitsIn, AwaitsSo, Changes, HasDepartures, IsBegun, IsDeparture, IsTakingAt, KnowsNext}
-pub use Rattle.switch_ports.specs.Intakes.{AreEntrances, entrance_cmp}
 pub use Rattle.switch_ports.specs.Leaving.{AreChained, AreEach, AreLeaving, IsLeaving, Precedes, dispatch_at, held_by, held_in, with_taking}
-pub use Rattle.switch_ports.specs.{Sites.{IsSiteOf, port_of}, Standing.{HasCollected, HasTaken, IsAccepted, StandsAs}, Standpoints.standpoint_of}
+pub use Rattle.switch_ports.specs.{Sites.{IsSiteOf, port_of}, Standing.{HasCollected, IsAccepted, StandsAs}, Standpoints.standpoint_of}
 pub use Rattle.switch_ports.specs.{Steady.{IsFair, is_timed}, Tournaments.AreLeaves}
 pub use Rattle.switch_ports.specs.declared.departures.{Departure.Departure, Departures.Departures, Dispatch.Dispatch, Held.Held, LeavingRow.LeavingRow}
-pub use Rattle.switch_ports.specs.declared.{intake.{EnteringRow.EnteringRow, Intake.Intake}, site.Port.Port, switch.Switch.Switch}
+pub use Rattle.switch_ports.specs.declared.{site.Port.Port, switch.Switch.Switch}

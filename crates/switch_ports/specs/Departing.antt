@@ -42,7 +42,8 @@ pub record KnowsNext (adjustment : ℤ) (departures : Departures) : Type 0 where
 pub record Tells (adjustment : ℤ) (place : ℕ) (old new : Departures) : Type 0 where
   pub rows : new.rows ≡ old.rows
   pub lasts : new.lasts ≡ old.lasts
-  pub tree : (d : Departure) → Puts old.tree place (dispatch_by adjustment (slice_index_or old.rows.items place d)) new.tree
+  pub tree : (d : Departure) → Puts old.tree place (dispatch_by adjustment (slice_index_or old.rows.items place d))
+      new.tree
 
 -- one departure is another
 pub record Sets (adjustment : ℤ) (place : ℕ) (departure : Departure) (old new : Departures) : Type 0 where

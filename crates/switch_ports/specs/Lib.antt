@@ -1,6 +1,5 @@
 pub mod Sites
 pub mod Standpoints
-pub mod Arrivals
 pub mod Intakes
 pub mod Leaving
 pub mod Tournaments

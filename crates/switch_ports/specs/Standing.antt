@@ -1,33 +1,23 @@
 -- How a switch stands to what it was given and has done.
-use Rattle.std.specs.List.{Contains, last_or}
-use Rattle.std.specs.Prelude.{◌+ℤ◌, ◌<◌, ◌==◌, ◌≡◌, ◌≤ℤ◌, All, List, None, Option, [], false, filter, length}
-use Rattle.std.specs.Prelude.{option_map, pos, true, ℕ, ℤ}
+use Rattle.std.specs.List.{Contains}
+use Rattle.std.specs.Prelude.{◌+ℤ◌, ◌<◌, ◌≡◌, ◌≤ℤ◌, All, List, [], false, pos, true, ℕ, ℤ}
 use Rattle.clock_correction.specs.Deviation.{IsSmall}
 use Rattle.compression.specs.{Clusters.Point, Collecting.Collecting, Stands.StandsForPoints}
 use Rattle.compression.specs.declared.compressed.Compressed.{Compressed}
 use Rattle.membership.specs.Summary.{Summarizes}
-use Rattle.net_plan.specs.{Ranges.IsInRange, declared.{ids.{DeviceId.DeviceId, VlId.VlId}, network.Network.Network}}
-use Rattle.run_law.specs.{machines.Nodes.{Node, TakenFrame, correcting}, scenario.Devices.{is_cm, plan_of}}
+use Rattle.net_plan.specs.{Ranges.IsInRange, declared.{ids.DeviceId.DeviceId, network.Network.Network}}
+use Rattle.run_law.specs.{machines.Nodes.{Node, correcting}, scenario.Devices.{is_cm, plan_of}}
 use Rattle.schedule_tables.specs.Rules.{KeepsRules}
 use Rattle.tte_units.specs.Reading.{least_reading}
+use Rattle.device_rules.specs.Intakes.{HasTaken}
 use Rattle.switch_ports.specs.{Corrections.correction_due, Departing.{AwaitsIn, HasDepartures}}
-use Rattle.switch_ports.specs.{Intakes.{AreEntrances, last_in}, Members.member_numbers, Sites.IsSiteOf}
-use Rattle.switch_ports.specs.{Steady.{IsSteady, is_timed}, declared.{intake.Intake.Intake, switch.Switch.Switch}}
+use Rattle.switch_ports.specs.{Members.member_numbers, Sites.IsSiteOf}
+use Rattle.switch_ports.specs.{Steady.{IsSteady, is_timed}, declared.switch.Switch.Switch}
 
 -- a network that is accepted
 pub record IsAccepted (network : Network) : Type 0 where
   pub range : IsInRange network
   pub rules : KeepsRules network
-
--- the cycle in which the last frame of the virtual link was taken
-abbrev pub last_by : List TakenFrame → VlId → Option ℕ
-last_by taken vl = option_map (λ taking. taking.cycle) (last_or None (filter (λ taking. taking.vl.0 == vl.0) taken))
-
--- the rows by which frames come to the device, of which it has taken these
-pub record HasTaken (network : Network) (device : DeviceId) (intake : Intake) (taken : List TakenFrame) : Type 0 where
-  pub rows : AreEntrances network device network.row intake.rows
-  pub count : length intake.taken.items ≡ length network.vl
-  pub last : (vl : VlId) → last_in intake.taken.items vl ≡ last_by taken vl
 
 -- what a collector has taken and sent of these points and frames
 pub record HasCollected (collector : Collecting) (network : Network) (device : DeviceId) (points : List Point)

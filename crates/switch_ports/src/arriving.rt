@@ -3,17 +3,19 @@ ghost use Rattle.std.specs.Prelude.{◌*◌, ◌+ℤ◌, ◌+◌, ◌<◌, ◌^�
 ghost use Rattle.net_plan.specs.{Ranges.IsInRange, declared.{ids.DeviceId.DeviceId, network.Network.Network}};
 ghost use Rattle.pcf_codec.specs.Decoding.{decoded};
 ghost use Rattle.run_law.specs.control.Arrivals.{control_arrival, frame_fault, frame_or_fault, frame_taken};
-ghost use Rattle.run_law.specs.control.Arrivals.{is_cold_start, is_gate_shut, is_of_other_domain, is_of_other_member};
-ghost use Rattle.run_law.specs.{control.Arrivals.{point_on_arrival, refused}, device.Standpoints.clock_of};
+ghost use Rattle.run_law.specs.control.Arrivals.{is_gate_shut, is_of_other_domain, is_of_other_member};
+ghost use Rattle.run_law.specs.{control.Arrivals.point_on_arrival, device.Standpoints.clock_of};
 ghost use Rattle.run_law.specs.scenario.Devices.{is_parent_of};
 ghost use Rattle.tte_units.specs.Amount.{amount, units_of};
-ghost use Rattle.switch_ports.specs.{Arrivals.IsGrownSo, Sites.IsSiteOf};
+ghost use Rattle.device_rules.specs.Arriving.{IsGrownSo};
+ghost use Rattle.switch_ports.specs.{Sites.IsSiteOf};
 ghost use Rattle.switch_ports.specs.Standpoints.{IsAlive, IsSiteInRange, standpoint_of};
 
 use crate::{Site, Standpoint};
+use device_rules::{is_cold_start, refused};
 use net_plan::{LinkId, Way};
-use pcf_codec::{PcfRefusal, decode};
-use pcf_values::{Members, Pcf, PcfKind};
+use pcf_codec::decode;
+use pcf_values::{Members, Pcf};
 use run_law::{Arrival, Reason};
 use transparent_clock::{arrive, permanence};
 use tte_units::Units;
@@ -158,26 +160,4 @@ fn is_behind(limit: Units, place: Units) -> bool
     ensures { result ≡ int_lt limit.0 place.0 }
 {
     limit.0 < place.0
-}
-
-/// Only integration frames are used.
-fn is_cold_start(kind: PcfKind) -> bool
-    ensures { result ≡ is_cold_start kind }
-{
-    match kind {
-        PcfKind::Integration => false,
-        PcfKind::ColdStart | PcfKind::ColdStartAck => true,
-    }
-}
-
-/// Why octets that the decoder refuses are dropped.
-fn refused(refusal: PcfRefusal) -> Reason
-    ensures { result ≡ refused refusal }
-{
-    match refusal {
-        PcfRefusal::Length(n) => Reason::RefusedLength(n),
-        PcfRefusal::EtherType => Reason::RefusedEtherType,
-        PcfRefusal::Reserved(offset) => Reason::RefusedReserved(offset),
-        PcfRefusal::Kind(octet) => Reason::RefusedKind(octet),
-    }
 }

@@ -8,7 +8,6 @@ mod arriving;
 mod correcting;
 mod departures;
 mod hearing;
-mod intake;
 mod machine;
 mod pointing;
 mod site;
@@ -18,7 +17,6 @@ mod timed;
 mod tournament;
 
 pub use departures::{Departure, Dispatch, Held, LeavingRow, Taking, comes_first};
-pub use intake::EnteringRow;
 pub use site::{Peer, Port, Site};
 pub use standpoint::Standpoint;
 pub use switch::Switch;

@@ -14,10 +14,10 @@ ghost use Rattle.switch_ports.specs.Steps.{CollectsSo, Corrects, DispatchesSo, H
 ghost use Rattle.switch_ports.specs.Steps.{IsClearedSo, Joins};
 
 use crate::departures::Departures;
-use crate::intake::Intake;
 use crate::standpoint::local;
 use crate::{Site, Standpoint};
 use compression::{Collector, Taken};
+use device_rules::Intake;
 use membership::{Heard, HeardFrame};
 use net_plan::{DeviceId, Network};
 use pcf_values::{Channel, Pcf};
@@ -55,7 +55,7 @@ impl Switch {
     {
         let network = accepted.network();
         let site = Site::new(alloc, network, device)?;
-        let intake = Intake::new(alloc, network, device, &site)?;
+        let intake = Intake::new(alloc, network, device)?;
         let departures = Departures::new(alloc, network, device)?;
         let sync = Sync::new(site.plan, start_of(network, device));
         let collector = Collector::new(site.precision, site.calc);

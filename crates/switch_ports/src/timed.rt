@@ -1,26 +1,18 @@
 //! Frames that are no control frames.
 
-ghost use Rattle.std.specs.Prelude.{◌+◌, ◌≡◌, ◌≤◌, All, None, Option, length, ℕ};
-ghost use Rattle.net_plan.specs.{Ranges.IsInRange, declared.ids.{DeviceId.DeviceId, VlId.VlId}};
-ghost use Rattle.net_plan.specs.declared.network.Network.{Network};
-ghost use Rattle.pcf_codec.specs.Fields.{field};
-ghost use Rattle.run_law.specs.machines.Calls.{IsLinkAt};
-ghost use Rattle.run_law.specs.timed.Arrivals.{octets_fault, timed_arrival};
-ghost use Rattle.sync_state.specs.declared.state.State.TheVariants.{Synchronised};
+ghost use Rattle.std.specs.Prelude.{◌≡◌, ◌≤◌, List, length};
+ghost use Rattle.net_plan.specs.{Ranges.IsInRange, declared.{ids.DeviceId.DeviceId, network.Network.Network}};
+ghost use Rattle.run_law.specs.{machines.{Calls.IsLinkAt, Nodes.TakenFrame}, timed.Arrivals.timed_arrival};
+ghost use Rattle.device_rules.specs.Intakes.{HasTaken, IsWhole, last_by};
 ghost use Rattle.tte_units.specs.Amount.{amount};
-ghost use Rattle.switch_ports.specs.Departing.{IsKeptSo, IsReady};
-ghost use Rattle.switch_ports.specs.{Intakes.{AreEntrances, IsTakenSo, IsWhole, last_in}, Sites.IsSiteOf};
+ghost use Rattle.switch_ports.specs.{Departing.{IsKeptSo, IsReady}, Intakes.IsTakenSo, Sites.IsSiteOf};
 ghost use Rattle.switch_ports.specs.Standpoints.{IsAlive, standpoint_of};
 
 use crate::departures::Taking;
-use crate::intake::Entrance;
-use crate::{Site, Standpoint, Switch};
-use byteorder::{BigEndian, ByteOrder};
+use crate::{Standpoint, Switch};
+use device_rules::Heading;
 use net_plan::LinkId;
-use run_law::{Arrival, Reason};
-
-/// The least EtherType; a smaller number in its place is a length (IEEE 802.3).
-const LEAST_TYPE: u16 = 0x0600;
+use run_law::Arrival;
 
 impl Switch {
     /// What becomes of a frame that is no control frame and comes by the link.
@@ -30,77 +22,33 @@ impl Switch {
         requires whole { IsWhole self.old.intake }
         requires ready { IsReady self.old.departures }
         ensures rest { self.new ≡ record self.old { intake = self.new.intake; departures = self.new.departures } }
-        ensures kept { IsTakenSo self.old.intake self.new.intake result }
         ensures departs { IsKeptSo self.old.departures (amount self.old.site.plan.cycle_length) self.old.changed.0
             at.now result self.new.departures }
-        ensures is { (network : Network) (device : DeviceId) (last : VlId → Option ℕ) → IsInRange network
-            → IsSiteOf network device self.old.site
-            → AreEntrances network device network.row self.old.intake.rows → IsLinkAt network device link
-            → ((vl : VlId) → last_in self.old.intake.taken.items vl ≡ last vl)
-            → result ≡ timed_arrival network device link (standpoint_of at.now) octets.now last }
+        ensures is { (network : Network) (device : DeviceId) (taken : List TakenFrame) → IsInRange network
+            → IsSiteOf network device self.old.site → HasTaken network device self.old.intake taken
+            → IsLinkAt network device link
+            → (result ≡ timed_arrival network device link (standpoint_of at.now) octets.now (last_by taken))
+            × IsTakenSo network device taken self.new.intake result }
     {
-        if let Some(reason) = self.site.octets_fault(at, octets) {
+        let heading = Heading::of(octets);
+        if let Some(reason) = heading.fault(!at.is_off(), at.state, self.site.marker) {
             return Arrival::Dropped(reason);
         }
-        let entrance = Entrance {
-            link,
-            id: two_octets(octets, 4),
-        };
-        let arrival = self
-            .intake
-            .take(&self.site, entrance, octets.len(), at.local());
-        if let Arrival::Accepted(vl, cycle) = arrival {
-            let taking = Taking {
-                vl,
-                cycle,
-                at: at.local(),
-            };
-            self.departures.take(
-                self.site.plan.cycle_length,
-                taking,
-                self.changed,
-                at.adjustment,
-            );
-        }
-        arrival
-    }
-}
-
-impl Site {
-    /// Why a frame that is no control frame is dropped before its row is looked for, if it is: the
-    /// first reason in this order.
-    fn octets_fault(&self, at: &Standpoint, octets: &[u8]) -> Option<Reason>
-        requires { 60 ≤ length octets.now }
-        ensures is { (network : Network) (device : DeviceId) → IsSiteOf network device self.now
-            → result ≡ octets_fault network (standpoint_of at.now) octets.now }
-        ensures synchronised { result ≡ None → at.now.state ≡ Synchronised }
-    {
-        if at.is_off() {
-            Some(Reason::Off)
-        } else if two_octets(octets, 12) < LEAST_TYPE {
-            Some(Reason::RefusedEtherType)
-        } else if !at.is_synchronised() {
-            Some(Reason::Unsynchronised)
-        } else if marker_of(octets) != self.marker {
-            Some(Reason::Unknown)
-        } else {
-            None
+        let length = self.site.plan.cycle_length;
+        let local = at.local();
+        let taken = self.intake.take(length, link, &heading, local);
+        match taken {
+            Ok((vl, cycle)) => {
+                let taking = Taking {
+                    vl,
+                    cycle,
+                    at: local,
+                };
+                self.departures
+                    .take(length, taking, self.changed, at.adjustment);
+                Arrival::Accepted(vl, cycle)
+            }
+            Err(reason) => Arrival::Dropped(reason),
         }
     }
-}
-
-/// The number in two octets from an offset on.
-fn two_octets(octets: &[u8], at: usize) -> u16
-    requires { at + 2 ≤ length octets.now }
-    ensures { result ≡ field at 2 octets.now }
-{
-    BigEndian::read_u16(octets.split_at(at).1)
-}
-
-/// The number in the first four octets.
-fn marker_of(octets: &[u8]) -> u32
-    requires { 4 ≤ length octets.now }
-    ensures { result ≡ field 0 4 octets.now }
-{
-    BigEndian::read_u32(octets)
 }

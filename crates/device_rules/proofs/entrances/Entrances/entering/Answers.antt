@@ -15,7 +15,7 @@ returns-in-Some-row_at-clause-is c octets is =
     c.requires.entrances c.way_to.ensures c.row_at.ensures.up c.row_at.ensures.down in
     let none : c.fault.result ≡ None = c.in_default.is in
     entered c.args.network.now c.args.device c.args.link c.args.at.now octets c.args.heading.now c.in-Some-row_at.row is
-    (sym c.fault.ensures ∙ none) (sym found ∙ c.in-Some-row_at.is)
+    (rw (sym c.takes_part.ensures, sym c.state.ensures) (sym c.fault.ensures.is ∙ none)) (sym found ∙ c.in-Some-row_at.is)
 
 pub returns-in-None-clause-is : goal.returns-in-None-clause-is
 returns-in-None-clause-is c octets is =
@@ -23,4 +23,4 @@ returns-in-None-clause-is c octets is =
     c.requires.entrances c.way_to.ensures c.row_at.ensures.up c.row_at.ensures.down in
     let none : c.fault.result ≡ None = c.in_default.is in
     unknown c.args.network.now c.args.device c.args.link c.args.at.now octets c.args.heading.now is
-    (sym c.fault.ensures ∙ none) (sym found ∙ c.in-None.is)
+    (rw (sym c.takes_part.ensures, sym c.state.ensures) (sym c.fault.ensures.is ∙ none)) (sym found ∙ c.in-None.is)

@@ -24,7 +24,7 @@ next_behind-self-requires c =
 pub returns : goal.returns
 returns c = λ network device node stands may.
     let due = c.requires.1 in
-    let deed = dispatching c.args.dispatch.slot.row c.args.dispatch.cycle in
+    let deed = dispatching c.args.dispatch.slot.place.row c.args.dispatch.cycle in
     let here = subst (IsDispatch network device node.standing node.changed node.done) due.2 stands.agenda.dispatch in (
       _,
       (first_is_dispatch network device _ node _ c.args.moment c.args.dispatch stands.own stands.sound stands.agenda may due, refl),
@@ -46,9 +46,10 @@ returns c = λ network device node stands may.
         agenda = record {
           sending =
               sending_stays network device node.standing node.changed node.done deed _
-              (λ n e. no_sending_row c.args.dispatch.slot.row c.args.dispatch.cycle n e) stands.agenda.sending;
+              (λ n e. no_sending_row c.args.dispatch.slot.place.row c.args.dispatch.cycle n e) stands.agenda.sending;
           correction =
-              correction_stays network node.standing node.changed node.done deed _ (λ n e. no_correcting_row n c.args.dispatch.slot.row c.args.dispatch.cycle e)
+              correction_stays network node.standing node.changed node.done deed _
+              (λ n e. no_correcting_row n c.args.dispatch.slot.place.row c.args.dispatch.cycle e)
               stands.agenda.correction;
           dispatch =
               c.next_behind-self.ensures.next network device node.standing node.changed node.done stands.own stands.rows

@@ -27,3 +27,12 @@ pub returns-in-None : goal.returns-in-None
 returns-in-None c = λ network device node stands may due.
     absurd (none_is_due network device _ node _ c.args.moment.reading.0 due.0 stands.own stands.agenda
     (subst (IsFirstDue c.args.self.now.agenda c.args.moment.reading.0) c.in-None.is c.due.ensures) due.1 due.2)
+
+pub returns-in-Some-Sending : goal.returns-in-Some-Sending
+returns-in-Some-Sending c = λ network device node stands may due. c.send.ensures network device node stands may
+
+pub returns-in-Some-Correction : goal.returns-in-Some-Correction
+returns-in-Some-Correction c = λ network device node stands may due. c.correct.ensures network device node stands may
+
+pub returns-in-Some-Dispatch : goal.returns-in-Some-Dispatch
+returns-in-Some-Dispatch c = λ network device node stands may due. c.dispatch.ensures network device node stands may

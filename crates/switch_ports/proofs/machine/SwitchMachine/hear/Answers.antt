@@ -2,7 +2,8 @@ use Rattle.switch_ports.proofs.Words.{◌∙◌, ◌≡◌, ◌≤◌, Node, Sta
 use Rattle.pcf_codec.specs.Decoding.{decoded}
 use Rattle.run_law.specs.{control.{Arrivals.control_arrival, Wires.{control, signal_of, timed}}, device.Standpoints.Standpoint as Point}
 use Rattle.run_law.specs.{machines.{Answers.arrival_at, Nodes.{arriving, last_taken_by, standpoint_at}}, timed.Arrivals.timed_arrival}
-use Rattle.switch_ports.proofs.{Standings.{alive, called_stands, control_none, is_no_type, is_type, point_same}, Takings.{arrival_stands, is_whole}}
+use Rattle.switch_ports.proofs.{Standings.{alive, called_stands, control_none, is_no_type, is_type, point_same}, Takings.arrival_stands}
+use Rattle.device_rules.proofs.Takings.{is_whole}
 use Rattle.switch_ports.proofs.machine.SwitchMachine.hear.Goals as goal
 
 enough : {n : ℕ} → 60 ≤ n → 14 ≤ n
@@ -44,7 +45,8 @@ returns-else-is_pcf c network device node st may arrives =
     let at = point_same c.args.self.now network device node c.args.moment c.standpoint-at.result st c.standpoint-at.ensures.state
     c.standpoint-at.ensures.reading c.standpoint-at.ensures.adjustment in
     let heard = c.hear_timed.ensures in
-    let is = heard.is network device (last_taken_by node) st.accepted.range st.site st.intake.rows arrives.at st.intake.last
+    let taken = heard.is network device node.taken st.accepted.range st.site st.intake arrives.at in
+    let is = taken.0
     ∙ ap (λ (p : Point). timed_arrival network device c.args.link p octets (last_taken_by node)) at in
     let signal : signal_of octets ≡ timed octets =
     rw (is_no_type octets (λ e. let f = c.is_pcf.ensures.1 (enough arrives.least, e) in let g = c.if-is_pcf.false in cc)) refl in (
@@ -53,7 +55,7 @@ returns-else-is_pcf c network device node st may arrives =
           (arrival_stands c.args.self.now c.hear_timed.new.self.intake c.hear_timed.new.self.departures network device node c.args.moment c.standpoint-at.result
           c.hear_timed.result st may.later.reading
           (record { state = c.standpoint-at.ensures.state; reading = c.standpoint-at.ensures.reading; adjustment = c.standpoint-at.ensures.adjustment })
-          heard.kept heard.departs),
+          taken.1 heard.departs),
     )
 
 pub hear_timed-requires-clause-ready : goal.hear_timed-requires-clause-ready

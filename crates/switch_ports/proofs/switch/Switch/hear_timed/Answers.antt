@@ -1,35 +1,47 @@
-use Rattle.switch_ports.proofs.Words.{◌+ℤ◌, ◌∙◌, ◌≡◌, None, SyncPlan, ap, clock_of, its_amount, length, option_map, refl, standpoint_of, sym, ℕ, ℤ}
-use Rattle.run_law.specs.timed.Arrivals.{entry_arrival, entry_entering, octets_fault, octets_or_fault}
-use Rattle.switch_ports.{proofs.{Entrances.entered_at, Takings.{judged, not_accepted}}, specs.Intakes.entering_by}
+use Rattle.switch_ports.proofs.Words.{◌+ℤ◌, ◌∙◌, ◌≡◌, SyncPlan, ap, clock_of, its_amount, refl, standpoint_of, subst, sym, ℕ, ℤ}
+use Rattle.std.proofs.Common.{Bool, not}
+use Rattle.run_law.specs.device.States.{is_off}
+use Rattle.device_rules.{proofs.Takings.{dropped_by, heard_by}, specs.{Headings.heading_fault, Intakes.IsTakenSo}}
 use Rattle.switch_ports.proofs.switch.Switch.hear_timed.Goals as goal
 
-pub returns-in-Accepted-clause-is : goal.returns-in-Accepted-clause-is
-returns-in-Accepted-clause-is c network device last range site rows link same =
-    let at = standpoint_of c.args.at.now in
-    let octets = c.args.octets.now in
-    let clock : c.local.result.0 ≡ clock_of at = c.local.ensures
-    ∙ ap (λ (z : ℤ). z +ℤ c.args.at.now.adjustment.0) (its_amount _ _ c.args.at.now.reading c.requires.alive.reading) in
-    let none : octets_fault network at octets ≡ None = sym (c.octets_fault.ensures.is network device site) ∙ c.in_default.is in
-    sym c.in-Accepted.is ∙ c.take-arrival.ensures.is
-    ∙ judged network device at (length octets) _ last _ (entry_entering network device c.args.link c.two_octets.result) c.local.result.0 _ site.not_end (rows _ ∙ ap (option_map (entering_by network)) (entered_at network device c.args.link c.two_octets.result link))
-    clock (ap (λ (p : SyncPlan). p.cycle_length.0) site.plan) same
-    ∙ ap (λ (id : ℕ). entry_arrival network device at (length octets) last (entry_entering network device c.args.link id)) c.two_octets.ensures
-    ∙ sym (ap (octets_or_fault network device c.args.link at octets last) none)
+pub take-taken-requires-clause-length : goal.take-taken-requires-clause-length
+take-taken-requires-clause-length c = c.requires.alive.site_in_range.cycle
 
-pub returns-in_default-arrival : goal.returns-in_default-arrival
-returns-in_default-arrival c = record {
-  rest = refl;
-  kept = c.take-arrival.ensures.kept;
-  departs = not_accepted c.args.self.now.departures _ _ c.args.at.now c.take-arrival.result (λ vl cycle e. c.in_default-arrival.not-Accepted vl cycle e);
-  is = λ network device last range site rows link same.
-      let at = standpoint_of c.args.at.now in
-      let octets = c.args.octets.now in
-      let clock : c.local.result.0 ≡ clock_of at = c.local.ensures
-      ∙ ap (λ (z : ℤ). z +ℤ c.args.at.now.adjustment.0) (its_amount _ _ c.args.at.now.reading c.requires.alive.reading) in
-      let none : octets_fault network at octets ≡ None = sym (c.octets_fault.ensures.is network device site) ∙ c.in_default.is in
-      c.take-arrival.ensures.is
-      ∙ judged network device at (length octets) _ last _ (entry_entering network device c.args.link c.two_octets.result) c.local.result.0 _ site.not_end
-      (rows _ ∙ ap (option_map (entering_by network)) (entered_at network device c.args.link c.two_octets.result link)) clock (ap (λ (p : SyncPlan). p.cycle_length.0) site.plan) same
-      ∙ ap (λ (id : ℕ). entry_arrival network device at (length octets) last (entry_entering network device c.args.link id)) c.two_octets.ensures
-      ∙ sym (ap (octets_or_fault network device c.args.link at octets last) none);
-}
+pub returns-in-Some-clause-is : goal.returns-in-Some-clause-is
+returns-in-Some-clause-is c network device taken range site has link =
+    let none = ap (λ (m : ℕ). heading_fault (not (is_off c.args.at.now.state)) c.args.at.now.state m c.of-heading.result) (sym site.marker)
+    ∙ ap (λ (b : Bool). heading_fault (not b) c.args.at.now.state c.args.self.now.site.marker c.of-heading.result) (sym c.is_off.ensures)
+    ∙ sym c.fault.ensures.is ∙ c.in-Some.is in (
+      sym (dropped_by network device c.args.link (standpoint_of c.args.at.now) c.args.octets.now c.of-heading.result taken c.in-Some.reason
+          c.of-heading.ensures none),
+      has,
+    )
+
+pub returns-in-Ok-clause-is : goal.returns-in-Ok-clause-is
+returns-in-Ok-clause-is c network device taken range site has link =
+    let at = standpoint_of c.args.at.now in
+    let clock : c.local-local.result.0 ≡ clock_of at = c.local-local.ensures
+    ∙ ap (λ (z : ℤ). z +ℤ c.args.at.now.adjustment.0) (its_amount _ _ c.args.at.now.reading c.requires.alive.reading) in
+    let none = ap (λ (m : ℕ). heading_fault (not (is_off c.args.at.now.state)) c.args.at.now.state m c.of-heading.result) (sym site.marker)
+    ∙ ap (λ (b : Bool). heading_fault (not b) c.args.at.now.state c.args.self.now.site.marker c.of-heading.result) (sym c.is_off.ensures)
+    ∙ sym c.fault.ensures.is ∙ c.in_default.is in
+    let judged = subst (IsTakenSo network device c.args.link c.of-heading.result at taken c.take-taken.new.self) c.in-Ok.is
+    (c.take-taken.ensures.is network device at taken has link (ap (λ (p : SyncPlan). p.cycle_length) site.plan) clock) in (
+      sym (heard_by network device c.args.link at c.args.octets.now c.of-heading.result taken c.of-heading.ensures none ∙ judged.0
+          ∙ rw site.not_end refl),
+      judged.1,
+    )
+
+pub returns-in-Err-clause-is : goal.returns-in-Err-clause-is
+returns-in-Err-clause-is c network device taken range site has link =
+    let at = standpoint_of c.args.at.now in
+    let clock : c.local-local.result.0 ≡ clock_of at = c.local-local.ensures
+    ∙ ap (λ (z : ℤ). z +ℤ c.args.at.now.adjustment.0) (its_amount _ _ c.args.at.now.reading c.requires.alive.reading) in
+    let none = ap (λ (m : ℕ). heading_fault (not (is_off c.args.at.now.state)) c.args.at.now.state m c.of-heading.result) (sym site.marker)
+    ∙ ap (λ (b : Bool). heading_fault (not b) c.args.at.now.state c.args.self.now.site.marker c.of-heading.result) (sym c.is_off.ensures)
+    ∙ sym c.fault.ensures.is ∙ c.in_default.is in
+    let judged = subst (IsTakenSo network device c.args.link c.of-heading.result at taken c.take-taken.new.self) c.in-Err.is
+    (c.take-taken.ensures.is network device at taken has link (ap (λ (p : SyncPlan). p.cycle_length) site.plan) clock) in (
+      sym (heard_by network device c.args.link at c.args.octets.now c.of-heading.result taken c.of-heading.ensures none ∙ judged.0),
+      judged.1,
+    )

@@ -1,7 +1,7 @@
 use Rattle.switch_ports.proofs.Words.{◌^◌, ◌∙◌, ◌≡◌, HasTaken, IfSome, IsBegun, IsSiteOf, IsWithin, Network, Option, Units, [], ap, subst}
 use Rattle.run_law.specs.scenario.Devices.{start_of}
 use Rattle.sync_state.specs.Standing.{begun}
-use Rattle.switch_ports.proofs.{Beginning.begun_stands, Ranges.{calc_short, site_in_range}, Takings.taken_none}
+use Rattle.switch_ports.proofs.{Beginning.begun_stands, Ranges.{calc_short, site_in_range}}
 use Rattle.switch_ports.proofs.switch.Switch.new.Goals as goal
 
 pub new-collector-requires-clause-short : goal.new-collector-requires-clause-short
@@ -22,10 +22,8 @@ returns c =
     let is = subst (λ (n : Network). IsSiteOf n c.args.device c.in_ok-site.site) e.value c.in_ok-site.ensures in
     let start : c.start_of.result ≡ start_of c.args.accepted.now c.args.device = c.start_of.ensures.value
     ∙ ap (λ (n : Network). start_of n c.args.device) e.value in
-    let taken = taken_none c.network-network.result.now c.args.device c.in_ok-intake.intake c.in_ok-intake.ensures.rows
-    c.in_ok-intake.ensures.taken in
     begun_stands _ c.args.accepted.now c.args.device (record { range = e.range; rules = e.rules }) is
-    (subst (λ (n : Network). HasTaken n c.args.device c.in_ok-intake.intake []) e.value taken)
+    (subst (λ (n : Network). HasTaken n c.args.device c.in_ok-intake.intake []) e.value c.in_ok-intake.ensures)
     (subst (λ (n : Network). IsBegun n c.args.device c.in_ok-departures.departures) e.value c.in_ok-departures.ensures)
     (c.new-sync.ensures.value ∙ ap (begun c.in_ok-site.site.plan) start)
     (subst (λ (o : Option Units). IfSome o (IsWithin 0 (2 ^ 40))) start c.start_of.ensures.range)

@@ -1,6 +1,0 @@
-use Rattle.std.proofs.Common.{take}
-use Rattle.device_rules.specs.Entering.{AreRows}
-use Rattle.device_rules.proofs.entrances.rows_on.Given as goal
-
-abbrev pub invariant-loop-place : goal.invariant-loop-place
-invariant-loop-place l = AreRows l.network l.way (take l.place l.network.row) l.rows

@@ -1,5 +1,0 @@
-use Rattle.switch_ports.proofs.Words.{◌≡◌, None, map, take}
-use Rattle.switch_ports.proofs.intake.none_taken.Given as goal
-
-abbrev pub invariant-loop : goal.invariant-loop
-invariant-loop l = l.taken.items ≡ map (λ vl. None) (take l.index l.network.vl)
