@@ -1,5 +1,5 @@
 -- What is owed of arrivals is due.
-use Rattle.audit_law.proofs.Words.{if◌then◌else◌, ◌&&◌, ◌++◌, ◌+◌, ◌==◌, ◌||◌, ◌∙◌, ◌∷◌, ◌≡◌, ◌≤◌, ArrivesAs, Bool, DeviceId, Gives, Happening, Integrating}
+use Rattle.audit_law.proofs.Words.{if◌then◌else◌, ◌&&◌, ◌+◌, ◌==◌, ◌||◌, ◌∙◌, ◌∷◌, ◌≡◌, ◌≤◌, ArrivesAs, Bool, DeviceId, Gives, Happening}
 use Rattle.audit_law.proofs.Words.{IsBefore, IsCaused, IsDue, IsDueIn, IsFounded, IsIn, IsSplit, LinkId, List, Network, None, NoteBody, Option, Pcf, Reason}
 use Rattle.audit_law.proofs.Words.{Scenario, Some, Units, VlId, [], adjustment_after, amount, and_parts, ap, append-nil, arith, both_ways, cases_lt, earlier}
 use Rattle.audit_law.proofs.Words.{eqb-true, false, false_from_ne_true, filter, filter-append, in_right, inl, inr, is_broken, is_turned_on_at, key, last_or}
@@ -9,7 +9,7 @@ use Rattle.std.{proofs.lemmas.Bool.{ltb-true, or_cases}, specs.Prelude.{Err, Ok}
 use Rattle.net_plan.{proofs.SameIds.same_device, specs.declared.tables.Way.{Way, TheVariants.{Down, Up}}}
 use Rattle.run_law.{proofs.runs.SameSteps.same_arrival, specs.control.Arrivals.{control_arrival, frame_fault, frame_or_fault}}
 use Rattle.run_law.specs.{control.Wires.{Arrives, Launch, Signal, control, launched, time_on_port, timed}, declared.steps.Arrival.Arrival}
-use Rattle.run_law.specs.{device.{Standpoints.{Standpoint, clock_of, cycle_at, standpoint}, States.is_off}, scenario.Devices.{is_end, is_parent_of, is_relay}}
+use Rattle.run_law.specs.{device.Standpoints.{Standpoint, clock_of, cycle_at, standpoint}, scenario.Devices.{is_end, is_parent_of, is_relay}}
 use Rattle.run_law.specs.scenario.Ways.{delay_at, receiver_of}
 use Rattle.run_law.specs.timed.Arrivals.{entry_arrival, octets_fault, octets_or_fault, row_fault, taken_or_fault, timed_arrival}
 use Rattle.run_law.specs.timed.Receptions.{arrival_of, comes_before, is_taken_before, last_taken, taken_cycle}
@@ -25,12 +25,7 @@ use Rattle.run_law.specs.declared.steps.Arrival.TheVariants as arrivals
 pub same_standpoint : (s : Scenario) (device : DeviceId) (t : ℕ) (ps hs : List Happening) → earlier t ps ≡ earlier t hs
     → standpoint s ps device t ≡ standpoint s hs device t
 same_standpoint s device t ps hs same =
-    ap (λ (es : List Happening). let p : Standpoint = record {
-      takes_part = not (is_off (if is_turned_on_at s device t then Integrating else state_after s es device)) && not (is_broken s device t);
-      state = if is_turned_on_at s device t then Integrating else state_after s es device;
-      reading = s.reading device t;
-      adjustment = (adjustment_after s es device).0;
-    } in p) same
+    grind (arith, not, is_turned_on_at, state_after, is_broken, adjustment_after)
 
 -- a time-triggered frame is judged by the last cycle of its own virtual link alone
 by_entry : (network : Network) (device : DeviceId) (at : Standpoint) (size : ℕ) (last other : VlId → Option ℕ) (entry : Option Entry)
@@ -51,30 +46,14 @@ by_octets network device link at octets last other None same =
 -- an arrival of one time that comes before another is before it by its route
 route_before : (link by : LinkId) (cause from : ℕ) → comes_before by from link cause ≡ true → IsBefore (by.0 ∷ from ∷ []) (link.0 ∷ cause ∷ [])
 route_before link by cause from e =
-    elim (or_cases (nat_lt by.0 link.0) (by.0 == link.0 && nat_lt from cause) e) [
-      | inl lt ↦ inl (ltb-true by.0 link.0 lt)
-      | inr both ↦
-          let parts = and_parts (by.0 == link.0) (nat_lt from cause) both in
-          inr (eqb-true by.0 link.0 parts.0, inl (ltb-true from cause parts.1))
-    ]
+    grind (arith, or_cases, nat_lt, ltb-true, and_parts, eqb-true)
 
 -- a record of a taking, of rank r, that is judged to be earlier is before a place whose rank is not lower
 taken_is_before : (t u r q : ℕ) (device other : DeviceId) (vl of_vl : VlId) (link by : LinkId) (cause from : ℕ) → r ≤ q
     → (device.0 == other.0 && vl.0 == of_vl.0 && (nat_lt u t || (u == t && comes_before by from link cause))) ≡ true
     → IsBefore (u ∷ r ∷ other.0 ∷ by.0 ∷ from ∷ []) (t ∷ q ∷ device.0 ∷ link.0 ∷ cause ∷ [])
 taken_is_before t u r q device other vl of_vl link by cause from le e =
-    let two = and_parts (device.0 == other.0 && vl.0 == of_vl.0) (nat_lt u t || (u == t && comes_before by from link cause)) e in
-    let same = sym (eqb-true device.0 other.0 (and_parts (device.0 == other.0) (vl.0 == of_vl.0) two.0).0) in
-    elim (or_cases (nat_lt u t) (u == t && comes_before by from link cause) two.1) [
-      | inl lt ↦ inl (ltb-true u t lt)
-      | inr now ↦
-          let parts = and_parts (u == t) (comes_before by from link cause) now in
-          let route = route_before link by cause from parts.1 in
-          elim (cases_lt r q) [
-            | inl less ↦ inr (eqb-true u t parts.0, inl less)
-            | inr more ↦ inr (eqb-true u t parts.0, inr (omega (arith, le, more), inr (same, route)))
-          ]
-    ]
+    grind (arith, and_parts, nat_lt, eqb-true, or_cases, ltb-true, route_before, cases_lt)
 
 -- the place of an arrival of rank q at the device
 abbrev arrival_place : ℕ → ℕ → DeviceId → LinkId → ℕ → List ℕ
@@ -177,18 +156,14 @@ timed_rank : (network : Network) (device : DeviceId) (link : LinkId) (cause : �
 timed_rank network device link cause (arrivals.Dropped reason) h = omega arith
 timed_rank network device link cause (arrivals.Accepted vl cycle) h = omega arith
 timed_rank network device link cause (arrivals.Delivered vl cycle) h = omega arith
-timed_rank network device link cause (arrivals.Waits frame point) h = absurd h
-timed_rank network device link cause (arrivals.Passes frame way) h = absurd h
-timed_rank network device link cause (arrivals.PassesAndWaits frame way point) h = absurd h
+timed_rank network device link cause other h = absurd h
 
 end_rank : (network : Network) (device : DeviceId) (link : LinkId) (cause : ℕ) (a : Arrival) → IsTimedOutcome network device a → is_end network device ≡ true
     → 12 ≤ rank (arrival_record device link cause a)
 end_rank network device link cause (arrivals.Dropped reason) h end = omega arith
 end_rank network device link cause (arrivals.Accepted vl cycle) h end = absurd (both_ways (is_end network device) h end)
 end_rank network device link cause (arrivals.Delivered vl cycle) h end = omega arith
-end_rank network device link cause (arrivals.Waits frame point) h end = absurd h
-end_rank network device link cause (arrivals.Passes frame way) h end = absurd h
-end_rank network device link cause (arrivals.PassesAndWaits frame way point) h end = absurd h
+end_rank network device link cause other h end = absurd h
 
 -- ---- by a front as by the list
 
@@ -206,10 +181,7 @@ same_taken s hs t device link cause a vl founded at may =
     let end = end_of_delivery s there.front h.note.time h.note.body other by from of_vl cycle there.due.cause is in
     end_rank s.network device link cause a may
     (subst (λ (d : DeviceId). is_end s.network d ≡ true) (sym (same_device device other ids)) end))) in
-    let kept : filter test at.front ≡ filter test hs = sym (append-nil (filter test at.front))
-    ∙ ap (λ (gs : List Happening). filter test at.front ++ gs) (sym none)
-    ∙ sym (filter-append test at.front at.rest)
-    ∙ ap (filter test) (sym at.whole) in
+    let kept : filter test at.front ≡ filter test hs = grind (arith, append-nil, filter, test, none, filter-append) in
     ap (λ (gs : List Happening). option_and_then (λ (h : Happening). taken_cycle h.note.body) (last_or None gs)) kept
 
 -- so an arrival is judged by the front as by the list
@@ -229,11 +201,7 @@ same_outcome s hs t device link cause a (timed octets) founded at may =
 record_place : (t m : ℕ) (device : DeviceId) (link : LinkId) (cause : ℕ) (a : Arrival)
     → place_at t m (arrival_record device link cause a) ≡ arrival_place t (rank (arrival_record device link cause a)) device link cause
 record_place t m device link cause (arrivals.Dropped reason) = refl
-record_place t m device link cause (arrivals.Accepted vl cycle) = refl
-record_place t m device link cause (arrivals.Delivered vl cycle) = refl
-record_place t m device link cause (arrivals.Waits frame point) = refl
-record_place t m device link cause (arrivals.Passes frame way) = refl
-record_place t m device link cause (arrivals.PassesAndWaits frame way point) = refl
+record_place t m device link cause other = refl
 
 -- ---- what is owed is due
 
@@ -284,11 +252,7 @@ causes_record s gs t device link cause (arrivals.PassesAndWaits frame way point)
 
 tells : (device : DeviceId) (link : LinkId) (cause : ℕ) (a : Arrival) → TellsArrival cause (arrival_record device link cause a)
 tells device link cause (arrivals.Dropped reason) = refl
-tells device link cause (arrivals.Accepted vl cycle) = refl
-tells device link cause (arrivals.Delivered vl cycle) = refl
-tells device link cause (arrivals.Waits frame point) = refl
-tells device link cause (arrivals.Passes frame way) = refl
-tells device link cause (arrivals.PassesAndWaits frame way point) = refl
+tells device link cause other = refl
 
 some_arrival : (s : Scenario) (hs : List Happening) (until cause : ℕ) → IsFounded place_of (IsDue s) hs → (o : OwesArrival s hs until cause)
     → PaidAt s hs until (IsDueByArrival s) o.time (λ x. TellsArrival cause x.note.body)

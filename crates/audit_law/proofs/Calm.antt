@@ -1,4 +1,5 @@
 -- Records behind the last change of a device's adjustment: they bring it to no state with a correction point.
+use Rattle.std.proofs.Common.{arith}
 use Rattle.audit_law.proofs.Words.{if◌then◌else◌, ◌==◌, ◌∙◌, ◌∷◌, ◌≡◌, ◌⊎◌, Bool, ChangesState, DeviceId, Happening, Integrating, IsIn, Joining, List, NoteBody}
 use Rattle.audit_law.proofs.Words.{Off, Scenario, Some, State, Synchronised, Why, [], ap, both_ways, changes_adjustment, eqb-true, false, fold, inl, inr}
 use Rattle.audit_law.proofs.Words.{is_joined_by, numbered, refl, time_of, true, ℕ}
@@ -49,9 +50,7 @@ leaves s front device t state cause whys.Frame quiet c =
     let body = c.1.0.note.body in
     absurd (both_ways (changes_adjustment device body) (quiet c.1.0 c.1.1.there c.1.1.same_time) (joined_changes device body c.1.2))
 leaves s front device t state cause whys.Correction quiet c =
-    let body = c.2.3.note.body in
-    absurd (both_ways (changes_adjustment device body) (quiet c.2.3 c.2.4.there c.2.4.same_time)
-    (ap (changes_adjustment device) c.2.5 ∙ eq-eqb device.0 device.0 refl))
+    grind (arith, both_ways, changes_adjustment, eq-eqb)
 leaves s front device t state cause whys.SyncClique quiet c = c.0
 leaves s front device t state cause whys.AsyncClique quiet c = c.0
 
@@ -73,10 +72,4 @@ pub stays_or_leaves : (device : DeviceId) (old : State) (ys : List Happening) �
     → (fold (after device) old ys ≡ old) ⊎ (fold (after device) old ys ≡ Integrating)
 stays_or_leaves device old [] each = inl refl
 stays_or_leaves device old (y ∷ ys) each =
-    elim (each y (inl refl) old) [
-      | inl same ↦ elim (stays_or_leaves device old ys (λ h i. each h (inr i))) [
-        | inl kept ↦ inl (ap (λ (u : State). fold (after device) u ys) same ∙ kept)
-        | inr left ↦ inr (ap (λ (u : State). fold (after device) u ys) same ∙ left)
-      ]
-      | inr left ↦ inr (ap (λ (u : State). fold (after device) u ys) left ∙ stays_integrating device ys (λ h i. each h (inr i)))
-    ]
+    grind (arith, fold, stays_integrating, (stays_or_leaves device old ys (λ h i. each h (inr i))))

@@ -1,6 +1,6 @@
 -- What is owed of changes of state is due.
-use Rattle.audit_law.proofs.Words.{if◌then◌else◌, ◌+◌, ◌<◌, ◌∙◌, ◌∷◌, ◌≡◌, ChangesState, DeviceId, Happening, Integrating, IsBefore, IsCaused, IsDue, IsDueIn}
-use Rattle.audit_law.proofs.Words.{IsFounded, Joining, List, None, NoteBody, Option, Scenario, Some, State, Why, [], ahead, ap, arith, earlier, eqb-true}
+use Rattle.audit_law.proofs.Words.{◌+◌, ◌<◌, ◌∙◌, ◌∷◌, ◌≡◌, ChangesState, DeviceId, Happening, IsBefore, IsCaused, IsDue, IsDueIn}
+use Rattle.audit_law.proofs.Words.{IsFounded, List, None, NoteBody, Option, Scenario, Some, State, Why, [], ahead, ap, arith, earlier, eqb-true}
 use Rattle.audit_law.proofs.Words.{is_joined_by, is_turned_on_at, key, members_in, numbered, place_at, place_of, rank, refl, same_earlier, same_some, split}
 use Rattle.audit_law.proofs.Words.{state_after, subst, sym, time_of, true, ℕ}
 use Rattle.net_plan.specs.declared.event.What.TheVariants.{On}
@@ -67,9 +67,7 @@ moved s gs hs device t state cause whys.On b same there c =
 moved s gs hs device t state cause whys.Frame b same there c =
     (c.0, (c.1.0, of_this_time hs t cause c.1.0 gs c.1.1 (there c.1.0 c.1.1 (joins_before device c.1.0.note.body c.1.2)), c.1.2))
 moved s gs hs device t state cause whys.Correction b same there c =
-    let low : rank c.2.3.note.body ≡ 6 = ap rank c.2.5 in
-    let joining = subst (λ (es : List Happening). (if is_turned_on_at s device t then Integrating else state_after s es device) ≡ Joining) same c.1 in
-    (c.0, joining, (c.2.0, c.2.1, c.2.2, c.2.3, of_this_time hs t cause c.2.3 gs c.2.4 (there c.2.3 c.2.4 (omega (arith, low))), c.2.5))
+    grind (arith, rank, is_turned_on_at, state_after, of_this_time)
 moved s gs hs device t state cause whys.SyncClique b same there c = absurd b
 moved s gs hs device t state cause whys.AsyncClique b same there c = absurd b
 
@@ -152,14 +150,7 @@ told s hs cause x h some other is c e = absurd e
 -- two such records have one place
 same_place : (hs : List Happening) (cause : ℕ) (x y : Happening) → IsTold hs cause x → IsTold hs cause y → place_of x ≡ place_of y
 same_place hs cause x y a b =
-    let one : a.is.bringing ≡ b.is.bringing = same_some (numbered hs cause) a.is.bringing b.is.bringing a.is.is.there b.is.is.there in
-    let times : time_of x ≡ time_of y = sym a.is.is.same_time ∙ ap time_of one ∙ b.is.is.same_time in
-    let devices : a.device.0 ≡ b.device.0 = same_some (brings_to a.is.bringing.note.body) a.device.0 b.device.0 a.is.to
-    (ap (λ (h : Happening). brings_to h.note.body) one ∙ b.is.to) in
-    ap (λ (c : NoteBody). place_at (time_of x) (members_in x) c) a.says
-    ∙ ap (λ (n : ℕ). n ∷ 7 ∷ a.device.0 ∷ cause ∷ []) times
-    ∙ ap (λ (n : ℕ). time_of y ∷ 7 ∷ n ∷ cause ∷ []) devices
-    ∙ sym (ap (λ (c : NoteBody). place_at (time_of y) (members_in y) c) b.says)
+    grind (arith, same_some, numbered, time_of, place_at, members_in)
 
 pub change_law : ChangeLaw
 change_law s hs until founded = record {

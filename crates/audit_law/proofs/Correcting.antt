@@ -31,13 +31,7 @@ come_by s device by es =
 standing_by : (s : Scenario) (gs hs : List Happening) (device : DeviceId) (t : ℕ) → earlier t gs ≡ earlier t hs
     → standing_at s gs device t ≡ standing_at s hs device t
 standing_by s gs hs device t same =
-    ap (λ (es : List Happening). let st : Standing = record {
-      plan = plan_of s.network device;
-      state = if is_turned_on_at s device t then Integrating else state_after s es device;
-      adjustment = adjustment_after s es device;
-      number = recorded_cycle es device + come_by s device t es;
-      integrated = integration_cycle es device;
-    } in st) same
+    grind (arith, plan_of, is_turned_on_at, state_after, adjustment_after, recorded_cycle, integration_cycle)
 
 -- a correction point is one by other records that have the same earlier ones, and tell the same to be heard
 pub comes_by : (s : Scenario) (gs hs : List Happening) (device : DeviceId) (t cycle : ℕ) (v : Verdict) → earlier t gs ≡ earlier t hs
@@ -92,12 +86,7 @@ late_part hs t r more high at =
 -- the records of earlier times are all in the front
 pub late_earlier : (hs : List Happening) (t : ℕ) (front : List Happening) → HasLate hs t front → earlier t (up_to t hs) ≡ earlier t front
 late_earlier hs t front l =
-    let test : Happening → Bool = λ h. nat_lt (time_of h) t in
-    let none : filter test l.late ≡ [] = none_kept test l.late (λ h i. le-ltb (time_of h) t (l.not_earlier h i)) in
-    ap (filter test) l.whole
-    ∙ filter-append test front l.late
-    ∙ ap (λ (gs : List Happening). filter test front ++ gs) none
-    ∙ append-nil (filter test front)
+    grind (arith, nat_lt, time_of, filter, none_kept, le-ltb, filter-append, append-nil)
 
 -- the front tells all that is heard up to the time
 pub late_heard : (s : Scenario) (hs : List Happening) (device : DeviceId) (t : ℕ) (front : List Happening) → HasLate hs t front
@@ -149,22 +138,16 @@ point_place t device v = t ∷ point_rank v ∷ point_key device v
 
 high_rank : (v : Verdict) → 6 ≤ point_rank v
 high_rank (Corrected by) = omega arith
-high_rank SyncClique = omega arith
-high_rank AsyncClique = omega arith
-high_rank Cleared = omega arith
+high_rank other = omega arith
 
 record_place : (t m : ℕ) (device : DeviceId) (cycle : ℕ) (adjustment : Units) (v : Verdict)
     → place_at t m (point_record device cycle adjustment v) ≡ point_place t device v
 record_place t m device cycle adjustment (Corrected by) = refl
-record_place t m device cycle adjustment SyncClique = refl
-record_place t m device cycle adjustment AsyncClique = refl
-record_place t m device cycle adjustment Cleared = refl
+record_place t m device cycle adjustment other = refl
 
 is_of_point : (device : DeviceId) (cycle : ℕ) (adjustment : Units) (v : Verdict) → IsPointOf device (point_record device cycle adjustment v)
 is_of_point device cycle adjustment (Corrected by) = refl
-is_of_point device cycle adjustment SyncClique = refl
-is_of_point device cycle adjustment AsyncClique = refl
-is_of_point device cycle adjustment Cleared = refl
+is_of_point device cycle adjustment other = refl
 
 shows_record : (s : Scenario) (gs : List Happening) (device : DeviceId) (t cycle : ℕ) (v : Verdict) → (v ≡ Cleared → ⊥)
     → ShowsVerdict s gs device t cycle v (point_record device cycle (adjusted s gs device t v) v)

@@ -44,20 +44,13 @@ from_last : (p : Happening → Bool) (o : Option Happening) (xs : List Happening
     → ((y : Happening) → IsIn y xs → option_map_or time_of o 0 ≤ time_of y) → option_map_or time_of o 0 ≤ latest o (of_kind p xs)
 from_last p o [] order low = omega arith
 from_last p o (x ∷ xs) order low =
-    elim (p x) as (λ b. option_map_or time_of o 0 ≤ latest o (if b then x ∷ filter p xs else filter p xs)) [
-      | true ↦ (let more = from_last p (Some x) xs order.1 order.0 in let here = low x (inl refl) in omega (arith, more, here))
-      | false ↦ from_last p o xs order.1 (λ y i. low y (inr i))
-    ]
+    grind (arith, option_map_or, time_of, filter, (from_last p (Some x) xs order.1 order.0), (from_last p o xs order.1 (λ y i. low y (inr i))))
 
 by_last : (p : Happening → Bool) (o : Option Happening) (xs : List Happening) (h : Happening) → AreSorted xs → IsIn h xs → p h ≡ true
     → time_of h ≤ latest o (of_kind p xs)
 by_last p o [] h order i is = absurd i
 by_last p o (x ∷ xs) h order (inl same) is =
-    let hit : p x ≡ true = ap p (sym same) ∙ is in
-    let more = from_last p (Some x) xs order.1 order.0 in
-    let at : time_of h ≡ time_of x = ap time_of same in
-    let all : time_of h ≤ latest (Some x) (filter p xs) = omega (arith, more, at) in
-    subst (λ (b : Bool). time_of h ≤ latest o (if b then x ∷ filter p xs else filter p xs)) (sym hit) all
+    grind (arith, from_last, time_of, filter)
 by_last p o (x ∷ xs) h order (inr i) is =
     elim (p x) as (λ b. time_of h ≤ latest o (if b then x ∷ filter p xs else filter p xs))
     [ true ↦ by_last p (Some x) xs h order.1 i is | false ↦ by_last p o xs h order.1 i is ]

@@ -38,7 +38,7 @@ tells device link cause too_old = (refl, refl, refl)
 abbrev leaving_place : ℕ → DeviceId → LinkId → ℕ → Departure → List ℕ
 leaving_place t device link cause d = t ∷ rank (leaving_record device link cause d) ∷ device.0 ∷ link.0 ∷ cause ∷ []
 
-record_place : (t m : ℕ) (device : DeviceId) (link : LinkId) (cause : ℕ) (d : Departure)
+pub record_place : (t m : ℕ) (device : DeviceId) (link : LinkId) (cause : ℕ) (d : Departure)
     → place_at t m (leaving_record device link cause d) ≡ leaving_place t device link cause d
 record_place t m device link cause (leaves clock) = refl
 record_place t m device link cause on_cut_way = refl
@@ -88,16 +88,7 @@ some_departure s hs until cause link founded o =
 -- a frame that departs, given a front of the list, departs by the list
 pub departs_in_whole : (s : Scenario) (hs before rest : List Happening) (t : ℕ) (device : DeviceId) (link : LinkId) (cause : ℕ) (d : Departure)
     → hs ≡ before ++ rest → Departs s before device t link cause d → Departs s hs device t link cause d
-departs_in_whole s hs before rest t device link cause d e h = record {
-  giving = h.giving;
-  there = in_whole hs before rest cause h.giving e h.there;
-  gives = h.gives;
-  frame = h.frame;
-  of_frame = h.of_frame;
-  held = h.held;
-  correct = h.correct;
-  becomes = h.becomes;
-}
+departs_in_whole s hs before rest t device link cause d e h = grind (arith, in_whole)
 
 departure_owed : (s : Scenario) (hs : List Happening) (until : ℕ) (x : Happening) → IsDueIn place_of (IsDueByLeaving s) hs x
     → IsBefore (place_of x) ((until + 1) ∷ [])
@@ -190,7 +181,7 @@ one_giver network (notes.Arrived relay by from clock) device other link a b = a.
 one_giver network body device other link a b = absurd a
 
 -- where two leavings of one frame by one link stand
-same_place : (s : Scenario) (hs : List Happening) (t u : ℕ) (device other : DeviceId) (link by : LinkId) (cause from : ℕ) (d e : Departure)
+pub same_place : (s : Scenario) (hs : List Happening) (t u : ℕ) (device other : DeviceId) (link by : LinkId) (cause from : ℕ) (d e : Departure)
     → cause ≡ from → link ≡ by
     → Departs s hs device t link cause d → Departs s hs other u by from e → leaving_place t device link cause d ≡ leaving_place u other by from e
 same_place s hs t u device other link by cause from d e causes links a b =

@@ -1,7 +1,8 @@
 -- A record that is due in an audit is determined by its place.
 use Rattle.audit_law.proofs.Words.{◌+ℤ◌, ◌∙◌, ◌≡◌, ◌⊎◌, AsyncClique, ChangesState, ComesToPoint, Corrected, DeviceId, Happening, HasVerdict, IsCaused, IsDue}
+use Rattle.audit_law.proofs.Words.{true}
 use Rattle.audit_law.proofs.Words.{List, NoteBody, Scenario, State, SyncClique, Units, Verdict, Why, adjustment_before, amount, ap, arith, heard_since_point}
-use Rattle.audit_law.proofs.Words.{inl, inr, key, members_in, next_point, place_of, rank, standing_at, subst, sym, ℕ}
+use Rattle.audit_law.proofs.Words.{inl, inr, key, members_in, next_point, place_of, rank, standing_at, subst, sym, true, ℕ}
 use Rattle.membership.{proofs.OneSummary.one_summary, specs.Summary.Summary}
 use Rattle.net_plan.proofs.SameIds.{same_device}
 use Rattle.run_law.{proofs.runs.Determined.{no_cause, same_note, same_time, same_units}, specs.{records.Happenings.happening, runs.Runs.IsDetermined}}
@@ -12,6 +13,10 @@ use Rattle.run_law.proofs.runs.Determined as runs_determined
 use Rattle.run_law.specs.declared.judgement.Why.TheVariants as whys
 use Rattle.run_law.specs.declared.note.NoteBody.TheVariants as notes
 use Rattle.run_law.specs.runs.DueRecords as runs
+use Rattle.run_law.proofs.control.Joined.{looking_by}
+use Rattle.run_law.specs.declared.judgement.Judgement.TheVariants.{Integrates}
+use Rattle.run_law.specs.device.States.{is_joined_by, state_before}
+use Rattle.sync_state.specs.declared.state.State.TheVariants.{Integrating}
 
 -- ---- what is caused as in a run
 
@@ -60,6 +65,15 @@ caused_in_audit s hs time (notes.State device state cause whys.Frame) off c = c
 caused_in_audit s hs time (notes.State device state cause whys.Correction) off c = c
 caused_in_audit s hs time other off c = c
 
+-- a record by which a frame tells a device the time finds it integrating
+pub joins_looking : (s : Scenario) (ps : List Happening) (time : Units) (device : DeviceId) (body : NoteBody) → is_joined_by device body ≡ true
+    → IsCaused s ps time body → state_before s ps device (amount time) ≡ Integrating
+joins_looking s ps time device (notes.Permanent other link cause point Integrates) joined caused =
+    looking_by s ps time device (notes.Permanent other link cause point Integrates) joined caused
+joins_looking s ps time device (notes.Compressed other opened at cycle members Integrates) joined caused =
+    looking_by s ps time device (notes.Compressed other opened at cycle members Integrates) joined caused
+joins_looking s ps time device other joined caused = absurd cc
+
 -- ---- correction points
 
 same_cycle : (s : Scenario) (hs : List Happening) (t : ℕ) (device : DeviceId) (cycle other : ℕ) (v w : Verdict) → ComesToPoint s hs device t cycle v
@@ -98,9 +112,7 @@ has_cause s hs t device other cause state whys.AsyncClique off c none = off
 same_state : (device other : DeviceId) (state later : State) (cause from : ℕ) (why : Why) → device.0 ≡ other.0 → state ≡ later → cause ≡ from
     → notes.State device state cause why ≡ notes.State other later from why
 same_state device other state later cause from why ids states causes =
-    ap (λ (d : DeviceId). notes.State d state cause why) (same_device device other ids)
-    ∙ ap (λ (u : State). notes.State other u cause why) states
-    ∙ ap (λ (n : ℕ). notes.State other later n why) causes
+    grind (arith, same_device)
 
 -- what is of a correction point has not the place of what is of none
 apart : (s : Scenario) (hs : List Happening) (time : Units) (m n : ℕ) (a b : NoteBody) → IsOfPoint a → IsOfNoPoint b → IsCaused s hs time a

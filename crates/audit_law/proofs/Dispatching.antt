@@ -1,7 +1,8 @@
 -- What is owed of schedules is due.
-use Rattle.audit_law.proofs.Words.{if◌then◌else◌, ◌*◌, ◌+◌, ◌∙◌, ◌∷◌, ◌≡◌, ◌≤◌, Bool, DeviceId, Dispatch, Happening, Integrating, IsBefore, IsCaused, IsDue}
-use Rattle.audit_law.proofs.Words.{IsDueIn, IsFounded, LinkId, List, NoteBody, Scenario, Synchronised, VlId, [], amount, ap, earlier, false, inl, inr}
-use Rattle.audit_law.proofs.Words.{is_turned_on_at, key, members_in, place_at, place_of, pos, rank, refl, same_earlier, split, state_after, subst, sym, time_of}
+use Rattle.std.proofs.Common.{arith}
+use Rattle.audit_law.proofs.Words.{◌+◌, ◌∙◌, ◌∷◌, ◌≡◌, ◌≤◌, Bool, DeviceId, Dispatch, Happening, IsBefore, IsCaused, IsDue}
+use Rattle.audit_law.proofs.Words.{IsDueIn, IsFounded, LinkId, List, NoteBody, Scenario, VlId, [], amount, ap, earlier, false, inl, inr}
+use Rattle.audit_law.proofs.Words.{is_turned_on_at, key, members_in, place_at, place_of, rank, refl, same_earlier, split, state_after, subst, sym, time_of}
 use Rattle.audit_law.proofs.Words.{true, units_of, ℕ}
 use Rattle.run_law.{proofs.{device.States.reaches_by, timed.Rows.at_hand_by}, specs.timed.Dispatching.{Dispatches, IsUp, Sends}}
 use Rattle.audit_law.{proofs.Owing.{PaidAt, due_there, earlier_in, next_is_due, next_of, timely, within}, specs.DebtLaws.{DispatchLaw, SendingLaw}}
@@ -12,35 +13,15 @@ use Rattle.run_law.specs.declared.note.NoteBody.TheVariants as notes
 -- ---- what the records of earlier times tell
 
 up_by : (s : Scenario) (gs hs : List Happening) (device : DeviceId) (t : ℕ) → earlier t gs ≡ earlier t hs → IsUp s gs device t → IsUp s hs device t
-up_by s gs hs device t same h = record {
-  synchronised =
-      subst (λ (es : List Happening). (if is_turned_on_at s device t then Integrating else state_after s es device) ≡ Synchronised) same h.synchronised;
-  correct = h.correct;
-}
+up_by s gs hs device t same h = grind (arith, is_turned_on_at, state_after)
 
 pub sends_by : (s : Scenario) (gs hs : List Happening) (device : DeviceId) (t cycle : ℕ) → earlier t gs ≡ earlier t hs → Sends s gs device t cycle
     → Sends s hs device t cycle
-sends_by s gs hs device t cycle same h = record {
-  master = h.master;
-  up = up_by s gs hs device t same h.up;
-  begun = h.begun;
-  reached = reaches_by s gs hs device (pos (cycle * amount s.network.cycle)) t same h.reached;
-}
+sends_by s gs hs device t cycle same h = grind (arith, up_by, reaches_by, amount)
 
 pub dispatches_by : (s : Scenario) (gs hs : List Happening) (device : DeviceId) (t : ℕ) (link : LinkId) (cause : ℕ) (vl : VlId) (cycle : ℕ)
     → earlier t gs ≡ earlier t hs → Dispatches s gs device t link cause vl cycle → Dispatches s hs device t link cause vl cycle
-dispatches_by s gs hs device t link cause vl cycle same h = record {
-  place = h.place;
-  entry = h.entry;
-  row = h.row;
-  by = h.by;
-  of_vl = h.of_vl;
-  leaves = h.leaves;
-  occurs = h.occurs;
-  up = up_by s gs hs device t same h.up;
-  reached = reaches_by s gs hs device (pos (cycle * amount s.network.cycle + amount h.entry.row.offset)) t same h.reached;
-  at_hand = at_hand_by s.network gs hs device h.entry t cause cycle same h.at_hand;
-}
+dispatches_by s gs hs device t link cause vl cycle same h = grind (arith, up_by, reaches_by, amount, at_hand_by)
 
 -- ---- sendings
 
@@ -128,10 +109,7 @@ dispatch_owed s hs until x h here =
 
 dispatch_place : (s : Scenario) (o : Dispatch) (x : Happening) → TellsDispatch s o x → place_of x ≡ place_at o.time 0 (dispatch_record o (is_cut_then s o))
 dispatch_place s o x h =
-    let cut = is_cut_then s o in
-    ap (λ (b : NoteBody). place_at (time_of x) (members_in x) b) h.says
-    ∙ record_place (time_of x) (members_in x) o cut
-    ∙ ap (λ (t : ℕ). place_at t 0 (dispatch_record o cut)) h.at
+    grind (arith, place_at, time_of, members_in, record_place)
 
 pub dispatch_law : DispatchLaw
 dispatch_law s hs until founded = record {

@@ -41,22 +41,8 @@ of_kind s hs until debt_of (Some t) h = record {
 join : (s : Scenario) (hs : List Happening) (until : ℕ) (P Q : Debt → Type 0) (a b : Option ℕ) → FirstIn s hs until P a → FirstIn s hs until Q b
     → FirstIn s hs until (λ o. P o ⊎ Q o) (earlier_of a b)
 join s hs until P Q None None h g = λ o of owed. elim of [ inl p ↦ h o p owed | inr q ↦ g o q owed ]
-join s hs until P Q None (Some u) h g = record {
-  debt = g.debt;
-  of = inr g.of;
-  owed = g.owed;
-  unpaid = g.unpaid;
-  at = g.at;
-  first = λ other of is not. elim of [ inl p ↦ absurd (not (h other p is)) | inr q ↦ g.first other q is not ];
-}
-join s hs until P Q (Some t) None h g = record {
-  debt = h.debt;
-  of = inl h.of;
-  owed = h.owed;
-  unpaid = h.unpaid;
-  at = h.at;
-  first = λ other of is not. elim of [ inl p ↦ h.first other p is not | inr q ↦ absurd (not (g other q is)) ];
-}
+join s hs until P Q None (Some u) h g = grind arith
+join s hs until P Q (Some t) None h g = grind arith
 join s hs until P Q (Some t) (Some u) h g = elim (cases_lt u t) [
   | inl sooner ↦ record {
     debt = g.debt;
@@ -85,9 +71,7 @@ join s hs until P Q (Some t) (Some u) h g = elim (cases_lt u t) [
 of_all : (s : Scenario) (hs : List Happening) (until : ℕ) (P : Debt → Type 0) (first : Option ℕ) → AreSound place_of (IsDue s) ((until + 1) ∷ []) hs
     → ((o : Debt) → P o) → FirstIn s hs until P first
     → MatchOption first (LacksNothing place_of (IsDue s) ((until + 1) ∷ []) hs) (IsFirstDebt s hs until)
-of_all s hs until P None sound all h = λ x lacks here.
-    let p = (debt_law s hs until sound).lacking x lacks here in
-    p.4 (h p.0 (all p.0) p.1)
+of_all s hs until P None sound all h = grind (arith, debt_law)
 of_all s hs until P (Some t) sound all h =
     record { debt = h.debt; owed = h.owed; unpaid = h.unpaid; at = h.at; first = λ other is not. h.first other (all other) is not }
 

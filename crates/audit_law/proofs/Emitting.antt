@@ -1,10 +1,10 @@
 -- What is owed of clusters is due.
-use Rattle.audit_law.proofs.Words.{if◌then◌else◌, ◌++◌, ◌+◌, ◌∙◌, ◌∷◌, ◌≡◌, AllBefore, Bool, DeviceId, Happening, IsBefore, IsCaused, IsDue, IsDueIn, IsFounded}
-use Rattle.audit_law.proofs.Words.{IsReach, IsSplit, List, NoteBody, Scenario, Units, [], ap, append-nil, false_from_ne_true, filter, filter-append, inl, inr}
+use Rattle.std.proofs.Common.{arith}
+use Rattle.audit_law.proofs.Words.{if◌then◌else◌, ◌+◌, ◌∙◌, ◌∷◌, ◌≡◌, AllBefore, Bool, DeviceId, Happening, IsBefore, IsCaused, IsDue, IsDueIn, IsFounded}
+use Rattle.audit_law.proofs.Words.{IsReach, IsSplit, List, NoteBody, Scenario, [], ap, append-nil, false_from_ne_true, filter, filter-append, inl, inr}
 use Rattle.audit_law.proofs.Words.{is_before, is_there, key, members_in, none_kept, place_at, place_of, pos, rank, refl, split, subst, sym, time_of, ℕ}
 use Rattle.compression.specs.declared.compressed.Compressed.{Compressed}
 use Rattle.drift_clock.proofs.Reaches.{one_reach}
-use Rattle.pcf_values.specs.declared.members.Members.{Members}
 use Rattle.run_law.{proofs.records.Order.before_is, specs.control.Emissions.Emits}
 use Rattle.audit_law.{proofs.Owing.{PaidAt, due_there, next_is_due, next_of, split_at, timely, within}, specs.DebtLaws.EmissionLaw}
 use Rattle.audit_law.specs.Emitted.{IsDueByEmission, OwesEmission, TellsEmission, before_place, emission_place, emission_record}
@@ -21,14 +21,7 @@ all_kept (h ∷ hs) p all =
 -- where a list parts at a place, its front is the records before that
 pub before_is_front : (hs : List Happening) (p : List ℕ) → (at : IsSplit place_of hs p) → before_place hs p ≡ at.front
 before_is_front hs p at =
-    let test : Happening → Bool = λ h. is_before (place_of h) p in
-    let none : filter test at.rest ≡ [] = none_kept test at.rest
-    (λ h i. false_from_ne_true (test h) (λ e. at.none h i (is_there (place_of h) p e))) in
-    ap (filter test) at.whole
-    ∙ filter-append test at.front at.rest
-    ∙ ap (λ (gs : List Happening). filter test at.front ++ gs) none
-    ∙ append-nil (filter test at.front)
-    ∙ all_kept at.front p at.before
+    grind (arith, is_before, place_of, filter, none_kept, false_from_ne_true, is_there, filter-append, append-nil, all_kept)
 
 -- ---- the law
 
@@ -79,17 +72,7 @@ record IsEmitted (s : Scenario) (device : DeviceId) (sent : Compressed) (x : Hap
 
 emitted : (s : Scenario) (before : List Happening) (device : DeviceId) (sent : Compressed) (x : Happening) (body : NoteBody)
     → x.note.body ≡ body → IsCaused s before x.note.time body → TellsEmission device sent body → IsEmitted s device sent x
-emitted s before device sent x (notes.Compressed other opened at cycle members verdict) is c e = record {
-  place =
-      ap (λ (b : NoteBody). place_at (time_of x) (members_in x) b) is
-      ∙ ap (λ (d : DeviceId). place_at (time_of x) 0 (notes.Compressed d opened at cycle members verdict)) e.0
-      ∙ ap (λ (u : Units). place_at (time_of x) 0 (notes.Compressed device u at cycle members verdict)) e.1
-      ∙ ap (λ (u : Units). place_at (time_of x) 0 (notes.Compressed device sent.opened u cycle members verdict)) e.2
-      ∙ ap (λ (n : ℕ). place_at (time_of x) 0 (notes.Compressed device sent.opened sent.at n members verdict)) e.3
-      ∙ ap (λ (m : Members). place_at (time_of x) 0 (notes.Compressed device sent.opened sent.at sent.cycle m verdict)) e.4;
-  reached = subst (λ (d : DeviceId). IsReach (s.reading d) (pos 0) sent.at.0 (pos (time_of x))) e.0
-      (subst (λ (u : Units). IsReach (s.reading other) (pos 0) u.0 (pos (time_of x))) e.2 c.reached);
-}
+emitted s before device sent x (notes.Compressed other opened at cycle members verdict) is c e = grind (arith, place_at, time_of, members_in)
 emitted s before device sent x other is c e = absurd e
 
 pub emission_law : EmissionLaw

@@ -1,4 +1,5 @@
 -- What may be found wrong with the records of a scenario.
+use Rattle.std.proofs.Common.{arith}
 use Rattle.audit_law.proofs.Words.{◌∷◌, ◌≡◌, ◌⊎◌, DeviceId, Happening, HasAccepted, IsCaused, IsDue, IsFounded, List, NoteBody, Scenario, Some, Units, VlId}
 use Rattle.audit_law.proofs.Words.{amount, front_founded, inl, inr, numbered, place_of, refl, subst, sym, ℕ}
 use Rattle.run_law.{proofs.law.FirstDeliveries.accepted_in, specs.records.Causes.cause_of}
@@ -31,11 +32,7 @@ caused : (s : Scenario) (before : List Happening) (time : Units) (body : NoteBod
     → HasCauseAt before (cause_of body)
 caused s before time (notes.Event line what) founded h = inl refl
 caused s before time (notes.Arrived device link cause clock) founded h =
-    elim h.taken [
-      | inl w ↦ inr (w.putting, w.there)
-      | inr (inl p) ↦ inr (p.putting, p.there)
-      | inr (inr b) ↦ inr (b.putting, b.there)
-    ]
+    grind arith
 caused s before time (notes.Permanent device link cause point verdict) founded h = inr (h.permanent.arrival, h.permanent.there)
 caused s before time (notes.Compressed device opened at cycle members verdict) founded h = inl refl
 caused s before time (notes.Sent device cycle) founded h = inl refl
@@ -57,11 +54,7 @@ caused s before time (notes.TtSent device link cause vl cycle) founded h =
 caused s before time (notes.Accepted device link cause vl cycle) founded h = inr (h.putting, h.there)
 caused s before time (notes.Delivered device link cause vl cycle) founded h = inr (h.putting, h.there)
 caused s before time (notes.Dropped device link cause reason) founded h =
-    elim h [
-      | inl arrives ↦ inr (arrives.putting, arrives.there)
-      | inr (inl ripens) ↦ inr (ripens.1.permanent.arrival, ripens.1.permanent.there)
-      | inr (inr leaves) ↦ inr (leaves.0.giving, leaves.0.there)
-    ]
+    grind arith
 caused s before time (notes.Clock device reading adjustment state) founded h = inl refl
 
 pub gap_law : GapLaw

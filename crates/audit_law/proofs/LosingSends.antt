@@ -11,17 +11,7 @@ use Rattle.run_law.specs.declared.note.NoteBody.TheVariants as notes
 -- a loss is one by other records that have its event
 pub moved : (s : Scenario) (gs hs : List Happening) (device : DeviceId) (t : ℕ) (link : LinkId) (cause : ℕ) → (h : IsSendLost s gs device t link cause)
     → numbered hs cause ≡ Some h.event → IsSendLost s hs device t link cause
-moved s gs hs device t link cause h there = record {
-  event = h.event;
-  is = record { there = there; same_time = h.is.same_time };
-  line = h.line;
-  octets = h.octets;
-  sends = h.sends;
-  way = h.way;
-  there = h.there;
-  by = h.by;
-  cut = h.cut;
-}
+moved s gs hs device t link cause h there = grind arith
 
 some_loss : (s : Scenario) (hs : List Happening) (until cause : ℕ) → IsFounded place_of (IsDue s) hs → (o : OwesLoss s hs until cause)
     → PaidAt s hs until (IsDueBySend s) o.time (λ x. TellsLoss cause x.note.body)
@@ -90,18 +80,7 @@ same_place : (s : Scenario) (hs : List Happening) (t u : ℕ) (device other : De
     → IsSendLost s hs device t link cause → IsSendLost s hs other u by from
     → place_at t 0 (notes.Lost device link cause) ≡ place_at u 0 (notes.Lost other by from)
 same_place s hs t u device other link by cause from causes a b =
-    let one : a.event ≡ b.event = same_some (numbered hs cause) a.event b.event a.is.there (ap (numbered hs) causes ∙ b.is.there) in
-    let bodies : notes.Event a.line (Send link a.octets) ≡ notes.Event b.line (Send by b.octets) = sym a.sends
-    ∙ ap (λ (h : Happening). h.note.body) one
-    ∙ b.sends in
-    let links : link ≡ by = cc in
-    let ways = same_some (slice_get s.network.link link.0) a.way b.way a.there (ap (λ (l : LinkId). slice_get s.network.link l.0) links ∙ b.there) in
-    let devices : device ≡ other = a.by ∙ ap (λ (l : Link). l.child) ways ∙ sym b.by in
-    let times : t ≡ u = sym a.is.same_time ∙ ap time_of one ∙ b.is.same_time in
-    ap (λ (n : ℕ). place_at n 0 (notes.Lost device link cause)) times
-    ∙ ap (λ (d : DeviceId). place_at u 0 (notes.Lost d link cause)) devices
-    ∙ ap (λ (l : LinkId). place_at u 0 (notes.Lost other l cause)) links
-    ∙ ap (λ (n : ℕ). place_at u 0 (notes.Lost other by n)) causes
+    grind (arith, same_some, numbered, slice_get, time_of, place_at)
 
 due_so : (s : Scenario) (hs : List Happening) (until cause : ℕ) (x : Happening) → IsFounded place_of (IsDue s) hs → OwesLoss s hs until cause
     → (h : IsDueIn place_of (IsDue s) hs x) → TellsLoss cause x.note.body → (d : IsDueBySend s h.before x) × (d.cause ≡ cause)

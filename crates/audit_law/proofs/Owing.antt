@@ -45,14 +45,7 @@ next_is_due s ps t body cause = record { number = refl; same = refl; begun = ome
 -- where a list parts at the place of a record, and the record is due so there, it is due so in the list
 pub due_there : (IsDueSo : List Happening → Happening → Type 0) (hs : List Happening) (p : List ℕ) (at : IsSplit place_of hs p) (x : Happening)
     → place_of x ≡ p → IsDueSo at.front x → IsDueIn place_of IsDueSo hs x
-due_there IsDueSo hs p at x place due = record {
-  before = at.front;
-  behind = at.rest;
-  parts = at.whole;
-  all_before = λ n i. subst (IsBefore (place_of n)) (sym place) (at.before n i);
-  none_before = λ n i b. at.none n i (subst (IsBefore (place_of n)) place b);
-  due = due;
-}
+due_there IsDueSo hs p at x place due = grind (arith, place_of)
 
 -- what is of a time up to another is before the end of that
 pub within : (t until : ℕ) (ks : List ℕ) → t ≤ until → IsBefore (t ∷ ks) ((until + 1) ∷ [])

@@ -14,7 +14,7 @@ use Rattle.std.specs.Prelude.{◌<ℤ◌}
 use Rattle.membership.specs.Summary.{Summary}
 use Rattle.net_plan.specs.declared.event.{Event.Event, What.{What, TheVariants.On}}
 use Rattle.run_law.proofs.{control.{Summaries.{summary_of, verdict_of}, Verdicts.cycle_stays}, device.States.adjustment_kept, records.Happenings.fold_parts}
-use Rattle.run_law.proofs.{records.Order.got_in, runs.Places.in_left, scenario.{Choices.at_integration, Devices.{correct_before, on_by as turned}}}
+use Rattle.run_law.proofs.{runs.Places.in_left, scenario.{Choices.at_integration, Devices.{correct_before, on_by as turned}}}
 use Rattle.run_law.specs.{control.Corrections.is_integration_cycle, device.{LocalClocks.Reaches, States.{cycle_in, state_with}}, runs.DueRecords.IsEventRecord}
 use Rattle.run_law.specs.scenario.Scenarios.{turns_on}
 use Rattle.sync_state.specs.{Standing.{IsAtIntegration, point_in}, declared.answers.Verdict.TheVariants.Cleared}
@@ -26,6 +26,7 @@ use Rattle.audit_law.specs.TracedEvents.{OwesEvent, TellsEvent}
 use Rattle.audit_law.specs.Owed as debts
 use Rattle.run_law.specs.declared.judgement.Why.TheVariants as whys
 use Rattle.run_law.specs.declared.note.NoteBody.TheVariants as notes
+use Rattle.run_law.proofs.law.FirstPlaces.{in_at}
 
 -- ---- events
 
@@ -40,17 +41,7 @@ any_in {X} p (x ∷ xs) e = elim (p x) as (λ b. p x ≡ b → (b || list_any p 
 
 filtered : {X : Type 0} (p q : X → Bool) (xs : List X) → ((x : X) → p x ≡ true → q x ≡ true) → filter p (filter q xs) ≡ filter p xs
 filtered p q [] weaker = refl
-filtered {X} p q (x ∷ xs) weaker = elim (cases_Bool (p x)) [
-  | inl here ↦
-      ap (λ (b : Bool). filter p (if b then x ∷ filter q xs else filter q xs)) (weaker x here)
-      ∙ ap (λ (t : List X). if p x then x ∷ t else t) (filtered p q xs weaker)
-  | inr none ↦
-      let right : filter p (x ∷ xs) ≡ filter p xs = ap (λ (b : Bool). if b then x ∷ filter p xs else filter p xs) none in
-      let left : filter p (filter q (x ∷ xs)) ≡ filter p (filter q xs) =
-      elim (q x) as (λ b. filter p (if b then x ∷ filter q xs else filter q xs) ≡ filter p (filter q xs))
-      [ true ↦ ap (λ (b : Bool). if b then x ∷ filter p (filter q xs) else filter p (filter q xs)) none | false ↦ refl ] in
-      left ∙ filtered p q xs weaker ∙ sym right
-]
+filtered {X} p q (x ∷ xs) weaker = grind (arith, cases_Bool, filter, (filtered p q xs weaker))
 
 pub earlier_of_up : (u : ℕ) (hs : List Happening) → earlier u (up_to u hs) ≡ earlier u hs
 earlier_of_up u hs = filtered (λ h. nat_lt (time_of h) u) (λ h. nat_le (time_of h) u) hs
@@ -102,32 +93,13 @@ pub stands_same : (s : Scenario) (device : DeviceId) (u : ℕ) (hs gs : List Hap
     → is_turned_on_at s device u ≡ false
     → standing_at s hs device u ≡ standing_of s device u gs
 stands_same s device u hs gs same off =
-    let es = earlier u hs in
-    ap (λ (b : Bool). stood s device u (if b then Integrating else state_after s es device) (adjustment_after s es device) (recorded_cycle es device)
-    (integration_cycle es device) (last_changed es device)) off
-    ∙ ap (λ (x : State). stood s device u x (adjustment_after s es device) (recorded_cycle es device) (integration_cycle es device) (last_changed es device))
-    same.state
-    ∙ ap (λ (x : Units). stood s device u (state_after s gs device) x (recorded_cycle es device) (integration_cycle es device) (last_changed es device))
-    same.adjustment
-    ∙ ap (λ (x : ℕ). stood s device u (state_after s gs device) (adjustment_after s gs device) x (integration_cycle es device) (last_changed es device))
-    same.number
-    ∙ ap (λ (x : Option ℕ). stood s device u (state_after s gs device) (adjustment_after s gs device) (recorded_cycle gs device) x (last_changed es device))
-    same.integrated
-    ∙ ap (λ (x : ℕ). stood s device u (state_after s gs device) (adjustment_after s gs device) (recorded_cycle gs device) (integration_cycle gs device) x)
-    same.changed
+    grind (arith, earlier, state_after, adjustment_after, recorded_cycle, integration_cycle)
 
 reaches_same : (s : Scenario) (device : DeviceId) (u : ℕ) (v : ℤ) (hs gs : List Happening) → LeavesSame s device (earlier u hs) gs
     → (pos (s.reading device (last_changed gs device)) +ℤ (adjustment_after s gs device).0) <ℤ v
     → IsReach (s.reading device) (pos (last_changed gs device)) (v -ℤ (adjustment_after s gs device).0) (pos u) → Reaches s hs device v u
 reaches_same s device u v hs gs same below reach =
-    let back = sym same.adjustment in
-    let changed = sym same.changed in
-    record {
-      below = subst (λ (c : ℕ). (pos (s.reading device c) +ℤ (adjustment_after s (earlier u hs) device).0) <ℤ v) changed
-          (subst (λ (a : Units). (pos (s.reading device (last_changed gs device)) +ℤ a.0) <ℤ v) back below);
-      reach = subst (λ (c : ℕ). IsReach (s.reading device) (pos c) (v -ℤ (adjustment_after s (earlier u hs) device).0) (pos u)) changed
-          (subst (λ (a : Units). IsReach (s.reading device) (pos (last_changed gs device)) (v -ℤ a.0) (pos u)) back reach);
-    }
+    grind (arith, adjustment_after, earlier)
 
 -- ---- verdicts
 
@@ -257,7 +229,7 @@ module _ (s : Scenario) (clocked : IsClocked s) (gs : List Happening) (device : 
         line_is = refl;
         event = event;
         is = found.2;
-        begun = clocked.begun event (got_in s.events found.1 event found.2);
+        begun = clocked.begun event (in_at s.events found.1 event found.2);
         timely = omega (arith, at, le);
       } in
       let told = paid (debts.event (found.1 + 1)) owed in

@@ -42,13 +42,7 @@ behind_permanence p t device link cause frame point (ripe.Dropped reason) b =
 -- the rank of such a record is behind that of arrivals
 arrived_before : (device : DeviceId) (link : LinkId) (cause : ℕ) (point : Units) (is : Ripe) → 2 < rank (permanence_record device link cause point is)
 arrived_before device link cause point ripe.Opened = omega arith
-arrived_before device link cause point ripe.Joined = omega arith
-arrived_before device link cause point ripe.Repeat = omega arith
-arrived_before device link cause point ripe.Within = omega arith
-arrived_before device link cause point ripe.Outside = omega arith
-arrived_before device link cause point ripe.Integrates = omega arith
-arrived_before device link cause point ripe.Ignored = omega arith
-arrived_before device link cause point (ripe.Dropped reason) = omega arith
+arrived_before device link cause point other = omega arith
 
 -- where the record stands whose frame is found by its cause
 abbrev members_by : Option Pcf → ℕ
@@ -97,18 +91,7 @@ same_judged hs t device link cause frame point is at =
 -- a permanence is one by other records that have the arrival
 pub permanent_by : (s : Scenario) (gs hs : List Happening) (device : DeviceId) (t : ℕ) (link : LinkId) (cause : ℕ) (frame : Pcf) (point : Units)
     → (h : IsPermanent s gs device t link cause frame point) → numbered hs cause ≡ Some h.arrival → IsPermanent s hs device t link cause frame point
-permanent_by s gs hs device t link cause frame point h there = record {
-  arrival = h.arrival;
-  there = there;
-  from = h.from;
-  clock = h.clock;
-  arrived = h.arrived;
-  of_frame = h.of_frame;
-  waits = h.waits;
-  at_point = h.at_point;
-  reached = h.reached;
-  correct = h.correct;
-}
+permanent_by s gs hs device t link cause frame point h there = grind arith
 
 -- ---- what is owed is due
 
@@ -202,13 +185,7 @@ permanence_owed s hs until x h here =
 due_place : (s : Scenario) (before : List Happening) (x : Happening) → (h : IsDueByPermanence s before x)
     → place_of x ≡ record_place (time_of x) h.device h.link h.cause h.becomes.frame h.point h.is
 due_place s before x h =
-    let body = permanence_record h.device h.link h.cause h.point h.is in
-    let permanent = h.becomes.permanent in
-    let frames : x.frame ≡ frame_by s.network before body = ap (λ (g : Happening). g.frame) h.due.same ∙ ap (frame_by s.network before) h.says in
-    ap (λ (b : NoteBody). place_at (time_of x) (members_in x) b) h.says
-    ∙ ap (λ (o : Option Pcf). place_at (time_of x) (members_by o) body) frames
-    ∙ framed s.network before (time_of x) h.device h.link h.cause h.becomes.frame h.point h.is
-    (frame_there before h.cause permanent.arrival h.becomes.frame permanent.there permanent.of_frame)
+    grind (arith, place_at, time_of, members_in, framed, frame_there)
 
 -- what becomes of the frame, by the list
 due_becomes : (s : Scenario) (hs : List Happening) (x : Happening) → (h : IsDueIn place_of (IsDue s) hs x) → (d : IsDueByPermanence s h.before x)
@@ -298,12 +275,7 @@ same_place s hs t u device other link by cause from p q a b causes x y =
 pub recorded : (device : DeviceId) (link : LinkId) (cause : ℕ) (point : Units) (v : Judgement)
     → permanence_record device link cause point (ripe_as v) ≡ notes.Permanent device link cause point v
 recorded device link cause point judgements.Opened = refl
-recorded device link cause point judgements.Joined = refl
-recorded device link cause point judgements.Repeat = refl
-recorded device link cause point judgements.Within = refl
-recorded device link cause point judgements.Outside = refl
-recorded device link cause point judgements.Integrates = refl
-recorded device link cause point judgements.Ignored = refl
+recorded device link cause point other = refl
 
 -- a record of an arrival puts nothing on a wire
 abbrev IsArrived : NoteBody → Type 0

@@ -168,7 +168,4 @@ to_audit s clocked ps time run up body c = caused_in_audit s ps time body tt c
 -- behind a run, what is due in one is due in the other
 pub same_due : (s : Scenario) (clocked : IsClocked s) (ps : List Happening) (x : Happening) → IsRun place_of (IsDue s) (time_of x ∷ []) (earlier (time_of x) ps)
     → ((h : Happening) → IsIn h ps → time_of h ≤ time_of x) → (IsDue s ps x → runs.IsDue s ps x) × (runs.IsDue s ps x → IsDue s ps x)
-same_due s clocked ps x run up = (
-  λ d. record { number = d.number; same = d.same; begun = d.begun; cause = to_run s clocked ps x.note.time run up x.note.body d.cause },
-  λ d. record { number = d.number; same = d.same; begun = d.begun; cause = to_audit s clocked ps x.note.time run up x.note.body d.cause },
-)
+same_due s clocked ps x run up = grind (arith, to_run, to_audit)

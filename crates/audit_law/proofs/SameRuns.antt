@@ -1,6 +1,6 @@
 -- What is a run by what is due in an audit is one by what is due in a run, and the other way round.
 use Rattle.audit_law.proofs.Words.{◌++◌, ◌+◌, ◌∙◌, ◌∷◌, ◌≡◌, ◌≤◌, AllBefore, Happening, IsClocked, IsDue, IsIn, IsRun, List, NoneBefore, Scenario, [], ap}
-use Rattle.audit_law.proofs.Words.{append-nil, arith, cases_lt, earlier, filter-append, inl, inr, le-ltb, nat_lt, none_kept, place_of, subst, suc, sym, time_of}
+use Rattle.audit_law.proofs.Words.{append-nil, arith, cases_lt, earlier, filter-append, le-ltb, nat_lt, none_kept, place_of, subst, suc, sym, time_of}
 use Rattle.audit_law.proofs.Words.{zero, ℕ}
 use Rattle.run_law.proofs.records.Happenings.{soon}
 use Rattle.audit_law.{proofs.{Cuts.{cut_at, in_time, run_before, run_by}, SameDue.same_due}, specs.SameRuns.SameRuns}
@@ -10,13 +10,7 @@ use Rattle.run_law.specs.runs.DueRecords as runs
 earlier_part : (hs ps qs : List Happening) (y : Happening) → hs ≡ ps ++ qs → NoneBefore place_of qs (place_of y)
     → earlier (time_of y) hs ≡ earlier (time_of y) ps
 earlier_part hs ps qs y whole none =
-    let t = time_of y in
-    let test = λ (h : Happening). nat_lt (time_of h) t in
-    let nothing : earlier t qs ≡ [] = none_kept test qs (λ h i. elim (cases_lt (time_of h) t) [
-      | inl lt ↦ absurd (none h i (inl lt))
-      | inr ge ↦ le-ltb (time_of h) t ge
-    ]) in
-    ap (earlier t) whole ∙ filter-append test ps qs ∙ ap (λ (gs : List Happening). earlier t ps ++ gs) nothing ∙ append-nil (earlier t ps)
+    grind (arith, time_of, nat_lt, earlier, none_kept, cases_lt, le-ltb, filter-append, append-nil)
 
 -- what is earlier in a run is the run up to then
 earlier_run : (IsDueSo : List Happening → Happening → Type 0) (hs ps qs : List Happening) (u : ℕ) (y : Happening) → IsRun place_of IsDueSo (u ∷ []) hs

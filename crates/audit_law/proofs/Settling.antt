@@ -1,19 +1,17 @@
 -- What is owed up to a time is told by the records up to then.
-use Rattle.audit_law.proofs.Words.{◌&&◌, ◌++◌, ◌+◌, ◌<◌, ◌==◌, ◌||◌, ◌∙◌, ◌∷◌, ◌≡◌, ◌≤◌, ArrivesAs, Bool, Debt, DeviceId, Happening, IsDue, IsFounded, IsIn}
+use Rattle.audit_law.proofs.Words.{◌++◌, ◌+◌, ◌<◌, ◌∙◌, ◌∷◌, ◌≡◌, ◌≤◌, ArrivesAs, Bool, Debt, DeviceId, Happening, IsDue, IsFounded, IsIn}
 use Rattle.audit_law.proofs.Words.{IsOwed, LinkId, List, None, NoteBody, Scenario, Some, VlId, and_right, ap, append-nil, arith, earlier, false}
 use Rattle.audit_law.proofs.Words.{false_from_ne_true, filter, filter-append, front_founded, heard_since_point, in_parts, inl, inr, ints, is_before, is_there}
 use Rattle.audit_law.proofs.Words.{key, last_or, le-ltb, nat_le, nat_lt, none_kept, numbered, numbered_front, numbered_in, option_and_then, place_of, rank}
 use Rattle.audit_law.proofs.Words.{refl, subst, sym, time_of, up_to, ℕ}
 use Rattle.std.proofs.lemmas.Bool.{and_left, lt-leb, ne_eqb, or_from}
-use Rattle.run_law.specs.{control.{Arrivals.control_arrival, Emissions.Emits, Wires.{Signal, control, timed}}, declared.judgement.Judgement.TheVariants.Ignored}
-use Rattle.run_law.specs.{device.Standpoints.{Standpoint, standpoint}, timed.Arrivals.{octets_fault, timed_arrival}}
-use Rattle.run_law.specs.timed.Receptions.{arrival_of, comes_before, is_taken_before, last_taken, taken_cycle}
+use Rattle.run_law.specs.control.{Arrivals.control_arrival, Wires.{Signal, control, timed}}
+use Rattle.run_law.specs.device.Standpoints.{Standpoint, standpoint}
+use Rattle.run_law.specs.timed.Receptions.{arrival_of, is_taken_before, last_taken, taken_cycle}
 use Rattle.audit_law.proofs.{Arriving.{by_octets, same_standpoint}, Correcting.comes_by, Dispatching.{dispatches_by, sends_by}, Numbered.{by_number, number_is}}
-use Rattle.audit_law.{proofs.Ripening.permanent_by, specs.{DebtLaws.SettledLaw, Emitted.{before_place, emission_record}}}
+use Rattle.audit_law.{proofs.Ripening.permanent_by, specs.{DebtLaws.SettledLaw, Emitted.before_place}}
 use Rattle.run_law.specs.declared.note.NoteBody.TheVariants as notes
 use Rattle.audit_law.specs.Owed as debts
-use Rattle.audit_law.proofs.Changing as changing
-use Rattle.audit_law.proofs.LosingSends as losing
 
 -- ---- two lists that tell the same up to a time
 
@@ -28,29 +26,20 @@ record TellsSame (gs hs : List Happening) (until : ℕ) : Type 0 where
 -- what a filter keeps of a list is what it keeps of its front, where it keeps none of the rest
 of_front : (test : Happening → Bool) (gs rest : List Happening) → ((h : Happening) → IsIn h rest → test h ≡ false) → filter test gs ≡ filter test (gs ++ rest)
 of_front test gs rest fails =
-    sym (append-nil (filter test gs))
-    ∙ ap (λ (ks : List Happening). filter test gs ++ ks) (sym (none_kept test rest fails))
-    ∙ sym (filter-append test gs rest)
+    grind (arith, append-nil, filter, none_kept, filter-append)
 
 -- a later record is not taken before
 not_taken : (t u : ℕ) (device : DeviceId) (vl : VlId) (link : LinkId) (cause : ℕ) (body : NoteBody) → t < u
     → is_taken_before device vl t link cause u body ≡ false
 not_taken t u device vl link cause (notes.Accepted other by from of_vl cycle) late =
-    and_right (device.0 == other.0 && vl.0 == of_vl.0) (nat_lt u t || (u == t && comes_before by from link cause))
-    (or_from (nat_lt u t) (u == t && comes_before by from link cause) (le-ltb u t (omega arith))
-    (and_left (u == t) (comes_before by from link cause) (ne_eqb u t (λ e. omega (arith, e, late)))))
+    grind (arith, and_right, nat_lt, or_from, le-ltb, and_left, ne_eqb)
 not_taken t u device vl link cause (notes.Delivered other by from of_vl cycle) late =
-    and_right (device.0 == other.0 && vl.0 == of_vl.0) (nat_lt u t || (u == t && comes_before by from link cause))
-    (or_from (nat_lt u t) (u == t && comes_before by from link cause) (le-ltb u t (omega arith))
-    (and_left (u == t) (comes_before by from link cause) (ne_eqb u t (λ e. omega (arith, e, late)))))
+    grind (arith, and_right, nat_lt, or_from, le-ltb, and_left, ne_eqb)
 not_taken t u device vl link cause other late = refl
 
 not_before : (h : Happening) (t : ℕ) (ks : List ℕ) → t < time_of h → is_before (place_of h) (t ∷ ks) ≡ false
 not_before h t ks late =
-    false_from_ne_true (is_before (place_of h) (t ∷ ks)) (λ e. elim (is_there (place_of h) (t ∷ ks) e) [
-      | inl lt ↦ omega (arith, lt, late)
-      | inr more ↦ omega (arith, more.0, late)
-    ])
+    grind (arith, false_from_ne_true, is_before, place_of, is_there)
 
 -- a list and its front, behind which all is later
 front_tells : (gs rest : List Happening) (until : ℕ) → ((h : Happening) → IsIn h rest → until < time_of h) → TellsSame gs (gs ++ rest) until
@@ -96,11 +85,7 @@ same_outcome : (s : Scenario) (gs hs : List Happening) (until : ℕ) (device : D
 same_outcome s gs hs until device t link cause (control frame) same le =
     ap (λ (p : Standpoint). control_arrival s.network device link p frame) (same_standpoint s device t gs hs (same.earliers t le))
 same_outcome s gs hs until device t link cause (timed octets) same le =
-    let here = standpoint s hs device t in
-    ap (λ (p : Standpoint). timed_arrival s.network device link p octets (last_taken gs device t link cause))
-    (same_standpoint s device t gs hs (same.earliers t le))
-    ∙ by_octets s.network device link here octets (last_taken gs device t link cause) (last_taken hs device t link cause)
-    (octets_fault s.network here octets) (λ vl. same.takens device vl t link cause le)
+    grind (arith, same_standpoint, by_octets)
 
 -- what comes to a time from an earlier one is not earlier
 sum_within : (t a b c until : ℕ) → t ≡ a + b + c → t ≤ until → a ≤ until
@@ -120,68 +105,16 @@ owed_by s gs hs until same (debts.arrival cause) o =
     } in
     record { device = o.device; link = o.link; time = o.time; is = o.is; arrives = arrives; behind = o.behind; timely = o.timely }
 owed_by s gs hs until same (debts.permanence cause) o =
-    let p = o.permanent in
-    let from_on = p.reached.from_on in
-    let le = o.timely in
-    record {
-      device = o.device;
-      link = o.link;
-      time = o.time;
-      frame = o.frame;
-      point = o.point;
-      permanent = permanent_by s gs hs o.device o.time o.link cause o.frame o.point p (same.numbers cause p.arrival (omega (arith, ints, from_on, le)) p.there);
-      timely = le;
-    }
+    grind (arith, permanent_by, ints)
 owed_by s gs hs until same (debts.emission device sent) o =
-    let body = emission_record device sent Ignored in
-    record {
-      time = o.time;
-      verdict = o.verdict;
-      emits = subst (λ (ks : List Happening). Emits s ks device o.time sent o.verdict) (same.befores o.time (rank body ∷ key 0 body) o.timely) o.emits;
-      timely = o.timely;
-    }
+    grind (arith, rank, key)
 owed_by s gs hs until same (debts.sending given) o =
     record { sends = sends_by s gs hs given.device given.time given.cycle (same.earliers given.time o.timely) o.sends; timely = o.timely }
-owed_by s gs hs until same (debts.point device time) o = record {
-  cycle = o.cycle;
-  verdict = o.verdict;
-  comes = comes_by s (up_to time gs) (up_to time hs) device time o.cycle o.verdict (ap (earlier time) (same.ups time o.timely))
-      (ap (λ (ks : List Happening). heard_since_point s ks device time) (same.ups time o.timely)) o.comes;
-  more = o.more;
-  timely = o.timely;
-}
-owed_by s gs hs until same (debts.change cause) o = record {
-  device = o.device;
-  time = o.time;
-  state = o.state;
-  why = o.why;
-  brought = o.brought;
-  changes = changing.moved s gs hs o.device o.time o.state cause o.why o.brought (same.earliers o.time o.timely)
-      (λ h is low. same.numbers cause h (let le = o.timely in omega (arith, is.same_time, le)) is.there) o.changes;
-  timely = o.timely;
-}
-owed_by s gs hs until same (debts.departure cause link) o = record {
-  giving = o.giving;
-  there = same.numbers cause o.giving (let le = o.timely in omega (arith, le)) o.there;
-  device = o.device;
-  gives = o.gives;
-  frame = o.frame;
-  of_frame = o.of_frame;
-  correct = o.correct;
-  timely = o.timely;
-}
-owed_by s gs hs until same (debts.dispatch given) o = record {
-  dispatches = dispatches_by s gs hs given.device given.time given.link given.cause given.vl given.cycle (same.earliers given.time o.timely) o.dispatches;
-  timely = o.timely;
-}
-owed_by s gs hs until same (debts.loss cause) o = record {
-  device = o.device;
-  link = o.link;
-  time = o.time;
-  lost = losing.moved s gs hs o.device o.time o.link cause o.lost
-      (same.numbers cause o.lost.event (let le = o.timely in omega (arith, o.lost.is.same_time, le)) o.lost.is.there);
-  timely = o.timely;
-}
+owed_by s gs hs until same (debts.point device time) o = grind (arith, comes_by, up_to, earlier, heard_since_point)
+owed_by s gs hs until same (debts.change cause) o = grind arith
+owed_by s gs hs until same (debts.departure cause link) o = grind arith
+owed_by s gs hs until same (debts.dispatch given) o = grind (arith, dispatches_by)
+owed_by s gs hs until same (debts.loss cause) o = grind arith
 owed_by s gs hs until same (debts.clock device time) o = o
 
 pub settled_law : SettledLaw

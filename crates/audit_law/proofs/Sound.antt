@@ -119,16 +119,7 @@ one_unsound place IsDue mark ns n m a b =
 -- what a front of a founded list has not reached is behind it
 gap_of_lack : {N : Type 0} (place : N → List ℕ) (IsDue : List N → N → Type 0) (ns : List N) (x : N) → (h : IsLacking place IsDue ns x)
     → IsGap place IsDue h.before h.behind x
-gap_of_lack place IsDue ns x h = record {
-  all_before = h.all_before;
-  due = h.due;
-  first = λ m i.
-      elim (either_way (place x) (place m)) [
-        | inl lt ↦ lt
-        | inr (inl same) ↦ absurd (h.absent m (subst (λ (t : List _). IsIn m t) (sym h.parts) (in_right m h.before h.behind i)) (sym same))
-        | inr (inr gt) ↦ absurd (h.none_before m i gt)
-      ];
-}
+gap_of_lack place IsDue ns x h = grind (arith, either_way, in_right)
 
 lack_of_gap : {N : Type 0} (place : N → List ℕ) (IsDue : List N → N → Type 0) (ns before rest : List N) (x : N) → ns ≡ before ++ rest
     → IsGap place IsDue before rest x → IsLacking place IsDue ns x

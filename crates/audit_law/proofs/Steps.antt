@@ -13,11 +13,7 @@ pub record IsReachedBy (reading : ℕ → ℕ) (from : ℕ) (v : ℤ) (by : ℕ)
 
 pub reached_by : (reading : ℕ → ℕ) → ((a b : ℕ) → a ≤ b → reading a ≤ reading b) → (from : ℕ) (v : ℤ) (by : ℕ) → from ≤ by → v ≤ℤ pos (reading by)
     → IsReachedBy reading from v by
-reached_by reading rises from v zero le enough = record {
-  time = 0;
-  within = omega arith;
-  reach = record { from_on = omega (arith, ints, le); reached = enough; not_before = λ x after before. absurd (omega (arith, ints, before)) };
-}
+reached_by reading rises from v zero le enough = grind (arith, ints)
 reached_by reading rises from v (suc by) le enough =
     let late : ((x : ℕ) → pos from ≤ℤ pos x → pos x <ℤ pos (suc by) → pos (reading x) <ℤ v) → IsReachedBy reading from v (suc by) = λ none.
     record { time = suc by; within = omega arith; reach = record { from_on = omega (arith, ints, le); reached = enough; not_before = none } } in

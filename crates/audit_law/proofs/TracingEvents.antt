@@ -49,14 +49,7 @@ record IsAtLine (s : Scenario) (line : ℕ) (x : Happening) : Type 0 where
 
 at_line : (s : Scenario) (before : List Happening) (line : ℕ) (x : Happening) (body : NoteBody) → x.note.body ≡ body → IsCaused s before x.note.time body
     → TellsEvent line body → IsAtLine s line x
-at_line s before line x (notes.Event other what) is c e = record {
-  place = ap (λ (b : NoteBody). place_at (time_of x) (members_in x) b) is ∙ ap (λ (n : ℕ). time_of x ∷ 1 ∷ n ∷ []) e;
-  before = c.before;
-  line_is = sym e ∙ c.line_is;
-  event = c.event;
-  is = c.is;
-  at = ap amount c.at;
-}
+at_line s before line x (notes.Event other what) is c e = grind (arith, place_at, time_of, members_in, amount)
 at_line s before line x other is c e = absurd e
 
 pub event_law : EventLaw

@@ -1,13 +1,13 @@
 -- There is a run up to each time.
-use Rattle.std.proofs.{Common.{◌++◌, ◌+◌, ◌∙◌, ◌∷◌, ◌≡◌, ◌≤◌, List, [], ap, append_assoc, arith, fold, inl, inr, map, refl, subst, sym, ℕ}, lemmas.Int.ints}
-use Rattle.std.proofs.lemmas.List.{append-nil}
+use Rattle.std.proofs.{Common.{◌++◌, ◌+◌, ◌∙◌, ◌∷◌, ◌≡◌, ◌≤◌, List, [], ap, append_assoc, arith, inl, inr, refl, subst, sym, ℕ}, lemmas.Int.ints}
 use Rattle.net_plan.specs.Ranges.{IsInRange}
 use Rattle.run_law.{proofs.{law.FirstPlaces.{IsSplit, front_founded, split}, runs.Places.{before_next_time, chain, in_parts}}, specs.declared.note.Note.Note}
-use Rattle.run_law.specs.records.{Happenings.{Happening, happening, time_of}, Order.{IsBefore, IsIn}, Ranks.{key, members_in, place_of, rank}}
+use Rattle.run_law.specs.records.{Happenings.{Happening, time_of}, Order.{IsBefore, IsIn}, Ranks.{key, members_in, place_of, rank}}
 use Rattle.run_law.specs.{runs.{DueRecords.{IsDue, IsScenarioRun}, Runs.{IsFounded, IsFull, IsRun}}, scenario.Scenarios.Scenario}
 use Rattle.tte_units.specs.Amount.{amount}
 use Rattle.run_existence.proofs.{Sweep.IsSized, Times.{IsBoundedBy, IsShaped, never_before_none, run_to_time}, bounds.{Ranks.fits, Weights.{bound, size_of}}}
 use Rattle.run_existence.{proofs.decisions.{Places.place_parts, Ranks.{is_rank, place_decided}}, specs.Laws.{RunsExist, RunsExistToEachMark}}
+use Rattle.run_law.proofs.records.Told.{notes_of, told_from}
 
 -- ---- the places of records
 
@@ -29,21 +29,6 @@ bounded s some t r ms = record {
       subst (λ (us : List ℕ). IsSized (size_of r) (bound s t ms) us) parts.1.1
       (subst (λ (n : ℕ). IsSized (size_of n) (bound s t ms) (key (members_in y) y.note.body)) parts.1.0 it);
 }
-
--- ---- records and happenings
-
-abbrev notes_of : List Happening → List Note
-notes_of hs = map (λ h. h.note) hs
-
-told_from : (s : Scenario) (before hs : List Happening) → IsFounded place_of (IsDue s) (before ++ hs)
-    → fold (λ bs note. bs ++ happening s.network bs note ∷ []) before (notes_of hs) ≡ before ++ hs
-told_from s before [] founded = sym (append-nil before)
-told_from s before (h ∷ hs) founded =
-    let same : h ≡ happening s.network before h.note = (founded before hs h refl).1.same in
-    let moved = append_assoc before (h ∷ []) hs in
-    ap (λ (x : Happening). fold (λ bs note. bs ++ happening s.network bs note ∷ []) (before ++ x ∷ []) (notes_of hs)) (sym same)
-    ∙ told_from s (before ++ h ∷ []) hs (subst (IsFounded place_of (IsDue s)) (sym moved) founded)
-    ∙ moved
 
 -- ---- up to an earlier mark
 

@@ -36,21 +36,14 @@ next_down [] i (x ∷ xs) (inr h) = absurd h.1
 next_down (y ∷ p) i [] b = inl tt
 next_down (y ∷ p) i (x ∷ xs) (inl lt) = inl (inl lt)
 next_down (y ∷ p) i (x ∷ xs) (inr h) =
-    elim (next_down p i xs h.1) [
-      | inl b ↦ inl (inr (h.0, b))
-      | inr u ↦ inr (u.0, ap (λ (n : ℕ). n ∷ xs) h.0 ∙ ap (λ (t : List ℕ). y ∷ t) u.1)
-    ]
+    grind (arith, (next_down p i xs h.1))
 
 pub next_of : (p : List ℕ) (i : ℕ) → IsNext (p ++ i ∷ []) (p ++ suc i ∷ [])
 next_of p i = record { up = next_up p i; down = next_down p i }
 
 -- what is before a place is before each place under it
 before_under : (p : List ℕ) (n : ℕ) (q : List ℕ) → IsBefore q p → IsBefore q (p ++ n ∷ [])
-before_under [] n q b = absurd (none q b)
-  where
-    none : (q : List ℕ) → IsBefore q [] → ⊥
-    none [] b = b
-    none (x ∷ xs) b = b
+before_under [] n q b = grind arith
 before_under (y ∷ p) n [] b = tt
 before_under (y ∷ p) n (x ∷ xs) (inl lt) = inl lt
 before_under (y ∷ p) n (x ∷ xs) (inr h) = inr (h.0, before_under p n xs h.1)

@@ -1,7 +1,6 @@
 pub mod Words
 pub mod scenario
 pub mod runs
-pub mod silent
 pub mod law
 pub mod records
 pub mod control

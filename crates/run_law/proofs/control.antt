@@ -1,3 +1,6 @@
 -- Control.
 pub mod Verdicts
 pub mod Summaries
+pub mod Points
+pub mod Arrived
+pub mod Joined

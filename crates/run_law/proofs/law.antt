@@ -5,4 +5,3 @@ pub mod FirstBroken
 pub mod FirstDelays
 pub mod FirstSent
 pub mod Ends
-pub mod Worked

@@ -2,7 +2,7 @@
 pub mod Decisions
 pub mod Conditions
 pub mod Decided
-pub mod Examples
 pub mod Devices
 pub mod Choices
 pub mod Ways
+pub mod Rated

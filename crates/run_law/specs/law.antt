@@ -3,4 +3,3 @@ pub mod Laws
 pub mod FirstLaws
 pub mod Safety
 pub mod Spread
-pub mod Silent

@@ -9,7 +9,6 @@ mod locals;
 mod machine;
 mod note;
 mod outside;
-mod silent_law;
 mod steps;
 
 pub use first_laws::{broken_are_still, deliveries_begin, sent_frames_come};
@@ -19,5 +18,4 @@ pub use locals::spread;
 pub use machine::Machine;
 pub use note::{Note, NoteBody};
 pub use outside::Outside;
-pub use silent_law::silent_runs_agree;
 pub use steps::{Act, Arrival, Moment, Ripe};

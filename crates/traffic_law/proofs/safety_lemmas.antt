@@ -1,7 +1,6 @@
 pub mod Histories
 pub mod Lawful
 pub mod Going
-pub mod Told
 pub mod Fronts
 pub mod Times
 pub mod Clocked

@@ -17,7 +17,7 @@ pub use Rattle.run_law.proofs.law.{FirstDeliveries.last_in, FirstPlaces.{by_numb
 pub use Rattle.run_law.proofs.records.Order.{same_kept}
 pub use Rattle.run_law.proofs.runs.Places.{before_behind, before_later, before_next_time, before_or_not, chain, either_way, in_left, in_parts, in_right}
 pub use Rattle.run_law.proofs.runs.Places.{never_self, parted}
-pub use Rattle.run_law.proofs.silent.Due.{no_cluster}
+pub use Rattle.run_law.proofs.control.Points.{no_cluster}
 pub use Rattle.run_law.specs.control.{Arrivals.control_arrival, Collections.{ends_stretch, observation_window, point_by, points_of}}
 pub use Rattle.run_law.specs.control.Corrections.{ComesToCorrection, correction_value, cycle_after, has_cleared, heard_since, hearing_by, integration_cycle}
 pub use Rattle.run_law.specs.control.{Corrections.{is_integration_cycle, next_cycle, recorded_cycle}, Emissions.Emits, Hearing.heard_as}

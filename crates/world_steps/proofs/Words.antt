@@ -20,7 +20,7 @@ pub use Rattle.pcf_values.specs.declared.{channel.Channel.Channel, members.Membe
 pub use Rattle.run_law.proofs.law.{FirstDeliveries.last_in, FirstPlaces.{by_number, founded_at, none_kept, numbered_front, numbered_in, numbered_within}}
 pub use Rattle.run_law.proofs.records.Order.{after_more, any_in, same_kept}
 pub use Rattle.run_law.proofs.runs.Places.{before_behind, before_later, chain, either_way, in_left, in_parts, in_right, never_self, parted}
-pub use Rattle.run_law.proofs.silent.Due.{no_cluster}
+pub use Rattle.run_law.proofs.control.Points.{no_cluster}
 pub use Rattle.run_law.specs.control.Arrivals.{control_arrival, frame_fault, frame_or_fault}
 pub use Rattle.run_law.specs.control.Collections.{ends_stretch, master_of, observation_window, point_by, points_of}
 pub use Rattle.run_law.specs.control.Corrections.{ComesToCorrection, correction_value, cycle_after, has_cleared, heard_since, hearing_by, integration_cycle}

@@ -1,4 +1,5 @@
 -- A device acts: how it stands then, and what is due.
+pub mod ActedSteps
 pub mod AllOfIt
 pub mod Clearing
 pub mod Clusters
@@ -19,14 +20,13 @@ pub mod JoinStep
 pub mod JoinSteps
 pub mod JoinsBy
 pub mod Kept
-pub mod LastSteps
 pub mod Moves
+pub mod OneAct
 pub mod Over
 pub mod Points
 pub mod SendSteps
 pub mod Sending
 pub mod Stage
 pub mod Starts
-pub mod StaySteps
 pub mod Stays
 pub mod Work

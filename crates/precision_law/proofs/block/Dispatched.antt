@@ -7,7 +7,7 @@ use Rattle.precision_law.proofs.words.Clocks.{before_of, before_place, earlier_b
 use Rattle.precision_law.proofs.words.Clocks.{reaches_front, room, same_device, setting_is, sizes_are}
 use Rattle.precision_law.proofs.words.Laws.{BlocksGoSo, HasTimeAt, IsClique, IsDispatch, IsFirm, IsFirstMaster, IsGood, IsInBlock, IsOldAt, IsView}
 use Rattle.precision_law.proofs.words.Laws.{MastersDispatch, View, first_correction, has_time, is_correction, last_dispatch, last_setting, state_left}
-use Rattle.precision_law.proofs.words.Plans.{Corrected, Device, DeviceId, Event, Integrating, Joining, State, Synchronised, Units, Verdict, amount, device_at}
+use Rattle.precision_law.proofs.words.Plans.{Corrected, Device, DeviceId, Event, Integrating, Joining, State, Synchronised, Verdict, amount, device_at}
 use Rattle.precision_law.proofs.words.Plans.{state_at_start, units_of}
 use Rattle.precision_law.proofs.words.Runs.{BeginsOn, ChangesState, Happening, Integrates, IsCaused, IsDue, IsFoundedAt, IsIn, NotOff, Note, NoteBody, Reaches}
 use Rattle.precision_law.proofs.words.Runs.{TurnsOn, Why, due_is_there, earlier, founded_at, happening, in_at, in_left, is_joined_by, is_turned_on_at, numbered}
@@ -28,11 +28,7 @@ NoCliqueBefore v device t =
 
 starts_synchronised : (o : Option Device) → IsSomeAnd o (λ d. IsNone d.start → ⊥) → state_at_start (option_and_then (λ d. d.start) o) ≡ Synchronised
 starts_synchronised None on = absurd on
-starts_synchronised (Some d) on = by d.start on
-  where
-    by : (start : Option Units) → (IsNone start → ⊥) → state_at_start start ≡ Synchronised
-    by None on = absurd (on refl)
-    by (Some u) on = refl
+starts_synchronised (Some d) on = grind (arith, state_at_start)
 
 kept_state : (b : Bool) (state : State) → (b ≡ true → state ≡ Synchronised) → (if b then state else Synchronised) ≡ Synchronised
 kept_state true state same = same refl

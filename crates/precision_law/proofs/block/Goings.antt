@@ -56,11 +56,7 @@ had_time v device u t is le old has = record { good = has.good; timed = time_sta
 
 -- the records before corrections at a time are all up to it that come earlier
 pub up_to_then : (v : View) (t : ℕ) (front : List Happening) → AreBeforeCorrections v t front → AreUpTo v t front
-up_to_then v t front split = record {
-  all = earlier_before v t front split;
-  there = λ h i. subst (IsIn h) (sym split.whole) (in_left h front split.rest i);
-  to = split.only;
-}
+up_to_then v t front split = grind (arith, earlier_before, in_left)
 
 -- what comes earlier is among them
 pub in_part : (v : View) (t : ℕ) (front : List Happening) (h : Happening) → AreBeforeCorrections v t front → IsIn h v.records → time_of h < t → IsIn h front

@@ -192,9 +192,7 @@ record IsEnd (v : View) (n : ℕ) (before : Stands v n) (h : Happening) : Type 0
 end_is : (v : View) (n : ℕ) (before : Stands v n) (h : Happening) → IsIn h (filter (λ g. is_dispatch v before.hull (suc n) g g.note.body) v.records)
     → IsEnd v n before h
 end_is v n before h i =
-    let test = λ (g : Happening). is_dispatch v before.hull (suc n) g g.note.body in
-    let t = tested v before.hull (suc n) h h.note.body (passes test v.records h i) in
-    record { device = t.device; dispatch = record { there = in_filter test v.records h i; is = t.is; good = t.good }; low = t.low; high = t.high }
+    grind (arith, is_dispatch, tested, passes, in_filter)
 
 -- its master's clock was set before the block
 end_old : BlocksGoSo → (v : View) (n : ℕ) (before : Stands v n) (h : Happening) → IsView v → (e : IsEnd v n before h)

@@ -2,13 +2,13 @@
 use Rattle.std.proofs.lemmas.Option.{none-some}
 use Rattle.run_law.proofs.records.Order.{has_passed}
 use Rattle.tte_lemmas.proofs.Integers.{int_le-is}
-use Rattle.precision_law.proofs.records.Times.{in_kept}
 use Rattle.precision_law.proofs.words.Laws.{Follows, Hull, IsDispatch, IsInHull, View, first_dispatch, hull_of, hull_over, is_dispatch, last_dispatch, widened}
 use Rattle.precision_law.proofs.words.{Plans.{DeviceId, int_le-true}, Runs.{Happening, IsIn, NoteBody, in_filter, is_broken, time_of}}
-use Rattle.precision_law.proofs.words.Std.{◌&&◌, ◌==◌, ◌∷◌, ◌≡◌, ◌≤ℤ◌, ◌≤◌, List, None, Option, Some, [], and_parts, ap, arith, clamps, eq-eqb, eqb-true, false}
+use Rattle.precision_law.proofs.words.Std.{◌∷◌, ◌≡◌, ◌≤ℤ◌, ◌≤◌, List, None, Option, Some, [], and_parts, ap, arith, clamps, eq-eqb, eqb-true, false}
 use Rattle.precision_law.proofs.words.Std.{filter, fold, inl, inr, int_le, ints, not, not-true, not_from_false, option_and_then, pos, refl, subst, suc, sym}
 use Rattle.precision_law.proofs.words.Std.{true, ℕ, ℤ}
 use Rattle.run_law.specs.declared.note.NoteBody.TheVariants as notes
+use Rattle.run_law.proofs.records.Members.{in_kept}
 
 -- ---- widening
 
@@ -69,29 +69,14 @@ pub record IsTested (v : View) (before : Hull) (cycle : ℕ) (h : Happening) (bo
 pub tested : (v : View) (before : Hull) (cycle : ℕ) (h : Happening) (body : NoteBody) → is_dispatch v before cycle h body ≡ true
     → IsTested v before cycle h body
 tested v before cycle h (notes.Sent device of_cycle) e =
-    let low = int_le (first_dispatch v.sizes before) (pos (time_of h)) in
-    let high = int_le (pos (time_of h)) (last_dispatch v.sizes before) in
-    let a = and_parts (not (is_broken v.scenario device v.until) && of_cycle == cycle) (low && high) e in
-    let b = and_parts (not (is_broken v.scenario device v.until)) (of_cycle == cycle) a.0 in
-    let c = and_parts low high a.1 in
-    record {
-      device = device;
-      is = ap (notes.Sent device) (eqb-true of_cycle cycle b.1);
-      good = not-true (is_broken v.scenario device v.until) b.0;
-      low = int_le-is (first_dispatch v.sizes before) (pos (time_of h)) c.0;
-      high = int_le-is (pos (time_of h)) (last_dispatch v.sizes before) c.1;
-    }
+    grind (arith, int_le, first_dispatch, time_of, last_dispatch, and_parts, not, is_broken, eqb-true, not-true, int_le-is)
 tested v before cycle h other e = absurd cc
 
 -- the dispatch of a good master in time passes the test
 passes_test : (v : View) (before : Hull) (cycle : ℕ) (h : Happening) (device : DeviceId) → IsDispatch v h device cycle
     → first_dispatch v.sizes before ≤ℤ pos (time_of h) → pos (time_of h) ≤ℤ last_dispatch v.sizes before → is_dispatch v before cycle h h.note.body ≡ true
 passes_test v before cycle h device dispatch low high =
-    let a : not (is_broken v.scenario device v.until) ≡ true = not_from_false (is_broken v.scenario device v.until) dispatch.good in
-    let b : (cycle == cycle) ≡ true = eq-eqb cycle cycle refl in
-    let c : int_le (first_dispatch v.sizes before) (pos (time_of h)) ≡ true = int_le-true (first_dispatch v.sizes before) (pos (time_of h)) low in
-    let d : int_le (pos (time_of h)) (last_dispatch v.sizes before) ≡ true = int_le-true (pos (time_of h)) (last_dispatch v.sizes before) high in
-    subst (λ (body : NoteBody). is_dispatch v before cycle h body ≡ true) (sym dispatch.is) (rw (a, b, c, d) refl)
+    grind (arith, not, is_broken, not_from_false, eq-eqb, int_le, first_dispatch, time_of, int_le-true, last_dispatch, is_dispatch)
 
 -- ---- hulls
 

@@ -7,7 +7,7 @@ use Rattle.precision_law.proofs.words.Plans.{is_end_system, link_at, opened, tar
 use Rattle.precision_law.proofs.words.Runs.{Happening, Integrates, IsArrivedRecord, IsCaused, IsFoundedAt, IsIn, IsPermanenceOutcome, NoteBody, adjustment_with}
 use Rattle.precision_law.proofs.words.Runs.{channel_of, channel_of_link, cycle_in, expected_by, founded_at, frame_by, heard_as, heard_enough, is_cm, is_cm_role}
 use Rattle.precision_law.proofs.words.Runs.{is_joined_by, last_cycle, members_in, numbered_in, observation_window, plan_of, same_judgement}
-use Rattle.precision_law.proofs.words.Std.{if◌then◌else◌, ◌*ℤ◌, ◌*◌, ◌+◌, ◌-ℤ◌, ◌∙◌, ◌≡◌, ◌≤ℤ◌, ◌≤◌, Bool, List, MatchBool-at_false, None, Option, Some}
+use Rattle.precision_law.proofs.words.Std.{◌*ℤ◌, ◌*◌, ◌+◌, ◌-ℤ◌, ◌∙◌, ◌≡◌, ◌≤ℤ◌, ◌≤◌, Bool, List, MatchBool-at_false, None, Option, Some}
 use Rattle.precision_law.proofs.words.Std.{and_parts, ap, arith, false, inl, inr, ints, leb-true, nat_le, negsuc, not, option_and_then, option_map}
 use Rattle.precision_law.proofs.words.Std.{option_map_or, pos, refl, subst, sym, true, unsigned_abs, ℕ, ℤ}
 use Rattle.run_law.specs.declared.note.NoteBody.TheVariants as notes
@@ -156,9 +156,4 @@ expected_is v device cycle point is =
 -- a device expects frames well behind the beginning of their cycle
 pub expected_late : (v : View) (device : DeviceId) → IsView v → v.sizes.dmax + v.sizes.compression ≤ expected_by v.scenario.network device
 expected_late v device is =
-    let n = v.scenario.network in
-    by (is_cm n device) (amount n.dmax) (compression_time n) v.sizes.dmax v.sizes.compression (sizes_are v is).dmax ((sizes_are v is).compression)
-  where
-    by : (b : Bool) (d k d' k' : ℕ) → d' ≡ d → k' ≡ k → d' + k' ≤ (if b then d + k else 2 * d + k)
-    by true d k d' k' a b = omega (arith, a, b)
-    by false d k d' k' a b = omega (arith, a, b)
+    grind (arith, is_cm, amount, compression_time, sizes_are)

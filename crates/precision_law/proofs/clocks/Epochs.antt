@@ -3,7 +3,7 @@ use Rattle.net_plan.proofs.SameIds.{one_device}
 use Rattle.run_law.proofs.{control.Verdicts.cycle_stays, device.States.{adjustment_kept, joined_changes}}
 use Rattle.tte_lemmas.proofs.Lists.{last_more}
 use Rattle.precision_law.proofs.clocks.Readings.{reach_is_sharp, reach_is_there}
-use Rattle.precision_law.proofs.records.{Times.{between, earlier_parts, in_between, in_kept, is_between, last_some}, Views.{in_order, steady}}
+use Rattle.precision_law.proofs.records.{Times.{between, earlier_parts, in_between, is_between, last_some}, Views.{in_order, steady}}
 use Rattle.precision_law.proofs.words.Laws.{AdjustmentIsLast, ClocksHaveReached, ClocksReachSharply, IsView, NextCycleIsOfLast, SettingsStay, TimeStays, View}
 use Rattle.precision_law.proofs.words.Laws.{adjustment_left, cycle_set, epoch_time, has_time, is_correction, last_setting, next_of, state_left}
 use Rattle.precision_law.proofs.words.Plans.{DeviceId, Integrating, State, Units, adjustment_at_start, amount, state_at_start}
@@ -15,6 +15,7 @@ use Rattle.precision_law.proofs.words.Std.{append-nil, arith, both_ways, eq-eqb,
 use Rattle.precision_law.proofs.words.Std.{ints, last_or, negsuc, option_map_or, pos, refl, subst, sym, true, ℕ, ℤ}
 use Rattle.run_law.specs.declared.judgement.Why.TheVariants as whys
 use Rattle.run_law.specs.declared.note.NoteBody.TheVariants as notes
+use Rattle.run_law.proofs.records.Members.{in_kept}
 
 -- where each element that passes the test sets a value and no other does, the last such element sets it
 pub fold_last : {X V : Type 0} (f : V → X → V) (g : X → V) (test : X → Bool) (o : Option X) (initial : V) (xs : List X)
@@ -22,11 +23,7 @@ pub fold_last : {X V : Type 0} (f : V → X → V) (g : X → V) (test : X → B
     (last_or o (filter test xs)) initial
 fold_last f g test o initial [] hit miss = refl
 fold_last {X} {V} f g test o initial (x ∷ xs) hit miss =
-    elim (test x) as
-    (λ b. test x ≡ b → fold f (f (option_map_or g o initial) x) xs ≡ option_map_or g (last_or o (if b then x ∷ filter test xs else filter test xs)) initial) [
-      | true ↦ λ e. ap (λ (v : V). fold f v xs) (hit (option_map_or g o initial) x e) ∙ fold_last f g test (Some x) initial xs hit miss
-      | false ↦ λ e. ap (λ (v : V). fold f v xs) (miss (option_map_or g o initial) x e) ∙ fold_last f g test o initial xs hit miss
-    ] refl
+    grind (arith, fold, option_map_or, last_or, filter, (fold_last f g test (Some x) initial xs hit miss), (fold_last f g test o initial xs hit miss))
 
 -- ---- adjustments
 
@@ -140,9 +137,7 @@ no_change p out s ps t device state cause whys.Frame none c e =
     let h = c.1.0 in
     both_ways (changes_adjustment device h.note.body) (none h (numbered_in ps cause h c.1.1.there) c.1.1.same_time) (joined_changes device h.note.body c.1.2)
 no_change p out s ps t device state cause whys.Correction none c e =
-    let h = c.2.3 in
-    let i = numbered_in ps cause h c.2.4.there in
-    both_ways (changes_adjustment device h.note.body) (none h i c.2.4.same_time) (ap (changes_adjustment device) c.2.5 ∙ (eq-eqb device.0 device.0 refl))
+    grind (arith, numbered_in, both_ways, changes_adjustment, eq-eqb)
 no_change p out s ps t device state cause why none c e = both_ways (p state) (ap p c.0 ∙ out) e
 
 -- nor does any other record

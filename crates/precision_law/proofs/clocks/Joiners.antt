@@ -3,7 +3,7 @@ use Rattle.net_plan.proofs.SameIds.{one_device}
 use Rattle.run_law.proofs.records.Happenings.{from_earlier, is_earlier}
 use Rattle.tte_lemmas.proofs.Lists.{last_more}
 use Rattle.precision_law.proofs.{Plain.higher_before, clocks.Epochs.{Keeps, kept_by_all, kept_if, state_stays}, records.Points.{setting_is, sorted_parts}}
-use Rattle.precision_law.proofs.records.{Times.{AreSorted, in_kept, last_some}, Views.in_order}
+use Rattle.precision_law.proofs.records.{Times.{AreSorted, last_some}, Views.in_order}
 use Rattle.precision_law.proofs.words.Laws.{IsView, View, epoch_time, last_setting, state_left}
 use Rattle.precision_law.proofs.words.Plans.{DeviceId, Joining, State, Units, amount, state_at_start}
 use Rattle.precision_law.proofs.words.Runs.{ChangesState, Happening, Integrates, IsCaused, IsDue, IsFounded, IsIn, NoteBody, Scenario, Why, behind_first}
@@ -14,6 +14,7 @@ use Rattle.precision_law.proofs.words.Std.{both_ways, eq-eqb, false, false_from_
 use Rattle.precision_law.proofs.words.Std.{nat_lt, negsuc, option_map_or, pos, refl, subst, sym, true, ℕ}
 use Rattle.run_law.specs.declared.judgement.Why.TheVariants as whys
 use Rattle.run_law.specs.declared.note.NoteBody.TheVariants as notes
+use Rattle.run_law.proofs.records.Members.{in_kept}
 
 -- where no correction of the device comes at a time, no change of state synchronises it
 no_correction : (s : Scenario) (ps : List Happening) (t : ℕ) (device : DeviceId) (state : State) (cause : ℕ) (why : Why)

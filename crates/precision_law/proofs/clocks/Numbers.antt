@@ -78,15 +78,21 @@ pub joiner_integrates : (hs : List Happening) (device : DeviceId) (h : Happening
     → changes_adjustment device h.note.body ≡ true → is_correction h.note.body ≡ false → (is_integration_cycle hs device ≡ true)
     × (recorded_cycle hs device ≡ cycle_in h) × (integration_cycle hs device ≡ Some (cycle_in h))
 joiner_integrates hs device h e changes other =
-    let joins = λ (g : Happening). is_joined_by device g.note.body in
-    let joined = joining_of_setting device h.note.body changes other in
-    let last = last_of_both joins _ None None hs h (λ g j. joined_changes device g.note.body j) joined (λ s. s) e in
-    let at = joining_is_last hs device ∙ ap (λ (o : Option Happening). option_map_or (λ g. Some (cycle_in g)) o None) last in
-    let recorded : recorded_cycle hs device ≡ cycle_in h = next_cycle_is_of_last hs device ∙ ap next_of e
-    ∙ ap (λ (b : Bool). if b then cycle_set h h.note.body + 1 else cycle_set h h.note.body) other ∙ set_by_joining h h.note.body other in (
-      ap (λ (o : Option ℕ). option_map_or (λ cycle. recorded_cycle hs device == cycle) o false) at ∙ eq-eqb (recorded_cycle hs device) (cycle_in h) recorded,
-      recorded,
-      at,
+    grind (
+      arith,
+      is_joined_by,
+      joining_of_setting,
+      last_of_both,
+      joined_changes,
+      joining_is_last,
+      option_map_or,
+      cycle_in,
+      recorded_cycle,
+      next_cycle_is_of_last,
+      next_of,
+      cycle_set,
+      set_by_joining,
+      eq-eqb,
     )
 
 -- ---- an old device

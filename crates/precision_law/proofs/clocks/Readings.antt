@@ -42,10 +42,7 @@ short_by_reading n reading s t steady le less =
 step_back : (n : Sizes) (reading : ℕ → ℕ) (t : ℕ) → IsSteady n reading → 0 < t → reading t ≤ reading (t - 1) + 2 * n.grain + 1
 step_back n reading zero steady after = absurd (omega arith)
 step_back n reading (suc t) steady after =
-    let same : suc t - 1 ≡ t = omega arith in
-    let next : t + 1 ≡ suc t = omega arith in
-    let moved = rw next at (steady.steps t) in
-    rw same moved
+    grind arith
 
 pub reach_is_sharp : ReachIsSharp
 reach_is_sharp n reading from v t steady below reach =
@@ -60,9 +57,7 @@ reach_is_sharp n reading from v t steady below reach =
 first_of_all : (n : Sizes) (reading : ℕ → ℕ) (from x : ℕ) (v : ℤ) (more : ℕ) → IsSteady n reading → from ≤ x → pos (reading x) <ℤ v
     → v ≤ℤ pos (reading (x + more)) → (u : ℕ) × (x < u) × (u ≤ x + more) × IsReach reading (pos from) v (pos u)
 first_of_all n reading from x v zero steady le below above =
-    let same : x + zero ≡ x = omega arith in
-    let here = rw same at above in
-    absurd (omega (arith, ints, here, below))
+    grind (arith, ints)
 first_of_all n reading from x v (suc more) steady le below above =
     by_lt_z {P = (u : ℕ) × (x < u) × (u ≤ x + suc more) × IsReach reading (pos from) v (pos u)} (pos (reading (x + more))) v (λ less. (
       x + suc more,

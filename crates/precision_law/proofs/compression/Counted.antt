@@ -5,7 +5,7 @@ use Rattle.precision_law.proofs.words.Plans.{AllButOne, AreClusters, Cluster, Is
 use Rattle.precision_law.proofs.words.Plans.{cluster_of, counts, end_of, end_of-least, firsts, firsts-start, from_beyond, has_master, held-start, in_cases}
 use Rattle.precision_law.proofs.words.Plans.{in_head, in_none, in_tail, mean_of-floor, members_of, members_of-clear, members_of-set, middle_among_others}
 use Rattle.precision_law.proofs.words.{Plans.{middle_of, of_cycle_within, relative, with_first, with_first-new, with_first-old}, Runs.{IsIn, in_parts}}
-use Rattle.precision_law.proofs.words.Std.{◌&&◌, ◌*ℤ◌, ◌*◌, ◌++◌, ◌+ℤ◌, ◌+◌, ◌-ℤ◌, ◌/◌, ◌<◌, ◌==◌, ◌^◌, ◌∙◌, ◌∷◌, ◌≡◌, ◌≤ℤ◌, ◌≤◌, ◌⊎◌, All, All-cons, All-nil}
+use Rattle.precision_law.proofs.words.Std.{◌&&◌, ◌*ℤ◌, ◌*◌, ◌++◌, ◌+ℤ◌, ◌+◌, ◌-ℤ◌, ◌/◌, ◌==◌, ◌^◌, ◌∙◌, ◌∷◌, ◌≡◌, ◌≤ℤ◌, ◌≤◌, ◌⊎◌, All, All-cons, All-nil}
 use Rattle.precision_law.proofs.words.Std.{AllByRecursion, Bool, Contains, List, [], and_le_r, and_parts, and_pow, ap, arith, bit_at, bit_or, cases_Bool}
 use Rattle.precision_law.proofs.words.Std.{count_ones, eqb-false, eqb-true, false, filter, fold, inl, inr, int_le, ints, length, map, ones_le_self, ones_step}
 use Rattle.precision_law.proofs.words.Std.{or_cases, or_disjoint, or_parts, pos, pow-suc, pow_pos, refl, subst, suc, sym, true, zero, ℕ, ℤ}
@@ -73,10 +73,7 @@ firsts_ordered xs up = fold_ordered [] xs tt up (λ a x i j. absurd i)
 pub ordered_filter : (test : Point → Bool) (ps : List Point) → Ordered ps → Ordered (filter test ps)
 ordered_filter test [] up = tt
 ordered_filter test (p ∷ ps) up =
-    elim (cases_Bool (test p)) [
-      | inl pass ↦ rw pass (all-filter (λ (q : Point). p.reading ≤ℤ q.reading) test ps up.0, ordered_filter test ps up.1)
-      | inr fail ↦ rw fail (ordered_filter test ps up.1)
-    ]
+    grind (arith, cases_Bool, all-filter, (ordered_filter test ps up.1))
 
 pub firsts_in : (xs : List Point) (q : Point) → IsIn q (firsts xs) → Contains xs q
 firsts_in xs q i =
@@ -119,10 +116,7 @@ pub middle_near : (ow : ℤ) (Bad : Point → Type 0) (k o : Point) (more : List
     → ((p q : Point) → IsIn p (o ∷ more) → IsIn q (o ∷ more) → Bad p → Bad q → p.master ≡ q.master)
     → ((p : Point) → IsIn p (o ∷ more) → p.reading ≤ℤ (o.reading +ℤ (pos 2 *ℤ ow)))
     → LiesWithin (k.reading -ℤ ow) (k.reading +ℤ ow) (o.reading +ℤ middle_of (relative (map (λ p. p.reading) (o ∷ more))))
-middle_near ow Bad k o [] some up apart i each same short = elim i [
-  | inl e ↦ (let at : k.reading ≡ o.reading = ap (λ (p : Point). p.reading) e in (omega (arith, ints, at, some), omega (arith, ints, at, some)))
-  | inr none ↦ absurd none
-]
+middle_near ow Bad k o [] some up apart i each same short = grind (arith, ints)
 middle_near ow Bad k o (b ∷ []) some up apart i each same short =
     let m = mean_of-floor (o.reading -ℤ o.reading) (b.reading -ℤ o.reading) in
     let later : o.reading ≤ℤ b.reading = up.0.0 in
@@ -229,9 +223,7 @@ or_zero n = omega (arith, or_disjoint n 0 (omega (arith, and_le_r n 0)))
 ones_or : (k n : ℕ) → count_ones (bit_or n (2 ^ k)) ≤ count_ones n + 1
 ones_or zero n = omega (arith, ones_step (bit_or n 1), ones_step n, ap count_ones (or_half n 1 ∙ or_zero (n / 2)), or_parity n 1)
 ones_or (suc k) n =
-    let power : 2 ^ suc k ≡ 2 * 2 ^ k = omega (arith, pow-suc 2 k) in
-    let half : bit_or n (2 ^ suc k) / 2 ≡ bit_or (n / 2) (2 ^ k) = or_half n (2 ^ suc k) ∙ ap (bit_or (n / 2)) (omega (arith, power)) in
-    omega (arith, ones_step (bit_or n (2 ^ suc k)), ones_step n, ap count_ones half, or_parity n (2 ^ suc k), ones_or k (n / 2), power)
+    grind (arith, pow-suc, bit_or, or_half, ones_step, count_ones, or_parity, (ones_or k (n / 2)))
 
 ones_fold : (a : ℕ) (qs : List Point) → count_ones (fold (λ members q. bit_or members (2 ^ q.master)) a qs) ≤ count_ones a + length qs
 ones_fold a [] = omega arith
@@ -252,12 +244,4 @@ member_has qs i set =
     ]
 
 pub has_is_member : (qs : List Point) (i : ℕ) → has_master qs i ≡ true → bit_at (members_of qs) i ≡ 1
-has_is_member qs i has = by (bit_at (members_of qs) i) refl (bit_less (members_of qs) i)
-  where
-    bit_less : (n i : ℕ) → bit_at n i < 2
-    bit_less n i = omega arith
-
-    by : (b : ℕ) → bit_at (members_of qs) i ≡ b → b < 2 → bit_at (members_of qs) i ≡ 1
-    by zero e lt = absurd (members_of-set qs i has (let and = rw e at (and_pow (members_of qs) i) in omega (arith, and)))
-    by (suc zero) e lt = e
-    by (suc (suc n)) e lt = absurd (omega (arith, lt))
+has_is_member qs i has = grind (arith, bit_at, members_of, members_of-set, and_pow)

@@ -47,9 +47,7 @@ point_not_both v cm by p q is good bad same =
 -- bad points are of one master
 pub bad_is_one : (v : View) (p q : Point) → IsView v → IsBadPoint v p → IsBadPoint v q → p.master ≡ q.master
 bad_is_one v p q is a b =
-    let same : a.master ≡ b.master = one_bad v b.master a.master is b.bad a.bad in
-    let number : Some p.master ≡ Some q.master = sym a.is_member ∙ ap (member_of v.scenario.network) same ∙ b.is_member in
-    same_some (Some q.master) p.master q.master (sym number) refl
+    grind (arith, one_bad, member_of, same_some)
 
 -- a dispatch has no delay so far
 pub dispatch_clock : (v : View) (first : Happening) (master : DeviceId) (cycle : ℕ) → IsView v → IsDispatch v first master cycle → clock_in first ≡ 0

@@ -116,10 +116,7 @@ front_witness v t cycle cm by front rest clusters cluster f m bit good =
         there = in_points x i;
         of_cycle = of_cycle x i;
         of_cluster = here.of_cycle ∙ sym (ap (λ (y : Cluster). y.cycle) c.is);
-        lies = record {
-          low = subst (λ (y : Cluster). y.opened ≤ℤ x.reading) (sym c.is) here.from;
-          high = subst (λ (y : Cluster). x.reading ≤ℤ y.end) (sym c.is) here.to;
-        };
+        lies = grind (arith, x.reading, here.from, here.to);
         good = is_good;
         near = omega (arith, ints, calc, whole, near.0, sizes);
         ends = omega (arith, ints, calc, whole, late, soon, ap (λ (y : Cluster). y.end) c.is);

@@ -7,7 +7,7 @@ use Rattle.precision_law.proofs.words.Plans.{is_end_system, point_of}
 use Rattle.precision_law.proofs.words.Runs.{Happening, IsArrivedRecord, IsCaused, IsIn, Judgement, cycle_in, founded_at, frame_by, in_left, is_cm, is_cm_role}
 use Rattle.precision_law.proofs.words.Runs.{master_of, members_in, numbered_in, receiver_of, same_some, time_of, way_to}
 use Rattle.precision_law.proofs.words.Std.{◌^◌, ◌∙◌, ◌∷◌, ◌≡◌, ◌≤ℤ◌, ◌≤◌, List, Option, Some, ap, arith, bit_at-pow_other, bit_at-trailing_zeros, cases_eq}
-use Rattle.precision_law.proofs.words.Std.{false, inl, inr, ints, option_and_then, option_map_or, pos, pow_below, pow_pos, subst, sym, trailing_zeros, true}
+use Rattle.precision_law.proofs.words.Std.{inl, inr, ints, option_and_then, option_map_or, pos, pow_below, pow_pos, subst, sym, trailing_zeros, true}
 use Rattle.precision_law.proofs.words.Std.{w32, ℕ, ℤ}
 use Rattle.run_law.specs.declared.note.NoteBody.TheVariants as notes
 
@@ -20,11 +20,7 @@ cm_role_relays role a b = absurd cc
 -- a compression master is no link's child
 cm_no_child : (v : View) (cm : DeviceId) (link : LinkId) → IsView v → is_cm v.scenario.network cm ≡ true → IsChildOf v.scenario.network cm link → ⊥
 cm_no_child v cm link is one child =
-    let d = device_of is_cm_role (device_at v.scenario.network cm) one in
-    elim (child_kind v cm link is child) [
-      | inl end ↦ cm_is_no_end d.0.role d.2 (sym (ap (λ (o : Option Device). option_map_or (λ x. is_end_system x.role) o false) d.1) ∙ end)
-      | inr x ↦ cm_role_relays d.0.role d.2 (ap (λ (y : Device). y.role) (same_some _ _ _ d.1 x.1) ∙ x.2)
-    ]
+    grind (arith, device_of, is_cm_role, device_at, child_kind, cm_is_no_end, option_map_or, is_end_system, cm_role_relays, same_some)
 
 arrives_up : (v : View) (hs : List Happening) (t : ℕ) (cm : DeviceId) (link : LinkId) (cause clock : ℕ) → IsView v → is_cm v.scenario.network cm ≡ true
     → IsArrivedRecord v.scenario hs cm t link cause clock → way_to v.scenario.network cm link ≡ Up

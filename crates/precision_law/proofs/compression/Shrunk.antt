@@ -3,7 +3,7 @@ use Rattle.precision_law.proofs.words.Clocks.{cluster_from, has_is_member}
 use Rattle.precision_law.proofs.words.Plans.{AreClusters, Cluster, Holds, Ordered, Ordered-beyond, Point, beyond, beyond-push_out, cluster_of}
 use Rattle.precision_law.proofs.words.Plans.{cluster_of-beyond, end_of, end_of-least, end_of-same, firsts, firsts-has, from_beyond, held-push_beyond, in_cases}
 use Rattle.precision_law.proofs.words.Plans.{in_filter_from, in_head, in_none, in_rest, in_tail, int_le-true, of_cycle_within, one_list_of_clusters}
-use Rattle.precision_law.proofs.words.Std.{◌&&◌, ◌++◌, ◌+ℤ◌, ◌<ℤ◌, ◌==◌, ◌∙◌, ◌∷◌, ◌≡◌, ◌≤ℤ◌, ◌⊎◌, AllByRecursion, Contains, List, [], and_from, ap, append-nil}
+use Rattle.precision_law.proofs.words.Std.{◌&&◌, ◌++◌, ◌<ℤ◌, ◌==◌, ◌∙◌, ◌∷◌, ◌≡◌, ◌≤ℤ◌, ◌⊎◌, AllByRecursion, Contains, List, [], and_from, ap, append-nil}
 use Rattle.precision_law.proofs.words.Std.{append_assoc, arith, bit_at, eq-eqb, inl, inr, int_le, ints, pos, subst, sym, ℤ}
 
 -- ---- with points beyond and without
@@ -22,15 +22,7 @@ opens_behind ow end qs cs c some are at =
 first_same : (ow : ℤ) (o : Point) (ps : List Point) (p : Point) (k e : Cluster) → pos 0 ≤ℤ ow → k ≡ cluster_of ow o (o ∷ ps)
     → e ≡ cluster_of ow o ((o ∷ ps) ++ p ∷ []) → (k.end <ℤ p.reading) ⊎ (e.end <ℤ p.reading) → k ≡ e
 first_same ow o ps p k e some is_k is_e past =
-    let before : end_of ow o (o ∷ ps) <ℤ p.reading = elim past [
-      | inl k_ends ↦ omega (arith, ints, k_ends, ap (λ (x : Cluster). x.end) is_k)
-      | inr e_ends ↦
-          let ends : e.end ≡ end_of ow o ((o ∷ ps) ++ p ∷ []) = ap (λ (x : Cluster). x.end) is_e in
-          let behind : (o.reading +ℤ ow) <ℤ p.reading = omega (arith, ints, end_of-least ow o ((o ∷ ps) ++ p ∷ []) some, ends, e_ends) in
-          let same = end_of-same ow o (o ∷ ps) ((o ∷ ps) ++ p ∷ []) (ap firsts (held-push_beyond o.cycle o.reading (o.reading +ℤ ow) (o ∷ ps) p behind)) in
-          omega (arith, ints, same, ends, e_ends)
-    ] in
-    is_k ∙ sym (cluster_of-beyond ow o (o ∷ ps) p some before) ∙ sym is_e
+    grind (arith, end_of, ints, end_of-least, end_of-same, firsts, held-push_beyond, cluster_of-beyond)
 
 -- a cluster that ends before a point is one with the point where it is one without
 same_by : (ow : ℤ) (ps : List Point) (p : Point) (cs ds : List Cluster) (c : Cluster) → pos 0 ≤ℤ ow → AreClusters ow ps cs → AreClusters ow (ps ++ p ∷ []) ds
@@ -38,13 +30,7 @@ same_by : (ow : ℤ) (ps : List Point) (p : Point) (cs ds : List Cluster) (c : C
 same_by ow [] p (k ∷ cs) ds c some are next past = absurd are
 same_by ow [] p [] [] c some are next past = absurd next
 same_by ow [] p [] (e ∷ d ∷ ds) c some are next past = absurd next.1
-same_by ow [] p [] (e ∷ []) c some are next past = (
-  λ at. absurd (in_none c at),
-  λ at. elim (in_cases e c [] at) [
-    | inl same ↦ absurd (omega (arith, ints, end_of-least ow p (p ∷ []) some, ap (λ (x : Cluster). x.end) (sym same ∙ next.0), past, some))
-    | inr none ↦ none
-  ],
-)
+same_by ow [] p [] (e ∷ []) c some are next past = grind (arith, in_none, in_cases, ints, end_of-least)
 same_by ow (o ∷ ps) p [] ds c some are next past = absurd are
 same_by ow (o ∷ ps) p (k ∷ cs) [] c some are next past = absurd next
 same_by ow (o ∷ ps) p (k ∷ cs) (e ∷ ds) c some are next past =

@@ -32,13 +32,7 @@ never_less n a b x y space of_a of_b near lt =
 
 -- two such values, at most two precisions apart, are of one cycle
 pub of_one_cycle : (n : Sizes) (a b : ℕ) (x y : ℤ) → HaveRoom n → IsTakenFor n a x → IsTakenFor n b y → x ≤ℤ y → y ≤ℤ (x +ℤ pos (2 * n.precision)) → a ≡ b
-of_one_cycle n a b x y space of_a of_b le near = elim (cases_lt a b) [
-  | inl lt ↦ absurd (never_less n a b x y space of_a of_b near lt)
-  | inr ge ↦ elim (cases_lt b a) [
-    | inl lt ↦ absurd (never_less n b a y x space of_b of_a (omega (arith, ints, le)) lt)
-    | inr le_too ↦ omega (arith, ge, le_too)
-  ]
-]
+of_one_cycle n a b x y space of_a of_b le near = grind (arith, cases_lt, never_less, ints)
 
 -- ---- what a compression master takes
 
@@ -46,12 +40,7 @@ of_one_cycle n a b x y space of_a of_b le near = elim (cases_lt a b) [
 in_cycle : (n : Network) (c r m : ℕ) (z : ℤ) → pos 0 ≤ℤ n.cycle.0 → r < amount n.cycle → m ≡ c * amount n.cycle + r → z ≡ pos m → (offset_in_cycle n z ≡ pos r)
     × (int_div_euclid z n.cycle.0 ≡ pos c)
 in_cycle n c r m z begun small is same =
-    let whole : n.cycle.0 ≡ pos (amount n.cycle) = natural n.cycle.0 begun in (
-      int_rem_euclid_is z n.cycle.0 (amount n.cycle) 0 m (omega (arith, small)) whole (omega (arith, ints, same))
-          ∙ ap pos (ap (λ (x : ℕ). x % amount n.cycle) is ∙ mod-mul-add c (amount n.cycle) r small),
-      ap (λ (x : ℤ). int_div_euclid x n.cycle.0) same ∙ ap (int_div_euclid (pos m)) whole
-          ∙ ap pos (ap (λ (x : ℕ). x / amount n.cycle) is ∙ div-mul-add c (amount n.cycle) r small),
-    )
+    grind (arith, amount, natural, int_rem_euclid_is, ints, mod-mul-add, int_div_euclid, div-mul-add)
 
 no_reason : (s a b : Bool) (p q : Reason) → a ≡ false → b ≡ true → first_reason ((s && a, p) ∷ (s && not b, q) ∷ []) ≡ None
 no_reason true false true p q x y = refl

@@ -4,10 +4,10 @@ use Rattle.precision_law.proofs.words.Blocks.{before_narrow, earlier_in_block, f
 use Rattle.precision_law.proofs.words.Clocks.{enough_masters, frames_come_first, room}
 use Rattle.precision_law.proofs.words.Laws.{BlocksGoSo, Hull, IsBrought, IsDispatch, IsFirstMaster, IsInBlock, IsView, View, first_correction, first_dispatch}
 use Rattle.precision_law.proofs.words.Laws.{last_dispatch}
-use Rattle.precision_law.proofs.words.Plans.{A, B, Channel, Cm, CompressionMasters, Device, DeviceId, IsCmOf, IsSwitchOf, LinkId, Masters, Role, Units, Up}
+use Rattle.precision_law.proofs.words.Plans.{A, B, Channel, Cm, CompressionMasters, Device, DeviceId, IsCmOf, IsSwitchOf, LinkId, Masters, Role, Up}
 use Rattle.precision_law.proofs.words.Plans.{closed, count_of, device_at, is_master, opened}
 use Rattle.precision_law.proofs.words.Runs.{Happening, has_role, is_broken, is_cm, is_cm_role, is_parent_of, is_relay_role, time_of, waits_for}
-use Rattle.precision_law.proofs.words.Std.{◌+ℤ◌, ◌+◌, ◌<◌, ◌||◌, ◌∙◌, ◌∷◌, ◌≡◌, ◌≤ℤ◌, ◌≤◌, ◌⊎◌, Bool, IsNone, IsSomeAnd, List, None, Option, Some, [], ap}
+use Rattle.precision_law.proofs.words.Std.{◌+ℤ◌, ◌+◌, ◌<◌, ◌∷◌, ◌≡◌, ◌≤ℤ◌, ◌≤◌, ◌⊎◌, Bool, IsNone, IsSomeAnd, List, None, Option, Some, [], ap}
 use Rattle.precision_law.proofs.words.Std.{arith, both_ways, cases_Bool, cases_lt, false, inl, inr, ints, length, not, ones_le_self, option_map_or, pos, refl}
 use Rattle.precision_law.proofs.words.Std.{slice_get, subst, suc, true, zero, ℕ}
 
@@ -30,40 +30,19 @@ pub record IsSoundCm (v : View) (cm : DeviceId) : Type 0 where
 -- a compression master of the sound channel is such
 pub cm_is : (v : View) (cm : DeviceId) → IsCmOf v.scenario.network v.channel cm → IsSoundCm v cm
 cm_is v cm of_channel =
-    let n = v.scenario.network in
-    let d = opened (λ (x : Device). (x.role ≡ Cm) × (x.channel ≡ Some v.channel)) (device_at n cm) of_channel in
-    let role : (kind : Role → Bool) → has_role n kind cm ≡ kind Cm = λ kind. ap (λ (o : Option Device). option_map_or (λ x. kind x.role) o false) d.1
-    ∙ ap kind d.2.0 in
-    record {
-      one = role is_cm_role;
-      switch = closed (λ (x : Device). x.channel ≡ Some v.channel) (device_at n cm) d.0 d.1 d.2.1;
-      waits = λ link. ap (λ (b : Bool). not b || not (is_parent_of n cm link)) (role is_relay_role);
-    }
+    grind (arith, opened, device_at, has_role, option_map_or, is_cm_role, closed, not, is_parent_of, is_relay_role)
 
 -- ---- a first master
 
 -- a device begins on, or does not
 begins_or_not : (o : Option Device) → IsSomeAnd o (λ d. IsNone d.start → ⊥) ⊎ (IsSomeAnd o (λ d. IsNone d.start → ⊥) → ⊥)
 begins_or_not None = inr (λ x. x)
-begins_or_not (Some d) = by d.start
-  where
-    by : (start : Option Units) → (IsNone start → ⊥) ⊎ ((IsNone start → ⊥) → ⊥)
-    by None = inr (λ f. f refl)
-    by (Some u) = inl (λ e. cc)
+begins_or_not (Some d) = grind arith
 
 -- a device is a good master that began on, or is not
 first_or_not : (v : View) (device : DeviceId) → IsFirstMaster v device ⊎ (IsFirstMaster v device → ⊥)
 first_or_not v device =
-    elim (cases_Bool (has_role v.scenario.network is_master device)) [
-      | inr other ↦ inr (λ m. both_ways (has_role v.scenario.network is_master device) other m.master)
-      | inl master ↦ elim (cases_Bool (is_broken v.scenario device v.until)) [
-        | inl bad ↦ inr (λ m. both_ways (is_broken v.scenario device v.until) m.good bad)
-        | inr good ↦ elim (begins_or_not (device_at v.scenario.network device)) [
-          | inl on ↦ inl (record { master = master; on = on; good = good })
-          | inr off ↦ inr (λ m. off m.on)
-        ]
-      ]
-    ]
+    grind (arith, cases_Bool, has_role, is_master, both_ways, is_broken, begins_or_not, device_at)
 
 -- of what may be found at a place, it is at one below this, or at none
 some_below : (P : ℕ → Type 0) → ((i : ℕ) → P i ⊎ (P i → ⊥)) → (n : ℕ) → ((i : ℕ) × P i) ⊎ ((i : ℕ) → i < n → P i → ⊥)

@@ -5,7 +5,7 @@ use Rattle.precision_law.proofs.words.Clocks.{one_channel_is_sound, one_more, ro
 use Rattle.precision_law.proofs.words.Laws.{BlocksCover, BlocksGoSo, Hull, IsInBlock, IsView, Stands, View, hull_of, start_hull}
 use Rattle.precision_law.proofs.words.Plans.{Channel, DeviceId, IsBeta, Synchronised, beta_at, beta_exists, rules_give_trees, shape_rules}
 use Rattle.precision_law.proofs.words.Runs.{Happening, Scenario, adjustment_after, earlier, happenings, is_broken, is_turned_on_at, same_some, state_after}
-use Rattle.precision_law.proofs.words.Std.{◌*◌, ◌+ℤ◌, ◌+◌, ◌-◌, ◌<◌, ◌∙◌, ◌≡◌, ◌≤ℤ◌, ◌≤◌, ◌⊎◌, List, Some, ap, arith, cases_lt, false, inl, inr, ints}
+use Rattle.precision_law.proofs.words.Std.{◌*◌, ◌+ℤ◌, ◌+◌, ◌-◌, ◌<◌, ◌≡◌, ◌≤ℤ◌, ◌≤◌, ◌⊎◌, List, Some, ap, arith, cases_lt, false, inl, inr, ints}
 use Rattle.precision_law.proofs.words.Std.{mul-le-mul_right, pos, refl, subst, suc, sym, zero, ℕ, ℤ}
 use Rattle.precision_law.proofs.falls_lemmas.Views.{AreNearIn, AreViews, IsShown, first_of, in_network, is_shown, least_shown, most_shown, near_hulls}
 use Rattle.precision_law.proofs.falls_lemmas.Views.{no_later_hull, second_of}
@@ -139,15 +139,9 @@ left_in s hs t u channel path device at from to correct synchronised =
 shown_in : (s : Scenario) (hs : List Happening) (t : ℕ) (channel : Channel) (path : ℕ) (device : DeviceId) (shown : ℤ) → (at : IsViewWith s hs t channel path)
     → ShowsInStep s hs device t shown → IsBlockOf (view_of s t channel path at.cut.front) t shown
 shown_in s hs t channel path device shown at (inl after) =
-    let same = up_to_is t hs in
-    let v = view_of s t channel path at.cut.front in
-    let left = subst (λ (gs : List Happening). state_after s gs device ≡ Synchronised) same after.0.synchronised in
-    subst (IsBlockOf v t) (ap (λ (gs : List Happening). pos (s.reading device t) +ℤ (adjustment_after s gs device).0) (sym same) ∙ sym after.1)
-    (left_in s hs t (t + 1) channel path device at (omega arith) (omega arith) after.0.correct left)
+    grind (arith, up_to_is, view_of, state_after, adjustment_after, left_in)
 shown_in s hs t channel path device shown at (inr before) =
-    let v = view_of s t channel path at.cut.front in
-    subst (IsBlockOf v t) (sym before.1) (left_in s hs t t channel path device at (omega arith) (omega arith) before.0.correct
-    (not_integrating (is_turned_on_at s device t) (state_after s (earlier t hs) device) before.0.synchronised))
+    grind (arith, view_of, left_in, not_integrating, is_turned_on_at, state_after, earlier)
 
 pub never_fall : ClocksDoNotFallBack
 never_fall s mark ns until up x y d e shown later le most one other =

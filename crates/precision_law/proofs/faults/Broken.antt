@@ -1,11 +1,12 @@
 -- One master at most is broken, and no two masters have one member number.
 use Rattle.run_law.proofs.records.Order.{any_in}
-use Rattle.precision_law.proofs.{Plain.{any_of_in, reached}, faults.Masters.{breaks_it, device_of_place}, words.Laws.{IsBad, IsView, View}}
+use Rattle.precision_law.proofs.{Plain.{any_of_in, reached}, faults.Masters.breaks_it, words.Laws.{IsBad, IsView, View}}
 use Rattle.precision_law.proofs.words.Plans.{Device, DeviceId, Event, IsDeviceInRange, Masters, all_at, amount, device_at, is_master}
 use Rattle.precision_law.proofs.words.Runs.{Breaks, IsIn, SecondBreak, breaks_at, events_up_to, in_filter, in_parts, in_right, member_of, parted}
 use Rattle.precision_law.proofs.words.Std.{if◌then◌else◌, ◌++◌, ◌<◌, ◌∙◌, ◌∷◌, ◌≡◌, ◌≤◌, Bool, IfSome, List, Option, Some, [], ap, append_assoc, arith}
 use Rattle.precision_law.proofs.words.Std.{cases_eq, cases_lt, false, filter, inl, inr, is_some, nat_le, refl, slice_get, subst, suc, sym, true, zero, ℕ}
 use Rattle.net_plan.specs.declared.event.What.TheVariants as events
+use Rattle.net_plan.proofs.SameIds.{same_device}
 
 -- ---- one breaks
 
@@ -20,7 +21,7 @@ broke_by v device bad =
     let s = v.scenario in
     let found = any_in (λ (e : Event). breaks_at device.0 e.what) (events_up_to s v.until) bad in
     let breaks = breaks_it device.0 found.0.what found.2 in
-    let same = device_of_place breaks.0 device breaks.2 in
+    let same = same_device breaks.0 device breaks.2 in
     record { event = found.0; there = in_filter (λ e. nat_le (amount e.time) v.until) s.events found.0 found.1; breaks = breaks.1 ∙ ap events.Break same }
 
 pub one_bad : (v : View) (device other : DeviceId) → IsView v → IsBad v device → IsBad v other → other ≡ device
@@ -104,6 +105,6 @@ one_member v a b m is of_a of_b =
     let k = kept_pair (λ (d : Device). is_master d.role) v.scenario.network.device p.0 q.0 at_p.d at_q.d lt at_p.at at_q.at at_p.master at_q.master in
     differ k.0 k.1 at_p.d at_q.d k.2 k.3 k.4 (at_p.member ∙ sym at_q.member) in
     elim (cases_eq a.0 b.0) [
-      | inl same ↦ device_of_place a b same
+      | inl same ↦ same_device a b same
       | inr other ↦ elim (cases_lt a.0 b.0) [ inl lt ↦ absurd (clash a b x y lt) | inr ge ↦ absurd (clash b a y x (omega (arith, ge, other))) ]
     ]

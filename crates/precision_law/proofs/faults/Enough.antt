@@ -6,7 +6,7 @@ use Rattle.precision_law.proofs.{Plain.le_by, faults.Broken.{broke_by, one_bad, 
 use Rattle.precision_law.proofs.words.Laws.{EnoughMasters, IsBad, IsFirstMaster, IsGood, IsView, View}
 use Rattle.precision_law.proofs.words.Plans.{Device, DeviceId, Event, IsMember, Masters, Members, closed, count_of, device_at, is_master, none, single, union}
 use Rattle.precision_law.proofs.words.Runs.{Breaks, TooFewMasters, breaks_at, in_right, is_broken, is_sound_master, member_of, parted, sound_masters}
-use Rattle.precision_law.proofs.words.Std.{if◌then◌else◌, ◌&&◌, ◌++◌, ◌+◌, ◌/◌, ◌<◌, ◌∙◌, ◌∷◌, ◌≡◌, ◌≤◌, ◌⊎◌, Bool, IsNone, List, None, Option, Some, []}
+use Rattle.precision_law.proofs.words.Std.{if◌then◌else◌, ◌&&◌, ◌++◌, ◌+◌, ◌/◌, ◌<◌, ◌∙◌, ◌∷◌, ◌≡◌, ◌≤◌, ◌⊎◌, Bool, List, Option, Some, []}
 use Rattle.precision_law.proofs.words.Std.{and_parts, ap, arith, bit_at, bit_at-pow_other, bit_at-suc, bit_at-zero, bit_at_lowest, bit_at_or, both_ways}
 use Rattle.precision_law.proofs.words.Std.{cases_eq, cond, count_by, count_ones, enumerate_from, eq-eqb, false, false_from_ne_true, filter, inl, inr, is_some}
 use Rattle.precision_law.proofs.words.Std.{length, list_any, not, not-true, ones_le_self, ones_step, option_map_or, refl, slice_get, subst, suc, sum_by-cons}
@@ -24,10 +24,7 @@ ones_within (suc d) n m small each =
 
 -- a set within another has no more members
 pub sets_within : (a b : Members) → ((i : ℕ) → IsMember i a → IsMember i b) → count_of a ≤ count_of b
-sets_within a b each = ones_within a.0 a.0 b.0 (omega arith) (λ i. elim (cases_eq (bit_at a.0 i) 1) [
-  | inl one ↦ (let m = each i one in omega (arith, one, m))
-  | inr other ↦ (let small : bit_at a.0 i < 2 = omega arith in omega (arith, small, other))
-])
+sets_within a b each = grind (arith, ones_within, cases_eq, bit_at)
 
 -- ---- the sound masters' members
 
@@ -92,14 +89,7 @@ enough_by v befallen members is all good =
   where
     is_first : (i : ℕ) → IsSoundAt v befallen i → IsMember i members
     is_first i s =
-        let more = and_parts (is_master s.d.role && is_some s.d.start) (not (list_any (λ e. breaks_at s.device.0 e.what) befallen)) s.sound in
-        let parts = and_parts (is_master s.d.role) (is_some s.d.start) more.0 in
-        all s.device i (record {
-          master = ap (λ (o : Option Device). option_map_or (λ x. is_master x.role) o false) s.at ∙ parts.0;
-          on = closed (λ (x : Device). IsNone x.start → ⊥) (device_at v.scenario.network s.device) s.d s.at
-              (elim s.d.start as (λ o. is_some o ≡ true → IsNone o → ⊥) [ None ↦ λ e off. absurd cc | Some x ↦ λ e off. absurd cc ] parts.1);
-          good = good s.device s.d s.at (not-true (list_any (λ e. breaks_at s.device.0 e.what) befallen) more.1);
-        }) s.is_member
+        grind (arith, and_parts, is_master, is_some, not, list_any, breaks_at, option_map_or, closed, device_at, not-true)
 
 -- ---- the masters that begin on
 

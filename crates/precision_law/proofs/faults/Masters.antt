@@ -1,14 +1,16 @@
 -- What the fault hypothesis leaves.
 use Rattle.run_law.proofs.records.Order.{any_in, has_passed, in_any}
 use Rattle.schedule_tables.proofs.Margins.{master_ends}
-use Rattle.precision_law.proofs.{records.Times.in_kept, words.Laws.{GoodIsCorrect, IsBad, IsView, OneChannelIsSound, SwitchesAreGood, View}}
-use Rattle.precision_law.proofs.words.Plans.{A, B, Channel, Device, DeviceId, Event, HasOffSwitch, IsDeviceInRange, IsSwitchOf, Link, LinkId, Masters, Network}
+use Rattle.precision_law.proofs.words.Laws.{GoodIsCorrect, IsBad, IsView, OneChannelIsSound, SwitchesAreGood, View}
+use Rattle.precision_law.proofs.words.Plans.{A, B, Channel, Device, DeviceId, Event, HasOffSwitch, IsDeviceInRange, Link, LinkId, Masters, Network}
 use Rattle.precision_law.proofs.words.Plans.{What, all_at, amount, device_at, is_end_system, is_master, link_at, opened}
 use Rattle.precision_law.proofs.words.Runs.{Cuts, IsFaulty, IsLinkOf, NotMaster, any_first, any_later, breaks_at, events_up_to, in_filter, is_broken, is_faulty}
 use Rattle.precision_law.proofs.words.Runs.{parted, same_some}
 use Rattle.precision_law.proofs.words.Std.{◌++◌, ◌∙◌, ◌∷◌, ◌≡◌, Any, IsSomeAnd, List, Option, Some, [], ap, arith, both_ways, eqb-true, false_from_ne_true, inl}
 use Rattle.precision_law.proofs.words.Std.{inr, is_some, le-leb, leb-true, nat_le, not_from_true, refl, subst, sym, true, ℕ}
 use Rattle.net_plan.specs.declared.event.What.TheVariants as events
+use Rattle.run_law.proofs.records.Members.{in_kept}
+use Rattle.net_plan.proofs.SameIds.{same_device}
 
 -- ---- broken devices
 
@@ -17,17 +19,13 @@ pub breaks_it : (place : ℕ) (what : What) → breaks_at place what ≡ true �
 breaks_it place (events.Break d) e = (d, refl, eqb-true d.0 place e)
 breaks_it place other e = absurd cc
 
--- the device of an id
-pub device_of_place : (d : DeviceId) (e : DeviceId) → d.0 ≡ e.0 → d ≡ e
-device_of_place d e same = ap (λ (n : ℕ). let x : DeviceId = record { 0 = n } in x) same
-
 -- a broken device is a master
 pub bad_is_master : (v : View) (device : DeviceId) → IsView v → IsBad v device
     → (IsSomeAnd (device_at v.scenario.network device) (λ d. is_master d.role ≡ true) → ⊥) → ⊥
 bad_is_master v device is bad no_master =
     let found = any_in (λ (e : Event). breaks_at device.0 e.what) (events_up_to v.scenario v.until) bad in
     let breaks = breaks_it device.0 found.0.what found.2 in
-    let same = device_of_place breaks.0 device breaks.2 in
+    let same = same_device breaks.0 device breaks.2 in
     let at = parted found.0 v.scenario.events (in_filter (λ e. nat_le (amount e.time) v.until) v.scenario.events found.0 found.1) in
     is.lawful.within at.0 at.1 found.0 at.2 NotMaster (record { device = device; breaks = breaks.1 ∙ ap events.Break same; no_master = no_master })
 
@@ -42,14 +40,23 @@ switches_are_good v channel device is switch =
 
 pub good_is_correct : GoodIsCorrect
 good_is_correct v device t good le =
-    false_from_ne_true (is_broken v.scenario device t) (λ broken.
-    let found = any_in (λ (e : Event). breaks_at device.0 e.what) (events_up_to v.scenario t) broken in
-    let test = λ (u : ℕ) (x : Event). nat_le (amount x.time) u in
-    let early = leb-true (amount found.0.time) t (has_passed (test t) v.scenario.events found.0 found.1) in
-    let later = in_kept (test v.until) v.scenario.events found.0 (in_filter (test t) v.scenario.events found.0 found.1)
-    (le-leb (amount found.0.time) v.until (omega (arith, early, le))) in
-    both_ways (is_broken v.scenario device v.until) good
-    (in_any (λ (e : Event). breaks_at device.0 e.what) (events_up_to v.scenario v.until) found.0 later found.2))
+    grind (
+      arith,
+      false_from_ne_true,
+      is_broken,
+      any_in,
+      breaks_at,
+      events_up_to,
+      nat_le,
+      amount,
+      leb-true,
+      has_passed,
+      in_kept,
+      in_filter,
+      le-leb,
+      both_ways,
+      in_any,
+    )
 
 -- ---- channels
 
@@ -71,12 +78,7 @@ first_cut_is_one (x ∷ before) (y ∷ before') behind behind' cut cut' link lin
 -- a link is of one channel
 pub link_of_one : (n : Network) (c d : Channel) (link : LinkId) → IsLinkOf n c link → IsLinkOf n d link → c ≡ d
 link_of_one n c d link one other =
-    let l = opened (λ (x : Link). IsSwitchOf n c x.parent) (link_at n link) one in
-    let m = opened (λ (x : Link). IsSwitchOf n d x.parent) (link_at n link) other in
-    let p = opened (λ (x : Device). x.channel ≡ Some c) (device_at n l.0.parent) l.2 in
-    let at : IsSwitchOf n d l.0.parent = subst (λ (x : Link). IsSwitchOf n d x.parent) (same_some (link_at n link) m.0 l.0 m.1 l.1) m.2 in
-    let q = opened (λ (x : Device). x.channel ≡ Some d) (device_at n l.0.parent) at in
-    same_some p.0.channel c d p.2 (subst (λ (x : Device). x.channel ≡ Some d) (same_some (device_at n l.0.parent) q.0 p.0 q.1 p.1) q.2)
+    grind (arith, opened, link_at, device_at, same_some)
 
 -- no two channels are faulty
 pub one_is_faulty : (n : Network) (es : List Event) (c d : Channel) → ((x y : Channel) → HasOffSwitch n x → HasOffSwitch n y → x ≡ y) → IsFaulty n es c

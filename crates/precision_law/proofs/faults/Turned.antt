@@ -1,21 +1,19 @@
 -- A device that has the common time is not just turned on.
 use Rattle.run_law.proofs.scenario.Devices.{on_by}
-use Rattle.sync_state.proofs.StateFacts.{before_hearing}
-use Rattle.precision_law.proofs.block.Joins.{integrates_by, ripe_integrates}
-use Rattle.precision_law.proofs.words.Clocks.{Keeps, any_in, any_of_in, before_of, earlier_before, earlier_judge, in_earlier, kept_by_all, kept_if}
+use Rattle.precision_law.proofs.words.Clocks.{Keeps, any_in, any_of_in, before_of, earlier_before, in_earlier, kept_by_all, kept_if}
 use Rattle.precision_law.proofs.words.{Clocks.{point_has_time, same_device}, Laws.{AreBeforeCorrections, IsView, NoneTurnsOn, View, has_time, state_left}}
-use Rattle.precision_law.proofs.words.Plans.{Device, DeviceId, Event, Integrating, Joining, Off, State, Units, amount, device_at, state_at_start}
-use Rattle.precision_law.proofs.words.Runs.{BecomesPermanent, ChangesState, Emits, Happening, Integrates, IsCaused, IsEventRecord, IsIn, NotOff, NoteBody}
-use Rattle.precision_law.proofs.words.Runs.{Scenario, TurnsOn, Why, adjustment_at_hearing, before_permanence, earlier, founded_at, has_joined_at, in_at}
-use Rattle.precision_law.proofs.words.Runs.{in_left, in_parts, in_right, is_joined_by, is_off, is_turned_on_at, numbered_in, observation_window, parted}
-use Rattle.precision_law.proofs.words.Runs.{plan_of, points_of, start_of, state_after, state_at_hearing, state_before, time_of, turns_on}
-use Rattle.precision_law.proofs.words.Std.{if◌then◌else◌, ◌&&◌, ◌++◌, ◌<◌, ◌==◌, ◌∙◌, ◌∷◌, ◌≡◌, ◌≤◌, Bool, IsNone, IsSomeAnd, List, None, Option, Some}
+use Rattle.precision_law.proofs.words.Plans.{Device, DeviceId, Event, Integrating, Joining, Off, State, amount, device_at, state_at_start}
+use Rattle.precision_law.proofs.words.Runs.{ChangesState, Happening, Integrates, IsCaused, IsEventRecord, IsIn, NotOff, NoteBody}
+use Rattle.precision_law.proofs.words.Runs.{Scenario, TurnsOn, Why, earlier, founded_at, in_at}
+use Rattle.precision_law.proofs.words.Runs.{in_left, in_parts, in_right, is_joined_by, is_off, is_turned_on_at, numbered_in, parted}
+use Rattle.precision_law.proofs.words.Runs.{start_of, state_after, state_before, time_of, turns_on}
+use Rattle.precision_law.proofs.words.Std.{if◌then◌else◌, ◌++◌, ◌<◌, ◌==◌, ◌∙◌, ◌∷◌, ◌≡◌, ◌≤◌, Bool, IsNone, IsSomeAnd, List, None, Option, Some}
 use Rattle.precision_law.proofs.words.Std.{and_parts, ap, append_assoc, arith, eqb-true, false, false_from_ne_true, inl, inr, not, option_and_then, refl, subst}
 use Rattle.precision_law.proofs.words.Std.{suc, sym, true, zero, ℕ}
 use Rattle.net_plan.specs.declared.event.What.TheVariants as events
 use Rattle.run_law.specs.declared.judgement.Why.TheVariants as whys
 use Rattle.run_law.specs.declared.note.NoteBody.TheVariants as notes
-use Rattle.run_law.specs.declared.steps.Ripe.TheVariants as ripe
+use Rattle.run_law.proofs.control.Joined.{looking_by}
 
 -- ---- states
 
@@ -28,25 +26,6 @@ timed_on Off e = absurd cc
 timed_on Integrating e = absurd cc
 timed_on state e = refl
 
--- so does one that a frame tells the time
-pub looking_by : (s : Scenario) (ps : List Happening) (time : Units) (device : DeviceId) (body : NoteBody) → is_joined_by device body ≡ true
-    → IsCaused s ps time body → state_before s ps device (amount time) ≡ Integrating
-looking_by s ps time device (notes.Permanent other link cause point Integrates) joined caused =
-    let c = subst (λ (d : DeviceId). BecomesPermanent s ps d (amount time) link cause point ripe.Integrates) (same_device device other joined) caused in
-    let judged = before_permanence ps device (amount time) link cause c.frame point in
-    let looks = (ripe_integrates s.network device (state_at_hearing s judged device (amount time)) (adjustment_at_hearing s judged device (amount time)).0
-    (points_of judged device) c.frame point.0 c.becomes).1.looks in
-    let before = before_hearing (has_joined_at judged device (amount time)) (state_before s judged device (amount time)) looks in
-    sym (ap (λ (hs : List Happening). if is_turned_on_at s device (amount time) then Integrating else state_after s hs device)
-    (earlier_judge ps (amount time) device link cause c.frame point)) ∙ before
-looking_by s ps time device (notes.Compressed other opened at cycle members Integrates) joined caused =
-    let c = subst (λ (d : DeviceId). Emits s ps d (amount time) (record { opened = opened; at = at; cycle = cycle; members = members }) Integrates)
-    (same_device device other joined) caused in
-    let looks = (integrates_by (plan_of s.network device) (observation_window s.network) (state_at_hearing s ps device (amount time))
-    (adjustment_at_hearing s ps device (amount time)).0 at.0 cycle members (sym c.heard)).looks in
-    before_hearing (has_joined_at ps device (amount time)) (state_before s ps device (amount time)) looks
-looking_by s ps time device other joined caused = absurd cc
-
 -- ---- events
 
 -- the event that turns the device on at a time
@@ -58,9 +37,7 @@ pub record IsTurnedAt (s : Scenario) (device : DeviceId) (t : ℕ) : Type 0 wher
 
 pub turned_at : (s : Scenario) (device : DeviceId) (t : ℕ) → is_turned_on_at s device t ≡ true → IsTurnedAt s device t
 turned_at s device t e =
-    let found = any_in (λ (x : Event). turns_on device x.what && amount x.time == t) s.events e in
-    let both = and_parts (turns_on device found.0.what) (amount found.0.time == t) found.2 in
-    record { event = found.0; there = found.1; turns = on_by device found.0.what both.0; at = eqb-true (amount found.0.time) t both.1 }
+    grind (arith, any_in, turns_on, amount, and_parts, on_by, eqb-true)
 
 -- ---- a device that begins off stays so
 

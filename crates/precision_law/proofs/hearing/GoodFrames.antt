@@ -9,7 +9,7 @@ use Rattle.precision_law.proofs.words.Plans.{Channel, DeviceId, IsCmOf, Joining,
 use Rattle.precision_law.proofs.words.Plans.{int_le-true}
 use Rattle.precision_law.proofs.words.Runs.{Happening, IsCaused, Judgement, Within, before_permanence, cycle_in, founded_at, frame_by, heard_as, heard_by}
 use Rattle.precision_law.proofs.words.Runs.{hearing_by, last_cycle, observation_window, plan_of, same_judgement, time_of}
-use Rattle.precision_law.proofs.words.Std.{if◌then◌else◌, ◌+ℤ◌, ◌-ℤ◌, ◌<ℤ◌, ◌<◌, ◌==◌, ◌∙◌, ◌≡◌, ◌≤ℤ◌, ◌≤◌, ◌⊎◌, Bool, List, MatchBool-at_false, None, Option}
+use Rattle.precision_law.proofs.words.Std.{if◌then◌else◌, ◌+ℤ◌, ◌-ℤ◌, ◌<ℤ◌, ◌<◌, ◌==◌, ◌∙◌, ◌≡◌, ◌≤ℤ◌, ◌≤◌, ◌⊎◌, Bool, List, MatchBool-at_false, Option}
 use Rattle.precision_law.proofs.words.Std.{Some, ap, arith, eq-eqb, inl, inr, ints, le-leb, nat_le, option_and_then, option_map, option_map_or, pos, refl}
 use Rattle.precision_law.proofs.words.Std.{subst, suc, sym, true, ℕ, ℤ}
 use Rattle.run_law.specs.declared.note.NoteBody.TheVariants as notes
@@ -73,10 +73,7 @@ if_same n x y = ap (λ (b : Bool). if b then x else y) (eq-eqb n n refl)
 -- a frame that was heard within its time is a hearing
 pub heard_within_by : (v : View) (device : DeviceId) (channel : Channel) (point : ℤ) (h : Happening) → HearsBy v device channel point Within h
     → (at : Units) × (hearing_by v.scenario.network device h h.note.body ≡ Some (heard_by channel h at true))
-heard_within_by v device channel point h hears = elim hears.how [
-  | inl far ↦ (far.2, ap (hearing_by v.scenario.network device h) far.3 ∙ if_same device.0 _ None ∙ ap (option_map (λ c. heard_by c h far.2 true)) far.4)
-  | inr own ↦ (own.1, ap (hearing_by v.scenario.network device h) own.4 ∙ if_same device.0 _ None ∙ ap (option_map (λ c. heard_by c h own.1 true)) own.5)
-]
+heard_within_by v device channel point h hears = grind (arith, hearing_by, if_same, option_map, heard_by)
 
 -- ---- old devices at their points
 

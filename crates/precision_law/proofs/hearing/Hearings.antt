@@ -1,13 +1,13 @@
 -- What a device hears is a frame that a compression master sent.
 use Rattle.tte_lemmas.proofs.Options.{passed}
 use Rattle.precision_law.proofs.{records.Points.before_of, trips.Descents.{emission_shows, frames_down_are_of_cms}}
-use Rattle.precision_law.proofs.words.Laws.{HearingsAreOfFrames, IsEmission, IsOfHearer, IsView, Sizes, View, expectation}
+use Rattle.precision_law.proofs.words.Laws.{HearingsAreOfFrames, IsEmission, IsOfHearer, IsView, View, expectation}
 use Rattle.precision_law.proofs.words.Plans.{Channel, Device, DeviceId, Down, IsDeviceInRange, Joints, Link, LinkId, Network, Pcf, Point, Relay, Role, Taken}
 use Rattle.precision_law.proofs.words.Plans.{Up, all_at, amount, compression_time, device_at, is_end_system, link_at, opened}
 use Rattle.precision_law.proofs.words.Runs.{Happening, Integrates, IsCaused, IsCollectedOrDropped, IsIn, IsPermanenceOutcome, Judgement, Outside, Reason}
 use Rattle.precision_law.proofs.words.Runs.{Within, cause_of, cycle_in, expected_by, founded_at, frame_by, in_left, is_cm, is_cm_role, is_parent_of}
 use Rattle.precision_law.proofs.words.Runs.{is_relay_role, numbered, numbered_front, numbered_in, ripe_as, ripe_by_role, waits_for, way_to}
-use Rattle.precision_law.proofs.words.Std.{if◌then◌else◌, ◌*◌, ◌+◌, ◌==◌, ◌∙◌, ◌∷◌, ◌≡◌, Bool, List, MatchBool-at_true, None, Option, Some, ap, arith}
+use Rattle.precision_law.proofs.words.Std.{if◌then◌else◌, ◌+◌, ◌==◌, ◌∙◌, ◌∷◌, ◌≡◌, Bool, List, MatchBool-at_true, None, Option, Some, ap, arith}
 use Rattle.precision_law.proofs.words.Std.{both_ways, eqb-true, false, false_from_ne_true, inl, inr, is_some, not-true, option_and_then, option_map_or, refl}
 use Rattle.precision_law.proofs.words.Std.{subst, sym, true, ℕ, ℤ}
 use Rattle.compression.specs.declared.taken.Taken.TheVariants as taken
@@ -71,9 +71,7 @@ hearer_down v device link is cm waits =
 expected_is : (v : View) (device : DeviceId) (b : Bool) → IsView v → is_cm v.scenario.network device ≡ b
     → expected_by v.scenario.network device ≡ (if b then v.sizes.dmax + v.sizes.compression else expectation v.sizes)
 expected_is v device b is cm =
-    let n = v.scenario.network in
-    ap (λ (x : Bool). if x then amount n.dmax + compression_time n else 2 * amount n.dmax + compression_time n) cm
-    ∙ sym (ap (λ (s : Sizes). if b then s.dmax + s.compression else expectation s) is.sizes)
+    grind (arith, amount, compression_time, expectation)
 
 pub hearings_are_of_frames : HearingsAreOfFrames
 hearings_are_of_frames v device channel point judgement h is hearer hears = elim hears.how [

@@ -3,7 +3,7 @@
 use Rattle.precision_law.proofs.{block.Onward.firm_good, hearing.{GoodFrames.{IsAtPoint, sooner}, Timely.of_channel_is}, trips.Gates.are_open_from}
 use Rattle.precision_law.proofs.words.Blocks.{AreUpTo, EndsSo, before_narrow, cm_of, earlier_in_block, ends_so, follows_before, hears_as_at, judged_at}
 use Rattle.precision_law.proofs.words.Blocks.{next_first, not_turned_on_then, one_cm, sound_frames_go_down, up_to_then}
-use Rattle.precision_law.proofs.words.Clocks.{IsRipeArrival, before_of, before_place, child_not_parent, cm_is_no_end, device_of, device_of_place}
+use Rattle.precision_law.proofs.words.Clocks.{IsRipeArrival, before_of, before_place, child_not_parent, cm_is_no_end, device_of}
 use Rattle.precision_law.proofs.words.Clocks.{emission_shows, frames_come_first, is_heard_of, place_of_ripe, receiver_down, room, switches_are_good, time_stays}
 use Rattle.precision_law.proofs.words.Laws.{BlocksGoSo, HearsBy, Hull, IsBrought, IsEmission, IsFirm, IsInBlock, IsNearHull, IsOfHearer, IsSoundSwitch, IsTrip}
 use Rattle.precision_law.proofs.words.Laws.{IsView, Leg, Stands, View, base_of, epoch_time, first_correction, first_dispatch, has_time, hull_of, state_left}
@@ -16,6 +16,7 @@ use Rattle.precision_law.proofs.words.Std.{if◌then◌else◌, ◌+◌, ◌<ℤ
 use Rattle.precision_law.proofs.words.Std.{cases_eq, false, false_from_ne_true, inl, inr, ints, not, option_and_then, option_map_or, pos, refl, subst, suc, sym}
 use Rattle.precision_law.proofs.words.Std.{true, unsigned_abs, ℕ, ℤ}
 use Rattle.run_law.specs.declared.note.NoteBody.TheVariants as notes
+use Rattle.net_plan.proofs.SameIds.{same_device}
 
 -- ---- when it is sent
 
@@ -214,6 +215,6 @@ module _ (v : View) (n t : ℕ) (block : IsInBlock v n t) (is : IsView v) (devic
   pub receives : BlocksGoSo → Receives v n block.before device members
   receives goes =
       elim (cases_eq device.0 cm.0) [
-        | inl same ↦ own_frame (device_of_place cm device (sym same))
+        | inl same ↦ own_frame (same_device cm device (sym same))
         | inr differs ↦ brought_frame goes (λ d. differs (ap (λ (x : DeviceId). x.0) d))
       ]

@@ -65,9 +65,7 @@ path_member v channel device (link ∷ links) is path =
 pub cm_of : (v : View) (cm : DeviceId) (channel : Channel) → is_cm v.scenario.network cm ≡ true → channel_of v.scenario.network cm ≡ Some channel
     → IsCmOf v.scenario.network channel cm
 cm_of v cm channel is_one of =
-    let d = device_of is_cm_role (device_at v.scenario.network cm) is_one in
-    let mine = sym (ap (λ (o : Option Device). option_and_then (λ x. x.channel) o) d.1) ∙ of in
-    closed (λ (x : Device). (x.role ≡ Cm) × (x.channel ≡ Some channel)) (device_at v.scenario.network cm) d.0 d.1 (cm_role d.0.role d.2, mine)
+    grind (arith, device_of, is_cm_role, device_at, option_and_then, closed, cm_role)
 
 -- ---- frames from afar
 

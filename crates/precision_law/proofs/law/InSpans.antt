@@ -17,10 +17,7 @@ one_span : (s : Scenario) (hs : List Happening) (t cycle : ℕ) (first last leas
     → AreFromTo s hs t cycle least greatest → (first ≡ least) × (last ≡ greatest)
 one_span s hs t zero first last least greatest a b = (a.0 ∙ sym b.0, a.1 ∙ sym b.1)
 one_span s hs t (suc c) first last least greatest a b =
-    let four = (b.each a.latest a.is_latest).1 in (
-      omega (arith, ints, (a.each b.earliest b.is_earliest).0, b.first_is, (b.each a.earliest a.is_earliest).0, a.first_is),
-      omega (arith, ints, four, a.last_is, (a.each b.latest b.is_latest).1, b.last_is),
-    )
+    grind (arith, ints)
 
 -- ---- the block of the span
 

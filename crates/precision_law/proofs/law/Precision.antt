@@ -7,7 +7,7 @@ use Rattle.precision_law.proofs.words.Plans.{AsyncClique, Channel, Cleared, Corr
 use Rattle.precision_law.proofs.words.Plans.{Verdict, beta_at, beta_exists, rules_give_trees, shape_rules}
 use Rattle.precision_law.proofs.words.Runs.{AreClose, ChangesState, ComesToCorrection, Happening, IsCaused, IsIn, IsInStep, IsInStepBefore, Note, Scenario, Why}
 use Rattle.precision_law.proofs.words.Runs.{adjustment_after, earlier, founded_at, happenings, is_broken, is_end, is_turned_on_at, state_after, time_of, up_to}
-use Rattle.precision_law.proofs.words.Std.{◌+ℤ◌, ◌+◌, ◌∙◌, ◌≡◌, ◌≤◌, List, arith, cases_lt, false, inl, inr, le-leb, le-ltb, lt-leb, lt-ltb, nat_le, nat_lt}
+use Rattle.precision_law.proofs.words.Std.{◌+ℤ◌, ◌+◌, ◌≡◌, ◌≤◌, List, arith, cases_lt, false, inl, inr, le-leb, le-ltb, lt-leb, lt-ltb, nat_le, nat_lt}
 use Rattle.precision_law.proofs.words.Std.{pos, refl, subst, sym, true, ℕ}
 use Rattle.run_law.specs.declared.judgement.Why.TheVariants as whys
 use Rattle.run_law.specs.declared.note.NoteBody.TheVariants as notes
@@ -39,10 +39,7 @@ view_of s hs t channel at = record { scenario = s; until = t; records = at.cut.f
 -- ---- the records up to a time are those before the next
 
 pub up_to_is : (t : ℕ) (hs : List Happening) → up_to t hs ≡ earlier (t + 1) hs
-up_to_is t hs = same_kept (λ h. nat_le (time_of h) t) (λ h. nat_lt (time_of h) (t + 1)) hs (λ h i. elim (cases_lt (time_of h) (t + 1)) [
-  | inl lt ↦ le-leb (time_of h) t (omega arith) ∙ sym (lt-ltb (time_of h) (t + 1) lt)
-  | inr ge ↦ lt-leb (time_of h) t (omega arith) ∙ sym (le-ltb (time_of h) (t + 1) ge)
-])
+up_to_is t hs = grind (arith, same_kept, nat_le, time_of, nat_lt, cases_lt, le-leb, lt-ltb, lt-leb, le-ltb)
 
 -- ---- clocks stay together
 

@@ -5,24 +5,18 @@ use Rattle.precision_law.proofs.{faults.Masters.good_is_correct, records.Judged.
 use Rattle.precision_law.proofs.words.Plans.{AreClusters, Cluster, DeviceId, IsReach, LinkId, Pcf, Taken, amount, emission, one_list_of_clusters, point_at}
 use Rattle.precision_law.proofs.words.Plans.{point_of, role, units_of}
 use Rattle.precision_law.proofs.words.Runs.{AllBefore, BecomesPermanent, Emits, Happening, IsBefore, IsCaused, IsCollectedOrDropped, IsCollectionOutcome, IsDue}
-use Rattle.precision_law.proofs.words.Runs.{IsFounded, IsIn, IsJudgedBy, IsPermanenceOutcome, IsPermanent, IsSplit, Judgement, NoneBefore, Note, NoteBody}
-use Rattle.precision_law.proofs.words.Runs.{Reason, Scenario, adjustment_at_hearing, by_number, due_is_there, front_founded, happening, heard_as, in_front_of}
+use Rattle.precision_law.proofs.words.Runs.{IsFounded, IsIn, IsJudgedBy, IsPermanenceOutcome, IsPermanent, IsSplit, Judgement, NoneBefore, NoteBody}
+use Rattle.precision_law.proofs.words.Runs.{Reason, adjustment_at_hearing, by_number, due_is_there, front_founded, happening, heard_as, in_front_of}
 use Rattle.precision_law.proofs.words.Runs.{is_cm, key, master_of, members_in, numbered, observation_window, place_of, plan_of, point_fault, points_of, rank}
 use Rattle.precision_law.proofs.words.Runs.{ripe_as, sign, state_at_hearing, time_of, waits_for}
 use Rattle.precision_law.proofs.words.Std.{◌+◌, ◌∙◌, ◌∷◌, ◌≡◌, ◌≤◌, ◌⊎◌, Bool, Contains, List, MatchBool, None, Option, Some, [], ap, arith, false, inl, inr}
-use Rattle.precision_law.proofs.words.Std.{ints, length, option_and_then, option_map_or, pos, refl, subst, sym, true, unsigned_abs, ℕ, ℤ}
+use Rattle.precision_law.proofs.words.Std.{ints, option_and_then, option_map_or, pos, refl, subst, sym, true, unsigned_abs, ℕ, ℤ}
 use Rattle.compression.specs.declared.taken.Taken.TheVariants as taken
 use Rattle.run_law.specs.declared.judgement.Judgement.TheVariants as judgements
 use Rattle.run_law.specs.declared.note.NoteBody.TheVariants as notes
+use Rattle.run_law.proofs.law.FirstSent.{next_due, next_note}
 
 -- ---- what is sent
-
-abbrev pub next_note : List Happening → ℕ → NoteBody → Note
-next_note ps t body = record { number = length ps + 1; time = units_of t; body = body }
-
-pub next_due : (s : Scenario) (ps : List Happening) (t : ℕ) (body : NoteBody) → IsCaused s ps (units_of t) body
-    → IsDue s ps (happening s.network ps (next_note ps t body))
-next_due s ps t body cause = record { number = refl; same = refl; begun = omega (arith, ints); cause = cause }
 
 -- what a time of the run brings, given the records before its place, is recorded
 pub due_there : (v : View) (t : ℕ) (body : NoteBody) (p : List ℕ) (at : IsSplit place_of v.records p) → IsView v → t ≤ v.until
@@ -137,18 +131,8 @@ is_recorded v device arrival link frame point q verdict is r at becomes =
     let found : numbered at.front number ≡ Some arrival = by_number s at.front arrival front (in_front_of _ _ _ at arrival r.there sooner) in
     let dmax_is : n.dmax.0 ≡ pos v.sizes.dmax = (let least = is.lawful.range.dmax.least in let size : v.sizes.dmax ≡ amount n.dmax = ap (λ (x : Sizes). x.dmax)
     is.sizes in omega (arith, ints, least, size)) in
-    let permanent : IsPermanent s at.front device q link number frame (record { 0 = point }) = record {
-      arrival = arrival;
-      there = found;
-      from = p.from;
-      clock = p.clock;
-      arrived = arrives;
-      of_frame = r.of_frame;
-      waits = r.waits;
-      at_point = p.at_point ∙ ap (point_of (pos (s.reading device (time_of arrival))) p.clock) (sym dmax_is);
-      reached = p.reached;
-      correct = good_is_correct v device q r.good r.in_run;
-    } in
+    let permanent : IsPermanent s at.front device q link number frame (record { 0 = point }) =
+    grind (arith, found, p.from, p.clock, arrives, p.at_point, point_of, s.reading, time_of, dmax_is, p.reached, good_is_correct) in
     let judged = subst (λ (hs : List Happening). IsJudgedBy s hs device q frame (record { 0 = point }) (ripe_as verdict))
     (sym (all_judge at.front q device link number frame (record { 0 = point }) at.before)) becomes in
     let ripens : BecomesPermanent s at.front device q link number (record { 0 = point }) (ripe_as verdict) =

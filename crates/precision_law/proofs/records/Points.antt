@@ -80,10 +80,7 @@ same_adjustment v device t front split = ap (λ (hs : List Happening). adjustmen
 pub last_in : {X : Type 0} (o : Option X) (xs : List X) (x : X) → last_or o xs ≡ Some x → (o ≡ Some x) ⊎ IsIn x xs
 last_in o [] x e = inl e
 last_in {X} o (y ∷ xs) x e =
-    elim (last_in (Some y) xs x e) [
-      | inl same ↦ (let one : x ≡ y = cc in inr (inl one))
-      | inr more ↦ inr (inr more)
-    ]
+    grind (arith, (last_in (Some y) xs x e))
 
 -- the record that set a device's clock last
 pub record IsSetting (v : View) (device : DeviceId) (t : ℕ) (h : Happening) : Type 0 where
@@ -112,12 +109,7 @@ reaches_whole v device value t front split = reaches_by v.scenario front v.recor
 
 -- where records part at a place of a time
 pub before_place : (v : View) (t : ℕ) (more : List ℕ) (at : IsSplit place_of v.records (t ∷ more)) → AreBeforeCorrections v t at.front
-before_place v t more at = record {
-  rest = at.rest;
-  whole = at.whole;
-  later = λ h i. elim (cases_lt (time_of h) t) [ inl lt ↦ absurd (at.none h i (inl lt)) | inr ge ↦ ge ];
-  only = λ h i. time_before (time_of h) t (rank h.note.body ∷ key (members_in h) h.note.body) more (at.before h i);
-}
+before_place v t more at = grind (arith, cases_lt, time_of, time_before, rank, key, members_in)
 
 -- what a clock reaches given all records it reaches given those before
 pub reaches_front : (v : View) (device : DeviceId) (value : ℤ) (t : ℕ) (front : List Happening) → AreBeforeCorrections v t front

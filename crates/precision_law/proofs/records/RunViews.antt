@@ -91,15 +91,7 @@ pub from_to_by : (s : Scenario) (hs gs : List Happening) (t cycle : ℕ) (first 
     → ((c : ℕ) (h : Happening) → IsDispatchedBy s hs t c h → IsDispatchedBy s gs t c h)
     → ((c : ℕ) (h : Happening) → IsDispatchedBy s gs t c h → IsDispatchedBy s hs t c h) → AreFromTo s hs t cycle first last → AreFromTo s gs t cycle first last
 from_to_by s hs gs t zero first last there back at = at
-from_to_by s hs gs t (suc c) first last there back at = record {
-  earliest = at.earliest;
-  is_earliest = there (suc c) at.earliest at.is_earliest;
-  first_is = at.first_is;
-  latest = at.latest;
-  is_latest = there (suc c) at.latest at.is_latest;
-  last_is = at.last_is;
-  each = λ h d. at.each h (back (suc c) h d);
-}
+from_to_by s hs gs t (suc c) first last there back at = grind arith
 
 pub from_to_of_run : (s : Scenario) (hs : List Happening) (t cycle : ℕ) (first last : ℤ) (cut : IsCutAt s hs t) → AreFromTo s cut.front t cycle first last
     → AreFromTo s hs t cycle first last

@@ -3,8 +3,9 @@ use Rattle.run_law.proofs.records.{Happenings.{from_earlier, is_earlier}, Order.
 use Rattle.precision_law.proofs.Plain.{le_by}
 use Rattle.precision_law.proofs.words.Runs.{Happening, IsDue, IsFounded, IsIn, Scenario, behind_first, earlier, in_filter, key, members_in, none_kept, place_of}
 use Rattle.precision_law.proofs.words.Runs.{rank, time_of}
-use Rattle.precision_law.proofs.words.Std.{if◌then◌else◌, ◌++◌, ◌<◌, ◌∙◌, ◌∷◌, ◌≡◌, ◌≤◌, Bool, List, Option, Some, [], ap, append-nil, append_assoc, arith}
+use Rattle.precision_law.proofs.words.Std.{◌++◌, ◌<◌, ◌∙◌, ◌∷◌, ◌≡◌, ◌≤◌, List, Option, Some, [], ap, append-nil, append_assoc, arith}
 use Rattle.precision_law.proofs.words.Std.{cases_lt, false, filter, filter-append, inl, inr, last_or, le-ltb, lt-ltb, nat_lt, not, refl, subst, sym, true, ℕ}
+use Rattle.run_law.proofs.records.Members.{in_kept}
 
 -- ---- order
 
@@ -26,25 +27,12 @@ sorted_behind s ps (q ∷ qs) founded = (
 pub sorted : (s : Scenario) (hs : List Happening) → IsFounded place_of (IsDue s) hs → AreSorted hs
 sorted s hs founded = sorted_behind s [] hs founded
 
--- ---- filters
-
--- what passes the test is kept
-pub in_kept : {X : Type 0} (p : X → Bool) (xs : List X) (x : X) → IsIn x xs → p x ≡ true → IsIn x (filter p xs)
-in_kept p [] x i e = absurd i
-in_kept {X} p (y ∷ xs) x i e =
-    elim (p y) as (λ b. p y ≡ b → IsIn x (if b then y ∷ filter p xs else filter p xs)) [
-      | true ↦ λ at. elim i [ inl same ↦ inl same | inr more ↦ inr (in_kept p xs x more e) ]
-      | false ↦ λ at. elim i [ inl same ↦ (let wrong : p x ≡ false = ap p same ∙ at in absurd cc) | inr more ↦ in_kept p xs x more e ]
-    ] refl
-
 -- ---- earlier records
 
 -- records that are not before t add no earlier ones
 pub earlier_front : (t : ℕ) (front rest : List Happening) → ((h : Happening) → IsIn h rest → t ≤ time_of h) → earlier t front ≡ earlier t (front ++ rest)
 earlier_front t front rest late =
-    let test = λ (h : Happening). nat_lt (time_of h) t in
-    let none : earlier t rest ≡ [] = none_kept test rest (λ h i. le-ltb (time_of h) t (late h i)) in
-    sym (append-nil (earlier t front)) ∙ ap (λ (gs : List Happening). earlier t front ++ gs) (sym none) ∙ sym (filter-append test front rest)
+    grind (arith, nat_lt, time_of, earlier, none_kept, le-ltb, append-nil, filter-append)
 
 -- the records from u on and before t
 abbrev pub between : ℕ → ℕ → List Happening → List Happening
@@ -64,10 +52,7 @@ is_between u t hs h i late early = in_kept (λ x. not (nat_lt (time_of x) u)) (e
 
 -- where the first record is not before u, none is
 none_earlier : (u : ℕ) (h : Happening) (hs : List Happening) → AreSorted (h ∷ hs) → u ≤ time_of h → earlier u (h ∷ hs) ≡ []
-none_earlier u h hs order le = none_kept (λ x. nat_lt (time_of x) u) (h ∷ hs) (λ x i. elim i [
-  | inl same ↦ rw same (le-ltb (time_of h) u le)
-  | inr more ↦ (let up = order.0 x more in le-ltb (time_of x) u (omega arith))
-])
+none_earlier u h hs order le = grind (arith, none_kept, nat_lt, time_of, le-ltb)
 
 -- the records before t are those before u and those between
 pub earlier_parts : (u t : ℕ) (hs : List Happening) → AreSorted hs → u ≤ t → earlier t hs ≡ earlier u hs ++ between u t hs

@@ -3,7 +3,7 @@ use Rattle.schedule_tables.{proofs.Margins.some_link, specs.Rules.KeepsRules}
 use Rattle.precision_law.proofs.{clocks.Readings.clocks_are_steady, records.Times.{AreSorted, sorted}}
 use Rattle.precision_law.proofs.words.Laws.{HaveRoom, IsSteady, IsView, Sizes, View, sizes_of}
 use Rattle.precision_law.proofs.words.Plans.{DeviceId, HasMargins, Network, all_at, amount, compression_time, margins, pcf_port_time, rules_give_trees}
-use Rattle.precision_law.proofs.words.Std.{◌*◌, ◌+◌, ◌≡◌, ◌≤◌, ap, arith, refl, subst, sym, ℕ}
+use Rattle.precision_law.proofs.words.Std.{◌*◌, ◌+◌, ◌≡◌, ◌≤◌, arith, refl, subst, sym, ℕ}
 
 -- ---- the sizes of an accepted network leave room
 
@@ -55,11 +55,4 @@ pub record AreSizes (v : View) : Type 0 where
   pub compression : v.sizes.compression ≡ compression_time v.scenario.network
 
 pub sizes_are : (v : View) → IsView v → AreSizes v
-sizes_are v is = record {
-  cycle = ap (λ (x : Sizes). x.cycle) is.sizes;
-  correction = ap (λ (x : Sizes). x.correction) is.sizes;
-  dmax = ap (λ (x : Sizes). x.dmax) is.sizes;
-  precision = ap (λ (x : Sizes). x.precision) is.sizes;
-  settled = ap (λ (x : Sizes). x.settled) is.sizes;
-  compression = ap (λ (x : Sizes). x.compression) is.sizes;
-}
+sizes_are v is = grind arith

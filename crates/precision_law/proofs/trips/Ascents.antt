@@ -2,10 +2,10 @@
 use Rattle.net_plan.specs.declared.ids.VlId.{VlId}
 use Rattle.pcf_codec.specs.{Decoding.decoded, EtherType.pcf_type}
 use Rattle.run_law.{proofs.{law.FirstDelays.given, records.Order.in_any, scenario.Devices.shown_parent}, specs.control.Leaving.Passes}
-use Rattle.run_law.specs.{records.Causes.GoesBackTo, timed.Arrivals.{entry_arrival, entry_entering, octets_fault, octets_or_fault, taken_or_fault}}
+use Rattle.run_law.specs.{records.Causes.GoesBackTo, timed.Arrivals.taken_or_fault}
 use Rattle.schedule_tables.{proofs.Margins.master_ends, specs.declared.entry.Entry.Entry}
 use Rattle.tte_lemmas.proofs.Options.{mapped, some_of}
-use Rattle.precision_law.proofs.{Plain.{any_is, device_of}, faults.Masters.bad_is_master, records.{Points.within_run, Times.in_kept}}
+use Rattle.precision_law.proofs.{Plain.{any_is, device_of}, faults.Masters.bad_is_master, records.Points.within_run}
 use Rattle.precision_law.proofs.trips.Legs.{HasLeg, IsPutAs, child_channel, child_not_parent, child_ways, gives_down, has_leg, parent_channel, parent_ways}
 use Rattle.precision_law.proofs.trips.{Legs.{receiver_way, same_cycle, trip_more}, Paths.{TakesWith, clocked, frame_is, taken_as, taken_sound}}
 use Rattle.precision_law.proofs.words.Laws.{FramesUpAreOfMasters, IsBad, IsOfBad, IsOfGood, IsTrip, IsView, Leg, View}
@@ -23,6 +23,7 @@ use Rattle.precision_law.proofs.words.Std.{unwrap_or, zero, ℕ}
 use Rattle.net_plan.specs.declared.event.What.TheVariants as events
 use Rattle.run_law.specs.declared.note.NoteBody.TheVariants as notes
 use Rattle.run_law.specs.declared.steps.Arrival.TheVariants as arrivals
+use Rattle.run_law.proofs.records.Members.{in_kept}
 
 -- ---- masters
 
@@ -104,16 +105,7 @@ never_fault n device at entry None taken c = never_taken (is_end n device) _ _ t
 pub never_timed : (v : View) (ps : List Happening) (t : ℕ) (device : DeviceId) (link : LinkId) (cause : ℕ) (octets : List ℕ) (taken : Pcf)
     → TakesWith (arrival_of v.scenario ps device t link cause (timed octets)) taken → ⊥
 never_timed v ps t device link cause octets taken takes =
-    let n = v.scenario.network in
-    let at : Standpoint = standpoint v.scenario ps device t in
-    let last = last_taken ps device t link cause in
-    elim (octets_fault n at octets) as (λ o. TakesWith (octets_or_fault n device link at octets last o) taken → ⊥) [
-      | Some reason ↦ λ c. c
-      | None ↦ elim (entry_entering n device link (field 4 2 octets)) as (λ o. TakesWith (entry_arrival n device at (length octets) last o) taken → ⊥) [
-        | None ↦ λ c. c
-        | Some entry ↦ λ c. never_fault n device at entry _ taken c
-      ]
-    ] takes
+    grind (arith, standpoint, last_taken, field, length, never_fault)
 
 -- the members are those of one whose frame is its own
 mine_is : (relay end : Bool) (o : Option ℕ) (members : Members) → (relay && end && are_others o members) ≡ false → relay ≡ true → end ≡ true → (m : ℕ)

@@ -64,11 +64,7 @@ child_ways v device link is child =
 
 -- who gives on a way down is the parent
 pub gives_down : (n : Network) (device : DeviceId) (link : LinkId) → way_from n device link ≡ Down → IsParentOf n device link
-gives_down n device link way = parent_shown n device link (by (is_parent_of n device link) way)
-  where
-    by : (b : Bool) → (if b then Down else Up) ≡ Down → b ≡ true
-    by true e = refl
-    by false e = absurd cc
+gives_down n device link way = grind (arith, parent_shown, is_parent_of)
 
 -- what a device receives on a way up it receives as the parent
 pub receiver_up : (n : Network) (link : LinkId) (device : DeviceId) → receiver_of n link Up ≡ Some device → IsParentOf n device link
@@ -141,10 +137,7 @@ trip_more v way first last next (l ∷ legs) leg trip giving arriving is =
 -- the frame keeps its cycle and members
 pub same_cycle : (h g : Happening) (frame : Pcf) (clock : ℕ) → g.frame ≡ Some frame → h.frame ≡ Some (with_clock clock frame) → (cycle_in g ≡ cycle_in h)
     × (members_in g ≡ members_in h)
-same_cycle h g frame clock a b = (
-  ap (λ (o : Option Pcf). option_map_or (λ f. f.cycle) o 0) a ∙ sym (ap (λ (o : Option Pcf). option_map_or (λ f. f.cycle) o 0) b),
-  ap (λ (o : Option Pcf). option_map_or (λ f. f.members.0) o 0) a ∙ sym (ap (λ (o : Option Pcf). option_map_or (λ f. f.members.0) o 0) b),
-)
+same_cycle h g frame clock a b = grind (arith, option_map_or)
 
 -- ---- the leg before a record
 

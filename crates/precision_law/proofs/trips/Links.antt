@@ -1,9 +1,9 @@
 -- A frame goes over a link: it leaves, and it arrives.
 use Rattle.run_law.proofs.records.Order.{ahead}
-use Rattle.precision_law.proofs.{records.Due.{due_there, next_note}, trips.Paths.{clocked, delay_is}, words.Laws.{IsLeg, IsView, View}}
+use Rattle.precision_law.proofs.{records.Due.due_there, trips.Paths.{clocked, delay_is}, words.Laws.{IsLeg, IsView, View}}
 use Rattle.precision_law.proofs.words.Plans.{DeviceId, Down, Integrating, IsLinkInRange, Link, LinkId, Measures, Network, Pcf, Units, Up, Way, all_at, amount}
 use Rattle.precision_law.proofs.words.Plans.{delay_by, link_at}
-use Rattle.precision_law.proofs.words.Runs.{Arrives, ArrivesAs, Departs, Gives, Happening, IsArrivedRecord, IsBefore, IsDue, IsFounded, IsIn, Launch, NoteBody}
+use Rattle.precision_law.proofs.words.Runs.{Arrives, ArrivesAs, Departs, Gives, Happening, IsArrivedRecord, IsBefore, IsDue, IsFounded, IsIn, NoteBody}
 use Rattle.precision_law.proofs.words.Runs.{Scenario, Standpoint, adjustment_after, by_number, clock_at_leaving, control, delay_at, delay_least, frame_fault}
 use Rattle.precision_law.proofs.words.Runs.{frame_or_fault, front_founded, happening, hold_at, hold_most, in_front_of, is_broken, is_cut, is_off, is_parent_of}
 use Rattle.precision_law.proofs.words.Runs.{is_relay, is_turned_on_at, key, leaves, members_in, numbered, on_cut_way, place_of, point_on_arrival, rank}
@@ -12,6 +12,7 @@ use Rattle.precision_law.proofs.words.Std.{if◌then◌else◌, ◌&&◌, ◌*�
 use Rattle.precision_law.proofs.words.Std.{false, inl, inr, le-ltb, mul-le-mul_left, nat_lt, not, option_map, option_map_or, refl, subst, sym, true, ℕ}
 use Rattle.run_law.specs.declared.note.NoteBody.TheVariants as notes
 use Rattle.run_law.specs.declared.steps.Arrival.TheVariants as arrivals
+use Rattle.run_law.proofs.law.FirstSent.{next_note}
 
 -- what gives a frame has a low rank
 gives_low : (n : Network) (body : NoteBody) (device : DeviceId) (link : LinkId) → Gives n body device link → rank body < 8
@@ -133,15 +134,8 @@ goes_over v way r frame sender receiver link l is g correct uncut young fair in_
     let front_by = front_founded place_of (IsDue s) by.front by.rest (subst (IsFounded place_of (IsDue s)) by.whole is.run.founded) in
     let found_by : numbered by.front leaving.note.number ≡ Some leaving = by_number s by.front leaving front_by
     (in_front_of place_of hs (u ∷ 2 ∷ receiver.0 ∷ link.0 ∷ leaving.note.number ∷ []) by leaving left_there (inl takes.1)) in
-    let arrives : Arrives s leaving receiver link u (control (Ok (with_clock clock frame))) = record {
-      way = way;
-      put =
-          ap (λ (o : Option Pcf). option_map (λ f. let x : Launch = record { link = link; way = way_from n sender link; signal = control (Ok f) } in x) o)
-          left_frame ∙ ap (λ (w : Way). Some (let x : Launch = record { link = link; way = w; signal = control (Ok (with_clock clock frame)) } in x))
-          g.from_way;
-      receiver = g.comes_to;
-      at = omega arith;
-    } in
+    let arrives : Arrives s leaving receiver link u (control (Ok (with_clock clock frame))) =
+    grind (arith, option_map, way_from, n, control, left_frame, with_clock, clock) in
     let stands = ap (standpoint_by s receiver u) (same_earlier u (2 ∷ receiver.0 ∷ link.0 ∷ leaving.note.number ∷ []) hs by) in
     let no_fault = ap (λ (p : Standpoint). frame_fault n receiver link p (with_clock clock frame)) stands ∙ fair clock small in
     let arrived : IsArrivedRecord s by.front receiver u link leaving.note.number then_clock =
@@ -158,21 +152,7 @@ goes_over v way r frame sender receiver link l is g correct uncut young fair in_
     record {
       leaving = leaving;
       arriving = arriving;
-      is = record {
-        sender = sender;
-        receiver = receiver;
-        given = g.given;
-        gives = g.gives;
-        left = left_there;
-        left_clock = clock;
-        leaves = refl;
-        arrived = there;
-        arrived_clock = then_clock;
-        arrives = refl;
-        from_way = g.from_way;
-        on_way = g.on_way;
-        comes_to = g.comes_to;
-      };
+      is = grind (arith, left_there, clock, leaves, arrived, there, then_clock, arrives);
       cause = leaving.note.number;
       clock = then_clock;
       body = refl;

@@ -1,14 +1,14 @@
 -- The sound channel delivers: up to its compression master, and down from it.
 use Rattle.pcf_values.specs.declared.pcf.PcfKind.TheVariants.{Integration}
-use Rattle.run_law.{proofs.device.States.joined_or, specs.declared.judgement.Reason.TheVariants.Off as IsOffReason}
+use Rattle.run_law.{proofs.device.States.joined_or}
 use Rattle.precision_law.proofs.{clocks.Readings.reach_is_there, faults.{Masters.good_is_correct, Ways.sound_switches_begin_on}, records.Views.{room, steady}}
 use Rattle.precision_law.proofs.words.Laws.{IsGood, IsOpen, IsPermanentAt, IsSoundSwitch, IsView, View}
 use Rattle.precision_law.proofs.words.Plans.{Device, DeviceId, Integrating, IsReach, LinkId, Network, Pcf, State, amount, device_at, point_of, state_at_start}
-use Rattle.precision_law.proofs.words.Runs.{BeginsOn, ChangesState, ColdStart, Domain, Gate, Happening, IsCaused, IsIn, Member, NoteBody, Old, Reason}
-use Rattle.precision_law.proofs.words.Runs.{Standpoint, Why, earlier, first_reason, founded_at, frame_fault, in_filter, is_cold_start, is_joined_by}
+use Rattle.precision_law.proofs.words.Runs.{BeginsOn, ChangesState, Happening, IsCaused, IsIn, NoteBody, Reason}
+use Rattle.precision_law.proofs.words.Runs.{Why, earlier, first_reason, founded_at, frame_fault, in_filter, is_cold_start, is_joined_by}
 use Rattle.precision_law.proofs.words.Runs.{is_of_other_member, is_off, is_turned_on_at, standpoint, start_of, state_after, state_before, state_with, time_of}
 use Rattle.precision_law.proofs.words.Runs.{wire_of, with_clock}
-use Rattle.precision_law.proofs.words.Std.{if◌then◌else◌, ◌&&◌, ◌+◌, ◌==◌, ◌∙◌, ◌∷◌, ◌≡◌, ◌≤◌, Bool, IsNone, IsSomeAnd, List, None, Option, Some, [], ap, arith}
+use Rattle.precision_law.proofs.words.Std.{if◌then◌else◌, ◌&&◌, ◌+◌, ◌==◌, ◌∙◌, ◌∷◌, ◌≡◌, ◌≤◌, Bool, List, None, [], ap, arith}
 use Rattle.precision_law.proofs.words.Std.{by_lt_z, eq-eqb, false, fold, inl, inr, ints, le-ltb, nat_lt, not, option_and_then, pos, refl, subst, true, ℕ, ℤ}
 use Rattle.run_law.specs.declared.judgement.Why.TheVariants as whys
 use Rattle.run_law.specs.declared.note.NoteBody.TheVariants as notes
@@ -38,12 +38,7 @@ fold_on v device (h ∷ hs) old is all on =
     fold_on v device hs (state_with device old h.note.body) is (λ g i. all g (inr i)) (stays_on v device h old h.note.body is (all h (inl refl)) refl on)
 
 starts_on : (network : Network) (device : DeviceId) → BeginsOn network device → is_off (state_at_start (start_of network device)) ≡ false
-starts_on network device on = by (device_at network device) on
-  where
-    by : (o : Option Device) → IsSomeAnd o (λ d. IsNone d.start → ⊥) → is_off (state_at_start (option_and_then (λ d. d.start) o)) ≡ false
-    by None on = absurd on
-    by (Some d) on =
-        elim d.start as (λ o. (IsNone o → ⊥) → is_off (state_at_start o) ≡ false) [ None ↦ λ never. absurd (never refl) | Some x ↦ λ never. refl ] on
+starts_on network device on = grind (arith, device_at, is_off, state_at_start, option_and_then)
 
 pub sound_switch_on : (v : View) (device : DeviceId) (t : ℕ) → IsView v → IsSoundSwitch v device → is_off (state_before v.scenario v.records device t) ≡ false
 sound_switch_on v device t is switch =
@@ -84,10 +79,7 @@ pub no_fault : (v : View) (device : DeviceId) (link : LinkId) (u clock : ℕ) (f
     → is_of_other_member v.scenario.network device link frame.members ≡ false → clock + wire_of v.scenario.network link ≤ amount v.scenario.network.dmax
     → frame_fault v.scenario.network device link (standpoint v.scenario v.records device u) (with_clock clock frame) ≡ None
 no_fault v device link u clock frame is clean good within on is_open member small =
-    let n = v.scenario.network in
-    let at : Standpoint = standpoint v.scenario v.records device u in
-    none_holds _ _ _ _ _ _ IsOffReason ColdStart Domain Member Old Gate (taking_part _ _ on (good_is_correct v device u good within))
-    (ap is_cold_start clean.kind) (same_domain _ _ _ _ clean.priority clean.domain) member (le-ltb (amount n.dmax) (clock + wire_of n link) small) is_open
+    grind (arith, standpoint, none_holds, taking_part, good_is_correct, is_cold_start, same_domain, le-ltb, amount, wire_of)
 
 -- ---- permanence
 

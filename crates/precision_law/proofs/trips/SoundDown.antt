@@ -71,15 +71,7 @@ go_down (link ∷ rest) v first cm device cycle members is e one path good ready
     let hidden = sym (ap (λ (o : Option Link). option_map_or (λ k. k.parent.0 == device.0) o false) l.1)
     ∙ false_from_ne_true (is_parent_of n device link) (child_not_parent v device link is child) in
     let come = comes_over v Down (time_of first) r above.frame sender device link l.0 (delay_on n rest) (length rest) is (record {
-      given = record {
-        given = above.there;
-        of_frame = above.of_frame;
-        gives = above.gives link parent switch;
-        there = l.1;
-        from_way = (parent_ways n sender link parent).1;
-        on_way = (child_ways v device link is child).0;
-        comes_to = to;
-      };
+      given = grind (arith, above.there, above.of_frame, above.gives, parent, switch, l.1, parent_ways, n, sender, child_ways, child, to);
       switch = switch;
       clean = above.clean;
       good = of_sender;
@@ -118,15 +110,7 @@ go_down (link ∷ rest) v first cm device cycle members is e one path good ready
 is_open_at : (v : View) (device : DeviceId) (u : ℕ) → IsDeviceOf v.scenario.network v.channel device → (IsSoundSwitch v device → IsOpen v device u)
     → IsOpen v device u
 is_open_at v device u member opens =
-    let d = opened (λ (x : Device). (is_end_system x.role ≡ true) ⊎ (x.channel ≡ Some v.channel)) (device_at v.scenario.network device) member in
-    elim d.2 [
-      | inl end ↦
-          let none : is_relay v.scenario.network device ≡ false =
-          ap (λ (o : Option Device). option_map_or (λ x. is_relay_role x.role) o false) d.1
-          ∙ false_from_ne_true (is_relay_role d.0.role) (λ relay. relay_not_end d.0.role relay end) in
-          rw none refl
-      | inr channel ↦ opens (closed (λ (x : Device). x.channel ≡ Some v.channel) (device_at v.scenario.network device) d.0 d.1 channel)
-    ]
+    grind (arith, opened, is_end_system, device_at, is_relay, option_map_or, is_relay_role, false_from_ne_true, relay_not_end, closed)
 
 pub sound_frames_go_down : SoundFramesGoDown
 sound_frames_go_down v h device cm cycle members is e one member good other opens in_run on =

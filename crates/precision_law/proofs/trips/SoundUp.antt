@@ -9,7 +9,7 @@ use Rattle.precision_law.proofs.words.Plans.{IsSwitchOf, Link, LinkId, Master, P
 use Rattle.precision_law.proofs.words.Plans.{is_end_system, is_master, link_at, margins, opened, rules_give_trees, shape_rules, target_by}
 use Rattle.precision_law.proofs.words.Runs.{Gives, Happening, IsCaused, IsIn, IsParentOf, NoteBody, are_others, dispatched_frame, founded_at, frame_by, is_end}
 use Rattle.precision_law.proofs.words.Runs.{is_of_other_member, is_relay, is_relay_role, member_of, receiver_of, same_some, time_of, with_clock}
-use Rattle.precision_law.proofs.words.Std.{◌&&◌, ◌+◌, ◌==◌, ◌^◌, ◌∙◌, ◌∷◌, ◌≡◌, ◌≤◌, ◌⊎◌, Bool, List, Option, Some, [], ap, arith, both_ways, eq-eqb, false}
+use Rattle.precision_law.proofs.words.Std.{◌&&◌, ◌+◌, ◌^◌, ◌∙◌, ◌∷◌, ◌≡◌, ◌≤◌, ◌⊎◌, Bool, List, Option, Some, [], ap, arith, both_ways, eq-eqb, false}
 use Rattle.precision_law.proofs.words.Std.{inl, inr, is_some, length, not, not-true, option_map, option_map_or, refl, subst, suc, sym, true, ℕ}
 use Rattle.run_law.specs.declared.note.NoteBody.TheVariants as notes
 
@@ -77,9 +77,7 @@ step_up v t0 link rest r frame sender d k is c opens in_run =
     let child : IsChildOf n sender link = closed (λ (x : Link). x.child ≡ sender) (link_at n link) l.0 l.1 l.2.0 in
     let to : receiver_of n link Up ≡ Some receiver = ap (λ (o : Option Link). option_map (target_by Up) o) l.1 in
     let member : is_of_other_member n receiver link frame.members ≡ false =
-    ap (λ (o : Option Link). option_map_or (λ x. x.parent.0 == receiver.0 && is_end n x.child && are_others (member_of n x.child) frame.members) o false) l.1
-    ∙ last_false (l.0.parent.0 == receiver.0) (is_end n l.0.child) (are_others (member_of n l.0.child) frame.members)
-    (subst (λ (x : DeviceId). is_end n x ≡ true → are_others (member_of n x) frame.members ≡ false) (sym l.2.0) c.member) in
+    grind (arith, option_map_or, receiver.0, is_end, n, are_others, member_of, l.1, last_false, l.0.parent.0, l.0.child, l.2.0) in
     record {
       l = l.0;
       at = l.1;
@@ -201,10 +199,7 @@ sound_frames_go_up v h master cm cycle is d one opens in_run =
     let framed : h.frame ≡ Some (dispatched_frame n master cycle) = ap (λ (x : Happening). x.frame) at.due.same ∙ ap (frame_by n at.front) d.is in
     let m = master_member v master is sends.master in
     elim reach.0 as (λ links. IsPath n v.channel master links → IsBrought v Up h cm) [
-      | [] ↦ λ path.
-          let e = opened (λ (x : Device). (x.role ≡ Cm) × (x.channel ≡ Some v.channel)) (device_at n master) path in
-          let same : e.0 ≡ role.0 = same_some (device_at n master) e.0 role.0 e.1 role.1 in
-          absurd (master_no_cm role.0.role role.2 (ap (λ (x : Device). x.role) (sym same) ∙ e.2.0))
+      | [] ↦ grind (arith, opened, device_at, n, role.0, same_some, role.1, master_no_cm, role.0.role, role.2)
       | link ∷ rest ↦ λ path.
           let l = opened (λ (x : Link). (x.child ≡ master) × IsSwitchOf n v.channel x.parent × IsPath n v.channel x.parent rest) (link_at n link) path in
           let child : IsChildOf n master link = closed (λ (x : Link). x.child ≡ master) (link_at n link) l.0 l.1 l.2.0 in

@@ -6,7 +6,7 @@ use Rattle.precision_law.proofs.words.Plans.{device_at, growth, jitter_of, jitte
 use Rattle.precision_law.proofs.words.Runs.{Gives, Happening, IsCaused, NoteBody, channel_of, channel_of_link, cycle_in, founded_at, is_relay, members_in}
 use Rattle.precision_law.proofs.words.Runs.{same_some, time_of, with_clock}
 use Rattle.precision_law.proofs.words.Std.{◌+◌, ◌∙◌, ◌∷◌, ◌≡◌, ◌≤◌, All, All-cons, All-nil, List, Option, Some, [], ap, arith, fold, length, option_and_then}
-use Rattle.precision_law.proofs.words.Std.{option_map, refl, subst, suc, sum_by, sum_by-cons, sym, true, ℕ}
+use Rattle.precision_law.proofs.words.Std.{option_map, subst, suc, sum_by, sum_by-cons, sym, true, ℕ}
 use Rattle.run_law.specs.declared.note.NoteBody.TheVariants as notes
 
 -- ---- sums
@@ -32,14 +32,7 @@ leg_link v way leg is l =
 
 pub adds_up : (v : View) (way : Way) (first last : Happening) (legs : List Leg) → IsView v → IsTrip v way first legs last → AddsUp v first last legs
 adds_up v way first last [] is trip =
-    record {
-      hops = [];
-      are = All-nil (IsHop v.scenario.network.rho (amount v.scenario.network.grain));
-      travels = omega (arith, ap time_of trip);
-      grows = omega (arith, ap clock_in trip);
-      many = refl;
-      jitter = refl;
-    }
+    grind (arith, All-nil, amount, time_of, clock_in)
 adds_up v way first last (leg ∷ legs) is trip =
     let more = adds_up v way leg.arriving last legs is trip.2 in
     let link = leg_link v way leg is trip.1 in
@@ -94,10 +87,7 @@ switch_of n channel device e =
 pub leg_down : (v : View) (leg : Leg) → IsView v → (l : IsLeg v Down leg) → (link : Link) × (link_at v.scenario.network leg.link ≡ Some link)
     × (link.child ≡ l.receiver) × (link.parent ≡ l.sender)
 leg_down v leg is l =
-    let link = leg_link v Down leg is l in
-    let to : Some link.0.child ≡ Some l.receiver = ap (λ (o : Option Link). option_map (target_by Down) o) (sym link.1) ∙ l.comes_to in
-    let p = opened (λ (k : Link). k.parent ≡ l.sender) (link_at v.scenario.network leg.link) (gives_down v.scenario.network l.sender leg.link l.from_way) in
-    (link.0, link.1, cc, ap (λ (k : Link). k.parent) (same_some _ _ _ link.1 p.1) ∙ p.2)
+    grind (arith, leg_link, option_map, target_by, opened, link_at, gives_down, same_some)
 
 -- what gives a frame down is of the channel, and has this path
 pub record GivesDown (v : View) (channel : Channel) (first : Happening) (giver : DeviceId) (links : List LinkId) : Type 0 where

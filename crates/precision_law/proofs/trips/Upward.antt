@@ -35,28 +35,14 @@ leg_up : (v : View) (channel : Channel) (leg : Leg) (links : List LinkId) → Is
     → IsChildOf v.scenario.network l.sender leg.link → LeadsUp v channel l.receiver links
     → IsPath v.scenario.network channel l.sender (leg.link ∷ links)
 leg_up v channel leg links is l child up =
-    let n = v.scenario.network in
-    let link = leg_link v Up leg is l in
-    let to : Some link.0.parent ≡ Some l.receiver = ap (λ (o : Option Link). option_map (target_by Up) o) (sym link.1) ∙ l.comes_to in
-    let parent : link.0.parent ≡ l.receiver = cc in
-    let k = opened (λ (x : Link). x.child ≡ l.sender) (link_at n leg.link) child in
-    let own : link.0.child ≡ l.sender = ap (λ (x : Link). x.child) (same_some _ _ _ link.1 k.1) ∙ k.2 in
-    closed (λ (k : Link). (k.child ≡ l.sender) × IsSwitchOf n channel k.parent × IsPath n channel k.parent links) (link_at n leg.link) link.0 link.1
-    (own, subst (IsSwitchOf n channel) (sym parent) up.switch, subst (λ (d : DeviceId). IsPath n channel d links) (sym parent) up.path)
+    grind (arith, leg_link, option_map, target_by, opened, link_at, same_some, closed)
 
 -- from what arrived at a switch
 path_from : (v : View) (channel : Channel) (g last : Happening) (legs : List Leg) (cm relay : DeviceId) (by to : LinkId) (c d t u : ℕ) → IsView v
     → IsCmOf v.scenario.network channel cm → IsTrip v Up g legs last → last.note.body ≡ notes.Arrived cm to d u
     → g.note.body ≡ notes.Arrived relay by c t → LeadsUp v channel relay (links_of legs)
 path_from v channel g last [] cm relay by to c d t u is one trip ends body =
-    let n = v.scenario.network in
-    let both : notes.Arrived relay by c t ≡ notes.Arrived cm to d u = sym body ∙ ap (λ (h : Happening). h.note.body) trip ∙ ends in
-    let same : cm ≡ relay = cc in
-    let x = opened (λ (x : Device). (x.role ≡ Cm) × (x.channel ≡ Some channel)) (device_at n cm) one in
-    record {
-      path = subst (IsCmOf n channel) same one;
-      switch = subst (IsSwitchOf n channel) same (closed (λ (x : Device). x.channel ≡ Some channel) (device_at n cm) x.0 x.1 x.2.1);
-    }
+    grind (arith, opened, device_at, closed)
 path_from v channel g last (leg ∷ legs) cm relay by to c d t u is one trip ends body =
     let n = v.scenario.network in
     let l = trip.1 in

@@ -19,7 +19,8 @@ pub use Rattle.precision_law.proofs.compression.Made.{members_are_masters, not_b
 pub use Rattle.precision_law.proofs.compression.OneEmission.{IsKnown, IsWitness, bad_number, emission_is_one, front_witness, good_near}
 pub use Rattle.precision_law.proofs.compression.{Ripenings.master_of_bit, Shrunk.{cluster_was, is_held}}
 pub use Rattle.precision_law.proofs.compression.Stretches.{IsReadAt, later_point, points_ordered, read_at}
-pub use Rattle.precision_law.proofs.faults.Turned.{looking_by, none_turns_on, not_turned_on_then, turned_at}
+pub use Rattle.run_law.proofs.control.Joined.{looking_by}
+pub use Rattle.precision_law.proofs.faults.Turned.{none_turns_on, not_turned_on_then, turned_at}
 pub use Rattle.precision_law.proofs.hearing.Timely.{cm_of, heard_frames_are_timely}
 pub use Rattle.precision_law.proofs.law.{ComingIn.joiners_come_in, Cover.{blocks_cover, later_end}}
 pub use Rattle.precision_law.proofs.law.Precision.{clique_point, clocks_stay_together, time_is_kept, timed_of, up_to_is}

@@ -22,17 +22,17 @@ pub use Rattle.precision_law.proofs.compression.Counted.{Apart, IsClusterOf, all
 pub use Rattle.precision_law.proofs.compression.Counted.{firsts_in, firsts_ordered, has_firsts, has_is_member, has_one, in_all, member_has, middle_near}
 pub use Rattle.precision_law.proofs.compression.Counted.{opened_by, ordered_filter}
 pub use Rattle.precision_law.proofs.faults.{Broken.{has_member, one_bad, one_member}, Enough.{enough_masters, sets_within}}
-pub use Rattle.precision_law.proofs.faults.Masters.{device_of_place, good_is_correct, one_channel_is_sound, switches_are_good}
+pub use Rattle.precision_law.proofs.faults.Masters.{good_is_correct, one_channel_is_sound, switches_are_good}
 pub use Rattle.precision_law.proofs.faults.Ways.{sound_switches_begin_on, sound_ways_are_whole}
 pub use Rattle.precision_law.proofs.hearing.Heard.{HearsThis, IsHearingOf, best_is_heard, cleared_by, hearing_of, hears_by, same_cleared, same_next}
 pub use Rattle.precision_law.proofs.hearing.Hearings.{hearer_not_cm, hearings_are_of_frames}
 pub use Rattle.precision_law.proofs.records.Behind.{PartsAtLast, after_last_at, after_last_none, after_more, behind_last, none, not_each, parts_at_last, some}
 pub use Rattle.precision_law.proofs.records.Cutting.{IsCutAt, cut_at}
-pub use Rattle.precision_law.proofs.records.Due.{IsRipeArrival, IsRipeRecord, IsSentAt, due_there, is_collected, is_heard_of, is_sent, next_due, next_note}
+pub use Rattle.precision_law.proofs.records.Due.{IsRipeArrival, IsRipeRecord, IsSentAt, due_there, is_collected, is_heard_of, is_sent}
 pub use Rattle.precision_law.proofs.records.{Due.{place_of_ripe, place_of_sent, sent_at}, Judged.earlier_judge}
 pub use Rattle.precision_law.proofs.records.Points.{IsSetting, before_of, before_place, earlier_before, founded_by, last_in, point_has_time, point_timed}
 pub use Rattle.precision_law.proofs.records.Points.{reaches_front, reaches_whole, same_adjustment, setting_is, sorted_parts, within_run}
-pub use Rattle.precision_law.proofs.records.{Times.{AreSorted, between, in_kept, is_between, last_some}, Views.{in_order, room, sizes_are, steady}}
+pub use Rattle.precision_law.proofs.records.{Times.{AreSorted, between, is_between, last_some}, Views.{in_order, room, sizes_are, steady}}
 pub use Rattle.precision_law.proofs.sizes.Instants.{corrections_come_first, cycles_are_few, frames_come_first, hulls_go_on, instants_are_in_order}
 pub use Rattle.precision_law.proofs.sizes.Instants.{set_clocks_stay_at_correction}
 pub use Rattle.precision_law.proofs.trips.{Ascents.{frames_up_are_of_masters, master_member, never_timed}, Descents.{emission_shows, frames_down_are_of_cms}}
@@ -41,3 +41,5 @@ pub use Rattle.precision_law.proofs.trips.Legs.{receiver_way, same_cycle, trip_m
 pub use Rattle.precision_law.proofs.trips.Links.{HasGone, IsGivenOn, arrives_at, goes_over, leaves_at, takes_at_most}
 pub use Rattle.precision_law.proofs.trips.Paths.{TakesWith, arrived_frame, clocked, frame_is, leaving_is, leg_hop, numbered_all, taken_as, taken_sound}
 pub use Rattle.precision_law.proofs.trips.{Paths.trip_says, Sound.{IsClean, IsReady, no_fault, sound_switch_on, will_be_permanent}}
+pub use Rattle.run_law.proofs.records.Members.{in_kept}
+pub use Rattle.run_law.proofs.law.FirstSent.{next_due, next_note}

@@ -1,14 +1,13 @@
 -- What the tables have, and of what a record speaks.
-use Rattle.std.proofs.Common.{if◌then◌else◌, ◌<◌, ◌==◌, ◌∙◌, ◌∷◌, ◌≡◌, ◌≤◌, ◌⊎◌, Bool, List, None, Option, Some, [], ap, arith, eqb-true, false, fold, inl, inr}
+use Rattle.std.proofs.Common.{if◌then◌else◌, ◌<◌, ◌∷◌, ◌≡◌, ◌≤◌, ◌⊎◌, Bool, List, None, Option, Some, [], ap, arith, eqb-true, false, fold, inl, inr}
 use Rattle.std.proofs.{Common.{length, negsuc, option_and_then, option_map, pos, refl, slice_get, sym, true, ℕ, ℤ}, lemmas.Option.slice_get_within}
-use Rattle.std.specs.Option.{option_map_or}
-use Rattle.net_plan.{proofs.TableFacts.link_within, specs.{Places.{device_at, link_at}, declared.ids.{DeviceId.DeviceId, LinkId.LinkId}}}
+use Rattle.net_plan.{proofs.TableFacts.link_within, specs.{Places.link_at, declared.ids.{DeviceId.DeviceId, LinkId.LinkId}}}
 use Rattle.net_plan.specs.declared.{network.Network.Network, tables.{Device.Device, Link.Link, Role.Role, Way.{Way, TheVariants.{Down, Up}}}}
 use Rattle.run_law.{proofs.law.FirstPlaces.in_at, specs.control.{Collections.point_by, Leaving.Gives, Wires.{Launch, launched}}}
 use Rattle.run_law.specs.{declared.note.NoteBody.NoteBody, device.States.{is_joined_by, state_with}, records.{Happenings.Happening, Order.IsIn}}
 use Rattle.run_law.specs.{records.Ranks.{rank, sign}, scenario.{Devices.{has_role, start_of}, Scenarios.Scenario, Ways.receiver_of}}
 use Rattle.schedule_tables.specs.Entries.{source_by, target_by}
-use Rattle.sync_state.specs.{Standing.{point_in as point_by_state, state_at_start}, declared.state.State.{State, TheVariants.{Integrating, Joining, Off}}}
+use Rattle.sync_state.specs.{Standing.{point_in as point_by_state, state_at_start}, declared.state.State.{State, TheVariants.{Integrating, Off}}}
 use Rattle.run_existence.proofs.bounds.Weights.{device_in, ends, in_total, total}
 use Rattle.net_plan.specs.declared.event.What.TheVariants as events
 use Rattle.run_law.specs.declared.judgement.Judgement.TheVariants as judgements
@@ -17,11 +16,7 @@ use Rattle.run_law.specs.declared.note.NoteBody.TheVariants as notes
 -- ---- what is in the tables
 
 pub device_there : (network : Network) (kind : Role → Bool) (device : DeviceId) → has_role network kind device ≡ true → device.0 < length network.device
-device_there network kind device e = by (device_at network device) refl e
-  where
-    by : (o : Option Device) → slice_get network.device device.0 ≡ o → option_map_or (λ d. kind d.role) o false ≡ true → device.0 < length network.device
-    by None there e = absurd cc
-    by (Some d) there e = slice_get_within network.device device.0 d there
+device_there network kind device e = grind (arith, slice_get, length, slice_get_within)
 
 pub record IsOnLink (network : Network) (device : DeviceId) (link : LinkId) : Type 0 where
   pub link_in : link.0 < length network.link
@@ -57,11 +52,7 @@ giver network (notes.Sent master cycle) device link g =
 giver network (notes.Compressed cm opened at cycle members verdict) device link g =
     record { device_is = ap (λ (d : DeviceId). d.0) g.0; link_in = link_within network link _ g.1; early = omega arith }
 giver network (notes.Arrived relay by cause clock) device link g =
-    record {
-      device_is = ap (λ (d : DeviceId). d.0) g.0;
-      link_in = elim g.1.on [ inl up ↦ link_within network link _ up.1 | inr down ↦ link_within network link _ down.1 ];
-      early = omega arith;
-    }
+    grind (arith, link_within)
 giver network other device link g = absurd g
 
 pub launch_rank : (s : Scenario) (h : Happening) (t : ℕ) (body : NoteBody) (l : Launch) → launched s h t body ≡ Some l
@@ -74,21 +65,9 @@ launch_rank s h t other l e = absurd cc
 -- ---- devices of which there are records
 
 step : (device : DeviceId) (old : State) (body : NoteBody) → (state_with device old body ≡ old) ⊎ (device_in body ≡ device.0)
-step device old (notes.State other state cause why) = by (device.0 == other.0) refl
-  where
-    by : (b : Bool) → (device.0 == other.0) ≡ b → ((if b then state else old) ≡ old) ⊎ (other.0 ≡ device.0)
-    by true e = inr (sym (eqb-true device.0 other.0 e))
-    by false e = inl refl
-step device old (notes.Permanent other link cause point judgements.Integrates) = by (device.0 == other.0) refl
-  where
-    by : (b : Bool) → (device.0 == other.0) ≡ b → ((if b then Joining else old) ≡ old) ⊎ (other.0 ≡ device.0)
-    by true e = inr (sym (eqb-true device.0 other.0 e))
-    by false e = inl refl
-step device old (notes.Compressed other opened at cycle members judgements.Integrates) = by (device.0 == other.0) refl
-  where
-    by : (b : Bool) → (device.0 == other.0) ≡ b → ((if b then Joining else old) ≡ old) ⊎ (other.0 ≡ device.0)
-    by true e = inr (sym (eqb-true device.0 other.0 e))
-    by false e = inl refl
+step device old (notes.State other state cause why) = grind (arith, eqb-true)
+step device old (notes.Permanent other link cause point judgements.Integrates) = grind (arith, eqb-true)
+step device old (notes.Compressed other opened at cycle members judgements.Integrates) = grind (arith, eqb-true)
 step device old other = inl refl
 
 -- one of the records names the device
@@ -101,14 +80,7 @@ pub touched : (device : DeviceId) (hs : List Happening) (old : State)
 unfolding IsTouched
 touched device [] old = inl refl
 touched device (h ∷ hs) old =
-    elim (step device old h.note.body) [
-      | inr named ↦ inr (h, inl refl, named)
-      | inl same ↦
-          elim (touched device hs (state_with device old h.note.body)) [
-            | inl e ↦ inl (e ∙ same)
-            | inr more ↦ inr (more.0, inr more.1, more.2)
-          ]
-    ]
+    grind (arith, step, (touched device hs (state_with device old h.note.body)))
 
 pub never_off : (on : Bool) (st : State) (n c : ℕ) → point_by_state (if on then Integrating else st) n ≡ Some c → st ≡ Off → ⊥
 never_off true st n c e off = cc
@@ -117,12 +89,7 @@ never_off false st n c e off = cc
 
 -- a device that begins on is one of the tables
 pub begins : (network : Network) (device : DeviceId) → (state_at_start (start_of network device) ≡ Off → ⊥) → device.0 < length network.device
-begins network device on = by (device_at network device) refl on
-  where
-    by : (o : Option Device) → slice_get network.device device.0 ≡ o → (state_at_start (option_and_then (λ d. d.start) o) ≡ Off → ⊥)
-        → device.0 < length network.device
-    by None there on = absurd (on refl)
-    by (Some d) there on = slice_get_within network.device device.0 d there
+begins network device on = grind (arith, slice_get, option_and_then, length, slice_get_within)
 
 -- what tells a device the time names it, and comes before masters send
 pub joined_device : (device : DeviceId) (body : NoteBody) → is_joined_by device body ≡ true → device_in body ≡ device.0

@@ -8,7 +8,8 @@ use Rattle.compression.specs.declared.compressed.Compressed.{Compressed}
 use Rattle.net_plan.specs.{Places.is_master, declared.{ids.{DeviceId.DeviceId, LinkId.LinkId, VlId.VlId}, tables.Way.TheVariants.Up}}
 use Rattle.pcf_values.specs.declared.members.Members.{Members}
 use Rattle.precision_law.proofs.records.{Behind.{PartsAtLast, after_last_at, after_more, not_each, parts_at_last}, Points.last_in}
-use Rattle.run_law.proofs.{law.FirstPlaces.{in_at, in_filter, none_kept}, records.Order.{contained, makes_none}, runs.Places.in_right, silent.Due.no_cluster}
+use Rattle.run_law.proofs.{control.Points.no_cluster, law.FirstPlaces.{in_at, in_filter, none_kept}, records.Order.{contained, makes_none}}
+use Rattle.run_law.proofs.{runs.Places.in_right}
 use Rattle.run_law.specs.control.{Collections.{ends_stretch, observation_window, point_by, points_of}, Corrections.{ComesToCorrection, standing_before}}
 use Rattle.run_law.specs.control.{Emissions.Emits, Leaving.{Departs, Departure, leaves}, Losses.{IsDispatchedOn, IsDropped, IsLost}}
 use Rattle.run_law.specs.{control.Permanence.{BecomesPermanent, ripe_as}, declared.judgement.{Judgement.Judgement, Reason.Reason, Why.Why}}

@@ -49,18 +49,12 @@ part : {X : Type 0} (ms more : List X) (n : ℕ) (x : X) → slice_get (ms ++ mo
 part [] more n x e = inr (in_at more n x e)
 part (m ∷ ms) more zero x e = (let same : x ≡ m = cc in inl (inl same, omega arith))
 part (m ∷ ms) more (suc n) x e =
-    elim (part ms more n x e) [
-      | inl l ↦ inl (inr l.0, omega (arith, l.1))
-      | inr r ↦ inr r
-    ]
+    grind (arith, (part ms more n x e))
 
 pub numbered_part : (ms more : List Happening) (n : ℕ) (h : Happening) → numbered (ms ++ more) n ≡ Some h → (IsIn h ms × (n < length ms + 1)) ⊎ IsIn h more
 numbered_part ms more zero h e = absurd cc
 numbered_part ms more (suc n) h e =
-    elim (part ms more n h e) [
-      | inl l ↦ inl (l.0, omega (arith, l.1))
-      | inr r ↦ inr r
-    ]
+    grind (arith, part)
 
 -- ---- the bound
 

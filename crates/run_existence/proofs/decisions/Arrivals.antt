@@ -98,11 +98,7 @@ arrived_by s hs t d l cause (arrivals.Passes frame way) a =
     inl (frame.clock, record { frame = frame; point = units_of 0; way = way; taken = inr (inl a); shows = refl })
 arrived_by s hs t d l cause (arrivals.PassesAndWaits frame way point) a =
     inl (frame.clock, record { frame = frame; point = point; way = way; taken = inr (inr a); shows = refl })
-arrived_by s hs t d l cause other a = inr (λ h. elim h.1.taken [
-  | inl b ↦ (let one = same_arrival s hs t (record { 0 = d }) (record { 0 = l }) cause _ (arrivals.Waits h.1.frame h.1.point) a b in cc)
-  | inr (inl b) ↦ (let one = same_arrival s hs t (record { 0 = d }) (record { 0 = l }) cause _ (arrivals.Passes h.1.frame h.1.way) a b in cc)
-  | inr (inr b) ↦ (let one = same_arrival s hs t (record { 0 = d }) (record { 0 = l }) cause _ (arrivals.PassesAndWaits h.1.frame h.1.way h.1.point) a b in cc)
-])
+arrived_by s hs t d l cause other a = grind (arith, same_arrival)
 
 pub arrived_decided : (s : Scenario) (hs : List Happening) (t : ℕ) (ks : List ℕ) → IsDecided (HasCaused s hs t 2 ks)
 arrived_decided s hs t ks =

@@ -6,7 +6,7 @@ use Rattle.run_law.proofs.{runs.SameSteps.same_departure, scenario.Conditions.sa
 use Rattle.run_law.proofs.scenario.Decisions.{IsDecided, decided_and, decided_by, decided_false, decided_or, decided_same, decided_some, decided_true}
 use Rattle.run_law.specs.{control.Leaving.{Departs, Departure, Gives, Passes, departure, leaves, on_cut_way, too_old}, declared.note.NoteBody.NoteBody}
 use Rattle.run_law.specs.{records.{Happenings.{Happening, numbered, time_of}, Ranks.{key, rank}}, runs.DueRecords.IsCaused}
-use Rattle.run_law.specs.scenario.{Devices.{IsParentOf, is_relay}, Scenarios.{Scenario, is_broken}, Ways.{hold_at, way_from}}
+use Rattle.run_law.specs.scenario.{Devices.IsParentOf, Scenarios.{Scenario, is_broken}, Ways.{hold_at, way_from}}
 use Rattle.tte_lemmas.proofs.Options.{one as same_some}
 use Rattle.tte_units.specs.Amount.{units_of}
 use Rattle.run_existence.proofs.decisions.{Places.{HasCaused, OfThree, by_three, caused, members_by}, Values.{decided_in, decided_within}}
@@ -22,9 +22,7 @@ parent network device link = decided_some (link_at network link) (λ l. l.parent
 
 passes : (network : Network) (device : DeviceId) (by link : LinkId) → IsDecided (Passes network device by link)
 passes network device by link =
-    decided_by (λ h. record { relay = h.0; on = h.1 }) (λ r. (r.relay, r.on))
-    (decided_and (decided_true (is_relay network device))
-    (decided_or (decided_and (parent network device by) (child network device link)) (decided_and (child network device by) (parent network device link))))
+    grind (arith, decided_by, decided_and, decided_true, decided_or, parent, child)
 
 gives : (network : Network) (body : NoteBody) (device : DeviceId) (link : LinkId) → IsDecided (Gives network body device link)
 gives network (notes.Sent master cycle) device link = decided_and (same_device device master) (child network device link)

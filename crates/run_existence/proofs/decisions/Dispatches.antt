@@ -1,10 +1,10 @@
 -- Decisions: whether the record of a master's frame, or of a time-triggered frame that is dispatched, is due.
 use Rattle.std.proofs.{Common.{◌%◌, ◌*◌, ◌+◌, ◌<◌, ◌∙◌, ◌≡◌, List, Some, ap, arith, inr, length, pos, slice_get, subst, sym, ℕ}, lemmas.Option.slice_get_within}
-use Rattle.net_plan.specs.{Places.is_master, declared.{ids.{DeviceId.DeviceId, LinkId.LinkId, VlId.VlId}, tables.{Link.Link, Row.Row, VirtualLink.VirtualLink}}}
+use Rattle.net_plan.specs.declared.{ids.{DeviceId.DeviceId, LinkId.LinkId, VlId.VlId}, tables.{Link.Link, Row.Row, VirtualLink.VirtualLink}}
 use Rattle.run_law.proofs.scenario.{Choices.decided_le, Conditions.same_device}
 use Rattle.run_law.proofs.scenario.Decisions.{IsDecided, decided_and, decided_by, decided_false, decided_or, decided_same, decided_true}
 use Rattle.run_law.specs.{control.Losses.IsDispatchedOn, declared.note.NoteBody.NoteBody, device.{LocalClocks.Reaches, States.state_before}}
-use Rattle.run_law.specs.{records.{Happenings.Happening, Ranks.{key, rank}}, runs.DueRecords.IsCaused, scenario.Devices.{has_role, is_end}}
+use Rattle.run_law.specs.{records.{Happenings.Happening, Ranks.{key, rank}}, runs.DueRecords.IsCaused, scenario.Devices.is_end}
 use Rattle.run_law.specs.scenario.{Scenarios.{Scenario, is_broken}, Ways.{is_cut, way_from}}
 use Rattle.run_law.specs.timed.Dispatching.{Dispatches, HasAccepted, HasAtHand, IsUp, Sends, last_accepted}
 use Rattle.schedule_tables.{proofs.EntryLemmas.one_entry, specs.{Entries.{IsEntry, source_of}, Windows.OccursIn, declared.entry.Entry.Entry}}
@@ -23,9 +23,7 @@ is_up s hs device t =
 
 sends : (s : Scenario) (hs : List Happening) (device : DeviceId) (t cycle : ℕ) → IsDecided (Sends s hs device t cycle)
 sends s hs device t cycle =
-    decided_by (λ h. record { master = h.0; up = h.1.0; begun = h.1.1.0; reached = h.1.1.1 }) (λ r. (r.master, (r.up, (r.begun, r.reached))))
-    (decided_and (decided_true (has_role s.network is_master device)) (decided_and (is_up s hs device t)
-    (decided_and (decided_le 1 cycle) (reaches_decided s hs device (pos (cycle * amount s.network.cycle)) t))))
+    grind (arith, decided_by, decided_and, decided_true, is_up, decided_le, reaches_decided)
 
 abbrev HasSent : Scenario → List Happening → ℕ → ℕ → ℕ → Type 0
 HasSent s hs t d cycle = Sends s hs (record { 0 = d }) t cycle

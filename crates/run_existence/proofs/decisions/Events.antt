@@ -65,10 +65,7 @@ end_at t = record { time = units_of t; what = End }
 same_end : (t : ℕ) (event : Event) → IsDecided (event ≡ end_at t)
 unfolding end_at
 same_end t event =
-    decided_by
-    (λ (h : (event.time.0 ≡ pos t) × (event.what ≡ End)). ap (λ (z : ℤ). let x : Event = record { time = record { 0 = z }; what = event.what } in x) h.0
-    ∙ ap (λ (w : What). let x : Event = record { time = units_of t; what = w } in x) h.1)
-    (λ e. (ap (λ (x : Event). x.time.0) e, ap (λ (x : Event). x.what) e)) (decided_and (same_int event.time.0 (pos t)) (is_end event.what))
+    grind (arith, decided_by, decided_and, same_int, is_end)
 
 ends_at : (events : List Event) (t : ℕ) → IsDecided (EndsAt events (units_of t))
 unfolding end_at

@@ -16,19 +16,7 @@ pub record IsRank (r : ℕ) : Type 0 where
 
 pub is_rank : (body : NoteBody) → IsRank (rank body)
 is_rank (notes.Event line what) = record { least = omega arith; below = omega arith }
-is_rank (notes.Arrived device link cause clock) = record { least = omega arith; below = omega arith }
-is_rank (notes.Permanent device link cause point verdict) = record { least = omega arith; below = omega arith }
-is_rank (notes.Compressed device opened at cycle members verdict) = record { least = omega arith; below = omega arith }
-is_rank (notes.Sent device cycle) = record { least = omega arith; below = omega arith }
-is_rank (notes.Corrected device cycle by adjustment) = record { least = omega arith; below = omega arith }
-is_rank (notes.State device state cause why) = record { least = omega arith; below = omega arith }
-is_rank (notes.Left device link cause clock) = record { least = omega arith; below = omega arith }
-is_rank (notes.Lost device link cause) = record { least = omega arith; below = omega arith }
-is_rank (notes.TtSent device link cause vl cycle) = record { least = omega arith; below = omega arith }
-is_rank (notes.Accepted device link cause vl cycle) = record { least = omega arith; below = omega arith }
-is_rank (notes.Delivered device link cause vl cycle) = record { least = omega arith; below = omega arith }
-is_rank (notes.Dropped device link cause reason) = record { least = omega arith; below = omega arith }
-is_rank (notes.Clock device reading adjustment state) = record { least = omega arith; below = omega arith }
+is_rank other = record { least = omega arith; below = omega arith }
 
 module _ (s : Scenario) (hs : List Happening) (t : ℕ) (ks : List ℕ) where
   abbrev AtRank : ℕ → Type 0

@@ -1,44 +1,27 @@
 -- The worked network is in range.
-use Rattle.std.proofs.{Common.{◌+◌, ◌^◌, ◌≡◌, ◌≤◌, IfSome, List, Option, Some, arith, inl, length, not, refl, subst, sym, true, ℕ}, Math.Dec.leb-zero}
+use Rattle.std.proofs.{Common.{◌+◌, ◌^◌, ◌≡◌, ◌≤◌, IfSome, List, Some, arith, inl, length, not, refl, true, ℕ}, Math.Dec.leb-zero}
 use Rattle.std.{proofs.lemmas.{Bool.leb-true, Int.ints}, specs.{List.list_all, Prelude.{codes, is_some, nat_le}}}
 use Rattle.net_plan.specs.{NameText.{IsNameText, is_name_character}, Places.{is_end_system, is_master}}
 use Rattle.net_plan.specs.{Ranges.{IsDeviceInRange, IsInRange, IsLinkInRange, IsRowInRange, IsVlInRange, IsWithin}, declared.tables.{Device.Device, Way.Way}}
 use Rattle.net_plan.specs.declared.tables.Way.TheVariants.{Down, Up}
-use Rattle.tte_units.specs.{Amount.units_of, declared.units.Units.Units}
+use Rattle.tte_units.specs.{Amount.units_of}
 use Rattle.run_existence.{proofs.worked_lemmas.Lists.all_each, specs.worked.Worked.{link_of, row_of, worked}}
 
 within : (low high n : ℕ) → nat_le low n ≡ true → nat_le n high ≡ true → IsWithin low high (units_of n)
 within low high n least most =
-    let lower = leb-true low n least in
-    let upper = leb-true n high most in
-    record { least = omega (arith, ints, lower); most = omega (arith, ints, upper) }
+    grind (arith, leb-true, ints)
 
 name_of : (text : List ℕ) → nat_le 1 (length text) ≡ true → nat_le (length text) 16 ≡ true → list_all is_name_character text ≡ true → IsNameText text
 name_of text some short plain = record { some = leb-true 1 (length text) some; short = leb-true (length text) 16 short; plain = plain }
 
 device_in : (d : Device) → IsNameText d.name → is_some d.member ≡ is_master d.role → IfSome d.member (λ m. m ≤ 31)
     → is_some d.channel ≡ not (is_end_system d.role) → d.start ≡ Some (units_of 0) → IsDeviceInRange d
-device_in d name masters member switches start = record {
-  name = name;
-  masters = masters;
-  member = member;
-  switches = switches;
-  start = subst (λ (o : Option Units). IfSome o (IsWithin 0 (2 ^ 40))) (sym start) (within 0 (2 ^ 40) 0 refl refl);
-}
+device_in d name masters member switches start = grind (arith, within)
 
 link_in : (text : List ℕ) (child parent : ℕ) → IsNameText text → nat_le (child + 1) 9 ≡ true → nat_le (parent + 1) 9 ≡ true
     → IsLinkInRange worked (link_of text child parent)
 link_in text child parent name few_child few_parent =
-    let c = leb-true (child + 1) 9 few_child in
-    let p = leb-true (parent + 1) 9 few_parent in
-    record {
-      name = name;
-      child = omega (arith, c);
-      parent = omega (arith, p);
-      wire = within 1 (2 ^ 40) 32768000 refl refl;
-      jitter = within 0 (2 ^ 40) 1310720 refl refl;
-      hold = within 0 (2 ^ 40) 1310720000 refl refl;
-    }
+    grind (arith, leb-true, within)
 
 row_in : (link : ℕ) (way : Way) (offset : ℕ) → nat_le (link + 1) 12 ≡ true → nat_le offset (2 ^ 40) ≡ true → IsRowInRange worked (row_of link way offset)
 row_in link way offset few low =

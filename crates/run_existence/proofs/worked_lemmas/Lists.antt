@@ -25,9 +25,7 @@ AreNumbered f xs = AllAt (λ k x. f x ≡ k) xs
 pub numbered_apart : {X : Type 0} (f : X → ℕ) (xs : List X) → AreNumbered f xs → (j k : ℕ) (x y : X) → j < k → slice_get xs j ≡ Some x
     → slice_get xs k ≡ Some y → f y ≡ f x → ⊥
 numbered_apart {X} f xs all j k x y lt at_j at_k same =
-    let a = at_place (λ n z. f z ≡ n) xs all j x at_j in
-    let b = at_place (λ n z. f z ≡ n) xs all k y at_k in
-    omega (arith, lt, a, b, same)
+    grind (arith, at_place)
 
 -- the first place at which the list has the text, or its length
 abbrev pub place_in : List (List ℕ) → List ℕ → ℕ

@@ -1,9 +1,9 @@
 -- The rough day of the worked network is one of which the laws on runs speak.
-use Rattle.std.proofs.{Common.{◌*◌, ◌++◌, ◌+◌, ◌-◌, ◌<◌, ◌^◌, ◌∙◌, ◌∷◌, ◌≡◌, List, [], ap, arith, inl, inr, pos, refl, subst, true, ℕ}, lemmas.Bool.leb-true}
-use Rattle.std.{proofs.lemmas.Int.ints, specs.{List.All, Prelude.{◌<ℤ◌, IsSomeAnd}}}
+use Rattle.std.proofs.{Common.{◌*◌, ◌++◌, ◌+◌, ◌-◌, ◌<◌, ◌^◌, ◌∷◌, ◌≡◌, List, [], arith, inl, inr, pos, refl, true, ℕ}, lemmas.Bool.leb-true}
+use Rattle.std.{proofs.lemmas.Int.ints, specs.{List.All, Prelude.◌<ℤ◌}}
 use Rattle.drift_clock.proofs.{ExactSegments.exact_steps, Readings.{begins_at_zero, keeps_clock_laws}}
 use Rattle.drift_clock.specs.Segment.{fresh_segment, segment_count, segment_reading, stepped_segment}
-use Rattle.net_plan.{proofs.TableFacts.none_told, specs.{Belonging.IsOfNetwork, Places.{device_at, is_master}, declared.event.{Event.Event, What.What}}}
+use Rattle.net_plan.{proofs.TableFacts.none_told, specs.{Belonging.IsOfNetwork, declared.event.{Event.Event, What.What}}}
 use Rattle.net_plan.specs.declared.{ids.{DeviceId.DeviceId, LinkId.LinkId}, tables.Way.{Way, TheVariants.Up}}
 use Rattle.pcf_values.specs.declared.channel.Channel.{Channel}
 use Rattle.run_law.specs.declared.outside.Outside.TheVariants.{Channel as OtherChannel, Hold, Late, NotBroken, NotMaster, NotOff, Order, Rate, SecondBreak}
@@ -29,16 +29,12 @@ the_end = record { time = units_of (20 * 131072000000 - 1); what = events.End }
 last_of_one : (x : Event) (front behind : List Event) (last : Event) → x ∷ [] ≡ front ++ last ∷ behind → x ≡ last
 last_of_one x [] behind last same = let it : x ∷ [] ≡ last ∷ behind = same in cc
 last_of_one x (f ∷ front) behind last same =
-    let it : x ∷ [] ≡ f ∷ (front ++ last ∷ behind) = same in
-    let rest : [] ≡ front ++ last ∷ behind = cc in
-    absurd (none_told front behind last rest)
+    grind (arith, none_told)
 
 last_of_two : (x y : Event) (front : List Event) (last : Event) → x ∷ y ∷ [] ≡ front ++ last ∷ [] → y ≡ last
 last_of_two x y [] last same = let it : x ∷ y ∷ [] ≡ last ∷ [] = same in absurd cc
 last_of_two x y (f ∷ front) last same =
-    let it : x ∷ y ∷ [] ≡ f ∷ (front ++ last ∷ []) = same in
-    let rest : y ∷ [] ≡ front ++ last ∷ [] = cc in
-    last_of_one y front [] last rest
+    grind (arith, last_of_one)
 
 -- ---- each event is within the hypothesis, given those before it
 
@@ -53,9 +49,7 @@ break_within Wire v = absurd (let bad : events.Break (record { 0 = 3 }) ≡ even
 break_within Hold v = absurd (let bad : events.Break (record { 0 = 3 }) ≡ events.Hold v.link v.way v.delay = v.what in cc)
 break_within OtherChannel v = absurd (let bad : events.Break (record { 0 = 3 }) ≡ events.Cut v.link v.way = v.what in cc)
 break_within NotMaster v =
-    let it : events.Break (record { 0 = 3 }) ≡ events.Break v.device = v.breaks in
-    let same : record { 0 = 3 } ≡ v.device = cc in
-    v.no_master (subst (λ (d : DeviceId). IsSomeAnd (device_at worked d) (λ x. is_master x.role ≡ true)) same refl)
+    grind arith
 break_within SecondBreak v = none_broken v.broken v.is_broken
 break_within TooFewMasters v = let few : 3 < 3 = v.few in omega (arith, few)
 break_within NotBroken v = absurd (let bad : events.Break (record { 0 = 3 }) ≡ events.Send v.link v.octets = v.what in cc)
@@ -65,18 +59,11 @@ break_within NotOff v = absurd (let bad : events.Break (record { 0 = 3 }) ≡ ev
 none_faulty : (channel : Channel) → IsFaulty worked (the_break ∷ []) channel → ⊥
 none_faulty channel (inl off) = no_off_switch channel off
 none_faulty channel (inr it) =
-    let first = it.1 in
-    let same = last_of_one the_break first.before first.behind first.cut first.order in
-    let cuts : first.cut.what ≡ events.Cut first.cuts.0 first.cuts.1.0 = first.cuts.1.1 in
-    let bad : events.Break (record { 0 = 3 }) ≡ events.Cut first.cuts.0 first.cuts.1.0 = ap (λ (e : Event). e.what) same ∙ cuts in
-    absurd cc
+    grind (arith, last_of_one)
 
 cut_within : IsWithinHypothesis worked (the_break ∷ []) the_cut
 cut_within Order v =
-    let same = last_of_one the_break v.front [] v.last v.order in
-    let later : pos 200000000000 <ℤ v.last.time.0 = v.later in
-    let time : pos 131072000000 ≡ v.last.time.0 = ap (λ (e : Event). e.time.0) same in
-    omega (arith, ints, later, time)
+    grind (arith, last_of_one, ints)
 cut_within Late v = let late : pos (2 ^ 20 * 131072000000) <ℤ pos 200000000000 = v in omega (arith, ints, late)
 cut_within Rate v = absurd (let bad : events.Cut (record { 0 = 11 }) Up ≡ events.Rate v.device v.rate = v.what in cc)
 cut_within Wire v = absurd (let bad : events.Cut (record { 0 = 11 }) Up ≡ events.Wire v.link v.way v.delay = v.what in cc)
@@ -90,10 +77,7 @@ cut_within NotOff v = absurd (let bad : events.Cut (record { 0 = 11 }) Up ≡ ev
 
 end_within : IsWithinHypothesis worked (the_break ∷ the_cut ∷ []) the_end
 end_within Order v =
-    let same = last_of_two the_break the_cut v.front v.last v.order in
-    let later : pos (20 * 131072000000 - 1) <ℤ v.last.time.0 = v.later in
-    let time : pos 200000000000 ≡ v.last.time.0 = ap (λ (e : Event). e.time.0) same in
-    omega (arith, ints, later, time)
+    grind (arith, last_of_two, ints)
 end_within Late v = let late : pos (2 ^ 20 * 131072000000) <ℤ pos (20 * 131072000000 - 1) = v in omega (arith, ints, late)
 end_within Rate v = absurd (let bad : events.End ≡ events.Rate v.device v.rate = v.what in cc)
 end_within Wire v = absurd (let bad : events.End ≡ events.Wire v.link v.way v.delay = v.what in cc)
@@ -107,23 +91,13 @@ end_within NotOff v = absurd (let bad : events.End ≡ events.On v.device = v.wh
 
 all_within : AreWithinHypothesis worked rough_events
 all_within [] behind e same =
-    let it : the_break ∷ the_cut ∷ the_end ∷ [] ≡ e ∷ behind = same in
-    let one : the_break ≡ e = cc in
-    subst (IsWithinHypothesis worked []) one break_within
+    grind (arith, break_within)
 all_within (b ∷ []) behind e same =
-    let it : the_break ∷ the_cut ∷ the_end ∷ [] ≡ b ∷ e ∷ behind = same in
-    let first : the_break ≡ b = cc in
-    let one : the_cut ≡ e = cc in
-    subst (λ (x : Event). IsWithinHypothesis worked (x ∷ []) e) first (subst (IsWithinHypothesis worked (the_break ∷ [])) one cut_within)
+    grind (arith, cut_within)
 all_within (b ∷ c ∷ []) behind e same =
-    let it : the_break ∷ the_cut ∷ the_end ∷ [] ≡ b ∷ c ∷ e ∷ behind = same in
-    let two : the_break ∷ the_cut ∷ [] ≡ b ∷ c ∷ [] = cc in
-    let one : the_end ≡ e = cc in
-    subst (λ (l : List Event). IsWithinHypothesis worked l e) two (subst (IsWithinHypothesis worked (the_break ∷ the_cut ∷ [])) one end_within)
+    grind (arith, end_within)
 all_within (b ∷ c ∷ d ∷ before) behind e same =
-    let it : the_break ∷ the_cut ∷ the_end ∷ [] ≡ b ∷ c ∷ d ∷ (before ++ e ∷ behind) = same in
-    let rest : [] ≡ before ++ e ∷ behind = cc in
-    absurd (none_told before behind e rest)
+    grind (arith, none_told)
 
 -- ---- the rest
 
@@ -136,14 +110,7 @@ of_network : All (λ e. IsOfNetwork worked e.what) rough_events
 of_network = all_each (λ e. IsOfNetwork worked e.what) rough_events (leb-true 4 9 refl, (leb-true 12 12 refl, (tt, tt)))
 
 pub rough_day_under : IsUnder worked rough_events
-rough_day_under = record {
-  range = worked_in_range;
-  rules = worked_keeps_rules;
-  of_network = of_network;
-  times = all_each IsEventInRange rough_events
-      (in_range 131072000000 _ (λ link way delay is. cc), (in_range 200000000000 _ (λ link way delay is. cc), (in_range _ _ (λ link way delay is. cc), tt)));
-  within = all_within;
-}
+rough_day_under = grind (arith, worked_in_range, worked_keeps_rules, of_network, all_each, in_range, all_within)
 
 -- ---- its clocks
 

@@ -1,5 +1,5 @@
 -- The worked network keeps the rules of its schedule.
-use Rattle.std.proofs.Common.{if◌then◌else◌, ◌*◌, ◌+◌, ◌<◌, ◌==◌, ◌∙◌, ◌∷◌, ◌≡◌, ◌≢◌, ◌≤◌, ◌⊎◌, List, Some, [], ap, arith, false, inl, inr, refl, slice_get}
+use Rattle.std.proofs.Common.{if◌then◌else◌, ◌<◌, ◌==◌, ◌∙◌, ◌∷◌, ◌≡◌, ◌≢◌, ◌≤◌, List, Some, [], ap, arith, refl, slice_get}
 use Rattle.std.proofs.{Common.{subst, suc, sym, true, zero, ℕ}, lemmas.{Bool.leb-true, List.Sums.count_by-le-length, Option.same_Some}}
 use Rattle.std.specs.{List.{Contains, count_by}, Prelude.codes}
 use Rattle.net_plan.specs.{Places.IsEndSystem, declared.{ids.{DeviceId.DeviceId, LinkId.LinkId, VlId.VlId}, tables.{Link.Link, Row.Row}}}
@@ -66,26 +66,10 @@ is_entry : (entry : Entry) (row : Row) (link : Link) → entry.row ≡ row → s
     → slice_get worked.link entry.row.link.0 ≡ Some entry.link → slice_get worked.vl row.vl.0 ≡ Some the_vl → slice_get worked.link row.link.0 ≡ Some link
     → record { row = row; vl = the_vl; link = link } ≡ entry
 is_entry entry row link e vl by vl_is link_is =
-    let same_vl = same_Some the_vl entry.vl (sym vl_is ∙ ap (λ (r : Row). slice_get worked.vl r.vl.0) (sym e) ∙ vl) in
-    let same_link = same_Some link entry.link (sym link_is ∙ ap (λ (r : Row). slice_get worked.link r.link.0) (sym e) ∙ by) in
-    ap (λ (r : Row). record { row = r; vl = the_vl; link = link }) (sym e)
-    ∙ ap (λ (v : VirtualLink). record { row = entry.row; vl = v; link = link }) same_vl
-    ∙ ap (λ (l : Link). record { row = entry.row; vl = entry.vl; link = l }) same_link
+    grind (arith, same_Some, slice_get)
 
 entry_at : (place : ℕ) (entry : Entry) → IsEntry worked place entry → slice_get the_entries place ≡ Some entry
-entry_at place entry is = at_place (λ k row. row ≡ entry.row → slice_get the_entries k ≡ Some entry) worked.row (
-  λ e. ap Some (is_entry entry _ (link_of (codes "m1_a") 0 5) (sym e) is.vl is.link refl refl),
-  (
-    λ e. ap Some (is_entry entry _ (link_of (codes "m1_b") 0 7) (sym e) is.vl is.link refl refl),
-    (
-      λ e. ap Some (is_entry entry _ (link_of (codes "c1_a") 4 5) (sym e) is.vl is.link refl refl),
-      (
-        λ e. ap Some (is_entry entry _ (link_of (codes "c1_b") 4 7) (sym e) is.vl is.link refl refl),
-        tt,
-      ),
-    ),
-  ),
-) place entry.row is.row refl
+entry_at place entry is = grind (arith, at_place, slice_get, is_entry)
 
 entry_case : (P : ℕ → Entry → Type 0) → AllAt P the_entries → (place : ℕ) (entry : Entry) → IsEntry worked place entry → P place entry
 entry_case P all place entry is = at_place P the_entries all place entry (entry_at place entry is)
@@ -106,10 +90,7 @@ is_fourth : IsEntry worked 3 fourth
 is_fourth = record { row = refl; vl = refl; link = refl }
 
 pub windows_end : (place : ℕ) → EndsInCycle worked place
-windows_end place entry is = entry_case (λ k e. window_end worked e + 4 * amount worked.precision ≤ amount worked.cycle) (
-  leb-true 32285655044 131072000000 refl,
-  (leb-true 32285655044 131072000000 refl, (leb-true 33924055044 131072000000 refl, (leb-true 33924055044 131072000000 refl, tt))),
-) place entry is
+windows_end place entry is = grind (arith, entry_case, leb-true)
 
 -- ---- no two rows by one link
 
@@ -132,20 +113,7 @@ rows_stand_apart place k earlier entry lt is_earlier is same_link same_way coinc
 -- ---- where rows come from and go to
 
 pub has_source : (place : ℕ) → HasSource worked place
-has_source place entry is = entry_case
-    (λ k e. (source_of e ≡ e.vl.sender) ⊎ (IsSwitch worked (source_of e) × ((n : ℕ) × (n ≢ k) × Enters worked n e.row.vl (source_of e)))) (
-      inl refl,
-      (
-        inl refl,
-        (
-          inr (refl, (0, (λ e. absurd (omega (arith, e))), record { entry = first; is = is_first; same_vl = refl; target = refl })),
-          (
-            inr (refl, (1, (λ e. absurd (omega (arith, e))), record { entry = second; is = is_second; same_vl = refl; target = refl })),
-            tt,
-          ),
-        ),
-      ),
-    ) place entry is
+has_source place entry is = grind (arith, entry_case, is_first, is_second)
 
 -- where the rows lead
 abbrev targets : ℕ → ℕ
@@ -169,77 +137,20 @@ also_b channel a b = a ∙ sym b
 -- the fourth row comes by channel b, and the one before it into the client by channel a
 no_both : (k : ℕ) (earlier : Entry) (channel : Channel) → IsEntry worked k earlier → IsOnChannel worked channel earlier
     → IsOnChannel worked channel fourth → k < 3 → 4 ≡ (target_of earlier).0 → ⊥
-no_both k earlier channel is on_earlier on lt same = entry_case
-    (λ n e. n < 3 → IsOnChannel worked channel e → 4 ≡ (target_of e).0 → ⊥) (
-      λ lt on same. let bad : ◌≡◌ {A = ℕ} 4 5 = same in cc,
-      (
-        λ lt on same. let bad : ◌≡◌ {A = ℕ} 4 7 = same in cc,
-        (
-          λ lt also same. let bad : Some A ≡ Some B = also_b channel also on in cc,
-          (
-            λ lt. absurd (omega (arith, lt)),
-            tt,
-          ),
-        ),
-      ),
-    ) k earlier is lt on_earlier same
+no_both k earlier channel is on_earlier on lt same = grind (arith, entry_case, also_b)
 
 -- an entry whose target is a switch is one of the first two, and its target is another than that of the other
 switch_target : (k place : ℕ) (earlier entry : Entry) → k < place → IsEntry worked k earlier → IsEntry worked place entry → IsSwitch worked (target_of entry)
     → target_of entry ≢ target_of earlier
-switch_target k place earlier entry lt is_earlier is switch = entry_case
-    (λ n e. k < n → IsSwitch worked (target_of e) → target_of e ≢ target_of earlier) (
-      λ lt. absurd (omega (arith, lt)),
-      (
-        λ lt switch same. let bad : ◌≡◌ {A = ℕ} 7 (targets k) = ap (λ (d : DeviceId). d.0) same ∙ target_is k earlier is_earlier in absurd (not_seven k lt bad),
-        (
-          λ lt switch. absurd (let bad : true ≡ false = switch in cc),
-          (
-            λ lt switch. absurd (let bad : true ≡ false = switch in cc),
-            tt,
-          ),
-        ),
-      ),
-    ) place entry is lt switch
+switch_target k place earlier entry lt is_earlier is switch = grind (arith, entry_case, target_is, not_seven)
 
 -- the rows into the client come by different channels
 client_rows : (k place : ℕ) (earlier entry : Entry) (channel : Channel) → k < place → IsEntry worked k earlier → IsEntry worked place entry
     → IsEndSystem worked (target_of entry) → IsOnChannel worked channel earlier → IsOnChannel worked channel entry → target_of entry ≢ target_of earlier
-client_rows k place earlier entry channel lt is_earlier is ends on_earlier on = entry_case
-    (λ n e. k < n → IsEndSystem worked (target_of e) → IsOnChannel worked channel e → target_of e ≢ target_of earlier) (
-      λ lt. absurd (omega (arith, lt)),
-      (
-        λ lt ends. absurd (let bad : false ≡ true = ends in cc),
-        (
-          λ lt ends on same. let bad : ◌≡◌ {A = ℕ} 4 (targets k) =
-              ap (λ (d : DeviceId). d.0) same ∙ target_is k earlier is_earlier in absurd (not_four k lt bad),
-          (
-            λ lt ends on same. absurd (no_both k earlier channel is_earlier on_earlier on lt (ap (λ (d : DeviceId). d.0) same)),
-            tt,
-          ),
-        ),
-      ),
-    ) place entry is lt ends on
+client_rows k place earlier entry channel lt is_earlier is ends on_earlier on = grind (arith, entry_case, target_is, not_four, no_both)
 
 pub enters_anew : (place : ℕ) → EntersAnew worked place
-enters_anew place = record {
-  no_sender = λ entry is. entry_case (λ k e. target_of e ≢ e.vl.sender) (
-    λ same. absurd (let bad : ◌≡◌ {A = ℕ} 5 0 = ap (λ (d : DeviceId). d.0) same in cc),
-    (
-      λ same. absurd (let bad : ◌≡◌ {A = ℕ} 7 0 = ap (λ (d : DeviceId). d.0) same in cc),
-      (
-        λ same. absurd (let bad : ◌≡◌ {A = ℕ} 4 0 = ap (λ (d : DeviceId). d.0) same in cc),
-        (
-          λ same. absurd (let bad : ◌≡◌ {A = ℕ} 4 0 = ap (λ (d : DeviceId). d.0) same in cc),
-          tt,
-        ),
-      ),
-    ),
-  ) place entry is;
-  switches = λ k earlier entry lt is_earlier is same switch. switch_target k place earlier entry lt is_earlier is switch;
-  end_systems =
-      λ k earlier entry channel lt is_earlier is same ends on_earlier on. client_rows k place earlier entry channel lt is_earlier is ends on_earlier on;
-}
+enters_anew place = grind (arith, entry_case, switch_target, client_rows)
 
 -- ---- both channels
 
@@ -257,20 +168,7 @@ not_end n device same ends never = never (subst (IsEndSystem worked) (sym same) 
 -- an end system that a row enters is the client
 end_entered : (place : ℕ) (entry : Entry) (device : DeviceId) → IsEntry worked place entry → target_of entry ≡ device → IsEndSystem worked device
     → device ≡ record { 0 = 4 }
-end_entered place entry device is target ends = entry_case
-    (λ k e. target_of e ≡ device → IsEndSystem worked device → device ≡ record { 0 = 4 }) (
-      λ target ends. absurd (not_end 5 device target ends (λ e. let bad : false ≡ true = e in cc)),
-      (
-        λ target ends. absurd (not_end 7 device target ends (λ e. let bad : false ≡ true = e in cc)),
-        (
-          λ target ends. sym target,
-          (
-            λ target ends. sym target,
-            tt,
-          ),
-        ),
-      ),
-    ) place entry is target ends
+end_entered place entry device is target ends = grind (arith, entry_case, not_end)
 
 pub both_channels : (place : ℕ) → GoesByBothChannels worked place
 both_channels place = record {
@@ -289,54 +187,14 @@ both_channels place = record {
 
 -- the window of a row into a switch ends before the rows that leave it
 early_window : (k : ℕ) (entering : Entry) → IsEntry worked k entering → (n : ℕ) → (target_of entering).0 ≡ n → 5 ≤ n → window_end worked entering < 28180480000
-early_window k entering is n same high = entry_case (λ j e. (target_of e).0 ≡ n → window_end worked e < 28180480000) (
-  λ same. leb-true 28091351045 28180480000 refl,
-  (
-    λ same. leb-true 28091351045 28180480000 refl,
-    (
-      λ same. absurd (let it : 4 ≡ n = same in omega (arith, it, high)),
-      (
-        λ same. absurd (let it : 4 ≡ n = same in omega (arith, it, high)),
-        tt,
-      ),
-    ),
-  ),
-) k entering is same
+early_window k entering is n same high = grind (arith, entry_case, leb-true)
 
 window_before : (k place : ℕ) (entering entry : Entry) → IsEntry worked k entering → IsEntry worked place entry → source_of entry ≢ entry.vl.sender
     → target_of entering ≡ source_of entry → window_end worked entering < amount entry.row.offset
-window_before k place entering entry is_entering is other same = entry_case
-    (λ n e. source_of e ≢ e.vl.sender → target_of entering ≡ source_of e → window_end worked entering < amount e.row.offset) (
-      λ other same. absurd (other refl),
-      (
-        λ other same. absurd (other refl),
-        (
-          λ other same. early_window k entering is_entering 5 (ap (λ (d : DeviceId). d.0) same) (leb-true 5 5 refl),
-          (
-            λ other same. early_window k entering is_entering 7 (ap (λ (d : DeviceId). d.0) same) (leb-true 5 7 refl),
-            tt,
-          ),
-        ),
-      ),
-    ) place entry is other same
+window_before k place entering entry is_entering is other same = grind (arith, entry_case, early_window, leb-true)
 
 pub comes_in_time : (place : ℕ) → ComesInTime worked place
-comes_in_time place = record {
-  from_sender = λ entry is. entry_case (λ k e. source_of e ≡ e.vl.sender → amount worked.tt_start ≤ amount e.row.offset) (
-    λ own. leb-true 26542080000 26542080000 refl,
-    (
-      λ own. leb-true 26542080000 26542080000 refl,
-      (
-        λ own. leb-true 26542080000 28180480000 refl,
-        (
-          λ own. leb-true 26542080000 28180480000 refl,
-          tt,
-        ),
-      ),
-    ),
-  ) place entry is;
-  from_switch = λ k entering entry is_entering is same_vl other same. window_before k place entering entry is_entering is other same;
-}
+comes_in_time place = grind (arith, entry_case, leb-true, window_before)
 
 few_of : (n : ℕ) → n ≤ 4 → n ≤ 256
 few_of n few = omega (arith, few)

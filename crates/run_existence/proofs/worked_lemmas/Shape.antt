@@ -1,8 +1,8 @@
 -- The worked network keeps the rules of its shape.
-use Rattle.std.proofs.Common.{◌+◌, ◌==◌, ◌∷◌, ◌≡◌, ◌⊎◌, IfSome, List, Option, Some, [], ap, arith, false, inl, inr, pos, refl, subst, sym, true, ℕ}
-use Rattle.std.{proofs.lemmas.{Bool.leb-true, Int.ints}, specs.{Option.unwrap_or, Prelude.{if◌then◌else◌, ◌-◌, ◌≤ℤ◌, IsNone, codes}}}
+use Rattle.std.proofs.Common.{◌+◌, ◌==◌, ◌∷◌, ◌≡◌, ◌⊎◌, List, Some, [], ap, arith, false, inl, inr, pos, refl, subst, sym, true, ℕ}
+use Rattle.std.{proofs.lemmas.{Bool.leb-true, Int.ints}, specs.Prelude.{if◌then◌else◌, ◌-◌, ◌≤ℤ◌, IsNone, codes}}
 use Rattle.net_plan.{proofs.SameIds.link_is, specs.Paths.{IsFirstPath, IsFirstUplink, IsUplink, LeadsToCm}}
-use Rattle.net_plan.specs.Places.{IsCmOf, IsDeviceOf, IsEndSystem, IsRoleOf, IsSwitchOf, is_end_system}
+use Rattle.net_plan.specs.Places.{IsCmOf, IsDeviceOf, IsEndSystem, IsRoleOf, is_end_system}
 use Rattle.net_plan.specs.Rules.{DeviceIsNew, ExactlyOne, HasOffSwitch, HasOneCm, IsChildOf, IsConnected, IsWithinLimits, JoinsChildToSwitch, LinkIsNew}
 use Rattle.net_plan.specs.{Rules.{MastersSuffice, masters}, declared.{ids.{DeviceId.DeviceId, LinkId.LinkId}, tables.Role.TheVariants.{Cm, Relay}}}
 use Rattle.pcf_values.specs.declared.channel.Channel.{Channel, TheVariants.{A, B}}
@@ -12,12 +12,7 @@ use Rattle.run_existence.{proofs.worked_lemmas.Lists.{all_each, at_place, number
 -- ---- limits and names
 
 pub limits_kept : (part : ℕ) → IsWithinLimits worked part
-limits_kept part = record {
-  devices = λ is. leb-true 9 64 refl;
-  links = λ is. leb-true 12 128 refl;
-  vls = λ is. leb-true 1 64 refl;
-  rows = λ is. leb-true 4 1024 refl;
-}
+limits_kept part = grind (arith, leb-true)
 
 abbrev device_names : List (List ℕ)
 device_names =
@@ -62,62 +57,8 @@ relay_of A = 5
 relay_of B = 7
 
 cm_is : (c : Channel) (n : ℕ) → IsCmOf worked c (record { 0 = n }) → n ≡ cm_of c
-cm_is A n it = some_place (λ k. k ≡ 6) (λ d. (d.role ≡ Cm) × (d.channel ≡ Some A)) worked.device (
-  λ h. absurd cc,
-  (
-    λ h. absurd cc,
-    (
-      λ h. absurd cc,
-      (
-        λ h. absurd cc,
-        (
-          λ h. absurd cc,
-          (
-            λ h. absurd cc,
-            (
-              λ h. refl,
-              (
-                λ h. absurd cc,
-                (
-                  λ h. absurd (let bad : Some B ≡ Some A = h.1 in cc),
-                  tt,
-                ),
-              ),
-            ),
-          ),
-        ),
-      ),
-    ),
-  ),
-) n it
-cm_is B n it = some_place (λ k. k ≡ 8) (λ d. (d.role ≡ Cm) × (d.channel ≡ Some B)) worked.device (
-  λ h. absurd cc,
-  (
-    λ h. absurd cc,
-    (
-      λ h. absurd cc,
-      (
-        λ h. absurd cc,
-        (
-          λ h. absurd cc,
-          (
-            λ h. absurd cc,
-            (
-              λ h. absurd (let bad : Some A ≡ Some B = h.1 in cc),
-              (
-                λ h. absurd cc,
-                (
-                  λ h. refl,
-                  tt,
-                ),
-              ),
-            ),
-          ),
-        ),
-      ),
-    ),
-  ),
-) n it
+cm_is A n it = grind (arith, some_place)
+cm_is B n it = grind (arith, some_place)
 
 device_is : (device : DeviceId) (n : ℕ) → device.0 ≡ n → device ≡ record { 0 = n }
 device_is device n e = ap (λ (k : ℕ). record { 0 = k }) e
@@ -135,45 +76,7 @@ cms_kept part = record { on_a = λ is. one_cm A; on_b = λ is. one_cm B }
 -- ---- links
 
 pub joins_kept : (i : ℕ) → JoinsChildToSwitch worked i
-joins_kept i link at = at_place
-    (λ k l. (channel : Channel) × IsSwitchOf worked channel l.parent × (IsEndSystem worked l.child ⊎ IsRoleOf worked Relay channel l.child)) worked.link (
-      (A, refl, inl refl),
-      (
-        (A, refl, inl refl),
-        (
-          (A, refl, inl refl),
-          (
-            (A, refl, inl refl),
-            (
-              (A, refl, inl refl),
-              (
-                (A, refl, inr (refl, refl)),
-                (
-                  (B, refl, inl refl),
-                  (
-                    (B, refl, inl refl),
-                    (
-                      (B, refl, inl refl),
-                      (
-                        (B, refl, inl refl),
-                        (
-                          (B, refl, inl refl),
-                          (
-                            (B, refl, inr (refl, refl)),
-                            tt,
-                          ),
-                        ),
-                      ),
-                    ),
-                  ),
-                ),
-              ),
-            ),
-          ),
-        ),
-      ),
-    )
-    i link at
+joins_kept i link at = grind (arith, at_place)
 
 -- the only uplink of the device on the channel
 abbrev pub up : Channel → ℕ → ℕ
@@ -181,89 +84,14 @@ up A n = n
 up B n = if n == 7 then 11 else n + 6
 
 pub uplink_is : (c : Channel) (device : DeviceId) (n : ℕ) → IsUplink worked c device (record { 0 = n }) → n ≡ up c device.0
-uplink_is A device n it = some_place (λ k. k ≡ up A device.0) (λ l. (l.child ≡ device) × IsSwitchOf worked A l.parent) worked.link (
-  λ h. ap (λ (d : DeviceId). up A d.0) h.0,
-  (
-    λ h. ap (λ (d : DeviceId). up A d.0) h.0,
-    (
-      λ h. ap (λ (d : DeviceId). up A d.0) h.0,
-      (
-        λ h. ap (λ (d : DeviceId). up A d.0) h.0,
-        (
-          λ h. ap (λ (d : DeviceId). up A d.0) h.0,
-          (
-            λ h. ap (λ (d : DeviceId). up A d.0) h.0,
-            (
-              λ h. absurd (let bad : Some B ≡ Some A = h.1 in cc),
-              (
-                λ h. absurd (let bad : Some B ≡ Some A = h.1 in cc),
-                (
-                  λ h. absurd (let bad : Some B ≡ Some A = h.1 in cc),
-                  (
-                    λ h. absurd (let bad : Some B ≡ Some A = h.1 in cc),
-                    (
-                      λ h. absurd (let bad : Some B ≡ Some A = h.1 in cc),
-                      (
-                        λ h. absurd (let bad : Some B ≡ Some A = h.1 in cc),
-                        tt,
-                      ),
-                    ),
-                  ),
-                ),
-              ),
-            ),
-          ),
-        ),
-      ),
-    ),
-  ),
-) n it
-uplink_is B device n it = some_place (λ k. k ≡ up B device.0) (λ l. (l.child ≡ device) × IsSwitchOf worked B l.parent) worked.link (
-  λ h. absurd (let bad : Some A ≡ Some B = h.1 in cc),
-  (
-    λ h. absurd (let bad : Some A ≡ Some B = h.1 in cc),
-    (
-      λ h. absurd (let bad : Some A ≡ Some B = h.1 in cc),
-      (
-        λ h. absurd (let bad : Some A ≡ Some B = h.1 in cc),
-        (
-          λ h. absurd (let bad : Some A ≡ Some B = h.1 in cc),
-          (
-            λ h. absurd (let bad : Some A ≡ Some B = h.1 in cc),
-            (
-              λ h. ap (λ (d : DeviceId). up B d.0) h.0,
-              (
-                λ h. ap (λ (d : DeviceId). up B d.0) h.0,
-                (
-                  λ h. ap (λ (d : DeviceId). up B d.0) h.0,
-                  (
-                    λ h. ap (λ (d : DeviceId). up B d.0) h.0,
-                    (
-                      λ h. ap (λ (d : DeviceId). up B d.0) h.0,
-                      (
-                        λ h. ap (λ (d : DeviceId). up B d.0) h.0,
-                        tt,
-                      ),
-                    ),
-                  ),
-                ),
-              ),
-            ),
-          ),
-        ),
-      ),
-    ),
-  ),
-) n it
+uplink_is A device n it = grind (arith, some_place)
+uplink_is B device n it = grind (arith, some_place)
 
 -- ---- connections
 
 first_uplink : (c : Channel) (n : ℕ) → IsUplink worked c (record { 0 = n }) (record { 0 = up c n })
     → IsFirstUplink worked c (record { 0 = n }) (record { 0 = up c n })
-first_uplink c n leads = record {
-  leads = leads;
-  first = λ earlier lt also. let same = uplink_is c (record { 0 = n }) earlier.0 also in omega (arith, lt, same);
-}
+first_uplink c n leads = grind (arith, leads, uplink_is)
 
 one_uplink : (c : Channel) (n : ℕ) → IsUplink worked c (record { 0 = n }) (record { 0 = up c n }) → ExactlyOne (IsUplink worked c (record { 0 = n }))
 one_uplink c n leads = (record { 0 = up c n }, leads, λ y has. link_is y (up c n) (uplink_is c (record { 0 = n }) y.0 has))
@@ -304,138 +132,12 @@ ends_lead n it =
     ) n it
 
 relay_is : (c : Channel) (n : ℕ) → IsRoleOf worked Relay c (record { 0 = n }) → n ≡ relay_of c
-relay_is A n it = some_place (λ k. k ≡ 5) (λ d. (d.role ≡ Relay) × (d.channel ≡ Some A)) worked.device (
-  λ h. absurd cc,
-  (
-    λ h. absurd cc,
-    (
-      λ h. absurd cc,
-      (
-        λ h. absurd cc,
-        (
-          λ h. absurd cc,
-          (
-            λ h. refl,
-            (
-              λ h. absurd cc,
-              (
-                λ h. absurd (let bad : Some B ≡ Some A = h.1 in cc),
-                (
-                  λ h. absurd cc,
-                  tt,
-                ),
-              ),
-            ),
-          ),
-        ),
-      ),
-    ),
-  ),
-) n it
-relay_is B n it = some_place (λ k. k ≡ 7) (λ d. (d.role ≡ Relay) × (d.channel ≡ Some B)) worked.device (
-  λ h. absurd cc,
-  (
-    λ h. absurd cc,
-    (
-      λ h. absurd cc,
-      (
-        λ h. absurd cc,
-        (
-          λ h. absurd cc,
-          (
-            λ h. absurd (let bad : Some A ≡ Some B = h.1 in cc),
-            (
-              λ h. absurd cc,
-              (
-                λ h. refl,
-                (
-                  λ h. absurd cc,
-                  tt,
-                ),
-              ),
-            ),
-          ),
-        ),
-      ),
-    ),
-  ),
-) n it
+relay_is A n it = grind (arith, some_place)
+relay_is B n it = grind (arith, some_place)
 
 child_is : (c : Channel) (n : ℕ) → IsChildOf worked (record { 0 = relay_of c }) (record { 0 = n }) → n ≡ up c (relay_of c)
-child_is A n it = some_place (λ k. k ≡ 5) (λ l. l.child ≡ record { 0 = 5 }) worked.link (
-  λ h. absurd (let bad : ◌≡◌ {A = ℕ} 0 5 = ap (λ (d : DeviceId). d.0) h in cc),
-  (
-    λ h. absurd (let bad : ◌≡◌ {A = ℕ} 1 5 = ap (λ (d : DeviceId). d.0) h in cc),
-    (
-      λ h. absurd (let bad : ◌≡◌ {A = ℕ} 2 5 = ap (λ (d : DeviceId). d.0) h in cc),
-      (
-        λ h. absurd (let bad : ◌≡◌ {A = ℕ} 3 5 = ap (λ (d : DeviceId). d.0) h in cc),
-        (
-          λ h. absurd (let bad : ◌≡◌ {A = ℕ} 4 5 = ap (λ (d : DeviceId). d.0) h in cc),
-          (
-            λ h. refl,
-            (
-              λ h. absurd (let bad : ◌≡◌ {A = ℕ} 0 5 = ap (λ (d : DeviceId). d.0) h in cc),
-              (
-                λ h. absurd (let bad : ◌≡◌ {A = ℕ} 1 5 = ap (λ (d : DeviceId). d.0) h in cc),
-                (
-                  λ h. absurd (let bad : ◌≡◌ {A = ℕ} 2 5 = ap (λ (d : DeviceId). d.0) h in cc),
-                  (
-                    λ h. absurd (let bad : ◌≡◌ {A = ℕ} 3 5 = ap (λ (d : DeviceId). d.0) h in cc),
-                    (
-                      λ h. absurd (let bad : ◌≡◌ {A = ℕ} 4 5 = ap (λ (d : DeviceId). d.0) h in cc),
-                      (
-                        λ h. absurd (let bad : ◌≡◌ {A = ℕ} 7 5 = ap (λ (d : DeviceId). d.0) h in cc),
-                        tt,
-                      ),
-                    ),
-                  ),
-                ),
-              ),
-            ),
-          ),
-        ),
-      ),
-    ),
-  ),
-) n it
-child_is B n it = some_place (λ k. k ≡ 11) (λ l. l.child ≡ record { 0 = 7 }) worked.link (
-  λ h. absurd (let bad : ◌≡◌ {A = ℕ} 0 7 = ap (λ (d : DeviceId). d.0) h in cc),
-  (
-    λ h. absurd (let bad : ◌≡◌ {A = ℕ} 1 7 = ap (λ (d : DeviceId). d.0) h in cc),
-    (
-      λ h. absurd (let bad : ◌≡◌ {A = ℕ} 2 7 = ap (λ (d : DeviceId). d.0) h in cc),
-      (
-        λ h. absurd (let bad : ◌≡◌ {A = ℕ} 3 7 = ap (λ (d : DeviceId). d.0) h in cc),
-        (
-          λ h. absurd (let bad : ◌≡◌ {A = ℕ} 4 7 = ap (λ (d : DeviceId). d.0) h in cc),
-          (
-            λ h. absurd (let bad : ◌≡◌ {A = ℕ} 5 7 = ap (λ (d : DeviceId). d.0) h in cc),
-            (
-              λ h. absurd (let bad : ◌≡◌ {A = ℕ} 0 7 = ap (λ (d : DeviceId). d.0) h in cc),
-              (
-                λ h. absurd (let bad : ◌≡◌ {A = ℕ} 1 7 = ap (λ (d : DeviceId). d.0) h in cc),
-                (
-                  λ h. absurd (let bad : ◌≡◌ {A = ℕ} 2 7 = ap (λ (d : DeviceId). d.0) h in cc),
-                  (
-                    λ h. absurd (let bad : ◌≡◌ {A = ℕ} 3 7 = ap (λ (d : DeviceId). d.0) h in cc),
-                    (
-                      λ h. absurd (let bad : ◌≡◌ {A = ℕ} 4 7 = ap (λ (d : DeviceId). d.0) h in cc),
-                      (
-                        λ h. refl,
-                        tt,
-                      ),
-                    ),
-                  ),
-                ),
-              ),
-            ),
-          ),
-        ),
-      ),
-    ),
-  ),
-) n it
+child_is A n it = grind (arith, some_place)
+child_is B n it = grind (arith, some_place)
 
 relay_child : (c : Channel) → IsChildOf worked (record { 0 = relay_of c }) (record { 0 = up c (relay_of c) })
 relay_child A = refl
@@ -533,50 +235,10 @@ some_start : IsNone (Some (units_of 0)) → ⊥
 some_start none = cc
 
 pub no_off_switch : (c : Channel) → HasOffSwitch worked c → ⊥
-no_off_switch c off = some_place (λ k. ⊥) (λ d. (d.channel ≡ Some c) × IsNone d.start) worked.device (
-  λ h. some_start h.1,
-  (
-    λ h. some_start h.1,
-    (
-      λ h. some_start h.1,
-      (
-        λ h. some_start h.1,
-        (
-          λ h. some_start h.1,
-          (
-            λ h. some_start h.1,
-            (
-              λ h. some_start h.1,
-              (
-                λ h. some_start h.1,
-                (
-                  λ h. some_start h.1,
-                  tt,
-                ),
-              ),
-            ),
-          ),
-        ),
-      ),
-    ),
-  ),
-) off.0.0 off.1
+no_off_switch c off = grind (arith, some_place, some_start)
 
 low : pos 0 ≤ℤ pos 345000000
 low = omega (arith, ints)
 
 pub masters_kept : (part : ℕ) → MastersSuffice worked part
-masters_kept part = record {
-  least = λ is. leb-true 4 4 refl;
-  most = λ is. leb-true 4 5 refl;
-  members = λ is j k d e lt at_j at_k same.
-      numbered_apart (λ x. unwrap_or x.member 4) (masters worked) (refl, (refl, (refl, (refl, tt)))) j k d e lt at_j at_k
-      (sym (ap (λ (o : Option ℕ). unwrap_or o 4) same));
-  threshold_least = λ is. leb-true 3 3 refl;
-  threshold_most = λ is. leb-true 4 4 refl;
-  begin_on = λ is. leb-true 3 4 refl;
-  starts =
-      λ is. all_each (λ d. IfSome d.start (λ start. start.0 ≤ℤ worked.settled.0)) worked.device
-      (low, (low, (low, (low, (low, (low, (low, (low, (low, tt)))))))));
-  one_faulty = λ is c e off also. absurd (no_off_switch c off);
-}
+masters_kept part = grind (arith, leb-true, numbered_apart, all_each, low, no_off_switch)

@@ -1,7 +1,6 @@
 -- The worked network keeps the rules of its times.
 use Rattle.std.proofs.{Common.{◌*◌, ◌+◌, ◌≤◌, arith, refl, ℕ}, lemmas.Bool.leb-true}
-use Rattle.schedule_tables.specs.Delays.{CorrectionFits, DelaysFit, ErrorsSettle, PrecisionFits, ScheduleFits, pcf_port_time}
-use Rattle.tte_units.specs.Amount.{amount}
+use Rattle.schedule_tables.specs.Delays.{CorrectionFits, DelaysFit, ErrorsSettle, PrecisionFits, ScheduleFits}
 use Rattle.run_existence.{proofs.worked_lemmas.{Lists.all_each, Trips.{delays_at_most, low_beta}}, specs.worked.Worked.worked}
 
 pub delays_fit : (place : ℕ) → DelaysFit worked place
@@ -29,8 +28,4 @@ begins : 26261585920 ≤ 26542080000
 begins = leb-true 26261585920 26542080000 refl
 
 pub schedule_fits : ScheduleFits worked
-schedule_fits = record {
-  begins = all_each (λ link. amount worked.correction + amount worked.dmax + 4 * amount worked.precision + pcf_port_time link ≤ amount worked.tt_start)
-      worked.link (begins, (begins, (begins, (begins, (begins, (begins, (begins, (begins, (begins, (begins, (begins, (begins, tt))))))))))));
-  ends = leb-true 30736384000 131072000000 refl;
-}
+schedule_fits = grind (arith, begins, all_each, leb-true)

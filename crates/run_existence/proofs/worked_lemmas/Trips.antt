@@ -1,11 +1,10 @@
 -- How long the paths of the worked network are, and what they add up to.
-use Rattle.std.proofs.Common.{if◌then◌else◌, ◌*◌, ◌+◌, ◌==◌, ◌||◌, ◌∷◌, ◌≡◌, ◌≤◌, IsSomeAnd, List, [], ap, arith, false, inl, inr, length, pos, refl, slice_get}
+use Rattle.std.proofs.Common.{if◌then◌else◌, ◌*◌, ◌==◌, ◌||◌, ◌∷◌, ◌≡◌, ◌≤◌, IsSomeAnd, List, [], ap, arith, length, pos, slice_get}
 use Rattle.std.{proofs.{Common.{suc, true, unsigned_abs, zero, ℕ}, lemmas.Bool.leb-true}, specs.{Option.option_map_or, Prelude.sum_by}}
 use Rattle.net_plan.specs.{Bounds.{IsBeta, IsGreatest, IsOfPath, jitter_of, jitter_on}, Paths.IsPath, Places.{IsSwitchOf, link_at}}
 use Rattle.net_plan.specs.declared.{ids.{DeviceId.DeviceId, LinkId.LinkId}, tables.Link.Link}
 use Rattle.pcf_values.specs.declared.channel.Channel.{Channel}
-use Rattle.schedule_tables.specs.Delays.{delay_by, delay_of, delay_on}
-use Rattle.tte_units.specs.Amount.{amount}
+use Rattle.schedule_tables.specs.Delays.{delay_of, delay_on}
 use Rattle.run_existence.{proofs.worked_lemmas.Lists.{AllEach, some_place}, specs.worked.Worked.worked}
 
 leb_zero : (n : ℕ) → 0 ≤ n
@@ -22,10 +21,7 @@ abbrev height : ℕ → ℕ
 height n = if n == 6 || n == 8 then 0 else (if n == 5 || n == 7 then 1 else 2)
 
 low_height : (n : ℕ) → height n ≤ 2
-low_height n = elim (n == 6 || n == 8) as (λ b. (if b then 0 else (if n == 5 || n == 7 then 1 else 2)) ≤ 2) [
-  | true ↦ leb-true 0 2 refl
-  | false ↦ elim (n == 5 || n == 7) as (λ b. (if b then 1 else 2) ≤ 2) [ true ↦ leb-true 1 2 refl | false ↦ leb-true 2 2 refl ]
-]
+low_height n = grind (arith, leb-true)
 
 -- a path goes on from the parent of its first link, which is nearer to the compression master
 record GoesOn (c : Channel) (device : DeviceId) (links : List LinkId) : Type 0 where
@@ -36,44 +32,7 @@ record GoesOn (c : Channel) (device : DeviceId) (links : List LinkId) : Type 0 w
 goes_on : (c : Channel) (device : DeviceId) (links : List LinkId) (n : ℕ)
     → IsSomeAnd (link_at worked (record { 0 = n })) (λ l. (l.child ≡ device) × IsSwitchOf worked c l.parent × IsPath worked c l.parent links)
     → GoesOn c device links
-goes_on c device links n it = some_place (λ k. GoesOn c device links)
-    (λ l. (l.child ≡ device) × IsSwitchOf worked c l.parent × IsPath worked c l.parent links) worked.link (
-      λ h. record { parent = record { 0 = 5 }; path = h.2; nearer = ap (λ (d : DeviceId). height d.0) h.0 },
-      (
-        λ h. record { parent = record { 0 = 5 }; path = h.2; nearer = ap (λ (d : DeviceId). height d.0) h.0 },
-        (
-          λ h. record { parent = record { 0 = 5 }; path = h.2; nearer = ap (λ (d : DeviceId). height d.0) h.0 },
-          (
-            λ h. record { parent = record { 0 = 5 }; path = h.2; nearer = ap (λ (d : DeviceId). height d.0) h.0 },
-            (
-              λ h. record { parent = record { 0 = 5 }; path = h.2; nearer = ap (λ (d : DeviceId). height d.0) h.0 },
-              (
-                λ h. record { parent = record { 0 = 6 }; path = h.2; nearer = ap (λ (d : DeviceId). height d.0) h.0 },
-                (
-                  λ h. record { parent = record { 0 = 7 }; path = h.2; nearer = ap (λ (d : DeviceId). height d.0) h.0 },
-                  (
-                    λ h. record { parent = record { 0 = 7 }; path = h.2; nearer = ap (λ (d : DeviceId). height d.0) h.0 },
-                    (
-                      λ h. record { parent = record { 0 = 7 }; path = h.2; nearer = ap (λ (d : DeviceId). height d.0) h.0 },
-                      (
-                        λ h. record { parent = record { 0 = 7 }; path = h.2; nearer = ap (λ (d : DeviceId). height d.0) h.0 },
-                        (
-                          λ h. record { parent = record { 0 = 7 }; path = h.2; nearer = ap (λ (d : DeviceId). height d.0) h.0 },
-                          (
-                            λ h. record { parent = record { 0 = 8 }; path = h.2; nearer = ap (λ (d : DeviceId). height d.0) h.0 },
-                            tt,
-                          ),
-                        ),
-                      ),
-                    ),
-                  ),
-                ),
-              ),
-            ),
-          ),
-        ),
-      ),
-    ) n it
+goes_on c device links n it = grind (arith, some_place)
 
 -- so its links are few
 few_links : (c : Channel) (device : DeviceId) (links : List LinkId) → IsPath worked c device links → length links ≤ height device.0
@@ -86,9 +45,7 @@ few_links c device (link ∷ links) path =
 
 pub at_most_two : (c : Channel) (device : DeviceId) (links : List LinkId) → IsPath worked c device links → length links ≤ 2
 at_most_two c device links path =
-    let few = few_links c device links path in
-    let low = low_height device.0 in
-    omega (arith, few, low)
+    grind (arith, few_links, low_height)
 
 -- ---- sums over links
 
@@ -105,20 +62,11 @@ sum_at_most f b low (a ∷ c ∷ d ∷ links) few = absurd (omega (arith, few))
 
 low_jitter : (link : LinkId) → jitter_of worked link ≤ 1310720
 low_jitter link =
-    each_at_most (λ l. amount l.jitter) 1310720 worked.link (
-      jitter_low,
-      (
-        jitter_low,
-        (jitter_low, (jitter_low, (jitter_low, (jitter_low, (jitter_low, (jitter_low, (jitter_low, (jitter_low, (jitter_low, (jitter_low, tt)))))))))),
-      ),
-    ) link.0
+    grind (arith, each_at_most, jitter_low)
 
 low_delay : (link : LinkId) → delay_of worked link ≤ 1344798720
 low_delay link =
-    each_at_most delay_by 1344798720 worked.link (
-      delay_low,
-      (delay_low, (delay_low, (delay_low, (delay_low, (delay_low, (delay_low, (delay_low, (delay_low, (delay_low, (delay_low, (delay_low, tt))))))))))),
-    ) link.0
+    grind (arith, each_at_most, delay_low)
 
 pub delays_at_most : (c : Channel) (device : DeviceId) (links : List LinkId) → IsPath worked c device links → delay_on worked links ≤ 2 * 1344798720
 delays_at_most c device links path = sum_at_most (delay_of worked) 1344798720 low_delay links (at_most_two c device links path)
@@ -132,18 +80,9 @@ greatest_at_most : (measure : List LinkId → ℕ) (b m : ℕ) → ((c : Channel
     → measure links ≤ b)
     → IsGreatest (IsOfPath worked measure) m → m ≤ b
 greatest_at_most measure b m low g =
-    elim g.reached [
-      | inl none ↦ omega (arith, none)
-      | inr has ↦
-          let most = low has.0 has.1.0 has.1.1.0 has.1.1.2 in
-          let is = has.1.1.3 in
-          omega (arith, most, is)
-    ]
+    grind arith
 
 -- beta is at most that of two links with the greatest jitter
 pub low_beta : (beta : ℕ) → IsBeta worked (pos beta) → beta ≤ 3276832
 low_beta beta b =
-    let jitter = greatest_at_most (jitter_on worked) (2 * 1310720) b.jitter jitters_at_most b.jitter_greatest in
-    let links = greatest_at_most length 2 b.links at_most_two b.links_greatest in
-    let value : beta ≡ b.jitter + 655360 + 8 * (b.links + 2) = ap unsigned_abs b.value in
-    omega (arith, jitter, links, value)
+    grind (arith, greatest_at_most, jitters_at_most, length, at_most_two, unsigned_abs)

@@ -1,4 +1,5 @@
 -- What a frame is judged as, and what it ripens to.
+use Rattle.std.proofs.Common.{arith}
 use Rattle.run_law.proofs.Words.{◌≡◌, Bool, DeviceId, Happening, Integrates, Integrating, Joining, Judgement, List, Members, Network, None, NoteBody, Option}
 use Rattle.run_law.proofs.Words.{Pcf, Reason, Ripe, Some, State, Synchronised, false, observation_window, option_map, refl, ripe_as, true, ℕ, ℤ}
 use Rattle.std.proofs.Common.{MatchBool, cond}
@@ -16,9 +17,7 @@ use Rattle.sync_state.specs.declared.state.State.TheVariants as states
 -- a role in a collection is no integration
 pub role_not : (taken : Taken) → ripe.Integrates ≡ ripe_by_role taken → ⊥
 role_not takings.Opened e = cc
-role_not takings.Joined e = cc
-role_not takings.Repeat e = cc
-role_not takings.OtherCycle e = cc
+role_not other e = cc
 
 pub collected_not : (network : Network) (points : List Point) (p : Point) (fault : Option Reason) → IsCollectedOrDropped network points p fault ripe.Integrates
     → ⊥
@@ -27,12 +26,7 @@ collected_not network points p (Some reason) so = cc
 
 pub never_dropped : (v : Judgement) (reason : Reason) → ripe.Dropped reason ≡ ripe_as v → ⊥
 never_dropped judgements.Opened reason e = cc
-never_dropped judgements.Joined reason e = cc
-never_dropped judgements.Repeat reason e = cc
-never_dropped judgements.Within reason e = cc
-never_dropped judgements.Outside reason e = cc
-never_dropped judgements.Integrates reason e = cc
-never_dropped judgements.Ignored reason e = cc
+never_dropped other reason e = cc
 
 -- where no reason is the first, its test fails and no later one is
 pub none_first : (b : Bool) (x : Bool × Reason) (o : Option (Bool × Reason)) → option_map (λ test. test.1) (cond b (Some x) o) ≡ None
@@ -79,16 +73,8 @@ pub looking_ripe : (plan : SyncPlan) (precision : ℤ) (state : State) (adjustme
     → ripe.Integrates ≡ ripe_as (heard_as plan precision state adjustment point cycle members) → state ≡ Integrating
 looking_ripe plan precision Off adjustment point cycle members e = absurd cc
 looking_ripe plan precision Integrating adjustment point cycle members e = refl
-looking_ripe plan precision Joining adjustment point cycle members e = absurd (not_scheduled _ e)
-  where
-    not_scheduled : (b : Bool) → ripe.Integrates ≡ ripe_as (heard_by_schedule b) → ⊥
-    not_scheduled true e = cc
-    not_scheduled false e = cc
-looking_ripe plan precision Synchronised adjustment point cycle members e = absurd (not_scheduled _ e)
-  where
-    not_scheduled : (b : Bool) → ripe.Integrates ≡ ripe_as (heard_by_schedule b) → ⊥
-    not_scheduled true e = cc
-    not_scheduled false e = cc
+looking_ripe plan precision Joining adjustment point cycle members e = grind (arith, ripe_as)
+looking_ripe plan precision Synchronised adjustment point cycle members e = grind (arith, ripe_as)
 
 pub in_time_not : (b : Bool) → ripe_as (heard_by_schedule b) ≡ ripe.Integrates → ⊥
 in_time_not true e = cc

@@ -1,9 +1,9 @@
 -- The state of a device.
-use Rattle.run_law.proofs.Words.{if◌then◌else◌, ◌+ℤ◌, ◌<ℤ◌, ◌≡◌, Bool, DeviceId, Happening, Integrates, Joining, List, None, NoteBody, Scenario, State}
-use Rattle.run_law.proofs.Words.{Synchronised, Units, adjustment_after, earlier, false, is_joined_by, is_off, last_or, option_map_or, pos, refl, subst, time_of}
+use Rattle.std.proofs.Common.{arith}
+use Rattle.run_law.proofs.Words.{if◌then◌else◌, ◌≡◌, Bool, DeviceId, Happening, Integrates, Joining, List, NoteBody, Scenario, State}
+use Rattle.run_law.proofs.Words.{Synchronised, Units, adjustment_after, earlier, false, is_joined_by, is_off, last_or, option_map_or, refl, time_of}
 use Rattle.run_law.proofs.Words.{true, ℕ, ℤ}
-use Rattle.std.{proofs.Common.filter, specs.Prelude.◌-ℤ◌}
-use Rattle.drift_clock.specs.Reach.{IsReach}
+use Rattle.std.{proofs.Common.filter}
 use Rattle.run_law.specs.device.{LocalClocks.{Reaches, changes_adjustment}, States.{adjustment_with, is_synchronised}}
 use Rattle.run_law.specs.declared.note.NoteBody.TheVariants as notes
 
@@ -11,11 +11,7 @@ use Rattle.run_law.specs.declared.note.NoteBody.TheVariants as notes
 pub reaches_by : (s : Scenario) (gs hs : List Happening) (device : DeviceId) (v : ℤ) (t : ℕ) → earlier t gs ≡ earlier t hs → Reaches s gs device v t
     → Reaches s hs device v t
 reaches_by s gs hs device v t same h =
-    let changed : List Happening → ℕ = λ es. option_map_or time_of (last_or None (filter (λ x. changes_adjustment device x.note.body) es)) 0 in
-    record {
-      below = subst (λ (es : List Happening). (pos (s.reading device (changed es)) +ℤ (adjustment_after s es device).0) <ℤ v) same h.below;
-      reach = subst (λ (es : List Happening). IsReach (s.reading device) (pos (changed es)) (v -ℤ (adjustment_after s es device).0) (pos t)) same h.reach;
-    }
+    grind (arith, option_map_or, time_of, last_or, filter, adjustment_after)
 
 -- the test of the state
 pub is_in : (state : State) → is_synchronised state ≡ true → state ≡ Synchronised

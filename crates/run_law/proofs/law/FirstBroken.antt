@@ -1,12 +1,13 @@
 -- A broken device is still.
-use Rattle.run_law.proofs.Words.{if◌then◌else◌, ◌++◌, ◌∙◌, ◌∷◌, ◌≡◌, Arrival, ArrivesAs, Bool, ChangesState, DeviceId, Happening, Integrates, IsArrivedRecord}
+use Rattle.std.proofs.Common.{arith}
+use Rattle.run_law.proofs.Words.{if◌then◌else◌, ◌++◌, ◌∷◌, ◌≡◌, Arrival, ArrivesAs, Bool, ChangesState, DeviceId, Happening, Integrates, IsArrivedRecord}
 use Rattle.run_law.proofs.Words.{IsCaused, IsDropped, IsDue, IsFounded, LinkId, List, Network, NoteBody, Ok, Option, Pcf, Reason, Scenario, Some, Standpoint}
 use Rattle.run_law.proofs.Words.{State, Units, Why, amount, ap, arrival_of, control, control_arrival, eqb-true, false, frame_fault, frame_or_fault, inl, inr}
 use Rattle.run_law.proofs.Words.{is_broken, is_joined_by, is_off, not, place_of, refl, standpoint, subst, sym, true, ℕ}
 use Rattle.std.{proofs.lemmas.Bool.{and_right, both_ways, not_from_true}, specs.Prelude.{Err, Result}}
 use Rattle.pcf_codec.specs.declared.refusal.PcfRefusal.{PcfRefusal}
 use Rattle.run_law.{proofs.law.FirstPlaces.{founded_at, numbered_front, numbered_in}, specs.control.{Arrivals.refused, Losses.IsLost, Wires.{Signal, timed}}}
-use Rattle.run_law.specs.{declared.judgement.Reason.TheVariants.Off, device.States.state_before, law.FirstLaws.{BrokenAreStill, IsLeftToBroken}}
+use Rattle.run_law.specs.{declared.judgement.Reason.TheVariants.Off, law.FirstLaws.{BrokenAreStill, IsLeftToBroken}}
 use Rattle.run_law.specs.{records.Causes.{IsOfThisTime, device_of}, timed.{Arrivals.{octets_fault, octets_or_fault, timed_arrival}, Receptions.last_taken}}
 use Rattle.run_law.specs.declared.judgement.Why.TheVariants as whys
 use Rattle.run_law.specs.declared.note.NoteBody.TheVariants as notes
@@ -40,9 +41,7 @@ off_arrival s ps t device link cause (timed octets) off =
 dropped_off : (s : Scenario) (ps : List Happening) (t : ℕ) (device : DeviceId) (link : LinkId) (cause : ℕ) (a : Arrival) → is_broken s device t ≡ true
     → ArrivesAs s ps device t link cause a → a ≡ arrivals.Dropped Off
 dropped_off s ps t device link cause a broken comes =
-    let off : (standpoint s ps device t).takes_part ≡ false = and_right (not (is_off (state_before s ps device t))) (not (is_broken s device t))
-    (not_from_true (is_broken s device t) broken) in
-    comes.becomes ∙ off_arrival s ps t device link cause comes.signal off
+    grind (arith, standpoint, and_right, not, is_off, is_broken, not_from_true, off_arrival)
 
 -- ---- what is correct is not broken
 

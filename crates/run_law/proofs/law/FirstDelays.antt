@@ -1,5 +1,5 @@
 -- The delays and holds that events within the fault hypothesis set, and how far a clock grows over a hold.
-use Rattle.run_law.proofs.Words.{◌*◌, ◌+ℤ◌, ◌+◌, ◌/◌, ◌<ℤ◌, ◌<◌, ◌==◌, ◌^◌, ◌∷◌, ◌≡◌, ◌≤ℤ◌, ◌≤◌, ◌⊎◌, Event, IsIn, IsWithinHypothesis, Link, LinkId, List}
+use Rattle.run_law.proofs.Words.{◌+ℤ◌, ◌+◌, ◌<ℤ◌, ◌<◌, ◌==◌, ◌∷◌, ◌≡◌, ◌≤ℤ◌, ◌≤◌, ◌⊎◌, Event, IsIn, IsWithinHypothesis, Link, LinkId, List}
 use Rattle.run_law.proofs.Words.{Network, None, Option, Scenario, Some, Units, Way, What, [], amount, ap, arith, beta_at, cons_option, eqb-true, filter_map}
 use Rattle.run_law.proofs.Words.{in_all, inl, inr, ints, last_or, length, link_at, option_map_or, pos, refl, slice_get, subst, sym, true, ℕ}
 use Rattle.std.{proofs.{Math.Nat.mul-le-mul_left, lemmas.{Bool.and_parts, Int.by_lt_z}}, specs.{Option.unwrap_or, Prelude.nat_le}}
@@ -140,7 +140,4 @@ delay_least s link l way t lawful there least =
 pub grows_little : (n : Network) (jitter links hold wire spread held seen : ℕ) → 1 ≤ amount n.grain → Measures n.rho (amount n.grain) held seen → held ≤ hold
     → beta_at n jitter links + (wire + spread + hold) ≤ amount n.dmax → seen ≤ amount n.dmax
 grows_little n jitter links hold wire spread held seen grain measures short room =
-    let within : held ≤ amount n.dmax = omega (arith, short, room) in
-    let drift : n.rho * held ≤ n.rho * amount n.dmax = mul-le-mul_left n.rho within in
-    let floor : 4 * n.rho * amount n.dmax < 10 ^ 9 * (4 * n.rho * amount n.dmax / 10 ^ 9 + 1) = omega arith in
-    omega (arith, grain, measures, drift, floor, short, room)
+    grind (arith, amount, mul-le-mul_left)

@@ -77,15 +77,7 @@ record IsPutBy (ps : List Happening) (cause : ℕ) : Type 0 where
 -- a frame that is taken was put by such a record
 put_of : (s : Scenario) (ps : List Happening) (t : ℕ) (device : DeviceId) (link : LinkId) (cause : ℕ) (a : Arrival) → ArrivesAs s ps device t link cause a
     → IsTaking a → IsPutBy ps cause
-put_of s ps t device link cause a comes takes = record {
-  putting = comes.putting;
-  there = comes.there;
-  puts = elim (put_by s comes.putting (time_of comes.putting) comes.putting.note.body _ comes.arrives.put) [
-    | inl puts ↦ puts
-    | inr c ↦ absurd (never_control s.network device link (standpoint s ps device t) c.0
-        (subst IsTaking (comes.becomes ∙ ap (arrival_of s ps device t link cause) c.1) takes))
-  ];
-}
+put_of s ps t device link cause a comes takes = grind (arith, put_by, time_of, never_control, standpoint, arrival_of)
 
 -- the record says that a device took a frame of a virtual link
 abbrev IsTaken : NoteBody → Type 0
@@ -120,10 +112,7 @@ further hs h g there back =
 pub last_in : (o : Option Happening) (hs : List Happening) (h : Happening) → last_or o hs ≡ Some h → (o ≡ Some h) ⊎ IsIn h hs
 last_in o [] h e = inl e
 last_in o (g ∷ hs) h e =
-    elim (last_in (Some g) hs h e) [
-      | inl same ↦ let one : h ≡ g = sym (same_some (Some g) g h refl same) in inr (inl one)
-      | inr more ↦ inr (inr more)
-    ]
+    grind (arith, same_some, (last_in (Some g) hs h e))
 
 -- where nothing was given, the last of a list is in it
 last_there : (hs : List Happening) (h : Happening) → last_or None hs ≡ Some h → IsIn h hs

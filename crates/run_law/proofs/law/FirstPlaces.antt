@@ -172,11 +172,4 @@ due_is_there s mark hs x at run due here =
 -- where the records part at a place of a time, the front has all those of earlier times
 pub same_earlier : (t : ℕ) (more : List ℕ) (hs : List Happening) (at : IsSplit place_of hs (t ∷ more)) → earlier t at.front ≡ earlier t hs
 same_earlier t more hs at =
-    let none : earlier t at.rest ≡ [] = none_kept (λ h. nat_lt (time_of h) t) at.rest (λ h i. elim (cases_lt (time_of h) t) [
-      | inl lt ↦ absurd (at.none h i (inl lt))
-      | inr ge ↦ le-ltb (time_of h) t ge
-    ]) in
-    sym (append-nil (earlier t at.front))
-    ∙ ap (λ (gs : List Happening). earlier t at.front ++ gs) (sym none)
-    ∙ sym (filter-append (λ h. nat_lt (time_of h) t) at.front at.rest)
-    ∙ ap (earlier t) (sym at.whole)
+    grind (arith, earlier, none_kept, nat_lt, time_of, cases_lt, le-ltb, append-nil, filter-append)

@@ -1,6 +1,6 @@
 -- The frames of masters come to the first switches of their ways.
 use Rattle.run_law.proofs.Words.{if◌then◌else◌, ◌&&◌, ◌+◌, ◌-◌, ◌<◌, ◌==◌, ◌∙◌, ◌∷◌, ◌≡◌, ◌≤◌, ◌⊎◌, Arrival, ArrivesAs, Bool, Departs, Device, DeviceId, Down}
-use Rattle.run_law.proofs.Words.{Gives, Happening, Integrating, IsArrivedRecord, IsBefore, IsCaused, IsDue, IsFounded, IsIn, IsRun, Launch, Link, LinkId, List}
+use Rattle.run_law.proofs.Words.{Gives, Happening, Integrating, IsArrivedRecord, IsBefore, IsCaused, IsDue, IsFounded, IsIn, IsRun, Link, LinkId, List}
 use Rattle.run_law.proofs.Words.{Network, None, Note, NoteBody, Ok, Option, Pcf, Reason, Scenario, Some, Standpoint, Units, Up, Way, [], adjustment_after}
 use Rattle.run_law.proofs.Words.{amount, ap, arith, beta_at, cases_lt, control, control_arrival, device_at, false, frame_fault, frame_or_fault, happening}
 use Rattle.run_law.proofs.Words.{in_all, inl, inr, ints, is_broken, is_master, is_off, is_parent_of, is_relay, key, launched, le-ltb, length, link_at}
@@ -10,7 +10,7 @@ use Rattle.std.{proofs.lemmas.Bool.{both_ways, ne_eqb, not_from_true}, specs.Pre
 use Rattle.net_plan.{proofs.{Amounts.amount_within, Beta.beta_exists, Shape.rules_give_trees}, specs.{Bounds.IsBeta, Places.is_end_system}}
 use Rattle.net_plan.specs.{Ranges.{IsDeviceInRange, IsInRange, IsLinkInRange}, Rules.IsChildOf}
 use Rattle.pcf_values.specs.declared.channel.Channel.{Channel}
-use Rattle.schedule_tables.{proofs.Margins.{margins, master_ends, shape_rules}, specs.{Delays.delay_by, Entries.target_by, Rules.KeepsRules}}
+use Rattle.schedule_tables.{proofs.Margins.{margins, master_ends, shape_rules}, specs.{Delays.delay_by, Rules.KeepsRules}}
 use Rattle.schedule_tables.specs.declared.rule.Rule.TheVariants.{Joints}
 use Rattle.tte_lemmas.proofs.Options.{closed, opened}
 use Rattle.run_law.proofs.law.FirstDelays.{delay_least, grows_little, hold_most}
@@ -18,7 +18,7 @@ use Rattle.run_law.proofs.{law.FirstPlaces.{IsSplit, by_number, due_is_there, fo
 use Rattle.run_law.specs.control.{Leaving.{clock_at_leaving, leaves, on_cut_way, too_old}, Wires.Arrives}
 use Rattle.run_law.specs.{law.FirstLaws.{ComesTo, IsLawful, SentFramesCome, arrival_time, leaving_time}, records.Frames.dispatched_frame}
 use Rattle.run_law.specs.{records.Happenings.{frame_by, frame_from, with_clock}, scenario.{Devices.has_role, Scenarios.is_turned_on_at}}
-use Rattle.run_law.specs.scenario.Ways.{delay_at, hold_at, is_cut, way_from}
+use Rattle.run_law.specs.scenario.Ways.{hold_at, is_cut, way_from}
 use Rattle.run_law.specs.declared.note.NoteBody.TheVariants as notes
 use Rattle.run_law.specs.declared.steps.Arrival.TheVariants as arrivals
 
@@ -114,11 +114,11 @@ record HasLeft (s : Scenario) (hs : List Happening) (t number : ℕ) (master : D
   pub of_frame : leaving.frame ≡ Some frame
 
 -- the record with a body at a time that comes next
-abbrev next_note : List Happening → ℕ → NoteBody → Note
+abbrev pub next_note : List Happening → ℕ → NoteBody → Note
 next_note ps t body = record { number = length ps + 1; time = units_of t; body = body }
 
 -- such a record with a cause is due
-next_due : (s : Scenario) (ps : List Happening) (t : ℕ) (body : NoteBody) → IsCaused s ps (units_of t) body
+pub next_due : (s : Scenario) (ps : List Happening) (t : ℕ) (body : NoteBody) → IsCaused s ps (units_of t) body
     → IsDue s ps (happening s.network ps (next_note ps t body))
 next_due s ps t body cause = record { number = refl; same = refl; begun = omega (arith, ints); cause = cause }
 
@@ -213,13 +213,7 @@ same_standpoint s device t more rest hs at by =
 arrives_as : (s : Scenario) (ps : List Happening) (leaving : Happening) (device : DeviceId) (link : LinkId) (t : ℕ) (frame : Pcf) (a : Arrival)
     → numbered ps leaving.note.number ≡ Some leaving → Arrives s leaving device link t (control (Ok frame))
     → control_arrival s.network device link (standpoint s ps device t) (Ok frame) ≡ a → ArrivesAs s ps device t link leaving.note.number a
-arrives_as s ps leaving device link t frame a found arrives is = record {
-  putting = leaving;
-  there = found;
-  signal = control (Ok frame);
-  arrives = arrives;
-  becomes = sym is;
-}
+arrives_as s ps leaving device link t frame a found arrives is = grind (arith, control)
 
 -- the record of a frame that is taken
 arrived_record : (s : Scenario) (ps : List Happening) (leaving : Happening) (device : DeviceId) (link : LinkId) (t : ℕ) (frame : Pcf)
@@ -298,20 +292,7 @@ goes_up : (s : Scenario) (hs : List Happening) (given number : ℕ) (master : De
     (left : HasLeft s hs given number master link) → link_at s.network link ≡ Some l → l.parent ≡ switch → way_from s.network master link ≡ Up
     → Arrives s left.leaving switch link (arrival_time s link given) (control (Ok left.frame))
 goes_up s hs given number master link l switch left there parent up =
-    let n = s.network in
-    let way : Way = way_from n master link in
-    let t : ℕ = leaving_time s link given in
-    let delay : delay_at s link way (time_of left.leaving) ≡ delay_at s link Up t = ap (λ (w : Way). delay_at s link w (time_of left.leaving)) up
-    ∙ ap (delay_at s link Up) left.at in
-    record {
-      way = way;
-      put =
-          ap (launched s left.leaving (time_of left.leaving)) left.body
-          ∙ ap (λ (o : Option Pcf). option_map (λ frame. let x : Launch = record { link = link; way = way; signal = control (Ok frame) } in x) o) left.of_frame;
-      receiver =
-          ap (λ (o : Option Link). option_map (target_by way) o) there ∙ ap (λ (w : Way). Some (target_by w l)) up ∙ ap (λ (d : DeviceId). Some d) parent;
-      at = omega (arith, delay, left.at);
-    }
+    grind (arith, time_of, launched, option_map, control)
 
 -- the law: the frames of masters come to the first switches of their ways
 pub sent_frames_come : SentFramesCome

@@ -1,14 +1,10 @@
 -- Records, their numbers and their places.
+use Rattle.std.proofs.Common.{arith}
 use Rattle.run_law.proofs.Words.{if◌then◌else◌, ◌++◌, ◌<◌, ◌∙◌, ◌∷◌, ◌≡◌, Bool, Happening, IsBefore, IsIn, List, Network, Note, Some, [], ap, append-nil}
 use Rattle.run_law.proofs.Words.{append_assoc, cases_lt, earlier, false, happening, happenings, inl, inr, key, le-ltb, length, members_in, nat_lt, numbered}
 use Rattle.run_law.proofs.Words.{place_of, rank, refl, subst, suc, sym, time_of, true, zero, ℕ}
 use Rattle.std.{proofs.lemmas.{Bool.lt-ltb, List.length-map}, specs.List.fold}
-use Rattle.run_law.proofs.{records.Order.got_in, runs.{NetworkRuns.{one_more, same_notes}, Places.earlier_time}}
-
--- what the list has by a number is in it
-pub numbered_in : (hs : List Happening) (n : ℕ) (x : Happening) → numbered hs n ≡ Some x → IsIn x hs
-numbered_in hs zero x e = absurd cc
-numbered_in hs (suc k) x e = got_in hs k x e
+use Rattle.run_law.proofs.runs.{NetworkRuns.{one_more, same_notes}, Places.earlier_time}
 
 pub none_numbered : (number : ℕ) (g : Happening) → numbered [] number ≡ Some g → ⊥
 none_numbered zero g e = cc
@@ -43,12 +39,7 @@ as_many network ns = sym (length-map (happenings network ns) (λ h. h.note)) ∙
 pub happenings_on : (network : Network) (notes rest : List Note) → (hs : List Happening) × (happenings network (notes ++ rest) ≡ happenings network notes ++ hs)
 happenings_on network notes [] = ([], ap (happenings network) (append-nil notes) ∙ sym (append-nil (happenings network notes)))
 happenings_on network notes (m ∷ rest) =
-    let r = happenings_on network (notes ++ m ∷ []) rest in
-    let h = happening network (happenings network notes) m in (
-      h ∷ r.0,
-      ap (happenings network) (sym (append_assoc notes (m ∷ []) rest)) ∙ r.1 ∙ ap (λ (l : List Happening). l ++ r.0) (one_more network notes m)
-          ∙ append_assoc (happenings network notes) (h ∷ []) r.0,
-    )
+    grind (arith, happening, happenings, append_assoc, one_more, (happenings_on network (notes ++ m ∷ []) rest))
 
 -- and what is before the time is of an earlier one
 pub soon : (y : Happening) (u : ℕ) → IsBefore (place_of y) (u ∷ []) → time_of y < u

@@ -10,12 +10,6 @@ use Rattle.compression.proofs.Elements.{in_cases, in_none}
 use Rattle.tte_lemmas.proofs.Lists.{all_turned}
 use Rattle.run_law.{proofs.runs.Places.in_parts, specs.records.Order.is_before}
 
--- what is at a place is in the list
-pub got_in : {X : Type 0} (xs : List X) (i : ℕ) (x : X) → slice_get xs i ≡ Some x → IsIn x xs
-got_in [] i x e = absurd cc
-got_in (y ∷ xs) zero x e = let same : x ≡ y = cc in inl same
-got_in (y ∷ xs) (suc i) x e = inr (got_in xs i x e)
-
 -- a place that is before another is of no later time
 pub time_before : (u t : ℕ) (ks ls : List ℕ) → IsBefore (u ∷ ks) (t ∷ ls) → u ≤ t
 time_before u t ks ls (inl lt) = omega (arith, lt)
@@ -113,16 +107,6 @@ contains [] x there = absurd there
 contains (y ∷ xs) x (inl e) = (0, omega arith, sym e)
 contains (y ∷ xs) x (inr rest) = let c = contains xs x rest in let lt = c.1 in (suc c.0, omega (arith, lt), c.2)
 
--- what a filter keeps is in the list
-pub in_whole : {X : Type 0} (p : X → Bool) (xs : List X) (x : X) → IsIn x (filter p xs) → IsIn x xs
-in_whole p [] x i = i
-in_whole {X} p (y ∷ ys) x i = by (p y) (in_whole p ys x) i
-  where
-    by : (b : Bool) → (IsIn x (filter p ys) → IsIn x ys) → IsIn x (if b then y ∷ filter p ys else filter p ys) → IsIn x (y ∷ ys)
-    by true rest (inl e) = inl e
-    by true rest (inr j) = inr (rest j)
-    by false rest j = inr (rest j)
-
 -- what a filter keeps passes its test
 pub has_passed : {X : Type 0} (p : X → Bool) (xs : List X) (x : X) → IsIn x (filter p xs) → p x ≡ true
 has_passed p [] x i = absurd i
@@ -193,8 +177,4 @@ after_same p q xs same =
 pub is_given : {X Y : Type 0} (f : X → Option Y) (xs : List X) (x : X) (y : Y) → IsIn x xs → f x ≡ Some y → IsIn y (filter_map f xs)
 is_given f [] x y i e = absurd i
 is_given {X} {Y} f (z ∷ xs) x y (inl same) e = subst (λ (o : Option Y). IsIn y (cons_option o (filter_map f xs))) (sym (ap f (sym same) ∙ e)) (inl refl)
-is_given f (z ∷ xs) x y (inr more) e = by (f z) (is_given f xs x y more e)
-  where
-    by : (o : Option _) → IsIn y (filter_map f xs) → IsIn y (cons_option o (filter_map f xs))
-    by None i = i
-    by (Some w) i = inr i
+is_given f (z ∷ xs) x y (inr more) e = grind (arith, filter_map, cons_option, (is_given f xs x y more e))

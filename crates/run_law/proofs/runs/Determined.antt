@@ -1,7 +1,7 @@
 -- A record that is due is determined by its place.
 use Rattle.run_law.proofs.Words.{◌+ℤ◌, ◌∙◌, ◌∷◌, ◌≡◌, ◌≤ℤ◌, Arrival, ArrivesAs, BecomesPermanent, ChangesState, Departs, DeviceId, Event, Happening}
 use Rattle.run_law.proofs.Words.{IsArrivedRecord, IsCaused, IsDetermined, IsDropped, IsDue, Judgement, LinkId, List, Members, Note, NoteBody, Reason, Scenario}
-use Rattle.run_law.proofs.Words.{Some, State, Summary, Units, VlId, What, Why, [], amount, ap, arith, happening, inl, inr, ints, is_joined_by, key, members_in}
+use Rattle.run_law.proofs.Words.{State, Summary, Units, VlId, What, Why, [], amount, ap, arith, happening, inl, inr, ints, is_joined_by, key, members_in}
 use Rattle.run_law.proofs.Words.{numbered, place_of, pos, rank, refl, ripe_as, same_some, slice_get, subst, suc, sym, true, unsigned_abs, zero, ℕ, ℤ}
 use Rattle.std.proofs.Common.{negsuc}
 use Rattle.compression.specs.declared.compressed.Compressed.{Compressed}
@@ -45,9 +45,7 @@ same_three a b c x y z us vs e = (cc, cc, cc, cc)
 same_what : (events : List Event) (time : Units) (line : ℕ) (what other : What) → IsEventRecord events time line what → IsEventRecord events time line other
     → what ≡ other
 same_what events time line what other a b =
-    let places : b.before ≡ a.before = omega (arith, a.line_is, b.line_is) in
-    let there = subst (λ (i : ℕ). slice_get events i ≡ Some b.event) places b.is in
-    a.same ∙ ap (λ (e : Event). e.what) (same_some (slice_get events a.before) a.event b.event a.is there) ∙ sym b.same
+    grind (arith, slice_get, same_some)
 
 -- the transparent clock of what is taken
 abbrev clock_in : Arrival → ℕ
@@ -73,9 +71,7 @@ shown s hs t device link cause clock a =
 same_clock_on_arrival : (s : Scenario) (hs : List Happening) (t : ℕ) (device : DeviceId) (link : LinkId) (cause clock other : ℕ)
     → IsArrivedRecord s hs device t link cause clock → IsArrivedRecord s hs device t link cause other → clock ≡ other
 same_clock_on_arrival s hs t device link cause clock other a b =
-    let x = shown s hs t device link cause clock a in
-    let y = shown s hs t device link cause other b in
-    x.shows ∙ ap clock_in (same_arrival s hs t device link cause x.arrival y.arrival x.comes y.comes) ∙ sym y.shows
+    grind (arith, shown, same_arrival)
 
 -- a correction point is of one cycle, and comes to one thing
 same_cycle : (s : Scenario) (hs : List Happening) (t : ℕ) (device : DeviceId) (cycle other : ℕ) (v w : Verdict) → ComesToCorrection s hs device t cycle v
@@ -224,9 +220,7 @@ same_clock : (s : Scenario) (hs : List Happening) (time : Units) (device : Devic
     → IsClockRecord s hs device time other_shown other_adjustment other_state → notes.Clock device shown adjustment state ≡ notes.Clock device other_shown
     other_adjustment other_state
 same_clock s hs time device shown adjustment state other_shown other_adjustment other_state a b =
-    ap (λ (r : Units). notes.Clock device r adjustment state) (a.reads ∙ sym b.reads)
-    ∙ ap (λ (d : Units). notes.Clock device other_shown d state) (a.adjusted ∙ sym b.adjusted)
-    ∙ ap (λ (u : State). notes.Clock device other_shown other_adjustment u) (a.in_state ∙ sym b.in_state)
+    grind arith
 
 pub same_members : (a b : Members) → a.0 ≡ b.0 → a ≡ b
 same_members a b same = ap (λ (n : ℕ). let m : Members = record { 0 = n } in m) same
@@ -235,9 +229,7 @@ same_members a b same = ap (λ (n : ℕ). let m : Members = record { 0 = n } in 
 same_ripe_route : (device other : DeviceId) (point second : Units) (m n : ℕ) (link by : LinkId) (cause from : ℕ) → device.0 ∷ amount point ∷ m ∷ link.0 ∷ cause
     ∷ [] ≡ other.0 ∷ amount second ∷ n ∷ by.0 ∷ from ∷ [] → IsSameRoute device other link by cause from
 same_ripe_route device other point second m n link by cause from e =
-    let ids : device.0 ≡ other.0 = cc in
-    let links : link.0 ≡ by.0 = cc in
-    record { devices = same_device device other ids; links = same_link link by links; causes = cc }
+    grind (arith, same_device, same_link)
 
 same_compressed : (s : Scenario) (hs : List Happening) (t : ℕ) (device other : DeviceId) (opened begun at emitted : Units) (cycle number : ℕ)
     (members masters : Members) (verdict judged : Judgement) → device ≡ other → opened ≡ begun → at ≡ emitted → cycle ≡ number → members ≡ masters
@@ -245,23 +237,7 @@ same_compressed : (s : Scenario) (hs : List Happening) (t : ℕ) (device other :
     → Emits s hs other t (record { opened = begun; at = emitted; cycle = number; members = masters }) judged
     → notes.Compressed device opened at cycle members verdict ≡ notes.Compressed other begun emitted number masters judged
 same_compressed s hs t device other opened begun at emitted cycle number members masters verdict judged devices opens ats cycles sets a b =
-    let sents : (let c : Compressed = record { opened = opened; at = at; cycle = cycle; members = members } in c) ≡ record {
-      opened = begun;
-      at = emitted;
-      cycle = number;
-      members = masters;
-    } =
-    ap (λ (u : Units). let c : Compressed = record { opened = u; at = at; cycle = cycle; members = members } in c) opens
-    ∙ ap (λ (u : Units). let c : Compressed = record { opened = begun; at = u; cycle = cycle; members = members } in c) ats
-    ∙ ap (λ (k : ℕ). let c : Compressed = record { opened = begun; at = emitted; cycle = k; members = members } in c) cycles
-    ∙ ap (λ (ms : Members). let c : Compressed = record { opened = begun; at = emitted; cycle = number; members = ms } in c) sets in
-    let there = subst (λ (d : DeviceId). Emits s hs d t (let c : Compressed = record { opened = begun; at = emitted; cycle = number; members = masters } in c)
-    judged) (sym devices) b in
-    let here = subst (λ (c : Compressed). Emits s hs device t c judged) (sym sents) there in
-    ap (λ (j : Judgement). notes.Compressed device opened at cycle members j)
-    (same_heard s hs t device (let c : Compressed = record { opened = opened; at = at; cycle = cycle; members = members } in c) verdict judged a here)
-    ∙ ap (λ (c : Compressed). notes.Compressed device c.opened c.at c.cycle c.members judged) sents
-    ∙ ap (λ (d : DeviceId). notes.Compressed d begun emitted number masters judged) devices
+    grind (arith, same_heard)
 
 -- two bodies with a cause at one time, of one kind and key, are one
 same_body : (s : Scenario) (hs : List Happening) (time : Units) (m n : ℕ) (a b : NoteBody) → IsCaused s hs time a → IsCaused s hs time b → rank a ≡ rank b
@@ -358,29 +334,14 @@ same_body s hs time m n (notes.Clock device seen adjustment state) (notes.Clock 
     let there = subst (λ (d : DeviceId). IsClockRecord s hs d time other_seen other_adjustment other_state) (sym devices) b in
     same_clock s hs time device seen adjustment state other_seen other_adjustment other_state a there
     ∙ ap (λ (d : DeviceId). notes.Clock d other_seen other_adjustment other_state) devices
-same_body s hs time m n (notes.Event line what) other a b kinds keys = absurd (omega (arith, kinds))
-same_body s hs time m n (notes.Arrived device link cause clock) other a b kinds keys = absurd (omega (arith, kinds))
-same_body s hs time m n (notes.Permanent device link cause point verdict) other a b kinds keys = absurd (omega (arith, kinds))
-same_body s hs time m n (notes.Compressed device opened at cycle members verdict) other a b kinds keys = absurd (omega (arith, kinds))
-same_body s hs time m n (notes.Sent device cycle) other a b kinds keys = absurd (omega (arith, kinds))
-same_body s hs time m n (notes.Corrected device cycle by adjustment) other a b kinds keys = absurd (omega (arith, kinds))
-same_body s hs time m n (notes.State device state cause why) other a b kinds keys = absurd (omega (arith, kinds))
-same_body s hs time m n (notes.Left device link cause clock) other a b kinds keys = absurd (omega (arith, kinds))
-same_body s hs time m n (notes.Lost device link cause) other a b kinds keys = absurd (omega (arith, kinds))
-same_body s hs time m n (notes.TtSent device link cause vl cycle) other a b kinds keys = absurd (omega (arith, kinds))
-same_body s hs time m n (notes.Accepted device link cause vl cycle) other a b kinds keys = absurd (omega (arith, kinds))
-same_body s hs time m n (notes.Delivered device link cause vl cycle) other a b kinds keys = absurd (omega (arith, kinds))
-same_body s hs time m n (notes.Dropped device link cause reason) other a b kinds keys = absurd (omega (arith, kinds))
-same_body s hs time m n (notes.Clock device seen adjustment state) other a b kinds keys = absurd (omega (arith, kinds))
+same_body s hs time m n rest other a b kinds keys = absurd (omega (arith, kinds))
 
 -- ---- records
 
 -- two notes are one where their parts are
 pub same_note : (a b : Note) → a.number ≡ b.number → a.time ≡ b.time → a.body ≡ b.body → a ≡ b
 same_note a b numbers times bodies =
-    ap (λ (n : ℕ). let m : Note = record { number = n; time = a.time; body = a.body } in m) numbers
-    ∙ ap (λ (t : Units). let m : Note = record { number = b.number; time = t; body = a.body } in m) times
-    ∙ ap (λ (c : NoteBody). let m : Note = record { number = b.number; time = b.time; body = c } in m) bodies
+    grind arith
 
 -- given the same records before, two that are due at one place are one
 pub due_is_determined : (s : Scenario) → IsDetermined place_of (IsDue s)

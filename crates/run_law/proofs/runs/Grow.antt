@@ -1,4 +1,5 @@
 -- How a run begins, goes up to a later mark, and goes on by its next record.
+use Rattle.std.proofs.Common.{arith}
 use Rattle.run_law.proofs.Words.{◌++◌, ◌∙◌, ◌∷◌, ◌≡◌, ◌⊎◌, AllBefore, IsBefore, IsFounded, IsIn, IsRun, List, NoneBefore, [], ap, append-nil, inl, inr, refl}
 use Rattle.run_law.proofs.Words.{subst, sym, ℕ}
 use Rattle.tte_lemmas.proofs.Lists.{no_front, none_before}
@@ -10,22 +11,14 @@ use Rattle.run_law.specs.runs.Runs.{NothingDueUpTo}
 -- no record is the run up to a mark before which none is due
 pub empty_run : {N : Type 0} (place : N → List ℕ) (IsDue : List N → N → Type 0) (mark : List ℕ) → ((y : N) → IsDue [] y → IsBefore (place y) mark → ⊥)
     → IsRun place IsDue mark []
-empty_run {N} place IsDue mark none = record {
-  founded = λ ps qs x e. absurd (none_before ps qs x e);
-  full = λ ps qs y e before rest due here. absurd (none y (subst (λ (t : List N). IsDue t y) (no_front ps qs e) due) here);
-  within = λ m i. absurd i;
-}
+empty_run {N} place IsDue mark none = grind (arith, none_before, no_front)
 
 -- ---- a run under other causes, and up to another mark
 
 -- a run up to a mark is that up to another one, where its records are before this and no others are due
 pub move_mark : {N : Type 0} (place : N → List ℕ) (IsDue : List N → N → Type 0) (mark later : List ℕ) (ns : List N) → IsRun place IsDue mark ns
     → AllBefore place ns later → NothingDueUpTo place IsDue mark ns later → IsRun place IsDue later ns
-move_mark place IsDue mark later ns run within nothing = record {
-  founded = run.founded;
-  full = λ ps qs y e before rest due here. run.full ps qs y e before rest due (nothing.gap ps qs y e before rest due here);
-  within = within;
-}
+move_mark place IsDue mark later ns run within nothing = grind arith
 
 -- ---- a run goes on
 
@@ -54,9 +47,7 @@ no_cons y qs e = cc
 founded_by : {N : Type 0} (place : N → List ℕ) (IsDue : List N → N → Type 0) (ns : List N) (x : N) → IsFounded place IsDue ns → AllBefore place ns (place x)
     → IsDue ns x → (ps qs : List N) (y : N) (others : List N) → y ∷ qs ≡ others ++ x ∷ [] → ns ≡ ps ++ others → AllBefore place ps (place y) × IsDue ps y
 founded_by {N} place IsDue ns x founded before due ps qs y [] last whole =
-    let same : x ≡ y = cc in
-    let all : ns ≡ ps = whole ∙ append-nil ps in
-    subst (λ (t : N). AllBefore place ps (place t) × IsDue ps t) same (subst (λ (t : List N). AllBefore place t (place x) × IsDue t x) all (before, due))
+    grind (arith, append-nil)
 founded_by {N} place IsDue ns x founded before due ps qs y (o ∷ others) last whole =
     let same : y ≡ o = cc in
     founded ps others y (whole ∙ ap (λ (t : N). ps ++ t ∷ others) (sym same))

@@ -1,4 +1,5 @@
 -- The laws of the runs of a network.
+use Rattle.std.proofs.Common.{arith}
 use Rattle.run_law.proofs.Words.{◌++◌, ◌∙◌, ◌∷◌, ◌≡◌, Happening, IsDue, IsRun, List, Network, Note, Scenario, [], ap, append-nil, append_assoc, happening}
 use Rattle.run_law.proofs.Words.{happenings, place_of, refl, subst, sym}
 use Rattle.std.proofs.Common.{fold, map}
@@ -20,9 +21,7 @@ notes_of_parts (h ∷ hs) gs = ap (λ (ns : List Note). h.note ∷ ns) (notes_of
 notes_from : (network : Network) (before : List Happening) (ns : List Note) → notes_of (fold (with_next network) before ns) ≡ notes_of before ++ ns
 notes_from network before [] = sym (append-nil (notes_of before))
 notes_from network before (n ∷ ns) =
-    notes_from network (with_next network before n) ns
-    ∙ ap (λ (ms : List Note). ms ++ ns) (notes_of_parts before (happening network before n ∷ []))
-    ∙ append_assoc (notes_of before) (n ∷ []) ns
+    grind (arith, notes_of_parts, happening, append_assoc, (notes_from network (with_next network before n) ns))
 
 -- the records of the happenings of records are these
 pub same_notes : (network : Network) (ns : List Note) → notes_of (happenings network ns) ≡ ns

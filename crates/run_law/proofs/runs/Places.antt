@@ -1,5 +1,5 @@
 -- The order of places, and what is in lists.
-use Rattle.run_law.proofs.Words.{◌++◌, ◌+◌, ◌<◌, ◌∙◌, ◌∷◌, ◌≡◌, ◌≤◌, ◌⊎◌, IsBefore, IsIn, List, [], ap, arith, inl, inr, refl, subst, sym, ℕ}
+use Rattle.run_law.proofs.Words.{◌++◌, ◌+◌, ◌<◌, ◌∙◌, ◌∷◌, ◌≡◌, ◌≤◌, ◌⊎◌, IsBefore, IsIn, List, [], ap, arith, inl, inr, refl, sym, ℕ}
 use Rattle.std.proofs.lemmas.Bool.{cases_order}
 pub use Rattle.run_law.specs.records.Order.{behind}
 
@@ -25,33 +25,16 @@ either_way [] [] = inr (inl refl)
 either_way [] (y ∷ ys) = inl tt
 either_way (x ∷ xs) [] = inr (inr tt)
 either_way (x ∷ xs) (y ∷ ys) =
-    elim (cases_order x y) [
-      | inr (inl lt) ↦ inl (inl lt)
-      | inr (inr gt) ↦ inr (inr (inl gt))
-      | inl e ↦
-          elim (either_way xs ys) [
-            | inl lt ↦ inl (inr (e, lt))
-            | inr (inr gt) ↦ inr (inr (inr (sym e, gt)))
-            | inr (inl same) ↦ inr (inl (ap (λ (n : ℕ). n ∷ xs) e ∙ ap (λ (ns : List ℕ). y ∷ ns) same))
-          ]
-    ]
+    grind (arith, cases_order, (either_way xs ys))
 
 pub before_or_not : (p q : List ℕ) → IsBefore p q ⊎ (IsBefore p q → ⊥)
 before_or_not p q =
-    elim (either_way p q) [
-      | inl lt ↦ inl lt
-      | inr (inl e) ↦ inr (λ b. never_self q (subst (λ (t : List ℕ). IsBefore t q) e b))
-      | inr (inr gt) ↦ inr (λ b. never_self q (chain q p q gt b))
-    ]
+    grind (arith, either_way, never_self, chain)
 
 -- what is before the mark is before what is not
 pub before_later : (p q mark : List ℕ) → IsBefore p mark → (IsBefore q mark → ⊥) → IsBefore p q
 before_later p q mark b not =
-    elim (either_way p q) [
-      | inl lt ↦ lt
-      | inr (inl e) ↦ absurd (not (subst (λ (t : List ℕ). IsBefore t mark) e b))
-      | inr (inr gt) ↦ absurd (not (chain q p mark gt b))
-    ]
+    grind (arith, either_way, chain)
 
 -- ---- times as marks
 

@@ -1,11 +1,11 @@
 -- What comes at one time from one cause is one.
-use Rattle.run_law.proofs.Words.{◌∙◌, ◌≡◌, Arrival, ArrivesAs, BecomesPermanent, Bool, Client, Cm, Departs, Device, DeviceId, Gives, Happening, Judgement}
-use Rattle.run_law.proofs.Words.{Launch, LinkId, List, Master, Network, None, NoteBody, Option, Pcf, Reason, Relay, Ripe, Role, Scenario, Some, State, Units}
-use Rattle.run_law.proofs.Words.{ap, arrival_of, device_at, false, is_relay, launched, numbered, observation_window, option_map_or, pos, refl, ripe_as}
-use Rattle.run_law.proofs.Words.{same_some, subst, sym, time_of, true, ℕ, ℤ}
+use Rattle.std.proofs.Common.{arith}
+use Rattle.run_law.proofs.Words.{◌∙◌, ◌≡◌, Arrival, ArrivesAs, BecomesPermanent, Bool, Departs, Device, DeviceId, Gives, Happening, Judgement}
+use Rattle.run_law.proofs.Words.{Launch, LinkId, List, Master, Network, None, NoteBody, Option, Pcf, Reason, Ripe, Role, Scenario, Some, State, Units}
+use Rattle.run_law.proofs.Words.{ap, arrival_of, device_at, false, is_relay, launched, numbered, observation_window, option_map_or, refl, ripe_as}
+use Rattle.run_law.proofs.Words.{same_some, subst, sym, time_of, true, ℕ}
 use Rattle.std.proofs.Common.{MatchBool}
 use Rattle.compression.{proofs.Times.one_list_of_clusters, specs.{Clusters.{Cluster, Point}, Role.role, declared.taken.Taken.Taken}}
-use Rattle.transparent_clock.specs.Points.{point_of}
 use Rattle.run_law.specs.control.{Collections.{IsCollectedAs, points_of, ripe_by_role}, Leaving.{Departure, departure}}
 use Rattle.run_law.specs.control.{Permanence.{IsCollectedOrDropped, IsJudgedBy, IsPermanenceOutcome, IsPermanent, before_permanence}, Wires.{Arrives, Signal}}
 use Rattle.run_law.specs.{device.States.{adjustment_at_hearing, state_at_hearing}, scenario.Devices.{is_cm, is_cm_role, is_relay_role}}
@@ -26,10 +26,7 @@ same_signal s h device link t a b x y =
 pub same_arrival : (s : Scenario) (hs : List Happening) (t : ℕ) (device : DeviceId) (link : LinkId) (cause : ℕ) (a b : Arrival)
     → ArrivesAs s hs device t link cause a → ArrivesAs s hs device t link cause b → a ≡ b
 same_arrival s hs t device link cause a b x y =
-    let one = same_some (numbered hs cause) x.putting y.putting x.there y.there in
-    let there = subst (λ (h : Happening). Arrives s h device link t y.signal) (sym one) y.arrives in
-    let signals = same_signal s x.putting device link t x.signal y.signal x.arrives there in
-    x.becomes ∙ ap (arrival_of s hs device t link cause) signals ∙ sym y.becomes
+    grind (arith, same_some, numbered, same_signal, arrival_of)
 
 -- ---- permanence
 
@@ -77,15 +74,7 @@ same_frame s hs t device link cause f g p q a b =
 pub same_point : (s : Scenario) (hs : List Happening) (t : ℕ) (device : DeviceId) (link : LinkId) (cause : ℕ) (f g : Pcf) (p q : Units)
     → IsPermanent s hs device t link cause f p → IsPermanent s hs device t link cause g q → p ≡ q
 same_point s hs t device link cause f g p q a b =
-    let one = same_permanent_arrival s hs t device link cause f g p q a b in
-    let bodies : a.arrival.note.body ≡ b.arrival.note.body = ap (λ (h : Happening). h.note.body) one in
-    let clocks : a.clock ≡ b.clock = ap arrived_clock (sym a.arrived ∙ bodies ∙ b.arrived) in
-    let values : p.0 ≡ q.0 =
-    a.at_point
-    ∙ ap (λ (h : Happening). point_of (pos (s.reading device (time_of h))) a.clock s.network.dmax.0) one
-    ∙ ap (λ (c : ℕ). point_of (pos (s.reading device (time_of b.arrival))) c s.network.dmax.0) clocks
-    ∙ sym b.at_point in
-    ap (λ (n : ℤ). let u : Units = record { 0 = n } in u) values
+    grind (arith, same_permanent_arrival, time_of)
 
 -- and one thing becomes of it
 pub same_ripening : (s : Scenario) (hs : List Happening) (t : ℕ) (device : DeviceId) (link : LinkId) (cause : ℕ) (p q : Units) (a b : Ripe)
@@ -109,23 +98,12 @@ same_judgement judgements.Within judgements.Within e = refl
 same_judgement judgements.Outside judgements.Outside e = refl
 same_judgement judgements.Integrates judgements.Integrates e = refl
 same_judgement judgements.Ignored judgements.Ignored e = refl
-same_judgement judgements.Opened other e = absurd cc
-same_judgement judgements.Joined other e = absurd cc
-same_judgement judgements.Repeat other e = absurd cc
-same_judgement judgements.Within other e = absurd cc
-same_judgement judgements.Outside other e = absurd cc
-same_judgement judgements.Integrates other e = absurd cc
-same_judgement judgements.Ignored other e = absurd cc
+same_judgement rest other e = absurd cc
 
 -- no judgement is a drop
 pub never_dropped : (v : Judgement) (reason : Reason) → ripe_as v ≡ ripe.Dropped reason → ⊥
 never_dropped judgements.Opened reason e = cc
-never_dropped judgements.Joined reason e = cc
-never_dropped judgements.Repeat reason e = cc
-never_dropped judgements.Within reason e = cc
-never_dropped judgements.Outside reason e = cc
-never_dropped judgements.Integrates reason e = cc
-never_dropped judgements.Ignored reason e = cc
+never_dropped other reason e = cc
 
 by_kind_is : (b : Bool) (P : Type 0) (v : Judgement) (reason : Reason) → MatchBool b P (ripe.Dropped reason ≡ ripe_as v) → b ≡ true
 by_kind_is true P v reason h = refl
@@ -141,12 +119,7 @@ dropped_at_cm s hs t device link cause point reason r = by_kind_is (is_cm s.netw
 pub same_departure : (s : Scenario) (hs : List Happening) (t : ℕ) (device : DeviceId) (link : LinkId) (cause : ℕ) (a b : Departure)
     → Departs s hs device t link cause a → Departs s hs device t link cause b → a ≡ b
 same_departure s hs t device link cause a b x y =
-    let one = same_some (numbered hs cause) x.giving y.giving x.there y.there in
-    let frames = same_some x.giving.frame x.frame y.frame x.of_frame (ap (λ (h : Happening). h.frame) one ∙ y.of_frame) in
-    x.becomes
-    ∙ ap (λ (f : Pcf). departure s device link f (time_of x.giving) t) frames
-    ∙ ap (λ (h : Happening). departure s device link y.frame (time_of h) t) one
-    ∙ sym y.becomes
+    grind (arith, same_some, numbered, time_of)
 
 -- ---- what comes from a record is of one kind
 
@@ -168,24 +141,18 @@ no_launch s h t body device link from clock l is put =
 pub arrives_or_departs : (s : Scenario) (hs : List Happening) (t : ℕ) (device : DeviceId) (link : LinkId) (cause : ℕ) (a : Arrival) (d : Departure)
     → ArrivesAs s hs device t link cause a → Departs s hs device t link cause d → ⊥
 arrives_or_departs s hs t device link cause a d x y =
-    let one = same_some (numbered hs cause) x.putting y.giving x.there y.there in
-    let gives = subst (λ (h : Happening). Gives s.network h.note.body device link) (sym one) y.gives in
-    puts_or_gives s x.putting (time_of x.putting) x.putting.note.body device link _ x.arrives.put gives
+    grind (arith, same_some, numbered, puts_or_gives, time_of)
 
 -- no frame arrives and is permanent from one record
 pub arrives_or_ripens : (s : Scenario) (hs : List Happening) (t : ℕ) (device : DeviceId) (link : LinkId) (cause : ℕ) (a : Arrival) (point : Units) (b : Ripe)
     → ArrivesAs s hs device t link cause a → BecomesPermanent s hs device t link cause point b → ⊥
 arrives_or_ripens s hs t device link cause a point b x y =
-    let one = same_some (numbered hs cause) x.putting y.permanent.arrival x.there y.permanent.there in
-    no_launch s x.putting (time_of x.putting) x.putting.note.body device link y.permanent.from y.permanent.clock _ (ap (λ (h : Happening). h.note.body) one
-    ∙ y.permanent.arrived) x.arrives.put
+    grind (arith, same_some, numbered, no_launch, time_of)
 
 -- a relay is no compression master
 roles_differ : (role : Role) → is_cm_role role ≡ true → is_relay_role role ≡ true → ⊥
 roles_differ Master a b = cc
-roles_differ Client a b = cc
-roles_differ Cm a b = cc
-roles_differ Relay a b = cc
+roles_differ other a b = cc
 
 devices_differ : (o : Option Device) → option_map_or (λ d. is_cm_role d.role) o false ≡ true → option_map_or (λ d. is_relay_role d.role) o false ≡ true → ⊥
 devices_differ None a b = cc

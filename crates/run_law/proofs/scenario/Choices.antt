@@ -1,9 +1,9 @@
 -- What of a scenario is decided.
-use Rattle.run_law.proofs.Words.{◌∙◌, ◌≡◌, ◌≤◌, A, B, Integrating, Joining, None, Option, Some, State, Summary, Synchronised, ap, arith, cases_lt, inl, inr}
-use Rattle.run_law.proofs.Words.{refl, same_some, sym, ℕ}
+use Rattle.run_law.proofs.Words.{◌≤◌, A, B, None, Option, Some, Summary, arith, cases_lt, inl, inr}
+use Rattle.run_law.proofs.Words.{same_some, ℕ}
 use Rattle.std.specs.Prelude.{IfSome}
 use Rattle.membership.specs.{BestFrame.Qualifies, Members.count_of, Summary.best_on, declared.frame.HeardFrame.HeardFrame}
-use Rattle.sync_state.specs.{Standing.{IsAtIntegration, Standing}, Verdicts.IsOutnumbered, declared.state.State.TheVariants.Off}
+use Rattle.sync_state.specs.{Standing.{IsAtIntegration, Standing}, Verdicts.IsOutnumbered}
 use Rattle.run_law.proofs.scenario.Decisions.{IsDecided, decided_same, decided_some}
 
 pub decided_le : (a b : ℕ) → IsDecided (a ≤ b)
@@ -26,14 +26,4 @@ outnumbered heard = elim (few heard.best_a (count_of heard.outside)) [
 ]
 
 pub at_integration : (st : Standing) → IsDecided (IsAtIntegration st)
-at_integration st = by st.state refl st.integrated refl
-  where
-    by : (u : State) → st.state ≡ u → (o : Option ℕ) → st.integrated ≡ o → IsDecided (IsAtIntegration st)
-    by Joining e (Some n) f = elim (decided_same n st.number) [
-      | inl same ↦ inl (record { joining = e; cycle = f ∙ ap (λ (k : ℕ). Some k) same })
-      | inr other ↦ inr (λ is. other (same_some (Some n) n st.number refl (sym f ∙ is.cycle)))
-    ]
-    by Joining e None f = inr (λ is. let none = sym f ∙ is.cycle in cc)
-    by Off e o f = inr (λ is. let none = sym e ∙ is.joining in cc)
-    by Integrating e o f = inr (λ is. let none = sym e ∙ is.joining in cc)
-    by Synchronised e o f = inr (λ is. let none = sym e ∙ is.joining in cc)
+at_integration st = grind (arith, decided_same, same_some)

@@ -25,16 +25,7 @@ condition_of n =
 numbered : (c : Outside) → condition_of (condition_number c) ≡ c
 unfolding condition_of
 numbered Order = refl
-numbered Late = refl
-numbered Rate = refl
-numbered Wire = refl
-numbered Hold = refl
-numbered Channel = refl
-numbered NotMaster = refl
-numbered SecondBreak = refl
-numbered TooFewMasters = refl
-numbered NotBroken = refl
-numbered NotOff = refl
+numbered other = refl
 
 -- conditions of one number are one
 same_condition : (c d : Outside) → condition_number c ≡ condition_number d → c ≡ d
@@ -44,11 +35,7 @@ same_condition c d same = sym (numbered c) ∙ ap condition_of same ∙ numbered
 one_condition : (network : Network) (before : List Event) (event : Event) (c d : Outside) → IsOutsideBy network before event c
     → IsOutsideBy network before event d → c ≡ d
 one_condition network before event c d a b =
-    elim (cases_order (condition_number c) (condition_number d)) [
-      | inl same ↦ same_condition c d same
-      | inr (inl lt) ↦ absurd (b.first c lt a.violates)
-      | inr (inr gt) ↦ absurd (a.first d gt b.violates)
-    ]
+    grind (arith, cases_order, same_condition)
 
 -- each condition is broken or not
 violates : (network : Network) (before : List Event) (event : Event) (condition : Outside) → IsDecided (Violates network before event condition)
@@ -101,16 +88,7 @@ judged network before event (suc n) =
 
 at_most_eleven : (c : Outside) → condition_number c < 12
 at_most_eleven Order = omega arith
-at_most_eleven Late = omega arith
-at_most_eleven Rate = omega arith
-at_most_eleven Wire = omega arith
-at_most_eleven Hold = omega arith
-at_most_eleven Channel = omega arith
-at_most_eleven NotMaster = omega arith
-at_most_eleven SecondBreak = omega arith
-at_most_eleven TooFewMasters = omega arith
-at_most_eleven NotBroken = omega arith
-at_most_eleven NotOff = omega arith
+at_most_eleven other = omega arith
 
 -- an event is within the hypothesis, or outside by a condition
 some_judgement : (network : Network) (before : List Event) (event : Event) → IsWithinHypothesis network before event

@@ -1,6 +1,6 @@
 -- Devices of a scenario.
-use Rattle.run_law.proofs.Words.{if◌then◌else◌, ◌++◌, ◌==◌, ◌∙◌, ◌∷◌, ◌≡◌, ◌≤ℤ◌, ◌≤◌, Bool, Client, Cm, Device, DeviceId, Event, IsSomeAnd, IsWithinHypothesis}
-use Rattle.run_law.proofs.Words.{Link, LinkId, List, Master, Network, None, Option, Relay, Role, Scenario, Some, What, [], amount, ap, append-nil, append_assoc}
+use Rattle.run_law.proofs.Words.{if◌then◌else◌, ◌++◌, ◌==◌, ◌∙◌, ◌∷◌, ◌≡◌, ◌≤ℤ◌, ◌≤◌, Bool, Cm, Device, DeviceId, Event, IsSomeAnd, IsWithinHypothesis}
+use Rattle.run_law.proofs.Words.{Link, LinkId, List, Network, None, Option, Role, Scenario, Some, What, [], amount, ap, append-nil, append_assoc}
 use Rattle.run_law.proofs.Words.{arith, cases_lt, device_at, eqb-true, false, inl, inr, ints, is_broken, is_master, is_parent_of, link_at, option_map_or, pos}
 use Rattle.run_law.proofs.Words.{refl, subst, sym, true, ℕ}
 use Rattle.std.{proofs.{Common.{◌||◌, filter, nat_le}, lemmas.Bool.{eq-eqb, le-leb}}, specs.List.list_any}
@@ -73,17 +73,7 @@ end_test network device end =
 
 -- a master is an end system
 pub master_end : (network : Network) (device : DeviceId) → has_role network is_master device ≡ true → is_end network device ≡ true
-master_end network device e = by (device_at network device) e
-  where
-    by_role : (r : Role) → is_master r ≡ true → is_end_system r ≡ true
-    by_role Master e = refl
-    by_role Client e = absurd cc
-    by_role Cm e = absurd cc
-    by_role Relay e = absurd cc
-
-    by : (o : Option Device) → option_map_or (λ d. is_master d.role) o false ≡ true → option_map_or (λ d. is_end_system d.role) o false ≡ true
-    by None e = absurd cc
-    by (Some d) e = by_role d.role e
+master_end network device e = grind (arith, device_at, is_master, option_map_or)
 
 -- the first of events within the hypothesis are
 pub within_front : (network : Network) (front rest : List Event) → AreWithinHypothesis network (front ++ rest) → AreWithinHypothesis network front

@@ -1,10 +1,11 @@
 -- Rows of the schedule.
-use Rattle.run_law.proofs.Words.{◌≡◌, DeviceId, Happening, List, Network, None, Some, earlier, inl, inr, last_or, refl, subst, ℕ}
+use Rattle.std.proofs.Common.{arith}
+use Rattle.run_law.proofs.Words.{◌≡◌, DeviceId, Happening, List, Network, Some, earlier, inl, inr, last_or, refl, ℕ}
 use Rattle.std.{proofs.Common.filter, specs.Prelude.IsSome}
 use Rattle.net_plan.specs.{Ranges.IsRowInRange, declared.tables.Row.Row}
 use Rattle.schedule_tables.specs.{Entries.IsEntry, declared.entry.Entry.Entry}
 use Rattle.tte_lemmas.proofs.Lists.{some_at}
-use Rattle.run_law.specs.timed.{Arrivals.entry_of, Dispatching.{HasAtHand, is_accepted}}
+use Rattle.run_law.specs.timed.{Arrivals.entry_of, Dispatching.HasAtHand}
 
 pub entry_at : (network : Network) (place : ℕ) (entry : Entry) → IsEntry network place entry → entry_of network entry.row ≡ Some entry
 entry_at network place entry is = rw is.vl (rw is.link refl)
@@ -19,15 +20,4 @@ pub at_hand_by : (network : Network) (js hs : List Happening) (device : DeviceId
     → HasAtHand network js device entry t cause cycle → HasAtHand network hs device entry t cause cycle
 at_hand_by network js hs device entry t cause cycle same (inl sender) = inl sender
 at_hand_by network js hs device entry t cause cycle same (inr took) =
-    inr (
-      took.0,
-      record {
-        taken = took.1.taken;
-        last =
-            subst (λ (w : List Happening). last_or None (filter (λ h. is_accepted device entry.row.vl h.note.body) w) ≡ Some took.1.taken) same took.1.last;
-        number = took.1.number;
-        link = took.1.link;
-        from = took.1.from;
-        is = took.1.is;
-      },
-    )
+    grind (arith, last_or, filter)

@@ -1,7 +1,7 @@
 -- Where the frames come from that devices take.
-use Rattle.traffic_law.proofs.Words.{if◌then◌else◌, ◌*◌, ◌+◌, ◌<◌, ◌∙◌, ◌∷◌, ◌≡◌, Bool, BringsBlocks, DeviceId, Entry, FieldsFit, Happening, HasGoodSources}
+use Rattle.traffic_law.proofs.Words.{if◌then◌else◌, ◌+◌, ◌<◌, ◌∙◌, ◌∷◌, ◌≡◌, Bool, BringsBlocks, DeviceId, Entry, FieldsFit, Happening, HasGoodSources}
 use Rattle.traffic_law.proofs.Words.{IsEntry, IsGood, IsRowDispatch, IsTaking, IsTimedAt, IsView, KeepsRules, Link, LinkId, List, Network, None, NoteBody}
-use Rattle.traffic_law.proofs.Words.{Option, SendersAreBroken, Signal, Some, Up, View, VirtualLink, VlId, Way, [], ap, arith, arrives_at, begins_late}
+use Rattle.traffic_law.proofs.Words.{SendersAreBroken, Signal, Some, Up, View, VirtualLink, VlId, Way, [], ap, arith, arrives_at, begins_late}
 use Rattle.traffic_law.proofs.Words.{both_ways, cases_lt, cause_of, false, field, inl, inr, ints, is_broken, launched, length, link_at, numbered, octet_time}
 use Rattle.traffic_law.proofs.Words.{option_map_or, port_time, refl, same_some, slice_get, source_by, source_of, subst, suc, sym, time_of, timed, true}
 use Rattle.traffic_law.proofs.Words.{tt_frame_by, within_run, zero, ℕ}
@@ -112,9 +112,7 @@ put_by_row broken v h device link cause vl cycle is fit taking fine body same pu
 pub on_port : (v : View) (place : ℕ) (entry : Entry) (link : LinkId) (octets : List ℕ) → IsEntry v.scenario.network place entry → entry.row.link ≡ link
     → length octets ≡ entry.vl.length → time_on_port v.scenario.network link (timed octets) ≡ port_time entry
 on_port v place entry link octets row by whole =
-    ap (λ (o : Option Link). option_map_or (λ l. (length octets + 24) * octet_time l.speed) o 0)
-    (subst (λ (x : LinkId). link_at v.scenario.network x ≡ Some entry.link) by row.link)
-    ∙ ap (λ (n : ℕ). (n + 24) * octet_time entry.link.speed) whole
+    grind (arith, option_map_or, length, octet_time, link_at)
 
 pub takings_come_by_rows : BringsBlocks → SendersAreBroken → TakingsComeByRows
 takings_come_by_rows brings broken v h device link cause vl cycle is fit good taking fine =

@@ -1,4 +1,5 @@
 -- The row by which a frame of the schedule enters a device.
+use Rattle.std.proofs.Common.{arith}
 use Rattle.traffic_law.proofs.Words.{◌&&◌, ◌==◌, ◌||◌, ◌∙◌, ◌∷◌, ◌≡◌, ◌≤ℤ◌, ◌≤◌, Bool, DeviceId, Entry, IsEntry, KeepsRules, Link, LinkId, List, Network, None}
 use Rattle.traffic_law.proofs.Words.{OccursIn, Option, Reason, Some, Standpoint, VirtualLink, Way, [], ap, clock_of, cycle_at, entry_entering, eq-eqb, eqb-true}
 use Rattle.traffic_law.proofs.Words.{false, field, int_lt, is_synchronised, is_taken_in, le-ltb, link_at, nat_le, nat_lt, not, octets_fault, offset_in_cycle}
@@ -79,10 +80,7 @@ skip false x o e = refl
 pub octets_sound : (network : Network) (at : Standpoint) (octets : List ℕ) → at.takes_part ≡ true → least_type ≤ field 12 2 octets
     → is_synchronised at.state ≡ true → field 0 4 octets ≡ network.marker → octets_fault network at octets ≡ None
 octets_sound network at octets part type timed marker =
-    skip (not at.takes_part) _ _ (not_from_true at.takes_part part)
-    ∙ skip (nat_lt (field 12 2 octets) least_type) _ _ (le-ltb (field 12 2 octets) least_type type)
-    ∙ skip (not (is_synchronised at.state)) _ _ (not_from_true (is_synchronised at.state) timed)
-    ∙ skip (not (field 0 4 octets == network.marker)) _ _ (not_from_true (field 0 4 octets == network.marker) (eq-eqb (field 0 4 octets) network.marker marker))
+    grind (arith, skip, not, not_from_true, nat_lt, field, le-ltb, is_synchronised, eq-eqb)
 
 -- a frame of the row, in the row's window, has none
 pub row_sound : (network : Network) (at : Standpoint) (entry : Entry) (size : ℕ) (last : Option ℕ) → size ≡ entry.vl.length

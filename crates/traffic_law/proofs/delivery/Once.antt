@@ -1,7 +1,7 @@
 -- A frame of the schedule is delivered once.
-use Rattle.traffic_law.proofs.Words.{◌&&◌, ◌==◌, ◌||◌, ◌∙◌, ◌∷◌, ◌≡◌, Bool, DeviceId, Down, Entry, FieldsFit, Happening, IsBefore, IsDue, IsEntry, IsFounded}
+use Rattle.traffic_law.proofs.Words.{◌&&◌, ◌==◌, ◌||◌, ◌∙◌, ◌∷◌, ◌≡◌, DeviceId, Down, Entry, FieldsFit, Happening, IsBefore, IsDue, IsEntry, IsFounded}
 use Rattle.traffic_law.proofs.Words.{IsGood, IsIn, IsInSpan, IsTaking, IsView, Joints, LinkId, List, None, NoteBody, Option, SaysTaken, Some, Up, View, VlId}
-use Rattle.traffic_law.proofs.Words.{Way, [], ap, arith, behind_first, both_ways, cases_lt, eq-eqb, false, filter, in_left, in_parts, inl, inr, is_end}
+use Rattle.traffic_law.proofs.Words.{Way, [], ap, arith, behind_first, both_ways, cases_lt, eq-eqb, filter, in_left, in_parts, inl, inr, is_end}
 use Rattle.traffic_law.proofs.Words.{is_taken_in, key, last_or, last_taken, lt-ltb, members_in, nat_lt, option_and_then, place_of, rank, refl, source_by}
 use Rattle.traffic_law.proofs.Words.{source_of, subst, sym, target_by, target_of, time_of, true, ℕ}
 use Rattle.run_law.proofs.{law.FirstPlaces.front_founded, runs.Places.{chain, either_way, never_self}}
@@ -50,37 +50,14 @@ before_by : (t u d : ℕ) (link other : LinkId) (cause second : ℕ) → IsBefor
     → (nat_lt t u || (t == u && comes_before link cause other second)) ≡ true
 before_by t u d link other cause second (inl lt) = (let less = lt-ltb t u lt in rw less refl)
 before_by t u d link other cause second (inr both) =
-    let same = eq-eqb t u both.0 in
-    let order = by_key both.1 in
-    either (nat_lt t u) (t == u && comes_before link cause other second) (rw (same, order) refl)
-  where
-    either : (x y : Bool) → y ≡ true → (x || y) ≡ true
-    either true y e = refl
-    either false y e = e
-
-    by_link : IsBefore (link.0 ∷ cause ∷ []) (other.0 ∷ second ∷ []) → comes_before link cause other second ≡ true
-    by_link (inl lt) = (let less = lt-ltb link.0 other.0 lt in rw less refl)
-    by_link (inr (e, inl lt)) =
-        (let same = eq-eqb link.0 other.0 e in let less = lt-ltb cause second lt in either (nat_lt link.0 other.0) (link.0 == other.0 && nat_lt cause second)
-        (rw (same, less) refl))
-    by_link (inr (e, inr more)) = absurd more.1
-
-    by_device : IsBefore (d ∷ link.0 ∷ cause ∷ []) (d ∷ other.0 ∷ second ∷ []) → comes_before link cause other second ≡ true
-    by_device (inl lt) = absurd (omega (arith, lt))
-    by_device (inr both) = by_link both.1
-
-    by_key : IsBefore (12 ∷ d ∷ link.0 ∷ cause ∷ []) (12 ∷ d ∷ other.0 ∷ second ∷ []) → comes_before link cause other second ≡ true
-    by_key (inl lt) = absurd (omega (arith, lt))
-    by_key (inr both) = by_device both.1
+    grind (arith, eq-eqb, nat_lt, lt-ltb)
 
 -- the record of a taking passes the test of what was taken before
 passes_test : (device : DeviceId) (vl : VlId) (t : ℕ) (link : LinkId) (cause : ℕ) (at : ℕ) (by : LinkId) (from cycle : ℕ)
     → (nat_lt at t || (at == t && comes_before by from link cause)) ≡ true
     → is_taken_before device vl t link cause at (notes.Delivered device by from vl cycle) ≡ true
 passes_test device vl t link cause at by from cycle order =
-    let one : (device.0 == device.0) ≡ true = eq-eqb device.0 device.0 refl in
-    let two : (vl.0 == vl.0) ≡ true = eq-eqb vl.0 vl.0 refl in
-    rw (one, two) order
+    grind (arith, eq-eqb)
 
 -- what passes it took the frame in some cycle
 cycle_of : (device : DeviceId) (vl : VlId) (t : ℕ) (link : LinkId) (cause at : ℕ) (body : NoteBody) → is_taken_before device vl t link cause at body ≡ true
@@ -136,11 +113,7 @@ none_before brings v h g device link other cause second vl cycle is fit good i j
           | inr ge ↦ elim (cases_lt cycle number.0) [
             | inl lt ↦ (let wrong = spans_are_apart v cycle number.0 (time_of g) (time_of r) is lt span_g span_r in omega (arith, wrong, says.by_then))
             | inr le ↦
-                let same : number.0 ≡ cycle = omega (arith, ge, le) in
-                let again : is_taken_in cycle (last_taken taking.front device (time_of g) other second vl) ≡ true =
-                ap (λ (o : Option Happening). is_taken_in cycle (option_and_then (λ x. taken_cycle x.note.body) o)) e ∙ ap (is_taken_in cycle) number.1
-                ∙ eq-eqb number.0 cycle same in
-                both_ways _ taking.anew again
+                grind (arith, number.0, is_taken_in, last_taken, taking.front, time_of, option_and_then, number.1, eq-eqb, both_ways, taking.anew)
           ]
         ]
 

@@ -1,7 +1,7 @@
 -- A dispatched frame that comes to a synchronised device is taken, or one was taken before.
 use Rattle.traffic_law.proofs.Words.{if◌then◌else◌, ◌&&◌, ◌++◌, ◌+ℤ◌, ◌+◌, ◌<◌, ◌==◌, ◌||◌, ◌∙◌, ◌∷◌, ◌≡◌, ◌≢◌, ◌≤◌, Arrival, Bool, BringsBlocks}
-use Rattle.traffic_law.proofs.Words.{BringsChannels, DeviceId, Down, Entry, FieldsFit, Happening, Integrating, IsCaused, IsDue, IsGood, IsIn, IsRowDispatch}
-use Rattle.traffic_law.proofs.Words.{IsTimedAt, IsView, KeepsRules, Link, LinkId, List, Network, None, NoteBody, OccursIn, Option, SaysTaken, Scenario, Sizes}
+use Rattle.traffic_law.proofs.Words.{BringsChannels, DeviceId, Down, Entry, FieldsFit, Happening, Integrating, IsDue, IsGood, IsIn, IsRowDispatch}
+use Rattle.traffic_law.proofs.Words.{IsTimedAt, IsView, KeepsRules, Link, LinkId, List, Network, None, NoteBody, OccursIn, Option, SaysTaken, Sizes}
 use Rattle.traffic_law.proofs.Words.{Some, Standpoint, State, Synchronised, Up, View, VlId, Way, [], adjustment_after, amount, and_parts, ap, arith, arrives_at}
 use Rattle.traffic_law.proofs.Words.{clock_of, cycle_at, earlier, entry_arrival, entry_entering, eq-eqb, eqb-true, false, field, filter, in_filter, in_left}
 use Rattle.traffic_law.proofs.Words.{in_range, inl, inr, ints, is_broken, is_end, is_synchronised, is_taken_in, is_turned_on_at, last_in, last_or, last_taken}
@@ -12,14 +12,14 @@ use Rattle.traffic_law.proofs.Words.{ℕ}
 use Rattle.std.proofs.lemmas.Bool.{ltb-true, ne_eqb, or_cases}
 use Rattle.net_plan.specs.Bounds.{gamma_of}
 use Rattle.run_law.{proofs.{law.{FirstPlaces.{due_is_there, same_earlier}, FirstSent.found_before}, records.Order.has_passed}, specs.control.Wires.Arrives}
-use Rattle.run_law.specs.{declared.note.Note.Note, device.States.is_off, records.Happenings.happening, scenario.Ways.receiver_of, timed.Arrivals.taken_by}
+use Rattle.run_law.specs.{device.States.is_off, records.Happenings.happening, scenario.Ways.receiver_of, timed.Arrivals.taken_by}
 use Rattle.run_law.specs.timed.Receptions.{ArrivesAs, arrival_of, comes_before, is_taken_before, taken_cycle}
-use Rattle.tte_units.specs.Amount.{units_of}
 use Rattle.traffic_law.proofs.delivery.{Arriving.{arrivals_are_in_windows, delay_lies, frames_arrive_in_spans}, Coming.on_port}
 use Rattle.traffic_law.proofs.delivery.{Entering.{enters_by, octets_sound, row_sound}, Frames.frame_shows, Taken.{put_on, way_is}, Whole.dispatches_are_whole}
 use Rattle.traffic_law.{proofs.{ports.Ends.ends_differ, schedule.Rows.rows_are_in_time}, specs.Delivered.{ArrivalsAreTaken, HasTaken}}
 use Rattle.run_law.specs.declared.note.NoteBody.TheVariants as notes
 use Rattle.run_law.specs.declared.steps.Arrival.TheVariants as arrivals
+use Rattle.run_law.proofs.law.FirstSent.{next_due, next_note}
 
 -- ---- ways
 
@@ -27,14 +27,9 @@ use Rattle.run_law.specs.declared.steps.Arrival.TheVariants as arrivals
 way_from_by : (o : Option Link) (l : Link) (way : Way) (device : DeviceId) → o ≡ Some l → l.child ≢ l.parent → source_by way l ≡ device
     → (if option_map_or (λ x. x.parent.0 == device.0) o false then Down else Up) ≡ way
 way_from_by o l Down device at differ source =
-    let test : option_map_or (λ x. x.parent.0 == device.0) o false ≡ true = ap (λ (p : Option Link). option_map_or (λ x. x.parent.0 == device.0) p false) at
-    ∙ eq-eqb l.parent.0 device.0 (ap (λ (d : DeviceId). d.0) source) in
-    rw test refl
+    grind (arith, option_map_or, eq-eqb)
 way_from_by o l Up device at differ source =
-    let apart : l.parent.0 ≡ device.0 → ⊥ = λ same. differ (source ∙ sym (ap (λ (n : ℕ). let d : DeviceId = record { 0 = n } in d) same)) in
-    let test : option_map_or (λ x. x.parent.0 == device.0) o false ≡ false = ap (λ (p : Option Link). option_map_or (λ x. x.parent.0 == device.0) p false) at
-    ∙ ne_eqb l.parent.0 device.0 apart in
-    rw test refl
+    grind (arith, option_map_or, ne_eqb)
 
 -- so does a device of a network
 pub sends_on : (network : Network) (link : LinkId) (l : Link) (way : Way) (device : DeviceId) → KeepsRules network → link_at network link ≡ Some l
@@ -52,10 +47,7 @@ pub record SaysSo (device : DeviceId) (vl : VlId) (cycle t : ℕ) (g : Happening
 
 -- what was taken before is no later
 sooner : (at t : ℕ) (more : Bool) → (nat_lt at t || (at == t && more)) ≡ true → at ≤ t
-sooner at t more e = elim (or_cases (nat_lt at t) (at == t && more) e) [
-  | inl lt ↦ (let less = ltb-true at t lt in omega (arith, less))
-  | inr same ↦ (let equal = eqb-true at t (and_parts (at == t) more same).0 in omega (arith, equal))
-]
+sooner at t more e = grind (arith, or_cases, nat_lt, ltb-true, eqb-true, and_parts)
 
 -- the id of a virtual link
 pub one_vl : (d e : VlId) → (d.0 == e.0) ≡ true → e ≡ d
@@ -124,18 +116,7 @@ judged : (network : Network) (device : DeviceId) (link : LinkId) (at : Standpoin
     → row_fault network at entry (length octets) (last entry.row.vl) ≡ None → timed_arrival network device link at octets last ≡ taken_by network device
     entry.row.vl (cycle_at network (clock_of at))
 judged network device link at octets last entry sound found fits =
-    ap (octets_or_fault network device link at octets last) sound
-    ∙ ap (entry_arrival network device at (length octets) last) found
-    ∙ ap (taken_or_fault network device at entry) fits
-
--- the record with a body at a time that comes next
-abbrev pub next_note : List Happening → ℕ → NoteBody → Note
-next_note ps t body = record { number = length ps + 1; time = units_of t; body = body }
-
--- where it has a cause it is due
-pub next_due : (s : Scenario) (ps : List Happening) (t : ℕ) (body : NoteBody) → IsCaused s ps (units_of t) body
-    → IsDue s ps (happening s.network ps (next_note ps t body))
-next_due s ps t body cause = record { number = refl; same = refl; begun = omega (arith, ints); cause = cause }
+    grind (arith, octets_or_fault, entry_arrival, length, taken_or_fault)
 
 -- a device that is not turned on, and that the records leave synchronised, takes part
 pub state_is : (b : Bool) (state : State) → b ≡ false → state ≡ Synchronised → (if b then Integrating else state) ≡ Synchronised

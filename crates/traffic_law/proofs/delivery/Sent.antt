@@ -7,18 +7,20 @@ use Rattle.traffic_law.proofs.Words.{arrives_at, before_narrow, cases_lt, clocks
 use Rattle.traffic_law.proofs.Words.{ints, is_accepted, is_turned_on_at, last_accepted, last_in, last_or, last_setting, link_at, one_device, place_of, pos}
 use Rattle.traffic_law.proofs.Words.{reaches_by, refl, room, same_some, slice_get, source_of, split, state_after, state_before, state_left, steady, subst, suc}
 use Rattle.traffic_law.proofs.Words.{sym, target_of, time_of, true, tt_frame_by, way_from, zero, ℕ}
-use Rattle.precision_law.{proofs.records.Times.{in_kept, last_some}, specs.Views.IsSoundSwitch}
+use Rattle.precision_law.{proofs.records.Times.last_some, specs.Views.IsSoundSwitch}
 use Rattle.run_law.proofs.{law.FirstPlaces.{due_is_there, same_earlier}, records.{Happenings.{from_earlier, is_earlier}, Order.has_passed}}
 use Rattle.run_law.specs.{control.Losses.IsDispatchedOn, records.Happenings.happening, scenario.Faults.IsLinkOf, timed.Dispatching.HasAtHand}
 use Rattle.schedule_tables.{proofs.Entries.same_or_other, specs.{Windows.window_end, declared.rule.Rule.TheVariants.{Forwarding, Sources}}}
 use Rattle.traffic_law.proofs.delivery.{Arriving.{delay_lies, frames_arrive_in_spans}, Coming.{dispatches_begin, spans_are_apart, takings_come_by_rows}}
-use Rattle.traffic_law.proofs.delivery.{Receiving.{arrivals_are_taken, next_due, next_note, one_vl, state_is}, Taken.takings_are_so, Takers.switch_accepts}
+use Rattle.traffic_law.proofs.delivery.{Receiving.{arrivals_are_taken, one_vl, state_is}, Taken.takings_are_so, Takers.switch_accepts}
 use Rattle.traffic_law.proofs.{faults.Channels.{source_on, switch_channel, switch_no_end, target_on}, ports.Cycles.same_hull}
 use Rattle.traffic_law.proofs.ports.Dispatched.{cycle_is, dispatches_are_in_spans, dispatches_are_of_rows, offset_in_schedule, one_clock}
 use Rattle.traffic_law.proofs.{schedule.Rows.{rows_are_in_time, rows_go_once}, spans.Corrected.{earlier_founded, in_places, last_of}}
 use Rattle.traffic_law.proofs.spans.{Forward.synchronised_stay_so, Reaching.{set_before, values_are_reached}, Spans.has_time_at}
 use Rattle.traffic_law.specs.{Delivered.{IsRowSent, IsSentIn, RowsAreSent, SoundSwitchesKeepTime}, Spans.ReachesInSpan}
 use Rattle.run_law.specs.declared.note.NoteBody.TheVariants as notes
+use Rattle.run_law.proofs.records.Members.{in_kept}
+use Rattle.run_law.proofs.law.FirstSent.{next_due, next_note}
 
 -- all of these at once
 pub record Brings : Type 0 where
@@ -226,9 +228,7 @@ at_hand_then brings v device vl cycle t is fit good sources span g early =
   where
     hit : is_accepted device vl g.taking.note.body ≡ true
     hit =
-        ap (is_accepted device vl) g.is
-        ∙ (let one : (device.0 == device.0) ≡ true = eq-eqb device.0 device.0 refl in let two : (vl.0 == vl.0) ≡ true = eq-eqb vl.0 vl.0 refl in rw (one, two)
-        refl)
+        grind (arith, is_accepted, eq-eqb)
 
     among : IsIn g.taking (earlier t v.records)
     among = is_earlier t v.records g.taking g.there early

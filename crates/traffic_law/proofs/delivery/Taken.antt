@@ -1,4 +1,5 @@
 -- The records by which devices take frames of the schedule.
+use Rattle.std.proofs.Common.{arith}
 use Rattle.traffic_law.proofs.Words.{if◌then◌else◌, ◌&&◌, ◌+ℤ◌, ◌+◌, ◌==◌, ◌∙◌, ◌∷◌, ◌≡◌, ◌≢◌, ◌≤ℤ◌, Arrival, Bool, DeviceId, Down, Happening, IsCaused}
 use Rattle.traffic_law.proofs.Words.{IsFoundedAt, IsIn, IsTaking, IsView, KeepsRules, Link, LinkId, List, Network, None, NoteBody, OccursIn, Option, Pcf}
 use Rattle.traffic_law.proofs.Words.{Reason, Scenario, Signal, Some, Standpoint, Synchronised, Units, Up, View, VlId, Way, [], ap, before_of, cause_of}
@@ -25,9 +26,7 @@ way_by : (o : Option Link) (way : Way) (device : DeviceId) → ((l : Link) → o
     → (if option_map_or (λ l. l.parent.0 == device.0) o false then Up else Down) ≡ way
 way_by None way device differ e = absurd cc
 way_by (Some l) Up device differ e =
-    let same : l.parent ≡ device = cc in
-    let test : (l.parent.0 == device.0) ≡ true = eq-eqb l.parent.0 device.0 (ap (λ (d : DeviceId). d.0) same) in
-    rw test refl
+    grind (arith, eq-eqb)
 way_by (Some l) Down device differ e =
     let same : l.child ≡ device = cc in
     by (l.parent.0 == device.0) refl same
@@ -94,10 +93,7 @@ left_control (Some frame) link way by turned octets e = (let same = same_signal 
 
 -- octets that are no control frame are found as they were put
 by_type : (b : Bool) (own octets : List ℕ) → (if b then control (decoded own) else timed own) ≡ timed octets → own ≡ octets
-by_type true own octets e = absurd (apart (decoded own) octets e)
-  where
-    apart : (r : Result Pcf PcfRefusal) (octets : List ℕ) → control r ≡ timed octets → ⊥
-    apart r octets e = cc
+by_type true own octets e = grind (arith, control, timed)
 by_type false own octets e = cc
 
 -- so are those of a `send` event

@@ -1,10 +1,10 @@
 -- Where the octets of a dispatch come from, and how many they are.
-use Rattle.traffic_law.proofs.Words.{if◌then◌else◌, ◌++◌, ◌-◌, ◌<◌, ◌==◌, ◌∙◌, ◌≡◌, ◌≤◌, Bool, Entry, Happening, IsEntry, IsIn, List, Network, None, Option}
+use Rattle.traffic_law.proofs.Words.{if◌then◌else◌, ◌++◌, ◌-◌, ◌<◌, ◌==◌, ◌∙◌, ◌≡◌, ◌≤◌, Bool, Entry, Happening, IsEntry, IsIn, List, Network, None}
 use Rattle.traffic_law.proofs.Words.{Some, VirtualLink, VlId, [], ap, arith, before_of, earlier, eq-eqb, eqb-true, false, false_from_ne_true, filter}
 use Rattle.traffic_law.proofs.Words.{founded_at, in_filter, in_parts, in_range, inl, inr, is_accepted, last_accepted, last_in, last_or, length, numbered}
 use Rattle.traffic_law.proofs.Words.{option_map_or, same_some, slice_get, subst, suc, sym, time_of, true, tt_frame_by, zero, ℕ}
 use Rattle.std.proofs.{Common.{length-append, replicate}, lemmas.List.length-replicate}
-use Rattle.byteorder.specs.{Endian.big_bytes, Numbers.length-bytes_high_first}
+use Rattle.byteorder.specs.{Endian.big_bytes}
 use Rattle.net_plan.specs.Padding.{padded}
 use Rattle.run_law.{proofs.{law.FirstPlaces.by_number, records.Happenings.from_earlier}, specs.records.Frames.{mac_of, tt_frame}}
 use Rattle.run_law.specs.records.Happenings.{octets_by, octets_from}
@@ -16,29 +16,12 @@ use Rattle.run_law.specs.declared.note.NoteBody.TheVariants as notes
 -- octets that fit are padded to the size
 padded_length : (size : ℕ) (octets : List ℕ) → length octets ≤ size → length (padded size octets) ≡ size
 padded_length size octets fits =
-    let parts = length-append octets (replicate (size - length octets) 0) in
-    let zeros : length {A = ℕ} (replicate (size - length octets) 0) ≡ size - length octets = length-replicate (size - length octets) 0 in
-    omega (arith, parts, zeros, fits)
+    grind (arith, length-append, replicate, length, length-replicate)
 
 -- how long the head of a frame is
 head_length : (a b c d e : ℕ) → length (big_bytes 4 a ++ (big_bytes 2 b ++ (big_bytes 6 c ++ (big_bytes 2 d ++ big_bytes 4 e)))) ≡ 18
 head_length a b c d e =
-    let one = length-append (big_bytes 4 a) (big_bytes 2 b ++ (big_bytes 6 c ++ (big_bytes 2 d ++ big_bytes 4 e))) in
-    let two = length-append (big_bytes 2 b) (big_bytes 6 c ++ (big_bytes 2 d ++ big_bytes 4 e)) in
-    let three = length-append (big_bytes 6 c) (big_bytes 2 d ++ big_bytes 4 e) in
-    let four = length-append (big_bytes 2 d) (big_bytes 4 e) in
-    omega (
-      arith,
-      one,
-      two,
-      three,
-      four,
-      length-bytes_high_first 4 a,
-      length-bytes_high_first 2 b,
-      length-bytes_high_first 6 c,
-      length-bytes_high_first 2 d,
-      length-bytes_high_first 4 e,
-    )
+    grind (arith, length-append)
 
 -- a frame has the length of its virtual link
 pub made_length : (network : Network) (vl : VirtualLink) (cycle : ℕ) → 60 ≤ vl.length → length (tt_frame_by network vl cycle) ≡ vl.length
@@ -66,15 +49,7 @@ octets_come_so v h device link cause vl cycle is d =
     ap (λ (x : Happening). x.octets) found.due.same ∙ ap (octets_by n found.front) d.is in
     elim d.at_hand [
       | inl made ↦
-          let zero : (cause == 0) ≡ true = eq-eqb cause 0 made.1 in
-          let frame : tt_frame n vl cycle ≡ tt_frame_by n d.entry.vl cycle = ap (λ (o : Option VirtualLink). option_map_or (λ x. tt_frame_by n x cycle) o [])
-          (subst (λ (x : VlId). slice_get n.vl x.0 ≡ Some d.entry.vl) d.of_vl d.row.vl) in
-          inl (record {
-            sender = made.0;
-            first = made.1;
-            frame = own ∙ ap (λ (b : Bool). if b then tt_frame n vl cycle else octets_from found.front cause) zero
-                ∙ frame;
-          })
+          grind (arith, eq-eqb, n, tt_frame_by, option_map_or, slice_get, n.vl, own, found.front)
       | inr passed ↦
           let has = passed.1 in
           let taken = has.taken in

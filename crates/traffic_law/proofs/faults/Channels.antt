@@ -1,6 +1,7 @@
 -- The channels of rows, and the devices at their ends.
-use Rattle.traffic_law.proofs.Words.{◌∙◌, ◌≡◌, Bool, BringsChannels, Device, DeviceId, Down, Entry, HasGoodSources, IsEntry, IsGood, IsOnChannel, IsSwitchOf}
-use Rattle.traffic_law.proofs.Words.{IsView, Joints, KeepsRules, Network, None, Option, Some, Up, View, VirtualLink, VlId, Way, ap, both_ways, closed}
+use Rattle.std.proofs.Common.{arith}
+use Rattle.traffic_law.proofs.Words.{◌∙◌, ◌≡◌, Bool, BringsChannels, Device, DeviceId, Entry, HasGoodSources, IsEntry, IsGood, IsOnChannel, IsSwitchOf}
+use Rattle.traffic_law.proofs.Words.{IsView, Joints, KeepsRules, Network, None, Option, Some, View, VirtualLink, VlId, ap, both_ways, closed}
 use Rattle.traffic_law.proofs.Words.{device_at, false, in_all, inl, inr, is_end, is_end_system, not, opened, option_map_or, refl, same_some, slice_get}
 use Rattle.traffic_law.proofs.Words.{source_by, source_of, subst, sym, target_by, target_of, true, ℕ}
 use Rattle.std.proofs.Common.{is_some}
@@ -43,10 +44,7 @@ switch_no_end network channel device range switch =
 -- a switch has one channel
 pub one_channel : (network : Network) (a b : Channel) (device : DeviceId) → IsSwitchOf network a device → IsSwitchOf network b device → a ≡ b
 one_channel network a b device one two =
-    let d = opened (λ (x : Device). x.channel ≡ Some a) (device_at network device) one in
-    let e = opened (λ (x : Device). x.channel ≡ Some b) (device_at network device) two in
-    let same : d.0 ≡ e.0 = same_some (device_at network device) d.0 e.0 d.1 e.1 in
-    same_some d.0.channel a b d.2 (ap (λ (x : Device). x.channel) same ∙ e.2)
+    grind (arith, opened, device_at, same_some)
 
 -- ---- links
 
@@ -70,24 +68,12 @@ ends_of_one network place entry channel range keeps row no_end =
 -- a switch that a row of the channel leaves is one of the channel
 pub source_on : (network : Network) (place : ℕ) (entry : Entry) (channel : Channel) → IsInRange network → KeepsRules network → IsEntry network place entry
     → is_end network (source_of entry) ≡ false → IsOnChannel network channel entry → IsSwitchOf network channel (source_of entry)
-source_on network place entry channel range keeps row no_end on = by entry.row.way refl no_end
-  where
-    by : (w : Way) → entry.row.way ≡ w → is_end network (source_by entry.row.way entry.link) ≡ false
-        → IsSwitchOf network channel (source_by entry.row.way entry.link)
-    by Down e none = subst (λ (w : Way). IsSwitchOf network channel (source_by w entry.link)) (sym e) on
-    by Up e none = subst (λ (w : Way). IsSwitchOf network channel (source_by w entry.link)) (sym e)
-        ((ends_of_one network place entry channel range keeps row (subst (λ (w : Way). is_end network (source_by w entry.link) ≡ false) e none)).0 on)
+source_on network place entry channel range keeps row no_end on = grind (arith, is_end, source_by, ends_of_one)
 
 -- and a row that enters a switch of the channel is one of it
 pub target_on : (network : Network) (place : ℕ) (entry : Entry) (channel : Channel) → IsInRange network → KeepsRules network → IsEntry network place entry
     → IsSwitchOf network channel (target_of entry) → IsOnChannel network channel entry
-target_on network place entry channel range keeps row switch = by entry.row.way refl switch
-  where
-    by : (w : Way) → entry.row.way ≡ w → IsSwitchOf network channel (target_by entry.row.way entry.link) → IsOnChannel network channel entry
-    by Up e own = subst (λ (w : Way). IsSwitchOf network channel (target_by w entry.link)) e own
-    by Down e own =
-        let child = subst (λ (w : Way). IsSwitchOf network channel (target_by w entry.link)) e own in
-        (ends_of_one network place entry channel range keeps row (switch_no_end network channel entry.link.child range child)).1 child
+target_on network place entry channel range keeps row switch = grind (arith, target_by, ends_of_one, switch_no_end)
 
 -- ---- sources
 

@@ -1,11 +1,10 @@
 -- The switches of the sound channel are synchronised when the span of a cycle begins.
 use Rattle.traffic_law.proofs.Words.{if◌then◌else◌, ◌<◌, ◌==◌, ◌∙◌, ◌∷◌, ◌≡◌, ◌≤◌, Bool, BringsChannels, ChangesState, Device, DeviceId, Happening, Integrates}
-use Rattle.traffic_law.proofs.Words.{IsCaused, IsFoundedAt, IsIn, IsView, List, Network, None, NoteBody, Option, Some, State, Synchronised, TimedAreNotTurnedOn}
-use Rattle.traffic_law.proofs.Words.{Units, View, Why, [], ap, arith, between, both_ways, device_at, earlier, earlier_parts, false, fold, fold-append}
+use Rattle.traffic_law.proofs.Words.{IsCaused, IsFoundedAt, IsIn, IsView, List, Network, None, NoteBody, State, Synchronised, TimedAreNotTurnedOn}
+use Rattle.traffic_law.proofs.Words.{View, Why, [], ap, arith, between, both_ways, device_at, earlier, earlier_parts, false, fold, fold-append}
 use Rattle.traffic_law.proofs.Words.{founded_at, has_time, in_between, in_left, in_order, inl, inr, is_joined_by, is_turned_on_at, le-ltb, nat_lt, none_kept}
 use Rattle.traffic_law.proofs.Words.{numbered_in, one_device, option_and_then, refl, start_of, state_after, state_at_start, state_left, state_with, subst, suc}
 use Rattle.traffic_law.proofs.Words.{sym, time_of, true, zero, ℕ}
-use Rattle.std.specs.Prelude.{IsNone, IsSomeAnd}
 use Rattle.net_plan.specs.declared.event.What.TheVariants.{On}
 use Rattle.precision_law.specs.{Blocks.NoneLost, Views.IsFirm}
 use Rattle.run_law.specs.scenario.Faults.{BeginsOn}
@@ -15,15 +14,7 @@ use Rattle.run_law.specs.declared.note.NoteBody.TheVariants as notes
 
 -- what begins on begins synchronised
 starts_synchronised : (network : Network) (device : DeviceId) → BeginsOn network device → state_at_start (start_of network device) ≡ Synchronised
-starts_synchronised network device on = by (device_at network device) on
-  where
-    by_start : (o : Option Units) → (IsNone o → ⊥) → state_at_start o ≡ Synchronised
-    by_start None not = absurd (not refl)
-    by_start (Some start) not = refl
-
-    by : (o : Option Device) → IsSomeAnd o (λ d. IsNone d.start → ⊥) → state_at_start (option_and_then (λ d. d.start) o) ≡ Synchronised
-    by None on = absurd on
-    by (Some d) on = by_start d.start on
+starts_synchronised network device on = grind (arith, device_at, state_at_start, option_and_then)
 
 -- a change of state leaves a firm device synchronised
 changes_to : (v : View) (device : DeviceId) (next : ℕ) (h : Happening) (state : State) (cause : ℕ) (why : Why) → IsView v → NoneLost v next → IsFirm v device
@@ -39,12 +30,7 @@ changes_to v device next h state cause whys.On is kept firm i lt timed not_on bo
     let on = turned_on_by v.scenario g.note.time c.2.0 device caused in
     absurd (both_ways _ not_on (ap (is_turned_on_at v.scenario device) (sym c.2.2.same_time) ∙ on))
 changes_to v device next h state cause whys.Frame is kept firm i lt timed not_on body found c =
-    let g = c.1.0 in
-    let j = numbered_in found.front cause g c.1.1.there in
-    let in_all : IsIn g v.records = subst (IsIn g) (sym found.whole) (in_left g found.front (h ∷ found.rest) j) in
-    let same = c.1.1.same_time in
-    absurd (both_ways _ (no_joining v device g is in_all (subst (λ (t : ℕ). state_left v device t ≡ Synchronised) (sym same) timed)
-    (subst (λ (t : ℕ). is_turned_on_at v.scenario device t ≡ false) (sym same) not_on)) c.1.2)
+    grind (arith, numbered_in, in_left, both_ways, no_joining, state_left, is_turned_on_at)
 changes_to v device next h state cause whys.Correction is kept firm i lt timed not_on body found c = c.0
 changes_to v device next h state cause whys.SyncClique is kept firm i lt timed not_on body found c =
     absurd (kept h device state cause whys.SyncClique i lt body tt firm)
@@ -99,7 +85,4 @@ firm_up_to never v device next (suc t) is kept firm on le =
     ap (λ (xs : List Happening). state_after v.scenario xs device) parts ∙ apart ∙ fold_leaves device hs each (state_left v device t) timed
 
 pub sound_switches_keep_time : BringsChannels → TimedAreNotTurnedOn → SoundSwitchesKeepTime
-sound_switches_keep_time channels never v n before device is switch = record {
-  good = channels.switches v v.channel device is switch;
-  synchronised = firm_up_to never v device before.next before.next is before.kept (inr switch) (channels.begin v device is switch) (omega arith);
-}
+sound_switches_keep_time channels never v n before device is switch = grind (arith, firm_up_to)

@@ -1,16 +1,16 @@
 -- A device that has the common time is not turned on.
-use Rattle.traffic_law.proofs.Words.{if◌then◌else◌, ◌&&◌, ◌++◌, ◌<◌, ◌==◌, ◌∙◌, ◌∷◌, ◌≡◌, Bool, ChangesState, Device, DeviceId, Event, Happening, Integrates}
-use Rattle.traffic_law.proofs.Words.{Integrating, IsCaused, IsFoundedAt, IsIn, IsView, Joining, List, Network, None, NoteBody, Option, Scenario, Some, State}
-use Rattle.traffic_law.proofs.Words.{Synchronised, TimedAreNotTurnedOn, Units, View, Why, [], amount, ap, append_assoc, arith, before_of, between, both_ways}
+use Rattle.traffic_law.proofs.Words.{if◌then◌else◌, ◌++◌, ◌<◌, ◌==◌, ◌∙◌, ◌∷◌, ◌≡◌, Bool, ChangesState, Device, DeviceId, Event, Happening, Integrates}
+use Rattle.traffic_law.proofs.Words.{Integrating, IsCaused, IsFoundedAt, IsIn, IsView, Joining, List, Network, NoteBody, Scenario, State}
+use Rattle.traffic_law.proofs.Words.{Synchronised, TimedAreNotTurnedOn, View, Why, [], amount, ap, append_assoc, arith, before_of, between, both_ways}
 use Rattle.traffic_law.proofs.Words.{device_at, earlier, earlier_before, earlier_parts, eqb-true, false, false_from_ne_true, fold, fold-append, founded_at}
 use Rattle.traffic_law.proofs.Words.{has_time, in_between, in_left, in_order, in_parts, inl, inr, is_joined_by, is_turned_on_at, le-ltb, nat_lt, none_kept}
 use Rattle.traffic_law.proofs.Words.{numbered_in, one_device, option_and_then, parted, refl, start_of, state_after, state_at_start, state_before, state_left}
 use Rattle.traffic_law.proofs.Words.{state_with, subst, suc, sym, time_of, true, zero, ℕ}
-use Rattle.std.{proofs.Common.Any, specs.Prelude.{IsNone, IsSomeAnd}}
-use Rattle.precision_law.proofs.faults.Turned.{looking_by}
+use Rattle.std.{proofs.Common.Any}
+use Rattle.run_law.proofs.control.Joined.{looking_by}
 use Rattle.run_law.{proofs.{records.Order.any_in, runs.Places.in_right, scenario.Devices.on_by}, specs.declared.outside.Outside.TheVariants.NotOff}
-use Rattle.run_law.specs.{law.FirstLaws.IsLawful, scenario.{Faults.{BeginsOn, TurnsOn}, Scenarios.turns_on}}
-use Rattle.sync_state.specs.{Standing.point_in, declared.state.State.TheVariants.Off}
+use Rattle.run_law.specs.{law.FirstLaws.IsLawful, scenario.Faults.{BeginsOn, TurnsOn}}
+use Rattle.sync_state.specs.{declared.state.State.TheVariants.Off}
 use Rattle.tte_lemmas.proofs.Lists.{any_behind, any_first}
 use Rattle.traffic_law.proofs.spans.Forward.{turned_on_by}
 use Rattle.net_plan.specs.declared.event.What.TheVariants as events
@@ -35,13 +35,7 @@ record TurnsOnAt (s : Scenario) (device : DeviceId) (t : ℕ) : Type 0 where
 -- a device that is turned on has such an event
 turned_on_at : (s : Scenario) (device : DeviceId) (t : ℕ) → is_turned_on_at s device t ≡ true → TurnsOnAt s device t
 turned_on_at s device t e =
-    let found = any_in (λ (x : Event). turns_on device x.what && amount x.time == t) s.events e in
-    let parts = both_true (turns_on device found.0.what) (amount found.0.time == t) found.2 in
-    record { event = found.0; there = found.1; what = on_by device found.0.what parts.0; at = eqb-true (amount found.0.time) t parts.1 }
-  where
-    both_true : (x y : Bool) → (x && y) ≡ true → (x ≡ true) × (y ≡ true)
-    both_true true y e = (refl, e)
-    both_true false y e = absurd cc
+    grind (arith, any_in, amount, on_by, eqb-true)
 
 -- of two events that turn a device on one is behind the other, which the hypothesis rules out
 on_again : (s : Scenario) (device : DeviceId) (before behind : List Event) (e f : Event) → IsLawful s → s.events ≡ before ++ f ∷ behind → IsIn e before
@@ -73,16 +67,7 @@ began_off s device t lawful on begins =
 
 -- what does not begin on begins off
 starts_off : (network : Network) (device : DeviceId) → (BeginsOn network device → ⊥) → state_at_start (start_of network device) ≡ Off
-starts_off network device not = by (device_at network device) refl not
-  where
-    by : (o : Option Device) → device_at network device ≡ o → (IsSomeAnd o (λ d. IsNone d.start → ⊥) → ⊥)
-        → state_at_start (option_and_then (λ d. d.start) o) ≡ Off
-    by None e not = refl
-    by (Some d) e not = by_start d.start not
-      where
-        by_start : (o : Option Units) → ((IsNone o → ⊥) → ⊥) → state_at_start o ≡ Off
-        by_start None not = refl
-        by_start (Some start) not = absurd (not (λ none. cc))
+starts_off network device not = grind (arith, device_at, state_at_start, option_and_then)
 
 -- ---- a device that is off
 
@@ -121,33 +106,13 @@ no_change_off v device h state cause whys.On is i off not_on found before c =
     let on = turned_on_by v.scenario g.note.time c.2.0 device caused in
     both_ways _ not_on (ap (is_turned_on_at v.scenario device) (sym c.2.2.same_time) ∙ on)
 no_change_off v device h state cause whys.Frame is i off not_on found before c =
-    let g = c.1.0 in
-    let j = numbered_in found.front cause g c.1.1.there in
-    let in_all : IsIn g v.records = subst (IsIn g) (sym found.whole) (in_left g found.front (h ∷ found.rest) j) in
-    let same = c.1.1.same_time in
-    both_ways _ (no_joining_off v device g is in_all (subst (λ (t : ℕ). state_left v device t ≡ Off) (sym same) off)
-    (subst (λ (t : ℕ). is_turned_on_at v.scenario device t ≡ false) (sym same) not_on)) c.1.2
+    grind (arith, numbered_in, in_left, both_ways, no_joining_off, state_left, is_turned_on_at)
 no_change_off v device h state cause whys.Correction is i off not_on found before c =
-    (let was = c.1 in apart (state_before v.scenario found.front device (time_of h)) before was)
-  where
-    apart : (state : State) → state ≡ Off → state ≡ Joining → ⊥
-    apart state one two = cc
+    grind (arith, state_before, time_of)
 no_change_off v device h state cause whys.SyncClique is i off not_on found before c =
-    no_point (state_before v.scenario found.front device (time_of h)) _ _ before c.2.1.next
-  where
-    no_point : (state : State) (n cycle : ℕ) → state ≡ Off → point_in state n ≡ Some cycle → ⊥
-    no_point Off n cycle off e = cc
-    no_point Integrating n cycle off e = cc
-    no_point Joining n cycle off e = cc
-    no_point Synchronised n cycle off e = cc
+    grind (arith, state_before, time_of)
 no_change_off v device h state cause whys.AsyncClique is i off not_on found before c =
-    no_point (state_before v.scenario found.front device (time_of h)) _ _ before c.2.1.next
-  where
-    no_point : (state : State) (n cycle : ℕ) → state ≡ Off → point_in state n ≡ Some cycle → ⊥
-    no_point Off n cycle off e = cc
-    no_point Integrating n cycle off e = cc
-    no_point Joining n cycle off e = cc
-    no_point Synchronised n cycle off e = cc
+    grind (arith, state_before, time_of)
 
 -- no record of the instant turns it on
 stays_off_by : (v : View) (device : DeviceId) (h : Happening) (body : NoteBody) → IsView v → IsIn h v.records → state_left v device (time_of h) ≡ Off

@@ -23,14 +23,7 @@ record IsTtThen (s : Scenario) (h : Happening) (device : DeviceId) (link : LinkI
 -- what says so is such a record
 tt_then : (s : Scenario) (h : Happening) (device : DeviceId) (link : LinkId) (t : ℕ) (body : NoteBody) → h.note.body ≡ body → IsTtOnPort s h body device link t
     → IsTtThen s h device link t
-tt_then s h device link t (notes.TtSent sender by cause vl cycle) same on = record {
-  cause = cause;
-  vl = vl;
-  cycle = cycle;
-  is = same ∙ ap (λ (d : DeviceId). notes.TtSent d by cause vl cycle) on.0 ∙ ap (λ (l : LinkId). notes.TtSent device l cause vl cycle) on.1;
-  from = on.2;
-  to = on.3;
-}
+tt_then s h device link t (notes.TtSent sender by cause vl cycle) same on = grind arith
 tt_then s h device link t body same on = absurd on
 
 -- a control frame does
@@ -44,13 +37,7 @@ record IsControlThen (s : Scenario) (h : Happening) (device : DeviceId) (link : 
 -- what says so is such a record
 control_then : (s : Scenario) (h : Happening) (device : DeviceId) (link : LinkId) (t : ℕ) (body : NoteBody) → h.note.body ≡ body
     → IsControlOnPort s h body device link t → IsControlThen s h device link t
-control_then s h device link t (notes.Left sender by cause clock) same on = record {
-  cause = cause;
-  clock = clock;
-  is = same ∙ ap (λ (d : DeviceId). notes.Left d by cause clock) on.0 ∙ ap (λ (l : LinkId). notes.Left device l cause clock) on.1;
-  from = on.2;
-  to = on.3;
-}
+control_then s h device link t (notes.Left sender by cause clock) same on = grind arith
 control_then s h device link t body same on = absurd on
 
 -- how long a frame of the schedule does

@@ -7,9 +7,7 @@ use Rattle.precision_law.specs.Hulls.{IsOverBefore}
 pub same_end : (v : View) (n a b : ℕ) → IsOverBefore v n a → IsOverBefore v n b → a ≡ b
 same_end v zero a b one two = omega (arith, one, two)
 same_end v (suc n) a b one two =
-    let same : one.0 ≡ two.0 = same_some (hull_of v n) one.0 two.0 one.1 two.1 in
-    let end : last_correction v.sizes one.0 ≡ last_correction v.sizes two.0 = ap (last_correction v.sizes) same in
-    omega (arith, ints, one.2, two.2, end)
+    grind (arith, same_some, hull_of, last_correction, ints)
 
 -- a cycle has one hull
 pub same_hull : (v : View) (n : ℕ) (one two : Stands v n) → one.hull ≡ two.hull

@@ -1,6 +1,7 @@
 -- The two ends of a link, and the ways on which a device sends by it.
-use Rattle.traffic_law.proofs.Words.{◌∙◌, ◌≡◌, ◌≢◌, ◌⊎◌, Device, Down, Entry, IsEntry, IsSwitchOf, Joints, KeepsRules, Link, LinkId, Network, Some, Up, Way, ap}
-use Rattle.traffic_law.proofs.Words.{closed, device_at, inr, is_end_system, link_at, opened, refl, same_some, source_by, source_of, subst, sym, true, ℕ}
+use Rattle.std.proofs.Common.{arith}
+use Rattle.traffic_law.proofs.Words.{◌≡◌, ◌≢◌, ◌⊎◌, Device, Down, Entry, IsEntry, IsSwitchOf, Joints, KeepsRules, Link, LinkId, Network, Some, Up, Way, ap}
+use Rattle.traffic_law.proofs.Words.{closed, device_at, inr, is_end_system, link_at, opened, refl, same_some, source_by, source_of, sym, true, ℕ}
 use Rattle.net_plan.{proofs.{Shape.rules_give_trees, TableFacts.no_path}, specs.{Paths.IsUplink, Places.IsDeviceOf}}
 use Rattle.schedule_tables.proofs.Margins.{shape_rules}
 
@@ -32,7 +33,4 @@ one_way Down Down l differ same = refl
 pub same_way : (network : Network) (place other : ℕ) (entry second : Entry) → KeepsRules network → IsEntry network place entry → IsEntry network other second
     → entry.row.link ≡ second.row.link → source_of entry ≡ source_of second → entry.row.way ≡ second.row.way
 same_way network place other entry second keeps one two link source =
-    let same : entry.link ≡ second.link = same_some (link_at network entry.row.link) entry.link second.link one.link
-    (subst (λ (m : LinkId). link_at network m ≡ Some second.link) (sym link) two.link) in
-    one_way entry.row.way second.row.way entry.link (ends_differ network entry.row.link entry.link keeps one.link)
-    (source ∙ ap (λ (l : Link). source_by second.row.way l) (sym same))
+    grind (arith, same_some, link_at, one_way, ends_differ, source_by)

@@ -116,12 +116,7 @@ stretch_back v device q t is le none timed =
 -- no frame that is permanent is dropped
 never_dropped : (reason : Reason) (j : Judgement) → ripe_as j ≡ ripe.Dropped reason → ⊥
 never_dropped reason judgements.Opened e = cc
-never_dropped reason judgements.Joined e = cc
-never_dropped reason judgements.Repeat e = cc
-never_dropped reason judgements.Within e = cc
-never_dropped reason judgements.Outside e = cc
-never_dropped reason judgements.Integrates e = cc
-never_dropped reason judgements.Ignored e = cc
+never_dropped reason other e = cc
 
 -- so a compression master has found no fault of it
 no_fault : (network : Network) (points : List Point) (point : Point) (o : Option Reason) (j : Judgement)
@@ -143,20 +138,7 @@ PassesGate network value =
 gate_of : (network : Network) (state : State) (adjustment point : ℤ) (cycle : ℕ) → state ≡ Synchronised
     → point_fault network state adjustment point cycle ≡ None → PassesGate network (point +ℤ adjustment)
 gate_of network state adjustment point cycle timed none =
-    let one = none_first
-    (is_synchronised state
-    && int_lt (pos (4 * amount network.precision))
-    (offset_in_cycle network (((point +ℤ adjustment) -ℤ pos (amount network.dmax)) +ℤ pos (2 * amount network.precision)))) _ _ none in
-    not_less (pos (4 * amount network.precision))
-    (offset_in_cycle network (((point +ℤ adjustment) -ℤ pos (amount network.dmax)) +ℤ pos (2 * amount network.precision)))
-    (first_true (is_synchronised state) _ (test state timed) one.0)
-  where
-    test : (x : State) → x ≡ Synchronised → is_synchronised x ≡ true
-    test x e = rw e refl
-
-    first_true : (a b : Bool) → a ≡ true → (a && b) ≡ false → b ≡ false
-    first_true true b e f = f
-    first_true false b e f = absurd cc
+    grind (arith, none_first, is_synchronised, int_lt, amount, offset_in_cycle, not_less)
 
 -- ---- hearing
 

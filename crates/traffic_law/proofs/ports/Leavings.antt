@@ -1,6 +1,6 @@
 -- A frame of the schedule and a control frame do not meet on a port.
 use Rattle.traffic_law.proofs.Words.{◌*◌, ◌+ℤ◌, ◌+◌, ◌<◌, ◌∙◌, ◌∷◌, ◌≡◌, ◌≤ℤ◌, ◌≤◌, ◌⊎◌, Bool, BringsBlocks, Device, DeviceId, Entry, GivingsKeepAway}
-use Rattle.traffic_law.proofs.Words.{Happening, Hull, IsCaused, IsEntry, IsFoundedAt, IsGood, IsIn, IsRowDispatch, IsView, Link, LinkId, Network, None}
+use Rattle.traffic_law.proofs.Words.{Happening, Hull, IsCaused, IsEntry, IsFoundedAt, IsGood, IsIn, IsRowDispatch, IsView, Link, LinkId, Network}
 use Rattle.traffic_law.proofs.Words.{NoteBody, Option, Sizes, Some, Stands, View, VlId, Way, amount, ap, arith, before_narrow, cases_lt, device_at, false}
 use Rattle.traffic_law.proofs.Words.{founded_at, has_before, hull_of, in_all, in_left, in_range, inl, inr, ints, is_end, is_end_system, link_at, numbered_in}
 use Rattle.traffic_law.proofs.Words.{octet_time, option_map_or, port_time, pos, refl, room, same_some, subst, suc, sym, time_of, true, way_from, within_run}
@@ -74,11 +74,7 @@ control_time v place entry link row by =
 -- a device of one kind is not of another
 pub apart_roles : (network : Network) (device : DeviceId) (p q : Role → Bool) → ((r : Role) → p r ≡ true → q r ≡ true → ⊥) → has_role network p device ≡ true
     → has_role network q device ≡ true → ⊥
-apart_roles network device p q apart one two = by (device_at network device) one two
-  where
-    by : (o : Option Device) → option_map_or (λ d. p d.role) o false ≡ true → option_map_or (λ d. q d.role) o false ≡ true → ⊥
-    by None one two = cc
-    by (Some d) one two = apart d.role one two
+apart_roles network device p q apart one two = grind (arith, device_at, option_map_or)
 
 -- an end system gives its own dispatches alone
 end_gives : (v : View) (g : Happening) (device : DeviceId) (link : LinkId) (body : NoteBody) → IsView v → (found : IsFoundedAt v.scenario v.records g)

@@ -1,6 +1,6 @@
 -- The point that opened what a compression master sends.
-use Rattle.traffic_law.proofs.Words.{if◌then◌else◌, ◌&&◌, ◌++◌, ◌+ℤ◌, ◌-ℤ◌, ◌==◌, ◌∙◌, ◌∷◌, ◌≡◌, ◌≤ℤ◌, Bool, List, [], and_parts, ap, arith, false, fold, inl}
-use Rattle.traffic_law.proofs.Words.{inr, ints, pos, refl, subst, sym, true, ℕ, ℤ}
+use Rattle.traffic_law.proofs.Words.{if◌then◌else◌, ◌++◌, ◌+ℤ◌, ◌-ℤ◌, ◌∙◌, ◌∷◌, ◌≡◌, ◌≤ℤ◌, Bool, List, [], and_parts, ap, arith, false, fold, inl}
+use Rattle.traffic_law.proofs.Words.{inr, ints, pos, subst, sym, true, ℕ, ℤ}
 use Rattle.std.proofs.Common.{◌*ℤ◌, Contains, int_le, map}
 use Rattle.compression.proofs.{Elements.{from_beyond, in_cases, in_head, in_none, in_tail}, Firsts.firsts-start, Growth.{end_of-least, end_of-most}}
 use Rattle.compression.proofs.Held.{held-start}
@@ -47,12 +47,7 @@ AreLow high (q ∷ qs) = (q.reading ≤ℤ high) × AreLow high qs
 held_low : (cycle : ℕ) (from to : ℤ) (ps : List Point) → AreLow to (of_cycle_within cycle from to ps)
 held_low cycle from to [] = tt
 held_low cycle from to (q ∷ qs) =
-    elim (q.cycle == cycle && (int_le from q.reading && int_le q.reading to)) as (λ b. (q.cycle == cycle && (int_le from q.reading && int_le q.reading to)) ≡ b
-    → AreLow to (if b then q ∷ of_cycle_within cycle from to qs else of_cycle_within cycle from to qs)) [
-      | true ↦ λ e. (let parts = and_parts (q.cycle == cycle) (int_le from q.reading && int_le q.reading to)
-          e in (int_le-is q.reading to (and_parts (int_le from q.reading) (int_le q.reading to) parts.1).1, held_low cycle from to qs))
-      | false ↦ λ e. held_low cycle from to qs
-    ] refl
+    grind (arith, int_le, and_parts, int_le-is, (held_low cycle from to qs))
 
 -- with one more point
 low_append : (high : ℤ) (ps : List Point) (q : Point) → AreLow high ps → q.reading ≤ℤ high → AreLow high (ps ++ q ∷ [])

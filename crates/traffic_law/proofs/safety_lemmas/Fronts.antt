@@ -7,7 +7,8 @@ use Rattle.run_law.specs.{declared.note.{Note.Note, NoteBody.NoteBody}, law.Firs
 use Rattle.run_law.specs.{records.{Order.{IsBefore, IsIn}, Ranks.{key, members_in, place_of, rank}}, runs.{DueRecords.{IsDue, IsScenarioRun}, Runs.IsRun}}
 use Rattle.run_law.specs.scenario.Scenarios.{Scenario}
 use Rattle.tte_units.{proofs.Amounts.units_are, specs.Amount.amount}
-use Rattle.traffic_law.{proofs.safety_lemmas.{Going.{goes_well, well_earlier}, Told.{note_in, notes_of, told}}, specs.safety.Headline.{GoesWell, IsEventOf}}
+use Rattle.run_law.proofs.records.Told.{note_in, notes_of, told}
+use Rattle.traffic_law.{proofs.safety_lemmas.Going.{goes_well, well_earlier}, specs.safety.Headline.{GoesWell, IsEventOf}}
 use Rattle.run_law.specs.declared.note.NoteBody.TheVariants as notes
 
 -- ---- what is behind the front
@@ -15,19 +16,7 @@ use Rattle.run_law.specs.declared.note.NoteBody.TheVariants as notes
 -- a record of the lowest rank is that of an event
 lowest : (body : NoteBody) → rank body < 2 → (line : ℕ) × (what : What) × (body ≡ notes.Event line what)
 lowest (notes.Event line what) lt = (line, what, refl)
-lowest (notes.Arrived device link cause clock) lt = absurd (omega (arith, lt))
-lowest (notes.Permanent device link cause point verdict) lt = absurd (omega (arith, lt))
-lowest (notes.Compressed device opened at cycle members verdict) lt = absurd (omega (arith, lt))
-lowest (notes.Sent device cycle) lt = absurd (omega (arith, lt))
-lowest (notes.Corrected device cycle by adjustment) lt = absurd (omega (arith, lt))
-lowest (notes.State device state cause why) lt = absurd (omega (arith, lt))
-lowest (notes.Left device link cause clock) lt = absurd (omega (arith, lt))
-lowest (notes.Lost device link cause) lt = absurd (omega (arith, lt))
-lowest (notes.TtSent device link cause vl cycle) lt = absurd (omega (arith, lt))
-lowest (notes.Accepted device link cause vl cycle) lt = absurd (omega (arith, lt))
-lowest (notes.Delivered device link cause vl cycle) lt = absurd (omega (arith, lt))
-lowest (notes.Dropped device link cause reason) lt = absurd (omega (arith, lt))
-lowest (notes.Clock device reading adjustment state) lt = absurd (omega (arith, lt))
+lowest other lt = absurd (omega (arith, lt))
 
 -- a place that is not before a time, but before the place behind its events, is of this time and of the lowest rank
 between : (at kind time : ℕ) (rest : List ℕ) → (IsBefore (at ∷ kind ∷ rest) (time ∷ []) → ⊥) → IsBefore (at ∷ kind ∷ rest) (time ∷ 2 ∷ [])

@@ -1,5 +1,5 @@
 -- A lawful run that goes just as far as a time goes well up to there, and up to each earlier time.
-use Rattle.std.proofs.Common.{◌*◌, ◌+◌, ◌^◌, ◌∷◌, ◌≤◌, List, [], arith, inl, ℕ}
+use Rattle.std.proofs.Common.{◌*◌, ◌+◌, ◌^◌, ◌∷◌, ◌≤◌, List, [], arith, ℕ}
 use Rattle.net_plan.specs.declared.{ids.{DeviceId.DeviceId, VlId.VlId}, tables.VirtualLink.VirtualLink}
 use Rattle.precision_law.proofs.law.Whole.{time_kept}
 use Rattle.run_law.{proofs.records.Happenings.soon, specs.{declared.note.Note.Note, law.{FirstLaws.IsLawful, Safety.{ClocksAgree, IsOwed, IsSafe}}}}
@@ -10,10 +10,7 @@ use Rattle.traffic_law.specs.safety.Headline.{GoesWell, TimeStays}
 
 run_to : (s : Scenario) (ns : List Note) (until : ℕ) → IsLawful s → until ≤ 2 ^ 20 * amount s.network.cycle → IsScenarioRun s ((until + 1) ∷ []) ns
     → IsRunTo s ((until + 1) ∷ []) ns until
-run_to s ns until lawful short run = record {
-  up = record { lawful = lawful; run = run; covers = λ more. inl (omega arith); short = short };
-  within = λ h i. let lt = soon h (until + 1) (run.within h i) in omega (arith, lt);
-}
+run_to s ns until lawful short run = grind (arith, soon)
 
 -- a lawful run goes well
 pub goes_well : (s : Scenario) (ns : List Note) (until : ℕ) → IsLawful s → until ≤ 2 ^ 20 * amount s.network.cycle → IsScenarioRun s ((until + 1) ∷ []) ns
@@ -26,37 +23,13 @@ goes_well s ns until lawful short run =
 
 owed_later : (s : Scenario) (hs : List Happening) (u t : ℕ) (vl : VlId) (of_vl : VirtualLink) (cycle : ℕ) (device : DeviceId) → u ≤ t
     → IsOwed s hs u vl of_vl cycle device → IsOwed s hs t vl of_vl cycle device
-owed_later s hs u t vl of_vl cycle device le o = record {
-  there = o.there;
-  occurs = o.occurs;
-  end_system = o.end_system;
-  into = o.into;
-  enters = o.enters;
-  last = o.last;
-  greatest = o.greatest;
-  from = o.from;
-  to = o.to;
-  begins = o.begins;
-  ends = o.ends;
-  in_order = o.in_order;
-  in_run = let within = o.in_run in omega (arith, within, le);
-  receiver = o.receiver;
-  rows = o.rows;
-  sender = o.sender;
-}
+owed_later s hs u t vl of_vl cycle device le o = grind arith
 
 agree_earlier : (s : Scenario) (hs : List Happening) (u t : ℕ) → u ≤ t → ClocksAgree s hs t → ClocksAgree s hs u
-agree_earlier s hs u t le agree = record {
-  after = λ x d e early. agree.after x d e (omega (arith, early, le));
-  before = λ x d e early. agree.before x d e (omega (arith, early, le));
-}
+agree_earlier s hs u t le agree = grind arith
 
 safe_earlier : (s : Scenario) (hs : List Happening) (u t : ℕ) → u ≤ t → IsSafe s hs t → IsSafe s hs u
-safe_earlier s hs u t le safe = record {
-  precision = agree_earlier s hs u t le safe.precision;
-  ports = safe.ports;
-  delivery = λ vl of_vl cycle device owed. safe.delivery vl of_vl cycle device (owed_later s hs u t vl of_vl cycle device le owed);
-}
+safe_earlier s hs u t le safe = grind (arith, agree_earlier, owed_later)
 
 stays_earlier : (s : Scenario) (hs : List Happening) (u t : ℕ) → u ≤ t → TimeStays s hs t → TimeStays s hs u
 stays_earlier s hs u t le stays h device state cause why there early is clique = stays h device state cause why there (omega (arith, early, le)) is clique

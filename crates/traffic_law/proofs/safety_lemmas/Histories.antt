@@ -1,42 +1,18 @@
 -- The rates that events within the hypothesis set are a history of a clock.
-use Rattle.std.proofs.Common.{if◌then◌else◌, ◌++◌, ◌==◌, ◌∙◌, ◌∷◌, ◌≡◌, ◌≤ℤ◌, ◌≤◌, List, None, Option, Some, [], append_assoc, arith, false, inl, inr, pos}
-use Rattle.std.proofs.{Common.{refl, subst, suc, sym, true, unsigned_abs, zero, ℕ}, lemmas.{Bool.cases_lt, List.Elements.{All-cons, All-nil}}}
+use Rattle.std.proofs.Common.{◌++◌, ◌∙◌, ◌∷◌, ◌≡◌, ◌≤ℤ◌, ◌≤◌, List, None, Option, Some, [], append_assoc, arith, inl, pos}
+use Rattle.std.proofs.{Common.{refl, subst, suc, sym, unsigned_abs, zero, ℕ}, lemmas.List.Elements.{All-cons, All-nil}}
 use Rattle.std.specs.List.{All, cons_option, Sorted.IsNonDecreasingBy}
 use Rattle.drift_clock.specs.RateSteps.{IsHistory, RateStep}
-use Rattle.net_plan.specs.declared.{event.{Event.Event, What.What}, ids.DeviceId.DeviceId, network.Network.Network}
+use Rattle.net_plan.specs.declared.{event.Event.Event, ids.DeviceId.DeviceId, network.Network.Network}
 use Rattle.run_law.{proofs.{runs.Places.{in_left, in_right}, scenario.Devices.in_turn}, specs.records.Order.IsIn}
 use Rattle.run_law.specs.scenario.{Hypothesis.{AreWithinHypothesis, IsWithinHypothesis}, Rates.{rate_steps, step_by}}
 use Rattle.tte_units.specs.{Amount.amount, declared.rates.Ppb.Ppb}
 use Rattle.net_plan.specs.declared.event.What.TheVariants as events
-use Rattle.run_law.specs.declared.outside.Outside.TheVariants as outside
-
--- ---- a rate that is set is slow
-
--- a rate that this sets is of a magnitude of at most rho
-abbrev IsSlow : ℕ → What → Type 0
-IsSlow rho (events.Rate device rate) = unsigned_abs rate.0 ≤ rho
-IsSlow rho other = Unit {0}
-
-slow_event : (network : Network) (before : List Event) (event : Event) → IsWithinHypothesis network before event → IsSlow network.rho event.what
-slow_event network before event within = of event.what refl
-  where
-    of : (what : What) → event.what ≡ what → IsSlow network.rho what
-    of (events.Rate device rate) same = elim (cases_lt network.rho (unsigned_abs rate.0)) [
-      | inl fast ↦ absurd (within outside.Rate (record { device = device; rate = rate; what = same; fast = fast }))
-      | inr slow ↦ slow
-    ]
-    of (events.Wire link way delay) same = tt
-    of (events.Hold link way delay) same = tt
-    of (events.Cut link way) same = tt
-    of (events.Heal link way) same = tt
-    of (events.On other) same = tt
-    of (events.Break other) same = tt
-    of (events.Send link octets) same = tt
-    of events.End same = tt
+use Rattle.run_law.proofs.scenario.Rated.{Holds, IsSlow, IsStepAt, slow_event, slow_what, step_is}
 
 pub slow_rate : (network : Network) (before : List Event) (event : Event) (device : DeviceId) (rate : Ppb) → IsWithinHypothesis network before event
     → event.what ≡ events.Rate device rate → unsigned_abs rate.0 ≤ network.rho
-slow_rate network before event device rate within same = subst (IsSlow network.rho) same (slow_event network before event within)
+slow_rate network before event device rate within same = slow_what network before event (events.Rate device rate) same within
 
 -- ---- the events in their order
 
@@ -69,31 +45,6 @@ in_order network (e ∷ es) within begun = (
 
 -- ---- their steps
 
--- the step is of this time, and its rate of at most rho
-record IsStepAt (rho time : ℕ) (step : RateStep) : Type 0 where
-  pub at : step.at ≡ time
-  pub slow : unsigned_abs step.rate ≤ rho
-
--- what holds of the value, where there is one
-abbrev Holds : {X : Type 0} → Option X → (X → Type 0) → Type 0
-Holds None P = Unit {0}
-Holds (Some x) P = P x
-
-step_is : (rho : ℕ) (device : DeviceId) (time : ℕ) (what : What) → IsSlow rho what → Holds (step_by device time what) (IsStepAt rho time)
-step_is rho device time (events.Rate other rate) slow =
-    elim (device.0 == other.0) as (λ b. Holds (if b then Some (let s : RateStep = record { at = time; rate = rate.0 } in s) else None) (IsStepAt rho time)) [
-      | true ↦ record { at = refl; slow = slow }
-      | false ↦ tt
-    ]
-step_is rho device time (events.Wire link way delay) slow = tt
-step_is rho device time (events.Hold link way delay) slow = tt
-step_is rho device time (events.Cut link way) slow = tt
-step_is rho device time (events.Heal link way) slow = tt
-step_is rho device time (events.On other) slow = tt
-step_is rho device time (events.Break other) slow = tt
-step_is rho device time (events.Send link octets) slow = tt
-step_is rho device time events.End slow = tt
-
 sorted_more : (x : RateStep) (xs : List RateStep) → All (λ y. x.at ≤ y.at) xs → IsNonDecreasingBy (λ s. s.at) xs → IsNonDecreasingBy (λ s. s.at) (x ∷ xs)
 sorted_more x xs least sorted zero zero d le lt = omega arith
 sorted_more x xs least sorted zero (suc j) d le lt = least j d (omega arith)
@@ -117,11 +68,7 @@ more_steps : (rho least time : ℕ) (o : Option RateStep) (steps : List RateStep
     → IsHistoryFrom rho least (cons_option o steps)
 more_steps rho least time None steps le here h = record { sorted = h.sorted; later = later_all least time steps le h.later; slow = h.slow }
 more_steps rho least time (Some step) steps le here h =
-    record {
-      sorted = sorted_more step steps (later_all step.at time steps (omega (arith, here.at)) h.later) h.sorted;
-      later = All-cons (λ s. least ≤ s.at) step steps (omega (arith, here.at)) (later_all least time steps le h.later);
-      slow = All-cons (λ s. unsigned_abs s.rate ≤ rho) step steps here.slow h.slow;
-    }
+    grind (arith, sorted_more, later_all, All-cons, unsigned_abs)
 
 history_from : (rho least : ℕ) (all : List Event) (device : DeviceId) → AreSlowInOrder rho least all → IsHistoryFrom rho least (rate_steps all device)
 history_from rho least [] device order = no_steps rho least

@@ -44,16 +44,7 @@ apart_in_order network k place earlier entry cycle keeps lt one two link way her
 
 pub rows_stand_apart : RowsStandApart
 rows_stand_apart network place other entry second cycle keeps one two link way here there =
-    elim (cases_lt place other) [
-      | inl lt ↦ inr (apart_in_order network place other entry second cycle keeps lt one two (sym link) (sym way) there here)
-      | inr ge ↦ elim (cases_lt other place) [
-        | inl lt ↦ elim (apart_in_order network other place second entry cycle keeps lt two one link way here there) [
-          | inl clear ↦ inr (inr clear)
-          | inr clear ↦ inr (inl clear)
-        ]
-        | inr le ↦ inl (omega (arith, ge, le))
-      ]
-    ]
+    grind (arith, cases_lt, apart_in_order)
 
 -- one place has one row
 same_place : (network : Network) (place other : ℕ) (entry second : Entry) → place ≡ other → IsEntry network place entry → IsEntry network other second

@@ -1,8 +1,7 @@
 -- The cycle of a local value and its place in the cycle.
 use Rattle.traffic_law.proofs.Words.{◌*◌, ◌+◌, ◌-◌, ◌<ℤ◌, ◌<◌, ◌∙◌, ◌≡◌, ◌≤ℤ◌, IsView, Network, View, ap, arith, cycle_at, ints, negsuc, offset_in_cycle, pos}
 use Rattle.traffic_law.proofs.Words.{sym, ℕ, ℤ}
-use Rattle.std.{proofs.lemmas.Nat.{div-mul-add, mod-mul-add}, specs.Int.{int_div_euclid, int_rem_euclid}}
-use Rattle.run_law.specs.device.Standpoints.{natural}
+use Rattle.std.proofs.lemmas.Nat.{div-mul-add, mod-mul-add}
 use Rattle.tte_lemmas.proofs.Integers.{whole as not_negative}
 use Rattle.traffic_law.proofs.ports.Dispatched.{cycle_is}
 
@@ -20,14 +19,7 @@ pub record IsSoFarIn (network : Network) (z : ℤ) (cycle place : ℕ) : Type 0 
 -- it is in the cycle, and there
 pub so_far_in : (network : Network) (length : ℕ) (z : ℤ) (cycle place : ℕ) → network.cycle.0 ≡ pos length → z ≡ pos (cycle * length + place) → place < length
     → IsSoFarIn network z cycle place
-so_far_in network length z cycle place whole is less = record {
-  cycle_is =
-      ap (λ (y : ℤ). natural (int_div_euclid y network.cycle.0)) is ∙ ap (λ (y : ℤ). natural (int_div_euclid (pos (cycle * length + place)) y)) whole
-      ∙ div-mul-add cycle length place less;
-  place_is =
-      ap (λ (y : ℤ). int_rem_euclid y network.cycle.0) is ∙ ap (λ (y : ℤ). int_rem_euclid (pos (cycle * length + place)) y) whole
-      ∙ ap (λ (n : ℕ). pos n) (mod-mul-add cycle length place less);
-}
+so_far_in network length z cycle place whole is less = grind (arith, cycle_is, div-mul-add, mod-mul-add)
 
 -- a value between the ends of a cycle is so far in it
 pub so_far : (z : ℤ) (from length : ℕ) → pos from ≤ℤ z → z <ℤ pos (from + length) → (place : ℕ) × (z ≡ pos (from + place)) × (place < length)

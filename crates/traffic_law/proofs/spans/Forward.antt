@@ -1,5 +1,5 @@
 -- A synchronised device stays so in the span of a cycle.
-use Rattle.traffic_law.proofs.Words.{if◌then◌else◌, ◌&&◌, ◌++◌, ◌+◌, ◌-◌, ◌<ℤ◌, ◌==◌, ◌∙◌, ◌∷◌, ◌≡◌, ◌≤◌, Bool, BringsBlocks, ChangesState, ComesTo, Corrected}
+use Rattle.traffic_law.proofs.Words.{if◌then◌else◌, ◌++◌, ◌+◌, ◌-◌, ◌<ℤ◌, ◌==◌, ◌∙◌, ◌∷◌, ◌≡◌, ◌≤◌, Bool, BringsBlocks, ChangesState, ComesTo, Corrected}
 use Rattle.traffic_law.proofs.Words.{DeviceId, Event, Happening, Integrates, Integrating, IsCaused, IsFoundedAt, IsIn, IsInBlock, IsInSpan, IsOldAt, IsTimedAt}
 use Rattle.traffic_law.proofs.Words.{IsView, Judgement, List, None, NoteBody, Option, Scenario, State, Synchronised, TimedAreNotTurnedOn, Units, View, Why, []}
 use Rattle.traffic_law.proofs.Words.{amount, ap, arith, before_of, between, both_ways, changes_adjustment, earlier, earlier_before, earlier_parts, eq-eqb}
@@ -8,8 +8,9 @@ use Rattle.traffic_law.proofs.Words.{is_joined_by, is_turned_on_at, last_or, las
 use Rattle.traffic_law.proofs.Words.{start_of, state_after, state_at_start, state_left, state_with, subst, suc, sym, time_of, true, zero, ℕ}
 use Rattle.std.proofs.lemmas.{List.{append-nil, Elements.filter-append}, Map.Keys.any_passes_from_place}
 use Rattle.net_plan.specs.declared.event.What.TheVariants.{On}
-use Rattle.precision_law.{proofs.faults.Turned.looking_by, specs.BlockLaws.AreBeforeCorrections}
-use Rattle.run_law.specs.{control.{Corrections.ComesToCorrection, Permanence.ripe_as}, runs.DueRecords.IsEventRecord, scenario.Scenarios.turns_on}
+use Rattle.precision_law.specs.BlockLaws.{AreBeforeCorrections}
+use Rattle.run_law.proofs.control.Joined.{looking_by}
+use Rattle.run_law.specs.{control.{Corrections.ComesToCorrection, Permanence.ripe_as}, runs.DueRecords.IsEventRecord}
 use Rattle.sync_state.specs.declared.answers.Verdict.{Verdict, TheVariants.{AsyncClique, SyncClique}}
 use Rattle.traffic_law.{proofs.spans.Spans.has_time_at, specs.Spans.SynchronisedStaySo}
 use Rattle.run_law.specs.declared.judgement.Judgement.TheVariants as judgements
@@ -35,9 +36,7 @@ ripe_integrates judgements.Ignored e = absurd cc
 pub turned_on_by : (s : Scenario) (time : Units) (line : ℕ) (device : DeviceId) → IsEventRecord s.events time line (On device)
     → is_turned_on_at s device (amount time) ≡ true
 turned_on_by s time line device r =
-    let what : turns_on device r.event.what ≡ true = ap (turns_on device) (sym r.same) ∙ eq-eqb device.0 device.0 refl in
-    let at : (amount r.event.time == amount time) ≡ true = eq-eqb (amount r.event.time) (amount time) (ap amount (sym r.at)) in
-    any_passes_from_place (λ (e : Event). turns_on device e.what && amount e.time == amount time) s.events r.before r.event r.is (rw (what, at) refl)
+    grind (arith, eq-eqb, amount, any_passes_from_place)
 
 -- ---- an instant at which nothing changes
 

@@ -1,9 +1,9 @@
 -- The span of a cycle: what clocks show there, and when they reach a value of the schedule.
 use Rattle.traffic_law.proofs.Words.{◌*◌, ◌+ℤ◌, ◌+◌, ◌<ℤ◌, ◌<◌, ◌≡◌, ◌≤ℤ◌, ◌≤◌, BringsBlocks, ComesTo, Corrected, DeviceId, Happening, IsCaused, IsInBlock}
-use Rattle.traffic_law.proofs.Words.{IsInSchedule, IsOldAt, IsTimedAt, IsView, None, Option, Some, State, Synchronised, View, adjustment_left, ap, arith}
+use Rattle.traffic_law.proofs.Words.{IsInSchedule, IsOldAt, IsTimedAt, IsView, None, Option, Some, Synchronised, View, adjustment_left, ap, arith}
 use Rattle.traffic_law.proofs.Words.{before_narrow, before_of, begins_late, block_ends, by_lt_z, cases_lt, clocks_reach_sharply, earlier, epoch_time}
 use Rattle.traffic_law.proofs.Words.{follows_before, founded_at, has_time, inl, inr, ints, last_setting, negsuc, option_map_or, pos, refl, room, setting_is}
-use Rattle.traffic_law.proofs.Words.{shown_at, state_left, subst, suc, sym, time_of, true, zero, ℕ, ℤ}
+use Rattle.traffic_law.proofs.Words.{shown_at, state_left, subst, suc, sym, time_of, zero, ℕ, ℤ}
 use Rattle.std.proofs.{Common.suc-mul, Math.Nat.mul-le-mul_right}
 use Rattle.precision_law.proofs.{law.Together.{new_shows, old_shows, set_shows}, records.Points.point_timed, sizes.Instants.set_clocks_stay_at_correction}
 use Rattle.precision_law.specs.{BlockLaws.BlocksGoSo, Blocks.HasTimeAt, Hulls.first_correction, Standings.ShowsIn}
@@ -14,10 +14,7 @@ use Rattle.run_law.specs.declared.note.NoteBody.TheVariants as notes
 
 -- a synchronised device has the common time
 pub has_time_at : (v : View) (device : DeviceId) (t : ℕ) → IsTimedAt v device t → HasTimeAt v device t
-has_time_at v device t timed = record { good = timed.good; timed = by (state_left v device t) timed.synchronised }
-  where
-    by : (state : State) → state ≡ Synchronised → has_time state ≡ true
-    by state e = rw e refl
+has_time_at v device t timed = grind (arith, state_left, has_time)
 
 -- a synchronised device whose clock was set in the block was corrected, not before the first correction
 pub corrected_late : (v : View) (n t : ℕ) (block : IsInBlock v n t) (device : DeviceId) (o : Option Happening) → BlocksGoSo → IsView v → IsTimedAt v device t

@@ -1,11 +1,11 @@
 -- After an act a device has the tasks that it had before, and such as are for later readings.
-use Rattle.world_law.proofs.Words.{if◌then◌else◌, ◌&&◌, ◌*◌, ◌++◌, ◌+ℤ◌, ◌+◌, ◌-ℤ◌, ◌<ℤ◌, ◌==◌, ◌∙◌, ◌∷◌, ◌≡◌, ◌≤ℤ◌, Act, AreClusters, AsyncClique, Bool}
+use Rattle.world_law.proofs.Words.{if◌then◌else◌, ◌&&◌, ◌*◌, ◌++◌, ◌+ℤ◌, ◌+◌, ◌-ℤ◌, ◌<ℤ◌, ◌∙◌, ◌∷◌, ◌≡◌, ◌≤ℤ◌, Act, AreClusters, AsyncClique, Bool}
 use Rattle.world_law.proofs.Words.{Cleared, ClockTask, Cluster, Compressed, Corrected, DeviceId, Integrating, IsActOf, IsPending, Joining, List, MayCall}
-use Rattle.world_law.proofs.Words.{Moment, Network, Node, None, Off, Ripe, Some, Standing, State, Summary, SyncClique, Synchronised, Task, Units, Verdict, []}
+use Rattle.world_law.proofs.Words.{Moment, Network, Node, Off, Ripe, Some, Standing, State, Summary, SyncClique, Synchronised, Task, Units, Verdict, []}
 use Rattle.world_law.proofs.Words.{acting, after_correction, after_emission, amount, ap, arith, called, correcting, correction_value, dispatching, doing}
 use Rattle.world_law.proofs.Words.{emitting, false, filter, heard_as, inl, inr, ints, last_or, nat_le, next_point, no_cluster, observation_window, own_hearing}
 use Rattle.world_law.proofs.Words.{plan_of, point_in, pos, refl, sending, subst, sym, true, value_of, ℕ, ℤ}
-use Rattle.std.{proofs.{Common.Contains, lemmas.List.Elements.Contains-append_left}, specs.Prelude.IsSomeAnd}
+use Rattle.std.proofs.{Common.Contains, lemmas.List.Elements.Contains-append_left}
 use Rattle.compression.specs.Emission.{compressed}
 use Rattle.membership.specs.Members.{count_of}
 use Rattle.pcf_values.specs.declared.members.Members.{Members}
@@ -29,46 +29,16 @@ pub deed_alike : (network : Network) (device : DeviceId) (node new : Node) (deed
     → IsDeedOf network device node deed
 deed_alike network device node new (sending cycle) a own = (own.0, sym (ap (λ (x : Standing). x.state) a.standing) ∙ own.1, own.2)
 deed_alike network device node new (correcting cycle) a own = sym (ap next_point a.standing) ∙ own
-deed_alike network device node new (dispatching row cycle) a own = (
-  sym (ap (λ (x : Standing). x.state) a.standing) ∙ own.0,
-  record {
-    entry = own.1.entry;
-    is = own.1.is;
-    leaves = own.1.leaves;
-    occurs = own.1.occurs;
-    has = elim own.1.has [
-      | inl sender ↦ inl sender
-      | inr took ↦ inr (
-        took.0,
-        record {
-          last = subst (λ (l : List _). IsSomeAnd (last_or None (filter (λ taking. taking.vl.0 == own.1.entry.row.vl.0) l))
-              (λ taking. (taking.cycle ≡ cycle) × (taking.at <ℤ value_of network (dispatching row cycle)))) a.taken took.1.last;
-        },
-      )
-    ];
-  },
-)
+deed_alike network device node new (dispatching row cycle) a own = grind (arith, last_or, filter, value_of, dispatching)
 
 pub undone_alike : (network : Network) (device : DeviceId) (node new : Node) (deed : ClockTask) → IsAlike node new → IsUndone network device new deed
     → IsUndone network device node deed
-undone_alike network device node new deed a u = record {
-  own = deed_alike network device node new deed a u.own;
-  ahead = subst (λ (z : ℤ). z <ℤ value_of network deed) a.changed u.ahead;
-  not_yet = λ there. u.not_yet (a.done deed there);
-}
+undone_alike network device node new deed a u = grind (arith, deed_alike, value_of)
 
 -- a device that has emitted no less, of the same points, has the same frames before it
 pub waiting_alike : (network : Network) (device : DeviceId) (node new : Node) (sent : Compressed) → new.points ≡ node.points
     → ((c : Compressed) → Contains node.emitted c → Contains new.emitted c) → IsWaiting network device new sent → IsWaiting network device node sent
-waiting_alike network device node new sent points emitted w = record {
-  cm = w.cm;
-  clusters = w.clusters;
-  are = subst (λ ps. AreClusters (observation_window network) ps w.clusters) points w.are;
-  cluster = w.cluster;
-  there = w.there;
-  is = w.is;
-  not_yet = λ there. w.not_yet (emitted sent there);
-}
+waiting_alike network device node new sent points emitted w = grind (arith, observation_window)
 
 pending_alike : (network : Network) (device : DeviceId) (node new : Node) (moment : Moment) (task : Task) → IsAlike node new → new.points ≡ node.points
     → ((c : Compressed) → Contains node.emitted c → Contains new.emitted c)
@@ -95,14 +65,7 @@ anew network device node new moment (doing deed) changed none p = inr (beyond_it
 -- ---- the acts
 
 pub done_more : (node : Node) (moment : Moment) (deed : ClockTask) → IsAlike node (called moment acting (with_done node deed))
-done_more node moment deed = record {
-  standing = refl;
-  broken = refl;
-  changed = refl;
-  taken = refl;
-  done = λ d there. Contains-append_left node.done (deed ∷ [])
-      d there;
-}
+done_more node moment deed = grind (arith, Contains-append_left)
 
 after_deed : (network : Network) (device : DeviceId) (node new : Node) (moment : Moment) (deed : ClockTask) (task : Task)
     → new ≡ called moment acting (with_done node deed) → IsPending network device new task → IsCarried network device node new moment task
@@ -148,15 +111,7 @@ kept_waiting : (network : Network) (device : DeviceId) (node : Node) (b : Bool) 
     → AreClusters (observation_window network) (if b then node.points else []) clusters → (cluster : Cluster) → Contains clusters cluster
     → sent ≡ compressed (observation_window network) (pos (amount network.calc)) cluster → (Contains (if b then node.emitted else []) sent → ⊥)
     → IsWaiting network device node sent
-kept_waiting network device node true sent cm clusters are cluster there is not_yet = record {
-  cm = cm;
-  clusters = clusters;
-  are = are;
-  cluster = cluster;
-  there = there;
-  is = is;
-  not_yet = not_yet;
-}
+kept_waiting network device node true sent cm clusters are cluster there is not_yet = grind arith
 kept_waiting network device node false sent cm clusters are cluster there is not_yet =
     absurd (no_cluster (observation_window network) clusters cluster are there)
 

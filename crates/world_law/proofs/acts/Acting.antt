@@ -176,9 +176,7 @@ had_come_by s hs device t later node u left has timed not_yet cleared sound =
         record {
           own = own;
           ahead = before;
-          not_yet = λ did.
-              let x = has node.standing.number own before did in
-              both_ways _ not_yet (cleared_by_then s hs device t node x.0 left timed number joining.0 came.0 u.never_falls x.2 x.3);
+          not_yet = grind (arith, own, before, both_ways, cleared_by_then, number, joining.0, came.0);
         },
       ),
       come_back v node.standing.adjustment.0 (s.reading device (later - 1)) (s.reading device (later - 1)) reached (omega arith),

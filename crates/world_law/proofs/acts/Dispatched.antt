@@ -1,5 +1,5 @@
 -- A dispatch is told apart from other losses by its cause, and where a device has not acted no record to come tells of one.
-use Rattle.world_law.proofs.Words.{if◌then◌else◌, ◌++◌, ◌+◌, ◌<◌, ◌∙◌, ◌∷◌, ◌≡◌, ◌⊎◌, AreSettled, Bool, DeviceId, Dispatches, Happening, IsBefore, IsDue}
+use Rattle.world_law.proofs.Words.{◌++◌, ◌+◌, ◌<◌, ◌∙◌, ◌∷◌, ◌≡◌, ◌⊎◌, AreSettled, Bool, DeviceId, Dispatches, Happening, IsBefore, IsDue}
 use Rattle.world_law.proofs.Words.{IsFounded, IsIn, IsOwnSource, IsSendLost, LinkId, List, None, NoteBody, Scenario, Some, VlId, [], act_place, ap, arith}
 use Rattle.world_law.proofs.Words.{by_number, cases_Bool, chain, dispatch_body, earlier, filter, in_filter, inl, inr, is_accepted, is_cut, last_in, members_in}
 use Rattle.world_law.proofs.Words.{numbered, parted, place_of, plain_body, refl, subst, sym, time_of, way_from, ℕ}
@@ -50,13 +50,7 @@ plain_tt device link cause vl cycle body e = e
 pub dispatch_told : (s : Scenario) (device : DeviceId) (now : ℕ) (link : LinkId) (cause : ℕ) (vl : VlId) (cycle : ℕ) (body : NoteBody)
     → plain_body body ≡ dispatch_body s device now link cause vl cycle → (body ≡ kinds.Lost device link cause)
     ⊎ (body ≡ kinds.TtSent device link cause vl cycle)
-dispatch_told s device now link cause vl cycle body e = elim (cases_Bool (is_cut s link (way_from s.network device link) now)) [
-  | inl cut ↦
-      inl (plain_lost device link cause body (e ∙ ap (λ (b : Bool). if b then kinds.Lost device link cause else kinds.TtSent device link cause vl cycle) cut))
-  | inr whole ↦
-      inr (plain_tt device link cause vl cycle body
-      (e ∙ ap (λ (b : Bool). if b then kinds.Lost device link cause else kinds.TtSent device link cause vl cycle) whole))
-]
+dispatch_told s device now link cause vl cycle body e = grind (arith, cases_Bool, is_cut, way_from, plain_lost, plain_tt)
 
 -- where the acts of the device are neither worked off nor taken up, no record to come tells of a dispatch of it
 pub no_dispatch_told : (s : Scenario) (hs coming : List Happening) (mark cursor : List ℕ) (now : ℕ) (device : DeviceId) → AreSettled s hs coming mark cursor now

@@ -39,13 +39,20 @@ pub points_same : (zs hs : List Happening) (device : DeviceId) → ((z : Happeni
     → points_of (hs ++ zs) device ≡ points_of hs device
 points_same [] hs device quiet = ap (λ (l : List Happening). points_of l device) (append-nil hs)
 points_same (z ∷ zs) hs device quiet =
-    let at = quiet z (inl refl) in
-    let f = λ (h : Happening). point_by device h h.note.body in
-    let p = λ (h : Happening). ends_stretch device h.note.body in
-    ap (λ (l : List Happening). points_of l device) (sym (append_assoc hs (z ∷ []) zs))
-    ∙ points_same zs (hs ++ z ∷ []) device (λ y i. quiet y (inr i))
-    ∙ ap (filter_map f) (behind_no p hs z (quiet_stretch device z.note.body at.0))
-    ∙ map_none f (after_last p hs) z (of_high_rank device z z.note.body at.1)
+    grind (
+      arith,
+      point_by,
+      ends_stretch,
+      points_of,
+      append_assoc,
+      filter_map,
+      behind_no,
+      quiet_stretch,
+      map_none,
+      after_last,
+      of_high_rank,
+      (points_same zs (hs ++ z ∷ []) device (λ y i. quiet y (inr i))),
+    )
 
 -- ---- a device that the network does not have does nothing
 
@@ -53,18 +60,10 @@ no_device : (network : Network) (device : DeviceId) (is : Device) → length net
 no_device network device is le there = let lt = slice_get_within network.device device.0 is there in omega (arith, lt, le)
 
 no_role : (network : Network) (kind : Role → Bool) (device : DeviceId) → length network.device ≤ device.0 → has_role network kind device ≡ true → ⊥
-no_role network kind device le = from (device_at network device) refl
-  where
-    from : (o : _) → device_at network device ≡ o → option_map_or (λ d. kind d.role) (device_at network device) false ≡ true → ⊥
-    from None e has = let bad : false ≡ true = sym (ap (λ (p : _). option_map_or (λ d. kind d.role) p false) e) ∙ has in cc
-    from (Some is) e has = no_device network device is le e
+no_role network kind device le = grind (arith, device_at, option_map_or, no_device)
 
 off_of_none : (network : Network) (device : DeviceId) → length network.device ≤ device.0 → state_at_start (start_of network device) ≡ Off
-off_of_none network device le = from (device_at network device) refl
-  where
-    from : (o : _) → device_at network device ≡ o → state_at_start (start_of network device) ≡ Off
-    from None e = ap (λ (p : _). state_at_start (Rattle.std.specs.Prelude.option_and_then (λ (d : Device). d.start) p)) e
-    from (Some is) e = absurd (no_device network device is le e)
+off_of_none network device le = grind (arith, device_at, no_device)
 
 never_moved : (device : DeviceId) (old : State) (hs : List Happening) → ((h : Happening) → IsIn h hs → moves device h.note.body ≡ false)
     → Rattle.std.specs.Prelude.fold (λ state h. state_with device state h.note.body) old hs ≡ old
@@ -76,10 +75,7 @@ never_moved device old (h ∷ hs) still =
 state_of_none : (s : Scenario) (hs : List Happening) (device : DeviceId) (t : ℕ) → length s.network.device ≤ device.0 → AreOfNetwork s hs
     → state_before s hs device t ≡ Off
 state_of_none s hs device t le known =
-    ap (λ (b : Bool). if b then Integrating else state_after s (earlier t hs) device) (known.never_on device le t)
-    ∙ never_moved device (state_at_start (start_of s.network device)) (earlier t hs)
-    (λ h i. known.unmoved device le h (in_filter (λ g. nat_lt (time_of g) t) hs h i))
-    ∙ off_of_none s.network device le
+    grind (arith, state_after, earlier, never_moved, in_filter, nat_lt, time_of, off_of_none)
 
 pub none_acts : (s : Scenario) (hs : List Happening) (device : DeviceId) (t : ℕ) → length s.network.device ≤ device.0 → AreOfNetwork s hs
     → IsActing s hs t device → ⊥

@@ -1,6 +1,6 @@
 -- An event that does not turn a device on, and does not break it, leaves it as it was.
 use Rattle.world_law.proofs.Words.{if◌then◌else◌, ◌∙◌, ◌≡◌, ◌≤◌, Agree, Bool, DeviceId, Event, Happening, Integrating, IsIn, IsLeft, List, Network, Node, ap}
-use Rattle.world_law.proofs.Words.{arith, earlier, false, is_broken, is_timed, is_turned_on_at, refl, scenario, state_after, sym, time_of, true, ℕ}
+use Rattle.world_law.proofs.Words.{arith, earlier, false, is_broken, is_timed, is_turned_on_at, refl, scenario, state_after, time_of, true, ℕ}
 use Rattle.run_law.specs.machines.Answers.{node_turned_on}
 use Rattle.world_law.{proofs.runs.Agreement.{heard_same, local_same, next_same}, specs.device.Left.IsCounted}
 
@@ -46,18 +46,4 @@ pub is_turned_on : (n : Network) (f g : DeviceId → ℕ → ℕ) (events more :
     → is_timed node.standing.state ≡ false
     → IsLeft (scenario n f events) hs device t node → IsLeft (scenario n g more) hs device t (node_turned_on node)
 is_turned_on n f g events more hs device t node reads all sound on off left =
-    let c = counts_still n f g events more hs device t node reads all sound left.counted in
-    record {
-      counted = record {
-        plan = c.plan;
-        adjustment = c.adjustment;
-        integrated = c.integrated;
-        number = λ timed. absurd cc;
-        changed = c.changed;
-        heard = λ timed. absurd cc;
-        started = c.started;
-        broken = c.broken;
-      };
-      state = sym (ap (λ (b : Bool). if b then Integrating else state_after (scenario n g more) (earlier t hs) device) on);
-      points = left.points;
-    }
+    grind (arith, counts_still, state_after, scenario, earlier)

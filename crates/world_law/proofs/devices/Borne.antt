@@ -1,9 +1,10 @@
 -- A device stands by the records that bear on it, wherever others stand between them.
+use Rattle.std.proofs.Common.{arith}
 use Rattle.world_law.proofs.Words.{if◌then◌else◌, ◌&&◌, ◌++◌, ◌+ℤ◌, ◌+◌, ◌-◌, ◌==◌, ◌||◌, ◌∙◌, ◌∷◌, ◌≡◌, ◌≤◌, Bool, DeviceId, Happening, IfSome, Integrating}
 use Rattle.world_law.proofs.Words.{IsLeft, List, Network, Node, None, NoteBody, Option, Scenario, Some, Units, [], adjustment_before, adjustment_with}
 use Rattle.world_law.proofs.Words.{after_last, and_right, ap, append-nil, append_assoc, bears_on, borne, cases_Bool, changed_at, changes_adjustment}
-use Rattle.world_law.proofs.Words.{cons_option, correction_value, cycle_after, cycle_in, earlier, ends_stretch, false, filter, filter-append, filter_map, fold}
-use Rattle.world_law.proofs.Words.{has_cleared, heard_since, hearing_by, inl, inr, int_le, int_lt, integration_cycle, is_joined_by, is_turned_on_at, last_or}
+use Rattle.world_law.proofs.Words.{cons_option, cycle_after, cycle_in, earlier, ends_stretch, false, filter, filter-append, filter_map, fold}
+use Rattle.world_law.proofs.Words.{has_cleared, heard_since, hearing_by, inl, inr, integration_cycle, is_joined_by, is_turned_on_at, last_or}
 use Rattle.world_law.proofs.Words.{members_in, moves, nat_lt, not, option_map, option_map_or, point_by, points_of, pos, recorded_cycle, refl, same_kept}
 use Rattle.world_law.proofs.Words.{state_after, state_with, subst, sym, time_of, true, ℕ}
 use Rattle.compression.specs.Clusters.{point_at}
@@ -80,50 +81,18 @@ map_kept : {X Y : Type 0} (f : X → Option Y) (q : X → Bool) → ((x : X) →
     → filter_map f xs ≡ filter_map f (filter q xs)
 map_kept f q nothing [] = refl
 map_kept {X} {Y} f q nothing (x ∷ xs) =
-    elim (cases_Bool (q x)) [
-      | inl kept ↦ ap (cons_option (f x)) (map_kept f q nothing xs) ∙ sym (ap (λ (b : Bool). filter_map f (if b then x ∷ filter q xs else filter q xs)) kept)
-      | inr left ↦ ap (λ (o : Option Y). cons_option o (filter_map f xs)) (nothing x left) ∙ map_kept f q nothing xs
-          ∙ sym (ap (λ (b : Bool). filter_map f (if b then x ∷ filter q xs else filter q xs)) left)
-    ]
+    grind (arith, cases_Bool, cons_option, filter_map, filter, (map_kept f q nothing xs))
 
 -- two filters may change places
 filters_swap : {X : Type 0} (p q : X → Bool) (xs : List X) → filter p (filter q xs) ≡ filter q (filter p xs)
 filters_swap p q [] = refl
 filters_swap {X} p q (x ∷ xs) =
-    elim (cases_Bool (q x)) [
-      | inl kept ↦
-          ap (λ (b : Bool). filter p (if b then x ∷ filter q xs else filter q xs)) kept
-          ∙ elim (cases_Bool (p x)) [
-            | inl both ↦
-                ap (λ (b : Bool). if b then x ∷ filter p (filter q xs) else filter p (filter q xs)) both
-                ∙ ap (λ (l : List X). x ∷ l) (filters_swap p q xs)
-                ∙ sym (ap (λ (b : Bool). if b then x ∷ filter q (filter p xs) else filter q (filter p xs)) kept)
-                ∙ sym (ap (λ (b : Bool). filter q (if b then x ∷ filter p xs else filter p xs)) both)
-            | inr one ↦
-                ap (λ (b : Bool). if b then x ∷ filter p (filter q xs) else filter p (filter q xs)) one
-                ∙ filters_swap p q xs
-                ∙ sym (ap (λ (b : Bool). filter q (if b then x ∷ filter p xs else filter p xs)) one)
-          ]
-      | inr left ↦
-          ap (λ (b : Bool). filter p (if b then x ∷ filter q xs else filter q xs)) left
-          ∙ filters_swap p q xs
-          ∙ elim (cases_Bool (p x)) [
-            | inl other ↦ sym (ap (λ (b : Bool). if b then x ∷ filter q (filter p xs) else filter q (filter p xs)) left)
-                ∙ sym (ap (λ (b : Bool). filter q (if b then x ∷ filter p xs else filter p xs)) other)
-            | inr none ↦ sym (ap (λ (b : Bool). filter q (if b then x ∷ filter p xs else filter p xs)) none)
-          ]
-    ]
+    grind (arith, cases_Bool, filter, (filters_swap p q xs))
 
 own_of_borne : (device : DeviceId) (hs : List Happening) → own device hs ≡ own device (borne device hs)
 own_of_borne device [] = refl
 own_of_borne device (h ∷ hs) =
-    elim (cases_Bool (bears_on device h.note.body)) [
-      | inl bears ↦ ap (λ (l : List Happening). if moves device h.note.body then h ∷ l else l) (own_of_borne device hs)
-          ∙ sym (ap (λ (b : Bool). own device (if b then h ∷ borne device hs else borne device hs)) bears)
-      | inr misses ↦
-          own_no device h hs (moves_no_other device h.note.body misses) ∙ own_of_borne device hs
-          ∙ sym (ap (λ (b : Bool). own device (if b then h ∷ borne device hs else borne device hs)) misses)
-    ]
+    grind (arith, cases_Bool, bears_on, moves, borne, own_no, moves_no_other, (own_of_borne device hs))
 
 -- what moves the device before a time, of the records that bear on it
 own_before : (device : DeviceId) (t : ℕ) (hs : List Happening) → own device (earlier t hs) ≡ own device (earlier t (borne device hs))
@@ -164,23 +133,10 @@ tell_alike s hs gs device t same =
     tell_owned s hs gs device t
     (own_before device t hs ∙ ap (λ (l : List Happening). own device (earlier t l)) same ∙ sym (own_before device t gs))
 
--- what a joiner has cleared, by its numbers
-abbrev cleared_as : Scenario → DeviceId → Option ℕ → ℕ → ℕ → Units → ℕ → Bool
-cleared_as s device integration cycle changed adjustment by =
-    option_map_or (λ c. cycle == c) integration false
-    && (int_lt (pos (s.reading device changed) +ℤ adjustment.0) (correction_value s.network cycle)
-    && int_le (correction_value s.network cycle) (pos (s.reading device (by - 1)) +ℤ adjustment.0))
-
 pub cleared_alike : (s : Scenario) (hs gs : List Happening) (device : DeviceId) (t by : ℕ) → TellAlike s hs gs device t
     → has_cleared s hs device t by ≡ has_cleared s gs device t by
 cleared_alike s hs gs device t by a =
-    ap (λ (o : Option ℕ). cleared_as s device o (recorded_cycle (earlier t hs) device) (changed_at hs device t) (adjustment_before s hs device t) by)
-    a.integration
-    ∙ ap (λ (n : ℕ). cleared_as s device (integration_cycle (earlier t gs) device) n (changed_at hs device t) (adjustment_before s hs device t) by) a.cycle
-    ∙ ap (λ (n : ℕ). cleared_as s device (integration_cycle (earlier t gs) device) (recorded_cycle (earlier t gs) device) n (adjustment_before s hs device t)
-    by) a.change
-    ∙ ap (λ (u : Units). cleared_as s device (integration_cycle (earlier t gs) device) (recorded_cycle (earlier t gs) device) (changed_at gs device t) u by)
-    a.adjustment
+    grind (arith, recorded_cycle, earlier, changed_at, adjustment_before, integration_cycle)
 
 -- what was heard, by the flags of what is kept
 abbrev heard_of : Scenario → DeviceId → ℕ → (ℕ → Bool) → List Happening → List Hearing
@@ -194,13 +150,22 @@ changes_test device t h misses = and_right (nat_lt (time_of h) t) _ (changes_no_
 heard_borne : (s : Scenario) (device : DeviceId) (t : ℕ) (cleared : ℕ → Bool) (hs : List Happening)
     → heard_of s device t cleared (since_at device t hs) ≡ heard_of s device t cleared (since_at device t (borne device hs))
 heard_borne s device t cleared hs =
-    let q = λ (h : Happening). bears_on device h.note.body in
-    let p = λ (h : Happening). nat_lt (time_of h) t && changes_adjustment device h.note.body in
-    let k = λ (h : Happening). not (cleared t) || cleared (time_of h) in
-    map_kept (λ h. hearing_by s.network device h h.note.body) q (λ h misses. hears_nothing s.network device h h.note.body misses)
-    (filter k (since_at device t hs))
-    ∙ ap (filter_map (λ h. hearing_by s.network device h h.note.body)) (filters_swap q k (since_at device t hs)
-    ∙ ap (filter k) (sym (behind_kept p q (changes_test device t) hs)))
+    grind (
+      arith,
+      bears_on,
+      nat_lt,
+      time_of,
+      changes_adjustment,
+      not,
+      map_kept,
+      hearing_by,
+      hears_nothing,
+      filter,
+      filter_map,
+      filters_swap,
+      behind_kept,
+      changes_test,
+    )
 
 pub heard_alike : (s : Scenario) (hs gs : List Happening) (device : DeviceId) (t : ℕ) → borne device hs ≡ borne device gs
     → heard_since s hs device t ≡ heard_since s gs device t

@@ -1,7 +1,7 @@
 -- A record that does not bear on a device leaves it as it was.
 use Rattle.world_law.proofs.Words.{if◌then◌else◌, ◌++◌, ◌+◌, ◌<◌, ◌∙◌, ◌∷◌, ◌≡◌, ◌≤◌, Bool, DeviceId, Happening, IsStill, Joining, List, None, NoteBody, Option}
 use Rattle.world_law.proofs.Words.{Scenario, Some, State, Units, [], adjustment_before, adjustment_with, ap, arith, cases_Bool, cases_lt, changed_at}
-use Rattle.world_law.proofs.Words.{changes_adjustment, cycle_after, cycle_in, earlier, false, filter, fold, inl, inr, integration_cycle, is_joined_by, last_or}
+use Rattle.world_law.proofs.Words.{changes_adjustment, cycle_after, cycle_in, earlier, false, filter, fold, inr, integration_cycle, is_joined_by, last_or}
 use Rattle.world_law.proofs.Words.{le-ltb, lt-ltb, moves, nat_lt, option_map_or, recorded_cycle, refl, state_after, state_with, sym, time_of, true, ℕ}
 use Rattle.run_law.specs.device.States.{joined_adjustment}
 use Rattle.world_law.{proofs.lists.Lists.filter_no, specs.device.Own.own}
@@ -53,20 +53,13 @@ pub fold_own : {B : Type 0} (device : DeviceId) (f : B → Happening → B) → 
     → (z : B) (hs : List Happening) → fold f z hs ≡ fold f z (own device hs)
 fold_own device f stays z [] = refl
 fold_own {B} device f stays z (h ∷ hs) =
-    elim (cases_Bool (moves device h.note.body)) [
-      | inl bears ↦ fold_own device f stays (f z h) hs ∙ sym (ap (fold f z) (own_yes device h hs bears))
-      | inr misses ↦ ap (λ (y : B). fold f y hs) (stays z h misses) ∙ fold_own device f stays z hs ∙ sym (ap (fold f z) (own_no device h hs misses))
-    ]
+    grind (arith, cases_Bool, moves, fold, own_yes, own_no, (fold_own device f stays (f z h) hs), (fold_own device f stays z hs))
 
 pub filter_own : (device : DeviceId) (p : Happening → Bool) → ((h : Happening) → moves device h.note.body ≡ false → p h ≡ false) → (hs : List Happening)
     → filter p hs ≡ filter p (own device hs)
 filter_own device p fails [] = refl
 filter_own device p fails (h ∷ hs) =
-    elim (cases_Bool (moves device h.note.body)) [
-      | inl bears ↦ ap (λ (l : List Happening). if p h then h ∷ l else l) (filter_own device p fails hs) ∙ sym (ap (filter p) (own_yes device h hs bears))
-      | inr misses ↦ ap (λ (b : Bool). if b then h ∷ filter p hs else filter p hs) (fails h misses) ∙ filter_own device p fails hs
-          ∙ sym (ap (filter p) (own_no device h hs misses))
-    ]
+    grind (arith, cases_Bool, moves, filter, own_yes, own_no, (filter_own device p fails hs))
 
 -- ---- times
 
@@ -89,25 +82,7 @@ pub own_still : (device : DeviceId) (t later : ℕ) → t ≤ later → (hs : Li
     → own device (earlier later hs) ≡ own device (earlier t hs)
 own_still device t later le [] still = refl
 own_still device t later le (h ∷ hs) still =
-    let rest = own_still device t later le hs (λ g i. still g (inr i)) in
-    elim (cases_lt (time_of h) t) [
-      | inl lt ↦
-          ap (own device) (earlier_yes later h hs (omega (arith, lt, le)))
-          ∙ own_kept device t later h hs rest
-          ∙ sym (ap (own device) (earlier_yes t h hs lt))
-      | inr ge ↦
-          elim (cases_lt (time_of h) later) [
-            | inl lt ↦
-                ap (own device) (earlier_yes later h hs lt)
-                ∙ own_no device h (earlier later hs) (still h (inl refl) ge lt)
-                ∙ rest
-                ∙ sym (ap (own device) (earlier_no t h hs ge))
-            | inr far ↦
-                ap (own device) (earlier_no later h hs far)
-                ∙ rest
-                ∙ sym (ap (own device) (earlier_no t h hs ge))
-          ]
-    ]
+    grind (arith, cases_lt, time_of, earlier_yes, own_kept, own_no, earlier, earlier_no, (own_still device t later le hs (λ g i. still g (inr i))))
 
 -- ---- so all that the records before a time say of a device stays while none bears on it
 

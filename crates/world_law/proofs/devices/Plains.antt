@@ -1,10 +1,11 @@
 -- Where a device stands does not rest on the numbers of the records, nor on the causes of changes of state.
-use Rattle.world_law.proofs.Words.{if◌then◌else◌, ◌&&◌, ◌++◌, ◌+ℤ◌, ◌+◌, ◌-◌, ◌==◌, ◌||◌, ◌∙◌, ◌∷◌, ◌≡◌, ◌≤◌, Bool, DeviceId, Happening, IfSome, Integrating}
+use Rattle.std.proofs.Common.{arith}
+use Rattle.world_law.proofs.Words.{if◌then◌else◌, ◌&&◌, ◌++◌, ◌+◌, ◌||◌, ◌∙◌, ◌∷◌, ◌≡◌, Bool, DeviceId, Happening, Integrating}
 use Rattle.world_law.proofs.Words.{IsLeft, List, Network, Node, None, NoteBody, Option, Scenario, Some, State, Units, [], adjustment_after, adjustment_before}
-use Rattle.world_law.proofs.Words.{adjustment_with, after_last, ap, cases_Bool, changed_at, changes_adjustment, cons_option, correction_value, cycle_after}
-use Rattle.world_law.proofs.Words.{cycle_in, earlier, ends_stretch, false, filter, filter_map, fold, has_cleared, heard_since, hearing_by, inl, inr, int_le}
-use Rattle.world_law.proofs.Words.{int_lt, integration_cycle, is_joined_by, is_turned_on_at, last_or, nat_lt, not, option_map_or, plain, plain_body, plains}
-use Rattle.world_law.proofs.Words.{point_by, points_of, pos, recorded_cycle, refl, state_after, state_with, subst, sym, time_of, true, ℕ}
+use Rattle.world_law.proofs.Words.{adjustment_with, after_last, ap, cases_Bool, changed_at, changes_adjustment, cons_option, cycle_after}
+use Rattle.world_law.proofs.Words.{cycle_in, earlier, ends_stretch, filter, filter_map, fold, has_cleared, heard_since, hearing_by, inl, inr}
+use Rattle.world_law.proofs.Words.{integration_cycle, is_joined_by, is_turned_on_at, last_or, nat_lt, not, option_map_or, plain, plain_body, plains}
+use Rattle.world_law.proofs.Words.{point_by, points_of, recorded_cycle, refl, state_after, state_with, subst, sym, time_of, ℕ}
 use Rattle.std.proofs.lemmas.List.{map_push}
 use Rattle.world_law.proofs.{devices.Borne.by_last, lists.Lists.{behind_no, behind_yes}}
 use Rattle.run_law.specs.declared.judgement.Why.TheVariants as whys
@@ -58,10 +59,7 @@ fold_plain {B} f same z (h ∷ hs) = ap (λ (b : B). fold f b (plains hs)) (same
 pub filter_plain : (p q : Happening → Bool) → ((h : Happening) → p (plain h) ≡ q h) → (hs : List Happening) → filter p (plains hs) ≡ plains (filter q hs)
 filter_plain p q same [] = refl
 filter_plain p q same (h ∷ hs) =
-    ap (λ (b : Bool). if b then plain h ∷ filter p (plains hs) else filter p (plains hs)) (same h)
-    ∙ ap (λ (l : List Happening). if q h then plain h ∷ l else l) (filter_plain p q same hs)
-    ∙ elim (q h) as (λ b. (if b then plain h ∷ plains (filter q hs) else plains (filter q hs)) ≡ plains (if b then h ∷ filter q hs else filter q hs))
-    [ true ↦ refl | false ↦ refl ]
+    grind (arith, plain, filter, plains, (filter_plain p q same hs))
 
 map_plain : {Y : Type 0} (f : Happening → Option Y) → ((h : Happening) → f (plain h) ≡ f h) → (hs : List Happening) → filter_map f (plains hs) ≡ filter_map f hs
 map_plain f same [] = refl
@@ -118,13 +116,6 @@ points_plain hs device =
     (λ h. ends_plain device h.note.body) hs)
     ∙ map_plain (λ h. point_by device h h.note.body) (λ h. point_plain device h h.note.body) (after_last (λ h. ends_stretch device h.note.body) hs)
 
--- what a joiner has cleared, by its numbers
-abbrev cleared_as : Scenario → DeviceId → Option ℕ → ℕ → ℕ → Units → ℕ → Bool
-cleared_as s device integration cycle changed adjustment by =
-    option_map_or (λ c. cycle == c) integration false
-    && (int_lt (pos (s.reading device changed) +ℤ adjustment.0) (correction_value s.network cycle)
-    && int_le (correction_value s.network cycle) (pos (s.reading device (by - 1)) +ℤ adjustment.0))
-
 integration_plain : (hs : List Happening) (device : DeviceId) (t : ℕ) → integration_cycle (earlier t (plains hs)) device ≡ integration_cycle (earlier t hs)
     device
 integration_plain hs device t = ap (λ (l : List Happening). integration_cycle l device) (earlier_plain t hs) ∙ integrations_plain (earlier t hs) device
@@ -137,14 +128,19 @@ before_plain s hs device t = ap (λ (l : List Happening). adjustment_after s l d
 
 cleared_plain : (s : Scenario) (hs : List Happening) (device : DeviceId) (t by : ℕ) → has_cleared s (plains hs) device t by ≡ has_cleared s hs device t by
 cleared_plain s hs device t by =
-    ap (λ (o : Option ℕ). cleared_as s device o (recorded_cycle (earlier t (plains hs)) device) (changed_at (plains hs) device t)
-    (adjustment_before s (plains hs) device t) by) (integration_plain hs device t)
-    ∙ ap (λ (n : ℕ). cleared_as s device (integration_cycle (earlier t hs) device) n (changed_at (plains hs) device t)
-    (adjustment_before s (plains hs) device t) by) (recorded_plain hs device t)
-    ∙ ap (λ (n : ℕ). cleared_as s device (integration_cycle (earlier t hs) device) (recorded_cycle (earlier t hs) device) n
-    (adjustment_before s (plains hs) device t) by) (changes_at_plain hs device t)
-    ∙ ap (λ (u : Units). cleared_as s device (integration_cycle (earlier t hs) device) (recorded_cycle (earlier t hs) device) (changed_at hs device t) u by)
-    (before_plain s hs device t)
+    grind (
+      arith,
+      recorded_cycle,
+      earlier,
+      plains,
+      changed_at,
+      adjustment_before,
+      integration_plain,
+      integration_cycle,
+      recorded_plain,
+      changes_at_plain,
+      before_plain,
+    )
 
 pub heard_plain : (s : Scenario) (hs : List Happening) (device : DeviceId) (t : ℕ) → heard_since s (plains hs) device t ≡ heard_since s hs device t
 heard_plain s hs device t =
@@ -162,25 +158,23 @@ heard_plain s hs device t =
 -- the device stands by the records without their numbers and these causes
 pub left_plain : (s : Scenario) (hs : List Happening) (device : DeviceId) (t : ℕ) (node : Node) → IsLeft s hs device t node → IsLeft s (plains hs) device t node
 left_plain s hs device t node left = record {
-  counted = record {
-    plan = left.counted.plan;
-    adjustment = left.counted.adjustment ∙ sym (before_plain s hs device t);
-    integrated = left.counted.integrated ∙ sym (integration_plain hs device t);
-    number = λ timed.
-        left.counted.number timed
-        ∙ sym (ap (λ (b : Bool). if b then recorded_cycle (earlier t (plains hs)) device + 1 else recorded_cycle (earlier t (plains hs)) device)
-        (cleared_plain s hs device t t)
-        ∙ ap (λ (n : ℕ). if has_cleared s hs device t t then n + 1 else n) (recorded_plain hs device t));
-    changed =
-        left.counted.changed
-        ∙ sym (ap (λ (n : ℕ). pos (s.reading device n) +ℤ (adjustment_before s (plains hs) device t).0) (changes_at_plain hs device t)
-        ∙ ap (λ (u : Units). pos (s.reading device (changed_at hs device t)) +ℤ u.0) (before_plain s hs device t));
-    heard = λ timed. left.counted.heard timed ∙ sym (heard_plain s hs device t);
-    started =
-        subst (λ (o : Option ℕ). IfSome o (λ cycle. cycle ≤ recorded_cycle (earlier t (plains hs)) device)) (sym (integration_plain hs device t))
-        (subst (λ (n : ℕ). IfSome (integration_cycle (earlier t hs) device) (λ cycle. cycle ≤ n)) (sym (recorded_plain hs device t)) left.counted.started);
-    broken = left.counted.broken;
-  };
+  counted =
+      grind (
+        arith,
+        before_plain,
+        integration_plain,
+        recorded_cycle,
+        earlier,
+        plains,
+        cleared_plain,
+        has_cleared,
+        recorded_plain,
+        adjustment_before,
+        changes_at_plain,
+        changed_at,
+        heard_plain,
+        integration_cycle,
+      );
   state =
       left.state ∙ ap (λ (x : State). if is_turned_on_at s device t then Integrating else x)
       (sym (ap (λ (l : List Happening). state_after s l device) (earlier_plain t hs) ∙ states_plain s (earlier t hs) device));
@@ -190,26 +184,23 @@ left_plain s hs device t node left = record {
 pub left_numbered : (s : Scenario) (hs : List Happening) (device : DeviceId) (t : ℕ) (node : Node) → IsLeft s (plains hs) device t node
     → IsLeft s hs device t node
 left_numbered s hs device t node left = record {
-  counted = record {
-    plan = left.counted.plan;
-    adjustment = left.counted.adjustment ∙ before_plain s hs device t;
-    integrated = left.counted.integrated ∙ integration_plain hs device t;
-    number = λ timed.
-        left.counted.number timed
-        ∙ ap (λ (b : Bool). if b then recorded_cycle (earlier t (plains hs)) device + 1 else recorded_cycle (earlier t (plains hs)) device)
-        (cleared_plain s hs device t t)
-        ∙ ap (λ (n : ℕ). if has_cleared s hs device t t then n + 1 else n) (recorded_plain hs device t);
-    changed =
-        left.counted.changed
-        ∙ ap (λ (n : ℕ). pos (s.reading device n) +ℤ (adjustment_before s (plains hs) device t).0) (changes_at_plain hs device t)
-        ∙ ap (λ (u : Units). pos (s.reading device (changed_at hs device t)) +ℤ u.0) (before_plain s hs device t);
-    heard = λ timed. left.counted.heard timed ∙ heard_plain s hs device t;
-    started =
-        subst (λ (n : ℕ). IfSome (integration_cycle (earlier t hs) device) (λ cycle. cycle ≤ n)) (recorded_plain hs device t)
-        (subst (λ (o : Option ℕ). IfSome o (λ cycle. cycle ≤ recorded_cycle (earlier t (plains hs)) device)) (integration_plain hs device t)
-        left.counted.started);
-    broken = left.counted.broken;
-  };
+  counted =
+      grind (
+        arith,
+        before_plain,
+        integration_plain,
+        recorded_cycle,
+        earlier,
+        plains,
+        cleared_plain,
+        has_cleared,
+        recorded_plain,
+        adjustment_before,
+        changes_at_plain,
+        changed_at,
+        heard_plain,
+        integration_cycle,
+      );
   state =
       left.state ∙ ap (λ (x : State). if is_turned_on_at s device t then Integrating else x)
       (ap (λ (l : List Happening). state_after s l device) (earlier_plain t hs) ∙ states_plain s (earlier t hs) device);

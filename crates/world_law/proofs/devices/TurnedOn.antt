@@ -1,7 +1,7 @@
 -- A device that was turned on at an instant, and has done nothing at it, stands right after it as one that looks for the
 -- common time.
 use Rattle.world_law.proofs.Words.{if◌then◌else◌, ◌++◌, ◌+ℤ◌, ◌+◌, ◌<◌, ◌∙◌, ◌∷◌, ◌≡◌, ◌≤◌, ◌⊎◌, Bool, DeviceId, Happening, IfSome, Integrating, IsAtRest, IsIn}
-use Rattle.world_law.proofs.Words.{IsLeft, IsTurnedOnBy, List, Node, None, NoteBody, Option, Scenario, Some, State, Units, [], adjustment_before}
+use Rattle.world_law.proofs.Words.{IsLeft, IsTurnedOnBy, List, Node, NoteBody, Option, Scenario, Some, State, Units, [], adjustment_before}
 use Rattle.world_law.proofs.Words.{adjustment_with, ap, arith, cases_lt, changed_at, changes_adjustment, cycle_after, cycle_in, earlier, false, filter, fold}
 use Rattle.world_law.proofs.Words.{in_right, inl, inr, integration_cycle, is_broken, is_joined_by, is_timed, is_turned_on_at, is_turning, last_or}
 use Rattle.world_law.proofs.Words.{local_at_change, moves, nat_le, nat_lt, option_map_or, parted, pos, recorded_cycle, refl, state_after, state_with, subst}
@@ -70,43 +70,19 @@ pub fold_still : {B : Type 0} (f : B → Happening → B) (t later : ℕ) → t 
     → ((h : Happening) → IsIn h hs → t ≤ time_of h → time_of h < later → (z : B) → f z h ≡ z) → (z : B) → fold f z (earlier later hs) ≡ fold f z (earlier t hs)
 fold_still f t later le [] still z = refl
 fold_still {B} f t later le (h ∷ hs) still z =
-    let more = fold_still f t later le hs (λ g i. still g (inr i)) in
-    elim (cases_lt (time_of h) t) [
-      | inl lt ↦ ap (fold f z) (earlier_yes later h hs (omega (arith, lt, le))) ∙ more (f z h) ∙ sym (ap (fold f z) (earlier_yes t h hs lt))
-      | inr ge ↦ elim (cases_lt (time_of h) later) [
-        | inl lt ↦ ap (fold f z) (earlier_yes later h hs lt) ∙ ap (λ (y : B). fold f y (earlier later hs)) (still h (inl refl) ge lt z) ∙ more z
-            ∙ sym (ap (fold f z) (earlier_no t h hs ge))
-        | inr far ↦ ap (fold f z) (earlier_no later h hs far) ∙ more z ∙ sym (ap (fold f z) (earlier_no t h hs ge))
-      ]
-    ]
+    grind (arith, cases_lt, time_of, fold, earlier_yes, earlier, earlier_no, (fold_still f t later le hs (λ g i. still g (inr i))))
 
 filter_still : (p : Happening → Bool) (t later : ℕ) → t ≤ later → (hs : List Happening)
     → ((h : Happening) → IsIn h hs → t ≤ time_of h → time_of h < later → p h ≡ false) → filter p (earlier later hs) ≡ filter p (earlier t hs)
 filter_still p t later le [] still = refl
 filter_still p t later le (h ∷ hs) still =
-    let more = filter_still p t later le hs (λ g i. still g (inr i)) in
-    elim (cases_lt (time_of h) t) [
-      | inl lt ↦ ap (filter p) (earlier_yes later h hs (omega (arith, lt, le))) ∙ ap (λ (l : List Happening). if p h then h ∷ l else l) more
-          ∙ sym (ap (filter p) (earlier_yes t h hs lt))
-      | inr ge ↦ elim (cases_lt (time_of h) later) [
-        | inl lt ↦ ap (filter p) (earlier_yes later h hs lt) ∙ ap (λ (b : Bool). if b then h ∷ filter p (earlier later hs) else filter p (earlier later hs))
-            (still h (inl refl) ge lt) ∙ more ∙ sym (ap (filter p) (earlier_no t h hs ge))
-        | inr far ↦ ap (filter p) (earlier_no later h hs far) ∙ more ∙ sym (ap (filter p) (earlier_no t h hs ge))
-      ]
-    ]
+    grind (arith, cases_lt, time_of, filter, earlier_yes, earlier, earlier_no, (filter_still p t later le hs (λ g i. still g (inr i))))
 
 -- what is before the next unit of time is what is up to this one
 pub next_is_up_to : (now : ℕ) (hs : List Happening) → earlier (now + 1) hs ≡ up_to now hs
 next_is_up_to now [] = refl
 next_is_up_to now (h ∷ hs) =
-    ap (λ (l : List Happening). if nat_lt (time_of h) (now + 1) then h ∷ l else l) (next_is_up_to now hs)
-    ∙ ap (λ (b : Bool). if b then h ∷ up_to now hs else up_to now hs) (one_more (time_of h) now)
-  where
-    one_more : (a b : ℕ) → nat_lt a (b + 1) ≡ nat_le a b
-    one_more a b = elim (cases_lt b a) [
-      | inl lt ↦ Rattle.std.proofs.lemmas.Bool.le-ltb a (b + 1) (omega (arith, lt)) ∙ sym (Rattle.std.proofs.lemmas.Bool.lt-leb a b lt)
-      | inr ge ↦ Rattle.std.proofs.lemmas.Bool.lt-ltb a (b + 1) (omega (arith, ge)) ∙ sym (Rattle.std.proofs.lemmas.Bool.le-leb a b ge)
-    ]
+    grind (arith, nat_lt, time_of, up_to, nat_le, cases_lt, (next_is_up_to now hs))
 
 pub all_up_to : (now : ℕ) (hs : List Happening) → ((h : Happening) → IsIn h hs → time_of h ≤ now) → up_to now hs ≡ hs
 all_up_to now [] past = refl
@@ -120,11 +96,7 @@ pub looking_on : (device : DeviceId) (hs : List Happening) → ((h : Happening) 
     → fold (λ state h. state_with device state h.note.body) Integrating hs ≡ Integrating
 looking_on device [] quiet = refl
 looking_on device (h ∷ hs) quiet =
-    ap (λ (z : State). fold (λ state g. state_with device state g.note.body) z hs) (elim (quiet h (inl refl)) [
-      | inl e ↦ keeps_state device Integrating h.note.body e
-      | inr e ↦ turning_state device Integrating h.note.body e
-    ])
-    ∙ looking_on device hs (λ g i. quiet g (inr i))
+    grind (arith, fold, state_with, keeps_state, turning_state, (looking_on device hs (λ g i. quiet g (inr i))))
 
 -- what an instant's records are, at which the device was turned on and did nothing
 pub record IsQuietInstant (s : Scenario) (hs : List Happening) (device : DeviceId) (now : ℕ) : Type 0 where
@@ -160,9 +132,7 @@ adjustment_quiet s hs device now q =
 integration_quiet : (s : Scenario) (hs : List Happening) (device : DeviceId) (now : ℕ) → IsQuietInstant s hs device now
     → integration_cycle (earlier (now + 1) hs) device ≡ integration_cycle (earlier now hs) device
 integration_quiet s hs device now q =
-    fold_still (λ last h. if is_joined_by device h.note.body then Some (cycle_in h) else last) now (now + 1) (omega arith) hs (λ h i from lt z.
-    let past = q.past h i in ap (λ (b : Bool). if b then Some (cycle_in h) else z) (quiet_joins device h.note.body (q.quiet h i (omega (arith, from, past)))))
-    None
+    grind (arith, fold_still, is_joined_by, cycle_in, quiet_joins)
 
 cycle_quiet : (s : Scenario) (hs : List Happening) (device : DeviceId) (now : ℕ) → IsQuietInstant s hs device now
     → recorded_cycle (earlier (now + 1) hs) device ≡ recorded_cycle (earlier now hs) device
@@ -173,9 +143,7 @@ cycle_quiet s hs device now q =
 pub change_quiet : (s : Scenario) (hs : List Happening) (device : DeviceId) (now : ℕ) → IsQuietInstant s hs device now
     → changed_at hs device (now + 1) ≡ changed_at hs device now
 change_quiet s hs device now q =
-    ap (λ (l : List Happening). option_map_or time_of (last_or None l) 0)
-    (filter_still (λ h. changes_adjustment device h.note.body) now (now + 1) (omega arith) hs
-    (λ h i from lt. let past = q.past h i in quiet_changes device h.note.body (q.quiet h i (omega (arith, from, past)))))
+    grind (arith, option_map_or, time_of, last_or, filter_still, changes_adjustment, quiet_changes)
 
 local_quiet : (s : Scenario) (hs : List Happening) (device : DeviceId) (now : ℕ) → IsQuietInstant s hs device now
     → local_at_change s hs device (now + 1) ≡ local_at_change s hs device now

@@ -1,5 +1,5 @@
 -- A frame that comes up from below is that of one master, where octets are sent by end systems alone.
-use Rattle.world_law.proofs.Words.{if◌then◌else◌, ◌&&◌, ◌++◌, ◌==◌, ◌^◌, ◌∙◌, ◌∷◌, ◌≡◌, ◌≤◌, ◌⊎◌, Bool, Device, DeviceId, Down, Event, Gives, Happening}
+use Rattle.world_law.proofs.Words.{if◌then◌else◌, ◌++◌, ◌==◌, ◌^◌, ◌∙◌, ◌∷◌, ◌≡◌, ◌≤◌, ◌⊎◌, Bool, Device, DeviceId, Down, Event, Gives, Happening}
 use Rattle.world_law.proofs.Words.{IsCaused, IsDue, IsFounded, IsIn, IsInRange, KeepsRules, Launch, Link, LinkId, List, Network, None, NoteBody, Ok, Option}
 use Rattle.world_law.proofs.Words.{Pcf, Scenario, Send, Some, Up, Way, [], ap, arith, both_ways, cases_Bool, control, device_at, eq-eqb, eqb-true, false}
 use Rattle.world_law.proofs.Words.{founded_at, frame_by, inl, inr, is_cut, is_end, launched, length, length-append, link_at, not, option_and_then, option_map}
@@ -59,11 +59,7 @@ one_of network device m members at is = (device, subst (λ (o : Option ℕ). IsS
 
 not_others : (o : Option ℕ) (members : Members) → are_others o members ≡ false → (m : ℕ) × (o ≡ Some m) × (members.0 ≡ 2 ^ m)
 not_others None members e = absurd cc
-not_others (Some m) members e = (m, refl, by (members.0 == 2 ^ m) refl e)
-  where
-    by : (b : Bool) → (members.0 == 2 ^ m) ≡ b → not b ≡ false → members.0 ≡ 2 ^ m
-    by true at e = eqb-true members.0 (2 ^ m) at
-    by false at e = absurd cc
+not_others (Some m) members e = grind (arith, not, eqb-true)
 
 -- from an end system the frame's members are its bit
 end_member : (network : Network) (device : DeviceId) (link : LinkId) (members : Members) (joint : Link) → link_at network link ≡ Some joint
@@ -71,13 +67,7 @@ end_member : (network : Network) (device : DeviceId) (link : LinkId) (members : 
     → is_end network joint.child ≡ true → is_of_other_member network device link members ≡ false
     → (m : ℕ) × (member_of network joint.child ≡ Some m) × (members.0 ≡ 2 ^ m)
 end_member network device link members joint at parent end_is sound =
-    let flags : (((joint.parent.0 == device.0) && is_end network joint.child) && are_others (member_of network joint.child) members) ≡ false =
-    sym (ap (λ (o : Option Link). option_map_or (λ l. l.parent.0 == device.0 && is_end network l.child && are_others (member_of network l.child) members) o
-    false) at) ∙ sound in
-    let own : (joint.parent.0 == device.0) ≡ true = eq-eqb joint.parent.0 device.0 (ap (λ (d : DeviceId). d.0) parent) in
-    not_others (member_of network joint.child) members
-    (sym (ap (λ (b : Bool). (b && is_end network joint.child) && are_others (member_of network joint.child) members) own
-    ∙ ap (λ (b : Bool). b && are_others (member_of network joint.child) members) end_is) ∙ flags)
+    grind (arith, is_end, option_map_or, eq-eqb, not_others)
 
 -- ---- a frame that a switch sends up
 

@@ -1,4 +1,5 @@
 -- A frame that waits is one that the network has: its `arrived` record was due.
+use Rattle.std.proofs.Common.{arith}
 use Rattle.world_law.proofs.Words.{if◌then◌else◌, ◌&&◌, ◌++◌, ◌==◌, ◌∙◌, ◌∷◌, ◌≡◌, ◌≤◌, Arrival, Arrives, ArrivesAs, Bool, DeviceId, Down, Happening}
 use Rattle.world_law.proofs.Words.{IsArrivedRecord, IsCaused, IsDue, IsFounded, IsIn, Launch, Link, LinkId, List, Network, None, NoteBody, Ok, Option, Pcf}
 use Rattle.world_law.proofs.Words.{Reason, Scenario, Send, Signal, Some, Standpoint, Units, Up, Way, [], amount, ap, arrival_of, cases_lt, control, eqb-true}
@@ -6,12 +7,12 @@ use Rattle.world_law.proofs.Words.{false, founded_at, frame_by, inl, inr, is_cut
 use Rattle.world_law.proofs.Words.{option_map, place_of, refl, signal_of, standpoint, subst, sym, target_by, time_of, timed, timed_arrival, true, way_from}
 use Rattle.world_law.proofs.Words.{with_clock, ℕ}
 use Rattle.std.proofs.{Common.{Err, IsSomeAnd}, lemmas.Bool.not-false}
-use Rattle.pcf_codec.specs.{Decoding.decoded, EtherType.pcf_type, Fields.field}
+use Rattle.pcf_codec.specs.{Decoding.decoded}
 use Rattle.pcf_values.specs.declared.pcf.PcfKind.{PcfKind, TheVariants.Integration}
 use Rattle.run_law.proofs.law.FirstPlaces.{numbered_in}
 use Rattle.run_law.specs.control.Arrivals.{clock_on_arrival, frame_fault, frame_or_fault, frame_taken, is_cold_start, is_gate_shut, is_of_other_domain}
-use Rattle.run_law.specs.{control.Arrivals.{is_of_other_member, point_on_arrival}, device.Standpoints.first_reason, machines.Calls.IsLinkAt}
-use Rattle.run_law.specs.{records.Happenings.frame_in, scenario.Ways.receiver_of, timed.Arrivals.{entry_arrival, octets_or_fault, row_fault, taken_or_fault}}
+use Rattle.run_law.specs.{control.Arrivals.is_of_other_member, device.Standpoints.first_reason, machines.Calls.IsLinkAt}
+use Rattle.run_law.specs.{scenario.Ways.receiver_of}
 use Rattle.run_law.specs.declared.judgement.Reason.TheVariants as reasons
 use Rattle.run_law.specs.declared.note.NoteBody.TheVariants as kinds
 use Rattle.run_law.specs.declared.steps.Arrival.TheVariants as arrivals
@@ -28,13 +29,7 @@ frame_of other = None
 frame_of_taken : (network : Network) (device : DeviceId) (link : LinkId) (frame : Pcf) (point : Units)
     → frame_of (frame_taken network device link frame point) ≡ Some frame
 frame_of_taken network device link frame point =
-    by_flags (Rattle.run_law.specs.scenario.Devices.is_relay network device) (Rattle.run_law.specs.scenario.Devices.is_parent_of network device link)
-  where
-    by_flags : (relay parent : Bool) → frame_of (if relay then (if parent then arrivals.Passes frame Up else arrivals.PassesAndWaits frame Down point)
-        else arrivals.Waits frame point) ≡ Some frame
-    by_flags true true = refl
-    by_flags true false = refl
-    by_flags false parent = refl
+    grind arith
 
 -- no fault was found in the frame that came, and it is taken so
 pub record IsTakenAs (network : Network) (device : DeviceId) (link : LinkId) (at : Standpoint) (came frame : Pcf) : Type 0 where
@@ -46,31 +41,11 @@ taken_by_fault : (network : Network) (device : DeviceId) (link : LinkId) (at : S
     → is ≡ frame_or_fault network device link at came fault → (fault ≡ None) × (frame ≡ with_clock (clock_on_arrival network link came) came)
 taken_by_fault network device link at came frame (Some reason) is of e = absurd (let bad : None ≡ Some frame = sym (ap frame_of e) ∙ of in cc)
 taken_by_fault network device link at came frame None is of e =
-    let clock = clock_on_arrival network link came in
-    let same : Some (with_clock clock came) ≡ Some frame = sym (frame_of_taken network device link (with_clock clock came) (point_on_arrival network at clock))
-    ∙ sym (ap frame_of e) ∙ of in
-    let it : frame ≡ with_clock clock came = cc in
-    (refl, it)
+    grind (arith, with_clock, frame_of_taken)
 
 not_timed : (network : Network) (device : DeviceId) (link : LinkId) (at : Standpoint) (octets : List ℕ) (last : _)
     → frame_of (timed_arrival network device link at octets last) ≡ None
-not_timed network device link at octets last = by_fault (Rattle.run_law.specs.timed.Arrivals.octets_fault network at octets)
-  where
-    by_taken : (b : Bool) (vl : _) (cycle : ℕ) → frame_of (if b then arrivals.Delivered vl cycle else arrivals.Accepted vl cycle) ≡ None
-    by_taken true vl cycle = refl
-    by_taken false vl cycle = refl
-
-    by_row : (entry : _) (fault : Option Reason) → frame_of (taken_or_fault network device at entry fault) ≡ None
-    by_row entry (Some reason) = refl
-    by_row entry None = by_taken (Rattle.run_law.specs.scenario.Devices.is_end network device) _ _
-
-    by_entry : (o : _) → frame_of (entry_arrival network device at (length octets) last o) ≡ None
-    by_entry None = refl
-    by_entry (Some entry) = by_row entry (row_fault network at entry (length octets) (last entry.row.vl))
-
-    by_fault : (o : Option Reason) → frame_of (octets_or_fault network device link at octets last o) ≡ None
-    by_fault (Some reason) = refl
-    by_fault None = by_entry _
+not_timed network device link at octets last = grind (arith, length)
 
 -- what came was a control frame without a fault
 pub record CameSo (s : Scenario) (hs : List Happening) (device : DeviceId) (t : ℕ) (link : LinkId) (cause : ℕ) (frame : Pcf) : Type 0 where
@@ -118,23 +93,9 @@ not_control octets came e = cc
 pub launched_frame : (s : Scenario) (front : List Happening) (h : Happening) (t : ℕ) (link : LinkId) (way : Way) (came : Pcf) (body : NoteBody)
     → h.frame ≡ frame_by s.network front body
     → launched s h t body ≡ Some (record { link = link; way = way; signal = control (Ok came) }) → h.frame ≡ Some came
-launched_frame s front h t link way came (kinds.Left device by cause clock) of e = by_frame h.frame e
-  where
-    by_frame : (o : Option Pcf)
-        → option_map (λ (f : Pcf). let l : Launch = record { link = by; way = way_from s.network device by; signal = control (Ok f) } in l) o
-        ≡ Some (record { link = link; way = way; signal = control (Ok came) }) → o ≡ Some came
-    by_frame None e = absurd cc
-    by_frame (Some f) e =
-        let same : control (Ok f) ≡ control (Ok came) = launch_signal _ _ e in
-        let it : f ≡ came = cc in
-        ap Some it
+launched_frame s front h t link way came (kinds.Left device by cause clock) of e = grind (arith, option_map, way_from, control, launch_signal)
 launched_frame s front h t link way came (kinds.TtSent device by cause vl cycle) of e = absurd (not_control h.octets came (launch_signal _ _ e))
-launched_frame s front h t link way came (kinds.Event line (Send by octets)) of e = by_cut (is_cut s by Up t) e
-  where
-    by_cut : (b : Bool) → (if b then None else Some (let l : Launch = record { link = by; way = Up; signal = signal_of octets } in l))
-        ≡ Some (record { link = link; way = way; signal = control (Ok came) }) → h.frame ≡ Some came
-    by_cut true is = absurd cc
-    by_cut false is = of ∙ ap frame_in (by_octets (field 12 2 octets == pcf_type) octets came (launch_signal _ _ is))
+launched_frame s front h t link way came (kinds.Event line (Send by octets)) of e = grind (arith, is_cut, signal_of, control, by_octets, launch_signal)
 launched_frame s front h t link way came other of e = absurd cc
 
 -- ---- an arrival of a run
@@ -251,11 +212,7 @@ pub record IsReceiver (network : Network) (device : DeviceId) (link : LinkId) (w
 
 pub received : (network : Network) (device : DeviceId) (link : LinkId) (way : Way) → receiver_of network link way ≡ Some device
     → IsReceiver network device link way
-received network device link way e = by_link (link_at network link) refl e
-  where
-    by_link : (o : Option Link) → link_at network link ≡ o → option_map (target_by way) o ≡ Some device → IsReceiver network device link way
-    by_link None at e = absurd cc
-    by_link (Some joint) at e = let same : target_by way joint ≡ device = cc in record { joint = joint; there = at; is = same }
+received network device link way e = grind (arith, link_at, option_map, target_by)
 
 pub link_of : (network : Network) (device : DeviceId) (link : LinkId) (way : Way) → IsReceiver network device link way → IsLinkAt network device link
 link_of network device link Up r = inr (subst (λ (o : Option Link). IsSomeAnd o (λ l. l.parent ≡ device)) (sym r.there) r.is)

@@ -14,8 +14,8 @@ use Rattle.world_law.proofs.{acts.Recorded.recorded_given, giving.GivenParts.{Is
 use Rattle.world_law.proofs.giving.{Naming.{IsFollowing, named_right, shown_as}, Storing.stored_then}
 use Rattle.world_law.proofs.runs.Firsts.{arriving_more, departing_more, numbered_more, numbered_still}
 use Rattle.world_law.proofs.runs.{SourcesBack.{acting_back, arrives_later, gives_rank, no_higher}, Worlds.{first_settled_is_next, length_is}}
-use Rattle.world_law.specs.world.Moves.{AreAwaited, AreGiven, ArePut, AreTaken, GivenStep, named}
-use Rattle.world_law.specs.world.World.{AreStored, AreUntold, Befell, IsActedUpTo, IsAwaitedFor, IsJustTold, note_of}
+use Rattle.world_law.specs.world.Moves.{AreAwaited, AreGiven, ArePut, GivenStep, named}
+use Rattle.world_law.specs.world.World.{AreUntold, Befell, IsActedUpTo, IsAwaitedFor, IsJustTold, note_of}
 use Rattle.run_law.specs.declared.note.NoteBody.TheVariants as kinds
 
 -- ---- events so far
@@ -27,10 +27,7 @@ in_get (y ∷ xs) x (inr i) = let more = in_get xs x i in (suc more.0, more.1)
 
 -- at a later time no other events have befallen
 pub no_later_events : (s : Scenario) (mark : List ℕ) (now t : ℕ) → HaveBefallen s mark now → now ≤ t → events_up_to s t ≡ events_up_to s now
-no_later_events s mark now t b le = same_kept (λ e. nat_le (amount e.time) t) (λ e. nat_le (amount e.time) now) s.events (λ e i.
-    let at = in_get s.events e i in
-    let early = b.past at.0 e at.1 in
-    le-leb (amount e.time) t (omega (arith, early, le)) ∙ sym (le-leb (amount e.time) now early))
+no_later_events s mark now t b le = grind (arith, same_kept, nat_le, amount, in_get, le-leb)
 
 pub no_later_breaks : (s : Scenario) (mark : List ℕ) (now t : ℕ) (device : DeviceId) → HaveBefallen s mark now → now ≤ t
     → is_broken s device t ≡ is_broken s device now
@@ -118,18 +115,7 @@ some_same x y o a b = let e : Some x ≡ Some y = sym a ∙ b in cc
 -- the arrival of this number is permanent by the records of its number alone
 pub same_permanent : (s : Scenario) (hs js : List Happening) (t : ℕ) (device : DeviceId) (link : LinkId) (cause : ℕ) (frame : Pcf) (point : Units)
     (p : IsPermanent s js device t link cause frame point) → numbered hs cause ≡ Some p.arrival → IsPermanent s hs device t link cause frame point
-same_permanent s hs js t device link cause frame point p there = record {
-  arrival = p.arrival;
-  there = there;
-  from = p.from;
-  clock = p.clock;
-  arrived = p.arrived;
-  of_frame = p.of_frame;
-  waits = p.waits;
-  at_point = p.at_point;
-  reached = p.reached;
-  correct = p.correct;
-}
+same_permanent s hs js t device link cause frame point p there = grind arith
 
 ripe_with : (t : ℕ) (e : Waiting) (frame : Pcf) → frame ≡ e.frame → t ∷ 3 ∷ e.device.0 ∷ amount e.point ∷ frame.members.0 ∷ e.link.0 ∷ e.cause
     ∷ [] ≡ ripe_place t e
@@ -139,10 +125,7 @@ pub waiting_then : (s : Scenario) (hs : List Happening) (z : Happening) (rest : 
     (waiting new : List Waiting) → IsGiving s hs z rest mark cursor now → number ≡ length hs + 1 → HaveBefallen s mark now
     → AreWaiting s hs cursor now waiting → AreAwaited s z number waiting new → AreWaiting s (hs ++ z ∷ []) (behind (place_of z)) now new
 waiting_then s hs z rest mark cursor now number waiting new g is befallen are put = record {
-  real = λ e i. elim (put.real e i) [
-    | inl old ↦ let was = are.real e old in record { arrival = was.arrival; there = numbered_still hs z was.arrival e.cause was.there; awaited = was.awaited }
-    | inr it ↦ record { arrival = z; there = numbered_next hs [] z e.cause (it.0 ∙ is); awaited = it.1 }
-  ];
+  real = grind (arith, numbered_still, numbered_next);
   later = λ e i t r b.
       let p = r.permanent in
       elim (put.real e i) [
@@ -166,10 +149,7 @@ waiting_then s hs z rest mark cursor now number waiting new g is befallen are pu
               | inr same ↦ omega (arith, two, same.1)
             ]
       ];
-  sound = λ e i. elim (put.real e i) [
-    | inl old ↦ are.sound e old
-    | inr it ↦ subst (λ (n : ℕ). is_broken s e.device n ≡ false) (g.are.of_now z (inl refl)) it.2
-  ];
+  sound = grind (arith, is_broken);
   all = λ e it sound not.
       elim (numbered_more hs z it.arrival e.cause it.there) [
         | inl old ↦
@@ -257,17 +237,7 @@ pub held_then : {M : Type 0} (stands : M → Network → DeviceId → Node → T
     → IsHeld stands s hs (z ∷ rest) cursor now device machine → IsHeld stands s (hs ++ z ∷ []) rest (behind (place_of z)) now device machine
 held_then stands s hs z rest mark cursor now device machine g (inl k) = inl (kept_then stands s hs z rest mark cursor now device machine g k)
 held_then stands s hs z rest mark cursor now device machine g (inr k) =
-    let parts = sym (append_assoc hs (z ∷ []) rest) in
-    inr (record {
-      node = k.node;
-      is = k.is;
-      broken = k.broken;
-      shows = k.shows;
-      state = k.state ∙ ap (λ (l : List Happening). state_after s (up_to now l) device) parts;
-      adjustment = k.adjustment ∙ ap (λ (l : List Happening). adjustment_after s (up_to now l) device) parts;
-      ready = k.ready;
-      phase = λ at p b. g.are.not_past z (inl refl) p (k.phase at p b);
-    })
+    grind (arith, append_assoc, state_after, up_to, adjustment_after)
 
 -- ---- no record of an event is to come
 
@@ -423,20 +393,10 @@ given_step {C} {M} reading stands s world notes z rest wires ports waiting store
         untold =
             subst (λ (l : List Happening). AreUntold l then_ world.now world.pending world.befell) back
             (untold_then s hs f others old.mark old.cursor world.now world.pending world.befell giving told old.untold);
-        wires = subst (λ (l : List Happening). AreOnWires s l then_ world.now world.pending wires) back
-            (subst (λ (b : Bool). AreOnWires s (hs ++ f ∷ []) then_ world.now b wires) (sym told)
-            (wires_then s hs f others old.mark old.cursor world.now (g + 1) world.wires wires giving number
-            (subst (λ (b : Bool). AreOnWires s hs old.cursor world.now b world.wires) told old.wires)
-            (subst (λ (h : Happening). ArePut s h (g + 1) world.wires wires) x put)));
-        ports = subst (λ (l : List Happening). AreAtPorts s l then_ ports) back
-            (ports_then s hs f others old.mark old.cursor world.now (g + 1) world.ports ports giving number old.ports
-            (subst (λ (h : Happening). AreGiven s h (g + 1) world.ports ports) x given));
-        waiting = subst (λ (l : List Happening). AreWaiting s l then_ world.now waiting) back
-            (waiting_then s hs f others old.mark old.cursor world.now (g + 1) world.waiting waiting giving number old.befallen old.waiting
-            (subst (λ (h : Happening). AreAwaited s h (g + 1) world.waiting waiting) x awaited));
-        stored = subst (λ (l : List Happening). AreStored l stored) back
-            (stored_then hs f (g + 1) world.stored stored (number ∙ sym due.number) old.stored
-            (subst (λ (h : Happening). AreTaken h (g + 1) world.stored stored) x taken));
+        wires = grind (arith, then_, back, hs, f, told, wires_then, others, g, giving, number, x);
+        ports = grind (arith, then_, back, ports_then, hs, f, others, g, giving, number, x);
+        waiting = grind (arith, then_, back, waiting_then, hs, f, others, g, giving, number, x);
+        stored = grind (arith, back, stored_then, hs, f, g, number, due.number, x);
         are =
             subst (λ (l : List Happening). AreSettled s l others then_ then_ world.now) back (settled_then s hs f others old.mark old.cursor world.now giving);
         shown = λ device lt ended. (

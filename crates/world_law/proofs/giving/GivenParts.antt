@@ -20,35 +20,11 @@ second (a ∷ b ∷ more) = b
 
 key_long : (members : ℕ) (body : NoteBody) → 1 ≤ length (key members body)
 key_long m (notes.Event line what) = omega arith
-key_long m (notes.Arrived device link cause clock) = omega arith
-key_long m (notes.Permanent device link cause point verdict) = omega arith
-key_long m (notes.Compressed device opened at cycle members verdict) = omega arith
-key_long m (notes.Sent device cycle) = omega arith
-key_long m (notes.Corrected device cycle by adjustment) = omega arith
-key_long m (notes.State device state cause why) = omega arith
-key_long m (notes.Left device link cause clock) = omega arith
-key_long m (notes.Lost device link cause) = omega arith
-key_long m (notes.TtSent device link cause vl cycle) = omega arith
-key_long m (notes.Accepted device link cause vl cycle) = omega arith
-key_long m (notes.Delivered device link cause vl cycle) = omega arith
-key_long m (notes.Dropped device link cause reason) = omega arith
-key_long m (notes.Clock device reading adjustment state) = omega arith
+key_long m other = omega arith
 
 act_key : (members : ℕ) (body : NoteBody) → rank body ≡ 4 → length (key members body) ≡ 7
 act_key m (notes.Compressed device opened at cycle members verdict) e = refl
-act_key m (notes.Event line what) e = absurd (omega (arith, e))
-act_key m (notes.Arrived device link cause clock) e = absurd (omega (arith, e))
-act_key m (notes.Permanent device link cause point verdict) e = absurd (omega (arith, e))
-act_key m (notes.Sent device cycle) e = absurd (omega (arith, e))
-act_key m (notes.Corrected device cycle by adjustment) e = absurd (omega (arith, e))
-act_key m (notes.State device state cause why) e = absurd (omega (arith, e))
-act_key m (notes.Left device link cause clock) e = absurd (omega (arith, e))
-act_key m (notes.Lost device link cause) e = absurd (omega (arith, e))
-act_key m (notes.TtSent device link cause vl cycle) e = absurd (omega (arith, e))
-act_key m (notes.Accepted device link cause vl cycle) e = absurd (omega (arith, e))
-act_key m (notes.Delivered device link cause vl cycle) e = absurd (omega (arith, e))
-act_key m (notes.Dropped device link cause reason) e = absurd (omega (arith, e))
-act_key m (notes.Clock device reading adjustment state) e = absurd (omega (arith, e))
+act_key m other e = absurd (omega (arith, e))
 
 abbrev IsNoSourceRank : ℕ → Type 0
 IsNoSourceRank r = (2 ≡ r → ⊥) × (3 ≡ r → ⊥) × (8 ≡ r → ⊥) × (14 ≡ r → ⊥)
@@ -61,14 +37,7 @@ source_kinds (notes.Clock device reading adjustment state) = inl refl
 source_kinds (notes.Event line what) = inr (λ e. omega (arith, e), λ e. omega (arith, e), λ e. omega (arith, e), λ e. omega (arith, e))
 source_kinds (notes.Compressed device opened at cycle members verdict) =
     inr (λ e. omega (arith, e), λ e. omega (arith, e), λ e. omega (arith, e), λ e. omega (arith, e))
-source_kinds (notes.Sent device cycle) = inr (λ e. omega (arith, e), λ e. omega (arith, e), λ e. omega (arith, e), λ e. omega (arith, e))
-source_kinds (notes.Corrected device cycle by adjustment) = inr (λ e. omega (arith, e), λ e. omega (arith, e), λ e. omega (arith, e), λ e. omega (arith, e))
-source_kinds (notes.State device state cause why) = inr (λ e. omega (arith, e), λ e. omega (arith, e), λ e. omega (arith, e), λ e. omega (arith, e))
-source_kinds (notes.Lost device link cause) = inr (λ e. omega (arith, e), λ e. omega (arith, e), λ e. omega (arith, e), λ e. omega (arith, e))
-source_kinds (notes.TtSent device link cause vl cycle) = inr (λ e. omega (arith, e), λ e. omega (arith, e), λ e. omega (arith, e), λ e. omega (arith, e))
-source_kinds (notes.Accepted device link cause vl cycle) = inr (λ e. omega (arith, e), λ e. omega (arith, e), λ e. omega (arith, e), λ e. omega (arith, e))
-source_kinds (notes.Delivered device link cause vl cycle) = inr (λ e. omega (arith, e), λ e. omega (arith, e), λ e. omega (arith, e), λ e. omega (arith, e))
-source_kinds (notes.Dropped device link cause reason) = inr (λ e. omega (arith, e), λ e. omega (arith, e), λ e. omega (arith, e), λ e. omega (arith, e))
+source_kinds other = inr (λ e. omega (arith, e), λ e. omega (arith, e), λ e. omega (arith, e), λ e. omega (arith, e))
 
 -- a source that stands at the place of a record stands so by the record's kind
 pub at_its_place : (s : Scenario) (hs : List Happening) (z : Happening) (w : List ℕ) → IsSource s hs w → w ≡ place_of z → is_at_source z.note.body ≡ true
@@ -76,9 +45,7 @@ at_its_place s hs z w (IsSource.arriving t device link cause a) e = elim (source
 at_its_place s hs z w (IsSource.ripening t device link cause point r) e =
     elim (source_kinds z.note.body) [ inl is ↦ is | inr other ↦ absurd (other.1 (ap second e)) ]
 at_its_place s hs z w (IsSource.acting t device a) e =
-    let four : rank z.note.body ≡ 4 = sym (ap second e) in
-    let few : 3 ≡ suc (suc (length (key (members_in z) z.note.body))) = ap length e in
-    absurd (omega (arith, few, act_key (members_in z) z.note.body four))
+    grind (arith, rank, length, key, members_in, act_key)
 at_its_place s hs z w (IsSource.departing t device link cause d) e =
     elim (source_kinds z.note.body) [ inl is ↦ is | inr other ↦ absurd (other.2 (ap second e)) ]
 at_its_place s hs z w (IsSource.following t cause h it) e =
@@ -140,11 +107,7 @@ pub taken_on : (y : Happening) (w cursor then_ : List ℕ) → ((p : List ℕ) �
     → (IsBefore w cursor ⊎ ((w ≡ cursor) × ((device : DeviceId) × (w ≡ act_place (time_of y) device))))
     → IsBefore w then_ ⊎ ((w ≡ then_) × ((device : DeviceId) × (w ≡ act_place (time_of y) device)))
 taken_on y w cursor then_ on (inl yet) = inl (on w yet)
-taken_on y w cursor then_ on (inr up) = elim (either_way w then_) [
-  | inl lt ↦ inl lt
-  | inr (inl e) ↦ inr (e, up.1)
-  | inr (inr gt) ↦ absurd (never_self then_ (on then_ (subst (λ (p : List ℕ). IsBefore then_ p) up.0 gt)))
-]
+taken_on y w cursor then_ on (inr up) = grind (arith, either_way, never_self)
 
 beyond : (p q : List ℕ) → (IsBefore q (behind p) → ⊥) → IsBefore p q
 beyond p q not = before_later p q (behind p) (before_behind p) not

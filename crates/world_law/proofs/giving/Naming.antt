@@ -22,11 +22,7 @@ use Rattle.run_law.specs.declared.steps.Ripe.TheVariants as ripe
 any_in : (p : Happening → Bool) (z : Happening) (hs : List Happening) → IsIn z hs → p z ≡ true → list_any p hs ≡ true
 any_in p z [] i e = absurd i
 any_in p z (h ∷ hs) (inl same) e = ap (λ (b : Bool). b || list_any p hs) (ap p (sym same) ∙ e)
-any_in p z (h ∷ hs) (inr i) e = any_or (p h) (list_any p hs) (any_in p z hs i e)
-  where
-    any_or : (b c : Bool) → c ≡ true → (b || c) ≡ true
-    any_or true c e = refl
-    any_or false c e = e
+any_in p z (h ∷ hs) (inr i) e = grind (arith, list_any, (any_in p z hs i e))
 
 joined_in : (js : List Happening) (device : DeviceId) (t : ℕ) (z : Happening) → IsIn z js → time_of z ≡ t → is_joined_by device z.note.body ≡ true
     → has_joined_at js device t ≡ true
@@ -73,13 +69,7 @@ no_join s js time members (notes.Permanent other link cause point judgements.Int
       | inl cm ↦ collected_not s.network (points_of judged other) (point_at point.0 (master_of c.frame.members.0) c.frame.cycle) _
           (MatchBool-at_true _ _ cm c.becomes)
       | inr none ↦
-          let so : ripe.Integrates ≡ ripe_as (heard_as (plan_of s.network other) (observation_window s.network) (state_at_hearing s judged other t)
-          (adjustment_at_hearing s judged other t).0 point.0 c.frame.cycle c.frame.members) = MatchBool-at_false _ _ none c.becomes in
-          not_ripe_in_time _
-          (subst (λ (x : State). ripe.Integrates ≡ ripe_as
-          (heard_as (plan_of s.network other) (observation_window s.network) x (adjustment_at_hearing s judged other t).0 point.0 c.frame.cycle
-          c.frame.members)) state
-          so)
+          grind (arith, heard_as, plan_of, observation_window, state_at_hearing, judged, t, adjustment_at_hearing, MatchBool-at_false, not_ripe_in_time, state)
     ]
 no_join s js time members (notes.Compressed other opened at_reading cycle of_masters judgements.Integrates) device z m c by i at joined before =
     let t = amount time in
@@ -100,11 +90,7 @@ numbered_split [] front z h (suc zero) e = inr (inl (omega arith, cc))
 numbered_split [] front z h (suc (suc i)) e = inr (inr (omega arith, Rattle.run_law.proofs.law.FirstPlaces.in_at front i h e))
 numbered_split (g ∷ hs) front z h (suc zero) e = inl (omega arith)
 numbered_split (g ∷ hs) front z h (suc (suc i)) e =
-    elim (numbered_split hs front z h (suc i) e) [
-      | inl low ↦ inl (omega (arith, low))
-      | inr (inl at) ↦ inr (inl (omega (arith, at.0), at.1))
-      | inr (inr far) ↦ inr (inr (omega (arith, far.0), far.1))
-    ]
+    grind (arith, (numbered_split hs front z h (suc i) e))
 
 -- how the cause of a change of state stands to the record that is given
 abbrev IsNamedSo : NoteBody → DeviceId → ℕ → Why → ℕ → Type 0
@@ -115,30 +101,11 @@ named_so : (first : NoteBody) (device : DeviceId) (state : State) (cause : ℕ) 
     → IsNamedSo first device cause why given
     → named_body (given + 1) first (hidden_body given (notes.State device state cause why)) ≡ hidden_body (given + 1) (notes.State device state cause why)
 named_so first device state cause why given room (inl low) =
-    let f = λ (c : ℕ). notes.State device state (if follows first device why && c == none_yet then given + 1 else c) why in
-    let old : nat_lt given cause ≡ false = le-ltb given cause low in
-    let new : nat_lt (given + 1) cause ≡ false = le-ltb (given + 1) cause (omega (arith, low)) in
-    let other : (cause == none_yet) ≡ false = false_from_ne_true (cause == none_yet)
-    (λ e. let same = eqb-true cause none_yet e in absurd (omega (arith, same, low, room))) in
-    ap (λ (b : Bool). f (if b then none_yet else cause)) old
-    ∙ ap (λ (b : Bool). notes.State device state (if b then given + 1 else cause) why) (and_right (follows first device why) (cause == none_yet) other)
-    ∙ sym (ap (λ (b : Bool). notes.State device state (if b then none_yet else cause) why) new)
+    grind (arith, none_yet, nat_lt, le-ltb, false_from_ne_true, eqb-true, and_right)
 named_so first device state cause why given room (inr (inl (at, by))) =
-    let f = λ (c : ℕ). notes.State device state (if follows first device why && c == none_yet then given + 1 else c) why in
-    let old : nat_lt given cause ≡ true = lt-ltb given cause (omega (arith, at)) in
-    let new : nat_lt (given + 1) cause ≡ false = le-ltb (given + 1) cause (omega (arith, at)) in
-    ap (λ (b : Bool). f (if b then none_yet else cause)) old
-    ∙ ap (λ (b : Bool). notes.State device state (if b && none_yet == none_yet then given + 1 else none_yet) why) by
-    ∙ ap (λ (b : Bool). notes.State device state (if b then given + 1 else none_yet) why) (eq-eqb none_yet none_yet refl)
-    ∙ ap (λ (c : ℕ). notes.State device state c why) (sym at)
-    ∙ sym (ap (λ (b : Bool). notes.State device state (if b then none_yet else cause) why) new)
+    grind (arith, none_yet, nat_lt, lt-ltb, le-ltb, eq-eqb)
 named_so first device state cause why given room (inr (inr (far, by))) =
-    let f = λ (c : ℕ). notes.State device state (if follows first device why && c == none_yet then given + 1 else c) why in
-    let old : nat_lt given cause ≡ true = lt-ltb given cause (omega (arith, far)) in
-    let new : nat_lt (given + 1) cause ≡ true = lt-ltb (given + 1) cause far in
-    ap (λ (b : Bool). f (if b then none_yet else cause)) old
-    ∙ ap (λ (b : Bool). notes.State device state (if b && none_yet == none_yet then given + 1 else none_yet) why) by
-    ∙ sym (ap (λ (b : Bool). notes.State device state (if b then none_yet else cause) why) new)
+    grind (arith, none_yet, nat_lt, lt-ltb)
 
 corrected_at : (device : DeviceId) (members : ℕ) (body : NoteBody) → is_corrected device body ≡ true → rank body ∷ key members body ≡ 6 ∷ device.0 ∷ []
 corrected_at device members (notes.Corrected other cycle by adjustment) e = ap (λ (n : ℕ). 6 ∷ n ∷ []) (sym (eqb-true device.0 other.0 e))

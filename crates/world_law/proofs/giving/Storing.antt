@@ -1,5 +1,6 @@
 -- What switches hold, once one more record is given.
-use Rattle.world_law.proofs.Words.{if◌then◌else◌, ◌++◌, ◌∙◌, ◌∷◌, ◌≡◌, Bool, DeviceId, Happening, IsIn, List, None, Option, Some, VlId, [], ap, cases_Bool}
+use Rattle.std.proofs.Common.{arith}
+use Rattle.world_law.proofs.Words.{if◌then◌else◌, ◌++◌, ◌∙◌, ◌∷◌, ◌≡◌, Bool, DeviceId, Happening, IsIn, List, Option, Some, VlId, [], ap, cases_Bool}
 use Rattle.world_law.proofs.Words.{false, filter, filter-append, inl, inr, is_accepted, last_or, refl, sym, true, ℕ}
 use Rattle.tte_lemmas.proofs.Lists.{last_more}
 use Rattle.world_law.specs.world.{Moves.AreTaken, World.{AreStored, IsStored, Stored, last_taking}}
@@ -12,9 +13,7 @@ last_one false o x = refl
 pub last_then : (hs : List Happening) (h : Happening) (device : DeviceId) (vl : VlId) (b : Bool) → is_accepted device vl h.note.body ≡ b
     → last_taking (hs ++ h ∷ []) device vl ≡ (if b then Some h else last_taking hs device vl)
 last_then hs h device vl b is =
-    let q = λ (g : Happening). is_accepted device vl g.note.body in
-    ap (last_or None) (filter-append q hs (h ∷ [])) ∙ last_more None (filter q hs) (filter q (h ∷ []))
-    ∙ ap (λ (c : Bool). last_or (last_taking hs device vl) (if c then h ∷ [] else [])) is ∙ last_one b (last_taking hs device vl) h
+    grind (arith, is_accepted, last_or, filter-append, last_more, filter, last_one)
 
 -- a record by which no frame is taken
 pub stored_still : (hs : List Happening) (h : Happening) (stored : List Stored)

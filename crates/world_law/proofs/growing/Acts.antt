@@ -77,9 +77,7 @@ HasPointsOf node new = (new.points ≡ node.points) ⊎ (new.points ≡ [])
 points_emitted : (network : Network) (device : DeviceId) (node : Node) (moment : Moment) (sent : Compressed)
     → HasPointsOf node (called moment acting (after_emission network device node moment sent (own_hearing network device node sent)))
 points_emitted network device node moment sent =
-    heard_so (plan_of network device) (observation_window network) node.standing.state node.standing.adjustment.0 sent.at.0 sent.cycle sent.members
-    (λ (r : Ripe). HasPointsOf node (called moment acting (after_emission network device node moment sent r)))
-    (inl refl) (inl refl) (inr refl) (inl refl)
+    grind (arith, heard_so, plan_of, observation_window, called, acting, after_emission)
 
 points_corrected : (node : Node) (moment : Moment) (heard : Summary) (cycle : ℕ) (verdict : Verdict)
     → HasPointsOf node (called moment acting (after_correction node moment heard cycle verdict))
@@ -103,11 +101,7 @@ points_after network device node moment (acts.Correct cycle verdict) new (first,
 -- so none lies before reading 0, where none did
 pub still_from_zero : (network : Network) (device : DeviceId) (node : Node) (moment : Moment) (act : Act) (new : Node)
     → IsActOf network device node moment act new → IsFromZero network device node → IsFromZero network device new
-still_from_zero network device node moment act new is zero_on = λ cm.
-    elim (points_after network device node moment act new is) [
-      | inl same ↦ subst (All (λ (p : Point). pos 0 ≤ℤ p.reading)) (sym same) (zero_on cm)
-      | inr none ↦ subst (All (λ (p : Point). pos 0 ≤ℤ p.reading)) (sym none) (λ k d lt. absurd (omega (arith, lt)))
-    ]
+still_from_zero network device node moment act new is zero_on = grind (arith, points_after)
 
 -- ---- what is due, by its kind
 
@@ -144,10 +138,7 @@ by_kind network (doing (dispatching of m)) (doing (dispatching row n)) lt = absu
 from_first : (network : Network) (device : DeviceId) (node : Node) (moment : Moment) (task : Task) → IsFirstTask network device node moment.reading.0 task
     → AreFrom network device moment (kind_of task) node
 from_first network device node moment task first other q due =
-    elim (cases_lt (kind_of other) (kind_of task)) [
-      | inl lt ↦ absurd (first.first other q due (by_kind network other task lt))
-      | inr ge ↦ ge
-    ]
+    grind (arith, cases_lt, by_kind)
 
 -- ---- the dispatches
 
@@ -183,10 +174,7 @@ record AreDispatches (network : Network) (device : DeviceId) (done : List Act) :
 apart_all : (network : Network) (low : ℕ) (ns : List ℕ) → AllByRecursion (λ n. IsBefore (order_at network low) (order_at network n)) ns
     → AllByRecursion (λ n. (low == n) ≡ false) ns
 apart_all network low [] all = tt
-apart_all network low (n ∷ ns) all = (
-  ne_eqb low n (λ e. never_self (order_at network low) (subst (λ (k : ℕ). IsBefore (order_at network low) (order_at network k)) (sym e) all.0)),
-  apart_all network low ns all.1,
-)
+apart_all network low (n ∷ ns) all = grind (arith, ne_eqb, never_self, (apart_all network low ns all.1))
 
 further : (network : Network) (low high : List ℕ) (ns : List ℕ) → IsBefore low high → AllByRecursion (λ n. IsBefore high (order_at network n)) ns
     → AllByRecursion (λ n. IsBefore low (order_at network n)) ns
@@ -317,15 +305,7 @@ due_frame network device node moment sent may p due = record {
 
 due_before : (network : Network) (node new : Node) (reading : ℤ) (c : Compressed) → HasPointsOf node new → IsDueFrame network new reading c
     → IsDueFrame network node reading c
-due_before network node new reading c (inl same) d = record {
-  clusters = d.clusters;
-  are = subst (λ (ps : List Point). AreClusters (observation_window network) ps d.clusters) same d.are;
-  cluster = d.cluster;
-  there = d.there;
-  is = d.is;
-  due = d.due;
-  in_time = d.in_time;
-}
+due_before network node new reading c (inl same) d = grind (arith, observation_window)
 due_before network node new reading c (inr none) d =
     absurd (no_cluster (observation_window network) d.clusters d.cluster
     (subst (λ (ps : List Point). AreClusters (observation_window network) ps d.clusters) none d.are) d.there)

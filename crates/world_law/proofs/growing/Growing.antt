@@ -51,14 +51,7 @@ rows_apart : (network : Network) (row other : RowId) (entry with : Entry) → Is
     → (IsBefore (3 ∷ dispatch_order network other) (3 ∷ dispatch_order network row) → ⊥)
     → IsBefore (3 ∷ dispatch_order network row) (3 ∷ dispatch_order network other)
 rows_apart network row other entry with is at apart none =
-    elim (either_way (dispatch_order network row) (dispatch_order network other)) [
-      | inl before ↦ inr (refl, before)
-      | inr rest ↦
-          elim rest [
-            | inl same ↦ absurd (apart (third_of _ _ row.0 _ _ other.0 (sym (row_order network row entry is) ∙ same ∙ row_order network other with at)))
-            | inr behind ↦ absurd (none (inr (refl, behind)))
-          ]
-    ]
+    grind (arith, either_way, third_of, row_order)
 
 -- ---- what was done is not pending
 

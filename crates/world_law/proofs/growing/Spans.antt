@@ -5,7 +5,7 @@ use Rattle.std.proofs.Common.{◌*ℤ◌, Contains}
 use Rattle.compression.proofs.{ClusterFacts.ends_soon, Elements.{all_at, beyond-all, in_cases, in_none}, Firsts.{counts, firsts-start}, Growth.end_of-least}
 use Rattle.compression.proofs.{Held.held-start, Times.{first_end, open_beyond}}
 use Rattle.compression.specs.{Clusters.{beyond, cluster_of, end_of, firsts, has_master, of_cycle_within}, Middle.{last_but_one, middle_of, relative}}
-use Rattle.tte_units.{proofs.Means.mean_of-floor, specs.Mean.{IsMean, mean_of}}
+use Rattle.tte_units.{proofs.Means.mean_of-floor, specs.Mean.mean_of}
 
 -- ---- the middle of numbers that lie from 0 to a bound
 
@@ -13,10 +13,7 @@ abbrev LiesUpTo : ℤ → ℤ → Type 0
 LiesUpTo k x = (pos 0 ≤ℤ x) × (x ≤ℤ k)
 
 mean_up_to : (k a b : ℤ) → LiesUpTo k a → LiesUpTo k b → LiesUpTo k (mean_of a b)
-mean_up_to k a b x y = by (mean_of a b) (mean_of-floor a b)
-  where
-    by : (m : ℤ) → IsMean a b m → LiesUpTo k m
-    by m mean = (omega (arith, ints, mean.least, mean.most, x.0, y.0), omega (arith, ints, mean.least, mean.most, x.1, y.1))
+mean_up_to k a b x y = grind (arith, mean_of-floor, ints)
 
 last_up_to : (k e f : ℤ) (more : List ℤ) → LiesUpTo k e → AllByRecursion (LiesUpTo k) (f ∷ more) → LiesUpTo k (last_but_one e f more)
 last_up_to k e f [] x all = x
@@ -39,19 +36,12 @@ LiesFrom from to q = (from ≤ℤ q.reading) × (q.reading ≤ℤ to)
 
 in_window : (q : Point) (cycle : ℕ) (from to : ℤ) → (q.cycle == cycle && (int_le from q.reading && int_le q.reading to)) ≡ true → LiesFrom from to q
 in_window q cycle from to pass =
-    let both = and_parts (q.cycle == cycle) (int_le from q.reading && int_le q.reading to) pass in
-    let parts = and_parts (int_le from q.reading) (int_le q.reading to) both.1 in
-    let low = parts.0 in
-    let high = parts.1 in
-    (grind (arith, ints, low), grind (arith, ints, high))
+    grind (arith, and_parts, int_le, ints)
 
 held_from : (cycle : ℕ) (from to : ℤ) (ps : List Point) → AllByRecursion (LiesFrom from to) (of_cycle_within cycle from to ps)
 held_from cycle from to [] = tt
 held_from cycle from to (p ∷ ps) =
-    elim (cases_Bool (p.cycle == cycle && (int_le from p.reading && int_le p.reading to))) [
-      | inl pass ↦ rw pass (in_window p cycle from to pass, held_from cycle from to ps)
-      | inr fail ↦ rw fail (held_from cycle from to ps)
-    ]
+    grind (arith, cases_Bool, int_le, in_window, (held_from cycle from to ps))
 
 all_of : (P : Point → Type 0) (xs acc qs : List Point) → AllByRecursion P xs → AllByRecursion (λ q. Contains xs q × (has_master acc q.master ≡ false)) qs
     → AllByRecursion P qs

@@ -21,27 +21,11 @@ pub record AreAlike (s : Scenario) (t known : ℕ) (js gs : List Happening) : Ty
   pub stated : (device : DeviceId) → state_after s (up_to t js) device ≡ state_after s (up_to t gs) device
 
 pub alike_back : (s : Scenario) (t known : ℕ) (js gs : List Happening) → AreAlike s t known js gs → AreAlike s t known gs js
-alike_back s t known js gs a = record {
-  given = λ n le. sym (a.given n le);
-  before = sym a.before;
-  taken = λ device link cause vl. sym (a.taken device link cause vl);
-  judged = λ device link cause frame point. sym (a.judged device link cause frame point);
-  adjusted = λ device. sym (a.adjusted device);
-  stated = λ device. sym (a.stated device);
-}
+alike_back s t known js gs a = grind arith
 
 pub departs_alike : (s : Scenario) (t known : ℕ) (js gs : List Happening) (device : DeviceId) (link : LinkId) (cause : ℕ) (is : Departure)
     → AreAlike s t known js gs → cause ≤ known → Departs s js device t link cause is → Departs s gs device t link cause is
-departs_alike s t known js gs device link cause is a le d = record {
-  giving = d.giving;
-  there = sym (a.given cause le) ∙ d.there;
-  gives = d.gives;
-  frame = d.frame;
-  of_frame = d.of_frame;
-  held = d.held;
-  correct = d.correct;
-  becomes = d.becomes;
-}
+departs_alike s t known js gs device link cause is a le d = grind arith
 
 abbrev pub standpoint_in : Scenario → DeviceId → ℕ → List Happening → Standpoint
 standpoint_in s device t w = record {
@@ -56,9 +40,7 @@ arrival_is : (s : Scenario) (t known : ℕ) (js gs : List Happening) (device : D
 arrival_is s t known js gs device link cause (control frame) a =
     ap (λ (w : List Happening). control_arrival s.network device link (standpoint_in s device t w) frame) a.before
 arrival_is s t known js gs device link cause (timed octets) a =
-    ap (λ (w : List Happening). timed_arrival s.network device link (standpoint_in s device t w) octets (last_taken js device t link cause)) a.before
-    ∙ timed_by s device link (standpoint_in s device t (earlier t gs)) octets (last_taken js device t link cause) (last_taken gs device t link cause)
-    (λ vl. a.taken device link cause vl)
+    grind (arith, timed_arrival, last_taken, timed_by, earlier)
 
 pub arrives_alike : (s : Scenario) (t known : ℕ) (js gs : List Happening) (device : DeviceId) (link : LinkId) (cause : ℕ) (is : Arrival)
     → AreAlike s t known js gs → cause ≤ known → ArrivesAs s js device t link cause is → ArrivesAs s gs device t link cause is
@@ -85,17 +67,7 @@ ripens_alike s t known js gs device link cause point is a le r = (
 send_alike : (s : Scenario) (t known : ℕ) (js gs : List Happening) (device : DeviceId) (link : LinkId) (cause : ℕ) → AreAlike s t known js gs → cause ≤ known
     → IsSendLost s js device t link cause → IsSendLost s gs device t link cause
 send_alike s t known js gs device link cause a le l =
-    record {
-      event = l.event;
-      is = record { there = sym (a.given cause le) ∙ l.is.there; same_time = l.is.same_time };
-      line = l.line;
-      octets = l.octets;
-      sends = l.sends;
-      way = l.way;
-      there = l.there;
-      by = l.by;
-      cut = l.cut;
-    }
+    grind arith
 
 lost_alike : (s : Scenario) (t known : ℕ) (js gs : List Happening) (device : DeviceId) (link : LinkId) (cause : ℕ) → AreAlike s t known js gs → cause ≤ known
     → IsLost s js device t link cause → IsLost s gs device t link cause
@@ -121,13 +93,7 @@ caused_alike s known js gs time (notes.Delivered device link cause vl cycle) a l
 caused_alike s known js gs time (notes.Dropped device link cause reason) a late le c = dropped_alike s _ known js gs device link cause reason a le c
 caused_alike s known js gs time (notes.Clock device reading adjustment state) a late le c =
     record { is = c.is; there = c.there; ends = c.ends; reads = c.reads; adjusted = c.adjusted ∙ a.adjusted device; in_state = c.in_state ∙ a.stated device }
-caused_alike s known js gs time (notes.Event line what) a late le c = absurd (omega (arith, late))
-caused_alike s known js gs time (notes.Arrived device link cause clock) a late le c = absurd (omega (arith, late))
-caused_alike s known js gs time (notes.Permanent device link cause point verdict) a late le c = absurd (omega (arith, late))
-caused_alike s known js gs time (notes.Compressed device opened at cycle members verdict) a late le c = absurd (omega (arith, late))
-caused_alike s known js gs time (notes.Sent device cycle) a late le c = absurd (omega (arith, late))
-caused_alike s known js gs time (notes.Corrected device cycle by adjustment) a late le c = absurd (omega (arith, late))
-caused_alike s known js gs time (notes.State device state cause why) a late le c = absurd (omega (arith, late))
+caused_alike s known js gs time other a late le c = absurd (omega (arith, late))
 
 -- and its own source
 pub own_alike : (s : Scenario) (t known members : ℕ) (js gs : List Happening) (body : NoteBody) (w : List ℕ) → AreAlike s t known js gs → 8 ≤ rank body
@@ -149,13 +115,7 @@ own_alike s t known members js gs (notes.Dropped device link cause reason) w a l
 own_alike s t known members js gs (notes.Dropped device link cause reason) w a late le (inr (inr x)) =
     inr (inr (x.0, departs_alike s t known js gs device link cause _ a le x.1))
 own_alike s t known members js gs (notes.Clock device reading adjustment state) w a late le o = o
-own_alike s t known members js gs (notes.Event line what) w a late le o = absurd (omega (arith, late))
-own_alike s t known members js gs (notes.Arrived device link cause clock) w a late le o = absurd (omega (arith, late))
-own_alike s t known members js gs (notes.Permanent device link cause point verdict) w a late le o = absurd (omega (arith, late))
-own_alike s t known members js gs (notes.Compressed device opened at cycle of_masters verdict) w a late le o = absurd (omega (arith, late))
-own_alike s t known members js gs (notes.Sent device cycle) w a late le o = absurd (omega (arith, late))
-own_alike s t known members js gs (notes.Corrected device cycle by adjustment) w a late le o = absurd (omega (arith, late))
-own_alike s t known members js gs (notes.State device state cause why) w a late le o = absurd (omega (arith, late))
+own_alike s t known members js gs other w a late le o = absurd (omega (arith, late))
 
 -- ---- its frame
 
@@ -184,6 +144,4 @@ octets_alike network known js gs other given le = refl
 pub happening_alike : (network : Network) (known : ℕ) (js gs : List Happening) (note : Note) → ((n : ℕ) → n ≤ known → numbered js n ≡ numbered gs n)
     → cause_of note.body ≤ known → happening network js note ≡ happening network gs note
 happening_alike network known js gs note given le =
-    let make = λ (frame : Option Pcf) (octets : List ℕ). let h : Happening = record { note = note; frame = frame; octets = octets } in h in
-    ap (λ (f : Option Pcf). make f (octets_by network js note.body)) (frame_alike network known js gs note.body given le)
-    ∙ ap (make (frame_by network gs note.body)) (octets_alike network known js gs note.body given le)
+    grind (arith, frame_alike, frame_by, octets_alike)

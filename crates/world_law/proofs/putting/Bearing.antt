@@ -1,4 +1,5 @@
 -- A device on which a record does not bear stands with it as without it.
+use Rattle.std.proofs.Common.{arith}
 use Rattle.world_law.proofs.Words.{if◌then◌else◌, ◌++◌, ◌+ℤ◌, ◌∙◌, ◌∷◌, ◌≡◌, ◌≤◌, ◌⊎◌, AreOfNetwork, DeviceId, Happening, HasDoneFrom, HasTurnedOn, Integrating}
 use Rattle.world_law.proofs.Words.{IsAtRest, IsHeld, IsIn, IsKept, IsLeft, List, Network, Node, NoteBody, Scenario, State, TakenFrame, Units, adjustment_after}
 use Rattle.world_law.proofs.Words.{adjustment_with, ap, append_assoc, bears_on, borne, changed_at, cycle_in, earlier, false, frames_taken, in_left, in_parts}
@@ -258,13 +259,4 @@ pub held_aside : {M : Type 0} (stands : M → Network → DeviceId → Node → 
     → IsHeld stands s hs (front ++ back) cursor now device machine → IsHeld stands s hs (placed n front w back) cursor now device machine
 held_aside stands s n hs front back cursor now device machine w misses sends at frames (inl k) =
     inl (kept_aside stands s n hs front back cursor now device machine w misses sends at frames k)
-held_aside stands s n hs front back cursor now device machine w misses sends at frames (inr k) = inr (record {
-  node = k.node;
-  is = k.is;
-  broken = k.broken;
-  shows = k.shows;
-  state = k.state ∙ stated_aside s n hs front back w device now misses;
-  adjustment = k.adjustment ∙ adjusted_aside s n hs front back w device now misses;
-  ready = k.ready;
-  phase = k.phase;
-})
+held_aside stands s n hs front back cursor now device machine w misses sends at frames (inr k) = grind (arith, stated_aside, adjusted_aside)

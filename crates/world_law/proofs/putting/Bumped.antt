@@ -1,5 +1,5 @@
 -- A record is put in: those behind it have the next number, and so have causes that stand behind it.
-use Rattle.world_law.proofs.Words.{if◌then◌else◌, ◌++◌, ◌+◌, ◌-◌, ◌<◌, ◌∙◌, ◌∷◌, ◌≡◌, ◌≤◌, ◌⊎◌, Bool, ChangesState, DeviceId, Happening, IsBefore, IsCaused}
+use Rattle.world_law.proofs.Words.{if◌then◌else◌, ◌++◌, ◌+◌, ◌-◌, ◌<◌, ◌∙◌, ◌∷◌, ◌≡◌, ◌≤◌, ◌⊎◌, Bool, ChangesState, DeviceId, Happening, IsBefore}
 use Rattle.world_law.proofs.Words.{IsDue, IsIn, List, NoteBody, Scenario, Some, State, Why, [], amount, ap, arith, cases_lt, cases_order, cause_of, chain}
 use Rattle.world_law.proofs.Words.{either_way, hidden, hidden_body, inl, inr, is_at_source, is_joined_by, is_turning, key, le-ltb, length, length-append}
 use Rattle.world_law.proofs.Words.{length-map, lt-ltb, map, members_in, moves, nat_lt, never_self, numbered, numbered_within, option_map, place_of, plain, rank}
@@ -31,26 +31,10 @@ pub down_high : (n cause : ℕ) → n < cause → down_number n cause ≡ cause 
 down_high n cause lt = ap (λ (b : Bool). if b then cause - 1 else cause) (lt-ltb n cause lt)
 
 pub up_down : (n cause : ℕ) → (cause ≡ n + 1 → ⊥) → up_number n (down_number n cause) ≡ cause
-up_down n cause other = elim (cases_lt n cause) [
-  | inr le ↦ ap (up_number n) (down_low n cause le) ∙ up_low n cause le
-  | inl lt ↦ elim (cases_order cause (n + 1)) [
-    | inl e ↦ absurd (other e)
-    | inr (inl less) ↦ absurd (omega (arith, lt, less))
-    | inr (inr more) ↦
-        let high : n < cause - 1 = omega (arith, more) in
-        let back : suc (cause - 1) ≡ cause = omega (arith, more) in
-        ap (up_number n) (down_high n cause lt) ∙ up_high n (cause - 1) high ∙ back
-  ]
-]
+up_down n cause other = grind (arith, cases_lt, down_low, up_low, cases_order, down_high, up_high)
 
 up_mono : (n a b : ℕ) → a < b → up_number n a < up_number n b
-up_mono n a b lt = elim (cases_lt n a) [
-  | inl high ↦ let x = up_high n a high in let y = up_high n b (omega (arith, high, lt)) in omega (arith, x, y, lt)
-  | inr low ↦ let x = up_low n a low in elim (cases_lt n b) [
-    | inl high ↦ let y = up_high n b high in omega (arith, x, y, lt)
-    | inr also ↦ let y = up_low n b also in omega (arith, x, y, lt)
-  ]
-]
+up_mono n a b lt = grind (arith, cases_lt, up_high, up_low)
 
 -- ---- records
 
@@ -123,23 +107,13 @@ raised_turning n device other = refl
 
 -- it is shown as before, where no more than n are given
 pub raised_hidden : (given n : ℕ) (body : NoteBody) → given ≤ n → hidden_body given (raised n body) ≡ hidden_body given body
-raised_hidden given n (notes.State device state cause why) le = elim (cases_lt n cause) [
-  | inr low ↦ ap (λ (c : ℕ). hidden_body given (notes.State device state c why)) (up_low n cause low)
-  | inl high ↦
-      ap (λ (c : ℕ). hidden_body given (notes.State device state c why)) (up_high n cause high)
-      ∙ ap (λ (b : Bool). notes.State device state (if b then Rattle.world_law.specs.world.World.none_yet else suc cause) why)
-      (lt-ltb given (suc cause) (omega (arith, high, le)))
-      ∙ sym (ap (λ (b : Bool). notes.State device state (if b then Rattle.world_law.specs.world.World.none_yet else cause) why)
-      (lt-ltb given cause (omega (arith, high, le))))
-]
+raised_hidden given n (notes.State device state cause why) le = grind (arith, cases_lt, hidden_body, up_low, up_high, lt-ltb)
 raised_hidden given n other le = refl
 
 pub placed_hidden : (given n : ℕ) (b : List Happening) → given ≤ n → map (hidden given) (map (bump_behind n) b) ≡ map (hidden given) b
 placed_hidden given n [] le = refl
 placed_hidden given n (y ∷ b) le =
-    let f = λ (body : NoteBody). let h : Happening = record y { note = record y.note { number = 0; body = body } } in h in
-    ap (λ (h : Happening). h ∷ map (hidden given) (map (bump_behind n) b)) (ap f (raised_hidden given n y.note.body le))
-    ∙ ap (λ (l : List Happening). hidden given y ∷ l) (placed_hidden given n b le)
+    grind (arith, map, hidden, raised_hidden, (placed_hidden given n b le))
 
 -- ---- places
 
@@ -153,19 +127,7 @@ pub record AsState (body : NoteBody) : Type 0 where
 -- a record of this rank is a change of state
 pub seven : (body : NoteBody) → AsState body ⊎ (rank body ≡ 7 → ⊥)
 seven (notes.State device state cause why) = inl (record { device = device; state = state; cause = cause; why = why; is = refl })
-seven (notes.Event line what) = inr (λ e. omega (arith, e))
-seven (notes.Arrived device link cause clock) = inr (λ e. omega (arith, e))
-seven (notes.Permanent device link cause point verdict) = inr (λ e. omega (arith, e))
-seven (notes.Compressed device opened at cycle members verdict) = inr (λ e. omega (arith, e))
-seven (notes.Sent device cycle) = inr (λ e. omega (arith, e))
-seven (notes.Corrected device cycle by adjustment) = inr (λ e. omega (arith, e))
-seven (notes.Left device link cause clock) = inr (λ e. omega (arith, e))
-seven (notes.Lost device link cause) = inr (λ e. omega (arith, e))
-seven (notes.TtSent device link cause vl cycle) = inr (λ e. omega (arith, e))
-seven (notes.Accepted device link cause vl cycle) = inr (λ e. omega (arith, e))
-seven (notes.Delivered device link cause vl cycle) = inr (λ e. omega (arith, e))
-seven (notes.Dropped device link cause reason) = inr (λ e. omega (arith, e))
-seven (notes.Clock device reading adjustment state) = inr (λ e. omega (arith, e))
+seven other = inr (λ e. omega (arith, e))
 
 keys_of_states : (n d c e k : ℕ) → IsBefore (d ∷ c ∷ []) (e ∷ k ∷ []) → IsBefore (d ∷ up_number n c ∷ []) (e ∷ up_number n k ∷ [])
 keys_of_states n d c e k (inl lt) = inl lt
@@ -175,20 +137,7 @@ keys_of_states n d c e k (inr (same, inr b)) = absurd b.1
 keys_up : (n m k : ℕ) (body other : NoteBody) → rank body ≡ rank other → IsBefore (key m body) (key k other)
     → IsBefore (key m (raised n body)) (key k (raised n other))
 keys_up n m k body other e b =
-    elim (seven body) [
-      | inl one ↦ elim (seven other) [
-        | inl two ↦
-            let plain_b = subst (λ (x : NoteBody). IsBefore (key m x) (key k (notes.State two.device two.state two.cause two.why))) one.is
-            (subst (λ (x : NoteBody). IsBefore (key m body) (key k x)) two.is b) in
-            subst (λ (x : NoteBody). IsBefore (key m (raised n x)) (key k (raised n other))) (sym one.is)
-            (subst (λ (x : NoteBody). IsBefore (key m (raised n (notes.State one.device one.state one.cause one.why))) (key k (raised n x))) (sym two.is)
-            (keys_of_states n one.device.0 one.cause two.device.0 two.cause plain_b))
-        | inr none ↦ absurd (none (sym e ∙ ap rank one.is))
-      ]
-      | inr none ↦
-          subst (λ (x : NoteBody). IsBefore (key m x) (key k (raised n other))) (sym (raised_same n body none))
-          (subst (λ (x : NoteBody). IsBefore (key m body) (key k x)) (sym (raised_same n other (λ s. none (e ∙ s)))) b)
-    ]
+    grind (arith, seven, key, keys_of_states, rank, raised_same)
 
 pub places_up : (t u r q : ℕ) (k l m o : List ℕ) → (r ≡ q → IsBefore k l → IsBefore m o) → IsBefore (t ∷ r ∷ k) (u ∷ q ∷ l)
     → IsBefore (t ∷ r ∷ m) (u ∷ q ∷ o)
@@ -199,39 +148,16 @@ places_up t u r q k l m o up (inr (e, inr (f, b))) = inr (e, inr (f, up f b))
 -- the order is kept
 pub bump_mono : (n : ℕ) (y z : Happening) → IsBefore (place_of y) (place_of z) → IsBefore (place_of (bump_behind n y)) (place_of (bump_behind n z))
 bump_mono n y z b =
-    subst (λ (r : ℕ). IsBefore (time_of y ∷ r ∷ key (members_in y) (raised n y.note.body)) (place_of (bump_behind n z))) (sym (raised_rank n y.note.body))
-    (subst (λ (r : ℕ). IsBefore (time_of y ∷ rank y.note.body ∷ key (members_in y) (raised n y.note.body)) (time_of z ∷ r ∷ key (members_in z)
-    (raised n z.note.body))) (sym (raised_rank n z.note.body))
-    (places_up (time_of y) (time_of z) (rank y.note.body) (rank z.note.body) (key (members_in y) y.note.body) (key (members_in z) z.note.body)
-    (key (members_in y) (raised n y.note.body)) (key (members_in z) (raised n z.note.body))
-    (λ e. keys_up n (members_in y) (members_in z) y.note.body z.note.body e) b))
+    grind (arith, time_of, key, members_in, place_of, raised_rank, rank, places_up, keys_up)
 
 keys_equal : (n m k : ℕ) (body other : NoteBody) → rank body ≡ rank other → key m body ≡ key k other → key m (raised n body) ≡ key k (raised n other)
 keys_equal n m k body other e same =
-    elim (seven body) [
-      | inl one ↦ elim (seven other) [
-        | inl two ↦
-            let both : one.device.0 ∷ one.cause ∷ [] ≡ two.device.0 ∷ two.cause ∷ [] = ap (key m) (sym one.is) ∙ same ∙ ap (key k) two.is in
-            let d : one.device.0 ≡ two.device.0 = cc in
-            let c : one.cause ≡ two.cause = cc in
-            ap (λ (x : NoteBody). key m (raised n x)) one.is
-            ∙ ap (λ (i : ℕ). i ∷ up_number n one.cause ∷ []) d
-            ∙ ap (λ (i : ℕ). two.device.0 ∷ up_number n i ∷ []) c
-            ∙ sym (ap (λ (x : NoteBody). key k (raised n x)) two.is)
-        | inr none ↦ absurd (none (sym e ∙ ap rank one.is))
-      ]
-      | inr none ↦ ap (key m) (raised_same n body none) ∙ same ∙ sym (ap (key k) (raised_same n other (λ s. none (e ∙ s))))
-    ]
+    grind (arith, seven, key, rank, raised_same)
 
 -- records at one place stay at one
 pub bump_equal : (n : ℕ) (y z : Happening) → place_of y ≡ place_of z → place_of (bump_behind n y) ≡ place_of (bump_behind n z)
 bump_equal n y z same =
-    let t : time_of y ≡ time_of z = cc in
-    let r : rank y.note.body ≡ rank z.note.body = cc in
-    let k : key (members_in y) y.note.body ≡ key (members_in z) z.note.body = cc in
-    ap (λ (i : ℕ). i ∷ rank (raised n y.note.body) ∷ key (members_in y) (raised n y.note.body)) t
-    ∙ ap (λ (i : ℕ). time_of z ∷ i ∷ key (members_in y) (raised n y.note.body)) (raised_rank n y.note.body ∙ r ∙ sym (raised_rank n z.note.body))
-    ∙ ap (λ (l : List ℕ). time_of z ∷ rank (raised n z.note.body) ∷ l) (keys_equal n (members_in y) (members_in z) y.note.body z.note.body r k)
+    grind (arith, time_of, rank, key, members_in, raised_rank, keys_equal)
 
 pub bump_back : (n : ℕ) (y z : Happening) → IsBefore (place_of (bump_behind n y)) (place_of (bump_behind n z)) → IsBefore (place_of y) (place_of z)
 bump_back n y z b =
@@ -282,11 +208,7 @@ first_placed n (x ∷ d2) rest y e = let a : y ≡ bump_behind n x = cc in (x, d
 
 pub placed_length : (n : ℕ) (front back : List Happening) (w : Happening) → length (placed n front w back) ≡ length (front ++ back) + 1
 placed_length n front back w =
-    let a = length-append front (w ∷ map (bump_behind n) back) in
-    let b : length (w ∷ map (bump_behind n) back) ≡ suc (length (map (bump_behind n) back)) = refl in
-    let c = length-map back (bump_behind n) in
-    let d = length-append front back in
-    omega (arith, a, b, c, d)
+    grind (arith, length-append, map, length, length-map)
 
 get_beyond : (n : ℕ) (ps c : List Happening) (w : Happening) (j : ℕ) → length ps ≤ j
     → slice_get (ps ++ w ∷ map (bump_behind n) c) (suc j) ≡ option_map (bump_behind n) (slice_get (ps ++ c) j)
@@ -321,10 +243,4 @@ caused_within s js device t state cause whys.AsyncClique c = let e = c.1 in omeg
 -- so one that is due given no more than n keeps its cause
 pub due_low : (s : Scenario) (js : List Happening) (n : ℕ) (z : Happening) → IsDue s js z → length js ≤ n → raised n z.note.body ≡ z.note.body
 due_low s js n z due le =
-    elim (seven z.note.body) [
-      | inr none ↦ raised_same n z.note.body none
-      | inl one ↦
-          let c = subst (λ (b : NoteBody). IsCaused s js z.note.time b) one.is due.cause in
-          let few = caused_within s js one.device (amount z.note.time) one.state one.cause one.why c in
-          ap (raised n) one.is ∙ raised_low n (notes.State one.device one.state one.cause one.why) (omega (arith, few, le)) ∙ sym one.is
-    ]
+    grind (arith, seven, raised_same, caused_within, amount, raised_low)

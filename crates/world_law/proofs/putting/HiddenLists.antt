@@ -1,6 +1,6 @@
 -- What is settled as it is shown, and a record that is put in.
 use Rattle.world_law.proofs.Words.{◌++◌, ◌+◌, ◌∙◌, ◌∷◌, ◌≡◌, ◌≤◌, Happening, List, NoteBody, [], ap, arith, hidden, hidden_body, key, length, length-append}
-use Rattle.world_law.proofs.Words.{length-map, map, members_in, place_of, rank, refl, suc, sym, time_of, ℕ}
+use Rattle.world_law.proofs.Words.{length-map, map, members_in, place_of, rank, refl, sym, time_of, ℕ}
 use Rattle.world_law.proofs.putting.{Idle.bump, Putting.put_list}
 use Rattle.run_law.specs.declared.note.NoteBody.TheVariants as kinds
 
@@ -37,8 +37,4 @@ bumped_hidden given (y ∷ b) = ap (λ (l : List Happening). hidden given y ∷ 
 
 pub put_length : (front back : List Happening) (w : Happening) → length (put_list front w back) ≡ length (front ++ back) + 1
 put_length front back w =
-    let a = length-append front (w ∷ map bump back) in
-    let b : length (w ∷ map bump back) ≡ suc (length (map bump back)) = refl in
-    let c = length-map back bump in
-    let d = length-append front back in
-    omega (arith, a, b, c, d)
+    grind (arith, length-append, map, bump, length, length-map)

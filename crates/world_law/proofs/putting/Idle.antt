@@ -1,5 +1,5 @@
 -- A record that bears on nothing else is put in among those of its instant.
-use Rattle.world_law.proofs.Words.{if◌then◌else◌, ◌&&◌, ◌++◌, ◌+◌, ◌<◌, ◌==◌, ◌||◌, ◌∙◌, ◌∷◌, ◌≡◌, ◌≤◌, Bool, DeviceId, Happening, IsIn, IsLeft, LinkId, List}
+use Rattle.world_law.proofs.Words.{if◌then◌else◌, ◌++◌, ◌+◌, ◌<◌, ◌∙◌, ◌∷◌, ◌≡◌, ◌≤◌, Bool, DeviceId, Happening, IsIn, IsLeft, LinkId, List}
 use Rattle.world_law.proofs.Words.{Node, None, NoteBody, Pcf, Scenario, State, Units, VlId, [], adjustment_after, adjustment_with, amount, and_right, ap, arith}
 use Rattle.world_law.proofs.Words.{bears_on, before_permanence, borne, changed_at, cycle_in, earlier, eqb-true, false, false_from_ne_true, filter}
 use Rattle.world_law.proofs.Words.{filter-append, fold, inl, inr, is_before, is_taken_before, key, last_or, last_taken, le-ltb, length, map, members_in, nat_le}
@@ -76,11 +76,7 @@ plains_put ps b w = plains_parts ps (w ∷ map bump b) ∙ ap (λ (l : List Happ
 filter_bumped : (q : Happening → Bool) → ((h : Happening) → q (bump h) ≡ q h) → (b : List Happening) → plains (filter q (map bump b)) ≡ plains (filter q b)
 filter_bumped q same [] = refl
 filter_bumped q same (y ∷ b) =
-    ap (λ (c : Bool). plains (if c then bump y ∷ filter q (map bump b) else filter q (map bump b))) (same y)
-    ∙ elim (q y) as (λ c. plains (if c then bump y ∷ filter q (map bump b) else filter q (map bump b)) ≡ plains (if c then y ∷ filter q b else filter q b)) [
-      | true ↦ ap (λ (l : List Happening). plain y ∷ l) (filter_bumped q same b)
-      | false ↦ filter_bumped q same b
-    ]
+    grind (arith, plains, filter, map, plain, (filter_bumped q same b))
 
 pub fold_skip : {B : Type 0} (f : B → Happening → B) (u : Happening → Bool) (as_ bs : List Happening) (w : Happening) → ((b : B) → f b w ≡ b) → (z : B)
     → fold f z (filter u (as_ ++ w ∷ bs)) ≡ fold f z (filter u (as_ ++ bs))
@@ -88,11 +84,7 @@ fold_skip {B} f u [] bs w same z =
     elim (u w) as (λ c. fold f z (if c then w ∷ filter u bs else filter u bs) ≡ fold f z (filter u bs))
     [ true ↦ ap (λ (b : B). fold f b (filter u bs)) (same z) | false ↦ refl ]
 fold_skip {B} f u (a ∷ as_) bs w same z =
-    elim (u a) as (λ c. fold f z (if c then a ∷ filter u (as_ ++ w ∷ bs) else filter u (as_ ++ w ∷ bs)) ≡ fold f z (if c then a ∷ filter u (as_ ++ bs)
-    else filter u (as_ ++ bs))) [
-      | true ↦ fold_skip f u as_ bs w same (f z a)
-      | false ↦ fold_skip f u as_ bs w same z
-    ]
+    grind (arith, fold, filter, (fold_skip f u as_ bs w same (f z a)), (fold_skip f u as_ bs w same z))
 
 get_prefix : (hs xs : List Happening) (i : ℕ) → i < length hs → slice_get (hs ++ xs) i ≡ slice_get hs i
 get_prefix [] xs i lt = absurd (omega (arith, lt))
@@ -117,10 +109,7 @@ bumped_in (y ∷ b) x (inr i) = inr (bumped_in b x i)
 
 late_not : (a r t : ℕ) (xs ys : List ℕ) → a ≡ t → 4 ≤ r → is_before (a ∷ r ∷ xs) (t ∷ 3 ∷ ys) ≡ false
 late_not a r t xs ys e high =
-    ap (λ (b : Bool). b || (a == t && (nat_lt r 3 || (r == 3 && is_before xs ys)))) (le-ltb a t (omega (arith, e)))
-    ∙ and_right (a == t) (nat_lt r 3 || (r == 3 && is_before xs ys))
-    (ap (λ (b : Bool). b || (r == 3 && is_before xs ys)) (le-ltb r 3 (omega (arith, high)))
-    ∙ ap (λ (b : Bool). b && is_before xs ys) (false_from_ne_true (r == 3) (λ f. let same = eqb-true r 3 f in absurd (omega (arith, same, high)))))
+    grind (arith, nat_lt, is_before, le-ltb, and_right, false_from_ne_true, eqb-true)
 
 -- ---- so the records agree
 
@@ -197,23 +186,11 @@ judged_put t ps b w put device link cause frame point =
 
 earlier_put : (t : ℕ) (ps b : List Happening) (w : Happening) → IsPut t ps b w → earlier t (ps ++ b) ≡ earlier t (ps ++ w ∷ map bump b)
 earlier_put t ps b w put =
-    earlier_still t ps b put.of_time
-    ∙ sym (earlier_still t ps (w ∷ map bump b) (λ y i. elim i [
-      | inl e ↦ let same : time_of y ≡ time_of w = ap time_of e in omega (arith, same, put.at)
-      | inr more ↦ let it =
-          in_bumped b y more in let same : time_of y ≡ time_of it.0 = ap time_of it.2 in let le = put.of_time it.0 it.1 in omega (arith, same, le)
-    ]))
+    grind (arith, earlier_still, map, time_of, in_bumped)
 
 pub alike_put : (s : Scenario) (t known : ℕ) (ps b : List Happening) (w : Happening) → IsPut t ps b w → known ≤ length ps
     → AreAlike s t known (ps ++ b) (ps ++ w ∷ map bump b)
-alike_put s t known ps b w put le = record {
-  given = λ n few. numbered_prefix ps b n (omega (arith, few, le)) ∙ sym (numbered_prefix ps (w ∷ map bump b) n (omega (arith, few, le)));
-  before = earlier_put t ps b w put;
-  taken = λ device link cause vl. taken_put ps b w put.idle device t link cause vl;
-  judged = λ device link cause frame point. judged_put t ps b w put device link cause frame point;
-  adjusted = λ device. adjusted_put s ps b w put.idle device t;
-  stated = λ device. stated_put s ps b w put.idle device t;
-}
+alike_put s t known ps b w put le = grind (arith, numbered_prefix, map, earlier_put, taken_put, judged_put, adjusted_put, stated_put)
 
 -- ---- and each device stands as before
 

@@ -1,4 +1,5 @@
 -- The cursor goes by a source of the present instant.
+use Rattle.std.proofs.Common.{arith}
 use Rattle.world_law.proofs.Words.{◌++◌, ◌∙◌, ◌∷◌, ◌≡◌, ◌⊎◌, AllBefore, AreAtPorts, AreOnWires, AreSettled, AreWaiting, AtPort, DeviceId, Happening}
 use Rattle.world_law.proofs.Words.{HasTurnedOn, IsBefore, IsDue, IsForward, IsHeld, IsIn, IsKept, IsOwnSource, IsSource, List, Network, NoSourceBefore, Node}
 use Rattle.world_law.proofs.Words.{NoneBefore, OnWire, Pcf, Scenario, Waiting, [], act_place, amount, ap, append-nil, before_behind, before_later}
@@ -229,16 +230,7 @@ kept_moves stands s hs coming mark cursor now r more device machine m other k = 
 pub out_moves : {M : Type 0} (stands : M → Network → DeviceId → Node → Type 0) (s : Scenario) (hs coming : List Happening) (cursor then_ : List ℕ) (now : ℕ)
     (device : DeviceId) (machine : M) → ((p : List ℕ) → IsBefore p cursor → IsBefore p then_)
     → IsOut stands s hs coming cursor now device machine → IsOut stands s hs coming then_ now device machine
-out_moves stands s hs coming cursor then_ now device machine over k = record {
-  node = k.node;
-  is = k.is;
-  broken = k.broken;
-  shows = k.shows;
-  state = k.state;
-  adjustment = k.adjustment;
-  ready = k.ready;
-  phase = λ at p b. over p (k.phase at p b);
-}
+out_moves stands s hs coming cursor then_ now device machine over k = grind arith
 
 pub held_moves : {M : Type 0} (stands : M → Network → DeviceId → Node → Type 0) (s : Scenario) (hs coming : List Happening) (mark cursor : List ℕ) (now r : ℕ)
     (more : List ℕ) (device : DeviceId) (machine : M) → IsMoving s hs coming mark cursor now r more

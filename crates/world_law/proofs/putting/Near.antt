@@ -1,8 +1,8 @@
 -- What is due by one of two lists of records that tell the same up to a source is due by the other.
-use Rattle.world_law.proofs.Words.{if◌then◌else◌, ◌++◌, ◌+ℤ◌, ◌+◌, ◌-◌, ◌<◌, ◌==◌, ◌∙◌, ◌∷◌, ◌≡◌, ◌≤◌, ◌⊎◌, AreClusters, Arrival, ArrivesAs, BecomesPermanent}
+use Rattle.world_law.proofs.Words.{if◌then◌else◌, ◌++◌, ◌+ℤ◌, ◌+◌, ◌-◌, ◌<◌, ◌==◌, ◌∙◌, ◌∷◌, ◌≡◌, ◌≤◌, ◌⊎◌, Arrival, ArrivesAs, BecomesPermanent}
 use Rattle.world_law.proofs.Words.{Bool, ChangesState, ComesToCorrection, Compressed, Departs, Departure, DeviceId, Dispatches, Emits, Happening, Integrating}
 use Rattle.world_law.proofs.Words.{IsActing, IsBefore, IsCaused, IsDropped, IsDue, IsForward, IsFounded, IsIn, IsLost, IsOfThisTime, IsOwnSource, IsSendLost}
-use Rattle.world_law.proofs.Words.{IsSource, Joining, Judgement, LinkId, List, Network, None, Note, NoteBody, Option, Pcf, Point, Reason, Ripe, Scenario}
+use Rattle.world_law.proofs.Words.{IsSource, Joining, Judgement, LinkId, List, Network, None, Note, NoteBody, Option, Pcf, Reason, Ripe, Scenario}
 use Rattle.world_law.proofs.Words.{Signal, Some, Standing, State, Units, Verdict, VlId, Why, [], adjustment_after, adjustment_at_hearing, amount, ap, arith}
 use Rattle.world_law.proofs.Words.{arrival_of, bears_on, before_permanence, by_number, cases_lt, cases_order, cause_of, chain, control, control_arrival}
 use Rattle.world_law.proofs.Words.{earlier, eq-eqb, false, filter, frame_by, heard_as, heard_since, in_filter, inl, inr, is_accepted, is_at_source}
@@ -82,14 +82,7 @@ pub record AreNear (s : Scenario) (t n : ℕ) (at : List ℕ) (put : NoteBody) (
   pub hearing : (device : DeviceId) → bears_on device put ≡ false → HearsAlike s js gs device t
 
 pub near_back : (s : Scenario) (t n : ℕ) (at : List ℕ) (put : NoteBody) (js gs : List Happening) → AreNear s t n at put js gs → AreNear s t n at put gs js
-near_back s t n at put js gs a = record {
-  first = λ i le. sym (a.first i le);
-  before = sym a.before;
-  taken = λ device link cause vl le. sym (a.taken device link cause vl le);
-  judged = λ device link cause frame point le. sym (a.judged device link cause frame point le);
-  hearing = λ device none.
-      let h = a.hearing device none in record { heard = sym h.heard; points = sym h.points; state = sym h.state; adjustment = sym h.adjustment };
-}
+near_back s t n at put js gs a = grind arith
 
 -- ---- each kind
 
@@ -108,35 +101,11 @@ comes_near s js gs t device cycle verdict before h d =
 
 emits_near : (s : Scenario) (js gs : List Happening) (t : ℕ) (device : DeviceId) (sent : Compressed) (verdict : Judgement) → HearsAlike s js gs device t
     → Emits s js device t sent verdict → Emits s gs device t sent verdict
-emits_near s js gs t device sent verdict h e = record {
-  cm = e.cm;
-  correct = e.correct;
-  clusters = e.clusters;
-  are = subst (λ (l : List Point). AreClusters (observation_window s.network) l e.clusters) h.points e.are;
-  cluster = e.cluster;
-  there = e.there;
-  is = e.is;
-  reached = e.reached;
-  heard =
-      e.heard
-      ∙ ap (λ (x : State). heard_as (plan_of s.network device) (observation_window s.network) x (adjustment_at_hearing s js device t).0 sent.at.0 sent.cycle
-      sent.members) h.state
-      ∙ ap (λ (u : Units). heard_as (plan_of s.network device) (observation_window s.network) (state_at_hearing s gs device t) u.0 sent.at.0 sent.cycle
-      sent.members) h.adjustment;
-}
+emits_near s js gs t device sent verdict h e = grind (arith, observation_window, heard_as, plan_of, adjustment_at_hearing, state_at_hearing)
 
 departs_near : (s : Scenario) (js gs : List Happening) (t : ℕ) (device : DeviceId) (link : LinkId) (cause : ℕ) (is : Departure)
     → numbered js cause ≡ numbered gs cause → Departs s js device t link cause is → Departs s gs device t link cause is
-departs_near s js gs t device link cause is same d = record {
-  giving = d.giving;
-  there = sym same ∙ d.there;
-  gives = d.gives;
-  frame = d.frame;
-  of_frame = d.of_frame;
-  held = d.held;
-  correct = d.correct;
-  becomes = d.becomes;
-}
+departs_near s js gs t device link cause is same d = grind arith
 
 arrival_near : (s : Scenario) (js gs : List Happening) (t : ℕ) (device : DeviceId) (link : LinkId) (cause : ℕ) (signal : Signal)
     → earlier t js ≡ earlier t gs → ((vl : VlId) → last_taken js device t link cause vl ≡ last_taken gs device t link cause vl)
@@ -173,17 +142,7 @@ ripens_near s t n at put js gs device link cause point is a le r under = (
 
 send_near : (s : Scenario) (js gs : List Happening) (t : ℕ) (device : DeviceId) (link : LinkId) (cause : ℕ) → numbered js cause ≡ numbered gs cause
     → IsSendLost s js device t link cause → IsSendLost s gs device t link cause
-send_near s js gs t device link cause same l = record {
-  event = l.event;
-  is = record { there = sym same ∙ l.is.there; same_time = l.is.same_time };
-  line = l.line;
-  octets = l.octets;
-  sends = l.sends;
-  way = l.way;
-  there = l.there;
-  by = l.by;
-  cut = l.cut;
-}
+send_near s js gs t device link cause same l = grind arith
 
 lost_near : (s : Scenario) (js gs : List Happening) (t : ℕ) (device : DeviceId) (link : LinkId) (cause : ℕ) → earlier t js ≡ earlier t gs
     → numbered js cause ≡ numbered gs cause → IsLost s js device t link cause → IsLost s gs device t link cause
@@ -204,16 +163,9 @@ dropped_near s t n m at put js gs device link cause reason p a le (inl o) under 
 dropped_near s t n m at put js gs device link cause reason p a le (inr (inl o)) under c =
     inr (inl (o.0, (ripens_near s t n at put js gs device link cause o.0 _ a le o.1 (subst (λ (q : List ℕ). IsBefore at q → ⊥) o.2 under)).0))
 dropped_near s t n m at put js gs device link cause reason p a le (inr (inr o)) under (inl c) =
-    inl (arrives_near s t n at put js gs device link cause _ a le
-    (lower_rank at t 2 8 (device.0 ∷ link.0 ∷ cause ∷ []) (device.0 ∷ link.0 ∷ cause ∷ []) (omega arith) (subst (λ (q : List ℕ). IsBefore at q → ⊥) o.0 under))
-    c)
+    grind (arith, arrives_near, lower_rank)
 dropped_near s t n m at put js gs device link cause reason p a le (inr (inr o)) under (inr (inl c)) =
-    inr (inl (
-      c.0,
-      (ripens_near s t n at put js gs device link cause c.0 _ a le c.1
-          (lower_rank at t 3 8 (device.0 ∷ amount c.0 ∷ c.1.frame.members.0 ∷ link.0 ∷ cause ∷ []) (device.0 ∷ link.0 ∷ cause ∷ []) (omega arith)
-          (subst (λ (q : List ℕ). IsBefore at q → ⊥) o.0 under))).0,
-    ))
+    grind (arith, ripens_near, lower_rank, amount)
 dropped_near s t n m at put js gs device link cause reason p a le (inr (inr o)) under (inr (inr c)) =
     inr (inr (departs_near s js gs t device link cause _ (a.first cause le) c.0, c.1))
 
@@ -230,26 +182,15 @@ caused_near s n m at put js gs time (notes.Left device link cause clock) p a the
 caused_near s n m at put js gs time (notes.Clock device reading adjustment state) p a there follows free le o under c = absurd cc
 caused_near s n m at put js gs time (notes.Compressed device opened on cycle members verdict) p a there follows free le o under c =
     emits_near s js gs (amount time) device _ verdict (a.hearing device (free device (eq-eqb device.0 device.0 refl))) c
-caused_near s n m at put js gs time (notes.Sent device cycle) p a there follows free le o under c = record {
-  master = c.master;
-  up = up_back s js gs (amount time) device a.before c.up;
-  begun = c.begun;
-  reached = reaches_back s js gs (amount time) device _ a.before c.reached;
-}
+caused_near s n m at put js gs time (notes.Sent device cycle) p a there follows free le o under c = grind (arith, up_back, amount, reaches_back)
 caused_near s n m at put js gs time (notes.Corrected device cycle by adjustment) p a there follows free le o under c = record {
   corrected = comes_near s js gs (amount time) device cycle _ a.before (a.hearing device (free device (eq-eqb device.0 device.0 refl))) c.corrected;
   sum = subst (λ (w : List Happening). adjustment.0 ≡ ((adjustment_after s w device).0 +ℤ by.0)) a.before c.sum;
 }
-caused_near s n m at put js gs time (notes.State device state cause whys.SyncClique) p a there follows free le o under c = (
-  c.0,
-  c.1,
-  (c.2.0, comes_near s js gs (amount time) device c.2.0 _ a.before (a.hearing device (free device (eq-eqb device.0 device.0 refl))) c.2.1),
-)
-caused_near s n m at put js gs time (notes.State device state cause whys.AsyncClique) p a there follows free le o under c = (
-  c.0,
-  c.1,
-  (c.2.0, comes_near s js gs (amount time) device c.2.0 _ a.before (a.hearing device (free device (eq-eqb device.0 device.0 refl))) c.2.1),
-)
+caused_near s n m at put js gs time (notes.State device state cause whys.SyncClique) p a there follows free le o under c =
+    grind (arith, comes_near, amount, eq-eqb)
+caused_near s n m at put js gs time (notes.State device state cause whys.AsyncClique) p a there follows free le o under c =
+    grind (arith, comes_near, amount, eq-eqb)
 caused_near s n m at put js gs time (notes.State device state cause whys.On) p a there follows free le o under c = absurd cc
 caused_near s n m at put js gs time (notes.State device state cause whys.Frame) p a there follows free le o under c = absurd cc
 caused_near s n m at put js gs time (notes.State device state cause whys.Correction) p a there follows free le o under c = absurd cc
@@ -621,35 +562,19 @@ own_down s n m at put js gs time body p a i = elim (follower_or_not body) [
 -- the cause is one of the first n, or it is a change of state, which has no frame
 frame_up : (network : Network) (n : ℕ) (js gs : List Happening) (body : NoteBody) → ((i : ℕ) → i ≤ n → numbered js i ≡ numbered gs i)
     → (is_follower body ≡ false → cause_of body ≤ n) → frame_by network js body ≡ frame_by network gs (raised n body)
-frame_up network n js gs body first few = elim (follower_or_not body) [
-  | inr plain ↦
-      frame_alike network n js gs body first (few plain) ∙ ap (frame_by network gs) (sym (raised_low n body (few plain)))
-  | inl f ↦ ap (frame_by network js) f.is ∙ sym (ap (λ (b : NoteBody). frame_by network gs (raised n b)) f.is)
-]
+frame_up network n js gs body first few = grind (arith, follower_or_not, frame_alike, frame_by, raised_low, raised)
 
 octets_up : (network : Network) (n : ℕ) (js gs : List Happening) (body : NoteBody) → ((i : ℕ) → i ≤ n → numbered js i ≡ numbered gs i)
     → (is_follower body ≡ false → cause_of body ≤ n) → octets_by network js body ≡ octets_by network gs (raised n body)
-octets_up network n js gs body first few = elim (follower_or_not body) [
-  | inr plain ↦
-      octets_alike network n js gs body first (few plain) ∙ ap (octets_by network gs) (sym (raised_low n body (few plain)))
-  | inl f ↦ ap (octets_by network js) f.is ∙ sym (ap (λ (b : NoteBody). octets_by network gs (raised n b)) f.is)
-]
+octets_up network n js gs body first few = grind (arith, follower_or_not, octets_alike, raised_low, raised)
 
 frame_down : (network : Network) (n : ℕ) (js gs : List Happening) (body : NoteBody) → ((i : ℕ) → i ≤ n → numbered js i ≡ numbered gs i)
     → (is_follower body ≡ false → cause_of body ≤ n) → frame_by network gs body ≡ frame_by network js (lowered n body)
-frame_down network n js gs body first few = elim (follower_or_not body) [
-  | inr plain ↦
-      frame_alike network n gs js body (λ i le. sym (first i le)) (few plain) ∙ ap (frame_by network js) (sym (lowered_low n body (few plain)))
-  | inl f ↦ ap (frame_by network gs) f.is ∙ sym (ap (λ (b : NoteBody). frame_by network js (lowered n b)) f.is)
-]
+frame_down network n js gs body first few = grind (arith, follower_or_not, frame_alike, frame_by, lowered_low, lowered)
 
 octets_down : (network : Network) (n : ℕ) (js gs : List Happening) (body : NoteBody) → ((i : ℕ) → i ≤ n → numbered js i ≡ numbered gs i)
     → (is_follower body ≡ false → cause_of body ≤ n) → octets_by network gs body ≡ octets_by network js (lowered n body)
-octets_down network n js gs body first few = elim (follower_or_not body) [
-  | inr plain ↦
-      octets_alike network n gs js body (λ i le. sym (first i le)) (few plain) ∙ ap (octets_by network js) (sym (lowered_low n body (few plain)))
-  | inl f ↦ ap (octets_by network gs) f.is ∙ sym (ap (λ (b : NoteBody). octets_by network js (lowered n b)) f.is)
-]
+octets_down network n js gs body first few = grind (arith, follower_or_not, octets_alike, lowered_low, lowered)
 
 abbrev made : Note → Option Pcf → List ℕ → Happening
 made note frame octets = record { note = note; frame = frame; octets = octets }

@@ -110,11 +110,7 @@ put_at hs front w back = placed (before_it hs front) front w back
 low_place : (s : Scenario) (hs front f rest : List Happening) (z : Happening) → front ≡ f ++ rest → IsDue s (hs ++ f) z
     → place_of (bump_behind (before_it hs front) z) ≡ place_of z
 low_place s hs front f rest z e due =
-    let a = length-append hs front in
-    let b = length-append hs f in
-    let c : length front ≡ length (f ++ rest) = ap length e in
-    let d = length-append f rest in
-    ap (λ (b : NoteBody). time_of z ∷ rank b ∷ key (members_in z) b) (due_low s (hs ++ f) (before_it hs front) z due (omega (arith, a, b, c, d)))
+    grind (arith, length-append, length, time_of, rank, key, members_in, due_low)
 
 front_place : (s : Scenario) (hs front back : List Happening) (mark : List ℕ) (now r : ℕ) (more : List ℕ) (Yet : Happening → Type 0)
     → IsWell s hs (front ++ back) mark now r more Yet → (z : Happening) → IsIn z front → place_of (bump_behind (before_it hs front) z) ≡ place_of z
@@ -173,11 +169,7 @@ few_at : (s : Scenario) (hs front zs : List Happening) (now r : ℕ) (more : Lis
     → (IsBefore (now ∷ r ∷ more) q → ⊥) → IsOwnSource s (hs ++ zs) (time_of y) (members_in y) y.note.body q → IsDue s (hs ++ zs) y
     → is_follower y.note.body ≡ false → cause_of y.note.body ≤ before_it hs front
 few_at s hs front zs now r more y q forward late given from now_is not_there under own due plain =
-    let few = known_near s hs zs y.note.time (members_in y) r more y.note.body q forward given
-    (subst (λ (t : ℕ). AreFrom t r zs) (sym now_is) from) late not_there plain own
-    (subst (λ (t : ℕ). IsBefore (t ∷ r ∷ more) q → ⊥) (sym now_is) under) due.cause in
-    let long = length-append hs front in
-    omega (arith, few, long)
+    grind (arith, known_near, members_in, length-append)
 
 all_from : (s : Scenario) (hs coming : List Happening) (mark : List ℕ) (now r : ℕ) (more : List ℕ) (Yet : Happening → Type 0)
     → IsWell s hs coming mark now r more Yet → AreFrom now r coming
@@ -341,15 +333,7 @@ pub record IsCarried (s : Scenario) (hs front back : List Happening) (now : ℕ)
       → cause_of y.note.body ≡ before_it hs front + 1 → IsFound (put_at hs front w back) y ⊎ Then y
 
 follows_it : (body : NoteBody) (k : ℕ) → ((rank body ≡ 7) × (cause_of body ≡ k)) ⊎ (rank body ≡ 7 → cause_of body ≡ k → ⊥)
-follows_it body k = elim (cases_order (rank body) 7) [
-  | inl seven_it ↦ elim (cases_order (cause_of body) k) [
-    | inl e ↦ inl (seven_it, e)
-    | inr (inl lt) ↦ inr (λ x e. omega (arith, lt, e))
-    | inr (inr gt) ↦ inr (λ x e. omega (arith, gt, e))
-  ]
-  | inr (inl lt) ↦ inr (λ x e. omega (arith, lt, x))
-  | inr (inr gt) ↦ inr (λ x e. omega (arith, gt, x))
-]
+follows_it body k = grind (arith, cases_order, rank, cause_of)
 
 full_at : (s : Scenario) (hs front back : List Happening) (mark : List ℕ) (now r : ℕ) (more : List ℕ) (w : Happening) (Yet Then : Happening → Type 0)
     → IsWell s hs (front ++ back) mark now r more Yet → IsPlacing s hs front back mark now r more w → IsCarried s hs front back now w Yet Then
@@ -456,11 +440,7 @@ of_the_instant : (s : Scenario) (js : List Happening) (mark : List ℕ) (now r :
     → ((p : List ℕ) → IsBefore p (now ∷ []) → IsBefore p mark) → IsOwnSource s js (time_of y) (members_in y) y.note.body q
     → IsBefore q (now ∷ r ∷ more) → (IsBefore (place_of y) mark → ⊥) → time_of y ≡ now
 of_the_instant s js mark now r more y q marked own under not =
-    let at = own_time s js (time_of y) (members_in y) y.note.body q own in
-    elim (no_higher (time_of y) at.0 now r at.1 more (inr (subst (λ (u : List ℕ). IsBefore u (now ∷ r ∷ more)) at.2 under))) [
-      | inl lt ↦ absurd (not (marked (place_of y) (inl lt)))
-      | inr same ↦ same.0
-    ]
+    grind (arith, own_time, time_of, members_in, no_higher, place_of)
 
 -- the cursor is at the source: a device that acts there has more to do
 pub settled_at : (s : Scenario) (hs coming : List Happening) (mark : List ℕ) (now r : ℕ) (more : List ℕ) (device : DeviceId)

@@ -22,11 +22,7 @@ higher t k r ks rs lt (inr (e, inr b)) = let f = b.0 in omega (arith, lt, f)
 
 same_end : (t k d e : ℕ) (more q : List ℕ) → q ≡ t ∷ k ∷ d ∷ [] → IsBefore (t ∷ k ∷ d ∷ more) q → ⊥
 same_end t k d e more q o b =
-    elim (subst (λ (p : List ℕ). IsBefore (t ∷ k ∷ d ∷ more) p) o b) [
-      | inl x ↦ omega (arith, x)
-      | inr (a, inl x) ↦ omega (arith, x)
-      | inr (a, inr x) ↦ before_end d more x.1
-    ]
+    grind (arith, before_end)
 
 above : (t k r : ℕ) (ks rs q : List ℕ) → r < k → q ≡ t ∷ r ∷ rs → IsBefore (t ∷ k ∷ ks) q → ⊥
 above t k r ks rs q lt o b = higher t k r ks rs lt (subst (λ (p : List ℕ). IsBefore (t ∷ k ∷ ks) p) o b)
@@ -36,11 +32,7 @@ same_place p q o b = never_self p (subst (λ (u : List ℕ). IsBefore p u) o b)
 
 none_below : (t k : ℕ) (ks q : List ℕ) → q ≡ t ∷ k ∷ [] → IsBefore (t ∷ k ∷ ks) q → ⊥
 none_below t k ks q o b =
-    elim (subst (λ (p : List ℕ). IsBefore (t ∷ k ∷ ks) p) o b) [
-      | inl x ↦ omega (arith, x)
-      | inr (a, inl x) ↦ omega (arith, x)
-      | inr (a, inr x) ↦ x.1
-    ]
+    grind arith
 
 -- the premise `least` of `IsOne`, for all kinds
 pub least_of_own : (s : Scenario) (js : List Happening) (t m : ℕ) (body : NoteBody) (q : List ℕ) → IsOwnSource s js t m body q

@@ -192,10 +192,4 @@ late_source s js time m (notes.Dropped device link cause reason) w high c (inr (
     at_place s js w _ o.0
     (IsSource.departing (amount time) device link cause (record { giving = o.1.giving; there = o.1.there; gives = o.1.gives; held = o.1.held }))
 late_source s js time m (notes.Clock device reading adjustment state) w high c o = at_place s js w _ o (IsSource.ending time device c.is c.there c.ends)
-late_source s js time m (notes.Event line what) w high c o = absurd (omega (arith, high))
-late_source s js time m (notes.Arrived device link cause clock) w high c o = absurd (omega (arith, high))
-late_source s js time m (notes.Permanent device link cause point verdict) w high c o = absurd (omega (arith, high))
-late_source s js time m (notes.Compressed device opened at cycle of_masters verdict) w high c o = absurd (omega (arith, high))
-late_source s js time m (notes.Sent device cycle) w high c o = absurd (omega (arith, high))
-late_source s js time m (notes.Corrected device cycle by adjustment) w high c o = absurd (omega (arith, high))
-late_source s js time m (notes.State device state cause why) w high c o = absurd (omega (arith, high))
+late_source s js time m other w high c o = absurd (omega (arith, high))

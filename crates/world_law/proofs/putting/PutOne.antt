@@ -19,31 +19,13 @@ use Rattle.run_law.specs.declared.note.NoteBody.TheVariants as notes
 -- ---- what a record of this source tells
 
 order_not : (link by cause from : ℕ) → (IsBefore (by ∷ from ∷ []) (link ∷ cause ∷ []) → ⊥) → (nat_lt by link || (by == link && nat_lt from cause)) ≡ false
-order_not link by cause from not = elim (cases_order by link) [
-  | inr (inl lt) ↦ absurd (not (inl lt))
-  | inr (inr gt) ↦
-      ap (λ (b : Bool). b || (by == link && nat_lt from cause)) (le-ltb by link (omega (arith, gt)))
-      ∙ ap (λ (b : Bool). b && nat_lt from cause) (unequal by link (λ e. omega (arith, e, gt)))
-  | inl e ↦
-      ap (λ (b : Bool). b || (by == link && nat_lt from cause)) (le-ltb by link (omega (arith, e)))
-      ∙ and_right (by == link) (nat_lt from cause) (elim (cases_lt from cause)
-      [ inl lt ↦ absurd (not (inr (e, inl lt))) | inr le ↦ le-ltb from cause le ])
-]
+order_not link by cause from not = grind (arith, cases_order, nat_lt, le-ltb, unequal, and_right, cases_lt)
 
 none_before : (now : ℕ) (device other : DeviceId) (vl of_vl : VlId) (link by : LinkId) (cause from : ℕ)
     → (IsBefore (now ∷ 2 ∷ other.0 ∷ by.0 ∷ from ∷ []) (now ∷ 2 ∷ device.0 ∷ link.0 ∷ cause ∷ []) → ⊥)
     → (device.0 == other.0 && vl.0 == of_vl.0 && (nat_lt now now || (now == now && comes_before by from link cause))) ≡ false
 none_before now device other vl of_vl link by cause from not =
-    let x = nat_lt now now || (now == now && comes_before by from link cause) in
-    elim (cases_Bool (device.0 == other.0)) [
-      | inr none ↦ and_left (device.0 == other.0 && vl.0 == of_vl.0) x (and_left (device.0 == other.0) (vl.0 == of_vl.0) none)
-      | inl same ↦
-          let e = eqb-true device.0 other.0 same in
-          and_right (device.0 == other.0 && vl.0 == of_vl.0) x
-          (ap (λ (b : Bool). b || (now == now && comes_before by from link cause)) (le-ltb now now (omega arith))
-          ∙ and_right (now == now) (comes_before by from link cause)
-          (order_not link.0 by.0 cause from (λ b. not (inr (refl, inr (refl, inr (sym e, b)))))))
-    ]
+    grind (arith, nat_lt, cases_Bool, and_left, eqb-true, and_right, le-ltb, order_not)
 
 -- no arrival up to its source comes after it
 takes_not : (s : Scenario) (js : List Happening) (now m : ℕ) (body : NoteBody) (at : List ℕ) → IsOwnSource s js now m body at
@@ -61,21 +43,13 @@ apart_of : (s : Scenario) (js : List Happening) (now m r : ℕ) (more : List ℕ
 apart_of s js now m r more (notes.Permanent other link cause point verdict) o longer device b = absurd
     (let three : r ≡ 3 = cc in elim b [ inl lt ↦ omega (arith, lt) | inr (e, inl lt) ↦ omega (arith, lt, three) | inr (e, inr f) ↦ omega (arith, f.0, three) ])
 apart_of s js now m r more (notes.Compressed other opened at cycle members verdict) o longer device b =
-    false_from_ne_true (device.0 == other.0)
-    (λ e. absurd (never_self (act_place now device) (subst (λ (q : List ℕ). IsBefore (act_place now device) q)
-    (o ∙ ap (λ (i : ℕ). now ∷ 4 ∷ i ∷ []) (sym (eqb-true device.0 other.0 e))) b)))
+    grind (arith, false_from_ne_true, never_self, act_place, eqb-true)
 apart_of s js now m r more (notes.Corrected other cycle by adjustment) o longer device b =
-    false_from_ne_true (device.0 == other.0)
-    (λ e. absurd (never_self (act_place now device) (subst (λ (q : List ℕ). IsBefore (act_place now device) q)
-    (o ∙ ap (λ (i : ℕ). now ∷ 4 ∷ i ∷ []) (sym (eqb-true device.0 other.0 e))) b)))
+    grind (arith, false_from_ne_true, never_self, act_place, eqb-true)
 apart_of s js now m r more (notes.State other state cause whys.SyncClique) o longer device b =
-    false_from_ne_true (device.0 == other.0)
-    (λ e. absurd (never_self (act_place now device) (subst (λ (q : List ℕ). IsBefore (act_place now device) q)
-    (o ∙ ap (λ (i : ℕ). now ∷ 4 ∷ i ∷ []) (sym (eqb-true device.0 other.0 e))) b)))
+    grind (arith, false_from_ne_true, never_self, act_place, eqb-true)
 apart_of s js now m r more (notes.State other state cause whys.AsyncClique) o longer device b =
-    false_from_ne_true (device.0 == other.0)
-    (λ e. absurd (never_self (act_place now device) (subst (λ (q : List ℕ). IsBefore (act_place now device) q)
-    (o ∙ ap (λ (i : ℕ). now ∷ 4 ∷ i ∷ []) (sym (eqb-true device.0 other.0 e))) b)))
+    grind (arith, false_from_ne_true, never_self, act_place, eqb-true)
 apart_of s js now m r more (notes.State other state cause whys.On) o longer device b = absurd (longer (sym o))
 apart_of s js now m r more (notes.State other state cause whys.Frame) o longer device b = absurd (longer (sym o))
 apart_of s js now m r more (notes.State other state cause whys.Correction) o longer device b = absurd (longer (sym o))
@@ -104,21 +78,12 @@ last_joins (notes.Compressed other opened at cycle members judgements.Integrates
 last_joins other e device = refl
 
 pub last_unfollowed : (s : Scenario) (hs : List Happening) (now : ℕ) (body : NoteBody) → is_last body ≡ true → IsUnfollowed s hs now body
-last_unfollowed s hs now body e = record {
-  no_event = λ line what is. let bad : false ≡ true = ap is_last (sym is) ∙ e in cc;
-  no_join = last_joins body e;
-  no_first = λ device cycle by adjustment is state. let bad : false ≡ true = ap is_last (sym is) ∙ e in cc;
-}
+last_unfollowed s hs now body e = grind (arith, last_joins)
 
 -- nor does one follow the correction of a device that had the common time
 pub corrected_unfollowed : (s : Scenario) (hs : List Happening) (now : ℕ) (device : DeviceId) (cycle : ℕ) (by adjustment : Units)
     → (state_before s hs device now ≡ Joining → ⊥) → IsUnfollowed s hs now (notes.Corrected device cycle by adjustment)
-corrected_unfollowed s hs now device cycle by adjustment not = record {
-  no_event = λ line what is. absurd cc;
-  no_join = λ other. refl;
-  no_first = λ other of_cycle more after is state.
-      let same : device ≡ other = cc in not (subst (λ (d : DeviceId). state_before s hs d now ≡ Joining) (sym same) state);
-}
+corrected_unfollowed s hs now device cycle by adjustment not = grind (arith, state_before)
 
 -- a change of state that follows the record of this number is of the device of that record
 pub record Follows (s : Scenario) (js : List Happening) (now : ℕ) (w : Happening) (device : DeviceId) : Type 0 where

@@ -39,10 +39,7 @@ hide_before given d c e k le (inr (same, inr b)) = absurd b.1
 
 hide_back : (given d c e k : ℕ) → k ≤ given → given < none_yet → IsBefore (d ∷ hide given c ∷ []) (e ∷ k ∷ []) → IsBefore (d ∷ c ∷ []) (e ∷ k ∷ [])
 hide_back given d c e k le room (inl lt) = inl lt
-hide_back given d c e k le room (inr (same, inl lt)) = elim (cases_lt given c) [
-  | inr low ↦ let x = hide_low given c low in inr (same, inl (omega (arith, x, lt)))
-  | inl high ↦ let x = hide_high given c high in absurd (omega (arith, x, lt, le, room))
-]
+hide_back given d c e k le room (inr (same, inl lt)) = grind (arith, cases_lt, hide_low, hide_high)
 hide_back given d c e k le room (inr (same, inr b)) = absurd b.1
 
 -- the key of a change of state
@@ -54,53 +51,23 @@ state_key_hidden given m body it = ap (λ (b : NoteBody). key m (hidden_body giv
 
 keys_hidden : (given m k : ℕ) (body other : NoteBody) → rank body ≡ rank other → cause_of other ≤ given → IsBefore (key m body) (key k other)
     → IsBefore (key m (hidden_body given body)) (key k other)
-keys_hidden given m k body other e le b = elim (seven body) [
-  | inr none ↦ subst (λ (x : NoteBody). IsBefore (key m x) (key k other)) (sym (hidden_same given body none)) b
-  | inl one ↦ elim (seven other) [
-    | inr none ↦ absurd (none (sym e ∙ ap rank one.is))
-    | inl two ↦
-        let few : two.cause ≤ given = subst (λ (n : ℕ). n ≤ given) (ap cause_of two.is) le in
-        subst (λ (q : List ℕ). IsBefore q (key k other)) (sym (state_key_hidden given m body one))
-        (subst (λ (q : List ℕ). IsBefore (one.device.0 ∷ hide given one.cause ∷ []) q) (sym (state_key k other two))
-        (hide_before given one.device.0 one.cause two.device.0 two.cause few
-        (subst (λ (q : List ℕ). IsBefore q (two.device.0 ∷ two.cause ∷ [])) (state_key m body one)
-        (subst (λ (q : List ℕ). IsBefore (key m body) q) (state_key k other two) b))))
-  ]
-]
+keys_hidden given m k body other e le b = grind (arith, seven, key, hidden_same, rank, cause_of, state_key_hidden, state_key, hide_before)
 
 keys_shown : (given m k : ℕ) (body other : NoteBody) → rank body ≡ rank other → cause_of other ≤ given → given < none_yet
     → IsBefore (key m (hidden_body given body)) (key k other) → IsBefore (key m body) (key k other)
-keys_shown given m k body other e le room b = elim (seven body) [
-  | inr none ↦ subst (λ (x : NoteBody). IsBefore (key m x) (key k other)) (hidden_same given body none) b
-  | inl one ↦ elim (seven other) [
-    | inr none ↦ absurd (none (sym e ∙ ap rank one.is))
-    | inl two ↦
-        let few : two.cause ≤ given = subst (λ (n : ℕ). n ≤ given) (ap cause_of two.is) le in
-        subst (λ (q : List ℕ). IsBefore q (key k other)) (sym (state_key m body one))
-        (subst (λ (q : List ℕ). IsBefore (one.device.0 ∷ one.cause ∷ []) q) (sym (state_key k other two))
-        (hide_back given one.device.0 one.cause two.device.0 two.cause few room
-        (subst (λ (q : List ℕ). IsBefore q (two.device.0 ∷ two.cause ∷ [])) (state_key_hidden given m body one)
-        (subst (λ (q : List ℕ). IsBefore (key m (hidden_body given body)) q) (state_key k other two) b))))
-  ]
-]
+keys_shown given m k body other e le room b = grind (arith, seven, key, hidden_same, rank, cause_of, state_key, hide_back, state_key_hidden, hidden_body)
 
 -- what is before a record whose cause is given is shown before it
 pub hidden_before : (given : ℕ) (z w : Happening) → cause_of w.note.body ≤ given → IsBefore (place_of z) (place_of w)
     → IsBefore (place_of (hidden given z)) (place_of w)
 hidden_before given z w le b =
-    subst (λ (r : ℕ). IsBefore (time_of z ∷ r ∷ key (members_in z) (hidden_body given z.note.body)) (place_of w)) (sym (hidden_rank given z.note.body))
-    (places_up (time_of z) (time_of w) (rank z.note.body) (rank w.note.body) (key (members_in z) z.note.body) (key (members_in w) w.note.body)
-    (key (members_in z) (hidden_body given z.note.body)) (key (members_in w) w.note.body)
-    (λ e. keys_hidden given (members_in z) (members_in w) z.note.body w.note.body e le) b)
+    grind (arith, time_of, key, members_in, hidden_body, place_of, hidden_rank, places_up, rank, keys_hidden)
 
 -- and what is shown before it is so
 pub shown_before : (given : ℕ) (z w : Happening) → cause_of w.note.body ≤ given → given < none_yet → IsBefore (place_of (hidden given z)) (place_of w)
     → IsBefore (place_of z) (place_of w)
 shown_before given z w le room b =
-    places_up (time_of z) (time_of w) (rank z.note.body) (rank w.note.body) (key (members_in z) (hidden_body given z.note.body))
-    (key (members_in w) w.note.body) (key (members_in z) z.note.body) (key (members_in w) w.note.body)
-    (λ e. keys_shown given (members_in z) (members_in w) z.note.body w.note.body e le room)
-    (subst (λ (r : ℕ). IsBefore (time_of z ∷ r ∷ key (members_in z) (hidden_body given z.note.body)) (place_of w)) (hidden_rank given z.note.body) b)
+    grind (arith, places_up, time_of, rank, key, members_in, hidden_body, keys_shown, place_of, hidden_rank)
 
 -- ---- one body
 
@@ -182,21 +149,12 @@ pub record IsShownPair (network : Network) (hs : List Happening) (now : ℕ) (bo
 
 front_numbers : (given n e c d : ℕ) → given ≤ n → IsBefore (e ∷ hide given c ∷ []) (d ∷ none_yet ∷ []) → IsBefore (e ∷ c ∷ []) (d ∷ (n + 1) ∷ [])
 front_numbers given n e c d le (inl lt) = inl lt
-front_numbers given n e c d le (inr (same, inl lt)) = elim (cases_lt given c) [
-  | inr low ↦ inr (same, inl (omega (arith, low, le)))
-  | inl high ↦ let x = hide_high given c high in absurd (omega (arith, x, lt))
-]
+front_numbers given n e c d le (inr (same, inl lt)) = grind (arith, cases_lt, hide_high)
 front_numbers given n e c d le (inr (same, inr b)) = absurd b.1
 
 front_keys : (given n m : ℕ) (d : DeviceId) (body : NoteBody) → given ≤ n → rank body ≡ 7 → IsBefore (key m (hidden_body given body)) (d.0 ∷ none_yet ∷ [])
     → IsBefore (key m body) (d.0 ∷ (n + 1) ∷ [])
-front_keys given n m d body le of_rank b = elim (seven body) [
-  | inr none ↦ absurd (none of_rank)
-  | inl one ↦
-      subst (λ (q : List ℕ). IsBefore q (d.0 ∷ (n + 1) ∷ [])) (sym (state_key m body one))
-      (front_numbers given n one.device.0 one.cause d.0 le
-      (subst (λ (q : List ℕ). IsBefore q (d.0 ∷ none_yet ∷ [])) (state_key_hidden given m body one) b))
-]
+front_keys given n m d body le of_rank b = grind (arith, seven, state_key, front_numbers, none_yet, state_key_hidden)
 
 back_numbers : (given n e c d : ℕ) → given < none_yet → (e ≡ d → c ≤ given) → IsBefore (e ∷ c ∷ []) (d ∷ (n + 1) ∷ [])
     → IsBefore (e ∷ hide given c ∷ []) (d ∷ none_yet ∷ [])

@@ -1,5 +1,5 @@
 -- A record and the change of state that follows it are put in.
-use Rattle.world_law.proofs.Words.{◌++◌, ◌+◌, ◌<◌, ◌==◌, ◌∙◌, ◌∷◌, ◌≡◌, ◌≤◌, ◌⊎◌, AllBefore, AreSettled, ChangesState, DeviceId, Happening, IsBefore, IsCaused}
+use Rattle.world_law.proofs.Words.{◌++◌, ◌+◌, ◌<◌, ◌==◌, ◌∙◌, ◌∷◌, ◌≡◌, ◌≤◌, ◌⊎◌, AllBefore, AreSettled, ChangesState, DeviceId, Happening, IsBefore}
 use Rattle.world_law.proofs.Words.{IsDue, IsIn, IsOwnSource, IsSource, List, NoneBefore, NoteBody, Scenario, Some, State, Why, [], act_place, amount, ap}
 use Rattle.world_law.proofs.Words.{append_assoc, arith, bears_on, before_behind, behind, cases_lt, cause_of, eqb-true, false, false_from_ne_true, in_left}
 use Rattle.world_law.proofs.Words.{in_parts, in_right, inl, inr, is_at_source, is_joined_by, is_taken_before, key, map, members_in, never_self, numbered}
@@ -24,10 +24,7 @@ joins_device device other e = absurd cc
 
 pub follows_device : (s : Scenario) (js : List Happening) (now : ℕ) (w : Happening) (device : DeviceId) → Follows s js now w device
     → device_of w.note.body ≡ Some device
-follows_device s js now w device f = elim f.of_it [
-  | inl joins ↦ joins_device device w.note.body joins
-  | inr first ↦ ap device_of first.1.3
-]
+follows_device s js now w device f = grind (arith, joins_device)
 
 -- the record of the cause of a change of state
 cause_there : (s : Scenario) (js : List Happening) (device : DeviceId) (t : ℕ) (state : State) (k : ℕ) (why : Why)
@@ -41,15 +38,7 @@ cause_there s js device t state k whys.AsyncClique c = absurd (let e = c.1 in om
 
 due_there : (s : Scenario) (js : List Happening) (k : ℕ) (y : Happening) → IsDue s js y → rank y.note.body ≡ 7 → cause_of y.note.body ≡ k + 1
     → (h : Happening) × (numbered js (suc k) ≡ Some h)
-due_there s js k y due of_rank cause = elim (seven y.note.body) [
-  | inr none ↦ absurd (none of_rank)
-  | inl it ↦
-      let c : it.cause ≡ k + 1 = ap cause_of (sym it.is) ∙ cause in
-      let next : it.cause ≡ suc k = omega (arith, c) in
-      let changes = subst (λ (b : NoteBody). IsCaused s js y.note.time b) it.is due.cause in
-      cause_there s js it.device (amount y.note.time) it.state k it.why
-      (subst (λ (n : ℕ). ChangesState s js it.device (amount y.note.time) it.state n it.why) next changes)
-]
+due_there s js k y due of_rank cause = grind (arith, seven, cause_of, cause_there, amount)
 
 -- ---- the two records
 
@@ -106,11 +95,7 @@ at_change s hs front back front2 back2 js mark cursor now r more w v y device st
 -- with the first record, all is there but what follows it
 first_carried : (s : Scenario) (hs front back : List Happening) (now : ℕ) (w : Happening)
     → IsCarried s hs front back now w (λ y. ⊥) (λ y. (rank y.note.body ≡ 7) × (cause_of y.note.body ≡ before_it hs front + 1))
-first_carried s hs front back now w = record {
-  same = λ f rest y e due now_is yet. absurd yet;
-  moved = λ c d y e due now_is other yet. absurd yet;
-  new = λ c d y e due now_is of_rank cause. inr (of_rank, cause);
-}
+first_carried s hs front back now w = grind arith
 
 -- and with the change, all
 second_carried : (s : Scenario) (hs front back front2 back2 : List Happening) (mark cursor : List ℕ) (now r : ℕ) (more : List ℕ) (w v : Happening)

@@ -4,7 +4,7 @@ use Rattle.world_law.proofs.Words.{HasTurnedOn, Integrating, IsActing, IsAtRest,
 use Rattle.world_law.proofs.Words.{IsSource, IsWorkedOff, List, Network, Node, NoneBefore, NoteBody, Scenario, State, [], act_place, adjustment_after, ap}
 use Rattle.world_law.proofs.Words.{append_assoc, arith, bears_on, before_behind, behind, cause_of, chain, changed_at, earlier, either_way, frames_taken}
 use Rattle.world_law.proofs.Words.{in_left, in_parts, in_right, inl, inr, is_at_source, is_turned_on_at, is_turning, key, length, length-append, length-map}
-use Rattle.world_law.proofs.Words.{map, members_in, moves, never_self, place_of, rank, refl, state_after, state_before, subst, suc, sym, time_of, true, up_to}
+use Rattle.world_law.proofs.Words.{map, members_in, moves, never_self, place_of, rank, refl, state_after, state_before, subst, sym, time_of, true, up_to}
 use Rattle.world_law.proofs.Words.{ℕ}
 use Rattle.world_law.proofs.{acts.Recorded.{DispatchesNone, recorded_put}, devices.Borne.moves_no_other, giving.GivenParts.{taken_on, up_to_place}}
 use Rattle.world_law.proofs.putting.Alike.{AreAlike, alike_back, caused_alike, happening_alike, own_alike}
@@ -40,10 +40,7 @@ put_list front w back = front ++ w ∷ map bump back
 all_late : (s : Scenario) (hs front back : List Happening) (mark cursor : List ℕ) (now r : ℕ) (more : List ℕ) (w : Happening)
     → IsPutting s hs front back mark cursor now r more w → (y : Happening) → IsIn y (front ++ back) → (time_of y ≡ now) × (8 ≤ rank y.note.body)
 all_late s hs front back mark cursor now r more w p y i =
-    let at = p.moving.are.of_now y i in
-    let low = at_least y now r more at (p.moving.after y i) in
-    let late = p.late in
-    (at, omega (arith, low, late))
+    grind (arith, at_least)
 
 -- and so is what is put in
 put_late : (s : Scenario) (hs front back : List Happening) (mark cursor : List ℕ) (now r : ℕ) (more : List ℕ) (w : Happening)
@@ -83,13 +80,7 @@ agree_put s hs front back c d mark cursor now r more w p e =
 
 one_longer : (hs front c : List Happening) (w : Happening) → length (hs ++ put_list front w c) ≡ length (hs ++ (front ++ c)) + 1
 one_longer hs front c w =
-    let a = length-append hs (put_list front w c) in
-    let b = length-append front (w ∷ map bump c) in
-    let m = length-map c bump in
-    let d = length-append hs (front ++ c) in
-    let e = length-append front c in
-    let f : length (w ∷ map bump c) ≡ suc (length (map bump c)) = refl in
-    omega (arith, a, b, m, d, e, f)
+    grind (arith, length-append, map, bump, length-map, length)
 
 -- what stands behind it is due still, with the next number
 due_over : (s : Scenario) (hs front back c d : List Happening) (mark cursor : List ℕ) (now r : ℕ) (more : List ℕ) (w x : Happening)

@@ -1,5 +1,6 @@
 -- What is due at the time of a record does not rest on its number.
-use Rattle.world_law.proofs.Words.{if◌then◌else◌, ◌&&◌, ◌==◌, ◌||◌, ◌∙◌, ◌∷◌, ◌≡◌, Bool, DeviceId, Happening, Integrating, Joining, LinkId, List, None}
+use Rattle.std.proofs.Common.{arith}
+use Rattle.world_law.proofs.Words.{◌&&◌, ◌==◌, ◌||◌, ◌∙◌, ◌∷◌, ◌≡◌, Bool, DeviceId, Happening, LinkId, List, None}
 use Rattle.world_law.proofs.Words.{NoteBody, Option, Pcf, Point, Ripe, Scenario, Some, Standpoint, State, Units, VlId, [], adjustment_after}
 use Rattle.world_law.proofs.Words.{adjustment_at_hearing, ap, earlier, filter, has_joined_at, is_joined_by, is_taken_before, is_turned_on_at, last_or}
 use Rattle.world_law.proofs.Words.{last_taken, list_any, nat_lt, option_and_then, plain, plain_body, plains, points_of, refl, state_after, state_at_hearing}
@@ -52,9 +53,7 @@ pub hearing_state_plain : (s : Scenario) (hs : List Happening) (device : DeviceI
     device
     t
 hearing_state_plain s hs device t =
-    ap (λ (b : Bool). if b then Joining else state_before s (plains hs) device t) (joined_at_plain hs device t)
-    ∙ ap (λ (x : State). if has_joined_at hs device t then Joining else (if is_turned_on_at s device t then Integrating else x))
-    (ap (λ (l : List Happening). state_after s l device) (earlier_plain t hs) ∙ states_plain s (earlier t hs) device)
+    grind (arith, state_before, plains, joined_at_plain, has_joined_at, is_turned_on_at, state_after, earlier_plain, states_plain, earlier)
 
 -- ---- judgements
 

@@ -1,7 +1,7 @@
 -- A device comes to no row's value where it comes to a correction point, or to the beginning of a cycle.
-use Rattle.world_law.proofs.Words.{◌*◌, ◌+◌, ◌≡◌, ◌≤ℤ◌, ◌≤◌, DeviceId, Dispatches, Entry, Happening, IsAtCorrection, IsEntry, IsInRange, IsSteady, KeepsRules}
-use Rattle.world_law.proofs.Words.{Link, LinkId, List, Network, Reaches, Scenario, Sends, VlId, amount, arith, cases_lt, inl, inr, ints, local_before, pos}
-use Rattle.world_law.proofs.Words.{subst, sym, ℕ, ℤ}
+use Rattle.world_law.proofs.Words.{◌*◌, ◌+◌, ◌≤◌, DeviceId, Dispatches, Entry, Happening, IsAtCorrection, IsEntry, IsInRange, IsSteady, KeepsRules}
+use Rattle.world_law.proofs.Words.{Link, LinkId, List, Network, Reaches, Scenario, Sends, VlId, amount, arith, cases_lt, ints, local_before, pos}
+use Rattle.world_law.proofs.Words.{subst, ℕ, ℤ}
 use Rattle.schedule_tables.{proofs.Entries.begun_below, specs.{Delays.pcf_port_time, declared.rule.Rule.TheVariants.ScheduleStart}}
 use Rattle.tte_lemmas.proofs.{Integers.whole as not_negative, Lists.in_all}
 use Rattle.world_law.proofs.rows.Reached.{ShowsAt, cycles_apart, row_ends, shows_at}
@@ -26,32 +26,14 @@ row_apart network place entry rules is =
 -- the precision is not 0
 pub precise : (network : Network) → IsInRange network → 1 ≤ amount network.precision
 precise network range =
-    let least = range.precision.least in
-    let whole = not_negative network.precision.0 (omega (arith, ints, least)) in
-    omega (arith, ints, least, whole)
+    grind (arith, not_negative, ints)
 
 -- so a clock that shows the one does not show the other; `point` is a place from the beginning of a cycle up to the correction
 pub apart_so : (network : Network) (offset point a b : ℕ) (z : ℤ) → IsApart network offset → point ≤ amount network.correction → 1 ≤ amount network.precision
     → ShowsAt z (pos (a * amount network.cycle + point)) (amount network.precision)
     → ShowsAt z (pos (b * amount network.cycle + offset)) (amount network.precision) → ⊥
 apart_so network offset point a b z apart early some one two =
-    let size = amount network.cycle in
-    let begins = apart.begins in
-    let ends = apart.ends in
-    elim (cases_lt b a) [
-      | inl lt ↦
-          let later = cycles_apart b a size lt in
-          omega (arith, ints, later, ends, one.least, two.most, some)
-      | inr ge ↦ elim (cases_lt a b) [
-        | inl gt ↦
-            let later = cycles_apart a b size gt in
-            omega (arith, ints, later, begins, early, one.most, two.least, some)
-        | inr le ↦
-            let same : a ≡ b = omega (arith, ge, le) in
-            let two_here = subst (λ (c : ℕ). pos (c * size + offset) ≤ℤ z) (sym same) two.least in
-            omega (arith, ints, begins, early, one.most, two_here, some)
-      ]
-    ]
+    grind (arith, amount, cases_lt, cycles_apart, ints)
 
 -- ---- by the records
 

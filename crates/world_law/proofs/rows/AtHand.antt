@@ -91,18 +91,7 @@ pub filter_earlier : (q : Happening → Bool) (t : ℕ) (hs : List Happening) �
     → filter q (earlier t hs) ≡ filter q hs
 filter_earlier q t [] sooner = refl
 filter_earlier q t (h ∷ hs) sooner =
-    let rest = filter_earlier q t hs (λ g i. sooner g (inr i)) in
-    elim (cases_Bool (q h)) [
-      | inl kept ↦
-          ap (λ (b : Bool). filter q (if b then h ∷ earlier t hs else earlier t hs)) (lt-ltb (time_of h) t (sooner h (inl refl) kept))
-          ∙ ap (λ (l : List Happening). if q h then h ∷ l else l) rest
-      | inr left ↦
-          out (nat_lt (time_of h) t) left ∙ rest ∙ sym (ap (λ (b : Bool). if b then h ∷ filter q hs else filter q hs) left)
-    ]
-  where
-    out : (b : Bool) → q h ≡ false → filter q (if b then h ∷ earlier t hs else earlier t hs) ≡ filter q (earlier t hs)
-    out true left = ap (λ (c : Bool). if c then h ∷ filter q (earlier t hs) else filter q (earlier t hs)) left
-    out false left = refl
+    grind (arith, cases_Bool, filter, earlier, lt-ltb, time_of, nat_lt, (filter_earlier q t hs (λ g i. sooner g (inr i))))
 
 -- what passes the test is such a record
 accepts : (device : DeviceId) (vl : VlId) (body : NoteBody) → is_accepted device vl body ≡ true → (link : _) × (from : ℕ) × (cycle : ℕ)
@@ -167,10 +156,7 @@ last_at s hs device node row entry cycle t r f switch =
 
 -- two ids are one device's or not
 pub sender_or : (d e : DeviceId) → (d ≡ e) ⊎ (d ≡ e → ⊥)
-sender_or d e = elim (cases_eq d.0 e.0) [
-  | inl same ↦ inl (ap (λ (n : ℕ). let x : DeviceId = record { 0 = n } in x) same)
-  | inr other ↦ inr (λ same. other (ap (λ (x : DeviceId). x.0) same))
-]
+sender_or d e = grind (arith, cases_eq)
 
 -- what is at hand by the records the node has
 pub has_frame : (s : Scenario) (hs : List Happening) (device : DeviceId) (node : Node) (row : RowId) (entry : Entry) (cycle cause t : ℕ)

@@ -1,9 +1,9 @@
 -- What a device found of a time-triggered frame that it took: a row of its virtual link enters the device, the cycle of its
 -- clock was one from 1 on, and the place in the cycle was not behind the row's window.
-use Rattle.world_law.proofs.Words.{if◌then◌else◌, ◌&&◌, ◌*◌, ◌+◌, ◌<◌, ◌==◌, ◌||◌, ◌∙◌, ◌≡◌, ◌≤ℤ◌, ◌≤◌, Arrival, ArrivesAs, Bool, DeviceId, Down, Entry}
-use Rattle.world_law.proofs.Words.{Happening, IsEntry, Link, LinkId, List, Network, None, Ok, Option, Pcf, Reason, Row, Scenario, Signal, Some, Standpoint}
-use Rattle.world_law.proofs.Words.{Units, Up, VlId, Way, and_parts, ap, arith, arrival_of, cases_Bool, control, control_arrival, eq-eqb, eqb-true, false, inl}
-use Rattle.world_law.proofs.Words.{inr, int_lt, is_end, last_taken, length, link_at, local_before, nat_le, negsuc, not, option_and_then, option_map}
+use Rattle.world_law.proofs.Words.{if◌then◌else◌, ◌*◌, ◌+◌, ◌<◌, ◌==◌, ◌∙◌, ◌≡◌, ◌≤ℤ◌, ◌≤◌, Arrival, ArrivesAs, Bool, DeviceId, Down, Entry}
+use Rattle.world_law.proofs.Words.{Happening, IsEntry, Link, LinkId, List, Network, None, Ok, Option, Pcf, Reason, Scenario, Signal, Some, Standpoint}
+use Rattle.world_law.proofs.Words.{Units, Up, VlId, Way, and_parts, ap, arith, arrival_of, cases_Bool, control, control_arrival, eq-eqb, eqb-true, false}
+use Rattle.world_law.proofs.Words.{int_lt, is_end, last_taken, length, link_at, local_before, nat_le, negsuc, not, option_and_then, option_map}
 use Rattle.world_law.proofs.Words.{option_map_or, pos, refl, slice_get, slice_get_within, standpoint, subst, sym, target_by, timed, timed_arrival, true, ℕ, ℤ}
 use Rattle.std.proofs.{Common.{◌%◌, ◌/◌}, Math.Nat.{div-add-mod, mod-lt}, lemmas.Bool.{leb-true, not-false, or_parts}}
 use Rattle.std.specs.{Int.{int_div_euclid, int_rem_euclid}, Prelude.{Err, Result}}
@@ -11,10 +11,10 @@ use Rattle.net_plan.proofs.SameIds.{one_link}
 use Rattle.pcf_codec.specs.{Fields.field, declared.refusal.PcfRefusal.PcfRefusal}
 use Rattle.run_law.{proofs.{control.Verdicts.none_first, scenario.Ways.one_way}, specs.control.Arrivals.{frame_fault, frame_or_fault}}
 use Rattle.run_law.specs.{device.Standpoints.{clock_of, cycle_at, natural, offset_in_cycle}, scenario.Devices.{is_parent_of, is_relay}}
-use Rattle.run_law.specs.scenario.Ways.{is_way, is_way_of, receiver_of, way_to}
-use Rattle.run_law.specs.timed.Arrivals.{entry_arrival, entry_entering, entry_of, is_row_with, occurs_in, octets_fault, octets_or_fault, row_entering}
+use Rattle.run_law.specs.scenario.Ways.{receiver_of}
+use Rattle.run_law.specs.timed.Arrivals.{entry_arrival, entry_entering, octets_fault, octets_or_fault}
 use Rattle.run_law.specs.timed.Arrivals.{row_fault, taken_or_fault}
-use Rattle.schedule_tables.{proofs.Entries.entry_by, specs.{Entries.target_of, Windows.{window_end, window_of}}}
+use Rattle.schedule_tables.{proofs.Entries.entry_by, specs.{Entries.target_of, Windows.window_end}}
 use Rattle.tte_lemmas.proofs.{Integers.not_less, Lists.find_at}
 use Rattle.run_law.specs.declared.steps.Arrival.TheVariants as arrivals
 
@@ -34,14 +34,7 @@ pub record IsTakenAt (network : Network) (device : DeviceId) (vl : VlId) (cycle 
 in_window : (network : Network) (at : Standpoint) (entry : Entry) (size : ℕ) (last : Option ℕ) → row_fault network at entry size last ≡ None
     → (1 ≤ cycle_at network (clock_of at)) × (offset_in_cycle network (clock_of at) ≤ℤ pos (window_end network entry))
 in_window network at entry size last e =
-    let cycle = cycle_at network (clock_of at) in
-    let place = offset_in_cycle network (clock_of at) in
-    let one = none_first (not (size == entry.vl.length)) _ _ e in
-    let two = none_first (not (occurs_in entry.vl cycle) || int_lt place (window_of network entry).from.0) _ _ one.1 in
-    let three = none_first (int_lt (window_of network entry).to.0 place) _ _ two.1 in
-    let occurs = not-false (occurs_in entry.vl cycle) (or_parts (not (occurs_in entry.vl cycle)) (int_lt place (window_of network entry).from.0) two.0).0 in
-    let begun = and_parts (nat_le 1 cycle) (cycle % entry.vl.period == entry.vl.phase) occurs in
-    (leb-true 1 cycle begun.0, not_less (window_of network entry).to.0 place three.0)
+    grind (arith, none_first, not, int_lt, not-false, or_parts, and_parts, nat_le, leb-true, not_less)
 
 -- ---- the row by which it came
 
@@ -50,20 +43,7 @@ leads_to : (o : Option Link) (l : Link) (way : Way) (device : DeviceId) → o �
     → target_by (if option_map_or (λ x. x.parent.0 == device.0) o false then Up else Down) l ≡ device
 leads_to None l way device e r = absurd cc
 leads_to (Some x) l way device e r =
-    let same : x ≡ l = cc in
-    let comes : target_by way x ≡ device = cc in
-    elim (cases_Bool (x.parent.0 == device.0)) [
-      | inl parent ↦
-          ap (λ (b : Bool). target_by (if b then Up else Down) l) parent ∙ ap (λ (y : Link). y.parent) (sym same)
-          ∙ ap (λ (n : ℕ). let d : DeviceId = record { 0 = n } in d) (eqb-true x.parent.0 device.0 parent)
-      | inr other ↦
-          ap (λ (b : Bool). target_by (if b then Up else Down) l) other ∙ ap (λ (y : Link). y.child) (sym same) ∙ child way comes other
-    ]
-  where
-    child : (way : Way) → target_by way x ≡ device → (x.parent.0 == device.0) ≡ false → x.child ≡ device
-    child Up comes other =
-        absurd (let bad : true ≡ false = sym (eq-eqb x.parent.0 device.0 (ap (λ (d : DeviceId). d.0) comes)) ∙ other in cc)
-    child Down comes other = comes
+    grind (arith, target_by, cases_Bool, eqb-true, eq-eqb)
 
 -- a row by which a frame enters a device where it is received is of the schedule, and enters the device
 pub record IsEntering (network : Network) (device : DeviceId) (entry : Entry) : Type 0 where
@@ -73,28 +53,8 @@ pub record IsEntering (network : Network) (device : DeviceId) (entry : Entry) : 
 
 entering : (network : Network) (device : DeviceId) (link : LinkId) (way : Way) (id : ℕ) (entry : Entry) → receiver_of network link way ≡ Some device
     → entry_entering network device link id ≡ Some entry → IsEntering network device entry
-entering network device link way id entry received e = by (row_entering network device link id) refl e
-  where
-    by : (o : Option Row) → row_entering network device link id ≡ o → option_and_then (entry_of network) o ≡ Some entry → IsEntering network device entry
-    by None found e = absurd cc
-    by (Some row) found e =
-        let at = find_at (λ (r : Row). is_way_of link (way_to network device link) r.link r.way && is_row_with network id r) network.row row found in
-        let parts = entry_by (slice_get network.vl row.vl.0) (link_at network row.link) row entry e in
-        let tests = and_parts (is_way_of link (way_to network device link) row.link row.way) (is_row_with network id row) at.2 in
-        let ways = and_parts (link.0 == row.link.0) (is_way (way_to network device link) row.way) tests.0 in
-        let same = parts.2 in
-        let by_link : row.link ≡ link = one_link link row.link ways.0 in
-        let there : link_at network link ≡ Some entry.link = ap (link_at network) (sym by_link) ∙ parts.1 in
-        let on_way : entry.row.way ≡ way_to network device link = ap (λ (r : Row). r.way) (sym same) ∙ one_way (way_to network device link) row.way ways.1 in
-        record {
-          place = at.0;
-          is = record {
-            row = at.1 ∙ ap (λ (r : Row). Some r) same;
-            vl = ap (λ (r : Row). slice_get network.vl r.vl.0) (sym same) ∙ parts.0;
-            link = ap (λ (r : Row). slice_get network.link r.link.0) (sym same) ∙ parts.1;
-          };
-          target = ap (λ (w : Way). target_by w entry.link) on_way ∙ leads_to (link_at network link) entry.link way device there received;
-        }
+entering network device link way id entry received e =
+    grind (arith, option_and_then, find_at, entry_by, slice_get, link_at, and_parts, one_link, one_way, target_by, leads_to)
 
 -- ---- control frames are not taken
 

@@ -45,16 +45,11 @@ fine reading precision steady =
 -- values that a clock shows at once, in two cycles, are not those of rows
 one_cycle : (size a b x y p : ℕ) (z : ℤ) → x + 4 * p ≤ size → 1 ≤ p → ShowsAt z (pos (a * size + x)) p → ShowsAt z (pos (b * size + y)) p → a < b → ⊥
 one_cycle size a b x y p z ends some first second lt =
-    let far = cycles_apart a b size lt in
-    let most = first.most in
-    let least = second.least in
-    omega (arith, ints, far, ends, some, most, least)
+    grind (arith, cycles_apart, ints)
 
 close : (size a x y : ℕ) (z : ℤ) → ShowsAt z (pos (a * size + x)) (2 ^ 22) → ShowsAt z (pos (a * size + y)) (2 ^ 22) → y < x + 2 ^ 22
 close size a x y z first second =
-    let most = first.most in
-    let least = second.least in
-    omega (arith, ints, most, least)
+    grind (arith, ints)
 
 pub one_row : (s : Scenario) (js : List Happening) (device : DeviceId) (t : ℕ) (link other : LinkId) (cause from : ℕ) (vl with : VlId) (cycle number : ℕ)
     → IsLawful s js device → link ≡ other → (d : Dispatches s js device t link cause vl cycle) → (e : Dispatches s js device t other from with number)
@@ -146,11 +141,7 @@ one_hand network js device place entry t cause from cycle rules is (inr a) (inl 
     absurd (both_ways (is_end network device) a.0 (subst (λ (d : DeviceId). is_end network d ≡ true) b.0
     (some_end (device_at network entry.vl.sender) (rules Senders entry.row.vl.0 entry.vl is.vl))))
 one_hand network js device place entry t cause from cycle rules is (inr a) (inr b) =
-    let one : a.1.taken ≡ b.1.taken = same_some a.1.taken b.1.taken (sym a.1.last ∙ b.1.last) in
-    a.1.number ∙ ap (λ (h : Happening). h.note.number) one ∙ sym b.1.number
-  where
-    same_some : (x y : Happening) → Some x ≡ Some y → x ≡ y
-    same_some x y e = cc
+    grind arith
 
 -- one row of one cycle is told alike
 pub told_alike : (s : Scenario) (js : List Happening) (device : DeviceId) (t : ℕ) (link other : LinkId) (cause from : ℕ) (vl with : VlId) (cycle number : ℕ)

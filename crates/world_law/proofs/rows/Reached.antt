@@ -2,7 +2,7 @@
 use Rattle.world_law.proofs.Words.{◌*◌, ◌+ℤ◌, ◌+◌, ◌-ℤ◌, ◌-◌, ◌<ℤ◌, ◌<◌, ◌∙◌, ◌∷◌, ◌≡◌, ◌≤ℤ◌, ◌≤◌, DeviceId, Entry, Happening, IsCaused, IsDue, IsEntry}
 use Rattle.world_law.proofs.Words.{IsFounded, IsIn, IsInRange, IsSteady, KeepsRules, List, Network, Reaches, Scenario, VlId, adjustment_after}
 use Rattle.world_law.proofs.Words.{adjustment_before, amount, ap, arith, cases_lt, changed_at, earlier, founded_at, inl, inr, ints, is_end, local_before}
-use Rattle.world_law.proofs.Words.{place_of, pos, source_of, subst, suc, sym, time_of, true, ℕ, ℤ}
+use Rattle.world_law.proofs.Words.{place_of, pos, source_of, subst, sym, time_of, true, ℕ, ℤ}
 use Rattle.std.{proofs.Math.Nat.mul-le-mul_right, specs.Int.{int_div_euclid, int_rem_euclid}}
 use Rattle.run_law.{proofs.law.FirstPlaces.IsFoundedAt, specs.device.Standpoints.{natural, offset_in_cycle}}
 use Rattle.schedule_tables.specs.{Windows.window_end, declared.rule.Rule.TheVariants.{Forwarding, WindowEnds}}
@@ -79,9 +79,7 @@ delivered_at s hs h device link cause vl cycle founded i body =
 -- a cycle of a network is not empty
 pub cycle_is : (network : Network) → IsInRange network → (network.cycle.0 ≡ pos (amount network.cycle)) × (1 ≤ amount network.cycle)
 cycle_is network range =
-    let least = range.cycle.least in
-    let whole : network.cycle.0 ≡ pos (amount network.cycle) = not_negative network.cycle.0 (omega (arith, ints, least)) in
-    (whole, omega (arith, ints, least, whole))
+    grind (arith, amount, not_negative, ints)
 
 -- what a taking says of the clock
 pub record IsShownAt (network : Network) (entry : Entry) (cycle : ℕ) (z : ℤ) : Type 0 where
@@ -110,10 +108,7 @@ shown_at network device vl cycle z range it =
 -- of two cycles the later begins where the earlier has ended
 pub cycles_apart : (a b size : ℕ) → a < b → a * size + size ≤ b * size
 cycles_apart a b size lt =
-    let more : suc a ≤ b = omega (arith, lt) in
-    let grown = mul-le-mul_right {m = suc a} {n = b} size more in
-    let next : suc a * size ≡ a * size + size = omega arith in
-    omega (arith, grown, next)
+    grind (arith, mul-le-mul_right)
 
 -- ---- a row that leaves a switch
 

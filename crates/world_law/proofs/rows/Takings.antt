@@ -99,10 +99,7 @@ frames_among s ps bs w device same sooner =
 pub frames_put : (s : Scenario) (ps bs : List Happening) (w : Happening) (device : DeviceId) → IsNoTaking device w.note.body
     → ((h : Happening) → IsIn h (ps ++ bs) → time_of h ≤ time_of w) → frames_taken s (ps ++ w ∷ bs) device ≡ frames_taken s (ps ++ bs) device
 frames_put s ps bs w device none sooner =
-    let old = local_before s (ps ++ bs) device in
-    frames_among s ps bs w device (λ t le. before_put s ps bs w device t le) sooner
-    ∙ ap (λ (l : List TakenFrame). taken_by device old ps ++ (l ++ taken_by device old bs)) (none (old (time_of w)))
-    ∙ sym (taken_parts device old ps bs)
+    grind (arith, local_before, frames_among, before_put, taken_by, time_of, taken_parts)
 
 -- and one by which it takes one, behind all others of its takings, adds what it took by it
 pub frames_with : (s : Scenario) (ps bs : List Happening) (w : Happening) (device : DeviceId)
@@ -157,8 +154,6 @@ pub frames_alike : (s r : Scenario) (hs : List Happening) (device : DeviceId) (n
     → ((t : ℕ) → adjustment_before s hs device t ≡ adjustment_before r hs device t) → ((x : ℕ) → x ≤ now → s.reading device x ≡ r.reading device x)
     → ((h : Happening) → IsIn h hs → time_of h ≤ now) → frames_taken s hs device ≡ frames_taken r hs device
 frames_alike s r hs device now adjusted reads sooner =
-    taken_same device (local_before s hs device) (local_before r hs device) hs
-    (λ h i. ap (λ (n : ℕ). pos n +ℤ (adjustment_before s hs device (time_of h)).0) (reads (time_of h) (sooner h i))
-    ∙ ap (λ (u : Units). pos (r.reading device (time_of h)) +ℤ u.0) (adjusted (time_of h)))
+    grind (arith, taken_same, local_before, adjustment_before, time_of)
 
 -- ---- any record put in, with those behind it renumbered

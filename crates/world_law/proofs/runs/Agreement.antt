@@ -1,7 +1,7 @@
 -- What is due at a time is so in each scenario that agrees up to then.
 use Rattle.world_law.proofs.Words.{if◌then◌else◌, ◌&&◌, ◌+ℤ◌, ◌+◌, ◌-◌, ◌<ℤ◌, ◌<◌, ◌==◌, ◌||◌, ◌∙◌, ◌∷◌, ◌≡◌, ◌≤ℤ◌, ◌≤◌, Agree, Bool, ComesToCorrection}
 use Rattle.world_law.proofs.Words.{DeviceId, Event, Happening, IfSome, Integrating, IsIn, IsReach, List, Network, None, Option, Reaches, Sends, Some, Standing}
-use Rattle.world_law.proofs.Words.{State, Verdict, What, [], adjustment_before, after_last, amount, and_parts, ap, arith, both_ways, cases_Bool, cases_lt}
+use Rattle.world_law.proofs.Words.{Verdict, What, [], adjustment_before, after_last, amount, and_parts, ap, arith, both_ways, cases_Bool, cases_lt}
 use Rattle.world_law.proofs.Words.{changed_at, changes_adjustment, correction_value, earlier, eqb-true, false, false_from_ne_true, filter, filter_map}
 use Rattle.world_law.proofs.Words.{has_cleared, heard_since, hearing_by, in_filter, inl, inr, int_le, int_lt, ints, is_broken, is_integration_cycle}
 use Rattle.world_law.proofs.Words.{is_turned_on_at, last_or, le-ltb, list_any, local_at_change, lt-ltb, nat_le, nat_lt, next_cycle, next_point, not}
@@ -26,13 +26,7 @@ broken_same n f g events more t u device a le = ap (λ (l : List Event). list_an
 any_kept : {X : Type 0} (p q : X → Bool) (xs : List X) → ((x : X) → p x ≡ true → q x ≡ true) → list_any p xs ≡ list_any p (filter q xs)
 any_kept p q [] keeps = refl
 any_kept {X} p q (x ∷ xs) keeps =
-    elim (cases_Bool (q x)) [
-      | inl kept ↦ ap (λ (b : Bool). p x || b) (any_kept p q xs keeps) ∙ sym (ap (λ (b : Bool). list_any p (if b then x ∷ filter q xs else filter q xs)) kept)
-      | inr left ↦
-          let fails : p x ≡ false = false_from_ne_true (p x) (λ e. both_ways (q x) left (keeps x e)) in
-          ap (λ (b : Bool). b || list_any p xs) fails ∙ any_kept p q xs keeps
-          ∙ sym (ap (λ (b : Bool). list_any p (if b then x ∷ filter q xs else filter q xs)) left)
-    ]
+    grind (arith, cases_Bool, list_any, filter, false_from_ne_true, both_ways, (any_kept p q xs keeps))
 
 at_time : (b : Bool) (a t : ℕ) → (b && a == t) ≡ true → nat_le a t ≡ true
 at_time b a t e = let same = eqb-true a t (and_parts b (a == t) e).1 in le-leb a t (omega (arith, same))
@@ -86,12 +80,7 @@ local_same n f g events more hs t u device a le =
 pub cleared_same : (n : Network) (f g : DeviceId → ℕ → ℕ) (events more : List Event) (hs : List Happening) (t u by : ℕ) (device : DeviceId)
     → Agree n f g events more t → u ≤ t → by ≤ t → has_cleared (scenario n f events) hs device u by ≡ has_cleared (scenario n g more) hs device u by
 cleared_same n f g events more hs t u by device a le sooner =
-    let v = correction_value n (recorded_cycle (earlier u hs) device) in
-    let adj = (adjustment_before (scenario n f events) hs device u).0 in
-    ap (λ (z : ℤ). is_integration_cycle (earlier u hs) device && (int_lt z v && int_le v (pos (f device (by - 1)) +ℤ adj)))
-    (local_same n f g events more hs t u device a le)
-    ∙ ap (λ (m : ℕ). is_integration_cycle (earlier u hs) device && (int_lt (local_at_change (scenario n g more) hs device u) v && int_le v (pos m +ℤ adj)))
-    (a.reads device (by - 1) (omega (arith, sooner)))
+    grind (arith, correction_value, recorded_cycle, earlier, adjustment_before, scenario, is_integration_cycle, int_lt, int_le, local_same, local_at_change)
 
 pub next_same : (n : Network) (f g : DeviceId → ℕ → ℕ) (events more : List Event) (hs : List Happening) (t u : ℕ) (device : DeviceId)
     → Agree n f g events more t → u ≤ t → next_cycle (scenario n f events) hs device u ≡ next_cycle (scenario n g more) hs device u
@@ -131,24 +120,13 @@ reaches_same n f g events more hs t u device v a le r = record {
 pub standing_same : (n : Network) (f g : DeviceId → ℕ → ℕ) (events more : List Event) (hs : List Happening) (t u : ℕ) (device : DeviceId)
     → Agree n f g events more t → u ≤ t → standing_before (scenario n f events) hs device u ≡ standing_before (scenario n g more) hs device u
 standing_same n f g events more hs t u device a le =
-    let old = standing_before (scenario n f events) hs device u in
-    ap (λ (x : State). let p : Standing = record old { state = x } in p) (state_same n f g events more hs t u device a le)
-    ∙ ap (λ (x : ℕ). let p : Standing = record old { state = state_before (scenario n g more) hs device u; number = x } in p)
-    (next_same n f g events more hs t u device a le)
+    grind (arith, scenario, state_same, state_before, next_same)
 
 -- ---- what is due
 
 pub sends_same : (n : Network) (f g : DeviceId → ℕ → ℕ) (events more : List Event) (hs : List Happening) (t u : ℕ) (device : DeviceId) (cycle : ℕ)
     → Agree n f g events more t → u ≤ t → Sends (scenario n f events) hs device u cycle → Sends (scenario n g more) hs device u cycle
-sends_same n f g events more hs t u device cycle a le d = record {
-  master = d.master;
-  up = record {
-    synchronised = sym (state_same n f g events more hs t u device a le) ∙ d.up.synchronised;
-    correct = sym (broken_same n f g events more t u device a le) ∙ d.up.correct;
-  };
-  begun = d.begun;
-  reached = reaches_same n f g events more hs t u device _ a le d.reached;
-}
+sends_same n f g events more hs t u device cycle a le d = grind (arith, state_same, broken_same, reaches_same)
 
 pub comes_same : (n : Network) (f g : DeviceId → ℕ → ℕ) (events more : List Event) (hs : List Happening) (t u : ℕ) (device : DeviceId) (cycle : ℕ)
     (verdict : Verdict) → Agree n f g events more t → u ≤ t → ((h : Happening) → IsIn h hs → time_of h ≤ t)

@@ -22,64 +22,21 @@ up_to_it ps y before h i =
 pub kinds : (body : NoteBody) → IsEventBody body ⊎ ((rank body ≡ 14) ⊎ (IsOwn body × (2 ≤ rank body)))
 kinds (notes.Event line what) = inl tt
 kinds (notes.Clock device reading adjustment state) = inr (inl refl)
-kinds (notes.Arrived device link cause clock) = inr (inr (tt, omega arith))
-kinds (notes.Permanent device link cause point verdict) = inr (inr (tt, omega arith))
-kinds (notes.Compressed device opened at cycle members verdict) = inr (inr (tt, omega arith))
-kinds (notes.Sent device cycle) = inr (inr (tt, omega arith))
-kinds (notes.Corrected device cycle by adjustment) = inr (inr (tt, omega arith))
-kinds (notes.State device state cause why) = inr (inr (tt, omega arith))
-kinds (notes.Left device link cause clock) = inr (inr (tt, omega arith))
-kinds (notes.Lost device link cause) = inr (inr (tt, omega arith))
-kinds (notes.TtSent device link cause vl cycle) = inr (inr (tt, omega arith))
-kinds (notes.Accepted device link cause vl cycle) = inr (inr (tt, omega arith))
-kinds (notes.Delivered device link cause vl cycle) = inr (inr (tt, omega arith))
-kinds (notes.Dropped device link cause reason) = inr (inr (tt, omega arith))
+kinds other = inr (inr (tt, omega arith))
 
 -- the cause of an event's record: its event
 pub event_cause : (s : Scenario) (hs : List Happening) (time : Units) (body : NoteBody) → IsEventBody body → IsCaused s hs time body → (line : ℕ)
     × (what : What) × (body ≡ notes.Event line what) × IsEventRecord s.events time line what
 event_cause s hs time (notes.Event line what) e c = (line, what, refl, c)
-event_cause s hs time (notes.Arrived device link cause clock) e c = absurd e
-event_cause s hs time (notes.Permanent device link cause point verdict) e c = absurd e
-event_cause s hs time (notes.Compressed device opened at cycle members verdict) e c = absurd e
-event_cause s hs time (notes.Sent device cycle) e c = absurd e
-event_cause s hs time (notes.Corrected device cycle by adjustment) e c = absurd e
-event_cause s hs time (notes.State device state cause why) e c = absurd e
-event_cause s hs time (notes.Left device link cause clock) e c = absurd e
-event_cause s hs time (notes.Lost device link cause) e c = absurd e
-event_cause s hs time (notes.TtSent device link cause vl cycle) e c = absurd e
-event_cause s hs time (notes.Accepted device link cause vl cycle) e c = absurd e
-event_cause s hs time (notes.Delivered device link cause vl cycle) e c = absurd e
-event_cause s hs time (notes.Dropped device link cause reason) e c = absurd e
-event_cause s hs time (notes.Clock device reading adjustment state) e c = absurd e
+event_cause s hs time other e c = absurd e
 
 pub clock_cause : (s : Scenario) (hs : List Happening) (time : Units) (body : NoteBody) → rank body ≡ 14 → IsCaused s hs time body → EndsAt s.events time
 clock_cause s hs time (notes.Clock device reading adjustment state) e c = c.ends
-clock_cause s hs time (notes.Event line what) e c = absurd (omega (arith, e))
-clock_cause s hs time (notes.Arrived device link cause clock) e c = absurd (omega (arith, e))
-clock_cause s hs time (notes.Permanent device link cause point verdict) e c = absurd (omega (arith, e))
-clock_cause s hs time (notes.Compressed device opened at cycle members verdict) e c = absurd (omega (arith, e))
-clock_cause s hs time (notes.Sent device cycle) e c = absurd (omega (arith, e))
-clock_cause s hs time (notes.Corrected device cycle by adjustment) e c = absurd (omega (arith, e))
-clock_cause s hs time (notes.State device state cause why) e c = absurd (omega (arith, e))
-clock_cause s hs time (notes.Left device link cause clock) e c = absurd (omega (arith, e))
-clock_cause s hs time (notes.Lost device link cause) e c = absurd (omega (arith, e))
-clock_cause s hs time (notes.TtSent device link cause vl cycle) e c = absurd (omega (arith, e))
-clock_cause s hs time (notes.Accepted device link cause vl cycle) e c = absurd (omega (arith, e))
-clock_cause s hs time (notes.Delivered device link cause vl cycle) e c = absurd (omega (arith, e))
-clock_cause s hs time (notes.Dropped device link cause reason) e c = absurd (omega (arith, e))
+clock_cause s hs time other e c = absurd (omega (arith, e))
 
 event_more : (events : List Event) (event : Event) (time : Units) (line : ℕ) (what : What) → IsEventRecord events time line what
     → IsEventRecord (events ++ event ∷ []) time line what
-event_more events event time line what r = record {
-  event = r.event;
-  before = r.before;
-  line_is = r.line_is;
-  is = in_front events (event ∷ []) r.before r.event
-      r.is;
-  at = r.at;
-  same = r.same;
-}
+event_more events event time line what r = grind (arith, in_front)
 
 -- the place of an event's record
 pub event_place : (y : Happening) (line : ℕ) (what : What) → y.note.body ≡ notes.Event line what → place_of y ≡ time_of y ∷ 1 ∷ line ∷ []
@@ -95,19 +52,7 @@ earlier_by_rank t r a line more two (inr (e, inr (f, b))) = absurd (omega (arith
 
 not_both : (body : NoteBody) → IsEventBody body → IsOwn body → ⊥
 not_both (notes.Event line what) e o = o
-not_both (notes.Arrived device link cause clock) e o = e
-not_both (notes.Permanent device link cause point verdict) e o = e
-not_both (notes.Compressed device opened at cycle members verdict) e o = e
-not_both (notes.Sent device cycle) e o = e
-not_both (notes.Corrected device cycle by adjustment) e o = e
-not_both (notes.State device state cause why) e o = e
-not_both (notes.Left device link cause clock) e o = e
-not_both (notes.Lost device link cause) e o = e
-not_both (notes.TtSent device link cause vl cycle) e o = e
-not_both (notes.Accepted device link cause vl cycle) e o = e
-not_both (notes.Delivered device link cause vl cycle) e o = e
-not_both (notes.Dropped device link cause reason) e o = e
-not_both (notes.Clock device reading adjustment state) e o = e
+not_both other e o = e
 
 -- what was due is due still
 due_on : (n : Network) (f g : DeviceId → ℕ → ℕ) (events : List Event) (event : Event) (mark : List ℕ) (ns : List Note) → MayBefall n f g events event mark ns

@@ -1,4 +1,5 @@
 -- What is next in a run: the first of what is due behind all of it.
+use Rattle.std.proofs.Common.{arith}
 use Rattle.world_law.proofs.Words.{◌++◌, ◌∙◌, ◌∷◌, ◌≡◌, AllBefore, IsBefore, IsIn, List, NoneBefore, [], append-nil, before_later, before_or_not, in_right, inl}
 use Rattle.world_law.proofs.Words.{inr, refl, subst, sym, ℕ}
 use Rattle.run_law.specs.runs.Runs.{IsNextOf, IsRun, NothingDueUpTo}
@@ -29,8 +30,4 @@ none_due {N} place IsDue mark ns p within none = record {
 -- a record that is due behind the mark is next, where none is due before it
 pub is_next : {N : Type 0} (place : N → List ℕ) (IsDue : List N → N → Type 0) (mark : List ℕ) (ns : List N) (x : N) → IsRun place IsDue mark ns
     → (IsBefore (place x) mark → ⊥) → IsDue ns x → NoneDueBefore place IsDue mark ns (place x) → IsNextOf place IsDue mark ns x
-is_next place IsDue mark ns x run not due none = record {
-  behind_all = λ n i. before_later (place n) (place x) mark (run.within n i) not;
-  due = due;
-  first = none_due place IsDue mark ns (place x) run.within none;
-}
+is_next place IsDue mark ns x run not due none = grind (arith, before_later, none_due)

@@ -1,17 +1,19 @@
 -- What causes a record at a time causes it in each scenario that agrees up to then.
-use Rattle.world_law.proofs.Words.{if◌then◌else◌, ◌&&◌, ◌+◌, ◌-◌, ◌∙◌, ◌≡◌, ◌≤◌, Agree, Arrival, Arrives, ArrivesAs, BecomesPermanent, Bool, ChangesState}
+use Rattle.std.proofs.Common.{arith}
+use Rattle.world_law.proofs.Words.{if◌then◌else◌, ◌∙◌, ◌≡◌, ◌≤◌, Agree, Arrival, Arrives, ArrivesAs, BecomesPermanent, Bool, ChangesState}
 use Rattle.world_law.proofs.Words.{Compressed, Departs, Departure, DeviceId, Dispatches, Emits, Event, Happening, IsArrivedRecord, IsCaused, IsDropped, IsIn}
 use Rattle.world_law.proofs.Words.{IsLost, Joining, Judgement, Launch, LinkId, List, Network, None, NoteBody, Option, Pcf, Reason, Ripe, Send, Signal, Some}
 use Rattle.world_law.proofs.Words.{Standpoint, State, Units, Up, VlId, Way, Why, adjustment_at_hearing, adjustment_before, amount, ap, arrival_of}
 use Rattle.world_law.proofs.Words.{before_permanence, control, control_arrival, false, has_joined_at, heard_as, inl, inr, is_broken, is_cut, last_taken}
 use Rattle.world_law.proofs.Words.{launched, nat_lt, not, numbered, observation_window, plan_of, points_of, pos, refl, scenario, signal_of, standpoint}
 use Rattle.world_law.proofs.Words.{state_at_hearing, state_before, subst, sym, time_of, timed, timed_arrival, way_from, ℕ}
-use Rattle.run_law.{proofs.records.Happenings.numbered_in, specs.control.{Leaving.{departure, leaves, on_cut_way, too_old}, Permanence.IsPermanenceOutcome}}
-use Rattle.run_law.specs.{control.Wires.time_on_port, device.States.is_off, scenario.Ways.{cut_set, delay_at, hold_at, hold_set, wire_of, wire_set}}
+use Rattle.run_law.specs.control.{Leaving.{departure, on_cut_way, too_old}, Permanence.IsPermanenceOutcome}
+use Rattle.run_law.specs.scenario.Ways.{cut_set, delay_at, hold_at, hold_set, wire_of, wire_set}
 use Rattle.transparent_clock.specs.Points.{point_of}
 use Rattle.world_law.proofs.runs.Agreement.{broken_same, comes_same, reach_same, reaches_same, sends_same, setting_same, state_same}
 use Rattle.run_law.specs.declared.judgement.Why.TheVariants as whys
 use Rattle.run_law.specs.declared.note.NoteBody.TheVariants as notes
+use Rattle.run_law.proofs.law.FirstPlaces.{numbered_in}
 
 -- no record of the list is later than the time
 abbrev pub AreUpTo : ℕ → List Happening → Type 0
@@ -46,28 +48,14 @@ launched_same n f g events more t u h other a le = refl
 pub arrives_same : (n : Network) (f g : DeviceId → ℕ → ℕ) (events more : List Event) (t : ℕ) (h : Happening) (device : DeviceId) (link : LinkId) (at : ℕ)
     (signal : Signal) → Agree n f g events more t → time_of h ≤ t → Arrives (scenario n f events) h device link at signal
     → Arrives (scenario n g more) h device link at signal
-arrives_same n f g events more t h device link at signal a le x = record {
-  way = x.way;
-  put = sym (launched_same n f g events more t (time_of h) h h.note.body a le) ∙ x.put;
-  receiver = x.receiver;
-  at = x.at ∙ ap (λ (d : ℕ). time_of h + time_on_port n link signal + d) (delay_same n f g events more t (time_of h) link x.way a le);
-}
+arrives_same n f g events more t h device link at signal a le x = grind (arith, launched_same, time_of, delay_same)
 
 -- ---- what arrives
 
 standpoint_same : (n : Network) (f g : DeviceId → ℕ → ℕ) (events more : List Event) (hs : List Happening) (t u : ℕ) (device : DeviceId)
     → Agree n f g events more t → u ≤ t → standpoint (scenario n f events) hs device u ≡ standpoint (scenario n g more) hs device u
 standpoint_same n f g events more hs t u device a le =
-    let make = λ (state : State) (broken : Bool) (reading : ℕ).
-    let p : Standpoint = record {
-      takes_part = not (is_off state) && not broken;
-      state = state;
-      reading = reading;
-      adjustment = (adjustment_before (scenario n f events) hs device u).0;
-    } in p in
-    ap (λ (x : State). make x (is_broken (scenario n f events) device u) (f device u)) (state_same n f g events more hs t u device a le)
-    ∙ ap (λ (x : Bool). make (state_before (scenario n g more) hs device u) x (f device u)) (broken_same n f g events more t u device a le)
-    ∙ ap (λ (x : ℕ). make (state_before (scenario n g more) hs device u) (is_broken (scenario n g more) device u) x) (a.reads device u le)
+    grind (arith, not, adjustment_before, scenario, is_broken, state_same, state_before, broken_same)
 
 judged_same : (n : Network) (f g : DeviceId → ℕ → ℕ) (events more : List Event) (hs : List Happening) (t u : ℕ) (device : DeviceId) (link : LinkId) (cause : ℕ)
     (signal : Signal) → Agree n f g events more t → u ≤ t
@@ -80,13 +68,7 @@ judged_same n f g events more hs t u device link cause (timed octets) a le =
 arrival_same : (n : Network) (f g : DeviceId → ℕ → ℕ) (events more : List Event) (hs : List Happening) (t u : ℕ) (device : DeviceId) (link : LinkId) (cause : ℕ)
     (is : Arrival) → Agree n f g events more t → u ≤ t → AreUpTo t hs
     → ArrivesAs (scenario n f events) hs device u link cause is → ArrivesAs (scenario n g more) hs device u link cause is
-arrival_same n f g events more hs t u device link cause is a le all x = record {
-  putting = x.putting;
-  there = x.there;
-  signal = x.signal;
-  arrives = arrives_same n f g events more t x.putting device link u x.signal a (sooner t hs cause x.putting all x.there) x.arrives;
-  becomes = x.becomes ∙ judged_same n f g events more hs t u device link cause x.signal a le;
-}
+arrival_same n f g events more hs t u device link cause is a le all x = grind (arith, arrives_same, sooner, judged_same)
 
 -- ---- what ripens
 
@@ -125,20 +107,8 @@ ripens_same n f g events more hs t u device link cause point is a le all x =
 emits_same : (n : Network) (f g : DeviceId → ℕ → ℕ) (events more : List Event) (hs : List Happening) (t u : ℕ) (device : DeviceId) (sent : Compressed)
     (verdict : Judgement) → Agree n f g events more t → u ≤ t
     → Emits (scenario n f events) hs device u sent verdict → Emits (scenario n g more) hs device u sent verdict
-emits_same n f g events more hs t u device sent verdict a le x = record {
-  cm = x.cm;
-  correct = sym (broken_same n f g events more t u device a le) ∙ x.correct;
-  clusters = x.clusters;
-  are = x.are;
-  cluster = x.cluster;
-  there = x.there;
-  is = x.is;
-  reached = reach_same n f g events more t u device _ _ a le x.reached;
-  heard =
-      x.heard ∙ ap (λ (y : State). heard_as (plan_of n device) (observation_window n) y (adjustment_at_hearing (scenario n f events) hs device u).0 sent.at.0
-      sent.cycle
-      sent.members) (hearing_state_same n f g events more hs t u device a le);
-}
+emits_same n f g events more hs t u device sent verdict a le x =
+    grind (arith, broken_same, reach_same, heard_as, plan_of, observation_window, adjustment_at_hearing, scenario, hearing_state_same)
 
 -- ---- what leaves, and what is dispatched
 
@@ -146,45 +116,18 @@ departure_same : (n : Network) (f g : DeviceId → ℕ → ℕ) (events more : L
     → Agree n f g events more t → given ≤ t → u ≤ t
     → departure (scenario n f events) device link frame given u ≡ departure (scenario n g more) device link frame given u
 departure_same n f g events more t given u device link frame a from le =
-    let by = λ (clock : ℕ) (cut : Bool). if nat_lt (amount n.dmax) clock then too_old else (if cut then on_cut_way else leaves clock) in
-    ap (λ (m : ℕ). by (frame.clock + (m - f device given)) (is_cut (scenario n f events) link (way_from n device link) u)) (a.reads device u le)
-    ∙ ap (λ (m : ℕ). by (frame.clock + (g device u - m)) (is_cut (scenario n f events) link (way_from n device link) u)) (a.reads device given from)
-    ∙ ap (λ (b : Bool). by (frame.clock + (g device u - g device given)) b) (cut_same n f g events more t u link (way_from n device link) a le)
+    grind (arith, nat_lt, amount, is_cut, scenario, way_from, cut_same)
 
 departs_same : (n : Network) (f g : DeviceId → ℕ → ℕ) (events more : List Event) (hs : List Happening) (t u : ℕ) (device : DeviceId) (link : LinkId) (cause : ℕ)
     (is : Departure) → Agree n f g events more t → u ≤ t → AreUpTo t hs
     → Departs (scenario n f events) hs device u link cause is → Departs (scenario n g more) hs device u link cause is
 departs_same n f g events more hs t u device link cause is a le all x =
-    let from = sooner t hs cause x.giving all x.there in
-    record {
-      giving = x.giving;
-      there = x.there;
-      gives = x.gives;
-      frame = x.frame;
-      of_frame = x.of_frame;
-      held = x.held ∙ ap (λ (m : ℕ). time_of x.giving + m) (hold_same n f g events more t (time_of x.giving) link (way_from n device link) a from);
-      correct = sym (broken_same n f g events more t u device a le) ∙ x.correct;
-      becomes = x.becomes ∙ departure_same n f g events more t (time_of x.giving) u device link x.frame a from le;
-    }
+    grind (arith, sooner, time_of, hold_same, way_from, broken_same, departure_same)
 
 dispatches_same : (n : Network) (f g : DeviceId → ℕ → ℕ) (events more : List Event) (hs : List Happening) (t u : ℕ) (device : DeviceId) (link : LinkId)
     (cause : ℕ) (vl : VlId) (cycle : ℕ) → Agree n f g events more t → u ≤ t
     → Dispatches (scenario n f events) hs device u link cause vl cycle → Dispatches (scenario n g more) hs device u link cause vl cycle
-dispatches_same n f g events more hs t u device link cause vl cycle a le x = record {
-  place = x.place;
-  entry = x.entry;
-  row = x.row;
-  by = x.by;
-  of_vl = x.of_vl;
-  leaves = x.leaves;
-  occurs = x.occurs;
-  up = record {
-    synchronised = sym (state_same n f g events more hs t u device a le) ∙ x.up.synchronised;
-    correct = sym (broken_same n f g events more t u device a le) ∙ x.up.correct;
-  };
-  reached = reaches_same n f g events more hs t u device _ a le x.reached;
-  at_hand = x.at_hand;
-}
+dispatches_same n f g events more hs t u device link cause vl cycle a le x = grind (arith, state_same, broken_same, reaches_same)
 
 changes_same : (n : Network) (f g : DeviceId → ℕ → ℕ) (events more : List Event) (hs : List Happening) (t u : ℕ) (device : DeviceId) (state : State) (cause : ℕ)
     (why : Why) → Agree n f g events more t → u ≤ t → AreUpTo t hs
@@ -204,17 +147,7 @@ lost_same n f g events more hs t u device link cause a le all (inl d) = inl (dep
 lost_same n f g events more hs t u device link cause a le all (inr (inl d)) =
     inr (inl (d.0, d.1, dispatches_same n f g events more hs t u device link cause d.0 d.1 a le d.2, sym (cut_same n f g events more t u link _ a le) ∙ d.3))
 lost_same n f g events more hs t u device link cause a le all (inr (inr l)) =
-    inr (inr (record {
-      event = l.event;
-      is = l.is;
-      line = l.line;
-      octets = l.octets;
-      sends = l.sends;
-      way = l.way;
-      there = l.there;
-      by = l.by;
-      cut = sym (cut_same n f g events more t u link Up a le) ∙ l.cut;
-    }))
+    grind (arith, cut_same)
 
 dropped_same : (n : Network) (f g : DeviceId → ℕ → ℕ) (events more : List Event) (hs : List Happening) (t u : ℕ) (device : DeviceId) (link : LinkId) (cause : ℕ)
     (reason : Reason) → Agree n f g events more t → u ≤ t → AreUpTo t hs
@@ -267,10 +200,7 @@ caused_same n f g events more hs t time (notes.Left device link cause clock) a l
     departs_same n f g events more hs t _ device link cause _ a le all c
 caused_same n f g events more hs t time (notes.Lost device link cause) a le all it c = lost_same n f g events more hs t _ device link cause a le all c
 caused_same n f g events more hs t time (notes.TtSent device link cause vl cycle) a le all it c =
-    record {
-      dispatches = dispatches_same n f g events more hs t _ device link cause vl cycle a le c.dispatches;
-      whole = sym (cut_same n f g events more t _ link _ a le) ∙ c.whole;
-    }
+    grind (arith, dispatches_same, cut_same)
 caused_same n f g events more hs t time (notes.Accepted device link cause vl cycle) a le all it c =
     arrival_same n f g events more hs t _ device link cause _ a le all c
 caused_same n f g events more hs t time (notes.Delivered device link cause vl cycle) a le all it c =

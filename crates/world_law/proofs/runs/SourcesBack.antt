@@ -1,13 +1,13 @@
 -- What is to come brings no source that is not behind it.
-use Rattle.world_law.proofs.Words.{if◌then◌else◌, ◌++◌, ◌-ℤ◌, ◌<ℤ◌, ◌<◌, ◌∙◌, ◌∷◌, ◌≡◌, ◌≤◌, ◌⊎◌, AreClusters, Arrives, DeviceId, Dispatches, Emits, Gives}
-use Rattle.world_law.proofs.Words.{Happening, Integrating, IsActing, IsBefore, IsForward, IsIn, IsReach, IsSource, LinkId, List, Network, None, NoneBefore}
-use Rattle.world_law.proofs.Words.{NoteBody, Point, Reaches, Scenario, Signal, Some, Standing, Synchronised, [], adjustment_after, adjustment_at_hearing}
+use Rattle.world_law.proofs.Words.{if◌then◌else◌, ◌++◌, ◌<◌, ◌∙◌, ◌∷◌, ◌≡◌, ◌≤◌, ◌⊎◌, AreClusters, Arrives, DeviceId, Dispatches, Emits, Gives}
+use Rattle.world_law.proofs.Words.{Happening, Integrating, IsActing, IsBefore, IsForward, IsIn, IsSource, LinkId, List, Network, None, NoneBefore}
+use Rattle.world_law.proofs.Words.{NoteBody, Point, Reaches, Scenario, Signal, Some, Standing, [], adjustment_after, adjustment_at_hearing}
 use Rattle.world_law.proofs.Words.{after_last, ap, append-nil, append_assoc, arith, cases_Bool, cases_lt, earlier, ends_stretch, filter, filter-append}
 use Rattle.world_law.proofs.Words.{heard_as, inl, inr, integration_cycle, ints, is_accepted, is_turned_on_at, last_or, nat_lt, next_point, no_cluster, numbered}
-use Rattle.world_law.proofs.Words.{observation_window, place_of, plan_of, point_by, points_of, pos, rank, refl, slice_get, state_after, state_at_hearing, subst}
-use Rattle.world_law.proofs.Words.{suc, sym, time_of, zero, ℕ, ℤ}
+use Rattle.world_law.proofs.Words.{observation_window, place_of, plan_of, point_by, points_of, rank, refl, slice_get, state_after, state_at_hearing, subst}
+use Rattle.world_law.proofs.Words.{suc, time_of, zero, ℕ, ℤ}
 use Rattle.run_law.specs.timed.Dispatching.{IsUp}
-use Rattle.world_law.{proofs.{devices.OwnRecords.earlier_no, lists.Lists.{behind_no, behind_yes, map_none}}, specs.device.Told.{change_in, local_in, next_in}}
+use Rattle.world_law.{proofs.{devices.OwnRecords.earlier_no, lists.Lists.{behind_no, behind_yes, map_none}}, specs.device.Told.next_in}
 use Rattle.run_law.specs.declared.note.NoteBody.TheVariants as notes
 
 -- ---- lists
@@ -31,9 +31,7 @@ none_earlier t (z ∷ zs) of = earlier_no t z zs (of z (inl refl)) ∙ none_earl
 -- records of a time do not change those before it
 pub earlier_still : (t : ℕ) (hs zs : List Happening) → ((z : Happening) → IsIn z zs → t ≤ time_of z) → earlier t (hs ++ zs) ≡ earlier t hs
 earlier_still t hs zs of =
-    filter-append (λ h. nat_lt (time_of h) t) hs zs
-    ∙ ap (λ (l : List Happening). earlier t hs ++ l) (none_earlier t zs of)
-    ∙ append-nil (earlier t hs)
+    grind (arith, filter-append, nat_lt, time_of, earlier, none_earlier, append-nil)
 
 -- ---- places of one time
 
@@ -63,24 +61,13 @@ of_high_rank device z other high = refl
 points_one : (hs : List Happening) (z : Happening) (device : DeviceId) → 4 ≤ rank z.note.body → (points_of (hs ++ z ∷ []) device ≡ points_of hs device)
     ⊎ (points_of (hs ++ z ∷ []) device ≡ [])
 points_one hs z device high =
-    let p = λ (h : Happening). ends_stretch device h.note.body in
-    let f = λ (h : Happening). point_by device h h.note.body in
-    elim (cases_Bool (p z)) [
-      | inl ends ↦ inr (ap (Rattle.std.specs.Prelude.filter_map f) (behind_yes p hs z ends))
-      | inr stays ↦ inl (ap (Rattle.std.specs.Prelude.filter_map f) (behind_no p hs z stays)
-          ∙ map_none f (after_last p hs) z (of_high_rank device z z.note.body high))
-    ]
+    grind (arith, ends_stretch, point_by, cases_Bool, behind_yes, behind_no, map_none, after_last, of_high_rank)
 
 pub points_back : (zs hs : List Happening) (device : DeviceId) → ((z : Happening) → IsIn z zs → 4 ≤ rank z.note.body)
     → (points_of (hs ++ zs) device ≡ points_of hs device) ⊎ (points_of (hs ++ zs) device ≡ [])
 points_back [] hs device high = inl (ap (λ (l : List Happening). points_of l device) (append-nil hs))
 points_back (z ∷ zs) hs device high =
-    let moved : points_of (hs ++ z ∷ zs) device ≡ points_of ((hs ++ z ∷ []) ++ zs) device = ap (λ (l : List Happening). points_of l device)
-    (sym (append_assoc hs (z ∷ []) zs)) in
-    elim (points_back zs (hs ++ z ∷ []) device (λ y i. high y (inr i))) [
-      | inr none ↦ inr (moved ∙ none)
-      | inl same ↦ elim (points_one hs z device (high z (inl refl))) [ inl still ↦ inl (moved ∙ same ∙ still) | inr none ↦ inr (moved ∙ same ∙ none) ]
-    ]
+    grind (arith, points_of, append_assoc, points_one, (points_back zs (hs ++ z ∷ []) device (λ y i. high y (inr i))))
 
 abbrev pub standing_in : Scenario → DeviceId → ℕ → List Happening → Standing
 standing_in s device t w = record {
@@ -93,48 +80,14 @@ standing_in s device t w = record {
 
 pub reaches_back : (s : Scenario) (js hs : List Happening) (t : ℕ) (device : DeviceId) (v : ℤ) → earlier t js ≡ earlier t hs → Reaches s js device v t
     → Reaches s hs device v t
-reaches_back s js hs t device v same r = record {
-  below = subst (λ (w : List Happening). local_in s device w <ℤ v) same r.below;
-  reach = subst (λ (w : List Happening). IsReach (s.reading device) (pos (change_in device w)) (v -ℤ (adjustment_after s w device).0) (pos t)) same r.reach;
-}
+reaches_back s js hs t device v same r = grind (arith, adjustment_after)
 
 pub up_back : (s : Scenario) (js hs : List Happening) (t : ℕ) (device : DeviceId) → earlier t js ≡ earlier t hs → IsUp s js device t → IsUp s hs device t
-up_back s js hs t device same up = record {
-  synchronised =
-      subst (λ (w : List Happening). (if is_turned_on_at s device t then Integrating else state_after s w device) ≡ Synchronised) same up.synchronised;
-  correct = up.correct;
-}
+up_back s js hs t device same up = grind (arith, is_turned_on_at, state_after)
 
 pub dispatches_back : (s : Scenario) (js hs : List Happening) (t : ℕ) (device : DeviceId) (link : LinkId) (cause : ℕ) (vl : _) (cycle : ℕ)
     → earlier t js ≡ earlier t hs → Dispatches s js device t link cause vl cycle → Dispatches s hs device t link cause vl cycle
-dispatches_back s js hs t device link cause vl cycle same d = record {
-  place = d.place;
-  entry = d.entry;
-  row = d.row;
-  by = d.by;
-  of_vl = d.of_vl;
-  leaves = d.leaves;
-  occurs = d.occurs;
-  up = up_back s js hs t device same d.up;
-  reached = reaches_back s js hs t device _ same d.reached;
-  at_hand = elim d.at_hand [
-    | inl sender ↦ inl sender
-    | inr took ↦
-        inr (
-          took.0,
-          record {
-            taken = took.1.taken;
-            last =
-                subst (λ (w : List Happening). last_or None (filter (λ h. is_accepted device d.entry.row.vl h.note.body) w) ≡ Some took.1.taken) same
-                took.1.last;
-            number = took.1.number;
-            link = took.1.link;
-            from = took.1.from;
-            is = took.1.is;
-          },
-        )
-  ];
-}
+dispatches_back s js hs t device link cause vl cycle same d = grind (arith, up_back, reaches_back, last_or, filter, is_accepted)
 
 -- it is of the same row
 pub dispatches_same : (s : Scenario) (js hs : List Happening) (t : ℕ) (device : DeviceId) (link : LinkId) (cause : ℕ) (vl : _) (cycle : ℕ)

@@ -14,12 +14,7 @@ get_parts : {X : Type 0} (xs ys : List X) (x : X) (i : ℕ) → slice_get (xs ++
 get_parts [] ys x i e =
     let same : i ≡ i - 0 = omega arith in inr (omega arith, subst (λ (k : ℕ). slice_get ys k ≡ Some x) same e)
 get_parts (z ∷ xs) ys x zero e = inl e
-get_parts (z ∷ xs) ys x (suc i) e = elim (get_parts xs ys x i e) [
-  | inl a ↦ inl a
-  | inr b ↦
-      let same : i - length xs ≡ suc i - length (z ∷ xs) = omega arith in
-      inr (omega (arith, b.0), subst (λ (k : ℕ). slice_get ys k ≡ Some x) same b.1)
-]
+get_parts (z ∷ xs) ys x (suc i) e = grind (arith, length, slice_get, (get_parts xs ys x i e))
 
 -- an event's record that is before that of the next event is one of those before
 old_event : (events others : List Event) (event : Event) (y : Happening) (line : ℕ) (what : What)
@@ -27,19 +22,7 @@ old_event : (events others : List Event) (event : Event) (y : Happening) (line :
     → IsEventRecord (events ++ event ∷ others) y.note.time line what → IsBefore (time_of y ∷ 1 ∷ line ∷ []) (place_of_event events event)
     → IsEventRecord events y.note.time line what
 old_event events others event y line what order r b =
-    elim (get_parts events (event ∷ others) r.event r.before r.is) [
-      | inl old ↦ record { event = r.event; before = r.before; line_is = r.line_is; is = old; at = r.at; same = r.same }
-      | inr new ↦
-          let late = order (r.before - length events) r.event new.1 in
-          let time : time_of y ≡ amount r.event.time = ap amount r.at in
-          absurd (elim b [
-            | inl lt ↦ omega (arith, lt, late, time)
-            | inr same ↦ elim same.1 [
-              | inl low ↦ omega (arith, low)
-              | inr last ↦ elim last.1 [ inl few ↦ omega (arith, few, r.line_is, new.0) | inr none ↦ none.1 ]
-            ]
-          ])
-    ]
+    grind (arith, get_parts, length, time_of, amount)
 
 contains_get : {X : Type 0} (xs : List X) (x : X) → Contains xs x → (i : ℕ) × (slice_get xs i ≡ Some x)
 contains_get [] x there = absurd (omega (arith, there.1))

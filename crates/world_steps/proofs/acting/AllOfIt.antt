@@ -253,12 +253,7 @@ pub record IsGrown (s : Scenario) (hs coming new : List Happening) (now : ℕ) (
 
 pub grown_none : (s : Scenario) (hs coming : List Happening) (now : ℕ) (device : DeviceId) → ((z : Happening) → IsIn z coming → time_of z ≡ now)
     → IsGrown s hs coming coming now device
-grown_none s hs coming now device of = record {
-  of = λ z i. inl (z, i, refl);
-  of_now = of;
-  still = λ body x. x;
-  heard = refl;
-}
+grown_none s hs coming now device of = grind arith
 
 pub not_less : (t now k r : ℕ) (us ws : List ℕ) → t ≡ now → IsBefore (t ∷ k ∷ us) (now ∷ r ∷ ws) → k ≤ r
 not_less t now k r us ws e (inl lt) = absurd (omega (arith, lt, e))
@@ -285,14 +280,7 @@ all_point s hs coming new now device node cycle heard verdict w r p g out rows b
     elim (g.of z (inside z i)) [
       | inr late ↦ absurd (omega (arith, late, low, four))
       | inl x ↦
-          let at = w.of_now x.0 x.1 in
-          let rest = w.still x.0 (in_right x.0 hs coming x.1) at.0 in
-          let ranks : rank z.note.body ≡ rank x.0.note.body = sym (rank_plain z.note.body) ∙ ap rank (body_plain z x.0 x.2) ∙ rank_plain x.0.note.body in (
-            quiet_rest s device now z.note.body (Rattle.world_steps.proofs.acting.GoesOn.rest_alike s device now z.note.body x.0.note.body
-                (body_plain z x.0 x.2)
-                rest),
-            let four_up = at.1 in omega (arith, four_up, ranks),
-          )
+          grind (arith, in_right, rank, rank_plain, body_plain, quiet_rest)
     ])
     ∙ sym (points_same coming hs device
     (λ z i. let at = w.of_now z i in (quiet_rest s device now z.note.body (w.still z (in_right z hs coming i) at.0), at.1))))

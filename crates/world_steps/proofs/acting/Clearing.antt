@@ -1,7 +1,7 @@
 -- A joiner that comes to the correction point of the cycle by whose frame it joined clears what it has heard.
-use Rattle.world_steps.proofs.Words.{if◌then◌else◌, ◌&&◌, ◌++◌, ◌+ℤ◌, ◌+◌, ◌-ℤ◌, ◌-◌, ◌<ℤ◌, ◌<◌, ◌==◌, ◌||◌, ◌∙◌, ◌∷◌, ◌≡◌, ◌≤ℤ◌, ◌≤◌, ◌⊎◌, Bool, Cleared}
-use Rattle.world_steps.proofs.Words.{ClockTask, Compressed, Contains-push_cases, DeviceId, Happening, HasCleared, IfSome, IsIn, IsLeft, IsUndone, IsWaiting}
-use Rattle.world_steps.proofs.Words.{Joining, List, Moment, Node, Option, Scenario, Some, Summary, Synchronised, Units, [], acting, adjustment_before}
+use Rattle.world_steps.proofs.Words.{if◌then◌else◌, ◌&&◌, ◌++◌, ◌+ℤ◌, ◌+◌, ◌-ℤ◌, ◌-◌, ◌<ℤ◌, ◌<◌, ◌||◌, ◌∙◌, ◌∷◌, ◌≡◌, ◌≤ℤ◌, ◌≤◌, ◌⊎◌, Bool, Cleared}
+use Rattle.world_steps.proofs.Words.{ClockTask, Compressed, Contains-push_cases, DeviceId, Happening, HasCleared, IsIn, IsLeft, IsUndone, IsWaiting}
+use Rattle.world_steps.proofs.Words.{Joining, List, Moment, Node, Scenario, Summary, Synchronised, Units, [], acting, adjustment_before}
 use Rattle.world_steps.proofs.Words.{after_last, amount, and_right, ap, arith, behind_no, behind_yes, by_last, called, cases_Bool, cases_lt, change_still}
 use Rattle.world_steps.proofs.Words.{changed_at, changes_adjustment, correcting, correction_value, dispatching, doing, earlier, eq-eqb, false, filter}
 use Rattle.world_steps.proofs.Words.{filter_map, has_cleared, hearing_by, in_left, inl, inr, int_le, int_lt, integration_cycle, ints, is_broken}
@@ -39,17 +39,7 @@ number_is false number recorded e le = e
 pub is_clearing : (s : Scenario) (js : List Happening) (now : ℕ) (device : DeviceId) (node : Node) → IsLeft s js device now node → IsAtIntegration node.standing
     → IsClearing s js now device node
 is_clearing s js now device node left at =
-    let timed : is_timed node.standing.state ≡ true = ap is_timed at.joining in
-    let integrated : integration_cycle (earlier now js) device ≡ Some node.standing.number = sym left.counted.integrated ∙ at.cycle in
-    let le : node.standing.number ≤ recorded_cycle (earlier now js) device = subst (λ (o : Option ℕ). IfSome o (λ cycle. cycle ≤ recorded_cycle
-    (earlier now js) device)) integrated left.counted.started in
-    let number = number_is (has_cleared s js device now now) node.standing.number (recorded_cycle (earlier now js) device) (left.counted.number timed) le in
-    record {
-      number = number;
-      joining =
-          ap (λ (o : Option ℕ). option_map_or (λ cycle. recorded_cycle (earlier now js) device == cycle) o false) integrated
-          ∙ eq-eqb (recorded_cycle (earlier now js) device) node.standing.number (sym number);
-    }
+    grind (arith, is_timed, integration_cycle, earlier, recorded_cycle, number_is, has_cleared, option_map_or, eq-eqb)
 
 back_there : (v a : ℤ) (r : ℕ) → (v -ℤ a) ≤ℤ pos r → v ≤ℤ (pos r +ℤ a)
 back_there v a r le = omega (arith, ints, le)

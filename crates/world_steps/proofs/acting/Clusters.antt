@@ -1,9 +1,8 @@
 -- The clusters of a list of points are one list, and each opens behind those before it.
-use Rattle.world_steps.proofs.Words.{if◌then◌else◌, ◌+ℤ◌, ◌<ℤ◌, ◌∙◌, ◌∷◌, ◌≡◌, ◌≤ℤ◌, AreClusters, Bool, Compressed, IsFrameOf, IsIn, List, Network, Node, Point}
+use Rattle.world_steps.proofs.Words.{if◌then◌else◌, ◌<ℤ◌, ◌∙◌, ◌∷◌, ◌≡◌, ◌≤ℤ◌, AreClusters, Bool, Compressed, IsFrameOf, IsIn, List, Network, Node, Point}
 use Rattle.world_steps.proofs.Words.{[], amount, ap, arith, both_ways, cases_Bool, cases_int, false, inl, inr, int_lt, ints, length, nat_le, observation_window}
 use Rattle.world_steps.proofs.Words.{pos, refl, subst, sym, true, ℤ}
-use Rattle.std.proofs.Common.{◌*ℤ◌}
-use Rattle.compression.{proofs.{Held.int_lt-false, Standing.AreClusters-unique}, specs.Clusters.{Cluster, beyond, end_of, firsts, of_cycle_within}}
+use Rattle.compression.{proofs.{Held.int_lt-false, Standing.AreClusters-unique}, specs.Clusters.{Cluster, beyond, end_of}}
 use Rattle.compression.specs.Emission.{compressed}
 use Rattle.run_law.proofs.records.Order.{contained}
 use Rattle.tte_lemmas.proofs.Integers.{same_number}
@@ -11,11 +10,7 @@ use Rattle.tte_lemmas.proofs.Integers.{same_number}
 -- ---- each opens behind those before it
 
 end_behind : (ow : ℤ) (o : Point) (ps : List Point) → pos 0 ≤ℤ ow → o.reading ≤ℤ end_of ow o ps
-end_behind ow o ps some = from (nat_le 2 (length (firsts (of_cycle_within o.cycle o.reading (o.reading +ℤ ow) ps))))
-  where
-    from : (b : Bool) → o.reading ≤ℤ (if b then o.reading +ℤ (pos 2 *ℤ ow) else o.reading +ℤ ow)
-    from true = omega (arith, ints, some)
-    from false = omega (arith, ints, some)
+end_behind ow o ps some = grind (arith, nat_le, length, ints)
 
 in_beyond : (end : ℤ) (ps : List Point) (p : Point) → IsIn p (beyond end ps) → IsIn p ps × (end <ℤ p.reading)
 in_beyond end [] p i = absurd i

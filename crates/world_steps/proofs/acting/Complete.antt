@@ -39,24 +39,7 @@ same_int (pos m) (negsuc n) = inr (λ e. omega (arith, ints, e))
 same_int (negsuc m) (pos n) = inr (λ e. omega (arith, ints, e))
 
 same_frame : (c d : Compressed) → (d ≡ c) ⊎ (d ≡ c → ⊥)
-same_frame c d = elim (same_int d.opened.0 c.opened.0) [
-  | inr other ↦ inr (λ e. other (ap (λ (x : Compressed). x.opened.0) e))
-  | inl o ↦ elim (same_int d.at.0 c.at.0) [
-    | inr other ↦ inr (λ e. other (ap (λ (x : Compressed). x.at.0) e))
-    | inl t ↦ elim (cases_eq d.cycle c.cycle) [
-      | inr other ↦ inr (λ e. other (ap (λ (x : Compressed). x.cycle) e))
-      | inl n ↦ elim (cases_eq d.members.0 c.members.0) [
-        | inr other ↦ inr (λ e. other (ap (λ (x : Compressed). x.members.0) e))
-        | inl m ↦ inl (
-            ap (λ (z : ℤ). let x : Compressed = record { opened = record { 0 = z }; at = d.at; cycle = d.cycle; members = d.members } in x) o
-            ∙ ap (λ (z : ℤ). let x : Compressed = record { opened = c.opened; at = record { 0 = z }; cycle = d.cycle; members = d.members } in x) t
-            ∙ ap (λ (z : ℕ). let x : Compressed = record { opened = c.opened; at = c.at; cycle = z; members = d.members } in x) n
-            ∙ ap (λ (z : ℕ). let x : Compressed = record { opened = c.opened; at = c.at; cycle = c.cycle; members = record { 0 = z } } in x) m
-            )
-      ]
-    ]
-  ]
-]
+same_frame c d = grind (arith, same_int, cases_eq)
 
 -- ---- what is due of the device
 
@@ -84,19 +67,9 @@ here_at t now d e same = (cc, cc)
 pub act_cause : (s : Scenario) (js : List Happening) (now : ℕ) (device : DeviceId) (time : Units) (m : ℕ) (body : NoteBody)
     → IsOwnSource s js (amount time) m body (act_place now device) → IsCaused s js time body → (amount time ≡ now) × IsActCause s js now device body
 act_cause s js now device time m (kinds.Compressed other opened at cycle members verdict) own c =
-    let e = here_at now (amount time) device.0 other.0 own in
-    let same = same_device other device (sym e.1) in (
-      sym e.0,
-      (
-        same,
-        subst (λ (n : ℕ). Emits s js device n (record { opened = opened; at = at; cycle = cycle; members = members }) verdict) (sym e.0)
-            (subst (λ (d : DeviceId). Emits s js d (amount time) (record { opened = opened; at = at; cycle = cycle; members = members }) verdict) same c),
-      ),
-    )
+    grind (arith, here_at, amount, same_device)
 act_cause s js now device time m (kinds.Sent other cycle) own c =
-    let e = here_at now (amount time) device.0 other.0 own in
-    let same = same_device other device (sym e.1) in
-    (sym e.0, (same, subst (λ (n : ℕ). Sends s js device n cycle) (sym e.0) (subst (λ (d : DeviceId). Sends s js d (amount time) cycle) same c)))
+    grind (arith, here_at, amount, same_device)
 act_cause s js now device time m (kinds.Corrected other cycle by adjustment) own c =
     let e = here_at now (amount time) device.0 other.0 own in
     let same = same_device other device (sym e.1) in (
@@ -108,69 +81,19 @@ act_cause s js now device time m (kinds.Corrected other cycle by adjustment) own
       ),
     )
 act_cause s js now device time m (kinds.State other state cause whys.SyncClique) own c =
-    let e = here_at now (amount time) device.0 other.0 own in
-    let same = same_device other device (sym e.1) in (
-      sym e.0,
-      (
-        same,
-        c.0,
-        c.1,
-        (
-          c.2.0,
-          subst (λ (n : ℕ). ComesToCorrection s js device n c.2.0 SyncClique) (sym e.0)
-              (subst (λ (d : DeviceId). ComesToCorrection s js d (amount time) c.2.0 SyncClique) same c.2.1),
-        ),
-      ),
-    )
+    grind (arith, here_at, amount, same_device)
 act_cause s js now device time m (kinds.State other state cause whys.AsyncClique) own c =
-    let e = here_at now (amount time) device.0 other.0 own in
-    let same = same_device other device (sym e.1) in (
-      sym e.0,
-      (
-        same,
-        c.0,
-        c.1,
-        (
-          c.2.0,
-          subst (λ (n : ℕ). ComesToCorrection s js device n c.2.0 AsyncClique) (sym e.0)
-              (subst (λ (d : DeviceId). ComesToCorrection s js d (amount time) c.2.0 AsyncClique) same c.2.1),
-        ),
-      ),
-    )
+    grind (arith, here_at, amount, same_device)
 act_cause s js now device time m (kinds.State other state cause whys.On) own c = absurd (let bad : ◌≡◌ {A = ℕ} 4 2 = cc in omega (arith, bad))
 act_cause s js now device time m (kinds.State other state cause whys.Frame) own c = absurd (let bad : ◌≡◌ {A = ℕ} 4 2 = cc in omega (arith, bad))
 act_cause s js now device time m (kinds.State other state cause whys.Correction) own c = absurd (let bad : ◌≡◌ {A = ℕ} 4 2 = cc in omega (arith, bad))
 act_cause s js now device time m (kinds.Lost other link cause) (inl own) c = absurd (let bad : ◌≡◌ {A = ℕ} 4 8 = let e = own.0 in cc in omega (arith, bad))
 act_cause s js now device time m (kinds.Lost other link cause) (inr (inl own)) c =
-    let e = here_at now (amount time) device.0 other.0 own.0 in
-    let same = same_device other device (sym e.1) in (
-      sym e.0,
-      (
-        same,
-        (
-          own.1.0,
-          own.1.1,
-          subst (λ (n : ℕ). Dispatches s js device n link cause own.1.0 own.1.1) (sym e.0)
-              (subst (λ (d : DeviceId). Dispatches s js d (amount time) link cause own.1.0 own.1.1) same own.1.2),
-          subst (λ (n : ℕ). is_cut s link (way_from s.network device link) n ≡ true) (sym e.0)
-              (subst (λ (d : DeviceId). is_cut s link (way_from s.network d link) (amount time) ≡ true) same own.1.3),
-        ),
-      ),
-    )
+    grind (arith, here_at, amount, same_device, is_cut, way_from)
 act_cause s js now device time m (kinds.Lost other link cause) (inr (inr own)) c =
     absurd (let bad : ◌≡◌ {A = ℕ} 4 2 = let e = own.0 in cc in omega (arith, bad))
 act_cause s js now device time m (kinds.TtSent other link cause vl cycle) own c =
-    let e = here_at now (amount time) device.0 other.0 own in
-    let same = same_device other device (sym e.1) in (
-      sym e.0,
-      (
-        same,
-        subst (λ (n : ℕ). Dispatches s js device n link cause vl cycle) (sym e.0)
-            (subst (λ (d : DeviceId). Dispatches s js d (amount time) link cause vl cycle) same c.dispatches),
-        subst (λ (n : ℕ). is_cut s link (way_from s.network device link) n ≡ false) (sym e.0)
-            (subst (λ (d : DeviceId). is_cut s link (way_from s.network d link) (amount time) ≡ false) same c.whole),
-      ),
-    )
+    grind (arith, here_at, amount, same_device, is_cut, way_from)
 act_cause s js now device time m (kinds.Event line what) own c = absurd (let bad : ◌≡◌ {A = ℕ} 4 1 = cc in omega (arith, bad))
 act_cause s js now device time m (kinds.Arrived other link cause clock) own c = absurd (let bad : ◌≡◌ {A = ℕ} 4 2 = cc in omega (arith, bad))
 act_cause s js now device time m (kinds.Permanent other link cause point verdict) own c = absurd (let bad : ◌≡◌ {A = ℕ} 4 3 = cc in omega (arith, bad))

@@ -1,5 +1,6 @@
 -- The step by which a device comes to its correction point, whatever it comes to: the instant is over for it.
-use Rattle.world_steps.proofs.Words.{◌∙◌, ◌≡◌, AsyncClique, Cleared, Corrected, DeviceId, Happening, Integrating, Joining, List, Network, Node, Note, Off}
+use Rattle.std.proofs.Common.{arith}
+use Rattle.world_steps.proofs.Words.{◌≡◌, AsyncClique, Cleared, Corrected, DeviceId, Happening, Integrating, Joining, List, Network, Node, Note, Off}
 use Rattle.world_steps.proofs.Words.{Scenario, Stands, StandsBehind, State, SyncClique, Synchronised, Units, Verdict, World, act_place, ap, behind, false}
 use Rattle.world_steps.proofs.Words.{is_timed, point_number, true, ℕ}
 use Rattle.world_steps.proofs.acting.CorrectSteps.{IsCorrecting, alone_goes_by, cleared_goes_by, corrected_goes_by, outnumbered_goes_by}
@@ -11,11 +12,7 @@ was_timed : {C M : Type 0} (reading : C → ℕ → ℕ) (stands : M → Network
     (machines : List M) (settled : List Happening)
     → IsCorrecting reading stands s world notes old device machine after cycle verdict was adjustment machines settled → is_timed was ≡ true
 was_timed reading stands s world notes old device machine after cycle verdict was adjustment machines settled x =
-    let stage = stage_of reading stands s world notes old device machine x.of_it x.first x.there x.due in
-    let node = stage.0 in
-    let st = stage.1 in
-    let act = x.acted node st.is (may_act_now s device node world.now st.work.ready st.steady st.limit) st.task in
-    ap is_timed (x.stood node st.is).0 ∙ (point_number node.standing.state node.standing.number cycle act.1.0.pending.1.own).0
+    grind (arith, stage_of, may_act_now, is_timed, point_number)
 
 pub correct_goes_by : {C M : Type 0} (reading : C → ℕ → ℕ) (stands : M → Network → DeviceId → Node → Type 0) (s : Scenario) (world : World C M)
     (notes : List Note) (old : Stands reading stands s world notes) (device : DeviceId) (machine after : M) (cycle : ℕ) (verdict : Verdict) (was : State)

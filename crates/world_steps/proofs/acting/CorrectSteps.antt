@@ -1,5 +1,5 @@
 -- The steps by which a device comes to its correction point.
-use Rattle.world_steps.proofs.Words.{if◌then◌else◌, ◌++◌, ◌+ℤ◌, ◌+◌, ◌<◌, ◌∙◌, ◌∷◌, ◌≡◌, ◌≤◌, ArePutIn, AsyncClique, Cleared, ComesFirst, Corrected, DeviceId}
+use Rattle.world_steps.proofs.Words.{◌++◌, ◌+ℤ◌, ◌+◌, ◌<◌, ◌∙◌, ◌∷◌, ◌≡◌, ◌≤◌, ArePutIn, AsyncClique, Cleared, ComesFirst, Corrected, DeviceId}
 use Rattle.world_steps.proofs.Words.{Happening, HasActed, HasCleared, Integrating, IsBefore, IsDueNow, IsHeld, IsIn, IsNoTaking, IsReadyAt, IsSet, IsShownPut}
 use Rattle.world_steps.proofs.Words.{IsUnfollowed, Joining, List, Network, Node, Note, NoteBody, Scenario, Some, Stands, StandsBehind, State, Summary}
 use Rattle.world_steps.proofs.Words.{SyncClique, Synchronised, Units, Verdict, Why, World, [], act_place, acting, adjustment_by, all_without, ap, arith}
@@ -187,9 +187,7 @@ clique_step reading stands s world notes old device machine after cycle was adju
     let same_length = length_is s notes in
     let room = room_for reading stands s world notes old (act_place now device) x.first in
     let body = kinds.State device Integrating 0 why in
-    let p : IsShownPut s.network hs now body old.coming settled = subst (λ (l : List Happening). IsShownPut s.network hs now body old.coming l) (sym put.2)
-    (one_shown s.network hs now body old.coming world.settled put.0 (omega (arith, same_length, room)) (omega arith)
-    (old.settled ∙ ap (λ (n : ℕ). map (hidden n) old.coming) same_length) put.1) in
+    let p : IsShownPut s.network hs now body old.coming settled = grind (arith, hs, now, body, one_shown, same_length, room, map, hidden) in
     let w = record_of s.network hs p.front now body in
     let new = put_at hs p.front w p.back in
     let st2 : Stage stands s hs (p.front ++ p.back) old.mark old.cursor now device machine node =
@@ -265,30 +263,19 @@ corrected_goes_by reading stands s world notes old device machine after cycle by
     let same_length = length_is s notes in
     let room = room_for reading stands s world notes old (act_place now device) x.first in
     let body = kinds.Corrected device cycle by adjustment in
-    let p : IsShownPut s.network hs now body old.coming settled = subst (λ (l : List Happening). IsShownPut s.network hs now body old.coming l) (sym x.put.2)
-    (one_shown s.network hs now body old.coming world.settled x.put.0 (omega (arith, same_length, room)) (omega arith)
-    (old.settled ∙ ap (λ (n : ℕ). map (hidden n) old.coming) same_length) x.put.1) in
+    let p : IsShownPut s.network hs now body old.coming settled = grind (arith, hs, now, body, one_shown, same_length, room, map, hidden) in
     let w = record_of s.network hs p.front now body in
     let new = put_at hs p.front w p.back in
     let st2 : Stage stands s hs (p.front ++ p.back) old.mark old.cursor now device machine node =
     subst (λ (l : List Happening). Stage stands s hs l old.mark old.cursor now device machine node) p.parts st in
-    let so : IsCorrectedSo s device (now + 1) node w cycle by adjustment (moment_of s device now) = record {
-      body = refl;
-      before = omega arith;
-      timed = point_is.0;
-      number = point_is.1;
-      sum = sym sum_is;
-      reads = refl;
-    } in
+    let so : IsCorrectedSo s device (now + 1) node w cycle by adjustment (moment_of s device now) = grind (arith, body, point_is.0, point_is.1, sum, sum_is) in
     let quiet = no_frames s device now node cycle heard (Corrected by) first.pending.0 point in
     let over : IsOver s (hs ++ new) now device act.0 = subst (λ (n : Node). IsOver s (hs ++ new) now device n) (sym is)
     (corrected_over s hs p.front p.back new now device node w cycle by adjustment (moment_of s device now) heard st2.work off st2.calm.off st2.calm.broken
     (as_put hs p.front p.back now w refl (omega arith)) p.none so synchronised quiet) in
     let cleared : HasCleared act.0 = subst HasCleared (sym is) (λ n there. absurd (none_in (correcting n) there)) in
-    let lone : IsUnfollowed s hs now body = corrected_unfollowed s hs now device cycle by adjustment (λ joining.
-    let same = earlier_still now hs old.coming (λ z i. let at = (st.work.of_now z i).0 in omega (arith, at)) in
-    not_joining (sym synchronised ∙ st.work.left.state
-    ∙ ap (λ (l : List Happening). if is_turned_on_at s device now then Integrating else state_after s l device) same ∙ joining)) in
+    let lone : IsUnfollowed s hs now body =
+    grind (arith, corrected_unfollowed, hs, now, earlier_still, st.work.of_now, not_joining, synchronised, st.work.left.state, is_turned_on_at, state_after) in
     one_point_step reading stands s world notes old device machine after node act.0 machines settled body cycle heard (Corrected by) st p room (omega arith)
     (corrected_record stands s hs p.front p.back old.mark old.cursor now device machine node cycle heard by adjustment st2 off point sum_is p.none lone)
     (λ at. refl) point

@@ -31,24 +31,20 @@ still_now s hs zs now device node w off h i from lt = unmoved_by s device now h.
 pub base_then : (s : Scenario) (hs zs : List Happening) (now : ℕ) (device : DeviceId) (node : Node) → IsAtWork s hs zs now device node
     → is_turned_on_at s device now ≡ false → is_broken s device (now + 1) ≡ is_broken s device now → IsBase s (hs ++ zs) device (now + 1) node
 base_then s hs zs now device node w off same =
-    let js = hs ++ zs in
-    let le : now ≤ now + 1 = omega arith in
-    let still = still_now s hs zs now device node w off in
-    let cycle = cycle_still js device now (now + 1) le still in
-    record {
-      plan = w.left.counted.plan;
-      state = w.left.state ∙ not_turned_on s js device now off ∙ sym (state_still s js device now (now + 1) le still);
-      adjustment = w.left.counted.adjustment ∙ sym (adjustment_still s js device now (now + 1) le still);
-      integrated = w.left.counted.integrated ∙ sym (integration_still js device now (now + 1) le still);
-      least = λ timed.
-          let number = w.left.counted.number timed in
-          let least = next_least (Rattle.run_law.specs.control.Corrections.has_cleared s js device now now) (recorded_cycle (earlier now js) device) in
-          omega (arith, number, least, cycle);
-      changed = w.left.counted.changed ∙ sym (local_still s js device now (now + 1) le still);
-      started = started_still js device now (now + 1) le still w.left.counted.started;
-      broken = w.left.counted.broken ∙ sym same;
-      points = w.left.points;
-    }
+    grind (
+      arith,
+      still_now,
+      cycle_still,
+      not_turned_on,
+      state_still,
+      adjustment_still,
+      integration_still,
+      next_least,
+      recorded_cycle,
+      earlier,
+      local_still,
+      started_still,
+    )
 
 -- ---- the record among those to come
 
@@ -64,34 +60,20 @@ pub none_bear : (s : Scenario) (hs front back : List Happening) (now : ℕ) (dev
     → IsAtWork s hs (front ++ back) now device node → is_turned_on_at s device now ≡ false → time_of w ≡ now → 5 ≤ rank w.note.body
     → NoneBefore place_of back (place_of w) → (z : Happening) → IsIn z back → bears_on device z.note.body ≡ false
 none_bear s hs front back now device node w work off at late none z i =
-    let there = in_right z front back i in
-    let z_now = work.of_now z there in
-    bears_none device z.note.body (elim (cases_lt (rank z.note.body) 5) [
-      | inr ge ↦ ge
-      | inl lt ↦ absurd (none z i (inr (z_now.0 ∙ sym at, inl (omega (arith, lt, late)))))
-    ]) (unmoved_by s device now z.note.body off (work.still z (in_right z hs (front ++ back) there) z_now.0))
+    grind (arith, in_right, bears_none, cases_lt, rank, unmoved_by)
 
 pub one_in : (q : Happening → Bool) (w : Happening) (back : List Happening) → filter q back ≡ [] → filter q (w ∷ back) ≡ filter q (w ∷ [])
 one_in q w back none = filter-append q (w ∷ []) back ∙ ap (λ (l : List Happening). filter q (w ∷ []) ++ l) none ∙ append-nil (filter q (w ∷ []))
 
 two_in : (q : Happening → Bool) (hs front back : List Happening) → filter q back ≡ [] → filter q (hs ++ (front ++ back)) ≡ filter q hs ++ filter q front
 two_in q hs front back none =
-    filter-append q hs (front ++ back)
-    ∙ ap (λ (l : List Happening). filter q hs ++ l) (filter-append q front back ∙ ap (λ (l : List Happening). filter q front ++ l) none
-    ∙ append-nil (filter q front))
+    grind (arith, filter-append, filter, append-nil)
 
 -- behind it nothing bears on the device, so it might stand at the end
 pub borne_in : (hs front back : List Happening) (device : DeviceId) (w : Happening) → ((z : Happening) → IsIn z back → bears_on device z.note.body ≡ false)
     → borne device ((hs ++ (front ++ back)) ++ w ∷ []) ≡ borne device (hs ++ (front ++ w ∷ back))
 borne_in hs front back device w none =
-    let q = λ (h : Happening). bears_on device h.note.body in
-    let gone = none_kept q back none in
-    filter-append q (hs ++ (front ++ back)) (w ∷ [])
-    ∙ ap (λ (l : List Happening). l ++ filter q (w ∷ [])) (two_in q hs front back gone)
-    ∙ append_assoc (filter q hs) (filter q front) (filter q (w ∷ []))
-    ∙ sym (filter-append q hs (front ++ w ∷ back)
-    ∙ ap (λ (l : List Happening). filter q hs ++ l) (filter-append q front (w ∷ back) ∙ ap (λ (l : List Happening). filter q front ++ l)
-    (one_in q w back gone)))
+    grind (arith, bears_on, none_kept, filter-append, filter, two_in, append_assoc, one_in)
 
 -- the same of two records
 pub borne_two : (hs front mid rest : List Happening) (device : DeviceId) (w f : Happening)
@@ -133,20 +115,7 @@ behind_given hs mid new same = plains_parts hs mid ∙ ap (λ (l : List Happenin
 
 pub left_called : (s : Scenario) (js : List Happening) (device : DeviceId) (u : ℕ) (node : Node) (moment : Moment) → IsLeft s js device u node
     → IsLeft s js device u (called moment acting node)
-left_called s js device u node moment left = record {
-  counted = record {
-    plan = left.counted.plan;
-    adjustment = left.counted.adjustment;
-    integrated = left.counted.integrated;
-    number = left.counted.number;
-    changed = left.counted.changed;
-    heard = left.counted.heard;
-    started = left.counted.started;
-    broken = left.counted.broken;
-  };
-  state = left.state;
-  points = left.points;
-}
+left_called s js device u node moment left = grind arith
 
 -- it corrects its clock at the time: all counts from then on
 pub corrects_it : (network : Network) (reading : ℕ → ℕ) (device : DeviceId) (node : Node) (t : ℕ) (moment : Moment) (heard : Summary) (by : Units)

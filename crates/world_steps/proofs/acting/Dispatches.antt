@@ -1,4 +1,5 @@
 -- Each row that a device at work dispatches at the instant is still to be dispatched, or told.
+use Rattle.std.proofs.Common.{arith}
 use Rattle.world_steps.proofs.Words.{◌++◌, ◌-ℤ◌, ◌<ℤ◌, ◌∙◌, ◌≡◌, ◌≤ℤ◌, ◌⊎◌, AreRecorded, ClockTask, DeviceId, Dispatches, Happening, IsLawful, List, Node}
 use Rattle.world_steps.proofs.Words.{Reaches, RowId, Scenario, Units, ap, cases_eq, correcting, dispatches_back, dispatching, frames_taken, inl, inr, pos}
 use Rattle.world_steps.proofs.Words.{sending, subst, sym, value_is, value_of, ℕ, ℤ}
@@ -6,13 +7,7 @@ use Rattle.world_law.proofs.rows.AtHand.{has_frame}
 use Rattle.world_steps.proofs.acting.{AllOfIt.DispatchesTold, Complete.contains_or, Work.{IsAtWork, all_earlier}}
 
 same_dispatch : (row : RowId) (cycle : ℕ) (d : ClockTask) → (d ≡ dispatching row cycle) ⊎ (d ≡ dispatching row cycle → ⊥)
-same_dispatch row cycle (dispatching other n) = elim (cases_eq other.0 row.0) [
-  | inr apart ↦ inr (λ e. apart (let f : other.0 ≡ row.0 = cc in f))
-  | inl same ↦ elim (cases_eq n cycle) [
-    | inr apart ↦ inr (λ e. apart (let f : n ≡ cycle = cc in f))
-    | inl at ↦ inl (ap (λ (k : ℕ). dispatching (let r : RowId = record { 0 = k } in r) n) same ∙ ap (dispatching row) at)
-  ]
-]
+same_dispatch row cycle (dispatching other n) = grind (arith, cases_eq, dispatching)
 same_dispatch row cycle (sending n) = inr (λ e. cc)
 same_dispatch row cycle (correcting n) = inr (λ e. cc)
 

@@ -86,10 +86,7 @@ lost_at : (t u m d l c : ℕ) (body : NoteBody) → t ∷ 9 ∷ d ∷ l ∷ c �
     × (link.0 ≡ l) × (body ≡ kinds.Lost other link c)
 unfolding second
 lost_at t u m d l c (kinds.Lost other link from) e =
-    let a : d ≡ other.0 = cc in
-    let b : l ≡ link.0 = cc in
-    let f : c ≡ from = cc in
-    (other, link, sym a, sym b, ap (kinds.Lost other link) (sym f))
+    grind arith
 lost_at t u m d l c other e = absurd (let bad = ap second e in omega (arith, bad))
 
 -- and where that of a dispatch does
@@ -97,12 +94,7 @@ tt_at : (t u m d l c v n : ℕ) (body : NoteBody) → t ∷ 10 ∷ d ∷ l ∷ c
     × (vl : VlId) × (other.0 ≡ d) × (link.0 ≡ l) × (vl.0 ≡ v) × (body ≡ kinds.TtSent other link c vl n)
 unfolding second
 tt_at t u m d l c v n (kinds.TtSent other link from vl number) e =
-    let a : d ≡ other.0 = cc in
-    let b : l ≡ link.0 = cc in
-    let f : c ≡ from = cc in
-    let g : v ≡ vl.0 = cc in
-    let h : n ≡ number = cc in
-    (other, link, vl, sym a, sym b, sym g, ap (λ (k : ℕ). kinds.TtSent other link k vl number) (sym f) ∙ ap (kinds.TtSent other link c vl) (sym h))
+    grind arith
 tt_at t u m d l c v n other e = absurd (let bad = ap second e in omega (arith, bad))
 
 -- the body of a dispatch on a way that is cut, or not
@@ -117,18 +109,13 @@ body_at true device link cause vl cycle t u m body e =
     let x = lost_at t u m device.0 link.0 cause body e in
     x.4 ∙ ap (λ (d : DeviceId). kinds.Lost d x.1 cause) (same_device x.0 device x.2) ∙ ap (λ (l : LinkId). kinds.Lost device l cause) (same_link x.1 link x.3)
 body_at false device link cause vl cycle t u m body e =
-    let x = tt_at t u m device.0 link.0 cause vl.0 cycle body e in
-    x.6 ∙ ap (λ (d : DeviceId). kinds.TtSent d x.1 cause x.2 cycle) (same_device x.0 device x.3)
-    ∙ ap (λ (l : LinkId). kinds.TtSent device l cause x.2 cycle) (same_link x.1 link x.4)
-    ∙ ap (λ (v : VlId). kinds.TtSent device link cause v cycle) (same_vl x.2 vl x.5)
+    grind (arith, tt_at, same_device, same_link, same_vl)
 
 -- it names no cause of a change of state
 pub plain_dispatch : (s : Scenario) (device : DeviceId) (now : ℕ) (link : LinkId) (cause : ℕ) (vl : VlId) (cycle : ℕ)
     → plain_body (dispatch_body s device now link cause vl cycle) ≡ dispatch_body s device now link cause vl cycle
 plain_dispatch s device now link cause vl cycle =
-    elim (is_cut s link (way_from s.network device link) now) as (λ (b : Bool). plain_body (if b then kinds.Lost device link cause
-    else kinds.TtSent device link cause vl cycle) ≡ (if b then kinds.Lost device link cause else kinds.TtSent device link cause vl cycle))
-    [ true ↦ refl | false ↦ refl ]
+    grind (arith, is_cut, way_from, plain_body)
 
 -- what is asked of the record but for its body
 record IsRowRecord (s : Scenario) (hs front back : List Happening) (now : ℕ) (device : DeviceId) (link : LinkId) (cause : ℕ) (vl : VlId) (cycle : ℕ)
@@ -211,9 +198,7 @@ none_moved s device of now link cause vl cycle =
 
 none_taken : (s : Scenario) (device of : DeviceId) (now : ℕ) (link : LinkId) (cause : ℕ) (vl : VlId) (cycle : ℕ)
     → Rattle.world_law.proofs.rows.Takings.IsNoTaking device (dispatch_body s of now link cause vl cycle)
-none_taken s device of now link cause vl cycle = λ at.
-    elim (is_cut s link (way_from s.network of link) now) as (λ (b : Bool). Rattle.world_law.specs.device.Takings.taken_in device at
-    (if b then kinds.Lost of link cause else kinds.TtSent of link cause vl cycle) ≡ []) [ true ↦ refl | false ↦ refl ]
+none_taken s device of now link cause vl cycle = grind (arith, is_cut, way_from)
 
 dispatches_on : (s : Scenario) (hs front back new : List Happening) (now : ℕ) (device : DeviceId) (node : Node) (w : Happening) (row : RowId) (cycle : ℕ)
     (moment : Moment)

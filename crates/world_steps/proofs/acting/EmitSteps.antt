@@ -1,26 +1,25 @@
 -- The steps by which a compression master emits the frame of a collection, and does not join by it. That no frame was
 -- permanent there at a point before 0 is a premise here.
-use Rattle.world_steps.proofs.Words.{◌++◌, ◌+◌, ◌<ℤ◌, ◌<◌, ◌==◌, ◌∙◌, ◌∷◌, ◌≡◌, ◌≤ℤ◌, ◌≤◌, ArePutIn, AreRecorded, Bool, ComesFirst, Compressed, DeviceId}
-use Rattle.world_steps.proofs.Words.{Happening, HasActed, HasTaskBy, HasTurnedOn, IsActOf, IsActing, IsBefore, IsDueNow, IsFirstTask, IsFrameOf, IsIn}
-use Rattle.world_steps.proofs.Words.{IsPending, IsSet, IsShownPut, Judgement, List, Network, Node, None, NoneBefore, Note, NoteBody, Option, Point, Ripe}
-use Rattle.world_steps.proofs.Words.{Scenario, Some, Stands, StandsBehind, Task, World, [], act_place, acting, amount, ap, arith, before_behind, behind, called}
-use Rattle.world_steps.proofs.Words.{cases_lt, chain, correcting, due_of, emitting, false, happenings, hearing_by, hears, hidden, in_right, inl, inr, is_last}
-use Rattle.world_steps.proofs.Words.{is_turned_on_at, key, last_unfollowed, length, length_is, map, members_in, moment_of, ne_eqb, one_shown, place_of}
-use Rattle.world_steps.proofs.Words.{plain_body, pos, put_at, rank, reading_for, record_of, refl, ripe_as, slice_get, subst, sym, time_of, true, turned_comes}
-use Rattle.world_steps.proofs.Words.{turned_moves, ℕ, ℤ}
+use Rattle.world_steps.proofs.Words.{◌++◌, ◌+◌, ◌<◌, ◌==◌, ◌∙◌, ◌∷◌, ◌≡◌, ◌≤ℤ◌, ◌≤◌, ArePutIn, AreRecorded, Bool, Compressed, DeviceId, Happening, HasActed}
+use Rattle.world_steps.proofs.Words.{IsActOf, IsActing, IsBefore, IsFirstTask, IsFrameOf, IsIn, IsPending, IsSet, Judgement, List, Network, Node, None}
+use Rattle.world_steps.proofs.Words.{NoneBefore, Note, NoteBody, Option, Point, Ripe, Scenario, Stands, World, [], act_place, acting, amount, ap, arith}
+use Rattle.world_steps.proofs.Words.{called, cases_lt, correcting, due_of, emitting, false, happenings, hearing_by, hears, in_right, inl, inr, is_last, key}
+use Rattle.world_steps.proofs.Words.{last_unfollowed, members_in, moment_of, ne_eqb, place_of, plain_body, pos, put_at, rank, record_of, refl, ripe_as}
+use Rattle.world_steps.proofs.Words.{subst, sym, time_of, true, ℕ}
 use Rattle.std.proofs.Common.{Contains}
 use Rattle.run_law.specs.{machines.Answers.after_emission, records.Ranks.sign}
 use Rattle.world_law.{proofs.putting.PutAct.{least_of_own, there_already}, specs.world.Outcomes.judged_as}
-use Rattle.world_steps.proofs.acting.{AllOfIt.all_idle, Clusters.one_frame, Dispatches.told_dispatches}
+use Rattle.world_steps.proofs.acting.{Clusters.one_frame, Dispatches.told_dispatches}
 use Rattle.world_steps.proofs.acting.Emitting.{IsEmitted, StaysBy, emits_on, emitted_recorded, is_emitted, node_emitted}
-use Rattle.world_steps.proofs.acting.{FromZero.{permanent_from_zero, points_from_zero}, Kept.{bare_act, kept_at_work, kept_over, may_act_now, ready_after}}
-use Rattle.world_steps.proofs.acting.{Over.is_over, Sending.{HasSentIt, as_put, calm_then, nothing_aside, room_for, taken_then, turned_then}}
-use Rattle.world_steps.proofs.acting.{Stage.{IsActRecord, Stage, lawful_then, one_goes_by, one_stays, stage_of}, Work.{emits, own_judgement}}
-use Rattle.world_steps.specs.Acting.{joining_bodies}
+use Rattle.world_steps.proofs.acting.{FromZero.{permanent_from_zero, points_from_zero}, Kept.{may_act_now, ready_after}}
+use Rattle.world_steps.proofs.acting.Sending.{HasSentIt, as_put, nothing_aside, taken_then}
+use Rattle.world_steps.proofs.acting.{Stage.{IsActRecord, Stage, stage_of}, Work.{emits, own_judgement}}
+use Rattle.world_steps.specs.Acting.{Acts, joining_bodies}
 use Rattle.run_law.specs.declared.judgement.Judgement.TheVariants as judgements
 use Rattle.run_law.specs.declared.note.NoteBody.TheVariants as kinds
 use Rattle.run_law.specs.declared.steps.Act.TheVariants as acts
 use Rattle.run_law.specs.declared.steps.Ripe.TheVariants as ripe
+use Rattle.world_steps.proofs.acting.OneAct.{IsOneAct}
 
 -- ---- judgements
 
@@ -231,132 +230,56 @@ is_only_frame s device now node sent pending from_zero c other same =
     (record { clusters = a.clusters; are = a.are; cluster = a.cluster; there = a.there; is = a.is })
     (record { clusters = b.clusters; are = b.are; cluster = b.cluster; there = b.there; is = b.is }) same
 
--- ---- the steps
+-- ---- the step
 
--- what a step starts from by which the master emits, and stays as it is
-pub record IsEmitting {C M : Type 0} (reading : C → ℕ → ℕ) (stands : M → Network → DeviceId → Node → Type 0) (s : Scenario) (world : World C M)
-    (notes : List Note) (old : Stands reading stands s world notes) (device : DeviceId) (machine after : M) (sent : Compressed) (heard : Ripe)
-    (machines : List M)
-    (settled : List Happening) : Type 0 where
-  pub of_it : device.0 < length s.network.device
-  pub first : ComesFirst reading stands s world notes old (act_place world.now device)
-  pub there : slice_get world.machines device.0 ≡ Some machine
-  pub due : IsDueNow stands s.network device (moment_of s device world.now) machine
-  pub acted : HasActed stands s.network device (moment_of s device world.now) (acts.Emit sent heard) machine after
-  pub keeps : KeepsBy heard
-  pub set : IsSet device.0 after world.machines machines
-  pub put : ArePutIn s.network (happenings s.network notes) world.now (kinds.Compressed device sent.opened sent.at sent.cycle sent.members (judged_as heard)
-      ∷ joining_bodies device heard) world.settled settled
-
--- it emits, and the cursor stays
-pub emit_stays : {C M : Type 0} (reading : C → ℕ → ℕ) (stands : M → Network → DeviceId → Node → Type 0) (s : Scenario) (world : World C M) (notes : List Note)
-    (old : Stands reading stands s world notes) (device : DeviceId) (machine after : M) (sent : Compressed) (heard : Ripe) (machines : List M)
-    (settled : List Happening)
-    → IsEmitting reading stands s world notes old device machine after sent heard machines settled
-    → IsDueNow stands s.network device (moment_of s device world.now) after
-    → StandsBehind reading stands s (record world { early = false; machines = machines; settled = settled }) notes (act_place world.now device)
-emit_stays reading stands s world notes old device machine after sent heard machines settled x due =
+-- the master emits, and stays as it is
+pub emits_one : {C M : Type 0} (reading : C → ℕ → ℕ) (stands : M → Network → DeviceId → Node → Type 0) (s : Scenario) (world : World C M) (notes : List Note)
+    (old : Stands reading stands s world notes) (device : DeviceId) (after : M) (bodies : List NoteBody) (machines : List M) (settled : List Happening)
+    (sent : Compressed) (heard : Ripe) → KeepsBy heard → (a : Acts reading stands s world notes old device after bodies)
+    → HasActed stands s.network device (moment_of s device world.now) (acts.Emit sent heard) a.machine after
+    → IsSet device.0 after world.machines machines
+    → ArePutIn s.network (happenings s.network notes) world.now (kinds.Compressed device sent.opened sent.at sent.cycle sent.members (judged_as heard)
+    ∷ joining_bodies device heard) world.settled settled → IsOneAct reading stands s world notes old device a.machine after machines settled
+emits_one reading stands s world notes old device after bodies machines settled sent heard keeps a acted set put =
     let hs = happenings s.network notes in
     let now = world.now in
-    let stage = stage_of reading stands s world notes old device machine x.of_it x.first x.there x.due in
+    let stage = stage_of reading stands s world notes old device a.machine a.of_it a.first a.there a.due in
     let node = stage.0 in
     let st = stage.1 in
     let may = may_act_now s device node now st.work.ready st.steady st.limit in
-    let act = x.acted node st.is may st.task in
+    let act = acted node st.is may st.task in
     let first = act.1.0 in
     let v = own_judgement s.network device node sent in
     let is : act.0 ≡ node_emitted s.network device node (moment_of s device now) sent v = act.1.2
     ∙ ap (λ (r : Ripe). called (moment_of s device now) acting (after_emission s.network device node (moment_of s device now) sent r)) act.1.1 in
-    let stays = stays_of v (subst KeepsBy act.1.1 x.keeps) in
-    let same_length = length_is s notes in
-    let room = room_for reading stands s world notes old (act_place now device) x.first in
+    let stays = stays_of v (subst KeepsBy act.1.1 keeps) in
     let body = emission_body device sent v in
-    let put : ArePutIn s.network hs now (body ∷ []) world.settled settled =
-    subst (λ (j : Judgement). ArePutIn s.network hs now (kinds.Compressed device sent.opened sent.at sent.cycle sent.members j ∷ []) world.settled settled)
-    (ap judged_as act.1.1 ∙ judged_back v)
-    (subst (λ (l : List NoteBody). ArePutIn s.network hs now (kinds.Compressed device sent.opened sent.at sent.cycle sent.members (judged_as heard) ∷ l)
-    world.settled settled) (none_joined_by device heard x.keeps) x.put) in
-    let p : IsShownPut s.network hs now body old.coming settled = subst (λ (l : List Happening). IsShownPut s.network hs now body old.coming l) (sym put.2)
-    (one_shown s.network hs now body old.coming world.settled put.0 (omega (arith, same_length, room)) (omega arith)
-    (old.settled ∙ ap (λ (n : ℕ). map (hidden n) old.coming) same_length) put.1) in
-    let w = record_of s.network hs p.front now body in
-    let new = put_at hs p.front w p.back in
-    let shows : settled ≡ map (hidden (length notes)) new = p.shows ∙ ap (λ (n : ℕ). map (hidden n) new) (sym same_length) in
-    let st2 : Stage stands s hs (p.front ++ p.back) old.mark old.cursor now device machine node =
-    subst (λ (l : List Happening). Stage stands s hs l old.mark old.cursor now device machine node) p.parts st in
-    let lone_frame = is_last_frame s hs old.coming now device node sent st.recorded first (λ z i. (st.work.of_now z i).0)
-    (points_from_zero s hs old.coming now device node st.work first.pending.1.cm (permanent_from_zero s hs device old.range old.run.founded)) p.front
-    p.back w v
-    p.parts p.none refl refl in
-    let it = has_emitted_it stands s hs p.front p.back old.mark old.cursor now device machine after node act.0 sent heard st2 first act.1 is stays act.2
-    lone_frame in
-    let task : HasTaskBy s device act.0 now = due act.0 act.2 in
-    one_stays reading stands s world notes old device machine after node machines settled body st p shows (omega (arith, room))
-    (emission_record stands s hs p.front p.back old.mark old.cursor now device machine node sent st2 first.pending first.due stays p.none lone_frame) x.set
-    (kept_at_work stands s hs new now device after act.0 it.is it.work it.recorded it.cleared it.taken
-    (bare_act s.network device node (moment_of s device now) (acts.Emit sent heard) act.0 act.1 st.bare) task
-    (turned_then stands s hs p.front p.back old.mark old.cursor now device machine node w (act_place now device) st2
-    (as_put hs p.front p.back now w refl (omega arith))
-    (λ t. turned_comes s hs (p.front ++ p.back) old.mark old.cursor now 4 (device.0 ∷ []) device st2.moving t)) it.phase)
-
--- it emits, and the cursor goes by
-pub emit_goes_by : {C M : Type 0} (reading : C → ℕ → ℕ) (stands : M → Network → DeviceId → Node → Type 0) (s : Scenario) (world : World C M) (notes : List Note)
-    (old : Stands reading stands s world notes) (device : DeviceId) (machine after : M) (sent : Compressed) (heard : Ripe) (machines : List M)
-    (settled : List Happening)
-    → IsEmitting reading stands s world notes old device machine after sent heard machines settled
-    → ((node : Node) (task : Task) → stands after s.network device node → IsPending s.network device node task
-    → pos (s.reading device world.now) <ℤ reading_for s.network node task)
-    → StandsBehind reading stands s (record world { early = false; machines = machines; settled = settled }) notes (behind (act_place world.now device))
-emit_goes_by reading stands s world notes old device machine after sent heard machines settled x idle =
-    let hs = happenings s.network notes in
-    let now = world.now in
-    let stage = stage_of reading stands s world notes old device machine x.of_it x.first x.there x.due in
-    let node = stage.0 in
-    let st = stage.1 in
-    let may = may_act_now s device node now st.work.ready st.steady st.limit in
-    let act = x.acted node st.is may st.task in
-    let first = act.1.0 in
-    let v = own_judgement s.network device node sent in
-    let is : act.0 ≡ node_emitted s.network device node (moment_of s device now) sent v = act.1.2
-    ∙ ap (λ (r : Ripe). called (moment_of s device now) acting (after_emission s.network device node (moment_of s device now) sent r)) act.1.1 in
-    let stays = stays_of v (subst KeepsBy act.1.1 x.keeps) in
-    let same_length = length_is s notes in
-    let room = room_for reading stands s world notes old (act_place now device) x.first in
-    let body = emission_body device sent v in
-    let put : ArePutIn s.network hs now (body ∷ []) world.settled settled =
-    subst (λ (j : Judgement). ArePutIn s.network hs now (kinds.Compressed device sent.opened sent.at sent.cycle sent.members j ∷ []) world.settled settled)
-    (ap judged_as act.1.1 ∙ judged_back v)
-    (subst (λ (l : List NoteBody). ArePutIn s.network hs now (kinds.Compressed device sent.opened sent.at sent.cycle sent.members (judged_as heard) ∷ l)
-    world.settled settled) (none_joined_by device heard x.keeps) x.put) in
-    let p : IsShownPut s.network hs now body old.coming settled = subst (λ (l : List Happening). IsShownPut s.network hs now body old.coming l) (sym put.2)
-    (one_shown s.network hs now body old.coming world.settled put.0 (omega (arith, same_length, room)) (omega arith)
-    (old.settled ∙ ap (λ (n : ℕ). map (hidden n) old.coming) same_length) put.1) in
-    let w = record_of s.network hs p.front now body in
-    let new = put_at hs p.front w p.back in
-    let shows : settled ≡ map (hidden (length notes)) new = p.shows ∙ ap (λ (n : ℕ). map (hidden n) new) (sym same_length) in
-    let st2 : Stage stands s hs (p.front ++ p.back) old.mark old.cursor now device machine node =
-    subst (λ (l : List Happening). Stage stands s hs l old.mark old.cursor now device machine node) p.parts st in
-    let lone_frame = is_last_frame s hs old.coming now device node sent st.recorded first (λ z i. (st.work.of_now z i).0)
-    (points_from_zero s hs old.coming now device node st.work first.pending.1.cm (permanent_from_zero s hs device old.range old.run.founded)) p.front
-    p.back w v
-    p.parts p.none refl refl in
-    let it = has_emitted_it stands s hs p.front p.back old.mark old.cursor now device machine after node act.0 sent heard st2 first act.1 is stays act.2
-    lone_frame in
-    let here = behind (act_place now device) in
-    let later : IsBefore (now ∷ 2 ∷ []) here = chain (now ∷ 2 ∷ []) (act_place now device) here (inr (refl, inl (omega arith)))
-    (before_behind (act_place now device)) in
-    let turned : is_turned_on_at s device now ≡ true → HasTurnedOn s hs new here device now =
-    turned_then stands s hs p.front p.back old.mark old.cursor now device machine node w here st2 (as_put hs p.front p.back now w refl (omega arith))
-    (λ t. turned_moves s hs (p.front ++ p.back) old.mark old.cursor now 4 (device.0 ∷ []) device st2.moving t) in
-    let calm = calm_then stands s hs p.front p.back old.mark old.cursor here now device machine node new st2 turned later in
-    let still = λ (task : Task) (pending : IsPending s.network device act.0 task). idle act.0 task it.is pending in
-    let law = lawful_then stands s hs p.front p.back old.mark old.cursor now device machine node body st2 p.before p.none
-    (emission_record stands s hs p.front p.back old.mark old.cursor now device machine node sent st2 first.pending first.due stays p.none lone_frame)
-    old.run.within in
-    one_goes_by reading stands s world notes old device machine after node machines settled body st p shows (omega (arith, room))
-    (emission_record stands s hs p.front p.back old.mark old.cursor now device machine node sent st2 first.pending first.due stays p.none lone_frame)
-    (all_idle s hs new now device act.0 it.work it.recorded it.cleared still (told_dispatches s hs new now device act.0 it.work it.recorded law it.taken)
-    st2.before) x.set
-    (kept_over stands s hs new now device after act.0 it.is it.work.sound (is_over s hs new now device act.0 it.work it.cleared calm still) it.work.ready
-    it.cleared
-    it.taken (bare_act s.network device node (moment_of s device now) (acts.Emit sent heard) act.0 act.1 st.bare) turned it.phase)
+    record {
+      first = a.first;
+      node = node;
+      then_ = act.0;
+      st = st;
+      act = acts.Emit sent heard;
+      acted = act.1;
+      body = body;
+      late = omega arith;
+      causes = omega arith;
+      set = set;
+      put =
+          subst (λ (j : Judgement). ArePutIn s.network hs now (kinds.Compressed device sent.opened sent.at sent.cycle sent.members j
+          ∷ []) world.settled settled)
+          (ap judged_as act.1.1 ∙ judged_back v)
+          (subst (λ (l : List NoteBody). ArePutIn s.network hs now (kinds.Compressed device sent.opened sent.at sent.cycle sent.members (judged_as heard) ∷ l)
+          world.settled settled) (none_joined_by device heard keeps) put);
+      makes = λ front back parts st2 none.
+          let lone_frame = is_last_frame s hs old.coming now device node sent st.recorded first (λ z i. (st.work.of_now z i).0)
+          (points_from_zero s hs old.coming now device node st.work first.pending.1.cm (permanent_from_zero s hs device old.range old.run.founded)) front
+          back (record_of s.network hs front now body) v parts none refl refl in
+          let it = has_emitted_it stands s hs front back old.mark old.cursor now device a.machine after node act.0 sent heard st2 first act.1 is stays act.2
+          lone_frame in
+          record {
+            so = emission_record stands s hs front back old.mark old.cursor now device a.machine node sent st2 first.pending first.due stays none lone_frame;
+            it = it;
+            told = λ law. told_dispatches s hs _ now device act.0 it.work it.recorded law it.taken;
+          };
+    }

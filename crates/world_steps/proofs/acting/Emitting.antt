@@ -1,7 +1,7 @@
 -- A compression master that has emitted, and has not joined by its own frame, is at work still.
 use Rattle.world_steps.proofs.Words.{if◌then◌else◌, ◌++◌, ◌+◌, ◌<ℤ◌, ◌∙◌, ◌∷◌, ◌≡◌, ◌≤ℤ◌, ◌≤◌, AreClusters, AreRecorded, Bool, Channel, Compressed}
 use Rattle.world_steps.proofs.Words.{Contains-append_left, Contains-push, Contains-push_cases, DeviceId, Happening, HasDoneFrom, Hearing, IsAlike, IsFirstTask}
-use Rattle.world_steps.proofs.Words.{IsFrameOf, IsIn, IsReadyAt, Judgement, List, Members, Moment, Network, Node, None, NoteBody, Option, Pcf, RowId, Scenario}
+use Rattle.world_steps.proofs.Words.{IsFrameOf, IsIn, IsReadyAt, Judgement, List, Moment, Network, Node, None, Option, Pcf, RowId, Scenario}
 use Rattle.world_steps.proofs.Words.{Some, Units, [], acting, amount, ap, append-nil, arith, called, cases_lt, changed_at, cons_option, dispatch_body}
 use Rattle.world_steps.proofs.Words.{dispatch_late, dispatches_same, dispatching, emitting, false, hearing_by, inl, inr, moves, observation_window, option_map}
 use Rattle.world_steps.proofs.Words.{option_map_or, option_to_list, plain_body, pos, rank, reaches_back, refl, ripe_as, self, sending, subst, sym, true}
@@ -76,33 +76,9 @@ pub is_emitted : (network : Network) (device : DeviceId) (node : Node) (moment :
     → w.note.body ≡ kinds.Compressed device sent.opened sent.at sent.cycle sent.members v
     → w.frame ≡ Some (integration_frame network device sent.cycle sent.members)
     → IsEmitted network device node (node_emitted network device node moment sent v) w sent
-is_emitted network device node moment w sent judgements.Within stays e of_frame = record {
-  but = record { standing = refl; broken = refl; changed = refl; points = refl };
-  done = refl;
-  taken = refl;
-  emitted = refl;
-  heard = ap (λ (l : List Hearing). node.heard ++ l) (sym (heard_within network device w sent of_frame)
-      ∙ sym (ap (λ (b : NoteBody). option_to_list (hearing_by network device w b)) e));
-  still = ap (moves device) e;
-}
-is_emitted network device node moment w sent judgements.Outside stays e of_frame = record {
-  but = record { standing = refl; broken = refl; changed = refl; points = refl };
-  done = refl;
-  taken = refl;
-  emitted = refl;
-  heard = ap (λ (l : List Hearing). node.heard ++ l) (sym (heard_outside network device w sent of_frame)
-      ∙ sym (ap (λ (b : NoteBody). option_to_list (hearing_by network device w b)) e));
-  still = ap (moves device) e;
-}
-is_emitted network device node moment w sent judgements.Ignored stays e of_frame = record {
-  but = record { standing = refl; broken = refl; changed = refl; points = refl };
-  done = refl;
-  taken = refl;
-  emitted = refl;
-  heard =
-      sym (append-nil node.heard) ∙ ap (λ (l : List Hearing). node.heard ++ l) (sym (ap (λ (b : NoteBody). option_to_list (hearing_by network device w b)) e));
-  still = ap (moves device) e;
-}
+is_emitted network device node moment w sent judgements.Within stays e of_frame = grind (arith, heard_within, option_to_list, hearing_by, moves)
+is_emitted network device node moment w sent judgements.Outside stays e of_frame = grind (arith, heard_outside, option_to_list, hearing_by, moves)
+is_emitted network device node moment w sent judgements.Ignored stays e of_frame = grind (arith, append-nil, option_to_list, hearing_by, moves)
 is_emitted network device node moment w sent judgements.Opened stays e of_frame = absurd stays
 is_emitted network device node moment w sent judgements.Joined stays e of_frame = absurd stays
 is_emitted network device node moment w sent judgements.Repeat stays e of_frame = absurd stays
@@ -110,13 +86,7 @@ is_emitted network device node moment w sent judgements.Integrates stays e of_fr
 
 alike_by : (network : Network) (device : DeviceId) (node after : Node) (w : Happening) (sent : Compressed) → IsEmitted network device node after w sent
     → IsAlike node after
-alike_by network device node after w sent x = record {
-  standing = x.but.standing;
-  broken = x.but.broken;
-  changed = x.but.changed;
-  taken = x.taken;
-  done = λ d there. subst (λ l. Contains l d) (sym x.done) there;
-}
+alike_by network device node after w sent x = grind arith
 
 done_alike : (network : Network) (reading : ℕ → ℕ) (device : DeviceId) (node after : Node) (changed low high : ℕ) → IsAlike node after
     → after.done ≡ node.done → HasDoneFrom network reading device node changed low high → HasDoneFrom network reading device after changed low high
@@ -155,19 +125,12 @@ emits_on s hs front back new now device node after w sent work p x none due read
 
 one_compressed : (a b : Compressed) → a.opened ≡ b.opened → a.at ≡ b.at → a.cycle ≡ b.cycle → a.members ≡ b.members → a ≡ b
 one_compressed a b o t c m =
-    ap (λ (u : Units). let x : Compressed = record { opened = u; at = a.at; cycle = a.cycle; members = a.members } in x) o
-    ∙ ap (λ (u : Units). let x : Compressed = record { opened = b.opened; at = u; cycle = a.cycle; members = a.members } in x) t
-    ∙ ap (λ (n : ℕ). let x : Compressed = record { opened = b.opened; at = b.at; cycle = n; members = a.members } in x) c
-    ∙ ap (λ (n : Members). let x : Compressed = record { opened = b.opened; at = b.at; cycle = b.cycle; members = n } in x) m
+    grind arith
 
 pub same_compressed : (device : DeviceId) (a b : Compressed) (v u : Judgement)
     → kinds.Compressed device a.opened a.at a.cycle a.members v ≡ kinds.Compressed device b.opened b.at b.cycle b.members u → a ≡ b
 same_compressed device a b v u e =
-    let o : a.opened ≡ b.opened = cc in
-    let t : a.at ≡ b.at = cc in
-    let c : a.cycle ≡ b.cycle = cc in
-    let m : a.members ≡ b.members = cc in
-    one_compressed a b o t c m
+    grind (arith, one_compressed)
 
 -- and the records tell what it has emitted
 pub emitted_recorded : (s : Scenario) (hs front back new : List Happening) (now : ℕ) (device : DeviceId) (node after : Node) (w : Happening) (sent : Compressed)

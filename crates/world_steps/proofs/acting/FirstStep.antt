@@ -32,24 +32,7 @@ pub record ArePairParts (hs front back front2 back2 : List Happening) (w : Happe
 pub pair_parts : (hs front back front2 back2 : List Happening) (w : Happening) → put_at hs front w back ≡ front2 ++ back2
     → before_it hs front < before_it hs front2 → ArePairParts hs front back front2 back2 w
 pair_parts hs front back front2 back2 w parts far =
-    let n = before_it hs front in
-    elim (split_two front (map (bump_behind n) back) w front2 back2 parts) [
-      | inl it ↦
-          let a = length-append hs front in
-          let b = length-append hs front2 in
-          let c = ap length it.1 in
-          let d = length-append front2 it.0 in
-          absurd (omega (arith, far, a, b, c, d))
-      | inr it ↦
-          let x = split_placed n back it.0 back2 it.2 in
-          record {
-            mid = x.0;
-            rest = x.1;
-            parts = x.2;
-            first = it.1 ∙ ap (λ (l : List Happening). front ++ w ∷ l) x.3;
-            second = x.4;
-          }
-    ]
+    grind (arith, before_it, split_two, map, bump_behind, length-append, length, split_placed)
 
 pub pair_plains : (hs front back front2 back2 : List Happening) (w v : Happening) → (x : ArePairParts hs front back front2 back2 w)
     → plains (put_at hs front2 v back2) ≡ plains (front ++ w ∷ (x.mid ++ v ∷ x.rest))

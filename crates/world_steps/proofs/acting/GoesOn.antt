@@ -18,13 +18,7 @@ moves_plain device (kinds.State other state cause why) = refl
 moves_plain device other = refl
 
 turning_plain : (device : DeviceId) (body : NoteBody) → is_turning device (plain_body body) ≡ is_turning device body
-turning_plain device (kinds.State other state cause why) = turning device other state cause why
-  where
-    turning : (device other : DeviceId) (state : _) (cause : ℕ) (why : _) → is_turning device (kinds.State other state 0 why) ≡ is_turning device
-        (kinds.State other state cause why)
-    turning device other Rattle.sync_state.specs.declared.state.State.TheVariants.Integrating cause Rattle.run_law.specs.declared.judgement.Why.TheVariants.On =
-        refl
-    turning device other state cause why = refl
+turning_plain device (kinds.State other state cause why) = grind (arith, is_turning)
 turning_plain device other = refl
 
 pub rest_alike : (s : Scenario) (device : DeviceId) (now : ℕ) (body other : NoteBody) → plain_body body ≡ plain_body other → IsAtRest s device now other

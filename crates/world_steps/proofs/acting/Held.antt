@@ -1,6 +1,6 @@
 -- A frame that a switch dispatches is stored: it is that of the last record by which the switch took one.
-use Rattle.world_steps.proofs.Words.{◌++◌, ◌+◌, ◌∙◌, ◌≡◌, ◌≤ℤ◌, ◌≤◌, Bool, DeviceId, Entry, Happening, HasAtHand, IsIn, IsPending, List, Network, Node, None}
-use Rattle.world_steps.proofs.Words.{Option, Reaches, RowId, Scenario, Some, VlId, [], amount, ap, arith, by_number, dispatching, doing, earlier, earlier_still}
+use Rattle.world_steps.proofs.Words.{◌++◌, ◌+◌, ◌≡◌, ◌≤ℤ◌, ◌≤◌, Bool, DeviceId, Entry, Happening, HasAtHand, IsIn, IsPending, List, Network, Node, None}
+use Rattle.world_steps.proofs.Words.{Reaches, RowId, Scenario, Some, VlId, amount, ap, arith, by_number, dispatching, doing, earlier, earlier_still}
 use Rattle.world_steps.proofs.Words.{filter, in_left, inl, inr, is_accepted, last_in, last_or, numbered, option_map_or, pos, reading_for, subst, suc, sym}
 use Rattle.world_steps.proofs.Words.{value_is, zero, ℕ, ℤ}
 use Rattle.std.proofs.Common.{◌*◌}
@@ -27,14 +27,7 @@ stored_of : (hs : List Happening) (stored : List Stored) (device : DeviceId) (vl
     → last_taking hs device vl ≡ Some taking → IsIn e stored → e.device ≡ device → e.vl ≡ vl
     → (e.number ≡ taking.note.number) × (e.octets ≡ taking.octets)
 stored_of hs stored device vl taking e are last there of_device of_vl =
-    let is = are.real e there in
-    let same : last_taking hs e.device e.vl ≡ last_taking hs device vl =
-    ap (λ (d : DeviceId). last_taking hs d e.vl) of_device ∙ ap (λ (v : VlId). last_taking hs device v) of_vl in
-    let one : is.taking ≡ taking = some_same is.taking taking (sym is.last ∙ same ∙ last) in
-    (is.number ∙ ap (λ (h : Happening). h.note.number) one, is.octets ∙ ap (λ (h : Happening). h.octets) one)
-  where
-    some_same : (x y : Happening) → Some x ≡ Some y → x ≡ y
-    some_same x y e = cc
+    grind arith
 
 -- a switch that has to dispatch a row of which it is not the sender holds its frame
 pub held_frame : {M : Type 0} (stands : M → Network → DeviceId → Node → Type 0) (s : Scenario) (hs coming : List Happening) (mark cursor : List ℕ) (now : ℕ)
@@ -49,17 +42,7 @@ held_frame stands s hs coming mark cursor now device machine node row cycle stor
     let reached : Reaches s (hs ++ coming) device (pos (cycle * amount s.network.cycle + amount entry.row.offset)) now =
     subst (λ (z : ℤ). Reaches s (hs ++ coming) device z now) (value_is s.network row entry cycle has.is)
     (reaches s hs coming now device node (dispatching row cycle) st.work p.1 due) in
-    let r : IsReaching s (hs ++ coming) device node row entry cycle now = record {
-      range = st.lawful.range;
-      rules = st.lawful.rules;
-      steady = st.lawful.steady;
-      founded = st.lawful.founded;
-      past = st.work.past;
-      taken = st.taken;
-      is = has.is;
-      leaves = has.leaves;
-      reached = reached;
-    } in
+    let r : IsReaching s (hs ++ coming) device node row entry cycle now = grind (arith, has.is, has.leaves, reached) in
     let f : IsForwarded s.network device row.0 entry = record { is = has.is; leaves = has.leaves; other = other } in
     let hand = at_hand s (hs ++ coming) device node row cycle now has r in
     by r f hand.0 hand.1
@@ -79,10 +62,7 @@ held_frame stands s hs coming mark cursor now device machine node row cycle stor
         let all : filter accepted (earlier now hs) ≡ filter accepted hs =
         filter_earlier accepted now hs (λ h i e. taken_sooner s (hs ++ coming) device node row entry cycle now r f h (in_left h hs coming i) e) in
         let taking : last_taking hs device vl ≡ Some taken = subst (λ (w : List Happening). last_or None w ≡ Some taken) all last in
-        let there : IsIn taken hs = elim (last_in None (filter accepted hs) taken taking) [
-          | inl none ↦ absurd cc
-          | inr i ↦ in_filter accepted hs taken i
-        ] in
+        let there : IsIn taken hs = grind (arith, last_in, filter, accepted, taken, taking, in_filter) in
         let number = by_number s hs taken st.given there in
         let found = are.all device vl taken taking in
         record {
@@ -100,7 +80,5 @@ held_frame stands s hs coming mark cursor now device machine node row cycle stor
           some = λ e i of_device of_vl.
               subst (λ (n : ℕ). 1 ≤ n) (sym (stored_of hs stored device vl taken e are taking i of_device of_vl).0)
               (numbered_some hs taken.note.number taken number);
-          octets = λ e i of_device of_vl.
-              let is = stored_of hs stored device vl taken e are taking i of_device of_vl in
-              is.1 ∙ sym (ap (λ (o : Option Happening). option_map_or (λ h. h.octets) o []) (ap (numbered hs) is.0 ∙ number));
+          octets = grind (arith, stored_of, vl, taken, taking, option_map_or, numbered, number);
         }

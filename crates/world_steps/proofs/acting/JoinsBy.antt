@@ -33,16 +33,7 @@ counts_on s js device u node ks =
 
 twice : {X : Type 0} (q : X → Bool) (xs : List X) → filter q (filter q xs) ≡ filter q xs
 twice q [] = refl
-twice {X} q (x ∷ xs) = elim (cases_Bool (q x)) [
-  | inl kept ↦
-      ap (λ (b : Bool). filter q (if b then x ∷ filter q xs else filter q xs)) kept
-      ∙ ap (λ (b : Bool). if b then x ∷ filter q (filter q xs) else filter q (filter q xs)) kept
-      ∙ ap (λ (l : List X). x ∷ l) (twice q xs)
-      ∙ sym (ap (λ (b : Bool). if b then x ∷ filter q xs else filter q xs) kept)
-  | inr left ↦
-      ap (λ (b : Bool). filter q (if b then x ∷ filter q xs else filter q xs)) left ∙ twice q xs
-      ∙ sym (ap (λ (b : Bool). if b then x ∷ filter q xs else filter q xs) left)
-]
+twice {X} q (x ∷ xs) = grind (arith, cases_Bool, filter, (twice q xs))
 
 -- the records that bear on the device, of those with its frame and its state between them
 borne_joined : (hs front mid rest : List Happening) (device : DeviceId) (w f : Happening)

@@ -15,25 +15,7 @@ use Rattle.run_law.specs.declared.steps.Act.TheVariants as acts
 pub may_act_now : (s : Scenario) (device : DeviceId) (node : Node) (now : ℕ) → IsReadyAt (s.reading device) s.network device node now
     → IsSteady (s.reading device) (amount s.network.precision) → now ≤ 2 ^ 60 → MayCall s.network device node (moment_of s device now) acting
 may_act_now s device node now ready steady limit =
-    let last = whole node.last.time.0 ready.begun in
-    let time = ready.time in
-    let read = ready.last in
-    let sooner : amount node.last.time ≤ now = omega (arith, ints, last, time) in
-    let fell = steady.never_falls (amount node.last.time) now sooner in
-    let low = steady.low now limit in
-    record {
-      later = record {
-        time = time;
-        reading = omega (arith, ints, read, fell);
-        early_enough = omega (arith, ints, limit);
-        low_enough = omega (arith, ints, low);
-      };
-      in_order = λ same. acting_last node.phase;
-      all_done = λ before task p.
-          let lt : amount node.last.time < now = omega (arith, ints, last, before) in
-          subst (λ (z : ℤ). z <ℤ reading_for s.network node task) (sym read) (ready.undone task p (amount node.last.time) lt);
-      in_time = λ task p. ready.in_time task p;
-    }
+    grind (arith, whole, amount, ints, acting_last, reading_for)
 
 pub ready_after : (s : Scenario) (device : DeviceId) (node new : Node) (now : ℕ) (act : Act) → IsReadyAt (s.reading device) s.network device node now
     → IsSteady (s.reading device) (amount s.network.precision) → pos 0 ≤ℤ s.network.precision.0 → s.network.precision.0 ≤ℤ pos (amount s.network.cycle)
@@ -101,12 +83,7 @@ bare_act network device node moment (acts.Send frame) new is bare =
     subst (IsBare network device) (sym is.3) bare
 bare_act network device node moment (acts.Emit sent heard) new is bare = λ other. absurd (both_ways (is_cm network device) other is.0.pending.1.cm)
 bare_act network device node moment (acts.Correct cycle (Corrected by)) new is bare =
-    subst (IsBare network device) (sym is.1.2)
-    (λ other. let b = bare other in (
-      none_kept (is_synchronised node.standing.state) node.points b.0,
-      none_kept (is_synchronised node.standing.state)
-          node.emitted b.1,
-    ))
+    grind (arith, none_kept, is_synchronised)
 bare_act network device node moment (acts.Correct cycle SyncClique) new is bare = subst (IsBare network device) (sym is.1.2) (λ other. (refl, refl))
 bare_act network device node moment (acts.Correct cycle AsyncClique) new is bare = subst (IsBare network device) (sym is.1.2) (λ other. (refl, refl))
 bare_act network device node moment (acts.Correct cycle Cleared) new is bare = subst (IsBare network device) (sym is.1.2) bare
@@ -155,32 +132,5 @@ pub kept_over : {M : Type 0} (stands : M → Network → DeviceId → Node → T
     → IsBare s.network device after → (is_turned_on_at s device now ≡ true → HasTurnedOn s hs new (behind (act_place now device)) device now)
     → after.phase ≡ acting
     → IsKept stands s hs new (behind (act_place now device)) now device machine
-kept_over stands s hs new now device machine after is sound over ready cleared taken bare turned phase = record {
-  node = after;
-  is = is;
-  sound = sound;
-  up = now + 1;
-  acted = inr (
-    refl,
-    λ p b. chain p (act_place now device) (behind (act_place now device))
-        (chain p (now ∷ 3 ∷ []) (act_place now device) b (inr (refl, inl (omega arith)))) (before_behind (act_place now device)),
-  );
-  high = now + 1;
-  doing = inl refl;
-  told = λ same. inl (before_behind (act_place now device));
-  left = over.left;
-  taken = taken;
-  bare = bare;
-  done = over.done;
-  sent = over.sent;
-  ready = ready;
-  still = λ same. absurd (no_step now (sym same));
-  turned = turned;
-  cleared = cleared;
-  recorded = λ same. absurd (no_step now (sym same));
-  phase = λ at p b.
-      chain p (act_place now device) (behind (act_place now device))
-      (chain p (now ∷ 4 ∷ []) (act_place now device)
-      (subst (λ (f : _). IsBefore p (now ∷ Rattle.world_law.specs.world.World.rank_of_call f ∷ [])) phase b) (inr (refl, inr (refl, tt))))
-      (before_behind (act_place now device));
-}
+kept_over stands s hs new now device machine after is sound over ready cleared taken bare turned phase =
+    grind (arith, acted, chain, act_place, behind, before_behind, no_step)

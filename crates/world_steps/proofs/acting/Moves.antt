@@ -7,7 +7,7 @@ use Rattle.world_steps.proofs.Words.{cycle_in, earlier, ends_stretch, false, fil
 use Rattle.world_steps.proofs.Words.{heard_since, hearing_by, int_le, int_lt, integration_cycle, is_broken, is_cm, is_integration_cycle, is_joined_by}
 use Rattle.world_steps.proofs.Words.{is_synchronised, is_timed, is_turned_on_at, last_or, local_in, lt-ltb, nat_lt, ne_eqb, next_in, not, not_turned_on}
 use Rattle.world_steps.proofs.Words.{option_map_or, plan_of, point_by, points_of, pos, recorded_cycle, refl, same_kept, self, since_at, state_after, state_by}
-use Rattle.world_steps.proofs.Words.{state_with, subst, sym, time_of, true, with_clique, with_joined, ℕ, ℤ}
+use Rattle.world_steps.proofs.Words.{state_with, sym, time_of, true, with_clique, with_joined, ℕ, ℤ}
 use Rattle.run_law.{proofs.runs.Determined.same_units, specs.{declared.judgement.Judgement.TheVariants.Integrates, device.LocalClocks.local_at_change}}
 use Rattle.run_law.specs.{device.States.joined_adjustment, machines.Answers.with_corrected}
 use Rattle.sync_state.specs.Integration.{joined_by}
@@ -53,9 +53,7 @@ changed_by device w h it =
 pub heard_anew : (s : Scenario) (hs : List Happening) (device : DeviceId) (u : ℕ) (h : Happening) → time_of h < u → changes_adjustment device h.note.body ≡ true
     → heard_since s (hs ++ h ∷ []) device u ≡ []
 heard_anew s hs device u h lt it =
-    let here : (nat_lt (time_of h) u && changes_adjustment device h.note.body) ≡ true =
-    ap (λ (b : Bool). b && changes_adjustment device h.note.body) (lt-ltb (time_of h) u lt) ∙ it in
-    ap (heard_in s device (earlier u (hs ++ h ∷ [])) u) (behind_yes (λ g. nat_lt (time_of g) u && changes_adjustment device g.note.body) hs h here)
+    grind (arith, nat_lt, time_of, changes_adjustment, lt-ltb, earlier, behind_yes)
 
 -- ---- a correction
 
@@ -75,9 +73,7 @@ state_corrected s device w h cycle by adjustment e =
 adjustment_corrected : (s : Scenario) (device : DeviceId) (w : List Happening) (h : Happening) (cycle : ℕ) (by adjustment : Units)
     → h.note.body ≡ notes.Corrected device cycle by adjustment → adjustment_after s (w ++ h ∷ []) device ≡ adjustment
 adjustment_corrected s device w h cycle by adjustment e =
-    fold_more (λ old g. adjustment_with s device (cycle_in g) old g.note.body) _ w h
-    ∙ ap (adjustment_with s device (cycle_in h) (adjustment_after s w device)) e
-    ∙ ap (λ (b : Bool). if b then adjustment else adjustment_after s w device) (self device)
+    grind (arith, fold_more, adjustment_with, cycle_in, adjustment_after, self)
 
 integration_corrected : (device : DeviceId) (w : List Happening) (h : Happening) (cycle : ℕ) (by adjustment : Units)
     → h.note.body ≡ notes.Corrected device cycle by adjustment → integration_cycle (w ++ h ∷ []) device ≡ integration_cycle w device
@@ -88,9 +84,7 @@ integration_corrected device w h cycle by adjustment e =
 cycle_corrected : (device : DeviceId) (w : List Happening) (h : Happening) (cycle : ℕ) (by adjustment : Units)
     → h.note.body ≡ notes.Corrected device cycle by adjustment → recorded_cycle (w ++ h ∷ []) device ≡ cycle + 1
 cycle_corrected device w h cycle by adjustment e =
-    fold_more (λ next g. cycle_after device next g g.note.body) 1 w h
-    ∙ ap (cycle_after device (recorded_cycle w device) h) e
-    ∙ ap (λ (b : Bool). if b then cycle + 1 else recorded_cycle w device) (self device)
+    grind (arith, fold_more, cycle_after, recorded_cycle, self)
 
 change_corrected : (device : DeviceId) (h : Happening) (cycle : ℕ) (by adjustment : Units) → h.note.body ≡ notes.Corrected device cycle by adjustment
     → changes_adjustment device h.note.body ≡ true
@@ -120,13 +114,9 @@ corrected_counts s hs device u node h cycle by adjustment moment heard so left =
     let adjusted = adjustment_corrected s device w h cycle by adjustment e in
     let least : recorded_cycle w device ≤ cycle = omega (arith, left.least so.timed, so.number) in
     let other : is_integration_cycle (w ++ h ∷ []) device ≡ false =
-    ap (λ (o : Option ℕ). option_map_or (λ c. recorded_cycle (w ++ h ∷ []) device == c) o false) integration
-    ∙ ap (λ (n : ℕ). option_map_or (λ c. n == c) (integration_cycle w device) false) recorded
-    ∙ beyond (integration_cycle w device) (recorded_cycle w device) cycle least left.started in
+    grind (arith, option_map_or, recorded_cycle, w, integration, integration_cycle, recorded, beyond, least) in
     let none : cleared_in s device (w ++ h ∷ []) u ≡ false =
-    ap (λ (b : Bool). b && (int_lt (local_in s device (w ++ h ∷ [])) (correction_value s.network (recorded_cycle (w ++ h ∷ []) device))
-    && int_le (correction_value s.network (recorded_cycle (w ++ h ∷ []) device))
-    (pos (s.reading device (u - 1)) +ℤ (adjustment_after s (w ++ h ∷ []) device).0))) other in
+    grind (arith, int_lt, local_in, w, correction_value, recorded_cycle, int_le, adjustment_after, other) in
     let next : next_in s device (w ++ h ∷ []) u ≡ cycle + 1 =
     ap (λ (b : Bool). if b then recorded_cycle (w ++ h ∷ []) device + 1 else recorded_cycle (w ++ h ∷ []) device) none ∙ recorded in
     let local : local_in s device (w ++ h ∷ []) ≡ (pos (s.reading device (time_of h)) +ℤ adjustment.0) =
@@ -138,15 +128,10 @@ corrected_counts s hs device u node h cycle by adjustment moment heard so left =
       integrated = left.integrated ∙ sym integration ∙ ap (λ (l : List Happening). integration_cycle l device) (sym more);
       number = λ timed. ap (λ (n : ℕ). n + 1) so.number ∙ sym next ∙ ap (λ (l : List Happening). next_in s device l u) (sym more);
       changed =
-          ap (λ (z : ℤ). z +ℤ (node.standing.adjustment.0 +ℤ by.0)) so.reads
-          ∙ ap (λ (z : ℤ). pos (s.reading device (time_of h)) +ℤ z) so.sum
-          ∙ sym local ∙ ap (local_in s device) (sym more);
+          grind (arith, time_of, local, local_in, more);
       heard = λ timed. sym (heard_anew s hs device u h so.before changes);
       started =
-          subst (λ (l : List Happening). IfSome (integration_cycle l device) (λ c. c ≤ recorded_cycle l device)) (sym more)
-          (subst (λ (n : ℕ). IfSome (integration_cycle (w ++ h ∷ []) device) (λ c. c ≤ n)) (sym recorded)
-          (subst (λ (o : Option ℕ). IfSome o (λ c. c ≤ cycle + 1)) (sym integration)
-          (started_on (integration_cycle w device) (recorded_cycle w device) cycle least left.started)));
+          grind (arith, integration_cycle, recorded_cycle, more, w, recorded, integration, started_on, least);
       broken = left.broken;
     }
 
@@ -176,9 +161,7 @@ corrects s hs device u node h cycle by adjustment moment heard so synchronised o
 state_changed : (s : Scenario) (device : DeviceId) (w : List Happening) (h : Happening) (state : State) (cause : ℕ) (why : Why)
     → h.note.body ≡ notes.State device state cause why → state_after s (w ++ h ∷ []) device ≡ state
 state_changed s device w h state cause why e =
-    fold_more (λ old g. state_with device old g.note.body) _ w h
-    ∙ ap (state_with device (state_after s w device)) e
-    ∙ ap (λ (b : Bool). if b then state else state_after s w device) (self device)
+    grind (arith, fold_more, state_with, state_after, self)
 
 -- a record that changes none of what the others tell
 record TellsNoMore (s : Scenario) (device : DeviceId) (w : List Happening) (h : Happening) : Type 0 where
@@ -186,37 +169,11 @@ record TellsNoMore (s : Scenario) (device : DeviceId) (w : List Happening) (h : 
   pub local : local_in s device (w ++ h ∷ []) ≡ local_in s device w
   pub heard : (u : ℕ) (since : List Happening) → heard_in s device (w ++ h ∷ []) u since ≡ heard_in s device w u since
 
--- what a joiner has cleared, by its numbers
-abbrev cleared_as : Scenario → DeviceId → Option ℕ → ℕ → ℕ → Units → ℕ → Bool
-cleared_as s device integration cycle changed adjustment by =
-    option_map_or (λ c. cycle == c) integration false
-    && (int_lt (pos (s.reading device changed) +ℤ adjustment.0) (correction_value s.network cycle)
-    && int_le (correction_value s.network cycle) (pos (s.reading device (by - 1)) +ℤ adjustment.0))
-
 told_by : (s : Scenario) (device : DeviceId) (w : List Happening) (h : Happening) → integration_cycle (w ++ h ∷ []) device ≡ integration_cycle w device
     → recorded_cycle (w ++ h ∷ []) device ≡ recorded_cycle w device
     → change_in device (w ++ h ∷ []) ≡ change_in device w → adjustment_after s (w ++ h ∷ []) device ≡ adjustment_after s w device → TellsNoMore s device w h
 told_by s device w h integration recorded changed adjusted =
-    let more = w ++ h ∷ [] in
-    let cleared : (by : ℕ) → cleared_in s device more by ≡ cleared_in s device w by = λ by.
-    ap (λ (o : Option ℕ). cleared_as s device o (recorded_cycle more device) (change_in device more) (adjustment_after s more device) by) integration
-    ∙ ap (λ (n : ℕ). cleared_as s device (integration_cycle w device) n (change_in device more) (adjustment_after s more device) by) recorded
-    ∙ ap (λ (n : ℕ). cleared_as s device (integration_cycle w device) (recorded_cycle w device) n (adjustment_after s more device) by) changed
-    ∙ ap (λ (a : Units). cleared_as s device (integration_cycle w device) (recorded_cycle w device) (change_in device w) a by) adjusted in
-    record {
-      next = λ u.
-          ap (λ (b : Bool). if b then recorded_cycle more device + 1 else recorded_cycle more device) (cleared u)
-          ∙ ap (λ (n : ℕ). if cleared_in s device w u then n + 1 else n) recorded;
-      local =
-          ap (λ (n : ℕ). pos (s.reading device n) +ℤ (adjustment_after s more device).0) changed
-          ∙ ap (λ (a : Units). pos (s.reading device (change_in device w)) +ℤ a.0) adjusted;
-      heard = λ u since.
-          ap (filter_map (λ g. hearing_by s.network device g g.note.body))
-          (same_kept (λ g. not (cleared_in s device more u) || cleared_in s device more (time_of g)) (λ g. not (cleared_in s device w u)
-          || cleared_in s device w (time_of g)) since
-          (λ g i. ap (λ (b : Bool). not b || cleared_in s device more (time_of g)) (cleared u) ∙ ap (λ (b : Bool). not (cleared_in s device w u) || b)
-          (cleared (time_of g))));
-    }
+    grind (arith, cleared_in, recorded_cycle, adjustment_after, integration_cycle, filter_map, hearing_by, same_kept, not, time_of)
 
 heard_none_by : (s : Scenario) (device : DeviceId) (kept : List Happening) (h : Happening) (b : Bool) → hearing_by s.network device h h.note.body ≡ None
     → filter_map (λ g. hearing_by s.network device g g.note.body) (kept ++ (if b then h ∷ [] else [])) ≡ filter_map
@@ -228,10 +185,7 @@ heard_none_by s device kept h false none = ap (filter_map (λ g. hearing_by s.ne
 heard_none : (s : Scenario) (device : DeviceId) (w since : List Happening) (u : ℕ) (h : Happening) → hearing_by s.network device h h.note.body ≡ None
     → heard_in s device w u (since ++ h ∷ []) ≡ heard_in s device w u since
 heard_none s device w since u h none =
-    ap (filter_map (λ g. hearing_by s.network device g g.note.body)) (filter-append (λ g. not (cleared_in s device w u) || cleared_in s device w (time_of g))
-    since (h ∷ []))
-    ∙ heard_none_by s device (filter (λ g. not (cleared_in s device w u) || cleared_in s device w (time_of g)) since) h
-    (not (cleared_in s device w u) || cleared_in s device w (time_of h)) none
+    grind (arith, filter_map, hearing_by, filter-append, not, cleared_in, time_of, heard_none_by, filter)
 
 -- all but its state and its points is told by the other records
 pub change_counts : (s : Scenario) (hs : List Happening) (device : DeviceId) (u : ℕ) (node : Node) (h : Happening) (state : State) (cause : ℕ) (why : Why)
@@ -266,9 +220,7 @@ change_counts s hs device u node h state cause why e lt left =
           ∙ sym (ap (heard_in s device (earlier u (hs ++ h ∷ [])) u) (behind_no (λ g. nat_lt (time_of g) u && changes_adjustment device g.note.body) hs h
           late));
       started =
-          subst (λ (l : List Happening). IfSome (integration_cycle l device) (λ c. c ≤ recorded_cycle l device)) (sym more)
-          (subst (λ (n : ℕ). IfSome (integration_cycle (w ++ h ∷ []) device) (λ c. c ≤ n)) (sym recorded)
-          (subst (λ (o : Option ℕ). IfSome o (λ c. c ≤ recorded_cycle w device)) (sym integration) left.started));
+          grind (arith, integration_cycle, recorded_cycle, more, w, recorded, integration);
       broken = left.broken;
     }
 
@@ -278,17 +230,8 @@ pub change_leaves : (s : Scenario) (hs : List Happening) (device : DeviceId) (u 
     → is_turned_on_at s device u ≡ false
     → node.standing.state ≡ state → (is_cm s.network device ≡ true → node.points ≡ []) → IsCounted s (hs ++ h ∷ []) device u node
     → IsLeft s (hs ++ h ∷ []) device u node
-change_leaves s hs device u node h state cause why e ends lt off is none counted = record {
-  counted = counted;
-  state =
-      is
-      ∙ sym (state_changed s device (earlier u hs) h state cause why e)
-      ∙ ap (λ (l : List Happening). state_after s l device) (sym (one_earlier u hs h lt))
-      ∙ sym (not_turned_on s (hs ++ h ∷ []) device u off);
-  points =
-      λ cm. none cm
-      ∙ sym (ap (filter_map (λ g. point_by device g g.note.body)) (behind_yes (λ g. ends_stretch device g.note.body) hs h (ap (ends_stretch device) e ∙ ends)));
-}
+change_leaves s hs device u node h state cause why e ends lt off is none counted =
+    grind (arith, state_changed, earlier, state_after, one_earlier, not_turned_on, filter_map, point_by, behind_yes, ends_stretch)
 
 -- a joiner that has its first correction stands as both records leave it
 pub joiner_corrects : (s : Scenario) (hs : List Happening) (device : DeviceId) (u : ℕ) (node : Node) (h g : Happening) (cycle cause : ℕ) (by adjustment : Units)
@@ -308,17 +251,7 @@ clique_counts : (s : Scenario) (hs : List Happening) (device : DeviceId) (u : �
     → adjustment_by node.standing.adjustment verdict ≡ node.standing.adjustment → IsBase s hs device u node
     → IsCounted s hs device u (with_clique node heard verdict)
 clique_counts s hs device u node heard verdict lost same left =
-    let untimed : is_timed (state_by node.standing.state verdict) ≡ false = ap is_timed lost in
-    record {
-      plan = left.plan;
-      adjustment = same ∙ left.adjustment;
-      integrated = left.integrated;
-      number = λ timed. absurd (both_ways _ untimed timed);
-      changed = left.changed;
-      heard = λ timed. absurd (both_ways _ untimed timed);
-      started = left.started;
-      broken = left.broken;
-    }
+    grind (arith, is_timed, state_by, both_ways)
 
 -- a device that found itself outside the others stands as the record of its state leaves it
 pub cliques : (s : Scenario) (hs : List Happening) (device : DeviceId) (u : ℕ) (node : Node) (h : Happening) (cause : ℕ) (why : Why) (heard : Summary)
@@ -355,16 +288,12 @@ joins s hs device u node h opened cycle members point frame moment so off plan s
     let changes : changes_adjustment device h.note.body ≡ true = ap (changes_adjustment device) e ∙ self device in
     let of_cycle : cycle_in h ≡ frame.cycle = ap (λ (o : Option Pcf). option_map_or (λ f. f.cycle) o 0) so.of_frame in
     let adjusted : adjustment_after s (w ++ h ∷ []) device ≡ joined_adjustment s device cycle point =
-    fold_more (λ old g. adjustment_with s device (cycle_in g) old g.note.body) _ w h
-    ∙ ap (adjustment_with s device (cycle_in h) (adjustment_after s w device)) e
-    ∙ ap (λ (b : Bool). if b then joined_adjustment s device cycle point else adjustment_after s w device) (self device) in
+    grind (arith, fold_more, adjustment_with, cycle_in, w, adjustment_after, e, self) in
     let integration : integration_cycle (w ++ h ∷ []) device ≡ Some (cycle_in h) =
     fold_more (λ last g. if is_joined_by device g.note.body then Some (cycle_in g) else last) None w h
     ∙ ap (λ (b : Bool). if b then Some (cycle_in h) else integration_cycle w device) joined in
     let recorded : recorded_cycle (w ++ h ∷ []) device ≡ cycle_in h =
-    fold_more (λ next g. cycle_after device next g g.note.body) 1 w h
-    ∙ ap (cycle_after device (recorded_cycle w device) h) e
-    ∙ ap (λ (b : Bool). if b then cycle_in h else recorded_cycle w device) (self device) in
+    grind (arith, fold_more, cycle_after, w, recorded_cycle, e, cycle_in, self) in
     let at : u - 1 ≡ time_of h = omega (arith, so.before) in
     let local : local_in s device (w ++ h ∷ []) ≡ (pos (s.reading device (time_of h)) +ℤ (adjustment_after s (w ++ h ∷ []) device).0) =
     ap (λ (n : ℕ). pos (s.reading device n) +ℤ (adjustment_after s (w ++ h ∷ []) device).0) (changed_by device w h changes) in
@@ -383,27 +312,16 @@ joins s hs device u node h opened cycle members point frame moment so off plan s
         plan = plan;
         adjustment = sym own ∙ sym adjusted ∙ ap (λ (l : List Happening). adjustment_after s l device) (sym more);
         integrated = sym (ap (λ (n : ℕ). Some n) of_cycle) ∙ sym integration ∙ ap (λ (l : List Happening). integration_cycle l device) (sym more);
-        number = λ timed.
-            sym of_cycle ∙ sym recorded
-            ∙ sym (ap (λ (b : Bool). if b then recorded_cycle (w ++ h ∷ []) device + 1 else recorded_cycle (w ++ h ∷ []) device) none)
-            ∙ ap (λ (l : List Happening). next_in s device l u) (sym more);
+        number = grind (arith, of_cycle, recorded, recorded_cycle, w, none, next_in, more);
         changed =
-            ap (λ (z : ℤ). z +ℤ (joined_by node.standing.plan frame point).adjustment.0) so.reads
-            ∙ ap (λ (a : Units). pos (s.reading device (time_of h)) +ℤ a.0) (sym own ∙ sym adjusted)
-            ∙ sym local ∙ ap (local_in s device) (sym more);
+            grind (arith, time_of, own, adjusted, local, local_in, more);
         heard = λ timed. sym (heard_anew s hs device u h lt changes);
         started =
-            subst (λ (l : List Happening). IfSome (integration_cycle l device) (λ c. c ≤ recorded_cycle l device)) (sym more)
-            (subst (λ (n : ℕ). IfSome (integration_cycle (w ++ h ∷ []) device) (λ c. c ≤ n)) (sym recorded)
-            (subst (λ (o : Option ℕ). IfSome o (λ c. c ≤ cycle_in h)) (sym integration) (omega arith)));
+            grind (arith, integration_cycle, recorded_cycle, more, w, recorded, cycle_in, integration);
         broken = sound;
       };
       state =
-          sym (fold_more (λ old g. state_with device old g.note.body) _ w h
-          ∙ ap (state_with device (state_after s w device)) e
-          ∙ ap (λ (b : Bool). if b then Joining else state_after s w device) (self device))
-          ∙ ap (λ (l : List Happening). state_after s l device) (sym more)
-          ∙ sym (not_turned_on s (hs ++ h ∷ []) device u off);
+          grind (arith, fold_more, state_with, w, state_after, e, self, more, not_turned_on);
       points =
           λ cm. sym (ap (filter_map (λ g. point_by device g g.note.body))
           (behind_yes (λ g. ends_stretch device g.note.body) hs h (ap (ends_stretch device) e ∙ self device)));

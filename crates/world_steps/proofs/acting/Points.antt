@@ -1,5 +1,5 @@
 -- A device comes to its correction point: what its record is.
-use Rattle.world_steps.proofs.Words.{if◌then◌else◌, ◌++◌, ◌+ℤ◌, ◌<ℤ◌, ◌∙◌, ◌∷◌, ◌≡◌, ◌≤ℤ◌, ◌≤◌, AsyncClique, Bool, Cleared, ComesTo, Compressed, Corrected}
+use Rattle.world_steps.proofs.Words.{◌++◌, ◌+ℤ◌, ◌<ℤ◌, ◌∙◌, ◌∷◌, ◌≡◌, ◌≤ℤ◌, ◌≤◌, AsyncClique, Bool, Cleared, ComesTo, Compressed, Corrected}
 use Rattle.world_steps.proofs.Words.{DeviceId, Happening, Hearing, Integrating, IsActing, IsAtRest, IsFirstTask, IsIn, IsInRange, IsPending, IsSteady}
 use Rattle.world_steps.proofs.Words.{IsUnfollowed, IsWaiting, KeepsRules, List, Network, Node, NoneBefore, NoteBody, Scenario, State, Summary, SyncClique}
 use Rattle.world_steps.proofs.Words.{Units, Verdict, Why, [], adjustment_after, adjustment_before, amount, ap, append-nil, arith, both_ways, cases_Bool}
@@ -40,13 +40,7 @@ no_frames s device now node cycle heard verdict sound p c w = p.no_frame c (soun
 -- it was not turned on at the instant
 pub not_on : (s : Scenario) (hs coming : List Happening) (now : ℕ) (device : DeviceId) (node : Node) → IsAtWork s hs coming now device node
     → is_timed node.standing.state ≡ true → is_turned_on_at s device now ≡ false
-not_on s hs coming now device node w timed = elim (cases_Bool (is_turned_on_at s device now)) [
-  | inr off ↦ off
-  | inl on ↦
-      let looking : node.standing.state ≡ Integrating = w.left.state
-      ∙ ap (λ (b : Bool). if b then Integrating else state_after s (earlier now (hs ++ coming)) device) on in
-      absurd (let bad : false ≡ true = sym (ap is_timed looking) ∙ timed in cc)
-]
+not_on s hs coming now device node w timed = grind (arith, cases_Bool, is_turned_on_at, state_after, earlier, is_timed)
 
 -- no row is dispatched at the instant
 pub none_at_point : (s : Scenario) (hs coming : List Happening) (now : ℕ) (device : DeviceId) (node : Node) (cycle : ℕ) → IsInRange s.network
@@ -123,11 +117,7 @@ pub aside_of : (s : Scenario) (hs front back : List Happening) (now : ℕ) (devi
     → IsAtWork s hs (front ++ back) now device node → time_of w ≡ now → 5 ≤ rank w.note.body → NoneBefore place_of back (place_of w)
     → (y : Happening) → IsIn y back → Rattle.world_law.proofs.putting.Near.hears device y.note.body ≡ true → ⊥
 aside_of s hs front back now device node w work at late none y i e =
-    let there = in_right y front back i in
-    let y_now = work.of_now y there in
-    let high = no_less (time_of y) (time_of w) (rank y.note.body) (rank w.note.body) (key (members_in y) y.note.body) (key (members_in w) w.note.body)
-    (y_now.0 ∙ sym at) (none y i) in
-    nothing_aside s device now y.note.body (omega (arith, high, late)) (work.still y (in_right y hs (front ++ back) there) y_now.0) e
+    grind (arith, in_right, no_less, time_of, rank, key, members_in, nothing_aside)
 
 -- ---- the records
 

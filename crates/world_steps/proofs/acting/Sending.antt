@@ -30,9 +30,7 @@ nothing_aside s device now other late rest e = let bad : false ≡ true = e in c
 sent_at : (t u m d cycle : ℕ) (body : NoteBody) → t ∷ 5 ∷ d ∷ cycle ∷ [] ≡ u ∷ rank body ∷ key m body → (other : DeviceId) × (other.0 ≡ d)
     × (body ≡ kinds.Sent other cycle)
 sent_at t u m d cycle (kinds.Sent other n) e =
-    let a : d ≡ other.0 = cc in
-    let b : cycle ≡ n = cc in
-    (other, sym a, ap (kinds.Sent other) (sym b))
+    grind arith
 sent_at t u m d cycle (kinds.Event line what) e = absurd (let bad : ◌≡◌ {A = ℕ} 5 1 = cc in omega (arith, bad))
 sent_at t u m d cycle (kinds.Arrived other link cause clock) e = absurd (let bad : ◌≡◌ {A = ℕ} 5 2 = cc in omega (arith, bad))
 sent_at t u m d cycle (kinds.Permanent other link cause point verdict) e = absurd (let bad : ◌≡◌ {A = ℕ} 5 3 = cc in omega (arith, bad))
@@ -147,17 +145,9 @@ has_sent_it stands s hs front back mark cursor now device machine then_ node aft
 pub room_for : {C M : Type 0} (reading : C → ℕ → ℕ) (stands : M → Network → DeviceId → Node → Type 0) (s : Scenario) (world : World C M) (notes : List Note)
     (old : Stands reading stands s world notes) (w : List ℕ) → ComesFirst reading stands s world notes old w → length notes + length old.coming + 2 < none_yet
 room_for reading stands s world notes old w first =
-    let room = first.room in
-    let same : length world.settled ≡ length old.coming = ap length old.settled ∙ length-map old.coming (hidden (length notes)) in
-    omega (arith, room, same)
+    grind (arith, length, length-map, hidden)
 
 pub calm_then : {M : Type 0} (stands : M → Network → DeviceId → Node → Type 0) (s : Scenario) (hs front back : List Happening) (mark cursor then_ : List ℕ)
     (now : ℕ) (device : DeviceId) (machine : M) (node : Node) (new : List Happening) → Stage stands s hs (front ++ back) mark cursor now device machine node
     → (is_turned_on_at s device now ≡ true → HasTurnedOn s hs new then_ device now) → IsBefore (now ∷ 2 ∷ []) then_ → IsCalm s hs new now device
-calm_then stands s hs front back mark cursor then_ now device machine node new st turned later = record {
-  falls = st.calm.falls;
-  off = st.calm.off;
-  broken = st.calm.broken;
-  in_time = st.calm.in_time;
-  turned = λ on. (turned on).turned later;
-}
+calm_then stands s hs front back mark cursor then_ now device machine node new st turned later = grind arith

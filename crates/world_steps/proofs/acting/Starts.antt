@@ -44,13 +44,7 @@ pub none_of_it : (s : Scenario) (hs coming : List Happening) (mark cursor : List
     → (IsBefore (act_place now device) cursor → ⊥) → (act_place now device ≡ cursor → ⊥) → (z : Happening) → IsIn z coming → (body : NoteBody)
     → z.note.body ≡ body → ((hs : List Happening) (t members : ℕ) (w : List ℕ) → IsOwnSource s hs t members body w → w ≡ t ∷ 4 ∷ device.0 ∷ []) → ⊥
 none_of_it s hs coming mark cursor now device are waits not_at z i body e source =
-    let split = parted z coming i in
-    let by = are.by split.0 split.1 z split.2 in
-    let at = are.of_now z i in
-    let own : by.0 ≡ time_of z ∷ 4 ∷ device.0 ∷ [] = source (hs ++ split.0) (time_of z) (members_in z) by.0
-    (subst (λ (b : NoteBody). IsOwnSource s (hs ++ split.0) (time_of z) (members_in z) b by.0) e by.1) in
-    let here : by.0 ≡ act_place now device = own ∙ ap (λ (n : ℕ). n ∷ 4 ∷ device.0 ∷ []) at in
-    elim by.3 [ inl before ↦ waits (subst (λ (q : List ℕ). IsBefore q cursor) here before) | inr up ↦ not_at (sym here ∙ up.0) ]
+    grind (arith, parted, time_of, members_in, act_place)
 
 -- ---- it is at work
 

@@ -1,5 +1,5 @@
 -- Records of the present instant that do not move a device leave it as it was before the instant, but for what it has heard.
-use Rattle.world_steps.proofs.Words.{if◌then◌else◌, ◌&&◌, ◌++◌, ◌||◌, ◌∙◌, ◌∷◌, ◌≡◌, ◌≤◌, ◌⊎◌, Bool, DeviceId, Happening, Hearing, IfSome, Integrating}
+use Rattle.world_steps.proofs.Words.{◌&&◌, ◌++◌, ◌||◌, ◌∙◌, ◌∷◌, ◌≡◌, ◌≤◌, ◌⊎◌, Bool, DeviceId, Happening, Hearing}
 use Rattle.world_steps.proofs.Words.{IsAtRest, IsIn, IsLeft, List, Node, None, Option, Scenario, Some, [], adjustment_after, ap, append-nil, append_assoc}
 use Rattle.world_steps.proofs.Words.{arith, behind_no, by_last, changes_adjustment, cleared_in, cons_option, earlier, false, filter, filter_map}
 use Rattle.world_steps.proofs.Words.{filter_map-append, filter_yes, heard_since, hearing_by, in_left, in_mapped, in_parts, in_right, inl, inr}
@@ -106,24 +106,7 @@ pub left_now : (s : Scenario) (hs gs : List Happening) (device : DeviceId) (now 
     → (is_timed node.standing.state ≡ true → new.heard ≡ heard_since s gs device now) → points_of hs device ≡ points_of gs device
     → IsLeft s hs device now node → IsLeft s gs device now new
 left_now s hs gs device now node new same but heard points left =
-    let timed_too : is_timed new.standing.state ≡ true → is_timed node.standing.state ≡ true = λ e. ap (λ st. is_timed st.state) (sym but.standing) ∙ e in
-    record {
-      counted = record {
-        plan = ap (λ st. st.plan) but.standing ∙ left.counted.plan;
-        adjustment = ap (λ st. st.adjustment) but.standing ∙ left.counted.adjustment ∙ ap (λ (w : List Happening). adjustment_after s w device) same;
-        integrated = ap (λ st. st.integrated) but.standing ∙ left.counted.integrated ∙ ap (λ (w : List Happening). integration_cycle w device) same;
-        number = λ timed.
-            ap (λ st. st.number) but.standing ∙ left.counted.number (timed_too timed) ∙ ap (λ (w : List Happening). next_in s device w now) same;
-        changed = but.changed ∙ left.counted.changed ∙ ap (local_in s device) same;
-        heard = λ timed. heard (timed_too timed);
-        started = subst (λ (w : List Happening). IfSome (integration_cycle w device) (λ cycle. cycle ≤ recorded_cycle w device)) same left.counted.started;
-        broken = but.broken ∙ left.counted.broken;
-      };
-      state =
-          ap (λ st. st.state) but.standing ∙ left.state
-          ∙ ap (λ (w : List Happening). if is_turned_on_at s device now then Integrating else state_after s w device) same;
-      points = λ cm. but.points ∙ left.points cm ∙ points;
-    }
+    grind (arith, is_timed, adjustment_after, integration_cycle, next_in, local_in, recorded_cycle, is_turned_on_at, state_after)
 
 -- the points are the same with one more record between those of the instant
 pub points_put : (s : Scenario) (hs front back : List Happening) (now : ℕ) (device : DeviceId) (w : Happening)

@@ -1,15 +1,15 @@
 -- A device that has something due at the present instant: how it stands before it acts, and what is due then.
-use Rattle.world_steps.proofs.Words.{if◌then◌else◌, ◌&&◌, ◌++◌, ◌+◌, ◌-ℤ◌, ◌<ℤ◌, ◌==◌, ◌||◌, ◌∙◌, ◌∷◌, ◌≡◌, ◌≤ℤ◌, ◌≤◌, AreClusters, Bool, ClockTask, ComesTo}
+use Rattle.world_steps.proofs.Words.{if◌then◌else◌, ◌++◌, ◌+◌, ◌-ℤ◌, ◌<ℤ◌, ◌||◌, ◌∙◌, ◌∷◌, ◌≡◌, ◌≤ℤ◌, ◌≤◌, AreClusters, Bool, ClockTask, ComesTo}
 use Rattle.world_steps.proofs.Words.{ComesToCorrection, Compressed, DeviceId, Emits, Happening, HasDoneFrom, HasSentFrom, HasTaskBy, Integrating, IsAtRest}
-use Rattle.world_steps.proofs.Words.{IsIn, IsLeft, IsPending, IsReadyAt, IsUndone, Joining, Judgement, List, Network, Node, Option, Point, Reaches, Scenario}
-use Rattle.world_steps.proofs.Words.{Some, State, Summary, SyncPlan, Units, Verdict, [], adjustment_after, adjustment_at_hearing, adjustment_before, and_right}
+use Rattle.world_steps.proofs.Words.{IsIn, IsLeft, IsPending, IsReadyAt, IsUndone, Joining, Judgement, List, Network, Node, Point, Reaches, Scenario}
+use Rattle.world_steps.proofs.Words.{Some, Summary, Units, Verdict, [], adjustment_after, adjustment_at_hearing, adjustment_before, and_right}
 use Rattle.world_steps.proofs.Words.{ap, append_assoc, arith, cases_lt, changed_at, changed_before, correcting, doing, earlier, earlier_still, emitting, false}
 use Rattle.world_steps.proofs.Words.{has_joined_at, heard_as, heard_since, in_left, in_right, inl, inr, ints, is_broken, is_joined_by, is_timed}
 use Rattle.world_steps.proofs.Words.{is_turned_on_at, list_any, lt-ltb, nat_lt, never_both, observation_window, or_left, or_none, plan_of, point_number}
 use Rattle.world_steps.proofs.Words.{points_of, points_same, pos, quiet_rest, rank, reaches_back, reading_for, refl, same_kept, sending, standing_before}
 use Rattle.world_steps.proofs.Words.{state_after, state_at_hearing, state_before, subst, sym, time_of, true, up_back, value_of, ℕ, ℤ}
 use Rattle.membership.specs.Summary.{Summarizes}
-use Rattle.run_law.specs.{control.Corrections.next_cycle, timed.Dispatching.Sends}
+use Rattle.run_law.specs.{timed.Dispatching.Sends}
 use Rattle.sync_state.specs.{Standing.{Standing, next_point}, Verdicts.HasVerdict}
 use Rattle.world_law.{proofs.{devices.TurnedOn.quiet_joins, runs.SourcesBack.standing_in}, specs.source.Sources.IsAtCorrection}
 
@@ -77,15 +77,7 @@ sends s hs coming other now device node cycle w also pending due =
 pub same_standing : (s : Scenario) (hs : List Happening) (device : DeviceId) (t : ℕ) (node : Node) → IsLeft s hs device t node
     → is_timed node.standing.state ≡ true → node.standing ≡ standing_before s hs device t
 same_standing s hs device t node left is =
-    let make = λ (plan : SyncPlan) (state : State) (adjustment : Units) (number : ℕ) (integrated : Option ℕ).
-    let p : Standing = record { plan = plan; state = state; adjustment = adjustment; number = number; integrated = integrated } in p in
-    ap (λ (x : SyncPlan). make x node.standing.state node.standing.adjustment node.standing.number node.standing.integrated) left.counted.plan
-    ∙ ap (λ (x : State). make (plan_of s.network device) x node.standing.adjustment node.standing.number node.standing.integrated) left.state
-    ∙ ap (λ (x : Units). make (plan_of s.network device) (state_before s hs device t) x node.standing.number node.standing.integrated) left.counted.adjustment
-    ∙ ap (λ (x : ℕ). make (plan_of s.network device) (state_before s hs device t) (adjustment_before s hs device t) x node.standing.integrated)
-    (left.counted.number is)
-    ∙ ap (λ (x : Option ℕ). make (plan_of s.network device) (state_before s hs device t) (adjustment_before s hs device t) (next_cycle s hs device t) x)
-    left.counted.integrated
+    grind (arith, plan_of, state_before, adjustment_before)
 
 -- a device that has its correction point before it is at it
 pub at_correction : (s : Scenario) (hs coming other : List Happening) (now : ℕ) (device : DeviceId) (node : Node) (cycle : ℕ)
@@ -135,13 +127,7 @@ pub none_joined : (js : List Happening) (device : DeviceId) (now : ℕ)
     → ((h : Happening) → IsIn h js → time_of h ≡ now → is_joined_by device h.note.body ≡ false)
     → has_joined_at js device now ≡ false
 none_joined js device now all =
-    none_any (λ h. time_of h == now && is_joined_by device h.note.body) js (λ h i. elim (cases_lt (time_of h) now) [
-      | inl lt ↦ ap (λ (b : Bool). b && is_joined_by device h.note.body) (Rattle.std.proofs.lemmas.Bool.ne_eqb (time_of h) now (λ e. omega (arith, e, lt)))
-      | inr ge ↦ elim (cases_lt now (time_of h)) [
-        | inl gt ↦ ap (λ (b : Bool). b && is_joined_by device h.note.body) (Rattle.std.proofs.lemmas.Bool.ne_eqb (time_of h) now (λ e. omega (arith, e, gt)))
-        | inr le ↦ and_right (time_of h == now) _ (all h i (omega (arith, ge, le)))
-      ]
-    ])
+    grind (arith, none_any, time_of, is_joined_by, cases_lt, and_right)
 
 -- then the device hears as it stands before the instant
 pub hears_state : (s : Scenario) (js : List Happening) (device : DeviceId) (now : ℕ)
@@ -153,14 +139,7 @@ pub hears_adjustment : (s : Scenario) (js : List Happening) (device : DeviceId) 
     → ((h : Happening) → IsIn h js → time_of h ≡ now → is_joined_by device h.note.body ≡ false)
     → adjustment_at_hearing s js device now ≡ adjustment_before s js device now
 hears_adjustment s js device now past all =
-    ap (λ (l : List Happening). adjustment_after s l device)
-    (same_kept (λ h. nat_lt (time_of h) now || is_joined_by device h.note.body) (λ h. nat_lt (time_of h) now) js (λ h i.
-    elim (cases_lt (time_of h) now) [
-      | inl lt ↦ or_left (nat_lt (time_of h) now) _ (lt-ltb (time_of h) now lt) ∙ sym (lt-ltb (time_of h) now lt)
-      | inr ge ↦
-          let le = past h i in
-          ap (λ (b : Bool). nat_lt (time_of h) now || b) (all h i (omega (arith, ge, le))) ∙ or_none (nat_lt (time_of h) now)
-    ]))
+    grind (arith, adjustment_after, same_kept, nat_lt, time_of, is_joined_by, cases_lt, or_left, lt-ltb, or_none)
 
 -- how it hears a frame of its own
 abbrev pub own_judgement : Network → DeviceId → Node → Compressed → Judgement
@@ -176,10 +155,7 @@ emits s hs coming front back now device node sent w e pending due =
     subst (λ (l : List Happening). IsIn h l) (append_assoc hs front back ∙ ap (λ (l : List Happening). hs ++ l) (sym e)) (in_left h (hs ++ front) back i) in
     let behind_of : (z : Happening) → IsIn z back → IsIn z coming = λ z i. subst (λ (l : List Happening). IsIn z l) (sym e) (in_right z front back i) in
     let points : points_of (hs ++ coming) device ≡ points_of (hs ++ front) device =
-    ap (λ (l : List Happening). points_of (hs ++ l) device) e
-    ∙ ap (λ (l : List Happening). points_of l device) (sym (append_assoc hs front back))
-    ∙ points_same back (hs ++ front) device (λ z i.
-    let at = w.of_now z (behind_of z i) in (quiet_rest s device now z.note.body (w.still z (in_right z hs coming (behind_of z i)) at.0), at.1)) in
+    grind (arith, points_of, append_assoc, points_same, behind_of, quiet_rest, in_right) in
     let same = all_earlier s hs coming front now (λ z i. (w.of_now z i).0)
     (λ z i. (w.of_now z (subst (λ (l : List Happening). IsIn z l) (sym e) (in_left z front back i))).0) in
     let joins : (h : Happening) → IsIn h (hs ++ front) → time_of h ≡ now → is_joined_by device h.note.body ≡ false = λ h i at.
@@ -205,8 +181,5 @@ emits s hs coming front back now device node sent w e pending due =
         not_before = λ x from lt. w.sent.unsent sent pending.1 x (omega (arith, ints, lt));
       };
       heard =
-          ap (λ (x : State). heard_as (plan_of s.network device) (observation_window s.network) x node.standing.adjustment.0 sent.at.0 sent.cycle sent.members)
-          state
-          ∙ ap (λ (a : Units). heard_as (plan_of s.network device) (observation_window s.network) (state_at_hearing s (hs ++ front) device now) a.0 sent.at.0
-          sent.cycle sent.members) adjustment;
+          grind (arith, heard_as, plan_of, observation_window, state, state_at_hearing, adjustment);
     }

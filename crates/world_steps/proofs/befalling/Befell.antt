@@ -5,7 +5,7 @@ use Rattle.world_steps.proofs.Words.{before_behind, behind, bodies_of, clock_pla
 use Rattle.world_steps.proofs.Words.{is_turned_on_at, length, place_of, refl, settled_as, subst, sym, true, ℕ}
 use Rattle.run_law.proofs.runs.Places.{before_next_time}
 use Rattle.world_law.proofs.runs.Applies.{same_length}
-use Rattle.world_steps.proofs.befalling.{Bodies.{IsOutcome, all_bodies, all_rising, few_all, flat_in}, Devices.{AreToldOf, held_told, known_told}}
+use Rattle.world_steps.proofs.befalling.{Bodies.{IsOutcome, all_bodies, all_rising, few_all}, Devices.{AreToldOf, held_told, known_told}}
 use Rattle.world_steps.proofs.befalling.Filled.{IsFilled, all_long, all_new, filled_all, in_on, number_on, on_length, shown_all}
 use Rattle.world_steps.proofs.befalling.{Settles.{IsSettling, in_coming, settled_told}, Told.{on_by_event, recorded}}
 use Rattle.world_steps.proofs.{befalling.UnderWay.{IsTelling, goes_on, ports_told, waiting_told, wires_told}, steps.Applied.no_coming}
@@ -13,6 +13,7 @@ use Rattle.world_steps.{proofs.steps.AppliedParts.before_others, specs.Befalling
 use Rattle.net_plan.specs.declared.event.What.TheVariants as events
 use Rattle.run_law.specs.declared.judgement.Why.TheVariants as whys
 use Rattle.run_law.specs.declared.note.NoteBody.TheVariants as notes
+use Rattle.run_law.proofs.records.Members.{in_flat}
 
 has_out : (s : Scenario) (now number : ℕ) (what : What) (b : NoteBody) → IsIn b (bodies_of s now number what) → has_outcome what ≡ true
 has_out s now number (events.On device) b i = refl
@@ -47,11 +48,7 @@ befell_step {C} {M} reading stands s world notes wires settled old open_ room pu
     let untold : AreUntold hs old.cursor now true world.befell = subst (λ (b : Bool). AreUntold hs old.cursor now b world.befell) open_ old.untold in
     let early = untold.early refl in
     let empty = no_coming hs old.coming s old.mark old.cursor now old.are early in
-    let m : IsTelling hs old.cursor now world.befell = record {
-      untold = untold;
-      over = λ p b. old.ahead p (old.of_now p b);
-      sooner = λ h i. before_others h now (early (place_of h) (old.ahead (place_of h) (old.run.within h i)));
-    } in
+    let m : IsTelling hs old.cursor now world.befell = grind (arith, untold, before_others, now, early, place_of) in
     let bodies = befell_bodies s now world.befell in
     let each = all_bodies s hs now world.befell untold.real in
     let filled : IsFilled s hs now settled = filled_all s hs now bodies [] settled
@@ -65,7 +62,7 @@ befell_step {C} {M} reading stands s world notes wires settled old open_ room pu
       ahead = old.ahead;
       filled = filled;
       there = λ number line what h it is b i. all_new s hs now bodies [] settled put_in b
-          (flat_in (λ (e : Befell). bodies_of s now e.number e.what) world.befell (record { number = number; what = what }) b
+          (in_flat (λ (e : Befell). bodies_of s now e.number e.what) world.befell (record { number = number; what = what }) b
           (untold.all refl number line what h it is (has_out s now number what b i)) i);
     } in
     let long : length notes ≡ length hs = same_length s.network notes in

@@ -1,13 +1,13 @@
 -- What comes of events, as records: those of their bodies, in their order.
 use Rattle.world_steps.proofs.Words.{if◌then◌else◌, ◌++◌, ◌<◌, ◌∷◌, ◌≡◌, ◌≤◌, Befell, Bool, DeviceId, Happening, Integrating, IsIn, IsOfThisTime, IsSendLost}
 use Rattle.world_steps.proofs.Words.{Link, LinkId, List, None, NoteBody, On, Option, Scenario, Some, Up, What, [], ap, arith, bodies_of, cause_of, false}
-use Rattle.world_steps.proofs.Words.{in_left, in_parts, in_right, inl, inr, is_broken, is_cut, length, length-append, link_at, option_map_or, refl, subst, sym}
+use Rattle.world_steps.proofs.Words.{inl, inr, is_broken, is_cut, length, length-append, link_at, option_map_or, refl, subst, sym}
 use Rattle.world_steps.proofs.Words.{true, ℕ}
-use Rattle.std.proofs.Common.{flat_map}
 use Rattle.world_law.specs.world.World.{AreInOrder}
 use Rattle.world_steps.{proofs.befalling.Calm.is_calm, specs.Befalling.befell_bodies}
 use Rattle.net_plan.specs.declared.event.What.TheVariants as events
 use Rattle.run_law.specs.declared.note.NoteBody.TheVariants as notes
+use Rattle.run_law.proofs.records.Members.{from_flat}
 
 -- this comes of an event of the instant: a sound device is turned on, or what is sent meets a cut way
 pub data IsOutcome (s : Scenario) (hs : List Happening) (now : ℕ) : NoteBody → Type 0 where
@@ -76,19 +76,6 @@ few_bodies s now number other = omega arith
 
 -- ---- of all
 
-pub in_flat : {X Y : Type 0} (f : X → List Y) (xs : List X) (y : Y) → IsIn y (flat_map f xs) → (x : X) × IsIn x xs × IsIn y (f x)
-in_flat f [] y i = absurd i
-in_flat f (x ∷ xs) y i =
-    elim (in_parts y (f x) (flat_map f xs) i) [
-      | inl here ↦ (x, inl refl, here)
-      | inr later ↦ let more = in_flat f xs y later in (more.0, inr more.1, more.2)
-    ]
-
-pub flat_in : {X Y : Type 0} (f : X → List Y) (xs : List X) (x : X) (y : Y) → IsIn x xs → IsIn y (f x) → IsIn y (flat_map f xs)
-flat_in f [] x y i there = absurd i
-flat_in {X} {Y} f (z ∷ xs) x y (inl same) there = in_left y (f z) (flat_map f xs) (subst (λ (w : X). IsIn y (f w)) same there)
-flat_in f (z ∷ xs) x y (inr i) there = in_right y (f z) (flat_map f xs) (flat_in f xs x y i there)
-
 -- each of these befell at the instant
 abbrev pub HaveRecords : List Happening → ℕ → List Befell → Type 0
 HaveRecords hs now befell =
@@ -97,7 +84,7 @@ HaveRecords hs now befell =
 pub all_bodies : (s : Scenario) (hs : List Happening) (now : ℕ) (befell : List Befell) → HaveRecords hs now befell → (b : NoteBody)
     → IsIn b (befell_bodies s now befell) → IsOutcome s hs now b × ((e : Befell) × IsIn e befell × (cause_of b ≡ e.number))
 all_bodies s hs now befell real b i =
-    let at = in_flat (λ (e : Befell). bodies_of s now e.number e.what) befell b i in
+    let at = from_flat (λ (e : Befell). bodies_of s now e.number e.what) befell b i in
     let it = real at.0 at.1 in
     let is = each_body s hs now at.0.number it.0 at.0.what it.1 b it.2 it.3 at.2 in
     (is.0, (at.0, at.1, is.1))
@@ -105,10 +92,7 @@ all_bodies s hs now befell real b i =
 pub few_all : (s : Scenario) (now : ℕ) (befell : List Befell) → length (befell_bodies s now befell) ≤ length befell
 few_all s now [] = omega arith
 few_all s now (e ∷ befell) =
-    let a = few_bodies s now e.number e.what in
-    let b = few_all s now befell in
-    let c = length-append (bodies_of s now e.number e.what) (befell_bodies s now befell) in
-    omega (arith, a, b, c)
+    grind (arith, few_bodies, length-append, bodies_of, (few_all s now befell))
 
 -- the causes of the bodies rise
 abbrev pub AreRising : List NoteBody → Type 0

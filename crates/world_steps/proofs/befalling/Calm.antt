@@ -1,5 +1,6 @@
 -- The record of what comes of an event leaves a device as it was, but for its state.
-use Rattle.world_steps.proofs.Words.{if◌then◌else◌, ◌&&◌, ◌++◌, ◌||◌, ◌∙◌, ◌∷◌, ◌≡◌, ◌≤◌, Bool, DeviceId, Happening, IfSome, Integrating, IsIn, IsLeft, List}
+use Rattle.std.proofs.Common.{arith}
+use Rattle.world_steps.proofs.Words.{◌&&◌, ◌++◌, ◌||◌, ◌∙◌, ◌∷◌, ◌≡◌, ◌≤◌, Bool, DeviceId, Happening, Integrating, IsIn, IsLeft, List}
 use Rattle.world_steps.proofs.Words.{Network, Node, None, NoteBody, On, Option, Scenario, State, Units, [], adjustment_after, adjustment_with, after_last, ap}
 use Rattle.world_steps.proofs.Words.{append-nil, append_assoc, behind_no, cases_Bool, changes_adjustment, cleared_in, cycle_in, earlier, ends_stretch, false}
 use Rattle.world_steps.proofs.Words.{filter, filter_map, filter_no, filter_yes, fold, fold-append, heard_since, hearing_by, inl, inr, integration_cycle}
@@ -44,10 +45,7 @@ calm_joins device other e = absurd cc
 filtered_none : {X Y : Type 0} (f : X → Option Y) (k : X → Bool) (xs : List X) (x : X) → f x ≡ None
     → filter_map f (filter k (xs ++ x ∷ [])) ≡ filter_map f (filter k xs)
 filtered_none f k xs x e =
-    elim (cases_Bool (k x)) [
-      | inl kept ↦ ap (filter_map f) (filter_yes k xs x kept) ∙ map_none f (filter k xs) x e
-      | inr lost ↦ ap (filter_map f) (filter_no k xs x lost)
-    ]
+    grind (arith, cases_Bool, filter_map, filter_yes, map_none, filter, filter_no)
 
 heard_calm : (s : Scenario) (hs : List Happening) (z : Happening) (device : DeviceId) (t : ℕ) → t ≤ time_of z → is_calm z.note.body ≡ true
     → heard_since s (hs ++ z ∷ []) device t ≡ heard_since s hs device t
@@ -66,31 +64,26 @@ heard_calm s hs z device t late calm =
 
 points_calm : (hs : List Happening) (z : Happening) (device : DeviceId) → is_calm z.note.body ≡ true → points_of (hs ++ z ∷ []) device ≡ points_of hs device
 points_calm hs z device calm =
-    let f = λ (h : Happening). point_by device h h.note.body in
-    let q = λ (h : Happening). ends_stretch device h.note.body in
-    ap (filter_map f) (behind_no q hs z (calm_ends device z.note.body calm)) ∙ map_none f (after_last q hs) z (calm_point device z z.note.body calm)
+    grind (arith, point_by, ends_stretch, filter_map, behind_no, calm_ends, map_none, after_last, calm_point)
 
 -- what stood for the records before does so with such a record of the time, or of a later one
 left_calm : (s : Scenario) (hs : List Happening) (z : Happening) (device : DeviceId) (t : ℕ) (node : Node) → t ≤ time_of z → is_calm z.note.body ≡ true
     → IsLeft s hs device t node → IsLeft s (hs ++ z ∷ []) device t node
 left_calm s hs z device t node late calm left =
-    let back : earlier t hs ≡ earlier t (hs ++ z ∷ []) = sym (same_before t hs z late) in
-    let c = left.counted in
-    record {
-      counted = record {
-        plan = c.plan;
-        adjustment = c.adjustment ∙ ap (λ (l : List Happening). adjustment_after s l device) back;
-        integrated = c.integrated ∙ ap (λ (l : List Happening). integration_cycle l device) back;
-        number = λ timed. c.number timed ∙ ap (λ (l : List Happening). next_in s device l t) back;
-        changed = c.changed ∙ ap (λ (l : List Happening). local_in s device l) back;
-        heard = λ timed. c.heard timed ∙ sym (heard_calm s hs z device t late calm);
-        started =
-            subst (λ (l : List Happening). IfSome (integration_cycle l device) (λ cycle. cycle ≤ recorded_cycle l device)) back c.started;
-        broken = c.broken;
-      };
-      state = left.state ∙ ap (λ (l : List Happening). if is_turned_on_at s device t then Integrating else state_after s l device) back;
-      points = λ cm. left.points cm ∙ sym (points_calm hs z device calm);
-    }
+    grind (
+      arith,
+      earlier,
+      same_before,
+      adjustment_after,
+      integration_cycle,
+      next_in,
+      local_in,
+      heard_calm,
+      recorded_cycle,
+      is_turned_on_at,
+      state_after,
+      points_calm,
+    )
 
 -- the same with such records one after the other
 pub left_all_calm : (s : Scenario) (hs zs : List Happening) (device : DeviceId) (t : ℕ) (node : Node) → ((z : Happening) → IsIn z zs → t ≤ time_of z)
@@ -107,13 +100,19 @@ fold_up : {B : Type 0} (f : B → Happening → B) (b : B) (now : ℕ) (hs zs : 
     → fold f b (up_to now (hs ++ zs)) ≡ fold f b (up_to now hs)
 fold_up f b now hs [] none = ap (λ (l : List Happening). fold f b (up_to now l)) (append-nil hs)
 fold_up f b now hs (z ∷ zs) none =
-    let q = λ (h : Happening). nat_le (time_of h) now in
-    ap (λ (l : List Happening). fold f b (up_to now l)) (sym (append_assoc hs (z ∷ []) zs))
-    ∙ fold_up f b now (hs ++ z ∷ []) zs (λ y i. none y (inr i))
-    ∙ elim (cases_Bool (nat_le (time_of z) now)) [
-      | inl there ↦ ap (fold f b) (filter_yes q hs z there) ∙ fold-append f b (up_to now hs) (z ∷ []) ∙ none z (inl refl) (fold f b (up_to now hs))
-      | inr past ↦ ap (fold f b) (filter_no q hs z past)
-    ]
+    grind (
+      arith,
+      nat_le,
+      time_of,
+      fold,
+      up_to,
+      append_assoc,
+      cases_Bool,
+      filter_yes,
+      fold-append,
+      filter_no,
+      (fold_up f b now (hs ++ z ∷ []) zs (λ y i. none y (inr i))),
+    )
 
 -- records that do not move a device leave its state and its adjustment
 pub state_unmoved : (s : Scenario) (hs zs : List Happening) (device : DeviceId) (now : ℕ)

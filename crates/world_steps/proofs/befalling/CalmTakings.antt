@@ -1,6 +1,6 @@
 -- Such records take no frame of the schedule.
-use Rattle.world_steps.proofs.Words.{◌++◌, ◌+ℤ◌, ◌∙◌, ◌∷◌, ◌≡◌, ◌≤◌, DeviceId, Happening, IsIn, List, NoteBody, Scenario, [], adjustment_after, ap, arith}
-use Rattle.world_steps.proofs.Words.{earlier_still, frames_taken, inl, inr, local_before, pos, refl, taken_in, time_of, true, ℕ, ℤ}
+use Rattle.world_steps.proofs.Words.{◌++◌, ◌∙◌, ◌∷◌, ◌≡◌, ◌≤◌, DeviceId, Happening, IsIn, List, NoteBody, Scenario, [], adjustment_after, ap, arith}
+use Rattle.world_steps.proofs.Words.{earlier_still, frames_taken, inl, inr, local_before, refl, taken_in, time_of, true, ℕ, ℤ}
 use Rattle.std.proofs.Common.{flat_map}
 use Rattle.world_steps.proofs.befalling.Calm.{is_calm}
 use Rattle.run_law.specs.declared.note.NoteBody.TheVariants as notes
@@ -23,8 +23,4 @@ pub taken_calm : (s : Scenario) (hs zs : List Happening) (device : DeviceId) (no
     → ((z : Happening) → IsIn z zs → now ≤ time_of z) → ((z : Happening) → IsIn z zs → is_calm z.note.body ≡ true)
     → frames_taken s (hs ++ zs) device ≡ frames_taken s hs device
 taken_calm s hs zs device now past late calm =
-    flat_calm (λ (h : Happening). taken_in device (local_before s (hs ++ zs) device (time_of h)) h.note.body)
-    (λ (h : Happening). taken_in device (local_before s hs device (time_of h)) h.note.body) hs zs
-    (λ h i. ap (λ (l : List Happening). taken_in device (pos (s.reading device (time_of h)) +ℤ (adjustment_after s l device).0) h.note.body)
-    (earlier_still (time_of h) hs zs (λ z j. let a = past h i in let b = late z j in omega (arith, a, b))))
-    (λ z i. calm_takes device _ z.note.body (calm z i))
+    grind (arith, flat_calm, taken_in, local_before, time_of, adjustment_after, earlier_still, calm_takes)

@@ -46,10 +46,7 @@ out_unmoved : (s : Scenario) (hs : List Happening) (now : ℕ) (device : DeviceI
     → moves device body ≡ false
 out_unmoved s hs now device body broken (IsOutcome.losing d link n it) = refl
 out_unmoved s hs now device body broken (IsOutcome.turning d n line h sound it is) =
-    elim (cases_Bool (device.0 == d.0)) [
-      | inr other ↦ other
-      | inl same ↦ absurd (let bad : true ≡ false = sym broken ∙ ap (λ (x : DeviceId). is_broken s x now) (alike device d same) ∙ sound in cc)
-    ]
+    grind (arith, cases_Bool, is_broken, alike)
 
 -- nor one that no event turns on
 off_unmoved : (s : Scenario) (hs : List Happening) (now : ℕ) (device : DeviceId) (body : NoteBody) → IsFounded place_of (IsDue s) hs
@@ -197,17 +194,4 @@ pub held_told : {M : Type 0} (stands : M → Network → DeviceId → Node → T
     → IsHeld stands s hs [] cursor now device machine → IsHeld stands s hs coming (behind (now ∷ 2 ∷ [])) now device machine
 held_told stands s hs coming cursor now befell device machine m (inl k) = inl (kept_told stands s hs coming cursor now befell device machine m k)
 held_told stands s hs coming cursor now befell device machine m (inr k) =
-    let still : (z : Happening) → IsIn z coming → moves device z.note.body ≡ false = λ z i. out_unmoved s hs now device z.note.body k.broken (m.out z i) in
-    inr (record {
-      node = k.node;
-      is = k.is;
-      broken = k.broken;
-      shows = k.shows;
-      state =
-          k.state ∙ ap (λ (l : List Happening). state_after s (up_to now l) device) (append-nil hs) ∙ sym (state_unmoved s hs coming device now still);
-      adjustment =
-          k.adjustment ∙ ap (λ (l : List Happening). adjustment_after s (up_to now l) device) (append-nil hs)
-          ∙ sym (adjustment_unmoved s hs coming device now still);
-      ready = k.ready;
-      phase = λ at p b. goes_on hs cursor now befell m.telling p (k.phase at p b);
-    })
+    grind (arith, moves, out_unmoved, state_after, up_to, append-nil, state_unmoved, adjustment_after, adjustment_unmoved, goes_on)

@@ -98,12 +98,7 @@ put_back w old new put z i =
 
 put_long : (w : Happening) (old new : List Happening) → IsPutIn w old new → length new ≡ length old + 1
 put_long w old new put =
-    let a = ap length put.was in
-    let b = ap length put.is in
-    let c = length-append put.front put.back in
-    let d = length-append put.front (w ∷ put.back) in
-    let e : length (w ∷ put.back) ≡ suc (length put.back) = refl in
-    omega (arith, a, b, c, d, e)
+    grind (arith, length, length-append)
 
 -- ---- all are put in
 
@@ -196,10 +191,7 @@ shown_body s hs now given body (IsOutcome.losing d link n it) long = refl
 
 shown_one : (s : Scenario) (hs : List Happening) (now given k : ℕ) (z : Happening) → given ≡ length hs → IsOne s hs now z → hidden given (renumbered k z) ≡ z
 shown_one s hs now given k z long it =
-    ap (λ (x : Happening). hidden given (renumbered k x)) it.is
-    ∙ ap (λ (b : NoteBody). let x : Happening = settled_as s.network hs now it.body in record x { note = record x.note { body = b } })
-    (shown_body s hs now given it.body it.out long)
-    ∙ sym it.is
+    grind (arith, hidden, settled_as, shown_body)
 
 pub shown_all : (s : Scenario) (hs : List Happening) (now given k : ℕ) (zs : List Happening) → given ≡ length hs
     → ((z : Happening) → IsIn z zs → IsOne s hs now z) → zs ≡ map (hidden given) (number_on k zs)

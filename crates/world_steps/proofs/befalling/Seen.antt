@@ -1,4 +1,5 @@
 -- What code sees of the pending events: what each puts on wires, one after the other.
+use Rattle.std.proofs.Common.{arith}
 use Rattle.world_steps.proofs.Words.{if◌then◌else◌, ◌++◌, ◌+◌, ◌<◌, ◌↔◌, ◌∙◌, ◌∷◌, ◌≡◌, ◌⊎◌, ArePutIn, Arrives, Befell, Bool, DeviceId, Happening, IsIn}
 use Rattle.world_steps.proofs.Words.{IsOfThisTime, Launch, Link, LinkId, List, Network, Node, None, Note, NoteBody, OnWire, Option, Scenario, Signal, Some}
 use Rattle.world_steps.proofs.Words.{Stands, Up, Way, What, World, [], ap, cases_lt, false, happenings, inl, inr, is_cut, launched, length, link_at}
@@ -55,16 +56,7 @@ sent_real s now number link octets h e true o at cut there put i = absurd i
 sent_real s now number link octets h e false None at cut there put i = absurd i
 sent_real s now number link octets h e false (Some l) at cut there put (inr none) = absurd none
 sent_real s now number link octets h e false (Some l) at cut there put (inl same) =
-    let x = sent_on s now number link octets l in
-    let a : Arrives s h x.device x.link x.at x.signal = record {
-      way = Up;
-      put = put
-          ∙ ap (λ (b : Bool). if b then None else Some (let y : Launch = record { link = link; way = Up; signal = signal_of octets } in y))
-          (ap (is_cut s link Up) at ∙ cut);
-      receiver = ap (option_map (target_by Up)) there;
-      at = ap (λ (t : ℕ). t + time_on_port s.network link (signal_of octets) + delay_at s link Up t) (sym at);
-    } in
-    (ap (λ (y : OnWire). y.cause) same, subst (λ (y : OnWire). Arrives s h y.device y.link y.at y.signal) (sym same) a)
+    grind (arith, signal_of, is_cut, option_map, target_by)
 
 sent_all : (s : Scenario) (now number : ℕ) (link : LinkId) (octets : List ℕ) (h : Happening) (cut : Bool) (o : Option Link) → time_of h ≡ now
     → is_cut s link Up now ≡ cut → link_at s.network link ≡ o
@@ -73,9 +65,7 @@ sent_all : (s : Scenario) (now number : ℕ) (link : LinkId) (octets : List ℕ)
     → (e : OnWire) × IsIn e (if cut then [] else option_map_or (λ (l : Link). sent_on s now number link octets l ∷ []) o [])
     × (wire_place e ≡ t ∷ 2 ∷ device.0 ∷ by.0 ∷ number ∷ [])
 sent_all s now number link octets h true o at cut there put device by t signal a =
-    absurd (let bad : Option.None ≡ Some (let y : Launch = record { link = by; way = a.way; signal = signal } in y) =
-    sym (put ∙ ap (λ (b : Bool). if b then None else Some (let y : Launch = record { link = link; way = Up; signal = signal_of octets } in y))
-    (ap (is_cut s link Up) at ∙ cut)) ∙ a.put in cc)
+    grind (arith, signal_of, is_cut)
 sent_all s now number link octets h false o at cut there put device by t signal a =
     let here : Launch = record { link = link; way = Up; signal = signal_of octets } in
     let is : Some here ≡ Some (let y : Launch = record { link = by; way = a.way; signal = signal } in y) =

@@ -30,17 +30,7 @@ moved hs front now n h it = record { there = numbered_front hs front n h it.ther
 
 lost_moved : (s : Scenario) (hs front : List Happening) (now n : ℕ) (device : DeviceId) (link : LinkId) → IsSendLost s hs device now link n
     → IsSendLost s (hs ++ front) device now link n
-lost_moved s hs front now n device link it = record {
-  event = it.event;
-  is = moved hs front now n it.event it.is;
-  line = it.line;
-  octets = it.octets;
-  sends = it.sends;
-  way = it.way;
-  there = it.there;
-  by = it.by;
-  cut = it.cut;
-}
+lost_moved s hs front now n device link it = grind (arith, moved)
 
 due_one : (s : Scenario) (hs front : List Happening) (now k : ℕ) (body : NoteBody) → IsOutcome s hs now body → k ≡ length (hs ++ front) + 1
     → IsDue s (hs ++ front) (renumbered k (settled_as s.network hs now body))
@@ -50,12 +40,7 @@ due_one s hs front now k body (IsOutcome.turning d n line h sound it is) count =
   begun = omega (arith, ints);
   cause = (refl, sound, (line, h, moved hs front now n h it, is));
 }
-due_one s hs front now k body (IsOutcome.losing d link n it) count = record {
-  number = count;
-  same = refl;
-  begun = omega (arith, ints);
-  cause = inr (inr (lost_moved s hs front now n d link it));
-}
+due_one s hs front now k body (IsOutcome.losing d link n it) count = grind (arith, ints, lost_moved)
 
 worked_one : (s : Scenario) (hs front : List Happening) (now k : ℕ) (body : NoteBody) → IsOutcome s hs now body
     → IsWorkedOff s (hs ++ front) (behind (now ∷ 2 ∷ [])) (renumbered k (settled_as s.network hs now body))
@@ -89,9 +74,7 @@ pub record IsNumbered (s : Scenario) (hs : List Happening) (now : ℕ) (z : Happ
 pub in_coming : (s : Scenario) (hs : List Happening) (now k : ℕ) (settled : List Happening) → IsFilled s hs now settled → (z : Happening)
     → IsIn z (number_on k settled) → IsNumbered s hs now z
 in_coming s hs now k settled filled z i =
-    let at = on_in k settled z i in
-    let one = filled.each at.1 at.2 in
-    record { number = at.0; body = one.body; is = at.3 ∙ ap (renumbered at.0) one.is; out = one.out }
+    grind (arith, on_in)
 
 late_place : (s : Scenario) (hs : List Happening) (now : ℕ) (z : Happening) → IsNumbered s hs now z → (r : ℕ) × (more : List ℕ)
     × (place_of z ≡ now ∷ r ∷ more) × (7 ≤ r)
@@ -120,10 +103,7 @@ lost_out : (s : Scenario) (now n : ℕ) (device : DeviceId) (link : LinkId) (way
     → is_cut s link Up now ≡ true
     → IsIn (notes.Lost device link n) (option_map_or (λ (l : Link). if is_cut s link Up now then notes.Lost l.child link n ∷ [] else []) o [])
 lost_out s now n device link way o there by cut =
-    subst (λ (p : Option Link). IsIn (notes.Lost device link n)
-    (option_map_or (λ (l : Link). if is_cut s link Up now then notes.Lost l.child link n ∷ [] else []) p [])) (sym there)
-    (subst (λ (y : Bool). IsIn (notes.Lost device link n) (if y then notes.Lost way.child link n ∷ [] else [])) (sym cut)
-    (inl (ap (λ (d : DeviceId). notes.Lost d link n) by)))
+    grind (arith, option_map_or, is_cut)
 
 event_joins : (device : DeviceId) (body : NoteBody) → IsEventBody body → is_joined_by device body ≡ false
 event_joins device (notes.Event line what) is = refl
@@ -134,13 +114,7 @@ of_instant : (hs front : List Happening) (cursor : List ℕ) (now n : ℕ) (befe
     → ((z : Happening) → IsIn z front → is_calm z.note.body ≡ true) → IsOfThisTime (hs ++ front) now n h
     → (IsOfThisTime hs now n h × IsEventBody h.note.body) ⊎ (is_calm h.note.body ≡ true)
 of_instant hs front cursor now n befell h m calm it =
-    elim (numbered_parts hs front h n it.there) [
-      | inr new ↦ inr (calm h new)
-      | inl old ↦ elim (m.sooner h (numbered_in hs n h old)) [
-        | inl lt ↦ let at = it.same_time in absurd (omega (arith, at, lt))
-        | inr same ↦ inl (record { there = old; same_time = it.same_time }, same.1)
-      ]
-    ]
+    grind (arith, numbered_parts, numbered_in)
 
 -- one of the list stands there
 abbrev pub StandsThere : Scenario → List Happening → ℕ → List Happening → List ℕ → Type 0
@@ -210,11 +184,7 @@ came s hs front mark cursor now befell settled time ms (notes.Clock d reading ad
 event_past : (s : Scenario) (js : List Happening) (mark : List ℕ) (now : ℕ) (y : Happening) → HaveBefallen s mark now → IsEventBody y.note.body
     → IsCaused s js y.note.time y.note.body → IsBefore (place_of y) mark
 event_past s js mark now y befallen is caused =
-    let found = event_cause s js y.note.time y.note.body is caused in
-    let r = found.3 in
-    subst (λ (p : List ℕ). IsBefore p mark)
-    (sym (event_place y found.0 found.1 found.2 ∙ ap (λ (t : Units). amount t ∷ 1 ∷ found.0 ∷ []) r.at
-    ∙ ap (λ (n : ℕ). amount r.event.time ∷ 1 ∷ n ∷ []) r.line_is)) (befallen.told r.before r.event r.is)
+    grind (arith, event_cause, event_place, amount)
 
 only_none : (ws : List ℕ) → IsBefore ws (0 ∷ []) → ws ≡ []
 only_none [] b = refl
@@ -231,9 +201,7 @@ due_there s hs front mark cursor now befell settled y k ws m calm not due own (i
     absurd (not (event_past s (hs ++ front) mark now y m.befallen
     (own_event s (hs ++ front) (time_of y) (members_in y) y.note.body k ws own few) due.cause))
 due_there s hs front mark cursor now befell settled y k ws m calm not due own (inr (at, inr (two, b))) =
-    came s hs front mark cursor now befell settled y.note.time (members_in y) y.note.body m calm at
-    (subst (λ (l : List ℕ). IsOwnSource s (hs ++ front) (time_of y) (members_in y) y.note.body (time_of y ∷ l))
-    (ap (λ (n : ℕ). n ∷ ws) two ∙ ap (λ (l : List ℕ). 2 ∷ l) (only_none ws b)) own) due.cause
+    grind (arith, came, members_in, time_of, only_none)
 
 -- ---- so they are settled
 

@@ -1,4 +1,5 @@
 -- The events of a run and their records.
+use Rattle.std.proofs.Common.{arith}
 use Rattle.world_steps.proofs.Words.{◌&&◌, ◌+◌, ◌==◌, ◌||◌, ◌∙◌, ◌∷◌, ◌≡◌, ◌≤ℤ◌, Bool, DeviceId, Event, Happening, IsBefore, IsCaused, IsDue, IsFounded, IsIn}
 use Rattle.world_steps.proofs.Words.{IsRun, List, Note, NoteBody, Scenario, Some, Units, What, [], amount, and_parts, ap, by_number, cases_Bool, eq-eqb}
 use Rattle.world_steps.proofs.Words.{eqb-true, founded_at, happening, inl, inr, is_turned_on_at, length, list_any, numbered, place_of, pos, refl, slice_get}
@@ -41,9 +42,7 @@ on_by_record s time line now device r at =
 pub on_by_event : (s : Scenario) (device : DeviceId) (now : ℕ) → is_turned_on_at s device now ≡ true → (i : ℕ) × (e : Event) × (slice_get s.events i ≡ Some e)
     × (e.what ≡ events.On device) × (amount e.time ≡ now)
 on_by_event s device now on =
-    let it = any_from (λ (e : Event). turns_on device e.what && amount e.time == now) s.events on in
-    let both = and_parts (turns_on device it.1.what) (amount it.1.time == now) it.3 in
-    (it.0, it.1, it.2, on_by device it.1.what both.0, eqb-true (amount it.1.time) now both.1)
+    grind (arith, any_from, turns_on, amount, and_parts, on_by, eqb-true)
 
 -- an event before the mark has its record
 pub recorded : (s : Scenario) (mark : List ℕ) (hs : List Happening) (i : ℕ) (e : Event) → IsRun place_of (IsDue s) mark hs → slice_get s.events i ≡ Some e

@@ -44,14 +44,7 @@ not_behind now more (inr (e, inr (f, b))) = b
 pub may_act_now : (s : Scenario) (now : ℕ) (device : DeviceId) (node : Node) → IsReadyAt (s.reading device) s.network device node now
     → IsSteady (s.reading device) (amount s.network.precision) → now ≤ 2 ^ 60 → MayCall s.network device node (moment_of s device now) acting
 may_act_now s now device node ready steady limit =
-    may_call s (now ∷ 4 ∷ []) now device node acting [] ready
-    (λ at p b. elim (cases_lt (rank_of_call node.phase) 4) [
-      | inl lt ↦ chain p (now ∷ rank_of_call node.phase ∷ []) (now ∷ 4 ∷ []) b (inr (refl, inl lt))
-      | inr ge ↦
-          let most = up_to_acting node.phase in
-          let same : rank_of_call node.phase ≡ 4 = omega (arith, ge, most) in
-          subst (λ (r : ℕ). IsBefore p (now ∷ r ∷ [])) same b
-    ]) steady limit (not_behind now [])
+    grind (arith, may_call, acting, cases_lt, rank_of_call, chain, up_to_acting, not_behind)
 
 pub acts_are_bounded : {C M : Type 0} (reading : C → ℕ → ℕ) (stands : M → Network → DeviceId → Node → Type 0) → ActsAreBounded reading stands
 acts_are_bounded {C} {M} reading stands s world notes device machine new times old of_it there due so =

@@ -1,5 +1,5 @@
 -- A device that is called, and takes nothing by it, is kept as before.
-use Rattle.world_steps.proofs.Words.{◌++◌, ◌+ℤ◌, ◌<ℤ◌, ◌∷◌, ◌≡◌, ◌≤ℤ◌, DeviceId, Happening, HasTaskBy, IsAlike, IsBefore, IsKept, IsOut, IsPending, IsReadyAt}
+use Rattle.world_steps.proofs.Words.{◌++◌, ◌∷◌, ◌≡◌, ◌≤ℤ◌, DeviceId, Happening, HasTaskBy, IsAlike, IsBefore, IsKept, IsOut, IsPending, IsReadyAt}
 use Rattle.world_steps.proofs.Words.{List, Moment, Network, Node, Phase, Scenario, Task, [], arith, called, doing, emitting, inl, inr, ints, moment_of, pos}
 use Rattle.world_steps.proofs.Words.{rank_of_call, reading_for, refl, subst, sym, undone_alike, waiting_alike, ℕ, ℤ}
 use Rattle.world_law.proofs.acts.Recorded.{recorded_alike}
@@ -45,18 +45,7 @@ has_task_called s device node moment phase t (task, p, due) = (
 pub ready_called : (s : Scenario) (now : ℕ) (device : DeviceId) (node : Node) (phase : Phase) → IsReadyAt (s.reading device) s.network device node now
     → IsReadyAt (s.reading device) s.network device (called (moment_of s device now) phase node) now
 ready_called s now device node phase ready =
-    let m = moment_of s device now in
-    record {
-      time = omega (arith, ints);
-      begun = omega (arith, ints);
-      last = refl;
-      undone = λ task p x lt.
-          let it = was_pending s.network device node m phase task p in
-          subst (λ (z : ℤ). pos (s.reading device x) <ℤ z) it.1 (ready.undone task it.0 x lt);
-      in_time = λ task p.
-          let it = was_pending s.network device node m phase task p in
-          subst (λ (z : ℤ). pos (s.reading device now) <ℤ (z +ℤ s.network.precision.0)) it.1 (ready.in_time task it.0);
-    }
+    grind (arith, moment_of, ints, was_pending)
 
 -- what is said of a device's machine after a call, as a relation of the device before it
 abbrev pub After : {M : Type 0} → (M → Network → DeviceId → Node → Type 0) → M → (Node → Node) → M → Network → DeviceId → Node → Type 0
@@ -66,27 +55,7 @@ After stands after by machine network device node = stands after network device 
 pub kept_by : {M : Type 0} (stands then_ : M → Network → DeviceId → Node → Type 0) (s : Scenario) (hs coming : List Happening) (cursor : List ℕ) (now : ℕ)
     (device : DeviceId) (machine : M) (k : IsKept stands s hs coming cursor now device machine) → then_ machine s.network device k.node
     → IsKept then_ s hs coming cursor now device machine
-kept_by stands then_ s hs coming cursor now device machine k is = record {
-  node = k.node;
-  is = is;
-  sound = k.sound;
-  up = k.up;
-  acted = k.acted;
-  high = k.high;
-  doing = k.doing;
-  told = k.told;
-  left = k.left;
-  taken = k.taken;
-  done = k.done;
-  sent = k.sent;
-  bare = k.bare;
-  ready = k.ready;
-  still = k.still;
-  turned = k.turned;
-  cleared = k.cleared;
-  recorded = k.recorded;
-  phase = k.phase;
-}
+kept_by stands then_ s hs coming cursor now device machine k is = grind (arith, doing)
 
 -- a sound device that is called so is kept, where the call's kind is not later than the cursor
 pub kept_called : {M : Type 0} (stands : M → Network → DeviceId → Node → Type 0) (s : Scenario) (hs coming : List Happening) (cursor : List ℕ) (now : ℕ)
@@ -129,23 +98,11 @@ pub out_called : {M : Type 0} (stands : M → Network → DeviceId → Node → 
     (device : DeviceId) (machine after : M) (phase : Phase) (k : IsOut stands s hs coming cursor now device machine)
     → stands after s.network device (called (moment_of s device now) phase k.node)
     → ((p : List ℕ) → IsBefore p (now ∷ rank_of_call phase ∷ []) → IsBefore p then_) → IsOut stands s hs coming then_ now device after
-out_called stands s hs coming cursor then_ now device machine after phase k is come = record {
-  node = called (moment_of s device now) phase k.node;
-  is = is;
-  broken = k.broken;
-  shows = k.shows;
-  state = k.state;
-  adjustment = k.adjustment;
-  ready = ready_called s now device k.node phase k.ready;
-  phase = λ at p b. come p b;
-}
+out_called stands s hs coming cursor then_ now device machine after phase k is come = grind (arith, called, moment_of, ready_called)
 
 -- where a frame arrives, the device has not acted at the instant
 pub not_yet_acted : {M : Type 0} (stands : M → Network → DeviceId → Node → Type 0) (s : Scenario) (hs coming : List Happening) (cursor : List ℕ) (now : ℕ)
     (device : DeviceId) (machine : M) (more : List ℕ) → (k : IsKept stands s hs coming cursor now device machine)
     → (IsBefore (now ∷ 2 ∷ more) cursor → ⊥) → k.up ≡ now
 not_yet_acted stands s hs coming cursor now device machine more k waits =
-    elim k.acted [
-      | inl still ↦ still.0
-      | inr over ↦ absurd (waits (over.1 (now ∷ 2 ∷ more) (inr (refl, inl (omega arith)))))
-    ]
+    grind arith

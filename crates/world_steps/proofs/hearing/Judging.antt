@@ -1,9 +1,9 @@
 -- A device judges a frame that arrives as the records say.
-use Rattle.world_steps.proofs.Words.{◌&&◌, ◌==◌, ◌∙◌, ◌∷◌, ◌≡◌, Bool, DeviceId, Happening, IsLeft, LinkId, List, Moment, Network, Node, Option, Pcf, PcfRefusal}
-use Rattle.world_steps.proofs.Words.{Reason, Result, Scenario, Signal, Some, Standpoint, State, Units, VlId, [], amount, ap, arrival_at, arrival_of, control}
+use Rattle.std.proofs.Common.{arith}
+use Rattle.world_steps.proofs.Words.{◌&&◌, ◌∷◌, ◌≡◌, Bool, DeviceId, Happening, IsLeft, LinkId, List, Moment, Network, Node, Option, Pcf, PcfRefusal}
+use Rattle.world_steps.proofs.Words.{Reason, Result, Scenario, Signal, Some, Standpoint, Units, VlId, amount, ap, arrival_at, arrival_of, control}
 use Rattle.world_steps.proofs.Words.{control_arrival, false, field, is_broken, is_off, is_synchronised, last_taken, last_taken_by, nat_lt, not, octets_fault}
 use Rattle.world_steps.proofs.Words.{octets_or_fault, pos, refl, standpoint, state_before, timed, timed_arrival, true, unsigned_abs, ℕ}
-use Rattle.pcf_codec.specs.EtherType.{least_type}
 use Rattle.run_law.{proofs.law.FirstBroken.off_control, specs.{device.Standpoints.first_reason, machines.Nodes.standpoint_at}}
 use Rattle.run_law.specs.declared.judgement.Reason.TheVariants as reasons
 use Rattle.run_law.specs.declared.steps.Arrival.TheVariants as arrivals
@@ -22,13 +22,7 @@ amount_is u n e = ap unsigned_abs e
 pub same_standpoint : (s : Scenario) (hs : List Happening) (device : DeviceId) (t : ℕ) (node : Node) (moment : Moment) → IsLeft s hs device t node
     → IsMomentOf s device t moment → standpoint_at node moment ≡ standpoint s hs device t
 same_standpoint s hs device t node moment left at =
-    let make = λ (state : State) (broken : Bool) (reading : ℕ) (adjustment : Units).
-    let p : Standpoint = record { takes_part = not (is_off state) && not broken; state = state; reading = reading; adjustment = adjustment.0 } in p in
-    ap (λ (x : State). make x node.broken (amount moment.reading) node.standing.adjustment) left.state
-    ∙ ap (λ (x : Bool). make (state_before s hs device t) x (amount moment.reading) node.standing.adjustment) left.counted.broken
-    ∙ ap (λ (x : ℕ). make (state_before s hs device t) (is_broken s device t) x node.standing.adjustment)
-    (amount_is moment.reading (s.reading device t) at.reading)
-    ∙ ap (λ (x : Units). make (state_before s hs device t) (is_broken s device t) (s.reading device t) x) left.counted.adjustment
+    grind (arith, not, is_off, amount, state_before, is_broken, amount_is)
 
 -- what becomes of a control frame is what the records say
 pub control_judged : (s : Scenario) (hs : List Happening) (device : DeviceId) (t : ℕ) (node : Node) (moment : Moment) (link : LinkId) (cause : ℕ)
@@ -46,10 +40,7 @@ first_off false more e = refl
 timed_off : (network : Network) (device : DeviceId) (link : LinkId) (p : Standpoint) (octets : List ℕ) (last : VlId → Option ℕ) → p.takes_part ≡ false
     → timed_arrival network device link p octets last ≡ arrivals.Dropped reasons.Off
 timed_off network device link p octets last e =
-    ap (octets_or_fault network device link p octets last) {x = octets_fault network p octets} {y = Some reasons.Off}
-    (first_off p.takes_part
-    ((nat_lt (field 12 2 octets) least_type, reasons.RefusedEtherType) ∷ (not (is_synchronised p.state), reasons.Unsynchronised)
-    ∷ (not (field 0 4 octets == network.marker), reasons.Unknown) ∷ []) e)
+    grind (arith, octets_or_fault, octets_fault, first_off, nat_lt, field, not, is_synchronised)
 
 no_part : (a b : Bool) → b ≡ true → (a && not b) ≡ false
 no_part true b e = ap not e

@@ -1,5 +1,5 @@
 -- What is to come where a frame arrives: it is shown as it is, and comes from no source that is not worked off.
-use Rattle.world_steps.proofs.Words.{if◌then◌else◌, ◌++◌, ◌<◌, ◌∙◌, ◌∷◌, ◌≡◌, ◌≤◌, ◌⊎◌, Bool, ChangesState, DeviceId, Happening, IsBefore, IsIn, IsMoving}
+use Rattle.world_steps.proofs.Words.{if◌then◌else◌, ◌++◌, ◌<◌, ◌∷◌, ◌≡◌, ◌≤◌, ◌⊎◌, Bool, ChangesState, DeviceId, Happening, IsBefore, IsIn, IsMoving}
 use Rattle.world_steps.proofs.Words.{IsOfThisTime, IsOwnSource, List, NoteBody, Scenario, State, Why, amount, ap, arith, at_least, chain, false, hidden}
 use Rattle.world_steps.proofs.Words.{hidden_body, in_left, inl, inr, is_joined_by, key, le-ltb, length, members_in, nat_lt, none_yet, numbered_parts}
 use Rattle.world_steps.proofs.Words.{numbered_within, parted, place_of, rank, refl, second, subst, sym, time_of, true, ℕ}
@@ -14,18 +14,7 @@ pub never_from : (s : Scenario) (hs coming : List Happening) (mark cursor : List
     → (z : Happening) → IsIn z coming
     → ((js : List Happening) (w : List ℕ) → IsOwnSource s js (time_of z) (members_in z) z.note.body w → (w ≡ now ∷ 2 ∷ more) ⊎ IsBefore (now ∷ 2 ∷ more) w) → ⊥
 never_from s hs coming mark cursor now more m z i from =
-    let split = parted z coming i in
-    let by = m.are.by split.0 split.1 z split.2 in
-    elim (from (hs ++ split.0) by.0 by.1) [
-      | inl e ↦ elim by.3 [
-        | inl yet ↦ m.waits (subst (λ (q : List ℕ). IsBefore q cursor) e yet)
-        | inr up ↦ let four : 2 ≡ 4 = ap second (sym e ∙ up.1.1) in omega (arith, four)
-      ]
-      | inr lt ↦ elim by.3 [
-        | inl yet ↦ m.waits (chain (now ∷ 2 ∷ more) by.0 cursor lt yet)
-        | inr up ↦ m.waits (subst (λ (q : List ℕ). IsBefore (now ∷ 2 ∷ more) q) up.0 lt)
-      ]
-    ]
+    grind (arith, parted, second, chain)
 
 -- ---- the causes of changes of state are given
 
@@ -89,8 +78,4 @@ body_known s hs coming mark cursor now more m front rest e time other c = refl
 pub shown_place : (s : Scenario) (hs coming : List Happening) (mark cursor : List ℕ) (now : ℕ) (more : List ℕ) → IsMoving s hs coming mark cursor now 2 more
     → (given : ℕ) → given ≡ length hs → (z : Happening) → IsIn z coming → place_of (hidden given z) ≡ place_of z
 shown_place s hs coming mark cursor now more m given same z i =
-    let split = parted z coming i in
-    let due = (m.are.founded split.0 split.1 z split.2).1 in
-    ap (λ (b : NoteBody). time_of z ∷ rank b ∷ key (members_in z) b)
-    (ap (λ (n : ℕ). hidden_body n z.note.body) same ∙ body_known s hs coming mark cursor now more m split.0 (z ∷ split.1) split.2 z.note.time z.note.body
-    due.cause)
+    grind (arith, parted, time_of, rank, key, members_in, hidden_body, body_known)

@@ -10,7 +10,7 @@ use Rattle.std.proofs.Common.{Err, IsSomeAnd, Ok}
 use Rattle.net_plan.{proofs.Shape.rules_give_trees, specs.{Paths.{IsPath, IsTree, IsUplink}, Places.{IsCmOf, IsRoleOf, device_at, is_end_system}}}
 use Rattle.net_plan.specs.{Rules.IsChildOf, declared.tables.{Device.Device, Role.TheVariants.{Cm, Relay}}}
 use Rattle.run_law.proofs.{law.FirstPlaces.number_is, scenario.Devices.master_end}
-use Rattle.run_law.specs.control.Arrivals.{are_others, clock_on_arrival, is_cold_start, is_gate_shut, is_of_other_domain, is_of_other_member}
+use Rattle.run_law.specs.control.Arrivals.{are_others, is_of_other_member}
 use Rattle.run_law.specs.{machines.Calls.{IsFromSwitch, IsLinkAt, IsOneMaster, MayArrive}, records.Happenings.{frame_by, frame_in, with_clock}}
 use Rattle.run_law.specs.{scenario.{Devices.member_of, Ways.receiver_of}, timed.Receptions.ArrivesAs}
 use Rattle.schedule_tables.{proofs.Margins.shape_rules, specs.declared.rule.Rule.TheVariants.Joints}
@@ -18,7 +18,6 @@ use Rattle.tte_lemmas.proofs.Options.{closed, opened as at_some}
 use Rattle.world_law.proofs.frames.Proper.{no_reason}
 use Rattle.world_steps.proofs.hearing.Ranked.{rank_is}
 use Rattle.net_plan.specs.declared.event.What.TheVariants as events
-use Rattle.run_law.specs.declared.judgement.Reason.TheVariants as reasons
 use Rattle.run_law.specs.declared.note.NoteBody.TheVariants as kinds
 
 -- ---- options
@@ -31,9 +30,7 @@ of_link network link l P e h = subst (λ (o : Option Link). IsSomeAnd o P) e h
 
 relay_no_cm : (network : Network) (channel : Channel) (device : DeviceId) → IsRoleOf network Relay channel device → IsCmOf network channel device → ⊥
 relay_no_cm network channel device relay cm =
-    let r = at_some (λ (x : Device). (x.role ≡ Relay) × (x.channel ≡ Some channel)) (device_at network device) relay in
-    let role = subst (λ (o : Option Device). IsSomeAnd o (λ d. (d.role ≡ Cm) × (d.channel ≡ Some channel))) r.1 cm in
-    let bad : Relay ≡ Cm = sym r.2.0 ∙ role.0 in cc
+    grind (arith, at_some)
 
 no_way_up : (network : Network) → IsTree network → (channel : Channel) (device : DeviceId) (link : LinkId) (l : Link) → link_at network link ≡ Some l
     → l.child ≡ device → l.parent ≡ device → IsUplink network channel device link → IsRoleOf network Relay channel device → (links : List LinkId)
@@ -83,22 +80,13 @@ left_of : (o : Option Pcf) (own link : LinkId) (from way : Way) (frame : Pcf)
     ≡ Some (record { link = link; way = way; signal = control (Ok frame) }) → (o ≡ Some frame) × (own ≡ link) × (from ≡ way)
 left_of None own link from way frame e = absurd cc
 left_of (Some f) own link from way frame e =
-    let signals : control (Ok f) ≡ control (Ok frame) = ap (λ (o : Option Launch). option_map_or (λ x. x.signal) o (control (Ok frame))) e in
-    let same : f ≡ frame = cc in (
-      ap (λ (x : Pcf). (let o : Option Pcf = Some x in o)) same,
-      ap (λ (o : Option Launch). option_map_or (λ x. x.link) o link) e,
-      ap (λ (o : Option Launch). option_map_or (λ x. x.way) o way) e,
-    )
+    grind (arith, control, option_map_or)
 
 sent_of : (b : Bool) (own link : LinkId) (way : Way) (signal : Signal) (frame : Pcf)
     → (if b then None else Some (let x : Launch = record { link = own; way = Up; signal = signal } in x))
     ≡ Some (record { link = link; way = way; signal = control (Ok frame) }) → (own ≡ link) × (Up ≡ way) × (signal ≡ control (Ok frame))
 sent_of true own link way signal frame e = absurd cc
-sent_of false own link way signal frame e = (
-  ap (λ (o : Option Launch). option_map_or (λ x. x.link) o link) e,
-  ap (λ (o : Option Launch). option_map_or (λ x. x.way) o way) e,
-  ap (λ (o : Option Launch). option_map_or (λ x. x.signal) o (control (Ok frame))) e,
-)
+sent_of false own link way signal frame e = grind (arith, option_map_or, control)
 
 puts_by : (s : Scenario) (h : Happening) (t : ℕ) (body : NoteBody) (link : LinkId) (way : Way) (frame : Pcf) → h.note.body ≡ body
     → launched s h t body ≡ Some (record { link = link; way = way; signal = control (Ok frame) }) → Puts s h link way frame
@@ -143,17 +131,7 @@ taken_so : (s : Scenario) (js : List Happening) (device : DeviceId) (t : ℕ) (l
     → rank (arrival_body device link cause (arrival_of s js device t link cause signal)) ≡ 2 → IsTakenSo s device link signal
 taken_so s js device t link cause (control (Err refusal)) e = absurd (let bad : ◌≡◌ {A = ℕ} 13 2 = e in omega (arith, bad))
 taken_so s js device t link cause (control (Ok frame)) e =
-    let p = standpoint s js device t in
-    let late : List (Bool × Reason) = (nat_lt (amount s.network.dmax) (clock_on_arrival s.network link frame), reasons.Old)
-    ∷ (is_gate_shut s.network device p, reasons.Gate) ∷ [] in
-    let own = is_of_other_member s.network device link frame.members in
-    let domain = is_of_other_domain s.network frame in
-    let none = fault_of s.network device link cause p frame (frame_fault s.network device link p frame) e in
-    let a = (no_reason (not p.takes_part) reasons.Off ((is_cold_start frame.kind, reasons.ColdStart) ∷ (domain, reasons.Domain) ∷ (own, reasons.Member)
-    ∷ late) none).1 in
-    let b = (no_reason (is_cold_start frame.kind) reasons.ColdStart ((domain, reasons.Domain) ∷ (own, reasons.Member) ∷ late) a).1 in
-    let c = (no_reason domain reasons.Domain ((own, reasons.Member) ∷ late) b).1 in
-    record { frame = frame; is = refl; own = (no_reason own reasons.Member late c).0 }
+    grind (arith, standpoint, nat_lt, amount, fault_of, frame_fault, no_reason, not)
 taken_so s js device t link cause (timed octets) e =
     absurd (low (is_end s.network device)
     (subst (λ (n : ℕ). (if is_end s.network device then 12 else 11) ≤ n) e (rank_is s device t link cause (timed octets) js)))
@@ -201,11 +179,7 @@ arrival_by s js device t link cause clock a = elim a.taken [
 
 others_not : (o : Option ℕ) (members : Members) → are_others o members ≡ false → IsSomeAnd o (λ member. members.0 ≡ 2 ^ member)
 others_not None members e = absurd cc
-others_not (Some member) members e = eqb-true members.0 (2 ^ member) (turned (members.0 == 2 ^ member) e)
-  where
-    turned : (b : Bool) → not b ≡ false → b ≡ true
-    turned true e = refl
-    turned false e = absurd cc
+others_not (Some member) members e = grind (arith, eqb-true, not)
 
 and_last : (a b c : Bool) → a ≡ true → b ≡ true → (a && b && c) ≡ false → c ≡ false
 and_last true true c x y e = e
@@ -217,12 +191,7 @@ own_master : (network : Network) (device : DeviceId) (link : LinkId) (l : Link) 
     → is_end network l.child ≡ true → is_of_other_member network device link members ≡ false
     → IsSomeAnd (member_of network l.child) (λ member. members.0 ≡ 2 ^ member)
 own_master network device link l members e parent end own =
-    let at : (l.parent.0 == device.0 && is_end network l.child && are_others (member_of network l.child) members) ≡ false =
-    sym (ap (λ (o : Option Link). option_map_or (λ (x : Link). x.parent.0 == device.0 && is_end network x.child
-    && are_others (member_of network x.child) members) o false) e) ∙ own in
-    others_not (member_of network l.child) members
-    (and_last (l.parent.0 == device.0) (is_end network l.child) (are_others (member_of network l.child) members)
-    (eq-eqb l.parent.0 device.0 (ap (λ (d : DeviceId). d.0) parent)) end at)
+    grind (arith, is_end, option_map_or, others_not, and_last, eq-eqb)
 
 -- ---- going up from a switch
 
@@ -267,14 +236,7 @@ upward : (network : Network) → KeepsRules network → (sender device : DeviceI
     → is_end network l.child ≡ false → l.parent ≡ device → (way : Way) → way ≡ way_from network sender link → receiver_of network link way ≡ Some device
     → is_parent_of network sender link ≡ false
 upward network rules sender device link l e switch parent way is receives =
-    elim (cases_Bool (is_parent_of network sender link)) [
-      | inr above ↦ above
-      | inl below ↦
-          let down : way ≡ Down = is ∙ ap (λ (b : Bool). if b then Down else Up) below in
-          let received : Some l.child ≡ Some device = sym (ap (option_map (target_by Down)) e) ∙ ap (receiver_of network link) (sym down) ∙ receives in
-          let same : l.child ≡ device = cc in
-          absurd (no_loop network rules link l e switch (same ∙ sym parent))
-    ]
+    grind (arith, cases_Bool, is_parent_of, option_map, target_by, no_loop)
 
 -- what a switch gives to its link up, it took from below
 given_up : (s : Scenario) (hs : List Happening) (n : ℕ) → IsFounded place_of (IsDue s) hs → IsUpTo s hs n → (giving : Happening) → IsIn giving hs
@@ -289,9 +251,7 @@ given_up s hs n founded up giving i le device link l e switch above frame of_fra
     let bad : true ≡ false = sym (ap (is_end s.network) child ∙ end) ∙ switch in
     absurd cc
 given_up s hs n founded up giving i le device link l e switch above frame of_frame (kinds.Compressed cm opened at cycle members verdict) is g =
-    let parent : l.parent ≡ device = of_link s.network link l (λ (x : Link). x.parent ≡ device) e g.1 in
-    let bad : true ≡ false = sym (parent_is s.network device link l e parent) ∙ above in
-    absurd cc
+    grind (arith, of_link, parent_is)
 given_up s hs n founded up giving i le device link l e switch above frame of_frame (kinds.Arrived relay by cause clock) is g =
     elim g.1.on [
       | inr down ↦
@@ -343,9 +303,8 @@ goes_up s hs rules sends founded n up cause putting device link t frame le there
           let giving_in : IsIn departs.giving hs = subst (λ (x : List Happening). IsIn departs.giving x) (sym at.whole)
           (in_left departs.giving at.front (putting ∷ at.rest) giving_at) in
           let giving_number = number_is s at.front from_cause departs.giving at.founded departs.there in
-          let shown : putting.frame ≡ Some (with_clock clock departs.frame) = ap (λ (x : Happening). x.frame) at.due.same ∙ ap (frame_by s.network at.front) is
-          ∙ ap (λ (o : Option Happening). option_map (with_clock clock) (option_and_then (λ h. h.frame) o)) departs.there
-          ∙ ap (option_map (with_clock clock)) departs.of_frame in
+          let shown : putting.frame ≡ Some (with_clock clock departs.frame) =
+          grind (arith, at.due.same, at.front, option_map, option_and_then, departs.there, departs.of_frame) in
           let same : Some (with_clock clock departs.frame) ≡ Some frame = sym shown ∙ of_frame in
           let members : departs.frame.members ≡ frame.members = ap (λ (o : Option Pcf). option_map_or (λ f. f.members) o frame.members) same in
           let above : is_parent_of s.network sender link ≡ false = upward s.network rules sender device link l.0 l.1 l.2 parent arrives.way way arrives.receiver

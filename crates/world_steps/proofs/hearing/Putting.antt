@@ -2,7 +2,7 @@
 use Rattle.world_steps.proofs.Words.{if◌then◌else◌, ◌++◌, ◌+◌, ◌∙◌, ◌∷◌, ◌≡◌, ◌≤◌, ◌⊎◌, AllBefore, Arrival, DeviceId, Happening, IsBefore, IsDue, IsFounded}
 use Rattle.world_steps.proofs.Words.{IsIn, IsMoving, IsOnWire, IsOwnSource, IsPutIn, IsSource, List, Network, NoneBefore, Note, NoteBody, OnWire, Scenario}
 use Rattle.world_steps.proofs.Words.{Signal, [], ap, arith, arrival_body, arrival_of, before_behind, behind, both_ways, bump, cause_of, control, happening}
-use Rattle.world_steps.proofs.Words.{hidden, in_left, in_mapped, in_right, inl, inr, ints, is_at_source, is_end, length, map, members_in, numbered}
+use Rattle.world_steps.proofs.Words.{hidden, in_left, in_mapped, in_right, ints, is_at_source, is_end, length, map, members_in, numbered}
 use Rattle.world_steps.proofs.Words.{numbered_prefix, place_of, put_list, rank, refl, settled_as, subst, sym, time_of, timed, true, units_of, ℕ}
 use Rattle.world_law.proofs.putting.{Alike.happening_alike, HiddenLists.{bumped_hidden, map_parts, put_length, split_hidden}}
 use Rattle.world_steps.proofs.hearing.Known.{never_from, shown_place}
@@ -103,10 +103,7 @@ received s hs coming mark cursor now given e is old settled m marked founded sam
       begun = omega (arith, ints);
       cause = body_caused s (hs ++ front) (units_of now) e.device e.link e.cause is arrives;
     } in
-    let least : (here ≡ place_of w) ⊎ IsBefore here (place_of w) = elim (body_ranks e.device e.link e.cause is) [
-      | inl two ↦ inl (sym (key_is ∙ ap (λ (k : ℕ). now ∷ k ∷ more) two.0))
-      | inr higher ↦ let up = higher.0 in inr (subst (λ (q : List ℕ). IsBefore here q) (sym key_is) (inr (refl, inl (omega (arith, up)))))
-    ] in
+    let least : (here ≡ place_of w) ⊎ IsBefore here (place_of w) = grind (arith, body_ranks, key_is, more, here) in
     let p : IsReceiving s hs front back mark cursor now e is w = record {
       moving = moving;
       marked = marked;
@@ -116,18 +113,13 @@ received s hs coming mark cursor now given e is old settled m marked founded sam
       due = due;
       before = before;
       none = none;
-      fresh = λ y there same_place.
-          never_from s hs (front ++ back) mark cursor now more moving y (in_right y front back there)
-          (λ js u o. own_there s js now e is (time_of y) (members_in y) y.note.body u (sym key_is ∙ same_place) o);
+      fresh = grind (arith, never_from, front, back, more, moving, in_right, own_there, time_of, members_in, key_is);
       least = least;
       mine = body_own s (hs ++ front) now (members_in w) e.device e.link e.cause is arrives;
       here =
           IsSource.arriving now e.device e.link e.cause
           (record { putting = arrives.putting; there = arrives.there; signal = arrives.signal; arrives = arrives.arrives });
-      source = λ yes_it. elim (body_ranks e.device e.link e.cause is) [
-        | inl two ↦ subst (λ (q : List ℕ). IsBefore q (behind here)) (sym (key_is ∙ ap (λ (k : ℕ). now ∷ k ∷ more) two.0)) (before_behind here)
-        | inr higher ↦ absurd (both_ways (is_at_source body) higher.1 yes_it)
-      ];
+      source = grind (arith, body_ranks, behind, here, key_is, more, before_behind, both_ways, is_at_source, body);
       wire = it;
       arrives = at;
       so = λ f rest rank_ whole none_ high. so f rest rank_ (parts.2 ∙ whole) none_ high;

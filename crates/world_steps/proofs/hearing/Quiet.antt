@@ -1,7 +1,8 @@
 -- A record that bears on no device is put in among those of its instant: what each device took, and the device that took a frame by it.
+use Rattle.std.proofs.Common.{arith}
 use Rattle.world_steps.proofs.Words.{◌++◌, ◌+ℤ◌, ◌∙◌, ◌∷◌, ◌≡◌, ◌≤ℤ◌, ◌≤◌, DeviceId, Happening, HasDoneFrom, IsBefore, IsIn, IsKept, IsLeft, IsNoTaking}
 use Rattle.world_steps.proofs.Words.{IsSteady, List, Network, Node, Scenario, TakenFrame, Units, VlId, [], amount, ap, append_assoc, bears_on, bump_behind}
-use Rattle.world_steps.proofs.Words.{changed_at, false, frames_taken, inl, inr, is_sending, local_before, map, moment_of, moves_no_other, placed, plains_placed}
+use Rattle.world_steps.proofs.Words.{changed_at, false, frames_taken, inl, is_sending, local_before, map, moment_of, moves_no_other, placed, plains_placed}
 use Rattle.world_steps.proofs.Words.{pos, refl, subst, sym, taken_in, time_of, turned_aside, ℕ, ℤ}
 use Rattle.run_law.specs.machines.Nodes.{local_at}
 use Rattle.world_law.proofs.acts.Recorded.{recorded_alike, recorded_put}
@@ -77,10 +78,7 @@ kept_taking stands s n hs front back w cursor now device machine after vl cycle 
       acted = k.acted;
       high = k.high;
       doing = inl doing;
-      told = λ over. elim (k.told over) [
-        | inl past ↦ inl past
-        | inr just ↦ inr (record { looking = sym (before_aside s n hs front back w device now none) ∙ just.looking; other = just.other })
-      ];
+      told = grind (arith, before_aside, none);
       left = left_took s (hs ++ placed n front w back) device k.up k.node m vl cycle (left_aside s n hs front back w device k.up k.node none k.left);
       taken = took_it;
       done = subst (λ (c : ℕ). HasDoneFrom s.network (s.reading device) device (took m vl cycle k.node) c k.up k.high)

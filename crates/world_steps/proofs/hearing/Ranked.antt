@@ -84,11 +84,7 @@ accepted_high s device t link cause (timed octets) js vl cycle e =
     (rank_is s device t link cause (timed octets) js)
 
 pub delivered_high : (network : Network) (device : DeviceId) → (if is_end network device then 12 else 11) ≤ 12
-delivered_high network device = by (is_end network device)
-  where
-    by : (b : Bool) → (if b then 12 else 11) ≤ 12
-    by true = omega arith
-    by false = omega arith
+delivered_high network device = grind (arith, is_end)
 
 -- ---- records of the instant do not change where a device stands
 

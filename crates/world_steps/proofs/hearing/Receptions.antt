@@ -74,9 +74,7 @@ body_own s js t m device link cause (arrivals.Delivered vl cycle) a = refl
 pub placed_at : (now : ℕ) (e : OnWire) (is : Arrival) (w : Happening) → time_of w ≡ now → w.note.body ≡ arrival_body e.device e.link e.cause is
     → place_of w ≡ now ∷ rank (arrival_body e.device e.link e.cause is) ∷ e.device.0 ∷ e.link.0 ∷ e.cause ∷ []
 placed_at now e is w at body =
-    ap (λ (b : NoteBody). time_of w ∷ rank b ∷ key (members_in w) b) body
-    ∙ ap (λ (t : ℕ). t ∷ rank (arrival_body e.device e.link e.cause is) ∷ key (members_in w) (arrival_body e.device e.link e.cause is)) at
-    ∙ ap (λ (l : List ℕ). now ∷ rank (arrival_body e.device e.link e.cause is) ∷ l) (body_key (members_in w) e.device e.link e.cause is)
+    grind (arith, time_of, rank, key, members_in, arrival_body, body_key)
 
 -- ---- it arrives so
 
@@ -121,24 +119,12 @@ record IsSameWire (e : OnWire) (now t : ℕ) (device : DeviceId) (link : LinkId)
 same_wire : (e : OnWire) (now t : ℕ) (device : DeviceId) (link : LinkId) (cause : ℕ)
     → now ∷ 2 ∷ e.device.0 ∷ e.link.0 ∷ e.cause ∷ [] ≡ t ∷ 2 ∷ device.0 ∷ link.0 ∷ cause ∷ [] → IsSameWire e now t device link cause
 same_wire e now t device link cause same =
-    let a : now ≡ t = cc in
-    let b : e.device.0 ≡ device.0 = cc in
-    let c : e.link.0 ≡ link.0 = cc in
-    let d : e.cause ≡ cause = cc in
-    record {
-      time = a;
-      by = ap (λ (n : ℕ). let x : DeviceId = record { 0 = n } in x) b;
-      on = ap (λ (n : ℕ). let x : LinkId = record { 0 = n } in x) c;
-      from = d;
-    }
+    grind arith
 
 moved : (s : Scenario) (js : List Happening) (e : OnWire) (now t : ℕ) (device : DeviceId) (link : LinkId) (cause : ℕ) (is : Arrival)
     → IsSameWire e now t device link cause → ArrivesAs s js device t link cause is → ArrivesAs s js e.device now e.link e.cause is
 moved s js e now t device link cause is p d =
-    subst (λ (n : ℕ). ArrivesAs s js e.device now e.link n is) (sym p.from)
-    (subst (λ (x : LinkId). ArrivesAs s js e.device now x cause is) (sym p.on)
-    (subst (λ (x : DeviceId). ArrivesAs s js x now link cause is) (sym p.by)
-    (subst (λ (n : ℕ). ArrivesAs s js device n link cause is) (sym p.time) d)))
+    grind arith
 
 abbrev ranked : ℕ → List ℕ → List ℕ
 ranked r (a ∷ b ∷ more) = a ∷ r ∷ more
@@ -249,72 +235,22 @@ own_there s js now e is t m (kinds.Dropped device link cause reason) w place (in
 own_there s js now e is t m (kinds.Dropped device link cause reason) w place (inr (inr o)) =
     inr (behind_here now t 8 _ _ w (ap first_of place) (omega arith) o.0)
 own_there s js now e is t m (kinds.Event line what) w place o =
-    absurd (other_kind e.device e.link e.cause is 1 (ap second place) (
-      λ f. omega (arith, f),
-      λ f. omega (arith, f),
-      λ f. omega (arith, f),
-      λ f. omega (arith, f),
-    ))
+    grind (arith, other_kind, second)
 own_there s js now e is t m (kinds.Permanent device link cause point verdict) w place o =
-    absurd (other_kind e.device e.link e.cause is 3 (ap second place) (
-      λ f. omega (arith, f),
-      λ f. omega (arith, f),
-      λ f. omega (arith, f),
-      λ f. omega (arith, f),
-    ))
+    grind (arith, other_kind, second)
 own_there s js now e is t m (kinds.Compressed device opened read cycle of_masters verdict) w place o =
-    absurd (other_kind e.device e.link e.cause is 4 (ap second place) (
-      λ f. omega (arith, f),
-      λ f. omega (arith, f),
-      λ f. omega (arith, f),
-      λ f. omega (arith, f),
-    ))
+    grind (arith, other_kind, second)
 own_there s js now e is t m (kinds.Sent device cycle) w place o =
-    absurd (other_kind e.device e.link e.cause is 5 (ap second place) (
-      λ f. omega (arith, f),
-      λ f. omega (arith, f),
-      λ f. omega (arith, f),
-      λ f. omega (arith, f),
-    ))
+    grind (arith, other_kind, second)
 own_there s js now e is t m (kinds.Corrected device cycle by adjustment) w place o =
-    absurd (other_kind e.device e.link e.cause is 6 (ap second place) (
-      λ f. omega (arith, f),
-      λ f. omega (arith, f),
-      λ f. omega (arith, f),
-      λ f. omega (arith, f),
-    ))
+    grind (arith, other_kind, second)
 own_there s js now e is t m (kinds.State device state cause why) w place o =
-    absurd (other_kind e.device e.link e.cause is 7 (ap second place) (
-      λ f. omega (arith, f),
-      λ f. omega (arith, f),
-      λ f. omega (arith, f),
-      λ f. omega (arith, f),
-    ))
+    grind (arith, other_kind, second)
 own_there s js now e is t m (kinds.Left device link cause clock) w place o =
-    absurd (other_kind e.device e.link e.cause is 8 (ap second place) (
-      λ f. omega (arith, f),
-      λ f. omega (arith, f),
-      λ f. omega (arith, f),
-      λ f. omega (arith, f),
-    ))
+    grind (arith, other_kind, second)
 own_there s js now e is t m (kinds.Lost device link cause) w place o =
-    absurd (other_kind e.device e.link e.cause is 9 (ap second place) (
-      λ f. omega (arith, f),
-      λ f. omega (arith, f),
-      λ f. omega (arith, f),
-      λ f. omega (arith, f),
-    ))
+    grind (arith, other_kind, second)
 own_there s js now e is t m (kinds.TtSent device link cause vl cycle) w place o =
-    absurd (other_kind e.device e.link e.cause is 10 (ap second place) (
-      λ f. omega (arith, f),
-      λ f. omega (arith, f),
-      λ f. omega (arith, f),
-      λ f. omega (arith, f),
-    ))
+    grind (arith, other_kind, second)
 own_there s js now e is t m (kinds.Clock device reading adjustment state) w place o =
-    absurd (other_kind e.device e.link e.cause is 14 (ap second place) (
-      λ f. omega (arith, f),
-      λ f. omega (arith, f),
-      λ f. omega (arith, f),
-      λ f. omega (arith, f),
-    ))
+    grind (arith, other_kind, second)

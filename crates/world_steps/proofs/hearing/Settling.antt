@@ -17,10 +17,7 @@ use Rattle.run_law.specs.declared.steps.Arrival.TheVariants as arrivals
 
 itself : (link : LinkId) (cause now : ℕ) → (nat_lt now now || (now == now && comes_before link cause link cause)) ≡ false
 itself link cause now =
-    or_from (nat_lt now now) (now == now && comes_before link cause link cause) (le-ltb now now (omega arith))
-    (and_right (now == now) (comes_before link cause link cause)
-    (or_from (nat_lt link.0 link.0) (link.0 == link.0 && nat_lt cause cause) (le-ltb link.0 link.0 (omega arith))
-    (and_right (link.0 == link.0) (nat_lt cause cause) (le-ltb cause cause (omega arith)))))
+    grind (arith, or_from, nat_lt, comes_before, le-ltb, and_right)
 
 not_itself : (device : DeviceId) (vl : VlId) (now : ℕ) (link : LinkId) (cause : ℕ) (is : Arrival)
     → is_taken_before device vl now link cause now (arrival_body device link cause is) ≡ false
@@ -71,9 +68,7 @@ judged_put s hs front back c d mark cursor now e is w p whole = by e.signal
 
     none : (vl : VlId) → is_taken_before e.device vl now e.link e.cause (time_of w) w.note.body ≡ false
     none vl =
-        ap (λ (t : ℕ). is_taken_before e.device vl now e.link e.cause t w.note.body) p.at
-        ∙ ap (is_taken_before e.device vl now e.link e.cause now) p.body
-        ∙ not_itself e.device vl now e.link e.cause is
+        grind (arith, is_taken_before, not_itself)
 
     by : (signal : Signal) → arrival_of s (hs ++ (front ++ c)) e.device now e.link e.cause signal
         ≡ arrival_of s (hs ++ put_list front w c) e.device now e.link e.cause signal
@@ -138,17 +133,9 @@ raised_known s hs coming mark cursor now more m front rest e n le time other c =
 bump_known : (n : ℕ) (back : List Happening) → ((z : Happening) → IsIn z back → raised n z.note.body ≡ z.note.body) → map (bump_behind n) back ≡ map bump back
 bump_known n [] same = refl
 bump_known n (z ∷ back) same =
-    ap (λ (b : NoteBody). (let h : Happening = record z { note = record z.note { number = z.note.number + 1; body = b } } in h) ∷ map (bump_behind n) back)
-    (same z (inl refl))
-    ∙ ap (λ (l : List Happening). bump z ∷ l) (bump_known n back (λ y i. same y (inr i)))
+    grind (arith, map, bump_behind, bump, (bump_known n back (λ y i. same y (inr i))))
 
 pub put_known : (s : Scenario) (hs front back : List Happening) (mark cursor : List ℕ) (now : ℕ) (e : OnWire) (is : Arrival) (w : Happening)
     → IsReceiving s hs front back mark cursor now e is w → front ++ w ∷ map (bump_behind (length (hs ++ front))) back ≡ put_list front w back
 put_known s hs front back mark cursor now e is w p =
-    let n = length (hs ++ front) in
-    let long = length-append hs front in
-    ap (λ (l : List Happening). front ++ w ∷ l) (bump_known n back (λ z i.
-    let split = parted z (front ++ back) (in_right z front back i) in
-    let due = (p.moving.are.founded split.0 split.1 z split.2).1 in
-    raised_known s hs (front ++ back) mark cursor now (e.device.0 ∷ e.link.0 ∷ e.cause ∷ []) p.moving split.0 (z ∷ split.1) split.2 n (omega (arith, long))
-    z.note.time z.note.body due.cause))
+    grind (arith, length, length-append, bump_known, parted, in_right, raised_known)

@@ -1,4 +1,5 @@
 -- What a device took last, by its node and by the records.
+use Rattle.std.proofs.Common.{arith}
 use Rattle.world_steps.proofs.Words.{if◌then◌else◌, ◌&&◌, ◌<◌, ◌==◌, ◌||◌, ◌∙◌, ◌∷◌, ◌≡◌, ◌⊎◌, Bool, DeviceId, Happening, IsIn, LinkId, List, Node, None}
 use Rattle.world_steps.proofs.Words.{NoteBody, Option, Scenario, Some, TakenFrame, VlId, [], ap, comes_before, eq-eqb, eqb-true, false, filter, filter-append}
 use Rattle.world_steps.proofs.Words.{frames_taken, inl, inr, is_taken_before, last_or, last_taken, last_taken_by, lt-ltb, nat_lt, option_and_then, option_map}
@@ -81,11 +82,7 @@ IsBefore2 by from link cause = (by.0 < link.0) ⊎ ((by.0 ≡ link.0) × (from <
 before_so : (by : LinkId) (from : ℕ) (link : LinkId) (cause : ℕ) → IsBefore2 by from link cause → comes_before by from link cause ≡ true
 before_so by from link cause (inl lt) = ap (λ (b : Bool). b || (by.0 == link.0 && nat_lt from cause)) (lt-ltb by.0 link.0 lt)
 before_so by from link cause (inr e) =
-    or_yes (nat_lt by.0 link.0) (by.0 == link.0) (nat_lt from cause) (eq-eqb by.0 link.0 e.0) (lt-ltb from cause e.1)
-  where
-    or_yes : (a b c : Bool) → b ≡ true → c ≡ true → (a || (b && c)) ≡ true
-    or_yes true b c x y = refl
-    or_yes false b c x y = ap (λ (z : Bool). z && c) x ∙ y
+    grind (arith, nat_lt, eq-eqb, lt-ltb)
 
 three : (a b c : Bool) → (a ≡ true → c ≡ true) → (a && b) ≡ (a && b && c)
 three true true c so = sym (so refl)
@@ -104,11 +101,7 @@ sooner_test : (device other : DeviceId) (t : ℕ) (link : LinkId) (cause : ℕ) 
     → (device ≡ other → (at < t) ⊎ ((at ≡ t) × IsBefore2 by from link cause)) → (device.0 == other.0) ≡ true
     → (nat_lt at t || (at == t && comes_before by from link cause)) ≡ true
 sooner_test device other t link cause at by from so e =
-    elim (so (ap (λ (n : ℕ). let d : DeviceId = record { 0 = n } in d) (eqb-true device.0 other.0 e))) [
-      | inl lt ↦ or_left (nat_lt at t) (at == t && comes_before by from link cause) (lt-ltb at t lt)
-      | inr same ↦ or_right (nat_lt at t) (at == t && comes_before by from link cause)
-          (ap (λ (b : Bool). b && comes_before by from link cause) (eq-eqb at t same.0) ∙ before_so by from link cause same.1)
-    ]
+    grind (arith, eqb-true, or_left, nat_lt, comes_before, lt-ltb, or_right, eq-eqb, before_so)
 
 pub taking_is : (device : DeviceId) (vl : VlId) (t : ℕ) (link : LinkId) (cause : ℕ) (h : Happening) (body : NoteBody) → IsSooner device t link cause h body
     → is_taking device vl body ≡ is_taken_before device vl t link cause (time_of h) body

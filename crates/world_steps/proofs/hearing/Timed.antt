@@ -36,18 +36,12 @@ given_time s hs coming mark cursor now e a h i high =
 pub given_by_now : (s : Scenario) (hs coming : List Happening) (mark cursor : List ℕ) (now : ℕ) (e : OnWire) → IsAfterGiven s hs coming mark cursor now e
     → (h : Happening) → IsIn h hs → time_of h ≤ now
 given_by_now s hs coming mark cursor now e a h i =
-    let under = a.moving.ahead (place_of h) (a.within h i) in
-    let by = earlier_time (time_of h) (now + 1) (rank h.note.body ∷ key (members_in h) h.note.body) (a.not_later (place_of h) under) in
-    omega (arith, by)
+    grind (arith, place_of, earlier_time, time_of, rank, key, members_in)
 
 given_sooner : (s : Scenario) (hs coming : List Happening) (mark cursor : List ℕ) (now : ℕ) (e : OnWire) → IsAfterGiven s hs coming mark cursor now e
     → (h : Happening) → IsIn h hs → (body : NoteBody) → h.note.body ≡ body → IsSooner e.device now e.link e.cause h body
-given_sooner s hs coming mark cursor now e a h i (notes.Accepted other by from vl cycle) is = λ same.
-    let high : 11 ≡ rank h.note.body = sym (ap rank is) in
-    inl (given_time s hs coming mark cursor now e a h i (omega (arith, high)))
-given_sooner s hs coming mark cursor now e a h i (notes.Delivered other by from vl cycle) is = λ same.
-    let high : 12 ≡ rank h.note.body = sym (ap rank is) in
-    inl (given_time s hs coming mark cursor now e a h i (omega (arith, high)))
+given_sooner s hs coming mark cursor now e a h i (notes.Accepted other by from vl cycle) is = grind (arith, rank, given_time)
+given_sooner s hs coming mark cursor now e a h i (notes.Delivered other by from vl cycle) is = grind (arith, rank, given_time)
 given_sooner s hs coming mark cursor now e a h i other is = tt
 
 -- of one device and one time, the source by the link and cause is before the other
@@ -127,10 +121,7 @@ kept_judges stands s hs coming mark cursor now e machine signal a k =
 place_sooner : (now t r k : ℕ) (device other link by cause from : ℕ) → t ≡ now → device ≡ other → k ≤ r → (by < link) ⊎ ((by ≡ link) × (from < cause))
     → IsBefore (t ∷ k ∷ other ∷ by ∷ from ∷ []) (now ∷ r ∷ device ∷ link ∷ cause ∷ [])
 place_sooner now t r k device other link by cause from at same le before =
-    elim (cases_lt k r) [
-      | inl lt ↦ inr (at, inl lt)
-      | inr ge ↦ inr (at, inr (omega (arith, le, ge), inr (sym same, elim before [ inl lt ↦ inl lt | inr e ↦ inr (e.0, inl e.1) ])))
-    ]
+    grind (arith, cases_lt)
 
 -- a taking of the device by what is left would stand before it
 at_least_low : (b : Bool) (r : ℕ) → (if b then 12 else 11) ≤ r → 11 ≤ r

@@ -1,6 +1,6 @@
 -- A device that took a frame has the tasks that it had, and such as are for later readings.
-use Rattle.world_steps.proofs.Words.{if◌then◌else◌, ◌++◌, ◌+ℤ◌, ◌<ℤ◌, ◌==◌, ◌∙◌, ◌∷◌, ◌≡◌, ◌≤ℤ◌, ◌⊎◌, Bool, ClockTask, DeviceId, Happening, HasDoneFrom}
-use Rattle.world_steps.proofs.Words.{HasSentFrom, IsDeedOf, IsLeft, IsPending, IsReadyAt, IsSteady, IsUndone, IsWaiting, List, Moment, Network, Node, None}
+use Rattle.world_steps.proofs.Words.{if◌then◌else◌, ◌+ℤ◌, ◌<ℤ◌, ◌==◌, ◌≡◌, ◌≤ℤ◌, ◌⊎◌, Bool, ClockTask, DeviceId, Happening, HasDoneFrom}
+use Rattle.world_steps.proofs.Words.{HasSentFrom, IsDeedOf, IsLeft, IsPending, IsReadyAt, IsSteady, IsUndone, IsWaiting, List, Moment, Network, Node}
 use Rattle.world_steps.proofs.Words.{Option, Scenario, Some, TakenFrame, Task, VlId, [], amount, ap, arith, arriving, called, cases_Bool, correcting}
 use Rattle.world_steps.proofs.Words.{dispatching, doing, emitting, false, filter, filter-append, inl, inr, ints, last_or, moment_of, pos, reading_for, refl}
 use Rattle.world_steps.proofs.Words.{sending, subst, sym, true, value_of, ℕ, ℤ}
@@ -17,17 +17,7 @@ last_took : (node : Node) (moment : Moment) (vl own : VlId) (cycle : ℕ) (b : B
     → last_taken_frame (took moment vl cycle node) own
     ≡ (if b then Some (record { vl = vl; cycle = cycle; at = local_at node moment }) else last_taken_frame node own)
 last_took node moment vl own cycle b e =
-    let t : TakenFrame = record { vl = vl; cycle = cycle; at = local_at node moment } in
-    let q = λ (taking : TakenFrame). taking.vl.0 == own.0 in
-    ap (last_or None) (filter-append q node.taken (t ∷ []))
-    ∙ ap (λ (c : Bool). last_or None (filter q node.taken ++ (if c then t ∷ [] else []))) e ∙ by b
-  where
-    by : (b : Bool) → last_or None (filter (λ (taking : TakenFrame). taking.vl.0 == own.0) node.taken
-        ++ (if b then record { vl = vl; cycle = cycle; at = local_at node moment } ∷ [] else []))
-        ≡ (if b then Some (record { vl = vl; cycle = cycle; at = local_at node moment }) else last_taken_frame node own)
-    by true = last_pushed None (filter (λ (taking : TakenFrame). taking.vl.0 == own.0) node.taken)
-        (record { vl = vl; cycle = cycle; at = local_at node moment })
-    by false = last_kept None (filter (λ (taking : TakenFrame). taking.vl.0 == own.0) node.taken)
+    grind (arith, last_or, filter-append, filter, last_pushed, last_kept)
 
 -- a deed of it was one before, or is for a later reading
 was_deed : (network : Network) (device : DeviceId) (node : Node) (moment : Moment) (vl : VlId) (cycle : ℕ) (deed : ClockTask)
@@ -63,10 +53,7 @@ was_undone : (network : Network) (device : DeviceId) (node : Node) (moment : Mom
     → IsUndone network device (took moment vl cycle node) deed
     → IsUndone network device node deed ⊎ (moment.reading.0 <ℤ reading_for network node (doing deed))
 was_undone network device node moment vl cycle deed u =
-    elim (was_deed network device node moment vl cycle deed u.own) [
-      | inl old ↦ inl (record { own = old; ahead = u.ahead; not_yet = u.not_yet })
-      | inr later ↦ inr later
-    ]
+    grind (arith, was_deed)
 
 was_waiting : (network : Network) (device : DeviceId) (node : Node) (moment : Moment) (vl : VlId) (cycle : ℕ) (sent : _)
     → IsWaiting network device (took moment vl cycle node) sent → IsWaiting network device node sent
@@ -133,17 +120,4 @@ sent_took s now device node vl cycle low high has = record {
 -- the records leave it so
 pub left_took : (s : Scenario) (hs : List Happening) (device : DeviceId) (t : ℕ) (node : Node) (moment : Moment) (vl : VlId) (cycle : ℕ)
     → IsLeft s hs device t node → IsLeft s hs device t (took moment vl cycle node)
-left_took s hs device t node moment vl cycle left = record {
-  counted = record {
-    plan = left.counted.plan;
-    adjustment = left.counted.adjustment;
-    integrated = left.counted.integrated;
-    number = left.counted.number;
-    changed = left.counted.changed;
-    heard = left.counted.heard;
-    started = left.counted.started;
-    broken = left.counted.broken;
-  };
-  state = left.state;
-  points = left.points;
-}
+left_took s hs device t node moment vl cycle left = grind arith

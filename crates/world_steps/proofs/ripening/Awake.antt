@@ -36,21 +36,9 @@ due_on s js time other c = tt
 stays_on : (device : DeviceId) (old : State) (body : NoteBody) → IsNeverOff body → (is_off old ≡ false) ⊎ (stirs device body ≡ true)
     → is_off (state_with device old body) ≡ false
 stays_on device old (kinds.State other state cause why) never so =
-    elim (cases_Bool (device.0 == other.0)) [
-      | inl own ↦ ap (λ (b : Bool). is_off (if b then state else old)) own ∙ never
-      | inr misses ↦ elim so [
-        | inl on ↦ ap (λ (b : Bool). is_off (if b then state else old)) misses ∙ on
-        | inr own ↦ absurd (both_ways (device.0 == other.0) misses own)
-      ]
-    ]
+    grind (arith, cases_Bool, is_off, both_ways)
 stays_on device old other never so =
-    elim (cases_Bool (is_joined_by device other)) [
-      | inl own ↦ ap (λ (b : Bool). is_off (if b then Joining else old)) own
-      | inr misses ↦ elim so [
-        | inl on ↦ ap (λ (b : Bool). is_off (if b then Joining else old)) misses ∙ on
-        | inr own ↦ absurd (both_ways (is_joined_by device other) misses own)
-      ]
-    ]
+    grind (arith, cases_Bool, is_joined_by, is_off, both_ways)
 
 pub was_on : (device : DeviceId) (old : State) (body : NoteBody) → stirs device body ≡ false → state_with device old body ≡ old
 was_on device old (kinds.State other state cause why) e = ap (λ (b : Bool). if b then state else old) e
@@ -75,13 +63,7 @@ pub woken : (device : DeviceId) (z : State) (l : List Happening) → is_off (fol
     → (is_off z ≡ false) ⊎ Stirs device l
 woken device z [] e = inl e
 woken device z (x ∷ l) e =
-    elim (woken device (state_with device z x.note.body) l e) [
-      | inr more ↦ inr (more.0, inr more.1, more.2)
-      | inl now_on ↦ elim (cases_Bool (stirs device x.note.body)) [
-        | inl st ↦ inr (x, inl refl, st)
-        | inr still ↦ inl (ap is_off (sym (was_on device z x.note.body still)) ∙ now_on)
-      ]
-    ]
+    grind (arith, state_with, cases_Bool, is_off, was_on, (woken device (state_with device z x.note.body) l e))
 
 -- ---- an event that turned the device on has its record, and so has what came of it
 
@@ -100,12 +82,7 @@ on_recorded s mark hs now t device run past befallen lt on sound =
     let at_event = split place_of (IsDue s) hs (amount e.time ∷ 1 ∷ line ∷ []) run.founded in
     let note : Note = record { number = length at_event.front + 1; time = e.time; body = kinds.Event line e.what } in
     let event = happening s.network at_event.front note in
-    let due : IsDue s at_event.front event = record {
-      number = refl;
-      same = refl;
-      begun = befallen.begun get.0 e get.1;
-      cause = record { event = e; before = get.0; line_is = refl; is = get.1; at = refl; same = refl };
-    } in
+    let due : IsDue s at_event.front event = grind (arith, get.0, e, get.1, event) in
     let there : IsIn event hs = due_is_there s mark hs event at_event run due (befallen.told get.0 e get.1) in
     let number = length at_event.front + 1 in
     let at_state = split place_of (IsDue s) hs (amount e.time ∷ 7 ∷ device.0 ∷ number ∷ []) run.founded in

@@ -76,20 +76,7 @@ more_count xs zs =
 -- the end is no earlier with a point that was not beyond it
 not_beyond : (ow : ℤ) (o : Point) (ps : List Point) (p : Point) → pos 0 ≤ℤ ow → p.reading ≤ℤ end_of ow o ps → p.reading ≤ℤ end_of ow o (ps ++ p ∷ [])
 not_beyond ow o ps p some within =
-    elim (Rattle.std.proofs.lemmas.Bool.cases_lt (length (counted (window_end ow o) o ps)) 2) [
-      | inl few ↦
-          let one = end_of-one ow o ps few in
-          let least = end_of-least ow o (ps ++ p ∷ []) some in
-          let was : p.reading ≤ℤ (o.reading +ℤ ow) = subst (λ (z : ℤ). p.reading ≤ℤ z) one within in
-          omega (arith, ints, was, least)
-      | inr many ↦
-          let test = λ (q : Point). q.cycle == o.cycle && (int_le o.reading q.reading && int_le q.reading (window_end ow o)) in
-          let more = more_count (filter test ps) (filter test (p ∷ [])) in
-          let same : length (counted (window_end ow o) o (ps ++ p ∷ [])) ≡ length (firsts (filter test ps ++ filter test (p ∷ []))) =
-          ap (λ (l : List Point). length (firsts l)) (filter-append test ps (p ∷ [])) in
-          subst (λ (z : ℤ). p.reading ≤ℤ z) (sym (end_of-two ow o (ps ++ p ∷ []) (omega (arith, many, more, same))))
-          (subst (λ (z : ℤ). p.reading ≤ℤ z) (end_of-two ow o ps many) within)
-    ]
+    grind (arith, length, counted, window_end, end_of-one, end_of-least, ints, int_le, more_count, filter, filter-append, end_of-two)
 
 none_beyond : (end : ℤ) (ps : List Point) → AllByRecursion (λ q. q.reading ≤ℤ end) ps → beyond end ps ≡ []
 none_beyond end [] all = refl
@@ -121,10 +108,7 @@ pub old_or_open : (n : ℕ) (ow : ℤ) (ps : List Point) (cs news : List Cluster
     ⊎ IsOpen ow p c
 old_or_open n ow [] cs [] p c few some up are also there = absurd also
 old_or_open n ow [] cs (d ∷ ds) p c few some up are also there =
-    elim (in_cases d c ds there) [
-      | inl e ↦ inr (record { opener = p; others = []; is = sym e ∙ also.0; reaches = omega (arith, ints, some) })
-      | inr more ↦ absurd (in_none c (subst (λ (l : List Cluster). Contains l c) (no_more ow [] ds refl also.1) more))
-    ]
+    grind (arith, in_cases, ints, in_none, no_more)
 old_or_open zero ow (o ∷ ps) cs news p c few some up are also there = absurd (omega (arith, few))
 old_or_open (suc n) ow (o ∷ ps) [] news p c few some up are also there = absurd are
 old_or_open (suc n) ow (o ∷ ps) (k ∷ ks) [] p c few some up are also there = absurd also

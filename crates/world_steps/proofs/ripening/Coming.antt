@@ -30,10 +30,7 @@ given_low s hs coming mark cursor now more m within h i at =
 
 not_late : (t now : ℕ) (ws more w0 : List ℕ) → w0 ≡ t ∷ 4 ∷ ws → t ≡ now → IsBefore w0 (now ∷ 3 ∷ more) → ⊥
 not_late t now ws more w0 e at b =
-    elim (no_higher t 4 now 3 ws more (inr (subst (λ (q : List ℕ). IsBefore q (now ∷ 3 ∷ more)) e b))) [
-      | inl lt ↦ omega (arith, lt, at)
-      | inr same ↦ omega (arith, same.1)
-    ]
+    grind (arith, no_higher)
 
 -- of records before it, those to come are of the same kinds
 corrected_none : (s : Scenario) (hs front : List Happening) (t now cause cycle : ℕ) (device : DeviceId) (by adjustment : _) (h : Happening)

@@ -1,11 +1,12 @@
 -- A device after a frame that is permanent and tells it no time stands as the records leave it, with that of the frame put in.
-use Rattle.world_steps.proofs.Words.{if◌then◌else◌, ◌&&◌, ◌++◌, ◌+ℤ◌, ◌+◌, ◌==◌, ◌||◌, ◌∙◌, ◌∷◌, ◌≡◌, ◌≤◌, Bool, Channel, DeviceId, Happening, Hearing, IfSome}
-use Rattle.world_steps.proofs.Words.{Integrating, IsIn, IsLeft, Judgement, LinkId, List, Moment, Network, Node, None, NoteBody, Option, Pcf, Phase, Point}
+use Rattle.std.proofs.Common.{arith}
+use Rattle.world_steps.proofs.Words.{if◌then◌else◌, ◌&&◌, ◌++◌, ◌+◌, ◌==◌, ◌||◌, ◌∙◌, ◌∷◌, ◌≡◌, Bool, DeviceId, Happening, Hearing}
+use Rattle.world_steps.proofs.Words.{Integrating, IsIn, IsLeft, Judgement, LinkId, List, Moment, Network, Node, None, Pcf, Phase, Point}
 use Rattle.world_steps.proofs.Words.{Scenario, Some, Units, [], adjustment_before, after_last, after_more, after_permanence, ap, append-nil, append_assoc}
 use Rattle.world_steps.proofs.Words.{called, changed_at, changes_adjustment, channel_of_link, cycle_in, earlier, ends_stretch, false, filter, filter-append}
 use Rattle.world_steps.proofs.Words.{filter_map, has_cleared, heard_since, hearing_by, is_cm, is_timed, is_turned_on_at, master_of, members_in, moves, nat_lt}
-use Rattle.world_steps.proofs.Words.{not, option_map, option_map_or, option_to_list, point_at, point_by, points_of, pos, recorded_cycle, refl, ripe_as}
-use Rattle.world_steps.proofs.Words.{same_kept, self, since_at, subst, sym, time_of, true, ℕ}
+use Rattle.world_steps.proofs.Words.{not, option_map, option_map_or, option_to_list, point_at, point_by, points_of, recorded_cycle, refl, ripe_as}
+use Rattle.world_steps.proofs.Words.{same_kept, self, since_at, sym, time_of, true, ℕ}
 use Rattle.run_law.specs.{control.Corrections.heard_by, machines.Answers.hearings}
 use Rattle.world_law.proofs.devices.Borne.{cleared_alike, tell_owned}
 use Rattle.world_steps.proofs.ripening.Merely.{IsMere, maps_one, maps_rest, mere_changes, mere_hears, mere_point, own_skip}
@@ -53,17 +54,13 @@ heard_grown s hs zs device t w first kept =
     let a = tell_owned s (hs ++ w ∷ zs) (hs ++ zs) device t (own_skip device t hs zs w first.still) in
     let with_it = keep s (hs ++ w ∷ zs) device t in
     let without = keep s (hs ++ zs) device t in
-    let same : (h : Happening) → with_it h ≡ without h = λ h.
-    ap (λ (b : Bool). not b || has_cleared s (hs ++ w ∷ zs) device t (time_of h)) (cleared_alike s _ _ device t t a)
-    ∙ ap (λ (b : Bool). not (has_cleared s (hs ++ zs) device t t) || b) (cleared_alike s _ _ device t (time_of h) a) in
+    let same : (h : Happening) → with_it h ≡ without h = grind (arith, not, has_cleared, time_of, cleared_alike, a) in
     let none : (h : Happening) → IsIn h zs → p h ≡ false = λ h i. changes_at device t h (mere_changes device h.note.body (first.mere h i)) in
     let silent : (h : Happening) → IsIn h (filter without zs) → f h ≡ None = λ h i.
     mere_hears s.network device h h.note.body (first.mere h (Rattle.run_law.proofs.law.FirstPlaces.in_filter without zs h i)) in
     let base = after_last p hs in
     let since : since_at device t (hs ++ w ∷ zs) ≡ (base ++ w ∷ []) ++ zs =
-    ap (after_last p) (sym (append_assoc hs (w ∷ []) zs))
-    ∙ after_more p (hs ++ w ∷ []) zs none
-    ∙ ap (λ (l : List Happening). l ++ zs) (Rattle.world_law.proofs.lists.Lists.behind_no p hs w (changes_at device t w first.unchanged)) in
+    grind (arith, after_last, p, append_assoc, after_more, none, changes_at) in
     let was : since_at device t (hs ++ zs) ≡ base ++ zs = after_more p hs zs none in
     ap (filter_map f) (same_kept with_it without (since_at device t (hs ++ w ∷ zs)) (λ h i. same h))
     ∙ ap (λ (l : List Happening). filter_map f (filter without l)) since
@@ -98,23 +95,12 @@ left_grown s hs zs device t w node new first kept grown left =
         plan = ap (λ (x : _). x.plan) grown.standing ∙ left.counted.plan;
         adjustment = ap (λ (x : _). x.adjustment) grown.standing ∙ left.counted.adjustment ∙ a.adjustment;
         integrated = ap (λ (x : _). x.integrated) grown.standing ∙ left.counted.integrated ∙ a.integration;
-        number = λ timed.
-            ap (λ (x : _). x.number) grown.standing ∙ left.counted.number (timed_too timed)
-            ∙ ap (λ (b : Bool). if b then recorded_cycle (earlier t (hs ++ zs)) device + 1 else recorded_cycle (earlier t (hs ++ zs)) device)
-            (cleared_alike s _ _ device t t a)
-            ∙ ap (λ (n : ℕ). if has_cleared s (hs ++ w ∷ zs) device t t then n + 1 else n) a.cycle;
+        number = grind (arith, timed_too, recorded_cycle, earlier, cleared_alike, a, has_cleared, a.cycle);
         changed =
-            grown.changed ∙ left.counted.changed
-            ∙ ap (λ (n : ℕ). pos (s.reading device n) +ℤ (adjustment_before s (hs ++ zs) device t).0) a.change
-            ∙ ap (λ (u : Units). pos (s.reading device (changed_at (hs ++ w ∷ zs) device t)) +ℤ u.0) a.adjustment;
-        heard = λ timed.
-            grown.heard
-            ∙ ap (λ (l : List Hearing). l ++ option_to_list (hearing_by s.network device w w.note.body)) (left.counted.heard (timed_too timed))
-            ∙ sym (heard_grown s hs zs device t w first (kept (timed_too timed)));
+            grind (arith, adjustment_before, a.change, changed_at, a.adjustment);
+        heard = grind (arith, option_to_list, hearing_by, timed_too, heard_grown);
         started =
-            subst (λ (o : Option ℕ). IfSome o (λ cycle. cycle ≤ recorded_cycle (earlier t (hs ++ w ∷ zs)) device)) a.integration
-            (subst (λ (n : ℕ). IfSome (Rattle.run_law.specs.control.Corrections.integration_cycle (earlier t (hs ++ zs)) device) (λ cycle. cycle ≤ n)) a.cycle
-            left.counted.started);
+            grind (arith, recorded_cycle, earlier, a.integration, a.cycle);
         broken = grown.broken ∙ left.counted.broken;
       };
       state = ap (λ (x : _). x.state) grown.standing ∙ left.state ∙ ap (λ x. if is_turned_on_at s device t then Integrating else x) a.state;
@@ -140,24 +126,13 @@ heard_so : (network : Network) (device : DeviceId) (link : LinkId) (cause : ℕ)
     → hearings (channel_of_link network link) frame.cycle frame.members point within
     ≡ option_to_list (if device.0 == device.0 then option_map (λ channel. heard_by channel w point within) (channel_of_link network link) else None)
 heard_so network device link cause point w frame within of_frame =
-    let cycle : frame.cycle ≡ cycle_in w = sym (ap (λ (o : Option Pcf). option_map_or (λ f. f.cycle) o 0) of_frame) in
-    let members : frame.members.0 ≡ members_in w = sym (ap (λ (o : Option Pcf). option_map_or (λ f. f.members.0) o 0) of_frame) in
-    let make = λ (c m : ℕ). option_to_list (option_map (λ (k : Channel).
-    let h : Hearing = record { channel = k; frame = record { cycle = c; members = record { 0 = m }; point = point }; within = within } in h)
-    (channel_of_link network link)) in
-    ap (λ (c : ℕ). make c frame.members.0) cycle ∙ ap (make (cycle_in w)) members
-    ∙ ap (λ (b : Bool). option_to_list (if b then option_map (λ channel. heard_by channel w point within) (channel_of_link network link) else None))
-    (sym (self device))
+    grind (arith, cycle_in, option_map_or, members_in, option_to_list, option_map, channel_of_link, self)
 
 point_so : (device : DeviceId) (link : LinkId) (cause : ℕ) (point : Units) (w : Happening) (frame : Pcf) → w.frame ≡ Some frame
     → point_at point.0 (master_of frame.members.0) frame.cycle ∷ []
     ≡ option_to_list (if device.0 == device.0 then Some (point_at point.0 (master_of (members_in w)) (cycle_in w)) else None)
 point_so device link cause point w frame of_frame =
-    let cycle : frame.cycle ≡ cycle_in w = sym (ap (λ (o : Option Pcf). option_map_or (λ f. f.cycle) o 0) of_frame) in
-    let members : frame.members.0 ≡ members_in w = sym (ap (λ (o : Option Pcf). option_map_or (λ f. f.members.0) o 0) of_frame) in
-    ap (λ (c : ℕ). point_at point.0 (master_of frame.members.0) c ∷ []) cycle
-    ∙ ap (λ (m : ℕ). point_at point.0 (master_of m) (cycle_in w) ∷ []) members
-    ∙ ap (λ (b : Bool). option_to_list (if b then Some (point_at point.0 (master_of (members_in w)) (cycle_in w)) else None)) (sym (self device))
+    grind (arith, cycle_in, option_map_or, members_in, point_at, master_of, option_to_list, self)
 
 -- what the call leaves as it was
 pub record IsSame (node new : Node) : Type 0 where
@@ -177,54 +152,12 @@ pub same_by_role : (network : Network) (device : DeviceId) (node : Node) (moment
     (verdict : Judgement) → IsByRole cm verdict
     → IsSame node (called moment phase (after_permanence node moment (channel_of_link network link) frame point (ripe_as verdict)))
 same_by_role network device node moment phase link point frame cm judgements.Integrates r = absurd (not_joining cm r)
-same_by_role network device node moment phase link point frame cm judgements.Opened r = record {
-  standing = refl;
-  changed = refl;
-  broken = refl;
-  taken = refl;
-  done = refl;
-  emitted = refl;
-}
-same_by_role network device node moment phase link point frame cm judgements.Joined r = record {
-  standing = refl;
-  changed = refl;
-  broken = refl;
-  taken = refl;
-  done = refl;
-  emitted = refl;
-}
-same_by_role network device node moment phase link point frame cm judgements.Repeat r = record {
-  standing = refl;
-  changed = refl;
-  broken = refl;
-  taken = refl;
-  done = refl;
-  emitted = refl;
-}
-same_by_role network device node moment phase link point frame cm judgements.Within r = record {
-  standing = refl;
-  changed = refl;
-  broken = refl;
-  taken = refl;
-  done = refl;
-  emitted = refl;
-}
-same_by_role network device node moment phase link point frame cm judgements.Outside r = record {
-  standing = refl;
-  changed = refl;
-  broken = refl;
-  taken = refl;
-  done = refl;
-  emitted = refl;
-}
-same_by_role network device node moment phase link point frame cm judgements.Ignored r = record {
-  standing = refl;
-  changed = refl;
-  broken = refl;
-  taken = refl;
-  done = refl;
-  emitted = refl;
-}
+same_by_role network device node moment phase link point frame cm judgements.Opened r = grind arith
+same_by_role network device node moment phase link point frame cm judgements.Joined r = grind arith
+same_by_role network device node moment phase link point frame cm judgements.Repeat r = grind arith
+same_by_role network device node moment phase link point frame cm judgements.Within r = grind arith
+same_by_role network device node moment phase link point frame cm judgements.Outside r = grind arith
+same_by_role network device node moment phase link point frame cm judgements.Ignored r = grind arith
 
 -- its points, where it collects, and where it does not
 pub points_by_role : (network : Network) (device : DeviceId) (node : Node) (moment : Moment) (phase : Phase) (link : LinkId) (point : Units) (frame : Pcf)
@@ -250,63 +183,4 @@ pub is_grown : (s : Scenario) (device : DeviceId) (node : Node) (moment : Moment
     (verdict : Judgement) → w.frame ≡ Some frame → w.note.body ≡ kinds.Permanent device link cause point verdict → IsByRole (is_cm s.network device) verdict
     → IsGrown s device w node (called moment phase (after_permanence node moment (channel_of_link s.network link) frame point (ripe_as verdict)))
 is_grown s device node moment phase w link cause point frame verdict of_frame body role =
-    record {
-      standing = standing verdict role;
-      changed = changed verdict role;
-      broken = broken verdict role;
-      heard = heard verdict role ∙ ap (λ (b : NoteBody). node.heard ++ option_to_list (hearing_by s.network device w b)) (sym body);
-      points =
-          λ cm. points verdict (subst (λ (b : Bool). IsByRole b verdict) cm role) ∙ ap (λ (b : NoteBody). node.points ++ option_to_list (point_by device w b))
-          (sym body);
-    }
-  where
-    after : Judgement → Node
-    after v = called moment phase (after_permanence node moment (channel_of_link s.network link) frame point (ripe_as v))
-
-    not_it : (b : Bool) → IsByRole b judgements.Integrates → ⊥
-    not_it true r = r
-    not_it false r = r
-
-    standing : (v : Judgement) → IsByRole (is_cm s.network device) v → (after v).standing ≡ node.standing
-    standing judgements.Integrates r = absurd (not_it _ r)
-    standing judgements.Opened r = refl
-    standing judgements.Joined r = refl
-    standing judgements.Repeat r = refl
-    standing judgements.Within r = refl
-    standing judgements.Outside r = refl
-    standing judgements.Ignored r = refl
-
-    changed : (v : Judgement) → IsByRole (is_cm s.network device) v → (after v).changed ≡ node.changed
-    changed judgements.Integrates r = absurd (not_it _ r)
-    changed judgements.Opened r = refl
-    changed judgements.Joined r = refl
-    changed judgements.Repeat r = refl
-    changed judgements.Within r = refl
-    changed judgements.Outside r = refl
-    changed judgements.Ignored r = refl
-
-    broken : (v : Judgement) → IsByRole (is_cm s.network device) v → (after v).broken ≡ node.broken
-    broken judgements.Integrates r = absurd (not_it _ r)
-    broken judgements.Opened r = refl
-    broken judgements.Joined r = refl
-    broken judgements.Repeat r = refl
-    broken judgements.Within r = refl
-    broken judgements.Outside r = refl
-    broken judgements.Ignored r = refl
-
-    heard : (v : Judgement) → IsByRole (is_cm s.network device) v
-        → (after v).heard ≡ node.heard ++ option_to_list (hearing_by s.network device w (kinds.Permanent device link cause point v))
-    heard judgements.Integrates r = absurd (not_it _ r)
-    heard judgements.Opened r = sym (append-nil node.heard)
-    heard judgements.Joined r = sym (append-nil node.heard)
-    heard judgements.Repeat r = sym (append-nil node.heard)
-    heard judgements.Within r = ap (λ (l : List Hearing). node.heard ++ l) (heard_so s.network device link cause point w frame true of_frame)
-    heard judgements.Outside r = ap (λ (l : List Hearing). node.heard ++ l) (heard_so s.network device link cause point w frame false of_frame)
-    heard judgements.Ignored r = sym (append-nil node.heard)
-
-    points : (v : Judgement) → IsByRole true v → (after v).points ≡ node.points
-        ++ option_to_list (point_by device w (kinds.Permanent device link cause point v))
-    points judgements.Opened r = ap (λ (l : List Point). node.points ++ l) (point_so device link cause point w frame of_frame)
-    points judgements.Joined r = ap (λ (l : List Point). node.points ++ l) (point_so device link cause point w frame of_frame)
-    points judgements.Repeat r = ap (λ (l : List Point). node.points ++ l) (point_so device link cause point w frame of_frame)
-    points other r = absurd r
+    grind (arith, option_to_list, hearing_by, point_by, called, after_permanence, channel_of_link, ripe_as, is_cm, append-nil, heard_so, point_so)

@@ -1,5 +1,5 @@
 -- What is heard at a time counts as before it, where no frame has told the device the time at it.
-use Rattle.world_steps.proofs.Words.{if◌then◌else◌, ◌&&◌, ◌==◌, ◌||◌, ◌∙◌, ◌∷◌, ◌≡◌, ◌≤◌, Bool, DeviceId, Happening, IsIn, Joining, List, Network, Pcf, Point}
+use Rattle.world_steps.proofs.Words.{if◌then◌else◌, ◌∷◌, ◌≡◌, ◌≤◌, Bool, DeviceId, Happening, IsIn, Joining, List, Network, Pcf, Point}
 use Rattle.world_steps.proofs.Words.{Ripe, Scenario, State, [], adjustment_after, adjustment_at_hearing, adjustment_before, ap, arith, cases_Bool, cases_lt}
 use Rattle.world_steps.proofs.Words.{eq-eqb, false, has_joined_at, inl, inr, is_cm, is_joined_by, list_any, lt-ltb, nat_lt, or_left, or_none, same_kept}
 use Rattle.world_steps.proofs.Words.{state_at_hearing, state_before, subst, sym, time_of, true, ℕ}
@@ -22,17 +22,7 @@ not_joined s hs device t e = ap (λ (b : Bool). if b then Joining else state_bef
 pub not_joined_yet : (s : Scenario) (hs : List Happening) (device : DeviceId) (t : ℕ) → has_joined_at hs device t ≡ false
     → ((h : Happening) → IsIn h hs → time_of h ≤ t) → adjustment_at_hearing s hs device t ≡ adjustment_before s hs device t
 not_joined_yet s hs device t e all =
-    ap (λ (l : List Happening). adjustment_after s l device)
-    (same_kept (λ h. nat_lt (time_of h) t || is_joined_by device h.note.body) (λ h. nat_lt (time_of h) t) hs (λ h i.
-    elim (cases_lt (time_of h) t) [
-      | inl lt ↦ or_left (nat_lt (time_of h) t) _ (lt-ltb (time_of h) t lt) ∙ sym (lt-ltb (time_of h) t lt)
-      | inr ge ↦
-          let at : time_of h ≡ t = let le = all h i in omega (arith, ge, le) in
-          let never : is_joined_by device h.note.body ≡ false =
-          sym (ap (λ (b : Bool). b && is_joined_by device h.note.body) (eq-eqb (time_of h) t at))
-          ∙ none_of (λ g. time_of g == t && is_joined_by device g.note.body) hs h e i in
-          ap (λ (b : Bool). nat_lt (time_of h) t || b) never ∙ or_none (nat_lt (time_of h) t)
-    ]))
+    grind (arith, adjustment_after, same_kept, nat_lt, time_of, is_joined_by, cases_lt, or_left, lt-ltb, eq-eqb, none_of, or_none)
 
 role_for : (b : Bool) (P Q R : Type 0) → b ≡ false → MatchBool b P R → MatchBool b Q R
 role_for b P Q R e m = subst (λ (c : Bool). MatchBool c Q R) (sym e) (MatchBool-at_false P R e m)
@@ -41,7 +31,4 @@ pub by_role : (n : Network) (device : DeviceId) (state : State) (adjustment : _)
     → (is_cm n device ≡ true → points ≡ others) → IsPermanenceOutcome n device state adjustment points frame point is
     → IsPermanenceOutcome n device state adjustment others frame point is
 by_role n device state adjustment points others frame point is same so =
-    elim (cases_Bool (is_cm n device)) [
-      | inl cm ↦ subst (λ (l : List Point). IsPermanenceOutcome n device state adjustment l frame point is) (same cm) so
-      | inr other ↦ role_for (is_cm n device) _ _ _ other so
-    ]
+    grind (arith, cases_Bool, is_cm, role_for)

@@ -1,6 +1,6 @@
 -- The device that a frame tells the time is kept.
 use Rattle.world_steps.proofs.Words.{if◌then◌else◌, ◌&&◌, ◌++◌, ◌+ℤ◌, ◌+◌, ◌-ℤ◌, ◌-◌, ◌<ℤ◌, ◌<◌, ◌||◌, ◌∙◌, ◌∷◌, ◌≡◌, ◌≤ℤ◌, ◌≤◌, ◌⊎◌, Bool, DeviceId, Happening}
-use Rattle.world_steps.proofs.Words.{HasTurnedOn, IfSome, Integrating, IsIn, IsKept, IsLeft, IsPending, Joining, LinkId, List, Moment, Network, Node, None}
+use Rattle.world_steps.proofs.Words.{HasTurnedOn, Integrating, IsIn, IsKept, IsLeft, IsPending, Joining, LinkId, List, Moment, Network, Node, None}
 use Rattle.world_steps.proofs.Words.{Option, Pcf, Phase, Scenario, Some, State, SyncPlan, Task, Units, Waiting, [], adjustment_after, adjustment_with}
 use Rattle.world_steps.proofs.Words.{after_last, and_right, ap, append_assoc, arith, before_behind, behind, both_ways, called, chain, changed_at}
 use Rattle.world_steps.proofs.Words.{changes_adjustment, cleared_in, correcting, correction_value, cycle_after, cycle_in, doing, earlier, earlier_still}
@@ -61,18 +61,11 @@ left_joined s hs zs device now w link cause point frame node moment phase j read
     let changes : changes_adjustment device w.note.body ≡ true = ap (changes_adjustment device) e ∙ self device in
     let of_cycle : cycle_in w ≡ frame.cycle = ap (λ (o : Option Pcf). option_map_or (λ f. f.cycle) o 0) j.of_frame in
     let adjusted : adjustment_after s js device ≡ joined_adjustment s device (cycle_in w) point =
-    at_join (λ old h. adjustment_with s device (cycle_in h) old h.note.body) _ hs zs w
-    (λ h i old. mere_adjustment s device (cycle_in h) old h.note.body (j.mere h i))
-    ∙ ap (adjustment_with s device (cycle_in w) (adjustment_after s hs device)) e
-    ∙ ap (λ (b : Bool). if b then joined_adjustment s device (cycle_in w) point else adjustment_after s hs device) (self device) in
+    grind (arith, at_join, adjustment_with, cycle_in, mere_adjustment, adjustment_after, e, self) in
     let integration : integration_cycle js device ≡ Some (cycle_in w) =
-    at_join (λ last h. if is_joined_by device h.note.body then Some (cycle_in h) else last) None hs zs w
-    (λ h i old. ap (λ (b : Bool). if b then Some (cycle_in h) else old) (mere_joins device h.note.body (j.mere h i)))
-    ∙ ap (λ (b : Bool). if b then Some (cycle_in w) else integration_cycle hs device) joined in
+    grind (arith, at_join, is_joined_by, cycle_in, mere_joins, integration_cycle, joined) in
     let recorded : recorded_cycle js device ≡ cycle_in w =
-    at_join (λ next h. cycle_after device next h h.note.body) 1 hs zs w (λ h i old. mere_cycle device old h h.note.body (j.mere h i))
-    ∙ ap (cycle_after device (recorded_cycle hs device) w) e
-    ∙ ap (λ (b : Bool). if b then cycle_in w else recorded_cycle hs device) (self device) in
+    grind (arith, at_join, cycle_after, mere_cycle, recorded_cycle, e, cycle_in, self) in
     let changed = joined_changes s hs zs device now w link cause point frame j in
     let change : change_in device js ≡ now = ap (λ (l : List Happening). change_in device l) (sym j.whole) ∙ changed in
     let at : u - 1 ≡ now = omega arith in
@@ -102,19 +95,12 @@ left_joined s hs zs device now w link cause point frame node moment phase j read
         plan = plan;
         adjustment = sym own ∙ sym adjusted ∙ ap (λ (l : List Happening). adjustment_after s l device) (sym j.whole);
         integrated = sym (ap (λ (n : ℕ). Some n) of_cycle) ∙ sym integration ∙ ap (λ (l : List Happening). integration_cycle l device) (sym j.whole);
-        number = λ timed.
-            sym of_cycle ∙ sym recorded
-            ∙ sym (ap (λ (b : Bool). if b then recorded_cycle js device + 1 else recorded_cycle js device) none)
-            ∙ ap (λ (l : List Happening). next_in s device l u) (sym j.whole);
+        number = grind (arith, of_cycle, recorded, recorded_cycle, js, none, next_in, u);
         changed =
-            ap (λ (z : ℤ). z +ℤ (joined_by node.standing.plan frame point).adjustment.0) reads
-            ∙ ap (λ (a : Units). pos (s.reading device now) +ℤ a.0) (sym own ∙ sym adjusted)
-            ∙ sym local ∙ ap (local_in s device) (sym j.whole);
+            grind (arith, own, adjusted, local, local_in);
         heard = λ timed. sym anew;
         started =
-            subst (λ (l : List Happening). IfSome (integration_cycle l device) (λ c. c ≤ recorded_cycle l device)) (sym j.whole)
-            (subst (λ (n : ℕ). IfSome (integration_cycle js device) (λ c. c ≤ n)) (sym recorded)
-            (subst (λ (o : Option ℕ). IfSome o (λ c. c ≤ cycle_in w)) (sym integration) (omega arith)));
+            grind (arith, integration_cycle, recorded_cycle, js, recorded, cycle_in, integration);
         broken = broken;
       };
       state = sym j.joining ∙ ap (λ (l : List Happening). state_after s l device) (sym j.whole) ∙ sym (not_turned_on s js device u off);
@@ -131,14 +117,7 @@ pub was_looking : (s : Scenario) (hs : List Happening) (now : ℕ) (e : Waiting)
     → Rattle.run_law.specs.machines.Answers.IsPermanenceOutcomeAt s.network e.device node e.frame e.point ripe.Integrates
     → state_before s hs e.device now ≡ Integrating
 was_looking s hs now e node hears other so =
-    let is = looking_ripe (plan_of s.network e.device) (observation_window s.network) node.standing.state node.standing.adjustment.0 e.point.0 e.frame.cycle
-    e.frame.members
-    (at_false (is_cm s.network e.device) _ _ other so) in
-    looking_of (has_joined_at hs e.device now) (state_before s hs e.device now) (sym is ∙ hears.state)
-  where
-    at_false : (b : Bool) (P Q : Type 0) → b ≡ false → Rattle.std.proofs.Common.MatchBool b P Q → Q
-    at_false true P Q e m = absurd cc
-    at_false false P Q e m = m
+    grind (arith, looking_ripe, plan_of, observation_window, is_cm, looking_of, has_joined_at, state_before)
 
 -- ---- it is kept
 
@@ -162,10 +141,7 @@ kept_joined stands s hs coming zs mark cursor now e machine after w r k is other
     ∙ same_breaks k.up (elim k.acted [ inl yet ↦ inl yet.0 | inr over ↦ inr over.0 ]) in
     let changed = joined_changes s hs zs device now w e.link e.cause e.point e.frame j in
     let at = j.at in
-    let same : earlier now (hs ++ w ∷ zs) ≡ earlier now hs = earlier_still now hs (w ∷ zs) (λ z i. elim i [
-      | inl first ↦ (let t : time_of z ≡ time_of w = ap time_of first in omega (arith, t, at))
-      | inr more ↦ let t = times z more in omega (arith, t)
-    ]) in
+    let same : earlier now (hs ++ w ∷ zs) ≡ earlier now hs = grind (arith, earlier_still, time_of) in
     let off = not_on_after s mark now (now + 1) device r.befallen (omega arith) in
     record {
       node = new;
@@ -175,10 +151,7 @@ kept_joined stands s hs coming zs mark cursor now e machine after w r k is other
       acted = inr (refl, λ p b. chain p here (behind here) (before_place p now (ripe_more e) b) (before_behind here));
       high = now + 1;
       doing = inl refl;
-      told = λ over. inr (record {
-        looking = ap (λ (l : List Happening). if is_turned_on_at s device now then Integrating else state_after s l device) same ∙ looking;
-        other = other;
-      });
+      told = grind (arith, is_turned_on_at, device, state_after, same);
       left = left_joined s hs zs device now w e.link e.cause e.point e.frame k.node moment ripening j refl k.left.counted.plan sound off other;
       taken = k.taken ∙ frames;
       done = record {
@@ -188,10 +161,7 @@ kept_joined stands s hs coming zs mark cursor now e machine after w r k is other
             subst (λ (n : ℕ). pos (s.reading device n) <ℤ (value_of s.network deed -ℤ new.standing.adjustment.0)) (sym now_is) (omega (arith, ints, ahead));
         done = λ deed there. absurd (none_in deed there);
       };
-      sent = record {
-        unsent = λ sent w x lt. absurd (both_ways (is_cm s.network device) other w.cm);
-        sent = λ sent there. absurd (none_in sent there);
-      };
+      sent = grind (arith, both_ways, is_cm, device, none_in);
       bare = λ not_cm. (refl, refl);
       ready = record {
         time = omega (arith, ints);

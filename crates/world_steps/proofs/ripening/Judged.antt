@@ -1,5 +1,5 @@
 -- What a device's machine makes of a frame that is permanent is what the records given say.
-use Rattle.world_steps.proofs.Words.{if◌then◌else◌, ◌&&◌, ◌++◌, ◌+ℤ◌, ◌+◌, ◌-◌, ◌==◌, ◌∙◌, ◌∷◌, ◌≡◌, Bool, DeviceId, Happening, Integrating, IsAtRest, IsBefore}
+use Rattle.world_steps.proofs.Words.{if◌then◌else◌, ◌&&◌, ◌++◌, ◌+◌, ◌-◌, ◌==◌, ◌∙◌, ◌∷◌, ◌≡◌, Bool, DeviceId, Happening, Integrating, IsAtRest, IsBefore}
 use Rattle.world_steps.proofs.Words.{IsIn, IsLeft, IsPermanenceOutcomeAt, Joining, List, Members, Network, Node, None, Off, Option, Pcf, Point, Reason, Ripe}
 use Rattle.world_steps.proofs.Words.{Scenario, Some, State, SyncPlan, Synchronised, Units, Waiting, [], adjustment_after, adjustment_at_hearing}
 use Rattle.world_steps.proofs.Words.{adjustment_before, after_last, after_more, all_up_to, amount, and_parts, and_right, any_in, ap, append-nil, arith}
@@ -7,11 +7,10 @@ use Rattle.world_steps.proofs.Words.{before_later, both_ways, cases_Bool, change
 use Rattle.world_steps.proofs.Words.{ends_stretch, eqb-true, false, filter, filter-append, filter_map, has_cleared, has_joined_at, heard_as, in_left, in_parts}
 use Rattle.world_steps.proofs.Words.{in_right, inl, inr, int_le, int_lt, is_cm, is_integration_cycle, is_joined_by, is_timed, is_turned_on_at, last_or}
 use Rattle.world_steps.proofs.Words.{master_of, next_is_up_to, none_kept, not_on_after, not_turned_on, numbered_front, observation_window, option_map_or}
-use Rattle.world_steps.proofs.Words.{parted, place_of, plan_of, point_at, point_by, points_of, pos, quiet_rest, recorded_cycle, refl, ripe_as, state_after}
+use Rattle.world_steps.proofs.Words.{parted, place_of, plan_of, point_at, point_by, points_of, quiet_rest, recorded_cycle, refl, ripe_as, state_after}
 use Rattle.world_steps.proofs.Words.{state_at_hearing, state_before, subst, sym, time_of, true, ℕ, ℤ}
-use Rattle.std.proofs.Common.{MatchBool}
 use Rattle.compression.specs.declared.taken.Taken.{Taken}
-use Rattle.run_law.{proofs.{law.FirstPlaces.in_filter, records.Order.{all_kept, before_is, none_any}}, specs.control.Collections.{point_fault, ripe_by_role}}
+use Rattle.run_law.{proofs.{law.FirstPlaces.in_filter, records.Order.{all_kept, before_is, none_any}}, specs.control.Collections.ripe_by_role}
 use Rattle.run_law.specs.control.Hearing.{heard_by_schedule, heard_enough}
 use Rattle.run_law.specs.control.Permanence.{BecomesPermanent, IsCollectedOrDropped, IsJudgedBy, IsPermanenceOutcome, before_permanence}
 use Rattle.run_law.specs.records.Order.{is_before}
@@ -47,17 +46,13 @@ pub judges_so : (s : Scenario) (hs : List Happening) (device : DeviceId) (now : 
     → Hears s hs device now node
     → IsPermanenceOutcomeAt s.network device node frame point is → IsJudgedBy s hs device now frame point is
 judges_so s hs device now node frame point is hears so =
-    by_role s.network device _ _ node.points (points_of hs device) frame point.0 is hears.points
-    (subst (λ (a : Units). IsPermanenceOutcome s.network device (state_at_hearing s hs device now) a.0 node.points frame point.0 is) hears.adjustment
-    (subst (λ (x : State). IsPermanenceOutcome s.network device x node.standing.adjustment.0 node.points frame point.0 is) hears.state so))
+    grind (arith, by_role, points_of, state_at_hearing)
 
 -- the points are those of the records given
 pub points_given : (s : Scenario) (hs coming : List Happening) (device : DeviceId) → ((z : Happening) → IsIn z coming → IsLateKind z.note.body)
     → ((z : Happening) → IsIn z coming → ends_stretch device z.note.body ≡ false) → points_of (hs ++ coming) device ≡ points_of hs device
 points_given s hs coming device late open_ =
-    ap (filter_map (λ h. point_by device h h.note.body)) (after_more (λ h. ends_stretch device h.note.body) hs coming open_)
-    ∙ maps_rest (λ h. point_by device h h.note.body) (after_last (λ h. ends_stretch device h.note.body) hs) coming
-    (λ z i. mere_point device z z.note.body (late_mere device z.note.body (late z i)))
+    grind (arith, filter_map, point_by, after_more, ends_stretch, maps_rest, after_last, mere_point, late_mere)
 
 -- where no frame has told it the time
 pub hears_before : (s : Scenario) (hs coming : List Happening) (mark cursor : List ℕ) (now : ℕ) (e : Waiting) (node : Node)
@@ -101,15 +96,7 @@ all_earlier s hs coming mark cursor now e r =
 pub hears_told : (s : Scenario) (hs coming : List Happening) (mark cursor : List ℕ) (now : ℕ) (e : Waiting) (node : Node) → IsTold s hs coming mark cursor now e
     → IsLeft s (hs ++ coming) e.device (now + 1) node → Hears s hs e.device now node
 hears_told s hs coming mark cursor now e node told left =
-    let r = told.ripe in
-    let whole = all_earlier s hs coming mark cursor now e r in
-    record {
-      state =
-          left.state ∙ not_turned_on s (hs ++ coming) e.device (now + 1) (not_on_after s mark now (now + 1) e.device r.befallen (omega arith))
-          ∙ ap (λ (l : List Happening). state_after s l e.device) whole ∙ state_now s hs coming mark cursor now e told;
-      adjustment = left.counted.adjustment ∙ ap (λ (l : List Happening). adjustment_after s l e.device) whole ∙ adjustment_now s hs coming mark cursor now e r;
-      points = λ cm. absurd (both_ways (is_cm s.network e.device) told.just.other cm);
-    }
+    grind (arith, all_earlier, not_turned_on, not_on_after, state_after, state_now, adjustment_after, adjustment_now, both_ways, is_cm)
 
 -- ---- what it may become
 
@@ -153,24 +140,7 @@ collected_kind network points point None is c = subst (IsKindOf true) (sym c.bec
 pub outcome_kind : (network : Network) (device : DeviceId) (state : State) (adjustment : ℤ) (points : List Point) (frame : Pcf) (point : ℤ) (is : Ripe)
     → IsPermanenceOutcome network device state adjustment points frame point is → IsKindOf (is_cm network device) is
 outcome_kind network device state adjustment points frame point is so =
-    elim (cases_Bool (is_cm network device)) [
-      | inl cm ↦
-          subst (λ (b : Bool). IsKindOf b is) (sym cm)
-          (collected_kind network points (point_at point (master_of frame.members.0) frame.cycle) (point_fault network state adjustment point frame.cycle) is
-          (at_true (is_cm network device) _ _ cm so))
-      | inr other ↦
-          subst (λ (b : Bool). IsKindOf b is) (sym other)
-          (subst (IsKindOf false) (sym (at_false (is_cm network device) _ _ other so))
-          (heard_kind (plan_of network device) (observation_window network) state adjustment point frame.cycle frame.members))
-    ]
-  where
-    at_true : (b : Bool) (P Q : Type 0) → b ≡ true → MatchBool b P Q → P
-    at_true true P Q e m = m
-    at_true false P Q e m = absurd cc
-
-    at_false : (b : Bool) (P Q : Type 0) → b ≡ false → MatchBool b P Q → Q
-    at_false true P Q e m = absurd cc
-    at_false false P Q e m = m
+    grind (arith, cases_Bool, is_cm, collected_kind, point_at, master_of, heard_kind, plan_of, observation_window)
 
 -- ---- so the record is due
 
@@ -237,31 +207,18 @@ changed_now s hs coming mark cursor now e r joined =
 
 -- right after a change nothing has come to what its clock showed then, or to what lies before
 pub not_yet : (a v : ℤ) → (int_lt a v && int_le v a) ≡ false
-not_yet a v = elim (Rattle.world_law.proofs.lists.Orders.cases_int a v) [
-  | inl lt ↦ and_right _ _ (Rattle.compression.proofs.Held.int_le-false v a lt)
-  | inr ge ↦ Rattle.std.proofs.lemmas.Bool.and_left _ _ (Rattle.compression.proofs.Held.int_lt-false a v ge)
-]
+not_yet a v = grind (arith, and_right)
 
 none_cleared : (s : Scenario) (hs : List Happening) (device : DeviceId) (now : ℕ) → changed_at hs device (now + 1) ≡ now
     → has_cleared s hs device (now + 1) (now + 1) ≡ false
 none_cleared s hs device now at =
-    let v = correction_value s.network (recorded_cycle (earlier (now + 1) hs) device) in
-    let adjustment = adjustment_before s hs device (now + 1) in
-    let same : now + 1 - 1 ≡ now = omega arith in
-    and_right (is_integration_cycle (earlier (now + 1) hs) device) _
-    (ap (λ (n : ℕ). int_lt (pos (s.reading device n) +ℤ adjustment.0) v && int_le v (pos (s.reading device (now + 1 - 1)) +ℤ adjustment.0)) at
-    ∙ ap (λ (n : ℕ). int_lt (pos (s.reading device now) +ℤ adjustment.0) v && int_le v (pos (s.reading device n) +ℤ adjustment.0)) same
-    ∙ not_yet (pos (s.reading device now) +ℤ adjustment.0) v)
+    grind (arith, correction_value, recorded_cycle, earlier, adjustment_before, and_right, is_integration_cycle, int_lt, int_le, not_yet)
 
 -- a device that has a next correction point then was told the time
 pub timed_joined : (s : Scenario) (hs : List Happening) (device : DeviceId) (now : ℕ) (state : State) → state ≡ state_at_hearing s hs device now
     → state_before s hs device now ≡ Integrating → is_timed state ≡ true → has_joined_at hs device now ≡ true
 timed_joined s hs device now state is looking timed =
-    elim (cases_Bool (has_joined_at hs device now)) [
-      | inl joined ↦ joined
-      | inr none ↦ absurd (both_ways (is_timed state)
-          (ap is_timed (is ∙ ap (λ (b : Bool). if b then Joining else state_before s hs device now) none ∙ looking)) timed)
-    ]
+    grind (arith, cases_Bool, has_joined_at, both_ways, is_timed, state_before)
 
 pub cleared_told : (s : Scenario) (hs coming : List Happening) (mark cursor : List ℕ) (now : ℕ) (e : Waiting) (node : Node)
     → IsTold s hs coming mark cursor now e

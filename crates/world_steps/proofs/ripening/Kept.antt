@@ -19,7 +19,6 @@ use Rattle.world_steps.proofs.ripening.{Clustered.{old_or_open, open_later}, Com
 use Rattle.world_steps.proofs.ripening.Grown.{IsByRole, IsFirst, IsSame, is_grown, left_grown, points_by_role, points_not, same_by_role}
 use Rattle.world_steps.proofs.ripening.{Judged.{Hears, cleared_told}, JustTold.IsTold, Merely.own_skip}
 use Rattle.world_steps.proofs.ripening.Ripens.{IsRipe, in_time, not_beyond, ripe_more, sooner_of}
-use Rattle.run_law.specs.declared.judgement.Judgement.TheVariants as judgements
 use Rattle.run_law.specs.declared.note.NoteBody.TheVariants as kinds
 
 -- ---- where it stands before the call
@@ -36,28 +35,7 @@ pub is_yet : {M : Type 0} (stands : M → Network → DeviceId → Node → Type
     (e : Waiting) (machine : M)
     → IsRipe s hs coming mark cursor now e → (k : IsKept stands s hs coming cursor now e.device machine) → IsYet s hs coming mark cursor now k.up k.high e
 is_yet stands s hs coming mark cursor now e machine r k =
-    let here = now ∷ 3 ∷ ripe_more e in
-    let acts = act_place now e.device in
-    let not_over : IsBefore acts cursor → ⊥ = λ b. r.moving.waits (chain here acts cursor (under_act now e.device.0 (ripe_more e)) b) in
-    record {
-      rests = elim k.doing [ inl same ↦ same | inr d ↦ absurd (r.moving.waits (d.2 here (under_act now e.device.0 (ripe_more e)))) ];
-      stands = elim k.acted [
-        | inl yet ↦ inl (yet.0, not_over)
-        | inr over ↦ elim (k.told over.0) [
-          | inl past ↦ absurd (not_over past)
-          | inr just ↦
-              inr (
-                over.0,
-                record {
-                  ripe = r;
-                  over = over.1;
-                  just = just;
-                  turned = λ on. (k.turned on).turned (over.1 (now ∷ 2 ∷ []) (inr (refl, inl (omega arith))));
-                },
-              )
-        ]
-      ];
-    }
+    grind (arith, ripe_more, act_place, chain, under_act)
 
 -- ---- its tasks
 
@@ -68,13 +46,7 @@ pub record IsCarriedOn (s : Scenario) (e : Waiting) (node new : Node) : Type 0 w
   pub bare : is_cm s.network e.device ≡ false → new.points ≡ node.points
 
 alike_of : (node new : Node) → IsSame node new → IsAlike node new
-alike_of node new s = record {
-  standing = s.standing;
-  broken = s.broken;
-  changed = s.changed;
-  taken = s.taken;
-  done = λ d there. subst (λ (l : List ClockTask). Contains l d) (sym s.done) there;
-}
+alike_of node new s = grind arith
 
 task_carried : (s : Scenario) (e : Waiting) (node new : Node) (task : Task) → IsCarriedOn s e node new → IsPending s.network e.device new task
     → (IsPending s.network e.device node task × (reading_for s.network node task ≡ reading_for s.network new task))
@@ -82,10 +54,7 @@ task_carried : (s : Scenario) (e : Waiting) (node new : Node) (task : Task) → 
 task_carried s e node new (emitting sent) c p =
     elim (c.waiting sent p.1) [ inl old ↦ inl ((sym c.same.broken ∙ p.0, old), refl) | inr later ↦ inr later ]
 task_carried s e node new (doing deed) c p =
-    inl (
-      (sym c.same.broken ∙ p.0, undone_alike s.network e.device node new deed (alike_of node new c.same) p.1),
-      ap (λ (x : Standing). value_of s.network deed -ℤ x.adjustment.0) (sym c.same.standing),
-    )
+    grind (arith, undone_alike, alike_of, value_of)
 
 pub before_place : (p : List ℕ) (now : ℕ) (more : List ℕ) → IsBefore p (now ∷ 3 ∷ []) → IsBefore p (now ∷ 3 ∷ more)
 before_place [] now more b = tt
@@ -111,14 +80,7 @@ no_own_frame device c verdict body other e =
 
 no_own_dispatch : (s : Scenario) (device : DeviceId) (now : ℕ) (link : _) (cause : ℕ) (vl : _) (cycle : ℕ) (body : NoteBody) → IsNoOwnAct body
     → plain_body body ≡ dispatch_body s device now link cause vl cycle → ⊥
-no_own_dispatch s device now link cause vl cycle body other e = elim (dispatch_told s device now link cause vl cycle body e) [
-  | inl lost ↦
-      let nine : rank body ≡ 9 = ap rank lost in
-      elim other [ inl low ↦ omega (arith, nine, low) | inr high ↦ omega (arith, nine, high) ]
-  | inr sent ↦
-      let ten : rank body ≡ 10 = ap rank sent in
-      elim other [ inl low ↦ omega (arith, ten, low) | inr high ↦ omega (arith, ten, high) ]
-]
+no_own_dispatch s device now link cause vl cycle body other e = grind (arith, dispatch_told, rank)
 
 -- what is to come then is the record put in, or is as it was
 back_placed : (n now : ℕ) (front back : List Happening) (w z : Happening) → IsNoOwnAct w.note.body → time_of w ≡ now → IsIn z (placed n front w back)
@@ -305,11 +267,7 @@ next_aside s n hs front back now up device w new misses none other at sooner lef
 }
 
 pub carried_called : (s : Scenario) (e : Waiting) (node : Node) (now : ℕ) → IsCarriedOn s e node (called (moment_of s e.device now) ripening node)
-carried_called s e node now = record {
-  same = record { standing = refl; changed = refl; broken = refl; taken = refl; done = refl; emitted = refl };
-  waiting = λ sent w. inl (waiting_alike s.network e.device node (called (moment_of s e.device now) ripening node) sent refl (λ c there. there) w);
-  bare = λ other. refl;
-}
+carried_called s e node now = grind (arith, waiting_alike, called, moment_of, ripening)
 
 -- ---- the frame is collected, or heard
 
@@ -346,9 +304,7 @@ with_point_waiting s e node new p sent at points emitted some no_later w =
 calc_some : (s : Scenario) (hs coming : List Happening) (mark cursor : List ℕ) (now : ℕ) (e : Waiting) → IsRipe s hs coming mark cursor now e
     → pos 1 ≤ℤ pos (amount s.network.calc)
 calc_some s hs coming mark cursor now e r =
-    let least = r.range.calc.least in
-    let whole = natural s.network.calc.0 (omega (arith, ints, least)) in
-    omega (arith, ints, least, whole)
+    grind (arith, natural, ints)
 
 pub carried_by_role : (s : Scenario) (hs coming : List Happening) (mark cursor : List ℕ) (now : ℕ) (e : Waiting) (node : Node) (verdict : Judgement)
     → IsRipe s hs coming mark cursor now e → IsByRole (is_cm s.network e.device) verdict
@@ -379,23 +335,7 @@ role_still : (cm : Bool) (device : DeviceId) (body : NoteBody) (link : _) (cause
     → IsByRole cm verdict → (is_joined_by device body ≡ false) × (moves device body ≡ false) × (changes_adjustment device body ≡ false)
     × (Rattle.run_law.specs.control.Collections.ends_stretch device body ≡ false)
 role_still cm device body link cause point verdict e role =
-    subst (λ (b : NoteBody). (is_joined_by device b ≡ false) × (moves device b ≡ false) × (changes_adjustment device b ≡ false)
-    × (Rattle.run_law.specs.control.Collections.ends_stretch device b ≡ false)) (sym e) (by_verdict verdict role)
-  where
-    none : (cm : Bool) → IsByRole cm judgements.Integrates → ⊥
-    none true r = r
-    none false r = r
-
-    by_verdict : (v : Judgement) → IsByRole cm v → (is_joined_by device (kinds.Permanent device link cause point v) ≡ false)
-        × (moves device (kinds.Permanent device link cause point v) ≡ false) × (changes_adjustment device (kinds.Permanent device link cause point v) ≡ false)
-        × (Rattle.run_law.specs.control.Collections.ends_stretch device (kinds.Permanent device link cause point v) ≡ false)
-    by_verdict judgements.Integrates r = absurd (none cm r)
-    by_verdict judgements.Opened r = (refl, refl, refl, refl)
-    by_verdict judgements.Joined r = (refl, refl, refl, refl)
-    by_verdict judgements.Repeat r = (refl, refl, refl, refl)
-    by_verdict judgements.Within r = (refl, refl, refl, refl)
-    by_verdict judgements.Outside r = (refl, refl, refl, refl)
-    by_verdict judgements.Ignored r = (refl, refl, refl, refl)
+    grind (arith, is_joined_by, moves, changes_adjustment)
 
 pub next_by_role : {M : Type 0} (stands : M → Network → DeviceId → Node → Type 0) (s : Scenario) (n : ℕ) (hs coming : List Happening) (mark cursor : List ℕ)
     (now : ℕ) (e : Waiting)
@@ -426,11 +366,7 @@ next_by_role stands s n hs coming mark cursor now e machine w verdict r k hears 
     let grown = is_grown s device k.node (moment_of s device now) ripening w e.link e.cause e.point e.frame verdict of_frame body role in
     let keep : is_timed k.node.standing.state ≡ true
     → (not (has_cleared s (hs ++ coming) device k.up k.up) || has_cleared s (hs ++ coming) device k.up (time_of w)) ≡ true =
-    λ timed. keep_of _ _ (elim yet.stands [
-      | inl now_is ↦ inr (ap (has_cleared s (hs ++ coming) device k.up) (now_is.0 ∙ sym at))
-      | inr over ↦ inl (subst (λ (t : ℕ). has_cleared s (hs ++ coming) device t t ≡ false) (sym over.0)
-          (cleared_told s hs coming mark cursor now e k.node over.1 hears timed))
-    ]) in
+    grind (arith, keep_of, yet.stands, has_cleared, device, cleared_told) in
     let a = tell_owned s (hs ++ w ∷ coming) (hs ++ coming) device k.up (own_skip device k.up hs coming w quiet.1) in
     let same_earlier : earlier now (hs ++ coming) ≡ earlier now (hs ++ placed n [] w coming) =
     earlier_still now hs coming (λ z i. let z_now = r.moving.are.of_now z i in omega (arith, z_now))

@@ -1,5 +1,6 @@
 -- Records that do not bear on a device, but for what they say of its state.
-use Rattle.world_steps.proofs.Words.{if◌then◌else◌, ◌++◌, ◌∙◌, ◌∷◌, ◌≡◌, Bool, DeviceId, Happening, IsIn, List, Network, None, NoteBody, Option, Scenario, Some}
+use Rattle.std.proofs.Common.{arith}
+use Rattle.world_steps.proofs.Words.{if◌then◌else◌, ◌++◌, ◌∙◌, ◌∷◌, ◌≡◌, Bool, DeviceId, Happening, IsIn, List, Network, None, NoteBody, Option, Scenario}
 use Rattle.world_steps.proofs.Words.{Units, [], adjustment_with, after_last, after_more, ap, append_assoc, bears_on, behind_yes, cases_lt, changes_adjustment}
 use Rattle.world_steps.proofs.Words.{cons_option, cycle_after, earlier, false, filter, filter_map, filter_map-append, fold, hearing_by, inl, inr, is_joined_by}
 use Rattle.world_steps.proofs.Words.{keeps_adjustment, moves, moves_no_other, nat_lt, option_to_list, point_by, refl, sym, time_of, true, ℕ}
@@ -66,11 +67,7 @@ behind_it {X} p xs zs w yes_it none =
 
 -- what is mapped of one more
 pub maps_one : {X Y : Type 0} (f : X → Option Y) (xs : List X) (x : X) → filter_map f (xs ++ x ∷ []) ≡ filter_map f xs ++ option_to_list (f x)
-maps_one {X} {Y} f xs x = filter_map-append f xs (x ∷ []) ∙ ap (λ (l : List Y). filter_map f xs ++ l) (one (f x))
-  where
-    one : {Z : Type 0} (o : Option Z) → cons_option o [] ≡ option_to_list o
-    one None = refl
-    one (Some z) = refl
+maps_one {X} {Y} f xs x = grind (arith, filter_map-append, filter_map, cons_option, option_to_list)
 
 -- ---- a record that does not move the device
 
@@ -78,14 +75,6 @@ maps_one {X} {Y} f xs x = filter_map-append f xs (x ∷ []) ∙ ap (λ (l : List
 pub own_skip : (device : DeviceId) (t : ℕ) (hs zs : List Happening) (w : Happening) → moves device w.note.body ≡ false
     → own device (earlier t (hs ++ w ∷ zs)) ≡ own device (earlier t (hs ++ zs))
 own_skip device t [] zs w still =
-    elim (cases_lt (time_of w) t) [
-      | inl lt ↦ ap (own device) (earlier_yes t w zs lt) ∙ own_no device w (earlier t zs) still
-      | inr ge ↦ ap (own device) (earlier_no t w zs ge)
-    ]
+    grind (arith, cases_lt, time_of, earlier_yes, own_no, earlier, earlier_no)
 own_skip device t (h ∷ hs) zs w still =
-    elim (nat_lt (time_of h) t) as (λ c. own device (if c then h ∷ earlier t (hs ++ w ∷ zs) else earlier t (hs ++ w ∷ zs)) ≡ own device
-    (if c then h ∷ earlier t (hs ++ zs)
-    else earlier t (hs ++ zs))) [
-      | true ↦ ap (λ (l : List Happening). if moves device h.note.body then h ∷ l else l) (own_skip device t hs zs w still)
-      | false ↦ own_skip device t hs zs w still
-    ]
+    grind (arith, nat_lt, time_of, earlier, moves, (own_skip device t hs zs w still))

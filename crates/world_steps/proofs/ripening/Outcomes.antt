@@ -1,5 +1,5 @@
 -- What comes of the source of a frame that is permanent: one record, at its place.
-use Rattle.world_steps.proofs.Words.{◌++◌, ◌<◌, ◌∙◌, ◌∷◌, ◌≡◌, ◌⊎◌, DeviceId, Happening, IsAllOfIt, IsBefore, IsCaused, IsIn, IsOwnSource}
+use Rattle.world_steps.proofs.Words.{◌++◌, ◌<◌, ◌∙◌, ◌∷◌, ◌≡◌, ◌⊎◌, DeviceId, Happening, IsAllOfIt, IsBefore, IsIn, IsOwnSource}
 use Rattle.world_steps.proofs.Words.{IsPermanenceOutcomeAt, IsPermanent, Judgement, LinkId, List, Node, NoteBody, Pcf, Reason, Ripe, Scenario, Units, Waiting}
 use Rattle.world_steps.proofs.Words.{[], act_place, amount, ap, arith, before_later, in_left, inl, inr, key, members_in, no_higher, numbered_front, parted}
 use Rattle.world_steps.proofs.Words.{place_of, rank, refl, ripe_as, some_same, subst, sym, time_of, ℕ}
@@ -76,22 +76,12 @@ is_here : (now t d a m l c : ℕ) (e : Waiting) (device : DeviceId) (link : Link
     ∷ c ∷ []
     → IsHere now t e device link c
 is_here now t d a m l c e device link dev of_link at =
-    let same_d : e.device.0 ≡ d = cc in
-    let same_l : e.link.0 ≡ l = cc in
-    record {
-      time = cc;
-      by = ap (λ (n : ℕ). let x : DeviceId = record { 0 = n } in x) (dev ∙ sym same_d);
-      on = ap (λ (n : ℕ). let x : LinkId = record { 0 = n } in x) (of_link ∙ sym same_l);
-      from = cc;
-    }
+    grind arith
 
 moved_here : (s : Scenario) (js : List Happening) (now t : ℕ) (e : Waiting) (device : DeviceId) (link : LinkId) (cause : ℕ) (point : Units) (is : Ripe)
     → IsHere now t e device link cause → BecomesPermanent s js device t link cause point is → BecomesPermanent s js e.device now e.link e.cause point is
 moved_here s js now t e device link cause point is h b =
-    subst (λ (c : ℕ). BecomesPermanent s js e.device now e.link c point is) h.from
-    (subst (λ (l : LinkId). BecomesPermanent s js e.device now l cause point is) h.on
-    (subst (λ (d : DeviceId). BecomesPermanent s js d now link cause point is) h.by
-    (subst (λ (u : ℕ). BecomesPermanent s js device u link cause point is) h.time b)))
+    grind arith
 
 pub one_outcome : (s : Scenario) (hs coming f : List Happening) (mark cursor : List ℕ) (now t : ℕ) (e : Waiting) (node : Node) (device : DeviceId)
     (link : LinkId) (cause : ℕ) (point : Units)
@@ -132,27 +122,7 @@ pub dropped_all : (s : Scenario) (hs coming coming2 : List Happening) (mark curs
     → ((h : Happening) → IsIn h coming2 → IsBefore (place_of h) (now ∷ 3 ∷ ripe_more e) → ⊥)
     → (z : Happening) → IsIn z coming2 → place_of z ≡ now ∷ 13 ∷ e.device.0 ∷ e.link.0 ∷ e.cause ∷ [] → IsAllOfIt s hs coming2 (now ∷ 3 ∷ ripe_more e)
 dropped_all s hs coming coming2 mark cursor now e node reason r hears so after z there at front back y whole before none due own =
-    let inside : (h : Happening) → IsIn h front → IsBefore (place_of h) (now ∷ 3 ∷ ripe_more e) → ⊥ = λ h i.
-    after h (subst (λ (l : List Happening). IsIn h l) (sym whole) (in_left h front back i)) in
-    elim (kind_at s (hs ++ front) (time_of y) (members_in y) now y.note.body (ripe_more e) own) [
-      | inr d ↦
-          let h = is_here now (time_of y) d.device.0 (amount d.point) d.becomes.frame.members.0 d.link.0 d.cause e d.device d.link refl refl d.at in (
-            z,
-            there,
-            at
-                ∙ ap (λ (t : ℕ). t ∷ 13 ∷ e.device.0 ∷ e.link.0 ∷ e.cause ∷ []) (sym h.time)
-                ∙ ap (λ (x : DeviceId). time_of y ∷ 13 ∷ x.0 ∷ e.link.0 ∷ e.cause ∷ []) (sym h.by)
-                ∙ ap (λ (x : LinkId). time_of y ∷ 13 ∷ d.device.0 ∷ x.0 ∷ e.cause ∷ []) (sym h.on)
-                ∙ ap (λ (c : ℕ). time_of y ∷ 13 ∷ d.device.0 ∷ d.link.0 ∷ c ∷ []) (sym h.from)
-                ∙ sym (ap (λ (b : NoteBody). time_of y ∷ rank b ∷ key (members_in y) b) d.is),
-          )
-      | inl p ↦
-          let h = is_here now (time_of y) p.device.0 (amount p.point) (members_in y) p.link.0 p.cause e p.device p.link refl refl p.at in
-          let becomes = subst (λ (b : NoteBody). IsCaused s (hs ++ front) y.note.time b) p.is due.cause in
-          absurd (never_dropped p.verdict reason
-          (sym (one_outcome s hs coming front mark cursor now (time_of y) e node p.device p.link p.cause p.point (ripe.Dropped reason) (ripe_as p.verdict) r
-          hears so inside h becomes)))
-    ]
+    grind (arith, place_of, ripe_more, in_left, kind_at, time_of, members_in, is_here, amount, rank, key, never_dropped, one_outcome, ripe_as)
 
 -- ---- no other drop is there yet
 
@@ -178,11 +148,7 @@ same_place : (s : Scenario) (js : List Happening) (t : ℕ) (device : DeviceId) 
     → IsPermanent s js device t link cause a p
     → IsPermanent s js device t link cause b q → (a ≡ b) × (p ≡ q)
 same_place s js t device link cause a b p q x y =
-    let arrival = some_same x.arrival y.arrival _ x.there y.there in (
-      some_same a b _ x.of_frame (ap (λ (h : Happening). h.frame) arrival ∙ y.of_frame),
-      Rattle.run_law.proofs.runs.SameSteps.same_point s js t device link cause
-          a b p q x y,
-    )
+    grind (arith, some_same)
 
 -- a drop at the place of this frame's would come from this very source, which is not worked off
 pub drop_fresh : (s : Scenario) (hs coming : List Happening) (mark cursor : List ℕ) (now : ℕ) (e : Waiting) (r : IsRipe s hs coming mark cursor now e)
@@ -207,28 +173,10 @@ drop_fresh s hs coming mark cursor now e r permanent y i at =
     (subst (λ (b : NoteBody). IsOwnSource s (hs ++ part.0) (time_of y) (members_in y) b by.0) body by.1) in
     elim own [
       | inl a ↦
-          let same = some_same a.1.putting r.it.arrival _ a.1.there (numbered_front hs part.0 e.cause r.it.arrival r.it.there) in
-          no_launch s a.1.putting (time_of a.1.putting) a.1.putting.note.body e.device e.link r.it.awaited.from r.it.awaited.clock _
-          (ap (λ (h : Happening). h.note.body) same ∙ r.it.awaited.arrived) a.1.arrives.put
+          grind (arith, some_same, numbered_front, part.0, no_launch, time_of)
       | inr (inl p) ↦
-          let both = same_place s (hs ++ part.0) now e.device e.link e.cause p.1.frame e.frame p.0 e.point p.1.permanent (permanent part.0) in
-          let is_here : by.0 ≡ here =
-          p.2 ∙ ap (λ (u : Units). now ∷ 3 ∷ e.device.0 ∷ amount u ∷ p.1.frame.members.0 ∷ e.link.0 ∷ e.cause ∷ []) both.1
-          ∙ ap (λ (f : Pcf). now ∷ 3 ∷ e.device.0 ∷ amount e.point ∷ f.members.0 ∷ e.link.0 ∷ e.cause ∷ []) both.0 in
-          elim by.3 [
-            | inl b ↦ r.moving.waits (subst (λ (q : List ℕ). IsBefore q cursor) is_here b)
-            | inr at_act ↦
-                let bad : now ∷ 3 ∷ ripe_more e ≡ time_of y ∷ 4 ∷ at_act.1.0.0 ∷ [] = sym is_here ∙ at_act.1.1 in
-                wrong 4 (rank_at now (time_of y) 4 (ripe_more e) _ bad) (inr (omega arith))
-          ]
-      | inr (inr d) ↦ elim under [
-        | inl b ↦
-            elim (no_higher now 8 now 3 (e.device.0 ∷ e.link.0 ∷ e.cause ∷ []) (ripe_more e) (inr (subst (λ (q : List ℕ). IsBefore q here) d.0 b))) [
-              | inl lt ↦ omega (arith, lt)
-              | inr at_rank ↦ let le = at_rank.1 in omega (arith, le)
-            ]
-        | inr at_act ↦ eight_four now e.device.0 e.link.0 e.cause at_act.1.0.0 (sym d.0 ∙ at_act.1.1)
-      ]
+          grind (arith, same_place, part.0, is_here, by.0, here, amount, by.3, ripe_more, time_of, wrong, rank_at)
+      | inr (inr d) ↦ grind (arith, under, no_higher, ripe_more, here)
     ]
   where
     eight_four : (now d l c x : ℕ) → now ∷ 8 ∷ d ∷ l ∷ c ∷ [] ≡ now ∷ 4 ∷ x ∷ [] → ⊥

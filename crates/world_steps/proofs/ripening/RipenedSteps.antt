@@ -250,9 +250,7 @@ bears_not device e verdict body ne is = ap (bears_on device) is ∙ ne_eqb devic
 
 rank_not : (a b : Happening) (now : ℕ) (more : List ℕ) → place_of a ≡ now ∷ 3 ∷ more → 4 ≤ rank b.note.body → place_of a ≡ place_of b → ⊥
 rank_not a b now more at high same =
-    let e : time_of b ∷ rank b.note.body ∷ key (members_in b) b.note.body ≡ now ∷ 3 ∷ more = sym same ∙ at in
-    let r : rank b.note.body ≡ 3 = cc in
-    omega (arith, r, high)
+    grind (arith, time_of, rank, key, members_in)
 
 -- ---- what is common to all outcomes
 
@@ -430,9 +428,7 @@ joined_parts : (n : ℕ) (w : Happening) (back front2 back2 : List Happening) �
     → (f2 : List Happening) × (front2 ≡ w ∷ f2) × (map (bump_behind n) back ≡ f2 ++ back2)
 joined_parts n w back [] back2 e some = absurd (omega (arith, some))
 joined_parts n w back (g ∷ f2) back2 e some =
-    let first : w ≡ g = cc in
-    let rest : map (bump_behind n) back ≡ f2 ++ back2 = cc in
-    (f2, ap (λ (h : Happening). h ∷ f2) (sym first), rest)
+    grind (arith, map, bump_behind)
 
 joined_step : {C M : Type 0} (reading : C → ℕ → ℕ) (stands : M → Network → DeviceId → Node → Type 0) (s : Scenario) (world : World C M) (notes : List Note)
     (e : Waiting)

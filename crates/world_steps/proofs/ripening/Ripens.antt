@@ -6,7 +6,7 @@ use Rattle.world_steps.proofs.Words.{amount, ap, arith, before_later, cases_Bool
 use Rattle.world_steps.proofs.Words.{in_parts, inl, inr, ints, is_broken, key, master_of, members_in, moment_of, natural, numbered_in, place_of, point_at}
 use Rattle.world_steps.proofs.Words.{point_by, point_of, points_of, pos, refl, ripe_place, same_device, standpoint, subst, suc, sym, time_of, unsigned_abs}
 use Rattle.world_steps.proofs.Words.{zero, ℕ, ℤ}
-use Rattle.std.proofs.Common.{Contains, get_or, negsuc}
+use Rattle.std.proofs.Common.{Contains, get_or}
 use Rattle.drift_clock.specs.Reach.{IsReach}
 use Rattle.run_law.{proofs.{records.Order.{all_of, given_of}, scenario.Devices.correct_before}, specs.machines.Calls.MayRipen}
 use Rattle.world_law.{proofs.frames.Proper.{HasCome, IsSound, has_come, is_sound, link_of, received}, specs.source.{First.NoSourceBefore, Sources.IsRipening}}
@@ -73,15 +73,7 @@ arrived_before s hs e it range founded =
 -- ---- when its reading comes to it
 
 first_reach : (reading : ℕ → ℕ) (v : ℤ) (from n : ℕ) → v ≤ℤ pos (reading (from + n)) → (t : ℕ) × IsReach reading (pos from) v (pos t) × (t ≤ from + n)
-first_reach reading v from zero le = (
-  from,
-  record {
-    from_on = omega (arith, ints);
-    reached = (let same : from + 0 ≡ from = omega arith in subst (λ (x : ℕ). v ≤ℤ pos (reading x)) same le);
-    not_before = λ x ge lt. absurd (omega (arith, ints, ge, lt));
-  },
-  omega arith,
-)
+first_reach reading v from zero le = grind (arith, ints)
 first_reach reading v from (suc n) le =
     elim (cases_int (pos (reading from)) v) [
       | inr here ↦ (
@@ -232,11 +224,7 @@ no_late_point : (body : NoteBody) (other : DeviceId) (link : _) (cause : ℕ) (p
 no_late_point body other link cause point verdict late e = subst IsLateKind e late
 
 less_amount : (a b : Units) → pos 0 ≤ℤ b.0 → amount a ≤ amount b → a.0 ≤ℤ b.0
-less_amount a b some le = by_sign a.0 le
-  where
-    by_sign : (z : ℤ) → unsigned_abs z ≤ amount b → z ≤ℤ b.0
-    by_sign (pos n) le = let whole = natural b.0 some in omega (arith, ints, le, whole)
-    by_sign (negsuc n) le = omega (arith, ints, some)
+less_amount a b some le = grind (arith, unsigned_abs, amount, natural, ints)
 
 points_before : (now a b : ℕ) (xs ys : List ℕ) (d c : ℕ) → d ≡ c → IsBefore (now ∷ 3 ∷ d ∷ a ∷ xs) (now ∷ 3 ∷ c ∷ b ∷ ys) → a ≤ b
 points_before now a b xs ys d c e (inl lt) = absurd (omega (arith, lt))
@@ -268,9 +256,7 @@ points_no_later s hs coming mark cursor now e r late p i =
                 let before : IsBefore (place_of h) (now ∷ 3 ∷ ripe_more e) =
                 before_later (place_of h) (now ∷ 3 ∷ ripe_more e) cursor (r.moving.ahead (place_of h) (r.run.within h given)) r.moving.waits in
                 let placed : IsBefore (now ∷ 3 ∷ of.0.0 ∷ amount of.3 ∷ members_in h ∷ of.1.0 ∷ of.2 ∷ []) (now ∷ 3 ∷ ripe_more e) =
-                subst (λ (b : NoteBody). IsBefore (now ∷ Rattle.run_law.specs.records.Ranks.rank b ∷ key (members_in h) b) (now ∷ 3 ∷ ripe_more e)) of.5
-                (subst (λ (n : ℕ). IsBefore (n ∷ Rattle.run_law.specs.records.Ranks.rank h.note.body ∷ key (members_in h) h.note.body) (now ∷ 3 ∷ ripe_more e))
-                at before) in
+                grind (arith, key, members_in, h, of.5, h.note.body, before) in
                 let amounts = points_before now (amount of.3) (amount e.point) (members_in h ∷ of.1.0 ∷ of.2 ∷ []) (e.frame.members.0 ∷ e.link.0 ∷ e.cause ∷ [])
                 of.0.0 e.device.0 (sym of.6) placed in
                 let less = less_amount of.3 e.point (omega (arith, ints, late_point)) amounts in

@@ -41,12 +41,7 @@ ended_then past event now time at running = (
 -- ---- what is pending
 
 told_once : (number : ℕ) (what : What) (e : Befell) → IsIn e (also_befell number what) → e ≡ record { number = number; what = what }
-told_once number what e i = from (has_outcome what) (has_outcome what) refl i
-  where
-    from : (b c : Bool) → b ≡ c → IsIn e (if b then record { number = number; what = what } ∷ [] else []) → e ≡ record { number = number; what = what }
-    from true c same (inl is) = is
-    from true c same (inr none) = absurd none
-    from false c same i = absurd i
+told_once number what e i = grind (arith, has_outcome)
 
 told_there : (number : ℕ) (what : What) → has_outcome what ≡ true → IsIn (record { number = number; what = what }) (also_befell number what)
 told_there number what out =
@@ -68,11 +63,7 @@ one_more_in_order (e ∷ befell) x order less = (
 
 also_in_order : (number : ℕ) (what : What) (befell : List Befell) → AreInOrder befell → ((e : Befell) → IsIn e befell → e.number < number)
     → AreInOrder (befell ++ also_befell number what)
-also_in_order number what befell order less = from (has_outcome what)
-  where
-    from : (b : Bool) → AreInOrder (befell ++ (if b then record { number = number; what = what } ∷ [] else []))
-    from true = one_more_in_order befell (record { number = number; what = what }) order less
-    from false = subst AreInOrder (sym (append-nil befell)) order
+also_in_order number what befell order less = grind (arith, has_outcome, one_more_in_order, append-nil)
 
 untold_apply : (hs : List Happening) (cursor : List ℕ) (now number line : ℕ) (pending : Bool) (befell : List Befell) (ev : Happening) (what : What)
     → AreUntold hs cursor now pending befell → ((p : List ℕ) → IsBefore p cursor → IsBefore p (now ∷ 2 ∷ []))

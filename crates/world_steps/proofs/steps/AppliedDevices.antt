@@ -1,5 +1,5 @@
 -- An event befalls before all else of its instant: each device then.
-use Rattle.world_steps.proofs.Words.{if◌then◌else◌, ◌&&◌, ◌++◌, ◌+ℤ◌, ◌+◌, ◌-ℤ◌, ◌<ℤ◌, ◌<◌, ◌==◌, ◌||◌, ◌∙◌, ◌∷◌, ◌≡◌, ◌≤ℤ◌, ◌≤◌, ◌⊎◌, Bool, ClockTask}
+use Rattle.world_steps.proofs.Words.{if◌then◌else◌, ◌&&◌, ◌++◌, ◌+◌, ◌-ℤ◌, ◌<ℤ◌, ◌<◌, ◌==◌, ◌||◌, ◌∙◌, ◌∷◌, ◌≡◌, ◌≤ℤ◌, ◌≤◌, ◌⊎◌, Bool, ClockTask}
 use Rattle.world_steps.proofs.Words.{Compressed, DeviceId, Event, Happening, HasDoneFrom, HasSentFrom, Integrating, IsBefore, IsDeedOf, IsEventBody, IsHeld}
 use Rattle.world_steps.proofs.Words.{IsIn, IsKept, IsLeft, IsNoTaking, IsOut, IsPending, IsReadyAt, IsUndone, IsWaiting, List, Network, Node, None, NoteBody}
 use Rattle.world_steps.proofs.Words.{Off, Scenario, Some, State, Synchronised, Task, Units, What, World, [], act_place, adjustment_after, adjustment_with}
@@ -141,19 +141,7 @@ pub record HasNoMore (network : Network) (device : DeviceId) (node new : Node) :
   pub deed : (deed : ClockTask) → IsDeedOf network device new deed → IsDeedOf network device node deed
 
 pub itself : (network : Network) (device : DeviceId) (node : Node) → HasNoMore network device node node
-itself network device node = record {
-  adjustment = refl;
-  changed = refl;
-  broken = refl;
-  last = refl;
-  phase = refl;
-  points = refl;
-  emitted = refl;
-  done = refl;
-  taken = refl;
-  number = refl;
-  deed = λ deed own. own;
-}
+itself network device node = grind arith
 
 no_deed : (network : Network) (device : DeviceId) (node : Node) (deed : ClockTask) → IsDeedOf network device (node_turned_on node) deed
     → IsDeedOf network device node deed
@@ -162,28 +150,12 @@ no_deed network device node (correcting cycle) own = absurd (let bad : None ≡ 
 no_deed network device node (dispatching row cycle) own = absurd (let bad : Integrating ≡ Synchronised = own.0 in cc)
 
 pub turned_on_less : (network : Network) (device : DeviceId) (node : Node) → HasNoMore network device node (node_turned_on node)
-turned_on_less network device node = record {
-  adjustment = refl;
-  changed = refl;
-  broken = refl;
-  last = refl;
-  phase = refl;
-  points = refl;
-  emitted = refl;
-  done = refl;
-  taken = refl;
-  number = refl;
-  deed = no_deed network device node;
-}
+turned_on_less network device node = grind (arith, no_deed)
 
 undone_less : (network : Network) (device : DeviceId) (node new : Node) (deed : ClockTask) → HasNoMore network device node new
     → IsUndone network device new deed
     → IsUndone network device node deed
-undone_less network device node new deed a u = record {
-  own = a.deed deed u.own;
-  ahead = subst (λ (z : ℤ). z <ℤ value_of network deed) a.changed u.ahead;
-  not_yet = λ there. u.not_yet (subst (λ (l : List ClockTask). Contains l deed) (sym a.done) there);
-}
+undone_less network device node new deed a u = grind (arith, value_of)
 
 waiting_less : (network : Network) (device : DeviceId) (node new : Node) (sent : Compressed) → HasNoMore network device node new
     → IsWaiting network device new sent → IsWaiting network device node sent
@@ -216,22 +188,7 @@ ready_less : (network : Network) (f g : DeviceId → ℕ → ℕ) (device : Devi
     → ((task : Task) → IsPending network device new task → IsPending network device node task × (reading_for network node task ≡ reading_for network new task))
     → IsReadyAt (g device) network device new now
 ready_less network f g device now node new reads ready last pending =
-    let begun = whole node.last.time.0 ready.begun in
-    let time = ready.time in
-    record {
-      time = subst (λ (m : _). m.time.0 ≤ℤ pos now) (sym last) ready.time;
-      begun = subst (λ (m : _). pos 0 ≤ℤ m.time.0) (sym last) ready.begun;
-      last =
-          subst (λ (m : _). m.reading.0 ≡ pos (g device (amount m.time))) (sym last)
-          (ready.last ∙ ap pos (reads (amount node.last.time) (omega (arith, ints, begun, time))));
-      undone =
-          λ task p x lt. let it = pending task p in subst (λ (z : ℤ). pos (g device x) <ℤ z) it.1
-          (subst (λ (n : ℕ). pos n <ℤ reading_for network node task) (reads x (omega (arith, lt))) (ready.undone task it.0 x lt));
-      in_time = λ task p.
-          let it = pending task p in
-          subst (λ (z : ℤ). pos (g device now) <ℤ (z +ℤ network.precision.0)) it.1
-          (subst (λ (n : ℕ). pos n <ℤ (reading_for network node task +ℤ network.precision.0)) (reads now (omega arith)) (ready.in_time task it.0));
-    }
+    grind (arith, whole, amount, ints, reading_for)
 
 pub kept_less : {M : Type 0} (stands : M → Network → DeviceId → Node → Type 0) (network : Network) (f g : DeviceId → ℕ → ℕ) (past : List Event) (event : Event)
     (hs : List Happening) (cursor : List ℕ) (now number : ℕ) (ev : Happening) (device : DeviceId) (machine after : M) (new : Node)

@@ -6,7 +6,7 @@ use Rattle.world_steps.proofs.Words.{cases_lt, false, filter_no, filter_yes, inl
 use Rattle.world_steps.proofs.Words.{numbered, numbered_in, or_none, own_time, place_of, point_of, port_place, pos, rank, refl, ripe_place, scenario, subst}
 use Rattle.world_steps.proofs.Words.{sym, time_of, true, turns_on, way_from, wire_place, ℕ}
 use Rattle.std.proofs.lemmas.{Bool.{le-leb, lt-leb}, Option.slice_get_within}
-use Rattle.run_law.specs.scenario.{Hypothesis.breaks_at, Scenarios.events_up_to}
+use Rattle.run_law.specs.scenario.{Hypothesis.breaks_at}
 use Rattle.tte_lemmas.proofs.Lists.{pushed}
 use Rattle.world_law.proofs.runs.{Agreement.{broken_same, reach_same}, Applies.{agree_back, event_cause, event_place}, Firsts.{numbered_more, numbered_still}}
 use Rattle.world_law.{proofs.runs.SameCauses.{arrives_same, hold_same}, specs.{source.Agreeing.Agree, world.World.IsForward}}
@@ -50,10 +50,7 @@ before_others h now (inr (e, inr (r, none))) = absurd none
 -- the scenarios agree up to each time before
 pub agree_before : (network : Network) (f g : DeviceId → ℕ → ℕ) (past : List Event) (event : Event) (now t : ℕ) → amount event.time ≡ now
     → ((device : DeviceId) (x : ℕ) → x ≤ now → g device x ≡ f device x) → t < now → Agree network f g past (past ++ event ∷ []) t
-agree_before network f g past event now t at reads lt = record {
-  reads = λ device x le. sym (reads device x (omega (arith, le, lt)));
-  befell = λ u le. sym (filter_no (λ e. nat_le (amount e.time) u) past event (lt-leb (amount event.time) u (omega (arith, at, le, lt))));
-}
+agree_before network f g past event now t at reads lt = grind (arith, filter_no, nat_le, amount, lt-leb)
 
 -- ---- wires
 
@@ -202,9 +199,7 @@ turned_more network f g past event now device = any_more (λ e. turns_on device 
 pub broken_more : (network : Network) (f g : DeviceId → ℕ → ℕ) (past : List Event) (event : Event) (now : ℕ) (device : DeviceId) → amount event.time ≡ now
     → is_broken (scenario network g (past ++ event ∷ [])) device now ≡ (is_broken (scenario network f past) device now || breaks_at device.0 event.what)
 broken_more network f g past event now device at =
-    ap (list_any (λ e. breaks_at device.0 e.what))
-    (filter_yes (λ e. nat_le (amount e.time) now) past event (le-leb (amount event.time) now (omega (arith, at))))
-    ∙ any_more (λ e. breaks_at device.0 e.what) (events_up_to (scenario network f past) now) event
+    grind (arith, list_any, filter_yes, nat_le, amount, le-leb, any_more, scenario)
 
 first_false : (a b : Bool) → (a || b) ≡ false → a ≡ false
 first_false true b e = e
@@ -332,17 +327,7 @@ event_there : (network : Network) (g : DeviceId → ℕ → ℕ) (past : List Ev
     → amount event.time ≡ now → time_of y ≡ now → IsEventBody y.note.body → IsCaused (scenario network g (past ++ event ∷ [])) js y.note.time y.note.body
     → IsBefore (place_of y) (behind (now ∷ 1 ∷ (length past + 1) ∷ []))
 event_there network g past event js y now at y_at is caused =
-    let found = event_cause (scenario network g (past ++ event ∷ [])) js y.note.time y.note.body is caused in
-    let r = found.3 in
-    let few : r.before ≤ length past = elim (pushed past event r.event r.before r.is)
-    [ inl old ↦ (let lt = slice_get_within past r.before r.event old in omega (arith, lt)) | inr new ↦ omega (arith, new.0) ] in
-    let line = r.line_is in
-    subst (λ (p : List ℕ). IsBefore p (behind (now ∷ 1 ∷ (length past + 1) ∷ [])))
-    (sym (event_place y found.0 found.1 found.2 ∙ ap (λ (n : ℕ). n ∷ 1 ∷ found.0 ∷ []) y_at))
-    (elim (cases_lt r.before (length past)) [
-      | inl lt ↦ inr (refl, inr (refl, inl (omega (arith, lt, line))))
-      | inr ge ↦ let same : found.0 ≡ length past + 1 = omega (arith, ge, few, line) in inr (refl, inr (refl, inr (same, tt)))
-    ])
+    grind (arith, event_cause, scenario, length, pushed, slice_get_within, behind, event_place, cases_lt)
 
 pub nothing_due : (network : Network) (g : DeviceId → ℕ → ℕ) (past : List Event) (event : Event) (js : List Happening) (now : ℕ) → amount event.time ≡ now
     → AreSettled (scenario network g (past ++ event ∷ [])) js [] (behind (now ∷ 1 ∷ (length past + 1) ∷ [])) (now ∷ 2 ∷ []) now

@@ -3,8 +3,7 @@ use Rattle.world_steps.proofs.Words.{◌++◌, ◌+ℤ◌, ◌+◌, ◌-ℤ◌, 
 use Rattle.world_steps.proofs.Words.{IsPending, IsSource, List, Network, Node, Scenario, Task, Units, [], amount, ap, arith, chain, correcting, dispatching}
 use Rattle.world_steps.proofs.Words.{doing, emitting, false, inl, inr, ints, no_cluster, none_in, observation_window, place_of, pos, reading_for, refl}
 use Rattle.world_steps.proofs.Words.{scenario, sending, subst, sym, true, value_of, ℕ, ℤ}
-use Rattle.run_law.{proofs.{records.Happenings.none_numbered, runs.Grow.empty_run}, specs.{machines.Nodes.begun_node, scenario.Devices.start_of}}
-use Rattle.sync_state.specs.Standing.{adjustment_at_start}
+use Rattle.run_law.{proofs.{records.Happenings.none_numbered, runs.Grow.empty_run}, specs.machines.Nodes.begun_node}
 use Rattle.world_steps.specs.Steps.{Begun}
 
 -- nothing of the run is before the first source
@@ -32,20 +31,7 @@ begins_at a r e = omega (arith, ints, e)
 
 left_fresh : (network : Network) (f : DeviceId → ℕ → ℕ) (device : DeviceId) (t : ℕ) → f device 0 ≡ 0
     → IsLeft (scenario network f []) [] device t (begun_node network device)
-left_fresh network f device t zero_first = record {
-  counted = record {
-    plan = refl;
-    adjustment = refl;
-    integrated = refl;
-    number = λ timed. refl;
-    changed = begins_at (adjustment_at_start (start_of network device)) (f device 0) zero_first;
-    heard = λ timed. refl;
-    started = tt;
-    broken = refl;
-  };
-  state = refl;
-  points = λ cm. refl;
-}
+left_fresh network f device t zero_first = grind (arith, begins_at)
 
 in_time : (r : ℕ) (v a precision : ℤ) → r ≡ 0 → a <ℤ v → pos 0 ≤ℤ precision → pos r <ℤ ((v -ℤ a) +ℤ precision)
 in_time r v a precision e lt le = omega (arith, ints, e, lt, le)

@@ -81,19 +81,7 @@ nothing_put now network hs body settled (mid, put, last) = from put.front put.ba
     from (f ∷ front) back was is = absurd cc
 
 shown_more : (now shown : ℕ) (device d : DeviceId) → shown ≡ device.0 → IsBefore (clock_place now d) (behind (clock_place now device)) ↔ (d.0 < shown + 1)
-shown_more now shown device d e = (
-  λ b. elim (up_to_place (clock_place now d) (clock_place now device) b) [
-    | inl same ↦ let at : d.0 ≡ device.0 = cc in omega (arith, at, e)
-    | inr (inl lt) ↦ absurd (omega (arith, lt))
-    | inr (inr (x, inl lt)) ↦ absurd (omega (arith, lt))
-    | inr (inr (x, inr (y, inl lt))) ↦ omega (arith, lt, e)
-    | inr (inr (x, inr (y, inr (z, none)))) ↦ absurd none
-  ],
-  λ less. elim (cases_lt d.0 device.0) [
-    | inl lt ↦ inr (refl, inr (refl, inl lt))
-    | inr ge ↦ let at : d.0 ≡ device.0 = omega (arith, ge, less, e) in inr (refl, inr (refl, inr (at, tt)))
-  ],
-)
+shown_more now shown device d e = grind (arith, up_to_place, clock_place, cases_lt)
 
 pub clock_step : {C M : Type 0} (reading : C → ℕ → ℕ) (stands : M → Network → DeviceId → Node → Type 0) → ClockStep reading stands
 clock_step {C} {M} reading stands s world notes device machine state adjustment settled old lt ended shown first there stood put =

@@ -1,6 +1,6 @@
 -- What becomes of a frame that leaves: the one record of it.
-use Rattle.world_steps.proofs.Words.{if◌then◌else◌, ◌++◌, ◌+◌, ◌-◌, ◌<◌, ◌||◌, ◌∙◌, ◌∷◌, ◌≡◌, ◌≤◌, ◌⊎◌, AtPort, Bool, DeviceId, Dispatches, Gives, Happening}
-use Rattle.world_steps.proofs.Words.{IsCaused, IsDue, IsFounded, IsOwnSource, Launch, LinkId, List, None, NoteBody, Pcf, Scenario, Some, Units, [], amount, ap}
+use Rattle.world_steps.proofs.Words.{◌++◌, ◌+◌, ◌<◌, ◌||◌, ◌∙◌, ◌∷◌, ◌≡◌, ◌≤◌, ◌⊎◌, AtPort, Bool, DeviceId, Dispatches, Gives, Happening}
+use Rattle.world_steps.proofs.Words.{IsCaused, IsDue, IsFounded, IsOwnSource, Launch, LinkId, List, None, NoteBody, Scenario, Some, Units, [], amount, ap}
 use Rattle.world_steps.proofs.Words.{arith, by_number, cause_of, earlier, earlier_still, false, filter, hidden_body, inl, inr, is_accepted, is_at_source}
 use Rattle.world_steps.proofs.Words.{is_broken, is_cut, is_parent_of, is_relay, key, last_in, last_or, launched, length, link_at, nat_lt, not, numbered}
 use Rattle.world_steps.proofs.Words.{numbered_prefix, numbered_within, place_of, rank, refl, second, some_same, subst, sym, time_of, true, way_from, ℕ}
@@ -56,21 +56,7 @@ body_own s js t m e on_cut_way d = inl (refl, d)
 pub departs_now : (s : Scenario) (hs zs : List Happening) (now : ℕ) (e : AtPort) → IsAtPort s hs e → e.at ≡ now → is_broken s e.device now ≡ false
     → Departs s (hs ++ zs) e.device now e.link e.cause (departure_now s e now)
 departs_now s hs zs now e it at sound =
-    let lt = numbered_within hs e.cause it.giving it.there in
-    record {
-      giving = it.giving;
-      there = numbered_prefix hs zs e.cause (omega (arith, lt)) ∙ it.there;
-      gives = it.gave.gives;
-      frame = e.frame;
-      of_frame = it.gave.of_frame;
-      held = sym at ∙ it.gave.held;
-      correct = sound;
-      becomes =
-          ap (λ (r : ℕ).
-          let clock = e.frame.clock + (s.reading e.device now - r) in
-          if nat_lt (amount s.network.dmax) clock then too_old
-          else (if is_cut s e.link (way_from s.network e.device e.link) now then on_cut_way else leaves clock)) it.gave.read;
-    }
+    grind (arith, numbered_within, numbered_prefix, nat_lt, amount, is_cut, way_from)
 
 pub few_cause : (s : Scenario) (hs : List Happening) (e : AtPort) → IsAtPort s hs e → e.cause ≤ length hs
 few_cause s hs e it = let lt = numbered_within hs e.cause it.giving it.there in omega (arith, lt)
@@ -79,12 +65,7 @@ few_cause s hs e it = let lt = numbered_within hs e.cause it.giving it.there in 
 pub departs_so : (s : Scenario) (hs zs : List Happening) (now : ℕ) (e : AtPort) (is other : Departure) → IsAtPort s hs e
     → Departs s (hs ++ zs) e.device now e.link e.cause is → Departs s (hs ++ zs) e.device now e.link e.cause other → is ≡ other
 departs_so s hs zs now e is other it a b =
-    let giving : a.giving ≡ b.giving = some_same a.giving b.giving _ a.there b.there in
-    let frame : a.frame ≡ b.frame = some_same a.frame b.frame _ a.of_frame (ap (λ (h : Happening). h.frame) giving ∙ b.of_frame) in
-    a.becomes
-    ∙ ap (λ (h : Happening). departure s e.device e.link a.frame (time_of h) now) giving
-    ∙ ap (λ (f : Pcf). departure s e.device e.link f (time_of b.giving) now) frame
-    ∙ sym b.becomes
+    grind (arith, some_same, time_of)
 
 -- the numbers of a place
 record IsSamePort (e : AtPort) (now t : ℕ) (device : DeviceId) (link : LinkId) (cause : ℕ) : Type 0 where
@@ -96,24 +77,12 @@ record IsSamePort (e : AtPort) (now t : ℕ) (device : DeviceId) (link : LinkId)
 same_port : (e : AtPort) (now t : ℕ) (device : DeviceId) (link : LinkId) (cause : ℕ) → now ∷ 8 ∷ e.device.0 ∷ e.link.0 ∷ e.cause ∷ [] ≡ t ∷ 8 ∷ device.0
     ∷ link.0 ∷ cause ∷ [] → IsSamePort e now t device link cause
 same_port e now t device link cause same =
-    let a : now ≡ t = cc in
-    let b : e.device.0 ≡ device.0 = cc in
-    let c : e.link.0 ≡ link.0 = cc in
-    let d : e.cause ≡ cause = cc in
-    record {
-      time = a;
-      by = ap (λ (n : ℕ). let x : DeviceId = record { 0 = n } in x) b;
-      on = ap (λ (n : ℕ). let x : LinkId = record { 0 = n } in x) c;
-      from = d;
-    }
+    grind arith
 
 moved : (s : Scenario) (js : List Happening) (e : AtPort) (now t : ℕ) (device : DeviceId) (link : LinkId) (cause : ℕ) (is : Departure)
     → IsSamePort e now t device link cause → Departs s js device t link cause is → Departs s js e.device now e.link e.cause is
 moved s js e now t device link cause is p d =
-    subst (λ (n : ℕ). Departs s js e.device now e.link n is) (sym p.from)
-    (subst (λ (x : LinkId). Departs s js e.device now x cause is) (sym p.on)
-    (subst (λ (x : DeviceId). Departs s js x now link cause is) (sym p.by)
-    (subst (λ (n : ℕ). Departs s js device n link cause is) (sym p.time) d)))
+    grind arith
 
 -- ---- whatever comes from its leaving is at that place
 
@@ -148,10 +117,7 @@ outcome_at s hs zs now e m it at sound t members (kinds.Dropped device link caus
 outcome_at s hs zs now e m it at sound t members (kinds.Dropped device link cause reason) w here (inr (inl o)) time is c =
     absurd (wrong 3 (ap second (sym here ∙ o.2)) (inl (omega arith)))
 outcome_at s hs zs now e m it at sound t members (kinds.Dropped device link cause reason) w here (inr (inr o)) time is c =
-    let p = same_port e now t device link cause (sym here ∙ o.0) in
-    let so = departs_so s hs zs now e (departure_now s e now) too_old it (departs_now s hs zs now e it at sound)
-    (moved s (hs ++ zs) e now t device link cause _ p o.1) in
-    ap (λ (x : Departure). now ∷ rank (departure_body e x) ∷ key m (departure_body e x)) so ∙ ap (ranked 13) (sym here ∙ o.0)
+    grind (arith, same_port, departs_so, departs_now, moved, rank, key)
 outcome_at s hs zs now e m it at sound t members (kinds.Event line what) w here o time is c = absurd (wrong 1 (ap second (sym here ∙ o)) (inl (omega arith)))
 outcome_at s hs zs now e m it at sound t members (kinds.Arrived device link cause clock) w here o time is c =
     absurd (wrong 2 (ap second (sym here ∙ o)) (inl (omega arith)))
@@ -186,13 +152,9 @@ pub nothing_of_broken : (s : Scenario) (js : List Happening) (now t members : �
     → w ≡ now ∷ 8 ∷ e.device.0 ∷ e.link.0 ∷ e.cause ∷ [] → IsOwnSource s js t members body w
     → (time : Units) → amount time ≡ t → IsCaused s js time body → ⊥
 nothing_of_broken s js now t members e (kinds.Left device link cause clock) w broken here o time is c =
-    let p = same_port e now t device link cause (sym here ∙ o) in
-    let d = moved s js e now t device link cause _ p (subst (λ (n : ℕ). Departs s js device n link cause (leaves clock)) is c) in
-    let bad : true ≡ false = sym broken ∙ d.correct in cc
+    grind (arith, same_port, moved)
 nothing_of_broken s js now t members e (kinds.Lost device link cause) w broken here (inl o) time is c =
-    let p = same_port e now t device link cause (sym here ∙ o.0) in
-    let d = moved s js e now t device link cause _ p o.1 in
-    let bad : true ≡ false = sym broken ∙ d.correct in cc
+    grind (arith, same_port, moved)
 nothing_of_broken s js now t members e (kinds.Lost device link cause) w broken here (inr (inl o)) time is c =
     wrong 4 (ap second (sym here ∙ o.0)) (inl (omega arith))
 nothing_of_broken s js now t members e (kinds.Lost device link cause) w broken here (inr (inr o)) time is c =
@@ -250,13 +212,7 @@ not_awaited a b x y e = let bad : false ≡ true = sym (ap (λ (c : Bool). not c
 not_both_ways : (s : Scenario) (device : DeviceId) (link : LinkId) (body : NoteBody) (from clock : ℕ) → body ≡ kinds.Arrived device link from clock
     → Gives s.network body device link → waits_for s.network device link ≡ true → ⊥
 not_both_ways s device link body from clock e g waits =
-    let it = subst (λ (b : NoteBody). Gives s.network b device link) e g in
-    elim it.1.on [
-      | inl down ↦ not_awaited (is_relay s.network device) (is_parent_of s.network device link) it.1.relay (parent_true device (link_at s.network link) down.0)
-          waits
-      | inr up ↦ not_awaited (is_relay s.network device) (is_parent_of s.network device link) it.1.relay (parent_true device (link_at s.network link) up.1)
-          waits
-    ]
+    grind (arith, not_awaited, is_relay, is_parent_of, parent_true, link_at)
 
 -- the record by its number is the giving one
 is_giving : (s : Scenario) (hs zs : List Happening) (e : AtPort) (it : IsAtPort s hs e) (cause : ℕ) (g : Happening) → e.cause ≡ cause
@@ -268,9 +224,7 @@ is_giving s hs zs e it cause g same there =
 gives_it : (s : Scenario) (hs : List Happening) (e : AtPort) (it : IsAtPort s hs e) (g : Happening) (device : DeviceId) (link : LinkId) → it.giving ≡ g
     → e.device ≡ device → e.link ≡ link → Gives s.network g.note.body device link
 gives_it s hs e it g device link same by on =
-    subst (λ (x : LinkId). Gives s.network g.note.body device x) on
-    (subst (λ (x : DeviceId). Gives s.network g.note.body x e.link) by
-    (subst (λ (h : Happening). Gives s.network h.note.body e.device e.link) same it.gave.gives))
+    grind arith
 
 not_dispatched : (s : Scenario) (hs zs : List Happening) (e : AtPort) (it : IsAtPort s hs e) (t : ℕ) (device : DeviceId) (link : LinkId) (cause : ℕ) (vl : _)
     (cycle : ℕ) → IsFounded place_of (IsDue s) hs → ((z : Happening) → Rattle.run_law.specs.records.Order.IsIn z zs → t ≤ time_of z)

@@ -1,28 +1,22 @@
 -- Time passes where nothing is to come.
-use Rattle.world_steps.proofs.Words.{◌++◌, ◌+◌, ◌-◌, ◌<ℤ◌, ◌<◌, ◌^◌, ◌∙◌, ◌∷◌, ◌≡◌, ◌≤ℤ◌, ◌≤◌, AreOfNetwork, AreSettled, DeviceId, Down, Event, Happening}
+use Rattle.world_steps.proofs.Words.{◌++◌, ◌+◌, ◌-◌, ◌<ℤ◌, ◌<◌, ◌^◌, ◌∙◌, ◌∷◌, ◌≡◌, ◌≤ℤ◌, ◌≤◌, AreOfNetwork, AreSettled, DeviceId, Down, Happening}
 use Rattle.world_steps.proofs.Words.{HasDoneFrom, HaveBefallen, IsBefore, IsHeld, IsIn, IsKept, IsLeft, IsOut, IsPending, IsReadyAt, IsSteady, LinkId, List}
-use Rattle.world_steps.proofs.Words.{Network, Node, None, Note, Scenario, Some, Stands, StandsBehind, Task, Up, Way, World, [], act_place, adjustment_after}
+use Rattle.world_steps.proofs.Words.{Network, Node, Note, Scenario, Some, Stands, StandsBehind, Task, Up, Way, World, [], act_place, adjustment_after}
 use Rattle.world_steps.proofs.Words.{all_up_to, amount, ap, append-nil, are_past, arith, cases_Bool, cases_int, cases_lt, change_still, changed_at, doing}
 use Rattle.world_steps.proofs.Words.{emitting, false, filter_map, happenings, has_cleared, hidden, inl, inr, ints, last_or, length, map, members_in, natural}
 use Rattle.world_steps.proofs.Words.{no_later_breaks, not_on_after, numbered_in, own_time, pos, reading_for, refl, ripe_place, slice_get, state_after, subst}
 use Rattle.world_steps.proofs.Words.{sym, time_of, true, up_to, ℕ, ℤ}
-use Rattle.std.specs.Option.{unwrap_or}
-use Rattle.run_law.{proofs.runs.Places.{before_later_time, before_of_time, earlier_time}, specs.scenario.Ways.{cut_set, hold_set, wire_of, wire_set}}
+use Rattle.run_law.proofs.runs.Places.{before_later_time, before_of_time, earlier_time}
 use Rattle.world_law.proofs.acts.{Acting.{IsUnmoved, cleared_on, had_come_before}, NoActs.nothing_comes_before, Recorded.none_recorded}
 use Rattle.world_law.proofs.{devices.{Passes.passes_if, Resting.{IsPast, IsWorked, at_rest}}, giving.Given.no_later_events, runs.Worlds.nothing_settled_is_all}
-use Rattle.world_law.specs.{device.Own.IsStill, source.First.NoSourceBefore, world.{Moves.NothingBefore, World.{WayNow, way_now}}}
+use Rattle.world_law.specs.{device.Own.IsStill, source.First.NoSourceBefore, world.{Moves.NothingBefore, World.way_now}}
 use Rattle.world_steps.specs.Steps.{PassedStep}
 
 -- no way changes without an event
 ways_stay : (s : Scenario) (mark : List ℕ) (now t : ℕ) (link : LinkId) (way : Way) → HaveBefallen s mark now → now ≤ t
     → way_now s now link way ≡ way_now s t link way
 ways_stay s mark now t link way b le =
-    ap (λ (l : List Event).
-    let w : WayNow = record {
-      delay = unwrap_or (last_or None (filter_map (λ e. wire_set link way e.what) l)) (wire_of s.network link);
-      hold = unwrap_or (last_or None (filter_map (λ e. hold_set link way e.what) l)) 0;
-      cut = unwrap_or (last_or None (filter_map (λ e. cut_set link way e.what) l)) false;
-    } in w) (sym (no_later_events s mark now t b le))
+    grind (arith, last_or, filter_map, no_later_events)
 
 pub none_hidden : (given : ℕ) (coming : List Happening) → [] ≡ map (hidden given) coming → coming ≡ []
 none_hidden given [] e = refl
@@ -266,25 +260,7 @@ out_passes : {M : Type 0} (stands : M → Network → DeviceId → Node → Type
     (device : DeviceId) (machine : M) (k : IsOut stands s hs [] cursor now device machine)
     → now < t → HaveBefallen s mark now → IsPast hs now → IsOut stands s hs [] (t ∷ []) t device machine
 out_passes stands s hs mark cursor now t device machine k lt befallen past =
-    let inside : (h : Happening) → IsIn h (hs ++ []) → time_of h ≤ now = λ h i. past.past h (subst (λ (l : List Happening). IsIn h l) (append-nil hs) i) in
-    let same : up_to now (hs ++ []) ≡ up_to t (hs ++ []) = all_up_to now (hs ++ []) inside
-    ∙ sym (all_up_to t (hs ++ []) (λ h i. let early = inside h i in omega (arith, early, lt))) in
-    record {
-      node = k.node;
-      is = k.is;
-      broken = no_later_breaks s mark now t device befallen (omega (arith, lt)) ∙ k.broken;
-      shows = k.shows;
-      state = k.state ∙ ap (λ (l : List Happening). state_after s l device) same;
-      adjustment = k.adjustment ∙ ap (λ (l : List Happening). adjustment_after s l device) same;
-      ready = record {
-        time = let early = k.ready.time in omega (arith, ints, early, lt);
-        begun = k.ready.begun;
-        last = k.ready.last;
-        undone = λ task p x before. absurd (no_task s.network device k.node task k.shows p);
-        in_time = λ task p. absurd (no_task s.network device k.node task k.shows p);
-      };
-      phase = λ at. let early = k.ready.time in absurd (too_late _ now t at early lt);
-    }
+    grind (arith, time_of, append-nil, up_to, all_up_to, no_later_breaks, state_after, adjustment_after, ints, no_task, too_late)
 
 held_passes : {M : Type 0} (stands : M → Network → DeviceId → Node → Type 0) (s : Scenario) (hs : List Happening) (mark cursor : List ℕ) (now t : ℕ)
     (device : DeviceId) (machine : M) → IsHeld stands s hs [] cursor now device machine

@@ -1,4 +1,4 @@
-use Rattle.world_steps.proofs.acting.StaySteps.{acted_step}
+use Rattle.world_steps.proofs.acting.ActedSteps.{acted_step}
 use Rattle.world_steps.proofs.laws.acted_step.Goals as goal
 
 pub returns : goal.returns

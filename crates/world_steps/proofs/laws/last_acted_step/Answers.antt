@@ -1,4 +1,4 @@
-use Rattle.world_steps.proofs.acting.LastSteps.{last_acted_step}
+use Rattle.world_steps.proofs.acting.ActedSteps.{last_acted_step}
 use Rattle.world_steps.proofs.laws.last_acted_step.Goals as goal
 
 pub returns : goal.returns

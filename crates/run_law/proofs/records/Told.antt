@@ -7,7 +7,7 @@ use Rattle.run_law.specs.{runs.Runs.IsFounded, scenario.Scenarios.Scenario}
 abbrev pub notes_of : List Happening → List Note
 notes_of hs = map (λ h. h.note) hs
 
-told_from : (s : Scenario) (before hs : List Happening) → IsFounded place_of (IsDue s) (before ++ hs)
+pub told_from : (s : Scenario) (before hs : List Happening) → IsFounded place_of (IsDue s) (before ++ hs)
     → fold (λ bs note. bs ++ happening s.network bs note ∷ []) before (notes_of hs) ≡ before ++ hs
 told_from s before [] founded = sym (append-nil before)
 told_from s before (h ∷ hs) founded =
