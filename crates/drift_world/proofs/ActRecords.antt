@@ -104,53 +104,29 @@ pub record AreProper (s : Scenario) (hs : List Happening) (now : ℕ) (device : 
 
 joining : (device : DeviceId) (heard : Ripe) → body_of (joined_by device heard) ≡ joining_bodies device heard
 joining device ripe.Opened = refl
-joining device ripe.Joined = refl
-joining device ripe.Repeat = refl
-joining device ripe.Within = refl
-joining device ripe.Outside = refl
-joining device ripe.Integrates = refl
-joining device ripe.Ignored = refl
-joining device (ripe.Dropped reason) = refl
+joining device other = refl
 
 joining_own : (network : Network) (now : ℕ) (hs : List Happening) (device : DeviceId) (heard : Ripe) → IsOwn network network now hs (joined_by device heard)
-joining_own network now hs device ripe.Opened = tt
-joining_own network now hs device ripe.Joined = tt
-joining_own network now hs device ripe.Repeat = tt
-joining_own network now hs device ripe.Within = tt
-joining_own network now hs device ripe.Outside = tt
 joining_own network now hs device ripe.Integrates = refl
-joining_own network now hs device ripe.Ignored = tt
-joining_own network now hs device (ripe.Dropped reason) = tt
+joining_own network now hs device other = tt
 
 joining_fine : (now : ℕ) (device : DeviceId) (heard : Ripe) → IsFine now device (joined_by device heard)
-joining_fine now device ripe.Opened = tt
-joining_fine now device ripe.Joined = tt
-joining_fine now device ripe.Repeat = tt
-joining_fine now device ripe.Within = tt
-joining_fine now device ripe.Outside = tt
 joining_fine now device ripe.Integrates = (tt, late now device (bare (kinds.State device Joining none_yet whys.Frame)) (omega arith))
-joining_fine now device ripe.Ignored = tt
-joining_fine now device (ripe.Dropped reason) = tt
+joining_fine now device other = tt
 
 -- ---- corrections
 
 first_is : (device : DeviceId) (was : Standing) → body_of (first_by device was) ≡ first_bodies device was
 first_is device Off = refl
-first_is device Integrating = refl
-first_is device Joining = refl
-first_is device Synchronised = refl
+first_is device other = refl
 
 first_own : (network : Network) (now : ℕ) (hs : List Happening) (device : DeviceId) (was : Standing) → IsOwn network network now hs (first_by device was)
-first_own network now hs device Off = tt
-first_own network now hs device Integrating = tt
 first_own network now hs device Joining = refl
-first_own network now hs device Synchronised = tt
+first_own network now hs device other = tt
 
 first_fine : (now : ℕ) (device : DeviceId) (was : Standing) → IsFine now device (first_by device was)
-first_fine now device Off = tt
-first_fine now device Integrating = tt
 first_fine now device Joining = (tt, late now device (bare (kinds.State device Synchronised none_yet whys.Correction)) (omega arith))
-first_fine now device Synchronised = tt
+first_fine now device other = tt
 
 of_correction : (s : Scenario) (hs : List Happening) (now : ℕ) (device : DeviceId) (was : Standing) (adjustment : Units) (cycle : ℕ) (verdict : Verdict)
     → AreProper s hs now device was adjustment (acts.Correct cycle verdict) (corrected_by device was cycle adjustment verdict)

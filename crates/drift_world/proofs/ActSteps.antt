@@ -8,7 +8,7 @@ use Rattle.run_law.specs.{declared.steps.Act.Act, machines.{Answers.IsActOf, Cal
 use Rattle.sync_state.specs.declared.state.State.{State as Standing}
 use Rattle.world_law.specs.world.{Calls.{IsSet, IsStateOf}, World.AreStored}
 use Rattle.world_state.specs.{Acting.{AreOutcomes, HasItsRow, bodies_of}, declared.outcomes.Outcomes.Outcomes}
-use Rattle.world_steps.proofs.{acting.{Kept.may_act_now, LastSteps.last_acted_step, Stage.{Stage, stage_of}, StaySteps.acted_step}, steps.Passed.no_task}
+use Rattle.world_steps.proofs.{acting.{ActedSteps.{acted_step, last_acted_step}, Kept.may_act_now, Stage.{Stage, stage_of}}, steps.Passed.no_task}
 use Rattle.world_steps.specs.Acting.{Acts}
 use Rattle.drift_world.proofs.{ActRecords.{AreProper, IsFine, IsOwn, both_put, order_then, proper, there_then}, Fits.{all_put_some, have_octets}}
 use Rattle.drift_world.{proofs.{HiddenCauses.settled_in_order, Showings.shows_of}, specs.{Acting.{IsDueAt, IsIdle, act_cursor}, declared.state.State.State}}
@@ -17,12 +17,10 @@ use Rattle.run_law.specs.declared.steps.Act.TheVariants as acts
 -- what an act dispatches is a row of the network
 pub its_row : (network : Network) (device : DeviceId) (node : Node) (moment : Moment) (act : Act) (new : Node) → IsActOf network device node moment act new
     → HasItsRow (length network.row) act
-its_row network device node moment (acts.Send frame) new is = tt
-its_row network device node moment (acts.Emit sent heard) new is = tt
-its_row network device node moment (acts.Correct cycle verdict) new is = tt
 its_row network device node moment (acts.Dispatch row cycle) new is =
     let frame = is.0.pending.1.own.1 in
     slice_get_within network.row row.0 frame.entry.row frame.is.row
+its_row network device node moment other new is = tt
 
 module _ {C M : Type 0} (reading : C → ℕ → ℕ) (stands : M → Network → DeviceId → Node → Type 0) (network : Network) (state : State C M) (device : DeviceId)
     (machine : Kept M) (lt : device.0 < length network.device) (there : slice_get state.machines.items device.0 ≡ Some machine)

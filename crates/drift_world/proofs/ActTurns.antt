@@ -7,7 +7,7 @@ use Rattle.std.specs.{List.slice_get, Prelude.All}
 use Rattle.run_law.specs.declared.steps.Act.{Act}
 use Rattle.world_law.proofs.giving.Given.{some_same}
 use Rattle.world_steps.{proofs.growing.Repeating.{acts_add_up, acts_are_bounded, no_act_yet}, specs.Repeating.HasActedTimes}
-use Rattle.drift_world.{proofs.Fits.have_octets, specs.{Acting.{IsDueAt, SettlesFrom, act_cursor}, declared.state.State.State}}
+use Rattle.drift_world.{proofs.Fits.{have_octets, sound_same}, specs.{Acting.{IsDueAt, SettlesFrom, act_cursor}, declared.state.State.State}}
 
 -- the state stands, and the device's acts come first, but that there may be no numbers
 pub record IsStill {C M : Type 0} (reading : C → ℕ → ℕ) (stands : M → Network → DeviceId → Node → Type 0) (network : Network) (device : DeviceId) (time : ℕ)
@@ -95,29 +95,7 @@ module _ {C M : Type 0} (last_step : C → ℕ) (reading : C → ℕ → ℕ) (s
   sound_with : (now mid : State C M) → mid.settled.items ≡ now.settled.items → IsSound last_step network now
       → IsSound last_step network (record now { settled = mid.settled; spare = mid.spare })
   sound_with now mid same sound =
-      let z = sound.sized in
-      let fit = sound.fit in
-      record {
-        sized = record {
-          clocks = z.clocks;
-          machines = z.machines;
-          broken = z.broken;
-          ups = z.ups;
-          downs = z.downs;
-          stepped = z.stepped;
-          limit = z.limit;
-          shown = z.shown;
-        };
-        under_way = sound.under_way;
-        fit = record {
-          ups = fit.ups;
-          downs = fit.downs;
-          octets = subst (All have_octets) (sym same) fit.octets;
-          below = fit.below;
-          waits_below = fit.waits_below;
-          apart = fit.apart;
-        };
-      }
+      sound_same last_step network now _ sound refl refl refl refl refl refl refl refl refl refl (subst (All have_octets) (sym same) sound.fit.octets)
 
   pub turn_with : (now mid : State C M) (acts : ℕ) → mid ≡ record now { settled = mid.settled; spare = mid.spare }
       → mid.settled.items ≡ now.settled.items → Turn now acts → Turn mid acts
@@ -138,9 +116,6 @@ module _ {C M : Type 0} (last_step : C → ℕ) (reading : C → ℕ → ℕ) (s
 
   now_time : (now : State C M) (acts : ℕ) → Turn now acts → now.time ≡ first.time
   now_time now acts turn = ap (λ (x : State C M). x.time) turn.same
-
-  now_given : (now : State C M) (acts : ℕ) → Turn now acts → now.given ≡ first.given
-  now_given now acts turn = ap (λ (x : State C M). x.given) turn.same
 
   -- where there are numbers, the device's acts come first
   pub comes_first : (now : State C M) (acts : ℕ) (turn : Turn now acts) → now.given + length now.settled.items + 2 < none_yet

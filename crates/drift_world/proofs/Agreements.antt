@@ -1,14 +1,15 @@
 -- How the clocks of a network go on by an event: what they read up to then stays, and from then on they read what the
 -- event makes of them.
-use Rattle.drift_world.proofs.Words.{if◌then◌else◌, ◌++◌, ◌==◌, ◌∙◌, ◌∷◌, ◌≡◌, ◌≤◌, Bool, DeviceId, IsIn, IsLawful, List, Network, None, Option, RateStep, Some}
-use Rattle.drift_world.proofs.Words.{What, [], amount, ap, arith, cases_lt, clock_after, false, inl, inr, le-leb, option_map_or, rate_steps, reading_of, refl}
-use Rattle.drift_world.proofs.Words.{subst, sym, true, ℕ, ℤ}
+use Rattle.drift_world.proofs.Words.{if◌then◌else◌, ◌++◌, ◌∙◌, ◌∷◌, ◌≡◌, ◌≤◌, Bool, DeviceId, IsIn, IsLawful, List, Network, None, Option, RateStep, Some}
+use Rattle.drift_world.proofs.Words.{[], amount, ap, arith, cases_lt, clock_after, inl, inr, le-leb, option_map_or, rate_steps, reading_of, refl}
+use Rattle.drift_world.proofs.Words.{subst, sym, ℕ, ℤ}
 use Rattle.std.{proofs.lemmas.{Bool.lt-leb, List.{Elements.{filter-append, filter_map-append}, Sums.fold-append}}, specs.List.All}
 use Rattle.drift_clock.{proofs.Histories.up_to-all, specs.{Counts.rounded, RateSteps.up_to, Readings.{reading_at, value_after}}}
 use Rattle.net_plan.specs.declared.event.Event.{Event}
 use Rattle.run_law.specs.scenario.Rates.{step_by}
 use Rattle.drift_world.specs.Running.{clock_of}
 use Rattle.net_plan.specs.declared.event.What.TheVariants as events
+use Rattle.run_law.proofs.scenario.Rated.{Holds, step_at}
 
 -- ---- the steps of more events
 
@@ -45,26 +46,6 @@ clock_more {C} fresh after_step network past event device =
     ∙ step_last after_step (step_by device (amount event.time) event.what) (value_after after_step first (rate_steps past device))
 
 -- ---- each step is at the time of its event
-
--- what holds of the value, where there is one
-abbrev Holds : {X : Type 0} → Option X → (X → Type 0) → Type 0
-Holds None P = Unit {0}
-Holds (Some x) P = P x
-
-step_at : (device : DeviceId) (time : ℕ) (what : What) → Holds (step_by device time what) (λ s. s.at ≡ time)
-step_at device time (events.Rate other rate) =
-    elim (device.0 == other.0) as (λ b. Holds (if b then Some (let s : RateStep = record { at = time; rate = rate.0 } in s) else None) (λ s. s.at ≡ time)) [
-      | true ↦ refl
-      | false ↦ tt
-    ]
-step_at device time (events.Wire link way delay) = tt
-step_at device time (events.Hold link way delay) = tt
-step_at device time (events.Cut link way) = tt
-step_at device time (events.Heal link way) = tt
-step_at device time (events.On other) = tt
-step_at device time (events.Break other) = tt
-step_at device time (events.Send link octets) = tt
-step_at device time events.End = tt
 
 all_one : (t time : ℕ) (o : Option RateStep) (steps : List RateStep) → time ≤ t → Holds o (λ s. s.at ≡ time) → All (λ s. s.at ≤ t) steps
     → All (λ s. s.at ≤ t) (Rattle.std.specs.List.cons_option o steps)

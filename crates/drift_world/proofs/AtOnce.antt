@@ -1,12 +1,12 @@
 -- What is given at once: nothing of its instant stands before it.
 use Rattle.drift_world.proofs.Words.{◌+◌, ◌-◌, ◌<◌, ◌∙◌, ◌∷◌, ◌≡◌, ◌≤◌, ◌⊎◌, AreFirsts, AreTimed, AreUnderWay, Due, Err, IfOk, IfSome, IsBefore, IsFirst}
-use Rattle.drift_world.proofs.Words.{IsRunning, IsWell, List, Network, Node, None, Note, Ok, Option, Place, Result, Scenario, Some, Turn, [], ap, arith}
-use Rattle.drift_world.proofs.Words.{cases_lt, inl, inr, length, numbers_of, subst, true, ℕ}
+use Rattle.drift_world.proofs.Words.{IsRunning, IsWell, List, Network, Node, None, Note, Ok, Option, Place, Result, Scenario, Some, Stands, Turn, [], ap, arith}
+use Rattle.drift_world.proofs.Words.{cases_lt, inl, inr, keeps, length, numbers_of, refl, subst, true, world_of, ℕ}
 use Rattle.net_plan.specs.declared.ids.DeviceId.{DeviceId}
 use Rattle.world_state.specs.timers.Times.{IsFirst as IsFirstDue}
-use Rattle.drift_world.proofs.{Foremost.{first_later, higher, not_earlier, of_run}, Nearings.less_nears}
+use Rattle.drift_world.proofs.{Foremost.{first_later, higher, not_earlier, of_run}, Nearings.{less_nears, nears_behind}, Turning.says_then}
 use Rattle.drift_world.proofs.Sources.{due_time, nothing_before, slot_high, slot_low}
-use Rattle.drift_world.specs.{Nearing.Nears, Sourcing.{IsRipePlace, due_place}, Turns.{GivesAt, IsNextRank, IsWhole, TurnSays, WorkSays}}
+use Rattle.drift_world.specs.{Nearing.{Nears, distance}, Sourcing.{IsRipePlace, due_place}, Turns.{GivesAt, IsNextRank, IsPassed, TurnsTo, WorkSays}}
 use Rattle.drift_world.specs.declared.{next.Turn.TheVariants.{Ends, Gives, GoesOn}, state.State.State}
 
 -- what stands at a time and a rank is not before a place of this time and a lower rank
@@ -75,26 +75,52 @@ module _ {C M : Type 0} (last_step : C → ℕ) (reading : C → ℕ → ℕ) (s
   gives_then E old mid new note (Ok Ends) time given says = absurd says
   gives_then E old mid new note (Err e) time given says = tt
 
-  -- it does not end
-  pub work_whole : (E : Type 0) (old new : State C M) (s : Scenario) (notes : List Note) (until : ℕ) (note : Note) (result : Result Turn E)
-      → IfOk result (WorkSays network old new note) → IfOk result (λ turn. IsWhole s notes until turn)
-  work_whole E old new s notes until note (Ok Gives) says = tt
-  work_whole E old new s notes until note (Ok GoesOn) says = tt
-  work_whole E old new s notes until note (Ok Ends) says = absurd says
-  work_whole E old new s notes until note (Err e) says = tt
+  -- it does not end, and where it goes on, it comes nearer
+  pub work_turns : (E : Type 0) (old new : State C M) (until : ℕ) (note : Note) (result : Result Turn E) → old.time < until
+      → IsWell last_step reading stands network new → IfOk result (WorkSays network old new note)
+      → IfOk result (TurnsTo reading stands network until old new note)
+  work_turns E old new until note (Ok Gives) early well says =
+      let time = says.1 in record { whole = λ s notes is. tt; says = (says.0, omega (arith, time, early), says.2); nears = tt }
+  work_turns E old new until note (Ok GoesOn) early well says =
+      let time = says.0 in
+      record {
+        whole = λ s notes is. tt;
+        says = (omega (arith, time, early), says.1);
+        nears = less_nears last_step reading stands network until old new well says.0 says.2;
+      }
+  work_turns E old new until note (Ok Ends) early well says = absurd says
+  work_turns E old new until note (Err e) early well says = tt
 
-  -- it says what a turn says
-  pub work_says : (E : Type 0) (old new : State C M) (until : ℕ) (note : Note) (result : Result Turn E) → old.time < until
-      → IfOk result (WorkSays network old new note) → IfOk result (TurnSays old new until note)
-  work_says E old new until note (Ok Gives) early says = let time = says.1 in (says.0, omega (arith, time, early), says.2)
-  work_says E old new until note (Ok GoesOn) early says = let time = says.0 in (omega (arith, time, early), says.1)
-  work_says E old new until note (Ok Ends) early says = absurd says
-  work_says E old new until note (Err e) early says = tt
+  pub gives_turns : (E : Type 0) (old new : State C M) (until : ℕ) (note : Note) (result : Result Turn E) → old.time < until
+      → IsWell last_step reading stands network new → IfOk result (GivesAt old new note)
+      → IfOk result (TurnsTo reading stands network until old new note)
+  gives_turns E old new until note result early well says =
+      work_turns E old new until note result early well (gives_then E old old new note result refl refl says)
 
-  -- where it goes on, it comes nearer
-  pub work_nears : (E : Type 0) (old new : State C M) (until : ℕ) (note : Note) (result : Result Turn E) → IsWell last_step reading stands network new
-      → IfOk result (WorkSays network old new note) → IfOk result (Nears network until old new)
-  work_nears E old new until note (Ok Gives) well says = tt
-  work_nears E old new until note (Ok GoesOn) well says = less_nears last_step reading stands network until old new well says.0 says.2
-  work_nears E old new until note (Ok Ends) well says = absurd says
-  work_nears E old new until note (Err e) well says = tt
+  -- ---- what a turn says where time passes, or behind a step
+
+  pub passed_turns : (old new : State C M) (until : ℕ) (note : Note) (turn : Turn) → IsPassed last_step reading stands network until old new turn
+      → Nears network until old new turn → TurnsTo reading stands network until old new note turn
+  passed_turns old new until note Gives passed nears = absurd passed.says
+  passed_turns old new until note GoesOn passed nears = record { whole = passed.whole; says = passed.says; nears = nears }
+  passed_turns old new until note Ends passed nears = record { whole = passed.whole; says = passed.says; nears = nears }
+
+  pub turns_then : (E : Type 0) (old mid new : State C M) (until : ℕ) (note : Note) (result : Result Turn E) → mid.given ≡ old.given
+      → mid.ended ≡ old.ended
+      → ((s : Scenario) (notes : List Note) → Stands reading (keeps stands) s (world_of network old) notes
+      → Stands reading (keeps stands) s (world_of network mid) notes)
+      → distance network until mid ≤ distance network until old → IfOk result (TurnsTo reading stands network until mid new note)
+      → IfOk result (TurnsTo reading stands network until old new note)
+  turns_then E old mid new until note (Ok turn) given ended still le turns = record {
+    whole = λ s notes is. turns.whole s notes (still s notes is);
+    says = says_then old mid new until note turn given ended turns.says;
+    nears = nears_behind network until old mid new turn le turns.nears;
+  }
+  turns_then E old mid new until note (Err e) given ended still le turns = tt
+
+-- a turn that does not go on need not come nearer
+pub ends_near : {C M : Type 0} (network : Network) (until : ℕ) (old new : State C M) (turn : Turn) → (turn ≡ GoesOn → ⊥)
+    → Nears network until old new turn
+ends_near network until old new Gives not = tt
+ends_near network until old new GoesOn not = absurd (not refl)
+ends_near network until old new Ends not = tt

@@ -1,9 +1,9 @@
 -- What waits by a record, as its law asks for it.
-use Rattle.drift_world.proofs.Words.{if◌then◌else◌, ◌&&◌, ◌∙◌, ◌∷◌, ◌≡◌, ◌⊎◌, Accepted, Arrived, Bool, Changed, Compressed, Delivered, DeviceId, Dropped}
-use Rattle.drift_world.proofs.Words.{Giving, Happening, IsPermutation, IsPermutation-map, IsPermutation-sym, Left, LinkId, List, Lost, Network, None, NoteBody}
-use Rattle.drift_world.proofs.Words.{Option, Pcf, Permanent, Scenario, Some, TtSent, Waiting, Waits, ap, false, in_permuted, inl, inr, is_broken, map, not, pos}
+use Rattle.drift_world.proofs.Words.{if◌then◌else◌, ◌&&◌, ◌∙◌, ◌∷◌, ◌≡◌, ◌⊎◌, Arrived, Bool, DeviceId}
+use Rattle.drift_world.proofs.Words.{Giving, Happening, IsPermutation, IsPermutation-map, IsPermutation-sym, LinkId, List, Network, None, NoteBody}
+use Rattle.drift_world.proofs.Words.{Option, Pcf, Scenario, Some, Waiting, Waits, ap, false, in_permuted, inl, inr, is_broken, map, not, pos}
 use Rattle.drift_world.proofs.Words.{refl, same_Some, subst, sym, time_of, true, waiting_as, ℕ}
-use Rattle.run_law.specs.{control.Permanence.waits_for, declared.note.NoteBody.TheVariants.{Clock, Corrected, Event, Sent}}
+use Rattle.run_law.specs.{control.Permanence.waits_for}
 use Rattle.transparent_clock.specs.Points.{point_of}
 use Rattle.world_law.specs.world.{Moves.AreAwaited, World.IsAwaitedFor}
 use Rattle.world_state.specs.{Frames.IsOneMore, Giving.{awaited_by, giver_of, waits_from}}
@@ -22,19 +22,7 @@ record IsNone (body : NoteBody) : Type 0 where
 
 arrival_or_none : (body : NoteBody) → IsArrival body ⊎ IsNone body
 arrival_or_none (Arrived device link cause clock) = inl (record { device = device; link = link; cause = cause; clock = clock; is = refl })
-arrival_or_none (Event line what) = inr (record { none = λ n b f r k. refl; apart = λ d l c k e. absurd cc })
-arrival_or_none (Permanent device link cause point verdict) = inr (record { none = λ n b f r k. refl; apart = λ d l c k e. absurd cc })
-arrival_or_none (Compressed device opened at cycle members verdict) = inr (record { none = λ n b f r k. refl; apart = λ d l c k e. absurd cc })
-arrival_or_none (Sent device cycle) = inr (record { none = λ n b f r k. refl; apart = λ d l c k e. absurd cc })
-arrival_or_none (Corrected device cycle by adjustment) = inr (record { none = λ n b f r k. refl; apart = λ d l c k e. absurd cc })
-arrival_or_none (Changed device state cause why) = inr (record { none = λ n b f r k. refl; apart = λ d l c k e. absurd cc })
-arrival_or_none (Left device link cause clock) = inr (record { none = λ n b f r k. refl; apart = λ d l c k e. absurd cc })
-arrival_or_none (Lost device link cause) = inr (record { none = λ n b f r k. refl; apart = λ d l c k e. absurd cc })
-arrival_or_none (TtSent device link cause vl cycle) = inr (record { none = λ n b f r k. refl; apart = λ d l c k e. absurd cc })
-arrival_or_none (Accepted device link cause vl cycle) = inr (record { none = λ n b f r k. refl; apart = λ d l c k e. absurd cc })
-arrival_or_none (Delivered device link cause vl cycle) = inr (record { none = λ n b f r k. refl; apart = λ d l c k e. absurd cc })
-arrival_or_none (Dropped device link cause reason) = inr (record { none = λ n b f r k. refl; apart = λ d l c k e. absurd cc })
-arrival_or_none (Clock device reading adjustment state) = inr (record { none = λ n b f r k. refl; apart = λ d l c k e. absurd cc })
+arrival_or_none other = inr (record { none = λ n b f r k. refl; apart = λ d l c k e. absurd cc })
 
 split : (b w : Bool) → (not b && w) ≡ true → (b ≡ false) × (w ≡ true)
 split true w e = absurd cc

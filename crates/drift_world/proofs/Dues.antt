@@ -5,6 +5,7 @@ use Rattle.std.proofs.Common.{slice_get}
 use Rattle.run_law.specs.machines.Tasks.{IsDueReading}
 use Rattle.tte_units.specs.declared.units.Units.{Units}
 use Rattle.world_law.proofs.giving.Given.{some_same}
+use Rattle.drift_world.specs.Acting.{IsNextDue}
 use Rattle.drift_world.{proofs.Foremost.node_of, specs.{Stepping.{ActsAt, IsDueBy, IsDueTimed}, declared.state.State.State}}
 
 module _ {C M : Type 0} (reading : C → ℕ → ℕ) (stands : M → Network → DeviceId → Node → Type 0) (network : Network) where
@@ -48,17 +49,16 @@ module _ {C M : Type 0} (reading : C → ℕ → ℕ) (stands : M → Network �
 
   -- it stays right for the reading where clocks, timers and time do, whatever becomes of the machine
   pub due_stays : (last_step : C → ℕ) (old new : State C M) (device : DeviceId) (due : Option Units) → IsWell last_step reading stands network old
-      → device.0 < length network.device
-      → ((machine : Kept M) (node : Node) → slice_get old.machines.items device.0 ≡ Some machine → keeps stands machine network device node
-      → IsDueReading network device node due)
+      → device.0 < length network.device → IsNextDue stands old device due
       → new.clocks ≡ old.clocks → new.time ≡ old.time → new.timers ≡ old.timers → IsDueTimed reading network new device.0 due
   due_stays last_step old new device due well of_it least clocks now timers clock time own at =
-      let timed = well.timed.each device of_it in
+      let timed = (well.timed.each device of_it).act in
       let clock_is : timed.clock ≡ clock = some_same _ _ _ timed.of_clock (sym (ap (λ (c : _). slice_get c.items device.0) clocks) ∙ own) in
       let time_is : timed.act ≡ time =
       some_same _ _ _ timed.of_act (sym (ap (λ (l : List ℕ). slice_get l (length network.device + device.0)) timers) ∙ at) in
       let node = node_of reading stands network old well.running device timed.machine of_it timed.of_machine in
-      let by = due_by timed.clock timed.machine device old.time timed.act due node.0 node.1 (least timed.machine node.0 timed.of_machine node.1) timed.acts in
+      let by = due_by timed.clock timed.machine device old.time timed.act due node.0 node.1
+      (least timed.machine network device node.0 timed.of_machine node.1) timed.acts in
       subst (λ (n : ℕ). IsDueBy reading clock due n time) (sym now)
       (subst (λ (t : ℕ). IsDueBy reading clock due old.time t) time_is
       (subst (λ (k : C). IsDueBy reading k due old.time timed.act) clock_is by))

@@ -16,13 +16,7 @@ other_clock {C} after_step device time (events.Rate other rate) clock away =
     (if b then Some (let s : RateStep = record { at = amount time; rate = rate.0 } in s) else None) clock)
     (false_from_ne_true (device.0 == other.0) (λ e. away (sym (eqb-true device.0 other.0 e))))
 other_clock after_step device time (events.Wire link way delay) clock away = refl
-other_clock after_step device time (events.Hold link way hold) clock away = refl
-other_clock after_step device time (events.Cut link way) clock away = refl
-other_clock after_step device time (events.Heal link way) clock away = refl
-other_clock after_step device time (events.On other) clock away = refl
-other_clock after_step device time (events.Break other) clock away = refl
-other_clock after_step device time (events.Send link octets) clock away = refl
-other_clock after_step device time events.End clock away = refl
+other_clock after_step device time other clock away = refl
 
 pub clock_elsewhere : {C : Type 0} (after_step : C → ℕ → ℤ → C) (old new : List C) (device : DeviceId) (time : Units) (what : What)
     → device.0 < length old → IsElsewhere what device
@@ -34,14 +28,7 @@ clock_elsewhere after_step old new device time what there away each =
 
 breaks_other : (device w : ℕ) (what : What) → IsElsewhere what (record { 0 = device }) → w ≡ device → breaks_at w what ≡ false
 breaks_other device w (events.Break other) away at = false_from_ne_true (other.0 == w) (λ e. away (eqb-true other.0 w e ∙ at))
-breaks_other device w (events.Rate other rate) away at = refl
-breaks_other device w (events.Wire link way delay) away at = refl
-breaks_other device w (events.Hold link way hold) away at = refl
-breaks_other device w (events.Cut link way) away at = refl
-breaks_other device w (events.Heal link way) away at = refl
-breaks_other device w (events.On other) away at = refl
-breaks_other device w (events.Send link octets) away at = refl
-breaks_other device w events.End away at = refl
+breaks_other device w rest away at = refl
 
 in_kept : {X : Type 0} (q : X → Bool) (xs : List X) (x : X) → q x ≡ true → IsIn x xs → IsIn x (filter q xs)
 in_kept q [] x passes i = i

@@ -20,13 +20,7 @@ set_short false n was short old = old
 way_short : (link : LinkId) (way : Way) (what : What) (was : WayState) → SetsShort what → IsShort was → IsShort (way_after link way what was)
 way_short link way (events.Wire other turned delay) was short old = (set_short (is_way_of link way other turned) (amount delay) was.delay short old.0, old.1)
 way_short link way (events.Hold other turned hold) was short old = (old.0, set_short (is_way_of link way other turned) (amount hold) was.hold short old.1)
-way_short link way (events.Rate device rate) was short old = old
-way_short link way (events.Cut other turned) was short old = old
-way_short link way (events.Heal other turned) was short old = old
-way_short link way (events.On device) was short old = old
-way_short link way (events.Break device) was short old = old
-way_short link way (events.Send other octets) was short old = old
-way_short link way events.End was short old = old
+way_short link way other was short old = old
 
 pub ways_short : (old new : List WayState) (way : Way) (what : What) → SetsShort what → length new ≡ length old
     → ((link : LinkId) (was : WayState) → slice_get old link.0 ≡ Some was → slice_get new link.0 ≡ Some (way_after link way what was))

@@ -1,6 +1,7 @@
 -- What comes first of all that a state has under way.
-use Rattle.drift_world.proofs.Words.{◌+◌, ◌-◌, ◌<◌, ◌^◌, ◌∙◌, ◌∷◌, ◌≡◌, ◌≤◌, ◌⊎◌, AreFirsts, AreNotBefore, AreTimed, AreUnderWay, AtPort, Content, DeviceId}
-use Rattle.drift_world.proofs.Words.{Due, HasNothingBefore, IfSome, IsBefore, IsFirst, IsIn, IsRunning, IsSized, Kept, List, Network, Node, None, OnWire}
+use Rattle.drift_world.proofs.Words.{◌+◌, ◌-◌, ◌<◌, ◌^◌, ◌∙◌, ◌∷◌, ◌≡◌, ◌≤◌, ◌⊎◌, AreFirsts, AreTimed, AreUnderWay, AtPort, Content, DeviceId}
+use Rattle.drift_world.proofs.Words.{Due, HasNothingBefore, IfSome, IsBefore, IsFirst, IsIn, IsRunning, IsWell, Kept, List, Network, Node, None}
+use Rattle.drift_world.proofs.Words.{OnWire}
 use Rattle.drift_world.proofs.Words.{Option, Place, Port, Some, Wire, [], ap, arith, at_port, both_ways, cases_lt, false, get_or_from_slice_get, inl, inr}
 use Rattle.drift_world.proofs.Words.{is_given, keeps, length, never, never_self, numbers_of, on_wire, rank_of, refl, slice_get-get_or, subst, sym, true}
 use Rattle.drift_world.proofs.Words.{wire_at, wire_place, ℕ}
@@ -9,7 +10,7 @@ use Rattle.world_law.specs.world.World.{port_place}
 use Rattle.world_state.specs.declared.queue.Entry.{Entry}
 use Rattle.world_state.specs.Views.{port_at}
 use Rattle.world_state.specs.timers.Times.{IsFirst as IsFirstDue}
-use Rattle.drift_world.{proofs.Sources.{due_time, slot_high, slot_low}, specs.{Sourcing.{IsRipePlace, due_place}, declared.state.State.State}}
+use Rattle.drift_world.{proofs.Sources.{due_time, nothing_before, slot_high, slot_low}, specs.{Sourcing.{IsRipePlace, due_place}, declared.state.State.State}}
 
 -- ---- places of one time, or of a later one
 
@@ -118,7 +119,7 @@ module _ {C M : Type 0} (reading : C → ℕ → ℕ) (stands : M → Network �
         | inl sooner ↦
             elim (cases_lt k (length network.device)) [
               | inl low ↦
-                  let timed = are.each (record { 0 = k }) low in
+                  let timed = (are.each (record { 0 = k }) low).ripe in
                   let is = get_or_from_slice_get state.timers k timed.ripe d timed.of_ripe in
                   let w = timed.ripens.one (omega (arith, is, sooner, most)) in
                   absurd (has.waiting w.0 timed.clock w.1 (ap (λ (n : ℕ). slice_get state.clocks.items n) w.2 ∙ timed.of_clock) timed.ripe
@@ -126,7 +127,7 @@ module _ {C M : Type 0} (reading : C → ℕ → ℕ) (stands : M → Network �
               | inr high ↦
                   let device : DeviceId = record { 0 = k - length network.device } in
                   let of_it : device.0 < length network.device = omega (arith, lt, slots, high) in
-                  let timed = are.each device of_it in
+                  let timed = (are.each device of_it).act in
                   let slot : k ≡ length network.device + device.0 = omega (arith, high) in
                   let is = get_or_from_slice_get state.timers k timed.act d (ap (λ (n : ℕ). slice_get state.timers n) slot ∙ timed.of_act) in
                   let node = node_of device timed.machine of_it timed.of_machine in
@@ -181,8 +182,7 @@ shape_of reading network state due p (inr r) = record {
 }
 
 module _ {C M : Type 0} (last_step : C → ℕ) (reading : C → ℕ → ℕ) (stands : M → Network → DeviceId → Node → Type 0) (network : Network)
-    (state : State C M) (place : Option Place) (due : Option Due) (running : IsRunning reading stands network state)
-    (sized : IsSized last_step network state) (are : AreTimed reading stands network state) (under : AreUnderWay network state.under_way.entries)
+    (state : State C M) (place : Option Place) (due : Option Due) (well : IsWell last_step reading stands network state)
     (firsts : AreFirsts state place due) where
   abbrev now : ℕ
   now = state.time
@@ -193,15 +193,15 @@ module _ {C M : Type 0} (last_step : C → ℕ) (reading : C → ℕ → ℕ) (s
   first_rank : (q : Place) → place ≡ Some q → (q.rank ≡ 2) ⊎ (q.rank ≡ 8)
   first_rank q e =
       let first = first_is q e in
-      let kind = under.kinds first.entry first.there in
+      let kind = well.sound.under_way.kinds first.entry first.there in
       let rank : q.rank ≡ rank_of first.entry.content = sym (ap (λ (p : Place). p.rank) first.at) ∙ kind in
       elim (rank_is first.entry.content) [ inl two ↦ inl (rank ∙ two) | inr eight ↦ inr (rank ∙ eight) ]
 
   place_later : (q : Place) → place ≡ Some q → now ≤ q.at
-  place_later q e = first_later reading stands network state running under q (first_is q e)
+  place_later q e = first_later reading stands network state well.running well.sound.under_way q (first_is q e)
 
   due_later : (d : Due) → due ≡ Some d → now ≤ d.time
-  due_later d e = due_time reading stands network state d are (from_some (λ x. IsFirstDue state.timers x) due d firsts.some_due e)
+  due_later d e = due_time reading stands network state d well.timed (from_some (λ x. IsFirstDue state.timers x) due d firsts.some_due e)
 
   -- none is before the place, where each is so
   are_not : (p : List ℕ) → (IsBefore ((2 ^ 60 + 1) ∷ []) p → ⊥)
@@ -210,15 +210,17 @@ module _ {C M : Type 0} (last_step : C → ℕ) (reading : C → ℕ → ℕ) (s
       → (IsBefore (due_place (length network.device) d) p → ⊥) ⊎ IsRipePlace reading network state d p)
       → (state.pending ≡ true → IsBefore (now ∷ 2 ∷ []) p → ⊥)
       → (state.ended ≡ true → state.shown < length network.device → IsBefore (now ∷ 14 ∷ state.shown ∷ []) p → ⊥)
-      → AreNotBefore reading network state place due p
-  are_not p in_time places dues befell clocks = record {
-    in_time = in_time;
-    under_way = if_some (λ (q : Place). IsBefore (numbers_of q) p → ⊥) place (λ q e. places q e (place_later q e) (first_rank q e));
-    timers = if_some (λ (d : Due). (IsBefore (due_place (length network.device) d) p → ⊥) ⊎ IsRipePlace reading network state d p) due
-        (λ d e. dues d e (due_later d e));
-    befell = befell;
-    clocks = clocks;
-  }
+      → HasNothingBefore reading stands network state p
+  are_not p in_time places dues befell clocks =
+      nothing_before last_step reading stands network state place due p well.sound.sized well.timed firsts
+      (record {
+        in_time = in_time;
+        under_way = if_some (λ (q : Place). IsBefore (numbers_of q) p → ⊥) place (λ q e. places q e (place_later q e) (first_rank q e));
+        timers = if_some (λ (d : Due). (IsBefore (due_place (length network.device) d) p → ⊥) ⊎ IsRipePlace reading network state d p) due
+            (λ d e. dues d e (due_later d e));
+        befell = befell;
+        clocks = clocks;
+      })
 
   -- a timer is not before what is of the present time and a lower rank
   after_lower : (rank : ℕ) (rest : List ℕ) (d : Due) → rank < 3 → now ≤ d.time → IsBefore (due_place (length network.device) d) (now ∷ rank ∷ rest) → ⊥
@@ -242,44 +244,49 @@ module _ {C M : Type 0} (last_step : C → ℕ) (reading : C → ℕ → ℕ) (s
   none_befell p calm told = absurd (both_ways state.pending calm told)
 
   -- the outcomes of the events of the instant
-  pub events_first : AreNotBefore reading network state place due (state.time ∷ 2 ∷ [])
+  pub events_first : HasNothingBefore reading stands network state (state.time ∷ 2 ∷ [])
   events_first =
-      are_not (now ∷ 2 ∷ []) (of_run now (2 ∷ []) sized.limit)
+      are_not (now ∷ 2 ∷ []) (of_run now (2 ∷ []) well.sound.sized.limit)
       (λ q e le rank. not_earlier q.at now (q.rank ∷ q.device ∷ q.link ∷ q.cause ∷ []) (2 ∷ []) le
       (λ same. not_first q.rank 2 (q.device ∷ q.link ∷ q.cause ∷ []) (elim rank [ inl two ↦ omega (arith, two) | inr eight ↦ omega (arith, eight) ])))
       (λ d e le. inl (after_lower 2 [] d (omega arith) le))
       (λ yes. never_self (now ∷ 2 ∷ []))
       (λ ended more. clocks_after 2 [] (omega arith))
 
+  -- what is the first that is under way, and there now
+  placed_first : (q : Place) (rank : ℕ) → rank < 14 → state.pending ≡ false → place ≡ Some q → q.at ≡ state.time → q.rank ≡ rank
+      → ((d : Due) → due ≡ Some d → now ≤ d.time
+      → IsBefore (due_place (length network.device) d) (now ∷ rank ∷ q.device ∷ q.link ∷ q.cause ∷ []) → ⊥)
+      → HasNothingBefore reading stands network state (numbers_of q)
+  placed_first q rank lt calm is at of_rank dues =
+      let rest : List ℕ = q.device ∷ q.link ∷ q.cause ∷ [] in
+      let same : now ∷ rank ∷ rest ≡ numbers_of q =
+      ap (λ (n : ℕ). n ∷ rank ∷ rest) (sym at) ∙ ap (λ (n : ℕ). q.at ∷ n ∷ rest) (sym of_rank) in
+      subst (HasNothingBefore reading stands network state) same
+      (are_not (now ∷ rank ∷ rest) (of_run now (rank ∷ rest) well.sound.sized.limit)
+      (λ r e le either.
+      let one : q ≡ r = let both : Some q ≡ Some r = sym is ∙ e in cc in
+      subst (λ (x : Place). IsBefore (numbers_of x) (now ∷ rank ∷ rest) → ⊥) one
+      (subst (λ (p : List ℕ). IsBefore p (now ∷ rank ∷ rest) → ⊥) same (never_self (now ∷ rank ∷ rest))))
+      (λ d e le. inl (dues d e le)) (none_befell (now ∷ rank ∷ rest) calm) (λ ended more. clocks_after rank rest lt))
+
   -- what arrives now
   pub arrival_first : (q : Place) → state.pending ≡ false → place ≡ Some q → q.at ≡ state.time → q.rank ≡ 2
-      → AreNotBefore reading network state place due (numbers_of q)
+      → HasNothingBefore reading stands network state (numbers_of q)
   arrival_first q calm is at rank =
-      subst (λ (p : List ℕ). AreNotBefore reading network state place due p)
-      (let same : now ∷ 2 ∷ q.device ∷ q.link ∷ q.cause ∷ [] ≡ numbers_of q =
-      ap (λ (n : ℕ). n ∷ 2 ∷ q.device ∷ q.link ∷ q.cause ∷ []) (sym at) ∙ ap (λ (n : ℕ). q.at ∷ n ∷ q.device ∷ q.link ∷ q.cause ∷ []) (sym rank) in same)
-      (are_not (now ∷ 2 ∷ q.device ∷ q.link ∷ q.cause ∷ []) (of_run now (2 ∷ q.device ∷ q.link ∷ q.cause ∷ []) sized.limit)
-      (λ r e le either.
-      let same : q ≡ r = let both : Some q ≡ Some r = sym is ∙ e in cc in
-      subst (λ (x : Place). IsBefore (numbers_of x) (now ∷ 2 ∷ q.device ∷ q.link ∷ q.cause ∷ []) → ⊥) same
-      (subst (λ (n : ℕ). IsBefore (q.at ∷ n ∷ q.device ∷ q.link ∷ q.cause ∷ []) (now ∷ 2 ∷ q.device ∷ q.link ∷ q.cause ∷ []) → ⊥) (sym rank)
-      (subst (λ (n : ℕ). IsBefore (n ∷ 2 ∷ q.device ∷ q.link ∷ q.cause ∷ []) (now ∷ 2 ∷ q.device ∷ q.link ∷ q.cause ∷ []) → ⊥) (sym at)
-      (never_self (now ∷ 2 ∷ q.device ∷ q.link ∷ q.cause ∷ [])))))
-      (λ d e le. inl (after_lower 2 (q.device ∷ q.link ∷ q.cause ∷ []) d (omega arith) le))
-      (none_befell (now ∷ 2 ∷ q.device ∷ q.link ∷ q.cause ∷ []) calm)
-      (λ ended more. clocks_after 2 (q.device ∷ q.link ∷ q.cause ∷ []) (omega arith)))
+      placed_first q 2 (omega arith) calm is at rank (λ d e le. after_lower 2 (q.device ∷ q.link ∷ q.cause ∷ []) d (omega arith) le)
 
   -- what is due by a timer now
   pub slot_first : (d : Due) (p : List ℕ) → state.pending ≡ false → IfSome place (λ q. q.at ≡ state.time → q.rank ≡ 2 → ⊥) → due ≡ Some d
       → d.time ≡ state.time → (p ≡ due_place (length network.device) d) ⊎ IsRipePlace reading network state d p
-      → AreNotBefore reading network state place due p
+      → HasNothingBefore reading stands network state p
   slot_first d p calm no_arrival is at of_slot =
       let shape = shape_of reading network state d p of_slot in
       let rank = shape.rank in
       let least = shape.least in
       let most = shape.most in
       let of_now : p ≡ now ∷ rank ∷ shape.rest = shape.is ∙ ap (λ (n : ℕ). n ∷ rank ∷ shape.rest) at in
-      are_not p (subst (λ (l : List ℕ). IsBefore ((2 ^ 60 + 1) ∷ []) l → ⊥) (sym of_now) (of_run now (rank ∷ shape.rest) sized.limit))
+      are_not p (subst (λ (l : List ℕ). IsBefore ((2 ^ 60 + 1) ∷ []) l → ⊥) (sym of_now) (of_run now (rank ∷ shape.rest) well.sound.sized.limit))
       (λ q e le either.
       subst (λ (l : List ℕ). IsBefore (numbers_of q) l → ⊥) (sym of_now)
       (not_earlier q.at now (q.rank ∷ q.device ∷ q.link ∷ q.cause ∷ []) (rank ∷ shape.rest) le
@@ -301,28 +308,17 @@ module _ {C M : Type 0} (last_step : C → ℕ) (reading : C → ℕ → ℕ) (s
 
   -- what leaves now
   pub departure_first : (q : Place) → state.pending ≡ false → IfSome due (λ d. d.time ≡ state.time → ⊥) → place ≡ Some q → q.at ≡ state.time → q.rank ≡ 8
-      → AreNotBefore reading network state place due (numbers_of q)
+      → HasNothingBefore reading stands network state (numbers_of q)
   departure_first q calm no_due is at rank =
-      subst (λ (p : List ℕ). AreNotBefore reading network state place due p)
-      (let same : now ∷ 8 ∷ q.device ∷ q.link ∷ q.cause ∷ [] ≡ numbers_of q =
-      ap (λ (n : ℕ). n ∷ 8 ∷ q.device ∷ q.link ∷ q.cause ∷ []) (sym at) ∙ ap (λ (n : ℕ). q.at ∷ n ∷ q.device ∷ q.link ∷ q.cause ∷ []) (sym rank) in same)
-      (are_not (now ∷ 8 ∷ q.device ∷ q.link ∷ q.cause ∷ []) (of_run now (8 ∷ q.device ∷ q.link ∷ q.cause ∷ []) sized.limit)
-      (λ r e le either.
-      let same : q ≡ r = let both : Some q ≡ Some r = sym is ∙ e in cc in
-      subst (λ (x : Place). IsBefore (numbers_of x) (now ∷ 8 ∷ q.device ∷ q.link ∷ q.cause ∷ []) → ⊥) same
-      (subst (λ (n : ℕ). IsBefore (q.at ∷ n ∷ q.device ∷ q.link ∷ q.cause ∷ []) (now ∷ 8 ∷ q.device ∷ q.link ∷ q.cause ∷ []) → ⊥) (sym rank)
-      (subst (λ (n : ℕ). IsBefore (n ∷ 8 ∷ q.device ∷ q.link ∷ q.cause ∷ []) (now ∷ 8 ∷ q.device ∷ q.link ∷ q.cause ∷ []) → ⊥) (sym at)
-      (never_self (now ∷ 8 ∷ q.device ∷ q.link ∷ q.cause ∷ [])))))
-      (λ d e le. inl (after_now (8 ∷ q.device ∷ q.link ∷ q.cause ∷ []) d (from_some (λ (x : Due). x.time ≡ state.time → ⊥) due d no_due e) le))
-      (none_befell (now ∷ 8 ∷ q.device ∷ q.link ∷ q.cause ∷ []) calm)
-      (λ ended more. clocks_after 8 (q.device ∷ q.link ∷ q.cause ∷ []) (omega arith)))
+      placed_first q 8 (omega arith) calm is at rank
+      (λ d e le. after_now (8 ∷ q.device ∷ q.link ∷ q.cause ∷ []) d (from_some (λ (x : Due). x.time ≡ state.time → ⊥) due d no_due e) le)
 
   -- the clock that is to be shown
   pub clock_first : state.pending ≡ false → IfSome place (λ q. q.at ≡ state.time → q.rank ≡ 2 → ⊥) → IfSome due (λ d. d.time ≡ state.time → ⊥)
       → IfSome place (λ q. q.at ≡ state.time → q.rank ≡ 8 → ⊥)
-      → AreNotBefore reading network state place due (state.time ∷ 14 ∷ state.shown ∷ [])
+      → HasNothingBefore reading stands network state (state.time ∷ 14 ∷ state.shown ∷ [])
   clock_first calm no_arrival no_due no_departure =
-      are_not (now ∷ 14 ∷ state.shown ∷ []) (of_run now (14 ∷ state.shown ∷ []) sized.limit)
+      are_not (now ∷ 14 ∷ state.shown ∷ []) (of_run now (14 ∷ state.shown ∷ []) well.sound.sized.limit)
       (λ q e le either. not_earlier q.at now (q.rank ∷ q.device ∷ q.link ∷ q.cause ∷ []) (14 ∷ state.shown ∷ []) le
       (λ same. elim either [
         | inl two ↦ absurd (from_some (λ (x : Place). x.at ≡ state.time → x.rank ≡ 2 → ⊥) place q no_arrival e same two)
@@ -363,11 +359,11 @@ module _ {C M : Type 0} (last_step : C → ℕ) (reading : C → ℕ → ℕ) (s
   pub placed : (q : Place) → place ≡ Some q → (q.device < length network.device) × (q.link < length network.link)
   placed q e =
       let first = first_is q e in
-      subst (λ (p : Place). (p.device < length network.device) × (p.link < length network.link)) first.at (under.placed first.entry first.there)
+      subst (λ (p : Place). (p.device < length network.device) × (p.link < length network.link)) first.at (well.sound.under_way.placed first.entry first.there)
 
   -- nothing before a time
   pub none_before : (t : ℕ) → t ≤ 2 ^ 60 + 1 → state.pending ≡ false → (state.ended ≡ true → state.shown < length network.device → ⊥)
-      → IfSome place (λ q. t ≤ q.at) → IfSome due (λ d. t ≤ d.time) → AreNotBefore reading network state place due (t ∷ [])
+      → IfSome place (λ q. t ≤ q.at) → IfSome due (λ d. t ≤ d.time) → HasNothingBefore reading stands network state (t ∷ [])
   none_before t most calm no_clock places dues =
       are_not (t ∷ []) (of_end t most)
       (λ q e le either. not_first q.at t (q.rank ∷ q.device ∷ q.link ∷ q.cause ∷ []) (from_some (λ (x : Place). t ≤ x.at) place q places e))

@@ -41,13 +41,7 @@ wire_kept : (network : Network) (link : LinkId) (l : Link) (way : Way) (before :
 wire_kept network link l way before event there least within (events.Wire other turned delay) same =
     wire_is network link other l way turned delay before event there least within same (is_way_of link way other turned) refl
 wire_kept network link l way before event there least within (events.Rate device rate) same = tt
-wire_kept network link l way before event there least within (events.Hold other turned hold) same = tt
-wire_kept network link l way before event there least within (events.Cut other turned) same = tt
-wire_kept network link l way before event there least within (events.Heal other turned) same = tt
-wire_kept network link l way before event there least within (events.On device) same = tt
-wire_kept network link l way before event there least within (events.Break device) same = tt
-wire_kept network link l way before event there least within (events.Send other octets) same = tt
-wire_kept network link l way before event there least within events.End same = tt
+wire_kept network link l way before event there least within other same = tt
 
 -- ---- the last that is set
 

@@ -1,7 +1,7 @@
 -- Once a record is given the state is sound again.
-use Rattle.drift_world.proofs.Words.{if◌then◌else◌, ◌&&◌, ◌+◌, ◌<◌, ◌^◌, ◌↔◌, ◌∙◌, ◌∷◌, ◌≡◌, ◌≤◌, ◌⊎◌, Accepted, AreApart, AreBelow, AreUnderWay, Arrived, Bool}
+use Rattle.drift_world.proofs.Words.{if◌then◌else◌, ◌&&◌, ◌+◌, ◌<◌, ◌↔◌, ◌∙◌, ◌∷◌, ◌≡◌, ◌⊎◌, Accepted, AreApart, AreUnderWay, Arrived, Bool}
 use Rattle.drift_world.proofs.Words.{Changed, ChangesOnly, Compressed, Content, Delivered, DeviceId, Dropped, Giving, HasItsOctets, Holding, IfSome, IsGivenOut}
-use Rattle.drift_world.proofs.Words.{IsIn, IsInRange, IsPermutation, IsPermutation-sym, IsPutOn, IsShort, IsSound, Kept, Left, LinkId, List, Lost, Network}
+use Rattle.drift_world.proofs.Words.{IsIn, IsInRange, IsPermutation, IsPermutation-sym, IsPutOn, Kept, Left, LinkId, List, Lost, Network}
 use Rattle.drift_world.proofs.Words.{None, NoteBody, Option, Pcf, Permanent, Place, Settled, Some, Timed, TtSent, Waits, WayState, World, ap, arith, at_port}
 use Rattle.drift_world.proofs.Words.{changed_device, delay_by, false, in_permuted, inl, inr, length, link_at, map, named_settled, not, numbers_of, on_wire}
 use Rattle.drift_world.proofs.Words.{rank_of, receiver_of, refl, settled_at, stored_as, subst, sym, true, waiting_as, way_from, wire_entry, with_first}
@@ -150,19 +150,7 @@ awaited_so network broken (Arrived d l c k) frame reading number = by_test (not 
     by_test true (Some f) = (refl, refl)
     by_test true None = tt
     by_test false o = tt
-awaited_so network broken (Event a b) frame reading number = tt
-awaited_so network broken (Permanent a b c d e) frame reading number = tt
-awaited_so network broken (Compressed a b c d e f) frame reading number = tt
-awaited_so network broken (Sent a b) frame reading number = tt
-awaited_so network broken (Corrected a b c d) frame reading number = tt
-awaited_so network broken (Changed a b c d) frame reading number = tt
-awaited_so network broken (Left a b c d) frame reading number = tt
-awaited_so network broken (Lost a b c) frame reading number = tt
-awaited_so network broken (TtSent a b c d e) frame reading number = tt
-awaited_so network broken (Accepted a b c d e) frame reading number = tt
-awaited_so network broken (Delivered a b c d e) frame reading number = tt
-awaited_so network broken (Dropped a b c d) frame reading number = tt
-awaited_so network broken (Clock a b c d) frame reading number = tt
+awaited_so network broken other frame reading number = tt
 
 one_more : (body : NoteBody) (number : ℕ) (old new : List Waits) (o : Option Waits)
     → IfSome o (λ w. (w.cause ≡ number) × (w.device.0 ≡ changed_device body)) → IsOneMore o old new → (new ≡ old) ⊎ HasOneMore body number old new
@@ -213,19 +201,7 @@ waits_elsewhere body number old new (inr more) w apart = (
 named_has : (number : ℕ) (first : NoteBody) (body : NoteBody) (octets : Option Timed) → HasItsOctets body octets
     → HasItsOctets (named_body number first body) octets
 named_has number first (Changed a b c d) octets has = tt
-named_has number first (Event a b) octets has = has
-named_has number first (Arrived a b c d) octets has = has
-named_has number first (Permanent a b c d e) octets has = has
-named_has number first (Compressed a b c d e f) octets has = has
-named_has number first (Sent a b) octets has = has
-named_has number first (Corrected a b c d) octets has = has
-named_has number first (Left a b c d) octets has = has
-named_has number first (Lost a b c) octets has = has
-named_has number first (TtSent a b c d e) octets has = has
-named_has number first (Accepted a b c d e) octets has = has
-named_has number first (Delivered a b c d e) octets has = has
-named_has number first (Dropped a b c d) octets has = has
-named_has number first (Clock a b c d) octets has = has
+named_has number first other octets has = has
 
 -- what is settled has its octets by its new names too
 pub settled_has : (number : ℕ) (first : NoteBody) (zs : List Settled) → All (λ z. HasItsOctets z.body z.octets) zs
@@ -235,39 +211,6 @@ settled_has number first zs all = All-map (λ (z : Settled). HasItsOctets z.body
     (λ z has. named_has number first z.body z.octets has) zs all)
 
 -- ---- another state with the same
-
--- what a state keeps it keeps with less that is settled, and elsewhere in memory
-pub sound_same : {C M : Type 0} (last_step : C → ℕ) (network : Network) (old new : State C M) → IsSound last_step network old
-    → new.clocks ≡ old.clocks → new.machines ≡ old.machines → new.broken ≡ old.broken → new.ups ≡ old.ups → new.downs ≡ old.downs → new.time ≡ old.time
-    → new.shown ≡ old.shown → new.given ≡ old.given → new.under_way.entries ≡ old.under_way.entries → new.waiting.items ≡ old.waiting.items
-    → All (λ z. HasItsOctets z.body z.octets) new.settled.items → IsSound last_step network new
-sound_same {C} last_step network old new sound clocks machines broken ups downs time shown given entries waiting octets =
-    let z = sound.sized in
-    let fit = sound.fit in
-    let number = ap (λ (k : ℕ). k + 1) (sym given) in
-    record {
-      sized = record {
-        clocks = ap (λ v. length v.items) clocks ∙ z.clocks;
-        machines = ap (λ v. length v.items) machines ∙ z.machines;
-        broken = ap (λ v. length v.items) broken ∙ z.broken;
-        ups = ap (λ v. length v.items) ups ∙ z.ups;
-        downs = ap (λ v. length v.items) downs ∙ z.downs;
-        stepped = subst (λ (t : ℕ). All (λ (c : C). last_step c ≤ t) new.clocks.items) (sym time)
-            (subst (λ v. All (λ (c : C). last_step c ≤ old.time) v.items) (sym clocks) z.stepped);
-        limit = subst (λ (t : ℕ). t ≤ 2 ^ 60) (sym time) z.limit;
-        shown = subst (λ (k : ℕ). k ≤ length network.device) (sym shown) z.shown;
-      };
-      under_way = subst (AreUnderWay network) (sym entries) sound.under_way;
-      fit = record {
-        ups = subst (λ v. All IsShort v.items) (sym ups) fit.ups;
-        downs = subst (λ v. All IsShort v.items) (sym downs) fit.downs;
-        octets = octets;
-        below = subst (λ (k : ℕ). AreBelow k new.under_way.entries) number (subst (AreBelow (old.given + 1)) (sym entries) fit.below);
-        waits_below = subst (λ (k : ℕ). All (λ (w : Waits). w.cause < k) new.waiting.items) number
-            (subst (All (λ (w : Waits). w.cause < old.given + 1)) (sym waiting) fit.waits_below);
-        apart = subst AreApart (sym waiting) fit.apart;
-      };
-    }
 
 -- the world of a state whose first settled record is taken out
 pub popped_world : {C M : Type 0} (network : Network) (old new : State C M) (first : Settled)

@@ -1,55 +1,15 @@
 -- The two timers of a device, each by itself.
-use Rattle.drift_world.proofs.Words.{◌+◌, ◌≡◌, DeviceId, IsTimed, List, Network, Node, ap, length, subst, sym, ℕ, ◌∙◌}
+use Rattle.drift_world.proofs.Words.{◌+◌, ◌<◌, ◌∙◌, ◌≡◌, DeviceId, IsTimed, List, Network, Node, ap, arith, inl, inr, length, subst, sym, ℕ}
 use Rattle.std.proofs.Common.{slice_get}
-use Rattle.world_law.proofs.giving.Given.{some_same}
-use Rattle.drift_world.specs.{Stepping.{ActsAt, IsActTimed, IsRipeAt, IsRipeTimed}, declared.state.State.State}
+use Rattle.drift_world.specs.Stepping.{ActsAt, IsActTimed, IsRekeyed, IsRipeAt, IsRipeTimed, SetsOnly}
+use Rattle.drift_world.specs.declared.state.State.{State}
 
-module _ {C M : Type 0} (reading : C → ℕ → ℕ) (stands : M → Network → DeviceId → Node → Type 0) (network : Network) where
-  -- each is right where both are
-  pub ripe_half : (timers : List ℕ) (state : State C M) (device : DeviceId) → IsTimed reading stands network timers state device
-      → IsRipeTimed reading timers state device
-  ripe_half timers state device is = record {
-    clock = is.clock;
-    of_clock = is.of_clock;
-    ripe = is.ripe;
-    of_ripe = is.of_ripe;
-    ripens = is.ripens;
-  }
-
-  pub act_half : (timers : List ℕ) (state : State C M) (device : DeviceId) → IsTimed reading stands network timers state device
-      → IsActTimed reading stands network timers state device
-  act_half timers state device is = record {
-    clock = is.clock;
-    of_clock = is.of_clock;
-    machine = is.machine;
-    of_machine = is.of_machine;
-    act = is.act;
-    of_act = is.of_act;
-    acts = is.acts;
-  }
-
-  -- both are where each is
-  pub both_halves : (timers : List ℕ) (state : State C M) (device : DeviceId) → IsRipeTimed reading timers state device
-      → IsActTimed reading stands network timers state device → IsTimed reading stands network timers state device
-  both_halves timers state device ripe act = record {
-    clock = act.clock;
-    of_clock = act.of_clock;
-    machine = act.machine;
-    of_machine = act.of_machine;
-    ripe = ripe.ripe;
-    of_ripe = ripe.of_ripe;
-    ripens = subst (λ (k : C). IsRipeAt reading k state.waiting.items device.0 state.time ripe.ripe) (some_same _ _ _ ripe.of_clock act.of_clock)
-        ripe.ripens;
-    act = act.act;
-    of_act = act.of_act;
-    acts = act.acts;
-  }
-
+module _ {C M : Type 0} (reading : C → ℕ → ℕ) (stands : M → Network → DeviceId → Node → Type 0) (network : Network) (old new : State C M)
+    (device : DeviceId) where
   -- one stays right, where what it is for does
-  pub ripe_stays : (old new : State C M) (device : DeviceId) → IsRipeTimed reading old.timers old device → new.clocks ≡ old.clocks
-      → new.time ≡ old.time → new.waiting ≡ old.waiting → slice_get new.timers device.0 ≡ slice_get old.timers device.0
-      → IsRipeTimed reading new.timers new device
-  ripe_stays old new device is clocks time waiting slot = record {
+  pub ripe_stays : IsRipeTimed reading old.timers old device → new.clocks ≡ old.clocks → new.time ≡ old.time → new.waiting ≡ old.waiting
+      → slice_get new.timers device.0 ≡ slice_get old.timers device.0 → IsRipeTimed reading new.timers new device
+  ripe_stays is clocks time waiting slot = record {
     clock = is.clock;
     of_clock = ap (λ (c : _). slice_get c.items device.0) clocks ∙ is.of_clock;
     ripe = is.ripe;
@@ -58,11 +18,11 @@ module _ {C M : Type 0} (reading : C → ℕ → ℕ) (stands : M → Network �
         (subst (λ (w : _). IsRipeAt reading is.clock w.items device.0 old.time is.ripe) (sym waiting) is.ripens);
   }
 
-  pub act_stays : (old new : State C M) (device : DeviceId) → IsActTimed reading stands network old.timers old device → new.clocks ≡ old.clocks
-      → new.time ≡ old.time → new.machines ≡ old.machines
+  pub act_stays : IsActTimed reading stands network old.timers old device → new.clocks ≡ old.clocks → new.time ≡ old.time
+      → new.machines ≡ old.machines
       → slice_get new.timers (length network.device + device.0) ≡ slice_get old.timers (length network.device + device.0)
       → IsActTimed reading stands network new.timers new device
-  act_stays old new device is clocks time machines slot = record {
+  act_stays is clocks time machines slot = record {
     clock = is.clock;
     of_clock = ap (λ (c : _). slice_get c.items device.0) clocks ∙ is.of_clock;
     machine = is.machine;
@@ -70,4 +30,53 @@ module _ {C M : Type 0} (reading : C → ℕ → ℕ) (stands : M → Network �
     act = is.act;
     of_act = slot ∙ is.of_act;
     acts = subst (λ (n : ℕ). ActsAt reading stands network is.clock is.machine device n is.act) (sym time) is.acts;
+  }
+
+module _ {C M : Type 0} (reading : C → ℕ → ℕ) (stands : M → Network → DeviceId → Node → Type 0) (network : Network) (old mid new : State C M)
+    (device : DeviceId) where
+  -- one is set, and then the other
+  pub set_both : device.0 < length network.device → IsRipeTimed reading mid.timers mid device → SetsOnly (λ slot. slot ≡ device.0) old mid
+      → IsActTimed reading stands network new.timers new device → SetsOnly (λ slot. slot ≡ length network.device + device.0) mid new
+      → IsRekeyed reading stands network device old new
+  set_both there ripe first act then = record {
+    sets = record {
+      same = then.same ∙ ap (λ (s : State C M). let k : State C M = record s { timers = new.timers } in k) first.same;
+      sized = then.sized ∙ first.sized;
+      others = λ slot apart. then.others slot (λ e. apart (inr e)) ∙ first.others slot (λ e. apart (inl e));
+      later = λ all. then.later (first.later all);
+    };
+    timed = record {
+      ripe = ripe_stays reading stands network mid new device ripe (ap (λ (t : State C M). t.clocks) then.same) (ap (λ (t : State C M). t.time) then.same)
+          (ap (λ (t : State C M). t.waiting) then.same) (then.others device.0 (λ e. omega (arith, e, there)));
+      act = act;
+    };
+  }
+
+  -- one alone is set, and the other was right
+  pub set_act : device.0 < length network.device → IsTimed reading stands network old.timers old device → mid.clocks ≡ old.clocks
+      → mid.time ≡ old.time → mid.waiting ≡ old.waiting → mid.timers ≡ old.timers
+      → IsActTimed reading stands network new.timers new device → SetsOnly (λ slot. slot ≡ length network.device + device.0) mid new
+      → IsRekeyed reading stands network device mid new
+  set_act there was clocks time waiting timers act sets = record {
+    sets = record { same = sets.same; sized = sets.sized; others = λ slot apart. sets.others slot (λ e. apart (inr e)); later = sets.later };
+    timed = record {
+      ripe = ripe_stays reading stands network old new device was.ripe (ap (λ (t : State C M). t.clocks) sets.same ∙ clocks)
+          (ap (λ (t : State C M). t.time) sets.same ∙ time) (ap (λ (t : State C M). t.waiting) sets.same ∙ waiting)
+          (sets.others device.0 (λ e. omega (arith, e, there)) ∙ ap (λ (l : List ℕ). slice_get l device.0) timers);
+      act = act;
+    };
+  }
+
+  pub set_ripe : device.0 < length network.device → IsTimed reading stands network old.timers old device → mid.clocks ≡ old.clocks
+      → mid.time ≡ old.time → mid.machines ≡ old.machines → mid.timers ≡ old.timers
+      → IsRipeTimed reading new.timers new device → SetsOnly (λ slot. slot ≡ device.0) mid new → IsRekeyed reading stands network device mid new
+  set_ripe there was clocks time machines timers ripe sets = record {
+    sets = record { same = sets.same; sized = sets.sized; others = λ slot apart. sets.others slot (λ e. apart (inl e)); later = sets.later };
+    timed = record {
+      ripe = ripe;
+      act = act_stays reading stands network old new device was.act (ap (λ (t : State C M). t.clocks) sets.same ∙ clocks)
+          (ap (λ (t : State C M). t.time) sets.same ∙ time) (ap (λ (t : State C M). t.machines) sets.same ∙ machines)
+          (sets.others (length network.device + device.0) (λ e. omega (arith, e, there))
+          ∙ ap (λ (l : List ℕ). slice_get l (length network.device + device.0)) timers);
+    };
   }

@@ -87,11 +87,7 @@ told_settled network other now hs place signal is so =
 -- the record has its octets, where it needs them
 sent_octets : (place : Place) (given : _) (is : Arrival) → have_octets (arrived place is (signals.Octets given))
 sent_octets place given (arrivals.Dropped reason) = tt
-sent_octets place given (arrivals.Waits frame point) = tt
-sent_octets place given (arrivals.Passes frame way) = tt
-sent_octets place given (arrivals.PassesAndWaits frame way point) = tt
-sent_octets place given (arrivals.Accepted vl cycle) = tt
-sent_octets place given (arrivals.Delivered vl cycle) = tt
+sent_octets place given other = tt
 
 arrival_octets : (network other : Network) (device : DeviceId) (node : Node) (moment : Moment) (place : Place) (link : LinkId) (signal : SignalSent)
     → have_octets (arrived place (arrival_at other device node moment link (signal_as network signal)) signal)

@@ -1,9 +1,9 @@
 -- What is settled is in the order of its places, also where the causes that are to come are hidden.
-use Rattle.drift_world.proofs.Words.{if◌then◌else◌, ◌++◌, ◌<◌, ◌∙◌, ◌∷◌, ◌≡◌, ◌≤◌, ◌⊎◌, Accepted, AreSettled, Arrived, Bool, Changed, Compressed, Delivered}
-use Rattle.drift_world.proofs.Words.{DeviceId, Dropped, Happening, IsBefore, IsIn, Left, List, Lost, Network, Node, NoneBefore, Note, NoteBody, Permanent}
-use Rattle.drift_world.proofs.Words.{Scenario, Stands, TtSent, World, [], ap, append_assoc, arith, cases_lt, chain, happenings, hidden, hidden_body, in_right}
+use Rattle.drift_world.proofs.Words.{if◌then◌else◌, ◌++◌, ◌<◌, ◌∙◌, ◌∷◌, ◌≡◌, ◌≤◌, ◌⊎◌, AreSettled, Bool, Changed}
+use Rattle.drift_world.proofs.Words.{DeviceId, Happening, IsBefore, IsIn, List, Network, Node, NoneBefore, Note, NoteBody}
+use Rattle.drift_world.proofs.Words.{Scenario, Stands, World, [], ap, append_assoc, arith, cases_lt, chain, happenings, hidden, hidden_body, in_right}
 use Rattle.drift_world.proofs.Words.{inl, inr, le-ltb, length, lt-ltb, map, nat_lt, never_self, none_yet, parted, place_of, rank, refl, subst, sym, time_of, ℕ}
-use Rattle.run_law.specs.{declared.{judgement.Why.Why, note.NoteBody.TheVariants.{Clock, Corrected, Event, Sent}}, records.Ranks.{key, members_in}}
+use Rattle.run_law.specs.{declared.judgement.Why.Why, records.Ranks.{key, members_in}}
 use Rattle.sync_state.specs.declared.state.State.{State}
 use Rattle.world_law.proofs.putting.PutShown.{hidden_rank}
 use Rattle.world_steps.proofs.acting.Stays.{out_mapped}
@@ -28,20 +28,8 @@ pub record IsOther (given : ℕ) (body : NoteBody) : Type 0 where
   pub apart : rank body ≡ 7 → ⊥
 
 pub change_or_other : (given : ℕ) (body : NoteBody) → IsChange body ⊎ IsOther given body
-change_or_other given (Event line what) = inr (record { same = refl; apart = λ e. omega (arith, e) })
-change_or_other given (Arrived device link cause clock) = inr (record { same = refl; apart = λ e. omega (arith, e) })
-change_or_other given (Permanent device link cause point verdict) = inr (record { same = refl; apart = λ e. omega (arith, e) })
-change_or_other given (Compressed device opened at cycle members verdict) = inr (record { same = refl; apart = λ e. omega (arith, e) })
-change_or_other given (Sent device cycle) = inr (record { same = refl; apart = λ e. omega (arith, e) })
-change_or_other given (Corrected device cycle by adjustment) = inr (record { same = refl; apart = λ e. omega (arith, e) })
 change_or_other given (Changed device state cause why) = inl (record { device = device; state = state; cause = cause; why = why; is = refl })
-change_or_other given (Left device link cause clock) = inr (record { same = refl; apart = λ e. omega (arith, e) })
-change_or_other given (Lost device link cause) = inr (record { same = refl; apart = λ e. omega (arith, e) })
-change_or_other given (TtSent device link cause vl cycle) = inr (record { same = refl; apart = λ e. omega (arith, e) })
-change_or_other given (Accepted device link cause vl cycle) = inr (record { same = refl; apart = λ e. omega (arith, e) })
-change_or_other given (Delivered device link cause vl cycle) = inr (record { same = refl; apart = λ e. omega (arith, e) })
-change_or_other given (Dropped device link cause reason) = inr (record { same = refl; apart = λ e. omega (arith, e) })
-change_or_other given (Clock device reading adjustment state) = inr (record { same = refl; apart = λ e. omega (arith, e) })
+change_or_other given other = inr (record { same = refl; apart = λ e. omega (arith, e) })
 
 -- where two places have other ranks, these and the times part them
 parts : (t u r q : ℕ) (xs ys vs ws : List ℕ) → IsBefore (t ∷ r ∷ xs) (u ∷ q ∷ ys) → IsBefore (u ∷ q ∷ vs) (t ∷ r ∷ ws) → (r ≡ q → ⊥) → ⊥

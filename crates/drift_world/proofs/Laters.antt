@@ -38,6 +38,19 @@ none_earlier s mark later notes note whole more before =
     let other = whole.full hs [] h (sym (append-nil hs)) last.0 (λ g none. absurd none) last.1 before in
     never_self (place_of h) (subst (λ (p : List ℕ). IsBefore p (place_of h)) other.2 (last.0 other.0 other.1))
 
+-- the world has come to the time of the event, which may befall it
+pub record IsThere {C M : Type 0} (fresh : ℕ → C) (after_step : C → ℕ → ℤ → C) (reading : C → ℕ → ℕ)
+    (stands : M → Network → DeviceId → Node → Type 0) (network : Network) (old mid : World C (Kept M)) (events : List Event)
+    (notes : List Note) (event : Event) : Type 0 where
+  pub so : StandsUnder fresh after_step reading stands network mid events notes
+  pub reached : HasReached old mid event.time
+  pub opens : IsOpenTo mid event
+  pub same : mid.network ≡ old.network
+  pub lines : mid.lines ≡ old.lines
+  pub given : mid.given ≡ old.given
+  pub now : mid.now ≡ amount event.time
+  pub again : MayApplyAgain old mid event.time
+
 module _ {C M : Type 0} (fresh : ℕ → C) (after_step : C → ℕ → ℤ → C) (reading : C → ℕ → ℕ)
     (stands : M → Network → DeviceId → Node → Type 0) (network : Network) (old mid : World C (Kept M)) (events : List Event)
     (notes : List Note) (event : Event) (comes : ComesBehind fresh after_step reading stands network old events notes event)
@@ -65,19 +78,19 @@ module _ {C M : Type 0} (fresh : ℕ → C) (after_step : C → ℕ → ℤ → 
       (before : IfSome o (λ note. (note.time ≡ units_of mid.now) × (note.time.0 <ℤ event.time.0)))
       (reached : IfNone o (Reaches old mid event.time)) where
     -- the same events and records leave the world there
-    pub stands_there : StandsUnder fresh after_step reading stands network mid events notes
+    stands_there : StandsUnder fresh after_step reading stands network mid events notes
     stands_there = subst (λ (l : List Note). StandsUnder fresh after_step reading stands network mid events l)
         (ap (λ (p : Option Note). notes ++ option_to_list p) (none_due o more before) ∙ append-nil notes) more
 
     -- the world has come to the time of the event
-    pub has_reached : HasReached old mid event.time
+    has_reached : HasReached old mid event.time
     has_reached =
         let R : Option Note → Type 0 = λ p. IfNone p (Reaches old mid event.time) in
         let reaches : Reaches old mid event.time = subst R (none_due o more before) reached in
         reaches opens.unended opens.time (time_limit network events event comes.is.is.range comes.within)
 
     -- the event may befall it
-    pub open_there : IsOpenTo mid event
+    open_there : IsOpenTo mid event
     open_there =
         let there = has_reached in
         let time = time_is in
@@ -93,24 +106,24 @@ module _ {C M : Type 0} (fresh : ℕ → C) (after_step : C → ℕ → ℤ → 
               (λ ended. true≢false (sym ((a.ended (units_of mid.now)).0 ((b.ended (units_of mid.now)).1 (ended, refl))).0 ∙ opens.unended));
         }
 
-    pub lines_there : mid.lines ≡ old.lines
+    lines_there : mid.lines ≡ old.lines
     lines_there = stands_there.is.lines ∙ sym comes.is.is.lines
 
-    pub given_there : mid.given ≡ old.given
+    given_there : mid.given ≡ old.given
     given_there = stands_there.is.given ∙ sym comes.is.is.given
 
-    pub network_there : mid.network ≡ old.network
+    network_there : mid.network ≡ old.network
     network_there = stands_there.is.same ∙ sym comes.is.is.same
 
-    pub later_there : old.now ≤ mid.now
+    later_there : old.now ≤ mid.now
     later_there = let there = has_reached in let now = there.time in let not_past = opens.time in omega (arith, ints, now, not_past)
 
     -- its time is that of the event
-    pub now_there : mid.now ≡ amount event.time
+    now_there : mid.now ≡ amount event.time
     now_there = let there = has_reached in ap unsigned_abs there.time
 
     -- memory ran out there
-    pub again_there : MayApplyAgain old mid event.time
+    again_there : MayApplyAgain old mid event.time
     again_there =
         let there = has_reached in
         let now = there.time in
@@ -123,3 +136,15 @@ module _ {C M : Type 0} (fresh : ℕ → C) (after_step : C → ℕ → ℤ → 
           not_past = omega (arith, ints, now);
           early = λ at. open_there.early;
         }
+
+    pub is_there : IsThere fresh after_step reading stands network old mid events notes event
+    is_there = record {
+      so = stands_there;
+      reached = has_reached;
+      opens = open_there;
+      same = network_there;
+      lines = lines_there;
+      given = given_there;
+      now = now_there;
+      again = again_there;
+    }

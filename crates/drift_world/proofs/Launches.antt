@@ -1,12 +1,12 @@
 -- What a record launches, as its law asks for it.
-use Rattle.drift_world.proofs.Words.{if◌then◌else◌, ◌+◌, ◌<◌, ◌∙◌, ◌∷◌, ◌≡◌, Accepted, AreBelow, AreUnderWay, AreWays, Arrived, ArrivedAt, AtPort, Bool}
-use Rattle.drift_world.proofs.Words.{Changed, Compressed, Content, Delivered, DeviceId, Down, Dropped, Giving, Happening, IfNone, IfSome, IsGivenOut, IsInRange}
-use Rattle.drift_world.proofs.Words.{IsLinkInRange, IsOf, IsSomeAnd, Left, Link, LinkId, List, Lost, Network, None, NoteBody, Option, Pcf, Permanent, Scenario}
-use Rattle.drift_world.proofs.Words.{Some, TtSent, Up, Waits, WayNow, WayState, [], ap, arith, at_port, delay_at, delay_by, false, given_of, in_all, inl, inr}
+use Rattle.drift_world.proofs.Words.{if◌then◌else◌, ◌+◌, ◌<◌, ◌∙◌, ◌∷◌, ◌≡◌, AreBelow, AreUnderWay, AreWays, Arrived, ArrivedAt, AtPort, Bool}
+use Rattle.drift_world.proofs.Words.{Compressed, Content, DeviceId, Down, Giving, Happening, IfNone, IfSome, IsGivenOut, IsInRange}
+use Rattle.drift_world.proofs.Words.{IsLinkInRange, IsOf, IsSomeAnd, Link, LinkId, List, Network, None, NoteBody, Option, Pcf, Scenario}
+use Rattle.drift_world.proofs.Words.{Some, Up, Waits, WayNow, WayState, [], ap, arith, at_port, delay_at, delay_by, false, given_of, in_all, inl, inr}
 use Rattle.drift_world.proofs.Words.{is_broken, is_given, is_parent_of, length, map, option_map_or, refl, same_Some, slice_get-map, slice_get_within, subst}
 use Rattle.drift_world.proofs.Words.{sym, time_of, true, waiting_as, way_as, way_from, way_now, ℕ}
 use Rattle.std.specs.List.{filter_map, slice_get}
-use Rattle.run_law.specs.{control.Leaving.Gives, declared.note.NoteBody.TheVariants.{Clock, Corrected, Event, Sent}, scenario.Ways.hold_at}
+use Rattle.run_law.specs.{control.Leaving.Gives, declared.note.NoteBody.TheVariants.Sent, scenario.Ways.hold_at}
 use Rattle.tte_lemmas.proofs.Options.{mapped}
 use Rattle.world_law.specs.world.{Moves.{AreAwaited, AreGiven}, World.{IsGivenBy, port_place}}
 use Rattle.world_state.specs.declared.queue.Entry.{Entry}
@@ -24,17 +24,7 @@ pub giver_gives : (network : Network) (body : NoteBody) (device giver : DeviceId
 giver_gives network (Sent master cycle) device giver link gives by = gives.0 ∙ same_Some _ _ by
 giver_gives network (Compressed cm opened at cycle members verdict) device giver link gives by = gives.0 ∙ same_Some _ _ by
 giver_gives network (Arrived relay from cause clock) device giver link gives by = gives.0 ∙ same_Some _ _ by
-giver_gives network (Event line what) device giver link gives by = absurd gives
-giver_gives network (Permanent d l cause point verdict) device giver link gives by = absurd gives
-giver_gives network (Corrected d cycle of adjustment) device giver link gives by = absurd gives
-giver_gives network (Changed d state cause why) device giver link gives by = absurd gives
-giver_gives network (Left d l cause clock) device giver link gives by = absurd gives
-giver_gives network (Lost d l cause) device giver link gives by = absurd gives
-giver_gives network (TtSent d l cause vl cycle) device giver link gives by = absurd gives
-giver_gives network (Accepted d l cause vl cycle) device giver link gives by = absurd gives
-giver_gives network (Delivered d l cause vl cycle) device giver link gives by = absurd gives
-giver_gives network (Dropped d l cause reason) device giver link gives by = absurd gives
-giver_gives network (Clock d reading adjustment state) device giver link gives by = absurd gives
+giver_gives network other device giver link gives by = absurd gives
 
 pub gives_within : (network : Network) (body : NoteBody) (device : DeviceId) (link : LinkId) → Gives network body device link
     → link.0 < length network.link
@@ -46,34 +36,14 @@ gives_within network (Arrived relay from cause clock) device link gives =
       | inl up ↦ within_and (λ (l : Link). l.child ≡ device) network.link link.0 _ refl up.1
       | inr down ↦ within_and (λ (l : Link). l.parent ≡ device) network.link link.0 _ refl down.1
     ]
-gives_within network (Event line what) device link gives = absurd gives
-gives_within network (Permanent d l cause point verdict) device link gives = absurd gives
-gives_within network (Corrected d cycle of adjustment) device link gives = absurd gives
-gives_within network (Changed d state cause why) device link gives = absurd gives
-gives_within network (Left d l cause clock) device link gives = absurd gives
-gives_within network (Lost d l cause) device link gives = absurd gives
-gives_within network (TtSent d l cause vl cycle) device link gives = absurd gives
-gives_within network (Accepted d l cause vl cycle) device link gives = absurd gives
-gives_within network (Delivered d l cause vl cycle) device link gives = absurd gives
-gives_within network (Dropped d l cause reason) device link gives = absurd gives
-gives_within network (Clock d reading adjustment state) device link gives = absurd gives
+gives_within network other device link gives = absurd gives
 
 pub gives_by : (network : Network) (body : NoteBody) (device : DeviceId) (link : LinkId) → Gives network body device link
     → giver_of body ≡ Some device
 gives_by network (Sent master cycle) device link gives = ap (λ (d : DeviceId). Some d) (sym gives.0)
 gives_by network (Compressed cm opened at cycle members verdict) device link gives = ap (λ (d : DeviceId). Some d) (sym gives.0)
 gives_by network (Arrived relay from cause clock) device link gives = ap (λ (d : DeviceId). Some d) (sym gives.0)
-gives_by network (Event line what) device link gives = absurd gives
-gives_by network (Permanent d l cause point verdict) device link gives = absurd gives
-gives_by network (Corrected d cycle of adjustment) device link gives = absurd gives
-gives_by network (Changed d state cause why) device link gives = absurd gives
-gives_by network (Left d l cause clock) device link gives = absurd gives
-gives_by network (Lost d l cause) device link gives = absurd gives
-gives_by network (TtSent d l cause vl cycle) device link gives = absurd gives
-gives_by network (Accepted d l cause vl cycle) device link gives = absurd gives
-gives_by network (Delivered d l cause vl cycle) device link gives = absurd gives
-gives_by network (Dropped d l cause reason) device link gives = absurd gives
-gives_by network (Clock d reading adjustment state) device link gives = absurd gives
+gives_by network other device link gives = absurd gives
 
 child_in : (network : Network) (device : DeviceId) (i : ℕ) (o : Option Link) → slice_get network.link i ≡ o → IsInRange network
     → IsSomeAnd o (λ l. l.child ≡ device) → device.0 < length network.device
@@ -96,17 +66,7 @@ gives_in network (Arrived relay from cause clock) device link range gives =
       | inl up ↦ child_in network device link.0 _ refl range up.1
       | inr down ↦ parent_in network device link.0 _ refl range down.1
     ]
-gives_in network (Event line what) device link range gives = absurd gives
-gives_in network (Permanent d l cause point verdict) device link range gives = absurd gives
-gives_in network (Corrected d cycle of adjustment) device link range gives = absurd gives
-gives_in network (Changed d state cause why) device link range gives = absurd gives
-gives_in network (Left d l cause clock) device link range gives = absurd gives
-gives_in network (Lost d l cause) device link range gives = absurd gives
-gives_in network (TtSent d l cause vl cycle) device link range gives = absurd gives
-gives_in network (Accepted d l cause vl cycle) device link range gives = absurd gives
-gives_in network (Delivered d l cause vl cycle) device link range gives = absurd gives
-gives_in network (Dropped d l cause reason) device link range gives = absurd gives
-gives_in network (Clock d reading adjustment state) device link range gives = absurd gives
+gives_in network other device link range gives = absurd gives
 
 -- ---- the ways
 

@@ -49,6 +49,5 @@ pub mod Suits
 pub mod Timings
 pub mod TurnedOn
 pub mod Turning
-pub mod Wells
 pub mod JustPut
 pub mod Words

@@ -9,8 +9,9 @@ use Rattle.run_law.{proofs.law.FirstPlaces.founded_at, specs.declared.note.NoteB
 use Rattle.run_law.specs.runs.DueRecords.{IsArrivedRecord}
 use Rattle.world_law.proofs.frames.Proper.{arrived_so, launched_frame}
 use Rattle.world_state.specs.Giving.{CameBy, HasItsFrame, IsYoung, MayBeGiven}
-use Rattle.world_steps.proofs.{growing.FromZero.arrived_clock, hearing.Receptions.receiver_in}
+use Rattle.world_steps.proofs.{hearing.Receptions.receiver_in}
 use Rattle.drift_world.proofs.{FirstSettled.first_of, HiddenCauses.change_or_other, Sendings.link_within}
+use Rattle.run_law.proofs.control.Arrived.{arrived_young}
 
 -- it may be given but for its octets
 record MayBut (network : Network) (body : NoteBody) (frame : Option Pcf) : Type 0 where
@@ -43,7 +44,7 @@ arrived_may s hs time device link cause clock frame range founded a own =
     ∙ ap (option_map (with_clock clock)) put_frame in
     record {
       by = there.0;
-      young = arrived_clock s hs device (amount time) link cause clock a;
+      young = arrived_young s hs device (amount time) link cause clock a;
       arrived = there.1;
       framed = λ d is none. let bad : None ≡ Some (with_clock clock so.came) = sym none ∙ has in absurd cc;
     }

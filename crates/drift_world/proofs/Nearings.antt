@@ -1,5 +1,5 @@
 -- A world comes nearer to a time, turn by turn.
-use Rattle.drift_world.proofs.Words.{if◌then◌else◌, ◌*◌, ◌+◌, ◌-◌, ◌<◌, ◌∙◌, ◌∷◌, ◌≡◌, ◌≤ℤ◌, ◌≤◌, AreTimed, Befallen, Bool, Content, DeviceId, Err, IfOk}
+use Rattle.drift_world.proofs.Words.{if◌then◌else◌, ◌*◌, ◌+◌, ◌-◌, ◌<◌, ◌∙◌, ◌∷◌, ◌≡◌, ◌≤ℤ◌, ◌≤◌, AreTimed, Befallen, Bool, Content, DeviceId, Err}
 use Rattle.drift_world.proofs.Words.{IsPutOn, IsRunning, IsWell, Kept, List, Network, Node, None, Ok, OnOk, Option, Result, Settled, Some, Turn, WayState, []}
 use Rattle.drift_world.proofs.Words.{ap, arith, cases_lt, false, get_or_from_slice_get, inl, inr, ints, keeps, le-ltb, length, length_permutation, lt-ltb}
 use Rattle.drift_world.proofs.Words.{nat_lt, pos, reading_for, refl, slice_get_within, subst, suc, sym, true, zero, ℕ}
@@ -100,7 +100,7 @@ module _ {C M : Type 0} (last_step : C → ℕ) (reading : C → ℕ → ℕ) (s
   act_due : (device : DeviceId) (old : State C M) → IsWell last_step reading stands network old → IsActive reading stands network old device
       → (act : ℕ) × (slice_get old.timers (length network.device + device.0) ≡ Some act) × (act ≤ old.time)
   act_due device old well active =
-      let timed = well.timed.each device active.of in
+      let timed = (well.timed.each device active.of).act in
       let node = node_of reading stands network old well.running device active.machine active.of active.there in
       let due = active.due node.0 node.1 in
       let machine_is = some_same _ _ _ active.there timed.of_machine in
@@ -117,7 +117,7 @@ module _ {C M : Type 0} (last_step : C → ℕ) (reading : C → ℕ → ℕ) (s
       → new ≡ record mid { timers = new.timers } → IsWell last_step reading stands network new → IsIdleAt reading stands network mid device
       → (act : ℕ) × (slice_get new.timers (length network.device + device.0) ≡ Some act) × (new.time < act)
   act_later device mid new of_it running same well idle =
-      let timed = well.timed.each device of_it in
+      let timed = (well.timed.each device of_it).act in
       let s = running.s in
       let time : new.time ≡ mid.time = ap (λ (t : State C M). t.time) same in
       let limit = well.sound.sized.limit in
@@ -223,12 +223,6 @@ module _ {C M : Type 0} (last_step : C → ℕ) (reading : C → ℕ → ℕ) (s
 
 -- ---- each kind of source
 
--- where timers are set then, no more is to work off
-rekeyed_less : {C M : Type 0} (network : Network) (old mid new : State C M) → burden network mid < burden network old
-    → new ≡ record mid { timers = new.timers } → IsLess network old new
-rekeyed_less network old mid new less same =
-    inl (subst (λ (n : ℕ). n < burden network old) (sym (ap (λ (t : State _ _). burden network t) same)) less)
-
 -- the events of the instant are settled
 pub settled_less : {C M : Type 0} (network : Network) (old new : State C M) → old.pending ≡ true → new.pending ≡ false
     → length new.befell.items + length new.under_way.entries ≤ length old.befell.items + length old.under_way.entries
@@ -254,11 +248,6 @@ pub shown_less : {C M : Type 0} (network : Network) (old new : State C M)
 shown_less network old new acted more =
     let sum = ap (λ (t : State _ _). burden network t) acted in inl (omega (arith, sum, more))
 
--- what follows from the clauses of a result that is right
-pub on_ok : {A E : Type 0} (result : Result A E) (P R : Type 0) → OnOk result P → (P → R) → OnOk result R
-on_ok (Ok a) P R p f = f p
-on_ok (Err e) P R p f = tt
-
 pub on_both : {A E : Type 0} (result : Result A E) (P Q R : Type 0) → OnOk result P → OnOk result Q → (P → Q → R) → OnOk result R
 on_both (Ok a) P Q R p q f = f p q
 on_both (Err e) P Q R p q f = tt
@@ -266,14 +255,6 @@ on_both (Err e) P Q R p q f = tt
 -- ---- turns
 
 -- what nears a state with more room nears the state before it
-pub nears_then : {C M : Type 0} (E : Type 0) (network : Network) (until : ℕ) (old mid new : State C M) (result : Result Turn E)
-    → mid ≡ record old { settled = mid.settled } → IfOk result (Nears network until mid new) → IfOk result (Nears network until old new)
-nears_then E network until old mid new (Ok Gives) same nears = tt
-nears_then E network until old mid new (Ok Ends) same nears = tt
-nears_then E network until old mid new (Ok GoesOn) same nears =
-    subst (λ (n : ℕ). distance network until new < n) (ap (λ (t : State _ _). distance network until t) same) nears
-nears_then E network until old mid new (Err e) same nears = tt
-
 -- a turn of a state that is no farther than another
 pub no_farther : {C M : Type 0} (network : Network) (until : ℕ) (old new : State C M) (turn : Turn) → Nears network until old new turn
     → IsNoFarther network until old new turn
@@ -281,10 +262,12 @@ no_farther network until old new Gives nears = tt
 no_farther network until old new Ends nears = tt
 no_farther network until old new GoesOn nears = let lt : distance network until new < distance network until old = nears in omega (arith, lt)
 
-pub nears_behind : {C M : Type 0} (E : Type 0) (network : Network) (until : ℕ) (old mid new : State C M) (result : Result Turn E)
-    → distance network until mid ≤ distance network until old → IfOk result (Nears network until mid new) → IfOk result (Nears network until old new)
-nears_behind E network until old mid new (Ok Gives) le nears = tt
-nears_behind E network until old mid new (Ok Ends) le nears = tt
-nears_behind E network until old mid new (Ok GoesOn) le nears =
+pub nears_behind : {C M : Type 0} (network : Network) (until : ℕ) (old mid new : State C M) (turn : Turn)
+    → distance network until mid ≤ distance network until old → Nears network until mid new turn → Nears network until old new turn
+nears_behind network until old mid new Gives le nears = tt
+nears_behind network until old mid new Ends le nears = tt
+nears_behind network until old mid new GoesOn le nears =
     let lt : distance network until new < distance network until mid = nears in omega (arith, le, lt)
-nears_behind E network until old mid new (Err e) le nears = tt
+
+pub no_more : (a b : ℕ) → a ≡ b → a ≤ b
+no_more a b e = omega (arith, e)

@@ -14,7 +14,6 @@ use Rattle.run_law.specs.{declared.judgement.{Judgement.TheVariants.Integrates, 
 use Rattle.run_law.specs.device.States.{adjustment_at_hearing, has_joined_at, state_after, state_at_hearing, state_before, state_with}
 use Rattle.run_law.specs.{records.Happenings.earlier, runs.DueRecords.IsEventRecord, scenario.{Devices.{is_cm, plan_of, start_of}, Faults.BeginsOn}}
 use Rattle.sync_state.specs.{Standing.{point_in, state_at_start}, declared.{answers.Verdict.TheVariants.Corrected, plan.SyncPlan.SyncPlan, state.State.State}}
-use Rattle.sync_state.specs.declared.state.State.TheVariants.{Synchronised}
 use Rattle.traffic_law.proofs.spans.Forward.{ripe_integrates}
 use Rattle.world_law.{proofs.devices.OwnRecords.{joins_no_other, keeps_state}, specs.device.Own.moves}
 use Rattle.run_law.specs.declared.judgement.Why.TheVariants as whys
@@ -27,9 +26,7 @@ use Rattle.run_law.specs.declared.steps.Ripe.TheVariants as ripe
 off_hears : (plan : SyncPlan) (precision : ℤ) (adjustment point : ℤ) (cycle : ℕ) (members : Members) (state : State) → state ≡ Off
     → Integrates ≡ heard_as plan precision state adjustment point cycle members → ⊥
 off_hears plan precision adjustment point cycle members Off off e = cc
-off_hears plan precision adjustment point cycle members Integrating off e = cc
-off_hears plan precision adjustment point cycle members Joining off e = cc
-off_hears plan precision adjustment point cycle members Synchronised off e = cc
+off_hears plan precision adjustment point cycle members other off e = cc
 
 -- ---- no record moves it
 

@@ -10,36 +10,29 @@ use Rattle.run_law.specs.{control.Leaving.{Departure, leaves, on_cut_way, too_ol
 use Rattle.world_state.specs.Ripening.{AreSettledSo, ripe_record}
 use Rattle.drift_world.specs.Ripening.{IsJudged}
 use Rattle.world_state.specs.{Hearing.arrived, Leaving.{departed, departure_by}, declared.contents.Signal.Signal as SignalSent}
-use Rattle.drift_world.specs.declared.state.State.{State}
+use Rattle.drift_world.specs.declared.{source.Source.Source, state.State.State}
+use Rattle.drift_world.proofs.Turning.{comes_first, is_at, ranked_at}
+use Rattle.drift_world.proofs.Words.{◌++◌, DeviceId, Node, Note, Stands, happenings, keeps}
+use Rattle.drift_world.specs.{Giving.IsRunningWith, Stepping.StandsPast, Turns.{IsNow, MayWork, source_place}}
 use Rattle.run_law.specs.declared.steps.Arrival.TheVariants as arrivals
 use Rattle.run_law.specs.declared.steps.Ripe.TheVariants as ripe
 
 -- ---- the place of a record
 
-arrived_at : (now : ℕ) (place : Place) → place.at ≡ now → place.rank ≡ 2
-    → now ∷ 2 ∷ place.device ∷ place.link ∷ place.cause ∷ [] ≡ numbers_of place
-arrived_at now place at two =
-    ap (λ (t : ℕ). t ∷ 2 ∷ place.device ∷ place.link ∷ place.cause ∷ []) (sym at)
-    ∙ ap (λ (r : ℕ). place.at ∷ r ∷ place.device ∷ place.link ∷ place.cause ∷ []) (sym two)
-
 -- the record of a control frame that arrived stands at the place of what arrived
 pub arrived_own : (network : Network) (now : ℕ) (place : Place) (is : Arrival) (signal : SignalSent) → place.at ≡ now → place.rank ≡ 2
     → rank (arrived place is signal).body ≡ 2 → place_of (settled_at network now (arrived place is signal)) ≡ numbers_of place
-arrived_own network now place (arrivals.Dropped reason) signal at two e = absurd (omega (arith, e))
-arrived_own network now place (arrivals.Waits frame point) signal at two e = arrived_at now place at two
-arrived_own network now place (arrivals.Passes frame way) signal at two e = arrived_at now place at two
-arrived_own network now place (arrivals.PassesAndWaits frame way point) signal at two e = arrived_at now place at two
-arrived_own network now place (arrivals.Accepted vl cycle) signal at two e = absurd (omega (arith, e))
-arrived_own network now place (arrivals.Delivered vl cycle) signal at two e = absurd (omega (arith, e))
+arrived_own network now place (arrivals.Waits frame point) signal at two e = ranked_at now 2 place at two
+arrived_own network now place (arrivals.Passes frame way) signal at two e = ranked_at now 2 place at two
+arrived_own network now place (arrivals.PassesAndWaits frame way point) signal at two e = ranked_at now 2 place at two
+arrived_own network now place other signal at two e = absurd (omega (arith, e))
 
 pub arrived_device : (place : Place) (is : Arrival) (signal : SignalSent) → rank (arrived place is signal).body ≡ 2
     → changed_device (arrived place is signal).body ≡ place.device
-arrived_device place (arrivals.Dropped reason) signal e = absurd (omega (arith, e))
 arrived_device place (arrivals.Waits frame point) signal e = refl
 arrived_device place (arrivals.Passes frame way) signal e = refl
 arrived_device place (arrivals.PassesAndWaits frame way point) signal e = refl
-arrived_device place (arrivals.Accepted vl cycle) signal e = absurd (omega (arith, e))
-arrived_device place (arrivals.Delivered vl cycle) signal e = absurd (omega (arith, e))
+arrived_device place other signal e = absurd (omega (arith, e))
 
 -- so does that of a frame that left
 pub departed_own : (network : Network) (reading : ℕ) (cut : Bool) (e : AtPort) → rank (departed network reading cut e).body ≡ 8
@@ -66,31 +59,18 @@ pub left_own : (network : Network) (now : ℕ) (place : Place) (one : Option Set
     → IfSome one (λ z. rank z.body ≡ 8 → place_of (settled_at network now z) ≡ numbers_of place)
 left_own network now place None at eight is = tt
 left_own network now place (Some z) at eight is = λ own.
-    ap (λ (l : List ℕ). now ∷ l) (is own)
-    ∙ ap (λ (t : ℕ). t ∷ 8 ∷ place.device ∷ place.link ∷ place.cause ∷ []) (sym at)
-    ∙ ap (λ (r : ℕ). place.at ∷ r ∷ place.device ∷ place.link ∷ place.cause ∷ []) (sym eight)
+    ap (λ (l : List ℕ). now ∷ l) (is own) ∙ ranked_at now 8 place at eight
 
 -- so does that of a frame that is judged
 pub judged_own : (network : Network) (now : ℕ) (w : Waits) (is : Ripe) → IsJudged is
     → place_of (settled_at network now (ripe_record w is)) ≡ ripe_place now (waiting_as w)
-judged_own network now w ripe.Opened judged = refl
-judged_own network now w ripe.Joined judged = refl
-judged_own network now w ripe.Repeat judged = refl
-judged_own network now w ripe.Within judged = refl
-judged_own network now w ripe.Outside judged = refl
-judged_own network now w ripe.Ignored judged = refl
 judged_own network now w ripe.Integrates judged = absurd judged
 judged_own network now w (ripe.Dropped reason) judged = absurd judged
+judged_own network now w other judged = refl
 
 pub judged_far : (w : Waits) (is : Ripe) → changed_device (ripe_record w is).body ≡ 2 ^ 32
 judged_far w ripe.Opened = refl
-judged_far w ripe.Joined = refl
-judged_far w ripe.Repeat = refl
-judged_far w ripe.Within = refl
-judged_far w ripe.Outside = refl
-judged_far w ripe.Ignored = refl
-judged_far w ripe.Integrates = refl
-judged_far w (ripe.Dropped reason) = refl
+judged_far w other = refl
 
 -- ---- it is given
 
@@ -103,14 +83,9 @@ put_alone z settled none =
 -- it alone, where a frame is judged
 pub judged_alone : (w : Waits) (is : Ripe) (settled : List Settled) → IsJudged is → settled ≡ []
     → AreSettledSo w is settled (ripe_record w is ∷ [])
-judged_alone w ripe.Opened settled judged none = record { mid = _; at = 0; first = put_alone _ settled none; more = refl }
-judged_alone w ripe.Joined settled judged none = record { mid = _; at = 0; first = put_alone _ settled none; more = refl }
-judged_alone w ripe.Repeat settled judged none = record { mid = _; at = 0; first = put_alone _ settled none; more = refl }
-judged_alone w ripe.Within settled judged none = record { mid = _; at = 0; first = put_alone _ settled none; more = refl }
-judged_alone w ripe.Outside settled judged none = record { mid = _; at = 0; first = put_alone _ settled none; more = refl }
-judged_alone w ripe.Ignored settled judged none = record { mid = _; at = 0; first = put_alone _ settled none; more = refl }
 judged_alone w ripe.Integrates settled judged none = absurd judged
 judged_alone w (ripe.Dropped reason) settled judged none = absurd judged
+judged_alone w other settled judged none = record { mid = _; at = 0; first = put_alone _ settled none; more = refl }
 
 pub put_on_none : (z : Settled) (settled new : List Settled) (at : ℕ) → settled ≡ [] → IsPutAt z settled new at → new ≡ z ∷ []
 put_on_none z settled new at none put =
@@ -163,3 +138,23 @@ changes_both device old mid new a b = record {
   machines = λ i apart. b.machines i apart ∙ a.machines i apart;
   waiting = λ w apart. (λ i. (a.waiting w apart).0 ((b.waiting w apart).0 i), λ i. (b.waiting w apart).1 ((a.waiting w apart).1 i));
 }
+
+module _ {C M : Type 0} (last_step : C → ℕ) (reading : C → ℕ → ℕ) (stands : M → Network → DeviceId → Node → Type 0) (network : Network)
+    (old mid : State C M) (source : Source) (one : Settled) (may : MayWork last_step reading stands network old source) (now : IsNow source)
+    (past : StandsPast reading stands network old mid (source_place old.time source) (one ∷ [])) where
+  -- where it alone is settled, some scenario leaves the state so
+  pub runs_alone : IsRunningWith reading stands network mid one
+  runs_alone = let at = is_at last_step reading stands network old source may now in
+      record { s = at.s; notes = at.notes; is = (past at.s at.notes at.is at.first).0 }
+
+  -- and it stands once the record is given
+  pub stands_alone : (new : State C M) (more : List Note) → place_of (settled_at network mid.time one) ≡ source_place old.time source
+      → ((s : Scenario) (notes : List Note) (is : Stands reading (keeps stands) s (with_first network mid one []) notes)
+      → NoSourceBefore s (happenings s.network notes) is.cursor (place_of (settled_at network mid.time one))
+      → Stands reading (keeps stands) s (world_of network new) (notes ++ more))
+      → (s : Scenario) (notes : List Note) → Stands reading (keeps stands) s (world_of network old) notes
+      → Stands reading (keeps stands) s (world_of network new) (notes ++ more)
+  stands_alone new more at gives s notes is =
+      let h = past s notes is (comes_first last_step reading stands network old source s notes may now is) in
+      gives s notes h.0
+      (none_before_last s (happenings s.network notes) h.0.cursor (source_place old.time source) (place_of (settled_at network mid.time one)) h.1 at)

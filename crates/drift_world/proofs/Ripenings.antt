@@ -10,7 +10,7 @@ use Rattle.run_law.{proofs.records.Order.all_of, specs.{declared.{judgement.Judg
 use Rattle.tte_lemmas.proofs.Naturals.{flips}
 use Rattle.world_law.{proofs.giving.Given.some_same, specs.world.Moves.IsWithout}
 use Rattle.world_state.proofs.queue_lemmas.Bags.{each_apart}
-use Rattle.world_state.{proofs.Swaps.{from_map, stayed, stays, was_there}, specs.Ripening.{AreSettledSo, joined_record, judged_so, ripe_record}}
+use Rattle.world_state.{proofs.Swaps.{stayed, stays, was_there}, specs.Ripening.{AreSettledSo, joined_record, judged_so, ripe_record}}
 use Rattle.world_steps.{proofs.ripening.{Asking.may_ask, RipenedSteps.{ripened_step, waits_within}}, specs.Ripening.{HasRipened, ripe_bodies}}
 use Rattle.drift_world.proofs.{Fits.{all_put, all_put_some, have_octets}, Fitting.cause_of, HiddenCauses.{InOrder, settled_in_order}}
 use Rattle.drift_world.{proofs.Puts.{one_put_in, two_put_in}, specs.declared.state.State.State}
@@ -18,6 +18,7 @@ use Rattle.run_law.specs.declared.judgement.Judgement.TheVariants as judgements
 use Rattle.run_law.specs.declared.judgement.Why.TheVariants as whys
 use Rattle.run_law.specs.declared.note.NoteBody.TheVariants as kinds
 use Rattle.run_law.specs.declared.steps.Ripe.TheVariants as ripe
+use Rattle.run_law.proofs.records.Members.{from_map}
 
 -- ---- what waits is apart by its cause
 

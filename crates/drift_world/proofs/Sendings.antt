@@ -1,12 +1,12 @@
 -- What a record puts on a wire, as its law asks for it.
-use Rattle.drift_world.proofs.Words.{◌+◌, ◌<◌, ◌∙◌, ◌∷◌, ◌≡◌, Accepted, AreWays, Arrived, Arrives, Changed, Compressed, Content, Delivered, DeviceId, Dropped}
-use Rattle.drift_world.proofs.Words.{Happening, HasItsOctets, IsPermutation-sym, IsPutOn, Launch, Left, Link, LinkId, List, Lost, None, NoteBody, Ok, OnWire}
-use Rattle.drift_world.proofs.Words.{Option, Pcf, Permanent, Place, Scenario, Signal, Some, Timed, TtSent, Way, WayState, Wire, [], ap, control, delay_at}
+use Rattle.drift_world.proofs.Words.{◌+◌, ◌<◌, ◌∙◌, ◌∷◌, ◌≡◌, AreWays, Arrives, Content, DeviceId}
+use Rattle.drift_world.proofs.Words.{Happening, HasItsOctets, IsPermutation-sym, IsPutOn, Launch, Left, Link, LinkId, List, None, NoteBody, Ok, OnWire}
+use Rattle.drift_world.proofs.Words.{Option, Pcf, Place, Scenario, Signal, Some, Timed, TtSent, Way, WayState, Wire, [], ap, control, delay_at}
 use Rattle.drift_world.proofs.Words.{delay_by, given_of, in_permuted, inl, inr, is_given, launched, length, link_at, map, octets_in, octets_of, on_wire}
 use Rattle.drift_world.proofs.Words.{receiver_of, refl, same_Some, signal_as, slice_get_within, subst, sym, target_by, time_of, time_on_port, timed, way_as}
 use Rattle.drift_world.proofs.Words.{way_from, wire_entry, ℕ}
 use Rattle.std.specs.{List.{filter_map, slice_get}, Option.option_map}
-use Rattle.run_law.specs.declared.note.NoteBody.TheVariants.{Clock, Corrected, Event, Sent}
+use Rattle.run_law.specs.declared.note.NoteBody.TheVariants.{Event, Sent}
 use Rattle.world_law.specs.world.Moves.{ArePut}
 use Rattle.world_state.specs.declared.queue.Entry.{Entry}
 use Rattle.world_state.specs.declared.contents.Signal.{Signal as SignalSent}
@@ -150,14 +150,4 @@ module _ (s : Scenario) (now : ℕ) (ups downs : List WayState) (ways : AreWays 
   puts (Left device link cause clock) frame octets is has framed own put = left_put device link cause clock frame octets is framed put
   puts (TtSent device link cause vl cycle) frame octets is has framed own put = timed_put device link cause vl cycle frame octets has is own put
   puts (Event line what) frame octets is has framed own put = absurd has
-  puts (Arrived d l c k) frame octets is has framed own put = none_put (none_launched (ap (launched s x (time_of x)) is)) put
-  puts (Permanent d l c p v) frame octets is has framed own put = none_put (none_launched (ap (launched s x (time_of x)) is)) put
-  puts (Compressed d o a c m v) frame octets is has framed own put = none_put (none_launched (ap (launched s x (time_of x)) is)) put
-  puts (Sent d c) frame octets is has framed own put = none_put (none_launched (ap (launched s x (time_of x)) is)) put
-  puts (Corrected d c b a) frame octets is has framed own put = none_put (none_launched (ap (launched s x (time_of x)) is)) put
-  puts (Changed d q c w) frame octets is has framed own put = none_put (none_launched (ap (launched s x (time_of x)) is)) put
-  puts (Lost d l c) frame octets is has framed own put = none_put (none_launched (ap (launched s x (time_of x)) is)) put
-  puts (Accepted d l c v k) frame octets is has framed own put = none_put (none_launched (ap (launched s x (time_of x)) is)) put
-  puts (Delivered d l c v k) frame octets is has framed own put = none_put (none_launched (ap (launched s x (time_of x)) is)) put
-  puts (Dropped d l c r) frame octets is has framed own put = none_put (none_launched (ap (launched s x (time_of x)) is)) put
-  puts (Clock d r a q) frame octets is has framed own put = none_put (none_launched (ap (launched s x (time_of x)) is)) put
+  puts other frame octets is has framed own put = none_put (none_launched (ap (launched s x (time_of x)) is)) put

@@ -48,9 +48,4 @@ sets_short network past event range within (events.Hold link way hold) same ther
       }))
     ]
 sets_short network past event range within (events.Rate device rate) same there hold = tt
-sets_short network past event range within (events.Cut link way) same there hold = tt
-sets_short network past event range within (events.Heal link way) same there hold = tt
-sets_short network past event range within (events.On device) same there hold = tt
-sets_short network past event range within (events.Break device) same there hold = tt
-sets_short network past event range within (events.Send link octets) same there hold = tt
-sets_short network past event range within events.End same there hold = tt
+sets_short network past event range within other same there hold = tt

@@ -1,9 +1,9 @@
 -- What comes first of what a state has under way.
 use Rattle.drift_world.proofs.Words.{if◌then◌else◌, ◌+◌, ◌-◌, ◌<◌, ◌^◌, ◌∙◌, ◌∷◌, ◌≡◌, ◌≤ℤ◌, ◌≤◌, ◌⊎◌, AreFirsts, AreNotBefore, AreTimed, AreUnderWay, Bool}
-use Rattle.drift_world.proofs.Words.{Content, DeviceId, Down, Due, Happening, HasNothingBefore, IfNone, IfSome, IsBefore, IsDue, IsDueNow, IsFirst, IsFounded}
+use Rattle.drift_world.proofs.Words.{Content, DeviceId, Down, Due, Happening, HasNothingBefore, IfNone, IfSome, IsBefore, IsDue, IsFirst, IsFounded}
 use Rattle.drift_world.proofs.Words.{IsIn, IsInRange, IsLinkInRange, IsSized, Kept, List, Network, Node, None, Note, Option, Place, Scenario, Some, Stands, Up}
 use Rattle.drift_world.proofs.Words.{Waiting, Waits, Way, [], act_place, amount, ap, arith, at_port, cases_eq, cases_lt, chain, get_or_from_slice_get, given_of}
-use Rattle.drift_world.proofs.Words.{happenings, in_all, inl, inr, keeps, le-ltb, length, lt-ltb, map, moment_of, never, numbers_of, on_wire, place_of, pos}
+use Rattle.drift_world.proofs.Words.{happenings, in_all, inl, inr, keeps, le-ltb, length, lt-ltb, map, never, numbers_of, on_wire, place_of, pos}
 use Rattle.drift_world.proofs.Words.{reading_for, refl, ripe_place, slice_get_within, subst, sym, waiting_as, world_of, ℕ}
 use Rattle.std.proofs.Common.{All, slice_get}
 use Rattle.run_law.{proofs.runs.Places.before_later, specs.machines.Tasks.{IsPending, Task}}
@@ -189,7 +189,7 @@ module _ {C M : Type 0} (last_step : C → ℕ) (reading : C → ℕ → ℕ) (s
         let few = slice_get_within state.clocks.items w.device.0 clock own in
         let sizes = sized.clocks in
         let of_it : w.device.0 < length network.device = omega (arith, few, sizes) in
-        let timed = are.each w.device of_it in
+        let timed = (are.each w.device of_it).ripe in
         let most = in_run t 3 _ p in_time b in
         let clock_is = some_same _ _ _ own timed.of_clock in
         let le = timed.ripens.none w there refl t from most (subst (λ (k : C). w.point.0 ≤ℤ pos (reading k t)) clock_is reached) in
@@ -198,7 +198,7 @@ module _ {C M : Type 0} (last_step : C → ℕ) (reading : C → ℕ → ℕ) (s
         let few = slice_get_within state.clocks.items device.0 clock own in
         let sizes = sized.clocks in
         let of_it : device.0 < length network.device = omega (arith, few, sizes) in
-        let timed = are.each device of_it in
+        let timed = (are.each device of_it).act in
         let most = in_run t 4 _ p in_time b in
         let clock_is = some_same _ _ _ own timed.of_clock in
         let machine_is = some_same _ _ _ held timed.of_machine in
@@ -249,7 +249,7 @@ module _ {C M : Type 0} (reading : C → ℕ → ℕ) (stands : M → Network �
       × ((w : Waits) × IsIn w state.waiting.items × (w.device.0 ≡ due.slot) × (w.point.0 ≤ℤ pos (reading clock due.time)))
   due_ripe of_it soon =
       let device : DeviceId = record { 0 = due.slot } in
-      let timed = are.each device of_it in
+      let timed = (are.each device of_it).ripe in
       let is = is_time timed.ripe timed.of_ripe in
       let w = timed.ripens.one (omega (arith, is, soon)) in
       (timed.clock, timed.of_clock, (w.0, w.1, w.2, subst (λ (t : ℕ). w.0.point.0 ≤ℤ pos (reading timed.clock t)) is w.3))
@@ -265,7 +265,7 @@ module _ {C M : Type 0} (reading : C → ℕ → ℕ) (stands : M → Network �
       let inside = first.inside in
       let slots = are.sized in
       let of_it : device.0 < length network.device = omega (arith, inside, slots, high) in
-      let timed = are.each device of_it in
+      let timed = (are.each device of_it).act in
       let slot : due.slot ≡ length network.device + device.0 = omega (arith, high) in
       let is = is_time timed.act (ap (λ (n : ℕ). slice_get state.timers n) slot ∙ timed.of_act) in (
         device,
@@ -351,27 +351,3 @@ module _ {C M : Type 0} (last_step : C → ℕ) (reading : C → ℕ → ℕ) (s
         (subst (λ (k : Network). state.shown < length k.device) (sym old.same) (omega (arith, of_it, shown)))
         (shown_earlier state.time state.shown device.0 p shown b);
   }
-
-  -- a device whose timer is the first has something to do now
-  pub due_now : (due : Due) (device : DeviceId) (machine : Kept M) → AreTimed reading stands network state → IsFirstDue state.timers due
-      → due.slot ≡ length network.device + device.0 → device.0 < length network.device → due.time ≡ state.time
-      → slice_get state.machines.items device.0 ≡ Some machine
-      → IsDueNow (keeps stands) s.network device (moment_of s device state.time) machine
-  due_now due device machine are first slot of_it now held = λ node kept.
-      let timed = are.each device of_it in
-      let is = is_time reading stands network state due are first timed.act (ap (λ (n : ℕ). slice_get state.timers n) slot ∙ timed.of_act) in
-      let limit = sized.limit in
-      let own = old.clocks device (few device.0 of_it) in
-      let machine_is = some_same _ _ _ held timed.of_machine in
-      let clock_is = some_same _ _ _ own.1 timed.of_clock in
-      let task = timed.acts.one (omega (arith, is, now, limit)) node
-      (subst (λ (k : Kept M). keeps stands k network device node) machine_is
-      (subst (λ (k : Network). keeps stands machine k device node) (sym old.same) kept)) in
-      let reads : reading timed.clock timed.act ≡ s.reading device state.time =
-      ap (λ (n : ℕ). reading timed.clock n) (omega (arith, is, now)) ∙ ap (λ (k : C). reading k state.time) (sym clock_is)
-      ∙ sym (own.2 state.time (omega arith)) in (
-        task.0,
-        subst (λ (k : Network). IsPending k device node task.0) old.same task.1,
-        subst (λ (k : Network). reading_for k node task.0 ≤ℤ pos (s.reading device state.time)) old.same
-            (subst (λ (n : ℕ). reading_for network node task.0 ≤ℤ pos n) reads task.2),
-      )

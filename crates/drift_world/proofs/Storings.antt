@@ -1,13 +1,13 @@
 -- What switches hold once a record is given, as its law asks for it.
 use Rattle.drift_world.proofs.Words.{if◌then◌else◌, ◌&&◌, ◌==◌, ◌∙◌, ◌∷◌, ◌≡◌, Accepted, Arrived, Bool, Changed, Compressed, Delivered, DeviceId, Dropped}
-use Rattle.drift_world.proofs.Words.{Happening, HasItsOctets, Holding, IsIn, IsPermutation-sym, IsStoredBy, Left, List, Lost, Network, None, NoteBody, Option}
+use Rattle.drift_world.proofs.Words.{Happening, HasItsOctets, Holding, IsIn, IsPermutation-sym, IsStoredBy, Left, List, Network, None, NoteBody, Option}
 use Rattle.drift_world.proofs.Words.{Permanent, Some, Timed, TtSent, VlId, [], ap, both_ways, eq-eqb, eqb-true, false, filter, in_permuted, inl, inr, is_mapped}
 use Rattle.drift_world.proofs.Words.{map, not, octets_in, octets_of, refl, stored_as, subst, sym, true, ℕ}
 use Rattle.std.proofs.lemmas.Bool.{not-true, not_from_false}
-use Rattle.precision_law.proofs.records.Times.{in_kept}
-use Rattle.run_law.specs.{declared.note.NoteBody.TheVariants.{Clock, Corrected, Event, Sent}, timed.Dispatching.is_accepted}
+use Rattle.run_law.specs.{declared.note.NoteBody.TheVariants.{Clock, Corrected, Sent}, timed.Dispatching.is_accepted}
 use Rattle.world_law.specs.world.{Moves.AreTaken, World.Stored}
-use Rattle.world_state.{proofs.Swaps.from_map, specs.Storing.{IsHeldInstead, IsStoredFor, is_held_of}}
+use Rattle.world_state.specs.Storing.{IsHeldInstead, IsStoredFor, is_held_of}
+use Rattle.run_law.proofs.records.Members.{from_map, in_kept}
 
 -- ---- lists that are mapped and filtered
 
@@ -112,21 +112,18 @@ pub taken_by : (network : Network) (x : Happening) (number : ℕ) (held new : Li
     → IsStoredBy body octets number held new → AreTaken x number (map (stored_as network) held) (map (stored_as network) new)
 taken_by network x number held new (Accepted d l c v k) octets is has own stored = by_accepted network x number held new d v octets
     (λ other of_vl. ap (is_accepted other of_vl) is) (has_some d l c v k octets has) own stored
-taken_by network x number held new (Event a b) octets is has own same = same_taken network x number held new same (λ device vl. ap (is_accepted device vl) is)
 taken_by network x number held new (Arrived a b c d) octets is has own same =
     same_taken network x number held new same (λ device vl. ap (is_accepted device vl) is)
 taken_by network x number held new (Permanent a b c d e) octets is has own same =
     same_taken network x number held new same (λ device vl. ap (is_accepted device vl) is)
 taken_by network x number held new (Compressed a b c d e f) octets is has own same =
     same_taken network x number held new same (λ device vl. ap (is_accepted device vl) is)
-taken_by network x number held new (Sent a b) octets is has own same = same_taken network x number held new same (λ device vl. ap (is_accepted device vl) is)
 taken_by network x number held new (Corrected a b c d) octets is has own same =
     same_taken network x number held new same (λ device vl. ap (is_accepted device vl) is)
 taken_by network x number held new (Changed a b c d) octets is has own same =
     same_taken network x number held new same (λ device vl. ap (is_accepted device vl) is)
 taken_by network x number held new (Left a b c d) octets is has own same =
     same_taken network x number held new same (λ device vl. ap (is_accepted device vl) is)
-taken_by network x number held new (Lost a b c) octets is has own same = same_taken network x number held new same (λ device vl. ap (is_accepted device vl) is)
 taken_by network x number held new (TtSent a b c d e) octets is has own same =
     same_taken network x number held new same (λ device vl. ap (is_accepted device vl) is)
 taken_by network x number held new (Delivered a b c d e) octets is has own same =
@@ -135,3 +132,4 @@ taken_by network x number held new (Dropped a b c d) octets is has own same =
     same_taken network x number held new same (λ device vl. ap (is_accepted device vl) is)
 taken_by network x number held new (Clock a b c d) octets is has own same =
     same_taken network x number held new same (λ device vl. ap (is_accepted device vl) is)
+taken_by network x number held new other octets is has own same = same_taken network x number held new same (λ device vl. ap (is_accepted device vl) is)

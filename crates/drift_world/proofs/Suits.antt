@@ -97,10 +97,4 @@ module _ {C M : Type 0} (reading : C → ℕ → ℕ) (stands : M → Network �
         λ machine node there k. sym (state.1 machine node there k) ∙ is,
       )
   suits (events.Send link octets) what all of_network shows = sends_end network past event link octets all within what of_network
-  suits (events.Rate device rate) what all of_network shows = tt
-  suits (events.Wire link way delay) what all of_network shows = tt
-  suits (events.Hold link way hold) what all of_network shows = tt
-  suits (events.Cut link way) what all of_network shows = tt
-  suits (events.Heal link way) what all of_network shows = tt
-  suits (events.Break device) what all of_network shows = tt
-  suits events.End what all of_network shows = tt
+  suits other what all of_network shows = tt

@@ -1,11 +1,13 @@
 -- Timers that are right, and stay so.
-use Rattle.drift_world.proofs.Words.{◌*◌, ◌+◌, ◌<◌, ◌^◌, ◌↔◌, ◌∙◌, ◌≡◌, ◌≤ℤ◌, ◌≤◌, AreTimed, Bool, ChangesOnly, DeviceId, IsIn, IsRunning, IsSized, IsTimed}
+use Rattle.drift_world.proofs.Words.{◌*◌, ◌+◌, ◌<◌, ◌^◌, ◌↔◌, ◌∙◌, ◌≡◌, ◌≤ℤ◌, ◌≤◌, ◌⊎◌, AreTimed, Bool, ChangesOnly, DeviceId, IsIn, IsRunning, IsSized}
+use Rattle.drift_world.proofs.Words.{IsTimed}
 use Rattle.drift_world.proofs.Words.{Kept, List, Network, Node, None, Option, Some, Units, Waits, ap, arith, cases_eq, cases_lt, inl, inr, ints, keeps, length}
 use Rattle.drift_world.proofs.Words.{never, pos, refl, subst, sym, ℕ}
 use Rattle.std.proofs.Common.{All, slice_get}
 use Rattle.run_law.specs.machines.Tasks.{IsDueReading}
 use Rattle.world_state.specs.Timing.{IsLeastPoint, IsTimeFor}
-use Rattle.drift_world.specs.{Stepping.{ActsAt, IsRipeAt}, declared.state.State.State}
+use Rattle.drift_world.proofs.Fits.{sized_so}
+use Rattle.drift_world.specs.{Stepping.{ActsAt, IsRekeyed, IsRipeAt, MayRekey, SetsOnly}, declared.state.State.State}
 
 -- ---- a time at which a clock reads so much
 
@@ -86,21 +88,27 @@ pub still_timed : {C M : Type 0} (reading : C → ℕ → ℕ) (stands : M → N
     → slice_get new.timers (length network.device + device.0) ≡ slice_get old.timers (length network.device + device.0)
     → IsTimed reading stands network new.timers new device
 still_timed reading stands network old new device is clocks machines waiting later ripe act = record {
-  clock = is.clock;
-  of_clock = clocks ∙ is.of_clock;
-  machine = is.machine;
-  of_machine = machines ∙ is.of_machine;
-  ripe = is.ripe;
-  of_ripe = ripe ∙ is.of_ripe;
-  ripens = record {
-    none = λ w there at u from most reached. is.ripens.none w ((waiting w at).0 there) at u (omega (arith, later, from)) most reached;
-    one = λ true_time. let r = is.ripens.one true_time in (r.0, (waiting r.0 r.2).1 r.1, r.2, r.3);
+  ripe = record {
+    clock = is.ripe.clock;
+    of_clock = clocks ∙ is.ripe.of_clock;
+    ripe = is.ripe.ripe;
+    of_ripe = ripe ∙ is.ripe.of_ripe;
+    ripens = record {
+      none = λ w there at u from most reached. is.ripe.ripens.none w ((waiting w at).0 there) at u (omega (arith, later, from)) most reached;
+      one = λ true_time. let r = is.ripe.ripens.one true_time in (r.0, (waiting r.0 r.2).1 r.1, r.2, r.3);
+    };
   };
-  act = is.act;
-  of_act = act ∙ is.of_act;
-  acts = record {
-    none = λ node task kept pending u from most reached. is.acts.none node task kept pending u (omega (arith, later, from)) most reached;
-    one = is.acts.one;
+  act = record {
+    clock = is.act.clock;
+    of_clock = clocks ∙ is.act.of_clock;
+    machine = is.act.machine;
+    of_machine = machines ∙ is.act.of_machine;
+    act = is.act.act;
+    of_act = act ∙ is.act.of_act;
+    acts = record {
+      none = λ node task kept pending u from most reached. is.act.acts.none node task kept pending u (omega (arith, later, from)) most reached;
+      one = is.act.acts.one;
+    };
   };
 }
 
@@ -110,48 +118,42 @@ module _ {C M : Type 0} (reading : C → ℕ → ℕ) (stands : M → Network �
       → ((i : ℕ) → (i ≡ device.0 → ⊥) → slice_get mid.clocks.items i ≡ slice_get old.clocks.items i)
       → ((i : ℕ) → (i ≡ device.0 → ⊥) → slice_get mid.machines.items i ≡ slice_get old.machines.items i)
       → ((w : Waits) → (w.device.0 ≡ device.0 → ⊥) → w.device.0 < length network.device → IsIn w mid.waiting.items ↔ IsIn w old.waiting.items)
-      → mid.time ≡ old.time → mid.timers ≡ old.timers
-      → new ≡ record mid { timers = new.timers }
-      → IsTimed reading stands network new.timers new device
-      → length new.timers ≡ length mid.timers
-      → ((slot : ℕ) → (slot ≡ device.0 → ⊥) → (slot ≡ length network.device + device.0 → ⊥) → slice_get new.timers slot ≡ slice_get mid.timers slot)
-      → (All (λ (time : ℕ). mid.time ≤ time) mid.timers → All (λ (time : ℕ). new.time ≤ time) new.timers)
-      → AreTimed reading stands network new
-  rekeyed_by device old mid new are of_it clocks machines waiting time timers same own sized others later = record {
-    sized = sized ∙ ap length timers ∙ are.sized;
+      → mid.time ≡ old.time → mid.timers ≡ old.timers → IsRekeyed reading stands network device mid new → AreTimed reading stands network new
+  rekeyed_by device old mid new are of_it clocks machines waiting time timers keyed = record {
+    sized = keyed.sets.sized ∙ ap length timers ∙ are.sized;
     each = λ other there.
         elim (cases_eq other.0 device.0) [
           | inl e ↦
-              subst (λ (d : DeviceId). IsTimed reading stands network new.timers new d) (ap (λ (n : ℕ). let d : DeviceId = record { 0 = n } in d) (sym e)) own
+              subst (λ (d : DeviceId). IsTimed reading stands network new.timers new d) (ap (λ (n : ℕ). let d : DeviceId = record { 0 = n } in d) (sym e))
+              keyed.timed
           | inr ne ↦
+              let same = keyed.sets.same in
               still_timed reading stands network old new other (are.each other there)
               (ap (λ (s : State C M). slice_get s.clocks.items other.0) same ∙ clocks other.0 ne)
               (ap (λ (s : State C M). slice_get s.machines.items other.0) same ∙ machines other.0 ne)
               (λ w at. subst (λ (s : State C M). IsIn w s.waiting.items ↔ IsIn w old.waiting.items) (sym same)
               (waiting w (λ e. ne (sym at ∙ e)) (omega (arith, at, there))))
               (let now = ap (λ (s : State C M). s.time) same in omega (arith, now, time))
-              (others other.0 ne (λ e. omega (arith, e, there)) ∙ ap (λ (l : List ℕ). slice_get l other.0) timers)
-              (others (length network.device + other.0) (λ e. omega (arith, e, of_it)) (λ e. ne (omega (arith, e)))
+              (keyed.sets.others other.0 (apart other.0 ne (λ e. omega (arith, e, there))) ∙ ap (λ (l : List ℕ). slice_get l other.0) timers)
+              (keyed.sets.others (length network.device + other.0)
+              (apart (length network.device + other.0) (λ e. omega (arith, e, of_it)) (λ e. ne (omega (arith, e))))
               ∙ ap (λ (l : List ℕ). slice_get l (length network.device + other.0)) timers)
         ];
-    later = later
+    later = keyed.sets.later
         (subst (λ (n : ℕ). All (λ (t : ℕ). n ≤ t) mid.timers) (sym time)
         (subst (λ (l : List ℕ). All (λ (t : ℕ). old.time ≤ t) l) (sym timers) are.later));
   }
+    where
+      apart : (slot : ℕ) → (slot ≡ device.0 → ⊥) → (slot ≡ length network.device + device.0 → ⊥)
+          → (slot ≡ device.0) ⊎ (slot ≡ length network.device + device.0) → ⊥
+      apart slot one other = λ is. elim is [ inl e ↦ one e | inr e ↦ other e ]
 
   -- a step of one device, whose timers are set then
   pub rekeyed : (device : DeviceId) (old mid new : State C M) → AreTimed reading stands network old → device.0 < length network.device
-      → ChangesOnly device.0 old mid
-      → mid.timers ≡ old.timers
-      → new ≡ record mid { timers = new.timers }
-      → IsTimed reading stands network new.timers new device
-      → length new.timers ≡ length mid.timers
-      → ((slot : ℕ) → (slot ≡ device.0 → ⊥) → (slot ≡ length network.device + device.0 → ⊥) → slice_get new.timers slot ≡ slice_get mid.timers slot)
-      → (All (λ (time : ℕ). mid.time ≤ time) mid.timers → All (λ (time : ℕ). new.time ≤ time) new.timers)
-      → AreTimed reading stands network new
-  rekeyed device old mid new are of_it changes timers same own sized others later =
+      → ChangesOnly device.0 old mid → mid.timers ≡ old.timers → IsRekeyed reading stands network device mid new → AreTimed reading stands network new
+  rekeyed device old mid new are of_it changes timers keyed =
       rekeyed_by device old mid new are of_it (λ i ne. ap (λ (c : _). slice_get c.items i) changes.clocks) changes.machines
-      (λ w ne lt. changes.waiting w ne) changes.time timers same own sized others later
+      (λ w ne lt. changes.waiting w ne) changes.time timers keyed
 
   -- a step that leaves what timers are for as it was
   pub unmoved : (old new : State C M) → AreTimed reading stands network old → new.clocks ≡ old.clocks → new.machines.items ≡ old.machines.items
@@ -216,57 +218,48 @@ module _ {C M : Type 0} (last_step : C → ℕ) (reading : C → ℕ → ℕ) (s
   pub sized_with : IsSized last_step network old → IsSized last_step network state
   sized_with is =
       subst (λ (s : State C M). IsSized last_step network s) (sym same)
-      (record {
-        clocks = is.clocks;
-        machines = is.machines;
-        broken = is.broken;
-        ups = is.ups;
-        downs = is.downs;
-        stepped = is.stepped;
-        limit = is.limit;
-        shown = is.shown;
-      })
+      (sized_so last_step network old (record old { timers = state.timers }) is refl refl refl refl refl refl refl)
 
   pub running_with : IsRunning reading stands network old → IsRunning reading stands network state
   running_with is =
       subst (λ (s : State C M). IsRunning reading stands network s) (sym same) (record { s = is.s; notes = is.notes; is = is.is })
 
+-- so timers may be set when others have been
+pub may_still : {C M : Type 0} (last_step : C → ℕ) (reading : C → ℕ → ℕ) (stands : M → Network → DeviceId → Node → Type 0) (network : Network)
+    (device : DeviceId) (IsSet : ℕ → Type 0) (old new : State C M) → MayRekey last_step reading stands network old device → SetsOnly IsSet old new
+    → MayRekey last_step reading stands network new device
+may_still last_step reading stands network device IsSet old new may sets = record {
+  sized = sized_with last_step reading stands network old new sets.same may.sized;
+  there = may.there;
+  slots = sets.sized ∙ may.slots;
+  running = running_with last_step reading stands network old new sets.same may.running;
+}
+
 module _ {C M : Type 0} (reading : C → ℕ → ℕ) (stands : M → Network → DeviceId → Node → Type 0) (network : Network) where
   -- one device more
   pub set_more : (device : DeviceId) (old mid new : State C M) → AreSetTo reading stands network device.0 old mid
-      → new ≡ record mid { timers = new.timers }
-      → IsTimed reading stands network new.timers new device
-      → length new.timers ≡ length mid.timers
-      → ((slot : ℕ) → (slot ≡ device.0 → ⊥) → (slot ≡ length network.device + device.0 → ⊥) → slice_get new.timers slot ≡ slice_get mid.timers slot)
-      → (All (λ (time : ℕ). mid.time ≤ time) mid.timers → All (λ (time : ℕ). new.time ≤ time) new.timers)
-      → device.0 < length network.device → AreSetTo reading stands network (device.0 + 1) old new
-  set_more device old mid new are same own sized others later there =
+      → IsRekeyed reading stands network device mid new → device.0 < length network.device → AreSetTo reading stands network (device.0 + 1) old new
+  set_more device old mid new are keyed there =
+      let same = keyed.sets.same in
       let was = ap (λ (s : State C M). s.time) are.same in
       let now = ap (λ (s : State C M). s.time) same in
       record {
         same = same ∙ ap (λ (s : State C M). let k : State C M = record s { timers = new.timers } in k) are.same;
-        sized = sized ∙ are.sized;
+        sized = keyed.sets.sized ∙ are.sized;
         later = subst (λ (n : ℕ). All (λ (time : ℕ). n ≤ time) new.timers) (now ∙ was)
-            (later (subst (λ (n : ℕ). All (λ (time : ℕ). n ≤ time) mid.timers) (sym was) are.later));
+            (keyed.sets.later (subst (λ (n : ℕ). All (λ (time : ℕ). n ≤ time) mid.timers) (sym was) are.later));
         each = λ other less of_it.
             elim (cases_eq other.0 device.0) [
               | inl e ↦
                   subst (λ (d : DeviceId). IsTimed reading stands network new.timers new d) (ap (λ (n : ℕ). let d : DeviceId = record { 0 = n } in d) (sym e))
-                  own
+                  keyed.timed
               | inr ne ↦
                   still_timed reading stands network mid new other (are.each other (omega (arith, less, ne)) of_it)
                   (ap (λ (s : State C M). slice_get s.clocks.items other.0) same)
                   (ap (λ (s : State C M). slice_get s.machines.items other.0) same)
                   (λ w at. subst (λ (s : State C M). IsIn w s.waiting.items ↔ IsIn w mid.waiting.items) (sym same) ((λ i. i), (λ i. i)))
-                  (omega (arith, now)) (others other.0 ne (λ e. omega (arith, e, of_it)))
-                  (others (length network.device + other.0) (λ e. omega (arith, e, there)) (λ e. ne (omega (arith, e))))
+                  (omega (arith, now)) (keyed.sets.others other.0 (λ is. elim is [ inl e ↦ ne e | inr e ↦ omega (arith, e, of_it) ]))
+                  (keyed.sets.others (length network.device + other.0)
+                  (λ is. elim is [ inl e ↦ omega (arith, e, there) | inr e ↦ ne (omega (arith, e)) ]))
             ];
       }
-
-  pub all_set : (count : ℕ) (old new : State C M) → AreSetTo reading stands network count old new → length network.device ≤ count
-      → AreTimed reading stands network new
-  all_set count old new are all = record {
-    sized = are.sized;
-    each = λ device there. are.each device (omega (arith, there, all)) there;
-    later = subst (λ (n : ℕ). All (λ (time : ℕ). n ≤ time) new.timers) (sym (ap (λ (s : State C M). s.time) are.same)) are.later;
-  }

@@ -73,14 +73,7 @@ third_of other = 0
 
 on_has_outcome : (device : DeviceId) (what : What) → turns_on device what ≡ true → has_outcome what ≡ true
 on_has_outcome device (events.On other) on = refl
-on_has_outcome device (events.Rate other rate) on = absurd (both_ways false refl on)
-on_has_outcome device (events.Wire link way delay) on = absurd (both_ways false refl on)
-on_has_outcome device (events.Hold link way delay) on = absurd (both_ways false refl on)
-on_has_outcome device (events.Cut link way) on = absurd (both_ways false refl on)
-on_has_outcome device (events.Heal link way) on = absurd (both_ways false refl on)
-on_has_outcome device (events.Break other) on = absurd (both_ways false refl on)
-on_has_outcome device (events.Send link octets) on = absurd (both_ways false refl on)
-on_has_outcome device events.End on = absurd (both_ways false refl on)
+on_has_outcome device rest on = absurd (both_ways false refl on)
 
 module _ {C M : Type 0} (reading : C → ℕ → ℕ) (stands : M → Network → DeviceId → Node
     → Type 0) (s : Scenario) (world : World C M) (notes : List Note) (old : Stands reading stands s world notes) (early : world.early ≡ true)

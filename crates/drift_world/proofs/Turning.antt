@@ -1,21 +1,32 @@
 -- A turn of a world: what comes first, and what the steps keep.
-use Rattle.drift_world.proofs.Words.{◌++◌, ◌+◌, ◌<◌, ◌^◌, ◌↔◌, ◌∙◌, ◌∷◌, ◌≡◌, ◌≤◌, AreFirsts, AreSettled, AreTimed, ChangesOnly, ComesFirst, DeviceId, Due}
-use Rattle.drift_world.proofs.Words.{Err, Happening, Place}
-use Rattle.drift_world.proofs.Words.{HasItsOctets, HasNothingBefore, IfOk, IsAt, IsBefore, IsIn, IsRunning, IsScenarioRun, IsSound, IsTimed, IsWell, List}
+use Rattle.drift_world.proofs.Words.{◌++◌, ◌+◌, ◌<◌, ◌^◌, ◌↔◌, ◌∙◌, ◌∷◌, ◌≡◌, ◌≤◌, AreFirsts, AreSettled, AreTimed, Bool, ChangesOnly, ComesFirst, DeviceId}
+use Rattle.drift_world.proofs.Words.{Due}
+use Rattle.drift_world.proofs.Words.{Err, Happening, Place, numbers_of}
+use Rattle.drift_world.proofs.Words.{HasItsOctets, HasNothingBefore, IsAt, IsBefore, IsIn, IsRunning, IsScenarioRun, IsSound, IsWell, List}
 use Rattle.drift_world.proofs.Words.{Network, NoSourceBefore, Node, Note, Ok, OnErr, OnOk, Option, Result, Scenario, Settled, Some, SourceFirst, Stands, Turn}
-use Rattle.drift_world.proofs.Words.{World, [], ap, append-nil, arith, chain, happenings, inl, inr, keeps, length, length-map, map, never_self, own_place}
+use Rattle.drift_world.proofs.Words.{[], ap, append-nil, arith, chain, happenings, inl, inr, keeps, length, length-map, map, never_self, own_place}
 use Rattle.drift_world.proofs.Words.{place_of, refl, settled_at, subst, sym, true, world_of, ℕ}
 use Rattle.std.proofs.Common.{All, slice_get}
 use Rattle.run_law.proofs.runs.Places.{before_later, before_later_time}
 use Rattle.world_law.proofs.{acts.NoActs.nothing_comes_before, runs.Worlds.nothing_settled_is_all}
 use Rattle.world_steps.proofs.steps.Passed.{none_hidden}
+use Rattle.drift_world.proofs.Fits.{sound_same, sound_timers}
 use Rattle.drift_world.proofs.{Foremost.timers_later, HiddenCauses.{InOrder, settled_in_order}, Sources.{of_world, sooner_too}}
 use Rattle.drift_world.proofs.Timings.{passed, rekeyed, unchanged}
-use Rattle.drift_world.specs.Turns.{HasRoom, IsAfter, IsAhead, IsForemost, IsNow, IsStep, IsThere, PassSays, TurnSays, given_in, own_numbers, source_place}
+use Rattle.drift_world.specs.Stepping.{IsRekeyed}
+use Rattle.drift_world.specs.Turns.{HasRoom, IsAfter, IsAhead, IsForemost, IsKept, IsNow, IsPassed, IsStep, IsThere, MayWork, PassSays, TurnSays, given_in}
+use Rattle.drift_world.specs.Turns.{own_numbers, source_place}
 use Rattle.drift_world.specs.declared.{next.Turn.TheVariants.{Ends, Gives, GoesOn}, source.Source.Source}
 use Rattle.drift_world.specs.declared.{source.Source.TheVariants.{Act, Arrival, Clock, Departure, Events, Later, Ripening}, state.State.State}
 
 -- ---- a source and what is settled
+
+-- the numbers of what is under way at this time and of this rank
+pub ranked_at : (now rank : ℕ) (place : Place) → place.at ≡ now → place.rank ≡ rank
+    → now ∷ rank ∷ place.device ∷ place.link ∷ place.cause ∷ [] ≡ numbers_of place
+ranked_at now rank place at is =
+    ap (λ (t : ℕ). t ∷ rank ∷ place.device ∷ place.link ∷ place.cause ∷ []) (sym at)
+    ∙ ap (λ (r : ℕ). place.at ∷ r ∷ place.device ∷ place.link ∷ place.cause ∷ []) (sym is)
 
 -- the place of a source of the present instant
 pub record IsShaped (now : ℕ) (source : Source) : Type 0 where
@@ -29,14 +40,14 @@ shaped reading stands network state Events there now = record { numbers = _; own
 shaped reading stands network state (Arrival place) there now = record {
   numbers = _;
   own = refl;
-  place = ap (λ (n : ℕ). n ∷ place.rank ∷ place.device ∷ place.link ∷ place.cause ∷ []) there.now;
+  place = sym (ranked_at state.time 2 place there.now there.rank_is);
 }
 shaped reading stands network state (Ripening w) there now = record { numbers = _; own = refl; place = refl }
 shaped reading stands network state (Act device) there now = record { numbers = _; own = refl; place = refl }
 shaped reading stands network state (Departure place) there now = record {
   numbers = _;
   own = refl;
-  place = ap (λ (n : ℕ). n ∷ place.rank ∷ place.device ∷ place.link ∷ place.cause ∷ []) there.now;
+  place = sym (ranked_at state.time 8 place there.now there.rank_is);
 }
 shaped reading stands network state (Clock device) there now = record { numbers = _; own = refl; place = refl }
 shaped reading stands network state (Later time) there now = absurd now
@@ -56,13 +67,12 @@ not_ahead network now source first shape not before =
 pub ahead_before : {C M : Type 0} (reading : C → ℕ → ℕ) (stands : M → Network → DeviceId → Node → Type 0) (network : Network) (state : State C M)
     (source : Source) (first : Settled) → IsThere reading stands network state source → IsAhead (own_numbers source) first
     → IsBefore (place_of (settled_at network state.time first)) (source_place state.time source)
-ahead_before reading stands network state Events first there ahead = inr (refl, ahead)
-ahead_before reading stands network state (Arrival place) first there ahead = inr (sym there.now, ahead)
-ahead_before reading stands network state (Ripening w) first there ahead = inr (refl, ahead)
-ahead_before reading stands network state (Act device) first there ahead = inr (refl, ahead)
-ahead_before reading stands network state (Departure place) first there ahead = inr (sym there.now, ahead)
-ahead_before reading stands network state (Clock device) first there ahead = inr (refl, ahead)
+ahead_before reading stands network state (Arrival place) first there ahead =
+    subst (IsBefore (place_of (settled_at network state.time first))) (ranked_at state.time 2 place there.now there.rank_is) (inr (refl, ahead))
+ahead_before reading stands network state (Departure place) first there ahead =
+    subst (IsBefore (place_of (settled_at network state.time first))) (ranked_at state.time 8 place there.now there.rank_is) (inr (refl, ahead))
 ahead_before reading stands network state (Later time) first there ahead = inl there
+ahead_before reading stands network state other first there ahead = inr (refl, ahead)
 
 -- where something is settled, a source that comes first of it is not later
 pub none_settled : (settled : List Settled) (time : ℕ) → SourceFirst settled (Later time) → settled ≡ []
@@ -79,36 +89,46 @@ none_sooner network now (x ∷ xs) w order not z (inr rest) before =
     let first = place_of (settled_at network now x) in
     order.0 z rest (before_later (place_of z) first w before (not x xs refl))
 
+-- one step after the other
+pub after_then : {C M : Type 0} (old mid new : State C M) → IsAfter old mid → IsAfter mid new → IsAfter old new
+after_then old mid new first second = record {
+  clocks = second.clocks ∙ first.clocks;
+  ended = second.ended ∙ first.ended;
+  later = let a = first.later in let b = second.later in omega (arith, a, b);
+}
+
 module _ {C M : Type 0} (last_step : C → ℕ) (reading : C → ℕ → ℕ) (stands : M → Network → DeviceId → Node → Type 0) (network : Network) where
+  pub passed_after : (old new : State C M) (until : ℕ) (turn : Turn) → IsPassed last_step reading stands network until old new turn → IsAfter old new
+  passed_after old new until turn passed = record {
+    clocks = ap (λ (t : State C M). t.clocks) passed.same;
+    ended = ap (λ (t : State C M). t.ended) passed.same;
+    later = passed.later;
+  }
+
   -- the source that comes first of what is under way comes first of all
-  pub comes_first : (state : State C M) (source : Source) (s : Scenario) (notes : List Note) → IsSound last_step network state → HasRoom state
-      → IsForemost reading stands network state source → SourceFirst state.settled.items source → IsNow source
-      → (old : Stands reading (keeps stands) s (world_of network state) notes)
+  pub comes_first : (state : State C M) (source : Source) (s : Scenario) (notes : List Note) → MayWork last_step reading stands network state source
+      → IsNow source → (old : Stands reading (keeps stands) s (world_of network state) notes)
       → ComesFirst reading (keeps stands) s (world_of network state) notes old (source_place state.time source)
-  comes_first state source s notes sound room foremost first now old =
+  comes_first state source s notes may now old =
       let w = source_place state.time source in
-      let shape = shaped reading stands network state source foremost.there now in
+      let shape = shaped reading stands network state source may.foremost.there now in
       let after = none_sooner network state.time state.settled.items w (settled_in_order reading (keeps stands) s (world_of network state) notes old)
-      (λ z others whole. not_ahead network state.time source z shape (first z others whole)) in
+      (λ z others whole. not_ahead network state.time source z shape (may.first z others whole)) in
       let given = old.given in
-      let numbers = room.numbers in
+      let numbers = may.room.numbers in
       let many = length-map state.settled.items (settled_at network state.time) in
       record {
         none = nothing_comes_before reading (keeps stands) s (world_of network state) notes w old after
-            (of_world last_step reading stands s network state notes old sound.sized w sound.under_way foremost.nothing);
+            (of_world last_step reading stands s network state notes old may.well.sound.sized w may.well.sound.under_way may.foremost.nothing);
         after = after;
         room = omega (arith, given, numbers, many);
       }
 
-  pub is_at : (state : State C M) (source : Source) → IsWell last_step reading stands network state → HasRoom state
-      → IsForemost reading stands network state source → SourceFirst state.settled.items source → IsNow source
+  pub is_at : (state : State C M) (source : Source) → MayWork last_step reading stands network state source → IsNow source
       → IsAt reading stands network state (source_place state.time source)
-  is_at state source well room foremost first now = record {
-    s = well.running.s;
-    notes = well.running.notes;
-    is = well.running.is;
-    first = comes_first state source well.running.s well.running.notes well.sound room foremost first now well.running.is;
-  }
+  is_at state source may now =
+      let run = may.well.running in
+      record { s = run.s; notes = run.notes; is = run.is; first = comes_first state source run.s run.notes may now run.is }
 
   -- nothing that is under way is before a record that is ahead of the first source
   pub nothing_ahead : (state : State C M) (source : Source) (z : Settled) → IsForemost reading stands network state source → IsAhead (own_numbers source) z
@@ -157,29 +177,6 @@ module _ {C M : Type 0} (last_step : C → ℕ) (reading : C → ℕ → ℕ) (s
       → IsRunning reading stands network new
   runs_on old new is still = record { s = is.s; notes = is.notes; is = still is.s is.notes is.is }
 
-  pub sound_so : (mid : State C M) (timers : List ℕ) → IsSound last_step network mid → IsSound last_step network (record mid { timers = timers })
-  sound_so mid timers is = record {
-    sized = record {
-      clocks = is.sized.clocks;
-      machines = is.sized.machines;
-      broken = is.sized.broken;
-      ups = is.sized.ups;
-      downs = is.sized.downs;
-      stepped = is.sized.stepped;
-      limit = is.sized.limit;
-      shown = is.sized.shown;
-    };
-    under_way = is.under_way;
-    fit = record {
-      ups = is.fit.ups;
-      downs = is.fit.downs;
-      octets = is.fit.octets;
-      below = is.fit.below;
-      waits_below = is.fit.waits_below;
-      apart = is.fit.apart;
-    };
-  }
-
   -- a step that changes no device
   pub plain_step : (old new : State C M) → IsWell last_step reading stands network old → IsSound last_step network new
       → ((n : ℕ) → ChangesOnly n old new) → new.timers ≡ old.timers → new.given ≡ old.given
@@ -199,24 +196,21 @@ module _ {C M : Type 0} (last_step : C → ℕ) (reading : C → ℕ → ℕ) (s
   }
 
   -- a step that changes one device, whose timers are set anew
-  pub rekeyed_step : (device : ℕ) (old mid new : State C M) → IsWell last_step reading stands network old → IsSound last_step network mid
-      → device < length network.device → ChangesOnly device old mid → mid.timers ≡ old.timers → mid.given ≡ old.given
+  pub rekeyed_step : (device : DeviceId) (old mid new : State C M) → IsWell last_step reading stands network old → IsSound last_step network mid
+      → device.0 < length network.device → ChangesOnly device.0 old mid → mid.timers ≡ old.timers → mid.given ≡ old.given
       → ((s : Scenario) (notes : List Note) → Stands reading (keeps stands) s (world_of network old) notes
       → Stands reading (keeps stands) s (world_of network mid) notes)
-      → new ≡ record mid { timers = new.timers } → IsTimed reading stands network new.timers new (record { 0 = device })
-      → length new.timers ≡ length mid.timers
-      → ((slot : ℕ) → (slot ≡ device → ⊥) → (slot ≡ length network.device + device → ⊥) → slice_get new.timers slot ≡ slice_get mid.timers slot)
-      → (All (λ (time : ℕ). mid.time ≤ time) mid.timers → All (λ (time : ℕ). new.time ≤ time) new.timers)
-      → IsStep last_step reading stands network old new
-  rekeyed_step device old mid new well sound there changes timers given still same timed sized others later =
+      → IsRekeyed reading stands network device mid new → IsStep last_step reading stands network old new
+  rekeyed_step device old mid new well sound there changes timers given still keyed =
+      let same = keyed.sets.same in
       let on = λ (s : Scenario) (notes : List Note) (is : Stands reading (keeps stands) s (world_of network old) notes).
       subst (λ (t : State C M). Stands reading (keeps stands) s (world_of network t) notes) (sym same) (still s notes is) in
       let at : new.time ≡ old.time = ap (λ (t : State C M). t.time) same ∙ changes.time in
       record {
         well = record {
-          sound = subst (IsSound last_step network) (sym same) (sound_so mid new.timers sound);
+          sound = sound_timers last_step network mid new same sound;
           running = runs_on old new well.running on;
-          timed = rekeyed reading stands network (record { 0 = device }) old mid new well.timed there changes timers same timed sized others later;
+          timed = rekeyed reading stands network device old mid new well.timed there changes timers keyed;
         };
         after = record {
           clocks = ap (λ (t : State C M). t.clocks) same ∙ changes.clocks;
@@ -228,35 +222,70 @@ module _ {C M : Type 0} (last_step : C → ℕ) (reading : C → ℕ → ℕ) (s
         given = ap (λ (t : State C M). t.given) same ∙ given;
       }
 
+  -- ---- a turn keeps the state
+
+  -- a step alone
+  pub step_kept : (old new : State C M) → IsStep last_step reading stands network old new → IsKept last_step reading stands network old new []
+  step_kept old new step = record {
+    well = step.well;
+    after = step.after;
+    stands_then = λ s notes is.
+        subst (λ (l : List Note). Stands reading (keeps stands) s (world_of network new) l) (sym (append-nil notes)) (step.still s notes is);
+  }
+
+  -- a turn behind a step
+  pub kept_then : (old mid new : State C M) (more : List Note) → IsAfter old mid
+      → ((s : Scenario) (notes : List Note) → Stands reading (keeps stands) s (world_of network old) notes
+      → Stands reading (keeps stands) s (world_of network mid) notes)
+      → IsKept last_step reading stands network mid new more → IsKept last_step reading stands network old new more
+  kept_then old mid new more after still kept = record {
+    well = kept.well;
+    after = after_then old mid new after kept.after;
+    stands_then = λ s notes is. kept.stands_then s notes (still s notes is);
+  }
+
+  -- records are given, and timers are set then
+  pub kept_timers : (old mid new : State C M) (more : List Note) → IsRunning reading stands network old → IsSound last_step network mid → IsAfter old mid
+      → ((s : Scenario) (notes : List Note) → Stands reading (keeps stands) s (world_of network old) notes
+      → Stands reading (keeps stands) s (world_of network mid) (notes ++ more))
+      → new ≡ record mid { timers = new.timers } → AreTimed reading stands network new → IsKept last_step reading stands network old new more
+  kept_timers old mid new more run sound after stands_more same timed =
+      let on = λ (s : Scenario) (notes : List Note) (is : Stands reading (keeps stands) s (world_of network old) notes).
+      subst (λ (t : State C M). Stands reading (keeps stands) s (world_of network t) (notes ++ more)) (sym same) (stands_more s notes is) in
+      record {
+        well = record {
+          sound = sound_timers last_step network mid new same sound;
+          running = record { s = run.s; notes = run.notes ++ more; is = on run.s run.notes run.is };
+          timed = timed;
+        };
+        after = subst (λ (t : State C M). IsAfter old t) (sym same) (record { clocks = after.clocks; ended = after.ended; later = after.later });
+        stands_then = on;
+      }
+
+  -- where time passes, no record is given
+  pub passed_kept : (E : Type 0) (old new : State C M) (until : ℕ) (note : Note) (turn : Turn)
+      → IsPassed last_step reading stands network until old new turn → IsKept last_step reading stands network old new (given_in {E = E} (Ok turn) note)
+  passed_kept E old new until note turn passed = record {
+    well = passed.well;
+    after = passed_after old new until turn passed;
+    stands_then = λ s notes is.
+        subst (λ (l : List Note). Stands reading (keeps stands) s (world_of network new) (notes ++ l)) (sym (none_given turn passed.says))
+        (subst (Stands reading (keeps stands) s (world_of network new)) (sym (append-nil notes)) (passed.still s notes is));
+  }
+    where
+      none_given : (turn : Turn) → PassSays old new until turn → given_in {E = E} (Ok turn) note ≡ []
+      none_given Gives says = absurd says
+      none_given Ends says = refl
+      none_given GoesOn says = refl
+
   -- room is taken
   pub roomier : (old new : State C M) → IsWell last_step reading stands network old → new ≡ record old { settled = new.settled }
       → new.settled.items ≡ old.settled.items → IsStep last_step reading stands network old new
   roomier old new well same items =
-      let fit = well.sound.fit in
-      let sized = well.sound.sized in
       plain_step old new well
       (subst (IsSound last_step network) (sym same)
-      (record {
-        sized = record {
-          clocks = sized.clocks;
-          machines = sized.machines;
-          broken = sized.broken;
-          ups = sized.ups;
-          downs = sized.downs;
-          stepped = sized.stepped;
-          limit = sized.limit;
-          shown = sized.shown;
-        };
-        under_way = well.sound.under_way;
-        fit = record {
-          ups = fit.ups;
-          downs = fit.downs;
-          octets = subst (All (λ (z : Settled). HasItsOctets z.body z.octets)) (sym items) fit.octets;
-          below = fit.below;
-          waits_below = fit.waits_below;
-          apart = fit.apart;
-        };
-      }))
+      (sound_same last_step network old (record old { settled = new.settled }) well.sound refl refl refl refl refl refl refl refl refl refl
+      (subst (All (λ (z : Settled). HasItsOctets z.body z.octets)) (sym items) well.sound.fit.octets)))
       (λ n. record {
         clocks = ap (λ (t : State C M). t.clocks) same;
         time = ap (λ (t : State C M). t.time) same;
@@ -289,29 +318,15 @@ module _ {C M : Type 0} (last_step : C → ℕ) (reading : C → ℕ → ℕ) (s
 
 -- ---- results
 
+pub passed_same : {C M : Type 0} (old new : State C M) (time : ℕ) (early : Bool) → new ≡ record old { time = time; early = early }
+    → new ≡ record old { time = new.time; early = new.early }
+passed_same {C} {M} old new time early same =
+    same ∙ ap (λ (t : State C M). let k : State C M = record old { time = t.time; early = t.early } in k) (sym same)
+
 -- a source that is not later is of the present instant
 pub now_so : (source : Source) → ((time : ℕ) → source ≡ Later time → ⊥) → IsNow source
-now_so Events not = tt
-now_so (Arrival place) not = tt
-now_so (Ripening w) not = tt
-now_so (Act device) not = tt
-now_so (Departure place) not = tt
-now_so (Clock device) not = tt
 now_so (Later time) not = not time refl
-
--- where time passes, no record is given
-pub none_given : {C M : Type 0} (E : Type 0) (old new : State C M) (until : ℕ) (note : Note) (turn : Turn) → PassSays old new until turn
-    → given_in {E = E} (Ok turn) note ≡ []
-none_given E old new until note Gives says = absurd says
-none_given E old new until note Ends says = refl
-none_given E old new until note GoesOn says = refl
-
--- where nothing is given, the records are the same
-pub same_records : {C M : Type 0} (reading : C → ℕ → ℕ) (stands : M → Network → DeviceId → Node → Type 0) (s : Scenario) (world : World C M)
-    (notes more : List Note) → more ≡ [] → Stands reading stands s world notes → Stands reading stands s world (notes ++ more)
-same_records reading stands s world notes more none is =
-    subst (λ (l : List Note). Stands reading stands s world (notes ++ l)) (sym none)
-    (subst (Stands reading stands s world) (sym (append-nil notes)) is)
+now_so other not = tt
 
 -- one of two clauses of a result serves
 pub either_end : {A E : Type 0} (result : Result A E) (P Q R : Type 0) → OnOk result P → OnErr result Q → (P → R) → (Q → R) → R
@@ -341,20 +356,12 @@ room_passed old new same room =
 
 -- ---- one turn after the other
 
-pub after_then : {C M : Type 0} (old mid new : State C M) → IsAfter old mid → IsAfter mid new → IsAfter old new
-after_then old mid new first second = record {
-  clocks = second.clocks ∙ first.clocks;
-  ended = second.ended ∙ first.ended;
-  later = let a = first.later in let b = second.later in omega (arith, a, b);
-}
-
 -- what a turn says of the state before it, it says of one with as many records given
-pub says_then : {C M : Type 0} (E : Type 0) (old mid new : State C M) (until : ℕ) (note : Note) (result : Result Turn E) → mid.given ≡ old.given
-    → mid.ended ≡ old.ended → IfOk result (TurnSays mid new until note) → IfOk result (TurnSays old new until note)
-says_then E old mid new until note (Ok Gives) given ended says = (says.0, says.1, says.2 ∙ ap (λ (n : ℕ). n + 1) given)
-says_then E old mid new until note (Ok GoesOn) given ended says = (says.0, says.1 ∙ given)
-says_then E old mid new until note (Ok Ends) given ended says = λ is limit. says (ended ∙ is) limit
-says_then E old mid new until note (Err e) given ended says = tt
+pub says_then : {C M : Type 0} (old mid new : State C M) (until : ℕ) (note : Note) (turn : Turn) → mid.given ≡ old.given
+    → mid.ended ≡ old.ended → TurnSays mid new until note turn → TurnSays old new until note turn
+says_then old mid new until note Gives given ended says = (says.0, says.1, says.2 ∙ ap (λ (n : ℕ). n + 1) given)
+says_then old mid new until note GoesOn given ended says = (says.0, says.1 ∙ given)
+says_then old mid new until note Ends given ended says = λ is limit. says (ended ∙ is) limit
 
 -- where it fails, the present time is that of the state before it
 pub err_then : {C M : Type 0} {T : Type 0} (E : Type 0) (old mid new : State C M) (result : Result T E) → mid.time ≡ old.time

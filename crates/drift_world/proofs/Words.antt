@@ -40,7 +40,8 @@ pub use Rattle.world_law.specs.world.World.{none_yet, note_of, ripe_place, way_n
 pub use Rattle.world_state.proofs.queue_lemmas.Bags.{in_permuted}
 pub use Rattle.world_state.specs.queue.Places.{IsFirst, numbers_of}
 pub use Rattle.world_state.specs.declared.queue.Place.{Place}
-pub use Rattle.world_state.proofs.{Befallings.is_mapped, Swaps.is_set}
+pub use Rattle.run_law.proofs.records.Members.{in_map as is_mapped}
+pub use Rattle.world_state.proofs.Swaps.{is_set}
 pub use Rattle.world_state.specs.{Applying.clock_after, Giving.{ArrivedAt, HasItsOctets, IsPutOn, changed_device, delay_by, wire_entry}, Keeping.keeps}
 pub use Rattle.world_state.specs.{Naming.named_settled, Places.{IsPutAt, IsSomePut, own_place}, Sound.{AreBelow, AreUnderWay, IsShort, rank_of}}
 pub use Rattle.world_state.specs.Storing.{IsStoredBy}

@@ -1,14 +1,16 @@
 -- Where a state stands, and what a step of it leaves.
-use Rattle.std.specs.Prelude.{◌+◌, ◌<◌, ◌^◌, ◌↔◌, ◌≡◌, ◌≤ℤ◌, ◌≤◌, IfSome, IsSomeAnd, List, Option, Some}
-use Rattle.std.specs.Prelude.{length, pos, slice_get, ℕ}
+use Rattle.std.specs.Prelude.{◌*◌, ◌+◌, ◌<◌, ◌^◌, ◌↔◌, ◌≡◌, ◌≤ℤ◌, ◌≤◌, ◌⊎◌, All, IfSome, IsSomeAnd, List, Option}
+use Rattle.std.specs.Prelude.{Some, length, pos, slice_get, ℕ}
 use Rattle.net_plan.specs.declared.{ids.DeviceId.DeviceId, network.Network.Network}
 use Rattle.run_law.specs.{declared.note.Note.Note, machines.{Nodes.Node, Tasks.{IsPending, Task, reading_for}}}
 use Rattle.run_law.specs.{records.Order.IsIn, scenario.Scenarios.Scenario}
 use Rattle.tte_units.specs.declared.units.Units.{Units}
-use Rattle.world_law.specs.world.{Moves.ComesFirst, World.Stands}
+use Rattle.run_law.specs.records.Order.{behind}
+use Rattle.world_law.specs.world.{Moves.{ComesFirst, StandsBehind}, World.Stands}
 use Rattle.world_state.specs.{Keeping.keeps, declared.{contents.Waits.Waits, kept.Kept.Kept}}
 use Rattle.world_state.specs.timers.Times.{never}
-use Rattle.drift_world.specs.{Views.world_of, declared.state.State.State}
+use Rattle.world_state.specs.declared.contents.Settled.{Settled}
+use Rattle.drift_world.specs.{Sound.IsSized, Views.{with_settled, world_of}, declared.state.State.State}
 
 -- some scenario and records leave the state where it stands
 pub record IsRunning {C M : Type 0} (reading : C → ℕ → ℕ) (stands : M → Network → DeviceId → Node
@@ -26,6 +28,14 @@ pub record IsAt {C M : Type 0} (reading : C → ℕ → ℕ) (stands : M → Net
   pub notes : List Note
   pub is : Stands reading (keeps stands) s (world_of network state) notes
   pub first : ComesFirst reading (keeps stands) s (world_of network state) notes is place
+
+-- where the source at the place comes first, and these records are settled, the state stands behind it
+abbrev pub StandsPast : {C M : Type 0} → (C → ℕ → ℕ) → (M → Network → DeviceId → Node → Type 0) → Network → State C M
+    → State C M → List ℕ → List Settled → Type 0
+StandsPast reading stands network old new place settled =
+    (s : Scenario) (notes : List Note) (is : Stands reading (keeps stands) s (world_of network old) notes)
+    → ComesFirst reading (keeps stands) s (world_of network old) notes is place
+    → StandsBehind reading (keeps stands) s (with_settled network new settled) notes (behind place)
 
 -- of what the timers are for, a step changes that of one device at most
 pub record ChangesOnly {C M : Type 0} (device : ℕ) (old new : State C M) : Type 0 where
@@ -75,20 +85,33 @@ pub record IsActTimed {C M : Type 0} (reading : C → ℕ → ℕ) (stands : M �
   pub of_act : slice_get timers (length network.device + device.0) ≡ Some act
   pub acts : ActsAt reading stands network clock machine device state.time act
 
--- the timers of the device are right: one for the frames that wait at it, and one for what it does by itself
+-- both timers of the device are right: one for the frames that wait at it, and one for what it does by itself
 pub record IsTimed {C M : Type 0} (reading : C → ℕ → ℕ) (stands : M → Network → DeviceId → Node
     → Type 0) (network : Network) (timers : List ℕ)
     (state : State C M) (device : DeviceId) : Type 0 where
-  pub clock : C
-  pub of_clock : slice_get state.clocks.items device.0 ≡ Some clock
-  pub machine : Kept M
-  pub of_machine : slice_get state.machines.items device.0 ≡ Some machine
-  pub ripe : ℕ
-  pub of_ripe : slice_get timers device.0 ≡ Some ripe
-  pub ripens : IsRipeAt reading clock state.waiting.items device.0 state.time ripe
-  pub act : ℕ
-  pub of_act : slice_get timers (length network.device + device.0) ≡ Some act
-  pub acts : ActsAt reading stands network clock machine device state.time act
+  pub ripe : IsRipeTimed reading timers state device
+  pub act : IsActTimed reading stands network timers state device
+
+-- timers of the device may be set: there are two of each device, and some scenario and records leave the state so
+pub record MayRekey {C M : Type 0} (last_step : C → ℕ) (reading : C → ℕ → ℕ) (stands : M → Network → DeviceId → Node
+    → Type 0) (network : Network) (state : State C M) (device : DeviceId) : Type 0 where
+  pub sized : IsSized last_step network state
+  pub there : device.0 < length network.device
+  pub slots : length state.timers ≡ 2 * length network.device
+  pub running : IsRunning reading stands network state
+
+-- timers alone are set, in no other slots than these, and to no time that is past
+pub record SetsOnly {C M : Type 0} (IsSet : ℕ → Type 0) (old new : State C M) : Type 0 where
+  pub same : new ≡ record old { timers = new.timers }
+  pub sized : length new.timers ≡ length old.timers
+  pub others : (slot : ℕ) → (IsSet slot → ⊥) → slice_get new.timers slot ≡ slice_get old.timers slot
+  pub later : All (λ (time : ℕ). old.time ≤ time) old.timers → All (λ (time : ℕ). new.time ≤ time) new.timers
+
+-- both timers of the device are set, and they alone
+pub record IsRekeyed {C M : Type 0} (reading : C → ℕ → ℕ) (stands : M → Network → DeviceId → Node
+    → Type 0) (network : Network) (device : DeviceId) (old new : State C M) : Type 0 where
+  pub sets : SetsOnly (λ slot. (slot ≡ device.0) ⊎ (slot ≡ length network.device + device.0)) old new
+  pub timed : IsTimed reading stands network new.timers new device
 
 -- the timer of the device is right for a machine that acts by itself at this reading next, or never
 pub record IsDueBy {C : Type 0} (reading : C → ℕ → ℕ) (clock : C) (due : Option Units) (now time : ℕ) : Type 0 where

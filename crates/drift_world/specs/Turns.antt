@@ -1,7 +1,8 @@
 -- How a world goes on, one source after the other.
-use Rattle.std.specs.Prelude.{◌+◌, ◌-◌, ◌<◌, ◌^◌, ◌∷◌, ◌≡◌, ◌≤ℤ◌, ◌≤◌, ◌⊎◌, Err, List, None, Ok, Option, Result, Some}
+use Rattle.std.specs.Prelude.{◌++◌, ◌+◌, ◌-◌, ◌<◌, ◌^◌, ◌∷◌, ◌≡◌, ◌≤ℤ◌, ◌≤◌, ◌⊎◌, Err, List, None, Ok, Option, Result}
+use Rattle.std.specs.Prelude.{Some}
 use Rattle.std.specs.{Prelude.{[], false, length, pos, slice_get, true, ℕ}, VecDeque.{deque_capacity, deque_len}}
-use Rattle.net_plan.specs.declared.{ids.DeviceId.DeviceId, network.Network.Network}
+use Rattle.net_plan.specs.{Ranges.IsInRange, declared.{ids.DeviceId.DeviceId, network.Network.Network}}
 use Rattle.run_law.specs.{declared.note.Note.Note, machines.{Calls.HasDue, Nodes.Node}, records.Order.{IsBefore, IsIn}}
 use Rattle.run_law.specs.{runs.DueRecords.IsScenarioRun, scenario.Scenarios.Scenario}
 use Rattle.tte_units.specs.Amount.{amount, units_of}
@@ -10,7 +11,7 @@ use Rattle.world_state.specs.{queue.Places.{IsFirst, numbers_of}, declared.queue
 use Rattle.world_state.specs.{Frames.first_of, Keeping.keeps, Places.own_place, Views.waiting_as}
 use Rattle.world_state.specs.declared.{contents.{Settled.Settled, Waits.Waits}, kept.Kept.Kept}
 use Rattle.world_state.specs.declared.timers.Due.{Due}
-use Rattle.drift_world.specs.Nearing.{IsLess}
+use Rattle.drift_world.specs.Nearing.{IsLess, Nears}
 use Rattle.drift_world.specs.{Sourcing.{HasNothingBefore, IsRipePlace, due_place}, Views.world_of, Wells.IsWell}
 use Rattle.drift_world.specs.declared.{next.Turn.{Turn, TheVariants.{Ends, Gives, GoesOn}}, source.Source.Source}
 use Rattle.drift_world.specs.declared.source.Source.TheVariants.{Act, Arrival, Clock, Departure, Events, Later}
@@ -93,20 +94,20 @@ IsWithin until other = Unit {0}
 -- the numbers of its place behind the time, where it is of the present instant
 abbrev pub own_numbers : Source → Option (List ℕ)
 own_numbers Events = Some (2 ∷ [])
-own_numbers (Arrival place) = Some (place.rank ∷ place.device ∷ place.link ∷ place.cause ∷ [])
+own_numbers (Arrival place) = Some (2 ∷ place.device ∷ place.link ∷ place.cause ∷ [])
 own_numbers (Ripening w) = Some (3 ∷ w.device.0 ∷ amount w.point ∷ w.frame.members.0 ∷ w.link.0 ∷ w.cause ∷ [])
 own_numbers (Act device) = Some (4 ∷ device.0 ∷ [])
-own_numbers (Departure place) = Some (place.rank ∷ place.device ∷ place.link ∷ place.cause ∷ [])
+own_numbers (Departure place) = Some (8 ∷ place.device ∷ place.link ∷ place.cause ∷ [])
 own_numbers (Clock device) = Some (14 ∷ device.0 ∷ [])
 own_numbers (Later time) = None
 
 -- the first of them: more than that of any record, where it is not of the present instant
 abbrev pub rank_in_order : Source → ℕ
 rank_in_order Events = 2
-rank_in_order (Arrival place) = place.rank
+rank_in_order (Arrival place) = 2
 rank_in_order (Ripening w) = 3
 rank_in_order (Act device) = 4
-rank_in_order (Departure place) = place.rank
+rank_in_order (Departure place) = 8
 rank_in_order (Clock device) = 14
 rank_in_order (Later time) = 15
 
@@ -145,6 +146,24 @@ pub record IsForemost {C M : Type 0} (reading : C → ℕ → ℕ) (stands : M �
   pub there : IsThere reading stands network state source
   pub nothing : HasNothingBefore reading stands network state (source_place state.time source)
 
+-- it may be worked off: it comes first of all, and there is room for what it comes to
+pub record MayWork {C M : Type 0} (last_step : C → ℕ) (reading : C → ℕ → ℕ) (stands : M → Network → DeviceId → Node
+    → Type 0) (network : Network) (state : State C M) (source : Source) : Type 0 where
+  pub range : IsInRange network
+  pub well : IsWell last_step reading stands network state
+  pub room : HasRoom state
+  pub foremost : IsForemost reading stands network state source
+  pub first : SourceFirst state.settled.items source
+
+-- a turn may be made towards the time: it is not the time yet, nor behind the end
+pub record MayTurn {C M : Type 0} (last_step : C → ℕ) (reading : C → ℕ → ℕ) (stands : M → Network → DeviceId → Node
+    → Type 0) (network : Network) (until : ℕ) (state : State C M) : Type 0 where
+  pub range : IsInRange network
+  pub well : IsWell last_step reading stands network state
+  pub limit : until ≤ 2 ^ 60 + 1
+  pub early : state.time < until
+  pub ended : state.ended ≡ true → until ≤ state.time + 1
+
 -- ---- what a turn leaves
 
 -- the record that a turn gave, if it gave this one
@@ -160,6 +179,14 @@ pub record IsAfter {C M : Type 0} (old new : State C M) : Type 0 where
   pub ended : new.ended ≡ old.ended
   pub later : old.time ≤ new.time
 
+-- the state stays well, and stands with these records more
+pub record IsKept {C M : Type 0} (last_step : C → ℕ) (reading : C → ℕ → ℕ) (stands : M → Network → DeviceId → Node
+    → Type 0) (network : Network) (old new : State C M) (more : List Note) : Type 0 where
+  pub well : IsWell last_step reading stands network new
+  pub after : IsAfter old new
+  pub stands_then : (s : Scenario) (notes : List Note) → Stands reading (keeps stands) s (world_of network old) notes
+      → Stands reading (keeps stands) s (world_of network new) (notes ++ more)
+
 -- the state has come to the time, and nothing of it but events is worked off
 pub record HasCome {C M : Type 0} (new : State C M) (until : ℕ) : Type 0 where
   pub time : new.time ≡ until
@@ -172,16 +199,24 @@ TurnSays old new until note Gives = (note.time ≡ units_of new.time) × (new.ti
 TurnSays old new until note GoesOn = (new.time < until) × (new.given ≡ old.given)
 TurnSays old new until note Ends = old.ended ≡ false → until ≤ 2 ^ 60 → HasCome new until
 
+-- where it ends, the records are the run up to the time
+abbrev pub IsWhole : Scenario → List Note → ℕ → Turn → Type 0
+IsWhole s notes until Ends = IsScenarioRun s (until ∷ []) notes
+IsWhole s notes until other = Unit {0}
+
+-- what it says of records, and how far it goes
+pub record TurnsTo {C M : Type 0} (reading : C → ℕ → ℕ) (stands : M → Network → DeviceId → Node → Type 0)
+    (network : Network) (until : ℕ) (old new : State C M) (note : Note) (turn : Turn) : Type 0 where
+  pub whole : (s : Scenario) (notes : List Note) → Stands reading (keeps stands) s (world_of network old) notes
+      → IsWhole s notes until turn
+  pub says : TurnSays old new until note turn
+  pub nears : Nears network until old new turn
+
 -- what it says, where time passes
 abbrev pub PassSays : {C M : Type 0} → State C M → State C M → ℕ → Turn → Type 0
 PassSays old new until Gives = ⊥
 PassSays old new until GoesOn = (new.time < until) × (new.given ≡ old.given)
 PassSays old new until Ends = old.ended ≡ false → until ≤ 2 ^ 60 → HasCome new until
-
--- where it ends, the records are the run up to the time
-abbrev pub IsWhole : Scenario → List Note → ℕ → Turn → Type 0
-IsWhole s notes until Ends = IsScenarioRun s (until ∷ []) notes
-IsWhole s notes until other = Unit {0}
 
 -- what it is to work a source off: nothing is given, and the present instant stays
 pub record IsStep {C M : Type 0} (last_step : C → ℕ) (reading : C → ℕ → ℕ) (stands : M → Network → DeviceId → Node
@@ -193,6 +228,18 @@ pub record IsStep {C M : Type 0} (last_step : C → ℕ) (reading : C → ℕ �
       → Stands reading (keeps stands) s (world_of network new) notes
   pub time : new.time ≡ old.time
   pub given : new.given ≡ old.given
+
+-- time passes, if it does, and nothing else changes
+pub record IsPassed {C M : Type 0} (last_step : C → ℕ) (reading : C → ℕ → ℕ) (stands : M → Network → DeviceId → Node
+    → Type 0) (network : Network) (until : ℕ) (old new : State C M) (turn : Turn) : Type 0 where
+  pub well : IsWell last_step reading stands network new
+  pub still : (s : Scenario) (notes : List Note) → Stands reading (keeps stands) s (world_of network old) notes
+      → Stands reading (keeps stands) s (world_of network new) notes
+  pub whole : (s : Scenario) (notes : List Note) → Stands reading (keeps stands) s (world_of network old) notes
+      → IsWhole s notes until turn
+  pub says : PassSays old new until turn
+  pub same : new ≡ record old { time = new.time; early = new.early }
+  pub later : old.time ≤ new.time
 
 -- a record of the present instant is given
 abbrev pub GivesAt : {C M : Type 0} → State C M → State C M → Note → Turn → Type 0

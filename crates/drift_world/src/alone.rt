@@ -6,11 +6,10 @@ ghost use Rattle.world_law.specs.{source.First.NoSourceBefore, world.World.Stand
 
 use crate::next::Turn;
 use crate::ripen::is_judged;
-use crate::source::{ARRIVING, LEAVING};
 use crate::state::State;
 use drift_clock::Clock;
 use net_plan::Network;
-use plain_notes::Given;
+use plain_notes::{Given, Rank};
 use run_law::Machine;
 use world_state::OutOfMemory;
 use world_state::contents::{Settled, Waits};
@@ -23,8 +22,8 @@ use world_state::waiting::waiter;
 
 impl<C: Clock, M: Machine + Drop> State<C, M> {
     ghost use Rattle.world_state.specs.{Giving.{HasItsOctets, changed_device}, Keeping.keeps, Views.settled_at};
-    ghost use Rattle.drift_world.specs.{Giving.IsRunningWith, Sound.IsSound, Stepping.ChangesOnly, Wells.IsWell};
-    ghost use Rattle.drift_world.specs.Turns.{GivesAt, HasRoom, IsAfter, IsForemost, SourceFirst, WorkSays, given_in};
+    ghost use Rattle.drift_world.specs.{Giving.IsRunningWith, Sound.IsSound, Stepping.ChangesOnly};
+    ghost use Rattle.drift_world.specs.Turns.{GivesAt, HasRoom, IsKept, MayWork, WorkSays, given_in};
     ghost use Rattle.drift_world.specs.{Views.{with_first, world_of}, declared.source.Source.Source as SourceOf};
 
     /// Is nothing settled?
@@ -90,23 +89,15 @@ impl<C: Clock, M: Machine + Drop> State<C, M> {
         place: Place,
         note: &mut Given,
     ) -> Result<Turn, OutOfMemory>
-        requires range { IsInRange network.now }
-        requires well { IsWell C.last_step C.reading M.stands network.now self.old }
-        requires room { HasRoom self.old }
-        requires foremost { IsForemost C.reading M.stands network.now self.old (SourceOf.Arrival place) }
-        requires first { SourceFirst self.old.settled.items (SourceOf.Arrival place) }
-        ensures well { IsWell C.last_step C.reading M.stands network.now self.new }
-        ensures after { IsAfter self.old self.new }
-        ensures stands { (s : Scenario) (notes : List NoteOf)
-            → Stands C.reading (keeps M.stands) s (world_of network.now self.old) notes
-            → Stands C.reading (keeps M.stands) s (world_of network.now self.new) (notes ++ given_in result note.new) }
+        requires may { MayWork C.last_step C.reading M.stands network.now self.old (SourceOf.Arrival place) }
+        ensures kept { IsKept C.last_step C.reading M.stands network.now self.old self.new (given_in result note.new) }
         ensures says { IfOk result (WorkSays network.now self.old self.new note.new) }
         ensures err { OnErr result (self.new.time ≡ self.old.time) }
     {
         let alone = self.has_none_settled();
-        let before = self.machines[place.device as usize].due();
+        let before = self.due_of(network, place.device);
         let record = self.hear_wire(network, place);
-        if alone && rank_of(&record) == u64::from(ARRIVING) {
+        if alone && rank_of(&record) == Rank::Arrived.number() {
             let turn = self.give_alone(network, record, note);
             self.rekey_from(network, place.device, before);
             return turn;
@@ -125,16 +116,8 @@ impl<C: Clock, M: Machine + Drop> State<C, M> {
         place: Place,
         note: &mut Given,
     ) -> Result<Turn, OutOfMemory>
-        requires range { IsInRange network.now }
-        requires well { IsWell C.last_step C.reading M.stands network.now self.old }
-        requires room { HasRoom self.old }
-        requires foremost { IsForemost C.reading M.stands network.now self.old (SourceOf.Departure place) }
-        requires first { SourceFirst self.old.settled.items (SourceOf.Departure place) }
-        ensures well { IsWell C.last_step C.reading M.stands network.now self.new }
-        ensures after { IsAfter self.old self.new }
-        ensures stands { (s : Scenario) (notes : List NoteOf)
-            → Stands C.reading (keeps M.stands) s (world_of network.now self.old) notes
-            → Stands C.reading (keeps M.stands) s (world_of network.now self.new) (notes ++ given_in result note.new) }
+        requires may { MayWork C.last_step C.reading M.stands network.now self.old (SourceOf.Departure place) }
+        ensures kept { IsKept C.last_step C.reading M.stands network.now self.old self.new (given_in result note.new) }
         ensures says { IfOk result (WorkSays network.now self.old self.new note.new) }
         ensures err { OnErr result (self.new.time ≡ self.old.time) }
     {
@@ -142,7 +125,7 @@ impl<C: Clock, M: Machine + Drop> State<C, M> {
         let Some(record) = self.leave_port(network, place) else {
             return Ok(Turn::GoesOn);
         };
-        if alone && rank_of(&record) == u64::from(LEAVING) {
+        if alone && rank_of(&record) == Rank::Left.number() {
             return self.give_alone(network, record, note);
         }
         put_in(&mut self.settled, record);
@@ -158,21 +141,13 @@ impl<C: Clock, M: Machine + Drop> State<C, M> {
         one: Waits,
         note: &mut Given,
     ) -> Result<Turn, OutOfMemory>
-        requires range { IsInRange network.now }
-        requires well { IsWell C.last_step C.reading M.stands network.now self.old }
-        requires room { HasRoom self.old }
-        requires foremost { IsForemost C.reading M.stands network.now self.old (SourceOf.Ripening one) }
-        requires first { SourceFirst self.old.settled.items (SourceOf.Ripening one) }
-        ensures well { IsWell C.last_step C.reading M.stands network.now self.new }
-        ensures after { IsAfter self.old self.new }
-        ensures stands { (s : Scenario) (notes : List NoteOf)
-            → Stands C.reading (keeps M.stands) s (world_of network.now self.old) notes
-            → Stands C.reading (keeps M.stands) s (world_of network.now self.new) (notes ++ given_in result note.new) }
+        requires may { MayWork C.last_step C.reading M.stands network.now self.old (SourceOf.Ripening one) }
+        ensures kept { IsKept C.last_step C.reading M.stands network.now self.old self.new (given_in result note.new) }
         ensures says { IfOk result (WorkSays network.now self.old self.new note.new) }
         ensures err { OnErr result (self.new.time ≡ self.old.time) }
     {
         let alone = self.has_none_settled();
-        let before = self.machines[one.device.0 as usize].due();
+        let before = self.due_of(network, one.device.0);
         let ripened = self.ripen_waits(network, one.device);
         if alone && is_judged(ripened.ripe) {
             let record = record_of(&ripened.waits, ripened.ripe);

@@ -1,59 +1,60 @@
 ghost use Rattle.std.specs.Prelude.{◌++◌, ◌<◌, ◌∷◌, ◌≡◌, ◌≤◌, IfOk, IfSome, List, OnErr, length, true};
-ghost use Rattle.net_plan.specs.Ranges.{IsInRange};
-ghost use Rattle.run_law.specs.{declared.note.Note.Note as NoteOf, scenario.Scenarios.Scenario};
 
 use crate::next::Turn;
 use crate::source::Source;
 use crate::state::State;
 use drift_clock::Clock;
 use net_plan::{DeviceId, Network};
-use plain_notes::Given;
+use plain_notes::{Given, Rank};
 use run_law::Machine;
 use world_state::OutOfMemory;
 use world_state::queue::Place;
 use world_state::settled::rank_of;
 use world_state::timers::Due;
 
-/// More than the rank of any record.
-const NO_RANK: u64 = 15;
-
 /// The rank of the place, if it is of this time.
-fn place_rank(place: Option<Place>, time: u64) -> u64
+fn place_rank(place: Option<Place>, time: u64) -> u8
     ensures { IfSome place (λ p. p.at ≡ time → result ≤ p.rank) }
 {
     match place {
-        Some(place) if place.at == time => u64::from(place.rank),
-        Some(_) | None => NO_RANK,
+        Some(place) if place.at == time => place.rank,
+        Some(_) | None => Rank::BEYOND,
     }
 }
 
 /// The rank of what the slot is for that is due, if it is at this time: of the frames that wait, or of acts.
-fn slot_rank(due: Option<Due>, time: u64, devices: usize) -> u64
+fn slot_rank(due: Option<Due>, time: u64, devices: usize) -> u8
     ensures waits { IfSome due (λ d. d.time ≡ time → d.slot < devices → result ≤ 3) }
     ensures acts { IfSome due (λ d. d.time ≡ time → devices ≤ d.slot → result ≤ 4) }
 {
     match due {
-        Some(due) if due.time == time => { if due.slot < devices { 3 } else { 4 } }
-        Some(_) | None => NO_RANK,
+        Some(due) if due.time == time => {
+            if due.slot < devices {
+                Rank::Permanent.number()
+            } else {
+                Rank::Compressed.number()
+            }
+        }
+        Some(_) | None => Rank::BEYOND,
     }
 }
 
 /// The rank of the outcomes of events, if they are to be settled, or else of the clocks, if one is to be shown.
-fn other_rank(pending: bool, ended: bool, shown: u32, devices: usize) -> u64
+fn other_rank(pending: bool, ended: bool, shown: u32, devices: usize) -> u8
     ensures befell { pending ≡ true → result ≤ 2 }
     ensures clocks { ended ≡ true → shown < devices → result ≤ 14 }
 {
     if pending {
-        return 2;
+        return Rank::Arrived.number();
     }
     if ended && (shown as usize) < devices {
-        return 14;
+        return Rank::Clock.number();
     }
-    NO_RANK
+    Rank::BEYOND
 }
 
 /// The lower of two ranks.
-fn lower(rank: u64, other: u64) -> u64
+fn lower(rank: u8, other: u8) -> u8
     ensures one { result ≤ rank }
     ensures other { result ≤ other }
 {
@@ -62,11 +63,10 @@ fn lower(rank: u64, other: u64) -> u64
 
 impl<C: Clock, M: Machine + Drop> State<C, M> {
     ghost use Rattle.run_law.specs.records.Ranks.{place_of};
-    ghost use Rattle.world_law.specs.world.World.{Stands};
-    ghost use Rattle.world_state.specs.{Keeping.keeps, Views.settled_at};
+    ghost use Rattle.world_state.specs.{Views.settled_at};
     ghost use Rattle.world_state.specs.declared.contents.Settled.{Settled as SettledValue};
-    ghost use Rattle.drift_world.specs.{Sourcing.HasNothingBefore, Views.world_of, Wells.IsWell};
-    ghost use Rattle.drift_world.specs.Turns.{HasRoom, IsAfter, IsForemost, IsNextRank, IsNow, SourceFirst, WorkSays};
+    ghost use Rattle.drift_world.specs.{Sourcing.HasNothingBefore, Wells.IsWell};
+    ghost use Rattle.drift_world.specs.Turns.{IsKept, IsNextRank, IsNow, MayWork, WorkSays};
     ghost use Rattle.drift_world.specs.{Turns.given_in, declared.source.Source.Source as SourceOf};
 
     /// The source of the present instant that comes first is worked off. Where what it comes to stands before all that
@@ -78,17 +78,9 @@ impl<C: Clock, M: Machine + Drop> State<C, M> {
         source: Source,
         note: &mut Given,
     ) -> Result<Turn, OutOfMemory>
-        requires range { IsInRange network.now }
-        requires well { IsWell C.last_step C.reading M.stands network.now self.old }
-        requires room { HasRoom self.old }
-        requires foremost { IsForemost C.reading M.stands network.now self.old source }
-        requires first { SourceFirst self.old.settled.items source }
+        requires may { MayWork C.last_step C.reading M.stands network.now self.old source }
         requires present { IsNow source }
-        ensures well { IsWell C.last_step C.reading M.stands network.now self.new }
-        ensures after { IsAfter self.old self.new }
-        ensures stands { (s : Scenario) (notes : List NoteOf)
-            → Stands C.reading (keeps M.stands) s (world_of network.now self.old) notes
-            → Stands C.reading (keeps M.stands) s (world_of network.now self.new) (notes ++ given_in result note.new) }
+        ensures kept { IsKept C.last_step C.reading M.stands network.now self.old self.new (given_in result note.new) }
         ensures says { IfOk result (WorkSays network.now self.old self.new note.new) }
         ensures err { OnErr result (self.new.time ≡ self.old.time) }
     {
@@ -120,16 +112,8 @@ impl<C: Clock, M: Machine + Drop> State<C, M> {
         device: DeviceId,
         note: &mut Given,
     ) -> Result<Turn, OutOfMemory>
-        requires range { IsInRange network.now }
-        requires well { IsWell C.last_step C.reading M.stands network.now self.old }
-        requires room { HasRoom self.old }
-        requires foremost { IsForemost C.reading M.stands network.now self.old (SourceOf.Act device) }
-        requires first { SourceFirst self.old.settled.items (SourceOf.Act device) }
-        ensures well { IsWell C.last_step C.reading M.stands network.now self.new }
-        ensures after { IsAfter self.old self.new }
-        ensures stands { (s : Scenario) (notes : List NoteOf)
-            → Stands C.reading (keeps M.stands) s (world_of network.now self.old) notes
-            → Stands C.reading (keeps M.stands) s (world_of network.now self.new) (notes ++ given_in result note.new) }
+        requires may { MayWork C.last_step C.reading M.stands network.now self.old (SourceOf.Act device) }
+        ensures kept { IsKept C.last_step C.reading M.stands network.now self.old self.new (given_in result note.new) }
         ensures says { IfOk result (WorkSays network.now self.old self.new note.new) }
         ensures err { OnErr result (self.new.time ≡ self.old.time) }
     {
@@ -157,7 +141,7 @@ impl<C: Clock, M: Machine + Drop> State<C, M> {
     }
 
     /// The least rank of what is to come of the present instant.
-    fn next_rank(&self, network: &Network) -> u64
+    fn next_rank(&self, network: &Network) -> u8
         requires well { IsWell C.last_step C.reading M.stands network.now self.now }
         ensures { IsNextRank C.reading M.stands network.now self.now result }
     {

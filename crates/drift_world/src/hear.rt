@@ -1,13 +1,12 @@
 ghost use Rattle.std.specs.Prelude.{◌+◌, ◌<◌, ◌≡◌, List, false, length, ℕ};
 ghost use Rattle.net_plan.specs.Ranges.{IsInRange};
-ghost use Rattle.run_law.specs.{declared.note.Note.Note, records.Order.behind, scenario.Scenarios.Scenario};
-ghost use Rattle.world_law.specs.world.{Moves.{ComesFirst, StandsBehind}, World.Stands};
 ghost use Rattle.world_state.specs.queue.Places.{IsFirst, numbers_of};
 ghost use Rattle.run_law.specs.records.Ranks.{place_of, rank};
-ghost use Rattle.world_state.specs.{Giving.{HasItsOctets, changed_device}, Hearing.arrived, Keeping.keeps};
+ghost use Rattle.world_state.specs.Giving.{HasItsOctets, changed_device};
+ghost use Rattle.world_state.specs.{Hearing.arrived};
 ghost use Rattle.world_state.specs.{Places.IsPutAt, Views.settled_at};
 ghost use Rattle.world_state.specs.declared.contents.Settled.{Settled as SettledValue};
-ghost use Rattle.drift_world.specs.{Sound.IsSound, Stepping.{ChangesOnly, IsAt}, Views.{with_settled, world_of}};
+ghost use Rattle.drift_world.specs.{Sound.IsSound, Stepping.{ChangesOnly, IsAt, StandsPast}};
 
 use crate::state::State;
 use drift_clock::Clock;
@@ -36,12 +35,9 @@ impl<C: Clock, M: Machine + Drop> State<C, M> {
         ensures own { rank result.body ≡ 2
             → place_of (settled_at network.now self.old.time result) ≡ numbers_of place }
         ensures device { rank result.body ≡ 2 → changed_device result.body ≡ place.device }
-        ensures stands { (s : Scenario) (notes : List Note) (settled : List SettledValue) (index : ℕ)
-            → (old : Stands C.reading (keeps M.stands) s (world_of network.now self.old) notes)
-            → ComesFirst C.reading (keeps M.stands) s (world_of network.now self.old) notes old (numbers_of place)
+        ensures stands { (settled : List SettledValue) (index : ℕ)
             → IsPutAt result self.old.settled.items settled index
-            → StandsBehind C.reading (keeps M.stands) s (with_settled network.now self.new settled) notes
-            (behind (numbers_of place)) }
+            → StandsPast C.reading M.stands network.now self.old self.new (numbers_of place) settled }
         ensures others { ChangesOnly place.device self.old self.new }
         ensures same { self.new ≡ record self.old {
           machines = self.new.machines;

@@ -2,6 +2,7 @@
 #![tactic(auto)]
 
 mod act;
+mod ahead;
 mod alone;
 mod applying;
 mod at_once;

@@ -1,20 +1,19 @@
-ghost use Rattle.std.specs.Prelude.{◌*◌, ◌++◌, ◌+◌, ◌<ℤ◌, ◌<◌, ◌^◌, ◌↔◌, ◌∷◌, ◌≡◌, ◌≤◌, IfNone, IfOk, IfSome};
+ghost use Rattle.std.specs.Prelude.{◌*◌, ◌++◌, ◌+◌, ◌<ℤ◌, ◌<◌, ◌^◌, ◌↔◌, ◌∷◌, ◌≡◌, ◌≤◌, IfOk};
 ghost use Rattle.std.specs.Prelude.{IsTrue, List, OnErr, OnOk, Some, [], false, length, pos, true};
 ghost use Rattle.net_plan.specs.Ranges.{IsInRange};
 ghost use Rattle.run_law.specs.{declared.note.Note.Note as NoteOf, runs.DueRecords.IsScenarioRun};
 ghost use Rattle.run_law.specs.scenario.Scenarios.{Scenario};
-ghost use Rattle.drift_world.specs.Turns.{IsAhead, own_numbers};
 
-use crate::source::{Source, least_of, own_numbers, rank_in_order};
+use crate::ahead::{is_ahead_in_all, rank_in_order};
+use crate::source::{Source, least_of};
 use crate::state::State;
 use drift_clock::Clock;
 use net_plan::Network;
 use plain_notes::{Body, Given, Kind};
 use run_law::Machine;
 use world_state::OutOfMemory;
-use world_state::contents::Settled;
 use world_state::queue::Place;
-use world_state::settled::{is_before_in_all, rank_of};
+use world_state::settled::rank_of;
 use world_state::timers::Due;
 
 /// The last time of a run.
@@ -31,17 +30,6 @@ pub enum Turn {
     GoesOn,
 }
 
-/// Is the record ahead of the source, as all numbers of their places tell?
-#[inline(never)]
-fn is_ahead_in_all(first: &Settled, source: &Source) -> bool
-    ensures { IsTrue result ↔ IsAhead (own_numbers source.now) first.now }
-{
-    match own_numbers(source) {
-        Some(place) => is_before_in_all(first, place.as_slice()),
-        None => true,
-    }
-}
-
 impl<C: Clock, M: Machine + Drop> State<C, M> {
     ghost use Rattle.run_law.specs.records.Ranks.{place_of};
     ghost use Rattle.tte_units.specs.Amount.{units_of};
@@ -50,8 +38,8 @@ impl<C: Clock, M: Machine + Drop> State<C, M> {
     ghost use Rattle.drift_world.specs.{Nearing.{IsNoFarther, Nears}, Running.{given_by, next_of}, Sound.IsSized};
     ghost use Rattle.drift_world.specs.{Sourcing.{AreFirsts, AreTimed, HasNothingBefore}, Stepping.ChangesOnly};
     ghost use Rattle.drift_world.specs.Stepping.{IsRunning};
-    ghost use Rattle.drift_world.specs.Turns.{GivesAt, HasCome, HasRoom, IsAfter, IsCalm, IsWhole, PassSays};
-    ghost use Rattle.drift_world.specs.Turns.{SettledFirst, SourceFirst, TurnSays, given_in};
+    ghost use Rattle.drift_world.specs.Turns.{GivesAt, HasCome, HasRoom, IsCalm, IsKept, IsPassed, MayTurn};
+    ghost use Rattle.drift_world.specs.Turns.{SettledFirst, SourceFirst, TurnsTo, given_in};
     ghost use Rattle.drift_world.specs.{Views.world_of, Wells.IsWell};
     ghost use Rattle.world_state.specs.declared.contents.Settled.{Settled as SettledValue};
     ghost use Rattle.drift_world.specs.declared.state.State.{State as StateOf};
@@ -66,25 +54,16 @@ impl<C: Clock, M: Machine + Drop> State<C, M> {
         until: u64,
         note: &mut Given,
     ) -> Result<bool, OutOfMemory>
-        requires range { IsInRange network.now }
-        requires well { IsWell C.last_step C.reading M.stands network.now self.old }
-        requires limit { until ≤ 2 ^ 60 + 1 }
-        requires open { self.old.time < until }
-        requires ended { self.old.ended ≡ true → until ≤ self.old.time + 1 }
-        ensures well { IsWell C.last_step C.reading M.stands network.now self.new }
-        ensures after { IsAfter self.old self.new }
-        ensures stands { (s : Scenario) (notes : List NoteOf)
-            → Stands C.reading (keeps M.stands) s (world_of network.now self.old) notes
-            → Stands C.reading (keeps M.stands) s (world_of network.now self.new) (notes
-            ++ given_by (next_of result note.new)) }
+        requires may { MayTurn C.last_step C.reading M.stands network.now until self.old }
+        ensures kept { IsKept C.last_step C.reading M.stands network.now self.old self.new
+            (given_by (next_of result note.new)) }
         ensures complete { (s : Scenario) (notes : List NoteOf)
             → Stands C.reading (keeps M.stands) s (world_of network.now self.old) notes
             → IfOk result (λ more. more ≡ false → IsScenarioRun s (until ∷ []) notes) }
         ensures reached { IfOk result (λ more.
             more ≡ false → (self.old.ended ≡ false → until ≤ 2 ^ 60 → HasCome self.new until)) }
-        ensures before { IfOk result (λ more.
-            more ≡ true → (note.new.time ≡ units_of self.new.time) × (note.new.time.0 <ℤ pos until)) }
-        ensures given { IfOk result (λ more. more ≡ true → self.new.given ≡ self.old.given + 1) }
+        ensures given { IfOk result (λ more. more ≡ true → (note.new.time ≡ units_of self.new.time)
+            × (note.new.time.0 <ℤ pos until) × (self.new.given ≡ self.old.given + 1)) }
         ensures err { OnErr result (self.new.time < until) }
     {
         'turns: loop {
@@ -99,21 +78,9 @@ impl<C: Clock, M: Machine + Drop> State<C, M> {
 
     /// One turn: what is settled first is given, or what comes first is worked off, or time passes.
     fn turn(&mut self, network: &Network, until: u64, note: &mut Given) -> Result<Turn, OutOfMemory>
-        requires range { IsInRange network.now }
-        requires well { IsWell C.last_step C.reading M.stands network.now self.old }
-        requires limit { until ≤ 2 ^ 60 + 1 }
-        requires open { self.old.time < until }
-        requires ended { self.old.ended ≡ true → until ≤ self.old.time + 1 }
-        ensures well { IsWell C.last_step C.reading M.stands network.now self.new }
-        ensures after { IsAfter self.old self.new }
-        ensures stands { (s : Scenario) (notes : List NoteOf)
-            → Stands C.reading (keeps M.stands) s (world_of network.now self.old) notes
-            → Stands C.reading (keeps M.stands) s (world_of network.now self.new) (notes ++ given_in result note.new) }
-        ensures whole { (s : Scenario) (notes : List NoteOf)
-            → Stands C.reading (keeps M.stands) s (world_of network.now self.old) notes
-            → IfOk result (λ turn. IsWhole s notes until turn) }
-        ensures says { IfOk result (λ turn. TurnSays self.old self.new until note.new turn) }
-        ensures nears { IfOk result (λ turn. Nears network.now until self.old self.new turn) }
+        requires may { MayTurn C.last_step C.reading M.stands network.now until self.old }
+        ensures kept { IsKept C.last_step C.reading M.stands network.now self.old self.new (given_in result note.new) }
+        ensures turns { IfOk result (TurnsTo C.reading M.stands network.now until self.old self.new note.new) }
         ensures err { OnErr result (self.new.time < until) }
     {
         if let Err(error) = self.make_places() {
@@ -129,22 +96,10 @@ impl<C: Clock, M: Machine + Drop> State<C, M> {
         until: u64,
         note: &mut Given,
     ) -> Result<Turn, OutOfMemory>
-        requires range { IsInRange network.now }
-        requires well { IsWell C.last_step C.reading M.stands network.now self.old }
-        requires limit { until ≤ 2 ^ 60 + 1 }
-        requires open { self.old.time < until }
-        requires ended { self.old.ended ≡ true → until ≤ self.old.time + 1 }
+        requires may { MayTurn C.last_step C.reading M.stands network.now until self.old }
         requires room { HasRoom self.old }
-        ensures well { IsWell C.last_step C.reading M.stands network.now self.new }
-        ensures after { IsAfter self.old self.new }
-        ensures stands { (s : Scenario) (notes : List NoteOf)
-            → Stands C.reading (keeps M.stands) s (world_of network.now self.old) notes
-            → Stands C.reading (keeps M.stands) s (world_of network.now self.new) (notes ++ given_in result note.new) }
-        ensures whole { (s : Scenario) (notes : List NoteOf)
-            → Stands C.reading (keeps M.stands) s (world_of network.now self.old) notes
-            → IfOk result (λ turn. IsWhole s notes until turn) }
-        ensures says { IfOk result (λ turn. TurnSays self.old self.new until note.new turn) }
-        ensures nears { IfOk result (λ turn. Nears network.now until self.old self.new turn) }
+        ensures kept { IsKept C.last_step C.reading M.stands network.now self.old self.new (given_in result note.new) }
+        ensures turns { IfOk result (TurnsTo C.reading M.stands network.now until self.old self.new note.new) }
         ensures err { OnErr result (self.new.time < until) }
     {
         if self.is_calm() {
@@ -171,22 +126,10 @@ impl<C: Clock, M: Machine + Drop> State<C, M> {
         until: u64,
         note: &mut Given,
     ) -> Result<Turn, OutOfMemory>
-        requires range { IsInRange network.now }
-        requires well { IsWell C.last_step C.reading M.stands network.now self.old }
-        requires limit { until ≤ 2 ^ 60 + 1 }
-        requires open { self.old.time < until }
-        requires ended { self.old.ended ≡ true → until ≤ self.old.time + 1 }
+        requires may { MayTurn C.last_step C.reading M.stands network.now until self.old }
         requires room { HasRoom self.old }
-        ensures well { IsWell C.last_step C.reading M.stands network.now self.new }
-        ensures after { IsAfter self.old self.new }
-        ensures stands { (s : Scenario) (notes : List NoteOf)
-            → Stands C.reading (keeps M.stands) s (world_of network.now self.old) notes
-            → Stands C.reading (keeps M.stands) s (world_of network.now self.new) (notes ++ given_in result note.new) }
-        ensures whole { (s : Scenario) (notes : List NoteOf)
-            → Stands C.reading (keeps M.stands) s (world_of network.now self.old) notes
-            → IfOk result (λ turn. IsWhole s notes until turn) }
-        ensures says { IfOk result (λ turn. TurnSays self.old self.new until note.new turn) }
-        ensures nears { IfOk result (λ turn. Nears network.now until self.old self.new turn) }
+        ensures kept { IsKept C.last_step C.reading M.stands network.now self.old self.new (given_in result note.new) }
+        ensures turns { IfOk result (TurnsTo C.reading M.stands network.now until self.old self.new note.new) }
         ensures err { OnErr result (self.new.time ≡ self.old.time) }
     {
         let source = self.first_source(network, until);
@@ -208,23 +151,11 @@ impl<C: Clock, M: Machine + Drop> State<C, M> {
         until: u64,
         note: &mut Given,
     ) -> Result<Turn, OutOfMemory>
-        requires range { IsInRange network.now }
-        requires well { IsWell C.last_step C.reading M.stands network.now self.old }
-        requires limit { until ≤ 2 ^ 60 + 1 }
-        requires open { self.old.time < until }
-        requires ended { self.old.ended ≡ true → until ≤ self.old.time + 1 }
+        requires may { MayTurn C.last_step C.reading M.stands network.now until self.old }
         requires room { HasRoom self.old }
         requires calm { IsCalm self.old }
-        ensures well { IsWell C.last_step C.reading M.stands network.now self.new }
-        ensures after { IsAfter self.old self.new }
-        ensures stands { (s : Scenario) (notes : List NoteOf)
-            → Stands C.reading (keeps M.stands) s (world_of network.now self.old) notes
-            → Stands C.reading (keeps M.stands) s (world_of network.now self.new) (notes ++ given_in result note.new) }
-        ensures whole { (s : Scenario) (notes : List NoteOf)
-            → Stands C.reading (keeps M.stands) s (world_of network.now self.old) notes
-            → IfOk result (λ turn. IsWhole s notes until turn) }
-        ensures says { IfOk result (λ turn. TurnSays self.old self.new until note.new turn) }
-        ensures nears { IfOk result (λ turn. Nears network.now until self.old self.new turn) }
+        ensures kept { IsKept C.last_step C.reading M.stands network.now self.old self.new (given_in result note.new) }
+        ensures turns { IfOk result (TurnsTo C.reading M.stands network.now until self.old self.new note.new) }
         ensures err { OnErr result (self.new.time < until) }
     {
         let place = self.under_way.first();
@@ -246,24 +177,12 @@ impl<C: Clock, M: Machine + Drop> State<C, M> {
         due: Option<Due>,
         note: &mut Given,
     ) -> Result<Turn, OutOfMemory>
-        requires range { IsInRange network.now }
-        requires well { IsWell C.last_step C.reading M.stands network.now self.old }
-        requires limit { until ≤ 2 ^ 60 + 1 }
-        requires open { self.old.time < until }
-        requires ended { self.old.ended ≡ true → until ≤ self.old.time + 1 }
+        requires may { MayTurn C.last_step C.reading M.stands network.now until self.old }
         requires room { HasRoom self.old }
         requires empty { self.old.settled.items ≡ [] }
         requires firsts { AreFirsts self.old place due }
-        ensures well { IsWell C.last_step C.reading M.stands network.now self.new }
-        ensures after { IsAfter self.old self.new }
-        ensures stands { (s : Scenario) (notes : List NoteOf)
-            → Stands C.reading (keeps M.stands) s (world_of network.now self.old) notes
-            → Stands C.reading (keeps M.stands) s (world_of network.now self.new) (notes ++ given_in result note.new) }
-        ensures whole { (s : Scenario) (notes : List NoteOf)
-            → Stands C.reading (keeps M.stands) s (world_of network.now self.old) notes
-            → IfOk result (λ turn. IsWhole s notes until turn) }
-        ensures says { IfOk result (λ turn. TurnSays self.old self.new until note.new turn) }
-        ensures nears { IfOk result (λ turn. Nears network.now until self.old self.new turn) }
+        ensures kept { IsKept C.last_step C.reading M.stands network.now self.old self.new (given_in result note.new) }
+        ensures turns { IfOk result (TurnsTo C.reading M.stands network.now until self.old self.new note.new) }
         ensures err { OnErr result (self.new.time ≡ self.old.time) }
     {
         let source = self.source_by(network, until, place, due);
@@ -314,12 +233,8 @@ impl<C: Clock, M: Machine + Drop> State<C, M> {
         requires nothing { (first : SettledValue) (others : List SettledValue)
             → self.old.settled.items ≡ first ∷ others → HasNothingBefore C.reading M.stands network.now self.old
             (place_of (settled_at network.now self.old.time first)) }
-        ensures well { IsWell C.last_step C.reading M.stands network.now self.new }
-        ensures after { IsAfter self.old self.new }
-        ensures stands { (s : Scenario) (notes : List NoteOf)
-            → Stands C.reading (keeps M.stands) s (world_of network.now self.old) notes
-            → Stands C.reading (keeps M.stands) s (world_of network.now self.new) (notes ++ given_in result note.new) }
-        ensures says { IfOk result (λ turn. GivesAt self.old self.new note.new turn) }
+        ensures kept { IsKept C.last_step C.reading M.stands network.now self.old self.new (given_in result note.new) }
+        ensures says { IfOk result (GivesAt self.old self.new note.new) }
         ensures err { OnErr result (self.new.time ≡ self.old.time) }
     {
         match self.give(network, note) {
@@ -352,25 +267,12 @@ impl<C: Clock, M: Machine + Drop> State<C, M> {
     /// Time passes, as nothing is under way before this time, if it is later.
     #[inline(always)]
     fn pass_up(&mut self, network: &Network, time: u64, until: u64) -> Turn
-        requires range { IsInRange network.now }
-        requires well { IsWell C.last_step C.reading M.stands network.now self.old }
-        requires limit { until ≤ 2 ^ 60 + 1 }
-        requires open { self.old.time < until }
+        requires may { MayTurn C.last_step C.reading M.stands network.now until self.old }
         requires within { time ≤ until }
-        requires ended { self.old.ended ≡ true → until ≤ self.old.time + 1 }
         requires nothing { HasNothingBefore C.reading M.stands network.now self.old (time ∷ []) }
         requires empty { self.old.settled.items ≡ [] }
-        ensures well { IsWell C.last_step C.reading M.stands network.now self.new }
-        ensures after { IsAfter self.old self.new }
-        ensures stands { (s : Scenario) (notes : List NoteOf)
-            → Stands C.reading (keeps M.stands) s (world_of network.now self.old) notes
-            → Stands C.reading (keeps M.stands) s (world_of network.now self.new) notes }
-        ensures whole { (s : Scenario) (notes : List NoteOf)
-            → Stands C.reading (keeps M.stands) s (world_of network.now self.old) notes
-            → IsWhole s notes until result }
-        ensures says { PassSays self.old self.new until result }
+        ensures passed { IsPassed C.last_step C.reading M.stands network.now until self.old self.new result }
         ensures nearer { IsNoFarther network.now until self.old self.new result }
-        ensures same { self.new ≡ record self.old { time = self.new.time; early = self.new.early } }
     {
         if self.time < time {
             self.pass_on(network, time, until)
@@ -381,25 +283,13 @@ impl<C: Clock, M: Machine + Drop> State<C, M> {
 
     /// Time passes, as nothing is under way before this time.
     fn pass_on(&mut self, network: &Network, time: u64, until: u64) -> Turn
-        requires range { IsInRange network.now }
-        requires well { IsWell C.last_step C.reading M.stands network.now self.old }
-        requires limit { until ≤ 2 ^ 60 + 1 }
+        requires may { MayTurn C.last_step C.reading M.stands network.now until self.old }
         requires later { self.old.time < time }
         requires within { time ≤ until }
-        requires ended { self.old.ended ≡ true → until ≤ self.old.time + 1 }
         requires nothing { HasNothingBefore C.reading M.stands network.now self.old (time ∷ []) }
         requires empty { self.old.settled.items ≡ [] }
-        ensures well { IsWell C.last_step C.reading M.stands network.now self.new }
-        ensures after { IsAfter self.old self.new }
-        ensures stands { (s : Scenario) (notes : List NoteOf)
-            → Stands C.reading (keeps M.stands) s (world_of network.now self.old) notes
-            → Stands C.reading (keeps M.stands) s (world_of network.now self.new) notes }
-        ensures whole { (s : Scenario) (notes : List NoteOf)
-            → Stands C.reading (keeps M.stands) s (world_of network.now self.old) notes
-            → IsWhole s notes until result }
-        ensures says { PassSays self.old self.new until result }
+        ensures passed { IsPassed C.last_step C.reading M.stands network.now until self.old self.new result }
         ensures nears { Nears network.now until self.old self.new result }
-        ensures same { self.new ≡ record self.old { time = self.new.time; early = self.new.early } }
     {
         if self.ended || time > LAST {
             return Turn::Ends;

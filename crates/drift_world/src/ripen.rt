@@ -2,8 +2,7 @@ ghost use Rattle.std.specs.Prelude.{◌+◌, ◌↔◌, ◌≡◌, ◌≤ℤ◌,
 ghost use Rattle.std.specs.Prelude.{true};
 ghost use Rattle.drift_world.specs.Ripening.{IsJudged};
 ghost use Rattle.net_plan.specs.Ranges.{IsInRange};
-ghost use Rattle.run_law.specs.{declared.note.Note.Note, records.Order.behind, scenario.Scenarios.Scenario};
-ghost use Rattle.world_state.specs.{Frames.first_of, Keeping.keeps, declared.contents.Waits.Waits as WaitsValue};
+ghost use Rattle.world_state.specs.{Frames.first_of, declared.contents.Waits.Waits as WaitsValue};
 
 use crate::state::State;
 use drift_clock::Clock;
@@ -31,10 +30,10 @@ pub fn is_judged(ripe: Ripe) -> bool
 }
 
 impl<C: Clock, M: Machine + Drop> State<C, M> {
-    ghost use Rattle.world_law.specs.world.{Moves.{ComesFirst, StandsBehind}, World.{Stands, ripe_place}};
+    ghost use Rattle.world_law.specs.world.World.{ripe_place};
     ghost use Rattle.world_state.specs.Views.{waiting_as};
     ghost use Rattle.world_state.specs.{Ripening.AreSettledSo, declared.contents.Settled.Settled as SettledValue};
-    ghost use Rattle.drift_world.specs.{Sound.IsSound, Stepping.{ChangesOnly, IsAt}, Views.{with_settled, world_of}};
+    ghost use Rattle.drift_world.specs.{Sound.IsSound, Stepping.{ChangesOnly, IsAt, StandsPast}};
 
     /// The first frame that waits at the device is permanent: the first of all that is to come. It is answered, with
     /// what becomes of it, whose records are to be put in among what is settled.
@@ -50,13 +49,10 @@ impl<C: Clock, M: Machine + Drop> State<C, M> {
             → IsAt C.reading M.stands network.now self.old (ripe_place self.old.time (waiting_as w)) }
         ensures sound { IsSound C.last_step network.now self.new }
         ensures is { first_of self.old.waiting device.0 ≡ Some result.waits }
-        ensures stands { (s : Scenario) (notes : List Note) (settled : List SettledValue)
-            → (old : Stands C.reading (keeps M.stands) s (world_of network.now self.old) notes)
-            → ComesFirst C.reading (keeps M.stands) s (world_of network.now self.old) notes old
-            (ripe_place self.old.time (waiting_as result.waits))
+        ensures stands { (settled : List SettledValue)
             → AreSettledSo result.waits result.ripe self.old.settled.items settled
-            → StandsBehind C.reading (keeps M.stands) s (with_settled network.now self.new settled) notes
-            (behind (ripe_place self.old.time (waiting_as result.waits))) }
+            → StandsPast C.reading M.stands network.now self.old self.new
+            (ripe_place self.old.time (waiting_as result.waits)) settled }
         ensures same { self.new ≡ record self.old {
           early = false;
           machines = self.new.machines;

@@ -1,22 +1,15 @@
-ghost use Rattle.std.specs.{Option.option_map, Prelude.{◌+◌, ◌<◌, ◌^◌, ◌≡◌, ◌≤◌, IfNone, IfSome, Option, Some, ℕ}};
+ghost use Rattle.std.specs.Prelude.{◌+◌, ◌<◌, ◌^◌, ◌≡◌, ◌≤◌, IfNone, IfSome, Option, Some, ℕ};
+ghost use Rattle.plain_notes.specs.Places.{number_of};
 ghost use Rattle.world_state.specs.timers.Times.{IsFirst as IsFirstDue};
-ghost use Rattle.drift_world.specs.Turns.{own_numbers, rank_in_order};
 
 use crate::state::State;
-use arrayvec::ArrayVec;
 use drift_clock::Clock;
 use net_plan::{DeviceId, Network};
+use plain_notes::Rank;
 use run_law::Machine;
 use world_state::contents::Waits;
 use world_state::queue::Place;
-use world_state::settled::{MOST, numbers};
 use world_state::timers::Due;
-
-/// The rank of what arrives, among all of one instant.
-pub const ARRIVING: u8 = 2;
-
-/// The rank of what leaves.
-pub const LEAVING: u8 = 8;
 
 /// What comes first of all that is under way: at the present instant, or later.
 #[derive(Clone, Copy)]
@@ -38,12 +31,12 @@ pub enum Source {
 }
 
 /// The place, if it is of this time and rank.
-fn placed_at(place: Option<Place>, time: u64, rank: u8) -> Option<Place>
-    ensures some { IfSome result (λ p. (place ≡ Some p) × (p.at ≡ time) × (p.rank ≡ rank)) }
-    ensures none { IfNone result (IfSome place (λ p. p.at ≡ time → p.rank ≡ rank → ⊥)) }
+fn placed_at(place: Option<Place>, time: u64, rank: Rank) -> Option<Place>
+    ensures some { IfSome result (λ p. (place ≡ Some p) × (p.at ≡ time) × (p.rank ≡ number_of rank)) }
+    ensures none { IfNone result (IfSome place (λ p. p.at ≡ time → p.rank ≡ number_of rank → ⊥)) }
 {
     let place = place?;
-    if place.at == time && place.rank == rank {
+    if place.at == time && place.rank == rank.number() {
         Some(place)
     } else {
         None
@@ -78,46 +71,6 @@ pub fn least_of(place: Option<Place>, due: Option<Due>, time: u64) -> u64
     match due {
         Some(due) => least.min(due.time),
         None => least,
-    }
-}
-
-/// The first number of its place behind the time: more than that of any record, where it is not of the present instant.
-pub fn rank_in_order(source: &Source) -> u64
-    ensures { result ≡ rank_in_order source.now }
-{
-    match source {
-        Source::Events => 2,
-        Source::Arrival(place) | Source::Departure(place) => u64::from(place.rank),
-        Source::Ripening(_) => 3,
-        Source::Act(_) => 4,
-        Source::Clock(_) => 14,
-        Source::Later(_) => 15,
-    }
-}
-
-/// The numbers of its place behind the time, where it is of the present instant.
-pub fn own_numbers(source: &Source) -> Option<ArrayVec<u64, MOST>>
-    ensures { option_map (λ p. p.items) result ≡ own_numbers source.now }
-{
-    match source {
-        Source::Events => Some(numbers(&[2])),
-        Source::Arrival(place) | Source::Departure(place) => Some(numbers(&[
-            u64::from(place.rank),
-            u64::from(place.device),
-            u64::from(place.link),
-            place.cause,
-        ])),
-        Source::Ripening(one) => Some(numbers(&[
-            3,
-            u64::from(one.device.0),
-            one.point.0.unsigned_abs(),
-            u64::from(one.frame.members.0),
-            u64::from(one.link.0),
-            one.cause,
-        ])),
-        Source::Act(device) => Some(numbers(&[4, u64::from(device.0)])),
-        Source::Clock(device) => Some(numbers(&[14, u64::from(device.0)])),
-        Source::Later(_) => None,
     }
 }
 
@@ -159,13 +112,13 @@ impl<C: Clock, M: Machine + Drop> State<C, M> {
         if self.pending {
             return Source::Events;
         }
-        if let Some(arrival) = placed_at(place, self.time, ARRIVING) {
+        if let Some(arrival) = placed_at(place, self.time, Rank::Arrived) {
             return Source::Arrival(arrival);
         }
         if let Some(slot) = slot_at(due, self.time) {
             return self.source_of_slot(network, slot);
         }
-        if let Some(departure) = placed_at(place, self.time, LEAVING) {
+        if let Some(departure) = placed_at(place, self.time, Rank::Left) {
             return Source::Departure(departure);
         }
         if self.ended && (self.shown as usize) < network.device.as_slice().len() {

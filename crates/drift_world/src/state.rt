@@ -72,25 +72,27 @@ pub struct State<C: Clock, M: Machine + Drop> {
 impl<C: Clock, M: Machine + Drop> State<C, M> {
     ghost use Rattle.net_plan.specs.{Belonging.IsOfNetwork, declared.event.Event.Event as EventValue};
     ghost use Rattle.net_plan.specs.declared.ids.DeviceId.{DeviceId as DeviceOf};
-    ghost use Rattle.run_law.specs.records.{Happenings.happenings, Order.IsIn, Ranks.{place_of, rank}};
+    ghost use Rattle.run_law.specs.records.{Order.IsIn};
+    ghost use Rattle.run_law.specs.records.Ranks.{place_of, rank};
     ghost use Rattle.run_law.specs.scenario.Devices.{is_parent_of};
     ghost use Rattle.sync_state.specs.declared.state.State.{State as DeviceState};
-    ghost use Rattle.tte_units.specs.{Amount.{amount, units_of}, declared.rates.Ppb.Ppb};
-    ghost use Rattle.world_law.specs.source.{Agreeing.scenario, Applying.note_of_event, First.NoSourceBefore};
+    ghost use Rattle.tte_units.specs.Amount.{amount};
+    ghost use Rattle.tte_units.specs.{declared.rates.Ppb.Ppb};
+    ghost use Rattle.world_law.specs.source.{Agreeing.scenario, Applying.note_of_event};
     ghost use Rattle.world_law.specs.world.Moves.{ComesFirst, NothingBefore, StandsBehind};
-    ghost use Rattle.world_law.specs.world.World.{Stands, clock_place, note_of};
+    ghost use Rattle.world_law.specs.world.World.{Stands, clock_place};
     ghost use Rattle.world_state.specs.Applying.{IsElsewhere, IsShown, SetsShort, clock_after};
-    ghost use Rattle.world_state.specs.Giving.{CameBy, HasItsOctets, IsPutOn, IsYoung, MayBeGiven, giver_of};
-    ghost use Rattle.world_state.specs.{Giving.wire_entry, Keeping.keeps, Leaving.{departure_in, port_entry}};
+    ghost use Rattle.world_state.specs.Giving.{HasItsOctets};
+    ghost use Rattle.world_state.specs.{Keeping.keeps};
+    ghost use Rattle.world_state.specs.Leaving.{departure_in, port_entry};
     ghost use Rattle.world_state.specs.{Giving.changed_device, Places.{IsSomePut, own_place}};
-    ghost use Rattle.world_state.specs.{Sound.{AreBelow, AreUnderWay}, Views.settled_at};
+    ghost use Rattle.world_state.specs.{Views.settled_at};
     ghost use Rattle.world_state.specs.declared.contents.Settled.{Settled as SettledValue};
     ghost use Rattle.world_state.specs.declared.contents.Waits.{Waits as WaitsValue};
-    ghost use Rattle.world_state.specs.declared.giving.Giving.{Giving as GivingValue};
     ghost use Rattle.world_steps.specs.Steps.{FitsWorld};
-    ghost use Rattle.drift_world.specs.{Following.Follows, Giving.{IsGivenOut, IsGiver}, Showing.IsOf};
-    ghost use Rattle.drift_world.specs.{Sound.{IsSized, IsSound}, Stepping.ChangesOnly};
-    ghost use Rattle.drift_world.specs.Views.{with_first, with_settled, world_of};
+    ghost use Rattle.drift_world.specs.{Following.Follows, Showing.IsOf};
+    ghost use Rattle.drift_world.specs.{Sound.{IsSized, IsSound}, Stepping.{ChangesOnly, StandsPast}};
+    ghost use Rattle.drift_world.specs.Views.{world_of};
 
     /// Time passes, where nothing is under way before.
     pub fn pass_to(&mut self, time: u64)
@@ -215,12 +217,8 @@ impl<C: Clock, M: Machine + Drop> State<C, M> {
         ensures own { IfSome result (λ z. rank z.body ≡ 8
             → place_of (settled_at network.now self.old.time z) ≡ numbers_of place) }
         ensures none { IfSome result (λ z. changed_device z.body ≡ 2 ^ 32) }
-        ensures stands { (s : Scenario) (notes : List Note) (settled : List SettledValue)
-            → (old : Stands C.reading (keeps M.stands) s (world_of network.now self.old) notes)
-            → ComesFirst C.reading (keeps M.stands) s (world_of network.now self.old) notes old (numbers_of place)
-            → IsSomePut result self.old.settled.items settled
-            → StandsBehind C.reading (keeps M.stands) s (with_settled network.now self.new settled) notes
-            (behind (numbers_of place)) }
+        ensures stands { (settled : List SettledValue) → IsSomePut result self.old.settled.items settled
+            → StandsPast C.reading M.stands network.now self.old self.new (numbers_of place) settled }
         ensures others { (n : ℕ) → ChangesOnly n self.old self.new }
         ensures same { self.new ≡ record self.old { early = false; under_way = self.new.under_way } }
         ensures shorter { length self.old.under_way.entries ≡ length self.new.under_way.entries + 1 }

@@ -1,5 +1,4 @@
 ghost use Rattle.std.specs.Prelude.{OnOk};
-ghost use Rattle.net_plan.specs.Ranges.{IsInRange};
 
 use crate::state::State;
 use drift_clock::Clock;
@@ -8,16 +7,12 @@ use run_law::Machine;
 use world_state::OutOfMemory;
 
 impl<C: Clock, M: Machine + Drop> State<C, M> {
-    ghost use Rattle.drift_world.specs.{Nearing.IsLess, Turns.{HasRoom, IsForemost, IsStep, SourceFirst}, Wells.IsWell};
+    ghost use Rattle.drift_world.specs.{Nearing.IsLess, Turns.{IsStep, MayWork}};
     ghost use Rattle.drift_world.specs.declared.source.Source.{Source};
 
     /// The outcomes of the events of the instant are settled.
     pub fn settle(&mut self, network: &Network) -> Result<(), OutOfMemory>
-        requires range { IsInRange network.now }
-        requires well { IsWell C.last_step C.reading M.stands network.now self.old }
-        requires room { HasRoom self.old }
-        requires foremost { IsForemost C.reading M.stands network.now self.old (Source.Events) }
-        requires first { SourceFirst self.old.settled.items (Source.Events) }
+        requires may { MayWork C.last_step C.reading M.stands network.now self.old (Source.Events) }
         ensures step { IsStep C.last_step C.reading M.stands network.now self.old self.new }
         ensures less { OnOk result (IsLess network.now self.old self.new) }
     {
@@ -27,11 +22,7 @@ impl<C: Clock, M: Machine + Drop> State<C, M> {
     /// The device does what is due.
     #[inline(always)]
     pub fn act(&mut self, network: &Network, device: DeviceId) -> Result<(), OutOfMemory>
-        requires range { IsInRange network.now }
-        requires well { IsWell C.last_step C.reading M.stands network.now self.old }
-        requires room { HasRoom self.old }
-        requires foremost { IsForemost C.reading M.stands network.now self.old (Source.Act device) }
-        requires first { SourceFirst self.old.settled.items (Source.Act device) }
+        requires may { MayWork C.last_step C.reading M.stands network.now self.old (Source.Act device) }
         ensures step { IsStep C.last_step C.reading M.stands network.now self.old self.new }
         ensures less { OnOk result (IsLess network.now self.old self.new) }
     {
@@ -49,11 +40,7 @@ impl<C: Clock, M: Machine + Drop> State<C, M> {
 
     /// The clock of the device is shown.
     pub fn show(&mut self, network: &Network, device: DeviceId)
-        requires range { IsInRange network.now }
-        requires well { IsWell C.last_step C.reading M.stands network.now self.old }
-        requires room { HasRoom self.old }
-        requires foremost { IsForemost C.reading M.stands network.now self.old (Source.Clock device) }
-        requires first { SourceFirst self.old.settled.items (Source.Clock device) }
+        requires may { MayWork C.last_step C.reading M.stands network.now self.old (Source.Clock device) }
         ensures step { IsStep C.last_step C.reading M.stands network.now self.old self.new }
         ensures less { IsLess network.now self.old self.new }
     {

@@ -1,4 +1,4 @@
-ghost use Rattle.std.specs.Prelude.{◌≡◌, ℕ, ◌+◌, ◌*◌, ◌≤◌, ◌<◌, All, IsTrue, length, slice_get};
+ghost use Rattle.std.specs.Prelude.{◌*◌, ◌+◌, ◌<◌, ◌≡◌, ◌≤◌, All, IsTrue, length, ℕ};
 ghost use Rattle.net_plan.specs.Ranges.{IsInRange};
 
 use crate::state::State;
@@ -17,22 +17,25 @@ fn is_same(one: Option<Units>, other: Option<Units>) -> bool
 
 impl<C: Clock, M: Machine + Drop> State<C, M> {
     ghost use Rattle.drift_world.specs.{Acting.IsNextDue, Sound.IsSized, Sourcing.AreTimed};
-    ghost use Rattle.drift_world.specs.Stepping.{IsActTimed, IsDueTimed, IsRipeTimed, IsRunning, IsTimed};
+    ghost use Rattle.drift_world.specs.Stepping.{IsActTimed, IsDueTimed, IsRekeyed, IsRipeTimed, IsRunning, MayRekey};
+    ghost use Rattle.drift_world.specs.Stepping.{SetsOnly};
+
+    /// The reading at which the machine of a device acts by itself next, if it does.
+    #[inline(always)]
+    pub fn due_of(&self, network: &Network, device: u32) -> Option<Units>
+        requires sized { IsSized C.last_step network.now self.now }
+        requires there { device < length network.now.device }
+        ensures { IsNextDue M.stands self.now (record { 0 = device }) result }
+    {
+        self.machines[device as usize].due()
+    }
 
     /// Sets the timer of a device for the frames that wait at it.
     #[inline(always)]
     pub fn rekey_ripe(&mut self, network: &Network, device: u32)
-        requires sized { IsSized C.last_step network.now self.old }
-        requires there { device < length network.now.device }
-        requires slots { length self.old.timers ≡ 2 * length network.now.device }
-        requires running { IsRunning C.reading M.stands network.now self.old }
-        ensures same { self.new ≡ record self.old { timers = self.new.timers } }
+        requires may { MayRekey C.last_step C.reading M.stands network.now self.old (record { 0 = device }) }
+        ensures sets { SetsOnly (λ slot. slot ≡ device) self.old self.new }
         ensures timed { IsRipeTimed C.reading self.new.timers self.new (record { 0 = device }) }
-        ensures sized { length self.new.timers ≡ length self.old.timers }
-        ensures others { (slot : ℕ) → (slot ≡ device → ⊥)
-            → slice_get self.new.timers slot ≡ slice_get self.old.timers slot }
-        ensures later { All (λ (time : ℕ). self.old.time ≤ time) self.old.timers
-            → All (λ (time : ℕ). self.new.time ≤ time) self.new.timers }
     {
         let index = device as usize;
         let point = least_point(&self.waiting, device);
@@ -43,18 +46,10 @@ impl<C: Clock, M: Machine + Drop> State<C, M> {
     /// Sets the timer of a device for what it does by itself: at this reading, or never.
     #[inline(always)]
     pub fn rekey_act_at(&mut self, network: &Network, device: u32, due: Option<Units>)
-        requires sized { IsSized C.last_step network.now self.old }
-        requires there { device < length network.now.device }
-        requires slots { length self.old.timers ≡ 2 * length network.now.device }
-        requires running { IsRunning C.reading M.stands network.now self.old }
+        requires may { MayRekey C.last_step C.reading M.stands network.now self.old (record { 0 = device }) }
         requires due { IsNextDue M.stands self.old (record { 0 = device }) due }
-        ensures same { self.new ≡ record self.old { timers = self.new.timers } }
+        ensures sets { SetsOnly (λ slot. slot ≡ length network.now.device + device) self.old self.new }
         ensures timed { IsActTimed C.reading M.stands network.now self.new.timers self.new (record { 0 = device }) }
-        ensures sized { length self.new.timers ≡ length self.old.timers }
-        ensures others { (slot : ℕ) → (slot ≡ length network.now.device + device → ⊥)
-            → slice_get self.new.timers slot ≡ slice_get self.old.timers slot }
-        ensures later { All (λ (time : ℕ). self.old.time ≤ time) self.old.timers
-            → All (λ (time : ℕ). self.new.time ≤ time) self.new.timers }
     {
         let index = device as usize;
         let act = time_for(&self.clocks[index], self.time, due);
@@ -65,36 +60,19 @@ impl<C: Clock, M: Machine + Drop> State<C, M> {
     /// Sets the timer of a device for what it does by itself, at the reading that its machine tells.
     #[inline(always)]
     pub fn rekey_act(&mut self, network: &Network, device: u32)
-        requires sized { IsSized C.last_step network.now self.old }
-        requires there { device < length network.now.device }
-        requires slots { length self.old.timers ≡ 2 * length network.now.device }
-        requires running { IsRunning C.reading M.stands network.now self.old }
-        ensures same { self.new ≡ record self.old { timers = self.new.timers } }
+        requires may { MayRekey C.last_step C.reading M.stands network.now self.old (record { 0 = device }) }
+        ensures sets { SetsOnly (λ slot. slot ≡ length network.now.device + device) self.old self.new }
         ensures timed { IsActTimed C.reading M.stands network.now self.new.timers self.new (record { 0 = device }) }
-        ensures sized { length self.new.timers ≡ length self.old.timers }
-        ensures others { (slot : ℕ) → (slot ≡ length network.now.device + device → ⊥)
-            → slice_get self.new.timers slot ≡ slice_get self.old.timers slot }
-        ensures later { All (λ (time : ℕ). self.old.time ≤ time) self.old.timers
-            → All (λ (time : ℕ). self.new.time ≤ time) self.new.timers }
     {
-        let due = self.machines[device as usize].due();
+        let due = self.due_of(network, device);
         self.rekey_act_at(network, device, due);
     }
 
     /// Sets the timers of a device: for the frames that wait at it, and for what it does by itself.
     #[inline(always)]
     pub fn rekey(&mut self, network: &Network, device: u32)
-        requires sized { IsSized C.last_step network.now self.old }
-        requires there { device < length network.now.device }
-        requires slots { length self.old.timers ≡ 2 * length network.now.device }
-        requires running { IsRunning C.reading M.stands network.now self.old }
-        ensures same { self.new ≡ record self.old { timers = self.new.timers } }
-        ensures timed { IsTimed C.reading M.stands network.now self.new.timers self.new (record { 0 = device }) }
-        ensures sized { length self.new.timers ≡ length self.old.timers }
-        ensures others { (slot : ℕ) → (slot ≡ device → ⊥) → (slot ≡ length network.now.device + device → ⊥)
-            → slice_get self.new.timers slot ≡ slice_get self.old.timers slot }
-        ensures later { All (λ (time : ℕ). self.old.time ≤ time) self.old.timers
-            → All (λ (time : ℕ). self.new.time ≤ time) self.new.timers }
+        requires may { MayRekey C.last_step C.reading M.stands network.now self.old (record { 0 = device }) }
+        ensures { IsRekeyed C.reading M.stands network.now (record { 0 = device }) self.old self.new }
     {
         self.rekey_ripe(network, device);
         self.rekey_act(network, device);
@@ -104,20 +82,12 @@ impl<C: Clock, M: Machine + Drop> State<C, M> {
     /// which the timer is right.
     #[inline(always)]
     pub fn rekey_act_from(&mut self, network: &Network, device: u32, before: Option<Units>)
-        requires sized { IsSized C.last_step network.now self.old }
-        requires there { device < length network.now.device }
-        requires slots { length self.old.timers ≡ 2 * length network.now.device }
-        requires running { IsRunning C.reading M.stands network.now self.old }
+        requires may { MayRekey C.last_step C.reading M.stands network.now self.old (record { 0 = device }) }
         requires before { IsDueTimed C.reading network.now self.old device before }
-        ensures same { self.new ≡ record self.old { timers = self.new.timers } }
+        ensures sets { SetsOnly (λ slot. slot ≡ length network.now.device + device) self.old self.new }
         ensures timed { IsActTimed C.reading M.stands network.now self.new.timers self.new (record { 0 = device }) }
-        ensures sized { length self.new.timers ≡ length self.old.timers }
-        ensures others { (slot : ℕ) → (slot ≡ length network.now.device + device → ⊥)
-            → slice_get self.new.timers slot ≡ slice_get self.old.timers slot }
-        ensures later { All (λ (time : ℕ). self.old.time ≤ time) self.old.timers
-            → All (λ (time : ℕ). self.new.time ≤ time) self.new.timers }
     {
-        let due = self.machines[device as usize].due();
+        let due = self.due_of(network, device);
         if is_same(due, before) {
             return;
         }
@@ -128,18 +98,9 @@ impl<C: Clock, M: Machine + Drop> State<C, M> {
     /// its machine tells is not this, for which the timer is right.
     #[inline(always)]
     pub fn rekey_from(&mut self, network: &Network, device: u32, before: Option<Units>)
-        requires sized { IsSized C.last_step network.now self.old }
-        requires there { device < length network.now.device }
-        requires slots { length self.old.timers ≡ 2 * length network.now.device }
-        requires running { IsRunning C.reading M.stands network.now self.old }
+        requires may { MayRekey C.last_step C.reading M.stands network.now self.old (record { 0 = device }) }
         requires before { IsDueTimed C.reading network.now self.old device before }
-        ensures same { self.new ≡ record self.old { timers = self.new.timers } }
-        ensures timed { IsTimed C.reading M.stands network.now self.new.timers self.new (record { 0 = device }) }
-        ensures sized { length self.new.timers ≡ length self.old.timers }
-        ensures others { (slot : ℕ) → (slot ≡ device → ⊥) → (slot ≡ length network.now.device + device → ⊥)
-            → slice_get self.new.timers slot ≡ slice_get self.old.timers slot }
-        ensures later { All (λ (time : ℕ). self.old.time ≤ time) self.old.timers
-            → All (λ (time : ℕ). self.new.time ≤ time) self.new.timers }
+        ensures { IsRekeyed C.reading M.stands network.now (record { 0 = device }) self.old self.new }
     {
         self.rekey_ripe(network, device);
         self.rekey_act_from(network, device, before);

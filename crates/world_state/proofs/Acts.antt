@@ -13,20 +13,12 @@ use Rattle.run_law.specs.declared.steps.Ripe.TheVariants as ripe
 of_emission : (network : Network) (device : DeviceId) (node : Node) (moment : Moment) (sent : Compressed) (heard : Ripe)
     → (after_emission network device node moment sent heard).broken ≡ node.broken
 of_emission network device node moment sent ripe.Opened = refl
-of_emission network device node moment sent ripe.Joined = refl
-of_emission network device node moment sent ripe.Repeat = refl
-of_emission network device node moment sent ripe.Within = refl
-of_emission network device node moment sent ripe.Outside = refl
-of_emission network device node moment sent ripe.Integrates = refl
-of_emission network device node moment sent ripe.Ignored = refl
-of_emission network device node moment sent (ripe.Dropped reason) = refl
+of_emission network device node moment sent other = refl
 
 of_correction : (node : Node) (moment : Moment) (heard : Summary) (cycle : _) (verdict : Verdict)
     → (after_correction node moment heard cycle verdict).broken ≡ node.broken
 of_correction node moment heard cycle (Corrected by) = refl
-of_correction node moment heard cycle SyncClique = refl
-of_correction node moment heard cycle AsyncClique = refl
-of_correction node moment heard cycle Cleared = refl
+of_correction node moment heard cycle other = refl
 
 -- a device that acts is as sound as before
 pub still_sound : (network : Network) (device : DeviceId) (node : Node) (moment : Moment) (act : Act) (new : Node)

@@ -13,6 +13,7 @@ use Rattle.world_state.specs.{Places.IsSomePut, Sound.{AreBelow, AreUnderWay, ra
 use Rattle.world_state.specs.declared.contents.{Content.{Content, TheVariants.Wire}, Settled.Settled, WayState.WayState}
 use Rattle.net_plan.specs.declared.event.What.TheVariants as events
 use Rattle.world_state.specs.declared.contents.Signal.TheVariants as signals
+use Rattle.run_law.proofs.records.Members.{in_map as is_mapped}
 
 -- ---- a step of the loop
 
@@ -71,11 +72,6 @@ up_entry network time number link octets l w = record {
   };
   content = Wire (signals.Octets octets);
 }
-
-pub is_mapped : {X Y : Type 0} (f : X → Y) (xs : List X) (x : X) → IsIn x xs → IsIn (f x) (map f xs)
-is_mapped f [] x i = absurd i
-is_mapped f (y ∷ xs) x (inl e) = inl (ap f e)
-is_mapped f (y ∷ xs) x (inr i) = inr (is_mapped f xs x i)
 
 -- it is on a wire, of its record, by a link of the network
 record IsSendOf (network : Network) (number : ℕ) (e : Entry Content) : Type 0 where

@@ -3,7 +3,8 @@ use Rattle.std.proofs.Common.{◌++◌, ◌+◌, ◌<◌, ◌==◌, ◌∙◌, �
 use Rattle.std.proofs.{Common.{slice_get, slice_set, suc, sym, true, zero, ℕ}, lemmas.{Bool.{eq-eqb, ne_eqb}, List.Elements.filter-append}}
 use Rattle.run_law.specs.records.Order.{IsIn}
 use Rattle.world_state.specs.{queue.Queues.Queue, declared.queue.Entry.Entry}
-use Rattle.world_state.{proofs.{Queues.content_of, Swaps.from_map}, specs.{Frames.{AreQueued, frames_in, frames_of}, declared.contents.Waits.Waits}}
+use Rattle.world_state.{proofs.Queues.content_of, specs.{Frames.{AreQueued, frames_in, frames_of}, declared.contents.Waits.Waits}}
+use Rattle.run_law.proofs.records.Members.{from_map}
 
 -- it waits elsewhere
 abbrev pub keeps_it : ℕ → Waits → Bool

@@ -8,19 +8,7 @@ use Rattle.run_law.specs.declared.note.NoteBody.TheVariants as kinds
 same_body : (number : ℕ) (first : NoteBody) → LeadsNowhere first → (body : NoteBody) → named_body number first body ≡ body
 same_body number first nowhere (kinds.State device state cause why) =
     ap (λ (b : Bool). kinds.State device state (if b && cause == none_yet then number else cause) why) (nowhere device why)
-same_body number first nowhere (kinds.Event line what) = refl
-same_body number first nowhere (kinds.Arrived device link cause clock) = refl
-same_body number first nowhere (kinds.Permanent device link cause point verdict) = refl
-same_body number first nowhere (kinds.Compressed device opened at cycle members verdict) = refl
-same_body number first nowhere (kinds.Sent device cycle) = refl
-same_body number first nowhere (kinds.Corrected device cycle by adjustment) = refl
-same_body number first nowhere (kinds.Left device link cause clock) = refl
-same_body number first nowhere (kinds.Lost device link cause) = refl
-same_body number first nowhere (kinds.TtSent device link cause vl cycle) = refl
-same_body number first nowhere (kinds.Accepted device link cause vl cycle) = refl
-same_body number first nowhere (kinds.Delivered device link cause vl cycle) = refl
-same_body number first nowhere (kinds.Dropped device link cause reason) = refl
-same_body number first nowhere (kinds.Clock device reading adjustment state) = refl
+same_body number first nowhere other = refl
 
 pub none_named : (number : ℕ) (first : NoteBody) → LeadsNowhere first → (zs : List Settled) → zs ≡ map (named_settled number first) zs
 none_named number first nowhere [] = refl

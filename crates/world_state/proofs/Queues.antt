@@ -9,9 +9,9 @@ use Rattle.run_law.{proofs.runs.Places.{in_left, in_parts, in_right}, specs.reco
 use Rattle.tte_units.specs.Amount.{amount}
 use Rattle.world_law.proofs.giving.Given.{some_same}
 use Rattle.world_state.specs.{queue.Places.{IsFirst, first_entry, numbers_of}, queue.Queues.Queue, declared.queue.{Entry.Entry, Place.Place}}
-use Rattle.world_state.proofs.{Befallings.is_mapped, Swaps.from_map}
 use Rattle.world_state.specs.Frames.{AreQueued, IsFirstAt, IsQueued, NoneAt, first_frame, frames_in, frames_of, queue_place}
 use Rattle.world_state.specs.{Ripening.{IsReached, ripe_numbers}, Timing.IsLeastPoint, declared.contents.Waits.Waits}
+use Rattle.run_law.proofs.records.Members.{from_map, in_map as is_mapped}
 
 abbrev pub content_of : Entry Waits → Waits
 content_of e = e.content

@@ -1,5 +1,5 @@
 -- A list with another element at a place, and one without an element.
-use Rattle.std.proofs.{Common.{◌<◌, ◌∷◌, ◌≡◌, List, [], inl, inr, length, map, refl, slice_set, ℕ}, lemmas.List.Sorted.IsPermutation-sym}
+use Rattle.std.proofs.{Common.{◌<◌, ◌∷◌, ◌≡◌, List, inl, inr, length, refl, slice_set, ℕ}, lemmas.List.Sorted.IsPermutation-sym}
 use Rattle.std.specs.List.Sorted.{IsPermutation}
 use Rattle.run_law.specs.records.Order.{IsIn}
 use Rattle.tte_lemmas.proofs.Lists.{set_aside, set_same as set_there}
@@ -8,11 +8,6 @@ use Rattle.world_state.proofs.queue_lemmas.Bags.{in_permuted}
 
 pub is_set : {X : Type 0} (xs : List X) (i : ℕ) (x : X) → i < length xs → IsSet i x xs (slice_set xs i x)
 is_set xs i x lt = record { there = set_there xs i x lt; same = λ k ne. set_aside xs i k x ne }
-
-pub from_map : {X Y : Type 0} (f : X → Y) (xs : List X) (y : Y) → IsIn y (map f xs) → (x : X) × IsIn x xs × (y ≡ f x)
-from_map f [] y there = absurd there
-from_map f (x ∷ xs) y (inl e) = (x, inl refl, e)
-from_map f (x ∷ xs) y (inr rest) = let o = from_map f xs y rest in (o.0, inr o.1, o.2)
 
 -- what is left when one is taken out
 module _ {X : Type 0} (x : X) (old new : List X) (t : IsPermutation old (x ∷ new)) where

@@ -12,7 +12,7 @@ use crate::sending::{frame_time, put_on};
 use crate::settled::put_some;
 use net_plan::{DeviceId, Link, LinkId, Network};
 use pcf_codec::is_pcf;
-use plain_notes::{Body, Kind};
+use plain_notes::{Body, Kind, Rank};
 use run_law::Why;
 use std::collections::VecDeque;
 use std::mem::replace;
@@ -109,7 +109,7 @@ fn sent_up(
     }
     let place = Place {
         at: time + port_time(network, link, given.as_slice()) + way.delay,
-        rank: 2,
+        rank: Rank::Arrived.number(),
         device: found.parent.0,
         link: link.0,
         cause: number,

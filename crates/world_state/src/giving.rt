@@ -16,7 +16,7 @@ use crate::shelves::Shelves;
 use crate::waiting::{awaited, wait_for};
 use net_plan::{DeviceId, LinkId, Network, Role};
 use pcf_values::Pcf;
-use plain_notes::{Body, Kind};
+use plain_notes::{Body, Kind, Rank};
 
 /// Does the link lead from the device up to its parent?
 fn is_child(network: &Network, device: DeviceId, link: LinkId) -> bool
@@ -148,7 +148,7 @@ fn port_place(
     };
     Place {
         at: giving.time + way.hold,
-        rank: 8,
+        rank: Rank::Left.number(),
         device: giving.device.0,
         link: link.0,
         cause: giving.number,

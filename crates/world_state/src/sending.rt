@@ -8,7 +8,7 @@ use crate::leaving::is_parent;
 use crate::queue::{Entry, Place, UnderWay};
 use net_plan::{DeviceId, LinkId, Network};
 use pcf_values::Pcf;
-use plain_notes::{Body, Kind};
+use plain_notes::{Body, Kind, Rank};
 use tte_units::octets;
 
 /// How many octets a frame of the schedule has.
@@ -87,7 +87,7 @@ fn wire_place(
     if is_parent(network, sending.device, link) {
         Some(Place {
             at: sent + downs[index].delay,
-            rank: 2,
+            rank: Rank::Arrived.number(),
             device: found.child.0,
             link: link.0,
             cause: sending.number,
@@ -95,7 +95,7 @@ fn wire_place(
     } else {
         Some(Place {
             at: sent + ups[index].delay,
-            rank: 2,
+            rank: Rank::Arrived.number(),
             device: found.parent.0,
             link: link.0,
             cause: sending.number,

@@ -8,11 +8,9 @@ ghost use Rattle.drift_world.specs.Wires.{IsOfNow, IsOnOwnLink, on_wire_in, put_
 
 use super::World;
 use drift_clock::Clock;
+use plain_notes::Rank;
 use run_law::Machine;
 use world_state::contents::{Content, Signal};
-
-/// The rank of what is on a wire, among what is under way.
-const WIRE_RANK: u8 = 2;
 
 /// What is on a wire, of what is under way.
 fn signal_in(found: Option<&Content>) -> Option<&Signal>
@@ -37,6 +35,7 @@ impl<'a, C: Clock, M: Machine + Drop> World<'a, C, M> {
             → option_map (signal_as network) (option_copied result)
             ≡ put_by (scenario network (reading_of C.fresh C.after_step C.reading network events) events) h }
     {
-        signal_in(self.state.under_way.find(WIRE_RANK, number))
+        let rank = Rank::Arrived.number();
+        signal_in(self.state.under_way.find(rank, number))
     }
 }

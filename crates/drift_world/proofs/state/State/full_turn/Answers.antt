@@ -1,6 +1,6 @@
-use Rattle.drift_world.proofs.Words.{◌∙◌, ◌∷◌, ◌≡◌, HasNothingBefore, OutOfMemory, Settled, SourceFirst, keeps, place_of, refl, settled_at, subst}
-use Rattle.drift_world.proofs.Words.{sym, world_of}
-use Rattle.drift_world.proofs.{AtOnce.{work_nears, work_says, work_whole}, Turning.{none_given, none_settled, nothing_ahead, now_so, same_records}}
+use Rattle.drift_world.proofs.Words.{◌∙◌, ◌∷◌, ◌≡◌, HasNothingBefore, OutOfMemory, Settled, SourceFirst, place_of, refl, settled_at, subst}
+use Rattle.drift_world.proofs.Words.{sym}
+use Rattle.drift_world.proofs.{AtOnce.{gives_turns, passed_turns, work_turns}, Turning.{none_settled, nothing_ahead, now_so, passed_kept}}
 use Rattle.drift_world.proofs.state.State.full_turn.Goals as goal
 
 pub give_next-requires-clause-nothing : goal.give_next-requires-clause-nothing
@@ -21,40 +21,41 @@ pass_on-requires-clause-empty g c =
     none_settled c.args.self.now.settled.items c.in-Later.time
     (subst (SourceFirst c.args.self.now.settled.items) c.in-Later.is (c.if-has_first.ensures.no refl))
 
-pub returns-in-Later-clause-stands : goal.returns-in-Later-clause-stands
-returns-in-Later-clause-stands g c = λ s notes old.
-    same_records g.C.Clock.reading (keeps g.M.Machine.stands) s (world_of c.args.network.now c.pass_on.new.self) notes _
-    (none_given OutOfMemory c.args.self.now c.pass_on.new.self c.args.until c.args.note.now c.pass_on.result c.pass_on.ensures.says)
-    (c.pass_on.ensures.stands s notes old)
+pub returns-then-has_first-clause-turns : goal.returns-then-has_first-clause-turns
+returns-then-has_first-clause-turns g c =
+    let gave = c.give_next.ensures in
+    gives_turns g.C.Clock.last_step g.C.Clock.reading g.M.Machine.stands c.args.network.now OutOfMemory c.args.self.now c.give_next.new.self c.args.until
+    c.give_next.new.note c.give_next.result c.requires.may.early gave.kept.well
+    gave.says
+
+pub returns-in-Later-clause-kept : goal.returns-in-Later-clause-kept
+returns-in-Later-clause-kept g c =
+    passed_kept g.C.Clock.last_step g.C.Clock.reading g.M.Machine.stands c.args.network.now OutOfMemory c.args.self.now c.pass_on.new.self c.args.until
+    c.args.note.now c.pass_on.result c.pass_on.ensures.passed
+
+pub returns-in-Later-clause-turns : goal.returns-in-Later-clause-turns
+returns-in-Later-clause-turns g c =
+    passed_turns g.C.Clock.last_step g.C.Clock.reading g.M.Machine.stands c.args.network.now c.args.self.now c.pass_on.new.self c.args.until c.args.note.now
+    c.pass_on.result c.pass_on.ensures.passed c.pass_on.ensures.nears
 
 pub work_turn-requires : goal.work_turn-requires
 work_turn-requires g c =
-    let r = c.requires in
+    let may = c.requires.may in
     let source = c.first_source-source in
     record {
-      range = r.range;
-      well = r.well;
-      room = r.room;
-      foremost = record { there = source.ensures.there; nothing = source.ensures.nothing };
-      first = c.if-has_first.ensures.no refl;
+      may = record {
+        range = may.range;
+        well = may.well;
+        room = c.requires.room;
+        foremost = record { there = source.ensures.there; nothing = source.ensures.nothing };
+        first = c.if-has_first.ensures.no refl;
+      };
       present = now_so source.result c.in_default.not-Later;
     }
 
-pub returns : goal.returns
-returns g c =
-    let K = g.C.Clock in
-    let S = g.M.Machine.stands in
-    let network = c.args.network.now in
-    let old = c.args.self.now in
-    let new = c.work_turn.new.self in
+pub returns-clause-turns : goal.returns-clause-turns
+returns-clause-turns g c =
     let turn = c.work_turn.ensures in
-    record {
-      well = turn.well;
-      after = turn.after;
-      stands = turn.stands;
-      whole = λ s notes is. work_whole K.last_step K.reading S network OutOfMemory old new s notes c.args.until c.work_turn.new.note c.work_turn.result
-          turn.says;
-      says = work_says K.last_step K.reading S network OutOfMemory old new c.args.until c.work_turn.new.note c.work_turn.result c.requires.open turn.says;
-      nears = work_nears K.last_step K.reading S network OutOfMemory old new c.args.until c.work_turn.new.note c.work_turn.result turn.well turn.says;
-      err = turn.err;
-    }
+    work_turns g.C.Clock.last_step g.C.Clock.reading g.M.Machine.stands c.args.network.now OutOfMemory c.args.self.now c.work_turn.new.self c.args.until
+    c.work_turn.new.note c.work_turn.result c.requires.may.early turn.kept.well
+    turn.says

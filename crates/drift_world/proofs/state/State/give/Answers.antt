@@ -3,11 +3,19 @@ use Rattle.drift_world.proofs.Words.{Stands, StandsBehind, World, [], ap, behind
 use Rattle.drift_world.proofs.Words.{settled_at, subst, sym, units_of, world_of, ℕ}
 use Rattle.std.{proofs.lemmas.List.Elements.{All-head, All-tail}, specs.Prelude.{All, option_to_list}}
 use Rattle.world_state.specs.{Frames.room_of, Shelves.HasPlace, declared.contents.Spot.Spot}
-use Rattle.drift_world.{proofs.{Gave.{changes_since, popped_world, sound_same, unchanged}, MayGive.{low_now, may_be_given}}, specs.declared.state.State.State}
+use Rattle.drift_world.proofs.{Fits.sound_same, Gave.{changes_since, popped_world, unchanged}, MayGive.{low_now, may_be_given}}
+use Rattle.drift_world.{specs.declared.state.State.State}
+use Rattle.drift_world.proofs.state.State.give.Given as given
+use Rattle.drift_world.proofs.state.State.give.Goals.{After-unwrap-first}
 use Rattle.drift_world.proofs.state.State.give.Goals as goal
 
 heads : (x y : Settled) (xs ys : List Settled) → x ∷ xs ≡ y ∷ ys → x ≡ y
 heads x y xs ys e = cc
+
+-- the first of what is settled was taken out
+whole_is : (g : given.Over) (c : After-unwrap-first g) → c.args.self.now.settled.items ≡ c.unwrap-first.result ∷ c.pop_front.new.self.items
+whole_is g c =
+    c.pop_front.ensures.items ∙ ap (λ o. option_to_list o ++ c.pop_front.new.self.items) c.unwrap-first.ensures
 
 pub returns-in-Err-clause-sound : goal.returns-in-Err-clause-sound
 returns-in-Err-clause-sound g c =
@@ -21,7 +29,7 @@ returns-in-Err-clause-unmoved g c = λ n. unchanged n c.args.self.now _ refl ref
 pub give_first-requires-clause-sound : goal.give_first-requires-clause-sound
 give_first-requires-clause-sound g c =
     let room = c.make_room.ensures in
-    let whole = c.pop_front.ensures.items ∙ ap (λ o. option_to_list o ++ c.pop_front.new.self.items) c.unwrap-first.ensures in
+    let whole = whole_is g (goal.at.give_first-requires-clause-sound g c).After-unwrap-first in
     let octets = All-tail (λ (z : Settled). HasItsOctets z.body z.octets) c.unwrap-first.result c.pop_front.new.self.items
     (subst (All (λ (z : Settled). HasItsOctets z.body z.octets)) whole c.requires.sound.fit.octets) in
     sound_same g.C.Clock.last_step c.args.network.now c.args.self.now _ c.requires.sound refl refl refl refl refl refl refl refl room.entries room.waiting
@@ -32,7 +40,7 @@ give_first-requires-clause-may g c =
     let w = c.args.self.now in
     let network = c.args.network.now in
     let run = c.requires.running in
-    let whole = c.pop_front.ensures.items ∙ ap (λ o. option_to_list o ++ c.pop_front.new.self.items) c.unwrap-first.ensures in
+    let whole = whole_is g (goal.at.give_first-requires-clause-may g c).After-unwrap-first in
     let has = All-head (λ (z : Settled). HasItsOctets z.body z.octets) c.unwrap-first.result c.pop_front.new.self.items
     (subst (All (λ (z : Settled). HasItsOctets z.body z.octets)) whole c.requires.sound.fit.octets) in
     may_be_given g.C.Clock.reading (keeps g.M.Machine.stands) run.s (world_of network w) run.notes network w.time c.unwrap-first.result _ run.is run.is.same
@@ -40,15 +48,13 @@ give_first-requires-clause-may g c =
 
 pub give_first-requires-clause-capacity : goal.give_first-requires-clause-capacity
 give_first-requires-clause-capacity g c =
-    let whole : c.args.self.now.settled.items ≡ c.unwrap-first.result ∷ c.pop_front.new.self.items =
-    c.pop_front.ensures.items ∙ ap (λ o. option_to_list o ++ c.pop_front.new.self.items) c.unwrap-first.ensures in
+    let whole = whole_is g (goal.at.give_first-requires-clause-capacity g c).After-unwrap-first in
     subst (λ (o : Option DeviceId). IfSome o (λ d. 0 < room_of c.make_room.new.waiting d.0))
     (c.first_waiter-device.ensures c.unwrap-first.result c.pop_front.new.self.items whole) c.in_default.ensures.capacity
 
 pub give_first-requires-clause-place : goal.give_first-requires-clause-place
 give_first-requires-clause-place g c =
-    let whole : c.args.self.now.settled.items ≡ c.unwrap-first.result ∷ c.pop_front.new.self.items =
-    c.pop_front.ensures.items ∙ ap (λ o. option_to_list o ++ c.pop_front.new.self.items) c.unwrap-first.ensures in
+    let whole = whole_is g (goal.at.give_first-requires-clause-place g c).After-unwrap-first in
     subst (λ (o : Option Spot). IfSome o (HasPlace c.make_room.new.stored))
     (c.first_taker-spot.ensures c.unwrap-first.result c.pop_front.new.self.items whole) c.in_default.ensures.place
 
@@ -70,8 +76,7 @@ returns-clause-stands g c = λ s notes other rest is.
     let first = c.unwrap-first.result in
     let note = c.give_first.new.note in
     let new = c.give_first.new.self in
-    let whole : w.settled.items ≡ first ∷ c.pop_front.new.self.items = c.pop_front.ensures.items
-    ∙ ap (λ o. option_to_list o ++ c.pop_front.new.self.items) c.unwrap-first.ensures in
+    let whole = whole_is g (goal.at.returns-clause-stands g c).After-unwrap-first in
     let popped : State _ _ = record w {
       under_way = c.make_room.new.under_way;
       waiting = c.make_room.new.waiting;

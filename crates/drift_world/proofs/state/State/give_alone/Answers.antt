@@ -1,7 +1,8 @@
-use Rattle.drift_world.proofs.Words.{◌++◌, ◌+◌, ◌∙◌, ◌∷◌, ◌≡◌, NoSourceBefore, Note, Stands, StandsBehind, World, [], ap, behind, changed_device, happenings}
+use Rattle.drift_world.proofs.Words.{◌++◌, ◌+◌, ◌∙◌, ◌∷◌, ◌≡◌, NoSourceBefore, Note, Stands, StandsBehind, List, World, [], ap, append-nil, behind}
+use Rattle.drift_world.proofs.Words.{changed_device, happenings}
 use Rattle.drift_world.proofs.Words.{keeps, length, note_of, place_of, refl, settled_at, subst, sym, units_of, with_first, world_of, ℕ}
-use Rattle.drift_world.proofs.{Fits.{all_put, have_octets}, Gave.{changes_since, sound_same, unchanged}, MayGive.{low_now, may_be_given}}
-use Rattle.drift_world.proofs.{OwnPlaces.{lone_world, put_on_none, settled_alone}, Turning.same_records}
+use Rattle.drift_world.proofs.{Fits.{all_put, have_octets, sound_same}, Gave.{changes_since, unchanged}, MayGive.{low_now, may_be_given}}
+use Rattle.drift_world.proofs.OwnPlaces.{lone_world, put_on_none, settled_alone}
 use Rattle.drift_world.specs.declared.state.State.{State}
 use Rattle.drift_world.proofs.state.State.give_alone.Goals as goal
 
@@ -24,7 +25,7 @@ returns-in-Err-clause-stands g c = λ s notes old none.
       stored = c.make_room.new.stored;
       settled = c.put_in.new.settled;
     } in
-    same_records g.C.Clock.reading (keeps g.M.Machine.stands) s (world_of network new) notes [] refl
+    subst (λ (l : List Note). Stands g.C.Clock.reading (keeps g.M.Machine.stands) s (world_of network new) l) (sym (append-nil notes))
     (subst (λ (v : World _ _). Stands g.C.Clock.reading (keeps g.M.Machine.stands) s v notes)
     (sym (settled_alone network w new c.args.first room.entries room.waiting room.stored
     (put_on_none c.args.first _ _ put.0 c.requires.empty put.1) refl))

@@ -4,14 +4,32 @@ use Rattle.drift_world.proofs.Words.{on_wire, place_of, refl, settled_at, stored
 use Rattle.std.specs.{List.filter_map, Prelude.All}
 use Rattle.drift_world.proofs.Gave.{from_ports, from_wire, settled_has, waits_apart, waits_below, waits_elsewhere, waits_more, wire_is, wire_sound}
 use Rattle.drift_world.{proofs.Givings.{given_on, named_all}, specs.declared.state.State.State}
+use Rattle.drift_world.proofs.Fits.{sized_so}
+use Rattle.drift_world.proofs.state.State.give_first.Given as given
+use Rattle.drift_world.proofs.state.State.give_first.Goals.{After-launch_octets}
 use Rattle.drift_world.proofs.state.State.give_first.Goals as goal
+
+-- what is launched, and what has changed then
+gave_all : (g : given.Over) (c : After-launch_octets g)
+    → (let q : State _ _ = record c.launch_octets.new.self { given = c.args.self.now.given + 1 } in q) ≡ (let r : State _ _ = record c.args.self.now {
+      under_way = c.launch_octets.new.self.under_way;
+      waiting = c.launch_frame.new.self.waiting;
+      stored = c.launch_octets.new.self.stored;
+      settled = c.name_followers.new.settled;
+      given = c.args.self.now.given + 1;
+    } in r)
+gave_all g c =
+    let three = c.launch_octets.new.self in
+    let number = c.args.self.now.given + 1 in
+    ap (λ (q : State _ _). let r : State _ _ = record q { given = number } in r) c.launch_octets.ensures.same
+    ∙ ap (λ (q : State _ _). let r : State _ _ = record q { under_way = three.under_way; stored = three.stored; given = number } in r)
+    c.launch_frame.ensures.same
 
 pub returns-clause-sound : goal.returns-clause-sound
 returns-clause-sound g c =
     let w = c.args.self.now in
     let network = c.args.network.now in
     let first = c.args.first in
-    let z = c.requires.sound.sized in
     let fit = c.requires.sound.fit in
     let number = w.given + 1 in
     let one : State _ _ = record w { settled = c.name_followers.new.settled } in
@@ -28,25 +46,15 @@ returns-clause-sound g c =
     let wires = from_wire network number two.under_way.entries three.under_way.entries wire on sent in
     let mid = c.launch_frame.ensures.sound fit.below c.requires.sound.under_way in
     let more = waits_more g.C.Clock.reading network one two first.body first.frame number giving out in
-    let last = ap (λ (q : State _ _). let r : State _ _ = record q { given = number } in r) c.launch_octets.ensures.same
-    ∙ ap (λ (q : State _ _). let r : State _ _ = record q { under_way = three.under_way; stored = three.stored; given = number } in r)
-    c.launch_frame.ensures.same in
+    let last = gave_all g (goal.at.returns-clause-sound g c).After-launch_octets in
     let whole : IsSound g.C.Clock.last_step network (record one {
       under_way = three.under_way;
       waiting = two.waiting;
       stored = three.stored;
       given = number;
     }) = record {
-      sized = record {
-        clocks = z.clocks;
-        machines = z.machines;
-        broken = z.broken;
-        ups = z.ups;
-        downs = z.downs;
-        stepped = z.stepped;
-        limit = z.limit;
-        shown = z.shown;
-      };
+      sized = sized_so g.C.Clock.last_step network one _ (sized_so g.C.Clock.last_step network w one c.requires.sound.sized refl refl refl refl refl refl refl)
+          refl refl refl refl refl refl refl;
       under_way = wire_sound network number two.under_way.entries three.under_way.entries wire on sent (λ d there. elim (ports d there) [
         | inl old ↦ inl (fit.below d old)
         | inr port ↦ inr port.1
@@ -99,9 +107,7 @@ returns-clause-stands g c = λ s notes old none.
     let lists = named_all network w.time (length notes + 1) first w.settled.items
     ∙ ap (λ (k : ℕ). map (settled_at network w.time) (map (named_settled k first.body) w.settled.items)) (sym number)
     ∙ ap (map (settled_at network w.time)) (sym c.name_followers.ensures) in
-    let last = ap (λ (q : State _ _). let r : State _ _ = record q { given = w.given + 1 } in r) c.launch_octets.ensures.same
-    ∙ ap (λ (q : State _ _). let r : State _ _ = record q { under_way = three.under_way; stored = three.stored; given = w.given + 1 } in r)
-    c.launch_frame.ensures.same in
+    let last = gave_all g (goal.at.returns-clause-stands g c).After-launch_octets in
     subst (λ (q : State _ _). StandsBehind K.reading stands s (world_of network q) (notes ++ note_of notes z ∷ []) (behind (place_of z))) (sym last)
     (subst (λ (l : List Happening). StandsBehind K.reading stands s (record (with_first network one first w.settled.items) {
       wires = filter_map (on_wire network) three.under_way.entries;
@@ -122,9 +128,7 @@ returns-clause-others g c =
     let three = c.launch_octets.new.self in
     let more = waits_more g.C.Clock.reading c.args.network.now one two first.body first.frame number c.launch_frame.ensures.given.0
     c.launch_frame.ensures.given.1 in
-    let last = ap (λ (q : State _ _). let r : State _ _ = record q { given = number } in r) c.launch_octets.ensures.same
-    ∙ ap (λ (q : State _ _). let r : State _ _ = record q { under_way = three.under_way; stored = three.stored; given = number } in r)
-    c.launch_frame.ensures.same in
+    let last = gave_all g (goal.at.returns-clause-others g c).After-launch_octets in
     let whole : ChangesOnly (changed_device first.body) w (record one {
       under_way = three.under_way;
       waiting = two.waiting;

@@ -1,35 +1,50 @@
-use Rattle.drift_world.proofs.Words.{◌+◌, ◌<◌, ◌∙◌, DeviceId, IsPutAt, Network, Settled, arith, keeps, length, length-set, length_permutation, refl}
+use Rattle.drift_world.proofs.Words.{◌+◌, ◌<◌, DeviceId, IsPutAt, Network, Settled, arith, keeps, length, length-set, length_permutation, refl}
 use Rattle.drift_world.proofs.Words.{slice_get_read, subst, sym}
-use Rattle.std.proofs.Common.{set}
+use Rattle.std.proofs.Common.{set, slice_get}
+use Rattle.drift_world.proofs.Words.{List, Moment, Note, Scenario, Some, Stands, moment_of, world_of}
 use Rattle.tte_lemmas.proofs.Lists.{set_aside, set_same}
 use Rattle.world_law.proofs.giving.Given.{some_same}
 use Rattle.world_state.proofs.UnderWays.{sound_without}
 use Rattle.drift_world.proofs.Words.{◌≡◌, changed_device, numbers_of, place_of, rank, settled_at}
-use Rattle.drift_world.proofs.{OwnPlaces.{arrived_device, arrived_own}, Fits.{below_without, have_octets}}
+use Rattle.drift_world.proofs.{OwnPlaces.{arrived_device, arrived_own}, Fits.{below_without, have_octets, sized_so}}
 use Rattle.drift_world.proofs.Hears.{as_sent, heard_octets, heard_stands, may_come, moment_is}
+use Rattle.drift_world.proofs.state.State.hear_wire.Given as given
+use Rattle.drift_world.proofs.state.State.hear_wire.Goals.{After-index_mut-machine, After-read}
 use Rattle.drift_world.proofs.state.State.hear_wire.Goals as goal
 
-pub hear_signal-arrival-requires-clause-may : goal.hear_signal-arrival-requires-clause-may
-hear_signal-arrival-requires-clause-may g c =
-    let w = c.args.self.now in
-    let at = c.requires.comes in
+-- the machine of its device, and the moment at which it hears
+held : (g : given.Over) (c : After-index_mut-machine g) → slice_get c.args.self.now.machines.items c.args.place.device ≡ Some c.index_mut-machine.result.now
+held g c =
+    let within = c.requires.device in
+    let machines = c.requires.sound.sized.machines in
+    let kept = c.args.self.now.machines.ok.0 in
+    slice_get_read c.args.self.now.machines.items c.args.self.now.machines.len c.args.place.device c.index_mut-machine.result.now c.args.self.now.machines.ok.0
+    (omega (arith, machines, within, kept)) c.index_mut-machine.ensures.value
+
+now_is : (g : given.Over) (c : After-read g) (s : Scenario) (notes : List Note)
+    → Stands g.C.Clock.reading (keeps g.M.Machine.stands) s (world_of c.args.network.now c.args.self.now) notes
+    → (let m : Moment = record { time = c.from_amount-time.result; reading = c.read.result } in m)
+    ≡ moment_of s (record { 0 = c.args.place.device }) c.args.self.now.time
+now_is g c s notes old =
     let device : DeviceId = record { 0 = c.args.place.device } in
     let within = c.requires.device in
     let clocks = c.requires.sound.sized.clocks in
-    let machines = c.requires.sound.sized.machines in
-    let held = w.clocks.ok.0 in
-    let kept = w.machines.ok.0 in
-    let there : device.0 < length at.s.network.device = subst (λ (n : Network). device.0 < length n.device) at.is.same within in
-    let own = at.is.clocks device there in
-    may_come g.C.Clock.reading (keeps g.M.Machine.stands) at.s c.args.network.now w at.notes at.is c.args.place c.take_wire-signal.result
+    let held = c.args.self.now.clocks.ok.0 in
+    let own = old.clocks device (subst (λ (n : Network). device.0 < length n.device) old.same within) in
+    moment_is g.C.Clock.reading s c.args.self.now.time device own.0 c.index.result.now c.from_amount-time.result c.read.result
+    (some_same _ _ _ own.1
+    (slice_get_read c.args.self.now.clocks.items c.args.self.now.clocks.len device.0 c.index.result.now c.args.self.now.clocks.ok.0
+    (omega (arith, clocks, within, held)) c.index.ensures))
+    own.2 c.from_amount-time.ensures.value c.read.ensures
+
+pub hear_signal-arrival-requires-clause-may : goal.hear_signal-arrival-requires-clause-may
+hear_signal-arrival-requires-clause-may g c =
+    let at = c.requires.comes in
+    may_come g.C.Clock.reading (keeps g.M.Machine.stands) at.s c.args.network.now c.args.self.now at.notes at.is c.args.place c.take_wire-signal.result
     c.take_wire-signal.new.under_way.entries c.take_wire-signal.ensures c.requires.wire c.requires.at c.index_mut-machine.result.now
     (record { time = c.from_amount-time.result; reading = c.read.result })
-    (slice_get_read w.machines.items w.machines.len device.0 c.index_mut-machine.result.now w.machines.ok.0 (omega (arith, machines, within, kept))
-    c.index_mut-machine.ensures.value)
-    (moment_is g.C.Clock.reading at.s w.time device own.0 c.index.result.now c.from_amount-time.result c.read.result
-    (some_same _ _ _ own.1
-    (slice_get_read w.clocks.items w.clocks.len device.0 c.index.result.now w.clocks.ok.0 (omega (arith, clocks, within, held)) c.index.ensures))
-    own.2 c.from_amount-time.ensures.value c.read.ensures)
+    (held g (goal.at.hear_signal-arrival-requires-clause-may g c).After-index_mut-machine)
+    (now_is g (goal.at.hear_signal-arrival-requires-clause-may g c).After-read at.s at.notes at.is)
 
 pub hear_signal-arrival-requires-clause-as_sent : goal.hear_signal-arrival-requires-clause-as_sent
 hear_signal-arrival-requires-clause-as_sent g c =
@@ -44,16 +59,8 @@ returns-clause-sound g c =
     let fit = c.requires.sound.fit in
     let took = c.take_wire-signal in
     record {
-      sized = record {
-        clocks = z.clocks;
-        machines = length-set w.machines.items c.args.place.device c.hear_signal-arrival.new.kept ∙ z.machines;
-        broken = z.broken;
-        ups = z.ups;
-        downs = z.downs;
-        stepped = z.stepped;
-        limit = z.limit;
-        shown = z.shown;
-      };
+      sized = sized_so g.C.Clock.last_step c.args.network.now c.args.self.now _ z refl
+          (length-set w.machines.items c.args.place.device c.hear_signal-arrival.new.kept) refl refl refl refl refl;
       under_way = sound_without c.args.network.now w.under_way.entries took.new.under_way.entries _ c.requires.sound.under_way took.ensures;
       fit = record {
         ups = fit.ups;
@@ -67,29 +74,15 @@ returns-clause-sound g c =
 
 pub returns-clause-octets : goal.returns-clause-octets
 returns-clause-octets g c =
-    let w = c.args.self.now in
     let took = c.take_wire-signal in
     let at = c.requires.comes in
-    let device : DeviceId = record { 0 = c.args.place.device } in
-    let within = c.requires.device in
-    let clocks = c.requires.sound.sized.clocks in
-    let machines = c.requires.sound.sized.machines in
-    let held = w.clocks.ok.0 in
-    let kept = w.machines.ok.0 in
-    let there : device.0 < length at.s.network.device = subst (λ (n : Network). device.0 < length n.device) at.is.same within in
-    let own = at.is.clocks device there in
     let heard = c.hear_signal-arrival in
-    let octets = heard_octets g.C.Clock.reading (keeps g.M.Machine.stands) at.s c.args.network.now w at.notes at.is c.args.place took.result
+    subst have_octets (sym c.arrived.ensures)
+    (heard_octets g.C.Clock.reading (keeps g.M.Machine.stands) at.s c.args.network.now c.args.self.now at.notes at.is c.args.place took.result
     took.new.under_way.entries took.ensures c.requires.wire c.requires.at c.index_mut-machine.result.now
-    (record { time = c.from_amount-time.result; reading = c.read.result })
-    (slice_get_read w.machines.items w.machines.len device.0 c.index_mut-machine.result.now w.machines.ok.0 (omega (arith, machines, within, kept))
-    c.index_mut-machine.ensures.value)
-    (moment_is g.C.Clock.reading at.s w.time device own.0 c.index.result.now c.from_amount-time.result c.read.result
-    (some_same _ _ _ own.1
-    (slice_get_read w.clocks.items w.clocks.len device.0 c.index.result.now w.clocks.ok.0 (omega (arith, clocks, within, held)) c.index.ensures))
-    own.2 c.from_amount-time.ensures.value c.read.ensures)
-    heard.new.kept heard.ensures.0 heard.result heard.ensures.1 heard.ensures.2 in
-    subst have_octets (sym c.arrived.ensures) octets
+    (record { time = c.from_amount-time.result; reading = c.read.result }) (held g (goal.at.returns-clause-octets g c).After-index_mut-machine)
+    (now_is g (goal.at.returns-clause-octets g c).After-read at.s at.notes at.is) heard.new.kept heard.ensures.0 heard.result heard.ensures.1
+    heard.ensures.2)
 
 pub returns-clause-own : goal.returns-clause-own
 returns-clause-own g c = λ two.
@@ -105,26 +98,17 @@ returns-clause-device g c = λ two.
     (arrived_device c.args.place c.hear_signal-arrival.result c.take_wire-signal.result) two
 
 pub returns-clause-stands : goal.returns-clause-stands
-returns-clause-stands g c = λ s notes settled index old first put.
+returns-clause-stands g c = λ settled index put s notes old first.
     let w = c.args.self.now in
     let device : DeviceId = record { 0 = c.args.place.device } in
     let within = c.requires.device in
-    let clocks = c.requires.sound.sized.clocks in
     let machines = c.requires.sound.sized.machines in
-    let held = w.clocks.ok.0 in
     let kept = w.machines.ok.0 in
-    let there : device.0 < length s.network.device = subst (λ (n : Network). device.0 < length n.device) old.same within in
-    let own = old.clocks device there in
     let took = c.take_wire-signal in
     let heard = c.hear_signal-arrival in
     heard_stands g.C.Clock.reading (keeps g.M.Machine.stands) s c.args.network.now w notes old c.args.place took.result took.new.under_way.entries took.ensures
     c.requires.wire c.requires.at c.index_mut-machine.result.now (record { time = c.from_amount-time.result; reading = c.read.result })
-    (slice_get_read w.machines.items w.machines.len device.0 c.index_mut-machine.result.now w.machines.ok.0 (omega (arith, machines, within, kept))
-    c.index_mut-machine.ensures.value)
-    (moment_is g.C.Clock.reading s w.time device own.0 c.index.result.now c.from_amount-time.result c.read.result
-    (some_same _ _ _ own.1
-    (slice_get_read w.clocks.items w.clocks.len device.0 c.index.result.now w.clocks.ok.0 (omega (arith, clocks, within, held)) c.index.ensures))
-    own.2 c.from_amount-time.ensures.value c.read.ensures)
+    (held g (goal.at.returns-clause-stands g c).After-index_mut-machine) (now_is g (goal.at.returns-clause-stands g c).After-read s notes old)
     heard.new.kept heard.ensures.0 heard.result (set w.machines.items device.0 heard.new.kept) settled index
     c.requires.sound.under_way first heard.ensures.1 heard.ensures.2
     (record {

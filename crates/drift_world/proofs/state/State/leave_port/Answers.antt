@@ -5,7 +5,7 @@ use Rattle.std.specs.List.{filter_map}
 use Rattle.world_state.specs.declared.queue.Entry.{Entry}
 use Rattle.world_state.{proofs.UnderWays.{ports_without, sound_without, wires_stay}, specs.Leaving.port_entry}
 use Rattle.world_steps.{proofs.steps.LeftSteps.left_step, specs.Steps.departure_now}
-use Rattle.drift_world.proofs.{Alike.with_wires, Fits.{below_without}, HiddenCauses.settled_in_order}
+use Rattle.drift_world.proofs.{Alike.with_wires, Fits.{below_without, sized_so}, HiddenCauses.settled_in_order}
 use Rattle.drift_world.proofs.{OwnPlaces.left_own, Puts.{departed_is, frame_of_port, some_put_in}, Showings.shows_of}
 use Rattle.drift_world.proofs.state.State.leave_port.Goals as goal
 
@@ -15,16 +15,7 @@ returns-clause-sound g c =
     let z = c.requires.sound.sized in
     let fit = c.requires.sound.fit in
     record {
-      sized = record {
-        clocks = z.clocks;
-        machines = z.machines;
-        broken = z.broken;
-        ups = z.ups;
-        downs = z.downs;
-        stepped = z.stepped;
-        limit = z.limit;
-        shown = z.shown;
-      };
+      sized = sized_so g.C.Clock.last_step c.args.network.now c.args.self.now _ z refl refl refl refl refl refl refl;
       under_way = sound_without c.args.network.now w.under_way.entries c.take_port-frame.new.under_way.entries _ c.requires.sound.under_way
           c.take_port-frame.ensures;
       fit = record {
@@ -38,7 +29,7 @@ returns-clause-sound g c =
     }
 
 pub returns-clause-stands : goal.returns-clause-stands
-returns-clause-stands g c = λ s notes settled old first was.
+returns-clause-stands g c = λ settled was s notes old first.
     let now_is = c.requires.at in
     let w = c.args.self.now in
     let K = g.C.Clock in

@@ -1,5 +1,9 @@
-use Rattle.drift_world.proofs.Words.{◌+◌, ◌<◌, ◌^◌, ◌∷◌, ◌≡◌, ◌≤◌, ◌⊎◌, IsScenarioRun, [], arith, false, inl, inr, subst, true, ℕ}
-use Rattle.drift_world.proofs.{Nearings.passing_nears, Sources.of_world, Turning.{passes, whole_run}}
+use Rattle.drift_world.proofs.Words.{◌+◌, ◌<◌, ◌^◌, ◌∷◌, ◌≡◌, ◌≤◌, ◌⊎◌, IsScenarioRun, [], ap, arith, both_ways, false, inl, inr, keeps, refl, subst, true}
+use Rattle.drift_world.proofs.Words.{world_of, ℕ, ◌∙◌, List, Note, Scenario, Stands, Turn}
+use Rattle.drift_world.proofs.{Nearings.passing_nears, Sources.of_world, Turning.{passed_same, passes, whole_run}}
+use Rattle.drift_world.specs.{Turns.{IsPassed, IsWhole, PassSays}, declared.state.State.State}
+use Rattle.drift_world.proofs.state.State.pass_on.Given as given
+use Rattle.drift_world.proofs.state.State.pass_on.Goals.{After-pass_to}
 use Rattle.drift_world.proofs.state.State.pass_on.Goals as goal
 
 -- where no time may pass, the time is the last
@@ -8,56 +12,80 @@ last : (time until now : ℕ) (ended : _) → (ended ≡ true ⊎ ((ended ≡ fa
 last time until now ended (inl is) later within limit most = let le = most is in omega (arith, le, later, within)
 last time until now ended (inr far) later within limit most = let gt = far.1 in omega (arith, gt, within, limit)
 
-pub returns-then-self-clause-whole : goal.returns-then-self-clause-whole
-returns-then-self-clause-whole g c = λ s notes old.
-    let r = c.requires in
-    let w = c.args.self.now in
-    let at = last c.args.time c.args.until w.time w.ended c.then-self.either r.later r.within r.limit r.ended in
-    subst (λ (t : ℕ). IsScenarioRun s (t ∷ []) notes) at
-    (whole_run g.C.Clock.last_step g.C.Clock.reading g.M.Machine.stands c.args.network.now w s notes c.args.time r.well.sound r.nothing r.empty r.later old)
-
-pub returns-then-time-until-clause-stands : goal.returns-then-time-until-clause-stands
-returns-then-time-until-clause-stands g c = λ s notes old.
-    let r = c.requires in
+-- where nothing is under way before the time, time passes
+still : (g : given.Over) (c : After-pass_to g) (s : Scenario) (notes : List Note)
+    → Stands g.C.Clock.reading (keeps g.M.Machine.stands) s (world_of c.args.network.now c.args.self.now) notes
+    → Stands g.C.Clock.reading (keeps g.M.Machine.stands) s (world_of c.args.network.now c.pass_to.new.self) notes
+still g c s notes old =
+    let sound = c.requires.may.well.sound in
     (c.pass_to.ensures.stands c.args.network.now s notes old
-    (of_world g.C.Clock.last_step g.C.Clock.reading g.M.Machine.stands s c.args.network.now c.args.self.now notes old r.well.sound.sized (c.args.time ∷ [])
-    r.well.sound.under_way r.nothing)).0
+    (of_world g.C.Clock.last_step g.C.Clock.reading g.M.Machine.stands s c.args.network.now c.args.self.now notes old sound.sized (c.args.time
+    ∷ []) sound.under_way c.requires.nothing)).0
 
-pub returns-then-time-until-clause-well : goal.returns-then-time-until-clause-well
-returns-then-time-until-clause-well g c =
+passed : (g : given.Over) (c : After-pass_to g) (turn : Turn) → PassSays c.args.self.now c.pass_to.new.self c.args.until turn
+    → ((s : Scenario) (notes : List Note) → Stands g.C.Clock.reading (keeps g.M.Machine.stands) s (world_of c.args.network.now c.args.self.now) notes
+    → IsWhole s notes c.args.until turn)
+    → IsPassed g.C.Clock.last_step g.C.Clock.reading g.M.Machine.stands c.args.network.now c.args.until c.args.self.now c.pass_to.new.self turn
+passed g c turn says whole =
     let r = c.requires in
-    let most = c.if-time-gt-LAST.false in
-    passes g.C.Clock.last_step g.C.Clock.reading g.M.Machine.stands c.args.network.now c.args.self.now c.pass_to.new.self c.args.time r.well r.nothing r.later
-    (omega (arith, most)) c.pass_to.ensures.same
-    (c.pass_to.ensures.sound c.args.network.now r.well.sound) (returns-then-time-until-clause-stands g c)
+    let new = c.pass_to.new.self in
+    let same = c.pass_to.ensures.same in
+    let later = r.later in
+    let time = ap (λ (t : State _ _). t.time) same in
+    record {
+      well = passes g.C.Clock.last_step g.C.Clock.reading g.M.Machine.stands c.args.network.now c.args.self.now new c.args.time r.may.well r.nothing later
+          (omega (arith, c.if-time-gt-LAST.false)) same
+          (c.pass_to.ensures.sound c.args.network.now r.may.well.sound) (still g c);
+      still = still g c;
+      whole = whole;
+      says = says;
+      same = passed_same c.args.self.now new c.args.time true same;
+      later = omega (arith, time, later);
+    }
 
-pub returns-else-time-until-clause-stands : goal.returns-else-time-until-clause-stands
-returns-else-time-until-clause-stands g c = λ s notes old.
+pub returns-then-self-clause-passed : goal.returns-then-self-clause-passed
+returns-then-self-clause-passed g c =
     let r = c.requires in
-    (c.pass_to.ensures.stands c.args.network.now s notes old
-    (of_world g.C.Clock.last_step g.C.Clock.reading g.M.Machine.stands s c.args.network.now c.args.self.now notes old r.well.sound.sized (c.args.time ∷ [])
-    r.well.sound.under_way r.nothing)).0
+    record {
+      well = r.may.well;
+      still = λ s notes is. is;
+      whole = λ s notes old.
+          subst (λ (t : ℕ). IsScenarioRun s (t ∷ []) notes)
+          (last c.args.time c.args.until c.args.self.now.time c.args.self.now.ended c.then-self.either r.later r.within r.may.limit r.may.ended)
+          (whole_run g.C.Clock.last_step g.C.Clock.reading g.M.Machine.stands c.args.network.now c.args.self.now s notes c.args.time r.may.well.sound r.nothing
+          r.empty r.later old);
+      says = λ early most. elim c.then-self.either [
+        | inl is ↦ absurd (both_ways c.args.self.now.ended early is)
+        | inr far ↦ let gt = far.1 in let within = r.within in absurd (omega (arith, gt, within, most))
+      ];
+      same = refl;
+      later = omega arith;
+    }
 
-pub returns-else-time-until-clause-well : goal.returns-else-time-until-clause-well
-returns-else-time-until-clause-well g c =
-    let r = c.requires in
-    let most = c.if-time-gt-LAST.false in
-    passes g.C.Clock.last_step g.C.Clock.reading g.M.Machine.stands c.args.network.now c.args.self.now c.pass_to.new.self c.args.time r.well r.nothing r.later
-    (omega (arith, most)) c.pass_to.ensures.same
-    (c.pass_to.ensures.sound c.args.network.now r.well.sound) (returns-else-time-until-clause-stands g c)
+pub returns-then-time-until-clause-passed : goal.returns-then-time-until-clause-passed
+returns-then-time-until-clause-passed g c =
+    let time = ap (λ (t : State _ _). t.time) c.pass_to.ensures.same in
+    let less = c.if-time-until.true in
+    passed g (goal.at.returns-then-time-until-clause-passed g c).After-pass_to _ (
+      omega (arith, time, less),
+      ap (λ (t : State _ _). t.given) c.pass_to.ensures.same,
+    ) (λ s notes is. tt)
 
-pub returns-else-time-until-clause-whole : goal.returns-else-time-until-clause-whole
-returns-else-time-until-clause-whole g c = λ s notes old.
+pub returns-else-time-until-clause-passed : goal.returns-else-time-until-clause-passed
+returns-else-time-until-clause-passed g c =
     let r = c.requires in
     let within = r.within in
     let not_less = c.if-time-until.false in
     let at : c.args.time ≡ c.args.until = omega (arith, within, not_less) in
-    subst (λ (t : ℕ). IsScenarioRun s (t ∷ []) notes) at
-    (whole_run g.C.Clock.last_step g.C.Clock.reading g.M.Machine.stands c.args.network.now c.args.self.now s notes c.args.time r.well.sound r.nothing r.empty
-    r.later old)
+    passed g (goal.at.returns-else-time-until-clause-passed g c).After-pass_to _
+    (λ early most. record { time = ap (λ (t : State _ _). t.time) c.pass_to.ensures.same ∙ at; early = ap (λ (t : State _ _). t.early) c.pass_to.ensures.same })
+    (λ s notes old. subst (λ (t : ℕ). IsScenarioRun s (t ∷ []) notes) at
+    (whole_run g.C.Clock.last_step g.C.Clock.reading g.M.Machine.stands c.args.network.now c.args.self.now s notes c.args.time r.may.well.sound r.nothing
+    r.empty r.later old))
 
 pub returns-then-time-until-clause-nears : goal.returns-then-time-until-clause-nears
 returns-then-time-until-clause-nears g c =
     let r = c.requires in
     passing_nears g.C.Clock.last_step g.C.Clock.reading g.M.Machine.stands c.args.network.now c.args.until c.args.time _ c.args.self.now c.pass_to.new.self
-    (returns-then-time-until-clause-well g c) c.pass_to.ensures.same r.later r.within
+    (returns-then-time-until-clause-passed g c).well c.pass_to.ensures.same r.later
+    r.within

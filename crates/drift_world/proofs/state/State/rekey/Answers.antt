@@ -1,46 +1,13 @@
-use Rattle.drift_world.proofs.Words.{◌∙◌, DeviceId, IsRunning, IsSized, ap, arith, subst, sym}
-use Rattle.drift_world.{proofs.Halves.{both_halves, ripe_stays}, specs.declared.state.State.State}
+use Rattle.drift_world.proofs.{Halves.set_both, Timings.may_still}
 use Rattle.drift_world.proofs.state.State.rekey.Goals as goal
 
-pub rekey_act-requires-clause-sized : goal.rekey_act-requires-clause-sized
-rekey_act-requires-clause-sized g c =
-    let z = c.requires.sized in
-    subst (IsSized g.C.Clock.last_step c.args.network.now) (sym c.rekey_ripe.ensures.same)
-    (record {
-      clocks = z.clocks;
-      machines = z.machines;
-      broken = z.broken;
-      ups = z.ups;
-      downs = z.downs;
-      stepped = z.stepped;
-      limit = z.limit;
-      shown = z.shown;
-    })
+pub rekey_act-requires : goal.rekey_act-requires
+rekey_act-requires g c = record {
+  may = may_still g.C.Clock.last_step g.C.Clock.reading g.M.Machine.stands c.args.network.now (record { 0 = c.args.device }) _ c.args.self.now
+      c.rekey_ripe.new.self c.requires.may c.rekey_ripe.ensures.sets;
+}
 
-pub rekey_act-requires-clause-running : goal.rekey_act-requires-clause-running
-rekey_act-requires-clause-running g c =
-    let run = c.requires.running in
-    subst (IsRunning g.C.Clock.reading g.M.Machine.stands c.args.network.now) (sym c.rekey_ripe.ensures.same)
-    (record { s = run.s; notes = run.notes; is = run.is })
-
-pub returns-clause-timed : goal.returns-clause-timed
-returns-clause-timed g c =
-    let K = g.C.Clock in
-    let S = g.M.Machine.stands in
-    let network = c.args.network.now in
-    let there = c.requires.there in
-    let mid = c.rekey_ripe.new.self in
-    let new = c.rekey_act.new.self in
-    let device : DeviceId = record { 0 = c.args.device } in
-    let acts = c.rekey_act.ensures in
-    both_halves K.reading S network new.timers new device
-    (ripe_stays K.reading S network mid new device c.rekey_ripe.ensures.timed (ap (λ (t : State _ _). t.clocks) acts.same)
-    (ap (λ (t : State _ _). t.time) acts.same) (ap (λ (t : State _ _). t.waiting) acts.same)
-    (acts.others c.args.device (λ e. omega (arith, e, there))))
-    acts.timed
-
-pub returns-clause-others : goal.returns-clause-others
-returns-clause-others g c = λ slot ne apart. c.rekey_act.ensures.others slot apart ∙ c.rekey_ripe.ensures.others slot ne
-
-pub returns-clause-later : goal.returns-clause-later
-returns-clause-later g c = λ all. c.rekey_act.ensures.later (c.rekey_ripe.ensures.later all)
+pub returns : goal.returns
+returns g c =
+    set_both g.C.Clock.reading g.M.Machine.stands c.args.network.now c.args.self.now c.rekey_ripe.new.self c.rekey_act.new.self
+    (record { 0 = c.args.device }) c.requires.may.there c.rekey_ripe.ensures.timed c.rekey_ripe.ensures.sets c.rekey_act.ensures.timed c.rekey_act.ensures.sets

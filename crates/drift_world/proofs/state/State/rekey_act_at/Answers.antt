@@ -1,4 +1,5 @@
-use Rattle.drift_world.proofs.Words.{◌+◌, ◌<◌, ◌∙◌, ◌≡◌, ◌≤◌, DeviceId, List, Network, ap, arith, length, slice_get_read, slice_set, subst, sym, ℕ}
+use Rattle.drift_world.proofs.Words.{◌+◌, ◌<◌, ◌∙◌, ◌≡◌, ◌≤◌, DeviceId, List, Network, ap, arith, length, length-set, refl, slice_get_read, slice_set, subst}
+use Rattle.drift_world.proofs.Words.{sym, ℕ}
 use Rattle.std.proofs.{Common.{All, slice_get}, lemmas.List.Elements.All-set}
 use Rattle.tte_lemmas.proofs.Lists.{set_aside, set_same}
 use Rattle.world_law.proofs.giving.Given.{some_same}
@@ -18,13 +19,13 @@ returns-clause-timed g c =
     let w = c.args.self.now in
     let K = g.C.Clock in
     let network = c.args.network.now in
-    let there = c.requires.there in
-    let slots = c.requires.slots in
-    let clocks = c.requires.sized.clocks in
+    let there = c.requires.may.there in
+    let slots = c.requires.may.slots in
+    let clocks = c.requires.may.sized.clocks in
     let held = w.clocks.ok.0 in
     let device : DeviceId = record { 0 = c.args.device } in
-    let s = c.requires.running.s in
-    let old = c.requires.running.is in
+    let s = c.requires.may.running.s in
+    let old = c.requires.may.running.is in
     let of_it : c.args.device < length s.network.device = subst (λ (n : Network). c.args.device < length n.device) old.same there in
     let own = old.clocks device of_it in
     let has = old.devices device of_it in
@@ -46,16 +47,17 @@ returns-clause-timed g c =
           (subst (λ k. IsTimeFor K.reading k w.time c.args.due c.time_for-act.result) (sym same) c.time_for-act.ensures);
     }
 
-pub returns-clause-others : goal.returns-clause-others
-returns-clause-others g c = λ slot apart.
-    ap (λ (l : List ℕ). slice_get l slot) (timers_are g c)
-    ∙ set_aside c.args.self.now.timers (length c.args.network.now.device + c.args.device) slot c.time_for-act.result apart
-
-pub returns-clause-later : goal.returns-clause-later
-returns-clause-later g c = λ all.
+pub returns-clause-sets : goal.returns-clause-sets
+returns-clause-sets g c =
     let w = c.args.self.now in
-    let K = g.C.Clock in
-    let limit = c.requires.sized.limit in
-    subst (λ (l : List ℕ). All (λ (time : ℕ). w.time ≤ time) l) (sym (timers_are g c))
-    (All-set (λ (time : ℕ). w.time ≤ time) w.timers (length c.args.network.now.device + c.args.device) c.time_for-act.result
-    (not_past K.reading c.index.result.now w.time c.args.due c.time_for-act.result limit c.time_for-act.ensures) all)
+    let slot = length c.args.network.now.device + c.args.device in
+    let act = c.time_for-act.result in
+    let same = timers_are g c in
+    record {
+      same = refl;
+      sized = ap length same ∙ length-set w.timers slot act;
+      others = λ other apart. ap (λ (l : List ℕ). slice_get l other) same ∙ set_aside w.timers slot other act apart;
+      later = λ all. subst (All (λ (time : ℕ). w.time ≤ time)) (sym same)
+          (All-set (λ (time : ℕ). w.time ≤ time) w.timers slot act
+          (not_past g.C.Clock.reading c.index.result.now w.time c.args.due act c.requires.may.sized.limit c.time_for-act.ensures) all);
+    }

@@ -1,4 +1,4 @@
-use Rattle.drift_world.proofs.Words.{◌<◌, ◌∙◌, ◌≡◌, ◌≤◌, DeviceId, Network, ap, arith, length, slice_get_read, subst, sym, ℕ}
+use Rattle.drift_world.proofs.Words.{◌<◌, ◌∙◌, ◌≡◌, ◌≤◌, DeviceId, Network, ap, arith, length, length-set, refl, slice_get_read, subst, sym, ℕ}
 use Rattle.std.proofs.{Common.{All, List, slice_get}, lemmas.List.Elements.All-set}
 use Rattle.tte_lemmas.proofs.Lists.{set_aside, set_same}
 use Rattle.world_law.proofs.giving.Given.{some_same}
@@ -11,13 +11,13 @@ returns-clause-timed g c =
     let w = c.args.self.now in
     let K = g.C.Clock in
     let network = c.args.network.now in
-    let there = c.requires.there in
-    let slots = c.requires.slots in
-    let clocks = c.requires.sized.clocks in
+    let there = c.requires.may.there in
+    let slots = c.requires.may.slots in
+    let clocks = c.requires.may.sized.clocks in
     let held = w.clocks.ok.0 in
     let device : DeviceId = record { 0 = c.args.device } in
-    let s = c.requires.running.s in
-    let old = c.requires.running.is in
+    let s = c.requires.may.running.s in
+    let old = c.requires.may.running.is in
     let of_it : c.args.device < length s.network.device = subst (λ (n : Network). c.args.device < length n.device) old.same there in
     let own = old.clocks device of_it in
     let clock = own.0 in
@@ -36,15 +36,16 @@ returns-clause-timed g c =
           (subst (λ k. IsTimeFor K.reading k w.time c.least_point-point.result c.time_for-ripe.result) (sym same) c.time_for-ripe.ensures);
     }
 
-pub returns-clause-others : goal.returns-clause-others
-returns-clause-others g c = λ slot ne.
-    ap (λ (l : List ℕ). slice_get l slot) c.set.ensures ∙ set_aside c.args.self.now.timers c.args.device slot c.time_for-ripe.result ne
-
-pub returns-clause-later : goal.returns-clause-later
-returns-clause-later g c = λ all.
+pub returns-clause-sets : goal.returns-clause-sets
+returns-clause-sets g c =
     let w = c.args.self.now in
-    let K = g.C.Clock in
-    let limit = c.requires.sized.limit in
-    subst (λ (l : List ℕ). All (λ (time : ℕ). w.time ≤ time) l) (sym c.set.ensures)
-    (All-set (λ (time : ℕ). w.time ≤ time) w.timers c.args.device c.time_for-ripe.result
-    (not_past K.reading c.index.result.now w.time c.least_point-point.result c.time_for-ripe.result limit c.time_for-ripe.ensures) all)
+    let ripe = c.time_for-ripe.result in
+    let same = c.set.ensures in
+    record {
+      same = refl;
+      sized = ap length same ∙ length-set w.timers c.args.device ripe;
+      others = λ other apart. ap (λ (l : List ℕ). slice_get l other) same ∙ set_aside w.timers c.args.device other ripe apart;
+      later = λ all. subst (All (λ (time : ℕ). w.time ≤ time)) (sym same)
+          (All-set (λ (time : ℕ). w.time ≤ time) w.timers c.args.device ripe
+          (not_past g.C.Clock.reading c.index.result.now w.time c.least_point-point.result ripe c.requires.may.sized.limit c.time_for-ripe.ensures) all);
+    }

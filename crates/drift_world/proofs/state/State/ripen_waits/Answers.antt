@@ -1,65 +1,75 @@
-use Rattle.drift_world.proofs.Words.{◌+◌, ◌∙◌, Moment, arith, is_set, keeps, length, length-set, length_permutation, refl, slice_get_read}
-use Rattle.drift_world.proofs.Words.{subst}
+use Rattle.drift_world.proofs.Words.{◌+◌, Moment, arith, is_set, keeps, length, length-set, length_permutation, refl, slice_get_read}
+use Rattle.drift_world.proofs.Words.{◌<◌, ◌≡◌, IsIn, List, Note, Scenario, Some, Stands, moment_of, subst, world_of}
+use Rattle.std.proofs.Common.{slice_get}
 use Rattle.world_state.proofs.Swaps.{was_there}
 use Rattle.world_steps.specs.Ripening.{HasRipened}
+use Rattle.drift_world.proofs.Fits.{sized_so}
 use Rattle.drift_world.proofs.Ripenings.{asked, below_taken, device_in, low, moment_by, moment_is, others_wait, ripened, still_apart}
+use Rattle.drift_world.proofs.state.State.ripen_waits.Given as given
+use Rattle.drift_world.proofs.state.State.ripen_waits.Goals.{After-index_mut, After-take_first-waits}
 use Rattle.drift_world.proofs.state.State.ripen_waits.Goals as goal
 
+-- it waits at a device of the network, whose clock reads its point or more
+inside : (g : given.Over) (c : After-take_first-waits g) → IsIn c.take_first-waits.result c.args.self.now.waiting.items
+inside g c = was_there c.take_first-waits.result c.args.self.now.waiting.items c.take_first-waits.new.self.items c.take_first-waits.ensures.items
+
+within : (g : given.Over) (c : After-take_first-waits g) → c.take_first-waits.result.device.0 < length c.args.network.now.device
+within g c =
+    let at = c.requires.comes c.take_first-waits.result c.take_first-waits.ensures.is in
+    device_in g.C.Clock.reading g.M.Machine.stands c.args.network.now c.args.self.now c.take_first-waits.result (inside g c) (λ clock own.
+    c.requires.reached c.take_first-waits.result clock c.take_first-waits.ensures.is own) at.s at.notes at.is
+
+-- its device's machine, and the moment
+held : (g : given.Over) (c : After-index_mut g) → slice_get c.args.self.now.machines.items c.take_first-waits.result.device.0 ≡ Some c.index_mut.result.now
+held g c =
+    let at = c.requires.comes c.take_first-waits.result c.take_first-waits.ensures.is in
+    let lt = device_in g.C.Clock.reading g.M.Machine.stands c.args.network.now c.args.self.now c.take_first-waits.result
+    (was_there c.take_first-waits.result c.args.self.now.waiting.items c.take_first-waits.new.self.items c.take_first-waits.ensures.items)
+    (λ clock own. c.requires.reached c.take_first-waits.result clock c.take_first-waits.ensures.is own) at.s at.notes at.is in
+    let many = c.requires.sound.sized.machines in
+    slice_get_read c.args.self.now.machines.items (length c.args.self.now.machines.items) c.take_first-waits.result.device.0 c.index_mut.result.now refl
+    (omega (arith, lt, many))
+    c.index_mut.ensures.value
+
+now_is : (g : given.Over) (c : After-index_mut g) (s : Scenario) (notes : List Note)
+    → Stands g.C.Clock.reading (keeps g.M.Machine.stands) s (world_of c.args.network.now c.args.self.now) notes
+    → moment_by c.from_amount.result c.from_amount-2.result ≡ moment_of s c.take_first-waits.result.device c.args.self.now.time
+now_is g c s notes old =
+    let own = c.reading_of-reading.ensures in
+    moment_is g.C.Clock.reading g.M.Machine.stands c.args.network.now c.args.self.now c.take_first-waits.result
+    (was_there c.take_first-waits.result c.args.self.now.waiting.items c.take_first-waits.new.self.items c.take_first-waits.ensures.items) (λ clock own.
+    c.requires.reached c.take_first-waits.result clock c.take_first-waits.ensures.is own) s notes old own.0 own.1 c.reading_of-reading.result own.2
+    c.from_amount.result
+    c.from_amount-2.result c.from_amount.ensures.value c.from_amount-2.ensures.value
+
 pub reading_of-reading-requires-clause-there : goal.reading_of-reading-requires-clause-there
-reading_of-reading-requires-clause-there g c =
-    let w = c.args.self.now in
-    let one = c.take_first-waits.result in
-    let is = c.take_first-waits.ensures.is in
-    let inside = was_there one w.waiting.items c.take_first-waits.new.self.items c.take_first-waits.ensures.items in
-    let at = c.requires.comes one is in
-    device_in g.C.Clock.reading g.M.Machine.stands c.args.network.now w one inside
-    (λ clock own. c.requires.reached one clock is own) at.s at.notes at.is
+reading_of-reading-requires-clause-there g c = within g (goal.at.reading_of-reading-requires-clause-there g c).After-take_first-waits
 
 pub from_amount-requires-2 : goal.from_amount-requires-2
 from_amount-requires-2 g c =
-    let w = c.args.self.now in
-    let one = c.take_first-waits.result in
-    let is = c.take_first-waits.ensures.is in
-    let inside = was_there one w.waiting.items c.take_first-waits.new.self.items c.take_first-waits.ensures.items in
-    let at = c.requires.comes one is in
+    let at = c.requires.comes c.take_first-waits.result c.take_first-waits.ensures.is in
     let own = c.reading_of-reading.ensures in
-    let most = low g.C.Clock.reading g.M.Machine.stands c.args.network.now w one inside
-    (λ clock own. c.requires.reached one clock is own) at.s at.notes at.is own.0 own.1 in
+    let most = low g.C.Clock.reading g.M.Machine.stands c.args.network.now c.args.self.now c.take_first-waits.result
+    (inside g (goal.at.from_amount-requires-2 g c).After-take_first-waits) (λ clock own.
+    c.requires.reached c.take_first-waits.result clock c.take_first-waits.ensures.is own) at.s at.notes at.is own.0 own.1 in
     let same = own.2 in
     omega (arith, most, same)
 
 pub index_mut-requires : goal.index_mut-requires
 index_mut-requires g c =
-    let w = c.args.self.now in
-    let one = c.take_first-waits.result in
-    let is = c.take_first-waits.ensures.is in
-    let inside = was_there one w.waiting.items c.take_first-waits.new.self.items c.take_first-waits.ensures.items in
-    let at = c.requires.comes one is in
-    let lt = device_in g.C.Clock.reading g.M.Machine.stands c.args.network.now w one inside
-    (λ clock own. c.requires.reached one clock is own) at.s at.notes at.is in
+    let lt = within g (goal.at.index_mut-requires g c).After-take_first-waits in
     let many = c.requires.sound.sized.machines in
-    let len = w.machines.ok.0 in
+    let len = c.args.self.now.machines.ok.0 in
     omega (arith, lt, many, len)
 
 pub ripen-ripe-requires : goal.ripen-ripe-requires
 ripen-ripe-requires g c =
-    let w = c.args.self.now in
-    let one = c.take_first-waits.result in
-    let is = c.take_first-waits.ensures.is in
-    let inside = was_there one w.waiting.items c.take_first-waits.new.self.items c.take_first-waits.ensures.items in
-    let at = c.requires.comes one is in
-    let K = g.C.Clock in
-    let stands = g.M.Machine.stands in
-    let network = c.args.network.now in
-    let lt = device_in K.reading stands network w one inside (λ clock own. c.requires.reached one clock is own) at.s at.notes at.is in
-    let many = c.requires.sound.sized.machines in
-    let own = c.reading_of-reading.ensures in
-    asked K.reading stands network w one inside (λ clock own. c.requires.reached one clock is own) at c.index_mut.result.now
-    (moment_by c.from_amount.result c.from_amount-2.result)
-    (slice_get_read w.machines.items (length w.machines.items) one.device.0 c.index_mut.result.now refl (omega (arith, lt, many)) c.index_mut.ensures.value)
-    (moment_is K.reading stands network w one inside (λ clock own.
-    c.requires.reached one clock is own) at.s at.notes at.is own.0 own.1 c.reading_of-reading.result own.2 c.from_amount.result
-    c.from_amount-2.result c.from_amount.ensures.value c.from_amount-2.ensures.value)
+    let at = c.requires.comes c.take_first-waits.result c.take_first-waits.ensures.is in
+    asked g.C.Clock.reading g.M.Machine.stands c.args.network.now c.args.self.now c.take_first-waits.result
+    (inside g (goal.at.ripen-ripe-requires g c).After-take_first-waits) (λ clock own.
+    c.requires.reached c.take_first-waits.result clock c.take_first-waits.ensures.is own) at c.index_mut.result.now
+    (moment_by c.from_amount.result c.from_amount-2.result) (held g (goal.at.ripen-ripe-requires g c).After-index_mut)
+    (now_is g (goal.at.ripen-ripe-requires g c).After-index_mut at.s at.notes at.is)
 
 pub returns-clause-sound : goal.returns-clause-sound
 returns-clause-sound g c =
@@ -67,19 +77,10 @@ returns-clause-sound g c =
     let one = c.take_first-waits.result in
     let z = c.requires.sound.sized in
     let fit = c.requires.sound.fit in
-    let is = c.take_first-waits.ensures.is in
     let t = c.take_first-waits.ensures.items in
     record {
-      sized = record {
-        clocks = z.clocks;
-        machines = length-set w.machines.items one.device.0 c.ripen-ripe.new.self ∙ z.machines;
-        broken = z.broken;
-        ups = z.ups;
-        downs = z.downs;
-        stepped = z.stepped;
-        limit = z.limit;
-        shown = z.shown;
-      };
+      sized = sized_so g.C.Clock.last_step c.args.network.now c.args.self.now _ z refl (length-set w.machines.items one.device.0 c.ripen-ripe.new.self) refl
+          refl refl refl refl;
       under_way = c.requires.sound.under_way;
       fit = record {
         ups = fit.ups;
@@ -92,49 +93,30 @@ returns-clause-sound g c =
     }
 
 pub returns-clause-stands : goal.returns-clause-stands
-returns-clause-stands g c = λ s notes settled old first put.
-    let w = c.args.self.now in
+returns-clause-stands g c = λ settled put s notes old first.
     let one = c.take_first-waits.result in
-    let K = g.C.Clock in
-    let M = g.M.Machine in
-    let network = c.args.network.now in
-    let is = c.take_first-waits.ensures.is in
-    let t = c.take_first-waits.ensures.items in
-    let inside = was_there one w.waiting.items c.take_first-waits.new.self.items t in
-    let came = c.requires.comes one is in
-    let lt = device_in K.reading M.stands network w one inside (λ clock own. c.requires.reached one clock is own) came.s came.notes came.is in
+    let lt = within g (goal.at.returns-clause-stands g c).After-take_first-waits in
     let many = c.requires.sound.sized.machines in
-    let own = c.reading_of-reading.ensures in
-    ripened K.reading M.stands network w one c.take_first-waits.new.self.items c.index_mut.result.now c.ripen-ripe.new.self
-    c.ripen-ripe.result settled t c.requires.sound.fit.apart (λ clock own.
-    c.requires.reached one clock is own) (omega (arith, lt, many))
-    (slice_get_read w.machines.items (length w.machines.items) one.device.0 c.index_mut.result.now refl (omega (arith, lt, many)) c.index_mut.ensures.value)
-    put s notes old first
-    (subst (λ (m : Moment). HasRipened (keeps M.stands) s.network one.device m one.link one.frame one.point c.ripen-ripe.result c.index_mut.result.now
-    c.ripen-ripe.new.self)
-    (moment_is K.reading M.stands network w one inside (λ clock own.
-    c.requires.reached one clock is own) s notes old own.0 own.1 c.reading_of-reading.result own.2 c.from_amount.result
-    c.from_amount-2.result c.from_amount.ensures.value c.from_amount-2.ensures.value)
+    ripened g.C.Clock.reading g.M.Machine.stands c.args.network.now c.args.self.now one c.take_first-waits.new.self.items c.index_mut.result.now
+    c.ripen-ripe.new.self
+    c.ripen-ripe.result settled c.take_first-waits.ensures.items c.requires.sound.fit.apart
+    (λ clock own. c.requires.reached one clock c.take_first-waits.ensures.is own) (omega (arith, lt, many))
+    (held g (goal.at.returns-clause-stands g c).After-index_mut) put s notes old first
+    (subst (λ (m : Moment). HasRipened (keeps g.M.Machine.stands) s.network one.device m one.link one.frame one.point c.ripen-ripe.result c.index_mut.result.now
+    c.ripen-ripe.new.self) (now_is g (goal.at.returns-clause-stands g c).After-index_mut s notes old)
     (λ node. c.ripen-ripe.ensures s.network one.device node))
 
 pub returns-clause-others : goal.returns-clause-others
 returns-clause-others g c =
-    let w = c.args.self.now in
     let one = c.take_first-waits.result in
-    let network = c.args.network.now in
-    let is = c.take_first-waits.ensures.is in
-    let t = c.take_first-waits.ensures.items in
-    let inside = was_there one w.waiting.items c.take_first-waits.new.self.items t in
-    let came = c.requires.comes one is in
-    let lt = device_in g.C.Clock.reading g.M.Machine.stands network w one inside (λ clock own. c.requires.reached one clock is own) came.s came.notes came.is in
+    let lt = within g (goal.at.returns-clause-others g c).After-take_first-waits in
     let many = c.requires.sound.sized.machines in
-    let set = is_set w.machines.items one.device.0 c.ripen-ripe.new.self (omega (arith, lt, many)) in
     record {
       clocks = refl;
       time = refl;
       ended = refl;
-      machines = set.same;
-      waiting = others_wait one w.waiting.items c.take_first-waits.new.self.items t;
+      machines = (is_set c.args.self.now.machines.items one.device.0 c.ripen-ripe.new.self (omega (arith, lt, many))).same;
+      waiting = others_wait one c.args.self.now.waiting.items c.take_first-waits.new.self.items c.take_first-waits.ensures.items;
     }
 
 pub returns-clause-shorter : goal.returns-clause-shorter

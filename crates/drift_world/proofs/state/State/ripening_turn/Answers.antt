@@ -1,343 +1,201 @@
-use Rattle.drift_world.proofs.Words.{◌++◌, ◌∙◌, ◌∷◌, ◌≡◌, ◌≤ℤ◌, ChangesOnly, ComesFirst, DeviceId, IsAt, IsSound, List, Note, Scenario, Settled, Stands}
-use Rattle.drift_world.proofs.Words.{Waits, [], ap, arith, changed_device, happenings, keeps, place_of, pos, refl, ripe_place, settled_at, subst, sym}
-use Rattle.drift_world.proofs.Words.{waiting_as, world_of, ℕ}
-use Rattle.drift_world.proofs.Words.{Kept, Node, slice_get_read}
+use Rattle.drift_world.proofs.Words.{◌++◌, ◌∙◌, ◌∷◌, ◌≡◌, ◌≤ℤ◌, ChangesOnly, DeviceId, IsSound, List, Network, Node, Note, Scenario, Settled, Some, Stands}
+use Rattle.drift_world.proofs.Words.{Waits, [], ap, arith}
+use Rattle.drift_world.proofs.Words.{changed_device, keeps, length, place_of, pos, refl, ripe_place, settled_at, subst, sym, waiting_as, world_of, ℕ}
 use Rattle.std.proofs.Common.{is_some, slice_get}
-use Rattle.drift_world.proofs.Dues.{due_stays}
 use Rattle.world_law.proofs.giving.Given.{some_same}
-use Rattle.world_state.specs.Ripening.{AreSettledSo}
-use Rattle.drift_world.proofs.{Fits.have_octets, Gave.sound_same, Ripenings.{octets_fit, record_fits}, Timings.rekeyed_by}
-use Rattle.drift_world.proofs.OwnPlaces.{judged_alone, judged_far, judged_own, none_before_last}
-use Rattle.drift_world.proofs.Turning.{comes_first, is_at, rekeyed_step, runs_on, same_records, sound_so}
-use Rattle.drift_world.specs.{Turns.{IsStep, given_in}, declared.{source.Source.TheVariants.Ripening, state.State.State}}
+use Rattle.run_law.specs.declared.steps.Ripe.{Ripe}
+use Rattle.world_state.specs.{Frames.first_of, Ripening.{AreSettledSo, ripe_record}}
+use Rattle.drift_world.specs.Ripening.{IsJudged}
+use Rattle.drift_world.proofs.{Dues.due_stays, Fits.{have_octets, sound_same}, Ripenings.{octets_fit, record_fits}, Timings.rekeyed_by}
+use Rattle.drift_world.proofs.OwnPlaces.{judged_alone, judged_far, judged_own, runs_alone, stands_alone}
+use Rattle.drift_world.proofs.Turning.{comes_first, is_at, kept_timers, rekeyed_step, runs_on, step_kept}
+use Rattle.drift_world.specs.{Stepping.StandsPast, Turns.{IsRipe, MayWork, given_in}, declared.{source.Source.TheVariants.Ripening, state.State.State}}
+use Rattle.drift_world.proofs.state.State.ripening_turn.Given as given
+use Rattle.drift_world.proofs.state.State.ripening_turn.Goals.{After-give_alone-turn, After-settle_ripe}
 use Rattle.drift_world.proofs.state.State.ripening_turn.Goals as goal
 
 pub ripen_waits-ripened-requires-clause-there : goal.ripen_waits-ripened-requires-clause-there
-ripen_waits-ripened-requires-clause-there g c = ap is_some c.requires.foremost.there.is
+ripen_waits-ripened-requires-clause-there g c = ap is_some c.requires.may.foremost.there.is
 
 pub ripen_waits-ripened-requires-clause-reached : goal.ripen_waits-ripened-requires-clause-reached
 ripen_waits-ripened-requires-clause-reached g c = λ w clock at own.
-    let it = c.requires.foremost.there in
+    let it = c.requires.may.foremost.there in
     let same : c.args.one ≡ w = some_same _ _ _ it.is at in
     let clocks : it.clock ≡ clock = some_same _ _ _ it.own (ap (λ (v : Waits). slice_get c.args.self.now.clocks.items v.device.0) same ∙ own) in
     subst (λ k. w.point.0 ≤ℤ pos (g.C.Clock.reading k c.args.self.now.time)) clocks
     (subst (λ (v : Waits). v.point.0 ≤ℤ pos (g.C.Clock.reading it.clock c.args.self.now.time)) same it.reached)
 
+-- the frame that is permanent comes first
+first_ripe : {C M : Type 0} (last_step : C → ℕ) (reading : C → ℕ → ℕ) (stands : M → Network → DeviceId → Node → Type 0) (network : Network)
+    (state : State C M) (one w : Waits) → MayWork last_step reading stands network state (Ripening one)
+    → first_of state.waiting one.device.0 ≡ Some w → MayWork last_step reading stands network state (Ripening w)
+first_ripe last_step reading stands network state one w may at =
+    subst (λ (v : Waits). MayWork last_step reading stands network state (Ripening v)) (some_same _ _ _ may.foremost.there.is at) may
+
 pub ripen_waits-ripened-requires-clause-comes : goal.ripen_waits-ripened-requires-clause-comes
 ripen_waits-ripened-requires-clause-comes g c = λ w at.
-    let r = c.requires in
-    subst (λ (v : Waits). IsAt g.C.Clock.reading g.M.Machine.stands c.args.network.now c.args.self.now (ripe_place c.args.self.now.time (waiting_as v)))
-    (some_same _ _ _ r.foremost.there.is at)
-    (is_at g.C.Clock.last_step g.C.Clock.reading g.M.Machine.stands c.args.network.now c.args.self.now (Ripening c.args.one) r.well r.room r.foremost r.first
-    tt)
+    is_at g.C.Clock.last_step g.C.Clock.reading g.M.Machine.stands c.args.network.now c.args.self.now (Ripening w)
+    (first_ripe g.C.Clock.last_step g.C.Clock.reading g.M.Machine.stands c.args.network.now c.args.self.now c.args.one w c.requires.may at) tt
+
+changed : {C M : Type 0} (reading : C → ℕ → ℕ) (network : Network) (old new : State C M) (one w : Waits) → IsRipe reading network old one
+    → first_of old.waiting one.device.0 ≡ Some w → ChangesOnly w.device.0 old new → ChangesOnly one.device.0 old new
+changed reading network old new one w ripe at others =
+    subst (λ (v : Waits). ChangesOnly v.device.0 old new) (sym (some_same _ _ _ ripe.is at)) others
+
+-- ---- its record is given alone
 
 pub give_alone-turn-requires-clause-octets : goal.give_alone-turn-requires-clause-octets
 give_alone-turn-requires-clause-octets g c =
     subst have_octets (sym c.record_of-record.ensures) (record_fits c.ripen_waits-ripened.result.waits c.ripen_waits-ripened.result.ripe)
 
+past : {C M : Type 0} (reading : C → ℕ → ℕ) (stands : M → Network → DeviceId → Node → Type 0) (network : Network) (old new : State C M)
+    (w : Waits) (is : Ripe) (one : Settled) → one ≡ ripe_record w is → IsJudged is → old.settled.items ≡ []
+    → ((settled : List Settled) → AreSettledSo w is old.settled.items settled
+    → StandsPast reading stands network old new (ripe_place old.time (waiting_as w)) settled)
+    → StandsPast reading stands network old new (ripe_place old.time (waiting_as w)) (one ∷ [])
+past reading stands network old new w is one same judged none stands_past =
+    stands_past (one ∷ [])
+    (subst (λ (x : Settled). AreSettledSo w is old.settled.items (x ∷ [])) (sym same) (judged_alone w is old.settled.items judged none))
+
 pub give_alone-turn-requires-clause-running : goal.give_alone-turn-requires-clause-running
 give_alone-turn-requires-clause-running g c =
-    let w = c.args.self.now in
-    let K = g.C.Clock in
-    let S = g.M.Machine.stands in
-    let network = c.args.network.now in
-    let r = c.requires in
-    let it = r.foremost.there in
-    let got = c.ripen_waits-ripened.result in
-    let rip = c.ripen_waits-ripened.ensures in
-    let mid = c.ripen_waits-ripened.new.self in
-    let same : c.args.one ≡ got.waits = some_same _ _ _ it.is rip.is in
-    let place = ripe_place w.time (waiting_as got.waits) in
-    let changes : ChangesOnly c.args.one.device.0 w mid = subst (λ (v : Waits). ChangesOnly v.device.0 w mid) (sym same) rip.others in
-    let comes = λ (s : Scenario) (notes : List Note) (old : Stands K.reading (keeps S) s (world_of network w) notes).
-    subst (λ (v : Waits). ComesFirst K.reading (keeps S) s (world_of network w) notes old (ripe_place w.time (waiting_as v))) same
-    (comes_first K.last_step K.reading S network w (Ripening c.args.one) s notes r.well.sound r.room r.foremost r.first tt old) in
-    let none : w.settled.items ≡ [] = c.has_none_settled-alone.ensures.0 c.if-alone.true in
-    let judged = c.is_judged.ensures.0 c.if-is_judged.true in
-    let one = c.record_of-record.result in
-    let one_is = c.record_of-record.ensures in
-    let heard = λ (s : Scenario) (notes : List Note) (old : Stands K.reading (keeps S) s (world_of network w) notes).
-    rip.stands s notes (one ∷ []) old (comes s notes old)
-    (subst (λ (x : Settled). AreSettledSo got.waits got.ripe w.settled.items (x ∷ [])) (sym one_is)
-    (judged_alone got.waits got.ripe w.settled.items judged none)) in
-    let run = r.well.running in
-    record { s = run.s; notes = run.notes; is = (heard run.s run.notes run.is).0 }
+    runs_alone g.C.Clock.last_step g.C.Clock.reading g.M.Machine.stands c.args.network.now c.args.self.now c.ripen_waits-ripened.new.self
+    (Ripening c.ripen_waits-ripened.result.waits) c.record_of-record.result
+    (first_ripe g.C.Clock.last_step g.C.Clock.reading g.M.Machine.stands c.args.network.now c.args.self.now c.args.one c.ripen_waits-ripened.result.waits
+    c.requires.may c.ripen_waits-ripened.ensures.is) tt
+    (past g.C.Clock.reading g.M.Machine.stands c.args.network.now c.args.self.now c.ripen_waits-ripened.new.self c.ripen_waits-ripened.result.waits
+    c.ripen_waits-ripened.result.ripe c.record_of-record.result
+    c.record_of-record.ensures (c.is_judged.ensures.0 c.if-is_judged.true) (c.has_none_settled-alone.ensures.0 c.if-alone.true)
+    c.ripen_waits-ripened.ensures.stands)
 
-pub rekey_from-requires-clause-running : goal.rekey_from-requires-clause-running
-rekey_from-requires-clause-running g c =
-    let w = c.args.self.now in
-    let K = g.C.Clock in
-    let S = g.M.Machine.stands in
-    let network = c.args.network.now in
-    let r = c.requires in
-    let it = r.foremost.there in
+given_so : (g : given.Over) (c : After-give_alone-turn g) (s : Scenario) (notes : List Note)
+    → Stands g.C.Clock.reading (keeps g.M.Machine.stands) s (world_of c.args.network.now c.args.self.now) notes
+    → Stands g.C.Clock.reading (keeps g.M.Machine.stands) s (world_of c.args.network.now c.give_alone-turn.new.self) (notes
+    ++ given_in c.give_alone-turn.result c.give_alone-turn.new.note)
+given_so g c =
     let got = c.ripen_waits-ripened.result in
-    let rip = c.ripen_waits-ripened.ensures in
-    let mid = c.ripen_waits-ripened.new.self in
-    let same : c.args.one ≡ got.waits = some_same _ _ _ it.is rip.is in
-    let place = ripe_place w.time (waiting_as got.waits) in
-    let changes : ChangesOnly c.args.one.device.0 w mid = subst (λ (v : Waits). ChangesOnly v.device.0 w mid) (sym same) rip.others in
-    let comes = λ (s : Scenario) (notes : List Note) (old : Stands K.reading (keeps S) s (world_of network w) notes).
-    subst (λ (v : Waits). ComesFirst K.reading (keeps S) s (world_of network w) notes old (ripe_place w.time (waiting_as v))) same
-    (comes_first K.last_step K.reading S network w (Ripening c.args.one) s notes r.well.sound r.room r.foremost r.first tt old) in
-    let none : w.settled.items ≡ [] = c.has_none_settled-alone.ensures.0 c.if-alone.true in
-    let judged = c.is_judged.ensures.0 c.if-is_judged.true in
     let one = c.record_of-record.result in
-    let one_is = c.record_of-record.ensures in
-    let heard = λ (s : Scenario) (notes : List Note) (old : Stands K.reading (keeps S) s (world_of network w) notes).
-    rip.stands s notes (one ∷ []) old (comes s notes old)
-    (subst (λ (x : Settled). AreSettledSo got.waits got.ripe w.settled.items (x ∷ [])) (sym one_is)
-    (judged_alone got.waits got.ripe w.settled.items judged none)) in
-    let time : mid.time ≡ w.time = rip.others.time in
-    let at_place : place_of (settled_at network mid.time one) ≡ place =
-    ap (λ (t : ℕ). place_of (settled_at network t one)) time ∙ ap (λ (x : Settled). place_of (settled_at network w.time x)) one_is
-    ∙ judged_own network w.time got.waits got.ripe judged in
-    let gave = c.give_alone-turn.new.self in
-    let give = c.give_alone-turn.ensures in
-    let given = λ (s : Scenario) (notes : List Note) (old : Stands K.reading (keeps S) s (world_of network w) notes).
-    let h = heard s notes old in
-    give.stands s notes h.0
-    (none_before_last s (happenings s.network notes) h.0.cursor place (place_of (settled_at network mid.time one)) h.1 at_place) in
-    let run = r.well.running in
-    record { s = run.s; notes = run.notes ++ given_in c.give_alone-turn.result c.give_alone-turn.new.note; is = given run.s run.notes run.is }
+    stands_alone g.C.Clock.last_step g.C.Clock.reading g.M.Machine.stands c.args.network.now c.args.self.now c.ripen_waits-ripened.new.self (Ripening got.waits)
+    one
+    (first_ripe g.C.Clock.last_step g.C.Clock.reading g.M.Machine.stands c.args.network.now c.args.self.now c.args.one c.ripen_waits-ripened.result.waits
+    c.requires.may c.ripen_waits-ripened.ensures.is) tt
+    (past g.C.Clock.reading g.M.Machine.stands c.args.network.now c.args.self.now c.ripen_waits-ripened.new.self c.ripen_waits-ripened.result.waits
+    c.ripen_waits-ripened.result.ripe c.record_of-record.result
+    c.record_of-record.ensures (c.is_judged.ensures.0 c.if-is_judged.true) (c.has_none_settled-alone.ensures.0 c.if-alone.true)
+    c.ripen_waits-ripened.ensures.stands) c.give_alone-turn.new.self _
+    (ap (λ (t : ℕ). place_of (settled_at c.args.network.now t one)) c.ripen_waits-ripened.ensures.others.time
+    ∙ ap (λ (x : Settled). place_of (settled_at c.args.network.now c.args.self.now.time x)) c.record_of-record.ensures
+    ∙ judged_own c.args.network.now c.args.self.now.time got.waits got.ripe (c.is_judged.ensures.0 c.if-is_judged.true))
+    c.give_alone-turn.ensures.stands
 
-pub returns-then-is_judged-clause-stands : goal.returns-then-is_judged-clause-stands
-returns-then-is_judged-clause-stands g c =
-    let w = c.args.self.now in
-    let K = g.C.Clock in
-    let S = g.M.Machine.stands in
-    let network = c.args.network.now in
-    let r = c.requires in
-    let it = r.foremost.there in
-    let got = c.ripen_waits-ripened.result in
+pub rekey_from-requires : goal.rekey_from-requires
+rekey_from-requires g c =
+    let may = c.requires.may in
+    let run = may.well.running in
     let rip = c.ripen_waits-ripened.ensures in
-    let mid = c.ripen_waits-ripened.new.self in
-    let same : c.args.one ≡ got.waits = some_same _ _ _ it.is rip.is in
-    let place = ripe_place w.time (waiting_as got.waits) in
-    let changes : ChangesOnly c.args.one.device.0 w mid = subst (λ (v : Waits). ChangesOnly v.device.0 w mid) (sym same) rip.others in
-    let comes = λ (s : Scenario) (notes : List Note) (old : Stands K.reading (keeps S) s (world_of network w) notes).
-    subst (λ (v : Waits). ComesFirst K.reading (keeps S) s (world_of network w) notes old (ripe_place w.time (waiting_as v))) same
-    (comes_first K.last_step K.reading S network w (Ripening c.args.one) s notes r.well.sound r.room r.foremost r.first tt old) in
-    let none : w.settled.items ≡ [] = c.has_none_settled-alone.ensures.0 c.if-alone.true in
-    let judged = c.is_judged.ensures.0 c.if-is_judged.true in
-    let one = c.record_of-record.result in
-    let one_is = c.record_of-record.ensures in
-    let heard = λ (s : Scenario) (notes : List Note) (old : Stands K.reading (keeps S) s (world_of network w) notes).
-    rip.stands s notes (one ∷ []) old (comes s notes old)
-    (subst (λ (x : Settled). AreSettledSo got.waits got.ripe w.settled.items (x ∷ [])) (sym one_is)
-    (judged_alone got.waits got.ripe w.settled.items judged none)) in
-    let time : mid.time ≡ w.time = rip.others.time in
-    let at_place : place_of (settled_at network mid.time one) ≡ place =
-    ap (λ (t : ℕ). place_of (settled_at network t one)) time ∙ ap (λ (x : Settled). place_of (settled_at network w.time x)) one_is
-    ∙ judged_own network w.time got.waits got.ripe judged in
-    let gave = c.give_alone-turn.new.self in
     let give = c.give_alone-turn.ensures in
-    let given = λ (s : Scenario) (notes : List Note) (old : Stands K.reading (keeps S) s (world_of network w) notes).
-    let h = heard s notes old in
-    give.stands s notes h.0
-    (none_before_last s (happenings s.network notes) h.0.cursor place (place_of (settled_at network mid.time one)) h.1 at_place) in
-    λ s notes old.
-    subst (λ (t : State _ _). Stands K.reading (keeps S) s (world_of network t) (notes ++ given_in c.give_alone-turn.result c.give_alone-turn.new.note))
-    (sym c.rekey_from.ensures.same)
-    (given s notes old)
-
-pub returns-then-is_judged-clause-well : goal.returns-then-is_judged-clause-well
-returns-then-is_judged-clause-well g c =
-    let w = c.args.self.now in
-    let K = g.C.Clock in
-    let S = g.M.Machine.stands in
-    let network = c.args.network.now in
-    let r = c.requires in
-    let it = r.foremost.there in
-    let got = c.ripen_waits-ripened.result in
-    let rip = c.ripen_waits-ripened.ensures in
-    let mid = c.ripen_waits-ripened.new.self in
-    let same : c.args.one ≡ got.waits = some_same _ _ _ it.is rip.is in
-    let place = ripe_place w.time (waiting_as got.waits) in
-    let changes : ChangesOnly c.args.one.device.0 w mid = subst (λ (v : Waits). ChangesOnly v.device.0 w mid) (sym same) rip.others in
-    let comes = λ (s : Scenario) (notes : List Note) (old : Stands K.reading (keeps S) s (world_of network w) notes).
-    subst (λ (v : Waits). ComesFirst K.reading (keeps S) s (world_of network w) notes old (ripe_place w.time (waiting_as v))) same
-    (comes_first K.last_step K.reading S network w (Ripening c.args.one) s notes r.well.sound r.room r.foremost r.first tt old) in
-    let none : w.settled.items ≡ [] = c.has_none_settled-alone.ensures.0 c.if-alone.true in
-    let judged = c.is_judged.ensures.0 c.if-is_judged.true in
-    let one = c.record_of-record.result in
-    let one_is = c.record_of-record.ensures in
-    let heard = λ (s : Scenario) (notes : List Note) (old : Stands K.reading (keeps S) s (world_of network w) notes).
-    rip.stands s notes (one ∷ []) old (comes s notes old)
-    (subst (λ (x : Settled). AreSettledSo got.waits got.ripe w.settled.items (x ∷ [])) (sym one_is)
-    (judged_alone got.waits got.ripe w.settled.items judged none)) in
-    let time : mid.time ≡ w.time = rip.others.time in
-    let at_place : place_of (settled_at network mid.time one) ≡ place =
-    ap (λ (t : ℕ). place_of (settled_at network t one)) time ∙ ap (λ (x : Settled). place_of (settled_at network w.time x)) one_is
-    ∙ judged_own network w.time got.waits got.ripe judged in
-    let gave = c.give_alone-turn.new.self in
-    let give = c.give_alone-turn.ensures in
-    let given = λ (s : Scenario) (notes : List Note) (old : Stands K.reading (keeps S) s (world_of network w) notes).
-    let h = heard s notes old in
-    give.stands s notes h.0
-    (none_before_last s (happenings s.network notes) h.0.cursor place (place_of (settled_at network mid.time one)) h.1 at_place) in
-    let run = r.well.running in
-    let keyed = c.rekey_from.ensures in
-    let new = c.rekey_from.new.self in
-    let device : DeviceId = record { 0 = c.args.one.device.0 } in
-    let far = ap (λ (x : Settled). changed_device x.body) one_is ∙ judged_far got.waits got.ripe in
-    let few = r.range.few_devices in
+    let timers = ap (λ (t : State _ _). t.timers) give.same ∙ ap (λ (t : State _ _). t.timers) rip.same in
     record {
-      sound = subst (IsSound K.last_step network) (sym keyed.same) (sound_so K.last_step K.reading S network gave new.timers give.sound);
-      running = record {
-        s = run.s;
-        notes = run.notes ++ given_in c.give_alone-turn.result c.give_alone-turn.new.note;
-        is = subst (λ (t : State _ _). Stands K.reading (keeps S) run.s (world_of network t) (run.notes
-            ++ given_in c.give_alone-turn.result c.give_alone-turn.new.note)) (sym keyed.same)
-            (given run.s run.notes run.is);
+      may = record {
+        sized = give.sound.sized;
+        there = may.foremost.there.of;
+        slots = ap length timers ∙ may.well.timed.sized;
+        running = record { s = run.s; notes = _; is = given_so g (goal.at.rekey_from-requires g c).After-give_alone-turn run.s run.notes run.is };
       };
-      timed = rekeyed_by K.reading S network device w gave new r.well.timed it.of
-          (λ i ne. ap (λ (t : State _ _). slice_get t.clocks.items i) give.same ∙ ap (λ (t : State _ _). slice_get t.clocks.items i) rip.same)
-          (λ i ne. ap (λ (t : State _ _). slice_get t.machines.items i) give.same ∙ changes.machines i ne)
-          (λ x ne lt.
-          let aside = give.others.waiting x (λ e. omega (arith, e, far, lt, few)) in
-          let before = changes.waiting x ne in
-          (λ i. before.0 (aside.0 i), λ i. aside.1 (before.1 i)))
-          (ap (λ (t : State _ _). t.time) give.same ∙ time)
-          (ap (λ (t : State _ _). t.timers) give.same ∙ ap (λ (t : State _ _). t.timers) rip.same)
-          keyed.same keyed.timed keyed.sized keyed.others keyed.later;
+      before = due_stays g.C.Clock.reading g.M.Machine.stands c.args.network.now g.C.Clock.last_step c.args.self.now c.give_alone-turn.new.self
+          (record { 0 = c.args.one.device.0 }) c.due_of-before.result may.well
+          may.foremost.there.of
+          c.due_of-before.ensures
+          (ap (λ (t : State _ _). t.clocks) give.same ∙ ap (λ (t : State _ _). t.clocks) rip.same)
+          (ap (λ (t : State _ _). t.time) give.same ∙ ap (λ (t : State _ _). t.time) rip.same)
+          timers;
     }
 
-pub rekey_from-requires-2-clause-running : goal.rekey_from-requires-2-clause-running
-rekey_from-requires-2-clause-running g c =
-    let w = c.args.self.now in
-    let K = g.C.Clock in
-    let S = g.M.Machine.stands in
-    let network = c.args.network.now in
-    let r = c.requires in
-    let it = r.foremost.there in
+pub returns-then-is_judged-clause-kept : goal.returns-then-is_judged-clause-kept
+returns-then-is_judged-clause-kept g c =
+    let gave = c.give_alone-turn.new.self in
+    let device : DeviceId = record { 0 = c.args.one.device.0 } in
+    let may = c.requires.may in
     let got = c.ripen_waits-ripened.result in
-    let rip = c.ripen_waits-ripened.ensures in
-    let mid = c.ripen_waits-ripened.new.self in
-    let same : c.args.one ≡ got.waits = some_same _ _ _ it.is rip.is in
-    let place = ripe_place w.time (waiting_as got.waits) in
-    let changes : ChangesOnly c.args.one.device.0 w mid = subst (λ (v : Waits). ChangesOnly v.device.0 w mid) (sym same) rip.others in
-    let comes = λ (s : Scenario) (notes : List Note) (old : Stands K.reading (keeps S) s (world_of network w) notes).
-    subst (λ (v : Waits). ComesFirst K.reading (keeps S) s (world_of network w) notes old (ripe_place w.time (waiting_as v))) same
-    (comes_first K.last_step K.reading S network w (Ripening c.args.one) s notes r.well.sound r.room r.foremost r.first tt old) in
-    let put = c.settle_ripe.ensures in
-    let after : State _ _ = record mid { settled = c.settle_ripe.new.settled } in
-    let was : mid.settled.items ≡ w.settled.items = ap (λ (t : State _ _). t.settled.items) rip.same in
-    let own = subst (λ (l : List Settled). AreSettledSo got.waits got.ripe l c.settle_ripe.new.settled.items) was put in
-    let still = λ (s : Scenario) (notes : List Note) (old : Stands K.reading (keeps S) s (world_of network w) notes).
-    (rip.stands s notes c.settle_ripe.new.settled.items old (comes s notes old) own).0 in
-    runs_on K.last_step K.reading S network w after r.well.running still
-
-pub returns-clause-well : goal.returns-clause-well
-returns-clause-well g c =
-    let w = c.args.self.now in
-    let K = g.C.Clock in
-    let S = g.M.Machine.stands in
-    let network = c.args.network.now in
-    let r = c.requires in
-    let it = r.foremost.there in
-    let got = c.ripen_waits-ripened.result in
-    let rip = c.ripen_waits-ripened.ensures in
-    let mid = c.ripen_waits-ripened.new.self in
-    let same : c.args.one ≡ got.waits = some_same _ _ _ it.is rip.is in
-    let place = ripe_place w.time (waiting_as got.waits) in
-    let changes : ChangesOnly c.args.one.device.0 w mid = subst (λ (v : Waits). ChangesOnly v.device.0 w mid) (sym same) rip.others in
-    let comes = λ (s : Scenario) (notes : List Note) (old : Stands K.reading (keeps S) s (world_of network w) notes).
-    subst (λ (v : Waits). ComesFirst K.reading (keeps S) s (world_of network w) notes old (ripe_place w.time (waiting_as v))) same
-    (comes_first K.last_step K.reading S network w (Ripening c.args.one) s notes r.well.sound r.room r.foremost r.first tt old) in
-    let put = c.settle_ripe.ensures in
-    let after : State _ _ = record mid { settled = c.settle_ripe.new.settled } in
-    let was : mid.settled.items ≡ w.settled.items = ap (λ (t : State _ _). t.settled.items) rip.same in
-    let own = subst (λ (l : List Settled). AreSettledSo got.waits got.ripe l c.settle_ripe.new.settled.items) was put in
-    let still = λ (s : Scenario) (notes : List Note) (old : Stands K.reading (keeps S) s (world_of network w) notes).
-    (rip.stands s notes c.settle_ripe.new.settled.items old (comes s notes old) own).0 in
-    let keyed = c.rekey_from-2.ensures in
-    let new = c.rekey_from-2.new.self in
-    let o = changes in
-    let step : IsStep K.last_step K.reading S network w new =
-    rekeyed_step K.last_step K.reading S network c.args.one.device.0 w after new r.well
-    (sound_same K.last_step network mid after rip.sound refl refl refl refl refl refl refl refl refl refl
-    (octets_fit got.waits got.ripe mid.settled.items c.settle_ripe.new.settled.items put rip.sound.fit.octets))
-    it.of (record { clocks = o.clocks; time = o.time; ended = o.ended; machines = o.machines; waiting = o.waiting })
-    (ap (λ (t : State _ _). t.timers) rip.same) (ap (λ (t : State _ _). t.given) rip.same) still keyed.same keyed.timed keyed.sized keyed.others keyed.later in
-    step.well
-
-pub returns-clause-stands : goal.returns-clause-stands
-returns-clause-stands g c =
-    let w = c.args.self.now in
-    let K = g.C.Clock in
-    let S = g.M.Machine.stands in
-    let network = c.args.network.now in
-    let r = c.requires in
-    let it = r.foremost.there in
-    let got = c.ripen_waits-ripened.result in
-    let rip = c.ripen_waits-ripened.ensures in
-    let mid = c.ripen_waits-ripened.new.self in
-    let same : c.args.one ≡ got.waits = some_same _ _ _ it.is rip.is in
-    let place = ripe_place w.time (waiting_as got.waits) in
-    let changes : ChangesOnly c.args.one.device.0 w mid = subst (λ (v : Waits). ChangesOnly v.device.0 w mid) (sym same) rip.others in
-    let comes = λ (s : Scenario) (notes : List Note) (old : Stands K.reading (keeps S) s (world_of network w) notes).
-    subst (λ (v : Waits). ComesFirst K.reading (keeps S) s (world_of network w) notes old (ripe_place w.time (waiting_as v))) same
-    (comes_first K.last_step K.reading S network w (Ripening c.args.one) s notes r.well.sound r.room r.foremost r.first tt old) in
-    let put = c.settle_ripe.ensures in
-    let after : State _ _ = record mid { settled = c.settle_ripe.new.settled } in
-    let was : mid.settled.items ≡ w.settled.items = ap (λ (t : State _ _). t.settled.items) rip.same in
-    let own = subst (λ (l : List Settled). AreSettledSo got.waits got.ripe l c.settle_ripe.new.settled.items) was put in
-    let still = λ (s : Scenario) (notes : List Note) (old : Stands K.reading (keeps S) s (world_of network w) notes).
-    (rip.stands s notes c.settle_ripe.new.settled.items old (comes s notes old) own).0 in
-    let keyed = c.rekey_from-2.ensures in
-    let new = c.rekey_from-2.new.self in
-    let o = changes in
-    let step : IsStep K.last_step K.reading S network w new =
-    rekeyed_step K.last_step K.reading S network c.args.one.device.0 w after new r.well
-    (sound_same K.last_step network mid after rip.sound refl refl refl refl refl refl refl refl refl refl
-    (octets_fit got.waits got.ripe mid.settled.items c.settle_ripe.new.settled.items put rip.sound.fit.octets))
-    it.of (record { clocks = o.clocks; time = o.time; ended = o.ended; machines = o.machines; waiting = o.waiting })
-    (ap (λ (t : State _ _). t.timers) rip.same) (ap (λ (t : State _ _). t.given) rip.same) still keyed.same keyed.timed keyed.sized keyed.others keyed.later in
-    λ s notes old. same_records K.reading (keeps S) s (world_of network new) notes [] refl (step.still s notes old)
-
-pub rekey_from-requires-clause-before : goal.rekey_from-requires-clause-before
-rekey_from-requires-clause-before g c =
-    let w = c.args.self.now in
-    let K = g.C.Clock in
-    let S = g.M.Machine.stands in
-    let network = c.args.network.now in
-    let r = c.requires in
-    let there = r.foremost.there.of in
-    let machines = r.well.sound.sized.machines in
-    let kept = w.machines.ok.0 in
     let rip = c.ripen_waits-ripened.ensures in
     let give = c.give_alone-turn.ensures in
-    let new = c.give_alone-turn.new.self in
-    let device : DeviceId = record { 0 = c.args.one.device.0 } in
-    due_stays K.reading S network K.last_step w new device c.due-before.result r.well there
-    (λ (machine : Kept _) (node : Node) at is.
-    let same = some_same _ _ _ at
-    (slice_get_read w.machines.items w.machines.len device.0 c.index.result.now w.machines.ok.0 (omega (arith, machines, there, kept))
-    c.index.ensures) in
-    c.due-before.ensures network device node (subst (λ (m : Kept _). keeps S m network device node) same is))
-    (ap (λ (t : State _ _). t.clocks) give.same ∙ ap (λ (t : State _ _). t.clocks) rip.same)
-    (ap (λ (t : State _ _). t.time) give.same ∙ ap (λ (t : State _ _). t.time) rip.same)
-    (ap (λ (t : State _ _). t.timers) give.same ∙ ap (λ (t : State _ _). t.timers) rip.same)
+    let o = changed g.C.Clock.reading c.args.network.now c.args.self.now c.ripen_waits-ripened.new.self c.args.one c.ripen_waits-ripened.result.waits
+    c.requires.may.foremost.there c.ripen_waits-ripened.ensures.is c.ripen_waits-ripened.ensures.others in
+    let far = ap (λ (x : Settled). changed_device x.body) c.record_of-record.ensures ∙ judged_far got.waits got.ripe in
+    let few = may.range.few_devices in
+    let time = ap (λ (t : State _ _). t.time) give.same ∙ o.time in
+    kept_timers g.C.Clock.last_step g.C.Clock.reading g.M.Machine.stands c.args.network.now c.args.self.now gave c.rekey_from.new.self _ may.well.running
+    give.sound
+    (record {
+      clocks = ap (λ (t : State _ _). t.clocks) give.same ∙ o.clocks;
+      ended = ap (λ (t : State _ _). t.ended) give.same ∙ o.ended;
+      later = omega (arith, time);
+    })
+    (given_so g (goal.at.returns-then-is_judged-clause-kept g c).After-give_alone-turn) c.rekey_from.ensures.sets.same
+    (rekeyed_by g.C.Clock.reading g.M.Machine.stands c.args.network.now device c.args.self.now gave c.rekey_from.new.self may.well.timed may.foremost.there.of
+    (λ i ne. ap (λ (t : State _ _). slice_get t.clocks.items i) give.same ∙ ap (λ (t : State _ _). slice_get t.clocks.items i) rip.same)
+    (λ i ne. ap (λ (t : State _ _). slice_get t.machines.items i) give.same ∙ o.machines i ne)
+    (λ x ne lt.
+    let aside = give.others.waiting x (λ e. omega (arith, e, far, lt, few)) in
+    let before = o.waiting x ne in
+    (λ i. before.0 (aside.0 i), λ i. aside.1 (before.1 i)))
+    time
+    (ap (λ (t : State _ _). t.timers) give.same ∙ ap (λ (t : State _ _). t.timers) rip.same) c.rekey_from.ensures)
 
-pub rekey_from-requires-2-clause-before : goal.rekey_from-requires-2-clause-before
-rekey_from-requires-2-clause-before g c =
-    let w = c.args.self.now in
-    let K = g.C.Clock in
-    let S = g.M.Machine.stands in
-    let network = c.args.network.now in
-    let r = c.requires in
-    let there = r.foremost.there.of in
-    let machines = r.well.sound.sized.machines in
-    let kept = w.machines.ok.0 in
+-- ---- its records are put in among others
+
+still : (g : given.Over) (c : After-settle_ripe g) (s : Scenario) (notes : List Note)
+    → Stands g.C.Clock.reading (keeps g.M.Machine.stands) s (world_of c.args.network.now c.args.self.now) notes
+    → Stands g.C.Clock.reading (keeps g.M.Machine.stands) s
+    (world_of c.args.network.now (record c.ripen_waits-ripened.new.self { settled = c.settle_ripe.new.settled })) notes
+still g c s notes old =
+    let got = c.ripen_waits-ripened.result in
     let rip = c.ripen_waits-ripened.ensures in
+    (rip.stands c.settle_ripe.new.settled.items
+    (subst (λ (l : List Settled). AreSettledSo got.waits got.ripe l c.settle_ripe.new.settled.items) (ap (λ (t : State _ _). t.settled.items) rip.same)
+    c.settle_ripe.ensures)
+    s notes old (comes_first g.C.Clock.last_step g.C.Clock.reading g.M.Machine.stands c.args.network.now c.args.self.now (Ripening got.waits) s notes
+    (first_ripe g.C.Clock.last_step g.C.Clock.reading g.M.Machine.stands c.args.network.now c.args.self.now c.args.one c.ripen_waits-ripened.result.waits
+    c.requires.may c.ripen_waits-ripened.ensures.is) tt old)).0
+
+sound_after : (g : given.Over) (c : After-settle_ripe g)
+    → IsSound g.C.Clock.last_step c.args.network.now (record c.ripen_waits-ripened.new.self { settled = c.settle_ripe.new.settled })
+sound_after g c =
+    let got = c.ripen_waits-ripened.result in
     let mid = c.ripen_waits-ripened.new.self in
-    let new : State _ _ = record mid { settled = c.settle_ripe.new.settled } in
-    let device : DeviceId = record { 0 = c.args.one.device.0 } in
-    due_stays K.reading S network K.last_step w new device c.due-before.result r.well there
-    (λ (machine : Kept _) (node : Node) at is.
-    let same = some_same _ _ _ at
-    (slice_get_read w.machines.items w.machines.len device.0 c.index.result.now w.machines.ok.0 (omega (arith, machines, there, kept))
-    c.index.ensures) in
-    c.due-before.ensures network device node (subst (λ (m : Kept _). keeps S m network device node) same is))
-    (ap (λ (t : State _ _). t.clocks) rip.same) (ap (λ (t : State _ _). t.time) rip.same) (ap (λ (t : State _ _). t.timers) rip.same)
+    let sound = c.ripen_waits-ripened.ensures.sound in
+    sound_same g.C.Clock.last_step c.args.network.now mid _ sound refl refl refl refl refl refl refl refl refl refl
+    (octets_fit got.waits got.ripe mid.settled.items c.settle_ripe.new.settled.items c.settle_ripe.ensures sound.fit.octets)
+
+pub rekey_from-requires-2 : goal.rekey_from-requires-2
+rekey_from-requires-2 g c =
+    let may = c.requires.may in
+    let rip = c.ripen_waits-ripened.ensures in
+    let after : State _ _ = record c.ripen_waits-ripened.new.self { settled = c.settle_ripe.new.settled } in
+    let timers = ap (λ (t : State _ _). t.timers) rip.same in
+    record {
+      may = record {
+        sized = (sound_after g (goal.at.rekey_from-requires-2 g c).After-settle_ripe).sized;
+        there = may.foremost.there.of;
+        slots = ap length timers ∙ may.well.timed.sized;
+        running = runs_on g.C.Clock.last_step g.C.Clock.reading g.M.Machine.stands c.args.network.now c.args.self.now after may.well.running
+            (still g (goal.at.rekey_from-requires-2 g c).After-settle_ripe);
+      };
+      before = due_stays g.C.Clock.reading g.M.Machine.stands c.args.network.now g.C.Clock.last_step c.args.self.now after (record { 0 = c.args.one.device.0 })
+          c.due_of-before.result may.well may.foremost.there.of
+          c.due_of-before.ensures (ap (λ (t : State _ _). t.clocks) rip.same) (ap (λ (t : State _ _). t.time) rip.same) timers;
+    }
+
+pub returns-clause-kept : goal.returns-clause-kept
+returns-clause-kept g c =
+    let may = c.requires.may in
+    let rip = c.ripen_waits-ripened.ensures in
+    let o = changed g.C.Clock.reading c.args.network.now c.args.self.now c.ripen_waits-ripened.new.self c.args.one c.ripen_waits-ripened.result.waits
+    c.requires.may.foremost.there c.ripen_waits-ripened.ensures.is c.ripen_waits-ripened.ensures.others in
+    let after : State _ _ = record c.ripen_waits-ripened.new.self { settled = c.settle_ripe.new.settled } in
+    step_kept g.C.Clock.last_step g.C.Clock.reading g.M.Machine.stands c.args.network.now c.args.self.now c.rekey_from-2.new.self
+    (rekeyed_step g.C.Clock.last_step g.C.Clock.reading g.M.Machine.stands c.args.network.now (record { 0 = c.args.one.device.0 }) c.args.self.now after
+    c.rekey_from-2.new.self may.well (sound_after g (goal.at.returns-clause-kept g c).After-settle_ripe) may.foremost.there.of
+    (record { clocks = o.clocks; time = o.time; ended = o.ended; machines = o.machines; waiting = o.waiting })
+    (ap (λ (t : State _ _). t.timers) rip.same) (ap (λ (t : State _ _). t.given) rip.same) (still g (goal.at.returns-clause-kept g c).After-settle_ripe)
+    c.rekey_from-2.ensures)

@@ -1,64 +1,48 @@
-use Rattle.drift_world.proofs.Words.{◌+◌, ◌≡◌, AreBelow, AreUnderWay, ap, arith, keeps, length, subst, sym}
+use Rattle.drift_world.proofs.Words.{◌+◌, ◌≡◌, ap, arith, keeps, length, refl, subst, sym}
 use Rattle.std.proofs.Common.{All}
 use Rattle.world_state.proofs.Befallings.{settled_with, sound_settled}
-use Rattle.drift_world.proofs.{BefallenLaws.{all_fresh, befallen_behind, numbers_given, octets_settled}, Fits.have_octets, Nearings.settled_length}
+use Rattle.drift_world.proofs.{BefallenLaws.{all_fresh, befallen_behind, numbers_given, octets_settled}, Fits.{have_octets, sized_so, sound_same}}
+use Rattle.drift_world.proofs.{Nearings.settled_length}
+use Rattle.world_state.specs.Befalling.{AreSettledBy}
+use Rattle.drift_world.proofs.state.State.settle_befallen.Given as given
+use Rattle.drift_world.proofs.state.State.settle_befallen.Goals.{After-settle_all}
 use Rattle.drift_world.proofs.state.State.settle_befallen.Goals as goal
 
 pub returns-in_err-make_room-clause-sound : goal.returns-in_err-make_room-clause-sound
 returns-in_err-make_room-clause-sound g c =
-    let w = c.args.self.now in
-    let z = c.requires.sound.sized in
-    let fit = c.requires.sound.fit in
     let made = c.make_room.ensures in
-    record {
-      sized = record {
-        clocks = z.clocks;
-        machines = z.machines;
-        broken = z.broken;
-        ups = z.ups;
-        downs = z.downs;
-        stepped = z.stepped;
-        limit = z.limit;
-        shown = z.shown;
-      };
-      under_way = subst (AreUnderWay c.args.network.now) (sym made.entries) c.requires.sound.under_way;
-      fit = record {
-        ups = fit.ups;
-        downs = fit.downs;
-        octets = subst (All have_octets) (sym made.items) fit.octets;
-        below = subst (AreBelow (w.given + 1)) (sym made.entries) fit.below;
-        waits_below = fit.waits_below;
-        apart = fit.apart;
-      };
-    }
+    let sound = c.requires.sound in
+    sound_same g.C.Clock.last_step c.args.network.now c.args.self.now _ sound refl refl refl refl refl refl refl refl made.entries refl
+    (subst (All have_octets) (sym made.items) sound.fit.octets)
+
+-- the outcomes are those of what befell
+settled_so : (g : given.Over) (c : After-settle_all g)
+    → AreSettledBy c.args.network.now c.args.self.now.broken.items c.args.self.now.ups.items c.args.self.now.time c.args.self.now.befell.items
+    c.args.self.now.settled.items c.settle_all.new.settled.items
+    c.args.self.now.under_way.entries c.settle_all.new.under_way.entries
+settled_so g c =
+    let w = c.args.self.now in
+    let network = c.args.network.now in
+    let after = c.settle_all.new in
+    settled_with network c.as_slice.result.now w.broken.items c.as_slice-2.result.now w.ups.items w.time w.befell.items
+    c.make_room.new.settled.items w.settled.items after.settled.items c.make_room.new.under_way.entries w.under_way.entries after.under_way.entries
+    c.as_slice.ensures.value c.as_slice-2.ensures.value c.make_room.ensures.items c.make_room.ensures.entries c.settle_all.ensures.are
 
 pub returns-clause-sound : goal.returns-clause-sound
 returns-clause-sound g c =
     let w = c.args.self.now in
-    let z = c.requires.sound.sized in
     let fit = c.requires.sound.fit in
     let network = c.args.network.now in
     let at = c.requires.running in
     let stands = keeps g.M.Machine.stands in
     let after = c.settle_all.new in
-    let so = settled_with network c.as_slice.result.now w.broken.items c.as_slice-2.result.now w.ups.items w.time w.befell.items
-    c.make_room.new.settled.items w.settled.items after.settled.items c.make_room.new.under_way.entries w.under_way.entries after.under_way.entries
-    c.as_slice.ensures.value c.as_slice-2.ensures.value c.make_room.ensures.items c.make_room.ensures.entries c.settle_all.ensures.are in
+    let so = settled_so g (goal.at.returns-clause-sound g c).After-settle_all in
     let under = sound_settled network c.requires.range w.broken.items w.ups.items w.time (w.given + 1) w.befell.items w.settled.items after.settled.items
     w.under_way.entries after.under_way.entries so c.requires.sound.under_way fit.below at.is.untold.in_order
     (numbers_given g.C.Clock.reading stands at.s network w at.notes at.is c.requires.pending)
     (all_fresh g.C.Clock.reading stands at.s network w at.notes at.is c.requires.pending c.requires.sound.under_way) in
     record {
-      sized = record {
-        clocks = z.clocks;
-        machines = z.machines;
-        broken = z.broken;
-        ups = z.ups;
-        downs = z.downs;
-        stepped = z.stepped;
-        limit = z.limit;
-        shown = z.shown;
-      };
+      sized = sized_so g.C.Clock.last_step c.args.network.now c.args.self.now _ c.requires.sound.sized refl refl refl refl refl refl refl;
       under_way = under.0;
       fit = record {
         ups = fit.ups;
@@ -76,9 +60,7 @@ returns-clause-stands g c = λ s notes old.
     let w = c.args.self.now in
     let network = c.args.network.now in
     let after = c.settle_all.new in
-    let so = settled_with network c.as_slice.result.now w.broken.items c.as_slice-2.result.now w.ups.items w.time w.befell.items
-    c.make_room.new.settled.items w.settled.items after.settled.items c.make_room.new.under_way.entries w.under_way.entries after.under_way.entries
-    c.as_slice.ensures.value c.as_slice-2.ensures.value c.make_room.ensures.items c.make_room.ensures.entries c.settle_all.ensures.are in
+    let so = settled_so g (goal.at.returns-clause-stands g c).After-settle_all in
     let few = c.if-more-self.false in
     let len = c.len-more.ensures in
     let own = w.befell.ok.0 in
@@ -91,9 +73,7 @@ returns-clause-no_more g c =
     let w = c.args.self.now in
     let network = c.args.network.now in
     let after = c.settle_all.new in
-    let so = settled_with network c.as_slice.result.now w.broken.items c.as_slice-2.result.now w.ups.items w.time w.befell.items
-    c.make_room.new.settled.items w.settled.items after.settled.items c.make_room.new.under_way.entries w.under_way.entries after.under_way.entries
-    c.as_slice.ensures.value c.as_slice-2.ensures.value c.make_room.ensures.items c.make_room.ensures.entries c.settle_all.ensures.are in
+    let so = settled_so g (goal.at.returns-clause-no_more g c).After-settle_all in
     let none : length after.befell.items ≡ 0 = ap length c.settle_all.ensures.none in
     let most = settled_length network w.broken.items w.ups.items w.time w.befell.items w.settled.items after.settled.items w.under_way.entries
     after.under_way.entries so in

@@ -6,7 +6,7 @@ use Rattle.drift_world.proofs.state.State.show.Goals as goal
 pub returns-clause-step : goal.returns-clause-step
 returns-clause-step g c =
     let w = c.args.self.now in
-    let r = c.requires in
+    let r = c.requires.may in
     let step = c.show_clock.ensures in
     plain_step g.C.Clock.last_step g.C.Clock.reading g.M.Machine.stands c.args.network.now w c.show_clock.new.self r.well step.sound step.others
     (ap (λ (t : State _ _). t.timers) step.same) (ap (λ (t : State _ _). t.given) step.same)
@@ -14,11 +14,10 @@ returns-clause-step g c =
     (subst (λ (n : ℕ). ComesFirst g.C.Clock.reading (keeps g.M.Machine.stands) s (world_of c.args.network.now w) notes old
     (clock_place w.time (record { 0 = n })))
     r.foremost.there.next
-    (comes_first g.C.Clock.last_step g.C.Clock.reading g.M.Machine.stands c.args.network.now w (Clock c.args.device) s notes r.well.sound r.room r.foremost
-    r.first tt old))).0)
+    (comes_first g.C.Clock.last_step g.C.Clock.reading g.M.Machine.stands c.args.network.now w (Clock c.args.device) s notes r tt old))).0)
 
 pub returns-clause-less : goal.returns-clause-less
 returns-clause-less g c =
-    let there = c.requires.foremost.there in
+    let there = c.requires.may.foremost.there in
     shown_less c.args.network.now c.args.self.now c.show_clock.new.self c.show_clock.ensures.same
     (subst (λ (n : ℕ). n < length c.args.network.now.device) there.next there.more)

@@ -1,55 +1,54 @@
-use Rattle.drift_world.proofs.Words.{◌∙◌, OutOfMemory, [], arith, keeps, refl, sym, world_of}
-use Rattle.drift_world.proofs.{Nearings.nears_then, Turning.{after_then, roomier, same_records, says_then}}
+use Rattle.drift_world.proofs.Words.{◌∙◌, OutOfMemory, ap, arith, sym}
+use Rattle.drift_world.proofs.{AtOnce.turns_then, Nearings.no_more, Turning.{kept_then, roomier, step_kept}}
+use Rattle.drift_world.specs.{Nearing.distance, Turns.IsStep, declared.state.State.State}
+use Rattle.drift_world.proofs.state.State.turn.Given as given
+use Rattle.drift_world.proofs.state.State.turn.Goals.{After-make_places}
 use Rattle.drift_world.proofs.state.State.turn.Goals as goal
+
+-- room is taken
+made : (g : given.Over) (c : After-make_places g) → IsStep g.C.Clock.last_step g.C.Clock.reading g.M.Machine.stands c.args.network.now c.args.self.now
+    c.make_places.new.self
+made g c = roomier g.C.Clock.last_step g.C.Clock.reading g.M.Machine.stands c.args.network.now c.args.self.now c.make_places.new.self c.requires.may.well
+    c.make_places.ensures.same c.make_places.ensures.items
 
 pub returns-in-Err : goal.returns-in-Err
 returns-in-Err g c =
-    let made = c.make_places.ensures in
-    let step = roomier g.C.Clock.last_step g.C.Clock.reading g.M.Machine.stands c.args.network.now c.args.self.now c.make_places.new.self c.requires.well
-    made.same made.items in
+    let time = (made g (goal.at.returns-in-Err g c).After-make_places).time in
+    let early = c.requires.may.early in
     record {
-      well = step.well;
-      after = step.after;
-      stands = λ s notes is. same_records g.C.Clock.reading (keeps g.M.Machine.stands) s (world_of c.args.network.now c.make_places.new.self) notes [] refl
-          (step.still s notes is);
-      whole = λ s notes is. tt;
-      says = tt;
-      nears = tt;
-      err = let time = step.time in let early = c.requires.«open» in omega (arith, time, early);
+      kept = step_kept g.C.Clock.last_step g.C.Clock.reading g.M.Machine.stands c.args.network.now c.args.self.now c.make_places.new.self
+          (made g (goal.at.returns-in-Err g c).After-make_places);
+      turns = tt;
+      err = omega (arith, time, early);
     }
 
 pub take_turn-requires : goal.take_turn-requires
 take_turn-requires g c =
-    let r = c.requires in
-    let made = c.make_places.ensures in
-    let step = roomier g.C.Clock.last_step g.C.Clock.reading g.M.Machine.stands c.args.network.now c.args.self.now c.make_places.new.self r.well made.same
-    made.items in
+    let may = c.requires.may in
+    let step = made g (goal.at.take_turn-requires g c).After-make_places in
     let time = step.time in
-    let early = r.open in
+    let early = may.early in
     record {
-      range = r.range;
-      well = step.well;
-      limit = r.limit;
-      «open» = omega (arith, time, early);
-      ended = λ is. let most = r.ended (sym step.after.ended ∙ is) in omega (arith, time, most);
+      may = record {
+        range = may.range;
+        well = step.well;
+        limit = may.limit;
+        early = omega (arith, time, early);
+        ended = λ is. let most = may.ended (sym step.after.ended ∙ is) in omega (arith, time, most);
+      };
       room = c.in_default.ensures.room;
     }
 
 pub returns : goal.returns
 returns g c =
-    let made = c.make_places.ensures in
-    let step = roomier g.C.Clock.last_step g.C.Clock.reading g.M.Machine.stands c.args.network.now c.args.self.now c.make_places.new.self c.requires.well
-    made.same made.items in
+    let step = made g (goal.at.returns g c).After-make_places in
+    let mid = c.make_places.new.self in
+    let new = c.take_turn.new.self in
     let turn = c.take_turn.ensures in
     record {
-      well = turn.well;
-      after = after_then c.args.self.now c.make_places.new.self c.take_turn.new.self step.after turn.after;
-      stands = λ s notes is. turn.stands s notes (step.still s notes is);
-      whole = λ s notes is. turn.whole s notes (step.still s notes is);
-      says = says_then OutOfMemory c.args.self.now c.make_places.new.self c.take_turn.new.self c.args.until c.take_turn.new.note c.take_turn.result step.given
-          step.after.ended
-          turn.says;
-      nears = nears_then OutOfMemory c.args.network.now c.args.until c.args.self.now c.make_places.new.self c.take_turn.new.self c.take_turn.result
-          made.same turn.nears;
+      kept = kept_then g.C.Clock.last_step g.C.Clock.reading g.M.Machine.stands c.args.network.now c.args.self.now mid new _ step.after step.still turn.kept;
+      turns = turns_then g.C.Clock.last_step g.C.Clock.reading g.M.Machine.stands c.args.network.now OutOfMemory c.args.self.now mid new c.args.until
+          c.take_turn.new.note c.take_turn.result step.given step.after.ended step.still
+          (no_more _ _ (ap (λ (t : State _ _). distance c.args.network.now c.args.until t) c.make_places.ensures.same)) turn.turns;
       err = turn.err;
     }

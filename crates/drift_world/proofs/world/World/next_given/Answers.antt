@@ -27,8 +27,8 @@ returns-clause-stands g c = λ network events notes under.
     record {
       is = subst (λ (n : Network). Stands K.reading (keeps S) s (world_of n c.next.new.self) (notes ++ given_by (next_of c.next.result c.next.new.note)))
           c.network.ensures.value
-          (c.next.ensures.stands s notes old.is);
-      clocks = λ device there. ap (λ (k : _). slice_get k.items device.0) c.next.ensures.after.clocks ∙ old.clocks device there;
+          (c.next.ensures.kept.stands_then s notes old.is);
+      clocks = λ device there. ap (λ (k : _). slice_get k.items device.0) c.next.ensures.kept.after.clocks ∙ old.clocks device there;
       of_network = old.of_network;
       times = old.times;
       within = old.within;
@@ -82,5 +82,5 @@ returns-clause-reached g c =
     let Steps = λ (n : Network). (s : Scenario) (notes : List Note) → Stands K.reading (keeps S) s (world_of n state) notes
     → Stands K.reading (keeps S) s (world_of n new) (notes ++ given_by (next_of c.next.result c.next.new.note)) in
     subst (λ (w : World _ (Kept _)). ComesUpTo w (world_of own new) c.args.until (next_of c.next.result c.next.new.note)) c.self.view_is
-    (comes_up_to K.reading S own state new _ c.next.result c.next.new.note c.args.until c.amount.result c.amount.ensures.whole c.next.ensures.after
-    c.self.invariant.running (subst Steps c.network.ensures.value c.next.ensures.stands) c.next.ensures.reached c.next.ensures.err)
+    (comes_up_to K.reading S own state new _ c.next.result c.next.new.note c.args.until c.amount.result c.amount.ensures.whole c.next.ensures.kept.after
+    c.self.invariant.running (subst Steps c.network.ensures.value c.next.ensures.kept.stands_then) c.next.ensures.reached c.next.ensures.err)

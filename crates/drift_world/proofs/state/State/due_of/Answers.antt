@@ -1,13 +1,13 @@
 use Rattle.drift_world.proofs.Words.{Kept, arith, keeps, slice_get_read, subst}
 use Rattle.world_law.proofs.giving.Given.{some_same}
-use Rattle.drift_world.proofs.state.State.rekey_act.Goals as goal
+use Rattle.drift_world.proofs.state.State.due_of.Goals as goal
 
-pub rekey_act_at-requires-clause-due : goal.rekey_act_at-requires-clause-due
-rekey_act_at-requires-clause-due g c = λ machine network d node at is.
+pub returns : goal.returns
+returns g c = λ machine network d node at is.
     let w = c.args.self.now in
     let there = c.requires.there in
     let machines = c.requires.sized.machines in
     let kept = w.machines.ok.0 in
     let same = some_same _ _ _ at
     (slice_get_read w.machines.items w.machines.len c.args.device c.index.result.now w.machines.ok.0 (omega (arith, machines, there, kept)) c.index.ensures) in
-    c.due-due.ensures network d node (subst (λ (m : Kept _). keeps g.M.Machine.stands m network d node) same is)
+    c.due.ensures network d node (subst (λ (m : Kept _). keeps g.M.Machine.stands m network d node) same is)
