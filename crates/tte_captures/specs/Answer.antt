@@ -4,11 +4,8 @@ use Rattle.std.specs.Prelude.{zero, ℕ}
 use Rattle.tte_captures.specs.{pcap.Layout.head_length, pcap.Reading.{opened, packet_at}}
 use Rattle.tte_captures.specs.{declared.pcap.capture.CaptureHead.CaptureHead}
 use Rattle.tte_captures.specs.declared.pcap.{capture.Packet.Packet, refusal.CaptureRefusal.CaptureRefusal}
-use Rattle.tte_forms.specs.{Answering.{Answer, line_answer, with_line}, declared.status.Status.Status}
-use Rattle.tte_forms.specs.declared.status.Status.TheVariants.{AuditRefused, CaptureRefused, Done, FrameRefused}
-use Rattle.tte_forms.specs.declared.status.Status.TheVariants.{GranuleRefused, NameRefused, NetworkRefused}
-use Rattle.tte_forms.specs.declared.status.Status.TheVariants.{NumberRefused, OutOfMemory, OutsideHypothesis, ReadFault}
-use Rattle.tte_forms.specs.declared.status.Status.TheVariants.{TooLong, TraceRefused, Usage, VoteRefused, WriteFault}
+use Rattle.tte_forms.specs.{Answering.{Answer, line_answer, with_line}, Statuses.IsFileStatus}
+use Rattle.tte_forms.specs.declared.status.Status.{Status, TheVariants.{CaptureRefused, Done, TooLong}}
 use Rattle.tte_captures.specs.CaptureLine.{head_refusal_line, packet_line, packet_refusal_line}
 
 -- how many octets a capture has at most
@@ -41,19 +38,5 @@ capture_answer file =
 
 -- the statuses of `capture`
 abbrev pub IsCaptureStatus : Status → Type 0
-IsCaptureStatus Done = Unit {0}
-IsCaptureStatus Usage = ⊥
-IsCaptureStatus FrameRefused = ⊥
-IsCaptureStatus NetworkRefused = ⊥
-IsCaptureStatus TraceRefused = ⊥
-IsCaptureStatus OutsideHypothesis = ⊥
-IsCaptureStatus ReadFault = Unit {0}
-IsCaptureStatus WriteFault = Unit {0}
-IsCaptureStatus OutOfMemory = Unit {0}
-IsCaptureStatus TooLong = Unit {0}
-IsCaptureStatus AuditRefused = ⊥
-IsCaptureStatus GranuleRefused = ⊥
 IsCaptureStatus CaptureRefused = Unit {0}
-IsCaptureStatus NameRefused = ⊥
-IsCaptureStatus VoteRefused = ⊥
-IsCaptureStatus NumberRefused = ⊥
+IsCaptureStatus other = IsFileStatus other

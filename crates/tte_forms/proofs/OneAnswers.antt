@@ -1,9 +1,9 @@
 -- Answers that are one of those with a property.
-use Rattle.std.proofs.Common.{◌∙◌, ◌≡◌, ◌⊎◌, List, [], inl, inr, refl, subst, sym, ℕ, ⊎_elim}
+use Rattle.std.proofs.Common.{◌∙◌, ◌≡◌, ◌⊎◌, List, [], inl, inr, refl, subst, sym, ℕ}
 use Rattle.tte_lemmas.proofs.Lists.{no_front, none_stands}
 use Rattle.tte_forms.{proofs.Puts.PutsSome-all, specs.Answering.{Answer, Gives, GivesAnswer, GivesOne, IsDone}}
 use Rattle.tte_forms.specs.{Putting.{PutsLines, PutsNone, PutsSome, Shown, WriteFails}, declared.status.Status.Status}
-use Rattle.tte_forms.specs.declared.status.Status.TheVariants.{OutOfMemory, ReadFault, WriteFault}
+use Rattle.tte_forms.specs.declared.status.Status.TheVariants.{Done, OutOfMemory, ReadFault, WriteFault}
 
 -- the one answer with the property was given
 pub one_given : (Is : Answer → Type 0) (a : Answer) (status : Status) (old new : Shown) → Is a → ((b : Answer) → Is b → b ≡ a) → Gives a status old new
@@ -11,13 +11,6 @@ pub one_given : (Is : Answer → Type 0) (a : Answer) (status : Status) (old new
 one_given Is a status old new is one (inl g) = inl (a, is, g.0, g.1, g.2)
 one_given Is a status old new is one (inr (inl g)) = inr (inl (g.0, λ b h. subst (λ (x : Answer). WriteFails x.lines old new) (sym (one b h)) g.1))
 one_given Is a status old new is one (inr (inr g)) = inr (inr (g.0, λ b h. subst (λ (x : Answer). PutsSome x.lines old new) (sym (one b h)) g.1))
-
--- an answer with a property has a wider one, and no others have that
-pub widened : (Is Wide : Answer → Type 0) (status : Status) (old new : Shown) → ((a : Answer) → Is a → Wide a) → ((a : Answer) → Wide a → Is a)
-    → GivesOne Is status old new → GivesOne Wide status old new
-widened Is Wide status old new into back (inl g) = inl (g.0, into g.0 g.1, g.2, g.3, g.4)
-widened Is Wide status old new into back (inr (inl g)) = inr (inl (g.0, λ b h. g.1 b (back b h)))
-widened Is Wide status old new into back (inr (inr g)) = inr (inr (g.0, λ b h. g.1 b (back b h)))
 
 -- nothing put is a front of any lines
 pub none_put : (lines : List (List ℕ)) (old new : Shown) → PutsLines [] old new → PutsSome lines old new
@@ -34,19 +27,6 @@ puts_nothing a status old new e (inl g) = subst (λ (ls : List (List ℕ)). Puts
 puts_nothing a status old new e (inr (inl (is, inl g))) = absurd (none_stands g.done g.line g.left (sym e ∙ g.order))
 puts_nothing a status old new e (inr (inl (is, inr g))) = some_nothing a.lines old new e g
 puts_nothing a status old new e (inr (inr g)) = some_nothing a.lines old new e g.1
-
--- where a read failed or memory ran out before any put, a front of any answer was given
-pub cut_given : (Is : Answer → Type 0) (a : Answer) (status : Status) (old new : Shown) → a.lines ≡ [] → (a.status ≡ ReadFault) ⊎ (a.status ≡ OutOfMemory)
-    → Gives a status old new → GivesOne Is status old new
-cut_given Is a status old new e cause (inl g) =
-    inr (inr (
-      ⊎_elim (λ (r : a.status ≡ ReadFault). inl (g.0 ∙ r)) (λ (m : a.status ≡ OutOfMemory). inr (g.0 ∙ m)) cause,
-      λ b h. none_put b.lines old new
-          (puts_nothing a status old new e (inl g)),
-    ))
-cut_given Is a status old new e cause (inr (inl g)) =
-    inr (inl (g.0, λ b h. inr (none_put b.lines old new (puts_nothing a status old new e (inr (inl g))))))
-cut_given Is a status old new e cause (inr (inr g)) = inr (inr (g.0, λ b h. none_put b.lines old new (puts_nothing a status old new e (inr (inr g)))))
 
 -- ---- what was put of an answer
 
@@ -84,15 +64,11 @@ unput_answer Is a status old new (inr memory) unput (inl g) = inr (inr (g.0 ∙ 
 unput_answer Is a status old new cause unput (inr (inl g)) = absurd (unput.0 g.0)
 unput_answer Is a status old new cause unput (inr (inr g)) = inr (g.0, unput.1)
 
-same_done : (status other : Status) → status ≡ other → IsDone other → IsDone status
-same_done status other e (inl d) = inl (e ∙ d)
-same_done status other e (inr m) = inr (e ∙ m)
-
 -- where all answers are those of valid input, and no count of faults rose, all is done
 pub answered_done : (Is : Answer → Type 0) (status : Status) (old new : Shown) (SourceRose SinkRose : Type 0) → GivesAnswer Is status old new
-    → ((a : Answer) → Is a → IsDone a.status) → (status ≡ ReadFault → SourceRose) → (status ≡ WriteFault → SinkRose) → (SourceRose → ⊥) → (SinkRose → ⊥)
+    → ((a : Answer) → Is a → a.status ≡ Done) → (status ≡ ReadFault → SourceRose) → (status ≡ WriteFault → SinkRose) → (SourceRose → ⊥) → (SinkRose → ⊥)
     → IsDone status
-answered_done Is status old new SourceRose SinkRose (inl (a, is, inl g)) done read write quiet calm = same_done status a.status g.0 (done a is)
+answered_done Is status old new SourceRose SinkRose (inl (a, is, inl g)) done read write quiet calm = inl (g.0 ∙ done a is)
 answered_done Is status old new SourceRose SinkRose (inl (a, is, inr (inl g))) done read write quiet calm = absurd (calm (write g.0))
 answered_done Is status old new SourceRose SinkRose (inl (a, is, inr (inr (inl r, p)))) done read write quiet calm = absurd (quiet (read r))
 answered_done Is status old new SourceRose SinkRose (inl (a, is, inr (inr (inr m, p)))) done read write quiet calm = inr m

@@ -1,4 +1,3 @@
 -- The answer for a network file.
 pub mod KeyLengths
 pub mod Answers
-pub mod Refused

@@ -1,7 +1,9 @@
 pub mod StatusNumber
+pub mod Statuses
 pub mod Faults
 pub mod Putting
 pub mod Answering
+pub mod Safely
 pub mod Forms
 pub mod frames
 pub mod networks

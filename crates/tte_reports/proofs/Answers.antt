@@ -4,9 +4,9 @@ use Rattle.net_plan.specs.{Ranges.IsInRange, declared.network.Network.Network}
 use Rattle.schedule_checker.specs.Refusals.{RefusalIsOne}
 use Rattle.schedule_tables.specs.{Rules.KeepsRules, declared.rule.Rule.TheVariants.{DevicesDiffer, LinksDiffer, VlNamesDiffer}}
 use Rattle.tte_audit.{proofs.OneAnswer.answer_law, specs.{Answers.IsAudited, Laws.HasOneAnswer, Named.IsNamed, declared.refusal.AuditRefusal.AuditRefusal}}
-use Rattle.tte_forms.proofs.{OneAnswers.{answered_done, unput_answer}, networks.Answers.{accepted_alone, network_answer_one}}
-use Rattle.tte_forms.specs.{Answering.{Answer, Gives, GivesAnswer, IsDone}, Putting.{PutsNone, Shown}, declared.status.Status.Status}
-use Rattle.tte_forms.specs.declared.status.Status.TheVariants.{AuditRefused, Done, ReadFault, WriteFault}
+use Rattle.tte_forms.proofs.{OneAnswers.unput_answer, networks.Answers.{accepted_alone, network_answer_one}}
+use Rattle.tte_forms.specs.{Answering.{Answer, Gives, GivesAnswer}, Putting.{PutsNone, Shown}, declared.status.Status.Status}
+use Rattle.tte_forms.specs.declared.status.Status.TheVariants.{AuditRefused, Done, WriteFault}
 use Rattle.tte_forms.specs.networks.Accepting.{IsNetworkAnswer, MeansAccepted, too_long_answer}
 use Rattle.tte_reports.specs.Answer.{FailsAudit, IsAuditAnswer, PassesAudit, audited_answer, report_limit, report_refused_answer}
 use Rattle.tte_reports.specs.{NoReports.{IfJudged, IsNoReport, no_report_answer}, declared.{no_report.NoReport.NoReport, reading.AuditedReport.AuditedReport}}
@@ -110,17 +110,14 @@ if_judged (Err causes.OutOfMemory) P p = tt
 -- ---- valid input
 
 done_of : (network : Network) (report : List ℕ) (count : ℕ) (a : Answer) → KeepsRules network → length report ≤ report_limit
-    → IsAudited network report count → IsAuditAnswer report network a → IsDone a.status
+    → IsAudited network report count → IsAuditAnswer report network a → a.status ≡ Done
 done_of network report count a rules fits audited (inl h) = absurd (omega (arith, h.0, fits))
-done_of network report count a rules fits audited (inr (inl h)) = inl (ap (λ (x : Answer). x.status) h.2)
+done_of network report count a rules fits audited (inr (inl h)) = ap (λ (x : Answer). x.status) h.2
 done_of network report count a rules fits audited (inr (inr h)) =
     absurd ((judged_once network report rules h.1.range).not_both count h.0 h.1.of_report audited h.1.refused)
 
 -- a report of a run of an accepted network is audited
-pub audit_whole : (octets report : List ℕ) (network : Network) (count : ℕ) (status : Status) (old new : Shown) (SourceRose SinkRose : Type 0)
-    → MeansAccepted octets network → length report ≤ report_limit → IsAudited network report count
-    → GivesAnswer (IsNetworkAnswer (IsAuditAnswer report) octets) status old new → (status ≡ ReadFault → SourceRose) → (status ≡ WriteFault → SinkRose)
-    → (SourceRose → ⊥) → (SinkRose → ⊥) → IsDone status
-audit_whole octets report network count status old new SourceRose SinkRose m fits audited g =
-    answered_done (IsNetworkAnswer (IsAuditAnswer report) octets) status old new SourceRose SinkRose g
-    (λ a is. done_of network report count a m.rules fits audited (accepted_alone (IsAuditAnswer report) octets network m a is))
+pub audit_done : (octets report : List ℕ) (network : Network) (count : ℕ) → MeansAccepted octets network → length report ≤ report_limit
+    → IsAudited network report count → (a : Answer) → IsNetworkAnswer (IsAuditAnswer report) octets a → a.status ≡ Done
+audit_done octets report network count m fits audited a is =
+    done_of network report count a m.rules fits audited (accepted_alone (IsAuditAnswer report) octets network m a is)

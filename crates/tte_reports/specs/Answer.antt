@@ -3,11 +3,8 @@ use Rattle.std.specs.Prelude.{◌<◌, ◌≡◌, ◌≤◌, ◌⊎◌, List, []
 use Rattle.net_plan.specs.{Ranges.IsInRange, declared.network.Network.Network}
 use Rattle.tte_audit.specs.{Answers.{IsAudited, IsRefusedBy}, Laws.IsOfReport}
 use Rattle.tte_audit.specs.declared.refusal.AuditRefusal.{AuditRefusal}
-use Rattle.tte_forms.specs.{Answering.{Answer, line_answer}, declared.status.Status.Status}
-use Rattle.tte_forms.specs.declared.status.Status.TheVariants.{AuditRefused, CaptureRefused, Done, FrameRefused}
-use Rattle.tte_forms.specs.declared.status.Status.TheVariants.{GranuleRefused, NameRefused, NetworkRefused}
-use Rattle.tte_forms.specs.declared.status.Status.TheVariants.{NumberRefused, OutOfMemory, OutsideHypothesis, ReadFault}
-use Rattle.tte_forms.specs.declared.status.Status.TheVariants.{TooLong, TraceRefused, Usage, VoteRefused, WriteFault}
+use Rattle.tte_forms.specs.{Answering.{Answer, line_answer}, Statuses.IsNetworkStatus}
+use Rattle.tte_forms.specs.declared.status.Status.{Status, TheVariants.{AuditRefused, Done, OutOfMemory}}
 use Rattle.tte_forms.specs.networks.Accepting.{too_long_answer}
 use Rattle.tte_reports.specs.AuditLine.{audited_line, lack_line, record_refusal_line}
 use Rattle.tte_audit.specs.declared.refusal.AuditRefusal.TheVariants as refusals
@@ -51,19 +48,5 @@ IsAuditAnswer octets network a =
 
 -- the statuses of `audit`
 abbrev pub IsAuditStatus : Status → Type 0
-IsAuditStatus Done = Unit {0}
-IsAuditStatus Usage = ⊥
-IsAuditStatus FrameRefused = ⊥
-IsAuditStatus NetworkRefused = Unit {0}
-IsAuditStatus TraceRefused = ⊥
-IsAuditStatus OutsideHypothesis = ⊥
-IsAuditStatus ReadFault = Unit {0}
-IsAuditStatus WriteFault = Unit {0}
-IsAuditStatus OutOfMemory = Unit {0}
-IsAuditStatus TooLong = Unit {0}
 IsAuditStatus AuditRefused = Unit {0}
-IsAuditStatus GranuleRefused = ⊥
-IsAuditStatus CaptureRefused = ⊥
-IsAuditStatus NameRefused = ⊥
-IsAuditStatus VoteRefused = ⊥
-IsAuditStatus NumberRefused = ⊥
+IsAuditStatus other = IsNetworkStatus other

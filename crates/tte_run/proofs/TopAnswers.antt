@@ -1,22 +1,22 @@
 -- The answer for the words.
-use Rattle.std.{proofs.Common.{◌∙◌, ◌≡◌, List, None, Some, ap, inl, inr, refl, sym, ℕ}, specs.Prelude.{IfSome, Option}}
-use Rattle.net_plan.specs.{Bounds.BetaIsUnique, declared.{event.Event.Event, network.Network.Network, tables.Way.Way}}
+use Rattle.std.proofs.Common.{◌∙◌, ◌≡◌, List, None, Option, Some, ap, inl, refl, subst, sym, ℕ}
+use Rattle.std.specs.Prelude.{IfSome}
+use Rattle.net_plan.specs.{Bounds.BetaIsUnique, declared.{event.Event.Event, network.Network.Network}}
 use Rattle.schedule_checker.specs.Refusals.{RefusalIsOne}
 use Rattle.tte_captures.{proofs.Laws.shows_packets, specs.Answer.capture_answer}
-use Rattle.tte_forms.proofs.{FormLemmas.form_in_range, Octets.for_more, OneAnswers.answered_done, frames.Answers.shown_whole}
+use Rattle.tte_forms.proofs.{FormLemmas.form_in_range, Octets.for_more, OneAnswers.answered_done, frames.Answers.shows_frames}
 use Rattle.tte_forms.proofs.networks.Answers.{acceptance_one, accepted_alone, network_answer_one}
-use Rattle.tte_forms.specs.{Answering.{Answer, Answers, AnswersOne, ForOctets, Gives, GivesAnswer, IsDone}, Forms.{IsFormInRange, form_of}, Putting.Shown}
+use Rattle.tte_forms.specs.{Answering.{Answer, Answers, ForOctets, Gives, GivesAnswer, IsDone}, Forms.{IsFormInRange, form_of}, Putting.Shown}
 use Rattle.tte_forms.specs.declared.{form.Form.{Form, TheVariants.{Audit, Capture, Check, Run, Show, Stamp, Storm, Vote, Wire}}, status.Status.Status}
 use Rattle.tte_forms.specs.{declared.status.Status.TheVariants.{Done, ReadFault, WriteFault}, frames.Answer.show_answer}
-use Rattle.tte_forms.specs.networks.{Accepting.{IsNetworkAnswer, MeansAccepted}, Checking.{IsAcceptance, IsCheckAnswer}}
-use Rattle.tte_reports.proofs.Answers.{audit_one, audit_whole}
-use Rattle.tte_stamps.proofs.Completes.{stamp_one, stamp_whole}
+use Rattle.tte_forms.specs.networks.{Accepting.IsNetworkAnswer, Checking.IsAcceptance}
+use Rattle.tte_reports.{proofs.Answers.{audit_done, audit_one}, specs.Answer.IsAuditAnswer}
+use Rattle.tte_stamps.{proofs.Completes.{stamp_done, stamp_one}, specs.Answer.IsStampAnswer}
 use Rattle.tte_storms.{proofs.OneAnswer.storm_one, specs.Answer.IsStormAnswer}
-use Rattle.tte_traces.proofs.{Answers.IsAllAdmitted, Completes.{run_one, run_whole}}
-use Rattle.tte_units.specs.declared.units.Units.{Units}
-use Rattle.tte_votes.{proofs.Completes.{vote_one, vote_whole}, specs.Answer.the_names}
+use Rattle.tte_traces.{proofs.Completes.{run_done, run_one}, specs.{Along.IsAllAdmitted, Answer.IsRunAnswer}}
+use Rattle.tte_votes.{proofs.Completes.{vote_done, vote_one}, specs.Answer.{IsVoteAnswer, the_names}}
 use Rattle.tte_captures.specs.wires.Answer.{IsWireAnswer, IsWireNetworkAnswer}
-use Rattle.tte_run.{proofs.WireAnswers.{wire_done, wire_one}, specs.{SecondFiles.{ForSecond, report_file, trace_file}, Top.{AnswerIsOne, IsFormAnswer}}}
+use Rattle.tte_run.{proofs.WireAnswers.{wire_done, wire_one}, specs.{SecondFiles.{ForSecond, second_of}, Top.{AnswerIsOne, AnswersWords, IsFormAnswer}}}
 use Rattle.tte_run.specs.Whole.{Completes, MeansRun}
 
 -- the one answer for the octets of a file is one of those
@@ -26,98 +26,64 @@ as_one answer first status old new g =
     for_more first (λ octets. Gives (answer octets) status old new) (λ octets. GivesAnswer (λ a. a ≡ answer octets) status old new)
     (λ octets h. inl (answer octets, refl, h)) g
 
-pub completes-show : (first second : Option (List ℕ)) (status : Status) (old new : Shown) (SourceRose SinkRose : Type 0)
-    → Answers show_answer first status old new
-    → (status ≡ ReadFault → SourceRose) → (status ≡ WriteFault → SinkRose) → Completes (Some Show) first second SourceRose SinkRose status
-completes-show None second status old new SourceRose SinkRose a read write = tt
-completes-show (Some octets) second status old new SourceRose SinkRose a read write =
-    λ quiet calm ps short s. shown_whole octets ps status old new SourceRose SinkRose short s a read write quiet calm
-
--- an accepted network all of whose answers are done is answered to its end
-answered_whole : (Then : Network → Answer → Type 0) (octets : List ℕ) (n : Network) → ((a : Answer) → Then n a → a.status ≡ Done)
-    → (status : Status) (old new : Shown) (SourceRose SinkRose : Type 0) → MeansAccepted octets n
-    → GivesAnswer (IsNetworkAnswer Then octets) status old new
-    → (status ≡ ReadFault → SourceRose) → (status ≡ WriteFault → SinkRose) → (SourceRose → ⊥) → (SinkRose → ⊥) → IsDone status
-answered_whole Then octets n done status old new SourceRose SinkRose m g =
-    answered_done (IsNetworkAnswer Then octets) status old new SourceRose SinkRose g (λ a is. inl (done a (accepted_alone Then octets n m a is)))
-
-pub completes-check : (first second : Option (List ℕ)) (status : Status) (old new : Shown) (SourceRose SinkRose : Type 0)
-    → AnswersOne IsCheckAnswer first status old new
-    → (status ≡ ReadFault → SourceRose) → (status ≡ WriteFault → SinkRose) → Completes (Some Check) first second SourceRose SinkRose status
-completes-check None second status old new SourceRose SinkRose a read write = tt
-completes-check (Some octets) second status old new SourceRose SinkRose a read write =
-    λ quiet calm n m. answered_whole IsAcceptance octets n (λ b is. ap (λ (x : Answer). x.status) is.answer) status old new SourceRose SinkRose m a read
-    write quiet calm
-
-pub completes-storm : (seed cycles : ℕ) (first second : Option (List ℕ)) (status : Status) (old new : Shown) (SourceRose SinkRose : Type 0)
-    → AnswersOne (IsNetworkAnswer (IsStormAnswer seed cycles)) first status old new
-    → (status ≡ ReadFault → SourceRose) → (status ≡ WriteFault → SinkRose) → Completes (Some (Storm seed cycles)) first second SourceRose SinkRose status
-completes-storm seed cycles None second status old new SourceRose SinkRose a read write = tt
-completes-storm seed cycles (Some octets) second status old new SourceRose SinkRose a read write =
-    λ quiet calm n m. answered_whole (IsStormAnswer seed cycles) octets n (λ b is. ap (λ (x : Answer). x.status) is.answer) status old new SourceRose
-    SinkRose m a read write quiet calm
-
 all_admitted : {octets trace : List ℕ} {n : Network} {events : List Event} → MeansRun octets trace n events → IsAllAdmitted n trace events
 all_admitted m = record { admitted = m.admitted; ended = m.ended; none_left = m.none_left }
 
-pub completes-run : (first second : Option (List ℕ)) (status : Status) (old new : Shown) (SourceRose SinkRose : Type 0)
-    → ForOctets first (λ octets. ForSecond trace_file second (λ trace. GivesAnswer (IsFormAnswer (Some Run) octets trace) status old new))
-    → (status ≡ ReadFault → SourceRose) → (status ≡ WriteFault → SinkRose) → Completes (Some Run) first second SourceRose SinkRose status
-completes-run None second status old new SourceRose SinkRose a read write = tt
-completes-run (Some octets) None status old new SourceRose SinkRose a read write = λ quiet calm. tt
-completes-run (Some octets) (Some trace) status old new SourceRose SinkRose a read write =
-    λ quiet calm n events m. run_whole octets trace n events status old new SourceRose SinkRose m.accepted (all_admitted m) a read write quiet calm
+-- ---- valid input is answered to its end
 
-pub completes-stamp : (granule : Units) (first second : Option (List ℕ)) (status : Status) (old new : Shown) (SourceRose SinkRose : Type 0)
-    → ForOctets first (λ octets. ForSecond trace_file second (λ trace. GivesAnswer (IsFormAnswer (Some (Stamp granule)) octets trace) status old new))
-    → (status ≡ ReadFault → SourceRose) → (status ≡ WriteFault → SinkRose) → Completes (Some (Stamp granule)) first second SourceRose SinkRose status
-completes-stamp granule None second status old new SourceRose SinkRose a read write = tt
-completes-stamp granule (Some octets) None status old new SourceRose SinkRose a read write = λ quiet calm. tt
-completes-stamp granule (Some octets) (Some trace) status old new SourceRose SinkRose a read write =
-    λ quiet calm n events m fine. stamp_whole granule octets trace n events status old new SourceRose SinkRose m.accepted fine (all_admitted m) a
-    read write quiet calm
+module _ (status : Status) (old new : Shown) (SourceRose SinkRose : Type 0) (read : status ≡ ReadFault → SourceRose)
+    (write : status ≡ WriteFault → SinkRose) where
+  -- where all answers are done
+  by : (Is : Answer → Type 0) → GivesAnswer Is status old new → ((a : Answer) → Is a → a.status ≡ Done) → (SourceRose → ⊥) → (SinkRose → ⊥) → IsDone status
+  by Is g done quiet calm = answered_done Is status old new SourceRose SinkRose g done read write quiet calm
 
-pub completes-vote : (one two three : List ℕ) (first second : Option (List ℕ)) (status : Status) (old new : Shown) (SourceRose SinkRose : Type 0)
-    → ForOctets first (λ octets. ForSecond trace_file second (λ trace. GivesAnswer (IsFormAnswer (Some (Vote one two three)) octets trace) status old new))
-    → (status ≡ ReadFault → SourceRose) → (status ≡ WriteFault → SinkRose) → Completes (Some (Vote one two three)) first second SourceRose SinkRose status
-completes-vote one two three None second status old new SourceRose SinkRose a read write = tt
-completes-vote one two three (Some octets) None status old new SourceRose SinkRose a read write = λ quiet calm. tt
-completes-vote one two three (Some octets) (Some trace) status old new SourceRose SinkRose a read write =
-    λ quiet calm n events voters m named may. vote_whole (the_names one two three) octets trace n events voters status old new SourceRose SinkRose
-    m.accepted named may (all_admitted m) a read write quiet calm
+  completes : (form : Form) (first second : Option (List ℕ))
+      → ForOctets first (λ octets. ForSecond (second_of (Some form)) second (λ other. GivesAnswer (IsFormAnswer (Some form) octets other) status old new))
+      → Completes (Some form) first second SourceRose SinkRose status
+  completes form None second g = tt
+  completes Show (Some octets) second g = λ quiet calm ps short s.
+      by (λ a. a ≡ show_answer octets) g (λ a is. ap (λ (x : Answer). x.status) (is ∙ shows_frames.whole octets ps short s)) quiet calm
+  completes Check (Some octets) second g = λ quiet calm n m.
+      by (IsNetworkAnswer IsAcceptance octets) g (λ a is. ap (λ (x : Answer). x.status) (accepted_alone IsAcceptance octets n m a is).answer) quiet calm
+  completes (Storm seed cycles) (Some octets) second g = λ quiet calm n m.
+      by (IsNetworkAnswer (IsStormAnswer seed cycles) octets) g
+      (λ a is. ap (λ (x : Answer). x.status) (accepted_alone (IsStormAnswer seed cycles) octets n m a is).answer) quiet calm
+  completes Capture (Some octets) second g = λ quiet calm head ps m.
+      by (λ a. a ≡ capture_answer octets) g
+      (λ a is. ap (λ (x : Answer). x.status) (is ∙ shows_packets.whole octets head ps m.file m.opened m.packets)) quiet calm
+  completes Run (Some octets) None g = λ quiet calm. tt
+  completes Run (Some octets) (Some trace) g = λ quiet calm n events m.
+      by (IsNetworkAnswer (IsRunAnswer trace) octets) g (run_done octets trace n events m.accepted (all_admitted m)) quiet calm
+  completes (Stamp granule) (Some octets) None g = λ quiet calm. tt
+  completes (Stamp granule) (Some octets) (Some trace) g = λ quiet calm n events m fine.
+      by (IsNetworkAnswer (IsStampAnswer granule trace) octets) g (stamp_done granule octets trace n events m.accepted fine (all_admitted m)) quiet calm
+  completes Audit (Some octets) None g = λ quiet calm. tt
+  completes Audit (Some octets) (Some report) g = λ quiet calm n count m fits audited.
+      by (IsNetworkAnswer (IsAuditAnswer report) octets) g (audit_done octets report n count m fits audited) quiet calm
+  completes (Wire name way) (Some octets) None g = λ quiet calm. tt
+  completes (Wire name way) (Some octets) (Some trace) g = λ quiet calm n events link m named.
+      by (IsWireNetworkAnswer (IsWireAnswer name way trace) octets) g
+      (wire_done name way octets trace n events link m.accepted (all_admitted m) named) quiet calm
+  completes (Vote one two three) (Some octets) None g = λ quiet calm. tt
+  completes (Vote one two three) (Some octets) (Some trace) g = λ quiet calm n events voters m named may.
+      by (IsNetworkAnswer (IsVoteAnswer (the_names one two three) trace) octets) g
+      (vote_done (the_names one two three) octets trace n events voters m.accepted named may (all_admitted m)) quiet calm
 
-pub completes-audit : (first second : Option (List ℕ)) (status : Status) (old new : Shown) (SourceRose SinkRose : Type 0)
-    → ForOctets first (λ octets. ForSecond report_file second (λ report. GivesAnswer (IsFormAnswer (Some Audit) octets report) status old new))
-    → (status ≡ ReadFault → SourceRose) → (status ≡ WriteFault → SinkRose) → Completes (Some Audit) first second SourceRose SinkRose status
-completes-audit None second status old new SourceRose SinkRose a read write = tt
-completes-audit (Some octets) None status old new SourceRose SinkRose a read write = λ quiet calm. tt
-completes-audit (Some octets) (Some report) status old new SourceRose SinkRose a read write =
-    λ quiet calm n count m fits audited. audit_whole octets report n count status old new SourceRose SinkRose m fits audited a read write quiet calm
+-- what is answered for the form is answered for the words
+pub words_as : {f form : Option Form} → f ≡ form → (first second : Option (List ℕ)) (status : Status) (old new : Shown)
+    → AnswersWords f first second status old new → AnswersWords form first second status old new
+words_as {f} {form} same first second status old new a = subst (λ (x : Option Form). AnswersWords x first second status old new) same a
 
--- an answer that is done was given to its end
-given_whole : (a : Answer) (status : Status) (old new : Shown) (SourceRose SinkRose : Type 0) → a.status ≡ Done → Gives a status old new
-    → (status ≡ ReadFault → SourceRose) → (status ≡ WriteFault → SinkRose) → (SourceRose → ⊥) → (SinkRose → ⊥) → IsDone status
-given_whole a status old new SourceRose SinkRose done (inl g) read write quiet calm = inl (g.0 ∙ done)
-given_whole a status old new SourceRose SinkRose done (inr (inl g)) read write quiet calm = absurd (calm (write g.0))
-given_whole a status old new SourceRose SinkRose done (inr (inr (inl r, p))) read write quiet calm = absurd (quiet (read r))
-given_whole a status old new SourceRose SinkRose done (inr (inr (inr o, p))) read write quiet calm = inr o
+-- and so valid input of the words is answered to its end
+pub whole_as : {f : Form} {form : Option Form} → Some f ≡ form → (first second : Option (List ℕ)) (status : Status) (old new : Shown)
+    {SourceRose SinkRose : Type 0}
+    → ForOctets first (λ octets. ForSecond (second_of (Some f)) second (λ other. GivesAnswer (IsFormAnswer (Some f) octets other) status old new))
+    → (status ≡ ReadFault → SourceRose) → (status ≡ WriteFault → SinkRose) → Completes form first second SourceRose SinkRose status
+whole_as {f} {form} same first second status old new {SourceRose} {SinkRose} g read write =
+    subst (λ (x : Option Form). Completes x first second SourceRose SinkRose status) same
+    (completes status old new SourceRose SinkRose read write f first second g)
 
-pub completes-capture : (first second : Option (List ℕ)) (status : Status) (old new : Shown) (SourceRose SinkRose : Type 0)
-    → Answers capture_answer first status old new
-    → (status ≡ ReadFault → SourceRose) → (status ≡ WriteFault → SinkRose) → Completes (Some Capture) first second SourceRose SinkRose status
-completes-capture None second status old new SourceRose SinkRose a read write = tt
-completes-capture (Some octets) second status old new SourceRose SinkRose a read write =
-    λ quiet calm head ps m. given_whole (capture_answer octets) status old new SourceRose SinkRose
-    (ap (λ (x : Answer). x.status) (shows_packets.whole octets head ps m.file m.opened m.packets)) a read write quiet calm
-
-pub completes-wire : (name : List ℕ) (way : Way) (first second : Option (List ℕ)) (status : Status) (old new : Shown) (SourceRose SinkRose : Type 0)
-    → ForOctets first (λ octets. ForSecond trace_file second (λ trace. GivesAnswer (IsFormAnswer (Some (Wire name way)) octets trace) status old new))
-    → (status ≡ ReadFault → SourceRose) → (status ≡ WriteFault → SinkRose) → Completes (Some (Wire name way)) first second SourceRose SinkRose status
-completes-wire name way None second status old new SourceRose SinkRose a read write = tt
-completes-wire name way (Some octets) None status old new SourceRose SinkRose a read write = λ quiet calm. tt
-completes-wire name way (Some octets) (Some trace) status old new SourceRose SinkRose g read write =
-    λ quiet calm n events link m named. answered_done (IsWireNetworkAnswer (IsWireAnswer name way trace) octets) status old new SourceRose SinkRose g
-    (λ a is. inl (wire_done name way octets trace n events link m named a is)) read write quiet calm
+-- ---- the answer is one
 
 form_one : BetaIsUnique → RefusalIsOne → (form : Option Form) → IfSome form IsFormInRange → (octets trace : List ℕ) (a b : Answer)
     → IsFormAnswer form octets trace a → IsFormAnswer form octets trace b → a ≡ b
@@ -129,7 +95,7 @@ form_one unique one (Some (Storm seed cycles)) range octets trace a b p q = stor
 form_one unique one (Some (Stamp granule)) range octets trace a b p q = stamp_one one granule octets trace a b p q
 form_one unique one (Some Audit) range octets trace a b p q = audit_one one octets trace a b p q
 form_one unique one (Some Capture) range octets trace a b p q = p ∙ sym q
-form_one unique one (Some (Wire link way)) range octets trace a b p q = wire_one link way octets trace a b p q
+form_one unique one (Some (Wire link way)) range octets trace a b p q = wire_one one link way octets trace a b p q
 form_one unique one (Some (Vote x y z)) range octets trace a b p q = vote_one one (the_names x y z) octets trace a b p q
 
 pub one_answer : BetaIsUnique → RefusalIsOne → AnswerIsOne

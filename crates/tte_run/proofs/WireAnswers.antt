@@ -1,20 +1,19 @@
 -- The answer of `wire` is one, and valid input is written to its end.
-use Rattle.std.proofs.Common.{◌∙◌, ◌≡◌, ◌≤◌, List, ap, arith, inl, inr, length, refl, subst, sym, ℕ}
+use Rattle.std.proofs.Common.{◌∙◌, ◌≡◌, List, ap, inl, inr, length, subst, sym, ℕ}
 use Rattle.drift_world.specs.Running.{behind_events, last_time}
 use Rattle.net_plan.specs.{Bearers.link_names, declared.{event.Event.Event, ids.LinkId.LinkId, network.Network.Network, tables.Way.Way}}
+use Rattle.schedule_checker.specs.Refusals.{RefusalIsOne}
 use Rattle.tte_captures.specs.pcap.Writing.{head_octets}
 use Rattle.run_law.{proofs.runs.NetworkRuns.run_is_one, specs.declared.note.Note.Note}
 use Rattle.trace_text.proofs.Bearing.{place_found}
-use Rattle.tte_forms.{proofs.networks.Answers.accepted_alone, specs.{Answering.{Answer, with_line}, declared.status.Status.TheVariants.Done}}
-use Rattle.tte_forms.specs.{frames.Answer.file_limit, networks.Accepting.{IsTooLong, MeansAccepted, refused_answer, too_long_answer}}
-use Rattle.tte_forms.specs.networks.NetworkLine.{file_reason, rule_reason}
+use Rattle.tte_forms.{proofs.networks.Answers.{alone_by, one_by}, specs.{Answering.{Answer, with_line}, declared.status.Status.TheVariants.Done}}
+use Rattle.tte_forms.specs.networks.Accepting.{MeansAccepted}
 use Rattle.tte_traces.{proofs.{Admitted.stopped_one, Answers.whole_is, Faults.{end_has_no_fault, fault_one}}, specs.{Along.IsAllAdmitted, Answer.IsTraceAnswer}}
 use Rattle.tte_traces.specs.{FaultLine.fault_status, Lines.{AreAdmitted, behind_lines}, declared.fault.TraceFault.TraceFault}
 use Rattle.tte_units.specs.Amount.{amount}
 use Rattle.tte_captures.proofs.wires_lemmas.Fronts.{all_whole, either_stops}
-use Rattle.tte_captures.specs.wires.Answer.{EndsEither, IsCapture, IsHeaded, IsNamed, IsWireAnswer, IsWireNetworkAnswer, silent_answer, way_lines}
+use Rattle.tte_captures.specs.wires.Answer.{EndsEither, IsCapture, IsHeaded, IsNamed, IsWireAnswer, IsWireNetworkAnswer, silent_lines, way_lines}
 use Rattle.world_drive.specs.exact.Records.{clock_reading}
-use Rattle.tte_run.specs.Whole.{MeansRun}
 
 -- ---- the packets of a way
 
@@ -71,47 +70,11 @@ wire_answer_one name way trace network a b (inr p) (inr q) =
 
 -- ---- a network file
 
-abbrev none : Network → Answer → Type 0
-none network a = ⊥
-
-module _ (Then : Network → Answer → Type 0) (octets : List ℕ) where
-  long_alone : IsTooLong octets → (b : Answer) → IsWireNetworkAnswer Then octets b → b ≡ too_long_answer
-  long_alone long b (inl h) = h.1
-  long_alone long b (inr (inl h)) = absurd (omega (arith, long, h.1.fits))
-  long_alone long b (inr (inr (inl h))) = absurd (omega (arith, long, h.1.fits))
-  long_alone long b (inr (inr (inr h))) = absurd (omega (arith, long, h.1.fits))
-
-  silent_alone : length octets ≤ file_limit → ((n : Network) → MeansAccepted octets n → ⊥) → (b : Answer) → IsWireNetworkAnswer Then octets b
-      → b ≡ silent_answer
-  silent_alone fits other b (inl h) = absurd (omega (arith, h.0, fits))
-  silent_alone fits other b (inr (inl h)) = h.2
-  silent_alone fits other b (inr (inr (inl h))) = h.2
-  silent_alone fits other b (inr (inr (inr h))) = absurd (other h.0 h.1)
-
-  -- an accepted network has the answers for it alone
-  wired_alone : (n : Network) → MeansAccepted octets n → (b : Answer) → IsWireNetworkAnswer Then octets b → Then n b
-  wired_alone n m b (inl h) = absurd (omega (arith, h.0, m.fits))
-  wired_alone n m b (inr (inl h)) = absurd (accepted_alone none octets n m (refused_answer (file_reason h.0)) (inr (inl (h.0, h.1, refl))))
-  wired_alone n m b (inr (inr (inl h))) = absurd (accepted_alone none octets n m (refused_answer (rule_reason h.0)) (inr (inr (inl (h.0, h.1, refl)))))
-  wired_alone n m b (inr (inr (inr h))) = accepted_alone Then octets n m b (inr (inr (inr h)))
-
-  network_one : ((n : Network) (a b : Answer) → Then n a → Then n b → a ≡ b) → (a b : Answer) → IsWireNetworkAnswer Then octets a
-      → IsWireNetworkAnswer Then octets b → a ≡ b
-  network_one one a b (inl p) q = p.1 ∙ sym (long_alone p.0 b q)
-  network_one one a b (inr (inl p)) q =
-      p.2
-      ∙ sym (silent_alone p.1.fits (λ n m. accepted_alone none octets n m (refused_answer (file_reason p.0)) (inr (inl (p.0, p.1, refl)))) b q)
-  network_one one a b (inr (inr (inl p))) q =
-      p.2
-      ∙ sym (silent_alone p.1.fits (λ n m. accepted_alone none octets n m (refused_answer (rule_reason p.0)) (inr (inr (inl (p.0, p.1, refl))))) b q)
-  network_one one a b (inr (inr (inr p))) q = one p.0 a b p.2 (wired_alone p.0 p.1 b q)
-
 -- the octets of a network file and of a trace have one answer
-pub wire_one : (name : List ℕ) (way : Way) (octets trace : List ℕ) (a b : Answer) → IsWireNetworkAnswer (IsWireAnswer name way trace) octets a
+pub wire_one : RefusalIsOne → (name : List ℕ) (way : Way) (octets trace : List ℕ) (a b : Answer) → IsWireNetworkAnswer (IsWireAnswer name way trace) octets a
     → IsWireNetworkAnswer (IsWireAnswer name way trace) octets b → a ≡ b
-wire_one name way octets trace a b p q = network_one (IsWireAnswer name way trace) octets (wire_answer_one name way trace) a b p q
-
--- ---- valid input
+wire_one one name way octets trace a b p q =
+    one_by silent_lines (IsWireAnswer name way trace) octets one (λ network accepted. wire_answer_one name way trace network) a b p q
 
 done_of : (name : List ℕ) (way : Way) (octets trace : List ℕ) (network : Network) (events : List Event) (link : LinkId)
     → IsAllAdmitted network trace events → IsNamed network name link → (a : Answer) → IsWireAnswer name way trace network a → a.status ≡ Done
@@ -121,9 +84,8 @@ done_of name way octets trace network events link all named a (inr h) =
     ap (λ (x : Answer). x.status) h.2.2 ∙ ap (λ (x : Answer). x.status) whole.answer
 
 -- of an accepted network whose whole trace is admitted, and which has the link, all is written
-pub wire_done : (name : List ℕ) (way : Way) (octets trace : List ℕ) (network : Network) (events : List Event) (link : LinkId)
-    → MeansRun octets trace network events → IsNamed network name link → (a : Answer) → IsWireNetworkAnswer (IsWireAnswer name way trace) octets a
+pub wire_done : (name : List ℕ) (way : Way) (octets trace : List ℕ) (network : Network) (events : List Event) (link : LinkId) → MeansAccepted octets network
+    → IsAllAdmitted network trace events → IsNamed network name link → (a : Answer) → IsWireNetworkAnswer (IsWireAnswer name way trace) octets a
     → a.status ≡ Done
-wire_done name way octets trace network events link m named a is =
-    let all : IsAllAdmitted network trace events = record { admitted = m.admitted; ended = m.ended; none_left = m.none_left } in
-    done_of name way octets trace network events link all named a (wired_alone (IsWireAnswer name way trace) octets network m.accepted a is)
+wire_done name way octets trace network events link m all named a is =
+    done_of name way octets trace network events link all named a (alone_by silent_lines (IsWireAnswer name way trace) octets network m a is)

@@ -1,9 +1,9 @@
 -- The answer of `stamp` is one, and valid input is answered to its end.
-use Rattle.tte_stamps.proofs.Words.{◌∙◌, ◌≡◌, ◌≤◌, Answer, Event, IsStampAnswer, List, MeansAccepted, Network, ReadFault, Shown, Status, Units, amount, inl}
-use Rattle.tte_stamps.proofs.Words.{inr, least_granule, stamp_lines, sym, ℕ}
+use Rattle.tte_stamps.proofs.Words.{◌∙◌, ◌≡◌, ◌≤◌, Answer, Event, IsStampAnswer, List, MeansAccepted, Network, Units, amount, inl, inr, least_granule}
+use Rattle.tte_stamps.proofs.Words.{stamp_lines, sym, ℕ}
 use Rattle.schedule_checker.specs.Refusals.{RefusalIsOne}
-use Rattle.tte_forms.{proofs.{OneAnswers.answered_done, networks.Answers.{accepted_alone, network_answer_one}}, specs.Answering.{GivesAnswer, IsDone}}
-use Rattle.tte_forms.specs.{declared.status.Status.TheVariants.WriteFault, networks.Accepting.IsNetworkAnswer}
+use Rattle.tte_forms.proofs.networks.Answers.{accepted_alone, network_answer_one}
+use Rattle.tte_forms.specs.{declared.status.Status.TheVariants.Done, networks.Accepting.IsNetworkAnswer}
 use Rattle.tte_traces.{proofs.{Answers.trace_answer_one, Given.all_done}, specs.Along.IsAllAdmitted}
 use Rattle.tte_stamps.proofs.Ends.{refused_alone, run_alone}
 
@@ -20,11 +20,9 @@ stamp_one one granule octets trace a b p q =
     network_answer_one one (IsStampAnswer granule trace) octets (λ network accepted. stamp_answer_one granule network trace) a b p q
 
 -- an accepted network under a trace that is admitted to its end is stamped to its end, in granules that it allows
-pub stamp_whole : (granule : Units) (octets trace : List ℕ) (network : Network) (events : List Event) (status : Status) (old new : Shown)
-    (SourceRose SinkRose : Type 0) → MeansAccepted octets network → least_granule network ≤ amount granule → IsAllAdmitted network trace events
-    → GivesAnswer (IsNetworkAnswer (IsStampAnswer granule trace) octets) status old new → (status ≡ ReadFault → SourceRose)
-    → (status ≡ WriteFault → SinkRose) → (SourceRose → ⊥) → (SinkRose → ⊥) → IsDone status
-stamp_whole granule octets trace network events status old new SourceRose SinkRose m fine all g =
-    answered_done (IsNetworkAnswer (IsStampAnswer granule trace) octets) status old new SourceRose SinkRose g
-    (λ a is. inl (all_done (stamp_lines (amount granule)) trace network events a all
-    (run_alone granule network trace fine a (accepted_alone (IsStampAnswer granule trace) octets network m a is))))
+pub stamp_done : (granule : Units) (octets trace : List ℕ) (network : Network) (events : List Event) → MeansAccepted octets network
+    → least_granule network ≤ amount granule → IsAllAdmitted network trace events → (a : Answer)
+    → IsNetworkAnswer (IsStampAnswer granule trace) octets a → a.status ≡ Done
+stamp_done granule octets trace network events m fine all a is =
+    all_done (stamp_lines (amount granule)) trace network events a all
+    (run_alone granule network trace fine a (accepted_alone (IsStampAnswer granule trace) octets network m a is))

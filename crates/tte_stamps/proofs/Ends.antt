@@ -3,10 +3,10 @@ use Rattle.tte_stamps.proofs.Words.{◌≡◌, ◌≤ℤ◌, ◌≤◌, Answer, 
 use Rattle.tte_stamps.proofs.Words.{Shown, Status, Units, amount, arith, cases_lt, granule_answer, inl, inr, least_granule, pos, refl, stamp_lines, subst}
 use Rattle.tte_stamps.proofs.Words.{unsigned_abs, ℕ, ℤ}
 use Rattle.std.proofs.{Common.{◌<ℤ◌, ◌<◌, ◌≢◌, ◌⊎◌, negsuc}, lemmas.Int.ints}
-use Rattle.tte_forms.{proofs.{Octets.{for_all, for_more}, OneAnswers.{one_given, widened}}, specs.Answering.{ForOctets, GivesOne}}
-use Rattle.tte_forms.specs.declared.status.Status.TheVariants.{AuditRefused, CaptureRefused, Done, FrameRefused, NameRefused, NetworkRefused, NumberRefused}
-use Rattle.tte_forms.specs.declared.status.Status.TheVariants.{OutOfMemory, OutsideHypothesis, TooLong, TraceRefused, Usage, VoteRefused, WriteFault}
-use Rattle.tte_traces.specs.Answer.{IsRunStatus}
+use Rattle.net_plan.specs.Ranges.{IsInRange}
+use Rattle.tte_forms.{proofs.{Octets.{for_all, for_more}, OneAnswers.answer_widened}, specs.Answering.{ForOctets, GivesAnswer}}
+use Rattle.tte_forms.specs.declared.status.Status.TheVariants.{WriteFault}
+use Rattle.tte_traces.{proofs.{Existing.trace_answers_exist, Sources.trace_given}, specs.Answer.IsRunStatus}
 use Rattle.tte_stamps.specs.Answer.{IsStampStatus, StampEnds, StampStops, StampTakesLittle}
 
 pub refused_alone : (granule : Units) (network : Network) (trace : List ℕ) → amount granule < least_granule network → (b : Answer)
@@ -20,18 +20,19 @@ run_alone granule network trace fine b (inl refused) = absurd (let low = refused
 run_alone granule network trace fine b (inr run) = run.1
 
 module _ (granule : Units) (network : Network) {Unread : Type 0} (second left : Option (List ℕ)) (status : Status) (old new : Shown) where
-  -- one of the answers was given
-  pub general_of : StampEnds granule network Unread second left status old new
-      → ForOctets second (λ trace. GivesOne (IsStampAnswer granule trace network) status old new)
-  general_of (inl refused) =
-      for_all second (λ trace. GivesOne (IsStampAnswer granule trace network) status old new) (λ trace.
-      one_given (IsStampAnswer granule trace network) (granule_answer network) status old new (inl (refused.0, refl))
-      (refused_alone granule network trace refused.0) refused.1)
-  general_of (inr run) =
-      for_more second (λ trace. GivesOne (IsTraceAnswer (stamp_lines (amount granule)) trace network) status old new)
-      (λ trace. GivesOne (IsStampAnswer granule trace network) status old new)
-      (λ trace g. widened (IsTraceAnswer (stamp_lines (amount granule)) trace network) (IsStampAnswer granule trace network) status old new
-      (λ a is. inr (run.0, is)) (run_alone granule network trace run.0) g) run.1.general
+  -- an answer was given
+  pub general_of : IsInRange network → StampEnds granule network Unread second left status old new
+      → ForOctets second (λ trace. GivesAnswer (IsStampAnswer granule trace network) status old new)
+  general_of range (inl refused) =
+      for_all second (λ trace. GivesAnswer (IsStampAnswer granule trace network) status old new)
+      (λ trace. inl (granule_answer network, inl (refused.0, refl), refused.1))
+  general_of range (inr run) =
+      let lines = stamp_lines (amount granule) in
+      for_more second (λ trace. GivesAnswer (IsTraceAnswer lines trace network) status old new)
+      (λ trace. GivesAnswer (IsStampAnswer granule trace network) status old new)
+      (λ trace g. answer_widened (IsTraceAnswer lines trace network) (IsStampAnswer granule trace network) status old new (λ a is. inr (run.0, is)) g)
+      (trace_given (λ trace. IsTraceAnswer lines trace network) second status old new (λ trace. trace_answers_exist lines network trace range)
+      run.1.general)
 
   -- where a read failed, what was put stops behind the lines that were taken
   pub stops_of : (first : Option (List ℕ)) → ForOctets first (λ octets. MeansAccepted octets network) → status ≡ ReadFault
@@ -61,22 +62,8 @@ not_less_of (negsuc n) units some not = absurd (omega (arith, ints, some))
 -- ---- the statuses
 
 pub stamp_status : (status : Status) → IsRunStatus status → IsStampStatus status
-stamp_status Done is = tt
-stamp_status Usage is = is
-stamp_status FrameRefused is = is
-stamp_status NetworkRefused is = tt
-stamp_status TraceRefused is = tt
-stamp_status OutsideHypothesis is = tt
-stamp_status ReadFault is = tt
-stamp_status WriteFault is = tt
-stamp_status OutOfMemory is = tt
-stamp_status TooLong is = tt
-stamp_status AuditRefused is = is
 stamp_status GranuleRefused is = tt
-stamp_status CaptureRefused is = is
-stamp_status NameRefused is = is
-stamp_status VoteRefused is = is
-stamp_status NumberRefused is = is
+stamp_status other is = is
 
 pub no_granule : (status : Status) → IsRunStatus status → status ≢ GranuleRefused
 no_granule status is same = subst IsRunStatus same is

@@ -11,6 +11,5 @@ pub mod Along
 pub mod Telling
 pub mod Safely
 pub mod Ends
-pub mod Existing
 pub mod Completes
 pub mod Words

@@ -2,12 +2,9 @@
 use Rattle.std.specs.Prelude.{◌++◌, ◌<◌, ◌≡◌, ◌≢◌, ◌≤◌, ◌⊎◌, List, Option, codes, decimal, ℕ}
 use Rattle.net_plan.specs.declared.network.Network.{Network}
 use Rattle.tte_stamps.specs.granules.Granules.{least_granule}
-use Rattle.tte_forms.specs.{Answering.{Answer, Gives, line_answer}, Putting.Shown, declared.status.Status.Status}
-use Rattle.tte_forms.specs.declared.status.Status.TheVariants.{AuditRefused, CaptureRefused, Done, FrameRefused}
-use Rattle.tte_forms.specs.declared.status.Status.TheVariants.{GranuleRefused, NameRefused, NetworkRefused}
-use Rattle.tte_forms.specs.declared.status.Status.TheVariants.{NumberRefused, OutOfMemory, OutsideHypothesis, ReadFault}
-use Rattle.tte_forms.specs.declared.status.Status.TheVariants.{TooLong, TraceRefused, Usage, VoteRefused, WriteFault}
-use Rattle.tte_traces.specs.{Answer.IsTraceAnswer, Ending.RunEnds, Streaming.{ReadsLittle, StopsReading}}
+use Rattle.tte_forms.specs.{Answering.{Answer, Gives, line_answer}, Putting.Shown}
+use Rattle.tte_forms.specs.declared.status.Status.{Status, TheVariants.{GranuleRefused, ReadFault}}
+use Rattle.tte_traces.specs.{Answer.{IsRunStatus, IsTraceAnswer}, Ending.RunEnds, Streaming.{ReadsLittle, StopsReading}}
 use Rattle.tte_units.specs.{Amount.amount, declared.units.Units.Units}
 use Rattle.tte_stamps.specs.StampLines.{stamp_lines}
 
@@ -45,19 +42,5 @@ StampTakesLittle granule first second left old new =
 
 -- the statuses of `stamp`
 abbrev pub IsStampStatus : Status → Type 0
-IsStampStatus Done = Unit {0}
-IsStampStatus Usage = ⊥
-IsStampStatus FrameRefused = ⊥
-IsStampStatus NetworkRefused = Unit {0}
-IsStampStatus TraceRefused = Unit {0}
-IsStampStatus OutsideHypothesis = Unit {0}
-IsStampStatus ReadFault = Unit {0}
-IsStampStatus WriteFault = Unit {0}
-IsStampStatus OutOfMemory = Unit {0}
-IsStampStatus TooLong = Unit {0}
-IsStampStatus AuditRefused = ⊥
 IsStampStatus GranuleRefused = Unit {0}
-IsStampStatus CaptureRefused = ⊥
-IsStampStatus NameRefused = ⊥
-IsStampStatus VoteRefused = ⊥
-IsStampStatus NumberRefused = ⊥
+IsStampStatus other = IsRunStatus other

@@ -6,8 +6,8 @@ use Rattle.run_law.specs.declared.note.Note.{Note}
 use Rattle.traffic_law.specs.safety.Headline.{IsWholeRun}
 use Rattle.storm.specs.Events.{IsStorm}
 use Rattle.tte_storms.specs.summary.{Counting.counts_of, Lines.summary_lines}
-use Rattle.tte_forms.specs.{Answering.ForOctets, Putting.{PutsLines, PutsSo, PutsSome, Shown, WriteFails}}
-use Rattle.tte_forms.specs.declared.status.Status.{Status, TheVariants.{Done, OutOfMemory, ReadFault, WriteFault}}
+use Rattle.tte_forms.specs.{Answering.ForOctets, Putting.{PutsLines, PutsSo, Shown}, Safely.PutsSafely}
+use Rattle.tte_forms.specs.declared.status.Status.{Status, TheVariants.Done}
 use Rattle.tte_forms.specs.networks.{Accepting.MeansAccepted, NetworkLine.IsRefusalText}
 use Rattle.tte_units.specs.declared.units.Units.{Units}
 use Rattle.tte_storms.specs.Answer.{IsWidest}
@@ -31,16 +31,14 @@ abbrev pub IsSafeText : ℕ → ℕ → List ℕ → List (List ℕ) → Type 0
 IsSafeText seed cycles octets lines =
     IsSafeSummary seed cycles octets lines ⊎ IsRefusalText lines
 
--- what was put under the status is the summary of a run that goes well; or, where the call was cut short, the first
--- lines of one; under NetworkRefused and TooLong it is none
-abbrev pub PutsSummarySafely : ℕ → ℕ → Status → List ℕ → Shown → Shown → Type 0
-PutsSummarySafely seed cycles Done octets old new = PutsSo (IsSafeSummary seed cycles octets) PutsLines old new
-PutsSummarySafely seed cycles WriteFault octets old new = PutsSo (IsSafeText seed cycles octets) WriteFails old new
-PutsSummarySafely seed cycles ReadFault octets old new = PutsSo (IsSafeText seed cycles octets) PutsSome old new
-PutsSummarySafely seed cycles OutOfMemory octets old new = PutsSo (IsSafeText seed cycles octets) PutsSome old new
-PutsSummarySafely seed cycles other octets old new = Unit {0}
+-- what is done puts the whole summary
+abbrev pub PutsSummary : ℕ → ℕ → List ℕ → Status → Shown → Shown → Type 0
+PutsSummary seed cycles octets Done old new = PutsSo (IsSafeSummary seed cycles octets) PutsLines old new
+PutsSummary seed cycles octets other old new = Unit {0}
 
--- for the octets of a network file, where this tells them, what was put is so
+-- for the octets of a network file, what was put under the status is the summary of a run that goes well; or, where the
+-- call was cut short, the first lines of one; under NetworkRefused and TooLong it is none
 abbrev pub SummarisesSafely : ℕ → ℕ → Option (List ℕ) → Status → Shown → Shown → Type 0
 SummarisesSafely seed cycles first status old new =
-    ForOctets first (λ octets. PutsSummarySafely seed cycles status octets old new)
+    ForOctets first (λ octets. PutsSafely (PutsSummary seed cycles octets) (IsSafeText seed cycles octets) status old
+    new)

@@ -26,7 +26,8 @@ Little lines network first after old new = ForTrace first after (λ octets rest.
 abbrev pub IsStatusOf : TraceFault → Status → Type 0 → Type 0
 IsStatusOf fault status PutFails = (status ≡ fault_status fault) ⊎ ((status ≡ WriteFault) × PutFails)
 
-fault_no_read : {X : Type 0} (fault : TraceFault) (status : Status) → (status ≡ fault_status fault) ⊎ ((status ≡ WriteFault) × X) → status ≡ ReadFault → ⊥
+-- one whose trace has a fault is not that of a failed read
+pub fault_no_read : {X : Type 0} (fault : TraceFault) (status : Status) → (status ≡ fault_status fault) ⊎ ((status ≡ WriteFault) × X) → status ≡ ReadFault → ⊥
 fault_no_read fault status (inr w) is = let e = w.0 in cc
 fault_no_read Missing status (inl e) is = cc
 fault_no_read TooMany status (inl e) is = cc
@@ -34,6 +35,11 @@ fault_no_read After status (inl e) is = cc
 fault_no_read Long status (inl e) is = cc
 fault_no_read (Line refusal) status (inl e) is = cc
 fault_no_read (Outlaw outside) status (inl e) is = cc
+
+-- and one that is done is not
+pub done_no_read : {X : Type 0} (status : Status) → (status ≡ Done) ⊎ ((status ≡ WriteFault) × X) → status ≡ ReadFault → ⊥
+done_no_read status (inl e) is = cc
+done_no_read status (inr w) is = let e = w.0 in cc
 
 -- ---- what is told of a sink is what it shows
 
@@ -106,6 +112,12 @@ memory_cause status old now new (inr w) same = record {
   read = λ is. absurd (let e = w.0 in cc);
   write = λ is. subst (λ (n : ℕ). Rose n new) same w.1;
 }
+
+-- what ended so for a network ended so for the same one
+pub ends_for : (Is : List ℕ → Network → Answer → Type 0) (lines : LinesOf) {n m : Network} {first left : Option (List ℕ)} {status : Status} {old new : Shown}
+    → n ≡ m → RunEnds (λ octets. Is octets n) lines n first left status old new → RunEnds (λ octets. Is octets m) lines m first left status old new
+ends_for Is lines {n} {m} {first} {left} {status} {old} {new} same ends =
+    subst (λ (x : Network). RunEnds (λ octets. Is octets x) lines x first left status old new) same ends
 
 -- ---- the lines that an observer puts of a run
 

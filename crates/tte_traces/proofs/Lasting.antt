@@ -1,40 +1,21 @@
 -- The run up to the next event lasts under this event and those behind it.
-use Rattle.tte_traces.proofs.Words.{if◌then◌else◌, ◌++◌, ◌<◌, ◌==◌, ◌∙◌, ◌∷◌, ◌≡◌, ◌≤◌, AreAdmitted, AreRecordsBefore, Bool, End, Event, HaveEnded, List}
-use Rattle.tte_traces.proofs.Words.{Network, None, Note, Option, Some, What, [], amount, ap, append-nil, arith, clock_reading, false, refl, suc, sym, true, ℕ}
+use Rattle.tte_traces.proofs.Words.{if◌then◌else◌, ◌++◌, ◌<◌, ◌∙◌, ◌∷◌, ◌≡◌, ◌≤◌, AreAdmitted, AreRecordsBefore, Bool, Event, HaveEnded, List}
+use Rattle.tte_traces.proofs.Words.{Network, None, Note, Option, Some, [], amount, ap, append-nil, arith, clock_reading, refl, suc, sym, ℕ}
 use Rattle.std.{proofs.{Common.{filter, slice_get}, lemmas.{Bool.lt-leb, List.Elements.{filter-append, filter_map-append}}}, specs.List.cons_option}
 use Rattle.std.specs.Prelude.{nat_le}
 use Rattle.drift_clock.specs.{RateSteps.{RateStep, up_to}, Readings.value_after, Segment.{fresh_segment, segment_reading, stepped_segment}}
-use Rattle.net_plan.specs.declared.{event.What.TheVariants.{Break, Cut, Heal, Hold, On, Rate, Send, Wire}, ids.DeviceId.DeviceId}
+use Rattle.net_plan.specs.declared.{ids.DeviceId.DeviceId}
 use Rattle.run_law.specs.{records.Order.IsBefore, scenario.Rates.{rate_steps, step_by}}
 use Rattle.world_drive.proofs.Order.{have_ended}
 use Rattle.world_law.{proofs.runs.Stays.run_stays_under_more, specs.source.{Agreeing.Agree, Applying.place_of_event}}
 use Rattle.tte_traces.proofs.{Admitted.admitted_in_order, EventOrder.not_earlier}
+use Rattle.run_law.proofs.scenario.Rated.{Holds, step_at}
 
 -- ---- later events change nothing before them
 
 -- none of them is earlier than the time
 abbrev pub AreFrom : ℕ → List Event → Type 0
 AreFrom t events = (k : ℕ) (e : Event) → slice_get events k ≡ Some e → t ≤ amount e.time
-
--- what holds of the value, where there is one
-abbrev Holds : {X : Type 0} → Option X → (X → Type 0) → Type 0
-Holds None P = Unit {0}
-Holds (Some x) P = P x
-
-step_at : (device : DeviceId) (time : ℕ) (what : What) → Holds (step_by device time what) (λ s. s.at ≡ time)
-step_at device time (Rate other rate) =
-    elim (device.0 == other.0) as (λ b. Holds (if b then Some (let s : RateStep = record { at = time; rate = rate.0 } in s) else None) (λ s. s.at ≡ time)) [
-      | true ↦ refl
-      | false ↦ tt
-    ]
-step_at device time (Wire link way delay) = tt
-step_at device time (Hold link way delay) = tt
-step_at device time (Cut link way) = tt
-step_at device time (Heal link way) = tt
-step_at device time (On other) = tt
-step_at device time (Break other) = tt
-step_at device time (Send link octets) = tt
-step_at device time End = tt
 
 dropped : (x : ℕ) (o : Option RateStep) (steps : List RateStep) → Holds o (λ s. x < s.at) → up_to x steps ≡ [] → up_to x (cons_option o steps) ≡ []
 dropped x None steps late none = none

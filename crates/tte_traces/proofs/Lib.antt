@@ -18,8 +18,5 @@ pub mod Taken
 pub mod Streams
 pub mod Ends
 pub mod EventRanges
-pub mod Texts
-pub mod Cuts
 pub mod Safely
-pub mod NoRun
 pub mod Words

@@ -1,111 +1,181 @@
--- What `run` writes for an accepted network is the report of a run that is safe.
-use Rattle.tte_traces.proofs.Words.{◌∙◌, ◌≡◌, Answer, Done, ForOctets, GivesOne, IsInRange, IsRunAnswer, IsTraceAnswer, LinesOf, List, MeansAccepted, Network}
-use Rattle.tte_traces.proofs.Words.{Option, PutsLines, Shown, Status, TraceFault, TraceRefused, ap, fault_status, for_more, inl, inr, refl, report_lines, sym}
-use Rattle.tte_traces.proofs.Words.{ℕ}
-use Rattle.tte_forms.specs.Putting.{PutsSo}
-use Rattle.tte_forms.specs.declared.status.Status.TheVariants.{AuditRefused, CaptureRefused, FrameRefused, GranuleRefused, NameRefused, NetworkRefused}
-use Rattle.tte_forms.specs.declared.status.Status.TheVariants.{NumberRefused, OutOfMemory, OutsideHypothesis, ReadFault, TooLong, Usage, VoteRefused}
-use Rattle.tte_forms.specs.declared.status.Status.TheVariants.{WriteFault}
-use Rattle.tte_traces.proofs.{Cuts.{puts_failing, puts_some}, Texts.{to_fault, whole}}
-use Rattle.tte_traces.specs.Safely.{IsReportToFault, IsWholeReport, PutsSafely, WritesSafely}
-use Rattle.tte_traces.specs.declared.fault.TraceFault.TheVariants as faults
+-- What a command over a trace writes is of a run that is safe.
+use Rattle.tte_traces.proofs.Words.{◌++◌, ◌+◌, ◌∷◌, ◌≡◌, ◌⊎◌, Answer, AreAdmitted, AreAllRecords, AreRecordsSoFar, Done, Event, ForOctets, Gives, IsFault}
+use Rattle.tte_traces.proofs.Words.{IsInRange}
+use Rattle.tte_traces.proofs.Words.{IsOfNetwork, IsRunAnswer, IsTraceAnswer, LinesOf, List, Long, MeansAccepted, Missing, Network, Note, Option, Outlaw}
+use Rattle.tte_traces.proofs.Words.{PutsLines}
+use Rattle.tte_traces.proofs.Words.{After, Line, Shown, Status, TooMany, TraceFault, [], amount, ap, behind_events, behind_lines, clock_reading, fault_lines}
+use Rattle.tte_traces.proofs.Words.{fault_status, first_line, for_more, inl, inr, last_time, length, refl, report_lines, subst, sym, ℕ}
+use Rattle.std.{proofs.lemmas.List.Elements.{All-cons, All-nil}, specs.List.All}
+use Rattle.drift_clock.{proofs.ExactSegments.exact_laws, specs.Segment.{fresh_segment, segment_reading, stepped_segment}}
+use Rattle.run_law.{proofs.runs.{NetworkRuns.earlier_run_is_front, Places.before_next_time}, specs.law.FirstLaws.IsEventInRange}
+use Rattle.traffic_law.{proofs.safety_lemmas.{Clocked.{ended, own, so_far}, Times.last_in_time}, specs.safety.Under.IsUnder}
+use Rattle.trace_text.proofs.ReadOfNetwork.{read_of_network}
+use Rattle.tte_forms.proofs.{Octets.for_all, OneAnswers.answer_widened, Safely.{IsSafeAnswer, none_safe, puts_safely}}
+use Rattle.tte_forms.specs.{Answering.GivesAnswer, Putting.PutsSo, declared.accepting.NoNetwork.NoNetwork, networks.NoNetworks.answer_by}
+use Rattle.world_drive.proofs.exact_lemmas.Clocks.{exact_begins}
+use Rattle.tte_traces.{proofs.{EventRanges.event_in_range, Existing.records_before}, specs.Safely.{BeginsRunTo, IsGoodRun, IsGoodRunBefore, IsReportToFault}}
+use Rattle.tte_traces.specs.Safely.{IsWholeReport, OfRunToFault, OfWholeRun, PutsOfRun, RunsSafely}
+use Rattle.tte_forms.specs.declared.accepting.NoNetwork.TheVariants as causes
 
--- ---- by the status
+-- ---- what the laws on runs ask
 
--- no fault is told as done
-pub not_done : (fault : TraceFault) → fault_status fault ≡ Done → ⊥
-not_done faults.Missing e = cc
-not_done faults.TooMany e = cc
-not_done faults.After e = cc
-not_done faults.Long e = cc
-not_done (faults.Line refusal) e = cc
-not_done (faults.Event outside) e = cc
+all_parts : {X : Type 0} (P : X → Type 0) (xs : List X) → ((before behind : List X) (x : X) → xs ≡ before ++ x ∷ behind → P x) → All P xs
+all_parts P [] h = All-nil P
+all_parts P (x ∷ xs) h = All-cons P x xs (h [] xs x refl) (all_parts P xs (λ before behind y e. h (x ∷ before) behind y (ap (λ t. x ∷ t) e)))
 
--- a status that only an answer under a trace has
-pub record IsOfTrace (status : Status) : Type 0 where
-  pub not_read : status ≡ ReadFault → ⊥
-  pub not_write : status ≡ WriteFault → ⊥
-  pub not_memory : status ≡ OutOfMemory → ⊥
+-- admitted events of an accepted network are such as they ask for
+pub admitted_under : (octets trace : List ℕ) (network : Network) (events : List Event) → IsInRange network → MeansAccepted octets network
+    → AreAdmitted network trace events → IsUnder network events
+admitted_under octets trace network events range accepted all = record {
+  range = range;
+  rules = accepted.rules;
+  of_network =
+      all_parts (λ (e : Event). IsOfNetwork network e.what) events
+      (λ before behind e order. read_of_network network (first_line (behind_lines (length before) trace)) e (all before behind e order).has.read);
+  times =
+      all_parts IsEventInRange events
+      (λ before behind e order. event_in_range network (first_line (behind_lines (length before) trace)) e (all before behind e order).has.read);
+  within = λ before behind e order. (all before behind e order).within;
+}
 
--- what was answered for an accepted network under a trace
-pub record AnswersTrace (lines : LinesOf) (octets trace : List ℕ) (status : Status) (old new : Shown) : Type 0 where
-  pub network : Network
-  pub range : IsInRange network
-  pub accepted : MeansAccepted octets network
-  pub a : Answer
-  pub is : IsTraceAnswer lines trace network a
-  pub same : status ≡ a.status
-  pub puts : PutsLines a.lines old new
+-- the run up to the time of the last event, this time and all
+begins_run : (network : Network) (events : List Event) (notes : List Note) → IsUnder network events → AreRecordsSoFar network events notes
+    → BeginsRunTo network events (amount (last_time events)) notes
+begins_run network events notes under records =
+    let time = amount (last_time events) in
+    let mark : List ℕ = (time + 1) ∷ [] in
+    let there = records_before network events mark under.range in
+    let front =
+    earlier_run_is_front network (clock_reading network events) events (behind_events time) mark notes there.0
+    (λ p b. before_next_time p time (2 ∷ []) b) records there.1 in
+    record {
+      whole = there.0;
+      coming = front.0;
+      parts = front.1;
+      run = there.1;
+      well = own fresh_segment stepped_segment segment_reading exact_laws exact_begins network events time there.0 under
+          (last_in_time network events under) there.1;
+    }
 
-pub status_of : (status wanted : Status) (a b : Answer) → status ≡ a.status → a ≡ b → b.status ≡ wanted → status ≡ wanted
-status_of status wanted a b same e is = same ∙ ap (λ (x : Answer). x.status) e ∙ is
+-- ---- what is told of a run of an accepted network
 
-pub answers_trace : (lines : LinesOf) (octets trace : List ℕ) (network : Network) (status : Status) (old new : Shown) → IsInRange network
-    → MeansAccepted octets network → IsOfTrace status → GivesOne (IsTraceAnswer lines trace network) status old new
-    → AnswersTrace lines octets trace status old new
-answers_trace lines octets trace network status old new range m of (inl (a, answer, same, puts, passed)) =
-    record { network = network; range = range; accepted = m; a = a; is = answer; same = same; puts = puts }
-answers_trace lines octets trace network status old new range m of (inr (inl failed)) = absurd (of.not_write failed.0)
-answers_trace lines octets trace network status old new range m of (inr (inr (inl read, some))) = absurd (of.not_read read)
-answers_trace lines octets trace network status old new range m of (inr (inr (inr memory, some))) = absurd (of.not_memory memory)
+module _ (octets trace : List ℕ) (network : Network) (range : IsInRange network) (accepted : MeansAccepted octets network) where
+  module _ (events : List Event) (admitted : AreAdmitted network trace events) (notes : List Note) where
+    pub good_run : AreAllRecords network events notes → IsGoodRun network events notes
+    good_run records =
+        ended fresh_segment stepped_segment segment_reading exact_laws exact_begins network events records.0 notes
+        (admitted_under octets trace network events range accepted admitted) records.1 records.2
 
-pub done_is : IsOfTrace Done
-done_is = record { not_read = λ e. cc; not_write = λ e. cc; not_memory = λ e. cc }
+    pub good_before : AreRecordsSoFar network events notes → IsGoodRunBefore network events notes
+    good_before records =
+        so_far fresh_segment stepped_segment segment_reading exact_laws exact_begins network events notes
+        (admitted_under octets trace network events range accepted admitted) records
 
-pub refused_is : IsOfTrace TraceRefused
-refused_is = record { not_read = λ e. cc; not_write = λ e. cc; not_memory = λ e. cc }
+    pub of_whole : (Tells : (n : Network) (es : List Event) (ns : List Note) → IsGoodRun n es ns → Type 0) (records : AreAllRecords network events notes)
+        → Tells network events notes (good_run records) → OfWholeRun octets trace Tells
+    of_whole Tells records tells = record {
+      network = network;
+      accepted = accepted;
+      events = events;
+      admitted = admitted;
+      notes = notes;
+      run = good_run records;
+      tells = tells;
+    }
 
-pub outside_is : IsOfTrace OutsideHypothesis
-outside_is = record { not_read = λ e. cc; not_write = λ e. cc; not_memory = λ e. cc }
+    pub of_fault : (Tells : (n : Network) (es : List Event) (f : TraceFault) (ns : List Note) → IsGoodRunBefore n es ns → Type 0) (fault : TraceFault)
+        → IsFault network events (behind_lines (length events) trace) fault → (records : AreRecordsSoFar network events notes)
+        → Tells network events fault notes (good_before records) → OfRunToFault octets trace Tells
+    of_fault Tells fault there records tells = record {
+      network = network;
+      accepted = accepted;
+      events = events;
+      admitted = admitted;
+      fault = fault;
+      there = there;
+      notes = notes;
+      run = good_before records;
+      begins = begins_run network events notes (admitted_under octets trace network events range accepted admitted) records;
+      tells = tells;
+    }
 
-pub long_is : IsOfTrace TooLong
-long_is = record { not_read = λ e. cc; not_write = λ e. cc; not_memory = λ e. cc }
+-- ---- answers
 
-puts_whole : (octets trace : List ℕ) (old new : Shown) → AnswersTrace report_lines octets trace Done old new
-    → PutsSo (IsWholeReport octets trace) PutsLines old new
-puts_whole octets trace old new t =
-    elim t.is.is [
-      | inl all ↦ (t.a.lines, whole octets trace t.network t.is.events t.a t.range t.accepted t.is.admitted all, t.puts)
-      | inr some ↦ absurd (not_done some.fault (sym (status_of Done (fault_status some.fault) t.a _ t.same some.answer refl)))
-    ]
+module _ (IsWhole IsToFault IsRefusal : List (List ℕ) → Type 0) where
+  -- the answer is safe
+  abbrev pub IsSafe : Answer → Type 0
+  IsSafe a = IsSafeAnswer (PutsOfRun IsWhole IsToFault) (λ lines. IsWhole lines ⊎ IsToFault lines ⊎ IsRefusal lines) a
 
-puts_before : (octets trace : List ℕ) (status : Status) (old new : Shown) → (status ≡ Done → ⊥) → AnswersTrace report_lines octets trace status old new
-    → PutsSo (IsReportToFault octets trace) PutsLines old new
-puts_before octets trace status old new not t =
-    elim t.is.is [
-      | inl all ↦ absurd (not (status_of status Done t.a _ t.same all.answer refl))
-      | inr some ↦ (t.a.lines, to_fault octets trace t.network t.is.events t.a t.range t.accepted t.is.admitted some, t.puts)
-    ]
+  -- that to the end of a trace
+  pub whole_safe : (lines : List (List ℕ)) (a : Answer) → a ≡ record { status = Done; lines = lines } → IsWhole lines → IsSafe a
+  whole_safe lines a is whole = subst IsSafe (sym is) (record { safe = inl (inl whole); whole = λ old new puts. (lines, whole, puts) })
 
--- what was put under the status for an accepted network is the report of a run that goes well, or the first lines of one
-puts_safely : (octets trace : List ℕ) (network : Network) (status : Status) (old new : Shown) → IsInRange network → MeansAccepted octets network
-    → GivesOne (IsRunAnswer trace network) status old new → PutsSafely status octets trace old new
-puts_safely octets trace network Done old new range m g =
-    puts_whole octets trace old new (answers_trace report_lines octets trace network Done old new range m done_is g)
-puts_safely octets trace network TraceRefused old new range m g =
-    puts_before octets trace TraceRefused old new (λ e. cc) (answers_trace report_lines octets trace network TraceRefused old new range m refused_is g)
-puts_safely octets trace network OutsideHypothesis old new range m g =
-    puts_before octets trace OutsideHypothesis old new (λ e.
-    cc) (answers_trace report_lines octets trace network OutsideHypothesis old new range m outside_is g)
-puts_safely octets trace network Usage old new range m g = tt
-puts_safely octets trace network FrameRefused old new range m g = tt
-puts_safely octets trace network NetworkRefused old new range m g = tt
-puts_safely octets trace network ReadFault old new range m g = puts_some octets trace network ReadFault old new (λ e. cc) range m g
-puts_safely octets trace network WriteFault old new range m g = puts_failing octets trace network WriteFault old new range m g
-puts_safely octets trace network OutOfMemory old new range m g = puts_some octets trace network OutOfMemory old new (λ e. cc) range m g
-puts_safely octets trace network TooLong old new range m g =
-    inl (puts_before octets trace TooLong old new (λ e. cc) (answers_trace report_lines octets trace network TooLong old new range m long_is g))
-puts_safely octets trace network AuditRefused old new range m g = tt
-puts_safely octets trace network GranuleRefused old new range m g = tt
-puts_safely octets trace network CaptureRefused old new range m g = tt
-puts_safely octets trace network NameRefused old new range m g = tt
-puts_safely octets trace network VoteRefused old new range m g = tt
-puts_safely octets trace network NumberRefused old new range m g = tt
+  puts_to_fault : (fault : TraceFault) (old new : Shown) → PutsSo IsToFault PutsLines old new → PutsOfRun IsWhole IsToFault (fault_status fault) old new
+  puts_to_fault Missing old new puts = puts
+  puts_to_fault TooMany old new puts = inl puts
+  puts_to_fault After old new puts = puts
+  puts_to_fault Long old new puts = puts
+  puts_to_fault (Line refusal) old new puts = puts
+  puts_to_fault (Outlaw outside) old new puts = puts
 
-pub run_safely : (first second : Option (List ℕ)) (network : Network) (status : Status) (old new : Shown) → IsInRange network
-    → ForOctets first (λ octets. MeansAccepted octets network) → ForOctets second (λ trace. GivesOne (IsRunAnswer trace network) status old new)
-    → WritesSafely first second status old new
-run_safely first second network status old new range means g =
-    for_more first (λ octets. MeansAccepted octets network) (λ octets. ForOctets second (λ trace. PutsSafely status octets trace old new))
-    (λ octets m. for_more second (λ trace. GivesOne (IsRunAnswer trace network) status old new) (λ trace. PutsSafely status octets trace old new)
-    (λ trace. puts_safely octets trace network status old new range m) g) means
+  -- that to its fault
+  pub fault_safe : (fault : TraceFault) (lines : List (List ℕ)) (a : Answer) → a ≡ record { status = fault_status fault; lines = lines } → IsToFault lines
+      → IsSafe a
+  fault_safe fault lines a is there =
+      subst IsSafe (sym is) (record { safe = inl (inr (inl there)); whole = λ old new puts. puts_to_fault fault old new (lines, there, puts) })
+
+  puts_none : (lines : List ℕ → List (List ℕ)) (cause : NoNetwork) (old new : Shown) → PutsLines (answer_by lines cause).lines old new
+      → PutsOfRun IsWhole IsToFault (answer_by lines cause).status old new
+  puts_none lines causes.ReadFault old new puts = tt
+  puts_none lines causes.TooLong old new puts = inr puts
+  puts_none lines causes.OutOfMemory old new puts = tt
+  puts_none lines (causes.File refusal) old new puts = tt
+  puts_none lines (causes.Rule told) old new puts = tt
+
+  -- that where there is no accepted network
+  pub without_safe : (lines : List ℕ → List (List ℕ)) → ((reason : List ℕ) → IsRefusal (lines reason)) → (cause : NoNetwork) → IsSafe (answer_by lines cause)
+  without_safe lines refusal cause = none_safe _ _ lines (λ reason. inr (inr (refusal reason))) (puts_none lines) cause
+
+  -- that of a command that puts lines of the run
+  pub trace_safe : (lines : LinesOf) (trace : List ℕ) (network : Network)
+      → ((events : List Event) (notes : List Note) → AreAdmitted network trace events → AreAllRecords network events notes
+      → IsWhole (lines network events notes))
+      → ((events : List Event) (notes : List Note) (fault : TraceFault) → AreAdmitted network trace events
+      → IsFault network events (behind_lines (length events) trace) fault → AreRecordsSoFar network events notes
+      → IsToFault (lines network events notes ++ fault_lines (length events + 1) fault)) → (a : Answer) → IsTraceAnswer lines trace network a → IsSafe a
+  trace_safe lines trace network whole fault a i =
+      elim i.is [
+        | inl all ↦ whole_safe _ a all.answer (whole i.events all.notes i.admitted all.records)
+        | inr some ↦ fault_safe some.fault _ a some.answer (fault i.events some.notes some.fault i.admitted some.is some.records)
+      ]
+
+-- ---- for the octets of a network file and of a trace
+
+module _ (IsWhole IsToFault : List ℕ → List ℕ → List (List ℕ) → Type 0) (IsRefusal : List (List ℕ) → Type 0) (lines : List ℕ → List (List ℕ))
+    (refusal : (reason : List ℕ) → IsRefusal (lines reason)) (first second : Option (List ℕ)) (status : Status) (old new : Shown) where
+  -- where there is an accepted network
+  pub safely_accepted : (network : Network) (IsAnswer : List ℕ → Answer → Type 0)
+      → ((octets trace : List ℕ) (a : Answer) → MeansAccepted octets network → IsAnswer trace a
+      → IsSafe (IsWhole octets trace) (IsToFault octets trace) IsRefusal a) → ForOctets first (λ octets. MeansAccepted octets network)
+      → ForOctets second (λ trace. GivesAnswer (IsAnswer trace) status old new) → RunsSafely IsWhole IsToFault IsRefusal first second status old new
+  safely_accepted network IsAnswer safe means g =
+      for_more first (λ octets. MeansAccepted octets network) _
+      (λ octets m. for_more second (λ trace. GivesAnswer (IsAnswer trace) status old new) _
+      (λ trace h. puts_safely _ _ (lines []) (inr (inr (refusal []))) old new status
+      (answer_widened (IsAnswer trace) (IsSafe (IsWhole octets trace) (IsToFault octets trace) IsRefusal) status old new (λ a is. safe octets trace a m is) h))
+      g) means
+
+  -- where there is none
+  pub safely_refused : (cause : NoNetwork) → Gives (answer_by lines cause) status old new → RunsSafely IsWhole IsToFault IsRefusal first second status old new
+  safely_refused cause g =
+      for_all first _ (λ octets. for_all second _ (λ trace. puts_safely _ _ (lines []) (inr (inr (refusal []))) old new status
+      (inl (answer_by lines cause, without_safe (IsWhole octets trace) (IsToFault octets trace) IsRefusal lines refusal cause, g))))
+
+-- ---- what `run` writes
+
+pub report_safe : (octets trace : List ℕ) (network : Network) (IsRefusal : List (List ℕ) → Type 0) → IsInRange network → (a : Answer)
+    → MeansAccepted octets network → IsRunAnswer trace network a → IsSafe (IsWholeReport octets trace) (IsReportToFault octets trace) IsRefusal a
+report_safe octets trace network IsRefusal range a m is =
+    trace_safe (IsWholeReport octets trace) (IsReportToFault octets trace) IsRefusal report_lines trace network
+    (λ events notes admitted records. of_whole octets trace network range m events admitted notes _ records refl)
+    (λ events notes fault admitted there records. of_fault octets trace network range m events admitted notes _ fault there records refl) a is

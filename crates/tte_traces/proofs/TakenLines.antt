@@ -1,63 +1,39 @@
 -- A line taken from the octets ahead, or by reads.
 use Rattle.tte_traces.proofs.Words.{◌++◌, ◌∙◌, ◌∷◌, ◌≡◌, ◌≢◌, Bool, Err, LineReaderState, LineTaken, List, Ok, Option, Result, Some, [], ap, append-nil, arith}
 use Rattle.tte_traces.proofs.Words.{false, inl, inr, pending, refl, subst, sym, true, ℕ}
-use Rattle.std.proofs.KnownBytes.{Consumes-nil}
-use Rattle.tte_io.specs.NextLine.{KeepsLine, NextLine}
+use Rattle.std.{proofs.KnownBytes.Consumes-nil, specs.Io.KnownBytes.Consumes}
+use Rattle.tte_io.specs.NextLine.{Answers, IsEnd, KeepsLine, NextLine}
 use Rattle.tte_io.specs.declared.lines.LineTaken.TheVariants as taken
+
+-- the same call with another answer, of which this is so, or from other octets
+anew : {E F : Type 0} {before : List ℕ} {had : Bool} {left left_after : Option (List ℕ)} {after : LineReaderState} {result : Result LineTaken E}
+    (n : NextLine before had left after left_after result) (from to : Option (List ℕ)) (other : Result LineTaken F) → Consumes from to (n.earlier ++ n.last)
+    → (had ≡ true → IsEnd other) → Answers had other n.given after to → NextLine before had from after to other
+anew n from to other consumed ends answer = record {
+  earlier = n.earlier;
+  last = n.last;
+  consumed = consumed;
+  last_size = n.last_size;
+  needed = n.needed;
+  ends = ends;
+  given = n.given;
+  nothing_lost = n.nothing_lost;
+  answer = answer;
+}
 
 -- what was found is found whatever errors there are
 pub found_over : {E F : Type 0} (before : List ℕ) (had : Bool) (left : Option (List ℕ)) (after : LineReaderState) (left_after : Option (List ℕ))
     (found : LineTaken)
     → NextLine {E = E} before had left after left_after (Ok found) → NextLine {E = F} before had left after left_after (Ok found)
-found_over before had left after left_after taken.Whole n = record {
-  earlier = n.earlier;
-  last = n.last;
-  consumed = n.consumed;
-  last_size = n.last_size;
-  needed = n.needed;
-  ends = n.ends;
-  given = n.given;
-  nothing_lost = n.nothing_lost;
-  answer = n.answer;
-}
-found_over before had left after left_after taken.Long n = record {
-  earlier = n.earlier;
-  last = n.last;
-  consumed = n.consumed;
-  last_size = n.last_size;
-  needed = n.needed;
-  ends = n.ends;
-  given = n.given;
-  nothing_lost = n.nothing_lost;
-  answer = n.answer;
-}
-found_over before had left after left_after taken.End n = record {
-  earlier = n.earlier;
-  last = n.last;
-  consumed = n.consumed;
-  last_size = n.last_size;
-  needed = n.needed;
-  ends = n.ends;
-  given = n.given;
-  nothing_lost = n.nothing_lost;
-  answer = n.answer;
-}
+found_over before had left after left_after taken.Whole n = anew n left left_after (Ok taken.Whole) n.consumed n.ends n.answer
+found_over before had left after left_after taken.Long n = anew n left left_after (Ok taken.Long) n.consumed n.ends n.answer
+found_over before had left after left_after taken.End n = anew n left left_after (Ok taken.End) n.consumed n.ends n.answer
 
 -- so is what stays where a read failed
 pub failed_over : {E F : Type 0} (before : List ℕ) (had : Bool) (left : Option (List ℕ)) (after : LineReaderState) (left_after : Option (List ℕ)) (e : E)
     (f : F)
     → NextLine before had left after left_after (Err e) → NextLine before had left after left_after (Err f)
-failed_over before had left after left_after e f n = record {
-  earlier = n.earlier;
-  last = n.last;
-  consumed = n.consumed;
-  last_size = n.last_size;
-  needed = n.needed;
-  ends = n.ends;
-  given = n.given;
-  nothing_lost = n.nothing_lost;
-  answer = n.answer;
-}
+failed_over before had left after left_after e f n = anew n left left_after (Err f) n.consumed n.ends n.answer
 
 -- where no line was found ahead and nothing is read, the unfinished line stays
 pub unread : {F : Type 0} (before : List ℕ) (had : Bool) (left : Option (List ℕ)) (after : LineReaderState) (f : F) → had ≡ false → pending after ≡ before
@@ -121,56 +97,18 @@ ends_so {E} before had left after left_after (Ok taken.End) n is =
 pub as_told : {E : Type 0} (before : List ℕ) (had : Bool) (left : Option (List ℕ)) (after : LineReaderState) (left_after : Option (List ℕ))
     (result : Result LineTaken E) (n : NextLine before had left after left_after result) (rest : List ℕ) → (after.ended ≡ true → rest ≡ [])
     → NextLine before had (Some ((n.earlier ++ n.last) ++ rest)) after (Some rest) result
-as_told before had left after left_after (Ok taken.Whole) n rest none = record {
-  earlier = n.earlier;
-  last = n.last;
-  consumed = refl;
-  last_size = n.last_size;
-  needed = n.needed;
-  ends = n.ends;
-  given = n.given;
-  nothing_lost = n.nothing_lost;
-  answer = record {
-    text = n.answer.text;
-    line = n.answer.line;
-    ended = elim n.answer.ended [ inl e ↦ inl e | inr e ↦ inr (e.0, e.1, e.2, e.3, none e.3) ];
-    reader = n.answer.reader;
-  };
-}
-as_told before had left after left_after (Ok taken.Long) n rest none = record {
-  earlier = n.earlier;
-  last = n.last;
-  consumed = refl;
-  last_size = n.last_size;
-  needed = n.needed;
-  ends = n.ends;
-  given = n.given;
-  nothing_lost = n.nothing_lost;
-  answer = n.answer;
-}
-as_told before had left after left_after (Ok taken.End) n rest none = record {
-  earlier = n.earlier;
-  last = n.last;
-  consumed = refl;
-  last_size = n.last_size;
-  needed = n.needed;
-  ends = n.ends;
-  given = n.given;
-  nothing_lost = n.nothing_lost;
-  answer = record {
-    none = n.answer.none;
-    reader = n.answer.reader;
-    end = inr (none (ap (λ (r : LineReaderState). r.ended) n.answer.reader));
-  };
-}
-as_told before had left after left_after (Err e) n rest none = record {
-  earlier = n.earlier;
-  last = n.last;
-  consumed = refl;
-  last_size = n.last_size;
-  needed = n.needed;
-  ends = n.ends;
-  given = n.given;
-  nothing_lost = n.nothing_lost;
-  answer = n.answer;
-}
+as_told before had left after left_after (Ok taken.Whole) n rest none =
+    anew n _ (Some rest) (Ok taken.Whole) refl n.ends (record {
+      text = n.answer.text;
+      line = n.answer.line;
+      ended = elim n.answer.ended [ inl e ↦ inl e | inr e ↦ inr (e.0, e.1, e.2, e.3, none e.3) ];
+      reader = n.answer.reader;
+    })
+as_told before had left after left_after (Ok taken.Long) n rest none = anew n _ (Some rest) (Ok taken.Long) refl n.ends n.answer
+as_told before had left after left_after (Ok taken.End) n rest none =
+    anew n _ (Some rest) (Ok taken.End) refl n.ends (record {
+      none = n.answer.none;
+      reader = n.answer.reader;
+      end = inr (none (ap (λ (r : LineReaderState). r.ended) n.answer.reader));
+    })
+as_told before had left after left_after (Err e) n rest none = anew n _ (Some rest) (Err e) refl n.ends n.answer

@@ -3,11 +3,8 @@ use Rattle.std.specs.Prelude.{◌++◌, ◌+◌, ◌≡◌, ◌⊎◌, List, [],
 use Rattle.net_plan.specs.declared.{event.Event.Event, network.Network.Network}
 use Rattle.report_text.specs.NoteLine.{report_of}
 use Rattle.run_law.specs.declared.note.Note.{Note}
-use Rattle.tte_forms.specs.{Answering.Answer, declared.status.Status.Status}
-use Rattle.tte_forms.specs.declared.status.Status.TheVariants.{AuditRefused, CaptureRefused, Done, FrameRefused}
-use Rattle.tte_forms.specs.declared.status.Status.TheVariants.{GranuleRefused, NameRefused, NetworkRefused}
-use Rattle.tte_forms.specs.declared.status.Status.TheVariants.{NumberRefused, OutOfMemory, OutsideHypothesis, ReadFault}
-use Rattle.tte_forms.specs.declared.status.Status.TheVariants.{TooLong, TraceRefused, Usage, VoteRefused, WriteFault}
+use Rattle.tte_forms.specs.{Answering.Answer, Statuses.IsNetworkStatus}
+use Rattle.tte_forms.specs.declared.status.Status.{Status, TheVariants.{Done, OutsideHypothesis, TraceRefused}}
 use Rattle.world_drive.specs.exact.Records.{AreAllRecords, AreRecordsSoFar, HaveEnded}
 use Rattle.tte_traces.specs.{FaultLine.{fault_lines, fault_status}, Lines.{AreAdmitted, IsFault, behind_lines}}
 use Rattle.tte_traces.specs.declared.fault.TraceFault.{TraceFault}
@@ -53,19 +50,6 @@ IsRunAnswer octets network a = IsTraceAnswer report_lines octets network a
 
 -- the statuses of `run`
 abbrev pub IsRunStatus : Status → Type 0
-IsRunStatus Done = Unit {0}
-IsRunStatus Usage = ⊥
-IsRunStatus FrameRefused = ⊥
-IsRunStatus NetworkRefused = Unit {0}
 IsRunStatus TraceRefused = Unit {0}
 IsRunStatus OutsideHypothesis = Unit {0}
-IsRunStatus ReadFault = Unit {0}
-IsRunStatus WriteFault = Unit {0}
-IsRunStatus OutOfMemory = Unit {0}
-IsRunStatus TooLong = Unit {0}
-IsRunStatus AuditRefused = ⊥
-IsRunStatus GranuleRefused = ⊥
-IsRunStatus CaptureRefused = ⊥
-IsRunStatus NameRefused = ⊥
-IsRunStatus VoteRefused = ⊥
-IsRunStatus NumberRefused = ⊥
+IsRunStatus other = IsNetworkStatus other

@@ -1,8 +1,6 @@
 -- The observer of `vote` puts nothing along the run.
-use Rattle.tte_votes.proofs.Words.{◌≡◌, Answer, GivesOne, IsTraceAnswer, List, Network, Option, OutOfMemory, PutsLines, PutsLines-none, Shown, Voters, VotesEnd}
-use Rattle.tte_votes.proofs.Words.{[], for_all, inr, no_lines, refl, subst, sym, vote_lines, ℕ}
-use Rattle.tte_forms.proofs.OneAnswers.{none_put}
-use Rattle.tte_traces.{proofs.Streams.{untouched, writes_nothing}, specs.{Along.PutsAlong, Report.{StopsLines, shown_as}}}
+use Rattle.tte_votes.proofs.Words.{◌≡◌, Answer, IsTraceAnswer, List, Network, PutsLines, PutsLines-none, [], inr, no_lines, refl, subst, sym, vote_lines, ℕ}
+use Rattle.tte_traces.specs.{Along.PutsAlong, Report.{StopsLines, shown_as}}
 use Rattle.world_drive.specs.{Observing.{Sees, Stops, Told}, declared.observing.Cut.Cut}
 use Rattle.tte_votes.specs.{Voting.{SeesVotes, StopsVotes}, declared.voter.Voter.Voter}
 use Rattle.world_drive.specs.declared.observing.Cut.TheVariants as cuts
@@ -32,14 +30,4 @@ votes_along begun = record {
   all = λ network octets events notes old put o admitted run seen. none_along old put seen.nothing;
   front = λ network octets events notes admitted run a is. (a.lines, refl);
   short = λ network octets events next befallen notes cut old put at stops. ([], none_stops cut old put stops, λ a is. (a.lines, refl));
-}
-
--- where there is no memory for a run, nothing was put
-pub votes_no_memory : (voters : Voters) (network : Network) (left : Option (List ℕ)) (s : Shown) → VotesEnd voters network left left OutOfMemory s s
-votes_no_memory voters network left s = record {
-  general =
-      for_all left (λ trace. GivesOne (IsTraceAnswer (vote_lines voters) trace network) OutOfMemory s s)
-      (λ trace. inr (inr (inr refl, λ a is. none_put a.lines s s (PutsLines-none s))));
-  cut = λ is. absurd cc;
-  little = untouched no_lines network left s s refl (writes_nothing s);
 }

@@ -1,12 +1,12 @@
 -- The answer of `vote` is one, and valid input is answered to its end.
-use Rattle.tte_votes.proofs.Words.{◌∙◌, ◌≡◌, Answer, AreNamed, Bool, Event, GivesAnswer, IsTraceAnswer, IsVoteAnswer, List, MayThey, MeansAccepted, NameRefused}
-use Rattle.tte_votes.proofs.Words.{Names, Network, ReadFault, Shown, Some, Status, VirtualLink, VlId, Voters, WriteFault, ap, false, inl, inr, subst, sym, true}
+use Rattle.tte_votes.proofs.Words.{◌∙◌, ◌≡◌, Answer, AreNamed, Bool, Done, Event, IsTraceAnswer, IsVoteAnswer, List, MayThey, MeansAccepted, NameRefused}
+use Rattle.tte_votes.proofs.Words.{Names, Network, Some, VirtualLink, VlId, Voters, ap, false, inl, inr, subst, sym, true}
 use Rattle.tte_votes.proofs.Words.{vote_lines, ℕ}
 use Rattle.std.{proofs.lemmas.Option.same_Some, specs.Prelude.slice_get}
 use Rattle.net_plan.{proofs.SameIds.same_vl, specs.Bearers.vl_names}
 use Rattle.schedule_checker.specs.Refusals.{RefusalIsOne}
 use Rattle.trace_text.proofs.Bearing.{place_found}
-use Rattle.tte_forms.{proofs.{OneAnswers.answered_done, networks.Answers.{accepted_alone, network_answer_one}}, specs.Answering.{IsDone, line_answer}}
+use Rattle.tte_forms.{proofs.networks.Answers.{accepted_alone, network_answer_one}, specs.Answering.line_answer}
 use Rattle.tte_forms.specs.networks.Accepting.{IsNetworkAnswer}
 use Rattle.tte_traces.{proofs.{Answers.trace_answer_one, Given.all_done}, specs.Along.IsAllAdmitted}
 use Rattle.tte_votes.specs.law.Voting.{are_matches}
@@ -106,16 +106,15 @@ vote_one one names octets trace a b p q =
     network_answer_one one (IsVoteAnswer names trace) octets (λ network accepted. vote_answer_one names trace network) a b p q
 
 done_of : (names : Names) (trace : List ℕ) (network : Network) (events : List Event) (voters : Voters) (a : Answer) → AreNamed network names voters
-    → MayThey network voters true → IsAllAdmitted network trace events → IsVoteAnswer names trace network a → IsDone a.status
+    → MayThey network voters true → IsAllAdmitted network trace events → IsVoteAnswer names trace network a → a.status ≡ Done
 done_of names trace network events voters a named may all (inl p) = absurd (no_refusal network names voters a named may p)
 done_of names trace network events voters a named may all (inr p) =
-    inl (all_done (vote_lines voters) trace network events a all (voting_alone network names trace voters a named p))
+    all_done (vote_lines voters) trace network events a all (voting_alone network names trace voters a named p)
 
--- an accepted network under a trace that is admitted to its end is voted to its end, where the words name virtual links that may vote
-pub vote_whole : (names : Names) (octets trace : List ℕ) (network : Network) (events : List Event) (voters : Voters) (status : Status) (old new : Shown)
-    (SourceRose SinkRose : Type 0) → MeansAccepted octets network → AreNamed network names voters → MayThey network voters true
-    → IsAllAdmitted network trace events → GivesAnswer (IsNetworkAnswer (IsVoteAnswer names trace) octets) status old new
-    → (status ≡ ReadFault → SourceRose) → (status ≡ WriteFault → SinkRose) → (SourceRose → ⊥) → (SinkRose → ⊥) → IsDone status
-vote_whole names octets trace network events voters status old new SourceRose SinkRose m named may all g =
-    answered_done (IsNetworkAnswer (IsVoteAnswer names trace) octets) status old new SourceRose SinkRose g
-    (λ a is. done_of names trace network events voters a named may all (accepted_alone (IsVoteAnswer names trace) octets network m a is))
+-- an accepted network under a trace that is admitted to its end is voted to its end, where the words name virtual links
+-- that may vote
+pub vote_done : (names : Names) (octets trace : List ℕ) (network : Network) (events : List Event) (voters : Voters) → MeansAccepted octets network
+    → AreNamed network names voters → MayThey network voters true → IsAllAdmitted network trace events → (a : Answer)
+    → IsNetworkAnswer (IsVoteAnswer names trace) octets a → a.status ≡ Done
+vote_done names octets trace network events voters m named may all a is =
+    done_of names trace network events voters a named may all (accepted_alone (IsVoteAnswer names trace) octets network m a is)

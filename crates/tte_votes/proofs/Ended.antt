@@ -1,10 +1,11 @@
 -- How `vote` ends, where the drive came to its end or to a fault: the votes are put, and all is passed on.
 use Rattle.tte_votes.proofs.Words.{◌++◌, ◌+◌, ◌∙◌, ◌≡◌, ◌⊎◌, Answer, Done, Event, Gives, GivesOne, IsTraceAnswer, List, Network, Note, PutsLines}
-use Rattle.tte_votes.proofs.Words.{PutsLines-none, ReadFault, Shown, Status, Voters, VotesEnd, WriteFault, [], ap, fault_lines, fault_status, for_more, inl}
+use Rattle.tte_votes.proofs.Words.{PutsLines-none, Shown, Status, Voters, VotesEnd, WriteFault, [], ap, fault_lines, fault_status, for_more, inl}
 use Rattle.tte_votes.proofs.Words.{inr, length, no_lines, refl, shown_by, subst, sym, vote_lines, ℕ}
 use Rattle.tte_forms.proofs.{OneAnswers.one_given, frames.Frames.Gives-behind}
 use Rattle.tte_traces.proofs.Answers.{IsFaultBehind, faulty_answer, faulty_is, whole_is}
-use Rattle.tte_traces.proofs.{Ends.{for_stopped, little_at, little_so_far, puts_shown, trace_ended, trace_stopped}, Streams.writes_answer}
+use Rattle.tte_traces.proofs.Ends.{done_no_read, fault_no_read, for_stopped, little_at, little_so_far, puts_shown, trace_ended, trace_stopped}
+use Rattle.tte_traces.proofs.{Streams.writes_answer}
 use Rattle.tte_traces.specs.{Along.IsAllAdmitted, Lines.{AreAdmitted, IsFault, behind_lines}, Report.shown_as, Taking.IsStopAt}
 use Rattle.tte_traces.specs.declared.{fault.{TraceFault.TraceFault, TraceStop.TraceStop}, lines.Trace.Trace}
 use Rattle.world_drive.specs.{Driving.{DrivesAll, DrivesSoFar}, Observing.{Told, told_by}}
@@ -12,7 +13,6 @@ use Rattle.world_drive.specs.exact.{Records.{AreAllRecords, AreRecordsSoFar}, Wo
 use Rattle.tte_votes.{proofs.Along.{IsOwn, vote_sees, vote_stops, votes_along}, specs.declared.voter.Voter.Voter}
 use Rattle.tte_io.specs.declared.ends.Sink as sinks
 use Rattle.tte_io.specs.declared.ends.Source as sources
-use Rattle.tte_traces.specs.declared.fault.TraceFault.TheVariants as faults
 use Rattle.tte_traces.specs.declared.fault.TraceStop.TheVariants as ends
 
 -- ---- the answer that was given
@@ -44,21 +44,6 @@ module _ (voters : Voters) (network : Network) (octets : List ℕ) (events : Lis
       one_given (IsTraceAnswer (vote_lines voters) octets network) answer status old new is
       (λ a i. faulty_is (vote_lines voters) network octets events notes fault a b records i) g
 
--- ---- a read that failed is none of these
-
-no_read : {X : Type 0} (wanted status : Status) → (wanted ≡ ReadFault → ⊥) → (status ≡ wanted) ⊎ ((status ≡ WriteFault) × X)
-    → status ≡ ReadFault → ⊥
-no_read wanted status not (inl e) is = not (sym e ∙ is)
-no_read wanted status not (inr w) is = let e = w.0 in cc
-
-not_read : (fault : TraceFault) → fault_status fault ≡ ReadFault → ⊥
-not_read faults.Missing e = cc
-not_read faults.TooMany e = cc
-not_read faults.After e = cc
-not_read faults.Long e = cc
-not_read (faults.Line refusal) e = cc
-not_read (faults.Event outside) e = cc
-
 -- ---- behind a drive by which nothing was put
 
 module _ {B K : Type 0} (source : sources.Ghosts B) (sink : sinks.Ghosts K) (begun : Voter) (network : Network) (first : B) (origin : Trace) (now : B)
@@ -89,7 +74,7 @@ module _ {B K : Type 0} (source : sources.Ghosts B) (sink : sinks.Ghosts K) (beg
             (λ octets e.
             whole_given begun.votes.voters network octets d.events d.notes status (shown_by sink old) (shown_by sink new)
             (record { admitted = e.0; ended = d.have_ended; none_left = e.1 }) d.records (all_of a status new d.sees.nothing g)) d.ended.some;
-        cut = λ is. absurd (no_read Done status (λ e. cc) which is);
+        cut = λ is. absurd (done_no_read status which is);
         little =
             little_so_far source sink begun vote_sees vote_stops no_lines (IsOwn begun) (votes_along begun) network first origin now trace old put d.events
             (shown_by sink new) (λ octets told. let e = d.ended.all octets told in (e.0, e.1, e.2)) d.ended.few d.so_far
@@ -118,7 +103,7 @@ module _ {B K : Type 0} (source : sources.Ghosts B) (sink : sinks.Ghosts K) (beg
             subst (IsStopAt network d.events (behind_lines (length d.events) octets)) is at in
             fault_given begun.votes.voters network octets d.events d.notes status (shown_by sink old) (shown_by sink new) fault
             (record { admitted = admitted; is = behind }) d.so_far (all_of a status new d.sees.nothing gives));
-        cut = λ read. absurd (no_read (fault_status fault) status (not_read fault) which read);
+        cut = λ read. absurd (fault_no_read fault status which read);
         little =
             little_at source sink begun vote_sees vote_stops no_lines (IsOwn begun) (votes_along begun) network first origin now trace old put it stop d
             (shown_by sink new) (writes_answer a status (shown_by sink put) (shown_by sink new) gives);

@@ -2,12 +2,9 @@
 use Rattle.std.specs.Prelude.{◌++◌, ◌≡◌, ◌⊎◌, Bool, List, codes, decimal, false, true, ℕ}
 use Rattle.net_plan.specs.{Bearers.{HasNoBearer, IsFirstBearer, vl_names}, declared.ids.VlId.VlId}
 use Rattle.net_plan.specs.declared.{network.Network.Network, tables.VirtualLink.VirtualLink}
-use Rattle.tte_forms.specs.{Answering.{Answer, line_answer}, declared.status.Status.Status}
-use Rattle.tte_forms.specs.declared.status.Status.TheVariants.{AuditRefused, CaptureRefused, Done, FrameRefused}
-use Rattle.tte_forms.specs.declared.status.Status.TheVariants.{GranuleRefused, NameRefused, NetworkRefused}
-use Rattle.tte_forms.specs.declared.status.Status.TheVariants.{NumberRefused, OutOfMemory, OutsideHypothesis, ReadFault}
-use Rattle.tte_forms.specs.declared.status.Status.TheVariants.{TooLong, TraceRefused, Usage, VoteRefused, WriteFault}
-use Rattle.tte_traces.specs.Answer.{IsTraceAnswer}
+use Rattle.tte_forms.specs.Answering.{Answer, line_answer}
+use Rattle.tte_forms.specs.declared.status.Status.{Status, TheVariants.{NameRefused, VoteRefused}}
+use Rattle.tte_traces.specs.Answer.{IsRunStatus, IsTraceAnswer}
 use Rattle.tte_votes.specs.{law.Voting.MayVote, declared.law.voters.Voters.Voters}
 use Rattle.tte_votes.specs.VoteLines.{vote_lines}
 
@@ -80,19 +77,6 @@ IsVoteAnswer names trace network a = IsVoteRefusal names network a ⊎ IsVoting 
 
 -- the statuses of `vote`
 abbrev pub IsVoteStatus : Status → Type 0
-IsVoteStatus Done = Unit {0}
-IsVoteStatus Usage = ⊥
-IsVoteStatus FrameRefused = ⊥
-IsVoteStatus NetworkRefused = Unit {0}
-IsVoteStatus TraceRefused = Unit {0}
-IsVoteStatus OutsideHypothesis = Unit {0}
-IsVoteStatus ReadFault = Unit {0}
-IsVoteStatus WriteFault = Unit {0}
-IsVoteStatus OutOfMemory = Unit {0}
-IsVoteStatus TooLong = Unit {0}
-IsVoteStatus AuditRefused = ⊥
-IsVoteStatus GranuleRefused = ⊥
-IsVoteStatus CaptureRefused = ⊥
 IsVoteStatus NameRefused = Unit {0}
 IsVoteStatus VoteRefused = Unit {0}
-IsVoteStatus NumberRefused = ⊥
+IsVoteStatus other = IsRunStatus other

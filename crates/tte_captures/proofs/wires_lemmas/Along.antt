@@ -1,13 +1,9 @@
 -- The observer of a way puts the packets of the settled records along the run.
-use Rattle.tte_captures.proofs.wires_lemmas.Words.{◌++◌, ◌∙◌, ◌≡◌, Answer, AreAdmitted, AreRecordsSoFar, Capture, Event, GivesOne, Happening, IsCapture, IsIn}
-use Rattle.tte_captures.proofs.wires_lemmas.Words.{LinkId, List}
-use Rattle.tte_captures.proofs.wires_lemmas.Words.{Network, None, Note, Option, PutsLines, PutsLines-none, RunEnds, SeesWay, Shown, Some, StopsWay, Told, Way}
-use Rattle.tte_captures.proofs.wires_lemmas.Words.{ap, capture_of}
-use Rattle.tte_captures.proofs.wires_lemmas.Words.{for_all, happenings, inl, inr, is_settled, packets_of, refl, scenario_under, settled, settled_lines}
-use Rattle.tte_captures.proofs.wires_lemmas.Words.{shown_as, subst, sym}
-use Rattle.tte_captures.proofs.wires_lemmas.Words.{true, unsettled, ℕ}
-use Rattle.tte_forms.{proofs.OneAnswers.none_put, specs.declared.status.Status.TheVariants.OutOfMemory}
-use Rattle.tte_traces.{proofs.Streams.{untouched, writes_nothing}, specs.{Along.{BeginWith, IsFrontOf, IsShortAt, PutsAlong}, Answer.LinesOf}}
+use Rattle.tte_captures.proofs.wires_lemmas.Words.{◌++◌, ◌∙◌, ◌≡◌, Answer, AreAdmitted, AreRecordsSoFar, Capture, Event, Happening, IsCapture, IsIn, List}
+use Rattle.tte_captures.proofs.wires_lemmas.Words.{Network, None, Note, Option, PutsLines, SeesWay, Some, StopsWay, Told, ap, capture_of, happenings, inl, inr}
+use Rattle.tte_captures.proofs.wires_lemmas.Words.{is_settled, packets_of, refl, scenario_under, settled, settled_lines, shown_as, subst, sym, true}
+use Rattle.tte_captures.proofs.wires_lemmas.Words.{unsettled, ℕ}
+use Rattle.tte_traces.specs.{Along.{BeginWith, IsFrontOf, IsShortAt, PutsAlong}, Answer.LinesOf}
 use Rattle.world_drive.specs.Observing.{Sees, Stops}
 use Rattle.tte_captures.proofs.wires_lemmas.{Fronts.{GoesOnTo, all_whole, answer_captures, begins, ended_goes, next_goes, so_far_goes}, Seen.at_start}
 use Rattle.tte_captures.proofs.wires_lemmas.Settled.{filter_has, settled_first}
@@ -84,14 +80,3 @@ module _ (begun : Capture) where
       short_so network octets events next befallen notes stops.front stops.rest stops.parts stops.settled at,
     );
   }
-
--- where there is no memory for a run, nothing was put
-pub way_no_memory : (link : LinkId) (way : Way) (network : Network) (left : Option (List ℕ)) (s : Shown)
-    → RunEnds (λ trace. IsCapture link way trace network) (settled_lines link way) network left left OutOfMemory s s
-way_no_memory link way network left s = record {
-  general =
-      for_all left (λ trace. GivesOne (IsCapture link way trace network) OutOfMemory s s)
-      (λ trace. inr (inr (inr refl, λ a is. none_put a.lines s s (PutsLines-none s))));
-  cut = λ is. absurd cc;
-  little = untouched (settled_lines link way) network left s s refl (writes_nothing s);
-}

@@ -2,7 +2,7 @@
 -- passed on.
 use Rattle.tte_captures.proofs.wires_lemmas.Words.{◌+◌, ◌∙◌, ◌∷◌, ◌≡◌, ◌⊎◌, Answer, AreAdmitted, AreRecordsSoFar, Capture, EndsEither, Event, ExactWorld, Gives}
 use Rattle.tte_captures.proofs.wires_lemmas.Words.{GivesOne}
-use Rattle.tte_captures.proofs.wires_lemmas.Words.{IsCapture, LinkId, List, Network, Note, ReadFault, RunEnds, SeesWay, Shown, Status, Units, Way, [], amount}
+use Rattle.tte_captures.proofs.wires_lemmas.Words.{IsCapture, LinkId, List, Network, Note, RunEnds, SeesWay, Shown, Status, Units, Way, [], amount}
 use Rattle.tte_captures.proofs.wires_lemmas.Words.{ap, capture_of}
 use Rattle.tte_captures.proofs.wires_lemmas.Words.{fault_status, for_more, happenings, inl, inr, length, packets_of, refl, scenario_under, sent_packets}
 use Rattle.tte_captures.proofs.wires_lemmas.Words.{settled, settled_lines}
@@ -10,7 +10,8 @@ use Rattle.tte_captures.proofs.wires_lemmas.Words.{shown_by, subst, sym, told_by
 use Rattle.drift_world.specs.Running.{behind_events, last_time}
 use Rattle.run_law.{proofs.runs.NetworkRuns.run_is_one, specs.runs.DueRecords.EndsAt}
 use Rattle.tte_forms.{proofs.{OneAnswers.one_given, frames.Frames.Gives-behind}, specs.declared.status.Status.TheVariants.{Done, WriteFault}}
-use Rattle.tte_traces.proofs.{Admitted.{admitted_in_order, stopped_one}, Ends.{for_stopped, little_at, little_so_far, puts_shown, trace_ended, trace_stopped}}
+use Rattle.tte_traces.proofs.Admitted.{admitted_in_order, stopped_one}
+use Rattle.tte_traces.proofs.Ends.{done_no_read, fault_no_read, for_stopped, little_at, little_so_far, puts_shown, trace_ended, trace_stopped}
 use Rattle.tte_traces.{proofs.{Faults.{end_has_no_fault, fault_one}, Streams.writes_answer}, specs.{Along.IsAllAdmitted, Lines.{IsFault, behind_lines}}}
 use Rattle.tte_traces.specs.{Taking.IsStopAt, declared.{fault.{TraceFault.TraceFault, TraceStop.TraceStop}, lines.Trace.Trace}}
 use Rattle.world_drive.specs.{Driving.{DrivesAll, DrivesSoFar}, Observing.start_by}
@@ -18,7 +19,6 @@ use Rattle.world_drive.specs.exact.Records.{AreAllRecords, AreRecordsBefore, clo
 use Rattle.tte_captures.proofs.wires_lemmas.{Along.{IsOwn, lines, way_along, way_sees, way_stops}, Fronts.{all_whole, either_stops}, Seen.{at_start, whole}}
 use Rattle.tte_io.specs.declared.ends.Sink as sinks
 use Rattle.tte_io.specs.declared.ends.Source as sources
-use Rattle.tte_traces.specs.declared.fault.TraceFault.TheVariants as faults
 use Rattle.tte_traces.specs.declared.fault.TraceStop.TheVariants as ends
 
 -- ---- an answer is one
@@ -99,21 +99,6 @@ all_gives sink network events notes begun it wanted status old put new seen g =
     (whole network events hs start (told_by sink put) it seen ∙ at_start network events hs start (told_by sink put) it seen events hs)
     (Gives-behind front (record { status = wanted; lines = rest }) status (shown_by sink old) (shown_by sink put) (shown_by sink new) puts g)
 
--- ---- where a read failed is none of these
-
-no_read : {X : Type 0} (wanted status : Status) → (wanted ≡ ReadFault → ⊥) → (status ≡ wanted) ⊎ ((status ≡ WriteFault) × X)
-    → status ≡ ReadFault → ⊥
-no_read wanted status not (inl e) is = not (sym e ∙ is)
-no_read wanted status not (inr w) is = let e = w.0 in cc
-
-not_read : (fault : TraceFault) → fault_status fault ≡ ReadFault → ⊥
-not_read faults.Missing e = cc
-not_read faults.TooMany e = cc
-not_read faults.After e = cc
-not_read faults.Long e = cc
-not_read (faults.Line refusal) e = cc
-not_read (faults.Event outside) e = cc
-
 module _ {B K : Type 0} (source : sources.Ghosts B) (sink : sinks.Ghosts K) (begun : Capture) (network : Network) (first : B) (origin : Trace) (now : B)
     (trace : Trace) (old put : K) where
   abbrev Ends : Status → K → Type 0
@@ -134,7 +119,7 @@ module _ {B K : Type 0} (source : sources.Ghosts B) (sink : sinks.Ghosts K) (beg
         let all : IsAllAdmitted network octets d.events = record { admitted = a.0; ended = d.have_ended; none_left = a.1 } in
         whole_given begun.link begun.way network octets d.events d.notes status (shown_by sink old) (shown_by sink new) all d.records
         (all_gives sink network d.events d.notes begun it Done status old put new d.sees g)) d.ended.some;
-    cut = λ is. absurd (no_read Done status (λ e. cc) which is);
+    cut = λ is. absurd (done_no_read status which is);
     little =
         little_so_far source sink begun way_sees way_stops (lines begun) (IsOwn begun) (way_along begun) network first origin now trace old put d.events
         (shown_by sink new) (λ octets told. let a = d.ended.all octets told in (a.0, a.1, a.2)) d.ended.few d.so_far
@@ -147,7 +132,7 @@ module _ {B K : Type 0} (source : sources.Ghosts B) (sink : sinks.Ghosts K) (beg
       → (wanted : Status) → wanted ≡ fault_status fault
       → Gives (record { status = wanted; lines = sent_packets it.cut it.time it.sends.items }) status (shown_by sink put) (shown_by sink new)
       → (status ≡ wanted) ⊎ ((status ≡ WriteFault) × X) → Ends status new
-  ends_fault it stop fault status new d is wanted told g which =
+  ends_fault {X} it stop fault status new d is wanted told g which =
       let gives = subst (λ (w : Status). Gives (record { status = w; lines = sent_packets it.cut it.time it.sends.items }) status (shown_by sink put)
       (shown_by sink new)) told g in
       record {
@@ -159,7 +144,7 @@ module _ {B K : Type 0} (source : sources.Ghosts B) (sink : sinks.Ghosts K) (beg
             subst (IsStopAt network d.events (behind_lines (length d.events) octets)) is at in
             fault_given begun.link begun.way network octets d.events d.notes fault admitted behind d.so_far status (shown_by sink old) (shown_by sink new)
             (all_gives sink network d.events d.notes begun it (fault_status fault) status old put new d.sees gives));
-        cut = λ read. absurd (no_read wanted status (λ e. not_read fault (sym told ∙ e)) which read);
+        cut = λ read. absurd (fault_no_read fault status (subst (λ (w : Status). (status ≡ w) ⊎ ((status ≡ WriteFault) × X)) told which) read);
         little =
             little_at source sink begun way_sees way_stops (lines begun) (IsOwn begun) (way_along begun) network first origin now trace old put it stop d
             (shown_by sink new)

@@ -7,11 +7,11 @@ use Rattle.tte_captures.proofs.wires_lemmas.Words.{true, unsettled, ℕ}
 use Rattle.std.proofs.Common.{◌&&◌, filter, nat_lt, not}
 use Rattle.std.proofs.lemmas.Bool.{and_from, cases_Bool, cases_lt, eq-eqb, false_from_ne_true, lt-ltb, ltb-true, not-true, not_from_false, not_from_true}
 use Rattle.std.proofs.lemmas.{Bool.{or_cases, or_left, or_right}, List.Elements.filter-append}
-use Rattle.precision_law.proofs.records.Times.{in_kept}
 use Rattle.run_law.proofs.{law.FirstPlaces.{in_filter, none_kept}, records.Order.{all_kept, any_in, in_any, same_kept}}
 use Rattle.run_law.{proofs.runs.Places.{in_left, in_parts, in_right, parted}, specs.records.Order.IsBefore}
 use Rattle.tte_captures.specs.wires.Packets.{is_behind_events}
 pub use Rattle.tte_captures.specs.wires.Stopping.{filter_has}
+use Rattle.run_law.proofs.records.Members.{in_kept}
 
 -- ---- behind the events of a time
 

@@ -1,23 +1,16 @@
 -- What `wire` answers for the octets of a network file and of a trace.
 use Rattle.std.specs.Prelude.{◌≡◌, ◌⊎◌, List, [], length, ℕ}
-use Rattle.net_file.specs.declared.refusal.FileRefusal.{FileRefusal}
 use Rattle.net_plan.specs.{Bearers.{HasNoBearer, IsFirstBearer, link_names}, declared.event.Event.Event}
 use Rattle.net_plan.specs.declared.{ids.LinkId.LinkId, network.Network.Network, tables.Way.Way}
 use Rattle.tte_captures.specs.pcap.Writing.{head_octets}
 use Rattle.run_law.specs.declared.note.Note.{Note}
-use Rattle.schedule_checker.specs.declared.refusal.RuleBroken.{RuleBroken}
 use Rattle.tte_forms.specs.{Answering.{Answer, with_line}, declared.accepting.NoNetwork.NoNetwork}
-use Rattle.tte_forms.specs.declared.status.Status.{Status}
-use Rattle.tte_forms.specs.declared.status.Status.TheVariants.{AuditRefused, CaptureRefused, Done, FrameRefused}
-use Rattle.tte_forms.specs.declared.status.Status.TheVariants.{GranuleRefused, NameRefused, NetworkRefused}
-use Rattle.tte_forms.specs.declared.status.Status.TheVariants.{NumberRefused, OutOfMemory, OutsideHypothesis, ReadFault}
-use Rattle.tte_forms.specs.declared.status.Status.TheVariants.{TooLong, TraceRefused, Usage, VoteRefused, WriteFault}
-use Rattle.tte_forms.specs.networks.Accepting.{IsTooLong, MeansAccepted, MeansNoNetwork, MeansUnfit, too_long_answer}
-use Rattle.tte_traces.specs.{Answer.{AnswersAll, LinesOf}, FaultLine.fault_status}
+use Rattle.tte_forms.specs.declared.status.Status.{Status, TheVariants.NameRefused}
+use Rattle.tte_forms.specs.networks.{Accepting.IsAnswerBy, NoNetworks.answer_by}
+use Rattle.tte_traces.specs.{Answer.{AnswersAll, IsRunStatus, LinesOf}, FaultLine.fault_status}
 use Rattle.tte_traces.specs.{Lines.{AreAdmitted, IsFault, behind_lines}, declared.fault.TraceFault.TraceFault}
 use Rattle.world_drive.specs.exact.Records.{AreRecordsSoFar}
 use Rattle.tte_captures.specs.wires.Packets.{capture_of}
-use Rattle.tte_forms.specs.declared.accepting.NoNetwork.TheVariants as causes
 
 -- ---- the packets of a way
 
@@ -65,41 +58,19 @@ IsWireAnswer name way octets network a =
     (HasNoBearer (link_names network.link) name × (a ≡ name_answer))
     ⊎ ((link : LinkId) × IsNamed network name link × IsHeaded (IsCapture link way octets network) a)
 
--- the answer for a network that is refused, of which nothing is written
-abbrev pub silent_answer : Answer
-silent_answer = record { status = NetworkRefused; lines = [] }
+-- of a network that is refused nothing is written
+abbrev pub silent_lines : List ℕ → List (List ℕ)
+silent_lines reason = []
 
 -- the answer for the octets of a network file, where that for an accepted network is given
 abbrev pub IsWireNetworkAnswer : (Network → Answer → Type 0) → List ℕ → Answer → Type 0
-IsWireNetworkAnswer IsAnswerFor octets a =
-    (IsTooLong octets × (a ≡ too_long_answer))
-    ⊎ ((refusal : FileRefusal) × MeansNoNetwork octets refusal × (a ≡ silent_answer))
-    ⊎ ((told : RuleBroken) × MeansUnfit octets told × (a ≡ silent_answer))
-    ⊎ ((network : Network) × MeansAccepted octets network × IsAnswerFor network a)
+IsWireNetworkAnswer IsAnswerFor octets a = IsAnswerBy silent_lines IsAnswerFor octets a
 
 -- what is answered where there is no accepted network
 abbrev pub quiet_answer : NoNetwork → Answer
-quiet_answer causes.ReadFault = record { status = ReadFault; lines = [] }
-quiet_answer causes.TooLong = too_long_answer
-quiet_answer causes.OutOfMemory = record { status = OutOfMemory; lines = [] }
-quiet_answer (causes.File refusal) = silent_answer
-quiet_answer (causes.Rule told) = silent_answer
+quiet_answer cause = answer_by silent_lines cause
 
 -- the statuses of `wire`
 abbrev pub IsWireStatus : Status → Type 0
-IsWireStatus Done = Unit {0}
-IsWireStatus Usage = ⊥
-IsWireStatus FrameRefused = ⊥
-IsWireStatus NetworkRefused = Unit {0}
-IsWireStatus TraceRefused = Unit {0}
-IsWireStatus OutsideHypothesis = Unit {0}
-IsWireStatus ReadFault = Unit {0}
-IsWireStatus WriteFault = Unit {0}
-IsWireStatus OutOfMemory = Unit {0}
-IsWireStatus TooLong = Unit {0}
-IsWireStatus AuditRefused = ⊥
-IsWireStatus GranuleRefused = ⊥
-IsWireStatus CaptureRefused = ⊥
 IsWireStatus NameRefused = Unit {0}
-IsWireStatus VoteRefused = ⊥
-IsWireStatus NumberRefused = ⊥
+IsWireStatus other = IsRunStatus other

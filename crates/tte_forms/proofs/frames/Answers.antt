@@ -1,13 +1,13 @@
 -- The answer of `show` for a source, and for a file that spells a sequence of frames.
-use Rattle.std.proofs.Common.{◌*◌, ◌++◌, ◌+◌, ◌-◌, ◌<◌, ◌∙◌, ◌∷◌, ◌≡◌, ◌≢◌, ◌≤◌, Err, List, Result, [], ap, append_assoc, arith, drop, inl, inr, length}
+use Rattle.std.proofs.Common.{◌*◌, ◌++◌, ◌+◌, ◌-◌, ◌<◌, ◌∙◌, ◌∷◌, ◌≡◌, ◌≢◌, ◌≤◌, Err, List, Result, [], ap, append_assoc, arith, drop, length}
 use Rattle.std.proofs.{Common.{length-append, refl, subst, suc, sym, take, ℕ}, Math.Seq.{drop-append_seam, take-append_seam}, lemmas.Bool.{le-ltb, lt-ltb}}
 use Rattle.std.{proofs.lemmas.List.{append-nil, drop-drop, nil_from_length}, specs.Prelude.{IfSome, Option}}
 use Rattle.pcf_codec.{proofs.{Outcomes.spelt_read, Sequences.length-spelling}, specs.{Decoding.decoded, Sequence.{IsLongestFront, SpellsAll}}}
 use Rattle.pcf_codec.specs.{Spelling.pcf_length, declared.refusal.PcfRefusal.PcfRefusal}
 use Rattle.pcf_values.specs.declared.pcf.Pcf.{Pcf}
 use Rattle.tte_forms.proofs.{Octets.{for_read, for_too_many}, Puts.{Ends-gives, PutsLines-none}, frames.Frames.{behind, no_frame}}
-use Rattle.tte_forms.specs.{Answering.{Answer, Answers, Ends, Gives, IsDone, with_line}, Putting.Shown, declared.status.Status.Status}
-use Rattle.tte_forms.specs.declared.status.Status.TheVariants.{Done, FrameRefused, ReadFault, TooLong, WriteFault}
+use Rattle.tte_forms.specs.{Answering.{Answer, Answers, Ends, Gives, with_line}, Putting.Shown, declared.status.Status.Status}
+use Rattle.tte_forms.specs.declared.status.Status.TheVariants.{Done, FrameRefused, TooLong}
 use Rattle.tte_forms.specs.frames.{Answer.{file_limit, frame_at, frame_count, frames_answer, judgement_of, show_answer}, FrameLine.{frame_line, refusal_line}}
 use Rattle.tte_forms.specs.frames.Law.{ShowsFrames, frame_lines}
 
@@ -99,14 +99,3 @@ refused octets rest ps e short l bad some =
 
 pub shows_frames : ShowsFrames
 shows_frames = record { whole = whole; refused = refused }
-
--- a file that spells a sequence is shown to its end
-pub shown_whole : (octets : List ℕ) (ps : List Pcf) (status : Status) (old new : Shown) (SourceRose SinkRose : Type 0) → length octets ≤ file_limit
-    → SpellsAll octets ps
-    → Gives (show_answer octets) status old new → (status ≡ ReadFault → SourceRose) → (status ≡ WriteFault → SinkRose) → (SourceRose → ⊥) → (SinkRose → ⊥)
-    → IsDone status
-shown_whole octets ps status old new SourceRose SinkRose short s (inl g) read write quiet calm =
-    inl (g.0 ∙ ap (λ (a : Answer). a.status) (whole octets ps short s))
-shown_whole octets ps status old new SourceRose SinkRose short s (inr (inl g)) read write quiet calm = absurd (calm (write g.0))
-shown_whole octets ps status old new SourceRose SinkRose short s (inr (inr (inl r, p))) read write quiet calm = absurd (quiet (read r))
-shown_whole octets ps status old new SourceRose SinkRose short s (inr (inr (inr m, p))) read write quiet calm = inr m

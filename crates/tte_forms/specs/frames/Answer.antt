@@ -3,11 +3,8 @@ use Rattle.std.specs.{Fork.slice_chunk, Int.div_ceil}
 use Rattle.std.specs.Prelude.{if◌then◌else◌, ◌+◌, ◌∷◌, Err, List, Ok, Result, [], length, nat_lt, suc, zero, ℕ}
 use Rattle.pcf_codec.specs.{Decoding.decoded, Spelling.pcf_length, declared.refusal.PcfRefusal.PcfRefusal}
 use Rattle.pcf_values.specs.declared.pcf.Pcf.{Pcf}
-use Rattle.tte_forms.specs.{Answering.{Answer, with_line}, declared.status.Status.Status}
-use Rattle.tte_forms.specs.declared.status.Status.TheVariants.{AuditRefused, CaptureRefused, Done, FrameRefused}
-use Rattle.tte_forms.specs.declared.status.Status.TheVariants.{GranuleRefused, NameRefused, NetworkRefused}
-use Rattle.tte_forms.specs.declared.status.Status.TheVariants.{NumberRefused, OutOfMemory, OutsideHypothesis, ReadFault}
-use Rattle.tte_forms.specs.declared.status.Status.TheVariants.{TooLong, TraceRefused, Usage, VoteRefused, WriteFault}
+use Rattle.tte_forms.specs.{Answering.{Answer, with_line}, Statuses.IsFileStatus}
+use Rattle.tte_forms.specs.declared.status.Status.{Status, TheVariants.{Done, FrameRefused, TooLong}}
 use Rattle.tte_forms.specs.frames.FrameLine.{frame_line, refusal_line}
 
 -- how many octets a file has at most
@@ -41,19 +38,5 @@ show_answer octets =
 
 -- the statuses of `show`
 abbrev pub IsShowStatus : Status → Type 0
-IsShowStatus Done = Unit {0}
-IsShowStatus Usage = ⊥
 IsShowStatus FrameRefused = Unit {0}
-IsShowStatus NetworkRefused = ⊥
-IsShowStatus TraceRefused = ⊥
-IsShowStatus OutsideHypothesis = ⊥
-IsShowStatus ReadFault = Unit {0}
-IsShowStatus WriteFault = Unit {0}
-IsShowStatus OutOfMemory = Unit {0}
-IsShowStatus TooLong = Unit {0}
-IsShowStatus AuditRefused = ⊥
-IsShowStatus GranuleRefused = ⊥
-IsShowStatus CaptureRefused = ⊥
-IsShowStatus NameRefused = ⊥
-IsShowStatus VoteRefused = ⊥
-IsShowStatus NumberRefused = ⊥
+IsShowStatus other = IsFileStatus other

@@ -1,10 +1,10 @@
 -- How a network file is judged.
-use Rattle.std.specs.Prelude.{◌<◌, ◌≡◌, ◌≤◌, ◌⊎◌, Err, List, Ok, [], length, ℕ}
+use Rattle.std.specs.Prelude.{◌<◌, ◌∷◌, ◌≡◌, ◌≤◌, ◌⊎◌, Err, List, Ok, [], length, ℕ}
 use Rattle.net_file.specs.{Schema.network_read, declared.refusal.FileRefusal.FileRefusal}
 use Rattle.net_plan.specs.declared.network.Network.{Network}
 use Rattle.schedule_checker.specs.{Refusals.TellsFirstBroken, declared.refusal.RuleBroken.RuleBroken}
 use Rattle.schedule_tables.specs.Rules.{KeepsRules}
-use Rattle.tte_forms.specs.Answering.{Answer, line_answer}
+use Rattle.tte_forms.specs.Answering.{Answer}
 use Rattle.tte_forms.specs.{declared.status.Status.TheVariants.{NetworkRefused, TooLong}, frames.Answer.file_limit}
 use Rattle.tte_forms.specs.networks.NetworkLine.{file_reason, network_refusal_line, rule_reason}
 
@@ -39,14 +39,26 @@ pub record MeansAccepted (octets : List ℕ) (network : Network) : Type 0 where
 abbrev pub too_long_answer : Answer
 too_long_answer = record { status = TooLong; lines = [] }
 
--- the answer for a network that is refused for this reason
-abbrev pub refused_answer : List ℕ → Answer
-refused_answer reason = line_answer NetworkRefused (network_refusal_line reason)
+-- the lines about a network that is refused for this reason
+abbrev pub refusal_lines : List ℕ → List (List ℕ)
+refusal_lines reason = network_refusal_line reason ∷ []
 
--- the answer for the octets of a network file, where that for an accepted network is given
-abbrev pub IsNetworkAnswer : (Network → Answer → Type 0) → List ℕ → Answer → Type 0
-IsNetworkAnswer IsAnswerFor octets a =
+-- the answer for a network that is refused, of which these lines are put by the reason
+abbrev pub refused_by : (List ℕ → List (List ℕ)) → List ℕ → Answer
+refused_by lines reason = record { status = NetworkRefused; lines = lines reason }
+
+abbrev pub refused_answer : List ℕ → Answer
+refused_answer reason = refused_by refusal_lines reason
+
+-- the answer for the octets of a network file, where the lines about one that is refused and the answer for an accepted
+-- one are given
+abbrev pub IsAnswerBy : (List ℕ → List (List ℕ)) → (Network → Answer → Type 0) → List ℕ → Answer → Type 0
+IsAnswerBy lines IsAnswerFor octets a =
     (IsTooLong octets × (a ≡ too_long_answer))
-    ⊎ ((refusal : FileRefusal) × MeansNoNetwork octets refusal × (a ≡ refused_answer (file_reason refusal)))
-    ⊎ ((told : RuleBroken) × MeansUnfit octets told × (a ≡ refused_answer (rule_reason told)))
+    ⊎ ((refusal : FileRefusal) × MeansNoNetwork octets refusal × (a ≡ refused_by lines (file_reason refusal)))
+    ⊎ ((told : RuleBroken) × MeansUnfit octets told × (a ≡ refused_by lines (rule_reason told)))
     ⊎ ((network : Network) × MeansAccepted octets network × IsAnswerFor network a)
+
+-- where a refusal is told by its line
+abbrev pub IsNetworkAnswer : (Network → Answer → Type 0) → List ℕ → Answer → Type 0
+IsNetworkAnswer IsAnswerFor octets a = IsAnswerBy refusal_lines IsAnswerFor octets a

@@ -1,11 +1,8 @@
 -- What `check` answers for the octets of a network file.
 use Rattle.std.specs.Prelude.{◌∷◌, ◌≡◌, List, [], pos, ℕ}
 use Rattle.net_plan.specs.{Bounds.{IsBeta, gamma_of}, declared.network.Network.Network}
-use Rattle.tte_forms.specs.{Answering.Answer, declared.status.Status.Status}
-use Rattle.tte_forms.specs.declared.status.Status.TheVariants.{AuditRefused, CaptureRefused, Done, FrameRefused}
-use Rattle.tte_forms.specs.declared.status.Status.TheVariants.{GranuleRefused, NameRefused, NetworkRefused}
-use Rattle.tte_forms.specs.declared.status.Status.TheVariants.{NumberRefused, OutOfMemory, OutsideHypothesis, ReadFault}
-use Rattle.tte_forms.specs.declared.status.Status.TheVariants.{TooLong, TraceRefused, Usage, VoteRefused, WriteFault}
+use Rattle.tte_forms.specs.{Answering.Answer, Statuses.IsNetworkStatus}
+use Rattle.tte_forms.specs.declared.status.Status.{Status, TheVariants.Done}
 use Rattle.tte_forms.specs.networks.{Accepting.IsNetworkAnswer, NetworkLine.acceptance_line}
 
 -- an accepted network is answered with its beta and its gamma
@@ -20,19 +17,4 @@ IsCheckAnswer octets a = IsNetworkAnswer IsAcceptance octets a
 
 -- the statuses of `check`
 abbrev pub IsCheckStatus : Status → Type 0
-IsCheckStatus Done = Unit {0}
-IsCheckStatus Usage = ⊥
-IsCheckStatus FrameRefused = ⊥
-IsCheckStatus NetworkRefused = Unit {0}
-IsCheckStatus TraceRefused = ⊥
-IsCheckStatus OutsideHypothesis = ⊥
-IsCheckStatus ReadFault = Unit {0}
-IsCheckStatus WriteFault = Unit {0}
-IsCheckStatus OutOfMemory = Unit {0}
-IsCheckStatus TooLong = Unit {0}
-IsCheckStatus AuditRefused = ⊥
-IsCheckStatus GranuleRefused = ⊥
-IsCheckStatus CaptureRefused = ⊥
-IsCheckStatus NameRefused = ⊥
-IsCheckStatus VoteRefused = ⊥
-IsCheckStatus NumberRefused = ⊥
+IsCheckStatus status = IsNetworkStatus status

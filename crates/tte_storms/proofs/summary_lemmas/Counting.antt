@@ -135,88 +135,32 @@ counted_one : (old new : Counts) (note : Note) → new ≡ counts_with note.body
     → new ≡ counts_of (notes ++ note ∷ [])
 counted_one old new note is notes so_far = is ∙ ap (counts_with note.body) so_far ∙ sym (counts_grow notes note)
 
+-- these counts
+abbrev pub the_counts : ℕ → ℕ → ℕ → ℕ → ℕ → ℕ → ℕ → Drops → Counts
+the_counts all compressed corrected lost tt_sent accepted delivered dropped = record {
+  records = all;
+  compressed = compressed;
+  corrected = corrected;
+  lost = lost;
+  tt_sent = tt_sent;
+  accepted = accepted;
+  delivered = delivered;
+  dropped = dropped;
+}
+
 -- the counts with one more that this line counts
 abbrev pub counts_and : Counted → Counts → Counts
-counts_and lines.Compressed c = record {
-  records = c.records + 1;
-  compressed = c.compressed + 1;
-  corrected = c.corrected;
-  lost = c.lost;
-  tt_sent = c.tt_sent;
-  accepted = c.accepted;
-  delivered = c.delivered;
-  dropped = c.dropped;
-}
-counts_and lines.Corrected c = record {
-  records = c.records + 1;
-  compressed = c.compressed;
-  corrected = c.corrected + 1;
-  lost = c.lost;
-  tt_sent = c.tt_sent;
-  accepted = c.accepted;
-  delivered = c.delivered;
-  dropped = c.dropped;
-}
-counts_and lines.Lost c = record {
-  records = c.records + 1;
-  compressed = c.compressed;
-  corrected = c.corrected;
-  lost = c.lost + 1;
-  tt_sent = c.tt_sent;
-  accepted = c.accepted;
-  delivered = c.delivered;
-  dropped = c.dropped;
-}
-counts_and lines.TtSent c = record {
-  records = c.records + 1;
-  compressed = c.compressed;
-  corrected = c.corrected;
-  lost = c.lost;
-  tt_sent = c.tt_sent + 1;
-  accepted = c.accepted;
-  delivered = c.delivered;
-  dropped = c.dropped;
-}
-counts_and lines.Accepted c = record {
-  records = c.records + 1;
-  compressed = c.compressed;
-  corrected = c.corrected;
-  lost = c.lost;
-  tt_sent = c.tt_sent;
-  accepted = c.accepted + 1;
-  delivered = c.delivered;
-  dropped = c.dropped;
-}
-counts_and lines.Delivered c = record {
-  records = c.records + 1;
-  compressed = c.compressed;
-  corrected = c.corrected;
-  lost = c.lost;
-  tt_sent = c.tt_sent;
-  accepted = c.accepted;
-  delivered = c.delivered + 1;
-  dropped = c.dropped;
-}
-counts_and (lines.Dropped reason) c = record {
-  records = c.records + 1;
-  compressed = c.compressed;
-  corrected = c.corrected;
-  lost = c.lost;
-  tt_sent = c.tt_sent;
-  accepted = c.accepted;
-  delivered = c.delivered;
-  dropped = with_drop reason c.dropped;
-}
-counts_and lines.Unlisted c = record {
-  records = c.records + 1;
-  compressed = c.compressed;
-  corrected = c.corrected;
-  lost = c.lost;
-  tt_sent = c.tt_sent;
-  accepted = c.accepted;
-  delivered = c.delivered;
-  dropped = c.dropped;
-}
+counts_and lines.Compressed c =
+    the_counts (c.records + 1) (c.compressed + 1) c.corrected c.lost c.tt_sent c.accepted c.delivered c.dropped
+counts_and lines.Corrected c =
+    the_counts (c.records + 1) c.compressed (c.corrected + 1) c.lost c.tt_sent c.accepted c.delivered c.dropped
+counts_and lines.Lost c = the_counts (c.records + 1) c.compressed c.corrected (c.lost + 1) c.tt_sent c.accepted c.delivered c.dropped
+counts_and lines.TtSent c = the_counts (c.records + 1) c.compressed c.corrected c.lost (c.tt_sent + 1) c.accepted c.delivered c.dropped
+counts_and lines.Accepted c = the_counts (c.records + 1) c.compressed c.corrected c.lost c.tt_sent (c.accepted + 1) c.delivered c.dropped
+counts_and lines.Delivered c = the_counts (c.records + 1) c.compressed c.corrected c.lost c.tt_sent c.accepted (c.delivered + 1) c.dropped
+counts_and (lines.Dropped reason) c =
+    the_counts (c.records + 1) c.compressed c.corrected c.lost c.tt_sent c.accepted c.delivered (with_drop reason c.dropped)
+counts_and lines.Unlisted c = the_counts (c.records + 1) c.compressed c.corrected c.lost c.tt_sent c.accepted c.delivered c.dropped
 
 -- they are those with the record that it counts
 counts_line : (counted : Counted) (body : NoteBody) (c : Counts) → counted ≡ counted_as body → counts_and counted c ≡ counts_with body c

@@ -11,8 +11,8 @@ returns-in-Ok-clause-general g c =
 pub returns-in-Ok-clause-safe : goal.returns-in-Ok-clause-safe
 returns-in-Ok-clause-safe g c =
     let shown = shown_by g.K.Sink in
-    storm_safely c.args.seed c.args.cycles (g.A.Source.left c.args.source.now) c.in-Ok.accepted c.run_storm.result (shown c.args.out.now)
-    (shown c.run_storm.new.out) c.in-Ok.ensures.accepted c.run_storm.ensures.ends
+    storm_safely c.args.seed c.args.cycles c.run_storm.result (shown c.args.out.now) (shown c.run_storm.new.out) (g.A.Source.left c.args.source.now)
+    c.in-Ok.accepted c.in-Ok.ensures.accepted c.run_storm.ensures.ends
 
 pub returns-in-Err-clause-general : goal.returns-in-Err-clause-general
 returns-in-Err-clause-general g c =
@@ -23,5 +23,5 @@ returns-in-Err-clause-general g c =
 pub returns-in-Err-clause-safe : goal.returns-in-Err-clause-safe
 returns-in-Err-clause-safe g c =
     let shown = shown_by g.K.Sink in
-    none_safely c.args.seed c.args.cycles (g.A.Source.left c.args.source.now) c.in-Err.cause c.put_no_network.result (shown c.args.out.now)
-    (shown c.put_no_network.new.out) c.in-Err.ensures.none c.put_no_network.ensures.gives
+    none_safely c.args.seed c.args.cycles c.put_no_network.result (shown c.args.out.now) (shown c.put_no_network.new.out)
+    (g.A.Source.left c.args.source.now) c.in-Err.cause c.put_no_network.ensures.gives

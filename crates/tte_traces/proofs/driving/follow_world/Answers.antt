@@ -1,7 +1,9 @@
-use Rattle.tte_traces.proofs.Words.{◌+◌, GaveEvents, Gives, IsTraceAnswer, Network, RunEnds, TraceFault, [], arith, fault_answer, shown_by, subst, sym}
-use Rattle.tte_forms.specs.{Faults.PutFailed, declared.status.Status.TheVariants.{ReadFault, WriteFault}}
+use Rattle.tte_traces.proofs.Words.{◌+◌, GaveEvents, Gives, Network, TraceFault, [], arith, fault_answer, shown_by, subst, sym}
+use Rattle.tte_forms.specs.Faults.{PutFailed}
 use Rattle.world_drive.specs.Observing.{FailsBy}
-use Rattle.tte_traces.proofs.{Ends.{IsStatusOf, ends_all, ends_fault, ends_memory, ends_read, ends_unpassed, ends_write, memory_cause}, Taken.gave_none}
+use Rattle.tte_traces.proofs.Ends.{IsStatusOf, ends_all, ends_fault, ends_for, ends_memory, ends_read, ends_unpassed, ends_write, memory_cause}
+use Rattle.tte_traces.proofs.{Taken.gave_none}
+use Rattle.tte_traces.specs.Answer.{IsTraceAnswer}
 use Rattle.tte_traces.proofs.driving.follow_world.Goals as goal
 
 pub drive-requires-clause-source : goal.drive-requires-clause-source
@@ -11,127 +13,58 @@ drive-requires-clause-source g c =
 
 pub returns-in-All-clause-ends : goal.returns-in-All-clause-ends
 returns-in-All-clause-ends g c = λ lines along.
-    let n = c.network-network.result.now in
-    let shown = shown_by g.K.Sink in
-    let first = c.args.second.now in
-    let now = c.drive.new.from in
-    let old = c.args.out.now in
-    let mid = c.drive.new.out in
-    let left = g.B.Source.left in
-    let see = g.O.Observer.sees in
-    let stops = g.O.Observer.stops in
-    subst (λ (m : Network). RunEnds (λ trace. IsTraceAnswer lines trace m) lines m (left first) (left now) c.end_with.result (shown old)
-    (shown c.end_with.new.out))
-    c.network-network.ensures.value
-    (ends_all g.B.Source g.K.Sink c.args.observer.now see stops lines along n first c.new-trace.result now c.drive.new.source old mid c.drive.new.world
-    c.drive.new.observer c.in-All.ensures c.end_with.result
-    c.end_with.new.out c.end_with.ensures.ends)
+    ends_for (IsTraceAnswer lines) lines c.network-network.ensures.value
+    (ends_all g.B.Source g.K.Sink c.args.observer.now _ _ lines along _ _ _ _ _ _ _ _ _ c.in-All.ensures c.end_with.result c.end_with.new.out
+    c.end_with.ensures.ends)
 
 pub returns-in-Stopped-Fault-clause-ends : goal.returns-in-Stopped-Fault-clause-ends
 returns-in-Stopped-Fault-clause-ends g c = λ lines along.
-    let n = c.network-network.result.now in
     let shown = shown_by g.K.Sink in
-    let first = c.args.second.now in
-    let now = c.drive.new.from in
-    let old = c.args.out.now in
     let mid = c.drive.new.out in
-    let left = g.B.Source.left in
-    let see = g.O.Observer.sees in
-    let stops = g.O.Observer.stops in
     let line = c.from-line.result + 1 in
-    let fault = c.in-Stopped-Fault.fault in
     let gives = subst (λ (f : TraceFault). Gives (fault_answer line f) c.put_fault.result (shown mid) (shown c.put_fault.new.out)) c.in-Stopped-Fault.fault-is
     c.put_fault.ensures.gives in
     let status = subst (λ (f : TraceFault). IsStatusOf f c.put_fault.result (PutFailed g.K.Sink mid c.put_fault.new.out)) c.in-Stopped-Fault.fault-is
     c.put_fault.ensures.status in
     let a = c.from-line.ensures in
     let b = c.lines.ensures in
-    subst (λ (m : Network). RunEnds (λ trace. IsTraceAnswer lines trace m) lines m (left first) (left now) c.put_fault.result (shown old)
-    (shown c.put_fault.new.out))
-    c.network-network.ensures.value
-    (ends_fault g.B.Source g.K.Sink c.args.observer.now see stops lines along n first c.new-trace.result now c.drive.new.source old mid c.drive.new.observer
-    c.in-Stopped-Fault.field-0 c.in-Stopped-Fault.ensures
-    fault line c.put_fault.result c.put_fault.new.out c.in-Stopped-Fault.field-0-is (omega (arith, a, b)) gives status)
+    ends_for (IsTraceAnswer lines) lines c.network-network.ensures.value
+    (ends_fault g.B.Source g.K.Sink c.args.observer.now _ _ lines along _ _ _ _ _ _ _ _ _ c.in-Stopped-Fault.ensures _ line c.put_fault.result
+    c.put_fault.new.out
+    c.in-Stopped-Fault.field-0-is (omega (arith, a, b)) gives status)
 
 pub returns-in-Stopped-ReadFault-clause-ends : goal.returns-in-Stopped-ReadFault-clause-ends
 returns-in-Stopped-ReadFault-clause-ends g c = λ lines along.
-    let n = c.network-network.result.now in
-    let shown = shown_by g.K.Sink in
-    let first = c.args.second.now in
-    let now = c.drive.new.from in
-    let old = c.args.out.now in
-    let mid = c.drive.new.out in
-    let left = g.B.Source.left in
-    let see = g.O.Observer.sees in
-    let stops = g.O.Observer.stops in
-    subst (λ (m : Network). RunEnds (λ trace. IsTraceAnswer lines trace m) lines m (left first) (left now) ReadFault (shown old) (shown mid))
-    c.network-network.ensures.value
-    (ends_read g.B.Source g.K.Sink c.args.observer.now see stops lines (IsTraceAnswer lines) along n first c.new-trace.result now c.drive.new.source old mid
-    c.drive.new.observer c.in-Stopped-ReadFault.field-0
-    c.in-Stopped-ReadFault.ensures c.in-Stopped-ReadFault.field-0-is)
+    ends_for (IsTraceAnswer lines) lines c.network-network.ensures.value
+    (ends_read g.B.Source g.K.Sink c.args.observer.now _ _ lines (IsTraceAnswer lines) along _ _ _ _ _ _ _ _ _ c.in-Stopped-ReadFault.ensures
+    c.in-Stopped-ReadFault.field-0-is)
 
 pub returns-in-Stopped-WriteFault-clause-ends : goal.returns-in-Stopped-WriteFault-clause-ends
 returns-in-Stopped-WriteFault-clause-ends g c = λ lines along.
-    let n = c.network-network.result.now in
-    let shown = shown_by g.K.Sink in
-    let first = c.args.second.now in
-    let now = c.drive.new.from in
-    let old = c.args.out.now in
-    let mid = c.drive.new.out in
-    let left = g.B.Source.left in
-    let see = g.O.Observer.sees in
-    let stops = g.O.Observer.stops in
-    subst (λ (m : Network). RunEnds (λ trace. IsTraceAnswer lines trace m) lines m (left first) (left now) WriteFault (shown old) (shown mid))
-    c.network-network.ensures.value
-    (ends_unpassed g.B.Source g.K.Sink c.args.observer.now see stops lines (IsTraceAnswer lines) along n first c.new-trace.result now c.drive.new.source old mid
-    c.drive.new.observer c.in-Stopped-WriteFault.field-0
-    c.in-Stopped-WriteFault.ensures)
+    ends_for (IsTraceAnswer lines) lines c.network-network.ensures.value
+    (ends_unpassed g.B.Source g.K.Sink c.args.observer.now _ _ lines (IsTraceAnswer lines) along _ _ _ _ _ _ _ _ _ c.in-Stopped-WriteFault.ensures)
 
 pub returns-in-Cut-WriteFault-clause-ends : goal.returns-in-Cut-WriteFault-clause-ends
 returns-in-Cut-WriteFault-clause-ends g c = λ lines along.
-    let n = c.network-network.result.now in
-    let shown = shown_by g.K.Sink in
-    let first = c.args.second.now in
-    let now = c.drive.new.from in
-    let old = c.args.out.now in
-    let mid = c.drive.new.out in
-    let left = g.B.Source.left in
-    let see = g.O.Observer.sees in
-    let stops = g.O.Observer.stops in
-    subst (λ (m : Network). RunEnds (λ trace. IsTraceAnswer lines trace m) lines m (left first) (left now) WriteFault (shown old) (shown mid))
-    c.network-network.ensures.value
-    (ends_write g.B.Source g.K.Sink c.args.observer.now see stops lines (IsTraceAnswer lines) along n first c.new-trace.result now c.drive.new.source old mid
-    c.in-Cut-WriteFault.field-0 c.in-Cut-WriteFault.ensures
+    ends_for (IsTraceAnswer lines) lines c.network-network.ensures.value
+    (ends_write g.B.Source g.K.Sink c.args.observer.now _ _ lines (IsTraceAnswer lines) along _ _ _ _ _ _ _ _ c.in-Cut-WriteFault.ensures
     c.in-Cut-WriteFault.field-0-is)
 
 pub returns-in-Cut-OutOfMemory-clause-ends : goal.returns-in-Cut-OutOfMemory-clause-ends
 returns-in-Cut-OutOfMemory-clause-ends g c = λ lines along.
-    let n = c.network-network.result.now in
-    let shown = shown_by g.K.Sink in
-    let first = c.args.second.now in
-    let now = c.drive.new.from in
-    let old = c.args.out.now in
-    let mid = c.drive.new.out in
-    let left = g.B.Source.left in
-    let see = g.O.Observer.sees in
-    let stops = g.O.Observer.stops in
-    subst (λ (m : Network). RunEnds (λ trace. IsTraceAnswer lines trace m) lines m (left first) (left now) c.end_with-in-Cut-OutOfMemory.result (shown old)
-    (shown c.end_with-in-Cut-OutOfMemory.new.out))
-    c.network-network.ensures.value
-    (ends_memory g.B.Source g.K.Sink c.args.observer.now see stops lines (IsTraceAnswer lines) along n first c.new-trace.result now c.drive.new.source old mid
-    c.in-Cut-OutOfMemory.field-0 c.in-Cut-OutOfMemory.ensures
-    c.end_with-in-Cut-OutOfMemory.result c.end_with-in-Cut-OutOfMemory.new.out c.in-Cut-OutOfMemory.field-0-is c.end_with-in-Cut-OutOfMemory.ensures.ends)
+    let end = c.end_with-in-Cut-OutOfMemory in
+    ends_for (IsTraceAnswer lines) lines c.network-network.ensures.value
+    (ends_memory g.B.Source g.K.Sink c.args.observer.now _ _ lines (IsTraceAnswer lines) along _ _ _ _ _ _ _ _ c.in-Cut-OutOfMemory.ensures end.result
+    end.new.out c.in-Cut-OutOfMemory.field-0-is end.ensures.ends)
 
 pub returns-in-Cut-WriteFault-clause-cause : goal.returns-in-Cut-WriteFault-clause-cause
-returns-in-Cut-WriteFault-clause-cause g c =
-    record {
-      read = λ is. absurd cc;
-      write = λ is. subst (FailsBy g.K.Sink c.args.out.now c.drive.new.out) c.in-Cut-WriteFault.field-0-is c.in-Cut-WriteFault.ensures.cause;
-    }
+returns-in-Cut-WriteFault-clause-cause g c = record {
+  read = λ is. absurd cc;
+  write = λ is. subst (FailsBy g.K.Sink c.args.out.now c.drive.new.out) c.in-Cut-WriteFault.field-0-is c.in-Cut-WriteFault.ensures.cause;
+}
 
 pub returns-in-Cut-OutOfMemory-clause-cause : goal.returns-in-Cut-OutOfMemory-clause-cause
 returns-in-Cut-OutOfMemory-clause-cause g c =
-    let faults = g.K.Sink.faults in
+    let end = c.end_with-in-Cut-OutOfMemory in
     let still = subst (FailsBy g.K.Sink c.args.out.now c.drive.new.out) c.in-Cut-OutOfMemory.field-0-is c.in-Cut-OutOfMemory.ensures.cause in
-    memory_cause c.end_with-in-Cut-OutOfMemory.result (faults c.args.out.now) (faults c.drive.new.out) (faults c.end_with-in-Cut-OutOfMemory.new.out)
-    c.end_with-in-Cut-OutOfMemory.ensures.status still
+    memory_cause end.result _ _ (g.K.Sink.faults end.new.out) end.ensures.status still

@@ -1,8 +1,8 @@
-use Rattle.tte_votes.proofs.Words.{◌++◌, ◌+◌, Gives, Network, ReadFault, VotesEnd, WriteFault, [], arith, fault_lines, fault_status, no_lines, shown_by, subst}
+use Rattle.tte_votes.proofs.Words.{◌++◌, ◌+◌, Gives, Network, [], arith, fault_lines, fault_status, no_lines, shown_by, subst}
 use Rattle.tte_votes.proofs.Words.{sym, vote_lines}
 use Rattle.tte_forms.specs.Faults.{PutFailed}
-use Rattle.tte_traces.{proofs.{Ends.{IsStatusOf, ends_memory, ends_read, ends_unpassed, ends_write, memory_cause}, Taken.gave_none}, specs.Taking.GaveEvents}
-use Rattle.tte_traces.specs.declared.fault.TraceFault.{TraceFault}
+use Rattle.tte_traces.proofs.Ends.{IsStatusOf, ends_for, ends_memory, ends_read, ends_unpassed, ends_write, memory_cause}
+use Rattle.tte_traces.{proofs.Taken.gave_none, specs.{Taking.GaveEvents, declared.fault.TraceFault.TraceFault}}
 use Rattle.world_drive.specs.Observing.{FailsBy}
 use Rattle.tte_votes.proofs.{Along.{IsOwn, vote_sees, vote_stops, votes_along}, Ended.{ends_all, ends_fault}}
 use Rattle.tte_votes.proofs.voting.follow_votes.Goals as goal
@@ -14,22 +14,16 @@ drive-requires-clause-source g c =
 
 pub returns-in-All-clause-ends : goal.returns-in-All-clause-ends
 returns-in-All-clause-ends g c =
-    let n = c.network-network.result.now in
-    let shown = shown_by g.K.Sink in
-    let left = g.B.Source.left in
     let begun = c.args.voter.now in
     let d = c.in-All.ensures in
-    subst (λ (m : Network). VotesEnd begun.votes.voters m (left c.args.second.now) (left c.drive.new.from) c.end_votes.result (shown c.args.out.now)
-    (shown c.end_votes.new.out)) c.network-network.ensures.value
-    (ends_all g.B.Source g.K.Sink begun n c.args.second.now c.new-trace.result c.drive.new.from c.drive.new.source c.args.out.now c.drive.new.out
-    c.drive.new.world c.drive.new.observer c.end_votes.result c.end_votes.new.out d (c.end_votes.ensures.gives begun.votes.voters d.notes d.sees.votes)
-    c.end_votes.ensures.status)
+    ends_for (IsOwn begun) no_lines c.network-network.ensures.value
+    (ends_all g.B.Source g.K.Sink begun _ _ _ _ _ _ _ _ _ c.end_votes.result c.end_votes.new.out d
+    (c.end_votes.ensures.gives begun.votes.voters d.notes d.sees.votes) c.end_votes.ensures.status)
 
 pub returns-in-Stopped-Fault-clause-ends : goal.returns-in-Stopped-Fault-clause-ends
 returns-in-Stopped-Fault-clause-ends g c =
     let n = c.network-network.result.now in
     let shown = shown_by g.K.Sink in
-    let left = g.B.Source.left in
     let begun = c.args.voter.now in
     let d = c.in-Stopped-Fault.ensures in
     let mid = c.drive.new.out in
@@ -41,57 +35,37 @@ returns-in-Stopped-Fault-clause-ends g c =
     (c.end_at_fault.ensures.gives begun.votes.voters d.notes d.sees.votes) in
     let status = subst (λ (f : TraceFault). IsStatusOf f c.end_at_fault.result (PutFailed g.K.Sink mid c.end_at_fault.new.out)) c.in-Stopped-Fault.fault-is
     c.end_at_fault.ensures.status in
-    subst (λ (m : Network). VotesEnd begun.votes.voters m (left c.args.second.now) (left c.drive.new.from) c.end_at_fault.result (shown c.args.out.now)
-    (shown c.end_at_fault.new.out)) c.network-network.ensures.value
-    (ends_fault g.B.Source g.K.Sink begun n c.args.second.now c.new-trace.result c.drive.new.from c.drive.new.source c.args.out.now c.drive.new.out
-    c.drive.new.observer c.in-Stopped-Fault.field-0 c.in-Stopped-Fault.fault line c.end_at_fault.result c.end_at_fault.new.out d
+    ends_for (IsOwn begun) no_lines c.network-network.ensures.value
+    (ends_fault g.B.Source g.K.Sink begun _ _ _ _ _ _ _ _ _ c.in-Stopped-Fault.fault line c.end_at_fault.result c.end_at_fault.new.out d
     c.in-Stopped-Fault.field-0-is (omega (arith, a, b)) gives status)
 
 pub returns-in-Stopped-ReadFault-clause-ends : goal.returns-in-Stopped-ReadFault-clause-ends
 returns-in-Stopped-ReadFault-clause-ends g c =
-    let n = c.network-network.result.now in
-    let shown = shown_by g.K.Sink in
-    let left = g.B.Source.left in
     let begun = c.args.voter.now in
-    subst (λ (m : Network). VotesEnd begun.votes.voters m (left c.args.second.now) (left c.drive.new.from) ReadFault (shown c.args.out.now)
-    (shown c.drive.new.out)) c.network-network.ensures.value
-    (ends_read g.B.Source g.K.Sink begun vote_sees vote_stops no_lines (IsOwn begun) (votes_along begun) n c.args.second.now c.new-trace.result
-    c.drive.new.from c.drive.new.source c.args.out.now c.drive.new.out c.drive.new.observer c.in-Stopped-ReadFault.field-0 c.in-Stopped-ReadFault.ensures
+    ends_for (IsOwn begun) no_lines c.network-network.ensures.value
+    (ends_read g.B.Source g.K.Sink begun vote_sees vote_stops no_lines (IsOwn begun) (votes_along begun) _ _ _ _ _ _ _ _ _ c.in-Stopped-ReadFault.ensures
     c.in-Stopped-ReadFault.field-0-is)
 
 pub returns-in-Stopped-WriteFault-clause-ends : goal.returns-in-Stopped-WriteFault-clause-ends
 returns-in-Stopped-WriteFault-clause-ends g c =
-    let n = c.network-network.result.now in
-    let shown = shown_by g.K.Sink in
-    let left = g.B.Source.left in
     let begun = c.args.voter.now in
-    subst (λ (m : Network). VotesEnd begun.votes.voters m (left c.args.second.now) (left c.drive.new.from) WriteFault (shown c.args.out.now)
-    (shown c.drive.new.out)) c.network-network.ensures.value
-    (ends_unpassed g.B.Source g.K.Sink begun vote_sees vote_stops no_lines (IsOwn begun) (votes_along begun) n c.args.second.now c.new-trace.result
-    c.drive.new.from c.drive.new.source c.args.out.now c.drive.new.out c.drive.new.observer c.in-Stopped-WriteFault.field-0 c.in-Stopped-WriteFault.ensures)
+    ends_for (IsOwn begun) no_lines c.network-network.ensures.value
+    (ends_unpassed g.B.Source g.K.Sink begun vote_sees vote_stops no_lines (IsOwn begun) (votes_along begun) _ _ _ _ _ _ _ _ _
+    c.in-Stopped-WriteFault.ensures)
 
 pub returns-in-Cut-WriteFault-clause-ends : goal.returns-in-Cut-WriteFault-clause-ends
 returns-in-Cut-WriteFault-clause-ends g c =
-    let n = c.network-network.result.now in
-    let shown = shown_by g.K.Sink in
-    let left = g.B.Source.left in
     let begun = c.args.voter.now in
-    subst (λ (m : Network). VotesEnd begun.votes.voters m (left c.args.second.now) (left c.drive.new.from) WriteFault (shown c.args.out.now)
-    (shown c.drive.new.out)) c.network-network.ensures.value
-    (ends_write g.B.Source g.K.Sink begun vote_sees vote_stops no_lines (IsOwn begun) (votes_along begun) n c.args.second.now c.new-trace.result
-    c.drive.new.from c.drive.new.source c.args.out.now c.drive.new.out c.in-Cut-WriteFault.field-0 c.in-Cut-WriteFault.ensures c.in-Cut-WriteFault.field-0-is)
+    ends_for (IsOwn begun) no_lines c.network-network.ensures.value
+    (ends_write g.B.Source g.K.Sink begun vote_sees vote_stops no_lines (IsOwn begun) (votes_along begun) _ _ _ _ _ _ _ _ c.in-Cut-WriteFault.ensures
+    c.in-Cut-WriteFault.field-0-is)
 
 pub returns-in-Cut-OutOfMemory-clause-ends : goal.returns-in-Cut-OutOfMemory-clause-ends
 returns-in-Cut-OutOfMemory-clause-ends g c =
-    let n = c.network-network.result.now in
-    let shown = shown_by g.K.Sink in
-    let left = g.B.Source.left in
     let begun = c.args.voter.now in
-    subst (λ (m : Network). VotesEnd begun.votes.voters m (left c.args.second.now) (left c.drive.new.from) c.end_with.result (shown c.args.out.now)
-    (shown c.end_with.new.out)) c.network-network.ensures.value
-    (ends_memory g.B.Source g.K.Sink begun vote_sees vote_stops no_lines (IsOwn begun) (votes_along begun) n c.args.second.now c.new-trace.result
-    c.drive.new.from c.drive.new.source c.args.out.now c.drive.new.out c.in-Cut-OutOfMemory.field-0 c.in-Cut-OutOfMemory.ensures c.end_with.result
-    c.end_with.new.out c.in-Cut-OutOfMemory.field-0-is c.end_with.ensures.ends)
+    ends_for (IsOwn begun) no_lines c.network-network.ensures.value
+    (ends_memory g.B.Source g.K.Sink begun vote_sees vote_stops no_lines (IsOwn begun) (votes_along begun) _ _ _ _ _ _ _ _ c.in-Cut-OutOfMemory.ensures
+    c.end_with.result c.end_with.new.out c.in-Cut-OutOfMemory.field-0-is c.end_with.ensures.ends)
 
 pub returns-in-Cut-WriteFault-clause-cause : goal.returns-in-Cut-WriteFault-clause-cause
 returns-in-Cut-WriteFault-clause-cause g c = record {
@@ -101,6 +75,5 @@ returns-in-Cut-WriteFault-clause-cause g c = record {
 
 pub returns-in-Cut-OutOfMemory-clause-cause : goal.returns-in-Cut-OutOfMemory-clause-cause
 returns-in-Cut-OutOfMemory-clause-cause g c =
-    let faults = g.K.Sink.faults in
     let still = subst (FailsBy g.K.Sink c.args.out.now c.drive.new.out) c.in-Cut-OutOfMemory.field-0-is c.in-Cut-OutOfMemory.ensures.cause in
-    memory_cause c.end_with.result (faults c.args.out.now) (faults c.drive.new.out) (faults c.end_with.new.out) c.end_with.ensures.status still
+    memory_cause c.end_with.result _ _ (g.K.Sink.faults c.end_with.new.out) c.end_with.ensures.status still

@@ -1,5 +1,5 @@
-use Rattle.tte_votes.proofs.Words.{HoldsVotes, Voters, VotesEnd, [], refl, shown_by, subst, sym}
-use Rattle.tte_votes.proofs.Along.{votes_no_memory}
+use Rattle.tte_votes.proofs.Words.{HoldsVotes, Voters, VotesEnd, [], no_lines, refl, shown_by, subst, sym, vote_lines}
+use Rattle.tte_traces.{proofs.Sources.no_memory, specs.Answer.IsTraceAnswer}
 use Rattle.tte_votes.proofs.voting.vote_run.Goals as goal
 
 pub vote_world-requires : goal.vote_world-requires
@@ -17,4 +17,5 @@ returns-in-Ok-clause-ends g c =
 
 pub returns-in-Err-clause-ends : goal.returns-in-Err-clause-ends
 returns-in-Err-clause-ends g c =
-    votes_no_memory c.args.voters c.args.accepted.now (g.B.Source.left c.args.second.now) (shown_by g.K.Sink c.args.out.now)
+    no_memory (λ trace. IsTraceAnswer (vote_lines c.args.voters) trace c.args.accepted.now) no_lines c.args.accepted.now
+    (g.B.Source.left c.args.second.now) _ refl

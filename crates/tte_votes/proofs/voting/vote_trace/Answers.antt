@@ -1,40 +1,42 @@
-use Rattle.tte_votes.proofs.Words.{IsVoteAnswer, inr, shown_by}
-use Rattle.tte_traces.proofs.Sources.{trace_unaccepted}
-use Rattle.tte_votes.{proofs.{Ends.{general_of, little_of, stops_of, vote_accepted}, Safely.{none_safely, voted_safely}}, specs.Answer.the_names}
+use Rattle.tte_votes.proofs.Words.{IsVoteAnswer, inl, inr, refl, shown_by}
+use Rattle.tte_forms.{proofs.networks.Answers.{files_accepted, files_refused}, specs.networks.Accepting.refusal_lines}
+use Rattle.tte_traces.proofs.Safely.{safely_accepted, safely_refused}
+use Rattle.tte_votes.proofs.{Ends.{general_of, little_of, stops_of}, Safely.vote_safe}
+use Rattle.tte_votes.specs.{Answer.the_names, Safely.{IsNoVote, IsVotedRun, IsVotedToFault}}
 use Rattle.tte_votes.proofs.voting.vote_trace.Goals as goal
 
 pub returns-in-Ok-clause-general : goal.returns-in-Ok-clause-general
 returns-in-Ok-clause-general g c =
-    let shown = shown_by g.K.Sink in
     let names = the_names c.args.one.now c.args.two.now c.args.three.now in
-    let second = g.B.Source.left c.args.second.now in
-    vote_accepted names (g.A.Source.left c.args.first.now) second c.in-Ok.accepted c.vote_network.result (shown c.args.out.now) (shown c.vote_network.new.out)
+    let left = g.B.Source.left in
+    files_accepted refusal_lines (IsVoteAnswer names) (g.A.Source.left c.args.first.now) (left c.args.second.now) c.in-Ok.accepted c.vote_network.result _ _
     c.in-Ok.ensures.accepted
-    (general_of names c.in-Ok.accepted second (g.B.Source.left c.vote_network.new.second) c.vote_network.result (shown c.args.out.now)
-    (shown c.vote_network.new.out) c.in-Ok.ensures.range c.vote_network.ensures.ends)
+    (general_of names c.in-Ok.accepted (left c.args.second.now) (left c.vote_network.new.second) c.vote_network.result _ _ c.in-Ok.ensures.range
+    c.vote_network.ensures.ends)
 
 pub returns-in-Err-clause-general : goal.returns-in-Err-clause-general
 returns-in-Err-clause-general g c =
-    let shown = shown_by g.K.Sink in
-    trace_unaccepted (IsVoteAnswer (the_names c.args.one.now c.args.two.now c.args.three.now)) (g.A.Source.left c.args.first.now)
-    (g.B.Source.left c.args.second.now) c.in-Err.cause c.put_no_network.result (shown c.args.out.now) (shown c.put_no_network.new.out) c.in-Err.ensures.none
-    c.put_no_network.ensures.gives c.put_no_network.ensures.unput
+    files_refused refusal_lines (IsVoteAnswer (the_names c.args.one.now c.args.two.now c.args.three.now)) (g.A.Source.left c.args.first.now)
+    (g.B.Source.left c.args.second.now) c.in-Err.cause c.put_no_network.result _ _ c.in-Err.ensures.none c.put_no_network.ensures.gives
+    c.put_no_network.ensures.unput
 
 pub returns-in-Ok-clause-safe : goal.returns-in-Ok-clause-safe
 returns-in-Ok-clause-safe g c =
-    let shown = shown_by g.K.Sink in
     let names = the_names c.args.one.now c.args.two.now c.args.three.now in
-    let second = g.B.Source.left c.args.second.now in
-    voted_safely names (g.A.Source.left c.args.first.now) second c.in-Ok.accepted c.vote_network.result (shown c.args.out.now) (shown c.vote_network.new.out)
-    c.in-Ok.ensures.range c.in-Ok.ensures.accepted
-    (general_of names c.in-Ok.accepted second (g.B.Source.left c.vote_network.new.second) c.vote_network.result (shown c.args.out.now)
-    (shown c.vote_network.new.out) c.in-Ok.ensures.range c.vote_network.ensures.ends)
+    let left = g.B.Source.left in
+    safely_accepted (IsVotedRun names) (IsVotedToFault names) IsNoVote refusal_lines (λ reason. inl (reason, refl)) (g.A.Source.left c.args.first.now)
+    (left c.args.second.now) c.vote_network.result _ _ c.in-Ok.accepted (λ trace. IsVoteAnswer names trace c.in-Ok.accepted)
+    (vote_safe names c.in-Ok.accepted c.in-Ok.ensures.range) c.in-Ok.ensures.accepted
+    (general_of names c.in-Ok.accepted (left c.args.second.now) (left c.vote_network.new.second) c.vote_network.result _ _ c.in-Ok.ensures.range
+    c.vote_network.ensures.ends)
 
 pub returns-in-Err-clause-safe : goal.returns-in-Err-clause-safe
 returns-in-Err-clause-safe g c =
     let shown = shown_by g.K.Sink in
-    none_safely (the_names c.args.one.now c.args.two.now c.args.three.now) (g.A.Source.left c.args.first.now) (g.B.Source.left c.args.second.now)
-    c.in-Err.cause c.put_no_network.result (shown c.args.out.now) (shown c.put_no_network.new.out) c.in-Err.ensures.none c.put_no_network.ensures.gives
+    let names = the_names c.args.one.now c.args.two.now c.args.three.now in
+    safely_refused (IsVotedRun names) (IsVotedToFault names) IsNoVote refusal_lines (λ reason. inl (reason, refl)) (g.A.Source.left c.args.first.now)
+    (g.B.Source.left c.args.second.now) c.put_no_network.result (shown c.args.out.now) (shown c.put_no_network.new.out) c.in-Err.cause
+    c.put_no_network.ensures.gives
 
 pub returns-in-Ok-clause-faults : goal.returns-in-Ok-clause-faults
 returns-in-Ok-clause-faults g c =

@@ -1,7 +1,6 @@
-use Rattle.tte_captures.proofs.wires_lemmas.Words.{◌∙◌, IsCapture, Network, ReadFault, RunEnds, [], ap, fault_status, settled_lines, shown_by, subst, sym}
-use Rattle.tte_forms.specs.declared.status.Status.TheVariants.{WriteFault}
-use Rattle.tte_traces.{proofs.{Ends.{ends_memory, ends_read, ends_unpassed, ends_write, memory_cause}, Taken.gave_none}, specs.Taking.GaveEvents}
-use Rattle.tte_traces.specs.declared.fault.TraceFault.{TraceFault}
+use Rattle.tte_captures.proofs.wires_lemmas.Words.{◌∙◌, Network, [], ap, fault_status, subst, sym}
+use Rattle.tte_traces.proofs.Ends.{ends_for, ends_memory, ends_read, ends_unpassed, ends_write, memory_cause}
+use Rattle.tte_traces.{proofs.Taken.gave_none, specs.{Taking.GaveEvents, declared.fault.TraceFault.TraceFault}}
 use Rattle.world_drive.specs.Observing.{FailsBy}
 use Rattle.tte_captures.proofs.wires_lemmas.{Along.{IsOwn, lines, way_along, way_sees, way_stops}, Ended.{ends_all, ends_fault}}
 use Rattle.tte_captures.proofs.wires.running.follow_way.Goals as goal
@@ -16,74 +15,47 @@ end_capture-requires g c = c.in-All.ensures.sees.limit
 
 pub returns-in-All-clause-ends : goal.returns-in-All-clause-ends
 returns-in-All-clause-ends g c =
-    let n = c.network-network.result.now in
-    let shown = shown_by g.K.Sink in
-    let left = g.B.Source.left in
     let begun = c.args.capture.now in
-    subst (λ (m : Network). RunEnds (λ trace. IsCapture begun.link begun.way trace m) (settled_lines begun.link begun.way) m (left c.args.second.now)
-    (left c.drive.new.from) c.end_capture.result (shown c.args.out.now) (shown c.end_capture.new.out)) c.network-network.ensures.value
-    (ends_all g.B.Source g.K.Sink begun n c.args.second.now c.new-trace.result c.drive.new.from c.drive.new.source c.args.out.now c.drive.new.out
-    c.drive.new.world c.drive.new.observer c.end_capture.result c.end_capture.new.out c.in-All.ensures c.end_capture.ensures.gives c.end_capture.ensures.status)
+    ends_for (IsOwn begun) (lines begun) c.network-network.ensures.value
+    (ends_all g.B.Source g.K.Sink begun _ _ _ _ _ _ _ _ _ c.end_capture.result c.end_capture.new.out c.in-All.ensures c.end_capture.ensures.gives
+    c.end_capture.ensures.status)
 
 pub returns-in-Stopped-Fault-clause-ends : goal.returns-in-Stopped-Fault-clause-ends
 returns-in-Stopped-Fault-clause-ends g c =
-    let n = c.network-network.result.now in
-    let shown = shown_by g.K.Sink in
-    let left = g.B.Source.left in
     let begun = c.args.capture.now in
     let end = c.end_capture-in-Stopped-Fault in
-    subst (λ (m : Network). RunEnds (λ trace. IsCapture begun.link begun.way trace m) (settled_lines begun.link begun.way) m (left c.args.second.now)
-    (left c.drive.new.from) end.result (shown c.args.out.now) (shown end.new.out)) c.network-network.ensures.value
-    (ends_fault g.B.Source g.K.Sink begun n c.args.second.now c.new-trace.result c.drive.new.from c.drive.new.source c.args.out.now c.drive.new.out
-    c.drive.new.observer c.in-Stopped-Fault.field-0 c.in-Stopped-Fault.fault end.result end.new.out c.in-Stopped-Fault.ensures c.in-Stopped-Fault.field-0-is
-    c.status_of.result (c.status_of.ensures ∙ ap (λ (f : TraceFault). fault_status f) c.in-Stopped-Fault.fault-is) end.ensures.gives end.ensures.status)
+    ends_for (IsOwn begun) (lines begun) c.network-network.ensures.value
+    (ends_fault g.B.Source g.K.Sink begun _ _ _ _ _ _ _ _ _ c.in-Stopped-Fault.fault end.result end.new.out c.in-Stopped-Fault.ensures
+    c.in-Stopped-Fault.field-0-is c.status_of.result (c.status_of.ensures ∙ ap (λ (f : TraceFault). fault_status f) c.in-Stopped-Fault.fault-is)
+    end.ensures.gives end.ensures.status)
 
 pub returns-in-Stopped-ReadFault-clause-ends : goal.returns-in-Stopped-ReadFault-clause-ends
 returns-in-Stopped-ReadFault-clause-ends g c =
-    let n = c.network-network.result.now in
-    let shown = shown_by g.K.Sink in
-    let left = g.B.Source.left in
     let begun = c.args.capture.now in
-    subst (λ (m : Network). RunEnds (λ trace. IsCapture begun.link begun.way trace m) (settled_lines begun.link begun.way) m (left c.args.second.now)
-    (left c.drive.new.from) ReadFault (shown c.args.out.now) (shown c.drive.new.out)) c.network-network.ensures.value
-    (ends_read g.B.Source g.K.Sink begun way_sees way_stops (lines begun) (IsOwn begun) (way_along begun) n c.args.second.now c.new-trace.result
-    c.drive.new.from
-    c.drive.new.source c.args.out.now c.drive.new.out c.drive.new.observer c.in-Stopped-ReadFault.field-0 c.in-Stopped-ReadFault.ensures
+    ends_for (IsOwn begun) (lines begun) c.network-network.ensures.value
+    (ends_read g.B.Source g.K.Sink begun way_sees way_stops (lines begun) (IsOwn begun) (way_along begun) _ _ _ _ _ _ _ _ _ c.in-Stopped-ReadFault.ensures
     c.in-Stopped-ReadFault.field-0-is)
 
 pub returns-in-Stopped-WriteFault-clause-ends : goal.returns-in-Stopped-WriteFault-clause-ends
 returns-in-Stopped-WriteFault-clause-ends g c =
-    let n = c.network-network.result.now in
-    let shown = shown_by g.K.Sink in
-    let left = g.B.Source.left in
     let begun = c.args.capture.now in
-    subst (λ (m : Network). RunEnds (λ trace. IsCapture begun.link begun.way trace m) (settled_lines begun.link begun.way) m (left c.args.second.now)
-    (left c.drive.new.from) WriteFault (shown c.args.out.now) (shown c.drive.new.out)) c.network-network.ensures.value
-    (ends_unpassed g.B.Source g.K.Sink begun way_sees way_stops (lines begun) (IsOwn begun) (way_along begun) n c.args.second.now c.new-trace.result
-    c.drive.new.from c.drive.new.source c.args.out.now c.drive.new.out c.drive.new.observer c.in-Stopped-WriteFault.field-0 c.in-Stopped-WriteFault.ensures)
+    ends_for (IsOwn begun) (lines begun) c.network-network.ensures.value
+    (ends_unpassed g.B.Source g.K.Sink begun way_sees way_stops (lines begun) (IsOwn begun) (way_along begun) _ _ _ _ _ _ _ _ _
+    c.in-Stopped-WriteFault.ensures)
 
 pub returns-in-Cut-WriteFault-clause-ends : goal.returns-in-Cut-WriteFault-clause-ends
 returns-in-Cut-WriteFault-clause-ends g c =
-    let n = c.network-network.result.now in
-    let shown = shown_by g.K.Sink in
-    let left = g.B.Source.left in
     let begun = c.args.capture.now in
-    subst (λ (m : Network). RunEnds (λ trace. IsCapture begun.link begun.way trace m) (settled_lines begun.link begun.way) m (left c.args.second.now)
-    (left c.drive.new.from) WriteFault (shown c.args.out.now) (shown c.drive.new.out)) c.network-network.ensures.value
-    (ends_write g.B.Source g.K.Sink begun way_sees way_stops (lines begun) (IsOwn begun) (way_along begun) n c.args.second.now c.new-trace.result
-    c.drive.new.from c.drive.new.source c.args.out.now c.drive.new.out c.in-Cut-WriteFault.field-0 c.in-Cut-WriteFault.ensures c.in-Cut-WriteFault.field-0-is)
+    ends_for (IsOwn begun) (lines begun) c.network-network.ensures.value
+    (ends_write g.B.Source g.K.Sink begun way_sees way_stops (lines begun) (IsOwn begun) (way_along begun) _ _ _ _ _ _ _ _ c.in-Cut-WriteFault.ensures
+    c.in-Cut-WriteFault.field-0-is)
 
 pub returns-in-Cut-OutOfMemory-clause-ends : goal.returns-in-Cut-OutOfMemory-clause-ends
 returns-in-Cut-OutOfMemory-clause-ends g c =
-    let n = c.network-network.result.now in
-    let shown = shown_by g.K.Sink in
-    let left = g.B.Source.left in
     let begun = c.args.capture.now in
-    subst (λ (m : Network). RunEnds (λ trace. IsCapture begun.link begun.way trace m) (settled_lines begun.link begun.way) m (left c.args.second.now)
-    (left c.drive.new.from) c.end_with.result (shown c.args.out.now) (shown c.end_with.new.out)) c.network-network.ensures.value
-    (ends_memory g.B.Source g.K.Sink begun way_sees way_stops (lines begun) (IsOwn begun) (way_along begun) n c.args.second.now c.new-trace.result
-    c.drive.new.from c.drive.new.source c.args.out.now c.drive.new.out c.in-Cut-OutOfMemory.field-0 c.in-Cut-OutOfMemory.ensures c.end_with.result
-    c.end_with.new.out c.in-Cut-OutOfMemory.field-0-is c.end_with.ensures.ends)
+    ends_for (IsOwn begun) (lines begun) c.network-network.ensures.value
+    (ends_memory g.B.Source g.K.Sink begun way_sees way_stops (lines begun) (IsOwn begun) (way_along begun) _ _ _ _ _ _ _ _ c.in-Cut-OutOfMemory.ensures
+    c.end_with.result c.end_with.new.out c.in-Cut-OutOfMemory.field-0-is c.end_with.ensures.ends)
 
 pub returns-in-Cut-WriteFault-clause-cause : goal.returns-in-Cut-WriteFault-clause-cause
 returns-in-Cut-WriteFault-clause-cause g c = record {
@@ -93,6 +65,5 @@ returns-in-Cut-WriteFault-clause-cause g c = record {
 
 pub returns-in-Cut-OutOfMemory-clause-cause : goal.returns-in-Cut-OutOfMemory-clause-cause
 returns-in-Cut-OutOfMemory-clause-cause g c =
-    let faults = g.K.Sink.faults in
     let still = subst (FailsBy g.K.Sink c.args.out.now c.drive.new.out) c.in-Cut-OutOfMemory.field-0-is c.in-Cut-OutOfMemory.ensures.cause in
-    memory_cause c.end_with.result (faults c.args.out.now) (faults c.drive.new.out) (faults c.end_with.new.out) c.end_with.ensures.status still
+    memory_cause c.end_with.result _ _ (g.K.Sink.faults c.end_with.new.out) c.end_with.ensures.status still

@@ -1,30 +1,34 @@
-use Rattle.tte_captures.proofs.wires_lemmas.Words.{inl, inr, shown_by}
-use Rattle.tte_captures.proofs.wires_lemmas.{Networks.{wire_accepted, wire_refused}, Safely.{quiet_safely, wire_safely}}
+use Rattle.tte_captures.proofs.wires_lemmas.Words.{inl, inr, refl, shown_by}
+use Rattle.tte_forms.proofs.networks.Answers.{files_accepted, files_refused}
+use Rattle.tte_traces.proofs.Safely.{safely_accepted, safely_refused}
+use Rattle.tte_captures.proofs.wires_lemmas.Safely.{wire_safe}
+use Rattle.tte_captures.specs.wires.{Answer.{IsWireAnswer, silent_lines}, Safely.{IsCaptureToFault, IsSilent, IsWholeCapture}}
 use Rattle.tte_captures.proofs.wires.running.wire_trace.Goals as goal
 
 pub returns-in-Ok-clause-general : goal.returns-in-Ok-clause-general
 returns-in-Ok-clause-general g c =
-    let shown = shown_by g.K.Sink in
-    wire_accepted (g.A.Source.left c.args.first.now) (g.B.Source.left c.args.second.now) c.args.link.now c.args.way c.in-Ok.accepted c.wire_network.result
-    (shown c.args.out.now) (shown c.wire_network.new.out) c.in-Ok.ensures.accepted c.wire_network.ensures.general
+    files_accepted silent_lines (IsWireAnswer c.args.link.now c.args.way) (g.A.Source.left c.args.first.now) (g.B.Source.left c.args.second.now)
+    c.in-Ok.accepted c.wire_network.result _ _ c.in-Ok.ensures.accepted c.wire_network.ensures.general
 
 pub returns-in-Err-clause-general : goal.returns-in-Err-clause-general
 returns-in-Err-clause-general g c =
-    let shown = shown_by g.K.Sink in
-    wire_refused (g.A.Source.left c.args.first.now) (g.B.Source.left c.args.second.now) c.args.link.now c.args.way c.in-Err.cause c.end_quietly.result
-    (shown c.args.out.now) (shown c.end_quietly.new.out) c.in-Err.ensures.none c.end_quietly.ensures.gives c.end_quietly.ensures.unput
+    files_refused silent_lines (IsWireAnswer c.args.link.now c.args.way) (g.A.Source.left c.args.first.now) (g.B.Source.left c.args.second.now)
+    c.in-Err.cause c.end_quietly.result _ _ c.in-Err.ensures.none c.end_quietly.ensures.gives c.end_quietly.ensures.unput
 
 pub returns-in-Ok-clause-safe : goal.returns-in-Ok-clause-safe
 returns-in-Ok-clause-safe g c =
-    let shown = shown_by g.K.Sink in
-    wire_safely (g.A.Source.left c.args.first.now) (g.B.Source.left c.args.second.now) c.args.link.now c.args.way c.in-Ok.accepted c.wire_network.result
-    (shown c.args.out.now) (shown c.wire_network.new.out) c.in-Ok.ensures.range c.in-Ok.ensures.accepted c.wire_network.ensures.general
+    let name = c.args.link.now in
+    let way = c.args.way in
+    safely_accepted (IsWholeCapture name way) (IsCaptureToFault name way) IsSilent silent_lines (λ reason. refl) (g.A.Source.left c.args.first.now)
+    (g.B.Source.left c.args.second.now) c.wire_network.result _ _ c.in-Ok.accepted (λ trace. IsWireAnswer name way trace c.in-Ok.accepted)
+    (wire_safe name way c.in-Ok.accepted c.in-Ok.ensures.range) c.in-Ok.ensures.accepted c.wire_network.ensures.general
 
 pub returns-in-Err-clause-safe : goal.returns-in-Err-clause-safe
 returns-in-Err-clause-safe g c =
     let shown = shown_by g.K.Sink in
-    quiet_safely (g.A.Source.left c.args.first.now) (g.B.Source.left c.args.second.now) c.args.link.now c.args.way c.in-Err.cause c.end_quietly.result
-    (shown c.args.out.now) (shown c.end_quietly.new.out) c.in-Err.ensures.none c.end_quietly.ensures.gives
+    safely_refused (IsWholeCapture c.args.link.now c.args.way) (IsCaptureToFault c.args.link.now c.args.way) IsSilent silent_lines (λ reason. refl)
+    (g.A.Source.left c.args.first.now) (g.B.Source.left c.args.second.now) c.end_quietly.result (shown c.args.out.now) (shown c.end_quietly.new.out)
+    c.in-Err.cause c.end_quietly.ensures.gives
 
 pub returns-in-Ok-clause-faults : goal.returns-in-Ok-clause-faults
 returns-in-Ok-clause-faults g c = record {

@@ -1,5 +1,6 @@
-use Rattle.tte_captures.proofs.wires_lemmas.Words.{HasLink, IsCapture, LinkId, RunEnds, Way, settled_lines, shown_by, subst, sym, told_by}
-use Rattle.tte_captures.proofs.wires_lemmas.{Along.way_no_memory, Seen.seen_first}
+use Rattle.tte_captures.proofs.wires_lemmas.Words.{HasLink, IsCapture, LinkId, RunEnds, Way, refl, settled_lines, shown_by, subst, sym, told_by}
+use Rattle.tte_traces.proofs.Sources.{no_memory}
+use Rattle.tte_captures.proofs.wires_lemmas.Seen.{seen_first}
 use Rattle.tte_captures.proofs.wires.running.wire_way.Goals as goal
 
 pub follow_way-requires-clause-seen : goal.follow_way-requires-clause-seen
@@ -21,4 +22,5 @@ returns-in-Ok-clause-ends g c =
 
 pub returns-in-Err-clause-ends : goal.returns-in-Err-clause-ends
 returns-in-Err-clause-ends g c =
-    way_no_memory c.args.link c.args.way c.args.accepted.now (g.B.Source.left c.args.second.now) (shown_by g.K.Sink c.args.out.now)
+    let n = c.args.accepted.now in
+    no_memory (λ trace. IsCapture c.args.link c.args.way trace n) (settled_lines c.args.link c.args.way) n (g.B.Source.left c.args.second.now) _ refl
