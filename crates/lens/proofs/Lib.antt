@@ -1,1 +1,3 @@
+pub mod events_lemmas
+pub mod flows_lemmas
 pub mod TopAnswers

@@ -1,8 +1,8 @@
 -- The answer for the words.
 use Rattle.std.{proofs.Common.{◌∙◌, ◌≡◌, ◌≤◌, List, None, Some, ap, subst, sym, ℕ}, specs.Prelude.{IfSome, Option}}
 use Rattle.lens_draw.specs.Answer.{IsDrawAnswer}
-use Rattle.lens_events.specs.Answer.{IsEventsAnswer, event_lines}
-use Rattle.lens_flows.{proofs.OneAnswer.flows_answer_one, specs.Answer.IsFlowsAnswer}
+use Rattle.lens.specs.events.Answer.{IsEventsAnswer, event_lines}
+use Rattle.lens.{proofs.flows_lemmas.OneAnswer.flows_answer_one, specs.flows.Answer.IsFlowsAnswer}
 use Rattle.lens_slack.{proofs.forms_lemmas.FormLemmas.form_in_range, specs.{forms.Forms.{IsFormInRange, form_of}, declared.forms.form.Form.Form}}
 use Rattle.lens_slack.specs.declared.forms.form.Form.TheVariants.{Draw, DrawWhole, Events, Flows, Least, Slack, SlackOf, Why}
 use Rattle.lens_slack.{proofs.least_lemmas.OneLeast.least_one, specs.least.Answer.IsLeastOf}

@@ -1,1 +1,3 @@
+pub mod events
+pub mod flows
 pub mod Top

@@ -1,8 +1,8 @@
 -- What the program `lens` answers.
 use Rattle.std.specs.Prelude.{◌++◌, ◌≡◌, ◌≢◌, ◌⊎◌, List, None, Option, Some, [], codes, ℕ}
 use Rattle.lens_draw.specs.Answer.{IsDrawAnswer}
-use Rattle.lens_events.specs.Answer.{IsEventsAnswer}
-use Rattle.lens_flows.specs.Answer.{IsFlowsAnswer}
+use Rattle.lens.specs.events.Answer.{IsEventsAnswer}
+use Rattle.lens.specs.flows.Answer.{IsFlowsAnswer}
 use Rattle.lens_slack.specs.forms.{Forms.form_of}
 use Rattle.lens_slack.specs.declared.forms.form.Form.{Form}
 use Rattle.lens_slack.specs.declared.forms.form.Form.TheVariants.{Draw, DrawWhole, Events, Flows, Least, Slack, SlackOf}

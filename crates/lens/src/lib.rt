@@ -1,9 +1,11 @@
 //! The commands of the program `lens`, over any source and any sink.
 #![tactic(auto)]
 
+pub mod events;
+pub mod flows;
 mod top;
 
-pub use lens_events::{events_answers_exist, storm_events, storm_report_law};
+pub use crate::events::{events_answers_exist, storm_events, storm_report_law};
 pub use lens_slack::least::{least_law, least_of_network};
 pub use lens_slack::{slack_law, slack_of_network, slack_of_rule};
 pub use lens_why::{row_law, why_law, why_record};

@@ -3,11 +3,11 @@ ghost use Rattle.lens_slack.specs.forms.Forms.{form_of};
 ghost use Rattle.tte_forms.specs.{Answering.Gives, Faults.{HasCause, IsWanted, PutFailed, ReadFailed}, Putting.Over};
 ghost use Rattle.lens.specs.Top.{AnswerIsOne, AnswersWords, FailsToRead, LeavesSecond, usage_answer};
 
+use crate::events::storm_events;
+use crate::flows::flows;
 use lens_draw::draw_report;
 use lens_draw::overview::draw_whole;
 use lens_draw::svg::Span;
-use lens_events::storm_events;
-use lens_flows::flows;
 use lens_slack::forms::{Form, read_form};
 use lens_slack::least::least_of_network;
 use lens_slack::{slack_of_network, slack_of_rule};

@@ -6,7 +6,8 @@ use Rattle.std.proofs.lemmas.{Bool.Decides.nat_tests, Int.ints, List.{Elements.f
 use Rattle.tte_lemmas.proofs.Integers.{not_below}
 use Rattle.lens_draw.proofs.{Asking.{in_shown, struck_other}, Clocks.{has_happening, share_is}, Falls.{no_later}, Runs.{pictures_show_runs}}
 use Rattle.lens_draw.specs.{Picture.clocks_of, WindowLaws.{PicturesShowWindows, ShowsWindow}}
-use Rattle.lens_draw.proofs.svg_lemmas.{Rows.row_is_one, Windows.window_is}
+use Rattle.lens_draw.proofs.svg_lemmas.Windows.{window_is}
+use Rattle.lens_why.proofs.Rows.{row_is_one}
 use Rattle.lens_draw.specs.svg.{Bodies.{look_of, scene_of}, Clocks.share, Laws.{AreMarksOf, IsMarkOf, shown}, Sketching.{moment, plan_of}}
 use Rattle.lens_draw.specs.svg.Windows.{came_at, came_by, came_of, row_of, tick_in, window_at, window_by}
 use Rattle.lens_draw.specs.declared.svg.{layout.Span.Span, mark.{Look.{TheVariants.Taken}, Mark.Mark}}

@@ -1,9 +1,7 @@
 -- The picture of a part of the run of a report shows it.
 use Rattle.std.proofs.Common.{◌≡◌, ℕ, ◌+◌, true, List, [], ◌∷◌, ◌++◌, length, length-append, append_assoc, refl, sym, subst, ◌∙◌}
-use Rattle.std.proofs.Common.{arith}
 use Rattle.std.specs.Prelude.{fold, take}
 use Rattle.lens_draw.proofs.{Falls.{never_fall}, Titles.{titles_are}}
-use Rattle.lens_draw.specs.Answer.{IsDrawAnswer}
 use Rattle.lens_draw.specs.Laws.{PicturesShowRuns, ShowsRun}
 use Rattle.lens_draw.proofs.svg_lemmas.Arrows.{arrows_are_causes}
 use Rattle.lens_draw.proofs.svg_lemmas.Order.{keeps_order}
@@ -14,12 +12,8 @@ use Rattle.lens_draw.specs.svg.Sketching.{moment, plan_of}
 use Rattle.lens_draw.specs.declared.svg.layout.Span.{Span}
 use Rattle.net_plan.specs.declared.network.Network.{Network}
 use Rattle.run_law.specs.declared.note.Note.{Note}
-use Rattle.schedule_checker.specs.Refusals.{RefusalIsOne}
 use Rattle.tte_audit.specs.Report.{AreNumbered}
-use Rattle.tte_forms.specs.Answering.{Answer}
-use Rattle.tte_forms.specs.networks.Accepting.{IsNetworkAnswer}
-use Rattle.tte_reports.proofs.Reports.{report_one}
-use Rattle.tte_reports.specs.Reports.{IsReportAnswer, IsReportOf}
+use Rattle.tte_reports.specs.Reports.{IsReportOf}
 use Rattle.tte_units.specs.declared.units.Units.{Units}
 
 -- ---- the numbers follow each other
@@ -60,9 +54,3 @@ module _ (network : Network) (octets : List ℕ) (notes : List Note) (end : Unit
 
 pub pictures_show_runs : PicturesShowRuns
 pictures_show_runs network span octets notes end of = shows network octets notes end of span
-
--- the octets of a network file and of a report have one answer
-pub draw_one : RefusalIsOne → (span : Span) (octets report : List ℕ) (a b : Answer) → IsNetworkAnswer (IsReportAnswer (IsDrawAnswer span) report) octets a
-    → IsNetworkAnswer (IsReportAnswer (IsDrawAnswer span) report) octets b → a ≡ b
-draw_one one span octets report a b p q =
-    report_one one (IsDrawAnswer span) (λ network text notes end x y rules of i j. i ∙ sym j) octets report a b p q

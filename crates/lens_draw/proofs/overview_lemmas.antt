@@ -1,4 +1,3 @@
-pub mod Members
 pub mod SameShades
 pub mod Ribbons
 pub mod Cells

@@ -4,5 +4,4 @@ pub mod Arrows
 pub mod Painting
 pub mod Plain
 pub mod Folds
-pub mod Rows
 pub mod Windows

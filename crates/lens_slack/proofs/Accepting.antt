@@ -37,10 +37,7 @@ count_both fs gs = sum_by-append (λ x. cond (is_short x) 1 0) fs gs
 -- none of these is short, so the first is met
 first_met : (o : Option Finding) (others : List Finding) → shorts_of (some_found o ++ others) ≡ 0 → IsMet o × (shorts_of others ≡ 0)
 first_met None others none = (tt, none)
-first_met (Some f) others none = elim (cases_lt f.has f.wants) [
-  | inl less ↦ let more = count_short f others less in absurd (omega (arith, more, none))
-  | inr enough ↦ let same = count_enough f others enough in (enough, omega (arith, same, none))
-]
+first_met (Some f) others none = grind (arith, cases_lt, count_short, count_enough)
 
 none_short : (o : Option Finding) (others : List Finding) → IsMet o → shorts_of others ≡ 0 → shorts_of (some_found o ++ others) ≡ 0
 none_short None others met none = none

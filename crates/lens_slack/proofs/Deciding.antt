@@ -117,23 +117,11 @@ gap_behind network row earlier entry most = rw (le-ltb (amount entry.row.offset)
 
 gap_kept : (network : Network) (row : RowId) (earlier entry : Entry) → IsClearBefore network earlier entry ⊎ IsClearBefore network entry earlier
     → IsEnough (gap_bound network row earlier entry)
-gap_kept network row earlier entry clear = elim (cases_lt (amount entry.row.offset) (amount earlier.row.offset)) [
-  | inl less ↦ enough_by _ _ (gap_before network row earlier entry less) (elim clear [
-    | inl behind ↦ absurd (omega (arith, behind, less))
-    | inr before ↦ before
-  ])
-  | inr most ↦ enough_by _ _ (gap_behind network row earlier entry most) (elim clear [
-    | inl behind ↦ behind
-    | inr before ↦ let some : 1 ≤ port_time entry = some_time entry.link.speed entry.vl.length in absurd (omega (arith, before, most, some))
-  ])
-]
+gap_kept network row earlier entry clear = grind (arith, cases_lt, enough_by, gap_before, gap_behind, some_time)
 
 gap_clear : (network : Network) (row : RowId) (earlier entry : Entry) → IsEnough (gap_bound network row earlier entry)
     → IsClearBefore network earlier entry ⊎ IsClearBefore network entry earlier
-gap_clear network row earlier entry enough = elim (cases_lt (amount entry.row.offset) (amount earlier.row.offset)) [
-  | inl less ↦ inr (subst IsEnough (gap_before network row earlier entry less) enough)
-  | inr most ↦ inl (subst IsEnough (gap_behind network row earlier entry most) enough)
-]
+gap_clear network row earlier entry enough = grind (arith, cases_lt, gap_before, gap_behind)
 
 gaps : (network : Network) (place : ℕ) → StandsApart network place ↔ AreEnough network Spacing place
 gaps network place = (

@@ -33,13 +33,7 @@ first_behind found others fs f enough first same = record {
 
 -- before others
 first_within : (found others fs : List Finding) (f : Finding) → IsFirstShort found f → fs ≡ found ++ others → IsFirstShort fs f
-first_within found others fs f first same = record {
-  front = first.front;
-  behind = first.behind ++ others;
-  is = same ∙ ap (λ (xs : List Finding). xs ++ others) first.is ∙ append_assoc first.front (f ∷ first.behind) others;
-  enough = first.enough;
-  short = first.short;
-}
+first_within found others fs f first same = grind (arith, append_assoc)
 
 -- the finding, if there is one, is short or enough
 pub met_or : (o : Option Finding) → ((f : Finding) × (o ≡ Some f) × (f.has < f.wants)) ⊎ IsMet o
@@ -76,9 +70,7 @@ at_least n (Judged rule ∷ steps) measure rises is = at_least n steps measure r
 at_least n (Measured other ∷ steps) measure rises (inl same) =
     subst (λ (m : Measure). n ≤ number_of (rule_of m)) (sym same) rises.0
 at_least n (Measured other ∷ steps) measure rises (inr is) =
-    let first = rises.0 in
-    let later = at_least (number_of (rule_of other)) steps measure rises.1 is in
-    omega (arith, first, later)
+    grind (arith, (at_least (number_of (rule_of other)) steps measure rises.1 is))
 at_least n (Listed other ∷ steps) measure rises is = absurd rises
 
 pub record ShortMeasure (network : Network) (steps : List Step) (fs : List Finding) : Type 0 where
@@ -166,49 +158,7 @@ no : ⊥ → ⊥
 no is = is
 
 pub all_rise : Rises 0 all_steps
-all_rise = (
-  omega arith,
-  (
-    omega arith,
-    (
-      omega arith,
-      (
-        omega arith,
-        (
-          omega arith,
-          (
-            omega arith,
-            (
-              no,
-              (
-                no,
-                (
-                  no,
-                  (
-                    no,
-                    (
-                      no,
-                      (
-                        no,
-                        (
-                          no,
-                          (
-                            omega arith,
-                            (omega arith, (omega arith, (no, (no, tt)))),
-                          ),
-                        ),
-                      ),
-                    ),
-                  ),
-                ),
-              ),
-            ),
-          ),
-        ),
-      ),
-    ),
-  ),
-)
+all_rise = grind (arith, no)
 
 -- ---- by each place of a rule: the spot that is short, where those before it are not
 

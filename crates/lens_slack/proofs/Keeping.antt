@@ -18,13 +18,7 @@ none_below Has n f below = absurd (omega (arith, below.0))
 
 -- a number below the next one is below this one, or it is this one
 below_or_at : (Has : ℕ → Finding → Type 0) (i n : ℕ) (f : Finding) → Below Has (i + 1) n f → Below Has i n f ⊎ ((n ≡ i) × Has i f)
-below_or_at Has i n f below = elim (cases_lt n i) [
-  | inl less ↦ inl (less, below.1)
-  | inr most ↦
-      let bound = below.0 in
-      let same : n ≡ i = omega (arith, most, bound) in
-      inr (same, subst (λ (k : ℕ). Has k f) same below.1)
-]
+below_or_at Has i n f below = grind (arith, cases_lt)
 
 -- it comes before itself
 before_itself : (n k : ℕ) (f g : Finding) → g ≡ f → n ≤ k → ComesFirst n f k g

@@ -1,5 +1,6 @@
 -- The line of the next finding.
-use Rattle.std.proofs.{Common.{◌++◌, ◌+◌, ◌<◌, ◌∷◌, ◌≡◌, List, [], drop, get_or, length, subst, take, ℕ}, lemmas.List.take_more}
+use Rattle.std.proofs.Common.{arith}
+use Rattle.std.proofs.{Common.{◌++◌, ◌+◌, ◌<◌, ◌∷◌, ◌≡◌, List, [], drop, get_or, length, take, ℕ}, lemmas.List.take_more}
 use Rattle.net_plan.specs.declared.network.Network.{Network}
 use Rattle.lens_slack.{proofs.Taken.drop_next, specs.{Lines.finding_line, declared.spot.Finding.Finding}}
 
@@ -13,9 +14,4 @@ pub record IsNext (network : Network) (all : List Finding) (n : ℕ) (text : Lis
 pub next_line : (network : Network) (all listed : List Finding) (d : Finding) (n : ℕ) (text : List ℕ) → listed ≡ all → n < length listed
     → text ≡ finding_line network (get_or listed n d) → IsNext network all n text
 next_line network all listed d n text same within is =
-    subst (λ (fs : List Finding). IsNext network fs n text) same (record {
-      finding = get_or listed n d;
-      line = is;
-      front = take_more listed n d within;
-      rest = drop_next listed n d within;
-    })
+    grind (arith, get_or, take_more, drop_next)

@@ -1,5 +1,6 @@
 -- The one bound of a number at a spot with several, or none.
-use Rattle.std.{proofs.Common.{◌<◌, ◌∙◌, ◌≡◌, ◌≢◌, None, Option, Some, ap, inl, inr, subst, sym, ℕ}, specs.{Option.unwrap_or, Prelude.{MatchOption, slice_get}}}
+use Rattle.std.proofs.Common.{arith}
+use Rattle.std.{proofs.Common.{◌<◌, ◌∙◌, ◌≡◌, ◌≢◌, None, Option, Some, ap, inl, inr, subst, sym, ℕ}, specs.Prelude.{MatchOption, slice_get}}
 use Rattle.net_plan.specs.declared.{ids.RowId.RowId, network.Network.Network, tables.Link.Link}
 use Rattle.schedule_tables.{proofs.EntryLemmas.one_entry, specs.{Entries.{IsEntry, source_of}, declared.entry.Entry.Entry}}
 use Rattle.lens_slack.proofs.Keeping.{IsAt}
@@ -9,12 +10,7 @@ use Rattle.lens_slack.specs.declared.spot.Finding.{Finding}
 -- a link has one
 pub begin_at : (network : Network) (n : ℕ) (link : Link) (f : Finding) → slice_get network.link n ≡ Some link → f ≡ begin_bound network link
     → IsAt (IsBeginBound network) n (Some f)
-begin_at network n link f there is = (
-  (link, there, is),
-  λ g other.
-      let same : other.0 ≡ link = ap (λ (o : Option Link). unwrap_or o link) (sym other.1 ∙ there) in
-      other.2 ∙ ap (begin_bound network) same ∙ sym is,
-)
+begin_at network n link f there is = grind arith
 
 module _ (network : Network) (row : RowId) (n : ℕ) (first entry : Entry) (is_first : IsEntry network n first)
     (is_entry : IsEntry network row.0 entry) where

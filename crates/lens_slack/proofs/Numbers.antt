@@ -1,6 +1,6 @@
 -- The spots of a rule, by the numbers that its measures give them.
 use Rattle.std.proofs.{Common.{◌*◌, ◌+◌, ◌<◌, ◌∙◌, ◌≡◌, None, Option, Some, ap, arith, inl, inr, length, refl, subst, sym, ℕ}, lemmas.Bool.cases_lt}
-use Rattle.std.{proofs.lemmas.Option.slice_get_within, specs.Prelude.{if◌then◌else◌, ◌%◌, ◌/◌, Bool, false, nat_lt, true}}
+use Rattle.std.{proofs.lemmas.Option.slice_get_within, specs.Prelude.{if◌then◌else◌, ◌%◌, Bool, false, nat_lt, true}}
 use Rattle.net_plan.specs.{Paths.IsTree, Places.device_at, declared.network.Network.Network}
 use Rattle.pcf_values.specs.declared.channel.Channel.{Channel, TheVariants.{A, B}}
 use Rattle.schedule_tables.specs.declared.rule.Rule.{Rule}
@@ -25,15 +25,9 @@ channel_number B = 1
 
 pub path_number : (place : ℕ) (channel : Channel) → spot_at measures.Paths (2 * place + channel_number channel) ≡ spots.Path (device_of place) channel
 path_number place A =
-    let half : (2 * place + 0) / 2 ≡ place = omega arith in
-    let rest : (2 * place + 0) % 2 ≡ 0 = omega arith in
-    ap (λ (p : ℕ). spots.Path (device_of p) (channel_of ((2 * place + 0) % 2))) half
-    ∙ ap (λ (c : ℕ). spots.Path (device_of place) (channel_of c)) rest
+    grind arith
 path_number place B =
-    let half : (2 * place + 1) / 2 ≡ place = omega arith in
-    let rest : (2 * place + 1) % 2 ≡ 1 = omega arith in
-    ap (λ (p : ℕ). spots.Path (device_of p) (channel_of ((2 * place + 1) % 2))) half
-    ∙ ap (λ (c : ℕ). spots.Path (device_of place) (channel_of c)) rest
+    grind arith
 
 path_numbered : (network : Network) (place : ℕ) (channel : Channel) → place < length network.device
     → IsNumbered network measures.Paths (2 * place + channel_number channel) (spots.Path (device_of place) channel)

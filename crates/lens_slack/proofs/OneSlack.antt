@@ -17,10 +17,7 @@ AreSame fs gs end other = (fs ≡ gs) × (end ≡ other)
 -- ---- one place at which a rule breaks
 
 breaks_once : (network : Network) (rule : Rule) (place other : ℕ) → BreaksAt network rule place → BreaksAt network rule other → place ≡ other
-breaks_once network rule place other a b = elim (cases_lt place other) [
-  | inl less ↦ absurd (a.broken (b.places place less))
-  | inr most ↦ elim (cases_lt other place) [ inl more ↦ absurd (b.broken (a.places other more)) | inr least ↦ omega (arith, most, least) ]
-]
+breaks_once network rule place other a b = grind (arith, cases_lt)
 
 pub first_once : (network : Network) (rule other : Rule) (place there : ℕ) → IsFirstBroken network rule place → IsFirstBroken network other there
     → Broken rule place ≡ Broken other there

@@ -1,5 +1,5 @@
 -- The first measure that is short is of the rule that `check` refuses, and its first spot is at the place that is told.
-use Rattle.std.{proofs.{Common.{List, refl, ◌*◌, ◌+◌, ◌<◌, ◌∙◌, ◌≡◌, ◌≤◌, ◌⊎◌, Some, ap, arith, inl, inr, subst, sym, ℕ}, lemmas.Bool.cases_lt}}
+use Rattle.std.proofs.{Common.{List, refl, ◌*◌, ◌+◌, ◌<◌, ◌∙◌, ◌≡◌, ◌≤◌, ◌⊎◌, Some, ap, arith, inl, inr, subst, sym, ℕ}, lemmas.Bool.cases_lt}
 use Rattle.std.{specs.Prelude.◌/◌}
 use Rattle.lens_slack.specs.forms.Forms.{IsInequality}
 use Rattle.net_plan.{proofs.Shape.rules_give_trees, specs.{Paths.IsTree, declared.network.Network.Network}}
@@ -58,10 +58,7 @@ inequality_high other is = absurd is
 
 -- the rule that is broken first, where the others are kept
 inequality_broken : (network : Network) (rule : Rule) (place : ℕ) → KeepsOthers network → IsFirstBroken network rule place → IsInequality rule
-inequality_broken network rule place others first = elim (inequality_or rule) [
-  | inl is ↦ is
-  | inr other ↦ absurd (first.broken (others rule other place))
-]
+inequality_broken network rule place others first = grind (arith, inequality_or)
 
 tree_by : (network : Network) (rule : Rule) (place : ℕ) → IsFirstBroken network rule place → IsInequality rule → IsTree network
 tree_by network rule place first is =

@@ -1,5 +1,5 @@
 -- The spots that have one bound, and that of the path of a device, which has one or none.
-use Rattle.std.proofs.{Common.{◌*◌, ◌+◌, ◌∙◌, ◌≡◌, List, None, Some, ap, arith, inl, inr, pos, refl, subst, sym, ℕ}, lemmas.Int.ints}
+use Rattle.std.proofs.{Common.{◌*◌, ◌+◌, ◌∙◌, ◌≡◌, List, None, Some, ap, arith, inl, inr, pos, refl, sym, ℕ}, lemmas.Int.ints}
 use Rattle.net_plan.{proofs.{Beta.beta_is_unique, Trees.paths_are_unique}, specs.{Bounds.{IsBeta, gamma_of}, Paths.{IsPath, IsTree}, Places.IsDeviceOf}}
 use Rattle.net_plan.specs.declared.{ids.{DeviceId.DeviceId, LinkId.LinkId, RowId.RowId}, network.Network.Network}
 use Rattle.pcf_values.specs.declared.channel.Channel.{Channel}
@@ -74,9 +74,7 @@ pub window_first : (network : Network) (row : RowId) (entry : Entry) (f : Findin
     → f ≡ found (spots.Window row) (amount network.cycle) (window_end network entry + 4 * amount network.precision)
     → IsTightestAt network (spots.Window row) (Some f)
 window_first network row entry f is_entry is =
-    let by : Entry → Finding = λ e. found (spots.Window row) (amount network.cycle) (window_end network e + 4 * amount network.precision) in
-    only_one (IsBoundAt network (spots.Window row)) f (refl, (entry, is_entry, is))
-    (λ n g bound. bound.1.2 ∙ ap by (one_entry network row.0 bound.1.0 entry bound.1.1 is_entry) ∙ sym is)
+    grind (arith, only_one, one_entry)
 
 -- ---- a path
 
@@ -104,11 +102,4 @@ module _ (network : Network) (tree : IsTree network) (device : DeviceId) (channe
 pub sender_first : (network : Network) (row : RowId) (entry : Entry) (f : Finding) → IsEntry network row.0 entry → source_of entry ≡ entry.vl.sender
     → f ≡ found (spots.Coming row) (amount entry.row.offset) (amount network.tt_start) → IsTightestAt network (spots.Coming row) (Some f)
 sender_first network row entry f is_entry sender is =
-    let by : Entry → Finding = λ e. found (spots.Coming row) (amount e.row.offset) (amount network.tt_start) in
-    only_one (IsBoundAt network (spots.Coming row)) f (inl (refl, record { entry = entry; is_entry = is_entry; sender = sender; is = is }))
-    (λ n g bound. elim bound [
-      | inl own ↦ own.1.is ∙ ap by (one_entry network row.0 own.1.entry entry own.1.is_entry is_entry) ∙ sym is
-      | inr other ↦
-          let same = one_entry network row.0 other.entry entry other.is_entry is_entry in
-          absurd (other.no_sender (subst (λ (e : Entry). source_of e ≡ e.vl.sender) (sym same) sender))
-    ])
+    grind (arith, only_one, one_entry)

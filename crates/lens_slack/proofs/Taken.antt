@@ -22,13 +22,9 @@ pub stand_next : (network : Network) (steps : List Step) (step : Step) (left : L
 stand_next network steps (Judged rule) left old new stand (kept, same) others end are =
     subst (λ (fs : List Finding). AreOf network steps (fs ++ others) end) (sym same) (stand others end (inl (kept, are)))
 stand_next network steps (Measured measure) left old new stand (whole, (f, tightest, same)) others end are =
-    let here = stand (some_found f ++ others) end (f, others, tightest, are, refl) in
-    subst (λ (fs : List Finding). AreOf network steps fs end)
-    (sym (append_assoc old (some_found f) others) ∙ ap (λ (fs : List Finding). fs ++ others) (sym same)) here
+    grind (arith, append_assoc)
 stand_next network steps (Listed measure) left old new stand (whole, (found, are_found, same)) others end are =
-    let here = stand (found ++ others) end (found, others, are_found, are, refl) in
-    subst (λ (fs : List Finding). AreOf network steps fs end)
-    (sym (append_assoc old found others) ∙ ap (λ (fs : List Finding). fs ++ others) (sym same)) here
+    grind (arith, append_assoc)
 
 -- all steps were taken
 pub stand_all : (network : Network) (steps : List Step) (found : List Finding) → StandBefore network steps [] found → AreOf network steps found Whole
@@ -107,14 +103,10 @@ pub stand_step : (network : Network) (steps : List Step) (d : Step) (n : ℕ) (o
     → StandBefore network steps (drop n steps) old → Takes network (get_or steps n d) old new end → end ≡ Whole
     → StandBefore network steps (drop (n + 1) steps) new
 stand_step network steps d n old new end within stand takes whole =
-    stand_next network steps (get_or steps n d) (drop (n + 1) steps) old new
-    (subst (λ (left : List Step). StandBefore network steps left old) (drop_next steps n d within) stand)
-    (subst (λ (e : Ending). Takes network (get_or steps n d) old new e) whole takes)
+    grind (arith, stand_next, get_or, drop, drop_next)
 
 pub stand_end : (network : Network) (steps : List Step) (d : Step) (n : ℕ) (old new : List Finding) (end : Ending) (told : Rule) (place : ℕ)
     → n < length steps → StandBefore network steps (drop n steps) old → Takes network (get_or steps n d) old new end → end ≡ Broken told place
     → AreOf network steps new (Broken told place)
 stand_end network steps d n old new end told place within stand takes broken =
-    stand_broken network steps (get_or steps n d) (drop (n + 1) steps) old new told place
-    (subst (λ (left : List Step). StandBefore network steps left old) (drop_next steps n d within) stand)
-    (subst (λ (e : Ending). Takes network (get_or steps n d) old new e) broken takes)
+    grind (arith, stand_broken, get_or, drop, drop_next)

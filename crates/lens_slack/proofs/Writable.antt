@@ -1,11 +1,11 @@
 -- What is found names things of the network, so it has a line.
-use Rattle.std.proofs.Common.{if◌then◌else◌, ◌+◌, ◌<◌, ◌∷◌, ◌≡◌, ◌≤◌, Bool, List, None, Option, Some, [], arith, false, inl, inr, refl, subst, suc, sym, true}
+use Rattle.std.proofs.Common.{if◌then◌else◌, ◌+◌, ◌<◌, ◌∷◌, ◌≡◌, ◌≤◌, Bool, List, None, Option, Some, [], arith, false, inl, inr, subst, suc, sym, true}
 use Rattle.std.proofs.{Common.{zero, ℕ}, lemmas.{List.Elements.{All-append, All-cons, All-nil}, Option.slice_get_within}}
-use Rattle.std.specs.Prelude.{All, IsSomeAnd, length, nat_lt}
+use Rattle.std.specs.Prelude.{All, IsSomeAnd, length}
 use Rattle.net_plan.specs.{Places.device_at, declared.{ids.{DeviceId.DeviceId, RowId.RowId}, network.Network.Network, tables.Device.Device}}
 use Rattle.schedule_tables.specs.declared.entry.Entry.{Entry}
 use Rattle.tte_units.specs.Amount.{amount}
-use Rattle.lens_slack.specs.{Bounds.{IsBoundAt, calc_bound, clear_time, gap_bound}, Finds.{AreFound, AreOf, some_found}}
+use Rattle.lens_slack.specs.{Bounds.{IsBoundAt, calc_bound, clear_time}, Finds.{AreFound, AreOf, some_found}}
 use Rattle.lens_slack.specs.{Spots.{IsSpotOf, IsTightestOf, spot_at, spots_of}, Tightest.IsTightestAt, Writing.IsWritable, declared.measuring.Ending.Ending}
 use Rattle.lens_slack.specs.declared.{spot.{Beside.TheVariants.{Before, Behind}, Finding.Finding, Measure.Measure, Spot.Spot}, step.Step.Step}
 use Rattle.lens_slack.specs.declared.step.Step.TheVariants.{Judged, Listed, Measured}
@@ -31,10 +31,7 @@ gap_by network row earlier entry false within vl = record { spot = within; next 
 
 pub bound_writable : (network : Network) (spot : Spot) (n : ℕ) (f : Finding) → IsSpotOf network spot → IsBoundAt network spot n f → IsWritable network f
 bound_writable network (spots.Path device channel) n f of_network bound =
-    as_writable network f _ bound.1.is (record {
-      spot = device_by network device _ (device_at network device) refl bound.1.member;
-      next = tt;
-    })
+    grind (arith, as_writable, device_by)
 bound_writable network spots.Settled n f of_network bound = as_writable network f _ bound.1.is (record { spot = tt; next = tt })
 bound_writable network spots.Precision n f of_network (inl first) = as_writable network f _ first.1.is (record { spot = tt; next = tt })
 bound_writable network spots.Precision n f of_network (inr second) = as_writable network f (calc_bound network) second.1 (record { spot = tt; next = tt })
@@ -43,9 +40,7 @@ bound_writable network spots.Begin n f of_network bound = as_writable network f 
 bound_writable network spots.End n f of_network bound = as_writable network f _ bound.1 (record { spot = tt; next = tt })
 bound_writable network (spots.Window row) n f of_network bound = as_writable network f _ bound.1.2 (record { spot = of_network; next = tt })
 bound_writable network (spots.Gap row) n f of_network bound =
-    as_writable network f (gap_bound network row bound.earlier bound.entry) bound.is
-    (gap_by network row bound.earlier bound.entry (nat_lt (amount bound.entry.row.offset) (amount bound.earlier.row.offset)) of_network
-    (slice_get_within network.vl bound.earlier.row.vl.0 bound.earlier.vl bound.is_earlier.vl))
+    grind (arith, as_writable, gap_by, slice_get_within)
 bound_writable network (spots.Coming row) n f of_network (inl sender) = as_writable network f _ sender.1.is (record { spot = of_network; next = tt })
 bound_writable network (spots.Coming row) n f of_network (inr bound) = as_writable network f _ bound.is (record { spot = of_network; next = tt })
 

@@ -32,6 +32,7 @@ use Rattle.pcf_values.specs.declared.members.Members.{Members}
 use Rattle.sync_state.specs.{Standing.next_point, declared.state.State.State}
 use Rattle.run_law.specs.declared.judgement.Why.TheVariants as whys
 use Rattle.run_law.specs.declared.note.NoteBody.TheVariants as notes
+use Rattle.run_law.proofs.records.Members.{in_kept}
 
 -- ---- what is kept of what was heard
 
@@ -91,16 +92,6 @@ pub summary_is : (s : Summary) (heard : List Hearing) → Summarizes s heard →
 summary_is s heard is = one_summary heard s (summary_of heard) is (summarizes_from _ [] heard silence_summarizes)
 
 -- ---- before a correction
-
-in_kept : {X : Type 0} (p : X → Bool) (xs : List X) (x : X) → IsIn x xs → p x ≡ true → IsIn x (filter p xs)
-in_kept p [] x i passes = i
-in_kept {X} p (y ∷ xs) x (inl same) passes =
-    let holds : p y ≡ true = ap p (sym same) ∙ passes in
-    subst (λ (b : Bool). IsIn x (if b then y ∷ filter p xs else filter p xs)) (sym holds) (inl same)
-in_kept {X} p (y ∷ xs) x (inr i) passes = by (p y) (in_kept p xs x i passes) where
-  by : (b : Bool) → IsIn x (filter p xs) → IsIn x (if b then y ∷ filter p xs else filter p xs)
-  by true there = inr there
-  by false there = there
 
 -- no record of a correction's place, and none behind it, stands before the corrections of the time
 never_before : (h : Happening) → 6 ≤ rank h.note.body → IsBefore (place_of h) (time_of h ∷ 6 ∷ []) → ⊥

@@ -6,7 +6,7 @@ use Rattle.audit_devices.specs.Keeping.{records_before}
 use Rattle.audit_law.specs.{CorrectionNumbers.{heard_since_point, points_come}, CorrectionPoints.IsPointOf}
 use Rattle.run_law.specs.device.LocalClocks.{changes_adjustment}
 use Rattle.lens_why.specs.past.Pasts.{before_corrections}
-use Rattle.membership.specs.{BestFrame.{IsBest, IsBestOf}, Hearing.{Hearing, within_on}, Members.count_of, Summary.{Summary, best_on}}
+use Rattle.membership.specs.{BestFrame.{IsBest, IsBestOf}, Hearing.within_on, Members.count_of, Summary.{Summary, best_on}}
 use Rattle.membership.specs.declared.frame.HeardFrame.{HeardFrame}
 use Rattle.net_plan.specs.declared.{ids.DeviceId.DeviceId, network.Network.Network}
 use Rattle.pcf_values.specs.declared.channel.Channel.{Channel, TheVariants.{A, B}}
@@ -26,18 +26,9 @@ use Rattle.lens_why.specs.{Grounds.ground_by, Seeking.{is_channel, is_frame, is_
 use Rattle.lens_why.specs.{Laws.{BestAreThere, best_number, told_in, told_number}, declared.seeking.Sought.TheVariants.Frame}
 use Rattle.run_law.specs.declared.judgement.Why.TheVariants as whys
 use Rattle.run_law.specs.declared.note.NoteBody.TheVariants as notes
+use Rattle.run_law.proofs.records.Members.{in_kept}
 
 -- ---- lists
-
-in_kept : {X : Type 0} (p : X → Bool) (xs : List X) (x : X) → IsIn x xs → p x ≡ true → IsIn x (filter p xs)
-in_kept p [] x i passes = i
-in_kept {X} p (y ∷ xs) x (inl same) passes =
-    let holds : p y ≡ true = ap p (sym same) ∙ passes in
-    subst (λ (b : Bool). IsIn x (if b then y ∷ filter p xs else filter p xs)) (sym holds) (inl same)
-in_kept {X} p (y ∷ xs) x (inr i) passes = by (p y) (in_kept p xs x i passes) where
-  by : (b : Bool) → IsIn x (filter p xs) → IsIn x (if b then y ∷ filter p xs else filter p xs)
-  by true there = inr there
-  by false there = there
 
 last_from : {X : Type 0} (a : X) (xs : List X) → (y : X) × (last_or (Some a) xs ≡ Some y)
 last_from a [] = (a, refl)

@@ -2,10 +2,9 @@
 use Rattle.std.proofs.Common.{◌<◌, ◌∷◌, ◌≡◌, ◌⊎◌, List, Some, arith, inl, inr, refl, subst, sym, ℕ}
 use Rattle.net_plan.specs.declared.ids.{DeviceId.DeviceId, LinkId.LinkId, VlId.VlId}
 use Rattle.run_law.proofs.law.{FirstDeliveries.accepted_in, FirstPlaces.{by_number, founded_at, number_is, numbered_front, numbered_in, numbered_within}}
-use Rattle.run_law.specs.{control.Losses.{IsDropped, IsLost}, declared.{judgement.{Reason.Reason, Why.Why}, note.NoteBody.NoteBody, steps.Arrival.Arrival}}
+use Rattle.run_law.specs.{control.Losses.{IsDropped, IsLost}, declared.{judgement.{Reason.Reason, Why.Why}, note.NoteBody.NoteBody}}
 use Rattle.run_law.specs.{device.StateChanges.ChangesState, records.{Causes.cause_of, Happenings.{Happening, numbered}, Ranks.place_of}}
 use Rattle.run_law.specs.{runs.{DueRecords.{IsCaused, IsDue}, Runs.IsFounded}, scenario.Scenarios.Scenario, timed.Dispatching.Dispatches}
-use Rattle.run_law.specs.timed.Receptions.{ArrivesAs}
 use Rattle.sync_state.specs.declared.state.State.{State}
 use Rattle.tte_units.specs.{Amount.amount, declared.units.Units.Units}
 use Rattle.run_law.specs.declared.judgement.Why.TheVariants as whys
@@ -26,9 +25,6 @@ module _ (s : Scenario) (ps : List Happening) (founded : IsFounded place_of (IsD
             let found = by_number s ps taken founded (accepted_in ps device _ t cause cycle has.1) in
             inr (taken, subst (λ (n : ℕ). numbered ps n ≡ Some taken) (sym has.1.number) found)
       ]
-
-  of_arrival : (device : DeviceId) (t : ℕ) (link : LinkId) (cause : ℕ) (a : Arrival) → ArrivesAs s ps device t link cause a → IsNoneOrThere ps cause
-  of_arrival device t link cause a c = inr (c.putting, c.there)
 
   of_lost : (device : DeviceId) (t : ℕ) (link : LinkId) (cause : ℕ) → IsLost s ps device t link cause → IsNoneOrThere ps cause
   of_lost device t link cause (inl d) = inr (d.giving, d.there)

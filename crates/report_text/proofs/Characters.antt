@@ -6,10 +6,13 @@ use Rattle.std.specs.{Prelude.{All, decimal, nat_lt, negsuc, pos, ℤ}, Str.Pars
 use Rattle.hex.{proofs.HexLemmas.{decode_of-encode_lower, decode_of-ok, decode_of-same}, specs.Hex.{IsBytes, decode_of, encode_lower, is_hex_digit}}
 use Rattle.net_plan.specs.NameText.{IsNameText, is_name_character}
 use Rattle.tte_lemmas.proofs.Naturals.{byte_at_small}
+use Rattle.std.specs.Prelude.{◌&&◌, ◌==◌, not}
+use Rattle.std.proofs.Common.{◌||◌}
+use Rattle.std.proofs.lemmas.Bool.{and_from}
 
--- the character is above ASCII's space
+-- the character is above ASCII's space, and neither `&` nor `<`, which a picture's text reads as its own
 abbrev pub is_visible : ℕ → Bool
-is_visible c = nat_lt 32 c
+is_visible c = nat_lt 32 c && not (c == 60 || c == 38)
 
 -- each character is
 abbrev pub IsVisible : List ℕ → Type 0
@@ -19,14 +22,14 @@ pub visible_from_test : (text : List ℕ) → list_all is_visible text ≡ true 
 visible_from_test text h = AllPass-from_list_all is_visible text h
 
 name_character : (c : ℕ) → is_name_character c ≡ true → is_visible c ≡ true
-name_character c h = grind (arith, nat_tests)
+name_character c h = and_from (nat_lt 32 c) (not (c == 60 || c == 38)) (grind (arith, nat_tests)) (grind (arith, nat_tests))
 
 pub name_visible : (text : List ℕ) → IsNameText text → IsVisible text
 name_visible text h =
     All-weaker (λ c. is_name_character c ≡ true) (λ c. is_visible c ≡ true) name_character text (AllPass-from_list_all is_name_character text h.plain)
 
 digit_character : (c : ℕ) → digit_value c < 10 → is_visible c ≡ true
-digit_character c h = grind (arith, nat_tests)
+digit_character c h = and_from (nat_lt 32 c) (not (c == 60 || c == 38)) (grind (arith, nat_tests)) (grind (arith, nat_tests))
 
 digits_visible : (text : List ℕ) → AllDigits 10 text → IsVisible text
 digits_visible [] h = All-nil (λ c. is_visible c ≡ true)
@@ -40,7 +43,7 @@ signed_visible (pos n) h = decimal_visible n (omega arith)
 signed_visible (negsuc n) h = All-cons (λ c. is_visible c ≡ true) 45 (decimal (suc n)) refl (decimal_visible (suc n) (omega arith))
 
 hex_character : (c : ℕ) → is_hex_digit c ≡ true → is_visible c ≡ true
-hex_character c h = grind (arith, nat_tests)
+hex_character c h = and_from (nat_lt 32 c) (not (c == 60 || c == 38)) (grind (arith, nat_tests)) (grind (arith, nat_tests))
 
 pub hex_visible : (octets : List ℕ) → IsBytes octets → IsVisible (encode_lower octets)
 hex_visible octets bytes =

@@ -6,3 +6,4 @@ pub mod Lines
 pub mod SameWords
 pub mod SameBodies
 pub mod SameReports
+pub mod Short

@@ -9,11 +9,4 @@ pub event_joined : (word : List ℕ) (network : Network) (what : What) → join_
     ∷ what_text network what
 unfolding what_text
 event_joined word network (events.Rate d r) = refl
-event_joined word network (events.Wire l w u) = refl
-event_joined word network (events.Hold l w u) = refl
-event_joined word network (events.Cut l w) = refl
-event_joined word network (events.Heal l w) = refl
-event_joined word network (events.On d) = refl
-event_joined word network (events.Break d) = refl
-event_joined word network (events.Send l o) = refl
-event_joined word network events.End = refl
+event_joined word network other = refl

@@ -4,6 +4,9 @@ use Rattle.std.{proofs.lemmas.List.Elements.{All-append, All-cons, All-weaker}, 
 use Rattle.trace_text.{proofs.Joining.{AreWords, words_joined}, specs.Steps.{Words, is_space, space, words}}
 use Rattle.tte_io.specs.Line.{lf}
 use Rattle.report_text.proofs.{Characters.{IsVisible, is_visible}, Splits.NonePasses}
+use Rattle.std.specs.Prelude.{nat_lt}
+use Rattle.std.proofs.Common.{not, ◌||◌}
+use Rattle.std.proofs.lemmas.Bool.{and_parts}
 
 -- the octet is LF
 abbrev pub is_lf : ℕ → Bool
@@ -14,13 +17,13 @@ abbrev pub IsUnbroken : List ℕ → Type 0
 IsUnbroken text = NonePasses is_lf text
 
 visible_no_lf : (c : ℕ) → is_visible c ≡ true → is_lf c ≡ false
-visible_no_lf c h = grind (arith, nat_tests)
+visible_no_lf c h = let high = (and_parts (nat_lt 32 c) (not (c == 60 || c == 38)) h).0 in grind (arith, nat_tests)
 
 pub visible_unbroken : (text : List ℕ) → IsVisible text → IsUnbroken text
 visible_unbroken text h = All-weaker (λ c. is_visible c ≡ true) (λ c. is_lf c ≡ false) visible_no_lf text h
 
 visible_no_space : (c : ℕ) → is_visible c ≡ true → is_space c ≡ false
-visible_no_space c h = grind (arith, nat_tests)
+visible_no_space c h = let high = (and_parts (nat_lt 32 c) (not (c == 60 || c == 38)) h).0 in grind (arith, nat_tests)
 
 pub visible_word : (text : List ℕ) → IsVisible text → NonePasses is_space text
 visible_word text h = All-weaker (λ c. is_visible c ≡ true) (λ c. is_space c ≡ false) visible_no_space text h

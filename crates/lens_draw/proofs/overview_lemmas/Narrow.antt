@@ -33,9 +33,6 @@ module _ (cycle last : ℕ) (low : 2 ^ 32 ≤ cycle) (high : cycle ≤ 2 ^ 40) (
       let most = times in
       omega (arith, more, most, short)
 
-  pub step_short : cycle * (q + 1) < 2 ^ 60
-  step_short = let most = times in omega (arith, most, high, short)
-
   columns_few : last / (cycle * (q + 1)) < 10000
   columns_few =
       let below : last < cycle * 10000 * (q + 1) = lt-mul-div-succ last (omega (arith, low)) in

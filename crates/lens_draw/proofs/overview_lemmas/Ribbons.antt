@@ -2,7 +2,7 @@
 use Rattle.std.proofs.Common.{◌≡◌, ℕ, zero, suc, ◌+◌, ◌-◌, ◌<◌, ◌≤◌, Bool, true, false, List, [], ◌∷◌, refl, sym, ap, subst, ◌∙◌, inl, inr, ◌⊎◌, arith}
 use Rattle.std.specs.Prelude.{if◌then◌else◌, nat_lt}
 use Rattle.std.proofs.lemmas.Bool.Decides.{nat_tests}
-use Rattle.lens_draw.proofs.overview_lemmas.Members.{from_flat, from_map, in_flat, in_map}
+use Rattle.run_law.proofs.records.Members.{from_flat, from_map, in_flat, in_map}
 use Rattle.lens_draw.proofs.overview_lemmas.SameShades.{same_shade}
 use Rattle.lens_draw.specs.overview.Changes.{after, news_of}
 use Rattle.lens_draw.specs.overview.Grids.{column_of, pen_at}

@@ -2,7 +2,7 @@
 use Rattle.std.proofs.Common.{◌≡◌, ℕ, true, refl, sym, ap, ◌∙◌, arith}
 use Rattle.std.specs.Prelude.{◌==◌, if◌then◌else◌}
 use Rattle.std.proofs.lemmas.Bool.Decides.{nat_tests}
-use Rattle.lens_draw.specs.overview.Shades.{cleared, code_of, is_same}
+use Rattle.lens_draw.specs.overview.Shades.{code_of, is_same}
 use Rattle.lens_draw.specs.declared.overview.shade.Shade.{Shade}
 use Rattle.lens_draw.specs.declared.overview.shade.Shade.TheVariants.{Blank, Off, Integrating, Joining, Synchronised, Broken, Cut, One, Two, Three, Many}
 
@@ -31,16 +31,3 @@ pub same_shade : (a b : Shade) → is_same a b ≡ true → a ≡ b
 same_shade a b same =
     let codes : code_of a ≡ code_of b = grind (arith, nat_tests, same) in
     sym (back a) ∙ ap shade_at codes ∙ back b
-
-pub cleared_twice : (shade : Shade) → cleared (cleared shade) ≡ cleared shade
-cleared_twice Blank = refl
-cleared_twice Off = refl
-cleared_twice Integrating = refl
-cleared_twice Joining = refl
-cleared_twice Synchronised = refl
-cleared_twice Broken = refl
-cleared_twice Cut = refl
-cleared_twice One = refl
-cleared_twice Two = refl
-cleared_twice Three = refl
-cleared_twice Many = refl

@@ -1,25 +1,18 @@
 -- The text of a record is short.
-use Rattle.std.proofs.Common.{◌≡◌, ℕ, suc, ◌+◌, ◌*◌, ◌<◌, ◌≤◌, ◌^◌, List, [], ◌∷◌, ◌++◌, length, length-append, ap, take, ◌-◌, ◌∙◌, arith}
+use Rattle.std.proofs.Common.{◌*◌, ◌++◌, ◌+◌, ◌-◌, ◌<◌, ◌^◌, ◌∙◌, ◌∷◌, ◌≡◌, ◌≤◌, List, [], ap, arith, length, length-append, suc, take, ℕ}
 use Rattle.std.specs.Fmt.{signed_decimal}
-use Rattle.std.specs.Int.{w32, w64, to_be_bytes}
-use Rattle.std.specs.List.{join_with_byte}
-use Rattle.std.specs.Prelude.{ℤ, pos, negsuc, neg_ℤ, ◌≤ℤ◌, FitsSigned, codes, decimal}
-use Rattle.std.proofs.lemmas.Fmt.{length-decimal-le, length_signed_le}
+use Rattle.std.specs.Int.{to_be_bytes, w32, w64}
+use Rattle.std.specs.Prelude.{FitsSigned, codes, decimal, negsuc, pos, ℤ}
+use Rattle.std.proofs.lemmas.Fmt.{length-decimal-le}
 use Rattle.std.proofs.lemmas.Int.{ints}
 use Rattle.std.proofs.Math.Seq.{take-append_seam}
 use Rattle.hex.proofs.HexLemmas.{length-encode_with}
 use Rattle.hex.specs.Hex.{encode_lower, lower_digits}
 use Rattle.lens_draw.specs.svg.Marking.{title_room}
-use Rattle.net_plan.specs.Belonging.{HasDevice, HasLink, HasVl, IsOfNetwork, device_name, link_name, vl_name}
-use Rattle.net_plan.specs.Ranges.{IsDeviceInRange, IsInRange, IsLinkInRange, IsVlInRange}
-use Rattle.net_plan.specs.declared.event.What.TheVariants as events
-use Rattle.net_plan.specs.declared.event.What.{What}
-use Rattle.net_plan.specs.declared.ids.DeviceId.{DeviceId}
-use Rattle.net_plan.specs.declared.ids.LinkId.{LinkId}
+use Rattle.net_plan.specs.Belonging.{HasVl, vl_name}
+use Rattle.net_plan.specs.Ranges.{IsInRange, IsVlInRange}
 use Rattle.net_plan.specs.declared.ids.VlId.{VlId}
 use Rattle.net_plan.specs.declared.network.Network.{Network}
-use Rattle.net_plan.specs.declared.tables.Way.TheVariants.{Down, Up}
-use Rattle.net_plan.specs.declared.tables.Way.{Way}
 use Rattle.pcf_values.specs.declared.members.Members.{Members}
 use Rattle.report_text.specs.NoteLine.{body_text, body_words, note_text}
 use Rattle.report_text.specs.NoteWords.{judgement_text, members_text, reason_words, state_text, why_text}
@@ -35,50 +28,15 @@ use Rattle.run_law.specs.declared.note.NoteBody.TheVariants as bodies
 use Rattle.run_law.specs.declared.note.NoteBody.{NoteBody}
 use Rattle.sync_state.specs.declared.state.State.TheVariants as states
 use Rattle.sync_state.specs.declared.state.State.{State}
-use Rattle.trace_text.specs.EventLine.{what_words}
-use Rattle.trace_text.specs.EventWords.{way_text}
-use Rattle.trace_text.specs.Ranges.{IsRate, IsTime, IsWhatInRange}
-use Rattle.trace_text.specs.Steps.{Words, space}
 use Rattle.tte_lemmas.proofs.Lists.{in_all, some_at}
-use Rattle.tte_units.specs.declared.rates.Ppb.{Ppb}
-use Rattle.tte_units.specs.declared.units.Units.{Units}
-
--- ---- words
-
--- how many octets the words have, with one more each
-size : Words → ℕ
-size [] = 0
-size (w ∷ ws) = length w + (1 + size ws)
-
--- joined they have no more
-joined_short : (ws : Words) → length (join_with_byte space ws) ≤ size ws
-unfolding size
-joined_short [] = omega arith
-joined_short (w ∷ []) = omega arith
-joined_short (w ∷ v ∷ ws) =
-    let rest = joined_short (v ∷ ws) in
-    omega (arith, rest, length-append w (space ∷ join_with_byte space (v ∷ ws)))
+use Rattle.report_text.proofs.Short.{device_short, joined_short, link_short, size, what_short}
 
 -- ---- one word
-
-device_short : (network : Network) (d : DeviceId) → IsInRange network → HasDevice network d → length (device_name network d) ≤ 16
-device_short network d range of_network =
-    let at = some_at network.device d.0 of_network in
-    rw at.1 (in_all IsDeviceInRange network.device d.0 at.0 range.devices at.1).name.short
-
-link_short : (network : Network) (l : LinkId) → IsInRange network → HasLink network l → length (link_name network l) ≤ 16
-link_short network l range of_network =
-    let at = some_at network.link l.0 of_network in
-    rw at.1 (in_all (IsLinkInRange network) network.link l.0 at.0 range.links at.1).name.short
 
 vl_short : (network : Network) (v : VlId) → IsInRange network → HasVl network v → length (vl_name network v) ≤ 16
 vl_short network v range of_network =
     let at = some_at network.vl v.0 of_network in
     rw at.1 (in_all (IsVlInRange network) network.vl v.0 at.0 range.vls at.1).name.short
-
-way_short : (way : Way) → length (way_text way) ≤ 4
-way_short Up = omega arith
-way_short Down = omega arith
 
 state_short : (state : State) → length (state_text state) ≤ 12
 state_short states.Off = omega arith
@@ -111,42 +69,6 @@ signed_short : (z : ℤ) → FitsSigned w64 z → length (signed_decimal z) ≤ 
 signed_short (pos n) fits = let most = length-decimal-le 19 n (omega arith) (omega (arith, ints, fits)) (omega (arith, ints, fits)) in omega (arith, most)
 signed_short (negsuc n) fits =
     let most = length-decimal-le 19 (suc n) (omega arith) (omega (arith, ints, fits)) (omega (arith, ints, fits)) in omega (arith, most)
-
--- a signed number of a trace
-number_short : (z : ℤ) → neg_ℤ (pos (2 ^ 60)) ≤ℤ z → z ≤ℤ pos (2 ^ 60) → length (signed_decimal z) ≤ 20
-number_short (pos n) least most = length_signed_le 19 (pos n) (omega (arith, ints, most)) (omega (arith, ints, most))
-number_short (negsuc n) least most = length_signed_le 19 (negsuc n) (omega (arith, ints, least)) (omega (arith, ints, least))
-
-time_short : (time : Units) → IsTime time → length (signed_decimal time.0) ≤ 20
-time_short time h = number_short time.0 (omega (arith, ints, h.least)) (omega (arith, ints, h.most))
-
-rate_short : (rate : Ppb) → IsRate rate → length (signed_decimal rate.0) ≤ 20
-rate_short rate h = number_short rate.0 (omega (arith, ints, h.least)) (omega (arith, ints, h.most))
-
--- ---- the words of an event
-
-what_short : (network : Network) (what : What) → IsInRange network → IsOfNetwork network what → IsWhatInRange what → size (what_words network what) ≤ 3060
-unfolding size
-what_short network (events.Rate d r) range of_network h =
-    let name = device_short network d range of_network in let number = rate_short r h in omega (arith, name, number)
-what_short network (events.Wire l w u) range of_network h =
-    let name = link_short network l range of_network in
-    let way = way_short w in let number = time_short u h in omega (arith, name, way, number)
-what_short network (events.Hold l w u) range of_network h =
-    let name = link_short network l range of_network in
-    let way = way_short w in let number = time_short u h in omega (arith, name, way, number)
-what_short network (events.Cut l w) range of_network h =
-    let name = link_short network l range of_network in let way = way_short w in omega (arith, name, way)
-what_short network (events.Heal l w) range of_network h =
-    let name = link_short network l range of_network in let way = way_short w in omega (arith, name, way)
-what_short network (events.On d) range of_network h = let name = device_short network d range of_network in omega (arith, name)
-what_short network (events.Break d) range of_network h = let name = device_short network d range of_network in omega (arith, name)
-what_short network (events.Send l o) range of_network h =
-    let name = link_short network l range of_network in
-    let digits : length (encode_lower o) ≡ 2 * length o = length-encode_with lower_digits o in
-    let most = h.most in
-    omega (arith, name, digits, most)
-what_short network events.End range of_network h = omega arith
 
 -- ---- the words of a record
 

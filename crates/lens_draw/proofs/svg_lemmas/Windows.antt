@@ -1,20 +1,11 @@
 -- The window of a row, by its entry.
-use Rattle.std.{proofs.Common.{◌∙◌, ◌≡◌, Option, Some, ap, ℕ}, specs.Prelude.{option_and_then, option_map, slice_get}}
-use Rattle.net_plan.specs.{Places.link_at, declared.{network.Network.Network, tables.{Link.Link, VirtualLink.VirtualLink}}}
-use Rattle.run_law.specs.timed.Arrivals.{entry_of}
+use Rattle.std.{proofs.Common.{◌≡◌, Option, Some, ap, ℕ}, specs.Prelude.option_map}
+use Rattle.net_plan.specs.declared.{network.Network.Network}
 use Rattle.schedule_tables.specs.{Entries.IsEntry, Windows.window_of, declared.{entry.Entry.Entry}}
 use Rattle.lens_draw.specs.svg.Windows.{window_at}
+use Rattle.lens_why.proofs.Windows.{entry_is}
 
--- the entry of a row is the row with its virtual link and its link
-pub entry_is : (network : Network) (place : ℕ) (entry : Entry) → IsEntry network place entry
-    → option_and_then (entry_of network) (slice_get network.row place) ≡ Some entry
-entry_is network place entry is =
-    ap (option_and_then (entry_of network)) is.row
-    ∙ ap (option_and_then (λ (vl : VirtualLink). option_map (λ (link : Link). let e : Entry = record { row = entry.row; vl = vl; link = link } in e)
-    (link_at network entry.row.link))) is.vl
-    ∙ ap (option_map (λ (link : Link). let e : Entry = record { row = entry.row; vl = entry.vl; link = link } in e)) is.link
-
--- and its window is that of the row
+-- the window of an entry is that of the row
 pub window_is : (network : Network) (place : ℕ) (entry : Entry) → IsEntry network place entry
     → window_at network place ≡ Some (window_of network entry)
 window_is network place entry is = ap (λ (o : Option Entry). option_map (window_of network) o) (entry_is network place entry is)

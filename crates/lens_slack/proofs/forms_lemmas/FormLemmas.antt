@@ -2,7 +2,6 @@
 use Rattle.std.proofs.{Common.{◌∷◌, ◌≡◌, ◌≤◌, Bool, List, None, Some, [], arith, false, length, refl, true, ℕ}, lemmas.Bool.Decides.nat_tests}
 use Rattle.std.specs.{Option.{option_and_then, option_map}, Prelude.{if◌then◌else◌, ◌==◌, IfSome, Option, bytes_eq, codes, nat_le, slice_get}}
 use Rattle.schedule_tables.specs.declared.rule.Rule.{Rule}
-use Rattle.schedule_tables.specs.declared.rule.Rule.TheVariants.{Correction, Delays, Forwarding, Precision, ScheduleStart, Settling, Spacing, WindowEnds}
 use Rattle.trace_text.specs.Numbers.{number_up_to}
 use Rattle.tte_forms.proofs.FormLemmas.{form_in_range as storm_in_range}
 use Rattle.tte_forms.specs.Forms.{IsFormInRange as IsStormInRange, cycles_spelled, form_of as storm_form_of, if_some, seed_spelled, storm_form}
@@ -41,9 +40,7 @@ three_words [] command third n e f = absurd (omega arith)
 three_words (a ∷ []) command third n e f = absurd (omega arith)
 three_words (a ∷ b ∷ []) command third n e f = absurd (omega arith)
 three_words (a ∷ b ∷ c ∷ []) command third n e f =
-    let first : a ≡ command = cc in
-    let last : c ≡ third = cc in
-    rw (first, last) refl
+    grind arith
 three_words (a ∷ b ∷ c ∷ d ∷ rest) command third n e f = absurd (omega arith)
 
 pub four_words : (words : List (List ℕ)) (command third last : List ℕ) → length words ≡ 4 → slice_get words 0 ≡ Some command
@@ -54,10 +51,7 @@ four_words (a ∷ []) command third last n e f g = absurd (omega arith)
 four_words (a ∷ b ∷ []) command third last n e f g = absurd (omega arith)
 four_words (a ∷ b ∷ c ∷ []) command third last n e f g = absurd (omega arith)
 four_words (a ∷ b ∷ c ∷ d ∷ []) command third last n e f g =
-    let first : a ≡ command = cc in
-    let behind : c ≡ third = cc in
-    let end : d ≡ last = cc in
-    rw (first, behind, end) refl
+    grind arith
 four_words (a ∷ b ∷ c ∷ d ∷ x ∷ rest) command third last n e f g = absurd (omega arith)
 
 pub five_words : (words : List (List ℕ)) (command fourth last : List ℕ) → length words ≡ 5 → slice_get words 0 ≡ Some command
@@ -69,10 +63,7 @@ five_words (a ∷ b ∷ []) command fourth last n e f g = absurd (omega arith)
 five_words (a ∷ b ∷ c ∷ []) command fourth last n e f g = absurd (omega arith)
 five_words (a ∷ b ∷ c ∷ d ∷ []) command fourth last n e f g = absurd (omega arith)
 five_words (a ∷ b ∷ c ∷ d ∷ e' ∷ []) command fourth last n e f g =
-    let first : a ≡ command = cc in
-    let behind : d ≡ fourth = cc in
-    let end : e' ≡ last = cc in
-    rw (first, behind, end) refl
+    grind arith
 five_words (a ∷ b ∷ c ∷ d ∷ e' ∷ x ∷ rest) command fourth last n e f g = absurd (omega arith)
 
 -- ---- the numbers of forms
@@ -111,13 +102,7 @@ spelled_by false rule o is others = others
 
 inequality_by : (text : List ℕ) → IfSome (inequality_spelled text) IsInequality
 inequality_by text =
-    spelled_by (bytes_eq text (codes "8")) Delays _ tt
-    (spelled_by (bytes_eq text (codes "9")) Settling _ tt
-    (spelled_by (bytes_eq text (codes "10")) Precision _ tt
-    (spelled_by (bytes_eq text (codes "11")) Correction _ tt
-    (spelled_by (bytes_eq text (codes "12")) ScheduleStart _ tt
-    (spelled_by (bytes_eq text (codes "13")) WindowEnds _ tt
-    (spelled_by (bytes_eq text (codes "21")) Spacing _ tt (spelled_by (bytes_eq text (codes "23")) Forwarding None tt tt)))))))
+    grind (arith, spelled_by)
 
 network_by : (slack least : Bool) → IfSome (if slack then Some Slack else if least then Some Least else None) IsFormInRange
 network_by true least = tt

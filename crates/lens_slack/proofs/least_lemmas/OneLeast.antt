@@ -13,11 +13,7 @@ both_at_most d e most least = omega (arith, most, least)
 
 same_times : (t u : Times) → AreAtMost t u → AreAtMost u t → t ≡ u
 same_times t u a b =
-    ap (λ (x : ℕ). made x t.settled t.precision t.correction t.tt_start) (both_at_most t.dmax u.dmax a.dmax b.dmax)
-    ∙ ap (λ (x : ℕ). made u.dmax x t.precision t.correction t.tt_start) (both_at_most t.settled u.settled a.settled b.settled)
-    ∙ ap (λ (x : ℕ). made u.dmax u.settled x t.correction t.tt_start) (both_at_most t.precision u.precision a.precision b.precision)
-    ∙ ap (λ (x : ℕ). made u.dmax u.settled u.precision x t.tt_start) (both_at_most t.correction u.correction a.correction b.correction)
-    ∙ ap (λ (x : ℕ). made u.dmax u.settled u.precision u.correction x) (both_at_most t.tt_start u.tt_start a.tt_start b.tt_start)
+    grind (arith, both_at_most)
 
 times_once : (n : Network) (t u : Times) → AreLeast n t → AreLeast n u → t ≡ u
 times_once n t u a b = same_times t u (a.least u b.suffice) (b.least t a.suffice)

@@ -1,5 +1,5 @@
 -- Where the cycle has room for the least times, they lie in their ranges.
-use Rattle.std.{proofs.{Common.{◌*◌, ◌+◌, ◌/◌, ◌^◌, ◌≡◌, ◌≤◌, arith, pos, refl, ℕ}, Math.Nat.mul-le-mul_right, lemmas.Int.ints}, specs.List.All}
+use Rattle.std.{proofs.{Common.{◌*◌, ◌+◌, ◌^◌, ◌≡◌, ◌≤◌, arith, pos, refl, ℕ}, Math.Nat.mul-le-mul_right, lemmas.Int.ints}, specs.List.All}
 use Rattle.lens_slack.specs.{Bounds.begin_bound, Tightest.IsEnough}
 use Rattle.net_plan.{proofs.{Amounts.amount_within, Beta.beta_exists, Shape.rules_give_trees}, specs.Bounds.{IsBeta, beta_at, gamma_of}}
 use Rattle.net_plan.specs.{Ranges.{IsInRange, IsLinkInRange, IsRowInRange, IsVlInRange, IsWithin}, declared.network.Network.Network}
@@ -19,11 +19,7 @@ some_round b jitter drift round value some = omega (arith, value, some)
 
 beta_some : (m : Network) → 1 ≤ amount m.grain → (b : ℕ) → IsBeta m (pos b) → 1 ≤ b
 beta_some m fine b is =
-    let value : b ≡ beta_at m is.jitter is.links = omega (arith, ints, is.value) in
-    let steps : 8 ≤ 8 * amount m.grain = omega (arith, fine) in
-    let round : 8 * (is.links + 2) ≤ 8 * amount m.grain * (is.links + 2) = mul-le-mul_right (is.links + 2) steps in
-    let some : 1 ≤ 8 * amount m.grain * (is.links + 2) = omega (arith, round) in
-    some_round b is.jitter (4 * m.rho * amount m.dmax / 10 ^ 9) (8 * amount m.grain * (is.links + 2)) value some
+    grind (arith, ints, mul-le-mul_right, some_round)
 
 -- the beta of a network of trees, as a whole number
 abbrev HasBeta : Network → Type 0

@@ -1,6 +1,6 @@
 -- The paths of a network, and so beta but for the drift, do not depend on its times.
-use Rattle.std.proofs.{Common.{◌+◌, ◌∷◌, ◌≡◌, List, [], arith, inl, inr, length, pos, refl, ℕ}, lemmas.Int.ints}
-use Rattle.net_plan.{proofs.Beta.beta_is_unique, specs.{Bounds.{IsBeta, IsGreatest, IsOfPath, beta_at, jitter_on}, Paths.{IsFirstPath, IsFirstUplink, IsPath}}}
+use Rattle.std.proofs.{Common.{◌+◌, ◌∷◌, ◌≡◌, List, [], arith, pos, ℕ}, lemmas.Int.ints}
+use Rattle.net_plan.{proofs.Beta.beta_is_unique, specs.{Bounds.IsBeta, Paths.{IsFirstPath, IsFirstUplink, IsPath}}}
 use Rattle.net_plan.specs.{Places.{IsSwitchOf, link_at}, declared.{ids.{DeviceId.DeviceId, LinkId.LinkId}, network.Network.Network, tables.Link.Link}}
 use Rattle.pcf_values.specs.declared.channel.Channel.{Channel}
 use Rattle.tte_lemmas.proofs.Options.{closed, opened}
@@ -33,27 +33,6 @@ module _ (n : Network) (t : Times) where
       let x = opened (λ (k : Link). (k.child ≡ d) × IsSwitchOf n c k.parent × IsPath m c k.parent ls) (link_at n l) h in
       closed (λ (k : Link). (k.child ≡ d) × IsSwitchOf n c k.parent × IsPath n c k.parent ls) (link_at n l) x.0 x.1
       (x.2.0, x.2.1, path_back c x.0.parent ls x.2.2)
-
-  pub of_path_to : (f : List LinkId → ℕ) (k : ℕ) → IsOfPath n f k → IsOfPath m f k
-  of_path_to f k h = let ways = h.1.1 in (h.0, (h.1.0, (ways.0, ways.1, path_to h.0 h.1.0 ways.0 ways.2, ways.3)))
-
-  of_path_back : (f : List LinkId → ℕ) (k : ℕ) → IsOfPath m f k → IsOfPath n f k
-  of_path_back f k h = let ways = h.1.1 in (h.0, (h.1.0, (ways.0, ways.1, path_back h.0 h.1.0 ways.0 ways.2, ways.3)))
-
-  greatest_to : (f : List LinkId → ℕ) (k : ℕ) → IsGreatest (IsOfPath n f) k → IsGreatest (IsOfPath m f) k
-  greatest_to f k g = record {
-    most = λ j has. g.most j (of_path_back f j has);
-    reached = elim g.reached [ inl none ↦ inl none | inr has ↦ inr (of_path_to f k has) ];
-  }
-
-  beta_with : (b : ℕ) (is : IsBeta n (pos b)) → IsBeta m (pos (beta_at m is.jitter is.links))
-  beta_with b is = record {
-    jitter = is.jitter;
-    links = is.links;
-    jitter_greatest = greatest_to (jitter_on n) is.jitter is.jitter_greatest;
-    links_greatest = greatest_to (length {A = LinkId}) is.links is.links_greatest;
-    value = refl;
-  }
 
 -- the one beta with these times
 pub beta_is : (n : Network) (s : ℕ) → IsSteady n s → (t : Times) (b : ℕ) → IsBeta (with_times n t) (pos b) → b ≡ s + drift_over n t.dmax

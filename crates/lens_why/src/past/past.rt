@@ -25,6 +25,7 @@ use device_rules::Heading;
 use membership::Heard;
 use net_plan::{DeviceId, LinkId, Network};
 use pcf_values::{Members, Pcf};
+use plain_notes::Rank;
 use run_law::{Note, NoteBody};
 use schedule_tables::Accepted;
 use std::alloc::Global;
@@ -196,7 +197,7 @@ impl Past {
             (heard_since_point (scenario_under network.now befallen) (before_corrections time hs) device time) }
     {
         let moment = Moment::of(&self.events, device, time);
-        let shown = self.standings.before_rank(device, time, 6);
+        let shown = self.standings.before_rank(device, time, Rank::Corrected);
         shown.heard_since(network, moment.readings.before)
     }
 

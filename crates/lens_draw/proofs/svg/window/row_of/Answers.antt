@@ -1,6 +1,6 @@
 use Rattle.std.proofs.{Common.{◌&&◌, ◌==◌, ◌≡◌, false, rules, tests, true}, lemmas.Iterator.{IsFirst-from_position, YieldsList-from_slice}}
 use Rattle.net_plan.specs.declared.tables.Row.{Row}
-use Rattle.lens_draw.proofs.svg_lemmas.Rows.{searched}
+use Rattle.lens_why.proofs.Rows.{searched}
 use Rattle.lens_draw.proofs.svg.window.row_of.Goals as goal
 
 pub returns-clause-is : goal.returns-clause-is

@@ -1,0 +1,16 @@
+use Rattle.std.proofs.Common.{◌-◌, ◌≤◌, ◌^◌, List}
+use Rattle.lens.proofs.flows_lemmas.counts_lemmas.Fated.{AreCountsUpTo, AreUpTo}
+use Rattle.lens.specs.flows.judge.Courses.{IsCourse, scenario_of}
+use Rattle.net_plan.specs.declared.event.Event.{Event}
+use Rattle.run_law.specs.records.Happenings.{Happening}
+use Rattle.lens.proofs.flows.counts.counting.count_fates.Given as goal
+
+-- the cycles that have begun are counted, and no count is above the time
+abbrev pub invariant-begun : goal.invariant-begun
+invariant-begun l =
+    (l.after ≤ 2 ^ 60) × AreUpTo l.after l.counts
+    × ((befallen : List Event) (hs : List Happening) → IsCourse befallen hs l.course
+    → AreCountsUpTo (scenario_of l.course befallen) hs l.course.until l.flow l.after l.counts)
+
+abbrev pub decreases-begun : goal.decreases-begun
+decreases-begun l = l.course.until - l.after

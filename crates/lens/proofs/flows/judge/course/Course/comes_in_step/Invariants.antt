@@ -1,0 +1,16 @@
+use Rattle.std.proofs.Common.{◌+◌, ◌-◌, ◌≤◌, List}
+use Rattle.lens.specs.flows.judge.Courses.{IsCourse, scenario_of}
+use Rattle.lens.specs.flows.judge.Fates.{ReachesInStep}
+use Rattle.lens.specs.flows.judge.Times.{NoneWithin}
+use Rattle.net_plan.specs.declared.event.Event.{Event}
+use Rattle.run_law.specs.records.Happenings.{Happening}
+use Rattle.lens.proofs.flows.judge.course.Course.comes_in_step.Given as goal
+
+abbrev pub invariant-times : goal.invariant-times
+invariant-times l =
+    (l.after ≤ l.from)
+    × ((befallen : List Event) (hs : List Happening) → IsCourse befallen hs l.self
+    → NoneWithin (ReachesInStep (scenario_of l.self befallen) hs l.device l.cycle l.place) l.after (l.from + 1))
+
+abbrev pub decreases-times : goal.decreases-times
+decreases-times l = l.before - l.from

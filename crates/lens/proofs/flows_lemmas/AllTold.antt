@@ -1,0 +1,60 @@
+-- What is told of all flows: it has lines, and these are the answer.
+use Rattle.std.proofs.Common.{◌≡◌, ℕ, List, [], ◌∷◌, map, inl, inr, refl, ap, sym, subst, ◌∙◌}
+use Rattle.std.proofs.lemmas.Option.{slice_get_within}
+use Rattle.std.specs.Prelude.{All}
+use Rattle.audit_devices.specs.events.Readings.{scenario_under}
+use Rattle.lens.specs.flows.counts.{Deliveries.deliveries_of, FlowLists.AreFlows, Told.AreToldOf}
+use Rattle.lens.specs.declared.flows.counts.deliveries.Delivery.{Delivery}
+use Rattle.lens.specs.declared.flows.counts.told.FlowTold.{FlowTold}
+use Rattle.lens.proofs.flows_lemmas.judge_lemmas.Rows.{receiver_there}
+use Rattle.lens.specs.flows.judge.Flows.{IsFlow}
+use Rattle.lens.specs.declared.flows.judge.flow.Flow.{Flow}
+use Rattle.lens.proofs.flows_lemmas.Missing.{missing_none}
+use Rattle.lens.specs.flows.Answer.{AreAllTold, IsFlowsAnswer, told_answer}
+use Rattle.lens.specs.flows.Writing.{IsWritable}
+use Rattle.net_plan.specs.declared.network.Network.{Network}
+use Rattle.run_law.proofs.records.Order.{all_of}
+use Rattle.run_law.specs.declared.note.Note.{Note}
+use Rattle.run_law.specs.records.Happenings.{happenings}
+use Rattle.run_law.specs.records.Order.{IsIn}
+use Rattle.schedule_tables.specs.Rules.{KeepsRules}
+use Rattle.tte_audit.specs.Report.{events_of}
+use Rattle.tte_reports.specs.Reports.{IsReportOf}
+use Rattle.tte_units.specs.Amount.{amount}
+use Rattle.tte_units.specs.declared.units.Units.{Units}
+
+in_map : (one : FlowTold) (told : List FlowTold) → IsIn one told → IsIn one.flow (map (λ (t : FlowTold). t.flow) told)
+in_map one [] i = i
+in_map one (t ∷ told) (inl same) = inl (ap (λ (x : FlowTold). x.flow) same)
+in_map one (t ∷ told) (inr i) = inr (in_map one told i)
+
+pub writable_all : (network : Network) (ns : List Note) (end : Units) (told : List FlowTold) → AreAllTold network ns end told
+    → All (IsWritable network) told
+writable_all network ns end told all =
+    all_of (IsWritable network) told (λ one i.
+    let is = all.are.each one.flow (in_map one told i) in
+    record { vl = slice_get_within network.vl one.flow.vl.0 one.flow.of_vl is.there; device = receiver_there network one.flow is })
+
+-- what is told of each of the flows
+pub all_told : (network : Network) (ns : List Note) (end : Units) (until : ℕ) (ds : List Delivery) (flows : List Flow) (told : List FlowTold)
+    → AreFlows network flows → until ≡ amount end → ds ≡ deliveries_of ns
+    → AreToldOf (scenario_under network (events_of ns)) (happenings network ns) until ds flows told → AreAllTold network ns end told
+all_told network ns end until ds flows told are ends same of =
+    let s = scenario_under network (events_of ns) in
+    let hs = happenings network ns in
+    let last = subst (λ (n : ℕ). AreToldOf s hs n ds flows told) ends of in
+    let whole = subst (λ (xs : List Delivery). AreToldOf s hs (amount end) xs flows told) same last in
+    record { are = subst (AreFlows network) (sym whole.flows) are; each = whole.each }
+
+pub flows_each : (network : Network) (flows : List Flow) → AreFlows network flows → All (IsFlow network) flows
+flows_each network flows are = all_of (IsFlow network) flows are.each
+
+pub answer_there : (network : Network) (octets : List ℕ) (ns : List Note) (end : Units) (told : List FlowTold) → KeepsRules network
+    → IsReportOf network octets ns end → AreAllTold network ns end told → IsFlowsAnswer network ns end (told_answer network told)
+answer_there network octets ns end told rules r all = record {
+  told = told;
+  all = all;
+  missing = λ one. 0;
+  counted = λ one i. missing_none network octets ns end one rules r;
+  is = refl;
+}

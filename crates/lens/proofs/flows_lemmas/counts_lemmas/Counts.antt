@@ -1,0 +1,56 @@
+-- The counts of a flow's cycles, one more counted by its fate.
+use Rattle.std.proofs.Common.{◌≡◌, ℕ, ◌^◌, ◌<◌, ◌≤◌, List, inl, inr, refl, sym, subst, arith}
+use Rattle.audit_devices.specs.events.Readings.{ReadsOn}
+use Rattle.lens.proofs.flows_lemmas.counts_lemmas.Fated.{AreCountsUpTo, AreUpTo, counted_on, few_more, few_still, passed_on}
+use Rattle.lens.specs.flows.counts.Counted.{AreBelow, IsCycleCounted, count_of}
+use Rattle.lens.specs.declared.flows.counts.counting.FateCounts.{FateCounts}
+use Rattle.lens.specs.flows.judge.Beginnings.{IsFirstBegun}
+use Rattle.lens.specs.flows.judge.Courses.{IsCourse, scenario_of}
+use Rattle.lens.specs.flows.judge.Flows.{IsFlow}
+use Rattle.lens.specs.declared.flows.judge.beginning.Begun.{Begun}
+use Rattle.lens.specs.declared.flows.judge.course.Course.{Course}
+use Rattle.lens.specs.declared.flows.judge.fate.Fate.TheVariants as fates
+use Rattle.lens.specs.declared.flows.judge.fate.Fate.{Fate}
+use Rattle.lens.specs.declared.flows.judge.flow.Flow.{Flow}
+use Rattle.net_plan.specs.Ranges.{IsInRange}
+use Rattle.net_plan.specs.declared.event.Event.{Event}
+use Rattle.run_law.specs.records.Happenings.{Happening}
+use Rattle.tte_lemmas.proofs.Integers.{amount_least}
+
+abbrev pub no_counts : FateCounts
+no_counts = record { owed = 0; receiver = 0; sender = 0; end = 0 }
+
+pub zero_counts : (fate : Fate) → count_of no_counts fate ≡ 0
+zero_counts fates.Owed = refl
+zero_counts fates.Receiver = refl
+zero_counts fates.Sender = refl
+zero_counts fates.End = refl
+
+pub none_above : (after : ℕ) (counts : FateCounts) → after ≤ 2 ^ 60 → AreUpTo after counts → AreBelow (2 ^ 63) counts
+none_above after counts le few =
+    let owed = few fates.Owed in
+    let receiver = few fates.Receiver in
+    let sender = few fates.Sender in
+    let end = few fates.End in
+    (omega (arith, owed, le), omega (arith, receiver, le), omega (arith, sender, le), omega (arith, end, le))
+
+pub few_next : (course : Course) (flow : Flow) (begun : Begun) (after : ℕ) (old new : FateCounts) → AreUpTo after old → after < begun.time
+    → IsCycleCounted course flow begun old new → AreUpTo begun.time new
+few_next course flow begun after old new few lt (inl out) = subst (AreUpTo begun.time) (sym out.1) (few_still old after begun.time few lt)
+few_next course flow begun after old new few lt (inr is) =
+    subst (AreUpTo begun.time) (sym is.2) (few_more old after begun.time is.0 few lt)
+
+pub next_counted : (course : Course) (befallen : List Event) (hs : List Happening) (flow : Flow) (after : ℕ) (old new : FateCounts) (begun : Begun)
+    → IsCourse befallen hs course → IsInRange course.network.now → IsFlow course.network.now flow
+    → ReadsOn ((scenario_of course befallen).reading flow.device) → AreCountsUpTo (scenario_of course befallen) hs course.until flow after old
+    → IsFirstBegun (scenario_of course befallen) hs flow.device after course.until begun → IsCycleCounted course flow begun old new
+    → AreCountsUpTo (scenario_of course befallen) hs course.until flow begun.time new
+next_counted course befallen hs flow after old new begun known range is on are first (inl out) =
+    let s = scenario_of course befallen in
+    subst (AreCountsUpTo s hs course.until flow begun.time) (sym out.1)
+    (passed_on s hs course.until flow after old begun on (amount_least (2 ^ 32) s.network.cycle.0 range.cycle.least) are first out.0)
+next_counted course befallen hs flow after old new begun known range is on are first (inr has) =
+    let s = scenario_of course befallen in
+    subst (AreCountsUpTo s hs course.until flow begun.time) (sym has.2)
+    (counted_on s hs course.until flow after old begun has.0 is on (amount_least (2 ^ 32) s.network.cycle.0 range.cycle.least) are first has.1
+    (has.3 befallen hs known (record { occurs = has.1; begins = first.begins.reaches; in_run = first.first.timely })))

@@ -1,0 +1,24 @@
+-- What is told of flows, and of one more.
+use Rattle.std.proofs.Common.{◌≡◌, ℕ, List, [], ◌∷◌, ◌++◌, refl, sym, ap, subst, ◌∙◌}
+use Rattle.std.proofs.lemmas.List.{map-append}
+use Rattle.std.proofs.lemmas.List.Elements.{All-append, All-cons, All-nil}
+use Rattle.lens.specs.flows.counts.Told.{AreToldOf, IsTold}
+use Rattle.lens.specs.declared.flows.counts.deliveries.Delivery.{Delivery}
+use Rattle.lens.specs.declared.flows.counts.told.FlowTold.{FlowTold}
+use Rattle.lens.specs.declared.flows.judge.flow.Flow.{Flow}
+use Rattle.run_law.specs.records.Happenings.{Happening}
+use Rattle.run_law.specs.scenario.Scenarios.{Scenario}
+
+pub none_told : (s : Scenario) (hs : List Happening) (until : ℕ) (ds : List Delivery) (told : List FlowTold) → told ≡ [] → AreToldOf s hs until ds [] told
+none_told s hs until ds told none =
+    subst (AreToldOf s hs until ds []) (sym none) (record { flows = refl; each = All-nil (IsTold s hs until ds) })
+
+pub told_more : (s : Scenario) (hs : List Happening) (until : ℕ) (ds : List Delivery) (flows : List Flow) (told : List FlowTold) (one : FlowTold)
+    (new : List FlowTold) → new ≡ told ++ one ∷ [] → AreToldOf s hs until ds flows told → IsTold s hs until ds one
+    → AreToldOf s hs until ds (flows ++ one.flow ∷ []) new
+told_more s hs until ds flows told one new grown are is =
+    subst (AreToldOf s hs until ds (flows ++ one.flow ∷ [])) (sym grown) (record {
+      flows = map-append (λ (t : FlowTold). t.flow) told (one ∷ []) ∙ ap (λ (fs : List Flow). fs ++ one.flow ∷ []) are.flows;
+      each = All-append (IsTold s hs until ds) told (one ∷ []) are.each
+          (All-cons (IsTold s hs until ds) one [] is (All-nil (IsTold s hs until ds)));
+    })

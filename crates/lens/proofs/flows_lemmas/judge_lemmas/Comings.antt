@@ -1,0 +1,68 @@
+-- When a clock reaches a value where its device is synchronised.
+use Rattle.std.proofs.Common.{◌≡◌, ℕ, zero, suc, ◌+◌, ◌*◌, ◌<◌, ◌≤◌, ℤ, pos, Bool, true, false, List, inl, inr, refl, sym, ap, subst, arith}
+use Rattle.std.proofs.lemmas.Bool.{cases_lt, false≢true}
+use Rattle.std.proofs.lemmas.Int.{ints}
+use Rattle.std.specs.Prelude.{◌↔◌, IsTrue, MatchBool}
+use Rattle.audit_devices.proofs.clocks_lemmas.Reached.{changed_early}
+use Rattle.lens.specs.flows.judge.Fates.{HasComeInStep, ReachesInStep}
+use Rattle.lens.specs.flows.judge.Times.{IsFirstTime, NoneWithin}
+use Rattle.net_plan.specs.declared.ids.DeviceId.{DeviceId}
+use Rattle.run_law.specs.device.LocalClocks.{Reaches, changed_at}
+use Rattle.run_law.specs.device.States.{state_after}
+use Rattle.run_law.specs.law.Safety.{ReachesPlace}
+use Rattle.run_law.specs.records.Happenings.{Happening, up_to}
+use Rattle.run_law.specs.scenario.Scenarios.{Scenario}
+use Rattle.sync_state.specs.declared.state.State.TheVariants.{Synchronised}
+use Rattle.tte_units.specs.Amount.{amount}
+
+pub none_in_step : (s : Scenario) (hs : List Happening) (device : DeviceId) (cycle place after before last : ℕ) → last ≤ before
+    → NoneWithin (ReachesPlace s hs device cycle place) after before → NoneWithin (ReachesInStep s hs device cycle place) after last
+none_in_step s hs device cycle place after before last le none t lt early r = none t lt (omega (arith, early, le)) r.reaches
+
+-- the first time, where the device is not synchronised at it
+pub passed_in_step : (s : Scenario) (hs : List Happening) (device : DeviceId) (cycle place after until time : ℕ)
+    → IsFirstTime (ReachesPlace s hs device cycle place) after until time
+    → (state_after s (up_to time hs) device ≡ Synchronised → ⊥) → NoneWithin (ReachesInStep s hs device cycle place) after (time + 1)
+passed_in_step s hs device cycle place after until time first out t lt early r =
+    elim (cases_lt t time) [
+      | inl less ↦ first.none_before t lt less r.reaches
+      | inr more ↦
+          let same : t ≡ time = omega (arith, early, more) in
+          out (subst (λ (x : ℕ). state_after s (up_to x hs) device ≡ Synchronised) same r.synchronised)
+    ]
+
+-- no clock reaches a value at time 0
+pub not_at_first : (s : Scenario) (hs : List Happening) (device : DeviceId) (v : ℤ) (t : ℕ) → Reaches s hs device v t → 0 < t
+not_at_first s hs device v zero r =
+    let early = changed_early hs device 0 in
+    let at : changed_at hs device 0 ≡ 0 = omega (arith, early) in
+    let below = r.below in
+    let reached = r.reach.reached in
+    let same = ap (s.reading device) at in
+    absurd (omega (arith, ints, below, reached, same))
+not_at_first s hs device v (suc t) r = omega arith
+
+-- where it has come to none behind time 0, it has come to none
+pub not_come : (s : Scenario) (hs : List Happening) (device : DeviceId) (cycle place before : ℕ)
+    → NoneWithin (ReachesInStep s hs device cycle place) 0 before → HasComeInStep s hs device cycle place before → ⊥
+not_come s hs device cycle place before none come =
+    none come.time (not_at_first s hs device (pos (cycle * amount s.network.cycle + place)) come.time come.reaches.reaches) come.early come.reaches
+
+-- ---- the answer
+
+-- it came to the place before the time
+abbrev pub Comes : Scenario → List Happening → DeviceId → ℕ → ℕ → ℕ → Type 0
+Comes s hs device cycle place before = (time : ℕ) × (time < before) × ReachesInStep s hs device cycle place time
+
+pub when_true : (b : Bool) (A B : Type 0) → b ≡ true → MatchBool b A B → A
+when_true b A B is h = subst (λ (x : Bool). MatchBool x A B) is h
+
+pub has_come : (s : Scenario) (hs : List Happening) (device : DeviceId) (cycle place before : ℕ)
+    → Comes s hs device cycle place before → HasComeInStep s hs device cycle place before
+has_come s hs device cycle place before w = record { time = w.0; early = w.1; reaches = w.2 }
+
+pub tells_come : (s : Scenario) (hs : List Happening) (device : DeviceId) (cycle place before : ℕ) (r : Bool)
+    → MatchBool r (Comes s hs device cycle place before) (NoneWithin (ReachesInStep s hs device cycle place) 0 before)
+    → IsTrue r ↔ HasComeInStep s hs device cycle place before
+tells_come s hs device cycle place before true w = (λ e. has_come s hs device cycle place before w, λ come. refl)
+tells_come s hs device cycle place before false none = (λ e. absurd (false≢true e), λ come. absurd (not_come s hs device cycle place before none come))

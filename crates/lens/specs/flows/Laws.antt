@@ -1,0 +1,18 @@
+-- What holds of the answer.
+use Rattle.std.specs.Prelude.{◌≡◌, ℕ, List}
+use Rattle.lens.specs.declared.flows.counts.told.FlowTold.{FlowTold}
+use Rattle.lens.specs.flows.Answer.{IsFlowsAnswer}
+use Rattle.net_plan.specs.declared.network.Network.{Network}
+use Rattle.run_law.specs.declared.note.Note.{Note}
+use Rattle.run_law.specs.records.Order.{IsIn}
+use Rattle.schedule_tables.specs.Rules.{KeepsRules}
+use Rattle.tte_forms.specs.Answering.{Answer}
+use Rattle.tte_reports.specs.Reports.{IsReportOf}
+use Rattle.tte_units.specs.declared.units.Units.{Units}
+
+-- in each answer for a report of an accepted network, no flow misses a frame
+abbrev pub NoneIsMissing : Type 0
+NoneIsMissing =
+    (network : Network) (octets : List ℕ) (ns : List Note) (end : Units) (a : Answer) → KeepsRules network
+    → IsReportOf network octets ns end → (answer : IsFlowsAnswer network ns end a) → (one : FlowTold)
+    → IsIn one answer.told → answer.missing one ≡ 0

@@ -1,0 +1,141 @@
+//! What the records of a report so far show.
+
+ghost use Rattle.std.specs.Prelude.{◌≡◌, ◌++◌, ◌∷◌, [], ◌^◌, ◌≤◌, Some, IfOk, List, OnOk};
+ghost use Rattle.audit_devices.specs.{Effects.{carried_by, subject_of}, Showing.IsReading};
+ghost use Rattle.audit_devices.specs.events.{Readings.scenario_under, Remembering.{Remembers, RemembersSome}};
+ghost use Rattle.audit_devices.specs.declared.events.history.EventHistory.{EventHistory as EventHistoryValue};
+ghost use Rattle.lens.specs.flows.counts.Seen.{HasSeen, some_delivery};
+ghost use Rattle.net_plan.specs.{Belonging.HasDevice, Ranges.IsInRange, declared.event.Event.Event};
+ghost use Rattle.net_plan.specs.declared.ids.DeviceId.{DeviceId as DeviceIdValue};
+ghost use Rattle.net_plan.specs.declared.network.Network.{Network as NetworkValue};
+ghost use Rattle.report_text.specs.Ranges.{IsBodyOf};
+ghost use Rattle.run_law.specs.declared.note.Note.{Note as NoteValue};
+ghost use Rattle.run_law.specs.records.{Happenings.{Happening, happening, happenings}, Order.AllBefore, Ranks.place_of};
+ghost use Rattle.tte_units.specs.Amount.{amount};
+
+use crate::flows::counts::Delivery;
+use crate::flows::counts::deliveries::delivery_by;
+use audit_devices::clocks::Moment;
+use audit_devices::events::{EventHistory, reading_law};
+use audit_devices::{Carried, Readings, Standings};
+use audit_records::KeptRecords;
+pub use audit_records::OutOfMemory;
+use net_plan::Network;
+use pcf_values::{Members, Pcf};
+use run_law::{Note, NoteBody};
+use std::alloc::Global;
+
+/// What the records so far show of the devices, and which deliveries they tell.
+#[derive(Drop)]
+pub struct Seen {
+    records: KeptRecords,
+    pub standings: Standings,
+    pub deliveries: Vec<Delivery>,
+}
+
+impl Seen {
+    /// What no record shows.
+    ///
+    /// Fails when memory runs out.
+    pub fn new(alloc: Global, network: &Network) -> Result<Seen, OutOfMemory>
+        requires { IsInRange network.now }
+        ensures { IfOk result (λ seen. (befallen : List Event) (events : EventHistoryValue)
+            → Remembers network.now befallen events → HasSeen network.now befallen [] seen) }
+    {
+        reading_law();
+        let records = KeptRecords::new(alloc);
+        let standings = Standings::new(alloc, network)?;
+        Ok(Seen {
+            records,
+            standings,
+            deliveries: Vec::new(alloc),
+        })
+    }
+
+    /// Goes on by the next record, under the events.
+    ///
+    /// Fails when memory runs out.
+    pub fn push(
+        &mut self,
+        network: &Network,
+        events: &EventHistory,
+        note: &Note,
+    ) -> Result<(), OutOfMemory>
+        requires range { IsInRange network.now }
+        requires known { RemembersSome events.now }
+        requires named { IsBodyOf network.now note.now.body }
+        requires timely { amount note.now.time ≤ 2 ^ 60 }
+        ensures { (befallen : List Event) (ns : List NoteValue) → Remembers network.now befallen events.now
+            → HasSeen network.now befallen ns self.old
+            → AllBefore place_of (happenings network.now ns)
+            (place_of (happening network.now (happenings network.now ns) note.now))
+            → OnOk result (HasSeen network.now befallen (ns ++ note.now ∷ []) self.new) }
+    {
+        reading_law();
+        let time = note.time.0.unsigned_abs();
+        let kept = self.records.make(network, time, &note.body);
+        let carried = carried_by(kept.frame);
+        let readings = readings(events, &note.body, time);
+        self.standings
+            .push(network, time, &note.body, carried, readings)?;
+        push_some(&mut self.deliveries, delivery_by(time, &note.body))?;
+        self.records.push(kept)?;
+        Ok(())
+    }
+}
+
+/// Adds the delivery, if there is one.
+fn push_some(deliveries: &mut Vec<Delivery>, delivery: Option<Delivery>) -> Result<(), OutOfMemory>
+    ensures { OnOk result (deliveries.new.items ≡ deliveries.old.items ++ some_delivery delivery) }
+{
+    let Some(delivery) = delivery else {
+        return Ok(());
+    };
+    match deliveries.push(delivery) {
+        Ok(()) => Ok(()),
+        Err(_) => Err(OutOfMemory),
+    }
+}
+
+/// What a record of this frame says: its cycle and its members.
+fn carried_by(frame: Option<Pcf>) -> Carried
+    ensures { (h : Happening) → h.frame ≡ frame → result ≡ carried_by h }
+{
+    match frame {
+        Some(frame) => Carried {
+            cycle: frame.cycle,
+            members: frame.members,
+        },
+        None => Carried {
+            cycle: 0,
+            members: Members(0),
+        },
+    }
+}
+
+/// What the clock of the device of which a record shows something reads at the time, and a unit of time before.
+fn readings(events: &EventHistory, body: &NoteBody, time: u64) -> Readings
+    requires some { RemembersSome events.now }
+    requires limit { time ≤ 2 ^ 60 }
+    ensures { (network : NetworkValue) (befallen : List Event) (device : DeviceIdValue)
+        → Remembers network befallen events.now → HasDevice network device → subject_of body.now ≡ Some device
+        → IsReading (scenario_under network befallen) device time result }
+{
+    let device = match body {
+        NoteBody::Permanent { device, .. }
+        | NoteBody::Compressed { device, .. }
+        | NoteBody::Corrected { device, .. }
+        | NoteBody::State { device, .. } => *device,
+        NoteBody::Event { .. }
+        | NoteBody::Arrived { .. }
+        | NoteBody::Sent { .. }
+        | NoteBody::Left { .. }
+        | NoteBody::Lost { .. }
+        | NoteBody::TtSent { .. }
+        | NoteBody::Accepted { .. }
+        | NoteBody::Delivered { .. }
+        | NoteBody::Dropped { .. }
+        | NoteBody::Clock { .. } => return Readings { now: 0, before: 0 },
+    };
+    Moment::of(events, device, time).readings
+}
