@@ -1,7 +1,6 @@
-//! Tests of audits: the reading of a record's line, and the answers over whole reports.
+//! Tests of reports: the line of each record, what is no line, and the answers over whole reports.
 
 mod audits;
-mod records_read;
+mod lines;
 mod reports;
-mod worked;
 mod wrong_lines;

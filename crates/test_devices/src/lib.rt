@@ -1,7 +1,9 @@
-//! Tests of devices: what keeps their common time, their rules, end systems and switches.
+//! Tests of the mechanisms of a device, of devices, and of traces and the hypothesis on them.
 #![tactic(auto)]
 
 #[cfg(test)]
 mod clocks;
 #[cfg(test)]
 mod devices;
+#[cfg(test)]
+mod traces;

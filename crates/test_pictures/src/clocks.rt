@@ -1,7 +1,7 @@
 use crate::drawn::{drawn, has_lines, text_of};
-use crate::worked::CALM;
 use lens_draw::svg::Span;
 use std::test::Fail;
+use worked_network::CALM;
 
 // A report of the worked network that ends before its first cycle: m1 is as slow as a clock may be, m2 as fast, and m4
 // breaks. A clock that is 50,000 ppb off is 6,550,000 units off at the end, 99 ns.

@@ -1,4 +1,3 @@
-use crate::worked::{CALM, WORKED};
 use lens_draw::draw_report;
 use lens_draw::svg::Span;
 use std::alloc::Global;
@@ -6,6 +5,7 @@ use std::process::Abort;
 use std::test::Fail;
 use tte_forms::Status;
 use tte_io::{MemorySink, OutOfMemory, SteadySource};
+use worked_network::{CALM, WORKED};
 
 const ROOM: u64 = 1 << 17;
 

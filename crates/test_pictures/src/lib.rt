@@ -11,5 +11,3 @@ mod overviews;
 mod refused;
 #[cfg(test)]
 mod windows;
-#[cfg(test)]
-mod worked;

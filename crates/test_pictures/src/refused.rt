@@ -1,4 +1,3 @@
-use crate::worked::{CALM, WORKED};
 use lens_draw::draw_report;
 use lens_draw::svg::Span;
 use std::alloc::Global;
@@ -6,6 +5,7 @@ use std::process::Abort;
 use std::test::Fail;
 use tte_forms::Status;
 use tte_io::{MemorySink, OutOfMemory, SteadySource};
+use worked_network::{CALM, WORKED};
 
 // A drawing that ends otherwise: its two files, the puts that fail, and what it answers.
 #[derive(Clone, Copy)]
@@ -34,41 +34,34 @@ fn try_drawing(rt: &impl Abort, alloc: Global, drawing: &Drawing<'_>) -> Result<
     Ok(())
 }
 
+// No report is told as by `audit`, and no network as by `check`.
 #[test]
-fn no_report_is_told_as_by_audit(rt: HostRuntime) -> Result<(), Fail> {
-    let alloc = rt.alloc();
-    let drawing = Drawing {
-        network: WORKED,
-        report: "x\n",
-        failing_puts: &[],
-        text: "refused record 1 form\n",
-        status: Status::AuditRefused,
-    };
-    try_drawing(&rt, alloc, &drawing)
-}
-
-#[test]
-fn no_network_is_told_as_by_check(rt: HostRuntime) -> Result<(), Fail> {
-    let alloc = rt.alloc();
-    let drawing = Drawing {
-        network: "=",
-        report: CALM,
-        failing_puts: &[],
-        text: "refused network toml\n",
-        status: Status::NetworkRefused,
-    };
-    try_drawing(&rt, alloc, &drawing)
-}
-
-#[test]
-fn a_failed_put_is_told(rt: HostRuntime) -> Result<(), Fail> {
-    let alloc = rt.alloc();
-    let drawing = Drawing {
-        network: WORKED,
-        report: CALM,
-        failing_puts: &[1],
-        text: "",
-        status: Status::WriteFault,
-    };
-    try_drawing(&rt, alloc, &drawing)
+fn what_is_not_drawn_is_told(rt: HostRuntime) -> Result<(), Fail> {
+    let drawings = [
+        Drawing {
+            network: WORKED,
+            report: "x\n",
+            failing_puts: &[],
+            text: "refused record 1 form\n",
+            status: Status::AuditRefused,
+        },
+        Drawing {
+            network: "=",
+            report: CALM,
+            failing_puts: &[],
+            text: "refused network toml\n",
+            status: Status::NetworkRefused,
+        },
+        Drawing {
+            network: WORKED,
+            report: CALM,
+            failing_puts: &[1],
+            text: "",
+            status: Status::WriteFault,
+        },
+    ];
+    for drawing in &drawings {
+        try_drawing(&rt, rt.alloc(), drawing)?;
+    }
+    Ok(())
 }

@@ -1,7 +1,7 @@
 use crate::drawn::{drawn, has_lines, text_of};
-use crate::worked::CALM;
 use lens_draw::svg::Span;
 use std::test::Fail;
+use worked_network::CALM;
 
 // By hand: a frame of 84 octets takes 440,401,920 units on its port, so that of the row of offset 28,180,480,000 comes
 // at 28,653,649,920 of the cycle, 32,768,000 on the wire included. The precision and gamma are 1,074,790,404, and the

@@ -1,4 +1,4 @@
-//! Tests of values, of their codec, and of networks: the plan, its file and its tables.
+//! Tests of values and of networks, their files and their rules.
 #![tactic(auto)]
 
 #[cfg(test)]

@@ -1,4 +1,3 @@
-use crate::audits::worked::worked;
 use net_plan::{LinkId, Way};
 use schedule_tables::Accepted;
 use std::alloc::Global;
@@ -6,6 +5,7 @@ use std::process::Abort;
 use std::test::Fail;
 use tte_audit::{AuditRefusal, read_events};
 use tte_units::Units;
+use worked_network::worked;
 
 /// A report, and how many records it has and when it ends, or how it is refused.
 type Case = (&'static str, Result<(u64, Units), AuditRefusal>);
@@ -40,7 +40,8 @@ const AT_ONCE: &str = "1 0 event 1 end
 10 0 clock cb reading 0 adj 0 state synchronised
 ";
 
-const NOT_REFUSED: [Case; 3] = [
+// Events within the hypothesis up to an end.
+const NOT_REFUSED: &[Case] = &[
     (AT_ONCE, Ok((10, Units(0)))),
     // These lack the records of clocks, which are not judged.
     (
@@ -54,14 +55,8 @@ const NOT_REFUSED: [Case; 3] = [
 ];
 
 #[test]
-fn events_within_the_hypothesis_up_to_an_end(rt: HostRuntime) -> Result<(), Fail> {
-    let network = worked(&rt, rt.alloc())?;
-    try_cases(&rt, rt.alloc(), &network, &NOT_REFUSED)
-}
-
-#[test]
 fn what_the_events_have_set(rt: HostRuntime) -> Result<(), Fail> {
-    let network = worked(&rt, rt.alloc())?;
+    let network = worked(rt.alloc())?;
     let report = b"1 3 event 1 cut m1_a up\n2 7 event 2 end\n";
     match read_events(rt.alloc(), &network, report) {
         Ok(read) => {
@@ -73,7 +68,8 @@ fn what_the_events_have_set(rt: HostRuntime) -> Result<(), Fail> {
     Ok(())
 }
 
-const FORMS: [Case; 7] = [
+// Lines that are none.
+const FORMS: &[Case] = &[
     ("x\n", Err(AuditRefusal::Form(1))),
     ("\n", Err(AuditRefusal::Form(1))),
     // The last line lacks its LF.
@@ -92,13 +88,8 @@ const FORMS: [Case; 7] = [
     ),
 ];
 
-#[test]
-fn lines_that_are_none(rt: HostRuntime) -> Result<(), Fail> {
-    let network = worked(&rt, rt.alloc())?;
-    try_cases(&rt, rt.alloc(), &network, &FORMS)
-}
-
-const EVENTS: [Case; 9] = [
+// Events that may not come.
+const EVENTS: &[Case] = &[
     // No record is that of an end.
     ("", Err(AuditRefusal::Events(1))),
     ("1 0 event 1 rate m1 0\n", Err(AuditRefusal::Events(2))),
@@ -134,7 +125,10 @@ const EVENTS: [Case; 9] = [
 ];
 
 #[test]
-fn events_that_may_not_come(rt: HostRuntime) -> Result<(), Fail> {
-    let network = worked(&rt, rt.alloc())?;
-    try_cases(&rt, rt.alloc(), &network, &EVENTS)
+fn events_are_read_up_to_an_end_or_refused(rt: HostRuntime) -> Result<(), Fail> {
+    let network = worked(rt.alloc())?;
+    for cases in [NOT_REFUSED, FORMS, EVENTS] {
+        try_cases(&rt, rt.alloc(), &network, cases)?;
+    }
+    Ok(())
 }

@@ -1,10 +1,10 @@
-use crate::audits::worked::worked;
 use schedule_tables::Accepted;
 use std::alloc::Global;
 use std::process::Abort;
 use std::test::Fail;
 use tte_audit::{AuditRefusal, audit};
 use tte_units::Units;
+use worked_network::worked;
 
 /// Audits the report, if it is not too long.
 fn audited(
@@ -19,7 +19,7 @@ fn audited(
 
 #[test]
 fn a_report_of_no_run_is_refused(rt: HostRuntime) -> Result<(), Fail> {
-    let network = worked(&rt, rt.alloc())?;
+    let network = worked(rt.alloc())?;
     let cases = [
         ("", AuditRefusal::Events(1)),
         ("x\n", AuditRefusal::Form(1)),

@@ -1,8 +1,8 @@
-use crate::audits::worked::worked;
 use schedule_tables::Accepted;
 use std::process::Abort;
 use std::test::Fail;
 use tte_audit::{keep_names_apart, note_line};
+use worked_network::worked;
 
 /// Tries that none of these is the line of a record.
 fn try_none(rt: &impl Abort, accepted: &Accepted, texts: &[&str]) {
@@ -15,7 +15,8 @@ fn try_none(rt: &impl Abort, accepted: &Accepted, texts: &[&str]) {
     }
 }
 
-const SPACES: [&str; 10] = [
+// Words that are not parted by one space.
+const SPACES: &[&str] = &[
     "",
     " ",
     "x",
@@ -28,14 +29,8 @@ const SPACES: [&str; 10] = [
     "1 0 sent m1 cycle 1\r",
 ];
 
-#[test]
-fn words_that_are_not_parted_by_one_space(rt: HostRuntime) -> Result<(), Fail> {
-    let network = worked(&rt, rt.alloc())?;
-    try_none(&rt, &network, &SPACES);
-    Ok(())
-}
-
-const COUNTS: [&str; 9] = [
+// Words that are too few or too many.
+const COUNTS: &[&str] = &[
     "1",
     "1 0",
     "1 0 sent",
@@ -47,14 +42,8 @@ const COUNTS: [&str; 9] = [
     "1 0 dropped c1 c1_b 95 repeat 1",
 ];
 
-#[test]
-fn words_that_are_too_few_or_too_many(rt: HostRuntime) -> Result<(), Fail> {
-    let network = worked(&rt, rt.alloc())?;
-    try_none(&rt, &network, &COUNTS);
-    Ok(())
-}
-
-const NUMBERS: [&str; 18] = [
+// Numbers that are not written so.
+const NUMBERS: &[&str] = &[
     "01 0 sent m1 cycle 1",
     "1 00 sent m1 cycle 1",
     "1 0 sent m1 cycle 01",
@@ -75,14 +64,8 @@ const NUMBERS: [&str; 18] = [
     "1 0 compressed ca opened 0 at 0 cycle 1 members 0000000F within",
 ];
 
-#[test]
-fn numbers_that_are_not_written_so(rt: HostRuntime) -> Result<(), Fail> {
-    let network = worked(&rt, rt.alloc())?;
-    try_none(&rt, &network, &NUMBERS);
-    Ok(())
-}
-
-const WORDS: [&str; 13] = [
+// Words of no meaning.
+const WORDS: &[&str] = &[
     "1 0 Sent m1 cycle 1",
     "1 0 sent m9 cycle 1",
     "1 0 sent M1 cycle 1",
@@ -98,22 +81,17 @@ const WORDS: [&str; 13] = [
     "1 0 event 1 heal m1_a left",
 ];
 
-#[test]
-fn words_of_no_meaning(rt: HostRuntime) -> Result<(), Fail> {
-    let network = worked(&rt, rt.alloc())?;
-    try_none(&rt, &network, &WORDS);
-    Ok(())
-}
-
-/// A record of a send event, but that the digits of its frame are `0A`.
+// A record of a send event, but that the digits of its frame are `0A`.
 const UPPER_CASE: &str = "1 0 event 1 send m4_b \
         0A0A0A0A0A0A0A0A0A0A0A0A0A0A0A0A0A0A0A0A0A0A0A0A0A0A0A0A0A0A\
         0A0A0A0A0A0A0A0A0A0A0A0A0A0A0A0A0A0A0A0A0A0A0A0A0A0A0A0A0A0A";
 
 #[test]
-fn octets_that_are_not_printed_so(rt: HostRuntime) -> Result<(), Fail> {
-    let network = worked(&rt, rt.alloc())?;
-    try_none(&rt, &network, &[UPPER_CASE]);
+fn what_is_no_line_of_a_record(rt: HostRuntime) -> Result<(), Fail> {
+    let network = worked(rt.alloc())?;
+    for texts in [SPACES, COUNTS, NUMBERS, WORDS, &[UPPER_CASE]] {
+        try_none(&rt, &network, texts);
+    }
     keep_names_apart(&network);
     let no_text = note_line(network.network(), b"1 0 sent m1\xff cycle 1");
     assert!(rt; no_text.is_none());

@@ -1,4 +1,4 @@
-use crate::judges::networks::MASTER;
+use crate::judges::networks::master;
 use audit_devices::Shown;
 use audit_devices::clocks::{
     Moment, Point, Sending, coming_cycle, coming_point, next_sending, reaches, sends,
@@ -6,14 +6,12 @@ use audit_devices::clocks::{
 use audit_devices::events::EventHistory;
 use device_rules::PointVerdict;
 use membership::Heard;
-use net_file::read_network;
 use net_plan::DeviceId;
 use std::test::Fail;
 
 #[test]
 fn a_lone_master_sends_and_then_loses_the_time(rt: HostRuntime) -> Result<(), Fail> {
-    assert!(rt; MASTER.len() <= 262_144);
-    let network = read_network(rt.alloc(), MASTER.as_bytes())?;
+    let network = master(rt.alloc())?;
     let events = EventHistory::new(rt.alloc(), &network)?;
     let device = DeviceId(0);
     let shown = Shown::new(&network, device);

@@ -1,16 +1,14 @@
-use crate::judges::networks::SENDER;
+use crate::judges::networks::sender;
 use audit_devices::events::{EventHistory, reading_law};
 use audit_devices::{Standings, Takings};
 use audit_records::dispatches::Exits;
 use audit_records::places::Places;
 use audit_unpaid::dispatches::RowDebtor;
-use net_file::read_network;
 use std::test::Fail;
 
 #[test]
 fn where_no_record_stands_the_first_frame_is_owed(rt: HostRuntime) -> Result<(), Fail> {
-    assert!(rt; SENDER.len() <= 262_144);
-    let network = read_network(rt.alloc(), SENDER.as_bytes())?;
+    let network = sender(rt.alloc())?;
     let events = EventHistory::new(rt.alloc(), &network)?;
     let exits = Exits::new(rt.alloc(), &network)?;
     let standings = Standings::new(rt.alloc(), &network)?;

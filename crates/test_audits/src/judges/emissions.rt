@@ -1,20 +1,19 @@
-use crate::judges::networks::MASTER;
+use crate::judges::networks::master;
 use audit_devices::Carried;
 use audit_devices::events::EventHistory;
 use audit_devices::stretches::StretchHistory;
-use audit_records::places::{Place, Places};
+use audit_records::places::Places;
 use audit_unpaid::emissions::first_unemitted;
-use net_file::read_network;
 use net_plan::{DeviceId, LinkId};
 use pcf_values::Members;
+use plain_notes::Place;
 use run_law::{Judgement, NoteBody};
 use std::test::Fail;
 use tte_units::Units;
 
 #[test]
 fn where_no_frame_came_none_is_owed(rt: HostRuntime) -> Result<(), Fail> {
-    assert!(rt; MASTER.len() <= 262_144);
-    let network = read_network(rt.alloc(), MASTER.as_bytes())?;
+    let network = master(rt.alloc())?;
     let events = EventHistory::new(rt.alloc(), &network)?;
     let stretches = StretchHistory::new(rt.alloc(), &network)?;
     let places = Places::new(rt.alloc());
@@ -24,8 +23,7 @@ fn where_no_frame_came_none_is_owed(rt: HostRuntime) -> Result<(), Fail> {
 
 #[test]
 fn a_frame_is_owed_for_a_cluster(rt: HostRuntime) -> Result<(), Fail> {
-    assert!(rt; MASTER.len() <= 262_144);
-    let network = read_network(rt.alloc(), MASTER.as_bytes())?;
+    let network = master(rt.alloc())?;
     let events = EventHistory::new(rt.alloc(), &network)?;
     let mut stretches = StretchHistory::new(rt.alloc(), &network)?;
     let mut places = Places::new(rt.alloc());

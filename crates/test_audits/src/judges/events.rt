@@ -2,9 +2,8 @@ ghost use Rattle.std.specs.Prelude.{◌≡◌, ◌≤◌, ◌<◌, [], IfOk, len
 ghost use Rattle.audit_devices.specs.events.Remembering.{Remembers, RemembersSome};
 ghost use Rattle.net_plan.specs.Ranges.{IsInRange};
 
-use crate::judges::networks::MASTER;
+use crate::judges::networks::master;
 use audit_devices::events::{EventHistory, OutOfMemory, Settings, reading_law};
-use net_file::read_network;
 use net_plan::{DeviceId, Event, LinkId, Network, Way, What};
 use std::test::Fail;
 use tte_units::{Ppb, Units};
@@ -43,8 +42,7 @@ fn set_rate(network: &Network, history: &mut EventHistory, rate: Ppb) -> Result<
 #[test]
 fn a_rate_that_is_set_drifts_the_clock(rt: HostRuntime) -> Result<(), Fail> {
     reading_law();
-    assert!(rt; MASTER.len() <= 262_144);
-    let network = read_network(rt.alloc(), MASTER.as_bytes())?;
+    let network = master(rt.alloc())?;
     let mut history = EventHistory::new(rt.alloc(), &network)?;
     let device = DeviceId(0);
     assert!(rt; history.reading(device, 1_500_000_000) == 1_500_000_000);

@@ -1,19 +1,12 @@
-/// A master below a compression master.
-pub(super) const MASTER: &str = "version = 1
-cycle = 131072000000
-rho = 50000
-dmax = 3276800000
-calc = 65536000
-settled = 345000000
-precision = 1048576000
-correction = 18350080000
-tt_start = 26542080000
-sync_threshold = 1
-priority = 0
-domain = 0
-pcf_destination = \"030000000001\"
-marker = \"03040506\"
-device = [
+ghost use Rattle.std.specs.Prelude.{IfOk};
+ghost use Rattle.net_plan.specs.Ranges.{IsInRange};
+
+use net_plan::Network;
+use std::alloc::Global;
+use std::test::Fail;
+use worked_network::{edited, network_of, numbers};
+
+const DEVICES: &str = "device = [
  {name=\"m1\", role=\"master\", mac=\"020000000011\", member=0, start=0},
  {name=\"ca\", role=\"cm\", mac=\"020000000022\", channel=\"a\", start=0},
 ]
@@ -22,32 +15,36 @@ link = [
 ]
 ";
 
-/// A master that sends a frame of a virtual link in each cycle.
-pub(super) const SENDER: &str = "version = 1
-cycle = 131072000000
-rho = 50000
-dmax = 3276800000
-calc = 65536000
-settled = 345000000
-precision = 1048576000
-correction = 18350080000
-tt_start = 26542080000
-sync_threshold = 1
-priority = 0
-domain = 0
-pcf_destination = \"030000000001\"
-marker = \"03040506\"
-device = [
- {name=\"m1\", role=\"master\", mac=\"020000000011\", member=0, start=0},
- {name=\"ca\", role=\"cm\", mac=\"020000000022\", channel=\"a\", start=0},
-]
-link = [
- {name=\"m1_a\", child=\"m1\", parent=\"ca\", wire=32768000, jitter=1310720, hold=1310720000, speed=100},
-]
-vl = [
+const SCHEDULE: &str = "vl = [
  {name=\"v1\", id=1, length=60, ethertype=2048, sender=\"m1\", period=1, phase=0},
 ]
 row = [
  {vl=\"v1\", link=\"m1_a\", way=\"up\", offset=26542080000},
 ]
 ";
+
+fn lone(alloc: Global, schedule: &str) -> Result<Network, Fail>
+    ensures { IfOk result IsInRange }
+{
+    let text = format!(in alloc; "{}{DEVICES}{schedule}", numbers())?;
+    let text = edited(
+        alloc,
+        text.as_str(),
+        &[("sync_threshold = 3", "sync_threshold = 1")],
+    )?;
+    Ok(network_of(alloc, text.as_str())?)
+}
+
+/// A master below a compression master.
+pub(super) fn master(alloc: Global) -> Result<Network, Fail>
+    ensures { IfOk result IsInRange }
+{
+    lone(alloc, "")
+}
+
+/// A master that sends a frame of a virtual link in each cycle.
+pub(super) fn sender(alloc: Global) -> Result<Network, Fail>
+    ensures { IfOk result IsInRange }
+{
+    lone(alloc, SCHEDULE)
+}

@@ -1,32 +1,31 @@
-use crate::judges::networks::MASTER;
-use audit_devices::{Mark, Takings};
-use net_file::read_network;
+use crate::judges::networks::master;
+use audit_devices::Takings;
 use net_plan::{DeviceId, LinkId, VlId};
-use pcf_values::Members;
+use plain_notes::{Place, Rank};
 use run_law::{NoteBody, Why};
 use std::test::Fail;
 use sync_state::State;
 use tte_units::Units;
 
 #[test]
-fn marks_of_one_time_go_by_kind_and_then_by_number(rt: HostRuntime) {
+fn places_of_one_time_go_by_kind_and_then_by_number(rt: HostRuntime) {
     let turned = NoteBody::State {
         device: DeviceId(2),
         state: State::Integrating,
         cause: 7,
         why: Why::On,
     };
-    let none = Members(0);
-    let mark = Mark::of(40, none, &turned);
-    assert!(rt; Mark::at_time(40).is_before(&mark));
-    assert!(rt; Mark::at_rank(40, 7).is_before(&mark));
-    assert!(rt; mark.is_before(&Mark::at_rank(40, 8)));
-    assert!(rt; mark.is_before(&Mark::at_time(41)));
-    let early = Mark::of_permanence(40, Members(5), LinkId(9), 3, Units(100));
-    let late = Mark::of_permanence(40, Members(1), LinkId(1), 2, Units(101));
+    let place = Place::of(40, 0, &turned);
+    assert!(rt; Place::of_time(40).is_before(&place));
+    assert!(rt; Place::of_rank(40, Rank::State).is_before(&place));
+    assert!(rt; place.is_before(&Place::of_rank(40, Rank::Left)));
+    assert!(rt; place.is_before(&Place::of_time(41)));
+    let device = DeviceId(2);
+    let early = Place::of_permanence(40, device, Units(100), 5, LinkId(9), 3);
+    let late = Place::of_permanence(40, device, Units(101), 1, LinkId(1), 2);
     assert!(rt; early.is_before(&late));
     assert!(rt; !late.is_before(&early));
-    assert!(rt; late.is_before(&mark));
+    assert!(rt; late.is_before(&place));
 }
 
 /// The record of a frame that the second device took in the cycle.
@@ -42,8 +41,7 @@ fn accepted(cycle: u32) -> NoteBody {
 
 #[test]
 fn the_last_frame_taken_is_found(rt: HostRuntime) -> Result<(), Fail> {
-    assert!(rt; MASTER.len() <= 262_144);
-    let network = read_network(rt.alloc(), MASTER.as_bytes())?;
+    let network = master(rt.alloc())?;
     assert!(rt; network.device.as_slice().len() == 2);
     let mut takings = Takings::new(rt.alloc(), &network)?;
     takings.push(rt.alloc(), 40, 8, &accepted(1))?;

@@ -1,17 +1,15 @@
-use crate::judges::networks::SENDER;
+use crate::judges::networks::sender;
 use audit_devices::events::EventHistory;
 use audit_devices::{Shown, Takings};
 use audit_records::dispatches::{
     At, Dispatch, Exits, Loss, loses_dispatch, sends_some, sends_timed,
 };
-use net_file::read_network;
 use net_plan::{DeviceId, LinkId, VlId};
 use std::test::Fail;
 
 #[test]
 fn a_sender_dispatches_its_frame(rt: HostRuntime) -> Result<(), Fail> {
-    assert!(rt; SENDER.len() <= 262_144);
-    let network = read_network(rt.alloc(), SENDER.as_bytes())?;
+    let network = sender(rt.alloc())?;
     assert!(rt; !network.device.as_slice().is_empty());
     let events = EventHistory::new(rt.alloc(), &network)?;
     let exits = Exits::new(rt.alloc(), &network)?;

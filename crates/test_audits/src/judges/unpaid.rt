@@ -1,10 +1,9 @@
-use crate::judges::networks::MASTER;
+use crate::judges::networks::master;
 use audit_devices::Standings;
 use audit_devices::events::EventHistory;
 use audit_records::KeptRecords;
 use audit_records::places::Places;
 use audit_unpaid::{Debtor, Paid, Payments};
-use net_file::read_network;
 use net_plan::{DeviceId, LinkId};
 use run_law::NoteBody;
 use std::test::Fail;
@@ -35,8 +34,7 @@ fn a_record_pays_what_its_cause_brings(rt: HostRuntime) -> Result<(), Fail> {
 
 #[test]
 fn where_no_record_stands_the_clocks_are_owed(rt: HostRuntime) -> Result<(), Fail> {
-    assert!(rt; MASTER.len() <= 262_144);
-    let network = read_network(rt.alloc(), MASTER.as_bytes())?;
+    let network = master(rt.alloc())?;
     let history = EventHistory::new(rt.alloc(), &network)?;
     let standings = Standings::new(rt.alloc(), &network)?;
     let records = KeptRecords::new(rt.alloc());

@@ -1,4 +1,4 @@
-ghost use Rattle.std.specs.Prelude.{◌≡◌, []};
+ghost use Rattle.std.specs.Prelude.{◌≡◌, IfOk, length};
 ghost use Rattle.net_plan.specs.Ranges.{IsInRange};
 
 use device_rules::{
@@ -6,47 +6,32 @@ use device_rules::{
     joined_adjustment, point_fault, verdict,
 };
 use membership::{Heard, HeardFrame};
-use net_plan::{DeviceId, Devices, LinkId, Links, Network, Rows, VirtualLinks};
-use pcf_values::{Channel, Mac, Members};
+use net_plan::{DeviceId, LinkId, Network};
+use pcf_values::{Channel, Members};
 use run_law::{Judgement, Reason};
 use std::alloc::Global;
+use std::process::Abort;
+use std::test::Fail;
 use sync_state::State;
 use tte_units::Units;
+use worked_network::{network_of, numbers};
 
 /// The numbers of the worked network, with no device.
-fn bare(alloc: Global) -> Network
-    ensures range { IsInRange result }
-    ensures rows { result.row ≡ [] }
+fn bare(rt: &impl Abort, alloc: Global) -> Result<Network, Fail>
+    ensures range { IfOk result IsInRange }
+    ensures rows { IfOk result (λ network. length network.row ≡ 0) }
 {
-    Network {
-        version: 1,
-        cycle: Units(131_072_000_000),
-        rho: 50_000,
-        grain: Units(1),
-        dmax: Units(3_276_800_000),
-        calc: Units(65_536_000),
-        settled: Units(345_000_000),
-        precision: Units(1_048_576_000),
-        correction: Units(18_350_080_000),
-        tt_start: Units(26_542_080_000),
-        sync_threshold: 3,
-        priority: 0,
-        domain: 0,
-        pcf_destination: Mac::from_number(0x0300_0000_0001),
-        marker: 0x0304_0506,
-        device: Devices(Vec::new(alloc)),
-        link: Links(Vec::new(alloc)),
-        vl: VirtualLinks(Vec::new(alloc)),
-        row: Rows(Vec::new(alloc)),
-    }
+    let network = network_of(alloc, numbers())?;
+    assert!(rt; network.row.as_slice().is_empty());
+    Ok(network)
 }
 
 const DEVICE: DeviceId = DeviceId(0);
 
 // The frame of cycle 1 is expected at the local value 139,788,288,000.
 #[test]
-fn a_device_that_is_on_time_is_corrected(rt: HostRuntime) {
-    let network = bare(rt.alloc());
+fn a_device_that_is_on_time_is_corrected(rt: HostRuntime) -> Result<(), Fail> {
+    let network = bare(&rt, rt.alloc())?;
     let members = Members(0b1011);
     let early = 139_788_287_000;
     assert!(rt;
@@ -71,11 +56,12 @@ fn a_device_that_is_on_time_is_corrected(rt: HostRuntime) {
     assert!(rt; verdict(&network, DEVICE, &standing, &heard) == PointVerdict::Corrected(1000));
     assert!(rt; verdict(&network, DEVICE, &standing, &Heard::new()) == PointVerdict::SyncClique);
     assert!(rt; joined_adjustment(&network, DEVICE, 1, Units(288_000)) == 139_788_000_000);
+    Ok(())
 }
 
 #[test]
-fn frames_leave_until_they_are_too_old(rt: HostRuntime) {
-    let network = bare(rt.alloc());
+fn frames_leave_until_they_are_too_old(rt: HostRuntime) -> Result<(), Fail> {
+    let network = bare(&rt, rt.alloc())?;
     assert!(rt;
         departure(&network, 3_276_000_000, 800_000, false) == Departed::Leaves(3_276_800_000)
     );
@@ -84,11 +70,12 @@ fn frames_leave_until_they_are_too_old(rt: HostRuntime) {
     let point = 262_144_000_000 + 3_276_800_000;
     assert!(rt; point_fault(&network, State::Synchronised, 0, point, 2) == None);
     assert!(rt; point_fault(&network, State::Synchronised, 0, point, 1) == Some(Reason::Cycle));
+    Ok(())
 }
 
 #[test]
-fn a_frame_of_no_row_is_unknown(rt: HostRuntime) {
-    let network = bare(rt.alloc());
+fn a_frame_of_no_row_is_unknown(rt: HostRuntime) -> Result<(), Fail> {
+    let network = bare(&rt, rt.alloc())?;
     let entrances = Entrances::new(rt.alloc(), &network).expect(&rt, "memory");
     let at = Standpoint::new(true, State::Synchronised, 27_000_000_000, 0);
     let mut octets = [0; 60];
@@ -97,4 +84,5 @@ fn a_frame_of_no_row_is_unknown(rt: HostRuntime) {
     assert!(rt; heading.id == 1 && heading.length == 60);
     let entered = entrances.entering(&network, DEVICE, LinkId(0), &at, &heading);
     assert!(rt; entered == Err(Reason::Unknown));
+    Ok(())
 }

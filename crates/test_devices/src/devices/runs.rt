@@ -1,6 +1,6 @@
 use run_law::{
     Outside, broken_are_still, deliveries_begin, earlier_run_is_front, hypothesis_is_decided,
-    run_goes_on, run_is_one, sent_frames_come, silent_runs_agree, spread,
+    run_goes_on, run_is_one, sent_frames_come, spread,
 };
 use tte_units::Units;
 
@@ -28,7 +28,6 @@ fn the_laws_hold(_rt: HostRuntime) {
     broken_are_still();
     deliveries_begin();
     hypothesis_is_decided();
-    silent_runs_agree();
 }
 
 #[test]

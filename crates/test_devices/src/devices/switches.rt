@@ -2,6 +2,7 @@ ghost use Rattle.std.specs.Prelude.{◌≡◌, IfOk, ◌^◌};
 ghost use Rattle.net_plan.specs.Ranges.{IsWithin};
 ghost use Rattle.switch_ports.specs.Standpoints.{IsSiteInRange};
 
+use device_rules::EnteringRow;
 use net_plan::{LinkId, RowId, VlId, Way};
 use pcf_values::{Channel, Mac, Members, Pcf, PcfKind};
 use run_law::{Arrival, Reason};
@@ -9,8 +10,8 @@ use schedule_tables::Window;
 use std::alloc::{AllocError, Global};
 use std::test::Fail;
 use switch_ports::{
-    Departure, Dispatch, EnteringRow, Held, LeavingRow, Peer, Port, Site, Standpoint, Taking,
-    Tournament, comes_first,
+    Departure, Dispatch, Held, LeavingRow, Peer, Port, Site, Standpoint, Taking, Tournament,
+    comes_first,
 };
 use sync_state::{State, SyncPlan};
 use tte_units::Units;
@@ -116,13 +117,13 @@ fn a_row_judges_frames(rt: HostRuntime) -> Result<(), Fail> {
             to: Units(300),
         },
     };
-    assert!(rt; row.fault(200, 3, Units(100), None) == None);
-    assert!(rt; row.fault(200, 3, Units(300), Some(1)) == None);
-    assert!(rt; row.fault(201, 3, Units(200), None) == Some(Reason::Length));
-    assert!(rt; row.fault(200, 2, Units(200), None) == Some(Reason::Early));
-    assert!(rt; row.fault(200, 3, Units(99), None) == Some(Reason::Early));
-    assert!(rt; row.fault(200, 3, Units(301), None) == Some(Reason::Late));
-    assert!(rt; row.fault(200, 3, Units(200), Some(3)) == Some(Reason::Repeat));
+    assert!(rt; row.fault(200, 3, 100, None) == None);
+    assert!(rt; row.fault(200, 3, 300, Some(1)) == None);
+    assert!(rt; row.fault(201, 3, 200, None) == Some(Reason::Length));
+    assert!(rt; row.fault(200, 2, 200, None) == Some(Reason::Early));
+    assert!(rt; row.fault(200, 3, 99, None) == Some(Reason::Early));
+    assert!(rt; row.fault(200, 3, 301, None) == Some(Reason::Late));
+    assert!(rt; row.fault(200, 3, 200, Some(3)) == Some(Reason::Repeat));
     Ok(())
 }
 

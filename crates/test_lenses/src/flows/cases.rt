@@ -1,4 +1,4 @@
-use lens_flows::flows;
+use lens::flows::flows;
 use std::alloc::Global;
 use std::process::Abort;
 use std::test::Fail;

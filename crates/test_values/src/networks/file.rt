@@ -1,49 +1,42 @@
+use net_file::KeyName::{
+    Child, Cycle, Ethertype, Grain, Marker, Member, Name, PcfDestination, Rho, Role, Sender, Speed,
+    Version, Vl as VlKey, Way,
+};
+use net_file::TableName::{Device, Link, Row, Top, Vl};
 use net_file::{FileRefusal, KeyName, Spot, TableName, read_network};
-use net_plan::{DeviceId, LinkId, Network, Role, VlId, Way};
+use net_plan::{DeviceId, LinkId, Network, VlId};
 use pcf_values::{Channel, Mac};
 use std::alloc::Global;
 use std::process::Abort;
-use tte_units::{Speed, Units};
+use tte_units::Units;
+use worked_network::numbers;
 
-const TOP: &str =
-    "version = 1\ncycle = 131072000000\nrho = 50000\ndmax = 3276800000\ncalc = 65536000\nsettled = \
-        345000000\nprecision = 1048576000\ncorrection = 18350080000\ntt_start = 26542080000\nsync_threshold = \
-        3\npriority = 0\ndomain = 0\npcf_destination = \"030000000001\"\nmarker = \"03040506\"\n";
+const LISTS: &str = "device = [
+ {name=\"m1\", role=\"master\", mac=\"020000000011\", member=0, start=0},
+ {name=\"c1\", role=\"client\", mac=\"020000000015\", start=0},
+ {name=\"ra\", role=\"relay\", mac=\"020000000021\", channel=\"a\"},
+]
+link = [
+ {name=\"m1_a\", child=\"m1\", parent=\"ra\", wire=32768000, jitter=1310720, hold=1310720000, speed=100},
+]
+vl = [
+ {name=\"v1\", id=1, length=60, ethertype=2048, sender=\"m1\", period=1, phase=0},
+]
+row = [
+ {vl=\"v1\", link=\"m1_a\", way=\"up\", offset=26542080000},
+]
+";
 
-const LISTS: &str =
-    "device = [\n {name=\"m1\", role=\"master\", mac=\"020000000011\", member=0, start=0},\n {name=\"c1\", \
-        role=\"client\", mac=\"020000000015\", start=0},\n {name=\"ra\", role=\"relay\", mac=\"020000000021\", \
-        channel=\"a\"},\n]\nlink = [\n {name=\"m1_a\", child=\"m1\", parent=\"ra\", wire=32768000, jitter=1310720, \
-        hold=1310720000, speed=100},\n]\nvl = [\n {name=\"v1\", id=1, length=60, ethertype=2048, sender=\"m1\", \
-        period=1, phase=0},\n]\nrow = [\n {vl=\"v1\", link=\"m1_a\", way=\"up\", offset=26542080000},\n]\n";
-
-fn spot(table: TableName, index: u32, key: KeyName) -> Spot {
-    Spot { table, index, key }
-}
-
-// A file in which the first place of `old` reads `new`.
-#[derive(Clone, Copy)]
-struct Case<'a> {
-    old: &'a str,
-    new: &'a str,
-    refusal: FileRefusal,
-}
-
-fn changed<'a>(old: &'a str, new: &'a str, refusal: FileRefusal) -> Case<'a> {
-    Case { old, new, refusal }
-}
-
+// The network of the file in which the first place of `old` reads `new`.
 fn read(alloc: Global, rt: &impl Abort, old: &str, new: &str) -> Result<Network, FileRefusal> {
-    let whole = format!(in alloc; "{TOP}{LISTS}").ok().expect(rt, "memory");
-    let text = match whole.as_str().split_once(old) {
-        Some((front, back)) => format!(in alloc; "{front}{new}{back}")
-            .ok()
-            .expect(rt, "memory"),
-        None => whole,
-    };
-    if text.len() > 262_144 {
-        return Err(FileRefusal::OutOfMemory);
-    }
+    let whole = format!(in alloc; "{}{LISTS}", numbers())
+        .ok()
+        .expect(rt, "memory");
+    let (front, back) = whole.as_str().split_once(old).expect(rt, "the old text");
+    let text = format!(in alloc; "{front}{new}{back}")
+        .ok()
+        .expect(rt, "memory");
+    assert!(rt; text.len() <= 262_144);
     read_network(alloc, text.as_bytes())
 }
 
@@ -58,7 +51,7 @@ fn a_network_is_read(rt: HostRuntime) {
     assert!(rt; network.marker == 0x0304_0506);
     let devices = network.device.as_slice();
     assert!(rt; devices.len() == 3);
-    assert!(rt; devices[0].role == Role::Master);
+    assert!(rt; devices[0].role == net_plan::Role::Master);
     assert!(rt; devices[0].member == Some(0));
     assert!(rt; devices[1].channel == None);
     assert!(rt; devices[2].channel == Some(Channel::A));
@@ -67,143 +60,64 @@ fn a_network_is_read(rt: HostRuntime) {
     assert!(rt; links.len() == 1);
     assert!(rt; links[0].child == DeviceId(0));
     assert!(rt; links[0].parent == DeviceId(2));
-    assert!(rt; links[0].speed == Speed::Mbit100);
+    assert!(rt; links[0].speed == tte_units::Speed::Mbit100);
     let rows = network.row.as_slice();
     assert!(rt; rows.len() == 1);
     assert!(rt; rows[0].vl == VlId(0));
     assert!(rt; rows[0].link == LinkId(0));
-    assert!(rt; rows[0].way == Way::Up);
+    assert!(rt; rows[0].way == net_plan::Way::Up);
 }
 
-fn is_refused(alloc: Global, rt: &impl Abort, case: Case<'_>) -> bool {
-    read(alloc, rt, case.old, case.new).err() == Some(case.refusal)
+fn missing(table: TableName, index: u32, key: KeyName) -> FileRefusal {
+    FileRefusal::Missing(Spot { table, index, key })
 }
 
-#[test]
-fn faults_of_the_document(rt: HostRuntime) {
-    let cases = [
-        changed("version = 1", "version = ", FileRefusal::NotToml),
-        changed(
-            "version = 1\n",
-            "",
-            FileRefusal::Missing(spot(TableName::Top, 0, KeyName::Version)),
-        ),
-        changed(
-            "version = 1",
-            "version = 3",
-            FileRefusal::Range(spot(TableName::Top, 0, KeyName::Version)),
-        ),
-        changed(
-            "cycle = 131072000000",
-            "cycle = 4294967295",
-            FileRefusal::Range(spot(TableName::Top, 0, KeyName::Cycle)),
-        ),
-        changed(
-            "rho = 50000",
-            "rho = \"1\"",
-            FileRefusal::Kind(spot(TableName::Top, 0, KeyName::Rho)),
-        ),
-        changed(
-            "rho = 50000",
-            "rho = 50000\ngrain = 1048577",
-            FileRefusal::Range(spot(TableName::Top, 0, KeyName::Grain)),
-        ),
-        changed(
-            "\"030000000001\"",
-            "\"03000000001\"",
-            FileRefusal::Range(spot(TableName::Top, 0, KeyName::PcfDestination)),
-        ),
-        changed(
-            "\"03040506\"",
-            "3",
-            FileRefusal::Kind(spot(TableName::Top, 0, KeyName::Marker)),
-        ),
-        changed(
-            "version = 1",
-            "color = 1\nversion = 1",
-            FileRefusal::Unknown(TableName::Top, 0),
-        ),
-        changed(
-            "row = [",
-            "row = 1\nrow_old = [",
-            FileRefusal::Unknown(TableName::Top, 0),
-        ),
-    ];
-    for case in cases {
-        assert!(rt; is_refused(rt.alloc(), &rt, case));
-    }
+fn kind(table: TableName, index: u32, key: KeyName) -> FileRefusal {
+    FileRefusal::Kind(Spot { table, index, key })
+}
+
+fn range(table: TableName, index: u32, key: KeyName) -> FileRefusal {
+    FileRefusal::Range(Spot { table, index, key })
+}
+
+fn name(table: TableName, index: u32, key: KeyName) -> FileRefusal {
+    FileRefusal::Name(Spot { table, index, key })
+}
+
+fn unknown(table: TableName, index: u32) -> FileRefusal {
+    FileRefusal::Unknown(table, index)
 }
 
 #[test]
-fn faults_of_the_tables(rt: HostRuntime) {
+fn faults_of_files_are_told(rt: HostRuntime) {
+    // An old text, the new one in its first place, and how the file is refused.
     let cases = [
-        changed(
-            "\"c1\"",
-            "\"C1\"",
-            FileRefusal::Range(spot(TableName::Device, 1, KeyName::Name)),
-        ),
-        changed(
-            "\"client\"",
-            "\"slave\"",
-            FileRefusal::Range(spot(TableName::Device, 1, KeyName::Role)),
-        ),
-        changed(
-            "\"client\"",
-            "\"master\"",
-            FileRefusal::Missing(spot(TableName::Device, 1, KeyName::Member)),
-        ),
-        changed(
-            "\"client\"",
-            "\"client\", member=1",
-            FileRefusal::Unknown(TableName::Device, 1),
-        ),
-        changed(
-            "member=0",
-            "member=32",
-            FileRefusal::Range(spot(TableName::Device, 0, KeyName::Member)),
-        ),
-        changed(
-            "child=\"m1\"",
-            "child=\"m9\"",
-            FileRefusal::Name(spot(TableName::Link, 0, KeyName::Child)),
-        ),
-        changed(
-            "child=\"m1\"",
-            "child=9",
-            FileRefusal::Kind(spot(TableName::Link, 0, KeyName::Child)),
-        ),
-        changed(
-            "speed=100",
-            "speed=10",
-            FileRefusal::Range(spot(TableName::Link, 0, KeyName::Speed)),
-        ),
-        changed(
-            "ethertype=2048",
-            "ethertype=35101",
-            FileRefusal::Range(spot(TableName::Vl, 0, KeyName::Ethertype)),
-        ),
-        changed(
-            "sender=\"m1\", ",
-            "",
-            FileRefusal::Missing(spot(TableName::Vl, 0, KeyName::Sender)),
-        ),
-        changed(
-            "vl=\"v1\"",
-            "vl=\"m1\"",
-            FileRefusal::Name(spot(TableName::Row, 0, KeyName::Vl)),
-        ),
-        changed(
-            "way=\"up\"",
-            "way=\"left\"",
-            FileRefusal::Range(spot(TableName::Row, 0, KeyName::Way)),
-        ),
-        changed(
-            "offset=26542080000",
-            "offset=26542080000, color=1",
-            FileRefusal::Unknown(TableName::Row, 0),
-        ),
+        ("version = 1", "version = ", FileRefusal::NotToml),
+        ("version = 1\n", "", missing(Top, 0, Version)),
+        ("version = 1", "version = 3", range(Top, 0, Version)),
+        ("131072000000", "4294967295", range(Top, 0, Cycle)),
+        ("rho = 50000", "rho = \"1\"", kind(Top, 0, Rho)),
+        ("dmax", "grain = 1048577\ndmax", range(Top, 0, Grain)),
+        ("\"0300", "\"030", range(Top, 0, PcfDestination)),
+        ("\"03040506\"", "3", kind(Top, 0, Marker)),
+        ("version", "color = 1\nversion", unknown(Top, 0)),
+        ("row = [", "row = 1\nrow_old = [", unknown(Top, 0)),
+        ("\"c1\"", "\"C1\"", range(Device, 1, Name)),
+        ("\"client\"", "\"slave\"", range(Device, 1, Role)),
+        ("\"client\"", "\"master\"", missing(Device, 1, Member)),
+        ("\"client\"", "\"client\", member=1", unknown(Device, 1)),
+        ("member=0", "member=32", range(Device, 0, Member)),
+        ("child=\"m1\"", "child=\"m9\"", name(Link, 0, Child)),
+        ("child=\"m1\"", "child=9", kind(Link, 0, Child)),
+        ("speed=100", "speed=10", range(Link, 0, Speed)),
+        ("2048", "35101", range(Vl, 0, Ethertype)),
+        ("sender=\"m1\", ", "", missing(Vl, 0, Sender)),
+        ("vl=\"v1\"", "vl=\"m1\"", name(Row, 0, VlKey)),
+        ("way=\"up\"", "way=\"left\"", range(Row, 0, Way)),
+        ("26542080000}", "26542080000, color=1}", unknown(Row, 0)),
     ];
-    for case in cases {
-        assert!(rt; is_refused(rt.alloc(), &rt, case));
+    for (old, new, refusal) in cases {
+        let told = read(rt.alloc(), &rt, old, new).err();
+        assert!(rt; told == Some(refusal), "for {new}");
     }
 }

@@ -1,14 +1,8 @@
-ghost use Rattle.std.specs.Prelude.{◌^◌, ◌≡◌, IfOk, Some, [], false};
-ghost use Rattle.net_plan.specs.{NameText.IsNameText, Paths.IsTree, Places.is_end_system};
-ghost use Rattle.net_plan.specs.Ranges.{IsDeviceInRange, IsInRange, IsWithin};
-
-use net_plan::{
-    Device, DeviceId, Devices, Event, Link, LinkId, Links, Name, Network, Octets, Role, Rows,
-    VirtualLinks, What,
-};
-use pcf_values::{Channel, Mac};
-use std::alloc::{AllocError, Global};
-use tte_units::{Speed, Units};
+use net_plan::{DeviceId, Event, LinkId, Name, Octets, What};
+use pcf_values::Channel;
+use std::test::Fail;
+use tte_units::Units;
+use worked_network::{Edit, WORKED, accepted_of, edited, network_of, numbers, worked};
 
 #[test]
 fn a_name_keeps_its_text(rt: HostRuntime) {
@@ -41,139 +35,74 @@ fn sent(octets: Octets) -> Event {
     }
 }
 
-fn switch(name: &str, role: Role) -> Device
-    requires name { IsNameText name.now }
-    requires switch { is_end_system role ≡ false }
-    ensures range { IsDeviceInRange result }
-    ensures role { result.role ≡ role }
-    ensures channel { result.channel ≡ Some Channel.A }
-{
-    Device {
-        name: Name::new(name),
-        role,
-        mac: Mac::from_number(0x0200_0000_0022),
-        member: None,
-        channel: Some(Channel::A),
-        start: None,
-    }
-}
-
-// The numbers of the worked network, with no device yet.
-fn bare(alloc: Global, grain: Units) -> Network
-    requires { IsWithin 1 1048576 grain }
-    ensures range { IsInRange result }
-    ensures vls { result.vl ≡ [] }
-    ensures rows { result.row ≡ [] }
-{
-    Network {
-        version: 1,
-        cycle: Units(131_072_000_000),
-        rho: 50_000,
-        grain,
-        dmax: Units(3_276_800_000),
-        calc: Units(65_536_000),
-        settled: Units(345_000_000),
-        precision: Units(1_048_576_000),
-        correction: Units(18_350_080_000),
-        tt_start: Units(26_542_080_000),
-        sync_threshold: 3,
-        priority: 0,
-        domain: 0,
-        pcf_destination: Mac::from_number(0x0300_0000_0001),
-        marker: 0x0304_0506,
-        device: Devices(Vec::new(alloc)),
-        link: Links(Vec::new(alloc)),
-        vl: VirtualLinks(Vec::new(alloc)),
-        row: Rows(Vec::new(alloc)),
-    }
-}
-
-// A link with the worked network's numbers.
-fn link(name: &str, child: DeviceId, parent: DeviceId) -> Link
-    requires { IsNameText name.now }
-    ensures name { IsNameText result.name }
-    ensures child { result.child ≡ child }
-    ensures parent { result.parent ≡ parent }
-    ensures wire { IsWithin 1 (2 ^ 40) result.wire }
-    ensures jitter { IsWithin 0 (2 ^ 40) result.jitter }
-    ensures hold { IsWithin 0 (2 ^ 40) result.hold }
-{
-    Link {
-        name: Name::new(name),
-        child,
-        parent,
-        wire: Units(32_768_000),
-        jitter: Units(1_310_720),
-        hold: Units(1_310_720_000),
-        speed: Speed::Mbit100,
-    }
-}
-
-// Two relays below a compression master, the one below the other, as on a channel of the worked
-// network.
-fn chain(alloc: Global, grain: Units) -> Result<Network, AllocError>
-    requires { IsWithin 1 1048576 grain }
-    ensures range { IfOk result IsInRange }
-    ensures tree { IfOk result IsTree }
-{
-    let mut devices = Vec::new(alloc);
-    devices.push(switch("r1", Role::Relay))?;
-    devices.push(switch("r2", Role::Relay))?;
-    devices.push(switch("ca", Role::Cm))?;
-    let mut links = Vec::new(alloc);
-    links.push(link("r1_r2", DeviceId(0), DeviceId(1)))?;
-    links.push(link("r2_ca", DeviceId(1), DeviceId(2)))?;
-    Ok(Network {
-        device: Devices(devices),
-        link: Links(links),
-        ..bare(alloc, grain)
-    })
-}
+const TWO_OF_A_NAME: &str = "device = [
+ {name=\"ca\", role=\"cm\", mac=\"020000000022\", channel=\"a\"},
+ {name=\"cb\", role=\"cm\", mac=\"020000000022\", channel=\"a\"},
+ {name=\"cb\", role=\"cm\", mac=\"020000000022\", channel=\"a\"},
+]
+";
 
 #[test]
-fn the_first_bearer_of_a_name_is_found(rt: HostRuntime) {
-    let mut devices = Vec::new(rt.alloc());
-    devices.push(switch("ca", Role::Cm)).expect(&rt, "memory");
-    devices.push(switch("cb", Role::Cm)).expect(&rt, "memory");
-    devices.push(switch("cb", Role::Cm)).expect(&rt, "memory");
-    let network = Network {
-        device: Devices(devices),
-        ..bare(rt.alloc(), Units(1))
-    };
+fn the_first_bearer_of_a_name_is_found(rt: HostRuntime) -> Result<(), Fail> {
+    let text = format!(in rt.alloc(); "{}{TWO_OF_A_NAME}", numbers())?;
+    let network = network_of(rt.alloc(), text.as_str())?;
     assert!(rt; network.device_named("ca") == Some(DeviceId(0)));
     assert!(rt; network.device_named("cb") == Some(DeviceId(1)));
     assert!(rt; network.device_named("c") == None);
     assert!(rt; network.link_named("ca") == None);
     assert!(rt; network.vl_named("ca") == None);
+    Ok(())
 }
 
-#[test]
-fn gamma_grows_with_the_grain(rt: HostRuntime) {
-    assert!(rt; bare(rt.alloc(), Units(1)).gamma() == Units(26_214_404));
-    assert!(rt; bare(rt.alloc(), Units(4096)).gamma() == Units(26_230_784));
-}
+// Two relays below a compression master, the one below the other, as on a channel of the worked network.
+const RELAYS: [Edit<'static>; 2] = [
+    (
+        "device = [\n",
+        "device = [
+ {name=\"r1\", role=\"relay\", mac=\"020000000031\", channel=\"a\", start=0},
+ {name=\"r2\", role=\"relay\", mac=\"020000000032\", channel=\"a\", start=0},\n",
+    ),
+    (
+        "link = [\n",
+        "link = [
+ {name=\"r1_r2\", child=\"r1\", parent=\"r2\", wire=32768000, jitter=1310720, hold=1310720000, speed=100},
+ {name=\"r2_ca\", child=\"r2\", parent=\"ca\", wire=32768000, jitter=1310720, hold=1310720000, speed=100},\n",
+    ),
+];
 
 #[test]
-fn a_path_goes_up_to_the_compression_master(rt: HostRuntime) {
-    let network = chain(rt.alloc(), Units(1)).expect(&rt, "memory");
-    if network.is_device_of(DeviceId(0), Channel::A) {
+fn a_path_goes_up_to_the_compression_master(rt: HostRuntime) -> Result<(), Fail> {
+    let text = edited(rt.alloc(), WORKED, &RELAYS)?;
+    let accepted = accepted_of(rt.alloc(), text.as_str())?;
+    let network = accepted.network();
+    let (relay, master) = (DeviceId(0), DeviceId(8));
+    if network.is_device_of(relay, Channel::A) {
         assert!(rt;
-            network.path(DeviceId(0), Channel::A).as_slice() == [LinkId(0), LinkId(1)].as_slice()
+            network.path(relay, Channel::A).as_slice() == [LinkId(0), LinkId(1)].as_slice()
         );
     }
-    if network.is_device_of(DeviceId(2), Channel::A) {
-        assert!(rt; network.path(DeviceId(2), Channel::A).as_slice() == [].as_slice());
+    if network.is_device_of(master, Channel::A) {
+        assert!(rt; network.path(master, Channel::A).as_slice() == [].as_slice());
     }
-    assert!(rt; network.is_device_of(DeviceId(0), Channel::A));
-    assert!(rt; !network.is_device_of(DeviceId(0), Channel::B));
-    assert!(rt; network.is_device_of(DeviceId(2), Channel::A));
-    assert!(rt; !network.is_device_of(DeviceId(3), Channel::A));
+    assert!(rt; network.is_device_of(relay, Channel::A));
+    assert!(rt; !network.is_device_of(relay, Channel::B));
+    assert!(rt; network.is_device_of(master, Channel::A));
+    assert!(rt; !network.is_device_of(DeviceId(11), Channel::A));
+    assert!(rt; network.beta() == Units(3_276_832));
+    Ok(())
 }
 
 #[test]
-fn beta_is_of_the_longest_path(rt: HostRuntime) {
-    let network = chain(rt.alloc(), Units(1)).expect(&rt, "memory");
-    assert!(rt; network.beta() == Units(3_276_832));
-    let coarse = chain(rt.alloc(), Units(4096)).expect(&rt, "memory");
-    assert!(rt; coarse.beta() == Units(3_407_872));
+fn beta_is_of_the_longest_path_and_grows_with_the_grain_as_gamma(
+    rt: HostRuntime,
+) -> Result<(), Fail> {
+    let accepted = worked(rt.alloc())?;
+    assert!(rt; accepted.network().beta() == Units(3_276_832));
+    assert!(rt; accepted.network().gamma() == Units(26_214_404));
+    let in_grains = ("rho = 50000", "rho = 50000\ngrain = 4096");
+    let text = edited(rt.alloc(), WORKED, &[in_grains])?;
+    let coarse = accepted_of(rt.alloc(), text.as_str())?;
+    assert!(rt; coarse.network().beta() == Units(3_407_872));
+    assert!(rt; coarse.network().gamma() == Units(26_230_784));
+    Ok(())
 }

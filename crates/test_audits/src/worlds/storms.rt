@@ -1,65 +1,11 @@
 use fault_hypothesis::Watch;
-use net_file::read_network;
 use net_plan::Event;
-use schedule_checker::check;
 use schedule_tables::Accepted;
-use std::alloc::Global;
 use std::process::Abort;
 use std::test::Fail;
 use storm::{Storm, Words};
 use trace_text::{LineRefusal, line};
-
-/// The worked network without its schedule: four masters and a client, a relay and a compression
-/// master on each channel.
-const NETWORK: &str = "version = 1
-cycle = 131072000000
-rho = 50000
-dmax = 3276800000
-calc = 65536000
-settled = 345000000
-precision = 1048576000
-correction = 18350080000
-tt_start = 26542080000
-sync_threshold = 3
-priority = 0
-domain = 0
-pcf_destination = \"030000000001\"
-marker = \"03040506\"
-device = [
- {name=\"m1\", role=\"master\", mac=\"020000000011\", member=0, start=0},
- {name=\"m2\", role=\"master\", mac=\"020000000012\", member=1, start=0},
- {name=\"m3\", role=\"master\", mac=\"020000000013\", member=2, start=0},
- {name=\"m4\", role=\"master\", mac=\"020000000014\", member=3, start=0},
- {name=\"c1\", role=\"client\", mac=\"020000000015\", start=0},
- {name=\"ra\", role=\"relay\", mac=\"020000000021\", channel=\"a\", start=0},
- {name=\"ca\", role=\"cm\", mac=\"020000000022\", channel=\"a\", start=0},
- {name=\"rb\", role=\"relay\", mac=\"020000000023\", channel=\"b\", start=0},
- {name=\"cb\", role=\"cm\", mac=\"020000000024\", channel=\"b\", start=0},
-]
-link = [
- {name=\"m1_a\", child=\"m1\", parent=\"ra\", wire=32768000, jitter=1310720, hold=1310720000, speed=100},
- {name=\"m2_a\", child=\"m2\", parent=\"ra\", wire=32768000, jitter=1310720, hold=1310720000, speed=100},
- {name=\"m3_a\", child=\"m3\", parent=\"ra\", wire=32768000, jitter=1310720, hold=1310720000, speed=100},
- {name=\"m4_a\", child=\"m4\", parent=\"ra\", wire=32768000, jitter=1310720, hold=1310720000, speed=100},
- {name=\"c1_a\", child=\"c1\", parent=\"ra\", wire=32768000, jitter=1310720, hold=1310720000, speed=100},
- {name=\"ra_ca\", child=\"ra\", parent=\"ca\", wire=32768000, jitter=1310720, hold=1310720000, speed=100},
- {name=\"m1_b\", child=\"m1\", parent=\"rb\", wire=32768000, jitter=1310720, hold=1310720000, speed=100},
- {name=\"m2_b\", child=\"m2\", parent=\"rb\", wire=32768000, jitter=1310720, hold=1310720000, speed=100},
- {name=\"m3_b\", child=\"m3\", parent=\"rb\", wire=32768000, jitter=1310720, hold=1310720000, speed=100},
- {name=\"m4_b\", child=\"m4\", parent=\"rb\", wire=32768000, jitter=1310720, hold=1310720000, speed=100},
- {name=\"c1_b\", child=\"c1\", parent=\"rb\", wire=32768000, jitter=1310720, hold=1310720000, speed=100},
- {name=\"rb_cb\", child=\"rb\", parent=\"cb\", wire=32768000, jitter=1310720, hold=1310720000, speed=100},
-]
-";
-
-/// The network with `new` in the place of the first `old`.
-fn accepted(rt: &impl Abort, alloc: Global, old: &str, new: &str) -> Result<Accepted, Fail> {
-    let (front, back) = NETWORK.split_once(old).expect(rt, "the old text");
-    let text = format!(in alloc; "{front}{new}{back}")?;
-    assert!(rt; text.len() <= 262_144);
-    let network = read_network(alloc, text.as_bytes())?;
-    Ok(check(alloc, network)?)
-}
+use worked_network::{accepted_of, edited, silent};
 
 fn event(accepted: &Accepted, text: &str) -> Result<Event, LineRefusal> {
     line(accepted.network(), text.as_bytes())
@@ -119,7 +65,7 @@ const EVENTS: [&str; 25] = [
 
 #[test]
 fn a_storm_of_three_cycles(rt: HostRuntime) -> Result<(), Fail> {
-    let network = accepted(&rt, rt.alloc(), "", "")?;
+    let network = accepted_of(rt.alloc(), silent())?;
     try_storm(&rt, &network, (42, 3), &EVENTS)
 }
 
@@ -138,7 +84,8 @@ const LATE_MASTER: [&str; 9] = [
 
 #[test]
 fn a_master_is_turned_on_and_breaks(rt: HostRuntime) -> Result<(), Fail> {
-    let network = accepted(&rt, rt.alloc(), "member=3, start=0", "member=3")?;
+    let text = edited(rt.alloc(), silent(), &[("member=3, start=0", "member=3")])?;
+    let network = accepted_of(rt.alloc(), text.as_str())?;
     try_storm(&rt, &network, (77, 1), &LATE_MASTER)
 }
 

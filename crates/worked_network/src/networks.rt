@@ -1,13 +1,8 @@
-use net_file::read_network;
-use schedule_checker::check;
-use schedule_tables::Accepted;
-use std::alloc::Global;
-use std::process::Abort;
-use std::test::Fail;
+use std::alloc::{AllocError, Global};
 
-/// The worked network: four masters and a client, a relay and a compression master on each channel,
-/// and one virtual link.
-const WORKED: &str = "version = 1
+/// The worked network: four masters and a client, a relay and a compression master on each channel, and one virtual
+/// link.
+pub const WORKED: &str = "version = 1
 cycle = 131072000000
 rho = 50000
 dmax = 3276800000
@@ -57,9 +52,36 @@ row = [
 ]
 ";
 
-/// The worked network, as one that is accepted.
-pub(super) fn worked(rt: &impl Abort, alloc: Global) -> Result<Accepted, Fail> {
-    assert!(rt; WORKED.len() <= 262_144);
-    let network = read_network(alloc, WORKED.as_bytes())?;
-    Ok(check(alloc, network)?)
+/// The numbers of the worked network, with no device yet.
+pub fn numbers() -> &'static str {
+    before("device = [")
+}
+
+/// The worked network without its schedule.
+pub fn silent() -> &'static str {
+    before("vl = [")
+}
+
+/// What stands in the worked network before this text.
+fn before(text: &str) -> &'static str {
+    match WORKED.split_once(text) {
+        Some((front, _)) => front,
+        None => WORKED,
+    }
+}
+
+/// A network of the same numbers and of these devices, those of these names below one switch of each channel.
+pub fn star(alloc: Global, devices: &str, names: &[&str]) -> Result<String, AllocError> {
+    let mut text = format!(in alloc; "{}device = [\n{devices}]\nlink = [\n", numbers())?;
+    for channel in ["a", "b"] {
+        for name in names {
+            let link = format!(in alloc;
+                " {{name=\"{name}_{channel}\", child=\"{name}\", parent=\"c{channel}\", wire=32768000, \
+                    jitter=1310720, hold=1310720000, speed=100}},\n"
+            )?;
+            text.push_str(link.as_str())?;
+        }
+    }
+    text.push_str("]\n")?;
+    Ok(text)
 }

@@ -1,57 +1,5 @@
-/// The worked network: four masters and a client, a relay and a compression master on each channel,
-/// and one virtual link.
-pub(super) const WORKED: &str = "version = 1
-cycle = 131072000000
-rho = 50000
-dmax = 3276800000
-calc = 65536000
-settled = 345000000
-precision = 1048576000
-correction = 18350080000
-tt_start = 26542080000
-sync_threshold = 3
-priority = 0
-domain = 0
-pcf_destination = \"030000000001\"
-marker = \"03040506\"
-device = [
- {name=\"m1\", role=\"master\", mac=\"020000000011\", member=0, start=0},
- {name=\"m2\", role=\"master\", mac=\"020000000012\", member=1, start=0},
- {name=\"m3\", role=\"master\", mac=\"020000000013\", member=2, start=0},
- {name=\"m4\", role=\"master\", mac=\"020000000014\", member=3, start=0},
- {name=\"c1\", role=\"client\", mac=\"020000000015\", start=0},
- {name=\"ra\", role=\"relay\", mac=\"020000000021\", channel=\"a\", start=0},
- {name=\"ca\", role=\"cm\", mac=\"020000000022\", channel=\"a\", start=0},
- {name=\"rb\", role=\"relay\", mac=\"020000000023\", channel=\"b\", start=0},
- {name=\"cb\", role=\"cm\", mac=\"020000000024\", channel=\"b\", start=0},
-]
-link = [
- {name=\"m1_a\", child=\"m1\", parent=\"ra\", wire=32768000, jitter=1310720, hold=1310720000, speed=100},
- {name=\"m2_a\", child=\"m2\", parent=\"ra\", wire=32768000, jitter=1310720, hold=1310720000, speed=100},
- {name=\"m3_a\", child=\"m3\", parent=\"ra\", wire=32768000, jitter=1310720, hold=1310720000, speed=100},
- {name=\"m4_a\", child=\"m4\", parent=\"ra\", wire=32768000, jitter=1310720, hold=1310720000, speed=100},
- {name=\"c1_a\", child=\"c1\", parent=\"ra\", wire=32768000, jitter=1310720, hold=1310720000, speed=100},
- {name=\"ra_ca\", child=\"ra\", parent=\"ca\", wire=32768000, jitter=1310720, hold=1310720000, speed=100},
- {name=\"m1_b\", child=\"m1\", parent=\"rb\", wire=32768000, jitter=1310720, hold=1310720000, speed=100},
- {name=\"m2_b\", child=\"m2\", parent=\"rb\", wire=32768000, jitter=1310720, hold=1310720000, speed=100},
- {name=\"m3_b\", child=\"m3\", parent=\"rb\", wire=32768000, jitter=1310720, hold=1310720000, speed=100},
- {name=\"m4_b\", child=\"m4\", parent=\"rb\", wire=32768000, jitter=1310720, hold=1310720000, speed=100},
- {name=\"c1_b\", child=\"c1\", parent=\"rb\", wire=32768000, jitter=1310720, hold=1310720000, speed=100},
- {name=\"rb_cb\", child=\"rb\", parent=\"cb\", wire=32768000, jitter=1310720, hold=1310720000, speed=100},
-]
-vl = [
- {name=\"v1\", id=1, length=60, ethertype=2048, sender=\"m1\", period=1, phase=0},
-]
-row = [
- {vl=\"v1\", link=\"m1_a\", way=\"up\", offset=26542080000},
- {vl=\"v1\", link=\"m1_b\", way=\"up\", offset=26542080000},
- {vl=\"v1\", link=\"c1_a\", way=\"down\", offset=28180480000},
- {vl=\"v1\", link=\"c1_b\", way=\"down\", offset=28180480000},
-]
-";
-
-// The report of the worked network's first cycle, in which all goes well, worked out by another program.
-pub(super) const CALM: &str = "1 131072000000 sent m1 cycle 1
+/// The report of the worked network's first cycle, in which all goes well, worked out by another program.
+pub const CALM: &str = "1 131072000000 sent m1 cycle 1
 2 131072000000 sent m2 cycle 1
 3 131072000000 sent m3 cycle 1
 4 131072000000 sent m4 cycle 1

@@ -1,10 +1,12 @@
-use super::watching::{Case, accepted, all_on, try_case, try_cases};
+use super::watching::{Case, accepted, try_case, try_cases};
 use fault_hypothesis::Outside;
 use std::test::Fail;
+use worked_network::Edit;
 
 const OK: Result<(), Outside> = Ok(());
 
-const TIMES: [Case<'static>; 4] = [
+// Times do not fall, and have an end.
+const TIMES: &[Case<'static>] = &[
     (&["7 rate m1 0"], "7 rate m1 0", OK),
     (&["7 rate m1 0"], "6 rate m1 0", Err(Outside::Order)),
     // The end of cycle 2^20.
@@ -12,13 +14,8 @@ const TIMES: [Case<'static>; 4] = [
     (&[], "137438953472000001 rate m1 0", Err(Outside::Late)),
 ];
 
-#[test]
-fn times_do_not_fall_and_have_an_end(rt: HostRuntime) -> Result<(), Fail> {
-    let network = all_on(&rt, rt.alloc())?;
-    try_cases(&rt, &network, &TIMES)
-}
-
-const RANGES: [Case<'static>; 10] = [
+// Rates and delays lie in their ranges.
+const RANGES: &[Case<'static>] = &[
     (&[], "0 rate c1 50000", OK),
     (&[], "0 rate c1 50001", Err(Outside::Rate)),
     (&[], "0 rate c1 -50000", OK),
@@ -31,13 +28,8 @@ const RANGES: [Case<'static>; 10] = [
     (&[], "0 hold m1_a down 1310720001", Err(Outside::Hold)),
 ];
 
-#[test]
-fn rates_and_delays_lie_in_their_ranges(rt: HostRuntime) -> Result<(), Fail> {
-    let network = all_on(&rt, rt.alloc())?;
-    try_cases(&rt, &network, &RANGES)
-}
-
-const CUTS: [Case<'static>; 5] = [
+// One channel is cut.
+const CUTS: &[Case<'static>] = &[
     (&[], "0 cut m1_b up", OK),
     (&["0 cut m1_a up"], "0 cut c1_a down", OK),
     (&["0 cut m1_a up"], "0 cut c1_b down", Err(Outside::Channel)),
@@ -49,13 +41,8 @@ const CUTS: [Case<'static>; 5] = [
     ),
 ];
 
-#[test]
-fn one_channel_is_cut(rt: HostRuntime) -> Result<(), Fail> {
-    let network = all_on(&rt, rt.alloc())?;
-    try_cases(&rt, &network, &CUTS)
-}
-
-const BREAKS: [Case<'static>; 5] = [
+// One master breaks.
+const BREAKS: &[Case<'static>] = &[
     (&[], "0 break c1", Err(Outside::NotMaster)),
     (&[], "0 break ca", Err(Outside::NotMaster)),
     // Three sound masters stay, which are just enough.
@@ -65,14 +52,8 @@ const BREAKS: [Case<'static>; 5] = [
 ];
 
 #[test]
-fn one_master_breaks(rt: HostRuntime) -> Result<(), Fail> {
-    let network = all_on(&rt, rt.alloc())?;
-    try_cases(&rt, &network, &BREAKS)
-}
-
-#[test]
 fn the_broken_master_sends(rt: HostRuntime) -> Result<(), Fail> {
-    let network = all_on(&rt, rt.alloc())?;
+    let network = accepted(rt.alloc(), &[])?;
     let digits = "0".repeat(rt.alloc(), 120)?;
     let send = |link: &str| format!(in rt.alloc(); "0 send {link} {digits}");
     let own = send("m1_b")?;
@@ -87,7 +68,8 @@ fn the_broken_master_sends(rt: HostRuntime) -> Result<(), Fail> {
     try_case(&rt, &network, (&[], own.as_str(), Err(Outside::NotBroken)))
 }
 
-const WITH_A_MASTER_OFF: [Case<'static>; 7] = [
+// A master that begins off is turned on once.
+const WITH_A_MASTER_OFF: &[Case<'static>] = &[
     (&[], "0 on m1", Err(Outside::NotOff)),
     (&[], "0 on m4", OK),
     (&["0 on m4"], "0 on m4", Err(Outside::NotOff)),
@@ -98,13 +80,8 @@ const WITH_A_MASTER_OFF: [Case<'static>; 7] = [
     (&["0 on m4"], "0 break m1", Err(Outside::TooFewMasters)),
 ];
 
-#[test]
-fn a_master_that_begins_off_is_turned_on_once(rt: HostRuntime) -> Result<(), Fail> {
-    let network = accepted(&rt, rt.alloc(), "member=3, start=0", "member=3")?;
-    try_cases(&rt, &network, &WITH_A_MASTER_OFF)
-}
-
-const WITH_A_SWITCH_OFF: [Case<'static>; 4] = [
+// A channel whose switch begins off is faulty.
+const WITH_A_SWITCH_OFF: &[Case<'static>] = &[
     (&[], "0 cut m1_a up", Err(Outside::Channel)),
     (&[], "0 cut m1_b up", OK),
     (&["0 on cb"], "0 cut m1_a up", Err(Outside::Channel)),
@@ -115,13 +92,8 @@ const WITH_A_SWITCH_OFF: [Case<'static>; 4] = [
     ),
 ];
 
-#[test]
-fn a_channel_whose_switch_begins_off_is_faulty(rt: HostRuntime) -> Result<(), Fail> {
-    let network = accepted(&rt, rt.alloc(), "channel=\"b\", start=0", "channel=\"b\"")?;
-    try_cases(&rt, &network, &WITH_A_SWITCH_OFF)
-}
-
-const TWO_BROKEN: [Case<'static>; 4] = [
+// Of two that are broken the first condition is told.
+const TWO_BROKEN: &[Case<'static>] = &[
     (&["7 rate m1 0"], "6 rate m1 50001", Err(Outside::Order)),
     (&[], "137438953472000001 rate m1 50001", Err(Outside::Late)),
     (&["0 break m1"], "0 break c1", Err(Outside::NotMaster)),
@@ -129,8 +101,23 @@ const TWO_BROKEN: [Case<'static>; 4] = [
     (&["0 break m1"], "0 break m2", Err(Outside::SecondBreak)),
 ];
 
+const M4_OFF: Edit<'static> = ("member=3, start=0", "member=3");
+
+const CB_OFF: Edit<'static> = ("channel=\"b\", start=0", "channel=\"b\"");
+
 #[test]
-fn the_first_condition_is_told(rt: HostRuntime) -> Result<(), Fail> {
-    let network = all_on(&rt, rt.alloc())?;
-    try_cases(&rt, &network, &TWO_BROKEN)
+fn conditions_are_judged(rt: HostRuntime) -> Result<(), Fail> {
+    let groups: [(&[Edit<'static>], &[Case<'static>]); 7] = [
+        (&[], TIMES),
+        (&[], RANGES),
+        (&[], CUTS),
+        (&[], BREAKS),
+        (&[], TWO_BROKEN),
+        (&[M4_OFF], WITH_A_MASTER_OFF),
+        (&[CB_OFF], WITH_A_SWITCH_OFF),
+    ];
+    for (edits, cases) in groups.iter() {
+        try_cases(&rt, &accepted(rt.alloc(), edits)?, cases)?;
+    }
+    Ok(())
 }

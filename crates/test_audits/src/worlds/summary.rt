@@ -1,7 +1,6 @@
+use crate::bodies::{accepted, changed, compressed, corrected, delivered, dropped, lost, tt_sent};
 use net_plan::{DeviceId, LinkId, VlId};
-use pcf_values::Members;
 use run_law::{Judgement, Note, NoteBody, Reason, Why};
-use std::test::Fail;
 use sync_state::State;
 use tte_io::LineText;
 use tte_storms::summary::{Counts, Drops, LINES, Summary, Tally};
@@ -25,103 +24,33 @@ fn add(tally: &mut Tally, body: NoteBody) {
     }
 }
 
-fn compressed() -> NoteBody {
-    NoteBody::Compressed {
-        device: DEVICE,
-        opened: Units(1),
-        at: Units(2),
-        cycle: 0,
-        members: Members(3),
-        verdict: Judgement::Within,
-    }
-}
-
-fn corrected() -> NoteBody {
-    NoteBody::Corrected {
-        device: DEVICE,
-        cycle: 1,
-        by: Units(-4),
-        adjustment: Units(4),
-    }
-}
-
-fn lost() -> NoteBody {
-    NoteBody::Lost {
-        device: DEVICE,
-        link: LINK,
-        cause: 1,
-    }
-}
-
-fn tt_sent() -> NoteBody {
-    NoteBody::TtSent {
-        device: DEVICE,
-        link: LINK,
-        cause: 0,
-        vl: VL,
-        cycle: 2,
-    }
-}
-
-fn accepted() -> NoteBody {
-    NoteBody::Accepted {
-        device: DEVICE,
-        link: LINK,
-        cause: 1,
-        vl: VL,
-        cycle: 2,
-    }
-}
-
-fn delivered() -> NoteBody {
-    NoteBody::Delivered {
-        device: DEVICE,
-        link: LINK,
-        cause: 1,
-        vl: VL,
-        cycle: 2,
-    }
-}
-
-fn dropped(reason: Reason) -> NoteBody {
-    NoteBody::Dropped {
-        device: DEVICE,
-        link: LINK,
-        cause: 1,
-        reason,
-    }
-}
-
-fn state() -> NoteBody {
-    NoteBody::State {
-        device: DEVICE,
-        state: State::Integrating,
-        cause: 0,
-        why: Why::SyncClique,
-    }
-}
-
 #[test]
 fn records_are_counted_by_their_kinds(rt: HostRuntime) {
     let mut tally = Tally::new();
-    add(&mut tally, compressed());
+    add(
+        &mut tally,
+        compressed(DEVICE, 1, 2, 0, 3, Judgement::Within),
+    );
     for _ in 0..2 {
-        add(&mut tally, corrected());
+        add(&mut tally, corrected(DEVICE, 1, -4, 4));
     }
     for _ in 0..3 {
-        add(&mut tally, lost());
+        add(&mut tally, lost(DEVICE, LINK, 1));
     }
     for _ in 0..4 {
-        add(&mut tally, tt_sent());
+        add(&mut tally, tt_sent(DEVICE, LINK, 0, VL, 2));
     }
     for _ in 0..5 {
-        add(&mut tally, accepted());
+        add(&mut tally, accepted(DEVICE, LINK, 1, VL, 2));
     }
     for _ in 0..6 {
-        add(&mut tally, delivered());
+        add(&mut tally, delivered(DEVICE, LINK, 1, VL, 2));
     }
     for _ in 0..7 {
-        add(&mut tally, state());
+        add(
+            &mut tally,
+            changed(DEVICE, State::Integrating, 0, Why::SyncClique),
+        );
     }
     let counts = tally.counts();
     assert_eq!(rt;
@@ -155,7 +84,7 @@ fn drops_are_counted_by_their_reasons(rt: HostRuntime) {
         Reason::RefusedReserved(20),
         Reason::RefusedKind(3),
     ] {
-        add(&mut tally, dropped(reason));
+        add(&mut tally, dropped(DEVICE, LINK, 1, reason));
     }
     let once = Drops {
         off: 1,

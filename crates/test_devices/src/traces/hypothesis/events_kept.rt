@@ -1,4 +1,4 @@
-use super::watching::{accepted, all_on, befallen, event};
+use super::watching::{accepted, befallen, event};
 use fault_hypothesis::{Outside, Watch};
 use net_plan::DeviceId;
 use pcf_values::Channel;
@@ -81,7 +81,7 @@ fn try_refused(rt: &impl Abort, accepted: &Accepted, case: &Refused<'_>) -> Resu
 
 #[test]
 fn a_refused_event_changes_nothing(rt: HostRuntime) -> Result<(), Fail> {
-    let network = accepted(&rt, rt.alloc(), "member=3, start=0", "member=3")?;
+    let network = accepted(rt.alloc(), &[("member=3, start=0", "member=3")])?;
     for case in &REFUSED {
         try_refused(&rt, &network, case)?;
     }
@@ -100,7 +100,7 @@ fn try_told(rt: &impl Abort, accepted: &Accepted, cases: &[Told<'_>]) -> Result<
     Ok(())
 }
 
-const ALL_ON: [Told<'static>; 4] = [
+const ALL_ON: &[Told<'static>] = &[
     (&[], None, None),
     (&["0 cut m1_b up"], None, Some(Channel::B)),
     (&["0 break m3"], Some(DeviceId(2)), None),
@@ -111,38 +111,30 @@ const ALL_ON: [Told<'static>; 4] = [
     ),
 ];
 
-#[test]
-fn the_broken_master_and_the_faulty_channel_are_told(rt: HostRuntime) -> Result<(), Fail> {
-    let network = all_on(&rt, rt.alloc())?;
-    try_told(&rt, &network, &ALL_ON)
-}
-
-const WITH_A_SWITCH_OFF: [Told<'static>; 2] = [
+const WITH_A_SWITCH_OFF: &[Told<'static>] = &[
     (&[], None, Some(Channel::A)),
     (&["0 on ca", "0 cut m1_a up"], None, Some(Channel::A)),
 ];
 
-#[test]
-fn the_channel_of_a_switch_that_begins_off_is_told(rt: HostRuntime) -> Result<(), Fail> {
-    let network = accepted(&rt, rt.alloc(), "channel=\"a\", start=0", "channel=\"a\"")?;
-    try_told(&rt, &network, &WITH_A_SWITCH_OFF)
-}
-
-const HEALED: [Told<'static>; 3] = [
+// A heal changes nothing.
+const HEALED: &[Told<'static>] = &[
     (&["0 heal m1_a up"], None, None),
     (&["0 cut m1_a up", "0 heal m1_a up"], None, Some(Channel::A)),
     (&["0 break m1", "0 heal m1_a up"], Some(DeviceId(0)), None),
 ];
 
 #[test]
-fn a_heal_changes_nothing(rt: HostRuntime) -> Result<(), Fail> {
-    let network = all_on(&rt, rt.alloc())?;
-    try_told(&rt, &network, &HEALED)
+fn the_broken_master_and_the_faulty_channel_are_told(rt: HostRuntime) -> Result<(), Fail> {
+    let all_on = accepted(rt.alloc(), &[])?;
+    try_told(&rt, &all_on, ALL_ON)?;
+    try_told(&rt, &all_on, HEALED)?;
+    let ca_off = accepted(rt.alloc(), &[("channel=\"a\", start=0", "channel=\"a\"")])?;
+    try_told(&rt, &ca_off, WITH_A_SWITCH_OFF)
 }
 
 #[test]
 fn many_heals_are_admitted(rt: HostRuntime) -> Result<(), Fail> {
-    let network = all_on(&rt, rt.alloc())?;
+    let network = accepted(rt.alloc(), &[])?;
     let heal = event(&network, "0 heal m1_a up")?;
     let mut watch = Watch::new(&network);
     for count in 0..20_000 {

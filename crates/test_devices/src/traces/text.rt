@@ -1,107 +1,29 @@
-ghost use Rattle.std.specs.Prelude.{◌^◌, ◌≡◌, IfOk, []};
-ghost use Rattle.net_plan.specs.{NameText.IsNameText, Ranges.{IsDeviceInRange, IsInRange, IsWithin}};
+ghost use Rattle.std.specs.Prelude.{IfOk};
+ghost use Rattle.net_plan.specs.Ranges.{IsInRange};
 
-use net_plan::{
-    Device, DeviceId, Devices, Event, Link, LinkId, Links, Name, Network, Octets, Role, Rows,
-    VirtualLinks, Way, What,
-};
-use pcf_values::{Channel, Mac};
+use net_plan::{DeviceId, Event, LinkId, Network, Octets, Way, What};
 use std::alloc::{AllocError, Global};
+use std::test::Fail;
 use trace_text::{LineRefusal, event_text, line, print};
 use tte_io::MemorySink;
-use tte_units::{Ppb, Speed, Units};
-
-fn master(name: &str) -> Device
-    requires { IsNameText name.now }
-    ensures { IsDeviceInRange result }
-{
-    Device {
-        name: Name::new(name),
-        role: Role::Master,
-        mac: Mac::from_number(0x0200_0000_0011),
-        member: Some(0),
-        channel: None,
-        start: Some(Units(0)),
-    }
-}
-
-fn relay(name: &str) -> Device
-    requires { IsNameText name.now }
-    ensures { IsDeviceInRange result }
-{
-    Device {
-        name: Name::new(name),
-        role: Role::Relay,
-        mac: Mac::from_number(0x0200_0000_0021),
-        member: None,
-        channel: Some(Channel::A),
-        start: Some(Units(0)),
-    }
-}
-
-fn link(name: &str) -> Link
-    requires { IsNameText name.now }
-    ensures name { IsNameText result.name }
-    ensures child { result.child.0 ≡ 0 }
-    ensures parent { result.parent.0 ≡ 1 }
-    ensures wire { IsWithin 1 (2 ^ 40) result.wire }
-    ensures jitter { IsWithin 0 (2 ^ 40) result.jitter }
-    ensures hold { IsWithin 0 (2 ^ 40) result.hold }
-{
-    Link {
-        name: Name::new(name),
-        child: DeviceId(0),
-        parent: DeviceId(1),
-        wire: Units(32_768_000),
-        jitter: Units(1_310_720),
-        hold: Units(1_310_720_000),
-        speed: Speed::Mbit100,
-    }
-}
-
-// The numbers of a network with no device yet.
-fn bare(alloc: Global) -> Network
-    ensures range { IsInRange result }
-    ensures vls { result.vl ≡ [] }
-    ensures rows { result.row ≡ [] }
-{
-    Network {
-        version: 1,
-        cycle: Units(131_072_000_000),
-        rho: 50_000,
-        grain: Units(1),
-        dmax: Units(3_276_800_000),
-        calc: Units(65_536_000),
-        settled: Units(345_000_000),
-        precision: Units(1_048_576_000),
-        correction: Units(18_350_080_000),
-        tt_start: Units(26_542_080_000),
-        sync_threshold: 3,
-        priority: 0,
-        domain: 0,
-        pcf_destination: Mac::from_number(0x0300_0000_0001),
-        marker: 0x0304_0506,
-        device: Devices(Vec::new(alloc)),
-        link: Links(Vec::new(alloc)),
-        vl: VirtualLinks(Vec::new(alloc)),
-        row: Rows(Vec::new(alloc)),
-    }
-}
+use tte_units::{Ppb, Units};
+use worked_network::{network_of, numbers};
 
 // A master with one link, to a relay.
-fn network(alloc: Global) -> Result<Network, AllocError>
+const NETWORK: &str = "device = [
+ {name=\"m1\", role=\"master\", mac=\"020000000011\", member=0, start=0},
+ {name=\"ra\", role=\"relay\", mac=\"020000000021\", channel=\"a\", start=0},
+]
+link = [
+ {name=\"m1_a\", child=\"m1\", parent=\"ra\", wire=32768000, jitter=1310720, hold=1310720000, speed=100},
+]
+";
+
+fn network(alloc: Global) -> Result<Network, Fail>
     ensures { IfOk result IsInRange }
 {
-    let mut devices = Vec::new(alloc);
-    devices.push(master("m1"))?;
-    devices.push(relay("ra"))?;
-    let mut links = Vec::new(alloc);
-    links.push(link("m1_a"))?;
-    Ok(Network {
-        device: Devices(devices),
-        link: Links(links),
-        ..bare(alloc)
-    })
+    let text = format!(in alloc; "{}{NETWORK}", numbers())?;
+    Ok(network_of(alloc, text.as_str())?)
 }
 
 // The line of a send of so many digits.
@@ -119,8 +41,8 @@ fn event(time: i64, what: What) -> Event {
 }
 
 #[test]
-fn each_kind_of_event_reads_and_prints(rt: HostRuntime) {
-    let network = network(rt.alloc()).expect(&rt, "memory");
+fn each_kind_of_event_reads_and_prints(rt: HostRuntime) -> Result<(), Fail> {
+    let network = network(rt.alloc())?;
     let frame = send(rt.alloc(), 120, b'a').expect(&rt, "memory");
     let cases = [
         (
@@ -171,11 +93,12 @@ fn each_kind_of_event_reads_and_prints(rt: HostRuntime) {
             assert!(rt; text.ends_with(event_text(&network, &read.what).as_slice()));
         }
     }
+    Ok(())
 }
 
 #[test]
-fn the_leftmost_fault_is_told(rt: HostRuntime) {
-    let network = network(rt.alloc()).expect(&rt, "memory");
+fn the_leftmost_fault_is_told(rt: HostRuntime) -> Result<(), Fail> {
+    let network = network(rt.alloc())?;
     let cases = [
         (b"".as_slice(), LineRefusal::Number),
         (b" end".as_slice(), LineRefusal::Number),
@@ -218,11 +141,12 @@ fn the_leftmost_fault_is_told(rt: HostRuntime) {
     for text in [b"0 rate m1 1000000000".as_slice(), b"0 rate m1 -1000000000"] {
         assert!(rt; line(&network, text).is_ok());
     }
+    Ok(())
 }
 
 #[test]
-fn a_frame_has_sixty_to_1514_octets(rt: HostRuntime) {
-    let network = network(rt.alloc()).expect(&rt, "memory");
+fn a_frame_has_sixty_to_1514_octets(rt: HostRuntime) -> Result<(), Fail> {
+    let network = network(rt.alloc())?;
     let cases = [
         (118, b'0', Some(LineRefusal::Octets)),
         (119, b'0', Some(LineRefusal::Hex)),
@@ -238,11 +162,12 @@ fn a_frame_has_sixty_to_1514_octets(rt: HostRuntime) {
         let text = send(rt.alloc(), *digits, *digit).expect(&rt, "memory");
         assert!(rt; line(&network, &text).err() == *refusal);
     }
+    Ok(())
 }
 
 #[test]
-fn digits_print_in_lower_case(rt: HostRuntime) {
-    let network = network(rt.alloc()).expect(&rt, "memory");
+fn digits_print_in_lower_case(rt: HostRuntime) -> Result<(), Fail> {
+    let network = network(rt.alloc())?;
     let upper = send(rt.alloc(), 120, b'F').expect(&rt, "memory");
     let lower = send(rt.alloc(), 120, b'f').expect(&rt, "memory");
     if let Ok(read) = line(&network, &upper) {
@@ -253,11 +178,12 @@ fn digits_print_in_lower_case(rt: HostRuntime) {
     let read = line(&network, &lower);
     assert!(rt; read.is_ok());
     assert!(rt; line(&network, &upper) == read);
+    Ok(())
 }
 
 #[test]
-fn a_line_is_one_put(rt: HostRuntime) {
-    let network = network(rt.alloc()).expect(&rt, "memory");
+fn a_line_is_one_put(rt: HostRuntime) -> Result<(), Fail> {
+    let network = network(rt.alloc())?;
     let mut sink = MemorySink::new(rt.alloc(), 6, &[2]).expect(&rt, "memory");
     let end = Event {
         time: Units(0),
@@ -266,4 +192,5 @@ fn a_line_is_one_put(rt: HostRuntime) {
     assert!(rt; print(&network, &end, &mut sink) == Ok(()));
     assert!(rt; print(&network, &end, &mut sink).is_err());
     assert!(rt; sink.written() == b"0 end\n".as_slice());
+    Ok(())
 }

@@ -1,3 +1,0 @@
-//! Tests of the text of reports.
-
-mod text;
