@@ -44,14 +44,7 @@ IsLeast-first v c rest sound split =
 -- a collector without the first that waits, at a later reading
 pub IsSound-emitted : (v : Collecting) (c : Cluster) (rest : List Cluster) (later : ℤ) → IsSound v → v.waiting ≡ c ∷ rest → v.earliest ≤ℤ later
     → IsSound (record v { earliest = later; waiting = rest })
-IsSound-emitted v c rest later sound split le = record {
-  some = sound.some;
-  short = sound.short;
-  small = sound.small;
-  low = omega (arith, ints, le, sound.low);
-  row = row-rest v.ow v.earliest later c rest le (subst (IsRow v.ow v.earliest) split sound.row);
-  few = omega (arith, sound.few, ap length split);
-}
+IsSound-emitted v c rest later sound split le = grind (arith, ints, row-rest, length)
 
 -- where it stands
 pub Stands-emitted : (v : Collecting) (points : List Point) (emitted : List Compressed) (c : Cluster) (rest : List Cluster) (later : ℤ) → IsSound v
@@ -77,6 +70,4 @@ take-all (x ∷ xs) ys = ap (λ t. x ∷ t) (take-all xs ys)
 -- what is emitted is the front of the clusters
 pub emitted_in_order : EmittedInOrder
 emitted_in_order v points emitted clusters s are =
-    let whole : s.done ++ v.waiting ≡ clusters = AreClusters-unique v.ow points (s.done ++ v.waiting) clusters s.clusters are in
-    let len : length emitted ≡ length s.done = ap length s.given ∙ length-map s.done (compressed v.ow v.calc) in
-    rw (len, ← whole) (rw take-all s.given, sym (drop-front s.done v.waiting))
+    grind (arith, AreClusters-unique, length, length-map, take-all, drop-front)

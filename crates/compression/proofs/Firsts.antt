@@ -61,13 +61,7 @@ has_more acc more m has = list_any-append (λ q. q.master == m) acc more ∙ or_
 
 has_with_first : (acc : List Point) (x : Point) → has_master (with_first acc x) x.master ≡ true
 has_with_first acc x =
-    elim (cases_Bool (has_master acc x.master)) [
-      | inl old ↦ ap (λ (a : List Point). has_master a x.master) (with_first-old acc x old) ∙ old
-      | inr new ↦
-          ap (λ (a : List Point). has_master a x.master) (with_first-new acc x new)
-          ∙ list_any-append (λ q. q.master == x.master) acc (x ∷ [])
-          ∙ or_right (has_master acc x.master) (has_master (x ∷ []) x.master) (or_left (x.master == x.master) false (eq-eqb x.master x.master refl))
-    ]
+    grind (arith, cases_Bool, with_first-old, with_first-new, list_any-append, or_right, or_left, eq-eqb)
 
 has_fold : (acc xs : List Point) (y : Point) → Contains xs y → has_master (fold with_first acc xs) y.master ≡ true
 has_fold acc [] y at = absurd (in_none y at)
@@ -92,42 +86,34 @@ bit_at-fold : (a : ℕ) (xs : List Point) (m : ℕ) → bit_at (fold (λ members
     (cond (has_master xs m) 1 0)
 bit_at-fold a [] m = omega arith
 bit_at-fold a (x ∷ xs) m =
-    let rest : bit_at (fold (λ members q. bit_or members (2 ^ q.master)) (bit_or a (2 ^ x.master)) xs) m ≡ max (bit_at (bit_or a (2 ^ x.master)) m)
-    (cond (has_master xs m) 1 0) = bit_at-fold (bit_or a (2 ^ x.master)) xs m in
-    let step : bit_at (bit_or a (2 ^ x.master)) m ≡ max (bit_at a m) (bit_at (2 ^ x.master) m) = bit_at_or a (2 ^ x.master) m in
-    let small = bit_of-at_most (has_master xs m) in
-    elim (cases_eq x.master m) [
-      | inl same ↦
-          let set : bit_at (2 ^ x.master) m ≡ 1 = subst (λ (k : ℕ). bit_at (2 ^ x.master) k ≡ 1) same (bit_at-pow_same x.master) in
-          rw (eq-eqb x.master m same) (omega (arith, rest, step, set, small))
-      | inr other ↦
-          let clear : bit_at (2 ^ x.master) m ≡ 0 = bit_at-pow_other x.master m (λ e. other (sym e)) in
-          rw (ne_eqb x.master m other) (omega (arith, rest, step, clear, small))
-    ]
+    grind (
+      arith,
+      max,
+      cond,
+      bit_at_or,
+      bit_of-at_most,
+      cases_eq,
+      bit_at-pow_same,
+      eq-eqb,
+      bit_at-pow_other,
+      ne_eqb,
+      (bit_at-fold (bit_or a (2 ^ x.master)) xs m),
+    )
 
 -- the bit of a master that has no point is clear
 pub members_of-clear : (xs : List Point) (m : ℕ) → has_master xs m ≡ false → bit_and (members_of xs) (2 ^ m) ≡ 0
 members_of-clear xs m e =
-    let bit : bit_at (members_of xs) m ≡ max (bit_at 0 m) (cond (has_master xs m) 1 0) = bit_at-fold 0 xs m in
-    let none : bit_at (members_of xs) m ≡ 0 = bit ∙ (rw e (omega (arith, bit_at-zero m))) in
-    let and = rw none at (and_pow (members_of xs) m) in
-    omega (arith, and)
+    grind (arith, max, cond, bit_at-fold, bit_at-zero, and_pow)
 
 -- and that of one that has is set
 pub members_of-set : (xs : List Point) (m : ℕ) → has_master xs m ≡ true → bit_and (members_of xs) (2 ^ m) ≡ 0 → ⊥
 members_of-set xs m e zero_is =
-    let bit : bit_at (members_of xs) m ≡ max (bit_at 0 m) (cond (has_master xs m) 1 0) = bit_at-fold 0 xs m in
-    let one : bit_at (members_of xs) m ≡ 1 = bit ∙ (rw e (omega (arith, bit_at-zero m))) in
-    let and = rw one at (and_pow (members_of xs) m) in
-    absurd (omega (arith, and, zero_is, pow_pos m))
+    grind (arith, max, cond, bit_at-fold, bit_at-zero, and_pow, pow_pos)
 
 -- so the set of members tells whether a master has a point
 pub has_point_of-is : (c : Cluster) (xs : List Point) (m : ℕ) → c.members ≡ members_of xs → has_point_of c m ≡ has_master xs m
 has_point_of-is c xs m e =
-    elim (cases_Bool (has_master xs m)) [
-      | inl has ↦ ap not (ne_eqb (bit_and c.members (2 ^ m)) 0 (λ z. members_of-set xs m has (ap (λ (s : ℕ). bit_and s (2 ^ m)) (sym e) ∙ z))) ∙ sym has
-      | inr none ↦ ap not (eq-eqb (bit_and c.members (2 ^ m)) 0 (ap (λ (s : ℕ). bit_and s (2 ^ m)) e ∙ members_of-clear xs m none)) ∙ sym none
-    ]
+    grind (arith, cases_Bool, not, ne_eqb, members_of-set, eq-eqb, members_of-clear)
 
 pub members_of-push : (xs : List Point) (p : Point) → members_of (xs ++ p ∷ []) ≡ bit_or (members_of xs) (2 ^ p.master)
 members_of-push xs p = fold-append (λ members q. bit_or members (2 ^ q.master)) 0 xs (p ∷ [])

@@ -1,8 +1,8 @@
 -- What one more point does to the clusters of a list.
-use Rattle.std.proofs.Common.{◌*ℤ◌, ◌++◌, ◌+ℤ◌, ◌<ℤ◌, ◌<◌, ◌^◌, ◌∙◌, ◌∷◌, ◌≡◌, ◌≢◌, ◌≤ℤ◌, ◌≤◌, List, [], ap, arith, false, inl, inr, length, map, pos, refl}
+use Rattle.std.proofs.Common.{◌*ℤ◌, ◌++◌, ◌+ℤ◌, ◌<ℤ◌, ◌<◌, ◌^◌, ◌∙◌, ◌∷◌, ◌≡◌, ◌≢◌, ◌≤ℤ◌, ◌≤◌, List, [], ap, arith, false, length, map, pos, refl}
 use Rattle.std.proofs.{Common.{subst, sym, true, ℕ, ℤ}, lemmas.{Bool.{cases_Bool, cases_eq, cases_lt, le-leb, lt-leb}, Int.ints}}
-use Rattle.std.{proofs.lemmas.List.{length-append, map-append}, specs.{Int.Bits.or_zero_l, List.AllByRecursion}}
-use Rattle.std.specs.Prelude.{if◌then◌else◌, bit_or, int_le, int_lt, nat_le}
+use Rattle.std.{proofs.lemmas.List.{length-append, map-append}, specs.List.AllByRecursion}
+use Rattle.std.specs.Prelude.{if◌then◌else◌, bit_or, int_lt, nat_le}
 use Rattle.compression.proofs.Firsts.{firsts-push, firsts-start, has_point_of-is, members_of-push, with_first-new, with_first-old}
 use Rattle.compression.proofs.Held.{beyond-later, beyond-push_in, beyond-push_out, held-push_beyond, held-push_in, held-push_other, held-same, held-start}
 use Rattle.compression.proofs.Held.{int_lt-false}
@@ -36,39 +36,22 @@ cluster_by o end counts = record { opened = o.reading; end = end; cycle = o.cycl
 
 pub end_of-least : (ow : ℤ) (o : Point) (ps : List Point) → pos 0 ≤ℤ ow → window_end ow o ≤ℤ end_of ow o ps
 end_of-least ow o ps some =
-    elim (cases_Bool (nat_le 2 (length (counted (window_end ow o) o ps)))) [
-      | inl two ↦ rw two (omega (arith, ints))
-      | inr one ↦ rw one (omega (arith, ints))
-    ]
+    grind (arith, cases_Bool, length, ints)
 
 -- a point beyond the end changes nothing
 pub cluster_of-beyond : (ow : ℤ) (o : Point) (ps : List Point) (p : Point) → pos 0 ≤ℤ ow → end_of ow o ps <ℤ p.reading
     → cluster_of ow o (ps ++ p ∷ []) ≡ cluster_of ow o ps
 cluster_of-beyond ow o ps p some past =
-    let least = end_of-least ow o ps some in
-    let first : of_cycle_within o.cycle o.reading (window_end ow o) (ps ++ p ∷ []) ≡ of_cycle_within o.cycle o.reading (window_end ow o) ps =
-    held-push_beyond o.cycle o.reading (window_end ow o) ps p (omega (arith, ints, least, past)) in
-    let end : end_of ow o (ps ++ p ∷ []) ≡ end_of ow o ps = end_of-same ow o ps (ps ++ p ∷ []) (ap firsts first) in
-    let held : of_cycle_within o.cycle o.reading (end_of ow o ps) (ps ++ p ∷ []) ≡ of_cycle_within o.cycle o.reading (end_of ow o ps) ps =
-    held-push_beyond o.cycle o.reading (end_of ow o ps) ps p past in
-    ap (λ (e : ℤ). cluster_by o e (counted e o (ps ++ p ∷ []))) end ∙ ap (λ (h : List Point). cluster_by o (end_of ow o ps) (firsts h)) held
+    grind (arith, end_of-least, held-push_beyond, ints, end_of-same)
 
 -- nor does one of another cycle
 pub cluster_of-other : (ow : ℤ) (o : Point) (ps : List Point) (p : Point) → p.cycle ≢ o.cycle → cluster_of ow o (ps ++ p ∷ []) ≡ cluster_of ow o ps
 cluster_of-other ow o ps p other =
-    let first : of_cycle_within o.cycle o.reading (window_end ow o) (ps ++ p ∷ []) ≡ of_cycle_within o.cycle o.reading (window_end ow o) ps =
-    held-push_other o.cycle o.reading (window_end ow o) ps p other in
-    let end : end_of ow o (ps ++ p ∷ []) ≡ end_of ow o ps = end_of-same ow o ps (ps ++ p ∷ []) (ap firsts first) in
-    let held : of_cycle_within o.cycle o.reading (end_of ow o ps) (ps ++ p ∷ []) ≡ of_cycle_within o.cycle o.reading (end_of ow o ps) ps =
-    held-push_other o.cycle o.reading (end_of ow o ps) ps p other in
-    ap (λ (e : ℤ). cluster_by o e (counted e o (ps ++ p ∷ []))) end ∙ ap (λ (h : List Point). cluster_by o (end_of ow o ps) (firsts h)) held
+    grind (arith, held-push_other, end_of-same)
 
 pub end_of-most : (ow : ℤ) (o : Point) (ps : List Point) → pos 0 ≤ℤ ow → end_of ow o ps ≤ℤ extended_end ow o
 end_of-most ow o ps some =
-    elim (cases_Bool (nat_le 2 (length (counted (window_end ow o) o ps)))) [
-      | inl two ↦ rw two (omega (arith, ints))
-      | inr one ↦ rw one (omega (arith, ints))
-    ]
+    grind (arith, cases_Bool, length, ints)
 
 -- a point of the opener's cycle that comes to a cluster beyond which there is none yet
 pub record Comes (ow : ℤ) (o : Point) (ps : List Point) (p : Point) : Type 0 where
@@ -83,9 +66,7 @@ pub record Comes (ow : ℤ) (o : Point) (ps : List Point) (p : Point) : Type 0 w
 counted-push : (ow : ℤ) (o : Point) (ps : List Point) (p : Point) → Comes ow o ps p → (end : ℤ) → end_of ow o ps ≤ℤ end
     → counted end o (ps ++ p ∷ []) ≡ with_first (counted (end_of ow o ps) o ps) p
 counted-push ow o ps p comes end le =
-    let held = held-push_in o.cycle o.reading end ps p comes.same comes.low (omega (arith, ints, comes.high, le)) in
-    let same = held-same o.cycle o.reading (end_of ow o ps) end ps le comes.none in
-    ap firsts (held ∙ ap (λ (h : List Point). h ++ p ∷ []) same) ∙ firsts-push (of_cycle_within o.cycle o.reading (end_of ow o ps) ps) p
+    grind (arith, held-push_in, ints, held-same, firsts-push)
 
 -- what counts in the first window with a point that lies in it, and with one that does not
 window-push_in : (ow : ℤ) (o : Point) (ps : List Point) (p : Point) → Comes ow o ps p → p.reading ≤ℤ window_end ow o
@@ -100,10 +81,7 @@ window-push_out ow o ps p past = ap firsts (held-push_beyond o.cycle o.reading (
 
 length-with_first : (xs : List Point) (p : Point) → length xs ≤ length (with_first xs p)
 length-with_first xs p =
-    elim (cases_Bool (has_master xs p.master)) [
-      | inl old ↦ rw (with_first-old xs p old) (omega arith)
-      | inr new ↦ rw (with_first-new xs p new, length-append) (omega arith)
-    ]
+    grind (arith, cases_Bool, with_first-old, with_first-new, length-append)
 
 -- where the first window has one master, the cluster has no more
 one_window : (ow : ℤ) (o : Point) (ps : List Point) → length (counted (window_end ow o) o ps) < 2 → counted (end_of ow o ps) o ps ≡ counted (window_end ow o) o
@@ -114,53 +92,31 @@ one_window ow o ps few = ap (λ (e : ℤ). counted e o ps) (end_of-one ow o ps f
 end_of-joined : (ow : ℤ) (o : Point) (ps : List Point) (p : Point) → Comes ow o ps p → has_master (counted (end_of ow o ps) o ps) p.master ≡ false
     → end_of ow o (ps ++ p ∷ []) ≡ joined_end ow (cluster_of ow o ps) p.reading
 end_of-joined ow o ps p comes new =
-    elim (cases_Bool (int_le p.reading (window_end ow o))) [
-      | inl inside ↦
-          let first : p.reading ≤ℤ window_end ow o = grind (arith, ints, inside) in
-          let push = window-push_in ow o ps p comes first in
-          let two : 2 ≤ length (counted (window_end ow o) o (ps ++ p ∷ [])) =
-          elim (cases_lt (length (counted (window_end ow o) o ps)) 2) [
-            | inl few ↦
-                let fresh : has_master (counted (window_end ow o) o ps) p.master ≡ false = rw (one_window ow o ps few) at new in
-                let one : length (counted (window_end ow o) o ps) ≡ length (o ∷ comes.starts.0) = ap length comes.starts.1 in
-                rw (push, with_first-new (counted (window_end ow o) o ps) p fresh, length-append) (omega (arith, one))
-            | inr many ↦ rw push (omega (arith, many, length-with_first (counted (window_end ow o) o ps) p))
-          ] in
-          end_of-two ow o (ps ++ p ∷ []) two ∙ sym (rw inside refl)
-      | inr outside ↦
-          let past : window_end ow o <ℤ p.reading = grind (arith, ints, outside) in
-          end_of-same ow o ps (ps ++ p ∷ []) (window-push_out ow o ps p past) ∙ sym (rw outside refl)
-    ]
+    grind (
+      arith,
+      cases_Bool,
+      ints,
+      window-push_in,
+      length,
+      cases_lt,
+      one_window,
+      with_first-new,
+      length-append,
+      length-with_first,
+      end_of-two,
+      end_of-same,
+      window-push_out,
+    )
 
 -- the end with the point of a master that has one there
 end_of-repeat : (ow : ℤ) (o : Point) (ps : List Point) (p : Point) → Comes ow o ps p → has_master (counted (end_of ow o ps) o ps) p.master ≡ true
     → end_of ow o (ps ++ p ∷ []) ≡ end_of ow o ps
 end_of-repeat ow o ps p comes old =
-    elim (cases_Bool (int_le p.reading (window_end ow o))) [
-      | inl inside ↦
-          let first : p.reading ≤ℤ window_end ow o = grind (arith, ints, inside) in
-          let push = window-push_in ow o ps p comes first in
-          elim (cases_lt (length (counted (window_end ow o) o ps)) 2) [
-            | inl few ↦
-                let there : has_master (counted (window_end ow o) o ps) p.master ≡ true = rw (one_window ow o ps few) at old in
-                end_of-same ow o ps (ps ++ p ∷ []) (push ∙ with_first-old (counted (window_end ow o) o ps) p there)
-            | inr many ↦
-                let two : 2 ≤ length (counted (window_end ow o) o (ps ++ p ∷ [])) = rw push
-                (omega (arith, many, length-with_first (counted (window_end ow o) o ps) p)) in
-                end_of-two ow o (ps ++ p ∷ []) two ∙ sym (end_of-two ow o ps many)
-          ]
-      | inr outside ↦
-          let past : window_end ow o <ℤ p.reading = grind (arith, ints, outside) in
-          end_of-same ow o ps (ps ++ p ∷ []) (window-push_out ow o ps p past)
-    ]
+    grind (arith, cases_Bool, ints, window-push_in, cases_lt, length, one_window, end_of-same, with_first-old, length-with_first, end_of-two, window-push_out)
 
 joined_end-later : (ow : ℤ) (o : Point) (ps : List Point) (reading : ℤ) → pos 0 ≤ℤ ow → end_of ow o ps ≤ℤ joined_end ow (cluster_of ow o ps) reading
 joined_end-later ow o ps reading some =
-    let most = end_of-most ow o ps some in
-    elim (cases_Bool (int_le reading (window_end ow o))) [
-      | inl inside ↦ rw inside most
-      | inr outside ↦ rw outside (omega (arith, ints))
-    ]
+    grind (arith, end_of-most, cases_Bool, ints)
 
 abbrev pub cluster_with : Point → ℤ → List ℤ → ℕ → Cluster
 cluster_with o end points members = record { opened = o.reading; end = end; cycle = o.cycle; points = points; members = members }
@@ -198,11 +154,7 @@ alone p to within = ap firsts (held-start p to [] within)
 -- the cluster that one point opens
 pub cluster_of-alone : (ow : ℤ) (p : Point) → pos 0 ≤ℤ ow → cluster_of ow p (p ∷ []) ≡ opening ow p
 cluster_of-alone ow p some =
-    let within : p.reading ≤ℤ window_end ow p = omega (arith, ints) in
-    let few : length (counted (window_end ow p) p (p ∷ [])) < 2 = rw (alone p (window_end ow p) within) (omega arith) in
-    ap (λ (e : ℤ). cluster_by p e (counted e p (p ∷ []))) (end_of-one ow p (p ∷ []) few)
-    ∙ ap (cluster_by p (window_end ow p)) (alone p (window_end ow p) within)
-    ∙ ap (cluster_with p (window_end ow p) (p.reading ∷ [])) (or_zero_l (2 ^ p.master))
+    grind (arith, ints, length, alone, end_of-one)
 
 -- the first point counts in the first window
 pub window-starts : (ow : ℤ) (o : Point) (ps : List Point) → pos 0 ≤ℤ ow → (more : List Point) × (counted (window_end ow o) o (o ∷ ps) ≡ o ∷ more)
@@ -242,15 +194,7 @@ pub record Grows (ow : ℤ) (c d : Cluster) (p : Point) : Type 0 where
 grows_whole : (ow : ℤ) (o : Point) (ps : List Point) (d : Cluster) (p : Point) → Comes' ow o ps p → Grows ow (cluster_of ow o ps) d p
     → d ≡ cluster_of ow o (ps ++ p ∷ [])
 grows_whole ow o ps d p comes grows =
-    elim (cases_eq p.cycle o.cycle) [
-      | inl same ↦
-          let here = comes same in
-          elim (cases_Bool (has_point_of (cluster_of ow o ps) p.master)) [
-            | inl old ↦ grows.repeat same old ∙ sym (cluster_of-repeat ow o ps p here old)
-            | inr new ↦ grows.joins same new ∙ sym (cluster_of-joined ow o ps p here new)
-          ]
-      | inr other ↦ grows.other other ∙ sym (cluster_of-other ow o ps p other)
-    ]
+    grind (arith, cases_eq, cases_Bool, cluster_of-repeat, cluster_of-joined, cluster_of-other)
 
 cluster_of-grows : (ow : ℤ) (o : Point) (ps : List Point) (c d : Cluster) (p : Point) → pos 0 ≤ℤ ow → c ≡ cluster_of ow o (o ∷ ps) → beyond c.end ps ≡ []
     → c.opened ≤ℤ p.reading → p.reading ≤ℤ c.end → Grows ow c d p → d ≡ cluster_of ow o ((o ∷ ps) ++ p ∷ [])
@@ -259,14 +203,7 @@ cluster_of-grows ow o ps c d p some is none low high grows =
     let least = end_of-least ow o (o ∷ ps) some in
     let none' : beyond (end_of ow o (o ∷ ps)) ps ≡ [] = subst (λ (x : Cluster). beyond x.end ps ≡ []) is none in
     let start : int_lt (end_of ow o (o ∷ ps)) o.reading ≡ false = int_lt-false (end_of ow o (o ∷ ps)) o.reading (omega (arith, ints, least, some)) in
-    let comes : Comes' ow o (o ∷ ps) p = λ same. record {
-      some = some;
-      none = rw start none';
-      same = same;
-      low = subst (λ (x : Cluster). x.opened ≤ℤ p.reading) is low;
-      high = subst (λ (x : Cluster). p.reading ≤ℤ x.end) is high;
-      starts = window-starts ow o ps some;
-    } in
+    let comes : Comes' ow o (o ∷ ps) p = grind (arith, start, none', window-starts) in
     grows_whole ow o (o ∷ ps) d p comes (subst (λ (x : Cluster). Grows ow x d p) is grows)
 
 -- a point that is not beyond the last cluster
@@ -276,9 +213,7 @@ pub AreClusters-within : (ow : ℤ) (ps : List Point) (cs : List Cluster) (c d :
 AreClusters-within ow [] [] c d p some are past low high longer grows = absurd are
 AreClusters-within ow [] (k ∷ cs) c d p some are past low high longer grows = absurd are
 AreClusters-within ow (o ∷ ps) [] c d p some are past low high longer grows =
-    let none : beyond c.end ps ≡ [] = no_clusters ow (beyond c.end ps) are.1 in
-    let still : beyond d.end (ps ++ p ∷ []) ≡ [] = beyond-push_in d.end ps p (omega (arith, ints, high, longer)) ∙ beyond-later c.end d.end ps longer none in
-    (cluster_of-grows ow o ps c d p some are.0 none low high grows, subst (λ (qs : List Point). AreClusters ow qs []) (sym still) tt)
+    grind (arith, no_clusters, beyond-push_in, ints, beyond-later, cluster_of-grows)
 AreClusters-within ow (o ∷ ps) (k ∷ cs) c d p some are past low high longer grows =
     let beyond_end : end_of ow o (o ∷ ps) <ℤ p.reading = subst (λ (x : Cluster). x.end <ℤ p.reading) are.0 past.0 in
     let rest = AreClusters-within ow (beyond k.end ps) cs c d p some are.1 past.1 low high longer grows in (

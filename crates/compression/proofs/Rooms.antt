@@ -53,10 +53,7 @@ left_after masters acc (x ∷ xs) l all =
         record {
           rest = less.rest;
           total = rw length-append (omega (arith, l.total, less.shorter));
-          each = λ m at none.
-              let parts = or_parts (has_master acc m) (has_master (x ∷ []) m) (sym (list_any-append (λ q. q.master == m) acc (x ∷ [])) ∙ none) in
-              let apart = (or_parts (x.master == m) false parts.1).0 in
-              less.others m (l.each m at parts.0) (λ e. eqb-false x.master m apart (sym e));
+          each = grind (arith, or_parts, list_any-append, less.others, eqb-false);
         }
 
 -- what counts of a list whose points are of these masters

@@ -1,6 +1,6 @@
 -- Rows of collections, as points are taken and clusters are emitted.
 use Rattle.std.proofs.Common.{◌*ℤ◌, ◌++◌, ◌+ℤ◌, ◌-ℤ◌, ◌<ℤ◌, ◌<◌, ◌∷◌, ◌≡◌, ◌≤ℤ◌, List, None, Some, [], ap, arith, length, pos, refl, subst, sym, ℤ}
-use Rattle.std.{proofs.lemmas.Int.ints, specs.{List.{AllByRecursion, last_or}, Prelude.IfSome}}
+use Rattle.std.{proofs.lemmas.Int.ints, specs.List.{AllByRecursion, last_or}}
 use Rattle.compression.{proofs.Middles.middle_of-within, specs.{Ascent.{IsAscending, MayFollow, last_from}, Clusters.Cluster, Emission.emission}}
 use Rattle.compression.specs.{Middle.{middle_of, relative}, Row.{IsCollection, IsRow}}
 
@@ -47,10 +47,7 @@ opened-end ow c col =
 -- a reading that is later
 pub MayFollow-later : (ps : List ℤ) (t r : ℤ) → t ≤ℤ r → MayFollow ps t → MayFollow ps r
 MayFollow-later ps t r le may =
-    elim (last_or None ps) as (λ o. IfSome o (λ q. q ≤ℤ t) → IfSome o (λ q. q ≤ℤ r)) [
-      | None ↦ λ m. m
-      | Some q ↦ λ m. omega (arith, ints, le, m)
-    ] may
+    grind (arith, ints)
 
 -- what the last collection of a row is, and where the others end
 pub record Last (ow reading : ℤ) (front : List Cluster) (c : Cluster) : Type 0 where

@@ -1,7 +1,7 @@
 -- What is true of every collector stays true.
-use Rattle.std.proofs.Common.{◌*ℤ◌, ◌++◌, ◌+ℤ◌, ◌+◌, ◌-ℤ◌, ◌<ℤ◌, ◌<◌, ◌∙◌, ◌∷◌, ◌≡◌, ◌≤ℤ◌, List, None, Option, Some, [], ap, arith, inl, inr, length, map, pos}
+use Rattle.std.proofs.Common.{◌*ℤ◌, ◌++◌, ◌+ℤ◌, ◌+◌, ◌-ℤ◌, ◌<ℤ◌, ◌<◌, ◌∷◌, ◌≡◌, ◌≤ℤ◌, List, None, Option, Some, [], ap, arith, inl, inr, length, map, pos}
 use Rattle.std.proofs.{Common.{refl, subst, sym, ℕ, ℤ}, lemmas.{Bool.cases_Bool, Int.ints, List.Elements.recursion_from_All}}
-use Rattle.std.specs.{List.{AllByRecursion, last_or}, Prelude.{All, int_le, int_lt}}
+use Rattle.std.specs.{List.{AllByRecursion, last_or}, Prelude.{All, int_lt}}
 use Rattle.tte_units.specs.Reading.{greatest_reading}
 use Rattle.compression.proofs.Ascents.{IsAscending-push}
 use Rattle.compression.proofs.Rows.{MayFollow-later, last_or-none, last_split, opened-before, row-push, row-replace, row-room, row_last}
@@ -14,18 +14,7 @@ none_is_some c e = cc
 -- what is open at a reading is the last, and ends no earlier
 pub open_at-some : (cs : List Cluster) (reading : ℤ) (c : Cluster) → open_at cs reading ≡ Some c → (last_or None cs ≡ Some c) × (reading ≤ℤ c.end)
 open_at-some cs reading c e =
-    by_last (last_or None cs) refl
-  where
-    by_last : (o : Option Cluster) → last_or None cs ≡ o → (last_or None cs ≡ Some c) × (reading ≤ℤ c.end)
-    by_last None l = absurd (none_is_some c (sym (rw l at e)))
-    by_last (Some d) l =
-        elim (cases_Bool (int_lt d.end reading)) [
-          | inl past ↦ absurd (none_is_some c (sym (rw (l, past) at e)))
-          | inr here ↦
-              let same : Some d ≡ Some c = rw (l, here) at e in
-              let is : d ≡ c = cc in
-              (l ∙ same, subst (λ (k : Cluster). reading ≤ℤ k.end) is (grind (arith, ints, here)))
-        ]
+    grind (arith, none_is_some, cases_Bool, ints)
 
 -- where none is open, all ended before
 pub all_ended : (v : Collecting) (reading : ℤ) → IsSound v → v.earliest ≤ℤ reading → open_at v.waiting reading ≡ None
@@ -65,16 +54,7 @@ length-push (k ∷ ks) c = omega (arith, length-push ks c)
 pub IsSound-opened : (v : Collecting) (p : Point) → IsSound v → v.earliest ≤ℤ p.reading → p.reading ≤ℤ greatest_reading → open_at v.waiting p.reading ≡ None
     → length v.waiting < 5 → IsSound (with_opened v p)
 IsSound-opened v p sound order high none room =
-    let col : IsCollection v.ow (opening v.ow p) = record {
-      low = omega (arith, ints, order, sound.low);
-      high = high;
-      later = [];
-      points = refl;
-      rising = tt;
-      held = omega (arith, ints, sound.some, sound.short);
-      one = omega (arith, ints);
-      two = omega (arith, ints, sound.some, sound.short);
-    } in
+    let col : IsCollection v.ow (opening v.ow p) = grind (arith, ints) in
     record {
       some = sound.some;
       short = sound.short;
@@ -91,27 +71,13 @@ last_from-push p (r ∷ rs) q = last_from-push r rs q
 pub joined_end-within : (ow : ℤ) (c : Cluster) (reading : ℤ) → IsCollection ow c → pos 0 ≤ℤ ow → (c.end ≤ℤ joined_end ow c reading)
     × (joined_end ow c reading ≤ℤ (c.opened +ℤ (pos 2 *ℤ ow)))
 joined_end-within ow c reading col some =
-    elim (cases_Bool (int_le reading (c.opened +ℤ ow))) [
-      | inl inside ↦ rw inside (col.two, omega (arith, ints))
-      | inr outside ↦ rw outside (omega (arith, ints), col.two)
-    ]
+    grind (arith, cases_Bool, ints)
 
 -- a collection with a point that joins it
 pub IsCollection-joined : (ow : ℤ) (c : Cluster) (reading : ℤ) (master : ℕ) → IsCollection ow c → pos 0 ≤ℤ ow → MayFollow c.points reading → reading ≤ℤ c.end
     → IsCollection ow (joined ow c reading master)
 IsCollection-joined ow c reading master col some may here =
-    let ends = joined_end-within ow c reading col some in
-    let may' : MayFollow (c.opened ∷ col.later) reading = subst (λ (ps : List ℤ). MayFollow ps reading) col.points may in
-    record {
-      low = col.low;
-      high = col.high;
-      later = col.later ++ reading ∷ [];
-      points = ap (λ (ps : List ℤ). ps ++ reading ∷ []) col.points;
-      rising = IsAscending-push (c.opened ∷ col.later) reading col.rising may';
-      held = rw (last_from-push c.opened col.later reading) (omega (arith, ints, here, ends.0));
-      one = omega (arith, ints, col.one, ends.0);
-      two = ends.1;
-    }
+    grind (arith, joined_end-within, IsAscending-push, last_from-push, ints)
 
 last_or-push : (ps : List ℤ) (q : ℤ) → last_or None (ps ++ q ∷ []) ≡ Some q
 last_or-push [] q = refl

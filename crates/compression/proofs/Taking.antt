@@ -1,7 +1,8 @@
 -- What a collector does with a point, by the point's role.
+use Rattle.std.proofs.Common.{arith}
 use Rattle.std.proofs.Common.{◌++◌, ◌<ℤ◌, ◌<◌, ◌∙◌, ◌∷◌, ◌≡◌, ◌≢◌, ◌≤ℤ◌, ◌⊎◌, IsTrue, List, None, Option, Some, [], ap, false, inl, inr, length, refl, subst}
 use Rattle.std.proofs.{Common.{sym, true, ℕ, ℤ}, lemmas.{Bool.{cases_Bool, eqb-false, eqb-true}, List.{append-nil, Elements.recursion_from_All}}}
-use Rattle.std.specs.{List.{AllByRecursion, last_or}, Prelude.{if◌then◌else◌, ◌==◌, IfSome, int_lt, option_and_then}}
+use Rattle.std.specs.{List.{AllByRecursion, last_or}, Prelude.{if◌then◌else◌, IfSome, int_lt, option_and_then}}
 use Rattle.compression.proofs.{Roles.{open_at-beyond, open_at-in, open_at-none}, Rows.{MayFollow-later, last_or-none, last_split, row_last}}
 use Rattle.compression.proofs.Sound.{IsSound-joined, last_joined-split, open_at-some, with_last}
 use Rattle.compression.proofs.Standing.{AreClusters-unique, Stands-ignored, Stands-joined, Stands-opened, ended_later}
@@ -25,64 +26,17 @@ pub record Ignores (o : Option Cluster) (p : Point) : Type 0 where
 pub role_in-opened : (o : Option Cluster) (p : Point) → role_in o p ≡ Opened → o ≡ None
 role_in-opened None p e = refl
 role_in-opened (Some c) p e =
-    elim (cases_Bool (p.cycle == c.cycle)) [
-      | inl same ↦
-          elim (cases_Bool (has_point_of c p.master)) [
-            | inl old ↦ absurd (repeat_not (rw (same, old) at e))
-            | inr new ↦ absurd (joined_not (rw (same, new) at e))
-          ]
-      | inr other ↦ absurd (other_not (rw other at e))
-    ]
-  where
-    repeat_not : Repeat ≡ Opened → ⊥
-    repeat_not e = cc
-
-    joined_not : Joined ≡ Opened → ⊥
-    joined_not e = cc
-
-    other_not : OtherCycle ≡ Opened → ⊥
-    other_not e = cc
+    grind (arith, cases_Bool)
 
 pub role_in-joined : (o : Option Cluster) (p : Point) → role_in o p ≡ Joined → Joins o p
-role_in-joined None p e = absurd (opened_not e)
-  where
-    opened_not : Opened ≡ Joined → ⊥
-    opened_not e = cc
+role_in-joined None p e = grind arith
 role_in-joined (Some c) p e =
-    elim (cases_Bool (p.cycle == c.cycle)) [
-      | inl same ↦
-          elim (cases_Bool (has_point_of c p.master)) [
-            | inl old ↦ absurd (repeat_not (rw (same, old) at e))
-            | inr new ↦ record { c = c; is = refl; same = eqb-true p.cycle c.cycle same; new = new }
-          ]
-      | inr other ↦ absurd (other_not (rw other at e))
-    ]
-  where
-    repeat_not : Repeat ≡ Joined → ⊥
-    repeat_not e = cc
-
-    other_not : OtherCycle ≡ Joined → ⊥
-    other_not e = cc
+    grind (arith, cases_Bool, eqb-true)
 
 pub role_in-ignored : (o : Option Cluster) (p : Point) → (role_in o p ≡ Repeat) ⊎ (role_in o p ≡ OtherCycle) → Ignores o p
-role_in-ignored None p e = absurd (opened_not e)
-  where
-    opened_not : (Opened ≡ Repeat) ⊎ (Opened ≡ OtherCycle) → ⊥
-    opened_not (inl e) = cc
-    opened_not (inr e) = cc
+role_in-ignored None p e = grind arith
 role_in-ignored (Some c) p e =
-    elim (cases_Bool (p.cycle == c.cycle)) [
-      | inl same ↦
-          elim (cases_Bool (has_point_of c p.master)) [
-            | inl old ↦ record { c = c; is = refl; why = inr old }
-            | inr new ↦ absurd (joined_not (rw (same, new) at e))
-          ]
-      | inr other ↦ record { c = c; is = refl; why = inl (eqb-false p.cycle c.cycle other) }
-    ]
-  where
-    joined_not : (Joined ≡ Repeat) ⊎ (Joined ≡ OtherCycle) → ⊥
-    joined_not (inl e) = cc
-    joined_not (inr e) = cc
+    grind (arith, cases_Bool, eqb-false)
 
 -- the last collection can take a point that is not beyond it
 pub able : (v : Collecting) (reading : ℤ) (master : ℕ) → IsSound v → v.earliest ≤ℤ reading
@@ -92,10 +46,7 @@ able v reading master sound order room =
     by_last (last_or None v.waiting) refl
   where
     room_in : (c : Cluster) → IsTrue (has_point_of c master) ⊎ (length c.points < 8) → has_point_of c master ≡ false → length c.points < 8
-    room_in c (inl old) new = absurd (true_is_false (sym old ∙ new))
-      where
-        true_is_false : true ≡ false → ⊥
-        true_is_false e = cc
+    room_in c (inl old) new = grind arith
     room_in c (inr few) new = few
 
     by_last : (o : Option Cluster) → last_or None v.waiting ≡ o → IfSome (last_or None v.waiting) (λ c. reading ≤ℤ c.end → CanTake c reading master)
@@ -115,10 +66,7 @@ pub last_is_joined : (v : Collecting) (p : Point) (waiting : List Cluster) → J
     → ((front : List Cluster) (c : Cluster) → v.waiting ≡ front ++ c ∷ [] → waiting ≡ front ++ joined v.ow c p.reading p.master ∷ [])
     → waiting ≡ last_joined v.ow p v.waiting
 last_is_joined v p waiting is joins =
-    let j = role_in-joined (open_at v.waiting p.reading) p (sym is) in
-    let at = open_at-some v.waiting p.reading j.c j.is in
-    let split = last_split v.waiting j.c at.0 in
-    joins split.0 j.c split.1 ∙ sym (last_joined-split v.ow p split.0 j.c) ∙ sym (ap (last_joined v.ow p) split.1)
+    grind (arith, role_in-joined, open_at-some, last_split, last_joined-split)
 
 -- where a collector stands with a point that opens a collection, one that joins, and one that is ignored
 pub Stands-role_opened : (v w : Collecting) (p : Point) → IsSound v → v.earliest ≤ℤ p.reading → Opened ≡ role v.waiting p → w ≡ with_opened v p
@@ -131,20 +79,12 @@ pub Stands-role_joined : (v w : Collecting) (p : Point) → IsSound v → v.earl
     → ((front : List Cluster) (c : Cluster) → v.waiting ≡ front ++ c ∷ [] → w ≡ with_last v front c p) → (points : List Point) (emitted : List Compressed)
     → StandsForPoints v points emitted → StandsForPoints w (points ++ p ∷ []) emitted
 Stands-role_joined v w p sound order is joins points emitted s =
-    let j = role_in-joined (open_at v.waiting p.reading) p (sym is) in
-    let at = open_at-some v.waiting p.reading j.c j.is in
-    let split = last_split v.waiting j.c at.0 in
-    subst (λ (u : Collecting). StandsForPoints u (points ++ p ∷ []) emitted) (sym (joins split.0 j.c split.1))
-    (Stands-joined v points emitted p split.0 j.c sound order split.1 at.1 j.same j.new s)
+    grind (arith, role_in-joined, open_at-some, last_split, Stands-joined)
 
 pub Stands-role_ignored : (v w : Collecting) (p : Point) → IsSound v → v.earliest ≤ℤ p.reading → (role v.waiting p ≡ Repeat) ⊎ (role v.waiting p ≡ OtherCycle)
     → w ≡ v → (points : List Point) (emitted : List Compressed) → StandsForPoints v points emitted → StandsForPoints w (points ++ p ∷ []) emitted
 Stands-role_ignored v w p sound order is same points emitted s =
-    let i = role_in-ignored (open_at v.waiting p.reading) p is in
-    let at = open_at-some v.waiting p.reading i.c i.is in
-    let split = last_split v.waiting i.c at.0 in
-    subst (λ (u : Collecting). StandsForPoints u (points ++ p ∷ []) emitted) (sym same)
-    (Stands-ignored v points emitted p split.0 i.c sound order split.1 at.1 i.why s)
+    grind (arith, role_in-ignored, open_at-some, last_split, Stands-ignored)
 
 last_or-append : {X : Type 0} (xs ys : List X) (y : X) → last_or None ys ≡ Some y → last_or None (xs ++ ys) ≡ Some y
 last_or-append [] ys y e = e
@@ -165,13 +105,7 @@ all-last reading (k ∷ ks) c all = all-last reading ks c all.1
 -- where all clusters have ended none is open
 ended_none : (cs : List Cluster) (reading : ℤ) → AllByRecursion (λ c. c.end <ℤ reading) cs → open_at cs reading ≡ None
 ended_none cs reading all =
-    by_last (last_or None cs) refl
-  where
-    by_last : (o : Option Cluster) → last_or None cs ≡ o → open_at cs reading ≡ None
-    by_last None l = open_at-none cs reading l
-    by_last (Some c) l =
-        let split = last_split cs c l in
-        open_at-beyond cs c reading l (all-last reading split.0 c (subst (AllByRecursion (λ k. k.end <ℤ reading)) split.1 all))
+    grind (arith, open_at-none, last_split, open_at-beyond, all-last)
 
 -- the role by what waits is the role by all clusters
 pub role-whole : (v : Collecting) (p : Point) → v.earliest ≤ℤ p.reading → (points : List Point) (emitted : List Compressed) (cs : List Cluster)
@@ -195,8 +129,4 @@ pub IsSound-takes : (v : Collecting) (p : Point) (waiting : List Cluster) → Is
     → ((front : List Cluster) (c : Cluster) → v.waiting ≡ front ++ c ∷ [] → waiting ≡ front ++ joined v.ow c p.reading p.master ∷ [])
     → IsSound (record v { earliest = p.reading; waiting = waiting })
 IsSound-takes v p waiting sound order is joins =
-    let j = role_in-joined (open_at v.waiting p.reading) p is in
-    let at = open_at-some v.waiting p.reading j.c j.is in
-    let split = last_split v.waiting j.c at.0 in
-    subst (λ (ws : List Cluster). IsSound (record v { earliest = p.reading; waiting = ws })) (sym (joins split.0 j.c split.1))
-    (IsSound-joined v split.0 j.c p sound order split.1 at.1)
+    grind (arith, role_in-joined, open_at-some, last_split, IsSound-joined)

@@ -38,13 +38,7 @@ not_before o ps p up at =
 -- one that lies beyond the first cluster comes after the first point
 pub in_rest : (o : Point) (ps : List Point) (p : Point) (end : ℤ) → o.reading ≤ℤ end → end <ℤ p.reading → Contains (o ∷ ps) p → Contains (beyond end ps) p
 in_rest o ps p end start past at =
-    elim (in_cases o p ps at) [
-      | inl e ↦ absurd (apart (subst (λ (q : Point). end <ℤ q.reading) (sym e) past))
-      | inr here ↦ in_beyond end ps p here past
-    ]
-  where
-    apart : end <ℤ o.reading → ⊥
-    apart h = omega (arith, ints)
+    grind (arith, in_cases, in_beyond, ints)
 
 one_time : (ow : ℤ) (ps : List Point) (cs : List Cluster) → pos 0 ≤ℤ ow → Ordered ps → AreClusters ow ps cs → (p : Point) → Contains ps p → (c : Cluster)
     × Contains cs c × LiesIn c p × ((d : Cluster) → Contains cs d → LiesIn d p → d ≡ c)
@@ -70,10 +64,7 @@ one_time ow (o ∷ ps) (c ∷ cs) some up are p at =
 
     other : c.end <ℤ p.reading → (k : Cluster) → ((d : Cluster) → Contains cs d → LiesIn d p → d ≡ k) → (d : Cluster) → (c ≡ d) ⊎ Contains cs d → LiesIn d p
         → d ≡ k
-    other past k unique d (inl e) lies = absurd (apart (subst (λ (x : Cluster). LiesIn x p) (sym e) lies) past)
-      where
-        apart : LiesIn c p → c.end <ℤ p.reading → ⊥
-        apart l h = omega (arith, ints, l.high, h)
+    other past k unique d (inl e) lies = grind (arith, past, ints)
     other past k unique d (inr at) lies = unique d at lies
 
 pub one_time_law : OneTime

@@ -7,7 +7,7 @@ use Rattle.compression.proofs.Elements.{Ordered, Ordered-beyond, Ordered-from, f
 use Rattle.compression.proofs.{Firsts.{Counts, counts, firsts-has}, Growth.{counted, end_of-least, end_of-one, end_of-two, window_end}, Held.held-start}
 use Rattle.compression.proofs.Times.{first_end, in_rest, not_before, only_first}
 use Rattle.compression.specs.Clusters.{AreClusters, Cluster, Point, beyond, cluster_of, end_of, firsts, has_master, of_cycle_within}
-use Rattle.compression.specs.OneCluster.{Holds, IsDropped, IsKept, LiesIn, OneCluster}
+use Rattle.compression.specs.OneCluster.{Holds, IsDropped, IsKept, OneCluster}
 
 -- what counts in the first window: the opener, and then points of other masters
 window_counts : (ow : ℤ) (o : Point) (ps : List Point) → pos 0 ≤ℤ ow → (k : Counts (o ∷ []) (of_cycle_within o.cycle o.reading (window_end ow o) ps))
@@ -50,9 +50,7 @@ only_master : (ow : ℤ) (o : Point) (ps : List Point) → pos 0 ≤ℤ ow → l
     → q.cycle ≡ o.cycle → o.reading ≤ℤ q.reading → q.reading ≤ℤ window_end ow o → q.master ≡ o.master
 only_master ow o ps some few q at same low high =
     let passes : (q.cycle == o.cycle && (int_le o.reading q.reading && int_le q.reading (window_end ow o))) ≡ true =
-    and_from (q.cycle == o.cycle) (int_le o.reading q.reading && int_le q.reading (window_end ow o)) (eq-eqb q.cycle o.cycle same)
-    (and_from (int_le o.reading q.reading) (int_le q.reading (window_end ow o)) (int_le-from o.reading q.reading low)
-    (int_le-from q.reading (window_end ow o) high)) in
+    grind (arith, and_from, window_end, eq-eqb, int_le-from) in
     let here = in_filter_from (λ r. r.cycle == o.cycle && (int_le o.reading r.reading && int_le r.reading (window_end ow o))) (o ∷ ps) q at passes in
     let has = firsts-has (of_cycle_within o.cycle o.reading (window_end ow o) (o ∷ ps)) q here in
     let k = window_counts ow o ps some in
@@ -60,13 +58,7 @@ only_master ow o ps some few q at same low high =
   where
     alone : (more : List Point) → length (o ∷ more) < 2 → has_master (o ∷ more) q.master ≡ true → q.master ≡ o.master
     alone [] few has =
-        elim (or_cases (o.master == q.master) false has) [
-          | inl e ↦ sym (eqb-true o.master q.master e)
-          | inr never ↦ absurd (false_is_true never)
-        ]
-      where
-        false_is_true : false ≡ true → ⊥
-        false_is_true e = cc
+        grind (arith, or_cases, has, eqb-true)
     alone (w ∷ ws) few has = absurd (omega arith)
 
 -- the first cluster and those after it
@@ -90,13 +82,7 @@ not_dropped ow o ps c cs b cycle f q same within (d, at, other, lies) =
 own_cycle : (ow : ℤ) (o : Point) (ps : List Point) (c : Cluster) (cs : List Cluster) (b cycle : ℕ) → First ow o ps c cs b cycle → (q : Point)
     → IsKept (o ∷ ps) (c ∷ cs) b cycle q → q.reading ≤ℤ c.end → Holds c q
 own_cycle ow o ps c cs b cycle f q k within =
-    let start = first_end ow o ps c f.some f.is in
-    let low : c.opened ≤ℤ q.reading = subst (λ (r : ℤ). r ≤ℤ q.reading) (sym start.0) (not_before o ps q f.order k.there) in
-    let lies : LiesIn c q = record { low = low; high = within } in
-    elim (cases_eq q.cycle c.cycle) [
-      | inl same ↦ (same, lies)
-      | inr other ↦ absurd (k.kept (c, in_head c cs, other, lies))
-    ]
+    grind (arith, first_end, not_before, cases_eq, in_head)
 
 -- where one that is kept lies up to the end, so do all
 all_within : (ow : ℤ) (o : Point) (ps : List Point) (c : Cluster) (cs : List Cluster) (b cycle : ℕ) → First ow o ps c cs b cycle → (q r : Point)
@@ -161,13 +147,7 @@ together ow (o ∷ ps) (c ∷ cs) b cycle some up are near p k =
 
     not_first : (q : Point) → c.end <ℤ q.reading → IsDropped (c ∷ cs) q → IsDropped cs q
     not_first q past (d, at, other, lies) =
-        elim (in_cases c d cs at) [
-          | inl e ↦ absurd (apart (subst (λ (x : Cluster). LiesIn x q) (sym e) lies) past)
-          | inr here ↦ (d, here, other, lies)
-        ]
-      where
-        apart : LiesIn c q → c.end <ℤ q.reading → ⊥
-        apart l h = omega (arith, ints, l.high, h)
+        grind (arith, in_cases, past, ints)
 
     whole : (q : Point) → IsKept (beyond c.end ps) cs b cycle q → IsKept (o ∷ ps) (c ∷ cs) b cycle q
     whole q kq =

@@ -1,5 +1,5 @@
 -- What is counted in a short stretch, reckoned by its drift.
-use Rattle.std.proofs.Common.{◌*ℤ◌, ◌*◌, ◌+ℤ◌, ◌+◌, ◌-ℤ◌, ◌-◌, ◌/◌, ◌<◌, ◌^◌, ◌∙◌, ◌≡◌, ◌≤◌, ap, arith, inl, inr, neg_ℤ, negsuc, of_z, pos, suc, sym, to_z}
+use Rattle.std.proofs.Common.{◌*ℤ◌, ◌*◌, ◌+ℤ◌, ◌+◌, ◌-ℤ◌, ◌-◌, ◌/◌, ◌<◌, ◌^◌, ◌∙◌, ◌≡◌, ◌≤◌, ap, arith, neg_ℤ, negsuc, of_z, pos, suc, to_z}
 use Rattle.std.proofs.{Common.{unsigned_abs, w64, ℕ, ℤ}, Math.{IntN.{negsuc-*ℤ-pos, pos-*ℤ-pos}, Nat.{div-div-eq-div-mul, mul-le-mul_right}}}
 use Rattle.std.{proofs.lemmas.{Bool.cases_lt, Grind.div_ceil_times, Int.{fits_signed_from_abs, ints, to_z-of_z, to_z_pos}}, specs.Int.div_ceil}
 use Rattle.drift_clock.specs.{Counts.{gain, rounded}, Segment.counted, SegmentLaws.gain_near}
@@ -29,9 +29,7 @@ with_drift (negsuc m) n base x slow short much is =
 without_drift : (r : ℤ) (n base : ℕ) (x : ℤ) → unsigned_abs r ≤ 1000000 → n < 2 ^ 42 → 4400000000000000000 ≤ base → x ≡ pos base -ℤ (r *ℤ pos n)
     → unsigned_abs x + gain r * n ≡ base + 1000000000 * n
 without_drift (pos m) n base x slow short much is =
-    let most = times_small m n slow short in
-    let x_is : x ≡ pos base -ℤ pos (m * n) = is ∙ ap (λ (z : ℤ). pos base -ℤ z) (pos-*ℤ-pos m n) in
-    omega (arith, ints, x_is, most, much)
+    grind (arith, times_small, pos-*ℤ-pos, ints)
 without_drift (negsuc m) n base x slow short much is =
     let g = gain (negsuc m) in
     let g_is : g + suc m ≡ 1000000000 = omega (arith, ints, slow) in
@@ -52,12 +50,7 @@ pub parts_read : (r : ℤ) (n part : ℕ) (d : ℤ) → unsigned_abs r ≤ 10000
     → unsigned_abs (to_z w64 (of_z w64 (to_z w64 (4500000000000000000 + part) +ℤ to_z w64 (of_z w64 d)))) + 1000000000 * n
     ≡ 4500000000000000000 + part + gain r * n
 parts_read r n part d slow short less is small =
-    let base : ℕ = 4500000000000000000 + part in
-    let read : to_z w64 base +ℤ to_z w64 (of_z w64 d) ≡ pos base +ℤ d = ap (λ (z : ℤ). z +ℤ to_z w64 (of_z w64 d)) (pos_read base (omega (arith, less)))
-    ∙ ap (λ (z : ℤ). pos base +ℤ z) (reads d (omega (arith, small))) in
-    let whole : to_z w64 (of_z w64 (to_z w64 base +ℤ to_z w64 (of_z w64 d))) ≡ pos base +ℤ (r *ℤ pos n) = ap (λ (z : ℤ). to_z w64 (of_z w64 z)) read
-    ∙ reads (pos base +ℤ d) (omega (arith, ints, less, small)) ∙ ap (λ (z : ℤ). pos base +ℤ z) is in
-    with_drift r n base _ slow short (omega arith) whole
+    grind (arith, to_z, w64, of_z, pos_read, reads, ints, with_drift)
 
 pub lack_read : (r : ℤ) (n part each : ℕ) (d : ℤ) → unsigned_abs r ≤ 1000000 → n < 2 ^ 42 → part < 1000000000 → each ≡ gain r → d ≡ r *ℤ pos n
     → unsigned_abs d ≤ 4400000000000000000
@@ -84,16 +77,7 @@ lack_read r n part each d slow short less each_is is small =
 -- a quotient rounded up is the one that is just enough
 one_ceiling : (x g q : ℕ) → 0 < g → x ≤ q * g → q * g < x + g → q ≡ div_ceil x g
 one_ceiling x g q some enough least =
-    let times : (x ≤ div_ceil x g * g) × (div_ceil x g * g < x + g) = div_ceil_times x g some in
-    let low = times.0 in
-    let high = times.1 in
-    elim (cases_lt q (div_ceil x g)) [
-      | inl lt ↦ let more : (q + 1) * g ≤ div_ceil x g * g = mul-le-mul_right g (omega (arith, lt)) in absurd (omega (arith, more, high, enough))
-      | inr ge ↦ elim (cases_lt (div_ceil x g) q) [
-        | inl lt ↦ let more : (div_ceil x g + 1) * g ≤ q * g = mul-le-mul_right g (omega (arith, lt)) in absurd (omega (arith, more, low, least))
-        | inr le ↦ omega (arith, ge, le)
-      ]
-    ]
+    grind (arith, div_ceil_times, cases_lt, mul-le-mul_right)
 
 -- fewer steps by as many as the shift has more
 pub shifted_ceiling : (x y g m s d : ℕ) → 0 < g → d ≡ div_ceil x g → x + g * m ≡ y + g * s → m + d ≡ div_ceil y g + s
@@ -113,17 +97,8 @@ shifted_ceiling x y g m s d some is same =
         let whole = one_ceiling (y + g * s) g (div_ceil y g + s) some (omega (arith, low)) (omega (arith, high)) in
         omega (arith, whole)
 
--- at rate 0 each unit takes one step
-pub no_drift : (whole part goal : ℕ) → part < 1000000000 → counted whole part ≤ 1000000000 * goal
-    → goal - whole ≡ div_ceil (1000000000 * goal - counted whole part) 1000000000
-no_drift whole part goal less ahead =
-    one_ceiling (1000000000 * goal - counted whole part) 1000000000 (goal - whole) (omega arith) (omega (arith, ahead)) (omega (arith, less, ahead))
-
 -- ---- whole units in whole grains
 
 pub whole_grains : (grain whole part : ℕ) → part < 1000000000 → rounded grain (counted whole part) ≡ grain * (whole / grain)
 whole_grains grain whole part less =
-    let units : counted whole part / 1000000000 ≡ whole = omega (arith, less) in
-    let comm : grain * 1000000000 ≡ 1000000000 * grain = omega arith in
-    ap (λ (n : ℕ). grain * (counted whole part / n)) comm
-    ∙ ap (λ (n : ℕ). grain * n) (sym (div-div-eq-div-mul (counted whole part) 1000000000 grain) ∙ ap (λ (n : ℕ). n / grain) units)
+    grind (arith, div-div-eq-div-mul)

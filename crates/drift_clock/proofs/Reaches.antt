@@ -11,11 +11,7 @@ pub record IsReachFrom (reading : ℕ → ℕ) (from v t : ℕ) : Type 0 where
   pub not_before : (x : ℕ) → from ≤ x → x < t → reading x < v
 
 pub reach_from : (reading : ℕ → ℕ) (from v : ℤ) (s n t : ℕ) → from ≡ pos s → v ≡ pos n → IsReachFrom reading s n t → IsReach reading from v (pos t)
-reach_from reading from v s n t from_is v_is r = record {
-  from_on = omega (arith, ints, r.from_on);
-  reached = omega (arith, ints, r.reached);
-  not_before = λ x after before. let short = r.not_before x (omega (arith, ints, after)) (omega (arith, ints, before)) in omega (arith, ints, short);
-}
+reach_from reading from v s n t from_is v_is r = grind (arith, ints)
 
 ceil_from : (x g q d : ℕ) → d ≡ q → (x ≤ q * g) × (q * g < x + g) → (x ≤ g * d) × (g * d < x + g)
 ceil_from x g q d e h = rw e (omega (arith, h.0), omega (arith, h.1))
@@ -32,13 +28,7 @@ pub record IsCounted (c : Segment) (m t : ℕ) : Type 0 where
 counts_up : (at count g m d : ℕ) → 0 < g → count ≤ 10 ^ 9 * m → d ≡ div_ceil (10 ^ 9 * m - count) g
     → (10 ^ 9 * m ≤ count + g * ((at + d) - at)) × ((x : ℕ) → at ≤ x → x < at + d → count + g * (x - at) < 10 ^ 9 * m)
 counts_up at count g m d fast ahead steps =
-    let times = ceiling (10 ^ 9 * m - count) g d fast steps in
-    let same : (at + d) - at ≡ d = omega arith in (
-      rw same (omega (arith, times.0)),
-      λ x after before.
-          let fewer : g * ((x - at) + 1) ≤ g * d = mul-le-mul_left g (omega arith) in
-          omega (arith, times.1),
-    )
+    grind (arith, ceiling, mul-le-mul_left)
 
 pub segment_counts_up : (c : Segment) (m d : ℕ) → 0 < gain c.rate → c.count ≤ 10 ^ 9 * m → d ≡ div_ceil (10 ^ 9 * m - c.count) (gain c.rate)
     → IsCounted c m (c.at + d)
@@ -47,10 +37,7 @@ segment_counts_up c m d fast ahead steps = let up = counts_up c.at c.count (gain
 -- a reading below n has a count below m, the next whole grain
 pub ahead : (c : Segment) (s n m : ℕ) → 1 ≤ c.grain → m % c.grain ≡ 0 → n ≤ m → segment_reading c s < n → segment_count c s < 10 ^ 9 * m
 ahead c s n m some whole enough short =
-    elim (cases_lt (segment_count c s) (10 ^ 9 * m)) [
-      | inl lt ↦ lt
-      | inr ge ↦ let up = le-rounded c.grain n m (segment_count c s) some whole enough ge in absurd (omega (arith, up))
-    ]
+    grind (arith, cases_lt, le-rounded)
 
 grows : (n g a b : ℕ) → a ≤ b → n + g * a ≤ n + g * b
 grows n g a b le = omega (arith, mul-le-mul_left g le)
@@ -75,22 +62,7 @@ segment_reaches c s n m t some whole enough least after short counted = record {
 pub steady_reaches : (grain s n m : ℕ) → 1 ≤ grain → m % grain ≡ 0 → n ≤ m → m < n + grain → grain * (s / grain) < n
     → IsReachFrom (λ t. grain * (t / grain)) s n m
 steady_reaches grain s n m some whole enough least short =
-    let grains : grain * (m / grain) ≡ m = omega arith in
-    record {
-      from_on =
-          elim (cases_lt m s) [
-            | inr ge ↦ ge
-            | inl lt ↦
-                let more : m / grain ≤ s / grain = le-div (m / grain) s grain some (omega arith) in
-                absurd (omega (arith, mul-le-mul_left grain more))
-          ];
-      reached = omega arith;
-      not_before = λ x from_x x_before.
-          let low : grain * (x / grain) ≤ x = mul-div-le x grain in
-          let fewer : x / grain < m / grain = lt_of_mul-lt-mul_left grain (omega arith) in
-          let step : grain * (x / grain + 1) ≤ grain * (m / grain) = mul-le-mul_left grain (omega arith) in
-          omega arith;
-    }
+    grind (arith, cases_lt, le-div, mul-le-mul_left, mul-div-le, lt_of_mul-lt-mul_left)
 
 -- a reading comes to a value but once
 pub one_reach : (reading : ℕ → ℕ) (from v : ℤ) (u t : ℕ) → IsReach reading from v (pos u) → IsReach reading from v (pos t) → u ≡ t

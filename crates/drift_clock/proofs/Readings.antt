@@ -120,13 +120,14 @@ count_at_zero : {C : Type 0} (after_step : C → ℕ → ℤ → C) (count : C �
     (steps : List RateStep) → reading_at after_step count c steps 0 ≡ count c 0
 count_at_zero after_step count keeps c [] = refl
 count_at_zero after_step count keeps c (s ∷ steps) =
-    elim (cases_lt 0 s.at) [
-      | inl later ↦ ap (λ xs. count (value_after after_step c xs) 0) (up_to-late 0 s steps later) ∙ count_at_zero after_step count keeps c steps
-      | inr now ↦
-          let same : s.at ≡ 0 = omega arith in
-          let here : count (after_step c s.at s.rate) 0 ≡ count c 0 = rw same (keeps c 0 s.rate) in
-          reading_at-cons after_step count c s steps 0 now ∙ count_at_zero after_step count keeps (after_step c s.at s.rate) steps ∙ here
-    ]
+    grind (
+      arith,
+      cases_lt,
+      up_to-late,
+      reading_at-cons,
+      (count_at_zero after_step count keeps c steps),
+      (count_at_zero after_step count keeps (after_step c s.at s.rate) steps),
+    )
 
 pub begins_at_zero : {C : Type 0} (fresh : ℕ → C) (after_step : C → ℕ → ℤ → C) (reading : C → ℕ → ℕ) (grain : C → ℕ) (count : C → ℕ → ℕ)
     → IsLawful fresh after_step reading grain count → AlwaysBeginsAtZero fresh after_step reading

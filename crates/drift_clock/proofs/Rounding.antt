@@ -1,5 +1,5 @@
 -- A count rounded down to whole grains.
-use Rattle.std.proofs.Common.{◌%◌, ◌*◌, ◌+◌, ◌-◌, ◌/◌, ◌<◌, ◌^◌, ◌≡◌, ◌≤◌, arith, ℕ}
+use Rattle.std.proofs.Common.{◌%◌, ◌*◌, ◌+◌, ◌-◌, ◌<◌, ◌^◌, ◌≡◌, ◌≤◌, arith, ℕ}
 use Rattle.std.proofs.{Math.Nat.{lt-mul-div-succ, lt_of_mul-lt-mul_left, mul-div-le, mul-le-mul_left}, lemmas.Nat.le-div}
 use Rattle.drift_clock.specs.{ClockLaws.Measures, Counts.{Advances, rounded}}
 
@@ -18,27 +18,17 @@ lt-rounded grain x some =
 -- a count of at least m, in whole grains, is at least m rounded
 pub le-rounded : (grain n m x : ℕ) → 1 ≤ grain → m % grain ≡ 0 → n ≤ m → 10 ^ 9 * m ≤ x → n ≤ rounded grain x
 le-rounded grain n m x some whole small enough =
-    let positive : 0 < grain * 10 ^ 9 = omega arith in
-    let grains : grain * (m / grain) ≡ m = omega arith in
-    let at_least : m / grain ≤ x / (grain * 10 ^ 9) = le-div (m / grain) x (grain * 10 ^ 9) positive (omega arith) in
-    omega (arith, mul-le-mul_left grain at_least)
+    grind (arith, le-div, mul-le-mul_left)
 
 -- a count below m, the first whole grains from n on, is below n rounded
 pub rounded-lt : (grain n m x : ℕ) → 1 ≤ grain → m % grain ≡ 0 → m < n + grain → x < 10 ^ 9 * m → rounded grain x < n
 rounded-lt grain n m x some whole least short =
-    let grains : grain * (m / grain) ≡ m = omega arith in
-    let low = mul-div-le x (grain * 10 ^ 9) in
-    let fewer : x / (grain * 10 ^ 9) < m / grain = lt_of_mul-lt-mul_left (grain * 10 ^ 9) (omega (arith, low)) in
-    let step : grain * (x / (grain * 10 ^ 9) + 1) ≤ grain * (m / grain) = mul-le-mul_left grain (omega arith) in
-    omega arith
+    grind (arith, mul-div-le, lt_of_mul-lt-mul_left, mul-le-mul_left)
 
 -- more is not less when it is rounded
 pub rounded-mono : (grain a b : ℕ) → 1 ≤ grain → a ≤ b → rounded grain a ≤ rounded grain b
 rounded-mono grain a b some le =
-    let positive : 0 < grain * 10 ^ 9 = omega arith in
-    let low = mul-div-le a (grain * 10 ^ 9) in
-    let fewer : a / (grain * 10 ^ 9) ≤ b / (grain * 10 ^ 9) = le-div (a / (grain * 10 ^ 9)) b (grain * 10 ^ 9) positive (omega (arith, low)) in
-    mul-le-mul_left grain fewer
+    grind (arith, mul-div-le, le-div, mul-le-mul_left)
 
 apart : (rho grain d a b x y : ℕ) → Advances rho d a b → 10 ^ 9 * x ≤ a → a < 10 ^ 9 * x + grain * 10 ^ 9 → 10 ^ 9 * y ≤ b → b < 10 ^ 9 * y + grain * 10 ^ 9
     → x ≤ y → Measures rho grain d (y - x)

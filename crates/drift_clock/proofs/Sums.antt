@@ -1,6 +1,6 @@
 -- What a segment counts over its steps.
-use Rattle.std.{proofs.{Common.{◌*◌, ◌+◌, ◌-◌, ◌∙◌, ◌∷◌, ◌≡◌, List, [], ap, arith, refl, zero-add, ℕ}, lemmas.List.Sums.sum_by-cons}, specs.Prelude.sum_by}
-use Rattle.drift_clock.specs.{Counts.{ReadsCount, Stretch, count_of, gain, rounded, stretches}, RateSteps.{RateStep, up_to}, Readings.value_after}
+use Rattle.std.{proofs.{Common.{◌*◌, ◌+◌, ◌-◌, ◌∷◌, ◌≡◌, List, [], arith, refl, zero-add, ℕ}, lemmas.List.Sums.sum_by-cons}, specs.Prelude.sum_by}
+use Rattle.drift_clock.specs.{Counts.{ReadsCount, Stretch, gain, stretches}, RateSteps.RateStep, Readings.value_after}
 use Rattle.drift_clock.specs.Segment.{Segment, fresh_segment, segment_count, segment_reading, stepped_segment}
 
 abbrev weight : Stretch → ℕ
@@ -21,6 +21,4 @@ grain_stays c (s ∷ steps) = grain_stays (stepped_segment c s.at s.rate) steps
 
 pub reads_count : ReadsCount fresh_segment stepped_segment segment_reading
 reads_count grain steps t =
-    let value = value_after stepped_segment (fresh_segment grain) (up_to t steps) in
-    let count : segment_count value t ≡ count_of steps t = counts (fresh_segment grain) (up_to t steps) t ∙ zero-add _ in
-    ap (λ g. rounded g (segment_count value t)) (grain_stays (fresh_segment grain) (up_to t steps)) ∙ ap (rounded grain) count
+    grind (arith, counts, zero-add, grain_stays)

@@ -1,5 +1,5 @@
 -- The best frame of a channel after one more frame.
-use Rattle.std.proofs.Common.{◌++◌, ◌<ℤ◌, ◌<◌, ◌∙◌, ◌∷◌, ◌≡◌, ◌⊎◌, All, List, None, Option, Some, [], ap, append_assoc, arith, inl, inr, refl, subst, sym, ℕ, ℤ}
+use Rattle.std.proofs.Common.{◌++◌, ◌<ℤ◌, ◌<◌, ◌∙◌, ◌∷◌, ◌≡◌, ◌⊎◌, All, List, None, Option, Some, [], ap, append_assoc, arith, inl, inr, subst, sym, ℕ, ℤ}
 use Rattle.std.proofs.lemmas.{Bool.cases_order, Int.{by_lt_z, ints}, List.Elements.{All-append, All-cons, All-nil, All-push, All-weaker}}
 use Rattle.pcf_values.specs.declared.channel.Channel.{Channel}
 use Rattle.membership.specs.{BestFrame.{IsBehind, IsBest, IsBestOf, IsBetterOf, IsLevel}, Hearing.{Hearing, IsWithinOn, within_on}, Members.count_of}
@@ -12,16 +12,7 @@ IsNoBetter x y = IsBehind x y ⊎ IsLevel x y
 -- by the counts and the points alone
 behind_or_not : (m n : ℕ) (p q : ℤ) → (((n < m) ⊎ ((n ≡ m) × (q <ℤ p))) → ⊥) → ((m < n) ⊎ ((m ≡ n) × (p <ℤ q))) ⊎ ((m ≡ n) × (p ≡ q))
 behind_or_not m n p q not =
-    elim (cases_order m n) [
-      | inl same ↦
-          by_lt_z p q
-          (λ lt. inl (inr (same, lt)))
-          (λ le. by_lt_z q p
-          (λ gt. absurd (not (inr (sym same, gt))))
-          (λ ge. inr (same, omega (arith, ints, le, ge))))
-      | inr (inl lt) ↦ inl (inl lt)
-      | inr (inr gt) ↦ absurd (not (inl gt))
-    ]
+    grind (arith, cases_order, by_lt_z, ints)
 
 pub no_better : (x y : HeardFrame) → (IsBehind y x → ⊥) → IsNoBetter x y
 no_better x y not = behind_or_not (count_of x.members) (count_of y.members) x.point.0 y.point.0 not
@@ -74,13 +65,7 @@ all_no_better heard channel best later is step =
 pub best_after : (heard : List Hearing) (channel : Channel) (best : Option HeardFrame) (later frame : HeardFrame) → IsBetterOf best later frame
     → IsBestOf heard channel best → IsBest (heard ++ within_on channel later ∷ []) channel frame
 best_after heard channel None later frame same is =
-    subst (IsBest (heard ++ within_on channel later ∷ []) channel) (sym same) (record {
-      before = heard;
-      after = [];
-      is_heard = refl;
-      earlier = All-weaker (λ h. IsWithinOn channel h → ⊥) (λ h. IsWithinOn channel h → IsNoBetter h.frame later) (λ h f w. absurd (f w)) heard is;
-      later = All-nil (λ h. IsWithinOn channel h → IsBehind h.frame later);
-    })
+    grind (arith, All-weaker, All-nil)
 best_after heard channel (Some best) later frame (inl (behind, same)) is =
     let h : Hearing = within_on channel later in
     let it : Hearing = within_on channel best in
@@ -92,10 +77,4 @@ best_after heard channel (Some best) later frame (inl (behind, same)) is =
       later = All-push (λ x. IsWithinOn channel x → IsBehind x.frame best) is.after h is.later (λ w. behind);
     })
 best_after heard channel (Some best) later frame (inr (not_behind, same)) is =
-    subst (IsBest (heard ++ within_on channel later ∷ []) channel) (sym same) (record {
-      before = heard;
-      after = [];
-      is_heard = refl;
-      earlier = all_no_better heard channel best later is (no_better best later not_behind);
-      later = All-nil (λ h. IsWithinOn channel h → IsBehind h.frame later);
-    })
+    grind (arith, all_no_better, no_better, All-nil)

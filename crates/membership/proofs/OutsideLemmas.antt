@@ -1,5 +1,5 @@
 -- The members of the frames outside after one more frame.
-use Rattle.std.proofs.{Common.{◌++◌, ◌∙◌, ◌∷◌, ◌≡◌, Any, List, [], arith, false, inl, inr, true, ℕ}, lemmas.Bool.both_ways}
+use Rattle.std.proofs.{Common.{◌++◌, ◌∷◌, ◌≡◌, Any, List, [], arith, false, inl, inr, true, ℕ}, lemmas.Bool.both_ways}
 use Rattle.std.proofs.lemmas.List.{get_or_append_left, length-append, Quantifiers.Any-push}
 use Rattle.pcf_values.specs.declared.members.Members.{Members}
 use Rattle.tte_lemmas.proofs.Lists.{any_parts}
@@ -7,9 +7,7 @@ use Rattle.membership.{proofs.SetLemmas.union-members, specs.{Hearing.{Hearing, 
 
 pub Any-append_left : {X : Type 0} (P : X → Type 0) (xs ys : List X) → Any P xs → Any P (xs ++ ys)
 Any-append_left P xs ys any =
-    let k = any.0 in
-    let x = any.1 in
-    (k, x, omega (arith, any.2, length-append xs ys), get_or_append_left xs ys x k any.2 ∙ any.3, any.4)
+    grind (arith, length-append, get_or_append_left)
 
 -- it came outside its time, and the master is a member of it
 abbrev pub HasOutside : ℕ → Hearing → Type 0

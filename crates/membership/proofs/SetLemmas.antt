@@ -1,30 +1,14 @@
 -- Sets of masters by their bits.
-use Rattle.std.proofs.{Common.{◌^◌, ◌↔◌, ◌∙◌, ◌≡◌, ◌⊎◌, ap, arith, inl, inr, sym, ℕ}, lemmas.Bool.cases_eq}
+use Rattle.std.proofs.{Common.{◌↔◌, ◌∙◌, ◌≡◌, ◌⊎◌, ap, arith, inl, inr, sym, ℕ}, lemmas.Bool.cases_eq}
 use Rattle.std.{proofs.lemmas.Nat.Bits.{bit_at-lt, bit_at-pow_other, bit_at-pow_same, bit_at-zero, bit_at_or, same_from_bits}, specs.Int.bit_at}
 use Rattle.pcf_values.specs.declared.members.Members.{Members}
 use Rattle.membership.specs.Members.{IsMember, none, single, union}
 
 pub single-members : (k i : ℕ) → IsMember i (single k) ↔ (i ≡ k)
-single-members k i = (forth, λ (e : i ≡ k). ap (bit_at (2 ^ k)) e ∙ bit_at-pow_same k) where
-  forth : IsMember i (single k) → i ≡ k
-  forth set = elim (cases_eq i k) [
-    | inl same ↦ same
-    | inr other ↦ absurd (omega (arith, set, bit_at-pow_other k i other))
-  ]
+single-members k i = grind (arith, bit_at-pow_same, cases_eq, bit_at-pow_other)
 
 pub union-members : (a b : Members) (i : ℕ) → IsMember i (union a b) ↔ (IsMember i a ⊎ IsMember i b)
-union-members a b i = (forth, back) where
-  forth : IsMember i (union a b) → IsMember i a ⊎ IsMember i b
-  forth set =
-      let larger = bit_at_or a.0 b.0 i in
-      elim (cases_eq (bit_at a.0 i) 1) [
-        | inl here ↦ inl here
-        | inr other ↦ inr (omega (arith, set, larger, bit_at-lt a.0 i, bit_at-lt b.0 i))
-      ]
-
-  back : IsMember i a ⊎ IsMember i b → IsMember i (union a b)
-  back (inl here) = omega (arith, here, bit_at_or a.0 b.0 i, bit_at-lt a.0 i, bit_at-lt b.0 i)
-  back (inr here) = omega (arith, here, bit_at_or a.0 b.0 i, bit_at-lt a.0 i, bit_at-lt b.0 i)
+union-members a b i = grind (arith, bit_at_or, cases_eq, bit_at-lt)
 
 pub none-members : (i : ℕ) → IsMember i none → ⊥
 none-members i set = omega (arith, set, bit_at-zero i)

@@ -4,16 +4,10 @@ use Rattle.std.proofs.lemmas.{Bool.both_ways, List.{get_or_at, length-append, El
 use Rattle.pcf_values.specs.declared.channel.Channel.{Channel, TheVariants.{A, B}}
 use Rattle.membership.proofs.{BestLemmas.{best_after, best_stays}, OutsideLemmas.{outside_after, outside_stays}, SetLemmas.none-members}
 use Rattle.membership.specs.{BestFrame.{IsBestOf, IsBetterOf, NoneWithin}, Hearing.{Hearing, IsWithinOn, within_on}, Members.{none, union}}
-use Rattle.membership.specs.{Summary.{AreOutside, Summarizes, Summary, best_on, silence}, declared.frame.HeardFrame.HeardFrame}
+use Rattle.membership.specs.{Summary.{Summarizes, Summary, best_on, silence}, declared.frame.HeardFrame.HeardFrame}
 
 pub silence_summarizes : Summarizes silence []
-silence_summarizes = record { best = best; outside = outside } where
-  best : (channel : Channel) → IsBestOf [] channel (best_on channel silence)
-  best A = All-nil (λ h. IsWithinOn A h → ⊥)
-  best B = All-nil (λ h. IsWithinOn B h → ⊥)
-
-  outside : AreOutside [] none
-  outside i = (λ m. absurd (none-members i m), λ any. absurd (omega (arith, any.2)))
+silence_summarizes = grind (arith, All-nil, none-members)
 
 pub hears_outside : (s : Summary) (heard : List Hearing) (h : Hearing) → h.within ≡ false → Summarizes s heard
     → Summarizes (record { best_a = s.best_a; best_b = s.best_b; outside = union s.outside h.frame.members }) (heard ++ h ∷ [])

@@ -23,11 +23,7 @@ either_channel (Some B) A = inr (λ e. grind (arith, e))
 
 either_role : (b : Bool) (o : Option Channel) (c : Channel) → ((b ≡ true) ⊎ (o ≡ Some c)) ⊎ ((b ≡ true) ⊎ (o ≡ Some c) → ⊥)
 either_role true o c = inl (inl refl)
-either_role false o c = ⊎_elim
-    (λ (e : o ≡ Some c). let r : ((false ≡ true) ⊎ (o ≡ Some c)) ⊎ ((false ≡ true) ⊎ (o ≡ Some c) → ⊥) = inl (inr e) in r)
-    (λ (no : o ≡ Some c → ⊥). let r : ((false ≡ true) ⊎ (o ≡ Some c))
-    ⊎ ((false ≡ true) ⊎ (o ≡ Some c) → ⊥) = inr (λ h. ⊎_elim (λ (e : false ≡ true). let x : ⊥ = grind (arith, e) in x) no h) in r)
-    (either_channel o c)
+either_role false o c = grind (arith, ⊎_elim, either_channel)
 
 either_device : (o : Option Device) (c : Channel) → IsSomeAnd o (λ d. (is_end_system d.role ≡ true) ⊎ (d.channel ≡ Some c))
     ⊎ (IsSomeAnd o (λ d. (is_end_system d.role ≡ true) ⊎ (d.channel ≡ Some c)) → ⊥)

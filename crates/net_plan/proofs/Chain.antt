@@ -1,8 +1,8 @@
 -- Three switches in a chain are a tree.
-use Rattle.std.proofs.Common.{◌∙◌, ◌∷◌, ◌≡◌, ◌≤◌, ◌⊎◌, List, Option, Some, [], ap, arith, false, inl, inr, length, refl, subst, suc, sym, true, zero, ℕ, ⊎_elim}
+use Rattle.std.proofs.Common.{◌∷◌, ◌≡◌, ◌≤◌, ◌⊎◌, List, Some, [], ap, arith, false, inl, inr, length, refl, subst, suc, sym, true, zero, ℕ, ⊎_elim}
 use Rattle.std.{proofs.lemmas.Bool.false≢true, specs.{List.All, Prelude.{IsSomeAnd, slice_get}}}
 use Rattle.pcf_values.specs.declared.channel.Channel.{Channel, TheVariants.A}
-use Rattle.net_plan.specs.{Paths.{HasPath, IsPath, IsTree, IsUplink}, Places.{IsCmOf, IsDeviceOf, IsSwitchOf, is_end_system}, declared.ids.DeviceId.DeviceId}
+use Rattle.net_plan.specs.{Paths.{HasPath, IsPath, IsTree, IsUplink}, Places.{IsCmOf, IsDeviceOf, is_end_system}, declared.ids.DeviceId.DeviceId}
 use Rattle.net_plan.specs.declared.{ids.LinkId.LinkId, network.Network.Network, tables.{Device.Device, Link.Link, Role.{Role, TheVariants.{Cm, Relay}}}}
 
 -- the devices are two relays and the compression master of channel a, each linked to the next
@@ -41,27 +41,14 @@ of_three P x y z (suc (suc (suc i))) h = absurd h
 -- an uplink leads from the device of its own number
 same_number : (n : Network) (s : IsChain n) (c : Channel) (d : DeviceId) (link : LinkId) → IsUplink n c d link → (link.0 ≡ d.0) × (link.0 ≤ 1)
 same_number n s c d link u =
-    let h = subst (λ (xs : List Link). IsSomeAnd (slice_get xs link.0) (λ (l : Link). (l.child ≡ d) × IsSwitchOf n c l.parent)) s.links u in
-    ⊎_elim
-    (λ (f : (link.0 ≡ 0) × ((s.low.child ≡ d) × IsSwitchOf n c s.low.parent)). let e : s.low.child.0 ≡ d.0 = ap (λ (x : DeviceId). x.0)
-    f.1.0 in let r : (link.0 ≡ d.0) × (link.0 ≤ 1) = (omega (arith, f.0, e, s.low_child), omega (arith, f.0)) in r)
-    (λ (f : (link.0 ≡ 1) × ((s.high.child ≡ d) × IsSwitchOf n c s.high.parent)). let e : s.high.child.0 ≡ d.0 = ap (λ (x : DeviceId). x.0)
-    f.1.0 in let r : (link.0 ≡ d.0) × (link.0 ≤ 1) = (omega (arith, f.0, e, s.high_child), omega (arith, f.0)) in r)
-    (of_two (λ (l : Link). (l.child ≡ d) × IsSwitchOf n c l.parent) s.low s.high link.0 h)
+    grind (arith, ⊎_elim, of_two)
 
 no_cm : (r : Role) → r ≡ Relay → r ≡ Cm → ⊥
 no_cm r e h = grind (arith, e, h)
 
 cm_number : (n : Network) (s : IsChain n) (c : Channel) (d : DeviceId) → IsCmOf n c d → d.0 ≡ 2
 cm_number n s c d u =
-    let h = subst (λ (xs : List Device). IsSomeAnd (slice_get xs d.0) (λ (x : Device). (x.role ≡ Cm) × (x.channel ≡ Some c))) s.devices u in
-    ⊎_elim
-    (λ (f : (d.0 ≡ 0) × ((s.one.role ≡ Cm) × (s.one.channel ≡ Some c))). let r : d.0 ≡ 2 = absurd (no_cm s.one.role s.one_role f.1.0) in r)
-    (λ (g : ((d.0 ≡ 1) × ((s.two.role ≡ Cm) × (s.two.channel ≡ Some c))) ⊎ ((d.0 ≡ 2) × ((s.cm.role ≡ Cm) × (s.cm.channel ≡ Some c)))). ⊎_elim
-    (λ (f : (d.0 ≡ 1) × ((s.two.role ≡ Cm) × (s.two.channel ≡ Some c))). let r : d.0 ≡ 2 = absurd (no_cm s.two.role s.two_role f.1.0) in r)
-    (λ (f : (d.0 ≡ 2) × ((s.cm.role ≡ Cm) × (s.cm.channel ≡ Some c))). f.0)
-    g)
-    (of_three (λ (x : Device). (x.role ≡ Cm) × (x.channel ≡ Some c)) s.one s.two s.cm d.0 h)
+    grind (arith, ⊎_elim, no_cm, of_three)
 
 some_at : {X : Type 0} (P : X → Type 0) (xs ys : List X) (i : ℕ) → xs ≡ ys → IsSomeAnd (slice_get ys i) P → IsSomeAnd (slice_get xs i) P
 some_at P xs ys i e h = subst (λ (zs : List _). IsSomeAnd (slice_get zs i) P) (sym e) h
@@ -71,29 +58,14 @@ top : (n : Network) (s : IsChain n) → IsPath n A (record { 0 = 2 }) []
 top n s = some_at (λ (x : Device). (x.role ≡ Cm) × (x.channel ≡ Some A)) n.device (s.one ∷ s.two ∷ s.cm ∷ []) 2 s.devices (s.cm_role, s.cm_channel)
 
 middle : (n : Network) (s : IsChain n) → IsPath n A (record { 0 = 1 }) (record { 0 = 1 } ∷ [])
-middle n s = some_at (λ (l : Link). (l.child ≡ record { 0 = 1 }) × IsSwitchOf n A l.parent × IsPath n A l.parent []) n.link (s.low ∷ s.high ∷ []) 1 s.links (
-  ap (λ (i : ℕ). let d : DeviceId = record { 0 = i } in d) s.high_child,
-  subst (λ (i : ℕ). IsSwitchOf n A (record { 0 = i })) (sym s.high_parent) (some_at (λ (x : Device). x.channel ≡ Some A) n.device (s.one ∷ s.two ∷ s.cm ∷ []) 2
-      s.devices s.cm_channel),
-  subst (λ (i : ℕ). IsPath n A (record { 0 = i }) []) (sym s.high_parent) (top n s),
-)
+middle n s = grind (arith, some_at, top)
 
 bottom : (n : Network) (s : IsChain n) → IsPath n A (record { 0 = 0 }) (record { 0 = 0 } ∷ record { 0 = 1 } ∷ [])
 bottom n s =
-    some_at (λ (l : Link). (l.child ≡ record { 0 = 0 }) × IsSwitchOf n A l.parent × IsPath n A l.parent (record { 0 = 1 } ∷ [])) n.link (s.low ∷ s.high ∷ []) 0
-    s.links (
-      ap (λ (i : ℕ). let d : DeviceId = record { 0 = i } in d) s.low_child,
-      subst (λ (i : ℕ). IsSwitchOf n A (record { 0 = i })) (sym s.low_parent)
-          (some_at (λ (x : Device). x.channel ≡ Some A) n.device (s.one ∷ s.two ∷ s.cm ∷ []) 1
-          s.devices s.two_channel),
-      subst (λ (i : ℕ). IsPath n A (record { 0 = i }) (record { 0 = 1 } ∷ [])) (sym s.low_parent) (middle n s),
-    )
+    grind (arith, some_at, middle)
 
 on_a : (x : Device) (c : Channel) → is_end_system x.role ≡ false → x.channel ≡ Some A → (is_end_system x.role ≡ true) ⊎ (x.channel ≡ Some c) → A ≡ c
-on_a x c switch at h = ⊎_elim
-    (λ (e : is_end_system x.role ≡ true). let r : A ≡ c = absurd (false≢true (sym switch ∙ e)) in r)
-    (λ (e : x.channel ≡ Some c). ap (λ (o : Option Channel). Rattle.std.specs.Prelude.unwrap_or o A) (sym at ∙ e))
-    h
+on_a x c switch at h = grind (arith, ⊎_elim, false≢true)
 
 path_at : (n : Network) (c : Channel) (d : DeviceId) (i : ℕ) (links : List LinkId) → d.0 ≡ i → A ≡ c → length links ≤ 8 → IsPath n A (record { 0 = i }) links
     → HasPath n c d
@@ -116,12 +88,7 @@ reach n s c d u =
     (of_three (λ (x : Device). (is_end_system x.role ≡ true) ⊎ (x.channel ≡ Some c)) s.one s.two s.cm d.0 h)
 
 pub chain_is_tree : (n : Network) → IsChain n → IsTree n
-chain_is_tree n s = record {
-  root = λ c cm link h u. let a = same_number n s c cm link u in omega (arith, a.0, a.1, cm_number n s c cm h);
-  one_uplink =
-      λ c d link other u v. ap (λ (i : ℕ). let l : LinkId = record { 0 = i } in l) ((same_number n s c d link u).0 ∙ sym (same_number n s c d other v).0);
-  reach = reach n s;
-}
+chain_is_tree n s = grind (arith, same_number, cm_number, reach)
 
 -- each element of a short list
 pub all_two : {X : Type 0} (P : X → Type 0) (x y : X) → P x → P y → All P (x ∷ y ∷ [])

@@ -9,9 +9,7 @@ use Rattle.net_plan.specs.{Places.{IsDeviceOf, device_at, is_end_system}, declar
 -- no two numbers are the greatest
 pub greatest_is_unique : (Has : ℕ → Type 0) (m n : ℕ) → IsGreatest Has m → IsGreatest Has n → m ≡ n
 greatest_is_unique Has m n g h =
-    let up = ⊎_elim (λ (z : m ≡ 0). let r : m ≤ n = omega (arith, z) in r) (λ (x : Has m). h.most m x) g.reached in
-    let down = ⊎_elim (λ (z : n ≡ 0). let r : n ≤ m = omega (arith, z) in r) (λ (x : Has n). g.most n x) h.reached in
-    omega (arith, up, down)
+    grind (arith, ⊎_elim)
 
 -- the greatest of one number, and of none
 pub greatest_of_one : (Has : ℕ → Type 0) (m : ℕ) → Has m → ((n : ℕ) → Has n → n ≡ m) → IsGreatest Has m
@@ -29,17 +27,7 @@ max_right m n h = omega arith
 -- the greatest of two kinds together
 pub greatest_of_both : (P Q R : ℕ → Type 0) (a b : ℕ) → IsGreatest P a → IsGreatest Q b → ((n : ℕ) → R n → P n ⊎ Q n) → ((n : ℕ) → P n → R n)
     → ((n : ℕ) → Q n → R n) → IsGreatest R (max a b)
-greatest_of_both P Q R a b g h split left right = record {
-  most =
-      λ n r. ⊎_elim (λ (p : P n). let s : n ≤ max a b = omega (arith, g.most n p) in s) (λ (q : Q n). let s : n ≤ max a b = omega (arith, h.most n q) in s)
-      (split n r);
-  reached = ⊎_elim
-      (λ (l : b < a). let e = max_left a b (omega (arith, l)) in subst (λ (m : ℕ). (m ≡ 0) ⊎ R m) (sym e)
-      (⊎_elim (λ (z : a ≡ 0). let r : (a ≡ 0) ⊎ R a = inl z in r) (λ (p : P a). let r : (a ≡ 0) ⊎ R a = inr (left a p) in r) g.reached))
-      (λ (l : a ≤ b). let e = max_right a b l in subst (λ (m : ℕ). (m ≡ 0) ⊎ R m) (sym e)
-      (⊎_elim (λ (z : b ≡ 0). let r : (b ≡ 0) ⊎ R b = inl z in r) (λ (q : Q b). let r : (b ≡ 0) ⊎ R b = inr (right b q) in r) h.reached))
-      (cases_lt b a);
-}
+greatest_of_both P Q R a b g h split left right = grind (arith, ⊎_elim, max, max_left, max_right, cases_lt)
 
 -- the measure of a path of one of the first devices
 abbrev pub IsOfPathBelow : Network → Channel → ℕ → (List LinkId → ℕ) → ℕ → Type 0

@@ -1,9 +1,9 @@
 -- The rules of a network's shape make its links a tree on each channel.
-use Rattle.std.proofs.{Common.{◌∙◌, ◌∷◌, ◌≡◌, List, Some, [], arith, subst, sym, true, ⊎_elim}, lemmas.Bool.false≢true}
+use Rattle.std.proofs.{Common.{◌∙◌, ◌∷◌, ◌≡◌, List, [], arith, subst, sym, true, ⊎_elim}, lemmas.Bool.false≢true}
 use Rattle.pcf_values.specs.declared.channel.Channel.{Channel}
 use Rattle.tte_lemmas.proofs.Options.{at_known, closed, opened}
 use Rattle.net_plan.specs.Paths.{HasPath, IsFirstPath, IsPath, IsUplink, LeadsToCm}
-use Rattle.net_plan.specs.Places.{IsCmOf, IsEndSystem, IsRoleOf, IsSwitchOf, device_at, is_end_system, link_at}
+use Rattle.net_plan.specs.Places.{IsCmOf, IsEndSystem, IsRoleOf, IsSwitchOf, is_end_system, link_at}
 use Rattle.net_plan.specs.{Rules.{IsChildOf, KeepsShapeRules, RulesGiveTrees}, declared.{ids.{DeviceId.DeviceId, LinkId.LinkId}, network.Network.Network}}
 use Rattle.net_plan.specs.declared.tables.{Device.Device, Link.Link, Role.{Role, TheVariants.{Cm, Relay}}}
 
@@ -16,16 +16,7 @@ cm_is_no_relay r e h = grind (arith, e, h)
 
 root : (n : Network) → KeepsShapeRules n → (c : Channel) (cm : DeviceId) (link : LinkId) → IsCmOf n c cm → IsUplink n c cm link → ⊥
 root n keeps c cm link h u =
-    let l = opened (λ (x : Link). (x.child ≡ cm) × IsSwitchOf n c x.parent) (link_at n link) u in
-    let j = keeps.joins link.0 l.0 l.1 in
-    let d = opened (λ (x : Device). (x.role ≡ Cm) × (x.channel ≡ Some c)) (device_at n cm) h in
-    ⊎_elim
-    (λ (e : IsEndSystem n l.0.child). cm_is_no_end d.0.role d.2.0
-    (at_known (λ (x : Device). is_end_system x.role ≡ true) (device_at n cm) d.0 d.1 (subst (λ (i : DeviceId). IsEndSystem n i) l.2.0 e)))
-    (λ (r : IsRoleOf n Relay j.0 l.0.child). cm_is_no_relay d.0.role d.2.0
-    (at_known (λ (x : Device). (x.role ≡ Relay) × (x.channel ≡ Some j.0)) (device_at n cm) d.0 d.1
-    (subst (λ (i : DeviceId). IsRoleOf n Relay j.0 i) l.2.0 r)).0)
-    j.2
+    grind (arith, opened, ⊎_elim, cm_is_no_end, at_known, cm_is_no_relay)
 
 pub child_of : (n : Network) (c : Channel) (d : DeviceId) (link : LinkId) → IsUplink n c d link → IsChildOf n d link
 child_of n c d link u =

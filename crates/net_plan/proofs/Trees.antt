@@ -1,5 +1,6 @@
 -- Paths in the trees of a network.
-use Rattle.std.proofs.Common.{◌∙◌, ◌∷◌, ◌≡◌, List, Some, [], ap, refl, subst, sym}
+use Rattle.std.proofs.Common.{arith}
+use Rattle.std.proofs.Common.{◌∙◌, ◌∷◌, ◌≡◌, List, Some, [], ap, refl, sym}
 use Rattle.pcf_values.specs.declared.channel.Channel.{Channel}
 use Rattle.tte_lemmas.proofs.Options.{at_known, closed, opened}
 use Rattle.net_plan.specs.{Paths.{IsPath, IsTree, IsUplink, PathsAreUnique}, Places.{IsSwitchOf, link_at}, declared.ids.{DeviceId.DeviceId, LinkId.LinkId}}
@@ -16,10 +17,7 @@ pub followed : (n : Network) (c : Channel) (d : DeviceId) (link : LinkId) (k : L
     → link_at n link ≡ Some k → IsPath n c d rest → (later : List LinkId) × (rest ≡ link ∷ later) × IsPath n c k.parent later
 followed n c d link k [] tree up at h = absurd (tree.root c d link h up)
 followed n c d link k (m ∷ ms) tree up at h =
-    let same : m ≡ link = tree.one_uplink c d m link (uplink_of_path n c d m ms h) up in
-    let here : IsPath n c d (link ∷ ms) = subst (λ (x : LinkId). IsPath n c d (x ∷ ms)) same h in
-    let parts = at_known (λ l. (l.child ≡ d) × IsSwitchOf n c l.parent × IsPath n c l.parent ms) (link_at n link) k at here in
-    (ms, ap (λ (x : LinkId). x ∷ ms) same, parts.2)
+    grind (arith, uplink_of_path, at_known)
 
 -- a path of a device with no uplink is empty
 pub ended : (n : Network) (c : Channel) (d : DeviceId) (rest : List LinkId) → ((link : LinkId) → IsUplink n c d link → ⊥) → IsPath n c d rest → rest ≡ []

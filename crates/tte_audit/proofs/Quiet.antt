@@ -2,24 +2,7 @@
 use Rattle.tte_audit.proofs.Words.{◌++◌, ◌+◌, ◌∷◌, ◌≡◌, AreTold, Bool, Event, Follows, List, MayCome, Network, Note, NoteBody, Units, [], events_of, false}
 use Rattle.tte_audit.proofs.Words.{is_some, refl, subst, sym, true, with_event}
 use Rattle.tte_audit.{proofs.Telling.{fault_stays, followed, goes_on}, specs.{Report.HasNoEvent, declared.passes.Told.Told}}
-use Rattle.plain_notes.specs.{Bodies.body_of, declared.bodies.Kind.Kind}
 use Rattle.run_law.specs.declared.note.NoteBody.TheVariants as bodies
-use Rattle.plain_notes.specs.declared.bodies.Kind.TheVariants as plain
-
-pub plain_quiet : (kind : Kind) → HasNoEvent (body_of kind)
-plain_quiet (plain.Arrived device link cause clock) = tt
-plain_quiet (plain.Permanent device link cause point verdict) = tt
-plain_quiet (plain.Compressed device opened at cycle members verdict) = tt
-plain_quiet (plain.Sent device cycle) = tt
-plain_quiet (plain.Corrected device cycle by adjustment) = tt
-plain_quiet (plain.State device state cause why) = tt
-plain_quiet (plain.Left device link cause clock) = tt
-plain_quiet (plain.Lost device link cause) = tt
-plain_quiet (plain.TtSent device link cause vl cycle) = tt
-plain_quiet (plain.Accepted device link cause vl cycle) = tt
-plain_quiet (plain.Delivered device link cause vl cycle) = tt
-plain_quiet (plain.Dropped device link cause reason) = tt
-plain_quiet (plain.Clock device reading adjustment state) = tt
 
 -- it may come, and adds no event
 pub record GoesBy (network : Network) (befallen : List Event) (time : Units) (body : NoteBody) : Type 0 where
