@@ -1,10 +1,9 @@
 -- How long the same is shown.
-use Rattle.audit_devices.proofs.Words.{◌+◌, ◌<◌, ◌==◌, ◌∙◌, ◌∷◌, ◌≡◌, ◌≤◌, [], Bool, Entry, History, IsPartitionPoint, IsPartitionedBy, List, None}
-use Rattle.audit_devices.proofs.Words.{Option, Shown, Some, ap, arith, false, filter, got_within, is_before, last_or, length, nat_lt, option_map_or, refl}
-use Rattle.audit_devices.proofs.Words.{slice_get, sym, take, time_at, true, ℕ}
+use Rattle.audit_devices.{proofs.{Partitions.kept_front, Words.{take, time_at, true, ℕ}}, specs.{Keeping.IsInOrder, Lasting.{IsUpTo, Lasts}}}
+use Rattle.audit_devices.proofs.Words.{◌+◌, ◌<◌, ◌==◌, ◌∙◌, ◌∷◌, ◌≡◌, ◌≤◌, Bool, Entry, History, IsPartitionPoint, IsPartitionedBy, List, None, Option, Shown}
+use Rattle.audit_devices.proofs.Words.{Some, [], ap, arith, false, filter, got_within, is_before, last_or, length, nat_lt, option_map_or, refl, slice_get, sym}
 use Rattle.std.{proofs.{Common.get_or, lemmas.{Bool.{le-leb, leb-false, leb-true, lt-ltb, ltb-true}, Option.slice_get-get_or}}, specs.Prelude.nat_le}
 use Rattle.tte_lemmas.proofs.Bools.{no_more}
-use Rattle.audit_devices.{proofs.Partitions.kept_front, specs.{Keeping.IsInOrder, Lasting.{IsUpTo, Lasts}}}
 
 -- a place is before all records of a later time than the first exactly where it is of an earlier time
 pub by_time : (place : List ℕ) (t : ℕ) → 0 < t → is_before place (t ∷ []) ≡ nat_lt (time_at place) t

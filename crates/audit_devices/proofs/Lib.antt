@@ -1,3 +1,4 @@
+pub mod law_lemmas
 pub mod events_lemmas
 pub mod Tells
 pub mod Steps

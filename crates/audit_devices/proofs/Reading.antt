@@ -4,7 +4,7 @@ use Rattle.audit_devices.proofs.Words.{Hears, IsIn, Joins, List, None, NoneLater
 use Rattle.audit_devices.proofs.Words.{arith, changes_adjustment, effect_of, false, filter, filter_map, heard_at, heard_by_then, hearing_by, inl, inr}
 use Rattle.audit_devices.proofs.Words.{is_joined_by, last_or, nat_lt, option_map_or, points_by, pos, refl, subst, sym, time_of, true, ℕ, ℤ}
 use Rattle.std.{proofs.lemmas.Bool.ltb-false, specs.Prelude.fold}
-use Rattle.audit_law.specs.CorrectionNumbers.{heard_since_point, next_number, points_come}
+use Rattle.audit_devices.specs.law.CorrectionNumbers.{heard_since_point, next_number, points_come}
 use Rattle.membership.proofs.SummaryLemmas.{silence_summarizes}
 use Rattle.run_law.{proofs.records.Order.{after_same, same_kept}, specs.control.Corrections.recorded_cycle}
 use Rattle.run_law.specs.{device.States.{adjustment_after, adjustment_at_hearing}, records.Happenings.earlier}

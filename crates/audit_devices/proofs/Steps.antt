@@ -1,17 +1,16 @@
 -- What the records show of a device, with one more record.
-use Rattle.audit_devices.proofs.Words.{if◌then◌else◌, ◌&&◌, ◌++◌, ◌+ℤ◌, ◌+◌, ◌-◌, ◌<◌, ◌==◌, ◌||◌, ◌∙◌, ◌∷◌, ◌≡◌, ◌≤◌, Bool, Corrects, DeviceId, Effect}
-use Rattle.audit_devices.proofs.Words.{Happening, IsIn, Joins, List, None, NoneLater, Nothing, Scenario, Shown, Shows, Some, Summarizes, Turns}
-use Rattle.audit_devices.proofs.Words.{Units, [], ap, arith, cases_lt, changes_adjustment, cons_option, effect_of, false, filter, filter_map, heard_at}
-use Rattle.audit_devices.proofs.Words.{hearing_by, inl, inr, is_joined_by, last_or, ne_eqb, option_map_or, points_by, pos, refl, silence, subst, sym, time_of}
-use Rattle.audit_devices.proofs.Words.{true, ℕ, ℤ}
+use Rattle.audit_devices.{proofs.Tells.{Tells, adjustment_by, cycle_by, joins_by, state_by, tells}, specs.Showing.{last_change, last_joining}}
+use Rattle.audit_devices.proofs.Words.{◌&&◌, ◌++◌, ◌+ℤ◌, ◌+◌, ◌-◌, ◌<◌, ◌==◌, ◌||◌, ◌∙◌, ◌∷◌, ◌≡◌, ◌≤◌, Bool, Corrects, DeviceId, Effect, Happening, IsIn}
+use Rattle.audit_devices.proofs.Words.{Joins, List, None, NoneLater, Nothing, Scenario, Shown, Shows, Some, Summarizes, Turns, Units, [], ap, arith, cases_lt}
+use Rattle.audit_devices.proofs.Words.{changes_adjustment, cons_option, effect_of, false, filter, filter_map, heard_at, hearing_by, if◌then◌else◌, inl, inr}
+use Rattle.audit_devices.proofs.Words.{is_joined_by, last_or, ne_eqb, option_map_or, points_by, pos, refl, silence, subst, sym, time_of, true, ℕ, ℤ}
+use Rattle.audit_devices.specs.Following.{changed_to, joined_to}
 use Rattle.std.proofs.lemmas.{Bool.eq-eqb, List.{append-nil, Elements.{filter-append, filter_map-append}, Folds.list_any-append, Sums.fold-append}}
 use Rattle.run_law.proofs.{records.Order.after_more, runs.Places.{in_left, in_right}}
 use Rattle.run_law.specs.control.Corrections.{cycle_after, integration_cycle, recorded_cycle}
 use Rattle.run_law.specs.device.States.{adjustment_after, adjustment_with, cycle_in, has_joined_at, joined_adjustment, state_after, state_with}
 use Rattle.sync_state.specs.declared.state.State.{State}
 use Rattle.tte_lemmas.proofs.{Bools.no_more as none_more, Lists.{after_one, filter_off, filter_on, last_pushed}}
-use Rattle.audit_devices.{proofs.Tells.{Tells, adjustment_by, cycle_by, joins_by, state_by, tells}, specs.Following.{changed_to, joined_to}}
-use Rattle.audit_devices.specs.Showing.{last_change, last_joining}
 
 -- the records, and one more
 abbrev pub with_one : List Happening → Happening → List Happening

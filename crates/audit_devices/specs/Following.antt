@@ -7,9 +7,8 @@ use Rattle.run_law.specs.scenario.{Devices.plan_of, Scenarios.Scenario}
 use Rattle.sync_state.specs.{Plan.expected_at, declared.state.State.TheVariants.Joining}
 use Rattle.tte_units.specs.declared.units.Units.{Units}
 use Rattle.audit_devices.specs.{Effects.carried_by, Showing.{IsReading, IsSteady, Shown, heard_by_then, points_by}}
-use Rattle.audit_devices.specs.declared.effect.{Carried.Carried, Effect.Effect}
-use Rattle.audit_devices.specs.declared.effect.Effect.TheVariants.{Corrects, Hears, Joins, Nothing, Turns}
-use Rattle.audit_devices.specs.declared.shown.Readings.{Readings}
+use Rattle.audit_devices.specs.declared.{effect.Carried.Carried, shown.Readings.Readings}
+use Rattle.audit_devices.specs.declared.effect.Effect.{Effect, TheVariants.{Corrects, Hears, Joins, Nothing, Turns}}
 
 -- the adjustment has just changed to this, and this cycle is next
 abbrev pub changed_to : Shown → ℤ → ℕ → ℕ → ℕ → Shown

@@ -4,10 +4,9 @@ use Rattle.std.specs.Prelude.{◌≡◌, List, None, Some, [], filter, get_or, l
 use Rattle.net_plan.specs.declared.{ids.DeviceId.DeviceId, network.Network.Network}
 use Rattle.run_law.specs.{declared.note.NoteBody.NoteBody, records.Happenings.Happening}
 use Rattle.run_law.specs.{records.{Order.{IsIn, is_before}, Ranks.place_of}, scenario.Scenarios.Scenario}
-use Rattle.audit_devices.specs.{Effects.subject_of, Following.IsMet}
-use Rattle.audit_devices.specs.{Showing.{IsSteady, Shown, Shows}, declared.effect.Carried.Carried}
-use Rattle.audit_devices.specs.declared.history.{Entry.Entry, History.History}
-use Rattle.audit_devices.specs.declared.{shown.Readings.Readings, standings.Standings.Standings}
+use Rattle.audit_devices.specs.{Effects.subject_of, Showing.{IsSteady, Shown, Shows}, declared.shown.Readings.Readings}
+use Rattle.audit_devices.specs.{Following.IsMet, declared.history.Entry.Entry}
+use Rattle.audit_devices.specs.declared.{effect.Carried.Carried, history.History.History, standings.Standings.Standings}
 
 -- what was shown last, or at first
 abbrev pub latest_of : History → Shown

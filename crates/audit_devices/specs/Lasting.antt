@@ -2,8 +2,7 @@
 use Rattle.std.specs.Prelude.{◌+◌, ◌<◌, ◌∷◌, ◌≡◌, ◌≤◌, List, None, Option, Some, [], ℕ, ⊤}
 use Rattle.net_plan.specs.declared.ids.DeviceId.{DeviceId}
 use Rattle.run_law.specs.{records.Happenings.{Happening, earlier}, scenario.Scenarios.Scenario}
-use Rattle.audit_devices.specs.{Keeping.shown_before, Showing.{Shown, Shows}}
-use Rattle.audit_devices.specs.declared.history.History.{History}
+use Rattle.audit_devices.specs.{Keeping.shown_before, Showing.{Shown, Shows}, declared.history.History.History}
 
 -- the time is no later than the next one, if there is one
 abbrev pub IsUpTo : Option ℕ → ℕ → Type 0

@@ -1,3 +1,4 @@
+pub mod law
 pub mod events
 pub mod Effects
 pub mod Following

@@ -1,7 +1,6 @@
 -- The time-triggered frames that records say were taken.
-use Rattle.std.specs.List.Sorted.{IsPartitionedBy}
-use Rattle.std.specs.Prelude.{if◌then◌else◌, ◌&&◌, ◌==◌, ◌∷◌, Bool, List, None, Option, Some, [], filter_map}
-use Rattle.std.specs.Prelude.{option_and_then, ℕ}
+use Rattle.std.specs.{List.Sorted.IsPartitionedBy, Prelude.{option_and_then, ℕ}}
+use Rattle.std.specs.Prelude.{◌&&◌, ◌==◌, ◌∷◌, Bool, List, None, Option, Some, [], filter_map, if◌then◌else◌}
 use Rattle.net_plan.specs.declared.ids.{DeviceId.DeviceId, LinkId.LinkId, VlId.VlId}
 use Rattle.run_law.specs.{declared.note.NoteBody.NoteBody, records.{Happenings.{Happening, time_of}, Order.is_before}}
 use Rattle.audit_devices.specs.declared.taking.{Taken.Taken, Taking.Taking}

@@ -4,8 +4,8 @@ ghost use Rattle.net_plan.specs.Ranges.{IsInRange};
 use crate::effect::shows_nothing;
 use crate::{Carried, Readings, Shown};
 use net_plan::{DeviceId, Network};
-use plain_notes::Place;
 use run_law::NoteBody;
+use run_law::plain::Place;
 use std::alloc::{AllocError, Global};
 
 /// What the records up to that of the place show of a device.

@@ -6,7 +6,7 @@ ghost use Rattle.run_law.specs.scenario.Devices.{start_of};
 
 use crate::Carried;
 use crate::effect::{Effect, effect_of};
-use crate::expected::adjustment_at;
+use device_rules::joined_adjustment;
 use membership::{Heard, HeardFrame};
 use net_plan::{DeviceId, Network};
 use pcf_values::Channel;
@@ -76,7 +76,7 @@ impl Model for Shown {
 
 impl Shown {
     ghost use Rattle.net_plan.specs.declared.ids.DeviceId.{DeviceId};
-    ghost use Rattle.audit_law.specs.CorrectionNumbers.{heard_since_point, next_number};
+    ghost use Rattle.audit_devices.specs.law.CorrectionNumbers.{heard_since_point, next_number};
     ghost use Rattle.audit_devices.specs.Reading.{OnlyJoined, ReadBefore};
     ghost use Rattle.run_law.specs.device.States.{adjustment_at_hearing, has_joined_at, state_before};
     ghost use Rattle.run_law.specs.records.Happenings.{Happening, earlier, time_of};
@@ -280,7 +280,7 @@ impl Shown {
         match effect {
             Effect::Nothing => {}
             Effect::Joins { cycle, own, point } => {
-                let adjustment = adjustment_at(network, device, own, point);
+                let adjustment = joined_adjustment(network, device, own, point);
                 self.join(adjustment, cycle, time, readings.now);
             }
             Effect::Hears {

@@ -6,8 +6,8 @@ use crate::subject::subject_of;
 use crate::{Carried, Readings, Shown};
 use net_plan::{DeviceId, LinkId, Network};
 use pcf_values::Members;
-use plain_notes::{Place, Rank};
 use run_law::NoteBody;
+use run_law::plain::{Place, Rank};
 use std::alloc::{AllocError, Global};
 use tte_units::Units;
 
@@ -20,11 +20,10 @@ pub struct Standings {
 impl Standings {
     ghost use Rattle.net_plan.specs.declared.ids.DeviceId.{DeviceId};
     ghost use Rattle.run_law.specs.declared.{judgement.Judgement.Judgement, note.NoteBody.TheVariants.Permanent};
-    ghost use Rattle.run_law.specs.records.{Happenings.{Happening, earlier}, Order.AllBefore};
-    ghost use Rattle.run_law.specs.{records.Ranks.{place_at, place_of}, scenario.Scenarios.Scenario};
+    ghost use Rattle.run_law.specs.{plain.Places.number_of, records.Order.AllBefore, scenario.Scenarios.Scenario};
+    ghost use Rattle.run_law.specs.records.{Happenings.{Happening, earlier}, Ranks.{place_at, place_of}};
     ghost use Rattle.audit_devices.specs.{Keeping.{IsSeen, Stands, device_count, records_before}, Lasting.ShowsUpTo};
     ghost use Rattle.audit_devices.specs.Showing.{IsSteady, Shows};
-    ghost use Rattle.plain_notes.specs.Places.{number_of};
 
     /// What no record shows.
     pub fn new(alloc: Global, network: &Network) -> Result<Standings, AllocError>

@@ -1,6 +1,5 @@
-ghost use Rattle.std.specs.Prelude.{◌≡◌, ◌<◌, ◌∷◌, ◌++◌, [], List, IfOk, OnOk, ℕ, length, filter, false, ◌==◌};
-ghost use Rattle.std.specs.Prelude.{if◌then◌else◌, None, option_and_then};
-ghost use Rattle.std.specs.List.{last_or};
+ghost use Rattle.std.specs.{List.last_or, Prelude.{if◌then◌else◌, length, option_and_then, ℕ}};
+ghost use Rattle.std.specs.Prelude.{◌++◌, ◌<◌, ◌==◌, ◌∷◌, ◌≡◌, IfOk, List, None, OnOk, [], false, filter};
 
 use crate::Taking;
 use crate::taking::taken_by;

@@ -2,8 +2,7 @@
 use Rattle.audit_sweep.proofs.Words.{◌∷◌, ◌≡◌, ◌≤◌, DeviceId, Happening, IsHeardBefore, List, NoneLater, NoteBody, []}
 use Rattle.audit_sweep.proofs.Words.{arith, inl, inr, key, members_in, place_of, rank, refl, time_of, ℕ}
 use Rattle.std.proofs.Common.{◌<◌, filter}
-use Rattle.audit_devices.specs.Reading.{OnlyJoined}
-use Rattle.audit_law.proofs.Correcting.{time_before}
+use Rattle.audit_devices.{proofs.law_lemmas.Correcting.time_before, specs.Reading.OnlyJoined}
 use Rattle.run_law.proofs.{records.Order.{has_passed, is_there, time_before as rank_first}, runs.Places.earlier_time}
 use Rattle.run_law.specs.{device.{LocalClocks.changes_adjustment, States.is_joined_by}, records.Order.{IsBefore, is_before}}
 use Rattle.run_law.specs.declared.note.NoteBody.TheVariants as notes

@@ -1,11 +1,8 @@
 -- A frame tells the time only to a device that is integrating.
-use Rattle.audit_sweep.proofs.Words.{◌∙◌, ◌≡◌, DeviceId, Happening, IsDue, IsFounded, IsIn, List, Scenario}
-use Rattle.audit_sweep.proofs.Words.{place_of, state_before, sym, time_of, true}
-use Rattle.audit_law.{proofs.{Debts.due_in, Owing.earlier_in}, specs.Debts.IsDueIn}
-use Rattle.run_law.specs.device.States.{is_joined_by}
+use Rattle.audit_sweep.proofs.Words.{◌∙◌, ◌≡◌, DeviceId, Happening, IsDue, IsFounded, IsIn, List, Scenario, place_of, state_before, sym, time_of, true}
+use Rattle.audit_devices.{proofs.law_lemmas.{Debts.due_in, Determined.joins_looking, Owing.earlier_in}, specs.law.Debts.IsDueIn}
+use Rattle.run_law.{proofs.control.Joined.state_by, specs.device.States.is_joined_by}
 use Rattle.sync_state.specs.declared.state.State.TheVariants as states
-use Rattle.run_law.proofs.control.Joined.{state_by}
-use Rattle.audit_law.proofs.Determined.{joins_looking}
 
 -- a record of a founded list by which a frame tells a device the time finds it integrating
 pub joins_integrating : (s : Scenario) (hs : List Happening) (device : DeviceId) (h : Happening) → IsFounded place_of (IsDue s) hs → IsIn h hs

@@ -1,17 +1,15 @@
 -- The first that the records of a report lack.
 use Rattle.audit_sweep.proofs.Words.{◌+◌, ◌∷◌, ◌≡◌, DeviceId, Happening, IsDue, IsFounded, IsSwept, List, Network, NoteBody, Option, Some, Units, [], amount}
-use Rattle.audit_sweep.proofs.Words.{ap, founded_of_sound, place_of, pos, refl, scenario_under, subst, sym, ℕ}
+use Rattle.audit_sweep.{proofs.Words.{ap, founded_of_sound, place_of, pos, refl, scenario_under, subst, sym, ℕ}, specs.unpaid.points.Told.AreOfDevices}
+use Rattle.audit_sweep.specs.{Lacking.TellsFirstLack, Sweeping.SweepsSome, declared.sweep.Sweep.Sweep, unpaid.{Clocks.IsOnlyEnd, Debtors.device_named}}
 use Rattle.std.proofs.Common.{◌≤ℤ◌}
-use Rattle.audit_devices.specs.events.Readings.{HaveBegun}
-use Rattle.audit_law.{proofs.{Earliest.first_debt_law, Owing.of_amount}, specs.{FirstDebts.{AreFirsts, Firsts, TellsFirst, earliest}, Owed.Debt}}
-use Rattle.audit_unpaid.specs.{Clocks.IsOnlyEnd, Debtors.device_named}
-use Rattle.audit_unpaid.specs.points.Told.{AreOfDevices}
+use Rattle.audit_devices.{proofs.law_lemmas.{Earliest.first_debt_law, Owing.of_amount}, specs.law.FirstDebts.{AreFirsts, Firsts, TellsFirst, earliest}}
+use Rattle.audit_devices.specs.{events.Readings.HaveBegun, law.Owed.Debt}
 use Rattle.net_plan.specs.declared.event.Event.{Event}
 use Rattle.run_law.specs.{records.Causes.device_of, runs.DueRecords.EndsAt}
 use Rattle.tte_units.specs.Amount.{units_of}
-use Rattle.audit_sweep.specs.{Lacking.TellsFirstLack, Sweeping.SweepsSome, declared.sweep.Sweep.Sweep}
-use Rattle.audit_unpaid.specs.points.Kept as clocks
-use Rattle.audit_unpaid.specs.emissions.Kept as clusters
+use Rattle.audit_sweep.specs.unpaid.points.Kept as clocks
+use Rattle.audit_sweep.specs.unpaid.emissions.Kept as clusters
 use Rattle.run_law.specs.declared.note.NoteBody.TheVariants as notes
 
 -- the network and the end are those of the sweep

@@ -1,3 +1,5 @@
+pub mod unpaid_lemmas
+pub mod records_lemmas
 pub mod MoreRecords
 pub mod NamedDevices
 pub mod StandingBehind

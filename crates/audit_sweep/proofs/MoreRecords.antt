@@ -1,7 +1,7 @@
 -- Records that are sound, and one more.
 use Rattle.audit_sweep.proofs.Words.{◌++◌, ◌∙◌, ◌∷◌, ◌≡◌, List, [], ap, inl, inr, subst, ℕ}
 use Rattle.std.proofs.lemmas.List.{append-nil}
-use Rattle.audit_law.specs.Findings.{AreSound, IsSound}
+use Rattle.audit_devices.specs.law.Findings.{AreSound, IsSound}
 use Rattle.run_law.proofs.runs.Grow.{in_two}
 
 -- records that are sound, and a further one that is sound given them

@@ -1,16 +1,12 @@
 -- What is known of records goes on by the next one.
 use Rattle.audit_sweep.proofs.Words.{◌++◌, ◌∙◌, ◌∷◌, ◌≡◌, DeviceId, Happening, IsBodyOf, IsCaused, IsDue, KeptRecord, List, Network, NoteBody, Scenario, Some}
-use Rattle.audit_sweep.proofs.Words.{[], amount, ap, happening, inl, inr, numbered, refl, subst, sym, ℕ}
+use Rattle.audit_sweep.{proofs.Words.{[], amount, ap, happening, inl, inr, numbered, refl, subst, sym, ℕ}, specs.records.Keeping.{record_of, records_of}}
+use Rattle.audit_sweep.specs.{Knowing.{AllShowByCause, AllYoung}, records.wires.Signals.ShowsByCause}
 use Rattle.std.proofs.{Common.{◌⊎◌, suc, zero}, lemmas.List.map-append}
-use Rattle.audit_devices.specs.{Effects.subject_of, Showing.IsSteady}
-use Rattle.audit_devices.specs.events.Readings.{ReadsOn}
-use Rattle.audit_records.specs.Keeping.{record_of, records_of}
-use Rattle.run_law.proofs.control.Arrived.{arrived_young}
-use Rattle.audit_records.specs.wires.Signals.{ShowsByCause}
+use Rattle.audit_devices.specs.{Effects.subject_of, Showing.IsSteady, events.Readings.ReadsOn}
+use Rattle.run_law.{proofs.{control.Arrived.arrived_young, records.Happenings.none_numbered}, specs.declared.note.Note.Note}
 use Rattle.net_plan.specs.Belonging.{HasDevice}
-use Rattle.run_law.{proofs.records.Happenings.none_numbered, specs.declared.note.Note.Note}
 use Rattle.tte_lemmas.proofs.Lists.{pushed}
-use Rattle.audit_sweep.specs.Knowing.{AllShowByCause, AllYoung}
 use Rattle.run_law.specs.declared.note.NoteBody.TheVariants as notes
 
 -- of the records with the next one, each is one of them, or the next one

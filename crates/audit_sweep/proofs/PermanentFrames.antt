@@ -1,10 +1,9 @@
 -- What is kept of frames that wait to be permanent.
-use Rattle.audit_sweep.proofs.Words.{if◌then◌else◌, ◌&&◌, ◌==◌, ◌∙◌, ◌≡◌, Bool, DeviceId, LinkId, None, NoteBody, Some, ap, kept_of, refl, sym, true, ℕ}
+use Rattle.audit_sweep.proofs.Words.{◌&&◌, ◌==◌, ◌∙◌, ◌≡◌, Bool, DeviceId, LinkId, None, NoteBody, Some, ap, if◌then◌else◌, kept_of, refl, sym, true, ℕ}
+use Rattle.audit_sweep.specs.{Ripenings.waiting_clock, records.Keeping.kept_of_event}
 use Rattle.std.proofs.lemmas.Bool.{and_from, and_parts, eq-eqb, eqb-true}
-use Rattle.audit_records.specs.Keeping.{kept_of_event}
 use Rattle.net_plan.{proofs.SameIds.{same_device, same_link}, specs.declared.event.What.What}
 use Rattle.tte_lemmas.proofs.Bools.{picked}
-use Rattle.audit_sweep.specs.Ripenings.{waiting_clock}
 use Rattle.net_plan.specs.declared.event.What.TheVariants as events
 use Rattle.run_law.specs.declared.note.NoteBody.TheVariants as notes
 

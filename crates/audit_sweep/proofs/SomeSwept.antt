@@ -1,10 +1,9 @@
 -- What is known of a sweep.
 use Rattle.audit_sweep.proofs.Words.{◌+◌, ◌∷◌, ◌≡◌, ◌≤◌, Happening, IsSwept, List, Network, Units, [], amount, arith, inl, inr, place_of, refl, subst, sym}
-use Rattle.audit_sweep.proofs.Words.{time_of, ℕ}
+use Rattle.audit_sweep.{proofs.Words.{time_of, ℕ}, specs.{Knowing.{IsKnown, KnowsSome}, Sweeping.SweepsSome, declared.{known.Known.Known, sweep.Sweep.Sweep}}}
 use Rattle.std.proofs.Common.{◌^◌}
 use Rattle.net_plan.specs.{Ranges.IsInRange, declared.event.Event.Event}
 use Rattle.run_law.specs.records.Order.{IsBefore}
-use Rattle.audit_sweep.specs.{Knowing.{IsKnown, KnowsSome}, Sweeping.SweepsSome, declared.{known.Known.Known, sweep.Sweep.Sweep}}
 
 -- it is of its network
 pub of_its_network : (network : Network) (befallen : List Event) (end : Units) (hs : List Happening) (sweep : Sweep)

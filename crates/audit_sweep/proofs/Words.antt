@@ -4,10 +4,10 @@ pub use Rattle.std.proofs.Common.{true, ℕ}
 pub use Rattle.std.specs.Prelude.{◌&&◌, ◌==◌}
 pub use Rattle.audit_devices.specs.Showing.{NoneLater}
 pub use Rattle.audit_devices.specs.events.Readings.{clock_reading, scenario_under}
-pub use Rattle.audit_law.proofs.Sound.{founded_of_sound}
-pub use Rattle.audit_law.specs.DueRecords.{IsCaused, IsDue}
-pub use Rattle.audit_records.specs.Keeping.{kept_of}
-pub use Rattle.audit_records.specs.declared.kept.KeptRecord.{KeptRecord}
+pub use Rattle.audit_devices.proofs.law_lemmas.Sound.{founded_of_sound}
+pub use Rattle.audit_devices.specs.law.DueRecords.{IsCaused, IsDue}
+pub use Rattle.audit_sweep.specs.records.Keeping.{kept_of}
+pub use Rattle.audit_sweep.specs.declared.records.kept.KeptRecord.{KeptRecord}
 pub use Rattle.net_plan.specs.declared.{ids.{DeviceId.DeviceId, LinkId.LinkId}, network.Network.Network}
 pub use Rattle.report_text.specs.Ranges.{IsBodyOf}
 pub use Rattle.run_law.specs.control.{Collections.points_of, Permanence.BecomesPermanent}

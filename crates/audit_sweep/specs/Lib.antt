@@ -1,3 +1,5 @@
+pub mod unpaid
+pub mod records
 pub mod Knowing
 pub mod Passing
 pub mod Ripenings

@@ -1,13 +1,10 @@
 -- What records say of what comes from other records.
 use Rattle.std.specs.Prelude.{◌^◌, ◌≡◌, ◌≤◌, List, MatchOption, Option, Some, ℕ}
-use Rattle.audit_records.specs.{wires.Entrances.judged_as, wires.Signals.on_wire_of}
-use Rattle.audit_records.specs.{declared.wires.entering.Judged.Judged}
-use Rattle.audit_records.specs.declared.wires.putting.OnWire.{OnWire}
+use Rattle.audit_sweep.specs.{declared.passage.Passage.Passage, records.wires.{Entrances.judged_as, Signals.on_wire_of}}
+use Rattle.audit_sweep.specs.declared.records.wires.{entering.Judged.Judged, putting.OnWire.OnWire}
 use Rattle.net_plan.specs.{Belonging.HasDevice, declared.network.Network.Network}
-use Rattle.run_law.specs.{control.Wires.{Arrives, Signal}, declared.steps.Arrival.Arrival}
-use Rattle.run_law.specs.{records.Happenings.{Happening, numbered}, scenario.Scenarios.Scenario}
-use Rattle.run_law.specs.timed.Receptions.{ArrivesAs}
-use Rattle.audit_sweep.specs.declared.passage.Passage.{Passage}
+use Rattle.run_law.specs.{control.Wires.{Arrives, Signal}, scenario.Scenarios.Scenario, timed.Receptions.ArrivesAs}
+use Rattle.run_law.specs.{declared.steps.Arrival.Arrival, records.Happenings.{Happening, numbered}}
 use Rattle.run_law.specs.declared.steps.Arrival.TheVariants as arrivals
 
 -- the device is one of the network's, and the time is none too late for a clock

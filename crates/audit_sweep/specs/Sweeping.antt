@@ -1,15 +1,13 @@
 -- The records of a report that were taken.
 use Rattle.std.specs.Prelude.{◌+◌, ◌^◌, ◌∷◌, ◌≡◌, ◌≤◌, List, Some, [], ℕ}
-use Rattle.audit_devices.specs.events.Readings.{scenario_under}
-use Rattle.audit_law.specs.{DueRecords.IsDue, Findings.{AreSound, IsSound}}
-use Rattle.audit_records.specs.places.Placing.{ArePlacesOf}
-use Rattle.audit_unpaid.specs.{Debtors.device_named, Payments.ArePayments}
+use Rattle.audit_devices.specs.{events.Readings.scenario_under, law.{DueRecords.IsDue, Findings.{AreSound, IsSound}}}
+use Rattle.audit_sweep.specs.{Knowing.IsKnown, declared.sweep.Sweep.Sweep}
+use Rattle.audit_sweep.specs.{records.places.Placing.ArePlacesOf, unpaid.{Debtors.device_named, Payments.ArePayments}}
 use Rattle.net_plan.specs.{Belonging.HasDevice, Ranges.IsInRange, declared.{event.Event.Event, ids.DeviceId.DeviceId}}
 use Rattle.net_plan.specs.declared.network.Network.{Network}
 use Rattle.run_law.specs.{declared.note.Note.Note, records.{Happenings.{Happening, happening}, Order.IsIn}}
 use Rattle.run_law.specs.records.Ranks.{place_of}
 use Rattle.tte_units.specs.{Amount.amount, declared.units.Units.Units}
-use Rattle.audit_sweep.specs.{Knowing.IsKnown, declared.sweep.Sweep.Sweep}
 
 -- under these events, each record is sound up to the end, given those before it
 abbrev pub AreSoundUpTo : Network → List Event → Units → List Happening → Type 0

@@ -2,7 +2,7 @@
 
 ghost use Rattle.std.specs.Prelude.{◌↔◌, ◌≡◌, IsTrue, List};
 ghost use Rattle.audit_devices.specs.events.Readings.{scenario_under};
-ghost use Rattle.audit_records.specs.wires.{Entrances.{IsLastTaken, judged_as}, Signals.on_wire_of};
+ghost use Rattle.audit_sweep.specs.records.wires.{Entrances.{IsLastTaken, judged_as}, Signals.on_wire_of};
 ghost use Rattle.device_rules.specs.Answers.{arrival_as};
 ghost use Rattle.net_plan.specs.{Ranges.IsInRange, declared.event.Event.Event};
 ghost use Rattle.run_law.specs.{control.Wires.Signal, records.Happenings.Happening, runs.DueRecords.IsArrivedRecord};
@@ -12,8 +12,8 @@ ghost use Rattle.audit_sweep.specs.Passing.{IsArrivedAs, IsComing, IsPassable, T
 
 use crate::known::Known;
 use crate::passage::Passage;
+use crate::records::wires::{Entered, Judged, OnWire, arriving, entered_as};
 use crate::standing::standpoint;
-use audit_records::wires::{Entered, Judged, OnWire, arriving, entered_as};
 use device_rules::TimedArrival;
 use net_plan::Network;
 use run_law::Arrival;

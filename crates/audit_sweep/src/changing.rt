@@ -1,10 +1,8 @@
 //! Changes of states.
 
 ghost use Rattle.std.specs.Prelude.{◌^◌, ◌↔◌, ◌≡◌, ◌≤◌, IsTrue, List};
-ghost use Rattle.audit_devices.specs.clocks.Brought.{bringer_of};
-ghost use Rattle.audit_devices.specs.Showing.{NoneLater};
-ghost use Rattle.audit_devices.specs.events.Readings.{scenario_under};
-ghost use Rattle.audit_law.specs.DueRecords.{ChangesState, IsDue};
+ghost use Rattle.audit_devices.specs.{Showing.NoneLater, clocks.Brought.bringer_of};
+ghost use Rattle.audit_devices.specs.{events.Readings.scenario_under, law.DueRecords.{ChangesState, IsDue}};
 ghost use Rattle.net_plan.specs.{Belonging.HasDevice, Ranges.IsInRange, declared.event.Event.Event};
 ghost use Rattle.net_plan.specs.declared.network.Network.{Network as NetworkValue};
 ghost use Rattle.run_law.specs.{records.{Happenings.Happening, Ranks.place_of}, runs.Runs.IsFounded};
@@ -12,8 +10,8 @@ ghost use Rattle.audit_sweep.specs.{Bringers.bringer_by, Knowing.{IsKnown, Knows
 
 use crate::clocks::heard;
 use crate::known::Known;
+use crate::records::Kept;
 use audit_devices::clocks::{Bringer, Moment, StateChange, changes_state};
-use audit_records::Kept;
 use net_plan::{DeviceId, Network};
 
 /// Does the device change its state so at the time?

@@ -1,10 +1,8 @@
 //! What clocks come to: what masters send, corrections, changes of state, and the clocks at the end.
 
 ghost use Rattle.std.specs.Prelude.{◌-◌, ◌^◌, ◌↔◌, ◌≡◌, ◌≤ℤ◌, ◌≤◌, IsTrue, List, pos};
-ghost use Rattle.audit_devices.specs.clocks.Points.{IsHeard};
-ghost use Rattle.audit_devices.specs.Showing.{NoneLater};
-ghost use Rattle.audit_devices.specs.events.Readings.{scenario_under};
-ghost use Rattle.audit_law.specs.DueRecords.{IsCorrectedRecord, IsDue};
+ghost use Rattle.audit_devices.specs.{Showing.NoneLater, clocks.Points.IsHeard};
+ghost use Rattle.audit_devices.specs.{events.Readings.scenario_under, law.DueRecords.{IsCorrectedRecord, IsDue}};
 ghost use Rattle.net_plan.specs.{Belonging.HasDevice, Ranges.IsInRange, declared.event.Event.Event};
 ghost use Rattle.net_plan.specs.declared.network.Network.{Network as NetworkValue};
 ghost use Rattle.run_law.specs.records.{Happenings.Happening, Ranks.place_of};
@@ -16,7 +14,7 @@ use crate::known::Known;
 use audit_devices::clocks::{Correction, EndClock, Moment, corrects, sends, shows_clock};
 use membership::Heard;
 use net_plan::{DeviceId, Network};
-use plain_notes::Rank;
+use run_law::plain::Rank;
 use tte_units::Units;
 
 /// Does the master send the control frame of the cycle at the time?

@@ -1,7 +1,7 @@
 //! The dispatches of time-triggered frames.
 
 ghost use Rattle.std.specs.Prelude.{◌↔◌, IsTrue, List};
-ghost use Rattle.audit_records.specs.dispatches.{Judged.{IsKeptOf, LosesDispatch}, Sent.AreFoundByNumber};
+ghost use Rattle.audit_sweep.specs.records.dispatches.{Judged.{IsKeptOf, LosesDispatch}, Sent.AreFoundByNumber};
 ghost use Rattle.audit_devices.specs.events.Readings.{scenario_under};
 ghost use Rattle.net_plan.specs.{Belonging.HasLink, Ranges.IsInRange, declared.event.Event.Event};
 ghost use Rattle.net_plan.specs.declared.network.Network.{Network as NetworkValue};
@@ -10,8 +10,8 @@ ghost use Rattle.audit_sweep.specs.{Knowing.{IsKnown, KnowsSome}, Passing.IsPass
 
 use crate::known::Known;
 use crate::passage::Passage;
-use audit_records::Kept;
-use audit_records::dispatches::{At, Dispatch, Loss, loses_dispatch, sends_timed};
+use crate::records::Kept;
+use crate::records::dispatches::{At, Dispatch, Loss, loses_dispatch, sends_timed};
 use net_plan::{Network, VlId};
 
 /// Does the device dispatch the frame of the virtual link and the cycle so, on a way that is not cut?

@@ -2,14 +2,12 @@
 
 ghost use Rattle.std.specs.Prelude.{◌<◌, ◌^◌, ◌↔◌, ◌∷◌, ◌≡◌, ◌≤◌, IsTrue, List, ℕ};
 ghost use Rattle.audit_devices.specs.Showing.{NoneLater, Shows};
-ghost use Rattle.audit_devices.specs.events.Readings.{scenario_under};
-ghost use Rattle.audit_devices.specs.permanence.Hearers.{IsHearer};
+ghost use Rattle.audit_devices.specs.{events.Readings.scenario_under, permanence.Hearers.IsHearer};
 ghost use Rattle.device_rules.specs.Widths.{IsWide};
 ghost use Rattle.net_plan.specs.{Belonging.HasDevice, Ranges.IsInRange, declared.event.Event.Event};
-ghost use Rattle.run_law.specs.control.Emissions.{Emits};
+ghost use Rattle.run_law.specs.{control.Emissions.Emits, device.States.state_at_hearing};
 ghost use Rattle.run_law.specs.control.Permanence.{BecomesPermanent, IsJudgedBy, before_permanence, ripe_as};
-ghost use Rattle.run_law.specs.{declared.steps.Ripe.TheVariants.Dropped, device.States.state_at_hearing};
-ghost use Rattle.run_law.specs.records.Happenings.{Happening, earlier};
+ghost use Rattle.run_law.specs.{declared.steps.Ripe.TheVariants.Dropped, records.Happenings.{Happening, earlier}};
 ghost use Rattle.tte_units.specs.declared.units.Units.{Units as UnitsValue};
 ghost use Rattle.audit_sweep.specs.{Hearings.{IsHeardBefore, IsRipenedOrNone}, Knowing.{IsKnown, KnowsSome}};
 ghost use Rattle.audit_sweep.specs.Passing.{IsPassable};

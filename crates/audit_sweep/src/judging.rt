@@ -1,8 +1,7 @@
 //! Whether a record is due, given those before it.
 
 ghost use Rattle.std.specs.Prelude.{◌+◌, ◌↔◌, ◌≡◌, ◌≤ℤ◌, IsTrue, List, length, pos};
-ghost use Rattle.audit_devices.specs.events.Readings.{scenario_under};
-ghost use Rattle.audit_law.specs.DueRecords.{IsCaused, IsDue};
+ghost use Rattle.audit_devices.specs.{events.Readings.scenario_under, law.DueRecords.{IsCaused, IsDue}};
 ghost use Rattle.net_plan.specs.{Ranges.IsInRange, declared.event.Event.Event};
 ghost use Rattle.run_law.specs.records.{Happenings.{Happening, happening}, Order.AllBefore, Ranks.place_of};
 ghost use Rattle.run_law.specs.runs.Runs.{IsFounded};

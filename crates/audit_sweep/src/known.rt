@@ -1,9 +1,8 @@
 //! What is known of a report, and how it goes on by its records.
 
 ghost use Rattle.std.specs.Prelude.{◌++◌, ◌^◌, ◌↔◌, ◌∷◌, ◌≡◌, ◌≤◌, IfOk, List, OnOk, Some, []};
-ghost use Rattle.audit_devices.specs.{Effects.{carried_by, subject_of}, Showing.IsReading};
-ghost use Rattle.audit_devices.specs.events.{Readings.scenario_under, Remembering.{Remembers, RemembersSome}};
-ghost use Rattle.audit_law.specs.DueRecords.{IsDue};
+ghost use Rattle.audit_devices.specs.{Effects.{carried_by, subject_of}, events.Remembering.{Remembers, RemembersSome}};
+ghost use Rattle.audit_devices.specs.{Showing.IsReading, events.Readings.scenario_under, law.DueRecords.IsDue};
 ghost use Rattle.net_plan.specs.{Belonging.HasDevice, Ranges.IsInRange, declared.event.Event.Event};
 ghost use Rattle.net_plan.specs.declared.ids.DeviceId.{DeviceId as DeviceIdValue};
 ghost use Rattle.net_plan.specs.declared.network.Network.{Network as NetworkValue};
@@ -12,12 +11,12 @@ ghost use Rattle.run_law.specs.runs.{DueRecords.EndsAt, Runs.IsFounded};
 ghost use Rattle.tte_units.specs.declared.units.Units.{Units as UnitsValue};
 ghost use Rattle.audit_sweep.specs.{Judging.IsJudgeable, Knowing.{IsKnown, KnowsSome}};
 
+use crate::records::dispatches::Exits;
+use crate::records::{KeptRecords, OutOfMemory};
 use audit_devices::clocks::Moment;
 use audit_devices::events::{EventHistory, reading_law};
 use audit_devices::stretches::{StretchHistory, points_rise};
 use audit_devices::{Carried, Readings, Standings, Takings};
-use audit_records::dispatches::Exits;
-use audit_records::{KeptRecords, OutOfMemory};
 use device_rules::Entrances;
 use net_plan::Network;
 use pcf_values::{Members, Pcf};

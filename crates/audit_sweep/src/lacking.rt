@@ -2,18 +2,17 @@
 
 ghost use Rattle.std.specs.Prelude.{◌^◌, ◌≡◌, ◌≤◌, List};
 ghost use Rattle.audit_devices.specs.events.Readings.{scenario_under};
-ghost use Rattle.audit_unpaid.specs.Debtors.{AreKnown};
-ghost use Rattle.audit_unpaid.specs.dispatches.Debtors.{AreKnown as AreRowsKnown, IsFit};
+ghost use Rattle.audit_sweep.specs.{Lacking.{AreEventsTold, TellsFirstLack}, Sweeping.{IsSwept, SweepsSome}};
+ghost use Rattle.audit_sweep.specs.unpaid.{Debtors.AreKnown, dispatches.{Debtors.{AreKnown as AreRowsKnown, IsFit}}};
 ghost use Rattle.net_plan.specs.declared.{event.Event.Event, network.Network.Network as NetworkValue};
 ghost use Rattle.run_law.specs.records.Happenings.{Happening};
 ghost use Rattle.tte_units.specs.{Amount.amount, declared.units.Units.Units as UnitsValue};
-ghost use Rattle.audit_sweep.specs.{Lacking.{AreEventsTold, TellsFirstLack}, Sweeping.{IsSwept, SweepsSome}};
 
 use crate::sweep::Sweep;
-use audit_unpaid::Debtor;
-use audit_unpaid::dispatches::RowDebtor;
-use audit_unpaid::emissions::first_unemitted;
-use audit_unpaid::points::{earlier, first_unsent, first_untold};
+use crate::unpaid::Debtor;
+use crate::unpaid::dispatches::RowDebtor;
+use crate::unpaid::emissions::first_unemitted;
+use crate::unpaid::points::{earlier, first_unsent, first_untold};
 
 impl Sweep<'_> {
     /// The first time up to the end at which a record is lacking: it is due given those that were taken, and is not one

@@ -2,7 +2,7 @@
 
 ghost use Rattle.std.specs.Prelude.{◌↔◌, ◌≡◌, IsTrue, List};
 ghost use Rattle.audit_devices.specs.events.Readings.{scenario_under};
-ghost use Rattle.audit_records.specs.wires.Departings.{IsDeparted};
+ghost use Rattle.audit_sweep.specs.records.wires.Departings.{IsDeparted};
 ghost use Rattle.device_rules.specs.Answers.{departure_as};
 ghost use Rattle.net_plan.specs.{Ranges.IsInRange, declared.event.Event.Event};
 ghost use Rattle.run_law.specs.{control.{Leaving.Departs, Losses.IsSendLost}, records.Happenings.Happening};
@@ -10,7 +10,7 @@ ghost use Rattle.audit_sweep.specs.{Knowing.{IsKnown, KnowsSome}, Passing.IsPass
 
 use crate::known::Known;
 use crate::passage::Passage;
-use audit_records::wires::departure;
+use crate::records::wires::departure;
 use device_rules::Departed;
 use net_plan::Network;
 
@@ -62,7 +62,7 @@ pub(crate) fn is_send_lost(known: &Known, network: &Network, passage: Passage) -
         Some(kept) => kept,
         None => return false,
     };
-    audit_records::wires::is_send_lost(
+    crate::records::wires::is_send_lost(
         network,
         &known.events,
         kept,

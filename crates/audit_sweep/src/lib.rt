@@ -12,9 +12,11 @@ mod known;
 mod lacking;
 mod leaving;
 mod passage;
+pub mod records;
 mod ripening;
 mod standing;
 mod sweep;
+pub mod unpaid;
 
-pub use audit_records::OutOfMemory;
+pub use crate::records::OutOfMemory;
 pub use sweep::Sweep;

@@ -12,8 +12,8 @@ ghost use Rattle.audit_sweep.specs.Ripenings.{IsPermanentOrNone, IsPointReached,
 
 use crate::known::Known;
 use crate::passage::Passage;
+use crate::records::Kept;
 use audit_devices::events::reading_law;
-use audit_records::Kept;
 use device_rules::{is_parent_of, is_relay};
 use net_plan::{DeviceId, LinkId, Network};
 use pcf_values::Pcf;

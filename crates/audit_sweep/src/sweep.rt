@@ -1,30 +1,27 @@
 //! The records of a report, taken one after the other, as long as each is sound given those before it.
 
-ghost use Rattle.std.specs.Option.{option_map_or};
+ghost use Rattle.std.specs.{Option.option_map_or, Prelude.{MatchOption, OnOk, [], length, pos, ℕ}};
 ghost use Rattle.std.specs.Prelude.{◌++◌, ◌+◌, ◌^◌, ◌↔◌, ◌∷◌, ◌≡◌, ◌≤ℤ◌, ◌≤◌, IfOk, IfSome, IsTrue, List, MatchBool};
-ghost use Rattle.std.specs.Prelude.{MatchOption, OnOk, [], length, pos, ℕ};
 ghost use Rattle.audit_devices.specs.events.Remembering.{Remembers};
-ghost use Rattle.audit_records.specs.Keeping.{records_of};
-ghost use Rattle.audit_unpaid.specs.Payments.{ArePayments};
+ghost use Rattle.audit_sweep.specs.{Judging.{Befalls, IsJudgeable}, unpaid.Payments.ArePayments};
+ghost use Rattle.audit_sweep.specs.Sweeping.{IsPlacedSoundly, IsSoundUpTo, IsSwept, SweepsSome};
+ghost use Rattle.audit_sweep.specs.records.Keeping.{records_of};
 ghost use Rattle.net_plan.specs.{Ranges.IsInRange, declared.event.Event.Event};
 ghost use Rattle.net_plan.specs.declared.network.Network.{Network as NetworkValue};
 ghost use Rattle.report_text.specs.Ranges.{IsBodyOf};
 ghost use Rattle.run_law.specs.records.Happenings.{Happening, frame_by, frame_from, happening};
-ghost use Rattle.run_law.specs.records.Ranks.{place_at, place_of};
-ghost use Rattle.run_law.specs.runs.DueRecords.{EndsAt};
+ghost use Rattle.run_law.specs.{records.Ranks.{place_at, place_of}, runs.DueRecords.EndsAt};
 ghost use Rattle.tte_units.specs.{Amount.amount, declared.units.Units.Units as UnitsValue};
-ghost use Rattle.audit_sweep.specs.Judging.{Befalls, IsJudgeable};
-ghost use Rattle.audit_sweep.specs.Sweeping.{IsPlacedSoundly, IsSoundUpTo, IsSwept, SweepsSome};
 
 use crate::judging::is_due;
 use crate::known::Known;
+use crate::records::OutOfMemory;
+use crate::records::places::Places;
+use crate::unpaid::Payments;
 use audit_devices::events::EventHistory;
-use audit_records::OutOfMemory;
-use audit_records::places::Places;
-use audit_unpaid::Payments;
 use net_plan::Network;
 use pcf_values::Pcf;
-use plain_notes::Place;
+use run_law::plain::Place;
 use run_law::{Note, NoteBody};
 use std::alloc::Global;
 use tte_units::Units;

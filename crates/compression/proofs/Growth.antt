@@ -1,11 +1,9 @@
 -- What one more point does to the clusters of a list.
-use Rattle.std.proofs.Common.{◌*ℤ◌, ◌++◌, ◌+ℤ◌, ◌<ℤ◌, ◌<◌, ◌^◌, ◌∙◌, ◌∷◌, ◌≡◌, ◌≢◌, ◌≤ℤ◌, ◌≤◌, List, [], ap, arith, false, length, map, pos, refl}
-use Rattle.std.proofs.{Common.{subst, sym, true, ℕ, ℤ}, lemmas.{Bool.{cases_Bool, cases_eq, cases_lt, le-leb, lt-leb}, Int.ints}}
-use Rattle.std.{proofs.lemmas.List.{length-append, map-append}, specs.List.AllByRecursion}
-use Rattle.std.specs.Prelude.{if◌then◌else◌, bit_or, int_lt, nat_le}
-use Rattle.compression.proofs.Firsts.{firsts-push, firsts-start, has_point_of-is, members_of-push, with_first-new, with_first-old}
+use Rattle.std.proofs.Common.{◌*ℤ◌, ◌++◌, ◌+ℤ◌, ◌<ℤ◌, ◌<◌, ◌^◌, ◌∙◌, ◌∷◌, ◌≡◌, ◌≢◌, ◌≤ℤ◌, ◌≤◌, List, [], ap, arith, false, length, map, pos, refl, subst, sym}
+use Rattle.std.{proofs.{Common.{true, ℕ, ℤ}, lemmas.List.{length-append, map-append}}, specs.List.AllByRecursion}
+use Rattle.std.{proofs.lemmas.{Bool.{cases_Bool, cases_eq, cases_lt, le-leb, lt-leb}, Int.ints}, specs.Prelude.{bit_or, if◌then◌else◌, int_lt, nat_le}}
+use Rattle.compression.proofs.{Firsts.{firsts-push, firsts-start, has_point_of-is, members_of-push, with_first-new, with_first-old}, Held.int_lt-false}
 use Rattle.compression.proofs.Held.{beyond-later, beyond-push_in, beyond-push_out, held-push_beyond, held-push_in, held-push_other, held-same, held-start}
-use Rattle.compression.proofs.Held.{int_lt-false}
 use Rattle.compression.specs.Clusters.{AreClusters, Cluster, Point, beyond, cluster_of, end_of, firsts, has_master, members_of, of_cycle_within, with_first}
 use Rattle.compression.specs.{Collection.{joined, joined_end, opening}, Role.has_point_of}
 

@@ -3,9 +3,8 @@ use Rattle.std.proofs.Common.{◌&&◌, ◌++◌, ◌+◌, ◌<◌, ◌∙◌, �
 use Rattle.std.proofs.lemmas.{Bool.{cases_Bool, eqb-false, or_parts}, List.{length-append, length-map, Elements.recursion_from_All, Folds.list_any-append}}
 use Rattle.std.specs.{List.AllByRecursion, Prelude.{◌==◌, Contains, fold, int_le}}
 use Rattle.compression.proofs.{Elements.{all-filter, in_cases, in_head, in_none, in_tail}, Firsts.{has_point_of-is, with_first-new, with_first-old}}
-use Rattle.compression.proofs.Growth.{counted}
+use Rattle.compression.{proofs.Growth.counted, specs.{Role.has_point_of, Room.RoomForEachMaster}}
 use Rattle.compression.specs.Clusters.{AreClusters, Cluster, Point, beyond, cluster_of, end_of, firsts, has_master, of_cycle_within, with_first}
-use Rattle.compression.specs.{Role.has_point_of, Room.RoomForEachMaster}
 
 -- a list without one element
 record Without (x : ℕ) (ys : List ℕ) : Type 0 where

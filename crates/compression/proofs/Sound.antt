@@ -3,10 +3,9 @@ use Rattle.std.proofs.Common.{◌*ℤ◌, ◌++◌, ◌+ℤ◌, ◌+◌, ◌-ℤ
 use Rattle.std.proofs.{Common.{refl, subst, sym, ℕ, ℤ}, lemmas.{Bool.cases_Bool, Int.ints, List.Elements.recursion_from_All}}
 use Rattle.std.specs.{List.{AllByRecursion, last_or}, Prelude.{All, int_lt}}
 use Rattle.tte_units.specs.Reading.{greatest_reading}
-use Rattle.compression.proofs.Ascents.{IsAscending-push}
-use Rattle.compression.proofs.Rows.{MayFollow-later, last_or-none, last_split, opened-before, row-push, row-replace, row-room, row_last}
-use Rattle.compression.specs.{Ascent.{MayFollow, last_from}, Clusters.{Cluster, Point}, Collecting.{Collecting, emissions, last_joined, with_opened}}
-use Rattle.compression.specs.{Collection.{joined, joined_end, opening}, Emission.emission, Role.open_at, Row.{IsCollection, IsRow, IsSound}}
+use Rattle.compression.{proofs.Ascents.IsAscending-push, specs.{Ascent.{MayFollow, last_from}, Emission.emission, Row.{IsCollection, IsRow, IsSound}}}
+use Rattle.compression.{proofs.Rows.{MayFollow-later, last_or-none, last_split, opened-before, row-push, row-replace, row-room, row_last}, specs.Role.open_at}
+use Rattle.compression.specs.{Clusters.{Cluster, Point}, Collecting.{Collecting, emissions, last_joined, with_opened}, Collection.{joined, joined_end, opening}}
 
 none_is_some : (c : Cluster) → Some c ≡ None → ⊥
 none_is_some c e = cc

@@ -1,14 +1,12 @@
 -- What a collector does with a point, by the point's role.
-use Rattle.std.proofs.Common.{arith}
-use Rattle.std.proofs.Common.{◌++◌, ◌<ℤ◌, ◌<◌, ◌∙◌, ◌∷◌, ◌≡◌, ◌≢◌, ◌≤ℤ◌, ◌⊎◌, IsTrue, List, None, Option, Some, [], ap, false, inl, inr, length, refl, subst}
-use Rattle.std.proofs.{Common.{sym, true, ℕ, ℤ}, lemmas.{Bool.{cases_Bool, eqb-false, eqb-true}, List.{append-nil, Elements.recursion_from_All}}}
-use Rattle.std.specs.{List.{AllByRecursion, last_or}, Prelude.{if◌then◌else◌, IfSome, int_lt, option_and_then}}
-use Rattle.compression.proofs.{Roles.{open_at-beyond, open_at-in, open_at-none}, Rows.{MayFollow-later, last_or-none, last_split, row_last}}
-use Rattle.compression.proofs.Sound.{IsSound-joined, last_joined-split, open_at-some, with_last}
+use Rattle.std.proofs.Common.{◌++◌, ◌<ℤ◌, ◌<◌, ◌∙◌, ◌∷◌, ◌≡◌, ◌≢◌, ◌≤ℤ◌, ◌⊎◌, IsTrue, List, None, Option, Some, [], ap, arith, false, inl, inr, length, refl}
+use Rattle.std.{proofs.{Common.{subst, sym, true, ℕ, ℤ}, lemmas.List.{Elements.recursion_from_All, append-nil}}, specs.List.{AllByRecursion, last_or}}
+use Rattle.std.{proofs.lemmas.Bool.{cases_Bool, eqb-false, eqb-true}, specs.Prelude.{IfSome, if◌then◌else◌, int_lt, option_and_then}}
+use Rattle.compression.{proofs.Roles.{open_at-beyond, open_at-in, open_at-none}, specs.declared.taken.Taken.TheVariants.{Joined, Opened, OtherCycle, Repeat}}
+use Rattle.compression.proofs.{Rows.{MayFollow-later, last_or-none, last_split, row_last}, Sound.{IsSound-joined, last_joined-split, open_at-some, with_last}}
 use Rattle.compression.proofs.Standing.{AreClusters-unique, Stands-ignored, Stands-joined, Stands-opened, ended_later}
-use Rattle.compression.specs.{Clusters.{AreClusters, Cluster, Point}, Collecting.{Collecting, last_joined, with_opened}, Collection.{CanTake, joined}}
-use Rattle.compression.specs.{Role.{has_point_of, open_at, role, role_in}, Row.{IsRow, IsSound}, Stands.StandsForPoints}
-use Rattle.compression.specs.declared.{compressed.Compressed.Compressed, taken.Taken.TheVariants.{Joined, Opened, OtherCycle, Repeat}}
+use Rattle.compression.specs.{Clusters.{AreClusters, Cluster, Point}, Row.{IsRow, IsSound}, Stands.StandsForPoints, declared.compressed.Compressed.Compressed}
+use Rattle.compression.specs.{Collecting.{Collecting, last_joined, with_opened}, Collection.{CanTake, joined}, Role.{has_point_of, open_at, role, role_in}}
 
 -- the open collection and why a point joins it
 pub record Joins (o : Option Cluster) (p : Point) : Type 0 where

@@ -4,10 +4,9 @@ use Rattle.std.proofs.{Common.{ℕ, ℤ}, lemmas.Bool.{and_from, and_parts, case
 use Rattle.std.{proofs.lemmas.Int.ints, specs.{List.AllByRecursion, Prelude.{◌==◌, Contains, int_le}}}
 use Rattle.tte_lemmas.proofs.Integers.{int_le-from}
 use Rattle.compression.proofs.Elements.{Ordered, Ordered-beyond, Ordered-from, from_beyond, in_cases, in_filter, in_filter_from, in_head, in_none, in_tail}
-use Rattle.compression.proofs.{Firsts.{Counts, counts, firsts-has}, Growth.{counted, end_of-least, end_of-one, end_of-two, window_end}, Held.held-start}
-use Rattle.compression.proofs.Times.{first_end, in_rest, not_before, only_first}
+use Rattle.compression.{proofs.{Firsts.{Counts, counts, firsts-has}, Held.held-start}, specs.OneCluster.{Holds, IsDropped, IsKept, OneCluster}}
+use Rattle.compression.proofs.{Growth.{counted, end_of-least, end_of-one, end_of-two, window_end}, Times.{first_end, in_rest, not_before, only_first}}
 use Rattle.compression.specs.Clusters.{AreClusters, Cluster, Point, beyond, cluster_of, end_of, firsts, has_master, of_cycle_within}
-use Rattle.compression.specs.OneCluster.{Holds, IsDropped, IsKept, OneCluster}
 
 -- what counts in the first window: the opener, and then points of other masters
 window_counts : (ow : ℤ) (o : Point) (ps : List Point) → pos 0 ≤ℤ ow → (k : Counts (o ∷ []) (of_cycle_within o.cycle o.reading (window_end ow o) ps))

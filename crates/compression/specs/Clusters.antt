@@ -1,7 +1,6 @@
 -- Clusters of permanence points.
-use Rattle.std.specs.List.{list_any}
-use Rattle.std.specs.Prelude.{if◌then◌else◌, ◌&&◌, ◌*ℤ◌, ◌++◌, ◌+ℤ◌, ◌==◌, ◌^◌, ◌∷◌, ◌≡◌, Bool, List, [], bit_or}
-use Rattle.std.specs.Prelude.{filter, fold, int_le, int_lt, length, map, nat_le, pos, ℕ, ℤ, ⊤}
+use Rattle.std.specs.{List.list_any, Prelude.{if◌then◌else◌, int_le, int_lt, length, map, nat_le, pos, ℕ, ℤ, ⊤}}
+use Rattle.std.specs.Prelude.{◌&&◌, ◌*ℤ◌, ◌++◌, ◌+ℤ◌, ◌==◌, ◌^◌, ◌∷◌, ◌≡◌, Bool, List, [], bit_or, filter, fold}
 
 -- a permanence point, the master whose frame it is, and the frame's cycle
 pub record Point : Type 0 where

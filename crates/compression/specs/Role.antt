@@ -1,7 +1,6 @@
 -- What becomes of a point.
-use Rattle.std.specs.List.{last_or}
-use Rattle.std.specs.Prelude.{if◌then◌else◌, ◌==◌, ◌^◌, Bool, List, None, Option, Some, bit_and, int_lt, not}
-use Rattle.std.specs.Prelude.{option_and_then, ℕ, ℤ}
+use Rattle.std.specs.{List.last_or, Prelude.{option_and_then, ℕ, ℤ}}
+use Rattle.std.specs.Prelude.{◌==◌, ◌^◌, Bool, List, None, Option, Some, bit_and, if◌then◌else◌, int_lt, not}
 use Rattle.compression.specs.{Clusters.{Cluster, Point}, declared.taken.Taken.Taken}
 use Rattle.compression.specs.declared.taken.Taken.TheVariants.{Joined, Opened, OtherCycle, Repeat}
 

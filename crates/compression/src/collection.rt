@@ -43,10 +43,9 @@ impl Default for Collection {
 
 impl Collection {
     ghost use Rattle.tte_units.specs.Reading.{greatest_reading, least_reading};
-    ghost use Rattle.compression.specs.{Ascent.MayFollow, Clusters.point_at};
-    ghost use Rattle.compression.specs.Collection.{CanTake, joined, joined_end, opening};
+    ghost use Rattle.compression.specs.{Ascent.MayFollow, Row.IsCollection};
+    ghost use Rattle.compression.specs.{Clusters.point_at, Collection.{CanTake, joined, joined_end, opening}};
     ghost use Rattle.compression.specs.{Emission.{compressed, emission}, Role.{has_point_of, role_in}};
-    ghost use Rattle.compression.specs.Row.{IsCollection};
 
     /// The collection that a point opens.
     pub(crate) fn open(ow: Units, reading: Units, master: u32, cycle: u32) -> Collection

@@ -1,6 +1,5 @@
-ghost use Rattle.std.specs.Int.{int_max};
+ghost use Rattle.std.specs.{Int.int_max, Prelude.{IsFalse, IsNone, IsSomeAnd, IsTrue, List, None, [], length, pos}};
 ghost use Rattle.std.specs.Prelude.{◌++◌, ◌-ℤ◌, ◌<ℤ◌, ◌<◌, ◌^◌, ◌↔◌, ◌∷◌, ◌≡◌, ◌≢◌, ◌≤ℤ◌, ◌≤◌, ◌⊎◌, All, IfSome};
-ghost use Rattle.std.specs.Prelude.{IsFalse, IsNone, IsSomeAnd, IsTrue, List, None, [], length, pos};
 
 use crate::collection::Collection;
 use crate::waiting::Waiting;

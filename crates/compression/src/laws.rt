@@ -1,6 +1,5 @@
-ghost use Rattle.compression.specs.Middle.{MiddleAmongOthers, MiddleFromFirstToLast};
+ghost use Rattle.compression.specs.{Middle.{MiddleAmongOthers, MiddleFromFirstToLast}, Stands.EmittedInOrder};
 ghost use Rattle.compression.specs.{OneCluster.{OneCluster, OneListOfClusters, OneTime}, Room.RoomForEachMaster};
-ghost use Rattle.compression.specs.Stands.{EmittedInOrder};
 
 /// The middle of three or more sorted points, of which one may be anywhere, lies among the others.
 pub fn middle_law()

@@ -1,6 +1,5 @@
-ghost use Rattle.std.specs.List.{last_or};
+ghost use Rattle.std.specs.{List.last_or, Prelude.pos};
 ghost use Rattle.std.specs.Prelude.{◌++◌, ◌<◌, ◌^◌, ◌∷◌, ◌≡◌, ◌≢◌, ◌≤ℤ◌, IfSome, List, MatchOption, None, [], length};
-ghost use Rattle.std.specs.Prelude.{pos};
 
 use crate::Taken;
 use crate::collection::Collection;

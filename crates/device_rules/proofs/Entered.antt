@@ -10,11 +10,9 @@ use Rattle.run_law.specs.timed.Arrivals.{entry_arrival, is_row_with, entry_enter
 use Rattle.run_law.specs.timed.Arrivals.{timed_arrival}
 use Rattle.schedule_tables.specs.declared.entry.Entry.{Entry}
 use Rattle.tte_lemmas.proofs.{Lists.in_all, Options.opened}
-use Rattle.device_rules.proofs.KeptRows.{made}
-use Rattle.device_rules.specs.Entering.{AreEntrances, HasPeriod, comes_by, entering_by, entrance_cmp, first_entering, is_of}
-use Rattle.device_rules.specs.Headings.{heading_fault, heading_of}
-use Rattle.device_rules.specs.declared.{entrances.{EnteringRow.EnteringRow, Entrance.Entrance, Entrances.Entrances}, heading.Heading.Heading}
-use Rattle.device_rules.specs.declared.entrances.Which.{Which, TheVariants.{Into, On}}
+use Rattle.device_rules.{proofs.KeptRows.made, specs.Headings.{heading_fault, heading_of}}
+use Rattle.device_rules.specs.{Entering.{AreEntrances, HasPeriod, comes_by, entering_by, entrance_cmp, first_entering, is_of}, declared.heading.Heading.Heading}
+use Rattle.device_rules.specs.declared.entrances.{EnteringRow.EnteringRow, Entrance.Entrance, Entrances.Entrances, Which.{TheVariants.{Into, On}, Which}}
 use Rattle.run_law.specs.declared.judgement.Reason.TheVariants as reasons
 use Rattle.run_law.specs.declared.steps.Arrival.TheVariants as arrivals
 

@@ -1,3 +1,4 @@
+pub mod frames_lemmas
 pub mod Numbers
 pub mod Places
 pub mod Verdicts

@@ -1,9 +1,8 @@
 -- The rows by which time-triggered frames enter devices.
-use Rattle.std.specs.{BTreeMap.{BTreeMap, get}, List.All, Option.option_map_or, Ordering.{nat_cmp, ordering_then}}
+use Rattle.std.specs.{BTreeMap.{BTreeMap, get}, Ordering.{nat_cmp, ordering_then}, declared.cmp.Ordering.Ordering}
+use Rattle.std.specs.{List.All, Option.option_map_or}
 use Rattle.std.specs.Prelude.{◌%◌, ◌&&◌, ◌==◌, ◌||◌, ◌∷◌, ◌≡◌, ◌≤◌, Bool, Err, IsSome, List, Ok, Option, Result, []}
-use Rattle.std.specs.Prelude.{false}
-use Rattle.std.specs.Prelude.{find, int_lt, length, nat_le, not, option_and_then, option_map, ℕ, ℤ}
-use Rattle.std.specs.declared.cmp.Ordering.{Ordering}
+use Rattle.std.specs.Prelude.{false, find, int_lt, length, nat_le, not, option_and_then, option_map, ℕ, ℤ}
 use Rattle.net_plan.specs.declared.{ids.{DeviceId.DeviceId, LinkId.LinkId, VlId.VlId}, network.Network.Network}
 use Rattle.net_plan.specs.{Places.link_at, declared.tables.{Link.Link, Row.Row, Way.{Way, TheVariants.{Down, Up}}}}
 use Rattle.run_law.specs.{declared.judgement.Reason.Reason, device.Standpoints.{Standpoint, first_reason}}

@@ -1,15 +1,13 @@
 -- The time-triggered frames that a device takes.
-use Rattle.std.specs.{BTreeMap.get, Int.int_div_euclid, List.last_or}
+use Rattle.std.specs.{BTreeMap.get, Int.int_div_euclid, Prelude.{length, option_map, slice_get, unwrap_or, ℕ, ℤ}}
+use Rattle.std.specs.List.{last_or}
 use Rattle.std.specs.Prelude.{◌++◌, ◌<◌, ◌==◌, ◌∷◌, ◌≡◌, Err, IfSome, List, None, Ok, Option, Result, Some, [], filter}
-use Rattle.std.specs.Prelude.{length}
-use Rattle.std.specs.Prelude.{option_map, slice_get, unwrap_or, ℕ, ℤ}
 use Rattle.net_plan.specs.declared.{ids.{DeviceId.DeviceId, LinkId.LinkId, VlId.VlId}, network.Network.Network}
 use Rattle.run_law.specs.declared.{judgement.Reason.Reason, steps.Arrival.Arrival}
 use Rattle.run_law.specs.device.Standpoints.{Standpoint, natural}
 use Rattle.run_law.specs.{machines.Nodes.TakenFrame, timed.Arrivals.{entry_arrival, entry_entering, taken_by}}
-use Rattle.device_rules.specs.Entering.{AreRows, HasPeriod, entrance_cmp}
-use Rattle.device_rules.specs.declared.{entrances.Which.TheVariants.Into, heading.Heading.Heading}
-use Rattle.device_rules.specs.declared.intake.Intake.{Intake}
+use Rattle.device_rules.specs.{Entering.{AreRows, HasPeriod, entrance_cmp}, declared.entrances.Which.TheVariants.Into}
+use Rattle.device_rules.specs.declared.{heading.Heading.Heading, intake.Intake.Intake}
 use Rattle.run_law.specs.declared.steps.Arrival.TheVariants as arrivals
 
 -- the cycle in which the last of these frames of the virtual link was taken

@@ -1,3 +1,4 @@
+pub mod frames
 pub mod Widths
 pub mod Answers
 pub mod Arriving

@@ -10,8 +10,8 @@ ghost use Rattle.tte_units.specs.Amount.{amount};
 ghost use Rattle.device_rules.specs.{Arriving.{IsGrownSo, young_clock}, Widths.IsLocal};
 
 use crate::Standpoint;
+use crate::frames::member_of;
 use crate::network::{is_end, is_parent_of, is_relay, place_in_cycle, precision, wire_of};
-use made_frames::member_of;
 use membership::one;
 use net_plan::{DeviceId, LinkId, Network, Way};
 use pcf_codec::PcfRefusal;

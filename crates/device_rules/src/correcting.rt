@@ -5,14 +5,14 @@ ghost use Rattle.clock_correction.specs.{Correction.correction_of, Deviation.dev
 ghost use Rattle.net_plan.specs.{Ranges.IsInRange, declared.{ids.DeviceId.DeviceId, network.Network.Network}};
 ghost use Rattle.run_law.specs.{control.Corrections.correction_value, scenario.Devices.plan_of};
 ghost use Rattle.sync_state.specs.{Plan.expected_at, Standing.IsAtIntegration};
-ghost use Rattle.sync_state.specs.Verdicts.{HasVerdict, IsOutnumbered, deviation_on, members_of_best};
+ghost use Rattle.sync_state.specs.Verdicts.{HasVerdict, deviation_on};
 ghost use Rattle.device_rules.specs.{Answers.{in_units, standing_of, verdict_as}, Widths.{IsFar, IsWide}};
 
 use crate::network::{begun, expected_at};
-use membership::{Heard, count};
+use membership::Heard;
 use net_plan::{DeviceId, Network};
 use pcf_values::Channel;
-use sync_state::State;
+use sync_state::{State, is_outnumbered};
 use tte_units::Units;
 
 /// What a correction point comes to.
@@ -137,19 +137,4 @@ fn correction(a: Option<i128>, b: Option<i128>) -> Option<i128>
         (Some(only), None) | (None, Some(only)) => Some(only),
         (None, None) => None,
     }
-}
-
-/// Were at least as many masters heard outside as the best frame with most members has?
-fn is_outnumbered(heard: &Heard) -> bool
-    ensures { IsTrue result ↔ IsOutnumbered heard.now }
-{
-    let most = members_of_best(heard, Channel::A).max(members_of_best(heard, Channel::B));
-    count(heard.outside()) >= most
-}
-
-/// How many members the channel's best frame has, or 0 where there is none.
-fn members_of_best(heard: &Heard, channel: Channel) -> u32
-    ensures { result ≡ members_of_best heard.now channel }
-{
-    heard.best(channel).map_or(0, |frame| count(frame.members))
 }

@@ -8,6 +8,7 @@ mod arriving;
 mod collecting;
 mod correcting;
 mod entrances;
+pub mod frames;
 mod heading;
 mod hearing;
 mod intake;

@@ -1,7 +1,6 @@
 -- The instant at which a count is enough.
-use Rattle.std.proofs.Common.{◌%◌, ◌*◌, ◌+◌, ◌-◌, ◌/◌, ◌<◌, ◌^◌, ◌≡◌, ◌≤◌, arith, inl, inr, pos, ℕ, ℤ}
-use Rattle.std.proofs.{Math.Nat.{lt_of_mul-lt-mul_left, mul-div-le, mul-le-mul_left}, lemmas.{Bool.cases_lt, Grind.div_ceil_times, Int.ints, Nat.le-div}}
-use Rattle.std.specs.Int.{div_ceil}
+use Rattle.std.proofs.{Common.{◌%◌, ◌*◌, ◌+◌, ◌-◌, ◌/◌, ◌<◌, ◌^◌, ◌≡◌, ◌≤◌, arith, inl, inr, pos, ℕ, ℤ}, lemmas.{Bool.cases_lt, Grind.div_ceil_times, Int.ints}}
+use Rattle.std.{proofs.{Math.Nat.{lt_of_mul-lt-mul_left, mul-div-le, mul-le-mul_left}, lemmas.Nat.le-div}, specs.Int.div_ceil}
 use Rattle.drift_clock.{proofs.Rounding.{le-rounded, rounded-lt}, specs.{Counts.gain, Reach.IsReach, Segment.{Segment, segment_count, segment_reading}}}
 
 -- a reach over numbers that are not negative

@@ -1,10 +1,9 @@
 -- The readings of a clock under its steps, from the laws of one step.
 use Rattle.std.proofs.Common.{◌*◌, ◌+◌, ◌-◌, ◌<◌, ◌^◌, ◌∙◌, ◌∷◌, ◌≡◌, ◌≤◌, List, [], ap, arith, inl, inr, refl, subst, unsigned_abs, ℕ, ℤ}
 use Rattle.std.proofs.{Math.Nat.mul-le-mul_right, lemmas.Bool.cases_lt}
-use Rattle.drift_clock.proofs.Histories.{InOrder, in_order, up_to-all, up_to-cons, up_to-late, up_to-none}
-use Rattle.drift_clock.proofs.Rounding.{rounded-measures, rounded-mono, rounded-zero}
-use Rattle.drift_clock.specs.{ClockLaws.{AlwaysBeginsAtZero, AlwaysKeepsClockLaws, ReadsItsSteps}, Counts.{Advances, rounded}, RateSteps.{RateStep, up_to}}
-use Rattle.drift_clock.specs.{Readings.{reading_at, value_after}, SteadyLaws.time_advances}
+use Rattle.drift_clock.{proofs.Histories.{InOrder, in_order, up_to-all, up_to-cons, up_to-late, up_to-none}, specs.RateSteps.{RateStep, up_to}}
+use Rattle.drift_clock.{proofs.Rounding.{rounded-measures, rounded-mono, rounded-zero}, specs.Counts.{Advances, rounded}}
+use Rattle.drift_clock.specs.{ClockLaws.{AlwaysBeginsAtZero, AlwaysKeepsClockLaws, ReadsItsSteps}, Readings.{reading_at, value_after}, SteadyLaws.time_advances}
 
 -- a step keeps the count, which then drifts by its rate
 pub record IsSteppable {C : Type 0} (after_step : C → ℕ → ℤ → C) (count : C → ℕ → ℕ) : Type 0 where

@@ -1,9 +1,9 @@
 -- The records of an act are those of the law, and are put in.
-use Rattle.drift_world.proofs.Words.{if◌then◌else◌, ◌++◌, ◌==◌, ◌∙◌, ◌∷◌, ◌≡◌, ◌≤◌, ◌⊎◌, ArePutIn, Bool, DeviceId, Happening, HasItsOctets, Holding}
-use Rattle.drift_world.proofs.Words.{Integrating, IsBefore, IsIn, IsSomePut, Joining, List, Network, Node, None, NoteBody, Off, Option, Pcf, Scenario, Settled}
-use Rattle.drift_world.proofs.Words.{Some, Units, [], act_place, amount, ap, arith, false, in_parts, in_right, inl, inr, is_cut, map, moment_of, none_yet}
+use Rattle.drift_world.proofs.{HiddenCauses.InOrder, Puts.{is_put_in, order_put}, Words.{sym, true, way_from, ℕ}}
+use Rattle.drift_world.proofs.Words.{◌++◌, ◌==◌, ◌∙◌, ◌∷◌, ◌≡◌, ◌≤◌, ◌⊎◌, ArePutIn, Bool, DeviceId, Happening, HasItsOctets, Holding, Integrating, IsBefore}
+use Rattle.drift_world.proofs.Words.{IsIn, IsSomePut, Joining, List, Network, Node, None, NoteBody, Off, Option, Pcf, Scenario, Settled, Some, Units, []}
+use Rattle.drift_world.proofs.Words.{act_place, amount, ap, arith, false, if◌then◌else◌, in_parts, in_right, inl, inr, is_cut, map, moment_of, none_yet}
 use Rattle.drift_world.proofs.Words.{octets_from, octets_of, option_map_or, own_place, rank, refl, settled_as, settled_at, slice_get_within, stored_as, subst}
-use Rattle.drift_world.proofs.Words.{sym, true, way_from, ℕ}
 use Rattle.std.{proofs.lemmas.Bool.ne_eqb, specs.Option.option_map}
 use Rattle.net_plan.specs.declared.ids.RowId.{RowId}
 use Rattle.run_law.{proofs.runs.Places.in_left, specs.{declared.steps.{Act.Act, Ripe.Ripe}, machines.{Answers.IsActOf, Nodes.dispatching}}}
@@ -12,11 +12,10 @@ use Rattle.schedule_tables.specs.{Entries.IsEntry, declared.entry.Entry.Entry}
 use Rattle.sync_state.specs.declared.{answers.Verdict.{Verdict, TheVariants.{AsyncClique, Cleared, Corrected, SyncClique}}, state.State.State as Standing}
 use Rattle.sync_state.specs.declared.state.State.TheVariants.{Synchronised}
 use Rattle.world_law.{proofs.rows.AtHand.sender_or, specs.world.{Moves.IsPutIn, Outcomes.judged_as, World.{AreStored, Stored}}}
+use Rattle.world_law.{proofs.steps_lemmas.acting.{Held.{IsHeldFrame, held_frame}, Stage.Stage}, specs.steps.Acting.{AreActBodies, first_bodies, joining_bodies}}
 use Rattle.world_state.proofs.Made.{made_octets}
 use Rattle.world_state.specs.Acting.{AreOutcomes, IsHeldIn, bare, bodies_of, body_of, corrected_by, dispatched_by, emitted_by, first_by, framed, joined_by}
 use Rattle.world_state.specs.{Acting.sent_by, declared.{contents.Timed.TheVariants.Made, hands.AtHand.AtHand, outcomes.Outcomes.Outcomes}}
-use Rattle.world_steps.{proofs.acting.{Held.{IsHeldFrame, held_frame}, Stage.Stage}, specs.Acting.{AreActBodies, first_bodies, joining_bodies}}
-use Rattle.drift_world.proofs.{HiddenCauses.InOrder, Puts.{is_put_in, order_put}}
 use Rattle.run_law.specs.declared.judgement.Why.TheVariants as whys
 use Rattle.run_law.specs.declared.note.NoteBody.TheVariants as kinds
 use Rattle.run_law.specs.declared.steps.Act.TheVariants as acts

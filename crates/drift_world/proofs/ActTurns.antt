@@ -6,7 +6,7 @@ use Rattle.drift_world.proofs.Words.{subst, sym, true, world_of, ℕ}
 use Rattle.std.specs.{List.slice_get, Prelude.All}
 use Rattle.run_law.specs.declared.steps.Act.{Act}
 use Rattle.world_law.proofs.giving.Given.{some_same}
-use Rattle.world_steps.{proofs.growing.Repeating.{acts_add_up, acts_are_bounded, no_act_yet}, specs.Repeating.HasActedTimes}
+use Rattle.world_law.{proofs.steps_lemmas.growing.Repeating.{acts_add_up, acts_are_bounded, no_act_yet}, specs.steps.Repeating.HasActedTimes}
 use Rattle.drift_world.{proofs.Fits.{have_octets, sound_same}, specs.{Acting.{IsDueAt, SettlesFrom, act_cursor}, declared.state.State.State}}
 
 -- the state stands, and the device's acts come first, but that there may be no numbers

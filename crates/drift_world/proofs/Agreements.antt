@@ -1,15 +1,13 @@
 -- How the clocks of a network go on by an event: what they read up to then stays, and from then on they read what the
 -- event makes of them.
-use Rattle.drift_world.proofs.Words.{if◌then◌else◌, ◌++◌, ◌∙◌, ◌∷◌, ◌≡◌, ◌≤◌, Bool, DeviceId, IsIn, IsLawful, List, Network, None, Option, RateStep, Some}
-use Rattle.drift_world.proofs.Words.{[], amount, ap, arith, cases_lt, clock_after, inl, inr, le-leb, option_map_or, rate_steps, reading_of, refl}
-use Rattle.drift_world.proofs.Words.{subst, sym, ℕ, ℤ}
+use Rattle.drift_world.proofs.Words.{◌++◌, ◌∙◌, ◌∷◌, ◌≡◌, ◌≤◌, Bool, DeviceId, IsIn, IsLawful, List, Network, None, Option, RateStep, Some, [], amount, ap}
+use Rattle.drift_world.proofs.Words.{arith, cases_lt, clock_after, if◌then◌else◌, inl, inr, le-leb, option_map_or, rate_steps, reading_of, refl, subst, sym, ℕ}
+use Rattle.drift_world.{proofs.Words.ℤ, specs.Running.clock_of}
 use Rattle.std.{proofs.lemmas.{Bool.lt-leb, List.{Elements.{filter-append, filter_map-append}, Sums.fold-append}}, specs.List.All}
 use Rattle.drift_clock.{proofs.Histories.up_to-all, specs.{Counts.rounded, RateSteps.up_to, Readings.{reading_at, value_after}}}
 use Rattle.net_plan.specs.declared.event.Event.{Event}
-use Rattle.run_law.specs.scenario.Rates.{step_by}
-use Rattle.drift_world.specs.Running.{clock_of}
+use Rattle.run_law.{proofs.scenario.Rated.{Holds, step_at}, specs.scenario.Rates.step_by}
 use Rattle.net_plan.specs.declared.event.What.TheVariants as events
-use Rattle.run_law.proofs.scenario.Rated.{Holds, step_at}
 
 -- ---- the steps of more events
 

@@ -1,13 +1,12 @@
 -- What is given at once: nothing of its instant stands before it.
-use Rattle.drift_world.proofs.Words.{◌+◌, ◌-◌, ◌<◌, ◌∙◌, ◌∷◌, ◌≡◌, ◌≤◌, ◌⊎◌, AreFirsts, AreTimed, AreUnderWay, Due, Err, IfOk, IfSome, IsBefore, IsFirst}
-use Rattle.drift_world.proofs.Words.{IsRunning, IsWell, List, Network, Node, None, Note, Ok, Option, Place, Result, Scenario, Some, Stands, Turn, [], ap, arith}
-use Rattle.drift_world.proofs.Words.{cases_lt, inl, inr, keeps, length, numbers_of, refl, subst, true, world_of, ℕ}
+use Rattle.drift_world.{proofs.Foremost.{first_later, higher, not_earlier, of_run}, specs.declared.next.Turn.TheVariants.{Ends, Gives, GoesOn}}
+use Rattle.drift_world.proofs.{Nearings.{less_nears, nears_behind}, Words.{cases_lt, inl, inr, keeps, length, numbers_of, refl, subst, true, world_of, ℕ}}
+use Rattle.drift_world.{proofs.Sources.{due_time, nothing_before, slot_high, slot_low}, specs.Turns.{GivesAt, IsNextRank, IsPassed, TurnsTo, WorkSays}}
+use Rattle.drift_world.{proofs.Turning.says_then, specs.{Nearing.{Nears, distance}, Sourcing.{IsRipePlace, due_place}, declared.state.State.State}}
+use Rattle.drift_world.proofs.Words.{◌+◌, ◌-◌, ◌<◌, ◌∙◌, ◌∷◌, ◌≡◌, ◌≤◌, ◌⊎◌, AreFirsts, AreTimed, AreUnderWay, Due, DueAt, Err, IfOk, IfSome, IsBefore, IsFirst}
+use Rattle.drift_world.proofs.Words.{IsRunning, IsWell, List, Network, Node, None, Note, Ok, Option, Result, Scenario, Some, Stands, Turn, [], ap, arith}
 use Rattle.net_plan.specs.declared.ids.DeviceId.{DeviceId}
 use Rattle.world_state.specs.timers.Times.{IsFirst as IsFirstDue}
-use Rattle.drift_world.proofs.{Foremost.{first_later, higher, not_earlier, of_run}, Nearings.{less_nears, nears_behind}, Turning.says_then}
-use Rattle.drift_world.proofs.Sources.{due_time, nothing_before, slot_high, slot_low}
-use Rattle.drift_world.specs.{Nearing.{Nears, distance}, Sourcing.{IsRipePlace, due_place}, Turns.{GivesAt, IsNextRank, IsPassed, TurnsTo, WorkSays}}
-use Rattle.drift_world.specs.declared.{next.Turn.TheVariants.{Ends, Gives, GoesOn}, state.State.State}
 
 -- what stands at a time and a rank is not before a place of this time and a lower rank
 aside_by_rank : (t now high rank : ℕ) (rest more : List ℕ) → now ≤ t → (t ≡ now → rank < high) → IsBefore (t ∷ high ∷ rest) (now ∷ rank ∷ more) → ⊥
@@ -15,7 +14,7 @@ aside_by_rank t now high rank rest more le lt = not_earlier t now (high ∷ rest
 
 module _ {C M : Type 0} (last_step : C → ℕ) (reading : C → ℕ → ℕ) (stands : M → Network → DeviceId → Node → Type 0) (network : Network) where
   -- the first that is under way is not before it
-  port_aside : (state : State C M) (place : Option Place) (port rank : ℕ) (rest : List ℕ) → IsRunning reading stands network state
+  port_aside : (state : State C M) (place : Option DueAt) (port rank : ℕ) (rest : List ℕ) → IsRunning reading stands network state
       → AreUnderWay network state.under_way.entries → rank < port → IfSome place (λ p. IsFirst state.under_way.entries p)
       → IfSome place (λ p. p.at ≡ state.time → port ≤ p.rank)
       → IfSome place (λ p. IsBefore (numbers_of p) (state.time ∷ rank ∷ rest) → ⊥)
@@ -45,7 +44,7 @@ module _ {C M : Type 0} (last_step : C → ℕ) (reading : C → ℕ → ℕ) (s
       ])
 
   -- the ranks of the first of both queues, and of what is in none, tell what is to come of the instant
-  pub ranks_tell : (state : State C M) (place : Option Place) (due : Option Due) (port slot other next : ℕ) → IsWell last_step reading stands network state
+  pub ranks_tell : (state : State C M) (place : Option DueAt) (due : Option Due) (port slot other next : ℕ) → IsWell last_step reading stands network state
       → AreFirsts state place due
       → IfSome place (λ p. p.at ≡ state.time → port ≤ p.rank)
       → IfSome due (λ d. d.time ≡ state.time → d.slot < length network.device → slot ≤ 3)

@@ -1,8 +1,7 @@
 -- What waits by a record, as its law asks for it.
-use Rattle.drift_world.proofs.Words.{if◌then◌else◌, ◌&&◌, ◌∙◌, ◌∷◌, ◌≡◌, ◌⊎◌, Arrived, Bool, DeviceId}
-use Rattle.drift_world.proofs.Words.{Giving, Happening, IsPermutation, IsPermutation-map, IsPermutation-sym, LinkId, List, Network, None, NoteBody}
-use Rattle.drift_world.proofs.Words.{Option, Pcf, Scenario, Some, Waiting, Waits, ap, false, in_permuted, inl, inr, is_broken, map, not, pos}
-use Rattle.drift_world.proofs.Words.{refl, same_Some, subst, sym, time_of, true, waiting_as, ℕ}
+use Rattle.drift_world.proofs.Words.{◌&&◌, ◌∙◌, ◌∷◌, ◌≡◌, ◌⊎◌, Arrived, Bool, DeviceId, Giving, Happening, IsPermutation, IsPermutation-map, IsPermutation-sym}
+use Rattle.drift_world.proofs.Words.{LinkId, List, Network, None, NoteBody, Option, Pcf, Scenario, Some, Waiting, Waits, ap, false, if◌then◌else◌, in_permuted}
+use Rattle.drift_world.proofs.Words.{inl, inr, is_broken, map, not, pos, refl, same_Some, subst, sym, time_of, true, waiting_as, ℕ}
 use Rattle.run_law.specs.{control.Permanence.waits_for}
 use Rattle.transparent_clock.specs.Points.{point_of}
 use Rattle.world_law.specs.world.{Moves.AreAwaited, World.IsAwaitedFor}

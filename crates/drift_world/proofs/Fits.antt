@@ -1,12 +1,10 @@
 -- What is settled stays fit to be given.
-use Rattle.drift_world.proofs.Words.{◌∷◌, ◌≡◌, AreBelow, AtPort, Bool, Content, HasItsOctets, IsPermutation, IsPermutation-sym, IsPutAt, IsSomePut}
-use Rattle.drift_world.proofs.Words.{List, Network, None, Option, Settled, Some, arith, departure_body, in_permuted, inr, refl, subst, sym, ℕ}
-use Rattle.drift_world.proofs.Words.{◌+◌, ◌<◌, ◌^◌, ◌∙◌, ◌≤◌, AreApart, AreUnderWay, IsShort, IsSized, IsSound, Waits, ap, length}
-use Rattle.drift_world.specs.declared.state.State.{State}
+use Rattle.drift_world.proofs.Words.{◌+◌, ◌<◌, ◌^◌, ◌∙◌, ◌∷◌, ◌≡◌, ◌≤◌, AreApart, AreBelow, AreUnderWay, AtPort, Bool, Content, HasItsOctets, IsPermutation}
+use Rattle.drift_world.proofs.Words.{IsPermutation-sym, IsPutAt, IsShort, IsSized, IsSomePut, IsSound, List, Network, None, Option, Settled, Some, Waits, ap}
+use Rattle.drift_world.{proofs.Words.{arith, departure_body, in_permuted, inr, length, refl, subst, sym, ℕ}, specs.declared.state.State.State}
 use Rattle.std.proofs.{Common.All, lemmas.Grind.elements}
 use Rattle.run_law.specs.control.Leaving.{Departure, leaves, on_cut_way, too_old}
-use Rattle.world_state.specs.declared.queue.Entry.{Entry}
-use Rattle.world_state.specs.Leaving.{departed, departure_by}
+use Rattle.world_state.specs.{Leaving.{departed, departure_by}, declared.queue.Entry.Entry}
 
 abbrev pub have_octets : Settled → Type 0
 have_octets z = HasItsOctets z.body z.octets

@@ -1,16 +1,12 @@
 -- What comes first of all that a state has under way.
-use Rattle.drift_world.proofs.Words.{◌+◌, ◌-◌, ◌<◌, ◌^◌, ◌∙◌, ◌∷◌, ◌≡◌, ◌≤◌, ◌⊎◌, AreFirsts, AreTimed, AreUnderWay, AtPort, Content, DeviceId}
-use Rattle.drift_world.proofs.Words.{Due, HasNothingBefore, IfSome, IsBefore, IsFirst, IsIn, IsRunning, IsWell, Kept, List, Network, Node, None}
-use Rattle.drift_world.proofs.Words.{OnWire}
-use Rattle.drift_world.proofs.Words.{Option, Place, Port, Some, Wire, [], ap, arith, at_port, both_ways, cases_lt, false, get_or_from_slice_get, inl, inr}
-use Rattle.drift_world.proofs.Words.{is_given, keeps, length, never, never_self, numbers_of, on_wire, rank_of, refl, slice_get-get_or, subst, sym, true}
-use Rattle.drift_world.proofs.Words.{wire_at, wire_place, ℕ}
+use Rattle.drift_world.{proofs.Sources.{due_time, nothing_before, slot_high, slot_low}, specs.{Sourcing.{IsRipePlace, due_place}, declared.state.State.State}}
+use Rattle.drift_world.proofs.Words.{◌+◌, ◌-◌, ◌<◌, ◌^◌, ◌∙◌, ◌∷◌, ◌≡◌, ◌≤◌, ◌⊎◌, AreFirsts, AreTimed, AreUnderWay, AtPort, Content, DeviceId, Due, DueAt}
+use Rattle.drift_world.proofs.Words.{HasNothingBefore, IfSome, IsBefore, IsFirst, IsIn, IsRunning, IsWell, Kept, List, Network, Node, None, OnWire, Option}
+use Rattle.drift_world.proofs.Words.{Port, Some, Wire, [], ap, arith, at_port, both_ways, cases_lt, false, get_or_from_slice_get, inl, inr, is_given, keeps}
+use Rattle.drift_world.proofs.Words.{length, never, never_self, numbers_of, on_wire, rank_of, refl, slice_get-get_or, subst, sym, true, wire_at, wire_place, ℕ}
 use Rattle.std.proofs.Common.{All, get_or, slice_get}
 use Rattle.world_law.specs.world.World.{port_place}
-use Rattle.world_state.specs.declared.queue.Entry.{Entry}
-use Rattle.world_state.specs.Views.{port_at}
-use Rattle.world_state.specs.timers.Times.{IsFirst as IsFirstDue}
-use Rattle.drift_world.{proofs.Sources.{due_time, nothing_before, slot_high, slot_low}, specs.{Sourcing.{IsRipePlace, due_place}, declared.state.State.State}}
+use Rattle.world_state.specs.{Views.port_at, declared.queue.Entry.Entry, timers.{Times.{IsFirst as IsFirstDue}}}
 
 -- ---- places of one time, or of a later one
 
@@ -90,9 +86,9 @@ module _ {C M : Type 0} (reading : C → ℕ → ℕ) (stands : M → Network �
   entries_later are e there = entry_later e e.content refl there (are.kinds e there)
 
   -- nor the first place
-  pub first_later : AreUnderWay network state.under_way.entries → (place : Place) → IsFirst state.under_way.entries place → state.time ≤ place.at
+  pub first_later : AreUnderWay network state.under_way.entries → (place : DueAt) → IsFirst state.under_way.entries place → state.time ≤ place.at
   first_later are place first =
-      subst (λ (p : Place). state.time ≤ p.at) first.at (entries_later are first.entry first.there)
+      subst (λ (p : DueAt). state.time ≤ p.at) first.at (entries_later are first.entry first.there)
 
   -- the node of a device's machine
   pub node_of : (device : DeviceId) (machine : Kept M) → device.0 < length network.device → slice_get state.machines.items device.0 ≡ Some machine
@@ -182,22 +178,22 @@ shape_of reading network state due p (inr r) = record {
 }
 
 module _ {C M : Type 0} (last_step : C → ℕ) (reading : C → ℕ → ℕ) (stands : M → Network → DeviceId → Node → Type 0) (network : Network)
-    (state : State C M) (place : Option Place) (due : Option Due) (well : IsWell last_step reading stands network state)
+    (state : State C M) (place : Option DueAt) (due : Option Due) (well : IsWell last_step reading stands network state)
     (firsts : AreFirsts state place due) where
   abbrev now : ℕ
   now = state.time
 
-  first_is : (q : Place) → place ≡ Some q → IsFirst state.under_way.entries q
+  first_is : (q : DueAt) → place ≡ Some q → IsFirst state.under_way.entries q
   first_is q e = from_some (λ p. IsFirst state.under_way.entries p) place q firsts.some_place e
 
-  first_rank : (q : Place) → place ≡ Some q → (q.rank ≡ 2) ⊎ (q.rank ≡ 8)
+  first_rank : (q : DueAt) → place ≡ Some q → (q.rank ≡ 2) ⊎ (q.rank ≡ 8)
   first_rank q e =
       let first = first_is q e in
       let kind = well.sound.under_way.kinds first.entry first.there in
-      let rank : q.rank ≡ rank_of first.entry.content = sym (ap (λ (p : Place). p.rank) first.at) ∙ kind in
+      let rank : q.rank ≡ rank_of first.entry.content = sym (ap (λ (p : DueAt). p.rank) first.at) ∙ kind in
       elim (rank_is first.entry.content) [ inl two ↦ inl (rank ∙ two) | inr eight ↦ inr (rank ∙ eight) ]
 
-  place_later : (q : Place) → place ≡ Some q → now ≤ q.at
+  place_later : (q : DueAt) → place ≡ Some q → now ≤ q.at
   place_later q e = first_later reading stands network state well.running well.sound.under_way q (first_is q e)
 
   due_later : (d : Due) → due ≡ Some d → now ≤ d.time
@@ -205,7 +201,7 @@ module _ {C M : Type 0} (last_step : C → ℕ) (reading : C → ℕ → ℕ) (s
 
   -- none is before the place, where each is so
   are_not : (p : List ℕ) → (IsBefore ((2 ^ 60 + 1) ∷ []) p → ⊥)
-      → ((q : Place) → place ≡ Some q → now ≤ q.at → (q.rank ≡ 2) ⊎ (q.rank ≡ 8) → IsBefore (numbers_of q) p → ⊥)
+      → ((q : DueAt) → place ≡ Some q → now ≤ q.at → (q.rank ≡ 2) ⊎ (q.rank ≡ 8) → IsBefore (numbers_of q) p → ⊥)
       → ((d : Due) → due ≡ Some d → now ≤ d.time
       → (IsBefore (due_place (length network.device) d) p → ⊥) ⊎ IsRipePlace reading network state d p)
       → (state.pending ≡ true → IsBefore (now ∷ 2 ∷ []) p → ⊥)
@@ -215,7 +211,7 @@ module _ {C M : Type 0} (last_step : C → ℕ) (reading : C → ℕ → ℕ) (s
       nothing_before last_step reading stands network state place due p well.sound.sized well.timed firsts
       (record {
         in_time = in_time;
-        under_way = if_some (λ (q : Place). IsBefore (numbers_of q) p → ⊥) place (λ q e. places q e (place_later q e) (first_rank q e));
+        under_way = if_some (λ (q : DueAt). IsBefore (numbers_of q) p → ⊥) place (λ q e. places q e (place_later q e) (first_rank q e));
         timers = if_some (λ (d : Due). (IsBefore (due_place (length network.device) d) p → ⊥) ⊎ IsRipePlace reading network state d p) due
             (λ d e. dues d e (due_later d e));
         befell = befell;
@@ -254,7 +250,7 @@ module _ {C M : Type 0} (last_step : C → ℕ) (reading : C → ℕ → ℕ) (s
       (λ ended more. clocks_after 2 [] (omega arith))
 
   -- what is the first that is under way, and there now
-  placed_first : (q : Place) (rank : ℕ) → rank < 14 → state.pending ≡ false → place ≡ Some q → q.at ≡ state.time → q.rank ≡ rank
+  placed_first : (q : DueAt) (rank : ℕ) → rank < 14 → state.pending ≡ false → place ≡ Some q → q.at ≡ state.time → q.rank ≡ rank
       → ((d : Due) → due ≡ Some d → now ≤ d.time
       → IsBefore (due_place (length network.device) d) (now ∷ rank ∷ q.device ∷ q.link ∷ q.cause ∷ []) → ⊥)
       → HasNothingBefore reading stands network state (numbers_of q)
@@ -266,12 +262,12 @@ module _ {C M : Type 0} (last_step : C → ℕ) (reading : C → ℕ → ℕ) (s
       (are_not (now ∷ rank ∷ rest) (of_run now (rank ∷ rest) well.sound.sized.limit)
       (λ r e le either.
       let one : q ≡ r = let both : Some q ≡ Some r = sym is ∙ e in cc in
-      subst (λ (x : Place). IsBefore (numbers_of x) (now ∷ rank ∷ rest) → ⊥) one
+      subst (λ (x : DueAt). IsBefore (numbers_of x) (now ∷ rank ∷ rest) → ⊥) one
       (subst (λ (p : List ℕ). IsBefore p (now ∷ rank ∷ rest) → ⊥) same (never_self (now ∷ rank ∷ rest))))
       (λ d e le. inl (dues d e le)) (none_befell (now ∷ rank ∷ rest) calm) (λ ended more. clocks_after rank rest lt))
 
   -- what arrives now
-  pub arrival_first : (q : Place) → state.pending ≡ false → place ≡ Some q → q.at ≡ state.time → q.rank ≡ 2
+  pub arrival_first : (q : DueAt) → state.pending ≡ false → place ≡ Some q → q.at ≡ state.time → q.rank ≡ 2
       → HasNothingBefore reading stands network state (numbers_of q)
   arrival_first q calm is at rank =
       placed_first q 2 (omega arith) calm is at rank (λ d e le. after_lower 2 (q.device ∷ q.link ∷ q.cause ∷ []) d (omega arith) le)
@@ -292,7 +288,7 @@ module _ {C M : Type 0} (last_step : C → ℕ) (reading : C → ℕ → ℕ) (s
       (not_earlier q.at now (q.rank ∷ q.device ∷ q.link ∷ q.cause ∷ []) (rank ∷ shape.rest) le
       (λ same. higher q.rank rank (q.device ∷ q.link ∷ q.cause ∷ []) shape.rest
       (elim either [
-        | inl two ↦ absurd (from_some (λ (x : Place). x.at ≡ state.time → x.rank ≡ 2 → ⊥) place q no_arrival e same two)
+        | inl two ↦ absurd (from_some (λ (x : DueAt). x.at ≡ state.time → x.rank ≡ 2 → ⊥) place q no_arrival e same two)
         | inr eight ↦ omega (arith, eight, most)
       ]))))
       (λ x e le.
@@ -307,7 +303,7 @@ module _ {C M : Type 0} (last_step : C → ℕ) (reading : C → ℕ → ℕ) (s
       (clocks_after rank shape.rest (omega (arith, most))))
 
   -- what leaves now
-  pub departure_first : (q : Place) → state.pending ≡ false → IfSome due (λ d. d.time ≡ state.time → ⊥) → place ≡ Some q → q.at ≡ state.time → q.rank ≡ 8
+  pub departure_first : (q : DueAt) → state.pending ≡ false → IfSome due (λ d. d.time ≡ state.time → ⊥) → place ≡ Some q → q.at ≡ state.time → q.rank ≡ 8
       → HasNothingBefore reading stands network state (numbers_of q)
   departure_first q calm no_due is at rank =
       placed_first q 8 (omega arith) calm is at rank
@@ -321,8 +317,8 @@ module _ {C M : Type 0} (last_step : C → ℕ) (reading : C → ℕ → ℕ) (s
       are_not (now ∷ 14 ∷ state.shown ∷ []) (of_run now (14 ∷ state.shown ∷ []) well.sound.sized.limit)
       (λ q e le either. not_earlier q.at now (q.rank ∷ q.device ∷ q.link ∷ q.cause ∷ []) (14 ∷ state.shown ∷ []) le
       (λ same. elim either [
-        | inl two ↦ absurd (from_some (λ (x : Place). x.at ≡ state.time → x.rank ≡ 2 → ⊥) place q no_arrival e same two)
-        | inr eight ↦ absurd (from_some (λ (x : Place). x.at ≡ state.time → x.rank ≡ 8 → ⊥) place q no_departure e same eight)
+        | inl two ↦ absurd (from_some (λ (x : DueAt). x.at ≡ state.time → x.rank ≡ 2 → ⊥) place q no_arrival e same two)
+        | inr eight ↦ absurd (from_some (λ (x : DueAt). x.at ≡ state.time → x.rank ≡ 8 → ⊥) place q no_departure e same eight)
       ]))
       (λ d e le. inl (after_now (14 ∷ state.shown ∷ []) d (from_some (λ (x : Due). x.time ≡ state.time → ⊥) due d no_due e) le))
       (none_befell (now ∷ 14 ∷ state.shown ∷ []) calm)
@@ -332,7 +328,7 @@ module _ {C M : Type 0} (last_step : C → ℕ) (reading : C → ℕ → ℕ) (s
   pub place_after : IfSome place (λ q. q.at ≡ state.time → q.rank ≡ 2 → ⊥) → IfSome place (λ q. q.at ≡ state.time → q.rank ≡ 8 → ⊥)
       → IfSome place (λ q. state.time < q.at)
   place_after no_arrival no_departure =
-      if_some (λ (q : Place). state.time < q.at) place
+      if_some (λ (q : DueAt). state.time < q.at) place
       (λ q e.
       let le = place_later q e in
       elim (cases_lt now q.at) [
@@ -340,8 +336,8 @@ module _ {C M : Type 0} (last_step : C → ℕ) (reading : C → ℕ → ℕ) (s
         | inr ge ↦
             let same : q.at ≡ state.time = omega (arith, le, ge) in
             elim (first_rank q e) [
-              | inl two ↦ absurd (from_some (λ (x : Place). x.at ≡ state.time → x.rank ≡ 2 → ⊥) place q no_arrival e same two)
-              | inr eight ↦ absurd (from_some (λ (x : Place). x.at ≡ state.time → x.rank ≡ 8 → ⊥) place q no_departure e same eight)
+              | inl two ↦ absurd (from_some (λ (x : DueAt). x.at ≡ state.time → x.rank ≡ 2 → ⊥) place q no_arrival e same two)
+              | inr eight ↦ absurd (from_some (λ (x : DueAt). x.at ≡ state.time → x.rank ≡ 8 → ⊥) place q no_departure e same eight)
             ]
       ])
 
@@ -356,17 +352,17 @@ module _ {C M : Type 0} (last_step : C → ℕ) (reading : C → ℕ → ℕ) (s
       ])
 
   -- the first that is under way is at this place of the network
-  pub placed : (q : Place) → place ≡ Some q → (q.device < length network.device) × (q.link < length network.link)
+  pub placed : (q : DueAt) → place ≡ Some q → (q.device < length network.device) × (q.link < length network.link)
   placed q e =
       let first = first_is q e in
-      subst (λ (p : Place). (p.device < length network.device) × (p.link < length network.link)) first.at (well.sound.under_way.placed first.entry first.there)
+      subst (λ (p : DueAt). (p.device < length network.device) × (p.link < length network.link)) first.at (well.sound.under_way.placed first.entry first.there)
 
   -- nothing before a time
   pub none_before : (t : ℕ) → t ≤ 2 ^ 60 + 1 → state.pending ≡ false → (state.ended ≡ true → state.shown < length network.device → ⊥)
       → IfSome place (λ q. t ≤ q.at) → IfSome due (λ d. t ≤ d.time) → HasNothingBefore reading stands network state (t ∷ [])
   none_before t most calm no_clock places dues =
       are_not (t ∷ []) (of_end t most)
-      (λ q e le either. not_first q.at t (q.rank ∷ q.device ∷ q.link ∷ q.cause ∷ []) (from_some (λ (x : Place). t ≤ x.at) place q places e))
+      (λ q e le either. not_first q.at t (q.rank ∷ q.device ∷ q.link ∷ q.cause ∷ []) (from_some (λ (x : DueAt). t ≤ x.at) place q places e))
       (λ d e le. inl (slot_time (length network.device) d (t ∷ [])
       (not_first d.time t (3 ∷ d.slot ∷ []) (from_some (λ (x : Due). t ≤ x.time) due d dues e))
       (not_first d.time t (4 ∷ (d.slot - length network.device) ∷ []) (from_some (λ (x : Due). t ≤ x.time) due d dues e))))

@@ -7,7 +7,7 @@ use Rattle.std.{proofs.{Common.{All, filter_map, slice_get}, lemmas.List.{length
 use Rattle.net_plan.specs.declared.event.Event.{Event}
 use Rattle.run_law.specs.law.FirstLaws.{IsEventInRange}
 use Rattle.world_state.specs.{Beginning.first_way, Keeping.sound_one}
-use Rattle.world_steps.proofs.steps.Beginnings.{begun}
+use Rattle.world_law.proofs.steps_lemmas.steps.Beginnings.{begun}
 use Rattle.drift_world.proofs.{Beginnings.{first_ways_are, found, found_in, none_under_way}, Fitting.none_apart, Forwards.forward, Steadiness.steady}
 use Rattle.drift_world.specs.{Beginning.{AreFresh, IsFirstState}, declared.state.State.State}
 

@@ -1,18 +1,16 @@
 -- Once a record is given the state is sound again.
-use Rattle.drift_world.proofs.Words.{if◌then◌else◌, ◌&&◌, ◌+◌, ◌<◌, ◌↔◌, ◌∙◌, ◌∷◌, ◌≡◌, ◌⊎◌, Accepted, AreApart, AreUnderWay, Arrived, Bool}
-use Rattle.drift_world.proofs.Words.{Changed, ChangesOnly, Compressed, Content, Delivered, DeviceId, Dropped, Giving, HasItsOctets, Holding, IfSome, IsGivenOut}
-use Rattle.drift_world.proofs.Words.{IsIn, IsInRange, IsPermutation, IsPermutation-sym, IsPutOn, Kept, Left, LinkId, List, Lost, Network}
-use Rattle.drift_world.proofs.Words.{None, NoteBody, Option, Pcf, Permanent, Place, Settled, Some, Timed, TtSent, Waits, WayState, World, ap, arith, at_port}
-use Rattle.drift_world.proofs.Words.{changed_device, delay_by, false, in_permuted, inl, inr, length, link_at, map, named_settled, not, numbers_of, on_wire}
-use Rattle.drift_world.proofs.Words.{rank_of, receiver_of, refl, settled_at, stored_as, subst, sym, true, waiting_as, way_from, wire_entry, with_first}
-use Rattle.drift_world.proofs.Words.{world_of, ℕ}
+use Rattle.drift_world.{proofs.Fitting.{apart_more, below_one_more}, specs.declared.state.State.State}
+use Rattle.drift_world.proofs.{Sendings.link_within, Words.{settled_at, stored_as, subst, sym, true, waiting_as, way_from, wire_entry, with_first, world_of, ℕ}}
+use Rattle.drift_world.proofs.Words.{◌&&◌, ◌+◌, ◌<◌, ◌↔◌, ◌∙◌, ◌∷◌, ◌≡◌, ◌⊎◌, Accepted, AreApart, AreUnderWay, Arrived, Bool, Changed, ChangesOnly, Compressed}
+use Rattle.drift_world.proofs.Words.{Content, Delivered, DeviceId, Dropped, DueAt, Giving, HasItsOctets, Holding, IfSome, IsGivenOut, IsIn, IsInRange}
+use Rattle.drift_world.proofs.Words.{IsPermutation, IsPermutation-sym, IsPutOn, Kept, Left, LinkId, List, Lost, Network, None, NoteBody, Option, Pcf, Permanent}
+use Rattle.drift_world.proofs.Words.{Settled, Some, Timed, TtSent, Waits, WayState, World, ap, arith, at_port, changed_device, delay_by, false, if◌then◌else◌}
+use Rattle.drift_world.proofs.Words.{in_permuted, inl, inr, length, link_at, map, named_settled, not, numbers_of, on_wire, rank_of, receiver_of, refl}
 use Rattle.std.{proofs.{Common.slice_get, lemmas.List.Elements.{All-map, All-weaker}}, specs.{Option.option_map, Prelude.{All, filter_map}}}
 use Rattle.run_law.specs.{control.Permanence.waits_for, declared.note.NoteBody.TheVariants.{Clock, Corrected, Event, Sent}}
-use Rattle.world_law.specs.world.Moves.{named_body}
+use Rattle.world_law.{proofs.steps_lemmas.hearing.Receptions.receiver_in, specs.world.Moves.named_body}
 use Rattle.world_state.specs.declared.queue.Entry.{Entry}
 use Rattle.world_state.{proofs.UnderWays.sound_with, specs.{Frames.IsOneMore, Giving.{awaited_by, control_on_wire, place_on_wire, timed_on_wire, waits_from}}}
-use Rattle.world_steps.proofs.hearing.Receptions.{receiver_in}
-use Rattle.drift_world.{proofs.{Fitting.{apart_more, below_one_more}, Sendings.link_within}, specs.declared.state.State.State}
 
 -- ---- what is put to ports
 
@@ -38,13 +36,13 @@ pub record IsOnWire (network : Network) (number : ℕ) (e : Entry Content) : Typ
   pub cause : e.place.cause ≡ number
 
 module _ (network : Network) (ups downs : List WayState) (range : IsInRange network) (number : ℕ) where
-  placed : (f : Place → Entry Content) → ((p : Place) → (f p).place ≡ p) → ((p : Place) → rank_of (f p).content ≡ 2)
+  placed : (f : DueAt → Entry Content) → ((p : DueAt) → (f p).place ≡ p) → ((p : DueAt) → rank_of (f p).content ≡ 2)
       → (device : DeviceId) (link : LinkId) (time on_port : ℕ)
       → IfSome (option_map f (place_on_wire network ups downs device link time on_port number)) (IsOnWire network number)
   placed f same kind device link time on_port = by_receiver (receiver_of network link (way_from network device link)) refl
     where
       by_receiver : (o : Option DeviceId) → receiver_of network link (way_from network device link) ≡ o
-          → IfSome (option_map f (option_map (λ (receiver : DeviceId). let p : Place = record {
+          → IfSome (option_map f (option_map (λ (receiver : DeviceId). let p : DueAt = record {
             at = time + on_port + delay_by network ups downs device link;
             rank = 2;
             device = receiver.0;
@@ -53,7 +51,7 @@ module _ (network : Network) (ups downs : List WayState) (range : IsInRange netw
           } in p) o)) (IsOnWire network number)
       by_receiver None is = tt
       by_receiver (Some receiver) is =
-          let p : Place = record {
+          let p : DueAt = record {
             at = time + on_port + delay_by network ups downs device link;
             rank = 2;
             device = receiver.0;
@@ -61,13 +59,13 @@ module _ (network : Network) (ups downs : List WayState) (range : IsInRange netw
             cause = number;
           } in
           record {
-            two = ap (λ (q : Place). q.rank) (same p);
+            two = ap (λ (q : DueAt). q.rank) (same p);
             kind = kind p;
-            device = subst (λ (q : Place). q.device < length network.device) (sym (same p))
+            device = subst (λ (q : DueAt). q.device < length network.device) (sym (same p))
                 (receiver_in network (way_from network device link) link (link_at network link) receiver refl range is);
-            link = subst (λ (q : Place). q.link < length network.link) (sym (same p))
+            link = subst (λ (q : DueAt). q.link < length network.link) (sym (same p))
                 (link_within network.link link.0 (way_from network device link) (link_at network link) receiver refl is);
-            cause = ap (λ (q : Place). q.cause) (same p);
+            cause = ap (λ (q : DueAt). q.cause) (same p);
           }
 
   pub wire_is : (body : NoteBody) (frame : Option Pcf) (octets : Option Timed) (time : ℕ)
@@ -97,11 +95,11 @@ cause_in : List ℕ → ℕ
 cause_in (at ∷ rank ∷ device ∷ link ∷ cause ∷ rest) = cause
 cause_in other = 0
 
-same_rank : (p q : Place) → numbers_of p ≡ numbers_of q → p.rank ≡ q.rank
+same_rank : (p q : DueAt) → numbers_of p ≡ numbers_of q → p.rank ≡ q.rank
 unfolding rank_in
 same_rank p q e = ap rank_in e
 
-same_cause : (p q : Place) → numbers_of p ≡ numbers_of q → p.cause ≡ q.cause
+same_cause : (p q : DueAt) → numbers_of p ≡ numbers_of q → p.cause ≡ q.cause
 unfolding cause_in
 same_cause p q e = ap cause_in e
 

@@ -1,8 +1,7 @@
 -- The two timers of a device, each by itself.
 use Rattle.drift_world.proofs.Words.{◌+◌, ◌<◌, ◌∙◌, ◌≡◌, DeviceId, IsTimed, List, Network, Node, ap, arith, inl, inr, length, subst, sym, ℕ}
+use Rattle.drift_world.specs.{Stepping.{ActsAt, IsActTimed, IsRekeyed, IsRipeAt, IsRipeTimed, SetsOnly}, declared.state.State.State}
 use Rattle.std.proofs.Common.{slice_get}
-use Rattle.drift_world.specs.Stepping.{ActsAt, IsActTimed, IsRekeyed, IsRipeAt, IsRipeTimed, SetsOnly}
-use Rattle.drift_world.specs.declared.state.State.{State}
 
 module _ {C M : Type 0} (reading : C → ℕ → ℕ) (stands : M → Network → DeviceId → Node → Type 0) (network : Network) (old new : State C M)
     (device : DeviceId) where

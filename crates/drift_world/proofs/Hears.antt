@@ -1,22 +1,20 @@
 -- What is on a wire arrives: its device may hear it, and the world stands again.
 use Rattle.drift_world.proofs.Words.{if◌then◌else◌, ◌==◌, ◌∙◌, ◌∷◌, ◌≡◌, AreUnderWay, Bool, ComesFirst, Content, DeviceId, Err, Happening, IsBefore, IsHeld}
 use Rattle.drift_world.proofs.Words.{IsIn, IsPermutation, IsPermutation-sym, IsPutAt, Kept, LinkId, List, Moment, Network, Node, Note, Ok, OnWire, Option, Pcf}
-use Rattle.drift_world.proofs.Words.{Place, Result, Scenario, Settled, Signal, Some, Stands, StandsBehind, StandsFor, Units, Wire, World, [], amount, ap, arith}
+use Rattle.drift_world.proofs.Words.{DueAt, Result, Scenario, Settled, Signal, Some, Stands, StandsBehind, StandsFor, Units, Wire, World, [], amount, ap, arith}
 use Rattle.drift_world.proofs.Words.{at_port, behind, control, false, field, frame_by, frame_from, happenings, in_permuted, inl, inr, is_given, map, moment_of}
 use Rattle.drift_world.proofs.Words.{numbers_of, octets_by, octets_from, octets_in, octets_of, on_wire, pos, refl, settled_as, settled_at, signal_as, signal_of}
 use Rattle.drift_world.proofs.Words.{subst, sym, timed, true, units_of, wire_place, with_clock, world_of, ℕ}
+use Rattle.drift_world.proofs.{Alike.with_ports, Arrivals.{control_so, on_arrival, timed_so}, Fits.have_octets, HiddenCauses.settled_in_order, Puts.one_put_in}
+use Rattle.drift_world.{proofs.Signals.{frame_told, octets_told, plain_on_wire}, specs.declared.state.State.State}
 use Rattle.std.{proofs.Common.{option_map, set, slice_get}, specs.List.filter_map}
 use Rattle.pcf_codec.specs.{Decoding.decoded, EtherType.pcf_type, declared.refusal.PcfRefusal.PcfRefusal}
 use Rattle.run_law.{proofs.runs.Determined.same_units, specs.{control.Arrivals.clock_on_arrival, declared.steps.Arrival.Arrival, machines.Answers.arrival_at}}
 use Rattle.run_law.specs.machines.{Calls.{MayArrive, MayCall}, Nodes.{arriving, last_taken_by, standpoint_at}}
 use Rattle.world_law.{proofs.giving.Given.some_same, specs.world.{Calls.{HasHeard, IsSet}, Outcomes.arrival_body, World.IsClockOf}}
-use Rattle.world_state.specs.declared.queue.Entry.{Entry}
-use Rattle.world_state.proofs.UnderWays.{ports_stay, wires_without}
+use Rattle.world_law.proofs.steps_lemmas.hearing.{Calling.may_call, HeardSteps.heard_step, OneMaster.may_arrive, Receptions.device_there}
+use Rattle.world_state.{proofs.UnderWays.{ports_stay, wires_without}, specs.{declared.{contents.{Signal.{Signal as SignalSent}}, queue.Entry.Entry}}}
 use Rattle.world_state.specs.Hearing.{AreOctetsOf, IsAsSent, MayCome, arrived, frame_kept, octets_kept, timed_in}
-use Rattle.world_state.specs.declared.contents.Signal.{Signal as SignalSent}
-use Rattle.world_steps.proofs.hearing.{Calling.may_call, HeardSteps.heard_step, OneMaster.may_arrive, Receptions.device_there}
-use Rattle.drift_world.proofs.{Alike.with_ports, Arrivals.{control_so, on_arrival, timed_so}, Fits.have_octets, HiddenCauses.settled_in_order, Puts.one_put_in}
-use Rattle.drift_world.{proofs.Signals.{frame_told, octets_told, plain_on_wire}, specs.declared.state.State.State}
 use Rattle.run_law.specs.declared.steps.Arrival.TheVariants as arrivals
 use Rattle.world_state.specs.declared.contents.Signal.TheVariants as signals
 
@@ -73,7 +71,7 @@ module _ (network other : Network) (hs : List Happening) (device : DeviceId) (li
         delivered = λ vl cycle. record { frame = refl; octets = of };
       })
 
-told_settled : (network other : Network) (now : ℕ) (hs : List Happening) (place : Place) (signal : SignalSent) (is : Arrival)
+told_settled : (network other : Network) (now : ℕ) (hs : List Happening) (place : DueAt) (signal : SignalSent) (is : Arrival)
     → IsTold network other hs (record { 0 = place.device }) (record { 0 = place.link }) place.cause signal is
     → settled_at network now (arrived place is signal)
     ≡ settled_as other hs now (arrival_body (record { 0 = place.device }) (record { 0 = place.link }) place.cause is)
@@ -85,11 +83,11 @@ told_settled network other now hs place signal is so =
     { note = record { number = 0; time = units_of now; body = body }; frame = frame_by other hs body; octets = l } in h) so.octets
 
 -- the record has its octets, where it needs them
-sent_octets : (place : Place) (given : _) (is : Arrival) → have_octets (arrived place is (signals.Octets given))
+sent_octets : (place : DueAt) (given : _) (is : Arrival) → have_octets (arrived place is (signals.Octets given))
 sent_octets place given (arrivals.Dropped reason) = tt
 sent_octets place given other = tt
 
-arrival_octets : (network other : Network) (device : DeviceId) (node : Node) (moment : Moment) (place : Place) (link : LinkId) (signal : SignalSent)
+arrival_octets : (network other : Network) (device : DeviceId) (node : Node) (moment : Moment) (place : DueAt) (link : LinkId) (signal : SignalSent)
     → have_octets (arrived place (arrival_at other device node moment link (signal_as network signal)) signal)
 arrival_octets network other device node moment place link (signals.Control frame) =
     control_so (λ (is : Arrival). have_octets (arrived place is (signals.Control frame))) other device link (standpoint_at node moment) frame
@@ -114,7 +112,7 @@ moment_is reading s now device own clock time read same of at reads =
 -- ---- it may come
 
 module _ {C M : Type 0} (reading : C → ℕ → ℕ) (stands : Kept M → Network → DeviceId → Node → Type 0) (s : Scenario) (network : Network) (state : State C M)
-    (notes : List Note) (old : Stands reading stands s (world_of network state) notes) (place : Place) (signal : SignalSent) (rest : List (Entry Content))
+    (notes : List Note) (old : Stands reading stands s (world_of network state) notes) (place : DueAt) (signal : SignalSent) (rest : List (Entry Content))
     (took : IsPermutation state.under_way.entries (record { place = place; content = Wire signal } ∷ rest)) (kind : place.rank ≡ 2)
     (at : place.at ≡ state.time) where
   abbrev pub hs : List Happening

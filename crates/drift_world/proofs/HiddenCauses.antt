@@ -5,8 +5,7 @@ use Rattle.drift_world.proofs.Words.{Scenario, Stands, World, [], ap, append_ass
 use Rattle.drift_world.proofs.Words.{inl, inr, le-ltb, length, lt-ltb, map, nat_lt, never_self, none_yet, parted, place_of, rank, refl, subst, sym, time_of, ℕ}
 use Rattle.run_law.specs.{declared.judgement.Why.Why, records.Ranks.{key, members_in}}
 use Rattle.sync_state.specs.declared.state.State.{State}
-use Rattle.world_law.proofs.putting.PutShown.{hidden_rank}
-use Rattle.world_steps.proofs.acting.Stays.{out_mapped}
+use Rattle.world_law.proofs.{putting.PutShown.hidden_rank, steps_lemmas.acting.Stays.out_mapped}
 
 -- none is before one that stands before it
 abbrev pub InOrder : List Happening → Type 0

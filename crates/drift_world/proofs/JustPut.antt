@@ -1,16 +1,14 @@
 -- What a record of the present instant put on a wire is there still.
-use Rattle.drift_world.proofs.Words.{◌+◌, ◌<◌, ◌∙◌, ◌∷◌, ◌≡◌, ◌≤◌, AreUnderWay, Arrives, Content, DeviceId, Happening, IfNone, IfSome, IsBefore, Kept, Launch}
-use Rattle.drift_world.proofs.Words.{List, Network, Node, None, Note, OnWire, Option, Place, Port, Scenario, Some, Stands, StandsUnder, Wire, [], ap, arith}
+use Rattle.drift_world.proofs.Words.{◌+◌, ◌<◌, ◌∙◌, ◌∷◌, ◌≡◌, ◌≤◌, AreUnderWay, Arrives, Content, DeviceId, DueAt, Happening, IfNone, IfSome, IsBefore, Kept}
+use Rattle.drift_world.proofs.Words.{Launch, List, Network, Node, None, Note, OnWire, Option, Port, Scenario, Some, Stands, StandsUnder, Wire, [], ap, arith}
 use Rattle.drift_world.proofs.Words.{delay_at, given_of, happenings, inl, inr, is_given, keeps, launched, length, numbered, numbered_in, on_wire, place_of}
 use Rattle.drift_world.proofs.Words.{rank, rank_of, reading_of, receiver_of, refl, scenario, signal_as, sym, target_by, time_of, time_on_port, wire_at}
-use Rattle.drift_world.proofs.Words.{wire_place, world_of, ℕ, ℤ}
+use Rattle.drift_world.{proofs.Words.{wire_place, world_of, ℕ, ℤ}, specs.{Wires.{IsOfNow, IsOnOwnLink, on_wire_in, put_by}, declared.state.State.State}}
 use Rattle.std.{proofs.Common.{Bor, option_map}, specs.Option.option_copied}
 use Rattle.net_plan.specs.declared.event.Event.{Event}
 use Rattle.tte_lemmas.proofs.Lists.{some_at}
 use Rattle.world_law.{proofs.giving.Given.some_same, specs.source.Sources.IsArriving}
-use Rattle.world_state.specs.queue.Finding.{HoldsAt, HoldsNoneAt}
-use Rattle.world_state.specs.declared.contents.Signal.{Signal as Sent}
-use Rattle.drift_world.specs.{Wires.{IsOfNow, IsOnOwnLink, on_wire_in, put_by}, declared.state.State.State}
+use Rattle.world_state.specs.{declared.{contents.{Signal.{Signal as Sent}}}, queue.Finding.{HoldsAt, HoldsNoneAt}}
 
 -- ---- what is found
 
@@ -20,7 +18,7 @@ wired (Wire signal) is = (signal, refl)
 wired (Port frame reading) is = absurd (omega (arith, is))
 
 -- and what is on a wire has its rank, and its cause
-of_wire : (network : Network) (place : Place) (content : Content) (e : OnWire) → wire_at network place content ≡ Some e
+of_wire : (network : Network) (place : DueAt) (content : Content) (e : OnWire) → wire_at network place content ≡ Some e
     → (rank_of content ≡ 2) × (e.cause ≡ place.cause)
 of_wire network place (Wire signal) e is = (refl, sym (ap (λ (w : OnWire). w.cause) (one is)))
   where

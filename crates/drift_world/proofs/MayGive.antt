@@ -4,14 +4,12 @@ use Rattle.drift_world.proofs.Words.{Dropped, Happening, HasItsOctets, IsCaused,
 use Rattle.drift_world.proofs.Words.{Note, NoteBody, Option, Pcf, Permanent, Scenario, Settled, Some, Stands, TtSent, Units, World, [], amount, ap, append-nil}
 use Rattle.drift_world.proofs.Words.{arith, frame_by, happenings, hidden_body, inl, inr, length, link_at, numbered_in, place_of, refl, same_Some, settled_at}
 use Rattle.drift_world.proofs.Words.{slice_get_within, subst, sym, time_of, with_clock, ℕ}
-use Rattle.std.{proofs.Common.slice_get, specs.Prelude.{option_and_then, option_map}}
-use Rattle.run_law.{proofs.law.FirstPlaces.founded_at, specs.declared.note.NoteBody.TheVariants.{Clock, Corrected, Event, Sent}}
-use Rattle.run_law.specs.runs.DueRecords.{IsArrivedRecord}
-use Rattle.world_law.proofs.frames.Proper.{arrived_so, launched_frame}
-use Rattle.world_state.specs.Giving.{CameBy, HasItsFrame, IsYoung, MayBeGiven}
-use Rattle.world_steps.proofs.{hearing.Receptions.receiver_in}
 use Rattle.drift_world.proofs.{FirstSettled.first_of, HiddenCauses.change_or_other, Sendings.link_within}
-use Rattle.run_law.proofs.control.Arrived.{arrived_young}
+use Rattle.std.{proofs.Common.slice_get, specs.Prelude.{option_and_then, option_map}}
+use Rattle.run_law.proofs.{control.Arrived.arrived_young, law.FirstPlaces.founded_at}
+use Rattle.run_law.specs.{declared.note.NoteBody.TheVariants.{Clock, Corrected, Event, Sent}, runs.DueRecords.IsArrivedRecord}
+use Rattle.world_law.proofs.{frames.Proper.{arrived_so, launched_frame}, steps_lemmas.hearing.Receptions.receiver_in}
+use Rattle.world_state.specs.Giving.{CameBy, HasItsFrame, IsYoung, MayBeGiven}
 
 -- it may be given but for its octets
 record MayBut (network : Network) (body : NoteBody) (frame : Option Pcf) : Type 0 where

@@ -1,33 +1,29 @@
 -- A record alone: it stands at the place of its source, and is given with nothing else settled.
-use Rattle.drift_world.proofs.Words.{◌^◌, ◌∙◌, ◌∷◌, ◌≡◌, AtPort, Bool, ChangesOnly, Happening, IfSome, IsBefore, IsPutAt, List, Network, None}
-use Rattle.drift_world.proofs.Words.{NoSourceBefore, Option, Place, Scenario, Settled, Some, Waits, [], ap, arith, behind, chain, changed_device}
-use Rattle.drift_world.proofs.Words.{departure_body, map, numbers_of, on_wire, option_map_or, own_place, place_of, rank, refl, ripe_place, settled_at}
-use Rattle.drift_world.proofs.Words.{Content, Holding, Kept, World, at_port, stored_as, subst, sym, waiting_as, with_first, world_of, ℕ}
+use Rattle.drift_world.{proofs.Turning.{comes_first, is_at, ranked_at}, specs.{Turns.{IsNow, MayWork, source_place}, declared.source.Source.Source}}
+use Rattle.drift_world.proofs.Words.{◌++◌, ◌^◌, ◌∙◌, ◌∷◌, ◌≡◌, AtPort, Bool, ChangesOnly, Content, DeviceId, DueAt, Happening, Holding, IfSome, IsBefore}
+use Rattle.drift_world.proofs.Words.{IsPutAt, Kept, List, Network, NoSourceBefore, Node, None, Note, Option, Scenario, Settled, Some, Stands, Waits, World, []}
+use Rattle.drift_world.proofs.Words.{ap, arith, at_port, behind, chain, changed_device, departure_body, happenings, keeps, map, numbers_of, on_wire}
+use Rattle.drift_world.proofs.Words.{option_map_or, own_place, place_of, rank, refl, ripe_place, settled_at, stored_as, subst, sym, waiting_as, with_first}
+use Rattle.drift_world.{proofs.Words.{world_of, ℕ}, specs.{Giving.IsRunningWith, Ripening.IsJudged, Stepping.StandsPast, declared.state.State.State}}
 use Rattle.std.specs.{List.insert, Prelude.filter_map}
-use Rattle.world_state.specs.declared.queue.Entry.{Entry}
+use Rattle.world_state.specs.{Hearing.arrived, declared.queue.Entry.Entry}
+use Rattle.world_state.specs.{Leaving.{departed, departure_by}, Ripening.{AreSettledSo, ripe_record}, declared.{contents.{Signal.{Signal as SignalSent}}}}
 use Rattle.run_law.proofs.runs.Places.{before_behind}
 use Rattle.run_law.specs.{control.Leaving.{Departure, leaves, on_cut_way, too_old}, declared.steps.{Arrival.Arrival, Ripe.Ripe}, records.Ranks.key}
-use Rattle.world_state.specs.Ripening.{AreSettledSo, ripe_record}
-use Rattle.drift_world.specs.Ripening.{IsJudged}
-use Rattle.world_state.specs.{Hearing.arrived, Leaving.{departed, departure_by}, declared.contents.Signal.Signal as SignalSent}
-use Rattle.drift_world.specs.declared.{source.Source.Source, state.State.State}
-use Rattle.drift_world.proofs.Turning.{comes_first, is_at, ranked_at}
-use Rattle.drift_world.proofs.Words.{◌++◌, DeviceId, Node, Note, Stands, happenings, keeps}
-use Rattle.drift_world.specs.{Giving.IsRunningWith, Stepping.StandsPast, Turns.{IsNow, MayWork, source_place}}
 use Rattle.run_law.specs.declared.steps.Arrival.TheVariants as arrivals
 use Rattle.run_law.specs.declared.steps.Ripe.TheVariants as ripe
 
 -- ---- the place of a record
 
 -- the record of a control frame that arrived stands at the place of what arrived
-pub arrived_own : (network : Network) (now : ℕ) (place : Place) (is : Arrival) (signal : SignalSent) → place.at ≡ now → place.rank ≡ 2
+pub arrived_own : (network : Network) (now : ℕ) (place : DueAt) (is : Arrival) (signal : SignalSent) → place.at ≡ now → place.rank ≡ 2
     → rank (arrived place is signal).body ≡ 2 → place_of (settled_at network now (arrived place is signal)) ≡ numbers_of place
 arrived_own network now place (arrivals.Waits frame point) signal at two e = ranked_at now 2 place at two
 arrived_own network now place (arrivals.Passes frame way) signal at two e = ranked_at now 2 place at two
 arrived_own network now place (arrivals.PassesAndWaits frame way point) signal at two e = ranked_at now 2 place at two
 arrived_own network now place other signal at two e = absurd (omega (arith, e))
 
-pub arrived_device : (place : Place) (is : Arrival) (signal : SignalSent) → rank (arrived place is signal).body ≡ 2
+pub arrived_device : (place : DueAt) (is : Arrival) (signal : SignalSent) → rank (arrived place is signal).body ≡ 2
     → changed_device (arrived place is signal).body ≡ place.device
 arrived_device place (arrivals.Waits frame point) signal e = refl
 arrived_device place (arrivals.Passes frame way) signal e = refl
@@ -54,7 +50,7 @@ departed_none network reading cut e = by (departure_by network reading cut e)
     by too_old = refl
     by on_cut_way = refl
 
-pub left_own : (network : Network) (now : ℕ) (place : Place) (one : Option Settled) → place.at ≡ now → place.rank ≡ 8
+pub left_own : (network : Network) (now : ℕ) (place : DueAt) (one : Option Settled) → place.at ≡ now → place.rank ≡ 8
     → IfSome one (λ z. rank z.body ≡ 8 → own_place z ≡ 8 ∷ place.device ∷ place.link ∷ place.cause ∷ [])
     → IfSome one (λ z. rank z.body ≡ 8 → place_of (settled_at network now z) ≡ numbers_of place)
 left_own network now place None at eight is = tt

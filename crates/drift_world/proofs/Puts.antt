@@ -1,13 +1,12 @@
 -- A record that is put in at its place.
-use Rattle.drift_world.proofs.Words.{if◌then◌else◌, ◌++◌, ◌+◌, ◌<◌, ◌∙◌, ◌∷◌, ◌≡◌, ◌≤◌, ArePutIn, AtPort, Bool, Happening, IsBefore, IsPutAt, IsSomePut, List}
-use Rattle.drift_world.proofs.Words.{Network, None, NoneBefore, NoteBody, Option, Pcf, Scenario, Settled, Some, [], ap, arith, chain, departure_body, false}
-use Rattle.drift_world.proofs.Words.{frame_from, in_parts, in_right, inl, inr, length, map, never_self, own_place, place_of, refl, settled_as, settled_at}
-use Rattle.drift_world.proofs.Words.{subst, suc, sym, true, units_of, with_clock, zero, ℕ}
+use Rattle.drift_world.proofs.{HiddenCauses.InOrder, Words.{subst, suc, sym, true, units_of, with_clock, zero, ℕ}}
+use Rattle.drift_world.proofs.Words.{◌++◌, ◌+◌, ◌<◌, ◌∙◌, ◌∷◌, ◌≡◌, ◌≤◌, ArePutIn, AtPort, Bool, Happening, IsBefore, IsPutAt, IsSomePut, List, Network, None}
+use Rattle.drift_world.proofs.Words.{NoneBefore, NoteBody, Option, Pcf, Scenario, Settled, Some, [], ap, arith, chain, departure_body, false, frame_from}
+use Rattle.drift_world.proofs.Words.{if◌then◌else◌, in_parts, in_right, inl, inr, length, map, never_self, own_place, place_of, refl, settled_as, settled_at}
 use Rattle.std.{proofs.{Common.{drop, get_or, take}, lemmas.List.take-append-drop}, specs.Option.{option_and_then, option_map}}
 use Rattle.run_law.{proofs.runs.Places.{either_way, in_left}, specs.{control.Leaving.{Departure, leaves, on_cut_way, too_old}, records.Order.AllBefore}}
 use Rattle.world_law.specs.world.{Moves.IsPutIn, World.IsAtPort}
 use Rattle.world_state.specs.Leaving.{frame_after}
-use Rattle.drift_world.proofs.HiddenCauses.{InOrder}
 
 pub map_parts : {X Y : Type 0} (f : X → Y) (xs ys : List X) → map f (xs ++ ys) ≡ map f xs ++ map f ys
 map_parts f [] ys = refl

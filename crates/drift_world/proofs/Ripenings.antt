@@ -4,21 +4,20 @@ use Rattle.drift_world.proofs.Words.{IsPermutation, IsPermutation-map, IsPutAt, 
 use Rattle.drift_world.proofs.Words.{Settled, Some, Stands, StandsBehind, StandsFor, Units, Waiting, Waits, [], ap, arith, behind, false, frame_from}
 use Rattle.drift_world.proofs.Words.{get_or_from_slice_get, happenings, in_get, is_mapped, is_set, keeps, length, map, moment_of, none_yet, pos, refl}
 use Rattle.drift_world.proofs.Words.{ripe_place, settled_as, settled_at, slice_get_within, slice_set, subst, sym, units_of, waiting_as, world_of, ℕ}
-use Rattle.std.{proofs.{Common.{All, nat_eq}, lemmas.Map.Keys.{IsDistinct-IsPermutation, IsDistinct-head, IsDistinct-tail}}, specs.List.slice_get}
-use Rattle.std.specs.Option.{option_and_then}
-use Rattle.run_law.{proofs.records.Order.all_of, specs.{declared.{judgement.Judgement.Judgement, steps.Ripe.Ripe}, machines.Calls.MayTake}}
-use Rattle.tte_lemmas.proofs.Naturals.{flips}
-use Rattle.world_law.{proofs.giving.Given.some_same, specs.world.Moves.IsWithout}
-use Rattle.world_state.proofs.queue_lemmas.Bags.{each_apart}
-use Rattle.world_state.{proofs.Swaps.{stayed, stays, was_there}, specs.Ripening.{AreSettledSo, joined_record, judged_so, ripe_record}}
-use Rattle.world_steps.{proofs.ripening.{Asking.may_ask, RipenedSteps.{ripened_step, waits_within}}, specs.Ripening.{HasRipened, ripe_bodies}}
 use Rattle.drift_world.proofs.{Fits.{all_put, all_put_some, have_octets}, Fitting.cause_of, HiddenCauses.{InOrder, settled_in_order}}
 use Rattle.drift_world.{proofs.Puts.{one_put_in, two_put_in}, specs.declared.state.State.State}
+use Rattle.std.{proofs.{Common.{All, nat_eq}, lemmas.Map.Keys.{IsDistinct-IsPermutation, IsDistinct-head, IsDistinct-tail}}, specs.List.slice_get}
+use Rattle.std.specs.Option.{option_and_then}
+use Rattle.run_law.{proofs.records.{Members.from_map, Order.all_of}, specs.{declared.{judgement.Judgement.Judgement, steps.Ripe.Ripe}, machines.Calls.MayTake}}
+use Rattle.tte_lemmas.proofs.Naturals.{flips}
+use Rattle.world_law.{proofs.giving.Given.some_same, specs.world.Moves.IsWithout}
+use Rattle.world_law.{proofs.steps_lemmas.ripening.{Asking.may_ask, RipenedSteps.{ripened_step, waits_within}}, specs.steps.Ripening.{HasRipened, ripe_bodies}}
+use Rattle.world_state.proofs.queue_lemmas.Bags.{each_apart}
+use Rattle.world_state.{proofs.Swaps.{stayed, stays, was_there}, specs.Ripening.{AreSettledSo, joined_record, judged_so, ripe_record}}
 use Rattle.run_law.specs.declared.judgement.Judgement.TheVariants as judgements
 use Rattle.run_law.specs.declared.judgement.Why.TheVariants as whys
 use Rattle.run_law.specs.declared.note.NoteBody.TheVariants as kinds
 use Rattle.run_law.specs.declared.steps.Ripe.TheVariants as ripe
-use Rattle.run_law.proofs.records.Members.{from_map}
 
 -- ---- what waits is apart by its cause
 

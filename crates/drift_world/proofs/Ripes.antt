@@ -1,11 +1,10 @@
 -- The first of the frames that wait at a device and are reached.
 use Rattle.drift_world.proofs.Words.{◌∙◌, ◌≡◌, ◌≤ℤ◌, DeviceId, IfNone, IfSome, IsBefore, IsIn, None, Option, Some, Waits, ap, arith, inl, inr, pos, ripe_place}
-use Rattle.drift_world.proofs.Words.{subst, sym, waiting_as, ℕ}
+use Rattle.drift_world.{proofs.Words.{subst, sym, waiting_as, ℕ}, specs.{Ripening.IsFirstRipe, declared.state.State.State}}
 use Rattle.std.proofs.Common.{slice_get}
 use Rattle.net_plan.proofs.SameIds.{same_device}
 use Rattle.world_law.proofs.giving.Given.{some_same}
 use Rattle.world_state.specs.{Reaching.IsFirstReached, Ripening.ripe_numbers}
-use Rattle.drift_world.specs.{Ripening.IsFirstRipe, declared.state.State.State}
 
 -- so it is of all that wait
 pub first_ripe : {C M : Type 0} (reading : C → ℕ → ℕ) (state : State C M) (device : DeviceId) (now : ℕ) (clock : C)

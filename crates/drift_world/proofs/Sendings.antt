@@ -1,16 +1,13 @@
 -- What a record puts on a wire, as its law asks for it.
-use Rattle.drift_world.proofs.Words.{◌+◌, ◌<◌, ◌∙◌, ◌∷◌, ◌≡◌, AreWays, Arrives, Content, DeviceId}
-use Rattle.drift_world.proofs.Words.{Happening, HasItsOctets, IsPermutation-sym, IsPutOn, Launch, Left, Link, LinkId, List, None, NoteBody, Ok, OnWire}
-use Rattle.drift_world.proofs.Words.{Option, Pcf, Place, Scenario, Signal, Some, Timed, TtSent, Way, WayState, Wire, [], ap, control, delay_at}
-use Rattle.drift_world.proofs.Words.{delay_by, given_of, in_permuted, inl, inr, is_given, launched, length, link_at, map, octets_in, octets_of, on_wire}
-use Rattle.drift_world.proofs.Words.{receiver_of, refl, same_Some, signal_as, slice_get_within, subst, sym, target_by, time_of, time_on_port, timed, way_as}
-use Rattle.drift_world.proofs.Words.{way_from, wire_entry, ℕ}
+use Rattle.drift_world.proofs.{Launches.delay_is, Words.{time_of, time_on_port, timed, way_as, way_from, wire_entry, ℕ}}
+use Rattle.drift_world.proofs.Words.{◌+◌, ◌<◌, ◌∙◌, ◌∷◌, ◌≡◌, AreWays, Arrives, Content, DeviceId, DueAt, Happening, HasItsOctets, IsPermutation-sym, IsPutOn}
+use Rattle.drift_world.proofs.Words.{Launch, Left, Link, LinkId, List, None, NoteBody, Ok, OnWire, Option, Pcf, Scenario, Signal, Some, Timed, TtSent, Way}
+use Rattle.drift_world.proofs.Words.{WayState, Wire, [], ap, control, delay_at, delay_by, given_of, in_permuted, inl, inr, is_given, launched, length, link_at}
+use Rattle.drift_world.proofs.Words.{map, octets_in, octets_of, on_wire, receiver_of, refl, same_Some, signal_as, slice_get_within, subst, sym, target_by}
 use Rattle.std.specs.{List.{filter_map, slice_get}, Option.option_map}
 use Rattle.run_law.specs.declared.note.NoteBody.TheVariants.{Event, Sent}
 use Rattle.world_law.specs.world.Moves.{ArePut}
-use Rattle.world_state.specs.declared.queue.Entry.{Entry}
-use Rattle.world_state.specs.declared.contents.Signal.{Signal as SignalSent}
-use Rattle.drift_world.proofs.Launches.{delay_is}
+use Rattle.world_state.specs.declared.{contents.{Signal.{Signal as SignalSent}}, queue.Entry.Entry}
 use Rattle.world_state.specs.declared.contents.Signal.TheVariants as signals
 
 pub link_within : (xs : List Link) (i : ℕ) (way : Way) (o : Option Link) (device : DeviceId) → slice_get xs i ≡ o → option_map (target_by way) o ≡ Some device
@@ -35,7 +32,7 @@ module _ (s : Scenario) (now : ℕ) (ups downs : List WayState) (ways : AreWays 
   module _ (device : DeviceId) (link : LinkId) (signal : Signal) (sent : SignalSent)
       (put : launched s x (time_of x) x.note.body ≡ Some (record { link = link; way = way_from s.network device link; signal = signal }))
       (as_signal : signal_as s.network sent ≡ signal) where
-    abbrev placed : DeviceId → Place
+    abbrev placed : DeviceId → DueAt
     placed receiver = record {
       at = now + time_on_port s.network link signal + delay_by s.network ups downs device link;
       rank = 2;
@@ -84,7 +81,7 @@ module _ (s : Scenario) (now : ℕ) (ups downs : List WayState) (ways : AreWays 
         ∙ ap (λ (t : ℕ). t + time_on_port s.network link signal + delay_at s link (way_from s.network device link) t) (sym at)
 
     pub sends : (o : Option DeviceId) → receiver_of s.network link (way_from s.network device link) ≡ o
-        → IsPutOn (option_map (λ (p : Place). let e : Entry Content = record { place = p; content = Wire sent } in e) (option_map placed o)) old new
+        → IsPutOn (option_map (λ (p : DueAt). let e : Entry Content = record { place = p; content = Wire sent } in e) (option_map placed o)) old new
         → ArePut s x number (filter_map (on_wire s.network) old) (filter_map (on_wire s.network) new)
     sends None none is = none_put
         (λ d l t g a. let no : None ≡ Some d = sym none ∙ (this d l t g a).receives in absurd cc) is

@@ -1,11 +1,10 @@
 -- What the parts of a state show of a scenario.
-use Rattle.drift_world.proofs.Words.{if◌then◌else◌, ◌<◌, ◌∙◌, ◌≡◌, AreWays, AtPort, Bool, DeviceId, Down, IsOf, Kept, LinkId, List, Network, Node, None, Note}
-use Rattle.drift_world.proofs.Words.{Scenario, Some, Stands, Up, Way, WayState, ap, false, is_broken, is_cut, length, map, slice_get-map, sym, true, way_as}
-use Rattle.drift_world.proofs.Words.{way_from, way_now, world_of, ℕ}
+use Rattle.drift_world.proofs.Words.{◌<◌, ◌∙◌, ◌≡◌, AreWays, AtPort, Bool, DeviceId, Down, IsOf, Kept, LinkId, List, Network, Node, None, Note, Scenario, Some}
+use Rattle.drift_world.proofs.Words.{Stands, Up, Way, WayState, ap, false, if◌then◌else◌, is_broken, is_cut, length, map, slice_get-map, sym, true, way_as}
+use Rattle.drift_world.{proofs.Words.{way_from, way_now, world_of, ℕ}, specs.declared.state.State.State}
 use Rattle.std.specs.{List.slice_get, Option.option_map}
 use Rattle.world_law.proofs.giving.Given.{some_same}
 use Rattle.world_state.specs.Leaving.{departed, departure_in}
-use Rattle.drift_world.specs.declared.state.State.{State}
 
 pub shows_of : {C M : Type 0} (reading : C → ℕ → ℕ) (stands : Kept M → Network → DeviceId → Node
     → Type 0) (s : Scenario) (network : Network) (state : State C M) (notes : List Note) → Stands reading stands s (world_of network state) notes

@@ -1,18 +1,16 @@
 -- What is on a wire, by the record that put it there.
-use Rattle.drift_world.proofs.Words.{if◌then◌else◌, ◌+◌, ◌==◌, ◌∙◌, ◌∷◌, ◌≡◌, ◌≤◌, ◌⊎◌, Bool, DeviceId, Err, Happening, IsCaused, IsDue, IsFounded, IsIn}
-use Rattle.drift_world.proofs.Words.{IsInRange, Launch, LinkId, List, None, NoteBody, Ok, OnWire, Option, Pcf, Result, Scenario, Signal, Some, Up, VlId, Way}
-use Rattle.drift_world.proofs.Words.{[], ap, arith, control, eq-eqb, false, field, filter, frame_by, frame_from, in_filter, inl, inr, is_cut, launched, nat_lt}
+use Rattle.drift_world.proofs.{Arrivals.control_so, Words.{true, way_from, zero, ℕ}}
+use Rattle.drift_world.proofs.Words.{◌+◌, ◌==◌, ◌∙◌, ◌∷◌, ◌≡◌, ◌≤◌, ◌⊎◌, Bool, DeviceId, Err, Happening, IsCaused, IsDue, IsFounded, IsIn, IsInRange, Launch}
+use Rattle.drift_world.proofs.Words.{LinkId, List, None, NoteBody, Ok, OnWire, Option, Pcf, Result, Scenario, Signal, Some, Up, VlId, Way, [], ap, arith}
+use Rattle.drift_world.proofs.Words.{control, eq-eqb, false, field, filter, frame_by, frame_from, if◌then◌else◌, in_filter, inl, inr, is_cut, launched, nat_lt}
 use Rattle.drift_world.proofs.Words.{numbered, numbered_in, octets_by, octets_from, option_map_or, place_of, refl, signal_of, subst, suc, sym, time_of, timed}
-use Rattle.drift_world.proofs.Words.{true, way_from, zero, ℕ}
 use Rattle.std.proofs.{Common.{option_and_then, option_map}, lemmas.Bool.ne_eqb}
 use Rattle.pcf_codec.specs.{Decoding.decoded, EtherType.pcf_type, declared.refusal.PcfRefusal.PcfRefusal}
 use Rattle.run_law.proofs.law.{FirstDeliveries.last_in, FirstPlaces.{IsFoundedAt, by_number, founded_at, number_is, numbered_front, numbered_within}}
 use Rattle.run_law.specs.{device.Standpoints.standpoint, records.{Frames.tt_frame, Happenings.earlier}, timed.Dispatching.is_accepted}
 use Rattle.run_law.specs.timed.Receptions.{ArrivesAs, arrival_of}
-use Rattle.world_law.{proofs.frames.Proper.launch_signal as signal_in, specs.world.World.IsOnWire}
+use Rattle.world_law.{proofs.{frames.{Proper.{launch_signal as signal_in}}, steps_lemmas.hearing.OneMaster.decoded_of}, specs.world.World.IsOnWire}
 use Rattle.world_state.proofs.Made.{made_type, plain_signal}
-use Rattle.world_steps.proofs.hearing.OneMaster.{decoded_of}
-use Rattle.drift_world.proofs.Arrivals.{control_so}
 use Rattle.net_plan.specs.declared.event.What.TheVariants as events
 use Rattle.run_law.specs.declared.note.NoteBody.TheVariants as kinds
 use Rattle.run_law.specs.declared.steps.Arrival.TheVariants as arrivals

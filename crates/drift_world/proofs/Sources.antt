@@ -1,19 +1,17 @@
 -- What comes first of what a state has under way.
 use Rattle.drift_world.proofs.Words.{if◌then◌else◌, ◌+◌, ◌-◌, ◌<◌, ◌^◌, ◌∙◌, ◌∷◌, ◌≡◌, ◌≤ℤ◌, ◌≤◌, ◌⊎◌, AreFirsts, AreNotBefore, AreTimed, AreUnderWay, Bool}
 use Rattle.drift_world.proofs.Words.{Content, DeviceId, Down, Due, Happening, HasNothingBefore, IfNone, IfSome, IsBefore, IsDue, IsFirst, IsFounded}
-use Rattle.drift_world.proofs.Words.{IsIn, IsInRange, IsLinkInRange, IsSized, Kept, List, Network, Node, None, Note, Option, Place, Scenario, Some, Stands, Up}
+use Rattle.drift_world.proofs.Words.{IsIn, IsInRange, IsLinkInRange, IsSized, Kept, List, Network, Node, None, Note, Option, DueAt, Scenario, Some, Stands, Up}
 use Rattle.drift_world.proofs.Words.{Waiting, Waits, Way, [], act_place, amount, ap, arith, at_port, cases_eq, cases_lt, chain, get_or_from_slice_get, given_of}
 use Rattle.drift_world.proofs.Words.{happenings, in_all, inl, inr, keeps, le-ltb, length, lt-ltb, map, never, numbers_of, on_wire, place_of, pos}
 use Rattle.drift_world.proofs.Words.{reading_for, refl, ripe_place, slice_get_within, subst, sym, waiting_as, world_of, ℕ}
+use Rattle.drift_world.specs.{Sourcing.{IsRipePlace, due_place}, declared.state.State.State}
 use Rattle.std.proofs.Common.{All, slice_get}
 use Rattle.run_law.{proofs.runs.Places.before_later, specs.machines.Tasks.{IsPending, Task}}
 use Rattle.tte_lemmas.proofs.Options.{some_same}
 use Rattle.world_law.{proofs.frames.Proper.{IsReceiver, received}, specs.world.{Moves.NothingBefore, World.IsWaitingFor}}
-use Rattle.world_state.specs.declared.queue.Entry.{Entry}
-use Rattle.world_state.proofs.UnderWays.{port_numbers, wire_numbers}
-use Rattle.world_steps.proofs.ripening.Ripens.{come_of}
-use Rattle.world_state.specs.timers.Times.{IsFirst as IsFirstDue}
-use Rattle.drift_world.specs.{Sourcing.{IsRipePlace, due_place}, declared.state.State.State}
+use Rattle.world_law.proofs.steps_lemmas.ripening.Ripens.{come_of}
+use Rattle.world_state.{proofs.UnderWays.{port_numbers, wire_numbers}, specs.{declared.queue.Entry.Entry, timers.{Times.{IsFirst as IsFirstDue}}}}
 
 -- what is not before the first is not before a place that the first is not before
 pub not_sooner : (q first p : List ℕ) → (IsBefore q first → ⊥) → (IsBefore first p → ⊥) → IsBefore q p → ⊥
@@ -175,13 +173,13 @@ module _ {C M : Type 0} (last_step : C → ℕ) (reading : C → ℕ → ℕ) (s
       ranked_before (device.0 ∷ []) (r.one.device.0 ∷ amount r.one.point ∷ parting r.one) by.1
 
   -- nor what is under way
-  under_way_by : (place : Option Place) → IfSome place (λ q. IsFirst state.under_way.entries q) → IfNone place (state.under_way.entries ≡ [])
+  under_way_by : (place : Option DueAt) → IfSome place (λ q. IsFirst state.under_way.entries q) → IfNone place (state.under_way.entries ≡ [])
       → IfSome place (λ q. IsBefore (numbers_of q) p → ⊥) → (e : Entry Content) → IsIn e state.under_way.entries
       → IsBefore (numbers_of e.place) p → ⊥
   under_way_by None first none not e there b = subst (λ (es : List (Entry Content)). IsIn e es) none there
   under_way_by (Some q) first none not e there b = not_sooner (numbers_of e.place) (numbers_of q) p (first.none e there) not b
 
-  all_by : (place : Option Place) (due : Option Due) → AreFirsts state place due → AreNotBefore reading network state place due p
+  all_by : (place : Option DueAt) (due : Option Due) → AreFirsts state place due → AreNotBefore reading network state place due p
       → HasNothingBefore reading stands network state p
   all_by place due firsts not = record {
     under_way = λ e there. under_way_by place firsts.some_place firsts.no_place not.under_way e there;
@@ -211,7 +209,7 @@ module _ {C M : Type 0} (last_step : C → ℕ) (reading : C → ℕ → ℕ) (s
 
 -- where the first of each kind is not before the place, nothing is
 pub nothing_before : {C M : Type 0} (last_step : C → ℕ) (reading : C → ℕ → ℕ) (stands : M → Network → DeviceId → Node → Type 0) (network : Network)
-    (state : State C M) (place : Option Place) (due : Option Due) (p : List ℕ)
+    (state : State C M) (place : Option DueAt) (due : Option Due) (p : List ℕ)
     → IsSized last_step network state → AreTimed reading stands network state → AreFirsts state place due
     → AreNotBefore reading network state place due p → HasNothingBefore reading stands network state p
 nothing_before last_step reading stands network state place due p sized are firsts not =

@@ -9,7 +9,7 @@ use Rattle.run_law.{proofs.{law.FirstPlaces.in_at, records.Order.in_any, runs.Pl
 use Rattle.run_law.specs.runs.DueRecords.{IsEventRecord}
 use Rattle.tte_lemmas.proofs.Bools.{same_tests}
 use Rattle.world_law.{proofs.{giving.Given.some_same, runs.Applies.{event_cause, event_place}}, specs.world.World.{Befell, has_outcome}}
-use Rattle.world_steps.proofs.steps.AppliedParts.{before_others}
+use Rattle.world_law.proofs.steps_lemmas.steps.AppliedParts.{before_others}
 use Rattle.drift_world.proofs.HiddenCauses.{Rises}
 use Rattle.net_plan.specs.declared.event.What.TheVariants as events
 use Rattle.run_law.specs.declared.note.NoteBody.TheVariants as kinds

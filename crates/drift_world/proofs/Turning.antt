@@ -1,28 +1,22 @@
 -- A turn of a world: what comes first, and what the steps keep.
+use Rattle.drift_world.{proofs.{Fits.{sound_same, sound_timers}, Foremost.timers_later, Sources.{of_world, sooner_too}}, specs.declared.state.State.State}
+use Rattle.drift_world.{proofs.HiddenCauses.{InOrder, settled_in_order}, specs.declared.{next.Turn.TheVariants.{Ends, Gives, GoesOn}, source.Source.Source}}
+use Rattle.drift_world.proofs.{Timings.{passed, rekeyed, unchanged}, Words.{numbers_of, own_place, place_of, refl, settled_at, subst, sym, true, world_of, ℕ}}
 use Rattle.drift_world.proofs.Words.{◌++◌, ◌+◌, ◌<◌, ◌^◌, ◌↔◌, ◌∙◌, ◌∷◌, ◌≡◌, ◌≤◌, AreFirsts, AreSettled, AreTimed, Bool, ChangesOnly, ComesFirst, DeviceId}
-use Rattle.drift_world.proofs.Words.{Due}
-use Rattle.drift_world.proofs.Words.{Err, Happening, Place, numbers_of}
-use Rattle.drift_world.proofs.Words.{HasItsOctets, HasNothingBefore, IsAt, IsBefore, IsIn, IsRunning, IsScenarioRun, IsSound, IsWell, List}
-use Rattle.drift_world.proofs.Words.{Network, NoSourceBefore, Node, Note, Ok, OnErr, OnOk, Option, Result, Scenario, Settled, Some, SourceFirst, Stands, Turn}
-use Rattle.drift_world.proofs.Words.{[], ap, append-nil, arith, chain, happenings, inl, inr, keeps, length, length-map, map, never_self, own_place}
-use Rattle.drift_world.proofs.Words.{place_of, refl, settled_at, subst, sym, true, world_of, ℕ}
-use Rattle.std.proofs.Common.{All, slice_get}
-use Rattle.run_law.proofs.runs.Places.{before_later, before_later_time}
-use Rattle.world_law.proofs.{acts.NoActs.nothing_comes_before, runs.Worlds.nothing_settled_is_all}
-use Rattle.world_steps.proofs.steps.Passed.{none_hidden}
-use Rattle.drift_world.proofs.Fits.{sound_same, sound_timers}
-use Rattle.drift_world.proofs.{Foremost.timers_later, HiddenCauses.{InOrder, settled_in_order}, Sources.{of_world, sooner_too}}
-use Rattle.drift_world.proofs.Timings.{passed, rekeyed, unchanged}
+use Rattle.drift_world.proofs.Words.{Due, DueAt, Err, Happening, HasItsOctets, HasNothingBefore, IsAt, IsBefore, IsIn, IsRunning, IsScenarioRun, IsSound}
+use Rattle.drift_world.proofs.Words.{IsWell, List, Network, NoSourceBefore, Node, Note, Ok, OnErr, OnOk, Option, Result, Scenario, Settled, Some, SourceFirst}
+use Rattle.drift_world.proofs.Words.{Stands, Turn, [], ap, append-nil, arith, chain, happenings, inl, inr, keeps, length, length-map, map, never_self}
 use Rattle.drift_world.specs.Stepping.{IsRekeyed}
 use Rattle.drift_world.specs.Turns.{HasRoom, IsAfter, IsAhead, IsForemost, IsKept, IsNow, IsPassed, IsStep, IsThere, MayWork, PassSays, TurnSays, given_in}
-use Rattle.drift_world.specs.Turns.{own_numbers, source_place}
-use Rattle.drift_world.specs.declared.{next.Turn.TheVariants.{Ends, Gives, GoesOn}, source.Source.Source}
-use Rattle.drift_world.specs.declared.{source.Source.TheVariants.{Act, Arrival, Clock, Departure, Events, Later, Ripening}, state.State.State}
+use Rattle.drift_world.specs.{Turns.{own_numbers, source_place}, declared.source.Source.TheVariants.{Act, Arrival, Clock, Departure, Events, Later, Ripening}}
+use Rattle.std.proofs.Common.{All, slice_get}
+use Rattle.run_law.proofs.runs.Places.{before_later, before_later_time}
+use Rattle.world_law.proofs.{acts.NoActs.nothing_comes_before, runs.Worlds.nothing_settled_is_all, steps_lemmas.steps.Passed.none_hidden}
 
 -- ---- a source and what is settled
 
 -- the numbers of what is under way at this time and of this rank
-pub ranked_at : (now rank : ℕ) (place : Place) → place.at ≡ now → place.rank ≡ rank
+pub ranked_at : (now rank : ℕ) (place : DueAt) → place.at ≡ now → place.rank ≡ rank
     → now ∷ rank ∷ place.device ∷ place.link ∷ place.cause ∷ [] ≡ numbers_of place
 ranked_at now rank place at is =
     ap (λ (t : ℕ). t ∷ rank ∷ place.device ∷ place.link ∷ place.cause ∷ []) (sym at)
@@ -344,7 +338,7 @@ err_open E old new (Ok t) until early same = tt
 err_open E old new (Err e) until early same = omega (arith, early, same)
 
 -- where time passes, what is first stays so, and the room is as it was
-pub firsts_passed : {C M : Type 0} (old new : State C M) (place : Option Place) (due : Option Due)
+pub firsts_passed : {C M : Type 0} (old new : State C M) (place : Option DueAt) (due : Option Due)
     → new ≡ record old { time = new.time; early = new.early } → AreFirsts old place due → AreFirsts new place due
 firsts_passed old new place due same are =
     subst (λ (t : State _ _). AreFirsts t place due) (sym same)

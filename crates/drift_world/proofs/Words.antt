@@ -39,7 +39,7 @@ pub use Rattle.world_law.specs.world.World.{AreSettled, AreWays, AtPort, IsHeld,
 pub use Rattle.world_law.specs.world.World.{none_yet, note_of, ripe_place, way_now, wire_place}
 pub use Rattle.world_state.proofs.queue_lemmas.Bags.{in_permuted}
 pub use Rattle.world_state.specs.queue.Places.{IsFirst, numbers_of}
-pub use Rattle.world_state.specs.declared.queue.Place.{Place}
+pub use Rattle.world_state.specs.declared.queue.DueAt.{DueAt}
 pub use Rattle.run_law.proofs.records.Members.{in_map as is_mapped}
 pub use Rattle.world_state.proofs.Swaps.{is_set}
 pub use Rattle.world_state.specs.{Applying.clock_after, Giving.{ArrivedAt, HasItsOctets, IsPutOn, changed_device, delay_by, wire_entry}, Keeping.keeps}
@@ -49,7 +49,7 @@ pub use Rattle.world_state.specs.Views.{at_port, befell_as, octets_in, octets_of
 pub use Rattle.world_state.specs.declared.contents.{Befallen.Befallen, Content.{Content, TheVariants.{Port, Wire}}, Holding.Holding, Settled.Settled}
 pub use Rattle.world_state.specs.declared.{contents.{Timed.Timed, Waits.Waits, WayState.WayState}, giving.Giving.Giving, kept.Kept.Kept}
 pub use Rattle.world_state.specs.declared.memory.OutOfMemory.{OutOfMemory}
-pub use Rattle.world_steps.specs.Steps.{FitsWorld}
+pub use Rattle.world_law.specs.steps.Steps.{FitsWorld}
 pub use Rattle.world_state.specs.timers.Times.{never}
 pub use Rattle.world_state.specs.declared.timers.Due.{Due}
 pub use Rattle.drift_world.specs.{Giving.IsGivenOut, Locals.{IsComplete, IsLocalClockBefore, Shows, local_shown}}

@@ -1,10 +1,9 @@
 -- What a device has to do, and where its acts lead.
 use Rattle.std.specs.Prelude.{◌<ℤ◌, ◌≡◌, ◌⊎◌, Bool, List, Option, Some, false, pos, slice_get, true, ℕ}
 use Rattle.net_plan.specs.declared.{ids.DeviceId.DeviceId, network.Network.Network}
-use Rattle.run_law.specs.declared.note.Note.{Note}
-use Rattle.run_law.specs.machines.{Nodes.Node, Tasks.{IsDueReading, IsPending, Task, reading_for}}
-use Rattle.run_law.specs.records.{Happenings.Happening, Order.{IsBefore, IsIn, behind}, Ranks.place_of}
-use Rattle.run_law.specs.scenario.Scenarios.{Scenario}
+use Rattle.run_law.specs.{declared.note.Note.Note, records.{Happenings.Happening, Order.{IsBefore, IsIn, behind}}}
+use Rattle.run_law.specs.{machines.Nodes.Node, records.Ranks.place_of}
+use Rattle.run_law.specs.{machines.Tasks.{IsDueReading, IsPending, Task, reading_for}, scenario.Scenarios.Scenario}
 use Rattle.tte_units.specs.declared.units.Units.{Units}
 use Rattle.world_law.specs.world.{Calls.{IsDueNow, moment_of}, World.{Stands, act_place}}
 use Rattle.world_state.specs.{Keeping.keeps, declared.kept.Kept.Kept}

@@ -3,8 +3,7 @@ use Rattle.std.specs.Prelude.{◌*◌, ◌≡◌, ◌≤◌, All, List, Some, []
 use Rattle.net_plan.specs.declared.{ids.DeviceId.DeviceId, network.Network.Network}
 use Rattle.run_law.specs.machines.Nodes.{Node, begun_node}
 use Rattle.tte_units.specs.Amount.{amount}
-use Rattle.world_state.specs.{Beginning.first_way, Keeping.sound_one}
-use Rattle.world_state.specs.timers.Times.{never}
+use Rattle.world_state.specs.{Beginning.first_way, Keeping.sound_one, timers.Times.never}
 use Rattle.drift_world.specs.declared.state.State.{State}
 
 -- there is a machine for each device, which has just begun

@@ -7,9 +7,8 @@ use Rattle.run_law.specs.declared.note.{Note.Note, NoteBody.NoteBody}
 use Rattle.run_law.specs.{machines.Nodes.Node, scenario.Scenarios.Scenario}
 use Rattle.world_law.specs.world.World.{Stands}
 use Rattle.world_state.specs.{Keeping.keeps, declared.contents.Settled.Settled}
-use Rattle.drift_world.specs.Views.{with_first}
 use Rattle.world_state.specs.{Frames.IsOneMore, Giving.{ArePutTo, awaited_by, giver_of}, declared.giving.Giving.Giving}
-use Rattle.drift_world.specs.declared.state.State.{State}
+use Rattle.drift_world.specs.{Views.with_first, declared.state.State.State}
 
 -- the frame of a record is given, or waited for, by this device, whose clock reads so
 pub record IsGiver {C M : Type 0} (reading : C → ℕ

@@ -4,9 +4,8 @@ use Rattle.std.specs.Prelude.{None, Ok, Option, Result, Some, [], false, length,
 use Rattle.std.specs.Prelude.{ℕ, ℤ}
 use Rattle.net_plan.specs.{Belonging.IsOfNetwork, declared.event.{Event.Event, What.{What, TheVariants.Hold}}}
 use Rattle.net_plan.specs.declared.{ids.DeviceId.DeviceId, network.Network.Network}
-use Rattle.run_law.specs.declared.note.{Note.Note, NoteBody.TheVariants.Event as Befalls}
-use Rattle.run_law.specs.{law.FirstLaws.IsEventInRange, machines.Nodes.Node}
-use Rattle.run_law.specs.scenario.Hypothesis.{AreWithinHypothesis, IsWithinHypothesis}
+use Rattle.run_law.specs.{declared.{note.{Note.Note, NoteBody.{TheVariants.{Event as Befalls}}}}, machines.Nodes.Node}
+use Rattle.run_law.specs.{law.FirstLaws.IsEventInRange, scenario.Hypothesis.{AreWithinHypothesis, IsWithinHypothesis}}
 use Rattle.tte_units.specs.declared.units.Units.{Units}
 use Rattle.world_law.specs.{source.Agreeing.scenario, world.World.{Stands, World}}
 use Rattle.world_state.specs.{Keeping.keeps, declared.kept.Kept.Kept}

@@ -4,7 +4,7 @@ use Rattle.std.specs.Prelude.{List, Option, Some, [], length, nat_lt, pos, slice
 use Rattle.net_plan.specs.declared.{ids.DeviceId.DeviceId, network.Network.Network}
 use Rattle.run_law.specs.{machines.{Nodes.Node, Tasks.{IsPending, Task, reading_for}}, records.Order.{IsBefore, IsIn}}
 use Rattle.world_law.specs.world.World.{act_place, ripe_place}
-use Rattle.world_state.specs.{queue.Places.{IsFirst, numbers_of}, declared.queue.{Entry.Entry, Place.Place}}
+use Rattle.world_state.specs.{queue.Places.{IsFirst, numbers_of}, declared.queue.{Entry.Entry, DueAt.DueAt}}
 use Rattle.world_state.specs.{Keeping.keeps, Views.waiting_as, declared.contents.{Content.Content, Waits.Waits}}
 use Rattle.world_state.specs.declared.kept.Kept.{Kept}
 use Rattle.world_state.specs.{timers.Times.{IsFirst as IsFirstDue, never}, declared.timers.Due.Due}
@@ -25,7 +25,7 @@ due_place devices due =
     if nat_lt due.slot devices then due.time ∷ 3 ∷ due.slot ∷ [] else due.time ∷ 4 ∷ (due.slot - devices) ∷ []
 
 -- these are the place of the first that is under way, and the first timer, where there are such
-pub record AreFirsts {C M : Type 0} (state : State C M) (place : Option Place) (due : Option Due) : Type 0 where
+pub record AreFirsts {C M : Type 0} (state : State C M) (place : Option DueAt) (due : Option Due) : Type 0 where
   pub some_place : IfSome place (λ p. IsFirst state.under_way.entries p)
   pub no_place : IfNone place (state.under_way.entries ≡ [])
   pub some_due : IfSome due (λ d. IsFirstDue state.timers d)
@@ -44,7 +44,7 @@ pub record IsRipePlace {C M : Type 0} (reading : C → ℕ
 
 -- none of them is before the place, nor what befell, nor the clocks at the end; and the place is in time
 pub record AreNotBefore {C M : Type 0} (reading : C → ℕ
-    → ℕ) (network : Network) (state : State C M) (place : Option Place) (due : Option Due)
+    → ℕ) (network : Network) (state : State C M) (place : Option DueAt) (due : Option Due)
     (p : List ℕ) : Type 0 where
   pub in_time : IsBefore ((2 ^ 60 + 1) ∷ []) p → ⊥
   pub under_way : IfSome place (λ q. IsBefore (numbers_of q) p → ⊥)

@@ -2,14 +2,12 @@
 use Rattle.std.specs.Prelude.{◌*◌, ◌+◌, ◌<◌, ◌^◌, ◌↔◌, ◌≡◌, ◌≤ℤ◌, ◌≤◌, ◌⊎◌, All, IfSome, IsSomeAnd, List, Option}
 use Rattle.std.specs.Prelude.{Some, length, pos, slice_get, ℕ}
 use Rattle.net_plan.specs.declared.{ids.DeviceId.DeviceId, network.Network.Network}
-use Rattle.run_law.specs.{declared.note.Note.Note, machines.{Nodes.Node, Tasks.{IsPending, Task, reading_for}}}
-use Rattle.run_law.specs.{records.Order.IsIn, scenario.Scenarios.Scenario}
+use Rattle.run_law.specs.{declared.note.Note.Note, records.Order.{IsIn, behind}}
+use Rattle.run_law.specs.{machines.{Nodes.Node, Tasks.{IsPending, Task, reading_for}}, scenario.Scenarios.Scenario}
 use Rattle.tte_units.specs.declared.units.Units.{Units}
-use Rattle.run_law.specs.records.Order.{behind}
 use Rattle.world_law.specs.world.{Moves.{ComesFirst, StandsBehind}, World.Stands}
-use Rattle.world_state.specs.{Keeping.keeps, declared.{contents.Waits.Waits, kept.Kept.Kept}}
-use Rattle.world_state.specs.timers.Times.{never}
-use Rattle.world_state.specs.declared.contents.Settled.{Settled}
+use Rattle.world_state.specs.Keeping.{keeps}
+use Rattle.world_state.specs.{declared.{contents.{Settled.Settled, Waits.Waits}, kept.Kept.Kept}, timers.Times.never}
 use Rattle.drift_world.specs.{Sound.IsSized, Views.{with_settled, world_of}, declared.state.State.State}
 
 -- some scenario and records leave the state where it stands

@@ -1,16 +1,14 @@
 -- How a world goes on, one source after the other.
 use Rattle.std.specs.Prelude.{◌++◌, ◌+◌, ◌-◌, ◌<◌, ◌^◌, ◌∷◌, ◌≡◌, ◌≤ℤ◌, ◌≤◌, ◌⊎◌, Err, List, None, Ok, Option, Result}
-use Rattle.std.specs.Prelude.{Some}
-use Rattle.std.specs.{Prelude.{[], false, length, pos, slice_get, true, ℕ}, VecDeque.{deque_capacity, deque_len}}
+use Rattle.std.specs.{Prelude.{Some, [], false, length, pos, slice_get, true, ℕ}, VecDeque.{deque_capacity, deque_len}}
 use Rattle.net_plan.specs.{Ranges.IsInRange, declared.{ids.DeviceId.DeviceId, network.Network.Network}}
 use Rattle.run_law.specs.{declared.note.Note.Note, machines.{Calls.HasDue, Nodes.Node}, records.Order.{IsBefore, IsIn}}
 use Rattle.run_law.specs.{runs.DueRecords.IsScenarioRun, scenario.Scenarios.Scenario}
 use Rattle.tte_units.specs.Amount.{amount, units_of}
 use Rattle.world_law.specs.world.World.{Stands, act_place, clock_place, ripe_place}
-use Rattle.world_state.specs.{queue.Places.{IsFirst, numbers_of}, declared.queue.Place.Place}
-use Rattle.world_state.specs.{Frames.first_of, Keeping.keeps, Places.own_place, Views.waiting_as}
-use Rattle.world_state.specs.declared.{contents.{Settled.Settled, Waits.Waits}, kept.Kept.Kept}
-use Rattle.world_state.specs.declared.timers.Due.{Due}
+use Rattle.world_state.specs.{Frames.first_of, Keeping.keeps, Views.waiting_as}
+use Rattle.world_state.specs.{Places.own_place, declared.{kept.Kept.Kept, queue.DueAt.DueAt, timers.Due.Due}}
+use Rattle.world_state.specs.{declared.contents.{Settled.Settled, Waits.Waits}, queue.Places.{IsFirst, numbers_of}}
 use Rattle.drift_world.specs.Nearing.{IsLess, Nears}
 use Rattle.drift_world.specs.{Sourcing.{HasNothingBefore, IsRipePlace, due_place}, Views.world_of, Wells.IsWell}
 use Rattle.drift_world.specs.declared.{next.Turn.{Turn, TheVariants.{Ends, Gives, GoesOn}}, source.Source.Source}
@@ -28,7 +26,7 @@ source_place now (Clock device) = clock_place now device
 source_place now (Later time) = time ∷ []
 
 -- the first that is under way is at this place of the present instant
-pub record IsDueEntry {C M : Type 0} (network : Network) (state : State C M) (rank : ℕ) (place : Place) : Type 0 where
+pub record IsDueEntry {C M : Type 0} (network : Network) (state : State C M) (rank : ℕ) (place : DueAt) : Type 0 where
   pub first : IsFirst state.under_way.entries place
   pub now : place.at ≡ state.time
   pub rank_is : place.rank ≡ rank

@@ -5,7 +5,7 @@ ghost use Rattle.drift_world.specs.Turns.{IsAhead, own_numbers, rank_in_order};
 
 use crate::source::Source;
 use net_plan::{DeviceId, LinkId};
-use plain_notes::{Place, Rank};
+use run_law::plain::{Place, Rank};
 use world_state::contents::Settled;
 use world_state::settled::place_of;
 

@@ -9,12 +9,12 @@ use crate::ripen::is_judged;
 use crate::state::State;
 use drift_clock::Clock;
 use net_plan::Network;
-use plain_notes::{Given, Rank};
 use run_law::Machine;
+use run_law::plain::{PlainNote, Rank};
 use world_state::OutOfMemory;
 use world_state::contents::{Settled, Waits};
 use world_state::giving::make_room;
-use world_state::queue::Place;
+use world_state::queue::DueAt;
 use world_state::ripening::{record_of, settle_ripe};
 use world_state::settled::{put_in, rank_of};
 use world_state::storing::taker;
@@ -40,7 +40,7 @@ impl<C: Clock, M: Machine + Drop> State<C, M> {
         &mut self,
         network: &Network,
         first: Settled,
-        note: &mut Given,
+        note: &mut PlainNote,
     ) -> Result<Turn, OutOfMemory>
         requires sound { IsSound C.last_step network.now self.old }
         requires range { IsInRange network.now }
@@ -86,8 +86,8 @@ impl<C: Clock, M: Machine + Drop> State<C, M> {
     pub fn arrival_turn(
         &mut self,
         network: &Network,
-        place: Place,
-        note: &mut Given,
+        place: DueAt,
+        note: &mut PlainNote,
     ) -> Result<Turn, OutOfMemory>
         requires may { MayWork C.last_step C.reading M.stands network.now self.old (SourceOf.Arrival place) }
         ensures kept { IsKept C.last_step C.reading M.stands network.now self.old self.new (given_in result note.new) }
@@ -113,8 +113,8 @@ impl<C: Clock, M: Machine + Drop> State<C, M> {
     pub fn departure_turn(
         &mut self,
         network: &Network,
-        place: Place,
-        note: &mut Given,
+        place: DueAt,
+        note: &mut PlainNote,
     ) -> Result<Turn, OutOfMemory>
         requires may { MayWork C.last_step C.reading M.stands network.now self.old (SourceOf.Departure place) }
         ensures kept { IsKept C.last_step C.reading M.stands network.now self.old self.new (given_in result note.new) }
@@ -139,7 +139,7 @@ impl<C: Clock, M: Machine + Drop> State<C, M> {
         &mut self,
         network: &Network,
         one: Waits,
-        note: &mut Given,
+        note: &mut PlainNote,
     ) -> Result<Turn, OutOfMemory>
         requires may { MayWork C.last_step C.reading M.stands network.now self.old (SourceOf.Ripening one) }
         ensures kept { IsKept C.last_step C.reading M.stands network.now self.old self.new (given_in result note.new) }

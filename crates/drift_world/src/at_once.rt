@@ -5,15 +5,15 @@ use crate::source::Source;
 use crate::state::State;
 use drift_clock::Clock;
 use net_plan::{DeviceId, Network};
-use plain_notes::{Given, Rank};
 use run_law::Machine;
+use run_law::plain::{PlainNote, Rank};
 use world_state::OutOfMemory;
-use world_state::queue::Place;
+use world_state::queue::DueAt;
 use world_state::settled::rank_of;
 use world_state::timers::Due;
 
 /// The rank of the place, if it is of this time.
-fn place_rank(place: Option<Place>, time: u64) -> u8
+fn place_rank(place: Option<DueAt>, time: u64) -> u8
     ensures { IfSome place (λ p. p.at ≡ time → result ≤ p.rank) }
 {
     match place {
@@ -63,11 +63,9 @@ fn lower(rank: u8, other: u8) -> u8
 
 impl<C: Clock, M: Machine + Drop> State<C, M> {
     ghost use Rattle.run_law.specs.records.Ranks.{place_of};
-    ghost use Rattle.world_state.specs.{Views.settled_at};
-    ghost use Rattle.world_state.specs.declared.contents.Settled.{Settled as SettledValue};
-    ghost use Rattle.drift_world.specs.{Sourcing.HasNothingBefore, Wells.IsWell};
-    ghost use Rattle.drift_world.specs.Turns.{IsKept, IsNextRank, IsNow, MayWork, WorkSays};
-    ghost use Rattle.drift_world.specs.{Turns.given_in, declared.source.Source.Source as SourceOf};
+    ghost use Rattle.world_state.specs.{Views.settled_at, declared.{contents.{Settled.{Settled as SettledValue}}}};
+    ghost use Rattle.drift_world.specs.{Sourcing.HasNothingBefore, declared.{source.{Source.{Source as SourceOf}}}};
+    ghost use Rattle.drift_world.specs.{Turns.{IsKept, IsNextRank, IsNow, MayWork, WorkSays, given_in}, Wells.IsWell};
 
     /// The source of the present instant that comes first is worked off. Where what it comes to stands before all that
     /// is to come of the instant, it is given at once.
@@ -76,7 +74,7 @@ impl<C: Clock, M: Machine + Drop> State<C, M> {
         &mut self,
         network: &Network,
         source: Source,
-        note: &mut Given,
+        note: &mut PlainNote,
     ) -> Result<Turn, OutOfMemory>
         requires may { MayWork C.last_step C.reading M.stands network.now self.old source }
         requires present { IsNow source }
@@ -110,7 +108,7 @@ impl<C: Clock, M: Machine + Drop> State<C, M> {
         &mut self,
         network: &Network,
         device: DeviceId,
-        note: &mut Given,
+        note: &mut PlainNote,
     ) -> Result<Turn, OutOfMemory>
         requires may { MayWork C.last_step C.reading M.stands network.now self.old (SourceOf.Act device) }
         ensures kept { IsKept C.last_step C.reading M.stands network.now self.old self.new (given_in result note.new) }

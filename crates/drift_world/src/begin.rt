@@ -3,8 +3,8 @@ ghost use Rattle.net_plan.specs.Ranges.{IsInRange};
 ghost use Rattle.drift_world.specs.Beginning.{IsFirstState};
 
 use crate::state::State;
+use device_rules::frames::MadeFrame;
 use drift_clock::Clock;
-use made_frames::MadeFrame;
 use net_plan::Network;
 use run_law::Machine;
 use std::alloc::Global;

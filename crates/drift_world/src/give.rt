@@ -7,8 +7,8 @@ use crate::state::State;
 use drift_clock::Clock;
 use net_plan::{DeviceId, Network};
 use pcf_values::Pcf;
-use plain_notes::{Body, Given, Kind};
 use run_law::Machine;
+use run_law::plain::{PlainBody, PlainKind, PlainNote};
 use tte_units::Units;
 use world_state::OutOfMemory;
 use world_state::contents::{Settled, Spot, Timed};
@@ -23,12 +23,11 @@ impl<C: Clock, M: Machine + Drop> State<C, M> {
     ghost use Rattle.run_law.specs.records.{Happenings.happenings, Ranks.place_of};
     ghost use Rattle.tte_units.specs.Amount.{amount, units_of};
     ghost use Rattle.world_law.specs.{source.First.NoSourceBefore, world.{Moves.StandsBehind, World.{Stands, note_of}}};
-    ghost use Rattle.world_state.specs.Frames.{room_of, waiter_of};
+    ghost use Rattle.world_state.specs.{Frames.{room_of, waiter_of}, Shelves.{HasPlace, spot_of}, Storing.IsStoredBy};
     ghost use Rattle.world_state.specs.Giving.{ArrivedAt, CameBy, IsPutOn, IsYoung, MayBeGiven, changed_device};
-    ghost use Rattle.world_state.specs.{Giving.{giver_of, wire_entry}, Keeping.keeps, Shelves.{HasPlace, spot_of}};
-    ghost use Rattle.world_state.specs.{Sound.{AreBelow, AreUnderWay, IsShort}, Storing.IsStoredBy, Views.settled_at};
-    ghost use Rattle.world_state.specs.declared.contents.Settled.{Settled as SettledValue};
-    ghost use Rattle.world_state.specs.declared.giving.Giving.{Giving as GivingValue};
+    ghost use Rattle.world_state.specs.{Giving.{giver_of, wire_entry}, Sound.{AreBelow, AreUnderWay, IsShort}};
+    ghost use Rattle.world_state.specs.{Keeping.keeps, declared.{giving.{Giving.{Giving as GivingValue}}}};
+    ghost use Rattle.world_state.specs.{Views.settled_at, declared.{contents.{Settled.{Settled as SettledValue}}}};
     ghost use Rattle.drift_world.specs.{Giving.{AreLow, IsGivenOut, IsGiver}, Sound.{IsSized, IsSound}};
     ghost use Rattle.drift_world.specs.{Stepping.{ChangesOnly, IsRunning}, Views.{with_first, world_of}};
 
@@ -37,7 +36,7 @@ impl<C: Clock, M: Machine + Drop> State<C, M> {
     fn giving_by(
         &self,
         network: &Network,
-        body: &Body,
+        body: &PlainBody,
         frame: Option<Pcf>,
         number: u64,
     ) -> Option<Giving>
@@ -67,7 +66,7 @@ impl<C: Clock, M: Machine + Drop> State<C, M> {
     fn launch_wire(
         &mut self,
         network: &Network,
-        body: &Body,
+        body: &PlainBody,
         frame: Option<Pcf>,
         octets: Option<Timed>,
         number: u64,
@@ -97,7 +96,7 @@ impl<C: Clock, M: Machine + Drop> State<C, M> {
 
     /// Gives the frame of a record to ports and has it wait, as its device does.
     #[inline(always)]
-    fn launch_frame(&mut self, network: &Network, body: &Body, frame: Option<Pcf>, number: u64)
+    fn launch_frame(&mut self, network: &Network, body: &PlainBody, frame: Option<Pcf>, number: u64)
         requires sized { IsSized C.last_step network.now self.old }
         requires range { IsInRange network.now }
         requires by { CameBy (length network.now.link) body.now }
@@ -131,7 +130,7 @@ impl<C: Clock, M: Machine + Drop> State<C, M> {
     fn launch_octets(
         &mut self,
         network: &Network,
-        body: &Body,
+        body: &PlainBody,
         frame: Option<Pcf>,
         octets: Option<Timed>,
         number: u64,
@@ -148,7 +147,7 @@ impl<C: Clock, M: Machine + Drop> State<C, M> {
             self.old.under_way.entries self.new.under_way.entries }
         ensures stored { IsStoredBy body.now octets number self.old.stored.items self.new.stored.items }
     {
-        if let Kind::Accepted { device, vl, .. } = &body.kind {
+        if let PlainKind::Accepted { device, vl, .. } = &body.kind {
             let spot = Spot {
                 device: *device,
                 vl: *vl,
@@ -161,7 +160,7 @@ impl<C: Clock, M: Machine + Drop> State<C, M> {
 
     /// Gives the first settled record, which was taken out, its number, and launches what it does.
     #[inline(always)]
-    pub fn give_first(&mut self, network: &Network, first: Settled, note: &mut Given)
+    pub fn give_first(&mut self, network: &Network, first: Settled, note: &mut PlainNote)
         requires sound { IsSound C.last_step network.now self.old }
         requires range { IsInRange network.now }
         requires may { MayBeGiven network.now first.body first.frame first.octets }
@@ -232,7 +231,7 @@ impl<C: Clock, M: Machine + Drop> State<C, M> {
     /// The first record that is settled is given, with the next number: what it launches is under way, or waits.
     ///
     /// On an error nothing has changed.
-    pub fn give(&mut self, network: &Network, note: &mut Given) -> Result<(), OutOfMemory>
+    pub fn give(&mut self, network: &Network, note: &mut PlainNote) -> Result<(), OutOfMemory>
         requires sound { IsSound C.last_step network.now self.old }
         requires range { IsInRange network.now }
         requires some { 0 < length self.old.settled.items }

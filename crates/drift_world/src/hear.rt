@@ -1,11 +1,9 @@
 ghost use Rattle.std.specs.Prelude.{◌+◌, ◌<◌, ◌≡◌, List, false, length, ℕ};
 ghost use Rattle.net_plan.specs.Ranges.{IsInRange};
-ghost use Rattle.world_state.specs.queue.Places.{IsFirst, numbers_of};
+ghost use Rattle.world_state.specs.{Giving.{HasItsOctets, changed_device}, queue.Places.{IsFirst, numbers_of}};
+ghost use Rattle.world_state.specs.{Hearing.arrived, Places.IsPutAt};
+ghost use Rattle.world_state.specs.{Views.settled_at, declared.{contents.{Settled.{Settled as SettledValue}}}};
 ghost use Rattle.run_law.specs.records.Ranks.{place_of, rank};
-ghost use Rattle.world_state.specs.Giving.{HasItsOctets, changed_device};
-ghost use Rattle.world_state.specs.{Hearing.arrived};
-ghost use Rattle.world_state.specs.{Places.IsPutAt, Views.settled_at};
-ghost use Rattle.world_state.specs.declared.contents.Settled.{Settled as SettledValue};
 ghost use Rattle.drift_world.specs.{Sound.IsSound, Stepping.{ChangesOnly, IsAt, StandsPast}};
 
 use crate::state::State;
@@ -15,13 +13,13 @@ use run_law::{Machine, Moment};
 use tte_units::Units;
 use world_state::contents::Settled;
 use world_state::hearing::{arrived, hear_signal, take_wire};
-use world_state::queue::Place;
+use world_state::queue::DueAt;
 
 impl<C: Clock, M: Machine + Drop> State<C, M> {
     /// What is on a wire and the first of all that is under way arrives: its device hears it. The record of it is
     /// answered, which is to be put in among what is settled.
     #[inline(always)]
-    pub fn hear_wire(&mut self, network: &Network, place: Place) -> Settled
+    pub fn hear_wire(&mut self, network: &Network, place: DueAt) -> Settled
         requires sound { IsSound C.last_step network.now self.old }
         requires range { IsInRange network.now }
         requires first { IsFirst self.old.under_way.entries place }

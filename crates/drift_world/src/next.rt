@@ -9,10 +9,10 @@ use crate::source::{Source, least_of};
 use crate::state::State;
 use drift_clock::Clock;
 use net_plan::Network;
-use plain_notes::{Body, Given, Kind};
 use run_law::Machine;
+use run_law::plain::{PlainBody, PlainKind, PlainNote};
 use world_state::OutOfMemory;
-use world_state::queue::Place;
+use world_state::queue::DueAt;
 use world_state::settled::rank_of;
 use world_state::timers::Due;
 
@@ -35,14 +35,12 @@ impl<C: Clock, M: Machine + Drop> State<C, M> {
     ghost use Rattle.tte_units.specs.Amount.{units_of};
     ghost use Rattle.world_law.specs.world.World.{Stands};
     ghost use Rattle.world_state.specs.{Giving.{ArrivedAt, changed_device}, Keeping.keeps, Views.settled_at};
-    ghost use Rattle.drift_world.specs.{Nearing.{IsNoFarther, Nears}, Running.{given_by, next_of}, Sound.IsSized};
-    ghost use Rattle.drift_world.specs.{Sourcing.{AreFirsts, AreTimed, HasNothingBefore}, Stepping.ChangesOnly};
-    ghost use Rattle.drift_world.specs.Stepping.{IsRunning};
-    ghost use Rattle.drift_world.specs.Turns.{GivesAt, HasCome, HasRoom, IsCalm, IsKept, IsPassed, MayTurn};
-    ghost use Rattle.drift_world.specs.Turns.{SettledFirst, SourceFirst, TurnsTo, given_in};
-    ghost use Rattle.drift_world.specs.{Views.world_of, Wells.IsWell};
     ghost use Rattle.world_state.specs.declared.contents.Settled.{Settled as SettledValue};
-    ghost use Rattle.drift_world.specs.declared.state.State.{State as StateOf};
+    ghost use Rattle.drift_world.specs.{Nearing.{IsNoFarther, Nears}, Sourcing.{AreFirsts, AreTimed, HasNothingBefore}};
+    ghost use Rattle.drift_world.specs.{Running.{given_by, next_of}, Sound.IsSized, Wells.IsWell};
+    ghost use Rattle.drift_world.specs.{Stepping.{ChangesOnly, IsRunning}, declared.{state.{State.{State as StateOf}}}};
+    ghost use Rattle.drift_world.specs.Turns.{GivesAt, HasCome, HasRoom, IsCalm, IsKept, IsPassed, MayTurn};
+    ghost use Rattle.drift_world.specs.{Turns.{SettledFirst, SourceFirst, TurnsTo, given_in}, Views.world_of};
 
     /// Puts the next record before a time in the place of another, if one is due before it: is one?
     ///
@@ -52,7 +50,7 @@ impl<C: Clock, M: Machine + Drop> State<C, M> {
         &mut self,
         network: &Network,
         until: u64,
-        note: &mut Given,
+        note: &mut PlainNote,
     ) -> Result<bool, OutOfMemory>
         requires may { MayTurn C.last_step C.reading M.stands network.now until self.old }
         ensures kept { IsKept C.last_step C.reading M.stands network.now self.old self.new
@@ -77,7 +75,12 @@ impl<C: Clock, M: Machine + Drop> State<C, M> {
     }
 
     /// One turn: what is settled first is given, or what comes first is worked off, or time passes.
-    fn turn(&mut self, network: &Network, until: u64, note: &mut Given) -> Result<Turn, OutOfMemory>
+    fn turn(
+        &mut self,
+        network: &Network,
+        until: u64,
+        note: &mut PlainNote,
+    ) -> Result<Turn, OutOfMemory>
         requires may { MayTurn C.last_step C.reading M.stands network.now until self.old }
         ensures kept { IsKept C.last_step C.reading M.stands network.now self.old self.new (given_in result note.new) }
         ensures turns { IfOk result (TurnsTo C.reading M.stands network.now until self.old self.new note.new) }
@@ -94,7 +97,7 @@ impl<C: Clock, M: Machine + Drop> State<C, M> {
         &mut self,
         network: &Network,
         until: u64,
-        note: &mut Given,
+        note: &mut PlainNote,
     ) -> Result<Turn, OutOfMemory>
         requires may { MayTurn C.last_step C.reading M.stands network.now until self.old }
         requires room { HasRoom self.old }
@@ -124,7 +127,7 @@ impl<C: Clock, M: Machine + Drop> State<C, M> {
         &mut self,
         network: &Network,
         until: u64,
-        note: &mut Given,
+        note: &mut PlainNote,
     ) -> Result<Turn, OutOfMemory>
         requires may { MayTurn C.last_step C.reading M.stands network.now until self.old }
         requires room { HasRoom self.old }
@@ -149,7 +152,7 @@ impl<C: Clock, M: Machine + Drop> State<C, M> {
         &mut self,
         network: &Network,
         until: u64,
-        note: &mut Given,
+        note: &mut PlainNote,
     ) -> Result<Turn, OutOfMemory>
         requires may { MayTurn C.last_step C.reading M.stands network.now until self.old }
         requires room { HasRoom self.old }
@@ -173,9 +176,9 @@ impl<C: Clock, M: Machine + Drop> State<C, M> {
         &mut self,
         network: &Network,
         until: u64,
-        place: Option<Place>,
+        place: Option<DueAt>,
         due: Option<Due>,
-        note: &mut Given,
+        note: &mut PlainNote,
     ) -> Result<Turn, OutOfMemory>
         requires may { MayTurn C.last_step C.reading M.stands network.now until self.old }
         requires room { HasRoom self.old }
@@ -226,7 +229,11 @@ impl<C: Clock, M: Machine + Drop> State<C, M> {
     }
 
     /// The first that is settled is given, before which nothing is to come.
-    pub fn give_next(&mut self, network: &Network, note: &mut Given) -> Result<Turn, OutOfMemory>
+    pub fn give_next(
+        &mut self,
+        network: &Network,
+        note: &mut PlainNote,
+    ) -> Result<Turn, OutOfMemory>
         requires range { IsInRange network.now }
         requires well { IsWell C.last_step C.reading M.stands network.now self.old }
         requires some { 0 < length self.old.settled.items }
@@ -247,7 +254,7 @@ impl<C: Clock, M: Machine + Drop> State<C, M> {
     }
 
     /// A frame that arrived may wait at its device: the timers of the device are set.
-    fn rekey_after(&mut self, network: &Network, body: &Body)
+    fn rekey_after(&mut self, network: &Network, body: &PlainBody)
         requires range { IsInRange network.now }
         requires sized { IsSized C.last_step network.now self.old }
         requires slots { length self.old.timers ≡ 2 * length network.now.device }
@@ -259,7 +266,7 @@ impl<C: Clock, M: Machine + Drop> State<C, M> {
             → self.old.timers ≡ before.timers
             → AreTimed C.reading M.stands network.now self.new }
     {
-        if let Kind::Arrived { device, .. } = &body.kind {
+        if let PlainKind::Arrived { device, .. } = &body.kind {
             self.rekey_ripe(network, device.0);
         }
     }

@@ -1,14 +1,14 @@
 ghost use Rattle.std.specs.Prelude.{◌+◌, ◌<◌, ◌^◌, ◌≡◌, ◌≤◌, IfNone, IfSome, Option, Some, ℕ};
-ghost use Rattle.plain_notes.specs.Places.{number_of};
+ghost use Rattle.run_law.specs.plain.Places.{number_of};
 ghost use Rattle.world_state.specs.timers.Times.{IsFirst as IsFirstDue};
 
 use crate::state::State;
 use drift_clock::Clock;
 use net_plan::{DeviceId, Network};
-use plain_notes::Rank;
 use run_law::Machine;
+use run_law::plain::Rank;
 use world_state::contents::Waits;
-use world_state::queue::Place;
+use world_state::queue::DueAt;
 use world_state::timers::Due;
 
 /// What comes first of all that is under way: at the present instant, or later.
@@ -17,13 +17,13 @@ pub enum Source {
     /// The outcomes of the events of the instant are to be settled.
     Events,
     /// What is on a wire arrives.
-    Arrival(Place),
+    Arrival(DueAt),
     /// A frame that waits is permanent: this one, at this index.
     Ripening(Waits),
     /// A device does what is due.
     Act(DeviceId),
     /// A frame at a port leaves.
-    Departure(Place),
+    Departure(DueAt),
     /// The clock of a device is shown, at the end.
     Clock(DeviceId),
     /// Nothing is under way before this time, which is later.
@@ -31,7 +31,7 @@ pub enum Source {
 }
 
 /// The place, if it is of this time and rank.
-fn placed_at(place: Option<Place>, time: u64, rank: Rank) -> Option<Place>
+fn placed_at(place: Option<DueAt>, time: u64, rank: Rank) -> Option<DueAt>
     ensures some { IfSome result (λ p. (place ≡ Some p) × (p.at ≡ time) × (p.rank ≡ number_of rank)) }
     ensures none { IfNone result (IfSome place (λ p. p.at ≡ time → p.rank ≡ number_of rank → ⊥)) }
 {
@@ -57,7 +57,7 @@ fn slot_at(due: Option<Due>, time: u64) -> Option<usize>
 }
 
 /// The least of the times of a place, of a timer and of this one.
-pub fn least_of(place: Option<Place>, due: Option<Due>, time: u64) -> u64
+pub fn least_of(place: Option<DueAt>, due: Option<Due>, time: u64) -> u64
     ensures within { result ≤ time }
     ensures place { IfSome place (λ p. result ≤ p.at) }
     ensures due { IfSome due (λ d. result ≤ d.time) }
@@ -98,7 +98,7 @@ impl<C: Clock, M: Machine + Drop> State<C, M> {
         &self,
         network: &Network,
         until: u64,
-        place: Option<Place>,
+        place: Option<DueAt>,
         due: Option<Due>,
     ) -> Source
         requires well { IsWell C.last_step C.reading M.stands network.now self.now }

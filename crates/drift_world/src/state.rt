@@ -5,11 +5,11 @@ ghost use Rattle.net_plan.specs.{Ranges.IsInRange, declared.network.Network.Netw
 ghost use Rattle.run_law.specs.{declared.note.Note.Note, records.Order.behind, scenario.Scenarios.Scenario};
 ghost use Rattle.world_state.specs.queue.Places.{IsFirst, numbers_of};
 
+use device_rules::frames::MadeFrame;
 use drift_clock::Clock;
-use made_frames::MadeFrame;
 use net_plan::{DeviceId, Event, LinkId, Network, Way, What};
 use pcf_values::Pcf;
-use plain_notes::{Body, Kind};
+use run_law::plain::{PlainBody, PlainKind};
 use run_law::{Machine, NoteBody};
 use std::collections::VecDeque;
 use sync_state::State as DeviceState;
@@ -23,7 +23,7 @@ use world_state::event_notes::EventNote;
 use world_state::frames::Frames;
 use world_state::kept::Kept;
 use world_state::leaving::{departed, is_parent, take_port};
-use world_state::queue::{Place, UnderWay};
+use world_state::queue::{DueAt, UnderWay};
 use world_state::settled::put_in;
 use world_state::shelves::Shelves;
 use world_state::timers::Timers;
@@ -72,27 +72,19 @@ pub struct State<C: Clock, M: Machine + Drop> {
 impl<C: Clock, M: Machine + Drop> State<C, M> {
     ghost use Rattle.net_plan.specs.{Belonging.IsOfNetwork, declared.event.Event.Event as EventValue};
     ghost use Rattle.net_plan.specs.declared.ids.DeviceId.{DeviceId as DeviceOf};
-    ghost use Rattle.run_law.specs.records.{Order.IsIn};
-    ghost use Rattle.run_law.specs.records.Ranks.{place_of, rank};
-    ghost use Rattle.run_law.specs.scenario.Devices.{is_parent_of};
+    ghost use Rattle.run_law.specs.{records.{Order.IsIn, Ranks.{place_of, rank}}, scenario.Devices.is_parent_of};
     ghost use Rattle.sync_state.specs.declared.state.State.{State as DeviceState};
-    ghost use Rattle.tte_units.specs.Amount.{amount};
-    ghost use Rattle.tte_units.specs.{declared.rates.Ppb.Ppb};
-    ghost use Rattle.world_law.specs.source.{Agreeing.scenario, Applying.note_of_event};
-    ghost use Rattle.world_law.specs.world.Moves.{ComesFirst, NothingBefore, StandsBehind};
-    ghost use Rattle.world_law.specs.world.World.{Stands, clock_place};
-    ghost use Rattle.world_state.specs.Applying.{IsElsewhere, IsShown, SetsShort, clock_after};
-    ghost use Rattle.world_state.specs.Giving.{HasItsOctets};
-    ghost use Rattle.world_state.specs.{Keeping.keeps};
-    ghost use Rattle.world_state.specs.Leaving.{departure_in, port_entry};
-    ghost use Rattle.world_state.specs.{Giving.changed_device, Places.{IsSomePut, own_place}};
-    ghost use Rattle.world_state.specs.{Views.settled_at};
+    ghost use Rattle.tte_units.specs.{Amount.amount, declared.rates.Ppb.Ppb};
+    ghost use Rattle.world_law.specs.{source.Agreeing.scenario, world.Moves.{ComesFirst, NothingBefore, StandsBehind}};
+    ghost use Rattle.world_law.specs.{source.Applying.note_of_event, world.World.{Stands, clock_place}};
+    ghost use Rattle.world_law.specs.steps.Steps.{FitsWorld};
+    ghost use Rattle.world_state.specs.{Applying.{IsElsewhere, IsShown, SetsShort, clock_after}, Views.settled_at};
+    ghost use Rattle.world_state.specs.{Giving.{HasItsOctets, changed_device}, Leaving.{departure_in, port_entry}};
+    ghost use Rattle.world_state.specs.{Keeping.keeps, Places.{IsSomePut, own_place}};
     ghost use Rattle.world_state.specs.declared.contents.Settled.{Settled as SettledValue};
     ghost use Rattle.world_state.specs.declared.contents.Waits.{Waits as WaitsValue};
-    ghost use Rattle.world_steps.specs.Steps.{FitsWorld};
     ghost use Rattle.drift_world.specs.{Following.Follows, Showing.IsOf};
-    ghost use Rattle.drift_world.specs.{Sound.{IsSized, IsSound}, Stepping.{ChangesOnly, StandsPast}};
-    ghost use Rattle.drift_world.specs.Views.{world_of};
+    ghost use Rattle.drift_world.specs.{Sound.{IsSized, IsSound}, Stepping.{ChangesOnly, StandsPast}, Views.world_of};
 
     /// Time passes, where nothing is under way before.
     pub fn pass_to(&mut self, time: u64)
@@ -135,7 +127,7 @@ impl<C: Clock, M: Machine + Drop> State<C, M> {
         let index = self.shown as usize;
         let reading = self.clocks[index].read(Units::from_amount(self.time));
         let machine = &self.machines[index];
-        let kind = Kind::Clock {
+        let kind = PlainKind::Clock {
             device: DeviceId(self.shown),
             reading,
             adjustment: machine.adjustment(),
@@ -144,7 +136,7 @@ impl<C: Clock, M: Machine + Drop> State<C, M> {
         put_in(
             &mut self.settled,
             Settled {
-                body: Body { kind },
+                body: PlainBody { kind },
                 frame: None,
                 octets: None,
             },
@@ -181,7 +173,7 @@ impl<C: Clock, M: Machine + Drop> State<C, M> {
 
     /// The record of a frame at a port that leaves; of a broken device there is none.
     #[inline(always)]
-    fn departure(&self, network: &Network, place: Place, frame: Pcf, given: u64) -> Option<Settled>
+    fn departure(&self, network: &Network, place: DueAt, frame: Pcf, given: u64) -> Option<Settled>
         requires sized { IsSized C.last_step network.now self.now }
         requires range { IsInRange network.now }
         requires device { place.device < length network.now.device }
@@ -204,7 +196,7 @@ impl<C: Clock, M: Machine + Drop> State<C, M> {
     /// The frame at a port that is the first of all leaves. The record of it is answered, which is to be put in among
     /// what is settled; of a broken device there is none.
     #[inline(always)]
-    pub fn leave_port(&mut self, network: &Network, place: Place) -> Option<Settled>
+    pub fn leave_port(&mut self, network: &Network, place: DueAt) -> Option<Settled>
         requires sound { IsSound C.last_step network.now self.old }
         requires range { IsInRange network.now }
         requires first { IsFirst self.old.under_way.entries place }

@@ -7,8 +7,7 @@ use run_law::Machine;
 use world_state::OutOfMemory;
 
 impl<C: Clock, M: Machine + Drop> State<C, M> {
-    ghost use Rattle.drift_world.specs.{Nearing.IsLess, Turns.{IsStep, MayWork}};
-    ghost use Rattle.drift_world.specs.declared.source.Source.{Source};
+    ghost use Rattle.drift_world.specs.{Nearing.IsLess, Turns.{IsStep, MayWork}, declared.source.Source.Source};
 
     /// The outcomes of the events of the instant are settled.
     pub fn settle(&mut self, network: &Network) -> Result<(), OutOfMemory>

@@ -16,9 +16,8 @@ fn is_same(one: Option<Units>, other: Option<Units>) -> bool
 }
 
 impl<C: Clock, M: Machine + Drop> State<C, M> {
-    ghost use Rattle.drift_world.specs.{Acting.IsNextDue, Sound.IsSized, Sourcing.AreTimed};
+    ghost use Rattle.drift_world.specs.{Acting.IsNextDue, Sound.IsSized, Sourcing.AreTimed, Stepping.SetsOnly};
     ghost use Rattle.drift_world.specs.Stepping.{IsActTimed, IsDueTimed, IsRekeyed, IsRipeTimed, IsRunning, MayRekey};
-    ghost use Rattle.drift_world.specs.Stepping.{SetsOnly};
 
     /// The reading at which the machine of a device acts by itself next, if it does.
     #[inline(always)]

@@ -13,7 +13,7 @@ use crate::local::local_of;
 use crate::state::State;
 use drift_clock::Clock;
 use net_plan::{DeviceId, Event};
-use plain_notes::Given;
+use run_law::plain::PlainNote;
 use run_law::{Machine, Note};
 use schedule_tables::Accepted;
 use std::alloc::Global;
@@ -44,10 +44,9 @@ impl<'a, C: Clock, M: Machine + Drop> Model for World<'a, C, M> {
 
 impl<'a, C: Clock, M: Machine + Drop> World<'a, C, M> {
     ghost use Rattle.traffic_law.specs.safety.Headline.{IsSafeFront};
-    ghost use Rattle.drift_world.specs.Beginning.{AreFresh};
+    ghost use Rattle.drift_world.specs.{Beginning.AreFresh, Locals.{IsWide, MayShow, MayShowAt, MayShowBefore}};
     ghost use Rattle.drift_world.specs.Later.{ComesBehind, IsAtTime, IsOpenFrom, MayApply, MayApplyAgain, bounded};
     ghost use Rattle.drift_world.specs.Locals.{AreSmall, IsComplete, IsLocalClock, IsLocalClockBefore, IsLocalValue};
-    ghost use Rattle.drift_world.specs.Locals.{IsWide, MayShow, MayShowAt, MayShowBefore};
     ghost use Rattle.drift_world.specs.Running.{ComesUpTo, HoldsATime, IsOpenTo, MayBefall, StandsUnder, behind_events};
     ghost use Rattle.drift_world.specs.Running.{event_note, given_by, left_of, next_of, reading_of};
 
@@ -130,7 +129,7 @@ impl<'a, C: Clock, M: Machine + Drop> World<'a, C, M> {
         ensures at { IfOk result (λ _. IsAtTime self.new event.now.time) }
         ensures err { OnErr result (MayApplyAgain self.old self.new event.now.time) }
     {
-        let mut given = Given::none();
+        let mut given = PlainNote::none();
         match self.next_given(event.time, &mut given) {
             Ok(_) => {}
             Err(error) => return Err(error),
@@ -150,7 +149,7 @@ impl<'a, C: Clock, M: Machine + Drop> World<'a, C, M> {
     /// but is before the time still, and may be asked again.
     ///
     /// What is put is small, and seen as the record that it stands for.
-    pub fn next_given(&mut self, until: Units, note: &mut Given) -> Result<bool, OutOfMemory>
+    pub fn next_given(&mut self, until: Units, note: &mut PlainNote) -> Result<bool, OutOfMemory>
         requires limit { until.0 ≤ℤ pos (2 ^ 60 + 1) }
         requires ended { self.old.ended ≡ true → until.0 ≤ℤ pos (self.old.now + 1) }
         ensures stands { (network : Network) (events : List EventValue) (notes : List NoteValue)
@@ -211,7 +210,7 @@ impl<'a, C: Clock, M: Machine + Drop> World<'a, C, M> {
         ensures fewer { IfOk result (λ next. IfSome next (λ _. left_of self.new < left_of self.old)) }
     {
         let time = self.bounded(until);
-        let mut given = Given::none();
+        let mut given = PlainNote::none();
         match self.next_given(time, &mut given) {
             Ok(true) => Ok(Some(given.note())),
             Ok(false) => Ok(None),

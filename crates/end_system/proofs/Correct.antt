@@ -1,17 +1,16 @@
 -- A correction point of an end system.
+use Rattle.end_system.{proofs.Advance.{cycle_whole, not_fallen, was_done}, specs.{Agendas.{IsAgendaAfter, IsEmpty, IsInNextCycle}, Deeds.IsNextCorrection}}
+use Rattle.end_system.proofs.{Heard.{best_near, corrected_back, none_qualifies}, Words.{next_point, pos, refl, subst, sym, value_of, ℕ, ℤ}}
 use Rattle.end_system.proofs.Words.{◌*◌, ◌++◌, ◌+ℤ◌, ◌+◌, ◌-ℤ◌, ◌<ℤ◌, ◌<◌, ◌^◌, ◌∙◌, ◌∷◌, ◌≡◌, ◌≤ℤ◌, ◌≤◌, Agenda, Appointment, AreHeardSo, ClockTask, DeviceId}
 use Rattle.end_system.proofs.Words.{EndSystem, HasNumber, HasVerdict, IfSome, IsAgenda, IsAtSlot, IsCorrection, IsDispatch, IsOwnOf, IsSending, IsSmall}
 use Rattle.end_system.proofs.Words.{IsSomeAnd, List, MayCall, Moment, Network, Node, None, Option, Own, Some, Standing, StandsAsEnd, Summarizes, Summary}
 use Rattle.end_system.proofs.Words.{Synchronised, Units, [], amount, ap, arith, called, correcting, end_plan, from_zero, inl, inr, ints, mul-le-mul_right}
-use Rattle.end_system.proofs.Words.{next_point, pos, refl, subst, sym, value_of, ℕ, ℤ}
 use Rattle.membership.specs.Summary.{silence}
 use Rattle.run_law.{proofs.control.Points.point_is, specs.{control.Corrections.correction_value, machines.{Answers.after_correction, Nodes.acting}}}
 use Rattle.sync_state.{proofs.StateFacts.{no_longer, point_up_to}, specs.{Calls.{adjustment_by, after, reached_point}, Standing.{IsAtIntegration, point_in}}}
 use Rattle.sync_state.specs.{Verdicts.{IfCorrected, IsNear}, declared.answers.Verdict.{Verdict, TheVariants.{AsyncClique, Cleared, Corrected, SyncClique}}}
 use Rattle.sync_state.specs.declared.state.State.{State, TheVariants.{Integrating, Joining, Off}}
 use Rattle.tte_lemmas.proofs.Naturals.{less_than_next}
-use Rattle.end_system.proofs.{Advance.{cycle_whole, not_fallen, was_done}, Heard.{best_near, corrected_back, none_qualifies}}
-use Rattle.end_system.specs.{Agendas.{IsAgendaAfter, IsEmpty, IsInNextCycle}, Deeds.IsNextCorrection}
 
 -- ---- what the correction may rely on
 

@@ -1,10 +1,11 @@
 -- Frames that are permanent at an end system.
+use Rattle.end_system.proofs.{Advance.{not_fallen, number_stays}, Correct.heard_nothing, Heard.{expected_is, has_numbers}, Words.{subst, sym, true, ℕ, ℤ}}
 use Rattle.end_system.proofs.Words.{◌&&◌, ◌*◌, ◌++◌, ◌+ℤ◌, ◌+◌, ◌-ℤ◌, ◌<ℤ◌, ◌<◌, ◌^◌, ◌∙◌, ◌∷◌, ◌≡◌, ◌≤ℤ◌, ◌≤◌, A, Agenda, Appointment, AreHeardSo, AreRowsOf}
 use Rattle.end_system.proofs.Words.{B, Bool, Channel, ClockTask, DeviceId, Dispatch, EndSystem, HasNumber, IfSome, IsAgenda, IsAtSlot, IsCorrection, IsDispatch}
 use Rattle.end_system.proofs.Words.{IsOwnOf, IsSending, IsSmall, LinkId, List, MayCall, Moment, Network, Node, None, Option, Own, Pcf, Some, Standing}
 use Rattle.end_system.proofs.Words.{StandsAsEnd, Summarizes, Summary, SyncPlan, Synchronised, Units, [], amount, and_parts, ap, arith, called, end_plan}
 use Rattle.end_system.proofs.Words.{expected_offset, false, from_zero, inl, inr, ints, is_off, mul-le-mul_left, mul-le-mul_right, neg_ℤ, next_point, pos, refl}
-use Rattle.end_system.proofs.Words.{subst, sym, true, ℕ, ℤ}
+use Rattle.end_system.specs.{Controls.heard_by, Owns.channel_by, Ripening.{IsTold, heard_so}, Standing.{IsAtEnd, IsHeardSo}}
 use Rattle.std.proofs.{Common.{SomeIff, int_le, nat_le}, lemmas.Bool.{both_ways, leb-true}}
 use Rattle.membership.specs.{BestFrame.IsBetterOf, Hearing.Hearing, Members.count_of, Summary.{Hears, silence}, declared.frame.HeardFrame.HeardFrame}
 use Rattle.pcf_values.specs.declared.members.Members.{Members}
@@ -17,8 +18,6 @@ use Rattle.sync_state.{proofs.StateFacts.{integrating_point, no_longer}, specs.C
 use Rattle.sync_state.specs.{Integration.{Integrates as DoesIntegrate, joined_by}, Plan.expected_at, Standing.point_in, declared.answers.Joined.Joined}
 use Rattle.sync_state.specs.declared.state.State.{State, TheVariants.{Integrating, Joining, Off}}
 use Rattle.tte_lemmas.proofs.{Bools.match_false, Integers.int_le-is}
-use Rattle.end_system.{proofs.{Advance.{not_fallen, number_stays}, Correct.heard_nothing, Heard.{expected_is, has_numbers}}, specs.Controls.heard_by}
-use Rattle.end_system.specs.{Owns.channel_by, Ripening.{IsTold, heard_so}, Standing.{IsAtEnd, IsHeardSo}}
 
 -- ---- the range of points
 

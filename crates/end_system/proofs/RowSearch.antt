@@ -1,10 +1,9 @@
 -- The first dispatch of a device that comes no earlier than a bound.
-use Rattle.end_system.proofs.Words.{◌%◌, ◌*◌, ◌+◌, ◌-ℤ◌, ◌<◌, ◌^◌, ◌∙◌, ◌∷◌, ◌≡◌, ◌≤◌, AreRowsOf, Contains, DeviceId, Dispatch, IsBelow, IsInRange}
-use Rattle.end_system.proofs.Words.{IsSlotOf, List, Network, Own, Rows, SentBy, Slot, Some, amount, amount_most, ap, arith, in_all, inl, inr, key_of}
-use Rattle.end_system.proofs.Words.{mul-le-mul_left, numbers_of, pos, refl, slice_get, slice_get_within, subst, sym, turn_of, ℕ, ℤ, ⊎_elim}
+use Rattle.end_system.proofs.Words.{◌%◌, ◌*◌, ◌+◌, ◌-ℤ◌, ◌<◌, ◌^◌, ◌∙◌, ◌∷◌, ◌≡◌, ◌≤◌, AreRowsOf, Contains, DeviceId, Dispatch, IsBelow, IsInRange, IsSlotOf}
+use Rattle.end_system.proofs.Words.{List, Network, Own, Rows, SentBy, Slot, Some, amount, amount_most, ap, arith, in_all, inl, inr, key_of, mul-le-mul_left}
+use Rattle.end_system.{proofs.Words.{numbers_of, pos, refl, slice_get, slice_get_within, subst, sym, turn_of, ℕ, ℤ, ⊎_elim}, specs.RowSlots.IsNextFrom}
 use Rattle.std.proofs.lemmas.{Bool.cases_lt, List.Elements.All-contains, Option.get_or_from_slice_get}
 use Rattle.schedule_tables.{proofs.{EntryLemmas.in_range, Search.no_earlier}, specs.{Slots.{AreBelow, IsFirstSlot}, declared.slot.Place.Place}}
-use Rattle.end_system.specs.RowSlots.{IsNextFrom}
 
 -- each slot is of the device's rows
 pub is_of : (network : Network) (device : DeviceId) (rows : Rows) (slot : Slot) → AreRowsOf network device rows → Contains rows.slots.items slot

@@ -4,9 +4,8 @@ use Rattle.net_plan.specs.declared.ids.LinkId.{LinkId}
 use Rattle.pcf_codec.specs.declared.refusal.PcfRefusal.{PcfRefusal}
 use Rattle.pcf_values.specs.declared.pcf.Pcf.{Pcf}
 use Rattle.run_law.specs.control.{Arrivals.{is_cold_start, refused}, Hearing.heard_as, Permanence.ripe_as}
-use Rattle.run_law.specs.declared.{judgement.Reason.TheVariants.{ColdStart, Domain, Old}, steps.Arrival.Arrival}
-use Rattle.run_law.specs.declared.steps.{Arrival.TheVariants.{Dropped, Waits}, Ripe.Ripe}
-use Rattle.run_law.specs.records.Happenings.{with_clock}
+use Rattle.run_law.specs.{declared.judgement.Reason.TheVariants.{ColdStart, Domain, Old}, records.Happenings.with_clock}
+use Rattle.run_law.specs.declared.steps.{Arrival.{Arrival, TheVariants.{Dropped, Waits}}, Ripe.Ripe}
 use Rattle.sync_state.specs.Standing.{Standing}
 use Rattle.transparent_clock.specs.Points.{point_of}
 use Rattle.tte_units.specs.{Amount.amount, declared.units.Units.Units}

@@ -2,8 +2,7 @@
 
 ghost use Rattle.std.specs.Prelude.{◌&&◌, ◌+ℤ◌, ◌+◌, ◌^◌, ◌≡◌, ◌≤ℤ◌, ◌≤◌, nat_le, neg_ℤ, pos};
 ghost use Rattle.clock_correction.specs.Deviation.{IsSmall};
-ghost use Rattle.run_law.specs.control.Hearing.{heard_by_schedule, is_in_schedule, last_cycle};
-ghost use Rattle.run_law.specs.control.Permanence.{ripe_as};
+ghost use Rattle.run_law.specs.control.{Hearing.{heard_by_schedule, is_in_schedule, last_cycle}, Permanence.ripe_as};
 ghost use Rattle.sync_state.specs.declared.state.State.TheVariants.{Off};
 ghost use Rattle.tte_units.specs.Amount.{amount};
 ghost use Rattle.end_system.specs.{Controls.{arrival_of, frame_arrival_of, heard_by}, Owns.HasOwnRange};

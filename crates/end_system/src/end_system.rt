@@ -1,12 +1,10 @@
 ghost use Rattle.std.specs.Prelude.{◌+ℤ◌, ◌+◌, ◌<◌, ◌^◌, ◌≡◌, ◌≤ℤ◌, ◌≤◌, IfOk, IfSome, [], pos};
-ghost use Rattle.net_plan.specs.{Places.IsEndSystem, Ranges.{IsInRange, IsWithin}};
-ghost use Rattle.net_plan.specs.declared.ids.DeviceId.{DeviceId as DeviceIdValue};
-ghost use Rattle.net_plan.specs.declared.network.Network.{Network as NetworkValue};
+ghost use Rattle.net_plan.specs.{Places.IsEndSystem, declared.{ids.{DeviceId.{DeviceId as DeviceIdValue}}}};
+ghost use Rattle.net_plan.specs.{Ranges.{IsInRange, IsWithin}, declared.{network.{Network.{Network as NetworkValue}}}};
 ghost use Rattle.run_law.specs.{device.States.is_off, machines.Nodes.begun_node, scenario.Devices.start_of};
-ghost use Rattle.end_system.specs.{Acting.{CanPlan, Does, MayDo}, Agendas.{IsAgenda, IsAgendaAfter}};
-ghost use Rattle.end_system.specs.{Arriving.{HearsControl, HearsTimed, MayHearNow}, Owns.IsOwnOf};
-ghost use Rattle.end_system.specs.{Ripening.{Joins, Keeps, MayJoin}, RowSlots.{AreRowsOf, IsAtSlot}};
-ghost use Rattle.end_system.specs.{Standing.StandsAsEnd, declared.agenda.Due.Due};
+ghost use Rattle.end_system.specs.{Acting.{CanPlan, Does, MayDo}, Standing.StandsAsEnd, declared.agenda.Due.Due};
+ghost use Rattle.end_system.specs.{Agendas.{IsAgenda, IsAgendaAfter}, Arriving.{HearsControl, HearsTimed, MayHearNow}};
+ghost use Rattle.end_system.specs.{Owns.IsOwnOf, Ripening.{Joins, Keeps, MayJoin}, RowSlots.{AreRowsOf, IsAtSlot}};
 
 use crate::OutOfMemory;
 use crate::agenda::{Agenda, Appointment, Due, agenda_from, in_next_cycle};

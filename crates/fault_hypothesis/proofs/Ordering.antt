@@ -1,11 +1,9 @@
 -- The conditions in the order in which they are judged.
-use Rattle.std.proofs.{Common.{◌+◌, ◌-◌, ◌<◌, ◌∙◌, ◌∷◌, ◌≡◌, ◌≤◌, ◌⊎◌, List, [], ap, arith, inl, inr, refl, suc, sym, zero, ℕ}}
+use Rattle.std.{proofs.Common.{◌+◌, ◌-◌, ◌<◌, ◌∙◌, ◌∷◌, ◌≡◌, ◌≤◌, ◌⊎◌, List, [], ap, arith, inl, inr, refl, suc, sym, zero, ℕ}, specs.List.slice_index_or}
 use Rattle.std.proofs.lemmas.Bool.{cases_lt, cases_order}
-use Rattle.std.specs.List.{slice_index_or}
-use Rattle.run_law.specs.declared.outside.Outside.{Outside}
 use Rattle.run_law.specs.declared.outside.Outside.TheVariants.{Channel, Hold, Late, NotBroken, NotMaster, NotOff, Order, Rate, SecondBreak, TooFewMasters, Wire}
+use Rattle.run_law.specs.{declared.outside.Outside.Outside, scenario.Hypothesis.{Violates, condition_number}}
 use Rattle.net_plan.specs.declared.{event.Event.Event, network.Network.Network}
-use Rattle.run_law.specs.scenario.Hypothesis.{Violates, condition_number}
 use Rattle.fault_hypothesis.specs.Own.{behind_own, first_own}
 
 -- the conditions, by their numbers

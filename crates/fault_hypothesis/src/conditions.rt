@@ -1,6 +1,5 @@
-ghost use Rattle.std.specs.List.{count_by, enumerate_from};
+ghost use Rattle.std.specs.{List.{count_by, enumerate_from}, Prelude.{[], pos}};
 ghost use Rattle.std.specs.Prelude.{◌*◌, ◌++◌, ◌+ℤ◌, ◌<ℤ◌, ◌^◌, ◌↔◌, ◌∷◌, ◌≡◌, ◌≢◌, ◌⊎◌, IsSomeAnd, IsTrue, List, Some};
-ghost use Rattle.std.specs.Prelude.{[], pos};
 ghost use Rattle.net_plan.specs.{Belonging.{HasDevice, IsOfNetwork}, Places.is_master};
 ghost use Rattle.net_plan.specs.{Ranges.{IsInRange, IsLinkInRange}, declared.event.Event.Event as EventValue};
 ghost use Rattle.net_plan.specs.declared.network.Network.{Network as NetworkValue};

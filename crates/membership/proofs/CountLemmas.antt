@@ -1,8 +1,7 @@
 -- The ones of a number are its bits that are set.
 use Rattle.std.proofs.Common.{◌%◌, ◌*◌, ◌+◌, ◌/◌, ◌<◌, ◌==◌, ◌^◌, ◌∙◌, ◌∷◌, ◌≡◌, Bool, List, [], add-one, ap, arith, bit_or, cond, count_by, count_ones, refl}
-use Rattle.std.proofs.{Common.{suc, sym, zero, ℕ}, Math.Nat.pow-suc, lemmas.{Bool.Decides.nat_tests, List.Sums.sum_by-cons}}
-use Rattle.std.{proofs.lemmas.Nat.{and_le_l, ones_le_self, or_disjoint, Bits.{bit_at-lt, bit_at-suc, bit_at_lowest}}, specs.Int.{bit_at, Count.ones_step}}
-use Rattle.std.specs.List.{range_with_len}
+use Rattle.std.{proofs.{Common.{suc, sym, zero, ℕ}, Math.Nat.pow-suc, lemmas.List.Sums.sum_by-cons}, specs.{Int.{Count.ones_step, bit_at}, List.range_with_len}}
+use Rattle.std.proofs.lemmas.{Bool.Decides.nat_tests, Nat.{Bits.{bit_at-lt, bit_at-suc, bit_at_lowest}, and_le_l, ones_le_self, or_disjoint}}
 use Rattle.pcf_values.specs.declared.members.Members.{Members}
 use Rattle.tte_lemmas.proofs.Naturals.{or_half, or_parity}
 use Rattle.membership.specs.Members.{IsMember, count_of, single, union}

@@ -1,7 +1,6 @@
 -- An octet moves the place in a text by one line or one character at most.
 use Rattle.std.proofs.Common.{rules, arith, if◌then◌else◌, ◌&&◌, ◌+◌, ◌==◌, ◌≤◌, Bool, false, true, nat_le, ℕ}
-use Rattle.net_file.specs.TextPlaces.{place_after}
-use Rattle.net_file.specs.declared.text_place.TextPlace.{TextPlace}
+use Rattle.net_file.specs.{TextPlaces.place_after, declared.text_place.TextPlace.TextPlace}
 
 abbrev pub IsNear : TextPlace → TextPlace → Type 0
 IsNear p q = (q.line ≤ p.line + 1) × (q.column ≤ p.column + 1)

@@ -1,12 +1,11 @@
 -- The keys of a network file as they are written.
 use Rattle.std.specs.Prelude.{List, codes, ℕ}
-use Rattle.net_file.specs.declared.keys.KeyName.{KeyName}
 use Rattle.net_file.specs.declared.keys.KeyName.TheVariants.{Calc, Channel, Child, Correction, Cycle, Device, Dmax}
 use Rattle.net_file.specs.declared.keys.KeyName.TheVariants.{Domain, Ethertype, Grain, Hold, Id, Jitter, Length, Link}
 use Rattle.net_file.specs.declared.keys.KeyName.TheVariants.{Mac, Marker, Member, Name, Offset, Parent, PcfDestination}
 use Rattle.net_file.specs.declared.keys.KeyName.TheVariants.{Period, Phase, Precision, Priority, Rho, Role, Row, Sender}
 use Rattle.net_file.specs.declared.keys.KeyName.TheVariants.{Settled, Speed, Start, SyncThreshold, TtStart, Version, Vl}
-use Rattle.net_file.specs.declared.keys.KeyName.TheVariants.{Way, Wire}
+use Rattle.net_file.specs.declared.keys.KeyName.{KeyName, TheVariants.{Way, Wire}}
 
 -- the text of a key
 unfoldable pub key_text : KeyName → List ℕ

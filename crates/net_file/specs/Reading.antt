@@ -1,15 +1,12 @@
 -- Reading the keys of one table, whose entries are the data of TOML at its place in the file.
-use Rattle.std.specs.{List.list_any, Option.ok_or}
-use Rattle.std.specs.Prelude.{if◌then◌else◌, ◌&&◌, Bool, Err, List, None, Ok, Option, Some, bytes_eq, is_some, true, ℕ}
-use Rattle.std.specs.Prelude.{ℤ}
+use Rattle.std.specs.{List.list_any, Option.ok_or, Prelude.ℤ}
+use Rattle.std.specs.Prelude.{◌&&◌, Bool, Err, List, None, Ok, Option, Some, bytes_eq, if◌then◌else◌, is_some, true, ℕ}
 use Rattle.toml.specs.Data.{Data, Items, Members, as_array, as_integer, as_str, as_table, get, item, member, no_items}
 use Rattle.toml.specs.Data.{no_members}
 use Rattle.tte_units.specs.{Amount.units_of, declared.units.Units.Units}
-use Rattle.net_file.specs.{KeyTexts.key_text, Numbering.Numbering, Steps.{◌>>=◌, Read, where_there}}
-use Rattle.net_file.specs.{Values.number_within}
-use Rattle.net_file.specs.declared.keys.KeyName.{KeyName}
+use Rattle.net_file.specs.{KeyTexts.key_text, Numbering.Numbering, Values.number_within, declared.spots.Spot.Spot}
+use Rattle.net_file.specs.{Steps.{◌>>=◌, Read, where_there}, declared.{keys.KeyName.KeyName, spots.Place.Place}}
 use Rattle.net_file.specs.declared.refusal.FileRefusal.TheVariants.{Kind, Missing, Name, Range, Unknown}
-use Rattle.net_file.specs.declared.spots.{Place.Place, Spot.Spot}
 
 -- a key of a table
 abbrev pub spot : Place → KeyName → Spot

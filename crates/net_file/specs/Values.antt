@@ -1,12 +1,10 @@
 -- What the values of a network file mean.
-use Rattle.std.specs.List.{list_all}
-use Rattle.std.specs.Prelude.{if◌then◌else◌, ◌&&◌, ◌==◌, Bool, Err, List, None, Ok, Option, Result, Some, bytes_eq}
-use Rattle.std.specs.Prelude.{codes, length, nat_le, negsuc, pos, ℕ, ℤ}
+use Rattle.std.specs.{List.list_all, Prelude.{if◌then◌else◌, length, nat_le, negsuc, pos, ℕ, ℤ}}
+use Rattle.std.specs.Prelude.{◌&&◌, ◌==◌, Bool, Err, List, None, Ok, Option, Result, Some, bytes_eq, codes}
 use Rattle.byteorder.specs.Endian.{big_number}
 use Rattle.hex.specs.{Hex.decode_sized, declared.error.FromHexError.FromHexError}
-use Rattle.net_plan.specs.{NameText.is_name_character, declared.tables.Role.Role}
-use Rattle.net_plan.specs.declared.tables.{Role.TheVariants.{Client, Cm, Master, Relay}, Way.Way}
-use Rattle.net_plan.specs.declared.tables.Way.TheVariants.{Down, Up}
+use Rattle.net_plan.specs.{NameText.is_name_character, declared.tables.{Role.Role, Way.Way}}
+use Rattle.net_plan.specs.declared.tables.{Role.TheVariants.{Client, Cm, Master, Relay}, Way.TheVariants.{Down, Up}}
 use Rattle.pcf_values.specs.declared.channel.Channel.{Channel, TheVariants.{A, B}}
 use Rattle.tte_units.specs.declared.speed.Speed.{Speed, TheVariants.{Gbit1, Mbit100}}
 

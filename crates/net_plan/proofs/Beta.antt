@@ -3,10 +3,9 @@ use Rattle.std.proofs.Common.{◌+◌, ◌∙◌, ◌≡◌, ◌⊎◌, Bool, Li
 use Rattle.std.{proofs.Common.{zero, ℕ, ⊎_elim}, specs.Prelude.IsSomeAnd}
 use Rattle.pcf_values.specs.declared.channel.Channel.{Channel, TheVariants.{A, B}}
 use Rattle.net_plan.proofs.Greatest.{IsOfPathBelow, greatest_below_all, greatest_below_more, greatest_below_none, greatest_from_none, greatest_from_path}
-use Rattle.net_plan.proofs.Greatest.{greatest_is_unique, greatest_of_channels}
+use Rattle.net_plan.{proofs.Greatest.{greatest_is_unique, greatest_of_channels}, specs.Places.{IsDeviceOf, device_at, is_end_system}}
 use Rattle.net_plan.specs.{Bounds.{BetaExists, BetaIsUnique, IsGreatest, IsOfPath, IsOfPathFrom, IsOfPathOn, beta_at, jitter_on}, Paths.IsTree}
-use Rattle.net_plan.specs.{Places.{IsDeviceOf, device_at, is_end_system}, declared.{ids.{DeviceId.DeviceId, LinkId.LinkId}, network.Network.Network}}
-use Rattle.net_plan.specs.declared.tables.Device.{Device}
+use Rattle.net_plan.specs.declared.{ids.{DeviceId.DeviceId, LinkId.LinkId}, network.Network.Network, tables.Device.Device}
 
 pub beta_is_unique : BetaIsUnique
 beta_is_unique n b other g h =

@@ -1,6 +1,5 @@
 -- Paths in the trees of a network.
-use Rattle.std.proofs.Common.{arith}
-use Rattle.std.proofs.Common.{◌∙◌, ◌∷◌, ◌≡◌, List, Some, [], ap, refl, sym}
+use Rattle.std.proofs.Common.{◌∙◌, ◌∷◌, ◌≡◌, List, Some, [], ap, arith, refl, sym}
 use Rattle.pcf_values.specs.declared.channel.Channel.{Channel}
 use Rattle.tte_lemmas.proofs.Options.{at_known, closed, opened}
 use Rattle.net_plan.specs.{Paths.{IsPath, IsTree, IsUplink, PathsAreUnique}, Places.{IsSwitchOf, link_at}, declared.ids.{DeviceId.DeviceId, LinkId.LinkId}}

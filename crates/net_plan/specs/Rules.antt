@@ -1,13 +1,11 @@
 -- The rules of a network's shape. Each says that it is kept at an index: the place of a device or a
 -- link, or the number of a part.
-use Rattle.std.specs.List.{All, count_by, filter}
-use Rattle.std.specs.Prelude.{if◌then◌else◌, ◌+◌, ◌<◌, ◌==◌, ◌≡◌, ◌≢◌, ◌≤ℤ◌, ◌≤◌, ◌⊎◌, IfSome, IsNone, IsSomeAnd, List}
-use Rattle.std.specs.Prelude.{Some, is_some, length, slice_get, ℕ}
+use Rattle.std.specs.{List.{All, count_by, filter}, Prelude.{if◌then◌else◌, is_some, length, slice_get, ℕ}}
+use Rattle.std.specs.Prelude.{◌+◌, ◌<◌, ◌==◌, ◌≡◌, ◌≢◌, ◌≤ℤ◌, ◌≤◌, ◌⊎◌, IfSome, IsNone, IsSomeAnd, List, Some}
 use Rattle.pcf_values.specs.declared.channel.Channel.{Channel, TheVariants.{A, B}}
-use Rattle.net_plan.specs.Paths.{IsTree, IsUplink, LeadsToCm}
+use Rattle.net_plan.specs.{Paths.{IsTree, IsUplink, LeadsToCm}, declared.tables.{Device.Device, Role.TheVariants.Relay}}
 use Rattle.net_plan.specs.Places.{IsCmOf, IsDeviceOf, IsEndSystem, IsRoleOf, IsSwitchOf, device_at, is_master, link_at}
-use Rattle.net_plan.specs.declared.{ids.{DeviceId.DeviceId, LinkId.LinkId}, network.Network.Network}
-use Rattle.net_plan.specs.declared.tables.{Device.Device, Link.Link, Role.TheVariants.Relay}
+use Rattle.net_plan.specs.declared.{ids.{DeviceId.DeviceId, LinkId.LinkId}, network.Network.Network, tables.Link.Link}
 
 -- exactly one thing has the property
 abbrev pub ExactlyOne : {X : Type 0} → (X → Type 0) → Type 0

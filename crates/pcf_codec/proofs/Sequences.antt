@@ -3,10 +3,9 @@ use Rattle.std.proofs.Common.{◌*◌, ◌++◌, ◌+◌, ◌-◌, ◌∙◌, �
 use Rattle.std.proofs.{Common.{length-append, length-drop, length-take, refl, subst, sym, take, ℕ}, Math.Seq.drop-append_seam}
 use Rattle.std.proofs.lemmas.{Bool.{cases_lt, le-ltb, lt-ltb}, List.{append-nil, drop-append-le, nil_from_length}}
 use Rattle.pcf_values.specs.declared.pcf.Pcf.{Pcf}
-use Rattle.pcf_codec.{proofs.Outcomes.is_spelling, specs.Decoding.decoded}
-use Rattle.pcf_codec.specs.Reading.{Reading, Reads, fed, holding, judgement_of, reading_of, refused, taken_of, waiting}
-use Rattle.pcf_codec.specs.{Sequence.{IsLongestFront, IsRefusedFrame, IsUnfinished, SpellsAll}, Spelling.{Spells, pcf_length}}
-use Rattle.pcf_codec.specs.declared.refusal.PcfRefusal.{PcfRefusal}
+use Rattle.pcf_codec.proofs.Outcomes.{is_spelling}
+use Rattle.pcf_codec.specs.{Decoding.decoded, Sequence.{IsLongestFront, IsRefusedFrame, IsUnfinished, SpellsAll}, declared.refusal.PcfRefusal.PcfRefusal}
+use Rattle.pcf_codec.specs.{Reading.{Reading, Reads, fed, holding, judgement_of, reading_of, refused, taken_of, waiting}, Spelling.{Spells, pcf_length}}
 
 -- a sequence has sixty octets a frame
 pub length-spelling : (octets : List ℕ) (ps : List Pcf) → SpellsAll octets ps → length octets ≡ 60 * length ps

@@ -4,10 +4,9 @@ use Rattle.std.specs.Prelude.{ℕ, ℤ}
 use Rattle.membership.specs.Members.{count_of}
 use Rattle.net_plan.specs.declared.ids.DeviceId.{DeviceId}
 use Rattle.run_law.specs.control.Corrections.{ComesToCorrection, correction_value, integration_cycle, next_cycle}
-use Rattle.run_law.specs.{declared.judgement.Why.Why, device.LocalClocks.Reaches}
-use Rattle.run_law.specs.{device.States.{adjustment_with, cycle_in, is_joined_by}, law.Safety.AreClose}
-use Rattle.run_law.specs.records.{Happenings.{Happening, earlier, time_of}, Order.IsIn, Ranks.members_in}
-use Rattle.run_law.specs.scenario.Scenarios.{is_turned_on_at}
+use Rattle.run_law.specs.{declared.judgement.Why.Why, records.{Happenings.{Happening, earlier, time_of}, Order.IsIn}}
+use Rattle.run_law.specs.{device.LocalClocks.Reaches, law.Safety.AreClose, records.Ranks.members_in}
+use Rattle.run_law.specs.{device.States.{adjustment_with, cycle_in, is_joined_by}, scenario.Scenarios.is_turned_on_at}
 use Rattle.sync_state.specs.declared.answers.Verdict.{Verdict, TheVariants.{Cleared, Corrected}}
 use Rattle.sync_state.specs.declared.state.State.TheVariants.{Integrating}
 use Rattle.tte_units.specs.declared.units.Units.{Units}

@@ -1,12 +1,10 @@
 -- What a device's clock was last set to fixes since then.
-use Rattle.std.specs.Option.{option_map_or}
-use Rattle.std.specs.Prelude.{if◌then◌else◌, ◌+ℤ◌, ◌+◌, ◌-ℤ◌, ◌<ℤ◌, ◌<◌, ◌≡◌, ◌≤ℤ◌, ◌≤◌, List, None, Option, Some}
-use Rattle.std.specs.Prelude.{false, pos, true, ℕ, ℤ}
+use Rattle.std.specs.{Option.option_map_or, Prelude.{if◌then◌else◌, pos, true, ℕ, ℤ}}
+use Rattle.std.specs.Prelude.{◌+ℤ◌, ◌+◌, ◌-ℤ◌, ◌<ℤ◌, ◌<◌, ◌≡◌, ◌≤ℤ◌, ◌≤◌, List, None, Option, Some, false}
 use Rattle.net_plan.specs.declared.ids.DeviceId.{DeviceId}
-use Rattle.run_law.specs.control.Corrections.{has_cleared, next_cycle, recorded_cycle}
-use Rattle.run_law.specs.device.LocalClocks.{Reaches, changed_at}
-use Rattle.run_law.specs.device.States.{adjustment_after, adjustment_with, cycle_in}
-use Rattle.run_law.specs.{records.Happenings.{Happening, earlier}, scenario.{Devices.start_of, Scenarios.Scenario}}
+use Rattle.run_law.specs.{control.Corrections.{has_cleared, next_cycle, recorded_cycle}, scenario.Scenarios.Scenario}
+use Rattle.run_law.specs.{device.LocalClocks.{Reaches, changed_at}, records.Happenings.{Happening, earlier}}
+use Rattle.run_law.specs.{device.States.{adjustment_after, adjustment_with, cycle_in}, scenario.Devices.start_of}
 use Rattle.sync_state.specs.Standing.{adjustment_at_start}
 use Rattle.tte_units.specs.declared.units.Units.{Units}
 use Rattle.precision_law.specs.Blocks.{adjustment_left, state_left}

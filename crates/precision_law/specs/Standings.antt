@@ -1,9 +1,8 @@
 -- What it means for a clock to be anchored.
 use Rattle.std.specs.Prelude.{◌*ℤ◌, ◌*◌, ◌+ℤ◌, ◌+◌, ◌-ℤ◌, ◌≤ℤ◌, ◌≤◌, pos, suc, ℕ, ℤ}
 use Rattle.tte_units.specs.Mean.{mean_of}
-use Rattle.precision_law.specs.Anchors.{IsAnchored, IsAnchoredIn}
-use Rattle.precision_law.specs.{Hulls.{Hull, IsNarrow, first_dispatch, last_dispatch, start_hull}, Readings.IsSteady}
-use Rattle.precision_law.specs.Sizes.{HaveRoom, Sizes}
+use Rattle.precision_law.specs.{Anchors.{IsAnchored, IsAnchoredIn}, Readings.IsSteady, Sizes.{HaveRoom, Sizes}}
+use Rattle.precision_law.specs.Hulls.{Hull, IsNarrow, first_dispatch, last_dispatch, start_hull}
 
 -- ---- setting a clock
 

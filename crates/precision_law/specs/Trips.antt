@@ -5,11 +5,10 @@ use Rattle.drift_clock.specs.Reach.{IsReach}
 use Rattle.net_plan.specs.{Paths.IsPath, Places.{IsCmOf, IsDeviceOf}, declared.ids.{DeviceId.DeviceId, LinkId.LinkId}}
 use Rattle.net_plan.specs.declared.tables.Way.{Way, TheVariants.{Down, Up}}
 use Rattle.pcf_values.specs.declared.{channel.Channel.Channel, members.Members.Members}
-use Rattle.run_law.specs.{control.{Arrivals.is_gate_shut, Leaving.Gives}, device.Standpoints.standpoint}
-use Rattle.run_law.specs.{device.States.{cycle_in, is_off, state_before}, records.Causes.GoesBackTo}
-use Rattle.run_law.specs.records.{Happenings.{Happening, time_of}, Order.IsIn, Ranks.members_in}
-use Rattle.run_law.specs.scenario.Devices.{channel_of, channel_of_link, member_of}
-use Rattle.run_law.specs.scenario.Ways.{receiver_of, way_from, way_to}
+use Rattle.run_law.specs.{control.Arrivals.is_gate_shut, scenario.Devices.{channel_of, channel_of_link, member_of}}
+use Rattle.run_law.specs.{control.Leaving.Gives, records.{Order.IsIn, Ranks.members_in}}
+use Rattle.run_law.specs.{device.Standpoints.standpoint, records.{Causes.GoesBackTo, Happenings.{Happening, time_of}}}
+use Rattle.run_law.specs.{device.States.{cycle_in, is_off, state_before}, scenario.Ways.{receiver_of, way_from, way_to}}
 use Rattle.transparent_clock.specs.Points.{point_of}
 use Rattle.precision_law.specs.{Bases.{IsEmission, IsHeard, base_of}, Standings.IsTimely}
 use Rattle.precision_law.specs.Views.{IsBad, IsDispatch, IsGood, IsSoundSwitch, IsView, View}

@@ -1,8 +1,7 @@
 -- Words of one spelling are one.
-use Rattle.std.proofs.Common.{◌++◌, ◌<◌, ◌^◌, ◌∙◌, ◌∷◌, ◌≡◌, ◌≢◌, Err, List, Ok, Some, [], ap, arith, refl, sym, ℕ}
-use Rattle.std.{proofs.lemmas.{Fmt.{decimal_injective, signed_decimal_injective}, Int.ints, Nat.from_be_bytes-to_be_bytes_4}, specs.Fmt.signed_decimal}
-use Rattle.std.specs.{Int.{from_be_bytes, to_be_bytes, w32}, List.join_with_byte, Option.option_map_or}
-use Rattle.std.specs.Prelude.{Result, codes, decimal, get_or, length, slice_get}
+use Rattle.std.proofs.{Common.{◌++◌, ◌<◌, ◌^◌, ◌∙◌, ◌∷◌, ◌≡◌, ◌≢◌, Err, List, Ok, Some, [], ap, arith, refl, sym, ℕ}, lemmas.Nat.from_be_bytes-to_be_bytes_4}
+use Rattle.std.{proofs.lemmas.{Fmt.{decimal_injective, signed_decimal_injective}, Int.ints}, specs.Prelude.{Result, codes, decimal, get_or, length, slice_get}}
+use Rattle.std.specs.{Fmt.signed_decimal, Int.{from_be_bytes, to_be_bytes, w32}, List.join_with_byte, Option.option_map_or}
 use Rattle.hex.specs.Hex.{encode_lower}
 use Rattle.net_plan.specs.{Belonging.{HasDevice, HasLink, HasVl, IsOfNetwork, device_name, link_name, vl_name}, Ranges.IsInRange}
 use Rattle.net_plan.specs.{Rules.{DeviceIsNew, LinkIsNew}, declared.{event.{Event.Event, What.What}, ids.{DeviceId.DeviceId, LinkId.LinkId, VlId.VlId}}}
@@ -15,9 +14,8 @@ use Rattle.trace_text.{proofs.EventsBack.reads_back, specs.{EventLine.{event_tex
 use Rattle.trace_text.specs.Steps.{Read, Words, space}
 use Rattle.tte_lemmas.proofs.Lists.{differ, some_at}
 use Rattle.tte_units.specs.{Amount.units_of, declared.units.Units.Units}
-use Rattle.report_text.proofs.{Characters.{octet_is_byte, same_octets, word_is_bytes}, Visible.units_mag}
-use Rattle.report_text.specs.NoteWords.{judgement_text, members_text, reason_words, state_text, why_text}
-use Rattle.report_text.specs.Ranges.{IsCount, IsReasonInRange, IsShortCount, IsSignedUnits}
+use Rattle.report_text.{proofs.Characters.{octet_is_byte, same_octets, word_is_bytes}, specs.Ranges.{IsCount, IsReasonInRange, IsShortCount, IsSignedUnits}}
+use Rattle.report_text.{proofs.Visible.units_mag, specs.NoteWords.{judgement_text, members_text, reason_words, state_text, why_text}}
 use Rattle.run_law.specs.declared.judgement.Judgement.TheVariants as judgements
 use Rattle.run_law.specs.declared.judgement.Reason.TheVariants as reasons
 use Rattle.run_law.specs.declared.judgement.Why.TheVariants as whys

@@ -3,10 +3,8 @@ use Rattle.std.proofs.{Common.{◌*◌, ◌+◌, ◌^◌, ◌∷◌, ◌≡◌, 
 use Rattle.std.specs.{Fmt.signed_decimal, List.join_with_byte, Prelude.{◌≤ℤ◌, neg_ℤ, negsuc, pos, ℤ}}
 use Rattle.hex.{proofs.HexLemmas.length-encode_with, specs.Hex.{encode_lower, lower_digits}}
 use Rattle.net_plan.specs.{Belonging.{HasDevice, HasLink, IsOfNetwork, device_name, link_name}, Ranges.{IsDeviceInRange, IsInRange, IsLinkInRange}}
-use Rattle.net_plan.specs.declared.{event.What.What, ids.{DeviceId.DeviceId, LinkId.LinkId}, network.Network.Network, tables.Way.Way}
-use Rattle.net_plan.specs.declared.tables.Way.TheVariants.{Down, Up}
-use Rattle.trace_text.specs.{EventLine.what_words, EventWords.way_text}
-use Rattle.trace_text.specs.{Ranges.{IsRate, IsTime, IsWhatInRange}, Steps.{Words, space}}
+use Rattle.net_plan.specs.declared.{event.What.What, ids.{DeviceId.DeviceId, LinkId.LinkId}, network.Network.Network, tables.Way.{TheVariants.{Down, Up}, Way}}
+use Rattle.trace_text.specs.{EventLine.what_words, EventWords.way_text, Ranges.{IsRate, IsTime, IsWhatInRange}, Steps.{Words, space}}
 use Rattle.tte_lemmas.proofs.Lists.{in_all, some_at}
 use Rattle.tte_units.specs.declared.{rates.Ppb.Ppb, units.Units.Units}
 use Rattle.net_plan.specs.declared.event.What.TheVariants as events

@@ -1,12 +1,9 @@
 -- Texts that no LF breaks, and lines of visible words.
-use Rattle.std.proofs.{Common.{◌++◌, ◌∷◌, ◌≡◌, Bool, List, [], arith, false, refl, true, ℕ}, lemmas.Bool.Decides.nat_tests}
-use Rattle.std.{proofs.lemmas.List.Elements.{All-append, All-cons, All-weaker}, specs.{List.join_with_byte, Prelude.{◌==◌, ⊤}}}
+use Rattle.std.proofs.{Common.{◌++◌, ◌||◌, ◌∷◌, ◌≡◌, Bool, List, [], arith, false, not, refl, true, ℕ}, lemmas.List.Elements.{All-append, All-cons, All-weaker}}
+use Rattle.std.{proofs.lemmas.Bool.{Decides.nat_tests, and_parts}, specs.{List.join_with_byte, Prelude.{◌==◌, nat_lt, ⊤}}}
 use Rattle.trace_text.{proofs.Joining.{AreWords, words_joined}, specs.Steps.{Words, is_space, space, words}}
 use Rattle.tte_io.specs.Line.{lf}
 use Rattle.report_text.proofs.{Characters.{IsVisible, is_visible}, Splits.NonePasses}
-use Rattle.std.specs.Prelude.{nat_lt}
-use Rattle.std.proofs.Common.{not, ◌||◌}
-use Rattle.std.proofs.lemmas.Bool.{and_parts}
 
 -- the octet is LF
 abbrev pub is_lf : ℕ → Bool

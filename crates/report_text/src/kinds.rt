@@ -1,7 +1,7 @@
 ghost use Rattle.std.specs.{Fmt.signed_decimal, List.join_with_byte};
 ghost use Rattle.std.specs.Prelude.{◌++◌, ◌+◌, ◌∷◌, ◌≡◌, ◌≤◌, [], codes, decimal, length};
 ghost use Rattle.net_plan.specs.{Belonging.{HasDevice, HasLink, HasVl, IsOfNetwork, device_name}, Ranges.IsInRange};
-ghost use Rattle.plain_notes.specs.Bodies.{body_of};
+ghost use Rattle.run_law.specs.plain.Bodies.{body_of};
 ghost use Rattle.trace_text.specs.Steps.{space};
 ghost use Rattle.tte_io.specs.Line.{line_limit};
 ghost use Rattle.report_text.specs.NoteLine.{body_text, body_words, longest_body, passage_words, stream_words};
@@ -12,7 +12,7 @@ use crate::fields::{push_device, push_members, push_passage, push_stream, push_u
 use crate::words::{judgement_text, push_reason, state_text, why_text};
 use net_plan::{DeviceId, LinkId, Network, VlId, What};
 use pcf_values::Members;
-use plain_notes::{Kind, Said};
+use run_law::plain::{EventOrPlain, PlainKind};
 use run_law::{Judgement, NoteBody, Reason, Why};
 use sync_state::State;
 use trace_text::push_what;
@@ -250,7 +250,7 @@ fn push_dropped(
 
 // Adds what a record says that is of no event.
 #[tactic(auto, unfolding(crate::specs::NoteLine::body_text))]
-pub(crate) fn push_plain(line: &mut LineText, network: &Network, kind: &Kind)
+pub(crate) fn push_plain(line: &mut LineText, network: &Network, kind: &PlainKind)
     requires in_range { IsInRange network.now }
     requires of_network { IsBodyOf network.now (body_of kind.now) }
     requires room { length line.old + longest_body ≤ line_limit }
@@ -258,7 +258,7 @@ pub(crate) fn push_plain(line: &mut LineText, network: &Network, kind: &Kind)
     ensures grows { length line.new ≤ length line.old + longest_body }
 {
     match *kind {
-        Kind::Compressed {
+        PlainKind::Compressed {
             device,
             opened,
             at,
@@ -269,71 +269,71 @@ pub(crate) fn push_plain(line: &mut LineText, network: &Network, kind: &Kind)
             push_collection(line, network, device, opened, at);
             push_summary(line, cycle, members, verdict);
         }
-        Kind::Sent { device, cycle } => push_sent(line, network, device, cycle),
-        Kind::Corrected {
+        PlainKind::Sent { device, cycle } => push_sent(line, network, device, cycle),
+        PlainKind::Corrected {
             device,
             cycle,
             by,
             adjustment,
         } => push_corrected(line, network, device, cycle, by, adjustment),
-        Kind::State {
+        PlainKind::State {
             device,
             state,
             cause,
             why,
         } => push_state(line, network, device, state, cause, why),
-        Kind::Clock {
+        PlainKind::Clock {
             device,
             reading,
             adjustment,
             state,
         } => push_clock(line, network, device, reading, adjustment, state),
-        Kind::Arrived {
+        PlainKind::Arrived {
             device,
             link,
             cause,
             clock,
         } => push_clocked(line, network, "arrived", device, link, cause, clock),
-        Kind::Permanent {
+        PlainKind::Permanent {
             device,
             link,
             cause,
             point,
             verdict,
         } => push_permanent(line, network, device, link, cause, point, verdict),
-        Kind::Left {
+        PlainKind::Left {
             device,
             link,
             cause,
             clock,
         } => push_clocked(line, network, "left", device, link, cause, clock),
-        Kind::Lost {
+        PlainKind::Lost {
             device,
             link,
             cause,
         } => push_passage(line, network, "lost", device, link, cause),
-        Kind::TtSent {
+        PlainKind::TtSent {
             device,
             link,
             cause,
             vl,
             cycle,
         } => push_tt(line, network, "ttsent", device, link, cause, vl, cycle),
-        Kind::Accepted {
+        PlainKind::Accepted {
             device,
             link,
             cause,
             vl,
             cycle,
         } => push_tt(line, network, "accepted", device, link, cause, vl, cycle),
-        Kind::Delivered {
+        PlainKind::Delivered {
             device,
             link,
             cause,
             vl,
             cycle,
         } => push_tt(line, network, "delivered", device, link, cause, vl, cycle),
-        Kind::Dropped {
+        PlainKind::Dropped {
             device,
             link,
             cause,
@@ -351,11 +351,11 @@ pub(crate) fn push_body(line: &mut LineText, network: &Network, body: &NoteBody)
     ensures text { line.new ≡ line.old ++ body_text network.now body.now }
     ensures grows { length line.new ≤ length line.old + longest_body }
 {
-    match Said::of(body) {
-        Said::Event {
+    match EventOrPlain::of(body) {
+        EventOrPlain::Event {
             line: of_trace,
             what,
         } => push_event(line, network, of_trace, what),
-        Said::Plain(kind) => push_plain(line, network, &kind),
+        EventOrPlain::Plain(kind) => push_plain(line, network, &kind),
     }
 }

@@ -9,8 +9,8 @@ use crate::fields::push_units;
 use crate::kinds::{push_body, push_event, push_plain};
 use crate::times::TimeText;
 use net_plan::{Event, Network};
-use plain_notes::Given;
 use run_law::Note;
+use run_law::plain::PlainNote;
 use tte_io::{LineText, Sink, SinkFailed};
 use tte_units::Units;
 
@@ -43,7 +43,12 @@ pub fn make_note_line(line: &mut LineText, network: &Network, note: &Note)
 /// for the next record.
 ///
 /// The network is in its ranges, and the record's devices, links and virtual links are its own.
-pub fn make_plain_line(line: &mut LineText, times: &mut TimeText, network: &Network, note: &Given)
+pub fn make_plain_line(
+    line: &mut LineText,
+    times: &mut TimeText,
+    network: &Network,
+    note: &PlainNote,
+)
     requires in_range { IsInRange network.now }
     requires of_network { IsNoteOf network.now note.now }
     ensures { line.new ≡ note_line network.now note.now }

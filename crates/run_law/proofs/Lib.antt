@@ -6,3 +6,4 @@ pub mod records
 pub mod control
 pub mod timed
 pub mod device
+pub mod plain_lemmas

@@ -6,3 +6,4 @@ pub mod timed
 pub mod runs
 pub mod law
 pub mod machines
+pub mod plain

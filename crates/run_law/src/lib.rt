@@ -9,6 +9,7 @@ mod locals;
 mod machine;
 mod note;
 mod outside;
+pub mod plain;
 mod steps;
 
 pub use first_laws::{broken_are_still, deliveries_begin, sent_frames_come};

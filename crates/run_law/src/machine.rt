@@ -1,12 +1,11 @@
 ghost use Rattle.std.specs.Prelude.{◌≡◌, false};
 ghost use Rattle.net_plan.specs.declared.{ids.DeviceId.DeviceId, network.Network.Network};
 ghost use Rattle.sync_state.specs.declared.state.State.TheVariants.{Off};
-ghost use Rattle.run_law.specs.control.Wires.{signal_of};
+ghost use Rattle.run_law.specs.{control.Wires.signal_of, machines.Tasks.IsDueReading};
 ghost use Rattle.run_law.specs.machines.Answers.{IsActOf, IsPermanenceOutcomeAt, after_arrival, after_permanence};
-ghost use Rattle.run_law.specs.machines.Answers.{arrival_at, called, node_turned_on};
+ghost use Rattle.run_law.specs.machines.{Answers.{arrival_at, called, node_turned_on}, Calls.{MayTake, StandsFor}};
 ghost use Rattle.run_law.specs.machines.Calls.{HasDue, IsHearing, MayAct, MayArrive, MayCall, MayHear, MayRipen};
-ghost use Rattle.run_law.specs.machines.{Calls.{MayTake, StandsFor}, Nodes.{Node, acting, arriving, ripening}};
-ghost use Rattle.run_law.specs.{machines.Tasks.IsDueReading, scenario.Devices.channel_of_link};
+ghost use Rattle.run_law.specs.{machines.Nodes.{Node, acting, arriving, ripening}, scenario.Devices.channel_of_link};
 
 use crate::{Act, Arrival, Moment, Ripe};
 use net_plan::LinkId;

@@ -4,11 +4,10 @@ use Rattle.std.proofs.lemmas.{Bool.{cases_lt, ne_eqb}, List.{Elements.All-tail, 
 use Rattle.std.specs.{List.{All, count_by}, Prelude.slice_get}
 use Rattle.net_plan.specs.{Places.is_end_system, Ranges.{IsInRange, IsLinkInRange, IsRowInRange}, declared.{network.Network.Network, tables.Device.Device}}
 use Rattle.net_plan.specs.declared.tables.{Link.Link, Row.Row, Way.{Way, TheVariants.{Down, Up}}}
-use Rattle.schedule_tables.specs.{Entries.source_by, Rules.{IsKept, IsKeptAt}, Schedule.{HasFewRows, leaves}, declared.rule.Rule.Rule}
+use Rattle.schedule_tables.specs.{Entries.source_by, Rules.{IsKept, IsKeptAt}, Schedule.{HasFewRows, leaves}, declared.rule.Rule.{Rule, TheVariants.WindowEnds}}
 use Rattle.schedule_tables.specs.declared.rule.Rule.TheVariants.{BothChannels, CompressionMasters, Connections, Correction, Delays, DevicesDiffer, Forwarding}
 use Rattle.schedule_tables.specs.declared.rule.Rule.TheVariants.{Joints, Limits, LinksDiffer, LinksOnce, Masters, Periods, Precision, RowsOfDevice}
 use Rattle.schedule_tables.specs.declared.rule.Rule.TheVariants.{ScheduleStart, Senders, Settling, Sources, Spacing, Targets, VlIdsDiffer, VlNamesDiffer}
-use Rattle.schedule_tables.specs.declared.rule.Rule.TheVariants.{WindowEnds}
 use Rattle.schedule_checker.{proofs.ShapePaths.within, specs.Judging.places_of}
 
 -- the rule is kept where it is judged

@@ -1,8 +1,7 @@
 -- What is kept of rows in their groups.
-use Rattle.std.proofs.Common.{if◌then◌else◌, ◌++◌, ◌+◌, ◌<◌, ◌==◌, ◌∷◌, ◌≡◌, Bool, Global, List, Some, Vec, [], ap, arith, false, length}
-use Rattle.std.proofs.Common.{refl, subst, suc, sym, true, zero, ℕ, ⊎_elim}
-use Rattle.std.proofs.lemmas.{Bool.{cases_lt, eq-eqb}, List.Elements.{Contains-append_left, Contains-append_right}, Option.slice_get_within}
-use Rattle.std.specs.{List.{Contains, slice_get}, Option.option_map_or}
+use Rattle.std.proofs.Common.{◌++◌, ◌+◌, ◌<◌, ◌==◌, ◌∷◌, ◌≡◌, Bool, Global, List, Some, Vec, [], ap, arith, false, if◌then◌else◌, length, refl, subst, suc, sym}
+use Rattle.std.proofs.{Common.{true, zero, ℕ, ⊎_elim}, lemmas.{List.Elements.{Contains-append_left, Contains-append_right}, Option.slice_get_within}}
+use Rattle.std.{proofs.lemmas.Bool.{cases_lt, eq-eqb}, specs.{List.{Contains, slice_get}, Option.option_map_or}}
 use Rattle.tte_lemmas.proofs.Options.{some_same}
 use Rattle.schedule_tables.specs.declared.entry.Entry.{Entry}
 use Rattle.schedule_checker.specs.{Groups.{AreGroups, places_in}, declared.groups.{Groups.Groups, Places.Places}}

@@ -1,7 +1,6 @@
 -- Names are equal where their octets in place are.
-use Rattle.std.proofs.{Common.{◌&&◌, ◌∙◌, ◌≡◌, Bool, List, ap, eqb, length, sym, take, ℕ}, Math.Seq.take-append_seam}
-use Rattle.std.{proofs.lemmas.{Bool.Decides.{Decides-and, Decides-at, Decides-eqb, Decides-like}, Slice.Eq.bytes_eq-Decides}, specs.Bool.Decides}
-use Rattle.std.specs.Cmp.Lexicographic.{pointwise}
+use Rattle.std.{proofs.{Common.{◌&&◌, ◌∙◌, ◌≡◌, Bool, List, ap, eqb, length, sym, take, ℕ}, Math.Seq.take-append_seam}, specs.Bool.Decides}
+use Rattle.std.{proofs.lemmas.{Bool.Decides.{Decides-and, Decides-at, Decides-eqb, Decides-like}, Slice.Eq.bytes_eq-Decides}, specs.Cmp.Lexicographic.pointwise}
 use Rattle.net_plan.specs.Padding.{padded}
 
 -- what `==` computes at two names

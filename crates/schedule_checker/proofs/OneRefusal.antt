@@ -1,11 +1,10 @@
 -- A network has one first broken rule.
 use Rattle.std.proofs.{Common.{◌-◌, ◌<◌, ◌∙◌, ◌∷◌, ◌≡◌, ◌≤◌, List, [], ap, arith, get_or, refl, subst, sym, ℕ, ⊎_elim}, lemmas.Bool.cases_lt}
 use Rattle.net_plan.specs.declared.network.Network.{Network}
-use Rattle.schedule_tables.specs.{Numbers.number_of, Rules.{IsFirstBroken, IsKeptAt}, declared.rule.Rule.Rule}
+use Rattle.schedule_tables.specs.{Numbers.number_of, Rules.{IsFirstBroken, IsKeptAt}, declared.rule.Rule.{Rule, TheVariants.WindowEnds}}
 use Rattle.schedule_tables.specs.declared.rule.Rule.TheVariants.{BothChannels, CompressionMasters, Connections, Correction, Delays, DevicesDiffer, Forwarding}
 use Rattle.schedule_tables.specs.declared.rule.Rule.TheVariants.{Joints, Limits, LinksDiffer, LinksOnce, Masters, Periods, Precision, RowsOfDevice}
 use Rattle.schedule_tables.specs.declared.rule.Rule.TheVariants.{ScheduleStart, Senders, Settling, Sources, Spacing, Targets, VlIdsDiffer, VlNamesDiffer}
-use Rattle.schedule_tables.specs.declared.rule.Rule.TheVariants.{WindowEnds}
 use Rattle.schedule_checker.specs.{Refusals.RefusalIsOne, declared.refusal.RuleBroken.RuleBroken}
 
 abbrev all_rules : List Rule

@@ -4,12 +4,10 @@ use Rattle.std.{proofs.lemmas.Bool.Decides.Decides-like, specs.{Bool.Decides, Li
 use Rattle.net_plan.specs.{Places.IsEndSystem, declared.{ids.{DeviceId.DeviceId, VlId.VlId}, network.Network.Network, tables.Row.Row}}
 use Rattle.net_plan.specs.declared.tables.VirtualLink.{VirtualLink}
 use Rattle.pcf_values.specs.declared.channel.Channel.{Channel, TheVariants.{A, B}}
-use Rattle.schedule_tables.specs.Entries.{AreEntries, EntryIsOne, IsEntry, IsOnChannel, source_of, target_of}
+use Rattle.schedule_tables.specs.{Entries.{AreEntries, EntryIsOne, IsEntry, IsOnChannel, source_of, target_of}, declared.entry.Entry.Entry}
 use Rattle.schedule_tables.specs.Schedule.{EntersAnew, EntersOn, GoesByBothChannels, GoesOnceByLink, HasSource, IsSwitch, LeavesOn}
-use Rattle.schedule_tables.specs.declared.entry.Entry.{Entry}
 use Rattle.tte_lemmas.proofs.Options.{some_same}
-use Rattle.schedule_checker.proofs.{EntryPlaces.{all_of_earlier, earlier_of_all, entry_at, stands_at}, SomePlaces.HoldsBy}
-use Rattle.schedule_checker.proofs.Selection.{Each, Holds}
+use Rattle.schedule_checker.proofs.{EntryPlaces.{all_of_earlier, earlier_of_all, entry_at, stands_at}, Selection.{Each, Holds}, SomePlaces.HoldsBy}
 use Rattle.schedule_checker.specs.Routes.{EntersAgain, EntersAlike, EntersAllAlike, EntersEndSystem, EntersSource, GoesElsewhere, IsEnteredElsewhere}
 use Rattle.schedule_checker.specs.Routes.{IsEntering, IsEnteringEnd, IsLeaving, LeavesOnBoth, ShareChannel, TargetIsAlike}
 use Rattle.schedule_tables.specs.Schedule

@@ -4,8 +4,7 @@ ghost use Rattle.net_plan.specs.Ranges.{IsInRange};
 ghost use Rattle.schedule_tables.specs.{Entries.AreEntries, Schedule.{EntersOn, GoesByBothChannels, LeavesOn}};
 ghost use Rattle.schedule_checker.specs.Groups.{AreGroups, AreKin};
 ghost use Rattle.schedule_checker.specs.Routes.{EntersAlike, EntersAllAlike, EntersEndSystem, IsEntering};
-ghost use Rattle.schedule_checker.specs.Routes.{IsEnteringEnd};
-ghost use Rattle.schedule_checker.specs.Routes.{IsLeaving, LeavesOnBoth, TargetIsAlike};
+ghost use Rattle.schedule_checker.specs.Routes.{IsEnteringEnd, IsLeaving, LeavesOnBoth, TargetIsAlike};
 
 use crate::groups::Groups;
 use crate::roles::is_end_system;

@@ -5,8 +5,7 @@ ghost use Rattle.net_plan.specs.declared.network.Network.{Network as NetworkValu
 ghost use Rattle.schedule_tables.specs.Entries.{AreEntries, IsEntryInRange};
 ghost use Rattle.schedule_tables.specs.{Schedule.{Coincide, ComesInTime, HasFewRows, StandsApart}, Windows.port_time};
 ghost use Rattle.tte_units.specs.Amount.{amount};
-ghost use Rattle.schedule_checker.specs.Groups.{AreGroups, HasRowsBy, HasRowsOf};
-ghost use Rattle.schedule_checker.specs.Ports.{AreApart, ComesBehind};
+ghost use Rattle.schedule_checker.specs.{Groups.{AreGroups, HasRowsBy, HasRowsOf}, Ports.{AreApart, ComesBehind}};
 
 use crate::groups::Groups;
 use net_plan::{DeviceId, Network, VirtualLink};

@@ -3,9 +3,8 @@ ghost use Rattle.std.specs.Prelude.{◌<◌, ◌↔◌, All, IfSome, IsSomeAnd, 
 ghost use Rattle.net_plan.specs.Ranges.{IsInRange};
 ghost use Rattle.schedule_tables.specs.Entries.{AreEntries, IsOnChannel};
 ghost use Rattle.schedule_tables.specs.Schedule.{EntersAnew, GoesOnceByLink, HasSource};
-ghost use Rattle.schedule_checker.specs.Groups.{AreGroups, HasRowsOf};
+ghost use Rattle.schedule_checker.specs.{Groups.{AreGroups, HasRowsOf}, Routes.ShareChannel};
 ghost use Rattle.schedule_checker.specs.Routes.{EntersAgain, EntersSource, GoesElsewhere, IsEnteredElsewhere};
-ghost use Rattle.schedule_checker.specs.Routes.{ShareChannel};
 
 use crate::groups::Groups;
 use crate::roles::{is_end_system, is_switch};

@@ -1,6 +1,5 @@
 -- The entries of rows.
-use Rattle.std.proofs.Common.{arith}
-use Rattle.std.{proofs.Common.{◌++◌, ◌∙◌, ◌∷◌, ◌≡◌, List, Some, [], length, subst, sym, ℕ, ⊎_elim}, specs.Prelude.slice_get}
+use Rattle.std.{proofs.Common.{◌++◌, ◌∙◌, ◌∷◌, ◌≡◌, List, Some, [], arith, length, subst, sym, ℕ, ⊎_elim}, specs.Prelude.slice_get}
 use Rattle.net_plan.specs.{Ranges.{IsLinkInRange, IsRowInRange, IsVlInRange}, declared.{network.Network.Network, tables.{Link.Link, Row.Row}}}
 use Rattle.net_plan.specs.declared.tables.VirtualLink.{VirtualLink}
 use Rattle.tte_lemmas.proofs.{Lists.{in_all, pushed}, Options.one}

@@ -1,12 +1,11 @@
 -- The order in which the rules are judged.
 use Rattle.std.specs.Prelude.{ℕ}
-use Rattle.schedule_tables.specs.declared.rule.Rule.{Rule}
 use Rattle.schedule_tables.specs.declared.rule.Rule.TheVariants.{BothChannels, CompressionMasters, Connections}
 use Rattle.schedule_tables.specs.declared.rule.Rule.TheVariants.{Correction, Delays, DevicesDiffer, Forwarding, Joints}
 use Rattle.schedule_tables.specs.declared.rule.Rule.TheVariants.{Limits, LinksDiffer, LinksOnce, Masters, Periods}
 use Rattle.schedule_tables.specs.declared.rule.Rule.TheVariants.{Precision, RowsOfDevice, ScheduleStart, Senders}
 use Rattle.schedule_tables.specs.declared.rule.Rule.TheVariants.{Settling, Sources, Spacing, Targets, VlIdsDiffer}
-use Rattle.schedule_tables.specs.declared.rule.Rule.TheVariants.{VlNamesDiffer, WindowEnds}
+use Rattle.schedule_tables.specs.declared.rule.Rule.{Rule, TheVariants.{VlNamesDiffer, WindowEnds}}
 
 -- the number of the rule
 abbrev pub number_of : Rule → ℕ

@@ -3,16 +3,15 @@ use Rattle.std.specs.Prelude.{◌<◌, ℕ}
 use Rattle.net_plan.specs.Rules.{DeviceIsNew, HasOneCm, IsConnected, IsWithinLimits, JoinsChildToSwitch, LinkIsNew}
 use Rattle.net_plan.specs.{Rules.MastersSuffice, declared.network.Network.Network}
 use Rattle.schedule_tables.specs.Delays.{CorrectionFits, DelaysFit, ErrorsSettle, PrecisionFits, ScheduleFits}
-use Rattle.schedule_tables.specs.Numbers.{number_of}
+use Rattle.schedule_tables.specs.{Numbers.number_of, declared.rule.Rule.{Rule, TheVariants.{VlNamesDiffer, WindowEnds}}}
 use Rattle.schedule_tables.specs.Schedule.{ComesInTime, EndsInCycle, EntersAnew, GoesByBothChannels, GoesOnceByLink}
 use Rattle.schedule_tables.specs.Schedule.{HasEndSystemAsSender, HasFewRows, HasPeriod, HasSource, StandsApart}
-use Rattle.schedule_tables.specs.{Schedule.{VlIdIsNew, VlNameIsNew}, declared.rule.Rule.Rule}
+use Rattle.schedule_tables.specs.Schedule.{VlIdIsNew, VlNameIsNew}
 use Rattle.schedule_tables.specs.declared.rule.Rule.TheVariants.{BothChannels, CompressionMasters, Connections}
 use Rattle.schedule_tables.specs.declared.rule.Rule.TheVariants.{Correction, Delays, DevicesDiffer, Forwarding, Joints}
 use Rattle.schedule_tables.specs.declared.rule.Rule.TheVariants.{Limits, LinksDiffer, LinksOnce, Masters, Periods}
 use Rattle.schedule_tables.specs.declared.rule.Rule.TheVariants.{Precision, RowsOfDevice, ScheduleStart, Senders}
 use Rattle.schedule_tables.specs.declared.rule.Rule.TheVariants.{Settling, Sources, Spacing, Targets, VlIdsDiffer}
-use Rattle.schedule_tables.specs.declared.rule.Rule.TheVariants.{VlNamesDiffer, WindowEnds}
 
 -- the network keeps the rule at the place; a rule without places is kept at each or at none
 abbrev pub IsKeptAt : Rule → Network → ℕ → Type 0

@@ -1,8 +1,7 @@
 -- The rules of a network's schedule. Each says that it is kept at a place: that of a virtual link, of
 -- a row or of a device.
-use Rattle.std.specs.{List.{Contains, count_by}, Option.option_map_or}
+use Rattle.std.specs.{List.{Contains, count_by}, Option.option_map_or, Prelude.{slice_get, ℕ}}
 use Rattle.std.specs.Prelude.{◌%◌, ◌*◌, ◌+◌, ◌<◌, ◌==◌, ◌∷◌, ◌≡◌, ◌≢◌, ◌≤◌, ◌⊎◌, Bool, IsSomeAnd, Some, [], false, min}
-use Rattle.std.specs.Prelude.{slice_get, ℕ}
 use Rattle.net_plan.specs.{Bounds.gamma_of, Places.{IsEndSystem, device_at, is_end_system, link_at}}
 use Rattle.net_plan.specs.declared.{ids.{DeviceId.DeviceId, VlId.VlId}, network.Network.Network, tables.Row.Row}
 use Rattle.net_plan.specs.declared.tables.VirtualLink.{VirtualLink}

@@ -10,11 +10,10 @@ use Rattle.run_law.specs.scenario.Hypothesis.{AreWithinHypothesis, IsWithinHypot
 use Rattle.schedule_tables.specs.{Rules.KeepsRules, declared.rule.Rule.TheVariants.Connections}
 use Rattle.tte_lemmas.proofs.Lists.{any_behind, any_first, any_of}
 use Rattle.tte_units.specs.declared.units.Units.{Units}
-use Rattle.storm.proofs.{Masters.master_is_end, SameOctets.same_octets, Storms.storms_within, Within.{any_split, broken_is_master}}
-use Rattle.storm.specs.Choosing.{channel_of, choice_of, hold_of, link_of, way_of, wire_of}
-use Rattle.storm.specs.{Events.{AreStormEvents, IsChosen, IsEventOf, IsStormEvent, time_of}, Laws.StormIsOne}
-use Rattle.storm.specs.{Striking.{IsLastMaster, SendsForged, Strikes, forged}, Words.draw_at, declared.draw.Choice.Choice}
-use Rattle.storm.specs.declared.draw.{Choice.TheVariants.{Cut, Heal, Hold, On, Rate, Strike, Wire}, Draw.Draw}
+use Rattle.storm.{proofs.{Masters.master_is_end, Storms.storms_within}, specs.{Words.draw_at, declared.draw.Draw.Draw}}
+use Rattle.storm.{proofs.SameOctets.same_octets, specs.{Events.{AreStormEvents, IsChosen, IsEventOf, IsStormEvent, time_of}, declared.draw.Choice.Choice}}
+use Rattle.storm.{proofs.Within.{any_split, broken_is_master}, specs.{Choosing.{channel_of, choice_of, hold_of, link_of, way_of, wire_of}, Laws.StormIsOne}}
+use Rattle.storm.specs.{Striking.{IsLastMaster, SendsForged, Strikes, forged}, declared.draw.Choice.TheVariants.{Cut, Heal, Hold, On, Rate, Strike, Wire}}
 use Rattle.net_plan.specs.declared.event.What.TheVariants as kinds
 
 -- what holds of some element of two lists holds of one of the first or of the second

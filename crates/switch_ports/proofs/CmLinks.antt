@@ -1,13 +1,12 @@
 -- The links of a compression master.
+use Rattle.switch_ports.proofs.{Rooms.{head_there, one_of_four}, Words.{slice_get, slice_get-get_or, subst, sym, true}}
 use Rattle.switch_ports.proofs.Words.{◌∙◌, ◌∷◌, ◌≡◌, ◌⊎◌, A, B, Channel, Device, DeviceId, IsAccepted, IsSomeAnd, Link, LinkId, List, Network, None, Option}
 use Rattle.switch_ports.proofs.Words.{Some, [], ap, false, inl, inr, is_cm, is_end_system, is_master, link_at, masters, option_and_then, option_map_or, refl}
-use Rattle.switch_ports.proofs.Words.{slice_get, slice_get-get_or, subst, sym, true}
 use Rattle.compression.proofs.Elements.{in_filter}
 use Rattle.net_plan.specs.{Paths.IsFirstPath, Places.{IsCmOf, IsEndSystem, IsRoleOf, device_at}, Rules.IsChildOf, declared.tables.Role.Role}
 use Rattle.net_plan.specs.declared.tables.Role.TheVariants.{Cm, Relay}
 use Rattle.run_law.{proofs.scenario.Devices.cm_role, specs.{machines.Calls.HasLink, scenario.Devices.{channel_of, is_cm_role}}}
 use Rattle.schedule_tables.proofs.Margins.{master_ends}
-use Rattle.switch_ports.proofs.Rooms.{head_there, one_of_four}
 use Rattle.schedule_tables.specs.declared.rule.Rule.TheVariants as rules
 
 -- a link whose parent is the channel's compression master

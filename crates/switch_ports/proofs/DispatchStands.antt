@@ -1,15 +1,14 @@
 -- How a switch stands when it has dispatched a row's frame.
-use Rattle.switch_ports.proofs.Words.{if◌then◌else◌, ◌++◌, ◌<ℤ◌, ◌<◌, ◌==◌, ◌∙◌, ◌∷◌, ◌≡◌, ◌≤ℤ◌, All-contains, All-contains_itself, AreChained, AreLeaves}
-use Rattle.switch_ports.proofs.Words.{Awaits, AwaitsIn, AwaitsSo, Bool, Changes, ClockTask, Contains, Contains-append_left, Departure, Departures, DeviceId}
-use Rattle.switch_ports.proofs.Words.{Dispatch, HasDepartures, Held, IfSome, IsDeparture, KnowsNext, List, MayCall, Moment, Network, Node, None, Option, RowId}
-use Rattle.switch_ports.proofs.Words.{Some, Standing, StandsAs, State, Switch, Synchronised, TakenFrame, Units, [], acting, amount, ap, arith, called}
-use Rattle.switch_ports.proofs.Words.{correcting, dispatching, doing, eqb-true, false, further, get_or, held_in, inl, inr, length, reading_for, refl, subst}
-use Rattle.switch_ports.proofs.Words.{sym, through, true, value_of, ℕ, ℤ}
+use Rattle.switch_ports.{proofs.{Awaiting.{departs_each, later_by}, Words.{sym, through, true, value_of, ℕ, ℤ}}, specs.Steps.{Dispatches, DispatchesSo}}
+use Rattle.switch_ports.proofs.{Dispatching.{IsNextOf, its_awaits, next_of}, FirstActs.{EmitsNone, first_dispatch, nothing_due, value_reached}}
+use Rattle.switch_ports.{proofs.{EachRow.all_each, RowOrder.distinct}, specs.Leaving.closed}
+use Rattle.switch_ports.proofs.Words.{◌++◌, ◌<ℤ◌, ◌<◌, ◌==◌, ◌∙◌, ◌∷◌, ◌≡◌, ◌≤ℤ◌, All-contains, All-contains_itself, AreChained, AreLeaves, Awaits, AwaitsIn}
+use Rattle.switch_ports.proofs.Words.{AwaitsSo, Bool, Changes, ClockTask, Contains, Contains-append_left, Departure, Departures, DeviceId, Dispatch}
+use Rattle.switch_ports.proofs.Words.{HasDepartures, Held, IfSome, IsDeparture, KnowsNext, List, MayCall, Moment, Network, Node, None, Option, RowId, Some}
+use Rattle.switch_ports.proofs.Words.{Standing, StandsAs, State, Switch, Synchronised, TakenFrame, Units, [], acting, amount, ap, arith, called, correcting}
+use Rattle.switch_ports.proofs.Words.{dispatching, doing, eqb-true, false, further, get_or, held_in, if◌then◌else◌, inl, inr, length, reading_for, refl, subst}
 use Rattle.std.proofs.lemmas.List.{get_or_default, Elements.{Contains-push, Contains-push_cases}}
 use Rattle.run_law.specs.{declared.steps.Act.Act, machines.{Answers.{IsActOf, with_done}, Calls.HasDue}}
-use Rattle.switch_ports.proofs.{Awaiting.{departs_each, later_by}, Dispatching.{IsNextOf, its_awaits, next_of}, EachRow.all_each}
-use Rattle.switch_ports.{proofs.{FirstActs.{EmitsNone, first_dispatch, nothing_due, value_reached}, RowOrder.distinct}, specs.Leaving.closed}
-use Rattle.switch_ports.specs.Steps.{Dispatches, DispatchesSo}
 
 -- ---- rows
 

@@ -1,10 +1,9 @@
 -- What becomes of a frame that a device hears.
+use Rattle.switch_ports.{proofs.{Hearings.{IsComing, fair_frame, hears_stands, joins_stands}, Joinings.integrates_in}, specs.Steps.HearsSo}
+use Rattle.switch_ports.proofs.{Standings.called_stands, Words.{inl, inr, its_amount, observation_window, plan_of, refl, ripe_as, subst, sym, true, ℕ, ℤ}}
 use Rattle.switch_ports.proofs.Words.{◌∙◌, ◌≡◌, ◌⊎◌, Bool, Channel, DeviceId, Integrating, Joining, MayCall, Members, Moment, Network, Node, Off, Option, Pcf}
 use Rattle.switch_ports.proofs.Words.{Phase, Standing, StandsAs, State, Switch, SyncPlan, Synchronised, Units, after_permanence, ap, called, false, heard_as}
-use Rattle.switch_ports.proofs.Words.{inl, inr, its_amount, observation_window, plan_of, refl, ripe_as, subst, sym, true, ℕ, ℤ}
 use Rattle.run_law.specs.{control.Hearing.{heard_by_schedule, heard_enough}, declared.steps.Ripe.Ripe}
-use Rattle.switch_ports.proofs.{Hearings.{IsComing, fair_frame, hears_stands, joins_stands}, Joinings.integrates_in, Standings.called_stands}
-use Rattle.switch_ports.specs.Steps.{HearsSo}
 use Rattle.run_law.specs.declared.steps.Ripe.TheVariants as ripe
 
 abbrev pub IsHearing : Ripe → Type 0

@@ -1,10 +1,9 @@
 -- What a site says of its links.
-use Rattle.switch_ports.proofs.Words.{if◌then◌else◌, ◌&&◌, ◌==◌, ◌∙◌, ◌≡◌, Bool, DeviceId, IsSiteOf, Link, LinkId, List, Members, Network, None, Option, Port}
-use Rattle.switch_ports.proofs.Words.{Some, ap, false, is_end, link_at, option_and_then, option_map, option_map_or, port_of, refl, slice_get, sym, true}
-use Rattle.switch_ports.proofs.Words.{unwrap_or, ℕ}
+use Rattle.switch_ports.proofs.Words.{◌&&◌, ◌==◌, ◌∙◌, ◌≡◌, Bool, DeviceId, IsSiteOf, Link, LinkId, List, Members, Network, None, Option, Port, Some, ap, false}
+use Rattle.switch_ports.proofs.Words.{if◌then◌else◌, is_end, link_at, option_and_then, option_map, option_map_or, port_of, refl, slice_get, sym, true}
+use Rattle.switch_ports.{proofs.Words.{unwrap_or, ℕ}, specs.{Sites.{end_below, is_below, is_other_member, no_port, port_in}, declared.site.Site.Site}}
 use Rattle.std.proofs.lemmas.Option.{slice_get-map}
 use Rattle.run_law.specs.{control.Arrivals.{are_others, is_of_other_member}, scenario.Devices.{channel_of, channel_of_link, is_parent_of, member_of}}
-use Rattle.switch_ports.specs.{Sites.{end_below, is_below, is_other_member, no_port, port_in}, declared.site.Site.Site}
 use Rattle.switch_ports.specs.declared.site.Peer.TheVariants as peers
 
 -- the port of a link that may be there

@@ -1,11 +1,10 @@
 -- Time-triggered frames that a switch takes.
-use Rattle.switch_ports.proofs.Words.{◌*◌, ◌++◌, ◌+ℤ◌, ◌^◌, ◌∙◌, ◌∷◌, ◌≡◌, ◌≤ℤ◌, ◌≤◌, AreLeaves, AwaitsIn, Changes, Departures, DeviceId}
-use Rattle.switch_ports.proofs.Words.{HasDepartures, HasTaken, Intake, KnowsNext, List, Moment, Network, Node, Standing, StandsAs}
-use Rattle.switch_ports.proofs.Words.{Switch, SyncPlan, Synchronised, TakenFrame, Units, VlId, [], after_arrival, amount, ap, called, further, refl}
-use Rattle.switch_ports.proofs.Words.{subst, sym, through, ℕ, ℤ}
+use Rattle.switch_ports.{proofs.Awaiting.{awaits_taken, departs_taken, later_by, taken_as}, specs.{declared.{standpoint.{Standpoint.{Standpoint as Place}}}}}
+use Rattle.switch_ports.proofs.{Standings.called_stands, Words.{Units, VlId, [], after_arrival, amount, ap, called, further, refl, subst, sym, through, ℕ, ℤ}}
+use Rattle.switch_ports.proofs.Words.{◌*◌, ◌++◌, ◌+ℤ◌, ◌^◌, ◌∙◌, ◌∷◌, ◌≡◌, ◌≤ℤ◌, ◌≤◌, AreLeaves, AwaitsIn, Changes, Departures, DeviceId, HasDepartures}
+use Rattle.switch_ports.proofs.Words.{HasTaken, Intake, KnowsNext, List, Moment, Network, Node, Standing, StandsAs, Switch, SyncPlan, Synchronised, TakenFrame}
+use Rattle.switch_ports.specs.{Departing.{IsKeptSo, Keeps}, Intakes.IsTakenSo}
 use Rattle.run_law.specs.{declared.steps.Arrival.Arrival, machines.{Answers.with_taken, Nodes.arriving}}
-use Rattle.switch_ports.proofs.{Awaiting.{awaits_taken, departs_taken, later_by, taken_as}, Standings.called_stands}
-use Rattle.switch_ports.specs.{Departing.{IsKeptSo, Keeps}, Intakes.IsTakenSo, declared.standpoint.Standpoint.Standpoint as Place}
 use Rattle.run_law.specs.declared.steps.Arrival.TheVariants as arrivals
 
 with_intake : (s : Switch) (intake : Intake) (ds : Departures) (network : Network) (device : DeviceId) (node : Node) (moment : Moment)

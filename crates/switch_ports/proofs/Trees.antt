@@ -1,14 +1,12 @@
 -- Trees that have the first of many dispatches.
+use Rattle.switch_ports.proofs.EachRow.{before_itself, precedes_on}
 use Rattle.switch_ports.proofs.Words.{◌*◌, ◌+◌, ◌<◌, ◌==◌, ◌∙◌, ◌∷◌, ◌≡◌, ◌≤◌, ◌⊎◌, AreChained, AreLeaves, Changes, Departure, Departures, Dispatch, IfSome}
-use Rattle.switch_ports.proofs.Words.{IsTakingAt}
-use Rattle.switch_ports.proofs.Words.{KnowsNext, List, None, Option, Precedes, Some, [], ap, arith, cases_Bool, eqb-true, false, get_or, held_by, inl, inr}
-use Rattle.switch_ports.proofs.Words.{int_lt, ints, length, nat_le, refl, slice_set, subst, suc, sym, true, with_taking, zero, ℕ, ℤ}
-use Rattle.std.proofs.{Common.{◌-◌, ◌/◌, ◌≢◌, Global, Vec, get_or-set_other, get_or-set_same}, Math.ListN.get_or-eq_default}
-use Rattle.std.proofs.lemmas.List.{get_or_default, length-set}
-use Rattle.std.{proofs.lemmas.{Bool.eq-eqb, List.Elements.Contains-get_or}, specs.Prelude.{nat_eq, nat_lt}}
-use Rattle.switch_ports.{proofs.EachRow.{before_itself, precedes_on}, specs.Departing.{IsReopeningAt, Sets, Tells, bound_of}}
-use Rattle.switch_ports.specs.{Leaving.{IsEarlier, IsFirstOf, IsLast, closed, dispatch_by, with_held}, Tournaments.{IsClimbing, IsTree, Puts, node_at}}
-use Rattle.switch_ports.specs.declared.{departures.Taking.Taking, tournament.Tournament.Tournament}
+use Rattle.switch_ports.proofs.Words.{IsTakingAt, KnowsNext, List, None, Option, Precedes, Some, [], ap, arith, cases_Bool, eqb-true, false, get_or, held_by}
+use Rattle.switch_ports.proofs.Words.{inl, inr, int_lt, ints, length, nat_le, refl, slice_set, subst, suc, sym, true, with_taking, zero, ℕ, ℤ}
+use Rattle.switch_ports.specs.{Departing.{IsReopeningAt, Sets, Tells, bound_of}, Leaving.{IsEarlier, IsFirstOf, IsLast, closed, dispatch_by, with_held}}
+use Rattle.switch_ports.specs.{Tournaments.{IsClimbing, IsTree, Puts, node_at}, declared.{departures.Taking.Taking, tournament.Tournament.Tournament}}
+use Rattle.std.proofs.{Common.{◌-◌, ◌/◌, ◌≢◌, Global, Vec, get_or-set_other, get_or-set_same}, lemmas.{Bool.eq-eqb, List.{get_or_default, length-set}}}
+use Rattle.std.{proofs.{Math.ListN.get_or-eq_default, lemmas.List.Elements.Contains-get_or}, specs.Prelude.{nat_eq, nat_lt}}
 
 -- ---- a leaf is put
 

@@ -6,9 +6,8 @@ use Rattle.net_plan.specs.declared.{ids.{DeviceId.DeviceId, RowId.RowId, VlId.Vl
 use Rattle.run_law.specs.{declared.steps.Arrival.Arrival, machines.Nodes.{ClockTask, TakenFrame, dispatching}}
 use Rattle.run_law.specs.machines.Tasks.{value_of}
 use Rattle.schedule_tables.specs.{Entries.{IsEntry, source_of}, declared.entry.Entry.Entry}
-use Rattle.sync_state.specs.declared.answers.Verdict.{Verdict}
 use Rattle.sync_state.specs.declared.answers.Verdict.TheVariants.{AsyncClique, Cleared, Corrected, SyncClique}
-use Rattle.sync_state.specs.declared.state.State.{State, TheVariants.Synchronised}
+use Rattle.sync_state.specs.declared.{answers.Verdict.Verdict, state.State.{State, TheVariants.Synchronised}}
 use Rattle.tte_units.specs.Amount.{amount}
 use Rattle.switch_ports.specs.Leaving.{AreChained, AreEach, AreEachUpTo, AreLeaving, HasRow, IsFirstOf, IsFit}
 use Rattle.switch_ports.specs.Leaving.{IsLeaving, dispatch_by, held_by, reopened, with_taking}

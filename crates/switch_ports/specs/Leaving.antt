@@ -1,8 +1,7 @@
 -- The rows that leave a switch, and what they have still to dispatch.
-use Rattle.std.specs.List.{All, Contains}
-use Rattle.std.specs.Prelude.{if◌then◌else◌, ◌%◌, ◌&&◌, ◌*◌, ◌+◌, ◌-ℤ◌, ◌<ℤ◌, ◌<◌, ◌==◌, ◌^◌, ◌≡◌, ◌≤ℤ◌, ◌≤◌, ◌⊎◌, Bool}
-use Rattle.std.specs.Prelude.{IfSome, List, None, Option, Some, int_lt, length, nat_le, option_map, pos, slice_get}
-use Rattle.std.specs.Prelude.{slice_index_or, unwrap_or, ℕ, ℤ}
+use Rattle.std.specs.{List.{All, Contains}, Prelude.{slice_index_or, unwrap_or, ℕ, ℤ}}
+use Rattle.std.specs.Prelude.{◌%◌, ◌&&◌, ◌*◌, ◌+◌, ◌-ℤ◌, ◌<ℤ◌, ◌<◌, ◌==◌, ◌^◌, ◌≡◌, ◌≤ℤ◌, ◌≤◌, ◌⊎◌, Bool, IfSome, List}
+use Rattle.std.specs.Prelude.{None, Option, Some, if◌then◌else◌, int_lt, length, nat_le, option_map, pos, slice_get}
 use Rattle.net_plan.specs.{Ranges.IsWithin, declared.{ids.{DeviceId.DeviceId, RowId.RowId}, network.Network.Network}}
 use Rattle.schedule_tables.specs.{Entries.{IsEntry, source_of}, declared.entry.Entry.Entry}
 use Rattle.tte_units.specs.{Amount.amount, declared.units.Units.Units}

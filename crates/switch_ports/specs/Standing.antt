@@ -1,6 +1,5 @@
 -- How a switch stands to what it was given and has done.
-use Rattle.std.specs.List.{Contains}
-use Rattle.std.specs.Prelude.{◌+ℤ◌, ◌<◌, ◌≡◌, ◌≤ℤ◌, All, List, [], false, pos, true, ℕ, ℤ}
+use Rattle.std.specs.{List.Contains, Prelude.{◌+ℤ◌, ◌<◌, ◌≡◌, ◌≤ℤ◌, All, List, [], false, pos, true, ℕ, ℤ}}
 use Rattle.clock_correction.specs.Deviation.{IsSmall}
 use Rattle.compression.specs.{Clusters.Point, Collecting.Collecting, Stands.StandsForPoints}
 use Rattle.compression.specs.declared.compressed.Compressed.{Compressed}
@@ -10,9 +9,8 @@ use Rattle.run_law.specs.{machines.Nodes.{Node, correcting}, scenario.Devices.{i
 use Rattle.schedule_tables.specs.Rules.{KeepsRules}
 use Rattle.tte_units.specs.Reading.{least_reading}
 use Rattle.device_rules.specs.Intakes.{HasTaken}
-use Rattle.switch_ports.specs.{Corrections.correction_due, Departing.{AwaitsIn, HasDepartures}}
-use Rattle.switch_ports.specs.{Members.member_numbers, Sites.IsSiteOf}
-use Rattle.switch_ports.specs.{Steady.{IsSteady, is_timed}, declared.switch.Switch.Switch}
+use Rattle.switch_ports.specs.{Corrections.correction_due, Members.member_numbers, Steady.{IsSteady, is_timed}}
+use Rattle.switch_ports.specs.{Departing.{AwaitsIn, HasDepartures}, Sites.IsSiteOf, declared.switch.Switch.Switch}
 
 -- a network that is accepted
 pub record IsAccepted (network : Network) : Type 0 where

@@ -8,8 +8,7 @@ ghost use Rattle.run_law.specs.{control.Arrivals.point_on_arrival, device.Standp
 ghost use Rattle.run_law.specs.scenario.Devices.{is_parent_of};
 ghost use Rattle.tte_units.specs.Amount.{amount, units_of};
 ghost use Rattle.device_rules.specs.Arriving.{IsGrownSo};
-ghost use Rattle.switch_ports.specs.{Sites.IsSiteOf};
-ghost use Rattle.switch_ports.specs.Standpoints.{IsAlive, IsSiteInRange, standpoint_of};
+ghost use Rattle.switch_ports.specs.{Sites.IsSiteOf, Standpoints.{IsAlive, IsSiteInRange, standpoint_of}};
 
 use crate::{Site, Standpoint};
 use device_rules::{is_cold_start, refused};

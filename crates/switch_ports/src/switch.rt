@@ -8,10 +8,9 @@ ghost use Rattle.run_law.specs.control.{Collections.master_of, Hearing.{heard_as
 ghost use Rattle.run_law.specs.{machines.Nodes.begun_node, scenario.Devices.start_of};
 ghost use Rattle.schedule_tables.specs.Schedule.{IsSwitch};
 ghost use Rattle.sync_state.specs.{Integration.Integrates, Standing.next_point, Verdicts.IsNear};
-ghost use Rattle.switch_ports.specs.{Corrections.correction_at, Departing.{IsAwaitedSo, IsReady}, Standing.StandsAs};
-ghost use Rattle.switch_ports.specs.Standpoints.{IsPoint, IsSiteInRange};
+ghost use Rattle.switch_ports.specs.{Corrections.correction_at, Standing.StandsAs, Steps.{IsClearedSo, Joins}};
+ghost use Rattle.switch_ports.specs.{Departing.{IsAwaitedSo, IsReady}, Standpoints.{IsPoint, IsSiteInRange}};
 ghost use Rattle.switch_ports.specs.Steps.{CollectsSo, Corrects, DispatchesSo, Hears, HearsSo, IsChangedSo};
-ghost use Rattle.switch_ports.specs.Steps.{IsClearedSo, Joins};
 
 use crate::departures::Departures;
 use crate::standpoint::local;

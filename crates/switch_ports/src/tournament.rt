@@ -1,8 +1,7 @@
 //! Which of many dispatches comes first, told anew in few steps when one of them changes.
 
 ghost use Rattle.std.specs.Prelude.{◌*◌, ◌+◌, ◌≡◌, ◌<◌, IfOk, length, None, ℕ};
-ghost use Rattle.switch_ports.specs.Leaving.{IsEarlier};
-ghost use Rattle.switch_ports.specs.Tournaments.{IsClimbing, IsTree, Puts, node_at};
+ghost use Rattle.switch_ports.specs.{Leaving.IsEarlier, Tournaments.{IsClimbing, IsTree, Puts, node_at}};
 ghost use Rattle.switch_ports.specs.declared.departures.Dispatch.{Dispatch as DispatchValue};
 
 use crate::departures::{Departure, Dispatch, comes_first, is_same};

@@ -6,9 +6,8 @@ use Rattle.clock_correction.specs.{Correction.correction_of, Deviation.IsSmall}
 use Rattle.membership.specs.{Members.count_of, Summary.Summary, declared.frame.HeardFrame.HeardFrame}
 use Rattle.pcf_values.specs.declared.channel.Channel.TheVariants.{A, B}
 use Rattle.tte_units.{proofs.Means.mean_of-floor, specs.{Mean.{IsMean, mean_of}, declared.units.Units.Units}}
-use Rattle.sync_state.specs.{Calls.adjustment_by, Plan.expected_at, Standing.Standing}
-use Rattle.sync_state.specs.{Verdicts.{IfCorrected, IsNear, IsOutnumbered, deviation_by, deviation_on, members_of_best}, declared.answers.Verdict.Verdict}
-use Rattle.sync_state.specs.declared.answers.Verdict.TheVariants.{AsyncClique, Cleared, Corrected, SyncClique}
+use Rattle.sync_state.specs.{Calls.adjustment_by, Standing.Standing, Verdicts.{IfCorrected, IsNear, IsOutnumbered, deviation_by, deviation_on, members_of_best}}
+use Rattle.sync_state.specs.{Plan.expected_at, declared.answers.Verdict.{TheVariants.{AsyncClique, Cleared, Corrected, SyncClique}, Verdict}}
 
 best_within : (best : Option HeardFrame) (n : ℕ) → (unwrap_or (option_map (λ frame. count_of frame.members) best) 0 ≤ n) ↔ IfSome best
     (λ frame. count_of frame.members ≤ n)

@@ -12,4 +12,4 @@ pub use answers::{Joined, Verdict};
 pub use laws::{corrected_by_points, verdict_is_one};
 pub use plan::SyncPlan;
 pub use state::State;
-pub use sync::{LAST_CYCLE, Sync};
+pub use sync::{LAST_CYCLE, Sync, is_outnumbered};

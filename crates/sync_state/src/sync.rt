@@ -4,10 +4,9 @@ ghost use Rattle.clock_correction.specs.Deviation.{IsSmall};
 ghost use Rattle.membership.specs.Summary.{Summary, best_on};
 ghost use Rattle.tte_units.specs.{Reading.{greatest_reading, least_reading}, declared.units.Units.Units};
 ghost use Rattle.sync_state.specs.Calls.{CarriesOn, StandsAfter, after, heard_frame, reached_point, turned_on};
-ghost use Rattle.sync_state.specs.{Integration.{Integrates, joined_by}, Plan.IsPlan};
-ghost use Rattle.sync_state.specs.Standing.{IsAtIntegration, begun, next_point};
+ghost use Rattle.sync_state.specs.{Integration.{Integrates, joined_by}, Standing.{IsAtIntegration, begun, next_point}};
+ghost use Rattle.sync_state.specs.{Plan.IsPlan, Verdicts.members_of_best};
 ghost use Rattle.sync_state.specs.Verdicts.{HasVerdict, IfCorrected, IsNear, IsOutnumbered, deviation_on};
-ghost use Rattle.sync_state.specs.Verdicts.{members_of_best};
 
 use crate::{Joined, State, SyncPlan, Verdict};
 use clock_correction::{correction, deviation};
@@ -233,7 +232,7 @@ impl Sync {
 }
 
 /// Whether at least as many masters were heard outside as the best frame with most members has.
-fn is_outnumbered(heard: &Heard) -> bool
+pub fn is_outnumbered(heard: &Heard) -> bool
     ensures { IsTrue result ↔ IsOutnumbered heard.now }
 {
     let most = members_of_best(heard, Channel::A).max(members_of_best(heard, Channel::B));

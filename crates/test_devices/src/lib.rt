@@ -1,4 +1,4 @@
-//! Tests of the mechanisms of a device, of devices, and of traces and the hypothesis on them.
+//! Tests of values and networks, of the mechanisms of a device, of devices, and of traces and the hypothesis on them.
 #![tactic(auto)]
 
 #[cfg(test)]
@@ -6,4 +6,8 @@ mod clocks;
 #[cfg(test)]
 mod devices;
 #[cfg(test)]
+mod networks;
+#[cfg(test)]
 mod traces;
+#[cfg(test)]
+mod values;

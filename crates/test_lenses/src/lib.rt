@@ -6,4 +6,6 @@ mod flows;
 #[cfg(test)]
 mod lenses;
 #[cfg(test)]
+mod pictures;
+#[cfg(test)]
 mod worked;

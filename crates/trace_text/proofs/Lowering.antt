@@ -5,9 +5,8 @@ use Rattle.std.proofs.lemmas.{Fmt.decimal_is_IsNumeral, List.{Elements.{All-head
 use Rattle.std.specs.{Char.{digit_char, digit_value, to_ascii_lowercase}, Cmp.Lexicographic.bytes_decides, Fmt.signed_decimal, List.position_from}
 use Rattle.std.specs.{Option.{ok_or, option_and_then, option_map, option_map_or}, Prelude.{◌&&◌, ◌==◌, All, Result, bytes_eq, decimal, nat_le, pos, slice_get}}
 use Rattle.std.specs.{Result.result_unwrap_or, Str.{str_to_ascii_lowercase, Parse.{AllDigits, digits_value}}}
-use Rattle.hex.proofs.HexLemmas.{decode_of-even, decode_of-ok}
+use Rattle.hex.{proofs.HexLemmas.{decode_of-even, decode_of-ok}, specs.declared.error.FromHexError.FromHexError}
 use Rattle.hex.specs.Hex.{◌>>=◌, decode_of, decode_pairs, digit_or_error, encode_lower, encode_with, hex_digit_value, lower_digits, pair_value, value_at}
-use Rattle.hex.specs.declared.error.FromHexError.{FromHexError}
 use Rattle.net_plan.{proofs.Bearing.behind, specs.{Bearers.{device_names, link_names}, Belonging.{device_name, link_name}}}
 use Rattle.net_plan.specs.{NameText.{IsNameText, is_name_character}, Ranges.{IsDeviceInRange, IsInRange, IsLinkInRange}, declared.ids.DeviceId.DeviceId}
 use Rattle.net_plan.specs.declared.{ids.LinkId.LinkId, network.Network.Network, tables.{Device.Device, Link.Link, Way.{Way, TheVariants.{Down, Up}}}}

@@ -6,9 +6,8 @@ use Rattle.net_plan.specs.declared.{network.Network.Network, tables.{Device.Devi
 use Rattle.tte_units.specs.declared.units.Units.{Units}
 use Rattle.trace_text.specs.{EventReading.{event_read, event_reader, what_behind}, Names.{device_id, device_spelled, first_place, link_id, link_spelled}}
 use Rattle.trace_text.specs.Steps.{◌>>=◌, Read, Reader, Words, and_then, give, line_end, outcome, with_rest, words}
-use Rattle.trace_text.specs.{WordReading.{device, event_word, link, octets, rate, units, way}, declared.event_word.EventWord.EventWord}
-use Rattle.trace_text.specs.declared.event_word.EventWord.TheVariants.{Break, Cut, End, Heal, Hold, On, Rate, Send, Wire}
-use Rattle.trace_text.specs.declared.refusal.LineRefusal.TheVariants.{Name}
+use Rattle.trace_text.specs.{WordReading.{device, event_word, link, octets, rate, units, way}, declared.refusal.LineRefusal.TheVariants.Name}
+use Rattle.trace_text.specs.declared.event_word.EventWord.{EventWord, TheVariants.{Break, Cut, End, Heal, Hold, On, Rate, Send, Wire}}
 use Rattle.net_plan.specs.declared.event.What.TheVariants as events
 
 -- ---- what is read, step by step

@@ -3,11 +3,10 @@ use Rattle.std.proofs.{Common.{◌∷◌, ◌≡◌, ◌≤◌, Bool, List, None
 use Rattle.std.specs.{Option.{ok_or, option_map}, Prelude.{◌&&◌, bytes_eq, decimal, nat_le}, Str.Parse.digits_value}
 use Rattle.net_plan.specs.declared.{event.{Event.Event, What.What}, network.Network.Network}
 use Rattle.tte_units.specs.{Amount.units_of, declared.units.Units.Units}
-use Rattle.trace_text.{proofs.ReadOfNetwork.{Gives, from_outcome, with_any, with_first}, specs.EventReading.{event_read, event_reader, what_behind}}
-use Rattle.trace_text.specs.{Numbers.latest, Ranges.IsTime, Steps.{◌>>=◌, Words, give, line_end, with_rest, words}}
-use Rattle.trace_text.specs.{WordReading.{device, event_word, link, octets, rate, units, way}, declared.event_word.EventWord.EventWord}
-use Rattle.trace_text.specs.declared.event_word.EventWord.TheVariants.{Break, Cut, End, Heal, Hold, On, Rate, Send, Wire}
-use Rattle.trace_text.specs.declared.refusal.LineRefusal.TheVariants.{Number}
+use Rattle.trace_text.{proofs.ReadOfNetwork.{Gives, from_outcome, with_any, with_first}, specs.WordReading.{device, event_word, link, octets, rate, units, way}}
+use Rattle.trace_text.specs.{EventReading.{event_read, event_reader, what_behind}, Numbers.latest, Steps.{◌>>=◌, Words, give, line_end, with_rest, words}}
+use Rattle.trace_text.specs.{Ranges.IsTime, declared.refusal.LineRefusal.TheVariants.Number}
+use Rattle.trace_text.specs.declared.event_word.EventWord.{EventWord, TheVariants.{Break, Cut, End, Heal, Hold, On, Rate, Send, Wire}}
 use Rattle.net_plan.specs.declared.event.What.TheVariants as events
 
 -- a number up to the latest is a time

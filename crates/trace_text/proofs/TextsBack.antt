@@ -1,17 +1,15 @@
 -- A text that reads as an event is its text, but for capital digits.
-use Rattle.std.proofs.{Common.{◌++◌, ◌∙◌, ◌∷◌, ◌≡◌, Err, List, Ok, [], ap, append-nil, refl, sym, ℕ}, lemmas.List.map-append}
-use Rattle.std.{proofs.lemmas.List.Splits.join_with_byte-slice_split, specs.{Char.to_ascii_lowercase, Fmt.signed_decimal, List.join_with_byte}}
-use Rattle.std.specs.Result.{result_unwrap_or}
+use Rattle.std.proofs.{Common.{◌++◌, ◌∙◌, ◌∷◌, ◌≡◌, Err, List, Ok, [], ap, append-nil, refl, sym, ℕ}, lemmas.List.Splits.join_with_byte-slice_split}
+use Rattle.std.{proofs.lemmas.List.map-append, specs.{Char.to_ascii_lowercase, Fmt.signed_decimal, List.join_with_byte, Result.result_unwrap_or}}
 use Rattle.hex.specs.Hex.{encode_lower}
 use Rattle.net_plan.specs.{Belonging.{device_name, link_name}, Ranges.IsInRange, declared.{event.{Event.Event, What.What}, ids.DeviceId.DeviceId}}
 use Rattle.net_plan.specs.declared.{ids.LinkId.LinkId, network.Network.Network, tables.Way.Way}
 use Rattle.tte_units.specs.declared.units.Units.{Units}
-use Rattle.trace_text.proofs.EventsBack.{text_joined}
+use Rattle.trace_text.{proofs.EventsBack.text_joined, specs.Laws.PrintsBack}
 use Rattle.trace_text.proofs.Lowering.{device_forth, event_word_forth, link_forth, lower, lower_words, octets_forth, rate_forth, units_forth, way_forth}
-use Rattle.trace_text.specs.{EventLine.what_words, EventReading.{event_read, event_reader, what_behind}, EventWords.{event_word_text, way_text}}
-use Rattle.trace_text.specs.{Laws.PrintsBack, Steps.{◌>>=◌, Read, Reader, Words, and_then, give, line_end, outcome, space, words}}
-use Rattle.trace_text.specs.{WordReading.{device, event_word, link, octets, rate, units, way}, declared.event_word.EventWord.EventWord}
-use Rattle.trace_text.specs.declared.event_word.EventWord.TheVariants.{Break, Cut, End, Heal, Hold, On, Rate, Send, Wire}
+use Rattle.trace_text.specs.{EventLine.what_words, declared.event_word.EventWord.{EventWord, TheVariants.{Break, Cut, End, Heal, Hold, On, Rate, Send, Wire}}}
+use Rattle.trace_text.specs.{EventReading.{event_read, event_reader, what_behind}, WordReading.{device, event_word, link, octets, rate, units, way}}
+use Rattle.trace_text.specs.{EventWords.{event_word_text, way_text}, Steps.{◌>>=◌, Read, Reader, Words, and_then, give, line_end, outcome, space, words}}
 use Rattle.net_plan.specs.declared.event.What.TheVariants as events
 
 -- what was read first, and what was read of the words that it left

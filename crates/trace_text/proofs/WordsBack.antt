@@ -9,13 +9,12 @@ use Rattle.net_plan.specs.{Ranges.{IsDeviceInRange, IsInRange, IsLinkInRange}, R
 use Rattle.net_plan.specs.declared.{network.Network.Network, tables.{Device.Device, Link.Link, Way.{Way, TheVariants.{Down, Up}}}}
 use Rattle.tte_lemmas.proofs.Lists.{some_at}
 use Rattle.tte_units.specs.{Amount.units_of, declared.{rates.Ppb.Ppb, units.Units.Units}}
-use Rattle.trace_text.proofs.{Bearing.place_found, Decimals.number_of_decimal, Joining.{IsWord, decimal_is_word, name_is_word}}
+use Rattle.trace_text.proofs.{Bearing.place_found, Decimals.number_of_decimal}
+use Rattle.trace_text.{proofs.Joining.{IsWord, decimal_is_word, name_is_word}, specs.declared.refusal.LineRefusal.TheVariants.{Form, Name, Number}}
 use Rattle.trace_text.specs.{EventWords.{event_word_spelled, event_word_text, way_spelled, way_text}, Names.{device_id, device_spelled, link_id, link_spelled}}
-use Rattle.trace_text.specs.{Numbers.{fastest, latest, minus, number_up_to, ppb_of, rate_spelled, units_spelled}, Ranges.{IsFrame, IsRate, IsTime}}
-use Rattle.trace_text.specs.Steps.{Read, Words, is_space, with_rest}
-use Rattle.trace_text.specs.WordReading.{device, event_word, frame_of, link, octets, octets_spelled, rate, units, way}
+use Rattle.trace_text.specs.{Numbers.{fastest, latest, minus, number_up_to, ppb_of, rate_spelled, units_spelled}, Steps.{Read, Words, is_space, with_rest}}
+use Rattle.trace_text.specs.{Ranges.{IsFrame, IsRate, IsTime}, WordReading.{device, event_word, frame_of, link, octets, octets_spelled, rate, units, way}}
 use Rattle.trace_text.specs.declared.event_word.EventWord.{EventWord, TheVariants.{Break, Cut, End, Heal, Hold, On, Rate, Send, Wire}}
-use Rattle.trace_text.specs.declared.refusal.LineRefusal.TheVariants.{Form, Name, Number}
 
 -- a time is written and read
 

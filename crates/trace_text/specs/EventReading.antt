@@ -15,9 +15,8 @@ use Rattle.std.specs.Prelude.{List, ℕ}
 use Rattle.net_plan.specs.declared.{event.{Event.Event, What.What}, network.Network.Network}
 use Rattle.trace_text.specs.Steps.{◌>>=◌, Read, Reader, give, line_end, outcome, words}
 use Rattle.trace_text.specs.WordReading.{device, event_word, link, octets, rate, units, way}
-use Rattle.trace_text.specs.declared.event_word.EventWord.{EventWord}
 use Rattle.trace_text.specs.declared.event_word.EventWord.TheVariants.{Break, Cut, End, Heal, Hold, On, Rate, Send}
-use Rattle.trace_text.specs.declared.event_word.EventWord.TheVariants.{Wire}
+use Rattle.trace_text.specs.declared.event_word.EventWord.{EventWord, TheVariants.Wire}
 use Rattle.net_plan.specs.declared.event.What.TheVariants as events
 
 -- what befalls the network, by the words behind the event's word

@@ -1,9 +1,8 @@
 -- The words that name an event and a way.
 use Rattle.std.specs.Prelude.{◌∷◌, List, Option, [], bytes_eq, codes, find, ℕ}
 use Rattle.net_plan.specs.declared.tables.Way.{Way, TheVariants.{Down, Up}}
-use Rattle.trace_text.specs.declared.event_word.EventWord.{EventWord}
 use Rattle.trace_text.specs.declared.event_word.EventWord.TheVariants.{Break, Cut, End, Heal, Hold, On, Rate, Send}
-use Rattle.trace_text.specs.declared.event_word.EventWord.TheVariants.{Wire}
+use Rattle.trace_text.specs.declared.event_word.EventWord.{EventWord, TheVariants.Wire}
 
 -- the word of an event
 abbrev pub event_word_text : EventWord → List ℕ

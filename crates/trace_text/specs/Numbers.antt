@@ -1,7 +1,6 @@
 -- Numbers in decimal.
-use Rattle.std.specs.Option.{option_and_then, option_map}
-use Rattle.std.specs.Prelude.{if◌then◌else◌, ◌&&◌, ◌==◌, ◌^◌, ◌∷◌, List, None, Option, Some, [], bytes_eq, decimal}
-use Rattle.std.specs.{Prelude.{nat_le, neg_ℤ, pos, ℕ, ℤ}, Str.Parse.digits_value}
+use Rattle.std.specs.{Option.{option_and_then, option_map}, Prelude.{nat_le, neg_ℤ, pos, ℕ, ℤ}, Str.Parse.digits_value}
+use Rattle.std.specs.Prelude.{◌&&◌, ◌==◌, ◌^◌, ◌∷◌, List, None, Option, Some, [], bytes_eq, decimal, if◌then◌else◌}
 use Rattle.tte_units.specs.{Amount.units_of, declared.{rates.Ppb.Ppb, units.Units.Units}}
 
 -- the number whose decimal the text is, if there is one and it is at most this

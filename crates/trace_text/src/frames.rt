@@ -1,6 +1,5 @@
-ghost use Rattle.std.specs.List.{AllPass};
+ghost use Rattle.std.specs.{List.AllPass, Prelude.length};
 ghost use Rattle.std.specs.Prelude.{◌%◌, ◌*◌, ◌/◌, ◌<◌, ◌↔◌, ◌≡◌, ◌≤◌, ◌⊎◌, Err, IfOk, IsFalse, IsTrue, MatchResult};
-ghost use Rattle.std.specs.Prelude.{length};
 ghost use Rattle.hex.specs.Hex.{decode_of, is_hex_digit};
 ghost use Rattle.trace_text.specs.{Ranges.IsFrame, WordReading.{digit_number, octets_spelled}};
 

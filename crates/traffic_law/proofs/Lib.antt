@@ -6,3 +6,4 @@ pub mod faults
 pub mod ports
 pub mod delivery
 pub mod safety_lemmas
+pub mod existence_lemmas

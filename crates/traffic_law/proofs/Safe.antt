@@ -1,10 +1,9 @@
 -- Each run is safe, by what the precision says of blocks.
-use Rattle.traffic_law.proofs.Words.{BringsBlocks, BringsChannels}
+use Rattle.traffic_law.proofs.{Words.{BringsBlocks, BringsChannels}, delivery.{Delivering.owed_frames_come, Sent.Brings}, faults.Firm.sound_switches_keep_time}
+use Rattle.traffic_law.{proofs.faults.{Senders.senders_are_broken, TurnedOn.timed_are_not_turned_on}, specs.Ports.{OwedFramesCome, PortsStayApart, RunsAreSafe}}
+use Rattle.traffic_law.proofs.ports.{Apart.ports_stay_apart, Givings.givings_keep_away}
 use Rattle.precision_law.proofs.faults.Masters.{good_is_correct, one_channel_is_sound, switches_are_good}
 use Rattle.precision_law.proofs.{faults.Ways.{sound_switches_begin_on, sound_ways_are_whole}, law.Whole.{blocks_known, clocks_agree}}
-use Rattle.traffic_law.proofs.{delivery.{Delivering.owed_frames_come, Sent.Brings}, faults.{Firm.sound_switches_keep_time, Senders.senders_are_broken}}
-use Rattle.traffic_law.proofs.{faults.TurnedOn.timed_are_not_turned_on, ports.{Apart.ports_stay_apart, Givings.givings_keep_away}}
-use Rattle.traffic_law.specs.Ports.{OwedFramesCome, PortsStayApart, RunsAreSafe}
 
 -- what the fault hypothesis leaves
 channels : BringsChannels

@@ -10,3 +10,4 @@ pub mod Delivered
 pub mod Bringing
 pub mod Ports
 pub mod safety
+pub mod existence

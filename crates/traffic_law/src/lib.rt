@@ -2,6 +2,7 @@
 //! hypothesis.
 #![tactic(auto)]
 
+pub mod existence;
 mod laws;
 pub mod safety;
 

@@ -9,7 +9,7 @@ use Rattle.report_text.specs.{NoteLine.{body_words, passage_words, stream_words}
 use Rattle.report_text.specs.Ranges.{HasPassage, HasStream, IsBodyInRange, IsCount, IsShortCount, IsSignedUnits}
 use Rattle.trace_text.specs.{EventLine.what_words, Ranges.IsWhatInRange}
 use Rattle.run_law.specs.declared.note.NoteBody.TheVariants as bodies
-use Rattle.tte_audit.specs.declared.kind.Kind.TheVariants as kinds
+use Rattle.tte_audit.specs.declared.kind.KindWord.TheVariants as kinds
 
 -- the first word of a record is that of its kind
 pub head_is : (network : Network) (b : NoteBody) → head_word (body_words network b) ≡ kind_text (kind_of b)

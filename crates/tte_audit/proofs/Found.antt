@@ -3,12 +3,12 @@ use Rattle.tte_audit.proofs.Words.{◌∙◌, ◌∷◌, ◌≡◌, IsReasonInRa
 use Rattle.tte_audit.proofs.Words.{kind_text, reason_words, rules, state_text, sym, why_text, ℕ}
 use Rattle.std.specs.{Cmp.Lexicographic.bytes_decides, Prelude.{All, IfSome, bytes_eq, find}}
 use Rattle.tte_lemmas.proofs.Lists.{find_at, find_of}
-use Rattle.tte_audit.specs.{Spellings.{judgement_spelled, kind_spelled, reason_spelled, state_spelled, why_spelled}, declared.kind.Kind.Kind}
+use Rattle.tte_audit.specs.{Spellings.{judgement_spelled, kind_spelled, reason_spelled, state_spelled, why_spelled}, declared.kind.KindWord.KindWord}
 use Rattle.run_law.specs.declared.judgement.Judgement.TheVariants as judgements
 use Rattle.run_law.specs.declared.judgement.Reason.TheVariants as reasons
 use Rattle.run_law.specs.declared.judgement.Why.TheVariants as whys
 use Rattle.sync_state.specs.declared.state.State.TheVariants as states
-use Rattle.tte_audit.specs.declared.kind.Kind.TheVariants as kinds
+use Rattle.tte_audit.specs.declared.kind.KindWord.TheVariants as kinds
 
 found : {X : Type 0} (text : X → List ℕ) (xs : List X) (word : List ℕ) (r : Option X) → r ≡ find (λ x. bytes_eq (text x) word) xs
     → IfSome r (λ x. word ≡ text x)
@@ -17,7 +17,7 @@ found text xs word (Some x) e =
     let h = find_at (λ x. bytes_eq (text x) word) xs x (sym e) in
     sym ((bytes_decides (text x) word).0 h.2)
 
-pub kind_found : (word : List ℕ) (r : Option Kind) → r ≡ kind_spelled word → IfSome r (λ kind. word ≡ kind_text kind)
+pub kind_found : (word : List ℕ) (r : Option KindWord) → r ≡ kind_spelled word → IfSome r (λ kind. word ≡ kind_text kind)
 unfolding kind_spelled
 kind_found word r e = found kind_text (kinds.Event ∷ kinds.Arrived ∷ kinds.Permanent ∷ kinds.Compressed ∷ kinds.Sent ∷ kinds.Corrected ∷ kinds.State
     ∷ kinds.Left ∷ kinds.Lost ∷ kinds.TtSent ∷ kinds.Accepted ∷ kinds.Delivered ∷ kinds.Dropped ∷ kinds.Clock ∷ []) word r e

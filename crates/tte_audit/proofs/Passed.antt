@@ -1,6 +1,6 @@
 -- What an audit passes.
 use Rattle.tte_audit.proofs.Words.{IsDue, List, Note, Units, behind_time, happenings, place_of, refl, scenario_of, subst}
-use Rattle.audit_law.proofs.Sound.{run_exactly}
+use Rattle.audit_devices.proofs.law_lemmas.Sound.{run_exactly}
 use Rattle.run_law.specs.runs.Runs.{IsRun}
 use Rattle.tte_audit.{proofs.{OneAnswer.same_of, ReportRuns.{audit_run, run_of_audit}}, specs.Laws.PassedLaw}
 

@@ -1,6 +1,6 @@
 -- A report of a run is one by what is due in an audit.
 use Rattle.tte_audit.proofs.Words.{AreEventsRight, IsDue, List, Network, Note, Units, amount, behind_time, happenings, place_of, scenario_of}
-use Rattle.audit_law.proofs.SameRuns.{same_runs}
+use Rattle.audit_devices.proofs.law_lemmas.SameRuns.{same_runs}
 use Rattle.run_law.specs.runs.Runs.{IsRun}
 use Rattle.tte_audit.{proofs.Clocked.clocked, specs.Named.IsNamed}
 use Rattle.run_law.specs.runs.DueRecords as runs

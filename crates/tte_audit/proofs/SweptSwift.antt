@@ -1,14 +1,11 @@
 -- A report of which the events were found is swept line by line.
+use Rattle.tte_audit.{proofs.{EventsRead.{events_on, right_none, right_on}, Parts.{begins_more, begins_none}}, specs.declared.refusal.AuditRefusal.AuditRefusal}
+use Rattle.tte_audit.{proofs.{Quiet.goes_by, Seeking.{one_end, one_record}}, specs.{LineSwept.{IsLineSwept, IsTaken}, Named.IsNamed, Swift.{AreAt, IsAt}}}
+use Rattle.tte_audit.{proofs.{UnderWay.{befalls_there, swept_on}, Words.{subst, sym, with_event, ℕ}}, specs.Report.{HasNoEvent, IsNextLine, IsOfEvents}}
 use Rattle.tte_audit.proofs.Words.{◌++◌, ◌+◌, ◌∙◌, ◌∷◌, ◌≡◌, ◌≤◌, ◌⊎◌, AreEventsRight, BeginsWith, BeginsWithRecord, EndWith, Event, List, MayCome, Network}
-use Rattle.tte_audit.proofs.Words.{Note, NoteBody, Units}
-use Rattle.tte_audit.proofs.Words.{[], ap, append-nil, append_assoc, arith, events_of, happenings, inl, inr, length, length-append, refl, subst, sym}
-use Rattle.tte_audit.proofs.Words.{with_event, ℕ}
+use Rattle.tte_audit.proofs.Words.{Note, NoteBody, Units, [], ap, append-nil, append_assoc, arith, events_of, happenings, inl, inr, length, length-append, refl}
 use Rattle.audit_sweep.specs.{Judging.Befalls, Sweeping.IsSwept, declared.sweep.Sweep.Sweep}
-use Rattle.tte_audit.proofs.{EventsRead.{events_on, right_none, right_on}, Parts.{begins_more, begins_none}, Quiet.goes_by, Seeking.{one_end, one_record}}
-use Rattle.tte_audit.proofs.UnderWay.{befalls_there, swept_on}
-use Rattle.tte_audit.specs.{LineSwept.{IsLineSwept, IsTaken}, Named.IsNamed, Report.{HasNoEvent, IsNextLine, IsOfEvents}, Swift.{AreAt, IsAt}}
 use Rattle.std.specs.{Borrow.Bor, Prelude.{IfSome, None, Ok, Option, Result, Some}}
-use Rattle.tte_audit.specs.declared.refusal.AuditRefusal.{AuditRefusal}
 use Rattle.run_law.specs.declared.note.NoteBody.TheVariants as bodies
 
 -- of a report of which these are the events' records, these octets are left behind the records that were taken, and

@@ -2,16 +2,16 @@
 use Rattle.tte_audit.proofs.Words.{◌++◌, ◌+◌, ◌∙◌, ◌∷◌, ◌≡◌, ◌≤◌, AreEventsRight, BeginsWith, BeginsWithLine, BeginsWithRecord, Event, IsDue, IsRefusedBy, List}
 use Rattle.tte_audit.proofs.Words.{MayCome, Network, Note, NoteBody, Option, Some, Units, [], amount, ap, append-nil, append_assoc, arith, behind_time, concat}
 use Rattle.tte_audit.proofs.Words.{event_by, events_of, happenings, inl, inr, length, place_of, refl, report_of, scenario_of, subst, sym, ℕ}
+use Rattle.tte_audit.proofs.{Clocked.told, Meet.{GoesOn, apart_of, meet, next_line, no_octets}, Parts.begins_more, Passed.passed_law}
+use Rattle.tte_audit.{proofs.ReportLacks.report_lack_law, specs.{Answers.{AreSoundNotes, IsAudited}, Named.IsNamed, Report.IsOfEvents}}
 use Rattle.std.{proofs.{Common.{suc, zero}, lemmas.List.Elements.filter_map-append}, specs.{List.cons_option, Prelude.slice_get}}
-use Rattle.audit_law.{proofs.{FirstUnpaid.lack_law, Owing.timely}, specs.{DebtLaws.IsFirstDebt, Debts.IsPaid, Findings.{AreSound, IsSound, LacksNothing}}}
-use Rattle.audit_law.specs.{Owed.Pays, TracedEvents.{OwesEvent, TellsEvent}}
+use Rattle.audit_devices.{proofs.law_lemmas.FirstUnpaid.lack_law, specs.law.{Findings.{AreSound, IsSound, LacksNothing}, TracedEvents.{OwesEvent, TellsEvent}}}
+use Rattle.audit_devices.{proofs.law_lemmas.Owing.timely, specs.law.{DebtLaws.IsFirstDebt, Debts.IsPaid, Owed.Pays}}
 use Rattle.audit_sweep.specs.{Judging.Befalls, Sweeping.IsSwept, declared.sweep.Sweep.Sweep}
 use Rattle.run_law.proofs.{law.FirstPlaces.at_length, records.Happenings.{as_many, happenings_on}, runs.{NetworkRuns.one_more, Places.in_right}}
 use Rattle.run_law.specs.records.{Happenings.{Happening, happening, time_of}, Order.IsIn, Ranks.{key, members_in, rank}}
 use Rattle.tte_units.specs.Amount.{units_of}
-use Rattle.tte_audit.proofs.{Clocked.told, Meet.{GoesOn, apart_of, meet, next_line, no_octets}, Parts.begins_more, Passed.passed_law}
-use Rattle.tte_audit.{proofs.ReportLacks.report_lack_law, specs.{Answers.{AreSoundNotes, IsAudited}, Named.IsNamed, Report.IsOfEvents}}
-use Rattle.audit_law.specs.Owed as debts
+use Rattle.audit_devices.specs.law.Owed as debts
 use Rattle.run_law.specs.declared.note.NoteBody.TheVariants as notes
 use Rattle.tte_audit.specs.declared.refusal.AuditRefusal.TheVariants as refusals
 

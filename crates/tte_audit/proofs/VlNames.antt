@@ -1,11 +1,10 @@
 -- The name of a virtual link leads back to it.
-use Rattle.tte_audit.proofs.Words.{◌≡◌, Network, Some, VlId, ap, ℕ}
+use Rattle.tte_audit.{proofs.Words.{◌≡◌, Network, Some, VlId, ap, ℕ}, specs.Named.{vl_id, vl_spelled}}
 use Rattle.std.{proofs.Common.map, specs.Option.option_map}
 use Rattle.net_plan.specs.{Belonging.{HasVl, vl_name}, declared.tables.VirtualLink.VirtualLink}
 use Rattle.schedule_tables.specs.Schedule.{VlNameIsNew}
 use Rattle.trace_text.proofs.{Bearing.place_found, WordsBack.first_bearer}
 use Rattle.tte_lemmas.proofs.Lists.{some_at}
-use Rattle.tte_audit.specs.Named.{vl_id, vl_spelled}
 
 pub vl_read : (network : Network) (v : VlId) → ((i : ℕ) → VlNameIsNew network i) → HasVl network v → vl_spelled network (vl_name network v) ≡ Some v
 unfolding vl_spelled

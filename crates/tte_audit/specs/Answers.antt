@@ -1,7 +1,7 @@
 -- What an audit answers.
 use Rattle.std.specs.Prelude.{◌≡◌, ◌⊎◌, List, [], length, ℕ}
 use Rattle.audit_devices.specs.events.Readings.{clock_reading}
-use Rattle.audit_law.specs.{DebtLaws.IsFirstLack, DueRecords.IsDue, Findings.{AreSound, IsUnfoundedAt}}
+use Rattle.audit_devices.specs.law.{DebtLaws.IsFirstLack, DueRecords.IsDue, Findings.{AreSound, IsUnfoundedAt}}
 use Rattle.net_plan.specs.declared.network.Network.{Network}
 use Rattle.run_law.specs.{declared.note.Note.Note, records.{Happenings.happenings, Ranks.place_of}}
 use Rattle.run_law.specs.runs.DueRecords.{IsRunOf}

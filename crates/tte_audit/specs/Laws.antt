@@ -1,6 +1,6 @@
 -- What holds of audits.
 use Rattle.std.specs.Prelude.{◌↔◌, ◌≡◌, List, length, ℕ}
-use Rattle.audit_law.specs.{DebtLaws.IsFirstDebt, DueRecords.IsDue, Findings.LacksNothing}
+use Rattle.audit_devices.specs.law.{DebtLaws.IsFirstDebt, DueRecords.IsDue, Findings.LacksNothing}
 use Rattle.net_plan.specs.declared.network.Network.{Network}
 use Rattle.run_law.specs.{declared.note.Note.Note, records.{Happenings.happenings, Ranks.place_of}}
 use Rattle.tte_units.specs.{Amount.{amount, units_of}, declared.units.Units.Units}

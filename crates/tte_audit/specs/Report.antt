@@ -1,7 +1,6 @@
 -- A report, as the records that it tells, and the events among them.
-use Rattle.std.specs.List.{concat}
+use Rattle.std.specs.{List.concat, Prelude.{length, pos, ℕ}}
 use Rattle.std.specs.Prelude.{◌++◌, ◌+◌, ◌==◌, ◌∷◌, ◌≡◌, ◌≢◌, ◌≤ℤ◌, Any, Bool, List, None, Option, Some, [], filter_map}
-use Rattle.std.specs.Prelude.{length, pos, ℕ}
 use Rattle.audit_devices.specs.events.Readings.{scenario_under}
 use Rattle.net_plan.specs.declared.{event.{Event.Event, What.TheVariants.End}, network.Network.Network}
 use Rattle.report_text.specs.{Laws.AreOfNetwork, NoteLine.{note_line, note_text, report_of}}

@@ -4,10 +4,9 @@ ghost use Rattle.net_plan.specs.Belonging.{HasDevice, HasVl, IsOfNetwork, device
 ghost use Rattle.net_plan.specs.declared.{event.What.What as WhatValue, ids.DeviceId.DeviceId as DeviceIdValue};
 ghost use Rattle.net_plan.specs.declared.ids.{LinkId.LinkId as LinkIdValue, VlId.VlId as VlIdValue};
 ghost use Rattle.pcf_values.specs.declared.members.Members.{Members as MembersValue};
-ghost use Rattle.report_text.specs.NoteLine.{passage_words, stream_words};
+ghost use Rattle.report_text.specs.{NoteLine.{passage_words, stream_words}, Ranges.{IsShortCount, IsSignedUnits}};
 ghost use Rattle.report_text.specs.NoteWords.{judgement_text, members_text, reason_words, state_text, why_text};
 ghost use Rattle.report_text.specs.Ranges.{HasPassage, HasStream, IsBodyInRange, IsBodyOf, IsCount, IsReasonInRange};
-ghost use Rattle.report_text.specs.Ranges.{IsShortCount, IsSignedUnits};
 ghost use Rattle.run_law.specs.declared.judgement.{Judgement.Judgement as JudgementValue, Reason.Reason as ReasonValue};
 ghost use Rattle.run_law.specs.declared.judgement.Why.{Why as WhyValue};
 ghost use Rattle.sync_state.specs.declared.state.State.{State as StateValue};

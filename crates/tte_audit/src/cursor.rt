@@ -1,6 +1,5 @@
-ghost use Rattle.std.specs.Fmt.{signed_decimal};
+ghost use Rattle.std.specs.{Fmt.signed_decimal, Prelude.{slice_index, take}, Str.Parse.{AllDigits, digits_value}};
 ghost use Rattle.std.specs.Prelude.{◌++◌, ◌<◌, ◌^◌, ◌↔◌, ◌≡◌, ◌≤◌, IfSome, IsTrue, [], decimal, length, neg_ℤ, pos};
-ghost use Rattle.std.specs.{Prelude.{slice_index, take}, Str.Parse.{AllDigits, digits_value}};
 ghost use Rattle.report_text.specs.Ranges.{IsCount, IsShortCount, IsSignedUnits};
 
 use crate::hints::NameHints;

@@ -2,7 +2,7 @@
 
 ghost use Rattle.std.specs.{List.join_with_byte, Prelude.{◌++◌, ◌∷◌, ◌≡◌, IfSome, [], codes, decimal}};
 ghost use Rattle.net_plan.specs.{Belonging.HasVl, Ranges.IsInRange};
-ghost use Rattle.plain_notes.specs.Bodies.{body_of};
+ghost use Rattle.run_law.specs.plain.Bodies.{body_of};
 ghost use Rattle.report_text.specs.NoteLine.{body_words, passage_words, stream_words};
 ghost use Rattle.report_text.specs.Ranges.{HasPassage, IsBodyInRange, IsBodyOf, IsCount, IsShortCount};
 ghost use Rattle.trace_text.specs.Steps.{space};
@@ -14,7 +14,7 @@ use crate::kind;
 use crate::plain_words::{take_device, take_kind, take_link, take_members, take_state, take_vl};
 use crate::reasons::one_word_reason;
 use net_plan::{DeviceId, LinkId, Network, VlId};
-use plain_notes::Kind;
+use run_law::plain::PlainKind;
 
 // Where a frame is and what it comes from.
 #[derive(Clone, Copy)]
@@ -66,7 +66,7 @@ fn take_stream(network: &Network, cursor: &mut Cursor) -> Option<Stream>
     Some(Stream { vl, cycle })
 }
 
-fn arrived(network: &Network, cursor: &mut Cursor) -> Option<Kind>
+fn arrived(network: &Network, cursor: &mut Cursor) -> Option<PlainKind>
     requires { IsInRange network.now }
     ensures of_network { IfSome result (λ p. IsBodyOf network.now (body_of p)) }
     ensures range { IfSome result (λ p. IsBodyInRange (body_of p)) }
@@ -76,7 +76,7 @@ fn arrived(network: &Network, cursor: &mut Cursor) -> Option<Kind>
     let stop = take_stop(network, cursor)?;
     cursor.fixed(" clock ")?;
     let clock = cursor.last_count()?;
-    Some(Kind::Arrived {
+    Some(PlainKind::Arrived {
         device: stop.device,
         link: stop.link,
         cause: stop.cause,
@@ -84,7 +84,7 @@ fn arrived(network: &Network, cursor: &mut Cursor) -> Option<Kind>
     })
 }
 
-fn left(network: &Network, cursor: &mut Cursor) -> Option<Kind>
+fn left(network: &Network, cursor: &mut Cursor) -> Option<PlainKind>
     requires { IsInRange network.now }
     ensures of_network { IfSome result (λ p. IsBodyOf network.now (body_of p)) }
     ensures range { IfSome result (λ p. IsBodyInRange (body_of p)) }
@@ -94,7 +94,7 @@ fn left(network: &Network, cursor: &mut Cursor) -> Option<Kind>
     let stop = take_stop(network, cursor)?;
     cursor.fixed(" clock ")?;
     let clock = cursor.last_count()?;
-    Some(Kind::Left {
+    Some(PlainKind::Left {
         device: stop.device,
         link: stop.link,
         cause: stop.cause,
@@ -102,7 +102,7 @@ fn left(network: &Network, cursor: &mut Cursor) -> Option<Kind>
     })
 }
 
-fn permanent(network: &Network, cursor: &mut Cursor) -> Option<Kind>
+fn permanent(network: &Network, cursor: &mut Cursor) -> Option<PlainKind>
     requires { IsInRange network.now }
     ensures of_network { IfSome result (λ p. IsBodyOf network.now (body_of p)) }
     ensures range { IfSome result (λ p. IsBodyInRange (body_of p)) }
@@ -114,7 +114,7 @@ fn permanent(network: &Network, cursor: &mut Cursor) -> Option<Kind>
     let point = cursor.units()?;
     cursor.fixed(" ")?;
     let verdict = judgement_word(cursor.last())?;
-    Some(Kind::Permanent {
+    Some(PlainKind::Permanent {
         device: stop.device,
         link: stop.link,
         cause: stop.cause,
@@ -123,7 +123,7 @@ fn permanent(network: &Network, cursor: &mut Cursor) -> Option<Kind>
     })
 }
 
-fn compressed(network: &Network, cursor: &mut Cursor) -> Option<Kind>
+fn compressed(network: &Network, cursor: &mut Cursor) -> Option<PlainKind>
     requires { IsInRange network.now }
     ensures of_network { IfSome result (λ p. IsBodyOf network.now (body_of p)) }
     ensures range { IfSome result (λ p. IsBodyInRange (body_of p)) }
@@ -141,7 +141,7 @@ fn compressed(network: &Network, cursor: &mut Cursor) -> Option<Kind>
     let members = take_members(cursor)?;
     cursor.fixed(" ")?;
     let verdict = judgement_word(cursor.last())?;
-    Some(Kind::Compressed {
+    Some(PlainKind::Compressed {
         device,
         opened,
         at,
@@ -151,7 +151,7 @@ fn compressed(network: &Network, cursor: &mut Cursor) -> Option<Kind>
     })
 }
 
-fn sent(network: &Network, cursor: &mut Cursor) -> Option<Kind>
+fn sent(network: &Network, cursor: &mut Cursor) -> Option<PlainKind>
     requires { IsInRange network.now }
     ensures of_network { IfSome result (λ p. IsBodyOf network.now (body_of p)) }
     ensures range { IfSome result (λ p. IsBodyInRange (body_of p)) }
@@ -161,10 +161,10 @@ fn sent(network: &Network, cursor: &mut Cursor) -> Option<Kind>
     let device = take_device(network, cursor)?;
     cursor.fixed(" cycle ")?;
     let cycle = cursor.last_short()?;
-    Some(Kind::Sent { device, cycle })
+    Some(PlainKind::Sent { device, cycle })
 }
 
-fn corrected(network: &Network, cursor: &mut Cursor) -> Option<Kind>
+fn corrected(network: &Network, cursor: &mut Cursor) -> Option<PlainKind>
     requires { IsInRange network.now }
     ensures of_network { IfSome result (λ p. IsBodyOf network.now (body_of p)) }
     ensures range { IfSome result (λ p. IsBodyInRange (body_of p)) }
@@ -178,7 +178,7 @@ fn corrected(network: &Network, cursor: &mut Cursor) -> Option<Kind>
     let by = cursor.units()?;
     cursor.fixed(" adj ")?;
     let adjustment = cursor.last_units()?;
-    Some(Kind::Corrected {
+    Some(PlainKind::Corrected {
         device,
         cycle,
         by,
@@ -186,7 +186,7 @@ fn corrected(network: &Network, cursor: &mut Cursor) -> Option<Kind>
     })
 }
 
-fn changed(network: &Network, cursor: &mut Cursor) -> Option<Kind>
+fn changed(network: &Network, cursor: &mut Cursor) -> Option<PlainKind>
     requires { IsInRange network.now }
     ensures of_network { IfSome result (λ p. IsBodyOf network.now (body_of p)) }
     ensures range { IfSome result (λ p. IsBodyInRange (body_of p)) }
@@ -200,7 +200,7 @@ fn changed(network: &Network, cursor: &mut Cursor) -> Option<Kind>
     let cause = cursor.count()?;
     cursor.fixed(" ")?;
     let why = why_word(cursor.last())?;
-    Some(Kind::State {
+    Some(PlainKind::State {
         device,
         state,
         cause,
@@ -208,7 +208,7 @@ fn changed(network: &Network, cursor: &mut Cursor) -> Option<Kind>
     })
 }
 
-fn lost(network: &Network, cursor: &mut Cursor) -> Option<Kind>
+fn lost(network: &Network, cursor: &mut Cursor) -> Option<PlainKind>
     requires { IsInRange network.now }
     ensures of_network { IfSome result (λ p. IsBodyOf network.now (body_of p)) }
     ensures range { IfSome result (λ p. IsBodyInRange (body_of p)) }
@@ -220,14 +220,14 @@ fn lost(network: &Network, cursor: &mut Cursor) -> Option<Kind>
     let link = take_link(network, cursor)?;
     cursor.fixed(" ")?;
     let cause = cursor.last_count()?;
-    Some(Kind::Lost {
+    Some(PlainKind::Lost {
         device,
         link,
         cause,
     })
 }
 
-fn ttsent(network: &Network, cursor: &mut Cursor) -> Option<Kind>
+fn ttsent(network: &Network, cursor: &mut Cursor) -> Option<PlainKind>
     requires { IsInRange network.now }
     ensures of_network { IfSome result (λ p. IsBodyOf network.now (body_of p)) }
     ensures range { IfSome result (λ p. IsBodyInRange (body_of p)) }
@@ -236,7 +236,7 @@ fn ttsent(network: &Network, cursor: &mut Cursor) -> Option<Kind>
 {
     let stop = take_stop(network, cursor)?;
     let stream = take_stream(network, cursor)?;
-    Some(Kind::TtSent {
+    Some(PlainKind::TtSent {
         device: stop.device,
         link: stop.link,
         cause: stop.cause,
@@ -245,7 +245,7 @@ fn ttsent(network: &Network, cursor: &mut Cursor) -> Option<Kind>
     })
 }
 
-fn accepted(network: &Network, cursor: &mut Cursor) -> Option<Kind>
+fn accepted(network: &Network, cursor: &mut Cursor) -> Option<PlainKind>
     requires { IsInRange network.now }
     ensures of_network { IfSome result (λ p. IsBodyOf network.now (body_of p)) }
     ensures range { IfSome result (λ p. IsBodyInRange (body_of p)) }
@@ -254,7 +254,7 @@ fn accepted(network: &Network, cursor: &mut Cursor) -> Option<Kind>
 {
     let stop = take_stop(network, cursor)?;
     let stream = take_stream(network, cursor)?;
-    Some(Kind::Accepted {
+    Some(PlainKind::Accepted {
         device: stop.device,
         link: stop.link,
         cause: stop.cause,
@@ -263,7 +263,7 @@ fn accepted(network: &Network, cursor: &mut Cursor) -> Option<Kind>
     })
 }
 
-fn delivered(network: &Network, cursor: &mut Cursor) -> Option<Kind>
+fn delivered(network: &Network, cursor: &mut Cursor) -> Option<PlainKind>
     requires { IsInRange network.now }
     ensures of_network { IfSome result (λ p. IsBodyOf network.now (body_of p)) }
     ensures range { IfSome result (λ p. IsBodyInRange (body_of p)) }
@@ -272,7 +272,7 @@ fn delivered(network: &Network, cursor: &mut Cursor) -> Option<Kind>
 {
     let stop = take_stop(network, cursor)?;
     let stream = take_stream(network, cursor)?;
-    Some(Kind::Delivered {
+    Some(PlainKind::Delivered {
         device: stop.device,
         link: stop.link,
         cause: stop.cause,
@@ -281,7 +281,7 @@ fn delivered(network: &Network, cursor: &mut Cursor) -> Option<Kind>
     })
 }
 
-fn dropped(network: &Network, cursor: &mut Cursor) -> Option<Kind>
+fn dropped(network: &Network, cursor: &mut Cursor) -> Option<PlainKind>
     requires { IsInRange network.now }
     ensures of_network { IfSome result (λ p. IsBodyOf network.now (body_of p)) }
     ensures range { IfSome result (λ p. IsBodyInRange (body_of p)) }
@@ -291,7 +291,7 @@ fn dropped(network: &Network, cursor: &mut Cursor) -> Option<Kind>
     let stop = take_stop(network, cursor)?;
     cursor.fixed(" ")?;
     let reason = one_word_reason(cursor.last())?;
-    Some(Kind::Dropped {
+    Some(PlainKind::Dropped {
         device: stop.device,
         link: stop.link,
         cause: stop.cause,
@@ -299,7 +299,7 @@ fn dropped(network: &Network, cursor: &mut Cursor) -> Option<Kind>
     })
 }
 
-fn clock(network: &Network, cursor: &mut Cursor) -> Option<Kind>
+fn clock(network: &Network, cursor: &mut Cursor) -> Option<PlainKind>
     requires { IsInRange network.now }
     ensures of_network { IfSome result (λ p. IsBodyOf network.now (body_of p)) }
     ensures range { IfSome result (λ p. IsBodyInRange (body_of p)) }
@@ -313,7 +313,7 @@ fn clock(network: &Network, cursor: &mut Cursor) -> Option<Kind>
     let adjustment = cursor.units()?;
     cursor.fixed(" state ")?;
     let state = state_word(cursor.last())?;
-    Some(Kind::Clock {
+    Some(PlainKind::Clock {
         device,
         reading,
         adjustment,
@@ -322,7 +322,7 @@ fn clock(network: &Network, cursor: &mut Cursor) -> Option<Kind>
 }
 
 // What a record of the kind says. Those of events are not read here.
-fn plain_of(network: &Network, word: kind::Kind, cursor: &mut Cursor) -> Option<Kind>
+fn plain_of(network: &Network, word: kind::KindWord, cursor: &mut Cursor) -> Option<PlainKind>
     requires { IsInRange network.now }
     ensures of_network { IfSome result (λ p. IsBodyOf network.now (body_of p)) }
     ensures range { IfSome result (λ p. IsBodyInRange (body_of p)) }
@@ -330,25 +330,25 @@ fn plain_of(network: &Network, word: kind::Kind, cursor: &mut Cursor) -> Option<
         ≡ join_with_byte space (body_words network.now (body_of p))) }
 {
     match word {
-        kind::Kind::Event => None,
-        kind::Kind::Arrived => arrived(network, cursor),
-        kind::Kind::Permanent => permanent(network, cursor),
-        kind::Kind::Compressed => compressed(network, cursor),
-        kind::Kind::Sent => sent(network, cursor),
-        kind::Kind::Corrected => corrected(network, cursor),
-        kind::Kind::State => changed(network, cursor),
-        kind::Kind::Left => left(network, cursor),
-        kind::Kind::Lost => lost(network, cursor),
-        kind::Kind::TtSent => ttsent(network, cursor),
-        kind::Kind::Accepted => accepted(network, cursor),
-        kind::Kind::Delivered => delivered(network, cursor),
-        kind::Kind::Dropped => dropped(network, cursor),
-        kind::Kind::Clock => clock(network, cursor),
+        kind::KindWord::Event => None,
+        kind::KindWord::Arrived => arrived(network, cursor),
+        kind::KindWord::Permanent => permanent(network, cursor),
+        kind::KindWord::Compressed => compressed(network, cursor),
+        kind::KindWord::Sent => sent(network, cursor),
+        kind::KindWord::Corrected => corrected(network, cursor),
+        kind::KindWord::State => changed(network, cursor),
+        kind::KindWord::Left => left(network, cursor),
+        kind::KindWord::Lost => lost(network, cursor),
+        kind::KindWord::TtSent => ttsent(network, cursor),
+        kind::KindWord::Accepted => accepted(network, cursor),
+        kind::KindWord::Delivered => delivered(network, cursor),
+        kind::KindWord::Dropped => dropped(network, cursor),
+        kind::KindWord::Clock => clock(network, cursor),
     }
 }
 
 /// What a record says that is of no event.
-pub(crate) fn take_plain(network: &Network, cursor: &mut Cursor) -> Option<Kind>
+pub(crate) fn take_plain(network: &Network, cursor: &mut Cursor) -> Option<PlainKind>
     requires { IsInRange network.now }
     ensures of_network { IfSome result (λ p. IsBodyOf network.now (body_of p)) }
     ensures range { IfSome result (λ p. IsBodyInRange (body_of p)) }

@@ -6,12 +6,12 @@ use crate::cursor::Cursor;
 use crate::hints::NameHints;
 use crate::plain_bodies::take_plain;
 use net_plan::Network;
-use plain_notes::{Body, Given};
+use run_law::plain::{PlainBody, PlainNote};
 
 /// The record whose line, without its LF, the text is, where it is one without an event. Some such lines are not
 /// read: those with a number of more than 19 digits.
 #[tactic(auto, unfolding(report_text::specs::NoteLine::body_text))]
-pub fn plain_line(network: &Network, hints: Option<&NameHints>, text: &[u8]) -> Option<Given>
+pub fn plain_line(network: &Network, hints: Option<&NameHints>, text: &[u8]) -> Option<PlainNote>
     requires { IsInRange network.now }
     ensures text { IfSome result (λ note. IsTextOf network.now note text.now) }
     ensures quiet { IfSome result (λ note. HasNoEvent note.body) }
@@ -22,9 +22,9 @@ pub fn plain_line(network: &Network, hints: Option<&NameHints>, text: &[u8]) -> 
     let time = cursor.units()?;
     cursor.fixed(" ")?;
     let kind = take_plain(network, &mut cursor)?;
-    Some(Given {
+    Some(PlainNote {
         number,
         time,
-        body: Body { kind },
+        body: PlainBody { kind },
     })
 }

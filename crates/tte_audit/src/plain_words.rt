@@ -9,14 +9,14 @@ ghost use Rattle.tte_audit.specs.Spellings.{kind_text};
 use crate::cursor::Cursor;
 use crate::enums::state;
 use crate::exact_names::{device_of_name, link_of_name, vl_of_name};
-use crate::kind::{Kind, kind_of_word};
+use crate::kind::{KindWord, kind_of_word};
 use crate::numbers::exact_members;
 use net_plan::{DeviceId, LinkId, Network, VlId};
 use pcf_values::Members;
 use sync_state::State;
 
 /// The word of a kind of record.
-pub(crate) fn take_kind(cursor: &mut Cursor) -> Option<Kind>
+pub(crate) fn take_kind(cursor: &mut Cursor) -> Option<KindWord>
     ensures text { IfSome result (λ kind. cursor.old ≡ kind_text kind ++ cursor.new) }
 {
     let word = cursor.word();

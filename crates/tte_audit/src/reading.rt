@@ -8,7 +8,7 @@ use crate::bodies::{
     accepted, arrived, changed, clock, compressed, corrected, delivered, dropped, event, left,
     lost, permanent, sent, ttsent,
 };
-use crate::kind::Kind;
+use crate::kind::KindWord;
 use crate::line_words::next;
 use crate::numbers::{count, units};
 use crate::plain_line::plain_line;
@@ -19,7 +19,7 @@ use trace_text::Words;
 use tte_io::LineText;
 
 // What a record of the kind says, by the words behind that of the kind.
-fn body_of(network: &Network, kind: Kind, words: &mut Words) -> Option<NoteBody>
+fn body_of(network: &Network, kind: KindWord, words: &mut Words) -> Option<NoteBody>
     requires { IsNamed network.now }
     ensures back { (b : NoteBodyValue) → IsBodyOf network.now b → IsBodyInRange b
         → kind ≡ kind_of b → words.old ≡ behind_word (body_words network.now b) → result ≡ Some b }
@@ -27,20 +27,20 @@ fn body_of(network: &Network, kind: Kind, words: &mut Words) -> Option<NoteBody>
     ensures range { IfSome result IsBodyInRange }
 {
     match kind {
-        Kind::Event => event(network, words),
-        Kind::Arrived => arrived(network, words),
-        Kind::Permanent => permanent(network, words),
-        Kind::Compressed => compressed(network, words),
-        Kind::Sent => sent(network, words),
-        Kind::Corrected => corrected(network, words),
-        Kind::State => changed(network, words),
-        Kind::Left => left(network, words),
-        Kind::Lost => lost(network, words),
-        Kind::TtSent => ttsent(network, words),
-        Kind::Accepted => accepted(network, words),
-        Kind::Delivered => delivered(network, words),
-        Kind::Dropped => dropped(network, words),
-        Kind::Clock => clock(network, words),
+        KindWord::Event => event(network, words),
+        KindWord::Arrived => arrived(network, words),
+        KindWord::Permanent => permanent(network, words),
+        KindWord::Compressed => compressed(network, words),
+        KindWord::Sent => sent(network, words),
+        KindWord::Corrected => corrected(network, words),
+        KindWord::State => changed(network, words),
+        KindWord::Left => left(network, words),
+        KindWord::Lost => lost(network, words),
+        KindWord::TtSent => ttsent(network, words),
+        KindWord::Accepted => accepted(network, words),
+        KindWord::Delivered => delivered(network, words),
+        KindWord::Dropped => dropped(network, words),
+        KindWord::Clock => clock(network, words),
     }
 }
 
@@ -52,7 +52,7 @@ fn body(network: &Network, words: &mut Words) -> Option<NoteBody>
     ensures of_network { IfSome result (IsBodyOf network.now) }
     ensures range { IfSome result IsBodyInRange }
 {
-    match Kind::spelled(next(words)) {
+    match KindWord::spelled(next(words)) {
         Some(kind) => body_of(network, kind, words),
         None => None,
     }

@@ -14,8 +14,8 @@ use crate::lines::{first_lf, first_record, plain_record};
 use crate::named::keep_names_apart;
 use audit_sweep::Sweep;
 use net_plan::Network;
-use plain_notes::no_record;
 use run_law::Note;
+use run_law::plain::no_record;
 use schedule_tables::Accepted;
 use std::alloc::Global;
 

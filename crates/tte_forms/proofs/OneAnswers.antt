@@ -1,9 +1,8 @@
 -- Answers that are one of those with a property.
 use Rattle.std.proofs.Common.{◌∙◌, ◌≡◌, ◌⊎◌, List, [], inl, inr, refl, subst, sym, ℕ}
 use Rattle.tte_lemmas.proofs.Lists.{no_front, none_stands}
-use Rattle.tte_forms.{proofs.Puts.PutsSome-all, specs.Answering.{Answer, Gives, GivesAnswer, GivesOne, IsDone}}
-use Rattle.tte_forms.specs.{Putting.{PutsLines, PutsNone, PutsSome, Shown, WriteFails}, declared.status.Status.Status}
-use Rattle.tte_forms.specs.declared.status.Status.TheVariants.{Done, OutOfMemory, ReadFault, WriteFault}
+use Rattle.tte_forms.{proofs.Puts.PutsSome-all, specs.declared.status.Status.{Status, TheVariants.{Done, OutOfMemory, ReadFault, WriteFault}}}
+use Rattle.tte_forms.specs.{Answering.{Answer, Gives, GivesAnswer, GivesOne, IsDone}, Putting.{PutsLines, PutsNone, PutsSome, Shown, WriteFails}}
 
 -- the one answer with the property was given
 pub one_given : (Is : Answer → Type 0) (a : Answer) (status : Status) (old new : Shown) → Is a → ((b : Answer) → Is b → b ≡ a) → Gives a status old new

@@ -1,12 +1,11 @@
 -- What was put of an answer that is safe is safe, whatever the status.
 use Rattle.std.proofs.Common.{◌≡◌, ◌⊎◌, List, [], inl, inr, refl, subst, sym, ℕ}
-use Rattle.tte_forms.proofs.{OneAnswers.{fails_given, none_put, puts_nothing, some_given}, Puts.{PutsLines-none, PutsLines-still}}
-use Rattle.tte_forms.specs.{Answering.{Answer, Gives, GivesAnswer}, Putting.{PutsLines, PutsNone, PutsSo, PutsSome, Shown, WriteFails}}
-use Rattle.tte_forms.specs.{Safely.PutsSafely, declared.{accepting.NoNetwork.NoNetwork, status.Status.Status}}
+use Rattle.tte_forms.{proofs.OneAnswers.{fails_given, none_put, puts_nothing, some_given}, specs.networks.NetworkLine.{file_reason, rule_reason}}
+use Rattle.tte_forms.{proofs.Puts.{PutsLines-none, PutsLines-still}, specs.{Answering.{Answer, Gives, GivesAnswer}, declared.accepting.NoNetwork.NoNetwork}}
+use Rattle.tte_forms.specs.{Putting.{PutsLines, PutsNone, PutsSo, PutsSome, Shown, WriteFails}, declared.status.Status.TheVariants.{VoteRefused, WriteFault}}
+use Rattle.tte_forms.specs.{Safely.PutsSafely, declared.status.Status.Status, networks.NoNetworks.answer_by}
 use Rattle.tte_forms.specs.declared.status.Status.TheVariants.{AuditRefused, CaptureRefused, Done, FrameRefused, GranuleRefused, NameRefused, NetworkRefused}
 use Rattle.tte_forms.specs.declared.status.Status.TheVariants.{NumberRefused, OutOfMemory, OutsideHypothesis, ReadFault, TooLong, TraceRefused, Usage}
-use Rattle.tte_forms.specs.declared.status.Status.TheVariants.{VoteRefused, WriteFault}
-use Rattle.tte_forms.specs.networks.{NetworkLine.{file_reason, rule_reason}, NoNetworks.answer_by}
 use Rattle.tte_forms.specs.declared.accepting.NoNetwork.TheVariants as causes
 
 module _ (Whole : Status → Shown → Shown → Type 0) (IsSafe : List (List ℕ) → Type 0) where

@@ -1,7 +1,6 @@
 -- The forms of the words.
-use Rattle.std.specs.Option.{option_and_then, option_map}
-use Rattle.std.specs.Prelude.{if◌then◌else◌, ◌-◌, ◌==◌, ◌^◌, ◌∷◌, ◌≤◌, List, None, Option, Some, [], codes, ℕ}
-use Rattle.std.specs.Str.{bytes_eq}
+use Rattle.std.specs.{Option.{option_and_then, option_map}, Str.bytes_eq}
+use Rattle.std.specs.Prelude.{◌-◌, ◌==◌, ◌^◌, ◌∷◌, ◌≤◌, List, None, Option, Some, [], codes, if◌then◌else◌, ℕ}
 use Rattle.net_plan.specs.{Ranges.IsWithin, declared.tables.Way.{Way, TheVariants.{Down, Up}}}
 use Rattle.trace_text.specs.Numbers.{number_up_to}
 use Rattle.tte_units.specs.{Amount.units_of, declared.units.Units.Units}

@@ -1,8 +1,7 @@
 ghost use Rattle.std.specs.Prelude.{◌≡◌, ◌≢◌, ◌≤◌, ◌⊎◌, Err, IfErr, IfOk, length};
 ghost use Rattle.net_plan.specs.Ranges.{IsInRange};
-ghost use Rattle.tte_forms.specs.{Answering.{ForOctets, Gives}, Faults.{PutFailed, ReadFailed}};
-ghost use Rattle.tte_forms.specs.{Putting.{Over, PutsNone}, frames.Answer.file_limit};
-ghost use Rattle.tte_forms.specs.networks.Accepting.{MeansAccepted, MeansNetwork};
+ghost use Rattle.tte_forms.specs.{Answering.{ForOctets, Gives}, Putting.{Over, PutsNone}, frames.Answer.file_limit};
+ghost use Rattle.tte_forms.specs.{Faults.{PutFailed, ReadFailed}, networks.Accepting.{MeansAccepted, MeansNetwork}};
 ghost use Rattle.tte_forms.specs.networks.NoNetworks.{IsNoNetwork, IsUnread, no_network_answer};
 
 pub(crate) mod fault_place;

@@ -1,7 +1,6 @@
 -- What taking the next line reads, gives and keeps.
-use Rattle.std.specs.Io.KnownBytes.{Consumes, IsAtEnd}
+use Rattle.std.specs.{Io.KnownBytes.{Consumes, IsAtEnd}, Prelude.{length, true, ℕ}}
 use Rattle.std.specs.Prelude.{◌++◌, ◌∷◌, ◌≡◌, ◌≢◌, ◌≤◌, ◌⊎◌, Bool, Err, List, None, Ok, Option, Result, Some, [], false}
-use Rattle.std.specs.Prelude.{length, true, ℕ}
 use Rattle.tte_io.specs.{Line.{IsLine, IsTooLong, ahead_limit, lf}, ReaderState.{LineReaderState, at_end, pending}}
 use Rattle.tte_io.specs.declared.lines.LineTaken.{LineTaken}
 use Rattle.tte_io.specs.declared.lines.LineTaken.TheVariants as taken

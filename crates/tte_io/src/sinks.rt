@@ -1,8 +1,7 @@
 ghost use Rattle.std.specs.Prelude.{◌≡◌, ◌<◌, ◌≤◌, ◌+◌, ◌↔◌, ◌⊎◌, [], length, IsErr, IfOk, OnOk, OnErr, Contains, Some};
 ghost use Rattle.std.specs.Io.KnownBytes.{Appends};
-ghost use Rattle.tte_io.specs.Faults.{Rose, next_count};
-ghost use Rattle.tte_io.specs.Told.{AppendsFront, PassesSome};
-ghost use Rattle.tte_io.specs.InMemory.{fresh_sink, after_writing, after_failed_put, after_passing, after_failed_pass};
+ghost use Rattle.tte_io.specs.{Faults.{Rose, next_count}, Told.{AppendsFront, PassesSome}};
+ghost use Rattle.tte_io.specs.InMemory.{after_failed_pass, after_failed_put, after_passing, after_writing, fresh_sink};
 
 use crate::memory::Calls;
 use crate::{OutOfMemory, Sink, SinkFailed};

@@ -1,6 +1,5 @@
-ghost use Rattle.std.specs.Io.{ReadsAtMost, KnownBytes.ReadConsumes};
+ghost use Rattle.std.specs.{Io.{KnownBytes.ReadConsumes, ReadsAtMost}, Prelude.{length, min, ℕ}};
 ghost use Rattle.std.specs.Prelude.{◌+◌, ◌↔◌, ◌≡◌, ◌≤◌, Contains, IfOk, IsErr, IsOk, List, OnErr, OnOk, Some, drop};
-ghost use Rattle.std.specs.Prelude.{length, min, ℕ};
 ghost use Rattle.tte_io.specs.{Faults.Rose, InMemory.{after_failed_read, after_giving, fresh_source}};
 ghost use Rattle.tte_io.specs.Told.{IsZeroExactlyAtEnd};
 

@@ -1,12 +1,10 @@
 -- Facts on lists.
-use Rattle.std.proofs.Common.{if◌then◌else◌, ◌%◌, ◌++◌, ◌+◌, ◌<◌, ◌^◌, ◌∙◌, ◌∷◌, ◌≡◌, ◌≤◌, ◌⊎◌, Bool, List, None, Option, Some, [], ap, arith, cond, drop}
-use Rattle.std.proofs.Common.{false, filter, get_or, inl, inr, length, length-append, not, refl, reverse, set, subst, suc, sym, take, true, zero, ℕ, ⊎_elim}
-use Rattle.std.proofs.{Math.ListN.drop_of_length-le, lemmas.{Bool.{both_ways, cases_Bool}, Cmp.nat_list_eq_equiv}}
-use Rattle.std.proofs.lemmas.List.{append-nil, get_or-set_same, length-set, reverse-append}
-use Rattle.std.proofs.lemmas.List.Elements.{All-append, All-cons, All-head, All-nil, All-tail, filter-append}
-use Rattle.std.proofs.lemmas.Option.{get_or_from_slice_get, slice_get-get_or, slice_get_within}
-use Rattle.std.specs.{List.{All, AllByRecursion, Any, Contains, after_last, last_or, prefix_len, suffix_len}, Option.unwrap_or}
-use Rattle.std.specs.{Prelude.{find, slice_get, slice_set}, Str.bytes_eq}
+use Rattle.std.proofs.Common.{◌%◌, ◌++◌, ◌+◌, ◌<◌, ◌^◌, ◌∙◌, ◌∷◌, ◌≡◌, ◌≤◌, ◌⊎◌, Bool, List, None, Option, Some, [], ap, arith, cond, drop, false, filter}
+use Rattle.std.proofs.Common.{get_or, if◌then◌else◌, inl, inr, length, length-append, not, refl, reverse, set, subst, suc, sym, take, true, zero, ℕ, ⊎_elim}
+use Rattle.std.proofs.{Math.ListN.drop_of_length-le, lemmas.{Cmp.nat_list_eq_equiv, Option.{get_or_from_slice_get, slice_get-get_or, slice_get_within}}}
+use Rattle.std.proofs.lemmas.{Bool.{both_ways, cases_Bool}, List.Elements.{All-append, All-cons, All-head, All-nil, All-tail, filter-append}}
+use Rattle.std.{proofs.lemmas.List.{append-nil, get_or-set_same, length-set, reverse-append}, specs.{Option.unwrap_or, Str.bytes_eq}}
+use Rattle.std.specs.{List.{All, AllByRecursion, Any, Contains, after_last, last_or, prefix_len, suffix_len}, Prelude.{find, slice_get, slice_set}}
 use Rattle.tte_lemmas.proofs.Options.{more_by, of_by, same_by, some_or_none}
 
 -- something stands at each place below the length

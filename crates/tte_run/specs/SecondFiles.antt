@@ -1,12 +1,11 @@
 -- What the forms do with their second file.
 use Rattle.std.specs.Prelude.{◌≢◌, ◌⊎◌, List, Option, Some, [], ℕ}
-use Rattle.tte_forms.specs.{Answering.ForOctets, Putting.Shown, declared.form.Form.Form}
-use Rattle.tte_forms.specs.declared.{form.Form.TheVariants.{Audit, Run, Stamp, Vote, Wire}, status.Status.Status}
-use Rattle.tte_forms.specs.declared.status.Status.TheVariants.{GranuleRefused}
-use Rattle.tte_stamps.specs.Answer.{StampStops, StampTakesLittle}
+use Rattle.tte_forms.specs.{Answering.ForOctets, declared.form.Form.{Form, TheVariants.{Audit, Run, Stamp, Vote, Wire}}}
+use Rattle.tte_forms.specs.{Putting.Shown, declared.status.Status.{Status, TheVariants.GranuleRefused}}
+use Rattle.tte_run.specs.stamps.Answer.{StampStops, StampTakesLittle}
+use Rattle.tte_run.specs.votes.Streaming.{IsOfRun, VoteStops, VoteTakesLittle}
+use Rattle.tte_run.specs.captures.wires.Streaming.{WireStops, WireTakesLittle}
 use Rattle.tte_traces.specs.Streaming.{RunStops, RunTakesLittle}
-use Rattle.tte_votes.specs.Streaming.{IsOfRun, VoteStops, VoteTakesLittle}
-use Rattle.tte_captures.specs.wires.Streaming.{WireStops, WireTakesLittle}
 
 -- what the second file is, if there is one
 pub data Second : Type 0 where

@@ -20,3 +20,5 @@ pub mod Ends
 pub mod EventRanges
 pub mod Safely
 pub mod Words
+pub mod storms_lemmas
+pub mod reports_lemmas

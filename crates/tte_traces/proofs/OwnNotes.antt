@@ -7,16 +7,15 @@ use Rattle.fault_hypothesis.specs.Watching.{AreOfNetwork as AreEventsOf}
 use Rattle.net_plan.specs.{Places.link_at, Ranges.IsLinkInRange, declared.{ids.{DeviceId.DeviceId, LinkId.LinkId, VlId.VlId}, tables.{Link.Link, Way.Way}}}
 use Rattle.net_plan.specs.declared.tables.Way.TheVariants.{Down, Up}
 use Rattle.report_text.specs.Ranges.{HasPassage, HasStream, IsBodyOf}
-use Rattle.run_existence.proofs.bounds.Named.{device_there}
-use Rattle.run_law.proofs.{law.FirstPlaces.numbered_in, runs.{NetworkRuns.one_more, Places.{in_left, in_right, parted}}}
-use Rattle.run_law.specs.{control.{Leaving.{Departs, Departure}, Wires.{Arrives, Signal}}, declared.note.NoteBody.NoteBody}
-use Rattle.run_law.specs.records.{Happenings.{Happening, happening, happenings, time_of}, Order.IsIn, Ranks.place_of}
-use Rattle.run_law.specs.{runs.{DueRecords.{IsArrivedRecord, IsCaused, IsDue, IsScenarioRun}, Runs.IsFounded}, scenario.Scenarios.Scenario}
-use Rattle.run_law.specs.timed.{Dispatching.Dispatches, Receptions.ArrivesAs}
+use Rattle.traffic_law.proofs.existence_lemmas.bounds.Named.{device_there}
+use Rattle.run_law.{proofs.law.FirstPlaces.numbered_in, specs.{control.Wires.{Arrives, Signal}, scenario.Scenarios.Scenario, timed.Dispatching.Dispatches}}
+use Rattle.run_law.{proofs.runs.NetworkRuns.one_more, specs.{records.{Order.IsIn, Ranks.place_of}, runs.Runs.IsFounded, timed.Receptions.ArrivesAs}}
+use Rattle.run_law.{proofs.runs.Places.{in_left, in_right, parted}, specs.{control.Leaving.{Departs, Departure}, declared.note.NoteBody.NoteBody}}
+use Rattle.run_law.specs.{records.Happenings.{Happening, happening, happenings, time_of}, runs.DueRecords.{IsArrivedRecord, IsCaused, IsDue, IsScenarioRun}}
 use Rattle.schedule_tables.specs.{Entries.{IsEntry, source_by, source_of}, declared.entry.Entry.Entry}
 use Rattle.tte_lemmas.proofs.Lists.{in_all as all_at}
 use Rattle.world_law.{proofs.rows.Entered.{delivered_of, taken_at}, specs.{device.Own.moves, world.World.AreOfNetwork}}
-use Rattle.world_steps.proofs.hearing.Receptions.{receiver_in}
+use Rattle.world_law.proofs.steps_lemmas.hearing.Receptions.{receiver_in}
 use Rattle.run_law.specs.declared.note.NoteBody.TheVariants as kinds
 
 -- ---- links and devices

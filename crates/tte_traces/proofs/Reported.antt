@@ -1,6 +1,6 @@
 -- The lines of a report put one after another.
+use Rattle.tte_traces.{proofs.{OwnNotes.note_of, Words.{report_of, subst, sym, ℕ}}, specs.Report.{PutsReport, StopsReport, shown_as}}
 use Rattle.tte_traces.proofs.Words.{◌++◌, ◌∷◌, ◌≡◌, Err, Event, IsNoteOf, List, Network, Note, Ok, PutFails, PutsLines, Result, Rose, [], clock_reading, inl}
-use Rattle.tte_traces.proofs.Words.{report_of, subst, sym, ℕ}
 use Rattle.std.{proofs.lemmas.List.map-append, specs.{Io.KnownBytes.Appends, Prelude.{IfErr, MatchResult, OnErr, OnOk}}}
 use Rattle.report_text.specs.NoteLine.{note_line}
 use Rattle.tte_forms.proofs.Puts.{PutsLines-fails, PutsLines-more}
@@ -8,7 +8,6 @@ use Rattle.tte_io.specs.{Faults.next_count, Told.AppendsFront, declared.ends.Sin
 use Rattle.world_drive.specs.{Observing.{PutsFurther, Told, told_by}, declared.observing.Cut.{Cut, TheVariants.{OutOfMemory, WriteFault}}}
 use Rattle.world_drive.specs.exact.Worlds.{ExactWorld, StandsExact}
 use Rattle.world_law.specs.source.Agreeing.{scenario}
-use Rattle.tte_traces.{proofs.OwnNotes.note_of, specs.Report.{PutsReport, StopsReport, shown_as}}
 
 -- the record that a world gave last is the network's
 pub own_note : (network : Network) (events : List Event) (notes : List Note) (note : Note) (world : ExactWorld)

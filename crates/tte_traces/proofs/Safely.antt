@@ -1,10 +1,10 @@
 -- What a command over a trace writes is of a run that is safe.
-use Rattle.tte_traces.proofs.Words.{◌++◌, ◌+◌, ◌∷◌, ◌≡◌, ◌⊎◌, Answer, AreAdmitted, AreAllRecords, AreRecordsSoFar, Done, Event, ForOctets, Gives, IsFault}
-use Rattle.tte_traces.proofs.Words.{IsInRange}
-use Rattle.tte_traces.proofs.Words.{IsOfNetwork, IsRunAnswer, IsTraceAnswer, LinesOf, List, Long, MeansAccepted, Missing, Network, Note, Option, Outlaw}
-use Rattle.tte_traces.proofs.Words.{PutsLines}
-use Rattle.tte_traces.proofs.Words.{After, Line, Shown, Status, TooMany, TraceFault, [], amount, ap, behind_events, behind_lines, clock_reading, fault_lines}
-use Rattle.tte_traces.proofs.Words.{fault_status, first_line, for_more, inl, inr, last_time, length, refl, report_lines, subst, sym, ℕ}
+use Rattle.tte_traces.proofs.{EventRanges.event_in_range, Existing.records_before, Words.ℕ}
+use Rattle.tte_traces.proofs.Words.{◌++◌, ◌+◌, ◌∷◌, ◌≡◌, ◌⊎◌, After, Answer, AreAdmitted, AreAllRecords, AreRecordsSoFar, Done, Event, ForOctets, Gives}
+use Rattle.tte_traces.proofs.Words.{IsFault, IsInRange, IsOfNetwork, IsRunAnswer, IsTraceAnswer, Line, LinesOf, List, Long, MeansAccepted, Missing, Network}
+use Rattle.tte_traces.proofs.Words.{Note, Option, Outlaw, PutsLines, Shown, Status, TooMany, TraceFault, [], amount, ap, behind_events, behind_lines}
+use Rattle.tte_traces.proofs.Words.{clock_reading, fault_lines, fault_status, first_line, for_more, inl, inr, last_time, length, refl, report_lines, subst, sym}
+use Rattle.tte_traces.specs.Safely.{BeginsRunTo, IsGoodRun, IsGoodRunBefore, IsReportToFault, IsWholeReport, OfRunToFault, OfWholeRun, PutsOfRun, RunsSafely}
 use Rattle.std.{proofs.lemmas.List.Elements.{All-cons, All-nil}, specs.List.All}
 use Rattle.drift_clock.{proofs.ExactSegments.exact_laws, specs.Segment.{fresh_segment, segment_reading, stepped_segment}}
 use Rattle.run_law.{proofs.runs.{NetworkRuns.earlier_run_is_front, Places.before_next_time}, specs.law.FirstLaws.IsEventInRange}
@@ -13,8 +13,6 @@ use Rattle.trace_text.proofs.ReadOfNetwork.{read_of_network}
 use Rattle.tte_forms.proofs.{Octets.for_all, OneAnswers.answer_widened, Safely.{IsSafeAnswer, none_safe, puts_safely}}
 use Rattle.tte_forms.specs.{Answering.GivesAnswer, Putting.PutsSo, declared.accepting.NoNetwork.NoNetwork, networks.NoNetworks.answer_by}
 use Rattle.world_drive.proofs.exact_lemmas.Clocks.{exact_begins}
-use Rattle.tte_traces.{proofs.{EventRanges.event_in_range, Existing.records_before}, specs.Safely.{BeginsRunTo, IsGoodRun, IsGoodRunBefore, IsReportToFault}}
-use Rattle.tte_traces.specs.Safely.{IsWholeReport, OfRunToFault, OfWholeRun, PutsOfRun, RunsSafely}
 use Rattle.tte_forms.specs.declared.accepting.NoNetwork.TheVariants as causes
 
 -- ---- what the laws on runs ask

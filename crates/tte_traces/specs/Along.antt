@@ -3,9 +3,8 @@ use Rattle.std.specs.Prelude.{◌++◌, ◌∷◌, ◌≡◌, List, None, Option
 use Rattle.net_plan.specs.declared.{event.Event.Event, network.Network.Network}
 use Rattle.run_law.specs.declared.note.Note.{Note}
 use Rattle.tte_forms.specs.{Answering.Answer, Putting.PutsLines}
-use Rattle.world_drive.specs.{Driving.IsUpToEnd, Observing.{Sees, Stops, Told}, Seeing.HasBefallen}
-use Rattle.world_drive.specs.declared.observing.Cut.{Cut}
-use Rattle.world_drive.specs.exact.Records.{AreAllRecords, AreRecordsSoFar, HaveEnded}
+use Rattle.world_drive.specs.{Driving.IsUpToEnd, Seeing.HasBefallen, declared.observing.Cut.Cut}
+use Rattle.world_drive.specs.{Observing.{Sees, Stops, Told}, exact.Records.{AreAllRecords, AreRecordsSoFar, HaveEnded}}
 use Rattle.tte_traces.specs.{Answer.LinesOf, Lines.{AreAdmitted, behind_lines}, Report.{StopsLines, shown_as}}
 
 -- the trace is admitted to its end

@@ -10,3 +10,5 @@ pub mod Ending
 pub mod Along
 pub mod Safely
 pub mod Laws
+pub mod storms
+pub mod reports

@@ -1,7 +1,6 @@
 ghost use Rattle.std.specs.Prelude.{◌≡◌, None, [], true};
 ghost use Rattle.tte_forms.specs.{Faults.{HasCause, PutFailed, ReadFailed}, Putting.Over};
-ghost use Rattle.world_drive.specs.Observing.{start_by, told_by};
-ghost use Rattle.world_drive.specs.exact.Worlds.{StandsExact};
+ghost use Rattle.world_drive.specs.{Observing.{start_by, told_by}, exact.Worlds.StandsExact};
 ghost use Rattle.tte_traces.specs.{Along.PutsAlong, Answer.{IsRunStatus, IsTraceAnswer, LinesOf}, Ending.RunEnds};
 
 use crate::fault::TraceStop;

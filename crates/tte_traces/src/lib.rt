@@ -9,7 +9,9 @@ mod lines;
 mod reading;
 mod refusing;
 mod report;
+pub mod reports;
 mod running;
+pub mod storms;
 
 pub use driving::follow_trace;
 pub use fault::{TraceFault, TraceStop};

@@ -6,8 +6,8 @@ ghost use Rattle.tte_traces.specs.Report.{PutsReport, StopsReport};
 
 use drift_world::EventNote;
 use net_plan::{Event, Network};
-use plain_notes::Given;
 use report_text::{TimeText, make_event_line, make_plain_line};
+use run_law::plain::PlainNote;
 use tte_io::{LineText, Sink};
 use tte_units::Units;
 use world_drive::exact::ExactWorld;
@@ -37,7 +37,7 @@ fn put_note<K: Sink>(
     text: &mut LineText,
     times: &mut TimeText,
     network: &Network,
-    note: &Given,
+    note: &PlainNote,
     out: &mut K,
 ) -> Result<(), Cut>
     requires in_range { IsInRange network.now }
@@ -90,7 +90,7 @@ impl<K: Sink> Observer<K> for Report {
         &mut self,
         _world: &ExactWorld<'_>,
         network: &Network,
-        note: &Given,
+        note: &PlainNote,
         out: &mut K,
     ) -> Result<bool, Cut> {
         match put_note(&mut self.text, &mut self.times, network, note, out) {

@@ -1,14 +1,13 @@
 -- A drive goes on, or ends.
+use Rattle.world_drive.proofs.{Earlier.{records_none, up_to_end}, More.{PutsSoFar, fails_on, puts_none}, exact_lemmas.{Events.ended_at, Given.amount_after}}
 use Rattle.world_drive.proofs.Words.{◌++◌, ◌+ℤ◌, ◌+◌, ◌<◌, ◌^◌, ◌∙◌, ◌∷◌, ◌≡◌, ◌≤ℤ◌, AreEarlier, AreRecordsBefore, AreRecordsSoFar, Cut, CutsAtEvent}
-use Rattle.world_drive.proofs.Words.{CutsBefore, Err, Event, ExactWorld, IsAsked, List, MayGive, Network, None, Note, Ok, Sees, SeesEvent, SeesUntil}
-use Rattle.world_drive.proofs.Words.{Some, StandsExact, Stops, Told, Units, [], amount, ap, arith, ints, last_is, last_time, length, pos, refl, subst, sym}
-use Rattle.world_drive.proofs.Words.{told_by, true, units_of, ℕ}
+use Rattle.world_drive.proofs.Words.{CutsBefore, Err, Event, ExactWorld, IsAsked, List, MayGive, Network, None, Note, Ok, Sees, SeesEvent, SeesUntil, Some}
+use Rattle.world_drive.proofs.Words.{StandsExact, Stops, Told, Units, [], amount, ap, arith, ints, last_is, last_time, length, pos, refl, subst, sym, told_by}
+use Rattle.world_drive.proofs.Words.{true, units_of, ℕ}
+use Rattle.world_drive.specs.{Driving.{DrivesAll, DrivesCut, DrivesSoFar, HasSeenSoFar}, Sources.{Gave, GivesNext, Stopped, given_in}, exact.Worlds.IsReached}
+use Rattle.world_drive.specs.{Observing.{Grows, PutsFurther, start_by}, Seeing.{ComesNext, HasSeen, MayMeet}, exact.Records.{AreAllRecords, HaveEnded}}
 use Rattle.std.proofs.Common.{Bool, false, length-append}
 use Rattle.tte_io.specs.declared.ends.Sink.{Ghosts}
-use Rattle.world_drive.{proofs.exact_lemmas.{Events.ended_at, Given.amount_after}, specs.exact.{Records.{AreAllRecords, HaveEnded}, Worlds.IsReached}}
-use Rattle.world_drive.proofs.{Earlier.{records_none, up_to_end}, More.{PutsSoFar, fails_on, puts_none}}
-use Rattle.world_drive.specs.{Driving.{DrivesAll, DrivesCut, DrivesSoFar, HasSeenSoFar}, Observing.{Grows, PutsFurther, start_by}}
-use Rattle.world_drive.specs.{Seeing.{ComesNext, HasSeen, MayMeet}, Sources.{Gave, GivesNext, Stopped, given_in}}
 
 -- ---- what a source gave
 

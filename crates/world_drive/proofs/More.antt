@@ -1,12 +1,11 @@
 -- More records seen by an observer.
+use Rattle.world_drive.proofs.{Earlier.{earlier_at, earlier_joined}, Words.{append_assoc, inl, inr, pos, refl, subst, sym, told_by, true, ℕ}}
 use Rattle.world_drive.proofs.Words.{◌++◌, ◌+◌, ◌<ℤ◌, ◌<◌, ◌∙◌, ◌∷◌, ◌≡◌, ◌≤◌, AreEarlier, AreRecordsBefore, Cut, CutsBefore, Err, Event, ExactWorld, List}
 use Rattle.world_drive.proofs.Words.{Network, None, Note, Ok, Option, Sees, SeesUntil, StandsExact, Start, Stops, Told, Units, [], amount, ap, append-nil}
-use Rattle.world_drive.proofs.Words.{append_assoc, inl, inr, pos, refl, subst, sym, told_by, true, ℕ}
+use Rattle.world_drive.specs.{Observing.{FailsBy, Grows, PutsFurther}, Seeing.SeesInstant, declared.observing.Cut.TheVariants.{OutOfMemory, WriteFault}}
 use Rattle.std.proofs.{Common.Result, KnownBytes.{Appends-nil, Appends-trans}}
 use Rattle.run_law.proofs.runs.Places.{before_later_time}
 use Rattle.tte_io.specs.{Faults.Rose, declared.ends.Sink.Ghosts}
-use Rattle.world_drive.{proofs.Earlier.{earlier_at, earlier_joined}, specs.{Observing.{FailsBy, Grows, PutsFurther}, Seeing.SeesInstant}}
-use Rattle.world_drive.specs.declared.observing.Cut.TheVariants.{OutOfMemory, WriteFault}
 
 -- ---- what was put
 

@@ -1,9 +1,8 @@
 -- What an observer of a run sees, and what was put by then. `see` says of an observer that it has seen the records of a
 -- network under these events, and that from the start of the drive what was put led to this. Where it waits for the end
 -- of the instant that is underway, the time of this instant is told.
-use Rattle.std.specs.Io.KnownBytes.{Appends}
+use Rattle.std.specs.{Io.KnownBytes.Appends, Prelude.{Some, [], false, length, pos, true, ℕ}}
 use Rattle.std.specs.Prelude.{◌++◌, ◌+◌, ◌^◌, ◌∷◌, ◌≡◌, ◌≤ℤ◌, Bool, IfErr, IfSome, List, None, OnOk, Option, Result}
-use Rattle.std.specs.Prelude.{Some, [], false, length, pos, true, ℕ}
 use Rattle.drift_clock.specs.Segment.{fresh_segment, segment_reading, stepped_segment}
 use Rattle.drift_world.specs.{Locals.IsComplete, Running.event_note}
 use Rattle.net_plan.specs.declared.{event.Event.Event, network.Network.Network}

@@ -1,7 +1,6 @@
 -- Where the events of a run come from.
 use Rattle.std.specs.Prelude.{◌++◌, ◌+◌, ◌<◌, ◌^◌, ◌∷◌, ◌≤ℤ◌, Bool, Err, List, None, Ok, Option, Result, Some, []}
-use Rattle.std.specs.Prelude.{false}
-use Rattle.std.specs.Prelude.{length, pos, true, ℕ}
+use Rattle.std.specs.Prelude.{false, length, pos, true, ℕ}
 use Rattle.drift_world.specs.Running.{HoldsATime}
 use Rattle.net_plan.specs.{Belonging.IsOfNetwork, declared.{event.Event.Event, network.Network.Network}}
 use Rattle.run_law.specs.scenario.Hypothesis.{IsWithinHypothesis}

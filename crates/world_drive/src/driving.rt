@@ -1,7 +1,6 @@
 ghost use Rattle.std.specs.Prelude.{◌≡◌, None, [], true};
 ghost use Rattle.net_plan.specs.Ranges.{IsInRange};
-ghost use Rattle.world_drive.specs.exact.Worlds.{StandsExact};
-ghost use Rattle.world_drive.specs.{Driving.Drives, Observing.{start_by, told_by}};
+ghost use Rattle.world_drive.specs.{Driving.Drives, Observing.{start_by, told_by}, exact.Worlds.StandsExact};
 
 use crate::exact::ExactWorld;
 use crate::observing::{Cut, Observer};

@@ -10,7 +10,7 @@ ghost use Rattle.world_drive.specs.declared.observing.Cut.{Cut as CutValue};
 use crate::exact::ExactWorld;
 use drift_world::EventNote;
 use net_plan::{Event, Network};
-use plain_notes::Given;
+use run_law::plain::PlainNote;
 use tte_io::Sink;
 use tte_units::Units;
 
@@ -39,7 +39,7 @@ pub trait Observer<K: Sink>: Drop {
         &mut self,
         world: &ExactWorld<'_>,
         network: &Network,
-        note: &Given,
+        note: &PlainNote,
         out: &mut K,
     ) -> Result<bool, Cut>
         requires in_range { IsInRange network.now }

@@ -3,15 +3,14 @@ ghost use Rattle.drift_world.specs.Running.{Reaches};
 ghost use Rattle.net_plan.specs.{Ranges.IsInRange, declared.event.Event.Event as EventValue};
 ghost use Rattle.run_law.specs.declared.note.Note.{Note as NoteValue};
 ghost use Rattle.tte_units.specs.Amount.{amount};
-ghost use Rattle.world_drive.specs.exact.Worlds.{IsReached, StandsExact};
-ghost use Rattle.world_drive.specs.Observing.{PutsFurther, Start, told_by};
+ghost use Rattle.world_drive.specs.{Observing.{PutsFurther, Start, told_by}, exact.Worlds.{IsReached, StandsExact}};
 ghost use Rattle.world_drive.specs.Seeing.{ComesNext, CutsAtEvent, CutsBefore, HasSeen, HasSeenInstant, IsAsked};
 ghost use Rattle.world_drive.specs.Seeing.{IsPast, IsUnderwayAt, MayMeet, SeesEvent, SeesInstant, SeesUntil};
 
 use crate::exact::ExactWorld;
 use crate::observing::{Cut, Observer};
 use net_plan::{Event, Network};
-use plain_notes::Given;
+use run_law::plain::PlainNote;
 use tte_io::Sink;
 use tte_units::Units;
 
@@ -43,7 +42,7 @@ fn see_instant<K: Sink, O: Observer<K>>(
     ensures past { OnOk result (IsPast world.old world.new) }
     ensures puts { PutsFurther K.Sink result out.old out.new }
 {
-    let mut note = Given::none();
+    let mut note = PlainNote::none();
     'notes: loop {
         match world.next_given(next_unit(time), &mut note) {
             Ok(true) => match observer.record(world, network, &note, out) {
@@ -76,7 +75,7 @@ pub(crate) fn see_until<K: Sink, O: Observer<K>>(
     ensures reached { OnOk result (Reaches world.old world.new until) }
     ensures puts { PutsFurther K.Sink result out.old out.new }
 {
-    let mut note = Given::none();
+    let mut note = PlainNote::none();
     'notes: loop {
         match world.next_given(until, &mut note) {
             Ok(true) => match observer.record(world, network, &note, out) {

@@ -8,3 +8,4 @@ pub mod growing
 pub mod runs
 pub mod giving
 pub mod putting
+pub mod steps_lemmas

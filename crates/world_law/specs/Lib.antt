@@ -1,3 +1,4 @@
 pub mod device
 pub mod source
 pub mod world
+pub mod steps

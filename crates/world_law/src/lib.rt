@@ -2,6 +2,7 @@
 #![tactic(auto)]
 
 mod laws;
+pub mod steps;
 
 pub use laws::{
     acts_are_few, acts_grow, due_is_sourced, few_are_emitted, first_settled_is_next, given_step,

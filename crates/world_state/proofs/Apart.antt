@@ -5,9 +5,8 @@ use Rattle.net_plan.specs.declared.network.Network.{Network}
 use Rattle.run_law.{proofs.records.Order.{given_of, is_given}, specs.{declared.note.NoteBody.NoteBody, records.{Happenings.Happening, Order.IsIn}}}
 use Rattle.run_law.specs.scenario.Scenarios.{Scenario}
 use Rattle.world_law.specs.world.{Moves.{AreGiven, ArePut}, World.{AtPort, OnWire}}
-use Rattle.world_state.{proofs.queue_lemmas.Bags.in_permuted, specs.declared.queue.Entry.Entry}
-use Rattle.world_state.specs.{Giving.{ArePutTo, IsPutOn}, Views.{at_port, on_wire}, declared.contents.{Content.Content, WayState.WayState}}
-use Rattle.world_state.specs.declared.giving.Giving.{Giving}
+use Rattle.world_state.{proofs.queue_lemmas.Bags.in_permuted, specs.declared.{contents.{Content.Content, WayState.WayState}, giving.Giving.Giving}}
+use Rattle.world_state.specs.{Giving.{ArePutTo, IsPutOn}, Views.{at_port, on_wire}, declared.queue.Entry.Entry}
 
 -- the wires after a frame is put to ports
 pub wires_kept : (n : ℕ) (network other : Network) (ups downs : List WayState) (body : NoteBody) (giving : Option Giving) (old new : List (Entry Content))

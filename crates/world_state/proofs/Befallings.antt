@@ -4,7 +4,7 @@ use Rattle.std.proofs.{Common.{length, map, option_and_then, refl, slice_get, su
 use Rattle.std.{proofs.lemmas.Option.{get_or_from_slice_get, same_Some, slice_get-get_or, slice_get_within}, specs.{List.filter_map, Prelude.IfSome}}
 use Rattle.net_plan.specs.{Places.link_at, Ranges.{IsInRange, IsLinkInRange}, declared.{event.What.What, ids.LinkId.LinkId, network.Network.Network}}
 use Rattle.net_plan.specs.declared.tables.Link.{Link}
-use Rattle.run_law.specs.{control.Wires.{signal_of, time_on_port}, records.Order.IsIn}
+use Rattle.run_law.{proofs.{records.{Members.{in_map as is_mapped}}}, specs.{control.Wires.{signal_of, time_on_port}, records.Order.IsIn}}
 use Rattle.tte_lemmas.proofs.Lists.{in_all}
 use Rattle.world_law.specs.world.World.{AreInOrder, AtPort}
 use Rattle.world_state.{proofs.queue_lemmas.Bags.in_permuted, specs.declared.queue.Entry.Entry}
@@ -13,7 +13,6 @@ use Rattle.world_state.specs.{Places.IsSomePut, Sound.{AreBelow, AreUnderWay, ra
 use Rattle.world_state.specs.declared.contents.{Content.{Content, TheVariants.Wire}, Settled.Settled, WayState.WayState}
 use Rattle.net_plan.specs.declared.event.What.TheVariants as events
 use Rattle.world_state.specs.declared.contents.Signal.TheVariants as signals
-use Rattle.run_law.proofs.records.Members.{in_map as is_mapped}
 
 -- ---- a step of the loop
 

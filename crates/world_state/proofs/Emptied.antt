@@ -1,10 +1,9 @@
 -- All frames of a device are dropped.
 use Rattle.std.proofs.Common.{◌++◌, ◌+◌, ◌<◌, ◌==◌, ◌∙◌, ◌∷◌, ◌≡◌, ◌≤◌, ◌⊎◌, Bool, List, Some, [], ap, arith, cond, filter, inl, inr, length, map, not, refl}
 use Rattle.std.proofs.{Common.{slice_get, slice_set, suc, sym, true, zero, ℕ}, lemmas.{Bool.{eq-eqb, ne_eqb}, List.Elements.filter-append}}
-use Rattle.run_law.specs.records.Order.{IsIn}
+use Rattle.run_law.{proofs.records.Members.from_map, specs.records.Order.IsIn}
 use Rattle.world_state.specs.{queue.Queues.Queue, declared.queue.Entry.Entry}
 use Rattle.world_state.{proofs.Queues.content_of, specs.{Frames.{AreQueued, frames_in, frames_of}, declared.contents.Waits.Waits}}
-use Rattle.run_law.proofs.records.Members.{from_map}
 
 -- it waits elsewhere
 abbrev pub keeps_it : ℕ → Waits → Bool

@@ -2,7 +2,7 @@
 use Rattle.std.proofs.Common.{◌++◌, ◌-◌, ◌<◌, ◌==◌, ◌^◌, ◌∙◌, ◌≡◌, List, None, Option, Some, ap, append_assoc, arith, false, length, length-append, refl}
 use Rattle.std.{proofs.{Common.{replicate, slice_get, sym, ℕ}, lemmas.Bool.ne_eqb}, specs.{Option.option_map_or, Prelude.{if◌then◌else◌, Bool}}}
 use Rattle.byteorder.specs.{Endian.big_bytes, Numbers.length-bytes_high_first}
-use Rattle.made_frames.proofs.Made.{made_is}
+use Rattle.device_rules.proofs.frames_lemmas.Made.{made_is}
 use Rattle.net_plan.specs.{Ranges.{IsInRange, IsVlInRange}, declared.{ids.VlId.VlId, network.Network.Network, tables.VirtualLink.VirtualLink}}
 use Rattle.pcf_codec.{proofs.Numbers.read_behind, specs.{Decoding.decoded, EtherType.pcf_type, Fields.field}}
 use Rattle.run_law.specs.{control.Wires.{control, signal_of, timed}, records.Frames.{mac_of, tt_frame, tt_frame_by}}

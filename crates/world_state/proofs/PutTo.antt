@@ -1,14 +1,11 @@
 -- A frame is given to links, one after the other.
-use Rattle.std.proofs.Common.{◌+◌, ◌∙◌, ◌∷◌, ◌≡◌, List, ap, arith, get_or, inl, inr, subst, sym, ℕ}
-use Rattle.std.proofs.lemmas.{Bool.{both_ways, cases_lt}, List.Sorted.IsPermutation-sym}
-use Rattle.std.specs.Prelude.{false}
-use Rattle.std.specs.List.Sorted.{IsPermutation}
+use Rattle.std.proofs.{Common.{◌+◌, ◌∙◌, ◌∷◌, ◌≡◌, List, ap, arith, get_or, inl, inr, subst, sym, ℕ}, lemmas.List.Sorted.IsPermutation-sym}
+use Rattle.std.{proofs.lemmas.Bool.{both_ways, cases_lt}, specs.{List.Sorted.IsPermutation, Prelude.false}}
 use Rattle.net_plan.{proofs.SameIds.link_is, specs.declared.{ids.{DeviceId.DeviceId, LinkId.LinkId}, network.Network.Network}}
 use Rattle.run_law.specs.{control.Leaving.Gives, declared.note.NoteBody.NoteBody, records.Order.IsIn}
-use Rattle.world_state.{proofs.queue_lemmas.Bags.in_permuted, specs.{queue.Places.numbers_of, declared.queue.Entry.Entry}}
-use Rattle.world_state.specs.{Giving.{ArePutTo, IsGivenBy, entry_at_port, place_at_port}, Sound.AreBelow}
-use Rattle.world_state.specs.declared.contents.{Content.Content, WayState.WayState}
-use Rattle.world_state.specs.declared.giving.{Ends.Ends, Giving.Giving}
+use Rattle.world_state.{proofs.queue_lemmas.Bags.in_permuted, specs.{declared.{giving.{Ends.Ends, Giving.Giving}, queue.Entry.Entry}, queue.Places.numbers_of}}
+use Rattle.world_state.specs.{Giving.{ArePutTo, IsGivenBy, entry_at_port, place_at_port}, declared.contents.{Content.Content, WayState.WayState}}
+use Rattle.world_state.specs.Sound.{AreBelow}
 
 -- where it is given to none, nothing is put to ports
 pub nothing_put : (n : ℕ) (network : Network) (ups downs : List WayState) (body : NoteBody) (giving : Giving) (old : List (Entry Content))

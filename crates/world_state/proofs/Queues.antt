@@ -5,13 +5,12 @@ use Rattle.std.proofs.lemmas.List.Sorted.{IsPermutation-append_left, IsPermutati
 use Rattle.std.{proofs.lemmas.Option.slice_get_within, specs.{List.Sorted.IsPermutation, Option.{option_and_then, option_map, option_map_or}}}
 use Rattle.std.specs.Prelude.{if◌then◌else◌, IfSome, MatchOption}
 use Rattle.net_plan.specs.declared.ids.DeviceId.{DeviceId}
-use Rattle.run_law.{proofs.runs.Places.{in_left, in_parts, in_right}, specs.records.Order.{IsBefore, IsIn}}
+use Rattle.run_law.{proofs.{records.{Members.{from_map, in_map as is_mapped}}, runs.Places.{in_left, in_parts, in_right}}, specs.records.Order.{IsBefore, IsIn}}
 use Rattle.tte_units.specs.Amount.{amount}
 use Rattle.world_law.proofs.giving.Given.{some_same}
-use Rattle.world_state.specs.{queue.Places.{IsFirst, first_entry, numbers_of}, queue.Queues.Queue, declared.queue.{Entry.Entry, Place.Place}}
+use Rattle.world_state.specs.{queue.Places.{IsFirst, first_entry, numbers_of}, queue.Queues.Queue, declared.queue.{Entry.Entry, DueAt.DueAt}}
 use Rattle.world_state.specs.Frames.{AreQueued, IsFirstAt, IsQueued, NoneAt, first_frame, frames_in, frames_of, queue_place}
 use Rattle.world_state.specs.{Ripening.{IsReached, ripe_numbers}, Timing.IsLeastPoint, declared.contents.Waits.Waits}
-use Rattle.run_law.proofs.records.Members.{from_map, in_map as is_mapped}
 
 abbrev pub content_of : Entry Waits → Waits
 content_of e = e.content
@@ -119,8 +118,8 @@ module _ (queues : List (Queue Waits)) (queued : AreQueued queues) (k : ℕ) whe
             let same : from.1 ≡ q = some_same from.1 q _ from.3 (ap (slice_get queues) device ∙ at) in
             let place : from.2.place ≡ queue_place v = hers.place ∙ ap queue_place (sym from.5) in
             first.none from.2 (subst (λ (x : Queue Waits). IsIn from.2 x.entries) same from.4)
-            (subst (λ (p : Place). IsBefore (numbers_of p) (numbers_of e.place)) (sym place)
-            (subst (λ (p : Place). IsBefore (numbers_of (queue_place v)) (numbers_of p)) (sym its.place)
+            (subst (λ (p : DueAt). IsBefore (numbers_of p) (numbers_of e.place)) (sym place)
+            (subst (λ (p : DueAt). IsBefore (numbers_of (queue_place v)) (numbers_of p)) (sym its.place)
             (earlier v e.content (own ∙ sym its.own) before)));
       }
 

@@ -7,22 +7,21 @@ use Rattle.net_plan.specs.declared.network.Network.{Network}
 use Rattle.run_law.{proofs.records.Order.{given_of, is_given}, specs.records.Order.IsIn}
 use Rattle.tte_lemmas.proofs.Lists.{differ}
 use Rattle.world_law.specs.world.{Moves.IsWithout, World.{AtPort, OnWire, port_place, wire_place}}
-use Rattle.world_state.{proofs.queue_lemmas.Bags.in_permuted, specs.{queue.Places.numbers_of, declared.queue.{Entry.Entry, Place.Place}}}
-use Rattle.world_state.specs.{Sound.{AreUnderWay, rank_of}, Views.{at_port, on_wire, port_at, wire_at}, declared.contents.Content.Content}
-use Rattle.world_state.specs.declared.contents.Content.TheVariants.{Port, Wire}
+use Rattle.world_state.{proofs.queue_lemmas.Bags.in_permuted, specs.{Sound.{AreUnderWay, rank_of}, declared.queue.Entry.Entry, queue.Places.numbers_of}}
+use Rattle.world_state.specs.{Views.{at_port, on_wire, port_at, wire_at}, declared.{contents.Content.{Content, TheVariants.{Port, Wire}}, queue.DueAt.DueAt}}
 
 abbrev pub place_numbers : Entry Content → List ℕ
 place_numbers e = numbers_of e.place
 
 -- the place of what is at a port
-pub port_numbers : (place : Place) (content : Content) (x : AtPort) → port_at place content ≡ Some x → place.rank ≡ rank_of content
+pub port_numbers : (place : DueAt) (content : Content) (x : AtPort) → port_at place content ≡ Some x → place.rank ≡ rank_of content
     → port_place x ≡ numbers_of place
 port_numbers place (Wire signal) x is kind = absurd cc
 port_numbers place (Port frame given) x is kind =
     ap port_place (sym (same_Some _ _ is)) ∙ ap (λ (r : ℕ). place.at ∷ r ∷ place.device ∷ place.link ∷ place.cause ∷ []) (sym kind)
 
 -- and of what is on a wire
-pub wire_numbers : (network : Network) (place : Place) (content : Content) (x : OnWire) → wire_at network place content ≡ Some x
+pub wire_numbers : (network : Network) (place : DueAt) (content : Content) (x : OnWire) → wire_at network place content ≡ Some x
     → place.rank ≡ rank_of content → wire_place x ≡ numbers_of place
 wire_numbers network place (Port frame given) x is kind = absurd cc
 wire_numbers network place (Wire signal) x is kind =

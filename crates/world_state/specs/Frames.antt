@@ -1,11 +1,10 @@
 -- The frames that wait at devices: each device has a queue of its own.
-use Rattle.std.specs.Option.{option_map_or}
+use Rattle.std.specs.{Option.option_map_or, Prelude.{option_map, pos, slice_get, ℕ}}
 use Rattle.std.specs.Prelude.{◌∷◌, ◌≡◌, ◌≤ℤ◌, IsPermutation, List, None, Option, Some, flat_map, map, option_and_then}
-use Rattle.std.specs.Prelude.{option_map, pos, slice_get, ℕ}
 use Rattle.net_plan.specs.declared.ids.DeviceId.{DeviceId}
 use Rattle.run_law.specs.{declared.note.NoteBody.NoteBody, records.Order.{IsBefore, IsIn}}
 use Rattle.tte_units.specs.Amount.{amount}
-use Rattle.world_state.specs.{queue.Places.first_entry, queue.Queues.Queue, declared.queue.{Entry.Entry, Place.Place}}
+use Rattle.world_state.specs.{queue.Places.first_entry, queue.Queues.Queue, declared.queue.{Entry.Entry, DueAt.DueAt}}
 use Rattle.world_state.specs.{Ripening.ripe_numbers, declared.contents.Waits.Waits}
 use Rattle.run_law.specs.declared.note.NoteBody.TheVariants as kinds
 
@@ -35,7 +34,7 @@ abbrev pub room_of : Waiting → ℕ → ℕ
 room_of waiting device = option_map_or (λ (q : Queue Waits). q.room) (slice_get waiting.queues device) 0
 
 -- its place in the queue of its device
-abbrev pub queue_place : Waits → Place
+abbrev pub queue_place : Waits → DueAt
 queue_place w = record { at = amount w.point; rank = 0; device = w.frame.members.0; link = w.link.0; cause = w.cause }
 
 -- what is in the queue of a device is a frame that waits at it, at its place

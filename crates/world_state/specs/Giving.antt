@@ -4,16 +4,14 @@ use Rattle.std.specs.Prelude.{if◌then◌else◌, ◌&&◌, ◌+◌, ◌<◌, �
 use Rattle.std.specs.Prelude.{length, not, option_and_then, option_map, pos, slice_get, true, ℕ}
 use Rattle.net_plan.specs.{Rules.IsChildOf, declared.{ids.{DeviceId.DeviceId, LinkId.LinkId}, network.Network.Network}}
 use Rattle.pcf_values.specs.declared.pcf.Pcf.{Pcf}
-use Rattle.run_law.specs.control.{Leaving.Gives, Permanence.waits_for, Wires.{time_on_port, timed}}
-use Rattle.run_law.specs.{declared.note.NoteBody.NoteBody, records.Order.IsIn}
-use Rattle.run_law.specs.scenario.Devices.{IsParentOf, is_parent_of}
-use Rattle.run_law.specs.scenario.Ways.{receiver_of, way_from}
+use Rattle.run_law.specs.{control.Leaving.Gives, records.Order.IsIn}
+use Rattle.run_law.specs.{control.{Permanence.waits_for, Wires.{time_on_port, timed}}, declared.note.NoteBody.NoteBody}
+use Rattle.run_law.specs.scenario.{Devices.{IsParentOf, is_parent_of}, Ways.{receiver_of, way_from}}
 use Rattle.transparent_clock.specs.Points.{point_of}
 use Rattle.tte_units.specs.Amount.{amount}
-use Rattle.world_state.specs.declared.queue.{Entry.Entry, Place.Place}
-use Rattle.world_state.specs.{Views.octets_of, declared.contents.Content.{Content, TheVariants.{Port, Wire}}}
-use Rattle.world_state.specs.declared.{contents.{Timed.Timed, Waits.Waits, WayState.WayState}, giving.Ends.Ends}
-use Rattle.world_state.specs.declared.giving.Giving.{Giving}
+use Rattle.world_state.specs.{Views.octets_of, declared.{giving.Ends.Ends, queue.Entry.Entry}}
+use Rattle.world_state.specs.declared.contents.{Content.{Content, TheVariants.{Port, Wire}}, WayState.WayState}
+use Rattle.world_state.specs.declared.{contents.{Timed.Timed, Waits.Waits}, giving.Giving.Giving, queue.DueAt.DueAt}
 use Rattle.world_state.specs.declared.contents.Signal.TheVariants as signals
 use Rattle.run_law.specs.declared.note.NoteBody.TheVariants as kinds
 
@@ -33,7 +31,7 @@ IsGivenBy network ends device link =
     ((ends.up ≡ true) × IsChildOf network device link) ⊎ ((ends.down ≡ true) × IsParentOf network device link)
 
 -- where it is at the port
-abbrev pub place_at_port : Network → List WayState → List WayState → Giving → LinkId → Place
+abbrev pub place_at_port : Network → List WayState → List WayState → Giving → LinkId → DueAt
 place_at_port network ups downs giving link = record {
   at = giving.time + hold_by network ups downs giving.device link;
   rank = 8;
@@ -67,7 +65,7 @@ delay_by network ups downs device link =
     option_map_or (λ w. w.delay) (slice_get (if is_parent_of network device link then downs else ups) link.0) 0
 
 -- where what the device sends on the link arrives, where it is so long on the port
-abbrev pub place_on_wire : Network → List WayState → List WayState → DeviceId → LinkId → ℕ → ℕ → ℕ → Option Place
+abbrev pub place_on_wire : Network → List WayState → List WayState → DeviceId → LinkId → ℕ → ℕ → ℕ → Option DueAt
 place_on_wire network ups downs device link time on_port number =
     option_map
     (λ receiver. record {
@@ -79,10 +77,10 @@ place_on_wire network ups downs device link time on_port number =
     })
     (receiver_of network link (way_from network device link))
 
-abbrev pub control_on_wire : Pcf → Place → Entry Content
+abbrev pub control_on_wire : Pcf → DueAt → Entry Content
 control_on_wire frame place = record { place = place; content = Wire (signals.Control frame) }
 
-abbrev pub timed_on_wire : Timed → Place → Entry Content
+abbrev pub timed_on_wire : Timed → DueAt → Entry Content
 timed_on_wire octets place = record { place = place; content = Wire (signals.Timed octets) }
 
 -- what the record of this number, given at the time, puts on a wire

@@ -5,9 +5,8 @@ use Rattle.pcf_values.specs.declared.pcf.Pcf.{Pcf}
 use Rattle.run_law.specs.{control.Wires.{Signal, signal_of, timed}, declared.steps.{Arrival.Arrival, Moment.Moment}}
 use Rattle.run_law.specs.machines.{Calls.{HasLink, MayArrive, MayCall}, Nodes.{Node, arriving}}
 use Rattle.world_law.specs.world.Outcomes.{arrival_body}
-use Rattle.world_state.specs.declared.queue.Place.{Place}
-use Rattle.world_state.specs.{Views.octets_of, declared.contents.{Settled.Settled, Signal.Signal as SignalSent}}
-use Rattle.world_state.specs.declared.contents.Timed.{Timed, TheVariants.Sent}
+use Rattle.world_state.specs.{Views.octets_of, declared.{contents.Timed.Timed, queue.DueAt.DueAt}}
+use Rattle.world_state.specs.declared.contents.{Settled.Settled, Signal.{Signal as SignalSent}, Timed.TheVariants.Sent}
 use Rattle.run_law.specs.declared.steps.Arrival.TheVariants as arrivals
 use Rattle.world_state.specs.declared.contents.Signal.TheVariants as signals
 
@@ -52,7 +51,7 @@ octets_kept (arrivals.Delivered vl cycle) signal = timed_in signal
 octets_kept other signal = None
 
 -- the record
-abbrev pub arrived : Place → Arrival → SignalSent → Settled
+abbrev pub arrived : DueAt → Arrival → SignalSent → Settled
 arrived place is signal = record {
   body = arrival_body (record { 0 = place.device }) (record { 0 = place.link }) place.cause is;
   frame = frame_kept is;

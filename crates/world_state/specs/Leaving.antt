@@ -6,11 +6,10 @@ use Rattle.run_law.specs.{control.Leaving.{Departure, leaves, on_cut_way, too_ol
 use Rattle.run_law.specs.scenario.{Scenarios.{Scenario, is_broken}, Ways.{is_cut, way_from}}
 use Rattle.tte_units.specs.Amount.{amount}
 use Rattle.world_law.specs.world.{Outcomes.departure_body, World.AtPort}
-use Rattle.world_state.specs.declared.queue.Place.{Place}
-use Rattle.world_state.specs.declared.contents.Settled.{Settled}
+use Rattle.world_state.specs.declared.{contents.Settled.Settled, queue.DueAt.DueAt}
 
 -- what is at the port
-abbrev pub port_entry : Place → Pcf → ℕ → AtPort
+abbrev pub port_entry : DueAt → Pcf → ℕ → AtPort
 port_entry place frame given = record {
   at = place.at;
   device = record { 0 = place.device };

@@ -1,7 +1,6 @@
 -- The frames that switches hold: each switch has a shelf of its own, with a place for each virtual link.
-use Rattle.std.specs.Option.{option_map_or}
+use Rattle.std.specs.{Option.option_map_or, Prelude.{slice_get, ℕ}}
 use Rattle.std.specs.Prelude.{◌<◌, ◌≡◌, List, None, Option, Some, flat_map, length, option_and_then, option_to_list}
-use Rattle.std.specs.Prelude.{slice_get, ℕ}
 use Rattle.run_law.specs.{declared.note.NoteBody.NoteBody, records.Order.IsIn}
 use Rattle.world_state.specs.declared.contents.{Holding.Holding, Spot.Spot}
 use Rattle.run_law.specs.declared.note.NoteBody.TheVariants as kinds

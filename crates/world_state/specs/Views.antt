@@ -5,10 +5,9 @@ use Rattle.run_law.specs.{control.Wires.{Signal, control, signal_of, timed}, rec
 use Rattle.run_law.specs.records.Happenings.{Happening}
 use Rattle.tte_units.specs.Amount.{units_of}
 use Rattle.world_law.specs.world.World.{AtPort, Befell, OnWire, Stored, Waiting, WayNow}
-use Rattle.world_state.specs.declared.queue.{Entry.Entry, Place.Place}
-use Rattle.world_state.specs.declared.contents.{Befallen.Befallen, Content.{Content, TheVariants.{Port, Wire}}}
-use Rattle.world_state.specs.declared.contents.{Holding.Holding, Settled.Settled, Signal.Signal as Sent, Timed.Timed}
-use Rattle.world_state.specs.declared.contents.{Waits.Waits, WayState.WayState}
+use Rattle.world_state.specs.declared.contents.{Befallen.Befallen, Holding.Holding, Settled.Settled, WayState.WayState}
+use Rattle.world_state.specs.declared.contents.{Content.{Content, TheVariants.{Port, Wire}}, Signal.{Signal as Sent}}
+use Rattle.world_state.specs.declared.{contents.{Timed.Timed, Waits.Waits}, queue.{DueAt.DueAt, Entry.Entry}}
 use Rattle.world_state.specs.declared.contents.Signal.TheVariants as signals
 use Rattle.world_state.specs.declared.contents.Timed.TheVariants as octets
 
@@ -24,7 +23,7 @@ signal_as network (signals.Timed octets) = timed (octets_of network octets)
 signal_as network (signals.Octets given) = signal_of given
 
 -- what is on a wire
-abbrev pub wire_at : Network → Place → Content → Option OnWire
+abbrev pub wire_at : Network → DueAt → Content → Option OnWire
 wire_at network place (Wire signal) = Some (record {
   at = place.at;
   device = record { 0 = place.device };
@@ -38,7 +37,7 @@ abbrev pub on_wire : Network → Entry Content → Option OnWire
 on_wire network e = wire_at network e.place e.content
 
 -- what is at a port
-abbrev pub port_at : Place → Content → Option AtPort
+abbrev pub port_at : DueAt → Content → Option AtPort
 port_at place (Wire signal) = None
 port_at place (Port frame reading) = Some (record {
   at = place.at;

@@ -1,7 +1,6 @@
-ghost use Rattle.std.specs.List.{list_any};
+ghost use Rattle.std.specs.{List.list_any, Prelude.{unsigned_abs, ℕ}};
 ghost use Rattle.std.specs.Prelude.{◌*◌, ◌++◌, ◌+◌, ◌<◌, ◌==◌, ◌^◌, ◌||◌, ◌≡◌, ◌≢◌, ◌≤ℤ◌, ◌≤◌, All, Bool, IfNone};
 ghost use Rattle.std.specs.Prelude.{IfSome, OnErr, OnOk, Some, false, filter, length, map, not, pos, slice_get};
-ghost use Rattle.std.specs.Prelude.{unsigned_abs, ℕ};
 ghost use Rattle.net_plan.specs.declared.{ids.{DeviceId.DeviceId, LinkId.LinkId}, network.Network.Network};
 ghost use Rattle.net_plan.specs.declared.tables.Way.{Way as WayOf};
 ghost use Rattle.run_law.specs.{machines.Nodes.Node, scenario.{Hypothesis.breaks_at, Scenarios.turns_on, Ways.is_way}};

@@ -1,19 +1,18 @@
 ghost use Rattle.std.specs.Prelude.{◌≡◌, [], ◌+◌, ◌<◌, ◌≤◌, ◌^◌, All, length, OnOk};
 ghost use Rattle.std.specs.VecDeque.{deque_capacity, deque_len};
-ghost use Rattle.run_law.specs.control.Wires.{signal_of, time_on_port};
-ghost use Rattle.plain_notes.specs.Bodies.{body_of};
+ghost use Rattle.run_law.specs.{control.Wires.{signal_of, time_on_port}, plain.Bodies.body_of};
 ghost use Rattle.world_state.specs.Befalling.{AreSettledBy, bare, entry_of, lost_on, record_of, sent_up, turned_on};
 
 use crate::OutOfMemory;
 use crate::contents::{Befallen, Content, Settled, Signal, WayState};
 use crate::packets::{Happened, Happening, Packet};
-use crate::queue::{Entry, Place, UnderWay};
+use crate::queue::{DueAt, Entry, UnderWay};
 use crate::sending::{frame_time, put_on};
 use crate::settled::put_some;
 use net_plan::{DeviceId, Link, LinkId, Network};
 use pcf_codec::is_pcf;
-use plain_notes::{Body, Kind, Rank};
 use run_law::Why;
+use run_law::plain::{PlainBody, PlainKind, Rank};
 use std::collections::VecDeque;
 use std::mem::replace;
 
@@ -31,11 +30,11 @@ fn port_time(network: &Network, link: LinkId, given: &[u8]) -> u64
 }
 
 /// A record that has neither a frame nor octets.
-fn bare(kind: Kind) -> Settled
+fn bare(kind: PlainKind) -> Settled
     ensures { result ≡ bare (body_of kind) }
 {
     Settled {
-        body: Body { kind },
+        body: PlainBody { kind },
         frame: None,
         octets: None,
     }
@@ -48,7 +47,7 @@ fn turned_on(number: u64, device: DeviceId, broken: bool) -> Option<Settled>
     if broken {
         return None;
     }
-    Some(bare(Kind::State {
+    Some(bare(PlainKind::State {
         device,
         state: sync_state::State::Integrating,
         cause: number,
@@ -63,7 +62,7 @@ fn lost_on(number: u64, link: LinkId, found: &Link, way: WayState) -> Option<Set
     if !way.cut {
         return None;
     }
-    Some(bare(Kind::Lost {
+    Some(bare(PlainKind::Lost {
         device: found.child,
         link,
         cause: number,
@@ -107,7 +106,7 @@ fn sent_up(
     if way.cut {
         return None;
     }
-    let place = Place {
+    let place = DueAt {
         at: time + port_time(network, link, given.as_slice()) + way.delay,
         rank: Rank::Arrived.number(),
         device: found.parent.0,

@@ -1,7 +1,7 @@
 use crate::packets::{Happened, Packet};
 use net_plan::{DeviceId, LinkId, VlId};
 use pcf_values::Pcf;
-use plain_notes::Body;
+use run_law::plain::PlainBody;
 use tte_units::Units;
 
 /// How a way of a link is at present. Times are in units of 2^-16 ns.
@@ -94,7 +94,7 @@ pub struct Befallen {
 #[derive(Drop)]
 pub struct Settled {
     /// What it says.
-    pub body: Body,
+    pub body: PlainBody,
     /// Its frame, where it is of a control frame.
     pub frame: Option<Pcf>,
     /// Its octets, where it is of a frame of the schedule.

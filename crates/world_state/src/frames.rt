@@ -4,7 +4,7 @@ ghost use Rattle.run_law.specs.scenario.Hypothesis.{breaks_at};
 ghost use Rattle.world_state.specs.Frames.{IsFirstAt, NoneAt, first_of, queue_place, room_of};
 
 use crate::contents::Waits;
-use crate::queue::{Place, UnderWay};
+use crate::queue::{DueAt, UnderWay};
 use net_plan::DeviceId;
 use std::alloc::{AllocError, Global};
 use std::marker::Model;
@@ -27,10 +27,10 @@ impl Model for Frames {
 }
 
 /// Where a frame stands in the queue of its device.
-fn place_of(waits: &Waits) -> Place
+fn place_of(waits: &Waits) -> DueAt
     ensures { result ≡ queue_place waits.now }
 {
-    Place {
+    DueAt {
         at: waits.point.0.unsigned_abs(),
         rank: 0,
         device: waits.frame.members.0,

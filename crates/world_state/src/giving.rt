@@ -3,20 +3,19 @@ ghost use Rattle.std.specs.Prelude.{Some, false, length};
 ghost use Rattle.net_plan.specs.{Ranges.IsInRange, Rules.IsChildOf, declared.ids.LinkId.LinkId as LinkOf};
 ghost use Rattle.run_law.specs.{control.Leaving.{Gives, Passes}, scenario.Devices.{IsParentOf, is_relay}};
 ghost use Rattle.tte_units.specs.Amount.{amount};
-ghost use Rattle.world_state.specs.Frames.{IsOneMore, room_of, waiter_of};
+ghost use Rattle.world_state.specs.{Frames.{IsOneMore, room_of, waiter_of}, Sound.{AreBelow, AreUnderWay}};
 ghost use Rattle.world_state.specs.Giving.{ArePutTo, CameBy, IsGivenBy, IsYoung, awaited_by, place_at_port};
 ghost use Rattle.world_state.specs.Shelves.{HasPlace};
-ghost use Rattle.world_state.specs.Sound.{AreBelow, AreUnderWay};
 
 use crate::OutOfMemory;
 use crate::contents::{Content, Spot, WayState};
 use crate::frames::Frames;
-use crate::queue::{Place, UnderWay};
+use crate::queue::{DueAt, UnderWay};
 use crate::shelves::Shelves;
 use crate::waiting::{awaited, wait_for};
 use net_plan::{DeviceId, LinkId, Network, Role};
 use pcf_values::Pcf;
-use plain_notes::{Body, Kind, Rank};
+use run_law::plain::{PlainBody, PlainKind, Rank};
 
 /// Does the link lead from the device up to its parent?
 fn is_child(network: &Network, device: DeviceId, link: LinkId) -> bool
@@ -62,20 +61,20 @@ fn both(one: bool, other: bool) -> bool
 }
 
 /// To which of its links the device gives the frame of the record.
-fn ends_of(network: &Network, body: &Body, device: DeviceId) -> Ends
+fn ends_of(network: &Network, body: &PlainBody, device: DeviceId) -> Ends
     requires by { CameBy (length network.now.link) body.now }
     ensures { (link : LinkOf) → Gives network.now body.now device link ↔ IsGivenBy network.now result device link }
 {
     match &body.kind {
-        Kind::Sent { device: master, .. } => Ends {
+        PlainKind::Sent { device: master, .. } => Ends {
             up: device == *master,
             down: false,
         },
-        Kind::Compressed { device: cm, .. } => Ends {
+        PlainKind::Compressed { device: cm, .. } => Ends {
             up: false,
             down: device == *cm,
         },
-        Kind::Arrived {
+        PlainKind::Arrived {
             device: relay,
             link: by,
             ..
@@ -132,7 +131,7 @@ fn port_place(
     downs: &[WayState],
     giving: &Giving,
     link: LinkId,
-) -> Place
+) -> DueAt
     requires link { link.0 < length network.now.link }
     requires ups { length ups.now ≡ length network.now.link }
     requires downs { length downs.now ≡ length network.now.link }
@@ -146,7 +145,7 @@ fn port_place(
     } else {
         ups[link.0 as usize]
     };
-    Place {
+    DueAt {
         at: giving.time + way.hold,
         rank: Rank::Left.number(),
         device: giving.device.0,
@@ -168,7 +167,7 @@ pub fn put_ports(
     network: &Network,
     ups: &[WayState],
     downs: &[WayState],
-    body: &Body,
+    body: &PlainBody,
     giving: &Giving,
 )
     requires by { CameBy (length network.now.link) body.now }
@@ -207,7 +206,7 @@ pub fn give_frame(
     network: &Network,
     ups: &[WayState],
     downs: &[WayState],
-    body: &Body,
+    body: &PlainBody,
     giving: Option<Giving>,
 )
     requires range { IsInRange network.now }

@@ -6,7 +6,7 @@ use crate::outcomes::bare;
 use crate::packets::Packet;
 use crate::shelves::Shelves;
 use net_plan::DeviceId;
-use plain_notes::{Body, Kind};
+use run_law::plain::{PlainBody, PlainKind};
 use schedule_tables::Entry;
 
 /// The frame of a row that a device has at hand, and the number of the record by which a switch took it, or 0 at its
@@ -70,15 +70,15 @@ pub fn dispatched(cut: bool, device: DeviceId, entry: &Entry, cycle: u32, hand: 
     ensures { result ≡ dispatched_by cut device entry.now cycle hand }
 {
     if cut {
-        return bare(Kind::Lost {
+        return bare(PlainKind::Lost {
             device,
             link: entry.row.link,
             cause: hand.cause,
         });
     }
     Settled {
-        body: Body {
-            kind: Kind::TtSent {
+        body: PlainBody {
+            kind: PlainKind::TtSent {
                 device,
                 link: entry.row.link,
                 cause: hand.cause,

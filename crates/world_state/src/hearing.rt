@@ -1,26 +1,25 @@
 ghost use Rattle.std.specs.Prelude.{◌+◌, ◌<◌, ◌∷◌, ◌≡◌, IsPermutation, List, ℕ};
 ghost use Rattle.net_plan.specs.{Ranges.IsInRange, declared.ids.DeviceId.DeviceId as DeviceOf};
 ghost use Rattle.net_plan.specs.declared.network.Network.{Network as NetworkValue};
-ghost use Rattle.run_law.specs.{control.Wires.{signal_of, timed}, machines.Calls.StandsFor};
+ghost use Rattle.run_law.specs.{control.Wires.{signal_of, timed}, machines.Calls.StandsFor, plain.Bodies.body_of};
 ghost use Rattle.world_law.specs.world.{Calls.HasHeard, Outcomes.arrival_body};
 ghost use Rattle.world_state.specs.queue.Places.{IsFirst};
-ghost use Rattle.plain_notes.specs.Bodies.{body_of};
 ghost use Rattle.world_state.specs.Hearing.{AreOctetsOf, IsAsSent, MayCome, arrived, frame_kept, octets_kept, timed_in};
 ghost use Rattle.world_state.specs.{Keeping.keeps, Sound.{AreUnderWay, rank_of}, Views.{octets_of, signal_as}};
 
 use crate::contents::{Content, Settled, Signal, Timed};
 use crate::kept::Kept;
-use crate::queue::{Place, UnderWay};
-use made_frames::MadeFrame;
+use crate::queue::{DueAt, UnderWay};
+use device_rules::frames::MadeFrame;
 use net_plan::{DeviceId, LinkId, Network};
 use pcf_codec::{PCF_LENGTH, encode};
 use pcf_values::Pcf;
-use plain_notes::{Body, Kind};
+use run_law::plain::{PlainBody, PlainKind};
 use run_law::{Arrival, Machine, Moment};
 
 /// Takes out what is on a wire and the first of all that is under way.
 #[inline(always)]
-pub fn take_wire(under_way: &mut UnderWay<Content>, place: Place) -> Signal
+pub fn take_wire(under_way: &mut UnderWay<Content>, place: DueAt) -> Signal
     requires first { IsFirst under_way.old.entries place }
     requires sound { (network : NetworkValue) × AreUnderWay network under_way.old.entries }
     requires wire { place.rank ≡ 2 }
@@ -98,7 +97,7 @@ pub fn hear_signal<M: Machine + Drop>(
 }
 
 /// What the record of it says.
-fn kind_of(place: Place, arrival: &Arrival) -> Kind
+fn kind_of(place: DueAt, arrival: &Arrival) -> PlainKind
     ensures { body_of result
         ≡ arrival_body (record { 0 = place.device }) (record { 0 = place.link }) place.cause arrival.now }
 {
@@ -106,7 +105,7 @@ fn kind_of(place: Place, arrival: &Arrival) -> Kind
     let link = LinkId(place.link);
     let cause = place.cause;
     match arrival {
-        Arrival::Dropped(reason) => Kind::Dropped {
+        Arrival::Dropped(reason) => PlainKind::Dropped {
             device,
             link,
             cause,
@@ -114,20 +113,20 @@ fn kind_of(place: Place, arrival: &Arrival) -> Kind
         },
         Arrival::Waits(frame, _)
         | Arrival::Passes(frame, _)
-        | Arrival::PassesAndWaits(frame, _, _) => Kind::Arrived {
+        | Arrival::PassesAndWaits(frame, _, _) => PlainKind::Arrived {
             device,
             link,
             cause,
             clock: frame.clock,
         },
-        Arrival::Accepted(vl, cycle) => Kind::Accepted {
+        Arrival::Accepted(vl, cycle) => PlainKind::Accepted {
             device,
             link,
             cause,
             vl: *vl,
             cycle: *cycle,
         },
-        Arrival::Delivered(vl, cycle) => Kind::Delivered {
+        Arrival::Delivered(vl, cycle) => PlainKind::Delivered {
             device,
             link,
             cause,
@@ -175,14 +174,14 @@ fn octets_for(arrival: &Arrival, signal: Signal) -> Option<Timed>
 
 /// The record of what becomes of what was on the wire.
 #[inline(always)]
-pub fn arrived(place: Place, arrival: &Arrival, signal: Signal) -> Settled
+pub fn arrived(place: DueAt, arrival: &Arrival, signal: Signal) -> Settled
     ensures { result ≡ arrived place arrival.now signal }
 {
     let octets = octets_for(arrival, signal);
     let frame = frame_of(arrival);
     let kind = kind_of(place, arrival);
     Settled {
-        body: Body { kind },
+        body: PlainBody { kind },
         frame,
         octets,
     }

@@ -1,21 +1,19 @@
 ghost use Rattle.std.specs.Prelude.{◌<◌, ◌∷◌, ◌≡◌, IsPermutation, None, length};
 ghost use Rattle.net_plan.specs.{Ranges.IsInRange, declared.network.Network.Network as NetworkValue};
-ghost use Rattle.run_law.specs.{records.Happenings.with_clock, scenario.Devices.is_parent_of};
-ghost use Rattle.world_state.specs.queue.Places.{IsFirst};
-ghost use Rattle.world_state.specs.{Leaving.{departed, port_entry}, Sound.{AreUnderWay, rank_of}};
-ghost use Rattle.plain_notes.specs.Bodies.{body_of};
+ghost use Rattle.run_law.specs.{plain.Bodies.body_of, records.Happenings.with_clock, scenario.Devices.is_parent_of};
+ghost use Rattle.world_state.specs.{Leaving.{departed, port_entry}, Sound.{AreUnderWay, rank_of}, queue.Places.IsFirst};
 
 use crate::contents::{Content, Settled};
-use crate::queue::{Place, UnderWay};
+use crate::queue::{DueAt, UnderWay};
 use net_plan::{DeviceId, LinkId, Network};
 use pcf_values::Pcf;
-use plain_notes::{Body, Kind};
 use run_law::Reason;
+use run_law::plain::{PlainBody, PlainKind};
 
 /// Takes the frame out that is at a port, and the first of all that is under way; and what its device's clock read
 /// when it gave the frame to the link.
 #[inline(always)]
-pub fn take_port(under_way: &mut UnderWay<Content>, place: Place) -> (Pcf, u64)
+pub fn take_port(under_way: &mut UnderWay<Content>, place: DueAt) -> (Pcf, u64)
     requires first { IsFirst under_way.old.entries place }
     requires sound { (network : NetworkValue) × AreUnderWay network under_way.old.entries }
     requires port { place.rank ≡ 8 }
@@ -45,7 +43,7 @@ pub fn departed(
     network: &Network,
     reading: u64,
     cut: bool,
-    place: Place,
+    place: DueAt,
     frame: Pcf,
     given: u64,
 ) -> Settled
@@ -57,7 +55,7 @@ pub fn departed(
     let cause = place.cause;
     let clock = u128::from(frame.clock) + u128::from(reading.saturating_sub(given));
     if clock > u128::from(network.dmax.amount()) {
-        return dropped(Kind::Dropped {
+        return dropped(PlainKind::Dropped {
             device,
             link,
             cause,
@@ -65,7 +63,7 @@ pub fn departed(
         });
     }
     if cut {
-        return dropped(Kind::Lost {
+        return dropped(PlainKind::Lost {
             device,
             link,
             cause,
@@ -73,8 +71,8 @@ pub fn departed(
     }
     let clock = clock as u64;
     Settled {
-        body: Body {
-            kind: Kind::Left {
+        body: PlainBody {
+            kind: PlainKind::Left {
                 device,
                 link,
                 cause,
@@ -86,11 +84,11 @@ pub fn departed(
     }
 }
 
-fn dropped(kind: Kind) -> Settled
+fn dropped(kind: PlainKind) -> Settled
     ensures { result ≡ record { body = body_of kind; frame = None; octets = None } }
 {
     Settled {
-        body: Body { kind },
+        body: PlainBody { kind },
         frame: None,
         octets: None,
     }

@@ -5,7 +5,7 @@ ghost use Rattle.world_law.specs.world.Moves.{follows};
 
 use crate::contents::Settled;
 use net_plan::DeviceId;
-use plain_notes::{Body, Kind};
+use run_law::plain::{PlainBody, PlainKind};
 use run_law::{Judgement, Why};
 use std::collections::VecDeque;
 
@@ -13,16 +13,16 @@ use std::collections::VecDeque;
 pub const NONE_YET: u64 = u64::MAX;
 
 /// Does the record say that the device is told the time?
-fn does_join(first: &Body, device: DeviceId) -> bool
+fn does_join(first: &PlainBody, device: DeviceId) -> bool
     ensures { result ≡ is_joined_by device first.now }
 {
     match &first.kind {
-        Kind::Permanent {
+        PlainKind::Permanent {
             device: other,
             verdict: Judgement::Integrates,
             ..
         } => device.0 == other.0,
-        Kind::Compressed {
+        PlainKind::Compressed {
             device: other,
             verdict: Judgement::Integrates,
             ..
@@ -32,24 +32,24 @@ fn does_join(first: &Body, device: DeviceId) -> bool
 }
 
 /// May a change of a device's state follow the record?
-fn may_lead(first: &Body) -> bool
+fn may_lead(first: &PlainBody) -> bool
     ensures { result ≡ false → LeadsNowhere first.now }
 {
     match &first.kind {
-        Kind::Corrected { .. } => true,
-        Kind::Permanent { verdict, .. } => matches!(verdict, Judgement::Integrates),
-        Kind::Compressed { verdict, .. } => matches!(verdict, Judgement::Integrates),
+        PlainKind::Corrected { .. } => true,
+        PlainKind::Permanent { verdict, .. } => matches!(verdict, Judgement::Integrates),
+        PlainKind::Compressed { verdict, .. } => matches!(verdict, Judgement::Integrates),
         _ => false,
     }
 }
 
 /// Does a change of the device's state for this reason follow the record?
-fn does_follow(first: &Body, device: DeviceId, why: Why) -> bool
+fn does_follow(first: &PlainBody, device: DeviceId, why: Why) -> bool
     ensures { result ≡ follows first.now device why }
 {
     match why {
         Why::Correction => match &first.kind {
-            Kind::Corrected { device: other, .. } => device.0 == other.0,
+            PlainKind::Corrected { device: other, .. } => device.0 == other.0,
             _ => false,
         },
         Why::Frame => does_join(first, device),
@@ -58,11 +58,11 @@ fn does_follow(first: &Body, device: DeviceId, why: Why) -> bool
 }
 
 /// Gives what follows the first record its number as its cause.
-fn name(one: &mut Settled, number: u64, first: &Body)
+fn name(one: &mut Settled, number: u64, first: &PlainBody)
     ensures { one.new ≡ named_settled number first.now one.old }
 {
     let body = &mut one.body;
-    if let Kind::State {
+    if let PlainKind::State {
         device,
         cause,
         why,
@@ -77,7 +77,7 @@ fn name(one: &mut Settled, number: u64, first: &Body)
 
 /// Gives each that follows the first record its number as its cause.
 #[inline(always)]
-pub fn name_followers(settled: &mut VecDeque<Settled>, number: u64, first: &Body)
+pub fn name_followers(settled: &mut VecDeque<Settled>, number: u64, first: &PlainBody)
     ensures { settled.new.items ≡ map (named_settled number first.now) settled.old.items }
 {
     if !may_lead(first) {

@@ -3,17 +3,17 @@ ghost use Rattle.net_plan.specs.declared.network.Network.{Network};
 ghost use Rattle.world_law.specs.world.Outcomes.{judged_as};
 ghost use Rattle.world_state.specs.Acting.{bare, clique_by, corrected_by, emitted_by, first_by, framed, joined_by};
 ghost use Rattle.world_state.specs.{Acting.sent_by, Places.IsSomePut};
-ghost use Rattle.plain_notes.specs.Bodies.{body_of};
+ghost use Rattle.run_law.specs.plain.Bodies.{body_of};
 ghost use Rattle.world_state.specs.declared.contents.Settled.{Settled as SettledValue};
 
 use crate::contents::Settled;
 use crate::naming::NONE_YET;
 use crate::settled::put_some;
 use compression::Compressed;
-use made_frames::integration_frame;
+use device_rules::frames::integration_frame;
 use net_plan::{DeviceId, Network};
 use pcf_values::Pcf;
-use plain_notes::{Body, Kind};
+use run_law::plain::{PlainBody, PlainKind};
 use run_law::{Judgement, Ripe, Why};
 use std::collections::VecDeque;
 use sync_state::{State, Verdict};
@@ -29,22 +29,22 @@ pub struct Outcomes {
 }
 
 /// A record that is of no frame.
-pub fn bare(kind: Kind) -> Settled
+pub fn bare(kind: PlainKind) -> Settled
     ensures { result ≡ bare (body_of kind) }
 {
     Settled {
-        body: Body { kind },
+        body: PlainBody { kind },
         frame: None,
         octets: None,
     }
 }
 
 /// A record of a control frame.
-fn framed(kind: Kind, frame: Pcf) -> Settled
+fn framed(kind: PlainKind, frame: Pcf) -> Settled
     ensures { result ≡ framed (body_of kind) frame }
 {
     Settled {
-        body: Body { kind },
+        body: PlainBody { kind },
         frame: Some(frame),
         octets: None,
     }
@@ -55,7 +55,7 @@ fn framed(kind: Kind, frame: Pcf) -> Settled
 pub fn sent(device: DeviceId, frame: Pcf) -> Outcomes
     ensures { result ≡ sent_by device frame }
 {
-    let kind = Kind::Sent {
+    let kind = PlainKind::Sent {
         device,
         cycle: frame.cycle,
     };
@@ -85,7 +85,7 @@ fn joined(device: DeviceId, heard: Ripe) -> Option<Settled>
     ensures { result ≡ joined_by device heard }
 {
     match heard {
-        Ripe::Integrates => Some(bare(Kind::State {
+        Ripe::Integrates => Some(bare(PlainKind::State {
             device,
             state: State::Joining,
             cause: NONE_YET,
@@ -100,7 +100,7 @@ fn joined(device: DeviceId, heard: Ripe) -> Option<Settled>
 pub fn emitted(network: &Network, device: DeviceId, sent: Compressed, heard: Ripe) -> Outcomes
     ensures { result ≡ emitted_by network.now device sent heard }
 {
-    let kind = Kind::Compressed {
+    let kind = PlainKind::Compressed {
         device,
         opened: sent.opened,
         at: sent.at,
@@ -120,7 +120,7 @@ fn first_correction(device: DeviceId, was: State) -> Option<Settled>
     ensures { result ≡ first_by device was }
 {
     match was {
-        State::Joining => Some(bare(Kind::State {
+        State::Joining => Some(bare(PlainKind::State {
             device,
             state: State::Synchronised,
             cause: NONE_YET,
@@ -135,7 +135,7 @@ fn clique(device: DeviceId, why: Why) -> Outcomes
     ensures { result ≡ clique_by device why }
 {
     Outcomes {
-        first: Some(bare(Kind::State {
+        first: Some(bare(PlainKind::State {
             device,
             state: State::Integrating,
             cause: 0,
@@ -158,7 +158,7 @@ pub fn corrected(
 {
     match verdict {
         Verdict::Corrected(by) => Outcomes {
-            first: Some(bare(Kind::Corrected {
+            first: Some(bare(PlainKind::Corrected {
                 device,
                 cycle,
                 by,

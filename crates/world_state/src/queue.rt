@@ -14,7 +14,7 @@ use std::marker::Model;
 
 /// When something is due: its time, its rank at that time, and the numbers that part what is of one rank.
 #[derive(Clone, Copy, Debug, PartialEq, Eq, PartialOrd, Ord)]
-pub struct Place {
+pub struct DueAt {
     pub at: u64,
     pub rank: u8,
     pub device: u32,
@@ -25,14 +25,14 @@ pub struct Place {
 /// What is due, with its place.
 #[derive(Debug, Drop)]
 pub struct Entry<T> {
-    pub place: Place,
+    pub place: DueAt,
     pub content: T,
 }
 
 /// A place, with the slot of what is due there.
 #[derive(Clone, Copy, Debug, PartialEq, Eq, PartialOrd, Ord)]
 struct Slotted {
-    place: Place,
+    place: DueAt,
     slot: usize,
 }
 
@@ -128,7 +128,7 @@ impl<T> UnderWay<T> {
     }
 
     /// Puts one under way, for which there is room.
-    pub fn put(&mut self, place: Place, content: T)
+    pub fn put(&mut self, place: DueAt, content: T)
         requires { 0 < self.old.room }
         ensures entries { IsPermutation (record { place = place; content = content }
             ∷ self.old.entries) self.new.entries }
@@ -139,7 +139,7 @@ impl<T> UnderWay<T> {
     }
 
     /// The place of the first.
-    pub fn first(&self) -> Option<Place>
+    pub fn first(&self) -> Option<DueAt>
         ensures first { IfSome result (λ place. IsFirst self.now.entries place) }
         ensures none { IfNone result (self.now.entries ≡ []) }
     {

@@ -10,7 +10,7 @@ use crate::kept::Kept;
 use crate::settled::{put_in, put_some};
 use net_plan::{DeviceId, LinkId};
 use pcf_values::Pcf;
-use plain_notes::{Body, Kind};
+use run_law::plain::{PlainBody, PlainKind};
 use run_law::{Judgement, Machine, Moment, Reason, Ripe, Why};
 use std::collections::VecDeque;
 use sync_state::State as DeviceState;
@@ -42,8 +42,8 @@ fn judged(waits: &Waits, verdict: Judgement) -> Settled
     ensures { result ≡ judged_so waits.now verdict }
 {
     Settled {
-        body: Body {
-            kind: Kind::Permanent {
+        body: PlainBody {
+            kind: PlainKind::Permanent {
                 device: waits.device,
                 link: waits.link,
                 cause: waits.cause,
@@ -61,8 +61,8 @@ fn dropped(waits: &Waits, reason: Reason) -> Settled
     ensures { result ≡ ripe_record waits.now (Ripe.Dropped reason) }
 {
     Settled {
-        body: Body {
-            kind: Kind::Dropped {
+        body: PlainBody {
+            kind: PlainKind::Dropped {
                 device: waits.device,
                 link: waits.link,
                 cause: waits.cause,
@@ -99,8 +99,8 @@ fn joined(device: DeviceId, ripe: Ripe) -> Option<Settled>
         return None;
     }
     Some(Settled {
-        body: Body {
-            kind: Kind::State {
+        body: PlainBody {
+            kind: PlainKind::State {
                 device,
                 state: DeviceState::Joining,
                 cause: u64::MAX,

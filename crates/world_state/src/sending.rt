@@ -5,10 +5,10 @@ ghost use Rattle.world_state.specs.{Giving.{IsPutOn, place_on_wire, wire_entry},
 
 use crate::contents::{Content, Signal, Timed, WayState};
 use crate::leaving::is_parent;
-use crate::queue::{Entry, Place, UnderWay};
+use crate::queue::{DueAt, Entry, UnderWay};
 use net_plan::{DeviceId, LinkId, Network};
 use pcf_values::Pcf;
-use plain_notes::{Body, Kind, Rank};
+use run_law::plain::{PlainBody, PlainKind, Rank};
 use tte_units::octets;
 
 /// How many octets a frame of the schedule has.
@@ -70,7 +70,7 @@ fn wire_place(
     ups: &[WayState],
     downs: &[WayState],
     sending: Sending,
-) -> Option<Place>
+) -> Option<DueAt>
     requires ups { length ups.now ≡ length network.now.link }
     requires downs { length downs.now ≡ length network.now.link }
     requires up_delays { All (λ w. w.delay < 2 ^ 62) ups.now }
@@ -85,7 +85,7 @@ fn wire_place(
     let found = network.link.as_slice().get(index)?;
     let sent = sending.time + sending.on_port;
     if is_parent(network, sending.device, link) {
-        Some(Place {
+        Some(DueAt {
             at: sent + downs[index].delay,
             rank: Rank::Arrived.number(),
             device: found.child.0,
@@ -93,7 +93,7 @@ fn wire_place(
             cause: sending.number,
         })
     } else {
-        Some(Place {
+        Some(DueAt {
             at: sent + ups[index].delay,
             rank: Rank::Arrived.number(),
             device: found.parent.0,
@@ -109,7 +109,7 @@ pub fn sent_by(
     network: &Network,
     ups: &[WayState],
     downs: &[WayState],
-    body: &Body,
+    body: &PlainBody,
     frame: Option<Pcf>,
     octets: Option<Timed>,
     time: u64,
@@ -124,7 +124,7 @@ pub fn sent_by(
     ensures { result ≡ wire_entry network.now ups.now downs.now body.now frame octets time number }
 {
     match &body.kind {
-        Kind::Left { device, link, .. } => {
+        PlainKind::Left { device, link, .. } => {
             let frame = frame?;
             let sending = Sending {
                 device: *device,
@@ -139,7 +139,7 @@ pub fn sent_by(
                 content: Content::Wire(Signal::Control(frame)),
             })
         }
-        Kind::TtSent { device, link, .. } => {
+        PlainKind::TtSent { device, link, .. } => {
             let octets = octets?;
             let sending = Sending {
                 device: *device,

@@ -3,7 +3,7 @@ ghost use Rattle.world_state.specs.{Shelves.{HasPlace, spot_of}, Storing.IsStore
 
 use crate::contents::{Holding, Spot, Timed};
 use crate::shelves::Shelves;
-use plain_notes::{Body, Kind};
+use run_law::plain::{PlainBody, PlainKind};
 
 /// The switch holds the octets that it took by the record of this number, if there are any.
 #[inline(always)]
@@ -22,11 +22,11 @@ pub fn store(stored: &mut Shelves, spot: Spot, octets: Option<Timed>, number: u6
 }
 
 /// Where the frame stands that a switch takes by the record.
-pub fn taker(body: &Body) -> Option<Spot>
+pub fn taker(body: &PlainBody) -> Option<Spot>
     ensures { result ≡ spot_of body.now }
 {
     match &body.kind {
-        Kind::Accepted { device, vl, .. } => Some(Spot {
+        PlainKind::Accepted { device, vl, .. } => Some(Spot {
             device: *device,
             vl: *vl,
         }),

@@ -11,7 +11,7 @@ use crate::giving::is_a_relay;
 use crate::leaving::is_parent;
 use net_plan::{DeviceId, LinkId, Network};
 use pcf_values::Pcf;
-use plain_notes::{Body, Kind};
+use run_law::plain::{PlainBody, PlainKind};
 use transparent_clock::permanence;
 use tte_units::Units;
 
@@ -28,7 +28,7 @@ fn does_wait(network: &Network, device: DeviceId, link: LinkId) -> bool
 pub fn awaited(
     network: &Network,
     broken: bool,
-    body: &Body,
+    body: &PlainBody,
     frame: Option<Pcf>,
     reading: u64,
     number: u64,
@@ -41,7 +41,7 @@ pub fn awaited(
     ensures begun { IfSome result (λ w. pos 0 ≤ℤ w.point.0) }
     ensures own { IfSome result (λ w. waiter_of body.now ≡ Some w.device) }
 {
-    let Kind::Arrived {
+    let PlainKind::Arrived {
         device,
         link,
         clock,
@@ -66,23 +66,23 @@ pub fn awaited(
 
 /// The device that gives the frame of a record to links, or waits for it.
 #[inline(always)]
-pub fn giver(body: &Body) -> Option<DeviceId>
+pub fn giver(body: &PlainBody) -> Option<DeviceId>
     ensures { result ≡ giver_of body.now }
 {
     match &body.kind {
-        Kind::Sent { device, .. }
-        | Kind::Compressed { device, .. }
-        | Kind::Arrived { device, .. } => Some(*device),
+        PlainKind::Sent { device, .. }
+        | PlainKind::Compressed { device, .. }
+        | PlainKind::Arrived { device, .. } => Some(*device),
         _ => None,
     }
 }
 
 /// The device at which the frame of a record may wait.
-pub fn waiter(body: &Body) -> Option<DeviceId>
+pub fn waiter(body: &PlainBody) -> Option<DeviceId>
     ensures { result ≡ waiter_of body.now }
 {
     match &body.kind {
-        Kind::Arrived { device, .. } => Some(*device),
+        PlainKind::Arrived { device, .. } => Some(*device),
         _ => None,
     }
 }

@@ -5,8 +5,7 @@ use Rattle.std.specs.{List.AllByRecursion, Prelude.{All, IfSome}}
 use Rattle.compression.specs.Clusters.{AreClusters, Cluster, Point}
 use Rattle.tte_lemmas.proofs.Lists.{all-push}
 use Rattle.audit_devices.specs.collections.{Gathered.{EndsWith, Gathers, HasRow, IsHeld}, Kept.{History, IsCounted, cluster_kept, clusters_in, kept_in}}
-use Rattle.audit_devices.specs.collections.{Steps.Grows}
-use Rattle.audit_devices.specs.declared.collections.{gathering.{Gathering.Gathering, Row.Row}, kept.KeptCluster.KeptCluster}
+use Rattle.audit_devices.specs.{collections.Steps.Grows, declared.collections.{gathering.{Gathering.Gathering, Row.Row}, kept.KeptCluster.KeptCluster}}
 
 -- all parts of a list stay where more is appended
 part-same : {X : Type 0} (xs more : List X) (from count : ℕ) → (from + count) ≤ length xs → take count (drop from (xs ++ more)) ≡ take count (drop from xs)

@@ -4,10 +4,9 @@ use Rattle.std.proofs.{Common.{ℕ, ℤ}, lemmas.{Bool.{cases_eq, cases_lt}, Int
 use Rattle.std.specs.Prelude.{All, slice_get}
 use Rattle.compression.specs.Clusters.{AreClusters}
 use Rattle.tte_lemmas.proofs.Lists.{got_within}
-use Rattle.audit_devices.{proofs.collections_lemmas.{Kepts.all-emissions, Spaced.{rising, spaced}}, specs.collections.Gathered.{HasRow, IsGathered}}
-use Rattle.audit_devices.specs.{collections.Kept.{History, cluster_kept, emitted, kept_in}, collections.Rising.{IsPlaceFor, IsRising}}
-use Rattle.audit_devices.specs.{declared.collections.emitted.Emitted.Emitted}
-use Rattle.audit_devices.specs.declared.collections.{gathering.{Gathering.Gathering, Row.Row}, kept.KeptCluster.KeptCluster}
+use Rattle.audit_devices.{proofs.collections_lemmas.Kepts.all-emissions, specs.collections.{Gathered.{HasRow, IsGathered}, Rising.{IsPlaceFor, IsRising}}}
+use Rattle.audit_devices.{proofs.collections_lemmas.Spaced.{rising, spaced}, specs.declared.collections.{emitted.Emitted.Emitted, kept.KeptCluster.KeptCluster}}
+use Rattle.audit_devices.specs.{collections.Kept.{History, cluster_kept, emitted, kept_in}, declared.collections.gathering.{Gathering.Gathering, Row.Row}}
 
 same_at : (ks : List KeptCluster) (i j : ℕ) (k d : KeptCluster) → i ≡ j → slice_get ks i ≡ Some k → slice_get ks j ≡ Some d → k ≡ d
 same_at ks i j k d e at there =

@@ -7,13 +7,12 @@ use Rattle.run_law.specs.scenario.{Hypothesis.{IsWithinHypothesis, breaks_at}, R
 use Rattle.run_law.specs.scenario.Ways.{cut_set, hold_set, is_way_of, wire_of, wire_set}
 use Rattle.tte_lemmas.proofs.Naturals.{unequal}
 use Rattle.tte_units.specs.{Amount.amount, declared.{rates.Ppb.Ppb, units.Units.Units}}
-use Rattle.audit_devices.proofs.events_lemmas.Clocking.{clocks_more, value_last}
+use Rattle.audit_devices.{proofs.events_lemmas.Clocking.{clocks_more, value_last}, specs.declared.events.history.EventHistory.EventHistory}
 use Rattle.audit_devices.proofs.events_lemmas.Keeping.{AreDevicesTold, AreWaysTold, broken_first, broken_stays, clock_stays, device_stays, devices_set, own_way}
 use Rattle.audit_devices.proofs.events_lemmas.Keeping.{remembers_more, steps_more, turned_first, turned_stays, way_stays, ways_set}
-use Rattle.audit_devices.proofs.events_lemmas.Valuing.{set_more, set_stays}
-use Rattle.audit_devices.specs.events.{Clocks.clocks_after, Remembering.{MayBefall, Remembers, way_place}, Settings.{IsSetBy, change_to, value_at}}
-use Rattle.audit_devices.specs.declared.events.{history.{DeviceHistory.DeviceHistory, EventHistory.EventHistory, WayHistory.WayHistory}, settings.Change.Change}
-use Rattle.audit_devices.specs.declared.events.settings.Settings.{Settings}
+use Rattle.audit_devices.{proofs.events_lemmas.Valuing.{set_more, set_stays}, specs.{declared.events.settings.Change.Change, events.Clocks.clocks_after}}
+use Rattle.audit_devices.specs.{declared.events.history.DeviceHistory.DeviceHistory, events.Remembering.{MayBefall, Remembers, way_place}}
+use Rattle.audit_devices.specs.{declared.events.{history.WayHistory.WayHistory, settings.Settings.Settings}, events.Settings.{IsSetBy, change_to, value_at}}
 use Rattle.net_plan.specs.declared.event.What.TheVariants as events
 
 -- ---- what the event does not concern

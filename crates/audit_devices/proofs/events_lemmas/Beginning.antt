@@ -6,10 +6,9 @@ use Rattle.net_plan.specs.declared.tables.Way.{Way, TheVariants.{Down, Up}}
 use Rattle.run_law.specs.scenario.Ways.{cut_set, hold_set, wire_of, wire_set}
 use Rattle.tte_lemmas.proofs.Lists.{none_before}
 use Rattle.tte_units.specs.Amount.{amount}
-use Rattle.audit_devices.specs.events.Beginnings.{AreWaysOf, IsUntouched, IsUntouchedDevice, IsUntouchedWay}
-use Rattle.audit_devices.specs.events.{Remembering.{Remembers, TellsDevice, TellsWay, way_place}, Settings.IsSetBy}
-use Rattle.audit_devices.specs.declared.events.history.{DeviceHistory.DeviceHistory, EventHistory.EventHistory, WayHistory.WayHistory}
-use Rattle.audit_devices.specs.declared.events.{settings.Settings.Settings}
+use Rattle.audit_devices.specs.{declared.events.history.DeviceHistory.DeviceHistory, events.Remembering.{Remembers, TellsDevice, TellsWay, way_place}}
+use Rattle.audit_devices.specs.declared.events.{history.{EventHistory.EventHistory, WayHistory.WayHistory}, settings.Settings.Settings}
+use Rattle.audit_devices.specs.events.{Beginnings.{AreWaysOf, IsUntouched, IsUntouchedDevice, IsUntouchedWay}, Settings.IsSetBy}
 
 -- ---- ways
 

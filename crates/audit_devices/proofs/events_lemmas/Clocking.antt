@@ -2,9 +2,8 @@
 use Rattle.std.proofs.Common.{if◌then◌else◌, ◌++◌, ◌<◌, ◌^◌, ◌∙◌, ◌∷◌, ◌≡◌, ◌≤◌, List, [], ap, arith, inl, inr, length, refl, subst, suc, sym, unsigned_abs}
 use Rattle.std.{proofs.{Common.{zero, ℕ}, lemmas.Bool.{cases_lt, le-leb, lt-leb}}, specs.List.{All, AllWithin, Sorted.IsNonDecreasingBy}}
 use Rattle.drift_clock.specs.{RateSteps.{IsHistory, RateStep, up_to}, Readings.{reading_at, value_after}, Segment.{Segment, segment_reading, stepped_segment}}
-use Rattle.audit_devices.{proofs.events_lemmas.Valuing.value_before}
-use Rattle.audit_devices.specs.events.{Clocks.{AreClocks, IsReadable, clocks_after, clocks_reading}, Settings.{change_to, value_at}}
-use Rattle.audit_devices.specs.declared.events.settings.Change.{Change}
+use Rattle.audit_devices.{proofs.events_lemmas.Valuing.value_before, specs.events.Settings.{change_to, value_at}}
+use Rattle.audit_devices.specs.{declared.events.settings.Change.Change, events.Clocks.{AreClocks, IsReadable, clocks_after, clocks_reading}}
 
 -- steps in the order of time, from a time on and up to 2^60, each to a slow rate
 abbrev pub StepsFrom : ℕ → ℕ → List RateStep → Type 0

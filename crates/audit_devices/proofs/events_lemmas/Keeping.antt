@@ -12,10 +12,9 @@ use Rattle.run_law.specs.scenario.{Hypothesis.{IsWithinHypothesis, breaks_at}, R
 use Rattle.run_law.specs.scenario.Ways.{cut_set, hold_set, is_way, is_way_of, wire_of, wire_set}
 use Rattle.tte_lemmas.proofs.{Bools.or_none, Lists.{any_behind, any_first, set_other}}
 use Rattle.tte_units.specs.Amount.{amount}
-use Rattle.audit_devices.{proofs.events_lemmas.Valuing.set_stays, specs.events.{Clocks.clocks_after, Readings.{HaveBegun, scenario_under}}}
-use Rattle.audit_devices.specs.events.Remembering.{MayBefall, Remembers, TellsDevice, TellsWay, way_place}
-use Rattle.audit_devices.specs.{declared.events.history.DeviceHistory.DeviceHistory}
-use Rattle.audit_devices.specs.declared.events.history.{EventHistory.EventHistory, WayHistory.WayHistory}
+use Rattle.audit_devices.{proofs.events_lemmas.Valuing.set_stays, specs.events.Clocks.clocks_after}
+use Rattle.audit_devices.specs.declared.events.history.{DeviceHistory.DeviceHistory, EventHistory.EventHistory, WayHistory.WayHistory}
+use Rattle.audit_devices.specs.events.{Readings.{HaveBegun, scenario_under}, Remembering.{MayBefall, Remembers, TellsDevice, TellsWay, way_place}}
 use Rattle.net_plan.specs.declared.event.What.TheVariants as events
 use Rattle.run_law.specs.declared.outside.Outside.TheVariants as outside
 

@@ -7,12 +7,11 @@ use Rattle.net_plan.specs.{Belonging.{HasLink, IsOfNetwork}, declared.{event.{Ev
 use Rattle.net_plan.specs.declared.{network.Network.Network, tables.Way.{Way, TheVariants.{Down, Up}}}
 use Rattle.run_law.{proofs.scenario.Devices.all_within, specs.scenario.{Rates.rate_steps, Scenarios.last_set}}
 use Rattle.tte_units.specs.Amount.{amount}
-use Rattle.audit_devices.proofs.events_lemmas.{Adding.cut_event, Befalling.{AreEventsFrom, events_from, steps_from, steps_up_to}}
-use Rattle.audit_devices.proofs.events_lemmas.{Clocking.{StepsFrom, are_clocks, clock_reads, clocks_up_to}, Keeping.begun_more, Valuing.last_is}
-use Rattle.audit_devices.{specs.events.Beginnings.IsReadyFor}
-use Rattle.audit_devices.specs.events.{Clocks.{AreClocks, clocks_reading}, Readings.{clock_reading, scenario_under}}
-use Rattle.audit_devices.specs.events.{Remembering.{MayBefall, Remembers, TellsDevice, way_place}, Settings.{IsSetBy, change_to, changes_by, value_at}}
+use Rattle.audit_devices.proofs.events_lemmas.{Adding.cut_event, Befalling.{AreEventsFrom, events_from, steps_from, steps_up_to}, Keeping.begun_more}
+use Rattle.audit_devices.proofs.events_lemmas.{Clocking.{StepsFrom, are_clocks, clock_reads, clocks_up_to}, Valuing.last_is}
 use Rattle.audit_devices.specs.declared.events.{history.{DeviceHistory.DeviceHistory, EventHistory.EventHistory}, settings.{Change.Change, Settings.Settings}}
+use Rattle.audit_devices.specs.events.{Beginnings.IsReadyFor, Clocks.{AreClocks, clocks_reading}, Readings.{clock_reading, scenario_under}}
+use Rattle.audit_devices.specs.events.{Remembering.{MayBefall, Remembers, TellsDevice, way_place}, Settings.{IsSetBy, change_to, changes_by, value_at}}
 
 -- ---- the changes are in the order of time
 

@@ -1,6 +1,5 @@
 -- What one more record makes of the points of a stretch.
-use Rattle.std.proofs.Common.{arith}
-use Rattle.std.proofs.Common.{if◌then◌else◌, ◌++◌, ◌∙◌, ◌∷◌, ◌≡◌, Bool, List, None, Option, Some, [], ap, false, inl, inr, refl, sym, true}
+use Rattle.std.proofs.Common.{◌++◌, ◌∙◌, ◌∷◌, ◌≡◌, Bool, List, None, Option, Some, [], ap, arith, false, if◌then◌else◌, inl, inr, refl, sym, true}
 use Rattle.std.{proofs.lemmas.{Bool.eq-eqb, List.Elements.filter_map-append}, specs.{List.cons_option, Prelude.{◌==◌, filter_map}}}
 use Rattle.compression.specs.Clusters.{Point, point_at}
 use Rattle.net_plan.{proofs.SameIds.other_device, specs.declared.ids.DeviceId.DeviceId}

@@ -1,10 +1,9 @@
 -- What befalls a device at a time, and what is shown of it then.
 use Rattle.std.specs.Prelude.{◌≡◌, List, ℕ}
-use Rattle.audit_devices.specs.Showing.{IsReading, IsSteady, Shown, Shows}
+use Rattle.audit_devices.specs.{Showing.{IsReading, IsSteady, Shown, Shows}, declared.clocks.moment.Moment.Moment}
 use Rattle.net_plan.specs.declared.{ids.DeviceId.DeviceId, network.Network.Network}
 use Rattle.run_law.specs.records.Happenings.{Happening, earlier}
 use Rattle.run_law.specs.scenario.Scenarios.{Scenario, is_broken, is_turned_on_at}
-use Rattle.audit_devices.specs.declared.clocks.moment.Moment.{Moment}
 
 -- the moment is of the device at this time: so its clock reads, and so it is turned on and broken
 pub record IsMoment (s : Scenario) (device : DeviceId) (t : ℕ) (moment : Moment) : Type 0 where

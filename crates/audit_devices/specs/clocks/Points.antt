@@ -1,6 +1,6 @@
 -- The correction point that comes to a device at a time.
 use Rattle.std.specs.Prelude.{◌≡◌, List, None, Option, Some, false, ℕ}
-use Rattle.audit_law.specs.CorrectionNumbers.{heard_since_point, standing_at}
+use Rattle.audit_devices.specs.law.CorrectionNumbers.{heard_since_point, standing_at}
 use Rattle.device_rules.specs.Answers.{verdict_as}
 use Rattle.membership.specs.Summary.{Summarizes, Summary}
 use Rattle.net_plan.specs.declared.ids.DeviceId.{DeviceId}

@@ -3,8 +3,7 @@ use Rattle.std.specs.Prelude.{◌+◌, ◌<◌, ◌≡◌, ◌≤◌, Contains, 
 use Rattle.compression.specs.{Clusters.{AreClusters, Cluster, Point}, Emission.compressed}
 use Rattle.compression.specs.declared.compressed.Compressed.{Compressed}
 use Rattle.audit_devices.specs.collections.Kept.{History, IsCounted, clusters_in}
-use Rattle.audit_devices.specs.{declared.collections.gathering.Gathering.Gathering}
-use Rattle.audit_devices.specs.declared.collections.gathering.Row.{Row}
+use Rattle.audit_devices.specs.declared.collections.gathering.{Gathering.Gathering, Row.Row}
 
 -- the history has the clusters of the row
 pub record HasRow (h : History) (row : Row) : Type 0 where

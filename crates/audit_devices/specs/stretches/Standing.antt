@@ -1,12 +1,10 @@
 -- What the history of a network's stretches keeps.
 use Rattle.std.specs.Prelude.{◌≡◌, List, Option, length, slice_get, ℕ}
-use Rattle.audit_devices.specs.{Keeping.time_at, collections.Kept.History}
-use Rattle.audit_devices.specs.{declared.collections.gathering.Gathering.Gathering}
+use Rattle.audit_devices.specs.{Keeping.time_at, stretches.Keeping.{KeepsAll, Stretches}}
+use Rattle.audit_devices.specs.{collections.Kept.History, declared.collections.gathering.Gathering.Gathering}
+use Rattle.audit_devices.specs.declared.stretches.{history.StretchHistory.StretchHistory, kept.Entry.Entry}
 use Rattle.net_plan.specs.declared.{ids.DeviceId.DeviceId, network.Network.Network}
 use Rattle.run_law.specs.records.Happenings.{Happening}
-use Rattle.audit_devices.specs.stretches.Keeping.{KeepsAll, Stretches}
-use Rattle.audit_devices.specs.{declared.stretches.history.StretchHistory.StretchHistory}
-use Rattle.audit_devices.specs.declared.stretches.kept.Entry.{Entry}
 
 -- the stretches of each compression master are kept, up to these records
 abbrev pub Stands : Network → List Happening → StretchHistory → Type 0

@@ -1,12 +1,11 @@
 ghost use Rattle.std.specs.Prelude.{◌↔◌, ◌≡◌, IsTrue, List, ℕ};
-ghost use Rattle.audit_law.specs.DueRecords.{ChangesState};
+ghost use Rattle.audit_devices.specs.clocks.{Brought.{bringer_as, bringer_of}, Points.{ComesTo, IsHeard}};
+ghost use Rattle.audit_devices.specs.{clocks.Moments.StandsAt, law.DueRecords.ChangesState};
 ghost use Rattle.net_plan.specs.{Ranges.IsInRange, declared.ids.DeviceId.DeviceId as DeviceIdValue};
 ghost use Rattle.net_plan.specs.declared.network.Network.{Network as NetworkValue};
 ghost use Rattle.run_law.specs.{device.States.state_before, records.Happenings.Happening, scenario.Scenarios.Scenario};
 ghost use Rattle.sync_state.specs.declared.answers.Verdict.TheVariants.{AsyncClique, SyncClique};
 ghost use Rattle.sync_state.specs.declared.state.State.TheVariants.{Integrating, Joining};
-ghost use Rattle.audit_devices.specs.clocks.{Brought.{bringer_as, bringer_of}, Moments.StandsAt};
-ghost use Rattle.audit_devices.specs.clocks.Points.{ComesTo, IsHeard};
 
 use crate::Shown;
 use crate::clocks::{Moment, Point, coming_point};

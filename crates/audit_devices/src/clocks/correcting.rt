@@ -1,6 +1,6 @@
 ghost use Rattle.std.specs.Prelude.{◌+ℤ◌, ◌↔◌, ◌≡◌, IsTrue, List, Some, ℕ};
-ghost use Rattle.audit_law.specs.CorrectionNumbers.{ComesToPoint, next_number, standing_at};
-ghost use Rattle.audit_law.specs.DueRecords.{IsCorrectedRecord};
+ghost use Rattle.audit_devices.specs.law.CorrectionNumbers.{ComesToPoint, next_number, standing_at};
+ghost use Rattle.audit_devices.specs.law.DueRecords.{IsCorrectedRecord};
 ghost use Rattle.device_rules.specs.{Answers.{standing_of, verdict_as}, Widths.IsWide};
 ghost use Rattle.net_plan.specs.{Ranges.IsInRange, declared.ids.DeviceId.DeviceId as DeviceIdValue};
 ghost use Rattle.net_plan.specs.declared.network.Network.{Network as NetworkValue};

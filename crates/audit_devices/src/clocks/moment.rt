@@ -1,8 +1,7 @@
 ghost use Rattle.std.specs.Prelude.{◌^◌, ◌≡◌, ◌≤◌, List};
-ghost use Rattle.audit_devices.specs.Showing.{IsReading};
+ghost use Rattle.audit_devices.specs.{Showing.IsReading, clocks.Moments.IsMoment};
 ghost use Rattle.audit_devices.specs.events.{Readings.scenario_under, Remembering.{Remembers, RemembersSome}};
 ghost use Rattle.net_plan.specs.{Belonging.HasDevice, declared.{event.Event.Event, network.Network.Network}};
-ghost use Rattle.audit_devices.specs.clocks.Moments.{IsMoment};
 
 use crate::Readings;
 use crate::events::{EventHistory, reading_law};

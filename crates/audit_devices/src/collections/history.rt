@@ -3,11 +3,9 @@ ghost use Rattle.std.specs.Prelude.{IsTrue, List, Some, [], length, map, pos, sl
 ghost use Rattle.compression.specs.{Ascent.offset_at, Clusters.{Point, point_at}, Middle.{middle_of, relative}};
 ghost use Rattle.compression.specs.Role.{role};
 ghost use Rattle.audit_devices.specs.collections.Gathered.{EndsWith, Gathers, HasRow, IsGathered, IsHeld, IsLatest};
-ghost use Rattle.audit_devices.specs.collections.Gathered.{Sends};
+ghost use Rattle.audit_devices.specs.collections.{Gathered.Sends, Kept.{kept_in, points_kept}, Small.IsSmall};
 ghost use Rattle.audit_devices.specs.collections.Kept.{IsCounted, cluster_kept, clusters_in, emissions_in, emitted};
-ghost use Rattle.audit_devices.specs.collections.Kept.{kept_in};
-ghost use Rattle.audit_devices.specs.collections.{Kept.points_kept, Rising.{IsPlaceFor, IsRising}, Small.IsSmall};
-ghost use Rattle.audit_devices.specs.collections.Steps.{Closes, Grows, Joins, Opens};
+ghost use Rattle.audit_devices.specs.collections.{Rising.{IsPlaceFor, IsRising}, Steps.{Closes, Grows, Joins, Opens}};
 
 use crate::collections::gathering::Row;
 use crate::collections::kept::KeptCluster;

@@ -1,16 +1,13 @@
-ghost use Rattle.std.specs.List.{All};
-ghost use Rattle.std.specs.Prelude.{if◌then◌else◌, ◌*◌, ◌++◌, ◌^◌, ◌∷◌, ◌≡◌, ◌≤ℤ◌, ◌≤◌, IfOk, List, [], length, pos};
-ghost use Rattle.std.specs.Prelude.{unsigned_abs, ℕ};
+ghost use Rattle.std.specs.{List.All, Prelude.{unsigned_abs, ℕ}};
+ghost use Rattle.std.specs.Prelude.{◌*◌, ◌++◌, ◌^◌, ◌∷◌, ◌≡◌, ◌≤ℤ◌, ◌≤◌, IfOk, List, [], if◌then◌else◌, length, pos};
 ghost use Rattle.net_plan.specs.{Belonging.{HasDevice, HasLink}, Ranges.IsInRange};
 ghost use Rattle.net_plan.specs.declared.{event.Event.Event as EventValue, network.Network.Network as NetworkValue};
 ghost use Rattle.run_law.specs.scenario.{Scenarios.{is_broken, is_turned_on_at}, Ways.{delay_at, hold_at, is_cut}};
 ghost use Rattle.tte_units.specs.{Amount.amount, declared.units.Units.Units as UnitsValue};
 ghost use Rattle.audit_devices.specs.events.Beginnings.{AreWaysOf, IsReadyFor, IsSought, IsUntouchedDevice};
-ghost use Rattle.audit_devices.specs.events.Beginnings.{IsUntouchedWay};
-ghost use Rattle.audit_devices.specs.events.{Reaches.IsFirstReach, Readings.{clock_reading, scenario_under}};
+ghost use Rattle.audit_devices.specs.events.{Beginnings.IsUntouchedWay, Readings.{clock_reading, scenario_under}};
+ghost use Rattle.audit_devices.specs.events.{Reaches.IsFirstReach, Remembering.{has_come, is_at, way_place}};
 ghost use Rattle.audit_devices.specs.events.Remembering.{IsAdded, MayBeAdded, MayBefall, Remembers, RemembersSome};
-ghost use Rattle.audit_devices.specs.events.Remembering.{has_come};
-ghost use Rattle.audit_devices.specs.events.Remembering.{is_at, way_place};
 ghost use Rattle.net_plan.specs.declared.event.What.TheVariants as events;
 
 use crate::events::laws::reading_law;

@@ -1,5 +1,5 @@
 ghost use Rattle.std.specs.Prelude.{◌↔◌, ◌≡◌, List, Some, true};
-ghost use Rattle.audit_devices.specs.stretches.Points.{HasPoints};
+ghost use Rattle.audit_devices.specs.{permanence.Hearers.{Collects, IsHearer, IsMoment}, stretches.Points.HasPoints};
 ghost use Rattle.compression.specs.Clusters.{Point, point_at};
 ghost use Rattle.device_rules.specs.Widths.{IsWide};
 ghost use Rattle.net_plan.specs.Ranges.{IsInRange};
@@ -7,7 +7,6 @@ ghost use Rattle.run_law.specs.control.Collections.{master_of, observation_windo
 ghost use Rattle.run_law.specs.control.{Emissions.Emits, Hearing.heard_as};
 ghost use Rattle.run_law.specs.{control.Permanence.{IsCollectedOrDropped, IsJudgedBy}, records.Happenings.Happening};
 ghost use Rattle.run_law.specs.scenario.{Devices.{is_cm, plan_of}, Scenarios.Scenario};
-ghost use Rattle.audit_devices.specs.permanence.Hearers.{Collects, IsHearer, IsMoment};
 
 use crate::Readings;
 use crate::permanence::reach::reaches;

@@ -1,12 +1,10 @@
 ghost use Rattle.std.specs.Prelude.{◌++◌, ◌<◌, ◌∷◌, ◌≡◌, IfOk, List, OnOk, Some, [], length, slice_get, true};
-ghost use Rattle.audit_devices.specs.Keeping.{records_before};
-ghost use Rattle.net_plan.specs.Ranges.{IsInRange};
-ghost use Rattle.run_law.specs.control.{Collections.points_of, Permanence.before_permanence};
-ghost use Rattle.run_law.specs.records.{Happenings.Happening, Order.AllBefore, Ranks.place_of};
-ghost use Rattle.run_law.specs.scenario.Devices.{is_cm};
+ghost use Rattle.audit_devices.specs.{Keeping.records_before, declared.stretches.kept.Entry.Entry};
 ghost use Rattle.audit_devices.specs.stretches.{Keeping.{IsRecord, Stretches}, Points.{HasPoints, MayStand}};
 ghost use Rattle.audit_devices.specs.stretches.Standing.{IsBehind, Stands, device_count, kept_of};
-ghost use Rattle.audit_devices.specs.{declared.stretches.kept.Entry.Entry};
+ghost use Rattle.net_plan.specs.Ranges.{IsInRange};
+ghost use Rattle.run_law.specs.{control.{Collections.points_of, Permanence.before_permanence}, scenario.Devices.is_cm};
+ghost use Rattle.run_law.specs.records.{Happenings.Happening, Order.AllBefore, Ranks.place_of};
 ghost use Rattle.net_plan.specs.declared.network.Network as networks;
 
 use crate::Carried;
@@ -16,8 +14,8 @@ use crate::stretches::kept::Kept;
 use device_rules::is_cm;
 use net_plan::{DeviceId, LinkId, Network};
 use pcf_values::Pcf;
-use plain_notes::Place;
 use run_law::NoteBody;
+use run_law::plain::Place;
 use std::alloc::{AllocError, Global};
 use tte_units::Units;
 
@@ -72,7 +70,8 @@ impl StretchHistory {
         requires { device.0 < device_count self.now }
         ensures { (network : networks.Network) (hs : List Happening) → Stands network hs self.now
             → is_cm network device ≡ true
-            → HasPoints network (points_of (records_before place.now hs) device) result.collections.now result.gathering }
+            → HasPoints network (points_of (records_before place.now hs) device)
+            result.collections.now result.gathering }
     {
         let kept = &self.kept[device.0 as usize];
         Stretch {

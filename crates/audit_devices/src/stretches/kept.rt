@@ -1,19 +1,18 @@
 ghost use Rattle.std.specs.Prelude.{◌++◌, ◌∷◌, ◌≡◌, ◌≤ℤ◌, IfOk, List, OnOk, Some, [], pos};
-ghost use Rattle.audit_devices.specs.collections.Gathered.{Gathers, IsLatest};
-ghost use Rattle.audit_devices.specs.{Effects.carried_by, Keeping.records_before};
+ghost use Rattle.audit_devices.specs.{Effects.carried_by, collections.Gathered.{Gathers, IsLatest}};
+ghost use Rattle.audit_devices.specs.{Keeping.records_before, stretches.Changes.{change_by, collector_in}};
+ghost use Rattle.audit_devices.specs.stretches.{Keeping.Keeps, Points.{HasPoints, MayBring, points_with}};
 ghost use Rattle.compression.specs.Clusters.{Point};
 ghost use Rattle.net_plan.specs.{Ranges.IsInRange, declared.ids.DeviceId.DeviceId};
 ghost use Rattle.run_law.specs.{control.Collections.points_of, records.{Happenings.Happening, Order.AllBefore}};
 ghost use Rattle.run_law.specs.records.Ranks.{place_of};
-ghost use Rattle.audit_devices.specs.stretches.{Changes.{change_by, collector_in}, Keeping.Keeps};
-ghost use Rattle.audit_devices.specs.stretches.Points.{HasPoints, MayBring, points_with};
 ghost use Rattle.net_plan.specs.declared.network.Network as networks;
 
 use crate::Carried;
 use crate::collections::{CollectionHistory, Gathering};
 use crate::stretches::change::Change;
 use net_plan::Network;
-use plain_notes::Place;
+use run_law::plain::Place;
 use std::alloc::{AllocError, Global};
 use std::marker::Model;
 
@@ -35,8 +34,7 @@ pub(crate) struct Kept {
 }
 
 impl Model for Kept {
-    ghost use Rattle.audit_devices.specs.stretches.Keeping.{Stretches};
-    ghost use Rattle.audit_devices.specs.collections.Gathered.{IsLatest};
+    ghost use Rattle.audit_devices.specs.{collections.Gathered.IsLatest, stretches.Keeping.Stretches};
 
     ghost Value = { Stretches };
 

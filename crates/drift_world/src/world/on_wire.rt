@@ -8,8 +8,8 @@ ghost use Rattle.drift_world.specs.Wires.{IsOfNow, IsOnOwnLink, on_wire_in, put_
 
 use super::World;
 use drift_clock::Clock;
-use plain_notes::Rank;
 use run_law::Machine;
+use run_law::plain::Rank;
 use world_state::contents::{Content, Signal};
 
 /// What is on a wire, of what is under way.

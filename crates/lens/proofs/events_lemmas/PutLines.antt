@@ -7,7 +7,7 @@ use Rattle.trace_text.specs.EventLine.{event_line}
 use Rattle.tte_forms.{proofs.Puts.{Ends-gives, PutsLines-fails, PutsLines-more, PutsLines-none}, specs.Answering.{Answer, Ends, Gives, GivesAnswer}}
 use Rattle.tte_forms.specs.{Putting.{PutsLines, Shown}, declared.status.Status.{Status, TheVariants.{Done, WriteFault}}}
 use Rattle.tte_io.specs.{Faults.next_count, Told.AppendsFront}
-use Rattle.tte_storms.{proofs.Existing.{IsStormy, storm_behind}, specs.{Storms.IsStormTo, declared.events.StormEvents.StormEvents}}
+use Rattle.tte_traces.{proofs.storms_lemmas.Existing.{IsStormy, storm_behind}, specs.{storms.Storms.IsStormTo, declared.storms.events.StormEvents.StormEvents}}
 use Rattle.lens.specs.events.Answer.{IsEventsAnswer, event_lines}
 
 -- the lines of some events and of others behind them

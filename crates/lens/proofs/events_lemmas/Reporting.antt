@@ -9,7 +9,7 @@ use Rattle.storm.{proofs.{OneStorm.one_storm, Storms.{front_of_storm, no_events,
 use Rattle.trace_text.{proofs.EventsBack.reads_back, specs.{EventLine.{event_line, event_text}, EventReading.event_read}}
 use Rattle.tte_forms.specs.{Answering.Answer, declared.status.Status.TheVariants.Done}
 use Rattle.tte_io.{proofs.FirstLine.{behind_line-append, first_line-append}, specs.Line.{behind_line, first_line, lf, line_limit}}
-use Rattle.tte_storms.proofs.{Drawn.{all_ended, none_ended}, Existing.{IsStormy, storm_behind}}
+use Rattle.tte_traces.proofs.storms_lemmas.{Drawn.{all_ended, none_ended}, Existing.{IsStormy, storm_behind}}
 use Rattle.tte_traces.{proofs.Answers.trace_answer_one, specs.{Answer.{IsRunAnswer, report_lines}, Lines.{AreAdmitted, behind_lines}}}
 use Rattle.world_drive.specs.exact.Records.{AreAllRecords, HaveEnded}
 use Rattle.lens.{proofs.events_lemmas.{EventTexts.event_unbroken, Ranged.storm_ranged, ShortTexts.event_short}, specs.events.Answer.event_lines}

@@ -1,10 +1,7 @@
 -- The text of an event fits a line.
-use Rattle.std.proofs.Common.{◌∷◌, ◌≤◌, List, arith, length, subst, sym, ℕ}
-use Rattle.std.specs.{Fmt.signed_decimal}
-use Rattle.net_plan.specs.{Belonging.IsOfNetwork, Ranges.IsInRange}
-use Rattle.net_plan.specs.declared.{event.Event.Event, network.Network.Network}
-use Rattle.trace_text.{proofs.EventsBack.text_joined, specs.EventLine.{event_text, what_words}}
-use Rattle.trace_text.specs.Ranges.{IsEventInRange}
+use Rattle.std.{proofs.Common.{◌∷◌, ◌≤◌, List, arith, length, subst, sym, ℕ}, specs.Fmt.signed_decimal}
+use Rattle.net_plan.specs.{Belonging.IsOfNetwork, Ranges.IsInRange, declared.{event.Event.Event, network.Network.Network}}
+use Rattle.trace_text.{proofs.EventsBack.text_joined, specs.{EventLine.{event_text, what_words}, Ranges.IsEventInRange}}
 use Rattle.tte_io.specs.Line.{line_limit}
 use Rattle.report_text.proofs.Short.{joined_short, size, time_short, what_short}
 

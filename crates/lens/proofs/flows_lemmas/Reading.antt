@@ -1,35 +1,19 @@
 -- The records of a report, seen one after another.
-use Rattle.std.proofs.Common.{◌≡◌, ℕ, ◌+◌, ◌<◌, ◌≤◌, ◌^◌, List, [], ◌∷◌, ◌++◌, length, inl, inr, refl, sym, ap, subst, ◌∙◌, append_assoc, arith}
-use Rattle.std.proofs.lemmas.List.{append-nil, length-append}
-use Rattle.std.proofs.lemmas.List.Elements.{All-head}
-use Rattle.std.specs.List.{concat}
-use Rattle.std.specs.Prelude.{All, Some}
+use Rattle.std.proofs.Common.{◌++◌, ◌+◌, ◌<◌, ◌^◌, ◌∙◌, ◌∷◌, ◌≡◌, ◌≤◌, List, [], ap, append_assoc, arith, inl, inr, length, refl, subst, sym, ℕ}
+use Rattle.std.{proofs.lemmas.List.{Elements.All-head, append-nil, length-append}, specs.{List.concat, Prelude.{All, Some}}}
 use Rattle.audit_devices.specs.events.Remembering.{Remembers}
-use Rattle.lens.specs.flows.counts.Deliveries.{deliveries_of, delivery_by}
-use Rattle.lens.specs.flows.counts.Seen.{HasSeen}
-use Rattle.lens.specs.declared.flows.counts.deliveries.Delivery.{Delivery}
-use Rattle.lens.specs.declared.flows.counts.seen.Seen.{Seen}
-use Rattle.lens.specs.flows.Seeing.{IsReadBy, IsSeenSoFar}
+use Rattle.lens.specs.{declared.flows.counts.{deliveries.Delivery.Delivery, seen.Seen.Seen}, flows.counts.Deliveries.{deliveries_of, delivery_by}}
+use Rattle.lens.specs.flows.{Seeing.{IsReadBy, IsSeenSoFar}, counts.Seen.HasSeen}
 use Rattle.net_plan.specs.declared.network.Network.{Network}
-use Rattle.report_text.specs.NoteLine.{note_line, note_text, report_of}
-use Rattle.report_text.specs.Ranges.{IsNoteOf}
-use Rattle.run_law.proofs.records.Happenings.{happenings_on, soon}
-use Rattle.run_law.proofs.records.Order.{all_of, given_of}
-use Rattle.run_law.proofs.runs.NetworkRuns.{one_more}
-use Rattle.run_law.proofs.runs.Places.{in_left, in_right}
-use Rattle.run_law.specs.declared.note.Note.{Note}
+use Rattle.report_text.specs.{NoteLine.{note_line, note_text, report_of}, Ranges.IsNoteOf}
+use Rattle.run_law.{proofs.records.{Happenings.{happenings_on, soon}, Order.{all_of, given_of}}, specs.records.Happenings.{Happening, happening, happenings}}
+use Rattle.run_law.{proofs.runs.{NetworkRuns.one_more, Places.{in_left, in_right}}, specs.{declared.note.NoteBody.NoteBody, records.Order.{AllBefore, IsIn}}}
+use Rattle.run_law.specs.{declared.note.Note.Note, records.Ranks.place_of}
 use Rattle.run_law.specs.declared.note.NoteBody.TheVariants as notes
-use Rattle.run_law.specs.declared.note.NoteBody.{NoteBody}
-use Rattle.run_law.specs.records.Happenings.{Happening, happening, happenings}
-use Rattle.run_law.specs.records.Order.{AllBefore, IsIn}
-use Rattle.run_law.specs.records.Ranks.{place_of}
-use Rattle.tte_audit.proofs.OnlyEnd.{ends_soon}
-use Rattle.tte_audit.proofs.OneAnswer.{same_of}
-use Rattle.tte_audit.specs.{Named.IsNamed, Report.events_of, Telling.IsReadOf}
-use Rattle.tte_audit.specs.declared.passes.ReportEvents.{ReportEvents}
-use Rattle.tte_reports.specs.{Reports.{AreLeft, IsReportOf}, declared.records.Records.Records}
-use Rattle.tte_units.specs.Amount.{amount}
-use Rattle.tte_units.specs.declared.units.Units.{Units}
+use Rattle.tte_audit.{proofs.{OneAnswer.same_of, OnlyEnd.ends_soon}, specs.{Report.events_of, Telling.IsReadOf, declared.passes.ReportEvents.ReportEvents}}
+use Rattle.tte_audit.specs.Named.{IsNamed}
+use Rattle.tte_traces.specs.{reports.Reports.{AreLeft, IsReportOf}, declared.reports.records.Records.Records}
+use Rattle.tte_units.specs.{Amount.amount, declared.units.Units.Units}
 
 -- ---- the events
 

@@ -5,10 +5,9 @@ use Rattle.report_text.specs.NoteLine.{report_of}
 use Rattle.run_law.specs.declared.note.Note.{Note}
 use Rattle.schedule_tables.specs.Rules.{KeepsRules}
 use Rattle.storm.specs.Events.{IsStorm}
-use Rattle.tte_storms.specs.summary.{Counting.counts_of, Lines.summary_lines}
+use Rattle.tte_traces.specs.{Answer.IsRunAnswer, storms.Laws.FitsFrames}
+use Rattle.tte_traces.specs.storms.{Answer.{IsStormAnswer, IsWidest}, summary.{Counting.counts_of, Lines.summary_lines}}
 use Rattle.tte_forms.specs.{Answering.Answer, declared.status.Status.TheVariants.Done}
-use Rattle.tte_storms.specs.{Answer.{IsStormAnswer, IsWidest}, Laws.FitsFrames}
-use Rattle.tte_traces.specs.Answer.{IsRunAnswer}
 use Rattle.tte_units.specs.declared.units.Units.{Units}
 use Rattle.world_drive.specs.exact.Records.{AreAllRecords}
 use Rattle.lens.specs.events.Answer.{IsEventsAnswer}

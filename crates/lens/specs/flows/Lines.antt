@@ -6,10 +6,8 @@
 -- Behind `nearest` stands `none` where no frame is delivered within its window.
 use Rattle.std.specs.Prelude.{ℕ, List, ◌++◌, codes, decimal, Option, Some, None}
 use Rattle.lens.specs.declared.flows.counts.{counting.FateCounts.FateCounts, nearest.Nearest.Nearest}
-use Rattle.lens.specs.declared.flows.counts.{told.FlowTold.FlowTold}
-use Rattle.lens.specs.declared.flows.judge.flow.Flow.{Flow}
-use Rattle.net_plan.specs.Belonging.{device_name, vl_name}
-use Rattle.net_plan.specs.declared.network.Network.{Network}
+use Rattle.lens.specs.declared.flows.{counts.told.FlowTold.FlowTold, judge.flow.Flow.Flow}
+use Rattle.net_plan.specs.{Belonging.{device_name, vl_name}, declared.network.Network.Network}
 
 -- a word and a number, each behind a space
 unfoldable pub count_words : List ℕ → ℕ → List ℕ
@@ -17,7 +15,8 @@ count_words word n = codes " " ++ (word ++ (codes " " ++ decimal n))
 
 -- the flow's virtual link and its receiver
 unfoldable pub flow_words : Network → Flow → List ℕ
-flow_words network flow = codes "flow " ++ (vl_name network flow.vl ++ (codes " to " ++ device_name network flow.device))
+flow_words network flow =
+    codes "flow " ++ (vl_name network flow.vl ++ (codes " to " ++ device_name network flow.device))
 
 -- in how many cycles delivery is owed, how many frames are delivered, and how many on each channel, and how many that
 -- are owed are not delivered

@@ -1,7 +1,6 @@
 -- Which flows have a line: those that name what the network has.
 use Rattle.lens.specs.declared.flows.counts.told.FlowTold.{FlowTold}
-use Rattle.net_plan.specs.Belonging.{HasDevice, HasVl}
-use Rattle.net_plan.specs.declared.network.Network.{Network}
+use Rattle.net_plan.specs.{Belonging.{HasDevice, HasVl}, declared.network.Network.Network}
 
 -- the flow has a line
 pub record IsWritable (network : Network) (one : FlowTold) : Type 0 where

@@ -9,7 +9,7 @@ use std::alloc::Global;
 use trace_text::print;
 use tte_forms::{Status, accept, end_with, put_no_network};
 use tte_io::{Sink, Source};
-use tte_storms::{StormEvents, frames_fit};
+use tte_traces::storms::{StormEvents, frames_fit};
 
 /// Puts the events of the storm of the seed over 1 to 100,000 cycles on the network of a file, a line for each: a
 /// trace, which `run` takes to its end. It keeps no event.

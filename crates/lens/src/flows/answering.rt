@@ -2,10 +2,9 @@ ghost use Rattle.std.specs.Prelude.{◌≡◌, ◌⊎◌, All, List};
 ghost use Rattle.lens.specs.flows.{Answer.{IsFlowsAnswer, told_answer}, Seeing.IsSomeReport, Writing.IsWritable};
 ghost use Rattle.net_plan.specs.Ranges.{IsInRange};
 ghost use Rattle.run_law.specs.declared.note.Note.{Note as NoteValue};
-ghost use Rattle.tte_forms.specs.Answering.{ForOctets, Gives, GivesAnswer};
+ghost use Rattle.tte_forms.specs.{Answering.{ForOctets, Gives, GivesAnswer}, networks.Accepting.IsNetworkAnswer};
 ghost use Rattle.tte_forms.specs.{Faults.{HasCause, IsWanted, PutFailed, ReadFailed}, Putting.Over};
-ghost use Rattle.tte_forms.specs.networks.Accepting.{IsNetworkAnswer};
-ghost use Rattle.tte_reports.specs.{Answer.IsAuditStatus, Reports.{IsReportAnswer, IsReportOf}};
+ghost use Rattle.tte_traces.specs.reports.{Answer.IsAuditStatus, Reports.{IsReportAnswer, IsReportOf}};
 ghost use Rattle.tte_units.specs.declared.units.Units.{Units as UnitsValue};
 
 use crate::flows::counts::FlowTold;
@@ -16,7 +15,7 @@ use schedule_tables::Accepted;
 use std::alloc::Global;
 use tte_forms::{Status, accept, end_with, put_no_network};
 use tte_io::{LineText, Sink, Source};
-use tte_reports::{AuditedReport, put_no_report, read_report};
+use tte_traces::reports::{AuditedReport, put_no_report, read_report};
 
 /// Tells of each flow of the network of the first file what the report of the second shows: in how many cycles delivery
 /// is owed, how many frames are delivered and on which channel, how many are missing, in how many cycles none is owed

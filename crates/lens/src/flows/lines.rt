@@ -2,8 +2,7 @@
 
 ghost use Rattle.std.specs.Prelude.{◌++◌, ◌+◌, ◌≡◌, ◌≤◌, length};
 ghost use Rattle.lens.specs.flows.Lines.{count_words, delivered_words, flow_line, flow_words, nearest_words};
-ghost use Rattle.lens.specs.flows.Lines.{unowed_words};
-ghost use Rattle.lens.specs.flows.Writing.{IsWritable};
+ghost use Rattle.lens.specs.flows.{Lines.unowed_words, Writing.IsWritable};
 ghost use Rattle.net_plan.specs.{Belonging.{HasDevice, HasVl}, Ranges.IsInRange};
 
 use crate::flows::counts::{FateCounts, FlowTold, Nearest};

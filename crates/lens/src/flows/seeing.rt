@@ -1,13 +1,11 @@
 //! What the records of a report show of the flows.
 
 ghost use Rattle.std.specs.Prelude.{◌≡◌, IfOk, List};
-ghost use Rattle.lens.specs.flows.counts.Seen.{HasSeen};
-ghost use Rattle.lens.specs.flows.Answer.{AreAllTold};
-ghost use Rattle.lens.specs.flows.Seeing.{IsSomeReport, TellsEvents};
+ghost use Rattle.lens.specs.flows.{Answer.AreAllTold, Seeing.{IsSomeReport, TellsEvents}, counts.Seen.HasSeen};
 ghost use Rattle.net_plan.specs.Ranges.{IsInRange};
 ghost use Rattle.run_law.specs.declared.note.Note.{Note as NoteValue};
 ghost use Rattle.tte_audit.specs.{Named.IsNamed, Report.events_of};
-ghost use Rattle.tte_reports.specs.Reports.{IsReportOf};
+ghost use Rattle.tte_traces.specs.reports.Reports.{IsReportOf};
 ghost use Rattle.tte_units.specs.declared.units.Units.{Units as UnitsValue};
 
 use crate::flows::counts::{FlowTold, OutOfMemory, Seen, flows_of, tell_all};
@@ -17,7 +15,7 @@ use net_plan::Network;
 use schedule_tables::Accepted;
 use std::alloc::Global;
 use tte_audit::{ReportEvents, keep_names_apart, read_events};
-use tte_reports::AuditedReport;
+use tte_traces::reports::AuditedReport;
 
 /// What is told of each flow by an audited report.
 ///

@@ -1,23 +1,19 @@
 -- What each instant of a block brings: by induction over the instants.
-use Rattle.precision_law.proofs.block.Corrections.{corrects_by, is_by_frame}
+use Rattle.precision_law.proofs.{block.Corrections.{corrects_by, is_by_frame}, words.{Blocks.{old_shows, set_shows}, Runs.{state_before, time_of}}}
 use Rattle.precision_law.proofs.words.Blocks.{FramesGoSo, HasDispatched, HasPoint, IsSetInBlock, WentSo, before_narrow, block_ends, earlier_in_block}
 use Rattle.precision_law.proofs.words.Blocks.{expected_is, expected_late, follows_before, good_hearing, has_corrected, has_dispatched, joiner_integrates}
 use Rattle.precision_law.proofs.words.Blocks.{joining_of_setting, joins, late_from, members_by, near_hull, new_shows, not_turned_on_then, old_number, old_point}
-use Rattle.precision_law.proofs.words.Blocks.{old_shows, set_shows}
 use Rattle.precision_law.proofs.words.Clocks.{IsSetting, clocks_reach_sharply, earlier_before, in_hull, instants_are_in_order, joiner_waits}
 use Rattle.precision_law.proofs.words.Clocks.{next_cycle_is_of_last, one_frame_sets, one_more, point_is, reaches_whole, room, same_next, setting_is, sizes_are}
-use Rattle.precision_law.proofs.words.Clocks.{synchronised_has_time}
+use Rattle.precision_law.proofs.words.{Clocks.synchronised_has_time, Plans.{State, Summary, Units, Verdict, amount, best_on, count_of, deviation_on}}
 use Rattle.precision_law.proofs.words.Laws.{BlockGoesSo, BlocksGoSo, ComesTo, CorrectsSo, DispatchesSo, HasTimeAt, Hull, IsDispatch, IsInBlock, IsInHull}
 use Rattle.precision_law.proofs.words.Laws.{IsOldAt, IsPointOf, IsView, JoinsSo, ShowsIn, View, adjustment_left, base_of, cycle_set, epoch_time}
 use Rattle.precision_law.proofs.words.Laws.{first_correction, has_time, hull_of, is_correction, last_setting, next_of, setting, state_left}
 use Rattle.precision_law.proofs.words.Plans.{A, B, Channel, Cleared, Corrected, DeviceId, HasVerdict, Integrating, IsAtIntegration, Joining, Masters, Standing}
-use Rattle.precision_law.proofs.words.Plans.{State, Summary, Units, Verdict, amount, best_on, count_of, deviation_on}
 use Rattle.precision_law.proofs.words.Runs.{Happening, Integrates, IsIn, adjustment_with, correction_value, cycle_in, earlier, expected_by, has_cleared}
 use Rattle.precision_law.proofs.words.Runs.{integration_cycle, is_joined_by, is_synchronised, next_cycle, recorded_cycle, standing_before, state_after}
-use Rattle.precision_law.proofs.words.Runs.{state_before, time_of}
-use Rattle.precision_law.proofs.words.Std.{if◌then◌else◌, ◌*◌, ◌+ℤ◌, ◌+◌, ◌<ℤ◌, ◌<◌, ◌∙◌, ◌≡◌, ◌≤ℤ◌, ◌≤◌, Bool, List, None, Option, Some, ap, arith, by_lt_z}
-use Rattle.precision_law.proofs.words.Std.{cases_lt, false, inl, inr, ints, mul-le-mul_right, negsuc, option_map_or, pos, refl, subst, suc, sym, true, zero, ℕ}
-use Rattle.precision_law.proofs.words.Std.{ℤ}
+use Rattle.precision_law.proofs.words.Std.{◌*◌, ◌+ℤ◌, ◌+◌, ◌<ℤ◌, ◌<◌, ◌∙◌, ◌≡◌, ◌≤ℤ◌, ◌≤◌, Bool, List, None, Option, Some, ap, arith, by_lt_z, cases_lt, false}
+use Rattle.precision_law.proofs.words.Std.{if◌then◌else◌, inl, inr, ints, mul-le-mul_right, negsuc, option_map_or, pos, refl, subst, suc, sym, true, zero, ℕ, ℤ}
 
 -- more cycles are longer
 longer : (c d length : ℕ) → c ≤ d → c * length ≤ d * length

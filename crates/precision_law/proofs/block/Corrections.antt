@@ -1,21 +1,18 @@
 -- How an old device corrects its clock in a block: by frames of the block's cycle, by whose bases the clock is anchored.
 use Rattle.precision_law.proofs.words.Blocks.{FramesGoSo, IsGoodHearing, IsLate, WentSo, before_narrow, block_ends, cleared_from, corrections_go_on}
 use Rattle.precision_law.proofs.words.Blocks.{expected_is, follows_before, good_hearing, had_time, high_by, in_part, int_lt-is, joiner_integrates, low_by}
-use Rattle.precision_law.proofs.words.Blocks.{members_by, near_hull, old_number, set_by_joining}
+use Rattle.precision_law.proofs.words.{Blocks.{members_by, near_hull, old_number, set_by_joining}, Laws.{hull_of, is_correction, last_setting, setting}}
 use Rattle.precision_law.proofs.words.Clocks.{IsHearingOf, adjustment_stays, best_is_heard, hearing_of, hears_by, instants_are_in_order, int_le-is, room}
 use Rattle.precision_law.proofs.words.Clocks.{same_adjustment, same_cleared, same_next, set_clocks_show, setting_is, settings_stay, sizes_are, steady}
-use Rattle.precision_law.proofs.words.Clocks.{two_frames_anchor}
+use Rattle.precision_law.proofs.words.{Clocks.two_frames_anchor, Runs.{same_some, standing_before, time_of}, Std.{refl, subst, suc, sym, true, zero, ℕ, ℤ}}
 use Rattle.precision_law.proofs.words.Laws.{AreBeforeCorrections, CorrectsSo, HasTimeAt, HearsBy, Hull, IsAnchored, IsAnchoredIn, IsInBlock, IsNearHull}
 use Rattle.precision_law.proofs.words.Laws.{IsOldAt, IsSetFor, IsSharedCorrection, IsView, Stands, View, adjustment_left, base_of, cycle_set, first_correction}
-use Rattle.precision_law.proofs.words.Laws.{hull_of, is_correction, last_setting, setting}
 use Rattle.precision_law.proofs.words.Plans.{Channel, DeviceId, HeardFrame, Hearing, IsBestOf, IsMean, Masters, Summarizes, Summary, Units, best_on}
 use Rattle.precision_law.proofs.words.Plans.{correction_of, count_of, deviation_by, expected_at, mean_of-floor, within_on}
 use Rattle.precision_law.proofs.words.Runs.{Happening, IsIn, Judgement, Within, adjustment_before, changed_at, correction_value, earlier, expected_by, had_come}
 use Rattle.precision_law.proofs.words.Runs.{has_cleared, heard_since, in_left, is_integration_cycle, local_at_change, next_cycle, plan_of, recorded_cycle}
-use Rattle.precision_law.proofs.words.Runs.{same_some, standing_before, time_of}
-use Rattle.precision_law.proofs.words.Std.{if◌then◌else◌, ◌*◌, ◌+ℤ◌, ◌+◌, ◌-ℤ◌, ◌-◌, ◌<◌, ◌∙◌, ◌≡◌, ◌≤ℤ◌, ◌≤◌, Bool, List, None, Option, Some, and_parts, ap}
-use Rattle.precision_law.proofs.words.Std.{arith, cases_lt, false, inl, inr, int_le, int_lt, ints, leb-true, nat_le, negsuc, option_and_then, option_map_or}
-use Rattle.precision_law.proofs.words.Std.{pos, refl, subst, suc, sym, true, zero, ℕ, ℤ}
+use Rattle.precision_law.proofs.words.Std.{◌*◌, ◌+ℤ◌, ◌+◌, ◌-ℤ◌, ◌-◌, ◌<◌, ◌∙◌, ◌≡◌, ◌≤ℤ◌, ◌≤◌, Bool, List, None, Option, Some, and_parts, ap, arith, cases_lt}
+use Rattle.precision_law.proofs.words.Std.{false, if◌then◌else◌, inl, inr, int_le, int_lt, ints, leb-true, nat_le, negsuc, option_and_then, option_map_or, pos}
 
 -- ---- how late an old device heard what it corrects by
 

@@ -1,20 +1,18 @@
 -- Good masters dispatch the frames of each cycle.
 use Rattle.run_law.specs.timed.Dispatching.{Sends}
-use Rattle.precision_law.proofs.block.{Coming.reaches_in_block, Onward.hull_ordered}
+use Rattle.precision_law.proofs.{block.{Coming.reaches_in_block, Onward.hull_ordered}, words.Blocks.{master_is_end, not_turned_on_then, old_point, turned_at}}
 use Rattle.precision_law.proofs.words.Blocks.{HasPoint, before_narrow, earlier_in_block, early_show, has_corrected, has_lost, joining_of_setting, looking_by}
-use Rattle.precision_law.proofs.words.Blocks.{master_is_end, not_turned_on_then, old_point, turned_at}
 use Rattle.precision_law.proofs.words.Clocks.{before_of, before_place, earlier_before, frames_come_first, good_is_correct, in_earlier, natural_of, one_more}
 use Rattle.precision_law.proofs.words.Clocks.{reaches_front, room, same_device, setting_is, sizes_are}
 use Rattle.precision_law.proofs.words.Laws.{BlocksGoSo, HasTimeAt, IsClique, IsDispatch, IsFirm, IsFirstMaster, IsGood, IsInBlock, IsOldAt, IsView}
 use Rattle.precision_law.proofs.words.Laws.{MastersDispatch, View, first_correction, has_time, is_correction, last_dispatch, last_setting, state_left}
 use Rattle.precision_law.proofs.words.Plans.{Corrected, Device, DeviceId, Event, Integrating, Joining, State, Synchronised, Verdict, amount, device_at}
-use Rattle.precision_law.proofs.words.Plans.{state_at_start, units_of}
+use Rattle.precision_law.proofs.words.{Plans.{state_at_start, units_of}, Std.{option_and_then, option_map_or, pos, refl, subst, suc, sym, true, zero, ℕ, ℤ}}
 use Rattle.precision_law.proofs.words.Runs.{BeginsOn, ChangesState, Happening, Integrates, IsCaused, IsDue, IsFoundedAt, IsIn, NotOff, Note, NoteBody, Reaches}
 use Rattle.precision_law.proofs.words.Runs.{TurnsOn, Why, due_is_there, earlier, founded_at, happening, in_at, in_left, is_joined_by, is_turned_on_at, numbered}
 use Rattle.precision_law.proofs.words.Runs.{numbered_in, parted, place_of, split, start_of, state_after, state_before, state_with, time_of}
-use Rattle.precision_law.proofs.words.Std.{if◌then◌else◌, ◌*◌, ◌+ℤ◌, ◌+◌, ◌<ℤ◌, ◌<◌, ◌==◌, ◌∙◌, ◌∷◌, ◌≡◌, ◌≤◌, Bool, IsNone, IsSomeAnd, List, None, Option}
-use Rattle.precision_law.proofs.words.Std.{Some, [], ap, arith, cases_Bool, cases_lt, false, false_from_ne_true, fold, inl, inr, ints, length, negsuc}
-use Rattle.precision_law.proofs.words.Std.{option_and_then, option_map_or, pos, refl, subst, suc, sym, true, zero, ℕ, ℤ}
+use Rattle.precision_law.proofs.words.Std.{◌*◌, ◌+ℤ◌, ◌+◌, ◌<ℤ◌, ◌<◌, ◌==◌, ◌∙◌, ◌∷◌, ◌≡◌, ◌≤◌, Bool, IsNone, IsSomeAnd, List, None, Option, Some, [], ap}
+use Rattle.precision_law.proofs.words.Std.{arith, cases_Bool, cases_lt, false, false_from_ne_true, fold, if◌then◌else◌, inl, inr, ints, length, negsuc}
 use Rattle.run_law.specs.declared.judgement.Why.TheVariants as whys
 use Rattle.run_law.specs.declared.note.NoteBody.TheVariants as notes
 

@@ -1,19 +1,16 @@
 -- What each instant of a block brings, from what frames are heard.
-use Rattle.precision_law.proofs.{clocks.Unchanged.AreUpTo, law.{Precision.clique_point, Together.{block_ends, follows_before}}}
+use Rattle.precision_law.proofs.{clocks.Unchanged.AreUpTo, law.{Precision.clique_point, Together.{block_ends, follows_before}}, words.Laws.start_hull}
 use Rattle.precision_law.proofs.words.Clocks.{before_of, earlier_before, earlier_judge, instants_are_in_order, point_timed, room, same_adjustment, same_device}
-use Rattle.precision_law.proofs.words.Clocks.{time_stays}
+use Rattle.precision_law.proofs.words.{Clocks.time_stays, Runs.{same_some, state_at_hearing, time_of}, Std.{pos, refl, subst, suc, sym, true, zero, ℕ, ℤ}}
 use Rattle.precision_law.proofs.words.Laws.{AreBeforeCorrections, AreGood, BasesAreInHulls, BlockGoesSo, ComesTo, EmissionsAreOfDispatches, HasGood, HasTimeAt}
 use Rattle.precision_law.proofs.words.Laws.{HeardFramesAreTimely, HeardInTheirBlocks, HearingsAreOfFrames, HearsBy, Hull, IsClique, IsDispatch, IsEmission}
 use Rattle.precision_law.proofs.words.Laws.{IsGood, IsInHull, IsNarrow, IsNearHull, IsOfHearer, IsOldAt, IsPointOf, IsTidyBefore, IsTimely, IsView, Stands}
 use Rattle.precision_law.proofs.words.Laws.{ThreeHaveGood, View, adjustment_left, base_of, epoch_time, first_correction, first_dispatch, hull_of, is_correction}
-use Rattle.precision_law.proofs.words.Laws.{start_hull}
 use Rattle.precision_law.proofs.words.Plans.{Channel, Cleared, Corrected, DeviceId, LinkId, Members, Pcf, State, Units, Verdict, amount, count_of}
 use Rattle.precision_law.proofs.words.Runs.{ComesToCorrection, Happening, IsCaused, IsFoundedAt, IsIn, Judgement, NoteBody, Scenario, Why}
 use Rattle.precision_law.proofs.words.Runs.{adjustment_at_hearing, before_permanence, changes_adjustment, channel_of, cycle_in, earlier, expected_by}
 use Rattle.precision_law.proofs.words.Runs.{founded_at, heard_as, in_filter, in_left, in_parts, is_before, members_in, observation_window, place_of, plan_of}
-use Rattle.precision_law.proofs.words.Runs.{same_some, state_at_hearing, time_of}
 use Rattle.precision_law.proofs.words.Std.{◌*◌, ◌+ℤ◌, ◌+◌, ◌-◌, ◌<ℤ◌, ◌<◌, ◌∙◌, ◌∷◌, ◌≡◌, ◌≤ℤ◌, ◌≤◌, ◌⊎◌, List, Some, [], ap, arith, cases_lt, inl, inr, ints}
-use Rattle.precision_law.proofs.words.Std.{pos, refl, subst, suc, sym, true, zero, ℕ, ℤ}
 use Rattle.run_law.specs.declared.note.NoteBody.TheVariants as notes
 
 -- ---- laws of frames

@@ -1,22 +1,19 @@
 -- The dispatches of a cycle come half as far apart as those of the cycle before, but for the starts.
 use Rattle.run_law.proofs.device.States.{is_in}
 use Rattle.sync_state.proofs.StateFacts.{up_state}
-use Rattle.precision_law.proofs.{block.{Goings.next_first, Starts.{has_start, none_at_start, start_is}}, law.Cover.{behind_of, later_end}}
-use Rattle.precision_law.proofs.law.Together.{before_narrow}
+use Rattle.precision_law.proofs.{block.Goings.next_first, law.Together.before_narrow}
+use Rattle.precision_law.proofs.{block.Starts.{has_start, none_at_start, start_is}, law.Cover.{behind_of, later_end}, words.Laws.{state_left, widened}}
 use Rattle.precision_law.proofs.words.Clocks.{adjustment_is_last, adjustment_stays, anchored_clocks_reach, anchored_clocks_show, before_of}
 use Rattle.precision_law.proofs.words.Clocks.{clocks_reach_sharply, device_of, earlier_before, frames_come_first, master_ends, never_some, over, passes}
 use Rattle.precision_law.proofs.words.Clocks.{reaches_whole, room, shared_clocks_halve, sizes_are, starts_stay_together, state_stays, steady}
-use Rattle.precision_law.proofs.words.Clocks.{synchronised_has_time, tested, time_stays, within_run}
+use Rattle.precision_law.proofs.words.{Clocks.{synchronised_has_time, tested, time_stays, within_run}, Runs.{same_some, start_of, state_after, time_of}, Std.ℤ}
 use Rattle.precision_law.proofs.words.Laws.{AreShared, BlocksGoSo, Hull, HullsAreNarrow, IsAnchored, IsDispatch, IsGood, IsInBlock, IsNearHull, IsOldAt}
 use Rattle.precision_law.proofs.words.Laws.{IsOverBefore, IsReachedNear, IsView, Sizes, Stands, View, adjustment_left, epoch_time, first_dispatch, has_time}
 use Rattle.precision_law.proofs.words.Laws.{hull_of, hull_over, is_dispatch, last_correction, last_dispatch, last_setting, set_adjustment, start_hull}
-use Rattle.precision_law.proofs.words.Laws.{state_left, widened}
 use Rattle.precision_law.proofs.words.Plans.{Device, DeviceId, Synchronised, Units, adjustment_at_start, amount, device_at, is_end_system, is_master}
 use Rattle.precision_law.proofs.words.Runs.{Happening, IsCaused, IsIn, earlier, founded_at, has_role, in_filter, is_end, is_synchronised, is_turned_on_at}
-use Rattle.precision_law.proofs.words.Runs.{same_some, start_of, state_after, time_of}
 use Rattle.precision_law.proofs.words.Std.{◌*◌, ◌+ℤ◌, ◌+◌, ◌-ℤ◌, ◌<ℤ◌, ◌<◌, ◌∙◌, ◌∷◌, ◌≡◌, ◌≤ℤ◌, ◌≤◌, ◌⊎◌, List, None, Option, Some, [], ap, arith, by_lt_z}
 use Rattle.precision_law.proofs.words.Std.{clamps, false, filter, inl, inr, ints, negsuc, option_and_then, option_map_or, pos, refl, subst, suc, true, zero, ℕ}
-use Rattle.precision_law.proofs.words.Std.{ℤ}
 
 -- ---- the ends of a hull
 

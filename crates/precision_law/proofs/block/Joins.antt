@@ -3,13 +3,12 @@ use Rattle.run_law.proofs.control.Verdicts.{by_schedule}
 use Rattle.precision_law.proofs.words.{Clocks.{device_of, hearer_not_cm, passes, same_device, sizes_are, some_of}, Laws.{HearsBy, IsView, View, setting}}
 use Rattle.precision_law.proofs.words.Plans.{Channel, Cm, Device, DeviceId, Integrating, IsDeviceInRange, Joints, Link, LinkId, Members, Network, Off, Pcf}
 use Rattle.precision_law.proofs.words.Plans.{Point, Role, State, SyncPlan, Units, all_at, amount, compression_time, count_of, device_at, expected_at}
-use Rattle.precision_law.proofs.words.Plans.{is_end_system, link_at, opened, target_by}
+use Rattle.precision_law.proofs.words.{Plans.{is_end_system, link_at, opened, target_by}, Std.{sym, true, unsigned_abs, ℕ, ℤ}}
 use Rattle.precision_law.proofs.words.Runs.{Happening, Integrates, IsArrivedRecord, IsCaused, IsFoundedAt, IsIn, IsPermanenceOutcome, NoteBody, adjustment_with}
 use Rattle.precision_law.proofs.words.Runs.{channel_of, channel_of_link, cycle_in, expected_by, founded_at, frame_by, heard_as, heard_enough, is_cm, is_cm_role}
 use Rattle.precision_law.proofs.words.Runs.{is_joined_by, last_cycle, members_in, numbered_in, observation_window, plan_of, same_judgement}
-use Rattle.precision_law.proofs.words.Std.{◌*ℤ◌, ◌*◌, ◌+◌, ◌-ℤ◌, ◌∙◌, ◌≡◌, ◌≤ℤ◌, ◌≤◌, Bool, List, MatchBool-at_false, None, Option, Some}
-use Rattle.precision_law.proofs.words.Std.{and_parts, ap, arith, false, inl, inr, ints, leb-true, nat_le, negsuc, not, option_and_then, option_map}
-use Rattle.precision_law.proofs.words.Std.{option_map_or, pos, refl, subst, sym, true, unsigned_abs, ℕ, ℤ}
+use Rattle.precision_law.proofs.words.Std.{◌*ℤ◌, ◌*◌, ◌+◌, ◌-ℤ◌, ◌∙◌, ◌≡◌, ◌≤ℤ◌, ◌≤◌, Bool, List, MatchBool-at_false, None, Option, Some, and_parts, ap, arith}
+use Rattle.precision_law.proofs.words.Std.{false, inl, inr, ints, leb-true, nat_le, negsuc, not, option_and_then, option_map, option_map_or, pos, refl, subst}
 use Rattle.run_law.specs.declared.note.NoteBody.TheVariants as notes
 use Rattle.run_law.specs.declared.steps.Ripe.TheVariants as ripe
 

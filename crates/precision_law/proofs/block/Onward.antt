@@ -1,9 +1,8 @@
 -- When a block is over the network stands as it should.
 use Rattle.precision_law.proofs.words.Blocks.{HasCorrected, IsSetInBlock, before_narrow, block_ends, follows_before, has_corrected, has_lost, high_by}
 use Rattle.precision_law.proofs.words.Blocks.{hulls_are_narrow, int_lt-from, joiner_integrates, joining_of_setting, known_dispatch, later_end, low_by}
-use Rattle.precision_law.proofs.words.Blocks.{old_point, set_by, set_by_joining}
+use Rattle.precision_law.proofs.words.{Blocks.{old_point, set_by, set_by_joining}, Clocks.{setting_is, sizes_are, steady}, Runs.{start_of, time_of}}
 use Rattle.precision_law.proofs.words.Clocks.{adjustment_is_last, instants_are_in_order, joiner_waits, room, set_clocks_have_reached, set_clocks_show}
-use Rattle.precision_law.proofs.words.Clocks.{setting_is, sizes_are, steady}
 use Rattle.precision_law.proofs.words.Laws.{AreNarrow, BlockGoesSo, BlockIsOver, BlocksGoSo, FirmDevicesCorrect, HadPoint, HasTimeAt, Hull, IsAnchored}
 use Rattle.precision_law.proofs.words.Laws.{IsAnchoredIn, IsFirm, IsGood, IsGoodEnd, IsInBlock, IsNarrow, IsOldAt, IsPointOf, IsSetFor, IsSharedBy, IsView}
 use Rattle.precision_law.proofs.words.Laws.{JoinsSo, NoneLost, PointsHaveCome, PointsShare, Stands, StandsOn, SwitchesAreGood, View, adjustment_left, cycle_set}
@@ -11,7 +10,6 @@ use Rattle.precision_law.proofs.words.Laws.{first_correction, has_time, hull_of,
 use Rattle.precision_law.proofs.words.{Laws.state_left, Plans.{Corrected, DeviceId, Synchronised, Units, adjustment_at_start, int_le-true}}
 use Rattle.precision_law.proofs.words.Runs.{Happening, IsIn, NoteBody, adjustment_before, adjustment_with, changed_at, changes_adjustment, correction_value}
 use Rattle.precision_law.proofs.words.Runs.{cycle_in, earlier, had_come, is_integration_cycle, is_synchronised, local_at_change, recorded_cycle, same_some}
-use Rattle.precision_law.proofs.words.Runs.{start_of, time_of}
 use Rattle.precision_law.proofs.words.Std.{◌*◌, ◌+ℤ◌, ◌+◌, ◌-◌, ◌<◌, ◌∙◌, ◌≡◌, ◌≤ℤ◌, ◌≤◌, Bool, None, Option, Some, and_from, ap, arith, both_ways, cases_lt}
 use Rattle.precision_law.proofs.words.Std.{false, inl, inr, int_le, int_lt, ints, negsuc, option_map_or, pos, refl, subst, suc, sym, true, zero, ℕ, ℤ}
 

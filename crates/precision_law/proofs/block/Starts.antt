@@ -1,11 +1,9 @@
 -- At the beginning the network stands as it should.
-use Rattle.precision_law.proofs.{Plain.reached, words.Clocks.{room, sizes_are, starts_are_set, steady}}
+use Rattle.precision_law.proofs.{Plain.reached, words.{Clocks.{room, sizes_are, starts_are_set, steady}, Laws.start_hull, Std.{true, ℕ}}}
 use Rattle.precision_law.proofs.words.Laws.{HasTimeAt, Hull, IsAnchoredIn, IsNarrow, IsSetFor, IsView, StandsAtStart, View, epoch_cycle, has_time, hull_of}
-use Rattle.precision_law.proofs.words.Laws.{start_hull}
 use Rattle.precision_law.proofs.words.Plans.{Device, DeviceId, IsDeviceInRange, IsWithin, Masters, Units, adjustment_at_start, all_at, device_at}
 use Rattle.precision_law.proofs.words.{Plans.state_at_start, Runs.{Happening, adjustment_after, earlier, none_kept, start_of, state_after, time_of}}
 use Rattle.precision_law.proofs.words.Std.{◌^◌, ◌∙◌, ◌≡◌, ◌≤ℤ◌, IfSome, List, None, Option, Some, [], ap, arith, ints, le-ltb, nat_lt, pos, refl, subst, sym}
-use Rattle.precision_law.proofs.words.Std.{true, ℕ}
 
 -- before time 0 there is no record
 pub none_at_start : (hs : List Happening) → earlier 0 hs ≡ []

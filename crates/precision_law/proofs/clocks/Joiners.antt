@@ -1,20 +1,18 @@
 -- A device whose clock was last set by a frame that told it the time is still joining.
 use Rattle.net_plan.proofs.SameIds.{one_device}
-use Rattle.run_law.proofs.records.Happenings.{from_earlier, is_earlier}
+use Rattle.run_law.proofs.records.{Happenings.{from_earlier, is_earlier}, Members.in_kept}
 use Rattle.tte_lemmas.proofs.Lists.{last_more}
-use Rattle.precision_law.proofs.{Plain.higher_before, clocks.Epochs.{Keeps, kept_by_all, kept_if, state_stays}, records.Points.{setting_is, sorted_parts}}
-use Rattle.precision_law.proofs.records.{Times.{AreSorted, last_some}, Views.in_order}
-use Rattle.precision_law.proofs.words.Laws.{IsView, View, epoch_time, last_setting, state_left}
-use Rattle.precision_law.proofs.words.Plans.{DeviceId, Joining, State, Units, amount, state_at_start}
+use Rattle.precision_law.proofs.Plain.{higher_before}
+use Rattle.precision_law.proofs.{clocks.Epochs.{Keeps, kept_by_all, kept_if, state_stays}, words.Laws.{IsView, View, epoch_time, last_setting, state_left}}
+use Rattle.precision_law.proofs.{records.Points.{setting_is, sorted_parts}, words.Std.{nat_lt, negsuc, option_map_or, pos, refl, subst, sym, true, ℕ}}
+use Rattle.precision_law.proofs.{records.{Times.{AreSorted, last_some}, Views.in_order}, words.Plans.{DeviceId, Joining, State, Units, amount, state_at_start}}
 use Rattle.precision_law.proofs.words.Runs.{ChangesState, Happening, Integrates, IsCaused, IsDue, IsFounded, IsIn, NoteBody, Scenario, Why, behind_first}
 use Rattle.precision_law.proofs.words.Runs.{changes_adjustment, earlier, founded_at, in_filter, in_left, in_parts, in_right, is_joined_by, is_synchronised}
 use Rattle.precision_law.proofs.words.Runs.{never_self, numbered_in, place_of, rank, same_some, start_of, state_after, state_with, time_of}
-use Rattle.precision_law.proofs.words.Std.{if◌then◌else◌, ◌++◌, ◌+◌, ◌<◌, ◌==◌, ◌∙◌, ◌∷◌, ◌≡◌, Bool, List, None, Option, Some, [], ap, append_assoc, arith}
-use Rattle.precision_law.proofs.words.Std.{both_ways, eq-eqb, false, false_from_ne_true, filter, filter-append, fold-append, inl, inr, ints, last_or, lt-ltb}
-use Rattle.precision_law.proofs.words.Std.{nat_lt, negsuc, option_map_or, pos, refl, subst, sym, true, ℕ}
+use Rattle.precision_law.proofs.words.Std.{◌++◌, ◌+◌, ◌<◌, ◌==◌, ◌∙◌, ◌∷◌, ◌≡◌, Bool, List, None, Option, Some, [], ap, append_assoc, arith, both_ways, eq-eqb}
+use Rattle.precision_law.proofs.words.Std.{false, false_from_ne_true, filter, filter-append, fold-append, if◌then◌else◌, inl, inr, ints, last_or, lt-ltb}
 use Rattle.run_law.specs.declared.judgement.Why.TheVariants as whys
 use Rattle.run_law.specs.declared.note.NoteBody.TheVariants as notes
-use Rattle.run_law.proofs.records.Members.{in_kept}
 
 -- where no correction of the device comes at a time, no change of state synchronises it
 no_correction : (s : Scenario) (ps : List Happening) (t : ℕ) (device : DeviceId) (state : State) (cause : ℕ) (why : Why)

@@ -1,9 +1,7 @@
 -- How the clocks of a lawful scenario read.
-use Rattle.precision_law.proofs.Plain.{lt_by}
+use Rattle.precision_law.proofs.{Plain.lt_by, words.{Plans.{IsReach, amount}, Std.{suc, zero, ℕ, ℤ}}}
 use Rattle.precision_law.proofs.words.Laws.{ClocksAreSteady, IsSteady, PermanenceIsSharp, ReachIsSharp, ReachIsThere, RipeInOrder, ShortByReading, Sizes}
-use Rattle.precision_law.proofs.words.Plans.{IsReach, amount}
 use Rattle.precision_law.proofs.words.Std.{◌*◌, ◌+◌, ◌-◌, ◌/◌, ◌<ℤ◌, ◌<◌, ◌^◌, ◌≡◌, ◌≤ℤ◌, ◌≤◌, arith, by_lt_z, cases_lt, inl, inr, ints, mul-le-mul_left, pos}
-use Rattle.precision_law.proofs.words.Std.{suc, zero, ℕ, ℤ}
 
 -- ---- what the clock laws give
 

@@ -6,9 +6,8 @@ use Rattle.precision_law.proofs.words.Plans.{Cluster, Compressed, DeviceId, Link
 use Rattle.precision_law.proofs.words.Plans.{mean_of, mean_of-floor, middle_of, point_at, relative}
 use Rattle.precision_law.proofs.words.Runs.{Arrival, Happening, IsArrivedRecord, IsCaused, IsDue, IsFounded, IsIn, Judgement, NoteBody, Signal, arrival_of}
 use Rattle.precision_law.proofs.words.Runs.{control, cycle_in, ends_stretch, founded_at, in_right, master_of, members_in, numbered_in, observation_window}
-use Rattle.precision_law.proofs.words.Runs.{place_of, point_by, points_of, standpoint, time_of, timed}
+use Rattle.precision_law.proofs.words.{Runs.{place_of, point_by, points_of, standpoint, time_of, timed}, Std.{inr, ints, map, pos, refl, subst, sym, ℕ, ℤ}}
 use Rattle.precision_law.proofs.words.Std.{◌-ℤ◌, ◌==◌, ◌∙◌, ◌∷◌, ◌≡◌, ◌≤ℤ◌, ◌≤◌, AllByRecursion, Contains, Err, List, Ok, Some, [], after_last, ap, arith, inl}
-use Rattle.precision_law.proofs.words.Std.{inr, ints, map, pos, refl, subst, sym, ℕ, ℤ}
 use Rattle.run_law.specs.declared.note.NoteBody.TheVariants as notes
 
 -- ---- middles

@@ -1,18 +1,16 @@
 -- What compressed frames are made of.
 use Rattle.compression.proofs.ClusterFacts.{ends_soon}
-use Rattle.precision_law.proofs.{block.Joins.cm_channel, compression.{Emitted.{in_cluster, point_record}, Ripenings.{master_of_bit, ripening}}}
+use Rattle.precision_law.proofs.{block.Joins.cm_channel, words.Std.{zero_from_ones, ℕ, ℤ}}
+use Rattle.precision_law.proofs.{compression.Emitted.{in_cluster, point_record}, words.Laws.{MembersAreMasters, ThreeHaveGood, View, clock_in, links_of}}
+use Rattle.precision_law.proofs.{compression.Ripenings.{master_of_bit, ripening}, words.Runs.{member_of, observation_window, points_of, same_some, time_of}}
 use Rattle.precision_law.proofs.{compression.Stretches.points_ordered, hearing.Timely.{cm_of, path_member}, trips.Upward.{path_up, trips_up_take_dmax}}
 use Rattle.precision_law.proofs.words.Clocks.{Apart, any_in, before_of, cluster_from, few_members, frames_up_are_of_masters, has_firsts, has_is_member}
-use Rattle.precision_law.proofs.words.Clocks.{has_member, in_all, in_any, le_by, member_has, one_bad, one_member, sizes_are}
+use Rattle.precision_law.proofs.words.{Clocks.{has_member, in_all, in_any, le_by, member_has, one_bad, one_member, sizes_are}, Plans.{middle_of, relative}}
 use Rattle.precision_law.proofs.words.Laws.{EmissionsAreOfDispatches, HasGood, IsBad, IsDispatch, IsEmission, IsGood, IsGoodMember, IsInTime, IsView}
-use Rattle.precision_law.proofs.words.Laws.{MembersAreMasters, ThreeHaveGood, View, clock_in, links_of}
 use Rattle.precision_law.proofs.words.Plans.{Cluster, Compressed, DeviceId, IsMember, Members, Ordered, Pcf, Point, amount, count_of, emission, members_of}
-use Rattle.precision_law.proofs.words.Plans.{middle_of, relative}
 use Rattle.precision_law.proofs.words.Runs.{Happening, IsCaused, IsFoundedAt, IsIn, cycle_in, founded_at, frame_by, in_left, is_broken, is_cm, master_of}
-use Rattle.precision_law.proofs.words.Runs.{member_of, observation_window, points_of, same_some, time_of}
 use Rattle.precision_law.proofs.words.Std.{◌*◌, ◌++◌, ◌+ℤ◌, ◌<◌, ◌==◌, ◌^◌, ◌∙◌, ◌∷◌, ◌≡◌, ◌≤ℤ◌, ◌≤◌, ◌⊎◌, List, Option, Some, [], ap, arith, bit_at}
 use Rattle.precision_law.proofs.words.Std.{bit_at-zero, both_ways, eq-eqb, eqb-true, inl, inr, ints, map, option_map_or, pos, refl, subst, sym, true}
-use Rattle.precision_law.proofs.words.Std.{zero_from_ones, ℕ, ℤ}
 
 -- ---- points
 

@@ -11,9 +11,8 @@ use Rattle.precision_law.proofs.words.Plans.{AreClusters, AreInOrder, Cluster, C
 use Rattle.precision_law.proofs.words.Plans.{emission, middle_of, one_cluster, one_time_law, relative}
 use Rattle.precision_law.proofs.words.Runs.{Happening, IsBefore, IsCaused, IsDue, IsFounded, IsFoundedAt, IsIn, NoteBody, behind_first, in_left, in_parts}
 use Rattle.precision_law.proofs.words.Runs.{in_right, is_cm, key, members_in, never_self, observation_window, parted, place_of, points_of, rank, same_some}
-use Rattle.precision_law.proofs.words.Runs.{time_of}
+use Rattle.precision_law.proofs.words.{Runs.time_of, Std.{append_assoc, arith, bit_at, cases_lt, inl, inr, ints, map, pos, refl, subst, sym, true, ℕ, ℤ}}
 use Rattle.precision_law.proofs.words.Std.{◌*ℤ◌, ◌*◌, ◌++◌, ◌+ℤ◌, ◌+◌, ◌-ℤ◌, ◌-◌, ◌<ℤ◌, ◌<◌, ◌∙◌, ◌∷◌, ◌≡◌, ◌≤ℤ◌, ◌≤◌, ◌⊎◌, Contains, List, Some, [], ap}
-use Rattle.precision_law.proofs.words.Std.{append_assoc, arith, bit_at, cases_lt, inl, inr, ints, map, pos, refl, subst, sym, true, ℕ, ℤ}
 use Rattle.run_law.specs.declared.note.NoteBody.TheVariants as notes
 
 -- ---- good points of one cycle are near

@@ -1,14 +1,12 @@
 -- What is permanent at a compression master: a master's frame, in the order of the points.
-use Rattle.precision_law.proofs.{compression.Emitted.arrival_young, hearing.Timely.arrived_clock}
+use Rattle.precision_law.proofs.{compression.Emitted.arrival_young, hearing.Timely.arrived_clock, words.Laws.{IsPermanentAt, IsRipe, IsView, View, clock_in}}
 use Rattle.precision_law.proofs.words.Clocks.{child_kind, cm_is_no_end, device_of, natural, permanence_is_sharp, receiver_down, receiver_way, sizes_are, steady}
-use Rattle.precision_law.proofs.words.{Clocks.taken_as, Laws.{IsPermanentAt, IsRipe, IsView, View, clock_in}}
+use Rattle.precision_law.proofs.words.Clocks.{taken_as}
 use Rattle.precision_law.proofs.words.Plans.{Device, DeviceId, Down, IsChildOf, LinkId, Master, Pcf, Relay, Role, Units, Up, Way, amount, device_at}
-use Rattle.precision_law.proofs.words.Plans.{is_end_system, point_of}
+use Rattle.precision_law.proofs.words.{Plans.{is_end_system, point_of}, Runs.{master_of, members_in, numbered_in, receiver_of, same_some, time_of, way_to}}
 use Rattle.precision_law.proofs.words.Runs.{Happening, IsArrivedRecord, IsCaused, IsIn, Judgement, cycle_in, founded_at, frame_by, in_left, is_cm, is_cm_role}
-use Rattle.precision_law.proofs.words.Runs.{master_of, members_in, numbered_in, receiver_of, same_some, time_of, way_to}
-use Rattle.precision_law.proofs.words.Std.{◌^◌, ◌∙◌, ◌∷◌, ◌≡◌, ◌≤ℤ◌, ◌≤◌, List, Option, Some, ap, arith, bit_at-pow_other, bit_at-trailing_zeros, cases_eq}
-use Rattle.precision_law.proofs.words.Std.{inl, inr, ints, option_and_then, option_map_or, pos, pow_below, pow_pos, subst, sym, trailing_zeros, true}
-use Rattle.precision_law.proofs.words.Std.{w32, ℕ, ℤ}
+use Rattle.precision_law.proofs.words.Std.{◌^◌, ◌∙◌, ◌∷◌, ◌≡◌, ◌≤ℤ◌, ◌≤◌, List, Option, Some, ap, arith, bit_at-pow_other, bit_at-trailing_zeros, cases_eq, inl}
+use Rattle.precision_law.proofs.words.Std.{inr, ints, option_and_then, option_map_or, pos, pow_below, pow_pos, subst, sym, trailing_zeros, true, w32, ℕ, ℤ}
 use Rattle.run_law.specs.declared.note.NoteBody.TheVariants as notes
 
 -- ---- what comes to a compression master comes up

@@ -2,19 +2,17 @@
 -- a frame of the block's cycle is of this cycle too.
 use Rattle.run_law.proofs.runs.SameSteps.{never_dropped}
 use Rattle.precision_law.proofs.block.Dispatched.{IsCalm, changes_never, joins_never, old_then, synchronised_before, synchronised_then}
-use Rattle.precision_law.proofs.words.Blocks.{AreUpTo, GivesPoint, hears_as_at, judged_up_to, read_at}
+use Rattle.precision_law.proofs.words.{Blocks.{AreUpTo, GivesPoint, hears_as_at, judged_up_to, read_at}, Runs.{state_at_hearing, state_before, time_of}}
 use Rattle.precision_law.proofs.words.Clocks.{adjustment_stays, any_in, int_le-is, natural, natural_of, one_more, room, same_device, sizes_are, steady}
 use Rattle.precision_law.proofs.words.Laws.{BlocksGoSo, HaveRoom, IsInBlock, IsView, Sizes, View, adjustment_left, has_time}
 use Rattle.precision_law.proofs.words.Plans.{DeviceId, Joining, Network, Pcf, Point, State, Synchronised, Units, amount, int_le-true}
 use Rattle.precision_law.proofs.words.Runs.{Cycle, Gate, Happening, IsCaused, IsCollectedOrDropped, IsIn, Judgement, NoteBody, Reason, Why}
 use Rattle.precision_law.proofs.words.Runs.{adjustment_at_hearing, before_permanence, dispatch_value, ends_stretch, first_reason, founded_at, frame_by}
 use Rattle.precision_law.proofs.words.Runs.{has_joined_at, is_cm, is_joined_by, is_number, is_synchronised, offset_in_cycle, point_fault, ripe_as}
-use Rattle.precision_law.proofs.words.Runs.{state_at_hearing, state_before, time_of}
-use Rattle.precision_law.proofs.words.Std.{if◌then◌else◌, ◌%◌, ◌&&◌, ◌*◌, ◌+ℤ◌, ◌+◌, ◌-◌, ◌/◌, ◌<◌, ◌==◌, ◌∙◌, ◌∷◌, ◌≡◌, ◌≤ℤ◌, ◌≤◌, Bool, List}
-use Rattle.precision_law.proofs.words.Std.{MatchBool-at_true, None, Option, Some, [], and_parts, ap, arith, cases_lt, div-add-mod, div-mul-add, false}
-use Rattle.precision_law.proofs.words.Std.{false_from_ne_true, inl, inr, int_div_euclid, int_le, int_lt, int_rem_euclid_is, ints, le-ltb, ltb-false}
-use Rattle.precision_law.proofs.words.Std.{mod-mul-add, mul-le-mul_right, not, not-false, option_and_then, option_map_or, pos, refl, subst, suc, sym, true, ℕ}
-use Rattle.precision_law.proofs.words.Std.{ℤ}
+use Rattle.precision_law.proofs.words.Std.{◌%◌, ◌&&◌, ◌*◌, ◌+ℤ◌, ◌+◌, ◌-◌, ◌/◌, ◌<◌, ◌==◌, ◌∙◌, ◌∷◌, ◌≡◌, ◌≤ℤ◌, ◌≤◌, Bool, List, MatchBool-at_true, None}
+use Rattle.precision_law.proofs.words.Std.{Option, Some, [], and_parts, ap, arith, cases_lt, div-add-mod, div-mul-add, false, false_from_ne_true, if◌then◌else◌}
+use Rattle.precision_law.proofs.words.Std.{inl, inr, int_div_euclid, int_le, int_lt, int_rem_euclid_is, ints, le-ltb, ltb-false, mod-mul-add, mul-le-mul_right}
+use Rattle.precision_law.proofs.words.Std.{not, not-false, option_and_then, option_map_or, pos, refl, subst, suc, sym, true, ℕ, ℤ}
 use Rattle.run_law.specs.declared.judgement.Why.TheVariants as whys
 use Rattle.run_law.specs.declared.note.NoteBody.TheVariants as notes
 

@@ -1,22 +1,19 @@
 -- The compression master of the sound channel sends one frame of the block's cycle, of enough masters.
-use Rattle.precision_law.proofs.{block.Onward.hull_ordered, emission.{Aimed.{never_ends, of_block_cycle}, Gathered.{Collects, IsGathered, gathered, has_frame}}}
-use Rattle.precision_law.proofs.emission.Senders.{cm_is, first_master, sends_up, sound_cm}
+use Rattle.precision_law.proofs.{block.Onward.hull_ordered, words.{Laws.last_dispatch, Plans.{end_of, one_cluster, one_list_of_clusters}}}
+use Rattle.precision_law.proofs.{emission.Aimed.{never_ends, of_block_cycle}, words.Runs.{place_of, point_by, points_of, rank, same_some, sign, split, time_of}}
+use Rattle.precision_law.proofs.emission.{Gathered.{Collects, IsGathered, gathered, has_frame}, Senders.{cm_is, first_master, sends_up, sound_cm}}
 use Rattle.precision_law.proofs.words.Blocks.{IsBadPoint, IsGoodPoint, IsKnown, IsWitness, bad_number, bases_are_in_hulls, before_narrow, cluster_was}
 use Rattle.precision_law.proofs.words.Blocks.{contained, earlier_in_block, early_show, ends_soon, follows_before, front_point, front_witness, gives_point}
 use Rattle.precision_law.proofs.words.Blocks.{good_near, hulls_are_narrow, is_held, later_point, not_both, point_record, points_ordered, read_at, tidy}
 use Rattle.precision_law.proofs.words.Clocks.{IsSentAt, after_last_none, all_by, all_of, ascending_from, contains, enough_masters, frames_come_first}
 use Rattle.precision_law.proofs.words.Clocks.{in_filter_map, is_sent, made_in, natural_of, one_member, opened_by, place_of_sent, reach_is_there, room, sent_at}
-use Rattle.precision_law.proofs.words.Clocks.{sizes_are, sound_switches_begin_on, steady, switches_are_good}
+use Rattle.precision_law.proofs.words.{Clocks.{sizes_are, sound_switches_begin_on, steady, switches_are_good}, Std.{subst, suc, sym, true, unsigned_abs, ℕ, ℤ}}
 use Rattle.precision_law.proofs.words.Laws.{BlocksGoSo, Hull, IsEmission, IsFirstMaster, IsInBlock, IsInHull, IsView, SendsSo, SoundMasterSends, View, hull_of}
-use Rattle.precision_law.proofs.words.Laws.{last_dispatch}
 use Rattle.precision_law.proofs.words.Plans.{AreClusters, Cluster, DeviceId, Holds, IsDropped, IsKept, IsMember, IsReach, Masters, Members, Ordered, Point}
-use Rattle.precision_law.proofs.words.Plans.{end_of, one_cluster, one_list_of_clusters}
 use Rattle.precision_law.proofs.words.Runs.{Happening, IsDue, IsFounded, IsIn, IsSplit, before_later_time, before_next_time, earlier_time, ends_stretch}
 use Rattle.precision_law.proofs.words.Runs.{front_founded, in_front_of, in_left, in_parts, in_right, is_cm, key, member_of, members_in, observation_window}
-use Rattle.precision_law.proofs.words.Runs.{place_of, point_by, points_of, rank, same_some, sign, split, time_of}
 use Rattle.precision_law.proofs.words.Std.{◌*◌, ◌++◌, ◌+ℤ◌, ◌+◌, ◌<ℤ◌, ◌<◌, ◌∙◌, ◌∷◌, ◌≡◌, ◌≤ℤ◌, ◌≤◌, ◌⊎◌, Contains, List, Some, [], ap, append_assoc, arith}
 use Rattle.precision_law.proofs.words.Std.{bit_at, cases_lt, false_from_ne_true, filter_map, filter_map-append, inl, inr, ints, not, not_from_false, pos, refl}
-use Rattle.precision_law.proofs.words.Std.{subst, suc, sym, true, unsigned_abs, ℕ, ℤ}
 
 -- ---- the points by then
 

@@ -1,15 +1,13 @@
 -- What a clock shows is at most the precision above what any clock shows later.
-use Rattle.precision_law.proofs.{law.Whole.{blocks_known, near}, records.RunViews.IsViewWith}
+use Rattle.precision_law.proofs.falls_lemmas.Views.{AreNearIn, AreViews, IsShown, first_of, in_network, is_shown, least_shown, most_shown, near_hulls}
+use Rattle.precision_law.{proofs.falls_lemmas.Views.{no_later_hull, second_of}, specs.falls.Laws.{ClocksDoNotFallBack, ShowsInStep}}
+use Rattle.precision_law.proofs.law.Whole.{blocks_known, near}
+use Rattle.precision_law.proofs.{records.RunViews.IsViewWith, words.Laws.{BlocksCover, BlocksGoSo, Hull, IsInBlock, IsView, Stands, View, hull_of, start_hull}}
 use Rattle.precision_law.proofs.words.Blocks.{block_ends, corrections_go_on, follows_before, not_integrating, timed_of, up_to_is, view_of, view_with}
-use Rattle.precision_law.proofs.words.Clocks.{one_channel_is_sound, one_more, room}
-use Rattle.precision_law.proofs.words.Laws.{BlocksCover, BlocksGoSo, Hull, IsInBlock, IsView, Stands, View, hull_of, start_hull}
+use Rattle.precision_law.proofs.words.{Clocks.{one_channel_is_sound, one_more, room}, Std.{mul-le-mul_right, pos, refl, subst, suc, sym, zero, ℕ, ℤ}}
 use Rattle.precision_law.proofs.words.Plans.{Channel, DeviceId, IsBeta, Synchronised, beta_at, beta_exists, rules_give_trees, shape_rules}
 use Rattle.precision_law.proofs.words.Runs.{Happening, Scenario, adjustment_after, earlier, happenings, is_broken, is_turned_on_at, same_some, state_after}
 use Rattle.precision_law.proofs.words.Std.{◌*◌, ◌+ℤ◌, ◌+◌, ◌-◌, ◌<◌, ◌≡◌, ◌≤ℤ◌, ◌≤◌, ◌⊎◌, List, Some, ap, arith, cases_lt, false, inl, inr, ints}
-use Rattle.precision_law.proofs.words.Std.{mul-le-mul_right, pos, refl, subst, suc, sym, zero, ℕ, ℤ}
-use Rattle.precision_law.proofs.falls_lemmas.Views.{AreNearIn, AreViews, IsShown, first_of, in_network, is_shown, least_shown, most_shown, near_hulls}
-use Rattle.precision_law.proofs.falls_lemmas.Views.{no_later_hull, second_of}
-use Rattle.precision_law.specs.falls.Laws.{ClocksDoNotFallBack, ShowsInStep}
 
 -- the hull of an earlier cycle is not behind itself either
 ordered_before : (v : View) (k : ℕ) (stands : Stands v k) (j : ℕ) (hull : Hull) → IsView v → j ≤ k → hull_of v j ≡ Some hull → hull.least ≤ℤ hull.greatest

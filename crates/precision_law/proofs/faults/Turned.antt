@@ -1,19 +1,16 @@
 -- A device that has the common time is not just turned on.
-use Rattle.run_law.proofs.scenario.Devices.{on_by}
-use Rattle.precision_law.proofs.words.Clocks.{Keeps, any_in, any_of_in, before_of, earlier_before, in_earlier, kept_by_all, kept_if}
-use Rattle.precision_law.proofs.words.{Clocks.{point_has_time, same_device}, Laws.{AreBeforeCorrections, IsView, NoneTurnsOn, View, has_time, state_left}}
-use Rattle.precision_law.proofs.words.Plans.{Device, DeviceId, Event, Integrating, Joining, Off, State, amount, device_at, state_at_start}
-use Rattle.precision_law.proofs.words.Runs.{ChangesState, Happening, Integrates, IsCaused, IsEventRecord, IsIn, NotOff, NoteBody}
-use Rattle.precision_law.proofs.words.Runs.{Scenario, TurnsOn, Why, earlier, founded_at, in_at}
-use Rattle.precision_law.proofs.words.Runs.{in_left, in_parts, in_right, is_joined_by, is_off, is_turned_on_at, numbered_in, parted}
+use Rattle.run_law.proofs.{control.Joined.looking_by, scenario.Devices.on_by}
+use Rattle.precision_law.proofs.words.Clocks.{Keeps, any_in, any_of_in, before_of, earlier_before, in_earlier, kept_by_all, kept_if, point_has_time}
+use Rattle.precision_law.proofs.words.{Clocks.same_device, Plans.{Device, DeviceId, Event, Integrating, Joining, Off, State, amount, device_at, state_at_start}}
+use Rattle.precision_law.proofs.words.{Laws.{AreBeforeCorrections, IsView, NoneTurnsOn, View, has_time, state_left}, Std.{true, zero, ℕ}}
+use Rattle.precision_law.proofs.words.Runs.{ChangesState, Happening, Integrates, IsCaused, IsEventRecord, IsIn, NotOff, NoteBody, Scenario, TurnsOn, Why}
+use Rattle.precision_law.proofs.words.Runs.{earlier, founded_at, in_at, in_left, in_parts, in_right, is_joined_by, is_off, is_turned_on_at, numbered_in, parted}
 use Rattle.precision_law.proofs.words.Runs.{start_of, state_after, state_before, time_of, turns_on}
-use Rattle.precision_law.proofs.words.Std.{if◌then◌else◌, ◌++◌, ◌<◌, ◌==◌, ◌∙◌, ◌∷◌, ◌≡◌, ◌≤◌, Bool, IsNone, IsSomeAnd, List, None, Option, Some}
-use Rattle.precision_law.proofs.words.Std.{and_parts, ap, append_assoc, arith, eqb-true, false, false_from_ne_true, inl, inr, not, option_and_then, refl, subst}
-use Rattle.precision_law.proofs.words.Std.{suc, sym, true, zero, ℕ}
+use Rattle.precision_law.proofs.words.Std.{◌++◌, ◌<◌, ◌==◌, ◌∙◌, ◌∷◌, ◌≡◌, ◌≤◌, Bool, IsNone, IsSomeAnd, List, None, Option, Some, and_parts, ap, append_assoc}
+use Rattle.precision_law.proofs.words.Std.{arith, eqb-true, false, false_from_ne_true, if◌then◌else◌, inl, inr, not, option_and_then, refl, subst, suc, sym}
 use Rattle.net_plan.specs.declared.event.What.TheVariants as events
 use Rattle.run_law.specs.declared.judgement.Why.TheVariants as whys
 use Rattle.run_law.specs.declared.note.NoteBody.TheVariants as notes
-use Rattle.run_law.proofs.control.Joined.{looking_by}
 
 -- ---- states
 

@@ -2,16 +2,13 @@
 use Rattle.precision_law.proofs.words.Blocks.{AreUpTo, FramesGoSo, IsGoodHearing, IsSentOn, WentSo, before_narrow, cm_of, earlier_in_block, emission_is_one}
 use Rattle.precision_law.proofs.words.Blocks.{expected_is, few_cycles, follows_before, hears_as_at, hulls_are_narrow, judged_at, judged_up_to, members_by}
 use Rattle.precision_law.proofs.words.Blocks.{near_hull, next_first, old_shows, one_cm, tidy, up_to_then}
-use Rattle.precision_law.proofs.words.Clocks.{before_of, emission_shows, hearer_not_cm, one_more, room, sizes_are}
+use Rattle.precision_law.proofs.words.{Clocks.{before_of, emission_shows, hearer_not_cm, one_more, room, sizes_are}, Laws.has_time, Plans.int_le-true}
 use Rattle.precision_law.proofs.words.Laws.{AreGood, BlocksGoSo, HasTimeAt, HearsBy, IsEmission, IsInBlock, IsOfHearer, IsOldAt, IsView, View, first_correction}
-use Rattle.precision_law.proofs.words.Laws.{has_time}
 use Rattle.precision_law.proofs.words.Plans.{Channel, DeviceId, IsCmOf, Joining, Members, Pcf, State, SyncPlan, Synchronised, Units, count_of, expected_at}
-use Rattle.precision_law.proofs.words.Plans.{int_le-true}
 use Rattle.precision_law.proofs.words.Runs.{Happening, IsCaused, Judgement, Within, before_permanence, cycle_in, founded_at, frame_by, heard_as, heard_by}
-use Rattle.precision_law.proofs.words.Runs.{hearing_by, last_cycle, observation_window, plan_of, same_judgement, time_of}
-use Rattle.precision_law.proofs.words.Std.{if◌then◌else◌, ◌+ℤ◌, ◌-ℤ◌, ◌<ℤ◌, ◌<◌, ◌==◌, ◌∙◌, ◌≡◌, ◌≤ℤ◌, ◌≤◌, ◌⊎◌, Bool, List, MatchBool-at_false, Option}
-use Rattle.precision_law.proofs.words.Std.{Some, ap, arith, eq-eqb, inl, inr, ints, le-leb, nat_le, option_and_then, option_map, option_map_or, pos, refl}
-use Rattle.precision_law.proofs.words.Std.{subst, suc, sym, true, ℕ, ℤ}
+use Rattle.precision_law.proofs.words.{Runs.{hearing_by, last_cycle, observation_window, plan_of, same_judgement, time_of}, Std.{suc, sym, true, ℕ, ℤ}}
+use Rattle.precision_law.proofs.words.Std.{◌+ℤ◌, ◌-ℤ◌, ◌<ℤ◌, ◌<◌, ◌==◌, ◌∙◌, ◌≡◌, ◌≤ℤ◌, ◌≤◌, ◌⊎◌, Bool, List, MatchBool-at_false, Option, Some, ap, arith}
+use Rattle.precision_law.proofs.words.Std.{eq-eqb, if◌then◌else◌, inl, inr, ints, le-leb, nat_le, option_and_then, option_map, option_map_or, pos, refl, subst}
 use Rattle.run_law.specs.declared.note.NoteBody.TheVariants as notes
 
 -- ---- judgements

@@ -1,15 +1,14 @@
 -- What a device hears is a frame that a compression master sent.
 use Rattle.tte_lemmas.proofs.Options.{passed}
-use Rattle.precision_law.proofs.{records.Points.before_of, trips.Descents.{emission_shows, frames_down_are_of_cms}}
+use Rattle.precision_law.proofs.{records.Points.before_of, words.Plans.{Up, all_at, amount, compression_time, device_at, is_end_system, link_at, opened}}
+use Rattle.precision_law.proofs.trips.Descents.{emission_shows, frames_down_are_of_cms}
 use Rattle.precision_law.proofs.words.Laws.{HearingsAreOfFrames, IsEmission, IsOfHearer, IsView, View, expectation}
 use Rattle.precision_law.proofs.words.Plans.{Channel, Device, DeviceId, Down, IsDeviceInRange, Joints, Link, LinkId, Network, Pcf, Point, Relay, Role, Taken}
-use Rattle.precision_law.proofs.words.Plans.{Up, all_at, amount, compression_time, device_at, is_end_system, link_at, opened}
 use Rattle.precision_law.proofs.words.Runs.{Happening, Integrates, IsCaused, IsCollectedOrDropped, IsIn, IsPermanenceOutcome, Judgement, Outside, Reason}
 use Rattle.precision_law.proofs.words.Runs.{Within, cause_of, cycle_in, expected_by, founded_at, frame_by, in_left, is_cm, is_cm_role, is_parent_of}
-use Rattle.precision_law.proofs.words.Runs.{is_relay_role, numbered, numbered_front, numbered_in, ripe_as, ripe_by_role, waits_for, way_to}
-use Rattle.precision_law.proofs.words.Std.{if◌then◌else◌, ◌+◌, ◌==◌, ◌∙◌, ◌∷◌, ◌≡◌, Bool, List, MatchBool-at_true, None, Option, Some, ap, arith}
-use Rattle.precision_law.proofs.words.Std.{both_ways, eqb-true, false, false_from_ne_true, inl, inr, is_some, not-true, option_and_then, option_map_or, refl}
-use Rattle.precision_law.proofs.words.Std.{subst, sym, true, ℕ, ℤ}
+use Rattle.precision_law.proofs.words.{Runs.{is_relay_role, numbered, numbered_front, numbered_in, ripe_as, ripe_by_role, waits_for, way_to}, Std.{true, ℕ, ℤ}}
+use Rattle.precision_law.proofs.words.Std.{◌+◌, ◌==◌, ◌∙◌, ◌∷◌, ◌≡◌, Bool, List, MatchBool-at_true, None, Option, Some, ap, arith, both_ways, eqb-true, false}
+use Rattle.precision_law.proofs.words.Std.{false_from_ne_true, if◌then◌else◌, inl, inr, is_some, not-true, option_and_then, option_map_or, refl, subst, sym}
 use Rattle.compression.specs.declared.taken.Taken.TheVariants as taken
 use Rattle.run_law.specs.declared.note.NoteBody.TheVariants as notes
 use Rattle.run_law.specs.declared.steps.Ripe.TheVariants as ripe

@@ -1,20 +1,19 @@
 -- The frame that the compression master of the sound channel sends in a block is heard by each old device that is to keep
 -- the time.
-use Rattle.precision_law.proofs.{block.Onward.firm_good, hearing.{GoodFrames.{IsAtPoint, sooner}, Timely.of_channel_is}, trips.Gates.are_open_from}
+use Rattle.precision_law.proofs.block.Onward.{firm_good}
+use Rattle.precision_law.proofs.{hearing.{GoodFrames.{IsAtPoint, sooner}, Timely.of_channel_is}, words.Plans.{Synchronised, device_at, is_end_system, opened}}
+use Rattle.precision_law.proofs.{trips.Gates.are_open_from, words.Blocks.{next_first, not_turned_on_then, one_cm, sound_frames_go_down, up_to_then}}
 use Rattle.precision_law.proofs.words.Blocks.{AreUpTo, EndsSo, before_narrow, cm_of, earlier_in_block, ends_so, follows_before, hears_as_at, judged_at}
-use Rattle.precision_law.proofs.words.Blocks.{next_first, not_turned_on_then, one_cm, sound_frames_go_down, up_to_then}
-use Rattle.precision_law.proofs.words.Clocks.{IsRipeArrival, before_of, before_place, child_not_parent, cm_is_no_end, device_of}
-use Rattle.precision_law.proofs.words.Clocks.{emission_shows, frames_come_first, is_heard_of, place_of_ripe, receiver_down, room, switches_are_good, time_stays}
+use Rattle.precision_law.proofs.words.Clocks.{IsRipeArrival, before_of, before_place, child_not_parent, cm_is_no_end, device_of, emission_shows}
+use Rattle.precision_law.proofs.words.Clocks.{frames_come_first, is_heard_of, place_of_ripe, receiver_down, room, switches_are_good, time_stays}
 use Rattle.precision_law.proofs.words.Laws.{BlocksGoSo, HearsBy, Hull, IsBrought, IsEmission, IsFirm, IsInBlock, IsNearHull, IsOfHearer, IsSoundSwitch, IsTrip}
 use Rattle.precision_law.proofs.words.Laws.{IsView, Leg, Stands, View, base_of, epoch_time, first_correction, first_dispatch, has_time, hull_of, state_left}
 use Rattle.precision_law.proofs.words.Plans.{Cm, Device, DeviceId, Down, Integrating, IsCmOf, IsDeviceOf, Joining, LinkId, Members, Off, Pcf, State, SyncPlan}
-use Rattle.precision_law.proofs.words.Plans.{Synchronised, device_at, is_end_system, opened}
 use Rattle.precision_law.proofs.words.Runs.{Gives, Happening, IsCaused, IsDue, IsIn, Judgement, NoteBody, adjustment_at_hearing, channel_of, channel_of_link}
 use Rattle.precision_law.proofs.words.Runs.{earlier, founded_at, heard_as, heard_by_schedule, is_cm, is_cm_role, is_off, is_parent_of, is_relay, members_in}
-use Rattle.precision_law.proofs.words.Runs.{observation_window, place_of, plan_of, receiver_of, split, state_before, time_of}
-use Rattle.precision_law.proofs.words.Std.{if◌then◌else◌, ◌+◌, ◌<ℤ◌, ◌<◌, ◌||◌, ◌∙◌, ◌∷◌, ◌≡◌, ◌≤ℤ◌, ◌≤◌, Bool, List, None, Option, Some, [], ap, arith}
-use Rattle.precision_law.proofs.words.Std.{cases_eq, false, false_from_ne_true, inl, inr, ints, not, option_and_then, option_map_or, pos, refl, subst, suc, sym}
-use Rattle.precision_law.proofs.words.Std.{true, unsigned_abs, ℕ, ℤ}
+use Rattle.precision_law.proofs.words.{Runs.{observation_window, place_of, plan_of, receiver_of, split, state_before, time_of}, Std.{true, unsigned_abs, ℕ, ℤ}}
+use Rattle.precision_law.proofs.words.Std.{◌+◌, ◌<ℤ◌, ◌<◌, ◌||◌, ◌∙◌, ◌∷◌, ◌≡◌, ◌≤ℤ◌, ◌≤◌, Bool, List, None, Option, Some, [], ap, arith, cases_eq, false}
+use Rattle.precision_law.proofs.words.Std.{false_from_ne_true, if◌then◌else◌, inl, inr, ints, not, option_and_then, option_map_or, pos, refl, subst, suc, sym}
 use Rattle.run_law.specs.declared.note.NoteBody.TheVariants as notes
 use Rattle.net_plan.proofs.SameIds.{same_device}
 

@@ -1,15 +1,13 @@
 -- What an old device hears in a block it has heard since its last correction point.
-use Rattle.precision_law.proofs.{block.Coming.never_joined, hearing.GoodFrames.IsAtPoint}
-use Rattle.precision_law.proofs.words.Blocks.{cleared_from, had_cleared, had_time, in_part, old_number, sets_none}
+use Rattle.precision_law.proofs.{block.Coming.never_joined, words.Std.{option_map_or, refl, subst, sym, true, ℕ}}
+use Rattle.precision_law.proofs.{hearing.GoodFrames.IsAtPoint, words.Runs.{integration_cycle, is_integration_cycle, recorded_cycle, standing_before, time_of}}
+use Rattle.precision_law.proofs.words.{Blocks.{cleared_from, had_cleared, had_time, in_part, old_number, sets_none}, Plans.{DeviceId, Hearing, IsAtIntegration}}
 use Rattle.precision_law.proofs.words.Clocks.{AreSorted, PartsAtLast, after_last_at, after_last_none, all_of, earlier_before, in_kept, in_order, made_in}
 use Rattle.precision_law.proofs.words.Clocks.{next_cycle_is_of_last, none, parts_at_last, same_cleared, same_next, settings_stay, some, sorted_parts}
 use Rattle.precision_law.proofs.words.Laws.{AreBeforeCorrections, HasTimeAt, IsInBlock, IsView, View, cycle_set, is_correction, last_setting, next_of}
-use Rattle.precision_law.proofs.words.Plans.{DeviceId, Hearing, IsAtIntegration}
 use Rattle.precision_law.proofs.words.Runs.{Happening, IsIn, changes_adjustment, earlier, has_cleared, heard_since, hearing_by, in_parts, in_right}
-use Rattle.precision_law.proofs.words.Runs.{integration_cycle, is_integration_cycle, recorded_cycle, standing_before, time_of}
-use Rattle.precision_law.proofs.words.Std.{if◌then◌else◌, ◌&&◌, ◌++◌, ◌+◌, ◌<◌, ◌||◌, ◌∙◌, ◌∷◌, ◌≡◌, ◌≤◌, ◌⊎◌, Bool, List, None, Option, Some, after_last}
-use Rattle.precision_law.proofs.words.Std.{and_parts, ap, append_assoc, arith, both_ways, cases_Bool, false, filter, inl, inr, ltb-true, nat_lt, not}
-use Rattle.precision_law.proofs.words.Std.{option_map_or, refl, subst, sym, true, ℕ}
+use Rattle.precision_law.proofs.words.Std.{◌&&◌, ◌++◌, ◌+◌, ◌<◌, ◌||◌, ◌∙◌, ◌∷◌, ◌≡◌, ◌≤◌, ◌⊎◌, Bool, List, None, Option, Some, after_last, and_parts, ap}
+use Rattle.precision_law.proofs.words.Std.{append_assoc, arith, both_ways, cases_Bool, false, filter, if◌then◌else◌, inl, inr, ltb-true, nat_lt, not}
 
 -- ---- lists
 

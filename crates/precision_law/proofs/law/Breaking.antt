@@ -1,15 +1,12 @@
 -- Two dispatches of one cycle, of which the master of the first may break before the second.
-use Rattle.precision_law.proofs.block.Dispatched.{masters_dispatch}
+use Rattle.precision_law.proofs.{block.Dispatched.masters_dispatch, words.Blocks.{in_next, new_shows, view_of}}
 use Rattle.precision_law.proofs.words.Blocks.{all_in_hulls, before_narrow, block_ends, block_of, earlier_in_block, follows_before, has_dispatched, hull_lies}
-use Rattle.precision_law.proofs.words.Blocks.{in_next, new_shows, view_of}
 use Rattle.precision_law.proofs.words.Clocks.{adjustment_stays, enough_masters, good_is_correct, instants_are_in_order, le_by, natural_of, room, state_stays}
-use Rattle.precision_law.proofs.words.Clocks.{steady, synchronised_has_time}
+use Rattle.precision_law.proofs.words.{Clocks.{steady, synchronised_has_time}, Plans.{Channel, DeviceId, Masters, Units, none}, Std.{true, zero, ℕ, ℤ}}
 use Rattle.precision_law.proofs.words.Laws.{BlocksCover, BlocksGoSo, HasTimeAt, Hull, IsDispatch, IsFirstMaster, IsGood, IsInBlock, IsOldAt, IsView, Stands}
 use Rattle.precision_law.proofs.words.Laws.{View, adjustment_left, epoch_time, hull_of, last_dispatch, last_setting, state_left}
-use Rattle.precision_law.proofs.words.Plans.{Channel, DeviceId, Masters, Units, none}
 use Rattle.precision_law.proofs.words.Runs.{Happening, IsIn, Scenario, adjustment_after, earlier, is_synchronised, same_some, state_after, time_of}
 use Rattle.precision_law.proofs.words.Std.{◌*◌, ◌+ℤ◌, ◌<ℤ◌, ◌<◌, ◌∙◌, ◌≡◌, ◌≤ℤ◌, ◌≤◌, List, ap, arith, by_lt_z, ints, ones_le_self, pos, refl, subst, suc, sym}
-use Rattle.precision_law.proofs.words.Std.{true, zero, ℕ, ℤ}
 use Rattle.precision_law.proofs.block.Halving as halving
 
 -- once the block of a later cycle is over, each good master that began on has dispatched the frame of the cycle

@@ -1,14 +1,11 @@
 -- In the span of a cycle the clocks keep between the ideal clocks of that cycle.
-use Rattle.precision_law.proofs.law.OnTime.{begins_late, corrected_late}
+use Rattle.precision_law.proofs.{law.OnTime.{begins_late, corrected_late}, words.{Plans.{DeviceId, Synchronised}, Std.{subst, suc, sym, zero, ℕ, ℤ}}}
 use Rattle.precision_law.proofs.words.Blocks.{all_in_hulls, before_narrow, block_ends, corrections_go_on, earlier_in_block, follows_before, from_to_of_cut}
 use Rattle.precision_law.proofs.words.Blocks.{hull_is_from_to, known_dispatch, not_integrating, old_shows, timed_of, view_of, view_with}
-use Rattle.precision_law.proofs.words.Clocks.{IsCutAt, room}
+use Rattle.precision_law.proofs.words.{Clocks.{IsCutAt, room}, Runs.{Happening, Scenario, adjustment_after, earlier, happenings, is_turned_on_at, state_after}}
 use Rattle.precision_law.proofs.words.Laws.{AreFromTo, BlocksCover, BlocksGoSo, ClocksKeepTheSpan, HasTimeAt, Hull, IsBehindCorrections, IsBetweenIdeals}
 use Rattle.precision_law.proofs.words.Laws.{IsInBlock, IsView, OneChannelIsSound, ShowsIn, View, adjustment_left, epoch_time, hull_of, last_setting, state_left}
-use Rattle.precision_law.proofs.words.Plans.{DeviceId, Synchronised}
-use Rattle.precision_law.proofs.words.Runs.{Happening, Scenario, adjustment_after, earlier, happenings, is_turned_on_at, state_after}
 use Rattle.precision_law.proofs.words.Std.{◌*◌, ◌+ℤ◌, ◌+◌, ◌-◌, ◌<ℤ◌, ◌<◌, ◌∙◌, ◌≡◌, ◌≤ℤ◌, ◌≤◌, List, Some, arith, by_lt_z, cases_lt, inl, inr, ints, pos, refl}
-use Rattle.precision_law.proofs.words.Std.{subst, suc, sym, zero, ℕ, ℤ}
 
 -- ---- one hull
 

@@ -1,15 +1,12 @@
 -- The clock of a synchronised device keeps between the ideal clocks of a cycle.
-use Rattle.precision_law.proofs.law.OnTime.{corrects_by}
+use Rattle.precision_law.proofs.{law.OnTime.corrects_by, words.Clocks.{IsCutAt, before_of, point_timed, setting_is, settings_stay, time_stays}}
 use Rattle.precision_law.proofs.words.Blocks.{before_narrow, earlier_in_block, from_to_of_run, hull_is_from_to, hulls_are_narrow, new_shows, not_integrating}
-use Rattle.precision_law.proofs.words.Blocks.{old_shows, set_shows, timed_of, up_to_is, view_of, view_with}
-use Rattle.precision_law.proofs.words.Clocks.{IsCutAt, before_of, point_timed, setting_is, settings_stay, time_stays}
+use Rattle.precision_law.proofs.words.{Blocks.{old_shows, set_shows, timed_of, up_to_is, view_of, view_with}, Std.{pos, refl, subst, suc, sym, true, ℕ, ℤ}}
 use Rattle.precision_law.proofs.words.Laws.{BlocksCover, BlocksGoSo, ClocksKeepTheirCycles, ComesTo, HasTimeAt, Hull, IsInBlock, IsNarrow, IsView, KeepsCycle}
 use Rattle.precision_law.proofs.words.Laws.{OneChannelIsSound, ShowsIn, View, adjustment_left, cycle_set, epoch_cycle, epoch_time, hull_of, last_setting}
-use Rattle.precision_law.proofs.words.Plans.{Channel, Corrected, DeviceId, Synchronised}
+use Rattle.precision_law.proofs.words.{Plans.{Channel, Corrected, DeviceId, Synchronised}, Runs.{is_joined_by, is_turned_on_at, state_after, time_of}}
 use Rattle.precision_law.proofs.words.Runs.{Happening, IsCaused, NoteBody, Scenario, adjustment_after, cycle_in, earlier, founded_at, happenings, is_broken}
-use Rattle.precision_law.proofs.words.Runs.{is_joined_by, is_turned_on_at, state_after, time_of}
 use Rattle.precision_law.proofs.words.Std.{◌+ℤ◌, ◌+◌, ◌∙◌, ◌≡◌, ◌≤ℤ◌, ◌≤◌, List, None, Option, Some, ap, arith, by_lt_z, false, ints, negsuc, option_map_or}
-use Rattle.precision_law.proofs.words.Std.{pos, refl, subst, suc, sym, true, ℕ, ℤ}
 use Rattle.run_law.specs.declared.note.NoteBody.TheVariants as notes
 
 -- ---- of a view

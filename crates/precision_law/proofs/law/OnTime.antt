@@ -1,16 +1,14 @@
 -- The clocks of synchronised devices reach the values of the schedule on time.
 use Rattle.precision_law.proofs.words.Blocks.{before_narrow, block_ends, earlier_in_block, follows_before, from_to_of_run, hull_is_from_to, new_shows}
-use Rattle.precision_law.proofs.words.Blocks.{not_integrating, old_shows, set_shows, timed_of, view_of, view_with}
+use Rattle.precision_law.proofs.words.{Blocks.{not_integrating, old_shows, set_shows, timed_of, view_of, view_with}, Std.{ℕ, ℤ}}
 use Rattle.precision_law.proofs.words.Clocks.{before_of, clocks_reach_sharply, instants_are_in_order, joiner_waits, one_more, point_timed, reaches_by, room}
 use Rattle.precision_law.proofs.words.Clocks.{same_device, set_clocks_stay_at_correction, setting_is}
 use Rattle.precision_law.proofs.words.Laws.{BlocksCover, BlocksGoSo, ComesTo, HasTimeAt, Hull, IsInBlock, IsNarrow, IsView, OneChannelIsSound, ShowsIn, Stands}
 use Rattle.precision_law.proofs.words.Laws.{ValuesAreReachedOnTime, View, adjustment_left, epoch_time, first_correction, hull_of, last_setting, state_left}
-use Rattle.precision_law.proofs.words.Plans.{Corrected, DeviceId, Synchronised, Units, amount}
+use Rattle.precision_law.proofs.words.{Plans.{Corrected, DeviceId, Synchronised, Units, amount}, Runs.{is_synchronised, is_turned_on_at, state_after, time_of}}
 use Rattle.precision_law.proofs.words.Runs.{Happening, IsCaused, NoteBody, Reaches, changes_adjustment, earlier, founded_at, happenings, is_joined_by}
-use Rattle.precision_law.proofs.words.Runs.{is_synchronised, is_turned_on_at, state_after, time_of}
 use Rattle.precision_law.proofs.words.Std.{◌*◌, ◌+ℤ◌, ◌+◌, ◌<ℤ◌, ◌<◌, ◌≡◌, ◌≤ℤ◌, ◌≤◌, List, None, Option, Some, ap, arith, both_ways, by_lt_z, cases_lt, false}
 use Rattle.precision_law.proofs.words.Std.{false_from_ne_true, inl, inr, ints, mul-le-mul_right, negsuc, option_map_or, pos, refl, subst, suc, sym, true, zero}
-use Rattle.precision_law.proofs.words.Std.{ℕ, ℤ}
 use Rattle.run_law.specs.declared.note.NoteBody.TheVariants as notes
 
 -- ---- a synchronised device's clock was corrected last

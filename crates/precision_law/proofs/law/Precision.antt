@@ -4,11 +4,10 @@ use Rattle.precision_law.proofs.words.Clocks.{IsCutAt, before_of, cut_at, point_
 use Rattle.precision_law.proofs.words.Laws.{BlocksCover, BlocksGoSo, ClocksAgreeInBlocks, ClocksStayTogether, ComesTo, FirmDevicesCorrect, HasTimeAt, IsClique}
 use Rattle.precision_law.proofs.words.Laws.{IsFirm, IsRunUpTo, IsSound, IsView, OneChannelIsSound, TimeIsKept, View, has_time, sizes_of, state_left}
 use Rattle.precision_law.proofs.words.Plans.{AsyncClique, Channel, Cleared, Corrected, DeviceId, IsBeta, IsSwitchOf, State, SyncClique, Synchronised, Units}
-use Rattle.precision_law.proofs.words.Plans.{Verdict, beta_at, beta_exists, rules_give_trees, shape_rules}
+use Rattle.precision_law.proofs.words.{Plans.{Verdict, beta_at, beta_exists, rules_give_trees, shape_rules}, Std.{refl, subst, sym, true, ℕ}}
 use Rattle.precision_law.proofs.words.Runs.{AreClose, ChangesState, ComesToCorrection, Happening, IsCaused, IsIn, IsInStep, IsInStepBefore, Note, Scenario, Why}
 use Rattle.precision_law.proofs.words.Runs.{adjustment_after, earlier, founded_at, happenings, is_broken, is_end, is_turned_on_at, state_after, time_of, up_to}
-use Rattle.precision_law.proofs.words.Std.{◌+ℤ◌, ◌+◌, ◌≡◌, ◌≤◌, List, arith, cases_lt, false, inl, inr, le-leb, le-ltb, lt-leb, lt-ltb, nat_le, nat_lt}
-use Rattle.precision_law.proofs.words.Std.{pos, refl, subst, sym, true, ℕ}
+use Rattle.precision_law.proofs.words.Std.{◌+ℤ◌, ◌+◌, ◌≡◌, ◌≤◌, List, arith, cases_lt, false, inl, inr, le-leb, le-ltb, lt-leb, lt-ltb, nat_le, nat_lt, pos}
 use Rattle.run_law.specs.declared.judgement.Why.TheVariants as whys
 use Rattle.run_law.specs.declared.note.NoteBody.TheVariants as notes
 

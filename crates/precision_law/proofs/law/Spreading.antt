@@ -1,7 +1,7 @@
 -- How near to one another all dispatches of a cycle lie, those of a master that breaks later among them.
 use Rattle.precision_law.proofs.law.Breaking.{AreTwo, first_view, second_view, set_before}
 use Rattle.precision_law.proofs.words.Blocks.{IsReachedBy, all_in_hulls, before_narrow, block_of, follows_before, has_dispatched, high_by, hull_lies, low_by}
-use Rattle.precision_law.proofs.words.Blocks.{shared_near, start_near, synchronised_is, view_of, view_with}
+use Rattle.precision_law.proofs.words.{Blocks.{shared_near, start_near, synchronised_is, view_of, view_with}, Std.{subst, suc, sym, true, zero, ℕ, ℤ}}
 use Rattle.precision_law.proofs.words.Clocks.{adjustment_stays, anchored_clocks_reach, anchored_clocks_show, one_more, room, shared_clocks_halve}
 use Rattle.precision_law.proofs.words.Clocks.{short_by_reading, starts_stay_together, state_stays, steady, within_run}
 use Rattle.precision_law.proofs.words.Laws.{AreShared, BlocksCover, BlocksGoSo, DispatchesHalve, DispatchesStayNear, IsAnchored, IsDispatch, IsDispatchOf}
@@ -10,7 +10,6 @@ use Rattle.precision_law.proofs.words.Laws.{adjustment_left, epoch_time, last_di
 use Rattle.precision_law.proofs.words.Plans.{DeviceId, IsBeta, Units, amount, beta_at, beta_exists, rules_give_trees, shape_rules}
 use Rattle.precision_law.proofs.words.Runs.{Happening, IsCaused, Note, Scenario, earlier, founded_at, happenings, is_broken, is_end, is_synchronised, time_of}
 use Rattle.precision_law.proofs.words.Std.{◌*◌, ◌+ℤ◌, ◌+◌, ◌-ℤ◌, ◌<ℤ◌, ◌<◌, ◌∙◌, ◌≡◌, ◌≤ℤ◌, ◌≤◌, List, ap, arith, cases_lt, false, inl, inr, ints, pos, refl}
-use Rattle.precision_law.proofs.words.Std.{subst, suc, sym, true, zero, ℕ, ℤ}
 
 -- ---- a clock that reaches the next cycle later
 

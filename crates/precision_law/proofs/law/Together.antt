@@ -5,11 +5,10 @@ use Rattle.precision_law.proofs.words.Clocks.{set_clocks_show, set_clocks_stay_a
 use Rattle.precision_law.proofs.words.Laws.{AreNear, BlockGoesSo, BlocksGoSo, ClocksAgreeInBlocks, ComesTo, Follows, HasTimeAt, Hull, HullsAreNarrow}
 use Rattle.precision_law.proofs.words.Laws.{IsAnchoredIn, IsGood, IsInBlock, IsNarrow, IsOldAt, IsOverBefore, IsView, ShowsIn, Stands, View, adjustment_left}
 use Rattle.precision_law.proofs.words.Laws.{epoch_time, hull_of, last_correction, last_setting, set_adjustment}
-use Rattle.precision_law.proofs.words.Plans.{Corrected, DeviceId, Units, adjustment_at_start}
+use Rattle.precision_law.proofs.words.{Plans.{Corrected, DeviceId, Units, adjustment_at_start}, Std.{option_map_or, pos, refl, subst, suc, sym, true, ℕ, ℤ}}
 use Rattle.precision_law.proofs.words.Runs.{Happening, IsCaused, IsIn, NoteBody, adjustment_with, changes_adjustment, cycle_in, earlier, founded_at}
 use Rattle.precision_law.proofs.words.Runs.{is_joined_by, same_some, start_of, time_of}
 use Rattle.precision_law.proofs.words.Std.{◌*◌, ◌+ℤ◌, ◌+◌, ◌<ℤ◌, ◌<◌, ◌∙◌, ◌≡◌, ◌≤ℤ◌, ◌≤◌, ◌⊎◌, None, Option, Some, ap, arith, by_lt_z, inl, inr, ints, negsuc}
-use Rattle.precision_law.proofs.words.Std.{option_map_or, pos, refl, subst, suc, sym, true, ℕ, ℤ}
 use Rattle.run_law.specs.declared.note.NoteBody.TheVariants as notes
 
 -- ---- the hulls of a block

@@ -1,9 +1,8 @@
 -- What stands behind the last element of a kind.
 use Rattle.std.proofs.{Common.get_or, lemmas.List.{get_or-append_right, length_push, Elements.All-get_or, Sums.suffix_len_is}}
 use Rattle.run_law.proofs.records.Order.{all_of}
-use Rattle.precision_law.proofs.words.Runs.{IsIn, in_parts}
+use Rattle.precision_law.proofs.words.{Runs.{IsIn, in_parts}, Std.{inr, length, length-append, not, not_from_true, refl, subst, suffix_len, sym, true, ℕ}}
 use Rattle.precision_law.proofs.words.Std.{◌++◌, ◌+◌, ◌-◌, ◌∙◌, ◌∷◌, ◌≡◌, All, Bool, List, [], after_last, ap, append_assoc, arith, drop, drop_at, false, inl}
-use Rattle.precision_law.proofs.words.Std.{inr, length, length-append, not, not_from_true, refl, subst, suffix_len, sym, true, ℕ}
 
 -- ---- the last of a kind
 

@@ -1,10 +1,7 @@
 -- The records by which a frame that is permanent is judged.
-use Rattle.run_law.proofs.records.Order.{all_kept, before_is}
+use Rattle.run_law.proofs.{control.Joined.earlier_before, records.Order.{all_kept, before_is}}
 use Rattle.precision_law.proofs.words.Plans.{DeviceId, LinkId, Pcf, Units, amount}
-use Rattle.precision_law.proofs.words.Runs.{AllBefore, Happening, before_permanence, earlier, is_before, place_of}
-use Rattle.precision_law.proofs.words.Std.{◌∷◌, ◌≡◌, List, []}
-use Rattle.precision_law.proofs.words.Std.{ℕ}
-use Rattle.run_law.proofs.control.Joined.{earlier_before}
+use Rattle.precision_law.proofs.words.{Runs.{AllBefore, Happening, before_permanence, earlier, is_before, place_of}, Std.{◌∷◌, ◌≡◌, List, [], ℕ}}
 
 -- where all records are before the place of the frame's permanence, all count
 pub all_judge : (hs : List Happening) (t : ℕ) (device : DeviceId) (link : LinkId) (cause : ℕ) (frame : Pcf) (point : Units)

@@ -1,13 +1,12 @@
 -- The records of a view with those before them, and the correction points that they come of.
 use Rattle.run_law.proofs.{device.States.reaches_by, records.{Happenings.{from_earlier, soon}, Order.{has_passed, time_before}}}
-use Rattle.precision_law.proofs.records.{Times.{AreSorted, earlier_front}, Views.in_order}
-use Rattle.precision_law.proofs.words.Laws.{AreBeforeCorrections, IsView, View, has_time, last_setting, state_left}
+use Rattle.precision_law.proofs.{records.Times.{AreSorted, earlier_front}, words.Laws.{AreBeforeCorrections, IsView, View, has_time, last_setting, state_left}}
+use Rattle.precision_law.proofs.{records.Views.in_order, words.Runs.{members_in, place_of, rank, state_after, state_before, time_of}}
 use Rattle.precision_law.proofs.words.Plans.{DeviceId, Integrating, Off, State, Verdict, point_in}
 use Rattle.precision_law.proofs.words.Runs.{ComesToCorrection, Happening, IsDue, IsFounded, IsFoundedAt, IsIn, IsSplit, Reaches, adjustment_after}
 use Rattle.precision_law.proofs.words.Runs.{adjustment_before, changes_adjustment, earlier, front_founded, in_filter, in_right, is_turned_on_at, key}
-use Rattle.precision_law.proofs.words.Runs.{members_in, place_of, rank, state_after, state_before, time_of}
-use Rattle.precision_law.proofs.words.Std.{if◌then◌else◌, ◌++◌, ◌+◌, ◌<◌, ◌∙◌, ◌∷◌, ◌≡◌, ◌≤◌, ◌⊎◌, Bool, List, None, Option, Some, [], ap, arith, cases_lt}
-use Rattle.precision_law.proofs.words.Std.{false, filter, inl, inr, last_or, refl, subst, sym, true, ℕ, ℤ}
+use Rattle.precision_law.proofs.words.Std.{◌++◌, ◌+◌, ◌<◌, ◌∙◌, ◌∷◌, ◌≡◌, ◌≤◌, ◌⊎◌, Bool, List, None, Option, Some, [], ap, arith, cases_lt, false, filter}
+use Rattle.precision_law.proofs.words.Std.{if◌then◌else◌, inl, inr, last_or, refl, subst, sym, true, ℕ, ℤ}
 
 -- ---- records with those before them
 

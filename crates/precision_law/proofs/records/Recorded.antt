@@ -4,14 +4,13 @@ use Rattle.precision_law.proofs.words.Clocks.{after_more, before_place, cleared_
 use Rattle.precision_law.proofs.words.Clocks.{reaches_front, same_cleared, same_kept, same_next}
 use Rattle.precision_law.proofs.words.Laws.{AreBeforeCorrections, HasTimeAt, IsPointRecord, IsView, NoneTurnsOn, PointsAreRecorded, View, has_time}
 use Rattle.precision_law.proofs.words.Plans.{AsyncClique, Corrected, DeviceId, HasVerdict, Hearing, Integrating, IsAtIntegration, Off, Standing, State}
-use Rattle.precision_law.proofs.words.Plans.{Summarizes, Summary, SyncClique, Units, Verdict, point_in}
+use Rattle.precision_law.proofs.words.{Plans.{Summarizes, Summary, SyncClique, Units, Verdict, point_in}, Std.{not, refl, subst, sym, true, ℕ}}
 use Rattle.precision_law.proofs.words.Runs.{ChangesState, ComesToCorrection, Happening, IsBefore, IsDue, IsFounded, IsIn, IsSplit, NoteBody, Reaches, Why}
 use Rattle.precision_law.proofs.words.Runs.{adjustment_after, adjustment_before, chain, changes_adjustment, correction_value, earlier, front_founded, happening}
 use Rattle.precision_law.proofs.words.Runs.{has_cleared, heard_since, hearing_by, in_filter, in_parts, in_right, integration_cycle, is_turned_on_at, next_cycle}
 use Rattle.precision_law.proofs.words.Runs.{place_of, plan_of, rank, recorded_cycle, split, standing_before, state_after, time_of}
-use Rattle.precision_law.proofs.words.Std.{if◌then◌else◌, ◌&&◌, ◌++◌, ◌+ℤ◌, ◌+◌, ◌<◌, ◌||◌, ◌∙◌, ◌∷◌, ◌≡◌, ◌≤◌, Bool, List, None, Some, [], after_last, ap}
-use Rattle.precision_law.proofs.words.Std.{append-nil, append_assoc, arith, filter, filter-append, filter_map, filter_map-append, inl, inr, le-ltb, nat_lt, not}
-use Rattle.precision_law.proofs.words.Std.{refl, subst, sym, true, ℕ}
+use Rattle.precision_law.proofs.words.Std.{◌&&◌, ◌++◌, ◌+ℤ◌, ◌+◌, ◌<◌, ◌||◌, ◌∙◌, ◌∷◌, ◌≡◌, ◌≤◌, Bool, List, None, Some, [], after_last, ap, append-nil}
+use Rattle.precision_law.proofs.words.Std.{append_assoc, arith, filter, filter-append, filter_map, filter_map-append, if◌then◌else◌, inl, inr, le-ltb, nat_lt}
 use Rattle.run_law.specs.declared.judgement.Why.TheVariants as whys
 use Rattle.run_law.specs.declared.note.NoteBody.TheVariants as notes
 

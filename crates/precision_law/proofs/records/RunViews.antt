@@ -1,11 +1,10 @@
 -- The views of a run, and where the dispatches of their cycles lie.
-use Rattle.precision_law.proofs.{block.{Goings.known_dispatch, Halving.ends_of}, law.Together.earlier_in_block}
-use Rattle.precision_law.proofs.words.Clocks.{IsCutAt, cut_at, has_before, never_some, passes, sizes_are, tested, within_run}
+use Rattle.precision_law.proofs.block.{Goings.known_dispatch, Halving.ends_of}
+use Rattle.precision_law.proofs.{law.Together.earlier_in_block, words.Clocks.{IsCutAt, cut_at, has_before, never_some, passes, sizes_are, tested, within_run}}
 use Rattle.precision_law.proofs.words.Laws.{AreFromTo, BlocksCover, BlocksGoSo, Hull, IsDispatch, IsDispatchedBy, IsInBlock, IsInHull, IsRunUpTo, IsSound}
 use Rattle.precision_law.proofs.words.{Laws.{IsView, LieFromTo, View, hull_of, hull_over, is_dispatch, sizes_of, start_hull}, Plans.{Channel, DeviceId, IsBeta}}
-use Rattle.precision_law.proofs.words.Runs.{Happening, IsIn, Note, Scenario, happenings, in_filter, same_some, time_of}
+use Rattle.precision_law.proofs.words.{Runs.{Happening, IsIn, Note, Scenario, happenings, in_filter, same_some, time_of}, Std.{subst, suc, sym, zero, ℕ, ℤ}}
 use Rattle.precision_law.proofs.words.Std.{◌+◌, ◌-ℤ◌, ◌∙◌, ◌≡◌, ◌≤ℤ◌, ◌≤◌, List, None, Option, Some, ap, arith, filter, inl, inr, option_and_then, pos, refl}
-use Rattle.precision_law.proofs.words.Std.{subst, suc, sym, zero, ℕ, ℤ}
 
 -- ---- views
 

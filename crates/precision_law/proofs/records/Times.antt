@@ -1,11 +1,9 @@
 -- The records of a run in the order of their times.
-use Rattle.run_law.proofs.records.{Happenings.{from_earlier, is_earlier}, Order.{all_kept, has_passed, time_before}}
+use Rattle.run_law.proofs.records.{Happenings.{from_earlier, is_earlier}, Members.in_kept, Order.{all_kept, has_passed, time_before}}
 use Rattle.precision_law.proofs.Plain.{le_by}
 use Rattle.precision_law.proofs.words.Runs.{Happening, IsDue, IsFounded, IsIn, Scenario, behind_first, earlier, in_filter, key, members_in, none_kept, place_of}
-use Rattle.precision_law.proofs.words.Runs.{rank, time_of}
-use Rattle.precision_law.proofs.words.Std.{◌++◌, ◌<◌, ◌∙◌, ◌∷◌, ◌≡◌, ◌≤◌, List, Option, Some, [], ap, append-nil, append_assoc, arith}
-use Rattle.precision_law.proofs.words.Std.{cases_lt, false, filter, filter-append, inl, inr, last_or, le-ltb, lt-ltb, nat_lt, not, refl, subst, sym, true, ℕ}
-use Rattle.run_law.proofs.records.Members.{in_kept}
+use Rattle.precision_law.proofs.words.{Runs.{rank, time_of}, Std.{filter-append, inl, inr, last_or, le-ltb, lt-ltb, nat_lt, not, refl, subst, sym, true, ℕ}}
+use Rattle.precision_law.proofs.words.Std.{◌++◌, ◌<◌, ◌∙◌, ◌∷◌, ◌≡◌, ◌≤◌, List, Option, Some, [], ap, append-nil, append_assoc, arith, cases_lt, false, filter}
 
 -- ---- order
 

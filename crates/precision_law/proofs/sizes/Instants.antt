@@ -1,7 +1,6 @@
 -- The order of the instants of a cycle.
-use Rattle.precision_law.proofs.Plain.{le_by}
+use Rattle.precision_law.proofs.{Plain.le_by, words.Std.{◌*◌, ◌+◌, ◌^◌, ◌≤◌, arith, ints, mul-le-mul_left, mul-le-mul_right}}
 use Rattle.precision_law.proofs.words.Laws.{CorrectionsComeFirst, CyclesAreFew, FramesComeFirst, HullsGoOn, InstantsAreInOrder, SetClocksStayAtCorrection}
-use Rattle.precision_law.proofs.words.Std.{◌*◌, ◌+◌, ◌^◌, ◌≤◌, arith, ints, mul-le-mul_left, mul-le-mul_right}
 
 pub corrections_come_first : CorrectionsComeFirst
 corrections_come_first n before hull room narrow follows = omega (arith, ints, narrow, follows, room)

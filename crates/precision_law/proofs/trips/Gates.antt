@@ -1,12 +1,11 @@
 -- The gates of the sound channel are open while the frames of a cycle come.
-use Rattle.precision_law.proofs.block.{Dispatched.{IsCalm, old_then, synchronised_then}, Onward.hull_ordered}
-use Rattle.precision_law.proofs.words.Blocks.{before_narrow, block_ends, old_shows}
+use Rattle.precision_law.proofs.{block.Dispatched.{IsCalm, old_then, synchronised_then}, words.Runs.{is_relay, is_synchronised, offset_in_cycle, standpoint}}
+use Rattle.precision_law.proofs.{block.Onward.hull_ordered, words.Plans.{DeviceId, Network, amount}}
+use Rattle.precision_law.proofs.words.{Blocks.{before_narrow, block_ends, old_shows}, Std.{int_rem_euclid_is, ints, le-ltb, mod-mul-add, pos, suc, ℕ, ℤ}}
 use Rattle.precision_law.proofs.words.Clocks.{frames_come_first, natural, natural_of, one_more, room, sizes_are, sound_switches_begin_on, switches_are_good}
 use Rattle.precision_law.proofs.words.Laws.{AreOpenFrom, BlocksGoSo, HasTimeAt, HaveRoom, Hull, IsInBlock, IsNarrow, IsOpen, IsSoundSwitch, IsView, ShowsIn}
 use Rattle.precision_law.proofs.words.Laws.{Sizes, View, adjustment_left, first_correction, first_dispatch, has_time, last_dispatch}
-use Rattle.precision_law.proofs.words.{Plans.{DeviceId, Network, amount}, Runs.{is_relay, is_synchronised, offset_in_cycle, standpoint}}
 use Rattle.precision_law.proofs.words.Std.{◌%◌, ◌&&◌, ◌*◌, ◌+ℤ◌, ◌+◌, ◌-◌, ◌<◌, ◌∙◌, ◌≡◌, ◌≤ℤ◌, ◌≤◌, and_right, ap, arith, false, inr, int_lt}
-use Rattle.precision_law.proofs.words.Std.{int_rem_euclid_is, ints, le-ltb, mod-mul-add, pos, suc, ℕ, ℤ}
 
 -- ---- a value's place in its cycle
 

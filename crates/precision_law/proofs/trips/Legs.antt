@@ -1,15 +1,14 @@
 -- A frame that arrives came over a link: who gives and who receives on its ways, and the leg before a record.
 use Rattle.run_law.proofs.scenario.Devices.{parent_shown, shown_parent}
 use Rattle.tte_lemmas.proofs.Options.{mapped}
-use Rattle.precision_law.proofs.{Plain.{device_of, higher_before}, trips.Paths.{clocked, frame_is, numbered_all}, words.Laws.{IsLeg, IsTrip, IsView, Leg, View}}
+use Rattle.precision_law.proofs.{Plain.{device_of, higher_before}, words.Laws.{IsLeg, IsTrip, IsView, Leg, View}}
+use Rattle.precision_law.proofs.{trips.Paths.{clocked, frame_is, numbered_all}, words.Std.{inl, inr, option_and_then, option_map_or, refl, subst, sym, true, ℕ}}
 use Rattle.precision_law.proofs.words.Plans.{Channel, Device, DeviceId, Down, IsChildOf, IsPath, IsSwitchOf, IsTree, IsUplink, Joints, Link, LinkId, Master}
 use Rattle.precision_law.proofs.words.Plans.{Network, Pcf, Relay, Role, Up, Way, closed, device_at, is_end_system, link_at, opened, rules_give_trees}
-use Rattle.precision_law.proofs.words.Plans.{shape_rules}
+use Rattle.precision_law.proofs.words.{Plans.shape_rules, Runs.{numbered_within, rank, receiver_of, same_some, time_of, way_from, way_to, with_clock}}
 use Rattle.precision_law.proofs.words.Runs.{Happening, IsCaused, IsIn, IsParentOf, NoteBody, cause_of, channel_of, channel_of_link, cycle_in, founded_at}
 use Rattle.precision_law.proofs.words.Runs.{in_left, is_end, is_parent_of, is_relay, is_relay_role, members_in, number_is, numbered, numbered_in}
-use Rattle.precision_law.proofs.words.Runs.{numbered_within, rank, receiver_of, same_some, time_of, way_from, way_to, with_clock}
-use Rattle.precision_law.proofs.words.Std.{if◌then◌else◌, ◌++◌, ◌<◌, ◌∙◌, ◌∷◌, ◌≡◌, ◌⊎◌, Bool, List, Option, Some, [], ap, arith, false, false_from_ne_true}
-use Rattle.precision_law.proofs.words.Std.{inl, inr, option_and_then, option_map_or, refl, subst, sym, true, ℕ}
+use Rattle.precision_law.proofs.words.Std.{◌++◌, ◌<◌, ◌∙◌, ◌∷◌, ◌≡◌, ◌⊎◌, Bool, List, Option, Some, [], ap, arith, false, false_from_ne_true, if◌then◌else◌}
 use Rattle.run_law.specs.declared.note.NoteBody.TheVariants as notes
 
 -- ---- no link leads from a device to itself

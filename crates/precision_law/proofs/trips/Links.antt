@@ -1,18 +1,16 @@
 -- A frame goes over a link: it leaves, and it arrives.
-use Rattle.run_law.proofs.records.Order.{ahead}
-use Rattle.precision_law.proofs.{records.Due.due_there, trips.Paths.{clocked, delay_is}, words.Laws.{IsLeg, IsView, View}}
+use Rattle.run_law.proofs.{law.FirstSent.next_note, records.Order.ahead}
+use Rattle.precision_law.proofs.{records.Due.due_there, trips.Paths.{clocked, delay_is}, words.{Laws.{IsLeg, IsView, View}, Plans.{delay_by, link_at}}}
 use Rattle.precision_law.proofs.words.Plans.{DeviceId, Down, Integrating, IsLinkInRange, Link, LinkId, Measures, Network, Pcf, Units, Up, Way, all_at, amount}
-use Rattle.precision_law.proofs.words.Plans.{delay_by, link_at}
 use Rattle.precision_law.proofs.words.Runs.{Arrives, ArrivesAs, Departs, Gives, Happening, IsArrivedRecord, IsBefore, IsDue, IsFounded, IsIn, NoteBody}
 use Rattle.precision_law.proofs.words.Runs.{Scenario, Standpoint, adjustment_after, by_number, clock_at_leaving, control, delay_at, delay_least, frame_fault}
 use Rattle.precision_law.proofs.words.Runs.{frame_or_fault, front_founded, happening, hold_at, hold_most, in_front_of, is_broken, is_cut, is_off, is_parent_of}
 use Rattle.precision_law.proofs.words.Runs.{is_relay, is_turned_on_at, key, leaves, members_in, numbered, on_cut_way, place_of, point_on_arrival, rank}
 use Rattle.precision_law.proofs.words.Runs.{receiver_of, same_earlier, split, standpoint, state_after, time_of, too_old, way_from, way_to, wire_of, with_clock}
-use Rattle.precision_law.proofs.words.Std.{if◌then◌else◌, ◌&&◌, ◌*◌, ◌+◌, ◌-◌, ◌<◌, ◌^◌, ◌∙◌, ◌∷◌, ◌≡◌, ◌≤◌, Bool, List, None, Ok, Option, Some, [], ap, arith}
-use Rattle.precision_law.proofs.words.Std.{false, inl, inr, le-ltb, mul-le-mul_left, nat_lt, not, option_map, option_map_or, refl, subst, sym, true, ℕ}
+use Rattle.precision_law.proofs.words.Std.{◌&&◌, ◌*◌, ◌+◌, ◌-◌, ◌<◌, ◌^◌, ◌∙◌, ◌∷◌, ◌≡◌, ◌≤◌, Bool, List, None, Ok, Option, Some, [], ap, arith, false}
+use Rattle.precision_law.proofs.words.Std.{if◌then◌else◌, inl, inr, le-ltb, mul-le-mul_left, nat_lt, not, option_map, option_map_or, refl, subst, sym, true, ℕ}
 use Rattle.run_law.specs.declared.note.NoteBody.TheVariants as notes
 use Rattle.run_law.specs.declared.steps.Arrival.TheVariants as arrivals
-use Rattle.run_law.proofs.law.FirstSent.{next_note}
 
 -- what gives a frame has a low rank
 gives_low : (n : Network) (body : NoteBody) (device : DeviceId) (link : LinkId) → Gives n body device link → rank body < 8

@@ -1,18 +1,16 @@
 -- A leg of a frame, by its records: a hop, and what arrives is what was given but for its clock.
 use Rattle.run_law.{proofs.law.FirstDelays.{given, sets_wire}, specs.declared.judgement.Reason.TheVariants.Off}
 use Rattle.tte_lemmas.proofs.Options.{mapped}
-use Rattle.precision_law.proofs.words.Laws.{IsLeg, IsTrip, IsView, Leg, View, clock_in}
+use Rattle.precision_law.proofs.words.{Laws.{IsLeg, IsTrip, IsView, Leg, View, clock_in}, Plans.{amount, closed, delay_by, delay_of, link_at}, Std.{true, ℕ}}
 use Rattle.precision_law.proofs.words.Plans.{DeviceId, Down, Event, Hop, IsHop, IsLinkInRange, Link, LinkId, Measures, Network, Pcf, Units, Up, Way, all_at}
-use Rattle.precision_law.proofs.words.Plans.{amount, closed, delay_by, delay_of, link_at}
 use Rattle.precision_law.proofs.words.Runs.{Arrival, ArrivesAs, ColdStart, Domain, Gate, Happening, IsArrivedRecord, IsCaused, IsFoundedAt, IsIn, Launch}
 use Rattle.precision_law.proofs.words.Runs.{Member, NoteBody, Old, Reason, Scenario, Standpoint, Wire, arrival_of, by_number, clock_at_leaving}
 use Rattle.precision_law.proofs.words.Runs.{clock_on_arrival, control, control_arrival, delay_at, first_reason, founded_at, frame_by, frame_fault}
 use Rattle.precision_law.proofs.words.Runs.{frame_or_fault, hold_at, hold_most, is_cold_start, is_cut, is_gate_shut, is_of_other_domain, is_of_other_member}
 use Rattle.precision_law.proofs.words.Runs.{is_parent_of, is_relay, last_is, launched, leaves, numbered, numbered_front, on_cut_way, point_on_arrival}
 use Rattle.precision_law.proofs.words.Runs.{same_some, standpoint, time_of, time_on_port, too_old, way_from, wire_of, wire_set, with_clock}
-use Rattle.precision_law.proofs.words.Std.{if◌then◌else◌, ◌+ℤ◌, ◌+◌, ◌-◌, ◌<ℤ◌, ◌∙◌, ◌∷◌, ◌≡◌, ◌≤◌, ◌⊎◌, Bool, List, None, Ok, Option, Some, [], ap, arith}
-use Rattle.precision_law.proofs.words.Std.{by_lt_z, false, inl, inr, ints, ltb-false, nat_lt, not, option_and_then, option_map, option_map_or, refl, subst, sym}
-use Rattle.precision_law.proofs.words.Std.{true, ℕ}
+use Rattle.precision_law.proofs.words.Std.{◌+ℤ◌, ◌+◌, ◌-◌, ◌<ℤ◌, ◌∙◌, ◌∷◌, ◌≡◌, ◌≤◌, ◌⊎◌, Bool, List, None, Ok, Option, Some, [], ap, arith, by_lt_z, false}
+use Rattle.precision_law.proofs.words.Std.{if◌then◌else◌, inl, inr, ints, ltb-false, nat_lt, not, option_and_then, option_map, option_map_or, refl, subst, sym}
 use Rattle.run_law.specs.declared.steps.Arrival.TheVariants as arrivals
 
 -- ---- records and their frames

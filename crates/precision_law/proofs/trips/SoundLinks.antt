@@ -1,10 +1,9 @@
 -- A frame goes over one link of the sound channel, in either way.
 use Rattle.precision_law.proofs.words.Clocks.{HasGone, IsClean, IsGivenOn, IsReady, arrives_at, goes_over, good_is_correct, leaves_at, no_fault, sizes_are}
-use Rattle.precision_law.proofs.words.{Clocks.{sound_ways_are_whole, takes_at_most}, Laws.{IsGood, IsSoundSwitch, IsView, View}}
+use Rattle.precision_law.proofs.words.{Clocks.{sound_ways_are_whole, takes_at_most}, Plans.link_at, Runs.{Happening, is_of_other_member, time_of}}
+use Rattle.precision_law.proofs.words.{Laws.{IsGood, IsSoundSwitch, IsView, View}, Std.{option_map_or, suc, sum_by-cons, ℕ}}
 use Rattle.precision_law.proofs.words.Plans.{DeviceId, IsSwitchOf, Link, LinkId, Network, Pcf, Way, amount, beta_at, closed, delay_by, delay_of, delay_on}
-use Rattle.precision_law.proofs.words.{Plans.link_at, Runs.{Happening, is_of_other_member, time_of}}
 use Rattle.precision_law.proofs.words.Std.{◌*◌, ◌+◌, ◌/◌, ◌<◌, ◌^◌, ◌∙◌, ◌∷◌, ◌≡◌, ◌≤◌, List, Option, Some, ap, arith, false, ints, mul-le-mul_left}
-use Rattle.precision_law.proofs.words.Std.{option_map_or, suc, sum_by-cons, ℕ}
 
 -- the clock of a frame that has been on its way for at most so long, over so many links
 abbrev pub HasGrown : View → ℕ → ℕ → ℕ → Type 0

@@ -1,16 +1,15 @@
 -- The sound channel brings dispatches up to its compression master.
-use Rattle.precision_law.proofs.{compression.Made.dispatch_clock, trips.SoundLinks.{HasCome, HasGrown, comes_over, delay_more}}
-use Rattle.precision_law.proofs.trips.Upward.{path_up, trips_up_take_dmax}
+use Rattle.precision_law.proofs.{compression.Made.dispatch_clock, trips.Upward.{path_up, trips_up_take_dmax}}
+use Rattle.precision_law.proofs.{trips.SoundLinks.{HasCome, HasGrown, comes_over, delay_more}, words.Clocks.{switches_are_good, will_be_permanent}}
 use Rattle.precision_law.proofs.words.Clocks.{IsClean, child_kind, child_ways, device_of, master_ends, master_member, receiver_way, sizes_are, sound_switch_on}
-use Rattle.precision_law.proofs.words.Clocks.{switches_are_good, will_be_permanent}
 use Rattle.precision_law.proofs.words.Laws.{AreOpenFrom, IsBrought, IsGood, IsSoundSwitch, IsTrip, IsView, Leg, SoundFramesGoUp, View, clock_in}
 use Rattle.precision_law.proofs.words.Plans.{A, B, Channel, Cm, CompressionMasters, Device, DeviceId, IsChildOf, IsCmOf, IsDeviceInRange, IsDeviceOf, IsPath}
 use Rattle.precision_law.proofs.words.Plans.{IsSwitchOf, Link, LinkId, Master, Pcf, Role, Up, all_at, amount, closed, delay_by, delay_on, device_at}
 use Rattle.precision_law.proofs.words.Plans.{is_end_system, is_master, link_at, margins, opened, rules_give_trees, shape_rules, target_by}
 use Rattle.precision_law.proofs.words.Runs.{Gives, Happening, IsCaused, IsIn, IsParentOf, NoteBody, are_others, dispatched_frame, founded_at, frame_by, is_end}
 use Rattle.precision_law.proofs.words.Runs.{is_of_other_member, is_relay, is_relay_role, member_of, receiver_of, same_some, time_of, with_clock}
-use Rattle.precision_law.proofs.words.Std.{◌&&◌, ◌+◌, ◌^◌, ◌∙◌, ◌∷◌, ◌≡◌, ◌≤◌, ◌⊎◌, Bool, List, Option, Some, [], ap, arith, both_ways, eq-eqb, false}
-use Rattle.precision_law.proofs.words.Std.{inl, inr, is_some, length, not, not-true, option_map, option_map_or, refl, subst, suc, sym, true, ℕ}
+use Rattle.precision_law.proofs.words.Std.{◌&&◌, ◌+◌, ◌^◌, ◌∙◌, ◌∷◌, ◌≡◌, ◌≤◌, ◌⊎◌, Bool, List, Option, Some, [], ap, arith, both_ways, eq-eqb, false, inl, inr}
+use Rattle.precision_law.proofs.words.Std.{is_some, length, not, not-true, option_map, option_map_or, refl, subst, suc, sym, true, ℕ}
 use Rattle.run_law.specs.declared.note.NoteBody.TheVariants as notes
 
 -- ---- roles

@@ -4,9 +4,8 @@ use Rattle.precision_law.proofs.words.Laws.{IsLeg, IsTrip, IsView, Leg, View, cl
 use Rattle.precision_law.proofs.words.Plans.{Channel, Device, DeviceId, Down, Hop, IsHop, IsPath, IsSwitchOf, Link, LinkId, Network, Pcf, Way, amount, closed}
 use Rattle.precision_law.proofs.words.Plans.{device_at, growth, jitter_of, jitter_on, link_at, opened, target_by, travel}
 use Rattle.precision_law.proofs.words.Runs.{Gives, Happening, IsCaused, NoteBody, channel_of, channel_of_link, cycle_in, founded_at, is_relay, members_in}
-use Rattle.precision_law.proofs.words.Runs.{same_some, time_of, with_clock}
+use Rattle.precision_law.proofs.words.{Runs.{same_some, time_of, with_clock}, Std.{option_map, subst, suc, sum_by, sum_by-cons, sym, true, ℕ}}
 use Rattle.precision_law.proofs.words.Std.{◌+◌, ◌∙◌, ◌∷◌, ◌≡◌, ◌≤◌, All, All-cons, All-nil, List, Option, Some, [], ap, arith, fold, length, option_and_then}
-use Rattle.precision_law.proofs.words.Std.{option_map, subst, suc, sum_by, sum_by-cons, sym, true, ℕ}
 use Rattle.run_law.specs.declared.note.NoteBody.TheVariants as notes
 
 -- ---- sums

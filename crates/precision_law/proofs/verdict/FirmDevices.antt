@@ -1,16 +1,15 @@
 -- The correction points of the devices that are to keep the time correct their clocks, and share one frame.
-use Rattle.precision_law.proofs.block.Corrections.{IsByFrame, is_by_frame, shared_by, turned}
-use Rattle.precision_law.proofs.hearing.GoodFrames.{IsAtPoint, heard_within, heard_within_by, same_sent, sooner, went_so}
-use Rattle.precision_law.proofs.hearing.{Received.{IsSentInTime, cm_of_channel, receives, sent_in_time}, Since.{is_since, not_integrating}}
-use Rattle.precision_law.proofs.{verdict.HeardOutside.{SoundIsSent, few_heard_outside}, words.Blocks.{FramesGoSo, good_hearing, late_from, members_by}}
+use Rattle.precision_law.proofs.{block.Corrections.{IsByFrame, is_by_frame, shared_by, turned}, words.Blocks.{FramesGoSo, good_hearing, late_from, members_by}}
+use Rattle.precision_law.proofs.hearing.{GoodFrames.{IsAtPoint, heard_within, heard_within_by, same_sent, sooner, went_so}, Since.{is_since, not_integrating}}
+use Rattle.precision_law.proofs.{hearing.Received.{IsSentInTime, cm_of_channel, receives, sent_in_time}, verdict.HeardOutside.{SoundIsSent, few_heard_outside}}
 use Rattle.precision_law.proofs.words.Laws.{AreBeforeCorrections, BlocksGoSo, FirmDevicesCorrect, HearsBy, Hull, IsFirm, IsGoodEnd, IsInBlock}
 use Rattle.precision_law.proofs.words.Laws.{IsSharedCorrection, IsView, SendsSo, SoundMasterSends, View, base_of, hull_of}
 use Rattle.precision_law.proofs.words.Plans.{A, AsyncClique, B, Channel, Cleared, Corrected, DeviceId, HasVerdict, HeardFrame, Hearing, IsBehind, IsBestOf}
 use Rattle.precision_law.proofs.words.Plans.{IsLevel, IsWithinOn, Masters, Members, SomeQualifies, Standing, Summarizes, Summary, SyncClique, Units, Verdict}
 use Rattle.precision_law.proofs.words.Plans.{best_on, correction_of, count_of, deviation_by, deviation_on, within_on}
 use Rattle.precision_law.proofs.words.Runs.{Happening, IsIn, Judgement, Within, heard_by, heard_since, in_parts, same_some, standing_before, time_of}
-use Rattle.precision_law.proofs.words.Std.{if◌then◌else◌, ◌+◌, ◌<◌, ◌∙◌, ◌∷◌, ◌≡◌, ◌≤◌, ◌⊎◌, All, All-head, All-tail, Bool, IfSome, List, None, Option, Some}
-use Rattle.precision_law.proofs.words.Std.{[], ap, arith, inl, inr, le-leb, nat_le, option_and_then, refl, subst, suc, sym, true, ℕ}
+use Rattle.precision_law.proofs.words.Std.{◌+◌, ◌<◌, ◌∙◌, ◌∷◌, ◌≡◌, ◌≤◌, ◌⊎◌, All, All-head, All-tail, Bool, IfSome, List, None, Option, Some, [], ap, arith}
+use Rattle.precision_law.proofs.words.Std.{if◌then◌else◌, inl, inr, le-leb, nat_le, option_and_then, refl, subst, suc, sym, true, ℕ}
 
 -- ---- the best frame
 

@@ -1,13 +1,12 @@
 -- What an old device hears outside at its correction point: two masters at most.
-use Rattle.precision_law.proofs.{block.Corrections.heard_late, hearing.GoodFrames.{IsAtPoint, heard_within, same_sent, sooner, went_so}}
+use Rattle.precision_law.proofs.{block.Corrections.heard_late, words.Blocks.{members_are_masters, members_by, point_is, point_of_member}}
+use Rattle.precision_law.proofs.hearing.GoodFrames.{IsAtPoint, heard_within, same_sent, sooner, went_so}
 use Rattle.precision_law.proofs.words.Blocks.{FramesGoSo, IsBadPoint, IsGoodHearing, IsGoodPoint, IsSentOn, good_hearing, made_of, member_of_point}
-use Rattle.precision_law.proofs.words.Blocks.{members_are_masters, members_by, point_is, point_of_member}
-use Rattle.precision_law.proofs.words.Clocks.{HearsThis, any_is, hearing_of, hears_by, one_bad, sets_within}
+use Rattle.precision_law.proofs.words.{Clocks.{HearsThis, any_is, hearing_of, hears_by, one_bad, sets_within}, Std.{ones_le_self, refl, subst, sym, true, ℕ}}
 use Rattle.precision_law.proofs.words.Laws.{AreBad, AreBeforeCorrections, AreGood, BlocksGoSo, HasGood, IsBadMember, IsEmission, IsInBlock, IsView, View}
 use Rattle.precision_law.proofs.words.Plans.{A, AreOutside, B, Channel, DeviceId, Hearing, IsMember, IsOutside, Members, count_of, none}
 use Rattle.precision_law.proofs.words.Runs.{Happening, IsIn, cycle_in, founded_at, heard_since, in_left, member_of, same_some, time_of}
 use Rattle.precision_law.proofs.words.Std.{◌<◌, ◌∙◌, ◌∷◌, ◌≡◌, ◌≤◌, ◌⊎◌, Bool, List, Some, [], ap, arith, bit_at, both_ways, cases_lt, false, inl, inr}
-use Rattle.precision_law.proofs.words.Std.{ones_le_self, refl, subst, sym, true, ℕ}
 
 -- ---- lists
 

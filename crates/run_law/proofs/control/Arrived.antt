@@ -6,11 +6,10 @@ use Rattle.pcf_codec.specs.{Fields.field, declared.refusal.PcfRefusal.PcfRefusal
 use Rattle.pcf_values.specs.declared.pcf.Pcf.{Pcf}
 use Rattle.run_law.proofs.control.Verdicts.{none_first}
 use Rattle.run_law.specs.control.Arrivals.{clock_on_arrival, control_arrival, frame_fault, frame_or_fault, is_cold_start, is_gate_shut, is_of_other_domain}
-use Rattle.run_law.specs.{control.{Arrivals.{is_of_other_member, point_on_arrival}, Wires.{Signal, control, timed}}, declared.judgement.Reason.Reason}
-use Rattle.run_law.specs.{declared.steps.Arrival.Arrival, device.Standpoints.{Standpoint, standpoint}, records.Happenings.{Happening, with_clock}}
-use Rattle.run_law.specs.{runs.DueRecords.IsArrivedRecord, scenario.{Devices.{is_end, is_parent_of, is_relay}, Scenarios.Scenario}}
+use Rattle.run_law.specs.{control.Arrivals.{is_of_other_member, point_on_arrival}, scenario.{Devices.{is_end, is_parent_of, is_relay}, Scenarios.Scenario}}
+use Rattle.run_law.specs.{control.Wires.{Signal, control, timed}, declared.{judgement.Reason.Reason, steps.Arrival.Arrival}, runs.DueRecords.IsArrivedRecord}
+use Rattle.run_law.specs.{device.Standpoints.{Standpoint, standpoint}, records.Happenings.{Happening, with_clock}, timed.Receptions.{arrival_of, last_taken}}
 use Rattle.run_law.specs.timed.Arrivals.{entry_arrival, entry_entering, octets_fault, octets_or_fault, row_fault, taken_or_fault, timed_arrival}
-use Rattle.run_law.specs.timed.Receptions.{arrival_of, last_taken}
 use Rattle.schedule_tables.specs.declared.entry.Entry.{Entry}
 use Rattle.tte_units.specs.{Amount.amount, declared.units.Units.Units}
 use Rattle.run_law.specs.declared.steps.Arrival.TheVariants as arrivals

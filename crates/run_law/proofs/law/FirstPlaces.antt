@@ -1,10 +1,9 @@
 -- Where the records of a run stand: by their numbers, and by their places.
-use Rattle.run_law.proofs.Words.{if◌then◌else◌, ◌++◌, ◌+◌, ◌<◌, ◌∙◌, ◌∷◌, ◌≡◌, AllBefore, Bool, Happening, IsBefore, IsDue, IsFounded, IsIn, IsRun, List}
-use Rattle.run_law.proofs.Words.{NoneBefore, Scenario, Some, [], ap, append-nil, append_assoc, arith, cases_lt, earlier, false, inl, inr, le-ltb, length}
-use Rattle.run_law.proofs.Words.{nat_lt, numbered, place_of, refl, slice_get, subst, suc, sym, time_of, true, zero, ℕ}
+use Rattle.run_law.proofs.Words.{◌++◌, ◌+◌, ◌<◌, ◌∙◌, ◌∷◌, ◌≡◌, AllBefore, Bool, Happening, IsBefore, IsDue, IsFounded, IsIn, IsRun, List, NoneBefore, Scenario}
+use Rattle.run_law.proofs.Words.{Some, [], ap, append-nil, append_assoc, arith, cases_lt, earlier, false, if◌then◌else◌, inl, inr, le-ltb, length, nat_lt}
+use Rattle.run_law.proofs.{Words.{numbered, place_of, refl, slice_get, subst, suc, sym, time_of, true, zero, ℕ}, runs.OneRun.due_is_next}
+use Rattle.run_law.proofs.runs.{Determined.due_is_determined, Lacking.behind_first, Places.{before_or_not, chain, in_parts, in_right, parted}}
 use Rattle.std.proofs.{Common.filter, lemmas.{List.Elements.filter-append, Option.slice_get_within}}
-use Rattle.run_law.proofs.runs.{Determined.due_is_determined, Lacking.behind_first, OneRun.due_is_next}
-use Rattle.run_law.proofs.runs.Places.{before_or_not, chain, in_parts, in_right, parted}
 
 -- ---- lists
 

@@ -1,14 +1,12 @@
 -- What comes at one time from one cause is one.
-use Rattle.std.proofs.Common.{arith}
-use Rattle.run_law.proofs.Words.{◌∙◌, ◌≡◌, Arrival, ArrivesAs, BecomesPermanent, Bool, Departs, Device, DeviceId, Gives, Happening, Judgement}
-use Rattle.run_law.proofs.Words.{Launch, LinkId, List, Master, Network, None, NoteBody, Option, Pcf, Reason, Ripe, Role, Scenario, Some, State, Units}
-use Rattle.run_law.proofs.Words.{ap, arrival_of, device_at, false, is_relay, launched, numbered, observation_window, option_map_or, refl, ripe_as}
-use Rattle.run_law.proofs.Words.{same_some, subst, sym, time_of, true, ℕ}
-use Rattle.std.proofs.Common.{MatchBool}
-use Rattle.compression.{proofs.Times.one_list_of_clusters, specs.{Clusters.{Cluster, Point}, Role.role, declared.taken.Taken.Taken}}
-use Rattle.run_law.specs.control.{Collections.{IsCollectedAs, points_of, ripe_by_role}, Leaving.{Departure, departure}}
+use Rattle.std.proofs.Common.{MatchBool, arith}
+use Rattle.run_law.proofs.Words.{◌∙◌, ◌≡◌, Arrival, ArrivesAs, BecomesPermanent, Bool, Departs, Device, DeviceId, Gives, Happening, Judgement, Launch, LinkId}
+use Rattle.run_law.proofs.Words.{List, Master, Network, None, NoteBody, Option, Pcf, Reason, Ripe, Role, Scenario, Some, State, Units, ap, arrival_of}
+use Rattle.run_law.proofs.Words.{device_at, false, is_relay, launched, numbered, observation_window, option_map_or, refl, ripe_as, same_some, subst, sym}
+use Rattle.run_law.{proofs.Words.{time_of, true, ℕ}, specs.{control.Leaving.{Departure, departure}, scenario.Devices.{is_cm, is_cm_role, is_relay_role}}}
+use Rattle.run_law.specs.{control.Collections.{IsCollectedAs, points_of, ripe_by_role}, device.States.{adjustment_at_hearing, state_at_hearing}}
 use Rattle.run_law.specs.control.{Permanence.{IsCollectedOrDropped, IsJudgedBy, IsPermanenceOutcome, IsPermanent, before_permanence}, Wires.{Arrives, Signal}}
-use Rattle.run_law.specs.{device.States.{adjustment_at_hearing, state_at_hearing}, scenario.Devices.{is_cm, is_cm_role, is_relay_role}}
+use Rattle.compression.{proofs.Times.one_list_of_clusters, specs.{Clusters.{Cluster, Point}, Role.role, declared.taken.Taken.Taken}}
 use Rattle.run_law.specs.declared.judgement.Judgement.TheVariants as judgements
 use Rattle.run_law.specs.declared.note.NoteBody.TheVariants as notes
 use Rattle.run_law.specs.declared.steps.Ripe.TheVariants as ripe

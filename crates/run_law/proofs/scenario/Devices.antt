@@ -1,13 +1,12 @@
 -- Devices of a scenario.
-use Rattle.run_law.proofs.Words.{if◌then◌else◌, ◌++◌, ◌==◌, ◌∙◌, ◌∷◌, ◌≡◌, ◌≤ℤ◌, ◌≤◌, Bool, Cm, Device, DeviceId, Event, IsSomeAnd, IsWithinHypothesis}
-use Rattle.run_law.proofs.Words.{Link, LinkId, List, Network, None, Option, Role, Scenario, Some, What, [], amount, ap, append-nil, append_assoc}
-use Rattle.run_law.proofs.Words.{arith, cases_lt, device_at, eqb-true, false, inl, inr, ints, is_broken, is_master, is_parent_of, link_at, option_map_or, pos}
-use Rattle.run_law.proofs.Words.{refl, subst, sym, true, ℕ}
+use Rattle.run_law.proofs.Words.{◌++◌, ◌==◌, ◌∙◌, ◌∷◌, ◌≡◌, ◌≤ℤ◌, ◌≤◌, Bool, Cm, Device, DeviceId, Event, IsSomeAnd, IsWithinHypothesis, Link, LinkId, List}
+use Rattle.run_law.proofs.Words.{Network, None, Option, Role, Scenario, Some, What, [], amount, ap, append-nil, append_assoc, arith, cases_lt, device_at}
+use Rattle.run_law.proofs.Words.{eqb-true, false, if◌then◌else◌, inl, inr, ints, is_broken, is_master, is_parent_of, link_at, option_map_or, pos, refl, subst}
+use Rattle.run_law.proofs.{Words.{sym, true, ℕ}, runs.Grow.in_two}
+use Rattle.run_law.specs.scenario.{Devices.{IsParentOf, has_role, is_cm_role, is_end}, Hypothesis.{AreWithinHypothesis, breaks_at}, Scenarios.turns_on}
 use Rattle.std.{proofs.{Common.{◌||◌, filter, nat_le}, lemmas.Bool.{eq-eqb, le-leb}}, specs.List.list_any}
 use Rattle.net_plan.{proofs.SameIds.alike, specs.Places.{IsEndSystem, is_end_system}}
 use Rattle.tte_lemmas.proofs.Options.{opened}
-use Rattle.run_law.{proofs.runs.Grow.in_two, specs.scenario.{Devices.{IsParentOf, has_role, is_cm_role, is_end}, Hypothesis.{AreWithinHypothesis, breaks_at}}}
-use Rattle.run_law.specs.scenario.Scenarios.{turns_on}
 use Rattle.net_plan.specs.declared.event.What.TheVariants as events
 use Rattle.run_law.specs.declared.outside.Outside.TheVariants as outside
 

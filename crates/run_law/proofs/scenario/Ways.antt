@@ -1,6 +1,5 @@
 -- Ways over a link.
-use Rattle.run_law.proofs.Words.{◌≡◌, Down, Up, Way, refl, true}
-use Rattle.run_law.specs.scenario.Ways.{is_way}
+use Rattle.run_law.{proofs.Words.{◌≡◌, Down, Up, Way, refl, true}, specs.scenario.Ways.is_way}
 
 -- a way is itself
 pub way_itself : (way : Way) → is_way way way ≡ true

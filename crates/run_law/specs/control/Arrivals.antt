@@ -1,7 +1,6 @@
 -- How an arriving protocol control frame is judged.
-use Rattle.std.specs.Option.{option_map_or}
-use Rattle.std.specs.Prelude.{if◌then◌else◌, ◌&&◌, ◌*◌, ◌+ℤ◌, ◌+◌, ◌==◌, ◌^◌, ◌∷◌, Bool, Err, None, Ok, Option, Result}
-use Rattle.std.specs.Prelude.{Some, [], false, int_lt, nat_lt, not, pos, true, ℕ}
+use Rattle.std.specs.{Option.option_map_or, Prelude.{false, if◌then◌else◌, int_lt, nat_lt, not, pos, true, ℕ}}
+use Rattle.std.specs.Prelude.{◌&&◌, ◌*◌, ◌+ℤ◌, ◌+◌, ◌==◌, ◌^◌, ◌∷◌, Bool, Err, None, Ok, Option, Result, Some, []}
 use Rattle.net_plan.specs.{Places.link_at, declared.{ids.{DeviceId.DeviceId, LinkId.LinkId}, network.Network.Network}}
 use Rattle.net_plan.specs.declared.tables.Way.TheVariants.{Down, Up}
 use Rattle.pcf_codec.specs.declared.refusal.PcfRefusal.{PcfRefusal}
@@ -9,14 +8,13 @@ use Rattle.pcf_values.specs.declared.{members.Members.Members, pcf.{Pcf.Pcf, Pcf
 use Rattle.pcf_values.specs.declared.pcf.PcfKind.TheVariants.{Integration}
 use Rattle.transparent_clock.specs.Points.{point_of}
 use Rattle.tte_units.specs.{Amount.amount, declared.units.Units.Units}
-use Rattle.run_law.specs.declared.judgement.Reason.{Reason}
 use Rattle.run_law.specs.declared.judgement.Reason.TheVariants.{ColdStart, Domain, Gate, Member, Off, Old}
 use Rattle.run_law.specs.declared.judgement.Reason.TheVariants.{RefusedEtherType, RefusedKind, RefusedLength}
-use Rattle.run_law.specs.declared.{judgement.Reason.TheVariants.RefusedReserved, steps.Arrival.Arrival}
-use Rattle.run_law.specs.declared.steps.Arrival.TheVariants.{Dropped, Passes, PassesAndWaits, Waits}
+use Rattle.run_law.specs.declared.judgement.Reason.{Reason, TheVariants.RefusedReserved}
+use Rattle.run_law.specs.declared.steps.Arrival.{Arrival, TheVariants.{Dropped, Passes, PassesAndWaits, Waits}}
 use Rattle.run_law.specs.device.Standpoints.{Standpoint, clock_of, first_reason, offset_in_cycle}
-use Rattle.run_law.specs.{device.States.is_synchronised, records.Happenings.with_clock}
-use Rattle.run_law.specs.scenario.{Devices.{is_end, is_parent_of, is_relay, member_of}, Ways.wire_of}
+use Rattle.run_law.specs.{device.States.is_synchronised, scenario.Devices.{is_end, is_parent_of, is_relay, member_of}}
+use Rattle.run_law.specs.{records.Happenings.with_clock, scenario.Ways.wire_of}
 use Rattle.pcf_codec.specs.declared.refusal.PcfRefusal.TheVariants as refusals
 
 -- why octets that the decoder refuses are dropped

@@ -7,10 +7,9 @@ use Rattle.net_plan.specs.declared.{ids.DeviceId.DeviceId, network.Network.Netwo
 use Rattle.sync_state.specs.declared.state.State.{State}
 use Rattle.tte_units.specs.Amount.{amount}
 use Rattle.run_law.specs.declared.judgement.{Reason.{Reason, TheVariants.{Cycle, Gate}}, Why.TheVariants.On}
-use Rattle.run_law.specs.declared.{note.NoteBody.NoteBody, steps.Ripe.Ripe}
-use Rattle.run_law.specs.device.Standpoints.{first_reason, offset_in_cycle}
-use Rattle.run_law.specs.{device.States.{cycle_in, is_joined_by, is_synchronised}, records.Happenings.Happening}
-use Rattle.run_law.specs.records.Ranks.{members_in}
+use Rattle.run_law.specs.{declared.note.NoteBody.NoteBody, device.States.{cycle_in, is_joined_by, is_synchronised}}
+use Rattle.run_law.specs.{declared.steps.Ripe.Ripe, records.Ranks.members_in}
+use Rattle.run_law.specs.{device.Standpoints.{first_reason, offset_in_cycle}, records.Happenings.Happening}
 use Rattle.compression.specs.declared.taken.Taken.TheVariants as taken
 use Rattle.run_law.specs.declared.note.NoteBody.TheVariants as notes
 use Rattle.run_law.specs.declared.steps.Ripe.TheVariants as ripe

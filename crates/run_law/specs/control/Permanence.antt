@@ -8,12 +8,11 @@ use Rattle.sync_state.specs.declared.state.State.{State}
 use Rattle.transparent_clock.specs.Points.{point_of}
 use Rattle.tte_units.specs.declared.units.Units.{Units}
 use Rattle.run_law.specs.control.Collections.{IsCollectedAs, master_of, observation_window, point_fault, points_of}
-use Rattle.run_law.specs.{control.{Collections.ripe_by_role, Hearing.heard_as}, declared.judgement.Judgement.Judgement}
-use Rattle.run_law.specs.declared.{judgement.Reason.Reason, steps.Ripe.Ripe}
-use Rattle.run_law.specs.device.States.{adjustment_at_hearing, state_at_hearing}
-use Rattle.run_law.specs.records.{Happenings.{Happening, numbered, time_of}, Order.is_before}
-use Rattle.run_law.specs.{records.Ranks.{place_at, place_of}, scenario.Devices.{is_cm, is_parent_of, is_relay, plan_of}}
-use Rattle.run_law.specs.scenario.Scenarios.{Scenario, is_broken}
+use Rattle.run_law.specs.{control.Collections.ripe_by_role, device.States.{adjustment_at_hearing, state_at_hearing}}
+use Rattle.run_law.specs.{control.Hearing.heard_as, records.Order.is_before}
+use Rattle.run_law.specs.{declared.judgement.Judgement.Judgement, records.Happenings.{Happening, numbered, time_of}}
+use Rattle.run_law.specs.{declared.{judgement.Reason.Reason, steps.Ripe.Ripe}, records.Ranks.{place_at, place_of}}
+use Rattle.run_law.specs.scenario.{Devices.{is_cm, is_parent_of, is_relay, plan_of}, Scenarios.{Scenario, is_broken}}
 use Rattle.run_law.specs.declared.judgement.Judgement.TheVariants as judgements
 use Rattle.run_law.specs.declared.note.NoteBody.TheVariants as notes
 use Rattle.run_law.specs.declared.steps.Ripe.TheVariants as ripe

@@ -1,7 +1,6 @@
 -- Frames on the wires.
-use Rattle.std.specs.Option.{option_map_or}
-use Rattle.std.specs.Prelude.{if◌then◌else◌, ◌*◌, ◌+◌, ◌==◌, ◌≡◌, List, None, Ok, Option, Result, Some, length}
-use Rattle.std.specs.Prelude.{option_map, ℕ}
+use Rattle.std.specs.{Option.option_map_or, Prelude.{option_map, ℕ}}
+use Rattle.std.specs.Prelude.{◌*◌, ◌+◌, ◌==◌, ◌≡◌, List, None, Ok, Option, Result, Some, if◌then◌else◌, length}
 use Rattle.net_plan.specs.{Places.link_at, declared.{event.What.TheVariants.Send, ids.DeviceId.DeviceId}}
 use Rattle.net_plan.specs.declared.{ids.LinkId.LinkId, network.Network.Network, tables.Way.{Way, TheVariants.Up}}
 use Rattle.pcf_codec.specs.{Decoding.decoded, EtherType.pcf_type, Fields.field, declared.refusal.PcfRefusal.PcfRefusal}

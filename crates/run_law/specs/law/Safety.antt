@@ -1,10 +1,8 @@
 -- What it is for a run to be safe up to a time.
-use Rattle.std.specs.Option.{option_map_or}
+use Rattle.std.specs.{Option.option_map_or, Prelude.{ℕ, ℤ}}
 use Rattle.std.specs.Prelude.{◌*◌, ◌+ℤ◌, ◌+◌, ◌<◌, ◌≡◌, ◌≢◌, ◌≤ℤ◌, ◌≤◌, ◌⊎◌, List, Some, false, length, pos, slice_get}
-use Rattle.std.specs.Prelude.{ℕ, ℤ}
-use Rattle.net_plan.specs.{Bounds.IsGreatest, Places.{IsEndSystem, link_at}, declared.ids.DeviceId.DeviceId}
-use Rattle.net_plan.specs.declared.{ids.{LinkId.LinkId, VlId.VlId}, network.Network.Network}
-use Rattle.net_plan.specs.declared.tables.VirtualLink.{VirtualLink}
+use Rattle.net_plan.specs.{Bounds.IsGreatest, Places.{IsEndSystem, link_at}, declared.ids.{LinkId.LinkId, VlId.VlId}}
+use Rattle.net_plan.specs.declared.{ids.DeviceId.DeviceId, network.Network.Network, tables.VirtualLink.VirtualLink}
 use Rattle.schedule_tables.specs.{Entries.{IsEntry, source_of, target_of}, Windows.{OccursIn, window_end, window_of}}
 use Rattle.schedule_tables.specs.declared.entry.Entry.{Entry}
 use Rattle.sync_state.specs.declared.state.State.TheVariants.{Synchronised}

@@ -9,14 +9,13 @@ use Rattle.sync_state.specs.{Calls.{after, heard_frame, reached_point, turned_on
 use Rattle.sync_state.specs.{Verdicts.HasVerdict, declared.answers.Verdict.Verdict}
 use Rattle.sync_state.specs.declared.answers.Verdict.TheVariants.{AsyncClique, Cleared, Corrected, SyncClique}
 use Rattle.tte_units.specs.declared.units.Units.{Units}
-use Rattle.run_law.specs.control.{Arrivals.control_arrival, Collections.{master_of, observation_window}}
-use Rattle.run_law.specs.control.{Hearing.heard_as, Permanence.{IsPermanenceOutcome, ripe_as}}
-use Rattle.run_law.specs.{control.Wires.{Signal, control, timed}, declared.steps.{Act.Act, Arrival.Arrival}}
-use Rattle.run_law.specs.{declared.steps.{Moment.Moment, Ripe.Ripe}, device.States.is_synchronised}
+use Rattle.run_law.specs.control.{Arrivals.control_arrival, Hearing.heard_as, Permanence.{IsPermanenceOutcome, ripe_as}}
+use Rattle.run_law.specs.control.{Collections.{master_of, observation_window}, Wires.{Signal, control, timed}}
+use Rattle.run_law.specs.{declared.steps.Act.Act, timed.Arrivals.timed_arrival}
+use Rattle.run_law.specs.{declared.steps.{Arrival.Arrival, Moment.Moment, Ripe.Ripe}, device.States.is_synchronised}
 use Rattle.run_law.specs.machines.Nodes.{ClockTask, Node, Phase, acting, correcting, dispatching, last_taken_by}
 use Rattle.run_law.specs.machines.{Nodes.{local_at, sending, standpoint_at}, Tasks.{IsFirstTask, doing, emitting}}
 use Rattle.run_law.specs.{records.Frames.{dispatched_frame, integration_frame}, scenario.Devices.{channel_of, plan_of}}
-use Rattle.run_law.specs.timed.Arrivals.{timed_arrival}
 use Rattle.run_law.specs.declared.steps.Act.TheVariants as acts
 use Rattle.run_law.specs.declared.steps.Arrival.TheVariants as arrivals
 use Rattle.run_law.specs.declared.steps.Ripe.TheVariants as ripe

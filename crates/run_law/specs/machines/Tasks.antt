@@ -1,7 +1,6 @@
 -- What a device has still to do by itself.
-use Rattle.std.specs.{List.Contains, Option.option_map_or}
+use Rattle.std.specs.{List.Contains, Option.option_map_or, Prelude.{false, pos, slice_get, true, ℕ, ℤ}}
 use Rattle.std.specs.Prelude.{◌*◌, ◌+◌, ◌-ℤ◌, ◌<ℤ◌, ◌∷◌, ◌≡◌, ◌≤ℤ◌, ◌≤◌, ◌⊎◌, IsSomeAnd, List, None, Option, Some, []}
-use Rattle.std.specs.Prelude.{false, pos, slice_get, true, ℕ, ℤ}
 use Rattle.compression.specs.{Clusters.{AreClusters, Cluster}, Emission.compressed}
 use Rattle.compression.specs.declared.compressed.Compressed.{Compressed}
 use Rattle.net_plan.specs.{Places.is_master, declared.{ids.{DeviceId.DeviceId, RowId.RowId}, network.Network.Network}}

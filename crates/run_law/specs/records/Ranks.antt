@@ -2,10 +2,9 @@
 -- numbers behind these, they part records that no run has at one place.
 use Rattle.std.specs.{Option.option_map_or, Prelude.{◌∷◌, List, [], negsuc, pos, ℕ, ℤ}}
 use Rattle.tte_units.specs.Amount.{amount}
-use Rattle.run_law.specs.declared.note.NoteBody.{NoteBody}
 use Rattle.run_law.specs.declared.note.NoteBody.TheVariants.{Accepted, Arrived, Clock, Compressed, Corrected, Delivered}
 use Rattle.run_law.specs.declared.note.NoteBody.TheVariants.{Dropped, Event, Left, Lost, Permanent, Sent, State, TtSent}
-use Rattle.run_law.specs.records.Happenings.{Happening, time_of}
+use Rattle.run_law.specs.{declared.note.NoteBody.NoteBody, records.Happenings.{Happening, time_of}}
 
 -- the kinds of record at one time: an effect at the instant of its cause has the higher rank
 abbrev pub rank : NoteBody → ℕ

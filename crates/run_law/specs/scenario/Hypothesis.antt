@@ -7,10 +7,9 @@ use Rattle.net_plan.specs.declared.{ids.{DeviceId.DeviceId, LinkId.LinkId}, netw
 use Rattle.net_plan.specs.declared.tables.{Device.Device, Way.Way}
 use Rattle.pcf_values.specs.declared.channel.Channel.{Channel}
 use Rattle.tte_units.specs.{Amount.amount, declared.{rates.Ppb.Ppb, units.Units.Units}}
-use Rattle.run_law.specs.declared.outside.Outside.{Outside}
 use Rattle.run_law.specs.declared.outside.Outside.TheVariants.{Channel as OtherChannel, Hold, Late, NotBroken}
 use Rattle.run_law.specs.declared.outside.Outside.TheVariants.{NotMaster, NotOff, Order, Rate, SecondBreak}
-use Rattle.run_law.specs.declared.outside.Outside.TheVariants.{TooFewMasters, Wire}
+use Rattle.run_law.specs.declared.outside.Outside.{Outside, TheVariants.{TooFewMasters, Wire}}
 use Rattle.run_law.specs.scenario.Faults.{BeginsOn, Breaks, IsBroken, IsFaulty, IsLinkOf, IsTurnedOn}
 use Rattle.net_plan.specs.declared.event.What.TheVariants as events
 

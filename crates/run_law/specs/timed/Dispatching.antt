@@ -1,7 +1,6 @@
 -- What a synchronised device dispatches.
-use Rattle.std.specs.List.{last_or}
+use Rattle.std.specs.{List.last_or, Prelude.{true, ℕ}}
 use Rattle.std.specs.Prelude.{◌&&◌, ◌*◌, ◌+◌, ◌==◌, ◌≡◌, ◌≤◌, ◌⊎◌, Bool, List, None, Option, Some, false, filter, pos}
-use Rattle.std.specs.Prelude.{true, ℕ}
 use Rattle.net_plan.specs.{Places.is_master, declared.ids.{DeviceId.DeviceId, LinkId.LinkId, VlId.VlId}}
 use Rattle.net_plan.specs.declared.network.Network.{Network}
 use Rattle.schedule_tables.specs.{Entries.{IsEntry, source_of}, Windows.OccursIn, declared.entry.Entry.Entry}

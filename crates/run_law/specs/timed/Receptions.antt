@@ -1,7 +1,6 @@
 -- What becomes of a frame that arrives, given the records before it.
-use Rattle.std.specs.List.{last_or}
+use Rattle.std.specs.{List.last_or, Prelude.{option_and_then, ℕ}}
 use Rattle.std.specs.Prelude.{◌&&◌, ◌==◌, ◌||◌, ◌≡◌, Bool, List, None, Option, Some, false, filter, nat_lt}
-use Rattle.std.specs.Prelude.{option_and_then, ℕ}
 use Rattle.net_plan.specs.declared.ids.{DeviceId.DeviceId, LinkId.LinkId, VlId.VlId}
 use Rattle.run_law.specs.control.{Arrivals.control_arrival, Wires.{Arrives, Signal, control, timed}}
 use Rattle.run_law.specs.{declared.{note.NoteBody.NoteBody, steps.Arrival.Arrival}, device.Standpoints.standpoint}

@@ -1,9 +1,9 @@
 use crate::judges::networks::sender;
 use audit_devices::events::{EventHistory, reading_law};
 use audit_devices::{Standings, Takings};
-use audit_records::dispatches::Exits;
-use audit_records::places::Places;
-use audit_unpaid::dispatches::RowDebtor;
+use audit_sweep::records::dispatches::Exits;
+use audit_sweep::records::places::Places;
+use audit_sweep::unpaid::dispatches::RowDebtor;
 use std::test::Fail;
 
 #[test]

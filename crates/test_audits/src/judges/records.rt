@@ -1,7 +1,7 @@
 use crate::judges::networks::master;
 use audit_devices::Takings;
 use net_plan::{DeviceId, LinkId, VlId};
-use plain_notes::{Place, Rank};
+use run_law::plain::{Place, Rank};
 use run_law::{NoteBody, Why};
 use std::test::Fail;
 use sync_state::State;

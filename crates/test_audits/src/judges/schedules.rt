@@ -1,7 +1,7 @@
 use crate::judges::networks::sender;
 use audit_devices::events::EventHistory;
 use audit_devices::{Shown, Takings};
-use audit_records::dispatches::{
+use audit_sweep::records::dispatches::{
     At, Dispatch, Exits, Loss, loses_dispatch, sends_some, sends_timed,
 };
 use net_plan::{DeviceId, LinkId, VlId};

@@ -1,9 +1,9 @@
 use crate::judges::networks::master;
 use audit_devices::Standings;
 use audit_devices::events::EventHistory;
-use audit_records::KeptRecords;
-use audit_records::places::Places;
-use audit_unpaid::{Debtor, Paid, Payments};
+use audit_sweep::records::KeptRecords;
+use audit_sweep::records::places::Places;
+use audit_sweep::unpaid::{Debtor, Paid, Payments};
 use net_plan::{DeviceId, LinkId};
 use run_law::NoteBody;
 use std::test::Fail;

@@ -1,8 +1,8 @@
 use std::test::Fail;
-use world_state::queue::{Place, UnderWay};
+use world_state::queue::{DueAt, UnderWay};
 
-fn place(at: u64, rank: u8, device: u32, link: u32, cause: u64) -> Place {
-    Place {
+fn place(at: u64, rank: u8, device: u32, link: u32, cause: u64) -> DueAt {
+    DueAt {
         at,
         rank,
         device,

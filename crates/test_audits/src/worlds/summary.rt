@@ -3,7 +3,7 @@ use net_plan::{DeviceId, LinkId, VlId};
 use run_law::{Judgement, Note, NoteBody, Reason, Why};
 use sync_state::State;
 use tte_io::LineText;
-use tte_storms::summary::{Counts, Drops, LINES, Summary, Tally};
+use tte_traces::storms::summary::{Counts, Drops, LINES, Summary, Tally};
 use tte_units::Units;
 
 const DEVICE: DeviceId = DeviceId(3);

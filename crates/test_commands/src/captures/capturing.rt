@@ -2,9 +2,9 @@ use crate::captures::reading::{BIG, LITTLE};
 use std::alloc::Global;
 use std::process::Abort;
 use std::test::Fail;
-use tte_captures::capture_file;
 use tte_forms::Status;
 use tte_io::{MemorySink, MemorySource, OutOfMemory};
+use tte_run::captures::capture_file;
 
 // The header of a capture, the least octet first, and the greatest first.
 const HEAD: [u8; 24] = [

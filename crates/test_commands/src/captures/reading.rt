@@ -1,5 +1,5 @@
 use std::test::Fail;
-use tte_captures::pcap::{CaptureHead, CaptureRefusal, Packet, next_packet, open_capture};
+use tte_run::captures::pcap::{CaptureHead, CaptureRefusal, Packet, next_packet, open_capture};
 
 // A capture of one frame: what a master with member number 0 sends in cycle 7.
 const ONE: [u8; 100] = [

@@ -1,6 +1,8 @@
 use std::test::Fail;
-use tte_captures::pcap::{CaptureHead, Packet, next_packet, open_capture, put_head, put_packet};
 use tte_io::{MemorySink, SinkFailed};
+use tte_run::captures::pcap::{
+    CaptureHead, Packet, next_packet, open_capture, put_head, put_packet,
+};
 
 // What a master with member number 0 sends in cycle 1.
 const CONTROL: [u8; 60] = [

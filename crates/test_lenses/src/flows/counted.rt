@@ -1,7 +1,7 @@
 //! What is counted of the flow of the worked network. All was worked out by hand. The clocks read the world time, so c1
 //! begins cycle n after n cycles of 131072000000; a frame comes to it at 28653649920 in its cycle, and the window is
-//! from 1074790404 before that, which are the precision and gamma, to 1074790404 and the jitter of 1310720 behind it. So
-//! its last window ends at 29729751044 in its cycle.
+//! from 1074790404 before that, which are the precision and gamma, to 1074790404 and the jitter of 1310720 behind it.
+//! So its last window ends at 29729751044 in its cycle.
 
 use crate::flows::cases::{Case, report_of, try_case};
 use crate::worked::{WORKED, edited};

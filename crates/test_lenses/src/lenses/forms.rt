@@ -1,6 +1,6 @@
 use crate::lenses::cases::{Case, try_case, words_of};
 use lens::Status;
-use lens_slack::forms::{Form, read_form};
+use lens::slack::forms::{Form, read_form};
 use schedule_tables::Rule;
 use std::test::Fail;
 

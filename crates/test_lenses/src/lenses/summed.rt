@@ -5,8 +5,8 @@ use std::alloc::Global;
 use std::process::Abort;
 use std::test::Fail;
 use tte_io::{MemorySink, MemorySource, SteadySource};
-use tte_storms::storm_run;
 use tte_traces::run_trace;
+use tte_traces::storms::storm_run;
 
 const ROOM: u64 = 1 << 22;
 

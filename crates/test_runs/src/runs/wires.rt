@@ -3,9 +3,9 @@ use net_plan::Way;
 use std::alloc::Global;
 use std::process::Abort;
 use std::test::Fail;
-use tte_captures::wires::wire_trace;
 use tte_io::{MemorySink, MemorySource, OutOfMemory, SteadySource};
 use tte_run::Status;
+use tte_run::captures::wires::wire_trace;
 
 // The header of a capture: the least octet first, version 2.4, at most 262,144 octets, Ethernet.
 const HEAD: [u8; 24] = [

@@ -1,7 +1,9 @@
 use crate::stamps::worked::worked;
 use precision_law::falls::{clocks_do_not_fall_back, corrections_are_small};
 use std::test::Fail;
-use tte_stamps::granules::{Granule, least, stamps_agree, stamps_are_of_locals, stamps_tell_order};
+use tte_run::stamps::granules::{
+    Granule, least, stamps_agree, stamps_are_of_locals, stamps_tell_order,
+};
 use tte_units::Units;
 
 // Four times the precision, worked out by hand.

@@ -4,7 +4,7 @@ use std::process::Abort;
 use std::test::Fail;
 use tte_forms::Status;
 use tte_io::{MemorySink, MemorySource, OutOfMemory, SteadySource};
-use tte_stamps::stamp_trace;
+use tte_run::stamps::stamp_trace;
 use tte_units::Units;
 
 // Four times the precision.

@@ -1,5 +1,5 @@
 use std::test::Fail;
-use tte_votes::tmr::Ballot;
+use tte_run::votes::tmr::Ballot;
 
 #[test]
 fn two_equal_payloads_are_the_vote(rt: HostRuntime) -> Result<(), Fail> {

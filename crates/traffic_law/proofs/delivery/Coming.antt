@@ -1,17 +1,16 @@
 -- Where the frames come from that devices take.
-use Rattle.traffic_law.proofs.Words.{if◌then◌else◌, ◌+◌, ◌<◌, ◌∙◌, ◌∷◌, ◌≡◌, Bool, BringsBlocks, DeviceId, Entry, FieldsFit, Happening, HasGoodSources}
-use Rattle.traffic_law.proofs.Words.{IsEntry, IsGood, IsRowDispatch, IsTaking, IsTimedAt, IsView, KeepsRules, Link, LinkId, List, Network, None, NoteBody}
-use Rattle.traffic_law.proofs.Words.{SendersAreBroken, Signal, Some, Up, View, VirtualLink, VlId, Way, [], ap, arith, arrives_at, begins_late}
-use Rattle.traffic_law.proofs.Words.{both_ways, cases_lt, cause_of, false, field, inl, inr, ints, is_broken, launched, length, link_at, numbered, octet_time}
-use Rattle.traffic_law.proofs.Words.{option_map_or, port_time, refl, same_some, slice_get, source_by, source_of, subst, suc, sym, time_of, timed, true}
-use Rattle.traffic_law.proofs.Words.{tt_frame_by, within_run, zero, ℕ}
+use Rattle.traffic_law.proofs.Words.{◌+◌, ◌<◌, ◌∙◌, ◌∷◌, ◌≡◌, Bool, BringsBlocks, DeviceId, Entry, FieldsFit, Happening, HasGoodSources, IsEntry, IsGood}
+use Rattle.traffic_law.proofs.Words.{IsRowDispatch, IsTaking, IsTimedAt, IsView, KeepsRules, Link, LinkId, List, Network, None, NoteBody, SendersAreBroken}
+use Rattle.traffic_law.proofs.Words.{Signal, Some, Up, View, VirtualLink, VlId, Way, [], ap, arith, arrives_at, begins_late, both_ways, cases_lt, cause_of}
+use Rattle.traffic_law.proofs.Words.{false, field, if◌then◌else◌, inl, inr, ints, is_broken, launched, length, link_at, numbered, octet_time, option_map_or}
+use Rattle.traffic_law.proofs.Words.{port_time, refl, same_some, slice_get, source_by, source_of, subst, suc, sym, time_of, timed, true, tt_frame_by}
+use Rattle.traffic_law.{proofs.{Words.{within_run, zero, ℕ}, ports.Cycles.hulls_grow}, specs.Passed.ArrivesInSpan}
+use Rattle.traffic_law.proofs.delivery.{Arriving.{arrivals_are_in_windows, frames_arrive_in_spans}, Taken.{left_control, put_on, takings_are_so}}
+use Rattle.traffic_law.proofs.{delivery.{Frames.dispatch_shows, Whole.octets_come_so}, ports.{Dispatched.dispatches_are_of_rows, Leavings.hull_proper}}
+use Rattle.traffic_law.{proofs.schedule.Rows.rows_go_once, specs.Coming.{BeginsAtSender, DispatchesBegin, SpansAreApart, TakingsBegin, TakingsComeByRows}}
 use Rattle.net_plan.specs.declared.event.What.TheVariants.{Send}
 use Rattle.run_law.specs.{control.Wires.{Launch, signal_of, time_on_port}, law.Safety.IsFirstDispatch, scenario.Ways.is_cut}
 use Rattle.schedule_tables.specs.declared.rule.Rule.TheVariants.{VlIdsDiffer}
-use Rattle.traffic_law.proofs.delivery.{Arriving.{arrivals_are_in_windows, frames_arrive_in_spans}, Frames.dispatch_shows}
-use Rattle.traffic_law.proofs.{delivery.{Taken.{left_control, put_on, takings_are_so}, Whole.octets_come_so}, ports.Cycles.hulls_grow}
-use Rattle.traffic_law.proofs.{ports.{Dispatched.dispatches_are_of_rows, Leavings.hull_proper}, schedule.Rows.rows_go_once}
-use Rattle.traffic_law.specs.{Coming.{BeginsAtSender, DispatchesBegin, SpansAreApart, TakingsBegin, TakingsComeByRows}, Passed.ArrivesInSpan}
 use Rattle.run_law.specs.declared.note.NoteBody.TheVariants as notes
 
 -- ---- spans

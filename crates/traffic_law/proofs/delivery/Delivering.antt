@@ -5,7 +5,12 @@ use Rattle.traffic_law.proofs.Words.{Reaches, Scenario, Some, Synchronised, Unit
 use Rattle.traffic_law.proofs.Words.{adjustment_stays, amount, ap, arith, arrives_at, begins_late, cases_lt, cause_of, clocks_reach_sharply, earlier}
 use Rattle.traffic_law.proofs.Words.{epoch_time, false, in_all, inl, inr, ints, is_broken, is_turned_on_at, numbered, numbered_in, offset_in_cycle, place_of}
 use Rattle.traffic_law.proofs.Words.{pos, reaches_by, refl, room, same_some, shown_at, slice_get, source_of, state_after, state_left, steady, subst, suc, sym}
-use Rattle.traffic_law.proofs.Words.{target_of, time_of, tt_frame_by, window_of, within_run, zero, ℕ, ℤ}
+use Rattle.traffic_law.proofs.{Words.{target_of, time_of, tt_frame_by, window_of, within_run, zero, ℕ, ℤ}, delivery.Receiving.{arrivals_are_taken, state_is}}
+use Rattle.traffic_law.proofs.{delivery.{Arriving.frames_arrive_in_spans, Once.delivered_once, Taken.takings_are_so}, schedule.Rows.rows_are_in_time}
+use Rattle.traffic_law.proofs.delivery.{Coming.{dispatches_begin, takings_begin}, Sent.{Brings, arrives_in_time, rows_are_sent}, Since.synchronised_before}
+use Rattle.traffic_law.{proofs.{delivery.Takers.end_delivers, faults.Channels.good_sources, ports.Cycles.same_next}, specs.Ports.{IsRunTo, OwedFramesCome}}
+use Rattle.traffic_law.proofs.{ports.Dispatched.{cycle_is, offset_in_schedule}, spans.Spans.{has_time_at, synchronised_keep_time, values_are_reached_in_spans}}
+use Rattle.traffic_law.specs.{Delivered.IsSentIn, Spans.IsReachedInSpan}
 use Rattle.std.proofs.Common.{max}
 use Rattle.net_plan.specs.{Bounds.IsGreatest, Places.IsEndSystem, Ranges.{IsInRange, IsVlInRange}}
 use Rattle.precision_law.proofs.law.Precision.{up_to_is, view_at, view_of}
@@ -13,12 +18,6 @@ use Rattle.run_law.{proofs.{law.FirstPlaces.{by_number, number_is}, scenario.Dev
 use Rattle.run_law.specs.{device.LocalClocks.local_before, law.Safety.{IsDelivered, IsInStep, IsOwed, IsRowInto, IsWindowEnd, ReachesPlace}}
 use Rattle.run_law.specs.records.{Causes.IsChain, Happenings.happenings}
 use Rattle.schedule_tables.specs.{Schedule.EntersOn, Windows.window_end, declared.rule.Rule.TheVariants.BothChannels}
-use Rattle.traffic_law.proofs.delivery.{Arriving.frames_arrive_in_spans, Coming.{dispatches_begin, takings_begin}, Once.delivered_once}
-use Rattle.traffic_law.proofs.delivery.{Receiving.{arrivals_are_taken, state_is}, Sent.{Brings, arrives_in_time, rows_are_sent}, Since.synchronised_before}
-use Rattle.traffic_law.proofs.{delivery.{Taken.takings_are_so, Takers.end_delivers}, faults.Channels.good_sources, ports.Cycles.same_next}
-use Rattle.traffic_law.proofs.{ports.Dispatched.{cycle_is, offset_in_schedule}, schedule.Rows.rows_are_in_time}
-use Rattle.traffic_law.{proofs.spans.Spans.{has_time_at, synchronised_keep_time, values_are_reached_in_spans}, specs.Delivered.IsSentIn}
-use Rattle.traffic_law.specs.{Ports.{IsRunTo, OwedFramesCome}, Spans.IsReachedInSpan}
 use Rattle.run_law.specs.declared.note.NoteBody.TheVariants as notes
 
 -- ---- what is owed, in the view of the run up to the end of the last window

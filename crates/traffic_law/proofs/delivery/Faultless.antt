@@ -1,14 +1,12 @@
 -- What a device has found of a frame of the schedule that it takes.
-use Rattle.std.proofs.Common.{arith}
+use Rattle.std.proofs.{Common.{◌%◌, arith}, lemmas.Bool.{leb-true, not-false, or_parts}}
 use Rattle.traffic_law.proofs.Words.{if◌then◌else◌, ◌==◌, ◌≡◌, ◌≤ℤ◌, ◌⊎◌, Arrival, Bool, DeviceId, Entry, IsEntry, LinkId, List, Network, None}
 use Rattle.traffic_law.proofs.Words.{OccursIn, Option, Reason, Some, Standpoint, Synchronised, VirtualLink, VlId, and_parts, ap, clock_of, cycle_at}
 use Rattle.traffic_law.proofs.Words.{entry_arrival, entry_entering, eqb-true, false, field, inl, inr, int_lt, is_end, is_synchronised, is_taken_in, length}
 use Rattle.traffic_law.proofs.Words.{link_at, nat_le, none_first, not, not_less, octets_fault, octets_or_fault, offset_in_cycle, option_and_then, option_map_or}
 use Rattle.traffic_law.proofs.Words.{refl, row_fault, slice_get, taken_or_fault, timed_arrival, true, way_to, window_of, ℕ}
-use Rattle.std.proofs.{Common.◌%◌, lemmas.Bool.{leb-true, not-false, or_parts}}
 use Rattle.net_plan.{proofs.SameIds.one_link}
-use Rattle.run_law.proofs.{device.States.is_in, scenario.Ways.one_way}
-use Rattle.run_law.specs.timed.Arrivals.{occurs_in}
+use Rattle.run_law.{proofs.{device.States.is_in, scenario.Ways.one_way}, specs.timed.Arrivals.occurs_in}
 use Rattle.schedule_tables.proofs.Entries.{entry_by}
 use Rattle.tte_lemmas.proofs.Lists.{find_at}
 use Rattle.run_law.specs.declared.steps.Arrival.TheVariants as arrivals

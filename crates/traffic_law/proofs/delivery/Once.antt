@@ -1,14 +1,13 @@
 -- A frame of the schedule is delivered once.
-use Rattle.traffic_law.proofs.Words.{◌&&◌, ◌==◌, ◌||◌, ◌∙◌, ◌∷◌, ◌≡◌, DeviceId, Down, Entry, FieldsFit, Happening, IsBefore, IsDue, IsEntry, IsFounded}
-use Rattle.traffic_law.proofs.Words.{IsGood, IsIn, IsInSpan, IsTaking, IsView, Joints, LinkId, List, None, NoteBody, Option, SaysTaken, Some, Up, View, VlId}
-use Rattle.traffic_law.proofs.Words.{Way, [], ap, arith, behind_first, both_ways, cases_lt, eq-eqb, filter, in_left, in_parts, inl, inr, is_end}
-use Rattle.traffic_law.proofs.Words.{is_taken_in, key, last_or, last_taken, lt-ltb, members_in, nat_lt, option_and_then, place_of, rank, refl, source_by}
-use Rattle.traffic_law.proofs.Words.{source_of, subst, sym, target_by, target_of, time_of, true, ℕ}
+use Rattle.traffic_law.proofs.Words.{◌&&◌, ◌==◌, ◌||◌, ◌∙◌, ◌∷◌, ◌≡◌, DeviceId, Down, Entry, FieldsFit, Happening, IsBefore, IsDue, IsEntry, IsFounded, IsGood}
+use Rattle.traffic_law.proofs.Words.{IsIn, IsInSpan, IsTaking, IsView, Joints, LinkId, List, None, NoteBody, Option, SaysTaken, Some, Up, View, VlId, Way, []}
+use Rattle.traffic_law.proofs.Words.{ap, arith, behind_first, both_ways, cases_lt, eq-eqb, filter, in_left, in_parts, inl, inr, is_end, is_taken_in, key}
+use Rattle.traffic_law.proofs.Words.{last_or, last_taken, lt-ltb, members_in, nat_lt, option_and_then, place_of, rank, refl, source_by, source_of, subst, sym}
+use Rattle.traffic_law.proofs.{Words.{target_by, target_of, time_of, true, ℕ}, ports.OneDispatch.same_by_place, spans.Corrected.{in_places, last_of}}
+use Rattle.traffic_law.proofs.delivery.{Coming.{spans_are_apart, takings_come_by_rows}, Sent.{Brings, last_passes, no_later, none_last}, Takers.delivered_ends}
+use Rattle.traffic_law.proofs.{delivery.{Receiving.says_so, Taken.takings_are_so}, faults.Channels.switch_no_end}
 use Rattle.run_law.proofs.{law.FirstPlaces.front_founded, runs.Places.{chain, either_way, never_self}}
 use Rattle.run_law.specs.timed.Receptions.{comes_before, is_taken_before, taken_cycle}
-use Rattle.traffic_law.proofs.delivery.{Coming.{spans_are_apart, takings_come_by_rows}, Receiving.says_so, Sent.{Brings, last_passes, no_later, none_last}}
-use Rattle.traffic_law.proofs.{delivery.{Taken.takings_are_so, Takers.delivered_ends}, faults.Channels.switch_no_end, ports.OneDispatch.same_by_place}
-use Rattle.traffic_law.proofs.spans.Corrected.{in_places, last_of}
 use Rattle.run_law.specs.declared.note.NoteBody.TheVariants as notes
 
 -- ---- rows into end systems

@@ -1,25 +1,23 @@
 -- A dispatched frame that comes to a synchronised device is taken, or one was taken before.
-use Rattle.traffic_law.proofs.Words.{if◌then◌else◌, ◌&&◌, ◌++◌, ◌+ℤ◌, ◌+◌, ◌<◌, ◌==◌, ◌||◌, ◌∙◌, ◌∷◌, ◌≡◌, ◌≢◌, ◌≤◌, Arrival, Bool, BringsBlocks}
-use Rattle.traffic_law.proofs.Words.{BringsChannels, DeviceId, Down, Entry, FieldsFit, Happening, Integrating, IsDue, IsGood, IsIn, IsRowDispatch}
-use Rattle.traffic_law.proofs.Words.{IsTimedAt, IsView, KeepsRules, Link, LinkId, List, Network, None, NoteBody, OccursIn, Option, SaysTaken, Sizes}
-use Rattle.traffic_law.proofs.Words.{Some, Standpoint, State, Synchronised, Up, View, VlId, Way, [], adjustment_after, amount, and_parts, ap, arith, arrives_at}
-use Rattle.traffic_law.proofs.Words.{clock_of, cycle_at, earlier, entry_arrival, entry_entering, eq-eqb, eqb-true, false, field, filter, in_filter, in_left}
-use Rattle.traffic_law.proofs.Words.{in_range, inl, inr, ints, is_broken, is_end, is_synchronised, is_taken_in, is_turned_on_at, last_in, last_or, last_taken}
-use Rattle.traffic_law.proofs.Words.{launched, length, link_at, nat_lt, not, numbered, octets_fault, octets_or_fault, offset_in_cycle, one_device}
-use Rattle.traffic_law.proofs.Words.{option_and_then, option_map, option_map_or, place_of, pos, refl, room, row_fault, shown_at, source_by, split, standpoint}
-use Rattle.traffic_law.proofs.Words.{state_after, subst, sym, taken_or_fault, target_by, target_of, time_of, timed, timed_arrival, true, tt_frame_by, way_from}
-use Rattle.traffic_law.proofs.Words.{ℕ}
+use Rattle.traffic_law.proofs.Words.{◌&&◌, ◌++◌, ◌+ℤ◌, ◌+◌, ◌<◌, ◌==◌, ◌||◌, ◌∙◌, ◌∷◌, ◌≡◌, ◌≢◌, ◌≤◌, Arrival, Bool, BringsBlocks, BringsChannels, DeviceId}
+use Rattle.traffic_law.proofs.Words.{Down, Entry, FieldsFit, Happening, Integrating, IsDue, IsGood, IsIn, IsRowDispatch, IsTimedAt, IsView, KeepsRules, Link}
+use Rattle.traffic_law.proofs.Words.{LinkId, List, Network, None, NoteBody, OccursIn, Option, SaysTaken, Sizes, Some, Standpoint, State, Synchronised, Up, View}
+use Rattle.traffic_law.proofs.Words.{VlId, Way, [], adjustment_after, amount, and_parts, ap, arith, arrives_at, clock_of, cycle_at, earlier, entry_arrival}
+use Rattle.traffic_law.proofs.Words.{entry_entering, eq-eqb, eqb-true, false, field, filter, if◌then◌else◌, in_filter, in_left, in_range, inl, inr, ints}
+use Rattle.traffic_law.proofs.Words.{is_broken, is_end, is_synchronised, is_taken_in, is_turned_on_at, last_in, last_or, last_taken, launched, length, link_at}
+use Rattle.traffic_law.proofs.Words.{nat_lt, not, numbered, octets_fault, octets_or_fault, offset_in_cycle, one_device, option_and_then, option_map}
+use Rattle.traffic_law.proofs.Words.{option_map_or, place_of, pos, refl, room, row_fault, shown_at, source_by, split, standpoint, state_after, subst, sym}
+use Rattle.traffic_law.proofs.Words.{taken_or_fault, target_by, target_of, time_of, timed, timed_arrival, true, tt_frame_by, way_from, ℕ}
+use Rattle.traffic_law.proofs.delivery.{Arriving.{arrivals_are_in_windows, delay_lies, frames_arrive_in_spans}, Entering.{enters_by, octets_sound, row_sound}}
+use Rattle.traffic_law.proofs.{delivery.{Coming.on_port, Frames.frame_shows, Taken.{put_on, way_is}}, ports.Ends.ends_differ}
+use Rattle.traffic_law.{proofs.{delivery.Whole.dispatches_are_whole, schedule.Rows.rows_are_in_time}, specs.Delivered.{ArrivalsAreTaken, HasTaken}}
 use Rattle.std.proofs.lemmas.Bool.{ltb-true, ne_eqb, or_cases}
 use Rattle.net_plan.specs.Bounds.{gamma_of}
-use Rattle.run_law.{proofs.{law.{FirstPlaces.{due_is_there, same_earlier}, FirstSent.found_before}, records.Order.has_passed}, specs.control.Wires.Arrives}
-use Rattle.run_law.specs.{device.States.is_off, records.Happenings.happening, scenario.Ways.receiver_of, timed.Arrivals.taken_by}
-use Rattle.run_law.specs.timed.Receptions.{ArrivesAs, arrival_of, comes_before, is_taken_before, taken_cycle}
-use Rattle.traffic_law.proofs.delivery.{Arriving.{arrivals_are_in_windows, delay_lies, frames_arrive_in_spans}, Coming.on_port}
-use Rattle.traffic_law.proofs.delivery.{Entering.{enters_by, octets_sound, row_sound}, Frames.frame_shows, Taken.{put_on, way_is}, Whole.dispatches_are_whole}
-use Rattle.traffic_law.{proofs.{ports.Ends.ends_differ, schedule.Rows.rows_are_in_time}, specs.Delivered.{ArrivalsAreTaken, HasTaken}}
+use Rattle.run_law.proofs.{law.{FirstPlaces.{due_is_there, same_earlier}, FirstSent.{found_before, next_due, next_note}}, records.Order.has_passed}
+use Rattle.run_law.specs.{control.Wires.Arrives, device.States.is_off, scenario.Ways.receiver_of, timed.Arrivals.taken_by}
+use Rattle.run_law.specs.{records.Happenings.happening, timed.Receptions.{ArrivesAs, arrival_of, comes_before, is_taken_before, taken_cycle}}
 use Rattle.run_law.specs.declared.note.NoteBody.TheVariants as notes
 use Rattle.run_law.specs.declared.steps.Arrival.TheVariants as arrivals
-use Rattle.run_law.proofs.law.FirstSent.{next_due, next_note}
 
 -- ---- ways
 

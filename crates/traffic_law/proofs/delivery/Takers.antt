@@ -1,10 +1,9 @@
 -- Which devices accept frames of the schedule, and to which they are delivered.
-use Rattle.traffic_law.proofs.Words.{if◌then◌else◌, ◌≡◌, Bool, DeviceId, Entry, Happening, IsCaused, IsIn, IsView, LinkId, List, Network, None, Option, Reason}
-use Rattle.traffic_law.proofs.Words.{SaysTaken, Signal, Some, Standpoint, View, VlId, amount, both_ways, control, entry_arrival, entry_entering, false, field}
-use Rattle.traffic_law.proofs.Words.{founded_at, inl, inr, is_end, last_taken, length, octets_fault, octets_or_fault, refl, row_fault, standpoint, subst, sym}
-use Rattle.traffic_law.proofs.Words.{taken_or_fault, timed, timed_arrival, true, ℕ}
+use Rattle.traffic_law.proofs.Words.{◌≡◌, Bool, DeviceId, Entry, Happening, IsCaused, IsIn, IsView, LinkId, List, Network, None, Option, Reason, SaysTaken}
+use Rattle.traffic_law.proofs.Words.{Signal, Some, Standpoint, View, VlId, amount, both_ways, control, entry_arrival, entry_entering, false, field, founded_at}
+use Rattle.traffic_law.proofs.Words.{if◌then◌else◌, inl, inr, is_end, last_taken, length, octets_fault, octets_or_fault, refl, row_fault, standpoint, subst}
+use Rattle.traffic_law.proofs.{Words.{sym, taken_or_fault, timed, timed_arrival, true, ℕ}, delivery.Taken.never_control}
 use Rattle.run_law.specs.timed.Receptions.{arrival_of}
-use Rattle.traffic_law.proofs.delivery.Taken.{never_control}
 use Rattle.run_law.specs.declared.note.NoteBody.TheVariants as notes
 use Rattle.run_law.specs.declared.steps.Arrival.TheVariants as arrivals
 

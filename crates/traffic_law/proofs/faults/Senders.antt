@@ -4,12 +4,11 @@ use Rattle.traffic_law.proofs.Words.{append_assoc, arith, both_ways, by_lt_z, eq
 use Rattle.traffic_law.proofs.Words.{parted, refl, subst, sym, time_of, true, within_run}
 use Rattle.std.proofs.lemmas.Bool.{le-leb, true_from_ne_false}
 use Rattle.precision_law.proofs.{Plain.any_is}
-use Rattle.run_law.{proofs.{law.{FirstDelays.given, FirstPlaces.in_at}, records.Order.in_any}, specs.declared.outside.Outside.TheVariants.{NotBroken, Order}}
-use Rattle.run_law.specs.{runs.DueRecords.IsEventRecord, scenario.{Faults.{Breaks, IsBroken}, Hypothesis.{AreWithinHypothesis, breaks_at}}}
-use Rattle.run_law.specs.scenario.Scenarios.{events_up_to}
+use Rattle.run_law.proofs.{law.{FirstDelays.given, FirstPlaces.in_at}, records.Order.in_any}
+use Rattle.run_law.{proofs.records.Members.in_kept, specs.{runs.DueRecords.IsEventRecord, scenario.{Faults.{Breaks, IsBroken}, Scenarios.events_up_to}}}
+use Rattle.run_law.specs.{declared.outside.Outside.TheVariants.{NotBroken, Order}, scenario.Hypothesis.{AreWithinHypothesis, breaks_at}}
 use Rattle.tte_lemmas.proofs.Options.{one}
 use Rattle.net_plan.specs.declared.event.What.TheVariants as events
-use Rattle.run_law.proofs.records.Members.{in_kept}
 
 -- ---- the order of events
 

@@ -1,13 +1,14 @@
 -- What a synchronised compression master sends was opened by a frame that passed its gate.
-use Rattle.traffic_law.proofs.Words.{if◌then◌else◌, ◌&&◌, ◌*◌, ◌++◌, ◌+ℤ◌, ◌+◌, ◌-ℤ◌, ◌<◌, ◌==◌, ◌||◌, ◌∙◌, ◌∷◌, ◌≡◌, ◌≤ℤ◌, ◌≤◌, Bool, DeviceId, Happening}
-use Rattle.traffic_law.proofs.Words.{IsBefore, IsCaused, IsDue, IsFounded, IsFoundedAt, IsIn, IsView, Joining, Judgement, LinkId, List, Network, None, NoteBody}
-use Rattle.traffic_law.proofs.Words.{Option, Pcf, Reason, Scenario, Sizes, Some, State, Synchronised, TimedAreNotTurnedOn, Units, View, [], adjustment_after}
+use Rattle.traffic_law.proofs.Words.{◌&&◌, ◌*◌, ◌++◌, ◌+ℤ◌, ◌+◌, ◌-ℤ◌, ◌<◌, ◌==◌, ◌||◌, ◌∙◌, ◌∷◌, ◌≡◌, ◌≤ℤ◌, ◌≤◌, Bool, DeviceId, Happening, IsBefore, IsCaused}
+use Rattle.traffic_law.proofs.Words.{IsDue, IsFounded, IsFoundedAt, IsIn, IsView, Joining, Judgement, LinkId, List, Network, None, NoteBody, Option, Pcf}
+use Rattle.traffic_law.proofs.Words.{Reason, Scenario, Sizes, Some, State, Synchronised, TimedAreNotTurnedOn, Units, View, [], adjustment_after}
 use Rattle.traffic_law.proofs.Words.{adjustment_left, amount, ap, append_assoc, arith, before_of, behind_first, between, both_ways, cases_lt, earlier}
-use Rattle.traffic_law.proofs.Words.{earlier_before, earlier_parts, eqb-true, false, false_from_ne_true, filter, fold-append, founded_at, has_time, in_between}
-use Rattle.traffic_law.proofs.Words.{in_left, in_order, in_parts, inl, inr, int_lt, ints, is_joined_by, is_synchronised, is_turned_on_at, key, le-ltb, lt-ltb}
-use Rattle.traffic_law.proofs.Words.{members_in, nat_lt, none_first, not_less, numbered_in, offset_in_cycle, one_device, option_and_then, option_map_or, parted}
-use Rattle.traffic_law.proofs.Words.{place_of, pos, rank, refl, start_of, state_after, state_at_start, state_left, state_with, steady, subst, sym, time_of}
-use Rattle.traffic_law.proofs.Words.{true, ℕ, ℤ}
+use Rattle.traffic_law.proofs.Words.{earlier_before, earlier_parts, eqb-true, false, false_from_ne_true, filter, fold-append, founded_at, has_time}
+use Rattle.traffic_law.proofs.Words.{if◌then◌else◌, in_between, in_left, in_order, in_parts, inl, inr, int_lt, ints, is_joined_by, is_synchronised}
+use Rattle.traffic_law.proofs.Words.{is_turned_on_at, key, le-ltb, lt-ltb, members_in, nat_lt, none_first, not_less, numbered_in, offset_in_cycle, one_device}
+use Rattle.traffic_law.proofs.Words.{option_and_then, option_map_or, parted, place_of, pos, rank, refl, start_of, state_after, state_at_start, state_left}
+use Rattle.traffic_law.proofs.{Words.{state_with, steady, subst, sym, time_of, true, ℕ, ℤ}, spans.Synchronised.{Keeps, kept_by_all, kept_if}}
+use Rattle.traffic_law.proofs.{delivery.Sent.no_later, ports.{Arrived.arrived_sound, Openers.opened_by}, spans.Forward.no_joining}
 use Rattle.std.{proofs.Common.MatchBool, specs.List.after_last}
 use Rattle.compression.specs.{Clusters.{Point, point_at}, Emission.emission, declared.compressed.Compressed.Compressed}
 use Rattle.drift_clock.specs.Reach.{IsReach}
@@ -19,8 +20,6 @@ use Rattle.run_law.specs.control.Permanence.{BecomesPermanent, IsCollectedOrDrop
 use Rattle.run_law.specs.{device.States.{adjustment_at_hearing, cycle_in, has_joined_at, state_at_hearing}, records.Happenings.frame_by, scenario.Devices.is_cm}
 use Rattle.schedule_tables.specs.Margins.{compression_time}
 use Rattle.tte_lemmas.proofs.Integers.{whole as not_negative}
-use Rattle.traffic_law.proofs.{delivery.Sent.no_later, ports.{Arrived.arrived_sound, Openers.opened_by}, spans.Forward.no_joining}
-use Rattle.traffic_law.proofs.spans.Synchronised.{Keeps, kept_by_all, kept_if}
 use Rattle.run_law.specs.declared.judgement.Judgement.TheVariants as judgements
 use Rattle.run_law.specs.declared.judgement.Why.TheVariants as whys
 use Rattle.run_law.specs.declared.note.NoteBody.TheVariants as notes

@@ -2,10 +2,9 @@
 use Rattle.traffic_law.proofs.Words.{if◌then◌else◌, ◌++◌, ◌+ℤ◌, ◌-ℤ◌, ◌∙◌, ◌∷◌, ◌≡◌, ◌≤ℤ◌, Bool, List, [], and_parts, ap, arith, false, fold, inl}
 use Rattle.traffic_law.proofs.Words.{inr, ints, pos, subst, sym, true, ℕ, ℤ}
 use Rattle.std.proofs.Common.{◌*ℤ◌, Contains, int_le, map}
-use Rattle.compression.proofs.{Elements.{from_beyond, in_cases, in_head, in_none, in_tail}, Firsts.firsts-start, Growth.{end_of-least, end_of-most}}
-use Rattle.compression.proofs.Held.{held-start}
+use Rattle.compression.{proofs.Elements.{from_beyond, in_cases, in_head, in_none, in_tail}, specs.Middle.{last_but_one, middle_of, relative}}
+use Rattle.compression.proofs.{Firsts.firsts-start, Growth.{end_of-least, end_of-most}, Held.held-start}
 use Rattle.compression.specs.Clusters.{AreClusters, Cluster, Point, beyond, cluster_of, end_of, firsts, has_master, of_cycle_within, with_first}
-use Rattle.compression.specs.Middle.{last_but_one, middle_of, relative}
 use Rattle.tte_lemmas.proofs.Integers.{int_le-is}
 use Rattle.tte_units.{proofs.Means.mean_of-floor, specs.Mean.mean_of}
 

@@ -4,10 +4,9 @@ use Rattle.drift_clock.specs.ClockLaws.{AlwaysBeginsAtZero, AlwaysKeepsClockLaws
 use Rattle.net_plan.specs.declared.{event.Event.Event, network.Network.Network}
 use Rattle.run_law.specs.{declared.note.Note.Note, runs.DueRecords.IsRunOf}
 use Rattle.tte_units.specs.Amount.{amount}
-use Rattle.traffic_law.proofs.safety_lemmas.{Fronts.{goes_well_before, part}, Going.goes_well, Lawful.lawful, Times.{end_in_time, last_in_time}}
-use Rattle.traffic_law.{specs.safety.Headline.IsSafeFront}
-use Rattle.traffic_law.specs.safety.Laws.{EndedRunsAreSafe, FrontRunsAreSafe, OwnRunsAreSafe, RunsSoFarAreSafe}
-use Rattle.traffic_law.specs.safety.Under.{IsUnder, last_time, reading_of, scenario_of}
+use Rattle.traffic_law.proofs.safety_lemmas.{Fronts.{goes_well_before, part}, Going.goes_well, Lawful.lawful}
+use Rattle.traffic_law.{proofs.safety_lemmas.Times.{end_in_time, last_in_time}, specs.safety.Under.{IsUnder, last_time, reading_of, scenario_of}}
+use Rattle.traffic_law.specs.safety.{Headline.IsSafeFront, Laws.{EndedRunsAreSafe, FrontRunsAreSafe, OwnRunsAreSafe, RunsSoFarAreSafe}}
 
 pub own : {C : Type 0} (fresh : ℕ → C) (after_step : C → ℕ → ℤ → C) (reading : C → ℕ → ℕ) → AlwaysKeepsClockLaws fresh after_step reading
     → AlwaysBeginsAtZero fresh after_step reading → OwnRunsAreSafe fresh after_step reading

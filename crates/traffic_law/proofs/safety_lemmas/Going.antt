@@ -4,9 +4,8 @@ use Rattle.net_plan.specs.declared.{ids.{DeviceId.DeviceId, VlId.VlId}, tables.V
 use Rattle.precision_law.proofs.law.Whole.{time_kept}
 use Rattle.run_law.{proofs.records.Happenings.soon, specs.{declared.note.Note.Note, law.{FirstLaws.IsLawful, Safety.{ClocksAgree, IsOwed, IsSafe}}}}
 use Rattle.run_law.specs.{records.Happenings.{Happening, happenings}, runs.DueRecords.IsScenarioRun, scenario.Scenarios.Scenario}
-use Rattle.traffic_law.{proofs.Safe.all_are_safe, specs.Ports.IsRunTo}
+use Rattle.traffic_law.{proofs.Safe.all_are_safe, specs.{Ports.IsRunTo, safety.Headline.{GoesWell, TimeStays}}}
 use Rattle.tte_units.specs.Amount.{amount}
-use Rattle.traffic_law.specs.safety.Headline.{GoesWell, TimeStays}
 
 run_to : (s : Scenario) (ns : List Note) (until : ℕ) → IsLawful s → until ≤ 2 ^ 20 * amount s.network.cycle → IsScenarioRun s ((until + 1) ∷ []) ns
     → IsRunTo s ((until + 1) ∷ []) ns until

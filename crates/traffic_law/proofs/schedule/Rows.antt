@@ -1,9 +1,8 @@
 -- The room that the schedule leaves its rows.
 use Rattle.traffic_law.proofs.Words.{◌*◌, ◌+◌, ◌<◌, ◌≡◌, ◌≤◌, ◌⊎◌, Entry, IsEntry, KeepsRules, Link, Network, OccursIn, Sizes, amount, ap, arith, cases_lt}
-use Rattle.traffic_law.proofs.Words.{in_all, inl, inr, subst, sym, ℕ}
+use Rattle.traffic_law.{proofs.Words.{in_all, inl, inr, subst, sym, ℕ}, specs.Rows.{RowsAreInTime, RowsComeInSchedule, RowsGoOnce, RowsStandApart}}
 use Rattle.schedule_tables.{proofs.{Entries.{begun_below, occur_together}, EntryLemmas.one_entry}, specs.{Delays.pcf_port_time, Schedule.IsClearBefore}}
 use Rattle.schedule_tables.specs.declared.rule.Rule.TheVariants.{LinksOnce, Periods, ScheduleStart, Spacing, WindowEnds}
-use Rattle.traffic_law.specs.Rows.{RowsAreInTime, RowsComeInSchedule, RowsGoOnce, RowsStandApart}
 
 -- ---- the schedule's begin
 

@@ -5,11 +5,10 @@ use Rattle.std.{proofs.lemmas.List.{append-nil, drop-drop, nil_from_length}, spe
 use Rattle.pcf_codec.{proofs.{Outcomes.spelt_read, Sequences.length-spelling}, specs.{Decoding.decoded, Sequence.{IsLongestFront, SpellsAll}}}
 use Rattle.pcf_codec.specs.{Spelling.pcf_length, declared.refusal.PcfRefusal.PcfRefusal}
 use Rattle.pcf_values.specs.declared.pcf.Pcf.{Pcf}
-use Rattle.tte_forms.proofs.{Octets.{for_read, for_too_many}, Puts.{Ends-gives, PutsLines-none}, frames.Frames.{behind, no_frame}}
-use Rattle.tte_forms.specs.{Answering.{Answer, Answers, Ends, Gives, with_line}, Putting.Shown, declared.status.Status.Status}
-use Rattle.tte_forms.specs.declared.status.Status.TheVariants.{Done, FrameRefused, TooLong}
+use Rattle.tte_forms.{proofs.Octets.{for_read, for_too_many}, specs.Putting.Shown}
+use Rattle.tte_forms.{proofs.{Puts.{Ends-gives, PutsLines-none}, frames.Frames.{behind, no_frame}}, specs.frames.Law.{ShowsFrames, frame_lines}}
+use Rattle.tte_forms.specs.{Answering.{Answer, Answers, Ends, Gives, with_line}, declared.status.Status.{Status, TheVariants.{Done, FrameRefused, TooLong}}}
 use Rattle.tte_forms.specs.frames.{Answer.{file_limit, frame_at, frame_count, frames_answer, judgement_of, show_answer}, FrameLine.{frame_line, refusal_line}}
-use Rattle.tte_forms.specs.frames.Law.{ShowsFrames, frame_lines}
 
 pub show_answer-fits : (octets : List ℕ) → length octets ≤ file_limit → show_answer octets ≡ frames_answer 0 (frame_count octets) octets
 unfolding show_answer

@@ -3,12 +3,11 @@ use Rattle.std.proofs.{Common.{◌∙◌, ◌∷◌, ◌≡◌, ◌⊎◌, Err, 
 use Rattle.net_file.specs.{Schema.network_read, declared.refusal.FileRefusal.FileRefusal}
 use Rattle.net_plan.specs.{Bounds.{BetaIsUnique, IsBeta, gamma_of}, declared.network.Network.Network}
 use Rattle.schedule_checker.specs.{Refusals.{RefusalIsOne, TellsFirstBroken}, declared.refusal.RuleBroken.RuleBroken}
-use Rattle.tte_forms.proofs.{Octets.{for_all, for_more}, OneAnswers.{answer_widened, unput_answer}}
-use Rattle.tte_forms.specs.{Answering.{Answer, AnswersOne, ForOctets, Gives, GivesAnswer}, Putting.{PutsNone, Shown}}
-use Rattle.tte_forms.specs.declared.{accepting.NoNetwork.NoNetwork, status.Status.{Status, TheVariants.{Done, WriteFault}}}
+use Rattle.tte_forms.{proofs.Octets.{for_all, for_more}, specs.{Putting.{PutsNone, Shown}, networks.Checking.IsAcceptance}}
+use Rattle.tte_forms.{proofs.OneAnswers.{answer_widened, unput_answer}, specs.{declared.accepting.NoNetwork.NoNetwork, networks.Accepting.too_long_answer}}
+use Rattle.tte_forms.specs.{Answering.{Answer, AnswersOne, ForOctets, Gives, GivesAnswer}, declared.status.Status.{Status, TheVariants.{Done, WriteFault}}}
 use Rattle.tte_forms.specs.networks.Accepting.{IsAnswerBy, IsNetworkAnswer, IsTooLong, MeansAccepted, MeansNoNetwork, MeansUnfit, refusal_lines, refused_by}
-use Rattle.tte_forms.specs.networks.{Accepting.too_long_answer, Checking.IsAcceptance, NetworkLine.{acceptance_line, file_reason, rule_reason}}
-use Rattle.tte_forms.specs.networks.NoNetworks.{IsNoNetwork, answer_by, no_network_answer}
+use Rattle.tte_forms.specs.networks.{NetworkLine.{acceptance_line, file_reason, rule_reason}, NoNetworks.{IsNoNetwork, answer_by, no_network_answer}}
 use Rattle.tte_forms.specs.declared.accepting.NoNetwork.TheVariants as causes
 
 same_network : (octets : List ℕ) (n m : Network) → network_read octets ≡ Ok n → network_read octets ≡ Ok m → n ≡ m

@@ -4,9 +4,8 @@ use Rattle.net_file.specs.{Schema.network_read, declared.refusal.FileRefusal.Fil
 use Rattle.net_plan.specs.declared.network.Network.{Network}
 use Rattle.schedule_checker.specs.{Refusals.TellsFirstBroken, declared.refusal.RuleBroken.RuleBroken}
 use Rattle.schedule_tables.specs.Rules.{KeepsRules}
-use Rattle.tte_forms.specs.Answering.{Answer}
+use Rattle.tte_forms.specs.{Answering.Answer, networks.NetworkLine.{file_reason, network_refusal_line, rule_reason}}
 use Rattle.tte_forms.specs.{declared.status.Status.TheVariants.{NetworkRefused, TooLong}, frames.Answer.file_limit}
-use Rattle.tte_forms.specs.networks.NetworkLine.{file_reason, network_refusal_line, rule_reason}
 
 -- the file is longer than files may be
 abbrev pub IsTooLong : List ℕ → Type 0

@@ -1,9 +1,8 @@
 -- What `check` answers for the octets of a network file.
 use Rattle.std.specs.Prelude.{◌∷◌, ◌≡◌, List, [], pos, ℕ}
 use Rattle.net_plan.specs.{Bounds.{IsBeta, gamma_of}, declared.network.Network.Network}
-use Rattle.tte_forms.specs.{Answering.Answer, Statuses.IsNetworkStatus}
-use Rattle.tte_forms.specs.declared.status.Status.{Status, TheVariants.Done}
-use Rattle.tte_forms.specs.networks.{Accepting.IsNetworkAnswer, NetworkLine.acceptance_line}
+use Rattle.tte_forms.specs.{Answering.Answer, Statuses.IsNetworkStatus, networks.Accepting.IsNetworkAnswer}
+use Rattle.tte_forms.specs.{declared.status.Status.{Status, TheVariants.Done}, networks.NetworkLine.acceptance_line}
 
 -- an accepted network is answered with its beta and its gamma
 pub record IsAcceptance (network : Network) (a : Answer) : Type 0 where

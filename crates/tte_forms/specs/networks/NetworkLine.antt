@@ -1,9 +1,8 @@
 -- The lines about a network.
 use Rattle.std.specs.{Fmt.decimal, Prelude.{◌++◌, ◌∷◌, ◌≡◌, List, [], codes, ℕ}}
-use Rattle.net_file.specs.{KeyTexts.key_text, declared.refusal.FileRefusal.FileRefusal}
+use Rattle.net_file.specs.{KeyTexts.key_text, declared.refusal.FileRefusal.{FileRefusal, TheVariants.Unknown}}
 use Rattle.net_file.specs.declared.refusal.FileRefusal.TheVariants.{Kind, Missing, Name, NotToml, OutOfMemory, Range}
-use Rattle.net_file.specs.declared.{refusal.FileRefusal.TheVariants.Unknown, spots.{Spot.Spot, TableName.TableName}}
-use Rattle.net_file.specs.declared.spots.TableName.TheVariants.{Device, Link, Row, Top, Vl}
+use Rattle.net_file.specs.declared.spots.{Spot.Spot, TableName.{TableName, TheVariants.{Device, Link, Row, Top, Vl}}}
 use Rattle.schedule_checker.specs.declared.refusal.RuleBroken.{RuleBroken}
 
 -- the name of a table

@@ -1,6 +1,5 @@
 ghost use Rattle.std.specs.Prelude.{◌≡◌, ◌≢◌, ◌≤◌, ◌↔◌, Err, IfOk, IfSome, None, length, take, ℕ};
-ghost use Rattle.net_file.specs.TextPlaces.{place_behind, text_start};
-ghost use Rattle.net_file.specs.Schema.{IsNoDocument};
+ghost use Rattle.net_file.specs.{Schema.IsNoDocument, TextPlaces.{place_behind, text_start}};
 ghost use Rattle.tte_forms.specs.{Answering.ForOctets, Faults.ReadFailed, networks.Accepting.IsTooLong};
 
 use crate::accepting::LIMIT;

@@ -1,7 +1,6 @@
 -- A world that gave one more record, or none.
 use Rattle.std.proofs.Common.{◌++◌, ◌+ℤ◌, ◌+◌, ◌<ℤ◌, ◌∙◌, ◌∷◌, ◌≡◌, ◌≤ℤ◌, Bool, List, Option, Some, [], ap, arith, false, negsuc, pos, refl, subst, true}
-use Rattle.std.proofs.Common.{unsigned_abs}
-use Rattle.std.{proofs.{Common.{ℕ, ℤ}, lemmas.Int.ints}, specs.Prelude.{IfNone, IfSome, option_to_list}}
+use Rattle.std.{proofs.{Common.{unsigned_abs, ℕ, ℤ}, lemmas.Int.ints}, specs.Prelude.{IfNone, IfSome, option_to_list}}
 use Rattle.drift_world.specs.Running.{option_given}
 use Rattle.net_plan.specs.declared.{event.Event.Event, network.Network.Network}
 use Rattle.run_law.specs.declared.note.Note.{Note}

@@ -10,8 +10,7 @@ ghost use Rattle.run_law.specs.runs.DueRecords.{IsRunOf};
 ghost use Rattle.traffic_law.specs.safety.Headline.{IsSafeFront};
 ghost use Rattle.tte_units.specs.Amount.{amount, units_of};
 ghost use Rattle.world_law.specs.source.Agreeing.{scenario};
-ghost use Rattle.world_drive.specs.machines.Standing.{StandsAsDevice};
-ghost use Rattle.world_drive.specs.devices.Locals.{local_of};
+ghost use Rattle.world_drive.specs.{devices.Locals.local_of, machines.Standing.StandsAsDevice};
 
 use crate::machines::{DeviceMachine, machines_of};
 use drift_clock::Clock;

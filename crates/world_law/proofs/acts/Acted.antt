@@ -1,10 +1,10 @@
 -- After an act a device has the tasks that it had before, and such as are for later readings.
-use Rattle.world_law.proofs.Words.{if◌then◌else◌, ◌&&◌, ◌*◌, ◌++◌, ◌+ℤ◌, ◌+◌, ◌-ℤ◌, ◌<ℤ◌, ◌∙◌, ◌∷◌, ◌≡◌, ◌≤ℤ◌, Act, AreClusters, AsyncClique, Bool}
-use Rattle.world_law.proofs.Words.{Cleared, ClockTask, Cluster, Compressed, Corrected, DeviceId, Integrating, IsActOf, IsPending, Joining, List, MayCall}
-use Rattle.world_law.proofs.Words.{Moment, Network, Node, Off, Ripe, Some, Standing, State, Summary, SyncClique, Synchronised, Task, Units, Verdict, []}
-use Rattle.world_law.proofs.Words.{acting, after_correction, after_emission, amount, ap, arith, called, correcting, correction_value, dispatching, doing}
-use Rattle.world_law.proofs.Words.{emitting, false, filter, heard_as, inl, inr, ints, last_or, nat_le, next_point, no_cluster, observation_window, own_hearing}
-use Rattle.world_law.proofs.Words.{plan_of, point_in, pos, refl, sending, subst, sym, true, value_of, ℕ, ℤ}
+use Rattle.world_law.proofs.Words.{◌&&◌, ◌*◌, ◌++◌, ◌+ℤ◌, ◌+◌, ◌-ℤ◌, ◌<ℤ◌, ◌∙◌, ◌∷◌, ◌≡◌, ◌≤ℤ◌, Act, AreClusters, AsyncClique, Bool, Cleared, ClockTask}
+use Rattle.world_law.proofs.Words.{Cluster, Compressed, Corrected, DeviceId, Integrating, IsActOf, IsPending, Joining, List, MayCall, Moment, Network, Node}
+use Rattle.world_law.proofs.Words.{Off, Ripe, Some, Standing, State, Summary, SyncClique, Synchronised, Task, Units, Verdict, [], acting, after_correction}
+use Rattle.world_law.proofs.Words.{after_emission, amount, ap, arith, called, correcting, correction_value, dispatching, doing, emitting, false, filter}
+use Rattle.world_law.proofs.Words.{heard_as, if◌then◌else◌, inl, inr, ints, last_or, nat_le, next_point, no_cluster, observation_window, own_hearing, plan_of}
+use Rattle.world_law.{proofs.Words.{point_in, pos, refl, sending, subst, sym, true, value_of, ℕ, ℤ}, specs.device.Acted.IsCarried}
 use Rattle.std.proofs.{Common.Contains, lemmas.List.Elements.Contains-append_left}
 use Rattle.compression.specs.Emission.{compressed}
 use Rattle.membership.specs.Members.{count_of}
@@ -12,7 +12,6 @@ use Rattle.pcf_values.specs.declared.members.Members.{Members}
 use Rattle.run_law.specs.{control.{Hearing.{heard_by_schedule, heard_enough, is_in_schedule, last_cycle}, Permanence.ripe_as}, device.States.is_synchronised}
 use Rattle.run_law.specs.{machines.{Answers.{with_clique, with_corrected, with_done}, Tasks.{IsDeedOf, IsUndone, IsWaiting}}, scenario.Devices.is_cm}
 use Rattle.sync_state.{proofs.StateFacts.{no_longer, no_point}, specs.{Calls.state_by, declared.plan.SyncPlan.SyncPlan}}
-use Rattle.world_law.specs.device.Acted.{IsCarried}
 use Rattle.run_law.specs.declared.steps.Act.TheVariants as acts
 use Rattle.run_law.specs.declared.steps.Ripe.TheVariants as ripe
 

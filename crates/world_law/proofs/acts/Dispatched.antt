@@ -1,10 +1,9 @@
 -- A dispatch is told apart from other losses by its cause, and where a device has not acted no record to come tells of one.
-use Rattle.world_law.proofs.Words.{◌++◌, ◌+◌, ◌<◌, ◌∙◌, ◌∷◌, ◌≡◌, ◌⊎◌, AreSettled, Bool, DeviceId, Dispatches, Happening, IsBefore, IsDue}
-use Rattle.world_law.proofs.Words.{IsFounded, IsIn, IsOwnSource, IsSendLost, LinkId, List, None, NoteBody, Scenario, Some, VlId, [], act_place, ap, arith}
-use Rattle.world_law.proofs.Words.{by_number, cases_Bool, chain, dispatch_body, earlier, filter, in_filter, inl, inr, is_accepted, is_cut, last_in, members_in}
-use Rattle.world_law.proofs.Words.{numbered, parted, place_of, plain_body, refl, subst, sym, time_of, way_from, ℕ}
+use Rattle.world_law.proofs.Words.{◌++◌, ◌+◌, ◌<◌, ◌∙◌, ◌∷◌, ◌≡◌, ◌⊎◌, AreSettled, Bool, DeviceId, Dispatches, Happening, IsBefore, IsDue, IsFounded, IsIn}
+use Rattle.world_law.proofs.Words.{IsOwnSource, IsSendLost, LinkId, List, None, NoteBody, Scenario, Some, VlId, [], act_place, ap, arith, by_number, cases_Bool}
+use Rattle.world_law.proofs.Words.{chain, dispatch_body, earlier, filter, in_filter, inl, inr, is_accepted, is_cut, last_in, members_in, numbered, parted}
+use Rattle.world_law.proofs.{Words.{place_of, plain_body, refl, subst, sym, time_of, way_from, ℕ}, runs.Agreement.in_earlier}
 use Rattle.run_law.proofs.law.FirstPlaces.{numbered_front}
-use Rattle.world_law.proofs.runs.Agreement.{in_earlier}
 use Rattle.run_law.specs.declared.note.NoteBody.TheVariants as kinds
 
 pub same_some : (x y : Happening) → Some x ≡ Some y → x ≡ y

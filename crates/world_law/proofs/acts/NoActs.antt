@@ -1,22 +1,21 @@
 -- Where nothing that a world has under way is before a place, and nothing to come, no act of a device that is not worked off
 -- is before it.
-use Rattle.world_law.proofs.Words.{if◌then◌else◌, ◌++◌, ◌<◌, ◌∙◌, ◌∷◌, ◌≡◌, ◌≤◌, AreClusters, AreOfNetwork, Bool, Compressed, Device, DeviceId, Emits}
-use Rattle.world_law.proofs.Words.{Happening, HasDone, HasDoneFrom, HasSent, HasTaskBy, HaveBefallen, Integrating, IsActing, IsBefore, IsHeld, IsIn, IsKept}
-use Rattle.world_law.proofs.Words.{IsLeft, Judgement, List, Network, Node, None, Note, NoteBody, Off, Point, Scenario, Some, Stands, State, Synchronised, World}
-use Rattle.world_law.proofs.Words.{[], act_place, after_last, ap, append-nil, append_assoc, arith, cases_Bool, cases_lt, chain, changed_at, device_at, earlier}
-use Rattle.world_law.proofs.Words.{emitting, ends_stretch, false, filter_map, frames_taken, happenings, hidden, in_filter, in_left, in_parts, in_right, inl}
-use Rattle.world_law.proofs.Words.{inr, ints, is_broken, is_turned_on_at, is_turning, length, map, moves, nat_lt, never_both, next_cycle, next_point}
+use Rattle.world_law.proofs.Words.{◌++◌, ◌<◌, ◌∙◌, ◌∷◌, ◌≡◌, ◌≤◌, AreClusters, AreOfNetwork, Bool, Compressed, Device, DeviceId, Emits, Happening, HasDone}
+use Rattle.world_law.proofs.Words.{HasDoneFrom, HasSent, HasTaskBy, HaveBefallen, Integrating, IsActing, IsBefore, IsHeld, IsIn, IsKept, IsLeft, Judgement}
+use Rattle.world_law.proofs.Words.{List, Network, Node, None, Note, NoteBody, Off, Point, Scenario, Some, Stands, State, Synchronised, World, [], act_place}
+use Rattle.world_law.proofs.Words.{after_last, ap, append-nil, append_assoc, arith, cases_Bool, cases_lt, chain, changed_at, device_at, earlier, emitting}
+use Rattle.world_law.proofs.Words.{ends_stretch, false, filter_map, frames_taken, happenings, hidden, if◌then◌else◌, in_filter, in_left, in_parts, in_right}
+use Rattle.world_law.proofs.Words.{inl, inr, ints, is_broken, is_turned_on_at, is_turning, length, map, moves, nat_lt, never_both, next_cycle, next_point}
 use Rattle.world_law.proofs.Words.{observation_window, option_map_or, place_of, point_by, point_in, points_of, pos, rank, reading_for, refl, slice_get_within}
-use Rattle.world_law.proofs.Words.{state_after, state_before, state_with, subst, sym, time_of, true, ℕ}
+use Rattle.world_law.proofs.{Words.{state_after, state_before, state_with, subst, sym, time_of, true, ℕ}, devices.Resting.{IsPast, IsWorked, are_past, at_rest}}
+use Rattle.world_law.proofs.{acts.Acting.{IsUnmoved, correcting_task, sending_task}, runs.Foremost.{NoActBefore, acting_task, none_but_acts, not_on_after}}
+use Rattle.world_law.proofs.{devices.Deeds.rests, lists.Orders.cases_int, putting.StandsOn.in_mapped}
+use Rattle.world_law.proofs.{devices.{OwnRecords.keeps_state, TurnedOn.{IsQuiet, quiet_rest}}, giving.Given.no_later_breaks, lists.Lists.{behind_no, map_none}}
+use Rattle.world_law.proofs.{putting.PutShown.hidden_rank, runs.SourcesBack.{dispatches_back, earlier_still, of_high_rank, reaches_back, standing_in, up_back}}
+use Rattle.world_law.{proofs.rows.Dispatching.{IsLawful, dispatching_task, lawful}, specs.world.Moves.{NothingBefore, NothingComesBefore}}
 use Rattle.net_plan.specs.declared.tables.Role.{Role}
 use Rattle.run_law.specs.{declared.judgement.Why.TheVariants.On, scenario.Devices.{has_role, start_of}}
 use Rattle.sync_state.specs.Standing.{state_at_start}
-use Rattle.world_law.proofs.{acts.Acting.{IsUnmoved, correcting_task, sending_task}, devices.{Deeds.rests, OwnRecords.keeps_state}}
-use Rattle.world_law.proofs.{devices.{Resting.{IsPast, IsWorked, are_past, at_rest}, TurnedOn.{IsQuiet, quiet_rest}}, giving.Given.no_later_breaks}
-use Rattle.world_law.proofs.{lists.{Lists.{behind_no, map_none}, Orders.cases_int}, putting.{PutShown.hidden_rank, StandsOn.in_mapped}}
-use Rattle.world_law.proofs.{rows.Dispatching.{IsLawful, dispatching_task, lawful}, runs.Foremost.{NoActBefore, acting_task, none_but_acts, not_on_after}}
-use Rattle.world_law.proofs.runs.SourcesBack.{dispatches_back, earlier_still, of_high_rank, reaches_back, standing_in, up_back}
-use Rattle.world_law.specs.world.Moves.{NothingBefore, NothingComesBefore}
 use Rattle.run_law.specs.declared.note.NoteBody.TheVariants as notes
 
 -- ---- records behind the acts of their instant, which leave the device at rest, do not change its points

@@ -1,13 +1,11 @@
 -- Where a device stands does not rest on the numbers of the records, nor on the causes of changes of state.
-use Rattle.std.proofs.Common.{arith}
-use Rattle.world_law.proofs.Words.{if◌then◌else◌, ◌&&◌, ◌++◌, ◌+◌, ◌||◌, ◌∙◌, ◌∷◌, ◌≡◌, Bool, DeviceId, Happening, Integrating}
-use Rattle.world_law.proofs.Words.{IsLeft, List, Network, Node, None, NoteBody, Option, Scenario, Some, State, Units, [], adjustment_after, adjustment_before}
-use Rattle.world_law.proofs.Words.{adjustment_with, after_last, ap, cases_Bool, changed_at, changes_adjustment, cons_option, cycle_after}
-use Rattle.world_law.proofs.Words.{cycle_in, earlier, ends_stretch, filter, filter_map, fold, has_cleared, heard_since, hearing_by, inl, inr}
-use Rattle.world_law.proofs.Words.{integration_cycle, is_joined_by, is_turned_on_at, last_or, nat_lt, not, option_map_or, plain, plain_body, plains}
-use Rattle.world_law.proofs.Words.{point_by, points_of, recorded_cycle, refl, state_after, state_with, subst, sym, time_of, ℕ}
-use Rattle.std.proofs.lemmas.List.{map_push}
-use Rattle.world_law.proofs.{devices.Borne.by_last, lists.Lists.{behind_no, behind_yes}}
+use Rattle.std.proofs.{Common.arith, lemmas.List.map_push}
+use Rattle.world_law.proofs.Words.{◌&&◌, ◌++◌, ◌+◌, ◌||◌, ◌∙◌, ◌∷◌, ◌≡◌, Bool, DeviceId, Happening, Integrating, IsLeft, List, Network, Node, None, NoteBody}
+use Rattle.world_law.proofs.Words.{Option, Scenario, Some, State, Units, [], adjustment_after, adjustment_before, adjustment_with, after_last, ap, cases_Bool}
+use Rattle.world_law.proofs.Words.{changed_at, changes_adjustment, cons_option, cycle_after, cycle_in, earlier, ends_stretch, filter, filter_map, fold}
+use Rattle.world_law.proofs.Words.{has_cleared, heard_since, hearing_by, if◌then◌else◌, inl, inr, integration_cycle, is_joined_by, is_turned_on_at, last_or}
+use Rattle.world_law.proofs.Words.{nat_lt, not, option_map_or, plain, plain_body, plains, point_by, points_of, recorded_cycle, refl, state_after, state_with}
+use Rattle.world_law.proofs.{Words.{subst, sym, time_of, ℕ}, devices.Borne.by_last, lists.Lists.{behind_no, behind_yes}}
 use Rattle.run_law.specs.declared.judgement.Why.TheVariants as whys
 use Rattle.run_law.specs.declared.note.NoteBody.TheVariants as notes
 

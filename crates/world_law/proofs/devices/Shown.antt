@@ -1,10 +1,9 @@
 -- What the records say of a device's state and adjustment is what its machine shows, whether or not it has acted.
-use Rattle.world_law.proofs.Words.{if◌then◌else◌, ◌++◌, ◌+◌, ◌∙◌, ◌∷◌, ◌≡◌, ◌≤◌, Bool, DeviceId, Happening, HaveBefallen, Integrating, IsHeld, IsIn, IsKept}
-use Rattle.world_law.proofs.Words.{List, Network, Node, Note, Scenario, Stands, State, World, [], adjustment_after, adjustment_before, ap, arith, cases_Bool}
-use Rattle.world_law.proofs.Words.{earlier, happenings, in_parts, inl, inr, is_turned_on_at, refl, state_after, state_before, subst, sym, time_of, up_to, ℕ}
-use Rattle.world_law.proofs.devices.{OwnRecords.state_still, Passes.not_turned_on, Resting.{IsPast, IsWorked, are_past}}
-use Rattle.world_law.proofs.devices.TurnedOn.{IsInTime, IsQuietInstant, adjustment_quiet, next_is_up_to, on_state, quiet_rest}
-use Rattle.world_law.proofs.runs.Foremost.{not_on_after, unmoved_by}
+use Rattle.world_law.proofs.Words.{◌++◌, ◌+◌, ◌∙◌, ◌∷◌, ◌≡◌, ◌≤◌, Bool, DeviceId, Happening, HaveBefallen, Integrating, IsHeld, IsIn, IsKept, List, Network}
+use Rattle.world_law.proofs.Words.{Node, Note, Scenario, Stands, State, World, [], adjustment_after, adjustment_before, ap, arith, cases_Bool, earlier}
+use Rattle.world_law.proofs.Words.{happenings, if◌then◌else◌, in_parts, inl, inr, is_turned_on_at, refl, state_after, state_before, subst, sym, time_of, up_to}
+use Rattle.world_law.proofs.{Words.ℕ, devices.{Passes.not_turned_on, Resting.{IsPast, IsWorked, are_past}}, runs.Foremost.{not_on_after, unmoved_by}}
+use Rattle.world_law.proofs.devices.{OwnRecords.state_still, TurnedOn.{IsInTime, IsQuietInstant, adjustment_quiet, next_is_up_to, on_state, quiet_rest}}
 
 -- records of an instant stand behind those that are no later
 in_time_more : (now : ℕ) (hs coming : List Happening) → IsInTime hs → ((h : Happening) → IsIn h hs → time_of h ≤ now)

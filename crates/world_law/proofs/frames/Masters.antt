@@ -1,10 +1,10 @@
 -- A frame that comes up from below is that of one master, where octets are sent by end systems alone.
-use Rattle.world_law.proofs.Words.{if◌then◌else◌, ◌++◌, ◌==◌, ◌^◌, ◌∙◌, ◌∷◌, ◌≡◌, ◌≤◌, ◌⊎◌, Bool, Device, DeviceId, Down, Event, Gives, Happening}
-use Rattle.world_law.proofs.Words.{IsCaused, IsDue, IsFounded, IsIn, IsInRange, KeepsRules, Launch, Link, LinkId, List, Network, None, NoteBody, Ok, Option}
-use Rattle.world_law.proofs.Words.{Pcf, Scenario, Send, Some, Up, Way, [], ap, arith, both_ways, cases_Bool, control, device_at, eq-eqb, eqb-true, false}
-use Rattle.world_law.proofs.Words.{founded_at, frame_by, inl, inr, is_cut, is_end, launched, length, length-append, link_at, not, option_and_then, option_map}
-use Rattle.world_law.proofs.Words.{option_map_or, place_of, refl, signal_of, slice_get, standpoint, subst, suc, sym, target_by, time_of, true, way_from}
-use Rattle.world_law.proofs.Words.{with_clock, zero, ℕ}
+use Rattle.world_law.proofs.Words.{◌++◌, ◌==◌, ◌^◌, ◌∙◌, ◌∷◌, ◌≡◌, ◌≤◌, ◌⊎◌, Bool, Device, DeviceId, Down, Event, Gives, Happening, IsCaused, IsDue, IsFounded}
+use Rattle.world_law.proofs.Words.{IsIn, IsInRange, KeepsRules, Launch, Link, LinkId, List, Network, None, NoteBody, Ok, Option, Pcf, Scenario, Send, Some, Up}
+use Rattle.world_law.proofs.Words.{Way, [], ap, arith, both_ways, cases_Bool, control, device_at, eq-eqb, eqb-true, false, founded_at, frame_by, if◌then◌else◌}
+use Rattle.world_law.proofs.Words.{inl, inr, is_cut, is_end, launched, length, length-append, link_at, not, option_and_then, option_map, option_map_or}
+use Rattle.world_law.proofs.Words.{place_of, refl, signal_of, slice_get, standpoint, subst, suc, sym, target_by, time_of, true, way_from, with_clock, zero, ℕ}
+use Rattle.world_law.{proofs.{frames.Proper.{has_come, is_sound, launch_signal, not_control, received}, giving.Given.some_same}, specs.world.World.IsFromEnd}
 use Rattle.std.{proofs.Common.IsSomeAnd, specs.Prelude.{is_some, unwrap_or}}
 use Rattle.net_plan.{proofs.{Shape.rules_give_trees, TableFacts.no_path}, specs.{Paths.IsUplink, Places.{IsDeviceOf, IsSwitchOf, is_end_system, is_master}}}
 use Rattle.net_plan.specs.Ranges.{IsDeviceInRange}
@@ -13,7 +13,6 @@ use Rattle.run_law.{proofs.law.FirstPlaces.{front_founded, numbered_in}, specs.c
 use Rattle.run_law.specs.{machines.Calls.{IsOfMaster, IsOneMaster}, scenario.Devices.{IsParentOf, has_role, is_parent_of, member_of}}
 use Rattle.schedule_tables.{proofs.Margins.shape_rules, specs.declared.rule.Rule.TheVariants.Joints}
 use Rattle.tte_lemmas.proofs.{Lists.in_all, Options.{at_known, closed, opened}}
-use Rattle.world_law.{proofs.{frames.Proper.{has_come, is_sound, launch_signal, not_control, received}, giving.Given.some_same}, specs.world.World.IsFromEnd}
 use Rattle.run_law.specs.declared.note.NoteBody.TheVariants as kinds
 
 -- octets are sent by end systems alone

@@ -6,16 +6,14 @@ use Rattle.world_law.proofs.Words.{Option, Pcf, Scenario, Some, Units, Waiting, 
 use Rattle.world_law.proofs.Words.{before_next_time, behind, cases_Bool, changed_at, clock_place, device_at, earlier, false, frames_taken, happening}
 use Rattle.world_law.proofs.Words.{happenings, hidden, hidden_body, inl, inr, ints, is_broken, key, length, list_any, map, members_in, nat_le, never_self}
 use Rattle.world_law.proofs.Words.{none_yet, numbered, place_of, port_place, rank, refl, ripe_place, same_kept, slice_get, state_after, subst, suc, sym}
-use Rattle.world_law.proofs.Words.{time_of, true, units_of, up_to, wire_place, ℕ}
+use Rattle.world_law.proofs.{Words.{time_of, true, units_of, up_to, wire_place, ℕ}, runs.Firsts.{arriving_more, departing_more, numbered_more, numbered_still}}
+use Rattle.world_law.{proofs.acts.Recorded.recorded_given, specs.world.World.{AreUntold, Befell, IsActedUpTo, IsAwaitedFor, IsJustTold, note_of}}
+use Rattle.world_law.proofs.giving.{GivenParts.{IsGiving, settled_then, up_to_place, worked_by_then}, Naming.{IsFollowing, named_right, shown_as}}
+use Rattle.world_law.{proofs.giving.Storing.stored_then, specs.world.Moves.{AreAwaited, AreGiven, ArePut, GivenStep, named}}
+use Rattle.world_law.proofs.runs.{SourcesBack.{acting_back, arrives_later, gives_rank, no_higher}, Worlds.{first_settled_is_next, length_is}}
 use Rattle.std.proofs.lemmas.{Bool.le-leb, List.length_push, Option.slice_get_cases}
 use Rattle.run_law.{proofs.{law.FirstPlaces.numbered_next, runs.NetworkRuns.one_more}, specs.{control.Permanence.IsPermanent, scenario.Hypothesis.breaks_at}}
 use Rattle.run_law.specs.scenario.Scenarios.{events_up_to}
-use Rattle.world_law.proofs.{acts.Recorded.recorded_given, giving.GivenParts.{IsGiving, settled_then, up_to_place, worked_by_then}}
-use Rattle.world_law.proofs.giving.{Naming.{IsFollowing, named_right, shown_as}, Storing.stored_then}
-use Rattle.world_law.proofs.runs.Firsts.{arriving_more, departing_more, numbered_more, numbered_still}
-use Rattle.world_law.proofs.runs.{SourcesBack.{acting_back, arrives_later, gives_rank, no_higher}, Worlds.{first_settled_is_next, length_is}}
-use Rattle.world_law.specs.world.Moves.{AreAwaited, AreGiven, ArePut, GivenStep, named}
-use Rattle.world_law.specs.world.World.{AreUntold, Befell, IsActedUpTo, IsAwaitedFor, IsJustTold, note_of}
 use Rattle.run_law.specs.declared.note.NoteBody.TheVariants as kinds
 
 -- ---- events so far

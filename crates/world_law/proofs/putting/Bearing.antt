@@ -1,16 +1,15 @@
 -- A device on which a record does not bear stands with it as without it.
 use Rattle.std.proofs.Common.{arith}
-use Rattle.world_law.proofs.Words.{if◌then◌else◌, ◌++◌, ◌+ℤ◌, ◌∙◌, ◌∷◌, ◌≡◌, ◌≤◌, ◌⊎◌, AreOfNetwork, DeviceId, Happening, HasDoneFrom, HasTurnedOn, Integrating}
-use Rattle.world_law.proofs.Words.{IsAtRest, IsHeld, IsIn, IsKept, IsLeft, List, Network, Node, NoteBody, Scenario, State, TakenFrame, Units, adjustment_after}
-use Rattle.world_law.proofs.Words.{adjustment_with, ap, append_assoc, bears_on, borne, changed_at, cycle_in, earlier, false, frames_taken, in_left, in_parts}
-use Rattle.world_law.proofs.Words.{in_right, inl, inr, is_turned_on_at, is_turning, length, local_before, map, moves, nat_le, nat_lt, pos, refl, state_after}
-use Rattle.world_law.proofs.Words.{state_before, state_with, subst, sym, taken_by, time_of, up_to, ℕ}
-use Rattle.world_law.proofs.{acts.Recorded.{is_sending, recorded_put}, devices.Borne.{left_alike, moves_no_other, tell_alike}}
-use Rattle.world_law.proofs.devices.OwnRecords.{keeps_adjustment, keeps_state}
+use Rattle.world_law.proofs.Words.{◌++◌, ◌+ℤ◌, ◌∙◌, ◌∷◌, ◌≡◌, ◌≤◌, ◌⊎◌, AreOfNetwork, DeviceId, Happening, HasDoneFrom, HasTurnedOn, Integrating, IsAtRest}
+use Rattle.world_law.proofs.Words.{IsHeld, IsIn, IsKept, IsLeft, List, Network, Node, NoteBody, Scenario, State, TakenFrame, Units, adjustment_after}
+use Rattle.world_law.proofs.Words.{adjustment_with, ap, append_assoc, bears_on, borne, changed_at, cycle_in, earlier, false, frames_taken, if◌then◌else◌}
+use Rattle.world_law.proofs.Words.{in_left, in_parts, in_right, inl, inr, is_turned_on_at, is_turning, length, local_before, map, moves, nat_le, nat_lt, pos}
+use Rattle.world_law.proofs.Words.{refl, state_after, state_before, state_with, subst, sym, taken_by, time_of, up_to, ℕ}
+use Rattle.world_law.proofs.acts.Recorded.{is_sending, recorded_put}
+use Rattle.world_law.proofs.{devices.Borne.{left_alike, moves_no_other, tell_alike}, rows.Takings.{IsNoTaking, frames_plain, taken_parts, taken_same}}
+use Rattle.world_law.proofs.{devices.OwnRecords.{keeps_adjustment, keeps_state}, putting.Idle.{drop_one, fold_skip, up_to_plain}}
 use Rattle.world_law.proofs.devices.Plains.{adjustments_plain, changes_at_plain, earlier_plain, states_plain, told_by_others}
-use Rattle.world_law.proofs.putting.Bumped.{bump_behind, in_placed, placed, placed_in, raised, raised_moves, raised_turning}
-use Rattle.world_law.proofs.putting.{Idle.{drop_one, fold_skip, up_to_plain}, NearPut.plains_placed}
-use Rattle.world_law.proofs.rows.Takings.{IsNoTaking, frames_plain, taken_parts, taken_same}
+use Rattle.world_law.proofs.putting.{Bumped.{bump_behind, in_placed, placed, placed_in, raised, raised_moves, raised_turning}, NearPut.plains_placed}
 
 -- ---- by lists
 

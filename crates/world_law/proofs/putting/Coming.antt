@@ -3,9 +3,8 @@ use Rattle.world_law.proofs.Words.{◌++◌, ◌+◌, ◌<◌, ◌∙◌, ◌∷
 use Rattle.world_law.proofs.Words.{Happening, HasTurnedOn, IsBefore, IsHeld, IsKept, IsSource, List, Network, Node, Note, OnWire, Pcf, Scenario, Some, Stands}
 use Rattle.world_law.proofs.Words.{Waiting, World, [], act_place, amount, ap, arith, before_later, before_next_time, before_or_not, clock_place, false}
 use Rattle.world_law.proofs.Words.{happenings, hidden, inl, inr, length, map, none_yet, port_place, refl, ripe_place, slice_get, subst, sym, true, wire_place}
-use Rattle.world_law.proofs.Words.{ℕ}
-use Rattle.world_law.proofs.{giving.Given.some_same, putting.{Moving.{IsMoving, out_moves}, StandsOn.source_told}, runs.SourcesBack.no_higher}
-use Rattle.world_law.specs.world.Moves.{StandsBehind}
+use Rattle.world_law.proofs.{Words.ℕ, giving.Given.some_same}
+use Rattle.world_law.{proofs.{putting.{Moving.{IsMoving, out_moves}, StandsOn.source_told}, runs.SourcesBack.no_higher}, specs.world.Moves.StandsBehind}
 
 -- what is before the cursor stays so
 pub comes : (s : Scenario) (hs coming : List Happening) (mark cursor : List ℕ) (now r : ℕ) (more : List ℕ) → IsMoving s hs coming mark cursor now r more

@@ -1,7 +1,6 @@
 -- What is settled as it is shown, and a record that is put in.
 use Rattle.world_law.proofs.Words.{◌++◌, ◌+◌, ◌∙◌, ◌∷◌, ◌≡◌, ◌≤◌, Happening, List, NoteBody, [], ap, arith, hidden, hidden_body, key, length, length-append}
-use Rattle.world_law.proofs.Words.{length-map, map, members_in, place_of, rank, refl, sym, time_of, ℕ}
-use Rattle.world_law.proofs.putting.{Idle.bump, Putting.put_list}
+use Rattle.world_law.proofs.{Words.{length-map, map, members_in, place_of, rank, refl, sym, time_of, ℕ}, putting.{Idle.bump, Putting.put_list}}
 use Rattle.run_law.specs.declared.note.NoteBody.TheVariants as kinds
 
 pub split_hidden : (given : ℕ) (coming front back : List Happening) → map (hidden given) coming ≡ front ++ back → (f : List Happening) × (b : List Happening)

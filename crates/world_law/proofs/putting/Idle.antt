@@ -1,13 +1,12 @@
 -- A record that bears on nothing else is put in among those of its instant.
-use Rattle.world_law.proofs.Words.{if◌then◌else◌, ◌++◌, ◌+◌, ◌<◌, ◌∙◌, ◌∷◌, ◌≡◌, ◌≤◌, Bool, DeviceId, Happening, IsIn, IsLeft, LinkId, List}
-use Rattle.world_law.proofs.Words.{Node, None, NoteBody, Pcf, Scenario, State, Units, VlId, [], adjustment_after, adjustment_with, amount, and_right, ap, arith}
-use Rattle.world_law.proofs.Words.{bears_on, before_permanence, borne, changed_at, cycle_in, earlier, eqb-true, false, false_from_ne_true, filter}
-use Rattle.world_law.proofs.Words.{filter-append, fold, inl, inr, is_before, is_taken_before, key, last_or, last_taken, le-ltb, length, map, members_in, nat_le}
+use Rattle.world_law.proofs.Words.{◌++◌, ◌+◌, ◌<◌, ◌∙◌, ◌∷◌, ◌≡◌, ◌≤◌, Bool, DeviceId, Happening, IsIn, IsLeft, LinkId, List, Node, None, NoteBody, Pcf}
+use Rattle.world_law.proofs.Words.{Scenario, State, Units, VlId, [], adjustment_after, adjustment_with, amount, and_right, ap, arith, bears_on}
+use Rattle.world_law.proofs.Words.{before_permanence, borne, changed_at, cycle_in, earlier, eqb-true, false, false_from_ne_true, filter, filter-append, fold}
+use Rattle.world_law.proofs.Words.{if◌then◌else◌, inl, inr, is_before, is_taken_before, key, last_or, last_taken, le-ltb, length, map, members_in, nat_le}
 use Rattle.world_law.proofs.Words.{nat_lt, numbered, option_and_then, place_of, plain, plains, rank, refl, slice_get, state_after, state_with, suc, sym}
-use Rattle.world_law.proofs.Words.{taken_cycle, time_of, true, up_to, zero, ℕ}
-use Rattle.world_law.proofs.devices.Borne.{left_alike, tell_alike}
+use Rattle.world_law.proofs.{Words.{taken_cycle, time_of, true, up_to, zero, ℕ}, devices.Borne.{left_alike, tell_alike}, putting.Renumbers.last_taken_plain}
 use Rattle.world_law.proofs.devices.Plains.{adjustments_plain, changes_at_plain, earlier_plain, filter_plain, plains_parts, states_plain, told_by_others}
-use Rattle.world_law.{proofs.{putting.{Alike.AreAlike, Renumbers.last_taken_plain}, runs.SourcesBack.earlier_still}, specs.device.Plain.renumbered}
+use Rattle.world_law.{proofs.{putting.Alike.AreAlike, runs.SourcesBack.earlier_still}, specs.device.Plain.renumbered}
 use Rattle.run_law.specs.declared.note.NoteBody.TheVariants as notes
 
 -- the record with the next number, as one has come before it

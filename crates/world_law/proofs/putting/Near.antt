@@ -1,21 +1,20 @@
 -- What is due by one of two lists of records that tell the same up to a source is due by the other.
-use Rattle.world_law.proofs.Words.{if◌then◌else◌, ◌++◌, ◌+ℤ◌, ◌+◌, ◌-◌, ◌<◌, ◌==◌, ◌∙◌, ◌∷◌, ◌≡◌, ◌≤◌, ◌⊎◌, Arrival, ArrivesAs, BecomesPermanent}
-use Rattle.world_law.proofs.Words.{Bool, ChangesState, ComesToCorrection, Compressed, Departs, Departure, DeviceId, Dispatches, Emits, Happening, Integrating}
-use Rattle.world_law.proofs.Words.{IsActing, IsBefore, IsCaused, IsDropped, IsDue, IsForward, IsFounded, IsIn, IsLost, IsOfThisTime, IsOwnSource, IsSendLost}
-use Rattle.world_law.proofs.Words.{IsSource, Joining, Judgement, LinkId, List, Network, None, Note, NoteBody, Option, Pcf, Reason, Ripe, Scenario}
-use Rattle.world_law.proofs.Words.{Signal, Some, Standing, State, Units, Verdict, VlId, Why, [], adjustment_after, adjustment_at_hearing, amount, ap, arith}
-use Rattle.world_law.proofs.Words.{arrival_of, bears_on, before_permanence, by_number, cases_lt, cases_order, cause_of, chain, control, control_arrival}
-use Rattle.world_law.proofs.Words.{earlier, eq-eqb, false, filter, frame_by, heard_as, heard_since, in_filter, inl, inr, is_accepted, is_at_source}
-use Rattle.world_law.proofs.Words.{is_joined_by, is_turned_on_at, last_in, last_or, last_taken, length, members_in, next_point, not, numbered, numbered_within}
+use Rattle.world_law.proofs.Words.{◌++◌, ◌+ℤ◌, ◌+◌, ◌-◌, ◌<◌, ◌==◌, ◌∙◌, ◌∷◌, ◌≡◌, ◌≤◌, ◌⊎◌, Arrival, ArrivesAs, BecomesPermanent, Bool, ChangesState}
+use Rattle.world_law.proofs.Words.{ComesToCorrection, Compressed, Departs, Departure, DeviceId, Dispatches, Emits, Happening, Integrating, IsActing, IsBefore}
+use Rattle.world_law.proofs.Words.{IsCaused, IsDropped, IsDue, IsForward, IsFounded, IsIn, IsLost, IsOfThisTime, IsOwnSource, IsSendLost, IsSource, Joining}
+use Rattle.world_law.proofs.Words.{Judgement, LinkId, List, Network, None, Note, NoteBody, Option, Pcf, Reason, Ripe, Scenario, Signal, Some, Standing, State}
+use Rattle.world_law.proofs.Words.{Units, Verdict, VlId, Why, [], adjustment_after, adjustment_at_hearing, amount, ap, arith, arrival_of, bears_on}
+use Rattle.world_law.proofs.Words.{before_permanence, by_number, cases_lt, cases_order, cause_of, chain, control, control_arrival, earlier, eq-eqb, false}
+use Rattle.world_law.proofs.Words.{filter, frame_by, heard_as, heard_since, if◌then◌else◌, in_filter, inl, inr, is_accepted, is_at_source, is_joined_by}
+use Rattle.world_law.proofs.Words.{is_turned_on_at, last_in, last_or, last_taken, length, members_in, next_point, not, numbered, numbered_within}
 use Rattle.world_law.proofs.Words.{observation_window, option_map, place_of, plan_of, points_of, rank, refl, state_after, state_at_hearing, subst, suc, sym}
-use Rattle.world_law.proofs.Words.{time_of, timed, timed_arrival, true, ℕ}
+use Rattle.world_law.proofs.{Words.{time_of, timed, timed_arrival, true, ℕ}, giving.Given.same_permanent, putting.PutIn.{at_place, late_source}}
+use Rattle.world_law.proofs.putting.{Alike.{frame_alike, octets_alike, standpoint_in}, Bumped.{raised_same, up_high, up_low, up_number}, Renumbers.timed_by}
+use Rattle.world_law.proofs.putting.Bumped.{bump_behind, down_high, down_low, down_number, lower_behind, lowered, raised, raised_joins, raised_low, raised_rank}
+use Rattle.world_law.proofs.runs.SourcesBack.{arrives_later, dispatches_back, earlier_still, gives_rank, numbered_parts, reaches_back, standing_in, up_back}
 use Rattle.membership.specs.Summary.{Summarizes}
 use Rattle.run_law.specs.{control.{Corrections.standing_before, Permanence.IsJudgedBy}, records.Happenings.octets_by}
 use Rattle.sync_state.specs.Verdicts.{HasVerdict}
-use Rattle.world_law.proofs.{giving.Given.same_permanent, putting.Alike.{frame_alike, octets_alike, standpoint_in}}
-use Rattle.world_law.proofs.putting.Bumped.{bump_behind, down_high, down_low, down_number, lower_behind, lowered, raised, raised_joins, raised_low, raised_rank}
-use Rattle.world_law.proofs.putting.{Bumped.{raised_same, up_high, up_low, up_number}, PutIn.{at_place, late_source}, Renumbers.timed_by}
-use Rattle.world_law.proofs.runs.SourcesBack.{arrives_later, dispatches_back, earlier_still, gives_rank, numbered_parts, reaches_back, standing_in, up_back}
 use Rattle.run_law.specs.declared.judgement.Why.TheVariants as whys
 use Rattle.run_law.specs.declared.note.NoteBody.TheVariants as notes
 

@@ -1,15 +1,14 @@
 -- The records with one more at its place among them tell the same up to its source.
-use Rattle.world_law.proofs.Words.{if◌then◌else◌, ◌&&◌, ◌++◌, ◌==◌, ◌||◌, ◌∙◌, ◌∷◌, ◌≡◌, ◌≤◌, ◌⊎◌, Bool, DeviceId, Happening, Integrating, IsBefore, IsIn}
-use Rattle.world_law.proofs.Words.{Joining, LinkId, List, None, Scenario, VlId, [], adjustment_at_hearing, adjustment_with, amount, and_right, ap, arith}
-use Rattle.world_law.proofs.Words.{bears_on, borne, cases_order, chain, cycle_in, earlier, eqb-true, false, false_from_ne_true, filter, filter-append}
-use Rattle.world_law.proofs.Words.{has_joined_at, heard_since, inl, inr, is_before, is_joined_by, is_taken_before, is_turned_on_at, last_or, last_taken, le-ltb}
+use Rattle.world_law.proofs.Words.{◌&&◌, ◌++◌, ◌==◌, ◌||◌, ◌∙◌, ◌∷◌, ◌≡◌, ◌≤◌, ◌⊎◌, Bool, DeviceId, Happening, Integrating, IsBefore, IsIn, Joining, LinkId}
+use Rattle.world_law.proofs.Words.{List, None, Scenario, VlId, [], adjustment_at_hearing, adjustment_with, amount, and_right, ap, arith, bears_on, borne}
+use Rattle.world_law.proofs.Words.{cases_order, chain, cycle_in, earlier, eqb-true, false, false_from_ne_true, filter, filter-append, has_joined_at}
+use Rattle.world_law.proofs.Words.{heard_since, if◌then◌else◌, inl, inr, is_before, is_joined_by, is_taken_before, is_turned_on_at, last_or, last_taken, le-ltb}
 use Rattle.world_law.proofs.Words.{length, length-append, length-map, list_any, map, nat_lt, option_and_then, place_of, plain, plains, points_of, refl}
-use Rattle.world_law.proofs.Words.{state_after, state_at_hearing, state_before, subst, suc, sym, taken_cycle, time_of, ℕ}
-use Rattle.world_law.proofs.devices.{Borne.{heard_alike, moves_no_other, points_alike}, OwnRecords.{joins_no_other, keeps_adjustment}}
-use Rattle.world_law.proofs.devices.Plains.{heard_plain, plains_parts, points_plain}
-use Rattle.world_law.proofs.putting.{Bumped.{bump_behind, bump_mono, in_placed, numbered_beyond, raised_plain}, Idle.{drop_one, fold_skip, numbered_prefix}}
-use Rattle.world_law.proofs.putting.{Near.{AreTwo, HearsAlike}, Renumbers.{hearing_adjustment_plain, hearing_state_plain, last_taken_plain}}
-use Rattle.world_law.proofs.runs.SourcesBack.{earlier_still}
+use Rattle.world_law.proofs.{Words.{state_after, state_at_hearing, state_before, subst, suc, sym, taken_cycle, time_of, ℕ}, runs.SourcesBack.earlier_still}
+use Rattle.world_law.proofs.devices.{Borne.{heard_alike, moves_no_other, points_alike}, Plains.{heard_plain, plains_parts, points_plain}}
+use Rattle.world_law.proofs.devices.OwnRecords.{joins_no_other, keeps_adjustment}
+use Rattle.world_law.proofs.putting.{Bumped.{bump_behind, bump_mono, in_placed, numbered_beyond, raised_plain}, Near.{AreTwo, HearsAlike}}
+use Rattle.world_law.proofs.putting.{Idle.{drop_one, fold_skip, numbered_prefix}, Renumbers.{hearing_adjustment_plain, hearing_state_plain, last_taken_plain}}
 
 -- a place that is not before another is not by the test
 pub not_is : (p q : List ℕ) → (IsBefore p q → ⊥) → is_before p q ≡ false

@@ -3,12 +3,11 @@ use Rattle.world_law.proofs.Words.{◌++◌, ◌+◌, ◌∙◌, ◌∷◌, ◌�
 use Rattle.world_law.proofs.Words.{IsOwnSource, IsSource, LinkId, List, NoneBefore, NoteBody, Scenario, VlId, [], act_place, ap, append_assoc, arith, bears_on}
 use Rattle.world_law.proofs.Words.{before_behind, before_later, behind, cases_Bool, cases_order, cause_of, chain, either_way, eqb-true, false, in_left}
 use Rattle.world_law.proofs.Words.{in_parts, in_right, inl, inr, is_at_source, is_taken_before, key, length, length-append, map, members_in, never_self}
-use Rattle.world_law.proofs.Words.{place_of, rank, refl, subst, sym, time_of, true, ℕ}
-use Rattle.world_law.proofs.giving.GivenParts.{taken_on, up_to_place}
+use Rattle.world_law.proofs.{Words.{place_of, rank, refl, subst, sym, time_of, true, ℕ}, putting.PutIn.{own_time, split_three, split_two}}
+use Rattle.world_law.proofs.{giving.GivenParts.{taken_on, up_to_place}, putting.NearPut.{IsPlaced, two_placed}, runs.SourcesBack.{at_least, no_higher}}
 use Rattle.world_law.proofs.putting.Bumped.{bump_back, bump_behind, bump_equal, bump_mono, due_low, first_placed, in_placed, lower_behind, lowered}
 use Rattle.world_law.proofs.putting.{Bumped.{lowered_place, placed, placed_in, raised_source, split_placed}, Moving.{IsAllOfIt, IsMoving, worked_or_here}}
 use Rattle.world_law.proofs.putting.Near.{AreFrom, AreTwo, IsAsideOf, due_down, due_up, hears, is_follower, known_near, own_down, own_source, own_up}
-use Rattle.world_law.proofs.{putting.{NearPut.{IsPlaced, two_placed}, PutIn.{own_time, split_three, split_two}}, runs.SourcesBack.{at_least, no_higher}}
 use Rattle.run_law.specs.declared.judgement.Why.TheVariants as whys
 use Rattle.run_law.specs.declared.note.NoteBody.TheVariants as notes
 

@@ -1,12 +1,11 @@
 -- What is shown of what is to come, and where a record is put in among what is shown.
-use Rattle.world_law.proofs.Words.{if◌then◌else◌, ◌++◌, ◌+◌, ◌<◌, ◌∙◌, ◌∷◌, ◌≡◌, ◌≤◌, AllBefore, Bool, DeviceId, Happening, IsBefore, IsCaused, IsDue, IsIn}
-use Rattle.world_law.proofs.Words.{List, Network, NoneBefore, Note, NoteBody, Scenario, State, Why, [], ap, arith, cases_lt, cause_of, happening, hidden}
-use Rattle.world_law.proofs.Words.{hidden_body, in_left, in_parts, in_right, inl, inr, ints, key, le-ltb, length, length-append, lt-ltb, map, members_in}
-use Rattle.world_law.proofs.Words.{nat_lt, none_yet, numbered, place_of, rank, refl, subst, suc, sym, time_of, units_of, ℕ}
-use Rattle.world_law.proofs.putting.Alike.{happening_alike}
+use Rattle.world_law.proofs.Words.{◌++◌, ◌+◌, ◌<◌, ◌∙◌, ◌∷◌, ◌≡◌, ◌≤◌, AllBefore, Bool, DeviceId, Happening, IsBefore, IsCaused, IsDue, IsIn, List, Network}
+use Rattle.world_law.proofs.Words.{NoneBefore, Note, NoteBody, Scenario, State, Why, [], ap, arith, cases_lt, cause_of, happening, hidden, hidden_body}
+use Rattle.world_law.proofs.Words.{if◌then◌else◌, in_left, in_parts, in_right, inl, inr, ints, key, le-ltb, length, length-append, lt-ltb, map, members_in}
+use Rattle.world_law.proofs.{Words.{nat_lt, none_yet, numbered, place_of, rank, refl, subst, suc, sym, time_of, units_of, ℕ}, putting.Alike.happening_alike}
 use Rattle.world_law.proofs.putting.Bumped.{AsState, bump_behind, in_placed, placed_hidden, places_up, raised, raised_rank, seven, up_low, up_number}
-use Rattle.world_law.proofs.putting.{HiddenLists.{map_parts, split_hidden}, Idle.numbered_prefix, Placing.{before_it, put_at}, PutIn.split_two}
-use Rattle.world_law.{proofs.putting.StandsOn.in_mapped, specs.world.Moves.{ArePutIn, IsPutIn, settled_as}}
+use Rattle.world_law.{proofs.putting.{HiddenLists.{map_parts, split_hidden}, Placing.{before_it, put_at}}, specs.world.Moves.{ArePutIn, IsPutIn, settled_as}}
+use Rattle.world_law.proofs.putting.{Idle.numbered_prefix, PutIn.split_two, StandsOn.in_mapped}
 use Rattle.run_law.specs.declared.note.NoteBody.TheVariants as notes
 
 -- ---- what is hidden keeps its place towards a record whose cause is given

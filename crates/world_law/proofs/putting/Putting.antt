@@ -1,17 +1,16 @@
 -- What is settled once a record that bears on nothing else is put in, and the cursor goes by its source.
-use Rattle.world_law.proofs.Words.{if◌then◌else◌, ◌++◌, ◌+◌, ◌∙◌, ◌∷◌, ◌≡◌, ◌≤◌, ◌⊎◌, AllBefore, AreOfNetwork, AreSettled, DeviceId, Happening, HasDoneFrom}
-use Rattle.world_law.proofs.Words.{HasTurnedOn, Integrating, IsActing, IsAtRest, IsBefore, IsDue, IsFounded, IsHeld, IsIn, IsKept, IsLeft, IsOwnSource}
-use Rattle.world_law.proofs.Words.{IsSource, IsWorkedOff, List, Network, Node, NoneBefore, NoteBody, Scenario, State, [], act_place, adjustment_after, ap}
-use Rattle.world_law.proofs.Words.{append_assoc, arith, bears_on, before_behind, behind, cause_of, chain, changed_at, earlier, either_way, frames_taken}
+use Rattle.world_law.proofs.Words.{◌++◌, ◌+◌, ◌∙◌, ◌∷◌, ◌≡◌, ◌≤◌, ◌⊎◌, AllBefore, AreOfNetwork, AreSettled, DeviceId, Happening, HasDoneFrom, HasTurnedOn}
+use Rattle.world_law.proofs.Words.{Integrating, IsActing, IsAtRest, IsBefore, IsDue, IsFounded, IsHeld, IsIn, IsKept, IsLeft, IsOwnSource, IsSource}
+use Rattle.world_law.proofs.Words.{IsWorkedOff, List, Network, Node, NoneBefore, NoteBody, Scenario, State, [], act_place, adjustment_after, ap, append_assoc}
+use Rattle.world_law.proofs.Words.{arith, bears_on, before_behind, behind, cause_of, chain, changed_at, earlier, either_way, frames_taken, if◌then◌else◌}
 use Rattle.world_law.proofs.Words.{in_left, in_parts, in_right, inl, inr, is_at_source, is_turned_on_at, is_turning, key, length, length-append, length-map}
-use Rattle.world_law.proofs.Words.{map, members_in, moves, never_self, place_of, rank, refl, state_after, state_before, subst, sym, time_of, true, up_to}
-use Rattle.world_law.proofs.Words.{ℕ}
+use Rattle.world_law.proofs.Words.{map, members_in, moves, never_self, place_of, rank, refl, state_after, state_before, subst, sym, time_of, true, up_to, ℕ}
 use Rattle.world_law.proofs.{acts.Recorded.{DispatchesNone, recorded_put}, devices.Borne.moves_no_other, giving.GivenParts.{taken_on, up_to_place}}
-use Rattle.world_law.proofs.putting.Alike.{AreAlike, alike_back, caused_alike, happening_alike, own_alike}
+use Rattle.world_law.proofs.putting.{Alike.{AreAlike, alike_back, caused_alike, happening_alike, own_alike}, Idle.{in_bumped, left_put, plains_put, stated_put}}
 use Rattle.world_law.proofs.putting.Idle.{IsIdle, IsPut, adjusted_put, alike_put, bump, bumped_in, changed_put, earlier_state_put, idle_bears, idle_rank}
-use Rattle.world_law.proofs.putting.{Idle.{in_bumped, left_put, plains_put, stated_put}, Moving.{IsMoving, stays, worked_or_here}, Placing.at_or_behind}
-use Rattle.world_law.proofs.{putting.PutIn.{first_bumped, known_cause, late_source, own_time, split_bumped, split_three, split_two}, rows.Takings.frames_idle}
-use Rattle.world_law.{proofs.runs.SourcesBack.{at_least, dispatches_back, earlier_still, no_higher}, specs.{device.Plain.renumbered, world.World.IsTakenUp}}
+use Rattle.world_law.proofs.{putting.Moving.{IsMoving, stays, worked_or_here}, runs.SourcesBack.{at_least, dispatches_back, earlier_still, no_higher}}
+use Rattle.world_law.proofs.putting.{Placing.at_or_behind, PutIn.{first_bumped, known_cause, late_source, own_time, split_bumped, split_three, split_two}}
+use Rattle.world_law.{proofs.rows.Takings.frames_idle, specs.{device.Plain.renumbered, world.World.IsTakenUp}}
 
 -- what a step that puts in a record starts from: the record is due at its place among those to come, and whatever comes
 -- from the source is at that place

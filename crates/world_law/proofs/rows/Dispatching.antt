@@ -2,10 +2,9 @@
 use Rattle.world_law.proofs.Words.{◌*◌, ◌++◌, ◌+◌, ◌∙◌, ◌∷◌, ◌≡◌, ◌≤◌, AllBefore, AreSettled, DeviceId, Dispatches, Happening, HasAtHand, HasDone, HasTaskBy}
 use Rattle.world_law.proofs.Words.{IsDue, IsFounded, IsIn, IsInRange, IsLeft, IsSteady, KeepsRules, LinkId, List, Network, Node, Note, Reaches, RowId, Scenario}
 use Rattle.world_law.proofs.Words.{Stands, Synchronised, VlId, World, amount, before_later, dispatching, doing, frames_taken, happenings, in_parts, in_right}
-use Rattle.world_law.proofs.Words.{inl, inr, place_of, pos, refl, subst, sym, time_of, value_of, ℕ, ℤ}
-use Rattle.run_law.specs.{machines.Tasks.HasFrame, timed.Dispatching.IsUp}
+use Rattle.world_law.proofs.{Words.{inl, inr, place_of, pos, refl, subst, sym, time_of, value_of, ℕ, ℤ}, rows.AtHand.{IsReaching, at_hand, has_frame, value_is}}
 use Rattle.world_law.proofs.{acts.Acting.{IsUnmoved, comes_so, undone_so}, devices.{OwnRecords.state_still, Passes.not_turned_on}, putting.PutIn.split_two}
-use Rattle.world_law.proofs.rows.AtHand.{IsReaching, at_hand, has_frame, value_is}
+use Rattle.run_law.specs.{machines.Tasks.HasFrame, timed.Dispatching.IsUp}
 
 -- ---- the records given and those to come
 

@@ -9,11 +9,9 @@ use Rattle.std.proofs.{Common.{◌%◌, ◌/◌}, Math.Nat.{div-add-mod, mod-lt}
 use Rattle.std.specs.{Int.{int_div_euclid, int_rem_euclid}, Prelude.{Err, Result}}
 use Rattle.net_plan.proofs.SameIds.{one_link}
 use Rattle.pcf_codec.specs.{Fields.field, declared.refusal.PcfRefusal.PcfRefusal}
-use Rattle.run_law.{proofs.{control.Verdicts.none_first, scenario.Ways.one_way}, specs.control.Arrivals.{frame_fault, frame_or_fault}}
-use Rattle.run_law.specs.{device.Standpoints.{clock_of, cycle_at, natural, offset_in_cycle}, scenario.Devices.{is_parent_of, is_relay}}
-use Rattle.run_law.specs.scenario.Ways.{receiver_of}
-use Rattle.run_law.specs.timed.Arrivals.{entry_arrival, entry_entering, octets_fault, octets_or_fault}
-use Rattle.run_law.specs.timed.Arrivals.{row_fault, taken_or_fault}
+use Rattle.run_law.{proofs.{control.Verdicts.none_first, scenario.Ways.one_way}, specs.scenario.{Devices.{is_parent_of, is_relay}, Ways.receiver_of}}
+use Rattle.run_law.specs.{control.Arrivals.{frame_fault, frame_or_fault}, device.Standpoints.{clock_of, cycle_at, natural, offset_in_cycle}}
+use Rattle.run_law.specs.timed.Arrivals.{entry_arrival, entry_entering, octets_fault, octets_or_fault, row_fault, taken_or_fault}
 use Rattle.schedule_tables.{proofs.Entries.entry_by, specs.{Entries.target_of, Windows.window_end}}
 use Rattle.tte_lemmas.proofs.{Integers.not_less, Lists.find_at}
 use Rattle.run_law.specs.declared.steps.Arrival.TheVariants as arrivals

@@ -1,10 +1,9 @@
 -- What a device took by the records stays, whatever other records come, and however they are numbered.
 use Rattle.world_law.proofs.Words.{◌++◌, ◌+ℤ◌, ◌∙◌, ◌∷◌, ◌≡◌, ◌≤◌, DeviceId, Happening, IsIn, List, NoteBody, Scenario, TakenFrame, Units, [], adjustment_after}
 use Rattle.world_law.proofs.Words.{adjustment_before, ap, append-nil, arith, earlier, frames_taken, in_parts, inl, inr, le-ltb, local_before, map, nat_lt}
-use Rattle.world_law.proofs.Words.{plain_body, plains, pos, refl, sym, taken_by, time_of, ℕ, ℤ}
-use Rattle.std.proofs.lemmas.Grind.{flat_map-append}
+use Rattle.world_law.{proofs.Words.{plain_body, plains, pos, refl, sym, taken_by, time_of, ℕ, ℤ}, specs.device.Takings.taken_in}
 use Rattle.world_law.proofs.{devices.Plains.{adjustments_plain, earlier_plain}, putting.Idle.{IsIdle, adjusted_earlier_put, bump, drop_one, plains_put}}
-use Rattle.world_law.specs.device.Takings.{taken_in}
+use Rattle.std.proofs.lemmas.Grind.{flat_map-append}
 use Rattle.run_law.specs.declared.note.NoteBody.TheVariants as notes
 
 -- by the record the device takes no frame

@@ -7,13 +7,12 @@ use Rattle.world_law.proofs.Words.{Standpoint, State, Units, Up, VlId, Way, Why,
 use Rattle.world_law.proofs.Words.{before_permanence, control, control_arrival, false, has_joined_at, heard_as, inl, inr, is_broken, is_cut, last_taken}
 use Rattle.world_law.proofs.Words.{launched, nat_lt, not, numbered, observation_window, plan_of, points_of, pos, refl, scenario, signal_of, standpoint}
 use Rattle.world_law.proofs.Words.{state_at_hearing, state_before, subst, sym, time_of, timed, timed_arrival, way_from, ℕ}
-use Rattle.run_law.specs.control.{Leaving.{departure, on_cut_way, too_old}, Permanence.IsPermanenceOutcome}
-use Rattle.run_law.specs.scenario.Ways.{cut_set, delay_at, hold_at, hold_set, wire_of, wire_set}
-use Rattle.transparent_clock.specs.Points.{point_of}
 use Rattle.world_law.proofs.runs.Agreement.{broken_same, comes_same, reach_same, reaches_same, sends_same, setting_same, state_same}
+use Rattle.run_law.{proofs.law.FirstPlaces.numbered_in, specs.control.Permanence.IsPermanenceOutcome}
+use Rattle.run_law.specs.{control.Leaving.{departure, on_cut_way, too_old}, scenario.Ways.{cut_set, delay_at, hold_at, hold_set, wire_of, wire_set}}
+use Rattle.transparent_clock.specs.Points.{point_of}
 use Rattle.run_law.specs.declared.judgement.Why.TheVariants as whys
 use Rattle.run_law.specs.declared.note.NoteBody.TheVariants as notes
-use Rattle.run_law.proofs.law.FirstPlaces.{numbered_in}
 
 -- no record of the list is later than the time
 abbrev pub AreUpTo : ℕ → List Happening → Type 0

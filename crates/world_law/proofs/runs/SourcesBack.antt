@@ -1,13 +1,12 @@
 -- What is to come brings no source that is not behind it.
-use Rattle.world_law.proofs.Words.{if◌then◌else◌, ◌++◌, ◌<◌, ◌∙◌, ◌∷◌, ◌≡◌, ◌≤◌, ◌⊎◌, AreClusters, Arrives, DeviceId, Dispatches, Emits, Gives}
-use Rattle.world_law.proofs.Words.{Happening, Integrating, IsActing, IsBefore, IsForward, IsIn, IsSource, LinkId, List, Network, None, NoneBefore}
-use Rattle.world_law.proofs.Words.{NoteBody, Point, Reaches, Scenario, Signal, Some, Standing, [], adjustment_after, adjustment_at_hearing}
-use Rattle.world_law.proofs.Words.{after_last, ap, append-nil, append_assoc, arith, cases_Bool, cases_lt, earlier, ends_stretch, filter, filter-append}
-use Rattle.world_law.proofs.Words.{heard_as, inl, inr, integration_cycle, ints, is_accepted, is_turned_on_at, last_or, nat_lt, next_point, no_cluster, numbered}
-use Rattle.world_law.proofs.Words.{observation_window, place_of, plan_of, point_by, points_of, rank, refl, slice_get, state_after, state_at_hearing, subst}
-use Rattle.world_law.proofs.Words.{suc, time_of, zero, ℕ, ℤ}
-use Rattle.run_law.specs.timed.Dispatching.{IsUp}
+use Rattle.world_law.proofs.Words.{◌++◌, ◌<◌, ◌∙◌, ◌∷◌, ◌≡◌, ◌≤◌, ◌⊎◌, AreClusters, Arrives, DeviceId, Dispatches, Emits, Gives, Happening, Integrating}
+use Rattle.world_law.proofs.Words.{IsActing, IsBefore, IsForward, IsIn, IsSource, LinkId, List, Network, None, NoneBefore, NoteBody, Point, Reaches, Scenario}
+use Rattle.world_law.proofs.Words.{Signal, Some, Standing, [], adjustment_after, adjustment_at_hearing, after_last, ap, append-nil, append_assoc, arith}
+use Rattle.world_law.proofs.Words.{cases_Bool, cases_lt, earlier, ends_stretch, filter, filter-append, heard_as, if◌then◌else◌, inl, inr, integration_cycle}
+use Rattle.world_law.proofs.Words.{ints, is_accepted, is_turned_on_at, last_or, nat_lt, next_point, no_cluster, numbered, observation_window, place_of, plan_of}
+use Rattle.world_law.proofs.Words.{point_by, points_of, rank, refl, slice_get, state_after, state_at_hearing, subst, suc, time_of, zero, ℕ, ℤ}
 use Rattle.world_law.{proofs.{devices.OwnRecords.earlier_no, lists.Lists.{behind_no, behind_yes, map_none}}, specs.device.Told.next_in}
+use Rattle.run_law.specs.timed.Dispatching.{IsUp}
 use Rattle.run_law.specs.declared.note.NoteBody.TheVariants as notes
 
 -- ---- lists

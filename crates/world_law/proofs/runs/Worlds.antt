@@ -1,10 +1,9 @@
 -- What a world gives next is the next record of the run.
 use Rattle.world_law.proofs.Words.{◌++◌, ◌+◌, ◌∙◌, ◌∷◌, ◌≡◌, AreSettled, Happening, IsBefore, IsDue, IsIn, IsScenarioRun, IsWorkedOff, List, NoSourceBefore}
 use Rattle.world_law.proofs.Words.{Note, Scenario, [], ap, append-nil, before_or_not, behind, chain, happening, happenings, inl, inr, length, length-map}
-use Rattle.world_law.proofs.Words.{never_self, parted, place_of, refl, subst, sym, ℕ}
-use Rattle.run_law.proofs.runs.{Grow.move_mark, NetworkRuns.{run_goes_on, same_notes}}
+use Rattle.world_law.{proofs.Words.{never_self, parted, place_of, refl, subst, sym, ℕ}, specs.world.World.{FirstSettledIsNext, NothingSettledIsAll, note_of}}
 use Rattle.world_law.{proofs.runs.{Firsts.source_before, Next.{is_next, none_due}, Sourced.sourced}, specs.source.Next.NoneDueBefore}
-use Rattle.world_law.specs.world.World.{FirstSettledIsNext, NothingSettledIsAll, note_of}
+use Rattle.run_law.proofs.runs.{Grow.move_mark, NetworkRuns.{run_goes_on, same_notes}}
 
 pub length_is : (s : Scenario) (ns : List Note) → length ns ≡ length (happenings s.network ns)
 length_is s ns = ap length (sym (same_notes s.network ns)) ∙ length-map (happenings s.network ns) (λ h. h.note)

@@ -4,9 +4,8 @@ use Rattle.compression.specs.{Clusters.{AreClusters, Cluster}, Emission.compress
 use Rattle.compression.specs.declared.compressed.Compressed.{Compressed}
 use Rattle.net_plan.specs.{Ranges.IsInRange, declared.{ids.DeviceId.DeviceId, network.Network.Network}}
 use Rattle.run_law.specs.{control.Collections.observation_window, declared.steps.{Act.Act, Moment.Moment}}
-use Rattle.run_law.specs.machines.{Answers.IsActOf, Calls.MayCall, Nodes.{Node, acting}}
+use Rattle.run_law.specs.{machines.{Answers.IsActOf, Calls.MayCall, Nodes.{Node, acting}}, scenario.Devices.is_cm}
 use Rattle.run_law.specs.{machines.Tasks.{IsPending, Task, order_of, reading_for}, records.Order.{IsBefore, IsIn}}
-use Rattle.run_law.specs.scenario.Devices.{is_cm}
 use Rattle.schedule_tables.specs.{Dispatches.dispatch_order, Rules.KeepsRules}
 use Rattle.tte_units.specs.Amount.{amount}
 use Rattle.run_law.specs.declared.steps.Act.TheVariants as acts

@@ -6,10 +6,9 @@ use Rattle.net_plan.specs.declared.ids.DeviceId.{DeviceId}
 use Rattle.run_law.specs.control.Collections.{points_of}
 use Rattle.run_law.specs.control.Corrections.{heard_since, integration_cycle, next_cycle, recorded_cycle}
 use Rattle.run_law.specs.device.{LocalClocks.{changed_at, local_at_change}, States.{adjustment_before, state_before}}
-use Rattle.run_law.specs.machines.Nodes.{ClockTask, Node}
+use Rattle.run_law.specs.{machines.Nodes.{ClockTask, Node}, scenario.Devices.{is_cm, plan_of}}
 use Rattle.run_law.specs.machines.Tasks.{IsPending, IsUndone, IsWaiting, Task, reading_for, value_of}
-use Rattle.run_law.specs.{records.Happenings.{Happening, earlier}, scenario.Devices.{is_cm, plan_of}}
-use Rattle.run_law.specs.scenario.Scenarios.{Scenario, is_broken}
+use Rattle.run_law.specs.{records.Happenings.{Happening, earlier}, scenario.Scenarios.{Scenario, is_broken}}
 use Rattle.sync_state.specs.declared.state.State.{State, TheVariants.{Joining, Synchronised}}
 
 -- has a device in this state a next correction point?

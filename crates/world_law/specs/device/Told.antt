@@ -1,7 +1,6 @@
 -- What the records before a time, a list of them, tell of a device: each is a function of the scenario and the list.
-use Rattle.std.specs.{List.{after_last, last_or}, Option.option_map_or}
-use Rattle.std.specs.Prelude.{if◌then◌else◌, ◌&&◌, ◌+ℤ◌, ◌+◌, ◌-◌, Bool, List, None, filter, int_le, int_lt, nat_lt}
-use Rattle.std.specs.Prelude.{pos, ℕ, ℤ}
+use Rattle.std.specs.{List.{after_last, last_or}, Option.option_map_or, Prelude.{pos, ℕ, ℤ}}
+use Rattle.std.specs.Prelude.{◌&&◌, ◌+ℤ◌, ◌+◌, ◌-◌, Bool, List, None, filter, if◌then◌else◌, int_le, int_lt, nat_lt}
 use Rattle.net_plan.specs.declared.ids.DeviceId.{DeviceId}
 use Rattle.run_law.specs.control.Corrections.{correction_value, is_integration_cycle, recorded_cycle}
 use Rattle.run_law.specs.device.{LocalClocks.changes_adjustment, States.adjustment_after}

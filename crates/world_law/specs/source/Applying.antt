@@ -1,9 +1,8 @@
 -- How a run goes on by an event.
 use Rattle.std.specs.Prelude.{◌++◌, ◌+◌, ◌<◌, ◌∷◌, ◌≡◌, ◌≤ℤ◌, ◌≤◌, ◌⊎◌, List, Some, [], length, pos, slice_get, ℕ}
 use Rattle.net_plan.specs.declared.{event.Event.Event, ids.DeviceId.DeviceId, network.Network.Network}
-use Rattle.run_law.specs.declared.note.{Note.Note, NoteBody.NoteBody}
-use Rattle.run_law.specs.records.{Happenings.{Happening, happenings, time_of}, Order.{IsBefore, IsIn, behind}}
-use Rattle.run_law.specs.runs.DueRecords.{EndsAt, IsScenarioRun}
+use Rattle.run_law.specs.{declared.note.{Note.Note, NoteBody.NoteBody}, records.Order.{IsBefore, IsIn, behind}}
+use Rattle.run_law.specs.{records.Happenings.{Happening, happenings, time_of}, runs.DueRecords.{EndsAt, IsScenarioRun}}
 use Rattle.tte_units.specs.{Amount.amount, declared.units.Units.Units}
 use Rattle.world_law.specs.source.Agreeing.{Agree, scenario}
 use Rattle.run_law.specs.declared.note.NoteBody.TheVariants as notes

@@ -1,10 +1,9 @@
 -- What a call of a machine is told, what it ensures, and how its world keeps it.
 use Rattle.std.specs.Prelude.{◌≡◌, List, Some, slice_get, ℕ}
 use Rattle.net_plan.specs.declared.{ids.{DeviceId.DeviceId, LinkId.LinkId}, network.Network.Network}
-use Rattle.run_law.specs.{control.Wires.signal_of, declared.steps.{Act.Act, Arrival.Arrival, Moment.Moment}}
-use Rattle.run_law.specs.machines.Answers.{IsActOf, after_arrival, arrival_at, called}
-use Rattle.run_law.specs.machines.{Calls.{HasDue, MayArrive, MayCall}, Nodes.{Node, acting, arriving}}
-use Rattle.run_law.specs.scenario.Scenarios.{Scenario}
+use Rattle.run_law.specs.{control.Wires.signal_of, declared.steps.Act.Act, scenario.Scenarios.Scenario}
+use Rattle.run_law.specs.{declared.steps.{Arrival.Arrival, Moment.Moment}, machines.Calls.{HasDue, MayArrive, MayCall}}
+use Rattle.run_law.specs.machines.{Answers.{IsActOf, after_arrival, arrival_at, called}, Nodes.{Node, acting, arriving}}
 use Rattle.sync_state.specs.declared.state.State.{State}
 use Rattle.tte_units.specs.{Amount.units_of, declared.units.Units.Units}
 

@@ -1,23 +1,20 @@
 -- What a world keeps, and where the events applied to it and the records that it gave leave it.
-use Rattle.std.specs.List.{last_or}
-use Rattle.std.specs.Prelude.{if◌then◌else◌, ◌++◌, ◌+◌, ◌-◌, ◌<◌, ◌==◌, ◌^◌, ◌↔◌, ◌∷◌, ◌≡◌, ◌≤ℤ◌, ◌≤◌, ◌⊎◌, Bool}
-use Rattle.std.specs.Prelude.{IsSomeAnd, List, None, Option, Some, [], false, filter, length, map, nat_lt, pos}
-use Rattle.std.specs.Prelude.{slice_get, true, ℕ}
+use Rattle.std.specs.{List.last_or, Prelude.{true, ℕ}}
+use Rattle.std.specs.Prelude.{◌++◌, ◌+◌, ◌-◌, ◌<◌, ◌==◌, ◌^◌, ◌↔◌, ◌∷◌, ◌≡◌, ◌≤ℤ◌, ◌≤◌, ◌⊎◌, Bool, IsSomeAnd, List}
+use Rattle.std.specs.Prelude.{None, Option, Some, [], false, filter, if◌then◌else◌, length, map, nat_lt, pos, slice_get}
 use Rattle.net_plan.specs.{Places.link_at, Ranges.IsInRange, declared.event.{Event.Event, What.What}}
 use Rattle.net_plan.specs.declared.{ids.{DeviceId.DeviceId, LinkId.LinkId, VlId.VlId}, network.Network.Network}
 use Rattle.net_plan.specs.declared.tables.Way.{Way, TheVariants.{Down, Up}}
 use Rattle.pcf_values.specs.declared.pcf.Pcf.{Pcf}
-use Rattle.run_law.specs.control.{Leaving.Gives, Permanence.waits_for, Wires.{Arrives, Signal}}
-use Rattle.run_law.specs.declared.{judgement.Why.TheVariants.On, note.{Note.Note, NoteBody.NoteBody}}
-use Rattle.run_law.specs.device.{LocalClocks.changed_at, States.{adjustment_after, state_after, state_before}}
+use Rattle.run_law.specs.{control.Leaving.Gives, declared.note.Note.Note, records.Causes.IsOfThisTime}
+use Rattle.run_law.specs.{control.Permanence.waits_for, device.LocalClocks.changed_at, timed.Dispatching.is_accepted}
+use Rattle.run_law.specs.{control.Wires.{Arrives, Signal}, scenario.Scenarios.{Scenario, is_broken, is_turned_on_at}}
+use Rattle.run_law.specs.{declared.judgement.Why.TheVariants.On, runs.DueRecords.{EndsAt, IsDue, IsScenarioRun}}
+use Rattle.run_law.specs.{declared.note.NoteBody.NoteBody, device.States.{adjustment_after, state_after, state_before}}
 use Rattle.run_law.specs.machines.Nodes.{Node, Phase, acting, arriving, ripening, turning_on}
-use Rattle.run_law.specs.records.Causes.{IsOfThisTime}
 use Rattle.run_law.specs.records.Happenings.{Happening, earlier, happenings, numbered, time_of, up_to}
 use Rattle.run_law.specs.records.{Order.{AllBefore, IsBefore, IsIn, NoneBefore, behind}, Ranks.{members_in, place_of}}
-use Rattle.run_law.specs.{runs.DueRecords.{EndsAt, IsDue, IsScenarioRun}, scenario.Devices.{is_cm, is_end}}
-use Rattle.run_law.specs.scenario.Scenarios.{Scenario, is_broken, is_turned_on_at}
-use Rattle.run_law.specs.scenario.Ways.{delay_at, hold_at, is_cut, receiver_of, way_from}
-use Rattle.run_law.specs.timed.Dispatching.{is_accepted}
+use Rattle.run_law.specs.scenario.{Devices.{is_cm, is_end}, Ways.{delay_at, hold_at, is_cut, receiver_of, way_from}}
 use Rattle.schedule_tables.specs.Rules.{KeepsRules}
 use Rattle.sync_state.specs.declared.state.State.TheVariants.{Integrating, Off}
 use Rattle.transparent_clock.specs.Points.{point_of}

@@ -5,7 +5,7 @@ use Rattle.std.specs.declared.cmp.Reverse.{Reverse}
 use Rattle.run_law.{proofs.{records.Order.{given_of, is_given}, runs.Places.in_parts}, specs.records.Order.IsIn}
 use Rattle.slab.specs.Slab.{Slab, get}
 use Rattle.world_state.{proofs.queue_lemmas.Bags.in_contained, specs.queue.Finding.{HoldsAt, HoldsNoneAt, IsPlaceFor, IsSlotFor, NoSlotFor}}
-use Rattle.world_state.specs.{queue.Queues.{entries_in, entry_at, entry_of}, declared.queue.{Entry.Entry, Place.Place, Slotted.Slotted}}
+use Rattle.world_state.specs.{queue.Queues.{entries_in, entry_at, entry_of}, declared.queue.{Entry.Entry, DueAt.DueAt, Slotted.Slotted}}
 
 -- each of them is one of them
 pub is_one : (places : List (Reverse Slotted)) (i : ℕ) (d : Reverse Slotted) → i < length places → IsIn (get_or places i d) places
@@ -25,7 +25,7 @@ none_more places i d rank cause lt other none =
     ])
 
 module _ {T : Type 0} where
-  content_is : (place : Place) (o : Option T) (e : Entry T) → option_map (entry_at place) o ≡ Some e → (o ≡ Some e.content) × (place ≡ e.place)
+  content_is : (place : DueAt) (o : Option T) (e : Entry T) → option_map (entry_at place) o ≡ Some e → (o ≡ Some e.content) × (place ≡ e.place)
   content_is place None e is = absurd cc
   content_is place (Some content) e is =
       let same : entry_at place content ≡ e = cc in

@@ -2,9 +2,8 @@
 use Rattle.std.proofs.Common.{◌<◌, ◌∙◌, ◌∷◌, ◌≡◌, List, None, Option, Some, [], ap, arith, get_or, inl, is_some, length, refl, subst, sym, true}
 use Rattle.std.{proofs.lemmas.Bool.both_ways, specs.{List.cons_option, Option.option_map, Prelude.IfSome, declared.cmp.Reverse.Reverse}}
 use Rattle.slab.specs.Slab.{Slab, get}
-use Rattle.world_state.{proofs.queue_lemmas.Slots.some_entry}
-use Rattle.world_state.specs.{queue.Places.{IsFirst, first_entry}, queue.Queues.{IsSound, entries_in, entry_at, entry_of}, declared.queue.Entry.Entry}
-use Rattle.world_state.specs.declared.queue.{Place.Place, Slotted.Slotted}
+use Rattle.world_state.{proofs.queue_lemmas.Slots.some_entry, specs.queue.{Places.{IsFirst, first_entry}, Queues.{IsSound, entries_in, entry_at, entry_of}}}
+use Rattle.world_state.specs.declared.queue.{DueAt.DueAt, Entry.Entry, Slotted.Slotted}
 
 module _ {T : Type 0} where
   head_of : (o : Option (Entry T)) (l : List (Entry T)) → is_some o ≡ true → first_entry (cons_option o l) ≡ o
@@ -18,14 +17,14 @@ module _ {T : Type 0} where
   head_is s (x ∷ items) top sound lt is =
       head_of (entry_of s x) (entries_in s items) (some_entry s x (sound.filled x (inl refl))) ∙ ap (entry_of s) (sym is)
 
-  if_head : (entries : List (Entry T)) (o : Option (Entry T)) (place : Place) → first_entry entries ≡ o → IsFirst entries place
+  if_head : (entries : List (Entry T)) (o : Option (Entry T)) (place : DueAt) → first_entry entries ≡ o → IsFirst entries place
       → option_map (λ (e : Entry T). e.place) o ≡ Some place → IfSome (first_entry entries) (λ e. IsFirst entries e.place)
   if_head entries None place is first same = absurd cc
   if_head entries (Some e) place is first same =
       let at : place ≡ e.place = cc in
       subst (λ (o : Option (Entry T)). IfSome o (λ e. IsFirst entries e.place)) (sym is) (subst (IsFirst entries) at first)
 
-  place_mapped : (place : Place) (o : Option T) → is_some o ≡ true
+  place_mapped : (place : DueAt) (o : Option T) → is_some o ≡ true
       → option_map (λ (e : Entry T). e.place) (option_map (entry_at place) o) ≡ Some place
   place_mapped place None some = absurd (both_ways _ refl some)
   place_mapped place (Some content) some = refl

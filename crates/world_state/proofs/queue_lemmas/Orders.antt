@@ -2,7 +2,7 @@
 use Rattle.std.proofs.{Common.{◌<◌, ◌==◌, ◌∙◌, ◌≡◌, ◌⊎◌, Bool, ap, arith, cond, false, inl, inr, ℕ}, lemmas.Bool.{both_ways, eq-eqb, le-ltb, lt-ltb}}
 use Rattle.std.specs.{Ordering.{is_lt, nat_cmp, ordering_then}, declared.cmp.{Ordering.{Ordering, TheVariants.{Equal, Greater, Less}}, Reverse.Reverse}}
 use Rattle.run_law.specs.records.Order.{IsBefore}
-use Rattle.world_state.specs.{queue.Places.numbers_of, queue.Queues.{compared, reversed}, declared.queue.{Place.Place, Slotted.Slotted}}
+use Rattle.world_state.specs.{queue.Places.numbers_of, queue.Queues.{compared, reversed}, declared.queue.{DueAt.DueAt, Slotted.Slotted}}
 
 less : (x y : ℕ) → x < y → nat_cmp x y ≡ Less
 less x y lt = ap (λ (b : Bool). cond b Less (cond (x == y) Equal Greater)) (lt-ltb x y lt)
@@ -20,7 +20,7 @@ last_less : (x y : ℕ) → (x < y) ⊎ ((x ≡ y) × ⊥) → nat_cmp x y ≡ L
 last_less x y (inl lt) = less x y lt
 last_less x y (inr h) = absurd h.1
 
-before_is_less : (p q : Place) → IsBefore (numbers_of p) (numbers_of q) → compared p q ≡ Less
+before_is_less : (p q : DueAt) → IsBefore (numbers_of p) (numbers_of q) → compared p q ≡ Less
 before_is_less p q b =
     then_less p.at q.at _ _ b (λ b. then_less p.rank q.rank _ _ b
     (λ b. then_less p.device q.device _ _ b (λ b. then_less p.link q.link _ _ b (λ b. last_less p.cause q.cause b))))

@@ -1,33 +1,31 @@
 -- Places in a heap with their slots: one is put in, and the first is taken out.
 use Rattle.std.proofs.Common.{◌∙◌, ◌∷◌, ◌≡◌, ◌≢◌, List, None, Option, Some, ap, false, inl, inr, is_some, length, map, nat_eq, refl, subst, sym, true, ℕ}
-use Rattle.std.proofs.lemmas.{Bool.both_ways, List.Sorted.{IsPermutation-map, IsPermutation-sym}}
-use Rattle.std.proofs.lemmas.Map.Keys.{IsDistinct-IsPermutation, IsDistinct-cons, IsDistinct-head, IsDistinct-tail}
-use Rattle.std.specs.{BinaryHeap.{IsUpperBound, KeepsHeap, PopsGreatest}, List.{IsDistinct, cons_option, Sorted.IsPermutation}, Option.option_map}
-use Rattle.std.specs.{Ordering.is_lt, declared.cmp.Reverse.Reverse}
+use Rattle.std.{proofs.lemmas.{Bool.both_ways, List.Sorted.{IsPermutation-map, IsPermutation-sym}}, specs.BinaryHeap.{IsUpperBound, KeepsHeap, PopsGreatest}}
+use Rattle.std.{proofs.lemmas.Map.Keys.{IsDistinct-IsPermutation, IsDistinct-cons, IsDistinct-head, IsDistinct-tail}, specs.List.{IsDistinct, cons_option}}
+use Rattle.std.specs.{List.Sorted.IsPermutation, Option.option_map, Ordering.is_lt, declared.cmp.Reverse.Reverse}
 use Rattle.run_law.{proofs.records.Order.{given_of, is_given}, specs.records.Order.{IsBefore, IsIn}}
 use Rattle.slab.specs.Slab.{Slab, Updates, get}
 use Rattle.tte_lemmas.proofs.Naturals.{flips}
 use Rattle.world_state.proofs.queue_lemmas.{Bags.{all_apart, all_in, each_apart, in_permuted, length_map, permuted_map, same_map}, Orders.not_before}
-use Rattle.world_state.specs.{queue.Places.{IsFirst, numbers_of}, queue.Queues.{IsSound, entries_in, entry_at, entry_of, reversed}}
-use Rattle.world_state.specs.declared.queue.{Entry.Entry, Place.Place}
-use Rattle.world_state.specs.declared.queue.Slotted.{Slotted}
+use Rattle.world_state.specs.declared.queue.{DueAt.DueAt, Entry.Entry}
+use Rattle.world_state.specs.{declared.queue.Slotted.Slotted, queue.{Places.{IsFirst, numbers_of}, Queues.{IsSound, entries_in, entry_at, entry_of, reversed}}}
 
 abbrev pub slot_of : Reverse Slotted → ℕ
 slot_of r = r.0.slot
 
 module _ {T : Type 0} where
-  some_mapped : (place : Place) (o : Option T) → is_some o ≡ true → is_some (option_map (entry_at place) o) ≡ true
+  some_mapped : (place : DueAt) (o : Option T) → is_some o ≡ true → is_some (option_map (entry_at place) o) ≡ true
   some_mapped place None some = absurd (both_ways false refl some)
   some_mapped place (Some content) some = refl
 
   pub some_entry : (s : Slab T) (r : Reverse Slotted) → is_some (get s r.0.slot) ≡ true → is_some (entry_of s r) ≡ true
   some_entry s r some = some_mapped r.0.place (get s r.0.slot) some
 
-  place_or : Option (Entry T) → Place → Place
+  place_or : Option (Entry T) → DueAt → DueAt
   place_or None p = p
   place_or (Some e) p = e.place
 
-  place_mapped : (place : Place) (o : Option T) → place_or (option_map (entry_at place) o) place ≡ place
+  place_mapped : (place : DueAt) (o : Option T) → place_or (option_map (entry_at place) o) place ≡ place
   unfolding place_or
   place_mapped place None = refl
   place_mapped place (Some content) = refl
@@ -56,12 +54,12 @@ module _ {T : Type 0} where
         none = λ other inside before.
             let of = given_of (entry_of s) items other inside in
             not_before top of.0 (all_in (λ y. is_lt (reversed top y) ≡ false) items bound of.0 of.1)
-            (subst (λ (p : Place). IsBefore (numbers_of p) (numbers_of top.0.place)) (place_of_entry s of.0 other of.2) before);
+            (subst (λ (p : DueAt). IsBefore (numbers_of p) (numbers_of top.0.place)) (place_of_entry s of.0 other of.2) before);
       }
 
   -- ---- one is put in
 
-  module _ (old new : Slab T) (items after : List (Reverse Slotted)) (place : Place) (slot : ℕ) (content : T) (sound : IsSound old items)
+  module _ (old new : Slab T) (items after : List (Reverse Slotted)) (place : DueAt) (slot : ℕ) (content : T) (sound : IsSound old items)
       (vacant : get old slot ≡ None) (updates : Updates old new slot (Some content))
       (same : IsPermutation (record { 0 = record { place = place; slot = slot } } ∷ items) after) where
     no_other : (r : Reverse Slotted) → IsIn r items → r.0.slot ≢ slot

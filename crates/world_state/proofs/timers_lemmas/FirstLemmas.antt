@@ -1,10 +1,8 @@
 -- The root of a tree is the first of the times of its slots.
-use Rattle.std.proofs.Common.{◌*◌, ◌+◌, ◌<◌, ◌∙◌, ◌≡◌, ◌≤◌, List, ap, arith, drop, get_or, inl, inr, length, map, replicate, set, sym, ℕ}
+use Rattle.std.proofs.{Common.{◌*◌, ◌+◌, ◌<◌, ◌∙◌, ◌≡◌, ◌≤◌, List, ap, arith, drop, get_or, inl, inr, length, map, replicate, set, sym, ℕ}, lemmas.List.map-set}
 use Rattle.std.proofs.lemmas.List.{drop-set-add, drop-set-lt, ext_get_or, get_or-drop, get_or-map, get_or-replicate, length-drop, length-map, length-replicate}
-use Rattle.std.proofs.lemmas.List.{map-set}
-use Rattle.world_state.proofs.timers_lemmas.TreeLemmas.{IsTreeFrom, NotAfter, root_is_first, root_is_slot}
-use Rattle.world_state.specs.timers.{Times.{IsFirst, never}, Trees.{IsTree, node_at}}
-use Rattle.world_state.specs.declared.timers.Due.{Due}
+use Rattle.world_state.{proofs.timers_lemmas.TreeLemmas.{IsTreeFrom, NotAfter, root_is_first, root_is_slot}, specs.timers.Trees.{IsTree, node_at}}
+use Rattle.world_state.specs.{declared.timers.Due.Due, timers.Times.{IsFirst, never}}
 
 abbrev pub times_of : List Due → ℕ → List ℕ
 times_of nodes slots = map (λ (due : Due). due.time) (drop slots nodes)

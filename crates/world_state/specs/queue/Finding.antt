@@ -1,10 +1,10 @@
 -- What is found by its rank and its cause.
 use Rattle.std.specs.{Prelude.{◌≡◌, List, ℕ}, declared.cmp.Reverse.Reverse}
 use Rattle.run_law.specs.records.Order.{IsIn}
-use Rattle.world_state.specs.declared.queue.{Entry.Entry, Place.Place, Slotted.Slotted}
+use Rattle.world_state.specs.declared.queue.{Entry.Entry, DueAt.DueAt, Slotted.Slotted}
 
 -- the place has this rank and this cause
-abbrev pub IsPlaceFor : ℕ → ℕ → Place → Type 0
+abbrev pub IsPlaceFor : ℕ → ℕ → DueAt → Type 0
 IsPlaceFor rank cause place = (place.rank ≡ rank) × (place.cause ≡ cause)
 
 -- one of the places has this rank and this cause, and this slot

@@ -1,14 +1,14 @@
 -- The order of places.
 use Rattle.std.specs.Prelude.{◌∷◌, ◌≡◌, List, None, Option, Some, [], ℕ}
 use Rattle.run_law.specs.records.Order.{IsBefore, IsIn}
-use Rattle.world_state.specs.declared.queue.{Entry.Entry, Place.Place}
+use Rattle.world_state.specs.declared.queue.{Entry.Entry, DueAt.DueAt}
 
 -- the place as a list of numbers
-abbrev pub numbers_of : Place → List ℕ
+abbrev pub numbers_of : DueAt → List ℕ
 numbers_of p = p.at ∷ p.rank ∷ p.device ∷ p.link ∷ p.cause ∷ []
 
 -- one of them is at this place, and none before
-pub record IsFirst {T : Type 0} (entries : List (Entry T)) (place : Place) : Type 0 where
+pub record IsFirst {T : Type 0} (entries : List (Entry T)) (place : DueAt) : Type 0 where
   pub entry : Entry T
   pub there : IsIn entry entries
   pub at : entry.place ≡ place

@@ -1,11 +1,10 @@
 -- What is under way: the places in a heap, and what is due there in a slab.
-use Rattle.std.specs.{BinaryHeap.IsHeap, List.{IsDistinct, filter_map}, Option.option_map}
-use Rattle.std.specs.Ordering.{nat_cmp, ordering_then}
-use Rattle.std.specs.Prelude.{◌-◌, ◌≡◌, List, Option, is_some, map, min, nat_eq, true, ℕ}
-use Rattle.std.specs.declared.cmp.{Ordering.Ordering, Reverse.Reverse}
+use Rattle.std.specs.{BinaryHeap.IsHeap, Prelude.{◌-◌, ◌≡◌, List, Option, is_some, map, min, nat_eq, true, ℕ}}
+use Rattle.std.specs.{List.{IsDistinct, filter_map}, Option.option_map}
+use Rattle.std.specs.{Ordering.{nat_cmp, ordering_then}, declared.cmp.{Ordering.Ordering, Reverse.Reverse}}
 use Rattle.run_law.specs.records.Order.{IsIn}
 use Rattle.slab.specs.Slab.{Slab, get, slab_len}
-use Rattle.world_state.specs.declared.queue.{Entry.Entry, Place.Place, Slotted.Slotted}
+use Rattle.world_state.specs.declared.queue.{Entry.Entry, DueAt.DueAt, Slotted.Slotted}
 
 -- what is under way, and for how many more there is room
 pub record Queue (T : Type 0) : Type 0 where
@@ -13,7 +12,7 @@ pub record Queue (T : Type 0) : Type 0 where
   pub room : ℕ
 
 -- places as they are compared
-abbrev pub compared : Place → Place → Ordering
+abbrev pub compared : DueAt → DueAt → Ordering
 compared p q =
     ordering_then (nat_cmp p.at q.at)
     (ordering_then (nat_cmp p.rank q.rank)
@@ -25,7 +24,7 @@ abbrev pub reversed : Reverse Slotted → Reverse Slotted → Ordering
 reversed x y = ordering_then (compared y.0.place x.0.place) (nat_cmp y.0.slot x.0.slot)
 
 module _ {T : Type 0} where
-  abbrev pub entry_at : Place → T → Entry T
+  abbrev pub entry_at : DueAt → T → Entry T
   entry_at place content = record { place = place; content = content }
 
   -- what is due at the place, from its slot

@@ -1,5 +1,4 @@
-use Rattle.audit_sweep.proofs.Words.{scenario_under}
-use Rattle.audit_sweep.proofs.Comings.{comes, taken, takes}
+use Rattle.audit_sweep.proofs.{Comings.{comes, taken, takes}, Words.scenario_under}
 use Rattle.audit_sweep.proofs.arriving.is_taken.Goals as goal
 
 pub returns-in-Some : goal.returns-in-Some

@@ -1,5 +1,4 @@
-use Rattle.audit_sweep.proofs.Words.{scenario_under}
-use Rattle.audit_sweep.proofs.Comings.{coming}
+use Rattle.audit_sweep.proofs.{Comings.coming, Words.scenario_under}
 use Rattle.audit_sweep.proofs.arriving.signal.Goals as goal
 
 pub returns-in-Some : goal.returns-in-Some

@@ -1,7 +1,7 @@
 use Rattle.audit_sweep.proofs.Words.{ArrivesAs, BecomesPermanent, Happening, IsBodyOf, IsCaused, IsHeardBefore, IsIn, NoneLater, NoteBody, refl, scenario_under}
 use Rattle.audit_sweep.proofs.Words.{subst, sym, true, ℕ}
 use Rattle.std.{proofs.Common.◌↔◌, specs.Prelude.IsTrue}
-use Rattle.audit_law.{proofs.Numbered.by_number, specs.DueRecords.{ChangesState, IsCorrectedRecord}}
+use Rattle.audit_devices.{proofs.law_lemmas.Numbered.by_number, specs.law.DueRecords.{ChangesState, IsCorrectedRecord}}
 use Rattle.net_plan.specs.Belonging.{HasLink}
 use Rattle.run_law.specs.control.{Emissions.Emits, Leaving.{Departs, leaves}, Losses.{IsDispatchedOn, IsDropped, IsLost}, Permanence.ripe_as}
 use Rattle.run_law.specs.{runs.DueRecords.IsArrivedRecord, timed.Dispatching.Sends}

@@ -1,7 +1,6 @@
-use Rattle.audit_sweep.proofs.Words.{scenario_under, subst}
+use Rattle.audit_sweep.proofs.{Departures.one_departed, Words.{scenario_under, subst}}
 use Rattle.device_rules.specs.{Answers.departure_as, declared.leaving.Departed.Departed}
 use Rattle.run_law.{proofs.runs.SameSteps.same_departure, specs.control.Leaving.Departs}
-use Rattle.audit_sweep.proofs.Departures.{one_departed}
 use Rattle.audit_sweep.proofs.leaving.departs.Goals as goal
 
 pub returns-in-Some : goal.returns-in-Some

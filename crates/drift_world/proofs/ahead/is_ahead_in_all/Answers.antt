@@ -1,7 +1,5 @@
-use Rattle.std.proofs.Common.{◌↔◌, ◌∷◌, ◌≡◌, Bool, IsTrue, List, None, Option, Some, refl, ℕ}
-use Rattle.std.specs.Option.{option_map}
-use Rattle.plain_notes.proofs.Same.{behind_time}
-use Rattle.run_law.specs.records.Order.{is_before}
+use Rattle.std.{proofs.Common.{◌↔◌, ◌∷◌, ◌≡◌, Bool, IsTrue, List, None, Option, Some, refl, ℕ}, specs.Option.option_map}
+use Rattle.run_law.{proofs.plain_lemmas.Same.behind_time, specs.records.Order.is_before}
 use Rattle.world_state.specs.{Places.own_place, declared.contents.Settled.Settled}
 use Rattle.drift_world.specs.Turns.{IsAhead, own_numbers}
 use Rattle.drift_world.proofs.ahead.is_ahead_in_all.Goals as goal

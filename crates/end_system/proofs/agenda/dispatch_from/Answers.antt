@@ -1,5 +1,4 @@
-use Rattle.end_system.proofs.Words.{◌∙◌, sym}
-use Rattle.end_system.proofs.Values.{in_sync}
+use Rattle.end_system.proofs.{Values.in_sync, Words.{◌∙◌, sym}}
 use Rattle.end_system.proofs.agenda.dispatch_from.Goals as goal
 
 pub returns-then-is_synchronised-clause-next : goal.returns-then-is_synchronised-clause-next

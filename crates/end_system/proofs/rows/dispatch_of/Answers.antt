@@ -1,5 +1,4 @@
-use Rattle.end_system.proofs.Words.{◌*◌, ◌+◌, ◌∙◌, ◌≡◌, amount, amount_most, ap, arith, ℕ}
-use Rattle.end_system.proofs.RowSearch.{block_fits}
+use Rattle.end_system.proofs.{RowSearch.block_fits, Words.{◌*◌, ◌+◌, ◌∙◌, ◌≡◌, amount, amount_most, ap, arith, ℕ}}
 use Rattle.end_system.proofs.rows.dispatch_of.Goals as goal
 
 pub overflow_mul-value : goal.overflow_mul-value

@@ -2,18 +2,11 @@
 use Rattle.std.proofs.Common.{◌≡◌, ℕ, ◌^◌, ◌<◌, ◌≤◌, List, inl, inr, refl, sym, subst, arith}
 use Rattle.audit_devices.specs.events.Readings.{ReadsOn}
 use Rattle.lens.proofs.flows_lemmas.counts_lemmas.Fated.{AreCountsUpTo, AreUpTo, counted_on, few_more, few_still, passed_on}
-use Rattle.lens.specs.flows.counts.Counted.{AreBelow, IsCycleCounted, count_of}
-use Rattle.lens.specs.declared.flows.counts.counting.FateCounts.{FateCounts}
-use Rattle.lens.specs.flows.judge.Beginnings.{IsFirstBegun}
-use Rattle.lens.specs.flows.judge.Courses.{IsCourse, scenario_of}
-use Rattle.lens.specs.flows.judge.Flows.{IsFlow}
-use Rattle.lens.specs.declared.flows.judge.beginning.Begun.{Begun}
-use Rattle.lens.specs.declared.flows.judge.course.Course.{Course}
+use Rattle.lens.specs.{declared.flows.{counts.counting.FateCounts.FateCounts, judge.flow.Flow.Flow}, flows.counts.Counted.{AreBelow, IsCycleCounted, count_of}}
+use Rattle.lens.specs.{declared.flows.judge.{beginning.Begun.Begun, course.Course.Course, fate.Fate.Fate}, flows.judge.Courses.{IsCourse, scenario_of}}
+use Rattle.lens.specs.flows.judge.{Beginnings.IsFirstBegun, Flows.IsFlow}
 use Rattle.lens.specs.declared.flows.judge.fate.Fate.TheVariants as fates
-use Rattle.lens.specs.declared.flows.judge.fate.Fate.{Fate}
-use Rattle.lens.specs.declared.flows.judge.flow.Flow.{Flow}
-use Rattle.net_plan.specs.Ranges.{IsInRange}
-use Rattle.net_plan.specs.declared.event.Event.{Event}
+use Rattle.net_plan.specs.{Ranges.IsInRange, declared.event.Event.Event}
 use Rattle.run_law.specs.records.Happenings.{Happening}
 use Rattle.tte_lemmas.proofs.Integers.{amount_least}
 

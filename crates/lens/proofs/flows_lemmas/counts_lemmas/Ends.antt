@@ -1,8 +1,6 @@
 -- The greatest of two, and of all rows.
-use Rattle.std.proofs.Common.{◌≡◌, ◌⊎◌, ℕ, ◌+◌, ◌<◌, ◌≤◌, length, inl, inr, sym, subst, arith}
-use Rattle.std.proofs.lemmas.Bool.{cases_lt}
-use Rattle.std.proofs.lemmas.Option.{slice_get_within}
-use Rattle.std.specs.Prelude.{Option, Some, None, max}
+use Rattle.std.proofs.{Common.{◌+◌, ◌<◌, ◌≡◌, ◌≤◌, ◌⊎◌, arith, inl, inr, length, subst, sym, ℕ}, lemmas.{Bool.cases_lt, Option.slice_get_within}}
+use Rattle.std.specs.Prelude.{None, Option, Some, max}
 use Rattle.lens.specs.flows.counts.Greatest.{EndsAt, TellsGreatest, later_of}
 use Rattle.net_plan.specs.declared.{ids.{DeviceId.DeviceId, VlId.VlId}, network.Network.Network}
 use Rattle.run_law.specs.law.Safety.{IsWindowEnd}

@@ -1,20 +1,13 @@
 -- The flows of a network, one virtual link and one device after another.
-use Rattle.std.proofs.Common.{◌≡◌, ◌⊎◌, ℕ, ◌+◌, ◌≤◌, true, false, List, [], ◌∷◌, ◌++◌, length, inl, inr, refl, sym, ap, subst, ◌∙◌, arith}
-use Rattle.std.proofs.lemmas.Bool.{cases_lt, false≢true}
-use Rattle.std.proofs.lemmas.Option.{slice_get_within}
+use Rattle.std.proofs.Common.{◌++◌, ◌+◌, ◌∙◌, ◌∷◌, ◌≡◌, ◌≤◌, ◌⊎◌, List, [], ap, arith, false, inl, inr, length, refl, subst, sym, true, ℕ}
+use Rattle.std.{proofs.lemmas.{Bool.{cases_lt, false≢true}, Option.slice_get_within}, specs.Prelude.{IsSomeAnd, None, Option, Some, slice_get}}
 use Rattle.std.specs.Option.{option_map_or}
-use Rattle.std.specs.Prelude.{IsSomeAnd, Option, Some, None, slice_get}
-use Rattle.lens.proofs.flows_lemmas.counts_lemmas.Orders.{all_more, all_none, all_same}
-use Rattle.lens.specs.flows.counts.FlowLists.{AreFlows, IsFlowBefore}
-use Rattle.lens.specs.flows.counts.PartLists.{AreFlowsBefore, ComesBefore, IsFlowOf, IsTo}
-use Rattle.lens.proofs.flows_lemmas.judge_lemmas.Rows.{receiver_there}
-use Rattle.lens.specs.flows.judge.Flows.{IsFlow}
+use Rattle.lens.proofs.flows_lemmas.{counts_lemmas.Orders.{all_more, all_none, all_same}, judge_lemmas.Rows.receiver_there}
 use Rattle.lens.specs.declared.flows.judge.flow.Flow.{Flow}
-use Rattle.net_plan.specs.Bounds.{IsGreatest}
-use Rattle.net_plan.specs.Places.{IsEndSystem, device_at, is_end_system}
-use Rattle.net_plan.specs.declared.{ids.{DeviceId.DeviceId, VlId.VlId}, network.Network.Network, tables.{Device.Device, VirtualLink.VirtualLink}}
-use Rattle.run_law.specs.law.Safety.{IsWindowEnd}
-use Rattle.run_law.specs.scenario.Devices.{is_end}
+use Rattle.lens.specs.flows.{counts.{FlowLists.{AreFlows, IsFlowBefore}, PartLists.{AreFlowsBefore, ComesBefore, IsFlowOf, IsTo}}, judge.Flows.IsFlow}
+use Rattle.net_plan.specs.{Bounds.IsGreatest, declared.ids.{DeviceId.DeviceId, VlId.VlId}}
+use Rattle.net_plan.specs.{Places.{IsEndSystem, device_at, is_end_system}, declared.{network.Network.Network, tables.{Device.Device, VirtualLink.VirtualLink}}}
+use Rattle.run_law.specs.{law.Safety.IsWindowEnd, scenario.Devices.is_end}
 use Rattle.schedule_tables.specs.Windows.{window_end}
 
 pub no_flows : (network : Network) → AreFlowsBefore network 0 0 []

@@ -1,13 +1,7 @@
 -- The least distances of two kinds, and of all rows.
-use Rattle.std.proofs.Common.{◌≡◌, ◌⊎◌, ℕ, ◌+◌, ◌^◌, ◌<◌, ◌≤◌, ℤ, pos, length, inl, inr, sym, subst, arith}
-use Rattle.std.proofs.Common.{◌-ℤ◌}
-use Rattle.std.proofs.lemmas.Bool.{cases_lt}
-use Rattle.std.proofs.lemmas.Int.{ints}
-use Rattle.std.proofs.lemmas.Option.{slice_get_within}
-use Rattle.std.specs.Int.{int_rem_euclid}
-use Rattle.std.specs.Prelude.{Option, Some, None, min}
-use Rattle.lens.specs.flows.counts.Nearest.{IsInside, IsInsideRow, IsInsideSome, TellsLeast, nearer}
-use Rattle.lens.specs.declared.flows.counts.nearest.Nearest.{Nearest}
+use Rattle.std.proofs.{Common.{◌+◌, ◌-ℤ◌, ◌<◌, ◌^◌, ◌≡◌, ◌≤◌, ◌⊎◌, arith, inl, inr, length, pos, subst, sym, ℕ, ℤ}, lemmas.{Int.ints, Option.slice_get_within}}
+use Rattle.std.{proofs.lemmas.Bool.cases_lt, specs.{Int.int_rem_euclid, Prelude.{None, Option, Some, min}}}
+use Rattle.lens.specs.{declared.flows.counts.nearest.Nearest.Nearest, flows.counts.Nearest.{IsInside, IsInsideRow, IsInsideSome, TellsLeast, nearer}}
 use Rattle.lens.specs.declared.flows.judge.flow.Flow.{Flow}
 use Rattle.net_plan.specs.declared.{ids.LinkId.LinkId, network.Network.Network}
 use Rattle.schedule_tables.specs.declared.window.Window.{Window}

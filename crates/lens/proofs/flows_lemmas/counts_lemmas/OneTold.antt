@@ -1,24 +1,13 @@
 -- What is told of flows is one.
-use Rattle.std.proofs.Common.{◌≡◌, ℕ, ◌<◌, List, [], ◌∷◌, length, map, inl, inr, refl, sym, ap, subst, ◌∙◌, arith}
-use Rattle.std.proofs.lemmas.List.Elements.{All-head, All-tail}
-use Rattle.std.specs.Prelude.{All, Option, Some, None}
-use Rattle.lens.specs.flows.counts.Counted.{AreFateCounts, HasFateAt}
-use Rattle.lens.specs.flows.counts.Deliveries.{AreDeliveries, IsDeliveredWithin}
-use Rattle.lens.specs.flows.counts.FlowLists.{AreFlows, IsFlowBefore}
-use Rattle.lens.specs.flows.counts.Nearest.{TellsLeast}
-use Rattle.lens.specs.flows.counts.Ordered.{AreAll, IsCountOf, IsOrdered}
-use Rattle.lens.specs.flows.counts.Told.{IsTold}
-use Rattle.lens.specs.declared.flows.counts.counting.FateCounts.{FateCounts}
-use Rattle.lens.specs.declared.flows.counts.deliveries.{Deliveries.Deliveries, Delivery.Delivery}
-use Rattle.lens.specs.declared.flows.counts.nearest.Nearest.{Nearest}
-use Rattle.lens.specs.declared.flows.counts.told.FlowTold.{FlowTold}
-use Rattle.lens.specs.flows.judge.Flows.{IsFlow}
+use Rattle.std.proofs.{Common.{◌<◌, ◌∙◌, ◌∷◌, ◌≡◌, List, [], ap, arith, inl, inr, length, map, refl, subst, sym, ℕ}, lemmas.List.Elements.{All-head, All-tail}}
+use Rattle.std.specs.Prelude.{All, None, Option, Some}
+use Rattle.lens.specs.{declared.flows.counts.deliveries.{Deliveries.Deliveries, Delivery.Delivery}, flows.counts.Deliveries.{AreDeliveries, IsDeliveredWithin}}
+use Rattle.lens.specs.{declared.flows.counts.{counting.FateCounts.FateCounts, nearest.Nearest.Nearest}, flows.counts.Ordered.{AreAll, IsCountOf, IsOrdered}}
+use Rattle.lens.specs.{declared.flows.counts.told.FlowTold.FlowTold, flows.counts.{Counted.{AreFateCounts, HasFateAt}, FlowLists.{AreFlows, IsFlowBefore}}}
+use Rattle.lens.specs.{declared.flows.judge.flow.Flow.Flow, flows.{counts.{Nearest.TellsLeast, Told.IsTold}, judge.Flows.IsFlow}}
 use Rattle.lens.specs.declared.flows.judge.fate.Fate.TheVariants as fates
-use Rattle.lens.specs.declared.flows.judge.flow.Flow.{Flow}
 use Rattle.net_plan.specs.declared.network.Network.{Network}
-use Rattle.run_law.specs.records.Happenings.{Happening}
-use Rattle.run_law.specs.records.Order.{IsIn}
-use Rattle.run_law.specs.scenario.Scenarios.{Scenario}
+use Rattle.run_law.specs.{records.{Happenings.Happening, Order.IsIn}, scenario.Scenarios.Scenario}
 
 -- ---- two lists of all things of a kind are one
 

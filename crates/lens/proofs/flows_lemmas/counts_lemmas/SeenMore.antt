@@ -1,24 +1,13 @@
 -- What was seen of records, and one more.
-use Rattle.std.proofs.Common.{◌≡◌, List, [], ◌∷◌, ◌++◌, refl, sym, ap, subst, ◌∙◌}
-use Rattle.std.proofs.lemmas.List.{map-append}
-use Rattle.std.proofs.lemmas.List.Elements.{filter_map-append}
-use Rattle.std.specs.Prelude.{Option, Some, None, filter_map}
-use Rattle.audit_devices.specs.Effects.{subject_of}
-use Rattle.audit_devices.specs.Showing.{IsSteady}
-use Rattle.audit_devices.specs.events.Readings.{ReadsOn}
-use Rattle.audit_records.specs.Keeping.{record_of, records_of}
-use Rattle.audit_records.specs.declared.kept.KeptRecord.{KeptRecord}
-use Rattle.lens.specs.flows.counts.Deliveries.{deliveries_of, delivery_by}
-use Rattle.lens.specs.flows.counts.Seen.{some_delivery}
-use Rattle.lens.specs.declared.flows.counts.deliveries.Delivery.{Delivery}
-use Rattle.net_plan.specs.Belonging.{HasDevice}
-use Rattle.net_plan.specs.declared.{ids.DeviceId.DeviceId, network.Network.Network}
+use Rattle.std.proofs.{Common.{◌++◌, ◌∙◌, ◌∷◌, ◌≡◌, List, [], ap, refl, subst, sym}, lemmas.List.{Elements.filter_map-append, map-append}}
+use Rattle.std.specs.Prelude.{None, Option, Some, filter_map}
+use Rattle.audit_devices.specs.{Effects.subject_of, Showing.IsSteady, events.Readings.ReadsOn}
+use Rattle.audit_sweep.specs.{declared.records.kept.KeptRecord.KeptRecord, records.Keeping.{record_of, records_of}}
+use Rattle.lens.specs.{declared.flows.counts.deliveries.Delivery.Delivery, flows.counts.{Deliveries.{deliveries_of, delivery_by}, Seen.some_delivery}}
+use Rattle.net_plan.specs.{Belonging.HasDevice, declared.{ids.DeviceId.DeviceId, network.Network.Network}}
 use Rattle.report_text.specs.Ranges.{IsBodyOf}
-use Rattle.run_law.specs.declared.note.Note.{Note}
+use Rattle.run_law.specs.{declared.note.{Note.Note, NoteBody.NoteBody}, records.Happenings.Happening, scenario.Scenarios.Scenario}
 use Rattle.run_law.specs.declared.note.NoteBody.TheVariants as notes
-use Rattle.run_law.specs.declared.note.NoteBody.{NoteBody}
-use Rattle.run_law.specs.records.Happenings.{Happening}
-use Rattle.run_law.specs.scenario.Scenarios.{Scenario}
 use Rattle.tte_units.specs.Amount.{amount}
 
 -- what is kept goes on by what is kept of the next

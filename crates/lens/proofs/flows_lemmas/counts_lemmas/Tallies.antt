@@ -1,9 +1,6 @@
 -- How many times of a kind there are up to a time.
-use Rattle.std.proofs.Common.{◌≡◌, ℕ, ◌+◌, ◌<◌, ◌≤◌, List, [], ◌∷◌, ◌++◌, length, inl, inr, refl, arith}
-use Rattle.std.proofs.lemmas.Bool.{cases_lt}
-use Rattle.std.proofs.lemmas.List.{length-append}
-use Rattle.lens.proofs.flows_lemmas.counts_lemmas.Orders.{all_more, all_none, all_same}
-use Rattle.lens.specs.flows.counts.Ordered.{AreTimes, IsCountOf}
+use Rattle.std.proofs.{Common.{◌++◌, ◌+◌, ◌<◌, ◌∷◌, ◌≡◌, ◌≤◌, List, [], arith, inl, inr, length, refl, ℕ}, lemmas.{Bool.cases_lt, List.length-append}}
+use Rattle.lens.{proofs.flows_lemmas.counts_lemmas.Orders.{all_more, all_none, all_same}, specs.flows.counts.Ordered.{AreTimes, IsCountOf}}
 use Rattle.lens.specs.flows.judge.Times.{NoneWithin}
 
 abbrev pub IsSoUpTo : (ℕ → Type 0) → ℕ → ℕ → Type 0

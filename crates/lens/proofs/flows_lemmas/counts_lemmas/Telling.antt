@@ -1,13 +1,8 @@
 -- What is told of flows, and of one more.
-use Rattle.std.proofs.Common.{◌≡◌, ℕ, List, [], ◌∷◌, ◌++◌, refl, sym, ap, subst, ◌∙◌}
-use Rattle.std.proofs.lemmas.List.{map-append}
-use Rattle.std.proofs.lemmas.List.Elements.{All-append, All-cons, All-nil}
+use Rattle.std.proofs.{Common.{◌++◌, ◌∙◌, ◌∷◌, ◌≡◌, List, [], ap, refl, subst, sym, ℕ}, lemmas.List.{Elements.{All-append, All-cons, All-nil}, map-append}}
+use Rattle.lens.specs.declared.flows.{counts.{deliveries.Delivery.Delivery, told.FlowTold.FlowTold}, judge.flow.Flow.Flow}
 use Rattle.lens.specs.flows.counts.Told.{AreToldOf, IsTold}
-use Rattle.lens.specs.declared.flows.counts.deliveries.Delivery.{Delivery}
-use Rattle.lens.specs.declared.flows.counts.told.FlowTold.{FlowTold}
-use Rattle.lens.specs.declared.flows.judge.flow.Flow.{Flow}
-use Rattle.run_law.specs.records.Happenings.{Happening}
-use Rattle.run_law.specs.scenario.Scenarios.{Scenario}
+use Rattle.run_law.specs.{records.Happenings.Happening, scenario.Scenarios.Scenario}
 
 pub none_told : (s : Scenario) (hs : List Happening) (until : ℕ) (ds : List Delivery) (told : List FlowTold) → told ≡ [] → AreToldOf s hs until ds [] told
 none_told s hs until ds told none =

@@ -1,17 +1,11 @@
 -- When a clock reaches a value where its device is synchronised.
-use Rattle.std.proofs.Common.{◌≡◌, ℕ, zero, suc, ◌+◌, ◌*◌, ◌<◌, ◌≤◌, ℤ, pos, Bool, true, false, List, inl, inr, refl, sym, ap, subst, arith}
-use Rattle.std.proofs.lemmas.Bool.{cases_lt, false≢true}
-use Rattle.std.proofs.lemmas.Int.{ints}
-use Rattle.std.specs.Prelude.{◌↔◌, IsTrue, MatchBool}
+use Rattle.std.proofs.Common.{◌*◌, ◌+◌, ◌<◌, ◌≡◌, ◌≤◌, Bool, List, ap, arith, false, inl, inr, pos, refl, subst, suc, sym, true, zero, ℕ, ℤ}
+use Rattle.std.{proofs.lemmas.{Bool.{cases_lt, false≢true}, Int.ints}, specs.Prelude.{◌↔◌, IsTrue, MatchBool}}
 use Rattle.audit_devices.proofs.clocks_lemmas.Reached.{changed_early}
-use Rattle.lens.specs.flows.judge.Fates.{HasComeInStep, ReachesInStep}
-use Rattle.lens.specs.flows.judge.Times.{IsFirstTime, NoneWithin}
+use Rattle.lens.specs.flows.judge.{Fates.{HasComeInStep, ReachesInStep}, Times.{IsFirstTime, NoneWithin}}
 use Rattle.net_plan.specs.declared.ids.DeviceId.{DeviceId}
-use Rattle.run_law.specs.device.LocalClocks.{Reaches, changed_at}
-use Rattle.run_law.specs.device.States.{state_after}
+use Rattle.run_law.specs.{device.{LocalClocks.{Reaches, changed_at}, States.state_after}, records.Happenings.{Happening, up_to}, scenario.Scenarios.Scenario}
 use Rattle.run_law.specs.law.Safety.{ReachesPlace}
-use Rattle.run_law.specs.records.Happenings.{Happening, up_to}
-use Rattle.run_law.specs.scenario.Scenarios.{Scenario}
 use Rattle.sync_state.specs.declared.state.State.TheVariants.{Synchronised}
 use Rattle.tte_units.specs.Amount.{amount}
 

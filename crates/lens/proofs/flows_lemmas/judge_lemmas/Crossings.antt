@@ -1,19 +1,11 @@
 -- When a clock reaches one value, while the same is shown of its device.
-use Rattle.std.proofs.Common.{◌≡◌, ℕ, ◌+◌, ◌-◌, ◌≤◌, ℤ, List, refl, sym, subst, arith}
-use Rattle.std.proofs.lemmas.Int.{ints}
-use Rattle.audit_unpaid.specs.points.Kept.{ShowsWithin}
-use Rattle.audit_devices.proofs.clocks_lemmas.Reached.{come_reaches, reaches_come}
-use Rattle.audit_devices.specs.clocks.Finding.{CrossesAt, IsNextCrossing, NoneCrossed, value_in}
-use Rattle.audit_devices.specs.declared.clocks.finding.Crossed.{Crossed}
-use Rattle.audit_devices.specs.declared.clocks.finding.Series.{Series}
-use Rattle.audit_devices.specs.events.Readings.{ReadsOn}
-use Rattle.lens.specs.flows.judge.Times.{IsFirstTime, NoneWithin}
-use Rattle.lens.specs.flows.judge.Values.{values_from}
+use Rattle.std.proofs.{Common.{◌+◌, ◌-◌, ◌≡◌, ◌≤◌, List, arith, refl, subst, sym, ℕ, ℤ}, lemmas.Int.ints}
+use Rattle.audit_sweep.specs.unpaid.points.Kept.{ShowsWithin}
+use Rattle.audit_devices.{proofs.clocks_lemmas.Reached.{come_reaches, reaches_come}, specs.clocks.Finding.{CrossesAt, IsNextCrossing, NoneCrossed, value_in}}
+use Rattle.audit_devices.specs.{Showing.{Shown, Shows}, declared.clocks.finding.{Crossed.Crossed, Series.Series}, events.Readings.ReadsOn}
+use Rattle.lens.specs.flows.judge.{Times.{IsFirstTime, NoneWithin}, Values.values_from}
 use Rattle.net_plan.specs.declared.ids.DeviceId.{DeviceId}
-use Rattle.audit_devices.specs.Showing.{Shown, Shows}
-use Rattle.run_law.specs.device.LocalClocks.{Reaches}
-use Rattle.run_law.specs.records.Happenings.{Happening, earlier}
-use Rattle.run_law.specs.scenario.Scenarios.{Scenario}
+use Rattle.run_law.specs.{device.LocalClocks.Reaches, records.Happenings.{Happening, earlier}, scenario.Scenarios.Scenario}
 
 first_value : (v : ℤ) → value_in (values_from v) 0 ≡ v
 first_value v = omega (arith, ints)

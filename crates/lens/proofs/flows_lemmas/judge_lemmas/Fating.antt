@@ -1,15 +1,9 @@
 -- What owing comes to, and what becomes of a flow where it is not owed.
-use Rattle.std.proofs.Common.{◌≡◌, ◌⊎◌, ℕ, ◌+◌, ◌*◌, ◌<◌, ◌≤◌, pos, List, inl, inr, refl, sym, subst, arith}
-use Rattle.std.proofs.lemmas.Bool.{cases_lt}
-use Rattle.lens.specs.flows.judge.Fates.{Ends, IsBegun, IsOwedFrom, IsReady, IsSent, StaysInStep}
-use Rattle.lens.specs.flows.judge.Flows.{IsFlow}
-use Rattle.lens.specs.flows.judge.Times.{IsFirstTime, NoneWithin}
+use Rattle.std.proofs.{Common.{◌*◌, ◌+◌, ◌<◌, ◌≡◌, ◌≤◌, ◌⊎◌, List, arith, inl, inr, pos, refl, subst, sym, ℕ}, lemmas.Bool.cases_lt}
 use Rattle.lens.specs.declared.flows.judge.flow.Flow.{Flow}
+use Rattle.lens.specs.flows.judge.{Fates.{Ends, IsBegun, IsOwedFrom, IsReady, IsSent, StaysInStep}, Flows.IsFlow, Times.{IsFirstTime, NoneWithin}}
 use Rattle.net_plan.specs.Bounds.{IsGreatest}
-use Rattle.run_law.specs.device.LocalClocks.{Reaches}
-use Rattle.run_law.specs.law.Safety.{IsWindowEnd, ReachesPlace}
-use Rattle.run_law.specs.records.Happenings.{Happening}
-use Rattle.run_law.specs.scenario.Scenarios.{Scenario}
+use Rattle.run_law.specs.{device.LocalClocks.Reaches, law.Safety.{IsWindowEnd, ReachesPlace}, records.Happenings.Happening, scenario.Scenarios.Scenario}
 use Rattle.tte_units.specs.Amount.{amount}
 
 greatest_le : (Has : ℕ → Type 0) (m n : ℕ) → IsGreatest Has m → IsGreatest Has n → m ≤ n

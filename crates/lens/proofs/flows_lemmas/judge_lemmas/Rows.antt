@@ -1,19 +1,10 @@
 -- The rows by which the sender of a flow sends.
-use Rattle.std.proofs.Common.{◌≡◌, ℕ, ◌+◌, ◌<◌, ◌≤◌, true, List, length, inl, inr, refl, sym, subst, arith}
-use Rattle.std.proofs.lemmas.Bool.{cases_lt}
-use Rattle.std.proofs.lemmas.Option.{slice_get_within}
+use Rattle.std.proofs.{Common.{◌+◌, ◌<◌, ◌≡◌, ◌≤◌, List, arith, inl, inr, length, refl, subst, sym, true, ℕ}, lemmas.{Bool.cases_lt, Option.slice_get_within}}
 use Rattle.std.specs.Prelude.{IsSomeAnd, None, Option, Some, slice_get}
-use Rattle.lens.specs.flows.judge.Fates.{IsRowSent}
-use Rattle.lens.specs.flows.judge.Flows.{IsFlow}
-use Rattle.lens.specs.declared.flows.judge.flow.Flow.{Flow}
-use Rattle.net_plan.specs.Belonging.{HasDevice}
-use Rattle.net_plan.specs.Places.{device_at, is_end_system}
-use Rattle.net_plan.specs.Ranges.{IsInRange, IsVlInRange}
-use Rattle.net_plan.specs.declared.ids.DeviceId.{DeviceId}
-use Rattle.net_plan.specs.declared.network.Network.{Network}
-use Rattle.net_plan.specs.declared.tables.Device.{Device}
-use Rattle.run_law.specs.records.Happenings.{Happening}
-use Rattle.run_law.specs.scenario.Scenarios.{Scenario}
+use Rattle.lens.specs.{declared.flows.judge.flow.Flow.Flow, flows.judge.{Fates.IsRowSent, Flows.IsFlow}}
+use Rattle.net_plan.specs.{Belonging.HasDevice, declared.tables.Device.Device}
+use Rattle.net_plan.specs.{Places.{device_at, is_end_system}, Ranges.{IsInRange, IsVlInRange}, declared.{ids.DeviceId.DeviceId, network.Network.Network}}
+use Rattle.run_law.specs.{records.Happenings.Happening, scenario.Scenarios.Scenario}
 use Rattle.tte_lemmas.proofs.Lists.{in_all}
 
 pub sender_there : (network : Network) (flow : Flow) → IsInRange network → IsFlow network flow → HasDevice network flow.of_vl.sender

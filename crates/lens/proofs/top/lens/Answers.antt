@@ -1,9 +1,8 @@
 use Rattle.std.proofs.Common.{◌≡◌, None, Some, rules}
-use Rattle.lens_slack.specs.{forms.Forms.form_of, declared.forms.form.Form.TheVariants.{Draw, DrawWhole, Events, Flows, Least, Slack, SlackOf, Why}}
-use Rattle.lens_why.specs.Answer.{IsWhyStatus}
+use Rattle.lens.{proofs.TopAnswers.words_as, specs.why.Answer.IsWhyStatus}
+use Rattle.lens.specs.{declared.slack.forms.form.Form.TheVariants.{Draw, DrawWhole, Events, Flows, Least, Slack, SlackOf, Why}, slack.forms.Forms.form_of}
 use Rattle.tte_forms.{proofs.Facts.no_usage, specs.{Putting.shown_by, networks.Checking.IsCheckStatus}}
-use Rattle.tte_reports.specs.Answer.{IsAuditStatus}
-use Rattle.lens.proofs.TopAnswers.{words_as}
+use Rattle.tte_traces.specs.reports.Answer.{IsAuditStatus}
 use Rattle.lens.proofs.top.lens.Goals as goal
 
 pub returns-in-Some-Slack-clause-general : goal.returns-in-Some-Slack-clause-general

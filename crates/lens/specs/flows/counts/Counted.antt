@@ -1,16 +1,11 @@
 -- How many cycles of a flow have each fate.
 use Rattle.std.specs.Prelude.{◌≡◌, ◌⊎◌, ◌<◌, ℕ, ◌+◌, List}
+use Rattle.lens.specs.declared.flows.{counts.counting.FateCounts.FateCounts, judge.beginning.Begun.Begun}
+use Rattle.lens.specs.{declared.flows.judge.course.Course.Course, flows.judge.Courses.{IsCourse, scenario_of}}
+use Rattle.lens.specs.{declared.flows.judge.{fate.Fate.Fate, flow.Flow.Flow}, flows.judge.Fates.{HasFate, IsBegun}}
 use Rattle.lens.specs.flows.counts.Ordered.{IsCountOf}
-use Rattle.lens.specs.declared.flows.counts.counting.FateCounts.{FateCounts}
-use Rattle.lens.specs.flows.judge.Courses.{IsCourse, scenario_of}
-use Rattle.lens.specs.flows.judge.Fates.{HasFate, IsBegun}
-use Rattle.lens.specs.declared.flows.judge.beginning.Begun.{Begun}
-use Rattle.lens.specs.declared.flows.judge.course.Course.{Course}
 use Rattle.lens.specs.declared.flows.judge.fate.Fate.TheVariants as fates
-use Rattle.lens.specs.declared.flows.judge.fate.Fate.{Fate}
-use Rattle.lens.specs.declared.flows.judge.flow.Flow.{Flow}
-use Rattle.run_law.specs.records.Happenings.{Happening}
-use Rattle.run_law.specs.scenario.Scenarios.{Scenario}
+use Rattle.run_law.specs.{records.Happenings.Happening, scenario.Scenarios.Scenario}
 use Rattle.schedule_tables.specs.Windows.{OccursIn}
 use Rattle.net_plan.specs.declared.event.Event.{Event}
 

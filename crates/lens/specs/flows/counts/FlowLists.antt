@@ -1,8 +1,6 @@
 -- The flows of a network, in their order.
 use Rattle.std.specs.Prelude.{◌≡◌, ◌⊎◌, ◌<◌, List}
-use Rattle.lens.specs.flows.counts.Ordered.{AreAll}
-use Rattle.lens.specs.flows.judge.Flows.{IsFlow}
-use Rattle.lens.specs.declared.flows.judge.flow.Flow.{Flow}
+use Rattle.lens.specs.{declared.flows.judge.flow.Flow.Flow, flows.{counts.Ordered.AreAll, judge.Flows.IsFlow}}
 use Rattle.net_plan.specs.declared.network.Network.{Network}
 
 -- the first flow stands before the second: by the virtual link, and then by the receiver

@@ -1,10 +1,7 @@
 -- The greatest number of a kind.
 use Rattle.std.specs.Prelude.{ℕ, ◌≤◌, Option, MatchOption, Some, None, max, ◌≡◌}
-use Rattle.net_plan.specs.declared.ids.{DeviceId.DeviceId, VlId.VlId}
-use Rattle.net_plan.specs.declared.network.Network.{Network}
-use Rattle.schedule_tables.specs.Entries.{IsEntry, target_of}
-use Rattle.schedule_tables.specs.Windows.{window_end}
-use Rattle.schedule_tables.specs.declared.entry.Entry.{Entry}
+use Rattle.net_plan.specs.declared.{ids.{DeviceId.DeviceId, VlId.VlId}, network.Network.Network}
+use Rattle.schedule_tables.specs.{Entries.{IsEntry, target_of}, Windows.window_end, declared.entry.Entry.Entry}
 
 -- the greatest number of the kind, or none where there is none
 abbrev pub TellsGreatest : (ℕ → Type 0) → Option ℕ → Type 0

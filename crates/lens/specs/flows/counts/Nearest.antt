@@ -1,16 +1,11 @@
 -- How near the deliveries of a flow come to the ends of their windows.
 use Rattle.std.specs.Prelude.{◌≡◌, ℕ, ◌≤◌, ℤ, pos, ◌-ℤ◌, List, Option, Some, None, min}
-use Rattle.lens.specs.declared.flows.counts.nearest.Nearest.{Nearest}
-use Rattle.lens.specs.declared.flows.judge.flow.Flow.{Flow}
-use Rattle.net_plan.specs.declared.ids.{DeviceId.DeviceId, LinkId.LinkId}
-use Rattle.net_plan.specs.declared.network.Network.{Network}
-use Rattle.run_law.specs.device.LocalClocks.{local_before}
-use Rattle.run_law.specs.device.Standpoints.{offset_in_cycle}
-use Rattle.run_law.specs.records.Happenings.{Happening}
+use Rattle.lens.specs.declared.flows.{counts.nearest.Nearest.Nearest, judge.flow.Flow.Flow}
+use Rattle.net_plan.specs.declared.{ids.{DeviceId.DeviceId, LinkId.LinkId}, network.Network.Network}
+use Rattle.run_law.specs.{device.{LocalClocks.local_before, Standpoints.offset_in_cycle}, records.Happenings.Happening}
 use Rattle.run_law.specs.scenario.Scenarios.{Scenario}
-use Rattle.schedule_tables.specs.Entries.{IsEntry, target_of}
+use Rattle.schedule_tables.specs.{Entries.{IsEntry, target_of}, declared.{entry.Entry.Entry, window.Window.Window}}
 use Rattle.schedule_tables.specs.Windows.{window_of}
-use Rattle.schedule_tables.specs.declared.{entry.Entry.Entry, window.Window.Window}
 
 -- the place lies so far behind the beginning of the window, and so far before its end
 pub record IsInside (window : Window) (place : ℤ) (early late : ℕ) : Type 0 where

@@ -1,8 +1,7 @@
 -- The flows of a network, as far as they have come.
 use Rattle.std.specs.Prelude.{◌≡◌, ◌⊎◌, ◌<◌, ℕ, List, Option, MatchOption}
-use Rattle.lens.specs.flows.counts.{FlowLists.IsFlowBefore, Ordered.AreAll}
+use Rattle.lens.specs.{declared.flows.judge.flow.Flow.Flow, flows.counts.{FlowLists.IsFlowBefore, Ordered.AreAll}}
 use Rattle.lens.specs.flows.judge.Flows.{IsFlow}
-use Rattle.lens.specs.declared.flows.judge.flow.Flow.{Flow}
 use Rattle.net_plan.specs.declared.{ids.{DeviceId.DeviceId, VlId.VlId}, network.Network.Network}
 
 -- a flow of an earlier virtual link, or of this one to an earlier device

@@ -1,14 +1,11 @@
 -- What the records of a report so far show.
 use Rattle.std.specs.Prelude.{◌≡◌, List, [], ◌∷◌, length, Option, Some, None}
-use Rattle.audit_devices.specs.Keeping.{Stands, device_count}
-use Rattle.audit_devices.specs.events.Readings.{scenario_under}
-use Rattle.audit_records.specs.Keeping.{records_of}
-use Rattle.lens.specs.flows.counts.Deliveries.{deliveries_of}
-use Rattle.lens.specs.declared.flows.counts.deliveries.Delivery.{Delivery}
+use Rattle.audit_devices.specs.{Keeping.{Stands, device_count}, events.Readings.scenario_under}
+use Rattle.audit_sweep.specs.records.Keeping.{records_of}
+use Rattle.lens.specs.{declared.flows.counts.deliveries.Delivery.Delivery, flows.counts.Deliveries.deliveries_of}
 use Rattle.lens.specs.declared.flows.counts.seen.Seen.{Seen}
 use Rattle.net_plan.specs.declared.{event.Event.Event, network.Network.Network}
-use Rattle.run_law.specs.declared.note.Note.{Note}
-use Rattle.run_law.specs.records.Happenings.{happenings}
+use Rattle.run_law.specs.{declared.note.Note.Note, records.Happenings.happenings}
 
 -- the delivery, if there is one
 abbrev pub some_delivery : Option Delivery → List Delivery

@@ -1,12 +1,9 @@
 -- What is told of each flow.
 use Rattle.std.specs.Prelude.{◌≡◌, List, ℕ, All, map}
+use Rattle.lens.specs.declared.flows.counts.{deliveries.Delivery.Delivery, told.FlowTold.FlowTold}
+use Rattle.lens.specs.{declared.flows.judge.flow.Flow.Flow, flows.counts.Deliveries.AreDeliveries}
 use Rattle.lens.specs.flows.counts.Counted.{AreFateCounts}
-use Rattle.lens.specs.flows.counts.Deliveries.{AreDeliveries}
-use Rattle.lens.specs.declared.flows.counts.deliveries.Delivery.{Delivery}
-use Rattle.lens.specs.declared.flows.counts.told.FlowTold.{FlowTold}
-use Rattle.lens.specs.declared.flows.judge.flow.Flow.{Flow}
-use Rattle.run_law.specs.records.Happenings.{Happening}
-use Rattle.run_law.specs.scenario.Scenarios.{Scenario}
+use Rattle.run_law.specs.{records.Happenings.Happening, scenario.Scenarios.Scenario}
 
 -- so much is counted of the flow
 pub record IsTold (s : Scenario) (hs : List Happening) (until : ℕ) (ds : List Delivery) (told : FlowTold) : Type 0 where

@@ -1,11 +1,8 @@
 -- The cycles that a device's clock begins.
 use Rattle.std.specs.Prelude.{ℕ, ◌+◌, ◌≤◌, List, Option, MatchOption}
-use Rattle.lens.specs.flows.judge.Times.{IsFirstTime, NoneWithin}
-use Rattle.lens.specs.declared.flows.judge.beginning.Begun.{Begun}
+use Rattle.lens.specs.{declared.flows.judge.beginning.Begun.Begun, flows.judge.Times.{IsFirstTime, NoneWithin}}
 use Rattle.net_plan.specs.declared.ids.DeviceId.{DeviceId}
-use Rattle.run_law.specs.law.Safety.{ReachesPlace}
-use Rattle.run_law.specs.records.Happenings.{Happening}
-use Rattle.run_law.specs.scenario.Scenarios.{Scenario}
+use Rattle.run_law.specs.{law.Safety.ReachesPlace, records.Happenings.Happening, scenario.Scenarios.Scenario}
 
 -- the device's clock begins the cycle, which is not the silent one, at the time
 pub record BeginsCycle (s : Scenario) (hs : List Happening) (device : DeviceId) (t cycle : ℕ) : Type 0 where

@@ -1,13 +1,9 @@
 -- What is known of a run.
 use Rattle.std.specs.Prelude.{◌≡◌, ◌≤◌, ◌^◌, List, length}
-use Rattle.audit_devices.specs.events.Readings.{scenario_under}
-use Rattle.audit_devices.specs.events.Remembering.{Remembers}
+use Rattle.audit_devices.specs.{Keeping.{Stands, device_count}, events.{Readings.scenario_under, Remembering.Remembers}}
 use Rattle.lens.specs.declared.flows.judge.course.Course.{Course}
-use Rattle.net_plan.specs.Ranges.{IsInRange}
-use Rattle.net_plan.specs.declared.event.Event.{Event}
-use Rattle.audit_devices.specs.Keeping.{Stands, device_count}
-use Rattle.run_law.specs.records.Happenings.{Happening}
-use Rattle.run_law.specs.scenario.Scenarios.{Scenario}
+use Rattle.net_plan.specs.{Ranges.IsInRange, declared.event.Event.Event}
+use Rattle.run_law.specs.{records.Happenings.Happening, scenario.Scenarios.Scenario}
 
 -- the network under the events
 abbrev pub scenario_of : Course → List Event → Scenario

@@ -1,16 +1,11 @@
 -- What becomes of a flow in a cycle that its receiver's clock begins: delivery is owed, or why it is not.
 use Rattle.std.specs.Prelude.{◌≡◌, ℕ, ◌<◌, ◌≤◌, false, List}
 use Rattle.lens.specs.declared.flows.judge.fate.Fate.TheVariants as fates
-use Rattle.lens.specs.declared.flows.judge.fate.Fate.{Fate}
-use Rattle.lens.specs.declared.flows.judge.flow.Flow.{Flow}
+use Rattle.lens.specs.declared.flows.judge.{fate.Fate.Fate, flow.Flow.Flow}
 use Rattle.net_plan.specs.declared.ids.DeviceId.{DeviceId}
-use Rattle.run_law.specs.device.States.{state_after}
-use Rattle.run_law.specs.law.Safety.{IsInStep, IsOwed, ReachesPlace}
-use Rattle.run_law.specs.records.Happenings.{Happening, up_to}
-use Rattle.run_law.specs.scenario.Scenarios.{Scenario, is_broken}
-use Rattle.schedule_tables.specs.Entries.{IsEntry, source_of}
-use Rattle.schedule_tables.specs.Windows.{OccursIn}
-use Rattle.schedule_tables.specs.declared.entry.Entry.{Entry}
+use Rattle.run_law.specs.{device.States.state_after, records.Happenings.{Happening, up_to}}
+use Rattle.run_law.specs.{law.Safety.{IsInStep, IsOwed, ReachesPlace}, scenario.Scenarios.{Scenario, is_broken}}
+use Rattle.schedule_tables.specs.{Entries.{IsEntry, source_of}, Windows.OccursIn, declared.entry.Entry.Entry}
 use Rattle.sync_state.specs.declared.state.State.TheVariants.{Synchronised}
 use Rattle.tte_units.specs.Amount.{amount}
 

@@ -1,9 +1,7 @@
 -- The flows of a network: each virtual link with each of its receivers.
 use Rattle.std.specs.Prelude.{◌≡◌, Some, slice_get}
 use Rattle.lens.specs.declared.flows.judge.flow.Flow.{Flow}
-use Rattle.net_plan.specs.Bounds.{IsGreatest}
-use Rattle.net_plan.specs.Places.{IsEndSystem}
-use Rattle.net_plan.specs.declared.network.Network.{Network}
+use Rattle.net_plan.specs.{Bounds.IsGreatest, Places.IsEndSystem, declared.network.Network.Network}
 use Rattle.run_law.specs.law.Safety.{IsRowInto, IsWindowEnd}
 use Rattle.schedule_tables.specs.declared.entry.Entry.{Entry}
 

@@ -1,19 +1,17 @@
 //! The cycles that a device's clock begins.
 
 ghost use Rattle.std.specs.Prelude.{◌≡◌, ◌≤◌, ◌^◌, List};
-ghost use Rattle.audit_unpaid.specs.points.Kept.{ShowsWithin};
+ghost use Rattle.audit_sweep.specs.unpaid.points.Kept.{ShowsWithin};
 ghost use Rattle.audit_devices.specs.events.Remembering.{RemembersSome};
-ghost use Rattle.lens.specs.flows.judge.Beginnings.{IsNextBegun};
-ghost use Rattle.lens.specs.flows.judge.Courses.{IsCourse, IsFit, IsSomeCourse, scenario_of};
-ghost use Rattle.net_plan.specs.Belonging.{HasDevice};
-ghost use Rattle.net_plan.specs.declared.event.Event.{Event};
+ghost use Rattle.lens.specs.flows.judge.{Beginnings.IsNextBegun, Courses.{IsCourse, IsFit, IsSomeCourse, scenario_of}};
+ghost use Rattle.net_plan.specs.{Belonging.HasDevice, declared.event.Event.Event};
 ghost use Rattle.run_law.specs.records.Happenings.{Happening};
 
 use crate::flows::judge::Course;
 use audit_devices::Shown;
 use audit_devices::clocks::{beginnings, next_crossing};
 use audit_devices::events::reading_law;
-use audit_unpaid::points::end_of;
+use audit_sweep::unpaid::points::end_of;
 use net_plan::DeviceId;
 
 /// A cycle that a device's clock begins, and when.

@@ -1,9 +1,8 @@
 //! What becomes of a flow in a cycle.
 
 ghost use Rattle.std.specs.Prelude.{◌≡◌, ◌↔◌, ◌≤◌, ◌^◌, List, IsTrue};
-ghost use Rattle.lens.specs.flows.judge.Courses.{IsCourse, IsFit, IsSomeCourse, scenario_of};
+ghost use Rattle.lens.specs.flows.judge.{Courses.{IsCourse, IsFit, IsSomeCourse, scenario_of}, Flows.IsFlow};
 ghost use Rattle.lens.specs.flows.judge.Fates.{HasFate, IsBegun, IsOwedFrom};
-ghost use Rattle.lens.specs.flows.judge.Flows.{IsFlow};
 ghost use Rattle.net_plan.specs.declared.event.Event.{Event};
 ghost use Rattle.run_law.specs.records.Happenings.{Happening};
 

@@ -1,23 +1,19 @@
 //! When a device's clock reaches a place of a cycle.
 
 ghost use Rattle.std.specs.Prelude.{◌≡◌, ◌+◌, ◌*◌, ◌≤◌, ◌^◌, List, pos};
-ghost use Rattle.audit_unpaid.specs.points.Kept.{ShowsWithin};
+ghost use Rattle.audit_sweep.specs.unpaid.points.Kept.{ShowsWithin};
 ghost use Rattle.audit_devices.specs.clocks.Finding.{IsSeries};
-ghost use Rattle.lens.specs.flows.judge.Courses.{IsCourse, IsFit, IsSomeCourse, scenario_of};
-ghost use Rattle.lens.specs.flows.judge.Times.{TellsFirstTime};
+ghost use Rattle.lens.specs.flows.judge.{Courses.{IsCourse, IsFit, IsSomeCourse, scenario_of}, Times.TellsFirstTime};
 ghost use Rattle.lens.specs.flows.judge.Values.{values_from};
-ghost use Rattle.net_plan.specs.Belonging.{HasDevice};
-ghost use Rattle.net_plan.specs.Ranges.{IsInRange};
-ghost use Rattle.net_plan.specs.declared.event.Event.{Event};
-ghost use Rattle.run_law.specs.law.Safety.{ReachesPlace};
-ghost use Rattle.run_law.specs.records.Happenings.{Happening};
+ghost use Rattle.net_plan.specs.{Belonging.HasDevice, Ranges.IsInRange, declared.event.Event.Event};
+ghost use Rattle.run_law.specs.{law.Safety.ReachesPlace, records.Happenings.Happening};
 ghost use Rattle.tte_units.specs.Amount.{amount};
 
 use crate::flows::judge::Course;
 use audit_devices::Shown;
 use audit_devices::clocks::{Series, next_crossing};
 use audit_devices::events::reading_law;
-use audit_unpaid::points::end_of;
+use audit_sweep::unpaid::points::end_of;
 use net_plan::{DeviceId, Network};
 
 impl Course<'_> {

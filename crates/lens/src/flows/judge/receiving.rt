@@ -2,16 +2,13 @@
 
 ghost use Rattle.std.specs.Prelude.{◌≡◌, ◌↔◌, ◌≤◌, ◌^◌, List, IsTrue};
 ghost use Rattle.audit_devices.specs.events.Remembering.{has_come};
-ghost use Rattle.lens.specs.flows.judge.Courses.{IsCourse, IsFit, IsSomeCourse, scenario_of};
-ghost use Rattle.lens.specs.flows.judge.Fates.{StaysInStep};
-ghost use Rattle.net_plan.specs.Belonging.{HasDevice};
-ghost use Rattle.net_plan.specs.declared.event.Event.{Event};
-ghost use Rattle.run_law.specs.device.States.{state_after};
-ghost use Rattle.run_law.specs.records.Happenings.{Happening, up_to};
+ghost use Rattle.lens.specs.flows.judge.{Courses.{IsCourse, IsFit, IsSomeCourse, scenario_of}, Fates.StaysInStep};
+ghost use Rattle.net_plan.specs.{Belonging.HasDevice, declared.event.Event.Event};
+ghost use Rattle.run_law.specs.{device.States.state_after, records.Happenings.{Happening, up_to}};
 ghost use Rattle.sync_state.specs.declared.state.State.TheVariants.{Synchronised};
 
 use crate::flows::judge::Course;
-use audit_unpaid::points::end_of;
+use audit_sweep::unpaid::points::end_of;
 use net_plan::DeviceId;
 use sync_state::State;
 

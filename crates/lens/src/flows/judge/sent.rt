@@ -1,12 +1,9 @@
 //! Whether a sender was synchronised where its clock came to its offsets.
 
 ghost use Rattle.std.specs.Prelude.{◌≡◌, ◌↔◌, ◌<◌, ◌≤◌, ◌^◌, ℕ, List, IsTrue, MatchBool, length};
-ghost use Rattle.lens.specs.flows.judge.Courses.{IsCourse, IsFit, IsSomeCourse, scenario_of};
-ghost use Rattle.lens.specs.flows.judge.Fates.{HasComeInStep, IsRowSent, IsSent, ReachesInStep};
-ghost use Rattle.lens.specs.flows.judge.Flows.{IsFlow};
-ghost use Rattle.lens.specs.flows.judge.Times.{NoneWithin};
-ghost use Rattle.net_plan.specs.Belonging.{HasDevice};
-ghost use Rattle.net_plan.specs.declared.event.Event.{Event};
+ghost use Rattle.lens.specs.flows.judge.{Courses.{IsCourse, IsFit, IsSomeCourse, scenario_of}, Flows.IsFlow};
+ghost use Rattle.lens.specs.flows.judge.{Fates.{HasComeInStep, IsRowSent, IsSent, ReachesInStep}, Times.NoneWithin};
+ghost use Rattle.net_plan.specs.{Belonging.HasDevice, declared.event.Event.Event};
 ghost use Rattle.run_law.specs.records.Happenings.{Happening};
 
 use crate::flows::judge::{Course, Flow};

@@ -1,7 +1,5 @@
 use Rattle.std.proofs.Common.{rules, arith, ◌+◌, ◌≡◌, ◌≤◌, ◌∷◌, ◌∙◌, List, [], refl, ap, length, subst, sym, ℕ}
-use Rattle.net_file.specs.TextPlaces.{place_after, place_behind, text_start}
-use Rattle.net_file.specs.declared.text_place.TextPlace.{TextPlace}
-use Rattle.net_file.proofs.TextMoves.{moves_by_one}
+use Rattle.net_file.{proofs.TextMoves.moves_by_one, specs.{TextPlaces.{place_after, place_behind, text_start}, declared.text_place.TextPlace.TextPlace}}
 use Rattle.net_file.proofs.text_place.place_behind_text.Goals as goal
 
 pub octets-preserved : goal.octets-preserved

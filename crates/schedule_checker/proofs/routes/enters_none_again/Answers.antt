@@ -1,7 +1,5 @@
-use Rattle.std.proofs.{Common.{◌<◌, rules, sym, tests, ℕ}, lemmas.Iterator.{YieldsList-from_slice, cases_from_all}}
-use Rattle.std.specs.Prelude.{IfSome, slice_get}
-use Rattle.schedule_checker.proofs.{Selection.all_decides, SomePlaces.all_before}
-use Rattle.schedule_checker.proofs.RouteLemmas.{EntersNoneAgain}
+use Rattle.std.{proofs.{Common.{◌<◌, rules, sym, tests, ℕ}, lemmas.Iterator.{YieldsList-from_slice, cases_from_all}}, specs.Prelude.{IfSome, slice_get}}
+use Rattle.schedule_checker.proofs.{RouteLemmas.EntersNoneAgain, Selection.all_decides, SomePlaces.all_before}
 use Rattle.schedule_checker.proofs.routes.enters_none_again.Goals as goal
 
 pub returns : goal.returns

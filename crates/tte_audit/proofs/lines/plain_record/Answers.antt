@@ -1,6 +1,5 @@
-use Rattle.tte_audit.proofs.Words.{◌+◌, ◌∙◌, ◌≡◌, BeginsWithRecord, Note, Some, ap, is_line_end, position, rules, subst, sym}
+use Rattle.tte_audit.proofs.{Parts.record_at, Words.{◌+◌, ◌∙◌, ◌≡◌, BeginsWithRecord, Note, Some, ap, is_line_end, position, rules, subst, sym}}
 use Rattle.std.proofs.lemmas.List.{take_rest}
-use Rattle.tte_audit.proofs.Parts.{record_at}
 use Rattle.tte_audit.proofs.lines.plain_record.Goals as goal
 
 pub returns-then-read-number-clause-next : goal.returns-then-read-number-clause-next

@@ -1,8 +1,7 @@
-use Rattle.tte_audit.proofs.Words.{◌∙◌, ◌≡◌, List, VlId, ap, refl, sym, ℕ}
+use Rattle.tte_audit.{proofs.Words.{◌∙◌, ◌≡◌, List, VlId, ap, refl, sym, ℕ}, specs.Named.{vl_id, vl_spelled}}
 use Rattle.std.{proofs.lemmas.List.Elements.All-weaker, specs.Option.option_map}
 use Rattle.net_plan.specs.{Bearers.vl_names, NameText.IsNameText, Ranges.IsVlInRange, declared.tables.VirtualLink.VirtualLink}
 use Rattle.trace_text.{proofs.Bearing.{IsNamed, bears_utf8, named_place, named_within, place_absent}, specs.Names.first_place}
-use Rattle.tte_audit.specs.Named.{vl_id, vl_spelled}
 use Rattle.tte_audit.proofs.names.vl_spelled.Goals as goal
 
 abbrev number : VlId → ℕ

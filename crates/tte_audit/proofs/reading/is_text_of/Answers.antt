@@ -1,5 +1,4 @@
-use Rattle.tte_audit.proofs.Words.{◌++◌, ◌∙◌, ◌≡◌, codes, length, note_text, rules, sym, take}
-use Rattle.tte_audit.proofs.NoteWords.{front_of_line}
+use Rattle.tte_audit.proofs.{NoteWords.front_of_line, Words.{◌++◌, ◌∙◌, ◌≡◌, codes, length, note_text, rules, sym, take}}
 use Rattle.tte_audit.proofs.reading.is_text_of.Goals as goal
 
 pub returns-then-shown-text : goal.returns-then-shown-text

@@ -1,5 +1,4 @@
-use Rattle.tte_audit.proofs.Words.{◌++◌, ◌+◌, ◌≡◌, ◌≤◌, List, Note, length, ℕ}
-use Rattle.tte_audit.specs.Swift.{IsSought}
+use Rattle.tte_audit.{proofs.Words.{◌++◌, ◌+◌, ◌≡◌, ◌≤◌, List, Note, length, ℕ}, specs.Swift.IsSought}
 use Rattle.tte_audit.proofs.swift.seek.Given as goal
 
 abbrev pub invariant-lines : goal.invariant-lines

@@ -1,7 +1,6 @@
-use Rattle.tte_traces.proofs.Words.{IsRunAnswer, refl, shown_by}
+use Rattle.tte_traces.proofs.{Existing.run_answers_exist, Sources.trace_given, Words.{IsRunAnswer, refl, shown_by}}
+use Rattle.tte_traces.{proofs.Safely.{report_safe, safely_accepted, safely_refused}, specs.Safely.{IsReportToFault, IsWholeReport}}
 use Rattle.tte_forms.{proofs.networks.Answers.{files_accepted, files_refused}, specs.networks.{Accepting.refusal_lines, NetworkLine.IsRefusalText}}
-use Rattle.tte_traces.proofs.{Existing.run_answers_exist, Safely.{report_safe, safely_accepted, safely_refused}, Sources.trace_given}
-use Rattle.tte_traces.specs.Safely.{IsReportToFault, IsWholeReport}
 use Rattle.tte_traces.proofs.running.run_trace.Goals as goal
 
 pub returns-in-Ok-clause-general : goal.returns-in-Ok-clause-general

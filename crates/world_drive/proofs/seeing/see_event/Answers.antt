@@ -1,7 +1,6 @@
-use Rattle.world_drive.proofs.Words.{◌++◌, ◌∷◌, CutsAtEvent, None, SeesEvent, [], told_by}
 use Rattle.world_drive.proofs.Instants.{match_on, on_ok}
 use Rattle.world_drive.proofs.Meeting.{asked_for, befell, come_after, cut_at, cut_before, cut_event, line_next, may_befall, open_now, same_number, seen_event}
-use Rattle.world_drive.proofs.More.{puts_memory, puts_on, puts_so_far}
+use Rattle.world_drive.proofs.{More.{puts_memory, puts_on, puts_so_far}, Words.{◌++◌, ◌∷◌, CutsAtEvent, None, SeesEvent, [], told_by}}
 use Rattle.world_drive.proofs.seeing.see_event.Goals as goal
 
 pub see_until-requires-clause-seen : goal.see_until-requires-clause-seen

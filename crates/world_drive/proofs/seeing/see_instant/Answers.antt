@@ -1,7 +1,6 @@
-use Rattle.world_drive.proofs.Words.{◌++◌, ◌+◌, ◌∙◌, ◌∷◌, CutsBefore, IsPast, None, Some, [], amount, arith, inr, ints, refl}
-use Rattle.world_drive.proofs.Words.{told_by}
 use Rattle.world_drive.proofs.Instants.{amount_now, complete_past, given_in, instant_over, match_on, on_ok}
 use Rattle.world_drive.{proofs.More.{cut_here, cut_one, puts_cut, puts_more, puts_none, puts_on, seen_none, seen_one}, specs.Seeing.SeesInstant}
+use Rattle.world_drive.proofs.Words.{◌++◌, ◌+◌, ◌∙◌, ◌∷◌, CutsBefore, IsPast, None, Some, [], amount, arith, inr, ints, refl, told_by}
 use Rattle.world_drive.proofs.seeing.see_instant.Goals as goal
 
 pub notes-init : goal.notes-init

@@ -1,8 +1,7 @@
 use Rattle.std.{proofs.{Common.{◌+◌, ◌∙◌, ◌∷◌, ap, arith, length, refl, rules, subst, sym}, lemmas.Bool.both_ways}, specs.List.Sorted.IsPermutation}
-use Rattle.world_state.specs.declared.queue.{Entry.Entry, Place.Place}
-use Rattle.world_state.proofs.{PutTo.{apart_from, more_put, no_link, none_put, nothing_put}, UnderWays.sound_with}
-use Rattle.world_state.proofs.giving.put_ports.Goals.{else-is_given, then-is_given}
-use Rattle.world_state.specs.{Giving.{ArePutTo, entry_at_port, place_at_port}, Sound.AreUnderWay, declared.contents.Content.Content}
+use Rattle.world_state.proofs.{PutTo.{apart_from, more_put, no_link, none_put, nothing_put}, giving.put_ports.Goals.{else-is_given, then-is_given}}
+use Rattle.world_state.{proofs.UnderWays.sound_with, specs.Sound.AreUnderWay}
+use Rattle.world_state.specs.{Giving.{ArePutTo, entry_at_port, place_at_port}, declared.{contents.Content.Content, queue.{DueAt.DueAt, Entry.Entry}}}
 use Rattle.world_state.proofs.giving.put_ports.Goals as goal
 
 pub loop-index-preserved : goal.loop-index-preserved
@@ -19,7 +18,7 @@ loop-index-preserved c =
           let place = w.port_place-place.ensures in
           let content = w.content_of.ensures in
           let entry : Entry Content = record { place = w.port_place-place.result; content = w.content_of.result } in
-          let is = ap (λ (p : Place). let e : Entry Content = record { place = p; content = w.content_of.result } in e) place
+          let is = ap (λ (p : DueAt). let e : Entry Content = record { place = p; content = w.content_of.result } in e) place
           ∙ ap (λ (k : Content). let e : Entry Content = record
           { place = place_at_port a.network.now a.ups.now a.downs.now a.giving.now (record { 0 = i }); content = k } in e) content in
           let more = w.put.ensures.room in

@@ -1,6 +1,5 @@
 use Rattle.std.proofs.{Common.{◌∙◌, ap, inl, refl, sym}, lemmas.List.Sorted.IsPermutation-sym}
-use Rattle.world_state.{proofs.queue_lemmas.Bags.in_permuted, specs.declared.queue.Place.Place}
-use Rattle.world_state.proofs.Firsts.{in_words, one_first}
+use Rattle.world_state.{proofs.{Firsts.{in_words, one_first}, queue_lemmas.Bags.in_permuted}, specs.declared.queue.DueAt.DueAt}
 use Rattle.world_state.proofs.hearing.take_wire.Goals as goal
 
 pub signal_in-requires : goal.signal_in-requires
@@ -8,7 +7,7 @@ signal_in-requires c =
     let first = c.in-Some.first in
     let there = in_permuted _ _ first (IsPermutation-sym _ _ c.in-Some.ensures.entries) (inl refl) in
     let same = one_first _ _ _ c.in-Some.ensures.first c.requires.first in
-    sym (c.requires.sound.1.kinds first there) ∙ ap (λ (p : Place). p.rank) same ∙ c.requires.wire
+    sym (c.requires.sound.1.kinds first there) ∙ ap (λ (p : DueAt). p.rank) same ∙ c.requires.wire
 
 pub returns : goal.returns
 returns c =

@@ -1,8 +1,7 @@
 use Rattle.std.proofs.{Common.{◌∙◌, subst, sym}, lemmas.Bool.{not-true, not_from_false}}
-use Rattle.audit_law.specs.DueRecords.{ChangesState}
+use Rattle.audit_devices.{proofs.clocks_lemmas.Bringing.{corrected, turned_on}, specs.law.DueRecords.ChangesState}
 use Rattle.run_law.specs.declared.judgement.Why.{Why}
 use Rattle.sync_state.specs.declared.answers.Verdict.TheVariants.{AsyncClique, SyncClique}
-use Rattle.audit_devices.proofs.clocks_lemmas.Bringing.{corrected, turned_on}
 use Rattle.audit_devices.proofs.clocks.changing.changes_state.Goals as goal
 
 pub returns-then-is_brought : goal.returns-then-is_brought

@@ -1,6 +1,5 @@
-use Rattle.audit_devices.proofs.Words.{◌∙◌, ◌≡◌, Bool, Entry, List, None, Option, Shown, Some, ap, is_before, last_or, option_map_or, slice_get-last, sym}
-use Rattle.audit_devices.proofs.Words.{true}
 use Rattle.audit_devices.proofs.Partitions.{last_kept}
+use Rattle.audit_devices.proofs.Words.{◌∙◌, ◌≡◌, Bool, Entry, List, None, Option, Shown, Some, ap, is_before, last_or, option_map_or, slice_get-last, sym, true}
 use Rattle.audit_devices.proofs.history.History.before.Goals as goal
 
 pub returns-then-is_before : goal.returns-then-is_before

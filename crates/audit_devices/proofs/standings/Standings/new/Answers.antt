@@ -1,6 +1,5 @@
+use Rattle.audit_devices.proofs.{KeptAll.{fresh_more, kept_first}, Words.{sym, ℕ}}
 use Rattle.audit_devices.proofs.Words.{◌++◌, ◌∙◌, ◌∷◌, ◌≡◌, DeviceId, History, IsFresh, List, Shows, [], ap, arith, length, length-append, slice_get, subst}
-use Rattle.audit_devices.proofs.Words.{sym, ℕ}
-use Rattle.audit_devices.proofs.KeptAll.{fresh_more, kept_first}
 use Rattle.audit_devices.proofs.standings.Standings.new.Goals as goal
 
 pub overflow_cast-place : goal.overflow_cast-place

@@ -1,7 +1,6 @@
+use Rattle.audit_devices.proofs.{Partitions.kept_front, Words.{slice_get, slice_get-last, subst, sym, take, taken_of, true}}
 use Rattle.audit_devices.proofs.Words.{◌-◌, ◌∙◌, ◌≡◌, ◌≤◌, Bool, Global, IsPartitionPoint, IsPartitionedBy, List, None, Option, Taking, Vec, []}
 use Rattle.audit_devices.proofs.Words.{always_returns_same, ap, false, filter, got_at, is_taking_before, last_or, length, of_calls, option_map_or, rules}
-use Rattle.audit_devices.proofs.Words.{slice_get, slice_get-last, subst, sym, take, taken_of, true}
-use Rattle.audit_devices.proofs.Partitions.{kept_front}
 use Rattle.audit_devices.proofs.takings.DeviceTakings.last_before.Goals as goal
 
 pub returns : goal.returns

@@ -1,5 +1,4 @@
-use Rattle.audit_sweep.proofs.Words.{IsDue, place_of, refl, scenario_under}
-use Rattle.audit_sweep.proofs.MoreRecords.{sound_none}
+use Rattle.audit_sweep.proofs.{MoreRecords.sound_none, Words.{IsDue, place_of, refl, scenario_under}}
 use Rattle.audit_sweep.proofs.sweep.Sweep.new.Goals as goal
 
 pub returns : goal.returns

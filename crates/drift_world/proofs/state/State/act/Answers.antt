@@ -1,13 +1,10 @@
-use Rattle.drift_world.proofs.Words.{◌+◌, ◌<◌, ◌∙◌, ◌≡◌, Err, IfOk, Kept, List, Network, Note, Ok, OnErr}
-use Rattle.drift_world.proofs.Words.{Result, Scenario, Stands, ap, arith, behind, keeps, length, pos, subst, sym}
-use Rattle.drift_world.proofs.Words.{world_of, ℕ}
+use Rattle.drift_world.{proofs.Halves.set_act, specs.{Turns.IsStep, declared.state.State.State}}
+use Rattle.drift_world.proofs.{Nearings.act_less, Turning.{comes_first, is_at, rekeyed_step, runs_on}, Words.{length, pos, subst, sym, world_of, ℕ}}
+use Rattle.drift_world.proofs.Words.{◌+◌, ◌<◌, ◌∙◌, ◌≡◌, Err, IfOk, Kept, List, Network, Note, Ok, OnErr, Result, Scenario, Stands, ap, arith, behind, keeps}
+use Rattle.drift_world.{proofs.state.State.act.Goals.After-act_first, specs.{Stepping.{IsActTimed, MayRekey, SetsOnly}, declared.source.Source.TheVariants.Act}}
 use Rattle.run_law.specs.machines.Calls.{HasDue}
 use Rattle.world_law.proofs.giving.Given.{some_same}
-use Rattle.drift_world.proofs.{Halves.set_act, Nearings.act_less, Turning.{comes_first, is_at, rekeyed_step, runs_on}}
-use Rattle.drift_world.specs.{Stepping.{IsActTimed, MayRekey, SetsOnly}, Turns.IsStep}
-use Rattle.drift_world.specs.declared.{source.Source.TheVariants.Act, state.State.State}
 use Rattle.drift_world.proofs.state.State.act.Given as given
-use Rattle.drift_world.proofs.state.State.act.Goals.{After-act_first}
 use Rattle.drift_world.proofs.state.State.act.Goals as goal
 
 -- where one of these clauses holds for each result, what is said of all of them does

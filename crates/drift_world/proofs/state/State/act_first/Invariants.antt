@@ -1,5 +1,4 @@
-use Rattle.drift_world.proofs.Words.{◌-◌}
-use Rattle.drift_world.proofs.ActTurns.{IsTurn}
+use Rattle.drift_world.proofs.{ActTurns.IsTurn, Words.◌-◌}
 use Rattle.drift_world.proofs.state.State.act_first.Given as goal
 
 abbrev pub invariant-acts : goal.invariant-acts

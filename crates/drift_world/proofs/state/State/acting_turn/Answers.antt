@@ -1,5 +1,4 @@
-use Rattle.drift_world.proofs.Words.{OutOfMemory}
-use Rattle.drift_world.proofs.{AtOnce.gives_then, Turning.{err_then, kept_then, step_kept}}
+use Rattle.drift_world.proofs.{AtOnce.gives_then, Turning.{err_then, kept_then, step_kept}, Words.OutOfMemory}
 use Rattle.drift_world.proofs.state.State.acting_turn.Goals as goal
 
 pub give_next-requires : goal.give_next-requires

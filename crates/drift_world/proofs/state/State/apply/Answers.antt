@@ -3,7 +3,7 @@ use Rattle.drift_world.proofs.Words.{World, [], amount, ap, arith, befell_as, br
 use Rattle.drift_world.proofs.Words.{not, scenario, subst, sym, true, turns_on, unsigned_abs, waiting_as, way_as, world_of, ℕ}
 use Rattle.std.specs.Prelude.{All}
 use Rattle.world_law.specs.{source.Applying.note_of_event, world.{Outcomes.{also_befell, ends_world}, World.Befell}}
-use Rattle.world_steps.proofs.steps.{Applied.applied_step, AppliedParts.broken_more}
+use Rattle.world_law.proofs.steps_lemmas.steps.{Applied.applied_step, AppliedParts.broken_more}
 use Rattle.drift_world.proofs.{Applies.{any_mapped, waits_more, ways_more}, Beginnings.found, Elsewhere.{clock_elsewhere, waits_elsewhere}}
 use Rattle.drift_world.proofs.{Fitting.{apart_kept, below_more, ways_short}, TurnedOn.turned_on_is}
 use Rattle.run_law.specs.declared.note.NoteBody.TheVariants as kinds

@@ -1,12 +1,9 @@
+use Rattle.drift_world.{proofs.{Dues.due_stays, state.State.arrival_turn.Goals.{After-give_alone-turn, After-put_in}}, specs.declared.state.State.State}
+use Rattle.drift_world.proofs.{Fits.{all_put, have_octets, sound_same}, Timings.rekeyed, Words.{length, place_of, rank, refl, settled_at, subst, world_of, ℕ}}
+use Rattle.drift_world.{proofs.{Halves.set_act, OwnPlaces.{changes_both, put_alone, runs_alone, stands_alone}}, specs.Turns.given_in}
+use Rattle.drift_world.{proofs.Turning.{comes_first, is_at, kept_timers, rekeyed_step, runs_on, step_kept}, specs.declared.source.Source.TheVariants.Arrival}
 use Rattle.drift_world.proofs.Words.{◌++◌, ◌∙◌, ◌∷◌, ◌≡◌, ChangesOnly, DeviceId, IsPutAt, IsSound, List, Note, Scenario, Settled, Stands, [], ap, arith, keeps}
-use Rattle.drift_world.proofs.Words.{length}
-use Rattle.drift_world.proofs.Words.{place_of, rank, refl, settled_at, subst, world_of, ℕ}
-use Rattle.drift_world.proofs.{Dues.due_stays, Fits.{all_put, have_octets, sound_same}, Halves.set_act}
-use Rattle.drift_world.proofs.OwnPlaces.{changes_both, put_alone, runs_alone, stands_alone}
-use Rattle.drift_world.proofs.{Timings.rekeyed, Turning.{comes_first, is_at, kept_timers, rekeyed_step, runs_on, step_kept}}
-use Rattle.drift_world.specs.{Turns.given_in, declared.{source.Source.TheVariants.Arrival, state.State.State}}
 use Rattle.drift_world.proofs.state.State.arrival_turn.Given as given
-use Rattle.drift_world.proofs.state.State.arrival_turn.Goals.{After-give_alone-turn, After-put_in}
 use Rattle.drift_world.proofs.state.State.arrival_turn.Goals as goal
 
 pub hear_wire-record-requires-clause-comes : goal.hear_wire-record-requires-clause-comes

@@ -1,6 +1,5 @@
-use Rattle.drift_world.proofs.Words.{◌∙◌, ◌∷◌, ◌≡◌, HasNothingBefore, OutOfMemory, Settled, SourceFirst, place_of, refl, settled_at, subst}
-use Rattle.drift_world.proofs.Words.{sym}
 use Rattle.drift_world.proofs.{AtOnce.{gives_turns, passed_turns, work_turns}, Turning.{none_settled, nothing_ahead, now_so, passed_kept}}
+use Rattle.drift_world.proofs.Words.{◌∙◌, ◌∷◌, ◌≡◌, HasNothingBefore, OutOfMemory, Settled, SourceFirst, place_of, refl, settled_at, subst, sym}
 use Rattle.drift_world.proofs.state.State.full_turn.Goals as goal
 
 pub give_next-requires-clause-nothing : goal.give_next-requires-clause-nothing

@@ -1,12 +1,10 @@
+use Rattle.drift_world.proofs.{Fits.sound_same, Gave.{changes_since, popped_world, unchanged}, Words.{settled_at, subst, sym, units_of, world_of, ℕ}}
+use Rattle.drift_world.{proofs.{MayGive.{low_now, may_be_given}, state.State.give.Goals.After-unwrap-first}, specs.declared.state.State.State}
 use Rattle.drift_world.proofs.Words.{◌++◌, ◌+◌, ◌<◌, ◌∙◌, ◌∷◌, ◌≡◌, ChangesOnly, DeviceId, HasItsOctets, IfSome, List, NoSourceBefore, Note, Option, Settled}
 use Rattle.drift_world.proofs.Words.{Stands, StandsBehind, World, [], ap, behind, changed_device, happenings, keeps, length, map, note_of, place_of, refl}
-use Rattle.drift_world.proofs.Words.{settled_at, subst, sym, units_of, world_of, ℕ}
 use Rattle.std.{proofs.lemmas.List.Elements.{All-head, All-tail}, specs.Prelude.{All, option_to_list}}
 use Rattle.world_state.specs.{Frames.room_of, Shelves.HasPlace, declared.contents.Spot.Spot}
-use Rattle.drift_world.proofs.{Fits.sound_same, Gave.{changes_since, popped_world, unchanged}, MayGive.{low_now, may_be_given}}
-use Rattle.drift_world.{specs.declared.state.State.State}
 use Rattle.drift_world.proofs.state.State.give.Given as given
-use Rattle.drift_world.proofs.state.State.give.Goals.{After-unwrap-first}
 use Rattle.drift_world.proofs.state.State.give.Goals as goal
 
 heads : (x y : Settled) (xs ys : List Settled) → x ∷ xs ≡ y ∷ ys → x ≡ y

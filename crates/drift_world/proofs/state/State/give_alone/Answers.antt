@@ -1,9 +1,7 @@
-use Rattle.drift_world.proofs.Words.{◌++◌, ◌+◌, ◌∙◌, ◌∷◌, ◌≡◌, NoSourceBefore, Note, Stands, StandsBehind, List, World, [], ap, append-nil, behind}
-use Rattle.drift_world.proofs.Words.{changed_device, happenings}
-use Rattle.drift_world.proofs.Words.{keeps, length, note_of, place_of, refl, settled_at, subst, sym, units_of, with_first, world_of, ℕ}
-use Rattle.drift_world.proofs.{Fits.{all_put, have_octets, sound_same}, Gave.{changes_since, unchanged}, MayGive.{low_now, may_be_given}}
-use Rattle.drift_world.proofs.OwnPlaces.{lone_world, put_on_none, settled_alone}
-use Rattle.drift_world.specs.declared.state.State.{State}
+use Rattle.drift_world.proofs.{Fits.{all_put, have_octets, sound_same}, Gave.{changes_since, unchanged}, OwnPlaces.{lone_world, put_on_none, settled_alone}}
+use Rattle.drift_world.{proofs.{MayGive.{low_now, may_be_given}, Words.ℕ}, specs.declared.state.State.State}
+use Rattle.drift_world.proofs.Words.{◌++◌, ◌+◌, ◌∙◌, ◌∷◌, ◌≡◌, List, NoSourceBefore, Note, Stands, StandsBehind, World, [], ap, append-nil, behind}
+use Rattle.drift_world.proofs.Words.{changed_device, happenings, keeps, length, note_of, place_of, refl, settled_at, subst, sym, units_of, with_first, world_of}
 use Rattle.drift_world.proofs.state.State.give_alone.Goals as goal
 
 pub returns-in-Err-clause-sound : goal.returns-in-Err-clause-sound

@@ -1,9 +1,7 @@
-use Rattle.drift_world.proofs.Words.{◌++◌, ◌∙◌, ◌∷◌, ChangesOnly, Note, NoteBody, Scenario, Stands, World, [], ap, changed_device, keeps, note_of, settled_at}
-use Rattle.drift_world.proofs.Words.{subst, sym, units_of}
-use Rattle.drift_world.proofs.Words.{◌<◌, ◌≡◌, List, Settled, arith, length, refl, world_of}
-use Rattle.drift_world.{proofs.Turning.{first_gives, kept_timers, plain_step, step_kept}, specs.declared.state.State.State}
+use Rattle.drift_world.{proofs.{Turning.{first_gives, kept_timers, plain_step, step_kept}, state.State.give_next.Goals.In-Ok}, specs.declared.state.State.State}
+use Rattle.drift_world.proofs.Words.{◌++◌, ◌<◌, ◌∙◌, ◌∷◌, ◌≡◌, ChangesOnly, List, Note, NoteBody, Scenario, Settled, Stands, World, [], ap, arith}
+use Rattle.drift_world.proofs.Words.{changed_device, keeps, length, note_of, refl, settled_at, subst, sym, units_of, world_of}
 use Rattle.drift_world.proofs.state.State.give_next.Given as given
-use Rattle.drift_world.proofs.state.State.give_next.Goals.{In-Ok}
 use Rattle.drift_world.proofs.state.State.give_next.Goals as goal
 
 -- something is settled

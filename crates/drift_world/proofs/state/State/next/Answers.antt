@@ -1,10 +1,7 @@
-use Rattle.drift_world.proofs.Words.{◌+◌, ◌∙◌, List, Note, Ok, OutOfMemory, Stands, Turn, Units, ap, append-nil, arith, ints, keeps, refl, subst}
-use Rattle.drift_world.proofs.Words.{sym}
-use Rattle.drift_world.proofs.Words.{world_of, ℕ}
 use Rattle.drift_world.{proofs.Turning.{after_then, kept_then}, specs.Turns.{IsKept, TurnsTo, given_in}}
+use Rattle.drift_world.proofs.Words.{◌+◌, ◌∙◌, List, Note, Ok, OutOfMemory, Stands, Turn, Units, ap, append-nil, arith, ints, keeps, refl, subst, sym, world_of}
+use Rattle.drift_world.{proofs.{Words.ℕ, state.State.next.Goals.{After-turn, In-Ok-Ends, In-Ok-GoesOn}}, specs.declared.next.Turn.TheVariants.{Ends, GoesOn}}
 use Rattle.drift_world.proofs.state.State.next.Given as given
-use Rattle.drift_world.specs.declared.next.Turn.TheVariants.{Ends, GoesOn}
-use Rattle.drift_world.proofs.state.State.next.Goals.{After-turn, In-Ok-Ends, In-Ok-GoesOn}
 use Rattle.drift_world.proofs.state.State.next.Goals as goal
 
 pub turns-init : goal.turns-init

@@ -1,5 +1,4 @@
-use Rattle.drift_world.proofs.Words.{◌<◌, ◌≡◌, ◌≤◌, AreFirsts, IfSome, ap, arith, length, subst, true, ℕ}
-use Rattle.drift_world.proofs.AtOnce.{ranks_tell}
+use Rattle.drift_world.proofs.{AtOnce.ranks_tell, Words.{◌<◌, ◌≡◌, ◌≤◌, AreFirsts, IfSome, ap, arith, length, subst, true, ℕ}}
 use Rattle.drift_world.proofs.state.State.next_rank.Goals as goal
 
 pub returns : goal.returns

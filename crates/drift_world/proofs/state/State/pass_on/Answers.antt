@@ -1,9 +1,8 @@
-use Rattle.drift_world.proofs.Words.{◌+◌, ◌<◌, ◌^◌, ◌∷◌, ◌≡◌, ◌≤◌, ◌⊎◌, IsScenarioRun, [], ap, arith, both_ways, false, inl, inr, keeps, refl, subst, true}
-use Rattle.drift_world.proofs.Words.{world_of, ℕ, ◌∙◌, List, Note, Scenario, Stands, Turn}
-use Rattle.drift_world.proofs.{Nearings.passing_nears, Sources.of_world, Turning.{passed_same, passes, whole_run}}
-use Rattle.drift_world.specs.{Turns.{IsPassed, IsWhole, PassSays}, declared.state.State.State}
+use Rattle.drift_world.proofs.{Nearings.passing_nears, Words.{inl, inr, keeps, refl, subst, true, world_of, ℕ}, state.State.pass_on.Goals.After-pass_to}
+use Rattle.drift_world.proofs.Sources.{of_world}
+use Rattle.drift_world.{proofs.Turning.{passed_same, passes, whole_run}, specs.{Turns.{IsPassed, IsWhole, PassSays}, declared.state.State.State}}
+use Rattle.drift_world.proofs.Words.{◌+◌, ◌<◌, ◌^◌, ◌∙◌, ◌∷◌, ◌≡◌, ◌≤◌, ◌⊎◌, IsScenarioRun, List, Note, Scenario, Stands, Turn, [], ap, arith, both_ways, false}
 use Rattle.drift_world.proofs.state.State.pass_on.Given as given
-use Rattle.drift_world.proofs.state.State.pass_on.Goals.{After-pass_to}
 use Rattle.drift_world.proofs.state.State.pass_on.Goals as goal
 
 -- where no time may pass, the time is the last

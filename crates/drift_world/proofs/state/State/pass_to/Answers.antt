@@ -1,5 +1,5 @@
 use Rattle.drift_world.proofs.Words.{◌∙◌, ◌∷◌, Happening, List, StandsBehind, [], ap, keeps, map, settled_at, subst, sym, true, world_of}
-use Rattle.world_steps.proofs.steps.Passed.{passed_step}
+use Rattle.world_law.proofs.steps_lemmas.steps.Passed.{passed_step}
 use Rattle.drift_world.proofs.state.State.pass_to.Goals as goal
 
 pub returns-clause-stands : goal.returns-clause-stands

@@ -1,5 +1,4 @@
-use Rattle.drift_world.proofs.Words.{arith, refl}
-use Rattle.drift_world.proofs.Nearings.{no_farther}
+use Rattle.drift_world.proofs.{Nearings.no_farther, Words.{arith, refl}}
 use Rattle.drift_world.proofs.state.State.pass_up.Goals as goal
 
 pub returns-then-self-time-clause-nearer : goal.returns-then-self-time-clause-nearer

@@ -1,9 +1,7 @@
-use Rattle.drift_world.proofs.Words.{◌∙◌, AreFirsts, OutOfMemory, ap, arith, both_ways, subst, sym}
-use Rattle.drift_world.proofs.{AtOnce.{ends_near, passed_turns, turns_then}, Foremost.none_before}
-use Rattle.drift_world.proofs.Turning.{err_open, firsts_passed, kept_then, passed_after, passed_kept, room_passed}
-use Rattle.drift_world.specs.{Nearing.IsNoFarther, Turns.PassSays, declared.state.State.State}
+use Rattle.drift_world.{proofs.{AtOnce.{ends_near, passed_turns, turns_then}, Foremost.none_before}, specs.{Nearing.IsNoFarther, Turns.PassSays}}
+use Rattle.drift_world.{proofs.Turning.{err_open, firsts_passed, kept_then, passed_after, passed_kept, room_passed}, specs.declared.state.State.State}
+use Rattle.drift_world.proofs.{Words.{◌∙◌, AreFirsts, OutOfMemory, ap, arith, both_ways, subst, sym}, state.State.quick_turn.Goals.After-first-due}
 use Rattle.drift_world.proofs.state.State.quick_turn.Given as given
-use Rattle.drift_world.proofs.state.State.quick_turn.Goals.{After-first-due}
 use Rattle.drift_world.proofs.state.State.quick_turn.Goals as goal
 
 firsts_of : (g : given.Over) (c : After-first-due g) → AreFirsts c.args.self.now c.first-place.result c.first-due.result

@@ -1,5 +1,4 @@
-use Rattle.drift_world.proofs.Words.{ap, arith, length}
-use Rattle.drift_world.proofs.Timings.{running_with, set_more, sized_with}
+use Rattle.drift_world.proofs.{Timings.{running_with, set_more, sized_with}, Words.{ap, arith, length}}
 use Rattle.drift_world.proofs.state.State.rekey_all.Goals as goal
 
 pub rekey-requires : goal.rekey-requires

@@ -1,7 +1,6 @@
-use Rattle.drift_world.proofs.Words.{Due, IsFirst, Place, ap, arith, both_ways, length, refl}
 use Rattle.drift_world.proofs.Foremost.{arrival_first, clock_first, departure_first, due_after, events_first, from_some, none_before, place_after, placed}
-use Rattle.drift_world.proofs.Foremost.{slot_first}
-use Rattle.drift_world.proofs.state.State.source_by.Goals.{else-self-2-via-else-self-2, else-self-2-via-then-self-2+else-self-as_slice}
+use Rattle.drift_world.proofs.{Foremost.slot_first, state.State.source_by.Goals.{else-self-2-via-else-self-2, else-self-2-via-then-self-2+else-self-as_slice}}
+use Rattle.drift_world.proofs.Words.{Due, DueAt, IsFirst, ap, arith, both_ways, length, refl}
 use Rattle.drift_world.proofs.state.State.source_by.Goals as goal
 
 pub returns-then-self-clause-nothing : goal.returns-then-self-clause-nothing
@@ -14,7 +13,7 @@ returns-in-Some-clause-there g c =
     let at = placed g.C.Clock.last_step g.C.Clock.reading g.M.Machine.stands c.args.network.now c.args.self.now c.args.place c.args.due c.requires.well
     c.requires.firsts c.in-Some.arrival is.0 in
     record {
-      first = from_some (λ (q : Place). IsFirst c.args.self.now.under_way.entries q) c.args.place c.in-Some.arrival c.requires.firsts.some_place is.0;
+      first = from_some (λ (q : DueAt). IsFirst c.args.self.now.under_way.entries q) c.args.place c.in-Some.arrival c.requires.firsts.some_place is.0;
       now = is.1;
       rank_is = is.2;
       device = at.0;
@@ -40,7 +39,7 @@ returns-in-Some-placed_at-clause-there g c =
     let at = placed g.C.Clock.last_step g.C.Clock.reading g.M.Machine.stands c.args.network.now c.args.self.now c.args.place c.args.due c.requires.well
     c.requires.firsts q is.0 in
     record {
-      first = from_some (λ (p : Place). IsFirst c.args.self.now.under_way.entries p) c.args.place q c.requires.firsts.some_place is.0;
+      first = from_some (λ (p : DueAt). IsFirst c.args.self.now.under_way.entries p) c.args.place q c.requires.firsts.some_place is.0;
       now = is.1;
       rank_is = is.2;
       device = at.0;

@@ -1,5 +1,4 @@
-use Rattle.drift_world.proofs.Words.{OutOfMemory}
-use Rattle.drift_world.proofs.{AtOnce.{passed_turns, work_turns}, Turning.{empty_first, now_so, passed_kept}}
+use Rattle.drift_world.proofs.{AtOnce.{passed_turns, work_turns}, Turning.{empty_first, now_so, passed_kept}, Words.OutOfMemory}
 use Rattle.drift_world.proofs.state.State.source_turn.Goals as goal
 
 pub returns-in-Later-clause-kept : goal.returns-in-Later-clause-kept

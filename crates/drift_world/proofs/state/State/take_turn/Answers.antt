@@ -1,5 +1,4 @@
-use Rattle.drift_world.proofs.Words.{OutOfMemory}
-use Rattle.drift_world.proofs.{AtOnce.gives_turns, Turning.err_open}
+use Rattle.drift_world.proofs.{AtOnce.gives_turns, Turning.err_open, Words.OutOfMemory}
 use Rattle.drift_world.proofs.state.State.take_turn.Goals as goal
 
 pub give_next-requires-clause-some : goal.give_next-requires-clause-some

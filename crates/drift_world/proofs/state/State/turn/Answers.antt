@@ -1,8 +1,6 @@
-use Rattle.drift_world.proofs.Words.{◌∙◌, OutOfMemory, ap, arith, sym}
-use Rattle.drift_world.proofs.{AtOnce.turns_then, Nearings.no_more, Turning.{kept_then, roomier, step_kept}}
-use Rattle.drift_world.specs.{Nearing.distance, Turns.IsStep, declared.state.State.State}
+use Rattle.drift_world.{proofs.{AtOnce.turns_then, Nearings.no_more}, specs.{Nearing.distance, Turns.IsStep, declared.state.State.State}}
+use Rattle.drift_world.proofs.{Turning.{kept_then, roomier, step_kept}, Words.{◌∙◌, OutOfMemory, ap, arith, sym}, state.State.turn.Goals.After-make_places}
 use Rattle.drift_world.proofs.state.State.turn.Given as given
-use Rattle.drift_world.proofs.state.State.turn.Goals.{After-make_places}
 use Rattle.drift_world.proofs.state.State.turn.Goals as goal
 
 -- room is taken

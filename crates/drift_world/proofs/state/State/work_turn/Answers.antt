@@ -1,5 +1,4 @@
-use Rattle.drift_world.proofs.Words.{subst}
-use Rattle.drift_world.{proofs.Turning.step_kept, specs.Turns.MayWork}
+use Rattle.drift_world.{proofs.{Turning.step_kept, Words.subst}, specs.Turns.MayWork}
 use Rattle.drift_world.proofs.state.State.work_turn.Goals as goal
 
 pub arrival_turn-requires : goal.arrival_turn-requires

@@ -1,6 +1,5 @@
+use Rattle.drift_world.{proofs.{Fits.sound_timers, Freshness.{first_sound, first_stands}, Words.world_of}, specs.Beginning.{AreFresh, IsFirstState}}
 use Rattle.drift_world.proofs.Words.{AreTimed, IsInRange, IsLawful, KeepsRules, Kept, Network, StandsUnder, World, [], ap, reading_of, scenario, subst, sym}
-use Rattle.drift_world.proofs.Words.{world_of}
-use Rattle.drift_world.{proofs.{Freshness.{first_sound, first_stands}, Fits.sound_timers}, specs.Beginning.{AreFresh, IsFirstState}}
 use Rattle.drift_world.proofs.world.World.begin.Given as given
 use Rattle.drift_world.proofs.world.World.begin.Goals as goal
 

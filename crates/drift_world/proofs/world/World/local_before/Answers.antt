@@ -1,6 +1,5 @@
+use Rattle.drift_world.proofs.{LocalsBefore.local_is_before, Words.{reading_of, scenario, subst, sym, ℕ}}
 use Rattle.drift_world.proofs.Words.{◌<◌, ◌∙◌, ◌≤◌, IsLocalClockBefore, Kept, Stands, World, amount, ap, arith, happenings, in_all, ints, keeps, length}
-use Rattle.drift_world.proofs.Words.{reading_of, scenario, subst, sym, ℕ}
-use Rattle.drift_world.proofs.LocalsBefore.{local_is_before}
 use Rattle.drift_world.proofs.world.World.local_before.Goals as goal
 
 pub local_of-requires-clause-stepped : goal.local_of-requires-clause-stepped

@@ -1,9 +1,8 @@
-use Rattle.drift_world.proofs.Words.{◌++◌, ◌∙◌, ◌∷◌, ◌≡◌, Bool, ComesUpTo, Err, IfOk, IsLawful, IsRunOf, IsScenarioRun, Kept, List, Network, Note, Ok, false}
-use Rattle.drift_world.proofs.Words.{Result, Scenario, Stands, StandsUnder, World, [], amount, ap, arith, begins_at_zero, given_by, ints, keeps}
-use Rattle.drift_world.proofs.Words.{keeps_clock_laws, reading_of, scenario, subst, sym, world_of, ℕ}
+use Rattle.drift_world.{proofs.{Retries.comes_up_to, Words.{keeps_clock_laws, reading_of, scenario, subst, sym, world_of, ℕ}}, specs.Running.next_of}
+use Rattle.drift_world.proofs.Words.{◌++◌, ◌∙◌, ◌∷◌, ◌≡◌, Bool, ComesUpTo, Err, IfOk, IsLawful, IsRunOf, IsScenarioRun, Kept, List, Network, Note, Ok, Result}
+use Rattle.drift_world.proofs.Words.{Scenario, Stands, StandsUnder, World, [], amount, ap, arith, begins_at_zero, false, given_by, ints, keeps}
 use Rattle.std.proofs.Common.{slice_get}
 use Rattle.traffic_law.{proofs.safety_lemmas.Clocked.before, specs.safety.{Headline.IsSafeFront, Under.IsUnder}}
-use Rattle.drift_world.{proofs.Retries.comes_up_to, specs.Running.next_of}
 use Rattle.drift_world.proofs.world.World.next_given.Given as given
 use Rattle.drift_world.proofs.world.World.next_given.Goals as goal
 

@@ -1,5 +1,4 @@
-use Rattle.end_system.proofs.Words.{◌+ℤ◌, ◌∙◌, IsAgenda, Units, [], ap, subst, ℤ}
-use Rattle.end_system.proofs.TimedFrames.{above, local_range}
+use Rattle.end_system.proofs.{TimedFrames.{above, local_range}, Words.{◌+ℤ◌, ◌∙◌, IsAgenda, Units, [], ap, subst, ℤ}}
 use Rattle.end_system.proofs.end_system.EndSystem.agenda_anew.Goals as goal
 
 pub local_at-local-requires-clause-low : goal.local_at-local-requires-clause-low

@@ -1,7 +1,5 @@
-use Rattle.end_system.proofs.Words.{HasVerdict, IsCorrection, Standing, refl, subst, sym}
-use Rattle.end_system.proofs.Advance.{low_at, not_fallen}
+use Rattle.end_system.proofs.{Advance.{low_at, not_fallen}, Tasks.first_is_correction, Words.{HasVerdict, IsCorrection, Standing, refl, subst, sym}}
 use Rattle.end_system.proofs.Correct.{at_point, below_range, corrects, near_a, near_b, number_after, number_bound, number_fits, still_small}
-use Rattle.end_system.proofs.Tasks.{first_is_correction}
 use Rattle.end_system.proofs.end_system.EndSystem.correct.Goals as goal
 
 pub at_correction-verdict-requires : goal.at_correction-verdict-requires

@@ -1,5 +1,4 @@
-use Rattle.end_system.proofs.Words.{◌∙◌, Some, ap, subst}
-use Rattle.end_system.{proofs.Tasks.none_is_due, specs.Agendas.IsFirstDue}
+use Rattle.end_system.{proofs.{Tasks.none_is_due, Words.{◌∙◌, Some, ap, subst}}, specs.Agendas.IsFirstDue}
 use Rattle.end_system.proofs.end_system.EndSystemMachine.act.Goals as goal
 
 pub send-requires : goal.send-requires

@@ -1,6 +1,5 @@
-use Rattle.end_system.proofs.Words.{◌∙◌, sym}
+use Rattle.end_system.proofs.{Ripe.{is_ignored, is_not_on, is_on, point_high, point_low, ripe_at, small_now, stands_later}, Words.{◌∙◌, sym}}
 use Rattle.run_law.specs.machines.Calls.{IsHearing}
-use Rattle.end_system.proofs.Ripe.{is_ignored, is_not_on, is_on, point_high, point_low, ripe_at, small_now, stands_later}
 use Rattle.end_system.proofs.end_system.EndSystemMachine.ripen.Goals as goal
 
 pub heard_as-requires : goal.heard_as-requires

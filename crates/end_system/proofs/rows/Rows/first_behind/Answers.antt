@@ -1,6 +1,5 @@
-use Rattle.end_system.proofs.Words.{◌%◌, ◌+◌, ◌∷◌, [], ap, ℕ}
+use Rattle.end_system.proofs.{RowNext.first_next, Values.{at_least, some_length}, Words.{◌%◌, ◌+◌, ◌∷◌, [], ap, ℕ}}
 use Rattle.std.proofs.Common.{◌-◌, ◌/◌}
-use Rattle.end_system.proofs.{RowNext.first_next, Values.{at_least, some_length}}
 use Rattle.end_system.proofs.rows.Rows.first_behind.Goals as goal
 
 pub returns-clause-next : goal.returns-clause-next

@@ -3,7 +3,7 @@ use Rattle.net_plan.specs.{Belonging.IsOfNetwork, declared.network.Network.Netwo
 use Rattle.trace_text.specs.EventLine.{event_line}
 use Rattle.tte_forms.specs.Putting.{shown_by}
 use Rattle.tte_io.specs.Told.{AppendsFront}
-use Rattle.tte_storms.{proofs.Existing.IsStormy, specs.Laws.FitsFrames}
+use Rattle.tte_traces.{proofs.storms_lemmas.Existing.IsStormy, specs.storms.Laws.FitsFrames}
 use Rattle.lens.proofs.events_lemmas.PutLines.{puts_all, puts_fail, puts_more, puts_none}
 use Rattle.lens.proofs.events.putting.put_events.Goals as goal
 

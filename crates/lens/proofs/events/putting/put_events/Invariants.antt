@@ -1,6 +1,6 @@
 use Rattle.std.proofs.Common.{◌≡◌}
 use Rattle.tte_forms.specs.Putting.{shown_by}
-use Rattle.tte_storms.specs.Storms.{left_of}
+use Rattle.tte_traces.specs.storms.Storms.{left_of}
 use Rattle.lens.proofs.events_lemmas.PutLines.{HasPutEvents}
 use Rattle.lens.proofs.events.putting.put_events.Given as goal
 

@@ -1,5 +1,5 @@
 use Rattle.tte_forms.specs.Putting.{shown_by}
-use Rattle.tte_reports.{proofs.Sources.{files_accepted, files_refused}, specs.Reports.IsReportAnswer}
+use Rattle.tte_traces.{proofs.reports_lemmas.Sources.{files_accepted, files_refused}, specs.reports.Reports.IsReportAnswer}
 use Rattle.lens.specs.flows.Answer.{IsFlowsAnswer}
 use Rattle.lens.proofs.flows.answering.flows.Goals as goal
 

@@ -1,5 +1,5 @@
 use Rattle.tte_forms.specs.Putting.{shown_by}
-use Rattle.tte_reports.proofs.Reports.{no_report_answered, report_given, report_there}
+use Rattle.tte_traces.proofs.reports_lemmas.Reports.{no_report_answered, report_given, report_there}
 use Rattle.lens.specs.flows.Answer.{IsFlowsAnswer}
 use Rattle.lens.proofs.flows.answering.flows_of_file.Goals as goal
 

@@ -1,8 +1,5 @@
-use Rattle.std.proofs.Common.{◌≡◌, List, inl, inr, refl, sym, subst, ◌∙◌}
-use Rattle.std.specs.Prelude.{All}
-use Rattle.lens.specs.declared.flows.counts.told.FlowTold.{FlowTold}
-use Rattle.lens.proofs.flows_lemmas.AllTold.{answer_there, writable_all}
-use Rattle.lens.specs.flows.Answer.{told_answer}
+use Rattle.std.{proofs.Common.{◌∙◌, ◌≡◌, List, inl, inr, refl, subst, sym}, specs.Prelude.All}
+use Rattle.lens.{proofs.flows_lemmas.AllTold.{answer_there, writable_all}, specs.{declared.flows.counts.told.FlowTold.FlowTold, flows.Answer.told_answer}}
 use Rattle.lens.specs.flows.Writing.{IsWritable}
 use Rattle.net_plan.specs.declared.network.Network.{Network}
 use Rattle.tte_forms.specs.{Answering.Gives, Putting.shown_by}

@@ -3,8 +3,7 @@ use Rattle.std.{proofs.{Math.Seq.take-length, lemmas.List.{map-append, take-appe
 use Rattle.tte_forms.{proofs.Puts.{Ends-gives, PutsLines-fails, PutsLines-more}, specs.Putting.{PutFails, PutsLines, shown_by}}
 use Rattle.tte_forms.specs.declared.status.Status.TheVariants.{Done}
 use Rattle.tte_io.specs.Told.{AppendsFront}
-use Rattle.lens.specs.declared.flows.counts.told.FlowTold.{FlowTold}
-use Rattle.lens.{proofs.flows_lemmas.Listed.next_line, specs.flows.Lines.flow_line}
+use Rattle.lens.{proofs.flows_lemmas.Listed.next_line, specs.{declared.flows.counts.told.FlowTold.FlowTold, flows.Lines.flow_line}}
 use Rattle.lens.proofs.flows.answering.put_told.Goals as goal
 
 pub flows-preserved : goal.flows-preserved

@@ -1,12 +1,9 @@
-use Rattle.std.proofs.Common.{◌≡◌, ◌^◌, ◌<◌, ℕ, ap, length, List, sym, subst, ◌∙◌, arith, rules}
-use Rattle.std.specs.Prelude.{IfOk}
-use Rattle.lens.proofs.flows_lemmas.Reading.{read_by}
-use Rattle.lens.specs.flows.Answer.{AreAllTold}
-use Rattle.lens.specs.flows.Seeing.{IsSomeReport, TellsEvents}
+use Rattle.std.{proofs.Common.{◌<◌, ◌^◌, ◌∙◌, ◌≡◌, List, ap, arith, length, rules, subst, sym, ℕ}, specs.Prelude.IfOk}
+use Rattle.lens.{proofs.flows_lemmas.Reading.read_by, specs.flows.{Answer.AreAllTold, Seeing.{IsSomeReport, TellsEvents}}}
 use Rattle.net_plan.specs.declared.network.Network.{Network}
 use Rattle.tte_audit.specs.{Named.IsNamed, Telling.IsReadOf}
 use Rattle.run_law.specs.declared.note.Note.{Note}
-use Rattle.tte_reports.specs.Reports.{IsReportOf}
+use Rattle.tte_traces.specs.reports.Reports.{IsReportOf}
 use Rattle.tte_units.specs.declared.units.Units.{Units}
 use Rattle.lens.proofs.flows.seeing.flows_told.Goals as goal
 

@@ -1,7 +1,7 @@
 use Rattle.std.proofs.Common.{List, length}
 use Rattle.lens.specs.flows.Seeing.{IsSeenSoFar}
 use Rattle.run_law.specs.declared.note.Note.{Note}
-use Rattle.tte_reports.specs.Reports.{IsReportOf}
+use Rattle.tte_traces.specs.reports.Reports.{IsReportOf}
 use Rattle.tte_units.specs.declared.units.Units.{Units}
 use Rattle.lens.proofs.flows.seeing.see_records.Given as goal
 

@@ -1,5 +1,4 @@
-use Rattle.switch_ports.proofs.Words.{◌∙◌, None, refl, sym}
-use Rattle.switch_ports.{proofs.Trees.{closes, knows_next, leaves_set, set_long, tells_sets}, specs.Departing.Sets}
+use Rattle.switch_ports.{proofs.{Trees.{closes, knows_next, leaves_set, set_long, tells_sets}, Words.{◌∙◌, None, refl, sym}}, specs.Departing.Sets}
 use Rattle.switch_ports.proofs.departures.Departures.close.Goals as goal
 
 pub returns-clause-changes : goal.returns-clause-changes

@@ -1,6 +1,5 @@
-use Rattle.switch_ports.proofs.Words.{◌*◌, ◌+ℤ◌, ◌+◌, ◌∙◌, ◌≡◌, SyncPlan, Units, amount, ap, clock_of, pos, standpoint_of, sym, ℤ}
+use Rattle.switch_ports.proofs.{Faults.shut_is, Words.{◌*◌, ◌+ℤ◌, ◌+◌, ◌∙◌, ◌≡◌, SyncPlan, Units, amount, ap, clock_of, pos, standpoint_of, sym, ℤ}}
 use Rattle.std.specs.Int.{int_rem_euclid}
-use Rattle.switch_ports.proofs.Faults.{shut_is}
 use Rattle.switch_ports.proofs.site.Site.is_gate_shut.Goals as goal
 
 pub returns : goal.returns

@@ -1,5 +1,4 @@
-use Rattle.switch_ports.proofs.Words.{◌∙◌, sym}
-use Rattle.switch_ports.proofs.Joinings.{integrates_so}
+use Rattle.switch_ports.proofs.{Joinings.integrates_so, Words.{◌∙◌, sym}}
 use Rattle.switch_ports.proofs.switch.Switch.hear_frame.Goals as goal
 
 pub returns-in-Integrates-clause-hears : goal.returns-in-Integrates-clause-hears

@@ -1,5 +1,4 @@
-use Rattle.switch_ports.proofs.Words.{◌*◌, ◌≡◌, None, length, ℕ}
-use Rattle.switch_ports.specs.Tournaments.{node_at}
+use Rattle.switch_ports.{proofs.Words.{◌*◌, ◌≡◌, None, length, ℕ}, specs.Tournaments.node_at}
 use Rattle.switch_ports.proofs.tournament.Tournament.new.Given as goal
 
 abbrev pub invariant-loop : goal.invariant-loop

@@ -1,5 +1,4 @@
-use Rattle.switch_ports.proofs.Words.{◌≡◌}
-use Rattle.switch_ports.specs.Tournaments.{IsClimbing}
+use Rattle.switch_ports.{proofs.Words.◌≡◌, specs.Tournaments.IsClimbing}
 use Rattle.switch_ports.proofs.tournament.Tournament.put.Given as goal
 
 abbrev pub invariant-up : goal.invariant-up

@@ -1,6 +1,5 @@
 use Rattle.std.proofs.Common.{[], refl}
-use Rattle.audit_devices.specs.Showing.{IsSteady}
-use Rattle.audit_devices.specs.events.Readings.{scenario_under}
+use Rattle.audit_devices.specs.{Showing.IsSteady, events.Readings.scenario_under}
 use Rattle.net_plan.specs.declared.ids.DeviceId.{DeviceId}
 use Rattle.test_audits.proofs.judges.dispatches.where_no_record_stands_the_first_frame_is_owed.Goals as goal
 

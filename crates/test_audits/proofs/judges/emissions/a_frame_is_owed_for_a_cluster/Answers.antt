@@ -1,5 +1,5 @@
 use Rattle.std.proofs.{Common.{◌∷◌, ◌≤ℤ◌, [], pos, refl, sym}, lemmas.List.Elements.All-nil}
-use Rattle.audit_unpaid.proofs.emissions_lemmas.Examples.{one_permanent}
+use Rattle.audit_sweep.proofs.unpaid_lemmas.emissions_lemmas.Examples.{one_permanent}
 use Rattle.compression.specs.Clusters.{Point}
 use Rattle.test_audits.proofs.judges.emissions.a_frame_is_owed_for_a_cluster.Goals as goal
 

@@ -1,7 +1,5 @@
-use Rattle.std.proofs.Common.{◌≡◌, ◌∷◌, ◌+◌, ◌∙◌, take, drop, ap, sym, List, ℕ, rules}
-use Rattle.std.proofs.lemmas.List.{take_rest}
-use Rattle.trace_text.specs.Steps.{words}
-use Rattle.trace_text.proofs.Splitting.{words_parted, words_whole}
+use Rattle.std.proofs.{Common.{◌+◌, ◌∙◌, ◌∷◌, ◌≡◌, List, ap, drop, rules, sym, take, ℕ}, lemmas.List.take_rest}
+use Rattle.trace_text.{proofs.Splitting.{words_parted, words_whole}, specs.Steps.words}
 use Rattle.trace_text.proofs.words.Words.next_word.Goals as goal
 
 pub returns-in-Some : goal.returns-in-Some

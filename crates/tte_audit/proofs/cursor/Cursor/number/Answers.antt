@@ -1,5 +1,4 @@
-use Rattle.tte_audit.proofs.Words.{◌∙◌, ◌≡◌, ◌≤◌, AllDigits, List, ap, arith, digits_value, get_or, length, rules, subst, take, ℕ}
-use Rattle.tte_audit.proofs.Decimals.{decimal_front}
+use Rattle.tte_audit.proofs.{Decimals.decimal_front, Words.{◌∙◌, ◌≡◌, ◌≤◌, AllDigits, List, ap, arith, digits_value, get_or, length, rules, subst, take, ℕ}}
 use Rattle.tte_audit.proofs.cursor.Cursor.number.Goals as goal
 
 pub returns-clause-text : goal.returns-clause-text

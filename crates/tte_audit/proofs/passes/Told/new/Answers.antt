@@ -1,5 +1,4 @@
-use Rattle.tte_audit.proofs.Words.{refl}
-use Rattle.tte_audit.proofs.Telling.{none_told}
+use Rattle.tte_audit.proofs.{Telling.none_told, Words.refl}
 use Rattle.tte_audit.proofs.passes.Told.new.Goals as goal
 
 pub returns : goal.returns

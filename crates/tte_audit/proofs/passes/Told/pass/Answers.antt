@@ -1,5 +1,4 @@
-use Rattle.tte_audit.proofs.Words.{refl}
-use Rattle.tte_audit.proofs.Quiet.{passed_on}
+use Rattle.tte_audit.proofs.{Quiet.passed_on, Words.refl}
 use Rattle.tte_audit.proofs.passes.Told.pass.Goals as goal
 
 pub returns : goal.returns

@@ -1,5 +1,4 @@
-use Rattle.tte_audit.proofs.Words.{events_of}
-use Rattle.tte_audit.proofs.{Befalling.match_true, Seeking.one_sought}
+use Rattle.tte_audit.proofs.{Befalling.match_true, Seeking.one_sought, Words.events_of}
 use Rattle.tte_audit.proofs.swift.Sought.take.Goals as goal
 
 pub returns-in-Ok : goal.returns-in-Ok

@@ -1,8 +1,7 @@
 use Rattle.std.proofs.{Common.{◌<◌, ◌∷◌, inl, inr, length, refl, slice_get, slice_set, subst, sym}, lemmas.List.Sorted.{IsPermutation-map, IsPermutation-sym}}
 use Rattle.std.{proofs.lemmas.Option.slice_get_read, specs.List.Sorted.IsPermutation}
-use Rattle.world_state.{proofs.queue_lemmas.Bags.in_permuted, specs.declared.queue.Entry.Entry}
 use Rattle.world_state.{proofs.Queues.{content_of, has_room, one_more_in, set_queued}, specs.Frames.{IsQueued, Waiting, frames_in, room_of}}
-use Rattle.world_state.specs.declared.contents.Waits.{Waits}
+use Rattle.world_state.{proofs.queue_lemmas.Bags.in_permuted, specs.declared.{contents.Waits.Waits, queue.Entry.Entry}}
 use Rattle.world_state.proofs.frames.Frames.put.Goals as goal
 
 pub invariant_of-self : goal.invariant_of-self

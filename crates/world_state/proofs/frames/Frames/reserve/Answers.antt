@@ -2,8 +2,7 @@ use Rattle.std.{proofs.{Common.{◌<◌, ◌∙◌, List, Option, ap, length, re
 use Rattle.std.specs.Prelude.{OnOk}
 use Rattle.run_law.specs.records.Order.{IsIn}
 use Rattle.tte_lemmas.proofs.Lists.{set_same}
-use Rattle.world_state.specs.{queue.Queues.Queue, declared.queue.Entry.Entry}
-use Rattle.world_state.{proofs.Queues.{same_in, set_queued}, specs.{Frames.Waiting, declared.contents.Waits.Waits}}
+use Rattle.world_state.{proofs.Queues.{same_in, set_queued}, specs.{Frames.Waiting, declared.{contents.Waits.Waits, queue.Entry.Entry}, queue.Queues.Queue}}
 use Rattle.world_state.proofs.frames.Frames.reserve.Goals as goal
 
 pub invariant_of-self : goal.invariant_of-self

@@ -1,9 +1,8 @@
 use Rattle.std.proofs.Common.{◌∙◌, ◌∷◌, ◌≡◌, IfSome, Option, Some, ap, inr, is_some, length, refl, slice_get, slice_set, subst, sym, true}
 use Rattle.std.{proofs.lemmas.{List.Sorted.{IsPermutation-map, IsPermutation-sym}, Option.slice_get_read}, specs.List.Sorted.IsPermutation}
 use Rattle.std.specs.Option.{option_and_then, option_map}
-use Rattle.world_state.{proofs.queue_lemmas.Bags.in_permuted, specs.declared.queue.Entry.Entry}
 use Rattle.world_state.{proofs.Queues.{content_of, has_first, one_fewer_in, set_queued}, specs.Frames.{Waiting, first_frame, first_of, frames_in}}
-use Rattle.world_state.specs.declared.contents.Waits.{Waits}
+use Rattle.world_state.{proofs.queue_lemmas.Bags.in_permuted, specs.declared.{contents.Waits.Waits, queue.Entry.Entry}}
 use Rattle.world_state.proofs.frames.Frames.take_first.Goals as goal
 
 pub invariant_of-self : goal.invariant_of-self

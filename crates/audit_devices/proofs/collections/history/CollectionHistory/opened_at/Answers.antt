@@ -1,10 +1,8 @@
 use Rattle.std.proofs.Common.{◌∙◌, ◌≡◌, ◌≤ℤ◌, ◌≤◌, FitsSigned, None, Option, Some, ap, arith, length, map, of_z, pos, rules, subst, sym, w64, ℤ}
 use Rattle.std.{proofs.lemmas.Int.{ints, to_z-of_z}, specs.Prelude.{All, Contains, IfSome}}
-use Rattle.audit_devices.proofs.collections_lemmas.Kepts.{contains-at, emission-at}
+use Rattle.audit_devices.{proofs.collections_lemmas.Kepts.{contains-at, emission-at}, specs.collections.Kept.{History, cluster_kept, emitted, kept_in}}
 use Rattle.audit_devices.proofs.collections_lemmas.Places.{gathered-rising, length-kept, none-behind, none-beside, none-opened, only-there}
-use Rattle.audit_devices.specs.{collections.Gathered.HasRow, collections.Kept.{History, cluster_kept, emitted, kept_in}, collections.Rising.IsPlaceFor}
-use Rattle.audit_devices.specs.{declared.collections.emitted.Emitted.Emitted}
-use Rattle.audit_devices.specs.declared.collections.gathering.Row.{Row}
+use Rattle.audit_devices.specs.{collections.{Gathered.HasRow, Rising.IsPlaceFor}, declared.collections.{emitted.Emitted.Emitted, gathering.Row.Row}}
 use Rattle.audit_devices.proofs.collections.history.CollectionHistory.opened_at.Goals as goal
 
 pub search-place-requires-clause-rising : goal.search-place-requires-clause-rising

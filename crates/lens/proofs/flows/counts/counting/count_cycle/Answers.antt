@@ -1,5 +1,4 @@
-use Rattle.std.proofs.Common.{inl, inr, refl, sym, ◌∙◌}
-use Rattle.std.proofs.lemmas.Bool.{false≢true}
+use Rattle.std.proofs.{Common.{◌∙◌, inl, inr, refl, sym}, lemmas.Bool.false≢true}
 use Rattle.lens.proofs.flows.counts.counting.count_cycle.Goals as goal
 
 pub returns-then-not-occurs_in : goal.returns-then-not-occurs_in

@@ -1,10 +1,6 @@
-use Rattle.std.proofs.Common.{◌≡◌, ◌<◌, ◌^◌, ℕ, List, take, ap, length, sym, subst, ◌∙◌, arith, rules}
-use Rattle.std.proofs.Math.Seq.{take-length}
-use Rattle.std.proofs.lemmas.List.{take_more}
+use Rattle.std.proofs.{Common.{◌<◌, ◌^◌, ◌∙◌, ◌≡◌, List, ap, arith, length, rules, subst, sym, take, ℕ}, Math.Seq.take-length, lemmas.List.take_more}
 use Rattle.lens.proofs.flows_lemmas.counts_lemmas.Sums.{few_counted, next_delivered, none_delivered, taken_short}
-use Rattle.lens.specs.flows.counts.Deliveries.{AreDeliveries}
-use Rattle.lens.specs.declared.flows.counts.deliveries.Delivery.{Delivery}
-use Rattle.lens.specs.flows.judge.Courses.{scenario_of}
+use Rattle.lens.specs.{declared.flows.counts.deliveries.Delivery.Delivery, flows.{counts.Deliveries.AreDeliveries, judge.Courses.scenario_of}}
 use Rattle.lens.proofs.flows.counts.deliveries.count_deliveries.Goals as goal
 
 pub one_more-counted-requires-clause-few : goal.one_more-counted-requires-clause-few

@@ -1,6 +1,5 @@
 use Rattle.std.proofs.Common.{ℤ, inl, inr, refl, sym, subst, ◌∙◌, rules}
-use Rattle.lens.specs.flows.counts.Nearest.{IsInsideSome, TellsLeast}
-use Rattle.lens.proofs.flows_lemmas.judge_lemmas.Rows.{receiver_there}
+use Rattle.lens.{proofs.flows_lemmas.judge_lemmas.Rows.receiver_there, specs.flows.counts.Nearest.{IsInsideSome, TellsLeast}}
 use Rattle.lens.proofs.flows.counts.deliveries.one_more.Goals as goal
 
 pub place_at-place-requires-clause-device : goal.place_at-place-requires-clause-device

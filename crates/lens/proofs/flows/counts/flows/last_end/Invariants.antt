@@ -1,5 +1,4 @@
-use Rattle.lens.proofs.flows_lemmas.counts_lemmas.Ends.{EndsBefore}
-use Rattle.lens.specs.flows.counts.Greatest.{TellsGreatest}
+use Rattle.lens.{proofs.flows_lemmas.counts_lemmas.Ends.EndsBefore, specs.flows.counts.Greatest.TellsGreatest}
 use Rattle.lens.proofs.flows.counts.flows.last_end.Given as goal
 
 abbrev pub invariant-rows : goal.invariant-rows

@@ -1,9 +1,6 @@
-use Rattle.std.proofs.Common.{◌+ℤ◌, ℕ, ℤ, pos, ap, ◌∙◌, arith, rules}
-use Rattle.std.proofs.lemmas.Int.{to_z-of_z}
-use Rattle.std.specs.Int.{w128}
+use Rattle.std.{proofs.{Common.{◌+ℤ◌, ◌∙◌, ap, arith, pos, rules, ℕ, ℤ}, lemmas.Int.to_z-of_z}, specs.Int.w128}
 use Rattle.lens.specs.flows.judge.Courses.{scenario_of}
-use Rattle.run_law.specs.device.Standpoints.{offset_in_cycle}
-use Rattle.run_law.specs.device.States.{adjustment_before}
+use Rattle.run_law.specs.device.{Standpoints.offset_in_cycle, States.adjustment_before}
 use Rattle.lens.proofs.flows.counts.nearest.place_at.Goals as goal
 
 pub before_time-shown-requires : goal.before_time-shown-requires

@@ -1,10 +1,6 @@
-use Rattle.std.proofs.Common.{◌≡◌, ◌++◌, ◌∷◌, ℕ, List, [], take, ap, sym, subst, ◌∙◌, arith}
-use Rattle.std.proofs.Math.Seq.{take-length}
-use Rattle.std.proofs.lemmas.List.{take_more}
-use Rattle.lens.proofs.flows_lemmas.counts_lemmas.Telling.{none_told, told_more}
+use Rattle.std.proofs.{Common.{◌++◌, ◌∙◌, ◌∷◌, ◌≡◌, List, [], ap, arith, subst, sym, take, ℕ}, Math.Seq.take-length, lemmas.List.take_more}
+use Rattle.lens.{proofs.flows_lemmas.counts_lemmas.Telling.{none_told, told_more}, specs.{declared.flows.judge.flow.Flow.Flow, flows.judge.Courses.scenario_of}}
 use Rattle.lens.specs.flows.counts.Told.{AreToldOf}
-use Rattle.lens.specs.flows.judge.Courses.{scenario_of}
-use Rattle.lens.specs.declared.flows.judge.flow.Flow.{Flow}
 use Rattle.lens.proofs.flows.counts.told.tell_all.Goals as goal
 
 pub flows-init : goal.flows-init

@@ -1,19 +1,10 @@
-use Rattle.std.proofs.Common.{rules, ℤ, ◌≡◌, ◌++◌, ℕ, List, Option, ap, refl, sym, subst, ◌∙◌}
-use Rattle.std.proofs.lemmas.Int.{to_z-of_z}
-use Rattle.std.specs.Int.{w64}
-use Rattle.std.specs.Prelude.{unsigned_abs}
-use Rattle.audit_devices.specs.Keeping.{IsSeen, Stands}
-use Rattle.audit_devices.specs.Showing.{IsReading}
-use Rattle.audit_devices.specs.events.Readings.{scenario_under}
-use Rattle.audit_records.specs.Keeping.{records_of}
-use Rattle.audit_records.specs.declared.kept.KeptRecord.{KeptRecord}
+use Rattle.std.{proofs.{Common.{◌++◌, ◌∙◌, ◌≡◌, List, Option, ap, refl, rules, subst, sym, ℕ, ℤ}, lemmas.Int.to_z-of_z}, specs.{Int.w64, Prelude.unsigned_abs}}
+use Rattle.audit_devices.specs.{Keeping.{IsSeen, Stands}, Showing.IsReading, events.Readings.scenario_under}
+use Rattle.audit_sweep.specs.{declared.records.kept.KeptRecord.KeptRecord, records.Keeping.records_of}
 use Rattle.lens.proofs.flows_lemmas.counts_lemmas.SeenMore.{deliveries_more, records_next, steady, subject_there}
-use Rattle.lens.specs.flows.counts.Deliveries.{deliveries_of, delivery_by}
-use Rattle.lens.specs.flows.counts.Seen.{some_delivery}
-use Rattle.lens.specs.declared.flows.counts.deliveries.Delivery.{Delivery}
+use Rattle.lens.specs.{declared.flows.counts.deliveries.Delivery.Delivery, flows.counts.{Deliveries.{deliveries_of, delivery_by}, Seen.some_delivery}}
 use Rattle.net_plan.specs.declared.ids.DeviceId.{DeviceId}
-use Rattle.run_law.proofs.runs.NetworkRuns.{one_more}
-use Rattle.run_law.specs.records.Happenings.{Happening, happening, happenings}
+use Rattle.run_law.{proofs.runs.NetworkRuns.one_more, specs.records.Happenings.{Happening, happening, happenings}}
 use Rattle.tte_units.specs.Amount.{amount}
 use Rattle.lens.proofs.flows.counts.seen.Seen.push.Goals as goal
 

@@ -1,9 +1,7 @@
-use Rattle.std.proofs.Common.{ℕ, ◌+◌, ◌≤ℤ◌, ℤ, pos, List, sym, subst, ◌∙◌, refl, arith, rules}
-use Rattle.std.proofs.lemmas.Int.{ints}
+use Rattle.std.proofs.{Common.{◌+◌, ◌∙◌, ◌≤ℤ◌, List, arith, pos, refl, rules, subst, sym, ℕ, ℤ}, lemmas.Int.ints}
 use Rattle.audit_devices.specs.clocks.Finding.{value_in}
-use Rattle.audit_unpaid.proofs.points_lemmas.Sendings.{few_crossed}
-use Rattle.lens.proofs.flows_lemmas.judge_lemmas.BegunCycles.{first_begun, none_begun}
-use Rattle.lens.specs.flows.judge.Courses.{scenario_of}
+use Rattle.audit_sweep.proofs.unpaid_lemmas.points_lemmas.Sendings.{few_crossed}
+use Rattle.lens.{proofs.flows_lemmas.judge_lemmas.BegunCycles.{first_begun, none_begun}, specs.flows.judge.Courses.scenario_of}
 use Rattle.lens.proofs.flows.judge.course.Course.begun_within.Goals as goal
 
 pub next_crossing-requires-clause-some : goal.next_crossing-requires-clause-some

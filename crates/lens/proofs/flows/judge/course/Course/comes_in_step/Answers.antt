@@ -1,8 +1,5 @@
-use Rattle.std.proofs.Common.{◌≡◌, ◌+◌, ◌-◌, ◌≤◌, ℕ, List, sym, ◌∙◌, arith}
-use Rattle.std.proofs.lemmas.Bool.{false≢true}
-use Rattle.lens.proofs.flows_lemmas.judge_lemmas.Comings.{none_in_step, passed_in_step}
-use Rattle.lens.proofs.flows_lemmas.judge_lemmas.Firsts.{none_both}
-use Rattle.lens.specs.flows.judge.Courses.{scenario_of}
+use Rattle.std.proofs.{Common.{◌+◌, ◌-◌, ◌∙◌, ◌≡◌, ◌≤◌, List, arith, sym, ℕ}, lemmas.Bool.false≢true}
+use Rattle.lens.{proofs.flows_lemmas.judge_lemmas.{Comings.{none_in_step, passed_in_step}, Firsts.none_both}, specs.flows.judge.Courses.scenario_of}
 use Rattle.lens.specs.flows.judge.Fates.{ReachesInStep}
 use Rattle.lens.proofs.flows.judge.course.Course.comes_in_step.Goals as goal
 

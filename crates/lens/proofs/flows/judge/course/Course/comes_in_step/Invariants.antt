@@ -1,7 +1,5 @@
 use Rattle.std.proofs.Common.{◌+◌, ◌-◌, ◌≤◌, List}
-use Rattle.lens.specs.flows.judge.Courses.{IsCourse, scenario_of}
-use Rattle.lens.specs.flows.judge.Fates.{ReachesInStep}
-use Rattle.lens.specs.flows.judge.Times.{NoneWithin}
+use Rattle.lens.specs.flows.judge.{Courses.{IsCourse, scenario_of}, Fates.ReachesInStep, Times.NoneWithin}
 use Rattle.net_plan.specs.declared.event.Event.{Event}
 use Rattle.run_law.specs.records.Happenings.{Happening}
 use Rattle.lens.proofs.flows.judge.course.Course.comes_in_step.Given as goal

@@ -1,9 +1,6 @@
-use Rattle.std.proofs.Common.{◌≡◌, ◌+◌, ◌≤◌, ℕ, List, refl, sym, subst, ◌∙◌, arith}
-use Rattle.std.proofs.lemmas.Bool.{false≢true}
-use Rattle.lens.proofs.flows_lemmas.judge_lemmas.Fating.{IsEndOf, end_there, no_end, ready_stays, ready_to_end, stays_ready}
-use Rattle.lens.proofs.flows_lemmas.judge_lemmas.Rows.{receiver_there}
-use Rattle.lens.specs.flows.judge.Courses.{scenario_of}
-use Rattle.lens.specs.flows.judge.Times.{IsFirstTime, NoneWithin}
+use Rattle.std.proofs.{Common.{◌+◌, ◌∙◌, ◌≡◌, ◌≤◌, List, arith, refl, subst, sym, ℕ}, lemmas.Bool.false≢true}
+use Rattle.lens.proofs.flows_lemmas.judge_lemmas.{Fating.{IsEndOf, end_there, no_end, ready_stays, ready_to_end, stays_ready}, Rows.receiver_there}
+use Rattle.lens.specs.flows.judge.{Courses.scenario_of, Times.{IsFirstTime, NoneWithin}}
 use Rattle.lens.proofs.flows.judge.course.Course.fate.Goals as goal
 
 pub first_reached-requires-clause-device : goal.first_reached-requires-clause-device

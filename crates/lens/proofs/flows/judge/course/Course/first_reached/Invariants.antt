@@ -1,9 +1,7 @@
 use Rattle.std.proofs.Common.{◌+◌, ◌-◌, ◌≤◌, List}
-use Rattle.lens.specs.flows.judge.Courses.{IsCourse, scenario_of}
-use Rattle.lens.specs.flows.judge.Times.{NoneWithin}
+use Rattle.lens.specs.flows.judge.{Courses.{IsCourse, scenario_of}, Times.NoneWithin}
 use Rattle.net_plan.specs.declared.event.Event.{Event}
-use Rattle.run_law.specs.law.Safety.{ReachesPlace}
-use Rattle.run_law.specs.records.Happenings.{Happening}
+use Rattle.run_law.specs.{law.Safety.ReachesPlace, records.Happenings.Happening}
 use Rattle.lens.proofs.flows.judge.course.Course.first_reached.Given as goal
 
 abbrev pub invariant-stretches : goal.invariant-stretches

@@ -1,9 +1,6 @@
-use Rattle.std.proofs.Common.{◌≡◌, ◌+◌, ◌-◌, ◌≤◌, ℕ, List, refl, sym, subst, ◌∙◌, arith}
-use Rattle.std.proofs.lemmas.Bool.{false≢true}
-use Rattle.lens.proofs.flows_lemmas.judge_lemmas.Fating.{IsEndOf, end_there, made_owed, no_end_left, none_on, none_yet, not_in_step}
-use Rattle.lens.proofs.flows_lemmas.judge_lemmas.Rows.{receiver_there}
-use Rattle.lens.specs.flows.judge.Courses.{scenario_of}
-use Rattle.lens.specs.flows.judge.Times.{IsFirstTime, NoneWithin}
+use Rattle.std.proofs.{Common.{◌+◌, ◌-◌, ◌∙◌, ◌≡◌, ◌≤◌, List, arith, refl, subst, sym, ℕ}, lemmas.Bool.false≢true}
+use Rattle.lens.proofs.flows_lemmas.judge_lemmas.{Fating.{IsEndOf, end_there, made_owed, no_end_left, none_on, none_yet, not_in_step}, Rows.receiver_there}
+use Rattle.lens.specs.flows.judge.{Courses.scenario_of, Times.{IsFirstTime, NoneWithin}}
 use Rattle.lens.proofs.flows.judge.course.Course.is_owed.Goals as goal
 
 pub first_reached-requires-clause-device : goal.first_reached-requires-clause-device

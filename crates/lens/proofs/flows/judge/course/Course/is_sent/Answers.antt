@@ -1,8 +1,5 @@
-use Rattle.std.proofs.Common.{◌≡◌, ◌+◌, ◌<◌, ◌≤◌, ℕ, List, ap, length, refl, sym, subst, ◌∙◌, arith, inl, inr}
-use Rattle.std.proofs.lemmas.Bool.{false≢true, not-true, not-false}
-use Rattle.lens.proofs.flows_lemmas.judge_lemmas.Rows.{all_rows, one_more, sender_there}
-use Rattle.lens.specs.flows.judge.Courses.{scenario_of}
-use Rattle.lens.specs.flows.judge.Fates.{IsRowSent}
+use Rattle.std.proofs.{Common.{◌+◌, ◌<◌, ◌∙◌, ◌≡◌, ◌≤◌, List, ap, arith, inl, inr, length, refl, subst, sym, ℕ}, lemmas.Bool.{false≢true, not-false, not-true}}
+use Rattle.lens.{proofs.flows_lemmas.judge_lemmas.Rows.{all_rows, one_more, sender_there}, specs.flows.judge.{Courses.scenario_of, Fates.IsRowSent}}
 use Rattle.net_plan.specs.declared.tables.Row.{Row}
 use Rattle.lens.proofs.flows.judge.course.Course.is_sent.Goals as goal
 

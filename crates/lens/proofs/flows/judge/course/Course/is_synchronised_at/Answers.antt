@@ -1,7 +1,5 @@
-use Rattle.std.proofs.Common.{◌≡◌, ◌+◌, ◌≤◌, List, refl, sym, ◌∙◌, arith, rules}
-use Rattle.std.proofs.lemmas.Bool.{false≢true}
-use Rattle.lens.proofs.flows_lemmas.judge_lemmas.Steps.{shown_state}
-use Rattle.lens.specs.flows.judge.Courses.{scenario_of}
+use Rattle.std.proofs.{Common.{◌+◌, ◌∙◌, ◌≡◌, ◌≤◌, List, arith, refl, rules, sym}, lemmas.Bool.false≢true}
+use Rattle.lens.{proofs.flows_lemmas.judge_lemmas.Steps.shown_state, specs.flows.judge.Courses.scenario_of}
 use Rattle.sync_state.specs.declared.state.State.TheVariants.{Synchronised}
 use Rattle.lens.proofs.flows.judge.course.Course.is_synchronised_at.Goals as goal
 

@@ -1,9 +1,6 @@
-use Rattle.std.proofs.Common.{◌≡◌, ◌+◌, ◌<◌, ◌≤◌, ℕ, false, true, List, refl, sym, subst, ◌∙◌, arith, rules}
-use Rattle.std.proofs.lemmas.Bool.{false≢true}
-use Rattle.audit_unpaid.proofs.points_lemmas.Joining.{end_later, end_near, shows_within}
-use Rattle.audit_unpaid.specs.points.Kept.{ShowsWithin}
-use Rattle.lens.proofs.flows_lemmas.judge_lemmas.Steps.{in_step, shown_state, stays_on}
-use Rattle.lens.specs.flows.judge.Courses.{scenario_of}
+use Rattle.std.proofs.{Common.{◌+◌, ◌<◌, ◌∙◌, ◌≡◌, ◌≤◌, List, arith, false, refl, rules, subst, sym, true, ℕ}, lemmas.Bool.false≢true}
+use Rattle.audit_sweep.{proofs.unpaid_lemmas.points_lemmas.Joining.{end_later, end_near, shows_within}, specs.unpaid.points.Kept.ShowsWithin}
+use Rattle.lens.{proofs.flows_lemmas.judge_lemmas.Steps.{in_step, shown_state, stays_on}, specs.flows.judge.Courses.scenario_of}
 use Rattle.sync_state.specs.declared.state.State.TheVariants.{Synchronised}
 use Rattle.lens.proofs.flows.judge.course.Course.stays_in_step.Goals as goal
 

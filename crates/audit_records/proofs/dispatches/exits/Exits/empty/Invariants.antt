@@ -1,6 +1,0 @@
-use Rattle.std.proofs.Common.{◌≡◌, [], length, ℕ}
-use Rattle.audit_records.proofs.dispatches_lemmas.RowsOn.{items_at}
-use Rattle.audit_records.proofs.dispatches.exits.Exits.empty.Given as goal
-
-abbrev pub invariant-loop : goal.invariant-loop
-invariant-loop l = ((i : ℕ) → items_at l.links.items i ≡ []) × (length l.links.items ≡ l.counter)

@@ -1,8 +1,0 @@
-use Rattle.std.proofs.Common.{◌≤◌, Global, List, Vec, length, subst}
-use Rattle.audit_records.{proofs.dispatches_lemmas.RowsOn.past_all, specs.declared.dispatches.leaving.LeavingRow.LeavingRow}
-use Rattle.audit_records.proofs.dispatches.exits.Exits.on.Goals as goal
-
-pub returns-in-None : goal.returns-in-None
-returns-in-None c network are =
-    past_all network c.args.self.now c.args.link
-    (subst (λ (xs : List (Vec LeavingRow Global)). length xs ≤ c.args.link.0) c.as_slice.ensures.value c.in-None.ensures.lookup.3) are

@@ -1,6 +1,0 @@
-use Rattle.audit_records.proofs.dispatches_lemmas.Occurring.{are_leavings}
-use Rattle.audit_records.proofs.dispatches.leaving.LeavingRow.leavings.Goals as goal
-
-pub returns-clause-is : goal.returns-clause-is
-returns-clause-is c =
-    are_leavings c.args.network.now c.args.self.now c.series.result c.requires.row c.if-self.false c.series.ensures.first c.series.ensures.step

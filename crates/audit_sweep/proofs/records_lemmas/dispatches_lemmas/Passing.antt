@@ -1,0 +1,66 @@
+-- What a switch dispatches of a frame that it took.
+use Rattle.std.{proofs.{Common.{◌↔◌, ◌∙◌, ◌≡◌, List, None, Option, Some, ap, inl, inr, subst, sym, ℕ}, lemmas.Option.same_Some}, specs.Prelude.option_map}
+use Rattle.audit_sweep.specs.{declared.records.{dispatches.leaving.Dispatch.Dispatch, kept.Kept.Kept}, records.dispatches.Judged.{DispatchesSome, IsKeptOf}}
+use Rattle.audit_sweep.specs.records.{Keeping.kept_of, dispatches.{Passed.passed_as, Sent.AreFoundByNumber}}
+use Rattle.net_plan.specs.declared.{ids.{DeviceId.DeviceId, LinkId.LinkId, VlId.VlId}, network.Network.Network}
+use Rattle.run_law.{proofs.law.FirstDeliveries.accepted_in, specs.{records.Happenings.{Happening, numbered}, scenario.Scenarios.Scenario}}
+use Rattle.run_law.specs.timed.Dispatching.{Dispatches, HasAccepted, HasAtHand}
+use Rattle.schedule_tables.specs.declared.entry.Entry.{Entry}
+use Rattle.audit_sweep.specs.declared.records.kept.Kept.TheVariants as kepts
+
+accepted_kept : (hs : List Happening) (device : DeviceId) (vl : VlId) (t cause cycle : ℕ) (kept : Option Kept) → AreFoundByNumber hs
+    → IsKeptOf hs cause kept → HasAccepted hs device vl t cause cycle → kept ≡ Some (kepts.Accepted device vl cycle)
+accepted_kept hs device vl t cause cycle kept found is has =
+    let h = has.taken in
+    let there : numbered hs cause ≡ Some h =
+    subst (λ (n : ℕ). numbered hs n ≡ Some h) (sym has.number) (found h (accepted_in hs device vl t cause cycle has)) in
+    is ∙ ap (option_map (λ (x : Happening). kept_of x.note.body)) there ∙ ap (λ b. Some (kept_of b)) has.is
+
+by_hand : (network : Network) (hs : List Happening) (device : DeviceId) (entry : Entry) (t cause cycle : ℕ) (kept : Option Kept) → AreFoundByNumber hs
+    → IsKeptOf hs cause kept → (cause ≡ 0 → ⊥) → HasAtHand network hs device entry t cause cycle
+    → kept ≡ Some (kepts.Accepted device entry.row.vl cycle)
+by_hand network hs device entry t cause cycle kept found is some (inl (sends, none)) = absurd (some none)
+by_hand network hs device entry t cause cycle kept found is some (inr (switch, has)) =
+    accepted_kept hs device entry.row.vl t cause cycle kept found is has
+
+-- what is dispatched by a record is what it took
+pub passed_is : (s : Scenario) (hs : List Happening) (device : DeviceId) (t : ℕ) (link : LinkId) (cause : ℕ) (vl : VlId) (cycle : ℕ) (kept : Option Kept)
+    → AreFoundByNumber hs → IsKeptOf hs cause kept → (cause ≡ 0 → ⊥) → Dispatches s hs device t link cause vl cycle
+    → passed_as link cause kept ≡ Some (record { link = link; cause = cause; vl = vl; cycle = cycle })
+passed_is s hs device t link cause vl cycle kept found is some does =
+    let made : VlId → Dispatch = λ v. record { link = link; cause = cause; vl = v; cycle = cycle } in
+    ap (passed_as link cause) (by_hand s.network hs device does.entry t cause cycle kept found is some does.at_hand)
+    ∙ ap (λ (v : VlId). Some (made v)) does.of_vl
+
+passed_link : (link : LinkId) (cause : ℕ) (kept : Option Kept) (dispatch : Dispatch) → passed_as link cause kept ≡ Some dispatch
+    → (dispatch.link ≡ link) × (dispatch.cause ≡ cause)
+passed_link link cause None dispatch e = absurd cc
+passed_link link cause (Some (kepts.Accepted by vl cycle)) dispatch e =
+    let one = same_Some _ _ e in
+    (sym (ap (λ (d : Dispatch). d.link) one), sym (ap (λ (d : Dispatch). d.cause) one))
+passed_link link cause (Some kept) dispatch e = absurd cc
+
+pub passed_some : (s : Scenario) (hs : List Happening) (device : DeviceId) (t : ℕ) (link : LinkId) (cause : ℕ) (kept : Option Kept) (dispatch : Dispatch)
+    → AreFoundByNumber hs → IsKeptOf hs cause kept → (cause ≡ 0 → ⊥) → passed_as link cause kept ≡ Some dispatch
+    → Dispatches s hs device t dispatch.link dispatch.cause dispatch.vl dispatch.cycle ↔ DispatchesSome s hs device t link cause
+passed_some s hs device t link cause kept dispatch found is some passed = (to, from)
+  where
+    to : Dispatches s hs device t dispatch.link dispatch.cause dispatch.vl dispatch.cycle → DispatchesSome s hs device t link cause
+    to does =
+        let as_said = passed_link link cause kept dispatch passed in (
+          dispatch.vl,
+          dispatch.cycle,
+          subst (λ (l : LinkId). Dispatches s hs device t l cause dispatch.vl dispatch.cycle) as_said.0
+              (subst (λ (n : ℕ). Dispatches s hs device t dispatch.link n dispatch.vl dispatch.cycle) as_said.1 does),
+        )
+
+    from : DispatchesSome s hs device t link cause → Dispatches s hs device t dispatch.link dispatch.cause dispatch.vl dispatch.cycle
+    from (vl, cycle, does) =
+        let made : Dispatch = record { link = link; cause = cause; vl = vl; cycle = cycle } in
+        let one : dispatch ≡ made = same_Some _ _ (sym passed ∙ passed_is s hs device t link cause vl cycle kept found is some does) in
+        subst (λ (d : Dispatch). Dispatches s hs device t d.link d.cause d.vl d.cycle) (sym one) does
+
+pub passed_none : (s : Scenario) (hs : List Happening) (device : DeviceId) (t : ℕ) (link : LinkId) (cause : ℕ) (kept : Option Kept)
+    → AreFoundByNumber hs → IsKeptOf hs cause kept → (cause ≡ 0 → ⊥) → passed_as link cause kept ≡ None → DispatchesSome s hs device t link cause → ⊥
+passed_none s hs device t link cause kept found is some none (vl, cycle, does) =
+    let never = sym none ∙ passed_is s hs device t link cause vl cycle kept found is some does in absurd cc

@@ -1,0 +1,102 @@
+-- What is dispatched by the rows of a link.
+use Rattle.std.proofs.Common.{◌+◌, ◌<◌, ◌↔◌, ◌∙◌, ◌∷◌, ◌≡◌, ◌≤◌, Bool, IsTrue, List, [], arith, false, inl, inr, length, slice_index_or, subst, suc, sym, zero}
+use Rattle.std.proofs.{Common.ℕ, lemmas.Bool.false≢true}
+use Rattle.net_plan.specs.{Ranges.{IsInRange, IsVlInRange}, declared.{ids.{DeviceId.DeviceId, LinkId.LinkId, VlId.VlId}, network.Network.Network}}
+use Rattle.run_law.specs.{records.{Happenings.Happening, Order.IsIn}, scenario.Scenarios.Scenario, timed.Dispatching.{Dispatches, IsUp}}
+use Rattle.tte_lemmas.proofs.{Lists.in_all, Naturals.below_next}
+use Rattle.audit_sweep.specs.records.dispatches.{Dispatched.{IsAtHand, IsRowDispatched, SomeDispatched}, Leaving.{AreRowsOn, HavePeriods, leaving_by}}
+use Rattle.audit_sweep.specs.declared.records.dispatches.leaving.{Dispatch.Dispatch, LeavingRow.LeavingRow}
+
+-- ---- lists
+
+-- what is in a list has a place in it
+pub record IsAtPlace {X : Type 0} (xs : List X) (d x : X) : Type 0 where
+  pub place : ℕ
+  pub within : place < length xs
+  pub is : slice_index_or xs place d ≡ x
+
+pub placed : {X : Type 0} (xs : List X) (d x : X) → IsIn x xs → IsAtPlace xs d x
+placed [] d x there = absurd there
+placed (y ∷ ys) d x (inl e) = record { place = zero; within = omega arith; is = sym e }
+placed (y ∷ ys) d x (inr there) =
+    let rest = placed ys d x there in
+    let within = rest.within in
+    record { place = suc rest.place; within = omega (arith, within); is = rest.is }
+
+-- ---- the rows of a link
+
+pub have_periods : (network : Network) (link : LinkId) (rows : List LeavingRow) → IsInRange network → AreRowsOn network link rows → HavePeriods rows
+have_periods network link rows range are row there =
+    let on = are.sound row there in
+    subst (λ (r : LeavingRow). 1 ≤ r.period) (sym on.kept)
+    (in_all (IsVlInRange network) network.vl on.entry.row.vl.0 on.entry.vl range.vls on.is.vl).period_least
+
+-- what a device dispatches by one of them it dispatches
+some_dispatches : (s : Scenario) (hs : List Happening) (device : DeviceId) (t : ℕ) (dispatch : Dispatch) (rows : List LeavingRow)
+    → AreRowsOn s.network dispatch.link rows → IsUp s hs device t → SomeDispatched s s.network hs device t dispatch rows
+    → Dispatches s hs device t dispatch.link dispatch.cause dispatch.vl dispatch.cycle
+some_dispatches s hs device t dispatch rows are up some =
+    let on = are.sound some.row some.there in
+    let entry = on.entry in
+    let by : IsRowDispatched s s.network hs device t dispatch (leaving_by entry) =
+    subst (IsRowDispatched s s.network hs device t dispatch) on.kept some.dispatched in
+    record {
+      place = on.place;
+      entry = entry;
+      row = on.is;
+      by = on.on;
+      of_vl = by.suits.of_vl;
+      leaves = by.suits.leaves;
+      occurs = record { begun = by.suits.begun; in_phase = by.suits.in_phase };
+      up = up;
+      reached = by.ready.reached;
+      at_hand = subst (λ (vl : VlId). IsAtHand s.network hs device entry.vl.sender vl t dispatch.cause dispatch.cycle) (sym by.suits.of_vl) by.ready.at_hand;
+    }
+
+-- and what it dispatches is by one of them
+dispatches_some : (s : Scenario) (hs : List Happening) (device : DeviceId) (t : ℕ) (dispatch : Dispatch) (rows : List LeavingRow)
+    → AreRowsOn s.network dispatch.link rows → Dispatches s hs device t dispatch.link dispatch.cause dispatch.vl dispatch.cycle
+    → SomeDispatched s s.network hs device t dispatch rows
+dispatches_some s hs device t dispatch rows are does = record {
+  row = leaving_by does.entry;
+  there = are.complete does.place does.entry does.row does.by;
+  dispatched = record {
+    suits = record { leaves = does.leaves; of_vl = does.of_vl; begun = does.occurs.begun; in_phase = does.occurs.in_phase };
+    ready = record {
+      reached = does.reached;
+      at_hand = subst (λ (vl : VlId). IsAtHand s.network hs device does.entry.vl.sender vl t dispatch.cause dispatch.cycle) does.of_vl does.at_hand;
+    };
+  };
+}
+
+pub by_some : (s : Scenario) (network : Network) (hs : List Happening) (device : DeviceId) (t : ℕ) (dispatch : Dispatch) (rows : List LeavingRow)
+    → s.network ≡ network → AreRowsOn network dispatch.link rows → IsUp s hs device t
+    → SomeDispatched s network hs device t dispatch rows
+    ↔ Dispatches s hs device t dispatch.link dispatch.cause dispatch.vl dispatch.cycle
+by_some s network hs device t dispatch rows same =
+    subst (λ (n : Network). AreRowsOn n dispatch.link rows → IsUp s hs device t
+    → SomeDispatched s n hs device t dispatch rows ↔ Dispatches s hs device t dispatch.link dispatch.cause dispatch.vl dispatch.cycle) same
+    (λ are up. (some_dispatches s hs device t dispatch rows are up, dispatches_some s hs device t dispatch rows are))
+
+-- ---- one row after another
+
+abbrev pub no_row : LeavingRow
+no_row = record { device = record { 0 = 0 }; vl = record { 0 = 0 }; offset = 0; period = 0; phase = 0; sender = record { 0 = 0 } }
+
+-- it holds of none of the first elements
+abbrev pub NoneOf : {X : Type 0} → (X → Type 0) → List X → X → ℕ → Type 0
+NoneOf P xs d count = (i : ℕ) → i < count → i < length xs → P (slice_index_or xs i d) → ⊥
+
+pub none_more : {X : Type 0} (P : X → Type 0) (xs : List X) (d : X) (n : ℕ) (answer : Bool) → NoneOf P xs d n
+    → IsTrue answer ↔ P (slice_index_or xs n d) → answer ≡ false → NoneOf P xs d (n + 1)
+none_more P xs d n answer none is no_answer i lt within holds =
+    elim (below_next i n lt) [
+      | inl before ↦ none i before within holds
+      | inr same ↦ false≢true (sym no_answer ∙ is.1 (subst (λ (k : ℕ). P (slice_index_or xs k d)) same holds))
+    ]
+
+pub none_in_all : {X : Type 0} (P : X → Type 0) (xs : List X) (d : X) (n : ℕ) → length xs ≤ n → NoneOf P xs d n → (x : X) → IsIn x xs → P x → ⊥
+none_in_all P xs d n all none x there holds =
+    let at = placed xs d x there in
+    let within = at.within in
+    none at.place (omega (arith, within, all)) within (subst P (sym at.is) holds)

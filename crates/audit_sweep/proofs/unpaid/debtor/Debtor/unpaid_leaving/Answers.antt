@@ -1,0 +1,91 @@
+use Rattle.audit_sweep.proofs.unpaid_lemmas.Words.{◌∙◌, DeviceId, arith, both_ways, numbered_in, scenario_of, subst, sym, time_of, ℕ}
+use Rattle.audit_devices.specs.law.Departures.{leaves_at}
+use Rattle.device_rules.specs.Answers.{departure_as}
+use Rattle.net_plan.specs.Belonging.{HasDevice}
+use Rattle.run_law.specs.control.Leaving.{Departs, departure}
+use Rattle.audit_sweep.proofs.unpaid_lemmas.DepartureDebts.{departure_paid, departure_time, giver_there, gives_named, owed_departs}
+use Rattle.audit_sweep.proofs.unpaid.debtor.Debtor.unpaid_leaving.Goals as goal
+
+pub returns-in-None : goal.returns-in-None
+returns-in-None c befallen hs h known there kept owed =
+    let s = scenario_of c.args.self.now befallen in
+    let network = c.args.self.now.network.now in
+    let until = c.args.self.now.until in
+    let n = c.args.number in
+    let link = c.args.link in
+    let giver = giver_there s hs n h c.args.kept.now link there kept known.devices in
+    absurd (c.in-None.ensures befallen hs h n known.remembers there kept giver owed)
+
+pub returns-then-self-leaving : goal.returns-then-self-leaving
+returns-then-self-leaving c befallen hs h known there kept owed =
+    let s = scenario_of c.args.self.now befallen in
+    let network = c.args.self.now.network.now in
+    let until = c.args.self.now.until in
+    let n = c.args.number in
+    let link = c.args.link in
+    let giver = giver_there s hs n h c.args.kept.now link there kept known.devices in
+    let leaving = c.in-Some.leaving in
+    let l = c.in-Some.ensures befallen hs h n known.remembers there kept giver in
+    let o = l.owed in
+    let timely = o.timely in
+    let at = l.time in
+    absurd (omega (arith, timely, at, c.if-self-leaving.true))
+
+pub returns-in-None-departure : goal.returns-in-None-departure
+returns-in-None-departure c befallen hs h known there kept owed =
+    let s = scenario_of c.args.self.now befallen in
+    let network = c.args.self.now.network.now in
+    let until = c.args.self.now.until in
+    let n = c.args.number in
+    let link = c.args.link in
+    let giver = giver_there s hs n h c.args.kept.now link there kept known.devices in
+    let leaving = c.in-Some.leaving in
+    let l = c.in-Some.ensures befallen hs h n known.remembers there kept giver in
+    let o = l.owed in
+    let has = subst (HasDevice network) (sym l.device) (known.devices o.giving o.device (numbered_in hs n o.giving o.there)
+    (gives_named network o.giving.note.body o.device link o.gives)) in
+    let t = leaves_at s o.device link o.giving in
+    let is = departure s o.device link o.frame (time_of o.giving) t in
+    let departs = subst (λ (d : DeviceId). Departs s hs d leaving.time link n is) (sym l.device)
+    (subst (λ (u : ℕ). Departs s hs o.device u link n is) (sym l.time) (owed_departs s hs until n link o)) in
+    absurd (c.in-None-departure.ensures befallen hs h n known.remembers there kept has is departs)
+
+pub returns-then-has_departure : goal.returns-then-has_departure
+returns-then-has_departure c befallen hs h known there kept owed =
+    let s = scenario_of c.args.self.now befallen in
+    let network = c.args.self.now.network.now in
+    let until = c.args.self.now.until in
+    let n = c.args.number in
+    let link = c.args.link in
+    let giver = giver_there s hs n h c.args.kept.now link there kept known.devices in
+    let leaving = c.in-Some.leaving in
+    let l = c.in-Some.ensures befallen hs h n known.remembers there kept giver in
+    let o = l.owed in
+    let has = subst (HasDevice network) (sym l.device) (known.devices o.giving o.device (numbered_in hs n o.giving o.there)
+    (gives_named network o.giving.note.body o.device link o.gives)) in
+    let departs = c.in-Some-departure.ensures befallen hs h n known.remembers there kept has in
+    let paid = departure_paid s hs until n link leaving.device leaving.time (departure_as c.in-Some-departure.departed) known.founded o departs in
+    let stands = c.has_departure.ensures hs known.places in
+    paid.1 (stands.0 c.if-has_departure.true)
+
+pub returns : goal.returns
+returns c befallen hs h known there kept =
+    let s = scenario_of c.args.self.now befallen in
+    let network = c.args.self.now.network.now in
+    let until = c.args.self.now.until in
+    let n = c.args.number in
+    let link = c.args.link in
+    let giver = giver_there s hs n h c.args.kept.now link there kept known.devices in
+    let leaving = c.in-Some.leaving in
+    let l = c.in-Some.ensures befallen hs h n known.remembers there kept giver in
+    let o = l.owed in
+    let has = subst (HasDevice network) (sym l.device) (known.devices o.giving o.device (numbered_in hs n o.giving o.there)
+    (gives_named network o.giving.note.body o.device link o.gives)) in
+    let departs = c.in-Some-departure.ensures befallen hs h n known.remembers there kept has in
+    let paid = departure_paid s hs until n link leaving.device leaving.time (departure_as c.in-Some-departure.departed) known.founded o departs in
+    let stands = c.has_departure.ensures hs known.places in
+    record {
+      owed = o;
+      unpaid = λ p. both_ways c.has_departure.result c.if-has_departure.false (stands.1 (paid.0 p));
+      due = λ is. l.time ∙ departure_time s hs until n link known.founded o is;
+    }

@@ -1,0 +1,14 @@
+use Rattle.std.proofs.Common.{◌≡◌, List, Some}
+use Rattle.audit_devices.specs.{events.Readings.scenario_under, law.DueRecords.IsDue, stretches.{Keeping.Stretches, Standing.kept_of}}
+use Rattle.net_plan.specs.declared.event.Event.{Event}
+use Rattle.run_law.specs.{records.{Happenings.Happening, Ranks.place_of}, runs.Runs.IsFounded}
+use Rattle.audit_sweep.specs.unpaid.emissions.{Emissions.{IsTold, OwesWithin}, Firsts.TellsFirstOf, Kept.IsKept}
+use Rattle.audit_sweep.proofs.unpaid.emissions.first.first_unemitted_by.Given as goal
+
+-- it is the first of what the stretches behind the changes so far owe
+abbrev pub invariant-changes : goal.invariant-changes
+invariant-changes l =
+    (befallen : List Event) (hs : List Happening) (kept : Stretches) → IsKept l.network befallen hs l.events l.stretches l.places
+    → IsFounded place_of (IsDue (scenario_under l.network befallen)) hs → kept_of l.stretches l.device ≡ Some kept
+    → TellsFirstOf (OwesWithin (scenario_under l.network befallen) hs l.until l.device kept.collections kept.entries l.place)
+    (IsTold (scenario_under l.network befallen) hs l.device) l.first

@@ -1,0 +1,11 @@
+use Rattle.audit_sweep.proofs.unpaid_lemmas.points_lemmas.Words.{◌+◌, ◌-◌, ◌≤◌, ArePaid, Event, Happening, IsKept, IsSent, List, Sends, scenario_under}
+use Rattle.audit_sweep.proofs.unpaid.points.sending.first_unsent_by.Given as goal
+
+abbrev pub invariant-stretches : goal.invariant-stretches
+invariant-stretches l =
+    (l.after ≤ l.until)
+    × ((befallen : List Event) (hs : List Happening) → IsKept l.network befallen hs l.events l.standings l.places
+    → ArePaid (Sends (scenario_under l.network befallen) hs l.device) (IsSent (scenario_under l.network befallen) hs l.device) 0 (l.after + 1))
+
+abbrev pub decreases-stretches : goal.decreases-stretches
+decreases-stretches l = l.until - l.after

@@ -1,0 +1,88 @@
+-- The clocks that are owed at the end.
+use Rattle.audit_sweep.proofs.unpaid_lemmas.Words.{◌+◌, ◌<◌, ◌∙◌, ◌∷◌, ◌≡◌, ◌≤◌, DeviceId, Happening, HasClockAt, IsPaid, List, None, NoteBody, Pays, Scenario}
+use Rattle.audit_sweep.proofs.unpaid_lemmas.Words.{Some, TellsFirst, [], ap, arith, cases_lt, inl, inr, refl, subst, sym, time_of, ℕ}
+use Rattle.audit_sweep.specs.unpaid.Clocks.{IsOnlyEnd, IsUntold, IsUntoldDevice}
+use Rattle.std.proofs.lemmas.Option.{slice_get_within}
+use Rattle.audit_devices.{proofs.law_lemmas.EndingClocks.place_of_clock, specs.law.EndClocks.IsClockOf}
+use Rattle.net_plan.proofs.SameIds.{same_device}
+use Rattle.run_law.specs.records.Ranks.{members_in, place_at}
+use Rattle.tte_lemmas.proofs.Lists.{some_at}
+use Rattle.audit_devices.specs.law.Owed as debts
+use Rattle.run_law.specs.declared.note.NoteBody.TheVariants as notes
+
+abbrev second_of : List ℕ → ℕ
+second_of (a ∷ b ∷ rest) = b
+second_of other = 0
+
+abbrev third_of : List ℕ → ℕ
+third_of (a ∷ b ∷ d ∷ rest) = d
+third_of other = 0
+
+abbrev first_of : List ℕ → ℕ
+first_of (a ∷ rest) = a
+first_of other = 0
+
+clock_there : (t m time : ℕ) (device : DeviceId) (body : NoteBody) → place_at t m body ≡ time ∷ 14 ∷ device.0 ∷ [] → IsClockOf device body
+clock_there t m time device (notes.Clock other shown adjustment state) e = same_device other device (ap third_of e)
+clock_there t m time device (notes.Event line what) e = let r : 1 ≡ 14 = ap second_of e in absurd (omega (arith, r))
+clock_there t m time device (notes.Arrived d l c k) e = let r : 2 ≡ 14 = ap second_of e in absurd (omega (arith, r))
+clock_there t m time device (notes.Permanent d l c p v) e = let r : 3 ≡ 14 = ap second_of e in absurd (omega (arith, r))
+clock_there t m time device (notes.Compressed d o a c n v) e = let r : 4 ≡ 14 = ap second_of e in absurd (omega (arith, r))
+clock_there t m time device (notes.Sent d c) e = let r : 5 ≡ 14 = ap second_of e in absurd (omega (arith, r))
+clock_there t m time device (notes.Corrected d c b a) e = let r : 6 ≡ 14 = ap second_of e in absurd (omega (arith, r))
+clock_there t m time device (notes.State d s c w) e = let r : 7 ≡ 14 = ap second_of e in absurd (omega (arith, r))
+clock_there t m time device (notes.Left d l c k) e = let r : 8 ≡ 14 = ap second_of e in absurd (omega (arith, r))
+clock_there t m time device (notes.Lost d l c) e = let r : 9 ≡ 14 = ap second_of e in absurd (omega (arith, r))
+clock_there t m time device (notes.TtSent d l c v y) e = let r : 10 ≡ 14 = ap second_of e in absurd (omega (arith, r))
+clock_there t m time device (notes.Accepted d l c v y) e = let r : 11 ≡ 14 = ap second_of e in absurd (omega (arith, r))
+clock_there t m time device (notes.Delivered d l c v y) e = let r : 12 ≡ 14 = ap second_of e in absurd (omega (arith, r))
+clock_there t m time device (notes.Dropped d l c r) e = let q : 13 ≡ 14 = ap second_of e in absurd (omega (arith, q))
+
+-- a record at the place of a clock tells it
+paid_there : (s : Scenario) (hs : List Happening) (device : DeviceId) (time : ℕ) → HasClockAt hs device time → IsPaid hs (Pays s) (debts.clock device time)
+paid_there s hs device time has =
+    let h = has.0 in
+    (h, has.1, (ap first_of has.2, clock_there (time_of h) (members_in h) time device h.note.body has.2))
+
+there_paid : (s : Scenario) (hs : List Happening) (device : DeviceId) (time : ℕ) → IsPaid hs (Pays s) (debts.clock device time) → HasClockAt hs device time
+there_paid s hs device time paid =
+    let h = paid.0 in
+    (h, paid.1, place_of_clock (time_of h) (members_in h) device h.note.body paid.2.1 ∙ ap (λ (t : ℕ). t ∷ 14 ∷ device.0 ∷ []) paid.2.0)
+
+-- where the end is later, none is owed
+pub none_owed : (s : Scenario) (hs : List Happening) (until end : ℕ) → IsOnlyEnd s.events end → until < end
+    → TellsFirst s hs until (λ (o : DeviceId × ℕ). debts.clock o.0 o.1) None
+none_owed s hs until end one late = λ o owed.
+    let timely = owed.timely in
+    let at = one.only o.1 owed.ends in
+    absurd (omega (arith, timely, at, late))
+
+-- where each clock is told, each is paid
+pub all_told : (s : Scenario) (hs : List Happening) (until end : ℕ) → IsOnlyEnd s.events end → IsUntold s.network hs end None
+    → TellsFirst s hs until (λ (o : DeviceId × ℕ). debts.clock o.0 o.1) None
+all_told s hs until end one all = λ o owed.
+    let at = one.only o.1 owed.ends in
+    let has = all o.0 (slice_get_within s.network.device o.0.0 owed.is owed.there) in
+    subst (λ (t : ℕ). IsPaid hs (Pays s) (debts.clock o.0 t)) (sym at) (paid_there s hs o.0 end has)
+
+-- where one is not told, it is owed at the end
+pub one_untold : (s : Scenario) (hs : List Happening) (until end : ℕ) (device : DeviceId) → IsOnlyEnd s.events end → end ≤ until
+    → IsUntoldDevice s.network hs end device → TellsFirst s hs until (λ (o : DeviceId × ℕ). debts.clock o.0 o.1) (Some end)
+one_untold s hs until end device one timely none =
+    let found = some_at s.network.device device.0 none.there in
+    record {
+      debt = (device, end);
+      owed = record { is = found.0; there = found.1; ends = one.ends; timely = timely };
+      unpaid = λ paid. none.untold (there_paid s hs device end paid);
+      at = refl;
+      first = λ other is not. let at = one.only other.1 is.ends in omega (arith, at);
+    }
+
+-- the devices below the next are those below this one, and this one
+pub below_next : (P : DeviceId → Type 0) (n : ℕ) (last : DeviceId) → last.0 ≡ n → ((device : DeviceId) → device.0 < n → P device) → P last
+    → (device : DeviceId) → device.0 < n + 1 → P device
+below_next P n last at all own device lt =
+    elim (cases_lt device.0 n) [
+      | inl less ↦ all device less
+      | inr more ↦ subst P (same_device last device (omega (arith, at, lt, more))) own
+    ]

@@ -1,0 +1,88 @@
+-- The leavings that are owed, and what pays them.
+use Rattle.audit_sweep.proofs.{records_lemmas.wires_lemmas.LeavingTimes.giver_is, unpaid_lemmas.Payers.{one_time, paid_at_place}}
+use Rattle.audit_sweep.proofs.unpaid_lemmas.Words.{◌↔◌, ◌∙◌, ◌≡◌, DeviceId, Happening, IsDue, IsFounded, IsIn, IsPaid, KeptRecord, LinkId, List, NoteBody, Pays}
+use Rattle.audit_sweep.proofs.unpaid_lemmas.Words.{Scenario, Some, ap, device_named, numbered, numbered_in, place_of, refl, subst, sym, time_of, true, ℕ}
+use Rattle.audit_sweep.specs.{records.{Keeping.{kept_of, record_of}, places.Placing.HasRecordAt}, unpaid.Leavings.{leaving_place, may_give}}
+use Rattle.audit_sweep.specs.records.wires.Departings.{giver}
+use Rattle.audit_devices.proofs.law_lemmas.Departing.{departs_in_whole, departure_law, record_place, same_place}
+use Rattle.audit_devices.specs.law.Departures.{IsDueByLeaving, OwesDeparture, TellsDeparture, leaves_at, leaving_record}
+use Rattle.net_plan.specs.{Belonging.HasDevice, declared.network.Network.Network}
+use Rattle.run_law.specs.control.Leaving.{Departs, Departure, Gives, departure, leaves, on_cut_way, too_old}
+use Rattle.run_law.specs.{records.Ranks.{members_in, place_at}, scenario.Devices.is_relay}
+use Rattle.audit_devices.specs.law.Owed as debts
+use Rattle.run_law.specs.declared.note.NoteBody.TheVariants as notes
+
+tells_so : (device : DeviceId) (link by : LinkId) (cause from : ℕ) (d : Departure) → TellsDeparture cause link (leaving_record device by from d)
+    → (by ≡ link) × (from ≡ cause)
+tells_so device link by cause from (leaves clock) e = e
+tells_so device link by cause from on_cut_way e = e
+tells_so device link by cause from too_old e = (e.0, e.1)
+
+-- the record names the device that gives its frame to a link
+pub gives_named : (network : Network) (body : NoteBody) (device : DeviceId) (link : LinkId) → Gives network body device link → device_named body ≡ Some device
+gives_named network (notes.Sent master cycle) device link a = ap (λ (d : DeviceId). Some d) (sym a.0)
+gives_named network (notes.Compressed cm opened at cycle members verdict) device link a = ap (λ (d : DeviceId). Some d) (sym a.0)
+gives_named network (notes.Arrived relay by from clock) device link a = ap (λ (d : DeviceId). Some d) (sym a.0)
+gives_named network body device link a = absurd a
+
+-- the device that gives the frame of a record is one of the network's
+pub giver_there : (s : Scenario) (hs : List Happening) (n : ℕ) (h : Happening) (r : KeptRecord) (link : LinkId) → numbered hs n ≡ Some h → r ≡ record_of h
+    → ((g : Happening) (device : DeviceId) → IsIn g hs → device_named g.note.body ≡ Some device → HasDevice s.network device) → (device : DeviceId)
+    → giver s.network link r.kept ≡ Some device → HasDevice s.network device
+giver_there s hs n h r link there kept devices device is =
+    devices h device (numbered_in hs n h there) (gives_named s.network h.note.body device link (giver_is s h r device link kept is))
+
+-- what is owed departs by the list
+pub owed_departs : (s : Scenario) (hs : List Happening) (until cause : ℕ) (link : LinkId) → (o : OwesDeparture s hs until cause link)
+    → Departs s hs o.device (leaves_at s o.device link o.giving) link cause
+    (departure s o.device link o.frame (time_of o.giving) (leaves_at s o.device link o.giving))
+owed_departs s hs until cause link o = record {
+  giving = o.giving;
+  there = o.there;
+  gives = o.gives;
+  frame = o.frame;
+  of_frame = o.of_frame;
+  held = refl;
+  correct = o.correct;
+  becomes = refl;
+}
+
+-- a leaving that is owed is paid exactly where a record stands at its place
+pub departure_paid : (s : Scenario) (hs : List Happening) (until cause : ℕ) (link : LinkId) (device : DeviceId) (t : ℕ) (d : Departure)
+    → IsFounded place_of (IsDue s) hs → OwesDeparture s hs until cause link → Departs s hs device t link cause d
+    → IsPaid hs (Pays s) (debts.departure cause link) ↔ HasRecordAt hs (leaving_place t device link cause d)
+departure_paid s hs until cause link device t d founded owed departs =
+    paid_at_place s hs until (IsDueByLeaving s) (λ (given : ℕ × LinkId). OwesDeparture s hs until given.0 given.1)
+    (λ given o. leaves_at s o.device given.1 o.giving) (λ x given. TellsDeparture given.0 given.1 x.note.body)
+    (leaving_place t device link cause d) (λ ps x so. so.due) (departure_law s hs until founded) founded (cause, link) owed
+    (λ x here tells.
+    let by = here.due in
+    let so = tells_so by.device link by.link cause by.cause by.is (subst (TellsDeparture cause link) by.says tells) in
+    ap (λ (b : NoteBody). place_at (time_of x) (members_in x) b) by.says
+    ∙ record_place (time_of x) (members_in x) by.device by.link by.cause by.is
+    ∙ same_place s hs (time_of x) t by.device device by.link link by.cause cause by.is d so.1 so.0
+    (departs_in_whole s hs here.before here.behind (time_of x) by.device by.link by.cause by.is here.parts by.departs) departs)
+
+-- a leaving falls due at one time
+pub departure_time : (s : Scenario) (hs : List Happening) (until cause : ℕ) (link : LinkId) → IsFounded place_of (IsDue s) hs
+    → (a b : OwesDeparture s hs until cause link) → leaves_at s a.device link a.giving ≡ leaves_at s b.device link b.giving
+departure_time s hs until cause link founded a b =
+    one_time s hs until (IsDueByLeaving s) (λ (given : ℕ × LinkId). OwesDeparture s hs until given.0 given.1)
+    (λ given o. leaves_at s o.device given.1 o.giving) (λ x given. TellsDeparture given.0 given.1 x.note.body) (λ ps x so. so.due)
+    (departure_law s hs until founded) (cause, link) a b
+
+-- ---- over links and records
+
+-- a record that gives a frame to a link may do so
+pub gives_may : (network : Network) (body : NoteBody) (device : DeviceId) (link : LinkId) → Gives network body device link
+    → may_give network (kept_of body) ≡ true
+gives_may network (notes.Sent master cycle) device link a = refl
+gives_may network (notes.Compressed cm opened at cycle members verdict) device link a = refl
+gives_may network (notes.Arrived relay by from clock) device link a = subst (λ (d : DeviceId). is_relay network d ≡ true) a.0 a.1.relay
+gives_may network body device link a = absurd a
+
+-- one debt of a record and a link
+pub same_pair : (o : ℕ × LinkId) (n : ℕ) (l : LinkId) → o.0 ≡ n → o.1.0 ≡ l.0 → o ≡ (n, l)
+same_pair o n l first second =
+    let link : o.1 ≡ l = ap (λ (k : ℕ). let x : LinkId = record { 0 = k } in x) second in
+    ap (λ (m : ℕ). let p : ℕ × LinkId = (m, o.1) in p) first ∙ ap (λ (k : LinkId). let p : ℕ × LinkId = (n, k) in p) link

@@ -1,0 +1,128 @@
+-- What pays the debts of changes of state.
+use Rattle.audit_sweep.proofs.unpaid_lemmas.{Firsts.AreOfRecords, Payers.{one_time, payer_due}, Words.{subst, sym, time_of, true, ℕ}}
+use Rattle.audit_sweep.proofs.unpaid_lemmas.Words.{◌∙◌, ◌≡◌, ◌≤◌, DeviceId, Happening, IsDue, IsFounded, IsMarked, IsPaid, List, NoteBody, Paid, Pays, Scenario}
+use Rattle.audit_sweep.proofs.unpaid_lemmas.Words.{Some, ap, arith, cause_of, false, is_broken, numbered, numbered_within, paid_by, place_of, refl, same_some}
+use Rattle.audit_sweep.specs.unpaid.Changing.{HasChange}
+use Rattle.audit_devices.{proofs.law_lemmas.Changing.change_law}
+use Rattle.audit_devices.specs.law.{Changes.{IsBrought, IsDueByChange, OwesChange, TellsChange}, DueRecords.ChangesState}
+use Rattle.net_plan.specs.declared.event.What.TheVariants.{On}
+use Rattle.run_law.specs.{declared.judgement.{Judgement.TheVariants.Integrates, Why.Why}, device.States.{is_joined_by, state_before}}
+use Rattle.run_law.specs.records.Causes.{IsOfThisTime}
+use Rattle.sync_state.specs.declared.state.State.{State, TheVariants.{Integrating, Joining, Synchronised}}
+use Rattle.tte_lemmas.proofs.Naturals.{eqb_same}
+use Rattle.audit_devices.specs.law.Owed as debts
+use Rattle.run_law.specs.declared.note.NoteBody.TheVariants as notes
+use Rattle.run_law.specs.declared.judgement.Why.TheVariants as whys
+
+tells : (body : NoteBody) (cause : ℕ) → TellsChange cause body → (cause_of body ≡ cause) × ((paid_by body).change ≡ true)
+tells (notes.State device state from why) cause of = (of, refl)
+tells other cause of = absurd of
+
+-- what brings a change is the record of its cause
+pub bringer : (s : Scenario) (hs : List Happening) (device : DeviceId) (t : ℕ) (state : State) (cause : ℕ) (why : Why) → IsBrought why
+    → ChangesState s hs device t state cause why → (h : Happening) × IsOfThisTime hs t cause h
+bringer s hs device t state cause whys.On b c = (c.2.1, c.2.2)
+bringer s hs device t state cause whys.Frame b c = (c.1.0, c.1.1)
+bringer s hs device t state cause whys.Correction b c = (c.2.3, c.2.4)
+bringer s hs device t state cause whys.SyncClique b c = absurd b
+bringer s hs device t state cause whys.AsyncClique b c = absurd b
+
+-- what pays a debt that is owed is marked
+pub change_marked : (s : Scenario) (hs : List Happening) (until cause : ℕ) → IsFounded place_of (IsDue s) hs → OwesChange s hs until cause
+    → IsPaid hs (Pays s) (debts.change cause) → IsMarked (λ (p : Paid). p.change) hs cause
+change_marked s hs until cause founded owed paid =
+    let m = paid.0 in
+    let so = tells m.note.body cause paid.2 in
+    let due = payer_due s hs until (IsDueByChange s) (OwesChange s hs until) (λ c o. o.time) (λ x c. TellsChange c x.note.body) (λ ps x d. d.due)
+    (change_law s hs until founded) founded cause owed m paid.1 paid.2 in
+    let d = due.due in
+    let same : d.cause ≡ cause = sym (ap cause_of d.says) ∙ so.0 in
+    let from = bringer s due.before d.device _ d.state d.cause d.why d.brought d.changes in
+    let few = numbered_within due.before d.cause from.0 from.1.there in
+    let number = d.due.number in
+    record { paying = m; there = paid.1; behind = omega (arith, few, number, same); of_cause = so.0; pays = so.1 }
+
+-- it falls due at one time
+pub change_time : (s : Scenario) (hs : List Happening) (until cause : ℕ) → IsFounded place_of (IsDue s) hs → (a b : OwesChange s hs until cause)
+    → a.time ≡ b.time
+change_time s hs until cause founded a b =
+    one_time s hs until (IsDueByChange s) (OwesChange s hs until) (λ c o. o.time) (λ x c. TellsChange c x.note.body) (λ ps x d. d.due)
+    (change_law s hs until founded) cause a b
+
+pub changes_of_records : (s : Scenario) (hs : List Happening) (until : ℕ) → AreOfRecords s hs until (λ cause. debts.change cause)
+changes_of_records s hs until cause owed =
+    let from = bringer s hs owed.device owed.time owed.state cause owed.why owed.brought owed.changes in
+    (from.0, from.1.there)
+
+-- what is owed is a change by the record at its time
+pub owed_change : (s : Scenario) (hs : List Happening) (until cause : ℕ) (h : Happening) → numbered hs cause ≡ Some h → OwesChange s hs until cause
+    → HasChange s hs cause (time_of h) × (time_of h ≤ until)
+owed_change s hs until cause h there o =
+    let from = bringer s hs o.device o.time o.state cause o.why o.brought o.changes in
+    let one : from.0 ≡ h = same_some (numbered hs cause) from.0 h from.1.there there in
+    let time : o.time ≡ time_of h = sym from.1.same_time ∙ ap time_of one in (
+      subst (λ (t : ℕ). HasChange s hs cause t) time (record { device = o.device; state = o.state; why = o.why; brought = o.brought; changes = o.changes }),
+      subst (λ (t : ℕ). t ≤ until) time o.timely,
+    )
+
+-- what a record of this body says that brings a change
+abbrev pub Brings : Scenario → List Happening → ℕ → NoteBody → Type 0
+Brings s hs t (notes.Event line (On device)) = is_broken s device t ≡ false
+Brings s hs t (notes.Permanent device link cause point Integrates) = Unit {0}
+Brings s hs t (notes.Compressed device opened at cycle members Integrates) = Unit {0}
+Brings s hs t (notes.Corrected device cycle by adjustment) = state_before s hs device t ≡ Joining
+Brings s hs t other = ⊥
+
+joined_brings : (s : Scenario) (hs : List Happening) (t : ℕ) (device : DeviceId) (body : NoteBody) → is_joined_by device body ≡ true → Brings s hs t body
+joined_brings s hs t device (notes.Permanent other link cause point Integrates) e = tt
+joined_brings s hs t device (notes.Compressed other opened at cycle members Integrates) e = tt
+joined_brings s hs t device other e = absurd cc
+
+pub change_brought : (s : Scenario) (hs : List Happening) (cause t : ℕ) (h : Happening) → numbered hs cause ≡ Some h → HasChange s hs cause t
+    → Brings s hs t h.note.body
+change_brought s hs cause t h there has = by_why has.why has.brought has.changes
+  where
+    by_why : (why : Why) → IsBrought why → ChangesState s hs has.device t has.state cause why → Brings s hs t h.note.body
+    by_why whys.On b c =
+        let one : c.2.1 ≡ h = same_some (numbered hs cause) c.2.1 h c.2.2.there there in
+        subst (λ (g : Happening). Brings s hs t g.note.body) one (subst (Brings s hs t) (sym c.2.3) c.1)
+    by_why whys.Frame b c =
+        let one : c.1.0 ≡ h = same_some (numbered hs cause) c.1.0 h c.1.1.there there in
+        subst (λ (g : Happening). Brings s hs t g.note.body) one (joined_brings s hs t has.device c.1.0.note.body c.1.2)
+    by_why whys.Correction b c =
+        let one : c.2.3 ≡ h = same_some (numbered hs cause) c.2.3 h c.2.4.there there in
+        subst (λ (g : Happening). Brings s hs t g.note.body) one (subst (Brings s hs t) (sym c.2.5) c.1)
+    by_why whys.SyncClique b c = absurd b
+    by_why whys.AsyncClique b c = absurd b
+
+pub brought_change : (s : Scenario) (hs : List Happening) (cause : ℕ) (h : Happening) → numbered hs cause ≡ Some h → (body : NoteBody) → h.note.body ≡ body
+    → Brings s hs (time_of h) body → HasChange s hs cause (time_of h)
+brought_change s hs cause h there (notes.Event line (On device)) is b = record {
+  device = device;
+  state = Integrating;
+  why = whys.On;
+  brought = tt;
+  changes = (refl, b, (line, h, record { there = there; same_time = refl }, is));
+}
+brought_change s hs cause h there (notes.Permanent device link from point Integrates) is b = record {
+  device = device;
+  state = Joining;
+  why = whys.Frame;
+  brought = tt;
+  changes = (refl, (h, record { there = there; same_time = refl }, ap (is_joined_by device) is ∙ eqb_same device.0));
+}
+brought_change s hs cause h there (notes.Compressed device opened at cycle members Integrates) is b = record {
+  device = device;
+  state = Joining;
+  why = whys.Frame;
+  brought = tt;
+  changes = (refl, (h, record { there = there; same_time = refl }, ap (is_joined_by device) is ∙ eqb_same device.0));
+}
+brought_change s hs cause h there (notes.Corrected device cycle by adjustment) is b = record {
+  device = device;
+  state = Synchronised;
+  why = whys.Correction;
+  brought = tt;
+  changes = (refl, b, (cycle, by, adjustment, h, record { there = there; same_time = refl }, is));
+}
+brought_change s hs cause h there other is b = absurd b

@@ -1,0 +1,95 @@
+-- What holds of a row of a network in range, and of the local values at which its frames leave.
+use Rattle.std.proofs.Common.{◌*◌, ◌+◌, ◌<◌, ◌^◌, ◌≡◌, ◌≤◌, List, ap, arith, mul-le-mul_left, mul-le-mul_right, pos, subst, suc, sym, zero, ℕ, ℤ}
+use Rattle.std.{proofs.lemmas.{Int.ints, Option.slice_get_within}, specs.Prelude.{◌+ℤ◌, ◌≤ℤ◌}}
+use Rattle.audit_devices.proofs.clocks_lemmas.Reached.{changed_early}
+use Rattle.audit_devices.specs.{Showing.Shown, clocks.Finding.{IsNextCrossing, value_in}, declared.clocks.finding.{Crossed.Crossed, Series.Series}}
+use Rattle.audit_sweep.specs.records.{dispatches.Leaving.IsRowOn, dispatches.Leavings.{AreLeavings, IsRowFit, first_cycle}}
+use Rattle.audit_sweep.specs.{declared.records.dispatches.leaving.LeavingRow.LeavingRow}
+use Rattle.net_plan.{proofs.InRange.amount_most, specs.{Belonging.{HasDevice, HasLink}, Ranges.{IsInRange, IsLinkInRange, IsRowInRange, IsVlInRange}}}
+use Rattle.net_plan.specs.declared.{ids.{DeviceId.DeviceId, LinkId.LinkId}, network.Network.Network, tables.{Link.Link, Way.{Way, TheVariants.{Down, Up}}}}
+use Rattle.run_law.specs.{device.LocalClocks.{Reaches, changed_at}, records.Happenings.Happening, scenario.Scenarios.Scenario}
+use Rattle.schedule_tables.specs.Entries.{source_by}
+use Rattle.tte_lemmas.proofs.Lists.{in_all}
+use Rattle.tte_units.specs.Amount.{amount}
+
+-- ---- the row
+
+pub row_fit : (network : Network) (link : LinkId) (row : LeavingRow) → IsInRange network → IsRowOn network link row → IsRowFit row
+row_fit network link row range on =
+    let entry = on.entry in
+    let vl = in_all (IsVlInRange network) network.vl entry.row.vl.0 entry.vl range.vls on.is.vl in
+    let its_row = in_all (IsRowInRange network) network.row on.place entry.row range.rows on.is.row in
+    subst IsRowFit (sym on.kept) (record {
+      period_least = vl.period_least;
+      period_most = vl.period_most;
+      phase = vl.phase;
+      offset = amount_most _ _ entry.row.offset its_row.offset;
+    })
+
+source_there : (network : Network) (way : Way) (link : Link) → IsLinkInRange network link → HasDevice network (source_by way link)
+source_there network Up link range = range.child
+source_there network Down link range = range.parent
+
+pub device_there : (network : Network) (link : LinkId) (row : LeavingRow) → IsInRange network → IsRowOn network link row → HasDevice network row.device
+device_there network link row range on =
+    let entry = on.entry in
+    subst (λ (r : LeavingRow). HasDevice network r.device) (sym on.kept)
+    (source_there network entry.row.way entry.link
+    (in_all (IsLinkInRange network) network.link entry.row.link.0 entry.link range.links on.is.link))
+
+pub link_there : (network : Network) (link : LinkId) (row : LeavingRow) → IsRowOn network link row → HasLink network link
+link_there network link row on =
+    let entry = on.entry in
+    subst (HasLink network) on.on (slice_get_within network.link entry.row.link.0 entry.link on.is.link)
+
+-- ---- the values
+
+cycle_least : (network : Network) → IsInRange network → 2 ^ 32 ≤ amount network.cycle
+cycle_least network range =
+    let least = range.cycle.least in
+    omega (arith, ints, least)
+
+wide_by : (first : ℤ) (step f p c offset : ℕ) → (first +ℤ pos (0 * step)) ≡ pos ((f + 0 * p) * c + offset)
+    → (first +ℤ pos (1 * step)) ≡ pos ((f + 1 * p) * c + offset) → 1 ≤ p → 2 ^ 32 ≤ c → 2 ^ 32 ≤ step
+wide_by first step f p c offset at next some least =
+    let more : 1 * c ≤ p * c = mul-le-mul_right c some in
+    let parts : (f + 1 * p) * c ≡ f * c + p * c = omega arith in
+    let same : (f + 0 * p) * c ≡ f * c = omega arith in
+    omega (arith, ints, at, next, more, parts, same, least)
+
+-- the values lie far apart
+pub wide_step : (network : Network) (row : LeavingRow) (series : Series) → IsInRange network → IsRowFit row → AreLeavings network row series
+    → 2 ^ 32 ≤ series.step
+wide_step network row series range fit are =
+    wide_by series.first series.step (first_cycle row) row.period (amount network.cycle) row.offset (are.values 0) (are.values 1) fit.period_least
+    (cycle_least network range)
+
+few_by : (v : ℤ) (f n p c offset : ℕ) → v ≡ pos ((f + n * p) * c + offset) → v ≤ℤ pos (2 ^ 83) → 1 ≤ p → 2 ^ 32 ≤ c → n ≤ 2 ^ 52
+few_by v f n p c offset at near some least =
+    let periods : n * 1 ≤ n * p = mul-le-mul_left n some in
+    let cycles : (n * 1) * c ≤ (n * p) * c = mul-le-mul_right c periods in
+    let steps : n * 2 ^ 32 ≤ n * c = mul-le-mul_left n least in
+    let parts : (f + n * p) * c ≡ f * c + (n * p) * c = omega arith in
+    let same : (n * 1) * c ≡ n * c = omega arith in
+    omega (arith, ints, at, near, cycles, steps, parts, same)
+
+-- the number of what is crossed is not great
+pub few_left : (network : Network) (row : LeavingRow) (series : Series) (reading : ℕ → ℕ) (shown : Shown) (after until : ℕ) (crossed : Crossed)
+    → IsInRange network → IsRowFit row → AreLeavings network row series → IsNextCrossing reading shown series after until crossed
+    → crossed.number ≤ 2 ^ 52
+few_left network row series reading shown after until crossed range fit are next =
+    few_by (value_in series crossed.number) (first_cycle row) crossed.number row.period (amount network.cycle) row.offset (are.values crossed.number)
+    next.near fit.period_least (cycle_least network range)
+
+-- ---- the time
+
+-- no value is reached at time 0
+pub reached_later : (s : Scenario) (hs : List Happening) (device : DeviceId) (v : ℤ) (t : ℕ) → Reaches s hs device v t → 0 < t
+reached_later s hs device v zero reaches =
+    let early = changed_early hs device 0 in
+    let at : changed_at hs device 0 ≡ 0 = omega (arith, early) in
+    let below = reaches.below in
+    let reached = reaches.reach.reached in
+    let same = ap (s.reading device) at in
+    absurd (omega (arith, ints, below, reached, same))
+reached_later s hs device v (suc t) reaches = omega arith

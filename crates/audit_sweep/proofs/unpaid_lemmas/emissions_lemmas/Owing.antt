@@ -1,0 +1,133 @@
+-- What a compression master owes is of a cluster that is kept.
+use Rattle.std.proofs.Common.{◌∙◌, ◌∷◌, ◌≡◌, ◌≤◌, Bool, List, None, Option, Some, [], ap, arith, false, filter, inl, inr, length, map, pos, refl, slice_get}
+use Rattle.std.{proofs.Common.{subst, suc, sym, true, zero, ℕ, ℤ}, specs.{List.last_or, Prelude.Contains}}
+use Rattle.audit_devices.{proofs.collections_lemmas.Sending.in_map, specs.{declared.stretches.kept.Entry.Entry, law.Emitted.{before_place, emission_place}}}
+use Rattle.audit_devices.specs.Keeping.{time_at}
+use Rattle.audit_devices.specs.{collections.Kept.{History, as_emitted, clusters_in, emitted}, stretches.Keeping.{Keeps, StandsFor, Stretches, entry_before}}
+use Rattle.audit_devices.specs.{declared.collections.{emitted.Emitted.Emitted, gathering.Gathering.Gathering}, stretches.Points.{HasPoints, emissions_for}}
+use Rattle.compression.proofs.{ClusterFacts.no_cluster, Elements.{in_cases, in_head, in_none, in_tail}, Standing.AreClusters-unique}
+use Rattle.compression.specs.{Clusters.{AreClusters, Cluster, Point}, declared.compressed.Compressed.Compressed}
+use Rattle.drift_clock.specs.Reach.{IsReach}
+use Rattle.net_plan.specs.declared.{ids.DeviceId.DeviceId, network.Network.Network}
+use Rattle.run_law.{proofs.law.FirstPlaces.in_filter, specs.{control.Emissions.Emits, scenario.{Devices.{is_cm, plan_of}, Scenarios.{Scenario, is_broken}}}}
+use Rattle.run_law.{proofs.records.Order.{has_passed, index_of, is_there}, specs.records.{Happenings.Happening, Order.{IsBefore, IsIn, is_before}}}
+use Rattle.run_law.specs.{control.{Collections.{observation_window, points_of}, Hearing.heard_as}, device.States.{adjustment_at_hearing, state_at_hearing}}
+use Rattle.tte_lemmas.proofs.Lists.{got_within}
+use Rattle.tte_units.specs.Amount.{amount}
+use Rattle.audit_sweep.specs.unpaid.emissions.Emissions.{Owes, OwesAt, OwesBehind, OwesWithin, sent_of}
+
+-- ---- lists
+
+contained : {X Y : Type 0} (f : X → Y) (xs : List X) (x : X) → Contains xs x → (k : ℕ) × (slice_get (map f xs) k ≡ Some (f x))
+contained f [] x at = absurd (in_none x at)
+contained f (z ∷ zs) x at =
+    elim (in_cases z x zs at) [
+      | inl e ↦ (zero, ap (λ (w : _). Some (f w)) e)
+      | inr here ↦ let rest = contained f zs x here in (suc rest.0, rest.1)
+    ]
+
+last_there : {X : Type 0} (x : X) (xs : List X) (last : X) → last_or (Some x) xs ≡ Some last → IsIn last (x ∷ xs)
+last_there x [] last e = inl cc
+last_there x (y ∷ ys) last e = inr (last_there y ys last e)
+
+last_in : {X : Type 0} (xs : List X) (last : X) → last_or None xs ≡ Some last → IsIn last xs
+last_in [] last e = absurd cc
+last_in (x ∷ xs) last e = last_there x xs last e
+
+-- ---- what is owed
+
+no_later : (p q : List ℕ) → IsBefore p q → time_at p ≤ time_at q
+no_later p [] b = absurd b
+no_later [] (y ∷ ys) b = omega arith
+no_later (x ∷ xs) (y ∷ ys) (inl lt) = omega (arith, lt)
+no_later (x ∷ xs) (y ∷ ys) (inr e) = omega (arith, e.0)
+
+-- what is owed is of a cluster of an entry whose record is no later
+pub owed_within : (s : Scenario) (hs : List Happening) (until : ℕ) (d : DeviceId) (kept : Stretches) (sent : Compressed) (t : ℕ)
+    → Keeps s.network hs d kept → OwesAt s hs until d sent t → OwesWithin s hs until d kept.collections kept.entries (length kept.entries) sent t
+owed_within s hs until d kept sent t keeps owed =
+    by (entry_before place kept.entries) refl (keeps.before place)
+  where
+    place : List ℕ
+    place = emission_place t d sent
+
+    test : Entry → Bool
+    test e = is_before e.place place
+
+    emits : Emits s (before_place hs place) d t sent owed.owes.verdict
+    emits = owed.owes.emits
+
+    by : (o : Option Entry) → entry_before place kept.entries ≡ o → StandsFor kept.collections o (points_of (before_place hs place) d)
+        → OwesWithin s hs until d kept.collections kept.entries (length kept.entries) sent t
+    by None is stands =
+        absurd (no_cluster (observation_window s.network) (points_of (before_place hs place) d) emits.clusters emits.cluster stands emits.are emits.there)
+    by (Some e) is gathers =
+        let passes = last_in (filter test kept.entries) e is in
+        let at = index_of e kept.entries (in_filter test kept.entries e passes) in
+        let before = is_there e.place place (has_passed test kept.entries e passes) in
+        let clusters : emits.clusters ≡ clusters_in kept.collections e.gathering =
+        AreClusters-unique (observation_window s.network) (points_of (before_place hs place) d) emits.clusters (clusters_in kept.collections e.gathering)
+        emits.are
+        (subst (λ (w : ℤ). AreClusters w (points_of (before_place hs place) d) (clusters_in kept.collections e.gathering)) keeps.ow gathers.are) in
+        let found = contained (emitted kept.collections.ow kept.collections.calc) (clusters_in kept.collections e.gathering) emits.cluster
+        (subst (λ (cs : List Cluster). Contains cs emits.cluster) clusters emits.there) in
+        let same : as_emitted sent ≡ emitted kept.collections.ow kept.collections.calc emits.cluster = ap as_emitted emits.is
+        ∙ sym (ap (λ (w : ℤ). emitted w (pos (amount s.network.calc)) emits.cluster) keeps.ow)
+        ∙ sym (ap (λ (w : ℤ). emitted kept.collections.ow w emits.cluster) keeps.calc) in
+        let behind : OwesBehind s hs until d kept.collections e 0 sent t = record {
+          owed = owed;
+          place = found.0;
+          behind = omega arith;
+          there = found.1 ∙ ap Some (sym same);
+          begun = no_later e.place place before;
+        } in
+        record { index = at.0; e = e; below = got_within kept.entries at.0 e at.1; there = at.1; owed = behind }
+
+-- ---- what is owed of the clusters before its place
+
+pub are_in : (network : Network) (points : List Point) (h : History) (g : Gathering) → HasPoints network points h g
+    → AreClusters (observation_window network) points (clusters_in h g)
+are_in network points h g has = subst (λ (w : ℤ). AreClusters w points (clusters_in h g)) has.ow has.gathers.are
+
+to_map : {X Y : Type 0} (f : X → Y) (xs : List X) (x : X) → Contains xs x → Contains (map f xs) (f x)
+to_map f [] x at = absurd (in_none x at)
+to_map f (z ∷ zs) x at =
+    elim (in_cases z x zs at) [
+      | inl e ↦ subst (λ (w : _). Contains (f z ∷ map f zs) (f w)) e (in_head (f z) (map f zs))
+      | inr here ↦ in_tail (f z) (f x) (map f zs) (to_map f zs x here)
+    ]
+
+pub owed_by : (s : Scenario) (hs : List Happening) (d : DeviceId) (a : Emitted) (t : ℕ) (clusters : List Cluster) → is_cm s.network d ≡ true
+    → is_broken s d t ≡ false → AreClusters (observation_window s.network) (points_of (before_place hs (emission_place t d (sent_of a))) d) clusters
+    → IsReach (s.reading d) (pos 0) a.at (pos t) → Contains (emissions_for s.network clusters) a → Owes s hs d (sent_of a) t
+owed_by s hs d a t clusters cm correct are reach there =
+    let found = in_map (emitted (observation_window s.network) (pos (amount s.network.calc))) clusters a there in
+    let before = before_place hs (emission_place t d (sent_of a)) in
+    record {
+      verdict = heard_as (plan_of s.network d) (observation_window s.network) (state_at_hearing s before d t) (adjustment_at_hearing s before d t).0 a.at
+          a.cycle
+          (sent_of a).members;
+      emits = record {
+        cm = cm;
+        correct = correct;
+        clusters = clusters;
+        are = are;
+        cluster = found.0;
+        there = found.1;
+        is = ap sent_of (sym found.2);
+        reached = reach;
+        heard = refl;
+      };
+    }
+
+pub emits_by : (s : Scenario) (hs : List Happening) (d : DeviceId) (a : Emitted) (t : ℕ) (clusters : List Cluster)
+    → AreClusters (observation_window s.network) (points_of (before_place hs (emission_place t d (sent_of a))) d) clusters → Owes s hs d (sent_of a) t
+    → Contains (emissions_for s.network clusters) a
+emits_by s hs d a t clusters are owes =
+    let emits = owes.emits in
+    let window = observation_window s.network in
+    let calc = pos (amount s.network.calc) in
+    let one = AreClusters-unique window (points_of (before_place hs (emission_place t d (sent_of a))) d) emits.clusters clusters emits.are are in
+    let there = subst (λ (cs : List Cluster). Contains cs emits.cluster) one emits.there in
+    let same : a ≡ emitted window calc emits.cluster = ap as_emitted emits.is in
+    subst (Contains (emissions_for s.network clusters)) (sym same) (to_map (emitted window calc) clusters emits.cluster there)

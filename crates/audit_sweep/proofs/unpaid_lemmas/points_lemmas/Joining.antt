@@ -1,0 +1,120 @@
+-- What is unpaid first in one stretch of time after another, and of one device after another.
+use Rattle.audit_sweep.proofs.unpaid_lemmas.points_lemmas.Words.{◌+◌, ◌<◌, ◌≡◌, ◌≤◌, ArePaid, DeviceId, Happening, IsFirstUnpaid, List, None, Option, Scenario}
+use Rattle.audit_sweep.proofs.unpaid_lemmas.points_lemmas.Words.{Shown, ShowsWithin, Some, TellsFirstAmong, ap, arith, cases_lt, false, inl, inr, refl, subst}
+use Rattle.audit_sweep.{proofs.unpaid_lemmas.points_lemmas.Words.{sym, true, ℕ}, specs.unpaid.points.FirstUnpaid.{IsFirstAmong, TellsFirstUnpaid}}
+use Rattle.audit_sweep.specs.unpaid.points.Ends.{end_of}
+use Rattle.std.specs.Prelude.{MatchOption, is_some, min}
+use Rattle.audit_devices.specs.{Lasting.{IsUpTo, ShowsUpTo}, law.FirstDebts.earlier_of}
+
+pub paid_both : {C : Type 0} (Owes Paid : ℕ → C → Type 0) (after mid before : ℕ) → ArePaid Owes Paid after (mid + 1) → ArePaid Owes Paid mid before
+    → ArePaid Owes Paid after before
+paid_both Owes Paid after mid before first second t o lt early owes =
+    elim (cases_lt mid t) [
+      | inl more ↦ second t o more early owes
+      | inr less ↦ first t o lt (omega (arith, less)) owes
+    ]
+
+pub paid_less : {C : Type 0} (Owes Paid : ℕ → C → Type 0) (after less before : ℕ) → less ≤ before → ArePaid Owes Paid after before
+    → ArePaid Owes Paid after less
+paid_less Owes Paid after less before le paid t o lt early owes = paid t o lt (omega (arith, early, le)) owes
+
+-- the first of what is unpaid behind a time, before which all is paid
+pub first_behind : {C : Type 0} (Owes Paid : ℕ → C → Type 0) (after mid until last time : ℕ) → after ≤ mid → until ≤ last → ArePaid Owes Paid after (mid + 1)
+    → IsFirstUnpaid Owes Paid mid until time → IsFirstUnpaid Owes Paid after last time
+first_behind Owes Paid after mid until last time le most paid first =
+    let later = first.later in
+    let timely = first.timely in
+    record {
+      later = omega (arith, later, le);
+      timely = omega (arith, timely, most);
+      what = first.what;
+      owes = first.owes;
+      unpaid = first.unpaid;
+      paid_before = paid_both Owes Paid after mid time paid first.paid_before;
+    }
+
+pub end_near : (next : Option ℕ) (until : ℕ) → end_of next until ≤ until
+end_near None until = omega arith
+end_near (Some n) until = omega arith
+
+pub end_later : (next : Option ℕ) (until after : ℕ) → after < until → MatchOption next (Unit {0}) (λ n. after < n) → after < end_of next until
+end_later None until after lt later = lt
+end_later (Some n) until after lt later = omega (arith, lt, later)
+
+up_to_end : (next : Option ℕ) (until t : ℕ) → t ≤ end_of next until → IsUpTo next t
+up_to_end None until t le = tt
+up_to_end (Some n) until t le = omega (arith, le)
+
+-- what is shown up to the next record is shown up to there or the last time
+pub shows_within : (s : Scenario) (hs : List Happening) (device : DeviceId) (after until : ℕ) (next : Option ℕ) (shown : Shown)
+    → ShowsUpTo s hs device after next shown → ShowsWithin s hs device after (end_of next until) shown
+shows_within s hs device after until next shown shows t lt le = shows t lt (up_to_end next until t le)
+
+pub none_tells : {C : Type 0} (Owes Paid : ℕ → C → Type 0) (after until : ℕ) (r : Option ℕ) → r ≡ None → TellsFirstUnpaid Owes Paid after until r
+    → ArePaid Owes Paid after (until + 1)
+none_tells {C} Owes Paid after until r is told = subst (λ (o : Option ℕ). TellsFirstUnpaid Owes Paid after until o) is told
+
+pub tells_behind : {C : Type 0} (Owes Paid : ℕ → C → Type 0) (after mid until last : ℕ) (r : Option ℕ) → after ≤ mid → until ≤ last → is_some r ≡ true
+    → ArePaid Owes Paid after (mid + 1) → TellsFirstUnpaid Owes Paid mid until r → TellsFirstUnpaid Owes Paid after last r
+tells_behind Owes Paid after mid until last None le most some paid told = absurd cc
+tells_behind Owes Paid after mid until last (Some t) le most some paid told = first_behind Owes Paid after mid until last t le most paid told
+
+-- ---- one device more
+
+numbered_device : (P : DeviceId → Type 0) (n : ℕ) (d : DeviceId) → d.0 ≡ n → P (record { 0 = n }) → P d
+numbered_device P n d same p =
+    subst P (ap (λ (k : ℕ). let x : DeviceId = record { 0 = k } in x) (sym same)) p
+
+-- what holds of the devices before, and of the next one
+of_both : (P : DeviceId → Type 0) (n : ℕ) → ((d : DeviceId) → d.0 < n → P d) → P (record { 0 = n }) → (d : DeviceId) → d.0 < n + 1 → P d
+of_both P n before here d lt =
+    elim (cases_lt d.0 n) [
+      | inl less ↦ before d less
+      | inr more ↦ numbered_device P n d (omega (arith, more, lt)) here
+    ]
+
+keep_first : {C : Type 0} (Owes Paid : DeviceId → ℕ → C → Type 0) (until n t : ℕ) → IsFirstAmong Owes Paid until n t
+    → ArePaid (Owes (record { 0 = n })) (Paid (record { 0 = n })) 0 t → IsFirstAmong Owes Paid until (n + 1) t
+keep_first {C} Owes Paid until n t first here =
+    let one = first.one in
+    record {
+      device = first.device;
+      one = omega (arith, one);
+      first = first.first;
+      paid_before = of_both (λ (d : DeviceId). ArePaid (Owes d) (Paid d) 0 t) n first.paid_before here;
+    }
+
+take_first : {C : Type 0} (Owes Paid : DeviceId → ℕ → C → Type 0) (until n t : ℕ) → IsFirstUnpaid (Owes (record { 0 = n })) (Paid (record { 0 = n })) 0 until t
+    → ((d : DeviceId) → d.0 < n → ArePaid (Owes d) (Paid d) 0 t) → IsFirstAmong Owes Paid until (n + 1) t
+take_first {C} Owes Paid until n t first before = record {
+  device = record { 0 = n };
+  one = omega arith;
+  first = first;
+  paid_before = of_both (λ (d : DeviceId). ArePaid (Owes d) (Paid d) 0 t) n before first.paid_before;
+}
+
+pub among_more : {C : Type 0} (Owes Paid : DeviceId → ℕ → C → Type 0) (until n : ℕ) (old new : Option ℕ) → TellsFirstAmong Owes Paid until n old
+    → TellsFirstUnpaid (Owes (record { 0 = n })) (Paid (record { 0 = n })) 0 until new → TellsFirstAmong Owes Paid until (n + 1) (earlier_of old new)
+among_more {C} Owes Paid until n None None before here =
+    of_both (λ (d : DeviceId). ArePaid (Owes d) (Paid d) 0 (until + 1)) n before here
+among_more {C} Owes Paid until n None (Some u) before first =
+    let timely = first.timely in
+    take_first Owes Paid until n u first (λ d lt. paid_less (Owes d) (Paid d) 0 u (until + 1) (omega (arith, timely)) (before d lt))
+among_more {C} Owes Paid until n (Some t) None first here =
+    let timely = first.first.timely in
+    keep_first Owes Paid until n t first (paid_less (Owes (record { 0 = n })) (Paid (record { 0 = n })) 0 t (until + 1) (omega (arith, timely)) here)
+among_more {C} Owes Paid until n (Some t) (Some u) first second =
+    elim (cases_lt u t) [
+      | inl less ↦
+          let same : u ≡ min t u = omega (arith, less) in
+          subst (IsFirstAmong Owes Paid until (n + 1)) same
+          (take_first Owes Paid until n u second (λ d lt. paid_less (Owes d) (Paid d) 0 u t (omega (arith, less)) (first.paid_before d lt)))
+      | inr more ↦
+          let same : t ≡ min t u = omega (arith, more) in
+          subst (IsFirstAmong Owes Paid until (n + 1)) same
+          (keep_first Owes Paid until n t first (paid_less (Owes (record { 0 = n })) (Paid (record { 0 = n })) 0 t u more second.paid_before))
+    ]
+
+pub none_is : (r : Option ℕ) → is_some r ≡ false → r ≡ None
+none_is None e = refl
+none_is (Some t) e = absurd cc

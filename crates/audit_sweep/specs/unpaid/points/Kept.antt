@@ -1,0 +1,29 @@
+-- What is kept of a report.
+use Rattle.std.specs.Prelude.{◌<◌, ◌≤◌, List, ℕ}
+use Rattle.audit_devices.specs.{Keeping.Stands, Showing.{Shown, Shows}, declared.standings.Standings.Standings}
+use Rattle.audit_devices.specs.events.{Readings.scenario_under, Remembering.Remembers}
+use Rattle.audit_devices.specs.declared.events.history.EventHistory.{EventHistory}
+use Rattle.audit_sweep.specs.records.places.Placing.{ArePlacesOf}
+use Rattle.net_plan.specs.declared.{event.Event.Event, ids.DeviceId.DeviceId, network.Network.Network}
+use Rattle.run_law.specs.{records.Happenings.{Happening, earlier}, scenario.Scenarios.Scenario}
+
+-- these events befell the network and these are the records: so the histories and the places are of them
+pub record IsKept (network : Network) (befallen : List Event) (hs : List Happening) (events : EventHistory)
+    (standings : Standings) (places : List (List ℕ)) : Type 0 where
+  pub remembers : Remembers network befallen events
+  pub stands : Stands (scenario_under network befallen) hs standings
+  pub places_are : ArePlacesOf hs places
+
+-- they are of some events and records
+abbrev pub IsSomeKept : Network → EventHistory → Standings → List (List ℕ) → Type 0
+IsSomeKept network events standings places =
+    (befallen : List Event) × (hs : List Happening) × IsKept network befallen hs events standings places
+
+-- the history is of some events of the network
+abbrev pub RemembersSomeOf : Network → EventHistory → Type 0
+RemembersSomeOf network history = (befallen : List Event) × Remembers network befallen history
+
+-- at each time later than `after`, up to `until`, the records of earlier times show this of the device
+abbrev pub ShowsWithin : Scenario → List Happening → DeviceId → ℕ → ℕ → Shown → Type 0
+ShowsWithin s hs device after until shown =
+    (t : ℕ) → after < t → t ≤ until → Shows s (earlier t hs) device shown

@@ -1,0 +1,152 @@
+//! The first frame that is permanent of which no record tells.
+
+ghost use Rattle.std.specs.Prelude.{◌^◌, ◌≡◌, ◌≤◌, List, Some, pos, ℕ};
+ghost use Rattle.audit_devices.specs.{events.Remembering.{Remembers, RemembersSome}, law.FirstDebts.TellsFirst};
+ghost use Rattle.audit_sweep.specs.{records.Keeping.record_of, unpaid.Debtors.{AreKnown, scenario_of}};
+ghost use Rattle.audit_sweep.specs.unpaid.{Unpaid.TellsUnpaid, Waiting.{IsPermanentBy, IsReachedBy, IsWaitingAs}};
+ghost use Rattle.net_plan.specs.{Belonging.HasDevice, Ranges.IsInRange, declared.event.Event.Event};
+ghost use Rattle.run_law.specs.{control.Permanence.waits_for, records.Happenings.{Happening, numbered}};
+ghost use Rattle.transparent_clock.specs.Points.{point_of};
+ghost use Rattle.audit_devices.specs.law.Owed as debts;
+
+use crate::records::{Kept, KeptRecord};
+use crate::unpaid::Debtor;
+use crate::unpaid::earliest::earlier_of;
+use device_rules::{is_parent_of, is_relay};
+use net_plan::{DeviceId, LinkId, Network};
+use tte_units::Units;
+
+/// A frame that waits at a device for its permanence.
+#[derive(Clone, Copy)]
+pub(crate) struct Waiting {
+    pub(crate) device: DeviceId,
+    /// What its transparent clock shows.
+    pub(crate) clock: u64,
+    /// When it arrived.
+    pub(crate) since: u64,
+}
+
+impl Debtor<'_> {
+    /// The first time at which a frame is permanent at a device, and no record tells what became of it. It is None
+    /// exactly where one tells of each. `until` is at most 2^60.
+    pub fn first_unpaid_permanence(&self) -> Option<u64>
+        requires range { IsInRange self.now.network.now }
+        requires some { RemembersSome self.now.history.now }
+        requires limit { self.now.until ≤ 2 ^ 60 }
+        ensures { (befallen : List Event) (hs : List Happening) → AreKnown befallen hs self.now
+            → TellsFirst (scenario_of self.now befallen) hs self.now.until (λ (cause : ℕ).
+            debts.permanence cause) result }
+    {
+        let mut first = None;
+        'records: for place in 0..self.payments.count() {
+            first = earlier_of(first, self.unpaid_permanence(place as u64 + 1));
+        }
+        first
+    }
+
+    // When the frame of the record of this number is permanent, if no record tells what became of it.
+    fn unpaid_permanence(&self, number: u64) -> Option<u64>
+        requires range { IsInRange self.now.network.now }
+        requires some { RemembersSome self.now.history.now }
+        requires limit { self.now.until ≤ 2 ^ 60 }
+        ensures { (befallen : List Event) (hs : List Happening) → AreKnown befallen hs self.now
+            → TellsUnpaid (scenario_of self.now befallen) hs self.now.until (debts.permanence number) result }
+    {
+        let kept = match self.records.get(number) {
+            Some(kept) => kept,
+            None => return None,
+        };
+        if self.payments.of(number).permanence {
+            return None;
+        }
+        self.permanence(kept)
+    }
+
+    // When the frame of the record is permanent.
+    fn permanence(&self, kept: &KeptRecord) -> Option<u64>
+        requires range { IsInRange self.now.network.now }
+        requires some { RemembersSome self.now.history.now }
+        requires limit { self.now.until ≤ 2 ^ 60 }
+        ensures { (befallen : List Event) (hs : List Happening) (number : ℕ) (h : Happening)
+            → AreKnown befallen hs self.now → numbered hs number ≡ Some h → kept.now ≡ record_of h
+            → IsPermanentBy (scenario_of self.now befallen) hs self.now.until number result }
+    {
+        match waiting_frame(self.network, kept) {
+            Some(waiting) => self.reached(&waiting),
+            None => None,
+        }
+    }
+
+    // When the waiting frame is permanent, at a device that is not broken then.
+    fn reached(&self, waiting: &Waiting) -> Option<u64>
+        requires range { IsInRange self.now.network.now }
+        requires some { RemembersSome self.now.history.now }
+        requires limit { self.now.until ≤ 2 ^ 60 }
+        ensures { (befallen : List Event) → Remembers self.now.network.now befallen self.now.history.now
+            → HasDevice self.now.network.now waiting.now.device
+            → IsReachedBy (scenario_of self.now befallen) waiting.now self.now.until result }
+    {
+        if self.until < waiting.since {
+            return None;
+        }
+        let reading = self.history.reading(waiting.device, waiting.since);
+        let point = point_of(reading, waiting.clock, self.network.dmax);
+        let reached = self
+            .history
+            .reach(waiting.device, waiting.since, point, self.until);
+        match reached {
+            Some(time) => {
+                if self.history.is_broken(waiting.device, time) {
+                    None
+                } else {
+                    Some(time)
+                }
+            }
+            None => None,
+        }
+    }
+}
+
+/// The frame of the record, if it waits at a device for its permanence.
+fn waiting_frame(network: &Network, kept: &KeptRecord) -> Option<Waiting>
+    ensures { (h : Happening) → kept.now ≡ record_of h → IsWaitingAs network.now h result }
+{
+    let (device, link, clock) = match kept.kept {
+        Kept::Arrived(device, link, clock) => (device, link, clock),
+        Kept::On(_)
+        | Kept::Send(_, _)
+        | Kept::Permanent(_, _)
+        | Kept::Compressed(_, _)
+        | Kept::Sent(_)
+        | Kept::Corrected(_)
+        | Kept::Left(_, _)
+        | Kept::TtSent(_, _)
+        | Kept::Accepted(_, _, _)
+        | Kept::Other => return None,
+    };
+    if kept.frame.is_none() {
+        return None;
+    }
+    if !waits_for(network, device, link) {
+        return None;
+    }
+    Some(Waiting {
+        device,
+        clock,
+        since: kept.time,
+    })
+}
+
+/// The point of a frame with this clock that arrives at the reading.
+fn point_of(reading: u64, clock: u64, dmax: Units) -> i128
+    ensures { result ≡ point_of (pos reading) clock dmax.0 }
+{
+    i128::from(reading) + (i128::from(dmax.0) - i128::from(clock))
+}
+
+/// Does the device wait for the permanence of what comes by the link?
+fn waits_for(network: &Network, device: DeviceId, link: LinkId) -> bool
+    ensures { result ≡ waits_for network.now device link }
+{
+    !is_relay(network, device) || !is_parent_of(network, device, link)
+}

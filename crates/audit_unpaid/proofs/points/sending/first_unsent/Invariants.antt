@@ -1,7 +1,0 @@
-use Rattle.audit_unpaid.proofs.points_lemmas.Words.{Event, Happening, IsKept, IsSent, List, Sends, TellsFirstAmong, scenario_under}
-use Rattle.audit_unpaid.proofs.points.sending.first_unsent.Given as goal
-
-abbrev pub invariant-devices : goal.invariant-devices
-invariant-devices l =
-    (befallen : List Event) (hs : List Happening) → IsKept l.network befallen hs l.events l.standings l.places
-    → TellsFirstAmong (Sends (scenario_under l.network befallen) hs) (IsSent (scenario_under l.network befallen) hs) l.until l.place l.first

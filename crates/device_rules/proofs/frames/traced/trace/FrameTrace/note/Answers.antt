@@ -1,0 +1,54 @@
+use Rattle.std.{proofs.{Common.{◌++◌, ◌∷◌, ◌≡◌, List, [], refl, subst, sym}, lemmas.Slice.pushed}, specs.{List.All, Prelude.map}}
+use Rattle.net_plan.specs.declared.network.Network.{Network}
+use Rattle.run_law.specs.records.Happenings.{Happening}
+use Rattle.device_rules.proofs.{frames.traced.trace.FrameTrace.note.Goals.{in-Err-push, in-Ok-push}, frames_lemmas.traced_lemmas.Growing.all_grow}
+use Rattle.device_rules.proofs.frames_lemmas.traced_lemmas.Further.{after_push, not_pushed, one_more_held, the_trace, trace_grows, trace_more}
+use Rattle.device_rules.specs.{declared.frames.traced.kept.Kept.Kept, frames.traced.Keeping.{IsHeld, Keeps, traced, traced_by, view_of, views_of}}
+use Rattle.device_rules.proofs.frames.traced.trace.FrameTrace.note.Goals as goal
+
+pub returns-in-Err-clause-as_it_was : goal.returns-in-Err-clause-as_it_was
+returns-in-Err-clause-as_it_was c =
+    trace_grows c.self.inside.accepted.now c.args.self.now c.self.inside.pool.items c.kept_of.new.pool.items
+    c.self.inside.records.items c.self.view_is c.self.invariant c.in-Err.ensures.grows
+
+pub invariant_of-self-2 : goal.invariant_of-self-2
+invariant_of-self-2 c =
+    let new = c.kept_of.new.pool.items in
+    let ks = c.self.inside.records.items in
+    let grown = all_grow c.self.inside.pool.items new ks c.in-Ok.ensures.grows c.self.invariant in
+    after_push (All (IsHeld new)) c.push.result ks c.push.new.self.items c.in-Ok.kept c.push.ensures.items grown
+    (one_more_held new ks c.in-Ok.kept grown c.in-Ok.ensures.held)
+
+pub returns-clause-keeps : goal.returns-clause-keeps
+returns-clause-keeps c network notes keeps =
+    let own = c.self.inside.accepted.now in
+    let pool = c.self.inside.pool.items in
+    let new = c.kept_of.new.pool.items in
+    let ks = c.self.inside.records.items in
+    let kept = c.in-Ok.kept in
+    let body = c.args.note.now.body in
+    let one : (hs : List Happening) → views_of own pool ks ≡ map traced hs → view_of own new kept ≡ traced_by own hs body =
+    subst (λ (n : Network). (hs : List Happening) → views_of n pool ks ≡ map traced hs → view_of n new kept ≡ traced_by n hs body)
+    c.network-network.ensures.value
+    (subst (λ (xs : List Kept). (hs : List Happening) → views_of c.network-network.result.now pool xs ≡ map traced hs
+    → view_of c.network-network.result.now new kept ≡ traced_by c.network-network.result.now hs body)
+    c.deref.ensures.value c.in-Ok.ensures.view) in
+    let more = trace_more network own c.args.self.now pool new ks kept notes c.args.note.now c.self.view_is c.self.invariant
+    c.in-Ok.ensures.grows one keeps in
+    elim c.match-push.branch [
+      | in-Ok-push w ↦ rw w.result-is (subst (λ (xs : List Kept). Keeps network (notes ++ c.args.note.now ∷ [])
+          (the_trace own (views_of own new xs))) (sym (pushed (kept ∷ []) refl w.in-Ok-push.is c.push.ensures.items)) more)
+      | in-Err-push w ↦ rw w.result-is tt
+    ]
+
+pub returns-clause-as_it_was : goal.returns-clause-as_it_was
+returns-clause-as_it_was c =
+    let own = c.self.inside.accepted.now in
+    let new = c.kept_of.new.pool.items in
+    let ks = c.self.inside.records.items in
+    let same = trace_grows own c.args.self.now c.self.inside.pool.items new ks c.self.view_is c.self.invariant c.in-Ok.ensures.grows in
+    elim c.match-push.branch [
+      | in-Ok-push w ↦ rw w.result-is tt
+      | in-Err-push w ↦ rw w.result-is (subst (λ (xs : List Kept). the_trace own (views_of own new xs) ≡ c.args.self.now)
+          (sym (not_pushed c.push.result _ ks c.push.new.self.items c.in-Ok.kept w.in-Err-push.is c.push.ensures.items)) same)
+    ]

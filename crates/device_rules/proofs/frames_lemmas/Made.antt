@@ -1,0 +1,79 @@
+-- The frame of a virtual link as it is written: a head, and zeros behind it.
+use Rattle.std.proofs.Common.{◌++◌, ◌+◌, ◌-◌, ◌<◌, ◌∙◌, ◌≡◌, List, None, Option, Some, [], ap, arith, drop, get_or, inl, inr, length, length-append, replicate}
+use Rattle.std.proofs.{Common.{slice_get, sym, take, ℕ}, Math.Seq.{drop-append_seam, take-append-add}, lemmas.List.take-replicate}
+use Rattle.std.{proofs.lemmas.Option.{slice_get-get_or, slice_get_cases}, specs.Option.option_map_or}
+use Rattle.byteorder.specs.{Endian.big_bytes, Numbers.length-bytes_high_first}
+use Rattle.net_plan.specs.{Padding.padded, Ranges.{IsInRange, IsVlInRange}, declared.{ids.VlId.VlId, network.Network.Network, tables.VirtualLink.VirtualLink}}
+use Rattle.run_law.specs.records.Frames.{mac_of, tt_frame, tt_frame_by}
+use Rattle.tte_lemmas.proofs.Lists.{in_all}
+use Rattle.device_rules.specs.frames.Made.{head_of, made_frame}
+
+-- of a virtual link of the network it is the frame of the law
+pub made_is : (network : Network) (vl : VlId) (cycle : ℕ) → vl.0 < length network.vl
+    → made_frame network vl cycle ≡ tt_frame network vl cycle
+made_is network vl cycle lt =
+    elim (slice_get_cases network.vl vl.0).1 [
+      | inl found ↦
+          ap (λ (o : Option VirtualLink). option_map_or (λ v. tt_frame_by network v cycle) o (replicate 60 0)) found.2
+          ∙ sym (ap (λ (o : Option VirtualLink). option_map_or (λ v. tt_frame_by network v cycle) o []) found.2)
+      | inr past ↦ let ge = past.0 in absurd (omega (arith, lt, ge))
+    ]
+
+-- how long the head is
+head_length : (network : Network) (vl : VirtualLink) (cycle : ℕ) → length (head_of network vl cycle) ≡ 18
+head_length network vl cycle =
+    let a = big_bytes 4 network.marker in
+    let b = big_bytes 2 vl.id in
+    let c = big_bytes 6 (mac_of network vl.sender) in
+    let d = big_bytes 2 vl.ethertype in
+    let e = big_bytes 4 cycle in
+    omega (
+      arith,
+      length-append a (b ++ (c ++ (d ++ e))),
+      length-append b (c ++ (d ++ e)),
+      length-append c (d ++ e),
+      length-append d e,
+      length-bytes_high_first 4 network.marker,
+      length-bytes_high_first 2 vl.id,
+      length-bytes_high_first 6 (mac_of network vl.sender),
+      length-bytes_high_first 2 vl.ethertype,
+      length-bytes_high_first 4 cycle,
+    )
+
+-- the first octets of a longer frame are the frame
+pub front_made : (network : Network) (vl : VirtualLink) (cycle : ℕ) → IsVlInRange network vl
+    → take vl.length (padded 1514 (head_of network vl cycle)) ≡ tt_frame_by network vl cycle
+front_made network vl cycle range =
+    let head = head_of network vl cycle in
+    let long = head_length network vl cycle in
+    let least = range.length_least in
+    let most = range.length_most in
+    let size : vl.length ≡ length head + (vl.length - length head) = omega (arith, long, least) in
+    ap (λ (n : ℕ). take n (head ++ replicate (1514 - length head) 0)) size
+    ∙ take-append-add head (replicate (1514 - length head) 0) (vl.length - length head)
+    ∙ ap (λ (l : List ℕ). head ++ l) (take-replicate (vl.length - length head) (1514 - length head) 0 (omega (arith, most)))
+
+pub made_found : (network : Network) (vl : VlId) (cycle : ℕ) (found : VirtualLink) (octets head : List ℕ)
+    → slice_get network.vl vl.0 ≡ Some found → IsInRange network → head ≡ head_of network found cycle
+    → octets ≡ padded 1514 head → take found.length octets ≡ made_frame network vl cycle
+made_found network vl cycle found octets head there range is padded_so =
+    ap (take found.length) (padded_so ∙ ap (padded 1514) is)
+    ∙ front_made network found cycle (in_all (IsVlInRange network) network.vl vl.0 found range.vls there)
+    ∙ sym (ap (λ (o : Option VirtualLink). option_map_or (λ v. tt_frame_by network v cycle) o (replicate 60 0)) there)
+
+-- behind the head stand zeros
+pub zeros_behind : (octets head : List ℕ) → length head ≡ 18 → octets ≡ padded 1514 head → drop 18 octets ≡ replicate 1496 0
+zeros_behind octets head long padded_so =
+    ap (drop 18) padded_so ∙ ap (λ (n : ℕ). drop n (padded 1514 head)) (sym long)
+    ∙ drop-append_seam head (replicate (1514 - length head) 0)
+    ∙ ap (λ (n : ℕ). replicate (1514 - n) 0) long
+
+pub made_none : (network : Network) (vl : VlId) (cycle : ℕ) (octets : List ℕ) → slice_get network.vl vl.0 ≡ None
+    → octets ≡ padded 1514 [] → take 60 octets ≡ made_frame network vl cycle
+made_none network vl cycle octets none padded_so =
+    ap (take 60) padded_so ∙ take-replicate 60 1514 0 (omega arith)
+    ∙ sym (ap (λ (o : Option VirtualLink). option_map_or (λ v. tt_frame_by network v cycle) o (replicate 60 0)) none)
+
+pub found_at : {X : Type 0} (xs : List X) (i : ℕ) (x : X) → i < length xs → ((d : X) → x ≡ get_or xs i d)
+    → slice_get xs i ≡ Some x
+found_at xs i x lt is = slice_get-get_or xs i x lt ∙ ap Some (sym (is x))

@@ -1,0 +1,59 @@
+-- What is kept stays as it is while more octets of `send` events come.
+use Rattle.std.proofs.Common.{◌++◌, ◌∙◌, ◌∷◌, ◌≡◌, List, Some, [], ap, arith, drop, length-append, length-drop, refl, subst, suc, sym, take, ℕ}
+use Rattle.std.{proofs.lemmas.List.{append-nil, drop-append-le, take-append-le}, specs.List.All}
+use Rattle.net_plan.specs.declared.network.Network.{Network}
+use Rattle.pcf_codec.specs.Decoding.{decoded}
+use Rattle.run_law.specs.records.Happenings.{frame_in}
+use Rattle.device_rules.specs.frames.traced.Keeping.{Grows, IsHeld, IsPieceOf, Traced, came, piece_in, view_of, views_of}
+use Rattle.device_rules.specs.declared.frames.traced.kept.{Kept.Kept, Piece.Piece}
+use Rattle.device_rules.specs.declared.frames.traced.kept.Kept.TheVariants as kept
+
+-- nothing more is a growth too
+pub grows_same : (xs : List ℕ) → Grows xs xs
+grows_same xs = ([], sym (append-nil xs))
+
+piece_grows : (pool more : List ℕ) (piece : Piece) → IsPieceOf pool piece → piece_in (pool ++ more) piece ≡ piece_in pool piece
+piece_grows pool more piece h =
+    let there = h.there in
+    ap (take piece.len) (drop-append-le piece.from pool more (omega (arith, there)))
+    ∙ take-append-le piece.len (drop piece.from pool) more (omega (arith, there, length-drop piece.from pool))
+
+pub piece_stays : (pool more : List ℕ) (piece : Piece) → IsPieceOf pool piece → IsPieceOf (pool ++ more) piece
+piece_stays pool more piece h =
+    let there = h.there in
+    record { there = omega (arith, there, length-append pool more); most = h.most }
+
+held_grows : (pool more : List ℕ) (k : Kept) → IsHeld pool k → IsHeld (pool ++ more) k
+held_grows pool more kept.Nothing h = tt
+held_grows pool more (kept.Control frame) h = tt
+held_grows pool more (kept.Silent frame) h = tt
+held_grows pool more (kept.Made vl cycle) h = tt
+held_grows pool more (kept.Send piece) h = piece_stays pool more piece h
+held_grows pool more (kept.Came piece) h = piece_stays pool more piece h
+
+abbrev the_send : List ℕ → Traced
+the_send o = record { frame = frame_in (decoded o); octets = o; shown = Some o }
+
+view_grows : (network : Network) (pool more : List ℕ) (k : Kept) → IsHeld pool k → view_of network (pool ++ more) k ≡ view_of network pool k
+view_grows network pool more kept.Nothing h = refl
+view_grows network pool more (kept.Control frame) h = refl
+view_grows network pool more (kept.Silent frame) h = refl
+view_grows network pool more (kept.Made vl cycle) h = refl
+view_grows network pool more (kept.Send piece) h =
+    ap the_send (piece_grows pool more piece h)
+view_grows network pool more (kept.Came piece) h =
+    ap came (piece_grows pool more piece h)
+
+-- all are held where more octets stand
+pub all_grow : (pool new : List ℕ) (ks : List Kept) → Grows pool new → All (IsHeld pool) ks → All (IsHeld new) ks
+all_grow pool new ks (more, e) h = subst (λ (xs : List ℕ). All (IsHeld xs) ks) (sym e) (λ i x lt. held_grows pool more _ (h i x lt))
+
+-- and all are seen as they were
+pub views_grow : (network : Network) (pool more : List ℕ) (ks : List Kept) → All (IsHeld pool) ks
+    → views_of network (pool ++ more) ks ≡ views_of network pool ks
+views_grow network pool more [] h = refl
+views_grow network pool more (k ∷ ks) h =
+    let first : IsHeld pool k = h 0 k (omega arith) in
+    let rest : All (IsHeld pool) ks = λ i x lt. h (suc i) x (omega (arith, lt)) in
+    ap (λ (t : Traced). t ∷ views_of network (pool ++ more) ks) (view_grows network pool more k first)
+    ∙ ap (λ (ts : List Traced). view_of network pool k ∷ ts) (views_grow network pool more ks rest)

@@ -1,0 +1,49 @@
+-- Looking up by number what is kept of a record.
+use Rattle.std.{proofs.{Common.{◌∙◌, ◌≡◌, List, None, Option, Some, [], ap, refl, slice_get, suc, sym, zero, ℕ}, lemmas.Option.slice_get-map}, specs.List.All}
+use Rattle.std.specs.{Option.option_map_or, Prelude.{map, option_and_then, option_map}}
+use Rattle.net_plan.specs.declared.network.Network.{Network}
+use Rattle.run_law.specs.records.Happenings.{Happening, frame_from, numbered, octets_from}
+use Rattle.tte_lemmas.proofs.Lists.{in_all}
+use Rattle.device_rules.specs.{declared.frames.traced.kept.Kept.Kept, frames.traced.RecordOctets.record_octets}
+use Rattle.device_rules.specs.frames.traced.Keeping.{IsHeld, Traced, at_number, kept_frame, kept_octets, kept_shown, traced, view_of, views_of}
+
+-- what is kept of the record of this number is held
+pub held_at : (pool : List ℕ) (ks : List Kept) (n : ℕ) (k : Kept) → All (IsHeld pool) ks → at_number ks n ≡ Some k → IsHeld pool k
+held_at pool ks zero k h e = absurd cc
+held_at pool ks (suc n) k h e = in_all (IsHeld pool) ks n k h e
+
+then_map : {A B C : Type 0} (g : B → Option C) (f : A → B) (o : Option A) → option_and_then g (option_map f o) ≡ option_and_then (λ a. g (f a)) o
+then_map g f None = refl
+then_map g f (Some a) = refl
+
+or_map : {A B C : Type 0} (g : B → C) (f : A → B) (o : Option A) (d : C) → option_map_or g (option_map f o) d ≡ option_map_or (λ a. g (f a)) o d
+or_map g f None d = refl
+or_map g f (Some a) d = refl
+
+-- what is kept at a number is of the record of this number
+seen_at : (f : Kept → Traced) (ks : List Kept) (hs : List Happening) (n : ℕ) → map f ks ≡ map traced hs
+    → option_map f (at_number ks n) ≡ option_map traced (numbered hs n)
+seen_at f ks hs zero e = refl
+seen_at f ks hs (suc n) e =
+    sym (slice_get-map f ks n) ∙ ap (λ (ts : List Traced). slice_get ts n) e ∙ slice_get-map traced hs n
+
+pub frame_at : (network : Network) (pool : List ℕ) (ks : List Kept) (hs : List Happening) (n : ℕ) → views_of network pool ks ≡ map traced hs
+    → option_and_then (kept_frame pool) (at_number ks n) ≡ frame_from hs n
+frame_at network pool ks hs n e =
+    sym (then_map (λ (t : Traced). t.frame) (view_of network pool) (at_number ks n))
+    ∙ ap (λ (o : Option Traced). option_and_then (λ t. t.frame) o) (seen_at (view_of network pool) ks hs n e)
+    ∙ then_map (λ (t : Traced). t.frame) traced (numbered hs n)
+
+pub octets_at : (network : Network) (pool : List ℕ) (ks : List Kept) (hs : List Happening) (n : ℕ) → views_of network pool ks ≡ map traced hs
+    → option_map_or (kept_octets network pool) (at_number ks n) [] ≡ octets_from hs n
+octets_at network pool ks hs n e =
+    sym (or_map (λ (t : Traced). t.octets) (view_of network pool) (at_number ks n) [])
+    ∙ ap (λ (o : Option Traced). option_map_or (λ t. t.octets) o []) (seen_at (view_of network pool) ks hs n e)
+    ∙ or_map (λ (t : Traced). t.octets) traced (numbered hs n) []
+
+pub shown_at : (network : Network) (pool : List ℕ) (ks : List Kept) (hs : List Happening) (n : ℕ) → views_of network pool ks ≡ map traced hs
+    → option_and_then (kept_shown network pool) (at_number ks n) ≡ option_and_then record_octets (numbered hs n)
+shown_at network pool ks hs n e =
+    sym (then_map (λ (t : Traced). t.shown) (view_of network pool) (at_number ks n))
+    ∙ ap (λ (o : Option Traced). option_and_then (λ t. t.shown) o) (seen_at (view_of network pool) ks hs n e)
+    ∙ then_map (λ (t : Traced). t.shown) traced (numbered hs n)

@@ -1,0 +1,12 @@
+use Rattle.std.proofs.Common.{List, length}
+use Rattle.lens.{proofs.draw_lemmas.Marking.IsSketched, specs.draw.svg.Sketching.begun}
+use Rattle.run_law.specs.declared.note.Note.{Note}
+use Rattle.tte_traces.specs.reports.Reports.{AreLeft}
+use Rattle.lens.proofs.draw.drawing.sketch_of.Given as goal
+
+abbrev pub decreases-records : goal.decreases-records
+decreases-records l = length l.records.rest.now
+
+abbrev pub invariant-records : goal.invariant-records
+invariant-records l = (notes : List Note) → AreLeft l.network l.initial.records notes
+    → IsSketched l.network (begun l.network l.fn.span) notes l.records l.sketch

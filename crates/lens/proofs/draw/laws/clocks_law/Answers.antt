@@ -1,0 +1,5 @@
+use Rattle.lens.proofs.draw_lemmas.Clocks.{pictures_show_clocks}
+use Rattle.lens.proofs.draw.laws.clocks_law.Goals as goal
+
+pub returns : goal.returns
+returns c = pictures_show_clocks

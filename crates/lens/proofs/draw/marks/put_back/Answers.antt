@@ -1,0 +1,70 @@
+use Rattle.std.proofs.Common.{◌≡◌, ◌∙◌, ℕ, List, refl, subst}
+use Rattle.lens.proofs.draw_lemmas.Marking.{left_less, marked_all, marked_fails, marked_first, marked_more, next_in_range, next_of}
+use Rattle.lens.specs.draw.Signs.{close_line}
+use Rattle.run_law.specs.declared.note.Note.{Note}
+use Rattle.tte_forms.specs.{Answering.{Gives, line_answer}, Putting.shown_by, declared.status.Status.TheVariants.Done}
+use Rattle.tte_traces.specs.reports.Reports.{AreLeft}
+use Rattle.lens.proofs.draw.marks.put_back.Goals as goal
+
+pub records-init : goal.records-init
+records-init g c = record {
+  marked =
+      λ notes left. marked_first c.args.network.now c.args.span notes c.args.first c.new-pen.result (shown_by g.K.Sink c.args.out.now) left
+      c.new-pen.ensures.value;
+  within = c.new-pen.ensures.within;
+  quiet = refl;
+}
+
+pub next-requires-clause-left : goal.next-requires-clause-left
+next-requires-clause-left g c = let h = c.records.invariant.marked c.requires.left.0 c.requires.left.1 in (h.rest, h.left)
+
+pub put_mark-requires-clause-of_network : goal.put_mark-requires-clause-of_network
+put_mark-requires-clause-of_network g c =
+    let h = c.records.invariant.marked c.requires.left.0 c.requires.left.1 in
+    let next = c.in-Some.ensures h.rest h.left in
+    next_of c.args.network.now c.records.records c.in-Some.note h.rest next.0 h.left next.1
+
+pub put_mark-requires-clause-in_range : goal.put_mark-requires-clause-in_range
+put_mark-requires-clause-in_range g c =
+    let h = c.records.invariant.marked c.requires.left.0 c.requires.left.1 in
+    let next = c.in-Some.ensures h.rest h.left in
+    next_in_range c.args.network.now c.records.records c.in-Some.note h.rest next.0 h.left next.1
+
+pub records-smaller : goal.records-smaller
+records-smaller g c =
+    let network = c.args.network.now in
+    let h = c.records.invariant.marked c.requires.left.0 c.requires.left.1 in
+    let next = c.in-Some.ensures h.rest h.left in
+    left_less network c.records.records c.next.new.self c.in-Some.note next.0
+    (subst (λ (ns : List Note). AreLeft network c.records.records ns) next.1 h.left) next.2
+
+pub records-preserved : goal.records-preserved
+records-preserved g c =
+    let shown = shown_by g.K.Sink in
+    record {
+      marked =
+          λ notes left. let h = c.records.invariant.marked notes left in
+          let next = c.in-Some.ensures h.rest h.left in
+          marked_more c.args.network.now c.args.span notes c.records.records c.records.pen (shown c.args.out.now) (shown c.records.out) h c.next.new.self
+          c.in-Some.note next.0 c.pen_behind-pen.result (shown c.put_mark.new.out) next.1 next.2 c.pen_behind-pen.ensures.value c.in-Ok.ensures.draws;
+      within = c.pen_behind-pen.ensures.within;
+      quiet = c.in-Ok.ensures.faults ∙ c.records.invariant.quiet;
+    }
+
+pub returns-in-Err-clause-gives : goal.returns-in-Err-clause-gives
+returns-in-Err-clause-gives g c notes left =
+    let shown = shown_by g.K.Sink in
+    let h = c.records.invariant.marked notes left in
+    let next = c.in-Some.ensures h.rest h.left in
+    marked_fails c.args.network.now c.args.span notes c.records.records c.records.pen (shown c.args.out.now) (shown c.records.out) h c.in-Some.note next.0
+    c.pen_behind-pen.result (shown c.put_mark.new.out) next.1 c.pen_behind-pen.ensures.value c.in-Err.ensures.draws
+
+pub returns-in-None-clause-gives : goal.returns-in-None-clause-gives
+returns-in-None-clause-gives g c notes left =
+    let shown = shown_by g.K.Sink in
+    let h = c.records.invariant.marked notes left in
+    let last : c.as_bytes.result.now ≡ close_line = c.as_bytes.ensures.value in
+    marked_all c.args.network.now c.args.span notes c.records.records c.records.pen (shown c.args.out.now) (shown c.records.out) h c.put_last.result
+    (shown c.put_last.new.out) (c.in-None.ensures h.rest h.left)
+    (subst (λ (bytes : List ℕ). Gives (line_answer Done bytes) c.put_last.result (shown c.records.out) (shown c.put_last.new.out)) last
+    c.put_last.ensures.gives)

@@ -1,0 +1,17 @@
+use Rattle.std.proofs.Common.{◌≡◌, ◌≤◌, List, length}
+use Rattle.lens.{proofs.draw_lemmas.Marking.IsMarked, specs.draw.svg.Layout.widest}
+use Rattle.run_law.specs.declared.note.Note.{Note}
+use Rattle.tte_forms.specs.Putting.{shown_by}
+use Rattle.tte_traces.specs.reports.Reports.{AreLeft}
+use Rattle.lens.proofs.draw.marks.put_back.Given as goal
+
+abbrev pub decreases-records : goal.decreases-records
+decreases-records g l = length l.records.rest.now
+
+abbrev pub invariant-records : goal.invariant-records
+invariant-records g l = record {
+  marked : (notes : List Note) → AreLeft l.network l.initial.records notes
+      → IsMarked l.network l.span notes l.records l.pen (shown_by g.K.Sink l.fn.out) (shown_by g.K.Sink l.out);
+  within : l.pen.x ≤ widest;
+  quiet : g.K.Sink.faults l.out ≡ g.K.Sink.faults l.fn.out;
+}

@@ -1,0 +1,15 @@
+use Rattle.std.{proofs.Common.{◌∙◌, ◌∷◌, ◌≡◌, List, [], subst, sym, ℕ}, specs.Prelude.Option}
+use Rattle.lens.proofs.draw_lemmas.Parts.{draws_one}
+use Rattle.lens.specs.{declared.draw.overview.strip.Ribbon.Ribbon, draw.{Putting.Draws, overview.{Overview.ribbon_lines, Pieces.ribbon_line, Putting.listed}}}
+use Rattle.tte_forms.specs.Putting.{shown_by}
+use Rattle.lens.proofs.draw.overview.putting.put_some.Goals as goal
+
+pub returns-in-Some-clause-draws : goal.returns-in-Some-clause-draws
+returns-in-Some-clause-draws g c =
+    let old = shown_by g.K.Sink c.args.out.now in
+    let new = shown_by g.K.Sink c.put.new.self in
+    let network = c.args.network.now in
+    let line : c.as_slice.result.now ≡ ribbon_line network c.in-Some.ribbon = c.as_slice.ensures ∙ c.make_ribbon.ensures in
+    subst (λ (r : Option Ribbon). Draws (ribbon_lines network (listed r)) c.put.result old new) (sym c.in-Some.is)
+    (subst (λ (bytes : List ℕ). Draws (bytes ∷ []) c.put.result old new) line
+    (draws_one c.as_slice.result.now c.put.result old new c.put.ensures.all c.put.ensures.front c.put.ensures.counted))

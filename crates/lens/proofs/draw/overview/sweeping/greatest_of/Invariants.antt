@@ -1,0 +1,11 @@
+use Rattle.std.proofs.Common.{List, length}
+use Rattle.lens.proofs.draw_lemmas.overview_lemmas.Swept.{IsMeasured}
+use Rattle.run_law.specs.declared.note.Note.{Note}
+use Rattle.tte_traces.specs.reports.Reports.{AreLeft}
+use Rattle.lens.proofs.draw.overview.sweeping.greatest_of.Given as goal
+
+abbrev pub decreases-records : goal.decreases-records
+decreases-records l = length l.records.rest.now
+
+abbrev pub invariant-records : goal.invariant-records
+invariant-records l = (notes : List Note) → AreLeft l.network l.initial.records notes → IsMeasured l.network notes l.records l.last

@@ -1,0 +1,16 @@
+use Rattle.std.proofs.Common.{◌≡◌, List, length}
+use Rattle.lens.proofs.draw_lemmas.overview_lemmas.Swept.{IsSwept}
+use Rattle.run_law.specs.declared.note.Note.{Note}
+use Rattle.tte_forms.specs.Putting.{shown_by}
+use Rattle.tte_traces.specs.reports.Reports.{AreLeft}
+use Rattle.lens.proofs.draw.overview.sweeping.put_sweep.Given as goal
+
+abbrev pub decreases-records : goal.decreases-records
+decreases-records g l = length l.records.rest.now
+
+abbrev pub invariant-records : goal.invariant-records
+invariant-records g l = record {
+  swept : (notes : List Note) → AreLeft l.network l.initial.records notes
+      → IsSwept l.network l.grid l.fn.strips notes l.records l.column l.strips (shown_by g.K.Sink l.fn.out) (shown_by g.K.Sink l.out);
+  quiet : g.K.Sink.faults l.out ≡ g.K.Sink.faults l.fn.out;
+}

@@ -1,0 +1,11 @@
+use Rattle.std.{proofs.Common.{◌≡◌, take}, specs.Prelude.flat_map}
+use Rattle.lens.specs.draw.{Picture.some_line, svg.Clocks.gauge_of}
+use Rattle.tte_forms.specs.Putting.{PutsLines, shown_by}
+use Rattle.lens.proofs.draw.putting.put_gauges.Given as goal
+
+abbrev pub invariant-clocks : goal.invariant-clocks
+invariant-clocks g l = record {
+  puts : PutsLines (flat_map (λ told. some_line l.network (gauge_of l.network l.pen l.clocks told)) (take l.clock-index l.clocks.told))
+      (shown_by g.K.Sink l.fn.out) (shown_by g.K.Sink l.out);
+  quiet : g.K.Sink.faults l.out ≡ g.K.Sink.faults l.fn.out;
+}

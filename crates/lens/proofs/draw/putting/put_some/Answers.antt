@@ -1,0 +1,15 @@
+use Rattle.std.{proofs.Common.{◌∙◌, ◌∷◌, ◌≡◌, List, [], subst, sym, ℕ}, specs.Prelude.Option}
+use Rattle.lens.{proofs.draw_lemmas.Parts.draws_one, specs.{declared.draw.svg.element.Element.Element, draw.{Picture.some_line, svg.Elements.element_line}}}
+use Rattle.lens.specs.draw.Putting.{Draws}
+use Rattle.tte_forms.specs.Putting.{shown_by}
+use Rattle.lens.proofs.draw.putting.put_some.Goals as goal
+
+pub returns-in-Some-clause-draws : goal.returns-in-Some-clause-draws
+returns-in-Some-clause-draws g c =
+    let old = shown_by g.K.Sink c.args.out.now in
+    let new = shown_by g.K.Sink c.put.new.self in
+    let network = c.args.network.now in
+    let line : c.as_slice.result.now ≡ element_line network c.in-Some.element = c.as_slice.ensures ∙ c.make_element_line.ensures in
+    subst (λ (e : Option Element). Draws (some_line network e) c.put.result old new) (sym c.in-Some.is)
+    (subst (λ (bytes : List ℕ). Draws (bytes ∷ []) c.put.result old new) line
+    (draws_one c.as_slice.result.now c.put.result old new c.put.ensures.all c.put.ensures.front c.put.ensures.counted))

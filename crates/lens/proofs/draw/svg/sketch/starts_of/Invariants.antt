@@ -1,0 +1,6 @@
+use Rattle.std.proofs.Common.{◌≡◌, map, take}
+use Rattle.lens.specs.draw.svg.Lanes.{start_of}
+use Rattle.lens.proofs.draw.svg.sketch.starts_of.Given as goal
+
+abbrev pub invariant-devices : goal.invariant-devices
+invariant-devices l = l.grounds.items ≡ map start_of (take l.device-index l.devices)

@@ -1,0 +1,40 @@
+use Rattle.std.proofs.{Common.{◌∙◌, ◌++◌, ◌≤◌, Global, List, Option, Vec, [], ap, length, subst, sym}, lemmas.List.append-nil}
+use Rattle.std.specs.{List.cons_option, Prelude.All}
+use Rattle.audit_devices.specs.events.Readings.{scenario_under}
+use Rattle.lens.{proofs.{draw.windows.windows_of.Goals.{in-Some+in-Ok, in_default}, draw_lemmas.Asking.with_next}, specs.draw.svg.Windows.{came_of, windows_in}}
+use Rattle.lens.{proofs.draw_lemmas.Parts.take_all, specs.{declared.draw.svg.{mark.Mark.Mark, window.Came.Came}, why.past.Pasts.clock_at}}
+use Rattle.lens.specs.draw.Asking.{IsAskable}
+use Rattle.lens.proofs.draw.windows.windows_of.Goals as goal
+
+pub came_at-requires-clause-askable : goal.came_at-requires-clause-askable
+came_at-requires-clause-askable c =
+    subst (λ (ms : List Mark). All (IsAskable c.args.network.now) ms) (sym c.marks-marks.ensures) c.requires.askable c.frames.mark-index _
+    c.frames-test.true
+
+pub frames-preserved : goal.frames-preserved
+frames-preserved c befallen hs past =
+    let network = c.args.network.now in
+    let clock = clock_at (scenario_under network befallen) hs in
+    let own = c.came_at.ensures befallen hs past in
+    let before = c.frames.invariant befallen hs past in
+    elim c.match-came_at.branch [
+      | in-Some+in-Ok w ↦
+          with_next (λ (m : Mark). came_of network m (clock m.device m.time)) c.args.sketch.now.marks c.marks-marks.result.now c.marks-marks.ensures
+          c.frames.mark-index _ c.frames-test.true c.frames.windows.items c.match-came_at.windows.items c.came_at.result before own
+          (ap (λ (v : Vec Came Global). v.items) w.windows-is ∙ w.in-Ok.ensures.items
+          ∙ ap (λ (o : Option Came). c.frames.windows.items ++ cons_option o []) (sym w.in-Some.is))
+      | in_default w ↦
+          with_next (λ (m : Mark). came_of network m (clock m.device m.time)) c.args.sketch.now.marks c.marks-marks.result.now c.marks-marks.ensures
+          c.frames.mark-index _ c.frames-test.true c.frames.windows.items c.match-came_at.windows.items c.came_at.result before own
+          (ap (λ (v : Vec Came Global). v.items) w.windows-is
+          ∙ sym (ap (λ (o : Option Came). c.frames.windows.items ++ cons_option o []) w.in_default.is ∙ append-nil c.frames.windows.items))
+    ]
+
+pub returns : goal.returns
+returns c befallen hs past =
+    let network = c.args.network.now in
+    let clock = clock_at (scenario_under network befallen) hs in
+    c.frames.invariant befallen hs past
+    ∙ ap (windows_in network clock)
+    (take_all c.frames.mark-index c.args.sketch.now.marks
+    (subst (λ (ms : List Mark). length ms ≤ c.frames.mark-index) c.marks-marks.ensures c.frames-test.false))

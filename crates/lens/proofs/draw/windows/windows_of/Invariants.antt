@@ -1,0 +1,10 @@
+use Rattle.std.proofs.Common.{◌≡◌, List, take}
+use Rattle.audit_devices.specs.events.Readings.{scenario_under}
+use Rattle.lens.specs.{draw.svg.Windows.windows_in, why.past.Pasts.{IsPast, clock_at}}
+use Rattle.net_plan.specs.declared.event.Event.{Event}
+use Rattle.run_law.specs.records.Happenings.{Happening}
+use Rattle.lens.proofs.draw.windows.windows_of.Given as goal
+
+abbrev pub invariant-frames : goal.invariant-frames
+invariant-frames l = (befallen : List Event) (hs : List Happening) → IsPast l.network befallen hs l.past
+    → l.windows.items ≡ windows_in l.network (clock_at (scenario_under l.network befallen) hs) (take l.mark-index l.sketch.marks)

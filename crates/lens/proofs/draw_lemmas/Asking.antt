@@ -1,0 +1,79 @@
+-- Of the marks of a report it can be asked where in their windows their frames came.
+use Rattle.std.proofs.Common.{◌++◌, ◌+◌, ◌<◌, ◌^◌, ◌∙◌, ◌∷◌, ◌≡◌, ◌≤◌, Bool, List, Option, [], ap, false, get_or, inl, inr, length, refl, subst, sym, take}
+use Rattle.std.{proofs.Common.{true, ℕ}, specs.List.cons_option}
+use Rattle.std.{proofs.lemmas.List.{Elements.{All-cons, All-nil, filter_map-append}, take_more}, specs.Prelude.{All, filter_map, if◌then◌else◌}}
+use Rattle.lens.{proofs.{draw_lemmas.Runs.pictures_show_runs, why_lemmas.past_lemmas.Following.timely_in}, specs.declared.draw.svg.layout.Span.Span}
+use Rattle.lens.specs.{declared.draw.svg.mark.Look.TheVariants.Taken, draw.svg.{Bodies.{look_of, scene_of, struck_look}, Laws.{AreMarksOf, IsMarkOf, shown}}}
+use Rattle.lens.specs.{declared.draw.svg.mark.Mark.Mark, draw.{Asking.IsAskable, svg.{Layout.holds, Sketching.{moment, plan_of}}}, why.past.Pasts.IsTimely}
+use Rattle.net_plan.specs.{Belonging.HasDevice, declared.{event.What.What, ids.{LinkId.LinkId, VlId.VlId}, network.Network.Network}}
+use Rattle.net_plan.specs.declared.event.What.TheVariants as events
+use Rattle.report_text.specs.Ranges.{IsBodyOf}
+use Rattle.run_law.specs.{declared.note.{Note.Note, NoteBody.NoteBody}, records.Order.IsIn}
+use Rattle.run_law.specs.declared.note.NoteBody.TheVariants as notes
+use Rattle.tte_traces.specs.reports.Reports.{IsReportOf}
+use Rattle.tte_units.specs.declared.units.Units.{Units}
+
+-- ---- one more frame
+
+module _ {X Y : Type 0} (h : X → Option Y) (all listed : List X) (same : listed ≡ all) (i : ℕ) (d : X) (within : i < length listed) where
+  one_more : filter_map h (take (i + 1) all) ≡ filter_map h (take i all) ++ cons_option (h (get_or listed i d)) []
+  one_more =
+      let inside = subst (λ (xs : List X). i < length xs) same within in
+      ap (filter_map h) (take_more all i d inside) ∙ filter_map-append h (take i all) (get_or all i d ∷ [])
+      ∙ ap (λ (xs : List X). filter_map h (take i all) ++ cons_option (h (get_or xs i d)) []) (sym same)
+
+  pub with_next : (ys zs : List Y) (o : Option Y) → ys ≡ filter_map h (take i all) → o ≡ h (get_or listed i d) → zs ≡ ys ++ cons_option o []
+      → zs ≡ filter_map h (take (i + 1) all)
+  with_next ys zs o before own next =
+      next ∙ ap (λ (ks : List Y). ks ++ cons_option o []) before ∙ ap (λ (p : Option Y). filter_map h (take i all) ++ cons_option p []) own ∙ sym one_more
+
+-- ---- the marks of a report
+
+pub struck_other : (what : What) (link : LinkId) (vl : VlId) → struck_look what ≡ Taken link vl → ⊥
+struck_other (events.Break d) link vl e = cc
+struck_other (events.Rate d r) link vl e = cc
+struck_other (events.Wire l w u) link vl e = cc
+struck_other (events.Hold l w u) link vl e = cc
+struck_other (events.Cut l w) link vl e = cc
+struck_other (events.Heal l w) link vl e = cc
+struck_other (events.On d) link vl e = cc
+struck_other (events.Send l o) link vl e = cc
+struck_other events.End link vl e = cc
+
+taken_there : (network : Network) (body : NoteBody) (link : LinkId) (vl : VlId) → IsBodyOf network body → look_of body ≡ Taken link vl
+    → HasDevice network (scene_of network body)
+taken_there network (notes.Accepted d l cause v cycle) link vl of look = of.0
+taken_there network (notes.Delivered d l cause v cycle) link vl of look = of.0
+taken_there network (notes.Event line what) link vl of look = absurd (struck_other what link vl look)
+taken_there network body link vl of look = absurd cc
+
+askable : (network : Network) (mark : Mark) (note : Note) → IsMarkOf network mark note → IsTimely network note → IsAskable network mark
+askable network mark note is timely link vl look =
+    let device = taken_there network note.body link vl timely.of_network (sym is.look ∙ look) in
+    let soon = timely.soon in (
+      subst (HasDevice network) (sym is.device) device,
+      subst (λ (t : ℕ). t ≤ 2 ^ 60) (sym is.time) soon,
+    )
+
+all_askable : (network : Network) (marks : List Mark) (ns : List Note) → AreMarksOf network marks ns → ((n : Note) → IsIn n ns → IsTimely network n)
+    → All (IsAskable network) marks
+all_askable network [] [] are timely = All-nil (IsAskable network)
+all_askable network [] (n ∷ ns) are timely = absurd are
+all_askable network (m ∷ ms) [] are timely = absurd are
+all_askable network (m ∷ ms) (n ∷ ns) are timely =
+    All-cons (IsAskable network) m ms (askable network m n are.0 (timely n (inl refl))) (all_askable network ms ns are.1 (λ k i. timely k (inr i)))
+
+pub in_shown : (span : Span) (ns : List Note) (n : Note) → IsIn n (shown span ns) → IsIn n ns
+in_shown span [] n i = absurd i
+in_shown span (m ∷ ns) n i = by (in_shown span ns n) (holds span (moment m)) i
+  where
+    by : (IsIn n (shown span ns) → IsIn n ns) → (b : Bool) → IsIn n (if b then m ∷ shown span ns else shown span ns) → IsIn n (m ∷ ns)
+    by rest true (inl same) = inl same
+    by rest true (inr there) = inr (rest there)
+    by rest false there = inr (rest there)
+
+pub report_askable : (network : Network) (span : Span) (octets : List ℕ) (ns : List Note) (end : Units) → IsReportOf network octets ns end
+    → All (IsAskable network) (plan_of network span ns).marks
+report_askable network span octets ns end of =
+    all_askable network (plan_of network span ns).marks (shown span ns) (pictures_show_runs network span octets ns end of).marks
+    (λ n i. timely_in network octets ns end of n (in_shown span ns n i))

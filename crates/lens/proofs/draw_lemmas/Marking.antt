@@ -1,0 +1,185 @@
+-- The marks of records put one after another.
+use Rattle.std.proofs.Common.{◌++◌, ◌+◌, ◌<◌, ◌∙◌, ◌∷◌, ◌≡◌, Bool, List, [], ap, append_assoc, arith, false, inl, inr, length, length-append, refl, subst, sym}
+use Rattle.std.{proofs.{Common.{true, ℕ}, lemmas.List.{Elements.All-head, append-nil}}, specs.{List.concat, Prelude.{All, codes, fold, if◌then◌else◌}}}
+use Rattle.lens.{proofs.draw_lemmas.Parts.{fails_before, fails_between}, specs.draw.{Signs.close_line, svg.Clocks.{Clocks, clocks_in, clocks_with}}}
+use Rattle.lens.{proofs.draw_lemmas.svg_lemmas.Painting.span_behind, specs.{declared.draw.svg.{layout.Pen.Pen, window.Came.Came}, draw.svg.Plan.Plan}}
+use Rattle.lens.specs.{declared.draw.svg.layout.Span.Span, draw.Picture.{back_lines, front_lines, mark_lines, marks_of, pen_behind, picture_lines, windows_of}}
+use Rattle.lens.specs.draw.{Answer.{back_answer, draw_answer, fitting_answer}, svg.{Layout.pen_at, Sketching.{begun, fits, plan_behind, plan_of, took}}}
+use Rattle.net_plan.specs.declared.network.Network.{Network}
+use Rattle.report_text.specs.{NoteLine.{note_line, note_text, report_of}, Ranges.{IsNoteInRange, IsNoteOf}}
+use Rattle.run_law.specs.declared.note.Note.{Note}
+use Rattle.tte_forms.{proofs.Puts.{Ends-gives, PutsLines-append, PutsLines-none}, specs.declared.status.Status.TheVariants.{Done, TooLong, WriteFault}}
+use Rattle.tte_forms.{proofs.frames.Frames.Gives-behind, specs.declared.status.Status.Status}
+use Rattle.tte_forms.specs.{Answering.{Answer, Ends, Gives, line_answer}, Putting.{PutFails, PutsLines, Shown}, networks.Accepting.too_long_answer}
+use Rattle.tte_traces.specs.{declared.reports.records.Records.Records, reports.Reports.AreLeft}
+
+-- ---- what is left grows less
+
+pub left_less : (network : Network) (old new : Records) (note : Note) (rest : List Note) → AreLeft network old (note ∷ rest) → AreLeft network new rest
+    → length new.rest.now < length old.rest.now
+left_less network old new note rest a b =
+    let text = note_text network note in
+    let line : length (note_line network note) ≡ length text + 1 = length-append text (codes "\n") in
+    let whole : length old.rest.now ≡ length (note_line network note) + length (concat (report_of network rest)) =
+    ap length a.text ∙ length-append (note_line network note) (concat (report_of network rest)) in
+    let others : length new.rest.now ≡ length (concat (report_of network rest)) = ap length b.text in
+    omega (arith, line, whole, others)
+
+-- ---- the sketch
+
+-- these records are left, and the plan of all is that of them behind this one
+pub record IsSketched (network : Network) (begin : Plan) (notes : List Note) (records : Records) (plan : Plan) : Type 0 where
+  pub rest : List Note
+  pub left : AreLeft network records rest
+  pub whole : plan_behind network begin notes ≡ plan_behind network plan rest
+
+pub sketched_more : (network : Network) (begin : Plan) (notes : List Note) (records after : Records) (plan : Plan) (note : Note) (rest : List Note)
+    (h : IsSketched network begin notes records plan) → h.rest ≡ note ∷ rest → AreLeft network after rest
+    → IsSketched network begin notes after (took network plan note)
+sketched_more network begin notes records after plan note rest h next left = record {
+  rest = rest;
+  left = left;
+  whole = h.whole ∙ ap (plan_behind network plan) next;
+}
+
+pub sketched_all : (network : Network) (begin : Plan) (notes : List Note) (records : Records) (plan : Plan)
+    (h : IsSketched network begin notes records plan) → h.rest ≡ [] → plan ≡ plan_behind network begin notes
+sketched_all network begin notes records plan h none = sym (h.whole ∙ ap (plan_behind network plan) none)
+
+-- ---- the clocks
+
+-- these records are left, and what all tell of clocks is what they tell behind this
+pub record AreHeard (network : Network) (span : Span) (notes : List Note) (records : Records) (clocks : Clocks) : Type 0 where
+  pub rest : List Note
+  pub left : AreLeft network records rest
+  pub whole : clocks_in span notes ≡ fold (clocks_with span) clocks rest
+
+pub heard_more : (network : Network) (span : Span) (notes : List Note) (records after : Records) (clocks : Clocks) (note : Note) (rest : List Note)
+    (h : AreHeard network span notes records clocks) → h.rest ≡ note ∷ rest → AreLeft network after rest
+    → AreHeard network span notes after (clocks_with span clocks note)
+heard_more network span notes records after clocks note rest h next left = record {
+  rest = rest;
+  left = left;
+  whole = h.whole ∙ ap (fold (clocks_with span) clocks) next;
+}
+
+pub heard_all : (network : Network) (span : Span) (notes : List Note) (records : Records) (clocks : Clocks)
+    (h : AreHeard network span notes records clocks) → h.rest ≡ [] → clocks ≡ clocks_in span notes
+heard_all network span notes records clocks h none = sym (h.whole ∙ ap (fold (clocks_with span) clocks) none)
+
+-- ---- the marks
+
+-- the marks of the first records were put, those of these are to come, where the pen is
+pub record IsMarked (network : Network) (span : Span) (notes : List Note) (records : Records) (pen : Pen) (old now : Shown) : Type 0 where
+  pub rest : List Note
+  pub left : AreLeft network records rest
+  pub done : List (List ℕ)
+  pub puts : PutsLines done old now
+  pub whole : mark_lines network span (pen_at span.from) notes ≡ done ++ mark_lines network span pen rest
+
+pub marked_first : (network : Network) (span : Span) (notes : List Note) (records : Records) (pen : Pen) (s : Shown) → AreLeft network records notes
+    → pen ≡ pen_at span.from → IsMarked network span notes records pen s s
+marked_first network span notes records pen s left begins = record {
+  rest = notes;
+  left = left;
+  done = [];
+  puts = PutsLines-none s;
+  whole = ap (λ (p : Pen). mark_lines network span p notes) (sym begins);
+}
+
+module _ (network : Network) (span : Span) (notes : List Note) (records : Records) (pen : Pen) (old now : Shown)
+    (h : IsMarked network span notes records pen old now) where
+  -- the lines that are to come begin with those of the next record
+  next_lines : (note : Note) (rest : List Note) (here : Pen) → h.rest ≡ note ∷ rest → here ≡ pen_behind span pen note
+      → mark_lines network span (pen_at span.from) notes ≡ h.done ++ (marks_of network span here note ++ mark_lines network span here rest)
+  next_lines note rest here next moves =
+      h.whole
+      ∙ ap (λ (ns : List Note). h.done ++ mark_lines network span pen ns) next
+      ∙ ap (λ (p : Pen). h.done ++ (marks_of network span p note ++ mark_lines network span p rest)) (sym moves)
+
+  pub marked_more : (after : Records) (note : Note) (rest : List Note) (here : Pen) (new : Shown) → h.rest ≡ note ∷ rest → AreLeft network after rest
+      → here ≡ pen_behind span pen note → PutsLines (marks_of network span here note) now new → IsMarked network span notes after here old new
+  marked_more after note rest here new next left moves puts =
+      let marks = marks_of network span here note in record {
+        rest = rest;
+        left = left;
+        done = h.done ++ marks;
+        puts = PutsLines-append h.done marks old now new h.puts puts;
+        whole = next_lines note rest here next moves ∙ sym (append_assoc h.done marks (mark_lines network span here rest));
+      }
+
+  pub marked_fails : (note : Note) (rest : List Note) (here : Pen) (new : Shown) → h.rest ≡ note ∷ rest → here ≡ pen_behind span pen note
+      → PutFails (marks_of network span here note) now new → Gives (back_answer network span (pen_at span.from) notes) WriteFault old new
+  marked_fails note rest here new next moves fails =
+      let marks = marks_of network span here note in
+      let others = mark_lines network span here rest in
+      let lines : back_lines network span (pen_at span.from) notes ≡ (h.done ++ (marks ++ others)) ++ close_line ∷ [] =
+      ap (λ (ls : List (List ℕ)). ls ++ close_line ∷ []) (next_lines note rest here next moves) in
+      inr (inl (
+        refl,
+        inl (subst (λ (ls : List (List ℕ)). PutFails ls old new) (sym lines)
+            (fails_before (h.done ++ (marks ++ others)) (close_line ∷ []) old new (fails_between h.done marks others old now new h.puts fails))),
+      ))
+
+  pub marked_all : (status : Status) (new : Shown) → h.rest ≡ [] → Gives (line_answer Done close_line) status now new
+      → Gives (back_answer network span (pen_at span.from) notes) status old new
+  marked_all status new none gives =
+      let lines : back_lines network span (pen_at span.from) notes ≡ h.done ++ close_line ∷ [] =
+      ap (λ (ls : List (List ℕ)). ls ++ close_line ∷ [])
+      (h.whole ∙ ap (λ (ns : List Note). h.done ++ mark_lines network span pen ns) none ∙ append-nil h.done) in
+      subst (λ (ls : List (List ℕ)). Gives (record { status = Done; lines = ls }) status old new) (sym lines)
+      (Gives-behind h.done (line_answer Done close_line) status old now new h.puts gives)
+
+-- ---- the next record
+
+-- a record that is to come is of the network, and its numbers lie in their ranges
+pub next_of : (network : Network) (records : Records) (note : Note) (notes rest : List Note) → AreLeft network records notes → notes ≡ note ∷ rest
+    → IsNoteOf network note
+next_of network records note notes rest left next =
+    All-head (IsNoteOf network) note rest (subst (λ (ns : List Note). All (IsNoteOf network) ns) next left.of_network.of_network)
+
+pub next_in_range : (network : Network) (records : Records) (note : Note) (notes rest : List Note) → AreLeft network records notes → notes ≡ note ∷ rest
+    → IsNoteInRange note
+next_in_range network records note notes rest left next =
+    All-head IsNoteInRange note rest (subst (λ (ns : List Note). All IsNoteInRange ns) next left.of_network.in_range)
+
+-- ---- the answer
+
+-- the plan is that of the picture, so the answer is of it
+pub wide_answer : (network : Network) (span : Span) (notes : List Note) (plan : Plan) (status : Status) (old new : Shown) → plan ≡ plan_of network span notes
+    → fits plan ≡ false → Ends TooLong status old new → Gives (draw_answer network span notes) status old new
+wide_answer network span notes plan status old new same wide ends =
+    let answer : draw_answer network span notes ≡ too_long_answer =
+    ap (λ (b : Bool). if b then record { status = Done; lines = picture_lines network span notes } else too_long_answer) (ap fits (sym same) ∙ wide) in
+    subst (λ (a : Answer). Gives a status old new) (sym answer) (Ends-gives [] TooLong status old old new (PutsLines-none old) ends)
+
+pub fit_answer : (network : Network) (span : Span) (notes : List Note) (plan : Plan) (windows : List Came) (clocks : Clocks) (status : Status) (old new : Shown)
+    → plan ≡ plan_of network span notes → windows ≡ windows_of network span notes → clocks ≡ clocks_in span notes → fits plan ≡ true
+    → Gives (fitting_answer network plan windows clocks notes) status old new → Gives (draw_answer network span notes) status old new
+fit_answer network span notes plan windows clocks status old new same came told fit gives =
+    let of_span : plan.span ≡ span = ap (λ (p : Plan). p.span) same ∙ span_behind network (begun network span) notes in
+    let lines : front_lines network plan windows clocks ++ back_lines network plan.span (pen_at plan.span.from) notes ≡ picture_lines network span notes =
+    ap (λ (s : Span). front_lines network plan windows clocks ++ back_lines network s (pen_at s.from) notes) of_span
+    ∙ ap (λ (p : Plan). front_lines network p windows clocks ++ back_lines network span (pen_at span.from) notes) same
+    ∙ ap (λ (w : List Came). front_lines network (plan_of network span notes) w clocks ++ back_lines network span (pen_at span.from) notes) came
+    ∙ ap (λ (c : Clocks). front_lines network (plan_of network span notes) (windows_of network span notes) c
+    ++ back_lines network span (pen_at span.from) notes) told in
+    let answer : draw_answer network span notes ≡ fitting_answer network plan windows clocks notes =
+    ap (λ (b : Bool). if b then record { status = Done; lines = picture_lines network span notes } else too_long_answer) (ap fits (sym same) ∙ fit)
+    ∙ ap (λ (ls : List (List ℕ)). let a : Answer = record { status = Done; lines = ls } in a) (sym lines) in
+    subst (λ (a : Answer). Gives a status old new) (sym answer) gives
+
+-- the put of a line below the marks failed
+pub front_fails : (network : Network) (plan : Plan) (windows : List Came) (clocks : Clocks) (notes : List Note) (old new : Shown)
+    → PutFails (front_lines network plan windows clocks) old new → Gives (fitting_answer network plan windows clocks notes) WriteFault old new
+front_fails network plan windows clocks notes old new fails =
+    inr (inl (refl, inl (fails_before (front_lines network plan windows clocks) (back_lines network plan.span (pen_at plan.span.from) notes) old new fails)))
+
+-- the lines below the marks were put, and then those from the marks on
+pub front_given : (network : Network) (plan : Plan) (windows : List Came) (clocks : Clocks) (notes : List Note) (span : Span) (status : Status)
+    (old now new : Shown)
+    → span ≡ plan.span → PutsLines (front_lines network plan windows clocks) old now
+    → Gives (back_answer network span (pen_at span.from) notes) status now new → Gives (fitting_answer network plan windows clocks notes) status old new
+front_given network plan windows clocks notes span status old now new same puts gives =
+    Gives-behind (front_lines network plan windows clocks) (back_answer network plan.span (pen_at plan.span.from) notes) status old now new puts
+    (subst (λ (s : Span). Gives (back_answer network s (pen_at s.from) notes) status now new) same gives)

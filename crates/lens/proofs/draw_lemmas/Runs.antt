@@ -1,0 +1,50 @@
+-- The picture of a part of the run of a report shows it.
+use Rattle.std.{proofs.Common.{◌++◌, ◌+◌, ◌∙◌, ◌∷◌, ◌≡◌, List, [], append_assoc, length, length-append, refl, subst, sym, true, ℕ}, specs.Prelude.{fold, take}}
+use Rattle.lens.{proofs.draw_lemmas.Falls.never_fall, specs.{declared.draw.svg.layout.Span.Span, draw.svg.Sketching.{moment, plan_of}}}
+use Rattle.lens.{proofs.draw_lemmas.{Titles.titles_are, svg_lemmas.{Arrows.arrows_are_causes, Order.keeps_order}}, specs.draw.Laws.{PicturesShowRuns, ShowsRun}}
+use Rattle.lens.{proofs.draw_lemmas.svg_lemmas.Painting.lanes_are_states, specs.draw.svg.Laws.{NeverFall, NumbersFollow, grounds_after, painted_with, shown}}
+use Rattle.lens.specs.draw.svg.Layout.{holds, pen_at}
+use Rattle.net_plan.specs.declared.network.Network.{Network}
+use Rattle.run_law.specs.declared.note.Note.{Note}
+use Rattle.tte_audit.specs.Report.{AreNumbered}
+use Rattle.tte_traces.specs.reports.Reports.{IsReportOf}
+use Rattle.tte_units.specs.declared.units.Units.{Units}
+
+-- ---- the numbers follow each other
+
+numbers_from : (notes front rest : List Note) → notes ≡ front ++ rest → AreNumbered notes → NumbersFollow (length front + 1) rest
+numbers_from notes front [] whole numbered = tt
+numbers_from notes front (note ∷ rest) whole numbered =
+    let next = length-append front (note ∷ []) in (
+      numbered front rest note whole,
+      subst (λ (n : ℕ). NumbersFollow (n + 1) rest) next
+          (numbers_from notes (front ++ note ∷ []) rest (whole ∙ sym (append_assoc front (note ∷ []) rest)) numbered),
+    )
+
+module _ (network : Network) (octets : List ℕ) (notes : List Note) (end : Units) (of : IsReportOf network octets notes end) where
+  numbers : NumbersFollow 1 notes
+  numbers = numbers_from notes [] notes refl of.events.text.numbers
+
+  falls : NeverFall 0 notes
+  falls = never_fall network octets notes end of
+
+  lanes : (span : Span) (front rest : List Note) (note : Note) → notes ≡ front ++ note ∷ rest → holds span (moment note) ≡ true
+      → fold painted_with (plan_of network span notes).grounds (take (length (shown span (front ++ note ∷ []))) (plan_of network span notes).marks)
+      ≡ grounds_after network (front ++ note ∷ [])
+  lanes span front rest note whole held =
+      subst (λ (ns : List Note). fold painted_with (plan_of network span ns).grounds
+      (take (length (shown span (front ++ note ∷ []))) (plan_of network span ns).marks) ≡ grounds_after network (front ++ note ∷ [])) (sym whole)
+      (lanes_are_states network span front rest note (subst (NeverFall 0) whole falls) held)
+
+  shows : (span : Span) → ShowsRun network span notes
+  shows span =
+      let arrows = arrows_are_causes network span notes numbers falls in record {
+        titles = titles_are network span (pen_at span.from) notes;
+        order = keeps_order network span notes falls;
+        marks = arrows.0;
+        arrows = arrows.1;
+        lanes = lanes span;
+      }
+
+pub pictures_show_runs : PicturesShowRuns
+pictures_show_runs network span octets notes end of = shows network octets notes end of span

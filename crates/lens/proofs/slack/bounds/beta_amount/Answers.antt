@@ -1,0 +1,12 @@
+use Rattle.std.proofs.Common.{subst, sym, ℤ}
+use Rattle.net_plan.specs.Bounds.{IsBeta}
+use Rattle.lens.proofs.slack_lemmas.SmallBeta.{beta_small}
+use Rattle.lens.proofs.slack.bounds.beta_amount.Goals as goal
+
+pub returns-clause-value : goal.returns-clause-value
+returns-clause-value c = sym c.amount.ensures.whole
+
+pub returns-clause-bound : goal.returns-clause-bound
+returns-clause-bound c =
+    beta_small c.args.network.now c.requires.range c.requires.tree c.amount.result
+    (subst (λ (z : ℤ). IsBeta c.args.network.now z) c.amount.ensures.whole c.requires.beta)

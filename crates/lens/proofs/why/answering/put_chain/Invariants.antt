@@ -1,0 +1,15 @@
+use Rattle.std.proofs.Common.{◌≡◌}
+use Rattle.report_text.specs.Ranges.{IsNoteOf}
+use Rattle.tte_forms.specs.Putting.{shown_by}
+use Rattle.lens.proofs.why_lemmas.Telling.{IsToldTo}
+use Rattle.lens.proofs.why.answering.put_chain.Given as goal
+
+abbrev pub invariant-records : goal.invariant-records
+invariant-records g l = record {
+  told : IsToldTo l.network l.known.report.octets l.initial.note l.note (shown_by g.K.Sink l.fn.out) (shown_by g.K.Sink l.out);
+  of_network : IsNoteOf l.network l.note;
+  quiet : g.K.Sink.faults l.out ≡ g.K.Sink.faults l.fn.out;
+}
+
+abbrev pub decreases-records : goal.decreases-records
+decreases-records g l = l.note.number

@@ -1,0 +1,22 @@
+use Rattle.std.{proofs.Common.{◌∙◌, Option, Some, ap, sym, ℕ}, specs.Prelude.option_map}
+use Rattle.membership.specs.declared.frame.HeardFrame.{HeardFrame}
+use Rattle.pcf_values.specs.declared.members.Members.{Members}
+use Rattle.run_law.specs.records.Happenings.{happenings}
+use Rattle.lens.specs.{why.Corrections.told_by, declared.why.ground.Told.Told}
+use Rattle.lens.proofs.why.correcting.told_on.Goals as goal
+
+abbrev told : ℕ → Members → Told
+told n members = record { number = n; members = members }
+
+pub returns-in-Some : goal.returns-in-Some
+returns-in-Some c ns end h of there =
+    let network = c.args.network.now in
+    ap (λ (n : ℕ). Some (told n c.in-Some.frame.members)) (c.last_before.ensures ns end h of there)
+    ∙ sym (ap (λ (o : Option HeardFrame). option_map (told_by network (happenings network ns) h c.args.device c.args.channel) o)
+    (sym c.best.ensures.value ∙ c.in-Some.is))
+
+pub returns-in-None : goal.returns-in-None
+returns-in-None c ns end h of there =
+    let network = c.args.network.now in
+    sym (ap (λ (o : Option HeardFrame). option_map (told_by network (happenings network ns) h c.args.device c.args.channel) o)
+    (sym c.best.ensures.value ∙ c.in-None.is))

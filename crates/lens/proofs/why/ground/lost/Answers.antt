@@ -1,0 +1,12 @@
+use Rattle.std.proofs.Common.{◌∙◌, ap, ℕ}
+use Rattle.audit_devices.specs.Keeping.{records_before}
+use Rattle.net_plan.specs.declared.tables.Way.{Way}
+use Rattle.run_law.specs.records.{Happenings.happenings, Ranks.place_of}
+use Rattle.lens.specs.{why.Seeking.last_sought, declared.why.{ground.Ground.TheVariants.CutBy, seeking.Sought.TheVariants.Cut}}
+use Rattle.lens.proofs.why.ground.lost.Goals as goal
+
+pub returns : goal.returns
+returns c ns end h of there =
+    let hs = happenings c.args.network.now ns in
+    ap (λ (n : ℕ). CutBy n) (c.last_before.ensures ns end h of there)
+    ∙ ap (λ (w : Way). CutBy (last_sought c.args.network.now (Cut c.args.link w) (records_before (place_of h) hs))) c.way_from.ensures

@@ -1,0 +1,30 @@
+-- What `draw` answers for a report.
+use Rattle.std.specs.Prelude.{◌≡◌, ◌++◌, if◌then◌else◌, List}
+use Rattle.lens.specs.{declared.draw.svg.layout.Span.Span, draw.Picture.{back_lines, front_lines, picture_lines}}
+use Rattle.lens.specs.{declared.draw.svg.{layout.Pen.Pen, window.Came.Came}, draw.svg.Sketching.{fits, plan_of}}
+use Rattle.lens.specs.draw.svg.{Clocks.Clocks, Layout.pen_at, Plan.Plan}
+use Rattle.net_plan.specs.declared.network.Network.{Network}
+use Rattle.run_law.specs.declared.note.Note.{Note}
+use Rattle.tte_forms.specs.Answering.{Answer}
+use Rattle.tte_forms.specs.{declared.status.Status.TheVariants.Done, networks.Accepting.too_long_answer}
+use Rattle.tte_units.specs.declared.units.Units.{Units}
+
+-- the marks and the end of the picture, as an answer
+abbrev pub back_answer : Network → Span → Pen → List Note → Answer
+back_answer network span pen notes = record { status = Done; lines = back_lines network span pen notes }
+
+-- the picture of this plan, these windows and these clocks, with the marks of these records, as an answer
+abbrev pub fitting_answer : Network → Plan → List Came → Clocks → List Note → Answer
+fitting_answer network plan windows clocks notes = record {
+  status = Done;
+  lines = front_lines network plan windows clocks ++ back_lines network plan.span (pen_at plan.span.from) notes;
+}
+
+-- the answer for the records of a report: their picture, where it is not too wide
+abbrev pub draw_answer : Network → Span → List Note → Answer
+draw_answer network span notes =
+    if fits (plan_of network span notes) then record { status = Done; lines = picture_lines network span notes }
+    else too_long_answer
+
+abbrev pub IsDrawAnswer : Span → Network → List Note → Units → Answer → Type 0
+IsDrawAnswer span network notes end a = a ≡ draw_answer network span notes

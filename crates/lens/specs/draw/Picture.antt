@@ -1,0 +1,91 @@
+-- The lines of a picture.
+use Rattle.std.specs.Prelude.{ℕ, ℤ, zero, suc, ◌+◌, if◌then◌else◌, List, [], ◌∷◌, ◌++◌, Option}
+use Rattle.std.specs.Prelude.{Some, None, flat_map, length}
+use Rattle.lens.specs.declared.draw.putting.Layer.TheVariants.{Caption, Gauges, Lanes, Marks, Opening, Shared, Spread}
+use Rattle.lens.specs.declared.draw.{putting.Layer.{Layer, TheVariants.Windows}, svg.layer.LaneLayer.LaneLayer}
+use Rattle.lens.specs.declared.draw.{putting.TheConstants.LAYERS, svg.{layer.MarkLayer.MarkLayer, layout.Span.Span}}
+use Rattle.lens.specs.{declared.draw.svg.element.Element.Element, draw.svg.{Layout.{holds, moved, pen_at}, Plan.Plan}}
+use Rattle.lens.specs.{declared.draw.svg.{layout.Pen.Pen, window.Came.Came}, draw.Signs.{close_line, sign_line}}
+use Rattle.lens.specs.draw.svg.{Clocks.{Clocks, clocks_in, gauge_of, spread_of}, Layers.{on_lane, on_mark, opening_of}}
+use Rattle.lens.specs.{draw.svg.Elements.element_line, why.past.Pasts.clock_at}
+use Rattle.lens.specs.draw.svg.{Marking.{counted, mark_line}, Sketching.{moment, plan_of}, Windows.{box_of, windows_in}}
+use Rattle.lens.specs.declared.draw.svg.element.Element.TheVariants as elements
+use Rattle.net_plan.specs.declared.{ids.DeviceId.DeviceId, network.Network.Network}
+use Rattle.run_law.specs.{declared.note.Note.Note, records.Happenings.happenings}
+use Rattle.tte_audit.specs.Report.{scenario_of}
+
+-- the line of something that is drawn, if there is anything
+abbrev pub some_line : Network → Option Element → List (List ℕ)
+some_line network (Some element) = element_line network element ∷ []
+some_line network None = []
+
+-- the lines of so many places, from this one on
+abbrev pub lines_from : (ℕ → List (List ℕ)) → ℕ → ℕ → List (List ℕ)
+lines_from lines_at place zero = []
+lines_from lines_at place (suc n) = lines_at place ++ lines_from lines_at (place + 1) n
+
+-- something of each device
+abbrev pub lanes_lines : Network → Plan → LaneLayer → List (List ℕ)
+lanes_lines network plan layer =
+    lines_from (λ place. some_line network (on_lane layer network plan place)) 0 (length network.device)
+
+-- something of each record that is drawn
+abbrev pub marks_lines : Network → Plan → MarkLayer → List (List ℕ)
+marks_lines network plan layer = flat_map (λ mark. some_line network (on_mark layer network plan mark)) plan.marks
+
+-- each clock that is told
+abbrev pub gauges_lines : Network → Pen → Clocks → List (List ℕ)
+gauges_lines network pen clocks =
+    flat_map (λ told. some_line network (gauge_of network pen clocks told)) clocks.told
+
+-- each window of a frame that was taken
+abbrev pub windows_lines : Network → List Came → List (List ℕ)
+windows_lines network windows = flat_map (λ came. some_line network (box_of came)) windows
+
+-- a part of the picture
+abbrev pub layer_lines : Network → Plan → List Came → Clocks → Layer → List (List ℕ)
+layer_lines network plan windows clocks Opening = element_line network (opening_of network plan) ∷ []
+layer_lines network plan windows clocks (Shared sign) = sign_line sign ∷ []
+layer_lines network plan windows clocks Caption = element_line network (elements.Caption plan.span) ∷ []
+layer_lines network plan windows clocks (Lanes layer) = lanes_lines network plan layer
+layer_lines network plan windows clocks (Marks layer) = marks_lines network plan layer
+layer_lines network plan windows clocks Windows = windows_lines network windows
+layer_lines network plan windows clocks Gauges = gauges_lines network plan.pen clocks
+layer_lines network plan windows clocks Spread = some_line network (spread_of network clocks)
+
+-- all that is below the marks
+abbrev pub front_lines : Network → Plan → List Came → Clocks → List (List ℕ)
+front_lines network plan windows clocks = flat_map (λ layer. layer_lines network plan windows clocks layer) LAYERS
+
+-- the mark of a record, with the pen there, if the record is in the span
+abbrev pub marks_of : Network → Span → Pen → Note → List (List ℕ)
+marks_of network span pen note = if holds span (moment note) then mark_line network pen note ∷ [] else []
+
+-- the pen at a record of the span, and else where it was
+abbrev pub pen_behind : Span → Pen → Note → Pen
+pen_behind span pen note = if holds span (moment note) then counted (moved pen (moment note)) note.body else pen
+
+-- the marks of records, one after another
+abbrev pub mark_lines : Network → Span → Pen → List Note → List (List ℕ)
+mark_lines network span pen [] = []
+mark_lines network span pen (note ∷ notes) =
+    let here = pen_behind span pen note in
+    marks_of network span here note ++ mark_lines network span here notes
+
+-- the marks and the end of the picture
+abbrev pub back_lines : Network → Span → Pen → List Note → List (List ℕ)
+back_lines network span pen notes = mark_lines network span pen notes ++ close_line ∷ []
+
+-- what the local clocks of a run show when something comes to a device at a time
+abbrev pub clocks_of : Network → List Note → DeviceId → ℕ → ℤ
+clocks_of network notes = clock_at (scenario_of network notes) (happenings network notes)
+
+-- where in their windows the frames came that are taken in a part of a run
+abbrev pub windows_of : Network → Span → List Note → List Came
+windows_of network span notes = windows_in network (clocks_of network notes) (plan_of network span notes).marks
+
+-- the picture of a part of a run
+abbrev pub picture_lines : Network → Span → List Note → List (List ℕ)
+picture_lines network span notes =
+    front_lines network (plan_of network span notes) (windows_of network span notes) (clocks_in span notes)
+    ++ back_lines network span (pen_at span.from) notes

@@ -1,0 +1,23 @@
+-- What can be read from the picture of a report.
+use Rattle.std.specs.Prelude.{◌≡◌, ℕ, All, List, map}
+use Rattle.lens.specs.{declared.draw.svg.layout.Span.Span, draw.{Picture.picture_lines, svg.Marking.IsPlain}}
+use Rattle.lens.specs.draw.svg.Laws.{shown}
+use Rattle.net_plan.specs.declared.network.Network.{Network}
+use Rattle.report_text.specs.NoteLine.{note_text}
+use Rattle.run_law.specs.declared.note.Note.{Note}
+use Rattle.tte_traces.specs.reports.Reports.{IsReportOf}
+use Rattle.tte_units.specs.declared.units.Units.{Units}
+
+-- the line of each record in the span of a report holds neither `<` nor `&`, so as a title it is read as it is
+abbrev pub TitlesArePlain : Type 0
+TitlesArePlain =
+    (network : Network) (span : Span) (octets : List ℕ) (notes : List Note) (end : Units)
+    → IsReportOf network octets notes end → All (λ note. IsPlain (note_text network note)) (shown span notes)
+
+-- where two reports have one picture, be it of two networks and of two spans, they have the same lines there
+abbrev pub PicturesAreOne : Type 0
+PicturesAreOne =
+    (network other : Network) (span part : Span) (octets report : List ℕ) (notes more : List Note) (end last : Units)
+    → IsReportOf network octets notes end → IsReportOf other report more last
+    → picture_lines network span notes ≡ picture_lines other part more
+    → map (note_text network) (shown span notes) ≡ map (note_text other) (shown part more)

@@ -1,0 +1,18 @@
+-- Which times are the least.
+use Rattle.std.specs.Prelude.{ℕ}
+use Rattle.lens.specs.{slack.Bounds.IsBoundAt, slack.Tightest.IsEnough, declared.slack.spot.Finding.Finding}
+use Rattle.lens.specs.declared.slack.spot.Spot.TheVariants.{Begin}
+use Rattle.net_plan.specs.declared.network.Network.{Network}
+use Rattle.schedule_tables.specs.Rules.{KeepsBelow}
+use Rattle.lens.specs.{slack.least.Times.{AreAtMost, with_times}, declared.slack.least.times.Times.Times}
+
+-- the network keeps rules 1 to 11, and its schedule begins as late as rule 12 wants; whether the cycle has room for
+-- that is not asked
+pub record Suffices (network : Network) : Type 0 where
+  pub rules : KeepsBelow 12 network
+  pub begins : (n : ℕ) (f : Finding) → IsBoundAt network Begin n f → IsEnough f
+
+-- with these times the network suffices, and with no others of which one is less
+pub record AreLeast (network : Network) (times : Times) : Type 0 where
+  pub suffice : Suffices (with_times network times)
+  pub least : (others : Times) → Suffices (with_times network others) → AreAtMost times others

@@ -1,0 +1,13 @@
+//! A part of the run of a report as a picture.
+
+mod drawing;
+mod laws;
+mod marks;
+pub mod overview;
+mod putting;
+mod signs;
+pub mod svg;
+mod windows;
+
+pub use drawing::draw_report;
+pub use laws::{clocks_law, picture_law, reading_law, windows_law};

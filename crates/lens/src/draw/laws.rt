@@ -1,0 +1,27 @@
+ghost use Rattle.lens.specs.draw.{ClockLaws.PicturesShowClocks, Laws.PicturesShowRuns};
+ghost use Rattle.lens.specs.draw.{ReadingLaws.{PicturesAreOne, TitlesArePlain}, WindowLaws.PicturesShowWindows};
+
+/// The picture of a part of the run of a report shows it: its titles are the lines of the records there, its instants
+/// stand in their order, there is an arrow exactly where there is a cause at another device, and the ground of a lane
+/// is the state of its device.
+pub fn picture_law()
+    ensures { PicturesShowRuns }
+{}
+
+/// The clocks in the picture of a report of an accepted network are those of correct synchronised devices at the end of
+/// the run, and no two are further apart than the precision: the bar of the spread is never longer than its frame.
+pub fn clocks_law()
+    ensures { PicturesShowClocks }
+{}
+
+/// The titles of a picture hold neither `<` nor `&`, and two reports with one picture have the same lines there.
+pub fn reading_law()
+    ensures plain { TitlesArePlain }
+    ensures one { PicturesAreOne }
+{}
+
+/// In the picture of a report of an accepted network each frame that is taken has the box of its window, with the tick
+/// inside: it came no earlier than the window begins, by the receiver's local clock, and no later than it ends.
+pub fn windows_law()
+    ensures { PicturesShowWindows }
+{}

@@ -1,0 +1,55 @@
+ghost use Rattle.std.specs.Prelude.{◌≡◌, Err, IfErr, IfOk, List, MatchResult};
+ghost use Rattle.run_law.specs.declared.note.Note.{Note as NoteValue};
+ghost use Rattle.tte_forms.specs.{Answering.ForOctets, Faults.ReadFailed};
+ghost use Rattle.tte_traces.specs.reports.{NoReports.IsNoReport, Reports.IsReportOf};
+ghost use Rattle.tte_units.specs.declared.units.Units.{Units as UnitsValue};
+ghost use Rattle.lens.specs.why.past.Pasts.{IsSomeReport, ShowsAll};
+
+use crate::why::past::Past;
+use schedule_tables::Accepted;
+use std::alloc::Global;
+use tte_io::Source;
+use tte_traces::reports::{AuditedReport, NoReport, read_report};
+
+/// A report that was audited, and what its records show.
+#[derive(Drop)]
+pub struct KnownReport {
+    pub report: AuditedReport,
+    pub past: Past,
+}
+
+/// Reads the second file whole, audits it, and keeps what its records show.
+pub fn read_known<B: Source>(
+    alloc: Global,
+    accepted: &Accepted,
+    second: &mut B,
+) -> Result<KnownReport, NoReport>
+    ensures judged { ForOctets (B.left second.old) (λ octets. MatchResult result
+        (λ known. (notes : List NoteValue) × (end : UnitsValue) × IsReportOf accepted.now octets notes end
+        × (known.report.octets ≡ octets))
+        (λ cause. IsNoReport accepted.now octets cause)) }
+    ensures past { IfOk result (ShowsAll accepted.now) }
+    ensures fault { result ≡ Err NoReport.ReadFault → ReadFailed B.Source second.old second.new }
+{
+    match read_report(alloc, accepted, second) {
+        Ok(report) => known_of(alloc, accepted, report),
+        Err(cause) => Err(cause),
+    }
+}
+
+/// The report with what its records show.
+fn known_of(
+    alloc: Global,
+    accepted: &Accepted,
+    report: AuditedReport,
+) -> Result<KnownReport, NoReport>
+    requires { IsSomeReport accepted.now report.octets }
+    ensures same { IfOk result (λ known. known.report ≡ report) }
+    ensures past { IfOk result (ShowsAll accepted.now) }
+    ensures fault { IfErr result (λ cause. cause ≡ NoReport.OutOfMemory) }
+{
+    match Past::of(alloc, accepted, &report) {
+        Ok(past) => Ok(KnownReport { report, past }),
+        Err(_) => Err(NoReport::OutOfMemory),
+    }
+}

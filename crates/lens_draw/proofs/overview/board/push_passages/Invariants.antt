@@ -1,9 +1,0 @@
-use Rattle.std.proofs.Common.{◌+◌, ◌*◌, ◌≤◌}
-use Rattle.lens_draw.specs.overview.Boards.{Lays, passages_at, rows_below}
-use Rattle.lens_draw.proofs.overview.board.push_passages.Given as goal
-
-abbrev pub invariant-places : goal.invariant-places
-invariant-places l = record {
-  lays : Lays l.network (rows_below (passages_at) l.place) l.fn.board l.board;
-  few : l.board.bottom ≤ l.fn.board.bottom + 44 * l.place;
-}

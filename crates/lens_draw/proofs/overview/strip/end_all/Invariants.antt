@@ -1,6 +1,0 @@
-use Rattle.std.proofs.Common.{◌≡◌, ◌++◌, drop, map, take}
-use Rattle.lens_draw.specs.overview.Strips.{ended}
-use Rattle.lens_draw.proofs.overview.strip.end_all.Given as goal
-
-abbrev pub invariant-strips : goal.invariant-strips
-invariant-strips l = l.strips ≡ map (ended l.pen) (take l.strip-index l.fn.strips) ++ drop l.strip-index l.fn.strips

@@ -1,7 +1,0 @@
-use Rattle.std.proofs.Common.{◌≡◌, take}
-use Rattle.std.specs.Prelude.{None, fold}
-use Rattle.lens_draw.specs.svg.Clocks.{ends_with, is_among}
-use Rattle.lens_draw.proofs.svg.clock.Clocks.ends.Given as goal
-
-abbrev pub invariant-clocks : goal.invariant-clocks
-invariant-clocks l = l.ends ≡ fold (λ ends told. ends_with ends (is_among l.self.broken told.device) told) None (take l.told-index l.self.told)

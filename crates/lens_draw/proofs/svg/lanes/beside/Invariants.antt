@@ -1,9 +1,0 @@
-use Rattle.std.proofs.Common.{◌≡◌, ◌≤◌, take}
-use Rattle.lens_draw.specs.svg.Lanes.{beside}
-use Rattle.lens_draw.proofs.svg.lanes.beside.Given as goal
-
-abbrev pub invariant-devices : goal.invariant-devices
-invariant-devices l = record {
-  counted : l.count ≡ beside l.rank (take l.device-index l.devices);
-  few : l.count ≤ l.device-index;
-}

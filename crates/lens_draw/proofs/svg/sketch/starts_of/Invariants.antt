@@ -1,6 +1,0 @@
-use Rattle.std.proofs.Common.{◌≡◌, map, take}
-use Rattle.lens_draw.specs.svg.Lanes.{start_of}
-use Rattle.lens_draw.proofs.svg.sketch.starts_of.Given as goal
-
-abbrev pub invariant-devices : goal.invariant-devices
-invariant-devices l = l.grounds.items ≡ map start_of (take l.device-index l.devices)

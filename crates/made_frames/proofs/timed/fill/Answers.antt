@@ -1,9 +1,0 @@
-use Rattle.std.proofs.{Common.{◌++◌, ◌∙◌, ◌≡◌, List, ap, drop, length, replicate, rules, ℕ}, lemmas.List.drop-replicate}
-use Rattle.made_frames.proofs.timed.fill.Goals as goal
-
-pub returns : goal.returns
-returns c =
-    let xs = c.args.front.now in
-    let copied : c.copy_from_slice.new.self ≡ xs = search rules in
-    ap (λ (ys : List ℕ). ys ++ drop (length xs) (replicate 1514 0)) copied
-    ∙ ap (λ (ys : List ℕ). xs ++ ys) (drop-replicate {X = ℕ} (length xs) 1514 0)

@@ -1,4 +1,0 @@
-use Rattle.made_frames.proofs.traced.keeping.reclocked.Goals as goal
-
-pub returns-clause-held : goal.returns-clause-held
-returns-clause-held c = c.control.ensures.held c.args.pool.now

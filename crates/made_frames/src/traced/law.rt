@@ -1,7 +1,0 @@
-ghost use Rattle.made_frames.specs.traced.Delivery.{DeliveriesShowFrames};
-
-/// The octets of a record, as a law: where a frame that is owed to a device is delivered, the record shows the octets
-/// that its sender made.
-pub fn delivery_law()
-    ensures { DeliveriesShowFrames }
-{}

@@ -1,8 +1,0 @@
-use Rattle.std.proofs.Common.{◌∙◌, List, ap, get_or, ℕ}
-use Rattle.plain_notes.proofs.Padded.{first}
-use Rattle.plain_notes.proofs.places.place.Place.time.Goals as goal
-
-pub returns : goal.returns
-returns c =
-    let numbers = c.self.inside.numbers in
-    first numbers.count numbers.time _ c.self.invariant.zeros ∙ ap (λ (xs : List ℕ). get_or xs 0 0) c.self.view_is

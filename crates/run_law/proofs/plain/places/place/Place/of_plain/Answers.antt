@@ -1,0 +1,16 @@
+use Rattle.std.proofs.Common.{◌∙◌, ap, rules, ℕ}
+use Rattle.run_law.specs.records.Ranks.{place_at}
+use Rattle.run_law.specs.declared.note.NoteBody.TheVariants as notes
+use Rattle.run_law.proofs.plain.places.place.Place.of_plain.Goals as goal
+
+pub returns-in-Permanent : goal.returns-in-Permanent
+returns-in-Permanent c = rw c.in-Permanent.is (c.of_permanence.ensures c.in-Permanent.verdict)
+
+pub returns-in-Compressed : goal.returns-in-Compressed
+returns-in-Compressed c = rw c.in-Compressed.is (c.of_emission.ensures c.args.members c.in-Compressed.members c.in-Compressed.verdict (search rules))
+
+pub returns-in-TtSent : goal.returns-in-TtSent
+returns-in-TtSent c =
+    rw c.in-TtSent.is (c.of_dispatch.ensures c.args.members
+    ∙ ap (λ (cycle : ℕ). place_at c.args.time c.args.members (notes.TtSent c.in-TtSent.device c.in-TtSent.link c.in-TtSent.cause c.in-TtSent.vl cycle))
+    c.from-in-TtSent.ensures)

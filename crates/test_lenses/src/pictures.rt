@@ -1,0 +1,7 @@
+//! Tests of pictures of reports: what is drawn, and where.
+
+mod clocks;
+mod drawn;
+mod overviews;
+mod refused;
+mod windows;

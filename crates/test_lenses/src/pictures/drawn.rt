@@ -1,0 +1,136 @@
+use lens::draw::draw_report;
+use lens::draw::svg::Span;
+use std::alloc::Global;
+use std::process::Abort;
+use std::test::Fail;
+use tte_forms::Status;
+use tte_io::{MemorySink, OutOfMemory, SteadySource};
+use worked_network::{CALM, WORKED};
+
+const ROOM: u64 = 1 << 17;
+
+// The picture of a part of a report of the worked network.
+pub(super) fn drawn(
+    rt: &impl Abort,
+    alloc: Global,
+    report: &str,
+    span: Span,
+) -> Result<MemorySink, Fail> {
+    let mut first = SteadySource::new(alloc, WORKED.as_bytes())?;
+    let mut second = SteadySource::new(alloc, report.as_bytes())?;
+    let mut out = MemorySink::new(alloc, ROOM, &[])?;
+    let status = draw_report(alloc, &mut first, &mut second, span, &mut out);
+    if status == Status::OutOfMemory {
+        return Err(Fail::from(OutOfMemory));
+    }
+    assert_eq!(rt; status, Status::Done);
+    assert!(rt; out.passed() == out.written());
+    Ok(out)
+}
+
+pub(super) fn text_of<'a>(rt: &impl Abort, out: &'a MemorySink) -> &'a str {
+    match std::str::from_utf8(out.written()) {
+        Ok(text) => text,
+        Err(_) => {
+            assert!(rt; false, "a picture is text");
+            ""
+        }
+    }
+}
+
+pub(super) fn has_lines(rt: &impl Abort, text: &str, lines: &[&str]) {
+    for wanted in lines {
+        let mut found = false;
+        for line in text.lines() {
+            if line == *wanted {
+                found = true;
+            }
+        }
+        assert!(rt; found, "no line {}", *wanted);
+    }
+}
+
+// Lines of the picture of the first cycle up to its end, worked out by hand: nine lanes of 40 pixels, and an instant
+// every 26 to 78 pixels.
+const WHOLE: &[&str] = &[
+    "<svg xmlns=\"http://www.w3.org/2000/svg\" xmlns:xlink=\"http://www.w3.org/1999/xlink\" width=\"960\" \
+     height=\"562\" viewBox=\"0 0 960 562\">",
+    "<text class=\"note\" x=\"12\" y=\"42\">2000.000 us to 2441.406 us. Gaps are drawn shortened.</text>",
+    "<path class=\"ground synchronised\" d=\"M140 152 H940\"/>",
+    "<g transform=\"translate(0,232)\"><path class=\"rail\" d=\"M140 0 H940\"/>\
+     <text class=\"name\" x=\"132\" y=\"3\">m1</text><text class=\"role\" x=\"132\" y=\"15\">master</text></g>",
+    "<g transform=\"translate(0,472)\"><path class=\"rail\" d=\"M140 0 H940\"/>\
+     <text class=\"name\" x=\"132\" y=\"3\">cb</text><text class=\"role\" x=\"132\" y=\"15\">cm b</text></g>",
+    "<g><path class=\"tick\" d=\"M196 492 V128\"/>\
+     <text class=\"time\" transform=\"translate(196 492) rotate(50)\" x=\"8\" y=\"6\">2000.500</text></g>",
+    "<path class=\"wait control\" d=\"M222 152 H300\"/>",
+    "<path class=\"way control\" d=\"M170 232 L196 192\"/>",
+    "<path class=\"way stream gone\" d=\"M722 432 L748 392\"/>",
+    "<g id=\"r1\"><title>1 131072000000 sent m1 cycle 1</title><g transform=\"translate(170 232)\">\
+     <use xlink:href=\"#sent\"/><text class=\"label\"></text></g></g>",
+    "<g id=\"r45\">\
+     <title>45 136511488000 compressed ca opened 134348800000 at 136511488000 cycle 1 members 0000000f within\
+     </title><g transform=\"translate(372 152)\"><use xlink:href=\"#compressed\"/>\
+     <text class=\"label compressed\" x=\"10\" y=\"-3\">0000000f within</text></g></g>",
+    "<g id=\"r98\"><title>98 159725649920 delivered c1 c1_a 96 vl v1 cycle 1</title>\
+     <g transform=\"translate(748 392)\"><use xlink:href=\"#delivered\"/>\
+     <text class=\"label delivered\" x=\"7\" y=\"-9\">v1 1</text></g></g>",
+    "<g id=\"r100\"><title>100 160000000000 event 1 end</title><g transform=\"translate(774 116)\">\
+     <use xlink:href=\"#event\"/><text class=\"label event\" x=\"4\" y=\"-6\" transform=\"rotate(-30)\">end\
+     </text></g></g>",
+];
+
+#[test]
+fn a_calm_cycle_is_drawn(rt: HostRuntime) -> Result<(), Fail> {
+    let alloc = rt.alloc();
+    let span = Span {
+        from: 131_072_000_000,
+        to: 160_000_000_000,
+    };
+    let out = drawn(&rt, alloc, CALM, span)?;
+    let text = text_of(&rt, &out);
+    has_lines(&rt, text, WHOLE);
+    assert!(rt; text.ends_with("\n</svg>\n"));
+    Ok(())
+}
+
+// Lines of the picture of a part: what comes before it is not drawn, so no arrow comes from there.
+const PART: &[&str] = &[
+    "<text class=\"note\" x=\"12\" y=\"42\">2083.000 us to the end. Gaps are drawn shortened.</text>",
+    "<path class=\"way summary\" d=\"M170 152 L196 192\"/>",
+    "<path class=\"wait summary\" d=\"M196 192 H300\"/>",
+];
+
+#[test]
+fn a_part_is_drawn(rt: HostRuntime) -> Result<(), Fail> {
+    let alloc = rt.alloc();
+    let span = Span {
+        from: 136_511_488_000,
+        to: 18_446_744_073_709_551_615,
+    };
+    let out = drawn(&rt, alloc, CALM, span)?;
+    let text = text_of(&rt, &out);
+    has_lines(&rt, text, PART);
+    for line in text.lines() {
+        assert!(rt; !line.starts_with("<path class=\"way control\""));
+    }
+    Ok(())
+}
+
+// The titles of the marks are the lines of the report.
+#[test]
+fn a_picture_reads_back(rt: HostRuntime) -> Result<(), Fail> {
+    let alloc = rt.alloc();
+    let out = drawn(&rt, alloc, CALM, Span::whole())?;
+    let text = text_of(&rt, &out);
+    let mut records = CALM.lines();
+    for line in text.lines() {
+        if let Some((_, titled)) = line.split_once("<title>") {
+            if let Some((title, _)) = titled.split_once("</title>") {
+                assert!(rt; records.next() == Some(title), "of {}", title);
+            }
+        }
+    }
+    assert!(rt; records.next().is_none());
+    Ok(())
+}

@@ -1,0 +1,38 @@
+use crate::pictures::drawn::{drawn, has_lines, text_of};
+use lens::draw::svg::Span;
+use std::test::Fail;
+use worked_network::CALM;
+
+// By hand: a frame of 84 octets takes 440,401,920 units on its port, so that of the row of offset 28,180,480,000 comes
+// at 28,653,649,920 of the cycle, 32,768,000 on the wire included. The precision and gamma are 1,074,790,404, and the
+// jitter of the link is 1,310,720: the window lasts 2,150,891,528, and the frame came 1,074,790,404 behind its begin,
+// which is 11.99 pixels of 24. So it is for the relays, which send on 1,165,230,080 later: 38 pixels to the right.
+const BOXES: &[&str] = &[
+    "<g class=\"window\"><path d=\"M748 392 m-12 -8 h24 v16 h-24 z\"/>\
+     <path class=\"came\" d=\"M748 392 m-12 -8 m11 0 v16\"/></g>",
+    "<g class=\"window\"><path d=\"M684 192 m-12 -8 h24 v16 h-24 z\"/>\
+     <path class=\"came\" d=\"M684 192 m-12 -8 m11 0 v16\"/></g>",
+    "<g class=\"window\"><path d=\"M684 432 m-12 -8 h24 v16 h-24 z\"/>\
+     <path class=\"came\" d=\"M684 432 m-12 -8 m11 0 v16\"/></g>",
+];
+
+// Each frame that is taken has a box, and the one that is dropped has none.
+#[test]
+fn windows_are_drawn(rt: HostRuntime) -> Result<(), Fail> {
+    let alloc = rt.alloc();
+    let span = Span {
+        from: 131_072_000_000,
+        to: 160_000_000_000,
+    };
+    let out = drawn(&rt, alloc, CALM, span)?;
+    let text = text_of(&rt, &out);
+    has_lines(&rt, text, BOXES);
+    let mut boxes = 0u32;
+    for line in text.lines() {
+        if line.starts_with("<g class=\"window\">") {
+            boxes = boxes.saturating_add(1);
+        }
+    }
+    assert!(rt; boxes == 3);
+    Ok(())
+}

@@ -1,7 +1,0 @@
-use Rattle.std.proofs.Common.{◌∙◌, sym}
-use Rattle.tte_captures.proofs.Files.{head_whole}
-use Rattle.tte_captures.proofs.capturing.show_file.Goals as goal
-
-pub show_packets-requires-clause-whole : goal.show_packets-requires-clause-whole
-show_packets-requires-clause-whole g c =
-    head_whole c.args.file.now c.in-Ok.head (sym c.open_capture.ensures ∙ c.in-Ok.is)

@@ -1,6 +1,0 @@
-use Rattle.std.proofs.Common.{refl}
-use Rattle.tte_storms.proofs.Drawn.{storm_first}
-use Rattle.tte_storms.proofs.events.StormEvents.new.Goals as goal
-
-pub returns : goal.returns
-returns c = storm_first c.args.accepted.now c.args.seed c.args.cycles _ c.requires.least c.requires.most refl c.new-2.ensures c.new.ensures

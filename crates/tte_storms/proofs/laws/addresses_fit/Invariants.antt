@@ -1,6 +1,0 @@
-use Rattle.std.{proofs.Common.{◌<◌, ◌^◌, take}, specs.Prelude.All}
-use Rattle.net_plan.specs.declared.tables.Device.{Device}
-use Rattle.tte_storms.proofs.laws.addresses_fit.Given as goal
-
-abbrev pub invariant-devices : goal.invariant-devices
-invariant-devices l = All (λ (d : Device). d.mac < 2 ^ 48) (take l.device-index l.devices)

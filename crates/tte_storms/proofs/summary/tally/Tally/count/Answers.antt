@@ -1,4 +1,0 @@
-use Rattle.tte_storms.proofs.summary.tally.Tally.count.Goals as goal
-
-pub returns : goal.returns
-returns c notes so_far = c.add.ensures notes c.args.note.now c.counted_as.ensures so_far

@@ -1,0 +1,19 @@
+use Rattle.std.proofs.Common.{◌∙◌, ap, refl}
+use Rattle.tte_traces.{proofs.storms_lemmas.Seen.{behind_events, room_for, seen_record}, specs.storms.{Counts.corrects, summary.Counting.counted_as}}
+use Rattle.world_drive.specs.Observing.{told_by}
+use Rattle.tte_traces.proofs.storms.counting.SeenObserver.record.Goals as goal
+
+pub add-requires : goal.add-requires
+add-requires g c =
+    let m = c.requires.may in
+    room_for c.args._network.now m.events m.notes c.args.note.now c.args._world.now c.args.self.now.tally m.sees.tallied m.given.stands
+
+pub returns-clause-goes : goal.returns-clause-goes
+returns-clause-goes g c events notes instant old given seen =
+    seen_record c.args._network.now events notes c.args.note.now c.args._world.now instant c.is_correction.result old.told (told_by g.K.Sink c.args._out.now)
+    c.args.self.now _ given seen (c.is_correction.ensures ∙ (ap corrects c.behind-note.view_is ∙ ap corrects c.body.ensures))
+    (c.add.ensures notes c.args.note.now (c.counted_as.ensures ∙ (ap counted_as c.behind-note.view_is ∙ ap counted_as c.body.ensures)) seen.tallied) refl
+
+pub returns-clause-asks : goal.returns-clause-asks
+returns-clause-asks g c =
+    behind_events c.args.note.now c.is_correction.result (c.is_correction.ensures ∙ (ap corrects c.behind-note.view_is ∙ ap corrects c.body.ensures))

@@ -1,0 +1,84 @@
+-- What three or more proof files of this crate name of other crates and of specs/, passed on from one place. Declares nothing.
+pub use Rattle.std.proofs.Common.{if◌then◌else◌, ◌&&◌, ◌++◌, ◌+ℤ◌, ◌+◌, ◌-ℤ◌, ◌-◌, ◌<ℤ◌, ◌<◌, ◌==◌, ◌^◌, ◌||◌, ◌↔◌, ◌∙◌, ◌∷◌, ◌≡◌, ◌≤ℤ◌, ◌≤◌, ◌⊎◌, Bool, IfSome}
+pub use Rattle.std.proofs.Common.{List, None, Option, Result, Some, [], ap, append_assoc, arith, false, filter, filter_map, fold, inl, inr, int_le, int_lt}
+pub use Rattle.std.proofs.Common.{length, map, not, option_and_then, option_map, option_to_list, pos, refl, slice_get, subst, suc, sym, true, unsigned_abs}
+pub use Rattle.std.proofs.Common.{zero, ℕ, ℤ}
+pub use Rattle.std.proofs.lemmas.Bool.{and_parts, and_right, both_ways, cases_Bool, cases_eq, cases_lt, eq-eqb, eqb-true, le-ltb, lt-ltb, ne_eqb, or_left}
+pub use Rattle.std.proofs.lemmas.{Int.ints, List.{append-nil, length-append, length-map}}
+pub use Rattle.std.proofs.lemmas.List.{Elements.{Contains-append_left, Contains-push, Contains-push_cases, filter-append, filter_map-append}, Sums.fold-append}
+pub use Rattle.std.specs.{List.{AllByRecursion, after_last, cons_option, last_or, list_any}, Option.option_map_or, Prelude.{nat_le, nat_lt}}
+pub use Rattle.compression.specs.Clusters.{AreClusters, Point, point_at}
+pub use Rattle.compression.specs.declared.compressed.Compressed.{Compressed}
+pub use Rattle.membership.specs.{Hearing.Hearing, Summary.Summary}
+pub use Rattle.net_plan.proofs.SameIds.{same_device, self}
+pub use Rattle.net_plan.specs.{Places.link_at, Ranges.IsInRange}
+pub use Rattle.net_plan.specs.declared.{event.{Event.Event, What.What}, ids.{DeviceId.DeviceId, LinkId.LinkId, RowId.RowId, VlId.VlId}, network.Network.Network}
+pub use Rattle.net_plan.specs.declared.tables.{Link.Link, Way.{Way, TheVariants.{Down, Up}}}
+pub use Rattle.pcf_codec.specs.Fields.{field}
+pub use Rattle.pcf_codec.specs.declared.refusal.PcfRefusal.{PcfRefusal}
+pub use Rattle.pcf_values.specs.declared.{channel.Channel.Channel, members.Members.Members, pcf.Pcf.Pcf}
+pub use Rattle.run_law.proofs.law.{FirstDeliveries.last_in, FirstPlaces.{by_number, founded_at, none_kept, numbered_front, numbered_in, numbered_within}}
+pub use Rattle.run_law.proofs.records.Order.{after_more, any_in, same_kept}
+pub use Rattle.run_law.proofs.runs.Places.{before_behind, before_later, chain, either_way, in_left, in_parts, in_right, never_self, parted}
+pub use Rattle.run_law.proofs.control.Points.{no_cluster}
+pub use Rattle.run_law.specs.control.Arrivals.{control_arrival, frame_fault, frame_or_fault}
+pub use Rattle.run_law.specs.control.Collections.{ends_stretch, master_of, observation_window, point_by, points_of}
+pub use Rattle.run_law.specs.control.Corrections.{ComesToCorrection, correction_value, cycle_after, has_cleared, heard_since, hearing_by, integration_cycle}
+pub use Rattle.run_law.specs.control.{Corrections.{is_integration_cycle, recorded_cycle, standing_before}, Emissions.Emits, Hearing.heard_as, Leaving.Gives}
+pub use Rattle.run_law.specs.control.{Losses.IsSendLost, Permanence.{IsPermanent, ripe_as}}
+pub use Rattle.run_law.specs.control.Wires.{Arrives, Launch, Signal, control, launched, signal_of, timed}
+pub use Rattle.run_law.specs.declared.{judgement.{Judgement.Judgement, Reason.Reason, Why.{Why, TheVariants.On}}, note.{Note.Note, NoteBody.NoteBody}}
+pub use Rattle.run_law.specs.declared.steps.{Act.Act, Arrival.Arrival, Moment.Moment, Ripe.Ripe}
+pub use Rattle.run_law.specs.device.{LocalClocks.{Reaches, changed_at, changes_adjustment, local_before}, Standpoints.{Standpoint, standpoint}}
+pub use Rattle.run_law.specs.device.StateChanges.{ChangesState}
+pub use Rattle.run_law.specs.device.States.{adjustment_after, adjustment_at_hearing, adjustment_before, adjustment_with, cycle_in, has_joined_at, is_joined_by}
+pub use Rattle.run_law.specs.device.States.{is_off, is_synchronised, state_after, state_at_hearing, state_before, state_with}
+pub use Rattle.run_law.specs.machines.Answers.{ComesTo, IsActOf, IsPermanenceOutcomeAt, after_permanence, arrival_at, called, with_clique, with_done}
+pub use Rattle.run_law.specs.machines.{Answers.with_joined, Calls.{IsOfMaster, MayCall}}
+pub use Rattle.run_law.specs.machines.Nodes.{ClockTask, Node, Phase, TakenFrame, acting, arriving, correcting, dispatching, last_taken_by, ripening, sending}
+pub use Rattle.run_law.specs.machines.Tasks.{IsDeedOf, IsFirstTask, IsPending, IsUndone, IsWaiting, Task, doing, emitting, reading_for, value_of}
+pub use Rattle.run_law.specs.records.{Causes.{IsOfThisTime, cause_of}, Happenings.{Happening, earlier, happening, happenings, numbered, time_of, up_to}}
+pub use Rattle.run_law.specs.records.{Order.{AllBefore, IsBefore, IsIn, NoneBefore, behind}, Ranks.{key, members_in, place_of, rank}}
+pub use Rattle.run_law.specs.runs.{DueRecords.{IsArrivedRecord, IsCaused, IsDue}, Runs.{IsFounded, IsRun}}
+pub use Rattle.run_law.specs.scenario.Devices.{IsParentOf, channel_of_link, is_cm, is_end, is_parent_of, is_relay, plan_of}
+pub use Rattle.run_law.specs.scenario.{Scenarios.{Scenario, is_broken, is_turned_on_at, turns_on}, Ways.{is_cut, way_from}}
+pub use Rattle.run_law.specs.timed.{Arrivals.{octets_fault, octets_or_fault, timed_arrival}, Dispatching.{Dispatches, HasAtHand, is_accepted}}
+pub use Rattle.run_law.specs.timed.Receptions.{arrival_of, comes_before, is_taken_before, last_taken, taken_cycle}
+pub use Rattle.schedule_tables.specs.{Entries.target_by, Rules.KeepsRules}
+pub use Rattle.schedule_tables.specs.declared.entry.Entry.{Entry}
+pub use Rattle.sync_state.specs.Calls.{adjustment_by, state_by}
+pub use Rattle.sync_state.specs.declared.{answers.Verdict.{Verdict, TheVariants.{AsyncClique, Cleared, Corrected, SyncClique}}, plan.SyncPlan.SyncPlan}
+pub use Rattle.sync_state.specs.declared.state.State.{State, TheVariants.{Integrating, Joining, Off, Synchronised}}
+pub use Rattle.transparent_clock.specs.Points.{point_of}
+pub use Rattle.tte_lemmas.proofs.{Bools.or_none, Integers.{never_both, whole, whole as natural}, Lists.none_in}
+pub use Rattle.tte_units.specs.Amount.{amount, units_of}
+pub use Rattle.tte_units.specs.declared.units.Units.{Units}
+pub use Rattle.world_law.proofs.acts.{Acted.{IsAlike, undone_alike, waiting_alike}, Acting.point_number, NoActs.points_same}
+pub use Rattle.world_law.proofs.acts.Recorded.{dispatch_late, is_sending, rank_plain}
+pub use Rattle.world_law.proofs.devices.{Borne.{by_last, moves_no_other}, OwnRecords.{change_still, keeps_adjustment, same_before}, Passes.not_turned_on}
+pub use Rattle.world_law.proofs.devices.{Plains.{plains_parts, told_by_others}, Resting.are_past, TurnedOn.{all_up_to, next_is_up_to, quiet_rest}}
+pub use Rattle.world_law.proofs.giving.{Given.{no_later_breaks, some_same}, GivenParts.second}
+pub use Rattle.world_law.proofs.lists.{Lists.{behind_no, behind_yes, filter_no, filter_yes}, Orders.cases_int}
+pub use Rattle.world_law.proofs.putting.{Bearing.{held_aside, known_aside, turned_aside}, Bumped.{AsState, bump_behind, placed, placed_length, raised}}
+pub use Rattle.world_law.proofs.putting.{Coming.turned_comes, Idle.{bump, numbered_prefix}}
+pub use Rattle.world_law.proofs.putting.{Moving.{IsAllOfIt, IsMoving, all_without, held_moves, ports_move, turned_moves, waiting_moves, wires_move}, Near.hears}
+pub use Rattle.world_law.proofs.putting.{NearPut.plains_placed, Placing.{before_it, put_at}, PutIn.own_time}
+pub use Rattle.world_law.proofs.putting.PutOne.{IsOne, IsUnfollowed, is_last, last_unfollowed, one_by}
+pub use Rattle.world_law.proofs.putting.{PutShown.{IsShownPut, due_of, one_shown, record_of, two_shown}, Putting.put_list}
+pub use Rattle.world_law.proofs.putting.StandsOn.{comes_first, in_mapped, stands_on, told_wires}
+pub use Rattle.world_law.proofs.rows.{AtHand.value_is, Dispatching.IsLawful, Takings.IsNoTaking}
+pub use Rattle.world_law.proofs.runs.{Agreement.changed_before, Foremost.not_on_after}
+pub use Rattle.world_law.proofs.runs.SourcesBack.{at_least, dispatches_back, dispatches_same, earlier_still, no_higher, numbered_parts, reaches_back, up_back}
+pub use Rattle.world_law.proofs.runs.Worlds.{length_is}
+pub use Rattle.world_law.specs.device.{Deeds.{HasDoneFrom, HasSentFrom}, Left.{HasTaskBy, IsLeft, is_timed}, Own.{bears_on, moves}}
+pub use Rattle.world_law.specs.device.{Plain.{plain, plain_body, plains}, Ready.{IsReadyAt, IsSteady}}
+pub use Rattle.world_law.specs.device.{Recorded.{AreRecorded, HasCleared, IsFrameOf, IsShown, dispatch_body}, Takings.{frames_taken, taken_in}}
+pub use Rattle.world_law.specs.device.Told.{cleared_in, local_in, next_in, since_at}
+pub use Rattle.world_law.specs.source.{Agreeing.scenario, Applying.IsEventBody, Sources.{IsActing, IsOwnSource, IsSource}}
+pub use Rattle.world_law.specs.world.{Calls.{HasActed, IsDueNow, IsSet, moment_of}, Moves.{ArePutIn, ComesFirst, IsPutIn, IsWithout, StandsBehind, settled_as}}
+pub use Rattle.world_law.specs.world.Outcomes.{arrival_body}
+pub use Rattle.world_law.specs.world.World.{AreAtPorts, AreOfNetwork, AreOnWires, AreSettled, AreUntold, AreWaiting, AtPort, Befell, HasTurnedOn, HaveBefallen}
+pub use Rattle.world_law.specs.world.World.{IsAtRest, IsHeld, IsKept, IsOnWire, IsOut, IsTurnedOnBy, IsWaitingFor, OnWire, Stands, Waiting, World, act_place}
+pub use Rattle.world_law.specs.world.World.{clock_place, has_outcome, hidden, hidden_body, is_at_source, is_turning, none_yet, port_place, rank_of_call}
+pub use Rattle.world_law.specs.world.World.{ripe_place, wire_place}
+pub use Rattle.world_law.specs.steps.Befalling.{bodies_of}

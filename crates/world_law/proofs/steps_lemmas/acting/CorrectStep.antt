@@ -1,0 +1,36 @@
+-- The step by which a device comes to its correction point, whatever it comes to: the instant is over for it.
+use Rattle.std.proofs.Common.{arith}
+use Rattle.world_law.proofs.steps_lemmas.Words.{◌≡◌, AsyncClique, Cleared, Corrected, DeviceId, Happening, Integrating, Joining, List, Network, Node, Note, Off}
+use Rattle.world_law.proofs.steps_lemmas.Words.{Scenario, Stands, StandsBehind, State, SyncClique, Synchronised, Units, Verdict, World, act_place, ap, behind}
+use Rattle.world_law.proofs.steps_lemmas.{Words.{false, is_timed, point_number, true, ℕ}, acting.{FirstStep.first_goes_by, Kept.may_act_now, Stage.stage_of}}
+use Rattle.world_law.proofs.steps_lemmas.acting.CorrectSteps.{IsCorrecting, alone_goes_by, cleared_goes_by, corrected_goes_by, outnumbered_goes_by}
+
+-- it had a next correction point
+was_timed : {C M : Type 0} (reading : C → ℕ → ℕ) (stands : M → Network → DeviceId → Node → Type 0) (s : Scenario) (world : World C M) (notes : List Note)
+    (old : Stands reading stands s world notes) (device : DeviceId) (machine after : M) (cycle : ℕ) (verdict : Verdict) (was : State) (adjustment : Units)
+    (machines : List M) (settled : List Happening)
+    → IsCorrecting reading stands s world notes old device machine after cycle verdict was adjustment machines settled → is_timed was ≡ true
+was_timed reading stands s world notes old device machine after cycle verdict was adjustment machines settled x =
+    grind (arith, stage_of, may_act_now, is_timed, point_number)
+
+pub correct_goes_by : {C M : Type 0} (reading : C → ℕ → ℕ) (stands : M → Network → DeviceId → Node → Type 0) (s : Scenario) (world : World C M)
+    (notes : List Note) (old : Stands reading stands s world notes) (device : DeviceId) (machine after : M) (cycle : ℕ) (verdict : Verdict) (was : State)
+    (adjustment : Units) (machines : List M) (settled : List Happening)
+    → IsCorrecting reading stands s world notes old device machine after cycle verdict was adjustment machines settled
+    → StandsBehind reading stands s (record world { early = false; machines = machines; settled = settled }) notes (behind (act_place world.now device))
+correct_goes_by reading stands s world notes old device machine after cycle Cleared was adjustment machines settled x =
+    cleared_goes_by reading stands s world notes old device machine after cycle was adjustment machines settled x
+correct_goes_by reading stands s world notes old device machine after cycle SyncClique was adjustment machines settled x =
+    alone_goes_by reading stands s world notes old device machine after cycle was adjustment machines settled x
+correct_goes_by reading stands s world notes old device machine after cycle AsyncClique was adjustment machines settled x =
+    outnumbered_goes_by reading stands s world notes old device machine after cycle was adjustment machines settled x
+correct_goes_by reading stands s world notes old device machine after cycle (Corrected by) Joining adjustment machines settled x =
+    first_goes_by reading stands s world notes old device machine after cycle by adjustment machines settled x
+correct_goes_by reading stands s world notes old device machine after cycle (Corrected by) Synchronised adjustment machines settled x =
+    corrected_goes_by reading stands s world notes old device machine after cycle by adjustment machines settled x
+correct_goes_by reading stands s world notes old device machine after cycle (Corrected by) Off adjustment machines settled x =
+    absurd (let bad : false ≡ true = was_timed reading stands s world notes old device machine after cycle (Corrected by) Off adjustment machines settled
+    x in cc)
+correct_goes_by reading stands s world notes old device machine after cycle (Corrected by) Integrating adjustment machines settled x =
+    absurd (let bad : false ≡ true = was_timed reading stands s world notes old device machine after cycle (Corrected by) Integrating adjustment machines
+    settled x in cc)

@@ -1,0 +1,291 @@
+-- The steps by which a device comes to its correction point.
+use Rattle.world_law.{proofs.putting.{Moving.settled_moves, PutOne.corrected_unfollowed, StandsOn.shown_still}, specs.steps.Acting.correction_bodies}
+use Rattle.world_law.proofs.steps_lemmas.Words.{◌++◌, ◌+ℤ◌, ◌+◌, ◌<◌, ◌∙◌, ◌∷◌, ◌≡◌, ◌≤◌, ArePutIn, AsyncClique, Cleared, ComesFirst, Corrected, DeviceId}
+use Rattle.world_law.proofs.steps_lemmas.Words.{Happening, HasActed, HasCleared, Integrating, IsBefore, IsDueNow, IsHeld, IsIn, IsNoTaking, IsReadyAt, IsSet}
+use Rattle.world_law.proofs.steps_lemmas.Words.{IsShownPut, IsUnfollowed, Joining, List, Network, Node, Note, NoteBody, Scenario, Some, Stands, StandsBehind}
+use Rattle.world_law.proofs.steps_lemmas.Words.{State, Summary, SyncClique, Synchronised, Units, Verdict, Why, World, [], act_place, acting, adjustment_by}
+use Rattle.world_law.proofs.steps_lemmas.Words.{all_without, ap, arith, before_it, behind, called, cases_eq, correcting, doing, earlier_still, ends_stretch}
+use Rattle.world_law.proofs.steps_lemmas.Words.{false, happenings, held_moves, hidden, in_right, inl, inr, is_turned_on_at, length, length_is, map, moment_of}
+use Rattle.world_law.proofs.steps_lemmas.Words.{none_in, none_yet, one_shown, place_of, point_number, port_place, ports_move, put_at, rank, record_of, refl}
+use Rattle.world_law.proofs.steps_lemmas.Words.{slice_get, stands_on, state_after, state_by, subst, sym, told_wires, true, turned_moves, waiting_moves}
+use Rattle.world_law.proofs.steps_lemmas.{Words.{wire_place, wires_move, with_clique, ℕ}, acting.Kept.{IsBare, bare_act, kept_over, may_act_now, ready_after}}
+use Rattle.world_law.proofs.steps_lemmas.acting.{AllOfIt.{HasOutcome, IsAtPoint, all_point, grown_none, grown_one}, Correcting.{clique_over, corrected_over}}
+use Rattle.world_law.proofs.steps_lemmas.acting.{Clearing.{cleared_more, cleared_over}, Stage.{IsActRecord, Stage, one_goes_by, others_so, stage_of}}
+use Rattle.world_law.proofs.steps_lemmas.acting.{Moves.IsCorrectedSo, Over.IsOver, Sending.{as_put, room_for, taken_then, turned_then}}
+use Rattle.world_law.proofs.steps_lemmas.acting.Points.{IsClique, at_point, clique_record, corrected_record, no_frames, none_at_point, not_on}
+use Rattle.world_law.specs.world.Calls.{IsStateOf}
+use Rattle.run_law.specs.machines.Answers.{after_correction}
+use Rattle.run_law.specs.declared.judgement.Why.TheVariants as whys
+use Rattle.run_law.specs.declared.note.NoteBody.TheVariants as kinds
+use Rattle.run_law.specs.declared.steps.Act.TheVariants as acts
+
+-- what a step starts from by which the device comes to its correction point
+pub record IsCorrecting {C M : Type 0} (reading : C → ℕ → ℕ) (stands : M → Network → DeviceId → Node → Type 0) (s : Scenario) (world : World C M)
+    (notes : List Note) (old : Stands reading stands s world notes) (device : DeviceId) (machine after : M) (cycle : ℕ) (verdict : Verdict) (was : State)
+    (adjustment : Units) (machines : List M) (settled : List Happening) : Type 0 where
+  pub of_it : device.0 < length s.network.device
+  pub first : ComesFirst reading stands s world notes old (act_place world.now device)
+  pub there : slice_get world.machines device.0 ≡ Some machine
+  pub due : IsDueNow stands s.network device (moment_of s device world.now) machine
+  pub acted : HasActed stands s.network device (moment_of s device world.now) (acts.Correct cycle verdict) machine after
+  pub before : Units
+  pub stood : IsStateOf stands s.network device machine was before
+  pub state : State
+  pub stands_then : IsStateOf stands s.network device after state adjustment
+  pub set : IsSet device.0 after world.machines machines
+  pub put : ArePutIn s.network (happenings s.network notes) world.now (correction_bodies device was cycle adjustment verdict) world.settled settled
+
+-- the device behind its correction point
+pub record IsThen {M : Type 0} (stands : M → Network → DeviceId → Node → Type 0) (s : Scenario) (hs new : List Happening) (now : ℕ) (device : DeviceId)
+    (machine : M)
+    (node after : Node) : Type 0 where
+  pub is : stands machine s.network device after
+  pub over : IsOver s (hs ++ new) now device after
+  pub ready : IsReadyAt (s.reading device) s.network device after now
+  pub cleared : HasCleared after
+  pub taken : after.taken ≡ node.taken
+  pub bare : IsBare s.network device after
+  pub phase : after.phase ≡ acting
+
+-- ---- with one record
+
+one_point_step : {C M : Type 0} (reading : C → ℕ → ℕ) (stands : M → Network → DeviceId → Node → Type 0) (s : Scenario) (world : World C M) (notes : List Note)
+    (old : Stands reading stands s world notes) (device : DeviceId) (machine after : M) (node then_ : Node) (machines : List M) (settled : List Happening)
+    (body : NoteBody) (cycle : ℕ) (heard : Summary) (verdict : Verdict)
+    → Stage stands s (happenings s.network notes) old.coming old.mark old.cursor world.now device machine node
+    → (p : IsShownPut s.network (happenings s.network notes) world.now body old.coming settled)
+    → length notes + length old.coming + 2 < none_yet → 5 ≤ rank body
+    → IsActRecord s (happenings s.network notes) p.front p.back world.now device body → IsNoTaking device body
+    → IsAtPoint s device world.now node cycle heard verdict
+    → HasOutcome (put_at (happenings s.network notes) p.front (record_of s.network (happenings s.network notes) p.front world.now body) p.back) world.now device
+    verdict
+    → IsThen stands s (happenings s.network notes) (put_at (happenings s.network notes) p.front
+    (record_of s.network (happenings s.network notes) p.front world.now body) p.back) world.now device after node then_
+    → IsSet device.0 after world.machines machines
+    → StandsBehind reading stands s (record world { early = false; machines = machines; settled = settled }) notes (behind (act_place world.now device))
+one_point_step reading stands s world notes old device machine after node then_ machines settled body cycle heard verdict st p room late a takes point out it
+    set =
+    let hs = happenings s.network notes in
+    let now = world.now in
+    let same_length = length_is s notes in
+    let w = record_of s.network hs p.front now body in
+    let new = put_at hs p.front w p.back in
+    let shows : settled ≡ map (hidden (length notes)) new = p.shows ∙ ap (λ (n : ℕ). map (hidden n) new) (sym same_length) in
+    let st2 : Stage stands s hs (p.front ++ p.back) old.mark old.cursor now device machine node =
+    subst (λ (l : List Happening). Stage stands s hs l old.mark old.cursor now device machine node) p.parts st in
+    let put = as_put hs p.front p.back now w refl (omega (arith, late)) in
+    let here = behind (act_place now device) in
+    one_goes_by reading stands s world notes old device machine after node machines settled body st p shows (omega (arith, room)) a
+    (all_point s hs (p.front ++ p.back) new now device node cycle heard verdict st2.work st2.recorded point
+    (grown_one s hs p.front p.back new now device node w st2.work put late) out
+    (none_at_point s hs (p.front ++ p.back) now device node cycle old.range old.rules st2.steady st2.work point.pending point.due) st2.before) set
+    (kept_over stands s hs new now device after then_ it.is st2.work.sound it.over it.ready it.cleared
+    (it.taken ∙ taken_then stands s hs p.front p.back old.mark old.cursor now device machine node w st2 refl takes) it.bare
+    (turned_then stands s hs p.front p.back old.mark old.cursor now device machine node w here st2 put
+    (λ t. turned_moves s hs (p.front ++ p.back) old.mark old.cursor now 4 (device.0 ∷ []) device st2.moving t)) it.phase)
+
+-- ---- with none: a joiner clears what it has heard
+
+pub cleared_goes_by : {C M : Type 0} (reading : C → ℕ → ℕ) (stands : M → Network → DeviceId → Node → Type 0) (s : Scenario) (world : World C M)
+    (notes : List Note)
+    (old : Stands reading stands s world notes) (device : DeviceId) (machine after : M) (cycle : ℕ) (was : State) (adjustment : Units) (machines : List M)
+    (settled : List Happening)
+    → IsCorrecting reading stands s world notes old device machine after cycle Cleared was adjustment machines settled
+    → StandsBehind reading stands s (record world { early = false; machines = machines; settled = settled }) notes (behind (act_place world.now device))
+cleared_goes_by {C} {M} reading stands s world notes old device machine after cycle was adjustment machines settled x =
+    let hs = happenings s.network notes in
+    let now = world.now in
+    let stage = stage_of reading stands s world notes old device machine x.of_it x.first x.there x.due in
+    let node = stage.0 in
+    let st = stage.1 in
+    let may = may_act_now s device node now st.work.ready st.steady st.limit in
+    let act = x.acted node st.is may st.task in
+    let first = act.1.0 in
+    let heard = act.1.1.0 in
+    let to = act.1.1.1 in
+    let is = act.1.1.2 in
+    let timed = (point_number node.standing.state node.standing.number cycle first.pending.1.own).0 in
+    let off = not_on s hs old.coming now device node st.work timed in
+    let point = at_point s device now node cycle heard Cleared first to in
+    let sound : node.broken ≡ false = first.pending.0 in
+    let quiet = no_frames s device now node cycle heard Cleared sound point in
+    let ready = ready_after s device node act.0 now (acts.Correct cycle Cleared) st.work.ready st.steady st.precise st.wide may act.1
+    (ap (λ (n : Node). n.last) is) in
+    let there = called (moment_of s device now) acting (after_correction node (moment_of s device now) heard cycle Cleared) in
+    let over : IsOver s (hs ++ old.coming) now device act.0 = subst (λ (n : Node). IsOver s (hs ++ old.coming) now device n) (sym is)
+    (cleared_over s hs old.coming now device node cycle (moment_of s device now) heard st.work off st.calm.off st.calm.broken st.calm.falls st.cleared
+    to.verdict_is
+    first.pending.1 first.due (st.work.ready.in_time (doing (correcting cycle)) first.pending) st.wide quiet) in
+    let cleared : HasCleared act.0 = subst HasCleared (sym is)
+    (cleared_more node cycle (moment_of s device now) heard (point_number node.standing.state node.standing.number cycle first.pending.1.own).1 st.cleared) in
+    let more = device.0 ∷ [] in
+    let here = now ∷ 4 ∷ more in
+    let later : IsBefore (now ∷ 2 ∷ []) here = inr (refl, inl (omega arith)) in
+    let kept = kept_over stands s hs old.coming now device after act.0 act.2 st.work.sound over ready cleared (ap (λ (n : Node). n.taken) is ∙ st.taken)
+    (bare_act s.network device node (moment_of s device now) (acts.Correct cycle Cleared) act.0 act.1 st.bare)
+    (λ on. turned_moves s hs old.coming old.mark old.cursor now 4 more device st.moving (st.turned on)) (ap (λ (n : Node). n.phase) is) in
+    stands_on reading stands s world notes old 4 more here machines world.wires world.ports world.waiting settled old.coming world.shown st.moving refl
+    (x.put ∙ old.settled) old.room
+    (settled_moves s hs old.coming old.mark old.cursor now 4 more st.moving
+    (all_point s hs old.coming old.coming now device node cycle heard Cleared st.work st.recorded point
+    (grown_none s hs old.coming now device (λ z i. (st.work.of_now z i).0)) tt
+    (none_at_point s hs old.coming now device node cycle old.range old.rules st.steady st.work first.pending first.due) st.before))
+    old.known
+    (λ other lt. elim (cases_eq other.0 device.0) [
+      | inl e ↦
+          let same : device ≡ other = ap (λ (k : ℕ). let d : DeviceId = record { 0 = k } in d) (sym e) in
+          subst (λ (d : DeviceId). (m : M) × (slice_get machines d.0 ≡ Some m) × IsHeld stands s hs old.coming (behind here) now d m) same
+          (after, x.set.there, inl kept)
+      | inr not ↦
+          let m = old.devices other lt in (
+            m.0,
+            others_so device other after m.0 world.machines machines x.set not m.1,
+            held_moves stands s hs old.coming old.mark old.cursor now 4 more other m.0 st.moving (λ same. not (let f : other.0 ≡ device.0 = cc in f)) m.2,
+          )
+    ])
+    later
+    (wires_move s hs old.coming old.mark old.cursor now 4 more world.wires world.wires st.moving
+    (told_wires reading stands s world notes old 4 more st.moving later)
+    (all_without wire_place here world.wires (λ e same. (let two : ◌≡◌ {A = ℕ} 2 4 = cc in omega (arith, two)))))
+    (ports_move s hs old.coming old.mark old.cursor now 4 more world.ports world.ports st.moving old.ports
+    (all_without port_place here world.ports (λ e same. (let two : ◌≡◌ {A = ℕ} 8 4 = cc in omega (arith, two)))))
+    (waiting_moves s hs old.coming old.mark old.cursor now 4 more world.waiting st.moving (λ three. omega (arith, three)) old.waiting)
+    (shown_still reading stands s world notes old 4 more (omega arith) st.moving)
+
+-- ---- it finds itself outside the others
+
+clique_step : {C M : Type 0} (reading : C → ℕ → ℕ) (stands : M → Network → DeviceId → Node → Type 0) (s : Scenario) (world : World C M) (notes : List Note)
+    (old : Stands reading stands s world notes) (device : DeviceId) (machine after : M) (cycle : ℕ) (was : State) (adjustment : Units) (machines : List M)
+    (settled : List Happening) (verdict : Verdict) (why : Why)
+    → IsCorrecting reading stands s world notes old device machine after cycle verdict was adjustment machines settled → IsClique verdict why
+    → ArePutIn s.network (happenings s.network notes) world.now (kinds.State device Integrating 0 why ∷ []) world.settled settled
+    → ((new : List Happening) (z : Happening) → IsIn z new → place_of z ≡ world.now ∷ 7 ∷ device.0 ∷ 0 ∷ [] → HasOutcome new world.now device verdict)
+    → ((node then_ : Node) (heard : Summary) → then_ ≡ called (moment_of s device world.now) acting
+    (after_correction node (moment_of s device world.now) heard cycle verdict)
+    → then_ ≡ called (moment_of s device world.now) acting (with_clique node heard verdict))
+    → ((x : State) → state_by x verdict ≡ Integrating) → ((a : Units) → adjustment_by a verdict ≡ a)
+    → ends_stretch device (kinds.State device Integrating 0 why) ≡ true
+    → StandsBehind reading stands s (record world { early = false; machines = machines; settled = settled }) notes (behind (act_place world.now device))
+clique_step reading stands s world notes old device machine after cycle was adjustment machines settled verdict why x clique put outcome node_is lost kept ends
+    =
+    let hs = happenings s.network notes in
+    let now = world.now in
+    let stage = stage_of reading stands s world notes old device machine x.of_it x.first x.there x.due in
+    let node = stage.0 in
+    let st = stage.1 in
+    let may = may_act_now s device node now st.work.ready st.steady st.limit in
+    let act = x.acted node st.is may st.task in
+    let first = act.1.0 in
+    let heard = act.1.1.0 in
+    let to = act.1.1.1 in
+    let is = node_is node act.0 heard act.1.1.2 in
+    let timed = (point_number node.standing.state node.standing.number cycle first.pending.1.own).0 in
+    let off = not_on s hs old.coming now device node st.work timed in
+    let point = at_point s device now node cycle heard verdict first to in
+    let ready = ready_after s device node act.0 now (acts.Correct cycle verdict) st.work.ready st.steady st.precise st.wide may act.1
+    (ap (λ (n : Node). n.last) is) in
+    let same_length = length_is s notes in
+    let room = room_for reading stands s world notes old (act_place now device) x.first in
+    let body = kinds.State device Integrating 0 why in
+    let p : IsShownPut s.network hs now body old.coming settled = grind (arith, hs, now, body, one_shown, same_length, room, map, hidden) in
+    let w = record_of s.network hs p.front now body in
+    let new = put_at hs p.front w p.back in
+    let st2 : Stage stands s hs (p.front ++ p.back) old.mark old.cursor now device machine node =
+    subst (λ (l : List Happening). Stage stands s hs l old.mark old.cursor now device machine node) p.parts st in
+    let over : IsOver s (hs ++ new) now device act.0 = subst (λ (n : Node). IsOver s (hs ++ new) now device n) (sym is)
+    (clique_over s hs p.front p.back new now device node w 0 why (moment_of s device now) heard verdict st2.work off st2.calm.off st2.calm.broken
+    (as_put hs p.front p.back now w refl (omega arith)) p.none (lost node.standing.state) (kept node.standing.adjustment) refl ends) in
+    let cleared : HasCleared act.0 = subst HasCleared (sym is) (λ n there. let less = st.cleared n there in omega (arith, less)) in
+    one_point_step reading stands s world notes old device machine after node act.0 machines settled body cycle heard verdict st p room (omega arith)
+    (clique_record stands s hs p.front p.back old.mark old.cursor now device machine node cycle heard verdict why st2 off point clique p.none) (λ at. refl)
+    point
+    (outcome new w (in_right w p.front (w ∷ map (Rattle.world_law.proofs.putting.Bumped.bump_behind (before_it hs p.front)) p.back) (inl refl)) refl)
+    (record {
+      is = act.2;
+      over = over;
+      ready = ready;
+      cleared = cleared;
+      taken = ap (λ (n : Node). n.taken) is;
+      bare = bare_act s.network device node (moment_of s device now) (acts.Correct cycle verdict) act.0 act.1 st.bare;
+      phase = ap (λ (n : Node). n.phase) is;
+    }) x.set
+
+pub alone_goes_by : {C M : Type 0} (reading : C → ℕ → ℕ) (stands : M → Network → DeviceId → Node → Type 0) (s : Scenario) (world : World C M)
+    (notes : List Note)
+    (old : Stands reading stands s world notes) (device : DeviceId) (machine after : M) (cycle : ℕ) (was : State) (adjustment : Units) (machines : List M)
+    (settled : List Happening)
+    → IsCorrecting reading stands s world notes old device machine after cycle SyncClique was adjustment machines settled
+    → StandsBehind reading stands s (record world { early = false; machines = machines; settled = settled }) notes (behind (act_place world.now device))
+alone_goes_by reading stands s world notes old device machine after cycle was adjustment machines settled x =
+    clique_step reading stands s world notes old device machine after cycle was adjustment machines settled SyncClique whys.SyncClique x IsClique.alone x.put
+    (λ new z i e. (z, i, e)) (λ node then_ heard e. e) (λ y. refl) (λ a. refl) (Rattle.std.proofs.lemmas.Bool.eq-eqb device.0 device.0 refl)
+
+pub outnumbered_goes_by : {C M : Type 0} (reading : C → ℕ → ℕ) (stands : M → Network → DeviceId → Node → Type 0) (s : Scenario) (world : World C M)
+    (notes : List Note) (old : Stands reading stands s world notes) (device : DeviceId) (machine after : M) (cycle : ℕ) (was : State) (adjustment : Units)
+    (machines : List M) (settled : List Happening)
+    → IsCorrecting reading stands s world notes old device machine after cycle AsyncClique was adjustment machines settled
+    → StandsBehind reading stands s (record world { early = false; machines = machines; settled = settled }) notes (behind (act_place world.now device))
+outnumbered_goes_by reading stands s world notes old device machine after cycle was adjustment machines settled x =
+    clique_step reading stands s world notes old device machine after cycle was adjustment machines settled AsyncClique whys.AsyncClique x IsClique.outnumbered
+    x.put
+    (λ new z i e. (z, i, e)) (λ node then_ heard e. e) (λ y. refl) (λ a. refl) (Rattle.std.proofs.lemmas.Bool.eq-eqb device.0 device.0 refl)
+
+-- ---- it corrects its clock
+
+not_joining : Synchronised ≡ Joining → ⊥
+not_joining e = cc
+
+pub corrected_goes_by : {C M : Type 0} (reading : C → ℕ → ℕ) (stands : M → Network → DeviceId → Node → Type 0) (s : Scenario) (world : World C M)
+    (notes : List Note) (old : Stands reading stands s world notes) (device : DeviceId) (machine after : M) (cycle : ℕ) (by adjustment : Units)
+    (machines : List M) (settled : List Happening)
+    → IsCorrecting reading stands s world notes old device machine after cycle (Corrected by) Synchronised adjustment machines settled
+    → StandsBehind reading stands s (record world { early = false; machines = machines; settled = settled }) notes (behind (act_place world.now device))
+corrected_goes_by reading stands s world notes old device machine after cycle by adjustment machines settled x =
+    let hs = happenings s.network notes in
+    let now = world.now in
+    let stage = stage_of reading stands s world notes old device machine x.of_it x.first x.there x.due in
+    let node = stage.0 in
+    let st = stage.1 in
+    let may = may_act_now s device node now st.work.ready st.steady st.limit in
+    let act = x.acted node st.is may st.task in
+    let first = act.1.0 in
+    let heard = act.1.1.0 in
+    let to = act.1.1.1 in
+    let is = act.1.1.2 in
+    let point_is = point_number node.standing.state node.standing.number cycle first.pending.1.own in
+    let synchronised : node.standing.state ≡ Synchronised = sym (x.stood node st.is).0 in
+    let sum : adjustment ≡ act.0.standing.adjustment = (x.stands_then act.0 act.2).1 in
+    let sum_is : adjustment.0 ≡ (node.standing.adjustment.0 +ℤ by.0) = ap (λ (u : Units). u.0) sum ∙ ap (λ (n : Node). n.standing.adjustment.0) is in
+    let off = not_on s hs old.coming now device node st.work point_is.0 in
+    let point = at_point s device now node cycle heard (Corrected by) first to in
+    let ready = ready_after s device node act.0 now (acts.Correct cycle (Corrected by)) st.work.ready st.steady st.precise st.wide may act.1
+    (ap (λ (n : Node). n.last) is) in
+    let same_length = length_is s notes in
+    let room = room_for reading stands s world notes old (act_place now device) x.first in
+    let body = kinds.Corrected device cycle by adjustment in
+    let p : IsShownPut s.network hs now body old.coming settled = grind (arith, hs, now, body, one_shown, same_length, room, map, hidden) in
+    let w = record_of s.network hs p.front now body in
+    let new = put_at hs p.front w p.back in
+    let st2 : Stage stands s hs (p.front ++ p.back) old.mark old.cursor now device machine node =
+    subst (λ (l : List Happening). Stage stands s hs l old.mark old.cursor now device machine node) p.parts st in
+    let so : IsCorrectedSo s device (now + 1) node w cycle by adjustment (moment_of s device now) = grind (arith, body, point_is.0, point_is.1, sum, sum_is) in
+    let quiet = no_frames s device now node cycle heard (Corrected by) first.pending.0 point in
+    let over : IsOver s (hs ++ new) now device act.0 = subst (λ (n : Node). IsOver s (hs ++ new) now device n) (sym is)
+    (corrected_over s hs p.front p.back new now device node w cycle by adjustment (moment_of s device now) heard st2.work off st2.calm.off st2.calm.broken
+    (as_put hs p.front p.back now w refl (omega arith)) p.none so synchronised quiet) in
+    let cleared : HasCleared act.0 = subst HasCleared (sym is) (λ n there. absurd (none_in (correcting n) there)) in
+    let lone : IsUnfollowed s hs now body =
+    grind (arith, corrected_unfollowed, hs, now, earlier_still, st.work.of_now, not_joining, synchronised, st.work.left.state, is_turned_on_at, state_after) in
+    one_point_step reading stands s world notes old device machine after node act.0 machines settled body cycle heard (Corrected by) st p room (omega arith)
+    (corrected_record stands s hs p.front p.back old.mark old.cursor now device machine node cycle heard by adjustment st2 off point sum_is p.none lone)
+    (λ at. refl) point
+    (w, in_right w p.front (w ∷ map (Rattle.world_law.proofs.putting.Bumped.bump_behind (before_it hs p.front)) p.back) (inl refl), refl)
+    (record {
+      is = act.2;
+      over = over;
+      ready = ready;
+      cleared = cleared;
+      taken = ap (λ (n : Node). n.taken) is;
+      bare = bare_act s.network device node (moment_of s device now) (acts.Correct cycle (Corrected by)) act.0 act.1 st.bare;
+      phase = ap (λ (n : Node). n.phase) is;
+    }) x.set

@@ -1,0 +1,295 @@
+-- A device that has come to its correction point: the instant is over for it.
+use Rattle.world_law.proofs.{devices.{Borne.{left_alike, tell_alike}, Plains.changes_at_plain}, runs.Foremost.unmoved_by, steps_lemmas.acting.Over.IsOver}
+use Rattle.world_law.proofs.devices.{OwnRecords.{adjustment_still, cycle_still, integration_still, state_still}, Passes.{local_still, started_still}}
+use Rattle.world_law.proofs.steps_lemmas.Words.{◌++◌, ◌+ℤ◌, ◌+◌, ◌-ℤ◌, ◌<ℤ◌, ◌<◌, ◌∙◌, ◌∷◌, ◌≡◌, ◌≤ℤ◌, ◌≤◌, AreClusters, Bool, ClockTask, Compressed, DeviceId}
+use Rattle.world_law.proofs.steps_lemmas.Words.{Happening, HasDoneFrom, HasSentFrom, Integrating, IsDeedOf, IsIn, IsLeft, IsWaiting, Joining, List, Moment}
+use Rattle.world_law.proofs.steps_lemmas.Words.{Network, Node, None, NoneBefore, NoteBody, Scenario, Summary, Synchronised, Units, Verdict, Why, [], acting}
+use Rattle.world_law.proofs.steps_lemmas.Words.{adjustment_by, ap, append-nil, append_assoc, arith, bears_on, called, cases_lt, change_still, changed_at}
+use Rattle.world_law.proofs.steps_lemmas.Words.{correcting, dispatching, earlier, ends_stretch, false, filter, filter-append, if◌then◌else◌, in_left, in_right}
+use Rattle.world_law.proofs.steps_lemmas.Words.{inl, inr, is_broken, is_cm, is_synchronised, is_turned_on_at, moves, no_cluster, none_in, none_kept}
+use Rattle.world_law.proofs.steps_lemmas.Words.{not_turned_on, observation_window, place_of, plains, plains_parts, pos, rank, recorded_cycle, refl, sending}
+use Rattle.world_law.proofs.steps_lemmas.{Words.{state_by, subst, sym, time_of, told_by_others, true, value_of, with_clique, ℕ, ℤ}, acting.Work.IsAtWork}
+use Rattle.world_law.proofs.steps_lemmas.acting.{GoesOn.IsPutAs, Moves.{IsBase, IsCorrectedSo, changed_by, cliques, corrects, joiner_corrects, one_earlier}}
+use Rattle.world_law.specs.device.Own.{IsStill, borne}
+use Rattle.std.proofs.Common.{Contains}
+use Rattle.run_law.specs.machines.Answers.{with_corrected}
+use Rattle.sync_state.proofs.StateFacts.{no_longer, no_point}
+use Rattle.tte_lemmas.proofs.Integers.{ahead_yet}
+use Rattle.run_law.specs.declared.judgement.Why.TheVariants as whys
+use Rattle.run_law.specs.declared.note.NoteBody.TheVariants as kinds
+
+-- ---- where it stands at the next unit of time, without the record
+
+next_least : (b : Bool) (n : ℕ) → n ≤ (if b then n + 1 else n)
+next_least true n = omega arith
+next_least false n = omega arith
+
+pub still_now : (s : Scenario) (hs zs : List Happening) (now : ℕ) (device : DeviceId) (node : Node) → IsAtWork s hs zs now device node
+    → is_turned_on_at s device now ≡ false → IsStill (hs ++ zs) device now (now + 1)
+still_now s hs zs now device node w off h i from lt = unmoved_by s device now h.note.body off (w.still h i (omega (arith, from, lt)))
+
+pub base_then : (s : Scenario) (hs zs : List Happening) (now : ℕ) (device : DeviceId) (node : Node) → IsAtWork s hs zs now device node
+    → is_turned_on_at s device now ≡ false → is_broken s device (now + 1) ≡ is_broken s device now → IsBase s (hs ++ zs) device (now + 1) node
+base_then s hs zs now device node w off same =
+    grind (
+      arith,
+      still_now,
+      cycle_still,
+      not_turned_on,
+      state_still,
+      adjustment_still,
+      integration_still,
+      next_least,
+      recorded_cycle,
+      earlier,
+      local_still,
+      started_still,
+    )
+
+-- ---- the record among those to come
+
+-- what does not move the device, and stands behind all frames of the instant, does not bear on it
+bears_none : (device : DeviceId) (body : NoteBody) → 5 ≤ rank body → moves device body ≡ false → bears_on device body ≡ false
+bears_none device (kinds.Permanent other link cause point verdict) late still = absurd (omega (arith, late))
+bears_none device (kinds.Compressed other opened at cycle members verdict) late still = absurd (omega (arith, late))
+bears_none device (kinds.Corrected other cycle by adjustment) late still = still
+bears_none device (kinds.State other state cause why) late still = still
+bears_none device other late still = refl
+
+pub none_bear : (s : Scenario) (hs front back : List Happening) (now : ℕ) (device : DeviceId) (node : Node) (w : Happening)
+    → IsAtWork s hs (front ++ back) now device node → is_turned_on_at s device now ≡ false → time_of w ≡ now → 5 ≤ rank w.note.body
+    → NoneBefore place_of back (place_of w) → (z : Happening) → IsIn z back → bears_on device z.note.body ≡ false
+none_bear s hs front back now device node w work off at late none z i =
+    grind (arith, in_right, bears_none, cases_lt, rank, unmoved_by)
+
+pub one_in : (q : Happening → Bool) (w : Happening) (back : List Happening) → filter q back ≡ [] → filter q (w ∷ back) ≡ filter q (w ∷ [])
+one_in q w back none = filter-append q (w ∷ []) back ∙ ap (λ (l : List Happening). filter q (w ∷ []) ++ l) none ∙ append-nil (filter q (w ∷ []))
+
+two_in : (q : Happening → Bool) (hs front back : List Happening) → filter q back ≡ [] → filter q (hs ++ (front ++ back)) ≡ filter q hs ++ filter q front
+two_in q hs front back none =
+    grind (arith, filter-append, filter, append-nil)
+
+-- behind it nothing bears on the device, so it might stand at the end
+pub borne_in : (hs front back : List Happening) (device : DeviceId) (w : Happening) → ((z : Happening) → IsIn z back → bears_on device z.note.body ≡ false)
+    → borne device ((hs ++ (front ++ back)) ++ w ∷ []) ≡ borne device (hs ++ (front ++ w ∷ back))
+borne_in hs front back device w none =
+    grind (arith, bears_on, none_kept, filter-append, filter, two_in, append_assoc, one_in)
+
+-- the same of two records
+pub borne_two : (hs front mid rest : List Happening) (device : DeviceId) (w f : Happening)
+    → ((z : Happening) → IsIn z (mid ++ rest) → bears_on device z.note.body ≡ false)
+    → borne device (((hs ++ (front ++ (mid ++ rest))) ++ w ∷ []) ++ f ∷ []) ≡ borne device (hs ++ (front ++ w ∷ (mid ++ f ∷ rest)))
+borne_two hs front mid rest device w f none =
+    let q = λ (h : Happening). bears_on device h.note.body in
+    let gone = none_kept q mid (λ z i. none z (in_left z mid rest i)) in
+    let left : filter q rest ≡ [] = none_kept q rest (λ z i. none z (in_right z mid rest i)) in
+    filter-append q ((hs ++ (front ++ (mid ++ rest))) ++ w ∷ []) (f ∷ [])
+    ∙ ap (λ (l : List Happening). l ++ filter q (f ∷ [])) (borne_in hs front (mid ++ rest) device w none
+    ∙ filter-append q hs (front ++ w ∷ (mid ++ rest))
+    ∙ ap (λ (l : List Happening). filter q hs ++ l) (filter-append q front (w ∷ (mid ++ rest))
+    ∙ ap (λ (l : List Happening). filter q front ++ l)
+    (one_in q w (mid ++ rest) (filter-append q mid rest ∙ ap (λ (l : List Happening). l ++ filter q rest) gone ∙ left))))
+    ∙ append_assoc (filter q hs) (filter q front ++ filter q (w ∷ [])) (filter q (f ∷ []))
+    ∙ ap (λ (l : List Happening). filter q hs ++ l) (append_assoc (filter q front) (filter q (w ∷ [])) (filter q (f ∷ [])))
+    ∙ sym (filter-append q hs (front ++ w ∷ (mid ++ f ∷ rest))
+    ∙ ap (λ (l : List Happening). filter q hs ++ l) (filter-append q front (w ∷ (mid ++ f ∷ rest))
+    ∙ ap (λ (l : List Happening). filter q front ++ l) (filter-append q (w ∷ []) (mid ++ f ∷ rest)
+    ∙ ap (λ (l : List Happening). filter q (w ∷ []) ++ l) (filter-append q mid (f ∷ rest) ∙ ap (λ (l : List Happening). l ++ filter q (f ∷ rest)) gone
+    ∙ one_in q f rest left))))
+
+-- the device stands by the records that bear on it, whatever their numbers
+pub moved_in : (s : Scenario) (xs ys gs : List Happening) (device : DeviceId) (u : ℕ) (node : Node) → borne device xs ≡ borne device ys → plains ys ≡ plains gs
+    → IsLeft s xs device u node → IsLeft s gs device u node
+moved_in s xs ys gs device u node same alike left = told_by_others s ys gs device u node alike (left_alike s xs ys device u node same left)
+
+pub change_in_it : (s : Scenario) (xs ys gs : List Happening) (device : DeviceId) (u : ℕ) → borne device xs ≡ borne device ys → plains ys ≡ plains gs
+    → changed_at xs device u ≡ changed_at gs device u
+change_in_it s xs ys gs device u same alike =
+    (tell_alike s xs ys device u same).change ∙ sym (changes_at_plain ys device u) ∙ ap (λ (l : List Happening). changed_at l device u) alike
+    ∙ changes_at_plain gs device u
+
+pub behind_given : (hs mid new : List Happening) → plains new ≡ plains mid → plains (hs ++ mid) ≡ plains (hs ++ new)
+behind_given hs mid new same = plains_parts hs mid ∙ ap (λ (l : List Happening). plains hs ++ l) (sym same) ∙ sym (plains_parts hs new)
+
+-- ---- what it has done and sent then
+
+pub left_called : (s : Scenario) (js : List Happening) (device : DeviceId) (u : ℕ) (node : Node) (moment : Moment) → IsLeft s js device u node
+    → IsLeft s js device u (called moment acting node)
+left_called s js device u node moment left = grind arith
+
+-- it corrects its clock at the time: all counts from then on
+pub corrects_it : (network : Network) (reading : ℕ → ℕ) (device : DeviceId) (node : Node) (t : ℕ) (moment : Moment) (heard : Summary) (by : Units)
+    → moment.reading.0 ≡ pos (reading t)
+    → HasDoneFrom network reading device (called moment acting (with_corrected node moment heard by)) t (t + 1) (t + 1)
+corrects_it network reading device node t moment heard by reads = record {
+  undone = λ deed u x from lt.
+      let same : t ≡ x = omega (arith, from, lt) in
+      let here = subst (λ (z : ℤ). z <ℤ (value_of network deed -ℤ (node.standing.adjustment.0 +ℤ by.0))) reads
+      (ahead_yet moment.reading.0 (node.standing.adjustment.0 +ℤ by.0) _ (value_of network deed) refl u.ahead) in
+      subst (λ (n : ℕ). pos (reading n) <ℤ (value_of network deed -ℤ (node.standing.adjustment.0 +ℤ by.0))) same here;
+  done = λ deed there. absurd (none_in deed there);
+}
+
+kept_so : (s : Scenario) (device : DeviceId) (node : Node) (b : Bool) (now : ℕ) (sent : Compressed) (clusters : List _) (cluster : _)
+    → is_cm s.network device ≡ true
+    → AreClusters (observation_window s.network) (if b then node.points else []) clusters → Contains clusters cluster
+    → sent ≡ Rattle.compression.specs.Emission.compressed (observation_window s.network) (pos (Rattle.tte_units.specs.Amount.amount s.network.calc)) cluster
+    → (Contains (if b then node.emitted else []) sent → ⊥)
+    → ((c : Compressed) → IsWaiting s.network device node c → pos (s.reading device now) <ℤ c.at.0) → HasSentFrom s device node now (now + 1)
+    → (x : ℕ) → x < now + 1 → pos (s.reading device x) <ℤ sent.at.0
+kept_so s device node true now sent clusters cluster cm are there is not_yet none has x lt =
+    let waits : IsWaiting s.network device node sent = record {
+      cm = cm;
+      clusters = clusters;
+      are = are;
+      cluster = cluster;
+      there = there;
+      is = is;
+      not_yet = not_yet;
+    } in
+    elim (cases_lt x now) [
+      | inl before ↦ has.unsent sent waits x before
+      | inr ge ↦ let at : x ≡ now = omega (arith, ge, lt) in subst (λ (n : ℕ). pos (s.reading device n) <ℤ sent.at.0) (sym at) (none sent waits)
+    ]
+kept_so s device node false now sent clusters cluster cm are there is not_yet none has x lt =
+    absurd (no_cluster (observation_window s.network) clusters cluster are there)
+
+kept_sent : (s : Scenario) (device : DeviceId) (node : Node) (b : Bool) (now : ℕ) (sent : Compressed) → HasSentFrom s device node now (now + 1)
+    → Contains (if b then node.emitted else []) sent → (x : ℕ) × (x < now + 1) × (sent.at.0 ≤ℤ pos (s.reading device x))
+kept_sent s device node true now sent has there = has.sent sent there
+kept_sent s device node false now sent has there = absurd (none_in sent there)
+
+-- none of its frames is due, as those come before a correction
+pub corrected_sent : (s : Scenario) (device : DeviceId) (node : Node) (now : ℕ) (moment : Moment) (heard : Summary) (by : Units)
+    → HasSentFrom s device node now (now + 1) → ((c : Compressed) → IsWaiting s.network device node c → pos (s.reading device now) <ℤ c.at.0)
+    → HasSentFrom s device (called moment acting (with_corrected node moment heard by)) (now + 1) (now + 1)
+corrected_sent s device node now moment heard by has none = record {
+  unsent = λ c u x lt. kept_so s device node (is_synchronised node.standing.state) now c u.clusters u.cluster u.cm u.are u.there u.is u.not_yet none has x lt;
+  sent = λ c there. kept_sent s device node (is_synchronised node.standing.state) now c has there;
+}
+
+-- ---- it has corrected its clock
+
+pub corrected_over : (s : Scenario) (hs front back new : List Happening) (now : ℕ) (device : DeviceId) (node : Node) (w : Happening) (cycle : ℕ)
+    (by adjustment : Units) (moment : Moment) (heard : Summary)
+    → IsAtWork s hs (front ++ back) now device node → is_turned_on_at s device now ≡ false → is_turned_on_at s device (now + 1) ≡ false
+    → is_broken s device (now + 1) ≡ is_broken s device now → IsPutAs now front back new w → NoneBefore place_of back (place_of w)
+    → IsCorrectedSo s device (now + 1) node w cycle by adjustment moment → node.standing.state ≡ Synchronised
+    → ((c : Compressed) → IsWaiting s.network device node c → pos (s.reading device now) <ℤ c.at.0)
+    → IsOver s (hs ++ new) now device (called moment acting (with_corrected node moment heard by))
+corrected_over s hs front back new now device node w cycle by adjustment moment heard work off later same p none so synchronised quiet =
+    let after = called moment acting (with_corrected node moment heard by) in
+    let old = hs ++ (front ++ back) in
+    let base = base_then s hs (front ++ back) now device node work off same in
+    let five : 5 ≤ rank w.note.body = subst (λ (b : NoteBody). 5 ≤ rank b) (sym so.body) (omega arith) in
+    let bears = none_bear s hs front back now device node w work off p.at five none in
+    let borne_so = borne_in hs front back device w bears in
+    let alike = behind_given hs (front ++ w ∷ back) new p.same in
+    let changes : Rattle.run_law.specs.device.LocalClocks.changes_adjustment device w.note.body ≡ true =
+    ap (Rattle.run_law.specs.device.LocalClocks.changes_adjustment device) so.body ∙ Rattle.std.proofs.lemmas.Bool.eq-eqb device.0 device.0 refl in
+    let at : changed_at (hs ++ new) device (now + 1) ≡ now =
+    sym (change_in_it s (old ++ w ∷ []) (hs ++ (front ++ w ∷ back)) (hs ++ new) device (now + 1) borne_so alike)
+    ∙ ap (Rattle.world_law.specs.device.Told.change_in device) (one_earlier (now + 1) old w so.before)
+    ∙ changed_by device (earlier (now + 1) old) w changes ∙ p.at in
+    let reads : moment.reading.0 ≡ pos (s.reading device now) = so.reads ∙ ap (λ (n : ℕ). pos (s.reading device n)) p.at in
+    record {
+      left = left_called s (hs ++ new) device (now + 1) (with_corrected node moment heard by) moment
+          (moved_in s (old ++ w ∷ []) (hs ++ (front ++ w ∷ back)) (hs ++ new) device (now + 1) (with_corrected node moment heard by) borne_so alike
+          (corrects s old device (now + 1) node w cycle by adjustment moment heard so synchronised later base));
+      done = subst (λ (n : ℕ). HasDoneFrom s.network (s.reading device) device after n (now + 1) (now + 1)) (sym at)
+          (corrects_it s.network (s.reading device) device node now moment heard by reads);
+      sent = corrected_sent s device node now moment heard by work.sent quiet;
+    }
+
+-- ---- a joiner has its first correction
+
+pub joiner_over : (s : Scenario) (hs front mid rest new : List Happening) (now : ℕ) (device : DeviceId) (node : Node) (w f : Happening) (cycle cause : ℕ)
+    (by adjustment : Units) (moment : Moment) (heard : Summary)
+    → IsAtWork s hs (front ++ (mid ++ rest)) now device node → is_turned_on_at s device now ≡ false → is_turned_on_at s device (now + 1) ≡ false
+    → is_broken s device (now + 1) ≡ is_broken s device now → plains new ≡ plains (front ++ w ∷ (mid ++ f ∷ rest)) → time_of w ≡ now
+    → NoneBefore place_of (mid ++ rest) (place_of w)
+    → IsCorrectedSo s device (now + 1) node w cycle by adjustment moment → node.standing.state ≡ Joining
+    → f.note.body ≡ kinds.State device Synchronised cause whys.Correction → time_of f < now + 1
+    → ((c : Compressed) → IsWaiting s.network device node c → pos (s.reading device now) <ℤ c.at.0)
+    → IsOver s (hs ++ new) now device (called moment acting (with_corrected node moment heard by))
+joiner_over s hs front mid rest new now device node w f cycle cause by adjustment moment heard work off later same put at none so joining e lt quiet =
+    let after = called moment acting (with_corrected node moment heard by) in
+    let old = hs ++ (front ++ (mid ++ rest)) in
+    let whole = hs ++ (front ++ w ∷ (mid ++ f ∷ rest)) in
+    let base = base_then s hs (front ++ (mid ++ rest)) now device node work off same in
+    let five : 5 ≤ rank w.note.body = subst (λ (b : NoteBody). 5 ≤ rank b) (sym so.body) (omega arith) in
+    let bears = none_bear s hs front (mid ++ rest) now device node w work off at five none in
+    let borne_so = borne_two hs front mid rest device w f bears in
+    let alike = behind_given hs (front ++ w ∷ (mid ++ f ∷ rest)) new put in
+    let changes : Rattle.run_law.specs.device.LocalClocks.changes_adjustment device w.note.body ≡ true =
+    ap (Rattle.run_law.specs.device.LocalClocks.changes_adjustment device) so.body ∙ Rattle.std.proofs.lemmas.Bool.eq-eqb device.0 device.0 refl in
+    let no_change : Rattle.run_law.specs.device.LocalClocks.changes_adjustment device f.note.body ≡ false =
+    ap (Rattle.run_law.specs.device.LocalClocks.changes_adjustment device) e in
+    let changed : changed_at (hs ++ new) device (now + 1) ≡ now =
+    sym (change_in_it s ((old ++ w ∷ []) ++ f ∷ []) whole (hs ++ new) device (now + 1) borne_so alike)
+    ∙ ap (Rattle.world_law.specs.device.Told.change_in device) (one_earlier (now + 1) (old ++ w ∷ []) f lt)
+    ∙ ap (λ (l : List Happening). Rattle.std.specs.Option.option_map_or time_of (Rattle.std.specs.List.last_or None l) 0)
+    (Rattle.world_law.proofs.lists.Lists.filter_no (λ g. Rattle.run_law.specs.device.LocalClocks.changes_adjustment device g.note.body)
+    (earlier (now + 1) (old ++ w ∷ [])) f no_change)
+    ∙ ap (Rattle.world_law.specs.device.Told.change_in device) (one_earlier (now + 1) old w so.before)
+    ∙ changed_by device (earlier (now + 1) old) w changes ∙ at in
+    let reads : moment.reading.0 ≡ pos (s.reading device now) = so.reads ∙ ap (λ (n : ℕ). pos (s.reading device n)) at in
+    record {
+      left = left_called s (hs ++ new) device (now + 1) (with_corrected node moment heard by) moment
+          (moved_in s ((old ++ w ∷ []) ++ f ∷ []) whole (hs ++ new) device (now + 1) (with_corrected node moment heard by) borne_so alike
+          (joiner_corrects s old device (now + 1) node w f cycle cause by adjustment moment heard so joining later e lt base));
+      done = subst (λ (n : ℕ). HasDoneFrom s.network (s.reading device) device after n (now + 1) (now + 1)) (sym changed)
+          (corrects_it s.network (s.reading device) device node now moment heard by reads);
+      sent = corrected_sent s device node now moment heard by work.sent quiet;
+    }
+
+-- ---- it has found itself outside the others
+
+pub no_deed : (network : Network) (device : DeviceId) (node : Node) (deed : ClockTask) → node.standing.state ≡ Integrating → IsDeedOf network device node deed
+    → ⊥
+no_deed network device node (sending cycle) is own = no_longer (sym is ∙ own.1)
+no_deed network device node (correcting cycle) is own = no_point node.standing.state node.standing.number cycle is own
+no_deed network device node (dispatching row cycle) is own = no_longer (sym is ∙ own.0)
+
+pub clique_over : (s : Scenario) (hs front back new : List Happening) (now : ℕ) (device : DeviceId) (node : Node) (w : Happening) (cause : ℕ) (why : Why)
+    (moment : Moment) (heard : Summary) (verdict : Verdict)
+    → IsAtWork s hs (front ++ back) now device node → is_turned_on_at s device now ≡ false → is_turned_on_at s device (now + 1) ≡ false
+    → is_broken s device (now + 1) ≡ is_broken s device now → IsPutAs now front back new w → NoneBefore place_of back (place_of w)
+    → state_by node.standing.state verdict ≡ Integrating → adjustment_by node.standing.adjustment verdict ≡ node.standing.adjustment
+    → w.note.body ≡ kinds.State device Integrating cause why → ends_stretch device (kinds.State device Integrating cause why) ≡ true
+    → IsOver s (hs ++ new) now device (called moment acting (with_clique node heard verdict))
+clique_over s hs front back new now device node w cause why moment heard verdict work off later same p none lost kept e ends =
+    let after = called moment acting (with_clique node heard verdict) in
+    let old = hs ++ (front ++ back) in
+    let base = base_then s hs (front ++ back) now device node work off same in
+    let five : 5 ≤ rank w.note.body = subst (λ (b : NoteBody). 5 ≤ rank b) (sym e) (omega arith) in
+    let bears = none_bear s hs front back now device node w work off p.at five none in
+    let lt : time_of w < now + 1 = let at = p.at in omega (arith, at) in
+    let change : changed_at (hs ++ new) device (now + 1) ≡ changed_at old device now =
+    sym (change_in_it s (old ++ w ∷ []) (hs ++ (front ++ w ∷ back)) (hs ++ new) device (now + 1) (borne_in hs front back device w bears)
+    (behind_given hs (front ++ w ∷ back) new p.same))
+    ∙ ap (Rattle.world_law.specs.device.Told.change_in device) (one_earlier (now + 1) old w lt)
+    ∙ ap (λ (l : List Happening). Rattle.std.specs.Option.option_map_or time_of (Rattle.std.specs.List.last_or None l) 0)
+    (Rattle.world_law.proofs.lists.Lists.filter_no (λ g. Rattle.run_law.specs.device.LocalClocks.changes_adjustment device g.note.body)
+    (earlier (now + 1) old) w (ap (Rattle.run_law.specs.device.LocalClocks.changes_adjustment device) e))
+    ∙ change_still old device now (now + 1) (omega arith) (still_now s hs (front ++ back) now device node work off) in
+    record {
+      left = left_called s (hs ++ new) device (now + 1) (with_clique node heard verdict) moment
+          (moved_in s (old ++ w ∷ []) (hs ++ (front ++ w ∷ back)) (hs ++ new) device (now + 1) (with_clique node heard verdict)
+          (borne_in hs front back device w bears) (behind_given hs (front ++ w ∷ back) new p.same)
+          (cliques s old device (now + 1) node w cause why heard verdict lost kept e ends lt later base));
+      done = record {
+        undone = λ deed u x from lt. absurd (no_deed s.network device after deed lost u.own);
+        done = λ deed there.
+            let x = work.done.done deed there in (
+              x.0,
+              omega (arith, x.1, change),
+              x.2,
+              subst (λ (a : Units). (value_of s.network deed -ℤ a.0) ≤ℤ pos (s.reading device x.0)) (sym kept) x.3,
+            );
+      };
+      sent = record {
+        unsent = λ c u x lt. absurd (no_cluster (observation_window s.network) u.clusters u.cluster u.are u.there);
+        sent = λ c there. absurd (none_in c there);
+      };
+    }

@@ -1,0 +1,345 @@
+-- A device dispatches a row's frame: its record, and how the device stands then.
+use Rattle.world_law.proofs.rows.OneRow.{one_told, told_alike}
+use Rattle.world_law.proofs.steps_lemmas.Words.{◌++◌, ◌+◌, ◌∙◌, ◌∷◌, ◌≡◌, ◌≤ℤ◌, ◌≤◌, AreRecorded, Bool, Contains-append_left, Contains-push}
+use Rattle.world_law.proofs.steps_lemmas.Words.{Contains-push_cases, DeviceId, Dispatches, Entry, Happening, HasAtHand, HasCleared, Hearing, IsActOf, IsActing}
+use Rattle.world_law.proofs.steps_lemmas.Words.{IsDue, IsFirstTask, IsFounded, IsIn, IsLawful, IsPending, IsReadyAt, LinkId, List, Moment, Network, Node, None}
+use Rattle.world_law.proofs.steps_lemmas.Words.{NoneBefore, NoteBody, Option, Reaches, RowId, Scenario, VlId, [], acting, amount, ap, append-nil, arith}
+use Rattle.world_law.proofs.steps_lemmas.Words.{by_number, called, cases_lt, cause_of, changed_at, changed_before, correcting, dispatch_body, dispatch_late}
+use Rattle.world_law.proofs.steps_lemmas.Words.{dispatches_same, dispatching, doing, earlier, false, filter, hearing_by, if◌then◌else◌, in_left, in_right, inl}
+use Rattle.world_law.proofs.steps_lemmas.Words.{inr, is_accepted, is_cut, key, last_in, last_unfollowed, length, members_in, moment_of, moves, nat_lt, ne_eqb}
+use Rattle.world_law.proofs.steps_lemmas.Words.{numbered_within, option_to_list, place_of, plain_body, pos, put_at, rank, reaches_back, reading_for, record_of}
+use Rattle.world_law.proofs.steps_lemmas.Words.{refl, same_device, sending, subst, sym, time_of, true, up_back, value_is, waiting_alike, way_from, with_done, ℕ}
+use Rattle.world_law.proofs.steps_lemmas.{Words.ℤ, acting.{Sending.{HasSentIt, as_put, nothing_aside, taken_then}, Work.{IsAtWork, all_earlier, reaches}}}
+use Rattle.world_law.proofs.steps_lemmas.acting.GoesOn.{IsPutAs, body_plain, does, earlier_put, goes_on, left_on, one_of, put_now, sent_alike, shown_now}
+use Rattle.world_law.proofs.steps_lemmas.acting.{GoesOn.shown_still, Kept.{may_act_now, ready_after}, Stage.{IsActRecord, Stage}}
+use Rattle.std.proofs.Common.{◌*◌, Contains}
+use Rattle.net_plan.proofs.SameIds.{same_link, same_vl}
+use Rattle.run_law.proofs.{law.FirstPlaces.in_filter, timed.Rows.at_hand_by}
+use Rattle.schedule_tables.{proofs.EntryLemmas.one_entry, specs.{Entries.{IsEntry, source_of}, Windows.OccursIn}}
+use Rattle.run_law.specs.declared.note.NoteBody.TheVariants as kinds
+use Rattle.run_law.specs.declared.steps.Act.TheVariants as acts
+
+-- ---- it is a dispatch
+
+-- its cause is one of the records
+pub hand_within : (s : Scenario) (hs : List Happening) (device : DeviceId) (entry : Entry) (t cause cycle : ℕ) → IsFounded place_of (IsDue s) hs
+    → HasAtHand s.network hs device entry t cause cycle → cause ≤ length hs
+hand_within s hs device entry t cause cycle founded (inl sender) = let none = sender.1 in omega (arith, none)
+hand_within s hs device entry t cause cycle founded (inr took) =
+    elim (last_in None (filter (λ h. is_accepted device entry.row.vl h.note.body) (earlier t hs)) took.1.taken took.1.last) [
+      | inl none ↦ absurd cc
+      | inr i ↦
+          let there = in_filter (λ h. nat_lt (time_of h) t) hs took.1.taken
+          (in_filter (λ h. is_accepted device entry.row.vl h.note.body) (earlier t hs) took.1.taken i) in
+          let within = numbered_within hs took.1.taken.note.number took.1.taken (by_number s hs took.1.taken founded there) in
+          let number = took.1.number in
+          omega (arith, within, number)
+    ]
+
+-- what is shown of it has that cause
+pub dispatch_cause : (s : Scenario) (device : DeviceId) (now : ℕ) (link : LinkId) (cause : ℕ) (vl : VlId) (cycle : ℕ)
+    → cause_of (dispatch_body s device now link cause vl cycle) ≡ cause
+dispatch_cause s device now link cause vl cycle =
+    elim (is_cut s link (way_from s.network device link) now) as (λ (b : Bool). cause_of (if b then kinds.Lost device link cause
+    else kinds.TtSent device link cause vl cycle) ≡ cause) [ true ↦ refl | false ↦ refl ]
+
+-- a device that has to dispatch a row, whose frame it has at hand by the records given, dispatches it by any records of the instant
+pub dispatches_it : (s : Scenario) (hs coming other : List Happening) (now : ℕ) (device : DeviceId) (node : Node) (row : RowId) (entry : Entry)
+    (cause cycle : ℕ)
+    → IsAtWork s hs coming now device node → ((z : Happening) → IsIn z other → time_of z ≡ now)
+    → IsPending s.network device node (doing (dispatching row cycle))
+    → reading_for s.network node (doing (dispatching row cycle)) ≤ℤ pos (s.reading device now) → IsEntry s.network row.0 entry
+    → HasAtHand s.network hs device entry now cause cycle
+    → (d : Dispatches s (hs ++ other) device now entry.row.link cause entry.row.vl cycle) × (d.place ≡ row.0)
+dispatches_it s hs coming other now device node row entry cause cycle w also p due is hand =
+    let same = all_earlier s hs coming other now (λ z i. (w.of_now z i).0) also in
+    let given : earlier now hs ≡ earlier now (hs ++ other) =
+    sym (Rattle.world_law.proofs.runs.SourcesBack.earlier_still now hs other (λ z i. let at = also z i in omega (arith, at))) in
+    let frame = p.1.own.1 in
+    let one : frame.entry ≡ entry = one_entry s.network row.0 frame.entry entry frame.is is in
+    let reached : Reaches s (hs ++ coming) device (pos (cycle * amount s.network.cycle + amount entry.row.offset)) now =
+    subst (λ (z : ℤ). Reaches s (hs ++ coming) device z now) (value_is s.network row entry cycle is)
+    (reaches s hs coming now device node (dispatching row cycle) w p.1 due) in (
+      record {
+        place = row.0;
+        entry = entry;
+        row = is;
+        by = refl;
+        of_vl = refl;
+        leaves = subst (λ (x : Entry). source_of x ≡ device) one frame.leaves;
+        occurs = subst (λ (x : Entry). OccursIn x.vl cycle) one frame.occurs;
+        up = up_back s (hs ++ coming) (hs ++ other) now device same (record { synchronised = sym w.left.state ∙ p.1.own.0; correct = w.sound });
+        reached = reaches_back s (hs ++ coming) (hs ++ other) now device _ same reached;
+        at_hand = at_hand_by s.network hs (hs ++ other) device entry now cause cycle given hand;
+      },
+      refl,
+    )
+
+-- ---- its record
+
+second : List ℕ → ℕ
+second (a ∷ b ∷ more) = b
+second other = 0
+
+-- what stands where the record of a frame that met a cut way does, is one
+lost_at : (t u m d l c : ℕ) (body : NoteBody) → t ∷ 9 ∷ d ∷ l ∷ c ∷ [] ≡ u ∷ rank body ∷ key m body → (other : DeviceId) × (link : LinkId) × (other.0 ≡ d)
+    × (link.0 ≡ l) × (body ≡ kinds.Lost other link c)
+unfolding second
+lost_at t u m d l c (kinds.Lost other link from) e =
+    grind arith
+lost_at t u m d l c other e = absurd (let bad = ap second e in omega (arith, bad))
+
+-- and where that of a dispatch does
+tt_at : (t u m d l c v n : ℕ) (body : NoteBody) → t ∷ 10 ∷ d ∷ l ∷ c ∷ v ∷ n ∷ [] ≡ u ∷ rank body ∷ key m body → (other : DeviceId) × (link : LinkId)
+    × (vl : VlId) × (other.0 ≡ d) × (link.0 ≡ l) × (vl.0 ≡ v) × (body ≡ kinds.TtSent other link c vl n)
+unfolding second
+tt_at t u m d l c v n (kinds.TtSent other link from vl number) e =
+    grind arith
+tt_at t u m d l c v n other e = absurd (let bad = ap second e in omega (arith, bad))
+
+-- the body of a dispatch on a way that is cut, or not
+abbrev body_by : Bool → DeviceId → LinkId → ℕ → VlId → ℕ → NoteBody
+body_by cut device link cause vl cycle = if cut then kinds.Lost device link cause else kinds.TtSent device link cause vl cycle
+
+-- what stands at its place is it
+body_at : (cut : Bool) (device : DeviceId) (link : LinkId) (cause : ℕ) (vl : VlId) (cycle t u m : ℕ) (body : NoteBody)
+    → t ∷ rank (body_by cut device link cause vl cycle) ∷ key 0 (body_by cut device link cause vl cycle) ≡ u ∷ rank body ∷ key m body
+    → body ≡ body_by cut device link cause vl cycle
+body_at true device link cause vl cycle t u m body e =
+    let x = lost_at t u m device.0 link.0 cause body e in
+    x.4 ∙ ap (λ (d : DeviceId). kinds.Lost d x.1 cause) (same_device x.0 device x.2) ∙ ap (λ (l : LinkId). kinds.Lost device l cause) (same_link x.1 link x.3)
+body_at false device link cause vl cycle t u m body e =
+    grind (arith, tt_at, same_device, same_link, same_vl)
+
+-- it names no cause of a change of state
+pub plain_dispatch : (s : Scenario) (device : DeviceId) (now : ℕ) (link : LinkId) (cause : ℕ) (vl : VlId) (cycle : ℕ)
+    → plain_body (dispatch_body s device now link cause vl cycle) ≡ dispatch_body s device now link cause vl cycle
+plain_dispatch s device now link cause vl cycle =
+    grind (arith, is_cut, way_from, plain_body)
+
+-- what is asked of the record but for its body
+record IsRowRecord (s : Scenario) (hs front back : List Happening) (now : ℕ) (device : DeviceId) (link : LinkId) (cause : ℕ) (vl : VlId) (cycle : ℕ)
+    (body : NoteBody) : Type 0 where
+  pub dispatches : Dispatches s (hs ++ front) device now link cause vl cycle
+  pub new : (y : Happening) → IsIn y back → y.note.body ≡ body → ⊥
+  pub late : (y : Happening) → IsIn y back → 5 ≤ rank y.note.body
+  pub rests : (y : Happening) → IsIn y back → Rattle.world_law.specs.world.World.IsAtRest s device now y.note.body
+
+row_record : (s : Scenario) (hs front back : List Happening) (now : ℕ) (device : DeviceId) (link : LinkId) (cause : ℕ) (vl : VlId) (cycle : ℕ) (cut : Bool)
+    → is_cut s link (way_from s.network device link) now ≡ cut
+    → IsRowRecord s hs front back now device link cause vl cycle (body_by cut device link cause vl cycle)
+    → IsActRecord s hs front back now device (body_by cut device link cause vl cycle)
+row_record s hs front back now device link cause vl cycle true is r = record {
+  own = λ m. inr (inl (refl, (vl, cycle, r.dispatches, is)));
+  acts = IsActing.dispatching link cause vl cycle r.dispatches;
+  caused = inr (inl (vl, cycle, r.dispatches, is));
+  fresh = λ y i e. r.new y i (body_at true device link cause vl cycle now (time_of y) (members_in y) y.note.body e);
+  aside = λ y i e. nothing_aside s device now y.note.body (r.late y i) (r.rests y i) e;
+  least = λ b. elim b [ inl lt ↦ omega (arith, lt) | inr c ↦ elim c.1 [ inl lt ↦ omega (arith, lt) | inr d2 ↦ let f = d2.0 in omega (arith, f) ] ];
+  apart = λ other not. (refl, ne_eqb other.0 device.0 not, λ at. refl);
+  lone = last_unfollowed s hs now (kinds.Lost device link cause) refl;
+  no_source = refl;
+}
+row_record s hs front back now device link cause vl cycle false is r = record {
+  own = λ m. refl;
+  acts = IsActing.dispatching link cause vl cycle r.dispatches;
+  caused = record { dispatches = r.dispatches; whole = is };
+  fresh = λ y i e. r.new y i (body_at false device link cause vl cycle now (time_of y) (members_in y) y.note.body e);
+  aside = λ y i e. nothing_aside s device now y.note.body (r.late y i) (r.rests y i) e;
+  least = λ b. elim b [ inl lt ↦ omega (arith, lt) | inr c ↦ elim c.1 [ inl lt ↦ omega (arith, lt) | inr d2 ↦ let f = d2.0 in omega (arith, f) ] ];
+  apart = λ other not. (refl, ne_eqb other.0 device.0 not, λ at. refl);
+  lone = last_unfollowed s hs now (kinds.TtSent device link cause vl cycle) refl;
+  no_source = refl;
+}
+
+pub dispatching_record : {M : Type 0} (stands : M → Network → DeviceId → Node → Type 0) (s : Scenario) (hs front back : List Happening) (mark cursor : List ℕ)
+    (now : ℕ) (device : DeviceId) (machine : M) (node : Node) (row : RowId) (entry : Entry) (cause cycle : ℕ)
+    → Stage stands s hs (front ++ back) mark cursor now device machine node
+    → IsPending s.network device node (doing (dispatching row cycle))
+    → reading_for s.network node (doing (dispatching row cycle)) ≤ℤ pos (s.reading device now) → IsEntry s.network row.0 entry
+    → HasAtHand s.network hs device entry now cause cycle
+    → NoneBefore place_of back (place_of (record_of s.network hs front now (dispatch_body s device now entry.row.link cause entry.row.vl cycle)))
+    → IsActRecord s hs front back now device (dispatch_body s device now entry.row.link cause entry.row.vl cycle)
+dispatching_record stands s hs front back mark cursor now device machine node row entry cause cycle st pending due is hand none =
+    let link = entry.row.link in
+    let vl = entry.row.vl in
+    let here = dispatches_it s hs (front ++ back) front now device node row entry cause cycle st.work (λ z i. (st.work.of_now z (in_left z front back i)).0)
+    pending due is hand in
+    let whole = dispatches_it s hs (front ++ back) (front ++ back) now device node row entry cause cycle st.work (λ z i. (st.work.of_now z i).0)
+    pending due is hand in
+    let high = dispatch_late s device now link cause vl cycle in
+    row_record s hs front back now device link cause vl cycle (is_cut s link (way_from s.network device link) now) refl (record {
+      dispatches = here.0;
+      new = λ y i e.
+          pending.1.not_yet (subst (λ (n : ℕ). Contains node.done (dispatching (let r : RowId = record { 0 = n } in r) cycle)) whole.1
+          (st.recorded.has_dispatched y (in_right y front back i) link cause vl cycle whole.0
+          (ap plain_body e ∙ plain_dispatch s device now link cause vl cycle)));
+      late = λ y i.
+          let at = st.work.of_now y (in_right y front back i) in
+          elim (cases_lt (rank y.note.body) 5) [ inr ge ↦ ge | inl lt ↦ absurd (none y i (inr (at.0, inl (omega (arith, lt, high))))) ];
+      rests = λ y i.
+          let there = in_right y front back i in
+          st.work.still y (in_right y hs (front ++ back) there) (st.work.of_now y there).0;
+    })
+
+-- ---- how it stands then
+
+none_heard_by : (s : Scenario) (device of : DeviceId) (now : ℕ) (link : LinkId) (cause : ℕ) (vl : VlId) (cycle : ℕ) (h : Happening)
+    → hearing_by s.network device h (dispatch_body s of now link cause vl cycle) ≡ None
+none_heard_by s device of now link cause vl cycle h =
+    elim (is_cut s link (way_from s.network of link) now) as (λ (b : Bool). hearing_by s.network device h (if b then kinds.Lost of link cause
+    else kinds.TtSent of link cause vl cycle) ≡ None) [ true ↦ refl | false ↦ refl ]
+
+none_moved : (s : Scenario) (device of : DeviceId) (now : ℕ) (link : LinkId) (cause : ℕ) (vl : VlId) (cycle : ℕ)
+    → moves device (dispatch_body s of now link cause vl cycle) ≡ false
+none_moved s device of now link cause vl cycle =
+    elim (is_cut s link (way_from s.network of link) now) as (λ (b : Bool). moves device (if b then kinds.Lost of link cause
+    else kinds.TtSent of link cause vl cycle) ≡ false) [ true ↦ refl | false ↦ refl ]
+
+none_taken : (s : Scenario) (device of : DeviceId) (now : ℕ) (link : LinkId) (cause : ℕ) (vl : VlId) (cycle : ℕ)
+    → Rattle.world_law.proofs.rows.Takings.IsNoTaking device (dispatch_body s of now link cause vl cycle)
+none_taken s device of now link cause vl cycle = grind (arith, is_cut, way_from)
+
+dispatches_on : (s : Scenario) (hs front back new : List Happening) (now : ℕ) (device : DeviceId) (node : Node) (w : Happening) (row : RowId) (cycle : ℕ)
+    (moment : Moment)
+    → IsAtWork s hs (front ++ back) now device node → IsPutAs now front back new w → hearing_by s.network device w w.note.body ≡ None
+    → moves device w.note.body ≡ false
+    → reading_for s.network node (doing (dispatching row cycle)) ≤ℤ pos (s.reading device now)
+    → IsReadyAt (s.reading device) s.network device (called moment acting (with_done node (dispatching row cycle))) now
+    → IsAtWork s hs new now device (called moment acting (with_done node (dispatching row cycle)))
+dispatches_on s hs front back new now device node w row cycle moment work p none still due ready =
+    let after = called moment acting (with_done node (dispatching row cycle)) in
+    goes_on s hs front back new now device node after w work p
+    (left_on s hs front back new now device node after w work p (record { standing = refl; broken = refl; changed = refl; points = refl }) still
+    (sym (append-nil node.heard) ∙ ap (λ (o : Option Hearing). node.heard ++ option_to_list o) (sym none)) (inl none))
+    still
+    (does s.network (s.reading device) device node (changed_at (hs ++ (front ++ back)) device now) now moment (dispatching row cycle) work.done
+    (changed_before (hs ++ (front ++ back)) device now) due)
+    (sent_alike s device node after now (now + 1) refl refl work.sent) ready
+
+-- and the records tell what it has done
+dispatched_recorded : (s : Scenario) (hs front back new : List Happening) (now : ℕ) (device : DeviceId) (node : Node) (w : Happening) (row : RowId)
+    (link : LinkId) (cause : ℕ) (vl : VlId) (cycle : ℕ) (moment : Moment)
+    → IsAtWork s hs (front ++ back) now device node → AreRecorded s (hs ++ (front ++ back)) (front ++ back) now device node → IsPutAs now front back new w
+    → w.note.body ≡ dispatch_body s device now link cause vl cycle → IsLawful s (hs ++ (front ++ back)) device
+    → (d : Dispatches s (hs ++ (front ++ back)) device now link cause vl cycle) → d.place ≡ row.0
+    → AreRecorded s (hs ++ new) new now device (called moment acting (with_done node (dispatching row cycle)))
+dispatched_recorded s hs front back new now device node w row link cause vl cycle moment work r p e law own place =
+    let after = called moment acting (with_done node (dispatching row cycle)) in
+    let old = hs ++ (front ++ back) in
+    let same = earlier_put s hs front back new now device node w work p in
+    let tells : plain_body w.note.body ≡ dispatch_body s device now link cause vl cycle = ap plain_body e ∙ plain_dispatch s device now link cause vl cycle in
+    let high = dispatch_late s device now link cause vl cycle in
+    let add = dispatching row cycle ∷ [] in
+    let never_five : (body : NoteBody) (z : Happening) → rank body ≤ 5 → Rattle.world_law.specs.device.Plain.plain z ≡ Rattle.world_law.specs.device.Plain.plain
+    w
+    → plain_body z.note.body ≡ body → ⊥ = λ body z low here is.
+    let same_rank : rank (dispatch_body s device now link cause vl cycle) ≡ rank body = ap rank (sym tells ∙ sym (body_plain z w here) ∙ is) in
+    omega (arith, same_rank, low, high) in
+    record {
+      sent = λ c there d. elim (Contains-push_cases node.done (dispatching row cycle) (sending c) there) [
+        | inl before ↦
+            shown_still hs front back new now w (kinds.Sent device c) p
+            (r.sent c before
+            (record {
+              master = d.master;
+              up = up_back s (hs ++ new) old now device (sym same) d.up;
+              begun = d.begun;
+              reached = reaches_back s (hs ++ new) old now device _ (sym same) d.reached;
+            }))
+        | inr is ↦ absurd cc
+      ];
+      emitted = λ c there reach. let x = r.emitted c there reach in (x.0, shown_still hs front back new now w _ p x.1);
+      has_sent = λ z i c is. elim (one_of now front back new w z p i) [
+        | inl y ↦ Contains-append_left node.done add (sending c) (r.has_sent y.0 y.1 c (sym (body_plain z y.0 y.2) ∙ is))
+        | inr here ↦ absurd (never_five (kinds.Sent device c) z (omega arith) here is)
+      ];
+      has_emitted = λ z i c verdict is. elim (one_of now front back new w z p i) [
+        | inl y ↦ r.has_emitted y.0 y.1 c verdict (sym (body_plain z y.0 y.2) ∙ is)
+        | inr here ↦ absurd (never_five (kinds.Compressed device c.opened c.at c.cycle c.members verdict) z (omega arith) here is)
+      ];
+      frames = λ z i c verdict is. elim (one_of now front back new w z p i) [
+        | inl y ↦
+            let f = r.frames y.0 y.1 c verdict (sym (body_plain z y.0 y.2) ∙ is) in
+            record { clusters = f.clusters; are = f.are; cluster = f.cluster; there = f.there; is = f.is }
+        | inr here ↦ absurd (never_five (kinds.Compressed device c.opened c.at c.cycle c.members verdict) z (omega arith) here is)
+      ];
+      of_now = λ z i. (put_now s hs front back new now device node w work p z i).0;
+      dispatched = λ other from with number d there.
+          let x = dispatches_same s (hs ++ new) old now device other from with number (sym same) d in
+          elim (Contains-push_cases node.done (dispatching row cycle) (dispatching (record { 0 = d.place }) number) there) [
+            | inl before ↦
+                shown_still hs front back new now w _ p (r.dispatched other from with number x.0
+                (subst (λ (n : ℕ). Contains node.done (dispatching (let q : RowId = record { 0 = n } in q) number)) (sym x.1) before))
+            | inr is ↦
+                let at : row.0 ≡ d.place = row_of row d.place cycle number is in
+                let cycles : cycle ≡ number = cc in
+                shown_now hs front back new now w _ p
+                (tells ∙ told_alike s old device now link other cause from vl with cycle number law.rules own x.0 (place ∙ at ∙ sym x.1) cycles)
+          ];
+      has_dispatched = λ z i other from with number d is.
+          let x = dispatches_same s (hs ++ new) old now device other from with number (sym same) d in
+          elim (one_of now front back new w z p i) [
+            | inl y ↦
+                Contains-append_left node.done add (dispatching (record { 0 = d.place }) number)
+                (subst (λ (n : ℕ). Contains node.done (dispatching (let q : RowId = record { 0 = n } in q) number)) x.1
+                (r.has_dispatched y.0 y.1 other from with number x.0 (sym (body_plain z y.0 y.2) ∙ is)))
+            | inr here ↦
+                let one = one_told s old device now link other cause from vl with cycle number law own x.0 (sym tells ∙ sym (body_plain z w here) ∙ is) in
+                let at : row.0 ≡ d.place = sym place ∙ one.0 ∙ x.1 in
+                subst (λ (n : ℕ). Contains (node.done ++ add) (dispatching (let q : RowId = record { 0 = n } in q) number)) at
+                (subst (λ (n : ℕ). Contains (node.done ++ add) (dispatching row n)) one.1 (Contains-push node.done (dispatching row cycle)))
+          ];
+      ordered = λ z i c verdict is d waits due. elim (one_of now front back new w z p i) [
+        | inl y ↦
+            r.ordered y.0 y.1 c verdict (sym (body_plain z y.0 y.2) ∙ is) d (waiting_alike s.network device node after d refl (λ x there. there) waits) due
+        | inr here ↦ absurd (never_five (kinds.Compressed device c.opened c.at c.cycle c.members verdict) z (omega arith) here is)
+      ];
+    }
+  where
+    row_of : (row : RowId) (place m n : ℕ) → dispatching row m ≡ dispatching (record { 0 = place }) n → row.0 ≡ place
+    row_of row place m n e = cc
+
+-- the node that has dispatched, among the records with its own
+pub has_dispatched_it : {M : Type 0} (stands : M → Network → DeviceId → Node → Type 0) (s : Scenario) (hs front back : List Happening) (mark cursor : List ℕ)
+    (now : ℕ) (device : DeviceId) (machine then_ : M) (node after : Node) (row : RowId) (entry : Entry) (cause cycle : ℕ)
+    → Stage stands s hs (front ++ back) mark cursor now device machine node
+    → IsFirstTask s.network device node (moment_of s device now).reading.0 (doing (dispatching row cycle))
+    → IsActOf s.network device node (moment_of s device now) (acts.Dispatch row cycle) after
+    → after ≡ called (moment_of s device now) acting (with_done node (dispatching row cycle)) → stands then_ s.network device after
+    → IsEntry s.network row.0 entry → HasAtHand s.network hs device entry now cause cycle
+    → HasSentIt stands s hs (put_at hs front (record_of s.network hs front now (dispatch_body s device now entry.row.link cause entry.row.vl cycle)) back) now
+    device then_ node after
+has_dispatched_it stands s hs front back mark cursor now device machine then_ node after row entry cause cycle st first act is stood entered hand =
+    let link = entry.row.link in
+    let vl = entry.row.vl in
+    let body = dispatch_body s device now link cause vl cycle in
+    let w = record_of s.network hs front now body in
+    let new = put_at hs front w back in
+    let moment = moment_of s device now in
+    let high = dispatch_late s device now link cause vl cycle in
+    let p = as_put hs front back now w refl (omega (arith, high)) in
+    let may = may_act_now s device node now st.work.ready st.steady st.limit in
+    let ready = ready_after s device node after now (acts.Dispatch row cycle) st.work.ready st.steady st.precise st.wide may act (ap (λ (n : Node). n.last) is)
+    in
+    let there = called moment acting (with_done node (dispatching row cycle)) in
+    let whole = dispatches_it s hs (front ++ back) (front ++ back) now device node row entry cause cycle st.work (λ z i. (st.work.of_now z i).0)
+    first.pending first.due entered hand in
+    let work : IsAtWork s hs new now device there = dispatches_on s hs front back new now device node w row cycle moment st.work p
+    (none_heard_by s device device now link cause vl cycle w) (none_moved s device device now link cause vl cycle) first.due
+    (subst (λ (n : Node). IsReadyAt (s.reading device) s.network device n now) is ready) in
+    let told : AreRecorded s (hs ++ new) new now device there =
+    dispatched_recorded s hs front back new now device node w row link cause vl cycle moment st.work st.recorded p refl st.lawful whole.0 whole.1 in
+    let cleared : HasCleared there = λ n has. elim (Contains-push_cases node.done (dispatching row cycle) (correcting n) has) [
+      | inl old ↦ st.cleared n old
+      | inr e ↦ absurd cc
+    ] in
+    record {
+      is = stood;
+      work = subst (λ (n : Node). IsAtWork s hs new now device n) (sym is) work;
+      recorded = subst (λ (n : Node). AreRecorded s (hs ++ new) new now device n) (sym is) told;
+      cleared = subst HasCleared (sym is) cleared;
+      taken = ap (λ (n : Node). n.taken) is
+          ∙ taken_then stands s hs front back mark cursor now device machine node w st refl (none_taken s device device now link cause vl cycle);
+      phase = ap (λ (n : Node). n.phase) is;
+    }

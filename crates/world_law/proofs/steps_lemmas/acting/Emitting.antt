@@ -1,0 +1,224 @@
+-- A compression master that has emitted, and has not joined by its own frame, is at work still.
+use Rattle.world_law.proofs.steps_lemmas.Words.{◌++◌, ◌+◌, ◌<ℤ◌, ◌∙◌, ◌∷◌, ◌≡◌, ◌≤ℤ◌, ◌≤◌, AreClusters, AreRecorded, Bool, Channel, Compressed}
+use Rattle.world_law.proofs.steps_lemmas.Words.{Contains-append_left, Contains-push, Contains-push_cases, DeviceId, Happening, HasDoneFrom, Hearing, IsAlike}
+use Rattle.world_law.proofs.steps_lemmas.Words.{IsFirstTask, IsFrameOf, IsIn, IsReadyAt, Judgement, List, Moment, Network, Node, None, Option, Pcf, RowId}
+use Rattle.world_law.proofs.steps_lemmas.Words.{Scenario, Some, Units, [], acting, amount, ap, append-nil, arith, called, cases_lt, changed_at, cons_option}
+use Rattle.world_law.proofs.steps_lemmas.Words.{dispatch_body, dispatch_late, dispatches_same, dispatching, emitting, false, hearing_by, if◌then◌else◌, inl}
+use Rattle.world_law.proofs.steps_lemmas.Words.{inr, moves, observation_window, option_map, option_map_or, option_to_list, plain_body, pos, rank, reaches_back}
+use Rattle.world_law.proofs.steps_lemmas.Words.{refl, ripe_as, self, sending, subst, sym, true, undone_alike, up_back, value_of, waiting_alike, ℕ, ℤ}
+use Rattle.world_law.proofs.steps_lemmas.acting.GoesOn.{IsPutAs, body_plain, earlier_put, goes_on, left_on, one_of, put_now, shown_now, shown_still}
+use Rattle.world_law.proofs.steps_lemmas.acting.{Stays.{IsSameBut, heard_by_these}, Work.IsAtWork}
+use Rattle.std.proofs.Common.{Contains}
+use Rattle.run_law.specs.{machines.Answers.{after_emission, hearings}, records.Frames.integration_frame, scenario.Devices.channel_of}
+use Rattle.run_law.specs.declared.judgement.Judgement.TheVariants as judgements
+use Rattle.run_law.specs.declared.note.NoteBody.TheVariants as kinds
+
+-- ---- what it hears of its own frame
+
+-- the hearing of a frame, if it is one, by a channel, if there is one
+abbrev heard_of : Option Channel → Units → Bool → Option Pcf → Option Hearing
+heard_of channel point within frame =
+    option_map (λ (c : Channel). let h : Hearing = record {
+      channel = c;
+      frame = record {
+        cycle = option_map_or (λ f. f.cycle) frame 0;
+        members = record { 0 = option_map_or (λ f. f.members.0) frame 0 };
+        point = point;
+      };
+      within = within;
+    } in h) channel
+
+heard_within : (network : Network) (device : DeviceId) (w : Happening) (sent : Compressed)
+    → w.frame ≡ Some (integration_frame network device sent.cycle sent.members)
+    → option_to_list (hearing_by network device w (kinds.Compressed device sent.opened sent.at sent.cycle sent.members judgements.Within)) ≡ hearings
+    (channel_of network device) sent.cycle sent.members sent.at true
+heard_within network device w sent of_frame =
+    ap (λ (b : Bool). option_to_list (if b then heard_of (channel_of network device) sent.at true w.frame else None)) (self device)
+    ∙ ap (λ (o : Option Pcf). option_to_list (heard_of (channel_of network device) sent.at true o)) of_frame
+
+heard_outside : (network : Network) (device : DeviceId) (w : Happening) (sent : Compressed)
+    → w.frame ≡ Some (integration_frame network device sent.cycle sent.members)
+    → option_to_list (hearing_by network device w (kinds.Compressed device sent.opened sent.at sent.cycle sent.members judgements.Outside)) ≡ hearings
+    (channel_of network device) sent.cycle sent.members sent.at false
+heard_outside network device w sent of_frame =
+    ap (λ (b : Bool). option_to_list (if b then heard_of (channel_of network device) sent.at false w.frame else None)) (self device)
+    ∙ ap (λ (o : Option Pcf). option_to_list (heard_of (channel_of network device) sent.at false o)) of_frame
+
+pub none_heard : (s : Scenario) (device : DeviceId) (zs : List Happening) → ((z : Happening) → IsIn z zs → hearing_by s.network device z z.note.body ≡ None)
+    → heard_by_these s device zs ≡ []
+none_heard s device [] all = refl
+none_heard s device (z ∷ zs) all =
+    ap (λ (o : Option Hearing). cons_option o (heard_by_these s device zs)) (all z (inl refl)) ∙ none_heard s device zs (λ y i. all y (inr i))
+
+-- ---- an emission, by which it does not join
+
+-- the device stays as it is but for what it hears
+abbrev pub StaysBy : Judgement → Type 0
+StaysBy judgements.Within = Unit {0}
+StaysBy judgements.Outside = Unit {0}
+StaysBy judgements.Ignored = Unit {0}
+StaysBy other = ⊥
+
+-- the device after it
+abbrev pub node_emitted : Network → DeviceId → Node → Moment → Compressed → Judgement → Node
+node_emitted network device node moment sent v = called moment acting (after_emission network device node moment sent (ripe_as v))
+
+-- what counts of it
+pub record IsEmitted (network : Network) (device : DeviceId) (node after : Node) (w : Happening) (sent : Compressed) : Type 0 where
+  pub but : IsSameBut node after
+  pub done : after.done ≡ node.done
+  pub taken : after.taken ≡ node.taken
+  pub emitted : after.emitted ≡ node.emitted ++ sent ∷ []
+  pub heard : after.heard ≡ node.heard ++ option_to_list (hearing_by network device w w.note.body)
+  pub still : moves device w.note.body ≡ false
+
+pub is_emitted : (network : Network) (device : DeviceId) (node : Node) (moment : Moment) (w : Happening) (sent : Compressed) (v : Judgement) → StaysBy v
+    → w.note.body ≡ kinds.Compressed device sent.opened sent.at sent.cycle sent.members v
+    → w.frame ≡ Some (integration_frame network device sent.cycle sent.members)
+    → IsEmitted network device node (node_emitted network device node moment sent v) w sent
+is_emitted network device node moment w sent judgements.Within stays e of_frame = grind (arith, heard_within, option_to_list, hearing_by, moves)
+is_emitted network device node moment w sent judgements.Outside stays e of_frame = grind (arith, heard_outside, option_to_list, hearing_by, moves)
+is_emitted network device node moment w sent judgements.Ignored stays e of_frame = grind (arith, append-nil, option_to_list, hearing_by, moves)
+is_emitted network device node moment w sent judgements.Opened stays e of_frame = absurd stays
+is_emitted network device node moment w sent judgements.Joined stays e of_frame = absurd stays
+is_emitted network device node moment w sent judgements.Repeat stays e of_frame = absurd stays
+is_emitted network device node moment w sent judgements.Integrates stays e of_frame = absurd stays
+
+alike_by : (network : Network) (device : DeviceId) (node after : Node) (w : Happening) (sent : Compressed) → IsEmitted network device node after w sent
+    → IsAlike node after
+alike_by network device node after w sent x = grind arith
+
+done_alike : (network : Network) (reading : ℕ → ℕ) (device : DeviceId) (node after : Node) (changed low high : ℕ) → IsAlike node after
+    → after.done ≡ node.done → HasDoneFrom network reading device node changed low high → HasDoneFrom network reading device after changed low high
+done_alike network reading device node after changed low high a done has = record {
+  undone = λ deed u x from lt.
+      subst (λ st. pos (reading x) <ℤ (Rattle.std.proofs.Common.◌-ℤ◌ (value_of network deed) st.adjustment.0)) (sym a.standing)
+      (has.undone deed (undone_alike network device node after deed a u) x from lt);
+  done = λ deed there.
+      let x = has.done deed (subst (λ l. Contains l deed) done there) in (
+        x.0,
+        x.1,
+        x.2,
+        subst (λ st. Rattle.std.proofs.Common.◌-ℤ◌ (value_of network deed) st.adjustment.0 ≤ℤ pos (reading x.0)) (sym a.standing) x.3,
+      );
+}
+
+-- it emits: how it stands
+pub emits_on : (s : Scenario) (hs front back new : List Happening) (now : ℕ) (device : DeviceId) (node after : Node) (w : Happening) (sent : Compressed)
+    → IsAtWork s hs (front ++ back) now device node → IsPutAs now front back new w → IsEmitted s.network device node after w sent
+    → ((z : Happening) → IsIn z back → hearing_by s.network device z z.note.body ≡ None)
+    → sent.at.0 ≤ℤ pos (s.reading device now) → IsReadyAt (s.reading device) s.network device after now → IsAtWork s hs new now device after
+emits_on s hs front back new now device node after w sent work p x none due ready =
+    goes_on s hs front back new now device node after w work p
+    (left_on s hs front back new now device node after w work p x.but x.still x.heard (inr (none_heard s device back none))) x.still
+    (done_alike s.network (s.reading device) device node after (changed_at (hs ++ (front ++ back)) device now) now (now + 1)
+    (alike_by s.network device node after w sent x) x.done work.done)
+    (record {
+      unsent = λ c u y lt. work.sent.unsent c
+          (waiting_alike s.network device node after c x.but.points (λ d there. subst (λ l. Contains l d) (sym x.emitted)
+          (Contains-append_left node.emitted (sent ∷ []) d there)) u) y lt;
+      sent = λ c there. elim (Contains-push_cases node.emitted sent c (subst (λ l. Contains l c) x.emitted there)) [
+        | inl old ↦ work.sent.sent c old
+        | inr e ↦ (now, omega arith, subst (λ (d : Compressed). d.at.0 ≤ℤ pos (s.reading device now)) e due)
+      ];
+    }) ready
+
+one_compressed : (a b : Compressed) → a.opened ≡ b.opened → a.at ≡ b.at → a.cycle ≡ b.cycle → a.members ≡ b.members → a ≡ b
+one_compressed a b o t c m =
+    grind arith
+
+pub same_compressed : (device : DeviceId) (a b : Compressed) (v u : Judgement)
+    → kinds.Compressed device a.opened a.at a.cycle a.members v ≡ kinds.Compressed device b.opened b.at b.cycle b.members u → a ≡ b
+same_compressed device a b v u e =
+    grind (arith, one_compressed)
+
+-- and the records tell what it has emitted
+pub emitted_recorded : (s : Scenario) (hs front back new : List Happening) (now : ℕ) (device : DeviceId) (node after : Node) (w : Happening) (sent : Compressed)
+    (v : Judgement)
+    → IsAtWork s hs (front ++ back) now device node → AreRecorded s (hs ++ (front ++ back)) (front ++ back) now device node → IsPutAs now front back new w
+    → IsEmitted s.network device node after w sent → w.note.body ≡ kinds.Compressed device sent.opened sent.at sent.cycle sent.members v
+    → IsFirstTask s.network device node (pos (s.reading device now)) (emitting sent)
+    → AreRecorded s (hs ++ new) new now device after
+emitted_recorded s hs front back new now device node after w sent v work r p x e first =
+    let old = hs ++ (front ++ back) in
+    let same = earlier_put s hs front back new now device node w work p in
+    let tells : plain_body w.note.body ≡ kinds.Compressed device sent.opened sent.at sent.cycle sent.members v = ap plain_body e in
+    record {
+      sent = λ c there d.
+          shown_still hs front back new now w (kinds.Sent device c) p
+          (r.sent c (subst (λ l. Contains l (sending c)) x.done there)
+          (record {
+            master = d.master;
+            up = up_back s (hs ++ new) old now device (sym same) d.up;
+            begun = d.begun;
+            reached = reaches_back s (hs ++ new) old now device _ (sym same) d.reached;
+          }));
+      emitted = λ c there reach. elim (Contains-push_cases node.emitted sent c (subst (λ l. Contains l c) x.emitted there)) [
+        | inl before ↦ let y = r.emitted c before reach in (y.0, shown_still hs front back new now w _ p y.1)
+        | inr is ↦ (
+          v,
+          shown_now hs front back new now w (kinds.Compressed device c.opened c.at c.cycle c.members v) p
+              (tells ∙ ap (λ (d : Compressed). kinds.Compressed device d.opened d.at d.cycle d.members v) is),
+        )
+      ];
+      has_sent = λ z i c is. elim (one_of now front back new w z p i) [
+        | inl y ↦ subst (λ l. Contains l (sending c)) (sym x.done) (r.has_sent y.0 y.1 c (sym (body_plain z y.0 y.2) ∙ is))
+        | inr here ↦
+            let bodies : kinds.Compressed device sent.opened sent.at sent.cycle sent.members v ≡ kinds.Sent device c = sym tells ∙ sym (body_plain z w here)
+            ∙ is in
+            absurd cc
+      ];
+      has_emitted = λ z i c verdict is. subst (λ l. Contains l c) (sym x.emitted) (elim (one_of now front back new w z p i) [
+        | inl y ↦ Contains-append_left node.emitted (sent ∷ []) c (r.has_emitted y.0 y.1 c verdict (sym (body_plain z y.0 y.2) ∙ is))
+        | inr here ↦
+            let one = same_compressed device sent c v verdict (sym tells ∙ sym (body_plain z w here) ∙ is) in
+            subst (λ (d : Compressed). Contains (node.emitted ++ sent ∷ []) d) one (Contains-push node.emitted sent)
+      ]);
+      frames = λ z i c verdict is.
+          let of_points : IsFrameOf s.network node c = elim (one_of now front back new w z p i) [
+            | inl y ↦ r.frames y.0 y.1 c verdict (sym (body_plain z y.0 y.2) ∙ is)
+            | inr here ↦
+                let one = same_compressed device sent c v verdict (sym tells ∙ sym (body_plain z w here) ∙ is) in
+                let q = first.pending.1 in
+                subst (λ (d : Compressed). IsFrameOf s.network node d) one
+                (let f : IsFrameOf s.network node sent = record { clusters = q.clusters; are = q.are; cluster = q.cluster; there = q.there; is = q.is } in f)
+          ] in
+          record {
+            clusters = of_points.clusters;
+            are = subst (λ ps. AreClusters (observation_window s.network) ps of_points.clusters) (sym x.but.points) of_points.are;
+            cluster = of_points.cluster;
+            there = of_points.there;
+            is = of_points.is;
+          };
+      of_now = λ z i. (put_now s hs front back new now device node w work p z i).0;
+      dispatched = λ link cause vl c d there.
+          let q = dispatches_same s (hs ++ new) old now device link cause vl c (sym same) d in
+          let before = subst (λ l. Contains l (dispatching (record { 0 = d.place }) c)) x.done there in
+          shown_still hs front back new now w _ p (r.dispatched link cause vl c q.0
+          (subst (λ (n : ℕ). Contains node.done (dispatching (let row : RowId = record { 0 = n } in row) c)) (sym q.1) before));
+      has_dispatched = λ z i link cause vl c d is.
+          let q = dispatches_same s (hs ++ new) old now device link cause vl c (sym same) d in
+          elim (one_of now front back new w z p i) [
+            | inl y ↦
+                subst (λ l. Contains l (dispatching (record { 0 = d.place }) c)) (sym x.done)
+                (subst (λ (n : ℕ). Contains node.done (dispatching (let row : RowId = record { 0 = n } in row) c)) q.1
+                (r.has_dispatched y.0 y.1 link cause vl c q.0 (sym (body_plain z y.0 y.2) ∙ is)))
+            | inr here ↦
+                let high = dispatch_late s device now link cause vl c in
+                let four : rank (dispatch_body s device now link cause vl c) ≡ 4 = ap rank (sym is ∙ body_plain z w here ∙ tells) in
+                absurd (omega (arith, high, four))
+          ];
+      ordered = λ z i c verdict is d waits due.
+          let waited = waiting_alike s.network device node after d x.but.points (λ y there. subst (λ l. Contains l y) (sym x.emitted)
+          (Contains-append_left node.emitted (sent ∷ []) y there)) waits in
+          elim (one_of now front back new w z p i) [
+            | inl y ↦ r.ordered y.0 y.1 c verdict (sym (body_plain z y.0 y.2) ∙ is) d waited due
+            | inr here ↦
+                let one = same_compressed device sent c v verdict (sym tells ∙ sym (body_plain z w here) ∙ is) in
+                let le : amount sent.opened ≤ amount d.opened = elim (cases_lt (amount d.opened) (amount sent.opened)) [
+                  | inr ge ↦ ge
+                  | inl lt ↦ absurd (first.first (emitting d) (first.pending.0, waited) due (inr (refl, inl lt)))
+                ] in
+                subst (λ (k : Compressed). amount k.opened ≤ amount d.opened) one le
+          ];
+    }

@@ -1,0 +1,83 @@
+-- A frame that a switch dispatches is stored: it is that of the last record by which the switch took one.
+use Rattle.world_law.proofs.{rows.AtHand.{IsReaching, at_hand, filter_earlier, taken_sooner}, steps_lemmas.acting.{Stage.Stage, Work.reaches}}
+use Rattle.world_law.proofs.rows.Reached.{IsForwarded}
+use Rattle.world_law.proofs.steps_lemmas.Words.{◌++◌, ◌+◌, ◌≡◌, ◌≤ℤ◌, ◌≤◌, Bool, DeviceId, Entry, Happening, HasAtHand, IsIn, IsPending, List, Network, Node}
+use Rattle.world_law.proofs.steps_lemmas.Words.{None, Reaches, RowId, Scenario, Some, VlId, amount, ap, arith, by_number, dispatching, doing, earlier}
+use Rattle.world_law.proofs.steps_lemmas.Words.{earlier_still, filter, in_left, inl, inr, is_accepted, last_in, last_or, numbered, option_map_or, pos}
+use Rattle.world_law.{proofs.steps_lemmas.Words.{reading_for, subst, suc, sym, value_is, zero, ℕ, ℤ}, specs.world.World.{AreStored, Stored, last_taking}}
+use Rattle.std.proofs.Common.{◌*◌}
+use Rattle.run_law.{proofs.law.FirstPlaces.in_filter, specs.{machines.Tasks.HasFrame, records.Happenings.octets_from}}
+use Rattle.run_law.specs.timed.Dispatching.{HasAccepted, last_accepted}
+
+-- the switch holds the frame of the entry's virtual link, and it is at hand by the record of its number
+pub record IsHeldFrame (s : Scenario) (hs : List Happening) (stored : List Stored) (now : ℕ) (device : DeviceId) (entry : Entry) (cycle : ℕ) : Type 0 where
+  pub there : (e : Stored) × IsIn e stored × (e.device ≡ device) × (e.vl ≡ entry.row.vl)
+  pub hand : (e : Stored) → IsIn e stored → e.device ≡ device → e.vl ≡ entry.row.vl → HasAtHand s.network hs device entry now e.number cycle
+  pub some : (e : Stored) → IsIn e stored → e.device ≡ device → e.vl ≡ entry.row.vl → 1 ≤ e.number
+  pub octets : (e : Stored) → IsIn e stored → e.device ≡ device → e.vl ≡ entry.row.vl → e.octets ≡ octets_from hs e.number
+
+-- a number of a record is not 0
+numbered_some : (hs : List Happening) (n : ℕ) (h : Happening) → numbered hs n ≡ Some h → 1 ≤ n
+numbered_some hs zero h e = absurd cc
+numbered_some hs (suc n) h e = omega arith
+
+-- what is stored of it is of the last taking
+stored_of : (hs : List Happening) (stored : List Stored) (device : DeviceId) (vl : VlId) (taking : Happening) (e : Stored) → AreStored hs stored
+    → last_taking hs device vl ≡ Some taking → IsIn e stored → e.device ≡ device → e.vl ≡ vl
+    → (e.number ≡ taking.note.number) × (e.octets ≡ taking.octets)
+stored_of hs stored device vl taking e are last there of_device of_vl =
+    grind arith
+
+-- a switch that has to dispatch a row of which it is not the sender holds its frame
+pub held_frame : {M : Type 0} (stands : M → Network → DeviceId → Node → Type 0) (s : Scenario) (hs coming : List Happening) (mark cursor : List ℕ) (now : ℕ)
+    (device : DeviceId) (machine : M) (node : Node) (row : RowId) (cycle : ℕ) (stored : List Stored)
+    → Stage stands s hs coming mark cursor now device machine node → AreStored hs stored
+    → (p : IsPending s.network device node (doing (dispatching row cycle)))
+    → reading_for s.network node (doing (dispatching row cycle)) ≤ℤ pos (s.reading device now)
+    → (p.1.own.1.entry.vl.sender ≡ device → ⊥) → IsHeldFrame s hs stored now device p.1.own.1.entry cycle
+held_frame stands s hs coming mark cursor now device machine node row cycle stored st are p due other =
+    let has : HasFrame s.network device node row cycle = p.1.own.1 in
+    let entry = has.entry in
+    let reached : Reaches s (hs ++ coming) device (pos (cycle * amount s.network.cycle + amount entry.row.offset)) now =
+    subst (λ (z : ℤ). Reaches s (hs ++ coming) device z now) (value_is s.network row entry cycle has.is)
+    (reaches s hs coming now device node (dispatching row cycle) st.work p.1 due) in
+    let r : IsReaching s (hs ++ coming) device node row entry cycle now = grind (arith, has.is, has.leaves, reached) in
+    let f : IsForwarded s.network device row.0 entry = record { is = has.is; leaves = has.leaves; other = other } in
+    let hand = at_hand s (hs ++ coming) device node row cycle now has r in
+    by r f hand.0 hand.1
+  where
+    by : IsReaching s (hs ++ coming) device node row p.1.own.1.entry cycle now → IsForwarded s.network device row.0 p.1.own.1.entry → (cause : ℕ)
+        → HasAtHand s.network (hs ++ coming) device p.1.own.1.entry now cause cycle → IsHeldFrame s hs stored now device p.1.own.1.entry cycle
+    by r f cause (inl sender) = absurd (other sender.0)
+    by r f cause (inr took) =
+        let entry = p.1.own.1.entry in
+        let vl = entry.row.vl in
+        let accepted : Happening → Bool = λ h. is_accepted device vl h.note.body in
+        let same : earlier now (hs ++ coming) ≡ earlier now hs =
+        earlier_still now hs coming (λ z i. let at = (st.work.of_now z i).0 in omega (arith, at)) in
+        let taken = took.1.taken in
+        let last : last_accepted hs device vl now ≡ Some taken =
+        subst (λ (w : List Happening). last_or None (filter accepted w) ≡ Some taken) same took.1.last in
+        let all : filter accepted (earlier now hs) ≡ filter accepted hs =
+        filter_earlier accepted now hs (λ h i e. taken_sooner s (hs ++ coming) device node row entry cycle now r f h (in_left h hs coming i) e) in
+        let taking : last_taking hs device vl ≡ Some taken = subst (λ (w : List Happening). last_or None w ≡ Some taken) all last in
+        let there : IsIn taken hs = grind (arith, last_in, filter, accepted, taken, taking, in_filter) in
+        let number = by_number s hs taken st.given there in
+        let found = are.all device vl taken taking in
+        record {
+          there = found;
+          hand = λ e i of_device of_vl.
+              let accepted : HasAccepted hs device vl now e.number cycle = record {
+                taken = taken;
+                last = last;
+                number = (stored_of hs stored device vl taken e are taking i of_device of_vl).0;
+                link = took.1.link;
+                from = took.1.from;
+                is = took.1.is;
+              } in
+              inr (took.0, accepted);
+          some = λ e i of_device of_vl.
+              subst (λ (n : ℕ). 1 ≤ n) (sym (stored_of hs stored device vl taken e are taking i of_device of_vl).0)
+              (numbered_some hs taken.note.number taken number);
+          octets = grind (arith, stored_of, vl, taken, taking, option_map_or, numbered, number);
+        }

@@ -1,0 +1,111 @@
+-- A device that is kept and has something due at the present instant is at work.
+use Rattle.world_law.proofs.{rows.Dispatching.dispatches_so, steps_lemmas.acting.Work.{IsAtWork, at_correction, emits, not_over, own_judgement, reaches, sends}}
+use Rattle.world_law.proofs.runs.Agreement.{in_earlier, last_within}
+use Rattle.world_law.proofs.steps_lemmas.Words.{◌++◌, ◌+◌, ◌∙◌, ◌∷◌, ◌≡◌, ◌≤ℤ◌, ◌≤◌, ◌⊎◌, AreSettled, Compressed, DeviceId, Happening, HasDoneFrom, HasSentFrom}
+use Rattle.world_law.proofs.steps_lemmas.Words.{HasTaskBy, IsActing, IsBefore, IsIn, IsKept, IsLawful, IsLeft, IsOwnSource, IsPending, Judgement, List, Network}
+use Rattle.world_law.proofs.steps_lemmas.Words.{Node, None, NoteBody, Scenario, Task, [], act_place, ap, append-nil, arith, changed_at, changes_adjustment}
+use Rattle.world_law.proofs.steps_lemmas.Words.{correcting, dispatches_back, dispatching, doing, earlier, earlier_still, emitting, filter, frames_taken, inl}
+use Rattle.world_law.proofs.steps_lemmas.Words.{inr, members_in, parted, plain_body, pos, rank, reading_for, refl, sending, subst, sym, time_of, ℕ}
+use Rattle.run_law.proofs.law.FirstPlaces.{in_filter}
+use Rattle.run_law.specs.declared.note.NoteBody.TheVariants as kinds
+
+-- the last change before the next unit of time is not after this one
+pub changed_soon : (hs : List Happening) (device : DeviceId) (now : ℕ) → changed_at hs device (now + 1) ≤ now
+changed_soon hs device now =
+    last_within None (filter (λ h. changes_adjustment device h.note.body) (earlier (now + 1) hs)) now tt
+    (λ h i. let lt = in_earlier (now + 1) hs h (in_filter _ (earlier (now + 1) hs) h i) in omega (arith, lt))
+
+-- how a device stands that is kept, and has something due, is not that its instant is over
+pub up_now : {M : Type 0} (stands : M → Network → DeviceId → Node → Type 0) (s : Scenario) (hs coming : List Happening) (cursor : List ℕ) (now : ℕ)
+    (device : DeviceId) (machine : M) (k : IsKept stands s hs coming cursor now device machine) → HasTaskBy s device k.node now
+    → (k.up ≡ now) × (IsBefore (act_place now device) cursor → IsActing s hs now device → ⊥)
+up_now stands s hs coming cursor now device machine k due = elim k.acted [
+  | inl yet ↦ yet
+  | inr over ↦
+      absurd (not_over s (hs ++ coming) device now k.high k.node
+      (subst (λ (n : ℕ). HasDoneFrom s.network (s.reading device) device k.node (changed_at (hs ++ coming) device n) n k.high) over.0 k.done)
+      (subst (λ (n : ℕ). HasSentFrom s device k.node n k.high) over.0 k.sent)
+      (changed_soon (hs ++ coming) device now) due)
+]
+
+-- ---- own records
+
+pub plain_sent : (device : DeviceId) (cycle : ℕ) (body : NoteBody) → plain_body body ≡ kinds.Sent device cycle → body ≡ kinds.Sent device cycle
+plain_sent device cycle (kinds.State other state cause why) e = absurd cc
+plain_sent device cycle body e = e
+
+pub plain_compressed : (device : DeviceId) (c : Compressed) (verdict : Judgement) (body : NoteBody)
+    → plain_body body ≡ kinds.Compressed device c.opened c.at c.cycle c.members verdict → body ≡ kinds.Compressed device c.opened c.at c.cycle c.members verdict
+plain_compressed device c verdict (kinds.State other state cause why) e = absurd cc
+plain_compressed device c verdict body e = e
+
+-- no such record is to come where the acts of the device are neither worked off nor taken up
+pub none_of_it : (s : Scenario) (hs coming : List Happening) (mark cursor : List ℕ) (now : ℕ) (device : DeviceId) → AreSettled s hs coming mark cursor now
+    → (IsBefore (act_place now device) cursor → ⊥) → (act_place now device ≡ cursor → ⊥) → (z : Happening) → IsIn z coming → (body : NoteBody)
+    → z.note.body ≡ body → ((hs : List Happening) (t members : ℕ) (w : List ℕ) → IsOwnSource s hs t members body w → w ≡ t ∷ 4 ∷ device.0 ∷ []) → ⊥
+none_of_it s hs coming mark cursor now device are waits not_at z i body e source =
+    grind (arith, parted, time_of, members_in, act_place)
+
+-- ---- it is at work
+
+pub at_work : {M : Type 0} (stands : M → Network → DeviceId → Node → Type 0) (s : Scenario) (hs coming : List Happening) (cursor : List ℕ) (now : ℕ)
+    (device : DeviceId) (machine : M) (k : IsKept stands s hs coming cursor now device machine) → ((z : Happening) → IsIn z coming → time_of z ≡ now)
+    → ((h : Happening) → IsIn h (hs ++ coming) → time_of h ≤ now) → ((z : Happening) → IsIn z coming → 4 ≤ rank z.note.body)
+    → k.up ≡ now → IsAtWork s hs coming now device k.node
+at_work stands s hs coming cursor now device machine k of past late up =
+    let js = hs ++ coming in
+    let high : (k.high ≡ now) ⊎ (k.high ≡ now + 1) = elim k.doing [ inl e ↦ inl (e ∙ up) | inr d ↦ inr d.1 ] in
+    let few : k.high ≤ now + 1 = elim high [ inl e ↦ omega (arith, e) | inr e ↦ omega (arith, e) ] in
+    let done : HasDoneFrom s.network (s.reading device) device k.node (changed_at js device now) now k.high =
+    subst (λ (n : ℕ). HasDoneFrom s.network (s.reading device) device k.node (changed_at js device n) n k.high) up k.done in
+    record {
+      left = subst (λ (n : ℕ). IsLeft s js device n k.node) up k.left;
+      done = record {
+        undone = done.undone;
+        done = λ deed there. let x = done.done deed there in (x.0, x.1, omega (arith, x.2, few), x.3);
+      };
+      sent = record {
+        unsent = λ c w x lt. k.sent.unsent c w x (omega (arith, lt, up));
+        sent = λ c there. let x = k.sent.sent c there in (x.0, omega (arith, x.1, few), x.2);
+      };
+      ready = k.ready;
+      still = k.still up;
+      past = past;
+      of_now = λ z i. (of z i, late z i);
+      sound = k.sound;
+    }
+
+-- ---- its acts are not worked off
+
+-- a task that is due is an act
+pub task_acts : (s : Scenario) (hs coming : List Happening) (now : ℕ) (device : DeviceId) (node : Node) (task : Task) → IsLawful s (hs ++ coming) device
+    → node.taken ≡ frames_taken s (hs ++ coming) device
+    → IsAtWork s hs coming now device node → IsPending s.network device node task → reading_for s.network node task ≤ℤ pos (s.reading device now)
+    → IsActing s hs now device
+task_acts s hs coming now device node (emitting c) law taken w p due =
+    subst (λ (l : List Happening). IsActing s l now device) (append-nil hs)
+    (IsActing.emitting c (own_judgement s.network device node c) (emits s hs coming [] coming now device node c w refl p due))
+task_acts s hs coming now device node (doing (sending cycle)) law taken w p due =
+    subst (λ (l : List Happening). IsActing s l now device) (append-nil hs)
+    (IsActing.sending cycle (sends s hs coming [] now device node cycle w (λ z i. absurd i) p due))
+task_acts s hs coming now device node (doing (correcting cycle)) law taken w p due =
+    subst (λ (l : List Happening). IsActing s l now device) (append-nil hs)
+    (IsActing.correcting cycle (at_correction s hs coming [] now device node cycle w (λ z i. absurd i) p due))
+task_acts s hs coming now device node (doing (dispatching row cycle)) law taken w p due =
+    let frame = p.1.own.1 in
+    let d = dispatches_so s (hs ++ coming) device now node row cycle law w.past taken
+    (record { synchronised = sym w.left.state ∙ p.1.own.0; correct = w.sound })
+    frame (reaches s hs coming now device node (dispatching row cycle) w p.1 due) in
+    IsActing.dispatching frame.entry.row.link d.0 frame.entry.row.vl cycle
+    (dispatches_back s (hs ++ coming) hs now device frame.entry.row.link d.0 frame.entry.row.vl cycle
+    (earlier_still now hs coming (λ z i. let at = (w.of_now z i).0 in omega (arith, at))) d.2)
+
+-- so the acts of the device are not worked off
+pub acts_wait : {M : Type 0} (stands : M → Network → DeviceId → Node → Type 0) (s : Scenario) (hs coming : List Happening) (cursor : List ℕ) (now : ℕ)
+    (device : DeviceId) (machine : M) (k : IsKept stands s hs coming cursor now device machine) (task : Task) → IsLawful s (hs ++ coming) device
+    → ((z : Happening) → IsIn z coming → time_of z ≡ now)
+    → ((h : Happening) → IsIn h (hs ++ coming) → time_of h ≤ now) → ((z : Happening) → IsIn z coming → 4 ≤ rank z.note.body)
+    → IsPending s.network device k.node task → reading_for s.network k.node task ≤ℤ pos (s.reading device now) → IsBefore (act_place now device) cursor → ⊥
+acts_wait stands s hs coming cursor now device machine k task law of past late pending due b =
+    let up = up_now stands s hs coming cursor now device machine k (task, pending, due) in
+    up.1 b (task_acts s hs coming now device k.node task law k.taken (at_work stands s hs coming cursor now device machine k of past late up.0) pending due)

@@ -1,0 +1,198 @@
+-- Each device when the outcomes of the events of an instant are settled.
+use Rattle.world_law.proofs.{acts.Dispatched.{dispatch_told, send_apart}, steps_lemmas.befalling.{CalmTakings.taken_calm, UnderWay.{IsTelling, goes_on}}}
+use Rattle.world_law.proofs.acts.Recorded.{first_recorded}
+use Rattle.world_law.proofs.steps_lemmas.Words.{◌++◌, ◌==◌, ◌∙◌, ◌∷◌, ◌≡◌, ◌≤◌, AreOfNetwork, Befell, Compressed, DeviceId, Dispatches, Happening, HasDoneFrom}
+use Rattle.world_law.proofs.steps_lemmas.Words.{HasSentFrom, IsAtRest, IsBefore, IsDue, IsFounded, IsHeld, IsIn, IsKept, IsLeft, IsOfThisTime, IsSendLost}
+use Rattle.world_law.proofs.steps_lemmas.Words.{IsTurnedOnBy, Judgement, LinkId, List, Network, Node, None, NoteBody, Scenario, VlId, [], act_place}
+use Rattle.world_law.proofs.steps_lemmas.Words.{adjustment_after, ap, append-nil, arith, behind, cases_Bool, cause_of, changed_at, changes_adjustment}
+use Rattle.world_law.proofs.steps_lemmas.Words.{dispatch_body, dispatches_back, earlier, earlier_still, false, filter, frames_taken, in_parts, in_right, inl}
+use Rattle.world_law.proofs.steps_lemmas.Words.{inr, is_broken, is_turned_on_at, last_or, moves, never_self, numbered_in, option_map_or, place_of, plain_body}
+use Rattle.world_law.proofs.steps_lemmas.{Words.{refl, state_after, subst, sym, time_of, true, up_to, ℕ}, befalling.Told.{event_due, on_by_record}}
+use Rattle.world_law.proofs.steps_lemmas.befalling.{Bodies.{IsOutcome, calm_outcome}, Calm.{adjustment_unmoved, left_all_calm, state_unmoved}}
+use Rattle.net_plan.proofs.SameIds.{alike}
+use Rattle.net_plan.specs.declared.event.What.TheVariants as events
+use Rattle.run_law.specs.declared.note.NoteBody.TheVariants as kinds
+
+-- what is to come, and where a sound device is turned on, its record
+pub record AreToldOf (s : Scenario) (hs coming : List Happening) (cursor : List ℕ) (now : ℕ) (befell : List Befell) : Type 0 where
+  pub telling : IsTelling hs cursor now befell
+  pub founded : IsFounded place_of (IsDue s) hs
+  pub at : (z : Happening) → IsIn z coming → time_of z ≡ now
+  pub out : (z : Happening) → IsIn z coming → IsOutcome s hs now z.note.body
+  pub turned : (device : DeviceId) → is_turned_on_at s device now ≡ true → is_broken s device now ≡ false → IsTurnedOnBy coming device now
+
+-- ---- what such a record says of a device
+
+-- the device of which it speaks is turned on by an event
+on_so : (s : Scenario) (hs : List Happening) (now n line : ℕ) (d : DeviceId) (h : Happening) → IsFounded place_of (IsDue s) hs
+    → (it : IsOfThisTime hs now n h)
+    → h.note.body ≡ kinds.Event line (events.On d) → is_turned_on_at s d now ≡ true
+on_so s hs now n line d h founded it is =
+    on_by_record s h.note.time line now d (event_due s hs h line (events.On d) founded (numbered_in hs n h it.there) is) it.same_time
+
+pub rest_outcome : (s : Scenario) (hs : List Happening) (now : ℕ) (device : DeviceId) (body : NoteBody) → IsFounded place_of (IsDue s) hs
+    → IsOutcome s hs now body → IsAtRest s device now body
+rest_outcome s hs now device body founded (IsOutcome.losing d link n it) = inl refl
+rest_outcome s hs now device body founded (IsOutcome.turning d n line h sound it is) =
+    elim (cases_Bool (device.0 == d.0)) [
+      | inr other ↦ inl other
+      | inl same ↦ inr (
+        same,
+        ap (λ (x : DeviceId). is_turned_on_at s x now) (alike device d same) ∙ on_so s hs now n line d h founded it is,
+      )
+    ]
+
+-- it does not move a broken one
+out_unmoved : (s : Scenario) (hs : List Happening) (now : ℕ) (device : DeviceId) (body : NoteBody) → is_broken s device now ≡ true → IsOutcome s hs now body
+    → moves device body ≡ false
+out_unmoved s hs now device body broken (IsOutcome.losing d link n it) = refl
+out_unmoved s hs now device body broken (IsOutcome.turning d n line h sound it is) =
+    grind (arith, cases_Bool, is_broken, alike)
+
+-- nor one that no event turns on
+off_unmoved : (s : Scenario) (hs : List Happening) (now : ℕ) (device : DeviceId) (body : NoteBody) → IsFounded place_of (IsDue s) hs
+    → is_turned_on_at s device now ≡ false → IsOutcome s hs now body → moves device body ≡ false
+off_unmoved s hs now device body founded off (IsOutcome.losing d link n it) = refl
+off_unmoved s hs now device body founded off (IsOutcome.turning d n line h sound it is) =
+    elim (cases_Bool (device.0 == d.0)) [
+      | inr other ↦ other
+      | inl same ↦
+          absurd (let bad : false ≡ true = sym off ∙ ap (λ (x : DeviceId). is_turned_on_at s x now) (alike device d same)
+          ∙ on_so s hs now n line d h founded it is in cc)
+    ]
+
+pub known_told : (s : Scenario) (hs coming : List Happening) (cursor : List ℕ) (now : ℕ) (befell : List Befell) → AreToldOf s hs coming cursor now befell
+    → AreOfNetwork s (hs ++ []) → AreOfNetwork s (hs ++ coming)
+known_told s hs coming cursor now befell m known = record {
+  unmoved = λ device le h i. elim (in_parts h hs coming i) [
+    | inl old ↦ known.unmoved device le h (subst (λ (l : List Happening). IsIn h l) (sym (append-nil hs)) old)
+    | inr new ↦ off_unmoved s hs now device h.note.body m.founded (known.never_on device le now) (m.out h new)
+  ];
+  never_on = known.never_on;
+}
+
+-- nor does it tell of a dispatch
+no_dispatch : (s : Scenario) (hs : List Happening) (now : ℕ) (device : DeviceId) (link : LinkId) (cause : ℕ) (vl : VlId) (cycle : ℕ) (body : NoteBody)
+    → IsFounded place_of (IsDue s) hs → IsOutcome s hs now body → Dispatches s hs device now link cause vl cycle
+    → plain_body body ≡ dispatch_body s device now link cause vl cycle → ⊥
+no_dispatch s hs now device link cause vl cycle body founded (IsOutcome.turning d n line h sound it is) disp e =
+    elim (dispatch_told s device now link cause vl cycle (kinds.State d Rattle.sync_state.specs.declared.state.State.TheVariants.Integrating n
+    Rattle.run_law.specs.declared.judgement.Why.TheVariants.On) e) [ inl lost ↦ absurd cc | inr sent ↦ absurd cc ]
+no_dispatch s hs now device link cause vl cycle body founded (IsOutcome.losing d other n it) disp e =
+    elim (dispatch_told s device now link cause vl cycle (kinds.Lost d other n) e) [
+      | inr sent ↦ absurd cc
+      | inl lost ↦
+          let same : n ≡ cause = ap cause_of lost in
+          let by : d ≡ device = lost_device d device other link n cause lost in
+          send_apart s hs hs device now other link cause vl cycle founded (λ h there. there)
+          (subst (λ (x : DeviceId). IsSendLost s hs x now other cause) by (subst (λ (c : ℕ). IsSendLost s hs d now other c) same it)) disp
+    ]
+  where
+    lost_device : (d e : DeviceId) (l k : LinkId) (m n : ℕ) → kinds.Lost d l m ≡ kinds.Lost e k n → d ≡ e
+    lost_device d e l k m n same = cc
+
+-- ---- a sound device
+
+-- it is none of its sendings, and none of its frames
+no_sending : (s : Scenario) (hs : List Happening) (now : ℕ) (device : DeviceId) (cycle : ℕ) (body : NoteBody) → IsOutcome s hs now body
+    → plain_body body ≡ kinds.Sent device cycle → ⊥
+no_sending s hs now device cycle body (IsOutcome.losing d link n it) e = absurd cc
+no_sending s hs now device cycle body (IsOutcome.turning d n line h sound it is) e = absurd cc
+
+no_frame : (s : Scenario) (hs : List Happening) (now : ℕ) (device : DeviceId) (c : Compressed) (verdict : Judgement) (body : NoteBody)
+    → IsOutcome s hs now body → plain_body body ≡ kinds.Compressed device c.opened c.at c.cycle c.members verdict → ⊥
+no_frame s hs now device c verdict body (IsOutcome.losing d link n it) e = absurd cc
+no_frame s hs now device c verdict body (IsOutcome.turning d n line h sound it is) e = absurd cc
+
+not_past_acts : (now : ℕ) (device : DeviceId) → IsBefore (act_place now device) (behind (now ∷ 2 ∷ [])) → ⊥
+not_past_acts now device (inl lt) = omega (arith, lt)
+not_past_acts now device (inr (e, inl lt)) = omega (arith, lt)
+not_past_acts now device (inr (e, inr (two, b))) = omega (arith, two)
+
+early_not : (hs : List Happening) (cursor : List ℕ) (now : ℕ) (befell : List Befell) → IsTelling hs cursor now befell → IsBefore (now ∷ 2 ∷ []) cursor → ⊥
+early_not hs cursor now befell m b = never_self (now ∷ 2 ∷ []) (m.untold.early refl (now ∷ 2 ∷ []) b)
+
+past_told : (hs : List Happening) (cursor : List ℕ) (now : ℕ) (befell : List Befell) → IsTelling hs cursor now befell → (h : Happening) → IsIn h hs
+    → time_of h ≤ now
+past_told hs cursor now befell m h i = elim (m.sooner h i) [ inl lt ↦ omega (arith, lt) | inr it ↦ let at = it.0 in omega (arith, at) ]
+
+kept_told : {M : Type 0} (stands : M → Network → DeviceId → Node → Type 0) (s : Scenario) (hs coming : List Happening) (cursor : List ℕ) (now : ℕ)
+    (befell : List Befell) (device : DeviceId) (machine : M) → AreToldOf s hs coming cursor now befell
+    → IsKept stands s hs [] cursor now device machine → IsKept stands s hs coming (behind (now ∷ 2 ∷ [])) now device machine
+kept_told stands s hs coming cursor now befell device machine m k =
+    let on = goes_on hs cursor now befell m.telling in
+    let at_now : k.up ≡ now = elim k.acted [
+      | inl yet ↦ yet.0
+      | inr over ↦ absurd (early_not hs cursor now befell m.telling (over.1 (now ∷ 2 ∷ []) (inr (refl, inl (omega arith)))))
+    ] in
+    let same : (t : ℕ) → t ≤ now → earlier t (hs ++ []) ≡ earlier t (hs ++ coming) = λ t le. ap (earlier t) (append-nil hs)
+    ∙ sym (earlier_still t hs coming (λ z i. let of = m.at z i in omega (arith, of, le))) in
+    let up_le : k.up ≤ now = omega (arith, at_now) in
+    let left_so : IsLeft s (hs ++ coming) device k.up k.node =
+    left_all_calm s hs coming device k.up k.node (λ z i. let of = m.at z i in omega (arith, of, at_now))
+    (λ z i. calm_outcome s hs now z.note.body (m.out z i)) (subst (λ (l : List Happening). IsLeft s l device k.up k.node) (append-nil hs) k.left) in
+    let done_so : HasDoneFrom s.network (s.reading device) device k.node (changed_at (hs ++ coming) device k.up) k.up k.high =
+    subst (λ (n : ℕ). HasDoneFrom s.network (s.reading device) device k.node n k.up k.high)
+    (ap (λ (l : List Happening). option_map_or time_of (last_or None (filter (λ h. changes_adjustment device h.note.body) l)) 0) (same k.up up_le)) k.done in
+    let high_now : k.high ≡ now = elim k.doing [
+      | inl e ↦ e ∙ at_now
+      | inr d ↦ absurd (early_not hs cursor now befell m.telling (d.2 (now ∷ 2 ∷ []) (inr (refl, inl (omega arith)))))
+    ] in
+    record {
+      node = k.node;
+      is = k.is;
+      sound = k.sound;
+      up = k.up;
+      acted = inl (at_now, λ b a. not_past_acts now device b);
+      high = k.high;
+      doing = elim k.doing [
+        | inl e ↦ inl e
+        | inr d ↦ absurd (early_not hs cursor now befell m.telling (d.2 (now ∷ 2 ∷ []) (inr (refl, inl (omega arith)))))
+      ];
+      told = λ over. absurd (omega (arith, at_now, over));
+      left = left_so;
+      done = done_so;
+      sent = k.sent;
+      taken =
+          k.taken ∙ ap (λ (l : List Happening). frames_taken s l device) (append-nil hs)
+          ∙ sym (taken_calm s hs coming device now (past_told hs cursor now befell m.telling)
+          (λ z i. let of = m.at z i in omega (arith, of)) (λ z i. calm_outcome s hs now z.note.body (m.out z i)));
+      bare = k.bare;
+      ready = k.ready;
+      still = λ up h i at. elim (in_parts h hs coming i) [
+        | inl old ↦ k.still up h (subst (λ (l : List Happening). IsIn h l) (sym (append-nil hs)) old) at
+        | inr new ↦ rest_outcome s hs now device h.note.body m.founded (m.out h new)
+      ];
+      turned = λ on_now.
+          let was = k.turned on_now in
+          let it = m.turned device on_now k.sound in
+          record {
+            off = ap (λ (l : List Happening). state_after s l device) (sym (same now (omega arith))) ∙ was.off;
+            number = was.number;
+            event = was.event;
+            befell = was.befell;
+            turned = λ b. record { by = it.by; there = in_right it.by hs coming it.there; at = it.at; turning = it.turning };
+          };
+      cleared = k.cleared;
+      recorded = λ same_up.
+          first_recorded s (hs ++ coming) coming now device k.node (subst (λ (n : ℕ). IsLeft s (hs ++ coming) device n k.node) at_now left_so)
+          (subst (λ (n : ℕ). HasDoneFrom s.network (s.reading device) device k.node (changed_at (hs ++ coming) device n) n now) at_now
+          (subst (λ (n : ℕ). HasDoneFrom s.network (s.reading device) device k.node (changed_at (hs ++ coming) device k.up) k.up n) high_now done_so))
+          (subst (λ (n : ℕ). HasSentFrom s device k.node n now) at_now (subst (λ (n : ℕ). HasSentFrom s device k.node k.up n) high_now k.sent))
+          (λ z i cycle e. no_sending s hs now device cycle z.note.body (m.out z i) e)
+          (λ z i c verdict e. no_frame s hs now device c verdict z.note.body (m.out z i) e) m.at
+          (λ z i link cause vl cycle d e.
+          no_dispatch s hs now device link cause vl cycle z.note.body m.founded (m.out z i)
+          (dispatches_back s (hs ++ coming) hs now device link cause vl cycle
+          (earlier_still now hs coming (λ x j. let of = m.at x j in omega (arith, of))) d) e);
+      phase = λ at p b. on p (k.phase at p b);
+    }
+
+-- ---- and each
+
+pub held_told : {M : Type 0} (stands : M → Network → DeviceId → Node → Type 0) (s : Scenario) (hs coming : List Happening) (cursor : List ℕ) (now : ℕ)
+    (befell : List Befell) (device : DeviceId) (machine : M) → AreToldOf s hs coming cursor now befell
+    → IsHeld stands s hs [] cursor now device machine → IsHeld stands s hs coming (behind (now ∷ 2 ∷ [])) now device machine
+held_told stands s hs coming cursor now befell device machine m (inl k) = inl (kept_told stands s hs coming cursor now befell device machine m k)
+held_told stands s hs coming cursor now befell device machine m (inr k) =
+    grind (arith, moves, out_unmoved, state_after, up_to, append-nil, state_unmoved, adjustment_after, adjustment_unmoved, goes_on)

@@ -1,0 +1,94 @@
+-- A machine acts several times at one moment, and comes to an end.
+use Rattle.world_law.proofs.{growing.Acts.{acts_are_few, may_act_then, one_more_act}, steps_lemmas.{growing.FromZero.kept_from_zero, hearing.Calling.may_call}}
+use Rattle.world_law.proofs.{rows.Dispatching.lawful, steps_lemmas.{Words.{sym, ℕ}, steps.Passed.no_task}}
+use Rattle.world_law.proofs.steps_lemmas.Words.{◌++◌, ◌+◌, ◌^◌, ◌∙◌, ◌∷◌, ◌≡◌, ◌≤◌, DeviceId, IsBefore, IsHeld, IsReadyAt, IsSteady, Joining, List, MayCall}
+use Rattle.world_law.proofs.steps_lemmas.Words.{Network, Node, NoteBody, Phase, Ripe, Scenario, State, Units, Verdict, [], acting, amount, arith, arriving}
+use Rattle.world_law.proofs.steps_lemmas.Words.{cases_lt, chain, happenings, inl, inr, length, length-append, moment_of, rank_of_call, refl, ripening, subst}
+use Rattle.world_law.specs.steps.{Acting.{correction_bodies, first_bodies, joining_bodies}, Repeating.{ActsAddUp, ActsAreBounded, ActsBringFew, NoActYet}}
+use Rattle.run_law.specs.machines.Nodes.{turning_on}
+use Rattle.run_law.specs.declared.steps.Act.TheVariants as acts
+use Rattle.run_law.specs.declared.steps.Ripe.TheVariants as ripe
+use Rattle.sync_state.specs.declared.answers.Verdict.TheVariants as verdicts
+
+pub no_act_yet : {M : Type 0} (stands : M → Network → DeviceId → Node → Type 0) → NoActYet stands
+no_act_yet stands network device moment machine node is may = ([], node, refl, refl, is)
+
+pub acts_add_up : {M : Type 0} (stands : M → Network → DeviceId → Node → Type 0) → ActsAddUp stands
+acts_add_up stands network device moment result times old mid new range rules before due once node is may =
+    let so = before node is may in
+    let may_now = may_act_then network device moment node so.0 so.1 range rules may so.3 in
+    let then_is = once so.1 so.4 may_now (due so.1 so.4) in
+    let many = so.2 in
+    let counted : length (so.0 ++ result ∷ []) ≡ length so.0 + 1 = length-append so.0 (result ∷ []) in (
+      so.0 ++ result ∷ [],
+      then_is.0,
+      omega (arith, many, counted),
+      one_more_act network device moment node so.1 so.0 result then_is.0 so.3 then_is.1,
+      then_is.2,
+    )
+
+-- ---- a machine of a world
+
+up_to_acting : (phase : Phase) → rank_of_call phase ≤ 4
+up_to_acting turning_on = omega arith
+up_to_acting arriving = omega arith
+up_to_acting ripening = omega arith
+up_to_acting acting = omega arith
+
+not_behind : (now : ℕ) (more : List ℕ) → IsBefore (now ∷ 4 ∷ more) (now ∷ 4 ∷ []) → ⊥
+not_behind now more (inl lt) = omega (arith, lt)
+not_behind now more (inr (e, inl lt)) = omega (arith, lt)
+not_behind now more (inr (e, inr (f, b))) = b
+
+-- a device that is ready may act
+pub may_act_now : (s : Scenario) (now : ℕ) (device : DeviceId) (node : Node) → IsReadyAt (s.reading device) s.network device node now
+    → IsSteady (s.reading device) (amount s.network.precision) → now ≤ 2 ^ 60 → MayCall s.network device node (moment_of s device now) acting
+may_act_now s now device node ready steady limit =
+    grind (arith, may_call, acting, cases_lt, rank_of_call, chain, up_to_acting, not_behind)
+
+pub acts_are_bounded : {C M : Type 0} (reading : C → ℕ → ℕ) (stands : M → Network → DeviceId → Node → Type 0) → ActsAreBounded reading stands
+acts_are_bounded {C} {M} reading stands s world notes device machine new times old of_it there due so =
+    let held = old.devices device of_it in
+    let one : held.0 ≡ machine = (let same = sym held.1 ∙ there in cc) in
+    by (subst (λ (m : M). IsHeld stands s (happenings s.network notes) old.coming old.cursor world.now device m) one held.2)
+  where
+    by : IsHeld stands s (happenings s.network notes) old.coming old.cursor world.now device machine → times ≤ 259
+    by (inr k) =
+        let has = due k.node k.is in
+        absurd (no_task s.network device k.node has.0 k.shows has.1)
+    by (inl k) =
+        let may = may_act_now s world.now device k.node k.ready (old.steady device) old.limit in
+        let law = lawful reading stands s world notes old device in
+        let zero_on = kept_from_zero stands s (happenings s.network notes) old.coming old.cursor world.now device machine k law in
+        let chain_of = so k.node k.is may in
+        let few = acts_are_few s.network device (moment_of s device world.now) k.node chain_of.0 chain_of.1 old.range old.rules zero_on may chain_of.3 in
+        let many = chain_of.2 in
+        omega (arith, few, many)
+
+-- ---- what an act brings
+
+few_joining : (device : DeviceId) (heard : Ripe) → length (joining_bodies device heard) ≤ 1
+few_joining device ripe.Integrates = omega arith
+few_joining device other = omega arith
+
+few_first : (device : DeviceId) (was : State) → length (first_bodies device was) ≤ 1
+few_first device Joining = omega arith
+few_first device other = omega arith
+
+few_corrected : (device : DeviceId) (was : State) (cycle : ℕ) (adjustment : Units) (verdict : Verdict)
+    → length (correction_bodies device was cycle adjustment verdict) ≤ 2
+few_corrected device was cycle adjustment (verdicts.Corrected by) = let few = few_first device was in omega (arith, few)
+few_corrected device was cycle adjustment verdicts.SyncClique = omega arith
+few_corrected device was cycle adjustment verdicts.AsyncClique = omega arith
+few_corrected device was cycle adjustment verdicts.Cleared = omega arith
+
+of_length : (bodies others : List NoteBody) → bodies ≡ others → length others ≤ 2 → length bodies ≤ 2
+of_length bodies others is few = subst (λ (l : List NoteBody). length l ≤ 2) (sym is) few
+
+pub acts_bring_few : ActsBringFew
+acts_bring_few s hs now device was adjustment (acts.Send frame) bodies are = of_length bodies _ are (omega arith)
+acts_bring_few s hs now device was adjustment (acts.Emit sent heard) bodies are =
+    let few = few_joining device heard in of_length bodies _ are (omega (arith, few))
+acts_bring_few s hs now device was adjustment (acts.Correct cycle verdict) bodies are =
+    of_length bodies (correction_bodies device was cycle adjustment verdict) are (few_corrected device was cycle adjustment verdict)
+acts_bring_few s hs now device was adjustment (acts.Dispatch row cycle) bodies are = of_length bodies _ are.4 (omega arith)

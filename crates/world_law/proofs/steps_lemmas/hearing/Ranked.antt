@@ -1,0 +1,108 @@
+-- What becomes of a frame stands at least at the place of its kind, and what becomes of a control frame does not hang on records of its instant.
+use Rattle.world_law.proofs.steps_lemmas.Words.{◌&&◌, ◌++◌, ◌≡◌, ◌≤◌, Arrival, Bool, DeviceId, Entry, Happening, Integrating, IsIn, LinkId, List, Network, None}
+use Rattle.world_law.proofs.steps_lemmas.Words.{Option, Pcf, PcfRefusal, Reason, Scenario, Signal, Some, Standpoint, VlId, adjustment_after, ap, arith}
+use Rattle.world_law.proofs.steps_lemmas.Words.{arrival_body, arrival_of, control, control_arrival, earlier_still, false, field, frame_fault, frame_or_fault}
+use Rattle.world_law.proofs.steps_lemmas.Words.{if◌then◌else◌, is_broken, is_end, is_off, is_parent_of, is_relay, is_turned_on_at, last_taken, not}
+use Rattle.world_law.proofs.steps_lemmas.Words.{octets_fault, octets_or_fault, rank, standpoint, state_after, subst, time_of, timed, true, ℕ}
+use Rattle.world_law.proofs.steps_lemmas.hearing.Putting.{least_rank}
+use Rattle.run_law.specs.{device.Standpoints.{clock_of, cycle_at}, timed.Arrivals.{entry_arrival, entry_entering, row_fault, taken_or_fault}}
+use Rattle.run_law.specs.declared.steps.Arrival.TheVariants as arrivals
+
+-- ---- ranks
+
+at_two : (device : DeviceId) (link : LinkId) (cause : ℕ) (is : Arrival) → 2 ≤ rank (arrival_body device link cause is)
+at_two device link cause (arrivals.Dropped reason) = omega arith
+at_two device link cause (arrivals.Waits frame point) = omega arith
+at_two device link cause (arrivals.Passes frame way) = omega arith
+at_two device link cause (arrivals.PassesAndWaits frame way point) = omega arith
+at_two device link cause (arrivals.Accepted vl cycle) = omega arith
+at_two device link cause (arrivals.Delivered vl cycle) = omega arith
+
+low_rank : (b : Bool) → (if b then 12 else 11) ≤ 13
+low_rank true = omega arith
+low_rank false = omega arith
+
+taking_rank : (device : DeviceId) (link : LinkId) (cause : ℕ) (vl : VlId) (cycle : ℕ) (b : Bool)
+    → (if b then 12 else 11) ≤ rank (arrival_body device link cause (if b then arrivals.Delivered vl cycle else arrivals.Accepted vl cycle))
+taking_rank device link cause vl cycle true = omega arith
+taking_rank device link cause vl cycle false = omega arith
+
+row_rank : (network : Network) (device : DeviceId) (link : LinkId) (cause : ℕ) (p : Standpoint) (entry : Entry) (fault : Option Reason)
+    → (if is_end network device then 12 else 11) ≤ rank (arrival_body device link cause (taken_or_fault network device p entry fault))
+row_rank network device link cause p entry (Some reason) = low_rank (is_end network device)
+row_rank network device link cause p entry None =
+    taking_rank device link cause entry.row.vl (cycle_at network (clock_of p)) (is_end network device)
+
+entry_rank : (network : Network) (device : DeviceId) (link : LinkId) (cause : ℕ) (p : Standpoint) (size : ℕ) (last : VlId → Option ℕ) (entry : Option Entry)
+    → (if is_end network device then 12 else 11) ≤ rank (arrival_body device link cause (entry_arrival network device p size last entry))
+entry_rank network device link cause p size last None = low_rank (is_end network device)
+entry_rank network device link cause p size last (Some entry) =
+    row_rank network device link cause p entry (row_fault network p entry size (last entry.row.vl))
+
+octets_rank : (network : Network) (device : DeviceId) (link : LinkId) (cause : ℕ) (p : Standpoint) (octets : List ℕ) (last : VlId → Option ℕ)
+    (fault : Option Reason) → (if is_end network device then 12 else 11) ≤ rank
+    (arrival_body device link cause (octets_or_fault network device link p octets last fault))
+octets_rank network device link cause p octets last (Some reason) = low_rank (is_end network device)
+octets_rank network device link cause p octets last None =
+    entry_rank network device link cause p (Rattle.std.specs.Prelude.length octets) last (entry_entering network device link (field 4 2 octets))
+
+-- the rank of what becomes of a signal is not below its least
+pub rank_is : (s : Scenario) (device : DeviceId) (t : ℕ) (link : LinkId) (cause : ℕ) (signal : Signal) (js : List Happening)
+    → least_rank s.network device signal ≤ rank (arrival_body device link cause (arrival_of s js device t link cause signal))
+rank_is s device t link cause (control frame) js = at_two device link cause (control_arrival s.network device link (standpoint s js device t) frame)
+rank_is s device t link cause (timed octets) js =
+    octets_rank s.network device link cause (standpoint s js device t) octets (last_taken js device t link cause)
+    (octets_fault s.network (standpoint s js device t) octets)
+
+-- ---- what is taken
+
+none_by : (a b : Bool) (up down waits : Arrival) (vl : VlId) (cycle : ℕ) → (up ≡ arrivals.Accepted vl cycle → ⊥) → (down ≡ arrivals.Accepted vl cycle → ⊥)
+    → (waits ≡ arrivals.Accepted vl cycle → ⊥) → (if a then (if b then up else down) else waits) ≡ arrivals.Accepted vl cycle → ⊥
+none_by true true up down waits vl cycle x y z e = x e
+none_by true false up down waits vl cycle x y z e = y e
+none_by false b up down waits vl cycle x y z e = z e
+
+none_fault : (network : Network) (device : DeviceId) (link : LinkId) (p : Standpoint) (frame : Pcf) (fault : Option Reason) (vl : VlId) (cycle : ℕ)
+    → frame_or_fault network device link p frame fault ≡ arrivals.Accepted vl cycle → ⊥
+none_fault network device link p frame (Some reason) vl cycle e = cc
+none_fault network device link p frame None vl cycle e =
+    none_by (is_relay network device) (is_parent_of network device link) _ _ _ vl cycle (λ x. cc) (λ x. cc) (λ x. cc) e
+
+none_control : (network : Network) (device : DeviceId) (link : LinkId) (p : Standpoint) (frame : Rattle.std.specs.Prelude.Result Pcf PcfRefusal) (vl : VlId)
+    (cycle : ℕ) → control_arrival network device link p frame ≡ arrivals.Accepted vl cycle → ⊥
+none_control network device link p (Rattle.std.specs.Prelude.Err refusal) vl cycle e = cc
+none_control network device link p (Rattle.std.specs.Prelude.Ok frame) vl cycle e =
+    none_fault network device link p frame (frame_fault network device link p frame) vl cycle e
+
+-- what is accepted is so at a switch
+pub accepted_high : (s : Scenario) (device : DeviceId) (t : ℕ) (link : LinkId) (cause : ℕ) (signal : Signal) (js : List Happening) (vl : VlId) (cycle : ℕ)
+    → arrival_of s js device t link cause signal ≡ arrivals.Accepted vl cycle → (if is_end s.network device then 12 else 11) ≤ 11
+accepted_high s device t link cause (control frame) js vl cycle e =
+    absurd (none_control s.network device link (standpoint s js device t) frame vl cycle e)
+accepted_high s device t link cause (timed octets) js vl cycle e =
+    subst (λ (a : Arrival). (if is_end s.network device then 12 else 11) ≤ rank (arrival_body device link cause a)) e
+    (rank_is s device t link cause (timed octets) js)
+
+pub delivered_high : (network : Network) (device : DeviceId) → (if is_end network device then 12 else 11) ≤ 12
+delivered_high network device = grind (arith, is_end)
+
+-- ---- records of the instant do not change where a device stands
+
+abbrev standpoint_in : Scenario → DeviceId → ℕ → List Happening → Standpoint
+standpoint_in s device t w = record {
+  takes_part = not (is_off (if is_turned_on_at s device t then Integrating else state_after s w device)) && not (is_broken s device t);
+  state = if is_turned_on_at s device t then Integrating else state_after s w device;
+  reading = s.reading device t;
+  adjustment = (adjustment_after s w device).0;
+}
+
+pub standpoint_still : (s : Scenario) (hs zs : List Happening) (device : DeviceId) (t : ℕ) → ((z : Happening) → IsIn z zs → t ≤ time_of z)
+    → standpoint s (hs ++ zs) device t ≡ standpoint s hs device t
+standpoint_still s hs zs device t late = ap (standpoint_in s device t) (earlier_still t hs zs late)
+
+pub control_still : (s : Scenario) (hs zs : List Happening) (device : DeviceId) (t : ℕ) (link : LinkId) (cause : ℕ)
+    (frame : Rattle.std.specs.Prelude.Result Pcf PcfRefusal)
+    → ((z : Happening) → IsIn z zs → t ≤ time_of z)
+    → arrival_of s (hs ++ zs) device t link cause (control frame) ≡ arrival_of s hs device t link cause (control frame)
+control_still s hs zs device t link cause frame late =
+    ap (λ (p : Standpoint). control_arrival s.network device link p frame) (standpoint_still s hs zs device t late)

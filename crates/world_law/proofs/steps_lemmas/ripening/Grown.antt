@@ -1,0 +1,185 @@
+-- A device after a frame that is permanent and tells it no time stands as the records leave it, with that of the frame put in.
+use Rattle.std.proofs.Common.{arith}
+use Rattle.world_law.proofs.{devices.Borne.{cleared_alike, tell_owned}, steps_lemmas.Words.{refl, ripe_as, same_kept, self, since_at, sym, time_of, true, ℕ}}
+use Rattle.world_law.proofs.steps_lemmas.Words.{◌&&◌, ◌++◌, ◌+◌, ◌==◌, ◌||◌, ◌∙◌, ◌∷◌, ◌≡◌, Bool, DeviceId, Happening, Hearing, Integrating, IsIn, IsLeft}
+use Rattle.world_law.proofs.steps_lemmas.Words.{Judgement, LinkId, List, Moment, Network, Node, None, Pcf, Phase, Point, Scenario, Some, Units, []}
+use Rattle.world_law.proofs.steps_lemmas.Words.{adjustment_before, after_last, after_more, after_permanence, ap, append-nil, append_assoc, called, changed_at}
+use Rattle.world_law.proofs.steps_lemmas.Words.{changes_adjustment, channel_of_link, cycle_in, earlier, ends_stretch, false, filter, filter-append, filter_map}
+use Rattle.world_law.proofs.steps_lemmas.Words.{has_cleared, heard_since, hearing_by, if◌then◌else◌, is_cm, is_timed, is_turned_on_at, master_of, members_in}
+use Rattle.world_law.proofs.steps_lemmas.Words.{moves, nat_lt, not, option_map, option_map_or, option_to_list, point_at, point_by, points_of, recorded_cycle}
+use Rattle.world_law.proofs.steps_lemmas.ripening.Merely.{IsMere, maps_one, maps_rest, mere_changes, mere_hears, mere_point, own_skip}
+use Rattle.run_law.specs.{control.Corrections.heard_by, machines.Answers.hearings}
+use Rattle.run_law.specs.declared.judgement.Judgement.TheVariants as judgements
+use Rattle.run_law.specs.declared.note.NoteBody.TheVariants as kinds
+
+-- the device hears what the record has, or nothing
+abbrev pub heard_more : Network → DeviceId → Happening → Node → List Hearing
+heard_more network device w node = node.heard ++ option_to_list (hearing_by network device w w.note.body)
+
+-- the node with one more record that does not move it
+pub record IsGrown (s : Scenario) (device : DeviceId) (w : Happening) (node new : Node) : Type 0 where
+  pub standing : new.standing ≡ node.standing
+  pub changed : new.changed ≡ node.changed
+  pub broken : new.broken ≡ node.broken
+  pub heard : new.heard ≡ heard_more s.network device w node
+  pub points : is_cm s.network device ≡ true → new.points ≡ node.points ++ option_to_list (point_by device w w.note.body)
+
+-- the record is put in before those that are to come, which say nothing to the device but of its state
+pub record IsFirst (s : Scenario) (zs : List Happening) (device : DeviceId) (t : ℕ) (w : Happening) : Type 0 where
+  pub mere : (z : Happening) → IsIn z zs → IsMere device z.note.body
+  pub open_ : is_cm s.network device ≡ true → (z : Happening) → IsIn z zs → ends_stretch device z.note.body ≡ false
+  pub still : moves device w.note.body ≡ false
+  pub unchanged : changes_adjustment device w.note.body ≡ false
+  pub goes_on : ends_stretch device w.note.body ≡ false
+
+abbrev keep : Scenario → List Happening → DeviceId → ℕ → Happening → Bool
+keep s hs device t h = not (has_cleared s hs device t t) || has_cleared s hs device t (time_of h)
+
+changes_at : (device : DeviceId) (t : ℕ) (h : Happening) → changes_adjustment device h.note.body ≡ false
+    → (nat_lt (time_of h) t && changes_adjustment device h.note.body) ≡ false
+changes_at device t h e = Rattle.std.proofs.lemmas.Bool.and_right (nat_lt (time_of h) t) _ e
+
+filter_one : {X : Type 0} (q : X → Bool) (xs zs : List X) (w : X) → q w ≡ true → filter q ((xs ++ w ∷ []) ++ zs) ≡ (filter q xs ++ w ∷ []) ++ filter q zs
+filter_one {X} q xs zs w e =
+    filter-append q (xs ++ w ∷ []) zs
+    ∙ ap (λ (l : List X). l ++ filter q zs) (Rattle.world_law.proofs.lists.Lists.filter_yes q xs w e)
+
+pub heard_grown : (s : Scenario) (hs zs : List Happening) (device : DeviceId) (t : ℕ) (w : Happening) → IsFirst s zs device t w
+    → keep s (hs ++ zs) device t w ≡ true
+    → heard_since s (hs ++ w ∷ zs) device t ≡ heard_since s (hs ++ zs) device t ++ option_to_list (hearing_by s.network device w w.note.body)
+heard_grown s hs zs device t w first kept =
+    let f = λ (h : Happening). hearing_by s.network device h h.note.body in
+    let p = λ (h : Happening). nat_lt (time_of h) t && changes_adjustment device h.note.body in
+    let a = tell_owned s (hs ++ w ∷ zs) (hs ++ zs) device t (own_skip device t hs zs w first.still) in
+    let with_it = keep s (hs ++ w ∷ zs) device t in
+    let without = keep s (hs ++ zs) device t in
+    let same : (h : Happening) → with_it h ≡ without h = grind (arith, not, has_cleared, time_of, cleared_alike, a) in
+    let none : (h : Happening) → IsIn h zs → p h ≡ false = λ h i. changes_at device t h (mere_changes device h.note.body (first.mere h i)) in
+    let silent : (h : Happening) → IsIn h (filter without zs) → f h ≡ None = λ h i.
+    mere_hears s.network device h h.note.body (first.mere h (Rattle.run_law.proofs.law.FirstPlaces.in_filter without zs h i)) in
+    let base = after_last p hs in
+    let since : since_at device t (hs ++ w ∷ zs) ≡ (base ++ w ∷ []) ++ zs =
+    grind (arith, after_last, p, append_assoc, after_more, none, changes_at) in
+    let was : since_at device t (hs ++ zs) ≡ base ++ zs = after_more p hs zs none in
+    ap (filter_map f) (same_kept with_it without (since_at device t (hs ++ w ∷ zs)) (λ h i. same h))
+    ∙ ap (λ (l : List Happening). filter_map f (filter without l)) since
+    ∙ ap (filter_map f) (filter_one without base zs w kept)
+    ∙ maps_rest f (filter without base ++ w ∷ []) (filter without zs) silent
+    ∙ maps_one f (filter without base) w
+    ∙ ap (λ (l : List Hearing). l ++ option_to_list (f w)) (sym (maps_rest f (filter without base) (filter without zs) silent)
+    ∙ ap (filter_map f) (sym (filter-append without base zs)) ∙ ap (λ (l : List Happening). filter_map f (filter without l)) (sym was))
+
+pub points_grown : (s : Scenario) (hs zs : List Happening) (device : DeviceId) (t : ℕ) (w : Happening) → IsFirst s zs device t w → is_cm s.network device ≡ true
+    → points_of (hs ++ w ∷ zs) device ≡ points_of (hs ++ zs) device ++ option_to_list (point_by device w w.note.body)
+points_grown s hs zs device t w first cm =
+    let f = λ (h : Happening). point_by device h h.note.body in
+    let p = λ (h : Happening). ends_stretch device h.note.body in
+    let none : (h : Happening) → IsIn h zs → f h ≡ None = λ h i. mere_point device h h.note.body (first.mere h i) in
+    let base = after_last p hs in
+    ap (filter_map f) (ap (after_last p) (sym (append_assoc hs (w ∷ []) zs)) ∙ after_more p (hs ++ w ∷ []) zs (first.open_ cm)
+    ∙ ap (λ (l : List Happening). l ++ zs) (Rattle.world_law.proofs.lists.Lists.behind_no p hs w first.goes_on))
+    ∙ maps_rest f (base ++ w ∷ []) zs none
+    ∙ maps_one f base w
+    ∙ ap (λ (l : List Point). l ++ option_to_list (f w)) (sym (maps_rest f base zs none) ∙ ap (filter_map f) (sym (after_more p hs zs (first.open_ cm))))
+
+pub left_grown : (s : Scenario) (hs zs : List Happening) (device : DeviceId) (t : ℕ) (w : Happening) (node new : Node) → IsFirst s zs device t w
+    → (is_timed node.standing.state ≡ true → keep s (hs ++ zs) device t w ≡ true)
+    → IsGrown s device w node new → IsLeft s (hs ++ zs) device t node → IsLeft s (hs ++ w ∷ zs) device t new
+left_grown s hs zs device t w node new first kept grown left =
+    let a = tell_owned s (hs ++ zs) (hs ++ w ∷ zs) device t (sym (own_skip device t hs zs w first.still)) in
+    let timed_too : is_timed new.standing.state ≡ true → is_timed node.standing.state ≡ true = λ timed. ap (λ (x : _). is_timed x.state) (sym grown.standing)
+    ∙ timed in
+    record {
+      counted = record {
+        plan = ap (λ (x : _). x.plan) grown.standing ∙ left.counted.plan;
+        adjustment = ap (λ (x : _). x.adjustment) grown.standing ∙ left.counted.adjustment ∙ a.adjustment;
+        integrated = ap (λ (x : _). x.integrated) grown.standing ∙ left.counted.integrated ∙ a.integration;
+        number = grind (arith, timed_too, recorded_cycle, earlier, cleared_alike, a, has_cleared, a.cycle);
+        changed =
+            grind (arith, adjustment_before, a.change, changed_at, a.adjustment);
+        heard = grind (arith, option_to_list, hearing_by, timed_too, heard_grown);
+        started =
+            grind (arith, recorded_cycle, earlier, a.integration, a.cycle);
+        broken = grown.broken ∙ left.counted.broken;
+      };
+      state = ap (λ (x : _). x.state) grown.standing ∙ left.state ∙ ap (λ x. if is_turned_on_at s device t then Integrating else x) a.state;
+      points = λ cm.
+          grown.points cm ∙ ap (λ (l : List Point). l ++ option_to_list (point_by device w w.note.body)) (left.points cm)
+          ∙ sym (points_grown s hs zs device t w first cm);
+    }
+
+-- ---- what the machine makes of the frame
+
+-- how the verdict is, where the device collects, and where it does not
+abbrev pub IsByRole : Bool → Judgement → Type 0
+IsByRole true judgements.Opened = Unit {0}
+IsByRole true judgements.Joined = Unit {0}
+IsByRole true judgements.Repeat = Unit {0}
+IsByRole false judgements.Within = Unit {0}
+IsByRole false judgements.Outside = Unit {0}
+IsByRole false judgements.Ignored = Unit {0}
+IsByRole cm other = ⊥
+
+heard_so : (network : Network) (device : DeviceId) (link : LinkId) (cause : ℕ) (point : Units) (w : Happening) (frame : Pcf) (within : Bool)
+    → w.frame ≡ Some frame
+    → hearings (channel_of_link network link) frame.cycle frame.members point within
+    ≡ option_to_list (if device.0 == device.0 then option_map (λ channel. heard_by channel w point within) (channel_of_link network link) else None)
+heard_so network device link cause point w frame within of_frame =
+    grind (arith, cycle_in, option_map_or, members_in, option_to_list, option_map, channel_of_link, self)
+
+point_so : (device : DeviceId) (link : LinkId) (cause : ℕ) (point : Units) (w : Happening) (frame : Pcf) → w.frame ≡ Some frame
+    → point_at point.0 (master_of frame.members.0) frame.cycle ∷ []
+    ≡ option_to_list (if device.0 == device.0 then Some (point_at point.0 (master_of (members_in w)) (cycle_in w)) else None)
+point_so device link cause point w frame of_frame =
+    grind (arith, cycle_in, option_map_or, members_in, point_at, master_of, option_to_list, self)
+
+-- what the call leaves as it was
+pub record IsSame (node new : Node) : Type 0 where
+  pub standing : new.standing ≡ node.standing
+  pub changed : new.changed ≡ node.changed
+  pub broken : new.broken ≡ node.broken
+  pub taken : new.taken ≡ node.taken
+  pub done : new.done ≡ node.done
+  pub emitted : new.emitted ≡ node.emitted
+
+not_joining : (b : Bool) → IsByRole b judgements.Integrates → ⊥
+not_joining true r = r
+not_joining false r = r
+
+pub same_by_role : (network : Network) (device : DeviceId) (node : Node) (moment : Moment) (phase : Phase) (link : LinkId) (point : Units) (frame : Pcf)
+    (cm : Bool)
+    (verdict : Judgement) → IsByRole cm verdict
+    → IsSame node (called moment phase (after_permanence node moment (channel_of_link network link) frame point (ripe_as verdict)))
+same_by_role network device node moment phase link point frame cm judgements.Integrates r = absurd (not_joining cm r)
+same_by_role network device node moment phase link point frame cm judgements.Opened r = grind arith
+same_by_role network device node moment phase link point frame cm judgements.Joined r = grind arith
+same_by_role network device node moment phase link point frame cm judgements.Repeat r = grind arith
+same_by_role network device node moment phase link point frame cm judgements.Within r = grind arith
+same_by_role network device node moment phase link point frame cm judgements.Outside r = grind arith
+same_by_role network device node moment phase link point frame cm judgements.Ignored r = grind arith
+
+-- its points, where it collects, and where it does not
+pub points_by_role : (network : Network) (device : DeviceId) (node : Node) (moment : Moment) (phase : Phase) (link : LinkId) (point : Units) (frame : Pcf)
+    (verdict : Judgement)
+    → IsByRole true verdict → (called moment phase (after_permanence node moment (channel_of_link network link) frame point (ripe_as verdict))).points
+    ≡ node.points ++ point_at point.0 (master_of frame.members.0) frame.cycle ∷ []
+points_by_role network device node moment phase link point frame judgements.Opened r = refl
+points_by_role network device node moment phase link point frame judgements.Joined r = refl
+points_by_role network device node moment phase link point frame judgements.Repeat r = refl
+points_by_role network device node moment phase link point frame other r = absurd r
+
+pub points_not : (network : Network) (device : DeviceId) (node : Node) (moment : Moment) (phase : Phase) (link : LinkId) (point : Units) (frame : Pcf)
+    (verdict : Judgement)
+    → IsByRole false verdict → (called moment phase (after_permanence node moment (channel_of_link network link) frame point (ripe_as verdict))).points ≡
+    node.points
+points_not network device node moment phase link point frame judgements.Within r = refl
+points_not network device node moment phase link point frame judgements.Outside r = refl
+points_not network device node moment phase link point frame judgements.Ignored r = refl
+points_not network device node moment phase link point frame other r = absurd r
+
+pub is_grown : (s : Scenario) (device : DeviceId) (node : Node) (moment : Moment) (phase : Phase) (w : Happening) (link : LinkId) (cause : ℕ) (point : Units)
+    (frame : Pcf)
+    (verdict : Judgement) → w.frame ≡ Some frame → w.note.body ≡ kinds.Permanent device link cause point verdict → IsByRole (is_cm s.network device) verdict
+    → IsGrown s device w node (called moment phase (after_permanence node moment (channel_of_link s.network link) frame point (ripe_as verdict)))
+is_grown s device node moment phase w link cause point frame verdict of_frame body role =
+    grind (arith, option_to_list, hearing_by, point_by, called, after_permanence, channel_of_link, ripe_as, is_cm, append-nil, heard_so, point_so)

@@ -1,0 +1,394 @@
+-- The device of a frame that is permanent, and tells it no time, is kept.
+use Rattle.world_law.proofs.{acts.Dispatched.{dispatch_told, no_dispatch_told}, steps_lemmas.{hearing.Quiet.frames_placed, ripening.Merely.own_skip}}
+use Rattle.world_law.proofs.{acts.Recorded.first_recorded, devices.{Borne.tell_owned, Plains.changes_at_plain}, rows.Dispatching.whole_founded}
+use Rattle.world_law.proofs.putting.{Bearing.{before_aside, changed_aside, earlier_aside, left_aside, placed_back, still_aside}, Moving.{stays, worked_or_here}}
+use Rattle.world_law.proofs.steps_lemmas.Words.{◌++◌, ◌+ℤ◌, ◌+◌, ◌-ℤ◌, ◌<ℤ◌, ◌<◌, ◌||◌, ◌∙◌, ◌∷◌, ◌≡◌, ◌≤ℤ◌, ◌≤◌, ◌⊎◌, AllByRecursion, AreClusters, Bool}
+use Rattle.world_law.proofs.steps_lemmas.Words.{ClockTask, Compressed, DeviceId, Happening, HasDoneFrom, HasSentFrom, HasTurnedOn, IsAlike, IsAtRest, IsBefore}
+use Rattle.world_law.proofs.steps_lemmas.Words.{IsIn, IsKept, IsLeft, IsMoving, IsNoTaking, IsPending, IsSource, IsWaiting, Judgement, List, Network, Node}
+use Rattle.world_law.proofs.steps_lemmas.Words.{NoteBody, Point, Scenario, Task, Units, Waiting, [], act_place, after_permanence, amount, ap, arith}
+use Rattle.world_law.proofs.steps_lemmas.Words.{before_behind, behind, both_ways, called, chain, changed_at, changes_adjustment, channel_of_link, correcting}
+use Rattle.world_law.proofs.steps_lemmas.Words.{dispatch_body, dispatches_back, doing, earlier, earlier_still, emitting, false, frames_taken, has_cleared}
+use Rattle.world_law.proofs.steps_lemmas.Words.{if◌then◌else◌, inl, inr, ints, is_cm, is_joined_by, is_timed, is_turned_on_at, length, master_of, moment_of}
+use Rattle.world_law.proofs.steps_lemmas.Words.{moves, natural, not, observation_window, placed, plain_body, plains_placed, point_at, pos, raised, rank}
+use Rattle.world_law.proofs.steps_lemmas.Words.{reading_for, refl, ripe_as, ripening, state_after, state_before, subst, sym, taken_in, time_of, told_by_others}
+use Rattle.world_law.proofs.steps_lemmas.{Words.{true, turned_aside, undone_alike, value_of, waiting_alike, ℕ, ℤ}, ripening.Clustered.{old_or_open, open_later}}
+use Rattle.world_law.proofs.steps_lemmas.{acting.Starts.{none_of_it, plain_compressed, plain_sent}, ripening.{Judged.{Hears, cleared_told}, JustTold.IsTold}}
+use Rattle.world_law.proofs.steps_lemmas.ripening.{Coming.{all_late, late_mere, rest_ends}, Ripens.{IsRipe, in_time, not_beyond, ripe_more, sooner_of}}
+use Rattle.world_law.proofs.steps_lemmas.ripening.Grown.{IsByRole, IsFirst, IsSame, is_grown, left_grown, points_by_role, points_not, same_by_role}
+use Rattle.std.proofs.Common.{Contains}
+use Rattle.compression.proofs.Times.{one_list_of_clusters}
+use Rattle.sync_state.specs.Standing.{Standing}
+use Rattle.run_law.specs.declared.note.NoteBody.TheVariants as kinds
+
+-- ---- where it stands before the call
+
+-- a device that stands at this instant: it has not acted, or a frame has told it the time
+pub record IsYet (s : Scenario) (hs coming : List Happening) (mark cursor : List ℕ) (now up high : ℕ) (e : Waiting) : Type 0 where
+  pub rests : high ≡ up
+  pub stands : ((up ≡ now) × (IsBefore (act_place now e.device) cursor → ⊥)) ⊎ ((up ≡ now + 1) × IsTold s hs coming mark cursor now e)
+
+under_act : (now d : ℕ) (more : List ℕ) → IsBefore (now ∷ 3 ∷ more) (now ∷ 4 ∷ d ∷ [])
+under_act now d more = inr (refl, inl (omega arith))
+
+pub is_yet : {M : Type 0} (stands : M → Network → DeviceId → Node → Type 0) (s : Scenario) (hs coming : List Happening) (mark cursor : List ℕ) (now : ℕ)
+    (e : Waiting) (machine : M)
+    → IsRipe s hs coming mark cursor now e → (k : IsKept stands s hs coming cursor now e.device machine) → IsYet s hs coming mark cursor now k.up k.high e
+is_yet stands s hs coming mark cursor now e machine r k =
+    grind (arith, ripe_more, act_place, chain, under_act)
+
+-- ---- its tasks
+
+-- the device after the call has what it had, but for later emissions
+pub record IsCarriedOn (s : Scenario) (e : Waiting) (node new : Node) : Type 0 where
+  pub same : IsSame node new
+  pub waiting : (sent : Compressed) → IsWaiting s.network e.device new sent → IsWaiting s.network e.device node sent ⊎ ((e.point.0 +ℤ pos 1) ≤ℤ sent.at.0)
+  pub bare : is_cm s.network e.device ≡ false → new.points ≡ node.points
+
+alike_of : (node new : Node) → IsSame node new → IsAlike node new
+alike_of node new s = grind arith
+
+task_carried : (s : Scenario) (e : Waiting) (node new : Node) (task : Task) → IsCarriedOn s e node new → IsPending s.network e.device new task
+    → (IsPending s.network e.device node task × (reading_for s.network node task ≡ reading_for s.network new task))
+    ⊎ ((e.point.0 +ℤ pos 1) ≤ℤ reading_for s.network new task)
+task_carried s e node new (emitting sent) c p =
+    elim (c.waiting sent p.1) [ inl old ↦ inl ((sym c.same.broken ∙ p.0, old), refl) | inr later ↦ inr later ]
+task_carried s e node new (doing deed) c p =
+    grind (arith, undone_alike, alike_of, value_of)
+
+pub before_place : (p : List ℕ) (now : ℕ) (more : List ℕ) → IsBefore p (now ∷ 3 ∷ []) → IsBefore p (now ∷ 3 ∷ more)
+before_place [] now more b = tt
+before_place (x ∷ xs) now more (inl lt) = inl lt
+before_place (x ∷ []) now more (inr (e, b)) = inr (e, tt)
+before_place (x ∷ y ∷ ys) now more (inr (e, inl lt)) = inr (e, inl lt)
+before_place (x ∷ y ∷ ys) now more (inr (e, inr b)) = absurd b.1
+
+-- a record of this body tells of no act by which a device sends
+abbrev pub IsNoOwnAct : NoteBody → Type 0
+IsNoOwnAct body = (rank body < 4) ⊎ (10 < rank body)
+
+no_own_sent : (device : DeviceId) (cycle : ℕ) (body : NoteBody) → IsNoOwnAct body → plain_body body ≡ kinds.Sent device cycle → ⊥
+no_own_sent device cycle body other e =
+    let five : rank body ≡ 5 = ap rank (plain_sent device cycle body e) in
+    elim other [ inl low ↦ omega (arith, five, low) | inr high ↦ omega (arith, five, high) ]
+
+no_own_frame : (device : DeviceId) (c : Compressed) (verdict : Judgement) (body : NoteBody) → IsNoOwnAct body
+    → plain_body body ≡ kinds.Compressed device c.opened c.at c.cycle c.members verdict → ⊥
+no_own_frame device c verdict body other e =
+    let four : rank body ≡ 4 = ap rank (plain_compressed device c verdict body e) in
+    elim other [ inl low ↦ omega (arith, four, low) | inr high ↦ omega (arith, four, high) ]
+
+no_own_dispatch : (s : Scenario) (device : DeviceId) (now : ℕ) (link : _) (cause : ℕ) (vl : _) (cycle : ℕ) (body : NoteBody) → IsNoOwnAct body
+    → plain_body body ≡ dispatch_body s device now link cause vl cycle → ⊥
+no_own_dispatch s device now link cause vl cycle body other e = grind (arith, dispatch_told, rank)
+
+-- what is to come then is the record put in, or is as it was
+back_placed : (n now : ℕ) (front back : List Happening) (w z : Happening) → IsNoOwnAct w.note.body → time_of w ≡ now → IsIn z (placed n front w back)
+    → ((y : Happening) × IsIn y (front ++ back) × (plain_body z.note.body ≡ plain_body y.note.body) × (time_of z ≡ time_of y))
+    ⊎ (IsNoOwnAct z.note.body × (time_of z ≡ now))
+back_placed n now front back w z other at i = elim (placed_back n [] front back w z i) [
+  | inl same ↦ inr (subst (λ (h : Happening). IsNoOwnAct h.note.body) (sym same) other, ap time_of same ∙ at)
+  | inr x ↦ inl (x.0, x.1, elim x.2 [ inl e ↦ ap plain_body e | inr e ↦ ap plain_body e ∙ plain_raised n x.0.note.body ], x.3)
+]
+  where
+    plain_raised : (n : ℕ) (body : NoteBody) → plain_body (raised n body) ≡ plain_body body
+    plain_raised n (kinds.State other state cause why) = refl
+    plain_raised n other = refl
+
+-- what is to come once the record is put in, as the device sees it
+pub record IsNext (s : Scenario) (hs coming coming2 : List Happening) (now up : ℕ) (device : DeviceId) (new : Node) : Type 0 where
+  pub left : IsLeft s (hs ++ coming2) device up new
+  pub change : changed_at (hs ++ coming2) device up ≡ changed_at (hs ++ coming) device up
+  pub before : state_before s (hs ++ coming) device now ≡ state_before s (hs ++ coming2) device now
+  pub still : ((h : Happening) → IsIn h (hs ++ coming) → time_of h ≡ now → IsAtRest s device now h.note.body)
+      → (h : Happening) → IsIn h (hs ++ coming2) → time_of h ≡ now → IsAtRest s device now h.note.body
+  pub turned : (cursor : List ℕ) → HasTurnedOn s hs coming cursor device now → HasTurnedOn s hs coming2 cursor device now
+  pub frames : frames_taken s (hs ++ coming) device ≡ frames_taken s (hs ++ coming2) device
+  pub back : (z : Happening) → IsIn z coming2
+      → ((y : Happening) × IsIn y coming × (plain_body z.note.body ≡ plain_body y.note.body) × (time_of z ≡ time_of y))
+      ⊎ (IsNoOwnAct z.note.body × (time_of z ≡ now))
+
+pub turned_on : (s : Scenario) (hs coming : List Happening) (mark cursor : List ℕ) (now : ℕ) (more : List ℕ) (device : DeviceId)
+    → IsMoving s hs coming mark cursor now 3 more → HasTurnedOn s hs coming cursor device now → HasTurnedOn s hs coming (behind (now ∷ 3 ∷ more)) device now
+turned_on s hs coming mark cursor now more device m it = record {
+  off = it.off;
+  number = it.number;
+  event = it.event;
+  befell = it.befell;
+  turned = λ b.
+      elim (worked_or_here s hs coming [] coming mark cursor now 3 more m refl (now ∷ 2 ∷ [])
+      (subst (λ (l : List Happening). IsSource s l (now ∷ 2 ∷ [])) (sym (Rattle.std.proofs.lemmas.List.append-nil hs))
+      (IsSource.following now it.number it.event it.befell)) b) [
+        | inl yet ↦ it.turned yet
+        | inr here ↦ absurd (m.longer here)
+      ];
+}
+
+pub kept_next : {M : Type 0} (stands : M → Network → DeviceId → Node → Type 0) (s : Scenario) (hs coming coming2 : List Happening) (mark cursor : List ℕ)
+    (now : ℕ) (e : Waiting)
+    (machine after : M) (new : Node) (r : IsRipe s hs coming mark cursor now e) (k : IsKept stands s hs coming cursor now e.device machine)
+    → stands after s.network e.device (called (moment_of s e.device now) ripening new)
+    → IsCarriedOn s e k.node (called (moment_of s e.device now) ripening new)
+    → IsNext s hs coming coming2 now k.up e.device (called (moment_of s e.device now) ripening new)
+    → IsKept stands s hs coming2 (behind (now ∷ 3 ∷ ripe_more e)) now e.device after
+kept_next stands s hs coming coming2 mark cursor now e machine after base r k is c n =
+    let m = r.moving in
+    let more = ripe_more e in
+    let new = called (moment_of s e.device now) ripening base in
+    let here = now ∷ 3 ∷ more in
+    let yet = is_yet stands s hs coming mark cursor now e machine r k in
+    let a = alike_of k.node new c.same in
+    let soon = in_time s hs coming mark cursor now e r in
+    let adjusted : new.standing.adjustment ≡ k.node.standing.adjustment = ap (λ (x : Standing). x.adjustment) c.same.standing in
+    let change = n.change in
+    let not_acted : IsBefore (act_place now e.device) cursor → ⊥ = λ b. m.waits (chain here (act_place now e.device) cursor (under_act now e.device.0 more) b)
+    in
+    let times : (z : Happening) → IsIn z coming2 → time_of z ≡ now = λ z i. elim (n.back z i) [ inl y ↦ y.3 ∙ m.are.of_now y.0 y.1 | inr none ↦ none.1 ] in
+    let not_at : act_place now e.device ≡ cursor → ⊥ = λ at. m.waits (subst (λ (q : List ℕ). IsBefore here q) at (under_act now e.device.0 more)) in
+    let done_so : HasDoneFrom s.network (s.reading e.device) e.device new (changed_at (hs ++ coming2) e.device k.up) k.up k.high = record {
+      undone = λ deed u x from lt.
+          subst (λ (z : Units). pos (s.reading e.device x) <ℤ (value_of s.network deed -ℤ z.0)) (sym adjusted)
+          (k.done.undone deed (undone_alike s.network e.device k.node new deed a u) x (omega (arith, from, change)) lt);
+      done = λ deed there.
+          let x = k.done.done deed (subst (λ (l : List ClockTask). Contains l deed) c.same.done there) in (
+            x.0,
+            omega (arith, x.1, change),
+            x.2,
+            subst (λ (z : Units). (value_of s.network deed -ℤ z.0) ≤ℤ pos (s.reading e.device x.0)) (sym adjusted) x.3,
+          );
+    } in
+    let sent_so : HasSentFrom s e.device new k.up k.high = record {
+      unsent = λ sent w x lt. elim (c.waiting sent w) [
+        | inl old ↦ k.sent.unsent sent old x lt
+        | inr later ↦ elim yet.stands [
+          | inl now_is ↦
+              let under = not_beyond s hs coming mark cursor now e r x (let at = now_is.0 in omega (arith, lt, at)) in
+              omega (arith, ints, under, later)
+          | inr over ↦ absurd (both_ways (is_cm s.network e.device) over.1.just.other w.cm)
+        ]
+      ];
+      sent = λ sent there. k.sent.sent sent (subst (λ (l : List Compressed). Contains l sent) c.same.emitted there);
+    } in
+    record {
+      node = new;
+      is = is;
+      sound = k.sound;
+      up = k.up;
+      acted = elim k.acted [
+        | inr over ↦ inr (over.0, λ p b. stays s hs coming mark cursor now 3 more m p (over.1 p b))
+        | inl still ↦
+            inl (
+              still.0,
+              λ b acts.
+                  elim (worked_or_here s hs coming [] coming mark cursor now 3 more m refl (act_place now e.device)
+                  (subst (λ (l : List Happening). IsSource s l (act_place now e.device)) (sym (Rattle.std.proofs.lemmas.List.append-nil hs))
+                  (IsSource.acting now e.device acts)) b) [
+                    | inl was ↦ still.1 was acts
+                    | inr at ↦ (let four : ◌≡◌ {A = ℕ} 4 3 = cc in omega (arith, four))
+                  ],
+            )
+      ];
+      high = k.high;
+      doing = inl yet.rests;
+      told = λ over. elim (k.told over) [
+        | inl past ↦ inl (stays s hs coming mark cursor now 3 more m (act_place now e.device) past)
+        | inr just ↦ inr (record { looking = sym n.before ∙ just.looking; other = just.other })
+      ];
+      left = n.left;
+      taken = c.same.taken ∙ k.taken ∙ n.frames;
+      done = done_so;
+      sent = sent_so;
+      bare = λ other. (c.bare other ∙ (k.bare other).0, c.same.emitted ∙ (k.bare other).1);
+      ready = record {
+        time = omega (arith, ints);
+        begun = omega (arith, ints);
+        last = refl;
+        undone = λ task p x lt. elim (task_carried s e k.node new task c p) [
+          | inl it ↦ subst (λ (z : ℤ). pos (s.reading e.device x) <ℤ z) it.1 (k.ready.undone task it.0 x lt)
+          | inr later ↦ let under = not_beyond s hs coming mark cursor now e r x lt in omega (arith, ints, under, later)
+        ];
+        in_time = λ task p. elim (task_carried s e k.node new task c p) [
+          | inl it ↦ subst (λ (z : ℤ). pos (s.reading e.device now) <ℤ (z +ℤ s.network.precision.0)) it.1 (k.ready.in_time task it.0)
+          | inr later ↦ omega (arith, ints, soon, later)
+        ];
+      };
+      still = λ same. n.still (k.still same);
+      turned = λ on. n.turned (behind here) (turned_on s hs coming mark cursor now more e.device m (k.turned on));
+      cleared = λ cycle there.
+          subst (λ (x : Standing). cycle < x.number) (sym c.same.standing)
+          (k.cleared cycle (subst (λ (l : List ClockTask). Contains l (correcting cycle)) c.same.done there));
+      recorded = λ up.
+          first_recorded s (hs ++ coming2) coming2 now e.device new (subst (λ (n : ℕ). IsLeft s (hs ++ coming2) e.device n new) up n.left)
+          (subst (λ (n : ℕ). HasDoneFrom s.network (s.reading e.device) e.device new (changed_at (hs ++ coming2) e.device n) n now) up
+          (subst (λ (n : ℕ). HasDoneFrom s.network (s.reading e.device) e.device new (changed_at (hs ++ coming2) e.device k.up) k.up n) (yet.rests ∙ up)
+          done_so))
+          (subst (λ (n : ℕ). HasSentFrom s e.device new n now) up (subst (λ (n : ℕ). HasSentFrom s e.device new k.up n) (yet.rests ∙ up) sent_so))
+          (λ z i cycle is_sent. elim (n.back z i) [
+            | inr none ↦ no_own_sent e.device cycle z.note.body none.0 is_sent
+            | inl y ↦
+                none_of_it s hs coming mark cursor now e.device m.are not_acted not_at y.0 y.1 (kinds.Sent e.device cycle)
+                (plain_sent e.device cycle y.0.note.body (sym y.2 ∙ is_sent)) (λ gs t q w own. own)
+          ])
+          (λ z i d verdict is_sent. elim (n.back z i) [
+            | inr none ↦ no_own_frame e.device d verdict z.note.body none.0 is_sent
+            | inl y ↦
+                none_of_it s hs coming mark cursor now e.device m.are not_acted not_at y.0 y.1
+                (kinds.Compressed e.device d.opened d.at d.cycle d.members verdict)
+                (plain_compressed e.device d verdict y.0.note.body (sym y.2 ∙ is_sent)) (λ gs t q w own. own)
+          ])
+          times
+          (λ z i link cause vl cycle d tells. elim (n.back z i) [
+            | inr none ↦ no_own_dispatch s e.device now link cause vl cycle z.note.body none.0 tells
+            | inl y ↦
+                no_dispatch_told s hs coming mark cursor now e.device m.are (whole_founded s hs coming mark cursor now r.run.founded r.run.within m.are)
+                not_acted not_at y.0 y.1 link cause vl cycle
+                (dispatches_back s (hs ++ coming2) (hs ++ coming) now e.device link cause vl cycle
+                (earlier_still now hs coming2 (λ x j. let t = times x j in omega (arith, t))
+                ∙ sym (earlier_still now hs coming (λ x j. let t = m.are.of_now x j in omega (arith, t)))) d)
+                (sym y.2 ∙ tells)
+          ]);
+      phase = λ at p b. chain p here (behind here) (before_place p now more b) (before_behind here);
+    }
+
+-- ---- the frame is dropped, or tells another device something
+
+pub next_aside : (s : Scenario) (n : ℕ) (hs front back : List Happening) (now up : ℕ) (device : DeviceId) (w : Happening) (new : Node)
+    → Rattle.world_law.specs.device.Own.bears_on device w.note.body ≡ false → IsNoTaking device w.note.body → IsNoOwnAct w.note.body → time_of w ≡ now
+    → ((h : Happening) → IsIn h (hs ++ (front ++ back)) → time_of h ≤ time_of w) → IsLeft s (hs ++ (front ++ back)) device up new
+    → IsNext s hs (front ++ back) (placed n front w back) now up device new
+next_aside s n hs front back now up device w new misses none other at sooner left = record {
+  left = left_aside s n hs front back w device up new misses left;
+  change = sym (changed_aside s n hs front back w device up misses);
+  before = before_aside s n hs front back w device now misses;
+  still = still_aside s n hs front back now device w (Rattle.world_law.proofs.devices.Borne.moves_no_other device w.note.body misses);
+  turned = λ cursor it. turned_aside s n hs front back cursor now device w it (earlier_aside s n hs front back w device now misses);
+  frames = frames_placed s n hs front back w device none sooner;
+  back = λ z i. back_placed n now front back w z other at i;
+}
+
+pub carried_called : (s : Scenario) (e : Waiting) (node : Node) (now : ℕ) → IsCarriedOn s e node (called (moment_of s e.device now) ripening node)
+carried_called s e node now = grind (arith, waiting_alike, called, moment_of, ripening)
+
+-- ---- the frame is collected, or heard
+
+all_rec : (P : Point → Type 0) (xs : List Point) → ((x : Point) → IsIn x xs → P x) → AllByRecursion P xs
+all_rec P [] holds = tt
+all_rec P (x ∷ xs) holds = (holds x (inl refl), all_rec P xs (λ y i. holds y (inr i)))
+
+-- an emission of the device with one more point is one of before, or a later one
+with_point_waiting : (s : Scenario) (e : Waiting) (node new : Node) (p : Point) (sent : Compressed) → p.reading ≡ e.point.0 → new.points ≡ node.points ++ p ∷ []
+    → new.emitted ≡ node.emitted → pos 1 ≤ℤ pos (amount s.network.calc) → ((q : Point) → IsIn q node.points → q.reading ≤ℤ e.point.0)
+    → IsWaiting s.network e.device new sent → IsWaiting s.network e.device node sent ⊎ ((e.point.0 +ℤ pos 1) ≤ℤ sent.at.0)
+with_point_waiting s e node new p sent at points emitted some no_later w =
+    let ow = observation_window s.network in
+    let whole : pos 0 ≤ℤ ow = omega (arith, ints) in
+    let old = one_list_of_clusters ow node.points in
+    let up = all_rec (λ q. q.reading ≤ℤ p.reading) node.points (λ q i. let le = no_later q i in omega (arith, ints, le, at)) in
+    elim (old_or_open (length node.points) ow node.points old.0 w.clusters p w.cluster (omega arith) whole up old.1
+    (subst (λ (ps : List Point). AreClusters ow ps w.clusters) points w.are) w.there) [
+      | inl there ↦
+          inl (record {
+            cm = w.cm;
+            clusters = old.0;
+            are = old.1;
+            cluster = w.cluster;
+            there = there;
+            is = w.is;
+            not_yet = λ given. w.not_yet (subst (λ (l : List Compressed). Contains l sent) (sym emitted) given);
+          })
+      | inr open_ ↦
+          let later = open_later ow (pos (amount s.network.calc)) p w.cluster whole open_ in
+          inr (subst (λ (c : Compressed). (e.point.0 +ℤ pos 1) ≤ℤ c.at.0) (sym w.is) (omega (arith, ints, later, at, some)))
+    ]
+
+calc_some : (s : Scenario) (hs coming : List Happening) (mark cursor : List ℕ) (now : ℕ) (e : Waiting) → IsRipe s hs coming mark cursor now e
+    → pos 1 ≤ℤ pos (amount s.network.calc)
+calc_some s hs coming mark cursor now e r =
+    grind (arith, natural, ints)
+
+pub carried_by_role : (s : Scenario) (hs coming : List Happening) (mark cursor : List ℕ) (now : ℕ) (e : Waiting) (node : Node) (verdict : Judgement)
+    → IsRipe s hs coming mark cursor now e → IsByRole (is_cm s.network e.device) verdict
+    → (is_cm s.network e.device ≡ true → (q : Point) → IsIn q node.points → q.reading ≤ℤ e.point.0)
+    → IsCarriedOn s e node (called (moment_of s e.device now) ripening
+    (after_permanence node (moment_of s e.device now) (channel_of_link s.network e.link) e.frame e.point (ripe_as verdict)))
+carried_by_role s hs coming mark cursor now e node verdict r role no_later =
+    let moment = moment_of s e.device now in
+    let same = same_by_role s.network e.device node moment ripening e.link e.point e.frame (is_cm s.network e.device) verdict role in
+    let new = called moment ripening (after_permanence node moment (channel_of_link s.network e.link) e.frame e.point (ripe_as verdict)) in
+    record {
+      same = same;
+      waiting = λ sent w.
+          with_point_waiting s e node new (point_at e.point.0 (master_of e.frame.members.0) e.frame.cycle) sent refl
+          (points_by_role s.network e.device node moment ripening e.link e.point e.frame verdict (subst (λ (b : Bool). IsByRole b verdict) w.cm role))
+          same.emitted
+          (calc_some s hs coming mark cursor now e r) (no_later w.cm) w;
+      bare = λ other. points_not s.network e.device node moment ripening e.link e.point e.frame verdict (subst (λ (b : Bool). IsByRole b verdict) other role);
+    }
+
+keep_of : (a b : Bool) → (a ≡ false) ⊎ (a ≡ b) → (not a || b) ≡ true
+keep_of false b so = refl
+keep_of true b (inl e) = absurd cc
+keep_of true b (inr e) = sym e
+
+role_still : (cm : Bool) (device : DeviceId) (body : NoteBody) (link : _) (cause : ℕ) (point : Units) (verdict : Judgement)
+    → body ≡ kinds.Permanent device link cause point verdict
+    → IsByRole cm verdict → (is_joined_by device body ≡ false) × (moves device body ≡ false) × (changes_adjustment device body ≡ false)
+    × (Rattle.run_law.specs.control.Collections.ends_stretch device body ≡ false)
+role_still cm device body link cause point verdict e role =
+    grind (arith, is_joined_by, moves, changes_adjustment)
+
+pub next_by_role : {M : Type 0} (stands : M → Network → DeviceId → Node → Type 0) (s : Scenario) (n : ℕ) (hs coming : List Happening) (mark cursor : List ℕ)
+    (now : ℕ) (e : Waiting)
+    (machine : M) (w : Happening) (verdict : Judgement) (r : IsRipe s hs coming mark cursor now e) (k : IsKept stands s hs coming cursor now e.device machine)
+    → Hears s hs e.device now k.node → IsByRole (is_cm s.network e.device) verdict → w.note.body ≡ kinds.Permanent e.device e.link e.cause e.point verdict
+    → w.frame ≡ Rattle.std.proofs.Common.Some e.frame → time_of w ≡ now
+    → IsNext s hs coming (placed n [] w coming) now k.up e.device
+    (called (moment_of s e.device now) ripening (after_permanence k.node (moment_of s e.device now) (channel_of_link s.network e.link) e.frame e.point
+    (ripe_as verdict)))
+next_by_role stands s n hs coming mark cursor now e machine w verdict r k hears role body of_frame at =
+    let device = e.device in
+    let yet = is_yet stands s hs coming mark cursor now e machine r k in
+    let late = all_late s hs coming mark cursor now (ripe_more e) r.moving r.run.within in
+    let quiet = role_still (is_cm s.network device) device w.note.body e.link e.cause e.point verdict body role in
+    let first : IsFirst s coming device k.up w = record {
+      mere = λ z i. late_mere device z.note.body (late z i);
+      open_ = λ cm z i. elim yet.stands [
+        | inl now_is ↦ rest_ends s device now z.note.body (late z i)
+            (k.still now_is.0 z (Rattle.run_law.proofs.runs.Places.in_right z hs coming i) (r.moving.are.of_now z i))
+        | inr over ↦ absurd (both_ways (is_cm s.network device) over.1.just.other cm)
+      ];
+      still = quiet.1;
+      unchanged = quiet.2;
+      goes_on = quiet.3;
+    } in
+    let new = called (moment_of s device now) ripening (after_permanence k.node (moment_of s device now) (channel_of_link s.network e.link) e.frame e.point
+    (ripe_as verdict)) in
+    let grown = is_grown s device k.node (moment_of s device now) ripening w e.link e.cause e.point e.frame verdict of_frame body role in
+    let keep : is_timed k.node.standing.state ≡ true
+    → (not (has_cleared s (hs ++ coming) device k.up k.up) || has_cleared s (hs ++ coming) device k.up (time_of w)) ≡ true =
+    grind (arith, keep_of, yet.stands, has_cleared, device, cleared_told) in
+    let a = tell_owned s (hs ++ w ∷ coming) (hs ++ coming) device k.up (own_skip device k.up hs coming w quiet.1) in
+    let same_earlier : earlier now (hs ++ coming) ≡ earlier now (hs ++ placed n [] w coming) =
+    earlier_still now hs coming (λ z i. let z_now = r.moving.are.of_now z i in omega (arith, z_now))
+    ∙ sym (earlier_still now hs (placed n [] w coming) (λ z i. elim i [
+      | inl same ↦ (let t : time_of z ≡ time_of w = ap time_of same in omega (arith, t, at))
+      | inr b ↦
+          let x = Rattle.world_law.proofs.putting.Bumped.in_placed n coming z b in
+          let t : time_of z ≡ time_of x.0 = ap time_of x.2 in
+          let x_now = r.moving.are.of_now x.0 x.1 in
+          omega (arith, t, x_now)
+    ])) in
+    record {
+      left = told_by_others s (hs ++ w ∷ coming) (hs ++ placed n [] w coming) device k.up new (plains_placed n hs coming w)
+          (left_grown s hs coming device k.up w k.node new first keep grown k.left);
+      change =
+          sym (changes_at_plain (hs ++ placed n [] w coming) device k.up) ∙ ap (λ (l : List Happening). changed_at l device k.up)
+          (sym (plains_placed n hs coming w))
+          ∙ changes_at_plain (hs ++ w ∷ coming) device k.up ∙ a.change;
+      before =
+          ap (λ (l : List Happening). if is_turned_on_at s device now then Rattle.sync_state.specs.declared.state.State.TheVariants.Integrating
+          else state_after s l device) same_earlier;
+      still = still_aside s n hs [] coming now device w quiet.1;
+      turned = λ cursor2 it. turned_aside s n hs [] coming cursor2 now device w it (ap (λ (l : List Happening). state_after s l device) same_earlier);
+      frames = frames_placed s n hs [] coming w device (λ z. ap (taken_in device z) body) (λ h i. sooner_of s hs coming mark cursor now e r w h at i);
+      back = λ z i. back_placed n now [] coming w z (inl (subst (λ (b : NoteBody). rank b < 4) (sym body) (omega arith))) at i;
+    }

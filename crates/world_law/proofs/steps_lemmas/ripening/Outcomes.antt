@@ -1,0 +1,183 @@
+-- What comes of the source of a frame that is permanent: one record, at its place.
+use Rattle.world_law.proofs.steps_lemmas.Words.{◌++◌, ◌<◌, ◌∙◌, ◌∷◌, ◌≡◌, ◌⊎◌, DeviceId, Happening, IsAllOfIt, IsBefore, IsIn, IsOwnSource}
+use Rattle.world_law.proofs.steps_lemmas.Words.{IsPermanenceOutcomeAt, IsPermanent, Judgement, LinkId, List, Node, NoteBody, Pcf, Reason, Ripe, Scenario, Units}
+use Rattle.world_law.proofs.steps_lemmas.Words.{Waiting, [], act_place, amount, ap, arith, before_later, in_left, inl, inr, key, members_in, no_higher}
+use Rattle.world_law.proofs.steps_lemmas.Words.{numbered_front, parted, place_of, rank, refl, ripe_as, some_same, subst, sym, time_of, ℕ}
+use Rattle.world_law.proofs.steps_lemmas.ripening.{Judged.{Hears, becomes_now}, Ripens.{IsRipe, ripe_more}}
+use Rattle.run_law.{proofs.{control.Verdicts.never_dropped, runs.SameSteps.{no_launch, same_ripening}}, specs.control.Permanence.BecomesPermanent}
+use Rattle.run_law.specs.declared.judgement.Why.TheVariants as whys
+use Rattle.run_law.specs.declared.note.NoteBody.TheVariants as kinds
+use Rattle.run_law.specs.declared.steps.Ripe.TheVariants as ripe
+
+-- ---- the kinds of record that have such a source
+
+record IsOwnPermanent (t m : ℕ) (body : NoteBody) (here : List ℕ) : Type 0 where
+  pub device : DeviceId
+  pub link : LinkId
+  pub cause : ℕ
+  pub point : Units
+  pub verdict : Judgement
+  pub is : body ≡ kinds.Permanent device link cause point verdict
+  pub at : here ≡ t ∷ 3 ∷ device.0 ∷ amount point ∷ m ∷ link.0 ∷ cause ∷ []
+
+record IsOwnDrop (s : Scenario) (js : List Happening) (t : ℕ) (body : NoteBody) (here : List ℕ) : Type 0 where
+  pub device : DeviceId
+  pub link : LinkId
+  pub cause : ℕ
+  pub reason : Reason
+  pub is : body ≡ kinds.Dropped device link cause reason
+  pub point : Units
+  pub becomes : BecomesPermanent s js device t link cause point (ripe.Dropped reason)
+  pub at : here ≡ t ∷ 3 ∷ device.0 ∷ amount point ∷ becomes.frame.members.0 ∷ link.0 ∷ cause ∷ []
+
+wrong : (k : ℕ) → 3 ≡ k → (k < 3) ⊎ (3 < k) → ⊥
+wrong k e (inl lt) = omega (arith, e, lt)
+wrong k e (inr lt) = omega (arith, e, lt)
+
+rank_at : (now t k : ℕ) (more ws : List ℕ) → now ∷ 3 ∷ more ≡ t ∷ k ∷ ws → 3 ≡ k
+rank_at now t k more ws e = cc
+
+kind_at : (s : Scenario) (js : List Happening) (t m now : ℕ) (body : NoteBody) (more : List ℕ) → IsOwnSource s js t m body (now ∷ 3 ∷ more)
+    → IsOwnPermanent t m body (now ∷ 3 ∷ more) ⊎ IsOwnDrop s js t body (now ∷ 3 ∷ more)
+kind_at s js t m now (kinds.Permanent device link cause point verdict) more o =
+    inl (record { device = device; link = link; cause = cause; point = point; verdict = verdict; is = refl; at = o })
+kind_at s js t m now (kinds.Dropped device link cause reason) more (inl o) = absurd (wrong 2 (rank_at now t 2 more _ o.0) (inl (omega arith)))
+kind_at s js t m now (kinds.Dropped device link cause reason) more (inr (inl o)) =
+    inr (record { device = device; link = link; cause = cause; reason = reason; is = refl; point = o.0; becomes = o.1; at = o.2 })
+kind_at s js t m now (kinds.Dropped device link cause reason) more (inr (inr o)) = absurd (wrong 8 (rank_at now t 8 more _ o.0) (inr (omega arith)))
+kind_at s js t m now (kinds.Event line what) more o = absurd (wrong 1 (rank_at now t 1 more _ o) (inl (omega arith)))
+kind_at s js t m now (kinds.Arrived device link cause clock) more o = absurd (wrong 2 (rank_at now t 2 more _ o) (inl (omega arith)))
+kind_at s js t m now (kinds.Compressed device opened read cycle of_masters verdict) more o = absurd (wrong 4 (rank_at now t 4 more _ o) (inr (omega arith)))
+kind_at s js t m now (kinds.Sent device cycle) more o = absurd (wrong 4 (rank_at now t 4 more _ o) (inr (omega arith)))
+kind_at s js t m now (kinds.Corrected device cycle by adjustment) more o = absurd (wrong 4 (rank_at now t 4 more _ o) (inr (omega arith)))
+kind_at s js t m now (kinds.State device state cause whys.SyncClique) more o = absurd (wrong 4 (rank_at now t 4 more _ o) (inr (omega arith)))
+kind_at s js t m now (kinds.State device state cause whys.AsyncClique) more o = absurd (wrong 4 (rank_at now t 4 more _ o) (inr (omega arith)))
+kind_at s js t m now (kinds.State device state cause whys.On) more o = absurd (wrong 2 (rank_at now t 2 more _ o) (inl (omega arith)))
+kind_at s js t m now (kinds.State device state cause whys.Frame) more o = absurd (wrong 2 (rank_at now t 2 more _ o) (inl (omega arith)))
+kind_at s js t m now (kinds.State device state cause whys.Correction) more o = absurd (wrong 2 (rank_at now t 2 more _ o) (inl (omega arith)))
+kind_at s js t m now (kinds.Left device link cause clock) more o = absurd (wrong 8 (rank_at now t 8 more _ o) (inr (omega arith)))
+kind_at s js t m now (kinds.Lost device link cause) more (inl o) = absurd (wrong 8 (rank_at now t 8 more _ o.0) (inr (omega arith)))
+kind_at s js t m now (kinds.Lost device link cause) more (inr (inl o)) = absurd (wrong 4 (rank_at now t 4 more _ o.0) (inr (omega arith)))
+kind_at s js t m now (kinds.Lost device link cause) more (inr (inr o)) = absurd (wrong 2 (rank_at now t 2 more _ o.0) (inl (omega arith)))
+kind_at s js t m now (kinds.TtSent device link cause vl cycle) more o = absurd (wrong 4 (rank_at now t 4 more _ o) (inr (omega arith)))
+kind_at s js t m now (kinds.Accepted device link cause vl cycle) more o = absurd (wrong 2 (rank_at now t 2 more _ o) (inl (omega arith)))
+kind_at s js t m now (kinds.Delivered device link cause vl cycle) more o = absurd (wrong 2 (rank_at now t 2 more _ o) (inl (omega arith)))
+kind_at s js t m now (kinds.Clock device reading adjustment state) more o = absurd (wrong 14 (rank_at now t 14 more _ o) (inr (omega arith)))
+
+-- ---- one thing becomes of it
+
+pub record IsHere (now t : ℕ) (e : Waiting) (device : DeviceId) (link : LinkId) (cause : ℕ) : Type 0 where
+  pub time : t ≡ now
+  pub by : device ≡ e.device
+  pub on : link ≡ e.link
+  pub from : cause ≡ e.cause
+
+is_here : (now t d a m l c : ℕ) (e : Waiting) (device : DeviceId) (link : LinkId) → device.0 ≡ d → link.0 ≡ l → now ∷ 3 ∷ ripe_more e ≡ t ∷ 3 ∷ d ∷ a ∷ m ∷ l
+    ∷ c ∷ []
+    → IsHere now t e device link c
+is_here now t d a m l c e device link dev of_link at =
+    grind arith
+
+moved_here : (s : Scenario) (js : List Happening) (now t : ℕ) (e : Waiting) (device : DeviceId) (link : LinkId) (cause : ℕ) (point : Units) (is : Ripe)
+    → IsHere now t e device link cause → BecomesPermanent s js device t link cause point is → BecomesPermanent s js e.device now e.link e.cause point is
+moved_here s js now t e device link cause point is h b =
+    grind arith
+
+pub one_outcome : (s : Scenario) (hs coming f : List Happening) (mark cursor : List ℕ) (now t : ℕ) (e : Waiting) (node : Node) (device : DeviceId)
+    (link : LinkId) (cause : ℕ) (point : Units)
+    (is other : Ripe) → IsRipe s hs coming mark cursor now e → Hears s hs e.device now node → IsPermanenceOutcomeAt s.network e.device node e.frame e.point is
+    → ((h : Happening) → IsIn h f → IsBefore (place_of h) (now ∷ 3 ∷ ripe_more e) → ⊥) → IsHere now t e device link cause
+    → BecomesPermanent s (hs ++ f) device t link cause point other → other ≡ is
+one_outcome s hs coming f mark cursor now t e node device link cause point is other r hears so after h b =
+    same_ripening s (hs ++ f) now e.device e.link e.cause point e.point other is (moved_here s (hs ++ f) now t e device link cause point other h b)
+    (becomes_now s hs coming f mark cursor now e node is r after hears so)
+
+-- ---- so its record is at the place
+
+-- where it is permanent
+pub permanent_all : (s : Scenario) (hs coming coming2 : List Happening) (mark cursor : List ℕ) (now : ℕ) (e : Waiting) (node : Node) (w : Happening)
+    (verdict : Judgement)
+    → IsRipe s hs coming mark cursor now e → Hears s hs e.device now node → IsPermanenceOutcomeAt s.network e.device node e.frame e.point (ripe_as verdict)
+    → ((h : Happening) → IsIn h coming2 → IsBefore (place_of h) (now ∷ 3 ∷ ripe_more e) → ⊥)
+    → (z : Happening) → IsIn z coming2 → place_of z ≡ now ∷ 3 ∷ ripe_more e → IsAllOfIt s hs coming2 (now ∷ 3 ∷ ripe_more e)
+permanent_all s hs coming coming2 mark cursor now e node w verdict r hears so after z there at front back y whole before none due own =
+    let inside : (h : Happening) → IsIn h front → IsBefore (place_of h) (now ∷ 3 ∷ ripe_more e) → ⊥ = λ h i.
+    after h (subst (λ (l : List Happening). IsIn h l) (sym whole) (in_left h front back i)) in
+    elim (kind_at s (hs ++ front) (time_of y) (members_in y) now y.note.body (ripe_more e) own) [
+      | inl p ↦ (
+        z,
+        there,
+        at ∙ p.at ∙ sym (ap (λ (b : NoteBody). time_of y ∷ rank b ∷ key (members_in y) b) p.is),
+      )
+      | inr d ↦
+          let h = is_here now (time_of y) d.device.0 (amount d.point) d.becomes.frame.members.0 d.link.0 d.cause e d.device d.link refl refl d.at in
+          absurd (never_dropped verdict d.reason
+          (one_outcome s hs coming front mark cursor now (time_of y) e node d.device d.link d.cause d.point (ripe_as verdict) (ripe.Dropped d.reason) r hears so
+          inside h d.becomes))
+    ]
+
+-- where it is dropped
+pub dropped_all : (s : Scenario) (hs coming coming2 : List Happening) (mark cursor : List ℕ) (now : ℕ) (e : Waiting) (node : Node) (reason : Reason)
+    → IsRipe s hs coming mark cursor now e → Hears s hs e.device now node → IsPermanenceOutcomeAt s.network e.device node e.frame e.point (ripe.Dropped reason)
+    → ((h : Happening) → IsIn h coming2 → IsBefore (place_of h) (now ∷ 3 ∷ ripe_more e) → ⊥)
+    → (z : Happening) → IsIn z coming2 → place_of z ≡ now ∷ 13 ∷ e.device.0 ∷ e.link.0 ∷ e.cause ∷ [] → IsAllOfIt s hs coming2 (now ∷ 3 ∷ ripe_more e)
+dropped_all s hs coming coming2 mark cursor now e node reason r hears so after z there at front back y whole before none due own =
+    grind (arith, place_of, ripe_more, in_left, kind_at, time_of, members_in, is_here, amount, rank, key, never_dropped, one_outcome, ripe_as)
+
+-- ---- no other drop is there yet
+
+place_drop : (t m now d l c : ℕ) (body : NoteBody) → now ∷ 13 ∷ d ∷ l ∷ c ∷ [] ≡ t ∷ rank body ∷ key m body → (other : DeviceId) × (link : LinkId) × (cause : ℕ)
+    × (reason : Reason)
+    × (body ≡ kinds.Dropped other link cause reason) × (other.0 ≡ d) × (link.0 ≡ l) × (cause ≡ c)
+place_drop t m now d l c (kinds.Dropped device link cause reason) e = (device, link, cause, reason, refl, cc, cc, cc)
+place_drop t m now d l c (kinds.State device state cause why) e = absurd (let r : ◌≡◌ {A = ℕ} 13 7 = cc in omega (arith, r))
+place_drop t m now d l c (kinds.Event line what) e = absurd (let r : ◌≡◌ {A = ℕ} 13 1 = cc in omega (arith, r))
+place_drop t m now d l c (kinds.Arrived device link cause clock) e = absurd (let r : ◌≡◌ {A = ℕ} 13 2 = cc in omega (arith, r))
+place_drop t m now d l c (kinds.Permanent device link cause point verdict) e = absurd (let r : ◌≡◌ {A = ℕ} 13 3 = cc in omega (arith, r))
+place_drop t m now d l c (kinds.Compressed device opened at cycle members verdict) e = absurd (let r : ◌≡◌ {A = ℕ} 13 4 = cc in omega (arith, r))
+place_drop t m now d l c (kinds.Sent device cycle) e = absurd (let r : ◌≡◌ {A = ℕ} 13 5 = cc in omega (arith, r))
+place_drop t m now d l c (kinds.Corrected device cycle by adjustment) e = absurd (let r : ◌≡◌ {A = ℕ} 13 6 = cc in omega (arith, r))
+place_drop t m now d l c (kinds.Left device link cause clock) e = absurd (let r : ◌≡◌ {A = ℕ} 13 8 = cc in omega (arith, r))
+place_drop t m now d l c (kinds.Lost device link cause) e = absurd (let r : ◌≡◌ {A = ℕ} 13 9 = cc in omega (arith, r))
+place_drop t m now d l c (kinds.TtSent device link cause vl cycle) e = absurd (let r : ◌≡◌ {A = ℕ} 13 10 = cc in omega (arith, r))
+place_drop t m now d l c (kinds.Accepted device link cause vl cycle) e = absurd (let r : ◌≡◌ {A = ℕ} 13 11 = cc in omega (arith, r))
+place_drop t m now d l c (kinds.Delivered device link cause vl cycle) e = absurd (let r : ◌≡◌ {A = ℕ} 13 12 = cc in omega (arith, r))
+place_drop t m now d l c (kinds.Clock device reading adjustment state) e = absurd (let r : ◌≡◌ {A = ℕ} 13 14 = cc in omega (arith, r))
+
+same_place : (s : Scenario) (js : List Happening) (t : ℕ) (device : DeviceId) (link : LinkId) (cause : ℕ) (a b : Pcf) (p q : Units)
+    → IsPermanent s js device t link cause a p
+    → IsPermanent s js device t link cause b q → (a ≡ b) × (p ≡ q)
+same_place s js t device link cause a b p q x y =
+    grind (arith, some_same)
+
+-- a drop at the place of this frame's would come from this very source, which is not worked off
+pub drop_fresh : (s : Scenario) (hs coming : List Happening) (mark cursor : List ℕ) (now : ℕ) (e : Waiting) (r : IsRipe s hs coming mark cursor now e)
+    → (permanent : (f : List Happening) → IsPermanent s (hs ++ f) e.device now e.link e.cause e.frame e.point)
+    → (y : Happening) → IsIn y coming → now ∷ 13 ∷ e.device.0 ∷ e.link.0 ∷ e.cause ∷ [] ≡ place_of y → ⊥
+drop_fresh s hs coming mark cursor now e r permanent y i at =
+    let here = now ∷ 3 ∷ ripe_more e in
+    let of = place_drop (time_of y) (members_in y) now e.device.0 e.link.0 e.cause y.note.body at in
+    let device : of.0 ≡ e.device = ap (λ (n : ℕ). let x : DeviceId = record { 0 = n } in x) of.5 in
+    let link : of.1 ≡ e.link = ap (λ (n : ℕ). let x : LinkId = record { 0 = n } in x) of.6 in
+    let body : y.note.body ≡ kinds.Dropped e.device e.link e.cause of.3 =
+    of.4 ∙ ap (λ (d : DeviceId). kinds.Dropped d of.1 of.2 of.3) device ∙ ap (λ (l : LinkId). kinds.Dropped e.device l of.2 of.3) link
+    ∙ ap (λ (c : ℕ). kinds.Dropped e.device e.link c of.3) of.7 in
+    let part = parted y coming i in
+    let by = r.moving.are.by part.0 part.1 y part.2 in
+    let y_now = r.moving.are.of_now y i in
+    let under : IsBefore by.0 here ⊎ ((by.0 ≡ cursor) × ((d : DeviceId) × (by.0 ≡ act_place now d))) = elim by.3 [
+      | inl b ↦ inl (before_later by.0 here cursor b r.moving.waits)
+      | inr at_act ↦ inr (at_act.0, (at_act.1.0, at_act.1.1 ∙ ap (λ (t : ℕ). act_place t at_act.1.0) y_now))
+    ] in
+    let own = subst (λ (t : ℕ). IsOwnSource s (hs ++ part.0) t (members_in y) (kinds.Dropped e.device e.link e.cause of.3) by.0) y_now
+    (subst (λ (b : NoteBody). IsOwnSource s (hs ++ part.0) (time_of y) (members_in y) b by.0) body by.1) in
+    elim own [
+      | inl a ↦
+          grind (arith, some_same, numbered_front, part.0, no_launch, time_of)
+      | inr (inl p) ↦
+          grind (arith, same_place, part.0, is_here, by.0, here, amount, by.3, ripe_more, time_of, wrong, rank_at)
+      | inr (inr d) ↦ grind (arith, under, no_higher, ripe_more, here)
+    ]
+  where
+    eight_four : (now d l c x : ℕ) → now ∷ 8 ∷ d ∷ l ∷ c ∷ [] ≡ now ∷ 4 ∷ x ∷ [] → ⊥
+    eight_four now d l c x e = let r : ◌≡◌ {A = ℕ} 8 4 = cc in omega (arith, r)

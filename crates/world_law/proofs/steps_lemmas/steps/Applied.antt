@@ -1,0 +1,300 @@
+-- An event befalls before all else of its instant: the world stands again.
+use Rattle.world_law.{proofs.{giving.GivenParts.up_to_place, steps_lemmas.steps.AppliedParts.wires_apply}, specs.world.World.{AreInOrder, AreStored, IsFromEnd}}
+use Rattle.world_law.{proofs.{giving.Storing.stored_still, runs.Firsts.{numbered_more, numbered_still}}, specs.world.Outcomes.{also_befell, ends_world}}
+use Rattle.world_law.{proofs.runs.Applies.{line_before, run_goes_on_by_event, same_length}, specs.source.Applying.{MayBefall, note_of_event, place_of_event}}
+use Rattle.world_law.proofs.steps_lemmas.Words.{◌&&◌, ◌++◌, ◌+◌, ◌<◌, ◌==◌, ◌||◌, ◌↔◌, ◌∙◌, ◌∷◌, ◌≡◌, ◌≤ℤ◌, ◌≤◌, ◌⊎◌, AreAtPorts, AreOfNetwork, AreOnWires}
+use Rattle.world_law.proofs.steps_lemmas.Words.{AreSettled, AreUntold, AreWaiting, Befell, Bool, Contains-push, Contains-push_cases, DeviceId, Event, Happening}
+use Rattle.world_law.proofs.steps_lemmas.Words.{IsBefore, IsEventBody, IsHeld, IsIn, IsOnWire, LinkId, List, Network, Node, OnWire, Scenario, Some, Units, What}
+use Rattle.world_law.proofs.steps_lemmas.Words.{World, [], amount, ap, append-nil, arith, before_behind, behind, cases_Bool, chain, clock_place, false}
+use Rattle.world_law.proofs.steps_lemmas.Words.{happening, happenings, has_outcome, hidden, if◌then◌else◌, in_left, in_parts, in_right, inl, inr, ints, length}
+use Rattle.world_law.proofs.steps_lemmas.Words.{map, never_self, numbered_within, place_of, pos, refl, scenario, slice_get, some_same, subst, sym, time_of}
+use Rattle.world_law.proofs.steps_lemmas.{Words.{true, turns_on, unsigned_abs, ℕ}, steps.AppliedDevices.{IsApplying, event_moves, held_apply, off_before}}
+use Rattle.world_law.proofs.steps_lemmas.steps.AppliedParts.{IsBefalling, agree_before, before_others, nothing_due, ports_apply, turned_more, waiting_apply}
+use Rattle.world_law.specs.steps.Steps.{AppliedStep, FitsWorld}
+use Rattle.std.{proofs.lemmas.{List.length_push, Option.slice_get_within}, specs.List.Contains}
+use Rattle.run_law.proofs.{law.FirstPlaces.numbered_next, runs.{NetworkRuns.one_more, Places.{before_next_time, before_of_time}}}
+use Rattle.run_law.specs.runs.DueRecords.{EndsAt, IsScenarioRun}
+use Rattle.tte_lemmas.proofs.Lists.{pushed as get_more}
+use Rattle.net_plan.specs.declared.event.What.TheVariants as events
+use Rattle.run_law.specs.declared.note.NoteBody.TheVariants as kinds
+
+-- ---- the end
+
+is_end : (what : What) → ends_world what ≡ true → what ≡ events.End
+is_end events.End e = refl
+is_end other e = absurd cc
+
+ended_then : (past : List Event) (event : Event) (now : ℕ) (time : Units) → event.time.0 ≡ pos now → ((u : Units) → EndsAt past u → ⊥)
+    → EndsAt (past ++ event ∷ []) time ↔ ((ends_world event.what ≡ true) × (time.0 ≡ pos now))
+ended_then past event now time at running = (
+  λ ends. elim (Contains-push_cases past event (record { time = time; what = events.End }) ends) [
+    | inl old ↦ absurd (running time old)
+    | inr new ↦ (ap (λ (e : Event). ends_world e.what) new, ap (λ (e : Event). e.time.0) (sym new) ∙ at)
+  ],
+  λ it.
+      let what = is_end event.what it.0 in
+      let same : event ≡ record { time = time; what = events.End } = ap (λ (w : What). let e : Event = record { time = event.time; what = w } in e) what
+      ∙ ap (λ (z : _). let e : Event = record { time = record { 0 = z }; what = events.End } in e) (at ∙ sym it.1) in
+      subst (λ (e : Event). Contains (past ++ event ∷ []) e) same (Contains-push past event),
+)
+
+-- ---- what is pending
+
+told_once : (number : ℕ) (what : What) (e : Befell) → IsIn e (also_befell number what) → e ≡ record { number = number; what = what }
+told_once number what e i = grind (arith, has_outcome)
+
+told_there : (number : ℕ) (what : What) → has_outcome what ≡ true → IsIn (record { number = number; what = what }) (also_befell number what)
+told_there number what out =
+    subst (λ (b : Bool). IsIn {N = Befell} (record { number = number; what = what }) (if b then record { number = number; what = what } ∷ [] else [])) (sym out)
+    (inl refl)
+
+-- it has the highest number
+one_more_in_order : (befell : List Befell) (x : Befell) → AreInOrder befell → ((e : Befell) → IsIn e befell → e.number < x.number)
+    → AreInOrder (befell ++ x ∷ [])
+one_more_in_order [] x order less = (λ f i. absurd i, tt)
+one_more_in_order (e ∷ befell) x order less = (
+  λ f i. elim (in_parts f befell (x ∷ []) i) [
+    | inl old ↦ order.0 f old
+    | inr (inl same) ↦ subst (λ (g : Befell). e.number < g.number) (sym same) (less e (inl refl))
+    | inr (inr none) ↦ absurd none
+  ],
+  one_more_in_order befell x order.1 (λ g i. less g (inr i)),
+)
+
+also_in_order : (number : ℕ) (what : What) (befell : List Befell) → AreInOrder befell → ((e : Befell) → IsIn e befell → e.number < number)
+    → AreInOrder (befell ++ also_befell number what)
+also_in_order number what befell order less = grind (arith, has_outcome, one_more_in_order, append-nil)
+
+untold_apply : (hs : List Happening) (cursor : List ℕ) (now number line : ℕ) (pending : Bool) (befell : List Befell) (ev : Happening) (what : What)
+    → AreUntold hs cursor now pending befell → ((p : List ℕ) → IsBefore p cursor → IsBefore p (now ∷ 2 ∷ []))
+    → number ≡ length hs + 1 → time_of ev ≡ now → ev.note.body ≡ kinds.Event line what → AreUntold (hs ++ ev ∷ []) (now ∷ 2 ∷ []) now true
+    (befell ++ also_befell number what)
+untold_apply hs cursor now number line pending befell ev what untold early number_is at is = record {
+  done = λ told. absurd cc;
+  none = λ told. absurd cc;
+  waits = λ open_. (number, ev, record { there = numbered_next hs [] ev number number_is; same_time = at });
+  early = λ open_ p b. b;
+  real = λ e i. elim (in_parts e befell (also_befell number what) i) [
+    | inl old ↦ let was =
+        untold.real e old in (was.0, was.1, record { there = numbered_still hs ev was.1 e.number was.2.there; same_time = was.2.same_time }, was.3)
+    | inr new ↦
+        let same = told_once number what e new in (
+          line,
+          ev,
+          record { there = numbered_next hs [] ev e.number (ap (λ (x : Befell). x.number) same ∙ number_is); same_time = at },
+          is
+              ∙ ap (λ (w : What). kinds.Event line w) (sym (ap (λ (x : Befell). x.what) same)),
+        )
+  ];
+  all = λ open_ n l w h it body out. elim (numbered_more hs ev h n it.there) [
+    | inl there ↦ elim (cases_Bool pending) [
+      | inl was ↦ in_left _ befell (also_befell number what) (untold.all was n l w h (record { there = there; same_time = it.same_time }) body out)
+      | inr told ↦ absurd (never_self (now ∷ 2 ∷ []) (early (now ∷ 2 ∷ []) (untold.done told n h (record { there = there; same_time = it.same_time }))))
+    ]
+    | inr new ↦
+        let says : kinds.Event line what ≡ kinds.Event l w = sym is ∙ ap (λ (x : Happening). x.note.body) new.1 ∙ body in
+        let same : what ≡ w = cc in
+        let count : number ≡ n = number_is ∙ sym new.0 in
+        subst (λ (k : ℕ). IsIn (record { number = k; what = w }) (befell ++ also_befell number what)) count
+        (subst (λ (x : What). IsIn (record { number = number; what = x }) (befell ++ also_befell number what)) same
+        (in_right _ befell (also_befell number what) (told_there number what (ap has_outcome same ∙ out))))
+  ];
+  in_order = also_in_order number what befell untold.in_order (λ e i.
+      let was = untold.real e i in
+      let lt = numbered_within hs e.number was.1 was.2.there in
+      omega (arith, lt, number_is));
+}
+
+-- ---- devices of the network
+
+of_network : {C M : Type 0} (stands : M → Network → DeviceId → Node → Type 0) (world : World C M) (network : Network) (what : What) (device : DeviceId)
+    → FitsWorld stands network world what → length network.device ≤ device.0 → turns_on device what ≡ false
+of_network stands world network (events.On other) device may le =
+    Rattle.std.proofs.lemmas.Bool.false_from_ne_true (device.0 == other.0)
+    (λ same. let at = Rattle.std.proofs.lemmas.Bool.eqb-true device.0 other.0 same in let lt = may.0 in absurd (omega (arith, at, lt, le)))
+of_network stands world network other device may le = refl
+
+known_apply : {C M : Type 0} (stands : M → Network → DeviceId → Node → Type 0) (world : World C M) (network : Network) (f g : DeviceId → ℕ → ℕ)
+    (past : List Event) (event : Event) (hs : List Happening) (now : ℕ) (ev : Happening) → FitsWorld stands network world event.what → IsEventBody ev.note.body
+    → AreOfNetwork (scenario network f past) (hs ++ []) → AreOfNetwork (scenario network g (past ++ event ∷ [])) ((hs ++ ev ∷ []) ++ [])
+known_apply stands world network f g past event hs now ev may is known = record {
+  unmoved = λ device le h i. elim (in_parts h hs (ev ∷ []) (subst (λ (l : List Happening). IsIn h l) (append-nil (hs ++ ev ∷ [])) i)) [
+    | inl old ↦ known.unmoved device le h (subst (λ (l : List Happening). IsIn h l) (sym (append-nil hs)) old)
+    | inr (inl e) ↦ event_moves device h.note.body (subst (λ (x : Happening). IsEventBody x.note.body) (sym e) is)
+    | inr (inr none) ↦ absurd none
+  ];
+  never_on =
+      λ device le t. turned_more network f g past event t device ∙ ap (λ (b : Bool). b || (turns_on device event.what && amount event.time == t))
+      (known.never_on device le t) ∙ ap (λ (b : Bool). b && amount event.time == t) (of_network stands world network event.what device may le);
+}
+
+pub no_coming : (hs coming : List Happening) (s : Scenario) (mark cursor : List ℕ) (now : ℕ) → AreSettled s hs coming mark cursor now
+    → ((p : List ℕ) → IsBefore p cursor → IsBefore p (now ∷ 2 ∷ [])) → coming ≡ []
+no_coming hs [] s mark cursor now are early = refl
+no_coming hs (z ∷ coming) s mark cursor now are early = absurd (never_self (now ∷ 2 ∷ []) (early (now ∷ 2 ∷ []) (are.begun z (inl refl))))
+
+-- ---- the step
+
+-- octets are sent by an end system
+sent_by : {C M : Type 0} (stands : M → Network → DeviceId → Node → Type 0) (network : Network) (world : World C M) (what : What) (link : LinkId)
+    (octets : List ℕ)
+    → FitsWorld stands network world what → what ≡ events.Send link octets → IsFromEnd network link
+sent_by stands network world what link octets may is = subst (λ (w : What). FitsWorld stands network world w) is may
+
+under_two : (now line : ℕ) → IsBefore (now ∷ 1 ∷ line ∷ []) (now ∷ 2 ∷ [])
+under_two now line = inr (refl, inl (omega arith))
+
+no_clock : (now : ℕ) (device : DeviceId) → IsBefore (clock_place now device) (now ∷ 2 ∷ []) → ⊥
+no_clock now device (inl lt) = omega (arith, lt)
+no_clock now device (inr (e, inl lt)) = omega (arith, lt)
+no_clock now device (inr (e, inr (two, none))) = none
+
+pub applied_step : {C M : Type 0} (reading : C → ℕ → ℕ) (stands : M → Network → DeviceId → Node → Type 0) → AppliedStep reading stands
+applied_step {C} {M} reading stands network f g past event world notes clocks machines broken ups downs waiting old running time_is may fresh room reads steady
+    clocks_are forward been broken_are ways waits =
+    let s = scenario network f past in
+    let more = past ++ event ∷ [] in
+    let r = scenario network g more in
+    let hs = happenings network notes in
+    let now = world.now in
+    let early = old.early fresh in
+    let note = note_of_event notes past event in
+    let ev = happening network hs note in
+    let js = hs ++ ev ∷ [] in
+    let at : amount event.time ≡ now = ap unsigned_abs time_is in
+    let back : js ≡ happenings network (notes ++ note ∷ []) = sym (one_more network notes note) in
+    let empty = no_coming hs old.coming s old.mark old.cursor now old.are early in
+    let over : (p : List ℕ) → IsBefore p (now ∷ []) → IsBefore p old.cursor = λ p b. old.ahead p (old.of_now p b) in
+    let sooner : (h : Happening) → IsIn h hs → (time_of h < now) ⊎ ((time_of h ≡ now) × IsEventBody h.note.body) = λ h i. before_others h now
+    (early (place_of h) (old.ahead (place_of h) (old.run.within h i))) in
+    let long : length notes ≡ length hs = same_length network notes in
+    let number : length notes + 1 ≡ length hs + 1 = ap (λ (k : ℕ). k + 1) long in
+    let running_so : (u : Units) → EndsAt past u → ⊥ = λ u ends. (let bad : false ≡ true = sym running ∙ ((old.ended u).0 ends).0 in cc) in
+    let place = place_of_event past event in
+    let here = now ∷ 1 ∷ (length past + 1) ∷ [] in
+    let place_is : place ≡ here = ap (λ (n : ℕ). n ∷ 1 ∷ (length past + 1) ∷ []) at in
+    let agree = λ (t : ℕ) (lt : t < now). agree_before network f g past event now t at reads lt in
+    let befalls : MayBefall network f g past event old.mark notes = record {
+      begun = omega (arith, ints, time_is);
+      agree = λ t lt. agree t (omega (arith, lt, at));
+      running = running_so;
+      in_order = λ i e get. let le = old.befallen.past i e get in omega (arith, le, at);
+      told = old.befallen.told;
+      none_left = λ p b. old.of_now p (subst (λ (n : ℕ). IsBefore p (n ∷ [])) at b);
+      sooner = λ h i. elim (sooner h i) [ inl lt ↦ inl (omega (arith, lt, at)) | inr it ↦ inr it.1 ];
+    } in
+    let run : IsScenarioRun r (behind here) (notes ++ note ∷ []) = subst (λ (q : List ℕ). IsScenarioRun r (behind q) (notes ++ note ∷ [])) place_is
+    (run_goes_on_by_event network f g past event old.mark notes befalls old.run) in
+    let m : IsBefalling network f g past event hs old.mark old.cursor now ev = record {
+      at = at;
+      agree = agree;
+      sooner = sooner;
+      early = early;
+      over = over;
+      ev_at = at;
+      ev_is = refl;
+    } in
+    let applying : IsApplying network f g past event hs old.cursor now (length notes + 1) ev = record {
+      events = record { sooner = sooner; at = at; is = tt };
+      at = at;
+      reads = λ device x le. sym (reads device x le);
+      early = early;
+      there = numbered_next hs [] ev (length notes + 1) number;
+      is = refl;
+    } in
+    let pushed = length_push past event in
+    let pushed_notes = length_push notes note in
+    let before_here : (i : ℕ) (e : Event) → slice_get more i ≡ Some e → (amount e.time ≤ now) × IsBefore (amount e.time ∷ 1 ∷ (i + 1) ∷ []) (behind here) =
+    λ i e get.
+    elim (get_more past event e i get) [
+      | inl was ↦
+          let le = old.befallen.past i e was in
+          let few = slice_get_within past i e was in (
+            le,
+            chain (amount e.time ∷ 1 ∷ (i + 1) ∷ []) here (behind here) (line_before (amount e.time) now (i + 1) (length past + 1) le (omega (arith, few)))
+                (before_behind here),
+          )
+      | inr new ↦
+          let same : amount e.time ≡ now = ap (λ (x : Event). amount x.time) (sym new.1) ∙ at in (
+            omega (arith, same),
+            subst (λ (p : List ℕ). IsBefore p (behind here))
+                (sym (ap (λ (n : ℕ). n ∷ 1 ∷ (i + 1) ∷ []) same ∙ ap (λ (k : ℕ). now ∷ 1 ∷ (k + 1) ∷ []) new.0)) (before_behind here),
+          )
+    ] in
+    let here_two = under_two now (length past + 1) in
+    let none_now : (e : OnWire) → IsIn e world.wires → (it : IsOnWire s hs e) → time_of it.putting ≡ now → ⊥ = λ e i it put_at.
+    let was = old.wires.real e i in
+    let same = some_same it.putting was.0.putting _ it.there was.0.there in
+    elim (cases_Bool world.pending) [
+      | inl open_ ↦ was.1 open_ (ap time_of (sym same) ∙ put_at)
+      | inr told ↦ never_self (now ∷ 2 ∷ []) (early (now ∷ 2 ∷ []) (old.untold.done told e.cause it.putting (record { there = it.there; same_time = put_at })))
+    ] in
+    record {
+      same = old.same;
+      range = old.range;
+      rules = old.rules;
+      forward = forward;
+      steady = steady;
+      precise = old.precise;
+      mark = behind here;
+      cursor = now ∷ 2 ∷ [];
+      run = run;
+      ahead =
+          λ p b. elim (up_to_place p here b) [
+            | inl e ↦ subst (λ (q : List ℕ). IsBefore q (now ∷ 2 ∷ [])) (sym e) here_two
+            | inr lt ↦ chain p here (now ∷ 2 ∷ [])
+                lt here_two
+          ];
+      of_now = λ p b. before_of_time p now (1 ∷ (length past + 1) ∷ 0 ∷ []) b;
+      not_later = λ p b. before_next_time p now (2 ∷ []) b;
+      limit = old.limit;
+      lines = let was = old.lines in omega (arith, was, pushed);
+      given = let was = old.given in omega (arith, was, pushed_notes);
+      ended = λ time. ended_then past event now time time_is running_so;
+      befallen = record {
+        past = λ i e get. (before_here i e get).0;
+        told = λ i e get. (before_here i e get).1;
+        begun = λ i e get. elim (get_more past event e i get) [
+          | inl was ↦ old.befallen.begun i e was
+          | inr new ↦ subst (λ (x : Event). pos 0 ≤ℤ x.time.0) new.1 (omega (arith, ints, time_is))
+        ];
+        sent = λ i e link octets get what. elim (get_more past event e i get) [
+          | inl was ↦ old.befallen.sent i e link octets was what
+          | inr new ↦ sent_by stands network world event.what link octets may (ap (λ (x : Event). x.what) new.1 ∙ what)
+        ];
+      };
+      clocks = clocks_are;
+      broken = broken_are;
+      ways = ways;
+      coming = [];
+      room = omega (arith, room, pushed_notes);
+      settled = old.settled ∙ ap (map (hidden (length notes))) empty;
+      known =
+          subst (λ (l : List Happening). AreOfNetwork r (l ++ [])) back
+          (known_apply stands world network f g past event hs now ev may tt (subst (λ (l : List Happening). AreOfNetwork s (hs ++ l)) empty old.known));
+      devices = λ device lt.
+          let k = old.devices device lt in
+          let then_ = been.still device k.0 k.1 in (
+            then_.0,
+            then_.1,
+            subst (λ (l : List Happening). IsHeld stands r l [] (now ∷ 2 ∷ []) now device then_.0) back
+                (held_apply stands network f g past event hs old.cursor now (length notes + 1) ev device k.0 then_.0 applying
+                (subst (λ (l : List Happening). IsHeld stands s hs l old.cursor now device k.0) empty k.2) then_.2
+                (λ on node is. off_before stands network world event.what device k.0 node may on k.1 is)),
+          );
+      early = λ fresh p b. b;
+      untold = subst (λ (l : List Happening). AreUntold l (now ∷ 2 ∷ []) now true (world.befell ++ also_befell (length notes + 1) event.what)) back
+          (untold_apply hs old.cursor now (length notes + 1) (length past + 1) world.pending world.befell ev event.what old.untold early number at refl);
+      wires =
+          subst (λ (l : List Happening). AreOnWires r l (now ∷ 2 ∷ []) now true world.wires) back
+          (wires_apply network f g past event hs old.mark old.cursor now ev world.pending world.wires m none_now old.forward old.wires);
+      ports =
+          subst (λ (l : List Happening). AreAtPorts r l (now ∷ 2 ∷ []) world.ports) back
+          (ports_apply network f g past event hs old.mark old.cursor now ev world.ports m old.ports);
+      waiting =
+          subst (λ (l : List Happening). AreWaiting r l (now ∷ 2 ∷ []) now waiting) back
+          (waiting_apply network f g past event hs old.mark old.cursor now ev world.waiting waiting m old.waiting waits);
+      stored = subst (λ (l : List Happening). AreStored l world.stored) back (stored_still hs ev world.stored (λ device vl. refl) old.stored);
+      are = subst (λ (l : List Happening). AreSettled r l [] (behind here) (now ∷ 2 ∷ []) now) back (nothing_due network g past event js now at);
+      shown = λ device lt ended. (λ b. absurd (no_clock now device b), λ less. absurd (omega (arith, less)));
+    }

@@ -1,0 +1,159 @@
+-- A fresh world stands for the run of no records under no events.
+use Rattle.world_law.proofs.steps_lemmas.Words.{◌++◌, ◌+ℤ◌, ◌+◌, ◌-ℤ◌, ◌<ℤ◌, ◌^◌, ◌∙◌, ◌∷◌, ◌≡◌, ◌≤ℤ◌, ◌≤◌, DeviceId, Happening, IsBefore, IsDue, IsIn, IsKept}
+use Rattle.world_law.proofs.steps_lemmas.Words.{IsLeft, IsPending, IsSource, List, Network, Node, Scenario, Task, Units, [], amount, ap, arith, chain}
+use Rattle.world_law.proofs.steps_lemmas.Words.{correcting, dispatching, doing, emitting, false, inl, inr, ints, no_cluster, none_in, observation_window}
+use Rattle.world_law.proofs.steps_lemmas.Words.{place_of, pos, reading_for, refl, scenario, sending, subst, sym, true, value_of, ℕ, ℤ}
+use Rattle.world_law.specs.steps.Steps.{Begun}
+use Rattle.run_law.{proofs.{records.Happenings.none_numbered, runs.Grow.empty_run}, specs.machines.Nodes.begun_node}
+
+-- nothing of the run is before the first source
+low_rank : (t k : ℕ) (ws : List ℕ) → 1 ≤ k → IsBefore (t ∷ k ∷ ws) (0 ∷ 1 ∷ []) → ⊥
+low_rank t k ws one (inl lt) = absurd (omega (arith, lt))
+low_rank t k ws one (inr (e, inl lt)) = absurd (omega (arith, lt, one))
+low_rank t k ws one (inr (e, inr (f, b))) = b
+
+source_from : (s : Scenario) (hs : List Happening) (w : List ℕ) → IsSource s hs w → IsBefore w (0 ∷ 1 ∷ []) → ⊥
+source_from s hs w (IsSource.arriving t device link cause a) b = low_rank t 2 (device.0 ∷ link.0 ∷ cause ∷ []) (omega arith) b
+source_from s hs w (IsSource.ripening t device link cause point r) b =
+    low_rank t 3 (device.0 ∷ amount point ∷ r.frame.members.0 ∷ link.0 ∷ cause ∷ []) (omega arith) b
+source_from s hs w (IsSource.acting t device a) b = low_rank t 4 (device.0 ∷ []) (omega arith) b
+source_from s hs w (IsSource.departing t device link cause d) b = low_rank t 8 (device.0 ∷ link.0 ∷ cause ∷ []) (omega arith) b
+source_from s hs w (IsSource.following t cause h it) b = low_rank t 2 [] (omega arith) b
+source_from s hs w (IsSource.befalling time line what it) b = low_rank (amount time) 1 [] (omega arith) b
+source_from s hs w (IsSource.ending time device is there it) b = low_rank (amount time) 14 (device.0 ∷ []) (omega arith) b
+
+no_part : (front rest : List Happening) (z : Happening) → [] ≡ front ++ z ∷ rest → ⊥
+no_part [] rest z e = cc
+no_part (f ∷ front) rest z e = cc
+
+begins_at : (a : Units) (r : ℕ) → r ≡ 0 → a.0 ≡ (pos r +ℤ a.0)
+begins_at a r e = omega (arith, ints, e)
+
+left_fresh : (network : Network) (f : DeviceId → ℕ → ℕ) (device : DeviceId) (t : ℕ) → f device 0 ≡ 0
+    → IsLeft (scenario network f []) [] device t (begun_node network device)
+left_fresh network f device t zero_first = grind (arith, begins_at)
+
+in_time : (r : ℕ) (v a precision : ℤ) → r ≡ 0 → a <ℤ v → pos 0 ≤ℤ precision → pos r <ℤ ((v -ℤ a) +ℤ precision)
+in_time r v a precision e lt le = omega (arith, ints, e, lt, le)
+
+ahead_time : (r : ℕ) (network : Network) (device : DeviceId) (task : Task) → r ≡ 0 → pos 0 ≤ℤ network.precision.0
+    → IsPending network device (begun_node network device) task → pos r <ℤ (reading_for network (begun_node network device) task +ℤ network.precision.0)
+ahead_time r network device (doing deed) e le p = in_time r (value_of network deed) _ network.precision.0 e p.1.ahead le
+ahead_time r network device (emitting sent) e le p = absurd (no_cluster (observation_window network) p.1.clusters p.1.cluster p.1.are p.1.there)
+
+kept_fresh : {M : Type 0} (stands : M → Network → DeviceId → Node → Type 0) (network : Network) (f : DeviceId → ℕ → ℕ) (device : DeviceId) (machine : M)
+    → f device 0 ≡ 0 → pos 0 ≤ℤ network.precision.0 → stands machine network device (begun_node network device)
+    → IsKept stands (scenario network f []) [] [] (0 ∷ 1 ∷ []) 0 device machine
+kept_fresh stands network f device machine zero_first le is = record {
+  node = begun_node network device;
+  is = is;
+  sound = refl;
+  up = 0;
+  acted = inl (refl, λ b a. low_rank 0 4 (device.0 ∷ []) (omega arith) b);
+  high = 0;
+  doing = inl refl;
+  told = λ over. absurd cc;
+  left = left_fresh network f device 0 zero_first;
+  taken = refl;
+  done = record { undone = λ deed u x from lt. absurd (omega (arith, lt)); done = λ deed there. absurd (none_in deed there) };
+  sent = record { unsent = λ sent w x lt. absurd (omega (arith, lt)); sent = λ sent there. absurd (none_in sent there) };
+  bare = λ other. (refl, refl);
+  ready = record {
+    time = omega (arith, ints);
+    begun = omega (arith, ints);
+    last = ap pos (sym zero_first);
+    undone = λ task p x lt. absurd (omega (arith, lt));
+    in_time = λ task p. ahead_time (f device 0) network device task zero_first le p;
+  };
+  still = λ same h i. absurd i;
+  turned = λ on. absurd cc;
+  cleared = λ cycle there. absurd (none_in (correcting cycle) there);
+  recorded = λ same. record {
+    sent = λ cycle there d. absurd (none_in (sending cycle) there);
+    emitted = λ c there r. absurd (none_in c there);
+    has_sent = λ z i cycle e. absurd i;
+    has_emitted = λ z i c verdict e. absurd i;
+    frames = λ z i c verdict e. absurd i;
+    of_now = λ z i. absurd i;
+    dispatched = λ link cause vl cycle d there. absurd (none_in (dispatching (record { 0 = d.place }) cycle) there);
+    has_dispatched = λ z i link cause vl cycle d e. absurd i;
+    ordered = λ z i c verdict e d w due. absurd i;
+  };
+  phase = λ at p b. b;
+}
+
+pub begun : {C M : Type 0} (reading : C → ℕ → ℕ) (stands : M → Network → DeviceId → Node → Type 0) → Begun reading stands
+begun {C} {M} reading stands network f world fresh forward steady zero_first le range rules =
+    let s = scenario network f [] in
+    let now = sym fresh.now in
+    record {
+      same = fresh.of_it;
+      range = range;
+      rules = rules;
+      forward = forward;
+      steady = steady;
+      precise = le;
+      mark = 0 ∷ [];
+      cursor = 0 ∷ 1 ∷ [];
+      run = empty_run place_of (IsDue s) (0 ∷ []) (λ y due here. elim here [ inl lt ↦ absurd (omega (arith, lt)) | inr none ↦ none.1 ]);
+      ahead = λ p b. Rattle.run_law.proofs.runs.Places.before_of_time p 0 (1 ∷ []) b;
+      of_now = λ p b. subst (λ (n : ℕ). IsBefore p (n ∷ [])) fresh.now b;
+      not_later = λ p b. subst (λ (n : ℕ). IsBefore p ((n + 1) ∷ [])) now (Rattle.run_law.proofs.runs.Places.before_next_time p 0 (1 ∷ []) b);
+      limit = subst (λ (n : ℕ). n ≤ 2 ^ 60) now (omega arith);
+      lines = fresh.lines;
+      given = fresh.given;
+      ended = λ time. (λ ends. absurd (none_in _ ends), λ it. absurd (let e : false ≡ true = sym fresh.ended ∙ it.0 in cc));
+      befallen = record { past = λ i e at. absurd cc; told = λ i e at. absurd cc; begun = λ i e at. absurd cc; sent = λ i e link octets at. absurd cc };
+      clocks = λ device lt. let own = fresh.clocks device lt in (own.0, own.1, λ t late. own.2 t (omega arith));
+      broken = fresh.broken;
+      ways = subst (λ (n : ℕ). Rattle.world_law.specs.world.World.AreWays s n world.ups world.downs) now fresh.ways;
+      coming = [];
+      room = omega arith;
+      settled = fresh.settled;
+      known = record { unmoved = λ device le h i. absurd i; never_on = λ device le t. refl };
+      devices = λ device lt.
+          let m = fresh.machines device lt in (
+            m.0,
+            m.1,
+            inl (subst (λ (n : ℕ). IsKept stands s [] [] (0 ∷ 1 ∷ []) n device m.0) now
+                (kept_fresh stands network f device m.0 (zero_first device) le m.2)),
+          );
+      early = λ first p b. subst (λ (n : ℕ). IsBefore p (n ∷ 2 ∷ [])) now (chain p (0 ∷ 1 ∷ []) (0 ∷ 2 ∷ []) b (inr (refl, inl (omega arith))));
+      untold = record {
+        done = λ told number h it. absurd (none_numbered number h it.there);
+        none = λ told. fresh.befell;
+        waits = λ open_. absurd (let bad : false ≡ true = sym fresh.pending ∙ open_ in cc);
+        early = λ open_. absurd (let bad : false ≡ true = sym fresh.pending ∙ open_ in cc);
+        real = λ e i. absurd (subst (λ (l : List _). IsIn e l) fresh.befell i);
+        all = λ open_ number line what h it. absurd (none_numbered number h it.there);
+        in_order = subst (λ (l : List _). Rattle.world_law.specs.world.World.AreInOrder l) (sym fresh.befell) tt;
+      };
+      wires =
+          subst (λ (l : List _). Rattle.world_law.specs.world.World.AreOnWires s [] (0 ∷ 1 ∷ []) world.now world.pending l) (sym fresh.wires)
+          (record { real = λ e i. absurd i; all = λ t device link cause a told not. absurd (none_numbered cause a.putting a.there) });
+      ports =
+          subst (λ (l : List _). Rattle.world_law.specs.world.World.AreAtPorts s [] (0 ∷ 1 ∷ []) l) (sym fresh.ports)
+          (record { real = λ e i. absurd i; all = λ t device link cause d not. absurd (none_numbered cause d.giving d.there) });
+      waiting =
+          subst (λ (l : List _). Rattle.world_law.specs.world.World.AreWaiting s [] (0 ∷ 1 ∷ []) world.now l) (sym fresh.waiting)
+          (record {
+            real = λ e i. absurd i;
+            later = λ e i. absurd i;
+            sound = λ e i. absurd i;
+            all = λ e it sound not. absurd (none_numbered e.cause it.arrival it.there);
+          });
+      stored =
+          subst (λ (l : List _). Rattle.world_law.specs.world.World.AreStored [] l) (sym fresh.stored)
+          (record { real = λ e i. absurd i; all = λ device vl taking last. absurd cc });
+      are = record {
+        of_now = λ z i. absurd i;
+        behind_mark = λ z i. absurd i;
+        founded = λ front rest z e. absurd (no_part front rest z e);
+        by = λ front rest z e. absurd (no_part front rest z e);
+        full = λ front back y e before none not due worked. absurd (source_from s ([] ++ front) worked.0 worked.2 worked.3);
+        not_past = λ z i. absurd i;
+        worked = λ z i. absurd i;
+        begun = λ z i. absurd i;
+      };
+      shown = λ device lt ended. absurd (let e : false ≡ true = sym fresh.ended ∙ ended in cc);
+    }

@@ -1,0 +1,161 @@
+-- The clock of a device is shown at the end.
+use Rattle.world_law.proofs.{devices.Shown.{all_past, held_shows}, giving.GivenParts.up_to_place, putting.Putting.{IsPutting, held_put, known_put, settled_put}}
+use Rattle.world_law.{proofs.{giving.Given.device_in, putting.StandsOn.source_told}, specs.steps.Steps.ClockStep}
+use Rattle.world_law.proofs.steps_lemmas.Words.{◌++◌, ◌+◌, ◌<◌, ◌↔◌, ◌∙◌, ◌∷◌, ◌≡◌, ◌≤◌, AreOfNetwork, ArePutIn, DeviceId, Happening, IsBefore, IsDue, IsHeld}
+use Rattle.world_law.proofs.steps_lemmas.Words.{IsMoving, IsOwnSource, IsSource, List, Network, Node, Note, NoteBody, Scenario, [], act_place, adjustment_after}
+use Rattle.world_law.proofs.steps_lemmas.Words.{all_without, ap, arith, at_least, before_behind, behind, cases_lt, chain, clock_place, comes_first, either_way}
+use Rattle.world_law.proofs.steps_lemmas.Words.{happening, happenings, held_moves, hidden, inl, inr, ints, is_at_source, key, length, map, members_in, place_of}
+use Rattle.world_law.proofs.steps_lemmas.Words.{port_place, ports_move, put_list, rank, refl, settled_as, some_same, stands_on, state_after, subst, sym}
+use Rattle.world_law.proofs.steps_lemmas.Words.{time_of, told_wires, true, units_of, up_to, waiting_moves, wire_place, wires_move, ℕ}
+use Rattle.run_law.specs.declared.judgement.Why.TheVariants as whys
+use Rattle.run_law.specs.declared.note.NoteBody.TheVariants as kinds
+
+no_rank : {t now : ℕ} {ws more : List ℕ} (k r : ℕ) → now ∷ r ∷ more ≡ t ∷ k ∷ ws → (k ≡ r → ⊥) → ⊥
+no_rank k r e other = let same : k ≡ r = cc in other same
+
+-- only the record of a device's clock comes from its source at the end
+clock_own : (s : Scenario) (js : List Happening) (t members : ℕ) (body : NoteBody) (device : DeviceId) (now : ℕ)
+    → IsOwnSource s js t members body (now ∷ 14 ∷ device.0 ∷ []) → (t ≡ now) × (rank body ∷ key members body ≡ 14 ∷ device.0 ∷ [])
+clock_own s js t m (kinds.Clock other reading adjustment state) device now o = (cc, cc)
+clock_own s js t m (kinds.Event line what) device now o = absurd (no_rank 1 14 o (omega arith))
+clock_own s js t m (kinds.Arrived d link cause clock) device now o = absurd (no_rank 2 14 o (omega arith))
+clock_own s js t m (kinds.Permanent d link cause point verdict) device now o = absurd (no_rank 3 14 o (omega arith))
+clock_own s js t m (kinds.Compressed d opened at cycle of_masters verdict) device now o = absurd (no_rank 4 14 o (omega arith))
+clock_own s js t m (kinds.Sent d cycle) device now o = absurd (no_rank 4 14 o (omega arith))
+clock_own s js t m (kinds.Corrected d cycle by adjustment) device now o = absurd (no_rank 4 14 o (omega arith))
+clock_own s js t m (kinds.State d state cause whys.On) device now o = absurd (no_rank 2 14 o (omega arith))
+clock_own s js t m (kinds.State d state cause whys.Frame) device now o = absurd (no_rank 2 14 o (omega arith))
+clock_own s js t m (kinds.State d state cause whys.Correction) device now o = absurd (no_rank 2 14 o (omega arith))
+clock_own s js t m (kinds.State d state cause whys.SyncClique) device now o = absurd (no_rank 4 14 o (omega arith))
+clock_own s js t m (kinds.State d state cause whys.AsyncClique) device now o = absurd (no_rank 4 14 o (omega arith))
+clock_own s js t m (kinds.Left d link cause clock) device now o = absurd (no_rank 8 14 o (omega arith))
+clock_own s js t m (kinds.Lost d link cause) device now (inl o) = absurd (no_rank 8 14 o.0 (omega arith))
+clock_own s js t m (kinds.Lost d link cause) device now (inr (inl o)) = absurd (no_rank 4 14 o.0 (omega arith))
+clock_own s js t m (kinds.Lost d link cause) device now (inr (inr o)) = absurd (no_rank 2 14 o.0 (omega arith))
+clock_own s js t m (kinds.TtSent d link cause vl cycle) device now o = absurd (no_rank 4 14 o (omega arith))
+clock_own s js t m (kinds.Accepted d link cause vl cycle) device now o = absurd (no_rank 2 14 o (omega arith))
+clock_own s js t m (kinds.Delivered d link cause vl cycle) device now o = absurd (no_rank 2 14 o (omega arith))
+clock_own s js t m (kinds.Dropped d link cause reason) device now (inl o) = absurd (no_rank 2 14 o.0 (omega arith))
+clock_own s js t m (kinds.Dropped d link cause reason) device now (inr (inl o)) = absurd (no_rank 3 14 o.2 (omega arith))
+clock_own s js t m (kinds.Dropped d link cause reason) device now (inr (inr o)) = absurd (no_rank 8 14 o.0 (omega arith))
+
+-- what is late is at its source where it is a clock's
+last_rank : (body : NoteBody) → 14 ≤ rank body → is_at_source body ≡ true
+last_rank (kinds.Clock other reading adjustment state) late = refl
+last_rank (kinds.Event line what) late = absurd (omega (arith, late))
+last_rank (kinds.Arrived d link cause clock) late = absurd (omega (arith, late))
+last_rank (kinds.Permanent d link cause point verdict) late = absurd (omega (arith, late))
+last_rank (kinds.Compressed d opened at cycle of_masters verdict) late = absurd (omega (arith, late))
+last_rank (kinds.Sent d cycle) late = absurd (omega (arith, late))
+last_rank (kinds.Corrected d cycle by adjustment) late = absurd (omega (arith, late))
+last_rank (kinds.State d state cause why) late = absurd (omega (arith, late))
+last_rank (kinds.Left d link cause clock) late = absurd (omega (arith, late))
+last_rank (kinds.Lost d link cause) late = absurd (omega (arith, late))
+last_rank (kinds.TtSent d link cause vl cycle) late = absurd (omega (arith, late))
+last_rank (kinds.Accepted d link cause vl cycle) late = absurd (omega (arith, late))
+last_rank (kinds.Delivered d link cause vl cycle) late = absurd (omega (arith, late))
+last_rank (kinds.Dropped d link cause reason) late = absurd (omega (arith, late))
+
+-- so nothing is to come where a clock comes first
+none_coming : (s : Scenario) (hs coming : List Happening) (mark cursor : List ℕ) (now : ℕ) (device : DeviceId)
+    → IsMoving s hs coming mark cursor now 14 (device.0 ∷ []) → coming ≡ []
+none_coming s hs [] mark cursor now device m = refl
+none_coming s hs (y ∷ coming) mark cursor now device m =
+    let late = at_least y now 14 (device.0 ∷ []) (m.are.of_now y (inl refl)) (m.after y (inl refl)) in
+    let past = m.are.worked y (inl refl) (last_rank y.note.body late) in
+    absurd (elim (either_way (now ∷ 14 ∷ device.0 ∷ []) (place_of y)) [
+      | inl lt ↦ m.waits (chain (now ∷ 14 ∷ device.0 ∷ []) (place_of y) cursor lt past)
+      | inr (inl e) ↦ m.waits (subst (λ (q : List ℕ). IsBefore q cursor) (sym e) past)
+      | inr (inr gt) ↦ m.after y (inl refl) gt
+    ])
+
+pub nothing_put : (now : ℕ) (network : Network) (hs : List Happening) (body : NoteBody) (settled : List Happening)
+    → ArePutIn network hs now (body ∷ []) [] settled → settled ≡ settled_as network hs now body ∷ []
+nothing_put now network hs body settled (mid, put, last) = from put.front put.back put.was put.is
+  where
+    from : (front back : List Happening) → [] ≡ front ++ back → mid ≡ front ++ settled_as network hs now body ∷ back → settled ≡ settled_as network hs now body
+        ∷ []
+    from [] [] was is = last ∙ is
+    from [] (b ∷ back) was is = absurd cc
+    from (f ∷ front) back was is = absurd cc
+
+shown_more : (now shown : ℕ) (device d : DeviceId) → shown ≡ device.0 → IsBefore (clock_place now d) (behind (clock_place now device)) ↔ (d.0 < shown + 1)
+shown_more now shown device d e = grind (arith, up_to_place, clock_place, cases_lt)
+
+pub clock_step : {C M : Type 0} (reading : C → ℕ → ℕ) (stands : M → Network → DeviceId → Node → Type 0) → ClockStep reading stands
+clock_step {C} {M} reading stands s world notes device machine state adjustment settled old lt ended shown first there stood put =
+    let hs = happenings s.network notes in
+    let now = world.now in
+    let more = device.0 ∷ [] in
+    let here = now ∷ 14 ∷ more in
+    let waits : IsBefore here old.cursor → ⊥ = λ b. let less = (old.shown device lt ended).0 b in omega (arith, less, shown) in
+    let m = comes_first reading stands s world notes old 14 more here (λ seven. omega (arith, seven))
+    (λ same. (let two : ◌≡◌ {A = ℕ} 2 14 = cc in omega (arith, two))) refl waits first in
+    let empty = none_coming s hs old.coming old.mark old.cursor now device m in
+    let moving : IsMoving s hs [] old.mark old.cursor now 14 more = subst (λ (l : List Happening). IsMoving s hs l old.mark old.cursor now 14 more) empty m in
+    let body : NoteBody = kinds.Clock device (units_of (s.reading device now)) adjustment state in
+    let note : Note = record { number = length (hs ++ []) + 1; time = units_of now; body = body } in
+    let w = happening s.network (hs ++ []) note in
+    let m2 = old.devices device lt in
+    let machine_is : m2.0 ≡ machine = some_same m2.0 machine _ m2.1 there in
+    let shows = held_shows stands s hs old.coming old.mark old.cursor now device m2.0 m2.2
+    (old.untold.done (source_told reading stands s world notes old 14 more m (inr (refl, inl (omega arith)))))
+    (all_past reading stands s world notes old) old.befallen in
+    let is = stood shows.0 (subst (λ (x : M). stands x s.network device shows.0) machine_is shows.1) in
+    let at_end = device_in s.network device lt in
+    let due : IsDue s (hs ++ []) w = record {
+      number = refl;
+      same = refl;
+      begun = omega (arith, ints);
+      cause = record {
+        is = at_end.0;
+        there = at_end.1;
+        ends = (old.ended (units_of now)).1 (ended, refl);
+        reads = refl;
+        adjusted = is.1 ∙ shows.2.adjustment ∙ ap (λ (l : List Happening). adjustment_after s (up_to now (hs ++ l)) device) empty;
+        in_state = is.0 ∙ shows.2.state ∙ ap (λ (l : List Happening). state_after s (up_to now (hs ++ l)) device) empty;
+      };
+    } in
+    let p : IsPutting s hs [] [] old.mark old.cursor now 14 more w = record {
+      moving = moving;
+      late = omega arith;
+      marked = old.of_now;
+      founded = old.run.founded;
+      idle = tt;
+      at = refl;
+      due = due;
+      before = λ y i. absurd i;
+      none = λ y i b. i;
+      fresh = λ y i same. i;
+      least = inl refl;
+      mine = refl;
+      here = IsSource.ending (units_of now) device at_end.0 at_end.1 ((old.ended (units_of now)).1 (ended, refl));
+      source = λ yes_it. before_behind here;
+      own = λ zs y y_due few at own.
+          let it = clock_own s (hs ++ zs) (time_of y) (members_in y) y.note.body device now own in
+          ap (λ (l : List ℕ). now ∷ l) (sym it.1) ∙ ap (λ (n : ℕ). n ∷ rank y.note.body ∷ key (members_in y) y.note.body) (sym it.0);
+    } in
+    let none_settled : world.settled ≡ [] = old.settled ∙ ap (map (hidden (length notes))) empty in
+    let shown_all : settled ≡ map (hidden (length notes)) (put_list [] w []) = nothing_put now s.network hs body settled
+    (subst (λ (l : List Happening). ArePutIn s.network hs now (body ∷ []) l settled) none_settled put) in
+    let room = first.room in
+    stands_on reading stands s world notes old 14 more here world.machines world.wires world.ports world.waiting settled (put_list [] w []) (world.shown + 1) m
+    refl shown_all (omega (arith, room))
+    (settled_put s hs [] [] old.mark old.cursor now 14 more w p)
+    (known_put s hs [] [] w tt (subst (λ (l : List Happening). AreOfNetwork s (hs ++ l)) empty old.known))
+    (λ d within.
+    let k = old.devices d within in (
+      k.0,
+      k.1,
+      held_put stands s hs [] [] (behind here) now d k.0 w tt refl
+          (chain (act_place now d) here (behind here) (inr (refl, inl (omega arith))) (before_behind here))
+          (held_moves stands s hs [] old.mark old.cursor now 14 more d k.0 moving (λ same. (let four : ◌≡◌ {A = ℕ} 4 14 = cc in omega (arith, four)))
+          (subst (λ (l : List Happening). IsHeld stands s hs l old.cursor now d k.0) empty k.2)),
+    ))
+    (inr (refl, inl (omega arith))) (wires_move s hs old.coming old.mark old.cursor now 14 more world.wires world.wires m
+    (told_wires reading stands s world notes old 14 more m (inr (refl, inl (omega arith))))
+    (all_without wire_place here world.wires (λ e same. (let two : ◌≡◌ {A = ℕ} 2 14 = cc in omega (arith, two)))))
+    (ports_move s hs old.coming old.mark old.cursor now 14 more world.ports world.ports m old.ports
+    (all_without port_place here world.ports (λ e same. (let eight : ◌≡◌ {A = ℕ} 8 14 = cc in omega (arith, eight)))))
+    (waiting_moves s hs old.coming old.mark old.cursor now 14 more world.waiting m (λ three. omega (arith, three)) old.waiting)
+    (λ d within over. shown_more now world.shown device d shown)

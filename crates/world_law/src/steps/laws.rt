@@ -1,0 +1,75 @@
+ghost use Rattle.world_law.specs.steps.{Acting.{ActedStep, LastActedStep}, Arriving.HeardStep, Befalling.BefellStep};
+ghost use Rattle.world_law.specs.steps.Repeating.{ActsAddUp, ActsAreBounded, ActsBringFew, NoActYet};
+ghost use Rattle.world_law.specs.steps.{Ripening.RipenedStep};
+ghost use Rattle.world_law.specs.steps.Steps.{AppliedStep, Begun, ClockStep, LeftStep, PassedStep};
+
+use drift_clock::Clock;
+use run_law::Machine;
+
+/// A fresh world stands for the run of no records under no events.
+pub fn begun<C: Clock, M: Machine + Drop>()
+    ensures { Begun C.reading M.stands }
+{}
+
+/// Where a world stands and time passes, it stands again.
+pub fn passed_step<C: Clock, M: Machine + Drop>()
+    ensures { PassedStep C.reading M.stands }
+{}
+
+/// Where a world stands and a frame on a wire arrives, it stands again, once its device's machine has heard it.
+pub fn heard_step<C: Clock, M: Machine + Drop>()
+    ensures { HeardStep C.reading M.stands }
+{}
+
+/// Where a world stands and a frame at a port leaves, it stands again.
+pub fn left_step<C: Clock, M: Machine + Drop>()
+    ensures { LeftStep C.reading M.stands }
+{}
+
+/// Where a world stands and the clock of a device is shown at the end, it stands again.
+pub fn clock_step<C: Clock, M: Machine + Drop>()
+    ensures { ClockStep C.reading M.stands }
+{}
+
+/// Where a world stands and an event befalls, before all else of its instant, it stands again.
+pub fn applied_step<C: Clock, M: Machine + Drop>()
+    ensures { AppliedStep C.reading M.stands }
+{}
+
+/// Where a world stands and the outcomes of the instant's events are pending, it stands again once they are settled,
+/// before all else of the instant.
+pub fn befell_step<C: Clock, M: Machine + Drop>()
+    ensures { BefellStep C.reading M.stands }
+{}
+
+/// Where a world stands and the first frame that waits is permanent, it stands again.
+pub fn ripened_step<C: Clock, M: Machine + Drop>()
+    ensures { RipenedStep C.reading M.stands }
+{}
+
+/// Where a world stands and a device acts that has more to do at the instant, it stands again, and the device may
+/// act again.
+pub fn acted_step<C: Clock, M: Machine + Drop>()
+    ensures { ActedStep C.reading M.stands }
+{}
+
+/// Where a world stands and a device acts that has nothing more to do at the instant, it stands again.
+pub fn last_acted_step<C: Clock, M: Machine + Drop>()
+    ensures { LastActedStep C.reading M.stands }
+{}
+
+/// A machine that acts again and again at one moment: how often it has acted.
+pub fn acts_add_up<M: Machine + Drop>()
+    ensures first { NoActYet M.stands }
+    ensures more { ActsAddUp M.stands }
+{}
+
+/// A machine of a world, for which something is due, acts at most so often at the instant.
+pub fn acts_are_bounded<C: Clock, M: Machine + Drop>()
+    ensures { ActsAreBounded C.reading M.stands }
+{}
+
+/// An act brings two records at most.
+pub fn acts_bring_few()
+    ensures { ActsBringFew }
+{}

@@ -1,5 +1,0 @@
-use Rattle.world_steps.proofs.laws.acts_are_bounded.Goals as goal
-use Rattle.world_steps.proofs.growing.Repeating.{acts_are_bounded}
-
-pub returns : goal.returns
-returns g c = acts_are_bounded g.C.Clock.reading g.M.Machine.stands

@@ -1,5 +1,0 @@
-use Rattle.world_steps.proofs.laws.applied_step.Goals as goal
-use Rattle.world_steps.proofs.steps.Applied.{applied_step}
-
-pub returns : goal.returns
-returns g c = applied_step g.C.Clock.reading g.M.Machine.stands

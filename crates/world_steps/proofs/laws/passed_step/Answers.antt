@@ -1,5 +1,0 @@
-use Rattle.world_steps.proofs.laws.passed_step.Goals as goal
-use Rattle.world_steps.proofs.steps.Passed.{passed_step}
-
-pub returns : goal.returns
-returns g c = passed_step g.C.Clock.reading g.M.Machine.stands
