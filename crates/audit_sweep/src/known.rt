@@ -109,7 +109,7 @@ impl Known {
 }
 
 /// What a record of this frame says: its cycle and its members.
-fn carried_by(frame: Option<Pcf>) -> Carried
+pub fn carried_by(frame: Option<Pcf>) -> Carried
     ensures { (h : Happening) → h.frame ≡ frame → result ≡ carried_by h }
 {
     match frame {
@@ -125,7 +125,7 @@ fn carried_by(frame: Option<Pcf>) -> Carried
 }
 
 /// What the clock of the device of which a record shows something reads at the time, and a unit of time before.
-fn readings(events: &EventHistory, body: &NoteBody, time: u64) -> Readings
+pub fn readings(events: &EventHistory, body: &NoteBody, time: u64) -> Readings
     requires some { RemembersSome events.now }
     requires limit { time ≤ 2 ^ 60 }
     ensures { (network : NetworkValue) (befallen : List Event) (device : DeviceIdValue)

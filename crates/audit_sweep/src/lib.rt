@@ -19,4 +19,5 @@ mod sweep;
 pub mod unpaid;
 
 pub use crate::records::OutOfMemory;
+pub use known::{carried_by, readings};
 pub use sweep::Sweep;

@@ -1,7 +1,10 @@
 -- When a text is the decimal of a number.
-use Rattle.tte_audit.proofs.Words.{◌++◌, ◌<◌, ◌^◌, ◌∙◌, ◌≡◌, ◌≤◌, AllDigits, List, ap, arith, decimal, digits_value, get_or, length, nat_tests, subst, sym}
-use Rattle.tte_audit.proofs.Words.{take, true, ℕ}
-use Rattle.std.proofs.{Common.◌-◌, Math.Nat.pow-le-pow_right, lemmas.{Fmt.decimal-digits_value, Int.Digits.digits_value-lt, List.length-take-le}}
+use Rattle.tte_audit.proofs.Words.{◌++◌, ◌<◌, ◌^◌, ◌∙◌, ◌∷◌, ◌≡◌, ◌≤◌, AllDigits, List, [], ap, append-nil, arith, decimal, digits_value, get_or, length, nat_tests, subst, sym}
+use Rattle.tte_audit.proofs.Words.{Some, Words, refl, take, true, ℕ}
+use Rattle.std.proofs.{Common.◌-◌, Math.Nat.pow-le-pow_right, lemmas.{Fmt.{decimal-digits_value, decimal_injective}, Int.Digits.digits_value-lt, List.{length-take-le, Splits.{slice_split_at, slice_split_none}}}}
+use Rattle.tte_lemmas.proofs.Lists.{same_name}
+use Rattle.tte_audit.specs.Spellings.{first_word}
+use Rattle.trace_text.{proofs.Joining.decimal_is_word, specs.Steps.{is_space, space, words}}
 use Rattle.std.{proofs.lemmas.Str.Parse.{IsNumeralModel, numerals_by_value, tells_digits}, specs.Char.{digit_value, is_ascii_digit}}
 
 own : IsNumeralModel (AllDigits 10) (digits_value 10)
@@ -33,3 +36,16 @@ digit_shows c h = grind (arith, nat_tests)
 
 pub digit_spells : (c : ℕ) → is_ascii_digit c ≡ true → digit_value c ≡ c - 48
 digit_spells c h = grind (arith, nat_tests)
+
+-- a number is the only word of its text, or the first one where a space follows
+pub number_alone : (text rest : List ℕ) (n : ℕ) → n < 2 ^ 64 → text ≡ decimal n ++ rest → rest ≡ [] → words text ≡ decimal n ∷ []
+number_alone text rest n range e none =
+    ap words (e ∙ ap (λ (t : List ℕ). decimal n ++ t) none ∙ append-nil (decimal n)) ∙ slice_split_none is_space (decimal n) (decimal_is_word n range)
+
+pub number_first : (text rest behind : List ℕ) (n : ℕ) → n < 2 ^ 64 → text ≡ decimal n ++ rest → rest ≡ space ∷ behind → words text ≡ decimal n ∷ words behind
+number_first text rest behind n range e parts =
+    ap words (e ∙ ap (λ (t : List ℕ). decimal n ++ t) parts) ∙ slice_split_at is_space (decimal n) space behind (decimal_is_word n range) refl
+
+-- the first word is the decimal of one number alone
+pub first_number : (ws rest : Words) (m n : ℕ) → m < 2 ^ 64 → n < 2 ^ 64 → ws ≡ decimal m ∷ rest → first_word ws ≡ Some (decimal n) → m ≡ n
+first_number ws rest m n small range is first = decimal_injective m n small range (same_name (decimal m) (decimal n) (sym (ap first_word is) ∙ first))

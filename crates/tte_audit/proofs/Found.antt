@@ -19,7 +19,7 @@ found text xs word (Some x) e =
 
 pub kind_found : (word : List ℕ) (r : Option KindWord) → r ≡ kind_spelled word → IfSome r (λ kind. word ≡ kind_text kind)
 unfolding kind_spelled
-kind_found word r e = found kind_text (kinds.Event ∷ kinds.Arrived ∷ kinds.Permanent ∷ kinds.Compressed ∷ kinds.Sent ∷ kinds.Corrected ∷ kinds.State
+kind_found word r e = found kind_text (kinds.Arrived ∷ kinds.Permanent ∷ kinds.Compressed ∷ kinds.Sent ∷ kinds.Corrected ∷ kinds.State
     ∷ kinds.Left ∷ kinds.Lost ∷ kinds.TtSent ∷ kinds.Accepted ∷ kinds.Delivered ∷ kinds.Dropped ∷ kinds.Clock ∷ []) word r e
 
 pub state_found : (word : List ℕ) (r : Option State) → r ≡ state_spelled word → IfSome r (λ x. word ≡ state_text x)

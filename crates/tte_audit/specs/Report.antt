@@ -17,6 +17,10 @@ use Rattle.run_law.specs.declared.note.NoteBody.TheVariants as notes
 abbrev pub is_line_end : ℕ → Bool
 is_line_end octet = octet == lf
 
+-- the record that says this
+abbrev pub saying : ℕ → Units → NoteBody → Note
+saying number time body = record { number = number; time = time; body = body }
+
 -- the text, without LF, is that of this record of the network
 pub record IsTextOf (network : Network) (note : Note) (text : List ℕ) : Type 0 where
   pub of_network : IsNoteOf network note

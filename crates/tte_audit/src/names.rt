@@ -1,49 +1,95 @@
-ghost use Rattle.std.specs.Prelude.{◌≡◌, IfSome, Some};
+//! The things of a network by their names. The likely one is looked at first.
+
+ghost use Rattle.std.specs.Prelude.{◌≡◌, ◌≢◌, IfSome, None};
 ghost use Rattle.net_plan.specs.Belonging.{HasDevice, HasLink, HasVl, device_name, link_name, vl_name};
+ghost use Rattle.net_plan.specs.Ranges.{IsInRange};
 ghost use Rattle.net_plan.specs.declared.ids.{DeviceId.DeviceId as DeviceIdValue, LinkId.LinkId as LinkIdValue};
 ghost use Rattle.net_plan.specs.declared.ids.VlId.{VlId as VlIdValue};
-ghost use Rattle.tte_audit.specs.Named.{IsNamed, vl_spelled};
 
 use net_plan::{DeviceId, LinkId, Network, VlId};
-use trace_text::{device_spelled, link_spelled};
 
-/// The device whose name the word is.
-pub(crate) fn device(network: &Network, word: &[u8]) -> Option<DeviceId>
-    requires { IsNamed network.now }
-    ensures back { (d : DeviceIdValue) → HasDevice network.now d
-        → word.now ≡ device_name network.now d → result ≡ Some d }
-    ensures of_network { IfSome result (HasDevice network.now) }
+/// A device of this name.
+pub(crate) fn device_of_name(network: &Network, likely: usize, word: &[u8]) -> Option<DeviceId>
+    requires { IsInRange network.now }
+    ensures is { (d : DeviceIdValue) → HasDevice network.now d → word.now ≡ device_name network.now d
+        → result ≢ None }
+    ensures found { IfSome result (λ d. HasDevice network.now d × (word.now ≡ device_name network.now d)) }
 {
-    device_spelled(network, word)
+    if likely < network.device.as_slice().len() {
+        let device = DeviceId(likely as u32);
+        if network.device_name(device) == word {
+            return Some(device);
+        }
+    }
+    first_device_of_name(network, word)
 }
 
-/// The link whose name the word is.
-pub(crate) fn link(network: &Network, word: &[u8]) -> Option<LinkId>
-    requires { IsNamed network.now }
-    ensures back { (l : LinkIdValue) → HasLink network.now l → word.now ≡ link_name network.now l → result ≡ Some l }
-    ensures of_network { IfSome result (HasLink network.now) }
+#[inline(never)]
+fn first_device_of_name(network: &Network, word: &[u8]) -> Option<DeviceId>
+    requires { IsInRange network.now }
+    ensures is { (d : DeviceIdValue) → HasDevice network.now d → word.now ≡ device_name network.now d
+        → result ≢ None }
+    ensures found { IfSome result (λ d. HasDevice network.now d × (word.now ≡ device_name network.now d)) }
 {
-    link_spelled(network, word)
+    match str::from_utf8(word) {
+        Ok(name) => network.device_named(name),
+        // Each name is in ASCII.
+        Err(_) => None,
+    }
 }
 
-#[tactic(auto, unfolding(crate::specs::Named::vl_spelled))]
-fn vl_spelled(network: &Network, word: &[u8]) -> Option<VlId>
-    requires { IsNamed network.now }
-    ensures value { result ≡ vl_spelled network.now word.now }
-    ensures of_network { IfSome result (HasVl network.now) }
+/// A link of this name.
+pub(crate) fn link_of_name(network: &Network, likely: usize, word: &[u8]) -> Option<LinkId>
+    requires { IsInRange network.now }
+    ensures is { (l : LinkIdValue) → HasLink network.now l → word.now ≡ link_name network.now l → result ≢ None }
+    ensures found { IfSome result (λ l. HasLink network.now l × (word.now ≡ link_name network.now l)) }
+{
+    if likely < network.link.as_slice().len() {
+        let link = LinkId(likely as u32);
+        if network.link_name(link) == word {
+            return Some(link);
+        }
+    }
+    first_link_of_name(network, word)
+}
+
+#[inline(never)]
+fn first_link_of_name(network: &Network, word: &[u8]) -> Option<LinkId>
+    requires { IsInRange network.now }
+    ensures is { (l : LinkIdValue) → HasLink network.now l → word.now ≡ link_name network.now l → result ≢ None }
+    ensures found { IfSome result (λ l. HasLink network.now l × (word.now ≡ link_name network.now l)) }
+{
+    match str::from_utf8(word) {
+        Ok(name) => network.link_named(name),
+        // Each name is in ASCII.
+        Err(_) => None,
+    }
+}
+
+/// A virtual link of this name.
+pub(crate) fn vl_of_name(network: &Network, likely: usize, word: &[u8]) -> Option<VlId>
+    requires { IsInRange network.now }
+    ensures is { (v : VlIdValue) → HasVl network.now v → word.now ≡ vl_name network.now v → result ≢ None }
+    ensures found { IfSome result (λ v. HasVl network.now v × (word.now ≡ vl_name network.now v)) }
+{
+    if likely < network.vl.as_slice().len() {
+        let vl = VlId(likely as u32);
+        if network.vl_name(vl) == word {
+            return Some(vl);
+        }
+    }
+    first_vl_of_name(network, word)
+}
+
+#[inline(never)]
+fn first_vl_of_name(network: &Network, word: &[u8]) -> Option<VlId>
+    requires { IsInRange network.now }
+    ensures is { (v : VlIdValue) → HasVl network.now v → word.now ≡ vl_name network.now v → result ≢ None }
+    ensures found { IfSome result (λ v. HasVl network.now v × (word.now ≡ vl_name network.now v)) }
 {
     match str::from_utf8(word) {
         Ok(name) => network.vl_named(name),
         // Each name is in ASCII.
         Err(_) => None,
     }
-}
-
-/// The virtual link whose name the word is.
-pub(crate) fn vl(network: &Network, word: &[u8]) -> Option<VlId>
-    requires { IsNamed network.now }
-    ensures back { (v : VlIdValue) → HasVl network.now v → word.now ≡ vl_name network.now v → result ≡ Some v }
-    ensures of_network { IfSome result (HasVl network.now) }
-{
-    vl_spelled(network, word)
 }

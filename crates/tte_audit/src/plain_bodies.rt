@@ -1,146 +1,208 @@
-//! What a record of one kind says, where its line is just what is written for it.
+//! What a record says that is of no event, by the words of its line. It is read exactly where each word is just what is
+//! written for it.
 
-ghost use Rattle.std.specs.{List.join_with_byte, Prelude.{◌++◌, ◌∷◌, ◌≡◌, IfSome, [], codes, decimal}};
-ghost use Rattle.net_plan.specs.{Belonging.HasVl, Ranges.IsInRange};
-ghost use Rattle.run_law.specs.plain.Bodies.{body_of};
-ghost use Rattle.report_text.specs.NoteLine.{body_words, passage_words, stream_words};
-ghost use Rattle.report_text.specs.Ranges.{HasPassage, IsBodyInRange, IsBodyOf, IsCount, IsShortCount};
-ghost use Rattle.trace_text.specs.Steps.{space};
-ghost use Rattle.tte_audit.specs.Spellings.{kind_text};
+ghost use Rattle.std.specs.Fmt.{signed_decimal};
+ghost use Rattle.std.specs.Prelude.{◌++◌, ◌∷◌, ◌≡◌, ◌≢◌, IfSome, None, [], codes, decimal, ℕ};
+ghost use Rattle.net_plan.specs.{Belonging.{HasDevice, device_name}, Ranges.IsInRange};
+ghost use Rattle.net_plan.specs.declared.ids.{DeviceId.DeviceId as DeviceIdValue, LinkId.LinkId as LinkIdValue};
+ghost use Rattle.net_plan.specs.declared.ids.VlId.{VlId as VlIdValue};
+ghost use Rattle.pcf_values.specs.declared.members.Members.{Members as MembersValue};
+ghost use Rattle.report_text.specs.NoteLine.{passage_words, stream_words};
+ghost use Rattle.report_text.specs.NoteWords.{judgement_text, members_text, reason_words, state_text, why_text};
+ghost use Rattle.report_text.specs.Ranges.{HasPassage, HasStream, IsCount, IsReasonInRange, IsShortCount};
+ghost use Rattle.report_text.specs.Ranges.{IsSignedUnits};
+ghost use Rattle.run_law.specs.declared.judgement.{Judgement.Judgement as JudgementValue, Reason.Reason as ReasonValue};
+ghost use Rattle.run_law.specs.declared.judgement.Why.{Why as WhyValue};
+ghost use Rattle.run_law.specs.declared.plain.bodies.PlainKind.{PlainKind as PlainValue};
+ghost use Rattle.sync_state.specs.declared.state.State.{State as StateValue};
+ghost use Rattle.tte_units.specs.declared.units.Units.{Units as UnitsValue};
+ghost use Rattle.tte_audit.specs.Kinds.{Tells};
+ghost use Rattle.run_law.specs.declared.plain.bodies.PlainKind.TheVariants as said;
+ghost use Rattle.tte_audit.specs.declared.kind.KindWord.TheVariants as kinds;
 
-use crate::cursor::Cursor;
-use crate::enums::{judgement as judgement_word, state as state_word, why as why_word};
-use crate::kind;
-use crate::plain_words::{take_device, take_kind, take_link, take_members, take_state, take_vl};
-use crate::reasons::one_word_reason;
+use crate::kind::KindWord;
+use crate::line_words::LineWords;
+use crate::reasons::reason;
 use net_plan::{DeviceId, LinkId, Network, VlId};
 use run_law::plain::PlainKind;
 
-// Where a frame is and what it comes from.
+// A control frame that arrives or leaves.
 #[derive(Clone, Copy)]
-struct Stop {
+struct Clocked {
     device: DeviceId,
     link: LinkId,
     cause: u64,
+    clock: u64,
 }
 
-// Which time-triggered frame it is.
+impl Clocked {
+    fn arrived(self) -> PlainKind
+        ensures { result ≡ said.Arrived self.device self.link self.cause self.clock }
+    {
+        PlainKind::Arrived {
+            device: self.device,
+            link: self.link,
+            cause: self.cause,
+            clock: self.clock,
+        }
+    }
+
+    fn left(self) -> PlainKind
+        ensures { result ≡ said.Left self.device self.link self.cause self.clock }
+    {
+        PlainKind::Left {
+            device: self.device,
+            link: self.link,
+            cause: self.cause,
+            clock: self.clock,
+        }
+    }
+}
+
+fn take_clocked(network: &Network, words: &mut LineWords) -> Option<Clocked>
+    requires { IsInRange network.now }
+    ensures is { (d : DeviceIdValue) (l : LinkIdValue) (cause clock : ℕ)
+        → HasPassage network.now d l → IsCount cause → IsCount clock
+        → words.old ≡ passage_words network.now d l cause ++ codes "clock" ∷ decimal clock ∷ [] → result ≢ None }
+    ensures of_network { IfSome result (λ c. HasPassage network.now c.device c.link) }
+    ensures range { IfSome result (λ c. IsCount c.cause × IsCount c.clock) }
+    ensures text { IfSome result (λ c. words.old
+        ≡ passage_words network.now c.device c.link c.cause ++ codes "clock" ∷ decimal c.clock ∷ []) }
+{
+    let device = words.device(network)?;
+    let link = words.link(network)?;
+    let cause = words.count()?;
+    words.fixed("clock")?;
+    let clock = words.count()?;
+    words.end()?;
+    Some(Clocked {
+        device,
+        link,
+        cause,
+        clock,
+    })
+}
+
+// A frame of the schedule.
 #[derive(Clone, Copy)]
-struct Stream {
+struct Streamed {
+    device: DeviceId,
+    link: LinkId,
+    cause: u64,
     vl: VlId,
     cycle: u32,
 }
 
-// The device, the link and the cause.
-fn take_stop(network: &Network, cursor: &mut Cursor) -> Option<Stop>
+impl Streamed {
+    fn sent(self) -> PlainKind
+        ensures { result ≡ said.TtSent self.device self.link self.cause self.vl self.cycle }
+    {
+        PlainKind::TtSent {
+            device: self.device,
+            link: self.link,
+            cause: self.cause,
+            vl: self.vl,
+            cycle: self.cycle,
+        }
+    }
+
+    fn accepted(self) -> PlainKind
+        ensures { result ≡ said.Accepted self.device self.link self.cause self.vl self.cycle }
+    {
+        PlainKind::Accepted {
+            device: self.device,
+            link: self.link,
+            cause: self.cause,
+            vl: self.vl,
+            cycle: self.cycle,
+        }
+    }
+
+    fn delivered(self) -> PlainKind
+        ensures { result ≡ said.Delivered self.device self.link self.cause self.vl self.cycle }
+    {
+        PlainKind::Delivered {
+            device: self.device,
+            link: self.link,
+            cause: self.cause,
+            vl: self.vl,
+            cycle: self.cycle,
+        }
+    }
+}
+
+fn take_streamed(network: &Network, words: &mut LineWords) -> Option<Streamed>
     requires { IsInRange network.now }
-    ensures of_network { IfSome result (λ s. HasPassage network.now s.device s.link) }
-    ensures range { IfSome result (λ s. IsCount s.cause) }
-    ensures text { IfSome result (λ s. cursor.old
-        ≡ join_with_byte space (passage_words network.now s.device s.link s.cause) ++ cursor.new) }
+    ensures is { (d : DeviceIdValue) (l : LinkIdValue) (cause : ℕ) (v : VlIdValue) (cycle : ℕ)
+        → HasStream network.now d l v → IsCount cause → IsShortCount cycle
+        → words.old ≡ passage_words network.now d l cause ++ stream_words network.now v cycle → result ≢ None }
+    ensures of_network { IfSome result (λ s. HasStream network.now s.device s.link s.vl) }
+    ensures range { IfSome result (λ s. IsCount s.cause × IsShortCount s.cycle) }
+    ensures text { IfSome result (λ s. words.old
+        ≡ passage_words network.now s.device s.link s.cause ++ stream_words network.now s.vl s.cycle) }
 {
-    let device = take_device(network, cursor)?;
-    cursor.fixed(" ")?;
-    let link = take_link(network, cursor)?;
-    cursor.fixed(" ")?;
-    let cause = cursor.count()?;
-    Some(Stop {
+    let device = words.device(network)?;
+    let link = words.link(network)?;
+    let cause = words.count()?;
+    words.fixed("vl")?;
+    let vl = words.vl(network)?;
+    words.fixed("cycle")?;
+    let cycle = words.short()?;
+    words.end()?;
+    Some(Streamed {
         device,
         link,
         cause,
+        vl,
+        cycle,
     })
 }
 
-// A virtual link and a cycle, the last of the line.
-fn take_stream(network: &Network, cursor: &mut Cursor) -> Option<Stream>
+fn permanent(network: &Network, words: &mut LineWords) -> Option<PlainKind>
     requires { IsInRange network.now }
-    ensures of_network { IfSome result (λ s. HasVl network.now s.vl) }
-    ensures range { IfSome result (λ s. IsShortCount s.cycle) }
-    ensures text { IfSome result (λ s. cursor.old
-        ≡ codes " " ++ join_with_byte space (stream_words network.now s.vl s.cycle)) }
+    ensures is { (d : DeviceIdValue) (l : LinkIdValue) (cause : ℕ) (point : UnitsValue) (verdict : JudgementValue)
+        → HasPassage network.now d l → IsCount cause → IsSignedUnits point
+        → words.old ≡ passage_words network.now d l cause ++ codes "point" ∷ signed_decimal point.0
+        ∷ judgement_text verdict ∷ [] → result ≢ None }
+    ensures told { IfSome result (Tells network.now kinds.Permanent words.old) }
 {
-    cursor.fixed(" vl ")?;
-    let vl = take_vl(network, cursor)?;
-    cursor.fixed(" cycle ")?;
-    let cycle = cursor.last_short()?;
-    Some(Stream { vl, cycle })
-}
-
-fn arrived(network: &Network, cursor: &mut Cursor) -> Option<PlainKind>
-    requires { IsInRange network.now }
-    ensures of_network { IfSome result (λ p. IsBodyOf network.now (body_of p)) }
-    ensures range { IfSome result (λ p. IsBodyInRange (body_of p)) }
-    ensures text { IfSome result (λ p. codes "arrived " ++ cursor.old
-        ≡ join_with_byte space (body_words network.now (body_of p))) }
-{
-    let stop = take_stop(network, cursor)?;
-    cursor.fixed(" clock ")?;
-    let clock = cursor.last_count()?;
-    Some(PlainKind::Arrived {
-        device: stop.device,
-        link: stop.link,
-        cause: stop.cause,
-        clock,
-    })
-}
-
-fn left(network: &Network, cursor: &mut Cursor) -> Option<PlainKind>
-    requires { IsInRange network.now }
-    ensures of_network { IfSome result (λ p. IsBodyOf network.now (body_of p)) }
-    ensures range { IfSome result (λ p. IsBodyInRange (body_of p)) }
-    ensures text { IfSome result (λ p. codes "left " ++ cursor.old
-        ≡ join_with_byte space (body_words network.now (body_of p))) }
-{
-    let stop = take_stop(network, cursor)?;
-    cursor.fixed(" clock ")?;
-    let clock = cursor.last_count()?;
-    Some(PlainKind::Left {
-        device: stop.device,
-        link: stop.link,
-        cause: stop.cause,
-        clock,
-    })
-}
-
-fn permanent(network: &Network, cursor: &mut Cursor) -> Option<PlainKind>
-    requires { IsInRange network.now }
-    ensures of_network { IfSome result (λ p. IsBodyOf network.now (body_of p)) }
-    ensures range { IfSome result (λ p. IsBodyInRange (body_of p)) }
-    ensures text { IfSome result (λ p. codes "permanent " ++ cursor.old
-        ≡ join_with_byte space (body_words network.now (body_of p))) }
-{
-    let stop = take_stop(network, cursor)?;
-    cursor.fixed(" point ")?;
-    let point = cursor.units()?;
-    cursor.fixed(" ")?;
-    let verdict = judgement_word(cursor.last())?;
+    let device = words.device(network)?;
+    let link = words.link(network)?;
+    let cause = words.count()?;
+    words.fixed("point")?;
+    let point = words.units()?;
+    let verdict = words.judgement()?;
+    words.end()?;
     Some(PlainKind::Permanent {
-        device: stop.device,
-        link: stop.link,
-        cause: stop.cause,
+        device,
+        link,
+        cause,
         point,
         verdict,
     })
 }
 
-fn compressed(network: &Network, cursor: &mut Cursor) -> Option<PlainKind>
+fn compressed(network: &Network, words: &mut LineWords) -> Option<PlainKind>
     requires { IsInRange network.now }
-    ensures of_network { IfSome result (λ p. IsBodyOf network.now (body_of p)) }
-    ensures range { IfSome result (λ p. IsBodyInRange (body_of p)) }
-    ensures text { IfSome result (λ p. codes "compressed " ++ cursor.old
-        ≡ join_with_byte space (body_words network.now (body_of p))) }
+    ensures is { (d : DeviceIdValue) (opened at : UnitsValue) (cycle : ℕ) (m : MembersValue)
+        (verdict : JudgementValue)
+        → HasDevice network.now d → IsSignedUnits opened → IsSignedUnits at → IsShortCount cycle → IsShortCount m.0
+        → words.old ≡ device_name network.now d ∷ codes "opened" ∷ signed_decimal opened.0
+        ∷ codes "at" ∷ signed_decimal at.0 ∷ codes "cycle" ∷ decimal cycle
+        ∷ codes "members" ∷ members_text m ∷ judgement_text verdict ∷ [] → result ≢ None }
+    ensures told { IfSome result (Tells network.now kinds.Compressed words.old) }
 {
-    let device = take_device(network, cursor)?;
-    cursor.fixed(" opened ")?;
-    let opened = cursor.units()?;
-    cursor.fixed(" at ")?;
-    let at = cursor.units()?;
-    cursor.fixed(" cycle ")?;
-    let cycle = cursor.short()?;
-    cursor.fixed(" members ")?;
-    let members = take_members(cursor)?;
-    cursor.fixed(" ")?;
-    let verdict = judgement_word(cursor.last())?;
+    let device = words.device(network)?;
+    words.fixed("opened")?;
+    let opened = words.units()?;
+    words.fixed("at")?;
+    let at = words.units()?;
+    words.fixed("cycle")?;
+    let cycle = words.short()?;
+    words.fixed("members")?;
+    let members = words.members()?;
+    let verdict = words.judgement()?;
+    words.end()?;
     Some(PlainKind::Compressed {
         device,
         opened,
@@ -151,33 +213,35 @@ fn compressed(network: &Network, cursor: &mut Cursor) -> Option<PlainKind>
     })
 }
 
-fn sent(network: &Network, cursor: &mut Cursor) -> Option<PlainKind>
+fn sent(network: &Network, words: &mut LineWords) -> Option<PlainKind>
     requires { IsInRange network.now }
-    ensures of_network { IfSome result (λ p. IsBodyOf network.now (body_of p)) }
-    ensures range { IfSome result (λ p. IsBodyInRange (body_of p)) }
-    ensures text { IfSome result (λ p. codes "sent " ++ cursor.old
-        ≡ join_with_byte space (body_words network.now (body_of p))) }
+    ensures is { (d : DeviceIdValue) (cycle : ℕ) → HasDevice network.now d → IsShortCount cycle
+        → words.old ≡ device_name network.now d ∷ codes "cycle" ∷ decimal cycle ∷ [] → result ≢ None }
+    ensures told { IfSome result (Tells network.now kinds.Sent words.old) }
 {
-    let device = take_device(network, cursor)?;
-    cursor.fixed(" cycle ")?;
-    let cycle = cursor.last_short()?;
+    let device = words.device(network)?;
+    words.fixed("cycle")?;
+    let cycle = words.short()?;
+    words.end()?;
     Some(PlainKind::Sent { device, cycle })
 }
 
-fn corrected(network: &Network, cursor: &mut Cursor) -> Option<PlainKind>
+fn corrected(network: &Network, words: &mut LineWords) -> Option<PlainKind>
     requires { IsInRange network.now }
-    ensures of_network { IfSome result (λ p. IsBodyOf network.now (body_of p)) }
-    ensures range { IfSome result (λ p. IsBodyInRange (body_of p)) }
-    ensures text { IfSome result (λ p. codes "corrected " ++ cursor.old
-        ≡ join_with_byte space (body_words network.now (body_of p))) }
+    ensures is { (d : DeviceIdValue) (cycle : ℕ) (by adjustment : UnitsValue)
+        → HasDevice network.now d → IsShortCount cycle → IsSignedUnits by → IsSignedUnits adjustment
+        → words.old ≡ device_name network.now d ∷ codes "cycle" ∷ decimal cycle ∷ codes "by" ∷ signed_decimal by.0
+        ∷ codes "adj" ∷ signed_decimal adjustment.0 ∷ [] → result ≢ None }
+    ensures told { IfSome result (Tells network.now kinds.Corrected words.old) }
 {
-    let device = take_device(network, cursor)?;
-    cursor.fixed(" cycle ")?;
-    let cycle = cursor.short()?;
-    cursor.fixed(" by ")?;
-    let by = cursor.units()?;
-    cursor.fixed(" adj ")?;
-    let adjustment = cursor.last_units()?;
+    let device = words.device(network)?;
+    words.fixed("cycle")?;
+    let cycle = words.short()?;
+    words.fixed("by")?;
+    let by = words.units()?;
+    words.fixed("adj")?;
+    let adjustment = words.units()?;
+    words.end()?;
     Some(PlainKind::Corrected {
         device,
         cycle,
@@ -186,20 +250,19 @@ fn corrected(network: &Network, cursor: &mut Cursor) -> Option<PlainKind>
     })
 }
 
-fn changed(network: &Network, cursor: &mut Cursor) -> Option<PlainKind>
+fn changed(network: &Network, words: &mut LineWords) -> Option<PlainKind>
     requires { IsInRange network.now }
-    ensures of_network { IfSome result (λ p. IsBodyOf network.now (body_of p)) }
-    ensures range { IfSome result (λ p. IsBodyInRange (body_of p)) }
-    ensures text { IfSome result (λ p. codes "state " ++ cursor.old
-        ≡ join_with_byte space (body_words network.now (body_of p))) }
+    ensures is { (d : DeviceIdValue) (new : StateValue) (cause : ℕ) (y : WhyValue)
+        → HasDevice network.now d → IsCount cause
+        → words.old ≡ device_name network.now d ∷ state_text new ∷ decimal cause ∷ why_text y ∷ []
+        → result ≢ None }
+    ensures told { IfSome result (Tells network.now kinds.State words.old) }
 {
-    let device = take_device(network, cursor)?;
-    cursor.fixed(" ")?;
-    let state = take_state(cursor)?;
-    cursor.fixed(" ")?;
-    let cause = cursor.count()?;
-    cursor.fixed(" ")?;
-    let why = why_word(cursor.last())?;
+    let device = words.device(network)?;
+    let state = words.state()?;
+    let cause = words.count()?;
+    let why = words.why()?;
+    words.end()?;
     Some(PlainKind::State {
         device,
         state,
@@ -208,18 +271,16 @@ fn changed(network: &Network, cursor: &mut Cursor) -> Option<PlainKind>
     })
 }
 
-fn lost(network: &Network, cursor: &mut Cursor) -> Option<PlainKind>
+fn lost(network: &Network, words: &mut LineWords) -> Option<PlainKind>
     requires { IsInRange network.now }
-    ensures of_network { IfSome result (λ p. IsBodyOf network.now (body_of p)) }
-    ensures range { IfSome result (λ p. IsBodyInRange (body_of p)) }
-    ensures text { IfSome result (λ p. codes "lost " ++ cursor.old
-        ≡ join_with_byte space (body_words network.now (body_of p))) }
+    ensures is { (d : DeviceIdValue) (l : LinkIdValue) (cause : ℕ) → HasPassage network.now d l → IsCount cause
+        → words.old ≡ passage_words network.now d l cause → result ≢ None }
+    ensures told { IfSome result (Tells network.now kinds.Lost words.old) }
 {
-    let device = take_device(network, cursor)?;
-    cursor.fixed(" ")?;
-    let link = take_link(network, cursor)?;
-    cursor.fixed(" ")?;
-    let cause = cursor.last_count()?;
+    let device = words.device(network)?;
+    let link = words.link(network)?;
+    let cause = words.count()?;
+    words.end()?;
     Some(PlainKind::Lost {
         device,
         link,
@@ -227,92 +288,41 @@ fn lost(network: &Network, cursor: &mut Cursor) -> Option<PlainKind>
     })
 }
 
-fn ttsent(network: &Network, cursor: &mut Cursor) -> Option<PlainKind>
+fn dropped(network: &Network, words: &mut LineWords) -> Option<PlainKind>
     requires { IsInRange network.now }
-    ensures of_network { IfSome result (λ p. IsBodyOf network.now (body_of p)) }
-    ensures range { IfSome result (λ p. IsBodyInRange (body_of p)) }
-    ensures text { IfSome result (λ p. codes "ttsent " ++ cursor.old
-        ≡ join_with_byte space (body_words network.now (body_of p))) }
+    ensures is { (d : DeviceIdValue) (l : LinkIdValue) (cause : ℕ) (r : ReasonValue)
+        → HasPassage network.now d l → IsCount cause → IsReasonInRange r
+        → words.old ≡ passage_words network.now d l cause ++ reason_words r → result ≢ None }
+    ensures told { IfSome result (Tells network.now kinds.Dropped words.old) }
 {
-    let stop = take_stop(network, cursor)?;
-    let stream = take_stream(network, cursor)?;
-    Some(PlainKind::TtSent {
-        device: stop.device,
-        link: stop.link,
-        cause: stop.cause,
-        vl: stream.vl,
-        cycle: stream.cycle,
-    })
-}
-
-fn accepted(network: &Network, cursor: &mut Cursor) -> Option<PlainKind>
-    requires { IsInRange network.now }
-    ensures of_network { IfSome result (λ p. IsBodyOf network.now (body_of p)) }
-    ensures range { IfSome result (λ p. IsBodyInRange (body_of p)) }
-    ensures text { IfSome result (λ p. codes "accepted " ++ cursor.old
-        ≡ join_with_byte space (body_words network.now (body_of p))) }
-{
-    let stop = take_stop(network, cursor)?;
-    let stream = take_stream(network, cursor)?;
-    Some(PlainKind::Accepted {
-        device: stop.device,
-        link: stop.link,
-        cause: stop.cause,
-        vl: stream.vl,
-        cycle: stream.cycle,
-    })
-}
-
-fn delivered(network: &Network, cursor: &mut Cursor) -> Option<PlainKind>
-    requires { IsInRange network.now }
-    ensures of_network { IfSome result (λ p. IsBodyOf network.now (body_of p)) }
-    ensures range { IfSome result (λ p. IsBodyInRange (body_of p)) }
-    ensures text { IfSome result (λ p. codes "delivered " ++ cursor.old
-        ≡ join_with_byte space (body_words network.now (body_of p))) }
-{
-    let stop = take_stop(network, cursor)?;
-    let stream = take_stream(network, cursor)?;
-    Some(PlainKind::Delivered {
-        device: stop.device,
-        link: stop.link,
-        cause: stop.cause,
-        vl: stream.vl,
-        cycle: stream.cycle,
-    })
-}
-
-fn dropped(network: &Network, cursor: &mut Cursor) -> Option<PlainKind>
-    requires { IsInRange network.now }
-    ensures of_network { IfSome result (λ p. IsBodyOf network.now (body_of p)) }
-    ensures range { IfSome result (λ p. IsBodyInRange (body_of p)) }
-    ensures text { IfSome result (λ p. codes "dropped " ++ cursor.old
-        ≡ join_with_byte space (body_words network.now (body_of p))) }
-{
-    let stop = take_stop(network, cursor)?;
-    cursor.fixed(" ")?;
-    let reason = one_word_reason(cursor.last())?;
+    let device = words.device(network)?;
+    let link = words.link(network)?;
+    let cause = words.count()?;
+    let reason = reason(words)?;
     Some(PlainKind::Dropped {
-        device: stop.device,
-        link: stop.link,
-        cause: stop.cause,
+        device,
+        link,
+        cause,
         reason,
     })
 }
 
-fn clock(network: &Network, cursor: &mut Cursor) -> Option<PlainKind>
+fn clock(network: &Network, words: &mut LineWords) -> Option<PlainKind>
     requires { IsInRange network.now }
-    ensures of_network { IfSome result (λ p. IsBodyOf network.now (body_of p)) }
-    ensures range { IfSome result (λ p. IsBodyInRange (body_of p)) }
-    ensures text { IfSome result (λ p. codes "clock " ++ cursor.old
-        ≡ join_with_byte space (body_words network.now (body_of p))) }
+    ensures is { (d : DeviceIdValue) (reading adjustment : UnitsValue) (last : StateValue)
+        → HasDevice network.now d → IsSignedUnits reading → IsSignedUnits adjustment
+        → words.old ≡ device_name network.now d ∷ codes "reading" ∷ signed_decimal reading.0
+        ∷ codes "adj" ∷ signed_decimal adjustment.0 ∷ codes "state" ∷ state_text last ∷ [] → result ≢ None }
+    ensures told { IfSome result (Tells network.now kinds.Clock words.old) }
 {
-    let device = take_device(network, cursor)?;
-    cursor.fixed(" reading ")?;
-    let reading = cursor.units()?;
-    cursor.fixed(" adj ")?;
-    let adjustment = cursor.units()?;
-    cursor.fixed(" state ")?;
-    let state = state_word(cursor.last())?;
+    let device = words.device(network)?;
+    words.fixed("reading")?;
+    let reading = words.units()?;
+    words.fixed("adj")?;
+    let adjustment = words.units()?;
+    words.fixed("state")?;
+    let state = words.state()?;
+    words.end()?;
     Some(PlainKind::Clock {
         device,
         reading,
@@ -321,42 +331,29 @@ fn clock(network: &Network, cursor: &mut Cursor) -> Option<PlainKind>
     })
 }
 
-// What a record of the kind says. Those of events are not read here.
-fn plain_of(network: &Network, word: kind::KindWord, cursor: &mut Cursor) -> Option<PlainKind>
+/// What a record of the kind says, by the words behind that of the kind.
+pub(crate) fn plain_of(
+    network: &Network,
+    kind: KindWord,
+    words: &mut LineWords,
+) -> Option<PlainKind>
     requires { IsInRange network.now }
-    ensures of_network { IfSome result (λ p. IsBodyOf network.now (body_of p)) }
-    ensures range { IfSome result (λ p. IsBodyInRange (body_of p)) }
-    ensures text { IfSome result (λ p. kind_text word ++ codes " " ++ cursor.old
-        ≡ join_with_byte space (body_words network.now (body_of p))) }
+    ensures is { (p : PlainValue) → Tells network.now kind words.old p → result ≢ None }
+    ensures told { IfSome result (Tells network.now kind words.old) }
 {
-    match word {
-        kind::KindWord::Event => None,
-        kind::KindWord::Arrived => arrived(network, cursor),
-        kind::KindWord::Permanent => permanent(network, cursor),
-        kind::KindWord::Compressed => compressed(network, cursor),
-        kind::KindWord::Sent => sent(network, cursor),
-        kind::KindWord::Corrected => corrected(network, cursor),
-        kind::KindWord::State => changed(network, cursor),
-        kind::KindWord::Left => left(network, cursor),
-        kind::KindWord::Lost => lost(network, cursor),
-        kind::KindWord::TtSent => ttsent(network, cursor),
-        kind::KindWord::Accepted => accepted(network, cursor),
-        kind::KindWord::Delivered => delivered(network, cursor),
-        kind::KindWord::Dropped => dropped(network, cursor),
-        kind::KindWord::Clock => clock(network, cursor),
+    match kind {
+        KindWord::Arrived => Some(take_clocked(network, words)?.arrived()),
+        KindWord::Permanent => permanent(network, words),
+        KindWord::Compressed => compressed(network, words),
+        KindWord::Sent => sent(network, words),
+        KindWord::Corrected => corrected(network, words),
+        KindWord::State => changed(network, words),
+        KindWord::Left => Some(take_clocked(network, words)?.left()),
+        KindWord::Lost => lost(network, words),
+        KindWord::TtSent => Some(take_streamed(network, words)?.sent()),
+        KindWord::Accepted => Some(take_streamed(network, words)?.accepted()),
+        KindWord::Delivered => Some(take_streamed(network, words)?.delivered()),
+        KindWord::Dropped => dropped(network, words),
+        KindWord::Clock => clock(network, words),
     }
-}
-
-/// What a record says that is of no event.
-pub(crate) fn take_plain(network: &Network, cursor: &mut Cursor) -> Option<PlainKind>
-    requires { IsInRange network.now }
-    ensures of_network { IfSome result (λ p. IsBodyOf network.now (body_of p)) }
-    ensures range { IfSome result (λ p. IsBodyInRange (body_of p)) }
-    ensures text { IfSome result (λ p. cursor.old
-        ≡ join_with_byte space (body_words network.now (body_of p))) }
-{
-    let kind = take_kind(cursor)?;
-    cursor.fixed(" ")?;
-    let plain = plain_of(network, kind, cursor)?;
-    Some(plain)
 }

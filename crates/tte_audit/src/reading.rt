@@ -1,107 +1,41 @@
-ghost use Rattle.std.specs.Prelude.{◌↔◌, ◌≡◌, IfSome, IsTrue, MatchOption, Some, ℕ};
-ghost use Rattle.report_text.specs.NoteLine.{body_words, note_line, note_text};
-ghost use Rattle.report_text.specs.Ranges.{IsBodyInRange, IsBodyOf, IsNoteInRange, IsNoteOf};
-ghost use Rattle.run_law.specs.declared.note.{Note.Note as NoteValue, NoteBody.NoteBody as NoteBodyValue};
-ghost use Rattle.tte_audit.specs.{Kinds.kind_of, Named.IsNamed, Report.IsTextOf, Spellings.behind_word};
+ghost use Rattle.std.specs.Prelude.{◌≢◌, IfSome, MatchOption, None, ℕ};
+ghost use Rattle.net_plan.specs.Ranges.{IsInRange};
+ghost use Rattle.run_law.specs.declared.{note.Note.Note as NoteValue, plain.bodies.PlainKind.PlainKind as PlainValue};
+ghost use Rattle.run_law.specs.plain.Bodies.{body_of};
+ghost use Rattle.tte_units.specs.declared.units.Units.{Units as UnitsValue};
+ghost use Rattle.tte_audit.specs.{Named.IsNamed, Report.{HasNoEvent, IsTextOf, saying}};
 
-use crate::bodies::{
-    accepted, arrived, changed, clock, compressed, corrected, delivered, dropped, event, left,
-    lost, permanent, sent, ttsent,
-};
-use crate::kind::KindWord;
-use crate::line_words::next;
-use crate::numbers::{count, units};
-use crate::plain_line::plain_line;
+use crate::event_lines::event_line;
+use crate::hints::NameHints;
+use crate::line_words::LineWords;
+use crate::plain_bodies::plain_of;
 use net_plan::Network;
-use report_text::make_note_line;
-use run_law::{Note, NoteBody};
-use trace_text::Words;
-use tte_io::LineText;
+use run_law::Note;
+use run_law::plain::{PlainBody, PlainNote};
 
-// What a record of the kind says, by the words behind that of the kind.
-fn body_of(network: &Network, kind: KindWord, words: &mut Words) -> Option<NoteBody>
-    requires { IsNamed network.now }
-    ensures back { (b : NoteBodyValue) → IsBodyOf network.now b → IsBodyInRange b
-        → kind ≡ kind_of b → words.old ≡ behind_word (body_words network.now b) → result ≡ Some b }
-    ensures of_network { IfSome result (IsBodyOf network.now) }
-    ensures range { IfSome result IsBodyInRange }
+/// The record without an event whose line, without its LF, the text is. It is None exactly where it is that of no such
+/// record.
+pub(crate) fn plain_line(
+    network: &Network,
+    hints: Option<&NameHints>,
+    text: &[u8],
+) -> Option<PlainNote>
+    requires { IsInRange network.now }
+    ensures is { (number : ℕ) (time : UnitsValue) (p : PlainValue)
+        → IsTextOf network.now (saying number time (body_of p)) text.now → result ≢ None }
+    ensures text { IfSome result (λ note. IsTextOf network.now note text.now) }
+    ensures quiet { IfSome result (λ note. HasNoEvent note.body) }
 {
-    match kind {
-        KindWord::Event => event(network, words),
-        KindWord::Arrived => arrived(network, words),
-        KindWord::Permanent => permanent(network, words),
-        KindWord::Compressed => compressed(network, words),
-        KindWord::Sent => sent(network, words),
-        KindWord::Corrected => corrected(network, words),
-        KindWord::State => changed(network, words),
-        KindWord::Left => left(network, words),
-        KindWord::Lost => lost(network, words),
-        KindWord::TtSent => ttsent(network, words),
-        KindWord::Accepted => accepted(network, words),
-        KindWord::Delivered => delivered(network, words),
-        KindWord::Dropped => dropped(network, words),
-        KindWord::Clock => clock(network, words),
-    }
-}
-
-// What the words were written for.
-fn body(network: &Network, words: &mut Words) -> Option<NoteBody>
-    requires { IsNamed network.now }
-    ensures back { (b : NoteBodyValue) → IsBodyOf network.now b → IsBodyInRange b
-        → words.old ≡ body_words network.now b → result ≡ Some b }
-    ensures of_network { IfSome result (IsBodyOf network.now) }
-    ensures range { IfSome result IsBodyInRange }
-{
-    match KindWord::spelled(next(words)) {
-        Some(kind) => body_of(network, kind, words),
-        None => None,
-    }
-}
-
-// The record that the text was written for. What it answers for other texts is open.
-fn candidate(network: &Network, text: &[u8]) -> Option<Note>
-    requires { IsNamed network.now }
-    ensures back { (n : NoteValue) → IsTextOf network.now n text.now → result ≡ Some n }
-    ensures of_network { IfSome result (IsNoteOf network.now) }
-    ensures range { IfSome result IsNoteInRange }
-{
-    let mut words = Words::of(text);
-    let number = count(next(&mut words));
-    let time = units(next(&mut words));
-    let body = body(network, &mut words);
-    Some(Note {
-        number: number?,
-        time: time?,
-        body: body?,
+    let mut words = LineWords::of(text, hints);
+    let number = words.count()?;
+    let time = words.units()?;
+    let word = words.kind()?;
+    let kind = plain_of(network, word, &mut words)?;
+    Some(PlainNote {
+        number,
+        time,
+        body: PlainBody { kind },
     })
-}
-
-// Is this the record's text, without the LF of its line?
-fn is_text_of(network: &Network, note: &Note, text: &[u8]) -> bool
-    requires named { IsNamed network.now }
-    requires of_network { IsNoteOf network.now note.now }
-    ensures { IsTrue result ↔ (text.now ≡ note_text network.now note.now) }
-{
-    let mut line = LineText::new();
-    make_note_line(&mut line, network, note);
-    let shown = line.as_slice();
-    shown.len() == text.len() + 1 && &shown[..text.len()] == text
-}
-
-// The record whose line, without its LF, the text is, by comparison.
-#[inline(never)]
-fn compared_line(network: &Network, text: &[u8]) -> Option<Note>
-    requires { IsNamed network.now }
-    ensures { MatchOption result
-        ((note : NoteValue) → IsTextOf network.now note text.now → ⊥)
-        (λ note. IsTextOf network.now note text.now) }
-{
-    let note = candidate(network, text)?;
-    if is_text_of(network, &note, text) {
-        Some(note)
-    } else {
-        None
-    }
 }
 
 /// The record whose line, without its LF, the text is. It is None exactly where it is that of no record of the
@@ -116,6 +50,6 @@ pub fn note_line(network: &Network, text: &[u8]) -> Option<Note>
 {
     match plain_line(network, None, text) {
         Some(read) => Some(read.note()),
-        None => compared_line(network, text),
+        None => event_line(network, text),
     }
 }

@@ -28,7 +28,7 @@ answer_stops lines network octets events a (inr f) = faulty_stops network octets
 
 -- ---- the answer where a trace ends with its end
 
-same_end : (network : Network) (octets : List ℕ) (events : List Event) (time other : Units) → AreAdmitted network octets events → EndsAt events time
+pub same_end : (network : Network) (octets : List ℕ) (events : List Event) (time other : Units) → AreAdmitted network octets events → EndsAt events time
     → EndsAt events other → time ≡ other
 same_end network octets events time other all a b =
     let o = admitted_in_order network octets events all in o.last time a ∙ sym (o.last other b)

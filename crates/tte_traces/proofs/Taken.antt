@@ -13,7 +13,7 @@ use Rattle.tte_io.specs.declared.ends.Sink as sinks
 use Rattle.tte_io.specs.declared.ends.Source as sources
 
 -- a hold that it sets is a time
-holds_a_time : (what : What) → IsWhatInRange what → HoldsATime what
+pub holds_a_time : (what : What) → IsWhatInRange what → HoldsATime what
 holds_a_time (kinds.Hold link way hold) range = range.least
 holds_a_time (kinds.Rate device rate) range = tt
 holds_a_time (kinds.Wire link way delay) range = tt

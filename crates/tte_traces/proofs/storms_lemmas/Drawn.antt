@@ -1,13 +1,13 @@
 -- The events of a storm given one after another.
+use Rattle.tte_traces.proofs.Taken.{holds_a_time}
 use Rattle.std.proofs.Common.{◌*◌, ◌++◌, ◌+◌, ◌-◌, ◌<◌, ◌∙◌, ◌∷◌, ◌≡◌, ◌≤◌, Err, List, None, Ok, Result, [], ap, arith, inl, inr, length, length-append, subst}
 use Rattle.std.{proofs.{Common.{sym, ℕ}, lemmas.List.Quantifiers.Any-push}, specs.Prelude.MatchResult}
-use Rattle.drift_world.specs.Running.{HoldsATime}
 use Rattle.fault_hypothesis.specs.Watching.{Watches}
-use Rattle.net_plan.specs.{Belonging.IsOfNetwork, declared.{event.{Event.Event, What.What}, network.Network.Network}}
+use Rattle.net_plan.specs.{Belonging.IsOfNetwork, declared.{event.Event.Event, network.Network.Network}}
 use Rattle.run_law.specs.{declared.note.Note.Note, scenario.Hypothesis.IsWithinHypothesis}
 use Rattle.storm.{proofs.{Ends.end_is_behind, Storms.{no_events, none_later, one_more}}, specs.Events.{AreNoLater, AreStormEvents, IsStormEvent, time_of}}
 use Rattle.storm.specs.Progress.{Progress}
-use Rattle.trace_text.specs.Ranges.{IsEventInRange, IsWhatInRange}
+use Rattle.trace_text.specs.Ranges.{IsEventInRange}
 use Rattle.world_drive.specs.{Observing.Told, Sources.MayGive}
 use Rattle.world_drive.{proofs.exact_lemmas.Events.{last_or_none, parted}, specs.exact.{Records.{AreAllRecords, HaveEnded}, Worlds.{ExactWorld, StandsExact}}}
 use Rattle.tte_traces.specs.{storms.Counts.IsSeen, storms.Storms.{HasStormed, IsStormTo}, declared.storms.{counting.Seen.Seen, events.StormEvents.StormEvents}}
@@ -45,18 +45,6 @@ none_ended network seed cycles events each few (k, e, lt, at, is) =
     let long = ap (λ (l : List Event). length l) p.2 in
     let longer = length-append p.0 (e ∷ p.1) in
     omega (arith, last, few, long, longer)
-
--- a hold that it sets is a time
-holds_a_time : (what : What) → IsWhatInRange what → HoldsATime what
-holds_a_time (kinds.Hold link way hold) range = range.least
-holds_a_time (kinds.Rate device rate) range = tt
-holds_a_time (kinds.Wire link way delay) range = tt
-holds_a_time (kinds.Cut link way) range = tt
-holds_a_time (kinds.Heal link way) range = tt
-holds_a_time (kinds.On device) range = tt
-holds_a_time (kinds.Break device) range = tt
-holds_a_time (kinds.Send link octets) range = tt
-holds_a_time kinds.End range = tt
 
 -- what was judged, where it was not refused
 pub judged_well : {T E : Type 0} (r : Result T E) (P : T → Type 0) (Q : E → Type 0) (R : Type 0) → ((t : T) → P t → R) → ((e : E) → Q e → ⊥)

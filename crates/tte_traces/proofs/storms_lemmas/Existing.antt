@@ -1,4 +1,5 @@
 -- There is a storm of each seed, and an answer for it.
+use Rattle.tte_traces.proofs.Existing.{all_records}
 use Rattle.std.proofs.Common.{if◌then◌else◌, ◌%◌, ◌*◌, ◌++◌, ◌+◌, ◌-◌, ◌<◌, ◌==◌, ◌^◌, ◌||◌, ◌∙◌, ◌∷◌, ◌≡◌, ◌≤◌, Any, Bool, List, None, Option, Some, []}
 use Rattle.std.proofs.Common.{append_assoc, arith, false, inl, inr, length, length-append, refl, replicate, subst, suc, sym, true, zero, ℕ}
 use Rattle.std.proofs.{Math.{Nat.{div-lt_iff_lt-mul, mod-lt}, Pow.pow-lt}, lemmas.{Bool.{cases_Bool, cases_lt}, Int.ints, List.{append-nil, get_or_past}}}
@@ -9,9 +10,8 @@ use Rattle.net_plan.specs.{Places.{is_master, link_at}, Ranges.{IsDeviceInRange,
 use Rattle.net_plan.specs.declared.{network.Network.Network, tables.Link.Link}
 use Rattle.pcf_codec.{proofs.Encoding.{Fits, padding, spells}, specs.{Encoded.encoded, EtherType.pcf_type, Spelling.code_of}}
 use Rattle.pcf_values.specs.declared.pcf.{Pcf.Pcf, PcfKind.{PcfKind, TheVariants.{ColdStart, ColdStartAck, Integration}}}
-use Rattle.traffic_law.proofs.existence_lemmas.Existence.{runs_exist_to_each_mark}
-use Rattle.run_law.{proofs.scenario.{Decided.hypothesis_is_decided, Decisions.{IsDecided, decided_any}}, specs.declared.note.Note.Note}
-use Rattle.run_law.specs.{records.Happenings.happenings, scenario.{Faults.{Breaks, IsBroken}, Hypothesis.AreWithinHypothesis, Scenarios.Scenario}}
+use Rattle.run_law.proofs.scenario.{Decided.hypothesis_is_decided, Decisions.{IsDecided, decided_any}}
+use Rattle.run_law.specs.{records.Happenings.happenings, scenario.{Faults.{Breaks, IsBroken}, Hypothesis.AreWithinHypothesis}}
 use Rattle.schedule_tables.specs.Rules.{KeepsRules}
 use Rattle.storm.proofs.{Belongings.{some_link, some_master}, Masters.{IsLastBelow, last_of_all, master_found, master_uplink, next_master, next_other}}
 use Rattle.storm.{proofs.Storms.{more_events, no_events, storms_within, time_in_run}, specs.Striking.{IsLastMaster, IsMaster, SendsForged, Strikes, forged}}
@@ -22,7 +22,7 @@ use Rattle.tte_traces.{proofs.storms_lemmas.Widest.greatest_spread, specs.storms
 use Rattle.tte_forms.specs.declared.status.Status.TheVariants.{Done}
 use Rattle.tte_lemmas.proofs.{Lists.{in_all, some_at}, Naturals.byte_at_small}
 use Rattle.tte_units.specs.{Amount.amount, declared.units.Units.Units}
-use Rattle.world_drive.{proofs.exact_lemmas.Events.ended_at, specs.exact.Records.{AreAllRecords, HaveEnded, clock_reading}}
+use Rattle.world_drive.specs.exact.Records.{HaveEnded}
 use Rattle.net_plan.specs.declared.event.What.TheVariants as kinds
 
 -- what is known of the network and of the time of a step
@@ -244,14 +244,6 @@ step network before time seed n ready within =
     ]
 
 -- ---- the storm
-
--- a network under events with an end has records up to it
-all_records : (network : Network) (events : List Event) → IsInRange network → HaveEnded events → (notes : List Note) × AreAllRecords network events notes
-all_records network events range ended =
-    let end = ended_at events ended in
-    let s : Scenario = record { network = network; reading = clock_reading network events; events = events } in
-    let run = runs_exist_to_each_mark s ((amount end.0 + 1) ∷ []) range in
-    (run.0, (end.0, end.1, run.1))
 
 -- what a storm is of
 pub record IsStormy (network : Network) (cycles : ℕ) : Type 0 where

@@ -1,10 +1,11 @@
 -- When a clock reaches a value where its device is synchronised.
-use Rattle.std.proofs.Common.{◌*◌, ◌+◌, ◌<◌, ◌≡◌, ◌≤◌, Bool, List, ap, arith, false, inl, inr, pos, refl, subst, suc, sym, true, zero, ℕ, ℤ}
-use Rattle.std.{proofs.lemmas.{Bool.{cases_lt, false≢true}, Int.ints}, specs.Prelude.{◌↔◌, IsTrue, MatchBool}}
-use Rattle.audit_devices.proofs.clocks_lemmas.Reached.{changed_early}
+pub use Rattle.audit_sweep.proofs.unpaid_lemmas.dispatches_lemmas.Hands.{when_true}
+pub use Rattle.audit_sweep.proofs.unpaid_lemmas.dispatches_lemmas.RowFacts.{reached_later as not_at_first}
+use Rattle.std.proofs.Common.{◌*◌, ◌+◌, ◌<◌, ◌≡◌, ◌≤◌, Bool, List, ap, arith, false, inl, inr, pos, refl, subst, true, ℕ}
+use Rattle.std.{proofs.lemmas.Bool.{cases_lt, false≢true}, specs.Prelude.{◌↔◌, IsTrue, MatchBool}}
 use Rattle.lens.specs.flows.judge.{Fates.{HasComeInStep, ReachesInStep}, Times.{IsFirstTime, NoneWithin}}
 use Rattle.net_plan.specs.declared.ids.DeviceId.{DeviceId}
-use Rattle.run_law.specs.{device.{LocalClocks.{Reaches, changed_at}, States.state_after}, records.Happenings.{Happening, up_to}, scenario.Scenarios.Scenario}
+use Rattle.run_law.specs.{device.{LocalClocks.Reaches, States.state_after}, records.Happenings.{Happening, up_to}, scenario.Scenarios.Scenario}
 use Rattle.run_law.specs.law.Safety.{ReachesPlace}
 use Rattle.sync_state.specs.declared.state.State.TheVariants.{Synchronised}
 use Rattle.tte_units.specs.Amount.{amount}
@@ -25,17 +26,6 @@ passed_in_step s hs device cycle place after until time first out t lt early r =
           out (subst (λ (x : ℕ). state_after s (up_to x hs) device ≡ Synchronised) same r.synchronised)
     ]
 
--- no clock reaches a value at time 0
-pub not_at_first : (s : Scenario) (hs : List Happening) (device : DeviceId) (v : ℤ) (t : ℕ) → Reaches s hs device v t → 0 < t
-not_at_first s hs device v zero r =
-    let early = changed_early hs device 0 in
-    let at : changed_at hs device 0 ≡ 0 = omega (arith, early) in
-    let below = r.below in
-    let reached = r.reach.reached in
-    let same = ap (s.reading device) at in
-    absurd (omega (arith, ints, below, reached, same))
-not_at_first s hs device v (suc t) r = omega arith
-
 -- where it has come to none behind time 0, it has come to none
 pub not_come : (s : Scenario) (hs : List Happening) (device : DeviceId) (cycle place before : ℕ)
     → NoneWithin (ReachesInStep s hs device cycle place) 0 before → HasComeInStep s hs device cycle place before → ⊥
@@ -47,9 +37,6 @@ not_come s hs device cycle place before none come =
 -- it came to the place before the time
 abbrev pub Comes : Scenario → List Happening → DeviceId → ℕ → ℕ → ℕ → Type 0
 Comes s hs device cycle place before = (time : ℕ) × (time < before) × ReachesInStep s hs device cycle place time
-
-pub when_true : (b : Bool) (A B : Type 0) → b ≡ true → MatchBool b A B → A
-when_true b A B is h = subst (λ (x : Bool). MatchBool x A B) is h
 
 pub has_come : (s : Scenario) (hs : List Happening) (device : DeviceId) (cycle place before : ℕ)
     → Comes s hs device cycle place before → HasComeInStep s hs device cycle place before

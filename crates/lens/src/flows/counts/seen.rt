@@ -1,13 +1,10 @@
 //! What the records of a report so far show.
 
 ghost use Rattle.std.specs.Prelude.{◌≡◌, ◌++◌, ◌∷◌, [], ◌^◌, ◌≤◌, Some, IfOk, List, OnOk};
-ghost use Rattle.audit_devices.specs.{Effects.{carried_by, subject_of}, Showing.IsReading};
-ghost use Rattle.audit_devices.specs.events.{Readings.scenario_under, Remembering.{Remembers, RemembersSome}};
+ghost use Rattle.audit_devices.specs.{Effects.carried_by, events.Remembering.{Remembers, RemembersSome}};
 ghost use Rattle.audit_devices.specs.declared.events.history.EventHistory.{EventHistory as EventHistoryValue};
 ghost use Rattle.lens.specs.flows.counts.Seen.{HasSeen, some_delivery};
-ghost use Rattle.net_plan.specs.{Belonging.HasDevice, Ranges.IsInRange, declared.event.Event.Event};
-ghost use Rattle.net_plan.specs.declared.ids.DeviceId.{DeviceId as DeviceIdValue};
-ghost use Rattle.net_plan.specs.declared.network.Network.{Network as NetworkValue};
+ghost use Rattle.net_plan.specs.{Ranges.IsInRange, declared.event.Event.Event};
 ghost use Rattle.report_text.specs.Ranges.{IsBodyOf};
 ghost use Rattle.run_law.specs.declared.note.Note.{Note as NoteValue};
 ghost use Rattle.run_law.specs.records.{Happenings.{Happening, happening, happenings}, Order.AllBefore, Ranks.place_of};
@@ -15,14 +12,13 @@ ghost use Rattle.tte_units.specs.Amount.{amount};
 
 use crate::flows::counts::Delivery;
 use crate::flows::counts::deliveries::delivery_by;
-use audit_devices::clocks::Moment;
 use audit_devices::events::{EventHistory, reading_law};
-use audit_devices::{Carried, Readings, Standings};
+use audit_devices::Standings;
 use audit_sweep::records::KeptRecords;
+use audit_sweep::{carried_by, readings};
 pub use audit_sweep::records::OutOfMemory;
 use net_plan::Network;
-use pcf_values::{Members, Pcf};
-use run_law::{Note, NoteBody};
+use run_law::Note;
 use std::alloc::Global;
 
 /// What the records so far show of the devices, and which deliveries they tell.
@@ -95,47 +91,4 @@ fn push_some(deliveries: &mut Vec<Delivery>, delivery: Option<Delivery>) -> Resu
         Ok(()) => Ok(()),
         Err(_) => Err(OutOfMemory),
     }
-}
-
-/// What a record of this frame says: its cycle and its members.
-fn carried_by(frame: Option<Pcf>) -> Carried
-    ensures { (h : Happening) → h.frame ≡ frame → result ≡ carried_by h }
-{
-    match frame {
-        Some(frame) => Carried {
-            cycle: frame.cycle,
-            members: frame.members,
-        },
-        None => Carried {
-            cycle: 0,
-            members: Members(0),
-        },
-    }
-}
-
-/// What the clock of the device of which a record shows something reads at the time, and a unit of time before.
-fn readings(events: &EventHistory, body: &NoteBody, time: u64) -> Readings
-    requires some { RemembersSome events.now }
-    requires limit { time ≤ 2 ^ 60 }
-    ensures { (network : NetworkValue) (befallen : List Event) (device : DeviceIdValue)
-        → Remembers network befallen events.now → HasDevice network device → subject_of body.now ≡ Some device
-        → IsReading (scenario_under network befallen) device time result }
-{
-    let device = match body {
-        NoteBody::Permanent { device, .. }
-        | NoteBody::Compressed { device, .. }
-        | NoteBody::Corrected { device, .. }
-        | NoteBody::State { device, .. } => *device,
-        NoteBody::Event { .. }
-        | NoteBody::Arrived { .. }
-        | NoteBody::Sent { .. }
-        | NoteBody::Left { .. }
-        | NoteBody::Lost { .. }
-        | NoteBody::TtSent { .. }
-        | NoteBody::Accepted { .. }
-        | NoteBody::Delivered { .. }
-        | NoteBody::Dropped { .. }
-        | NoteBody::Clock { .. } => return Readings { now: 0, before: 0 },
-    };
-    Moment::of(events, device, time).readings
 }

@@ -1,14 +1,13 @@
 ghost use Rattle.std.specs.Prelude.{◌++◌, ◌+ℤ◌, ◌^◌, ◌∷◌, ◌≡◌, ◌≤◌, IfOk, List, OnOk, Some, [], option_map, pos};
-ghost use Rattle.audit_devices.specs.{Effects.{carried_by, subject_of}, law.CorrectionNumbers.heard_since_point};
-ghost use Rattle.audit_devices.specs.{Keeping.records_before, Showing.{IsAfter, IsReading}};
-ghost use Rattle.audit_devices.specs.events.{Readings.scenario_under, Remembering.{Remembers, RemembersSome}};
+ghost use Rattle.audit_devices.specs.{Effects.carried_by, law.CorrectionNumbers.heard_since_point};
+ghost use Rattle.audit_devices.specs.{Keeping.records_before, Showing.IsAfter};
+ghost use Rattle.audit_devices.specs.events.{Readings.scenario_under, Remembering.Remembers};
 ghost use Rattle.membership.specs.Summary.{Summarizes};
 ghost use Rattle.device_rules.specs.{Headings.heading_of, Widths.{IsLocal, IsWide}};
 ghost use Rattle.run_law.specs.device.States.{adjustment_at_hearing, adjustment_before, state_before};
 ghost use Rattle.run_law.specs.declared.note.Note.{Note as NoteValue};
 ghost use Rattle.run_law.specs.records.{Happenings.{Happening, happening, numbered}, Order.AllBefore, Ranks.place_of};
 ghost use Rattle.net_plan.specs.{Belonging.HasDevice, Ranges.IsInRange, declared.event.Event.Event};
-ghost use Rattle.net_plan.specs.declared.ids.DeviceId.{DeviceId as DeviceIdValue};
 ghost use Rattle.net_plan.specs.declared.network.Network.{Network as NetworkValue};
 ghost use Rattle.tte_audit.specs.{Named.IsNamed, Report.events_of};
 ghost use Rattle.tte_traces.specs.reports.Reports.{IsReportOf};
@@ -18,14 +17,15 @@ ghost use Rattle.lens.specs.why.past.Pasts.{before_corrections, permanence_place
 
 use audit_devices::clocks::Moment;
 use audit_devices::events::{EventHistory, reading_law};
-use audit_devices::{Carried, Readings, Standings};
+use audit_devices::{Carried, Standings};
 use audit_sweep::records::{KeptRecords, OutOfMemory};
+use audit_sweep::{carried_by, readings};
 use device_rules::Heading;
 use membership::Heard;
 use net_plan::{DeviceId, LinkId, Network};
-use pcf_values::{Members, Pcf};
+use pcf_values::Members;
 use run_law::plain::Rank;
-use run_law::{Note, NoteBody};
+use run_law::Note;
 use schedule_tables::Accepted;
 use std::alloc::Global;
 use sync_state::State;
@@ -258,47 +258,4 @@ fn local_at(reading: u64, adjustment: i128) -> i128
     ensures fits { IsLocal result }
 {
     i128::from(reading) + adjustment
-}
-
-/// What a record of this frame says: its cycle and its members.
-fn carried_by(frame: Option<Pcf>) -> Carried
-    ensures { (h : Happening) → h.frame ≡ frame → result ≡ carried_by h }
-{
-    match frame {
-        Some(frame) => Carried {
-            cycle: frame.cycle,
-            members: frame.members,
-        },
-        None => Carried {
-            cycle: 0,
-            members: Members(0),
-        },
-    }
-}
-
-/// What the clock of the device of which a record shows something reads at the time, and a unit of time before.
-fn readings(events: &EventHistory, body: &NoteBody, time: u64) -> Readings
-    requires some { RemembersSome events.now }
-    requires limit { time ≤ 2 ^ 60 }
-    ensures { (network : NetworkValue) (befallen : List Event) (device : DeviceIdValue)
-        → Remembers network befallen events.now → HasDevice network device → subject_of body.now ≡ Some device
-        → IsReading (scenario_under network befallen) device time result }
-{
-    let device = match body {
-        NoteBody::Permanent { device, .. }
-        | NoteBody::Compressed { device, .. }
-        | NoteBody::Corrected { device, .. }
-        | NoteBody::State { device, .. } => *device,
-        NoteBody::Event { .. }
-        | NoteBody::Arrived { .. }
-        | NoteBody::Sent { .. }
-        | NoteBody::Left { .. }
-        | NoteBody::Lost { .. }
-        | NoteBody::TtSent { .. }
-        | NoteBody::Accepted { .. }
-        | NoteBody::Delivered { .. }
-        | NoteBody::Dropped { .. }
-        | NoteBody::Clock { .. } => return Readings { now: 0, before: 0 },
-    };
-    Moment::of(events, device, time).readings
 }

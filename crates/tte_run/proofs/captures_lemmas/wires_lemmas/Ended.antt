@@ -1,15 +1,16 @@
 -- How the capture of a way ends, where the drive came to its end or to a fault: the sends that wait are put, and all is
 -- passed on.
-use Rattle.tte_run.proofs.captures_lemmas.wires_lemmas.{Along.{IsOwn, lines, way_along, way_sees, way_stops}, Words.{sym, told_by, way_lines, ℕ}}
+use Rattle.tte_traces.proofs.Answers.{same_end}
+use Rattle.tte_run.proofs.captures_lemmas.wires_lemmas.{Along.{IsOwn, lines, way_along, way_sees, way_stops}, Words.{told_by, way_lines, ℕ}}
 use Rattle.tte_run.proofs.captures_lemmas.wires_lemmas.{Fronts.{all_whole, either_stops}, Seen.{at_start, whole}}
 use Rattle.tte_run.proofs.captures_lemmas.wires_lemmas.Words.{◌+◌, ◌∙◌, ◌∷◌, ◌≡◌, ◌⊎◌, Answer, AreAdmitted, AreRecordsSoFar, Capture, EndsEither, Event}
 use Rattle.tte_run.proofs.captures_lemmas.wires_lemmas.Words.{ExactWorld, Gives, GivesOne, IsCapture, LinkId, List, Network, Note, RunEnds, SeesWay, Shown}
 use Rattle.tte_run.proofs.captures_lemmas.wires_lemmas.Words.{Status, Units, Way, [], amount, ap, capture_of, fault_status, for_more, happenings, inl, inr}
 use Rattle.tte_run.proofs.captures_lemmas.wires_lemmas.Words.{length, packets_of, refl, scenario_under, sent_packets, settled, settled_lines, shown_by, subst}
 use Rattle.drift_world.specs.Running.{behind_events, last_time}
-use Rattle.run_law.{proofs.runs.NetworkRuns.run_is_one, specs.runs.DueRecords.EndsAt}
+use Rattle.run_law.{proofs.runs.NetworkRuns.run_is_one}
 use Rattle.tte_forms.{proofs.{OneAnswers.one_given, frames.Frames.Gives-behind}, specs.declared.status.Status.TheVariants.{Done, WriteFault}}
-use Rattle.tte_traces.proofs.Admitted.{admitted_in_order, stopped_one}
+use Rattle.tte_traces.proofs.Admitted.{stopped_one}
 use Rattle.tte_traces.proofs.Ends.{done_no_read, fault_no_read, for_stopped, little_at, little_so_far, puts_shown, trace_ended, trace_stopped}
 use Rattle.tte_traces.{proofs.{Faults.{end_has_no_fault, fault_one}, Streams.writes_answer}, specs.{Along.IsAllAdmitted, Lines.{IsFault, behind_lines}}}
 use Rattle.tte_traces.specs.{Taking.IsStopAt, declared.{fault.{TraceFault.TraceFault, TraceStop.TraceStop}, lines.Trace.Trace}}
@@ -19,11 +20,6 @@ use Rattle.tte_io.specs.declared.ends.Source as sources
 use Rattle.tte_traces.specs.declared.fault.TraceStop.TheVariants as ends
 
 -- ---- an answer is one
-
-same_end : (network : Network) (octets : List ℕ) (events : List Event) (time other : Units) → AreAdmitted network octets events
-    → EndsAt events time → EndsAt events other → time ≡ other
-same_end network octets events time other all a b =
-    let o = admitted_in_order network octets events all in o.last time a ∙ sym (o.last other b)
 
 module _ (link : LinkId) (way : Way) (network : Network) (octets : List ℕ) (events : List Event) (notes : List Note) where
   -- that of a trace that is admitted to its end

@@ -1,0 +1,27 @@
+use Rattle.tte_audit.proofs.{Bearers.{Bears, first_bears, none_bears, not_missed}, Words.{◌∙◌, List, subst, ℕ}}
+use Rattle.std.{proofs.lemmas.List.Elements.All-weaker, specs.Prelude.IfSome}
+use Rattle.net_plan.specs.{NameText.IsNameText, Ranges.IsDeviceInRange, declared.{ids.DeviceId.DeviceId, tables.Device.Device}}
+use Rattle.trace_text.proofs.Bearing.{bears_utf8}
+use Rattle.tte_audit.proofs.names.first_device_of_name.Goals as goal
+
+abbrev number : DeviceId → ℕ
+number i = i.0
+
+abbrev name : Device → List ℕ
+name x = x.name
+
+pub returns-in-Ok-clause-is : goal.returns-in-Ok-clause-is
+returns-in-Ok-clause-is c i within e =
+    not_missed number name c.args.network.now.device c.in-Ok.name.now c.device_named.result c.device_named.ensures.none i (within, c.in-Ok.ensures.cases.0 ∙ e)
+
+pub returns-in-Ok-clause-found : goal.returns-in-Ok-clause-found
+returns-in-Ok-clause-found c =
+    let xs = c.args.network.now.device in
+    subst (λ (text : List ℕ). IfSome c.device_named.result (Bears number name xs text)) c.in-Ok.ensures.cases.0
+    (first_bears number name xs c.in-Ok.name.now c.device_named.result c.device_named.ensures.first)
+
+pub returns-in-Err-clause-is : goal.returns-in-Err-clause-is
+returns-in-Err-clause-is c i within e none =
+    let network = c.args.network.now in
+    let names = All-weaker IsDeviceInRange (λ x. IsNameText (name x)) (λ x h. h.name) network.device c.requires.devices in
+    none_bears number name network.device c.args.word.now (bears_utf8 name network.device c.args.word.now names c.in-Err.ensures.cases.0) i (within, e)
