@@ -1,3 +1,4 @@
+pub mod least_key_lemmas
 pub mod frames_lemmas
 pub mod Numbers
 pub mod Places

@@ -1,3 +1,4 @@
+pub mod least_key
 pub mod frames
 pub mod Widths
 pub mod Answers

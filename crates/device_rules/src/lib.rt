@@ -12,6 +12,7 @@ pub mod frames;
 mod heading;
 mod hearing;
 mod intake;
+pub mod least_key;
 mod leaving;
 mod network;
 mod standpoint;

@@ -1,12 +1,12 @@
 -- What a switch has still to dispatch, from call to call.
-use Rattle.switch_ports.{proofs.{EachRow.all_each, RowOrder.chained_each, Trees.knows_next, Words.ℤ}, specs.Departing.{Reopens, last_of}}
-use Rattle.switch_ports.proofs.Words.{◌&&◌, ◌*◌, ◌++◌, ◌+ℤ◌, ◌+◌, ◌<ℤ◌, ◌<◌, ◌==◌, ◌^◌, ◌∙◌, ◌∷◌, ◌≡◌, ◌≤ℤ◌, ◌≤◌, AreChained, AreEach, AreLeaves, Awaits}
-use Rattle.switch_ports.proofs.Words.{AwaitsIn, AwaitsSo, Bool, Changes, ClockTask, Contains, Departure, Departures, DeviceId, HasDepartures, Held, IfSome}
+use Rattle.switch_ports.{proofs.{EachRow.all_each, RowKeys.{fit_reopened, fit_taken, of_taken}, RowOrder.chained_each, Words.ℤ}, specs.Departing.{Reopens, last_of}}
+use Rattle.switch_ports.proofs.Words.{◌&&◌, ◌*◌, ◌++◌, ◌+ℤ◌, ◌+◌, ◌<ℤ◌, ◌<◌, ◌==◌, ◌^◌, ◌∙◌, ◌∷◌, ◌≡◌, ◌≤ℤ◌, ◌≤◌, AreChained, AreEach, Awaits}
+use Rattle.switch_ports.proofs.Words.{AwaitsIn, AwaitsSo, Bool, Changes, ClockTask, Contains, Departure, Departures, DeviceId, HasDepartures, Held}
 use Rattle.switch_ports.proofs.Words.{Integrating, IsBegun, IsDeparture, IsInRange, IsLeaving, Joining, KnowsNext, LeavingRow, List, Moment, Network, Node}
 use Rattle.switch_ports.proofs.Words.{None, Off, Option, Row, RowId, Some, StandsAs, State, Switch, Synchronised, TakenFrame, VlId, [], amount, amount_most, ap}
 use Rattle.switch_ports.proofs.Words.{arith, cases_Bool, dispatch_at, dispatching, false, get_or, held_by, held_in, if◌then◌else◌, in_none, inl, inr, int_lt}
 use Rattle.switch_ports.proofs.Words.{ints, length, option_and_then, option_map, option_map_or, pos, refl, subst, sym, through, true, value_of, with_taking, ℕ}
-use Rattle.switch_ports.specs.Leaving.{HasRow, IsFit, IsFresh, IsHeldFit, awaited_of, is_dispatch_in, reopened, value_in, with_held}
+use Rattle.switch_ports.specs.Leaving.{HasRow, IsFirstOf, IsFit, IsFresh, awaited_of, is_dispatch_in, reopened, value_in, with_held}
 use Rattle.std.{proofs.{Common.Global, lemmas.{Bool.and_from, List.Elements.{Contains-get_or, filter-append}}}, specs.List.{All, last_or}}
 use Rattle.std.specs.{Prelude.{filter, ⊤}, declared.vec.Vec.Vec}
 use Rattle.run_law.specs.machines.Tasks.{offset_of}
@@ -56,10 +56,6 @@ open_so changed h lt = let y : int_lt changed h.value.0 ≡ true = grind (arith,
 pub opened_by : (changed : ℤ) (o : Option Held) (h : Held) → o ≡ Some h → changed <ℤ h.value.0 → awaited_of changed o ≡ Some h
 opened_by changed o h e lt = rw e (open_so changed h lt)
 
-pub awaited_fit : (changed : ℤ) (o : Option Held) → IfSome o IsHeldFit → IfSome (awaited_of changed o) IsHeldFit
-awaited_fit changed None fit = tt
-awaited_fit changed (Some held) fit = elim (cases_Bool (int_lt changed held.value.0)) [ inl y ↦ rw y fit | inr n ↦ rw n tt ]
-
 -- ---- rows, each by itself
 
 has_row : (f : Departure → Departure) (old new : List Departure) (place : ℕ) → AreEach f old new → ((d : Departure) → (f d).of ≡ d.of) → HasRow old place
@@ -81,8 +77,7 @@ departs_each network device f old new before after changes of step h =
         fit = all_weaker (IsDeparture network device after) IsFit new.rows.items (λ d is. is.fit) each;
         chained = subst (λ (v : Vec (Option ℕ) Global). AreChained new.rows.items v.items) (sym changes.lasts)
             (chained_each f old.rows.items new.rows.items old.lasts.items changes.rows of h.ready.chained);
-        tree = changes.tree;
-        count = changes.count ∙ h.ready.count ∙ sym changes.rows.count;
+        keys = changes.keys;
       };
     }
 
@@ -92,7 +87,7 @@ pub departs_stopped : (network : Network) (device : DeviceId) (old new : Departu
 departs_stopped network device old new taken same h = subst (λ (ds : Departures). HasDepartures network device ds taken) (sym same) (record {
   each = h.each;
   complete = h.complete;
-  ready = record { fit = h.ready.fit; chained = h.ready.chained; tree = h.ready.tree; count = h.ready.count };
+  ready = record { fit = h.ready.fit; chained = h.ready.chained; keys = h.ready.keys };
 })
 
 -- ---- the adjustment has changed
@@ -104,12 +99,7 @@ departs_reopened network device changed old new taken changes h =
     (λ d is. record {
       of = is.of;
       held = is.held;
-      fit = record {
-        offset = is.fit.offset;
-        period = is.fit.period;
-        held = is.fit.held;
-        awaited = awaited_fit changed d.held is.fit.held;
-      };
+      fit = fit_reopened changed d is.fit;
     }) h
 
 awaits_anew : (changed : ℤ) (d : Departure) → AwaitsSo changed [] (reopened changed d)
@@ -142,6 +132,9 @@ fresh_fit network device d range is =
     let entry = in_range network d.of.row.0 is.of.entry range is.of.is in record {
       offset = subst (λ (o : LeavingRow). o.offset ≤ 2 ^ 40) (sym is.of.kept) (amount_most _ _ is.of.entry.row.offset entry.row.offset);
       period = subst (λ (o : LeavingRow). 1 ≤ o.period) (sym is.of.kept) entry.vl.period_least;
+      link = subst (λ (o : LeavingRow). o.link.0 < 2 ^ 32) (sym is.of.kept) (let a = entry.row.link in let b = range.few_links in omega (arith, a, b));
+      place =
+          let a = is.place in let b = got_within network.row d.of.row.0 is.of.entry.row is.of.is.row in let c = range.few_rows in omega (arith, a, b, c);
       held = rw is.held tt;
       awaited = rw is.awaited tt;
     }
@@ -155,8 +148,7 @@ departs_fresh network device ds range begun = record {
   ready = record {
     fit = all_weaker (IsFresh network device) IsFit ds.rows.items (λ d is. fresh_fit network device d range is) begun.rows.each;
     chained = begun.rows.chained;
-    tree = begun.tree;
-    count = begun.count;
+    keys = begun.keys;
   };
 }
 
@@ -166,11 +158,6 @@ none_to_come changed done d none absent held = (
   λ is. absurd (let f = sym none ∙ is.is in cc),
 )
 
-fresh_leaves : (network : Network) (device : DeviceId) (ds : Departures) (adjustment : ℤ) → IsBegun network device ds
-    → AreLeaves adjustment ds.rows.items ds.tree.nodes.items
-fresh_leaves network device ds adjustment begun k d lt =
-    begun.none (length ds.rows.items + k) ∙ sym (ap (option_map (dispatch_at adjustment (get_or ds.rows.items k d).of)) (begun.rows.each k d lt).awaited)
-
 pub awaits_fresh : (state : State) (network : Network) (device : DeviceId) (ds : Departures) (adjustment changed local : ℤ)
     → IsBegun network device ds → AwaitsIn state network ds adjustment changed [] local
 awaits_fresh Off network device ds adjustment changed local begun = begun.next
@@ -178,7 +165,8 @@ awaits_fresh Integrating network device ds adjustment changed local begun = begu
 awaits_fresh Joining network device ds adjustment changed local begun = begun.next
 awaits_fresh Synchronised network device ds adjustment changed local begun = record {
   each = all_weaker (IsFresh network device) (AwaitsSo changed []) ds.rows.items (λ d is. none_to_come changed [] d is.held is.awaited) begun.rows.each;
-  next = knows_next adjustment ds begun.tree begun.count (fresh_leaves network device ds adjustment begun) (begun.next ∙ sym (begun.none 1));
+  next = subst (IsFirstOf adjustment ds.rows.items) (sym begun.next)
+      (λ k d lt. ap (option_map (dispatch_at adjustment (get_or ds.rows.items k d).of)) (begun.rows.each k d lt).awaited);
   passed = λ row cycle there. absurd (in_none (dispatching row cycle) there);
 }
 
@@ -208,12 +196,6 @@ pub held_of : (length : ℕ) (of : LeavingRow) (cycle : ℕ) (at : ℤ) → is_d
 held_of length of cycle at occurs lt =
     let y : (is_dispatch_in of cycle && int_lt at (value_in length of cycle)) ≡ true = and_from _ _ occurs (int_lt-from _ _ lt) in rw y refl
 
-held_fit : (length : ℕ) (of : LeavingRow) (cycle : ℕ) (at : ℤ) → cycle * length ≤ 2 ^ 62 → of.offset ≤ 2 ^ 40 → IfSome (held_by length of cycle at) IsHeldFit
-held_fit length of cycle at a b = elim (cases_Bool (is_dispatch_in of cycle && int_lt at (value_in length of cycle))) [
-  | inl y ↦ rw y (record { least = omega (arith, ints); most = omega (arith, ints, a, b) })
-  | inr n ↦ rw n tt
-]
-
 -- ---- one frame more
 
 last_new : (taken : List TakenFrame) (t : TakenFrame) (vl : VlId) → (t.vl.0 == vl.0) ≡ true → last_of (taken ++ t ∷ []) vl ≡ Some t
@@ -233,15 +215,10 @@ departure_kept : (network : Network) (device : DeviceId) (taken : List TakenFram
     → (d.of.vl.0 == t.vl.0) ≡ b → t.cycle * amount network.cycle ≤ 2 ^ 62 → IsDeparture network device taken d
     → IsDeparture network device (taken ++ t ∷ []) (if b then with_held changed (held_by (amount network.cycle) d.of t.cycle t.at) d else d)
 departure_kept network device taken t changed d true e fits is =
-    let fit = held_fit (amount network.cycle) d.of t.cycle t.at fits is.fit.offset in record {
+    record {
       of = is.of;
       held = sym (ap (option_and_then (λ (x : TakenFrame). held_by (amount network.cycle) d.of x.cycle x.at)) (last_new taken t d.of.vl (turned _ _ true e)));
-      fit = record {
-        offset = is.fit.offset;
-        period = is.fit.period;
-        held = fit;
-        awaited = awaited_fit changed (held_by (amount network.cycle) d.of t.cycle t.at) fit;
-      };
+      fit = fit_taken (amount network.cycle) t.cycle changed t.at d true fits is.fit;
     }
 departure_kept network device taken t changed d false e fits is = record {
   of = is.of;
@@ -250,17 +227,12 @@ departure_kept network device taken t changed d false e fits is = record {
   fit = is.fit;
 }
 
-of_kept : (length : ℕ) (changed : ℤ) (t : TakenFrame) (d : Departure) (b : Bool)
-    → (if b then with_held changed (held_by length d.of t.cycle t.at) d else d).of ≡ d.of
-of_kept length changed t d true = refl
-of_kept length changed t d false = refl
-
 pub departs_taken : (network : Network) (device : DeviceId) (old new : Departures) (taken : List TakenFrame) (t : TakenFrame) (changed : ℤ)
     → t.cycle * amount network.cycle ≤ 2 ^ 62 → Changes (taken_as (amount network.cycle) changed t) old new → HasDepartures network device old taken
     → HasDepartures network device new (taken ++ t ∷ [])
 departs_taken network device old new taken t changed fits changes h =
     departs_each network device (taken_as (amount network.cycle) changed t) old new taken (taken ++ t ∷ []) changes
-    (λ d. of_kept (amount network.cycle) changed t d (d.of.vl.0 == t.vl.0))
+    (λ d. of_taken (amount network.cycle) t.cycle changed t.at d (d.of.vl.0 == t.vl.0))
     (λ d is. departure_kept network device taken t changed d (d.of.vl.0 == t.vl.0) refl fits is) h
 
 clash : (x y z v w : ℤ) → v ≤ℤ x → x ≤ℤ y → y <ℤ z → v ≡ w → w ≡ z → ⊥
@@ -288,7 +260,7 @@ awaits_kept network device t changed x done d true passed le is h held =
 pub awaits_taken : (state : State) (network : Network) (device : DeviceId) (old new : Departures) (taken : List TakenFrame) (t : TakenFrame)
     (adjustment changed x : ℤ) (done : List ClockTask) → state ≡ Synchronised → HasDepartures network device old taken
     → Changes (taken_as (amount network.cycle) changed t) old new
-    → (AreLeaves adjustment old.rows.items old.tree.nodes.items → KnowsNext adjustment new)
+    → KnowsNext adjustment new
     → AwaitsIn state network old adjustment changed done x → x ≤ℤ t.at → AwaitsIn state network new adjustment changed done t.at
 awaits_taken Off network device old new taken t adjustment changed x done is has changes next h le = absurd cc
 awaits_taken Integrating network device old new taken t adjustment changed x done is has changes next h le = absurd cc
@@ -298,6 +270,6 @@ awaits_taken Synchronised network device old new taken t adjustment changed x do
       old.rows.items new.rows.items changes.rows
       (λ d both. awaits_kept network device t changed x done d (d.of.vl.0 == t.vl.0) h.passed le both.0.of both.1)
       (λ k d lt. (has.each k d lt, h.each k d lt));
-  next = next h.next.leaves;
+  next = next;
   passed = λ row cycle there. through _ _ _ (h.passed row cycle there) le;
 }

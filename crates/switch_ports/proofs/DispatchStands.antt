@@ -1,8 +1,8 @@
 -- How a switch stands when it has dispatched a row's frame.
 use Rattle.switch_ports.{proofs.{Awaiting.{departs_each, later_by}, Words.{sym, through, true, value_of, ℕ, ℤ}}, specs.Steps.{Dispatches, DispatchesSo}}
 use Rattle.switch_ports.proofs.{Dispatching.{IsNextOf, its_awaits, next_of}, FirstActs.{EmitsNone, first_dispatch, nothing_due, value_reached}}
-use Rattle.switch_ports.{proofs.{EachRow.all_each, RowOrder.distinct}, specs.Leaving.closed}
-use Rattle.switch_ports.proofs.Words.{◌++◌, ◌<ℤ◌, ◌<◌, ◌==◌, ◌∙◌, ◌∷◌, ◌≡◌, ◌≤ℤ◌, All-contains, All-contains_itself, AreChained, AreLeaves, Awaits, AwaitsIn}
+use Rattle.switch_ports.{proofs.{EachRow.all_each, RowKeys.{fit_closed, of_closed}, RowOrder.distinct}, specs.Leaving.closed}
+use Rattle.switch_ports.proofs.Words.{◌++◌, ◌<ℤ◌, ◌<◌, ◌==◌, ◌∙◌, ◌∷◌, ◌≡◌, ◌≤ℤ◌, All-contains, All-contains_itself, AreChained, Awaits, AwaitsIn}
 use Rattle.switch_ports.proofs.Words.{AwaitsSo, Bool, Changes, ClockTask, Contains, Contains-append_left, Departure, Departures, DeviceId, Dispatch}
 use Rattle.switch_ports.proofs.Words.{HasDepartures, Held, IfSome, IsDeparture, KnowsNext, List, MayCall, Moment, Network, Node, None, Option, RowId, Some}
 use Rattle.switch_ports.proofs.Words.{Standing, StandsAs, State, Switch, Synchronised, TakenFrame, Units, [], acting, amount, ap, arith, called, correcting}
@@ -12,17 +12,13 @@ use Rattle.run_law.specs.{declared.steps.Act.Act, machines.{Answers.{IsActOf, wi
 
 -- ---- rows
 
-of_closed : (d : Departure) (b : Bool) → (if b then record d { awaited = None } else d).of ≡ d.of
-of_closed d true = refl
-of_closed d false = refl
-
 departure_closed : (network : Network) (device : DeviceId) (taken : List TakenFrame) (d : Departure) (b : Bool) → IsDeparture network device taken d
     → IsDeparture network device taken (if b then record d { awaited = None } else d)
 departure_closed network device taken d false is = is
 departure_closed network device taken d true is = record {
   of = is.of;
   held = is.held;
-  fit = record { offset = is.fit.offset; period = is.fit.period; held = is.fit.held; awaited = tt };
+  fit = fit_closed d true is.fit;
 }
 
 departs_closed : (network : Network) (device : DeviceId) (place : ℕ) (old new : Departures) (taken : List TakenFrame) → Changes (closed place) old new
@@ -171,8 +167,7 @@ dispatched_stands s new network device node moment next st later e due h =
                 new.departures.rows.items h.changes.rows
                 (λ d both. awaits_closed s network device node next d (d.of.place == next.place) st n refl both.0 both.1)
                 (λ k d lt. (All-contains_itself s.departures.rows.items k d lt, awaits.each k d lt));
-            next = subst (λ (z : ℤ). KnowsNext z new.departures) adjustment
-                (h.knows (subst (λ (z : ℤ). AreLeaves z s.departures.rows.items s.departures.tree.nodes.items) (sym adjustment) awaits.next.leaves));
+            next = subst (λ (z : ℤ). KnowsNext z new.departures) adjustment h.knows;
             passed = λ row cycle there. passed_more network node next _ _ row cycle
                 (later_by node.last.reading.0 moment.reading.0 node.standing.adjustment.0 later)
                 awaits.passed (value_reached _ node.standing.adjustment.0 moment.reading.0 due) there;

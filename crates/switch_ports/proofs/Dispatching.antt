@@ -203,7 +203,7 @@ its_state s network device node next st e = elim (awaits_or_none node.standing.s
 pub its_first : (s : Switch) (network : Network) (device : DeviceId) (node : Node) (o : Option Dispatch) → StandsAs s network device node
     → node.standing.state ≡ Synchronised → s.departures.next ≡ o → IsFirstOf node.standing.adjustment.0 s.departures.rows.items o
 its_first s network device node o st sync e =
-    subst (IsFirstOf node.standing.adjustment.0 s.departures.rows.items) e (its_awaits s network device node st sync).next.first
+    subst (IsFirstOf node.standing.adjustment.0 s.departures.rows.items) e (its_awaits s network device node st sync).next
 
 -- the row that dispatches next
 pub record IsNextOf (s : Switch) (network : Network) (node : Node) (next : Dispatch) : Type 0 where

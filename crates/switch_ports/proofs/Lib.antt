@@ -23,7 +23,7 @@ pub mod Collected
 pub mod Takings
 pub mod EachRow
 pub mod RowOrder
-pub mod Trees
+pub mod RowKeys
 pub mod Awaiting
 pub mod Dispatching
 pub mod Words

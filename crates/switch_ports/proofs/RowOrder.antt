@@ -133,6 +133,7 @@ leaving_none network device lasts none = record {
         (λ k d lt. absurd (omega (arith, lt)));
   };
   below = λ k d lt. absurd (omega (arith, lt));
+  few = omega arith;
   vls = ap (λ (xs : List (Option ℕ)). length xs) none ∙ length-map network.vl _;
 }
 
@@ -166,11 +167,17 @@ pub row_kept : (network : Network) (device : DeviceId) (row : RowId) (entry : En
 row_kept network device row entry place before rows lasts is leaves at last vl are =
     let d = fresh_row place before row entry in record {
       each = All-push (IsFresh network device) rows d are.each
-          (record { of = record { entry = entry; is = is; leaves = leaves; kept = refl }; held = refl; awaited = refl });
+          (record {
+            of = record { entry = entry; is = is; leaves = leaves; kept = refl };
+            place = (let few = are.few in omega (arith, at, few));
+            held = refl;
+            awaited = refl;
+          });
       complete = λ k other here from lt. row_up_to network device row d rows k other are.complete refl here from lt;
       chained = subst (λ n. AreChained (rows ++ d ∷ []) (slice_set lasts entry.row.vl.0 (Some n))) (sym at)
           (chained_pushed rows lasts d are.chained at last vl are.below);
       below = λ k e lt. below_more rows d row.0 k e are.below refl (subst (λ n. k < n) (more_long rows d) lt);
+      few = (let few = are.few in omega (arith, more_long rows d, few));
       vls = length-set lasts entry.row.vl.0 (Some place) ∙ are.vls;
     }
 

@@ -1,7 +1,7 @@
 -- Time-triggered frames that a switch takes.
 use Rattle.switch_ports.{proofs.Awaiting.{awaits_taken, departs_taken, later_by, taken_as}, specs.{declared.{standpoint.{Standpoint.{Standpoint as Place}}}}}
 use Rattle.switch_ports.proofs.{Standings.called_stands, Words.{Units, VlId, [], after_arrival, amount, ap, called, further, refl, subst, sym, through, ℕ, ℤ}}
-use Rattle.switch_ports.proofs.Words.{◌*◌, ◌++◌, ◌+ℤ◌, ◌^◌, ◌∙◌, ◌∷◌, ◌≡◌, ◌≤ℤ◌, ◌≤◌, AreLeaves, AwaitsIn, Changes, Departures, DeviceId, HasDepartures}
+use Rattle.switch_ports.proofs.Words.{◌*◌, ◌++◌, ◌+ℤ◌, ◌^◌, ◌∙◌, ◌∷◌, ◌≡◌, ◌≤ℤ◌, ◌≤◌, AwaitsIn, Changes, Departures, DeviceId, HasDepartures}
 use Rattle.switch_ports.proofs.Words.{HasTaken, Intake, KnowsNext, List, Moment, Network, Node, Standing, StandsAs, Switch, SyncPlan, Synchronised, TakenFrame}
 use Rattle.switch_ports.specs.{Departing.{IsKeptSo, Keeps}, Intakes.IsTakenSo}
 use Rattle.run_law.specs.{declared.steps.Arrival.Arrival, machines.{Answers.with_taken, Nodes.arriving}}
@@ -66,7 +66,7 @@ accepted_stands s intake ds network device node moment at vl cycle st later here
     (subst (λ (n : ℕ). cycle * n ≤ 2 ^ 62) length_is keeps.in_range) changes st.departs)
     (awaits_taken node.standing.state network device s.departures ds node.taken t node.standing.adjustment.0 node.changed
     (node.last.reading.0 +ℤ node.standing.adjustment.0) node.done state st.departs changes
-    (subst (λ (u : Units). AreLeaves u.0 s.departures.rows.items s.departures.tree.nodes.items → KnowsNext u.0 ds) adjustment keeps.next) st.awaits
+    (subst (λ (u : Units). KnowsNext u.0 ds) adjustment keeps.next) st.awaits
     (later_by node.last.reading.0 moment.reading.0 node.standing.adjustment.0 later))
 
 not_taken : (s : Switch) (intake : Intake) (ds : Departures) (network : Network) (device : DeviceId) (node : Node) (moment : Moment)

@@ -38,6 +38,6 @@ pub use Rattle.switch_ports.specs.Corrections.{correction_at, reading_of}
 pub use Rattle.switch_ports.specs.Departing.{Awaits, AwaitsIn, AwaitsSo, Changes, HasDepartures, IsBegun, IsDeparture, IsTakingAt, KnowsNext}
 pub use Rattle.switch_ports.specs.Leaving.{AreChained, AreEach, AreLeaving, IsLeaving, Precedes, dispatch_at, held_by, held_in, with_taking}
 pub use Rattle.switch_ports.specs.{Sites.{IsSiteOf, port_of}, Standing.{HasCollected, IsAccepted, StandsAs}, Standpoints.standpoint_of}
-pub use Rattle.switch_ports.specs.{Steady.{IsFair, is_timed}, Tournaments.AreLeaves}
+pub use Rattle.switch_ports.specs.Steady.{IsFair, is_timed}
 pub use Rattle.switch_ports.specs.declared.departures.{Departure.Departure, Departures.Departures, Dispatch.Dispatch, Held.Held, LeavingRow.LeavingRow}
 pub use Rattle.switch_ports.specs.declared.{site.Port.Port, switch.Switch.Switch}

@@ -9,53 +9,41 @@ use Rattle.schedule_tables.specs.{Entries.{IsEntry, source_of}, declared.entry.E
 use Rattle.sync_state.specs.declared.answers.Verdict.TheVariants.{AsyncClique, Cleared, Corrected, SyncClique}
 use Rattle.sync_state.specs.declared.{answers.Verdict.Verdict, state.State.{State, TheVariants.Synchronised}}
 use Rattle.tte_units.specs.Amount.{amount}
-use Rattle.switch_ports.specs.Leaving.{AreChained, AreEach, AreEachUpTo, AreLeaving, HasRow, IsFirstOf, IsFit}
-use Rattle.switch_ports.specs.Leaving.{IsLeaving, dispatch_by, held_by, reopened, with_taking}
-use Rattle.switch_ports.specs.{Tournaments.{AreLeaves, IsTree, Puts, node_at}, declared.departures.Departure.Departure}
+use Rattle.switch_ports.specs.Leaving.{AreChained, AreEach, AreEachUpTo, AreKeys, AreLeaving, HasRow, IsFirstOf, IsFit}
+use Rattle.switch_ports.specs.Leaving.{IsLeaving, held_by, key_by, reopened, with_taking}
+use Rattle.switch_ports.specs.declared.departures.Departure.{Departure}
 use Rattle.switch_ports.specs.declared.{departures.{Departures.Departures, Held.Held}, standpoint.Standpoint.Standpoint}
 use Rattle.run_law.specs.declared.steps.Arrival.TheVariants as arrivals
 
 -- ---- what holds at any time
 
--- the rows are in their ranges and in order, and the tree has a leaf for each
+-- the rows are in their ranges and in order, and have these keys
 pub record IsReady (departures : Departures) : Type 0 where
   pub fit : All IsFit departures.rows.items
   pub chained : AreChained departures.rows.items departures.lasts.items
-  pub tree : IsTree departures.tree
-  pub count : departures.tree.count ≡ length departures.rows.items
+  pub keys : AreKeys departures.rows.items departures.keys
 
 -- these are the rows of the device at the beginning
 pub record IsBegun (network : Network) (device : DeviceId) (departures : Departures) : Type 0 where
   pub rows : AreLeaving network device (length network.row) departures.rows.items departures.lasts.items
-  pub tree : IsTree departures.tree
-  pub count : departures.tree.count ≡ length departures.rows.items
-  pub none : (k : ℕ) → node_at departures.tree.nodes.items k ≡ None
+  pub keys : AreKeys departures.rows.items departures.keys
   pub next : departures.next ≡ None
 
--- the leaves are what the rows have still to dispatch, and the first of it comes next
-pub record KnowsNext (adjustment : ℤ) (departures : Departures) : Type 0 where
-  pub leaves : AreLeaves adjustment departures.rows.items departures.tree.nodes.items
-  pub first : IsFirstOf adjustment departures.rows.items departures.next
-
--- the tree has what the row at the place has still to dispatch
-pub record Tells (adjustment : ℤ) (place : ℕ) (old new : Departures) : Type 0 where
-  pub rows : new.rows ≡ old.rows
-  pub lasts : new.lasts ≡ old.lasts
-  pub tree : (d : Departure) → Puts old.tree place (dispatch_by adjustment (slice_index_or old.rows.items place d))
-      new.tree
+-- the first of what the rows have still to dispatch comes next
+abbrev pub KnowsNext : ℤ → Departures → Type 0
+KnowsNext adjustment departures = IsFirstOf adjustment departures.rows.items departures.next
 
 -- one departure is another
-pub record Sets (adjustment : ℤ) (place : ℕ) (departure : Departure) (old new : Departures) : Type 0 where
+pub record Sets (place : ℕ) (departure : Departure) (old new : Departures) : Type 0 where
   pub rows : new.rows.items ≡ slice_set old.rows.items place departure
   pub lasts : new.lasts ≡ old.lasts
-  pub tree : Puts old.tree place (dispatch_by adjustment departure) new.tree
+  pub keys : new.keys ≡ slice_set old.keys place (key_by departure)
 
 -- each row is what this makes of it
 pub record Changes (f : Departure → Departure) (old new : Departures) : Type 0 where
   pub rows : AreEach f old.rows.items new.rows.items
   pub lasts : new.lasts ≡ old.lasts
-  pub tree : IsTree new.tree
-  pub count : new.tree.count ≡ old.tree.count
+  pub keys : AreKeys new.rows.items new.keys
 
 -- ---- loops over rows
 
@@ -71,26 +59,18 @@ pub record AreEachFrom (f : Departure → Departure) (n : ℕ) (old new : List D
   pub rest : (k : ℕ) (d : Departure) → k < n → k < length old → slice_index_or new k d ≡ slice_index_or old k d
 
 -- the rows of the virtual link are done down to this one, which is next
-pub record IsTakingAt (f : Departure → Departure) (vl : ℕ) (at : Option ℕ) (adjustment : ℤ)
-    (old new : Departures) : Type 0 where
+pub record IsTakingAt (f : Departure → Departure) (vl : ℕ) (at : Option ℕ) (old new : Departures) : Type 0 where
   pub rows : AreEachFrom f (bound_of at) old.rows.items new.rows.items
   pub next : IfSome at (λ place. (place < length old.rows.items)
       × ((d : Departure) → (slice_index_or old.rows.items place d).of.vl.0 ≡ vl))
   pub lasts : new.lasts ≡ old.lasts
-  pub tree : IsTree new.tree
-  pub count : new.tree.count ≡ old.tree.count
-  pub leaves : AreLeaves adjustment old.rows.items old.tree.nodes.items
-      → AreLeaves adjustment new.rows.items new.tree.nodes.items
+  pub keys : AreKeys new.rows.items new.keys
 
 -- the first rows are done
-pub record IsReopeningAt (f : Departure → Departure) (place : ℕ) (adjustment : ℤ) (old new : Departures) : Type 0 where
+pub record IsReopeningAt (f : Departure → Departure) (place : ℕ) (old new : Departures) : Type 0 where
   pub rows : AreEachUpTo f place old.rows.items new.rows.items
   pub lasts : new.lasts ≡ old.lasts
-  pub tree : IsTree new.tree
-  pub count : new.tree.count ≡ old.tree.count
-  pub leaves : (k : ℕ) (d : Departure) → k < place → k < length new.rows.items
-      → node_at new.tree.nodes.items (length new.rows.items + k)
-      ≡ dispatch_by adjustment (slice_index_or new.rows.items k d)
+  pub keys : AreKeys new.rows.items new.keys
 
 -- ---- what is to come
 
@@ -160,7 +140,7 @@ pub record Keeps (old : Departures) (length : ℕ) (changed : ℤ) (at : Standpo
       (with_taking length changed
       (record { vl = vl; cycle = cycle; at = record { 0 = at.reading.0 +ℤ at.adjustment.0 } }))
       old new
-  pub next : AreLeaves at.adjustment.0 old.rows.items old.tree.nodes.items → KnowsNext at.adjustment.0 new
+  pub next : KnowsNext at.adjustment.0 new
 
 -- it has kept a frame of which this became
 abbrev pub IsKeptSo : Departures → ℕ → ℤ → Standpoint → Arrival → Departures → Type 0

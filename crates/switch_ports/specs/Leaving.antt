@@ -1,7 +1,8 @@
 -- The rows that leave a switch, and what they have still to dispatch.
-use Rattle.std.specs.{List.{All, Contains}, Prelude.{slice_index_or, unwrap_or, ℕ, ℤ}}
+use Rattle.std.specs.{List.{All, Contains}, Option.option_map_or, Prelude.{map, slice_index_or, unwrap_or, ℕ, ℤ}}
 use Rattle.std.specs.Prelude.{◌%◌, ◌&&◌, ◌*◌, ◌+◌, ◌-ℤ◌, ◌<ℤ◌, ◌<◌, ◌==◌, ◌^◌, ◌≡◌, ◌≤ℤ◌, ◌≤◌, ◌⊎◌, Bool, IfSome, List}
 use Rattle.std.specs.Prelude.{None, Option, Some, if◌then◌else◌, int_lt, length, nat_le, option_map, pos, slice_get}
+use Rattle.device_rules.specs.least_key.Trees.{no_key}
 use Rattle.net_plan.specs.{Ranges.IsWithin, declared.{ids.{DeviceId.DeviceId, RowId.RowId}, network.Network.Network}}
 use Rattle.schedule_tables.specs.{Entries.{IsEntry, source_of}, declared.entry.Entry.Entry}
 use Rattle.tte_units.specs.{Amount.amount, declared.units.Units.Units}
@@ -122,6 +123,8 @@ IsHeldFit held = IsWithin 0 (2 ^ 62 + 2 ^ 40) held.value
 pub record IsFit (d : Departure) : Type 0 where
   pub offset : d.of.offset ≤ 2 ^ 40
   pub period : 1 ≤ d.of.period
+  pub link : d.of.link.0 < 2 ^ 32
+  pub place : d.of.place < 2 ^ 32
   pub held : IfSome d.held IsHeldFit
   pub awaited : IfSome d.awaited IsHeldFit
 
@@ -133,6 +136,7 @@ pub record IsTakingFit (length : Units) (taking : Taking) : Type 0 where
 -- no frame has been taken
 pub record IsFresh (network : Network) (device : DeviceId) (d : Departure) : Type 0 where
   pub of : IsLeaving network device d.of
+  pub place : d.of.place ≤ d.of.row.0
   pub held : d.held ≡ None
   pub awaited : d.awaited ≡ None
 
@@ -144,6 +148,7 @@ pub record AreLeaving (network : Network) (device : DeviceId) (bound : ℕ) (row
       → HasRow rows place
   pub chained : AreChained rows lasts
   pub below : (k : ℕ) (d : Departure) → k < length rows → (slice_index_or rows k d).of.row.0 < bound
+  pub few : length rows ≤ bound
   pub vls : length lasts ≡ length network.vl
 
 -- ---- dispatches
@@ -168,12 +173,6 @@ Precedes a b =
     (a.at.0 <ℤ b.at.0)
     ⊎ ((a.at.0 ≡ b.at.0) × ((a.link.0 < b.link.0) ⊎ ((a.link.0 ≡ b.link.0) × (a.row.0 < b.row.0))))
 
--- the earlier of two dispatches that may be there, and else the first
-abbrev pub IsEarlier : Option Dispatch → Option Dispatch → Option Dispatch → Type 0
-IsEarlier None b result = result ≡ b
-IsEarlier (Some a) None result = result ≡ Some a
-IsEarlier (Some a) (Some b) result = (Precedes b a × (result ≡ Some b)) ⊎ ((Precedes b a → ⊥) × (result ≡ Some a))
-
 -- the row has still to make this dispatch
 abbrev pub IsOf : ℤ → List Departure → Dispatch → Type 0
 IsOf adjustment rows next = (d : Departure) × Contains rows d × (dispatch_by adjustment d ≡ Some next)
@@ -183,3 +182,17 @@ abbrev pub IsFirstOf : ℤ → List Departure → Option Dispatch → Type 0
 IsFirstOf adjustment rows None = All (λ d. dispatch_by adjustment d ≡ None) rows
 IsFirstOf adjustment rows (Some next) =
     IsOf adjustment rows next × All (λ d. IfSome (dispatch_by adjustment d) (λ other. Precedes other next → ⊥)) rows
+
+-- ---- keys
+
+-- the key of the frame: by its local value, then by the row's link, then by the row's place
+abbrev pub key_at : LeavingRow → Held → ℕ
+key_at of held = amount held.value * 2 ^ 64 + (of.link.0 * 2 ^ 32 + of.place)
+
+-- the key of what the row has still to dispatch
+abbrev pub key_by : Departure → ℕ
+key_by d = option_map_or (key_at d.of) d.awaited no_key
+
+-- these are the keys of the rows
+abbrev pub AreKeys : List Departure → List ℕ → Type 0
+AreKeys rows keys = keys ≡ map key_by rows

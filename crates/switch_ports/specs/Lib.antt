@@ -2,7 +2,6 @@ pub mod Sites
 pub mod Standpoints
 pub mod Intakes
 pub mod Leaving
-pub mod Tournaments
 pub mod Departing
 pub mod Corrections
 pub mod Steps

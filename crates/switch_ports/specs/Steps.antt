@@ -14,7 +14,7 @@ use Rattle.sync_state.specs.{Verdicts.{HasVerdict, IfCorrected}, declared.answer
 use Rattle.sync_state.specs.declared.answers.Verdict.TheVariants.{AsyncClique, Cleared, Corrected, SyncClique}
 use Rattle.tte_units.specs.declared.units.Units.{Units}
 use Rattle.switch_ports.specs.{Corrections.correction_at, Departing.{Changes, IsAwaitedSo, KnowsNext}, Leaving.closed}
-use Rattle.switch_ports.specs.{Tournaments.AreLeaves, declared.{departures.Dispatch.Dispatch, switch.Switch.Switch}}
+use Rattle.switch_ports.specs.declared.{departures.Dispatch.Dispatch, switch.Switch.Switch}
 use Rattle.compression.specs.declared.taken.Taken.TheVariants as takens
 use Rattle.run_law.specs.declared.steps.Act.TheVariants as acts
 use Rattle.run_law.specs.declared.steps.Ripe.TheVariants as ripe
@@ -86,8 +86,7 @@ pub record Corrects (old : Switch) (moment : Moment) (verdict : Verdict) (new : 
 pub record Dispatches (old : Switch) (next : Dispatch) (new : Switch) : Type 0 where
   pub rest : new ≡ record old { departures = new.departures }
   pub changes : Changes (closed next.place) old.departures new.departures
-  pub knows : AreLeaves old.sync.adjustment.0 old.departures.rows.items old.departures.tree.nodes.items
-      → KnowsNext old.sync.adjustment.0 new.departures
+  pub knows : KnowsNext old.sync.adjustment.0 new.departures
 
 -- it has done the dispatch that came next, if one did
 abbrev pub DispatchesSo : Switch → Option Dispatch → Act → Switch → Type 0

@@ -1,22 +1,24 @@
 //! The rows that leave a switch, and the frames that they have still to dispatch.
 
-ghost use Rattle.std.specs.Prelude.{◌*◌, ◌+◌, ◌-ℤ◌, ◌<◌, ◌^◌, ◌↔◌, ◌≡◌, ◌≤ℤ◌, ◌≤◌, All, IfOk, IsTrue, None, OnOk};
-ghost use Rattle.std.specs.Prelude.{length, map, option_map, pos, slice_index_or};
+ghost use Rattle.std.specs.Prelude.{◌*◌, ◌+◌, ◌-ℤ◌, ◌<◌, ◌^◌, ◌≡◌, ◌≤ℤ◌, ◌≤◌, All, IfOk, IfSome, None, OnOk};
+ghost use Rattle.std.specs.Prelude.{length, map, option_map, pos};
 ghost use Rattle.clock_correction.specs.Deviation.{IsSmall};
 ghost use Rattle.net_plan.specs.{Ranges.{IsInRange, IsWithin}, declared.network.Network.Network as NetworkValue};
 ghost use Rattle.schedule_tables.specs.Entries.{IsEntry, IsEntryInRange, source_of};
 ghost use Rattle.tte_units.specs.Amount.{amount};
-ghost use Rattle.switch_ports.specs.Departing.{Changes, IsBegun, IsReady, KnowsNext, Tells};
-ghost use Rattle.switch_ports.specs.declared.departures.Departure.{Departure as DepartureValue};
-ghost use Rattle.switch_ports.specs.Leaving.{AreLeaving, IsEarlier, IsFit, IsTakingFit, Precedes, awaited_of, closed};
-ghost use Rattle.switch_ports.specs.Leaving.{dispatch_by, fresh_row, held_by, is_dispatch_in, place_in, reopened};
-ghost use Rattle.switch_ports.specs.{Leaving.{value_in, with_held, with_taking}, Tournaments.{AreLeaves, IsTree}};
+ghost use Rattle.switch_ports.specs.Departing.{Changes, IsBegun, IsReady, KnowsNext};
+ghost use Rattle.switch_ports.specs.Leaving.{AreLeaving, IsFirstOf, IsFit, IsTakingFit, awaited_of, closed};
+ghost use Rattle.switch_ports.specs.Leaving.{dispatch_by, fresh_row, held_by, is_dispatch_in, key_by, place_in, reopened};
+ghost use Rattle.switch_ports.specs.{Leaving.{value_in, with_held, with_taking}};
 
-use crate::tournament::Tournament;
+use device_rules::least_key::{Keys, NO_KEY, key_of, order_of};
 use net_plan::{DeviceId, LinkId, Network, RowId, VlId};
 use schedule_tables::{Entry, OutOfMemory, entry_of};
 use std::alloc::{AllocError, Global};
 use tte_units::Units;
+
+/// More than there are places of rows.
+const PLACES: u64 = 1 << 32;
 
 /// A row that leaves the switch.
 #[derive(Clone, Copy, Debug, PartialEq, Eq)]
@@ -80,7 +82,8 @@ pub(crate) struct Departures {
     rows: Vec<Departure>,
     /// The place of the last row of each virtual link.
     lasts: Vec<Option<usize>>,
-    tree: Tournament,
+    /// The keys of what the rows have still to dispatch.
+    keys: Keys,
     /// The dispatch that comes next. It is None while the switch has not the common time.
     pub(crate) next: Option<Dispatch>,
 }
@@ -104,11 +107,11 @@ impl Departures {
             let entry = entry_of(network, row);
             add_row(&mut rows, &mut lasts, device, row, &entry)?;
         }
-        let tree = Tournament::new(alloc, rows.as_slice())?;
+        let keys = Keys::new(alloc, rows.len())?;
         Ok(Departures {
             rows,
             lasts,
-            tree,
+            keys,
             next: None,
         })
     }
@@ -119,17 +122,16 @@ impl Departures {
         requires taking { IsTakingFit length taking }
         requires small { IsSmall adjustment.0 }
         ensures changes { Changes (with_taking (amount length) changed.0 taking) self.old self.new }
-        ensures next { AreLeaves adjustment.0 self.old.rows.items self.old.tree.nodes.items
-            → KnowsNext adjustment.0 self.new }
+        ensures next { KnowsNext adjustment.0 self.new }
     {
         let mut at = self.last_of(taking.vl);
         'rows: while let Some(place) = at {
             let departure = &mut self.rows[place];
             at = departure.of.before;
             departure.take(length, &taking, changed);
-            self.tell(place, adjustment);
+            self.keys.set(place, departure.key());
         }
-        self.next = self.tree.first();
+        self.next = self.first(adjustment);
     }
 
     /// Tells anew what is to come, where the adjustment has changed at a local value.
@@ -140,10 +142,11 @@ impl Departures {
         ensures next { KnowsNext adjustment.0 self.new }
     {
         for place in 0..self.rows.len() {
-            self.rows[place].reopen(changed);
-            self.tell(place, adjustment);
+            let departure = &mut self.rows[place];
+            departure.reopen(changed);
+            self.keys.set(place, departure.key());
         }
-        self.next = self.tree.first();
+        self.next = self.first(adjustment);
     }
 
     /// Ends the dispatch that was to come of the row at the place.
@@ -152,12 +155,11 @@ impl Departures {
         requires ready { IsReady self.old }
         requires small { IsSmall adjustment.0 }
         ensures changes { Changes (closed place) self.old self.new }
-        ensures next { AreLeaves adjustment.0 self.old.rows.items self.old.tree.nodes.items
-            → KnowsNext adjustment.0 self.new }
+        ensures next { KnowsNext adjustment.0 self.new }
     {
         self.rows[place].awaited = None;
-        self.tell(place, adjustment);
-        self.next = self.tree.first();
+        self.keys.set(place, NO_KEY);
+        self.next = self.first(adjustment);
     }
 
     /// Nothing comes while the switch has not the common time.
@@ -187,17 +189,17 @@ impl Departures {
         }
     }
 
-    /// Tells the tree what the row at the place has still to dispatch.
-    fn tell(&mut self, place: usize, adjustment: Units)
-        requires place { place < length self.old.rows.items }
-        requires fit { (d : DepartureValue) → IsFit (slice_index_or self.old.rows.items place d) }
+    /// The first dispatch that the rows have still to make.
+    fn first(&self, adjustment: Units) -> Option<Dispatch>
+        requires ready { IsReady self.now }
         requires small { IsSmall adjustment.0 }
-        requires tree { IsTree self.old.tree }
-        requires count { self.old.tree.count ≡ length self.old.rows.items }
-        ensures { Tells adjustment.0 place self.old self.new }
+        ensures { IsFirstOf adjustment.0 self.now.rows.items result }
     {
-        let dispatch = self.rows[place].dispatch(adjustment);
-        self.tree.put(place, dispatch);
+        let place = order_of(self.keys.least()) % PLACES;
+        match self.rows.get(place as usize) {
+            Some(departure) => departure.dispatch(adjustment),
+            None => None,
+        }
     }
 }
 
@@ -219,6 +221,20 @@ impl Departure {
         ensures { self.new ≡ reopened changed.0 self.old }
     {
         self.awaited = awaited_of(self.held, changed);
+    }
+
+    /// The key of what the row has still to dispatch: by its local value, then by its link, then by the row.
+    pub fn key(&self) -> u128
+        requires fit { IsFit self.now }
+        ensures { result ≡ key_by self.now }
+    {
+        match self.awaited {
+            Some(held) => {
+                let order = u64::from(self.of.link.0) * PLACES + self.of.place as u64;
+                key_of(held.value.amount(), order)
+            }
+            None => NO_KEY,
+        }
     }
 
     /// The row's dispatch that is to come.
@@ -276,32 +292,6 @@ impl LeavingRow {
         ensures { result ≡ is_dispatch_in self.now cycle }
     {
         1 <= cycle && cycle % self.period == self.phase
-    }
-}
-
-impl Dispatch {
-    /// Does it come before the other? At one reading they come by links, then by rows.
-    pub fn precedes(&self, other: &Dispatch) -> bool
-        ensures { IsTrue result ↔ Precedes self.now other.now }
-    {
-        if self.at.0 != other.at.0 {
-            self.at.0 < other.at.0
-        } else if self.link.0 != other.link.0 {
-            self.link.0 < other.link.0
-        } else {
-            self.row.0 < other.row.0
-        }
-    }
-
-    /// Is it the other?
-    fn is(&self, other: &Dispatch) -> bool
-        ensures { IsTrue result ↔ (self.now ≡ other.now) }
-    {
-        self.at.0 == other.at.0
-            && self.row.0 == other.row.0
-            && self.link.0 == other.link.0
-            && self.cycle == other.cycle
-            && self.place == other.place
     }
 }
 
@@ -378,28 +368,4 @@ fn reading_of(value: Units, adjustment: Units) -> Units
     ensures { result.0 ≡ (value.0 -ℤ adjustment.0) }
 {
     Units(value.0 - adjustment.0)
-}
-
-/// Is there the first dispatch, and does it come before the other, if that is there?
-pub fn comes_first(first: &Option<Dispatch>, other: &Option<Dispatch>) -> bool
-    ensures yes { IsTrue result → IsEarlier other.now first.now first.now }
-    ensures no { (IsTrue result → ⊥) → IsEarlier other.now first.now other.now }
-{
-    match (first, other) {
-        (Some(first), Some(other)) => first.precedes(other),
-        (Some(_), None) => true,
-        (None, _) => false,
-    }
-}
-
-/// Are the two one dispatch, or is neither there?
-pub(crate) fn is_same(a: &Option<Dispatch>, b: &Option<Dispatch>) -> bool
-    ensures { IsTrue result ↔ (a.now ≡ b.now) }
-{
-    match (a, b) {
-        (Some(a), Some(b)) => a.is(b),
-        (None, None) => true,
-        (Some(_), None) => false,
-        (None, Some(_)) => false,
-    }
 }

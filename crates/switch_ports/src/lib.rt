@@ -14,10 +14,8 @@ mod site;
 mod standpoint;
 mod switch;
 mod timed;
-mod tournament;
 
-pub use departures::{Departure, Dispatch, Held, LeavingRow, Taking, comes_first};
+pub use departures::{Departure, Dispatch, Held, LeavingRow, Taking};
 pub use site::{Peer, Port, Site};
 pub use standpoint::Standpoint;
 pub use switch::Switch;
-pub use tournament::Tournament;

@@ -1,7 +1,8 @@
 -- When a text is the decimal of a number.
-use Rattle.tte_audit.proofs.Words.{◌++◌, ◌<◌, ◌^◌, ◌∙◌, ◌∷◌, ◌≡◌, ◌≤◌, AllDigits, List, [], ap, append-nil, arith, decimal, digits_value, get_or, length, nat_tests, subst, sym}
-use Rattle.tte_audit.proofs.Words.{Some, Words, refl, take, true, ℕ}
-use Rattle.std.proofs.{Common.◌-◌, Math.Nat.pow-le-pow_right, lemmas.{Fmt.{decimal-digits_value, decimal_injective}, Int.Digits.digits_value-lt, List.{length-take-le, Splits.{slice_split_at, slice_split_none}}}}
+use Rattle.tte_audit.proofs.Words.{◌++◌, ◌<◌, ◌^◌, ◌∙◌, ◌∷◌, ◌≡◌, ◌≤◌, AllDigits, List, Some, Words, [], ap, append-nil, arith, decimal, digits_value}
+use Rattle.tte_audit.proofs.Words.{get_or, length, nat_tests, refl, subst, sym, take, true, ℕ}
+use Rattle.std.proofs.{Common.◌-◌, Math.Nat.pow-le-pow_right, lemmas.{Fmt.{decimal-digits_value, decimal_injective}, Int.Digits.digits_value-lt}}
+use Rattle.std.proofs.lemmas.List.{length-take-le, Splits.{slice_split_at, slice_split_none}}
 use Rattle.tte_lemmas.proofs.Lists.{same_name}
 use Rattle.tte_audit.specs.Spellings.{first_word}
 use Rattle.trace_text.{proofs.Joining.decimal_is_word, specs.Steps.{is_space, space, words}}

@@ -2,7 +2,7 @@
 use Rattle.tte_audit.{proofs.{EventsRead.{events_on, right_none, right_on}, Parts.{begins_more, begins_none}}, specs.declared.refusal.AuditRefusal.AuditRefusal}
 use Rattle.tte_audit.{proofs.{Quiet.goes_by, Seeking.{one_end, one_record}}, specs.{LineSwept.{IsLineSwept, IsTaken}, Named.IsNamed, Swift.{AreAt, IsAt}}}
 use Rattle.tte_audit.{proofs.{UnderWay.{befalls_there, swept_on}, Words.{subst, sym, with_event, ℕ}}, specs.Report.{HasNoEvent, IsNextLine, IsOfEvents}}
-use Rattle.tte_audit.proofs.Words.{◌++◌, ◌+◌, ◌∙◌, ◌∷◌, ◌≡◌, ◌≤◌, ◌⊎◌, AreEventsRight, BeginsWith, BeginsWithRecord, EndWith, Event, List, MayCome, Network}
+use Rattle.tte_audit.proofs.Words.{◌++◌, ◌+◌, ◌∙◌, ◌∷◌, ◌≡◌, ◌⊎◌, AreEventsRight, BeginsWith, BeginsWithRecord, EndWith, Event, List, MayCome, Network}
 use Rattle.tte_audit.proofs.Words.{Note, NoteBody, Units, [], ap, append-nil, append_assoc, arith, events_of, happenings, inl, inr, length, length-append, refl}
 use Rattle.audit_sweep.specs.{Judging.Befalls, Sweeping.IsSwept, declared.sweep.Sweep.Sweep}
 use Rattle.std.specs.{Borrow.Bor, Prelude.{IfSome, None, Ok, Option, Result, Some}}

@@ -1,5 +1,5 @@
 -- The audit of a report of which the events are sought first.
-use Rattle.std.specs.{Borrow.Bor, Prelude.{◌++◌, ◌+◌, ◌<◌, ◌∷◌, ◌≡◌, ◌≤◌, ◌⊎◌, List, [], length, ℕ}}
+use Rattle.std.specs.{Prelude.{◌++◌, ◌+◌, ◌<◌, ◌∷◌, ◌≡◌, ◌≤◌, ◌⊎◌, List, [], length, ℕ}}
 use Rattle.audit_sweep.specs.declared.sweep.Sweep.{Sweep}
 use Rattle.net_plan.specs.declared.network.Network.{Network}
 use Rattle.run_law.specs.declared.note.Note.{Note}

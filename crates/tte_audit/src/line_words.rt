@@ -12,7 +12,8 @@ ghost use Rattle.run_law.specs.declared.judgement.{Judgement.Judgement as Judgem
 ghost use Rattle.sync_state.specs.declared.state.State.{State as StateValue};
 ghost use Rattle.trace_text.specs.Steps.{is_space, words};
 ghost use Rattle.tte_units.specs.declared.units.Units.{Units as UnitsValue};
-ghost use Rattle.tte_audit.specs.{Spellings.{behind_word, first_word, kind_text}, declared.kind.KindWord.KindWord as KindValue};
+ghost use Rattle.tte_audit.specs.Spellings.{behind_word, first_word, kind_text};
+ghost use Rattle.tte_audit.specs.declared.kind.KindWord.{KindWord as KindValue};
 
 use crate::enums::{judgement, state, why};
 use crate::hints::NameHints;

@@ -1,5 +1,5 @@
 pub mod queue_lemmas
-pub mod timers_lemmas
+pub mod SlotOrder
 pub mod Acts
 pub mod Apart
 pub mod Befallings

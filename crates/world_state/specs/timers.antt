@@ -1,2 +1,2 @@
+pub mod SlotKeys
 pub mod Times
-pub mod Trees

@@ -3,6 +3,7 @@ ghost use Rattle.net_plan.specs.Ranges.{IsWithin};
 ghost use Rattle.switch_ports.specs.Standpoints.{IsSiteInRange};
 
 use device_rules::EnteringRow;
+use device_rules::least_key::{Keys, NO_KEY};
 use net_plan::{LinkId, RowId, VlId, Way};
 use pcf_values::{Channel, Mac, Members, Pcf, PcfKind};
 use run_law::{Arrival, Reason};
@@ -10,8 +11,7 @@ use schedule_tables::Window;
 use std::alloc::{AllocError, Global};
 use std::test::Fail;
 use switch_ports::{
-    Departure, Dispatch, Held, LeavingRow, Peer, Port, Site, Standpoint, Taking, Tournament,
-    comes_first,
+    Departure, Held, LeavingRow, Peer, Port, Site, Standpoint, Taking,
 };
 use sync_state::{State, SyncPlan};
 use tte_units::Units;
@@ -130,6 +130,8 @@ fn a_row_judges_frames(rt: HostRuntime) -> Result<(), Fail> {
 fn leaving_row(row: u32, offset: u64) -> LeavingRow
     ensures offset { result.offset ≡ offset }
     ensures period { result.period ≡ 2 }
+    ensures link { result.link.0 ≡ 2 }
+    ensures place { result.place ≡ 1 }
 {
     LeavingRow {
         row: RowId(row),
@@ -138,7 +140,7 @@ fn leaving_row(row: u32, offset: u64) -> LeavingRow
         offset,
         period: 2,
         phase: 1,
-        place: 0,
+        place: 1,
         before: None,
     }
 }
@@ -212,77 +214,55 @@ fn a_correction_tells_anew_what_is_awaited(rt: HostRuntime) -> Result<(), Fail> 
 }
 
 #[test]
-fn dispatches_come_by_readings_links_and_rows(rt: HostRuntime) -> Result<(), Fail> {
-    let next = Dispatch {
-        at: Units(100),
-        link: LinkId(2),
-        row: RowId(7),
+fn rows_dispatch_by_values_links_and_places(rt: HostRuntime) -> Result<(), Fail> {
+    let held = Some(Held {
         cycle: 1,
-        place: 0,
-    };
-    let sooner = Dispatch {
-        at: Units(99),
-        link: LinkId(3),
-        ..next
-    };
-    let left = Dispatch {
-        link: LinkId(1),
-        row: RowId(9),
-        ..next
-    };
-    let above = Dispatch {
-        row: RowId(6),
-        ..next
-    };
-    assert!(rt; sooner.precedes(&next) && left.precedes(&next) && above.precedes(&next));
-    assert!(rt; !next.precedes(&next) && !next.precedes(&sooner));
-    assert!(rt; comes_first(&Some(left), &Some(next)) && !comes_first(&Some(next), &Some(left)));
-    assert!(rt; !comes_first(&Some(next), &Some(next)) && !comes_first(&None, &None));
-    assert!(rt; comes_first(&Some(next), &None) && !comes_first(&None, &Some(next)));
-    Ok(())
-}
-
-fn dispatch(at: i64) -> Option<Dispatch> {
-    Some(Dispatch {
-        at: Units(at),
-        link: LinkId(2),
-        row: RowId(7),
-        cycle: 1,
-        place: 0,
-    })
-}
-
-#[test]
-fn a_tree_has_the_first_dispatch(rt: HostRuntime) -> Result<(), Fail> {
-    let row = Departure {
+        value: Units(10_500),
+    });
+    let next = Departure {
         of: leaving_row(7, 500),
-        held: None,
-        awaited: None,
+        held,
+        awaited: held,
     };
-    let mut tree = Tournament::new(rt.alloc(), &[row, row, row, row, row])?;
-    assert!(rt; tree.first() == None);
-    tree.put(3, dispatch(500));
-    tree.put(4, dispatch(300));
-    tree.put(0, dispatch(400));
-    assert!(rt; tree.first() == dispatch(300));
-    tree.put(4, None);
-    assert!(rt; tree.first() == dispatch(400));
-    tree.put(0, dispatch(600));
-    assert!(rt; tree.first() == dispatch(500));
+    let mut sooner = next;
+    sooner.of.link = LinkId(3);
+    sooner.awaited = Some(Held {
+        cycle: 1,
+        value: Units(10_499),
+    });
+    let mut left = next;
+    left.of.link = LinkId(1);
+    left.of.place = 4;
+    let mut above = next;
+    above.of.place = 0;
+    assert!(rt; sooner.key() < next.key() && left.key() < next.key() && above.key() < next.key());
+    let mut none = next;
+    none.awaited = None;
+    assert!(rt; next.key() < none.key() && none.key() == NO_KEY);
     Ok(())
 }
 
 #[test]
-fn a_tree_over_one_row_is_its_leaf(rt: HostRuntime) -> Result<(), Fail> {
-    let row = Departure {
-        of: leaving_row(7, 500),
-        held: None,
-        awaited: None,
-    };
-    let mut tree = Tournament::new(rt.alloc(), &[row])?;
-    tree.put(0, dispatch(500));
-    assert!(rt; tree.first() == dispatch(500));
-    tree.put(0, None);
-    assert!(rt; tree.first() == None);
+fn the_least_key_is_at_hand(rt: HostRuntime) -> Result<(), Fail> {
+    let mut keys = Keys::new(rt.alloc(), 5)?;
+    assert!(rt; keys.least() == NO_KEY);
+    keys.set(3, 500);
+    keys.set(4, 300);
+    keys.set(0, 400);
+    assert!(rt; keys.least() == 300);
+    keys.set(4, NO_KEY);
+    assert!(rt; keys.least() == 400);
+    keys.set(0, 600);
+    assert!(rt; keys.least() == 500);
+    Ok(())
+}
+
+#[test]
+fn one_place_has_the_least_key_and_no_place_none(rt: HostRuntime) -> Result<(), Fail> {
+    let mut keys = Keys::new(rt.alloc(), 1)?;
+    keys.set(0, 500);
+    assert!(rt; keys.least() == 500);
+    keys.set(0, NO_KEY);
+    assert!(rt; keys.least() == NO_KEY && Keys::new(rt.alloc(), 0)?.least() == NO_KEY);
     Ok(())
 }

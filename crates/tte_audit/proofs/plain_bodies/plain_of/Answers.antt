@@ -3,7 +3,8 @@ use Rattle.tte_audit.proofs.plain_bodies.plain_of.Goals as goal
 
 pub returns-in-Compressed-clause-is : goal.returns-in-Compressed-clause-is
 returns-in-Compressed-clause-is c p t none =
-    none_compressed c.args.network.now c.args.words.now (λ d opened at cycle m verdict h h1 h2 h3 h4 e. c.compressed.ensures.is d opened at cycle m verdict h h1 h2 h3 h4 e none)
+    none_compressed c.args.network.now c.args.words.now
+    (λ d opened at cycle m verdict h h1 h2 h3 h4 e. c.compressed.ensures.is d opened at cycle m verdict h h1 h2 h3 h4 e none)
     p (subst (λ (k : KindWord). Tells c.args.network.now k c.args.words.now p) c.in-Compressed.is t)
 
 pub returns-in-Clock-clause-is : goal.returns-in-Clock-clause-is

@@ -37,7 +37,8 @@ returns-clause-text c =
     let told = c.in_ok-kind.ensures.told in
     let ws = sym c.of-words.ensures
     ∙ c.in_ok-number.ensures.text
-    ∙ ap (λ (ws : Words). decimal number ∷ ws) (c.in_ok-time.ensures.text ∙ ap (λ (ws : Words). signed_decimal time.0 ∷ ws) (c.in_ok-word.ensures.text ∙ told.2)) in
+    ∙ ap (λ (ws : Words). decimal number ∷ ws) (c.in_ok-time.ensures.text
+    ∙ ap (λ (ws : Words). signed_decimal time.0 ∷ ws) (c.in_ok-word.ensures.text ∙ told.2)) in
     record {
       of_network = told.0;
       in_range = record { number = c.in_ok-number.ensures.range; time = c.in_ok-time.ensures.range; body = told.1 };

@@ -1,4 +1,4 @@
-use Rattle.switch_ports.proofs.Words.{◌^◌, ◌∙◌, ◌≡◌, HasTaken, IfSome, IsBegun, IsSiteOf, IsWithin, Network, Option, Units, [], ap, subst}
+use Rattle.switch_ports.proofs.Words.{◌^◌, ◌∙◌, ◌≡◌, HasTaken, IfSome, IsBegun, IsSiteOf, IsWithin, Network, Option, Units, [], ap, arith, ints, subst}
 use Rattle.run_law.specs.scenario.Devices.{start_of}
 use Rattle.sync_state.specs.Standing.{begun}
 use Rattle.switch_ports.proofs.{Beginning.begun_stands, Ranges.{calc_short, site_in_range}}
@@ -28,3 +28,12 @@ returns c =
     (c.new-sync.ensures.value ∙ ap (begun c.in_ok-site.site.plan) start)
     (subst (λ (o : Option Units). IfSome o (IsWithin 0 (2 ^ 40))) start c.start_of.ensures.range)
     c.new-4.ensures.value c.new-collector.ensures.value c.adjustment-changed.ensures c.next_correction_at-corrects_at.ensures
+
+pub new-sync-requires : goal.new-sync-requires
+new-sync-requires c =
+    let e = c.network-network.ensures in
+    let is = subst (λ (n : Network). IsSiteOf n c.args.device c.in_ok-site.site) e.value c.in_ok-site.ensures in
+    let site = site_in_range c.args.accepted.now c.args.device c.in_ok-site.site e.range is in
+    let least = site.expected.least in
+    let most = site.expected.most in
+    record { shortest = site.cycle.least; longest = site.cycle.most; earliest = omega (arith, ints, least); latest = omega (arith, ints, most) }
