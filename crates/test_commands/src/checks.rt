@@ -1,6 +1,5 @@
 //! Tests of `check`, over the whole program: networks that are accepted, and what refuses the others.
 
-mod cases;
 mod checking;
 mod files;
 mod grown;

@@ -1,7 +1,6 @@
 //! Tests of the commands, over the whole program: what is no form, and what `show`, `audit` and `storm` answer.
 
 mod auditing;
-mod cases;
 mod showing;
 mod storming;
 mod words;

@@ -2,10 +2,10 @@
 #![tactic(auto)]
 
 #[cfg(test)]
+mod calls;
+#[cfg(test)]
 mod captures;
 #[cfg(test)]
 mod checks;
 #[cfg(test)]
 mod forms;
-#[cfg(test)]
-mod worked;

@@ -1,5 +1,4 @@
 //! Tests of what `lens flows` tells of reports.
 
-mod cases;
 mod counted;
 mod refused;

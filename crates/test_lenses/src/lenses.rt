@@ -1,7 +1,6 @@
 //! Tests of the program `lens`: what is no form, what rules leave and want of networks, the least numbers that they
 //! admit, chains of records, the events of storms, and the run over them.
 
-mod cases;
 mod chains;
 mod eventful;
 mod forms;

@@ -2,10 +2,10 @@
 #![tactic(auto)]
 
 #[cfg(test)]
+mod calls;
+#[cfg(test)]
 mod flows;
 #[cfg(test)]
 mod lenses;
 #[cfg(test)]
 mod pictures;
-#[cfg(test)]
-mod worked;

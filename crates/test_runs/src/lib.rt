@@ -2,10 +2,10 @@
 #![tactic(auto)]
 
 #[cfg(test)]
+mod calls;
+#[cfg(test)]
 mod runs;
 #[cfg(test)]
 mod stamps;
 #[cfg(test)]
 mod votes;
-#[cfg(test)]
-mod worked;

@@ -1,6 +1,5 @@
 //! Tests of `run`, over the whole program: what a trace gives, the report of its run, and what cuts it short.
 
-mod calm;
 mod cut_short;
 mod running;
 mod tracing;

@@ -2,4 +2,3 @@
 
 mod granules;
 mod stamping;
-mod worked;

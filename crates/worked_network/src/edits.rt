@@ -9,6 +9,8 @@ pub enum Misfit {
     OutOfMemory,
     /// The old text stands there not at all, or more than once.
     NotOnce,
+    /// A row has no bar.
+    NoBar,
 }
 
 impl From<AllocError> for Misfit {
@@ -24,6 +26,14 @@ pub fn edited(alloc: Global, text: &str, edits: &[Edit<'_>]) -> Result<String, M
         text = with_edit(alloc, text.as_str(), old, new)?;
     }
     Ok(text)
+}
+
+/// The text with the edit of a row: an old text, a bar, and the new one in its place.
+pub fn edited_by(alloc: Global, text: &str, row: &str) -> Result<String, Misfit> {
+    match row.split_once(" | ") {
+        Some((old, new)) => with_edit(alloc, text, old, new),
+        None => Err(Misfit::NoBar),
+    }
 }
 
 fn with_edit(alloc: Global, text: &str, old: &str, new: &str) -> Result<String, Misfit> {

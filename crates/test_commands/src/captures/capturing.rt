@@ -5,13 +5,9 @@ use std::test::Fail;
 use tte_forms::Status;
 use tte_io::{MemorySink, MemorySource, OutOfMemory};
 use tte_run::captures::capture_file;
+use worked_network::{Call, FRAME, Fails, HEAD, call_of_one, ends_of};
 
-// The header of a capture, the least octet first, and the greatest first.
-const HEAD: [u8; 24] = [
-    0xd4, 0xc3, 0xb2, 0xa1, 0x02, 0x00, 0x04, 0x00, 0x00, 0x00, 0x00, 0x00, 0x00, 0x00, 0x00, 0x00,
-    0x00, 0x00, 0x04, 0x00, 0x01, 0x00, 0x00, 0x00,
-];
-
+// The header of a capture with the greatest octet first.
 const BIG_HEAD: [u8; 24] = [
     0xa1, 0xb2, 0xc3, 0xd4, 0x00, 0x02, 0x00, 0x04, 0x00, 0x00, 0x00, 0x00, 0x00, 0x00, 0x00, 0x00,
     0x00, 0x04, 0x00, 0x00, 0x00, 0x00, 0x00, 0x01,
@@ -24,14 +20,6 @@ const STAMP: [u8; 16] = [
 
 const BIG_STAMP: [u8; 16] = [
     0x00, 0x00, 0x00, 0x01, 0x00, 0x00, 0x00, 0x02, 0x00, 0x00, 0x00, 0x3c, 0x00, 0x00, 0x00, 0x3c,
-];
-
-// What a master with member number 0 sends in cycle 7.
-const FRAME: [u8; 60] = [
-    0x03, 0x00, 0x00, 0x00, 0x00, 0x01, 0x02, 0x00, 0x00, 0x00, 0x00, 0x11, 0x89, 0x1d, 0x00, 0x00,
-    0x00, 0x07, 0x00, 0x00, 0x00, 0x01, 0x00, 0x00, 0x00, 0x00, 0x00, 0x00, 0x02, 0x00, 0x00, 0x00,
-    0x00, 0x00, 0x00, 0x00, 0x00, 0x00, 0x00, 0x00, 0x00, 0x00, 0x00, 0x00, 0x00, 0x00, 0x00, 0x00,
-    0x00, 0x00, 0x00, 0x00, 0x00, 0x00, 0x00, 0x00, 0x00, 0x00, 0x00, 0x00,
 ];
 
 const LINE: &str =
@@ -68,67 +56,50 @@ fn head_with(offset: usize, octet: u8) -> [u8; 24] {
     head
 }
 
-// A capture in parts, the calls that fail, and what is answered.
-#[derive(Clone, Copy)]
-struct Case<'a> {
-    parts: &'a [&'a [u8]],
-    failing_reads: &'a [u32],
-    failing_puts: &'a [u32],
-    failing_passes: &'a [u32],
-    text: &'a str,
-    status: Status,
-}
-
-fn try_case(rt: &impl Abort, alloc: Global, case: &Case) -> Result<(), Fail> {
+// A capture in parts, what fails, and what is answered.
+fn try_capture<'x>(
+    rt: &impl Abort,
+    alloc: Global,
+    parts: &[&[u8]],
+    fails: Fails,
+    (text, wanted): (&'x str, Status),
+) -> Result<(), Fail> {
     let mut file = Vec::new(alloc);
-    for part in case.parts {
+    for part in parts {
         file.extend_from_slice(part)?;
     }
-    let mut source = MemorySource::new(alloc, &file, 97, case.failing_reads)?;
-    let mut out = MemorySink::with_failing_passes(
-        alloc,
-        4096,
-        case.failing_puts,
-        case.failing_passes,
-    )?;
+    let call = call_of_one(&[], &file, text, wanted);
+    let (_, mut source, _, mut out) = ends_of(alloc, &Call { fails, ..call })?;
     let status = capture_file(alloc, &mut source, &mut out);
     // Where memory is wanting nothing was written. It is not where there is enough.
     if status == Status::OutOfMemory {
         assert!(rt; out.written().is_empty());
         return Err(Fail::from(OutOfMemory));
     }
-    assert_eq!(rt; status, case.status, "for {}", case.text);
-    assert!(rt; out.written() == case.text.as_bytes(), "for {}", case.text);
+    assert_eq!(rt; status, wanted, "for {text}");
+    assert!(rt; out.written() == text.as_bytes(), "for {text}");
     assert!(rt; status == Status::WriteFault || out.passed() == out.written());
     Ok(())
 }
 
-fn captured(
-    rt: &impl Abort,
-    alloc: Global,
-    parts: &[&[u8]],
-    text: &str,
-    status: Status,
-) -> Result<(), Fail> {
-    let case = Case {
-        parts,
-        failing_reads: &[],
-        failing_puts: &[],
-        failing_passes: &[],
-        text,
-        status,
-    };
-    try_case(rt, alloc, &case)
+// A capture in parts is shown by this text.
+fn captured(rt: &impl Abort, alloc: Global, parts: &[&[u8]], text: &str) -> Result<(), Fail> {
+    try_capture(rt, alloc, parts, Fails::Nothing, (text, Status::Done))
+}
+
+// It is refused with this text.
+fn refused(rt: &impl Abort, alloc: Global, parts: &[&[u8]], text: &str) -> Result<(), Fail> {
+    let told = (text, Status::CaptureRefused);
+    try_capture(rt, alloc, parts, Fails::Nothing, told)
 }
 
 #[test]
 fn a_control_frame_has_its_line(rt: HostRuntime) -> Result<(), Fail> {
     let alloc = rt.alloc();
-    captured(&rt, alloc, &[&HEAD, &STAMP, &FRAME], LINE, Status::Done)?;
-    let big = [&BIG_HEAD[..], &BIG_STAMP, &FRAME];
-    captured(&rt, alloc, &big, BIG_LINE, Status::Done)?;
-    captured(&rt, alloc, &[&HEAD], "", Status::Done)?;
-    captured(&rt, alloc, &[&BIG_HEAD], "", Status::Done)
+    captured(&rt, alloc, &[&HEAD, &STAMP, &FRAME], LINE)?;
+    captured(&rt, alloc, &[&BIG_HEAD, &BIG_STAMP, &FRAME], BIG_LINE)?;
+    captured(&rt, alloc, &[&HEAD], "")?;
+    captured(&rt, alloc, &[&BIG_HEAD], "")
 }
 
 #[test]
@@ -136,8 +107,8 @@ fn a_stamp_has_any_numbers(rt: HostRuntime) -> Result<(), Fail> {
     let alloc = rt.alloc();
     let text =
         "packet 1 time 1600000000 999999 other 5\npacket 2 time 4294967295 4294967294 other 0\n";
-    captured(&rt, alloc, &[&BIG], text, Status::Done)?;
-    captured(&rt, alloc, &[&LITTLE], text, Status::Done)
+    captured(&rt, alloc, &[&BIG], text)?;
+    captured(&rt, alloc, &[&LITTLE], text)
 }
 
 #[test]
@@ -148,7 +119,7 @@ fn a_header_is_refused(rt: HostRuntime) -> Result<(), Fail> {
         (1, "refused capture header 1\n"),
         (23, "refused capture header 23\n"),
     ] {
-        captured(&rt, alloc, &[&HEAD[..length]], text, Status::CaptureRefused)?;
+        refused(&rt, alloc, &[&HEAD[..length]], text)?;
     }
     for (offset, octet, text) in [
         (0, 0x4d, "refused capture magic\n"),
@@ -158,12 +129,12 @@ fn a_header_is_refused(rt: HostRuntime) -> Result<(), Fail> {
         (20, 101, "refused capture linktype\n"),
     ] {
         let head = head_with(offset, octet);
-        captured(&rt, alloc, &[&head], text, Status::CaptureRefused)?;
+        refused(&rt, alloc, &[&head], text)?;
     }
     // Only the low 16 bits of the link type count.
     let counted = head_with(23, 0xf0);
     let text = "packet 1 time 0 0 other 0\n";
-    captured(&rt, alloc, &[&counted, &stamp(0)], text, Status::Done)
+    captured(&rt, alloc, &[&counted, &stamp(0)], text)
 }
 
 #[test]
@@ -172,43 +143,20 @@ fn the_first_fault_of_a_header_is_refused(rt: HostRuntime) -> Result<(), Fail> {
     // The form with nanoseconds, and the front of a pcapng file.
     for magic in [[0x4d, 0x3c, 0xb2, 0xa1], [0x0a, 0x0d, 0x0d, 0x0a]] {
         let text = "refused capture magic\n";
-        captured(
-            &rt,
-            alloc,
-            &[&magic, &HEAD[4..]],
-            text,
-            Status::CaptureRefused,
-        )?;
+        refused(&rt, alloc, &[&magic, &HEAD[4..]], text)?;
     }
     // The magic has one order, and all behind it the other; the version comes before the link type.
     let text = "refused capture version\n";
-    captured(
-        &rt,
-        alloc,
-        &[&HEAD[..4], &BIG_HEAD[4..]],
-        text,
-        Status::CaptureRefused,
-    )?;
-    captured(
-        &rt,
-        alloc,
-        &[&HEAD[..4], &[0; 20]],
-        text,
-        Status::CaptureRefused,
-    )
+    refused(&rt, alloc, &[&HEAD[..4], &BIG_HEAD[4..]], text)?;
+    refused(&rt, alloc, &[&HEAD[..4], &[0; 20]], text)
 }
 
 /// A capture with these octets in both of its packets has these words in both of its lines.
 fn worded(rt: &impl Abort, alloc: Global, octets: &[u8], words: &str) -> Result<(), Fail> {
     let stamp = stamp(u32::try_from(octets.len()).unwrap_or(u32::MAX));
     let text = format!(in alloc; "packet 1 time 0 0 {words}\npacket 2 time 0 0 {words}\n")?;
-    captured(
-        rt,
-        alloc,
-        &[&HEAD, &stamp, octets, &stamp, octets],
-        text.as_str(),
-        Status::Done,
-    )
+    let parts = [&HEAD[..], &stamp, octets, &stamp, octets];
+    captured(rt, alloc, &parts, text.as_str())
 }
 
 #[test]
@@ -242,17 +190,12 @@ fn octets_that_spell_no_control_frame_have_their_words(rt: HostRuntime) -> Resul
 #[test]
 fn the_first_packet_that_is_refused_is_the_last(rt: HostRuntime) -> Result<(), Fail> {
     let alloc = rt.alloc();
-    captured(
-        &rt,
-        alloc,
-        &[&HEAD, &STAMP, &FRAME[..59]],
-        "refused capture packet 1 cut\n",
-        Status::CaptureRefused,
-    )?;
+    let text = "refused capture packet 1 cut\n";
+    refused(&rt, alloc, &[&HEAD, &STAMP, &FRAME[..59]], text)?;
     let cut = format!(in alloc; "{LINE}refused capture packet 2 cut\n")?;
     for length in [1, 15, 16] {
         let parts = [&HEAD[..], &STAMP[..], &FRAME[..], &STAMP[..length]];
-        captured(&rt, alloc, &parts, cut.as_str(), Status::CaptureRefused)?;
+        refused(&rt, alloc, &parts, cut.as_str())?;
     }
     // The length comes first, although none of the octets is there.
     for (length, reason) in [
@@ -263,7 +206,7 @@ fn the_first_packet_that_is_refused_is_the_last(rt: HostRuntime) -> Result<(), F
         let text = format!(in alloc; "{LINE}refused capture packet 2 {reason}\n")?;
         let rest = stamp(length);
         let parts = [&HEAD[..], &STAMP[..], &FRAME[..], &rest[..]];
-        captured(&rt, alloc, &parts, text.as_str(), Status::CaptureRefused)?;
+        refused(&rt, alloc, &parts, text.as_str())?;
     }
     Ok(())
 }
@@ -271,43 +214,23 @@ fn the_first_packet_that_is_refused_is_the_last(rt: HostRuntime) -> Result<(), F
 #[test]
 fn faults_end_a_capture(rt: HostRuntime) -> Result<(), Fail> {
     let alloc = rt.alloc();
-    let cases = [
-        (&[1][..], &[][..], &[][..], "", Status::ReadFault),
-        (&[2], &[], &[], "", Status::ReadFault),
-        (&[], &[1], &[], "", Status::WriteFault),
-        (&[], &[2], &[], LINE, Status::WriteFault),
-    ];
-    for (failing_reads, failing_puts, failing_passes, text, status) in cases.iter() {
-        let case = Case {
-            parts: &[&HEAD, &STAMP, &FRAME, &STAMP, &FRAME],
-            failing_reads,
-            failing_puts,
-            failing_passes,
-            text,
-            status: *status,
-        };
-        try_case(&rt, alloc, &case)?;
+    let parts: [&[u8]; 5] = [&HEAD, &STAMP, &FRAME, &STAMP, &FRAME];
+    for (fails, text, status) in [
+        (Fails::First(1), "", Status::ReadFault),
+        (Fails::First(2), "", Status::ReadFault),
+        (Fails::Put(1), "", Status::WriteFault),
+        (Fails::Put(2), LINE, Status::WriteFault),
+    ] {
+        try_capture(&rt, alloc, &parts, fails, (text, status))?;
     }
-    let unpassed = Case {
-        parts: &[&HEAD, &STAMP, &FRAME],
-        failing_reads: &[],
-        failing_puts: &[],
-        failing_passes: &[1],
-        text: LINE,
-        status: Status::WriteFault,
-    };
-    try_case(&rt, alloc, &unpassed)
-}
-
-/// So many zeros.
-fn zeros(alloc: Global, count: usize) -> Result<Vec<u8>, Fail> {
-    Ok(vec![in alloc; 0; count]?)
+    let told = (LINE, Status::WriteFault);
+    try_capture(&rt, alloc, &parts[..3], Fails::Pass(1), told)
 }
 
 /// A capture of 16,777,216 octets: 63 packets of 262,144 octets, and one of 261,096.
 fn longest(alloc: Global) -> Result<Vec<u8>, Fail> {
-    let octets = zeros(alloc, 262_144)?;
-    let last = zeros(alloc, 261_096)?;
+    let octets = vec![in alloc; 0; 262_144]?;
+    let last = vec![in alloc; 0; 261_096]?;
     let mut file = Vec::new(alloc);
     file.extend_from_slice(&HEAD)?;
     for _ in 0..63 {
@@ -327,14 +250,9 @@ fn a_file_at_the_limit_is_shown(rt: HostRuntime) -> Result<(), Fail> {
     let mut source = MemorySource::new(alloc, &file, 4096, &[])?;
     let mut out = MemorySink::new(alloc, 4096, &[])?;
     assert!(rt; capture_file(alloc, &mut source, &mut out) == Status::Done);
-    assert!(rt;
-        out.written()
-            .starts_with(b"packet 1 time 0 0 other 262144\n")
-    );
-    assert!(rt;
-        out.written()
-            .ends_with(b"\npacket 64 time 0 0 other 261096\n")
-    );
+    let lines = out.written();
+    assert!(rt; lines.starts_with(b"packet 1 time 0 0 other 262144\n"));
+    assert!(rt; lines.ends_with(b"\npacket 64 time 0 0 other 261096\n"));
     file.push(0)?;
     let mut longer = MemorySource::new(alloc, &file, 4096, &[])?;
     let mut nothing = MemorySink::new(alloc, 4096, &[])?;

@@ -3,28 +3,9 @@ use tte_io::{MemorySink, SinkFailed};
 use tte_run::captures::pcap::{
     CaptureHead, Packet, next_packet, open_capture, put_head, put_packet,
 };
+use worked_network::{HEAD, SENT, TIMED};
 
-// What a master with member number 0 sends in cycle 1.
-const CONTROL: [u8; 60] = [
-    0x03, 0x00, 0x00, 0x00, 0x00, 0x01, 0x02, 0x00, 0x00, 0x00, 0x00, 0x11, 0x89, 0x1d, 0x00, 0x00,
-    0x00, 0x01, 0x00, 0x00, 0x00, 0x01, 0x00, 0x00, 0x00, 0x00, 0x00, 0x00, 0x02, 0x00, 0x00, 0x00,
-    0x00, 0x00, 0x00, 0x00, 0x00, 0x00, 0x00, 0x00, 0x00, 0x00, 0x00, 0x00, 0x00, 0x00, 0x00, 0x00,
-    0x00, 0x00, 0x00, 0x00, 0x00, 0x00, 0x00, 0x00, 0x00, 0x00, 0x00, 0x00,
-];
-
-// The frame of virtual link 1 in cycle 1, without its zeros.
-const SCHEDULED: [u8; 18] = [
-    0x03, 0x04, 0x05, 0x06, 0x00, 0x01, 0x02, 0x00, 0x00, 0x00, 0x00, 0x11, 0x08, 0x00, 0x00, 0x00,
-    0x00, 0x01,
-];
-
-// What Python's struct packs with '<IHHiIII' of (0xa1b2c3d4, 2, 4, 0, 0, 262144, 1).
-const HEAD: [u8; 24] = [
-    0xd4, 0xc3, 0xb2, 0xa1, 0x02, 0x00, 0x04, 0x00, 0x00, 0x00, 0x00, 0x00, 0x00, 0x00, 0x00, 0x00,
-    0x00, 0x00, 0x04, 0x00, 0x01, 0x00, 0x00, 0x00,
-];
-
-// What it packs with '<IIII' of (0, 2000, 60, 60), and of (0, 2405, 60, 60).
+// What Python's struct packs with '<IIII' of (0, 2000, 60, 60), and of (0, 2405, 60, 60).
 const FIRST: [u8; 16] = [
     0x00, 0x00, 0x00, 0x00, 0xd0, 0x07, 0x00, 0x00, 0x3c, 0x00, 0x00, 0x00, 0x3c, 0x00, 0x00, 0x00,
 ];
@@ -38,25 +19,18 @@ const LONGEST: [u8; 16] = [
     0x04, 0x03, 0x02, 0x01, 0x08, 0x07, 0x06, 0x05, 0xea, 0x05, 0x00, 0x00, 0xea, 0x05, 0x00, 0x00,
 ];
 
-fn scheduled() -> [u8; 60] {
-    let mut frame = [0; 60];
-    frame[..18].copy_from_slice(&SCHEDULED);
-    frame
-}
-
 #[test]
 fn a_way_with_two_frames_is_written(rt: HostRuntime) -> Result<(), Fail> {
-    let frame = scheduled();
     let mut wanted = [0; 176];
     wanted[..24].copy_from_slice(&HEAD);
     wanted[24..40].copy_from_slice(&FIRST);
-    wanted[40..100].copy_from_slice(&CONTROL);
+    wanted[40..100].copy_from_slice(&SENT);
     wanted[100..116].copy_from_slice(&SECOND);
-    wanted[116..].copy_from_slice(&frame);
+    wanted[116..].copy_from_slice(&TIMED);
     let mut sink = MemorySink::new(rt.alloc(), 176, &[])?;
     assert!(rt; put_head(&mut sink) == Ok(()));
-    assert!(rt; put_packet(0, 2000, &CONTROL, &mut sink) == Ok(()));
-    assert!(rt; put_packet(0, 2405, &frame, &mut sink) == Ok(()));
+    assert!(rt; put_packet(0, 2000, &SENT, &mut sink) == Ok(()));
+    assert!(rt; put_packet(0, 2405, &TIMED, &mut sink) == Ok(()));
     assert!(rt; sink.written() == wanted.as_slice());
     Ok(())
 }
@@ -79,8 +53,8 @@ fn a_put_that_fails_is_answered(rt: HostRuntime) -> Result<(), Fail> {
     let mut sink = MemorySink::new(rt.alloc(), 200, &[1, 3])?;
     assert!(rt; put_head(&mut sink) == Err(SinkFailed));
     assert!(rt; put_head(&mut sink) == Ok(()));
-    assert!(rt; put_packet(0, 2000, &CONTROL, &mut sink) == Err(SinkFailed));
-    assert!(rt; put_packet(0, 2000, &CONTROL, &mut sink) == Ok(()));
+    assert!(rt; put_packet(0, 2000, &SENT, &mut sink) == Err(SinkFailed));
+    assert!(rt; put_packet(0, 2000, &SENT, &mut sink) == Ok(()));
     assert!(rt; sink.written().len() == 100);
     Ok(())
 }
@@ -89,7 +63,7 @@ fn a_put_that_fails_is_answered(rt: HostRuntime) -> Result<(), Fail> {
 fn what_was_written_is_read(rt: HostRuntime) -> Result<(), Fail> {
     let mut sink = MemorySink::new(rt.alloc(), 200, &[])?;
     assert!(rt; put_head(&mut sink) == Ok(()));
-    assert!(rt; put_packet(7, 999_999, &CONTROL, &mut sink) == Ok(()));
+    assert!(rt; put_packet(7, 999_999, &SENT, &mut sink) == Ok(()));
     let file = sink.written();
     assert!(rt; file.len() == 100);
     let head = CaptureHead { big: false };
@@ -102,6 +76,6 @@ fn what_was_written_is_read(rt: HostRuntime) -> Result<(), Fail> {
         original: 60,
     };
     assert!(rt; next_packet(head, file, 24) == Ok(Some(packet)));
-    assert!(rt; &file[40..100] == CONTROL.as_slice());
+    assert!(rt; &file[40..100] == SENT.as_slice());
     Ok(())
 }

@@ -1,12 +1,13 @@
-use crate::checks::cases::{Check, try_check};
+use crate::calls::try_call;
 use crate::checks::grown::{EIGHT_RELAYS, MORE_LINKS, MORE_MASTERS, WITHOUT_THE_LAST};
 use crate::checks::verdicts::{
-    ACCEPTED, accepted, accepted_with_each, checked, refused, refused_with_each,
+    ACCEPTED, CHECK, accepted, accepted_with_each, checked, refused, refused_with_each,
+    refused_with_rows,
 };
-use crate::worked::{Edit, WORKED, with_edits};
 use std::alloc::Global;
 use std::test::Fail;
 use tte_run::Status;
+use worked_network::{Call, Edit, Fails, WORKED, call_of_one, edited, silent};
 
 // How many octets a file has at most.
 const LIMIT: usize = 262_144;
@@ -30,47 +31,35 @@ const LIKE_THE_WORKED_ONE: &[&[Edit<'_>]] = &[
 ];
 
 // Edits with which it is refused.
-const NEAR_THE_WORKED_ONE: &[(&[Edit<'_>], &str)] = &[
-    (&[("dmax = 3276800000\n", "")], "missing top 0 dmax"),
+const NEAR_THE_WORKED_ONE: &[&str] = &[
+    "missing top 0 dmax | dmax = 3276800000\n | ",
+    "rule 4 index 0 | \"ra\", role=\"relay\" | \"ra\", role=\"cm\"",
+    "range top 0 version | version = 1\n | version = 3\n",
+    "rule 9 index 0 | rho = 50000 | rho = 50000\ngrain = 65536",
+    "range top 0 grain | rho = 50000 | rho = 50000\ngrain = 1048577",
+];
+
+const WITHOUT_M1_B: &[Edit<'_>] = &[
     (
-        &[("\"ra\", role=\"relay\"", "\"ra\", role=\"cm\"")],
-        "rule 4 index 0",
+        " {name=\"m1_b\", child=\"m1\", parent=\"rb\", wire=32768000, jitter=1310720, hold=1310720000, speed=100},\n",
+        "",
     ),
     (
-        &[
-            (
-                " {name=\"m1_b\", child=\"m1\", parent=\"rb\", wire=32768000, jitter=1310720, hold=1310720000, \
-                    speed=100},\n",
-                "",
-            ),
-            (
-                " {vl=\"v1\", link=\"m1_b\", way=\"up\", offset=26542080000},\n",
-                "",
-            ),
-        ],
-        "rule 6 index 0",
+        " {vl=\"v1\", link=\"m1_b\", way=\"up\", offset=26542080000},\n",
+        "",
     ),
-    (&[("version = 1\n", "version = 3\n")], "range top 0 version"),
-    (
-        &[IN_GRAINS, ("settled = 345000000", "settled = 342196223")],
-        "rule 9 index 0",
-    ),
-    (
-        &[("rho = 50000", "rho = 50000\ngrain = 65536")],
-        "rule 9 index 0",
-    ),
-    (
-        &[("rho = 50000", "rho = 50000\ngrain = 1048577")],
-        "range top 0 grain",
-    ),
+];
+
+const SETTLED: Edit<'_> = ("settled = 345000000", "settled = 342196223");
+
+const THRESHOLD: Edit<'_> = ("sync_threshold = 3", "sync_threshold = 6");
+
+const NEAR_THE_WORKED_ONE_BY_MORE: &[(&[Edit<'_>], &str)] = &[
+    (WITHOUT_M1_B, "rule 6 index 0"),
+    (&[IN_GRAINS, SETTLED], "rule 9 index 0"),
     (&[MORE_MASTERS, MORE_LINKS], "rule 7 index 0"),
     (
-        &[
-            VERSION_2,
-            MORE_MASTERS,
-            MORE_LINKS,
-            ("sync_threshold = 3", "sync_threshold = 6"),
-        ],
+        &[VERSION_2, MORE_MASTERS, MORE_LINKS, THRESHOLD],
         "rule 7 index 2",
     ),
 ];
@@ -79,10 +68,10 @@ const NEAR_THE_WORKED_ONE: &[(&[Edit<'_>], &str)] = &[
 fn the_worked_network_and_its_like(rt: HostRuntime) -> Result<(), Fail> {
     let alloc = rt.alloc();
     accepted(&rt, alloc, WORKED)?;
-    let (silent, _) = WORKED.split_once("vl = [\n").expect(&rt, "virtual links");
-    accepted(&rt, alloc, silent)?;
+    accepted(&rt, alloc, silent())?;
     accepted_with_each(&rt, alloc, LIKE_THE_WORKED_ONE)?;
-    refused_with_each(&rt, alloc, NEAR_THE_WORKED_ONE)
+    refused_with_rows(&rt, alloc, NEAR_THE_WORKED_ONE)?;
+    refused_with_each(&rt, alloc, NEAR_THE_WORKED_ONE_BY_MORE)
 }
 
 #[test]
@@ -90,14 +79,9 @@ fn grains_count(rt: HostRuntime) -> Result<(), Fail> {
     let alloc = rt.alloc();
     for settled in ["settled = 345000000", "settled = 342196224"] {
         let edits = [IN_GRAINS, ("settled = 345000000", settled)];
-        let network = with_edits(&rt, alloc, WORKED, &edits)?;
-        checked(
-            &rt,
-            alloc,
-            network.as_str(),
-            ACCEPTED_IN_GRAINS,
-            Status::Done,
-        )?;
+        let network = edited(alloc, WORKED, &edits)?;
+        let network = network.as_str();
+        checked(&rt, alloc, network, ACCEPTED_IN_GRAINS, Status::Done)?;
     }
     Ok(())
 }
@@ -105,9 +89,9 @@ fn grains_count(rt: HostRuntime) -> Result<(), Fail> {
 #[test]
 fn paths_end_after_eight_links(rt: HostRuntime) -> Result<(), Fail> {
     let alloc = rt.alloc();
-    let nine = with_edits(&rt, alloc, WORKED, &EIGHT_RELAYS)?;
+    let nine = edited(alloc, WORKED, &EIGHT_RELAYS)?;
     refused(&rt, alloc, nine.as_str(), "rule 6 index 0")?;
-    let eight = with_edits(&rt, alloc, nine.as_str(), &WITHOUT_THE_LAST)?;
+    let eight = edited(alloc, nine.as_str(), &WITHOUT_THE_LAST)?;
     refused(&rt, alloc, eight.as_str(), "rule 8 index 0")
 }
 
@@ -128,16 +112,10 @@ fn a_file_at_the_limit_is_checked(rt: HostRuntime) -> Result<(), Fail> {
 
 #[test]
 fn failing_reads_end_the_check(rt: HostRuntime) -> Result<(), Fail> {
-    let alloc = rt.alloc();
+    let check = call_of_one(CHECK, WORKED.as_bytes(), "", Status::ReadFault);
     for read in 1..=20 {
-        let check = Check {
-            octets: WORKED.as_bytes(),
-            failing_reads: &[read],
-            failing_puts: &[],
-            text: "",
-            status: Status::ReadFault,
-        };
-        try_check(&rt, alloc, &check)?;
+        let fails = Fails::First(read);
+        try_call(&rt, rt.alloc(), &Call { fails, ..check })?;
     }
     Ok(())
 }
@@ -152,16 +130,10 @@ const PUTS: &[(&str, u32, &str, Status)] = &[
 
 #[test]
 fn failing_puts_end_the_check(rt: HostRuntime) -> Result<(), Fail> {
-    let alloc = rt.alloc();
     for (network, put, text, status) in PUTS {
-        let check = Check {
-            octets: network.as_bytes(),
-            failing_reads: &[],
-            failing_puts: &[*put],
-            text,
-            status: *status,
-        };
-        try_check(&rt, alloc, &check)?;
+        let check = call_of_one(CHECK, network.as_bytes(), text, *status);
+        let fails = Fails::Put(*put);
+        try_call(&rt, rt.alloc(), &Call { fails, ..check })?;
     }
     Ok(())
 }

@@ -1,8 +1,8 @@
 use crate::checks::verdicts::refused;
-use crate::worked::{Edit, WORKED, edited};
 use std::alloc::Global;
 use std::process::Abort;
 use std::test::Fail;
+use worked_network::{Edit, WORKED, edited};
 
 /// Two masters more.
 pub(super) const MORE_MASTERS: Edit<'_> = (
@@ -101,23 +101,17 @@ fn numbered(alloc: Global, lines: &str, first: u32, count: u32) -> Result<String
 }
 
 /// The text with these lines behind a mark, which stands in it once.
-pub(super) fn behind(
-    rt: &impl Abort,
-    alloc: Global,
-    text: &str,
-    mark: &str,
-    lines: &str,
-) -> Result<String, Fail> {
+pub(super) fn behind(alloc: Global, text: &str, mark: &str, lines: &str) -> Result<String, Fail> {
     let marked = format!(in alloc; "{mark}{lines}")?;
-    edited(rt, alloc, text, mark, marked.as_str())
+    Ok(edited(alloc, text, &[(mark, marked.as_str())])?)
 }
 
 /// The worked network with at most 90 clients more, each with a link to both relays.
-pub(super) fn with_clients(rt: &impl Abort, alloc: Global, count: u32) -> Result<String, Fail> {
+pub(super) fn with_clients(alloc: Global, count: u32) -> Result<String, Fail> {
     let clients = numbered(alloc, CLIENT, 10, count)?;
-    let text = behind(rt, alloc, WORKED, "device = [\n", clients.as_str())?;
+    let text = behind(alloc, WORKED, "device = [\n", clients.as_str())?;
     let links = numbered(alloc, CLIENT_LINKS, 10, count)?;
-    behind(rt, alloc, text.as_str(), "link = [\n", links.as_str())
+    behind(alloc, text.as_str(), "link = [\n", links.as_str())
 }
 
 /// The worked network with 64 virtual links from m1 to all other end systems in the place of its own,
@@ -139,6 +133,6 @@ pub(super) fn refused_with_many(
     reason: &str,
 ) -> Result<(), Fail> {
     let lines = line.repeat(alloc, count)?;
-    let network = behind(rt, alloc, WORKED, mark, lines.as_str())?;
+    let network = behind(alloc, WORKED, mark, lines.as_str())?;
     refused(rt, alloc, network.as_str(), reason)
 }

@@ -1,29 +1,26 @@
-use crate::checks::cases::{Check, try_check};
-use crate::worked::{Edit, WORKED, with_edits};
+use crate::calls::try_call;
 use std::alloc::Global;
 use std::process::Abort;
 use std::test::Fail;
 use tte_run::Status;
+use worked_network::{Edit, WORKED, call_of_one, edited, edited_by};
 
 /// What `check` writes for the worked network.
 pub(super) const ACCEPTED: &str = "accepted beta 3276832 gamma 26214404\n";
 
+/// The words of a check.
+pub(super) const CHECK: &[&str] = &["check", "net.toml"];
+
 /// `check` answers the network by this text and this status.
-pub(super) fn checked(
+pub(super) fn checked<'x>(
     rt: &impl Abort,
     alloc: Global,
-    network: &str,
-    text: &str,
+    network: &'x str,
+    text: &'x str,
     status: Status,
 ) -> Result<(), Fail> {
-    let check = Check {
-        octets: network.as_bytes(),
-        failing_reads: &[],
-        failing_puts: &[],
-        text,
-        status,
-    };
-    try_check(rt, alloc, &check)
+    let call = call_of_one(CHECK, network.as_bytes(), text, status);
+    try_call(rt, alloc, &call)
 }
 
 /// The network is accepted with the bounds of the worked one.
@@ -49,7 +46,7 @@ pub(super) fn accepted_with_each(
     cases: &[&[Edit<'_>]],
 ) -> Result<(), Fail> {
     for edits in cases {
-        let network = with_edits(rt, alloc, WORKED, edits)?;
+        let network = edited(alloc, WORKED, edits)?;
         accepted(rt, alloc, network.as_str())?;
     }
     Ok(())
@@ -62,7 +59,30 @@ pub(super) fn refused_with_each(
     cases: &[(&[Edit<'_>], &str)],
 ) -> Result<(), Fail> {
     for (edits, reason) in cases {
-        let network = with_edits(rt, alloc, WORKED, edits)?;
+        let network = edited(alloc, WORKED, edits)?;
+        refused(rt, alloc, network.as_str(), reason)?;
+    }
+    Ok(())
+}
+
+/// The worked network is accepted with the edit of each row.
+pub(super) fn accepted_with_rows(
+    rt: &impl Abort,
+    alloc: Global,
+    rows: &[&str],
+) -> Result<(), Fail> {
+    for row in rows {
+        let network = edited_by(alloc, WORKED, row)?;
+        accepted(rt, alloc, network.as_str())?;
+    }
+    Ok(())
+}
+
+/// The worked network is refused with the edit of each row, for the reason that stands before it.
+pub(super) fn refused_with_rows(rt: &impl Abort, alloc: Global, rows: &[&str]) -> Result<(), Fail> {
+    for row in rows {
+        let (reason, edit) = row.split_once(" | ").ok_or("no reason")?;
+        let network = edited_by(alloc, WORKED, edit)?;
         refused(rt, alloc, network.as_str(), reason)?;
     }
     Ok(())

@@ -1,62 +1,23 @@
-use crate::forms::cases::words_of;
-use crate::worked::{Edit, WORKED, edited};
+use crate::calls::try_call;
 use std::alloc::Global;
 use std::process::Abort;
 use std::test::Fail;
-use tte_io::{MemorySink, MemorySource, OutOfMemory, SteadySource};
-use tte_run::{Status, tte};
+use tte_io::{MemorySink, SteadySource};
+use tte_run::{Status, run_trace};
+use worked_network::{Call, Fails, WORKED, call_of_two, edited_by};
 
-const ROOM: u64 = 1 << 16;
+const AUDIT: &[&str] = &["audit", "net.toml", "net.report"];
 
-// An audit: its network and its report, the reads of the report and the puts that fail, and what it answers.
-#[derive(Clone, Copy)]
-struct Audit<'a> {
-    network: &'a str,
-    report: &'a [u8],
-    failing_reads: &'a [u32],
-    failing_puts: &'a [u32],
-    text: &'a str,
-    status: Status,
-}
-
-fn try_audit(rt: &impl Abort, alloc: Global, audit: &Audit<'_>) -> Result<(), Fail> {
-    let words = words_of(alloc, &["audit", "net.toml", "net.report"])?;
-    let mut first = SteadySource::new(alloc, audit.network.as_bytes())?;
-    let mut second = MemorySource::new(alloc, audit.report, 4096, audit.failing_reads)?;
-    let mut out = MemorySink::new(alloc, ROOM, audit.failing_puts)?;
-    let status = tte(alloc, &words, &mut first, &mut second, &mut out);
-    if status == Status::OutOfMemory {
-        assert!(rt; audit.text.as_bytes().starts_with(out.written()));
-        return Err(Fail::from(OutOfMemory));
-    }
-    assert_eq!(rt; status, audit.status, "for {}", audit.text);
-    assert!(rt;
-        out.written() == audit.text.as_bytes(),
-        "for {}",
-        audit.text
-    );
-    assert!(rt; status == Status::WriteFault || out.passed() == out.written());
-    Ok(())
-}
-
-fn judged<'a>(report: &'a [u8], text: &'a str, status: Status) -> Audit<'a> {
-    Audit {
-        network: WORKED,
-        report,
-        failing_reads: &[],
-        failing_puts: &[],
-        text,
-        status,
-    }
+fn judged<'a>(report: &'a [u8], text: &'a str, status: Status) -> Call<'a> {
+    call_of_two(AUDIT, (WORKED.as_bytes(), report), text, status)
 }
 
 // The report of three calm cycles and a part of a fourth, of 307 records.
 fn calm_report(rt: &impl Abort, alloc: Global) -> Result<MemorySink, Fail> {
-    let words = words_of(alloc, &["run", "net.toml", "net.trace"])?;
     let mut first = SteadySource::new(alloc, WORKED.as_bytes())?;
     let mut second = SteadySource::new(alloc, b"524287999999 end\n")?;
-    let mut report = MemorySink::new(alloc, ROOM, &[])?;
-    let status = tte(alloc, &words, &mut first, &mut second, &mut report);
+    let mut report = MemorySink::new(alloc, 1 << 16, &[])?;
+    let status = run_trace(alloc, &mut first, &mut second, &mut report);
     assert_eq!(rt; status, Status::Done);
     Ok(report)
 }
@@ -66,39 +27,16 @@ fn a_report_of_a_run_is_audited(rt: HostRuntime) -> Result<(), Fail> {
     let alloc = rt.alloc();
     let calm = calm_report(&rt, alloc)?;
     let audit = judged(calm.written(), "audited records 307\n", Status::Done);
-    try_audit(&rt, alloc, &audit)
+    try_call(&rt, alloc, &audit)
 }
 
-// Edits of the calm report, and what is written of what they make.
-const EDITS: &[(Edit<'_>, &str)] = &[
-    (
-        (
-            "83 149422080000 corrected m1 cycle 1 by 0 adj 0\n",
-            "83 149422080000 corrected m1 cycle 1 by 1 adj 1\n",
-        ),
-        "refused record 83 unfounded\n",
-    ),
-    (
-        (
-            "307 524287999999 clock cb reading 524287999999 adj 0 state synchronised\n",
-            "",
-        ),
-        "refused lacking 524287999999\n",
-    ),
-    (
-        (
-            "298 524287999999 event 1 end\n",
-            "298 524287999999 event 2 end\n",
-        ),
-        "refused record 298 events\n",
-    ),
-    (
-        (
-            "5 131072000000 left m1 m1_a 1 clock 0\n",
-            "5 131072000000 left m1 m1_a 1 clock 00\n",
-        ),
-        "refused record 5 form\n",
-    ),
+// Edits of the calm report, each behind what is written of what it makes.
+const EDITS: &[&str] = &[
+    "record 83 unfounded | 83 149422080000 corrected m1 cycle 1 by 0 adj 0\n | \
+        83 149422080000 corrected m1 cycle 1 by 1 adj 1\n",
+    "lacking 524287999999 | 307 524287999999 clock cb reading 524287999999 adj 0 state synchronised\n | ",
+    "record 298 events | 298 524287999999 event 1 end\n | 298 524287999999 event 2 end\n",
+    "record 5 form | 5 131072000000 left m1 m1_a 1 clock 0\n | 5 131072000000 left m1 m1_a 1 clock 00\n",
 ];
 
 // Short reports.
@@ -118,14 +56,20 @@ fn a_report_is_refused_at_its_first_fault(rt: HostRuntime) -> Result<(), Fail> {
     let alloc = rt.alloc();
     let calm = calm_report(&rt, alloc)?;
     let calm = str::from_utf8(calm.written()).expect(&rt, "a report is text");
-    for ((old, new), text) in EDITS {
-        let report = edited(&rt, alloc, calm, old, new)?;
-        let audit = judged(report.as_bytes(), text, Status::AuditRefused);
-        try_audit(&rt, alloc, &audit)?;
+    for row in EDITS {
+        let (reason, edit) = row.split_once(" | ").ok_or("no reason")?;
+        let report = edited_by(alloc, calm, edit)?;
+        let text = format!(in alloc; "refused {reason}\n")?;
+        let refused = Status::AuditRefused;
+        try_call(
+            &rt,
+            alloc,
+            &judged(report.as_bytes(), text.as_str(), refused),
+        )?;
     }
     for (report, text) in SHORT {
         let audit = judged(report.as_bytes(), text, Status::AuditRefused);
-        try_audit(&rt, alloc, &audit)?;
+        try_call(&rt, alloc, &audit)?;
     }
     Ok(())
 }
@@ -134,42 +78,28 @@ fn a_report_is_refused_at_its_first_fault(rt: HostRuntime) -> Result<(), Fail> {
 fn a_report_has_at_most_16_777_216_octets(rt: HostRuntime) -> Result<(), Fail> {
     let alloc = rt.alloc();
     let most = "x".repeat(alloc, 16_777_216)?;
-    let audit = judged(
-        most.as_bytes(),
-        "refused record 1 form\n",
-        Status::AuditRefused,
-    );
-    try_audit(&rt, alloc, &audit)?;
+    let text = "refused record 1 form\n";
+    let audit = judged(most.as_bytes(), text, Status::AuditRefused);
+    try_call(&rt, alloc, &audit)?;
     let more = "x".repeat(alloc, 16_777_217)?;
-    try_audit(&rt, alloc, &judged(more.as_bytes(), "", Status::TooLong))
+    try_call(&rt, alloc, &judged(more.as_bytes(), "", Status::TooLong))
 }
 
 #[test]
 fn an_audit_stops_at_a_fault(rt: HostRuntime) -> Result<(), Fail> {
     let alloc = rt.alloc();
     let refused = judged(b"x\n", "refused record 1 form\n", Status::AuditRefused);
-    let cases = [
-        Audit {
-            network: "=",
-            text: "refused network toml\n",
-            status: Status::NetworkRefused,
-            ..refused
-        },
-        Audit {
-            failing_reads: &[2],
-            text: "",
-            status: Status::ReadFault,
-            ..refused
-        },
-        Audit {
-            failing_puts: &[1],
-            text: "",
-            status: Status::WriteFault,
-            ..refused
-        },
-    ];
-    for audit in &cases {
-        try_audit(&rt, alloc, audit)?;
-    }
-    Ok(())
+    let unread = judged(b"x\n", "", Status::ReadFault);
+    let unput = judged(b"x\n", "", Status::WriteFault);
+    let none = Call {
+        first: b"=",
+        text: "refused network toml\n",
+        status: Status::NetworkRefused,
+        ..refused
+    };
+    let fails = Fails::Second(2);
+    try_call(&rt, alloc, &none)?;
+    try_call(&rt, alloc, &Call { fails, ..unread })?;
+    let fails = Fails::Put(1);
+    try_call(&rt, alloc, &Call { fails, ..unput })
 }

@@ -1,37 +1,24 @@
-use crate::forms::cases::{Case, try_case};
+use crate::calls::try_call;
 use std::alloc::Global;
 use std::process::Abort;
 use std::test::Fail;
 use tte_io::{MemorySink, SteadySource};
 use tte_run::{Status, show};
-
-// What a master with member number 0 sends in cycle 7.
-const FRAME: [u8; 60] = [
-    0x03, 0x00, 0x00, 0x00, 0x00, 0x01, 0x02, 0x00, 0x00, 0x00, 0x00, 0x11, 0x89, 0x1d, 0x00, 0x00,
-    0x00, 0x07, 0x00, 0x00, 0x00, 0x01, 0x00, 0x00, 0x00, 0x00, 0x00, 0x00, 0x02, 0x00, 0x00, 0x00,
-    0x00, 0x00, 0x00, 0x00, 0x00, 0x00, 0x00, 0x00, 0x00, 0x00, 0x00, 0x00, 0x00, 0x00, 0x00, 0x00,
-    0x00, 0x00, 0x00, 0x00, 0x00, 0x00, 0x00, 0x00, 0x00, 0x00, 0x00, 0x00,
-];
+use worked_network::{Call, FRAME, Fails, call_of_one};
 
 const LINE: &str =
     "frame 1 IN cycle 7 members 00000001 priority 0 domain 0 clock 0 to 030000000001 from 020000000011\n";
 
-fn shown(
+const SHOWING: &[&str] = &["show", "file"];
+
+fn shown<'x>(
     rt: &impl Abort,
     alloc: Global,
-    octets: &[u8],
-    text: &str,
+    octets: &'x [u8],
+    text: &'x str,
     status: Status,
 ) -> Result<(), Fail> {
-    let case = Case {
-        words: &["show", "file"],
-        octets,
-        failing_reads: &[],
-        failing_puts: &[],
-        text,
-        status,
-    };
-    try_case(rt, alloc, &case)
+    try_call(rt, alloc, &call_of_one(SHOWING, octets, text, status))
 }
 
 #[test]
@@ -47,51 +34,24 @@ fn frames_are_shown(rt: HostRuntime) -> Result<(), Fail> {
 #[test]
 fn frames_are_refused(rt: HostRuntime) -> Result<(), Fail> {
     let alloc = rt.alloc();
+    let refused = Status::FrameRefused;
     let mut octets = FRAME;
     octets[30] = 0x01;
-    shown(
-        &rt,
-        alloc,
-        &octets,
-        "refused frame 1 reserved 30\n",
-        Status::FrameRefused,
-    )?;
+    let text = "refused frame 1 reserved 30\n";
+    shown(&rt, alloc, &octets, text, refused)?;
     octets[28] = 0x12;
-    shown(
-        &rt,
-        alloc,
-        &octets,
-        "refused frame 1 type 12\n",
-        Status::FrameRefused,
-    )?;
+    shown(&rt, alloc, &octets, "refused frame 1 type 12\n", refused)?;
     octets[30] = 0;
-    shown(
-        &rt,
-        alloc,
-        &octets,
-        "refused frame 1 type 12\n",
-        Status::FrameRefused,
-    )?;
+    shown(&rt, alloc, &octets, "refused frame 1 type 12\n", refused)?;
     octets[12..14].copy_from_slice(&[0x08, 0x00]);
-    shown(
-        &rt,
-        alloc,
-        &octets,
-        "refused frame 1 ethertype\n",
-        Status::FrameRefused,
-    )?;
-    shown(
-        &rt,
-        alloc,
-        &FRAME[..59],
-        "refused frame 1 length 59\n",
-        Status::FrameRefused,
-    )?;
+    shown(&rt, alloc, &octets, "refused frame 1 ethertype\n", refused)?;
+    let text = "refused frame 1 length 59\n";
+    shown(&rt, alloc, &FRAME[..59], text, refused)?;
 
     let mut longer = [0; 61];
     longer[..60].copy_from_slice(&FRAME);
     let text = format!(in alloc; "{LINE}refused frame 2 length 1\n")?;
-    shown(&rt, alloc, &longer, text.as_str(), Status::FrameRefused)
+    shown(&rt, alloc, &longer, text.as_str(), refused)
 }
 
 #[test]
@@ -100,25 +60,17 @@ fn faults_and_limits_end_the_run(rt: HostRuntime) -> Result<(), Fail> {
     let mut twice = [0; 120];
     twice[..60].copy_from_slice(&FRAME);
     twice[60..].copy_from_slice(&FRAME);
-    let cases = [
+    for (octets, fails, text, status) in [
         // A source that fails at its first read.
-        (&FRAME[..], [1, 0], [0, 0], "", Status::ReadFault),
+        (&FRAME[..], Fails::First(1), "", Status::ReadFault),
         // A source that fails in the middle of the file.
-        (&twice[..], [5, 0], [0, 0], "", Status::ReadFault),
+        (&twice[..], Fails::First(5), "", Status::ReadFault),
         // A sink that fails at its first put would take the second.
-        (&twice[..], [0, 0], [1, 0], "", Status::WriteFault),
-        (&twice[..], [0, 0], [2, 0], LINE, Status::WriteFault),
-    ];
-    for (octets, failing_reads, failing_puts, text, status) in cases.iter() {
-        let case = Case {
-            words: &["show", "file"],
-            octets,
-            failing_reads,
-            failing_puts,
-            text,
-            status: *status,
-        };
-        try_case(&rt, alloc, &case)?;
+        (&twice[..], Fails::Put(1), "", Status::WriteFault),
+        (&twice[..], Fails::Put(2), LINE, Status::WriteFault),
+    ] {
+        let call = call_of_one(SHOWING, octets, text, status);
+        try_call(&rt, alloc, &Call { fails, ..call })?;
     }
     let long = vec![in alloc; 0; 262_145]?;
     shown(&rt, alloc, &long, "", Status::TooLong)

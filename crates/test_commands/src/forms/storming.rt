@@ -1,5 +1,3 @@
-use crate::forms::cases::words_of;
-use crate::worked::WORKED;
 use fault_hypothesis::Watch;
 use std::alloc::Global;
 use std::process::Abort;
@@ -9,6 +7,7 @@ use trace_text::print;
 use tte_forms::accept;
 use tte_io::{MemorySink, MemorySource, SteadySource};
 use tte_run::{Status, tte};
+use worked_network::{WORKED, words_of};
 
 const ROOM: u64 = 1 << 22;
 

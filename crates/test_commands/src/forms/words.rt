@@ -1,9 +1,10 @@
-use crate::forms::cases::{Case, try_case, words_of};
+use crate::calls::try_call;
 use net_plan::Way;
 use std::test::Fail;
 use tte_forms::{Form, read_form};
 use tte_run::Status;
 use tte_units::Units;
+use worked_network::{call_of_one, words_of};
 
 const USAGE: &str =
     "usage: tte show FILE | check NETWORK | run NETWORK TRACE | storm NETWORK SEED CYCLES | \
@@ -114,15 +115,8 @@ const WAYS: &[(&str, &str, Way)] = &[
 fn words_of_no_form_are_answered_by_the_usage(rt: HostRuntime) -> Result<(), Fail> {
     let alloc = rt.alloc();
     for words in NO_FORMS {
-        let case = Case {
-            words,
-            octets: &[],
-            failing_reads: &[],
-            failing_puts: &[],
-            text: USAGE,
-            status: Status::Usage,
-        };
-        try_case(&rt, alloc, &case)?;
+        let call = call_of_one(words, &[], USAGE, Status::Usage);
+        try_call(&rt, alloc, &call)?;
     }
     Ok(())
 }

@@ -3,143 +3,123 @@
 //! from 1074790404 before that, which are the precision and gamma, to 1074790404 and the jitter of 1310720 behind it.
 //! So its last window ends at 29729751044 in its cycle.
 
-use crate::flows::cases::{Case, report_of, try_case};
-use crate::worked::{WORKED, edited};
+use crate::calls::report_of;
+use crate::flows::refused::try_flows;
+use lens::Status;
 use std::alloc::Global;
-use std::process::Abort;
 use std::test::Fail;
-use tte_forms::Status;
+use worked_network::{Edit, Fails, WORKED, edited};
 
-// An old text of the worked network, and a new one in its place.
-type Edit<'a> = (&'a str, &'a str);
+// How near the deliveries come to the ends of their windows where nothing changes a wire.
+const CALM: &str = "early 1074790404 late 1076101124";
 
-const COUNTED: &[(&[Edit<'_>], &str, &str)] = &[
+// What is counted, in its order.
+const NAMES: [&str; 8] = [
+    "owed",
+    "delivered",
+    "by a",
+    "by b",
+    "missing",
+    "not owed receiver",
+    "sender",
+    "end",
+];
+
+// Edits and a trace, with what is counted of each, and what is nearest.
+const COUNTED: &[(&[Edit<'_>], &str, [u32; 8], &str)] = &[
     // Four cycles but for one unit: cycle 0 is silent, and three are owed.
-    (
-        &[],
-        "524287999999 end\n",
-        "flow v1 to c1 owed 3 delivered 3 by a 3 by b 0 missing 0 not owed receiver 0 sender 0 end 0 \
-         nearest early 1074790404 late 1076101124\n",
-    ),
+    (&[], "524287999999 end\n", [3, 3, 3, 0, 0, 0, 0, 0], CALM),
     // The run ends at the end of the last window of cycle 3.
-    (
-        &[],
-        "422945751044 end\n",
-        "flow v1 to c1 owed 3 delivered 3 by a 3 by b 0 missing 0 not owed receiver 0 sender 0 end 0 \
-         nearest early 1074790404 late 1076101124\n",
-    ),
+    (&[], "422945751044 end\n", [3, 3, 3, 0, 0, 0, 0, 0], CALM),
     // It ends a unit before: the frame is delivered, but not owed.
-    (
-        &[],
-        "422945751043 end\n",
-        "flow v1 to c1 owed 2 delivered 3 by a 3 by b 0 missing 0 not owed receiver 0 sender 0 end 1 \
-         nearest early 1074790404 late 1076101124\n",
-    ),
+    (&[], "422945751043 end\n", [2, 3, 3, 0, 0, 0, 0, 1], CALM),
     // It ends where cycle 1 begins, and a unit before.
-    (
-        &[],
-        "131072000000 end\n",
-        "flow v1 to c1 owed 0 delivered 0 by a 0 by b 0 missing 0 not owed receiver 0 sender 0 end 1 nearest none\n",
-    ),
-    (
-        &[],
-        "131071999999 end\n",
-        "flow v1 to c1 owed 0 delivered 0 by a 0 by b 0 missing 0 not owed receiver 0 sender 0 end 0 nearest none\n",
-    ),
+    (&[], "131072000000 end\n", [0, 0, 0, 0, 0, 0, 0, 1], "none"),
+    (&[], "131071999999 end\n", [0, 0, 0, 0, 0, 0, 0, 0], "none"),
     // Channel a does not come to c1.
     (
         &[],
         "1 cut c1_a down\n524287999999 end\n",
-        "flow v1 to c1 owed 3 delivered 3 by a 0 by b 3 missing 0 not owed receiver 0 sender 0 end 0 \
-         nearest early 1074790404 late 1076101124\n",
+        [3, 3, 0, 3, 0, 0, 0, 0],
+        CALM,
     ),
     // The sender breaks a unit before cycle 2.
     (
         &[],
         "262143999999 break m1\n524287999999 end\n",
-        "flow v1 to c1 owed 1 delivered 1 by a 1 by b 0 missing 0 not owed receiver 0 sender 2 end 0 \
-         nearest early 1074790404 late 1076101124\n",
+        [1, 1, 1, 0, 0, 0, 2, 0],
+        CALM,
     ),
     // It breaks in cycle 2 at the end of the last window: the frame was delivered, but is not owed.
     (
         &[],
         "291873751044 break m1\n524287999999 end\n",
-        "flow v1 to c1 owed 1 delivered 2 by a 2 by b 0 missing 0 not owed receiver 0 sender 2 end 0 \
-         nearest early 1074790404 late 1076101124\n",
+        [1, 2, 2, 0, 0, 0, 2, 0],
+        CALM,
     ),
     // It breaks a unit later.
     (
         &[],
         "291873751045 break m1\n524287999999 end\n",
-        "flow v1 to c1 owed 2 delivered 2 by a 2 by b 0 missing 0 not owed receiver 0 sender 1 end 0 \
-         nearest early 1074790404 late 1076101124\n",
+        [2, 2, 2, 0, 0, 0, 1, 0],
+        CALM,
     ),
     // The receiver is off.
     (
         &[("000015\", start=0", "000015\"")],
         "524287999999 end\n",
-        "flow v1 to c1 owed 0 delivered 0 by a 0 by b 0 missing 0 not owed receiver 3 sender 0 end 0 nearest none\n",
+        [0, 0, 0, 0, 0, 3, 0, 0],
+        "none",
     ),
     // The virtual link occurs in each second cycle.
     (
         &[("period=1, phase=0", "period=2, phase=1")],
         "524287999999 end\n",
-        "flow v1 to c1 owed 2 delivered 2 by a 2 by b 0 missing 0 not owed receiver 0 sender 0 end 0 \
-         nearest early 1074790404 late 1076101124\n",
+        [2, 2, 2, 0, 0, 0, 0, 0],
+        CALM,
     ),
     // Behind the correction of cycle 1 both wires of c1 take their greatest delays.
     (
         &[],
         "150000000000 wire c1_a down 34078720\n150000000000 wire c1_b down 34078720\n200000000000 end\n",
-        "flow v1 to c1 owed 1 delivered 1 by a 1 by b 0 missing 0 not owed receiver 0 sender 0 end 0 \
-         nearest early 1076101124 late 1074790404\n",
+        [1, 1, 1, 0, 0, 0, 0, 0],
+        "early 1076101124 late 1074790404",
     ),
     // They do behind that of cycle 2: each end is nearest to another delivery.
     (
         &[],
         "281000000000 wire c1_a down 34078720\n281000000000 wire c1_b down 34078720\n390000000000 end\n",
-        "flow v1 to c1 owed 2 delivered 2 by a 2 by b 0 missing 0 not owed receiver 0 sender 0 end 0 \
-         nearest early 1074790404 late 1074790404\n",
+        [2, 2, 2, 0, 0, 0, 0, 0],
+        "early 1074790404 late 1074790404",
     ),
     // Only that of channel a does: the frame of channel b comes first.
     (
         &[],
         "150000000000 wire c1_a down 34078720\n200000000000 end\n",
-        "flow v1 to c1 owed 1 delivered 1 by a 0 by b 1 missing 0 not owed receiver 0 sender 0 end 0 \
-         nearest early 1074790404 late 1076101124\n",
+        [1, 1, 0, 1, 0, 0, 0, 0],
+        CALM,
     ),
 ];
 
-fn try_counted(
-    rt: &impl Abort,
-    alloc: Global,
-    edits: &[Edit<'_>],
-    trace: &str,
-    text: &str,
-) -> Result<(), Fail> {
-    let mut network = WORKED.to_string(alloc)?;
-    for (old, new) in edits {
-        network = edited(rt, alloc, network.as_str(), old, new)?;
+fn text_of(alloc: Global, counts: &[u32; 8], nearest: &str) -> Result<String, Fail> {
+    let mut text = String::from_str(alloc, "flow v1 to c1")?;
+    for (name, count) in NAMES.iter().zip(counts) {
+        let one = format!(in alloc; " {name} {count}")?;
+        text.push_str(one.as_str())?;
     }
-    let report = report_of(rt, alloc, network.as_bytes(), trace.as_bytes())?;
-    try_case(
-        rt,
-        alloc,
-        &Case {
-            network: network.as_bytes(),
-            report: report.written(),
-            failing_reads: &[],
-            failing_puts: &[],
-            text,
-            status: Status::Done,
-        },
-    )
+    Ok(format!(in alloc; "{text} nearest {nearest}\n")?)
 }
 
 #[test]
 fn flows_are_counted(rt: HostRuntime) -> Result<(), Fail> {
-    for (edits, trace, text) in COUNTED {
-        try_counted(&rt, rt.alloc(), edits, trace, text)?;
+    let alloc = rt.alloc();
+    for (edits, trace, counts, nearest) in COUNTED {
+        let network = edited(alloc, WORKED, edits)?;
+        let report = report_of(&rt, alloc, network.as_str(), trace)?;
+        let text = text_of(alloc, counts, nearest)?;
+        let files = (network.as_str(), report.written());
+        let told = (text.as_str(), Status::Done);
+        try_flows(&rt, alloc, files, Fails::Nothing, told)?;
     }
     Ok(())
 }

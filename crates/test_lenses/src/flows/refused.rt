@@ -1,83 +1,61 @@
 //! Where there is no report, and where reads and puts fail.
 
-use crate::flows::cases::{Case, report_of, try_case};
-use crate::worked::WORKED;
+use crate::calls::{report_of, try_call};
+use lens::Status;
+use std::alloc::Global;
+use std::process::Abort;
 use std::test::Fail;
-use tte_forms::Status;
+use worked_network::{Call, Fails, WORKED, call_of_two};
+
+// One call of `flows` over a network and a report, and what it answers.
+pub(super) fn try_flows<'x>(
+    rt: &impl Abort,
+    alloc: Global,
+    files: (&'x str, &'x [u8]),
+    fails: Fails,
+    (text, status): (&'x str, Status),
+) -> Result<(), Fail> {
+    let words = ["flows", "net.toml", "net.report"];
+    let files = (files.0.as_bytes(), files.1);
+    let call = call_of_two(&words, files, text, status);
+    try_call(rt, alloc, &Call { fails, ..call })
+}
 
 const LINE: &str =
     "flow v1 to c1 owed 0 delivered 0 by a 0 by b 0 missing 0 not owed receiver 0 sender 0 end 0 nearest none\n";
 
 #[test]
 fn what_is_no_report_is_refused(rt: HostRuntime) -> Result<(), Fail> {
-    let of_worked = |report, text| Case {
-        network: WORKED.as_bytes(),
-        report,
-        failing_reads: &[],
-        failing_puts: &[],
-        text,
-        status: Status::AuditRefused,
-    };
     // An event without an end, a line that is none, and one record of an end alone.
-    try_case(
-        &rt,
-        rt.alloc(),
-        &of_worked(b"", "refused record 1 events\n"),
-    )?;
-    try_case(
-        &rt,
-        rt.alloc(),
-        &of_worked(b"1\n", "refused record 1 form\n"),
-    )?;
-    try_case(
-        &rt,
-        rt.alloc(),
-        &of_worked(b"1 1000 event 1 end\n", "refused lacking 1000\n"),
-    )?;
+    for (report, text) in [
+        ("", "refused record 1 events\n"),
+        ("1\n", "refused record 1 form\n"),
+        ("1 1000 event 1 end\n", "refused lacking 1000\n"),
+    ] {
+        let files = (WORKED, report.as_bytes());
+        let told = (text, Status::AuditRefused);
+        try_flows(&rt, rt.alloc(), files, Fails::Nothing, told)?;
+    }
     Ok(())
 }
 
 #[test]
 fn faults_are_told(rt: HostRuntime) -> Result<(), Fail> {
-    let report = report_of(&rt, rt.alloc(), WORKED.as_bytes(), b"1000 end\n")?;
-    let whole = Case {
-        network: WORKED.as_bytes(),
-        report: report.written(),
-        failing_reads: &[],
-        failing_puts: &[],
-        text: LINE,
-        status: Status::Done,
-    };
-    try_case(&rt, rt.alloc(), &whole)?;
-    // Nothing is put where the report cannot be read, or the first put fails.
-    try_case(
-        &rt,
-        rt.alloc(),
-        &Case {
-            failing_reads: &[1],
-            text: "",
-            status: Status::ReadFault,
-            ..whole
-        },
-    )?;
-    try_case(
-        &rt,
-        rt.alloc(),
-        &Case {
-            failing_puts: &[1],
-            text: "",
-            status: Status::WriteFault,
-            ..whole
-        },
-    )?;
-    try_case(
-        &rt,
-        rt.alloc(),
-        &Case {
-            network: b"=",
-            text: "refused network toml\n",
-            status: Status::NetworkRefused,
-            ..whole
-        },
-    )
+    let report = report_of(&rt, rt.alloc(), WORKED, "1000 end\n")?;
+    for (network, fails, text, status) in [
+        (WORKED, Fails::Nothing, LINE, Status::Done),
+        // Nothing is put where the report cannot be read, or the first put fails.
+        (WORKED, Fails::Second(1), "", Status::ReadFault),
+        (WORKED, Fails::Put(1), "", Status::WriteFault),
+        (
+            "=",
+            Fails::Nothing,
+            "refused network toml\n",
+            Status::NetworkRefused,
+        ),
+    ] {
+        let files = (network, report.written());
+        try_flows(&rt, rt.alloc(), files, fails, (text, status))?;
+    }
+    Ok(())
 }

@@ -1,63 +1,23 @@
-use crate::lenses::cases::words_of;
-use crate::worked::{WORKED, edited};
-use lens::{Status, lens};
+use crate::calls::{report_of, try_call};
+use lens::Status;
 use std::alloc::Global;
 use std::process::Abort;
 use std::test::Fail;
-use tte_io::{MemorySink, MemorySource, OutOfMemory, SteadySource};
-use tte_traces::run_trace;
+use worked_network::{Call, Fails, WORKED, call_of_two, edited};
 
-const ROOM: u64 = 1 << 16;
-
-// One call of `why`: its network and its report, the number, the reads of the report and the puts that fail, and what
-// it answers.
-#[derive(Clone, Copy)]
-struct Why<'a> {
-    network: &'a str,
-    report: &'a [u8],
-    number: &'a str,
-    failing_reads: &'a [u32],
-    failing_puts: &'a [u32],
-    text: &'a str,
-    status: Status,
-}
-
-fn try_why(rt: &impl Abort, alloc: Global, why: &Why<'_>) -> Result<(), Fail> {
-    let words = words_of(alloc, &["why", "net.toml", "net.report", why.number])?;
-    let mut first = SteadySource::new(alloc, why.network.as_bytes())?;
-    let mut second = MemorySource::new(alloc, why.report, 4096, why.failing_reads)?;
-    let mut out = MemorySink::new(alloc, ROOM, why.failing_puts)?;
-    let status = lens(alloc, &words, &mut first, &mut second, &mut out);
-    if status == Status::OutOfMemory {
-        assert!(rt; why.text.as_bytes().starts_with(out.written()));
-        return Err(Fail::from(OutOfMemory));
-    }
-    assert_eq!(rt; status, why.status, "for {}", why.text);
-    assert!(rt; out.written() == why.text.as_bytes(), "for {}", why.text);
-    assert!(rt; status == Status::WriteFault || out.passed() == out.written());
-    Ok(())
-}
-
-fn told<'a>(report: &'a [u8], number: &'a str, text: &'a str, status: Status) -> Why<'a> {
-    Why {
-        network: WORKED,
-        report,
-        number,
-        failing_reads: &[],
-        failing_puts: &[],
-        text,
-        status,
-    }
-}
-
-// The report of the run under a trace.
-fn report_of(rt: &impl Abort, alloc: Global, trace: &str) -> Result<MemorySink, Fail> {
-    let mut network = SteadySource::new(alloc, WORKED.as_bytes())?;
-    let mut lines = SteadySource::new(alloc, trace.as_bytes())?;
-    let mut report = MemorySink::new(alloc, ROOM, &[])?;
-    let status = run_trace(alloc, &mut network, &mut lines, &mut report);
-    assert_eq!(rt; status, Status::Done);
-    Ok(report)
+// One call of `why` over a network and a report, and what it answers.
+fn try_why<'x>(
+    rt: &impl Abort,
+    alloc: Global,
+    files: (&'x str, &'x [u8]),
+    number: &'x str,
+    fails: Fails,
+    (text, status): (&'x str, Status),
+) -> Result<(), Fail> {
+    let words = ["why", "net.toml", "net.report", number];
+    let files = (files.0.as_bytes(), files.1);
+    let why = call_of_two(&words, files, text, status);
+    try_call(rt, alloc, &Call { fails, ..why })
 }
 
 // Three calm cycles and a part of a fourth, of 307 records.
@@ -331,10 +291,11 @@ fn chains_go_back_by_causes(rt: HostRuntime) -> Result<(), Fail> {
         (AHEAD, AHEAD_CHAINS),
     ];
     for (trace, chains) in cases.iter() {
-        let report = report_of(&rt, alloc, trace)?;
+        let report = report_of(&rt, alloc, WORKED, trace)?;
         for (number, text) in chains.iter() {
-            let why = told(report.written(), number, text, Status::Done);
-            try_why(&rt, alloc, &why)?;
+            let told = (*text, Status::Done);
+            let files = (WORKED, report.written());
+            try_why(&rt, alloc, files, number, Fails::Nothing, told)?;
         }
     }
     Ok(())
@@ -343,8 +304,8 @@ fn chains_go_back_by_causes(rt: HostRuntime) -> Result<(), Fail> {
 #[test]
 fn what_is_not_there_is_refused(rt: HostRuntime) -> Result<(), Fail> {
     let alloc = rt.alloc();
-    let held = report_of(&rt, alloc, HELD)?;
-    let cases: [(&[u8], &str, &str, Status); 4] = [
+    let held = report_of(&rt, alloc, WORKED, HELD)?;
+    for (report, number, text, status) in [
         (
             held.written(),
             "40",
@@ -359,41 +320,28 @@ fn what_is_not_there_is_refused(rt: HostRuntime) -> Result<(), Fail> {
         ),
         // The audit comes first, whether the record is there or not.
         (
-            "x\n".as_bytes(),
+            b"x\n",
             "40",
             "refused record 1 form\n",
             Status::AuditRefused,
         ),
         (
-            "1 0 event 1 end\n".as_bytes(),
+            b"1 0 event 1 end\n",
             "1",
             "refused lacking 0\n",
             Status::AuditRefused,
         ),
-    ];
-    for (report, number, text, status) in cases.iter() {
-        let why = told(report, number, text, *status);
-        try_why(&rt, alloc, &why)?;
+    ] {
+        let files = (WORKED, report);
+        try_why(&rt, alloc, files, number, Fails::Nothing, (text, status))?;
     }
-    let hasty = edited(
-        &rt,
-        alloc,
-        WORKED,
-        "settled = 345000000",
-        "settled = 340787543",
-    )?;
-    let refused = Why {
-        network: hasty.as_str(),
-        // The report of a network that is refused is not read.
-        failing_reads: &[1],
-        ..told(
-            held.written(),
-            "1",
-            "refused network rule 9 index 0\n",
-            Status::NetworkRefused,
-        )
-    };
-    try_why(&rt, alloc, &refused)
+    let hasty = ("settled = 345000000", "settled = 340787543");
+    let hasty = edited(alloc, WORKED, &[hasty])?;
+    let files = (hasty.as_str(), held.written());
+    let text = "refused network rule 9 index 0\n";
+    // The report of a network that is refused is not read.
+    let told = (text, Status::NetworkRefused);
+    try_why(&rt, alloc, files, "1", Fails::Second(1), told)
 }
 
 // The first two lines of the chain of record 29.
@@ -403,24 +351,15 @@ const TWO_LINES: &str =
 #[test]
 fn faults_end_a_chain(rt: HostRuntime) -> Result<(), Fail> {
     let alloc = rt.alloc();
-    let held = report_of(&rt, alloc, HELD)?;
-    let cases: [([u32; 1], [u32; 1], &str, Status); 3] = [
+    let held = report_of(&rt, alloc, WORKED, HELD)?;
+    for (fails, text, status) in [
         // The report fails at its first read, and the sink at its first put and at its third.
-        ([1], [0], "", Status::ReadFault),
-        ([0], [1], "", Status::WriteFault),
-        ([0], [3], TWO_LINES, Status::WriteFault),
-    ];
-    for (failing_reads, failing_puts, text, status) in cases.iter() {
-        let why = Why {
-            network: WORKED,
-            report: held.written(),
-            number: "29",
-            failing_reads,
-            failing_puts,
-            text,
-            status: *status,
-        };
-        try_why(&rt, alloc, &why)?;
+        (Fails::Second(1), "", Status::ReadFault),
+        (Fails::Put(1), "", Status::WriteFault),
+        (Fails::Put(3), TWO_LINES, Status::WriteFault),
+    ] {
+        let files = (WORKED, held.written());
+        try_why(&rt, alloc, files, "29", fails, (text, status))?;
     }
     Ok(())
 }

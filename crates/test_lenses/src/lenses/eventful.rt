@@ -1,54 +1,46 @@
-use crate::lenses::cases::{Case, try_case};
+use crate::calls::try_call;
 use crate::lenses::traces::{ONE_CYCLE, TWO_CYCLES, WITH_A_LATE_CLIENT};
-use crate::worked::{WORKED, edited};
 use lens::Status;
 use std::alloc::Global;
 use std::process::Abort;
 use std::test::Fail;
+use worked_network::{Call, Edit, Fails, WORKED, call_of_one, edited};
 
-// The client of the worked network, and one that begins off.
-const CLIENT: &str = "mac=\"020000000015\", start=0}";
+// The client of the worked network begins off.
+const LATE_CLIENT: Edit<'_> = ("mac=\"020000000015\", start=0}", "mac=\"020000000015\"}");
 
-const LATE_CLIENT: &str = "mac=\"020000000015\"}";
+const HASTY: Edit<'_> = ("settled = 345000000", "settled = 340787543");
 
 // The first two lines of `ONE_CYCLE`.
 const TWO_LINES: &str = "16384000000 rate m1 0\n32768000000 heal m4_b down\n";
 
+const EVENTS: &[&str] = &["events", "n.toml", "42", "1"];
+
 // The events of a storm on a network.
-fn answered(
+fn answered<'x>(
     rt: &impl Abort,
     alloc: Global,
-    network: &str,
-    words: &[&str],
-    text: &str,
-    status: Status,
+    network: &'x str,
+    words: &'x [&'x str],
+    fails: Fails,
+    (text, status): (&'x str, Status),
 ) -> Result<(), Fail> {
-    let case = Case {
-        words,
-        octets: network.as_bytes(),
-        failing_reads: &[],
-        failing_puts: &[],
-        text,
-        status,
-    };
-    try_case(rt, alloc, &case)
+    let call = call_of_one(words, network.as_bytes(), text, status);
+    try_call(rt, alloc, &Call { fails, ..call })
 }
 
 #[test]
 fn events_are_those_of_the_rules(rt: HostRuntime) -> Result<(), Fail> {
     let alloc = rt.alloc();
-    let late = edited(&rt, alloc, WORKED, CLIENT, LATE_CLIENT)?;
-    let cases: [(&str, [&str; 4], &str); 3] = [
-        (WORKED, ["events", "n.toml", "42", "1"], ONE_CYCLE),
-        (WORKED, ["events", "n.toml", "7", "2"], TWO_CYCLES),
-        (
-            late.as_str(),
-            ["events", "late.toml", "10", "2"],
-            WITH_A_LATE_CLIENT,
-        ),
-    ];
-    for (network, words, text) in cases.iter() {
-        answered(&rt, alloc, network, words, text, Status::Done)?;
+    let late = edited(alloc, WORKED, &[LATE_CLIENT])?;
+    let late_words: &[&str] = &["events", "late.toml", "10", "2"];
+    for (network, words, text) in [
+        (WORKED, EVENTS, ONE_CYCLE),
+        (WORKED, &["events", "n.toml", "7", "2"], TWO_CYCLES),
+        (late.as_str(), late_words, WITH_A_LATE_CLIENT),
+    ] {
+        let told = (text, Status::Done);
+        answered(&rt, alloc, network, words, Fails::Nothing, told)?;
     }
     Ok(())
 }
@@ -56,46 +48,29 @@ fn events_are_those_of_the_rules(rt: HostRuntime) -> Result<(), Fail> {
 #[test]
 fn networks_are_refused(rt: HostRuntime) -> Result<(), Fail> {
     let alloc = rt.alloc();
-    let words = ["events", "n.toml", "42", "1"];
-    let hasty = edited(
-        &rt,
-        alloc,
-        WORKED,
-        "settled = 345000000",
-        "settled = 340787543",
-    )?;
-    let cases: [(&str, &str); 3] = [
+    let hasty = edited(alloc, WORKED, &[HASTY])?;
+    for (network, text) in [
         (hasty.as_str(), "refused network rule 9 index 0\n"),
         ("version", "refused network toml\n"),
         ("", "refused network missing top 0 version\n"),
-    ];
-    for (network, text) in cases.iter() {
-        answered(&rt, alloc, network, &words, text, Status::NetworkRefused)?;
+    ] {
+        let told = (text, Status::NetworkRefused);
+        answered(&rt, alloc, network, EVENTS, Fails::Nothing, told)?;
     }
     Ok(())
 }
 
 #[test]
 fn faults_end_it(rt: HostRuntime) -> Result<(), Fail> {
-    let alloc = rt.alloc();
-    let cases: [([u32; 1], [u32; 1], &str, Status); 4] = [
+    for (fails, text, status) in [
         // A source that fails at its first read, and in the middle of the file.
-        ([1], [0], "", Status::ReadFault),
-        ([5], [0], "", Status::ReadFault),
+        (Fails::First(1), "", Status::ReadFault),
+        (Fails::First(5), "", Status::ReadFault),
         // A sink that fails at its first put, and at its third.
-        ([0], [1], "", Status::WriteFault),
-        ([0], [3], TWO_LINES, Status::WriteFault),
-    ];
-    for (failing_reads, failing_puts, text, status) in cases.iter() {
-        let case = Case {
-            words: &["events", "n.toml", "42", "1"],
-            octets: WORKED.as_bytes(),
-            failing_reads,
-            failing_puts,
-            text,
-            status: *status,
-        };
-        try_case(&rt, alloc, &case)?;
+        (Fails::Put(1), "", Status::WriteFault),
+        (Fails::Put(3), TWO_LINES, Status::WriteFault),
+    ] {
+        answered(&rt, rt.alloc(), WORKED, EVENTS, fails, (text, status))?;
     }
     Ok(())
 }

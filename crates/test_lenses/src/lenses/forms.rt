@@ -1,8 +1,9 @@
-use crate::lenses::cases::{Case, try_case, words_of};
+use crate::calls::try_call;
 use lens::Status;
 use lens::slack::forms::{Form, read_form};
 use schedule_tables::Rule;
 use std::test::Fail;
+use worked_network::{call_of_one, words_of};
 
 const USAGE: &str =
     "usage: lens slack NETWORK [RULE] | least NETWORK | why NETWORK REPORT N | draw NETWORK REPORT [FROM TO] | flows \
@@ -76,15 +77,8 @@ const EVENTS: &[(&[&str], u64, u32)] = &[
 fn words_of_no_form_are_answered_by_the_usage(rt: HostRuntime) -> Result<(), Fail> {
     let alloc = rt.alloc();
     for words in NO_FORMS {
-        let case = Case {
-            words,
-            octets: &[],
-            failing_reads: &[],
-            failing_puts: &[],
-            text: USAGE,
-            status: Status::Usage,
-        };
-        try_case(&rt, alloc, &case)?;
+        let call = call_of_one(words, &[], USAGE, Status::Usage);
+        try_call(&rt, alloc, &call)?;
     }
     Ok(())
 }

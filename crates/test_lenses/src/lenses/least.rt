@@ -1,12 +1,9 @@
-use crate::lenses::cases::{Case, try_case};
-use crate::worked::{WORKED, edited};
+use crate::calls::{try_call, try_edited};
 use lens::Status;
-use std::alloc::Global;
-use std::process::Abort;
 use std::test::Fail;
+use worked_network::{Call, Edit, Fails, WORKED, call_of_one};
 
-// An old text of the worked network, and a new one in its place.
-type Edit<'a> = (&'a str, &'a str);
+const WORDS: &[&str] = &["least", "a"];
 
 // The least numbers of the worked network. All of them were worked out apart from the program, by trying one dmax after
 // another.
@@ -112,104 +109,63 @@ const TOLD: &[(&[Edit<'_>], &str, Status)] = &[
     ),
 ];
 
-fn tell(
-    rt: &impl Abort,
-    alloc: Global,
-    edits: &[Edit<'_>],
-    text: &str,
-    status: Status,
-) -> Result<(), Fail> {
-    let mut network = String::from_str(alloc, WORKED)?;
-    for (old, new) in edits {
-        network = edited(rt, alloc, network.as_str(), old, new)?;
-    }
-    let case = Case {
-        words: &["least", "a"],
-        octets: network.as_bytes(),
-        failing_reads: &[],
-        failing_puts: &[],
-        text,
-        status,
-    };
-    try_case(rt, alloc, &case)
-}
-
 #[test]
 fn the_least_numbers(rt: HostRuntime) -> Result<(), Fail> {
     for (edits, text, status) in TOLD {
-        tell(&rt, rt.alloc(), edits, text, *status)?;
+        try_edited(&rt, rt.alloc(), edits, WORDS, (text, *status))?;
     }
     Ok(())
 }
 
+// The least numbers of the worked network.
+const BOUNDS: &[Edit<'_>] = &[
+    ("dmax = 3276800000", "dmax = 2692757463"),
+    ("settled = 345000000", "settled = 339853072"),
+    ("precision = 1048576000", "precision = 1019559216"),
+    ("correction = 18350080000", "correction = 15646643086"),
+    ("tt_start = 26542080000", "tt_start = 22858039333"),
+];
+
+// Words, and what is told of the network with these numbers.
+const ROOMS: &[(&[&str], &str)] = &[
+    (
+        &["slack", "a", "9"],
+        "rule 9 at index 0 settled has 339853072 wants 339853072 room 0\nshort 0\n",
+    ),
+    (
+        &["slack", "a", "10"],
+        "rule 10 at index 0 precision has 1019559216 wants 1019559216 room 0\nshort 0\n",
+    ),
+    (
+        &["slack", "a", "11"],
+        "rule 11 at index 0 correction has 15646643086 wants 15646643086 room 0\nshort 0\n",
+    ),
+];
+
 // With the least numbers in the file each bound is just met.
 #[test]
 fn the_least_numbers_have_no_room(rt: HostRuntime) -> Result<(), Fail> {
-    let alloc = rt.alloc();
-    let edits = [
-        ("dmax = 3276800000", "dmax = 2692757463"),
-        ("settled = 345000000", "settled = 339853072"),
-        ("precision = 1048576000", "precision = 1019559216"),
-        ("correction = 18350080000", "correction = 15646643086"),
-        ("tt_start = 26542080000", "tt_start = 22858039333"),
-    ];
-    let mut network = String::from_str(alloc, WORKED)?;
-    for (old, new) in &edits {
-        network = edited(&rt, alloc, network.as_str(), old, new)?;
-    }
-    let rules = [
-        (
-            "9",
-            "rule 9 at index 0 settled has 339853072 wants 339853072 room 0\nshort 0\n",
-        ),
-        (
-            "10",
-            "rule 10 at index 0 precision has 1019559216 wants 1019559216 room 0\nshort 0\n",
-        ),
-        (
-            "11",
-            "rule 11 at index 0 correction has 15646643086 wants 15646643086 room 0\nshort 0\n",
-        ),
-    ];
-    for (rule, text) in &rules {
-        let case = Case {
-            words: &["slack", "a", rule],
-            octets: network.as_bytes(),
-            failing_reads: &[],
-            failing_puts: &[],
-            text,
-            status: Status::Done,
-        };
-        try_case(&rt, alloc, &case)?;
+    for (words, text) in ROOMS {
+        try_edited(&rt, rt.alloc(), BOUNDS, words, (text, Status::Done))?;
     }
     Ok(())
 }
 
 #[test]
 fn no_network_and_faults(rt: HostRuntime) -> Result<(), Fail> {
-    let alloc = rt.alloc();
-    let case = Case {
-        words: &["least", "a"],
-        octets: WORKED.as_bytes(),
-        failing_reads: &[1],
-        failing_puts: &[],
-        text: "",
-        status: Status::ReadFault,
-    };
-    try_case(&rt, alloc, &case)?;
-    let written = Case {
-        failing_reads: &[],
-        failing_puts: &[1],
-        status: Status::WriteFault,
-        ..case
-    };
-    try_case(&rt, alloc, &written)?;
-    let missing = Case {
-        octets: "version = 1\n".as_bytes(),
-        failing_reads: &[],
-        text: "refused network missing top 0 cycle\n",
-        status: Status::NetworkRefused,
-        ..case
-    };
-    try_case(&rt, alloc, &missing)
+    let missing = "refused network missing top 0 cycle\n";
+    for (network, fails, text, status) in [
+        (WORKED, Fails::First(1), "", Status::ReadFault),
+        (WORKED, Fails::Put(1), "", Status::WriteFault),
+        (
+            "version = 1\n",
+            Fails::Nothing,
+            missing,
+            Status::NetworkRefused,
+        ),
+    ] {
+        let call = call_of_one(WORDS, network.as_bytes(), text, status);
+        try_call(&rt, rt.alloc(), &Call { fails, ..call })?;
+    }
+    Ok(())
 }

@@ -1,12 +1,7 @@
-use crate::lenses::cases::{Case, try_case};
-use crate::worked::{WORKED, edited};
+use crate::calls::{try_call, try_edited};
 use lens::Status;
-use std::alloc::Global;
-use std::process::Abort;
 use std::test::Fail;
-
-// An old text of the worked network, and a new one in its place.
-type Edit<'a> = (&'a str, &'a str);
+use worked_network::{Call, Edit, Fails, WORKED, call_of_one};
 
 const HASTY: Edit<'_> = ("settled = 345000000", "settled = 340787543");
 
@@ -123,15 +118,17 @@ const CALC: &str = "rule 10 at index 0 precision has 1048576000 wants calc 11000
 short 1
 ";
 
+const WORDS: &[&str] = &["slack", "a"];
+
 // Networks by their edits, with the words behind the name of the file, and what is told.
 const TOLD: &[(&[Edit<'_>], &[&str], &str, Status)] = &[
-    (&[], &["slack", "a"], OF_WORKED, Status::Done),
+    (&[], WORDS, OF_WORKED, Status::Done),
     (&[], &["slack", "a", "8"], PATHS, Status::Done),
     (&[], &["slack", "a", "12"], STARTS, Status::Done),
     (&[], &["slack", "a", "13"], WINDOWS, Status::Done),
     (&[], &["slack", "a", "21"], "short 0\n", Status::Done),
     (&[], &["slack", "a", "23"], COMINGS, Status::Done),
-    (&[HASTY], &["slack", "a"], OF_HASTY, Status::NetworkRefused),
+    (&[HASTY], WORDS, OF_HASTY, Status::NetworkRefused),
     (
         &[HASTY],
         &["slack", "a", "9"],
@@ -141,7 +138,7 @@ const TOLD: &[(&[Edit<'_>], &[&str], &str, Status)] = &[
     (&[HASTY], &["slack", "a", "8"], PATHS, Status::Done),
     (
         &[SECOND_VL, SECOND_ROWS],
-        &["slack", "a"],
+        WORDS,
         OF_TWO,
         Status::NetworkRefused,
     ),
@@ -185,7 +182,7 @@ const TOLD: &[(&[Edit<'_>], &[&str], &str, Status)] = &[
             ("child=\"m2\", parent=\"ra\"", "child=\"m1\", parent=\"ra\""),
             ("child=\"m2\", parent=\"rb\"", "child=\"m1\", parent=\"rb\""),
         ],
-        &["slack", "a"],
+        WORDS,
         "refused network rule 2 index 1\nat index 1 m1\n",
         Status::NetworkRefused,
     ),
@@ -197,72 +194,29 @@ const TOLD: &[(&[Edit<'_>], &[&str], &str, Status)] = &[
     ),
 ];
 
-fn tell(
-    rt: &impl Abort,
-    alloc: Global,
-    edits: &[Edit<'_>],
-    words: &[&str],
-    text: &str,
-    status: Status,
-) -> Result<(), Fail> {
-    let mut network = String::from_str(alloc, WORKED)?;
-    for (old, new) in edits {
-        network = edited(rt, alloc, network.as_str(), old, new)?;
-    }
-    let case = Case {
-        words,
-        octets: network.as_bytes(),
-        failing_reads: &[],
-        failing_puts: &[],
-        text,
-        status,
-    };
-    try_case(rt, alloc, &case)
-}
-
 #[test]
 fn what_is_left_and_what_is_short(rt: HostRuntime) -> Result<(), Fail> {
     for (edits, words, text, status) in TOLD {
-        tell(&rt, rt.alloc(), edits, words, text, *status)?;
+        try_edited(&rt, rt.alloc(), edits, words, (text, *status))?;
     }
     Ok(())
 }
 
 #[test]
 fn texts_that_are_no_networks(rt: HostRuntime) -> Result<(), Fail> {
-    let alloc = rt.alloc();
-    let case = Case {
-        words: &["slack", "a"],
-        octets: "=".as_bytes(),
-        failing_reads: &[],
-        failing_puts: &[],
-        text: "refused network toml\n",
-        status: Status::NetworkRefused,
-    };
-    try_case(&rt, alloc, &case)?;
-    let read = Case {
-        octets: WORKED.as_bytes(),
-        failing_reads: &[1],
-        text: "",
-        status: Status::ReadFault,
-        ..case
-    };
-    try_case(&rt, alloc, &read)
+    let text = "refused network toml\n";
+    let refused = call_of_one(WORDS, b"=", text, Status::NetworkRefused);
+    try_call(&rt, rt.alloc(), &refused)?;
+    let unread = call_of_one(WORDS, WORKED.as_bytes(), "", Status::ReadFault);
+    let fails = Fails::First(1);
+    try_call(&rt, rt.alloc(), &Call { fails, ..unread })
 }
 
 // The third line is the first that is not written.
 #[test]
 fn a_put_that_fails_ends_it(rt: HostRuntime) -> Result<(), Fail> {
-    let (lines, _) = OF_WORKED
-        .split_once("rule 10")
-        .expect(&rt, "the third line");
-    let case = Case {
-        words: &["slack", "a"],
-        octets: WORKED.as_bytes(),
-        failing_reads: &[],
-        failing_puts: &[3],
-        text: lines,
-        status: Status::WriteFault,
-    };
-    try_case(&rt, rt.alloc(), &case)
+    let (lines, _) = OF_WORKED.split_once("rule 10").ok_or("no third line")?;
+    let unput = call_of_one(WORDS, WORKED.as_bytes(), lines, Status::WriteFault);
+    let fails = Fails::Put(3);
+    try_call(&rt, rt.alloc(), &Call { fails, ..unput })
 }

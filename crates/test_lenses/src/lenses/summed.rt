@@ -1,5 +1,3 @@
-use crate::lenses::cases::words_of;
-use crate::worked::WORKED;
 use lens::{Status, lens};
 use std::alloc::Global;
 use std::process::Abort;
@@ -7,6 +5,7 @@ use std::test::Fail;
 use tte_io::{MemorySink, MemorySource, SteadySource};
 use tte_traces::run_trace;
 use tte_traces::storms::storm_run;
+use worked_network::{WORKED, words_of};
 
 const ROOM: u64 = 1 << 22;
 

@@ -1,4 +1,4 @@
-use crate::pictures::drawn::{has_lines, text_of};
+use crate::pictures::drawn::{count_lines, has_lines, text_of};
 use lens::draw::overview::draw_whole;
 use std::alloc::Global;
 use std::process::Abort;
@@ -9,24 +9,21 @@ use worked_network::{CALM, WORKED};
 
 const ROOM: u64 = 1 << 18;
 
-// What is drawn, and how it ends: its two files, the puts that fail, and the status.
-#[derive(Clone, Copy)]
-struct Drawing<'a> {
-    network: &'a str,
-    report: &'a str,
-    failing_puts: &'a [u32],
-    status: Status,
-}
-
-fn drawn(rt: &impl Abort, alloc: Global, drawing: &Drawing<'_>) -> Result<MemorySink, Fail> {
-    let mut first = SteadySource::new(alloc, drawing.network.as_bytes())?;
-    let mut second = SteadySource::new(alloc, drawing.report.as_bytes())?;
-    let mut out = MemorySink::new(alloc, ROOM, drawing.failing_puts)?;
+// What is drawn of the worked network, where these puts fail, and how it ends.
+fn drawn(
+    rt: &impl Abort,
+    alloc: Global,
+    report: &str,
+    (failing_puts, wanted): (&[u32], Status),
+) -> Result<MemorySink, Fail> {
+    let mut first = SteadySource::new(alloc, WORKED.as_bytes())?;
+    let mut second = SteadySource::new(alloc, report.as_bytes())?;
+    let mut out = MemorySink::new(alloc, ROOM, failing_puts)?;
     let status = draw_whole(alloc, &mut first, &mut second, &mut out);
     if status == Status::OutOfMemory {
         return Err(Fail::from(OutOfMemory));
     }
-    assert_eq!(rt; status, drawing.status);
+    assert_eq!(rt; status, wanted);
     Ok(out)
 }
 
@@ -36,16 +33,6 @@ fn is_shared(line: &str) -> bool {
         || line.starts_with("<rect ")
         || line.starts_with("<text class=\"top\"")
         || line.starts_with("<g><g transform")
-}
-
-fn count_strokes(text: &str) -> u32 {
-    let mut count = 0u32;
-    for line in text.lines() {
-        if line.starts_with("<path class") {
-            count = count.wrapping_add(1);
-        }
-    }
-    count
 }
 
 // The overview of a calm cycle, by another program that works each cell out alone: all lines but the shared ones. This
@@ -138,13 +125,7 @@ fn whole(alloc: Global) -> Result<String, Fail> {
 #[test]
 fn a_calm_cycle_is_seen(rt: HostRuntime) -> Result<(), Fail> {
     let alloc = rt.alloc();
-    let drawing = Drawing {
-        network: WORKED,
-        report: CALM,
-        failing_puts: &[],
-        status: Status::Done,
-    };
-    let out = drawn(&rt, alloc, &drawing)?;
+    let out = drawn(&rt, alloc, CALM, (&[], Status::Done))?;
     assert!(rt; out.passed() == out.written());
     let whole = whole(alloc)?;
     let mut wanted = whole.as_str().lines();
@@ -281,29 +262,16 @@ fn cuts_and_breaks_are_seen(rt: HostRuntime) -> Result<(), Fail> {
     let alloc = rt.alloc();
     let (front, _) = CALM.split_once("83 149422080000").expect(&rt, "82 records");
     let report = format!(in alloc; "{front}{DEAD}")?;
-    let drawing = Drawing {
-        network: WORKED,
-        report: report.as_str(),
-        failing_puts: &[],
-        status: Status::Done,
-    };
-    let out = drawn(&rt, alloc, &drawing)?;
+    let out = drawn(&rt, alloc, report.as_str(), (&[], Status::Done))?;
     let text = text_of(&rt, &out);
     has_lines(&rt, text, SEEN);
-    assert_eq!(rt; count_strokes(text), 15);
+    assert_eq!(rt; count_lines(text, "<path class"), 15);
     Ok(())
 }
 
 #[test]
 fn a_put_that_fails_ends_it(rt: HostRuntime) -> Result<(), Fail> {
-    let alloc = rt.alloc();
-    let drawing = Drawing {
-        network: WORKED,
-        report: CALM,
-        failing_puts: &[70],
-        status: Status::WriteFault,
-    };
-    let out = drawn(&rt, alloc, &drawing)?;
+    let out = drawn(&rt, rt.alloc(), CALM, (&[70], Status::WriteFault))?;
     // The 69 puts before it, and no line behind.
     assert!(rt; !text_of(&rt, &out).contains("</svg>"));
     Ok(())
@@ -311,14 +279,7 @@ fn a_put_that_fails_ends_it(rt: HostRuntime) -> Result<(), Fail> {
 
 #[test]
 fn an_altered_report_is_refused(rt: HostRuntime) -> Result<(), Fail> {
-    let alloc = rt.alloc();
-    let drawing = Drawing {
-        network: WORKED,
-        report: "x\n",
-        failing_puts: &[],
-        status: Status::AuditRefused,
-    };
-    let out = drawn(&rt, alloc, &drawing)?;
+    let out = drawn(&rt, rt.alloc(), "x\n", (&[], Status::AuditRefused))?;
     assert_eq!(rt; text_of(&rt, &out), "refused record 1 form\n");
     Ok(())
 }

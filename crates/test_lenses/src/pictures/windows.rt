@@ -1,5 +1,4 @@
-use crate::pictures::drawn::{drawn, has_lines, text_of};
-use lens::draw::svg::Span;
+use crate::pictures::drawn::{CYCLE, count_lines, drawn, has_lines, text_of};
 use std::test::Fail;
 use worked_network::CALM;
 
@@ -20,19 +19,9 @@ const BOXES: &[&str] = &[
 #[test]
 fn windows_are_drawn(rt: HostRuntime) -> Result<(), Fail> {
     let alloc = rt.alloc();
-    let span = Span {
-        from: 131_072_000_000,
-        to: 160_000_000_000,
-    };
-    let out = drawn(&rt, alloc, CALM, span)?;
+    let out = drawn(&rt, alloc, CALM, CYCLE)?;
     let text = text_of(&rt, &out);
     has_lines(&rt, text, BOXES);
-    let mut boxes = 0u32;
-    for line in text.lines() {
-        if line.starts_with("<g class=\"window\">") {
-            boxes = boxes.saturating_add(1);
-        }
-    }
-    assert!(rt; boxes == 3);
+    assert!(rt; count_lines(text, "<g class=\"window\">") == 3);
     Ok(())
 }

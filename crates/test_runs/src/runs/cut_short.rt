@@ -1,10 +1,9 @@
-use crate::runs::running::{
-    CUTS, CUTS_REPORT, RATES, RATES_REPORT, Run, UNCHANGED, try_runs, whole,
-};
+use crate::runs::running::{CUTS, CUTS_REPORT, RATES, RATES_REPORT, try_silent, whole};
 use std::alloc::{AllocError, Global};
 use std::process::Abort;
 use std::test::Fail;
 use tte_run::Status;
+use worked_network::{Call, Fails};
 
 // The first lines of a text.
 fn first_lines(alloc: Global, text: &str, count: usize) -> Result<String, AllocError> {
@@ -15,29 +14,37 @@ fn first_lines(alloc: Global, text: &str, count: usize) -> Result<String, AllocE
     Ok(front)
 }
 
+// The run ends with this status behind so many lines of its text, where this fails.
+fn try_cut(
+    rt: &impl Abort,
+    alloc: Global,
+    run: &Call<'_>,
+    fails: Fails,
+    (lines, status): (usize, Status),
+) -> Result<(), Fail> {
+    let text = first_lines(alloc, run.text, lines)?;
+    let cut = Call {
+        fails,
+        text: text.as_str(),
+        status,
+        ..*run
+    };
+    try_silent(rt, alloc, &cut)
+}
+
 // Lets each put of a run of so many lines fail in turn: what was written are the lines before it.
-fn try_failing_puts(rt: &impl Abort, alloc: Global, run: &Run<'_>, lines: u32) -> Result<(), Fail> {
+fn try_failing_puts(
+    rt: &impl Abort,
+    alloc: Global,
+    run: &Call<'_>,
+    lines: u32,
+) -> Result<(), Fail> {
     for put in 1..=lines {
-        let text = first_lines(alloc, run.text, put as usize - 1)?;
-        let failing = [put];
-        let cut = Run {
-            failing_puts: &failing,
-            text: text.as_str(),
-            status: Status::WriteFault,
-            ..*run
-        };
-        try_runs(rt, alloc, UNCHANGED, &[cut])?;
+        let cut = (put as usize - 1, Status::WriteFault);
+        try_cut(rt, alloc, run, Fails::Put(put), cut)?;
     }
-    let behind = [lines.saturating_add(1)];
-    try_runs(
-        rt,
-        alloc,
-        UNCHANGED,
-        &[Run {
-            failing_puts: &behind,
-            ..*run
-        }],
-    )
+    let fails = Fails::Put(lines.saturating_add(1));
+    try_silent(rt, alloc, &Call { fails, ..*run })
 }
 
 // Lets each of the reads that a run takes of its trace fail in turn: what was written are the
@@ -45,35 +52,18 @@ fn try_failing_puts(rt: &impl Abort, alloc: Global, run: &Run<'_>, lines: u32) -
 fn try_failing_reads(
     rt: &impl Abort,
     alloc: Global,
-    run: &Run<'_>,
+    run: &Call<'_>,
+    trace: &str,
     reads: u32,
 ) -> Result<(), Fail> {
     for read in 1..=reads {
-        let came = run.trace.bytes().take(17 * (read as usize - 1));
-        let text = first_lines(
-            alloc,
-            run.text,
-            came.filter(|octet| *octet == b'\n').count(),
-        )?;
-        let failing = [read];
-        let cut = Run {
-            failing_reads: &failing,
-            text: text.as_str(),
-            status: Status::ReadFault,
-            ..*run
-        };
-        try_runs(rt, alloc, UNCHANGED, &[cut])?;
+        let came = trace.bytes().take(17 * (read as usize - 1));
+        let lines = came.filter(|octet| *octet == b'\n').count();
+        let cut = (lines, Status::ReadFault);
+        try_cut(rt, alloc, run, Fails::Second(read), cut)?;
     }
-    let behind = [reads.saturating_add(1)];
-    try_runs(
-        rt,
-        alloc,
-        UNCHANGED,
-        &[Run {
-            failing_reads: &behind,
-            ..*run
-        }],
-    )
+    let fails = Fails::Second(reads.saturating_add(1));
+    try_silent(rt, alloc, &Call { fails, ..*run })
 }
 
 // Lets each call to pass on fail in turn. There is one before the reads of each line that is not whole
@@ -81,35 +71,23 @@ fn try_failing_reads(
 fn try_failing_passes(
     rt: &impl Abort,
     alloc: Global,
-    run: &Run<'_>,
+    run: &Call<'_>,
     put: &[usize],
 ) -> Result<(), Fail> {
-    let mut pass = 0u32;
+    let mut pass = 1u32;
     for lines in put {
+        let cut = (*lines, Status::WriteFault);
+        try_cut(rt, alloc, run, Fails::Pass(pass), cut)?;
         pass = pass.saturating_add(1);
-        let text = first_lines(alloc, run.text, *lines)?;
-        let failing = [pass];
-        let cut = Run {
-            failing_passes: &failing,
-            text: text.as_str(),
-            status: Status::WriteFault,
-            ..*run
-        };
-        try_runs(rt, alloc, UNCHANGED, &[cut])?;
     }
-    let last = [pass.saturating_add(1)];
-    let unpassed = Run {
-        failing_passes: &last,
+    let unpassed = Call {
+        fails: Fails::Pass(pass),
         status: Status::WriteFault,
         ..*run
     };
-    try_runs(rt, alloc, UNCHANGED, &[unpassed])?;
-    let behind = [pass.saturating_add(2)];
-    let passed = Run {
-        failing_passes: &behind,
-        ..*run
-    };
-    try_runs(rt, alloc, UNCHANGED, &[passed])
+    try_silent(rt, alloc, &unpassed)?;
+    let fails = Fails::Pass(pass.saturating_add(1));
+    try_silent(rt, alloc, &Call { fails, ..*run })
 }
 
 // Each read of the rates ends behind the next line of theirs, and the fifth gives nothing. The second
@@ -136,9 +114,21 @@ fn a_run_stops_at_a_failed_put(rt: HostRuntime) -> Result<(), Fail> {
 #[test]
 fn a_run_stops_at_a_failed_read(rt: HostRuntime) -> Result<(), Fail> {
     let alloc = rt.alloc();
-    try_failing_reads(&rt, alloc, &whole(RATES, RATES_REPORT, Status::Done), 5)?;
+    let rates = whole(RATES, RATES_REPORT, Status::Done);
+    try_failing_reads(&rt, alloc, &rates, RATES, 5)?;
     let outside = whole(CUTS, CUTS_REPORT, Status::OutsideHypothesis);
-    try_failing_reads(&rt, alloc, &outside, 4)
+    try_failing_reads(&rt, alloc, &outside, CUTS, 4)
+}
+
+// The run of the rates without their last LF, and what it answers.
+fn try_unended<'x>(
+    rt: &impl Abort,
+    alloc: Global,
+    fails: Fails,
+    (text, status): (&'x str, Status),
+) -> Result<(), Fail> {
+    let run = whole(RATES.trim_end(), text, status);
+    try_silent(rt, alloc, &Call { fails, ..run })
 }
 
 // The fifth read gives nothing, so the end came whole, and no more is read. Where it fails instead,
@@ -146,17 +136,11 @@ fn a_run_stops_at_a_failed_read(rt: HostRuntime) -> Result<(), Fail> {
 #[test]
 fn a_last_line_without_its_lf_is_run(rt: HostRuntime) -> Result<(), Fail> {
     let alloc = rt.alloc();
-    let trace = RATES.trim_end();
     let rates = first_lines(alloc, RATES_REPORT, 3)?;
-    let cut = Run {
-        failing_reads: &[5],
-        ..whole(trace, rates.as_str(), Status::ReadFault)
-    };
-    let run = Run {
-        failing_reads: &[6],
-        ..whole(trace, RATES_REPORT, Status::Done)
-    };
-    try_runs(&rt, alloc, UNCHANGED, &[cut, run])
+    let cut = (rates.as_str(), Status::ReadFault);
+    try_unended(&rt, alloc, Fails::Second(5), cut)?;
+    let told = (RATES_REPORT, Status::Done);
+    try_unended(&rt, alloc, Fails::Second(6), told)
 }
 
 const DEVICES: [&str; 9] = ["m1", "m2", "m3", "m4", "c1", "ra", "ca", "rb", "cb"];
@@ -179,5 +163,5 @@ fn twenty_thousand_heals_are_run(rt: HostRuntime) -> Result<(), Fail> {
         report.push_str(text.as_str())?;
     }
     let run = whole(trace.as_str(), report.as_str(), Status::Done);
-    try_runs(&rt, alloc, UNCHANGED, &[run])
+    try_silent(&rt, alloc, &run)
 }

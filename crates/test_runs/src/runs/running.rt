@@ -1,100 +1,36 @@
-use crate::worked::{Edit, WORKED, with_edits};
+use crate::calls::try_call;
 use std::alloc::Global;
 use std::process::Abort;
 use std::test::Fail;
-use tte_io::{MemorySink, MemorySource, OutOfMemory, SteadySource};
-use tte_run::{Status, Words, tte};
+use tte_run::Status;
+use worked_network::{CALM, Call, Edit, WORKED, call_of_two, edited, silent};
 
-// The worked network without its virtual link and its rows.
-const WITHOUT_VL: Edit<'_> = (
-    "vl = [
- {name=\"v1\", id=1, length=60, ethertype=2048, sender=\"m1\", period=1, phase=0},
-]
-",
-    "",
-);
+const RUN: &[&str] = &["run", "net.toml", "net.trace"];
 
-const WITHOUT_ROWS: Edit<'_> = (
-    "row = [
- {vl=\"v1\", link=\"m1_a\", way=\"up\", offset=26542080000},
- {vl=\"v1\", link=\"m1_b\", way=\"up\", offset=26542080000},
- {vl=\"v1\", link=\"c1_a\", way=\"down\", offset=28180480000},
- {vl=\"v1\", link=\"c1_b\", way=\"down\", offset=28180480000},
-]
-",
-    "",
-);
-
-// A run over a network: its trace, the reads of the trace, the puts and the calls to pass on that
-// fail, and what it answers.
-#[derive(Clone, Copy)]
-pub(super) struct Run<'a> {
-    pub(super) trace: &'a str,
-    pub(super) failing_reads: &'a [u32],
-    pub(super) failing_puts: &'a [u32],
-    pub(super) failing_passes: &'a [u32],
-    pub(super) text: &'a str,
-    pub(super) status: Status,
+/// A run over the worked network, in which nothing fails.
+pub(super) fn whole<'a>(trace: &'a str, text: &'a str, status: Status) -> Call<'a> {
+    let files = (WORKED.as_bytes(), trace.as_bytes());
+    call_of_two(RUN, files, text, status)
 }
 
-pub(super) fn try_run(
+/// The same over the worked network without traffic, and with these edits.
+pub(super) fn try_with(
     rt: &impl Abort,
     alloc: Global,
-    network: &str,
-    run: &Run<'_>,
+    edits: &[Edit<'_>],
+    run: &Call<'_>,
 ) -> Result<(), Fail> {
-    let mut words = Words::new(alloc);
-    words.push("run")?;
-    words.push("net.toml")?;
-    words.push("net.trace")?;
-    let mut first = SteadySource::new(alloc, network.as_bytes())?;
-    let mut second = MemorySource::new(alloc, run.trace.as_bytes(), 17, run.failing_reads)?;
-    let room = run.text.len() as u64 + 4096;
-    let mut out = MemorySink::with_failing_passes(
-        alloc,
-        room,
-        run.failing_puts,
-        run.failing_passes,
-    )?;
-    let status = tte(alloc, &words, &mut first, &mut second, &mut out);
-    if status == Status::OutOfMemory {
-        assert!(rt; run.text.as_bytes().starts_with(out.written()));
-        return Err(Fail::from(OutOfMemory));
-    }
-    assert_eq!(rt; status, run.status, "for {}", run.text);
-    assert!(rt; out.written() == run.text.as_bytes(), "for {}", run.text);
-    assert!(rt; status == Status::WriteFault || out.passed() == out.written());
-    Ok(())
+    let network = edited(alloc, silent(), edits)?;
+    let first = network.as_bytes();
+    try_call(rt, alloc, &Call { first, ..*run })
 }
 
-// Runs the worked network without traffic, and with an edit.
-pub(super) fn try_runs(
-    rt: &impl Abort,
-    alloc: Global,
-    edit: Edit<'_>,
-    runs: &[Run<'_>],
-) -> Result<(), Fail> {
-    let network = with_edits(rt, alloc, WORKED, &[WITHOUT_VL, WITHOUT_ROWS, edit])?;
-    for run in runs {
-        try_run(rt, alloc, network.as_str(), run)?;
-    }
-    Ok(())
+/// A run over the worked network without traffic.
+pub(super) fn try_silent(rt: &impl Abort, alloc: Global, run: &Call<'_>) -> Result<(), Fail> {
+    try_with(rt, alloc, &[], run)
 }
-
-pub(super) const UNCHANGED: Edit<'_> = ("version = 1\n", "version = 1\n");
 
 const IN_GRAINS: Edit<'_> = ("rho = 50000\n", "rho = 50000\ngrain = 4096\n");
-
-pub(super) fn whole<'a>(trace: &'a str, text: &'a str, status: Status) -> Run<'a> {
-    Run {
-        trace,
-        failing_reads: &[],
-        failing_puts: &[],
-        failing_passes: &[],
-        text,
-        status,
-    }
-}
 
 pub(super) const RATES: &str = "0 rate m1 50000\n0 rate m2 -50000\n0 rate m3 1\n1500000000 end\n";
 
@@ -136,43 +72,30 @@ outside line 3 condition 6
 ";
 
 #[test]
+fn a_calm_cycle_is_reported(rt: HostRuntime) -> Result<(), Fail> {
+    let run = whole("160000000000 end\n", CALM, Status::Done);
+    try_call(&rt, rt.alloc(), &run)
+}
+
+#[test]
 fn clocks_run_at_their_rates(rt: HostRuntime) -> Result<(), Fail> {
     let alloc = rt.alloc();
-    try_runs(
-        &rt,
-        alloc,
-        UNCHANGED,
-        &[whole(RATES, RATES_REPORT, Status::Done)],
-    )?;
-    try_runs(
-        &rt,
-        alloc,
-        IN_GRAINS,
-        &[whole(RATES, GRAINS_REPORT, Status::Done)],
-    )
+    try_silent(&rt, alloc, &whole(RATES, RATES_REPORT, Status::Done))?;
+    let in_grains = whole(RATES, GRAINS_REPORT, Status::Done);
+    try_with(&rt, alloc, &[IN_GRAINS], &in_grains)
 }
 
 #[test]
 fn events_are_judged_by_the_hypothesis(rt: HostRuntime) -> Result<(), Fail> {
-    let alloc = rt.alloc();
-    try_runs(
-        &rt,
-        alloc,
-        UNCHANGED,
-        &[
-            whole(CUTS, CUTS_REPORT, Status::OutsideHypothesis),
-            whole(
-                "0 rate m1 50001\n",
-                "outside line 1 condition 3\n",
-                Status::OutsideHypothesis,
-            ),
-            whole(
-                "0 on m1\n",
-                "outside line 1 condition 11\n",
-                Status::OutsideHypothesis,
-            ),
-        ],
-    )
+    for (trace, text) in [
+        (CUTS, CUTS_REPORT),
+        ("0 rate m1 50001\n", "outside line 1 condition 3\n"),
+        ("0 on m1\n", "outside line 1 condition 11\n"),
+    ] {
+        let run = whole(trace, text, Status::OutsideHypothesis);
+        try_silent(&rt, rt.alloc(), &run)?;
+    }
+    Ok(())
 }
 
 #[test]
@@ -180,33 +103,16 @@ fn traces_are_refused(rt: HostRuntime) -> Result<(), Fail> {
     let alloc = rt.alloc();
     let letters = "a".repeat(alloc, 4096)?;
     let more = "a".repeat(alloc, 4097)?;
-    try_runs(
-        &rt,
-        alloc,
-        UNCHANGED,
-        &[
-            whole("", "refused line 1 missing\n", Status::TraceRefused),
-            whole(
-                "0 end\n5 end\n",
-                "1 0 event 1 end\nrefused line 2 after\n",
-                Status::TraceRefused,
-            ),
-            whole(
-                letters.as_str(),
-                "refused line 1 number\n",
-                Status::TraceRefused,
-            ),
-            whole(more.as_str(), "refused line 1 long\n", Status::TraceRefused),
-            whole(
-                "0 rate m9 1\n",
-                "refused line 1 name\n",
-                Status::TraceRefused,
-            ),
-            whole(
-                "0 rate m1 1 \n",
-                "refused line 1 form\n",
-                Status::TraceRefused,
-            ),
-        ],
-    )
+    for (trace, text) in [
+        ("", "refused line 1 missing\n"),
+        ("0 end\n5 end\n", "1 0 event 1 end\nrefused line 2 after\n"),
+        (letters.as_str(), "refused line 1 number\n"),
+        (more.as_str(), "refused line 1 long\n"),
+        ("0 rate m9 1\n", "refused line 1 name\n"),
+        ("0 rate m1 1 \n", "refused line 1 form\n"),
+    ] {
+        let run = whole(trace, text, Status::TraceRefused);
+        try_silent(&rt, alloc, &run)?;
+    }
+    Ok(())
 }

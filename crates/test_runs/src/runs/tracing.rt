@@ -1,4 +1,4 @@
-use crate::worked::{WORKED, with_edits};
+use crate::runs::running::{CUTS, RATES};
 use net_plan::{Event, What};
 use run_law::Outside;
 use schedule_tables::Accepted;
@@ -6,21 +6,13 @@ use std::alloc::Global;
 use std::process::Abort;
 use std::test::Fail;
 use trace_text::LineRefusal;
-use tte_forms::{NoNetwork, accept};
-use tte_io::{MemorySink, MemorySource, OutOfMemory};
+use tte_io::{MemorySink, MemorySource};
 use tte_traces::{Trace, TraceFault, TraceStop};
 use tte_units::Units;
+use worked_network::{WORKED, accepted_of, edited, worked};
 
 // What a trace gave: how many events, and why it stopped, if it did not end.
 type Given = (u32, Option<TraceStop>);
-
-fn network(rt: &impl Abort, alloc: Global, text: &str) -> Result<Accepted, Fail> {
-    let mut file = MemorySource::new(alloc, text.as_bytes(), 4096, &[])?;
-    match accept(alloc, &mut file) {
-        Err(NoNetwork::OutOfMemory) => Err(Fail::from(OutOfMemory)),
-        accepted => Ok(accepted.expect(rt, "the network is accepted")),
-    }
-}
 
 // Takes events until the trace ends or stops.
 fn given(trace: &mut Trace, source: &mut MemorySource, out: &mut MemorySink) -> Given {
@@ -56,37 +48,31 @@ fn refused(events: u32, fault: TraceFault) -> Given {
     (events, Some(TraceStop::Fault(fault)))
 }
 
+const NUMBER: TraceFault = TraceFault::Line(LineRefusal::Number);
+
+const NAME: TraceFault = TraceFault::Line(LineRefusal::Name);
+
+const FORM: TraceFault = TraceFault::Line(LineRefusal::Form);
+
 #[test]
 fn a_trace_ends_or_is_refused_at_a_line(rt: HostRuntime) -> Result<(), Fail> {
     let alloc = rt.alloc();
-    let accepted = network(&rt, alloc, WORKED)?;
+    let accepted = worked(alloc)?;
     let cases = [
-        (
-            b"0 rate m1 50000\n0 rate m2 -50000\n0 rate m3 1\n1500000000 end\n".as_slice(),
-            (4, None),
-        ),
+        (RATES.as_bytes(), (4, None)),
         (b"0 end", (1, None)),
         (b"", refused(0, TraceFault::Missing)),
         (b"0 end\n5 end\n", refused(1, TraceFault::After)),
         (b"0 end\n\n", refused(1, TraceFault::After)),
-        (
-            b"\n0 end\n",
-            refused(0, TraceFault::Line(LineRefusal::Number)),
-        ),
-        (
-            b"0 rate m9 1\n",
-            refused(0, TraceFault::Line(LineRefusal::Name)),
-        ),
-        (
-            b"0 rate m1 1 \n",
-            refused(0, TraceFault::Line(LineRefusal::Form)),
-        ),
+        (b"\n0 end\n", refused(0, NUMBER)),
+        (b"0 rate m9 1\n", refused(0, NAME)),
+        (b"0 rate m1 1 \n", refused(0, FORM)),
         (
             b"0 rate m1 50001\n",
             refused(0, TraceFault::Event(Outside::Rate)),
         ),
         (
-            b"1000 cut m1_a up\n2000 heal m1_a up\n3000 cut m1_b up\n4000 end\n",
+            CUTS.as_bytes(),
             refused(2, TraceFault::Event(Outside::Channel)),
         ),
         (b"65535999999 end\n", (1, None)),
@@ -101,10 +87,9 @@ fn a_trace_ends_or_is_refused_at_a_line(rt: HostRuntime) -> Result<(), Fail> {
 #[test]
 fn a_line_has_at_most_4096_octets(rt: HostRuntime) -> Result<(), Fail> {
     let alloc = rt.alloc();
-    let accepted = network(&rt, alloc, WORKED)?;
+    let accepted = worked(alloc)?;
     let long = [b'a'; 4097];
-    let number = refused(0, TraceFault::Line(LineRefusal::Number));
-    try_trace(&rt, alloc, &accepted, &long[1..], number)?;
+    try_trace(&rt, alloc, &accepted, &long[1..], refused(0, NUMBER))?;
     try_trace(&rt, alloc, &accepted, &long, refused(0, TraceFault::Long))
 }
 
@@ -112,8 +97,8 @@ fn a_line_has_at_most_4096_octets(rt: HostRuntime) -> Result<(), Fail> {
 fn too_few_masters_would_be_left(rt: HostRuntime) -> Result<(), Fail> {
     let alloc = rt.alloc();
     let begins_off = ("member=3, start=0", "member=3");
-    let text = with_edits(&rt, alloc, WORKED, &[begins_off])?;
-    let accepted = network(&rt, alloc, text.as_str())?;
+    let text = edited(alloc, WORKED, &[begins_off])?;
+    let accepted = accepted_of(alloc, text.as_str())?;
     let wanted = refused(0, TraceFault::Event(Outside::TooFewMasters));
     try_trace(&rt, alloc, &accepted, b"0 break m1\n5 end\n", wanted)
 }
@@ -121,7 +106,7 @@ fn too_few_masters_would_be_left(rt: HostRuntime) -> Result<(), Fail> {
 #[test]
 fn a_trace_goes_on_after_a_failed_read_or_pass(rt: HostRuntime) -> Result<(), Fail> {
     let alloc = rt.alloc();
-    let accepted = network(&rt, alloc, WORKED)?;
+    let accepted = worked(alloc)?;
     let mut source = MemorySource::new(alloc, b"1000 cut m1_a up\n2000 end\n", 10, &[2])?;
     let mut out = MemorySink::with_failing_passes(alloc, 0, &[], &[3])?;
     let mut trace = Trace::new(&accepted);

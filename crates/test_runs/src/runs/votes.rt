@@ -1,9 +1,9 @@
-use crate::worked::{Edit, WORKED, with_edits};
+use crate::calls::try_call;
 use std::alloc::Global;
 use std::process::Abort;
 use std::test::Fail;
-use tte_io::{MemorySink, MemorySource, OutOfMemory, SteadySource};
-use tte_run::{Status, Words, tte};
+use tte_run::Status;
+use worked_network::{Call, Edit, Fails, WORKED, call_of_two, edited};
 
 // The virtual link of m1, and beside it one of m2 and one of m3.
 const THREE_LINKS: Edit<'_> = (
@@ -48,109 +48,67 @@ const FORGED: &str = "0 break m1
 200000000000 end
 ";
 
-/// A vote: its words, the trace, and what it answers.
-#[derive(Clone, Copy)]
-struct Vote<'a> {
-    words: &'a [&'a str],
-    trace: &'a str,
-    text: &'a str,
-    status: Status,
-}
+// The words of a vote of the three.
+const VOTE: &[&str] = &["vote", "net.toml", "net.trace", "v1", "v2", "v3"];
 
-fn words_of(alloc: Global, texts: &[&str]) -> Result<Words, OutOfMemory> {
-    let mut words = Words::new(alloc);
-    for text in texts {
-        if words.len() < 8 {
-            words.push(text)?;
-        }
-    }
-    Ok(words)
-}
-
-// A read of the trace gives 17 octets. The reads in `failing` fail.
-fn try_vote(
+// A vote over the worked network with the three links, and with further edits.
+fn try_vote<'x>(
     rt: &impl Abort,
     alloc: Global,
     further: &[Edit<'_>],
-    vote: &Vote<'_>,
-    failing: &[u32],
+    words: &'x [&'x str],
+    trace: &'x str,
+    fails: Fails,
+    (text, status): (&'x str, Status),
 ) -> Result<(), Fail> {
-    let three = with_edits(rt, alloc, WORKED, &[THREE_LINKS, THREE_ROWS])?;
-    let network = with_edits(rt, alloc, three.as_str(), further)?;
-    let words = words_of(alloc, vote.words)?;
-    let mut first = SteadySource::new(alloc, network.as_bytes())?;
-    let mut second = MemorySource::new(alloc, vote.trace.as_bytes(), 17, failing)?;
-    let mut out = MemorySink::new(alloc, 8192, &[])?;
-    let status = tte(alloc, &words, &mut first, &mut second, &mut out);
-    if status == Status::OutOfMemory {
-        assert!(rt; vote.text.as_bytes().starts_with(out.written()));
-        return Err(Fail::from(OutOfMemory));
-    }
-    assert_eq!(rt; status, vote.status, "for {}", vote.trace);
-    assert!(rt; out.written() == vote.text.as_bytes(), "for {}", vote.trace);
-    Ok(())
+    let three = edited(alloc, WORKED, &[THREE_LINKS, THREE_ROWS])?;
+    let network = edited(alloc, three.as_str(), further)?;
+    let files = (network.as_bytes(), trace.as_bytes());
+    let vote = call_of_two(words, files, text, status);
+    try_call(rt, alloc, &Call { fails, ..vote })
 }
 
 #[test]
 fn three_correct_senders_agree(rt: HostRuntime) -> Result<(), Fail> {
     let alloc = rt.alloc();
     let text = format!(in alloc; "{FIRST_VOTE}{SECOND_VOTE}")?;
-    try_vote(
-        &rt,
-        alloc,
-        &[],
-        &Vote {
-            words: &["vote", "net.toml", "net.trace", "v1", "v2", "v3"],
-            trace: "393215999999 end\n",
-            text: text.as_str(),
-            status: Status::Done,
-        },
-        &[],
-    )
+    let told = (text.as_str(), Status::Done);
+    let trace = "393215999999 end\n";
+    try_vote(&rt, alloc, &[], VOTE, trace, Fails::Nothing, told)
 }
 
 #[test]
 fn a_forged_sender_is_outvoted(rt: HostRuntime) -> Result<(), Fail> {
-    let alloc = rt.alloc();
-    let vote = Vote {
-        words: &["vote", "net.toml", "net.trace", "v1", "v2", "v3"],
-        trace: FORGED,
-        text: FIRST_VOTE,
-        status: Status::Done,
-    };
-    try_vote(&rt, alloc, &[], &vote, &[])?;
-    // In another order of the three.
-    let other = Vote {
-        words: &["vote", "net.toml", "net.trace", "v3", "v1", "v2"],
-        ..vote
-    };
-    try_vote(&rt, alloc, &[], &other, &[])
+    let told = (FIRST_VOTE, Status::Done);
+    // The second in another order of the three.
+    for words in [VOTE, &["vote", "net.toml", "net.trace", "v3", "v1", "v2"]] {
+        try_vote(&rt, rt.alloc(), &[], words, FORGED, Fails::Nothing, told)?;
+    }
+    Ok(())
 }
+
+// The words of votes that name no virtual link, and what they answer.
+const NO_NAMES: &[(&[&str], &str)] = &[
+    (
+        &["vote", "net.toml", "net.trace", "v9", "v9", "v9"],
+        "refused name 1\n",
+    ),
+    (
+        &["vote", "net.toml", "net.trace", "v1", "v9", "v1"],
+        "refused name 2\n",
+    ),
+    (
+        &["vote", "net.toml", "net.trace", "v1", "v1", ""],
+        "refused name 3\n",
+    ),
+];
 
 // The names and the virtual links are judged before the trace is read, whose first read would fail.
 #[test]
 fn names_of_none_are_refused(rt: HostRuntime) -> Result<(), Fail> {
-    for (words, text) in [
-        (
-            &["vote", "net.toml", "net.trace", "v9", "v9", "v9"],
-            "refused name 1\n",
-        ),
-        (
-            &["vote", "net.toml", "net.trace", "v1", "v9", "v1"],
-            "refused name 2\n",
-        ),
-        (
-            &["vote", "net.toml", "net.trace", "v1", "v1", ""],
-            "refused name 3\n",
-        ),
-    ] {
-        let vote = Vote {
-            words,
-            trace: FORGED,
-            text,
-            status: Status::NameRefused,
-        };
-        try_vote(&rt, rt.alloc(), &[], &vote, &[1])?;
+    for (words, text) in NO_NAMES {
+        let told = (*text, Status::NameRefused);
+        try_vote(&rt, rt.alloc(), &[], words, FORGED, Fails::Second(1), told)?;
     }
     Ok(())
 }
@@ -158,18 +116,11 @@ fn names_of_none_are_refused(rt: HostRuntime) -> Result<(), Fail> {
 #[test]
 fn one_sender_twice_and_another_length_may_not_vote(rt: HostRuntime) -> Result<(), Fail> {
     let alloc = rt.alloc();
-    let twice = Vote {
-        words: &["vote", "net.toml", "net.trace", "v1", "v1", "v2"],
-        trace: FORGED,
-        text: "refused vote\n",
-        status: Status::VoteRefused,
-    };
-    try_vote(&rt, alloc, &[], &twice, &[1])?;
-    let longer = Vote {
-        words: &["vote", "net.toml", "net.trace", "v1", "v2", "v3"],
-        ..twice
-    };
-    try_vote(&rt, alloc, &[LONGER], &longer, &[1])
+    let told = ("refused vote\n", Status::VoteRefused);
+    let unread = Fails::Second(1);
+    let twice = &["vote", "net.toml", "net.trace", "v1", "v1", "v2"];
+    try_vote(&rt, alloc, &[], twice, FORGED, unread, told)?;
+    try_vote(&rt, alloc, &[LONGER], VOTE, FORGED, unread, told)
 }
 
 // At 160,000,000,000 c1 has taken v1 alone; at 160,381,009,921 v2 too; at 1,000 none.
@@ -185,13 +136,8 @@ fn a_refused_trace_has_the_votes_so_far(rt: HostRuntime) -> Result<(), Fail> {
         ("160381009921 heal m1_a up\nx\n", two.as_str()),
         ("1000 heal m1_a up\nx\n", "refused line 2 number\n"),
     ] {
-        let vote = Vote {
-            words: &["vote", "net.toml", "net.trace", "v1", "v2", "v3"],
-            trace,
-            text,
-            status: Status::TraceRefused,
-        };
-        try_vote(&rt, alloc, &[], &vote, &[])?;
+        let told = (text, Status::TraceRefused);
+        try_vote(&rt, alloc, &[], VOTE, trace, Fails::Nothing, told)?;
     }
     Ok(())
 }
@@ -199,16 +145,7 @@ fn a_refused_trace_has_the_votes_so_far(rt: HostRuntime) -> Result<(), Fail> {
 // The third read of the trace fails, which is behind its first line.
 #[test]
 fn a_failed_read_puts_no_vote(rt: HostRuntime) -> Result<(), Fail> {
-    try_vote(
-        &rt,
-        rt.alloc(),
-        &[],
-        &Vote {
-            words: &["vote", "net.toml", "net.trace", "v1", "v2", "v3"],
-            trace: "300000000000 heal m1_a up\n393215999999 end\n",
-            text: "",
-            status: Status::ReadFault,
-        },
-        &[3],
-    )
+    let trace = "300000000000 heal m1_a up\n393215999999 end\n";
+    let told = ("", Status::ReadFault);
+    try_vote(&rt, rt.alloc(), &[], VOTE, trace, Fails::Second(3), told)
 }

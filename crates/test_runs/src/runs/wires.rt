@@ -1,4 +1,3 @@
-use crate::worked::WORKED;
 use net_plan::Way;
 use std::alloc::Global;
 use std::process::Abort;
@@ -6,20 +5,7 @@ use std::test::Fail;
 use tte_io::{MemorySink, MemorySource, OutOfMemory, SteadySource};
 use tte_run::Status;
 use tte_run::captures::wires::wire_trace;
-
-// The header of a capture: the least octet first, version 2.4, at most 262,144 octets, Ethernet.
-const HEAD: [u8; 24] = [
-    0xd4, 0xc3, 0xb2, 0xa1, 0x02, 0x00, 0x04, 0x00, 0x00, 0x00, 0x00, 0x00, 0x00, 0x00, 0x00, 0x00,
-    0x00, 0x00, 0x04, 0x00, 0x01, 0x00, 0x00, 0x00,
-];
-
-// What the first master sends in cycle 1.
-const SENT: [u8; 60] = [
-    0x03, 0x00, 0x00, 0x00, 0x00, 0x01, 0x02, 0x00, 0x00, 0x00, 0x00, 0x11, 0x89, 0x1d, 0x00, 0x00,
-    0x00, 0x01, 0x00, 0x00, 0x00, 0x01, 0x00, 0x00, 0x00, 0x00, 0x00, 0x00, 0x02, 0x00, 0x00, 0x00,
-    0x00, 0x00, 0x00, 0x00, 0x00, 0x00, 0x00, 0x00, 0x00, 0x00, 0x00, 0x00, 0x00, 0x00, 0x00, 0x00,
-    0x00, 0x00, 0x00, 0x00, 0x00, 0x00, 0x00, 0x00, 0x00, 0x00, 0x00, 0x00,
-];
+use worked_network::{HEAD, SENT, TIMED, WORKED};
 
 // What the compression master of channel a sends for all four, with the clock that it has behind the relay: 500 us.
 const COMPRESSED: [u8; 60] = [
@@ -29,29 +15,11 @@ const COMPRESSED: [u8; 60] = [
     0x00, 0x00, 0x00, 0x00, 0x00, 0x00, 0x00, 0x00, 0x00, 0x00, 0x00, 0x00,
 ];
 
-// The frame of the schedule in cycle 1.
-const TIMED: [u8; 60] = [
-    0x03, 0x04, 0x05, 0x06, 0x00, 0x01, 0x02, 0x00, 0x00, 0x00, 0x00, 0x11, 0x08, 0x00, 0x00, 0x00,
-    0x00, 0x01, 0x00, 0x00, 0x00, 0x00, 0x00, 0x00, 0x00, 0x00, 0x00, 0x00, 0x00, 0x00, 0x00, 0x00,
-    0x00, 0x00, 0x00, 0x00, 0x00, 0x00, 0x00, 0x00, 0x00, 0x00, 0x00, 0x00, 0x00, 0x00, 0x00, 0x00,
-    0x00, 0x00, 0x00, 0x00, 0x00, 0x00, 0x00, 0x00, 0x00, 0x00, 0x00, 0x00,
-];
-
 // What a broken master sends, of no kind.
 const ALIEN: [u8; 60] = [0xab; 60];
 
 /// A packet: its microseconds, fewer than a million, and its octets.
 type Packet<'a> = (u32, &'a [u8; 60]);
-
-/// A capture: of which way of which link, and what it answers.
-#[derive(Clone, Copy)]
-struct Wired<'a> {
-    trace: &'a str,
-    link: &'a str,
-    way: Way,
-    packets: Option<&'a [Packet<'a>]>,
-    status: Status,
-}
 
 /// The octets of a capture with these packets; without any, and without a header, where there is none.
 fn capture(alloc: Global, packets: Option<&[Packet<'_>]>) -> Result<Vec<u8>, Fail> {
@@ -69,70 +37,46 @@ fn capture(alloc: Global, packets: Option<&[Packet<'_>]>) -> Result<Vec<u8>, Fai
     Ok(octets)
 }
 
-fn try_wired(rt: &impl Abort, alloc: Global, wired: &Wired<'_>) -> Result<(), Fail> {
-    let want = capture(alloc, wired.packets)?;
+// What a way of a link carries under a trace, and how the call ends.
+fn try_wired(
+    rt: &impl Abort,
+    alloc: Global,
+    trace: &str,
+    (link, way): (&str, Way),
+    (packets, wanted): (Option<&[Packet<'_>]>, Status),
+) -> Result<(), Fail> {
+    let want = capture(alloc, packets)?;
     let mut first = SteadySource::new(alloc, WORKED.as_bytes())?;
-    let mut second = MemorySource::new(alloc, wired.trace.as_bytes(), 17, &[])?;
+    let mut second = MemorySource::new(alloc, trace.as_bytes(), 17, &[])?;
     let mut out = MemorySink::new(alloc, 4096, &[])?;
-    let status = wire_trace(
-        alloc,
-        &mut first,
-        &mut second,
-        wired.link,
-        wired.way,
-        &mut out,
-    );
+    let status = wire_trace(alloc, &mut first, &mut second, link, way, &mut out);
     if status == Status::OutOfMemory {
         assert!(rt; want.as_slice().starts_with(out.written()));
         return Err(Fail::from(OutOfMemory));
     }
-    assert_eq!(rt; status, wired.status, "for {}", wired.trace);
-    assert!(rt; out.written() == want.as_slice(), "for {}", wired.trace);
+    assert_eq!(rt; status, wanted, "for {trace}");
+    assert!(rt; out.written() == want.as_slice(), "for {trace}");
     Ok(())
 }
+
+const CALM: &str = "262143999999 end\n";
 
 #[test]
 fn a_way_carries_what_leaves_and_what_is_dispatched(rt: HostRuntime) -> Result<(), Fail> {
     let alloc = rt.alloc();
-    let calm = "262143999999 end\n";
-    try_wired(
-        &rt,
-        alloc,
-        &Wired {
-            trace: calm,
-            link: "m1_a",
-            way: Way::Up,
-            packets: Some(&[(2000, &SENT), (2405, &TIMED)]),
-            status: Status::Done,
-        },
-    )?;
+    let up: &[Packet<'_>] = &[(2000, &SENT), (2405, &TIMED)];
+    let told = (Some(up), Status::Done);
+    try_wired(&rt, alloc, CALM, ("m1_a", Way::Up), told)?;
     // At 2,083.5 us.
-    try_wired(
-        &rt,
-        alloc,
-        &Wired {
-            trace: calm,
-            link: "m1_a",
-            way: Way::Down,
-            packets: Some(&[(2083, &COMPRESSED)]),
-            status: Status::Done,
-        },
-    )
+    let down: &[Packet<'_>] = &[(2083, &COMPRESSED)];
+    let told = (Some(down), Status::Done);
+    try_wired(&rt, alloc, CALM, ("m1_a", Way::Down), told)
 }
 
 #[test]
 fn no_link_has_the_name(rt: HostRuntime) -> Result<(), Fail> {
-    try_wired(
-        &rt,
-        rt.alloc(),
-        &Wired {
-            trace: "262143999999 end\n",
-            link: "zz",
-            way: Way::Up,
-            packets: None,
-            status: Status::NameRefused,
-        },
-    )
+    let told = (None, Status::NameRefused);
+    try_wired(&rt, rt.alloc(), CALM, ("zz", Way::Up), told)
 }
 
 #[test]
@@ -152,17 +96,8 @@ fn a_later_line_of_the_instant_cuts_what_was_sent(rt: HostRuntime) -> Result<(),
         // A refused trace: no admitted event cut it.
         (refused.as_str(), carried, Status::TraceRefused),
     ] {
-        try_wired(
-            &rt,
-            alloc,
-            &Wired {
-                trace,
-                link: "m4_a",
-                way: Way::Up,
-                packets: Some(packets),
-                status,
-            },
-        )?;
+        let told = (Some(packets), status);
+        try_wired(&rt, alloc, trace, ("m4_a", Way::Up), told)?;
     }
     Ok(())
 }

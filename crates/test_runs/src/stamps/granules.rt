@@ -1,17 +1,17 @@
-use crate::stamps::worked::worked;
 use precision_law::falls::{clocks_do_not_fall_back, corrections_are_small};
 use std::test::Fail;
 use tte_run::stamps::granules::{
     Granule, least, stamps_agree, stamps_are_of_locals, stamps_tell_order,
 };
 use tte_units::Units;
+use worked_network::{accepted_of, silent};
 
 // Four times the precision, worked out by hand.
 const LEAST: i64 = 4_194_304_000;
 
 #[test]
 fn a_granule_is_not_below_the_least(rt: HostRuntime) -> Result<(), Fail> {
-    let accepted = worked(&rt, rt.alloc())?;
+    let accepted = accepted_of(rt.alloc(), silent())?;
     assert!(rt; least(&accepted) == Units(LEAST));
     for (units, want) in [
         (LEAST - 1, false),
@@ -35,7 +35,7 @@ fn a_stamp_is_rounded_down(rt: HostRuntime) -> Result<(), Fail> {
     stamps_are_of_locals();
     stamps_agree();
     stamps_tell_order();
-    let accepted = worked(&rt, rt.alloc())?;
+    let accepted = accepted_of(rt.alloc(), silent())?;
     let fine = Granule::new(&accepted, Units(LEAST)).expect(&rt, "a granule");
     for (local, want) in [
         (0, 0),

@@ -1,4 +1,3 @@
-use crate::stamps::worked::WORKED;
 use std::alloc::Global;
 use std::process::Abort;
 use std::test::Fail;
@@ -6,6 +5,7 @@ use tte_forms::Status;
 use tte_io::{MemorySink, MemorySource, OutOfMemory, SteadySource};
 use tte_run::stamps::stamp_trace;
 use tte_units::Units;
+use worked_network::silent;
 
 // Four times the precision.
 const LEAST: i64 = 4_194_304_000;
@@ -40,19 +40,9 @@ impl Line {
     }
 }
 
-/// The stamps of a trace: those of its lines, and what stands behind them.
-#[derive(Clone, Copy)]
-struct Stamped<'a> {
-    trace: &'a str,
-    granule: i64,
-    lines: &'a [Line],
-    last: &'a str,
-    status: Status,
-}
-
-fn text_of(alloc: Global, stamped: &Stamped<'_>) -> Result<String, Fail> {
+fn text_of(alloc: Global, lines: &[Line], last: &str) -> Result<String, Fail> {
     let mut text = String::new(alloc);
-    for (place, line) in stamped.lines.iter().enumerate() {
+    for (place, line) in lines.iter().enumerate() {
         for name in &DEVICES {
             match line.by(name) {
                 Some(stamp) => {
@@ -63,78 +53,60 @@ fn text_of(alloc: Global, stamped: &Stamped<'_>) -> Result<String, Fail> {
             }
         }
     }
-    text.push_str(stamped.last)?;
+    text.push_str(last)?;
     Ok(text)
 }
 
-// A read of the trace gives 17 octets. The reads in `failing` fail.
+// A trace, of which a read gives 17 octets, and the reads that fail.
+type Traced<'a> = (&'a str, &'a [u32]);
+
+// The lines of a trace are stamped so, and this stands behind the stamps.
 fn try_stamped(
     rt: &impl Abort,
     alloc: Global,
-    stamped: &Stamped<'_>,
-    failing: &[u32],
+    (trace, failing): Traced<'_>,
+    granule: i64,
+    lines: &[Line],
+    (last, wanted): (&str, Status),
 ) -> Result<(), Fail> {
-    let want = text_of(alloc, stamped)?;
-    let mut first = SteadySource::new(alloc, WORKED.as_bytes())?;
-    let mut second = MemorySource::new(alloc, stamped.trace.as_bytes(), 17, failing)?;
+    let want = text_of(alloc, lines, last)?;
+    let mut first = SteadySource::new(alloc, silent().as_bytes())?;
+    let mut second = MemorySource::new(alloc, trace.as_bytes(), 17, failing)?;
     let mut out = MemorySink::new(alloc, 8192, &[])?;
-    assert!(rt; stamped.granule >= 1);
-    assert!(rt; stamped.granule <= 1 << 60);
-    let granule = Units(stamped.granule);
+    assert!(rt; granule >= 1);
+    assert!(rt; granule <= 1 << 60);
+    let granule = Units(granule);
     let status = stamp_trace(alloc, &mut first, &mut second, granule, &mut out);
     if status == Status::OutOfMemory {
         assert!(rt; want.as_bytes().starts_with(out.written()));
         return Err(Fail::from(OutOfMemory));
     }
-    assert_eq!(rt; status, stamped.status, "for {}", stamped.trace);
-    assert!(rt; out.written() == want.as_bytes(), "for {}", stamped.trace);
+    assert_eq!(rt; status, wanted, "for {trace}");
+    assert!(rt; out.written() == want.as_bytes(), "for {trace}");
     Ok(())
 }
 
 // The clock of m1 is fast: it shows 4,194,513,714 at line 2 and 12,583,541,145 at lines 3 and 4.
 #[test]
 fn lines_are_stamped(rt: HostRuntime) -> Result<(), Fail> {
-    let lines = [
-        Line::all(0),
-        Line {
-            m1: Some(1),
-            ..Line::all(0)
-        },
-        Line::all(3),
-        Line::all(3),
-    ];
+    let ahead = Line {
+        m1: Some(1),
+        ..Line::all(0)
+    };
+    let lines = [Line::all(0), ahead, Line::all(3), Line::all(3)];
     let trace =
         "0 rate m1 50000\n4194303999 heal m1_a up\n12582912000 heal m1_a up\n12582912000 end\n";
-    try_stamped(
-        &rt,
-        rt.alloc(),
-        &Stamped {
-            trace,
-            granule: LEAST,
-            lines: &lines,
-            last: "",
-            status: Status::Done,
-        },
-        &[],
-    )
+    let told = ("", Status::Done);
+    try_stamped(&rt, rt.alloc(), (trace, &[]), LEAST, &lines, told)
 }
 
 // A granule is refused before the trace is read.
 #[test]
 fn a_granule_below_the_least_is_refused(rt: HostRuntime) -> Result<(), Fail> {
+    let text = "refused granule least 4194304000\n";
     for granule in [1, LEAST - 1] {
-        try_stamped(
-            &rt,
-            rt.alloc(),
-            &Stamped {
-                trace: "0 end\n",
-                granule,
-                lines: &[],
-                last: "refused granule least 4194304000\n",
-                status: Status::GranuleRefused,
-            },
-            &[1],
-        )?;
+        let told = (text, Status::GranuleRefused);
+        try_stamped(&rt, rt.alloc(), ("0 end\n", &[1]), granule, &[], told)?;
     }
     Ok(())
 }
@@ -146,18 +118,10 @@ fn a_broken_master_stamps_no_line(rt: HostRuntime) -> Result<(), Fail> {
         m4: None,
         ..Line::all(1)
     };
-    try_stamped(
-        &rt,
-        rt.alloc(),
-        &Stamped {
-            trace: "4194304000 heal m1_a up\n4194304000 break m4\n4194304000 end\n",
-            granule: LEAST,
-            lines: &[Line::all(1), without, without],
-            last: "",
-            status: Status::Done,
-        },
-        &[],
-    )
+    let trace = "4194304000 heal m1_a up\n4194304000 break m4\n4194304000 end\n";
+    let lines = [Line::all(1), without, without];
+    let told = ("", Status::Done);
+    try_stamped(&rt, rt.alloc(), (trace, &[]), LEAST, &lines, told)
 }
 
 // The fast clock of m1 shows 149,422,079,999 at line 2. At line 3 it shows 149,422,080,000, which is 19 granules, and
@@ -171,44 +135,22 @@ fn stamps_come_before_the_corrections_of_the_instant(rt: HostRuntime) -> Result<
     };
     let trace =
         "0 rate m1 50000\n149414609269 heal m1_a up\n149414609270 heal m1_a up\n149414609271 end\n";
-    try_stamped(
-        &rt,
-        rt.alloc(),
-        &Stamped {
-            trace,
-            granule: 7_864_320_000,
-            lines: &[Line::all(0), Line::all(18), before, Line::all(18)],
-            last: "",
-            status: Status::Done,
-        },
-        &[],
-    )
+    let lines = [Line::all(0), Line::all(18), before, Line::all(18)];
+    let told = ("", Status::Done);
+    try_stamped(&rt, rt.alloc(), (trace, &[]), 7_864_320_000, &lines, told)
 }
 
 // The lines before the one that is refused are stamped.
 #[test]
 fn a_refusal_stands_behind_the_stamps(rt: HostRuntime) -> Result<(), Fail> {
+    let one = [Line::all(0)];
     for (trace, lines, last) in [
         ("", &[] as &[Line], "refused line 1 missing\n"),
-        (
-            "0 heal m1_a up\n0 end \n",
-            &[Line::all(0)],
-            "refused line 2 form\n",
-        ),
-        ("0 end\n0 end\n", &[Line::all(0)], "refused line 2 after\n"),
+        ("0 heal m1_a up\n0 end \n", &one, "refused line 2 form\n"),
+        ("0 end\n0 end\n", &one, "refused line 2 after\n"),
     ] {
-        try_stamped(
-            &rt,
-            rt.alloc(),
-            &Stamped {
-                trace,
-                granule: LEAST,
-                lines,
-                last,
-                status: Status::TraceRefused,
-            },
-            &[],
-        )?;
+        let told = (last, Status::TraceRefused);
+        try_stamped(&rt, rt.alloc(), (trace, &[]), LEAST, lines, told)?;
     }
     Ok(())
 }
@@ -216,16 +158,7 @@ fn a_refusal_stands_behind_the_stamps(rt: HostRuntime) -> Result<(), Fail> {
 // A failed read is told where the lines that had come are stamped.
 #[test]
 fn a_failed_read_stands_behind_the_stamps(rt: HostRuntime) -> Result<(), Fail> {
-    try_stamped(
-        &rt,
-        rt.alloc(),
-        &Stamped {
-            trace: "0 heal m1_a up\n4194304000 end\n",
-            granule: LEAST,
-            lines: &[Line::all(0)],
-            last: "",
-            status: Status::ReadFault,
-        },
-        &[2],
-    )
+    let trace = "0 heal m1_a up\n4194304000 end\n";
+    let told = ("", Status::ReadFault);
+    try_stamped(&rt, rt.alloc(), (trace, &[2]), LEAST, &[Line::all(0)], told)
 }
