@@ -1,4 +1,5 @@
 -- What arrives by a passage.
+use Rattle.std.proofs.Common.{arith}
 use Rattle.audit_sweep.proofs.Words.{◌≡◌, Arrival, ArrivesAs, DeviceId, Happening, LinkId, List, None, Option, Scenario, Some, inl, inr, numbered, one, pos}
 use Rattle.audit_sweep.{proofs.Words.{subst, ℕ}, specs.Passing.{IsComing, TakesWith}}
 use Rattle.audit_sweep.specs.{declared.{passage.Passage.Passage, records.wires.putting.OnWire.OnWire}, records.wires.Receptions.IsArriving}
@@ -29,13 +30,7 @@ taken s hs device t link cause clock other x shows = absurd shows
 pub takes : (s : Scenario) (hs : List Happening) (device : DeviceId) (t : ℕ) (link : LinkId) (cause clock : ℕ) (is : Arrival)
     → ArrivesAs s hs device t link cause is → IsArrivedRecord s hs device t link cause clock → TakesWith clock is
 takes s hs device t link cause clock is x y =
-    elim y.taken [
-      | inl w ↦ by (arrivals.Waits y.frame y.point) w y.shows
-      | inr r ↦ elim r [ inl p ↦ by (arrivals.Passes y.frame y.way) p y.shows | inr b ↦ by (arrivals.PassesAndWaits y.frame y.way y.point) b y.shows ]
-    ]
-  where
-    by : (a : Arrival) → ArrivesAs s hs device t link cause a → TakesWith clock a → TakesWith clock is
-    by a z shows = subst (TakesWith clock) (same_arrival s hs t device link cause a is z x) shows
+    grind (arith, same_arrival)
 
 -- something becomes of what has a record of its arrival
 pub comes : (s : Scenario) (hs : List Happening) (device : DeviceId) (t : ℕ) (link : LinkId) (cause clock : ℕ)

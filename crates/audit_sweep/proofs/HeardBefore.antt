@@ -24,9 +24,7 @@ joins_only device body low = refl
 
 pub only_joined : (t : ℕ) (judged : List Happening) (device : DeviceId) → IsHeardBefore t judged → OnlyJoined judged device t
 only_joined t judged device b h i at =
-    let le = rank_before (time_of h) (rank h.note.body) t b.rank (key (members_in h) h.note.body) b.rest at (b.before h i) in
-    let low = b.low in
-    joins_only device h.note.body (omega (arith, le, low))
+    grind (arith, rank_before, time_of, rank, key, members_in, joins_only)
 
 pub heard_before : (t r : ℕ) (rest : List ℕ) (hs : List Happening) → r < 6
     → IsHeardBefore t (filter (λ h. is_before (place_of h) (t ∷ r ∷ rest)) hs)

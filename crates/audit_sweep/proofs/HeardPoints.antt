@@ -33,10 +33,7 @@ heard_before_corrections s hs device t founded none =
     let in_hs : (h : Happening) → IsIn h late → IsIn h hs = λ h i. subst (IsIn h) (sym at.whole) (in_rest h front late i) in
     let not_earlier : (h : Happening) → IsIn h late → t ≤ time_of h = λ h i.
     elim (cases_lt (time_of h) t) [ inl lt ↦ absurd (at.none h i (inl lt)) | inr ge ↦ ge ] in
-    let not_lower : (h : Happening) → IsIn h late → rank h.note.body < 6 → ⊥ = λ h i low.
-    let from = not_earlier h i in
-    let upto = none h (in_hs h i) in
-    at.none h i (inr (omega (arith, from, upto), inl low)) in
+    let not_lower : (h : Happening) → IsIn h late → rank h.note.body < 6 → ⊥ = grind (arith, not_earlier, in_hs, at.none) in
     let set : Happening → Bool = λ h. nat_lt (time_of h) t && changes_adjustment device h.note.body in
     let f : Happening → Option Hearing = λ h. hearing_by s.network device h h.note.body in
     let kept : List Happening → Happening → Bool = λ es h. come_by s device t es == come_by s device (time_of h) es in

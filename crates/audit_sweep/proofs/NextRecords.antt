@@ -1,8 +1,8 @@
 -- What is known of records goes on by the next one.
+use Rattle.std.proofs.{Common.{◌⊎◌, arith, suc, zero}, lemmas.List.map-append}
 use Rattle.audit_sweep.proofs.Words.{◌++◌, ◌∙◌, ◌∷◌, ◌≡◌, DeviceId, Happening, IsBodyOf, IsCaused, IsDue, KeptRecord, List, Network, NoteBody, Scenario, Some}
-use Rattle.audit_sweep.{proofs.Words.{[], amount, ap, happening, inl, inr, numbered, refl, subst, sym, ℕ}, specs.records.Keeping.{record_of, records_of}}
-use Rattle.audit_sweep.specs.{Knowing.{AllShowByCause, AllYoung}, records.wires.Signals.ShowsByCause}
-use Rattle.std.proofs.{Common.{◌⊎◌, suc, zero}, lemmas.List.map-append}
+use Rattle.audit_sweep.{proofs.Words.{[], amount, ap, happening, inl, inr, numbered, subst, sym, ℕ}, specs.records.Keeping.{record_of, records_of}}
+use Rattle.audit_sweep.specs.Knowing.{AllShowByCause, AllYoung}
 use Rattle.audit_devices.specs.{Effects.subject_of, Showing.IsSteady, events.Readings.ReadsOn}
 use Rattle.run_law.{proofs.{control.Arrived.arrived_young, records.Happenings.none_numbered}, specs.declared.note.Note.Note}
 use Rattle.net_plan.specs.Belonging.{HasDevice}
@@ -14,10 +14,7 @@ numbered_next : (hs : List Happening) (h g : Happening) (number : ℕ) → numbe
     → (numbered hs number ≡ Some g) ⊎ (h ≡ g)
 numbered_next hs h g zero e = absurd cc
 numbered_next hs h g (suc before) e =
-    elim (pushed hs h g before e) [
-      | inl old ↦ inl old
-      | inr new ↦ inr new.1
-    ]
+    grind (arith, pushed)
 
 -- ---- of no records
 
@@ -33,10 +30,7 @@ none_young network number g device link cause clock e is = absurd (none_numbered
 pub show_next : (network : Network) (hs : List Happening) (note : Note) → AllShowByCause network hs
     → AllShowByCause network (hs ++ happening network hs note ∷ [])
 show_next network hs note all number g e =
-    elim (numbered_next hs (happening network hs note) g number e) [
-      | inl old ↦ all number g old
-      | inr new ↦ subst (ShowsByCause network) new (hs, refl)
-    ]
+    grind (arith, numbered_next, happening)
 
 -- a record that is due shows no transparent clock above the greatest delay
 pub young_next : (s : Scenario) (hs : List Happening) (h : Happening) → IsDue s hs h → AllYoung s.network hs → AllYoung s.network (hs ++ h ∷ [])

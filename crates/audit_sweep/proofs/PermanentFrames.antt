@@ -1,7 +1,7 @@
 -- What is kept of frames that wait to be permanent.
-use Rattle.audit_sweep.proofs.Words.{◌&&◌, ◌==◌, ◌∙◌, ◌≡◌, Bool, DeviceId, LinkId, None, NoteBody, Some, ap, if◌then◌else◌, kept_of, refl, sym, true, ℕ}
+use Rattle.std.proofs.{Common.arith, lemmas.Bool.{and_from, and_parts, eq-eqb, eqb-true}}
+use Rattle.audit_sweep.proofs.Words.{◌&&◌, ◌==◌, ◌∙◌, ◌≡◌, DeviceId, LinkId, NoteBody, Some, ap, kept_of, sym, true, ℕ}
 use Rattle.audit_sweep.specs.{Ripenings.waiting_clock, records.Keeping.kept_of_event}
-use Rattle.std.proofs.lemmas.Bool.{and_from, and_parts, eq-eqb, eqb-true}
 use Rattle.net_plan.{proofs.SameIds.{same_device, same_link}, specs.declared.event.What.What}
 use Rattle.tte_lemmas.proofs.Bools.{picked}
 use Rattle.net_plan.specs.declared.event.What.TheVariants as events
@@ -30,6 +30,4 @@ from_arrival device link clock rest e = absurd cc
 pub arrived_clock : (device : DeviceId) (link : LinkId) (from clock : ℕ)
     → waiting_clock device link (kept_of (notes.Arrived device link from clock)) ≡ Some clock
 arrived_clock device link from clock =
-    let yes : (device.0 == device.0 && link.0 == link.0) ≡ true =
-    and_from (device.0 == device.0) (link.0 == link.0) (eq-eqb device.0 device.0 refl) (eq-eqb link.0 link.0 refl) in
-    ap (λ (b : Bool). if b then Some clock else None) yes
+    grind (arith, and_from, eq-eqb)

@@ -13,9 +13,4 @@ none_later_behind hs time body b h i =
 -- they are those by which an emission is heard
 pub heard_behind : (hs : List Happening) (time : Units) (device : DeviceId) (opened at : Units) (cycle : ℕ) (members : Members) (verdict : Judgement)
     → StandsBehind hs time (notes.Compressed device opened at cycle members verdict) → IsHeardBefore (amount time) hs
-heard_behind hs time device opened at cycle members verdict b = record {
-  rank = 4;
-  rest = key b.members (notes.Compressed device opened at cycle members verdict);
-  low = omega arith;
-  before = b.before;
-}
+heard_behind hs time device opened at cycle members verdict b = grind (arith, rank, key)

@@ -1,13 +1,12 @@
 -- The row by which a frame enters a device.
-use Rattle.std.proofs.Common.{◌&&◌, ◌==◌, ◌∙◌, ◌∷◌, ◌≡◌, Bool, List, None, Option, Some, [], ap, cond, false, if◌then◌else◌, inl, inr, length, refl, slice_get}
-use Rattle.std.proofs.{Common.{subst, sym, true, ℕ}, lemmas.{Bool.{eq-eqb, eqb-true, false≢true}, Option.same_Some}}
-use Rattle.std.specs.{BTreeMap.get, Option.option_map_or, Prelude.{find, option_and_then, option_map}}
+use Rattle.std.proofs.Common.{◌&&◌, ◌==◌, ◌∙◌, ◌∷◌, ◌≡◌, Bool, List, None, Option, Some, [], ap, arith, cond, false, if◌then◌else◌, length, refl, slice_get}
+use Rattle.std.{proofs.{Common.{subst, sym, true, ℕ}, lemmas.Bool.{eq-eqb, eqb-true, false≢true}}, specs.Prelude.{find, option_and_then, option_map}}
+use Rattle.std.{proofs.lemmas.Option.same_Some, specs.{BTreeMap.get, Option.option_map_or}}
 use Rattle.net_plan.{proofs.SameIds.same_link, specs.Places.link_at}
 use Rattle.net_plan.specs.{Ranges.{IsInRange, IsVlInRange}, declared.{ids.{DeviceId.DeviceId, LinkId.LinkId, VlId.VlId}, network.Network.Network}}
 use Rattle.net_plan.specs.declared.tables.{Link.Link, Row.Row, VirtualLink.VirtualLink, Way.{Way, TheVariants.{Down, Up}}}
 use Rattle.run_law.specs.{device.Standpoints.Standpoint, machines.Calls.IsLinkAt, scenario.{Devices.is_parent_of, Ways.{is_way, is_way_of, way_to}}}
-use Rattle.run_law.specs.timed.Arrivals.{entry_arrival, is_row_with, entry_entering, entry_of, octets_fault, octets_or_fault, row_fault, taken_or_fault}
-use Rattle.run_law.specs.timed.Arrivals.{timed_arrival}
+use Rattle.run_law.specs.timed.Arrivals.{entry_arrival, entry_entering, entry_of, is_row_with, row_fault, taken_or_fault, timed_arrival}
 use Rattle.schedule_tables.specs.declared.entry.Entry.{Entry}
 use Rattle.tte_lemmas.proofs.{Lists.in_all, Options.opened}
 use Rattle.device_rules.{proofs.KeptRows.made, specs.Headings.{heading_fault, heading_of}}
@@ -69,14 +68,7 @@ comes_same false l device Down is child = rw (is, child refl) refl
 
 link_of : (network : Network) (device : DeviceId) (link : LinkId) → IsLinkAt network device link
     → (l : Link) × (link_at network link ≡ Some l) × ((l.parent.0 == device.0) ≡ false → (l.child.0 == device.0) ≡ true)
-link_of network device link is = elim is [
-  | inl child ↦
-      let o = opened (λ l. l.child ≡ device) (link_at network link) child in
-      (o.0, o.1, λ none. eq-eqb o.0.child.0 device.0 (ap (λ (d : DeviceId). d.0) o.2))
-  | inr above ↦
-      let o = opened (λ l. l.parent ≡ device) (link_at network link) above in
-      (o.0, o.1, λ none. absurd (false≢true (sym none ∙ eq-eqb o.0.parent.0 device.0 (ap (λ (d : DeviceId). d.0) o.2))))
-]
+link_of network device link is = grind (arith, opened, eq-eqb, false≢true)
 
 -- the row by which a frame enters the device by one of its links
 pub entered_at : (network : Network) (device : DeviceId) (link : LinkId) (id : ℕ) → IsLinkAt network device link
@@ -128,10 +120,7 @@ pub by_entry : (network : Network) (device : DeviceId) (link : LinkId) (at : Sta
     → entry_entering network device link heading.id ≡ o
     → timed_arrival network device link at octets last ≡ entry_arrival network device at (length octets) last o
 by_entry network device link at octets heading o last is none there =
-    let fault : octets_fault network at octets ≡ None = ap (heading_fault at.takes_part at.state network.marker) is ∙ none in
-    ap (octets_or_fault network device link at octets last) fault
-    ∙ ap (λ (h : Heading). entry_arrival network device at (length octets) last (entry_entering network device link h.id)) is
-    ∙ ap (entry_arrival network device at (length octets) last) there
+    grind (arith, length)
 
 -- a frame that enters by a row is judged by it
 pub entered : (network : Network) (device : DeviceId) (link : LinkId) (at : Standpoint) (octets : List ℕ) (heading : Heading) (row : EnteringRow)

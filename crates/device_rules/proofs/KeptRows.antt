@@ -1,10 +1,10 @@
 -- What is kept of the rows by which frames enter devices.
-use Rattle.std.proofs.Common.{◌&&◌, ◌++◌, ◌==◌, ◌∙◌, ◌∷◌, ◌≡◌, Bool, List, None, Option, Some, [], ap, cond, false, get_or, refl, subst, sym, take, true, ℕ}
-use Rattle.std.proofs.{Common.⊎_elim, lemmas.{Bool.{and_parts, cases_Bool, eqb-true, false≢true}, Cmp.ranked, List.Elements.All-take}}
-use Rattle.std.specs.{BTreeMap.{BTreeMap, Updates, get}, Ordering.{is_eq, nat_cmp}, Prelude.{IsSome, find, option_and_then, option_map, slice_get}}
+use Rattle.std.proofs.Common.{◌&&◌, ◌++◌, ◌∙◌, ◌∷◌, ◌≡◌, Bool, List, None, Option, Some, [], ap, arith, cond, false, get_or, refl, subst, sym, take, true, ℕ}
+use Rattle.std.{proofs.{Common.⊎_elim, lemmas.{Cmp.ranked, List.Elements.All-take}}, specs.{BTreeMap.{BTreeMap, Updates, get}, Ordering.{is_eq, nat_cmp}}}
+use Rattle.std.{proofs.lemmas.Bool.{and_parts, cases_Bool, eqb-true, false≢true}, specs.Prelude.{IsSome, find, option_and_then, option_map, slice_get}}
 use Rattle.net_plan.{proofs.{SameIds.same_link, TableFacts.id_by}, specs.{Ranges.IsInRange, declared.{ids.LinkId.LinkId, network.Network.Network}}}
 use Rattle.net_plan.specs.declared.tables.Row.{Row}
-use Rattle.run_law.{proofs.timed.Rows.{entry_at, has_entry}, specs.timed.Arrivals.{entry_of, is_row_with}}
+use Rattle.run_law.{proofs.timed.Rows.{entry_at, has_entry}, specs.timed.Arrivals.entry_of}
 use Rattle.schedule_tables.specs.{Entries.IsEntry, declared.entry.Entry.Entry}
 use Rattle.tte_lemmas.proofs.{Lists.{find_new, find_of, find_skips}, Naturals.{cmp_equal, cmp_same, eqb_same}, Options.{no_entry, some_or_none}}
 use Rattle.device_rules.specs.Entering.{AreRows, HaveEntries, entering_by, entrance_cmp, entrance_of, first_entering, is_by, is_of}
@@ -24,13 +24,7 @@ made link id = record { link = link; id = id }
 entrance_is : (network : Network) (which : Which) (place : ℕ) (entry : Entry) (e : Entrance) → IsEntry network place entry
     → enters network which e entry.row ≡ true → (e ≡ entrance_of entry) × (is_of network which entry.row ≡ true)
 entrance_is network which place entry e is t =
-    let a = and_parts (is_of network which entry.row) (is_by network e entry.row) t in
-    let b = and_parts (e.link.0 == entry.row.link.0) (is_row_with network e.id entry.row) a.1 in
-    let link : e.link ≡ entry.row.link = same_link e.link entry.row.link (eqb-true e.link.0 entry.row.link.0 b.0) in
-    let id : entry.vl.id ≡ e.id = eqb-true entry.vl.id e.id (sym (id_by (slice_get network.vl entry.row.vl.0) entry.vl e.id is.vl) ∙ b.1) in (
-      ap (λ (l : LinkId). made l e.id) link ∙ ap (λ (n : ℕ). made entry.row.link n) (sym id),
-      a.0,
-    )
+    grind (arith, and_parts, same_link, eqb-true, id_by)
 
 enters_own : (network : Network) (which : Which) (place : ℕ) (entry : Entry) → IsEntry network place entry → is_of network which entry.row ≡ true
     → enters network which (entrance_of entry) entry.row ≡ true
@@ -39,9 +33,7 @@ enters_own network which place entry is comes =
 
 same_entrance : (a b : Entrance) → is_eq (entrance_cmp a b) ≡ true → a ≡ b
 same_entrance a b e =
-    let s = cmp_same (nat_cmp a.link.0 b.link.0) (nat_cmp a.id b.id) a.link.0 b.link.0 a.id b.id (ranked a.link.0 b.link.0 (nat_cmp a.link.0 b.link.0) refl)
-    (ranked a.id b.id (nat_cmp a.id b.id) refl) e in
-    ap (λ (l : LinkId). made l a.id) (same_link a.link b.link s.0) ∙ ap (λ (n : ℕ). made b.link n) s.1
+    grind (arith, cmp_same, ranked, same_link)
 
 cmp_itself : (a : Entrance) → is_eq (entrance_cmp a a) ≡ true
 cmp_itself a =

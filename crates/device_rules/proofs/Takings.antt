@@ -1,6 +1,6 @@
 -- Time-triggered frames that a device takes.
 use Rattle.std.proofs.Common.{◌++◌, ◌<◌, ◌==◌, ◌∙◌, ◌∷◌, ◌≡◌, ◌≤◌, Bool, List, None, Option, Some, [], ap, arith, cond, false, length, map, refl, slice_get}
-use Rattle.std.proofs.{Common.{subst, suc, sym, true, zero, ⊎_elim, ℕ, ℤ}}
+use Rattle.std.proofs.Common.{subst, suc, sym, true, zero, ⊎_elim, ℕ, ℤ}
 use Rattle.std.proofs.lemmas.{Bool.{cases_Bool, eqb-true}, List.{Elements.{All-head, All-map, All-tail, filter-append}, length-map}}
 use Rattle.std.specs.{BTreeMap.get, Int.int_rem_euclid, List.{All, last_or}, Prelude.{IfSome, filter, find, option_and_then, option_map, unwrap_or}}
 use Rattle.net_plan.{proofs.SameIds.same_vl, specs.declared.ids.{DeviceId.DeviceId, LinkId.LinkId, VlId.VlId}}

@@ -4,8 +4,7 @@ ghost use Rattle.std.specs.Prelude.{◌-ℤ◌, ◌^◌, ◌↔◌, ◌≡◌, �
 ghost use Rattle.clock_correction.specs.{Correction.correction_of, Deviation.deviation_of};
 ghost use Rattle.net_plan.specs.{Ranges.IsInRange, declared.{ids.DeviceId.DeviceId, network.Network.Network}};
 ghost use Rattle.run_law.specs.{control.Corrections.correction_value, scenario.Devices.plan_of};
-ghost use Rattle.sync_state.specs.{Plan.expected_at, Standing.IsAtIntegration};
-ghost use Rattle.sync_state.specs.Verdicts.{HasVerdict, deviation_on};
+ghost use Rattle.sync_state.specs.{Plan.expected_at, Standing.IsAtIntegration, Verdicts.{HasVerdict, deviation_on}};
 ghost use Rattle.device_rules.specs.{Answers.{in_units, standing_of, verdict_as}, Widths.{IsFar, IsWide}};
 
 use crate::network::{begun, expected_at};

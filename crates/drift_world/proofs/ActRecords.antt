@@ -1,21 +1,20 @@
 -- The records of an act are those of the law, and are put in.
 use Rattle.drift_world.proofs.{HiddenCauses.InOrder, Puts.{is_put_in, order_put}, Words.{sym, true, way_from, ℕ}}
-use Rattle.drift_world.proofs.Words.{◌++◌, ◌==◌, ◌∙◌, ◌∷◌, ◌≡◌, ◌≤◌, ◌⊎◌, ArePutIn, Bool, DeviceId, Happening, HasItsOctets, Holding, Integrating, IsBefore}
-use Rattle.drift_world.proofs.Words.{IsIn, IsSomePut, Joining, List, Network, Node, None, NoteBody, Off, Option, Pcf, Scenario, Settled, Some, Units, []}
+use Rattle.drift_world.proofs.Words.{◌++◌, ◌==◌, ◌∙◌, ◌∷◌, ◌≡◌, ◌≤◌, ◌⊎◌, ArePutIn, Bool, DeviceId, Happening, HasItsOctets, Holding, IsBefore}
+use Rattle.drift_world.proofs.Words.{IsIn, IsSomePut, Joining, List, Network, Node, None, Off, Option, Scenario, Settled, Some, Units, []}
 use Rattle.drift_world.proofs.Words.{act_place, amount, ap, arith, false, if◌then◌else◌, in_parts, in_right, inl, inr, is_cut, map, moment_of, none_yet}
 use Rattle.drift_world.proofs.Words.{octets_from, octets_of, option_map_or, own_place, rank, refl, settled_as, settled_at, slice_get_within, stored_as, subst}
 use Rattle.std.{proofs.lemmas.Bool.ne_eqb, specs.Option.option_map}
 use Rattle.net_plan.specs.declared.ids.RowId.{RowId}
 use Rattle.run_law.{proofs.runs.Places.in_left, specs.{declared.steps.{Act.Act, Ripe.Ripe}, machines.{Answers.IsActOf, Nodes.dispatching}}}
-use Rattle.run_law.specs.{machines.Tasks.{IsFirstTask, doing}, records.{Frames.{dispatched_frame, tt_frame}, Ranks.{key, sign}}, timed.Dispatching.HasAtHand}
+use Rattle.run_law.specs.{machines.Tasks.{IsFirstTask, doing}, records.{Frames.tt_frame, Ranks.key}, timed.Dispatching.HasAtHand}
 use Rattle.schedule_tables.specs.{Entries.IsEntry, declared.entry.Entry.Entry}
 use Rattle.sync_state.specs.declared.{answers.Verdict.{Verdict, TheVariants.{AsyncClique, Cleared, Corrected, SyncClique}}, state.State.State as Standing}
 use Rattle.sync_state.specs.declared.state.State.TheVariants.{Synchronised}
-use Rattle.world_law.{proofs.rows.AtHand.sender_or, specs.world.{Moves.IsPutIn, Outcomes.judged_as, World.{AreStored, Stored}}}
+use Rattle.world_law.{proofs.rows.AtHand.sender_or, specs.world.{Moves.IsPutIn, World.{AreStored, Stored}}}
 use Rattle.world_law.{proofs.steps_lemmas.acting.{Held.{IsHeldFrame, held_frame}, Stage.Stage}, specs.steps.Acting.{AreActBodies, first_bodies, joining_bodies}}
-use Rattle.world_state.proofs.Made.{made_octets}
-use Rattle.world_state.specs.Acting.{AreOutcomes, IsHeldIn, bare, bodies_of, body_of, corrected_by, dispatched_by, emitted_by, first_by, framed, joined_by}
-use Rattle.world_state.specs.{Acting.sent_by, declared.{contents.Timed.TheVariants.Made, hands.AtHand.AtHand, outcomes.Outcomes.Outcomes}}
+use Rattle.world_state.{proofs.Made.made_octets, specs.declared.{contents.Timed.TheVariants.Made, hands.AtHand.AtHand, outcomes.Outcomes.Outcomes}}
+use Rattle.world_state.specs.Acting.{AreOutcomes, IsHeldIn, bare, bodies_of, body_of, corrected_by, dispatched_by, first_by, joined_by}
 use Rattle.run_law.specs.declared.judgement.Why.TheVariants as whys
 use Rattle.run_law.specs.declared.note.NoteBody.TheVariants as kinds
 use Rattle.run_law.specs.declared.steps.Act.TheVariants as acts
@@ -129,27 +128,9 @@ first_fine now device other = tt
 
 of_correction : (s : Scenario) (hs : List Happening) (now : ℕ) (device : DeviceId) (was : Standing) (adjustment : Units) (cycle : ℕ) (verdict : Verdict)
     → AreProper s hs now device was adjustment (acts.Correct cycle verdict) (corrected_by device was cycle adjustment verdict)
-of_correction s hs now device was adjustment cycle (Corrected by) = record {
-  bodies = ap (λ (l : List NoteBody). kinds.Corrected device cycle by adjustment ∷ l) (first_is device was);
-  first = refl;
-  second = first_own s.network now hs device was;
-  first_fine = (tt, late now device (bare (kinds.Corrected device cycle by adjustment)) (omega arith));
-  second_fine = first_fine now device was;
-}
-of_correction s hs now device was adjustment cycle SyncClique = record {
-  bodies = refl;
-  first = refl;
-  second = tt;
-  first_fine = (tt, late now device (bare (kinds.State device Integrating 0 whys.SyncClique)) (omega arith));
-  second_fine = tt;
-}
-of_correction s hs now device was adjustment cycle AsyncClique = record {
-  bodies = refl;
-  first = refl;
-  second = tt;
-  first_fine = (tt, late now device (bare (kinds.State device Integrating 0 whys.AsyncClique)) (omega arith));
-  second_fine = tt;
-}
+of_correction s hs now device was adjustment cycle (Corrected by) = grind (arith, first_is, first_own, first_fine, late)
+of_correction s hs now device was adjustment cycle SyncClique = grind (arith, first_fine, late)
+of_correction s hs now device was adjustment cycle AsyncClique = grind (arith, first_fine, late)
 of_correction s hs now device was adjustment cycle Cleared = record { bodies = refl; first = tt; second = tt; first_fine = tt; second_fine = tt }
 
 -- ---- a dispatch
@@ -274,25 +255,9 @@ pub proper : {M : Type 0} (stands : M → Network → DeviceId → Node → Type
     → IsActOf s.network device node (moment_of s device now) act after → AreOutcomes s stored now device was adjustment act outcomes
     → AreProper s hs now device was adjustment act outcomes
 proper stands s hs coming mark cursor stored now device machine node after was adjustment (acts.Send frame) outcomes st are acted is =
-    let cycle : frame.cycle ≡ acted.0 = ap (λ (f : Pcf). f.cycle) acted.2 in
-    let of_cycle : frame ≡ dispatched_frame s.network device frame.cycle = acted.2 ∙ ap (dispatched_frame s.network device) (sym cycle) in
-    same_outcomes s hs now device was adjustment (acts.Send frame) outcomes (sent_by device frame) is
-    (record {
-      bodies = refl;
-      first = ap (λ (f : Pcf). let h : Happening = record (settled_at s.network now (bare (kinds.Sent device frame.cycle))) { frame = Some f } in h) of_cycle;
-      second = tt;
-      first_fine = (tt, late now device (framed (kinds.Sent device frame.cycle) frame) (omega arith));
-      second_fine = tt;
-    })
+    grind (arith, same_outcomes, settled_at, first_fine, late)
 proper stands s hs coming mark cursor stored now device machine node after was adjustment (acts.Emit sent heard) outcomes st are acted is =
-    same_outcomes s hs now device was adjustment (acts.Emit sent heard) outcomes (emitted_by s.network device sent heard) is
-    (record {
-      bodies = ap (λ (l : List NoteBody). kinds.Compressed device sent.opened sent.at sent.cycle sent.members (judged_as heard) ∷ l) (joining device heard);
-      first = refl;
-      second = joining_own s.network now hs device heard;
-      first_fine = (tt, own_rank now device.0 (amount sent.opened ∷ amount sent.at ∷ sent.cycle ∷ sent.members.0 ∷ sign sent.opened.0 ∷ sign sent.at.0 ∷ []));
-      second_fine = joining_fine now device heard;
-    })
+    grind (arith, same_outcomes, joining, joining_own, first_fine, own_rank, amount, joining_fine)
 proper stands s hs coming mark cursor stored now device machine node after was adjustment (acts.Correct cycle verdict) outcomes st are acted is =
     same_outcomes s hs now device was adjustment (acts.Correct cycle verdict) outcomes (corrected_by device was cycle adjustment verdict) is
     (of_correction s hs now device was adjustment cycle verdict)

@@ -1,10 +1,9 @@
 -- How the clocks of a network go on by an event: what they read up to then stays, and from then on they read what the
 -- event makes of them.
-use Rattle.drift_world.proofs.Words.{◌++◌, ◌∙◌, ◌∷◌, ◌≡◌, ◌≤◌, Bool, DeviceId, IsIn, IsLawful, List, Network, None, Option, RateStep, Some, [], amount, ap}
-use Rattle.drift_world.proofs.Words.{arith, cases_lt, clock_after, if◌then◌else◌, inl, inr, le-leb, option_map_or, rate_steps, reading_of, refl, subst, sym, ℕ}
-use Rattle.drift_world.{proofs.Words.ℤ, specs.Running.clock_of}
+use Rattle.drift_world.proofs.Words.{◌++◌, ◌∷◌, ◌≡◌, ◌≤◌, DeviceId, IsIn, IsLawful, List, Network, None, Option, RateStep, Some, [], amount, ap, arith}
+use Rattle.drift_world.{proofs.Words.{cases_lt, clock_after, inl, inr, le-leb, option_map_or, rate_steps, reading_of, refl, ℕ, ℤ}, specs.Running.clock_of}
 use Rattle.std.{proofs.lemmas.{Bool.lt-leb, List.{Elements.{filter-append, filter_map-append}, Sums.fold-append}}, specs.List.All}
-use Rattle.drift_clock.{proofs.Histories.up_to-all, specs.{Counts.rounded, RateSteps.up_to, Readings.{reading_at, value_after}}}
+use Rattle.drift_clock.{proofs.Histories.up_to-all, specs.{RateSteps.up_to, Readings.value_after}}
 use Rattle.net_plan.specs.declared.event.Event.{Event}
 use Rattle.run_law.{proofs.scenario.Rated.{Holds, step_at}, specs.scenario.Rates.step_by}
 use Rattle.net_plan.specs.declared.event.What.TheVariants as events
@@ -19,13 +18,7 @@ one_of (Some step) = step ∷ []
 steps_more : (past : List Event) (event : Event) (device : DeviceId)
     → rate_steps (past ++ event ∷ []) device ≡ rate_steps past device ++ one_of (step_by device (amount event.time) event.what)
 steps_more past event device =
-    filter_map-append (λ (e : Event). step_by device (amount e.time) e.what) past (event ∷ [])
-    ∙ ap (λ (l : List RateStep). rate_steps past device ++ l) (last (step_by device (amount event.time) event.what) refl)
-  where
-    last : (o : Option RateStep) → step_by device (amount event.time) event.what ≡ o
-        → rate_steps (event ∷ []) device ≡ one_of (step_by device (amount event.time) event.what)
-    last None e = ap (λ (o : Option RateStep). Rattle.std.specs.List.cons_option o []) e ∙ sym (ap one_of e)
-    last (Some step) e = ap (λ (o : Option RateStep). Rattle.std.specs.List.cons_option o []) e ∙ sym (ap one_of e)
+    grind (arith, filter_map-append, amount, rate_steps)
 
 -- what the last step makes of a clock
 step_last : {C : Type 0} (after_step : C → ℕ → ℤ → C) (o : Option RateStep) (clock : C)
@@ -37,11 +30,7 @@ pub clock_more : {C : Type 0} (fresh : ℕ → C) (after_step : C → ℕ → �
     → clock_of fresh after_step network (past ++ event ∷ []) device
     ≡ clock_after after_step device event.time event.what (clock_of fresh after_step network past device)
 clock_more {C} fresh after_step network past event device =
-    let first = fresh (amount network.grain) in
-    let step = λ (c : C) (s : RateStep). after_step c s.at s.rate in
-    ap (value_after after_step first) (steps_more past event device)
-    ∙ fold-append step first (rate_steps past device) (one_of (step_by device (amount event.time) event.what))
-    ∙ step_last after_step (step_by device (amount event.time) event.what) (value_after after_step first (rate_steps past device))
+    grind (arith, amount, steps_more, fold-append, rate_steps, step_last)
 
 -- ---- each step is at the time of its event
 
@@ -73,35 +62,17 @@ reads_value fresh after_step reading network events device t past =
 step_reads : {C : Type 0} (fresh : ℕ → C) (after_step : C → ℕ → ℤ → C) (reading : C → ℕ → ℕ) (grain : C → ℕ) (count : C → ℕ → ℕ)
     (law : IsLawful fresh after_step reading grain count) (clock : C) (t : ℕ) (rate : ℤ) → reading (after_step clock t rate) t ≡ reading clock t
 step_reads fresh after_step reading grain count law clock t rate =
-    law.reads_count (after_step clock t rate) t
-    ∙ ap (λ (n : ℕ). rounded n (count (after_step clock t rate) t)) (law.keeps_grain clock t rate)
-    ∙ ap (rounded (grain clock)) (law.keeps_count clock t rate)
-    ∙ sym (law.reads_count clock t)
+    grind arith
 
 one_reads : {C : Type 0} (fresh : ℕ → C) (after_step : C → ℕ → ℤ → C) (reading : C → ℕ → ℕ) (grain : C → ℕ) (count : C → ℕ → ℕ)
     (law : IsLawful fresh after_step reading grain count) (clock : C) (time x : ℕ) (o : Option RateStep) → Holds o (λ s. s.at ≡ time) → x ≤ time
     → reading (value_after after_step clock (up_to x (one_of o))) x ≡ reading clock x
 one_reads fresh after_step reading grain count law clock time x None at le = refl
-one_reads fresh after_step reading grain count law clock time x (Some step) at le = elim (cases_lt x step.at) [
-  | inl later ↦ ap (λ (b : Bool). reading (value_after after_step clock (if b then step ∷ [] else [])) x) (lt-leb step.at x later)
-  | inr now ↦
-      let same : step.at ≡ x = omega (arith, now, at, le) in
-      ap (λ (b : Bool). reading (value_after after_step clock (if b then step ∷ [] else [])) x) (le-leb step.at x now)
-      ∙ subst (λ (n : ℕ). reading (after_step clock n step.rate) x ≡ reading clock x) (sym same)
-      (step_reads fresh after_step reading grain count law clock x step.rate)
-]
+one_reads fresh after_step reading grain count law clock time x (Some step) at le = grind (arith, cases_lt, lt-leb, le-leb, step_reads)
 
 pub reads_same : {C : Type 0} (fresh : ℕ → C) (after_step : C → ℕ → ℤ → C) (reading : C → ℕ → ℕ) (grain : C → ℕ) (count : C → ℕ → ℕ)
     → IsLawful fresh after_step reading grain count → (network : Network) (past : List Event) (event : Event) (device : DeviceId) (x : ℕ)
     → x ≤ amount event.time
     → reading_of fresh after_step reading network (past ++ event ∷ []) device x ≡ reading_of fresh after_step reading network past device x
 reads_same {C} fresh after_step reading grain count law network past event device x le =
-    let first = fresh (amount network.grain) in
-    let step = λ (c : C) (s : RateStep). after_step c s.at s.rate in
-    let o = step_by device (amount event.time) event.what in
-    ap (λ (l : List RateStep). reading_at after_step reading first l x) (steps_more past event device)
-    ∙ ap (λ (l : List RateStep). reading (value_after after_step first l) x)
-    (filter-append (λ (s : RateStep). Rattle.std.specs.Prelude.nat_le s.at x) (rate_steps past device) (one_of o))
-    ∙ ap (λ (c : C). reading c x) (fold-append step first (up_to x (rate_steps past device)) (up_to x (one_of o)))
-    ∙ one_reads fresh after_step reading grain count law (value_after after_step first (up_to x (rate_steps past device))) (amount event.time) x o
-    (step_at device (amount event.time) event.what) le
+    grind (arith, amount, steps_more, filter-append, rate_steps, fold-append, one_reads, step_at)

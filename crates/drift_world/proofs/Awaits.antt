@@ -1,4 +1,5 @@
 -- What waits by a record, as its law asks for it.
+use Rattle.std.proofs.Common.{arith}
 use Rattle.drift_world.proofs.Words.{◌&&◌, ◌∙◌, ◌∷◌, ◌≡◌, ◌⊎◌, Arrived, Bool, DeviceId, Giving, Happening, IsPermutation, IsPermutation-map, IsPermutation-sym}
 use Rattle.drift_world.proofs.Words.{LinkId, List, Network, None, NoteBody, Option, Pcf, Scenario, Some, Waiting, Waits, ap, false, if◌then◌else◌, in_permuted}
 use Rattle.drift_world.proofs.Words.{inl, inr, is_broken, map, not, pos, refl, same_Some, subst, sym, time_of, true, waiting_as, ℕ}
@@ -30,17 +31,7 @@ split false false e = absurd cc
 
 same_waiting : (e f : Waiting) → e.device ≡ f.device → e.link ≡ f.link → e.cause ≡ f.cause → e.frame ≡ f.frame → e.point.0 ≡ f.point.0 → e ≡ f
 same_waiting e f device link cause frame point =
-    ap (λ (d : DeviceId). let w : Waiting = record e { device = d } in w) device
-    ∙ ap (λ (l : LinkId). let w : Waiting = record { device = f.device; link = l; cause = e.cause; frame = e.frame; point = e.point } in w) link
-    ∙ ap (λ (k : ℕ). let w : Waiting = record { device = f.device; link = f.link; cause = k; frame = e.frame; point = e.point } in w) cause
-    ∙ ap (λ (p : Pcf). let w : Waiting = record { device = f.device; link = f.link; cause = f.cause; frame = p; point = e.point } in w) frame
-    ∙ ap (λ (z : Rattle.std.specs.Prelude.ℤ). let w : Waiting = record {
-      device = f.device;
-      link = f.link;
-      cause = f.cause;
-      frame = f.frame;
-      point = record { 0 = z };
-    } in w) point
+    grind arith
 
 -- nothing waits by it
 pub none_awaited : (s : Scenario) (x : Happening) (number : ℕ) (old : List Waiting)

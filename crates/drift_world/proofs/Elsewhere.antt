@@ -1,6 +1,6 @@
 -- An event leaves all devices as they were but one.
 use Rattle.drift_world.proofs.Words.{if◌then◌else◌, ◌+◌, ◌<◌, ◌==◌, ◌↔◌, ◌∙◌, ◌∷◌, ◌≡◌, ◌≤◌, AreTimed, Bool, DeviceId, IfSome, IsIn, IsTimed, List, Network}
-use Rattle.drift_world.proofs.Words.{Node, None, Option, RateStep, Some, Units, Waits, What, [], amount, ap, arith, breaks_at, cases_eq, clock_after, eqb-true}
+use Rattle.drift_world.proofs.Words.{Node, None, Option, Some, Units, Waits, What, [], amount, ap, arith, breaks_at, cases_eq, clock_after, eqb-true}
 use Rattle.drift_world.proofs.Words.{false, false_from_ne_true, filter, in_filter, inl, inr, length, not, option_map_or, refl, subst, sym, true, ℕ, ℤ}
 use Rattle.std.proofs.Common.{◌≢◌, All, slice_get}
 use Rattle.world_state.specs.Applying.{IsElsewhere, device_in}
@@ -12,9 +12,7 @@ use Rattle.net_plan.specs.declared.event.What.TheVariants as events
 other_clock : {C : Type 0} (after_step : C → ℕ → ℤ → C) (device : DeviceId) (time : Units) (what : What) (clock : C) → IsElsewhere what device
     → clock_after after_step device time what clock ≡ clock
 other_clock {C} after_step device time (events.Rate other rate) clock away =
-    ap (λ (b : Bool). option_map_or (λ (s : RateStep). after_step clock s.at s.rate)
-    (if b then Some (let s : RateStep = record { at = amount time; rate = rate.0 } in s) else None) clock)
-    (false_from_ne_true (device.0 == other.0) (λ e. away (sym (eqb-true device.0 other.0 e))))
+    grind (arith, option_map_or, amount, false_from_ne_true, eqb-true)
 other_clock after_step device time (events.Wire link way delay) clock away = refl
 other_clock after_step device time other clock away = refl
 
@@ -40,9 +38,7 @@ in_kept q (y ∷ ys) x passes (inr i) =
 pub waits_elsewhere : (old new : List Waits) (device : DeviceId) (what : What) → new ≡ filter (λ w. not (breaks_at w.device.0 what)) old
     → IsElsewhere what device → (w : Waits) → w.device.0 ≡ device.0 → IsIn w new ↔ IsIn w old
 waits_elsewhere old new device what is away w at =
-    let q : Waits → Bool = λ v. not (breaks_at v.device.0 what) in
-    let passes : q w ≡ true = ap not (breaks_other device.0 w.device.0 what away at) in
-    subst (λ (l : List Waits). IsIn w l ↔ IsIn w old) (sym is) (in_filter q old w, in_kept q old w passes)
+    grind (arith, not, breaks_at, breaks_other, in_filter, in_kept)
 
 -- ---- the timers
 

@@ -1,22 +1,17 @@
 -- The first of what is settled is the record that is given, with its frame and its octets.
+use Rattle.std.proofs.Common.{arith}
 use Rattle.drift_world.proofs.{HiddenCauses.change_or_other, Words.{sym, ℕ}}
 use Rattle.drift_world.proofs.Words.{◌∙◌, ◌∷◌, ◌≡◌, DeviceId, Happening, List, Network, Node, Note, NoteBody, Option, Pcf, Scenario, Stands, World, [], ap}
-use Rattle.drift_world.proofs.Words.{append-nil, frame_by, happening, happenings, hidden, hidden_body, inl, inr, length, map, note_of, octets_by, refl, subst}
+use Rattle.drift_world.proofs.Words.{append-nil, frame_by, happening, happenings, hidden, hidden_body, length, map, note_of, octets_by, refl}
 
 same_frame : (network : Network) (hs : List Happening) (given : ℕ) (body : NoteBody) → frame_by network hs (hidden_body given body) ≡ frame_by network hs body
 same_frame network hs given body =
-    elim (change_or_other given body) [
-      | inl a ↦ subst (λ (b : NoteBody). frame_by network hs (hidden_body given b) ≡ frame_by network hs b) (sym a.is) refl
-      | inr a ↦ ap (frame_by network hs) a.same
-    ]
+    grind (arith, change_or_other, frame_by, hidden_body)
 
 same_octets : (network : Network) (hs : List Happening) (given : ℕ) (body : NoteBody)
     → octets_by network hs (hidden_body given body) ≡ octets_by network hs body
 same_octets network hs given body =
-    elim (change_or_other given body) [
-      | inl a ↦ subst (λ (b : NoteBody). octets_by network hs (hidden_body given b) ≡ octets_by network hs b) (sym a.is) refl
-      | inr a ↦ ap (octets_by network hs) a.same
-    ]
+    grind (arith, change_or_other, octets_by, hidden_body)
 
 pub record IsFirstOf (given : ℕ) (coming : List Happening) (z : Happening) : Type 0 where
   pub first : Happening

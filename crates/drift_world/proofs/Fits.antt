@@ -1,10 +1,9 @@
 -- What is settled stays fit to be given.
-use Rattle.drift_world.proofs.Words.{◌+◌, ◌<◌, ◌^◌, ◌∙◌, ◌∷◌, ◌≡◌, ◌≤◌, AreApart, AreBelow, AreUnderWay, AtPort, Bool, Content, HasItsOctets, IsPermutation}
+use Rattle.drift_world.proofs.Words.{◌+◌, ◌<◌, ◌∷◌, ◌≡◌, AreApart, AreBelow, AreUnderWay, AtPort, Bool, Content, HasItsOctets, IsPermutation}
 use Rattle.drift_world.proofs.Words.{IsPermutation-sym, IsPutAt, IsShort, IsSized, IsSomePut, IsSound, List, Network, None, Option, Settled, Some, Waits, ap}
 use Rattle.drift_world.{proofs.Words.{arith, departure_body, in_permuted, inr, length, refl, subst, sym, ℕ}, specs.declared.state.State.State}
 use Rattle.std.proofs.{Common.All, lemmas.Grind.elements}
-use Rattle.run_law.specs.control.Leaving.{Departure, leaves, on_cut_way, too_old}
-use Rattle.world_state.specs.{Leaving.{departed, departure_by}, declared.queue.Entry.Entry}
+use Rattle.world_state.specs.{Leaving.departed, declared.queue.Entry.Entry}
 
 abbrev pub have_octets : Settled → Type 0
 have_octets z = HasItsOctets z.body z.octets
@@ -21,12 +20,7 @@ all_put_some P (Some z) old new put own all = all_put P z old new put.0 put.1 (o
 
 -- the record of a frame that leaves a port needs no octets
 pub left_octets : (network : Network) (reading : ℕ) (cut : Bool) (e : AtPort) → have_octets (departed network reading cut e)
-left_octets network reading cut e = by (departure_by network reading cut e)
-  where
-    by : (d : Departure) → HasItsOctets (departure_body e d) None
-    by (leaves clock) = tt
-    by too_old = tt
-    by on_cut_way = tt
+left_octets network reading cut e = grind (arith, departure_body)
 
 -- what is left of what is under way has been put there by records given
 pub below_without : (number : ℕ) (old new : List (Entry Content)) (taken : Entry Content) → IsPermutation old (taken ∷ new) → AreBelow number old
@@ -37,17 +31,7 @@ below_without number old new taken same below e there = below e (in_permuted _ _
 pub sized_so : {C M : Type 0} (last_step : C → ℕ) (network : Network) (old new : State C M) → IsSized last_step network old
     → new.clocks ≡ old.clocks → length new.machines.items ≡ length old.machines.items → new.broken ≡ old.broken → new.ups ≡ old.ups
     → new.downs ≡ old.downs → new.time ≡ old.time → new.shown ≡ old.shown → IsSized last_step network new
-sized_so {C} last_step network old new z clocks machines broken ups downs time shown = record {
-  clocks = ap (λ v. length v.items) clocks ∙ z.clocks;
-  machines = machines ∙ z.machines;
-  broken = ap (λ v. length v.items) broken ∙ z.broken;
-  ups = ap (λ v. length v.items) ups ∙ z.ups;
-  downs = ap (λ v. length v.items) downs ∙ z.downs;
-  stepped = subst (λ (t : ℕ). All (λ (c : C). last_step c ≤ t) new.clocks.items) (sym time)
-      (subst (λ v. All (λ (c : C). last_step c ≤ old.time) v.items) (sym clocks) z.stepped);
-  limit = subst (λ (t : ℕ). t ≤ 2 ^ 60) (sym time) z.limit;
-  shown = subst (λ (k : ℕ). k ≤ length network.device) (sym shown) z.shown;
-}
+sized_so {C} last_step network old new z clocks machines broken ups downs time shown = grind (arith, length)
 
 -- what a state keeps it keeps with less that is settled, and elsewhere in memory
 pub sound_same : {C M : Type 0} (last_step : C → ℕ) (network : Network) (old new : State C M) → IsSound last_step network old

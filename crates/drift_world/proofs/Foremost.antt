@@ -6,7 +6,7 @@ use Rattle.drift_world.proofs.Words.{Port, Some, Wire, [], ap, arith, at_port, b
 use Rattle.drift_world.proofs.Words.{length, never, never_self, numbers_of, on_wire, rank_of, refl, slice_get-get_or, subst, sym, true, wire_at, wire_place, ℕ}
 use Rattle.std.proofs.Common.{All, get_or, slice_get}
 use Rattle.world_law.specs.world.World.{port_place}
-use Rattle.world_state.specs.{Views.port_at, declared.queue.Entry.Entry, timers.{Times.{IsFirst as IsFirstDue}}}
+use Rattle.world_state.specs.{Views.port_at, declared.queue.Entry.Entry, timers.Times.{IsFirst as IsFirstDue}}
 
 -- ---- places of one time, or of a later one
 
@@ -37,10 +37,7 @@ of_end until le (inr (e, b)) = b
 pub slot_time : (devices : ℕ) (due : Due) (p : List ℕ) → (IsBefore (due.time ∷ 3 ∷ due.slot ∷ []) p → ⊥)
     → (IsBefore (due.time ∷ 4 ∷ (due.slot - devices) ∷ []) p → ⊥) → IsBefore (due_place devices due) p → ⊥
 slot_time devices due p low high b =
-    elim (cases_lt due.slot devices) [
-      | inl lt ↦ low (subst (λ (q : List ℕ). IsBefore q p) (slot_low devices due lt) b)
-      | inr le ↦ high (subst (λ (q : List ℕ). IsBefore q p) (slot_high devices due le) b)
-    ]
+    grind (arith, cases_lt, slot_low, slot_high)
 
 -- ---- nothing under way, and no timer, is past
 
@@ -158,24 +155,8 @@ pub record HasShape (devices : ℕ) (due : Due) (p : List ℕ) : Type 0 where
 shape_of : {C M : Type 0} (reading : C → ℕ → ℕ) (network : Network) (state : State C M) (due : Due) (p : List ℕ)
     → (p ≡ due_place (length network.device) due) ⊎ IsRipePlace reading network state due p → HasShape (length network.device) due p
 shape_of reading network state due p (inl e) =
-    elim (cases_lt due.slot (length network.device)) [
-      | inl lt ↦ record { rank = 3; rest = due.slot ∷ []; is = e ∙ slot_low (length network.device) due lt; least = omega arith; most = omega arith }
-      | inr le ↦
-          record {
-            rank = 4;
-            rest = (due.slot - length network.device) ∷ [];
-            is = e ∙ slot_high (length network.device) due le;
-            least = omega arith;
-            most = omega arith;
-          }
-    ]
-shape_of reading network state due p (inr r) = record {
-  rank = 3;
-  rest = _;
-  is = r.place;
-  least = omega arith;
-  most = omega arith;
-}
+    grind (arith, cases_lt, length, slot_low, slot_high)
+shape_of reading network state due p (inr r) = grind arith
 
 module _ {C M : Type 0} (last_step : C → ℕ) (reading : C → ℕ → ℕ) (stands : M → Network → DeviceId → Node → Type 0) (network : Network)
     (state : State C M) (place : Option DueAt) (due : Option Due) (well : IsWell last_step reading stands network state)

@@ -1,16 +1,16 @@
 -- Once a record is given the state is sound again.
 use Rattle.drift_world.{proofs.Fitting.{apart_more, below_one_more}, specs.declared.state.State.State}
-use Rattle.drift_world.proofs.{Sendings.link_within, Words.{settled_at, stored_as, subst, sym, true, waiting_as, way_from, wire_entry, with_first, world_of, ℕ}}
-use Rattle.drift_world.proofs.Words.{◌&&◌, ◌+◌, ◌<◌, ◌↔◌, ◌∙◌, ◌∷◌, ◌≡◌, ◌⊎◌, Accepted, AreApart, AreUnderWay, Arrived, Bool, Changed, ChangesOnly, Compressed}
-use Rattle.drift_world.proofs.Words.{Content, Delivered, DeviceId, Dropped, DueAt, Giving, HasItsOctets, Holding, IfSome, IsGivenOut, IsIn, IsInRange}
-use Rattle.drift_world.proofs.Words.{IsPermutation, IsPermutation-sym, IsPutOn, Kept, Left, LinkId, List, Lost, Network, None, NoteBody, Option, Pcf, Permanent}
-use Rattle.drift_world.proofs.Words.{Settled, Some, Timed, TtSent, Waits, WayState, World, ap, arith, at_port, changed_device, delay_by, false, if◌then◌else◌}
+use Rattle.drift_world.proofs.{Sendings.link_within, Words.{settled_at, stored_as, subst, sym, waiting_as, way_from, wire_entry, with_first, world_of, ℕ}}
+use Rattle.drift_world.proofs.Words.{◌+◌, ◌<◌, ◌↔◌, ◌∙◌, ◌∷◌, ◌≡◌, ◌⊎◌, Accepted, AreApart, AreUnderWay, Arrived, Bool, Changed, ChangesOnly, Compressed}
+use Rattle.drift_world.proofs.Words.{Content, Delivered, DeviceId, Dropped, DueAt, Giving, HasItsOctets, IfSome, IsGivenOut, IsIn, IsInRange}
+use Rattle.drift_world.proofs.Words.{IsPermutation, IsPermutation-sym, IsPutOn, Left, LinkId, List, Lost, Network, None, NoteBody, Option, Pcf, Permanent}
+use Rattle.drift_world.proofs.Words.{Settled, Some, Timed, TtSent, Waits, WayState, ap, arith, at_port, changed_device, delay_by}
 use Rattle.drift_world.proofs.Words.{in_permuted, inl, inr, length, link_at, map, named_settled, not, numbers_of, on_wire, rank_of, receiver_of, refl}
-use Rattle.std.{proofs.{Common.slice_get, lemmas.List.Elements.{All-map, All-weaker}}, specs.{Option.option_map, Prelude.{All, filter_map}}}
-use Rattle.run_law.specs.{control.Permanence.waits_for, declared.note.NoteBody.TheVariants.{Clock, Corrected, Event, Sent}}
+use Rattle.std.{proofs.{Common.slice_get, lemmas.List.Elements.{All-map, All-weaker}}, specs.{Option.option_map, Prelude.All}}
+use Rattle.run_law.specs.declared.note.NoteBody.TheVariants.{Clock, Corrected, Event, Sent}
 use Rattle.world_law.{proofs.steps_lemmas.hearing.Receptions.receiver_in, specs.world.Moves.named_body}
 use Rattle.world_state.specs.declared.queue.Entry.{Entry}
-use Rattle.world_state.{proofs.UnderWays.sound_with, specs.{Frames.IsOneMore, Giving.{awaited_by, control_on_wire, place_on_wire, timed_on_wire, waits_from}}}
+use Rattle.world_state.{proofs.UnderWays.sound_with, specs.{Frames.IsOneMore, Giving.{awaited_by, control_on_wire, place_on_wire, timed_on_wire}}}
 
 -- ---- what is put to ports
 
@@ -141,13 +141,7 @@ pub record HasOneMore (body : NoteBody) (number : ℕ) (old new : List Waits) : 
 
 awaited_so : (network : Network) (broken : Bool) (body : NoteBody) (frame : Option Pcf) (reading number : ℕ)
     → IfSome (awaited_by network broken body frame reading number) (λ w. (w.cause ≡ number) × (w.device.0 ≡ changed_device body))
-awaited_so network broken (Arrived d l c k) frame reading number = by_test (not broken && waits_for network d l) frame
-  where
-    by_test : (b : Bool) (o : Option Pcf) → IfSome (if b then option_map (waits_from network d l k reading number) o else None)
-        (λ w. (w.cause ≡ number) × (w.device.0 ≡ d.0))
-    by_test true (Some f) = (refl, refl)
-    by_test true None = tt
-    by_test false o = tt
+awaited_so network broken (Arrived d l c k) frame reading number = grind (arith, not)
 awaited_so network broken other frame reading number = tt
 
 one_more : (body : NoteBody) (number : ℕ) (old new : List Waits) (o : Option Waits)
@@ -160,10 +154,7 @@ pub waits_more : {C M : Type 0} (reading : C → ℕ → ℕ) (network : Network
     → (new.waiting.items ≡ old.waiting.items) ⊎ HasOneMore body number old.waiting.items new.waiting.items
 waits_more reading network old new body frame number None out = inl out.no_wait
 waits_more reading network old new body frame number (Some g) out =
-    one_more body number old.waiting.items new.waiting.items (awaited_by network g.broken body (Some g.frame) g.reading number)
-    (awaited_so network g.broken body (Some g.frame) g.reading number)
-    (subst (λ (k : ℕ). IsOneMore (awaited_by network g.broken body (Some g.frame) g.reading k) old.waiting.items new.waiting.items) out.giver.numbered
-    out.waits)
+    grind (arith, one_more, awaited_so)
 
 waits_at : (number : ℕ) (xs ys : List Waits) → ys ≡ xs → All (λ w. w.cause < number) xs → All (λ w. w.cause < number + 1) ys
 waits_at number xs ys is all = subst (λ (l : List Waits). All (λ w. w.cause < number + 1) l) (sym is)
@@ -217,19 +208,7 @@ pub popped_world : {C M : Type 0} (network : Network) (old new : State C M) (fir
     → new ≡ record old { under_way = new.under_way; waiting = new.waiting; stored = new.stored; settled = new.settled }
     → with_first network new first new.settled.items ≡ world_of network old
 popped_world {C} {M} network old new first entries waiting stored settled same =
-    let make = λ (es : List (Entry Content)) (ws : List Waits) (hs : List Holding) (zs : List Settled).
-    let w : World C (Kept M) = record (world_of network old) {
-      wires = filter_map (on_wire network) es;
-      ports = filter_map at_port es;
-      waiting = map waiting_as ws;
-      stored = map (stored_as network) hs;
-      settled = map (settled_at network old.time) zs;
-    } in w in
-    ap (λ (q : State C M). with_first network q first new.settled.items) same
-    ∙ ap (λ (es : List (Entry Content)). make es new.waiting.items new.stored.items (first ∷ new.settled.items)) entries
-    ∙ ap (λ (ws : List Waits). make old.under_way.entries ws new.stored.items (first ∷ new.settled.items)) waiting
-    ∙ ap (λ (hs : List Holding). make old.under_way.entries old.waiting.items hs (first ∷ new.settled.items)) stored
-    ∙ ap (λ (zs : List Settled). make old.under_way.entries old.waiting.items old.stored.items zs) (sym settled)
+    grind (arith, world_of, on_wire, at_port, map, waiting_as, stored_as, settled_at, with_first)
 
 -- what the timers are for changes as it did since then
 pub changes_since : {C M : Type 0} (device : ℕ) (old mid new : State C M) → mid.clocks ≡ old.clocks → mid.time ≡ old.time → mid.ended ≡ old.ended
@@ -248,10 +227,4 @@ changes_since device old mid new clocks time ended machines waiting c = record {
 -- it is as it was, elsewhere in memory
 pub unchanged : {C M : Type 0} (device : ℕ) (old new : State C M) → new.clocks ≡ old.clocks → new.time ≡ old.time → new.ended ≡ old.ended
     → new.machines ≡ old.machines → new.waiting.items ≡ old.waiting.items → ChangesOnly device old new
-unchanged device old new clocks time ended machines waiting = record {
-  clocks = clocks;
-  time = time;
-  ended = ended;
-  machines = λ i apart. ap (λ v. slice_get v.items i) machines;
-  waiting = λ w apart. (λ i. subst (λ (l : List Waits). IsIn w l) waiting i, λ i. subst (λ (l : List Waits). IsIn w l) (sym waiting) i);
-}
+unchanged device old new clocks time ended machines waiting = grind (arith, slice_get)

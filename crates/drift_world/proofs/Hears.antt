@@ -1,6 +1,6 @@
 -- What is on a wire arrives: its device may hear it, and the world stands again.
 use Rattle.drift_world.proofs.Words.{if◌then◌else◌, ◌==◌, ◌∙◌, ◌∷◌, ◌≡◌, AreUnderWay, Bool, ComesFirst, Content, DeviceId, Err, Happening, IsBefore, IsHeld}
-use Rattle.drift_world.proofs.Words.{IsIn, IsPermutation, IsPermutation-sym, IsPutAt, Kept, LinkId, List, Moment, Network, Node, Note, Ok, OnWire, Option, Pcf}
+use Rattle.drift_world.proofs.Words.{IsIn, IsPermutation, IsPermutation-sym, IsPutAt, Kept, LinkId, List, Moment, Network, Node, Note, Ok, OnWire, Pcf}
 use Rattle.drift_world.proofs.Words.{DueAt, Result, Scenario, Settled, Signal, Some, Stands, StandsBehind, StandsFor, Units, Wire, World, [], amount, ap, arith}
 use Rattle.drift_world.proofs.Words.{at_port, behind, control, false, field, frame_by, frame_from, happenings, in_permuted, inl, inr, is_given, map, moment_of}
 use Rattle.drift_world.proofs.Words.{numbers_of, octets_by, octets_from, octets_in, octets_of, on_wire, pos, refl, settled_as, settled_at, signal_as, signal_of}
@@ -13,7 +13,7 @@ use Rattle.run_law.{proofs.runs.Determined.same_units, specs.{control.Arrivals.c
 use Rattle.run_law.specs.machines.{Calls.{MayArrive, MayCall}, Nodes.{arriving, last_taken_by, standpoint_at}}
 use Rattle.world_law.{proofs.giving.Given.some_same, specs.world.{Calls.{HasHeard, IsSet}, Outcomes.arrival_body, World.IsClockOf}}
 use Rattle.world_law.proofs.steps_lemmas.hearing.{Calling.may_call, HeardSteps.heard_step, OneMaster.may_arrive, Receptions.device_there}
-use Rattle.world_state.{proofs.UnderWays.{ports_stay, wires_without}, specs.{declared.{contents.{Signal.{Signal as SignalSent}}, queue.Entry.Entry}}}
+use Rattle.world_state.{proofs.UnderWays.{ports_stay, wires_without}, specs.declared.{contents.Signal.{Signal as SignalSent}, queue.Entry.Entry}}
 use Rattle.world_state.specs.Hearing.{AreOctetsOf, IsAsSent, MayCome, arrived, frame_kept, octets_kept, timed_in}
 use Rattle.run_law.specs.declared.steps.Arrival.TheVariants as arrivals
 use Rattle.world_state.specs.declared.contents.Signal.TheVariants as signals
@@ -76,11 +76,7 @@ told_settled : (network other : Network) (now : ℕ) (hs : List Happening) (plac
     → settled_at network now (arrived place is signal)
     ≡ settled_as other hs now (arrival_body (record { 0 = place.device }) (record { 0 = place.link }) place.cause is)
 told_settled network other now hs place signal is so =
-    let body = arrival_body (record { 0 = place.device }) (record { 0 = place.link }) place.cause is in
-    ap (λ (o : Option Pcf). let h : Happening = record
-    { note = record { number = 0; time = units_of now; body = body }; frame = o; octets = octets_in network (octets_kept is signal) } in h) so.frame
-    ∙ ap (λ (l : List ℕ). let h : Happening = record
-    { note = record { number = 0; time = units_of now; body = body }; frame = frame_by other hs body; octets = l } in h) so.octets
+    grind (arith, units_of, octets_in, frame_by)
 
 -- the record has its octets, where it needs them
 sent_octets : (place : DueAt) (given : _) (is : Arrival) → have_octets (arrived place is (signals.Octets given))
@@ -104,10 +100,7 @@ pub moment_is : {C : Type 0} (reading : C → ℕ → ℕ) (s : Scenario) (now :
     → IsClockOf reading s now device own → time ≡ units_of now → read.0 ≡ pos (reading clock (amount time))
     → record { time = time; reading = read } ≡ moment_of s device now
 moment_is reading s now device own clock time read same of at reads =
-    let is : read ≡ units_of (s.reading device now) = same_units _ _ (reads ∙ ap (λ (t : Units). pos (reading clock (amount t))) at
-    ∙ ap (λ k. pos (reading k now)) (sym same) ∙ ap pos (sym (of now (omega arith)))) in
-    ap (λ (t : Units). let m : Moment = record { time = t; reading = read } in m) at
-    ∙ ap (λ (r : Units). let m : Moment = record { time = units_of now; reading = r } in m) is
+    grind (arith, units_of, same_units, amount)
 
 -- ---- it may come
 

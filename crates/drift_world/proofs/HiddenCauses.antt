@@ -1,5 +1,5 @@
 -- What is settled is in the order of its places, also where the causes that are to come are hidden.
-use Rattle.drift_world.proofs.Words.{if◌then◌else◌, ◌++◌, ◌<◌, ◌∙◌, ◌∷◌, ◌≡◌, ◌≤◌, ◌⊎◌, AreSettled, Bool, Changed}
+use Rattle.drift_world.proofs.Words.{if◌then◌else◌, ◌++◌, ◌<◌, ◌∙◌, ◌∷◌, ◌≡◌, ◌≤◌, ◌⊎◌, AreSettled, Changed}
 use Rattle.drift_world.proofs.Words.{DeviceId, Happening, IsBefore, IsIn, List, Network, Node, NoneBefore, Note, NoteBody}
 use Rattle.drift_world.proofs.Words.{Scenario, Stands, World, [], ap, append_assoc, arith, cases_lt, chain, happenings, hidden, hidden_body, in_right}
 use Rattle.drift_world.proofs.Words.{inl, inr, le-ltb, length, lt-ltb, map, nat_lt, never_self, none_yet, parted, place_of, rank, refl, subst, sym, time_of, ℕ}
@@ -35,12 +35,7 @@ parts : (t u r q : ℕ) (xs ys vs ws : List ℕ) → IsBefore (t ∷ r ∷ xs) (
 parts t u r q xs ys vs ws (inl a) (inl b) apart = omega (arith, a, b)
 parts t u r q xs ys vs ws (inl a) (inr b) apart = let e = b.0 in omega (arith, a, e)
 parts t u r q xs ys vs ws (inr a) (inl b) apart = let e = a.0 in omega (arith, b, e)
-parts t u r q xs ys vs ws (inr a) (inr b) apart = by_ranks a.1 b.1
-  where
-    by_ranks : (r < q) ⊎ ((r ≡ q) × IsBefore xs ys) → (q < r) ⊎ ((q ≡ r) × IsBefore vs ws) → ⊥
-    by_ranks (inl x) (inl y) = omega (arith, x, y)
-    by_ranks (inl x) (inr y) = apart (sym y.0)
-    by_ranks (inr x) y = apart x.0
+parts t u r q xs ys vs ws (inr a) (inr b) apart = grind arith
 
 -- two changes of state
 two_changes : (t u d e c b c' b' : ℕ) → (c < b → c' ≤ b') → IsBefore (t ∷ 7 ∷ d ∷ c ∷ []) (u ∷ 7 ∷ e ∷ b ∷ [])
@@ -59,18 +54,7 @@ two_changes t u d e c b c' b' up (inr (s, inr (r, inr (q, inr x)))) y = x.1
 
 hides_up : (given c b : ℕ) → given < none_yet → c < b → (if nat_lt given c then none_yet else c) ≤ (if nat_lt given b then none_yet else b)
 hides_up given c b few lt =
-    elim (cases_lt given c) [
-      | inl late ↦
-          let first = ap (λ (x : Bool). if x then none_yet else c) (lt-ltb given c late) in
-          let second = ap (λ (x : Bool). if x then none_yet else b) (lt-ltb given b (omega (arith, late, lt))) in
-          omega (arith, first, second)
-      | inr known ↦
-          let first = ap (λ (x : Bool). if x then none_yet else c) (le-ltb given c known) in
-          elim (cases_lt given b) [
-            | inl late ↦ let second = ap (λ (x : Bool). if x then none_yet else b) (lt-ltb given b late) in omega (arith, first, second, known, few)
-            | inr both ↦ let second = ap (λ (x : Bool). if x then none_yet else b) (le-ltb given b both) in omega (arith, first, second, lt)
-          ]
-    ]
+    grind (arith, cases_lt, none_yet, lt-ltb, le-ltb)
 
 abbrev placed : ℕ → ℕ → NoteBody → List ℕ
 placed t members body = t ∷ rank body ∷ key members body

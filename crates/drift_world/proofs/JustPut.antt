@@ -8,7 +8,7 @@ use Rattle.std.{proofs.Common.{Bor, option_map}, specs.Option.option_copied}
 use Rattle.net_plan.specs.declared.event.Event.{Event}
 use Rattle.tte_lemmas.proofs.Lists.{some_at}
 use Rattle.world_law.{proofs.giving.Given.some_same, specs.source.Sources.IsArriving}
-use Rattle.world_state.specs.{declared.{contents.{Signal.{Signal as Sent}}}, queue.Finding.{HoldsAt, HoldsNoneAt}}
+use Rattle.world_state.specs.{declared.contents.Signal.{Signal as Sent}, queue.Finding.{HoldsAt, HoldsNoneAt}}
 
 -- ---- what is found
 
@@ -20,10 +20,7 @@ wired (Port frame reading) is = absurd (omega (arith, is))
 -- and what is on a wire has its rank, and its cause
 of_wire : (network : Network) (place : DueAt) (content : Content) (e : OnWire) → wire_at network place content ≡ Some e
     → (rank_of content ≡ 2) × (e.cause ≡ place.cause)
-of_wire network place (Wire signal) e is = (refl, sym (ap (λ (w : OnWire). w.cause) (one is)))
-  where
-    one : {x y : OnWire} → Some x ≡ Some y → x ≡ y
-    one same = cc
+of_wire network place (Wire signal) e is = grind arith
 of_wire network place (Port frame reading) e is = absurd cc
 
 -- a record behind those of the events of its time is not before them

@@ -30,10 +30,7 @@ gives_within network (Sent master cycle) device link gives = within_and (λ (l :
 gives_within network (Compressed cm opened at cycle members verdict) device link gives =
     within_and (λ (l : Link). l.parent ≡ device) network.link link.0 _ refl gives.1
 gives_within network (Arrived relay from cause clock) device link gives =
-    elim gives.1.on [
-      | inl up ↦ within_and (λ (l : Link). l.child ≡ device) network.link link.0 _ refl up.1
-      | inr down ↦ within_and (λ (l : Link). l.parent ≡ device) network.link link.0 _ refl down.1
-    ]
+    grind (arith, within_and)
 gives_within network other device link gives = absurd gives
 
 pub gives_by : (network : Network) (body : NoteBody) (device : DeviceId) (link : LinkId) → Gives network body device link
@@ -60,10 +57,7 @@ pub gives_in : (network : Network) (body : NoteBody) (device : DeviceId) (link :
 gives_in network (Sent master cycle) device link range gives = child_in network device link.0 _ refl range gives.1
 gives_in network (Compressed cm opened at cycle members verdict) device link range gives = parent_in network device link.0 _ refl range gives.1
 gives_in network (Arrived relay from cause clock) device link range gives =
-    elim gives.1.on [
-      | inl up ↦ child_in network device link.0 _ refl range up.1
-      | inr down ↦ parent_in network device link.0 _ refl range down.1
-    ]
+    grind (arith, child_in, parent_in)
 gives_in network other device link range gives = absurd gives
 
 -- ---- the ways

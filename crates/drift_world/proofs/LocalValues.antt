@@ -1,7 +1,7 @@
 -- The values that local clocks show, where the machines' adjustments are small.
 use Rattle.drift_world.proofs.Words.{◌+◌, ◌<◌, ◌^◌, ◌∙◌, ◌≡◌, ◌≤◌, Bool, DeviceId, DeviceState, Happening, IfSome, IsComplete, IsHeld, Kept, List, Network}
 use Rattle.drift_world.proofs.Words.{Node, Note, Option, Scenario, Shows, Stands, Units, ap, arith, false, happenings, inl, inr, ints, is_broken, keeps, length}
-use Rattle.drift_world.proofs.Words.{local_shown, reading_of, refl, subst, sym, true, world_of, ℕ, ℤ}
+use Rattle.drift_world.proofs.Words.{local_shown, reading_of, subst, sym, true, world_of, ℕ, ℤ}
 use Rattle.clock_correction.specs.Deviation.{IsSmall}
 use Rattle.net_plan.specs.declared.event.Event.{Event}
 use Rattle.world_law.{proofs.giving.Given.{no_later_breaks, some_same}, specs.world.World.HaveBefallen}
@@ -20,10 +20,7 @@ shown_small : (broken : Bool) (state : DeviceState) (reading : ℕ) (adjustment 
     → (broken ≡ false → IsSmall adjustment.0) → IfSome (local_shown broken state reading adjustment) IsLocalValue
 shown_small true state reading adjustment low small = tt
 shown_small false states.Synchronised reading adjustment low small =
-    let is = small refl in
-    let least = is.0 in
-    let most = is.1 in
-    record { low = omega (arith, ints, low, least); high = omega (arith, ints, low, most) }
+    grind (arith, ints)
 shown_small false states.Off reading adjustment low small = tt
 shown_small false states.Integrating reading adjustment low small = tt
 shown_small false states.Joining reading adjustment low small = tt
@@ -34,12 +31,7 @@ small_held : {M : Type 0} (stands : M → Network → DeviceId → Node → Type
     → IsHeld (keeps stands) s hs coming cursor now device kept
     → (node : Node) × keeps stands kept s.network device node × (is_broken s device now ≡ false → IsSmall node.standing.adjustment.0)
 small_held stands small s hs coming mark cursor now device kept befallen (inl k) =
-    let later : now ≤ k.up = elim k.acted [ inl yet ↦ (let at = yet.0 in omega (arith, at)) | inr over ↦ (let at = over.0 in omega (arith, at)) ] in (
-      k.node,
-      k.is,
-      λ sound.
-          small_kept stands small kept s.network device k.node k.is (k.left.counted.broken ∙ no_later_breaks s mark now k.up device befallen later ∙ sound),
-    )
+    grind (arith, small_kept, no_later_breaks)
 small_held stands small s hs coming mark cursor now device kept befallen (inr k) =
     (k.node, k.is, λ sound. (let no : true ≡ false = sym k.broken ∙ sound in absurd cc))
 

@@ -1,8 +1,8 @@
 -- The local clock of a device, as a world shows it, is that of the records.
-use Rattle.drift_world.proofs.Words.{if◌then◌else◌, ◌++◌, ◌+ℤ◌, ◌+◌, ◌<◌, ◌∙◌, ◌∷◌, ◌≡◌, ◌≤◌, Bool, DeviceId, DeviceState, Happening, IsBefore, IsComplete}
+use Rattle.drift_world.proofs.Words.{◌++◌, ◌+◌, ◌<◌, ◌∙◌, ◌∷◌, ◌≡◌, ◌≤◌, Bool, DeviceId, DeviceState, Happening, IsBefore, IsComplete}
 use Rattle.drift_world.proofs.Words.{IsDue, IsIn, IsScenarioRun, Kept, List, Network, Node, Note, Option, RateStep, Scenario, Shows, Stands, Units, World, []}
 use Rattle.drift_world.proofs.Words.{amount, ap, append-nil, arith, breaks_at, chain, false, filter, happenings, inl, inr, is_broken, keeps, le-leb, length}
-use Rattle.drift_world.proofs.Words.{list_any, local_shown, nat_le, never_self, numbered_in, place_of, pos, rate_steps, reading_of, refl, scenario, subst, suc}
+use Rattle.drift_world.proofs.Words.{list_any, local_shown, nat_le, never_self, numbered_in, place_of, rate_steps, reading_of, refl, scenario, subst, suc}
 use Rattle.drift_world.proofs.Words.{sym, time_of, true, world_of, ℕ, ℤ}
 use Rattle.std.specs.List.{All}
 use Rattle.drift_clock.specs.Readings.{value_after}
@@ -19,9 +19,7 @@ all_befallen : (t : ℕ) (events : List Event) → ((e : Event) → IsIn e event
     → filter (λ (e : Event). nat_le (amount e.time) t) events ≡ events
 all_befallen t [] past = refl
 all_befallen t (e ∷ events) past =
-    let rest = filter (λ (d : Event). nat_le (amount d.time) t) events in
-    ap (λ (b : Bool). if b then e ∷ rest else rest) (le-leb (amount e.time) t (past e (inl refl)))
-    ∙ ap (λ (l : List Event). e ∷ l) (all_befallen t events (λ d i. past d (inr i)))
+    grind (arith, filter, nat_le, amount, le-leb, (all_befallen t events (λ d i. past d (inr i))))
 
 -- so no device breaks between then and a later time
 still_broken : (s : Scenario) (device : DeviceId) (t now : ℕ) → t ≤ now → ((e : Event) → IsIn e s.events → amount e.time ≤ t)
@@ -109,14 +107,8 @@ clock_stepped fresh after_step last_step begins by network events device t past 
 shown_is : (s : Scenario) (hs : List Happening) (device : DeviceId) (t : ℕ) (broken : Bool) (state : DeviceState) (x : ℕ) (a : Units)
     → is_broken s device t ≡ broken → state_after s (up_to t hs) device ≡ state → x ≡ s.reading device t → a ≡ adjustment_after s (up_to t hs) device
     → IsLocalClock s hs device t (local_shown broken state x a)
-shown_is s hs device t true state x a broken in_state reads adjusts = λ step. no_bool (sym broken ∙ step.correct)
-  where
-    no_bool : true ≡ false → ⊥
-    no_bool e = cc
-shown_is s hs device t false states.Synchronised x a broken in_state reads adjusts = (
-  record { correct = broken; synchronised = in_state },
-  ap (λ (n : ℕ). pos n +ℤ a.0) reads ∙ ap (λ (u : Units). pos (s.reading device t) +ℤ u.0) adjusts,
-)
+shown_is s hs device t true state x a broken in_state reads adjusts = grind arith
+shown_is s hs device t false states.Synchronised x a broken in_state reads adjusts = grind arith
 shown_is s hs device t false states.Off x a broken in_state reads adjusts =
     λ step. (let no : ◌≡◌ {A = DeviceState} states.Off states.Synchronised = sym in_state ∙ step.synchronised in cc)
 shown_is s hs device t false states.Integrating x a broken in_state reads adjusts =

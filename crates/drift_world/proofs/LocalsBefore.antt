@@ -1,7 +1,7 @@
 -- The local clock of a device before the records of the present time, as a world shows it, is that of the records.
-use Rattle.drift_world.proofs.Words.{◌++◌, ◌+ℤ◌, ◌<◌, ◌∙◌, ◌∷◌, ◌≡◌, Bool, DeviceId, DeviceState, Happening, IsBefore, IsHeld, IsIn, IsLocalClockBefore, Kept}
+use Rattle.drift_world.proofs.Words.{◌++◌, ◌<◌, ◌∙◌, ◌∷◌, ◌≡◌, Bool, DeviceId, DeviceState, Happening, IsBefore, IsHeld, IsIn, IsLocalClockBefore, Kept}
 use Rattle.drift_world.proofs.Words.{List, Network, Node, Note, Option, Scenario, Shows, Stands, Units, World, [], ap, append-nil, arith, false, happenings}
-use Rattle.drift_world.proofs.Words.{inl, inr, is_broken, keeps, length, local_shown, never_self, pos, refl, subst, sym, true, world_of, ℕ, ℤ}
+use Rattle.drift_world.proofs.Words.{inl, inr, is_broken, keeps, length, local_shown, never_self, refl, subst, sym, true, world_of, ℕ, ℤ}
 use Rattle.run_law.specs.device.States.{adjustment_before, state_before}
 use Rattle.world_law.{proofs.giving.Given.some_same, specs.world.World.IsKept}
 use Rattle.drift_world.{proofs.Locals.no_first, specs.declared.state.State.State}
@@ -57,10 +57,7 @@ shown_before : (s : Scenario) (hs : List Happening) (device : DeviceId) (t : ℕ
     → (is_broken s device t ≡ false → (state ≡ state_before s hs device t) × (a ≡ adjustment_before s hs device t))
     → IsLocalClockBefore s hs device t (local_shown broken state x a)
 shown_before s hs device t true state x a broken reads shows = λ step. (let no : true ≡ false = sym broken ∙ step.correct in cc)
-shown_before s hs device t false states.Synchronised x a broken reads shows = (
-  record { correct = broken; synchronised = sym (shows broken).0 },
-  ap (λ (n : ℕ). pos n +ℤ a.0) reads ∙ ap (λ (u : Units). pos (s.reading device t) +ℤ u.0) (shows broken).1,
-)
+shown_before s hs device t false states.Synchronised x a broken reads shows = grind arith
 shown_before s hs device t false states.Off x a broken reads shows = λ step.
     (let no : ◌≡◌ {A = DeviceState} states.Off states.Synchronised = (shows broken).0 ∙ step.synchronised in cc)
 shown_before s hs device t false states.Integrating x a broken reads shows = λ step.

@@ -2,7 +2,7 @@
 use Rattle.drift_world.proofs.Words.{◌+◌, ◌<◌, ◌^◌, ◌∙◌, ◌∷◌, ◌≡◌, ◌≤◌, Accepted, Arrived, ArrivedAt, Arrives, Changed, Compressed, Delivered, DeviceId}
 use Rattle.drift_world.proofs.Words.{Dropped, Happening, HasItsOctets, IsCaused, IsDue, IsFounded, IsInRange, Left, LinkId, List, Lost, Network, Node, None}
 use Rattle.drift_world.proofs.Words.{Note, NoteBody, Option, Pcf, Permanent, Scenario, Settled, Some, Stands, TtSent, Units, World, [], amount, ap, append-nil}
-use Rattle.drift_world.proofs.Words.{arith, frame_by, happenings, hidden_body, inl, inr, length, link_at, numbered_in, place_of, refl, same_Some, settled_at}
+use Rattle.drift_world.proofs.Words.{arith, frame_by, happenings, hidden_body, length, link_at, numbered_in, place_of, refl, same_Some, settled_at}
 use Rattle.drift_world.proofs.Words.{slice_get_within, subst, sym, time_of, with_clock, ℕ}
 use Rattle.drift_world.proofs.{FirstSettled.first_of, HiddenCauses.change_or_other, Sendings.link_within}
 use Rattle.std.{proofs.Common.slice_get, specs.Prelude.{option_and_then, option_map}}
@@ -71,12 +71,7 @@ caused_may s hs time (Clock a b c d) frame range founded caused own = record { b
 -- a record that hides its cause may be given as it may with it
 hidden_may : (network : Network) (given : ℕ) (body : NoteBody) (frame : Option Pcf) → MayBut network body frame → MayBut network (hidden_body given body) frame
 hidden_may network given body frame may =
-    elim (change_or_other given body) [
-      | inl a ↦
-          subst (λ (b : NoteBody). MayBut network (hidden_body given b) frame) (sym a.is)
-          (record { by = tt; young = tt; arrived = tt; framed = λ d is none. absurd cc })
-      | inr a ↦ subst (λ (b : NoteBody). MayBut network b frame) (sym a.same) may
-    ]
+    grind (arith, change_or_other, hidden_body)
 
 -- ---- the first of what is settled
 

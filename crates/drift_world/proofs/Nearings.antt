@@ -8,7 +8,7 @@ use Rattle.drift_world.specs.declared.{next.Turn.TheVariants.{Ends, Gives, GoesO
 use Rattle.std.proofs.{Common.{drop, slice_get}, Math.Nat.mul-le-mul_right, lemmas.List.length-drop}
 use Rattle.run_law.specs.machines.Tasks.{IsPending}
 use Rattle.world_law.proofs.giving.Given.{some_same}
-use Rattle.world_state.specs.{Befalling.{AreSettledBy, entry_of}, declared.queue.Entry.Entry}
+use Rattle.world_state.specs.{Befalling.AreSettledBy, declared.queue.Entry.Entry}
 
 -- ---- times that have come
 
@@ -22,11 +22,7 @@ come_now now t ts le = ap (λ (b : Bool). if b then come now ts else come now ts
 pub come_most : (now : ℕ) (ts : List ℕ) → come now ts ≤ length ts
 come_most now [] = omega arith
 come_most now (t ∷ ts) =
-    let rest = come_most now ts in
-    elim (cases_lt now t) [
-      | inl lt ↦ subst (λ (n : ℕ). n ≤ suc (length ts)) (sym (come_later now t ts lt)) (omega (arith, rest))
-      | inr le ↦ subst (λ (n : ℕ). n ≤ suc (length ts)) (sym (come_now now t ts le)) (omega (arith, rest))
-    ]
+    grind (arith, cases_lt, length, come_later, come_now, (come_most now ts))
 
 -- as many, where the times are the same
 come_same : (now : ℕ) (xs ys : List ℕ) → ((j : ℕ) → slice_get ys j ≡ slice_get xs j) → come now ys ≡ come now xs
@@ -87,9 +83,7 @@ pub settled_length : (network : Network) (broken : List Bool) (ups : List WaySta
 settled_length network broken ups time [] settled after entries then_ are =
     let e : length then_ ≡ length entries = ap length are.1 in omega (arith, e)
 settled_length network broken ups time (b ∷ befell) settled after entries then_ (mid, between, one, put, rest) =
-    let more = put_length (entry_of network ups time b.number b.what) entries between put in
-    let all = settled_length network broken ups time befell mid after between then_ rest in
-    omega (arith, more, all)
+    grind (arith, put_length, (settled_length network broken ups time befell mid after between then_ rest))
 
 -- ---- steps
 
@@ -232,13 +226,7 @@ pub settled_less : {C M : Type 0} (network : Network) (old new : State C M) → 
       pending = new.pending;
     } → IsLess network old new
 settled_less network old new was is most same =
-    let weight : Bool → ℕ = λ b. if b then 1 else 0 in
-    let none : weight new.pending ≡ 0 = ap weight is in
-    let one : weight old.pending ≡ 1 = ap weight was in
-    let waiting : length new.waiting.items ≡ length old.waiting.items = ap (λ (t : State _ _). length t.waiting.items) same in
-    let shown : length network.device - new.shown ≡ length network.device - old.shown =
-    ap (λ (t : State _ _). length network.device - t.shown) same in
-    inl (omega (arith, none, one, waiting, shown, most))
+    grind (arith, length)
 
 -- a clock is shown
 pub shown_less : {C M : Type 0} (network : Network) (old new : State C M)

@@ -1,11 +1,11 @@
 -- A device that began off, and that no event turned on, is off.
-use Rattle.drift_world.proofs.Words.{if◌then◌else◌, ◌&&◌, ◌++◌, ◌==◌, ◌∙◌, ◌∷◌, ◌≡◌, Bool, DeviceId, Happening, Integrating, IsCaused, IsDue, IsIn, IsSomeAnd}
+use Rattle.std.{proofs.Common.{arith, fold}, specs.Prelude.MatchBool}
+use Rattle.drift_world.proofs.Words.{if◌then◌else◌, ◌&&◌, ◌++◌, ◌==◌, ◌∙◌, ◌∷◌, ◌≡◌, Bool, DeviceId, Happening, Integrating, IsCaused, IsDue, IsIn}
 use Rattle.drift_world.proofs.Words.{Joining, LinkId, List, None, NoteBody, Off, Option, Scenario, Some, Units, [], amount, and_parts, any_in, ap, append_assoc}
 use Rattle.drift_world.proofs.Words.{false, false_from_ne_true, in_filter, in_parts, inl, inr, is_turned_on_at, nat_lt, numbered_in, refl, subst, sym, time_of}
 use Rattle.drift_world.proofs.Words.{true, turns_on, ℕ, ℤ}
-use Rattle.std.{proofs.Common.{◌||◌, fold}, specs.Prelude.{IsNone, MatchBool, option_and_then}}
 use Rattle.compression.specs.Clusters.{point_at}
-use Rattle.net_plan.{proofs.SameIds.one_device, specs.{Places.device_at, declared.{event.{Event.Event, What.TheVariants.On}, tables.Device.Device}}}
+use Rattle.net_plan.{proofs.SameIds.one_device, specs.declared.{event.{Event.Event, What.TheVariants.On}, tables.Device.Device}}
 use Rattle.pcf_values.specs.declared.members.Members.{Members}
 use Rattle.run_law.proofs.{control.Verdicts.role_not, law.FirstPlaces.in_at, scenario.Devices.on_by}
 use Rattle.run_law.specs.control.{Collections.{master_of, observation_window, point_fault, points_of}, Corrections.{ComesToCorrection, next_cycle}}
@@ -34,13 +34,7 @@ none_joined : (device : DeviceId) (t : ℕ) (hs : List Happening) → ((h : Happ
     → has_joined_at hs device t ≡ false
 none_joined device t [] still = refl
 none_joined device t (h ∷ hs) still =
-    ap (λ (b : Bool). (time_of h == t && b) || has_joined_at hs device t)
-    (joins_no_other device h.note.body (still h (inl refl)))
-    ∙ ap (λ (b : Bool). b || has_joined_at hs device t) (and_false (time_of h == t)) ∙ none_joined device t hs (λ g i. still g (inr i))
-  where
-    and_false : (b : Bool) → (b && false) ≡ false
-    and_false true = refl
-    and_false false = refl
+    grind (arith, time_of, joins_no_other, (none_joined device t hs (λ g i. still g (inr i))))
 
 unmoved : (device : DeviceId) (first : State) (hs : List Happening) → ((h : Happening) → IsIn h hs → moves device h.note.body ≡ false)
     → fold (λ state h. state_with device state h.note.body) first hs ≡ first
@@ -177,12 +171,4 @@ module _ (s : Scenario) (device : DeviceId) (begins : state_at_start (start_of s
 
 -- a device that does not begin on begins off
 pub begins_off : (s : Scenario) (device : DeviceId) → (BeginsOn s.network device → ⊥) → state_at_start (start_of s.network device) ≡ Off
-begins_off s device not = from (device_at s.network device) not
-  where
-    by_start : (o : Option Units) → ((IsNone o → ⊥) → ⊥) → state_at_start o ≡ Off
-    by_start None not = refl
-    by_start (Some u) not = absurd (not (λ none. cc))
-
-    from : (o : Option Device) → (IsSomeAnd o (λ d. IsNone d.start → ⊥) → ⊥) → state_at_start (option_and_then (λ (d : Device). d.start) o) ≡ Off
-    from None not = refl
-    from (Some d) not = by_start d.start not
+begins_off s device not = grind arith

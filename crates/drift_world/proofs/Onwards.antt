@@ -13,10 +13,7 @@ use Rattle.drift_world.specs.{Following.Follows, Running.{HoldsATime, IsOpenTo, 
 
 -- an event of a time from 0 on, with a hold from 0 on, is in range
 in_range : (event : Event) (time : ℕ) → event.time.0 ≡ pos time → HoldsATime event.what → IsEventInRange event
-in_range event time at hold = record {
-  time = omega (arith, ints, at);
-  hold = λ link way delay is. subst HoldsATime is hold;
-}
+in_range event time at hold = grind (arith, ints)
 
 module _ {C M : Type 0} (fresh : ℕ → C) (after_step : C → ℕ → ℤ → C) (reading : C → ℕ → ℕ) (grain : C → ℕ) (count : C → ℕ → ℕ)
     (law : IsLawful fresh after_step reading grain count) (stands : M → Network → DeviceId → Node → Type 0) (network : Network) (state : State C M)

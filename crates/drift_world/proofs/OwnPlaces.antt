@@ -1,15 +1,12 @@
 -- A record alone: it stands at the place of its source, and is given with nothing else settled.
 use Rattle.drift_world.{proofs.Turning.{comes_first, is_at, ranked_at}, specs.{Turns.{IsNow, MayWork, source_place}, declared.source.Source.Source}}
-use Rattle.drift_world.proofs.Words.{◌++◌, ◌^◌, ◌∙◌, ◌∷◌, ◌≡◌, AtPort, Bool, ChangesOnly, Content, DeviceId, DueAt, Happening, Holding, IfSome, IsBefore}
+use Rattle.drift_world.proofs.Words.{◌++◌, ◌^◌, ◌∙◌, ◌∷◌, ◌≡◌, AtPort, Bool, ChangesOnly, DeviceId, DueAt, Happening, IfSome, IsBefore}
 use Rattle.drift_world.proofs.Words.{IsPutAt, Kept, List, Network, NoSourceBefore, Node, None, Note, Option, Scenario, Settled, Some, Stands, Waits, World, []}
 use Rattle.drift_world.proofs.Words.{ap, arith, at_port, behind, chain, changed_device, departure_body, happenings, keeps, map, numbers_of, on_wire}
 use Rattle.drift_world.proofs.Words.{option_map_or, own_place, place_of, rank, refl, ripe_place, settled_at, stored_as, subst, sym, waiting_as, with_first}
 use Rattle.drift_world.{proofs.Words.{world_of, ℕ}, specs.{Giving.IsRunningWith, Ripening.IsJudged, Stepping.StandsPast, declared.state.State.State}}
-use Rattle.std.specs.{List.insert, Prelude.filter_map}
-use Rattle.world_state.specs.{Hearing.arrived, declared.queue.Entry.Entry}
-use Rattle.world_state.specs.{Leaving.{departed, departure_by}, Ripening.{AreSettledSo, ripe_record}, declared.{contents.{Signal.{Signal as SignalSent}}}}
-use Rattle.run_law.proofs.runs.Places.{before_behind}
-use Rattle.run_law.specs.{control.Leaving.{Departure, leaves, on_cut_way, too_old}, declared.steps.{Arrival.Arrival, Ripe.Ripe}, records.Ranks.key}
+use Rattle.world_state.specs.{Hearing.arrived, Leaving.departed, Ripening.{AreSettledSo, ripe_record}, declared.{contents.{Signal.{Signal as SignalSent}}}}
+use Rattle.run_law.{proofs.runs.Places.before_behind, specs.declared.steps.{Arrival.Arrival, Ripe.Ripe}}
 use Rattle.run_law.specs.declared.steps.Arrival.TheVariants as arrivals
 use Rattle.run_law.specs.declared.steps.Ripe.TheVariants as ripe
 
@@ -34,21 +31,10 @@ arrived_device place other signal e = absurd (omega (arith, e))
 pub departed_own : (network : Network) (reading : ℕ) (cut : Bool) (e : AtPort) → rank (departed network reading cut e).body ≡ 8
     → own_place (departed network reading cut e) ≡ 8 ∷ e.device.0 ∷ e.link.0 ∷ e.cause ∷ []
 departed_own network reading cut e =
-    by (departure_by network reading cut e) (option_map_or (λ frame. frame.members.0) (departed network reading cut e).frame 0)
-  where
-    by : (d : Departure) (members : ℕ) → rank (departure_body e d) ≡ 8
-        → rank (departure_body e d) ∷ key members (departure_body e d) ≡ 8 ∷ e.device.0 ∷ e.link.0 ∷ e.cause ∷ []
-    by (leaves clock) members is = refl
-    by too_old members is = absurd (omega (arith, is))
-    by on_cut_way members is = absurd (omega (arith, is))
+    grind (arith, option_map_or, rank, departure_body)
 
 pub departed_none : (network : Network) (reading : ℕ) (cut : Bool) (e : AtPort) → changed_device (departed network reading cut e).body ≡ 2 ^ 32
-departed_none network reading cut e = by (departure_by network reading cut e)
-  where
-    by : (d : Departure) → changed_device (departure_body e d) ≡ 2 ^ 32
-    by (leaves clock) = refl
-    by too_old = refl
-    by on_cut_way = refl
+departed_none network reading cut e = grind (arith, changed_device, departure_body)
 
 pub left_own : (network : Network) (now : ℕ) (place : DueAt) (one : Option Settled) → place.at ≡ now → place.rank ≡ 8
     → IfSome one (λ z. rank z.body ≡ 8 → own_place z ≡ 8 ∷ place.device ∷ place.link ∷ place.cause ∷ [])
@@ -85,10 +71,7 @@ judged_alone w other settled judged none = record { mid = _; at = 0; first = put
 
 pub put_on_none : (z : Settled) (settled new : List Settled) (at : ℕ) → settled ≡ [] → IsPutAt z settled new at → new ≡ z ∷ []
 put_on_none z settled new at none put =
-    let own = subst (λ (l : List Settled). IsPutAt z l new at) none put in
-    let within = own.within in
-    let zero : at ≡ 0 = omega (arith, within) in
-    own.is ∙ ap (λ (n : ℕ). insert [] n z) zero
+    grind arith
 
 -- the world of a state in which it alone is settled, elsewhere in memory
 pub lone_world : {C M : Type 0} (network : Network) (old new : State C M) (first : Settled) (rest : List Settled)
@@ -96,19 +79,7 @@ pub lone_world : {C M : Type 0} (network : Network) (old new : State C M) (first
     → new ≡ record old { under_way = new.under_way; waiting = new.waiting; stored = new.stored; settled = new.settled }
     → with_first network new first rest ≡ with_first network old first []
 lone_world {C} {M} network old new first rest entries waiting stored none same =
-    let make = λ (es : List (Entry Content)) (ws : List Waits) (hs : List Holding) (zs : List Settled).
-    let w : World C (Kept M) = record (world_of network old) {
-      wires = filter_map (on_wire network) es;
-      ports = filter_map at_port es;
-      waiting = map waiting_as ws;
-      stored = map (stored_as network) hs;
-      settled = settled_at network old.time first ∷ map (settled_at network old.time) zs;
-    } in w in
-    ap (λ (q : State C M). with_first network q first rest) same
-    ∙ ap (λ (es : List (Entry Content)). make es new.waiting.items new.stored.items rest) entries
-    ∙ ap (λ (ws : List Waits). make old.under_way.entries ws new.stored.items rest) waiting
-    ∙ ap (λ (hs : List Holding). make old.under_way.entries old.waiting.items hs rest) stored
-    ∙ ap (λ (zs : List Settled). make old.under_way.entries old.waiting.items old.stored.items zs) none
+    grind (arith, world_of, on_wire, at_port, map, waiting_as, stored_as, settled_at, with_first)
 
 pub settled_alone : {C M : Type 0} (network : Network) (old new : State C M) (first : Settled)
     → new.under_way.entries ≡ old.under_way.entries → new.waiting.items ≡ old.waiting.items → new.stored.items ≡ old.stored.items

@@ -1,9 +1,9 @@
 -- A record that is put in at its place.
 use Rattle.drift_world.proofs.{HiddenCauses.InOrder, Words.{subst, suc, sym, true, units_of, with_clock, zero, ℕ}}
 use Rattle.drift_world.proofs.Words.{◌++◌, ◌+◌, ◌<◌, ◌∙◌, ◌∷◌, ◌≡◌, ◌≤◌, ArePutIn, AtPort, Bool, Happening, IsBefore, IsPutAt, IsSomePut, List, Network, None}
-use Rattle.drift_world.proofs.Words.{NoneBefore, NoteBody, Option, Pcf, Scenario, Settled, Some, [], ap, arith, chain, departure_body, false, frame_from}
+use Rattle.drift_world.proofs.Words.{NoneBefore, NoteBody, Scenario, Settled, Some, [], ap, arith, chain, departure_body, false, frame_from}
 use Rattle.drift_world.proofs.Words.{if◌then◌else◌, in_parts, in_right, inl, inr, length, map, never_self, own_place, place_of, refl, settled_as, settled_at}
-use Rattle.std.{proofs.{Common.{drop, get_or, take}, lemmas.List.take-append-drop}, specs.Option.{option_and_then, option_map}}
+use Rattle.std.{proofs.{Common.{drop, get_or, take}, lemmas.List.take-append-drop}, specs.Option.option_and_then}
 use Rattle.run_law.{proofs.runs.Places.{either_way, in_left}, specs.{control.Leaving.{Departure, leaves, on_cut_way, too_old}, records.Order.AllBefore}}
 use Rattle.world_law.specs.world.{Moves.IsPutIn, World.IsAtPort}
 use Rattle.world_state.specs.Leaving.{frame_after}
@@ -94,9 +94,7 @@ some_put_in other network now hs body z old new false put order is = one_put_in 
 pub departed_is : (other network : Network) (now : ℕ) (hs : List Happening) (e : AtPort) (d : Departure) → frame_from hs e.cause ≡ Some e.frame
     → settled_at network now (record { body = departure_body e d; frame = frame_after e.frame d; octets = None }) ≡ settled_as other hs now (departure_body e d)
 departed_is other network now hs e (leaves clock) of =
-    ap (λ (o : Option Pcf). let h : Happening = record
-    { note = record { number = 0; time = units_of now; body = departure_body e (leaves clock) }; frame = option_map (with_clock clock) o; octets = [] } in
-    h) (sym of)
+    grind (arith, units_of, departure_body, with_clock)
 departed_is other network now hs e too_old of = refl
 departed_is other network now hs e on_cut_way of = refl
 

@@ -1,6 +1,6 @@
 -- A frame that waits is permanent: its machine may be asked, and the state stands behind it.
 use Rattle.drift_world.proofs.Words.{◌+◌, ◌<◌, ◌^◌, ◌↔◌, ◌∙◌, ◌∷◌, ◌≡◌, ◌≤ℤ◌, ◌≤◌, AreApart, ArePutIn, ComesFirst, DeviceId, Happening, IsAt, IsIn}
-use Rattle.drift_world.proofs.Words.{IsPermutation, IsPermutation-map, IsPutAt, Joining, Kept, List, Moment, Network, Node, Note, Option, Pcf, Scenario}
+use Rattle.drift_world.proofs.Words.{IsPermutation, IsPermutation-map, IsPutAt, Joining, Kept, List, Moment, Network, Node, Note, Option, Scenario}
 use Rattle.drift_world.proofs.Words.{Settled, Some, Stands, StandsBehind, StandsFor, Units, Waiting, Waits, [], ap, arith, behind, false, frame_from}
 use Rattle.drift_world.proofs.Words.{get_or_from_slice_get, happenings, in_get, is_mapped, is_set, keeps, length, map, moment_of, none_yet, pos, refl}
 use Rattle.drift_world.proofs.Words.{ripe_place, settled_as, settled_at, slice_get_within, slice_set, subst, sym, units_of, waiting_as, world_of, ℕ}
@@ -132,11 +132,7 @@ module _ {C M : Type 0} (reading : C → ℕ → ℕ) (stands : M → Network �
 frame_is : (s : Scenario) (network : Network) (now : ℕ) (hs : List Happening) (w : Waits) (verdict : Judgement) → frame_from hs w.cause ≡ Some w.frame
     → settled_at network now (judged_so w verdict) ≡ settled_as s.network hs now (kinds.Permanent w.device w.link w.cause w.point verdict)
 frame_is s network now hs w verdict of =
-    ap (λ (o : Option Pcf). let h : Happening = record {
-      note = record { number = 0; time = units_of now; body = kinds.Permanent w.device w.link w.cause w.point verdict };
-      frame = o;
-      octets = [];
-    } in h) (sym of)
+    grind (arith, units_of)
 
 module _ (s : Scenario) (network : Network) (now : ℕ) (hs : List Happening) (w : Waits) (of : frame_from hs w.cause ≡ Some w.frame) where
   judged_in : (verdict : Judgement) (old mid new : List Settled) (at : ℕ) → IsPutAt (judged_so w verdict) old mid at

@@ -7,7 +7,7 @@ use Rattle.drift_world.proofs.Words.{map, octets_in, octets_of, on_wire, receive
 use Rattle.std.specs.{List.{filter_map, slice_get}, Option.option_map}
 use Rattle.run_law.specs.declared.note.NoteBody.TheVariants.{Event, Sent}
 use Rattle.world_law.specs.world.Moves.{ArePut}
-use Rattle.world_state.specs.declared.{contents.{Signal.{Signal as SignalSent}}, queue.Entry.Entry}
+use Rattle.world_state.specs.declared.{contents.Signal.{Signal as SignalSent}, queue.Entry.Entry}
 use Rattle.world_state.specs.declared.contents.Signal.TheVariants as signals
 
 pub link_within : (xs : List Link) (i : ℕ) (way : Way) (o : Option Link) (device : DeviceId) → slice_get xs i ≡ o → option_map (target_by way) o ≡ Some device

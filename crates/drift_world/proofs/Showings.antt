@@ -1,8 +1,8 @@
 -- What the parts of a state show of a scenario.
-use Rattle.drift_world.proofs.Words.{◌<◌, ◌∙◌, ◌≡◌, AreWays, AtPort, Bool, DeviceId, Down, IsOf, Kept, LinkId, List, Network, Node, None, Note, Scenario, Some}
-use Rattle.drift_world.proofs.Words.{Stands, Up, Way, WayState, ap, false, if◌then◌else◌, is_broken, is_cut, length, map, slice_get-map, sym, true, way_as}
+use Rattle.std.{proofs.Common.arith, specs.{List.slice_get, Option.option_map}}
+use Rattle.drift_world.proofs.Words.{◌<◌, ◌∙◌, ◌≡◌, AreWays, AtPort, Bool, DeviceId, Down, IsOf, Kept, LinkId, List, Network, Node, Note, Scenario, Some}
+use Rattle.drift_world.proofs.Words.{Stands, Up, Way, WayState, ap, false, if◌then◌else◌, is_broken, is_cut, length, map, slice_get-map, true, way_as}
 use Rattle.drift_world.{proofs.Words.{way_from, way_now, world_of, ℕ}, specs.declared.state.State.State}
-use Rattle.std.specs.{List.slice_get, Option.option_map}
 use Rattle.world_law.proofs.giving.Given.{some_same}
 use Rattle.world_state.specs.Leaving.{departed, departure_in}
 
@@ -27,7 +27,4 @@ pub departure_is : (s : Scenario) (now : ℕ) (e : AtPort) (network : Network) (
     → is_broken s e.device now ≡ false → reading ≡ s.reading e.device now → cut ≡ is_cut s e.link (way_from s.network e.device e.link) now
     → Some (departed network reading cut e) ≡ departure_in s now e
 departure_is s now e network reading cut same sound read is =
-    ap (λ (n : Network). Some (departed n reading cut e)) same ∙ ap (λ (r : ℕ). Some (departed s.network r cut e)) read
-    ∙ ap (λ (c : Bool). Some (departed s.network (s.reading e.device now) c e)) is
-    ∙ sym (ap (λ (b : Bool). if b then None else Some
-    (departed s.network (s.reading e.device now) (is_cut s e.link (way_from s.network e.device e.link) now) e)) sound)
+    grind (arith, is_cut, way_from)

@@ -9,7 +9,7 @@ use Rattle.pcf_codec.specs.{Decoding.decoded, EtherType.pcf_type, declared.refus
 use Rattle.run_law.proofs.law.{FirstDeliveries.last_in, FirstPlaces.{IsFoundedAt, by_number, founded_at, number_is, numbered_front, numbered_within}}
 use Rattle.run_law.specs.{device.Standpoints.standpoint, records.{Frames.tt_frame, Happenings.earlier}, timed.Dispatching.is_accepted}
 use Rattle.run_law.specs.timed.Receptions.{ArrivesAs, arrival_of}
-use Rattle.world_law.{proofs.{frames.{Proper.{launch_signal as signal_in}}, steps_lemmas.hearing.OneMaster.decoded_of}, specs.world.World.IsOnWire}
+use Rattle.world_law.{proofs.{frames.Proper.{launch_signal as signal_in}, steps_lemmas.hearing.OneMaster.decoded_of}, specs.world.World.IsOnWire}
 use Rattle.world_state.proofs.Made.{made_type, plain_signal}
 use Rattle.net_plan.specs.declared.event.What.TheVariants as events
 use Rattle.run_law.specs.declared.note.NoteBody.TheVariants as kinds

@@ -11,7 +11,7 @@ use Rattle.run_law.{proofs.runs.Places.before_later, specs.machines.Tasks.{IsPen
 use Rattle.tte_lemmas.proofs.Options.{some_same}
 use Rattle.world_law.{proofs.frames.Proper.{IsReceiver, received}, specs.world.{Moves.NothingBefore, World.IsWaitingFor}}
 use Rattle.world_law.proofs.steps_lemmas.ripening.Ripens.{come_of}
-use Rattle.world_state.{proofs.UnderWays.{port_numbers, wire_numbers}, specs.{declared.queue.Entry.Entry, timers.{Times.{IsFirst as IsFirstDue}}}}
+use Rattle.world_state.{proofs.UnderWays.{port_numbers, wire_numbers}, specs.{declared.queue.Entry.Entry, timers.Times.{IsFirst as IsFirstDue}}}
 
 -- what is not before the first is not before a place that the first is not before
 pub not_sooner : (q first p : List ℕ) → (IsBefore q first → ⊥) → (IsBefore first p → ⊥) → IsBefore q p → ⊥
@@ -42,16 +42,12 @@ slot_high devices due le =
 -- no slot's time is less than that of the first, and that of a lower slot is greater
 least_slot : (times : List ℕ) (due : Due) (slot time : ℕ) → IsFirstDue times due → slice_get times slot ≡ Some time → due.time ≤ time
 least_slot times due slot time first at =
-    let le = first.least slot 0 (slice_get_within times slot time at) in
-    let is = get_or_from_slice_get times slot time 0 at in
-    omega (arith, le, is)
+    grind (arith, slice_get_within, get_or_from_slice_get)
 
 lower_slot : (times : List ℕ) (due : Due) (slot time : ℕ) → IsFirstDue times due → slice_get times slot ≡ Some time → slot < due.slot
     → due.time < time
 lower_slot times due slot time first at lower =
-    let lt = first.lowest slot lower in
-    let is = get_or_from_slice_get times slot time 0 at in
-    omega (arith, lt, is)
+    grind (arith, get_or_from_slice_get)
 
 two_places : (time rank slot first_time first_rank first_slot : ℕ) → first_time ≤ time → (rank < first_rank → first_time < time)
     → (rank ≡ first_rank → slot < first_slot → first_time < time)
@@ -67,32 +63,13 @@ two_places time rank slot first_time first_rank first_slot le ranks slots (inr (
 ripe_slot : (devices : ℕ) (times : List ℕ) (due : Due) (slot time : ℕ) → IsFirstDue times due → slice_get times slot ≡ Some time → slot < devices
     → IsBefore (time ∷ 3 ∷ slot ∷ []) (due_place devices due) → ⊥
 ripe_slot devices times due slot time first at low b =
-    let le = least_slot times due slot time first at in
-    let lower = lower_slot times due slot time first at in
-    elim (cases_lt due.slot devices) [
-      | inl lt ↦
-          two_places time 3 slot due.time 3 due.slot le (λ ranks. absurd (omega (arith, ranks))) (λ same lt2. lower lt2)
-          (subst (λ (q : List ℕ). IsBefore (time ∷ 3 ∷ slot ∷ []) q) (slot_low devices due lt) b)
-      | inr ge ↦
-          two_places time 3 slot due.time 4 (due.slot - devices) le (λ ranks. lower (omega (arith, low, ge))) (λ same lt. absurd (omega (arith, same)))
-          (subst (λ (q : List ℕ). IsBefore (time ∷ 3 ∷ slot ∷ []) q) (slot_high devices due ge) b)
-    ]
+    grind (arith, least_slot, lower_slot, cases_lt, two_places, slot_low, slot_high)
 
 -- the acts of a device neither
 act_slot : (devices : ℕ) (times : List ℕ) (due : Due) (device time : ℕ) → IsFirstDue times due → slice_get times (devices + device) ≡ Some time
     → IsBefore (time ∷ 4 ∷ device ∷ []) (due_place devices due) → ⊥
 act_slot devices times due device time first at b =
-    let le = least_slot times due (devices + device) time first at in
-    let lower = lower_slot times due (devices + device) time first at in
-    elim (cases_lt due.slot devices) [
-      | inl lt ↦
-          two_places time 4 device due.time 3 due.slot le (λ ranks. absurd (omega (arith, ranks))) (λ same lt2. absurd (omega (arith, same)))
-          (subst (λ (q : List ℕ). IsBefore (time ∷ 4 ∷ device ∷ []) q) (slot_low devices due lt) b)
-      | inr ge ↦
-          two_places time 4 device due.time 4 (due.slot - devices) le (λ ranks. absurd (omega (arith, ranks)))
-          (λ same lt. lower (omega (arith, lt, ge)))
-          (subst (λ (q : List ℕ). IsBefore (time ∷ 4 ∷ device ∷ []) q) (slot_high devices due ge) b)
-    ]
+    grind (arith, least_slot, lower_slot, cases_lt, two_places, slot_low, slot_high)
 
 -- what parts the frames that are permanent at one device at one time
 abbrev pub parting : Waits → List ℕ

@@ -1,13 +1,13 @@
 -- What switches hold once a record is given, as its law asks for it.
+use Rattle.std.proofs.{Common.arith, lemmas.Bool.{not-true, not_from_false}}
 use Rattle.drift_world.proofs.Words.{if◌then◌else◌, ◌&&◌, ◌==◌, ◌∙◌, ◌∷◌, ◌≡◌, Accepted, Arrived, Bool, Changed, Compressed, Delivered, DeviceId, Dropped}
 use Rattle.drift_world.proofs.Words.{Happening, HasItsOctets, Holding, IsIn, IsPermutation-sym, IsStoredBy, Left, List, Network, None, NoteBody, Option}
 use Rattle.drift_world.proofs.Words.{Permanent, Some, Timed, TtSent, VlId, [], ap, both_ways, eq-eqb, eqb-true, false, filter, in_permuted, inl, inr, is_mapped}
 use Rattle.drift_world.proofs.Words.{map, not, octets_in, octets_of, refl, stored_as, subst, sym, true, ℕ}
-use Rattle.std.proofs.lemmas.Bool.{not-true, not_from_false}
 use Rattle.run_law.specs.{declared.note.NoteBody.TheVariants.{Clock, Corrected, Sent}, timed.Dispatching.is_accepted}
+use Rattle.run_law.proofs.records.Members.{from_map, in_kept}
 use Rattle.world_law.specs.world.{Moves.AreTaken, World.Stored}
 use Rattle.world_state.specs.Storing.{IsHeldInstead, IsStoredFor, is_held_of}
-use Rattle.run_law.proofs.records.Members.{from_map, in_kept}
 
 -- ---- lists that are mapped and filtered
 
@@ -28,20 +28,12 @@ out_of_filter {X} q (y ∷ xs) x there = by_test (q y) refl (λ i. out_of_filter
 
 none_taken : (x : Happening) (number : ℕ) (held : List Stored) → ((device : DeviceId) (vl : VlId) → is_accepted device vl x.note.body ≡ false)
     → AreTaken x number held held
-none_taken x number held none = record {
-  real = λ e there. inl (there, none e.device e.vl);
-  kept = λ e there not. there;
-  all = λ device vl is. absurd (both_ways _ (none device vl) is);
-}
+none_taken x number held none = grind (arith, both_ways)
 
 -- ---- one is
 
 same_both : (a b c d : ℕ) → (a == b && c == d) ≡ true → (a ≡ b) × (c ≡ d)
-same_both a b c d e = by_first (a == b) refl e
-  where
-    by_first : (t : Bool) → (a == b) ≡ t → (t && c == d) ≡ true → (a ≡ b) × (c ≡ d)
-    by_first true is e = (eqb-true a b is, eqb-true c d e)
-    by_first false is e = absurd cc
+same_both a b c d e = grind (arith, eqb-true)
 
 module _ (network : Network) (x : Happening) (number : ℕ) (held new : List Holding) (one : Holding) (instead : IsHeldInstead one held new)
     (by : (device : DeviceId) (vl : VlId) → is_accepted device vl x.note.body ≡ (device.0 == one.device.0 && vl.0 == one.vl.0)) (numbered : one.number ≡ number)

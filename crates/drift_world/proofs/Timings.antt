@@ -42,10 +42,7 @@ reads_so reading clock now value time (inr is) true_time = is.reached
 pub ripe_timed : {C : Type 0} (reading : C → ℕ → ℕ) (clock : C) (waiting : List Waits) (device now : ℕ) (point : Option Units) (time : ℕ)
     → IsLow reading clock now → IsLeastPoint waiting device point → IsTimeFor reading clock now point time
     → IsRipeAt reading clock waiting device now time
-ripe_timed reading clock waiting device now None time low none is = record {
-  none = λ w there at u from most reached. absurd (none w there at);
-  one = λ true_time. absurd (omega (arith, is, true_time));
-}
+ripe_timed reading clock waiting device now None time low none is = grind arith
 ripe_timed reading clock waiting device now (Some point) time low least is = record {
   none = λ w there at u from most reached.
       let le = least.1 w there at in reads_less reading clock now point time u low is from most (omega (arith, ints, le, reached));
@@ -61,10 +58,7 @@ pub acts_timed : {C M : Type 0} (reading : C → ℕ → ℕ) (stands : M → Ne
     (device : DeviceId) (now : ℕ) (due : Option Units) (time : ℕ)
     → IsLow reading clock now → ((node : Node) → keeps stands machine network device node → IsDueReading network device node due)
     → IsTimeFor reading clock now due time → ActsAt reading stands network clock machine device now time
-acts_timed reading stands network clock machine device now None time low none is = record {
-  none = λ node task kept pending u from most reached. absurd (none node kept task pending);
-  one = λ true_time. absurd (omega (arith, is, true_time));
-}
+acts_timed reading stands network clock machine device now None time low none is = grind arith
 acts_timed reading stands network clock machine device now (Some due) time low least is = record {
   none = λ node task kept pending u from most reached.
       let le = (least node kept).1 task pending in reads_less reading clock now due time u low is from most (omega (arith, ints, le, reached));
@@ -226,12 +220,7 @@ module _ {C M : Type 0} (last_step : C → ℕ) (reading : C → ℕ → ℕ) (s
 pub may_still : {C M : Type 0} (last_step : C → ℕ) (reading : C → ℕ → ℕ) (stands : M → Network → DeviceId → Node → Type 0) (network : Network)
     (device : DeviceId) (IsSet : ℕ → Type 0) (old new : State C M) → MayRekey last_step reading stands network old device → SetsOnly IsSet old new
     → MayRekey last_step reading stands network new device
-may_still last_step reading stands network device IsSet old new may sets = record {
-  sized = sized_with last_step reading stands network old new sets.same may.sized;
-  there = may.there;
-  slots = sets.sized ∙ may.slots;
-  running = running_with last_step reading stands network old new sets.same may.running;
-}
+may_still last_step reading stands network device IsSet old new may sets = grind arith
 
 module _ {C M : Type 0} (reading : C → ℕ → ℕ) (stands : M → Network → DeviceId → Node → Type 0) (network : Network) where
   -- one device more

@@ -85,11 +85,7 @@ none_sooner network now (x ∷ xs) w order not z (inr rest) before =
 
 -- one step after the other
 pub after_then : {C M : Type 0} (old mid new : State C M) → IsAfter old mid → IsAfter mid new → IsAfter old new
-after_then old mid new first second = record {
-  clocks = second.clocks ∙ first.clocks;
-  ended = second.ended ∙ first.ended;
-  later = let a = first.later in let b = second.later in omega (arith, a, b);
-}
+after_then old mid new first second = grind arith
 
 module _ {C M : Type 0} (last_step : C → ℕ) (reading : C → ℕ → ℕ) (stands : M → Network → DeviceId → Node → Type 0) (network : Network) where
   pub passed_after : (old new : State C M) (until : ℕ) (turn : Turn) → IsPassed last_step reading stands network until old new turn → IsAfter old new

@@ -1,46 +1,26 @@
 -- Control frames that arrive at an end system.
-use Rattle.end_system.proofs.Words.{if◌then◌else◌, ◌&&◌, ◌+◌, ◌==◌, ◌∙◌, ◌∷◌, ◌≡◌, ◌≤ℤ◌, ◌≤◌, Bool, DeviceId, EndSystem, IsOwnOf, Link, LinkId, List, Moment}
+use Rattle.end_system.proofs.Words.{if◌then◌else◌, ◌&&◌, ◌==◌, ◌∷◌, ◌≡◌, ◌≤ℤ◌, ◌≤◌, Bool, DeviceId, EndSystem, IsOwnOf, Link, LinkId, List, Moment}
 use Rattle.end_system.proofs.Words.{Network, Node, None, Option, Own, Pcf, Reason, Some, Standing, Standpoint, StandsAsEnd, Units, [], amount, ap, arith, false}
 use Rattle.end_system.proofs.Words.{first_reason, is_end, is_off, length, link_at, not, option_map_or, pos, refl, standpoint_at, subst, sym, true, ℕ, ℤ}
+use Rattle.end_system.specs.{Controls.{arrival_of, frame_arrival_of}, Owns.IsLinkOf}
 use Rattle.std.proofs.{Common.{◌↔◌, Err, IsTrue, Ok, Result, eq-eqb, nat_lt}, lemmas.Bool.both_ways}
 use Rattle.pcf_codec.specs.{Decoding.decoded, EtherType.{HasPcfType, pcf_type}, Fields.field, declared.refusal.PcfRefusal.PcfRefusal}
 use Rattle.run_law.specs.control.Arrivals.{are_others, clock_on_arrival, control_arrival, frame_or_fault, frame_taken, is_cold_start, is_gate_shut}
-use Rattle.run_law.specs.control.{Arrivals.{is_of_other_domain, is_of_other_member, point_on_arrival, refused}, Wires.{Signal, control, signal_of, timed}}
-use Rattle.run_law.specs.declared.{judgement.Reason.TheVariants.{ColdStart, Domain, Gate, Member, Off, Old}, steps.Arrival.Arrival}
-use Rattle.run_law.specs.{declared.steps.Arrival.TheVariants.{Dropped, Waits}, machines.{Answers.{after_arrival, arrival_at}, Nodes.last_taken_by}}
-use Rattle.run_law.specs.{records.Happenings.with_clock, scenario.Devices.{is_parent_of, is_relay, member_of}, timed.Arrivals.timed_arrival}
-use Rattle.transparent_clock.specs.Points.{point_of}
+use Rattle.run_law.specs.{control.Arrivals.{is_of_other_domain, is_of_other_member, refused}, scenario.Devices.{is_parent_of, is_relay, member_of}}
+use Rattle.run_law.specs.{control.Wires.{Signal, control, signal_of, timed}, declared.steps.Arrival.Arrival, machines.Answers.{after_arrival, arrival_at}}
+use Rattle.run_law.specs.declared.{judgement.Reason.TheVariants.{ColdStart, Domain, Gate, Member, Off, Old}, steps.Arrival.TheVariants.{Dropped, Waits}}
 use Rattle.tte_lemmas.proofs.{Bools.takes_by, Integers.whole, Naturals.unequal}
-use Rattle.end_system.specs.{Controls.{arrival_of, frame_arrival_of, waits_with}, Owns.{IsLinkOf, wire_by}}
 
 -- ---- a device that takes no part
 
 off_signal : (network : Network) (device : DeviceId) (node : Node) (moment : Moment) (link : LinkId) (signal : Signal) → is_off node.standing.state ≡ true
     → Dropped Off ≡ arrival_at network device node moment link signal
 off_signal network device node moment link (control (Ok frame)) off =
-    subst (λ (b : Bool). Dropped Off ≡ control_arrival network device link
-    (record {
-      takes_part = not b && not node.broken;
-      state = node.standing.state;
-      reading = amount moment.reading;
-      adjustment = node.standing.adjustment.0;
-    }) (Ok frame)) (sym off) refl
+    grind (arith, not, amount)
 off_signal network device node moment link (control (Err refusal)) off =
-    subst (λ (b : Bool). Dropped Off ≡ control_arrival network device link
-    (record {
-      takes_part = not b && not node.broken;
-      state = node.standing.state;
-      reading = amount moment.reading;
-      adjustment = node.standing.adjustment.0;
-    }) (Err refusal)) (sym off) refl
+    grind (arith, not, amount)
 off_signal network device node moment link (timed octets) off =
-    subst (λ (b : Bool). Dropped Off ≡ timed_arrival network device link
-    (record {
-      takes_part = not b && not node.broken;
-      state = node.standing.state;
-      reading = amount moment.reading;
-      adjustment = node.standing.adjustment.0;
-    }) octets (last_taken_by node)) (sym off) refl
+    grind (arith, not, amount)
 
 pub off_arrival : (network : Network) (device : DeviceId) (node : Node) (e : EndSystem) (moment : Moment) (link : LinkId) (signal : Signal)
     → StandsAsEnd e network device node → is_off e.sync.state ≡ true → Dropped Off ≡ arrival_at network device node moment link signal
@@ -93,36 +73,14 @@ same_parts : (network : Network) (device : DeviceId) (own : Own) (link : LinkId)
     else (if is_of_other_domain network frame then Dropped Domain
     else (if nat_lt (amount network.dmax) (clock_on_arrival network link frame) then Dropped Old else frame_or_fault network device link at frame None)))
 same_parts network device own link at reading frame is of read =
-    ap (λ (f : Pcf). if is_cold_start frame.kind then Dropped ColdStart
-    else (if not (frame.priority == f.priority && frame.domain == f.domain) then Dropped Domain
-    else waits_with own reading frame (frame.clock + amount (wire_by own link)))) is.frame
-    ∙ ap (λ (w : ℕ). if is_cold_start frame.kind then Dropped ColdStart
-    else (if is_of_other_domain network frame then Dropped Domain else waits_with own reading frame (frame.clock + w))) (sym of.wire)
-    ∙ ap (λ (u : Units). if is_cold_start frame.kind then Dropped ColdStart
-    else (if is_of_other_domain network frame then Dropped Domain
-    else (if nat_lt (amount u) (clock_on_arrival network link frame) then Dropped Old else Waits (with_clock (clock_on_arrival network link frame) frame)
-    (record { 0 = point_of reading.0 (clock_on_arrival network link frame) u.0 })))) is.dmax
-    ∙ ap (λ (z : ℤ). if is_cold_start frame.kind then Dropped ColdStart
-    else (if is_of_other_domain network frame then Dropped Domain
-    else (if nat_lt (amount network.dmax) (clock_on_arrival network link frame) then Dropped Old
-    else Waits (with_clock (clock_on_arrival network link frame) frame) (record { 0 = point_of z (clock_on_arrival network link frame) network.dmax.0 }))))
-    read
-    ∙ ap (λ (a : Arrival). if is_cold_start frame.kind then Dropped ColdStart
-    else (if is_of_other_domain network frame then Dropped Domain
-    else (if nat_lt (amount network.dmax) (clock_on_arrival network link frame) then Dropped Old else a)))
-    (taken_waits network device link (with_clock (clock_on_arrival network link frame) frame)
-    (point_on_arrival network at (clock_on_arrival network link frame)) is.no_relay)
+    grind (arith, not, amount, nat_lt, taken_waits)
 
 -- a control frame is judged as an end system judges it
 pub judged : (network : Network) (device : DeviceId) (own : Own) (link : LinkId) (at : Standpoint) (reading : Units) (frame : Pcf) → IsOwnOf network device own
     → IsLinkOf network device own link → at.takes_part ≡ true → reading.0 ≡ pos at.reading
     → frame_arrival_of own reading link frame ≡ control_arrival network device link at (Ok frame)
 judged network device own link at reading frame is of takes read =
-    same_parts network device own link at reading frame is of read
-    ∙ by_faults (frame_or_fault network device link at frame) at.takes_part (is_cold_start frame.kind) (is_of_other_domain network frame)
-    (is_of_other_member network device link frame.members) (nat_lt (amount network.dmax) (clock_on_arrival network link frame))
-    (is_gate_shut network device at)
-    (λ r. refl) takes (no_other_member network device link frame of.up) (no_gate network device at is.no_relay)
+    grind (arith, same_parts, by_faults, nat_lt, amount, no_other_member, no_gate)
 
 -- what a refusal comes to
 refused_at : (at : Standpoint) (refusal : PcfRefusal) → at.takes_part ≡ true
@@ -157,9 +115,7 @@ pub control_still : (own : Own) (reading : Units) (link : LinkId) (node : Node) 
     → after_arrival node moment (arrival_of own reading link decoded) ≡ node
 control_still own reading link node moment (Err refusal) = refl
 control_still own reading link node moment (Ok frame) =
-    still_domain node moment (is_cold_start frame.kind) ColdStart _
-    (still_domain node moment (not (frame.priority == own.frame.priority && frame.domain == own.frame.domain)) Domain _
-    (still_waits own reading frame 0 node moment (nat_lt (amount own.dmax) (frame.clock + amount (wire_by own link))) _ _))
+    grind (arith, still_domain, not, still_waits, nat_lt, amount)
 
 -- ---- what is on the wire
 

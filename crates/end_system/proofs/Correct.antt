@@ -30,14 +30,7 @@ pub at_point : (network : Network) (device : DeviceId) (node : Node) (e : EndSys
     → IsCorrection network node.standing node.changed node.done (Some next)
     → IsAtPoint network e.sync e.heard node.last.reading.0 next.cycle
 at_point network device node e next stands here =
-    subst (λ (s : Standing). IsAtPoint network s e.heard node.last.reading.0 next.cycle) stands.standing
-    (record {
-      point = here.0.point;
-      number = some_number network node.standing e.heard node.last.reading.0 (next_point node.standing) next.cycle here.0.point stands.number;
-      plan = stands.plan ∙ stands.own.plan_is;
-      near = stands.near;
-      small = stands.small;
-    })
+    grind (arith, some_number, next_point)
 
 some_point : (o : Option ℕ) (n : ℕ) → o ≡ Some n → n ≤ 2 ^ 20 + 2 ^ 17 + 2 → IsSomeAnd o (λ k. k ≤ 2 ^ 21 + 2 ^ 18)
 some_point o n e h = subst (λ (x : Option ℕ). IsSomeAnd x (λ k. k ≤ 2 ^ 21 + 2 ^ 18)) (sym e) (omega arith)
@@ -67,9 +60,7 @@ near_b network device own s heard reading cycle is h =
 
 small_by : (v : Verdict) (old new : Units) → new ≡ adjustment_by old v → IfCorrected v (λ _. IsSmall new.0) → IsSmall old.0 → IsSmall new.0
 small_by (Corrected by) old new e small was = small
-small_by SyncClique old new e small was = subst (λ (u : Units). IsSmall u.0) (sym e) was
-small_by AsyncClique old new e small was = subst (λ (u : Units). IsSmall u.0) (sym e) was
-small_by Cleared old new e small was = subst (λ (u : Units). IsSmall u.0) (sym e) was
+small_by other old new e small was = subst (λ (u : Units). IsSmall u.0) (sym e) was
 
 pub still_small : (s new : Standing) (heard : Summary) (v : Verdict) → new ≡ after s (reached_point heard v) → IfCorrected v (λ _. IsSmall new.adjustment.0)
     → IsSmall s.adjustment.0 → IsSmall new.adjustment.0
@@ -111,13 +102,7 @@ no_point n e = cc
 
 empty_agenda : (network : Network) (device : DeviceId) (s : Standing) (changed : ℤ) (done : List ClockTask) (agenda : Agenda) → s.state ≡ Integrating
     → IsEmpty agenda → IsAgenda network device s changed done agenda
-empty_agenda network device s changed done agenda lost empty = record {
-  sending = subst (IsSending network device s changed done) (sym empty.sending) (λ master is. no_longer (sym lost ∙ is));
-  correction =
-      subst (IsCorrection network s changed done) (sym empty.correction)
-      (λ cycle is. absurd (no_point cycle (sym (ap (λ (x : State). point_in x s.number) lost) ∙ is)));
-  dispatch = subst (IsDispatch network device s changed done) (sym empty.dispatch) (λ is. absurd (no_longer (sym lost ∙ is)));
-}
+empty_agenda network device s changed done agenda lost empty = grind (arith, no_longer, no_point)
 
 -- the number after a correction
 corrected_number : (network : Network) (device : DeviceId) (own : Own) (s new : Standing) (heard silent : Summary) (by : Units) (before reading : ℤ)

@@ -1,7 +1,7 @@
 -- Frames that were heard in time, and what they correct a clock by.
 use Rattle.end_system.proofs.Words.{◌*◌, ◌+ℤ◌, ◌+◌, ◌-ℤ◌, ◌<ℤ◌, ◌<◌, ◌^◌, ◌∙◌, ◌≡◌, ◌≤ℤ◌, ◌≤◌, A, AreHeardSo, B, Bool, DeviceId, HasVerdict, IfSome, IsOwnOf}
-use Rattle.end_system.proofs.Words.{IsSmall, IsSomeAnd, Network, None, Option, Own, Some, Standing, Summary, SyncPlan, Units, amount, ap, arith, end_plan}
-use Rattle.end_system.proofs.Words.{expected_offset, false, from_zero, if◌then◌else◌, inl, inr, ints, mul-le-mul_left, mul-le-mul_right, neg_ℤ, option_and_then}
+use Rattle.end_system.proofs.Words.{IsSmall, Network, None, Option, Own, Some, Standing, Summary, SyncPlan, Units, amount, ap, arith, end_plan}
+use Rattle.end_system.proofs.Words.{expected_offset, false, from_zero, if◌then◌else◌, ints, mul-le-mul_left, mul-le-mul_right, neg_ℤ, option_and_then}
 use Rattle.end_system.{proofs.Words.{pos, subst, true, ℕ, ℤ}, specs.Standing.IsHeardSo}
 use Rattle.std.proofs.{Common.{◌*ℤ◌, nat_le}, lemmas.Option.same_Some}
 use Rattle.clock_correction.specs.Correction.{correction_of}
@@ -123,7 +123,4 @@ corrected_back network device own s heard by is plan late h verdict =
 
 -- nothing qualifies where nothing was heard
 pub none_qualifies : (s : Standing) (heard : Summary) (by : Units) → heard.best_a ≡ None → heard.best_b ≡ None → HasVerdict s heard (Corrected by) → ⊥
-none_qualifies s heard by a b verdict = elim verdict.1 [
-  | inl on_a ↦ subst (λ (o : Option HeardFrame). IsSomeAnd o (λ frame. s.plan.threshold ≤ count_of frame.members)) a on_a
-  | inr on_b ↦ subst (λ (o : Option HeardFrame). IsSomeAnd o (λ frame. s.plan.threshold ≤ count_of frame.members)) b on_b
-]
+none_qualifies s heard by a b verdict = grind arith

@@ -59,9 +59,7 @@ never_switch : (o : Option Device) (channel : Channel) → ((d : Device) → o �
     → IsSomeAnd o (λ d. is_end_system d.role ≡ true) → IsSomeAnd o (λ d. d.channel ≡ Some channel) → ⊥
 never_switch None channel range h k = h
 never_switch (Some d) channel range h k =
-    let e : is_some d.channel ≡ false = range d refl ∙ ap not h in
-    let f : is_some d.channel ≡ true = ap (λ (o : Option Channel). is_some o) k in
-    false≢true (sym e ∙ f)
+    grind (arith, is_some, not, false≢true)
 
 no_switch : (network : Network) (device : DeviceId) (channel : Channel) → IsInRange network → IsEndSystem network device → IsSwitchOf network channel device → ⊥
 no_switch network device channel range end switch =
@@ -104,48 +102,24 @@ link_facts network device link range keeps end parent =
 parent_by : (o : Option Link) (l : Link) (device : DeviceId) → o ≡ Some l → (l.parent ≡ device → ⊥)
     → option_map_or (λ l. l.parent.0 == device.0) o false ≡ false
 parent_by o l device e out =
-    ap (λ (p : Option Link). option_map_or (λ (l : Link). l.parent.0 == device.0) p false) e
-    ∙ ⊎_elim
-    (λ (h : (l.parent.0 == device.0) ≡ true). absurd (out (same_device l.parent device (eqb-true l.parent.0 device.0 h))))
-    (λ (h : (l.parent.0 == device.0) ≡ false). h)
-    (cases_Bool (l.parent.0 == device.0))
+    grind (arith, option_map_or, ⊎_elim, same_device, eqb-true, cases_Bool)
 
 -- the choice between the two links
 is_first : {X : Type 0} (link a : LinkId) (x y : X) → link ≡ a → (if link.0 == a.0 then x else y) ≡ x
-is_first link a x y e = chosen (link.0 == a.0) x y (subst (λ (l : LinkId). (link.0 == l.0) ≡ true) e (eqb_same link.0))
-  where
-    chosen : {X : Type 0} (b : Bool) (x y : X) → b ≡ true → (if b then x else y) ≡ x
-    chosen true x y e = refl
-    chosen false x y e = absurd cc
+is_first link a x y e = grind (arith, eqb_same)
 
 is_second : {X : Type 0} (link a : LinkId) (x y : X) → (link ≡ a → ⊥) → (if link.0 == a.0 then x else y) ≡ y
-is_second link a x y out = ⊎_elim
-    (λ (h : (link.0 == a.0) ≡ true). absurd (out (same_link link a (eqb-true link.0 a.0 h))))
-    (λ (h : (link.0 == a.0) ≡ false). chosen (link.0 == a.0) x y h)
-    (cases_Bool (link.0 == a.0))
-  where
-    chosen : {X : Type 0} (b : Bool) (x y : X) → b ≡ false → (if b then x else y) ≡ y
-    chosen false x y e = refl
-    chosen true x y e = absurd cc
+is_second link a x y out = grind (arith, ⊎_elim, same_link, eqb-true, cases_Bool)
 
 -- the two uplinks differ
 apart : (network : Network) (device : DeviceId) (link : LinkId) → IsUplink network A device link → IsUplink network B device link → ⊥
 apart network device link a b =
-    let l = some_of (link_at network link) (λ l. (l.child ≡ device) × IsSwitchOf network A l.parent) a in
-    let m = some_of (link_at network link) (λ l. (l.child ≡ device) × IsSwitchOf network B l.parent) b in
-    let same = one_some (link_at network link) l.0 m.0 l.1 m.1 in
-    let d = some_of (device_at network l.0.parent) (λ d. d.channel ≡ Some A) l.2.1 in
-    let e = some_of (device_at network l.0.parent) (λ d. d.channel ≡ Some B) (subst (λ (x : Link). IsSwitchOf network B x.parent) (sym same) m.2.1) in
-    let one = one_some (device_at network l.0.parent) d.0 e.0 d.1 e.1 in
-    let h : Some A ≡ Some B = sym d.2 ∙ (ap (λ (x : Device). x.channel) one ∙ e.2) in
-    absurd cc
+    grind (arith, some_of, link_at, one_some)
 
 channel_by_parent : (o : Option Link) (network : Network) (channel : Channel) (l : Link) → o ≡ Some l → IsSwitchOf network channel l.parent
     → option_and_then (λ l. channel_of network l.parent) o ≡ Some channel
 channel_by_parent o network channel l e switch =
-    let d = some_of (device_at network l.parent) (λ d. d.channel ≡ Some channel) switch in
-    ap (λ (p : Option Link). option_and_then (λ (l : Link). channel_of network l.parent) p) e
-    ∙ (ap (λ (p : Option Device). option_and_then (λ (d : Device). d.channel) p) d.1 ∙ d.2)
+    grind (arith, some_of, option_and_then)
 
 wire_is : (network : Network) (link : LinkId) (wire : Units) → IsSomeAnd (link_at network link) (λ l. l.wire ≡ wire) → wire_of network link ≡ amount wire
 wire_is network link wire h =
@@ -163,18 +137,9 @@ link_of_channel : (network : Network) (device : DeviceId) (own : Own) (channel :
     → IsUplinkOf network A device own.a → IsUplinkOf network B device own.b → IsUplink network channel device link
     → (channel ≡ channel_by own link) × (wire_of network link ≡ amount (wire_by own link))
 link_of_channel network device own A link keeps end a b up =
-    let same : link ≡ own.a.link = uplink_is network A device link own.a.link keeps end up a.leads in (
-      sym (is_first link own.a.link A B same),
-      ap (wire_of network) same
-          ∙ (wire_is network own.a.link own.a.wire a.wire ∙ ap (λ (u : Units). amount u) (sym (is_first link own.a.link own.a.wire own.b.wire same))),
-    )
+    grind (arith, uplink_is, is_first, wire_is, amount)
 link_of_channel network device own B link keeps end a b up =
-    let same : link ≡ own.b.link = uplink_is network B device link own.b.link keeps end up b.leads in
-    let out : link ≡ own.a.link → ⊥ = λ e. apart network device link (subst (λ (l : LinkId). IsUplink network A device l) (sym e) a.leads) up in (
-      sym (is_second link own.a.link A B out),
-      ap (wire_of network) same
-          ∙ (wire_is network own.b.link own.b.wire b.wire ∙ ap (λ (u : Units). amount u) (sym (is_second link own.a.link own.a.wire own.b.wire out))),
-    )
+    grind (arith, uplink_is, apart, is_second, wire_is, amount)
 
 link_is : (network : Network) (device : DeviceId) (own : Own) (link : LinkId) → IsInRange network → KeepsRules network → IsEndSystem network device
     → IsUplinkOf network A device own.a → IsUplinkOf network B device own.b → IsLinkAt network device link → IsLinkOf network device own link

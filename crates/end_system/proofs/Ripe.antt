@@ -9,11 +9,10 @@ use Rattle.end_system.specs.{Controls.heard_by, Owns.channel_by, Ripening.{IsTol
 use Rattle.std.proofs.{Common.{SomeIff, int_le, nat_le}, lemmas.Bool.{both_ways, leb-true}}
 use Rattle.membership.specs.{BestFrame.IsBetterOf, Hearing.Hearing, Members.count_of, Summary.{Hears, silence}, declared.frame.HeardFrame.HeardFrame}
 use Rattle.pcf_values.specs.declared.members.Members.{Members}
-use Rattle.run_law.{proofs.control.Verdicts.{enough_not, in_time_by, in_time_not, tells_by}, specs.control.Collections.observation_window}
+use Rattle.run_law.{proofs.control.Verdicts.{enough_not, in_time_by, in_time_not, tells_by}, specs.{declared.steps.Ripe.Ripe, machines.Nodes.{Phase, ripening}}}
 use Rattle.run_law.specs.control.{Corrections.correction_value, Hearing.{heard_as, heard_by_schedule, heard_enough, is_in_schedule, last_cycle}}
-use Rattle.run_law.specs.{control.Permanence.ripe_as, declared.steps.Ripe.{Ripe, TheVariants.{Ignored, Integrates, Outside, Within}}}
+use Rattle.run_law.specs.{control.Permanence.ripe_as, declared.steps.Ripe.TheVariants.{Ignored, Integrates, Outside, Within}, scenario.Devices.channel_of_link}
 use Rattle.run_law.specs.machines.{Answers.{IsPermanenceOutcomeAt, hearings, node_turned_on, with_heard, with_joined}, Calls.{IsLaterMoment, MayRipen}}
-use Rattle.run_law.specs.{machines.Nodes.{Phase, ripening}, scenario.Devices.{channel_of_link, is_cm, plan_of}}
 use Rattle.sync_state.{proofs.StateFacts.{integrating_point, no_longer}, specs.Calls.{after, heard_frame, turned_on}}
 use Rattle.sync_state.specs.{Integration.{Integrates as DoesIntegrate, joined_by}, Plan.expected_at, Standing.point_in, declared.answers.Joined.Joined}
 use Rattle.sync_state.specs.declared.state.State.{State, TheVariants.{Integrating, Joining, Off}}
@@ -59,22 +58,7 @@ pub is_heard_so : (network : Network) (device : DeviceId) (own : Own) (s : Stand
     → s.plan ≡ end_plan network → neg_ℤ (pos (2 ^ 40)) ≤ℤ point.0 → point.0 ≤ℤ pos (2 ^ 60 + 2 ^ 51) → heard_by own s frame point ≡ Within
     → IsHeardSo network s (heard_frame_of frame point)
 is_heard_so network device own s frame point is plan low high e =
-    let test = and_parts (nat_le frame.cycle last_cycle) _ (within_in own s.state s.adjustment.0 point.0 frame.cycle frame.members (pos (amount own.precision))
-    e) in
-    let times = and_parts (int_le (expected_at own.plan frame.cycle -ℤ pos (amount own.precision)) (point.0 +ℤ s.adjustment.0)) _ test.1 in
-    let same : own.precision ≡ network.precision = is.precision in
-    let plan_same = is.plan ∙ sym plan in
-    record {
-      cycle = leb-true frame.cycle last_cycle test.0;
-      from =
-          subst (λ (u : Units). (expected_at s.plan frame.cycle -ℤ pos (amount u)) ≤ℤ (point.0 +ℤ s.adjustment.0)) same
-          (subst (λ (p : _). (expected_at p frame.cycle -ℤ pos (amount own.precision)) ≤ℤ (point.0 +ℤ s.adjustment.0)) plan_same (int_le-is _ _ times.0));
-      to =
-          subst (λ (u : Units). (point.0 +ℤ s.adjustment.0) ≤ℤ (expected_at s.plan frame.cycle +ℤ pos (amount u))) same
-          (subst (λ (p : _). (point.0 +ℤ s.adjustment.0) ≤ℤ (expected_at p frame.cycle +ℤ pos (amount own.precision))) plan_same (int_le-is _ _ times.1));
-      low = low;
-      high = high;
-    }
+    grind (arith, and_parts, nat_le, within_in, amount, int_le, leb-true, int_le-is)
 
 -- no frame is within its time at the end of all
 too_late : (f c d e p : ℕ) (v ef r x q a w : ℤ) → f ≤ 2 ^ 20 + 2 ^ 17 → v ≡ pos ((2 ^ 20 + 2 ^ 17 + 1) * c + d) → ef ≡ pos (f * c + e) → v ≤ℤ ((x +ℤ a) +ℤ w)
@@ -205,14 +189,7 @@ told_in own Synchronised adjustment point cycle members p e = absurd (in_time_no
 pub tells : (network : Network) (device : DeviceId) (own : Own) (s : Standing) (frame : Pcf) (point : Units) → IsOwnOf network device own
     → s.plan ≡ end_plan network → heard_by own s frame point ≡ Integrates → DoesIntegrate s frame
 tells network device own s frame point is plan e =
-    let t = told_in own s.state s.adjustment.0 point.0 frame.cycle frame.members (pos (amount own.precision)) e in
-    let parts = and_parts (nat_le own.plan.threshold (count_of frame.members)) _ t.1 in
-    record {
-      integrating = t.0;
-      enough =
-          subst (λ (p : SyncPlan). p.threshold ≤ count_of frame.members) (is.plan ∙ sym plan) (leb-true own.plan.threshold (count_of frame.members) parts.0);
-      in_time = leb-true frame.cycle last_cycle parts.1;
-    }
+    grind (arith, told_in, amount, and_parts, nat_le, leb-true)
 
 small_joined : (f c e : ℕ) (ef q : ℤ) → f ≤ 2 ^ 20 + 2 ^ 17 → c ≤ 2 ^ 40 → e ≤ 2 ^ 43 → ef ≡ pos (f * c + e) → neg_ℤ (pos (2 ^ 40)) ≤ℤ q
     → q ≤ℤ pos (2 ^ 60 + 2 ^ 51) → IsSmall (ef -ℤ q)
@@ -315,12 +292,7 @@ wide_range z low high = (omega (arith, ints), omega (arith, ints))
 pub ripe_at : (network : Network) (device : DeviceId) (node : Node) (e : EndSystem) (frame : Pcf) (point : Units) (is : Ripe)
     → StandsAsEnd e network device node → is ≡ heard_by e.own e.sync frame point → IsPermanenceOutcomeAt network device node frame point is
 ripe_at network device node e frame point is stands r =
-    match_false (is_cm network device) _ _ stands.own.no_cm
-    (r ∙ ap (λ (s : Standing). heard_by e.own s frame point) (sym stands.standing)
-    ∙ ap (λ (p : SyncPlan). ripe_as (heard_as p (pos (amount e.own.precision)) node.standing.state node.standing.adjustment.0 point.0 frame.cycle
-    frame.members)) (stands.own.plan ∙ sym stands.own.plan_is)
-    ∙ ap (λ (u : Units). ripe_as (heard_as (plan_of network device) (pos (amount u)) node.standing.state node.standing.adjustment.0 point.0 frame.cycle
-    frame.members)) stands.own.precision)
+    grind (arith, match_false, amount)
 
 ignored_time : (b : Bool) → (ripe_as (heard_by_schedule b) ≡ Within → ⊥) → (ripe_as (heard_by_schedule b) ≡ Outside → ⊥)
     → ripe_as (heard_by_schedule b) ≡ Ignored
@@ -348,23 +320,7 @@ pub stands_later : (network : Network) (device : DeviceId) (node : Node) (e : En
     → StandsAsEnd (record { own = e.own; sync = e.sync; heard = e.heard; agenda = e.agenda; rows = e.rows; entering = e.entering; last = moment }) network
     device (called moment phase node)
 stands_later network device node e moment phase stands later =
-    record {
-      own = stands.own;
-      sound = stands.sound;
-      standing = stands.standing;
-      plan = stands.plan;
-      last = refl;
-      begun = not_fallen node.last.reading.0 moment.reading.0 stands.begun later.reading;
-      small = stands.small;
-      heard = stands.heard;
-      near = stands.near;
-      joined = stands.joined;
-      number = number_stays network node.standing e.heard node.last.reading.0 moment.reading.0 (next_point node.standing) later.reading stands.number;
-      rows = stands.rows;
-      entering = stands.entering;
-      slot = stands.slot;
-      agenda = stands.agenda;
-    }
+    grind (arith, not_fallen, number_stays, next_point)
 
 -- it is on
 pub is_on : (network : Network) (device : DeviceId) (node : Node) (e : EndSystem) → StandsAsEnd e network device node → is_off e.sync.state ≡ false
@@ -403,17 +359,7 @@ on_dispatch network device s changed done (Some next) off is = absurd (off_not s
 
 frame_still : (network : Network) (s t : Standing) (frame : HeardFrame) → s.plan ≡ t.plan → s.adjustment ≡ t.adjustment → IsHeardSo network s frame
     → IsHeardSo network t frame
-frame_still network s t frame p a h = record {
-  cycle = h.cycle;
-  from =
-      subst (λ (x : SyncPlan). (expected_at x frame.cycle -ℤ observation_window network) ≤ℤ (frame.point.0 +ℤ t.adjustment.0)) p
-      (subst (λ (u : Units). (expected_at s.plan frame.cycle -ℤ observation_window network) ≤ℤ (frame.point.0 +ℤ u.0)) a h.from);
-  to =
-      subst (λ (x : SyncPlan). (frame.point.0 +ℤ t.adjustment.0) ≤ℤ (expected_at x frame.cycle +ℤ observation_window network)) p
-      (subst (λ (u : Units). (frame.point.0 +ℤ u.0) ≤ℤ (expected_at s.plan frame.cycle +ℤ observation_window network)) a h.to);
-  low = h.low;
-  high = h.high;
-}
+frame_still network s t frame p a h = grind arith
 
 heard_still : (network : Network) (s t : Standing) (o : Option HeardFrame) → s.plan ≡ t.plan → s.adjustment ≡ t.adjustment → IfSome o (IsHeardSo network s)
     → IfSome o (IsHeardSo network t)
@@ -425,27 +371,4 @@ pub turns_on : (network : Network) (device : DeviceId) (node : Node) (e : EndSys
     → StandsAsEnd (record { own = e.own; sync = sync; heard = e.heard; agenda = e.agenda; rows = e.rows; entering = e.entering; last = e.last }) network device
     (node_turned_on node)
 turns_on network device node e sync stands off value =
-    record {
-      own = stands.own;
-      sound = stands.sound;
-      standing = ap (λ (s : Standing). after s turned_on) stands.standing ∙ sym value;
-      plan = stands.plan;
-      last = stands.last;
-      begun = stands.begun;
-      small = stands.small;
-      heard = stands.heard;
-      near = record {
-        a = heard_still network node.standing (after node.standing turned_on) e.heard.best_a refl refl stands.near.a;
-        b = heard_still network node.standing (after node.standing turned_on) e.heard.best_b refl refl stands.near.b;
-      };
-      joined = stands.joined;
-      number = tt;
-      rows = stands.rows;
-      entering = stands.entering;
-      slot = stands.slot;
-      agenda = record {
-        sending = on_sending network device node.standing node.changed node.done e.agenda.sending off stands.agenda.sending;
-        correction = on_correction network node.standing node.changed node.done e.agenda.correction off stands.agenda.correction;
-        dispatch = on_dispatch network device node.standing node.changed node.done e.agenda.dispatch off stands.agenda.dispatch;
-      };
-    }
+    grind (arith, heard_still, on_sending, on_correction, on_dispatch)

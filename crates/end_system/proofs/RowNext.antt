@@ -86,10 +86,7 @@ is_at : (network : Network) (device : DeviceId) (own : Own) (rows : Rows) (s : S
     → IsOwnOf network device own → IsSlotOf network (SentBy device) next.slot → s.adjustment ≡ adjustment
     → IsNextFrom own rows adjustment.0 first bound next → next.at.0 ≡ (value_of network (dispatching next.slot.place.row next.cycle) -ℤ s.adjustment.0)
 is_at network device own rows s adjustment first bound next is of same found =
-    found.at
-    ∙ (ap (λ (n : ℕ). pos (next.cycle * n + next.slot.place.offset) -ℤ adjustment.0) (length_is network device own is)
-    ∙ (ap (λ (n : ℕ). pos (next.cycle * amount network.cycle + n) -ℤ adjustment.0) (sym (offset_is network device next.slot of))
-    ∙ ap (λ (u : Units). value_of network (dispatching next.slot.place.row next.cycle) -ℤ u.0) (sym same)))
+    grind (arith, length_is, amount, offset_is, value_of, dispatching)
 
 -- ---- the first behind a local value
 
@@ -180,9 +177,7 @@ first_is_next network device own rows s adjustment local value first bound next 
       synchronised,
       record {
         leaves = leaves network device own next.slot next.cycle is of found.slot.residue start;
-        ahead = subst (λ (n : ℕ). local <ℤ pos (next.cycle * n + offset_of network next.slot.place.row)) (length_is network device own is)
-            (subst (λ (n : ℕ). local <ℤ pos (next.cycle * c + n)) (sym (offset_is network device next.slot of))
-            (up_to_value local value _ behind.least ahead));
+        ahead = grind (arith, length_is, offset_is, of, up_to_value, ahead);
         done_before = λ other n there. absurd (none_in (dispatching other n) there);
         rest = λ other n h later sooner.
             let slot = slot_of network device other n h in
@@ -209,32 +204,14 @@ first_is_next network device own rows s adjustment local value first bound next 
 -- what comes after a slot in a cycle is not below the slot with the next row, and what is not comes after it
 after_from : (first m n r q a b c x y z : ℕ) → first ≡ m - m % 64 → q ≡ m % 64 → r ≡ n % 64 → IsBelow (m ∷ x ∷ y ∷ z ∷ []) (n ∷ a ∷ b ∷ c ∷ [])
     → (first ≤ n) × (n < first + 64 → IsBelow (r ∷ a ∷ b ∷ c ∷ []) (q ∷ x ∷ y ∷ (z + 1) ∷ []) → ⊥)
-after_from first m n r q a b c x y z from is at (inl less) = (
-  omega (arith, less, from),
-  λ within below. elim below [
-    | inl low ↦ omega (arith, low, less, from, is, at, within)
-    | inr (same, more) ↦ omega (arith, same, less, from, is, at, within)
-  ],
-)
-after_from first m n r q a b c x y z from is at (inr (same, above)) = (
-  omega (arith, same, from),
-  λ within below. elim below [
-    | inl low ↦ omega (arith, low, same, is, at)
-    | inr (equal, more) ↦ below_more a b c x y z more above
-  ],
-)
+after_from first m n r q a b c x y z from is at (inl less) = grind arith
+after_from first m n r q a b c x y z from is at (inr (same, above)) = grind (arith, below_more)
 
 from_after : (first m n r q a b c x y z : ℕ) → first ≡ m - m % 64 → q ≡ m % 64 → r ≡ n % 64 → first ≤ n
     → (n < first + 64 → IsBelow (r ∷ a ∷ b ∷ c ∷ []) (q ∷ x ∷ y ∷ (z + 1) ∷ []) → ⊥)
     → IsBelow (m ∷ x ∷ y ∷ z ∷ []) (n ∷ a ∷ b ∷ c ∷ [])
 from_after first m n r q a b c x y z from is at reached behind =
-    elim (cases_of m n) [
-      | inl less ↦ inl less
-      | inr (inl same) ↦ inr (same, not_below_more a b c x y z (λ below. behind (omega (arith, same, from)) (inr (omega (arith, same, is, at), below))))
-      | inr (inr more) ↦
-          let b = same_block first m n from reached more in
-          absurd (behind b.0 (inl (omega (arith, b.1, is, at))))
-    ]
+    grind (arith, cases_of, not_below_more, same_block)
 
 -- lists compared through one between
 trans_below : (xs ys zs : List ℕ) → IsBelow xs ys → IsBelow ys zs → IsBelow xs zs
@@ -268,9 +245,7 @@ row_id n = record { 0 = n }
 sooner_by : (network : Network) (other : RowId) (n : ℕ) (row : RowId) (m : ℕ) (next : RowId) (k : ℕ) → dispatching other n ≡ dispatching row m
     → IsSooner network row m next k → IsSooner network other n next k
 sooner_by network other n row m next k e h =
-    let rows : row ≡ other = cc in
-    let cycles : m ≡ n = cc in
-    subst (λ (r : RowId). IsSooner network r n next k) rows (subst (λ (c : ℕ). IsSooner network row c next k) cycles h)
+    grind arith
 
 done_same : (done : List ClockTask) (other : RowId) (n : ℕ) (row : RowId) (m : ℕ) → other.0 ≡ row.0 → n ≡ m
     → Contains (done ++ dispatching row m ∷ []) (dispatching other n)

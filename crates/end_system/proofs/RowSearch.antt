@@ -1,7 +1,7 @@
 -- The first dispatch of a device that comes no earlier than a bound.
 use Rattle.end_system.proofs.Words.{◌%◌, ◌*◌, ◌+◌, ◌-ℤ◌, ◌<◌, ◌^◌, ◌∙◌, ◌∷◌, ◌≡◌, ◌≤◌, AreRowsOf, Contains, DeviceId, Dispatch, IsBelow, IsInRange, IsSlotOf}
-use Rattle.end_system.proofs.Words.{List, Network, Own, Rows, SentBy, Slot, Some, amount, amount_most, ap, arith, in_all, inl, inr, key_of, mul-le-mul_left}
-use Rattle.end_system.{proofs.Words.{numbers_of, pos, refl, slice_get, slice_get_within, subst, sym, turn_of, ℕ, ℤ, ⊎_elim}, specs.RowSlots.IsNextFrom}
+use Rattle.end_system.proofs.Words.{Network, Own, Rows, SentBy, Slot, Some, amount, amount_most, ap, arith, in_all, inl, inr, key_of, mul-le-mul_left}
+use Rattle.end_system.{proofs.Words.{numbers_of, pos, slice_get, slice_get_within, subst, sym, turn_of, ℕ, ℤ, ⊎_elim}, specs.RowSlots.IsNextFrom}
 use Rattle.std.proofs.lemmas.{Bool.cases_lt, List.Elements.All-contains, Option.get_or_from_slice_get}
 use Rattle.schedule_tables.{proofs.{EntryLemmas.in_range, Search.no_earlier}, specs.{Slots.{AreBelow, IsFirstSlot}, declared.slot.Place.Place}}
 
@@ -33,17 +33,7 @@ in_block first n c r q a b d e f g = (λ h. omega arith, λ h. omega arith)
 least_here : (first : ℕ) (s t : Slot) (n : ℕ) → first % 64 ≡ 0 → s.residue < 64 → t.residue ≡ n % 64 → first ≤ n
     → (n < first + 64 → IsBelow (turn_of t) (turn_of s) → ⊥) → IsBelow (n ∷ numbers_of t.place) ((first + s.residue) ∷ numbers_of s.place) → ⊥
 least_here first s t n whole small residue from later below =
-    let le : n ≤ first + s.residue = up_to n (first + s.residue) (numbers_of t.place) (numbers_of s.place) below in
-    let block = in_block first n (first + s.residue) t.residue s.residue whole refl small residue from le in
-    later (omega (arith, le, small))
-    (elim below [
-      | inl lt ↦ inl (block.0 lt)
-      | inr (same, more) ↦ inr (block.1 same, more)
-    ])
-  where
-    up_to : (n c : ℕ) (xs ys : List ℕ) → IsBelow (n ∷ xs) (c ∷ ys) → n ≤ c
-    up_to n c xs ys (inl lt) = omega (arith, lt)
-    up_to n c xs ys (inr (same, more)) = omega (arith, same)
+    grind (arith, numbers_of, in_block)
 
 -- the search's answer, where a slot is not below the bound
 pub first_here : (network : Network) (device : DeviceId) (own : Own) (rows : Rows) (adjustment : ℤ) (first : ℕ) (bound : Slot) (next : Dispatch)

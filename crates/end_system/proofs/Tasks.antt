@@ -19,10 +19,7 @@ IsAheadTask network device node (doing deed) = IsAhead network device node.stand
 
 leaves_by : (network : Network) (device : DeviceId) (node : Node) (row : RowId) (cycle : ℕ) → is_end network device ≡ true
     → HasFrame network device node row cycle → Leaves network device row cycle
-leaves_by network device node row cycle end h = elim h.has [
-  | inl sender ↦ record { entry = h.entry; is = h.is; leaves = h.leaves; occurs = h.occurs; sender = sender }
-  | inr other ↦ absurd (not_both _ end other.0)
-]
+leaves_by network device node row cycle end h = grind (arith, not_both)
 
 pub ahead_task : (network : Network) (device : DeviceId) (node : Node) (own : Own) (task : Task) → IsOwnOf network device own
     → IsPending network device node task → IsAheadTask network device node task
@@ -37,14 +34,7 @@ pub pending_task : (network : Network) (device : DeviceId) (node : Node) (deed :
 pending_task network device node (sending cycle) sound h = (sound, record { own = h.own; ahead = h.ahead; not_yet = h.not_yet })
 pending_task network device node (correcting cycle) sound h = (sound, record { own = h.own; ahead = h.ahead; not_yet = h.not_yet })
 pending_task network device node (dispatching row cycle) sound h =
-    let leaves = h.own.1 in (
-      sound,
-      record {
-        own = (h.own.0, record { entry = leaves.entry; is = leaves.is; leaves = leaves.leaves; occurs = leaves.occurs; has = inl leaves.sender });
-        ahead = h.ahead;
-        not_yet = h.not_yet;
-      },
-    )
+    grind arith
 
 -- ---- each kind has its next
 
@@ -352,17 +342,7 @@ dispatch_first network device own node agenda reading next (doing (correcting cy
     no_correction network device node agenda reading cycle a nocor h there
 dispatch_first network device own node agenda reading next (doing (dispatching row cycle)) is a none nocor here soon h there (inl lt) = omega arith
 dispatch_first network device own node agenda reading next (doing (dispatching row cycle)) is a none nocor here soon h there (inr (e, before)) =
-    let below : IsBelow (dispatch_order network row) (dispatch_order network next.slot.place.row) = before_below _ _ _ _ _ _ _ _
-    (place_is network device row cycle h.own.1) (place_is network device next.slot.place.row next.cycle here.1.leaves) before in
-    elim (cases_of cycle next.cycle) [
-      | inl less ↦ h.not_yet (here.1.rest row cycle h.own.1 h.ahead (inl less))
-      | inr (inl same) ↦ h.not_yet (here.1.rest row cycle h.own.1 h.ahead (inr (same, below)))
-      | inr (inr more) ↦ far_behind (amount network.cycle) cycle next.cycle _ _ (amount network.precision) reading node.standing.adjustment.0 more
-          (is.early next.slot.place.row next.cycle here.1.leaves) (precision_some network device own is)
-          (subst (λ (p : ℤ). reading <ℤ (reading_for network node (doing (dispatching next.slot.place.row next.cycle)) +ℤ p))
-          (precision_of network device own is)
-          soon) there
-    ]
+    grind (arith, before_below, place_is, cases_of, far_behind, amount, precision_some, dispatching, precision_of)
 
 -- the next dispatch, where it is due and nothing else is, is the first task
 pub first_is_dispatch : (network : Network) (device : DeviceId) (own : Own) (node : Node) (agenda : Agenda) (moment : Moment) (next : Dispatch)

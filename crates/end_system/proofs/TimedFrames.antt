@@ -1,6 +1,6 @@
 -- Time-triggered frames that arrive at an end system.
-use Rattle.end_system.proofs.Words.{◌+ℤ◌, ◌+◌, ◌<ℤ◌, ◌^◌, ◌∙◌, ◌≡◌, ◌≤ℤ◌, Bool, DeviceId, EndSystem, HasTaken, Intake, List, Moment, Network, Node, Standing}
-use Rattle.end_system.proofs.Words.{StandsAsEnd, ap, arith, arriving, called, false, ints, is_off, neg_ℤ, next_point, pos, refl, standpoint_at, sym, true, ℕ, ℤ}
+use Rattle.end_system.proofs.Words.{◌+ℤ◌, ◌+◌, ◌<ℤ◌, ◌^◌, ◌∙◌, ◌≡◌, ◌≤ℤ◌, DeviceId, EndSystem, HasTaken, Intake, List, Moment, Network, Node, Standing}
+use Rattle.end_system.proofs.Words.{StandsAsEnd, ap, arith, arriving, called, false, ints, is_off, neg_ℤ, next_point, pos, standpoint_at, sym, true, ℤ}
 use Rattle.run_law.specs.{device.Standpoints.clock_of, machines.{Calls.IsLaterMoment, Nodes.TakenFrame}}
 use Rattle.device_rules.specs.{Headings.heading_fault, declared.heading.Heading.Heading}
 use Rattle.tte_lemmas.proofs.{Bools.takes_by, Integers.whole}
@@ -19,32 +19,14 @@ pub heading_at : (network : Network) (device : DeviceId) (node : Node) (e : EndS
     → heading_fault (standpoint_at node moment).takes_part (standpoint_at node moment).state network.marker heading
     ≡ heading_fault true e.sync.state e.own.marker heading
 heading_at network device node e moment heading stands on =
-    ap (λ (b : Bool). heading_fault b node.standing.state network.marker heading) (takes_by (is_off node.standing.state) node.broken on stands.sound)
-    ∙ ap (λ (s : Standing). heading_fault true s.state network.marker heading) stands.standing
-    ∙ ap (λ (marker : ℕ). heading_fault true e.sync.state marker heading) (sym stands.own.marker)
+    grind (arith, takes_by, is_off)
 
 pub stands_with : (network : Network) (device : DeviceId) (node : Node) (e : EndSystem) (moment : Moment) (entering : Intake) (taken : List TakenFrame)
     → StandsAsEnd e network device node → IsLaterMoment node.last moment → HasTaken network device entering taken
     → StandsAsEnd (record { own = e.own; sync = e.sync; heard = e.heard; agenda = e.agenda; rows = e.rows; entering = entering; last = moment }) network device
     (called moment arriving (record node { taken = taken }))
 stands_with network device node e moment entering taken stands later are =
-    record {
-      own = stands.own;
-      sound = stands.sound;
-      standing = stands.standing;
-      plan = stands.plan;
-      last = refl;
-      begun = not_fallen node.last.reading.0 moment.reading.0 stands.begun later.reading;
-      small = stands.small;
-      heard = stands.heard;
-      near = stands.near;
-      joined = stands.joined;
-      number = number_stays network node.standing e.heard node.last.reading.0 moment.reading.0 (next_point node.standing) later.reading stands.number;
-      rows = stands.rows;
-      entering = are;
-      slot = stands.slot;
-      agenda = stands.agenda;
-    }
+    grind (arith, not_fallen, number_stays, next_point)
 
 pub clock_is : (network : Network) (device : DeviceId) (node : Node) (e : EndSystem) (moment : Moment) (local : ℤ) → StandsAsEnd e network device node
     → pos 0 ≤ℤ moment.reading.0 → local ≡ (moment.reading.0 +ℤ e.sync.adjustment.0) → local ≡ clock_of (standpoint_at node moment)

@@ -1,7 +1,6 @@
 -- The values of an agenda.
 use Rattle.end_system.proofs.Words.{◌*◌, ◌+◌, ◌-ℤ◌, ◌<ℤ◌, ◌<◌, ◌^◌, ◌∙◌, ◌≡◌, ◌≤ℤ◌, ◌≤◌, Appointment, DeviceId, IsCorrection, IsOwnOf, Network, None, Own, Some}
-use Rattle.end_system.proofs.Words.{Standing, SyncPlan, Synchronised, Units, [], amount, ap, arith, correcting, from_zero, ints, next_point, pos, subst, sym}
-use Rattle.end_system.proofs.Words.{true, ℕ, ℤ}
+use Rattle.end_system.proofs.Words.{Standing, SyncPlan, Synchronised, Units, [], amount, ap, arith, correcting, from_zero, ints, next_point, pos, true, ℕ, ℤ}
 use Rattle.net_plan.specs.Ranges.{IsWithin}
 use Rattle.run_law.{proofs.device.States.is_in, specs.device.States.is_synchronised}
 use Rattle.tte_lemmas.proofs.Lists.{none_in}
@@ -36,21 +35,12 @@ pub next_correction : (network : Network) (device : DeviceId) (own : Own) (s : S
     → local <ℤ pos value → next.at.0 ≡ (pos value -ℤ s.adjustment.0)
     → IsCorrection network s local [] (Some next)
 next_correction network device own s local next value is point value_is ahead at =
-    let e : value ≡ next.cycle * amount network.cycle + amount network.correction = value_is ∙ correction_is network device own next.cycle is in (
-      record {
-        point = point;
-        ahead = subst (λ (n : ℕ). local <ℤ pos n) e ahead;
-        done_before = λ n there. absurd (none_in (correcting n) there);
-      },
-      subst (λ (n : ℕ). next.at.0 ≡ (pos n -ℤ s.adjustment.0)) e at,
-    )
+    grind (arith, amount, correction_is, none_in, correcting)
 
 pub passed_correction : (network : Network) (device : DeviceId) (own : Own) (s : Standing) (local : ℤ) (cycle value : ℕ) → IsOwnOf network device own
     → next_point s ≡ Some cycle → value ≡ cycle * amount own.plan.cycle_length + amount own.correction → pos value ≤ℤ local
     → IsCorrection network s local [] None
-passed_correction network device own s local cycle value is point value_is passed = λ n other.
-    subst (λ (k : ℕ). pos (k * amount network.cycle + amount network.correction) ≤ℤ local) (same_cycle cycle n (sym point ∙ other))
-    (subst (λ (k : ℕ). pos k ≤ℤ local) (value_is ∙ correction_is network device own cycle is) passed)
+passed_correction network device own s local cycle value is point value_is passed = grind (arith, amount, same_cycle, correction_is)
 
 pub in_sync : (s : Standing) → is_synchronised s.state ≡ true → s.state ≡ Synchronised
 in_sync s e = is_in s.state e

@@ -14,16 +14,7 @@ conditions =
 -- each condition stands at the place below its number
 pub stands_by_number : (condition other : Outside) → slice_index_or conditions (condition_number condition - 1) other ≡ condition
 stands_by_number Order other = refl
-stands_by_number Late other = refl
-stands_by_number Rate other = refl
-stands_by_number Wire other = refl
-stands_by_number Hold other = refl
-stands_by_number Channel other = refl
-stands_by_number NotMaster other = refl
-stands_by_number SecondBreak other = refl
-stands_by_number TooFewMasters other = refl
-stands_by_number NotBroken other = refl
-stands_by_number NotOff other = refl
+stands_by_number rest other = refl
 
 -- the condition at a place has the number above it
 pub number_of_place : (place : ℕ) (other : Outside) → place < 11 → condition_number (slice_index_or conditions place other) ≡ place + 1
@@ -57,29 +48,16 @@ pub own_violated : (network : Network) (before : List Event) (event : Event) (co
     → Violates network before event condition → (first_own event.what < condition_number condition) × (condition_number condition ≤ behind_own event.what)
 own_violated network before event Order above v = absurd (omega (arith, above))
 own_violated network before event Late above v = absurd (omega (arith, above))
-own_violated network before event Rate above v = rw v.what (omega arith, omega arith)
-own_violated network before event Wire above v = rw v.what (omega arith, omega arith)
-own_violated network before event Hold above v = rw v.what (omega arith, omega arith)
-own_violated network before event Channel above v = rw v.what (omega arith, omega arith)
 own_violated network before event NotMaster above v = rw v.breaks (omega arith, omega arith)
 own_violated network before event SecondBreak above v = rw v.breaks (omega arith, omega arith)
 own_violated network before event TooFewMasters above v = rw v.breaks (omega arith, omega arith)
-own_violated network before event NotBroken above v = rw v.what (omega arith, omega arith)
-own_violated network before event NotOff above v = rw v.what (omega arith, omega arith)
+own_violated network before event other above v = rw v.what (omega arith, omega arith)
 
 -- what holds of the first two holds of all up to them
 pub first_two : (P : Outside → Type 0) → P Order → P Late → (condition : Outside) → condition_number condition ≤ 2 → P condition
 first_two P first second Order low = first
 first_two P first second Late low = second
-first_two P first second Rate low = absurd (omega (arith, low))
-first_two P first second Wire low = absurd (omega (arith, low))
-first_two P first second Hold low = absurd (omega (arith, low))
-first_two P first second Channel low = absurd (omega (arith, low))
-first_two P first second NotMaster low = absurd (omega (arith, low))
-first_two P first second SecondBreak low = absurd (omega (arith, low))
-first_two P first second TooFewMasters low = absurd (omega (arith, low))
-first_two P first second NotBroken low = absurd (omega (arith, low))
-first_two P first second NotOff low = absurd (omega (arith, low))
+first_two P first second other low = absurd (omega (arith, low))
 
 -- an event that breaks neither of them breaks none before its own
 pub none_before : (network : Network) (before : List Event) (event : Event) → (Violates network before event Order → ⊥)

@@ -10,15 +10,8 @@ use Rattle.net_plan.specs.declared.event.What.TheVariants as events
 
 -- what breaks the device at a place is a break of it
 breaks_it : (place : ℕ) (what : What) → breaks_at place what ≡ true → (device : DeviceId) × (what ≡ events.Break device) × ((device.0 == place) ≡ true)
-breaks_it place (events.Rate device rate) h = absurd cc
-breaks_it place (events.Wire link way delay) h = absurd cc
-breaks_it place (events.Hold link way delay) h = absurd cc
-breaks_it place (events.Cut link way) h = absurd cc
-breaks_it place (events.Heal link way) h = absurd cc
-breaks_it place (events.On device) h = absurd cc
 breaks_it place (events.Break device) h = (device, refl, h)
-breaks_it place (events.Send link octets) h = absurd cc
-breaks_it place events.End h = absurd cc
+breaks_it place other h = absurd cc
 
 -- the events break the device at a place where it is the broken one
 broken_at : (admitted : List Event) (broken : Option DeviceId) → ((d : DeviceId) → (broken ≡ Some d) ↔ IsBroken admitted d) → (place : ℕ)

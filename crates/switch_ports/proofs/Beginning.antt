@@ -57,15 +57,8 @@ begun_stands s network device accepted site intake rows sync start heard collect
       plan = refl;
       heard = silent_now s.heard heard;
       changed = sym changed_is;
-      corrects = corrects
-          ∙ and_then_same (λ (cycle : ℕ). correction_at s.site cycle s.sync.adjustment.0 s.changed.0)
-          (λ (cycle : ℕ). reading_of (correction_value network cycle) s.sync.adjustment.0 s.changed.0) (next_point s.sync)
-          (λ cycle. ap (λ (q : SyncPlan). reading_of (pos (cycle * amount q.cycle_length + amount s.site.correction)) s.sync.adjustment.0 s.changed.0) site.plan
-          ∙ ap (λ (u : Units). reading_of (pos (cycle * amount network.cycle + amount u)) s.sync.adjustment.0 s.changed.0) site.correction)
-          ∙ ap (λ (x : Standing). option_and_then (λ (cycle : ℕ). reading_of (correction_value network cycle) x.adjustment.0 s.changed.0) (next_point x))
-          (sym standing)
-          ∙ ap (λ (z : ℤ). option_and_then (λ (cycle : ℕ). reading_of (correction_value network cycle) (adjustment_at_start (start_of network device)).0 z)
-          (next_point (begun (plan_of network device) (start_of network device)))) changed_is;
+      corrects =
+          grind (arith, and_then_same, correction_at, reading_of, correction_value, next_point, amount, option_and_then, standing, plan_of, changed_is);
       done = λ cycle there. nothing_done cycle 1 there;
       begun = never_less (pos 0);
       small = start_small (start_of network device) start;
@@ -79,15 +72,7 @@ begun_stands s network device accepted site intake rows sync start heard collect
         joined = λ j i. absurd (no_joiner (start_of network device) j);
         fair = λ lt ch. silent (IsFair network (begun (plan_of network device) (start_of network device))) s.heard ch heard;
       };
-      collects = rw collector (record {
-        collected = fresh_stands s.site.precision.0 s.site.calc.0;
-        window = ap (λ (u : Units). u.0) site.precision;
-        calc = ap (λ (u : Units). u.0) site.calc;
-        idle = λ n. refl;
-        earliest = λ limit low points emitted. low;
-        masters = λ k d lt. absurd (omega (arith, lt));
-        from_zero = λ k d lt. absurd (omega (arith, lt));
-      });
+      collects = grind (arith, fresh_stands);
       departs = departs_fresh network device s.departures accepted.range rows;
       awaits = awaits_fresh (state_at_start (start_of network device)) network device s.departures _ _ _ rows;
     }

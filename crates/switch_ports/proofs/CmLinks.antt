@@ -1,4 +1,5 @@
 -- The links of a compression master.
+use Rattle.std.proofs.Common.{arith}
 use Rattle.switch_ports.proofs.{Rooms.{head_there, one_of_four}, Words.{slice_get, slice_get-get_or, subst, sym, true}}
 use Rattle.switch_ports.proofs.Words.{◌∙◌, ◌∷◌, ◌≡◌, ◌⊎◌, A, B, Channel, Device, DeviceId, IsAccepted, IsSomeAnd, Link, LinkId, List, Network, None, Option}
 use Rattle.switch_ports.proofs.Words.{Some, [], ap, false, inl, inr, is_cm, is_end_system, is_master, link_at, masters, option_and_then, option_map_or, refl}
@@ -85,10 +86,7 @@ no_relay (Some d) channel other h k = let e : Cm ≡ Relay = sym h.0 ∙ k.0 in 
 never_below : (network : Network) (device : DeviceId) (channel other : Channel) (l : Link)
     → (IsEndSystem network l.child ⊎ IsRoleOf network Relay other l.child) → l.child ≡ device → IsCmOf network channel device → ⊥
 never_below network device channel other l below is cm =
-    elim below [
-      | inl end ↦ no_master (device_at network l.child) channel (subst (IsCmOf network channel) (sym is) cm) end
-      | inr relay ↦ no_relay (device_at network l.child) channel other (subst (IsCmOf network channel) (sym is) cm) relay
-    ]
+    grind (arith, no_master, no_relay)
 
 -- it is the child of none
 pub not_child : (network : Network) (device : DeviceId) (channel : Channel) (link : LinkId) → IsAccepted network → is_cm network device ≡ true

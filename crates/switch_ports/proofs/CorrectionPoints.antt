@@ -19,9 +19,7 @@ number_some o n limit e h = subst (λ (p : Option ℕ). IsSomeAnd p (λ k. k ≤
 pub number_within : (s : Switch) (network : Network) (device : DeviceId) (node : Node) (cycle : ℕ) → StandsAs s network device node
     → next_point s.sync ≡ Some cycle → IsSomeAnd (next_point s.sync) (λ n. n ≤ last_cycle + 2)
 number_within s network device node cycle st e =
-    let own : next_point node.standing ≡ Some cycle = ap next_point st.standing ∙ e in
-    let t = timed_next node.standing.state node.standing.number cycle own in
-    number_some (next_point s.sync) cycle (last_cycle + 2) e (subst (λ (n : ℕ). n ≤ last_cycle + 2) t.1 (st.steady t.0).number)
+    grind (arith, next_point, timed_next, number_some, last_cycle)
 
 near_by : (n l r e p : ℕ) (x point adjustment prec two : ℤ) → n ≤ l + 1 → l ≡ 2 ^ 20 + 2 ^ 17 → r ≤ 2 ^ 40 → e ≤ 2 ^ 43 → p ≤ 2 ^ 40 → prec ≡ pos p
     → two ≡ pos (2 * r) → x ≡ (pos (n * r) +ℤ pos e)

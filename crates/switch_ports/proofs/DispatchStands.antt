@@ -15,11 +15,7 @@ use Rattle.run_law.specs.{declared.steps.Act.Act, machines.{Answers.{IsActOf, wi
 departure_closed : (network : Network) (device : DeviceId) (taken : List TakenFrame) (d : Departure) (b : Bool) → IsDeparture network device taken d
     → IsDeparture network device taken (if b then record d { awaited = None } else d)
 departure_closed network device taken d false is = is
-departure_closed network device taken d true is = record {
-  of = is.of;
-  held = is.held;
-  fit = fit_closed d true is.fit;
-}
+departure_closed network device taken d true is = grind (arith, fit_closed)
 
 departs_closed : (network : Network) (device : DeviceId) (place : ℕ) (old new : Departures) (taken : List TakenFrame) → Changes (closed place) old new
     → HasDepartures network device old taken → HasDepartures network device new taken

@@ -1,7 +1,7 @@
 -- The rows' frames that a switch has still to dispatch.
 use Rattle.switch_ports.proofs.Words.{◌&&◌, ◌+ℤ◌, ◌-ℤ◌, ◌<ℤ◌, ◌==◌, ◌∙◌, ◌≡◌, ◌≤ℤ◌, ◌⊎◌, All-contains, Awaits, AwaitsIn, AwaitsSo, Contains, Departure}
-use Rattle.switch_ports.proofs.Words.{Departures, Device, DeviceId, Dispatch, Entry, Held, IfSome, Integrating, IsAccepted, IsDeparture, IsEntry, IsLeaving}
-use Rattle.switch_ports.proofs.Words.{IsPending, IsSomeAnd, Joining, LeavingRow, Network, Node, None, Off, Option, Precedes, RowId, Some, StandsAs, State}
+use Rattle.switch_ports.proofs.Words.{Departures, Device, DeviceId, Dispatch, Entry, Held, IfSome, IsAccepted, IsDeparture, IsEntry, IsLeaving}
+use Rattle.switch_ports.proofs.Words.{IsPending, IsSomeAnd, LeavingRow, Network, Node, None, Option, Precedes, RowId, Some, StandsAs, State}
 use Rattle.switch_ports.proofs.Words.{Switch, Synchronised, TakenFrame, Task, VlId, amount, ap, arith, correcting, dispatch_at, dispatching, doing, emitting}
 use Rattle.switch_ports.proofs.Words.{false, held_by, held_in, inl, inr, ints, is_end, is_end_system, nat_le, option_and_then, option_map, option_map_or}
 use Rattle.switch_ports.proofs.Words.{reading_for, refl, sending, subst, sym, true, value_of, ℕ, ℤ}
@@ -47,12 +47,7 @@ to_last : (length : ℕ) (of : LeavingRow) (h : Held) (o : Option TakenFrame) �
     → (h ≡ held_in length of h.cycle) × (is_dispatch_in of h.cycle ≡ true) × IsSomeAnd o (λ t. (t.cycle ≡ h.cycle) × (t.at <ℤ value_in length of h.cycle))
 to_last length of h None e = absurd cc
 to_last length of h (Some t) e =
-    let g = held_so length of t.cycle t.at h e in
-    let same : t.cycle ≡ h.cycle = sym (ap (λ (x : Held). x.cycle) g.0) in (
-      g.0 ∙ ap (held_in length of) same,
-      subst (λ (n : ℕ). is_dispatch_in of n ≡ true) same g.1,
-      (same, subst (λ (n : ℕ). t.at <ℤ value_in length of n) same g.2),
-    )
+    grind (arith, held_so, held_in)
 
 its_vl : (network : Network) (device : DeviceId) (of : LeavingRow) (is : IsLeaving network device of) → of.vl ≡ is.entry.row.vl
 its_vl network device of is = ap (λ (o : LeavingRow). o.vl) is.kept
@@ -118,9 +113,7 @@ awaits_then : (state : State) (network : Network) (ds : Departures) (node : Node
     → AwaitsIn state network ds node.standing.adjustment.0 node.changed node.done x
     → Awaits network ds node.standing.adjustment.0 node.changed node.done x
 awaits_then Synchronised network ds node x e h = h
-awaits_then Off network ds node x e h = absurd cc
-awaits_then Integrating network ds node x e h = absurd cc
-awaits_then Joining network ds node x e h = absurd cc
+awaits_then other network ds node x e h = absurd cc
 
 -- what a synchronised switch awaits
 pub its_awaits : (s : Switch) (network : Network) (device : DeviceId) (node : Node) → StandsAs s network device node → node.standing.state ≡ Synchronised
@@ -189,16 +182,11 @@ dispatch_is s network device node (doing (dispatching row cycle)) st (d, there, 
 awaits_or_none : (state : State) (network : Network) (ds : Departures) (node : Node) (x : ℤ)
     → AwaitsIn state network ds node.standing.adjustment.0 node.changed node.done x → (state ≡ Synchronised) ⊎ (ds.next ≡ None)
 awaits_or_none Synchronised network ds node x h = inl refl
-awaits_or_none Off network ds node x h = inr h
-awaits_or_none Integrating network ds node x h = inr h
-awaits_or_none Joining network ds node x h = inr h
+awaits_or_none other network ds node x h = inr h
 
 pub its_state : (s : Switch) (network : Network) (device : DeviceId) (node : Node) (next : Dispatch) → StandsAs s network device node
     → s.departures.next ≡ Some next → node.standing.state ≡ Synchronised
-its_state s network device node next st e = elim (awaits_or_none node.standing.state network s.departures node _ st.awaits) [
-  | inl sync ↦ sync
-  | inr none ↦ absurd (let f = sym none ∙ e in cc)
-]
+its_state s network device node next st e = grind (arith, awaits_or_none)
 
 pub its_first : (s : Switch) (network : Network) (device : DeviceId) (node : Node) (o : Option Dispatch) → StandsAs s network device node
     → node.standing.state ≡ Synchronised → s.departures.next ≡ o → IsFirstOf node.standing.adjustment.0 s.departures.rows.items o
@@ -261,9 +249,7 @@ no_dispatch s network device node (emitting sent) st e p = p
 no_dispatch s network device node (doing (sending cycle)) st e p = p
 no_dispatch s network device node (doing (correcting cycle)) st e p = p
 no_dispatch s network device node (doing (dispatching row cycle)) st e (d, there, awaited, same, sync) =
-    let none = its_first s network device node None st sync e in
-    none_mapped (dispatch_at node.standing.adjustment.0 d.of) d.awaited _ awaited
-    (All-contains (λ x. dispatch_by node.standing.adjustment.0 x ≡ None) s.departures.rows.items d none there)
+    grind (arith, its_first, none_mapped, dispatch_at, All-contains)
 
 late_by : (f : Held → Dispatch) (o : Option Held) (h : Held) (next : Dispatch) → o ≡ Some h → IfSome (option_map f o) (λ other. Precedes other next → ⊥)
     → Precedes (f h) next → ⊥

@@ -61,38 +61,11 @@ sent_stands s collector network device node sent st kept stands = record {
 -- what is left to do then was to be done before
 pub pending_before : (network : Network) (device : DeviceId) (node : Node) (sent : Compressed) (task : Task)
     → IsPending network device (with_sent node sent) task → IsPending network device node task
-pending_before network device node sent (emitting e) p = (
-  p.0,
-  record {
-    cm = p.1.cm;
-    clusters = p.1.clusters;
-    are = p.1.are;
-    cluster = p.1.cluster;
-    there = p.1.there;
-    is = p.1.is;
-    not_yet = λ at. p.1.not_yet (Contains-append_left node.emitted (sent ∷ []) e at);
-  },
-)
+pending_before network device node sent (emitting e) p = grind (arith, Contains-append_left)
 pending_before network device node sent (doing (sending cycle)) p = (p.0, record { own = p.1.own; ahead = p.1.ahead; not_yet = p.1.not_yet })
 pending_before network device node sent (doing (correcting cycle)) p = (p.0, record { own = p.1.own; ahead = p.1.ahead; not_yet = p.1.not_yet })
 pending_before network device node sent (doing (dispatching row cycle)) p =
-    let f = p.1.own.1 in (
-      p.0,
-      record {
-        own = (
-          p.1.own.0,
-          record {
-            entry = f.entry;
-            is = f.is;
-            leaves = f.leaves;
-            occurs = f.occurs;
-            has = elim f.has [ inl x ↦ inl x | inr (y, t) ↦ inr (y, record { last = t.last }) ];
-          },
-        );
-        ahead = p.1.ahead;
-        not_yet = p.1.not_yet;
-      },
-    )
+    grind arith
 
 same_reading : (network : Network) (node : Node) (sent : Compressed) (task : Task) → reading_for network (with_sent node sent) task ≡ reading_for network node
     task

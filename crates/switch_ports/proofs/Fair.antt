@@ -12,10 +12,7 @@ use Rattle.run_law.specs.declared.steps.Ripe.TheVariants as ripe
 
 better_keeps : (P : HeardFrame → Type 0) (o : Option HeardFrame) (later best : HeardFrame) → IsBetterOf o later best → P later → IfSome o P → P best
 better_keeps P None later best e new old = subst P (sym e) new
-better_keeps P (Some b) later best e new old = elim e [
-  | inl x ↦ subst P (sym x.1) old
-  | inr y ↦ subst P (sym y.1) new
-]
+better_keeps P (Some b) later best e new old = grind arith
 
 best_same : (P : HeardFrame → Type 0) (old new : Summary) (ch : Channel) → new ≡ old → IfSome (best_on ch old) P → IfSome (best_on ch new) P
 best_same P old new ch e h = subst (λ (s : Summary). IfSome (best_on ch s) P) (sym e) h
@@ -93,9 +90,7 @@ not_earlier n c r e k p point adjustment reading changed h = elim (decide n (c +
 pub behind : (n c r e k p : ℕ) (point adjustment reading changed : ℤ) → IsHeardBefore n c r e k p point adjustment reading changed
     → (point +ℤ adjustment) ≤ℤ ((pos (n * r) +ℤ pos e) +ℤ pos p)
 behind n c r e k p point adjustment reading changed h =
-    let more : c * r ≤ n * r = mul-le-mul_right r (not_later n c r e k p point adjustment reading changed h) in
-    let a = h.late in
-    omega (arith, ints, more, a)
+    grind (arith, mul-le-mul_right, not_later, ints)
 
 pub ahead : (n c r e k p : ℕ) (point adjustment reading changed : ℤ) → IsHeardBefore n c r e k p point adjustment reading changed
     → (pos (n * r) +ℤ pos e) ≤ℤ ((point +ℤ adjustment) +ℤ pos (2 * r))

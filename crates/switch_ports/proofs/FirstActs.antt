@@ -85,10 +85,7 @@ corrects_none s network device node reading (Some at) task st e later is due =
     too_late reading at.0 (reading_for network node task) later (correction_bound s network device node task at st e is) due
 
 from_not_less : (m n : ℕ) (adjustment : ℤ) → ((pos m -ℤ adjustment) <ℤ (pos n -ℤ adjustment) → ⊥) → n ≤ m
-from_not_less m n adjustment never = elim (cases_Bool (nat_le n m)) [
-  | inl y ↦ grind (arith, y)
-  | inr no_more ↦ let lt : m < n = grind (arith, no_more) in absurd (never (omega (arith, ints, lt)))
-]
+from_not_less m n adjustment never = grind (arith, cases_Bool, nat_le, ints)
 
 same_at : (o' o x y : ℕ) (adjustment : ℤ) → x ≤ y → y + o ≤ x + o' → o' ≡ o → pos (x + o') -ℤ adjustment ≡ pos (y + o) -ℤ adjustment
 same_at o' o x y adjustment le from e = let same : x + o' ≡ y + o = omega (arith, le, from, e) in ap (λ (n : ℕ). pos n -ℤ adjustment) same

@@ -152,9 +152,7 @@ hears_stands s new network device node moment phase channel frame point within s
 small_join : (c l r e : ℕ) (point adjustment : ℤ) → c ≤ l → l ≡ 2 ^ 20 + 2 ^ 17 → r ≤ 2 ^ 40 → e ≤ 2 ^ 43 → neg_ℤ (pos (2 ^ 41)) ≤ℤ point
     → point ≤ℤ pos (2 ^ 60 + 2 ^ 51) → adjustment ≡ ((pos (c * r) +ℤ pos e) -ℤ point) → IsSmall adjustment
 small_join c l r e point adjustment a is b d low high eq =
-    let more : c * r ≤ l * r = mul-le-mul_right r a in
-    let most : l * r ≤ (2 ^ 20 + 2 ^ 17) * r = rw is (omega arith) in
-    (omega (arith, ints, more, most, b, d, low, high, eq), omega (arith, ints, more, most, b, d, low, high, eq))
+    grind (arith, mul-le-mul_right, ints)
 
 join_lower : (x p r : ℕ) (x' reading point adjustment changed p3 r2 : ℤ) → x' ≡ pos x → adjustment ≡ (x' -ℤ point) → point ≤ℤ reading
     → changed ≡ (reading +ℤ adjustment) → p3 ≡ pos (3 * p) → r2 ≡ pos (2 * r) → 8 * p ≤ r → ((x' +ℤ p3) ≤ℤ (changed +ℤ r2)) × (x' ≤ℤ changed)
@@ -173,15 +171,7 @@ fresh_stands ow calc = record { done = []; clusters = tt; given = refl; past = �
 
 pub fresh_collects : (old collector : Collecting) (network : Network) (device : DeviceId) (points : List Point) (emitted : List Compressed)
     → HasCollected old network device points emitted → collector ≡ fresh old.ow old.calc → HasCollected collector network device [] []
-fresh_collects old collector network device points emitted h e = rw e (record {
-  collected = fresh_stands old.ow old.calc;
-  window = h.window;
-  calc = h.calc;
-  idle = λ n. refl;
-  earliest = λ limit low points emitted. low;
-  masters = λ k d lt. absurd (omega (arith, lt));
-  from_zero = λ k d lt. absurd (omega (arith, lt));
-})
+fresh_collects old collector network device points emitted h e = grind (arith, fresh_stands)
 
 pub site_due : (s : Switch) (network : Network) (device : DeviceId) (node : Node) (cycle : ℕ) (adjustment changed : ℤ) → StandsAs s network device node
     → correction_at s.site cycle adjustment changed ≡ reading_of (correction_value network cycle) adjustment changed
@@ -220,21 +210,13 @@ joins_stands s new network device node moment phase frame point st may is used h
       plan = st.plan;
       heard = subst (λ (x : Summary). Summarizes x []) (sym h.heard) silence_summarizes;
       changed = sym (h.changed ∙ ap (λ (z : ℤ). moment.reading.0 +ℤ z) adjustment);
-      corrects = h.corrects ∙ site_due s network device node frame.cycle new.sync.adjustment.0 new.changed.0 st
-          ∙ ap (λ (z : ℤ). reading_of (correction_value network frame.cycle) z new.changed.0) adjustment
-          ∙ ap (reading_of (correction_value network frame.cycle) standing.adjustment.0) (h.changed ∙ ap (λ (z : ℤ). moment.reading.0 +ℤ z) adjustment);
+      corrects = grind (arith, site_due, reading_of, correction_value, adjustment, standing.adjustment.0);
       done = λ cycle there. nothing_done cycle frame.cycle there;
       begun = through _ _ _ st.begun may.later.reading;
       small =
           small_join frame.cycle last_cycle (amount network.cycle) (expected_by network device) point.0 standing.adjustment.0 used refl
           (amount_most _ _ network.cycle st.accepted.range.cycle) (expected_most network device st.accepted.range) at.low at.high (omega (arith, ints, ec));
-      steady = λ timed. record {
-        number = two_more _ _ used;
-        lower = lower.0;
-        upper = never_less _;
-        joined = λ j i. (used, lower.1);
-        fair = λ lt ch. silent (IsFair network standing) new.heard ch h.heard;
-      };
+      steady = grind (arith, two_more, lower, lower.0, never_less, lower.1, silent, standing);
       collects = fresh_collects s.collector new.collector network device node.points node.emitted st.collects h.collector;
       departs = departs_stopped network device s.departures new.departures node.taken h.departures st.departs;
       awaits = ap (λ (ds : Departures). ds.next) h.departures;

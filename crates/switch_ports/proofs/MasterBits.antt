@@ -25,10 +25,7 @@ member_by network d None e members h = absurd h
 member_by network d (Some k) e members h = (k, record { d = d; there = refl; member = e }, h)
 
 slice_there : {X : Type 0} (xs : List X) (i : ℕ) (x : X) → slice_get xs i ≡ Some x → Contains xs x
-slice_there xs i x e = elim (slice_get_cases xs i).1 [
-  | inl (y, lt, there, got) ↦ subst (Contains xs) (same_Some y x (sym there ∙ e)) (i, lt, got)
-  | inr (le, none) ↦ absurd (let f : None ≡ Some x = sym none ∙ e in cc)
-]
+slice_there xs i x e = grind (arith, slice_get_cases, same_Some)
 
 has_member : (network : Network) (o : Option Device) (members : Members) → IsSomeAnd (option_and_then (λ (d : Device). d.member) o) (λ k. members.0 ≡ 2 ^ k)
     → (k : ℕ) × HasMember network o k × (members.0 ≡ 2 ^ k)

@@ -70,10 +70,7 @@ pending_emission s network device node sent st p =
 
 correction_by : (value adjustment changed : ℤ) (at : Units) → reading_of value adjustment changed ≡ Some at → (changed <ℤ value)
     × (at.0 ≡ (value -ℤ adjustment))
-correction_by value adjustment changed at e = elim (cases_Bool (int_lt changed value)) [
-  | inl y ↦ (grind (arith, ints, y), let f : Some (record { 0 = value -ℤ adjustment }) ≡ Some at = rw y at e in cc)
-  | inr n ↦ absurd (let f : None ≡ Some at = rw n at e in cc)
-]
+correction_by value adjustment changed at e = grind (arith, cases_Bool, int_lt, ints)
 
 due_by : (value adjustment changed : ℤ) → changed <ℤ value → reading_of value adjustment changed ≡ Some (record { 0 = value -ℤ adjustment })
 due_by value adjustment changed lt = let y : int_lt changed value ≡ true = grind (arith, ints, lt) in rw y refl

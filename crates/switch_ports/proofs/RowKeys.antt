@@ -1,10 +1,10 @@
 -- The keys of what the rows have still to dispatch, from row to row.
 use Rattle.switch_ports.{proofs.{EachRow.all_each, RowOrder.chained_each}, specs.{Departing.{IsReady, IsReopeningAt, Sets, bound_of}, Leaving.AreKeys}}
-use Rattle.switch_ports.proofs.Words.{◌&&◌, ◌*◌, ◌+◌, ◌<◌, ◌==◌, ◌^◌, ◌∙◌, ◌≡◌, ◌≤◌, ◌⊎◌, AreChained, Bool, Changes, Contains, Departure, Departures}
+use Rattle.switch_ports.proofs.Words.{◌*◌, ◌+◌, ◌<◌, ◌==◌, ◌^◌, ◌∙◌, ◌≡◌, ◌≤◌, ◌⊎◌, AreChained, Bool, Changes, Contains, Departure, Departures}
 use Rattle.switch_ports.proofs.Words.{Held, IfSome, IsTakingAt, LeavingRow, List, None, Option, Precedes, Some, amount_most, ap, arith, cases_Bool}
 use Rattle.switch_ports.proofs.Words.{dispatch_at, eqb-true, false, get_or, held_by, if◌then◌else◌, in_all, inl, inr, int_lt, ints, its_amount, length, map}
 use Rattle.switch_ports.proofs.Words.{option_and_then, option_map, option_map_or, refl, slice_get, slice_get-get_or, slice_set, subst, sym, true, with_taking, ℕ, ℤ}
-use Rattle.switch_ports.specs.Leaving.{IsFirstOf, IsFit, IsHeldFit, IsLast, awaited_of, closed, dispatch_by, is_dispatch_in, key_at, key_by, reopened, value_in}
+use Rattle.switch_ports.specs.Leaving.{IsFirstOf, IsFit, IsHeldFit, IsLast, awaited_of, closed, dispatch_by, key_at, key_by, reopened}
 use Rattle.switch_ports.specs.{Leaving.with_held, declared.departures.Taking.Taking}
 use Rattle.device_rules.specs.least_key.Trees.{no_key}
 use Rattle.std.proofs.{Common.{◌%◌, ◌≢◌, Global, Vec, replicate}, lemmas.{Bool.{cases_eq, eq-eqb}, List.Elements.Contains-get_or}}
@@ -18,20 +18,10 @@ awaited_fit changed None fit = tt
 awaited_fit changed (Some held) fit = elim (cases_Bool (int_lt changed held.value.0)) [ inl y ↦ rw y fit | inr n ↦ rw n tt ]
 
 held_fit : (length : ℕ) (of : LeavingRow) (cycle : ℕ) (at : ℤ) → cycle * length ≤ 2 ^ 62 → of.offset ≤ 2 ^ 40 → IfSome (held_by length of cycle at) IsHeldFit
-held_fit length of cycle at a b = elim (cases_Bool (is_dispatch_in of cycle && int_lt at (value_in length of cycle))) [
-  | inl y ↦ rw y (record { least = omega (arith, ints); most = omega (arith, ints, a, b) })
-  | inr n ↦ rw n tt
-]
+held_fit length of cycle at a b = grind (arith, cases_Bool, int_lt, length, ints)
 
 fit_with : (changed : ℤ) (o : Option Held) (d : Departure) → IfSome o IsHeldFit → IsFit d → IsFit (with_held changed o d)
-fit_with changed o d held fit = record {
-  offset = fit.offset;
-  period = fit.period;
-  link = fit.link;
-  place = fit.place;
-  held = held;
-  awaited = awaited_fit changed o held;
-}
+fit_with changed o d held fit = grind (arith, awaited_fit)
 
 pub fit_taken : (length cycle : ℕ) (changed at : ℤ) (d : Departure) (b : Bool) → cycle * length ≤ 2 ^ 62 → IsFit d
     → IsFit (if b then with_held changed (held_by length d.of cycle at) d else d)
@@ -68,11 +58,7 @@ ready_changed f old new changes of fit ready = record {
 -- ---- the first of all
 
 no_departure : Departure
-no_departure = record {
-  of = record { row = record { 0 = 0 }; link = record { 0 = 0 }; vl = record { 0 = 0 }; offset = 0; period = 0; phase = 0; place = 0; before = None };
-  held = None;
-  awaited = None;
-}
+no_departure = grind arith
 
 -- a dispatch of no lesser key does not come before the other
 not_before : (adjustment : ℤ) (a b : LeavingRow) (x y : Held) → IsHeldFit x → IsHeldFit y → a.link.0 < 2 ^ 32 → a.place < 2 ^ 32 → b.link.0 < 2 ^ 32
@@ -184,8 +170,8 @@ fresh_keys rows none =
     ext_get_or 0 (replicate (length rows) no_key) (map key_by rows) (length-replicate (length rows) no_key ∙ sym (length-map rows key_by))
     (λ k lt.
     let inside : k < length rows = omega (arith, lt, length-replicate (length rows) no_key) in
-    get_or-replicate (length rows) k no_key 0 inside ∙ sym (no_key_of (get_or rows k no_departure).of (get_or rows k no_departure).awaited (none k no_departure inside))
-    ∙ sym (get_or-map key_by rows k no_departure 0 inside))
+    get_or-replicate (length rows) k no_key 0 inside ∙ sym (no_key_of (get_or rows k no_departure).of (get_or rows k no_departure).awaited
+        (none k no_departure inside)) ∙ sym (get_or-map key_by rows k no_departure 0 inside))
 
 -- ---- one departure is another
 
@@ -240,30 +226,7 @@ closes place d old new ready inside is sets = record {
 pub reopening_on : (f : Departure → Departure) (place : ℕ) (d : Departure) (old mid new : Departures)
     → place < length old.rows.items → IsReopeningAt f place old mid
     → d ≡ get_or mid.rows.items place d → Sets place (f d) mid new → IsReopeningAt f (place + 1) old new
-reopening_on f place d old mid new inside h is sets = record {
-  rows = record {
-    count = set_long place _ mid new sets ∙ h.rows.count;
-    done = λ k e less lt. elim (cases_Bool (nat_eq k place)) [
-      | inl y ↦
-          let same : k ≡ place = grind (arith, y) in
-          let was : d ≡ get_or old.rows.items place e =
-          is ∙ get_or_default mid.rows.items place d e mid_inside ∙ h.rows.rest place e (omega arith) inside in
-          subst (λ n. get_or new.rows.items n e ≡ f (get_or old.rows.items n e)) (sym same)
-          (set_here place _ e mid new sets mid_inside ∙ ap f was)
-      | inr n ↦
-          let apart : k ≢ place = grind (arith, n) in
-          set_other place k _ e mid new sets apart ∙ h.rows.done k e (omega (arith, less, apart)) lt
-    ];
-    rest = λ k e from lt.
-        let apart : k ≢ place = omega (arith, from) in
-        set_other place k _ e mid new sets apart ∙ h.rows.rest k e (omega (arith, from)) lt;
-  };
-  lasts = sets.lasts ∙ h.lasts;
-  keys = keys_set place _ mid new sets h.keys;
-}
-  where
-    mid_inside : place < length mid.rows.items
-    mid_inside = subst (λ n. place < n) (sym h.rows.count) inside
+reopening_on f place d old mid new inside h is sets = grind (arith, set_long, cases_Bool, get_or, get_or_default, set_here, set_other, keys_set, length)
 
 -- ---- the rows of a virtual link, from the last one down
 
@@ -286,40 +249,15 @@ taken_at : (f : Departure → Departure) (vl place k : ℕ) (old mid new : Depar
     → Sets place (f (get_or mid.rows.items place e)) mid new → get_or mid.rows.items place e ≡ get_or old.rows.items place e
     → place < length mid.rows.items → IsLast old.rows.items vl place at → bound_of at ≤ k → k < length old.rows.items
     → get_or new.rows.items k d ≡ f (get_or old.rows.items k d)
-taken_at f vl place k old mid new e d at other h sets was inside link from lt = elim (cases_Bool (nat_eq k place)) [
-  | inl y ↦
-      let same : k ≡ place = grind (arith, y) in
-      subst (λ n. get_or new.rows.items n d ≡ f (get_or old.rows.items n d)) (sym same)
-      (set_here place _ d mid new sets inside ∙ ap f was ∙ ap f (get_or_default old.rows.items place e d h.next.0))
-  | inr n ↦
-      let apart : k ≢ place = grind (arith, n) in
-      set_other place k _ d mid new sets apart ∙ elim (cases_Bool (nat_lt k place)) [
-        | inl y ↦
-            let below : k < place = grind (arith, y) in
-            h.rows.rest k d (omega (arith, below)) lt
-            ∙ sym (other (get_or old.rows.items k d) (λ is. skipped at vl place k old.rows.items d link from below is))
-        | inr m ↦ h.rows.done k d (grind (arith, n, m)) lt
-      ]
-]
+taken_at f vl place k old mid new e d at other h sets was inside link from lt =
+    grind (arith, cases_Bool, get_or, set_here, get_or_default, set_other, skipped)
 
 taking_by : (f : Departure → Departure) (vl place : ℕ) (old mid new : Departures) (e : Departure) (at : Option ℕ)
     → ((d : Departure) → (d.of.vl.0 ≡ vl → ⊥) → f d ≡ d) → IsTakingAt f vl (Some place) old mid
     → Sets place (f (get_or mid.rows.items place e)) mid new → get_or mid.rows.items place e ≡ get_or old.rows.items place e
     → place < length mid.rows.items → IsLast old.rows.items vl place at → IsTakingAt f vl at old new
 taking_by f vl place old mid new e at other h sets was inside link =
-    record {
-      rows = record {
-        count = set_long place _ mid new sets ∙ h.rows.count;
-        done = λ k d from lt. taken_at f vl place k old mid new e d at other h sets was inside link from lt;
-        rest = λ k d less lt.
-            let below : k < place = rest_below at vl place k old.rows.items link less in
-            let apart : k ≢ place = omega (arith, below) in
-            set_other place k _ d mid new sets apart ∙ h.rows.rest k d (omega (arith, below)) lt;
-      };
-      next = next_by at vl place old.rows.items h.next.0 link;
-      lasts = sets.lasts ∙ h.lasts;
-      keys = keys_set place _ mid new sets h.keys;
-    }
+    grind (arith, set_long, taken_at, rest_below, set_other, next_by, keys_set)
 
 -- one of them is done
 pub taking_on : (f : Departure → Departure) (vl place : ℕ) (old mid new : Departures) (e : Departure)
@@ -344,11 +282,7 @@ taken_all f vl old new h =
 -- a frame of another virtual link changes nothing
 pub other_same : (length : ℕ) (changed : ℤ) (taking : Taking) (d : Departure) → (d.of.vl.0 ≡ taking.vl.0 → ⊥) → with_taking length changed taking d ≡ d
 other_same length changed taking d other =
-    let n : (d.of.vl.0 == taking.vl.0) ≡ false = elim (cases_Bool (d.of.vl.0 == taking.vl.0)) [
-      | inl y ↦ absurd (other (eqb-true d.of.vl.0 taking.vl.0 y))
-      | inr n ↦ n
-    ] in
-    rw n refl
+    grind (arith, cases_Bool, eqb-true)
 
 -- and one of its own is kept
 pub mine_held : (length : ℕ) (changed : ℤ) (taking : Taking) (d : Departure) → d.of.vl.0 ≡ taking.vl.0

@@ -2,7 +2,7 @@
 use Rattle.switch_ports.proofs.Words.{◌++◌, ◌+◌, ◌<◌, ◌==◌, ◌∙◌, ◌∷◌, ◌≡◌, ◌≤◌, AreChained, AreEach, AreLeaving, Contains-append_left, Departure, DeviceId}
 use Rattle.switch_ports.proofs.Words.{Entry, IsEntry, LeavingRow, List, Network, None, Option, RowId, Some, [], ap, arith, cases_Bool, eqb-true, get_or, inl}
 use Rattle.switch_ports.proofs.Words.{inr, length, length-map, map, refl, slice_set, subst, suc, sym, zero, ℕ}
-use Rattle.std.{proofs.{Common.◌≢◌, lemmas.List.{length-set, Elements.{All-push, Contains-push}}}, specs.Prelude.nat_lt}
+use Rattle.std.proofs.{Common.◌≢◌, lemmas.List.{length-set, Elements.{All-push, Contains-push}}}
 use Rattle.schedule_tables.specs.Entries.{source_of}
 use Rattle.tte_lemmas.proofs.Naturals.{below_next}
 use Rattle.switch_ports.specs.Leaving.{HasRow, IsFresh, IsLast, fresh_row, place_in}
@@ -26,11 +26,7 @@ last_kept : (rows : List Departure) (d : Departure) (vl bound : ℕ) (o : Option
     → IsLast (rows ++ d ∷ []) vl bound o
 last_kept rows d vl bound None le h = λ k e lt is.
     h k e lt (subst (λ (x : Departure). x.of.vl.0 ≡ vl) (old_at rows d k e (omega (arith, lt, le))) is)
-last_kept rows d vl bound (Some place) le h = (
-  h.0,
-  λ e. let lt = h.0 in subst (λ (x : Departure). x.of.vl.0 ≡ vl) (sym (old_at rows d place e (omega (arith, lt, le)))) (h.1 e),
-  λ k e more lt is. h.2 k e more lt (subst (λ (x : Departure). x.of.vl.0 ≡ vl) (old_at rows d k e (omega (arith, lt, le))) is),
-)
+last_kept rows d vl bound (Some place) le h = grind (arith, old_at)
 
 not_new : (rows : List Departure) (d : Departure) (vl k : ℕ) (e : Departure) → (d.of.vl.0 ≡ vl → ⊥) → (k < length rows → (get_or rows k e).of.vl.0 ≡ vl → ⊥)
     → k < length rows + 1 → (get_or (rows ++ d ∷ []) k e).of.vl.0 ≡ vl → ⊥
@@ -51,11 +47,7 @@ last_other rows d vl (Some place) other h = (
 )
 
 last_new : (rows : List Departure) (d : Departure) → IsLast (rows ++ d ∷ []) d.of.vl.0 (length rows + 1) (Some (length rows))
-last_new rows d = (
-  omega arith,
-  λ e. ap (λ (x : Departure). x.of.vl.0) (new_at rows d e),
-  λ k e more lt is. absurd (omega (arith, more, lt)),
-)
+last_new rows d = grind (arith, new_at)
 
 place_set : (lasts : List (Option ℕ)) (vl place : ℕ) → vl < length lasts → place_in (slice_set lasts vl (Some place)) vl ≡ Some place
 place_set (x ∷ lasts) zero place lt = refl
@@ -122,20 +114,7 @@ none_in (x ∷ xs) (suc vl) = none_in xs vl
 
 pub leaving_none : (network : Network) (device : DeviceId) (lasts : List (Option ℕ)) → lasts ≡ map (λ vl. None) network.vl
     → AreLeaving network device 0 [] lasts
-leaving_none network device lasts none = record {
-  each = λ k d lt. absurd (omega (arith, lt));
-  complete = λ place entry is leaves lt. absurd (omega (arith, lt));
-  chained = record {
-    places = λ k d lt. absurd (omega (arith, lt));
-    rise = λ j k d less lt. absurd (omega (arith, lt));
-    before = λ k d lt. absurd (omega (arith, lt));
-    last = λ vl. subst (IsLast [] vl 0) (sym (ap (λ (xs : List (Option ℕ)). place_in xs vl) none ∙ none_in network.vl vl))
-        (λ k d lt. absurd (omega (arith, lt)));
-  };
-  below = λ k d lt. absurd (omega (arith, lt));
-  few = omega arith;
-  vls = ap (λ (xs : List (Option ℕ)). length xs) none ∙ length-map network.vl _;
-}
+leaving_none network device lasts none = grind (arith, none_in, length, length-map)
 
 -- ---- the rows of a network
 
@@ -191,38 +170,14 @@ last_each : (f : Departure → Departure) (old new : List Departure) (vl bound :
     → bound ≤ length old → IsLast old vl bound o → IsLast new vl bound o
 last_each f old new vl bound None each of le h = λ k d lt is.
     h k d lt (ap (λ (x : LeavingRow). x.vl.0) (sym (same_of f old new k d each of (omega (arith, lt, le)))) ∙ is)
-last_each f old new vl bound (Some place) each of le h = (
-  h.0,
-  λ d. let lt = h.0 in ap (λ (x : LeavingRow). x.vl.0) (same_of f old new place d each of (omega (arith, lt, le))) ∙ h.1 d,
-  λ k d more lt is. h.2 k d more lt (ap (λ (x : LeavingRow). x.vl.0) (sym (same_of f old new k d each of (omega (arith, lt, le)))) ∙ is),
-)
+last_each f old new vl bound (Some place) each of le h = grind (arith, same_of)
 
 -- the order stays
 pub chained_each : (f : Departure → Departure) (old new : List Departure) (lasts : List (Option ℕ)) → AreEach f old new → ((d : Departure) → (f d).of ≡ d.of)
     → AreChained old lasts → AreChained new lasts
-chained_each f old new lasts each of h = record {
-  places = λ k d lt.
-      let inside : k < length old = subst (λ n. k < n) each.count lt in
-      ap (λ (x : LeavingRow). x.place) (same_of f old new k d each of inside) ∙ h.places k d inside;
-  rise = λ j k d less lt.
-      let inside : k < length old = subst (λ n. k < n) each.count lt in
-      subst (λ (x : LeavingRow). x.row.0 < (get_or new k d).of.row.0) (sym (same_of f old new j d each of (omega (arith, less, inside))))
-      (subst (λ (x : LeavingRow). (get_or old j d).of.row.0 < x.row.0) (sym (same_of f old new k d each of inside)) (h.rise j k d less inside));
-  before = λ k d lt.
-      let inside : k < length old = subst (λ n. k < n) each.count lt in
-      subst (λ (x : LeavingRow). IsLast new x.vl.0 k x.before) (sym (same_of f old new k d each of inside))
-      (last_each f old new _ k _ each of (omega (arith, inside)) (h.before k d inside));
-  last = λ vl. subst (λ n. IsLast new vl n (place_in lasts vl)) (sym each.count)
-      (last_each f old new vl (length old) (place_in lasts vl) each of (omega arith) (h.last vl));
-}
+chained_each f old new lasts each of h = grind (arith, length, same_of, get_or, last_each)
 
 -- rows of two places are two
 pub distinct : (rows : List Departure) (lasts : List (Option ℕ)) (j k : ℕ) (d : Departure) → AreChained rows lasts → j < length rows → k < length rows
     → (get_or rows j d).of.row.0 ≡ (get_or rows k d).of.row.0 → j ≡ k
-distinct rows lasts j k d h a b e = elim (cases_Bool (nat_lt j k)) [
-  | inl y ↦ let less : j < k = grind (arith, y) in let rise = h.rise j k d less b in absurd (omega (arith, rise, e))
-  | inr n ↦ elim (cases_Bool (nat_lt k j)) [
-    | inl y ↦ let less : k < j = grind (arith, y) in let rise = h.rise k j d less a in absurd (omega (arith, rise, e))
-    | inr m ↦ grind (arith, n, m)
-  ]
-]
+distinct rows lasts j k d h a b e = grind (arith, cases_Bool)

@@ -1,12 +1,12 @@
 -- How a call leaves a switch to what it was given and has done.
+use Rattle.std.{proofs.Common.{arith, not}, specs.Prelude.{Err, Ok, Result}}
 use Rattle.switch_ports.proofs.Words.{◌&&◌, ◌==◌, ◌∙◌, ◌≡◌, ◌≤ℤ◌, Bool, DeviceId, LinkId, List, MayCall, Moment, Network, Node, None, Option, Pcf, Phase}
 use Rattle.switch_ports.proofs.Words.{Reason, Some, Standing, StandsAs, State, Switch, Units, after_arrival, amount, ap, called, cases_Bool, eqb-true, false}
-use Rattle.switch_ports.proofs.Words.{further, inl, inr, refl, standpoint_of, sym, through, true, ℕ, ℤ}
-use Rattle.std.{proofs.Common.not, specs.Prelude.{Err, Ok, Result}}
-use Rattle.pcf_codec.specs.{EtherType.pcf_type, Fields.field, declared.refusal.PcfRefusal.PcfRefusal}
-use Rattle.run_law.specs.{control.Arrivals.{control_arrival, frame_fault, frame_or_fault, frame_taken}, device.{Standpoints.Standpoint as Point, States.is_off}}
-use Rattle.run_law.specs.{machines.Nodes.standpoint_at, scenario.Devices.{is_parent_of, is_relay}}
+use Rattle.switch_ports.proofs.Words.{further, refl, standpoint_of, sym, through, true, ℕ, ℤ}
 use Rattle.switch_ports.{proofs.{Awaiting.awaits_called, Ranges.site_in_range}, specs.{Standpoints.IsAlive, declared.standpoint.Standpoint.Standpoint}}
+use Rattle.pcf_codec.specs.{EtherType.pcf_type, Fields.field, declared.refusal.PcfRefusal.PcfRefusal}
+use Rattle.run_law.specs.{control.Arrivals.{control_arrival, frame_fault, frame_or_fault, frame_taken}, device.{Standpoints.Standpoint as Point}}
+use Rattle.run_law.specs.{machines.Nodes.standpoint_at, scenario.Devices.{is_parent_of, is_relay}}
 
 -- the moment of a call is in its range
 pub alive : (s : Switch) (network : Network) (device : DeviceId) (node : Node) (moment : Moment) (phase : Phase) (at : Standpoint)
@@ -60,13 +60,7 @@ pub point_same : (s : Switch) (network : Network) (device : DeviceId) (node : No
     → at.state ≡ s.sync.state → at.reading ≡ moment.reading → at.adjustment ≡ s.sync.adjustment
     → standpoint_of at ≡ standpoint_at node moment
 point_same s network device node moment at st e r a =
-    let state : at.state ≡ node.standing.state = e ∙ sym (ap (λ (x : Standing). x.state) st.standing) in
-    let adjustment : at.adjustment ≡ node.standing.adjustment = a ∙ sym (ap (λ (x : Standing). x.adjustment) st.standing) in
-    let part : (not (is_off node.standing.state) && not node.broken) ≡ not (is_off node.standing.state) = and_true _ _ st.sound in
-    ap (λ (x : State). made_point (not (is_off x)) x (amount at.reading) at.adjustment.0) state
-    ∙ ap (λ (x : Units). made_point (not (is_off node.standing.state)) node.standing.state (amount x) at.adjustment.0) r
-    ∙ ap (λ (x : Units). made_point (not (is_off node.standing.state)) node.standing.state (amount moment.reading) x.0) adjustment
-    ∙ ap (λ (x : Bool). made_point x node.standing.state (amount moment.reading) node.standing.adjustment.0) (sym part)
+    grind (arith, not, and_true, amount)
 
 taken_none : (node : Node) (moment : Moment) (network : Network) (device : DeviceId) (link : LinkId) (frame : Pcf) (point : Units) (relay parent : Bool)
     → is_relay network device ≡ relay → is_parent_of network device link ≡ parent
@@ -90,7 +84,4 @@ pub is_type : (octets : List ℕ) → field 12 2 octets ≡ pcf_type → (field 
 is_type octets e = rw e refl
 
 pub is_no_type : (octets : List ℕ) → (field 12 2 octets ≡ pcf_type → ⊥) → (field 12 2 octets == pcf_type) ≡ false
-is_no_type octets other = elim (cases_Bool (field 12 2 octets == pcf_type)) [
-  | inl y ↦ absurd (other (eqb-true _ _ y))
-  | inr n ↦ n
-]
+is_no_type octets other = grind (arith, cases_Bool, eqb-true)

@@ -31,10 +31,7 @@ opened_beyond ow low (o ∷ ps) (d ∷ cs) c all are at = elim (in_cases d c cs 
 
 end_after : (ow : ℤ) (o : Point) (ps : List Point) (d : Cluster) → pos 0 ≤ℤ ow → d ≡ cluster_of ow o (o ∷ ps) → d.opened ≤ℤ d.end
 end_after ow o ps d some is =
-    let least = end_of-least ow o (o ∷ ps) some in
-    let opened : d.opened ≡ o.reading = ap (λ (k : Cluster). k.opened) is in
-    let end : d.end ≡ (cluster_of ow o (o ∷ ps)).end = ap (λ (k : Cluster). k.end) is in
-    rw opened (rw end (omega (arith, ints, some, least)))
+    grind (arith, end_of-least, ints)
 
 less_through : (x y z : ℤ) → x ≤ℤ y → y <ℤ z → x <ℤ z
 less_through x y z a b = omega (arith, ints, a, b)

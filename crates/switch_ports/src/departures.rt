@@ -1,10 +1,10 @@
 //! The rows that leave a switch, and the frames that they have still to dispatch.
 
-ghost use Rattle.std.specs.Prelude.{◌*◌, ◌+◌, ◌-ℤ◌, ◌<◌, ◌^◌, ◌≡◌, ◌≤ℤ◌, ◌≤◌, All, IfOk, IfSome, None, OnOk};
+ghost use Rattle.std.specs.Prelude.{◌*◌, ◌+◌, ◌-ℤ◌, ◌<◌, ◌^◌, ◌≡◌, ◌≤ℤ◌, ◌≤◌, IfOk, None, OnOk};
 ghost use Rattle.std.specs.Prelude.{length, map, option_map, pos};
 ghost use Rattle.clock_correction.specs.Deviation.{IsSmall};
 ghost use Rattle.net_plan.specs.{Ranges.{IsInRange, IsWithin}, declared.network.Network.Network as NetworkValue};
-ghost use Rattle.schedule_tables.specs.Entries.{IsEntry, IsEntryInRange, source_of};
+ghost use Rattle.schedule_tables.specs.Entries.{IsEntry};
 ghost use Rattle.tte_units.specs.Amount.{amount};
 ghost use Rattle.switch_ports.specs.Departing.{Changes, IsBegun, IsReady, KnowsNext};
 ghost use Rattle.switch_ports.specs.Leaving.{AreLeaving, IsFirstOf, IsFit, IsTakingFit, awaited_of, closed};

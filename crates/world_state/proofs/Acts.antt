@@ -5,7 +5,7 @@ use Rattle.membership.specs.Summary.{Summary}
 use Rattle.net_plan.specs.declared.{ids.DeviceId.DeviceId, network.Network.Network}
 use Rattle.run_law.specs.{declared.steps.{Act.Act, Moment.Moment, Ripe.Ripe}, machines.{Answers.{IsActOf, after_correction, after_emission}, Calls.HasDue}}
 use Rattle.run_law.specs.machines.{Nodes.Node, Tasks.{IsDueReading, IsPending, Task, reading_for}}
-use Rattle.sync_state.specs.declared.answers.Verdict.{Verdict, TheVariants.{AsyncClique, Cleared, Corrected, SyncClique}}
+use Rattle.sync_state.specs.declared.answers.Verdict.{Verdict, TheVariants.Corrected}
 use Rattle.tte_units.specs.declared.units.Units.{Units}
 use Rattle.run_law.specs.declared.steps.Act.TheVariants as acts
 use Rattle.run_law.specs.declared.steps.Ripe.TheVariants as ripe

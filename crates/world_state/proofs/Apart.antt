@@ -1,5 +1,5 @@
 -- What is put to ports leaves the wires as they are, and what is put on a wire the ports.
-use Rattle.std.proofs.{Common.{◌∙◌, ◌∷◌, ◌≡◌, List, None, Option, Some, ap, inl, inr, subst, sym, ℕ}, lemmas.List.Sorted.IsPermutation-sym}
+use Rattle.std.proofs.{Common.{◌∙◌, ◌∷◌, ◌≡◌, List, None, Option, Some, ap, arith, inl, inr, sym, ℕ}, lemmas.List.Sorted.IsPermutation-sym}
 use Rattle.std.specs.{List.filter_map, Prelude.{◌↔◌, IfNone, IfSome}}
 use Rattle.net_plan.specs.declared.network.Network.{Network}
 use Rattle.run_law.{proofs.records.Order.{given_of, is_given}, specs.{declared.note.NoteBody.NoteBody, records.{Happenings.Happening, Order.IsIn}}}
@@ -12,10 +12,7 @@ use Rattle.world_state.specs.{Giving.{ArePutTo, IsPutOn}, Views.{at_port, on_wir
 pub wires_kept : (n : ℕ) (network other : Network) (ups downs : List WayState) (body : NoteBody) (giving : Option Giving) (old new : List (Entry Content))
     → IfSome giving (λ g. ArePutTo n network ups downs body g old new) → IfNone giving (new ≡ old)
     → (y : OnWire) → IsIn y (filter_map (on_wire other) new) ↔ IsIn y (filter_map (on_wire other) old)
-wires_kept n network other ups downs body None old new put none y = (
-  λ there. subst (λ (l : List (Entry Content)). IsIn y (filter_map (on_wire other) l)) none there,
-  λ there. subst (λ (l : List (Entry Content)). IsIn y (filter_map (on_wire other) l)) (sym none) there,
-)
+wires_kept n network other ups downs body None old new put none y = grind arith
 wires_kept n network other ups downs body (Some g) old new put none y = (
   λ there.
       let of = given_of (on_wire other) new y there in
@@ -29,10 +26,7 @@ wires_kept n network other ups downs body (Some g) old new put none y = (
 -- the ports after something is put on a wire
 pub ports_kept : (e : Option (Entry Content)) (old new : List (Entry Content)) → IfSome e (λ one. at_port one ≡ None) → IsPutOn e old new
     → (y : AtPort) → IsIn y (filter_map at_port new) ↔ IsIn y (filter_map at_port old)
-ports_kept None old new none put y = (
-  λ there. subst (λ (l : List (Entry Content)). IsIn y (filter_map at_port l)) put there,
-  λ there. subst (λ (l : List (Entry Content)). IsIn y (filter_map at_port l)) (sym put) there,
-)
+ports_kept None old new none put y = grind arith
 ports_kept (Some e) old new none put y = (
   λ there.
       let of = given_of at_port new y there in
@@ -47,22 +41,10 @@ ports_kept (Some e) old new none put y = (
 pub put_from : (s : Scenario) (x : Happening) (number : ℕ) (old mid new : List OnWire) → ((y : OnWire) → IsIn y mid ↔ IsIn y old)
     → ArePut s x number mid new → ArePut s x number old new
 put_from s x number old mid new same put =
-    record {
-      real = λ e there.
-          elim (put.real e there) [
-            | inl before ↦ inl ((same e).0 before)
-            | inr by ↦ inr by
-          ];
-      kept = λ e there. put.kept e ((same e).1 there);
-      all = put.all;
-    }
+    grind arith
 
 -- and what is given to ports, to lists with the same at them
 pub given_then : (s : Scenario) (x : Happening) (number : ℕ) (old mid new : List AtPort) → ((y : AtPort) → IsIn y new ↔ IsIn y mid)
     → AreGiven s x number old mid → AreGiven s x number old new
 given_then s x number old mid new same given =
-    record {
-      real = λ e there. given.real e ((same e).0 there);
-      kept = λ e there. (same e).1 (given.kept e there);
-      all = λ device link gives. let found = given.all device link gives in (found.0, (same found.0).1 found.1, found.2);
-    }
+    grind arith

@@ -4,7 +4,7 @@ use Rattle.std.proofs.{Common.{length, map, option_and_then, refl, slice_get, su
 use Rattle.std.{proofs.lemmas.Option.{get_or_from_slice_get, same_Some, slice_get-get_or, slice_get_within}, specs.{List.filter_map, Prelude.IfSome}}
 use Rattle.net_plan.specs.{Places.link_at, Ranges.{IsInRange, IsLinkInRange}, declared.{event.What.What, ids.LinkId.LinkId, network.Network.Network}}
 use Rattle.net_plan.specs.declared.tables.Link.{Link}
-use Rattle.run_law.{proofs.{records.{Members.{in_map as is_mapped}}}, specs.{control.Wires.{signal_of, time_on_port}, records.Order.IsIn}}
+use Rattle.run_law.{proofs.records.Members.{in_map as is_mapped}, specs.{control.Wires.{signal_of, time_on_port}, records.Order.IsIn}}
 use Rattle.tte_lemmas.proofs.Lists.{in_all}
 use Rattle.world_law.specs.world.World.{AreInOrder, AtPort}
 use Rattle.world_state.{proofs.queue_lemmas.Bags.in_permuted, specs.declared.queue.Entry.Entry}
@@ -177,7 +177,4 @@ pub settled_with : (network : Network) (broken own : List Bool) (ups ways : List
     (before first after : List (Entry Content)) → broken ≡ own → ups ≡ ways → old ≡ was → before ≡ first
     → AreSettledBy network broken ups time befell old new before after → AreSettledBy network own ways time befell was new first after
 settled_with network broken own ups ways time befell old was new before first after a b c d so =
-    subst (λ (l : List Bool). AreSettledBy network l ways time befell was new first after) a
-    (subst (λ (l : List WayState). AreSettledBy network broken l time befell was new first after) b
-    (subst (λ (l : List Settled). AreSettledBy network broken ups time befell l new first after) c
-    (subst (λ (l : List (Entry Content)). AreSettledBy network broken ups time befell old new l after) d so)))
+    grind arith

@@ -1,10 +1,9 @@
 -- What an event makes of a device.
-use Rattle.std.proofs.Common.{◌&&◌, ◌<◌, ◌∙◌, ◌≡◌, ◌≢◌, Bool, List, Some, ap, arith, inl, inr, length, not, set, subst, sym, true, ℕ}
+use Rattle.std.proofs.Common.{◌&&◌, ◌<◌, ◌∙◌, ◌≡◌, ◌≢◌, Bool, List, Some, ap, arith, inl, inr, length, not, set, subst, sym, ℕ}
 use Rattle.std.proofs.lemmas.{Bool.{cases_eq, ne_eqb}, List.{get_or-set_other, length-set}, Option.{get_or_from_slice_get, slice_get-get_or, slice_get_within}}
 use Rattle.std.specs.{List.slice_get, Prelude.if◌then◌else◌}
 use Rattle.net_plan.{proofs.SameIds.same_device, specs.declared.{event.What.{What, TheVariants.{Break, On}}, ids.DeviceId.DeviceId, network.Network.Network}}
 use Rattle.run_law.specs.machines.{Answers.node_turned_on, Nodes.Node}
-use Rattle.sync_state.specs.declared.state.State.TheVariants.{Off}
 use Rattle.tte_lemmas.proofs.Lists.{set_same}
 use Rattle.world_law.specs.world.Outcomes.{befallen_node}
 
@@ -20,9 +19,7 @@ on_other other turned device node apart = ap (λ (b : Bool). if b && not node.br
 pub break_other : (other : DeviceId) (turned : Bool) (device : DeviceId) (node : Node) → device.0 ≢ other.0
     → befallen_node turned (Break other) device node ≡ node
 break_other other turned device node apart =
-    ap (λ (b : Bool). if b && not node.broken then
-    (record node { broken = true; standing = record node.standing { state = if turned then Off else node.standing.state } }) else node)
-    (ne_eqb other.0 device.0 (λ e. apart (sym e)))
+    grind (arith, not, ne_eqb)
 
 -- one of the machines is called, and the others stay
 pub one_befalls : {M : Type 0} (keeps : M → Network → DeviceId → Node → Type 0) (what : What) (at : DeviceId) (machines : List M) (after : M)

@@ -1,19 +1,14 @@
 -- What a device hears, as its machine asks for it.
-use Rattle.std.{proofs.Common.{◌∙◌, ◌≡◌, ◌≤◌, Bool, List, ap, arith, eq-eqb, length, subst, sym, ℕ}, specs.Prelude.{if◌then◌else◌, Ok, Result}}
+use Rattle.std.{proofs.Common.{◌∙◌, ◌≡◌, ◌≤◌, List, ap, arith, eq-eqb, length, ℕ}, specs.Prelude.Ok}
 use Rattle.net_plan.specs.{Ranges.IsInRange, declared.{ids.{DeviceId.DeviceId, LinkId.LinkId, VlId.VlId}, network.Network.Network}}
-use Rattle.pcf_codec.specs.{Decoding.decoded, EtherType.pcf_type, Fields.field, Spelling.Spells, declared.refusal.PcfRefusal.PcfRefusal}
+use Rattle.pcf_codec.specs.{Decoding.decoded, Spelling.Spells}
 use Rattle.pcf_values.specs.declared.pcf.Pcf.{Pcf}
 use Rattle.run_law.specs.{control.Wires.{Signal, control, signal_of, timed}, declared.steps.Moment.Moment, machines.{Calls.{MayHear, StandsFor}, Nodes.Node}}
 use Rattle.world_state.{proofs.Made.made_signal, specs.{Hearing.{AreOctetsOf, MayCome}, Views.octets_of, declared.contents.Timed.TheVariants.Made}}
 
 -- the octets of a control frame
 pub control_octets : (octets : List ℕ) (frame : Pcf) → Spells octets frame → decoded octets ≡ Ok frame → AreOctetsOf (control (Ok frame)) octets
-control_octets octets frame spells back = record {
-  is = ap (λ (b : Bool). if b then control (decoded octets) else timed octets) (eq-eqb (field 12 2 octets) pcf_type spells.ethertype)
-      ∙ ap (λ (r : Result Pcf PcfRefusal). control r) back;
-  least = subst (λ (n : ℕ). 60 ≤ n) (sym spells.size) (omega arith);
-  most = subst (λ (n : ℕ). n ≤ 1514) (sym spells.size) (omega arith);
-}
+control_octets octets frame spells back = grind (arith, eq-eqb)
 
 -- so they may be heard
 pub may_hear : {M : Type 0} (stands : M → Network → DeviceId → Node
@@ -21,13 +16,7 @@ pub may_hear : {M : Type 0} (stands : M → Network → DeviceId → Node
     → StandsFor stands machine (MayCome signal moment link) → AreOctetsOf signal octets
     → StandsFor stands machine (λ network device node. MayHear network device node moment link octets)
 may_hear stands machine signal moment link octets may are =
-    let it = may in (
-      it.0,
-      it.1,
-      it.2,
-      it.3,
-      record { call = it.4.call; least = are.least; most = are.most; arrives = it.4.arrives octets are },
-    )
+    grind arith
 
 -- the octets of a frame that its sender made
 pub made_are : (network : Network) (vl : VlId) (cycle : ℕ) (octets : List ℕ) → IsInRange network → octets ≡ octets_of network (Made vl cycle)

@@ -1,11 +1,10 @@
 -- The frames that senders make, on the wire.
-use Rattle.std.proofs.Common.{◌++◌, ◌-◌, ◌<◌, ◌==◌, ◌^◌, ◌∙◌, ◌≡◌, List, None, Option, Some, ap, append_assoc, arith, false, length, length-append, refl}
+use Rattle.std.proofs.Common.{◌-◌, ◌<◌, ◌==◌, ◌^◌, ◌∙◌, ◌≡◌, List, None, Option, Some, ap, append_assoc, arith, false, length, length-append, refl}
 use Rattle.std.{proofs.{Common.{replicate, slice_get, sym, ℕ}, lemmas.Bool.ne_eqb}, specs.{Option.option_map_or, Prelude.{if◌then◌else◌, Bool}}}
-use Rattle.byteorder.specs.{Endian.big_bytes, Numbers.length-bytes_high_first}
 use Rattle.device_rules.proofs.frames_lemmas.Made.{made_is}
 use Rattle.net_plan.specs.{Ranges.{IsInRange, IsVlInRange}, declared.{ids.VlId.VlId, network.Network.Network, tables.VirtualLink.VirtualLink}}
 use Rattle.pcf_codec.{proofs.Numbers.read_behind, specs.{Decoding.decoded, EtherType.pcf_type, Fields.field}}
-use Rattle.run_law.specs.{control.Wires.{control, signal_of, timed}, records.Frames.{mac_of, tt_frame, tt_frame_by}}
+use Rattle.run_law.specs.{control.Wires.{control, signal_of, timed}, records.Frames.{tt_frame, tt_frame_by}}
 use Rattle.tte_lemmas.proofs.Lists.{in_all}
 use Rattle.world_state.specs.{Views.octets_of, declared.contents.Timed.TheVariants.Made}
 
@@ -19,28 +18,7 @@ made_octets network vl cycle lt = made_is network vl cycle lt
 -- a frame shows the EtherType of its virtual link
 pub type_shown : (network : Network) (vl : VirtualLink) (cycle : ℕ) → vl.ethertype < 2 ^ 16 → field 12 2 (tt_frame_by network vl cycle) ≡ vl.ethertype
 type_shown network vl cycle less =
-    let a = big_bytes 4 network.marker in
-    let b = big_bytes 2 vl.id in
-    let c = big_bytes 6 (mac_of network vl.sender) in
-    let d = big_bytes 2 vl.ethertype in
-    let e = big_bytes 4 cycle in
-    let rest : List ℕ = replicate (vl.length - length (a ++ (b ++ (c ++ (d ++ e))))) 0 in
-    let front = (a ++ b) ++ c in
-    let size : length front ≡ 12 = omega (
-      arith,
-      length-append (a ++ b) c,
-      length-append a b,
-      length-bytes_high_first 4 network.marker,
-      length-bytes_high_first 2 vl.id,
-      length-bytes_high_first 6 (mac_of network vl.sender),
-    ) in
-    let split : (a ++ (b ++ (c ++ (d ++ e)))) ++ rest ≡ front ++ (d ++ (e ++ rest)) =
-    append_assoc a (b ++ (c ++ (d ++ e))) rest
-    ∙ ap (λ (l : List ℕ). a ++ l) (append_assoc b (c ++ (d ++ e)) rest ∙ ap (λ (l : List ℕ). b ++ l) (append_assoc c (d ++ e) rest
-    ∙ ap (λ (l : List ℕ). c ++ l) (append_assoc d e rest)))
-    ∙ sym (append_assoc a b (c ++ (d ++ (e ++ rest))))
-    ∙ sym (append_assoc (a ++ b) c (d ++ (e ++ rest))) in
-    ap (field 12 2) split ∙ read_behind front (e ++ rest) 12 2 vl.ethertype size (omega (arith, less))
+    grind (arith, replicate, length, length-append, append_assoc, read_behind)
 
 -- octets with another EtherType are no protocol control frame
 pub plain_signal : (octets : List ℕ) → (field 12 2 octets == pcf_type) ≡ false → signal_of octets ≡ timed octets

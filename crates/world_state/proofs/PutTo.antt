@@ -10,11 +10,7 @@ use Rattle.world_state.specs.Sound.{AreBelow}
 -- where it is given to none, nothing is put to ports
 pub nothing_put : (n : ℕ) (network : Network) (ups downs : List WayState) (body : NoteBody) (giving : Giving) (old : List (Entry Content))
     → ((link : LinkId) → Gives network body giving.device link → ⊥) → ArePutTo n network ups downs body giving old old
-nothing_put n network ups downs body giving old none = record {
-  real = λ e there. inl there;
-  kept = λ e there. there;
-  all = λ link lt gives. absurd (none link gives);
-}
+nothing_put n network ups downs body giving old none = grind arith
 
 -- one that is given to no link by its ends
 pub no_link : (network : Network) (ends : Ends) (device : DeviceId) (link : LinkId) → ends.up ≡ false → ends.down ≡ false

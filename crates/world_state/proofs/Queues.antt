@@ -5,8 +5,7 @@ use Rattle.std.proofs.lemmas.List.Sorted.{IsPermutation-append_left, IsPermutati
 use Rattle.std.{proofs.lemmas.Option.slice_get_within, specs.{List.Sorted.IsPermutation, Option.{option_and_then, option_map, option_map_or}}}
 use Rattle.std.specs.Prelude.{if◌then◌else◌, IfSome, MatchOption}
 use Rattle.net_plan.specs.declared.ids.DeviceId.{DeviceId}
-use Rattle.run_law.{proofs.{records.{Members.{from_map, in_map as is_mapped}}, runs.Places.{in_left, in_parts, in_right}}, specs.records.Order.{IsBefore, IsIn}}
-use Rattle.tte_units.specs.Amount.{amount}
+use Rattle.run_law.{proofs.{records.Members.{from_map, in_map as is_mapped}, runs.Places.{in_left, in_parts, in_right}}, specs.records.Order.{IsBefore, IsIn}}
 use Rattle.world_law.proofs.giving.Given.{some_same}
 use Rattle.world_state.specs.{queue.Places.{IsFirst, first_entry, numbers_of}, queue.Queues.Queue, declared.queue.{Entry.Entry, DueAt.DueAt}}
 use Rattle.world_state.specs.Frames.{AreQueued, IsFirstAt, IsQueued, NoneAt, first_frame, frames_in, frames_of, queue_place}
@@ -70,9 +69,7 @@ pub of_queue : (queues : List (Queue Waits)) (k : ℕ) (q : Queue Waits) (e : En
     → IsIn e.content (frames_in queues)
 of_queue [] k q e at there = absurd cc
 of_queue (r ∷ queues) zero q e at there =
-    let same : r ≡ q = cc in
-    in_left e.content (frames_of r) (frames_in queues)
-    (is_mapped content_of r.entries e (subst (λ (x : Queue Waits). IsIn e x.entries) (sym same) there))
+    grind (arith, in_left, is_mapped)
 of_queue (r ∷ queues) (suc k) q e at there = in_right e.content (frames_of r) (frames_in queues) (of_queue queues k q e at there)
 
 -- ---- the first
@@ -189,26 +186,11 @@ has_room queues k (Some q) is room = slice_get_within queues k q is
 pub none_reached : (items : List Waits) (device : DeviceId) (reading : ℕ) (w : Waits) → IsFirstAt items device.0 w → (IsReached device reading w → ⊥)
     → (v : Waits) → IsIn v items → IsReached device reading v → ⊥
 none_reached items device reading w first not v there at =
-    let come = at.reached in
-    let v_begun = first.begun v there at.at in
-    let w_begun = first.begun w first.there first.own in
-    elim (cases_lt (amount v.point) (amount w.point)) [
-      | inl less ↦ first.none v there at.at (inr (at.at ∙ sym first.own, inl less))
-      | inr more ↦ not (record { at = first.own; reached = omega (arith, ints, more, v_begun, w_begun, come) })
-    ]
+    grind (arith, cases_lt, not, ints)
 
 -- the first has the least point
 pub least_is : (items : List Waits) (device : ℕ) (w : Waits) → IsFirstAt items device w → IsLeastPoint items device (Some w.point)
-least_is items device w first = (
-  (w, first.there, first.own, refl),
-  λ v there own.
-      let v_begun = first.begun v there own in
-      let w_begun = first.begun w first.there first.own in
-      elim (cases_lt (amount v.point) (amount w.point)) [
-        | inl less ↦ absurd (first.none v there own (inr (own ∙ sym first.own, inl less)))
-        | inr more ↦ omega (arith, ints, more, v_begun, w_begun)
-      ],
-)
+least_is items device w first = grind (arith, cases_lt, ints)
 
 -- ---- one more queue
 

@@ -1,9 +1,9 @@
 -- The slot of the least key is due first.
-use Rattle.std.proofs.Common.{◌%◌, ◌*◌, ◌+◌, ◌/◌, ◌<◌, ◌^◌, ◌∙◌, ◌≡◌, ◌≢◌, ◌≤◌, ◌⊎◌, All, List, ap, arith, get_or, inl, inr, length, map, replicate, set, subst, sym, ℕ}
+use Rattle.std.proofs.Common.{◌%◌, ◌*◌, ◌+◌, ◌/◌, ◌<◌, ◌^◌, ◌∙◌, ◌≡◌, ◌≢◌, ◌≤◌, ◌⊎◌, All, List, ap, arith, get_or, inl, inr, length, map, replicate, set, sym, ℕ}
 use Rattle.std.proofs.lemmas.{Bool.cases_eq, List.{ext_get_or, get_or-map, get_or-replicate, get_or-set_other, get_or-set_same, get_or_default, length-map, length-replicate, length-set}}
 use Rattle.std.specs.List.{Contains}
 use Rattle.device_rules.specs.least_key.Trees.{no_key}
-use Rattle.world_state.specs.{timers.{SlotKeys.{AreKeys, time_of}, Times.{IsFirst, never}}, declared.timers.Due.Due}
+use Rattle.world_state.specs.timers.{SlotKeys.{AreKeys, time_of}, Times.{IsFirst, never}}
 
 -- the time of a slot is that of its key
 time_at : (keys : List ℕ) (slot d : ℕ) → slot < length keys → get_or (map time_of keys) slot d ≡ get_or keys slot 0 / 2 ^ 64
@@ -45,13 +45,7 @@ first_slot keys key are least (inr (slot, lt, at)) some =
 
 -- a slot's key is set
 pub are_set : (keys : List ℕ) (slot time : ℕ) → slot < length keys → slot < 2 ^ 64 → AreKeys keys → AreKeys (set keys slot (time * 2 ^ 64 + slot))
-are_set keys slot time lt small are other few = elim (cases_eq other slot) [
-  | inl e ↦ inr (ap (λ (n : ℕ). get_or (set keys slot (time * 2 ^ 64 + slot)) n 0 % 2 ^ 64) e
-      ∙ ap (λ (n : ℕ). n % 2 ^ 64) (get_or-set_same keys slot (time * 2 ^ 64 + slot) 0 lt) ∙ omega (arith, small, e))
-  | inr apart ↦
-      subst (λ (n : ℕ). (n ≡ no_key) ⊎ (n % 2 ^ 64 ≡ other)) (sym (get_or-set_other keys slot other (time * 2 ^ 64 + slot) 0 apart))
-      (are other (omega (arith, few, length-set keys slot (time * 2 ^ 64 + slot))))
-]
+are_set keys slot time lt small are other few = grind (arith, cases_eq, get_or, set, get_or-set_same, get_or-set_other, length-set)
 
 -- the times of slots that have no keys
 pub times_made : (slots : ℕ) → map time_of (replicate slots no_key) ≡ replicate slots never

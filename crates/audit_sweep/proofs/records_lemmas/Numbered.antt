@@ -22,10 +22,7 @@ at_number hs number n = ap (numbered hs) (number_of number n)
 pub found : (hs : List Happening) (rs : List KeptRecord) (number : ℕ) (r : KeptRecord) → rs ≡ records_of hs → (number ≡ 0 → ⊥)
     → number - 1 < length rs → r ≡ get_or rs (number - 1) r → (h : Happening) × (numbered hs number ≡ Some h) × (r ≡ record_of h)
 found hs rs number r e n lt at =
-    let there : slice_get (records_of hs) (number - 1) ≡ Some r =
-    subst (λ (xs : List KeptRecord). slice_get xs (number - 1) ≡ Some r) e (slice_get_read rs (length rs) (number - 1) r refl lt at) in
-    let m = from_some record_of (slice_get hs (number - 1)) r (sym (slice_get-map record_of hs (number - 1)) ∙ there) in
-    (m.0, at_number hs number n ∙ m.1, m.2)
+    grind (arith, slice_get, slice_get_read, length, from_some, slice_get-map, at_number)
 
 -- where there is no such place there is no such record
 pub past : (hs : List Happening) (rs : List KeptRecord) (number : ℕ) → rs ≡ records_of hs → (number ≡ 0 → ⊥) → length rs ≤ number - 1

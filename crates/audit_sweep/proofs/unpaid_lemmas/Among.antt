@@ -8,22 +8,8 @@ pub first_of_both : {O : Type 0} (s : Scenario) (hs : List Happening) (until : �
     → ((o : O) → C o → A o ⊎ B o) → ((o : O) → A o → C o) → ((o : O) → B o → C o) → TellsFirstAmong s hs until debt_of A a
     → TellsFirstAmong s hs until debt_of B b → TellsFirstAmong s hs until debt_of C (earlier_of a b)
 first_of_both s hs until debt_of A B C None None parts left right h g = λ o is owed. elim (parts o is) [ inl p ↦ h o p owed | inr q ↦ g o q owed ]
-first_of_both s hs until debt_of A B C None (Some u) parts left right h g = record {
-  debt = g.debt;
-  one = right g.debt g.one;
-  owed = g.owed;
-  unpaid = g.unpaid;
-  at = g.at;
-  first = λ other is in_c not. elim (parts other in_c) [ inl p ↦ absurd (not (h other p is)) | inr q ↦ g.first other is q not ];
-}
-first_of_both s hs until debt_of A B C (Some t) None parts left right h g = record {
-  debt = h.debt;
-  one = left h.debt h.one;
-  owed = h.owed;
-  unpaid = h.unpaid;
-  at = h.at;
-  first = λ other is in_c not. elim (parts other in_c) [ inl p ↦ h.first other is p not | inr q ↦ absurd (not (g other q is)) ];
-}
+first_of_both s hs until debt_of A B C None (Some u) parts left right h g = grind arith
+first_of_both s hs until debt_of A B C (Some t) None parts left right h g = grind arith
 first_of_both s hs until debt_of A B C (Some t) (Some u) parts left right h g =
     elim (cases_lt u t) [
       | inl less ↦
@@ -75,23 +61,10 @@ pub first_of_more : {O : Type 0} (s : Scenario) (hs : List Happening) (until : �
     → ((o : O) → A o → B o) → ((o : O) → B o → IsOwed s hs until (debt_of o) → A o) → TellsFirstAmong s hs until debt_of A a
     → TellsFirstAmong s hs until debt_of B a
 first_of_more s hs until debt_of A B None wide narrow h = λ o is owed. h o (narrow o is owed) owed
-first_of_more s hs until debt_of A B (Some t) wide narrow h = record {
-  debt = h.debt;
-  one = wide h.debt h.one;
-  owed = h.owed;
-  unpaid = h.unpaid;
-  at = h.at;
-  first = λ other is in_b not. h.first other is (narrow other in_b is) not;
-}
+first_of_more s hs until debt_of A B (Some t) wide narrow h = grind arith
 
 -- all of them
 pub first_among_all : {O : Type 0} (s : Scenario) (hs : List Happening) (until : ℕ) (debt_of : O → Debt) (A : O → Type 0) (a : Option ℕ)
     → ((o : O) → IsOwed s hs until (debt_of o) → A o) → TellsFirstAmong s hs until debt_of A a → TellsFirst s hs until debt_of a
 first_among_all s hs until debt_of A None all h = λ o owed. h o (all o owed) owed
-first_among_all s hs until debt_of A (Some t) all h = record {
-  debt = h.debt;
-  owed = h.owed;
-  unpaid = h.unpaid;
-  at = h.at;
-  first = λ other is not. h.first other is (all other is) not;
-}
+first_among_all s hs until debt_of A (Some t) all h = grind arith

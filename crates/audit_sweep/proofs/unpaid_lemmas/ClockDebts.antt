@@ -1,6 +1,6 @@
 -- The clocks that are owed at the end.
 use Rattle.audit_sweep.proofs.unpaid_lemmas.Words.{◌+◌, ◌<◌, ◌∙◌, ◌∷◌, ◌≡◌, ◌≤◌, DeviceId, Happening, HasClockAt, IsPaid, List, None, NoteBody, Pays, Scenario}
-use Rattle.audit_sweep.proofs.unpaid_lemmas.Words.{Some, TellsFirst, [], ap, arith, cases_lt, inl, inr, refl, subst, sym, time_of, ℕ}
+use Rattle.audit_sweep.proofs.unpaid_lemmas.Words.{Some, TellsFirst, [], ap, arith, cases_lt, refl, subst, sym, time_of, ℕ}
 use Rattle.audit_sweep.specs.unpaid.Clocks.{IsOnlyEnd, IsUntold, IsUntoldDevice}
 use Rattle.std.proofs.lemmas.Option.{slice_get_within}
 use Rattle.audit_devices.{proofs.law_lemmas.EndingClocks.place_of_clock, specs.law.EndClocks.IsClockOf}
@@ -82,7 +82,4 @@ one_untold s hs until end device one timely none =
 pub below_next : (P : DeviceId → Type 0) (n : ℕ) (last : DeviceId) → last.0 ≡ n → ((device : DeviceId) → device.0 < n → P device) → P last
     → (device : DeviceId) → device.0 < n + 1 → P device
 below_next P n last at all own device lt =
-    elim (cases_lt device.0 n) [
-      | inl less ↦ all device less
-      | inr more ↦ subst P (same_device last device (omega (arith, at, lt, more))) own
-    ]
+    grind (arith, cases_lt, same_device)

@@ -1,4 +1,5 @@
 -- The leavings that are owed, and what pays them.
+use Rattle.std.proofs.Common.{arith}
 use Rattle.audit_sweep.proofs.{records_lemmas.wires_lemmas.LeavingTimes.giver_is, unpaid_lemmas.Payers.{one_time, paid_at_place}}
 use Rattle.audit_sweep.proofs.unpaid_lemmas.Words.{◌↔◌, ◌∙◌, ◌≡◌, DeviceId, Happening, IsDue, IsFounded, IsIn, IsPaid, KeptRecord, LinkId, List, NoteBody, Pays}
 use Rattle.audit_sweep.proofs.unpaid_lemmas.Words.{Scenario, Some, ap, device_named, numbered, numbered_in, place_of, refl, subst, sym, time_of, true, ℕ}
@@ -36,16 +37,7 @@ giver_there s hs n h r link there kept devices device is =
 pub owed_departs : (s : Scenario) (hs : List Happening) (until cause : ℕ) (link : LinkId) → (o : OwesDeparture s hs until cause link)
     → Departs s hs o.device (leaves_at s o.device link o.giving) link cause
     (departure s o.device link o.frame (time_of o.giving) (leaves_at s o.device link o.giving))
-owed_departs s hs until cause link o = record {
-  giving = o.giving;
-  there = o.there;
-  gives = o.gives;
-  frame = o.frame;
-  of_frame = o.of_frame;
-  held = refl;
-  correct = o.correct;
-  becomes = refl;
-}
+owed_departs s hs until cause link o = grind arith
 
 -- a leaving that is owed is paid exactly where a record stands at its place
 pub departure_paid : (s : Scenario) (hs : List Happening) (until cause : ℕ) (link : LinkId) (device : DeviceId) (t : ℕ) (d : Departure)
@@ -67,9 +59,7 @@ departure_paid s hs until cause link device t d founded owed departs =
 pub departure_time : (s : Scenario) (hs : List Happening) (until cause : ℕ) (link : LinkId) → IsFounded place_of (IsDue s) hs
     → (a b : OwesDeparture s hs until cause link) → leaves_at s a.device link a.giving ≡ leaves_at s b.device link b.giving
 departure_time s hs until cause link founded a b =
-    one_time s hs until (IsDueByLeaving s) (λ (given : ℕ × LinkId). OwesDeparture s hs until given.0 given.1)
-    (λ given o. leaves_at s o.device given.1 o.giving) (λ x given. TellsDeparture given.0 given.1 x.note.body) (λ ps x so. so.due)
-    (departure_law s hs until founded) (cause, link) a b
+    grind (arith, one_time, departure_law)
 
 -- ---- over links and records
 

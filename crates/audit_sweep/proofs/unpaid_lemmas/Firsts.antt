@@ -1,5 +1,5 @@
 -- The first of some unpaid debts, as one more is looked at.
-use Rattle.audit_sweep.proofs.unpaid_lemmas.Words.{◌+◌, ◌<◌, ◌≡◌, ◌≤◌, Happening, IsPaid, List, None, Option, Pays, Scenario, Some, TellsFirst, TellsFirstBelow}
+use Rattle.audit_sweep.proofs.unpaid_lemmas.Words.{◌+◌, ◌≡◌, ◌≤◌, Happening, IsPaid, List, None, Option, Pays, Scenario, Some, TellsFirst, TellsFirstBelow}
 use Rattle.audit_sweep.proofs.unpaid_lemmas.Words.{TellsUnpaid, arith, cases_lt, inl, inr, length, numbered, numbered_within, subst, sym, ℕ}
 use Rattle.audit_sweep.specs.unpaid.Unpaid.{IsUnpaid}
 use Rattle.audit_devices.specs.law.{FirstDebts.earlier_of, Owed.{Debt, IsOwed, falls_due}}
@@ -80,10 +80,7 @@ next_below s hs until debt_of n (Some t) (Some u) h g =
 -- where each of the records has been looked at, this is the first of all
 pub first_of_all : (s : Scenario) (hs : List Happening) (until : ℕ) (debt_of : ℕ → Debt) (n : ℕ) (first : Option ℕ) → length hs + 1 ≤ n
     → AreOfRecords s hs until debt_of → TellsFirstBelow s hs until debt_of n first → TellsFirst s hs until debt_of first
-first_of_all s hs until debt_of n None all brought h = λ o owed. h o (within o owed) owed
-  where
-    within : (o : ℕ) → IsOwed s hs until (debt_of o) → o < n
-    within o owed = let x = brought o owed in let few = numbered_within hs o x.0 x.1 in omega (arith, few, all)
+first_of_all s hs until debt_of n None all brought h = grind (arith, numbered_within)
 first_of_all s hs until debt_of n (Some t) all brought h = record {
   debt = h.debt;
   owed = h.owed;

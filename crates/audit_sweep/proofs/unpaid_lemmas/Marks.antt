@@ -1,5 +1,5 @@
 -- What is paid, as records are added.
-use Rattle.audit_sweep.proofs.unpaid_lemmas.Words.{◌+◌, ◌<◌, ◌↔◌, ◌∙◌, ◌∷◌, ◌≡◌, ◌≤◌, ◌⊎◌, Happening, IsIn, IsMarked, IsPaidSo, List, Paid, Some, [], ap, arith}
+use Rattle.audit_sweep.proofs.unpaid_lemmas.Words.{◌+◌, ◌<◌, ◌↔◌, ◌∷◌, ◌≡◌, ◌≤◌, ◌⊎◌, Happening, IsIn, IsMarked, IsPaidSo, List, Paid, Some, [], ap, arith}
 use Rattle.audit_sweep.proofs.unpaid_lemmas.Words.{cause_of, false, inl, inr, length, paid_by, refl, slice_get, subst, sym, true, ℕ}
 use Rattle.audit_sweep.specs.unpaid.Payments.{ArePayments, both, nothing}
 use Rattle.std.{proofs.{Common.{◌++◌, Bool, length-append, suc, zero}, lemmas.Bool.or_cases}, specs.Prelude.{◌||◌, slice_set}}
@@ -8,13 +8,7 @@ use Rattle.tte_lemmas.proofs.Lists.{set_length}
 
 -- what one of the records pays, one of more does
 marked_more : (f : Paid → Bool) (hs : List Happening) (h : Happening) (cause : ℕ) → IsMarked f hs cause → IsMarked f (hs ++ h ∷ []) cause
-marked_more f hs h cause m = record {
-  paying = m.paying;
-  there = in_left m.paying hs (h ∷ []) m.there;
-  behind = m.behind;
-  of_cause = m.of_cause;
-  pays = m.pays;
-}
+marked_more f hs h cause m = grind (arith, in_left)
 
 -- what one of them pays with one more, one of them does or this one
 marked_parts : (f : Paid → Bool) (hs : List Happening) (h : Happening) (cause : ℕ) → IsMarked f (hs ++ h ∷ []) cause
@@ -35,30 +29,12 @@ marked_parts f hs h cause m =
 unmarked : (f : Paid → Bool) (paid : Paid) (hs : List Happening) (h : Happening) (cause : ℕ)
     → ((cause < h.note.number) → cause_of h.note.body ≡ cause → ⊥) → (f paid ≡ true) ↔ IsMarked f hs cause
     → (f paid ≡ true) ↔ IsMarked f (hs ++ h ∷ []) cause
-unmarked f paid hs h cause other told = (
-  λ is. marked_more f hs h cause (told.0 is),
-  λ m. elim (marked_parts f hs h cause m) [ inl old ↦ told.1 old | inr new ↦ absurd (other new.0 new.1) ],
-)
+unmarked f paid hs h cause other told = grind (arith, marked_more, marked_parts)
 
 -- one that has it pays what it says
 marked : (f : Paid → Bool) (paid after : Paid) (hs : List Happening) (h : Happening) (cause : ℕ) → cause < h.note.number → cause_of h.note.body ≡ cause
     → f after ≡ (f paid || f (paid_by h.note.body)) → (f paid ≡ true) ↔ IsMarked f hs cause → (f after ≡ true) ↔ IsMarked f (hs ++ h ∷ []) cause
-marked f paid after hs h cause behind of is told = (
-  λ yes.
-      elim (or_cases (f paid) (f (paid_by h.note.body)) (sym is ∙ yes)) [
-        | inl old ↦ marked_more f hs h cause (told.0 old)
-        | inr new ↦ record { paying = h; there = in_right h hs (h ∷ []) (inl refl); behind = behind; of_cause = of; pays = new }
-      ],
-  λ m.
-      elim (marked_parts f hs h cause m) [
-        | inl old ↦ is ∙ ap (λ (b : Bool). b || f (paid_by h.note.body)) (told.1 old)
-        | inr new ↦ is ∙ true_right (f paid) (f (paid_by h.note.body)) new.2
-      ],
-)
-  where
-    true_right : (a b : Bool) → b ≡ true → (a || b) ≡ true
-    true_right true b e = refl
-    true_right false b e = e
+marked f paid after hs h cause behind of is told = grind (arith, or_cases, paid_by, marked_more, in_right, marked_parts)
 
 pub paid_unmarked : (paid : Paid) (hs : List Happening) (h : Happening) (cause : ℕ) → ((cause < h.note.number) → cause_of h.note.body ≡ cause → ⊥)
     → IsPaidSo hs cause paid → IsPaidSo (hs ++ h ∷ []) cause paid
@@ -114,10 +90,7 @@ got_more [] x zero y e = inr (refl, cc)
 got_more [] x (suc n) y e = absurd cc
 got_more (z ∷ xs) x zero y e = inl (omega arith, e)
 got_more (z ∷ xs) x (suc n) y e =
-    elim (got_more xs x n y e) [
-      | inl here ↦ let lt = here.0 in inl (omega (arith, lt), here.1)
-      | inr last ↦ let eq = last.0 in inr (omega (arith, eq), last.1)
-    ]
+    grind (arith, (got_more xs x n y e))
 
 -- the numbers of records are at most how many there are
 numbers_more : (hs : List Happening) (h : Happening) → ((g : Happening) → IsIn g hs → g.note.number ≤ length hs) → h.note.number ≡ length hs + 1
@@ -162,10 +135,7 @@ got_set (z ∷ xs) zero x zero y e = inl (refl, cc, omega arith)
 got_set (z ∷ xs) zero x (suc n) y e = inr (λ same. absurd (omega (arith, same)), e)
 got_set (z ∷ xs) (suc i) x zero y e = inr (λ same. absurd (omega (arith, same)), e)
 got_set (z ∷ xs) (suc i) x (suc n) y e =
-    elim (got_set xs i x n y e) [
-      | inl here ↦ let eq = here.0 in let lt = here.2 in inl (omega (arith, eq), here.1, omega (arith, lt))
-      | inr other ↦ inr (λ same. other.0 (omega (arith, same)), other.1)
-    ]
+    grind (arith, (got_set xs i x n y e))
 
 -- one more record that pays what it says of what its cause brings
 pub more_marked : (hs : List Happening) (h : Happening) (payments : List Paid) (i : ℕ) (old : Paid) → ArePayments hs payments

@@ -1,5 +1,5 @@
 -- What pays the debts of changes of state.
-use Rattle.audit_sweep.proofs.unpaid_lemmas.{Firsts.AreOfRecords, Payers.{one_time, payer_due}, Words.{subst, sym, time_of, true, ℕ}}
+use Rattle.audit_sweep.proofs.unpaid_lemmas.{Firsts.AreOfRecords, Payers.{one_time, payer_due}, Words.{sym, time_of, true, ℕ}}
 use Rattle.audit_sweep.proofs.unpaid_lemmas.Words.{◌∙◌, ◌≡◌, ◌≤◌, DeviceId, Happening, IsDue, IsFounded, IsMarked, IsPaid, List, NoteBody, Paid, Pays, Scenario}
 use Rattle.audit_sweep.proofs.unpaid_lemmas.Words.{Some, ap, arith, cause_of, false, is_broken, numbered, numbered_within, paid_by, place_of, refl, same_some}
 use Rattle.audit_sweep.specs.unpaid.Changing.{HasChange}
@@ -58,12 +58,7 @@ changes_of_records s hs until cause owed =
 pub owed_change : (s : Scenario) (hs : List Happening) (until cause : ℕ) (h : Happening) → numbered hs cause ≡ Some h → OwesChange s hs until cause
     → HasChange s hs cause (time_of h) × (time_of h ≤ until)
 owed_change s hs until cause h there o =
-    let from = bringer s hs o.device o.time o.state cause o.why o.brought o.changes in
-    let one : from.0 ≡ h = same_some (numbered hs cause) from.0 h from.1.there there in
-    let time : o.time ≡ time_of h = sym from.1.same_time ∙ ap time_of one in (
-      subst (λ (t : ℕ). HasChange s hs cause t) time (record { device = o.device; state = o.state; why = o.why; brought = o.brought; changes = o.changes }),
-      subst (λ (t : ℕ). t ≤ until) time o.timely,
-    )
+    grind (arith, bringer, same_some, numbered, time_of)
 
 -- what a record of this body says that brings a change
 abbrev pub Brings : Scenario → List Happening → ℕ → NoteBody → Type 0
@@ -80,20 +75,7 @@ joined_brings s hs t device other e = absurd cc
 
 pub change_brought : (s : Scenario) (hs : List Happening) (cause t : ℕ) (h : Happening) → numbered hs cause ≡ Some h → HasChange s hs cause t
     → Brings s hs t h.note.body
-change_brought s hs cause t h there has = by_why has.why has.brought has.changes
-  where
-    by_why : (why : Why) → IsBrought why → ChangesState s hs has.device t has.state cause why → Brings s hs t h.note.body
-    by_why whys.On b c =
-        let one : c.2.1 ≡ h = same_some (numbered hs cause) c.2.1 h c.2.2.there there in
-        subst (λ (g : Happening). Brings s hs t g.note.body) one (subst (Brings s hs t) (sym c.2.3) c.1)
-    by_why whys.Frame b c =
-        let one : c.1.0 ≡ h = same_some (numbered hs cause) c.1.0 h c.1.1.there there in
-        subst (λ (g : Happening). Brings s hs t g.note.body) one (joined_brings s hs t has.device c.1.0.note.body c.1.2)
-    by_why whys.Correction b c =
-        let one : c.2.3 ≡ h = same_some (numbered hs cause) c.2.3 h c.2.4.there there in
-        subst (λ (g : Happening). Brings s hs t g.note.body) one (subst (Brings s hs t) (sym c.2.5) c.1)
-    by_why whys.SyncClique b c = absurd b
-    by_why whys.AsyncClique b c = absurd b
+change_brought s hs cause t h there has = grind (arith, same_some, numbered, joined_brings)
 
 pub brought_change : (s : Scenario) (hs : List Happening) (cause : ℕ) (h : Happening) → numbered hs cause ≡ Some h → (body : NoteBody) → h.note.body ≡ body
     → Brings s hs (time_of h) body → HasChange s hs cause (time_of h)

@@ -86,13 +86,7 @@ waits_so s hs until cause h there o =
 -- a record waits in one way
 one_waiting : (network : Network) (h : Happening) (a b : Waiting) → IsWaiting network h a → IsWaiting network h b → a ≡ b
 one_waiting network h a b x y =
-    let bodies = sym x.arrived ∙ y.arrived in
-    let device : a.device ≡ b.device = cc in
-    let clock : a.clock ≡ b.clock = cc in
-    let since : a.since ≡ b.since = x.since ∙ sym y.since in
-    ap (λ (d : DeviceId). let w : Waiting = record { device = d; clock = a.clock; since = a.since } in w) device
-    ∙ ap (λ (k : ℕ). let w : Waiting = record { device = b.device; clock = k; since = a.since } in w) clock
-    ∙ ap (λ (t : ℕ). let w : Waiting = record { device = b.device; clock = b.clock; since = t } in w) since
+    grind arith
 
 -- where no frame waits none is owed
 pub none_waits : (s : Scenario) (hs : List Happening) (until cause : ℕ) (h : Happening) → numbered hs cause ≡ Some h
@@ -102,9 +96,7 @@ none_waits s hs until cause h there none o = let w = waits_so s hs until cause h
 -- where one waits it is owed by when it is reached
 pub waits_until : (s : Scenario) (hs : List Happening) (until cause : ℕ) (h : Happening) (waiting : Waiting) (result : Option ℕ) → numbered hs cause ≡ Some h
     → IsWaiting s.network h waiting → IsReachedBy s waiting until result → IsPermanentBy s hs until cause result
-waits_until s hs until cause h waiting None there waits none = λ o.
-    let w = waits_so s hs until cause h there o in
-    none o.time (subst (λ (x : Waiting). IsReached s x o.time) (one_waiting s.network h w.0 waiting w.1 waits) w.2) o.timely
+waits_until s hs until cause h waiting None there waits none = grind (arith, waits_so, one_waiting)
 waits_until s hs until cause h waiting (Some t) there waits reached =
     let point : Units = record { 0 = point_of (pos (s.reading waiting.device waiting.since)) waiting.clock s.network.dmax.0 } in
     let at : waiting.since ≡ time_of h = waits.since in

@@ -1,10 +1,9 @@
 -- The frame of a virtual link as it is written: a head, and zeros behind it.
-use Rattle.std.proofs.Common.{◌++◌, ◌+◌, ◌-◌, ◌<◌, ◌∙◌, ◌≡◌, List, None, Option, Some, [], ap, arith, drop, get_or, inl, inr, length, length-append, replicate}
+use Rattle.std.proofs.Common.{◌++◌, ◌+◌, ◌-◌, ◌<◌, ◌∙◌, ◌≡◌, List, None, Option, Some, [], ap, arith, drop, get_or, length, length-append, replicate}
 use Rattle.std.proofs.{Common.{slice_get, sym, take, ℕ}, Math.Seq.{drop-append_seam, take-append-add}, lemmas.List.take-replicate}
 use Rattle.std.{proofs.lemmas.Option.{slice_get-get_or, slice_get_cases}, specs.Option.option_map_or}
-use Rattle.byteorder.specs.{Endian.big_bytes, Numbers.length-bytes_high_first}
 use Rattle.net_plan.specs.{Padding.padded, Ranges.{IsInRange, IsVlInRange}, declared.{ids.VlId.VlId, network.Network.Network, tables.VirtualLink.VirtualLink}}
-use Rattle.run_law.specs.records.Frames.{mac_of, tt_frame, tt_frame_by}
+use Rattle.run_law.specs.records.Frames.{tt_frame, tt_frame_by}
 use Rattle.tte_lemmas.proofs.Lists.{in_all}
 use Rattle.device_rules.specs.frames.Made.{head_of, made_frame}
 
@@ -12,33 +11,12 @@ use Rattle.device_rules.specs.frames.Made.{head_of, made_frame}
 pub made_is : (network : Network) (vl : VlId) (cycle : ℕ) → vl.0 < length network.vl
     → made_frame network vl cycle ≡ tt_frame network vl cycle
 made_is network vl cycle lt =
-    elim (slice_get_cases network.vl vl.0).1 [
-      | inl found ↦
-          ap (λ (o : Option VirtualLink). option_map_or (λ v. tt_frame_by network v cycle) o (replicate 60 0)) found.2
-          ∙ sym (ap (λ (o : Option VirtualLink). option_map_or (λ v. tt_frame_by network v cycle) o []) found.2)
-      | inr past ↦ let ge = past.0 in absurd (omega (arith, lt, ge))
-    ]
+    grind (arith, slice_get_cases, replicate)
 
 -- how long the head is
 head_length : (network : Network) (vl : VirtualLink) (cycle : ℕ) → length (head_of network vl cycle) ≡ 18
 head_length network vl cycle =
-    let a = big_bytes 4 network.marker in
-    let b = big_bytes 2 vl.id in
-    let c = big_bytes 6 (mac_of network vl.sender) in
-    let d = big_bytes 2 vl.ethertype in
-    let e = big_bytes 4 cycle in
-    omega (
-      arith,
-      length-append a (b ++ (c ++ (d ++ e))),
-      length-append b (c ++ (d ++ e)),
-      length-append c (d ++ e),
-      length-append d e,
-      length-bytes_high_first 4 network.marker,
-      length-bytes_high_first 2 vl.id,
-      length-bytes_high_first 6 (mac_of network vl.sender),
-      length-bytes_high_first 2 vl.ethertype,
-      length-bytes_high_first 4 cycle,
-    )
+    grind (arith, length-append)
 
 -- the first octets of a longer frame are the frame
 pub front_made : (network : Network) (vl : VirtualLink) (cycle : ℕ) → IsVlInRange network vl

@@ -38,8 +38,6 @@ none_below t k ks q o b =
 pub least_of_own : (s : Scenario) (js : List Happening) (t m : ℕ) (body : NoteBody) (q : List ℕ) → IsOwnSource s js t m body q
     → IsBefore (t ∷ rank body ∷ key m body) q → ⊥
 least_of_own s js t m (notes.Event line what) q o b = none_below t 1 (line ∷ []) q o b
-least_of_own s js t m (notes.Arrived device link cause clock) q o b = same_place _ q o b
-least_of_own s js t m (notes.Permanent device link cause point verdict) q o b = same_place _ q o b
 least_of_own s js t m (notes.Compressed device opened at cycle members verdict) q o b = same_end t 4 device.0 0 _ q o b
 least_of_own s js t m (notes.Sent device cycle) q o b = above t 5 4 (device.0 ∷ cycle ∷ []) (device.0 ∷ []) q (omega arith) o b
 least_of_own s js t m (notes.Corrected device cycle by adjustment) q o b = above t 6 4 (device.0 ∷ []) (device.0 ∷ []) q (omega arith) o b
@@ -50,7 +48,6 @@ least_of_own s js t m (notes.State device state cause whys.SyncClique) q o b =
     above t 7 4 (device.0 ∷ cause ∷ []) (device.0 ∷ []) q (omega arith) o b
 least_of_own s js t m (notes.State device state cause whys.AsyncClique) q o b =
     above t 7 4 (device.0 ∷ cause ∷ []) (device.0 ∷ []) q (omega arith) o b
-least_of_own s js t m (notes.Left device link cause clock) q o b = same_place _ q o b
 least_of_own s js t m (notes.Lost device link cause) q (inl o) b =
     above t 9 8 (device.0 ∷ link.0 ∷ cause ∷ []) (device.0 ∷ link.0 ∷ cause ∷ []) q (omega arith) o.0 b
 least_of_own s js t m (notes.Lost device link cause) q (inr (inl o)) b =
@@ -68,7 +65,7 @@ least_of_own s js t m (notes.Dropped device link cause reason) q (inr (inl o)) b
     above t 13 3 (device.0 ∷ link.0 ∷ cause ∷ []) (device.0 ∷ amount o.0 ∷ o.1.frame.members.0 ∷ link.0 ∷ cause ∷ []) q (omega arith) o.2 b
 least_of_own s js t m (notes.Dropped device link cause reason) q (inr (inr o)) b =
     above t 13 8 (device.0 ∷ link.0 ∷ cause ∷ []) (device.0 ∷ link.0 ∷ cause ∷ []) q (omega arith) o.0 b
-least_of_own s js t m (notes.Clock device reading adjustment state) q o b = same_place _ q o b
+least_of_own s js t m other q o b = same_place _ q o b
 
 -- ---- a record at the same place is the same
 

@@ -54,11 +54,7 @@ permuted_map h (x ∷ xs) ys same some = from_first h (x ∷ xs) ys (h x) (some 
 
 pub length_map : {X Y : Type 0} (h : X → Option Y) (xs : List X) → ((x : X) → IsIn x xs → is_some (h x) ≡ true) → length (filter_map h xs) ≡ length xs
 length_map h [] some = refl
-length_map h (x ∷ xs) some = cons_length (h x) (filter_map h xs) (some x (inl refl)) ∙ ap (λ (n : ℕ). suc n) (length_map h xs (λ y there. some y (inr there)))
-  where
-    cons_length : {Y : Type 0} (o : Option Y) (ys : List Y) → is_some o ≡ true → length (cons_option o ys) ≡ suc (length ys)
-    cons_length None ys some = absurd (both_ways false refl some)
-    cons_length (Some y) ys some = refl
+length_map h (x ∷ xs) some = grind (arith, is_some, length, both_ways, (length_map h xs (λ y there. some y (inr there))))
 
 pub same_map : {X Y : Type 0} (g h : X → Option Y) (xs : List X) → ((x : X) → IsIn x xs → g x ≡ h x) → filter_map g xs ≡ filter_map h xs
 same_map g h [] same = refl

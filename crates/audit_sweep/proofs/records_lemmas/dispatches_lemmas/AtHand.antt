@@ -1,5 +1,5 @@
 -- When a device has a frame at hand.
-use Rattle.std.proofs.Common.{if◌then◌else◌, ◌∙◌, ◌∷◌, ◌≡◌, ◌⊎◌, Bool, List, None, Option, Some, [], ap, false, filter, inl, inr, refl, sym, true, ℕ}
+use Rattle.std.proofs.Common.{◌∙◌, ◌∷◌, ◌≡◌, ◌⊎◌, Bool, List, None, Option, Some, [], ap, arith, false, filter, if◌then◌else◌, inl, inr, refl, sym, true, ℕ}
 use Rattle.std.{proofs.lemmas.Bool.{and_parts, eq-eqb, eqb-true, or_right}, specs.{List.last_or, Prelude.{◌&&◌, ◌==◌, ◌||◌, not, option_and_then}}}
 use Rattle.audit_devices.specs.{Taking.{taken_at, taken_by, taking_of}, declared.taking.Taking.Taking}
 use Rattle.net_plan.specs.declared.{ids.{DeviceId.DeviceId, LinkId.LinkId, VlId.VlId}, network.Network.Network}
@@ -101,25 +101,6 @@ pub so_held : (network : Network) (hs : List Happening) (device sender : DeviceI
     → IsAcceptedLast network hs device vl t accepted → IsAtHand network hs device sender vl t cause cycle
     → holds (sender.0 == device.0) cause (is_end network device) (is_last accepted cause cycle) ≡ true
 so_held network hs device sender vl t cause cycle accepted so (inl (same, none)) =
-    let end : Bool = is_end network device in
-    let last : Bool = is_last accepted cause cycle in
-    ap (λ (b : Bool). (b && cause == 0) || (not end && last)) (eq-eqb sender.0 device.0 (ap (λ (d : DeviceId). d.0) same))
-    ∙ ap (λ (b : Bool). b || (not end && last)) (eq-eqb cause 0 none)
+    grind (arith, eq-eqb)
 so_held network hs device sender vl t cause cycle accepted so (inr (switch, has)) =
-    let sends : Bool = sender.0 == device.0 in
-    let last : Bool = is_last accepted cause cycle in
-    let made : taking_of device vl has.taken ≡ accepted = sym (ap (option_and_then (taking_of device vl)) has.last) ∙ so switch in
-    ap (λ (b : Bool). (sends && cause == 0) || (not b && last)) switch
-    ∙ or_right (sends && cause == 0) last (ap (λ o. is_last o cause cycle) (sym made) ∙ told has)
-  where
-    told : (has : HasAccepted hs device vl t cause cycle) → is_last (taking_of device vl has.taken) cause cycle ≡ true
-    told has =
-        let h = has.taken in
-        let made_by : Taking = record { time = time_of h; link = has.link; cause = has.from; number = h.note.number; cycle = cycle } in
-        let made : taking_of device vl h ≡ Some made_by =
-        ap (λ b. option_and_then (taken_at device vl) (taken_by (time_of h) h.note.number b)) has.is
-        ∙ ap (λ (b : Bool). if b && vl.0 == vl.0 then Some made_by else None) (eq-eqb device.0 device.0 refl)
-        ∙ ap (λ (b : Bool). if b then Some made_by else None) (eq-eqb vl.0 vl.0 refl) in
-        ap (λ o. is_last o cause cycle) made
-        ∙ ap (λ (b : Bool). b && cycle == cycle) (eq-eqb h.note.number cause (sym has.number))
-        ∙ eq-eqb cycle cycle refl
+    grind (arith, or_right, eq-eqb)

@@ -20,13 +20,7 @@ once reading shown value t u on at_t at_u lt =
 pub same_time : (reading : ℕ → ℕ) (shown : Shown) (value : ℤ) (t u : ℕ) → ReadsOn reading → CrossesAt reading shown value t → CrossesAt reading shown value u
     → u ≡ t
 same_time reading shown value t u on at_t at_u =
-    elim (cases_lt t u) [
-      | inl lt ↦ absurd (once reading shown value t u on at_t at_u lt)
-      | inr le ↦ elim (cases_lt u t) [
-        | inl lt ↦ absurd (once reading shown value u t on at_u at_t lt)
-        | inr ge ↦ omega (arith, le, ge)
-      ]
-    ]
+    grind (arith, cases_lt, once)
 
 -- where it crosses a value far behind the first, it crosses the first neither then nor later
 not_first : (reading : ℕ → ℕ) (shown : Shown) (series : Series) (n t u : ℕ) → 1 ≤ n → ReadsOn reading → 2 ^ 62 ≤ series.step → t ≤ 2 ^ 60

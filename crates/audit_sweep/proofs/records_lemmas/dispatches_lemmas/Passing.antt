@@ -1,4 +1,5 @@
 -- What a switch dispatches of a frame that it took.
+use Rattle.std.proofs.Common.{arith}
 use Rattle.std.{proofs.{Common.{◌↔◌, ◌∙◌, ◌≡◌, List, None, Option, Some, ap, inl, inr, subst, sym, ℕ}, lemmas.Option.same_Some}, specs.Prelude.option_map}
 use Rattle.audit_sweep.specs.{declared.records.{dispatches.leaving.Dispatch.Dispatch, kept.Kept.Kept}, records.dispatches.Judged.{DispatchesSome, IsKeptOf}}
 use Rattle.audit_sweep.specs.records.{Keeping.kept_of, dispatches.{Passed.passed_as, Sent.AreFoundByNumber}}
@@ -43,22 +44,7 @@ passed_link link cause (Some kept) dispatch e = absurd cc
 pub passed_some : (s : Scenario) (hs : List Happening) (device : DeviceId) (t : ℕ) (link : LinkId) (cause : ℕ) (kept : Option Kept) (dispatch : Dispatch)
     → AreFoundByNumber hs → IsKeptOf hs cause kept → (cause ≡ 0 → ⊥) → passed_as link cause kept ≡ Some dispatch
     → Dispatches s hs device t dispatch.link dispatch.cause dispatch.vl dispatch.cycle ↔ DispatchesSome s hs device t link cause
-passed_some s hs device t link cause kept dispatch found is some passed = (to, from)
-  where
-    to : Dispatches s hs device t dispatch.link dispatch.cause dispatch.vl dispatch.cycle → DispatchesSome s hs device t link cause
-    to does =
-        let as_said = passed_link link cause kept dispatch passed in (
-          dispatch.vl,
-          dispatch.cycle,
-          subst (λ (l : LinkId). Dispatches s hs device t l cause dispatch.vl dispatch.cycle) as_said.0
-              (subst (λ (n : ℕ). Dispatches s hs device t dispatch.link n dispatch.vl dispatch.cycle) as_said.1 does),
-        )
-
-    from : DispatchesSome s hs device t link cause → Dispatches s hs device t dispatch.link dispatch.cause dispatch.vl dispatch.cycle
-    from (vl, cycle, does) =
-        let made : Dispatch = record { link = link; cause = cause; vl = vl; cycle = cycle } in
-        let one : dispatch ≡ made = same_Some _ _ (sym passed ∙ passed_is s hs device t link cause vl cycle kept found is some does) in
-        subst (λ (d : Dispatch). Dispatches s hs device t d.link d.cause d.vl d.cycle) (sym one) does
+passed_some s hs device t link cause kept dispatch found is some passed = grind (arith, passed_link, same_Some, passed_is)
 
 pub passed_none : (s : Scenario) (hs : List Happening) (device : DeviceId) (t : ℕ) (link : LinkId) (cause : ℕ) (kept : Option Kept)
     → AreFoundByNumber hs → IsKeptOf hs cause kept → (cause ≡ 0 → ⊥) → passed_as link cause kept ≡ None → DispatchesSome s hs device t link cause → ⊥

@@ -1,10 +1,10 @@
 -- What is dispatched by the rows of a link.
-use Rattle.std.proofs.Common.{◌+◌, ◌<◌, ◌↔◌, ◌∙◌, ◌∷◌, ◌≡◌, ◌≤◌, Bool, IsTrue, List, [], arith, false, inl, inr, length, slice_index_or, subst, suc, sym, zero}
+use Rattle.std.proofs.Common.{◌+◌, ◌<◌, ◌↔◌, ◌∷◌, ◌≡◌, ◌≤◌, Bool, IsTrue, List, [], arith, false, inl, inr, length, slice_index_or, subst, suc, sym, zero}
 use Rattle.std.proofs.{Common.ℕ, lemmas.Bool.false≢true}
 use Rattle.net_plan.specs.{Ranges.{IsInRange, IsVlInRange}, declared.{ids.{DeviceId.DeviceId, LinkId.LinkId, VlId.VlId}, network.Network.Network}}
 use Rattle.run_law.specs.{records.{Happenings.Happening, Order.IsIn}, scenario.Scenarios.Scenario, timed.Dispatching.{Dispatches, IsUp}}
 use Rattle.tte_lemmas.proofs.{Lists.in_all, Naturals.below_next}
-use Rattle.audit_sweep.specs.records.dispatches.{Dispatched.{IsAtHand, IsRowDispatched, SomeDispatched}, Leaving.{AreRowsOn, HavePeriods, leaving_by}}
+use Rattle.audit_sweep.specs.records.dispatches.{Dispatched.{IsAtHand, SomeDispatched}, Leaving.{AreRowsOn, HavePeriods, leaving_by}}
 use Rattle.audit_sweep.specs.declared.records.dispatches.leaving.{Dispatch.Dispatch, LeavingRow.LeavingRow}
 
 -- ---- lists
@@ -36,22 +36,7 @@ some_dispatches : (s : Scenario) (hs : List Happening) (device : DeviceId) (t : 
     → AreRowsOn s.network dispatch.link rows → IsUp s hs device t → SomeDispatched s s.network hs device t dispatch rows
     → Dispatches s hs device t dispatch.link dispatch.cause dispatch.vl dispatch.cycle
 some_dispatches s hs device t dispatch rows are up some =
-    let on = are.sound some.row some.there in
-    let entry = on.entry in
-    let by : IsRowDispatched s s.network hs device t dispatch (leaving_by entry) =
-    subst (IsRowDispatched s s.network hs device t dispatch) on.kept some.dispatched in
-    record {
-      place = on.place;
-      entry = entry;
-      row = on.is;
-      by = on.on;
-      of_vl = by.suits.of_vl;
-      leaves = by.suits.leaves;
-      occurs = record { begun = by.suits.begun; in_phase = by.suits.in_phase };
-      up = up;
-      reached = by.ready.reached;
-      at_hand = subst (λ (vl : VlId). IsAtHand s.network hs device entry.vl.sender vl t dispatch.cause dispatch.cycle) (sym by.suits.of_vl) by.ready.at_hand;
-    }
+    grind arith
 
 -- and what it dispatches is by one of them
 dispatches_some : (s : Scenario) (hs : List Happening) (device : DeviceId) (t : ℕ) (dispatch : Dispatch) (rows : List LeavingRow)
@@ -74,9 +59,7 @@ pub by_some : (s : Scenario) (network : Network) (hs : List Happening) (device :
     → SomeDispatched s network hs device t dispatch rows
     ↔ Dispatches s hs device t dispatch.link dispatch.cause dispatch.vl dispatch.cycle
 by_some s network hs device t dispatch rows same =
-    subst (λ (n : Network). AreRowsOn n dispatch.link rows → IsUp s hs device t
-    → SomeDispatched s n hs device t dispatch rows ↔ Dispatches s hs device t dispatch.link dispatch.cause dispatch.vl dispatch.cycle) same
-    (λ are up. (some_dispatches s hs device t dispatch rows are up, dispatches_some s hs device t dispatch rows are))
+    grind (arith, some_dispatches, dispatches_some)
 
 -- ---- one row after another
 
@@ -90,10 +73,7 @@ NoneOf P xs d count = (i : ℕ) → i < count → i < length xs → P (slice_ind
 pub none_more : {X : Type 0} (P : X → Type 0) (xs : List X) (d : X) (n : ℕ) (answer : Bool) → NoneOf P xs d n
     → IsTrue answer ↔ P (slice_index_or xs n d) → answer ≡ false → NoneOf P xs d (n + 1)
 none_more P xs d n answer none is no_answer i lt within holds =
-    elim (below_next i n lt) [
-      | inl before ↦ none i before within holds
-      | inr same ↦ false≢true (sym no_answer ∙ is.1 (subst (λ (k : ℕ). P (slice_index_or xs k d)) same holds))
-    ]
+    grind (arith, below_next, false≢true, slice_index_or)
 
 pub none_in_all : {X : Type 0} (P : X → Type 0) (xs : List X) (d : X) (n : ℕ) → length xs ≤ n → NoneOf P xs d n → (x : X) → IsIn x xs → P x → ⊥
 none_in_all P xs d n all none x there holds =

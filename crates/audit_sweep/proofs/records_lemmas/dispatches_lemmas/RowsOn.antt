@@ -43,11 +43,7 @@ pub record AreFirstExits (network : Network) (count : ℕ) (exits : Exits) : Typ
   pub each : (link : LinkId) → AreFirstOn network count link (rows_on exits link)
 
 pub first_none : (network : Network) (exits : Exits) → AreNoRows network exits → AreFirstExits network 0 exits
-first_none network exits are = record {
-  links = are.count;
-  each = λ link. subst (AreFirstOn network 0 link) (sym (are.none link))
-      (record { sound = λ row there. absurd there; complete = λ place entry lt is on. absurd (omega (arith, lt)) });
-}
+first_none network exits are = grind arith
 
 is_new : (network : Network) (n place : ℕ) (entry other : Entry) → IsEntry network n entry → IsEntry network place other → place ≡ n → other ≡ entry
 is_new network n place entry other at is same = one_entry network n other entry (subst (λ (k : ℕ). IsEntry network k other) same is) at
@@ -72,16 +68,7 @@ one_more network n entry link rows at on are = record {
 
 other_more : (network : Network) (n : ℕ) (entry : Entry) (link : LinkId) (rows : List LeavingRow) → IsEntry network n entry → (entry.row.link ≡ link → ⊥)
     → AreFirstOn network n link rows → AreFirstOn network (n + 1) link rows
-other_more network n entry link rows at off are = record {
-  sound = are.sound;
-  complete = λ place other lt is with_link. by_place place other is with_link (below_next place n lt);
-}
-  where
-    by_place : (place : ℕ) (other : Entry) → IsEntry network place other → other.row.link ≡ link → (place < n) ⊎ (place ≡ n)
-        → IsIn (leaving_by other) rows
-    by_place place other is with_link (inl before) = are.complete place other before is with_link
-    by_place place other is with_link (inr same) =
-        absurd (off (sym (ap (λ (e : Entry). e.row.link) (is_new network n place entry other at is same)) ∙ with_link))
+other_more network n entry link rows at off are = grind (arith, below_next, is_new)
 
 pub more_exits : (network : Network) (n : ℕ) (entry : Entry) (old new : Exits) → AreFirstExits network n old → IsEntry network n entry
     → ((link : LinkId) → rows_on new link
@@ -106,10 +93,4 @@ more_exits network n entry old new are at rows links = record {
 
 pub all_exits : (network : Network) (n : ℕ) (exits : Exits) → length network.row ≤ n → AreFirstExits network n exits → AreExits network exits
 all_exits network n exits all are link =
-    let first = are.each link in
-    record {
-      sound = first.sound;
-      complete = λ place entry is on.
-          let within = slice_get_within network.row place entry.row is.row in
-          first.complete place entry (omega (arith, within, all)) is on;
-    }
+    grind (arith, slice_get_within)

@@ -18,21 +18,14 @@ use Rattle.audit_sweep.specs.declared.records.dispatches.leaving.LeavingRow.{Lea
 crossed_then : (reading : ℕ → ℕ) (shown : Shown) (series : Series) (t : ℕ) → NoneCrossed reading shown series (t - 1) (t + 1)
     → CrossesSome reading shown series t → ⊥
 crossed_then reading shown series zero none (n, crosses) =
-    let below = crosses.below in
-    let reached = crosses.reached in
-    omega (arith, ints, below, reached)
+    grind (arith, ints)
 crossed_then reading shown series (suc t) none (n, crosses) = none (suc t) n (omega arith) (omega arith) crosses
 
 pub crossed_at : (reading : ℕ → ℕ) (shown : Shown) (series : Series) (t : ℕ) (o : Option Crossed) → IsNextOrNone reading shown series (t - 1) t o
     → IsTrue (is_some o) ↔ CrossesSome reading shown series t
 crossed_at reading shown series t None none = (λ told. absurd cc, λ some. absurd (crossed_then reading shown series t none some))
 crossed_at reading shown series t (Some crossed) next =
-    let later = next.later in
-    let timely = next.timely in
-    let now : crossed.time ≡ t = omega (arith, later, timely) in (
-      λ told. (crossed.number, subst (CrossesAt reading shown (value_in series crossed.number)) now next.crosses),
-      λ some. refl,
-    )
+    grind arith
 
 pub reached_some : (s : Scenario) (hs : List Happening) (device : DeviceId) (t : ℕ) (shown : Shown) (row : LeavingRow) (series : Series)
     → AreLeavings s.network row series → IsSteady s device → Shows s (earlier t hs) device shown

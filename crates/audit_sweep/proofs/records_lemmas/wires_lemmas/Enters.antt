@@ -1,5 +1,5 @@
 -- How what arrives enters a device.
-use Rattle.std.proofs.Common.{◌∙◌, ◌≡◌, Err, List, Ok, Option, Result, ap, subst, sym, ℕ}
+use Rattle.std.proofs.Common.{◌∙◌, ◌≡◌, Err, List, Ok, Option, Result, ap, arith, subst, sym, ℕ}
 use Rattle.device_rules.specs.{Entering.{IsEnteredSo, entering_by}, Headings.heading_of, declared.{entrances.EnteringRow.EnteringRow, heading.Heading.Heading}}
 use Rattle.net_plan.specs.declared.{ids.{DeviceId.DeviceId, LinkId.LinkId}, network.Network.Network}
 use Rattle.run_law.specs.{control.Wires.{Signal, control, timed}, declared.{judgement.Reason.Reason, steps.Arrival.Arrival}}
@@ -61,9 +61,4 @@ pub row_becomes : (s : Scenario) (hs : List Happening) (device : DeviceId) (t : 
     → ((entry : Entry) → row ≡ entering_by network entry → is ≡ taken_or_fault network device at entry (row_fault network at entry length last))
     → is ≡ arrival_of s hs device t link cause signal
 row_becomes s hs device t link cause signal network at row length last is n a l x f =
-    let by : Network → Standpoint → Option ℕ → Arrival = λ m p k. taken_or_fault m device p x.0 (row_fault m p x.0 length k) in
-    f x.0 (x.1 ∙ ap (λ (m : Network). entering_by m x.0) n)
-    ∙ ap (λ (m : Network). by m at last) (sym n)
-    ∙ ap (λ (p : Standpoint). by s.network p last) a
-    ∙ ap (λ (k : Option ℕ). by s.network (standpoint s hs device t) k) l
-    ∙ x.2
+    grind arith

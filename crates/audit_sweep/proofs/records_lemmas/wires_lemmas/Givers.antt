@@ -28,17 +28,7 @@ child_test network device link e = end_test (λ (l : Link). l.child) (link_at ne
 
 passes_is : (network : Network) (device : DeviceId) (by link : LinkId) → passes network device by link ≡ true → Passes network device by link
 passes_is network device by link e =
-    let both = and_parts (is_relay network device) _ e in
-    record {
-      relay = both.0;
-      on = elim (or_cases (is_parent_of network device by && is_child_of network device link)
-          (is_child_of network device by && is_parent_of network device link) both.1) [
-            | inl a ↦ let x = and_parts (is_parent_of network device by) (is_child_of network device link) a in
-                inl (parent_shown network device by x.0, child_is network device link x.1)
-            | inr a ↦ let x = and_parts (is_child_of network device by) (is_parent_of network device link) a in
-                inr (child_is network device by x.0, parent_shown network device link x.1)
-          ];
-    }
+    grind (arith, and_parts, or_cases, parent_shown, child_is)
 
 on_test : (network : Network) (device : DeviceId) (by link : LinkId)
     → (IsParentOf network device by × IsChildOf network device link) ⊎ (IsChildOf network device by × IsParentOf network device link)

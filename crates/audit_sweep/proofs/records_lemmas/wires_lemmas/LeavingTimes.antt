@@ -106,9 +106,7 @@ pub other_time_departs : (s : Scenario) (hs : List Happening) (h : Happening) (r
     → numbered hs cause ≡ Some h → r ≡ record_of h → (t ≡ kept_leaves s device link r → ⊥) → (is : Departure)
     → Departs s hs device t link cause is → ⊥
 other_time_departs s hs h r device t link cause there k none is x =
-    none (x.held
-    ∙ ap (λ (g : Happening). leaves_at s device link g) (one (numbered hs cause) x.giving h x.there there)
-    ∙ sym (leaves_is s h r device link k))
+    grind (arith, one, leaves_is)
 
 pub departs : (s : Scenario) (hs : List Happening) (h : Happening) (r : KeptRecord) (frame : Pcf) (device : DeviceId) (t : ℕ) (link : LinkId) (cause : ℕ)
     (is : Departure)
@@ -116,13 +114,4 @@ pub departs : (s : Scenario) (hs : List Happening) (h : Happening) (r : KeptReco
     → t ≡ kept_leaves s device link r → is_broken s device t ≡ false → is ≡ departure s device link frame r.time t
     → Departs s hs device t link cause is
 departs s hs h r frame device t link cause is there k framed by at correct becomes =
-    record {
-      giving = h;
-      there = there;
-      gives = giver_is s h r device link k by;
-      frame = frame;
-      of_frame = sym (ap (λ (q : KeptRecord). q.frame) k) ∙ framed;
-      held = at ∙ leaves_is s h r device link k;
-      correct = correct;
-      becomes = becomes ∙ ap (λ (q : KeptRecord). departure s device link frame q.time t) k;
-    }
+    grind (arith, gives, giver_is, leaves_is)

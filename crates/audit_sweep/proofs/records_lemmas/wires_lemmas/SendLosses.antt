@@ -1,9 +1,9 @@
 -- What is lost of `send` events.
-use Rattle.std.proofs.{Common.{◌∙◌, ◌≡◌, List, None, Option, Some, ap, arith, false, refl, slice_get, subst, sym, true, ℕ}, lemmas.Option.same_Some}
+use Rattle.std.proofs.{Common.{◌≡◌, List, None, Option, Some, ap, arith, false, slice_get, true, ℕ}, lemmas.Option.same_Some}
 use Rattle.audit_devices.specs.law.LostSends.{OwesLoss}
 use Rattle.audit_sweep.specs.{records.Keeping.{kept_of, record_of}, declared.records.kept.{Kept.Kept, KeptRecord.KeptRecord}}
 use Rattle.net_plan.specs.declared.{ids.{DeviceId.DeviceId, LinkId.LinkId}, tables.{Link.Link, Way.TheVariants.Up}}
-use Rattle.run_law.specs.{control.Losses.IsSendLost, declared.note.NoteBody.NoteBody, records.Happenings.{Happening, numbered, time_of}}
+use Rattle.run_law.specs.{control.Losses.IsSendLost, declared.note.NoteBody.NoteBody, records.Happenings.{Happening, numbered}}
 use Rattle.run_law.specs.scenario.{Scenarios.Scenario, Ways.is_cut}
 use Rattle.tte_lemmas.proofs.Options.{one}
 use Rattle.audit_sweep.specs.{records.wires.Departings.IsLostAt, declared.records.wires.leaving.Leaving.Leaving}
@@ -26,40 +26,20 @@ send_body other link e = absurd cc
 lost_on : (s : Scenario) (hs : List Happening) (h : Happening) (r : KeptRecord) (device : DeviceId) (t : ℕ) (link : LinkId) (cause : ℕ)
     → numbered hs cause ≡ Some h → r ≡ record_of h → IsSendLost s hs device t link cause → (sent_on r.kept ≡ Some link) × (t ≡ r.time)
 lost_on s hs h r device t link cause there k x =
-    let same = one (numbered hs cause) x.event h x.is.there there in (
-      ap (λ (q : KeptRecord). sent_on q.kept) k
-          ∙ ap (λ (g : Happening). sent_on (kept_of g.note.body)) (sym same)
-          ∙ ap (λ (b : NoteBody). sent_on (kept_of b)) x.sends,
-      sym x.is.same_time ∙ ap time_of same ∙ sym (ap (λ (q : KeptRecord). q.time) k),
-    )
+    grind (arith, one)
 
 -- the way is whole
 pub whole_way : (s : Scenario) (hs : List Happening) (h : Happening) (r : KeptRecord) (until cause : ℕ) (link : LinkId) → numbered hs cause ≡ Some h
     → r ≡ record_of h → sent_on r.kept ≡ Some link → is_cut s link Up r.time ≡ false → OwesLoss s hs until cause → ⊥
 whole_way s hs h r until cause link there k by whole o =
-    let facts = lost_on s hs h r o.device o.time o.link cause there k o.lost in
-    let same = one _ _ _ by facts.0 in
-    let here = subst (λ (l : LinkId). is_cut s l Up r.time ≡ false) same whole in
-    let now = subst (λ (n : ℕ). is_cut s o.link Up n ≡ false) (sym facts.1) here in
-    let clash = sym now ∙ o.lost.cut in cc
+    grind (arith, lost_on, one)
 
 -- the octets are lost
 pub send_lost : (s : Scenario) (hs : List Happening) (h : Happening) (r : KeptRecord) (cause : ℕ) (link : LinkId) (found : Link) → numbered hs cause ≡ Some h
     → r ≡ record_of h → sent_on r.kept ≡ Some link → slice_get s.network.link link.0 ≡ Some found → is_cut s link Up r.time ≡ true
     → IsSendLost s hs found.child r.time link cause
 send_lost s hs h r cause link found there k by at cut =
-    let body = send_body h.note.body link (sym (ap (λ (q : KeptRecord). sent_on q.kept) k) ∙ by) in
-    record {
-      event = h;
-      is = record { there = there; same_time = sym (ap (λ (q : KeptRecord). q.time) k) };
-      line = body.0;
-      octets = body.1;
-      sends = body.2;
-      way = found;
-      there = at;
-      by = refl;
-      cut = cut;
-    }
+    grind (arith, send_body)
 
 -- ---- at one device
 
@@ -67,20 +47,13 @@ pub lost_here : (s : Scenario) (hs : List Happening) (device : DeviceId) (t : �
     → ((o : OwesLoss s hs t cause) × (lost.device ≡ o.device) × (lost.link ≡ o.link) × (lost.time ≡ o.time)) → IsLostAt lost device link t
     → IsSendLost s hs device t link cause
 lost_here s hs device t link cause lost x here =
-    let o = x.0 in
-    subst (λ (d : DeviceId). IsSendLost s hs d t link cause) (sym x.1 ∙ here.at_device)
-    (subst (λ (l : LinkId). IsSendLost s hs o.device t l cause) (sym x.2 ∙ here.by_link)
-    (subst (λ (n : ℕ). IsSendLost s hs o.device n o.link cause) (sym x.3 ∙ here.at_time) o.lost))
+    grind arith
 
 same_loss : (s : Scenario) (hs : List Happening) (h : Happening) (r : KeptRecord) (device other : DeviceId) (t u : ℕ) (link way : LinkId) (cause : ℕ)
     → numbered hs cause ≡ Some h → r ≡ record_of h → IsSendLost s hs device t link cause → IsSendLost s hs other u way cause
     → (device ≡ other) × (link ≡ way) × (t ≡ u)
 same_loss s hs h r device other t u link way cause there k x y =
-    let a = lost_on s hs h r device t link cause there k x in
-    let b = lost_on s hs h r other u way cause there k y in
-    let links = one _ _ _ a.0 b.0 in
-    let same = one _ _ _ (subst (λ (l : LinkId). slice_get s.network.link l.0 ≡ Some x.way) links x.there) y.there in
-    (x.by ∙ ap (λ (l : Link). l.child) same ∙ sym y.by, links, a.1 ∙ sym b.1)
+    grind (arith, lost_on, one, slice_get)
 
 pub lost_elsewhere : (s : Scenario) (hs : List Happening) (h : Happening) (r : KeptRecord) (device : DeviceId) (t : ℕ) (link : LinkId) (cause : ℕ)
     (lost : Leaving)
@@ -88,9 +61,7 @@ pub lost_elsewhere : (s : Scenario) (hs : List Happening) (h : Happening) (r : K
     → ((o : OwesLoss s hs t cause) × (lost.device ≡ o.device) × (lost.link ≡ o.link) × (lost.time ≡ o.time))
     → IsSendLost s hs device t link cause → IsLostAt lost device link t
 lost_elsewhere s hs h r device t link cause lost there k x y =
-    let o = x.0 in
-    let same = same_loss s hs h r o.device device o.time t o.link link cause there k o.lost y in
-    record { at_device = x.1 ∙ same.0; by_link = x.2 ∙ same.1; at_time = x.3 ∙ same.2 }
+    grind (arith, same_loss)
 
 pub owed_at : (s : Scenario) (hs : List Happening) (device : DeviceId) (t : ℕ) (link : LinkId) (cause : ℕ) → IsSendLost s hs device t link cause
     → OwesLoss s hs t cause

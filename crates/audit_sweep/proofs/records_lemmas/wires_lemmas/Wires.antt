@@ -95,12 +95,7 @@ pub received : (s : Scenario) (h : Happening) (r : KeptRecord) (found : Link) (p
     → time ≡ r.time + port_time found.speed put.what + delay_at s put.link put.way r.time
     → IsReception s h (record { device = device; link = put.link; time = time; what = put.what })
 received s h r found put device time shown k is there whole by at =
-    let base = put_received s h found put shown (sym (ap (λ (q : KeptRecord). put_by s.network q q.kept) k) ∙ is) there
-    (sym (ap (λ (q : KeptRecord). stops s q.time put.link q.kept) k) ∙ whole) in
-    let when : time ≡ arrives_when s h found put =
-    at ∙ ap (λ (q : KeptRecord). q.time + port_time found.speed put.what + delay_at s put.link put.way q.time) k in
-    subst (λ (d : DeviceId). IsReception s h (record { device = d; link = put.link; time = time; what = put.what })) (sym by)
-    (subst (λ (n : ℕ). IsReception s h (record { device = target_by put.way found; link = put.link; time = n; what = put.what })) (sym when) base)
+    grind (arith, put_received)
 
 -- but not by a time before
 pub too_late : (s : Scenario) (h : Happening) (r : Reception) (until : ℕ) → IsReception s h r → until < r.time
@@ -114,13 +109,7 @@ too_late s h r until is late device link t signal x le =
 
 pub arrives_here : (s : Scenario) (h : Happening) (r : Reception) (device : DeviceId) (link : LinkId) (t : ℕ) → IsReception s h r → IsAt r device link t
     → IsArriving s h device link t (Some r.what)
-arrives_here s h r device link t is here = (
-  is.signal,
-  subst (λ (d : DeviceId). Arrives s h d link t is.signal) here.at_device
-      (subst (λ (l : LinkId). Arrives s h r.device l t is.signal) here.by_link
-      (subst (λ (n : ℕ). Arrives s h r.device r.link n is.signal) here.at_time is.arrives)),
-  is.what,
-)
+arrives_here s h r device link t is here = grind arith
 
 pub arrives_elsewhere : (s : Scenario) (h : Happening) (r : Reception) (device : DeviceId) (link : LinkId) (t : ℕ) → IsReception s h r
     → (IsAt r device link t → ⊥) → IsArriving s h device link t None

@@ -1,11 +1,11 @@
 -- Which frames a row's device can have at hand.
-use Rattle.std.proofs.Common.{◌∙◌, ◌≡◌, ◌⊎◌, Bool, List, None, Option, Some, ap, false, inl, inr, not, refl, subst, sym, true, ℕ}
+use Rattle.std.proofs.Common.{◌∙◌, ◌≡◌, ◌⊎◌, Bool, List, None, Option, Some, ap, arith, false, inl, inr, not, refl, subst, sym, true, ℕ}
 use Rattle.std.{proofs.lemmas.Bool.{and_parts, eqb-true, false≢true}, specs.Prelude.{◌==◌, ◌↔◌, IsTrue, MatchBool}}
 use Rattle.audit_devices.specs.declared.taking.Taking.{Taking}
 use Rattle.audit_sweep.{proofs.records_lemmas.dispatches_lemmas.AtHand.{held, so_held}, specs.unpaid.dispatches.Frames.{AreTold, IsTold, LacksOne}}
 use Rattle.audit_sweep.specs.{declared.records.dispatches.leaving.LeavingRow.LeavingRow, records.dispatches.Dispatched.{IsAcceptedLast, IsAtHand, is_last}}
 use Rattle.net_plan.specs.declared.{ids.{DeviceId.DeviceId, LinkId.LinkId, VlId.VlId}, network.Network.Network}
-use Rattle.run_law.specs.{records.Happenings.Happening, scenario.{Devices.is_end, Scenarios.Scenario}}
+use Rattle.run_law.specs.{records.Happenings.Happening, scenario.Scenarios.Scenario}
 
 -- ---- the two cases of an answer
 
@@ -26,11 +26,7 @@ pub cause_of : (network : Network) (hs : List Happening) (device sender : Device
     → IsAcceptedLast network hs device vl t accepted → IsAtHand network hs device sender vl t cause cycle
     → (cause ≡ 0) ⊎ (is_last accepted cause cycle ≡ true)
 cause_of network hs device sender vl t cause cycle accepted so hand =
-    elim (held (sender.0 == device.0) (cause == 0) (is_end network device) (is_last accepted cause cycle)
-    (so_held network hs device sender vl t cause cycle accepted so hand)) [
-      | inl own ↦ inl (eqb-true cause 0 own.1)
-      | inr taken ↦ inr taken.1
-    ]
+    grind (arith, held, so_held, eqb-true)
 
 -- where nothing was accepted it is the sender's
 pub none_taken : (s : Scenario) (hs : List Happening) (link : LinkId) (row : LeavingRow) (t cycle : ℕ) (accepted : Option Taking) → accepted ≡ None
@@ -38,12 +34,7 @@ pub none_taken : (s : Scenario) (hs : List Happening) (link : LinkId) (row : Lea
     → (IsAtHand s.network hs row.device row.sender row.vl t 0 cycle → IsTold s hs link row t (record { cause = 0; cycle = cycle }))
     → AreTold s hs link row t cycle
 none_taken s hs link row t cycle accepted none so own cause hand =
-    elim (cause_of s.network hs row.device row.sender row.vl t cause cycle accepted so hand) [
-      | inl zero ↦
-          subst (λ (k : ℕ). IsAtHand s.network hs row.device row.sender row.vl t k cycle → IsTold s hs link row t (record { cause = k; cycle = cycle }))
-          (sym zero) own hand
-      | inr last ↦ absurd (false≢true (ap (λ (o : Option Taking). is_last o cause cycle) (sym none) ∙ last))
-    ]
+    grind (arith, cause_of, false≢true)
 
 -- and where one was, it is that or the sender's
 pub one_taken : (s : Scenario) (hs : List Happening) (link : LinkId) (row : LeavingRow) (t cycle : ℕ) (accepted : Option Taking) (taking : Taking) (b : Bool)

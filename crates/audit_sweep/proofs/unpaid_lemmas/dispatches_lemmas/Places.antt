@@ -1,9 +1,9 @@
 -- Where the records of dispatches stand.
-use Rattle.std.{proofs.Common.{◌∙◌, ◌≡◌, Bool, List, ap, false, refl, sym, true, ℕ}, specs.Prelude.◌↔◌}
+use Rattle.std.{proofs.Common.{◌≡◌, Bool, List, ap, arith, false, refl, true, ℕ}, specs.Prelude.◌↔◌}
 use Rattle.audit_devices.specs.law.{Debts.IsPaid, Dispatched.{Dispatch, dispatch_record, is_cut_then}, Owed.Pays}
 use Rattle.audit_sweep.specs.records.places.Placing.{HasRecordAt}
 use Rattle.net_plan.specs.declared.ids.{DeviceId.DeviceId, LinkId.LinkId, VlId.VlId}
-use Rattle.run_law.specs.{declared.note.NoteBody.NoteBody, records.{Happenings.{Happening, time_of}, Ranks.{members_in, place_at}}, scenario.Scenarios.Scenario}
+use Rattle.run_law.specs.{declared.note.NoteBody.NoteBody, records.{Happenings.Happening, Ranks.place_at}, scenario.Scenarios.Scenario}
 use Rattle.audit_devices.specs.law.Owed as debts
 use Rattle.run_law.specs.declared.note.NoteBody.TheVariants as notes
 
@@ -28,15 +28,7 @@ lost_at u m n t k d l (notes.Corrected device cycle by adjustment) e = absurd cc
 lost_at u m n t k d l (notes.State device state cause why) e = absurd cc
 lost_at u m n t k d l (notes.Left device link cause clock) e = absurd cc
 lost_at u m n t k d l (notes.Lost device link cause) e =
-    let time : u ≡ t = cc in
-    let devices : device.0 ≡ d.0 = cc in
-    let links : link.0 ≡ l.0 = cc in
-    let causes : cause ≡ k = cc in (
-      time,
-      ap (λ (x : ℕ). notes.Lost (device_by x) link cause) devices
-          ∙ ap (λ (x : ℕ). notes.Lost d (link_by x) cause) links
-          ∙ ap (λ (x : ℕ). notes.Lost d l x) causes,
-    )
+    grind arith
 lost_at u m n t k d l other e = absurd cc
 
 -- what stands at the place of a dispatch is it
@@ -52,19 +44,7 @@ sent_at u m n t k c d l v (notes.State device state cause why) e = absurd cc
 sent_at u m n t k c d l v (notes.Left device link cause clock) e = absurd cc
 sent_at u m n t k c d l v (notes.Lost device link cause) e = absurd cc
 sent_at u m n t k c d l v (notes.TtSent device link cause vl cycle) e =
-    let time : u ≡ t = cc in
-    let devices : device.0 ≡ d.0 = cc in
-    let links : link.0 ≡ l.0 = cc in
-    let causes : cause ≡ k = cc in
-    let vls : vl.0 ≡ v.0 = cc in
-    let cycles : cycle ≡ c = cc in (
-      time,
-      ap (λ (x : ℕ). notes.TtSent (device_by x) link cause vl cycle) devices
-          ∙ ap (λ (x : ℕ). notes.TtSent d (link_by x) cause vl cycle) links
-          ∙ ap (λ (x : ℕ). notes.TtSent d l x vl cycle) causes
-          ∙ ap (λ (x : ℕ). notes.TtSent d l k (vl_by x) cycle) vls
-          ∙ ap (λ (x : ℕ). notes.TtSent d l k v x) cycles,
-    )
+    grind arith
 sent_at u m n t k c d l v other e = absurd cc
 
 -- what stands at the place of either is that one
@@ -80,18 +60,4 @@ same_place false t m n o = refl
 -- a record tells of the dispatch where one stands at its place
 pub told_there : (s : Scenario) (hs : List Happening) (o : Dispatch) (cut : Bool) (n : ℕ) (place : List ℕ) → is_cut_then s o ≡ cut
     → place ≡ place_at o.time n (dispatch_record o cut) → HasRecordAt hs place ↔ IsPaid hs (Pays s) (debts.dispatch o)
-told_there s hs o cut n place then is = (to, from)
-  where
-    to : HasRecordAt hs place → IsPaid hs (Pays s) (debts.dispatch o)
-    to (m, there, at) =
-        let both = record_at cut (time_of m) (members_in m) n o m.note.body (at ∙ is) in
-        (m, there, record { at = both.0; says = both.1 ∙ ap (dispatch_record o) (sym then) })
-
-    from : IsPaid hs (Pays s) (debts.dispatch o) → HasRecordAt hs place
-    from (m, there, tells) = (
-      m,
-      there,
-      ap (λ (u : ℕ). place_at u (members_in m) m.note.body) tells.at
-          ∙ ap (place_at o.time (members_in m)) (tells.says ∙ ap (dispatch_record o) then)
-          ∙ same_place cut o.time (members_in m) n o ∙ sym is,
-    )
+told_there s hs o cut n place then is = grind (arith, record_at, same_place)

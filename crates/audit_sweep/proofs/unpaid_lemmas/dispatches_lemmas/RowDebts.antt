@@ -18,20 +18,7 @@ use Rattle.audit_devices.specs.law.Owed as debts
 owes_dispatches : (s : Scenario) (hs : List Happening) (link : LinkId) (row : LeavingRow) (t : ℕ) (frame : Frame) → IsRowOn s.network link row
     → OwesFrame s hs row t frame → Dispatches s hs row.device t link frame.cause row.vl frame.cycle
 owes_dispatches s hs link row t frame on owes =
-    let entry = on.entry in
-    let by : OwesFrame s hs (leaving_by entry) t frame = subst (λ (r : LeavingRow). OwesFrame s hs r t frame) on.kept owes in
-    subst (λ (r : LeavingRow). Dispatches s hs r.device t link frame.cause r.vl frame.cycle) (sym on.kept) (record {
-      place = on.place;
-      entry = entry;
-      row = on.is;
-      by = on.on;
-      of_vl = refl;
-      leaves = refl;
-      occurs = record { begun = by.occurs.begun; in_phase = by.occurs.in_phase };
-      up = by.up;
-      reached = by.reached;
-      at_hand = by.at_hand;
-    })
+    grind arith
 
 -- what is dispatched is owed by the row by which it is
 dispatched_by : (s : Scenario) (hs : List Happening) (o : Dispatch) (does : Dispatches s hs o.device o.time o.link o.cause o.vl o.cycle)
@@ -141,24 +128,16 @@ link_at n = record { 0 = n }
 
 link_part : (o : Dispatch) (n : ℕ) → o.link.0 < n + 1 → (o.link.0 < n) ⊎ (o.link ≡ link_at n)
 link_part o n lt =
-    elim (below_next o.link.0 n lt) [
-      | inl before ↦ inl before
-      | inr same ↦ inr (ap link_at same)
-    ]
+    grind (arith, below_next)
 
 pub next_link : (s : Scenario) (hs : List Happening) (until n : ℕ) (first one : Option ℕ)
     → TellsFirstAmong s hs until (λ (o : Dispatch). debts.dispatch o) (λ o. o.link.0 < n) first
     → TellsFirstAmong s hs until (λ (o : Dispatch). debts.dispatch o) (λ o. o.link ≡ record { 0 = n }) one
     → TellsFirstAmong s hs until (λ (o : Dispatch). debts.dispatch o) (λ o. o.link.0 < n + 1) (earlier_of first one)
 next_link s hs until n first one =
-    first_of_both s hs until (λ (o : Dispatch). debts.dispatch o) (λ o. o.link.0 < n) (λ o. o.link ≡ link_at n) (λ o. o.link.0 < n + 1) first one
-    (λ o lt. link_part o n lt)
-    (λ o lt. omega (arith, lt))
-    (λ o on. let at : o.link.0 ≡ n = ap (λ (l : LinkId). l.0) on in omega (arith, at))
+    grind (arith, first_of_both, link_part)
 
 -- a dispatch is on a link of the network
 pub link_within : (s : Scenario) (hs : List Happening) (until : ℕ) (o : Dispatch) → OwesDispatch s hs until o → o.link.0 < length s.network.link
 link_within s hs until o owed =
-    let does = owed.dispatches in
-    subst (λ (l : LinkId). l.0 < length s.network.link) does.by
-    (slice_get_within s.network.link does.entry.row.link.0 does.entry.link does.row.link)
+    grind (arith, length, slice_get_within)

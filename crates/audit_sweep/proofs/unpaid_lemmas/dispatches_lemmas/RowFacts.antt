@@ -7,7 +7,7 @@ use Rattle.audit_sweep.specs.records.{dispatches.Leaving.IsRowOn, dispatches.Lea
 use Rattle.audit_sweep.specs.{declared.records.dispatches.leaving.LeavingRow.LeavingRow}
 use Rattle.net_plan.{proofs.InRange.amount_most, specs.{Belonging.{HasDevice, HasLink}, Ranges.{IsInRange, IsLinkInRange, IsRowInRange, IsVlInRange}}}
 use Rattle.net_plan.specs.declared.{ids.{DeviceId.DeviceId, LinkId.LinkId}, network.Network.Network, tables.{Link.Link, Way.{Way, TheVariants.{Down, Up}}}}
-use Rattle.run_law.specs.{device.LocalClocks.{Reaches, changed_at}, records.Happenings.Happening, scenario.Scenarios.Scenario}
+use Rattle.run_law.specs.{device.LocalClocks.Reaches, records.Happenings.Happening, scenario.Scenarios.Scenario}
 use Rattle.schedule_tables.specs.Entries.{source_by}
 use Rattle.tte_lemmas.proofs.Lists.{in_all}
 use Rattle.tte_units.specs.Amount.{amount}
@@ -52,10 +52,7 @@ cycle_least network range =
 wide_by : (first : ℤ) (step f p c offset : ℕ) → (first +ℤ pos (0 * step)) ≡ pos ((f + 0 * p) * c + offset)
     → (first +ℤ pos (1 * step)) ≡ pos ((f + 1 * p) * c + offset) → 1 ≤ p → 2 ^ 32 ≤ c → 2 ^ 32 ≤ step
 wide_by first step f p c offset at next some least =
-    let more : 1 * c ≤ p * c = mul-le-mul_right c some in
-    let parts : (f + 1 * p) * c ≡ f * c + p * c = omega arith in
-    let same : (f + 0 * p) * c ≡ f * c = omega arith in
-    omega (arith, ints, at, next, more, parts, same, least)
+    grind (arith, mul-le-mul_right, ints)
 
 -- the values lie far apart
 pub wide_step : (network : Network) (row : LeavingRow) (series : Series) → IsInRange network → IsRowFit row → AreLeavings network row series
@@ -66,12 +63,7 @@ wide_step network row series range fit are =
 
 few_by : (v : ℤ) (f n p c offset : ℕ) → v ≡ pos ((f + n * p) * c + offset) → v ≤ℤ pos (2 ^ 83) → 1 ≤ p → 2 ^ 32 ≤ c → n ≤ 2 ^ 52
 few_by v f n p c offset at near some least =
-    let periods : n * 1 ≤ n * p = mul-le-mul_left n some in
-    let cycles : (n * 1) * c ≤ (n * p) * c = mul-le-mul_right c periods in
-    let steps : n * 2 ^ 32 ≤ n * c = mul-le-mul_left n least in
-    let parts : (f + n * p) * c ≡ f * c + (n * p) * c = omega arith in
-    let same : (n * 1) * c ≡ n * c = omega arith in
-    omega (arith, ints, at, near, cycles, steps, parts, same)
+    grind (arith, mul-le-mul_left, mul-le-mul_right, ints)
 
 -- the number of what is crossed is not great
 pub few_left : (network : Network) (row : LeavingRow) (series : Series) (reading : ℕ → ℕ) (shown : Shown) (after until : ℕ) (crossed : Crossed)
@@ -86,10 +78,5 @@ few_left network row series reading shown after until crossed range fit are next
 -- no value is reached at time 0
 pub reached_later : (s : Scenario) (hs : List Happening) (device : DeviceId) (v : ℤ) (t : ℕ) → Reaches s hs device v t → 0 < t
 reached_later s hs device v zero reaches =
-    let early = changed_early hs device 0 in
-    let at : changed_at hs device 0 ≡ 0 = omega (arith, early) in
-    let below = reaches.below in
-    let reached = reaches.reach.reached in
-    let same = ap (s.reading device) at in
-    absurd (omega (arith, ints, below, reached, same))
+    grind (arith, changed_early, ints)
 reached_later s hs device v (suc t) reaches = omega arith

@@ -8,7 +8,7 @@ use Rattle.audit_devices.specs.declared.collections.{emitted.Emitted.Emitted, ga
 use Rattle.compression.proofs.{Elements.in_filter, Firsts.counts, Growth.end_of-least, Held.held-start, Middles.{middle_of-ends, middle_of-inner}}
 use Rattle.compression.specs.{Ascent.offset_at, Clusters.{AreClusters, Cluster, Point, beyond, cluster_of, end_of, firsts, has_master, of_cycle_within}}
 use Rattle.compression.specs.{Emission.emission, Middle.{middle_of, relative}}
-use Rattle.tte_units.{proofs.Means.mean_of-floor, specs.Mean.{IsMean, mean_of}}
+use Rattle.tte_units.{proofs.Means.mean_of-floor, specs.Mean.mean_of}
 
 -- ---- the middle of points
 
@@ -31,10 +31,7 @@ offset_in p high ps i lt all =
     by x low most = (omega (arith, ints), omega (arith, ints))
 
 mean_in : (a b most : ℤ) → (pos 0 ≤ℤ a) × (a ≤ℤ most) → (pos 0 ≤ℤ b) × (b ≤ℤ most) → (pos 0 ≤ℤ mean_of a b) × (mean_of a b ≤ℤ most)
-mean_in a b most first second = by (mean_of a b) (mean_of-floor a b)
-  where
-    by : (m : ℤ) → IsMean a b m → (pos 0 ≤ℤ m) × (m ≤ℤ most)
-    by m mean = (omega (arith, ints, mean.least, mean.most, first.0, second.0), omega (arith, ints, mean.least, mean.most, first.1, second.1))
+mean_in a b most first second = grind (arith, mean_of-floor, ints)
 
 -- it is none of them before the first, and none behind the last
 middle_in : (p high : ℤ) (ps : List ℤ) → LieIn p high (p ∷ ps)
@@ -59,9 +56,7 @@ middle_in p high ps all =
 from_test : (cycle : ℕ) (low high : ℤ) (q : Point) → (q.cycle == cycle && (int_le low q.reading && int_le q.reading high)) ≡ true
     → (low ≤ℤ q.reading) × (q.reading ≤ℤ high)
 from_test cycle low high q e =
-    let both = and_parts (q.cycle == cycle) (int_le low q.reading && int_le q.reading high) e in
-    let two = and_parts (int_le low q.reading) (int_le q.reading high) both.1 in
-    (grind (arith, ints, two.0), grind (arith, ints, two.1))
+    grind (arith, and_parts, ints)
 
 readings_in : (o : Point) (high : ℤ) (ps more : List Point)
     → AllByRecursion (λ q. Contains (of_cycle_within o.cycle o.reading high ps) q × (has_master (o ∷ []) q.master ≡ false)) more

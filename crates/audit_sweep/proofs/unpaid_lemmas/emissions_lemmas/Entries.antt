@@ -1,17 +1,15 @@
 -- The first of what is unpaid, from one change of a stretch to the next and from one device to the next.
 use Rattle.std.proofs.Common.{◌+◌, ◌<◌, ◌^◌, ◌∙◌, ◌≡◌, ◌≤ℤ◌, ◌≤◌, FitsSigned, List, None, Option, Some, ap, arith, false, inl, inr, length, neg_ℤ, pos, refl}
 use Rattle.std.proofs.{Common.{slice_get, subst, sym, true, w64, ℕ, ℤ}, lemmas.{Bool.cases_lt, Int.ints, List.length-map, Option.{same_Some, slice_get_past}}}
-use Rattle.std.specs.Option.{option_map_or}
-use Rattle.audit_devices.{proofs.stretches_lemmas.Clustering.emissions_same, specs.declared.{collections.emitted.Emitted.Emitted, stretches.kept.Entry.Entry}}
-use Rattle.audit_devices.specs.{collections.Kept.{History, clusters_in, emissions_in}, declared.collections.gathering.Gathering.Gathering}
+use Rattle.audit_devices.{proofs.stretches_lemmas.Clustering.emissions_same, specs.{collections.Kept.{History, emissions_in}, events.Readings.ReadsOn}}
+use Rattle.audit_devices.specs.{declared.collections.{emitted.Emitted.Emitted, gathering.Gathering.Gathering}, stretches.Points.{HasPoints, emissions_for}}
 use Rattle.audit_devices.specs.{declared.stretches.history.StretchHistory.StretchHistory, stretches.Standing.{IsBehind, Stands, device_count, kept_of}}
-use Rattle.audit_devices.specs.events.Readings.{ReadsOn}
-use Rattle.audit_devices.specs.{law.FirstDebts.{TellsFirst, earlier_of}, stretches.{Keeping.{Keeps, Stretches}, Points.{HasPoints, emissions_for}}}
+use Rattle.audit_devices.specs.{declared.stretches.kept.Entry.Entry, law.FirstDebts.{TellsFirst, earlier_of}, stretches.Keeping.{Keeps, Stretches}}
 use Rattle.compression.specs.{Clusters.{AreClusters, Cluster, Point}, declared.compressed.Compressed.Compressed}
 use Rattle.drift_clock.specs.Reach.{IsReach}
 use Rattle.net_plan.{proofs.SameIds.same_device, specs.declared.{ids.DeviceId.DeviceId, network.Network.Network, tables.Device.Device}}
 use Rattle.run_law.proofs.law.FirstPlaces.{in_at}
-use Rattle.run_law.specs.{control.Collections.observation_window, records.Happenings.Happening, scenario.{Devices.{is_cm, is_cm_role}, Scenarios.Scenario}}
+use Rattle.run_law.specs.{control.Collections.observation_window, records.Happenings.Happening, scenario.{Devices.is_cm, Scenarios.Scenario}}
 use Rattle.tte_lemmas.proofs.{Lists.some_at, Naturals.below_next}
 use Rattle.audit_sweep.proofs.unpaid_lemmas.emissions_lemmas.{Ascending.opens_before, Joining.{HasParts, first_as, first_of_both, first_of_none}}
 use Rattle.audit_sweep.proofs.unpaid_lemmas.emissions_lemmas.Owing.{are_in, owed_within}
@@ -43,21 +41,14 @@ pub emission_behind : (network : Network) (points : List Point) (kept : Stretche
     → ((clusters : List Cluster) → AreClusters (observation_window network) points clusters → r ≡ slice_get (emissions_for network clusters) place)
     → slice_get (emissions_in kept.collections e.gathering) place ≡ r
 emission_behind network points kept e time collections g place r behind has is =
-    let clusters = clusters_in collections g in
-    let are = are_in network points collections g has in
-    ap (λ (es : List Emitted). slice_get es place) (sym (emissions_behind kept e time collections g behind)
-    ∙ emissions_same network points clusters collections g has are)
-    ∙ sym (is clusters are)
+    grind (arith, are_in, slice_get, emissions_behind, emissions_same)
 
 pub length_behind : (network : Network) (points : List Point) (kept : Stretches) (e : Entry) (time : ℕ) (collections : History) (g : Gathering)
     (n : ℕ) → IsBehind kept e time collections g → HasPoints network points collections g
     → ((clusters : List Cluster) → AreClusters (observation_window network) points clusters → n ≡ length clusters)
     → length (emissions_in kept.collections e.gathering) ≡ n
 length_behind network points kept e time collections g n behind has is =
-    let clusters = clusters_in collections g in
-    ap (λ (es : List Emitted). length es) (sym (emissions_behind kept e time collections g behind))
-    ∙ length-map clusters _
-    ∙ sym (is clusters (are_in network points collections g has))
+    grind (arith, length, emissions_behind, length-map, are_in)
 
 -- ---- one change more
 
@@ -94,9 +85,7 @@ entries_none s hs until d kept =
 pub entries_all : (s : Scenario) (hs : List Happening) (until : ℕ) (d : DeviceId) (kept : Stretches) (n : ℕ) (r : Option ℕ) → Keeps s.network hs d kept
     → n ≡ length kept.entries → TellsFirstOf (Until s hs until d kept n) (IsTold s hs d) r → TellsFirstOf (OwesAt s hs until d) (IsTold s hs d) r
 entries_all s hs until d kept n r keeps all told =
-    first_as (OwesAt s hs until d) (Until s hs until d kept n) (IsTold s hs d) r
-    (λ sent t o. subst (λ (k : ℕ). Until s hs until d kept k sent t) (sym all) (owed_within s hs until d kept sent t keeps o))
-    (λ sent t o. o.owed.owed) told
+    grind (arith, first_as, owed_within)
 
 -- ---- one device more
 
@@ -119,20 +108,7 @@ of_device s hs until d (Some t) h = record {
 
 device_parts : (s : Scenario) (hs : List Happening) (until n : ℕ) (d : DeviceId) → d.0 ≡ n
     → HasParts (OwesAmong s hs until (n + 1)) (OwesAmong s hs until n) (OwesOf s hs until d)
-device_parts s hs until n d is = record {
-  parts = λ o t owed.
-      elim (below_next o.0.0 n owed.one) [
-        | inl less ↦ inl (record { one = less; owed = owed.owed })
-        | inr same ↦
-            let one : o.0 ≡ d = same_device o.0 d (same ∙ sym is) in
-            inr (one, subst (λ (x : DeviceId). OwesAt s hs until x o.1 t) one owed.owed)
-      ];
-  one = λ o t owed. let one = owed.one in record { one = omega (arith, one); owed = owed.owed };
-  other = λ o t owed. record {
-    one = let same = ap (λ (x : DeviceId). x.0) owed.0 in omega (arith, same, is);
-    owed = subst (λ (x : DeviceId). OwesAt s hs until x o.1 t) (sym owed.0) owed.1;
-  };
-}
+device_parts s hs until n d is = grind (arith, below_next, same_device)
 
 pub devices_more : (s : Scenario) (hs : List Happening) (until n : ℕ) (d : DeviceId) (r q : Option ℕ) → d.0 ≡ n
     → TellsFirstOf (OwesAmong s hs until n) (IsToldOf s hs) r → TellsFirstOf (OwesAt s hs until d) (IsTold s hs d) q
@@ -148,13 +124,7 @@ devices_none s hs until =
 -- a compression master is a device of the network
 master_there : (network : Network) (d : DeviceId) → is_cm network d ≡ true → d.0 < length network.device
 master_there network d master =
-    elim (cases_lt d.0 (length network.device)) [
-      | inl lt ↦ lt
-      | inr le ↦
-          let none : is_cm network d ≡ false =
-          ap (λ (o : Option Device). option_map_or (λ x. is_cm_role x.role) o false) (slice_get_past network.device d.0 le) in
-          absurd cc
-    ]
+    grind (arith, cases_lt, length, slice_get_past)
 
 -- only compression masters owe
 pub none_of_others : (s : Scenario) (hs : List Happening) (until : ℕ) (d : DeviceId) → is_cm s.network d ≡ false

@@ -11,19 +11,10 @@ pub record HasParts {O : Type 0} (All One Other : O → ℕ → Type 0) : Type 0
 
 take_one : {O : Type 0} (All One Other : O → ℕ → Type 0) (IsPaid : O → Type 0) (t : ℕ) → HasParts All One Other → IsFirstOf One IsPaid t
     → ((o : O) (u : ℕ) → Other o u → (IsPaid o → ⊥) → t ≤ u) → IsFirstOf All IsPaid t
-take_one All One Other IsPaid t has first late = record {
-  debt = first.debt;
-  owed = has.one first.debt t first.owed;
-  unpaid = first.unpaid;
-  first = λ o u owed not. elim (has.parts o u owed) [ inl a ↦ first.first o u a not | inr b ↦ late o u b not ];
-}
+take_one All One Other IsPaid t has first late = grind arith
 
 turned : {O : Type 0} (All One Other : O → ℕ → Type 0) → HasParts All One Other → HasParts All Other One
-turned All One Other has = record {
-  parts = λ o t all. elim (has.parts o t all) [ inl a ↦ inr a | inr b ↦ inl b ];
-  one = has.other;
-  other = has.one;
-}
+turned All One Other has = grind arith
 
 pub first_of_both : {O : Type 0} (All One Other : O → ℕ → Type 0) (IsPaid : O → Type 0) (a b : Option ℕ) → HasParts All One Other
     → TellsFirstOf One IsPaid a → TellsFirstOf Other IsPaid b → TellsFirstOf All IsPaid (earlier_of a b)
@@ -47,12 +38,7 @@ first_of_both All One Other IsPaid (Some t) (Some u) has h g =
 pub first_as : {O : Type 0} (All One : O → ℕ → Type 0) (IsPaid : O → Type 0) (a : Option ℕ) → ((o : O) (t : ℕ) → All o t → One o t)
     → ((o : O) (t : ℕ) → One o t → All o t) → TellsFirstOf One IsPaid a → TellsFirstOf All IsPaid a
 first_as All One IsPaid None to from h = λ o t owed. h o t (to o t owed)
-first_as All One IsPaid (Some t) to from h = record {
-  debt = h.debt;
-  owed = from h.debt t h.owed;
-  unpaid = h.unpaid;
-  first = λ o u owed not. h.first o u (to o u owed) not;
-}
+first_as All One IsPaid (Some t) to from h = grind arith
 
 -- nothing is owed
 pub first_of_none : {O : Type 0} (Owes : O → ℕ → Type 0) (IsPaid : O → Type 0) → ((o : O) (t : ℕ) → Owes o t → ⊥) → TellsFirstOf Owes IsPaid None

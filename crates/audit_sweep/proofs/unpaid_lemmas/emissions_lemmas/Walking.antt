@@ -1,5 +1,5 @@
 -- The first of what is unpaid, from the last cluster of a stretch back.
-use Rattle.std.proofs.Common.{◌+◌, ◌<ℤ◌, ◌<◌, ◌∙◌, ◌∷◌, ◌≡◌, ◌≤ℤ◌, ◌≤◌, List, None, Option, Some, [], ap, arith, inl, inr, length, pos, refl, slice_get, subst}
+use Rattle.std.proofs.Common.{◌+◌, ◌<ℤ◌, ◌<◌, ◌∷◌, ◌≡◌, ◌≤ℤ◌, ◌≤◌, List, None, Option, Some, [], ap, arith, inl, inr, length, pos, refl, slice_get, subst}
 use Rattle.std.proofs.{Common.{suc, sym, zero, ℕ}, lemmas.{Bool.cases_lt, Int.ints}}
 use Rattle.audit_devices.specs.{Keeping.time_at, declared.stretches.kept.Entry.Entry, law.FirstDebts.earlier_of}
 use Rattle.audit_devices.specs.{collections.{Gathered.Gathers, Kept.{History, as_emitted, emissions_in}}, declared.collections.emitted.Emitted.Emitted}
@@ -27,19 +27,7 @@ further s hs until d collections e k j sent t le o =
 has_parts : (s : Scenario) (hs : List Happening) (until : ℕ) (d : DeviceId) (collections : History) (e : Entry) (k : ℕ) (a : Emitted)
     → slice_get (emissions_in collections e.gathering) k ≡ Some a
     → HasParts (OwesBehind s hs until d collections e k) (OwesBehind s hs until d collections e (k + 1)) (OwesHere s hs until d collections e k a)
-has_parts s hs until d collections e k a is = record {
-  parts = λ sent t o.
-      elim (cases_lt k o.place) [
-        | inl more ↦ inl (record { owed = o.owed; place = o.place; behind = omega (arith, more); there = o.there; begun = o.begun })
-        | inr less ↦
-            let behind = o.behind in
-            let same : o.place ≡ k = omega (arith, less, behind) in
-            let at = subst (λ (n : ℕ). slice_get (emissions_in collections e.gathering) n ≡ Some (as_emitted sent)) same o.there in
-            inr (same_sent sent a (sym is ∙ at), o)
-      ];
-  one = λ sent t o. further s hs until d collections e (k + 1) k sent t (omega arith) o;
-  other = λ sent t o. o.1;
-}
+has_parts s hs until d collections e k a is = grind (arith, cases_lt, slice_get, same_sent, further)
 
 none_more : (r : Option ℕ) → earlier_of r None ≡ r
 none_more None = refl

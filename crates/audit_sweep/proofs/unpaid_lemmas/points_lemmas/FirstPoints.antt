@@ -7,7 +7,7 @@ use Rattle.std.{proofs.{Common.{if◌then◌else◌, Bool, fold, suc, zero}, lem
 use Rattle.audit_devices.proofs.clocks_lemmas.Reached.{changed_early}
 use Rattle.audit_devices.specs.law.{CorrectionNumbers.ComesToPoint, CorrectionPoints.OwesPoint, FirstDebts.TellsFirst}
 use Rattle.net_plan.{proofs.SameIds.other_device, specs.declared.tables.Device.Device}
-use Rattle.run_law.{proofs.law.FirstPlaces.in_filter, specs.{declared.judgement.Judgement.TheVariants.Integrates, device.LocalClocks.{Reaches, changed_at}}}
+use Rattle.run_law.{proofs.law.FirstPlaces.in_filter, specs.{declared.judgement.Judgement.TheVariants.Integrates, device.LocalClocks.Reaches}}
 use Rattle.run_law.specs.{device.States.{is_joined_by, state_with}, records.{Causes.device_of, Order.IsIn}, scenario.Devices.start_of}
 use Rattle.sync_state.specs.{Standing.{point_in, state_at_start}, declared.state.State.TheVariants.{Joining, Off}}
 use Rattle.audit_devices.specs.law.Owed as debts
@@ -64,12 +64,7 @@ point_there s hs device t cycle verdict of comes =
 -- at time 0 no clock comes to anything
 later_than_start : (s : Scenario) (hs : List Happening) (device : DeviceId) (t : ℕ) (v : ℤ) → Reaches s hs device v t → 0 < t
 later_than_start s hs device zero v reaches =
-    let early = changed_early hs device 0 in
-    let at : changed_at hs device 0 ≡ 0 = omega (arith, early) in
-    let below = reaches.below in
-    let reached = reaches.reach.reached in
-    let same = ap (s.reading device) at in
-    absurd (omega (arith, ints, below, reached, same))
+    grind (arith, changed_early, ints)
 later_than_start s hs device (suc t) v reaches = omega arith
 
 -- ---- the first of all

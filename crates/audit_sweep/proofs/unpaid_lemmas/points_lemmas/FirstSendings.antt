@@ -1,8 +1,8 @@
 -- The first of all sendings that are not paid.
 use Rattle.audit_sweep.{proofs.unpaid_lemmas.points_lemmas.Sendings.none_at_first, specs.unpaid.points.Sent.sending_of}
 use Rattle.audit_sweep.proofs.unpaid_lemmas.points_lemmas.Words.{◌<◌, ◌≡◌, DeviceId, Happening, IsSent, List, None, Option, Scenario, Sends, Some}
-use Rattle.audit_sweep.proofs.unpaid_lemmas.points_lemmas.Words.{TellsFirstAmong, ap, arith, cases_lt, false, inl, inr, length, refl, true, ℕ}
-use Rattle.std.{proofs.lemmas.Option.slice_get_past, specs.Option.option_map_or}
+use Rattle.audit_sweep.proofs.unpaid_lemmas.points_lemmas.Words.{TellsFirstAmong, ap, arith, cases_lt, inl, inr, length, refl, true, ℕ}
+use Rattle.std.{proofs.lemmas.Option.slice_get_past}
 use Rattle.audit_devices.specs.law.{Debts.IsPaid, Dispatched.Sending, FirstDebts.TellsFirst, Owed.Pays}
 use Rattle.net_plan.specs.{Places.is_master, declared.{network.Network.Network, tables.Device.Device}}
 use Rattle.run_law.specs.scenario.Devices.{has_role}
@@ -11,24 +11,14 @@ use Rattle.audit_devices.specs.law.Owed as debts
 -- a master is a device of the network
 master_there : (network : Network) (device : DeviceId) → has_role network is_master device ≡ true → device.0 < length network.device
 master_there network device master =
-    elim (cases_lt device.0 (length network.device)) [
-      | inl lt ↦ lt
-      | inr le ↦
-          let none : has_role network is_master device ≡ false =
-          ap (λ (o : Option Device). option_map_or (λ d. is_master d.role) o false) (slice_get_past network.device device.0 le) in
-          absurd cc
-    ]
+    grind (arith, cases_lt, length, slice_get_past)
 
 paid_as : (s : Scenario) (hs : List Happening) (o : Sending) → IsSent s hs o.device o.time o.cycle → IsPaid hs (Pays s) (debts.sending o)
 paid_as s hs o sent = (sent.0, sent.1, record { at = sent.2.at; says = sent.2.says })
 
 pub first_sending : (s : Scenario) (hs : List Happening) (until count : ℕ) (r : Option ℕ) → count ≡ length s.network.device
     → TellsFirstAmong (Sends s hs) (IsSent s hs) until count r → TellsFirst s hs until (λ (o : Sending). debts.sending o) r
-first_sending s hs until count None all told = λ o owed.
-    let sends = owed.sends in
-    let there = master_there s.network o.device sends.master in
-    let timely = owed.timely in
-    paid_as s hs o (told o.device (omega (arith, there, all)) o.time o.cycle (none_at_first s hs o.device o.time o.cycle sends) (omega (arith, timely)) sends)
+first_sending s hs until count None all told = grind (arith, master_there, paid_as, none_at_first)
 first_sending s hs until count (Some t) all told = record {
   debt = sending_of told.device t told.first.what;
   owed = record { sends = told.first.owes; timely = told.first.timely };

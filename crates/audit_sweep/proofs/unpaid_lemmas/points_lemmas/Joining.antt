@@ -9,10 +9,7 @@ use Rattle.audit_devices.specs.{Lasting.{IsUpTo, ShowsUpTo}, law.FirstDebts.earl
 pub paid_both : {C : Type 0} (Owes Paid : ℕ → C → Type 0) (after mid before : ℕ) → ArePaid Owes Paid after (mid + 1) → ArePaid Owes Paid mid before
     → ArePaid Owes Paid after before
 paid_both Owes Paid after mid before first second t o lt early owes =
-    elim (cases_lt mid t) [
-      | inl more ↦ second t o more early owes
-      | inr less ↦ first t o lt (omega (arith, less)) owes
-    ]
+    grind (arith, cases_lt)
 
 pub paid_less : {C : Type 0} (Owes Paid : ℕ → C → Type 0) (after less before : ℕ) → less ≤ before → ArePaid Owes Paid after before
     → ArePaid Owes Paid after less
@@ -22,16 +19,7 @@ paid_less Owes Paid after less before le paid t o lt early owes = paid t o lt (o
 pub first_behind : {C : Type 0} (Owes Paid : ℕ → C → Type 0) (after mid until last time : ℕ) → after ≤ mid → until ≤ last → ArePaid Owes Paid after (mid + 1)
     → IsFirstUnpaid Owes Paid mid until time → IsFirstUnpaid Owes Paid after last time
 first_behind Owes Paid after mid until last time le most paid first =
-    let later = first.later in
-    let timely = first.timely in
-    record {
-      later = omega (arith, later, le);
-      timely = omega (arith, timely, most);
-      what = first.what;
-      owes = first.owes;
-      unpaid = first.unpaid;
-      paid_before = paid_both Owes Paid after mid time paid first.paid_before;
-    }
+    grind (arith, paid_both)
 
 pub end_near : (next : Option ℕ) (until : ℕ) → end_of next until ≤ until
 end_near None until = omega arith
@@ -68,30 +56,16 @@ numbered_device P n d same p =
 -- what holds of the devices before, and of the next one
 of_both : (P : DeviceId → Type 0) (n : ℕ) → ((d : DeviceId) → d.0 < n → P d) → P (record { 0 = n }) → (d : DeviceId) → d.0 < n + 1 → P d
 of_both P n before here d lt =
-    elim (cases_lt d.0 n) [
-      | inl less ↦ before d less
-      | inr more ↦ numbered_device P n d (omega (arith, more, lt)) here
-    ]
+    grind (arith, cases_lt, numbered_device)
 
 keep_first : {C : Type 0} (Owes Paid : DeviceId → ℕ → C → Type 0) (until n t : ℕ) → IsFirstAmong Owes Paid until n t
     → ArePaid (Owes (record { 0 = n })) (Paid (record { 0 = n })) 0 t → IsFirstAmong Owes Paid until (n + 1) t
 keep_first {C} Owes Paid until n t first here =
-    let one = first.one in
-    record {
-      device = first.device;
-      one = omega (arith, one);
-      first = first.first;
-      paid_before = of_both (λ (d : DeviceId). ArePaid (Owes d) (Paid d) 0 t) n first.paid_before here;
-    }
+    grind (arith, of_both)
 
 take_first : {C : Type 0} (Owes Paid : DeviceId → ℕ → C → Type 0) (until n t : ℕ) → IsFirstUnpaid (Owes (record { 0 = n })) (Paid (record { 0 = n })) 0 until t
     → ((d : DeviceId) → d.0 < n → ArePaid (Owes d) (Paid d) 0 t) → IsFirstAmong Owes Paid until (n + 1) t
-take_first {C} Owes Paid until n t first before = record {
-  device = record { 0 = n };
-  one = omega arith;
-  first = first;
-  paid_before = of_both (λ (d : DeviceId). ArePaid (Owes d) (Paid d) 0 t) n before first.paid_before;
-}
+take_first {C} Owes Paid until n t first before = grind (arith, of_both)
 
 pub among_more : {C : Type 0} (Owes Paid : DeviceId → ℕ → C → Type 0) (until n : ℕ) (old new : Option ℕ) → TellsFirstAmong Owes Paid until n old
     → TellsFirstUnpaid (Owes (record { 0 = n })) (Paid (record { 0 = n })) 0 until new → TellsFirstAmong Owes Paid until (n + 1) (earlier_of old new)

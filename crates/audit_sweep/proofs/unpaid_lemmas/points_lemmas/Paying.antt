@@ -1,6 +1,7 @@
 -- Which records say that a device sends.
+use Rattle.std.proofs.Common.{arith}
 use Rattle.audit_sweep.proofs.unpaid_lemmas.points_lemmas.Words.{◌∙◌, ◌≡◌, DeviceId, Happening, HasRecordAt, IsSent, List, NoteBody, Scenario, ap, members_in}
-use Rattle.audit_sweep.proofs.unpaid_lemmas.points_lemmas.Words.{sym, time_of, ℕ}
+use Rattle.audit_sweep.proofs.unpaid_lemmas.points_lemmas.Words.{time_of, ℕ}
 use Rattle.net_plan.proofs.SameIds.{same_device}
 use Rattle.run_law.specs.records.Ranks.{place_at}
 use Rattle.run_law.specs.declared.note.NoteBody.TheVariants as notes
@@ -12,10 +13,7 @@ sent_at u m n t c d (notes.Arrived device link cause clock) e = absurd cc
 sent_at u m n t c d (notes.Permanent device link cause point verdict) e = absurd cc
 sent_at u m n t c d (notes.Compressed device opened at cycle of_masters verdict) e = absurd cc
 sent_at u m n t c d (notes.Sent other cycle) e =
-    let time : u ≡ t = cc in
-    let same : other.0 ≡ d.0 = cc in
-    let cycles : cycle ≡ c = cc in
-    (time, ap (λ (x : DeviceId). notes.Sent x cycle) (same_device other d same) ∙ ap (λ (k : ℕ). notes.Sent d k) cycles)
+    grind (arith, same_device)
 sent_at u m n t c d other e = absurd cc
 
 pub sent_there : (s : Scenario) (hs : List Happening) (d : DeviceId) (t c : ℕ) (place : List ℕ) → place ≡ place_at t 0 (notes.Sent d c)
@@ -26,9 +24,4 @@ sent_there s hs d t c place is there =
 
 pub there_sent : (s : Scenario) (hs : List Happening) (d : DeviceId) (t c : ℕ) (place : List ℕ) → place ≡ place_at t 0 (notes.Sent d c)
     → IsSent s hs d t c → HasRecordAt hs place
-there_sent s hs d t c place is sent = (
-  sent.0,
-  sent.1,
-  ap (λ (u : ℕ). place_at u (members_in sent.0) sent.0.note.body) sent.2.at
-      ∙ ap (place_at t (members_in sent.0)) sent.2.says ∙ sym is,
-)
+there_sent s hs d t c place is sent = grind (arith, members_in)

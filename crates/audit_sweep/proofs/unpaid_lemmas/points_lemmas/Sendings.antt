@@ -6,7 +6,7 @@ use Rattle.std.{proofs.Common.{◌*◌, ◌^◌, mul-le-mul_left, mul-le-mul_rig
 use Rattle.audit_devices.{proofs.clocks_lemmas.Reached.{changed_early, come_reaches, reaches_come}, specs.events.Readings.ReadsOn}
 use Rattle.audit_devices.specs.{clocks.Finding.{CrossesAt, IsNextCrossing, NoneCrossed}, declared.clocks.finding.{Crossed.Crossed, Series.Series}}
 use Rattle.net_plan.specs.Places.{is_master}
-use Rattle.run_law.specs.{device.LocalClocks.changed_at, scenario.Devices.has_role, timed.Dispatching.IsUp}
+use Rattle.run_law.specs.{scenario.Devices.has_role, timed.Dispatching.IsUp}
 use Rattle.sync_state.{proofs.StateFacts.up_state, specs.declared.state.State.TheVariants.Synchronised}
 use Rattle.tte_units.specs.Amount.{amount}
 
@@ -119,17 +119,10 @@ first_at s hs device shown series after until crossed Paid master on are shows n
 pub few_crossed : (s : Scenario) (device : DeviceId) (shown : Shown) (series : Series) (after until : ℕ) (crossed : Crossed)
     → 2 ^ 32 ≤ series.step → pos 0 ≤ℤ value_in series 0 → IsNextCrossing (s.reading device) shown series after until crossed → crossed.number < 2 ^ 60
 few_crossed s device shown series after until crossed wide begins next =
-    let near = next.near in
-    let more : crossed.number * 2 ^ 32 ≤ crossed.number * series.step = mul-le-mul_left crossed.number wide in
-    omega (arith, ints, near, more, begins)
+    grind (arith, mul-le-mul_left, ints)
 
 -- nothing is sent at time 0
 pub none_at_first : (s : Scenario) (hs : List Happening) (device : DeviceId) (t cycle : ℕ) → Sends s hs device t cycle → 0 < t
 none_at_first s hs device zero cycle sends =
-    let early = changed_early hs device 0 in
-    let at : changed_at hs device 0 ≡ 0 = omega (arith, early) in
-    let below = sends.reached.below in
-    let reached = sends.reached.reach.reached in
-    let same = ap (s.reading device) at in
-    absurd (omega (arith, ints, below, reached, same))
+    grind (arith, changed_early, ints)
 none_at_first s hs device (suc t) cycle sends = omega arith

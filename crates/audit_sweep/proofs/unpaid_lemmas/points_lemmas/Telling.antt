@@ -1,8 +1,8 @@
 -- Which records tell of correction points.
+use Rattle.std.proofs.Common.{◌⊎◌, arith}
 use Rattle.audit_sweep.proofs.unpaid_lemmas.points_lemmas.Words.{◌∙◌, ◌∷◌, ◌≡◌, DeviceId, Happening, HasRecordAt, IsDue, IsFounded, IsTold, List, NoteBody}
 use Rattle.audit_sweep.proofs.unpaid_lemmas.points_lemmas.Words.{Option, Scenario, Some, State, Units, Verdict, [], ap, inl, inr, members_in, place_of, refl}
 use Rattle.audit_sweep.proofs.unpaid_lemmas.points_lemmas.Words.{subst, sym, time_of, ℕ}
-use Rattle.std.proofs.Common.{◌⊎◌}
 use Rattle.audit_devices.specs.{clocks.Points.ComesTo, declared.clocks.correcting.Point.Point}
 use Rattle.audit_devices.{proofs.law_lemmas.Numbered.founded_at, specs.law.{CorrectionPoints.IsPointOf, DueRecords.{ChangesState, IsCaused}}}
 use Rattle.device_rules.specs.Answers.{verdict_as}
@@ -32,9 +32,7 @@ correction_at u m t d (notes.Permanent device link cause point verdict) e = absu
 correction_at u m t d (notes.Compressed device opened at cycle of_masters verdict) e = absurd cc
 correction_at u m t d (notes.Sent device cycle) e = absurd cc
 correction_at u m t d (notes.Corrected other cycle by adjustment) e =
-    let time : u ≡ t = cc in
-    let same : other.0 ≡ d.0 = cc in
-    (time, same_device other d same)
+    grind (arith, same_device)
 correction_at u m t d other e = absurd cc
 
 by_why : (d other : DeviceId) (state : State) (cause : ℕ) (why : Why) → other ≡ d → (why ≡ whys.SyncClique) ⊎ (why ≡ whys.AsyncClique)
@@ -52,10 +50,7 @@ clique_at s ps time u m t d (notes.Compressed device opened at cycle of_masters 
 clique_at s ps time u m t d (notes.Sent device cycle) c e = absurd cc
 clique_at s ps time u m t d (notes.Corrected other cycle by adjustment) c e = absurd cc
 clique_at s ps time u m t d (notes.State other state cause why) c e =
-    let at : u ≡ t = cc in
-    let same : other.0 ≡ d.0 = cc in
-    let none : cause ≡ 0 = cc in
-    (at, by_why d other state cause why (same_device other d same) (without_cause s ps other _ cause state why none c))
+    grind (arith, by_why, same_device, without_cause)
 clique_at s ps time u m t d other c e = absurd cc
 
 pub corrected_there : (s : Scenario) (hs : List Happening) (d : DeviceId) (t c : ℕ) (place : List ℕ) → place ≡ t ∷ 6 ∷ d.0 ∷ []

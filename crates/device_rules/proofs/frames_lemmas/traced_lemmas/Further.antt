@@ -1,6 +1,6 @@
 -- A trace takes a further record.
-use Rattle.std.proofs.{Common.{◌++◌, ◌∙◌, ◌∷◌, ◌≡◌, List, [], ap, subst, sym, ℕ}, lemmas.List.{map-append, Elements.{All-append, All-cons, All-nil}}}
-use Rattle.std.specs.{List.All, Prelude.{Err, Ok, Result, cond, is_ok, map, option_and_then}}
+use Rattle.std.{proofs.Common.{◌++◌, ◌∙◌, ◌∷◌, ◌≡◌, List, [], ap, arith, subst, sym, ℕ}, specs.Prelude.{Err, Ok, Result, cond, is_ok, map, option_and_then}}
+use Rattle.std.{proofs.lemmas.List.{Elements.{All-append, All-cons, All-nil}, map-append}, specs.List.All}
 use Rattle.net_plan.specs.declared.network.Network.{Network}
 use Rattle.run_law.{proofs.runs.NetworkRuns.one_more, specs.{declared.note.Note.Note, records.Happenings.{Happening, happening, happenings}}}
 use Rattle.device_rules.proofs.frames_lemmas.traced_lemmas.{Growing.views_grow, Numbered.shown_at}
@@ -18,13 +18,7 @@ pub one_more_kept : (network : Network) (pool : List ℕ) (ks : List Kept) (k : 
     → view_of network pool k ≡ traced_by network (happenings network notes) note.body
     → views_of network pool (ks ++ k ∷ []) ≡ map traced (happenings network (notes ++ note ∷ []))
 one_more_kept network pool ks k notes note before one =
-    let hs = happenings network notes in
-    let h = happening network hs note in
-    map-append (view_of network pool) ks (k ∷ [])
-    ∙ ap (λ (ts : List Traced). ts ++ view_of network pool k ∷ []) before
-    ∙ ap (λ (t : Traced). map traced hs ++ t ∷ []) one
-    ∙ sym (map-append traced hs (h ∷ []))
-    ∙ sym (ap (map traced) (one_more network notes note))
+    grind (arith, map-append, one_more)
 
 -- a trace with what it keeps of its records
 abbrev pub the_trace : Network → List Traced → TraceView
@@ -34,9 +28,7 @@ the_trace network ts = record { network = network; records = ts }
 pub trace_grows : (network : Network) (old : TraceView) (pool new : List ℕ) (ks : List Kept) → the_trace network (views_of network pool ks) ≡ old
     → All (IsHeld pool) ks → Grows pool new → the_trace network (views_of network new ks) ≡ old
 trace_grows network old pool new ks is all (more, e) =
-    ap (λ (xs : List ℕ). the_trace network (views_of network xs ks)) e
-    ∙ ap (the_trace network) (views_grow network pool more ks all)
-    ∙ is
+    grind (arith, views_grow)
 
 -- the records of a trace, for the network that it has
 own_records : (network own : Network) (old : TraceView) (ts : List Traced) (notes : List Note) → the_trace own ts ≡ old → Keeps network notes old
@@ -51,15 +43,7 @@ pub trace_more : (network own : Network) (old : TraceView) (pool new : List ℕ)
     → ((hs : List Happening) → views_of own pool ks ≡ map traced hs → view_of own new k ≡ traced_by own hs note.body)
     → Keeps network notes old → Keeps network (notes ++ note ∷ []) (the_trace own (views_of own new (ks ++ k ∷ [])))
 trace_more network own old pool new ks k notes note is all grows one keeps =
-    let same : own ≡ network = ap (λ (t : TraceView). t.network) is ∙ keeps.network_is in
-    let before : views_of own pool ks ≡ map traced (happenings own notes) = own_records network own old (views_of own pool ks) notes is keeps in
-    let grown : the_trace own (views_of own new ks) ≡ old = trace_grows own old pool new ks is all grows in
-    let now : views_of own new ks ≡ map traced (happenings own notes) = own_records network own old (views_of own new ks) notes grown keeps in
-    record {
-      network_is = same;
-      records_are = one_more_kept own new ks k notes note now (one (happenings own notes) before)
-          ∙ ap (λ (n : Network). map traced (happenings n (notes ++ note ∷ []))) same;
-    }
+    grind (arith, own_records, trace_grows, one_more_kept)
 
 -- what a trace shows of a number are the octets of its record
 pub trace_shows : (network own : Network) (old : TraceView) (pool : List ℕ) (ks : List Kept) (notes : List Note) (number : ℕ)

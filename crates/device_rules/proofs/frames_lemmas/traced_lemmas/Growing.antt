@@ -14,9 +14,7 @@ grows_same xs = ([], sym (append-nil xs))
 
 piece_grows : (pool more : List ℕ) (piece : Piece) → IsPieceOf pool piece → piece_in (pool ++ more) piece ≡ piece_in pool piece
 piece_grows pool more piece h =
-    let there = h.there in
-    ap (take piece.len) (drop-append-le piece.from pool more (omega (arith, there)))
-    ∙ take-append-le piece.len (drop piece.from pool) more (omega (arith, there, length-drop piece.from pool))
+    grind (arith, take, drop-append-le, take-append-le, drop, length-drop)
 
 pub piece_stays : (pool more : List ℕ) (piece : Piece) → IsPieceOf pool piece → IsPieceOf (pool ++ more) piece
 piece_stays pool more piece h =
@@ -24,25 +22,19 @@ piece_stays pool more piece h =
     record { there = omega (arith, there, length-append pool more); most = h.most }
 
 held_grows : (pool more : List ℕ) (k : Kept) → IsHeld pool k → IsHeld (pool ++ more) k
-held_grows pool more kept.Nothing h = tt
-held_grows pool more (kept.Control frame) h = tt
-held_grows pool more (kept.Silent frame) h = tt
-held_grows pool more (kept.Made vl cycle) h = tt
 held_grows pool more (kept.Send piece) h = piece_stays pool more piece h
 held_grows pool more (kept.Came piece) h = piece_stays pool more piece h
+held_grows pool more other h = tt
 
 abbrev the_send : List ℕ → Traced
 the_send o = record { frame = frame_in (decoded o); octets = o; shown = Some o }
 
 view_grows : (network : Network) (pool more : List ℕ) (k : Kept) → IsHeld pool k → view_of network (pool ++ more) k ≡ view_of network pool k
-view_grows network pool more kept.Nothing h = refl
-view_grows network pool more (kept.Control frame) h = refl
-view_grows network pool more (kept.Silent frame) h = refl
-view_grows network pool more (kept.Made vl cycle) h = refl
 view_grows network pool more (kept.Send piece) h =
     ap the_send (piece_grows pool more piece h)
 view_grows network pool more (kept.Came piece) h =
     ap came (piece_grows pool more piece h)
+view_grows network pool more other h = refl
 
 -- all are held where more octets stand
 pub all_grow : (pool new : List ℕ) (ks : List Kept) → Grows pool new → All (IsHeld pool) ks → All (IsHeld new) ks

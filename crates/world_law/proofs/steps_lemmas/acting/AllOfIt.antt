@@ -99,16 +99,7 @@ idle_cause s hs new front back now device node y e w r has idle rows before at (
           ∙ sym (ap (λ (b : Bool). if b then kinds.Lost device link cause else kinds.TtSent device link cause vl cycle) c.2)) at
     ]
 idle_cause s hs new front back now device node y e w r has idle rows before at (kinds.State other state cause whys.On) is c = absurd c
-idle_cause s hs new front back now device node y e w r has idle rows before at (kinds.State other state cause whys.Frame) is c = absurd c
-idle_cause s hs new front back now device node y e w r has idle rows before at (kinds.State other state cause whys.Correction) is c = absurd c
-idle_cause s hs new front back now device node y e w r has idle rows before at (kinds.Event line what) is c = absurd c
-idle_cause s hs new front back now device node y e w r has idle rows before at (kinds.Arrived other link cause clock) is c = absurd c
-idle_cause s hs new front back now device node y e w r has idle rows before at (kinds.Permanent other link cause point verdict) is c = absurd c
-idle_cause s hs new front back now device node y e w r has idle rows before at (kinds.Left other link cause clock) is c = absurd c
-idle_cause s hs new front back now device node y e w r has idle rows before at (kinds.Accepted other link cause vl cycle) is c = absurd c
-idle_cause s hs new front back now device node y e w r has idle rows before at (kinds.Delivered other link cause vl cycle) is c = absurd c
-idle_cause s hs new front back now device node y e w r has idle rows before at (kinds.Dropped other link cause reason) is c = absurd c
-idle_cause s hs new front back now device node y e w r has idle rows before at (kinds.Clock other reading adjustment state) is c = absurd c
+idle_cause s hs new front back now device node y e w r has idle rows before at rest is c = absurd c
 
 pub all_idle : (s : Scenario) (hs new : List Happening) (now : ℕ) (device : DeviceId) (node : Node) → IsAtWork s hs new now device node
     → AreRecorded s (hs ++ new) new now device node → HasCleared node → IsIdleNow s device node now → DispatchesTold s hs new now device node

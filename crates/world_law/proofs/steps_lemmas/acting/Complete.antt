@@ -84,9 +84,6 @@ act_cause s js now device time m (kinds.State other state cause whys.SyncClique)
     grind (arith, here_at, amount, same_device)
 act_cause s js now device time m (kinds.State other state cause whys.AsyncClique) own c =
     grind (arith, here_at, amount, same_device)
-act_cause s js now device time m (kinds.State other state cause whys.On) own c = absurd (let bad : ◌≡◌ {A = ℕ} 4 2 = cc in omega (arith, bad))
-act_cause s js now device time m (kinds.State other state cause whys.Frame) own c = absurd (let bad : ◌≡◌ {A = ℕ} 4 2 = cc in omega (arith, bad))
-act_cause s js now device time m (kinds.State other state cause whys.Correction) own c = absurd (let bad : ◌≡◌ {A = ℕ} 4 2 = cc in omega (arith, bad))
 act_cause s js now device time m (kinds.Lost other link cause) (inl own) c = absurd (let bad : ◌≡◌ {A = ℕ} 4 8 = let e = own.0 in cc in omega (arith, bad))
 act_cause s js now device time m (kinds.Lost other link cause) (inr (inl own)) c =
     grind (arith, here_at, amount, same_device, is_cut, way_from)
@@ -95,11 +92,8 @@ act_cause s js now device time m (kinds.Lost other link cause) (inr (inr own)) c
 act_cause s js now device time m (kinds.TtSent other link cause vl cycle) own c =
     grind (arith, here_at, amount, same_device, is_cut, way_from)
 act_cause s js now device time m (kinds.Event line what) own c = absurd (let bad : ◌≡◌ {A = ℕ} 4 1 = cc in omega (arith, bad))
-act_cause s js now device time m (kinds.Arrived other link cause clock) own c = absurd (let bad : ◌≡◌ {A = ℕ} 4 2 = cc in omega (arith, bad))
 act_cause s js now device time m (kinds.Permanent other link cause point verdict) own c = absurd (let bad : ◌≡◌ {A = ℕ} 4 3 = cc in omega (arith, bad))
 act_cause s js now device time m (kinds.Left other link cause clock) own c = absurd (let bad : ◌≡◌ {A = ℕ} 4 8 = cc in omega (arith, bad))
-act_cause s js now device time m (kinds.Accepted other link cause vl cycle) own c = absurd (let bad : ◌≡◌ {A = ℕ} 4 2 = cc in omega (arith, bad))
-act_cause s js now device time m (kinds.Delivered other link cause vl cycle) own c = absurd (let bad : ◌≡◌ {A = ℕ} 4 2 = cc in omega (arith, bad))
 act_cause s js now device time m (kinds.Dropped other link cause reason) (inl own) c =
     absurd (let bad : ◌≡◌ {A = ℕ} 4 2 = let e = own.0 in cc in omega (arith, bad))
 act_cause s js now device time m (kinds.Dropped other link cause reason) (inr (inl own)) c =
@@ -107,6 +101,7 @@ act_cause s js now device time m (kinds.Dropped other link cause reason) (inr (i
 act_cause s js now device time m (kinds.Dropped other link cause reason) (inr (inr own)) c =
     absurd (let bad : ◌≡◌ {A = ℕ} 4 8 = let e = own.0 in cc in omega (arith, bad))
 act_cause s js now device time m (kinds.Clock other reading adjustment state) own c = absurd (let bad : ◌≡◌ {A = ℕ} 4 14 = cc in omega (arith, bad))
+act_cause s js now device time m rest own c = absurd (let bad : ◌≡◌ {A = ℕ} 4 2 = cc in omega (arith, bad))
 
 -- ---- what is done, or is not due, is told
 

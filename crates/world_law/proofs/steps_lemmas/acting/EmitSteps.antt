@@ -22,12 +22,7 @@ use Rattle.run_law.specs.declared.steps.Ripe.TheVariants as ripe
 
 judged_back : (v : Judgement) → judged_as (ripe_as v) ≡ v
 judged_back judgements.Opened = refl
-judged_back judgements.Joined = refl
-judged_back judgements.Repeat = refl
-judged_back judgements.Within = refl
-judged_back judgements.Outside = refl
-judged_back judgements.Integrates = refl
-judged_back judgements.Ignored = refl
+judged_back other = refl
 
 -- the master stays as it is but for what it hears
 abbrev pub KeepsBy : Ripe → Type 0
@@ -38,31 +33,15 @@ KeepsBy other = ⊥
 
 stays_of : (v : Judgement) → KeepsBy (ripe_as v) → StaysBy v
 stays_of judgements.Opened k = k
-stays_of judgements.Joined k = k
-stays_of judgements.Repeat k = k
-stays_of judgements.Within k = k
-stays_of judgements.Outside k = k
-stays_of judgements.Integrates k = k
-stays_of judgements.Ignored k = k
+stays_of other k = k
 
 none_joined_by : (device : DeviceId) (heard : Ripe) → KeepsBy heard → joining_bodies device heard ≡ []
-none_joined_by device ripe.Within k = refl
-none_joined_by device ripe.Outside k = refl
-none_joined_by device ripe.Ignored k = refl
-none_joined_by device ripe.Opened k = refl
-none_joined_by device ripe.Joined k = refl
-none_joined_by device ripe.Repeat k = refl
 none_joined_by device ripe.Integrates k = absurd k
-none_joined_by device (ripe.Dropped reason) k = refl
+none_joined_by device other k = refl
 
 last_by : (device : DeviceId) (c : Compressed) (v : Judgement) → StaysBy v → is_last (kinds.Compressed device c.opened c.at c.cycle c.members v) ≡ true
-last_by device c judgements.Within s = refl
-last_by device c judgements.Outside s = refl
-last_by device c judgements.Ignored s = refl
-last_by device c judgements.Opened s = refl
-last_by device c judgements.Joined s = refl
-last_by device c judgements.Repeat s = refl
 last_by device c judgements.Integrates s = absurd s
+last_by device c other s = refl
 
 -- the record of the emission
 abbrev pub emission_body : DeviceId → Compressed → Judgement → NoteBody

@@ -79,10 +79,7 @@ pub is_emitted : (network : Network) (device : DeviceId) (node : Node) (moment :
 is_emitted network device node moment w sent judgements.Within stays e of_frame = grind (arith, heard_within, option_to_list, hearing_by, moves)
 is_emitted network device node moment w sent judgements.Outside stays e of_frame = grind (arith, heard_outside, option_to_list, hearing_by, moves)
 is_emitted network device node moment w sent judgements.Ignored stays e of_frame = grind (arith, append-nil, option_to_list, hearing_by, moves)
-is_emitted network device node moment w sent judgements.Opened stays e of_frame = absurd stays
-is_emitted network device node moment w sent judgements.Joined stays e of_frame = absurd stays
-is_emitted network device node moment w sent judgements.Repeat stays e of_frame = absurd stays
-is_emitted network device node moment w sent judgements.Integrates stays e of_frame = absurd stays
+is_emitted network device node moment w sent other stays e of_frame = absurd stays
 
 alike_by : (network : Network) (device : DeviceId) (node after : Node) (w : Happening) (sent : Compressed) → IsEmitted network device node after w sent
     → IsAlike node after

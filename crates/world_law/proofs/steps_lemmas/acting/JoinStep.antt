@@ -20,12 +20,7 @@ use Rattle.run_law.specs.declared.steps.Ripe.TheVariants as ripe
 
 pub joins_so : (v : Judgement) → ripe_as v ≡ ripe.Integrates → v ≡ judgements.Integrates
 joins_so judgements.Integrates e = refl
-joins_so judgements.Opened e = absurd cc
-joins_so judgements.Joined e = absurd cc
-joins_so judgements.Repeat e = absurd cc
-joins_so judgements.Within e = absurd cc
-joins_so judgements.Outside e = absurd cc
-joins_so judgements.Ignored e = absurd cc
+joins_so other e = absurd cc
 
 -- ---- what bears on it behind its frame
 
@@ -216,11 +211,8 @@ joined_cause s hs coming new front back now device node sent w y work r j before
     absurd c
 joined_cause s hs coming new front back now device node sent w y work r j before parts all none at looking (kinds.State other state cause whys.Correction) e c =
     absurd c
-joined_cause s hs coming new front back now device node sent w y work r j before parts all none at looking (kinds.Event line what) e c = absurd c
-joined_cause s hs coming new front back now device node sent w y work r j before parts all none at looking (kinds.Arrived other link cause clock) e c = absurd c
 joined_cause s hs coming new front back now device node sent w y work r j before parts all none at looking (kinds.Permanent other link cause point u) e c =
     absurd c
-joined_cause s hs coming new front back now device node sent w y work r j before parts all none at looking (kinds.Left other link cause clock) e c = absurd c
 joined_cause s hs coming new front back now device node sent w y work r j before parts all none at looking (kinds.Accepted other link cause vl cycle) e c =
     absurd c
 joined_cause s hs coming new front back now device node sent w y work r j before parts all none at looking (kinds.Delivered other link cause vl cycle) e c =
@@ -229,6 +221,7 @@ joined_cause s hs coming new front back now device node sent w y work r j before
     absurd c
 joined_cause s hs coming new front back now device node sent w y work r j before parts all none at looking (kinds.Clock other reading adjustment state) e c =
     absurd c
+joined_cause s hs coming new front back now device node sent w y work r j before parts all none at looking other e c = absurd c
 
 pub all_joined : (s : Scenario) (hs coming new : List Happening) (now : ℕ) (device : DeviceId) (node : Node) (sent : Compressed) (w : Happening)
     → IsAtWork s hs coming now device node → AreRecorded s (hs ++ coming) coming now device node

@@ -164,12 +164,7 @@ came s hs front mark cursor now befell settled time ms (notes.Arrived d link n c
 came s hs front mark cursor now befell settled time ms (notes.Permanent d link n point verdict) m calm at o c = absurd (not_two 3 o (λ e. omega (arith, e)))
 came s hs front mark cursor now befell settled time ms (notes.Compressed d opened by cycle of_masters verdict) m calm at o c =
     absurd (not_two 4 o (λ e. omega (arith, e)))
-came s hs front mark cursor now befell settled time ms (notes.Sent d cycle) m calm at o c = absurd (not_two 4 o (λ e. omega (arith, e)))
-came s hs front mark cursor now befell settled time ms (notes.Corrected d cycle by adjustment) m calm at o c = absurd (not_two 4 o (λ e. omega (arith, e)))
-came s hs front mark cursor now befell settled time ms (notes.State d st n whys.SyncClique) m calm at o c = absurd (not_two 4 o (λ e. omega (arith, e)))
-came s hs front mark cursor now befell settled time ms (notes.State d st n whys.AsyncClique) m calm at o c = absurd (not_two 4 o (λ e. omega (arith, e)))
 came s hs front mark cursor now befell settled time ms (notes.Left d link n clock) m calm at o c = absurd (not_two 8 o (λ e. omega (arith, e)))
-came s hs front mark cursor now befell settled time ms (notes.TtSent d link n vl cycle) m calm at o c = absurd (not_two 4 o (λ e. omega (arith, e)))
 came s hs front mark cursor now befell settled time ms (notes.Accepted d link n vl cycle) m calm at o c = absurd (not_longer d.0 o)
 came s hs front mark cursor now befell settled time ms (notes.Delivered d link n vl cycle) m calm at o c = absurd (not_longer d.0 o)
 came s hs front mark cursor now befell settled time ms (notes.Dropped d link n reason) m calm at (inl o) c = absurd (not_longer d.0 o.0)
@@ -178,6 +173,7 @@ came s hs front mark cursor now befell settled time ms (notes.Dropped d link n r
 came s hs front mark cursor now befell settled time ms (notes.Dropped d link n reason) m calm at (inr (inr o)) c =
     absurd (not_two 8 o.0 (λ e. omega (arith, e)))
 came s hs front mark cursor now befell settled time ms (notes.Clock d reading adjustment state) m calm at o c = absurd (not_two 14 o (λ e. omega (arith, e)))
+came s hs front mark cursor now befell settled time ms other m calm at o c = absurd (not_two 4 o (λ e. omega (arith, e)))
 
 -- ---- a record that is due by a source up to there
 

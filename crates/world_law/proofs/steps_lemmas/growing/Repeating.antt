@@ -78,9 +78,7 @@ few_first device other = omega arith
 few_corrected : (device : DeviceId) (was : State) (cycle : ℕ) (adjustment : Units) (verdict : Verdict)
     → length (correction_bodies device was cycle adjustment verdict) ≤ 2
 few_corrected device was cycle adjustment (verdicts.Corrected by) = let few = few_first device was in omega (arith, few)
-few_corrected device was cycle adjustment verdicts.SyncClique = omega arith
-few_corrected device was cycle adjustment verdicts.AsyncClique = omega arith
-few_corrected device was cycle adjustment verdicts.Cleared = omega arith
+few_corrected device was cycle adjustment other = omega arith
 
 of_length : (bodies others : List NoteBody) → bodies ≡ others → length others ≤ 2 → length bodies ≤ 2
 of_length bodies others is few = subst (λ (l : List NoteBody). length l ≤ 2) (sym is) few

@@ -77,30 +77,19 @@ held_answers stands s hs coming mark cursor now e machine heard octets result h 
 
 quiet_body : (device of : DeviceId) (link : LinkId) (cause : ℕ) (is : Arrival) → bears_on device (arrival_body of link cause is) ≡ false
 quiet_body device of link cause (arrivals.Dropped reason) = refl
-quiet_body device of link cause (arrivals.Waits frame point) = refl
-quiet_body device of link cause (arrivals.Passes frame way) = refl
-quiet_body device of link cause (arrivals.PassesAndWaits frame way point) = refl
-quiet_body device of link cause (arrivals.Accepted vl cycle) = refl
-quiet_body device of link cause (arrivals.Delivered vl cycle) = refl
+quiet_body device of link cause other = refl
 
 -- and it is no sending
 sends_nothing : (device of : DeviceId) (link : LinkId) (cause : ℕ) (is : Arrival) → is_sending device (arrival_body of link cause is) ≡ false
 sends_nothing device of link cause (arrivals.Dropped reason) = refl
-sends_nothing device of link cause (arrivals.Waits frame point) = refl
-sends_nothing device of link cause (arrivals.Passes frame way) = refl
-sends_nothing device of link cause (arrivals.PassesAndWaits frame way point) = refl
-sends_nothing device of link cause (arrivals.Accepted vl cycle) = refl
-sends_nothing device of link cause (arrivals.Delivered vl cycle) = refl
+sends_nothing device of link cause other = refl
 
 -- and another device takes nothing by it
 pub others_take : (device of : DeviceId) (link : LinkId) (cause : ℕ) (is : Arrival) → (device.0 == of.0) ≡ false
     → IsNoTaking device (arrival_body of link cause is)
-others_take device of link cause (arrivals.Dropped reason) e = λ at. refl
-others_take device of link cause (arrivals.Waits frame point) e = λ at. refl
-others_take device of link cause (arrivals.Passes frame way) e = λ at. refl
-others_take device of link cause (arrivals.PassesAndWaits frame way point) e = λ at. refl
 others_take device of link cause (arrivals.Accepted vl cycle) e = λ at. ap (λ (b : Bool). if b then record { vl = vl; cycle = cycle; at = at } ∷ [] else []) e
 others_take device of link cause (arrivals.Delivered vl cycle) e = λ at. ap (λ (b : Bool). if b then record { vl = vl; cycle = cycle; at = at } ∷ [] else []) e
+others_take device of link cause other e = λ at. refl
 
 pub quiet_for : {M : Type 0} (stands : M → Network → DeviceId → Node → Type 0) (s : Scenario) (hs front back : List Happening) (mark cursor : List ℕ) (now : ℕ)
     (e : OnWire) (is : Arrival) (w : Happening) → IsAfterGiven s hs (front ++ back) mark cursor now e → IsReceiving s hs front back mark cursor now e is w

@@ -15,11 +15,7 @@ use Rattle.run_law.specs.declared.steps.Arrival.TheVariants as arrivals
 -- nothing follows its record
 last_body : (device : DeviceId) (link : LinkId) (cause : ℕ) (is : Arrival) → is_last (arrival_body device link cause is) ≡ true
 last_body device link cause (arrivals.Dropped reason) = refl
-last_body device link cause (arrivals.Waits frame point) = refl
-last_body device link cause (arrivals.Passes frame way) = refl
-last_body device link cause (arrivals.PassesAndWaits frame way point) = refl
-last_body device link cause (arrivals.Accepted vl cycle) = refl
-last_body device link cause (arrivals.Delivered vl cycle) = refl
+last_body device link cause other = refl
 
 arrival_put : (s : Scenario) (hs front back : List Happening) (mark cursor : List ℕ) (now : ℕ) (e : OnWire) (is : Arrival) (w : Happening)
     → IsReceiving s hs front back mark cursor now e is w

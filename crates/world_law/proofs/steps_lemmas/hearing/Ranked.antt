@@ -12,11 +12,7 @@ use Rattle.run_law.specs.declared.steps.Arrival.TheVariants as arrivals
 
 at_two : (device : DeviceId) (link : LinkId) (cause : ℕ) (is : Arrival) → 2 ≤ rank (arrival_body device link cause is)
 at_two device link cause (arrivals.Dropped reason) = omega arith
-at_two device link cause (arrivals.Waits frame point) = omega arith
-at_two device link cause (arrivals.Passes frame way) = omega arith
-at_two device link cause (arrivals.PassesAndWaits frame way point) = omega arith
-at_two device link cause (arrivals.Accepted vl cycle) = omega arith
-at_two device link cause (arrivals.Delivered vl cycle) = omega arith
+at_two device link cause other = omega arith
 
 low_rank : (b : Bool) → (if b then 12 else 11) ≤ 13
 low_rank true = omega arith

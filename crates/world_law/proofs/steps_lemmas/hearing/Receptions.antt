@@ -15,40 +15,26 @@ use Rattle.run_law.specs.declared.steps.Arrival.TheVariants as arrivals
 
 pub body_cause : (device : DeviceId) (link : LinkId) (cause : ℕ) (is : Arrival) → cause_of (arrival_body device link cause is) ≡ cause
 body_cause device link cause (arrivals.Dropped reason) = refl
-body_cause device link cause (arrivals.Waits frame point) = refl
-body_cause device link cause (arrivals.Passes frame way) = refl
-body_cause device link cause (arrivals.PassesAndWaits frame way point) = refl
-body_cause device link cause (arrivals.Accepted vl cycle) = refl
-body_cause device link cause (arrivals.Delivered vl cycle) = refl
+body_cause device link cause other = refl
 
 pub body_shown : (given : ℕ) (device : DeviceId) (link : LinkId) (cause : ℕ) (is : Arrival)
     → hidden_body given (arrival_body device link cause is) ≡ arrival_body device link cause is
 body_shown given device link cause (arrivals.Dropped reason) = refl
-body_shown given device link cause (arrivals.Waits frame point) = refl
-body_shown given device link cause (arrivals.Passes frame way) = refl
-body_shown given device link cause (arrivals.PassesAndWaits frame way point) = refl
-body_shown given device link cause (arrivals.Accepted vl cycle) = refl
-body_shown given device link cause (arrivals.Delivered vl cycle) = refl
+body_shown given device link cause other = refl
 
 pub body_key : (members : ℕ) (device : DeviceId) (link : LinkId) (cause : ℕ) (is : Arrival)
     → key members (arrival_body device link cause is) ≡ device.0 ∷ link.0 ∷ cause ∷ []
 body_key members device link cause (arrivals.Dropped reason) = refl
-body_key members device link cause (arrivals.Waits frame point) = refl
-body_key members device link cause (arrivals.Passes frame way) = refl
-body_key members device link cause (arrivals.PassesAndWaits frame way point) = refl
-body_key members device link cause (arrivals.Accepted vl cycle) = refl
-body_key members device link cause (arrivals.Delivered vl cycle) = refl
+body_key members device link cause other = refl
 
 -- it stands at its source's place, or far behind it
 pub body_ranks : (device : DeviceId) (link : LinkId) (cause : ℕ) (is : Arrival)
     → ((rank (arrival_body device link cause is) ≡ 2) × (is_at_source (arrival_body device link cause is) ≡ true))
     ⊎ ((8 < rank (arrival_body device link cause is)) × (is_at_source (arrival_body device link cause is) ≡ false))
-body_ranks device link cause (arrivals.Dropped reason) = inr (omega arith, refl)
 body_ranks device link cause (arrivals.Waits frame point) = inl (refl, refl)
 body_ranks device link cause (arrivals.Passes frame way) = inl (refl, refl)
 body_ranks device link cause (arrivals.PassesAndWaits frame way point) = inl (refl, refl)
-body_ranks device link cause (arrivals.Accepted vl cycle) = inr (omega arith, refl)
-body_ranks device link cause (arrivals.Delivered vl cycle) = inr (omega arith, refl)
+body_ranks device link cause other = inr (omega arith, refl)
 
 pub body_caused : (s : Scenario) (js : List Happening) (time : Units) (device : DeviceId) (link : LinkId) (cause : ℕ) (is : Arrival)
     → ArrivesAs s js device (amount time) link cause is → IsCaused s js time (arrival_body device link cause is)
@@ -65,11 +51,7 @@ pub body_own : (s : Scenario) (js : List Happening) (t members : ℕ) (device : 
     → ArrivesAs s js device t link cause is
     → IsOwnSource s js t members (arrival_body device link cause is) (t ∷ 2 ∷ device.0 ∷ link.0 ∷ cause ∷ [])
 body_own s js t m device link cause (arrivals.Dropped reason) a = inl (refl, a)
-body_own s js t m device link cause (arrivals.Waits frame point) a = refl
-body_own s js t m device link cause (arrivals.Passes frame way) a = refl
-body_own s js t m device link cause (arrivals.PassesAndWaits frame way point) a = refl
-body_own s js t m device link cause (arrivals.Accepted vl cycle) a = refl
-body_own s js t m device link cause (arrivals.Delivered vl cycle) a = refl
+body_own s js t m device link cause other a = refl
 
 -- where it stands
 pub placed_at : (now : ℕ) (e : OnWire) (is : Arrival) (w : Happening) → time_of w ≡ now → w.note.body ≡ arrival_body e.device e.link e.cause is
@@ -182,17 +164,12 @@ comes_as s js now e t m (kinds.Lost device link cause) (inr (inl o)) time is c =
 comes_as s js now e t m (kinds.Lost device link cause) (inr (inr o)) time is c = absurd (longer now t e.device.0 e.link.0 e.cause o.0)
 comes_as s js now e t m (kinds.Event line what) o time is c = absurd (wrong 1 (ap second o) (inl (omega arith)))
 comes_as s js now e t m (kinds.Permanent device link cause point verdict) o time is c = absurd (wrong 3 (ap second o) (inr (omega arith)))
-comes_as s js now e t m (kinds.Compressed device opened read cycle of_masters verdict) o time is c = absurd (wrong 4 (ap second o) (inr (omega arith)))
-comes_as s js now e t m (kinds.Sent device cycle) o time is c = absurd (wrong 4 (ap second o) (inr (omega arith)))
-comes_as s js now e t m (kinds.Corrected device cycle by adjustment) o time is c = absurd (wrong 4 (ap second o) (inr (omega arith)))
 comes_as s js now e t m (kinds.State device state cause whys.On) o time is c = absurd (longer now t e.device.0 e.link.0 e.cause o)
 comes_as s js now e t m (kinds.State device state cause whys.Frame) o time is c = absurd (longer now t e.device.0 e.link.0 e.cause o)
 comes_as s js now e t m (kinds.State device state cause whys.Correction) o time is c = absurd (longer now t e.device.0 e.link.0 e.cause o)
-comes_as s js now e t m (kinds.State device state cause whys.SyncClique) o time is c = absurd (wrong 4 (ap second o) (inr (omega arith)))
-comes_as s js now e t m (kinds.State device state cause whys.AsyncClique) o time is c = absurd (wrong 4 (ap second o) (inr (omega arith)))
 comes_as s js now e t m (kinds.Left device link cause clock) o time is c = absurd (wrong 8 (ap second o) (inr (omega arith)))
-comes_as s js now e t m (kinds.TtSent device link cause vl cycle) o time is c = absurd (wrong 4 (ap second o) (inr (omega arith)))
 comes_as s js now e t m (kinds.Clock device reading adjustment state) o time is c = absurd (wrong 14 (ap second o) (inr (omega arith)))
+comes_as s js now e t m other o time is c = absurd (wrong 4 (ap second o) (inr (omega arith)))
 
 -- what is judged so by the same records is at the same place
 pub outcome_at : (s : Scenario) (hs zs : List Happening) (now : ℕ) (e : OnWire) (is : Arrival) → IsOnWire s hs e → e.at ≡ now
@@ -210,11 +187,9 @@ IsOther k = (2 ≡ k → ⊥) × (11 ≡ k → ⊥) × (12 ≡ k → ⊥) × (13
 
 other_kind : (device : DeviceId) (link : LinkId) (cause : ℕ) (is : Arrival) (k : ℕ) → rank (arrival_body device link cause is) ≡ k → IsOther k → ⊥
 other_kind device link cause (arrivals.Dropped reason) k r o = o.3 r
-other_kind device link cause (arrivals.Waits frame point) k r o = o.0 r
-other_kind device link cause (arrivals.Passes frame way) k r o = o.0 r
-other_kind device link cause (arrivals.PassesAndWaits frame way point) k r o = o.0 r
 other_kind device link cause (arrivals.Accepted vl cycle) k r o = o.1 r
 other_kind device link cause (arrivals.Delivered vl cycle) k r o = o.2 r
+other_kind device link cause other k r o = o.0 r
 
 behind_here : (now t r : ℕ) (more ws w : List ℕ) → now ≡ t → 2 < r → w ≡ t ∷ r ∷ ws → IsBefore (now ∷ 2 ∷ more) w
 behind_here now t r more ws w e lt is = subst (λ (q : List ℕ). IsBefore (now ∷ 2 ∷ more) q) (sym is) (inr (e, inl lt))
@@ -227,9 +202,6 @@ pub own_there : (s : Scenario) (js : List Happening) (now : ℕ) (e : OnWire) (i
     → now ∷ rank (arrival_body e.device e.link e.cause is) ∷ e.device.0 ∷ e.link.0 ∷ e.cause ∷ [] ≡ t ∷ rank body ∷ key members body
     → IsOwnSource s js t members body w
     → (w ≡ now ∷ 2 ∷ e.device.0 ∷ e.link.0 ∷ e.cause ∷ []) ⊎ IsBefore (now ∷ 2 ∷ e.device.0 ∷ e.link.0 ∷ e.cause ∷ []) w
-own_there s js now e is t m (kinds.Arrived device link cause clock) w place o = inl (o ∙ sym (ap (ranked 2) place))
-own_there s js now e is t m (kinds.Accepted device link cause vl cycle) w place o = inl (o ∙ sym (ap (ranked 2) place))
-own_there s js now e is t m (kinds.Delivered device link cause vl cycle) w place o = inl (o ∙ sym (ap (ranked 2) place))
 own_there s js now e is t m (kinds.Dropped device link cause reason) w place (inl o) = inl (o.0 ∙ sym (ap (ranked 2) place))
 own_there s js now e is t m (kinds.Dropped device link cause reason) w place (inr (inl o)) =
     inr (behind_here now t 3 _ _ w (ap first_of place) (omega arith) o.2)
@@ -255,3 +227,4 @@ own_there s js now e is t m (kinds.TtSent device link cause vl cycle) w place o 
     grind (arith, other_kind, second)
 own_there s js now e is t m (kinds.Clock device reading adjustment state) w place o =
     grind (arith, other_kind, second)
+own_there s js now e is t m other w place o = inl (o ∙ sym (ap (ranked 2) place))

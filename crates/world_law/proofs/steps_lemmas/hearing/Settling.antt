@@ -26,9 +26,7 @@ not_itself device vl now link cause (arrivals.Accepted own cycle) =
 not_itself device vl now link cause (arrivals.Delivered own cycle) =
     and_right (device.0 == device.0 && vl.0 == own.0) (nat_lt now now || (now == now && comes_before link cause link cause)) (itself link cause now)
 not_itself device vl now link cause (arrivals.Dropped reason) = refl
-not_itself device vl now link cause (arrivals.Waits frame point) = refl
-not_itself device vl now link cause (arrivals.Passes frame way) = refl
-not_itself device vl now link cause (arrivals.PassesAndWaits frame way point) = refl
+not_itself device vl now link cause other = refl
 
 taken_put : (ps b : List Happening) (w : Happening) (device : DeviceId) (t : ℕ) (link : LinkId) (cause : ℕ) (vl : VlId)
     → is_taken_before device vl t link cause (time_of w) w.note.body ≡ false

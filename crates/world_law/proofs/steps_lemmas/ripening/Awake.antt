@@ -24,10 +24,7 @@ IsNeverOff other = Unit {0}
 changes_on : (s : Scenario) (js : List Happening) (device : DeviceId) (t : ℕ) (state : State) (cause : ℕ) (why : Why)
     → ChangesState s js device t state cause why → is_off state ≡ false
 changes_on s js device t state cause whys.On c = ap is_off c.0
-changes_on s js device t state cause whys.Frame c = ap is_off c.0
-changes_on s js device t state cause whys.Correction c = ap is_off c.0
-changes_on s js device t state cause whys.SyncClique c = ap is_off c.0
-changes_on s js device t state cause whys.AsyncClique c = ap is_off c.0
+changes_on s js device t state cause other c = ap is_off c.0
 
 pub due_on : (s : Scenario) (js : List Happening) (time : Units) (body : NoteBody) → IsCaused s js time body → IsNeverOff body
 due_on s js time (kinds.State device state cause why) c = changes_on s js device (amount time) state cause why c

@@ -55,24 +55,13 @@ late_kind s hs front now t m more time (kinds.Compressed device opened at_ cycle
     not_late t now (device.0 ∷ []) more w0 own at b
 late_kind s hs front now t m more time (kinds.Corrected device cycle by adjustment) w0 low late at same own c b not =
     not_late t now (device.0 ∷ []) more w0 own at b
-late_kind s hs front now t m more time (kinds.State device state cause whys.On) w0 low late at same own c b not = tt
-late_kind s hs front now t m more time (kinds.State device state cause whys.Frame) w0 low late at same own c b not = tt
 late_kind s hs front now t m more time (kinds.State device state cause whys.Correction) w0 low late at same own c b not =
     corrected_none s hs front (amount time) now cause c.2.0 device c.2.1 c.2.2 c.2.3 low late (same ∙ at) c.2.4 c.2.5
 late_kind s hs front now t m more time (kinds.State device state cause whys.SyncClique) w0 low late at same own c b not =
     not_late t now (device.0 ∷ []) more w0 own at b
 late_kind s hs front now t m more time (kinds.State device state cause whys.AsyncClique) w0 low late at same own c b not =
     not_late t now (device.0 ∷ []) more w0 own at b
-late_kind s hs front now t m more time (kinds.Event line what) w0 low late at same own c b not = tt
-late_kind s hs front now t m more time (kinds.Arrived device link cause clock) w0 low late at same own c b not = tt
-late_kind s hs front now t m more time (kinds.Sent device cycle) w0 low late at same own c b not = tt
-late_kind s hs front now t m more time (kinds.Left device link cause clock) w0 low late at same own c b not = tt
-late_kind s hs front now t m more time (kinds.Lost device link cause) w0 low late at same own c b not = tt
-late_kind s hs front now t m more time (kinds.TtSent device link cause vl cycle) w0 low late at same own c b not = tt
-late_kind s hs front now t m more time (kinds.Accepted device link cause vl cycle) w0 low late at same own c b not = tt
-late_kind s hs front now t m more time (kinds.Delivered device link cause vl cycle) w0 low late at same own c b not = tt
-late_kind s hs front now t m more time (kinds.Dropped device link cause reason) w0 low late at same own c b not = tt
-late_kind s hs front now t m more time (kinds.Clock device reading adjustment state) w0 low late at same own c b not = tt
+late_kind s hs front now t m more time other w0 low late at same own c b not = tt
 
 late_one : (s : Scenario) (hs coming front rest : List Happening) (z : Happening) (mark cursor : List ℕ) (now : ℕ) (more : List ℕ)
     → IsMoving s hs coming mark cursor now 3 more
@@ -157,5 +146,4 @@ state_cause s hs front device t state cause whys.Frame late high kind c =
           ∙ c.1.2 in cc)
     ]
 state_cause s hs front device t state cause whys.Correction late high kind c = absurd kind
-state_cause s hs front device t state cause whys.SyncClique late high kind c = absurd kind
-state_cause s hs front device t state cause whys.AsyncClique late high kind c = absurd kind
+state_cause s hs front device t state cause other late high kind c = absurd kind

@@ -151,12 +151,7 @@ pub same_by_role : (network : Network) (device : DeviceId) (node : Node) (moment
     (verdict : Judgement) → IsByRole cm verdict
     → IsSame node (called moment phase (after_permanence node moment (channel_of_link network link) frame point (ripe_as verdict)))
 same_by_role network device node moment phase link point frame cm judgements.Integrates r = absurd (not_joining cm r)
-same_by_role network device node moment phase link point frame cm judgements.Opened r = grind arith
-same_by_role network device node moment phase link point frame cm judgements.Joined r = grind arith
-same_by_role network device node moment phase link point frame cm judgements.Repeat r = grind arith
-same_by_role network device node moment phase link point frame cm judgements.Within r = grind arith
-same_by_role network device node moment phase link point frame cm judgements.Outside r = grind arith
-same_by_role network device node moment phase link point frame cm judgements.Ignored r = grind arith
+same_by_role network device node moment phase link point frame cm other r = grind arith
 
 -- its points, where it collects, and where it does not
 pub points_by_role : (network : Network) (device : DeviceId) (node : Node) (moment : Moment) (phase : Phase) (link : LinkId) (point : Units) (frame : Pcf)

@@ -112,9 +112,7 @@ IsKindOf cm other = ⊥
 
 role_kind : (taken : Taken) → IsKindOf true (ripe_by_role taken)
 role_kind takens.Opened = tt
-role_kind takens.Joined = tt
-role_kind takens.Repeat = tt
-role_kind takens.OtherCycle = tt
+role_kind other = tt
 
 schedule_kind : (b : Bool) → IsKindOf false (ripe_as (heard_by_schedule b))
 schedule_kind true = tt

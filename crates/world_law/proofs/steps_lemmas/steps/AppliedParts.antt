@@ -28,19 +28,7 @@ pub record IsBefalling (network : Network) (f g : DeviceId → ℕ → ℕ) (pas
 
 low_rank : (body : NoteBody) → rank body < 2 → IsEventBody body
 low_rank (notes.Event line what) few = tt
-low_rank (notes.Arrived device link cause clock) few = absurd (omega (arith, few))
-low_rank (notes.Permanent device link cause point verdict) few = absurd (omega (arith, few))
-low_rank (notes.Compressed device opened at cycle members verdict) few = absurd (omega (arith, few))
-low_rank (notes.Sent device cycle) few = absurd (omega (arith, few))
-low_rank (notes.Corrected device cycle by adjustment) few = absurd (omega (arith, few))
-low_rank (notes.State device state cause why) few = absurd (omega (arith, few))
-low_rank (notes.Left device link cause clock) few = absurd (omega (arith, few))
-low_rank (notes.Lost device link cause) few = absurd (omega (arith, few))
-low_rank (notes.TtSent device link cause vl cycle) few = absurd (omega (arith, few))
-low_rank (notes.Accepted device link cause vl cycle) few = absurd (omega (arith, few))
-low_rank (notes.Delivered device link cause vl cycle) few = absurd (omega (arith, few))
-low_rank (notes.Dropped device link cause reason) few = absurd (omega (arith, few))
-low_rank (notes.Clock device reading adjustment state) few = absurd (omega (arith, few))
+low_rank other few = absurd (omega (arith, few))
 
 pub before_others : (h : Happening) (now : ℕ) → IsBefore (place_of h) (now ∷ 2 ∷ []) → (time_of h < now) ⊎ ((time_of h ≡ now) × IsEventBody h.note.body)
 before_others h now (inl lt) = inl lt
@@ -301,14 +289,10 @@ pub own_event : (s : Scenario) (js : List Happening) (t members : ℕ) (body : N
     → k < 2
     → IsEventBody body
 own_event s js t m (notes.Event line what) k ws o few = tt
-own_event s js t m (notes.Arrived d link cause clock) k ws o few = absurd (not_so k 2 o few (omega arith))
 own_event s js t m (notes.Permanent d link cause point verdict) k ws o few = absurd (not_so k 3 o few (omega arith))
 own_event s js t m (notes.Compressed d opened at cycle of_masters verdict) k ws o few = absurd (not_so k 4 o few (omega arith))
 own_event s js t m (notes.Sent d cycle) k ws o few = absurd (not_so k 4 o few (omega arith))
 own_event s js t m (notes.Corrected d cycle by adjustment) k ws o few = absurd (not_so k 4 o few (omega arith))
-own_event s js t m (notes.State d state cause whys.On) k ws o few = absurd (not_so k 2 o few (omega arith))
-own_event s js t m (notes.State d state cause whys.Frame) k ws o few = absurd (not_so k 2 o few (omega arith))
-own_event s js t m (notes.State d state cause whys.Correction) k ws o few = absurd (not_so k 2 o few (omega arith))
 own_event s js t m (notes.State d state cause whys.SyncClique) k ws o few = absurd (not_so k 4 o few (omega arith))
 own_event s js t m (notes.State d state cause whys.AsyncClique) k ws o few = absurd (not_so k 4 o few (omega arith))
 own_event s js t m (notes.Left d link cause clock) k ws o few = absurd (not_so k 8 o few (omega arith))
@@ -316,12 +300,11 @@ own_event s js t m (notes.Lost d link cause) k ws (inl o) few = absurd (not_so k
 own_event s js t m (notes.Lost d link cause) k ws (inr (inl o)) few = absurd (not_so k 4 o.0 few (omega arith))
 own_event s js t m (notes.Lost d link cause) k ws (inr (inr o)) few = absurd (not_so k 2 o.0 few (omega arith))
 own_event s js t m (notes.TtSent d link cause vl cycle) k ws o few = absurd (not_so k 4 o few (omega arith))
-own_event s js t m (notes.Accepted d link cause vl cycle) k ws o few = absurd (not_so k 2 o few (omega arith))
-own_event s js t m (notes.Delivered d link cause vl cycle) k ws o few = absurd (not_so k 2 o few (omega arith))
 own_event s js t m (notes.Dropped d link cause reason) k ws (inl o) few = absurd (not_so k 2 o.0 few (omega arith))
 own_event s js t m (notes.Dropped d link cause reason) k ws (inr (inl o)) few = absurd (not_so k 3 o.2 few (omega arith))
 own_event s js t m (notes.Dropped d link cause reason) k ws (inr (inr o)) few = absurd (not_so k 8 o.0 few (omega arith))
 own_event s js t m (notes.Clock d reading adjustment state) k ws o few = absurd (not_so k 14 o few (omega arith))
+own_event s js t m other k ws o few = absurd (not_so k 2 o few (omega arith))
 
 event_there : (network : Network) (g : DeviceId → ℕ → ℕ) (past : List Event) (event : Event) (js : List Happening) (y : Happening) (now : ℕ)
     → amount event.time ≡ now → time_of y ≡ now → IsEventBody y.note.body → IsCaused (scenario network g (past ++ event ∷ [])) js y.note.time y.note.body

@@ -1,5 +1,5 @@
-use Rattle.std.proofs.Common.{◌++◌, ◌∙◌, ◌∷◌, ◌≡◌, ◌≤◌, List, Some, [], ap, append-nil, append_assoc, get_or, length, subst, sym}
-use Rattle.std.proofs.lemmas.Option.{slice_get-get_or, slice_get_within}
+use Rattle.std.proofs.Common.{◌++◌, ◌∙◌, ◌∷◌, ◌≡◌, ◌≤◌, List, Some, [], ap, append-nil, append_assoc, arith, get_or, length, subst, sym}
+use Rattle.std.proofs.lemmas.{Grind.common_steps, Option.{slice_get-get_or, slice_get_within}}
 use Rattle.tte_lemmas.proofs.Options.{opened}
 use Rattle.net_plan.{proofs.Trees.{ended, followed}, specs.{Paths.{IsPath, IsUplink}, Places.{IsSwitchOf, link_at}, declared.ids.LinkId.LinkId as LinkIdValue}}
 use Rattle.net_plan.specs.declared.tables.Link.{Link}
@@ -29,10 +29,5 @@ loop-link-preserved c =
 
 pub returns-clause-leads : goal.returns-clause-leads
 returns-clause-leads c =
-    let n = c.args.self.now in
-    let ch = c.args.channel in
-    let at = c.loop-link.at in
-    let inv = c.loop-link.invariant in
-    let done : inv.0 ≡ [] = ended n ch at inv.0 c.in_default.ensures.none inv.1 in
-    let whole : c.loop-link.path ++ inv.0 ≡ c.loop-link.path = ap (λ (r : List LinkIdValue). c.loop-link.path ++ r) done ∙ append-nil c.loop-link.path in
-    subst (λ (p : List LinkIdValue). IsPath n ch c.args.device p) whole inv.3
+    grind (arith, common_steps, c.args.self.now, c.args.channel, c.loop-link.at, c.loop-link.invariant, ended, c.in_default.ensures.none,
+      c.loop-link.path, append-nil, c.args.device)

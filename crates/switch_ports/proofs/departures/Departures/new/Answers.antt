@@ -1,5 +1,4 @@
-use Rattle.switch_ports.proofs.Words.{◌∙◌, ◌≡◌, AreLeaving, List, Row, ap, length, refl, subst, arith}
-use Rattle.switch_ports.{proofs.{RowKeys.fresh_keys, RowOrder.leaving_none}}
+use Rattle.switch_ports.proofs.{RowKeys.fresh_keys, RowOrder.leaving_none, Words.{◌∙◌, ◌≡◌, AreLeaving, List, Row, ap, arith, length, refl, subst}}
 use Rattle.std.proofs.Common.{replicate}
 use Rattle.device_rules.specs.least_key.Trees.{no_key}
 use Rattle.switch_ports.proofs.departures.Departures.new.Goals as goal

@@ -1,5 +1,5 @@
 use Rattle.switch_ports.proofs.Words.{◌<◌, ◌∙◌, ◌≡◌, ap, arith, length, refl, slice_set}
-use Rattle.switch_ports.{proofs.RowKeys.{fit_reopened, ready_changed, reopening_on}, specs.{Leaving.{key_by, reopened}}}
+use Rattle.switch_ports.{proofs.RowKeys.{fit_reopened, ready_changed, reopening_on}, specs.Leaving.{key_by, reopened}}
 use Rattle.switch_ports.proofs.departures.Departures.reopen.Goals as goal
 
 pub loop-place-preserved : goal.loop-place-preserved
